@@ -1,0 +1,4 @@
+pub mod Node
+pub mod Levels
+pub mod Numbers
+pub mod Json
