@@ -1,0 +1,3 @@
+pub mod Strings
+pub mod JsonText
+pub mod Written

@@ -1,0 +1,5 @@
+// JSON (RFC 8259): a reader from bytes to trees, and a writer from trees to bytes.
+// What reads and writes messages and model files in JSON stands on it.
+#![tactic(auto)]
+
+pub use sm_tree::NoMemory;
