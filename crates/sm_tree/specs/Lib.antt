@@ -1,4 +1,6 @@
 pub mod Node
 pub mod Levels
+pub mod Weight
 pub mod Numbers
 pub mod Json
+pub mod View
