@@ -1,0 +1,4 @@
+pub mod Val
+pub mod View
+pub mod Tables
+pub mod Fits
