@@ -1,0 +1,13 @@
+// Bytes in and out: sources, sinks and files, each with a count of its faults, over memory and over std.
+// A contract says which bytes moved where the object tells them, and that a fault is answered only where the count rose.
+#![tactic(auto)]
+
+mod reading;
+mod sink;
+mod source;
+mod std_edges;
+
+pub use reading::{ReadRefusal, read_all};
+pub use sink::{PutRefusal, Sink};
+pub use source::{Failed, Source};
+pub use std_edges::{StdSink, StdSource};
