@@ -18,7 +18,7 @@ longer_than_lost (Some xs) None front limit lost more = absurd lost
 longer_than_lost (Some xs) (Some ys) front limit lost more = rw lost (omega (arith, length-append front ys))
 
 -- the rest of a piece behind its first bytes, cut short
-rest_cut : (piece : List ℕ) (at count : ℕ) → take count (take (length piece - at) (drop at piece)) ≡ take count (drop at piece)
+pub rest_cut : (piece : List ℕ) (at count : ℕ) → take count (take (length piece - at) (drop at piece)) ≡ take count (drop at piece)
 rest_cut piece at count = ap (take count) (take_all (length piece - at) (drop at piece) (omega (arith, length-drop at piece)))
 
 -- what two writes append is a longer front of the piece

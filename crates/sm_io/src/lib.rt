@@ -2,11 +2,18 @@
 // A contract says which bytes moved where the object tells them, and that a fault is answered only where the count rose.
 #![tactic(auto)]
 
+mod calm;
+mod files;
+mod memory;
 mod reading;
+mod script;
 mod sink;
 mod source;
 mod std_edges;
 
+pub use calm::{CalmSink, CalmSource};
+pub use files::{FileRefusal, Files};
+pub use memory::{MemSink, MemSource};
 pub use reading::{ReadRefusal, read_all};
 pub use sink::{PutRefusal, Sink};
 pub use source::{Failed, Source};

@@ -1,5 +1,5 @@
 // Where bytes go.
-ghost use Rattle.std.specs.Prelude.{◌≤◌, List, ℕ, Option, IsErrOf};
+ghost use Rattle.std.specs.Prelude.{◌≡◌, ◌≤◌, ◌++◌, List, ℕ, Option, OnOk, OnErr, IsErrOf};
 ghost use Rattle.sm_io.specs.Causes.{Rose};
 ghost use Rattle.sm_io.specs.Writing.{Puts};
 
@@ -29,4 +29,16 @@ pub trait Sink {
         ensures bytes { Puts (written self.old) (written self.new) piece.now result }
         ensures later { faults self.old ≤ faults self.new }
         ensures cause { IsErrOf result PutRefusal.Failed → Rose (faults self.old) (faults self.new) };
+}
+
+// Appends the piece to bytes in memory, which never fails.
+pub fn append(bytes: &mut Vec<u8>, piece: &[u8]) -> Result<(), PutRefusal>
+    ensures ok { OnOk result (bytes.new.items ≡ bytes.old.items ++ piece.now) }
+    ensures err { OnErr result (bytes.new.items ≡ bytes.old.items) }
+    ensures calm { IsErrOf result PutRefusal.Failed → ⊥ }
+{
+    match bytes.extend_from_slice(piece) {
+        Ok(()) => Ok(()),
+        Err(_) => Err(PutRefusal::NoMemory),
+    }
 }

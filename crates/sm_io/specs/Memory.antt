@@ -1,0 +1,32 @@
+-- What the objects over memory hold.
+use Rattle.std.specs.Prelude.{ℕ, List, [], drop}
+use Rattle.sm_io.specs.Script.{Script}
+use Rattle.sm_io.specs.Files.{Folder, Others, folder_of}
+use Rattle.sm_io.specs.Files.Others.{nothing, empty_file}
+use Rattle.sm_io.specs.declared.calm.CalmSource.{CalmSource}
+use Rattle.sm_io.specs.declared.calm.CalmSink.{CalmSink}
+use Rattle.sm_io.specs.declared.memory.MemSource.{MemSource}
+use Rattle.sm_io.specs.declared.memory.MemSink.{MemSink}
+
+-- the bytes left of a source, and its script
+abbrev pub calm_left : CalmSource → List ℕ
+calm_left source = drop source.bytes.at source.bytes.bytes.items
+
+abbrev pub calm_script : CalmSource → Script
+calm_script source = record { cuts = source.bytes.cuts.items; failing = []; calls = source.calls }
+
+abbrev pub source_left : MemSource → List ℕ
+source_left source = drop source.bytes.at source.bytes.bytes.items
+
+abbrev pub source_script : MemSource → Script
+source_script source = record { cuts = source.bytes.cuts.items; failing = source.failing.failing.items; calls = source.failing.calls }
+
+-- the bytes written to a sink, and its script
+abbrev pub calm_written : CalmSink → List ℕ
+calm_written sink = sink.bytes.items
+
+abbrev pub sink_written : MemSink → List ℕ
+sink_written sink = sink.bytes.items
+
+abbrev pub sink_script : MemSink → Script
+sink_script sink = record { cuts = []; failing = sink.failing.failing.items; calls = sink.failing.calls }
