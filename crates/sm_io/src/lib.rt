@@ -5,6 +5,7 @@
 mod calm;
 mod files;
 mod memory;
+mod named;
 mod reading;
 mod script;
 mod sink;
