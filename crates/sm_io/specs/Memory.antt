@@ -9,6 +9,8 @@ use Rattle.sm_io.specs.declared.calm.CalmSource.{CalmSource}
 use Rattle.sm_io.specs.declared.calm.CalmSink.{CalmSink}
 use Rattle.sm_io.specs.declared.memory.MemSource.{MemSource}
 use Rattle.sm_io.specs.declared.memory.MemSink.{MemSink}
+use Rattle.sm_io.specs.declared.calm_files.CalmFiles.{CalmFiles}
+use Rattle.sm_io.specs.declared.mem_files.MemFiles.{MemFiles}
 use Rattle.sm_io.specs.declared.named.NamedFiles.{NamedFiles}
 
 -- the bytes left of a source, and its script
@@ -50,3 +52,13 @@ abbrev pub IsPlace : List (String Global × Vec ℕ Global) → List ℕ → Opt
 IsPlace files name None = HasNone files (length files) name
 IsPlace files name (Some place) = (place < length files) × HasNone files place name
     × ((file : String Global × Vec ℕ Global) → string_bytes (slice_index_or files place file).0 ≡ name)
+
+-- what the names of the two kinds of files stand for, and the script of those that fail
+abbrev pub calm_folder : CalmFiles → Folder
+calm_folder files = folder_of (files_of files.files) empty_file
+
+abbrev pub mem_folder : MemFiles → Folder
+mem_folder files = folder_of (files_of files.files) nothing
+
+abbrev pub files_script : MemFiles → Script
+files_script files = record { cuts = []; failing = files.failing.failing.items; calls = files.failing.calls }

@@ -3,7 +3,6 @@ ghost use Rattle.std.specs.Prelude.{◌≡◌, ◌≤◌, List, ℕ, Option, IsE
 ghost use Rattle.sm_io.specs.Causes.{Rose};
 ghost use Rattle.sm_io.specs.Files.{Folder, ReadsFile, WritesFile, LetsSame};
 
-use crate::ReadRefusal;
 use thiserror::Error;
 
 /// Why a file wasn't read or written.
@@ -18,20 +17,6 @@ pub enum FileRefusal {
     /// Memory ran out, and nothing was written.
     #[error("out of memory")]
     NoMemory,
-}
-
-impl From<ReadRefusal> for FileRefusal {
-    ghost use Rattle.sm_io.specs.Refusals.{file_refusal};
-
-    ghost from_gives = { λ refusal result. result ≡ file_refusal refusal };
-
-    fn from(refusal: ReadRefusal) -> Self {
-        match refusal {
-            ReadRefusal::Failed => FileRefusal::Failed,
-            ReadRefusal::TooLong => FileRefusal::TooLong,
-            ReadRefusal::NoMemory => FileRefusal::NoMemory,
-        }
-    }
 }
 
 /// Files by name, to be read and written whole.

@@ -3,7 +3,10 @@
 #![tactic(auto)]
 
 mod calm;
+mod calm_files;
+mod disk;
 mod files;
+mod mem_files;
 mod memory;
 mod named;
 mod reading;
@@ -13,9 +16,15 @@ mod source;
 mod std_edges;
 
 pub use calm::{CalmSink, CalmSource};
+pub use calm_files::CalmFiles;
+pub use disk::DiskFiles;
 pub use files::{FileRefusal, Files};
+pub use mem_files::MemFiles;
 pub use memory::{MemSink, MemSource};
 pub use reading::{ReadRefusal, read_all};
 pub use sink::{PutRefusal, Sink};
 pub use source::{Failed, Source};
 pub use std_edges::{StdSink, StdSource};
+
+#[cfg(test)]
+mod tests;

@@ -1,7 +1,9 @@
 // Files by name, in memory.
-ghost use Rattle.std.specs.Prelude.{◌≡◌, ◌≢◌, ℕ, List, All, OnOk, OnErr, Some, option_copied};
+ghost use Rattle.std.specs.Prelude.{◌≡◌, ◌≢◌, ℕ, List, OnOk, OnErr, IsErrOf, Option, Some, option_copied};
 ghost use Rattle.std.specs.FinMap.{get};
+ghost use Rattle.sm_io.specs.Files.{Folder, Holds, ReadsFile};
 
+use crate::FileRefusal;
 use std::alloc::{AllocError, Global};
 
 /// Files by name. Of two with one name the first counts.
@@ -63,5 +65,21 @@ impl NamedFiles {
             }
         }
         None
+    }
+}
+
+// A copy of the bytes of a file, if they are within the limit.
+pub fn copy_within(alloc: Global, bytes: &[u8], limit: u64) -> Result<Vec<u8>, FileRefusal>
+    // Whatever name stands for these bytes.
+    ensures read { (told : Option Folder) (name : List ℕ) → Holds told name (Some bytes.now)
+        → ReadsFile told name limit result }
+    ensures calm { IsErrOf result FileRefusal.Failed → ⊥ }
+{
+    if bytes.len() as u64 > limit {
+        return Err(FileRefusal::TooLong);
+    }
+    match Vec::from_slice(alloc, bytes) {
+        Ok(copy) => Ok(copy),
+        Err(_) => Err(FileRefusal::NoMemory),
     }
 }
