@@ -1,9 +1,9 @@
 -- What the objects over memory hold.
-use Rattle.std.specs.Prelude.{◌≡◌, ◌≢◌, ◌<◌, ℕ, List, [], ◌∷◌, ◌++◌, take, drop, length, slice_index_or, All, None, Some, Option, Vec, String, string_bytes}
+use Rattle.std.specs.Prelude.{◌≡◌, ◌≢◌, ◌<◌, ℕ, List, [], drop, length, slice_index_or, None, Some, Option, Vec, String, string_bytes}
 use Rattle.std.specs.FinMap as fin
 use Rattle.std.specs.declared.alloc.Global.{Global}
 use Rattle.sm_io.specs.Script.{Script}
-use Rattle.sm_io.specs.Files.{Named, Folder, Others, entries, folder_of}
+use Rattle.sm_io.specs.Files.{Named, Folder, entries, folder_of}
 use Rattle.sm_io.specs.Files.Others.{nothing, empty_file}
 use Rattle.sm_io.specs.declared.calm.CalmSource.{CalmSource}
 use Rattle.sm_io.specs.declared.calm.CalmSink.{CalmSink}

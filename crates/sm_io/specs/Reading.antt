@@ -1,5 +1,5 @@
 -- What a read does to the bytes that a source has left, where the source tells them.
-use Rattle.std.specs.Prelude.{◌≡◌, ◌<◌, ◌≤◌, ℕ, List, [], length, take, ⊤, IfSome, Ok, Err, Option, Result, Vec}
+use Rattle.std.specs.Prelude.{◌≡◌, ◌<◌, ◌≤◌, ℕ, List, length, take, IfSome, Ok, Err, Option, Result, Vec}
 use Rattle.std.specs.declared.alloc.Global.{Global}
 use Rattle.std.specs.Io.KnownBytes.{Keeps, Consumes, IsAtEnd}
 use Rattle.sm_io.specs.declared.reading.ReadRefusal.{ReadRefusal}

@@ -1,4 +1,4 @@
-use Rattle.std.proofs.Common.{◌+◌, ◌-◌, ◌++◌, ◌<◌, length, take, arith, length-append, length-take}
+use Rattle.std.proofs.Common.{◌++◌, ◌<◌, length, take, arith, length-append, length-take}
 use Rattle.std.specs.Io.KnownBytes.{Consumes}
 use Rattle.sm_io.proofs.Told.{consumes_both, longer_than_lost}
 use Rattle.sm_io.proofs.reading.read_all.Goals as goal

@@ -1,5 +1,5 @@
 -- What was read so far is what the source has lost, within the limit.
-use Rattle.std.proofs.Common.{◌≤◌, ◌-◌, ◌+◌, length}
+use Rattle.std.proofs.Common.{◌≤◌, ◌-◌, length}
 use Rattle.std.specs.Io.KnownBytes.{Consumes}
 use Rattle.sm_io.proofs.reading.read_all.Given as goal
 

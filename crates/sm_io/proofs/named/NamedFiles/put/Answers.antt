@@ -1,4 +1,4 @@
-use Rattle.std.proofs.Common.{◌≡◌, ◌≢◌, ◌∙◌, ◌++◌, [], ◌∷◌, Some, get_or, string_bytes, ap, sym, rules}
+use Rattle.std.proofs.Common.{◌≡◌, ◌∙◌, Some, string_bytes, ap, sym, rules}
 use Rattle.sm_io.proofs.Look.{Entry, look, look_map, look_added, look_put, look_other_added, look_other_put}
 use Rattle.sm_io.proofs.named.NamedFiles.put.Goals as goal
 

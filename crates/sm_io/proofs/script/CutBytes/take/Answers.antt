@@ -1,4 +1,4 @@
-use Rattle.std.proofs.Common.{◌≡◌, length, arith, length-take, rules}
+use Rattle.std.proofs.Common.{◌≡◌, length, arith, length-take}
 use Rattle.sm_io.proofs.Pieces.{moved}
 use Rattle.sm_io.proofs.script.CutBytes.take.Goals as goal
 
