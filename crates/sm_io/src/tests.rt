@@ -8,9 +8,9 @@ use crate::{
     MemSource, PutRefusal, ReadRefusal, Sink, Source, StdSink, StdSource, read_all,
 };
 use std::alloc::{AllocError, Global};
-use std::io;
 use std::io::{Read, Write};
 use std::test::Fail;
+use std::{fs, io};
 
 const BYTES: [u8; 8] = [10, 20, 30, 40, 50, 60, 70, 80];
 
@@ -300,5 +300,7 @@ fn files_on_disk_are_read_and_written(rt: HostRuntime) -> Result<(), Fail> {
         files.read("sm_io_disk_copy", 4)?.as_slice(),
         b"four".as_slice()
     );
+    fs::remove_file(&rt, "sm_io_disk_test")?;
+    fs::remove_file(&rt, "sm_io_disk_copy")?;
     Ok(())
 }
