@@ -1,0 +1,14 @@
+-- What was read so far is what the source has lost, within the limit.
+use Rattle.std.proofs.Common.{◌≤◌, ◌-◌, length}
+use Rattle.std.specs.Io.KnownBytes.{Consumes}
+use Rattle.sm_io.proofs.reading.read_all.Given as goal
+
+abbrev pub invariant-loop-bytes : goal.invariant-loop-bytes
+invariant-loop-bytes g l = record {
+  lost : Consumes (g.S.Source.left l.fn.source) (g.S.Source.left l.source) l.bytes.items;
+  faults : g.S.Source.faults l.fn.source ≤ g.S.Source.faults l.source;
+  few : length l.bytes.items ≤ l.limit;
+}
+
+abbrev pub decreases-loop-bytes : goal.decreases-loop-bytes
+decreases-loop-bytes g l = l.limit - length l.bytes.items

@@ -1,0 +1,6 @@
+pub mod Causes
+pub mod Reading
+pub mod Writing
+pub mod Files
+pub mod Script
+pub mod Memory

@@ -1,0 +1,88 @@
+// Objects over memory that never fail: their counts of faults are the constant 0.
+ghost use Rattle.std.specs.Prelude.{◌≡◌, ◌<◌, ◌≤◌, ℕ, [], All, length, min, IfOk, IsOk, OnErr, IsErrOf, Ok, Some};
+ghost use Rattle.std.specs.Io.{ReadsAtMost};
+ghost use Rattle.sm_io.specs.Causes.{Rose};
+ghost use Rattle.sm_io.specs.Reading.{Takes};
+ghost use Rattle.sm_io.specs.Writing.{Puts};
+ghost use Rattle.sm_io.specs.Script.{Script, after_call, most};
+
+use crate::script::CutBytes;
+use crate::sink::append;
+use crate::{Failed, PutRefusal, Sink, Source};
+use std::alloc::Global;
+
+/// A source over bytes in memory that never fails.
+#[derive(Drop)]
+pub struct CalmSource {
+    bytes: CutBytes,
+    calls: u64,
+}
+
+impl CalmSource {
+    ghost use Rattle.sm_io.specs.Memory.{calm_left, calm_script};
+
+    /// A source of these bytes, whose k-th take gives at most as many as the k-th cut, and past the last cut all that fit.
+    pub fn new(bytes: Vec<u8>, cuts: Vec<u64>) -> Self
+        requires positive { All (λ cut. 0 < cut) cuts.items }
+        ensures left { calm_left result ≡ bytes.items }
+        ensures script { calm_script result ≡ record { cuts = cuts.items; failing = []; calls = 0 } }
+    {
+        let bytes = CutBytes { bytes, at: 0, cuts };
+        CalmSource { bytes, calls: 0 }
+    }
+}
+
+impl Source for CalmSource {
+    ghost use Rattle.sm_io.specs.Memory.{calm_left, calm_script};
+
+    ghost left = { λ s. Some (calm_left s) };
+
+    ghost faults = { λ s. 0 };
+
+    fn take(&mut self, buf: &mut [u8]) -> Result<usize, Failed>
+        requires room { 0 < length buf.old }
+        ensures bound { ReadsAtMost result buf.new }
+        ensures bytes { Takes (Some (calm_left self.old)) (Some (calm_left self.new)) buf.new result }
+        ensures script { calm_script self.new ≡ after_call (calm_script self.old) }
+        ensures count { result ≡ Ok (min (most (calm_script self.new) (length buf.old)) (length (calm_left self.old))) }
+    {
+        self.calls = self.calls.saturating_add(1);
+        Ok(self.bytes.take(self.calls, buf))
+    }
+}
+
+/// A sink over memory that never fails.
+#[derive(Drop)]
+pub struct CalmSink {
+    bytes: Vec<u8>,
+}
+
+impl CalmSink {
+    ghost use Rattle.sm_io.specs.Memory.{calm_written};
+
+    /// A sink to which nothing was written.
+    pub fn new(alloc: Global) -> Self
+        ensures { calm_written result ≡ [] }
+    {
+        CalmSink {
+            bytes: Vec::new(alloc),
+        }
+    }
+
+    /// The bytes written so far.
+    pub fn bytes(&self) -> &[u8]
+        ensures { result.now ≡ calm_written self.now }
+    {
+        &self.bytes
+    }
+}
+
+impl Sink for CalmSink {
+    ghost written = { λ s. Some s.bytes.items };
+
+    ghost faults = { λ s. 0 };
+
+    fn put(&mut self, piece: &[u8]) -> Result<(), PutRefusal> {
+        append(&mut self.bytes, piece)
+    }
+}

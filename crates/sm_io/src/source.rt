@@ -1,0 +1,31 @@
+// Where bytes come from.
+ghost use Rattle.std.specs.Prelude.{◌<◌, ◌≤◌, List, ℕ, length, OnErr};
+ghost use Rattle.std.specs.Prelude.{Option};
+ghost use Rattle.std.specs.Io.{ReadsAtMost};
+ghost use Rattle.sm_io.specs.Causes.{Rose};
+ghost use Rattle.sm_io.specs.Reading.{Takes};
+
+use thiserror::Error;
+
+/// A fault of the outside. The object that answers it has raised its count.
+#[derive(Clone, Copy, Debug, Error, PartialEq, Eq)]
+#[error("an object of the outside failed")]
+pub struct Failed;
+
+/// A stream of bytes to read.
+pub trait Source {
+    /// The bytes that are left, where they are told.
+    ghost left: { Self → Option (List ℕ) };
+
+    /// How many calls have failed.
+    ghost faults: { Self → ℕ };
+
+    /// Moves bytes that are left to the front of `buf` and gives their count, which is 0 exactly at the end.
+    /// `Failed`: the outside failed, and the bytes left are as before.
+    fn take(&mut self, buf: &mut [u8]) -> Result<usize, Failed>
+        requires room { 0 < length buf.old }
+        ensures bound { ReadsAtMost result buf.new }
+        ensures bytes { Takes (left self.old) (left self.new) buf.new result }
+        ensures later { faults self.old ≤ faults self.new }
+        ensures cause { OnErr result (Rose (faults self.old) (faults self.new)) };
+}

@@ -1,0 +1,93 @@
+// The readers and writers of std as a source and a sink.
+ghost use Rattle.std.specs.Prelude.{◌≡◌, OnOk, OnErr};
+ghost use Rattle.std.specs.Io.KnownBytes.{Appends};
+ghost use Rattle.sm_io.specs.Writing.{AppendsFront};
+
+use crate::{Failed, PutRefusal, Sink, Source};
+use std::io::{Read, Write};
+
+/// A reader of std. It tells its bytes where the reader does.
+#[derive(Drop)]
+pub struct StdSource<R> {
+    reader: R,
+    faults: u64,
+}
+
+impl<R: Read> StdSource<R> {
+    /// A source over this reader, without a fault so far.
+    pub fn new(reader: R) -> Self
+        ensures left { ⟦<StdSource<R> as Source>⟧.left result ≡ R.remaining reader }
+        ensures faults { ⟦<StdSource<R> as Source>⟧.faults result ≡ 0 }
+    {
+        StdSource { reader, faults: 0 }
+    }
+}
+
+impl<R: Read> Source for StdSource<R> {
+    ghost left = { λ s. R.remaining s.reader };
+
+    ghost faults = { λ s. s.faults };
+
+    fn take(&mut self, buf: &mut [u8]) -> Result<usize, Failed> {
+        match self.reader.read(buf) {
+            Ok(count) => Ok(count),
+            Err(_) => {
+                self.faults = self.faults.saturating_add(1);
+                Err(Failed)
+            }
+        }
+    }
+}
+
+/// A writer of std. It tells its bytes where the writer does.
+#[derive(Drop)]
+pub struct StdSink<W> {
+    writer: W,
+    faults: u64,
+}
+
+impl<W: Write> StdSink<W> {
+    /// A sink over this writer, without a fault so far.
+    pub fn new(writer: W) -> Self
+        ensures written { ⟦<StdSink<W> as Sink>⟧.written result ≡ W.contents writer }
+        ensures faults { ⟦<StdSink<W> as Sink>⟧.faults result ≡ 0 }
+    {
+        StdSink { writer, faults: 0 }
+    }
+}
+
+impl<W: Write> Sink for StdSink<W> {
+    ghost written = { λ s. W.contents s.writer };
+
+    ghost faults = { λ s. s.faults };
+
+    fn put(&mut self, piece: &[u8]) -> Result<(), PutRefusal> {
+        match write_whole(&mut self.writer, piece) {
+            Ok(()) => Ok(()),
+            Err(Failed) => {
+                self.faults = self.faults.saturating_add(1);
+                Err(PutRefusal::Failed)
+            }
+        }
+    }
+}
+
+// Writes the whole piece, in as many writes as the writer needs, and has it handed on at once, so that no fault comes later.
+// A writer that takes nothing of what is left has failed.
+fn write_whole<W: Write>(writer: &mut W, piece: &[u8]) -> Result<(), Failed>
+    ensures whole { OnOk result (Appends (W.contents writer.old) (W.contents writer.new) piece.now) }
+    ensures front { OnErr result (AppendsFront (W.contents writer.old) (W.contents writer.new) piece.now) }
+{
+    let mut at = 0;
+    while at < piece.len() {
+        match writer.write(&piece[at..]) {
+            Ok(0) => return Err(Failed),
+            Ok(count) => at += count,
+            Err(_) => return Err(Failed),
+        }
+    }
+    match writer.flush() {
+        Ok(()) => Ok(()),
+        Err(_) => Err(Failed),
+    }
+}
