@@ -34,6 +34,28 @@ impl Model for Path {
     ghost view = { λ a. a.steps.items };
 }
 
+impl PartialEq for Path {
+    ghost use Rattle.std.specs.Cmp.Lexicographic.{pointwise};
+    ghost use Rattle.std.specs.Cmp.{partial_equiv_from_equiv};
+    ghost use Rattle.std.proofs.lemmas.Cmp.{lists_equiv};
+    ghost use Rattle.sm_tree.specs.contracts.path.StepEq.TheImpl.Laws.{laws-law};
+
+    ghost eq = { pointwise ⟦<Step as PartialEq>⟧.eq };
+
+    ghost laws = { partial_equiv_from_equiv (lists_equiv laws-law) };
+
+    fn eq(&self, other: &Self) -> bool {
+        self.steps.as_slice() == other.steps.as_slice()
+    }
+}
+
+impl Eq for Path {
+    ghost use Rattle.std.proofs.lemmas.Cmp.{lists_equiv};
+    ghost use Rattle.sm_tree.specs.contracts.path.StepEq.TheImpl.Laws.{laws-law};
+
+    ghost laws = { lists_equiv laws-law };
+}
+
 impl Path {
     /// The path of the steps that a vector holds. No memory.
     pub fn new(steps: Vec<Step>) -> Self
@@ -156,4 +178,61 @@ fn decimal_len(number: u64) -> usize
         digits += 1;
     }
     digits
+}
+
+#[cfg(test)]
+mod tests {
+    use super::*;
+    use std::test::Fail;
+
+    // The path of these names, from an object to a member at each step.
+    fn path_of(alloc: Global, names: &[&str]) -> Result<Path, NoMemory> {
+        let mut steps = Vec::new(alloc);
+        for name in names {
+            steps.push(Step::Member(Text::copy(alloc, name)?))?;
+        }
+        Ok(Path::new(steps))
+    }
+
+    // The examples of RFC 6901, section 5.
+    #[test]
+    fn names_are_escaped_as_rfc_6901_shows(rt: HostRuntime) -> Result<(), Fail> {
+        for (name, pointer) in [
+            ("foo", "/foo"),
+            ("", "/"),
+            ("a/b", "/a~1b"),
+            ("c%d", "/c%d"),
+            ("e^f", "/e^f"),
+            ("g|h", "/g|h"),
+            ("i\\j", "/i\\j"),
+            ("k\"l", "/k\"l"),
+            (" ", "/ "),
+            ("m~n", "/m~0n"),
+        ] {
+            let path = path_of(rt.alloc(), &[name])?;
+            assert_eq!(rt; path.print(rt.alloc())?.as_str(), pointer);
+        }
+        Ok(())
+    }
+
+    #[test]
+    fn the_root_is_the_empty_text(rt: HostRuntime) -> Result<(), Fail> {
+        let path = path_of(rt.alloc(), &[])?;
+        assert_eq!(rt; path.print(rt.alloc())?.as_str(), "");
+        Ok(())
+    }
+
+    #[test]
+    fn steps_follow_one_another(rt: HostRuntime) -> Result<(), Fail> {
+        let steps = vec![in rt.alloc();
+            Step::Member(Text::copy(rt.alloc(), "foo")?),
+            Step::Index(0),
+            Step::Key(Text::copy(rt.alloc(), "~1é/")?),
+            Step::Index(18446744073709551615),
+        ]?;
+        let path = Path::new(steps);
+        let printed = path.print(rt.alloc())?;
+        assert_eq!(rt; printed.as_str(), "/foo/0/~01é~1/18446744073709551615");
+        Ok(())
+    }
 }
