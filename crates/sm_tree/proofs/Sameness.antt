@@ -1,7 +1,7 @@
 -- That Same is reflexive and symmetric, and that a name stands for one value.
-use Rattle.std.proofs.Common.{◌≡◌, ◌⊎◌, inl, inr, ℕ, List, refl, subst, sym, ap, ◌∙◌}
+use Rattle.std.proofs.Common.{◌≡◌, inl, inr, ℕ, List, refl, subst, sym, ◌∙◌}
 use Rattle.sm_tree.specs.Node.{Node, Nodes, Members, null, bool, int, number, text, bytes, tag, opaque, list, object, no_nodes, node, no_members, member}
-use Rattle.sm_tree.specs.Same.{HasPair, HasName, HasDistinctNames, AreDistinct, IsNode, Same, SameEntries, AllIn, IsIn, SameToItself, SameBothWays, OneValueAName}
+use Rattle.sm_tree.specs.Same.{HasPair, HasName, AreDistinct, Same, SameEntries, AllIn, IsIn, OneValueAName}
 
 -- more pairs on the left
 all_in-more : (k : List ℕ) (n : Node) (ps qs : Members) → AllIn ps qs → AllIn ps (member k n qs)

@@ -1,5 +1,5 @@
 -- Tokens of a JSON Pointer, letter by letter; how long a token and a decimal number are.
-use Rattle.std.proofs.Common.{◌≡◌, ◌≢◌, inl, inr, ℕ, ◌+◌, ◌-◌, ◌/◌, ◌<◌, ◌≤◌, ◌^◌, ◌==◌, ◌&&◌, ◌||◌, Bool, true, false, cond, List, [], ◌∷◌, ◌++◌, length, map, get_or, count_by, encode_utf8, refl, subst, sym, ap, ap₂, ◌∙◌, arith, append_assoc, append-nil}
+use Rattle.std.proofs.Common.{◌≡◌, ◌≢◌, inl, inr, ℕ, ◌+◌, ◌/◌, ◌<◌, ◌≤◌, ◌^◌, ◌==◌, ◌||◌, cond, List, [], ◌∷◌, ◌++◌, length, get_or, count_by, encode_utf8, refl, subst, sym, ap, ◌∙◌, arith, append-nil}
 use Rattle.std.proofs.lemmas.Bool.{cases_eq}
 use Rattle.std.proofs.lemmas.Grind.{common_steps}
 use Rattle.std.proofs.lemmas.Str.{inside_one}
@@ -8,7 +8,7 @@ use Rattle.std.proofs.lemmas.List.{length-map}
 use Rattle.std.proofs.lemmas.Int.Digits.{length-digits_of_step}
 use Rattle.std.specs.Fmt.{decimal}
 use Rattle.std.specs.Int.Digits.{digits_of}
-use Rattle.sm_tree.specs.Pointer.{token, replaced, unescaped, TokenReadsBack}
+use Rattle.sm_tree.specs.Pointer.{token, replaced, TokenReadsBack}
 
 token-plain : (c : ℕ) (cs : List ℕ) → c ≢ 126 → c ≢ 47 → token (c ∷ cs) ≡ c ∷ token cs
 token-plain c cs not_tilde not_slash = grind (arith, common_steps)

@@ -1,5 +1,5 @@
 -- Which trees JSON can spell, and which CBOR can.
-use Rattle.std.specs.Prelude.{ℕ, ◌≤◌, ◌<◌, ◌^◌, IsUtf8, List, [], ◌∷◌}
+use Rattle.std.specs.Prelude.{ℕ, ◌<◌, ◌^◌, IsUtf8, List, [], ◌∷◌}
 use mir.Syntax.{w64}
 use mir.Val.{SFits}
 use Rattle.sm_tree.specs.Node.{Node, Nodes, Members, null, bool, int, number, text, bytes, tag, opaque, list, object, no_nodes, node, no_members, member}

@@ -1,6 +1,6 @@
 -- The texts of JSON numbers (RFC 8259, section 6), and the tree that each stands for: an integer where
 -- the text has no fraction and no exponent and 64 bits hold it, else the text itself.
-use Rattle.std.specs.Prelude.{◌≡◌, ℕ, ◌≤◌, ◌⊎◌, ℤ, List, [], ◌∷◌, ◌++◌}
+use Rattle.std.specs.Prelude.{◌≡◌, ℕ, ◌≤◌, ◌⊎◌, List, [], ◌∷◌, ◌++◌}
 use Rattle.std.specs.Str.Parse.{IsNumeral, signed_digits_value, without_leading_sign}
 use mir.Syntax.{w64}
 use mir.Val.{SFits}

@@ -1,4 +1,4 @@
-use Rattle.std.proofs.Common.{◌≡◌, ◌≢◌, ◌++◌, List, ℕ, string_bytes, encode_utf8, sym, ap, ◌∙◌, append_assoc, arith, rules}
+use Rattle.std.proofs.Common.{◌≡◌, ◌≢◌, ◌++◌, string_bytes, encode_utf8, sym, ap, ◌∙◌, append_assoc, rules}
 use Rattle.std.specs.Str.Iter.{chars_rest}
 use Rattle.sm_tree.specs.Pointer.{token}
 use Rattle.sm_tree.proofs.Tokens.{token-letter}

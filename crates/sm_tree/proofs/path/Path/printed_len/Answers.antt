@@ -1,4 +1,4 @@
-use Rattle.std.proofs.Common.{◌≡◌, ◌≤◌, length, arith, subst, sym, ap, ◌∙◌}
+use Rattle.std.proofs.Common.{◌≤◌, length, arith, subst}
 use Rattle.std.proofs.lemmas.List.{at_drop_all}
 use Rattle.sm_tree.specs.Pointer.{pointer}
 use Rattle.sm_tree.proofs.path.Path.printed_len.Goals as goal
