@@ -1,6 +1,6 @@
 -- What a tree of the code stands for. Entries and pairs are seen as lists. Every contract that speaks of
 -- a tree cites it.
-use Rattle.std.specs.Prelude.{ℕ, List, [], ◌∷◌, map}
+use Rattle.std.specs.Prelude.{ℕ, List, map}
 use Rattle.sm_tree.specs.Node.{Node, null, bool, int, number, text, bytes, tag, opaque, list, object, nodes_of, members_of}
 use Rattle.sm_tree.specs.declared.tree.Tree.{Tree, fold-Tree}
 use Rattle.sm_tree.specs.declared.tree.Items.{Items, fold-Items}
