@@ -5,3 +5,6 @@ pub mod Numbers
 pub mod Json
 pub mod Events
 pub mod View
+pub mod Building
+pub mod BuilderSteps
+pub mod BuilderView

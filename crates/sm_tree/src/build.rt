@@ -1,0 +1,159 @@
+// What makes a tree from its events, one call an event. The readers of JSON and CBOR stand on it.
+// Contracts see a builder as specs/Building.antt says.
+ghost use Rattle.std.specs.Prelude.{◌≡◌, ◌++◌, ◌∷◌, [], List, OnOk, true, false, Some, None};
+ghost use Rattle.sm_tree.specs.View.{node_of};
+ghost use Rattle.sm_tree.specs.Events.{events, start_list as list_starts, start_object as object_starts, end_list as list_ends, end_object as object_ends, key_event};
+ghost use Rattle.sm_tree.specs.Building.{nothing, whole, within, in_list, in_object, so_far, kinds, awaits_value, inner_awaits, goes_on};
+ghost use Rattle.sm_tree.specs.BuilderSteps.{with_tree, ended, put_around, back_inside, after_value, after_start, after_end, after_key};
+ghost use Rattle.sm_tree.specs.BuilderView.{inner_of, around_of, open_of, building_of};
+
+use crate::NoMemory;
+use crate::text::Text;
+use crate::tree::{Items, Pairs, Tree};
+use std::alloc::Global;
+use std::mem;
+
+/// What is open at a place of a tree.
+#[derive(Debug, Clone, Copy, PartialEq, Eq, Drop)]
+pub enum OpenKind {
+    /// An array.
+    List,
+    /// An object of JSON or a map of CBOR.
+    Object,
+}
+
+/// Makes a tree from its events, which come one call each and in order. The builder never judges: a
+/// caller sees to it that each event has its place. After `NoMemory` a builder is of no use.
+#[derive(Drop)]
+pub struct TreeBuilder {
+    state: State,
+    alloc: Global,
+}
+
+#[derive(Drop)]
+enum State {
+    /// No event has come.
+    Empty,
+    /// The last event has come.
+    Whole(Tree),
+    Within(Open),
+}
+
+/// A list or an object that is open, and what is around it, the outermost first.
+#[derive(Drop)]
+struct Open {
+    inner: Inner,
+    outer: Vec<Around>,
+}
+
+/// The innermost list or object.
+#[derive(Drop)]
+enum Inner {
+    List(Vec<Tree>),
+    /// The pairs so far, and the name whose tree is to come.
+    Object(Vec<(Text, Tree)>, Option<Text>),
+}
+
+/// A list or an object around it. What is open becomes its next entry, or the tree of the name.
+#[derive(Drop)]
+enum Around {
+    List(Vec<Tree>),
+    Object(Vec<(Text, Tree)>, Text),
+}
+
+impl Inner {
+    // Appends a tree: an entry, or the tree of the name that awaits one.
+    fn put(&mut self, tree: Tree) -> Result<(), NoMemory>
+        requires { inner_awaits (inner_of self.old) ≡ true }
+        ensures { OnOk result (inner_of self.new ≡ with_tree (node_of tree) (inner_of self.old)) }
+    {
+        match self {
+            Inner::List(items) => match items.push(tree) {
+                Ok(()) => Ok(()),
+                Err(_) => Err(NoMemory),
+            },
+            Inner::Object(pairs, pending) => match pending.take() {
+                Some(name) => match pairs.push((name, tree)) {
+                    Ok(()) => Ok(()),
+                    Err(_) => Err(NoMemory),
+                },
+                None => unreachable!(),
+            },
+        }
+    }
+
+    // The tree of what ends.
+    fn into_tree(self) -> Tree
+        ensures { node_of result ≡ ended (inner_of self) }
+    {
+        match self {
+            Inner::List(items) => Tree::List(Items::new(items)),
+            Inner::Object(pairs, _) => Tree::Object(Pairs::new(pairs)),
+        }
+    }
+
+    // What stands around the list or object that opens in it.
+    fn into_around(self) -> Around
+        requires { inner_awaits (inner_of self) ≡ true }
+        ensures { around_of result ≡ put_around (inner_of self) }
+    {
+        match self {
+            Inner::List(items) => Around::List(items),
+            Inner::Object(pairs, pending) => match pending {
+                Some(name) => Around::Object(pairs, name),
+                None => unreachable!(),
+            },
+        }
+    }
+}
+
+impl Around {
+    // The innermost again, where what was open in it ends.
+    fn into_inner(self) -> Inner
+        ensures { inner_of result ≡ back_inside (around_of self) }
+    {
+        match self {
+            Around::List(items) => Inner::List(items),
+            Around::Object(pairs, name) => Inner::Object(pairs, Some(name)),
+        }
+    }
+}
+
+impl TreeBuilder {
+    /// A builder to which no event has come. No memory yet.
+    pub fn new(alloc: Global) -> Self
+        ensures { building_of result ≡ nothing }
+    {
+        TreeBuilder { state: State::Empty, alloc }
+    }
+
+    /// Takes all events of a tree, or the one of a leaf.
+    pub fn value(&mut self, tree: Tree) -> Result<(), NoMemory>
+        requires { awaits_value (building_of self.old) ≡ true }
+        ensures state { OnOk result (building_of self.new ≡ after_value (node_of tree) (building_of self.old)) }
+    {
+        match &mut self.state {
+            State::Empty => {
+                self.state = State::Whole(tree);
+                Ok(())
+            }
+            State::Within(open) => open.inner.put(tree),
+            State::Whole(_) => unreachable!(),
+        }
+    }
+
+    /// Takes the name of the next pair of the object that is the innermost.
+    pub fn key(&mut self, name: Text)
+        requires { (kinds (building_of self.old) ≡ kinds (building_of self.old)) }
+        ensures state { building_of self.new ≡ after_key name (building_of self.old) }
+    {
+        match &mut self.state {
+            State::Within(open) => match &mut open.inner {
+                Inner::Object(_, pending) => *pending = Some(name),
+                Inner::List(_) => {}
+            },
+            State::Empty => {}
+            State::Whole(_) => {}
+        }
+    }
+}
