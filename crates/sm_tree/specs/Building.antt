@@ -1,7 +1,7 @@
 -- What a tree builder holds between two events, without memory: what is open, and the entries and pairs
 -- of it so far. The contracts of TreeBuilder cite it, and a reader that calls one keeps its list of what
 -- is open and its place next to `kinds` and `awaits_value`.
-use Rattle.std.specs.Prelude.{ℕ, Bool, true, false, List, [], ◌∷◌, ◌++◌, map, Option, None, Some}
+use Rattle.std.specs.Prelude.{◌≡◌, ℕ, Bool, true, false, List, [], ◌∷◌, ◌++◌, map, Option, None, Some}
 use Rattle.sm_tree.specs.Node.{Node}
 use Rattle.sm_tree.specs.Events.{NodeEvent, events, start_list, start_object, key_event}
 use Rattle.sm_tree.specs.declared.build.OpenKind.{OpenKind}
@@ -85,3 +85,8 @@ abbrev pub goes_on : List OpenKind → Bool
 goes_on [] = false
 goes_on (a_list ∷ ks) = true
 goes_on (an_object ∷ ks) = false
+
+-- what is open innermost is of this kind
+abbrev pub IsIn : OpenKind → List OpenKind → Type 0
+IsIn k [] = ⊥
+IsIn k (j ∷ ks) = j ≡ k
