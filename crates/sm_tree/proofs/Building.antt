@@ -156,3 +156,16 @@ end_kinds i (a ∷ outer) = ap (λ k. inner_kind i ∷ k ∷ map around_kind out
 pub end_awaits : (i : Inner) (outer : List Around) → awaits_value (after_end (within i outer)) ≡ goes_on (kinds (after_end (within i outer)))
 end_awaits i [] = refl
 end_awaits i (a ∷ outer) = with_tree_awaits (back_inside a) (ended i) (map around_kind outer)
+
+pub end_list_taken : (b : Building) → IsIn a_list (kinds b) → so_far (after_end b) ≡ so_far b ++ (end_list ∷ [])
+end_list_taken nothing is_in = absurd is_in
+end_list_taken (whole n) is_in = absurd is_in
+end_list_taken (within (in_list ns) outer) is_in = end_taken (in_list ns) outer tt
+end_list_taken (within (in_object ms k) outer) is_in = absurd cc
+
+pub end_object_taken : (b : Building) → IsIn an_object (kinds b) → awaits_value b ≡ false → so_far (after_end b) ≡ so_far b ++ (end_object ∷ [])
+end_object_taken nothing is_in unnamed = absurd is_in
+end_object_taken (whole n) is_in unnamed = absurd is_in
+end_object_taken (within (in_list ns) outer) is_in unnamed = absurd cc
+end_object_taken (within (in_object ms None) outer) is_in unnamed = end_taken (in_object ms None) outer tt
+end_object_taken (within (in_object ms (Some k)) outer) is_in unnamed = absurd cc

@@ -21,8 +21,11 @@ around_of (outer_list items) = around_list (nodes_view items.items)
 around_of (outer_object pairs name) = around_object (members_view pairs.items) name
 
 -- the vector of what is around holds the outermost first
+abbrev pub outer_of : Open → List building.Around
+outer_of o = reverse (map around_of o.outer.items)
+
 abbrev pub open_of : Open → Building
-open_of o = within (inner_of o.inner) (reverse (map around_of o.outer.items))
+open_of o = within (inner_of o.inner) (outer_of o)
 
 abbrev pub state_of : State → Building
 state_of Empty = nothing

@@ -8,3 +8,4 @@ pub mod View
 pub mod Building
 pub mod BuilderSteps
 pub mod BuilderView
+pub mod EventLaws

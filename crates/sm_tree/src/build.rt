@@ -3,7 +3,7 @@
 ghost use Rattle.std.specs.Prelude.{◌≡◌, ◌++◌, ◌∷◌, [], List, OnOk, true, false, Some, None};
 ghost use Rattle.sm_tree.specs.View.{node_of};
 ghost use Rattle.sm_tree.specs.Events.{events, start_list as list_starts, start_object as object_starts, end_list as list_ends, end_object as object_ends, key_event};
-ghost use Rattle.sm_tree.specs.Building.{nothing, whole, within, in_list, in_object, so_far, kinds, awaits_value, inner_awaits, goes_on};
+ghost use Rattle.sm_tree.specs.Building.{nothing, whole, within, in_list, in_object, so_far, kinds, awaits_value, inner_awaits, goes_on, IsIn};
 ghost use Rattle.sm_tree.specs.BuilderSteps.{with_tree, ended, put_around, back_inside, after_value, after_start, after_end, after_key};
 ghost use Rattle.sm_tree.specs.BuilderView.{inner_of, around_of, open_of, building_of};
 
@@ -119,18 +119,72 @@ impl Around {
     }
 }
 
+impl Open {
+    // Opens a list or an object in the innermost.
+    fn start(&mut self, inner: Inner) -> Result<(), NoMemory>
+        requires { awaits_value (open_of self.old) ≡ true }
+        ensures { OnOk result (open_of self.new ≡ after_start (inner_of inner) (open_of self.old)) }
+    {
+        let around = mem::replace(&mut self.inner, inner).into_around();
+        match self.outer.push(around) {
+            Ok(()) => Ok(()),
+            Err(_) => Err(NoMemory),
+        }
+    }
+}
+
 impl TreeBuilder {
-    /// A builder to which no event has come. No memory yet.
+    /// A builder that awaits the first event. It takes no memory yet.
     pub fn new(alloc: Global) -> Self
-        ensures { building_of result ≡ nothing }
+        ensures taken { so_far (building_of result) ≡ [] }
+        ensures kinds { kinds (building_of result) ≡ [] }
+        ensures awaits { awaits_value (building_of result) ≡ true }
     {
         TreeBuilder { state: State::Empty, alloc }
     }
 
-    /// Takes all events of a tree, or the one of a leaf.
+    // Opens a list or an object where a tree may come.
+    fn start(&mut self, inner: Inner) -> Result<(), NoMemory>
+        requires { awaits_value (building_of self.old) ≡ true }
+        ensures { OnOk result (building_of self.new ≡ after_start (inner_of inner) (building_of self.old)) }
+    {
+        match &mut self.state {
+            State::Empty => {
+                let outer = Vec::new(self.alloc);
+                self.state = State::Within(Open { inner, outer });
+                Ok(())
+            }
+            State::Within(open) => open.start(inner),
+            State::Whole(_) => unreachable!(),
+        }
+    }
+
+    // Ends the innermost list or object, and gives it to what is around it.
+    fn end(&mut self) -> Result<(), NoMemory>
+        ensures { OnOk result (building_of self.new ≡ after_end (building_of self.old)) }
+    {
+        match &mut self.state {
+            State::Within(open) => match open.outer.pop() {
+                Some(around) => {
+                    let inner = mem::replace(&mut open.inner, around.into_inner());
+                    open.inner.put(inner.into_tree())
+                }
+                None => {
+                    let inner = mem::replace(&mut open.inner, Inner::List(Vec::new(self.alloc)));
+                    self.state = State::Whole(inner.into_tree());
+                    Ok(())
+                }
+            },
+            State::Empty | State::Whole(_) => Ok(()),
+        }
+    }
+
+    /// Takes all events of a tree, or the one of a leaf. `NoMemory` where the entry finds no room.
     pub fn value(&mut self, tree: Tree) -> Result<(), NoMemory>
         requires { awaits_value (building_of self.old) ≡ true }
-        ensures state { OnOk result (building_of self.new ≡ after_value (node_of tree) (building_of self.old)) }
+        ensures taken { OnOk result (so_far (building_of self.new) ≡ so_far (building_of self.old) ++ events (node_of tree) []) }
+        ensures kinds { OnOk result (kinds (building_of self.new) ≡ kinds (building_of self.old)) }
+        ensures awaits { OnOk result (awaits_value (building_of self.new) ≡ goes_on (kinds (building_of self.new))) }
     {
         match &mut self.state {
             State::Empty => {
@@ -142,18 +196,73 @@ impl TreeBuilder {
         }
     }
 
-    /// Takes the name of the next pair of the object that is the innermost.
+    /// Takes the name of the next pair of the innermost object. No memory.
     pub fn key(&mut self, name: Text)
-        requires { (kinds (building_of self.old) ≡ kinds (building_of self.old)) }
-        ensures state { building_of self.new ≡ after_key name (building_of self.old) }
+        requires innermost { IsIn OpenKind.Object (kinds (building_of self.old)) }
+        requires unnamed { awaits_value (building_of self.old) ≡ false }
+        ensures taken { so_far (building_of self.new) ≡ so_far (building_of self.old) ++ (key_event name ∷ []) }
+        ensures kinds { kinds (building_of self.new) ≡ kinds (building_of self.old) }
+        ensures awaits { awaits_value (building_of self.new) ≡ true }
     {
         match &mut self.state {
             State::Within(open) => match &mut open.inner {
                 Inner::Object(_, pending) => *pending = Some(name),
-                Inner::List(_) => {}
+                Inner::List(_) => unreachable!(),
             },
-            State::Empty => {}
-            State::Whole(_) => {}
+            State::Empty | State::Whole(_) => unreachable!(),
+        }
+    }
+
+    /// Takes the opener of a list. `NoMemory` where what is open finds no room.
+    pub fn start_list(&mut self) -> Result<(), NoMemory>
+        requires { awaits_value (building_of self.old) ≡ true }
+        ensures taken { OnOk result (so_far (building_of self.new) ≡ so_far (building_of self.old) ++ (list_starts None ∷ [])) }
+        ensures kinds { OnOk result (kinds (building_of self.new) ≡ OpenKind.List ∷ kinds (building_of self.old)) }
+        ensures awaits { OnOk result (awaits_value (building_of self.new) ≡ true) }
+    {
+        self.start(Inner::List(Vec::new(self.alloc)))
+    }
+
+    /// Takes the opener of an object. `NoMemory` where what is open finds no room.
+    pub fn start_object(&mut self) -> Result<(), NoMemory>
+        requires { awaits_value (building_of self.old) ≡ true }
+        ensures taken { OnOk result (so_far (building_of self.new) ≡ so_far (building_of self.old) ++ (object_starts None ∷ [])) }
+        ensures kinds { OnOk result (kinds (building_of self.new) ≡ OpenKind.Object ∷ kinds (building_of self.old)) }
+        ensures awaits { OnOk result (awaits_value (building_of self.new) ≡ false) }
+    {
+        self.start(Inner::Object(Vec::new(self.alloc), None))
+    }
+
+    /// Takes the end of the innermost list. `NoMemory` where what is around it has no room for it.
+    pub fn end_list(&mut self) -> Result<(), NoMemory>
+        requires { IsIn OpenKind.List (kinds (building_of self.old)) }
+        ensures taken { OnOk result (so_far (building_of self.new) ≡ so_far (building_of self.old) ++ (list_ends ∷ [])) }
+        ensures kinds { OnOk result (kinds (building_of self.old) ≡ OpenKind.List ∷ kinds (building_of self.new)) }
+        ensures awaits { OnOk result (awaits_value (building_of self.new) ≡ goes_on (kinds (building_of self.new))) }
+    {
+        self.end()
+    }
+
+    /// Takes the end of the innermost object. `NoMemory` where what is around it has no room for it.
+    pub fn end_object(&mut self) -> Result<(), NoMemory>
+        requires innermost { IsIn OpenKind.Object (kinds (building_of self.old)) }
+        requires unnamed { awaits_value (building_of self.old) ≡ false }
+        ensures taken { OnOk result (so_far (building_of self.new) ≡ so_far (building_of self.old) ++ (object_ends ∷ [])) }
+        ensures kinds { OnOk result (kinds (building_of self.old) ≡ OpenKind.Object ∷ kinds (building_of self.new)) }
+        ensures awaits { OnOk result (awaits_value (building_of self.new) ≡ goes_on (kinds (building_of self.new))) }
+    {
+        self.end()
+    }
+
+    /// The tree whose events were taken. No memory.
+    pub fn finish(self) -> Tree
+        requires closed { kinds (building_of self) ≡ [] }
+        requires begun { awaits_value (building_of self) ≡ false }
+        ensures { so_far (building_of self) ≡ events (node_of result) [] }
+    {
+        match self.state {
+            State::Whole(tree) => tree,
+            State::Empty | State::Within(_) => unreachable!(),
         }
     }
 }

@@ -3,6 +3,7 @@
 #![tactic(auto)]
 
 mod build;
+pub mod laws_of_events;
 mod refusal;
 mod text;
 mod tree;
