@@ -139,9 +139,9 @@ pub end_taken : (i : Inner) (outer : List Around) → MayEnd i → so_far (after
 end_taken i [] may = ended_events i may
 end_taken i (a ∷ outer) may =
     ap (λ es. outer_events outer ++ es)
-        (with_tree_events (back_inside a) (ended i) (back_inside_awaits a)
-        ∙ ap (λ es. es ++ events (ended i) []) (back_inside_events a)
-        ∙ ap (λ es. around_events a ++ es) (ended_events i may))
+    (with_tree_events (back_inside a) (ended i) (back_inside_awaits a)
+    ∙ ap (λ es. es ++ events (ended i) []) (back_inside_events a)
+    ∙ ap (λ es. around_events a ++ es) (ended_events i may))
     ∙ sym (append_assoc (outer_events outer) (around_events a) (inner_events i ++ (end_of i ∷ [])))
     ∙ sym (append_assoc (outer_events outer ++ around_events a) (inner_events i) (end_of i ∷ []))
 

@@ -74,6 +74,11 @@ inner_awaits (in_list ns) = true
 inner_awaits (in_object ms None) = false
 inner_awaits (in_object ms (Some k)) = true
 
+-- the innermost of what is open
+abbrev pub first_kind : List OpenKind → Option OpenKind
+first_kind [] = None
+first_kind (k ∷ ks) = Some k
+
 -- a tree may come next: at the start, in a list, and behind a name
 abbrev pub awaits_value : Building → Bool
 awaits_value nothing = true

@@ -1,12 +1,9 @@
--- What the events of trees are good for.
+-- What holds of the events of all trees.
 use Rattle.std.specs.Prelude.{◌≡◌, List}
 use Rattle.sm_tree.specs.Node.{Node}
 use Rattle.sm_tree.specs.Events.{NodeEvent, events}
 
--- a stream is of one tree: where the events of two trees and what follows are the same, so are the trees,
--- and so is what follows
-abbrev pub HasOneTree : List NodeEvent → Type 0
-HasOneTree stream = (n m : Node) (es fs : List NodeEvent) → events n es ≡ stream → events m fs ≡ stream → (n ≡ m) × (es ≡ fs)
-
-abbrev pub EachStreamHasOneTree : Type 0
-EachStreamHasOneTree = (stream : List NodeEvent) → HasOneTree stream
+-- a stream begins with the events of one tree at most: where two trees, each with what follows, are the
+-- same stream, they are the same tree, and the same follows
+abbrev pub OneTreeAStream : Type 0
+OneTreeAStream = (n m : Node) (es fs : List NodeEvent) → events n es ≡ events m fs → (n ≡ m) × (es ≡ fs)

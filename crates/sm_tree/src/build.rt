@@ -3,7 +3,7 @@
 ghost use Rattle.std.specs.Prelude.{◌≡◌, ◌++◌, ◌∷◌, [], List, OnOk, true, false, Some, None};
 ghost use Rattle.sm_tree.specs.View.{node_of};
 ghost use Rattle.sm_tree.specs.Events.{events, start_list as list_starts, start_object as object_starts, end_list as list_ends, end_object as object_ends, key_event};
-ghost use Rattle.sm_tree.specs.Building.{nothing, whole, within, in_list, in_object, so_far, kinds, awaits_value, inner_awaits, goes_on, IsIn};
+ghost use Rattle.sm_tree.specs.Building.{nothing, whole, within, in_list, in_object, so_far, kinds, awaits_value, inner_awaits, goes_on, first_kind, IsIn};
 ghost use Rattle.sm_tree.specs.BuilderSteps.{with_tree, ended, put_around, back_inside, after_value, after_start, after_end, after_key};
 ghost use Rattle.sm_tree.specs.BuilderView.{inner_of, around_of, open_of, building_of};
 
@@ -140,7 +140,10 @@ impl TreeBuilder {
         ensures kinds { kinds (building_of result) ≡ [] }
         ensures awaits { awaits_value (building_of result) ≡ true }
     {
-        TreeBuilder { state: State::Empty, alloc }
+        TreeBuilder {
+            state: State::Empty,
+            alloc,
+        }
     }
 
     // Opens a list or an object where a tree may come.
@@ -176,6 +179,19 @@ impl TreeBuilder {
                 }
             },
             State::Empty | State::Whole(_) => Ok(()),
+        }
+    }
+
+    /// The kind of what is open innermost. No memory.
+    pub fn innermost(&self) -> Option<OpenKind>
+        ensures { result ≡ first_kind (kinds (building_of self.now)) }
+    {
+        match &self.state {
+            State::Within(open) => match &open.inner {
+                Inner::List(_) => Some(OpenKind::List),
+                Inner::Object(_, _) => Some(OpenKind::Object),
+            },
+            State::Empty | State::Whole(_) => None,
         }
     }
 
@@ -263,6 +279,90 @@ impl TreeBuilder {
         match self.state {
             State::Whole(tree) => tree,
             State::Empty | State::Within(_) => unreachable!(),
+        }
+    }
+}
+
+#[cfg(test)]
+mod tests {
+    use super::*;
+    use std::test::Fail;
+
+    fn text(alloc: Global, text: &str) -> Result<Text, NoMemory> {
+        Text::copy(alloc, text)
+    }
+
+    // {"a":[1,[true],null],"":{"b":0},"a":[]}
+    #[test]
+    fn nested_stream_makes_its_tree(rt: HostRuntime) -> Result<(), Fail> {
+        let alloc = rt.alloc();
+        let mut builder = TreeBuilder::new(alloc);
+        builder.start_object()?;
+        builder.key(text(alloc, "a")?);
+        builder.start_list()?;
+        builder.value(Tree::Int(1))?;
+        builder.start_list()?;
+        builder.value(Tree::Bool(true))?;
+        assert_eq!(rt; builder.innermost(), Some(OpenKind::List));
+        builder.end_list()?;
+        builder.value(Tree::Null)?;
+        builder.end_list()?;
+        builder.key(text(alloc, "")?);
+        builder.start_object()?;
+        builder.key(text(alloc, "b")?);
+        builder.value(Tree::Int(0))?;
+        builder.end_object()?;
+        assert_eq!(rt; builder.innermost(), Some(OpenKind::Object));
+        builder.key(text(alloc, "a")?);
+        builder.start_list()?;
+        builder.end_list()?;
+        builder.end_object()?;
+        assert_eq!(rt; builder.innermost(), None);
+        let tree = builder.finish();
+
+        let inside = vec![in alloc; Tree::Bool(true)]?;
+        let entries = vec![in alloc; Tree::Int(1), Tree::List(Items::new(inside)), Tree::Null]?;
+        let second = vec![in alloc; (text(alloc, "b")?, Tree::Int(0))]?;
+        let pairs = vec![in alloc;
+            (text(alloc, "a")?, Tree::List(Items::new(entries))),
+            (text(alloc, "")?, Tree::Object(Pairs::new(second))),
+            (text(alloc, "a")?, Tree::List(Items::new(Vec::new(alloc)))),
+        ]?;
+        assert!(rt; tree == Tree::Object(Pairs::new(pairs)));
+        Ok(())
+    }
+
+    #[test]
+    fn thousand_lists_nest(rt: HostRuntime) -> Result<(), Fail> {
+        let alloc = rt.alloc();
+        let mut builder = TreeBuilder::new(alloc);
+        builder.start_list()?;
+        'opened: for _ in 1..1000 {
+            builder.start_list()?;
+        }
+        'ended: for _ in 0..1000 {
+            match builder.innermost() {
+                Some(OpenKind::List) => builder.end_list()?,
+                Some(OpenKind::Object) => {}
+                None => {}
+            }
+        }
+        assert_eq!(rt; builder.innermost(), None);
+        let mut tree = builder.finish();
+        for _ in 1..1000 {
+            tree = only_entry(tree);
+        }
+        assert!(rt; tree == Tree::List(Items::new(Vec::new(alloc))));
+        Ok(())
+    }
+
+    fn only_entry(tree: Tree) -> Tree {
+        match tree {
+            Tree::List(items) => match items.into_inner().pop() {
+                Some(entry) => entry,
+                None => Tree::Null,
+            },
+            other => other,
         }
     }
 }
