@@ -7,3 +7,7 @@ pub mod Events
 pub mod Same
 pub mod View
 pub mod Pointer
+pub mod Building
+pub mod BuilderSteps
+pub mod BuilderView
+pub mod EventLaws

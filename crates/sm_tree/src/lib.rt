@@ -4,11 +4,14 @@
 
 pub mod laws;
 mod path;
+mod build;
+pub mod laws_of_events;
 mod refusal;
 mod text;
 mod tree;
 
 pub use path::{Path, Step};
+pub use build::{OpenKind, TreeBuilder};
 pub use refusal::SyntaxRefusal;
 use std::alloc::{AllocError, AllocFailed};
 pub use text::{Bytes, Text};
