@@ -7,7 +7,7 @@ use Rattle.sm_json.specs.declared.spot.Part.TheVariants.{Escape as BehindBacksla
 use Rattle.sm_json.specs.declared.spot.Step.TheVariants.{Within, Whole, Closed, Refused}
 use Rattle.sm_json.specs.Strings.{short_escape, hex_value, HexDigits, CodeUnit, IsHigh, IsLow, joined, LowHalf, Escape}
 use Rattle.sm_json.specs.TextRest.{DigitsRest, UnitRest, PartRest}
-use Rattle.sm_json.specs.TextSteps.{IsPartLive, IsLowBegun, StepsTo, PartSteps}
+use Rattle.sm_json.specs.TextSteps.{IsPartLive, IsLowBegun, PairEnd, StepsTo, PartSteps}
 use Rattle.sm_json.proofs.Units.{SameRest, LastDigit, digits_range_1, digits_range_2, digits_range_3}
 
 some_same : (x y : ℕ) → Some x ≡ Some y → x ≡ y
@@ -55,29 +55,20 @@ pub low_letter_refused : (high x : ℕ) → x ≢ 117 → PartSteps (LowLetter h
 low_letter_refused high x other c s r k h = other (let e = h.1.1 in cc)
 
 -- the digits of a low surrogate
-pub low_goes : (high : ℕ) (old new : Digits) (x : ℕ) → IsHigh high → IsLowBegun new → SameRest old x new → PartSteps (LowUnit high old) x (Within (LowUnit high new))
-low_goes high old new x is_high begun same = ((is_high, begun), λ c s r k. (
-    λ h. (h.0, (same h.0 s r).0 h.1, h.2, h.3), λ h. (h.0, (same h.0 s r).1 h.1, h.2, h.3)))
+pub low_same : (high : ℕ) (old new : Digits) (x : ℕ) → SameRest old x new → (c : ℕ) (s r : List ℕ) → IsScalar c → PartRest (LowUnit high old) c (x ∷ s) r ↔ PartRest (LowUnit high new) c s r
+low_same high old new x same c s r k = (
+    λ h. (h.0, (same h.0 s r).0 h.1, h.2, h.3), λ h. (h.0, (same h.0 s r).1 h.1, h.2, h.3))
 
-low_ends_there : (high : ℕ) (old : Digits) (x u : ℕ) → LastDigit old x u → (c : ℕ) (s r : List ℕ) → PartRest (LowUnit high old) c (x ∷ s) r → IsLow u × (c ≡ joined high u) × (s ≡ r)
+low_ends_there : (high : ℕ) (old : Digits) (x u : ℕ) → LastDigit old x u → (c : ℕ) (s r : List ℕ) → PartRest (LowUnit high old) c (x ∷ s) r → PairEnd high u c s r
 low_ends_there high old x u same c s r h =
     let e = (same h.0 s r).0 h.1 in
-    (subst IsLow e.0 h.2, h.3 ∙ ap (joined high) e.0, e.1)
+    (h.3 ∙ ap (joined high) e.0, e.1)
 
-low_ends_back : (high : ℕ) (old : Digits) (x u : ℕ) → LastDigit old x u → IsLow u → (c : ℕ) (s r : List ℕ) → c ≡ joined high u → s ≡ r → PartRest (LowUnit high old) c (x ∷ s) r
-low_ends_back high old x u same low c s r e f = (u, (same u s r).1 (refl, f), low, e)
+pub low_ends : (high : ℕ) (old : Digits) (x u : ℕ) → IsLow u → LastDigit old x u → (c : ℕ) (s r : List ℕ) → IsScalar c → PartRest (LowUnit high old) c (x ∷ s) r ↔ PairEnd high u c s r
+low_ends high old x u low same c s r k = (low_ends_there high old x u same c s r, λ h. (u, (same u s r).1 (refl, h.1), low, h.0))
 
-pub low_ends : (high : ℕ) (old : Digits) (x u : ℕ) → IsLow u → IsScalar (joined high u) → LastDigit old x u → PartSteps (LowUnit high old) x (Whole (joined high u))
-low_ends high old x u low scalar same = (scalar, λ c s r k. (
-    λ h. let e = low_ends_there high old x u same c s r h in (e.1, e.2),
-    λ h. low_ends_back high old x u same low c s r h.0 h.1))
-
-pub low_end_refused : (high : ℕ) (old : Digits) (x u : ℕ) → (IsLow u → ⊥) → LastDigit old x u → PartSteps (LowUnit high old) x Refused
-low_end_refused high old x u not_low same c s r k h = not_low (low_ends_there high old x u same c s r h).0
-
-pub low_end_no_scalar : (high : ℕ) (old : Digits) (x u : ℕ) → (IsScalar (joined high u) → ⊥) → LastDigit old x u → PartSteps (LowUnit high old) x Refused
-low_end_no_scalar high old x u no_scalar same c s r k h =
-    no_scalar (subst IsScalar (low_ends_there high old x u same c s r h).1 k)
+pub low_no_digit : (high : ℕ) (old : Digits) (x : ℕ) → ((v : ℕ) (s r : List ℕ) → DigitsRest old v (x ∷ s) r → ⊥) → PartSteps (LowUnit high old) x Refused
+low_no_digit high old x none c s r k h = none h.0 s r h.1
 
 -- digits that begin no low surrogate
 low_begun : (d : Digits) (v : ℕ) (s r : List ℕ) → DigitsRest d v s r → IsLow v → IsLowBegun d
@@ -86,8 +77,15 @@ low_begun (Second n) v s r h low = let range = digits_range_3 n v s r h in (omeg
 low_begun (Third n) v s r h low = let range = digits_range_2 n v s r h in (omega arith, omega arith)
 low_begun (Fourth n) v s r h low = let range = digits_range_1 n v s r h in (omega arith, omega arith)
 
-pub low_digit_refused : (high : ℕ) (old new : Digits) (x : ℕ) → SameRest old x new → (IsLowBegun new → ⊥) → PartSteps (LowUnit high old) x Refused
-low_digit_refused high old new x same not_begun c s r k h = not_begun (low_begun new h.0 s r ((same h.0 s r).0 h.1) h.2)
+pub low_goes : (high : ℕ) (d : Digits) → IsHigh high → IsLowBegun d → StepsTo (PartRest (LowUnit high d)) (Within (LowUnit high d))
+low_goes high d is_high begun = ((is_high, begun), λ c s r k. (λ h. h, λ h. h))
 
-pub low_no_digit : (high : ℕ) (old : Digits) (x : ℕ) → ((v : ℕ) (s r : List ℕ) → DigitsRest old v (x ∷ s) r → ⊥) → PartSteps (LowUnit high old) x Refused
-low_no_digit high old x none c s r k h = none h.0 s r h.1
+pub low_refused : (high : ℕ) (d : Digits) → (IsLowBegun d → ⊥) → StepsTo (PartRest (LowUnit high d)) Refused
+low_refused high d not_begun c s r k h = not_begun (low_begun d h.0 s r h.1 h.2)
+
+-- a pair is whole
+pub pair_whole : (high low : ℕ) → IsScalar (joined high low) → StepsTo (PairEnd high low) (Whole (joined high low))
+pair_whole high low scalar = (scalar, λ c s r k. (λ h. h, λ h. h))
+
+pub pair_refused : (high low : ℕ) → (IsScalar (joined high low) → ⊥) → StepsTo (PairEnd high low) Refused
+pair_refused high low no_scalar c s r k h = no_scalar (subst IsScalar h.0 k)

@@ -4,3 +4,5 @@ pub mod Steps
 pub mod Units
 pub mod Escapes
 pub mod Utf8Parts
+pub mod Runs
+pub mod Live

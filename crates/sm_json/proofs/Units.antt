@@ -93,3 +93,24 @@ end_scalar u scalar = (scalar, λ c s r k. (λ h. elim h [ inl y ↦ y | inr y �
 
 pub end_refused : (u : ℕ) → (IsHigh u → ⊥) → (IsScalar u → ⊥) → StepsTo (UnitEnd u) Refused
 end_refused u not_high no_scalar = λ c s r k h. elim h [ inl y ↦ no_scalar (subst IsScalar y.0 k) | inr y ↦ not_high y.0 ]
+
+-- each digit in its place
+pub first_digit : (x d : ℕ) → hex_value x ≡ Some d → SameRest First x (Second d)
+first_digit x d e v s r =
+    let same : 0 * 16 + d ≡ d = omega arith in
+    (λ h. subst (λ n. HexDigits 3 n v s r) same ((digit_taken 3 0 v x d s r e).0 h), λ h. (digit_taken 3 0 v x d s r e).1 (subst (λ n. HexDigits 3 n v s r) (sym same) h))
+
+pub second_digit : (n x d : ℕ) → hex_value x ≡ Some d → SameRest (Second n) x (Third (n * 16 + d))
+second_digit n x d e v s r = digit_taken 2 n v x d s r e
+
+pub third_digit : (n x d : ℕ) → hex_value x ≡ Some d → SameRest (Third n) x (Fourth (n * 16 + d))
+third_digit n x d e v s r = digit_taken 1 n v x d s r e
+
+pub fourth_digit : (n x d : ℕ) → hex_value x ≡ Some d → LastDigit (Fourth n) x (n * 16 + d)
+fourth_digit n x d e v s r = digit_taken 0 n v x d s r e
+
+pub no_digit : (old : Digits) (x : ℕ) → hex_value x ≡ None → (v : ℕ) (s r : List ℕ) → DigitsRest old v (x ∷ s) r → ⊥
+no_digit First x e v s r = digit_refused 3 0 v x s r e
+no_digit (Second n) x e v s r = digit_refused 2 n v x s r e
+no_digit (Third n) x e v s r = digit_refused 1 n v x s r e
+no_digit (Fourth n) x e v s r = digit_refused 0 n v x s r e

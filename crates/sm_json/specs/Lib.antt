@@ -4,3 +4,4 @@ pub mod Written
 pub mod TextRest
 pub mod Utf8Bytes
 pub mod TextSteps
+pub mod Runs

@@ -10,7 +10,7 @@ use Rattle.sm_json.specs.declared.spot.Spot.{Spot}
 use Rattle.sm_json.specs.declared.spot.Spot.TheVariants.{Plain, Inside}
 use Rattle.sm_json.specs.declared.spot.Step.{Step}
 use Rattle.sm_json.specs.declared.spot.Step.TheVariants.{Within, Whole, Closed, Refused}
-use Rattle.sm_json.specs.Strings.{IsHigh, LowHalf}
+use Rattle.sm_json.specs.Strings.{IsHigh, joined, LowHalf}
 use Rattle.sm_json.specs.Utf8Bytes.{IsTail, IsSecond}
 use Rattle.sm_json.specs.TextRest.{PartRest, TextRest}
 
@@ -46,6 +46,10 @@ IsLive (Inside p) = IsPartLive p
 -- what stands behind the code unit u of an escape: nothing more of c, or a low surrogate's escape
 abbrev pub UnitEnd : ℕ → ℕ → List ℕ → List ℕ → Type 0
 UnitEnd u c s r = ((c ≡ u) × (s ≡ r)) ⊎ (IsHigh u × LowHalf u c s r)
+
+-- behind the escapes of two surrogates c is whole
+abbrev pub PairEnd : ℕ → ℕ → ℕ → List ℕ → List ℕ → Type 0
+PairEnd high low c s r = (c ≡ joined high low) × (s ≡ r)
 
 -- the rest of a character, as a relation between the character, what spells its rest, and what follows
 abbrev pub Rest : Type 1

@@ -2,6 +2,7 @@
 // What reads and writes messages and model files in JSON stands on it.
 #![tactic(auto)]
 
+mod escape;
 mod spot;
 
 pub use spot::{Digits, Part, Spot, Step};
