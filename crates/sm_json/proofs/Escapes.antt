@@ -7,7 +7,7 @@ use Rattle.sm_json.specs.declared.spot.Part.TheVariants.{Escape as BehindBacksla
 use Rattle.sm_json.specs.declared.spot.Step.TheVariants.{Within, Whole, Closed, Refused}
 use Rattle.sm_json.specs.Strings.{short_escape, hex_value, HexDigits, CodeUnit, IsHigh, IsLow, joined, LowHalf, Escape}
 use Rattle.sm_json.specs.TextRest.{DigitsRest, UnitRest, PartRest}
-use Rattle.sm_json.specs.TextSteps.{IsPartLive, IsLowBegun, PairEnd, StepsTo, PartSteps}
+use Rattle.sm_json.specs.TextSteps.{IsPartLive, IsLowBegun, CodeEnd, StepsTo, PartSteps}
 use Rattle.sm_json.proofs.Units.{SameRest, LastDigit, digits_range_1, digits_range_2, digits_range_3}
 
 some_same : (x y : ℕ) → Some x ≡ Some y → x ≡ y
@@ -59,12 +59,12 @@ pub low_same : (high : ℕ) (old new : Digits) (x : ℕ) → SameRest old x new 
 low_same high old new x same c s r k = (
     λ h. (h.0, (same h.0 s r).0 h.1, h.2, h.3), λ h. (h.0, (same h.0 s r).1 h.1, h.2, h.3))
 
-low_ends_there : (high : ℕ) (old : Digits) (x u : ℕ) → LastDigit old x u → (c : ℕ) (s r : List ℕ) → PartRest (LowUnit high old) c (x ∷ s) r → PairEnd high u c s r
+low_ends_there : (high : ℕ) (old : Digits) (x u : ℕ) → LastDigit old x u → (c : ℕ) (s r : List ℕ) → PartRest (LowUnit high old) c (x ∷ s) r → CodeEnd (joined high u) c s r
 low_ends_there high old x u same c s r h =
     let e = (same h.0 s r).0 h.1 in
     (h.3 ∙ ap (joined high) e.0, e.1)
 
-pub low_ends : (high : ℕ) (old : Digits) (x u : ℕ) → IsLow u → LastDigit old x u → (c : ℕ) (s r : List ℕ) → IsScalar c → PartRest (LowUnit high old) c (x ∷ s) r ↔ PairEnd high u c s r
+pub low_ends : (high : ℕ) (old : Digits) (x u : ℕ) → IsLow u → LastDigit old x u → (c : ℕ) (s r : List ℕ) → IsScalar c → PartRest (LowUnit high old) c (x ∷ s) r ↔ CodeEnd (joined high u) c s r
 low_ends high old x u low same c s r k = (low_ends_there high old x u same c s r, λ h. (u, (same u s r).1 (refl, h.1), low, h.0))
 
 pub low_no_digit : (high : ℕ) (old : Digits) (x : ℕ) → ((v : ℕ) (s r : List ℕ) → DigitsRest old v (x ∷ s) r → ⊥) → PartSteps (LowUnit high old) x Refused
@@ -82,10 +82,3 @@ low_goes high d is_high begun = ((is_high, begun), λ c s r k. (λ h. h, λ h. h
 
 pub low_refused : (high : ℕ) (d : Digits) → (IsLowBegun d → ⊥) → StepsTo (PartRest (LowUnit high d)) Refused
 low_refused high d not_begun c s r k h = not_begun (low_begun d h.0 s r h.1 h.2)
-
--- a pair is whole
-pub pair_whole : (high low : ℕ) → IsScalar (joined high low) → StepsTo (PairEnd high low) (Whole (joined high low))
-pair_whole high low scalar = (scalar, λ c s r k. (λ h. h, λ h. h))
-
-pub pair_refused : (high low : ℕ) → (IsScalar (joined high low) → ⊥) → StepsTo (PairEnd high low) Refused
-pair_refused high low no_scalar c s r k h = no_scalar (subst IsScalar h.0 k)

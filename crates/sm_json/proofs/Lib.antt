@@ -5,4 +5,5 @@ pub mod Units
 pub mod Escapes
 pub mod Utf8Parts
 pub mod Runs
-pub mod Live
+pub mod DigitSteps
+pub mod Texts

@@ -1,14 +1,19 @@
 -- Runs of characters that stand for themselves, and readings one after another.
-use Rattle.std.proofs.Common.{◌≡◌, ◌↔◌, ◌≢◌, ◌≤◌, ◌<◌, ◌+◌, ℕ, true, List, [], ◌∷◌, ◌++◌, append_assoc, append-nil, encode_utf8_all, take, inl, inr, refl, sym, ap, ◌∙◌, subst, arith, IsUtf8}
+use Rattle.std.proofs.Common.{◌≡◌, ◌↔◌, ◌≢◌, ◌≤◌, ◌<◌, ◌+◌, ℕ, true, List, [], ◌∷◌, ◌++◌, append_assoc, append-nil, encode_utf8_all, take, drop, length, get_or, ◌-◌, ◌*◌, inl, inr, refl, sym, ap, ◌∙◌, subst, arith, IsUtf8}
 use Rattle.std.specs.Char.{IsScalar, encode_utf8}
-use Rattle.std.proofs.lemmas.Bool.{and_from}
+use Rattle.std.proofs.lemmas.Bool.{and_from, cases_order, cond-false, le-ltb, lt-ltb, le-leb}
+use Rattle.std.proofs.lemmas.List.{take_more}
+use Rattle.std.proofs.lemmas.Bool.Decides.{nat_tests}
+use Rattle.std.proofs.Math.Seq.{take-add}
 use Rattle.std.proofs.lemmas.Str.{encode_same, encodes-append, encode_ascii}
 use Rattle.sm_json.specs.declared.spot.Spot.{Spot}
 use Rattle.sm_json.specs.declared.spot.Spot.TheVariants.{Plain, Inside}
 use Rattle.sm_json.specs.Strings.{IsUnescaped, Character, Characters}
 use Rattle.sm_json.specs.TextRest.{PlainRest, TextRest}
 use Rattle.sm_json.specs.Runs.{AreUnescaped, IsRun, Takes, Closes, Stops}
-use Rattle.sm_json.proofs.Utf8Parts.{lead}
+use Rattle.sm_json.specs.Utf8Bytes.{IsTail, IsSecond}
+use Rattle.sm_json.proofs.Utf8Bytes.{low_three, low_four, two_encode, three_encode, four_encode}
+use Rattle.sm_json.proofs.Utf8Parts.{lead, unescaped_high}
 use lib.Utf8.{scalar, scalars, encode, encodes, low_scalar}
 
 pub run_none : IsRun []
@@ -88,3 +93,72 @@ closes_then p q b d e xs ys h k = λ s t r. (
 
 pub stops_then : (p q : Spot) (b d xs ys : List ℕ) → Takes p b q d xs → Stops q d ys → Stops p b (xs ++ ys)
 stops_then p q b d xs ys h k = λ s t r x. k s t r ((h (ys ++ s) t r).0 (subst (λ l. TextRest p b l t r) (append_assoc xs ys s) x))
+
+-- scalar values above the surrogates, and what second bytes say of them
+pub high_scalar : (c : ℕ) → 57344 ≤ c → c < 1114112 → IsScalar c
+high_scalar c low high = cond-false _ _ _ (le-ltb c 55296 (omega arith)) ∙ and_from _ _ (le-leb 57344 c low) (lt-ltb c 1114112 high)
+
+surrogate_tail : (x y : ℕ) → x ≡ 237 → IsSecond x y → y < 160
+surrogate_tail x y e h = grind (arith, nat_tests)
+
+fourth_plane : (x y : ℕ) → x ≡ 244 → IsSecond x y → y < 144
+fourth_plane x y e h = grind (arith, nat_tests)
+
+-- whole characters of more than one byte
+pub three_scalar : (x y z : ℕ) → 224 ≤ x → x < 240 → IsSecond x y → IsTail z → (c : ℕ) → c ≡ ((x - 224) * 64 + (y - 128)) * 64 + (z - 128) → IsScalar c
+three_scalar x y z a b h t c e =
+    let low = low_three x y a h in
+    elim (cases_order x 237) [
+      | inl same ↦ let top = surrogate_tail x y same h in low_scalar c (omega arith)
+      | inr other ↦ elim other [ inl below ↦ low_scalar c (omega arith) | inr above ↦ high_scalar c (omega arith) (omega arith) ]
+    ]
+
+pub four_scalar : (x y z w : ℕ) → 240 ≤ x → x < 245 → IsSecond x y → IsTail z → IsTail w → (c : ℕ) → c ≡ (((x - 240) * 64 + (y - 128)) * 64 + (z - 128)) * 64 + (w - 128) → IsScalar c
+four_scalar x y z w a b h t u c e =
+    let low = low_four x y a h in
+    elim (cases_order x 244) [
+      | inl same ↦ let top = fourth_plane x y same h in high_scalar c (omega arith) (omega arith)
+      | inr other ↦ elim other [ inl below ↦ high_scalar c (omega arith) (omega arith) | inr above ↦ absurd (omega arith) ]
+    ]
+
+pub run_two : (x y : ℕ) → 194 ≤ x → x < 224 → IsTail y → IsRun (x ∷ y ∷ [])
+run_two x y a b t =
+    run_one ((x - 192) * 64 + (y - 128)) (x ∷ y ∷ []) (low_scalar _ (omega arith)) (unescaped_high _ (omega arith)) (two_encode x y a b t.0 t.1)
+
+pub run_three : (x y z : ℕ) → 224 ≤ x → x < 240 → IsSecond x y → IsTail z → IsRun (x ∷ y ∷ z ∷ [])
+run_three x y z a b h t =
+    let low = low_three x y a h in
+    run_one (((x - 224) * 64 + (y - 128)) * 64 + (z - 128)) (x ∷ y ∷ z ∷ []) (three_scalar x y z a b h t _ refl) (unescaped_high _ (omega arith)) (three_encode x y z a b h t)
+
+pub run_four : (x y z w : ℕ) → 240 ≤ x → x < 245 → IsSecond x y → IsTail z → IsTail w → IsRun (x ∷ y ∷ z ∷ w ∷ [])
+run_four x y z w a b h t u =
+    let low = low_four x y a h in
+    run_one ((((x - 240) * 64 + (y - 128)) * 64 + (z - 128)) * 64 + (w - 128)) (x ∷ y ∷ z ∷ w ∷ []) (four_scalar x y z w a b h t u _ refl) (unescaped_high _ (omega arith)) (four_encode x y z w a b h t u)
+
+-- what the front of a list is
+pub take_two : (bs : List ℕ) → 2 ≤ length bs → take 2 bs ≡ get_or bs 0 0 ∷ get_or bs 1 0 ∷ []
+take_two [] h = absurd (omega arith)
+take_two (x ∷ []) h = absurd (omega arith)
+take_two (x ∷ y ∷ bs) h = refl
+
+pub take_three : (bs : List ℕ) → 3 ≤ length bs → take 3 bs ≡ get_or bs 0 0 ∷ get_or bs 1 0 ∷ get_or bs 2 0 ∷ []
+take_three [] h = absurd (omega arith)
+take_three (x ∷ []) h = absurd (omega arith)
+take_three (x ∷ y ∷ []) h = absurd (omega arith)
+take_three (x ∷ y ∷ z ∷ bs) h = refl
+
+pub take_four : (bs : List ℕ) → 4 ≤ length bs → take 4 bs ≡ get_or bs 0 0 ∷ get_or bs 1 0 ∷ get_or bs 2 0 ∷ get_or bs 3 0 ∷ []
+take_four [] h = absurd (omega arith)
+take_four (x ∷ []) h = absurd (omega arith)
+take_four (x ∷ y ∷ []) h = absurd (omega arith)
+take_four (x ∷ y ∷ z ∷ []) h = absurd (omega arith)
+take_four (x ∷ y ∷ z ∷ w ∷ bs) h = refl
+
+-- a run with a run behind it
+pub run_more : (n m : ℕ) (bs : List ℕ) → IsRun (take n bs) → IsRun (take m (drop n bs)) → IsRun (take (n + m) bs)
+run_more n m bs h k = subst IsRun (sym (take-add n m bs)) (run-append (take n bs) (take m (drop n bs)) h k)
+
+-- and one more byte
+pub run_plain : (i x : ℕ) (bs : List ℕ) → i < length bs → x ≡ get_or bs i 0 → IsUnescaped x → x < 128 → IsRun (take i bs) → IsRun (take (i + 1) bs)
+run_plain i x bs inside is u small h =
+    subst IsRun (sym (take_more bs i 0 inside)) (run-append (take i bs) (get_or bs i 0 ∷ []) h (subst (λ n. IsRun (n ∷ [])) is (run_ascii x u.0 small u.1 u.2)))

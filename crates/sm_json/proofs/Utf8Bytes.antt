@@ -36,10 +36,10 @@ same_four : (x y z w u v a b : ℕ) → u ≡ x → v ≡ y → a ≡ z → b �
 same_four x y z w u v a b p q s t = cc
 
 -- what the range of a second byte says of the number that is begun
-low_three : (x y : ℕ) → 224 ≤ x → IsSecond x y → (128 ≤ y) × (y < 192) × (32 ≤ (x - 224) * 64 + (y - 128))
+pub low_three : (x y : ℕ) → 224 ≤ x → IsSecond x y → (128 ≤ y) × (y < 192) × (32 ≤ (x - 224) * 64 + (y - 128))
 low_three x y a p = grind (arith, nat_tests)
 
-low_four : (x y : ℕ) → 240 ≤ x → IsSecond x y → (128 ≤ y) × (y < 192) × (16 ≤ (x - 240) * 64 + (y - 128))
+pub low_four : (x y : ℕ) → 240 ≤ x → IsSecond x y → (128 ≤ y) × (y < 192) × (16 ≤ (x - 240) * 64 + (y - 128))
 low_four x y a p = grind (arith, nat_tests)
 
 pub three_encode : (x y z : ℕ) → 224 ≤ x → x < 240 → IsSecond x y → IsTail z → encode (((x - 224) * 64 + (y - 128)) * 64 + (z - 128)) ≡ x ∷ y ∷ z ∷ []

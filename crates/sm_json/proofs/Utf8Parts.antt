@@ -6,13 +6,14 @@ use Rattle.std.proofs.lemmas.Bool.Decides.{nat_tests}
 use Rattle.std.proofs.lemmas.Str.{encode_same}
 use Rattle.sm_json.specs.declared.spot.Part.TheVariants.{Escape as BehindBackslash, One, Two, Three}
 use Rattle.sm_json.specs.declared.spot.Spot.TheVariants.{Plain, Inside}
+use Rattle.sm_json.specs.declared.spot.Step.{Step}
 use Rattle.sm_json.specs.declared.spot.Step.TheVariants.{Within, Whole, Closed, Refused}
 use Rattle.sm_json.specs.Strings.{IsUnescaped, Escape, Character, Characters}
 use Rattle.sm_json.specs.Utf8Bytes.{IsTail, IsSecond}
 use Rattle.sm_json.specs.TextRest.{PartRest, PlainRest, TextRest}
-use Rattle.sm_json.specs.TextSteps.{IsPartLive, StepsTo, PartSteps, Steps}
-use Rattle.sm_json.proofs.Steps.{CharacterRest, begun}
-use Rattle.sm_json.proofs.Utf8Bytes.{two_encode, three_encode, four_encode}
+use Rattle.sm_json.specs.TextSteps.{IsPartLive, CodeEnd, StepsTo, PartSteps, Steps}
+use Rattle.sm_json.proofs.Steps.{steps_along, CharacterRest, begun}
+use Rattle.sm_json.proofs.Utf8Bytes.{low_three, low_four, two_encode, three_encode, four_encode}
 use Rattle.sm_json.proofs.Utf8Shapes.{IsOne, IsTwo, IsThree, IsFour, shape}
 use lib.Utf8.{encode, low_scalar}
 
@@ -60,15 +61,12 @@ same_there c d p s r e h = let same = encode_same d c s r (ap (λ l. l ++ s) e �
 same_back : (c d : ℕ) (p s r : List ℕ) → encode d ≡ p → c ≡ d → s ≡ r → p ++ s ≡ encode c ++ r
 same_back c d p s r e f g = ap (λ l. l ++ s) (sym e ∙ ap encode (sym f)) ∙ ap (λ l. encode c ++ l) g
 
-unescaped_high : (c : ℕ) → 128 ≤ c → IsUnescaped c
+pub unescaped_high : (c : ℕ) → 128 ≤ c → IsUnescaped c
 unescaped_high c h = (omega arith, λ e. omega arith, λ e. omega arith)
 
-pub sequence_whole : (d : ℕ) (p : List ℕ) → encode d ≡ p → 128 ≤ d → IsScalar d → StepsTo (λ c s r. IsUnescaped c × (p ++ s ≡ encode c ++ r)) (Whole d)
-sequence_whole d p e high scalar = (scalar, λ c s r k. (λ h. same_there c d p s r e h.1,
-    λ h. (subst IsUnescaped (sym h.0) (unescaped_high d high), same_back c d p s r e h.0 h.1)))
-
-pub sequence_refused : (d : ℕ) (p : List ℕ) → encode d ≡ p → (IsScalar d → ⊥) → StepsTo (λ c s r. IsUnescaped c × (p ++ s ≡ encode c ++ r)) Refused
-sequence_refused d p e no_scalar c s r k h = no_scalar (subst IsScalar (same_there c d p s r e h.1).0 k)
+pub sequence_ends : (d : ℕ) (p : List ℕ) → encode d ≡ p → 128 ≤ d → (c : ℕ) (s r : List ℕ) → IsScalar c → (IsUnescaped c × (p ++ s ≡ encode c ++ r)) ↔ CodeEnd d c s r
+sequence_ends d p e high c s r k = (λ h. same_there c d p s r e h.1,
+    λ h. (subst IsUnescaped (sym h.0) (unescaped_high d high), same_back c d p s r e h.0 h.1))
 
 -- behind the first byte
 pub one_goes : (x y : ℕ) → 224 ≤ x → x < 245 → IsSecond x y → PartSteps (One x) y (Within (Two x y))
@@ -77,6 +75,15 @@ one_goes x y a b h = ((a, b, h), λ c s r k. (λ p. p, λ p. p))
 pub one_refused : (x y : ℕ) → 128 ≤ x → (IsSecond x y → ⊥) → PartSteps (One x) y Refused
 one_refused x y a none c s r k h = none (second_of c x y s r (shape c k) a h.1)
 
+pub second_tail : (x y : ℕ) → IsSecond x y → IsTail y
+second_tail x y h = grind (arith, nat_tests)
+
+pub one_whole : (x y : ℕ) (step : Step) → 194 ≤ x → x < 224 → IsSecond x y → StepsTo (CodeEnd ((x - 192) * 64 + (y - 128))) step → PartSteps (One x) y step
+one_whole x y step a b h to =
+    let tail = second_tail x y h in
+    steps_along (λ c s r. PartRest (One x) c (y ∷ s) r) (CodeEnd ((x - 192) * 64 + (y - 128))) step
+    (λ c s r k. sequence_ends ((x - 192) * 64 + (y - 128)) (x ∷ y ∷ []) (two_encode x y a b tail.0 tail.1) (omega arith) c s r k) to
+
 -- behind two bytes
 pub two_goes : (x y z : ℕ) → 240 ≤ x → x < 245 → IsSecond x y → IsTail z → PartSteps (Two x y) z (Within (Three x y z))
 two_goes x y z a b h t = ((a, b, h, t), λ c s r k. (λ p. p, λ p. p))
@@ -84,9 +91,21 @@ two_goes x y z a b h t = ((a, b, h, t), λ c s r k. (λ p. p, λ p. p))
 pub two_refused : (x y z : ℕ) → 224 ≤ x → (IsTail z → ⊥) → PartSteps (Two x y) z Refused
 two_refused x y z a none c s r k h = none (third_of c x y z s r (shape c k) a h.1)
 
+pub two_whole : (x y z : ℕ) (step : Step) → 224 ≤ x → x < 240 → IsSecond x y → IsTail z → StepsTo (CodeEnd (((x - 224) * 64 + (y - 128)) * 64 + (z - 128))) step → PartSteps (Two x y) z step
+two_whole x y z step a b h t to =
+    let low = low_three x y a h in
+    steps_along (λ c s r. PartRest (Two x y) c (z ∷ s) r) (CodeEnd (((x - 224) * 64 + (y - 128)) * 64 + (z - 128))) step
+    (λ c s r k. sequence_ends (((x - 224) * 64 + (y - 128)) * 64 + (z - 128)) (x ∷ y ∷ z ∷ []) (three_encode x y z a b h t) (omega arith) c s r k) to
+
 -- behind three bytes
 pub three_refused : (x y z w : ℕ) → 240 ≤ x → (IsTail w → ⊥) → PartSteps (Three x y z) w Refused
 three_refused x y z w a none c s r k h = none (fourth_of c x y z w s r (shape c k) a h.1)
+
+pub three_whole : (x y z w : ℕ) (step : Step) → 240 ≤ x → x < 245 → IsSecond x y → IsTail z → IsTail w → StepsTo (CodeEnd ((((x - 240) * 64 + (y - 128)) * 64 + (z - 128)) * 64 + (w - 128))) step → PartSteps (Three x y z) w step
+three_whole x y z w step a b h t u to =
+    let low = low_four x y a h in
+    steps_along (λ c s r. PartRest (Three x y z) c (w ∷ s) r) (CodeEnd ((((x - 240) * 64 + (y - 128)) * 64 + (z - 128)) * 64 + (w - 128))) step
+    (λ c s r k. sequence_ends ((((x - 240) * 64 + (y - 128)) * 64 + (z - 128)) * 64 + (w - 128)) (x ∷ y ∷ z ∷ w ∷ []) (four_encode x y z w a b h t u) (omega arith) c s r k) to
 
 -- between two characters: a character of one byte
 ascii_unescaped : (x : ℕ) → 32 ≤ x → x ≢ 34 → x ≢ 92 → IsUnescaped x

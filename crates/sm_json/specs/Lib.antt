@@ -5,3 +5,5 @@ pub mod TextRest
 pub mod Utf8Bytes
 pub mod TextSteps
 pub mod Runs
+pub mod Live
+pub mod Reading

@@ -10,7 +10,7 @@ use Rattle.sm_json.specs.declared.spot.Spot.{Spot}
 use Rattle.sm_json.specs.declared.spot.Spot.TheVariants.{Plain, Inside}
 use Rattle.sm_json.specs.declared.spot.Step.{Step}
 use Rattle.sm_json.specs.declared.spot.Step.TheVariants.{Within, Whole, Closed, Refused}
-use Rattle.sm_json.specs.Strings.{IsHigh, joined, LowHalf}
+use Rattle.sm_json.specs.Strings.{IsHigh, LowHalf}
 use Rattle.sm_json.specs.Utf8Bytes.{IsTail, IsSecond}
 use Rattle.sm_json.specs.TextRest.{PartRest, TextRest}
 
@@ -43,13 +43,13 @@ abbrev pub IsLive : Spot → Type 0
 IsLive Plain = Unit {0}
 IsLive (Inside p) = IsPartLive p
 
+-- c is whole: the character d, and nothing more of it is to come
+abbrev pub CodeEnd : ℕ → ℕ → List ℕ → List ℕ → Type 0
+CodeEnd d c s r = (c ≡ d) × (s ≡ r)
+
 -- what stands behind the code unit u of an escape: nothing more of c, or a low surrogate's escape
 abbrev pub UnitEnd : ℕ → ℕ → List ℕ → List ℕ → Type 0
-UnitEnd u c s r = ((c ≡ u) × (s ≡ r)) ⊎ (IsHigh u × LowHalf u c s r)
-
--- behind the escapes of two surrogates c is whole
-abbrev pub PairEnd : ℕ → ℕ → ℕ → List ℕ → List ℕ → Type 0
-PairEnd high low c s r = (c ≡ joined high low) × (s ≡ r)
+UnitEnd u c s r = CodeEnd u c s r ⊎ (IsHigh u × LowHalf u c s r)
 
 -- the rest of a character, as a relation between the character, what spells its rest, and what follows
 abbrev pub Rest : Type 1
@@ -58,7 +58,7 @@ Rest = ℕ → List ℕ → List ℕ → Type 0
 -- this step leaves the same rests as R
 abbrev pub StepsTo : Rest → Step → Type 0
 StepsTo R (Within p) = IsPartLive p × ((c : ℕ) (s r : List ℕ) → IsScalar c → R c s r ↔ PartRest p c s r)
-StepsTo R (Whole d) = IsScalar d × ((c : ℕ) (s r : List ℕ) → IsScalar c → R c s r ↔ ((c ≡ d) × (s ≡ r)))
+StepsTo R (Whole d) = IsScalar d × ((c : ℕ) (s r : List ℕ) → IsScalar c → R c s r ↔ CodeEnd d c s r)
 StepsTo R Closed = ⊥
 StepsTo R Refused = (c : ℕ) (s r : List ℕ) → IsScalar c → R c s r → ⊥
 

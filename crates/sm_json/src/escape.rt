@@ -3,11 +3,12 @@
 ghost use Rattle.std.specs.Prelude.{◌≡◌, ◌<◌, ◌≤◌};
 ghost use Rattle.sm_json.specs.declared.spot.Digits.TheVariants.{Second, Third};
 ghost use Rattle.sm_json.specs.declared.spot.Part.TheVariants.{Escape as BehindBackslash, Unit as InUnit, LowBackslash, LowLetter, LowUnit};
-ghost use Rattle.sm_json.specs.Strings.{short_escape, hex_value, IsHigh, IsLow};
+ghost use Rattle.sm_json.specs.Strings.{short_escape, hex_value, IsHigh, IsLow, joined};
 ghost use Rattle.sm_json.specs.TextRest.{PartRest};
-ghost use Rattle.sm_json.specs.TextSteps.{IsUnitBegun, IsLowBegun, UnitEnd, PairEnd, StepsTo, PartSteps};
+ghost use Rattle.sm_json.specs.TextSteps.{IsUnitBegun, IsLowBegun, CodeEnd, UnitEnd, StepsTo, PartSteps};
 
 use crate::spot::{Digits, Part, Step};
+use crate::utf8::whole;
 
 /// The character that a byte stands for behind a backslash.
 fn short_escape(byte: u8) -> Option<char>
@@ -145,13 +146,9 @@ fn low_front(high: u16, front: u16) -> Step
 fn whole_pair(high: u16, low: u16) -> Step
     requires high { IsHigh high }
     requires low { IsLow low }
-    ensures { StepsTo (PairEnd high low) result }
+    ensures { StepsTo (CodeEnd (joined high low)) result }
 {
-    let code = 0x10000 + (u32::from(high - 0xD800) * 0x400 + u32::from(low - 0xDC00));
-    match char::from_u32(code) {
-        Some(character) => Step::Whole(character),
-        None => Step::Refused,
-    }
+    whole(0x10000 + (u32::from(high - 0xD800) * 0x400 + u32::from(low - 0xDC00)))
 }
 
 /// A byte within the digits of a low surrogate.

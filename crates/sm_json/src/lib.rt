@@ -4,6 +4,9 @@
 
 mod escape;
 mod spot;
+mod text;
+mod utf8;
 
 pub use spot::{Digits, Part, Spot, Step};
+pub use text::{Reading, TextReader, TextRefusal};
 pub use sm_tree::NoMemory;
