@@ -7,3 +7,4 @@ pub mod Utf8Parts
 pub mod Runs
 pub mod DigitSteps
 pub mod Texts
+pub mod Completions

@@ -123,17 +123,20 @@ four_scalar x y z w a b h t u c e =
 
 pub run_two : (x y : ℕ) → 194 ≤ x → x < 224 → IsTail y → IsRun (x ∷ y ∷ [])
 run_two x y a b t =
-    run_one ((x - 192) * 64 + (y - 128)) (x ∷ y ∷ []) (low_scalar _ (omega arith)) (unescaped_high _ (omega arith)) (two_encode x y a b t.0 t.1)
+    let c = (x - 192) * 64 + (y - 128) in
+    run_one c (x ∷ y ∷ []) (low_scalar c (omega arith)) (unescaped_high c (omega arith)) (two_encode x y a b t.0 t.1)
 
 pub run_three : (x y z : ℕ) → 224 ≤ x → x < 240 → IsSecond x y → IsTail z → IsRun (x ∷ y ∷ z ∷ [])
 run_three x y z a b h t =
     let low = low_three x y a h in
-    run_one (((x - 224) * 64 + (y - 128)) * 64 + (z - 128)) (x ∷ y ∷ z ∷ []) (three_scalar x y z a b h t _ refl) (unescaped_high _ (omega arith)) (three_encode x y z a b h t)
+    let c = ((x - 224) * 64 + (y - 128)) * 64 + (z - 128) in
+    run_one c (x ∷ y ∷ z ∷ []) (three_scalar x y z a b h t c refl) (unescaped_high c (omega arith)) (three_encode x y z a b h t)
 
 pub run_four : (x y z w : ℕ) → 240 ≤ x → x < 245 → IsSecond x y → IsTail z → IsTail w → IsRun (x ∷ y ∷ z ∷ w ∷ [])
 run_four x y z w a b h t u =
     let low = low_four x y a h in
-    run_one ((((x - 240) * 64 + (y - 128)) * 64 + (z - 128)) * 64 + (w - 128)) (x ∷ y ∷ z ∷ w ∷ []) (four_scalar x y z w a b h t u _ refl) (unescaped_high _ (omega arith)) (four_encode x y z w a b h t u)
+    let c = (((x - 240) * 64 + (y - 128)) * 64 + (z - 128)) * 64 + (w - 128) in
+    run_one c (x ∷ y ∷ z ∷ w ∷ []) (four_scalar x y z w a b h t u c refl) (unescaped_high c (omega arith)) (four_encode x y z w a b h t u)
 
 -- what the front of a list is
 pub take_two : (bs : List ℕ) → 2 ≤ length bs → take 2 bs ≡ get_or bs 0 0 ∷ get_or bs 1 0 ∷ []
@@ -162,3 +165,7 @@ run_more n m bs h k = subst IsRun (sym (take-add n m bs)) (run-append (take n bs
 pub run_plain : (i x : ℕ) (bs : List ℕ) → i < length bs → x ≡ get_or bs i 0 → IsUnescaped x → x < 128 → IsRun (take i bs) → IsRun (take (i + 1) bs)
 run_plain i x bs inside is u small h =
     subst IsRun (sym (take_more bs i 0 inside)) (run-append (take i bs) (get_or bs i 0 ∷ []) h (subst (λ n. IsRun (n ∷ [])) is (run_ascii x u.0 small u.1 u.2)))
+
+-- a run from between two characters
+pub run_at : (p : Spot) (b d bs : List ℕ) → p ≡ Plain → IsRun bs → d ≡ b ++ bs → Takes p b p d bs
+run_at p b d bs plain h e = subst (λ q. Takes q b q d bs) (sym plain) (subst (λ l. Takes Plain b Plain l bs) (sym e) (run_taken bs b h))

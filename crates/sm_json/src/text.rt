@@ -112,13 +112,15 @@ impl TextReader {
     fn take_run(&mut self, bytes: &[u8]) -> Result<usize, NoMemory>
         ensures { TakesRun self.old self.new bytes.now result }
     {
-        if let Spot::Inside(_) = self.spot {
-            return Ok(0);
+        match self.spot {
+            Spot::Inside(_) => Ok(0),
+            Spot::Plain => {
+                let len = run_len(bytes);
+                let run = unsafe { from_utf8_unchecked(&bytes[..len]) };
+                self.text.push_str(run)?;
+                Ok(len)
+            }
         }
-        let len = run_len(bytes);
-        let run = unsafe { from_utf8_unchecked(&bytes[..len]) };
-        self.text.push_str(run)?;
-        Ok(len)
     }
 
     fn take_byte(&mut self, byte: u8) -> Result<Taken, NoMemory>
@@ -157,7 +159,8 @@ impl TextReader {
             match self.take_byte(bytes[at])? {
                 Taken::Open => {
                     at += 1;
-                    at += self.take_run(&bytes[at..])?;
+                    let run = self.take_run(&bytes[at..])?;
+                    at += run;
                 }
                 Taken::Closed => return Ok(Reading::Closed(at + 1)),
                 Taken::Refused => return Err(TextRefusal::Bad(at)),

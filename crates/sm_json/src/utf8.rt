@@ -17,6 +17,13 @@ fn is_plain(byte: u8) -> bool
     0x20 <= byte && byte < 0x80 && byte != b'"' && byte != b'\\'
 }
 
+/// Whether a byte may begin a character of more than one.
+fn is_lead(byte: u8) -> bool
+    ensures { IsTrue result ↔ ((0xC2 ≤ byte) × (byte < 0xF5)) }
+{
+    0xC2 <= byte && byte < 0xF5
+}
+
 /// Whether a byte may stand behind the first two.
 fn is_tail(byte: u8) -> bool
     ensures { IsTrue result ↔ IsTail byte }
@@ -61,13 +68,15 @@ pub fn second_byte(x: u8, y: u8) -> Step
     requires { IsPartLive (One x) }
     ensures { PartSteps (One x) y result }
 {
-    if !is_second(x, y) {
-        return Step::Refused;
+    if is_second(x, y) {
+        if x >= 0xE0 {
+            Step::Within(Part::Two(x, y))
+        } else {
+            whole(with_tail(u32::from(x) - 0xC0, y))
+        }
+    } else {
+        Step::Refused
     }
-    if x >= 0xE0 {
-        return Step::Within(Part::Two(x, y));
-    }
-    whole(with_tail(u32::from(x) - 0xC0, y))
 }
 
 /// A byte behind the first two of a character.
@@ -75,13 +84,16 @@ pub fn third_byte(x: u8, y: u8, z: u8) -> Step
     requires { IsPartLive (Two x y) }
     ensures { PartSteps (Two x y) z result }
 {
-    if !is_tail(z) {
-        return Step::Refused;
+    if is_tail(z) {
+        if x >= 0xF0 {
+            Step::Within(Part::Three(x, y, z))
+        } else {
+            let front = with_tail(u32::from(x) - 0xE0, y);
+            whole(with_tail(front, z))
+        }
+    } else {
+        Step::Refused
     }
-    if x >= 0xF0 {
-        return Step::Within(Part::Three(x, y, z));
-    }
-    whole(with_tail(with_tail(u32::from(x) - 0xE0, y), z))
 }
 
 /// A byte behind the first three of a character.
@@ -89,23 +101,32 @@ pub fn fourth_byte(x: u8, y: u8, z: u8, w: u8) -> Step
     requires { IsPartLive (Three x y z) }
     ensures { PartSteps (Three x y z) w result }
 {
-    if !is_tail(w) {
-        return Step::Refused;
+    if is_tail(w) {
+        let front = with_tail(u32::from(x) - 0xF0, y);
+        let middle = with_tail(front, z);
+        whole(with_tail(middle, w))
+    } else {
+        Step::Refused
     }
-    whole(with_tail(with_tail(with_tail(u32::from(x) - 0xF0, y), z), w))
 }
 
 /// A byte between two characters.
 pub fn plain_byte(byte: u8) -> Step
     ensures { Steps Plain byte result }
 {
-    match byte {
-        b'"' => Step::Closed,
-        b'\\' => Step::Within(Part::Escape),
-        0x20..=0x7F => Step::Whole(byte as char),
-        0xC2..=0xF4 => Step::Within(Part::One(byte)),
-        _ => Step::Refused,
+    if byte == b'"' {
+        return Step::Closed;
     }
+    if byte == b'\\' {
+        return Step::Within(Part::Escape);
+    }
+    if is_plain(byte) {
+        return Step::Whole(byte as char);
+    }
+    if is_lead(byte) {
+        return Step::Within(Part::One(byte));
+    }
+    Step::Refused
 }
 
 /// How many bytes in front are characters of one byte that stand for themselves.
@@ -172,7 +193,8 @@ pub fn run_len(bytes: &[u8]) -> usize
             return at;
         }
         at += long;
-        at += plain_len(&bytes[at..]);
+        let plain = plain_len(&bytes[at..]);
+        at += plain;
     }
     at
 }

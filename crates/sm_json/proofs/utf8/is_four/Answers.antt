@@ -1,0 +1,7 @@
+-- Three bytes behind the first make a character.
+use Rattle.std.proofs.Common.{◌≡◌, ◌<◌, ◌≤◌, ℕ, ◌+◌, ◌-◌, ◌*◌, length, get_or, take, drop, arith, rules, sym, ap, ◌∙◌, subst, refl}
+use Rattle.sm_json.proofs.Runs.{run_two, run_three, run_four}
+use Rattle.sm_json.proofs.utf8.is_four.Goals as goal
+
+pub returns-then-is_tail : goal.returns-then-is_tail
+returns-then-is_tail c = λ t. run_four c.args.x c.args.y c.args.z c.args.w (omega arith) (omega arith) (c.is_second.ensures.0 c.if-is_second.true) (c.is_tail.ensures.0 c.if-is_tail.true) (c.is_tail-2.ensures.0 t)
