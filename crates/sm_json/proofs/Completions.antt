@@ -23,7 +23,7 @@ abbrev CanEnd : Part → List ℕ → Type 0
 CanEnd p r = (c : ℕ) × (s : List ℕ) × IsScalar c × PartRest p c s r
 
 pair_scalar : (high low : ℕ) → IsHigh high → IsLow low → IsScalar (joined high low)
-pair_scalar high low h l = high_scalar _ (omega arith) (omega arith)
+pair_scalar high low h l = high_scalar (joined high low) (omega arith) (omega arith)
 
 least_low : IsLow 0xDC00
 least_low = (omega arith, omega arith)
@@ -36,11 +36,14 @@ unit_end : (d : Digits) (v : ℕ) (zeros r : List ℕ) → ((r2 : List ℕ) → 
 unit_end d v zeros r digits small no_low = elim (cases_lt v 0xD800) [
   | inl low ↦ (v, zeros ++ r, low_scalar v (omega arith), inl (digits r))
   | inr above ↦ elim (cases_lt v 0xDC00) [
-      | inl high ↦
-          (joined v 0xDC00, zeros ++ (92 ∷ 117 ∷ 68 ∷ 67 ∷ 48 ∷ 48 ∷ r), pair_scalar v 0xDC00 (above, high) least_low,
-          inr (v, 92 ∷ 117 ∷ 68 ∷ 67 ∷ 48 ∷ 48 ∷ r, digits _, (above, high), low_half v r))
-      | inr past ↦ (v, zeros ++ r, high_scalar v (no_low past) (omega arith), inl (digits r))
-    ]
+    | inl high ↦ (
+      joined v 0xDC00,
+      zeros ++ (92 ∷ 117 ∷ 68 ∷ 67 ∷ 48 ∷ 48 ∷ r),
+      pair_scalar v 0xDC00 (above, high) least_low,
+      inr (v, 92 ∷ 117 ∷ 68 ∷ 67 ∷ 48 ∷ 48 ∷ r, digits _, (above, high), low_half v r),
+    )
+    | inr past ↦ (v, zeros ++ r, high_scalar v (no_low past) (omega arith), inl (digits r))
+  ]
 ]
 
 unit_can_end : (d : Digits) (r : List ℕ) → IsUnitBegun d → CanEnd (InUnit d) r

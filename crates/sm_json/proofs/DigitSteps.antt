@@ -41,4 +41,4 @@ last_low n d begun small = (omega arith, omega arith)
 pub low_fourth : (high : ℕ) (old : Digits) (x n d : ℕ) (step : Step) → old ≡ Fourth n → hex_value x ≡ Some d → IsLowBegun old → StepsTo (CodeEnd (joined high (n * 16 + d))) step → PartSteps (LowUnit high old) x step
 low_fourth high old x n d step is hex begun h =
     subst (λ q. PartSteps (LowUnit high q) x step) (sym is) (steps_along (λ c s r. PartRest (LowUnit high (Fourth n)) c (x ∷ s) r) (CodeEnd (joined high (n * 16 + d))) step
-        (low_ends high (Fourth n) x (n * 16 + d) (last_low n d (subst IsLowBegun is begun) (hex_small x d hex)) (fourth_digit n x d hex)) h)
+    (low_ends high (Fourth n) x (n * 16 + d) (last_low n d (subst IsLowBegun is begun) (hex_small x d hex)) (fourth_digit n x d hex)) h)

@@ -29,8 +29,13 @@ letter_there c s r (inr (inl h)) = inl (subst (λ l. HexDigits 4 0 c l r) (let g
 letter_there c s r (inr (inr h)) = inr (h.0, h.1, subst (λ l. HexDigits 4 0 h.0 l h.1) (let g : h.2.0 ≡ s = (let e = h.2.1 in cc) in g) h.2.2, h.3, h.4)
 
 pub letter_taken : PartSteps BehindBackslash 117 (Within (InUnit First))
-letter_taken = (tt, λ c s r k. (letter_there c s r,
-    λ h. elim h [ inl y ↦ inr (inl (s, refl, y)) | inr y ↦ inr (inr (y.0, y.1, (s, refl, y.2), y.3, y.4)) ]))
+letter_taken = (
+  tt,
+  λ c s r k. (
+    letter_there c s r,
+    λ h. elim h [ inl y ↦ inr (inl (s, refl, y)) | inr y ↦ inr (inr (y.0, y.1, (s, refl, y.2), y.3, y.4)) ],
+  ),
+)
 
 pub escape_refused : (x : ℕ) → short_escape x ≡ None → x ≢ 117 → PartSteps BehindBackslash x Refused
 escape_refused x e other c s r k (inl h) = let f : None ≡ Some c = sym e ∙ (ap short_escape (let g : x ≡ h.0 = cc in g) ∙ h.2) in absurd (cc)
@@ -39,17 +44,25 @@ escape_refused x e other c s r k (inr (inr h)) = other (let g = h.2.1 in cc)
 
 -- behind a high surrogate: the backslash and the letter of the low one
 pub low_backslash_taken : (high : ℕ) → IsHigh high → PartSteps (LowBackslash high) 92 (Within (LowLetter high))
-low_backslash_taken high is_high = (is_high, λ c s r k. (
+low_backslash_taken high is_high = (
+  is_high,
+  λ c s r k. (
     λ h. (h.0, subst (λ l. CodeUnit h.0 l r) (let g : h.1 ≡ s = (let e = h.2 in cc) in g) h.3, h.4, h.5),
-    λ h. (h.0, s, refl, h.1, h.2, h.3)))
+    λ h. (h.0, s, refl, h.1, h.2, h.3),
+  ),
+)
 
 pub low_backslash_refused : (high x : ℕ) → x ≢ 92 → PartSteps (LowBackslash high) x Refused
 low_backslash_refused high x other c s r k h = other (let e = h.2 in cc)
 
 pub low_letter_taken : (high : ℕ) → IsHigh high → PartSteps (LowLetter high) 117 (Within (LowUnit high First))
-low_letter_taken high is_high = ((is_high, tt), λ c s r k. (
+low_letter_taken high is_high = (
+  (is_high, tt),
+  λ c s r k. (
     λ h. (h.0, subst (λ l. HexDigits 4 0 h.0 l r) (let g : h.1.0 ≡ s = (let e = h.1.1 in cc) in g) h.1.2, h.2, h.3),
-    λ h. (h.0, (s, refl, h.1), h.2, h.3)))
+    λ h. (h.0, (s, refl, h.1), h.2, h.3),
+  ),
+)
 
 pub low_letter_refused : (high x : ℕ) → x ≢ 117 → PartSteps (LowLetter high) x Refused
 low_letter_refused high x other c s r k h = other (let e = h.1.1 in cc)
@@ -57,7 +70,9 @@ low_letter_refused high x other c s r k h = other (let e = h.1.1 in cc)
 -- the digits of a low surrogate
 pub low_same : (high : ℕ) (old new : Digits) (x : ℕ) → SameRest old x new → (c : ℕ) (s r : List ℕ) → IsScalar c → PartRest (LowUnit high old) c (x ∷ s) r ↔ PartRest (LowUnit high new) c s r
 low_same high old new x same c s r k = (
-    λ h. (h.0, (same h.0 s r).0 h.1, h.2, h.3), λ h. (h.0, (same h.0 s r).1 h.1, h.2, h.3))
+  λ h. (h.0, (same h.0 s r).0 h.1, h.2, h.3),
+  λ h. (h.0, (same h.0 s r).1 h.1, h.2, h.3),
+)
 
 low_ends_there : (high : ℕ) (old : Digits) (x u : ℕ) → LastDigit old x u → (c : ℕ) (s r : List ℕ) → PartRest (LowUnit high old) c (x ∷ s) r → CodeEnd (joined high u) c s r
 low_ends_there high old x u same c s r h =

@@ -8,3 +8,4 @@ pub mod Runs
 pub mod DigitSteps
 pub mod Texts
 pub mod Completions
+pub mod ReaderTurns

@@ -2,7 +2,7 @@
 use Rattle.std.proofs.Common.{◌≡◌, ◌↔◌, ◌≢◌, ◌≤◌, ◌<◌, ◌+◌, ℕ, true, List, [], ◌∷◌, ◌++◌, append_assoc, append-nil, encode_utf8_all, take, drop, length, get_or, ◌-◌, ◌*◌, inl, inr, refl, sym, ap, ◌∙◌, subst, arith, IsUtf8}
 use Rattle.std.specs.Char.{IsScalar, encode_utf8}
 use Rattle.std.proofs.lemmas.Bool.{and_from, cases_order, cond-false, le-ltb, lt-ltb, le-leb}
-use Rattle.std.proofs.lemmas.List.{take_more}
+use Rattle.std.proofs.lemmas.List.{take_more, take_rest, length-drop}
 use Rattle.std.proofs.lemmas.Bool.Decides.{nat_tests}
 use Rattle.std.proofs.Math.Seq.{take-add}
 use Rattle.std.proofs.lemmas.Str.{encode_same, encodes-append, encode_ascii}
@@ -10,7 +10,7 @@ use Rattle.sm_json.specs.declared.spot.Spot.{Spot}
 use Rattle.sm_json.specs.declared.spot.Spot.TheVariants.{Plain, Inside}
 use Rattle.sm_json.specs.Strings.{IsUnescaped, Character, Characters}
 use Rattle.sm_json.specs.TextRest.{PlainRest, TextRest}
-use Rattle.sm_json.specs.Runs.{AreUnescaped, IsRun, Takes, Closes, Stops}
+use Rattle.sm_json.specs.Runs.{AreUnescaped, IsRun, Takes}
 use Rattle.sm_json.specs.Utf8Bytes.{IsTail, IsSecond}
 use Rattle.sm_json.proofs.Utf8Bytes.{low_three, low_four, two_encode, three_encode, four_encode}
 use Rattle.sm_json.proofs.Utf8Parts.{lead, unescaped_high}
@@ -74,8 +74,9 @@ run_back (c ∷ cs) b s t r k h =
 
 pub run_taken : (p b : List ℕ) → IsRun p → Takes Plain b Plain (b ++ p) p
 run_taken p b h = λ s t r. (
-    λ x. subst (λ l. PlainRest (b ++ l) s t r) h.2 (run_there h.0 b s t r h.1 (subst (λ l. PlainRest b (l ++ s) t r) (sym h.2) x)),
-    λ x. subst (λ l. PlainRest b (l ++ s) t r) h.2 (run_back h.0 b s t r h.1 (subst (λ l. PlainRest (b ++ l) s t r) (sym h.2) x)))
+  λ x. subst (λ l. PlainRest (b ++ l) s t r) h.2 (run_there h.0 b s t r h.1 (subst (λ l. PlainRest b (l ++ s) t r) (sym h.2) x)),
+  λ x. subst (λ l. PlainRest b (l ++ s) t r) h.2 (run_back h.0 b s t r h.1 (subst (λ l. PlainRest (b ++ l) s t r) (sym h.2) x)),
+)
 
 -- readings one after another
 pub takes_none : (spot : Spot) (b : List ℕ) → Takes spot b spot b []
@@ -83,16 +84,9 @@ takes_none spot b = λ s t r. (λ x. x, λ x. x)
 
 pub takes_then : (p q r : Spot) (b d e xs ys : List ℕ) → Takes p b q d xs → Takes q d r e ys → Takes p b r e (xs ++ ys)
 takes_then p q o b d e xs ys h k = λ s t r. (
-    λ x. (k s t r).0 ((h (ys ++ s) t r).0 (subst (λ l. TextRest p b l t r) (append_assoc xs ys s) x)),
-    λ x. subst (λ l. TextRest p b l t r) (sym (append_assoc xs ys s)) ((h (ys ++ s) t r).1 ((k s t r).1 x)))
-
-pub closes_then : (p q : Spot) (b d e xs ys : List ℕ) → Takes p b q d xs → Closes q d e ys → Closes p b e (xs ++ ys)
-closes_then p q b d e xs ys h k = λ s t r. (
-    λ x. (k s t r).0 ((h (ys ++ s) t r).0 (subst (λ l. TextRest p b l t r) (append_assoc xs ys s) x)),
-    λ x. subst (λ l. TextRest p b l t r) (sym (append_assoc xs ys s)) ((h (ys ++ s) t r).1 ((k s t r).1 x)))
-
-pub stops_then : (p q : Spot) (b d xs ys : List ℕ) → Takes p b q d xs → Stops q d ys → Stops p b (xs ++ ys)
-stops_then p q b d xs ys h k = λ s t r x. k s t r ((h (ys ++ s) t r).0 (subst (λ l. TextRest p b l t r) (append_assoc xs ys s) x))
+  λ x. (k s t r).0 ((h (ys ++ s) t r).0 (subst (λ l. TextRest p b l t r) (append_assoc xs ys s) x)),
+  λ x. subst (λ l. TextRest p b l t r) (sym (append_assoc xs ys s)) ((h (ys ++ s) t r).1 ((k s t r).1 x)),
+)
 
 -- scalar values above the surrogates, and what second bytes say of them
 pub high_scalar : (c : ℕ) → 57344 ≤ c → c < 1114112 → IsScalar c
@@ -169,3 +163,9 @@ run_plain i x bs inside is u small h =
 -- a run from between two characters
 pub run_at : (p : Spot) (b d bs : List ℕ) → p ≡ Plain → IsRun bs → d ≡ b ++ bs → Takes p b p d bs
 run_at p b d bs plain h e = subst (λ q. Takes q b q d bs) (sym plain) (subst (λ l. Takes Plain b Plain l bs) (sym e) (run_taken bs b h))
+
+-- a run in the rest of a slice
+pub run_on : (at n : ℕ) (bs : List ℕ) → at ≤ length bs → IsRun (take at bs) → n ≤ length (take (length bs - at) (drop at bs)) → IsRun (take n (take (length bs - at) (drop at bs))) → (at + n ≤ length bs) × IsRun (take (at + n) bs)
+run_on at n bs inside h few k =
+    let short = subst (λ l. n ≤ length l) (take_rest bs at) few in
+    (omega (arith, length-drop at bs), run_more at n bs h (subst (λ l. IsRun (take n l)) (take_rest bs at) k))

@@ -52,11 +52,16 @@ shuts x b s t r y = (y.0 ∷ y.4.0, y.4.1 ∙ append_assoc b (encode_utf8 y.0) (
 
 -- what a step from between two characters is to the string
 pub begun : (x : ℕ) (step : Step) → x ≢ 34 → StepsTo (CharacterRest x) step → Steps Plain x step
-begun x (Within q) other h = (h.0, λ b s t r. (
+begun x (Within q) other h = (
+  h.0,
+  λ b s t r. (
     λ y. (lifted_same (CharacterRest x) (PartRest q) h.1 b s t r).0 (opens x other b s t r y.0 y.1 y.2),
-    λ y. shuts x b s t r ((lifted_same (CharacterRest x) (PartRest q) h.1 b s t r).1 y)))
+    λ y. shuts x b s t r ((lifted_same (CharacterRest x) (PartRest q) h.1 b s t r).1 y),
+  ),
+)
 begun x (Whole d) other h = λ b s t r. (
-    λ y. whole_there (CharacterRest x) d h.1 b s t r (opens x other b s t r y.0 y.1 y.2),
-    λ y. shuts x b s t r (whole_back (CharacterRest x) d h.0 h.1 b s t r y))
+  λ y. whole_there (CharacterRest x) d h.1 b s t r (opens x other b s t r y.0 y.1 y.2),
+  λ y. shuts x b s t r (whole_back (CharacterRest x) d h.0 h.1 b s t r y),
+)
 begun x Closed other h = absurd h
 begun x Refused other h = λ b s t r y. let z = opens x other b s t r y.0 y.1 y.2 in h z.0 s z.1 z.2 z.3

@@ -61,9 +61,10 @@ abbrev pub LastDigit : Digits → ℕ → ℕ → Type 0
 LastDigit old x u = (v : ℕ) (s r : List ℕ) → DigitsRest old v (x ∷ s) r ↔ ((v ≡ u) × (s ≡ r))
 
 pub unit_goes : (old new : Digits) (x : ℕ) → SameRest old x new → (c : ℕ) (s r : List ℕ) → UnitRest old c (x ∷ s) r ↔ UnitRest new c s r
-unit_goes old new x same c s r =
-    (λ h. elim h [ inl y ↦ inl ((same c s r).0 y) | inr y ↦ inr (y.0, y.1, (same y.0 s y.1).0 y.2, y.3, y.4) ],
-    λ h. elim h [ inl y ↦ inl ((same c s r).1 y) | inr y ↦ inr (y.0, y.1, (same y.0 s y.1).1 y.2, y.3, y.4) ])
+unit_goes old new x same c s r = (
+  λ h. elim h [ inl y ↦ inl ((same c s r).0 y) | inr y ↦ inr (y.0, y.1, (same y.0 s y.1).0 y.2, y.3, y.4) ],
+  λ h. elim h [ inl y ↦ inl ((same c s r).1 y) | inr y ↦ inr (y.0, y.1, (same y.0 s y.1).1 y.2, y.3, y.4) ],
+)
 
 unit_ends_there : (old : Digits) (x u : ℕ) → LastDigit old x u → (c : ℕ) (s r : List ℕ) → UnitRest old c (x ∷ s) r → UnitEnd u c s r
 unit_ends_there old x u same c s r (inl y) = inl ((same c s r).0 y)
@@ -72,9 +73,10 @@ unit_ends_there old x u same c s r (inr y) =
     inr (subst IsHigh e.0 y.3, subst (λ l. LowHalf u c l r) (sym e.1) (subst (λ n. LowHalf n c y.1 r) e.0 y.4))
 
 pub unit_ends : (old : Digits) (x u : ℕ) → LastDigit old x u → (c : ℕ) (s r : List ℕ) → UnitRest old c (x ∷ s) r ↔ UnitEnd u c s r
-unit_ends old x u same c s r =
-    (unit_ends_there old x u same c s r,
-    λ h. elim h [ inl y ↦ inl ((same c s r).1 y) | inr y ↦ inr (u, s, (same u s s).1 (refl, refl), y.0, y.1) ])
+unit_ends old x u same c s r = (
+  unit_ends_there old x u same c s r,
+  λ h. elim h [ inl y ↦ inl ((same c s r).1 y) | inr y ↦ inr (u, s, (same u s s).1 (refl, refl), y.0, y.1) ],
+)
 
 pub unit_refused : (old : Digits) (x : ℕ) → ((v : ℕ) (s r : List ℕ) → DigitsRest old v (x ∷ s) r → ⊥) → (c : ℕ) (s r : List ℕ) → UnitRest old c (x ∷ s) r → ⊥
 unit_refused old x none c s r h = elim h [ inl y ↦ none c s r y | inr y ↦ none y.0 s y.1 y.2 ]

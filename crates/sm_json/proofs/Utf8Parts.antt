@@ -65,8 +65,10 @@ pub unescaped_high : (c : ℕ) → 128 ≤ c → IsUnescaped c
 unescaped_high c h = (omega arith, λ e. omega arith, λ e. omega arith)
 
 pub sequence_ends : (d : ℕ) (p : List ℕ) → encode d ≡ p → 128 ≤ d → (c : ℕ) (s r : List ℕ) → IsScalar c → (IsUnescaped c × (p ++ s ≡ encode c ++ r)) ↔ CodeEnd d c s r
-sequence_ends d p e high c s r k = (λ h. same_there c d p s r e h.1,
-    λ h. (subst IsUnescaped (sym h.0) (unescaped_high d high), same_back c d p s r e h.0 h.1))
+sequence_ends d p e high c s r k = (
+  λ h. same_there c d p s r e h.1,
+  λ h. (subst IsUnescaped (sym h.0) (unescaped_high d high), same_back c d p s r e h.0 h.1),
+)
 
 -- behind the first byte
 pub one_goes : (x y : ℕ) → 224 ≤ x → x < 245 → IsSecond x y → PartSteps (One x) y (Within (Two x y))
@@ -116,9 +118,13 @@ unfolding encode
 one_encode x h = grind (arith, nat_tests)
 
 pub ascii_whole : (x : ℕ) → 32 ≤ x → x < 128 → x ≢ 34 → x ≢ 92 → Steps Plain x (Whole x)
-ascii_whole x a b q w = begun x (Whole x) q (low_scalar x (omega arith), λ c s r k. (
+ascii_whole x a b q w = begun x (Whole x) q (
+  low_scalar x (omega arith),
+  λ c s r k. (
     λ h. elim h [ inl y ↦ same_there c x (x ∷ []) s r (one_encode x b) y.1 | inr y ↦ absurd (w (let e = y.1 in cc)) ],
-    λ h. inl (subst IsUnescaped (sym h.0) (a, q, w), same_back c x (x ∷ []) s r (one_encode x b) h.0 h.1)))
+    λ h. inl (subst IsUnescaped (sym h.0) (a, q, w), same_back c x (x ∷ []) s r (one_encode x b) h.0 h.1),
+  ),
+)
 
 -- a backslash
 backslash_there : (c : ℕ) (s r : List ℕ) → IsScalar c → CharacterRest 92 c s r → Escape c s r
@@ -130,8 +136,13 @@ backslash_taken = begun 92 (Within BehindBackslash) (λ e. omega arith) (tt, λ 
 
 -- the first byte of a longer one
 pub lead_taken : (x : ℕ) → 194 ≤ x → x < 245 → Steps Plain x (Within (One x))
-lead_taken x a b = begun x (Within (One x)) (λ e. omega arith) ((a, b), λ c s r k. (
-    λ h. elim h [ inl y ↦ y | inr y ↦ absurd (let g : x ≡ 92 = (let e = y.1 in cc) in omega arith) ], λ h. inl h))
+lead_taken x a b = begun x (Within (One x)) (λ e. omega arith) (
+  (a, b),
+  λ c s r k. (
+    λ h. elim h [ inl y ↦ y | inr y ↦ absurd (let g : x ≡ 92 = (let e = y.1 in cc) in omega arith) ],
+    λ h. inl h,
+  ),
+)
 
 -- no character begins so
 pub plain_refused : (x : ℕ) → x ≢ 34 → x ≢ 92 → (32 ≤ x → x < 128 → ⊥) → (194 ≤ x → x < 245 → ⊥) → Steps Plain x Refused

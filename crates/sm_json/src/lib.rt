@@ -7,6 +7,6 @@ mod spot;
 mod text;
 mod utf8;
 
+pub use sm_tree::NoMemory;
 pub use spot::{Digits, Part, Spot, Step};
 pub use text::{Reading, TextReader, TextRefusal};
-pub use sm_tree::NoMemory;

@@ -4,6 +4,9 @@ ghost use Rattle.std.specs.Prelude.{◌≡◌, IfOk};
 ghost use Rattle.sm_json.specs.TextSteps.{IsLive, IsPartLive, PartSteps, Steps};
 ghost use Rattle.sm_json.specs.Live.{IsLive-prop};
 
+#[cfg(test)]
+mod tests;
+
 use crate::escape::{escaped, low_backslash, low_digit, low_letter, unit_digit};
 use crate::spot::{Part, Spot, Step};
 use crate::utf8::{fourth_byte, plain_byte, run_len, second_byte, third_byte};

@@ -31,6 +31,13 @@ fn is_tail(byte: u8) -> bool
     0x80 <= byte && byte < 0xC0
 }
 
+/// Whether two bytes may stand behind the first two.
+fn are_tails(z: u8, w: u8) -> bool
+    ensures { IsTrue result ↔ (IsTail z × IsTail w) }
+{
+    is_tail(z) && is_tail(w)
+}
+
 /// Whether a byte may be the second one of a character that begins with `lead`.
 fn is_second(lead: u8, byte: u8) -> bool
     ensures { IsTrue result ↔ IsSecond lead byte }
@@ -153,14 +160,22 @@ fn is_two(x: u8, y: u8) -> bool
 fn is_three(x: u8, y: u8, z: u8) -> bool
     ensures { IsTrue result → IsRun (x ∷ y ∷ z ∷ []) }
 {
-    0xE0 <= x && x < 0xF0 && is_second(x, y) && is_tail(z)
+    if 0xE0 <= x && x < 0xF0 {
+        is_second(x, y) && is_tail(z)
+    } else {
+        false
+    }
 }
 
 /// Whether four bytes are a character.
 fn is_four(x: u8, y: u8, z: u8, w: u8) -> bool
     ensures { IsTrue result → IsRun (x ∷ y ∷ z ∷ w ∷ []) }
 {
-    0xF0 <= x && x < 0xF5 && is_second(x, y) && is_tail(z) && is_tail(w)
+    if 0xF0 <= x && x < 0xF5 {
+        is_second(x, y) && are_tails(z, w)
+    } else {
+        false
+    }
 }
 
 /// How many bytes in front are a character of more than one: 0 where none is whole there.

@@ -3,5 +3,5 @@ use Rattle.std.proofs.Common.{◌≡◌, ◌<◌, ◌≤◌, ℕ, ◌+◌, ◌-�
 use Rattle.sm_json.proofs.Runs.{run_two, run_three, run_four}
 use Rattle.sm_json.proofs.utf8.is_four.Goals as goal
 
-pub returns-then-is_tail : goal.returns-then-is_tail
-returns-then-is_tail c = λ t. run_four c.args.x c.args.y c.args.z c.args.w (omega arith) (omega arith) (c.is_second.ensures.0 c.if-is_second.true) (c.is_tail.ensures.0 c.if-is_tail.true) (c.is_tail-2.ensures.0 t)
+pub returns-then-is_second : goal.returns-then-is_second
+returns-then-is_second c = λ t. run_four c.args.x c.args.y c.args.z c.args.w (omega arith) (omega arith) (c.is_second.ensures.0 c.if-is_second.true) (c.are_tails.ensures.0 t).0 (c.are_tails.ensures.0 t).1

@@ -7,7 +7,7 @@ use Rattle.sm_json.proofs.utf8.third_byte.Goals as goal
 
 pub returns-else-x-ge240 : goal.returns-else-x-ge240
 returns-else-x-ge240 c = two_whole c.args.x c.args.y c.args.z c.whole.result (omega arith) (omega arith) c.requires.2 (c.is_tail.ensures.0 c.if-is_tail.true)
-    (subst (λ n. StepsTo (CodeEnd n) c.whole.result) (c.with_tail.ensures ∙ ap (λ n. n * 64 + (c.args.z - 128)) c.with_tail-front.ensures) c.whole.ensures)
+    (subst (λ n. StepsTo (CodeEnd n) c.whole.result) (c.with_tail.ensures ∙ ap (λ n. n * 64 + (c.args.z - 128)) (c.with_tail-front.ensures ∙ ap (λ n. (n - 224) * 64 + (c.args.y - 128)) c.from.ensures)) c.whole.ensures)
 
 pub returns-else-is_tail : goal.returns-else-is_tail
 returns-else-is_tail c = two_refused c.args.x c.args.y c.args.z (omega arith) (λ h. false≢true (sym c.if-is_tail.false ∙ c.is_tail.ensures.1 h))
