@@ -1,5 +1,5 @@
 -- From each live place within a string some string goes on.
-use Rattle.std.proofs.Common.{◌≡◌, ◌↔◌, ◌⊎◌, ◌≤◌, ◌<◌, ◌+◌, ◌-◌, ◌*◌, ℕ, true, List, [], ◌∷◌, ◌++◌, encode_utf8_all, append-nil, inl, inr, refl, sym, ap, ◌∙◌, subst, arith}
+use Rattle.std.proofs.Common.{◌≤◌, ◌<◌, ◌+◌, ◌-◌, ◌*◌, ℕ, List, [], ◌∷◌, ◌++◌, append-nil, inl, inr, refl, sym, ap, arith}
 use Rattle.std.specs.Char.{IsScalar, encode_utf8}
 use Rattle.std.proofs.lemmas.Bool.{cases_lt}
 use Rattle.std.proofs.lemmas.Bool.Decides.{nat_tests}
@@ -9,14 +9,14 @@ use Rattle.sm_json.specs.declared.spot.Part.{Part}
 use Rattle.sm_json.specs.declared.spot.Part.TheVariants.{Escape as BehindBackslash, Unit as InUnit, LowBackslash, LowLetter, LowUnit, One, Two, Three}
 use Rattle.sm_json.specs.declared.spot.Spot.{Spot}
 use Rattle.sm_json.specs.declared.spot.Spot.TheVariants.{Plain, Inside}
-use Rattle.sm_json.specs.Strings.{HexDigits, IsHigh, IsLow, joined, LowHalf, IsUnescaped}
+use Rattle.sm_json.specs.Strings.{IsHigh, IsLow, joined, LowHalf}
 use Rattle.sm_json.specs.Utf8Bytes.{IsTail, IsSecond, least_second}
-use Rattle.sm_json.specs.TextRest.{DigitsRest, UnitRest, PartRest, PlainRest, TextRest}
+use Rattle.sm_json.specs.TextRest.{DigitsRest, PartRest, TextRest}
 use Rattle.sm_json.specs.TextSteps.{IsUnitBegun, IsLowBegun, IsPartLive, IsLive}
 use Rattle.sm_json.proofs.Utf8Bytes.{low_three, low_four, two_encode, three_encode, four_encode}
 use Rattle.sm_json.proofs.Utf8Parts.{unescaped_high}
 use Rattle.sm_json.proofs.Runs.{high_scalar, three_scalar, four_scalar}
-use lib.Utf8.{encode, low_scalar}
+use lib.Utf8.{low_scalar}
 
 -- some character, and bytes that spell the rest of it before r
 abbrev CanEnd : Part → List ℕ → Type 0

@@ -1,13 +1,13 @@
 -- What a byte makes of a place behind a backslash or a high surrogate.
-use Rattle.std.proofs.Common.{◌≡◌, ◌↔◌, ◌⊎◌, ◌≢◌, ◌≤◌, ◌<◌, ◌+◌, ◌-◌, ◌*◌, ℕ, suc, true, false, cond, Option, Some, None, List, [], ◌∷◌, ◌++◌, inl, inr, refl, sym, ap, ◌∙◌, subst, arith}
+use Rattle.std.proofs.Common.{◌≡◌, ◌↔◌, ◌≢◌, ℕ, Some, None, List, ◌∷◌, inl, inr, refl, sym, ap, ◌∙◌, subst, arith}
 use Rattle.std.specs.Char.{IsScalar}
 use Rattle.sm_json.specs.declared.spot.Digits.{Digits}
 use Rattle.sm_json.specs.declared.spot.Digits.TheVariants.{First, Second, Third, Fourth}
 use Rattle.sm_json.specs.declared.spot.Part.TheVariants.{Escape as BehindBackslash, Unit as InUnit, LowBackslash, LowLetter, LowUnit}
-use Rattle.sm_json.specs.declared.spot.Step.TheVariants.{Within, Whole, Closed, Refused}
-use Rattle.sm_json.specs.Strings.{short_escape, hex_value, HexDigits, CodeUnit, IsHigh, IsLow, joined, LowHalf, Escape}
+use Rattle.sm_json.specs.declared.spot.Step.TheVariants.{Within, Whole, Refused}
+use Rattle.sm_json.specs.Strings.{short_escape, HexDigits, CodeUnit, IsHigh, IsLow, joined, Escape}
 use Rattle.sm_json.specs.TextRest.{DigitsRest, UnitRest, PartRest}
-use Rattle.sm_json.specs.TextSteps.{IsPartLive, IsLowBegun, CodeEnd, StepsTo, PartSteps}
+use Rattle.sm_json.specs.TextSteps.{IsLowBegun, CodeEnd, StepsTo, PartSteps}
 use Rattle.sm_json.proofs.Units.{SameRest, LastDigit, digits_range_1, digits_range_2, digits_range_3}
 
 some_same : (x y : ℕ) → Some x ≡ Some y → x ≡ y

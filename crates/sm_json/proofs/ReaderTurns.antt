@@ -1,5 +1,5 @@
 -- One turn of the text reader behind others.
-use Rattle.std.proofs.Common.{◌≡◌, ◌≤◌, ◌<◌, ◌+◌, ◌-◌, ℕ, List, [], ◌∷◌, ◌++◌, length, take, drop, get_or, Ok, sym, subst, arith}
+use Rattle.std.proofs.Common.{◌≤◌, ◌<◌, ◌+◌, ◌-◌, ℕ, List, [], ◌∷◌, length, take, drop, get_or, Ok, sym, subst, arith}
 use Rattle.std.proofs.lemmas.List.{take_more, take_rest, length-drop}
 use Rattle.std.proofs.Math.Seq.{take-add}
 use Rattle.sm_json.specs.declared.text.TextReader.{TextReader}

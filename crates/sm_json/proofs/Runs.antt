@@ -1,13 +1,13 @@
 -- Runs of characters that stand for themselves, and readings one after another.
-use Rattle.std.proofs.Common.{◌≡◌, ◌↔◌, ◌≢◌, ◌≤◌, ◌<◌, ◌+◌, ℕ, true, List, [], ◌∷◌, ◌++◌, append_assoc, append-nil, encode_utf8_all, take, drop, length, get_or, ◌-◌, ◌*◌, inl, inr, refl, sym, ap, ◌∙◌, subst, arith, IsUtf8}
-use Rattle.std.specs.Char.{IsScalar, encode_utf8}
+use Rattle.std.proofs.Common.{◌≡◌, ◌≢◌, ◌≤◌, ◌<◌, ◌+◌, ℕ, true, List, [], ◌∷◌, ◌++◌, append_assoc, append-nil, encode_utf8_all, take, drop, length, get_or, ◌-◌, ◌*◌, inl, inr, refl, sym, ap, ◌∙◌, subst, arith, IsUtf8}
+use Rattle.std.specs.Char.{IsScalar}
 use Rattle.std.proofs.lemmas.Bool.{and_from, cases_order, cond-false, le-ltb, lt-ltb, le-leb}
 use Rattle.std.proofs.lemmas.List.{take_more, take_rest, length-drop}
 use Rattle.std.proofs.lemmas.Bool.Decides.{nat_tests}
 use Rattle.std.proofs.Math.Seq.{take-add}
 use Rattle.std.proofs.lemmas.Str.{encode_same, encodes-append, encode_ascii}
 use Rattle.sm_json.specs.declared.spot.Spot.{Spot}
-use Rattle.sm_json.specs.declared.spot.Spot.TheVariants.{Plain, Inside}
+use Rattle.sm_json.specs.declared.spot.Spot.TheVariants.{Plain}
 use Rattle.sm_json.specs.Strings.{IsUnescaped, Character, Characters}
 use Rattle.sm_json.specs.TextRest.{PlainRest, TextRest}
 use Rattle.sm_json.specs.Runs.{AreUnescaped, IsRun, Takes}

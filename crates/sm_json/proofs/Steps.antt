@@ -1,13 +1,13 @@
 -- From the rests of a character to the rests of a string.
-use Rattle.std.proofs.Common.{◌≡◌, ◌↔◌, ◌⊎◌, ◌≢◌, ◌≤◌, ◌<◌, ℕ, true, List, [], ◌∷◌, ◌++◌, append_assoc, append-nil, encode_utf8_all, inl, inr, refl, sym, ap, ◌∙◌, subst, arith}
+use Rattle.std.proofs.Common.{◌≡◌, ◌↔◌, ◌⊎◌, ◌≢◌, ℕ, List, [], ◌∷◌, ◌++◌, append_assoc, encode_utf8_all, refl, sym, ◌∙◌, subst}
 use Rattle.std.specs.Char.{IsScalar, encode_utf8}
 use Rattle.sm_json.specs.declared.spot.Part.{Part}
 use Rattle.sm_json.specs.declared.spot.Spot.TheVariants.{Plain, Inside}
 use Rattle.sm_json.specs.declared.spot.Step.{Step}
 use Rattle.sm_json.specs.declared.spot.Step.TheVariants.{Within, Whole, Closed, Refused}
-use Rattle.sm_json.specs.Strings.{IsUnescaped, Escape, Character, Characters}
-use Rattle.sm_json.specs.TextRest.{PartRest, PlainRest, TextRest}
-use Rattle.sm_json.specs.TextSteps.{Rest, IsPartLive, StepsTo, PartSteps, Steps}
+use Rattle.sm_json.specs.Strings.{IsUnescaped, Escape, Characters}
+use Rattle.sm_json.specs.TextRest.{PartRest, PlainRest}
+use Rattle.sm_json.specs.TextSteps.{Rest, StepsTo, PartSteps, Steps}
 
 -- a step to the same rests
 pub steps_along : (R S : Rest) (step : Step) → ((c : ℕ) (s r : List ℕ) → IsScalar c → R c s r ↔ S c s r) → StepsTo S step → StepsTo R step

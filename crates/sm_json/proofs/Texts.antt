@@ -1,5 +1,5 @@
 -- Strings as the text reader meets them: from the opening quotation mark on.
-use Rattle.std.proofs.Common.{◌≡◌, ◌↔◌, ℕ, List, [], ◌∷◌, ◌++◌, sym, ap, ◌∙◌, subst, refl}
+use Rattle.std.proofs.Common.{◌≡◌, ◌↔◌, ℕ, List, [], ◌∷◌, sym, subst, refl}
 use Rattle.sm_json.specs.declared.spot.Spot.TheVariants.{Plain}
 use Rattle.sm_json.specs.Strings.{Characters, SpellsText}
 use Rattle.sm_json.specs.TextRest.{TextRest}

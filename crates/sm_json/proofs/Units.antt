@@ -1,17 +1,13 @@
 -- The digits of code units, and the escapes that they belong to.
-use Rattle.std.proofs.Common.{◌≡◌, ◌↔◌, ◌⊎◌, ◌≢◌, ◌≤◌, ◌<◌, ◌+◌, ◌-◌, ◌*◌, ℕ, suc, true, false, cond, Option, Some, None, List, [], ◌∷◌, ◌++◌, inl, inr, refl, sym, ap, ◌∙◌, subst, arith}
+use Rattle.std.proofs.Common.{◌≡◌, ◌↔◌, ◌≤◌, ◌<◌, ◌+◌, ◌*◌, ℕ, suc, Some, None, List, [], ◌∷◌, inl, inr, refl, sym, ◌∙◌, subst, arith}
 use Rattle.std.specs.Char.{IsScalar}
-use Rattle.std.specs.Prelude.{nat_le, ◌&&◌, ◌==◌}
-use Rattle.std.proofs.lemmas.Bool.{cond_both, and_parts, leb-true, cases_lt}
 use Rattle.sm_json.specs.declared.spot.Digits.{Digits}
 use Rattle.sm_json.specs.declared.spot.Digits.TheVariants.{First, Second, Third, Fourth}
-use Rattle.sm_json.specs.declared.spot.Part.TheVariants.{Escape as BehindBackslash, Unit as InUnit, LowBackslash, LowLetter, LowUnit}
-use Rattle.sm_json.specs.declared.spot.Step.{Step}
-use Rattle.sm_json.specs.declared.spot.Step.TheVariants.{Within, Whole, Closed, Refused}
-use Rattle.sm_json.specs.Strings.{short_escape, hex_value, HexDigits, CodeUnit, IsHigh, IsLow, joined, LowHalf, Escape}
-use Rattle.sm_json.specs.TextRest.{DigitsRest, UnitRest, PartRest}
-use Rattle.sm_json.specs.TextSteps.{Rest, IsPartLive, IsUnitBegun, IsLowBegun, UnitEnd, StepsTo, PartSteps}
-use Rattle.sm_json.proofs.Steps.{steps_along}
+use Rattle.sm_json.specs.declared.spot.Part.TheVariants.{LowBackslash}
+use Rattle.sm_json.specs.declared.spot.Step.TheVariants.{Within, Whole, Refused}
+use Rattle.sm_json.specs.Strings.{hex_value, HexDigits, IsHigh, LowHalf}
+use Rattle.sm_json.specs.TextRest.{DigitsRest, UnitRest}
+use Rattle.sm_json.specs.TextSteps.{UnitEnd, StepsTo}
 use Rattle.std.proofs.lemmas.Bool.Decides.{nat_tests}
 use lib.Utf8.{scalar_cases}
 

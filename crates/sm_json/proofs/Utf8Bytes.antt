@@ -1,9 +1,9 @@
 -- Which bytes begin a character in UTF-8, and which character a whole sequence is (RFC 3629, section 4).
-use Rattle.std.proofs.Common.{◌≡◌, ℕ, ◌+◌, ◌-◌, ◌*◌, ◌/◌, ◌%◌, ◌<◌, ◌≤◌, ◌⊎◌, cond, List, [], ◌∷◌, ◌++◌, inl, inr, refl, sym, ap, ◌∙◌, subst, arith}
-use Rattle.std.proofs.lemmas.Bool.{cases_lt, cond-true, cond-false, lt-ltb, le-ltb}
+use Rattle.std.proofs.Common.{◌≡◌, ℕ, ◌+◌, ◌-◌, ◌*◌, ◌/◌, ◌<◌, ◌≤◌, [], ◌∷◌, ◌∙◌, arith}
+use Rattle.std.proofs.lemmas.Bool.{cond-true, cond-false, lt-ltb, le-ltb}
 use Rattle.std.proofs.lemmas.Bool.Decides.{nat_tests}
 use Rattle.sm_json.specs.Utf8Bytes.{IsTail, IsSecond}
-use lib.Utf8.{scalar, encode, scalar_cases, next}
+use lib.Utf8.{encode, next}
 
 -- the encodings of one, two, three and four bytes
 pub one_byte : (c : ℕ) → c < 128 → encode c ≡ c ∷ []

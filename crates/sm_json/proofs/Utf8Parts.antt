@@ -1,17 +1,16 @@
 -- What a byte makes of a place between two characters, or within a character in UTF-8.
-use Rattle.std.proofs.Common.{◌≡◌, ◌↔◌, ◌⊎◌, ◌≢◌, ◌≤◌, ◌<◌, ◌+◌, ◌-◌, ◌*◌, ◌==◌, ℕ, true, cond, List, [], ◌∷◌, ◌++◌, inl, inr, refl, sym, ap, ◌∙◌, subst, arith, append-nil, encode_utf8_all}
+use Rattle.std.proofs.Common.{◌≡◌, ◌↔◌, ◌⊎◌, ◌≢◌, ◌≤◌, ◌<◌, ◌+◌, ◌-◌, ◌*◌, ℕ, List, [], ◌∷◌, ◌++◌, inl, inr, refl, sym, ap, ◌∙◌, subst, arith, append-nil, encode_utf8_all}
 use Rattle.std.specs.Char.{IsScalar}
-use Rattle.std.proofs.lemmas.Bool.{cases_lt}
 use Rattle.std.proofs.lemmas.Bool.Decides.{nat_tests}
 use Rattle.std.proofs.lemmas.Str.{encode_same}
 use Rattle.sm_json.specs.declared.spot.Part.TheVariants.{Escape as BehindBackslash, One, Two, Three}
-use Rattle.sm_json.specs.declared.spot.Spot.TheVariants.{Plain, Inside}
+use Rattle.sm_json.specs.declared.spot.Spot.TheVariants.{Plain}
 use Rattle.sm_json.specs.declared.spot.Step.{Step}
 use Rattle.sm_json.specs.declared.spot.Step.TheVariants.{Within, Whole, Closed, Refused}
 use Rattle.sm_json.specs.Strings.{IsUnescaped, Escape, Character, Characters}
 use Rattle.sm_json.specs.Utf8Bytes.{IsTail, IsSecond}
-use Rattle.sm_json.specs.TextRest.{PartRest, PlainRest, TextRest}
-use Rattle.sm_json.specs.TextSteps.{IsPartLive, CodeEnd, StepsTo, PartSteps, Steps}
+use Rattle.sm_json.specs.TextRest.{PartRest}
+use Rattle.sm_json.specs.TextSteps.{CodeEnd, StepsTo, PartSteps, Steps}
 use Rattle.sm_json.proofs.Steps.{steps_along, CharacterRest, begun}
 use Rattle.sm_json.proofs.Utf8Bytes.{low_three, low_four, two_encode, three_encode, four_encode}
 use Rattle.sm_json.proofs.Utf8Shapes.{IsOne, IsTwo, IsThree, IsFour, shape}

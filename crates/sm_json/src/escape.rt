@@ -58,7 +58,7 @@ fn unit_front(front: u16) -> Step
     requires { front < 0x100 }
     ensures { StepsTo (PartRest (InUnit (Third front))) result }
 {
-    if 0xDC <= front && front < 0xE0 {
+    if front >= 0xDC && front < 0xE0 {
         Step::Refused
     } else {
         Step::Within(Part::Unit(Digits::Third(front)))

@@ -1,5 +1,5 @@
 -- Behind a backslash `u` opens a code unit.
-use Rattle.std.proofs.Common.{◌≡◌, ◌<◌, ◌≤◌, ℕ, ◌+◌, ◌-◌, ◌*◌, arith, rules, sym, ◌∙◌, subst, refl}
+use Rattle.std.proofs.Common.{sym, subst}
 use Rattle.sm_json.specs.TextSteps.{PartSteps}
 use Rattle.sm_json.specs.declared.spot.Digits.TheVariants.{First}
 use Rattle.sm_json.specs.declared.spot.Part.TheVariants.{Escape as BehindBackslash, Unit as InUnit}

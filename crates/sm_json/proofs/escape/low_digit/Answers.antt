@@ -1,5 +1,5 @@
 -- Each digit in its place.
-use Rattle.std.proofs.Common.{◌≡◌, ◌<◌, ◌≤◌, ℕ, ◌+◌, ◌-◌, ◌*◌, arith, rules, sym, ◌∙◌, subst, refl}
+use Rattle.std.proofs.Common.{sym, ◌∙◌}
 use Rattle.sm_json.proofs.DigitSteps.{low_first, low_second, low_fourth}
 use Rattle.sm_json.proofs.escape.low_digit.Goals as goal
 

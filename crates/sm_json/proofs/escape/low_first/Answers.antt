@@ -1,5 +1,5 @@
 -- Only 0xD begins a low surrogate.
-use Rattle.std.proofs.Common.{◌≡◌, ◌<◌, ◌≤◌, ℕ, ◌+◌, ◌-◌, ◌*◌, arith, rules, sym, ◌∙◌, subst, refl}
+use Rattle.std.proofs.Common.{arith}
 use Rattle.sm_json.specs.declared.spot.Digits.TheVariants.{Second}
 use Rattle.sm_json.proofs.Escapes.{low_refused}
 use Rattle.sm_json.proofs.escape.low_first.Goals as goal

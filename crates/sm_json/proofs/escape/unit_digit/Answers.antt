@@ -1,5 +1,5 @@
 -- Each digit in its place.
-use Rattle.std.proofs.Common.{◌≡◌, ◌<◌, ◌≤◌, ℕ, ◌+◌, ◌-◌, ◌*◌, arith, rules, sym, ◌∙◌, subst, refl}
+use Rattle.std.proofs.Common.{sym, ◌∙◌}
 use Rattle.sm_json.proofs.DigitSteps.{unit_first, unit_second, unit_fourth}
 use Rattle.sm_json.proofs.escape.unit_digit.Goals as goal
 

@@ -1,5 +1,5 @@
 -- A code unit is a high surrogate.
-use Rattle.std.proofs.Common.{◌≡◌, ◌<◌, ◌≤◌, ℕ, ◌+◌, ◌-◌, ◌*◌, arith, rules, sym, ◌∙◌, subst, refl}
+use Rattle.std.proofs.Common.{arith}
 use Rattle.sm_json.proofs.Units.{end_high}
 use Rattle.sm_json.proofs.escape.whole_unit.Goals as goal
 

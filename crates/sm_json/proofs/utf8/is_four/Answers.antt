@@ -1,6 +1,6 @@
 -- Three bytes behind the first make a character.
-use Rattle.std.proofs.Common.{◌≡◌, ◌<◌, ◌≤◌, ℕ, ◌+◌, ◌-◌, ◌*◌, length, get_or, take, drop, arith, rules, sym, ap, ◌∙◌, subst, refl}
-use Rattle.sm_json.proofs.Runs.{run_two, run_three, run_four}
+use Rattle.std.proofs.Common.{arith}
+use Rattle.sm_json.proofs.Runs.{run_four}
 use Rattle.sm_json.proofs.utf8.is_four.Goals as goal
 
 pub returns-then-is_second : goal.returns-then-is_second

@@ -1,6 +1,6 @@
 -- A second and a third byte behind the first make a character.
-use Rattle.std.proofs.Common.{◌≡◌, ◌<◌, ◌≤◌, ℕ, ◌+◌, ◌-◌, ◌*◌, length, get_or, take, drop, arith, rules, sym, ap, ◌∙◌, subst, refl}
-use Rattle.sm_json.proofs.Runs.{run_two, run_three, run_four}
+use Rattle.std.proofs.Common.{arith}
+use Rattle.sm_json.proofs.Runs.{run_three}
 use Rattle.sm_json.proofs.utf8.is_three.Goals as goal
 
 pub returns-then-is_second : goal.returns-then-is_second

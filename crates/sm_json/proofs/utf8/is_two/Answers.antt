@@ -1,6 +1,6 @@
 -- A tail behind the first byte makes a character.
-use Rattle.std.proofs.Common.{◌≡◌, ◌<◌, ◌≤◌, ℕ, ◌+◌, ◌-◌, ◌*◌, length, get_or, take, drop, arith, rules, sym, ap, ◌∙◌, subst, refl}
-use Rattle.sm_json.proofs.Runs.{run_two, run_three, run_four}
+use Rattle.std.proofs.Common.{arith}
+use Rattle.sm_json.proofs.Runs.{run_two}
 use Rattle.sm_json.proofs.utf8.is_two.Goals as goal
 
 pub returns-then-x-lt224 : goal.returns-then-x-lt224

@@ -1,5 +1,5 @@
 -- Each kind of byte between two characters.
-use Rattle.std.proofs.Common.{◌≡◌, ◌<◌, ◌≤◌, ℕ, ◌+◌, ◌-◌, ◌*◌, length, get_or, take, drop, arith, rules, sym, ap, ◌∙◌, subst, refl}
+use Rattle.std.proofs.Common.{sym, ◌∙◌, subst}
 use Rattle.std.proofs.lemmas.Bool.{false≢true}
 use Rattle.sm_json.specs.declared.spot.Part.TheVariants.{Escape as BehindBackslash}
 use Rattle.sm_json.specs.declared.spot.Spot.TheVariants.{Plain}

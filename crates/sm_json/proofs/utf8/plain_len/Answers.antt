@@ -1,5 +1,5 @@
 -- A plain byte behind a run is a run.
-use Rattle.std.proofs.Common.{◌≡◌, ◌<◌, ◌≤◌, ℕ, ◌+◌, ◌-◌, ◌*◌, length, get_or, take, drop, arith, rules, sym, ap, ◌∙◌, subst, refl, Ok, string_bytes}
+use Rattle.std.proofs.Common.{get_or, refl}
 use Rattle.sm_json.proofs.Runs.{run_plain}
 use Rattle.sm_json.proofs.utf8.plain_len.Goals as goal
 

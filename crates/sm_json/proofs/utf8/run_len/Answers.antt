@@ -1,5 +1,5 @@
 -- A long character and plain ones behind a run are a run.
-use Rattle.std.proofs.Common.{◌≡◌, ◌<◌, ◌≤◌, ℕ, ◌+◌, ◌-◌, ◌*◌, length, get_or, take, drop, arith, rules, sym, ap, ◌∙◌, subst, refl, Ok, string_bytes}
+use Rattle.std.proofs.Common.{◌+◌}
 use Rattle.sm_json.proofs.Runs.{run_on}
 use Rattle.sm_json.proofs.utf8.run_len.Goals as goal
 

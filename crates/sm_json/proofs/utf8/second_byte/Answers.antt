@@ -1,8 +1,8 @@
 -- The second byte ends a character of two, goes on in one of more, or stands in none.
-use Rattle.std.proofs.Common.{◌≡◌, ◌<◌, ◌≤◌, ℕ, ◌+◌, ◌-◌, ◌*◌, length, get_or, take, drop, arith, rules, sym, ap, ◌∙◌, subst, refl}
+use Rattle.std.proofs.Common.{◌+◌, ◌-◌, ◌*◌, arith, sym, ap, ◌∙◌, subst}
 use Rattle.std.proofs.lemmas.Bool.{false≢true}
 use Rattle.sm_json.specs.TextSteps.{CodeEnd, StepsTo}
-use Rattle.sm_json.proofs.Utf8Parts.{one_refused, one_whole, two_refused, two_whole, three_refused, three_whole}
+use Rattle.sm_json.proofs.Utf8Parts.{one_refused, one_whole}
 use Rattle.sm_json.proofs.utf8.second_byte.Goals as goal
 
 pub returns-else-x-ge224 : goal.returns-else-x-ge224

@@ -1,5 +1,5 @@
 -- A byte and a run are taken behind what came before.
-use Rattle.std.proofs.Common.{◌≡◌, ◌<◌, ◌≤◌, ℕ, ◌+◌, ◌-◌, ◌*◌, length, get_or, take, drop, arith, rules, sym, ap, ◌∙◌, subst, refl, Ok, string_bytes}
+use Rattle.std.proofs.Common.{get_or, subst, Ok}
 use Rattle.sm_json.specs.Reading.{TakesByte}
 use Rattle.sm_json.proofs.ReaderTurns.{turn_on}
 use Rattle.sm_json.proofs.text.TextReader.read.Goals as goal

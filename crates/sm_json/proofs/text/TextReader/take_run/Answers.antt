@@ -1,5 +1,5 @@
 -- A run is UTF-8, and from between two characters it is taken as it is.
-use Rattle.std.proofs.Common.{◌≡◌, ◌<◌, ◌≤◌, ℕ, ◌+◌, ◌-◌, ◌*◌, ◌++◌, List, length, get_or, take, drop, arith, rules, sym, ap, ◌∙◌, subst, refl, Ok, string_bytes}
+use Rattle.std.proofs.Common.{◌++◌, take, ap, ◌∙◌, string_bytes}
 use Rattle.sm_json.proofs.Runs.{run_utf8, run_at}
 use Rattle.sm_json.proofs.text.TextReader.take_run.Goals as goal
 
