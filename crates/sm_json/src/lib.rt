@@ -2,4 +2,11 @@
 // What reads and writes messages and model files in JSON stands on it.
 #![tactic(auto)]
 
+mod escape;
+mod spot;
+mod text;
+mod utf8;
+
 pub use sm_tree::NoMemory;
+pub use spot::{Digits, Part, Spot, Step};
+pub use text::{Reading, TextReader, TextRefusal};
