@@ -1,3 +1,6 @@
 pub mod Strings
 pub mod JsonText
 pub mod Written
+pub mod TextRest
+pub mod NumberTail
+pub mod Rest

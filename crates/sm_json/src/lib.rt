@@ -2,4 +2,8 @@
 // What reads and writes messages and model files in JSON stands on it.
 #![tactic(auto)]
 
+mod number;
+mod place;
+mod spot;
+
 pub use sm_tree::NoMemory;

@@ -1,0 +1,7 @@
+// stub
+/// What is open.
+#[derive(Debug, Clone, Copy, PartialEq, Eq, Drop)]
+pub enum OpenKind {
+    List,
+    Object,
+}
