@@ -3,7 +3,7 @@ use Rattle.std.proofs.Common.{◌≡◌, ℕ, zero, suc, ◌+◌, ◌≤◌, ◌
 use Rattle.sm_tree.specs.Node.{Node, Nodes, Members, null, bool, int, number, text, bytes, tag, opaque, list, object, no_nodes, node, no_members, member}
 use Rattle.sm_tree.specs.Numbers.{IsDigit, AreDigits, IsMinus, IsInt, IsNumber, NumberText}
 use Rattle.sm_json.specs.Strings.{is_white, Skips, SpellsText, Characters}
-use Rattle.sm_json.specs.JsonText.{bool_word, SpellsNumber, Spells, Entries, MoreEntries, Pairs, MorePairs}
+use Rattle.sm_json.specs.JsonText.{bool_word, SpellsNumber, SpellsValue, Entries, MoreEntries, Pairs, MorePairs}
 
 -- from two equal lists: their first bytes, and what follows them
 pub heads : (c d : ℕ) (s r : List ℕ) → c ∷ s ≡ d ∷ r → c ≡ d
@@ -12,12 +12,19 @@ heads c d s r e = cc
 pub tails : (c d : ℕ) (s r : List ℕ) → c ∷ s ≡ d ∷ r → s ≡ r
 tails c d s r e = cc
 
+-- two numbers apart are not equal
+pub below : (c d : ℕ) → c < d → c ≡ d → ⊥
+below c d h e = omega arith
+
+pub above : (c d : ℕ) → d < c → c ≡ d → ⊥
+above c d h e = omega arith
+
 -- white space: none, one more, and past a byte that isn't white
 pub skips_none : (s : List ℕ) → Skips s s
 skips_none [] = refl
 skips_none (c ∷ s) = inl refl
 
-not_white : (c d : ℕ) → is_white d ≡ false → c ≡ d → is_white c ≡ true → ⊥
+pub not_white : (c d : ℕ) → is_white d ≡ false → c ≡ d → is_white c ≡ true → ⊥
 not_white c d f e t = cc
 
 pub skips_past : (c d : ℕ) (s r : List ℕ) → is_white c ≡ true → is_white d ≡ false → Skips (c ∷ s) (d ∷ r) → Skips s (d ∷ r)
@@ -67,7 +74,7 @@ spelled_number : (n : Node) (s r : List ℕ) → ((t : List ℕ) → NumberText 
 spelled_number n s r f (t, e, x) =
     let h = number_start t (f t x) in (h.0, h.1 ++ r, e ∙ ap (λ y. y ++ r) h.2, h.3)
 
-pub spells_start : (n : Node) (s r : List ℕ) → Spells n s r → Opens (FirstByte n) s
+pub spells_start : (n : Node) (s r : List ℕ) → SpellsValue n s r → Opens (FirstByte n) s
 spells_start null s r e = (110, _, e, refl)
 spells_start (bool true) s r e = (116, _, e, refl)
 spells_start (bool false) s r e = (102, _, e, refl)
@@ -81,9 +88,9 @@ spells_start (list ns) s r (s1, e, h) = (91, s1, e, refl)
 spells_start (object ms) s r (s1, e, h) = (123, s1, e, refl)
 
 -- at a known byte
-pub spells_first : (n : Node) (c : ℕ) (s r : List ℕ) → Spells n (c ∷ s) r → FirstByte n c
+pub spells_first : (n : Node) (c : ℕ) (s r : List ℕ) → SpellsValue n (c ∷ s) r → FirstByte n c
 spells_first n c s r h =
     let o = spells_start n (c ∷ s) r h in subst (FirstByte n) (sym (heads c o.0 s o.1 o.2)) o.3
 
-pub spells_none : (n : Node) (r : List ℕ) → Spells n [] r → ⊥
+pub spells_none : (n : Node) (r : List ℕ) → SpellsValue n [] r → ⊥
 spells_none n r h = let o = spells_start n [] r h in let e : [] ≡ o.0 ∷ o.1 = o.2 in cc

@@ -6,7 +6,7 @@ use Rattle.sm_tree.specs.Events.{NodeEvent}
 use Rattle.sm_tree.specs.declared.build.OpenKind.{OpenKind}
 use Rattle.sm_tree.specs.declared.build.OpenKind.TheVariants.{List as a_list, Object as an_object}
 use Rattle.sm_json.specs.Strings.{is_white, Skips, SpellsText}
-use Rattle.sm_json.specs.JsonText.{Spells, Entries, MoreEntries, Pairs, MorePairs}
+use Rattle.sm_json.specs.JsonText.{SpellsValue, Entries, MoreEntries, Pairs, MorePairs}
 use Rattle.sm_json.specs.Rest.{Where, value, first_entry, first_key, next_key, colon, after, word, numeral, in_text, State, Ends, ValueNow, ValueComes, ColonComes, KeyNow, KeyComes, FirstEntryComes, FirstKeyComes, RestAt, Rest, Leads}
 use Rattle.sm_json.proofs.Starts.{heads, skips_past, StartsNumber, FirstByte, Opens, spells_start}
 
@@ -31,7 +31,7 @@ first_not_white (object ms) c e = subst (λ x. is_white x ≡ false) (sym e) ref
 skips_over : (c d : ℕ) (s t u : List ℕ) → is_white c ≡ true → t ≡ d ∷ u → is_white d ≡ false → Skips (c ∷ s) t → Skips s t
 skips_over c d s t u w e f k = subst (Skips s) (sym e) (skips_past c d s u w f (subst (Skips (c ∷ s)) e k))
 
-skips_value : (n : Node) (c : ℕ) (s t r : List ℕ) → is_white c ≡ true → Spells n t r → Skips (c ∷ s) t → Skips s t
+skips_value : (n : Node) (c : ℕ) (s t r : List ℕ) → is_white c ≡ true → SpellsValue n t r → Skips (c ∷ s) t → Skips s t
 skips_value n c s t r w h k =
     let o = spells_start n t r h in skips_over c o.0 s t o.1 w o.2 (first_not_white n o.0 o.3) k
 
@@ -53,15 +53,15 @@ white_entries (node n ns) c s r w (s1, s2, k, h, m) = (s1, s2, skips_value n c s
 
 white_more : (ns : Nodes) (c : ℕ) (s r : List ℕ) → is_white c ≡ true → MoreEntries ns (c ∷ s) r → MoreEntries ns s r
 white_more no_nodes c s r w k = skips_past c 93 s r w refl k
-white_more (node n ns) c s r w (s1, s2, s3, k, k1, h, m) = (s1, s2, s3, skips_past c 44 s s1 w refl k, k1, h, m)
+white_more (node n ns) c s r w (s1, s2, (x, k, k1), h, m) = (s1, s2, (x, skips_past c 44 s x w refl k, k1), h, m)
 
 white_pairs : (ms : Members) (c : ℕ) (s r : List ℕ) → is_white c ≡ true → Pairs ms (c ∷ s) r → Pairs ms s r
 white_pairs no_members c s r w k = skips_past c 125 s r w refl k
-white_pairs (member name n ms) c s r w (s1, s2, s3, s4, s5, k, h, k2, k3, v, m) = (s1, s2, s3, s4, s5, skips_text name c s s1 s2 w h k, h, k2, k3, v, m)
+white_pairs (member name n ms) c s r w (s1, s2, s3, s4, k, h, k2, v, m) = (s1, s2, s3, s4, skips_text name c s s1 s2 w h k, h, k2, v, m)
 
 white_more_pairs : (ms : Members) (c : ℕ) (s r : List ℕ) → is_white c ≡ true → MorePairs ms (c ∷ s) r → MorePairs ms s r
 white_more_pairs no_members c s r w k = skips_past c 125 s r w refl k
-white_more_pairs (member name n ms) c s r w (s0, s1, s2, s3, s4, s5, k, k1, h, k2, k3, v, m) = (s0, s1, s2, s3, s4, s5, skips_past c 44 s s0 w refl k, k1, h, k2, k3, v, m)
+white_more_pairs (member name n ms) c s r w (s1, s2, s3, s4, (x, k, k1), h, k2, v, m) = (s1, s2, s3, s4, (x, skips_past c 44 s x w refl k, k1), h, k2, v, m)
 
 white_nothing : (c : ℕ) (s : List ℕ) → Skips (c ∷ s) [] → Skips s []
 white_nothing c s (inl e) = let e1 : [] ≡ c ∷ s = e in absurd cc
@@ -112,15 +112,15 @@ back_entries (node n ns) c s r w (s1, s2, k, h, m) = (s1, s2, inr (w, k), h, m)
 
 back_more : (ns : Nodes) (c : ℕ) (s r : List ℕ) → is_white c ≡ true → MoreEntries ns s r → MoreEntries ns (c ∷ s) r
 back_more no_nodes c s r w k = inr (w, k)
-back_more (node n ns) c s r w (s1, s2, s3, k, k1, h, m) = (s1, s2, s3, inr (w, k), k1, h, m)
+back_more (node n ns) c s r w (s1, s2, (x, k, k1), h, m) = (s1, s2, (x, inr (w, k), k1), h, m)
 
 back_pairs : (ms : Members) (c : ℕ) (s r : List ℕ) → is_white c ≡ true → Pairs ms s r → Pairs ms (c ∷ s) r
 back_pairs no_members c s r w k = inr (w, k)
-back_pairs (member name n ms) c s r w (s1, s2, s3, s4, s5, k, h, k2, k3, v, m) = (s1, s2, s3, s4, s5, inr (w, k), h, k2, k3, v, m)
+back_pairs (member name n ms) c s r w (s1, s2, s3, s4, k, h, k2, v, m) = (s1, s2, s3, s4, inr (w, k), h, k2, v, m)
 
 back_more_pairs : (ms : Members) (c : ℕ) (s r : List ℕ) → is_white c ≡ true → MorePairs ms s r → MorePairs ms (c ∷ s) r
 back_more_pairs no_members c s r w k = inr (w, k)
-back_more_pairs (member name n ms) c s r w (s0, s1, s2, s3, s4, s5, k, k1, h, k2, k3, v, m) = (s0, s1, s2, s3, s4, s5, inr (w, k), k1, h, k2, k3, v, m)
+back_more_pairs (member name n ms) c s r w (s1, s2, s3, s4, (x, k, k1), h, k2, v, m) = (s1, s2, s3, s4, (x, inr (w, k), k1), h, k2, v, m)
 
 back_ends : (limit : ℕ) (ks : List OpenKind) (c : ℕ) (s : List ℕ) (es : List NodeEvent) → is_white c ≡ true → Ends limit ks s es → Ends limit ks (c ∷ s) es
 back_ends limit [] c s es w (k, e) = (inr (w, k), e)

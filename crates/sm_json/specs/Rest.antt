@@ -9,7 +9,7 @@ use Rattle.sm_tree.specs.Numbers.{NumberText}
 use Rattle.sm_tree.specs.declared.build.OpenKind.{OpenKind}
 use Rattle.sm_tree.specs.declared.build.OpenKind.TheVariants.{List as a_list, Object as an_object}
 use Rattle.sm_json.specs.Strings.{Skips, SpellsText}
-use Rattle.sm_json.specs.JsonText.{Spells, Entries, MoreEntries, Pairs, MorePairs}
+use Rattle.sm_json.specs.JsonText.{SpellsValue, Entries, MoreEntries, Pairs, MorePairs}
 use Rattle.sm_json.specs.TextRest.{TextRest}
 use Rattle.sm_json.specs.declared.spot.Spot.{Spot}
 use Rattle.sm_json.specs.declared.place.Literal.{Literal}
@@ -58,7 +58,7 @@ Ends limit (an_object ∷ ks) s es =
 -- a value with no white space before it, and what is behind it
 abbrev pub ValueNow : ℕ → List OpenKind → List ℕ → List NodeEvent → Type 0
 ValueNow limit ks s es =
-    (n : Node) × (r : List ℕ) × (fs : List NodeEvent) × Spells n s r × (levels n + length ks ≤ limit) × Ends limit ks r fs × (es ≡ events n fs)
+    (n : Node) × (r : List ℕ) × (fs : List NodeEvent) × SpellsValue n s r × (levels n + length ks ≤ limit) × Ends limit ks r fs × (es ≡ events n fs)
 
 abbrev pub ValueComes : ℕ → List OpenKind → List ℕ → List NodeEvent → Type 0
 ValueComes limit ks s es = (s1 : List ℕ) × Skips s s1 × ValueNow limit ks s1 es
