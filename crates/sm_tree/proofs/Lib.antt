@@ -1,1 +1,3 @@
 pub mod Views
+pub mod Events
+pub mod Building

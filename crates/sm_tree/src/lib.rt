@@ -3,11 +3,12 @@
 #![tactic(auto)]
 
 mod build;
+pub mod laws_of_events;
 mod refusal;
 mod text;
 mod tree;
 
-pub use build::OpenKind;
+pub use build::{OpenKind, TreeBuilder};
 pub use refusal::SyntaxRefusal;
 use std::alloc::AllocError;
 pub use text::{Bytes, Text};

@@ -1,0 +1,12 @@
+use Rattle.std.proofs.Common.{ap, ◌∙◌}
+use Rattle.std.proofs.lemmas.Result.{on_ok_weaker}
+use Rattle.sm_tree.specs.Building.{so_far}
+use Rattle.sm_tree.specs.BuilderView.{building_of}
+use Rattle.sm_tree.proofs.Building.{end_list_taken}
+use Rattle.sm_tree.proofs.build.TreeBuilder.end_list.Goals as goal
+
+pub returns-clause-taken : goal.returns-clause-taken
+returns-clause-taken c =
+    on_ok_weaker c.end.result
+    (λ ended. ap so_far ended ∙ end_list_taken (building_of c.args.self.now) c.requires)
+    c.end.ensures

@@ -1,0 +1,368 @@
+// What makes a tree from its events, one call an event. The readers of JSON and CBOR stand on it.
+// Contracts see a builder as specs/Building.antt says.
+ghost use Rattle.std.specs.Prelude.{◌≡◌, ◌++◌, ◌∷◌, [], List, OnOk, true, false, Some, None};
+ghost use Rattle.sm_tree.specs.View.{node_of};
+ghost use Rattle.sm_tree.specs.Events.{events, start_list as list_starts, start_object as object_starts, end_list as list_ends, end_object as object_ends, key_event};
+ghost use Rattle.sm_tree.specs.Building.{nothing, whole, within, in_list, in_object, so_far, kinds, awaits_value, inner_awaits, goes_on, first_kind, IsIn};
+ghost use Rattle.sm_tree.specs.BuilderSteps.{with_tree, ended, put_around, back_inside, after_value, after_start, after_end, after_key};
+ghost use Rattle.sm_tree.specs.BuilderView.{inner_of, around_of, open_of, building_of};
+
+use crate::NoMemory;
+use crate::text::Text;
+use crate::tree::{Items, Pairs, Tree};
+use std::alloc::Global;
+use std::mem;
+
+/// What is open at a place of a tree.
+#[derive(Debug, Clone, Copy, PartialEq, Eq, Drop)]
+pub enum OpenKind {
+    /// An array.
+    List,
+    /// An object of JSON or a map of CBOR.
+    Object,
+}
+
+/// Makes a tree from its events, which come one call each and in order. The builder never judges: a
+/// caller sees to it that each event has its place. After `NoMemory` a builder is of no use.
+#[derive(Drop)]
+pub struct TreeBuilder {
+    state: State,
+    alloc: Global,
+}
+
+#[derive(Drop)]
+enum State {
+    /// No event has come.
+    Empty,
+    /// The last event has come.
+    Whole(Tree),
+    Within(Open),
+}
+
+/// A list or an object that is open, and what is around it, the outermost first.
+#[derive(Drop)]
+struct Open {
+    inner: Inner,
+    outer: Vec<Around>,
+}
+
+/// The innermost list or object.
+#[derive(Drop)]
+enum Inner {
+    List(Vec<Tree>),
+    /// The pairs so far, and the name whose tree is to come.
+    Object(Vec<(Text, Tree)>, Option<Text>),
+}
+
+/// A list or an object around it. What is open becomes its next entry, or the tree of the name.
+#[derive(Drop)]
+enum Around {
+    List(Vec<Tree>),
+    Object(Vec<(Text, Tree)>, Text),
+}
+
+impl Inner {
+    // Appends a tree: an entry, or the tree of the name that awaits one.
+    fn put(&mut self, tree: Tree) -> Result<(), NoMemory>
+        requires { inner_awaits (inner_of self.old) ≡ true }
+        ensures { OnOk result (inner_of self.new ≡ with_tree (node_of tree) (inner_of self.old)) }
+    {
+        match self {
+            Inner::List(items) => match items.push(tree) {
+                Ok(()) => Ok(()),
+                Err(_) => Err(NoMemory),
+            },
+            Inner::Object(pairs, pending) => match pending.take() {
+                Some(name) => match pairs.push((name, tree)) {
+                    Ok(()) => Ok(()),
+                    Err(_) => Err(NoMemory),
+                },
+                None => unreachable!(),
+            },
+        }
+    }
+
+    // The tree of what ends.
+    fn into_tree(self) -> Tree
+        ensures { node_of result ≡ ended (inner_of self) }
+    {
+        match self {
+            Inner::List(items) => Tree::List(Items::new(items)),
+            Inner::Object(pairs, _) => Tree::Object(Pairs::new(pairs)),
+        }
+    }
+
+    // What stands around the list or object that opens in it.
+    fn into_around(self) -> Around
+        requires { inner_awaits (inner_of self) ≡ true }
+        ensures { around_of result ≡ put_around (inner_of self) }
+    {
+        match self {
+            Inner::List(items) => Around::List(items),
+            Inner::Object(pairs, pending) => match pending {
+                Some(name) => Around::Object(pairs, name),
+                None => unreachable!(),
+            },
+        }
+    }
+}
+
+impl Around {
+    // The innermost again, where what was open in it ends.
+    fn into_inner(self) -> Inner
+        ensures { inner_of result ≡ back_inside (around_of self) }
+    {
+        match self {
+            Around::List(items) => Inner::List(items),
+            Around::Object(pairs, name) => Inner::Object(pairs, Some(name)),
+        }
+    }
+}
+
+impl Open {
+    // Opens a list or an object in the innermost.
+    fn start(&mut self, inner: Inner) -> Result<(), NoMemory>
+        requires { awaits_value (open_of self.old) ≡ true }
+        ensures { OnOk result (open_of self.new ≡ after_start (inner_of inner) (open_of self.old)) }
+    {
+        let around = mem::replace(&mut self.inner, inner).into_around();
+        match self.outer.push(around) {
+            Ok(()) => Ok(()),
+            Err(_) => Err(NoMemory),
+        }
+    }
+}
+
+impl TreeBuilder {
+    /// A builder that awaits the first event. It takes no memory yet.
+    pub fn new(alloc: Global) -> Self
+        ensures taken { so_far (building_of result) ≡ [] }
+        ensures kinds { kinds (building_of result) ≡ [] }
+        ensures awaits { awaits_value (building_of result) ≡ true }
+    {
+        TreeBuilder {
+            state: State::Empty,
+            alloc,
+        }
+    }
+
+    // Opens a list or an object where a tree may come.
+    fn start(&mut self, inner: Inner) -> Result<(), NoMemory>
+        requires { awaits_value (building_of self.old) ≡ true }
+        ensures { OnOk result (building_of self.new ≡ after_start (inner_of inner) (building_of self.old)) }
+    {
+        match &mut self.state {
+            State::Empty => {
+                let outer = Vec::new(self.alloc);
+                self.state = State::Within(Open { inner, outer });
+                Ok(())
+            }
+            State::Within(open) => open.start(inner),
+            State::Whole(_) => unreachable!(),
+        }
+    }
+
+    // Ends the innermost list or object, and gives it to what is around it.
+    fn end(&mut self) -> Result<(), NoMemory>
+        ensures { OnOk result (building_of self.new ≡ after_end (building_of self.old)) }
+    {
+        match &mut self.state {
+            State::Within(open) => match open.outer.pop() {
+                Some(around) => {
+                    let inner = mem::replace(&mut open.inner, around.into_inner());
+                    open.inner.put(inner.into_tree())
+                }
+                None => {
+                    let inner = mem::replace(&mut open.inner, Inner::List(Vec::new(self.alloc)));
+                    self.state = State::Whole(inner.into_tree());
+                    Ok(())
+                }
+            },
+            State::Empty | State::Whole(_) => Ok(()),
+        }
+    }
+
+    /// The kind of what is open innermost. No memory.
+    pub fn innermost(&self) -> Option<OpenKind>
+        ensures { result ≡ first_kind (kinds (building_of self.now)) }
+    {
+        match &self.state {
+            State::Within(open) => match &open.inner {
+                Inner::List(_) => Some(OpenKind::List),
+                Inner::Object(_, _) => Some(OpenKind::Object),
+            },
+            State::Empty | State::Whole(_) => None,
+        }
+    }
+
+    /// Takes all events of a tree, or the one of a leaf. `NoMemory` where the entry finds no room.
+    pub fn value(&mut self, tree: Tree) -> Result<(), NoMemory>
+        requires { awaits_value (building_of self.old) ≡ true }
+        ensures taken { OnOk result (so_far (building_of self.new) ≡ so_far (building_of self.old) ++ events (node_of tree) []) }
+        ensures kinds { OnOk result (kinds (building_of self.new) ≡ kinds (building_of self.old)) }
+        ensures awaits { OnOk result (awaits_value (building_of self.new) ≡ goes_on (kinds (building_of self.new))) }
+    {
+        match &mut self.state {
+            State::Empty => {
+                self.state = State::Whole(tree);
+                Ok(())
+            }
+            State::Within(open) => open.inner.put(tree),
+            State::Whole(_) => unreachable!(),
+        }
+    }
+
+    /// Takes the name of the next pair of the innermost object. No memory.
+    pub fn key(&mut self, name: Text)
+        requires innermost { IsIn OpenKind.Object (kinds (building_of self.old)) }
+        requires unnamed { awaits_value (building_of self.old) ≡ false }
+        ensures taken { so_far (building_of self.new) ≡ so_far (building_of self.old) ++ (key_event name ∷ []) }
+        ensures kinds { kinds (building_of self.new) ≡ kinds (building_of self.old) }
+        ensures awaits { awaits_value (building_of self.new) ≡ true }
+    {
+        match &mut self.state {
+            State::Within(open) => match &mut open.inner {
+                Inner::Object(_, pending) => *pending = Some(name),
+                Inner::List(_) => unreachable!(),
+            },
+            State::Empty | State::Whole(_) => unreachable!(),
+        }
+    }
+
+    /// Takes the opener of a list. `NoMemory` where what is open finds no room.
+    pub fn start_list(&mut self) -> Result<(), NoMemory>
+        requires { awaits_value (building_of self.old) ≡ true }
+        ensures taken { OnOk result (so_far (building_of self.new) ≡ so_far (building_of self.old) ++ (list_starts None ∷ [])) }
+        ensures kinds { OnOk result (kinds (building_of self.new) ≡ OpenKind.List ∷ kinds (building_of self.old)) }
+        ensures awaits { OnOk result (awaits_value (building_of self.new) ≡ true) }
+    {
+        self.start(Inner::List(Vec::new(self.alloc)))
+    }
+
+    /// Takes the opener of an object. `NoMemory` where what is open finds no room.
+    pub fn start_object(&mut self) -> Result<(), NoMemory>
+        requires { awaits_value (building_of self.old) ≡ true }
+        ensures taken { OnOk result (so_far (building_of self.new) ≡ so_far (building_of self.old) ++ (object_starts None ∷ [])) }
+        ensures kinds { OnOk result (kinds (building_of self.new) ≡ OpenKind.Object ∷ kinds (building_of self.old)) }
+        ensures awaits { OnOk result (awaits_value (building_of self.new) ≡ false) }
+    {
+        self.start(Inner::Object(Vec::new(self.alloc), None))
+    }
+
+    /// Takes the end of the innermost list. `NoMemory` where what is around it has no room for it.
+    pub fn end_list(&mut self) -> Result<(), NoMemory>
+        requires { IsIn OpenKind.List (kinds (building_of self.old)) }
+        ensures taken { OnOk result (so_far (building_of self.new) ≡ so_far (building_of self.old) ++ (list_ends ∷ [])) }
+        ensures kinds { OnOk result (kinds (building_of self.old) ≡ OpenKind.List ∷ kinds (building_of self.new)) }
+        ensures awaits { OnOk result (awaits_value (building_of self.new) ≡ goes_on (kinds (building_of self.new))) }
+    {
+        self.end()
+    }
+
+    /// Takes the end of the innermost object. `NoMemory` where what is around it has no room for it.
+    pub fn end_object(&mut self) -> Result<(), NoMemory>
+        requires innermost { IsIn OpenKind.Object (kinds (building_of self.old)) }
+        requires unnamed { awaits_value (building_of self.old) ≡ false }
+        ensures taken { OnOk result (so_far (building_of self.new) ≡ so_far (building_of self.old) ++ (object_ends ∷ [])) }
+        ensures kinds { OnOk result (kinds (building_of self.old) ≡ OpenKind.Object ∷ kinds (building_of self.new)) }
+        ensures awaits { OnOk result (awaits_value (building_of self.new) ≡ goes_on (kinds (building_of self.new))) }
+    {
+        self.end()
+    }
+
+    /// The tree whose events were taken. No memory.
+    pub fn finish(self) -> Tree
+        requires closed { kinds (building_of self) ≡ [] }
+        requires begun { awaits_value (building_of self) ≡ false }
+        ensures { so_far (building_of self) ≡ events (node_of result) [] }
+    {
+        match self.state {
+            State::Whole(tree) => tree,
+            State::Empty | State::Within(_) => unreachable!(),
+        }
+    }
+}
+
+#[cfg(test)]
+mod tests {
+    use super::*;
+    use std::test::Fail;
+
+    fn text(alloc: Global, text: &str) -> Result<Text, NoMemory> {
+        Text::copy(alloc, text)
+    }
+
+    // {"a":[1,[true],null],"":{"b":0},"a":[]}
+    #[test]
+    fn nested_stream_makes_its_tree(rt: HostRuntime) -> Result<(), Fail> {
+        let alloc = rt.alloc();
+        let mut builder = TreeBuilder::new(alloc);
+        builder.start_object()?;
+        builder.key(text(alloc, "a")?);
+        builder.start_list()?;
+        builder.value(Tree::Int(1))?;
+        builder.start_list()?;
+        builder.value(Tree::Bool(true))?;
+        assert_eq!(rt; builder.innermost(), Some(OpenKind::List));
+        builder.end_list()?;
+        builder.value(Tree::Null)?;
+        builder.end_list()?;
+        builder.key(text(alloc, "")?);
+        builder.start_object()?;
+        builder.key(text(alloc, "b")?);
+        builder.value(Tree::Int(0))?;
+        builder.end_object()?;
+        assert_eq!(rt; builder.innermost(), Some(OpenKind::Object));
+        builder.key(text(alloc, "a")?);
+        builder.start_list()?;
+        builder.end_list()?;
+        builder.end_object()?;
+        assert_eq!(rt; builder.innermost(), None);
+        let tree = builder.finish();
+
+        let inside = vec![in alloc; Tree::Bool(true)]?;
+        let entries = vec![in alloc; Tree::Int(1), Tree::List(Items::new(inside)), Tree::Null]?;
+        let second = vec![in alloc; (text(alloc, "b")?, Tree::Int(0))]?;
+        let pairs = vec![in alloc;
+            (text(alloc, "a")?, Tree::List(Items::new(entries))),
+            (text(alloc, "")?, Tree::Object(Pairs::new(second))),
+            (text(alloc, "a")?, Tree::List(Items::new(Vec::new(alloc)))),
+        ]?;
+        assert!(rt; tree == Tree::Object(Pairs::new(pairs)));
+        Ok(())
+    }
+
+    #[test]
+    fn thousand_lists_nest(rt: HostRuntime) -> Result<(), Fail> {
+        let alloc = rt.alloc();
+        let mut builder = TreeBuilder::new(alloc);
+        builder.start_list()?;
+        'opened: for _ in 1..1000 {
+            builder.start_list()?;
+        }
+        'ended: for _ in 0..1000 {
+            match builder.innermost() {
+                Some(OpenKind::List) => builder.end_list()?,
+                Some(OpenKind::Object) => {}
+                None => {}
+            }
+        }
+        assert_eq!(rt; builder.innermost(), None);
+        let mut tree = builder.finish();
+        for _ in 1..1000 {
+            tree = only_entry(tree);
+        }
+        assert!(rt; tree == Tree::List(Items::new(Vec::new(alloc))));
+        Ok(())
+    }
+
+    fn only_entry(tree: Tree) -> Tree {
+        match tree {
+            Tree::List(items) => match items.into_inner().pop() {
+                Some(entry) => entry,
+                None => Tree::Null,
+            },
+            other => other,
+        }
+    }
+}
