@@ -2,6 +2,26 @@
 // The readers and writers of both, and all that speaks of values, stand on it.
 #![tactic(auto)]
 
+mod refusal;
+mod text;
+mod tree;
+
+pub use refusal::SyntaxRefusal;
+use std::alloc::AllocError;
+pub use text::{Bytes, Text};
+pub use tree::{Items, Pairs, Tree};
+
 /// The allocator refused the memory that a call needs.
 #[derive(Debug, Clone, Copy, PartialEq, Eq, Drop)]
 pub struct NoMemory;
+
+impl From<AllocError> for NoMemory {
+    ghost use Rattle.std.specs.Prelude.{◌≡◌};
+    ghost use Rattle.sm_tree.specs.declared.NoMemory.{NoMemory};
+
+    ghost from_gives = { λ _ refusal. refusal ≡ record {} };
+
+    fn from(_error: AllocError) -> Self {
+        NoMemory
+    }
+}
