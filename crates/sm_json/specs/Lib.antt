@@ -1,3 +1,4 @@
 pub mod Strings
 pub mod JsonText
 pub mod Written
+pub mod NumberTail

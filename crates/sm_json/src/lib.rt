@@ -2,4 +2,6 @@
 // What reads and writes messages and model files in JSON stands on it.
 #![tactic(auto)]
 
+mod number;
+
 pub use sm_tree::NoMemory;
