@@ -1,2 +1,4 @@
 pub mod NumberParts
+pub mod NumberRuns
 pub mod NumberSteps
+pub mod Numbers

@@ -32,18 +32,30 @@ then_rest P Q u f t = let whole : u ≡ t.rest = t.parts ∙ ap (λ s. s ++ t.re
 -- a number is a minus, or none, and then what a minus may be followed by
 pub minus_then : (u : List ℕ) → IsNumber u → Then IsMinus (Then IsInt (Then IsFraction IsExponent)) u
 minus_then u n = record {
-  front = n.minus; rest = n.whole ++ (n.fraction ++ n.exponent); parts = n.parts; is_front = n.is_minus;
+  front = n.minus;
+  rest = n.whole ++ (n.fraction ++ n.exponent);
+  parts = n.parts;
+  is_front = n.is_minus;
   is_rest = record {
-    front = n.whole; rest = n.fraction ++ n.exponent; parts = refl; is_front = n.is_int;
+    front = n.whole;
+    rest = n.fraction ++ n.exponent;
+    parts = refl;
+    is_front = n.is_int;
     is_rest = record { front = n.fraction; rest = n.exponent; parts = refl; is_front = n.is_fraction; is_rest = n.is_exponent };
   };
 }
 
 pub then_minus : (u : List ℕ) → Then IsMinus (Then IsInt (Then IsFraction IsExponent)) u → IsNumber u
 then_minus u t = record {
-  minus = t.front; whole = t.is_rest.front; fraction = t.is_rest.is_rest.front; exponent = t.is_rest.is_rest.rest;
+  minus = t.front;
+  whole = t.is_rest.front;
+  fraction = t.is_rest.is_rest.front;
+  exponent = t.is_rest.is_rest.rest;
   parts = t.parts ∙ ap (λ s. t.front ++ s) (t.is_rest.parts ∙ ap (λ s. t.is_rest.front ++ s) t.is_rest.is_rest.parts);
-  is_minus = t.is_front; is_int = t.is_rest.is_front; is_fraction = t.is_rest.is_rest.is_front; is_exponent = t.is_rest.is_rest.is_rest;
+  is_minus = t.is_front;
+  is_int = t.is_rest.is_front;
+  is_fraction = t.is_rest.is_rest.is_front;
+  is_exponent = t.is_rest.is_rest.is_rest;
 }
 
 no_front : (c : ℕ) (u : List ℕ) → [] ≡ c ∷ u → ⊥

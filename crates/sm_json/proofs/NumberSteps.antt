@@ -8,6 +8,7 @@ use Rattle.sm_tree.specs.Numbers.{IsDigit, AreDigits, IsMinus, IsInt, IsDigits, 
 use Rattle.sm_json.specs.NumberTail.{IsLetter, IsNumberByte, Then, Tail, Leads, Stops, IsNext}
 use Rattle.sm_json.specs.declared.number.Phase.{Phase}
 use Rattle.sm_json.specs.declared.number.Phase.TheVariants.{Start, Minus, Zero, Whole, Point, Fraction, Exponent, ExponentSign, ExponentDigits}
+use Rattle.sm_json.proofs.NumberRuns.{digits_lead}
 use Rattle.sm_json.proofs.NumberParts.{then_split, then_none, then_more, then_front, then_rest, minus_then, then_minus, no_int, no_digits, digits_front, digits_more, int_front, fraction_front, exponent_front, exponent_more, sign_front, minus_front}
 
 -- the table
@@ -308,3 +309,14 @@ next_byte ExponentDigits c q e = last_arc (λ _. IsNumberByte c) (is_digit c) Ex
 pub next_is : (p : Phase) (c : ℕ) (r : Option Phase) → next_of p c ≡ r → IsNext p c r
 next_is p c (Some q) e = (leads_next p c q e, next_byte p c q e)
 next_is p c None e = stops_next p c e
+
+-- digits behind digits change no phase
+
+pub whole_stays : (ds : List ℕ) → AreDigits ds → Leads Whole ds Whole
+whole_stays ds h = digits_lead Whole ds (λ c d. leads_next Whole c Whole (cond-true (is_digit c) (Some Whole) (after_zero c) (digit_test c d))) h
+
+pub fraction_stays : (ds : List ℕ) → AreDigits ds → Leads Fraction ds Fraction
+fraction_stays ds h = digits_lead Fraction ds (λ c d. leads_next Fraction c Fraction (cond-true (is_digit c) (Some Fraction) (cond (is_letter c) (Some Exponent) None) (digit_test c d))) h
+
+pub exponent_stays : (ds : List ℕ) → AreDigits ds → Leads ExponentDigits ds ExponentDigits
+exponent_stays ds h = digits_lead ExponentDigits ds (λ c d. leads_next ExponentDigits c ExponentDigits (cond-true (is_digit c) (Some ExponentDigits) None (digit_test c d))) h

@@ -54,3 +54,15 @@ Stops p c = (u : List ℕ) → Tail p (c ∷ u) → ⊥
 abbrev pub IsNext : Phase → ℕ → Option Phase → Type 0
 IsNext p c (Some q) = Leads p (c ∷ []) q × IsNumberByte c
 IsNext p c None = Stops p c
+
+-- the phases in which one more digit changes nothing
+abbrev pub TakesDigits : Phase → Type 0
+TakesDigits Start = ⊥
+TakesDigits Minus = ⊥
+TakesDigits Zero = ⊥
+TakesDigits Whole = Unit {0}
+TakesDigits Point = ⊥
+TakesDigits Fraction = Unit {0}
+TakesDigits Exponent = ⊥
+TakesDigits ExponentSign = ⊥
+TakesDigits ExponentDigits = Unit {0}
