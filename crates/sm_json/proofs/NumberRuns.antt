@@ -1,13 +1,12 @@
 -- Runs of bytes that go on with a number: one after another, and of digits alone. The reader of numbers
 -- stands on it.
-use Rattle.std.proofs.Common.{◌≡◌, ℕ, ◌+◌, ◌-◌, ◌≤◌, ◌<◌, List, [], ◌∷◌, ◌++◌, length, get_or, take, drop, refl, sym, ap, subst, ◌∙◌, append_assoc, inl, arith}
+use Rattle.std.proofs.Common.{◌≡◌, ℕ, ◌+◌, ◌-◌, ◌≤◌, ◌<◌, List, [], ◌∷◌, ◌++◌, length, get_or, take, drop, sym, ap, subst, ◌∙◌, append_assoc, inl, arith}
 use Rattle.std.proofs.Math.Seq.{take-add}
 use Rattle.std.proofs.lemmas.List.{take-take}
 use Rattle.std.proofs.lemmas.Grind.{common_steps}
 use Rattle.sm_tree.specs.Numbers.{IsDigit, AreDigits}
 use Rattle.sm_json.specs.NumberTail.{IsNumberByte, AreNumberBytes, Tail, Leads}
 use Rattle.sm_json.specs.declared.number.Phase.{Phase}
-use Rattle.sm_json.specs.declared.number.Phase.TheVariants.{Whole, Fraction, ExponentDigits}
 
 pub digits_joined : (xs ys : List ℕ) → AreDigits xs → AreDigits ys → AreDigits (xs ++ ys)
 digits_joined [] ys h k = k

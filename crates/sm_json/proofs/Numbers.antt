@@ -1,6 +1,6 @@
 -- Laws of number texts (RFC 8259, section 6): each stands for one tree, and what bytes it has. The reader
 -- of JSON stands on them.
-use Rattle.std.proofs.Common.{◌≡◌, ℕ, ◌+◌, ◌^◌, ◌≤◌, ◌<◌, ◌⊎◌, inl, inr, ℤ, Bool, true, false, List, [], ◌∷◌, ◌++◌, length, take, refl, sym, ap, subst, ◌∙◌, arith}
+use Rattle.std.proofs.Common.{◌≡◌, ℕ, ◌^◌, ◌≤◌, ◌<◌, ◌⊎◌, inl, inr, ℤ, true, false, List, [], ◌∷◌, ◌++◌, length, take, refl, sym, ap, subst, ◌∙◌, arith}
 use Rattle.std.specs.Prelude.{IsUtf8}
 use Rattle.std.specs.List.{All}
 use Rattle.std.proofs.lemmas.List.{append-nil, take_all}
@@ -9,14 +9,14 @@ use Rattle.std.proofs.lemmas.Str.Ascii.{IsAscii-from_all}
 use Rattle.std.proofs.lemmas.List.Elements.{All-nil, All-cons}
 use Rattle.std.proofs.lemmas.Bool.Decides.{leb_tells}
 use Rattle.std.specs.Char.{digit_value}
-use Rattle.std.specs.Str.Parse.{AllDigits, IsNumeral, signed_digits_value, without_leading_sign}
+use Rattle.std.specs.Str.Parse.{AllDigits, signed_digits_value, without_leading_sign}
 use lib.Dec.{leb}
 use mir.Syntax.{w64}
 use Rattle.std.specs.Int.Signed.{mag}
-use mir.Val.{SFits, hbits}
-use Rattle.sm_tree.specs.Node.{Node, Nodes, Members, null, bool, int, number, text, bytes, tag, opaque, list, object}
-use Rattle.sm_tree.specs.Numbers.{IsDigit, AreDigits, IsMinus, IsInt, IsDigits, IsFraction, IsSign, IsExponent, IsNumber, IsWord, NumberText}
-use Rattle.sm_json.specs.NumberTail.{IsLetter, IsNumberByte, AreNumberBytes, IsNumberStart, Then, Tail, Leads}
+use mir.Val.{hbits}
+use Rattle.sm_tree.specs.Node.{Node, null, bool, int, number, text, bytes, tag, opaque, list, object}
+use Rattle.sm_tree.specs.Numbers.{AreDigits, IsMinus, IsInt, IsFraction, IsExponent, IsNumber, IsWord, NumberText}
+use Rattle.sm_json.specs.NumberTail.{IsNumberByte, AreNumberBytes, IsNumberStart, Then, Tail, Leads}
 use Rattle.sm_json.specs.declared.number.Phase.{Phase}
 use Rattle.sm_json.specs.declared.number.Phase.TheVariants.{Start, Minus, Zero, Whole, Point, Fraction, Exponent, ExponentSign, ExponentDigits}
 use Rattle.sm_json.proofs.NumberParts.{then_none}
