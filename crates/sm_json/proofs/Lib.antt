@@ -6,3 +6,7 @@ pub mod Between
 pub mod After
 pub mod Within
 pub mod Whole
+pub mod NumberParts
+pub mod NumberRuns
+pub mod NumberSteps
+pub mod Numbers

@@ -6,9 +6,9 @@ pub mod Json
 pub mod Events
 pub mod View
 <<<<<<< HEAD
-=======
 pub mod Building
 pub mod BuilderSteps
 pub mod BuilderView
 pub mod EventLaws
->>>>>>> 308887283c78c1af27419ce4e2d163e2cfea6b17
+=======
+>>>>>>> e0cd6e2a1420ae039965ddacd88824d6fccf5a2f
