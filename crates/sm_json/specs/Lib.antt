@@ -2,5 +2,10 @@ pub mod Strings
 pub mod JsonText
 pub mod Written
 pub mod TextRest
+pub mod TextSteps
+pub mod Runs
+pub mod Utf8Bytes
+pub mod Reading
 pub mod NumberTail
 pub mod Rest
+pub mod Machine

@@ -38,3 +38,16 @@ pub enum Spot {
     Plain,
     Inside(Part),
 }
+
+/// What a byte makes of a place within a string.
+#[derive(Clone, Copy)]
+pub enum Step {
+    /// A character goes on.
+    Within(Part),
+    /// A character is whole.
+    Whole(char),
+    /// The string has ended.
+    Closed,
+    /// No string goes on with this byte.
+    Refused,
+}

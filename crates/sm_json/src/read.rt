@@ -1,0 +1,191 @@
+// The reader of JSON texts (RFC 8259): a machine over bytes. It stands at one place of the text, hands each
+// event on as soon as its bytes are complete, and never looks back. Trees are made from the events.
+ghost use Rattle.std.specs.Prelude.{◌≡◌, ◌<◌, ◌≤◌, ◌+◌, length, OnOk, take};
+ghost use Rattle.sm_json.specs.Machine.{IsSound, TakesByte, Goes, AllWhite};
+
+use crate::number::{Phase, number_run, number_tree};
+use crate::place::{Literal, Place, Role};
+use crate::text::{Reading, TextReader, TextRefusal};
+use sm_tree::{NoMemory, OpenKind, SyntaxRefusal, Tree, TreeBuilder};
+use std::alloc::Global;
+
+/// The greatest number of lists and objects that may be open at one place of a text.
+const MOST_LEVELS: usize = 100;
+
+/// Reads one JSON text.
+#[derive(Drop)]
+pub struct Reader {
+    /// Where the reader stands.
+    place: Place,
+    /// Takes the events. What is open around the place is what is open in it.
+    builder: TreeBuilder,
+    /// How many lists and objects are open.
+    depth: usize,
+    /// The number that has begun, if the place is in one.
+    number: Vec<u8>,
+    /// The string that has begun, if the place is in one.
+    text: TextReader,
+    alloc: Global,
+}
+
+fn is_white(byte: u8) -> bool {
+    matches!(byte, b' ' | b'\t' | b'\n' | b'\r')
+}
+
+// How many bytes at the front are white space.
+fn white_run(bytes: &[u8]) -> usize {
+    for (at, byte) in bytes.iter().enumerate() {
+        if !is_white(*byte) {
+            return at;
+        }
+    }
+    bytes.len()
+}
+
+impl Literal {
+    // The letters of the name.
+    fn letters(self) -> &'static [u8] {
+        match self {
+            Literal::Null => b"null",
+            Literal::True => b"true",
+            Literal::False => b"false",
+        }
+    }
+
+    fn tree(self) -> Tree {
+        match self {
+            Literal::Null => Tree::Null,
+            Literal::True => Tree::Bool(true),
+            Literal::False => Tree::Bool(false),
+        }
+    }
+}
+
+impl Reader {
+    fn new(alloc: Global) -> Self {
+        Reader {
+            place: Place::Value,
+            builder: TreeBuilder::new(alloc),
+            depth: 0,
+            number: Vec::new(alloc),
+            text: TextReader::new(alloc),
+            alloc,
+        }
+    }
+
+    // A bracket where a value may come.
+    fn open_list(&mut self) -> Result<(), SyntaxRefusal> {
+        if self.depth >= MOST_LEVELS {
+            return Err(SyntaxRefusal::TooDeep(0));
+        }
+        self.builder.start_list()?;
+        self.depth += 1;
+        self.place = Place::FirstEntry;
+        Ok(())
+    }
+
+    fn open_object(&mut self) -> Result<(), SyntaxRefusal> {
+        if self.depth >= MOST_LEVELS {
+            return Err(SyntaxRefusal::TooDeep(0));
+        }
+        self.builder.start_object()?;
+        self.depth += 1;
+        self.place = Place::FirstKey;
+        Ok(())
+    }
+
+    fn close_list(&mut self) -> Result<(), SyntaxRefusal> {
+        self.builder.end_list()?;
+        self.depth -= 1;
+        self.place = Place::After;
+        Ok(())
+    }
+
+    fn close_object(&mut self) -> Result<(), SyntaxRefusal> {
+        self.builder.end_object()?;
+        self.depth -= 1;
+        self.place = Place::After;
+        Ok(())
+    }
+
+    fn begin_word(&mut self, word: Literal) {
+        self.place = Place::Word(word, 1);
+    }
+
+    fn begin_text(&mut self, role: Role) {
+        self.text.start();
+        self.place = Place::Text(role);
+    }
+
+    fn begin_number(&mut self, byte: u8, phase: Phase) -> Result<(), NoMemory> {
+        self.number.clear();
+        self.number.push(byte)?;
+        self.place = Place::Number(phase);
+        Ok(())
+    }
+
+    // A byte where a value must come.
+    fn value(&mut self, byte: u8) -> Result<(), SyntaxRefusal> {
+        match byte {
+            b'"' => self.begin_text(Role::Value),
+            b'[' => self.open_list()?,
+            b'{' => self.open_object()?,
+            b'n' => self.begin_word(Literal::Null),
+            b't' => self.begin_word(Literal::True),
+            b'f' => self.begin_word(Literal::False),
+            _ => match Phase::Start.next(byte) {
+                Some(phase) => self.begin_number(byte, phase)?,
+                None => return Err(SyntaxRefusal::Bad(0)),
+            },
+        }
+        Ok(())
+    }
+
+    fn first_entry(&mut self, byte: u8) -> Result<(), SyntaxRefusal> {
+        if byte == b']' { self.close_list() } else { self.value(byte) }
+    }
+
+    fn next_key(&mut self, byte: u8) -> Result<(), SyntaxRefusal> {
+        if byte == b'"' {
+            self.begin_text(Role::Key);
+            Ok(())
+        } else {
+            Err(SyntaxRefusal::Bad(0))
+        }
+    }
+
+    fn first_key(&mut self, byte: u8) -> Result<(), SyntaxRefusal> {
+        if byte == b'}' { self.close_object() } else { self.next_key(byte) }
+    }
+
+    fn colon(&mut self, byte: u8) -> Result<(), SyntaxRefusal> {
+        if byte == b':' {
+            self.place = Place::Value;
+            Ok(())
+        } else {
+            Err(SyntaxRefusal::Bad(0))
+        }
+    }
+
+    // A byte that isn't white behind a value.
+    fn after(&mut self, byte: u8) -> Result<(), SyntaxRefusal> {
+        match (self.builder.innermost(), byte) {
+            (Some(OpenKind::List), b',') => {
+                self.place = Place::Value;
+                Ok(())
+            }
+            (Some(OpenKind::List), b']') => self.close_list(),
+            (Some(OpenKind::Object), b',') => {
+                self.place = Place::NextKey;
+                Ok(())
+            }
+            (Some(OpenKind::Object), b'}') => self.close_object(),
+            _ => Err(SyntaxRefusal::Bad(0)),
+        }
+    }
+}
+
+/// The tree of a JSON text.
+pub fn read_tree(alloc: Global, bytes: &[u8]) -> Result<Tree, SyntaxRefusal> {
+    Err(SyntaxRefusal::Ended)
+}
