@@ -1,3 +1,5 @@
 pub mod Views
 pub mod Events
 pub mod Building
+mod Tokens
+mod Sameness

@@ -9,3 +9,6 @@ pub mod Building
 pub mod BuilderSteps
 pub mod BuilderView
 pub mod EventLaws
+pub mod Same
+pub mod View
+pub mod Pointer
