@@ -10,5 +10,4 @@ pub mod BuilderSteps
 pub mod BuilderView
 pub mod EventLaws
 pub mod Same
-pub mod View
 pub mod Pointer
