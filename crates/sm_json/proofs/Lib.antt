@@ -2,16 +2,6 @@ pub mod NumberParts
 pub mod NumberRuns
 pub mod NumberSteps
 pub mod Numbers
-pub mod Utf8Bytes
-pub mod Utf8Shapes
-pub mod Steps
-pub mod Units
-pub mod Escapes
-pub mod Utf8Parts
-pub mod Runs
-pub mod Live
-pub mod DigitSteps
-pub mod Texts
 pub mod Starts
 pub mod White
 pub mod Opening

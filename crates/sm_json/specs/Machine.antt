@@ -1,6 +1,6 @@
 -- What a reader stands for, what it keeps, and what its steps do. The contracts of the reader's methods cite
--- it; those of `read_tree` don't.
-use Rattle.std.specs.Prelude.{◌≡◌, ℕ, ◌+◌, ◌≤◌, ◌<◌, Bool, true, false, List, [], ◌∷◌, ◌++◌, take, drop, length, Result, Ok, Err, slice_index}
+-- it; that of `read_tree` doesn't.
+use Rattle.std.specs.Prelude.{◌≡◌, ℕ, ◌+◌, ◌≤◌, ◌<◌, Bool, true, false, List, [], ◌∷◌, ◌++◌, take, drop, length, Result, Ok, Err, slice_index, OnOk}
 use Rattle.sm_tree.specs.Events.{NodeEvent}
 use Rattle.sm_tree.specs.Building.{so_far, kinds, awaits_value, goes_on, IsIn}
 use Rattle.sm_tree.specs.BuilderView.{building_of}
@@ -17,8 +17,16 @@ use Rattle.sm_json.specs.declared.number.Phase.TheVariants.{Start}
 use Rattle.sm_json.specs.declared.spot.Spot.{Spot}
 use Rattle.sm_json.specs.declared.place.Place.{Place}
 use Rattle.sm_json.specs.declared.place.Place.TheVariants.{Value, FirstEntry, FirstKey, NextKey, Colon, After, Word, Number, Text}
+use Rattle.sm_json.specs.declared.place.Literal.{Literal}
+use Rattle.sm_json.specs.declared.place.Literal.TheVariants.{Null, True, False}
+use Rattle.sm_json.specs.declared.place.Role.{Role}
 use Rattle.sm_json.specs.declared.place.Role.TheVariants.{Key, Value as Whole}
 use Rattle.sm_json.specs.declared.read.Reader.{Reader}
+
+-- white space and nothing else
+abbrev pub AllWhite : List ℕ → Type 0
+AllWhite [] = Unit {0}
+AllWhite (c ∷ cs) = (is_white c ≡ true) × AllWhite cs
 
 -- the greatest number of levels that is read
 abbrev pub most_levels : ℕ
@@ -36,6 +44,7 @@ where_of (Word w taken) b spot t = word w taken
 where_of (Number phase) b spot t = numeral b
 where_of (Text role) b spot t = in_text role spot t
 
+-- what is open around the reader's place
 abbrev pub lists_of : Reader → List OpenKind
 lists_of r = kinds (building_of r.builder)
 
@@ -81,7 +90,26 @@ TakesByte before c behind (Err Ended) = ⊥
 TakesByte before c behind (Err (TooDeep at)) = (at ≡ 0) × Stops most_levels (state_of before) c
 TakesByte before c behind (Err (KeyKind at)) = ⊥
 
--- white space and nothing else
-abbrev pub AllWhite : List ℕ → Type 0
-AllWhite [] = Unit {0}
-AllWhite (c ∷ cs) = (is_white c ≡ true) × AllWhite cs
+-- a list or an object has ended with the event e, and the reader stands behind it
+pub record HasClosed (before : Reader) (k : OpenKind) (e : NodeEvent) (behind : Reader) : Type 0 where
+  pub lists : lists_of before ≡ k ∷ lists_of behind
+  pub taken : handed_on behind ≡ handed_on before ++ e ∷ []
+  pub place : behind.place ≡ After
+  pub sound : IsSound behind
+
+-- nothing has come: the state and the events are as they were
+pub record Stays (before behind : Reader) : Type 0 where
+  pub lists : lists_of behind ≡ lists_of before
+  pub taken : handed_on behind ≡ handed_on before
+  pub depth : behind.depth ≡ before.depth
+
+-- the first letter of a literal name
+abbrev pub first_letter : Literal → ℕ
+first_letter Null = 110
+first_letter True = 116
+first_letter False = 102
+
+-- the places where a string of this role may begin
+abbrev pub BeginsText : Role → Place → Type 0
+BeginsText Key p = p ≡ NextKey
+BeginsText Whole p = p ≡ Value

@@ -1,7 +1,14 @@
 // The reader of JSON texts (RFC 8259): a machine over bytes. It stands at one place of the text, hands each
 // event on as soon as its bytes are complete, and never looks back. Trees are made from the events.
-ghost use Rattle.std.specs.Prelude.{◌≡◌, ◌<◌, ◌≤◌, ◌+◌, length, OnOk, take};
-ghost use Rattle.sm_json.specs.Machine.{IsSound, TakesByte, Goes, AllWhite};
+ghost use Rattle.std.specs.Prelude.{◌≡◌, ◌<◌, ◌≤◌, ◌+◌, length, OnOk, OnErr, take, false, true, [], ◌∷◌, ◌++◌};
+ghost use Rattle.sm_tree.specs.View.{node_of};
+ghost use Rattle.sm_tree.specs.Events.{end_list as list_ends, end_object as object_ends};
+ghost use Rattle.sm_tree.specs.Building.{IsIn, awaits_value};
+ghost use Rattle.sm_tree.specs.BuilderView.{building_of};
+ghost use Rattle.sm_json.specs.Strings.{is_white as white};
+ghost use Rattle.sm_json.specs.NumberTail.{Leads as NumberLeads, IsNumberByte};
+ghost use Rattle.sm_json.specs.Rest.{letters, literal_node, start};
+ghost use Rattle.sm_json.specs.Machine.{AllWhite};
 
 use crate::number::{Phase, number_run, number_tree};
 use crate::place::{Literal, Place, Role};
@@ -28,12 +35,17 @@ pub struct Reader {
     alloc: Global,
 }
 
-fn is_white(byte: u8) -> bool {
+fn is_white(byte: u8) -> bool
+    ensures { result ≡ white byte }
+{
     matches!(byte, b' ' | b'\t' | b'\n' | b'\r')
 }
 
 // How many bytes at the front are white space.
-fn white_run(bytes: &[u8]) -> usize {
+fn white_run(bytes: &[u8]) -> usize
+    ensures within { result ≤ length bytes.now }
+    ensures white { AllWhite (take result bytes.now) }
+{
     for (at, byte) in bytes.iter().enumerate() {
         if !is_white(*byte) {
             return at;
@@ -44,7 +56,9 @@ fn white_run(bytes: &[u8]) -> usize {
 
 impl Literal {
     // The letters of the name.
-    fn letters(self) -> &'static [u8] {
+    fn letters(self) -> &'static [u8]
+        ensures { result.now ≡ letters self }
+    {
         match self {
             Literal::Null => b"null",
             Literal::True => b"true",
@@ -52,7 +66,9 @@ impl Literal {
         }
     }
 
-    fn tree(self) -> Tree {
+    fn tree(self) -> Tree
+        ensures { node_of result ≡ literal_node self }
+    {
         match self {
             Literal::Null => Tree::Null,
             Literal::True => Tree::Bool(true),
@@ -62,7 +78,13 @@ impl Literal {
 }
 
 impl Reader {
-    fn new(alloc: Global) -> Self {
+    ghost use Rattle.sm_json.specs.Machine.{IsSound, TakesByte, Goes, HasClosed, BeginsText, state_of, lists_of, handed_on, first_letter};
+
+    fn new(alloc: Global) -> Self
+        ensures state { state_of result ≡ start }
+        ensures nothing { handed_on result ≡ [] }
+        ensures sound { IsSound result }
+    {
         Reader {
             place: Place::Value,
             builder: TreeBuilder::new(alloc),
@@ -74,7 +96,11 @@ impl Reader {
     }
 
     // A bracket where a value may come.
-    fn open_list(&mut self) -> Result<(), SyntaxRefusal> {
+    fn open_list(&mut self) -> Result<(), SyntaxRefusal>
+        requires sound { IsSound self.old }
+        requires place { self.old.place ≡ Place.Value }
+        ensures { TakesByte self.old 91 self.new result }
+    {
         if self.depth >= MOST_LEVELS {
             return Err(SyntaxRefusal::TooDeep(0));
         }
@@ -84,7 +110,11 @@ impl Reader {
         Ok(())
     }
 
-    fn open_object(&mut self) -> Result<(), SyntaxRefusal> {
+    fn open_object(&mut self) -> Result<(), SyntaxRefusal>
+        requires sound { IsSound self.old }
+        requires place { self.old.place ≡ Place.Value }
+        ensures { TakesByte self.old 123 self.new result }
+    {
         if self.depth >= MOST_LEVELS {
             return Err(SyntaxRefusal::TooDeep(0));
         }
@@ -94,30 +124,55 @@ impl Reader {
         Ok(())
     }
 
-    fn close_list(&mut self) -> Result<(), SyntaxRefusal> {
+    fn close_list(&mut self) -> Result<(), SyntaxRefusal>
+        requires sound { IsSound self.old }
+        requires inside { IsIn OpenKind.List (lists_of self.old) }
+        ensures closed { OnOk result (HasClosed self.old OpenKind.List list_ends self.new) }
+        ensures err { OnErr result (result ≡ Err SyntaxRefusal.NoMemory) }
+    {
         self.builder.end_list()?;
         self.depth -= 1;
         self.place = Place::After;
         Ok(())
     }
 
-    fn close_object(&mut self) -> Result<(), SyntaxRefusal> {
+    fn close_object(&mut self) -> Result<(), SyntaxRefusal>
+        requires sound { IsSound self.old }
+        requires inside { IsIn OpenKind.Object (lists_of self.old) }
+        requires unnamed { awaits_value (building_of self.old.builder) ≡ false }
+        ensures closed { OnOk result (HasClosed self.old OpenKind.Object object_ends self.new) }
+        ensures err { OnErr result (result ≡ Err SyntaxRefusal.NoMemory) }
+    {
         self.builder.end_object()?;
         self.depth -= 1;
         self.place = Place::After;
         Ok(())
     }
 
-    fn begin_word(&mut self, word: Literal) {
+    fn begin_word(&mut self, word: Literal)
+        requires sound { IsSound self.old }
+        requires place { self.old.place ≡ Place.Value }
+        ensures { Goes self.old (first_letter word ∷ []) self.new }
+    {
         self.place = Place::Word(word, 1);
     }
 
-    fn begin_text(&mut self, role: Role) {
+    fn begin_text(&mut self, role: Role)
+        requires sound { IsSound self.old }
+        requires place { BeginsText role self.old.place }
+        ensures { Goes self.old (34 ∷ []) self.new }
+    {
         self.text.start();
         self.place = Place::Text(role);
     }
 
-    fn begin_number(&mut self, byte: u8, phase: Phase) -> Result<(), NoMemory> {
+    fn begin_number(&mut self, byte: u8, phase: Phase) -> Result<(), NoMemory>
+        requires sound { IsSound self.old }
+        requires place { self.old.place ≡ Place.Value }
+        requires begins { NumberLeads Phase.Start (byte ∷ []) phase }
+        requires starts { IsNumberByte byte }
+        ensures { OnOk result (Goes self.old (byte ∷ []) self.new) }
+    {
         self.number.clear();
         self.number.push(byte)?;
         self.place = Place::Number(phase);
@@ -125,7 +180,12 @@ impl Reader {
     }
 
     // A byte where a value must come.
-    fn value(&mut self, byte: u8) -> Result<(), SyntaxRefusal> {
+    fn value(&mut self, byte: u8) -> Result<(), SyntaxRefusal>
+        requires sound { IsSound self.old }
+        requires place { self.old.place ≡ Place.Value }
+        requires black { white byte ≡ false }
+        ensures { TakesByte self.old byte self.new result }
+    {
         match byte {
             b'"' => self.begin_text(Role::Value),
             b'[' => self.open_list()?,
@@ -141,11 +201,21 @@ impl Reader {
         Ok(())
     }
 
-    fn first_entry(&mut self, byte: u8) -> Result<(), SyntaxRefusal> {
+    fn first_entry(&mut self, byte: u8) -> Result<(), SyntaxRefusal>
+        requires sound { IsSound self.old }
+        requires place { self.old.place ≡ Place.FirstEntry }
+        requires black { white byte ≡ false }
+        ensures { TakesByte self.old byte self.new result }
+    {
         if byte == b']' { self.close_list() } else { self.value(byte) }
     }
 
-    fn next_key(&mut self, byte: u8) -> Result<(), SyntaxRefusal> {
+    fn next_key(&mut self, byte: u8) -> Result<(), SyntaxRefusal>
+        requires sound { IsSound self.old }
+        requires place { self.old.place ≡ Place.NextKey }
+        requires black { white byte ≡ false }
+        ensures { TakesByte self.old byte self.new result }
+    {
         if byte == b'"' {
             self.begin_text(Role::Key);
             Ok(())
@@ -154,11 +224,21 @@ impl Reader {
         }
     }
 
-    fn first_key(&mut self, byte: u8) -> Result<(), SyntaxRefusal> {
+    fn first_key(&mut self, byte: u8) -> Result<(), SyntaxRefusal>
+        requires sound { IsSound self.old }
+        requires place { self.old.place ≡ Place.FirstKey }
+        requires black { white byte ≡ false }
+        ensures { TakesByte self.old byte self.new result }
+    {
         if byte == b'}' { self.close_object() } else { self.next_key(byte) }
     }
 
-    fn colon(&mut self, byte: u8) -> Result<(), SyntaxRefusal> {
+    fn colon(&mut self, byte: u8) -> Result<(), SyntaxRefusal>
+        requires sound { IsSound self.old }
+        requires place { self.old.place ≡ Place.Colon }
+        requires black { white byte ≡ false }
+        ensures { TakesByte self.old byte self.new result }
+    {
         if byte == b':' {
             self.place = Place::Value;
             Ok(())
@@ -168,7 +248,12 @@ impl Reader {
     }
 
     // A byte that isn't white behind a value.
-    fn after(&mut self, byte: u8) -> Result<(), SyntaxRefusal> {
+    fn after(&mut self, byte: u8) -> Result<(), SyntaxRefusal>
+        requires sound { IsSound self.old }
+        requires place { self.old.place ≡ Place.After }
+        requires black { white byte ≡ false }
+        ensures { TakesByte self.old byte self.new result }
+    {
         match (self.builder.innermost(), byte) {
             (Some(OpenKind::List), b',') => {
                 self.place = Place::Value;
