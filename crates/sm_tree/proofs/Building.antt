@@ -1,10 +1,9 @@
 -- What each call of a builder adds to the events that it has taken, over the data of Building alone.
-use Rattle.std.proofs.Common.{◌≡◌, ℕ, map, Bool, true, false, List, [], ◌∷◌, ◌++◌, refl, ap, sym, ◌∙◌, append_assoc, append-nil, Option, None, Some}
-use Rattle.sm_tree.specs.Node.{Node, Nodes, Members, list, object, nodes_of, members_of}
+use Rattle.std.proofs.Common.{◌≡◌, ℕ, true, false, List, [], ◌∷◌, ◌++◌, refl, ap, sym, ◌∙◌, append_assoc, append-nil, None, Some}
+use Rattle.sm_tree.specs.Node.{Node, nodes_of, members_of}
 use Rattle.sm_tree.specs.Events.{NodeEvent, start_list, start_object, end_list, end_object, key_event, events, entries_events, pairs_events}
-use Rattle.sm_tree.specs.Building.{Inner, in_list, in_object, Around, around_list, around_object, Building, nothing, whole, within, each_events, each_pair_events, name_events, inner_events, around_events, outer_events, so_far, inner_kind, around_kind, kinds, inner_awaits, awaits_value, goes_on, IsIn}
-use Rattle.sm_tree.specs.BuilderSteps.{with_tree, ended, put_around, back_inside, after_value, after_start, after_end, after_key}
-use Rattle.sm_tree.specs.declared.build.OpenKind.{OpenKind}
+use Rattle.sm_tree.specs.Building.{Inner, in_list, in_object, Around, around_list, around_object, Building, nothing, whole, within, each_events, each_pair_events, inner_events, around_events, outer_events, so_far, kinds, inner_awaits, awaits_value, IsIn}
+use Rattle.sm_tree.specs.BuilderSteps.{with_tree, ended, back_inside, after_value, after_end}
 use Rattle.sm_tree.specs.declared.build.OpenKind.TheVariants.{List as a_list, Object as an_object}
 use Rattle.sm_tree.proofs.Events.{events_append}
 
@@ -69,16 +68,6 @@ with_tree_events (in_object ms (Some k)) n awaits = ap (λ es. start_object None
     ∙ each_pair_events_more ms k n
     ∙ sym (append_assoc (each_pair_events ms) (key_event k ∷ []) (events n [])))
 
-pub put_around_events : (i : Inner) → inner_awaits i ≡ true → around_events (put_around i) ≡ inner_events i
-put_around_events (in_list ns) awaits = refl
-put_around_events (in_object ms None) awaits = absurd cc
-put_around_events (in_object ms (Some k)) awaits = refl
-
-pub put_around_kind : (i : Inner) → inner_awaits i ≡ true → around_kind (put_around i) ≡ inner_kind i
-put_around_kind (in_list ns) awaits = refl
-put_around_kind (in_object ms None) awaits = absurd cc
-put_around_kind (in_object ms (Some k)) awaits = refl
-
 pub back_inside_events : (a : Around) → inner_events (back_inside a) ≡ around_events a
 back_inside_events (around_list ns) = refl
 back_inside_events (around_object ms k) = refl
@@ -87,17 +76,6 @@ pub back_inside_awaits : (a : Around) → inner_awaits (back_inside a) ≡ true
 back_inside_awaits (around_list ns) = refl
 back_inside_awaits (around_object ms k) = refl
 
--- the kind stays, and a tree may follow at once in a list alone
-pub with_tree_kind : (i : Inner) (n : Node) → inner_kind (with_tree n i) ≡ inner_kind i
-with_tree_kind (in_list ns) n = refl
-with_tree_kind (in_object ms None) n = refl
-with_tree_kind (in_object ms (Some k)) n = refl
-
-pub with_tree_awaits : (i : Inner) (n : Node) (ks : List OpenKind) → inner_awaits (with_tree n i) ≡ goes_on (inner_kind (with_tree n i) ∷ ks)
-with_tree_awaits (in_list ns) n ks = refl
-with_tree_awaits (in_object ms None) n ks = refl
-with_tree_awaits (in_object ms (Some k)) n ks = refl
-
 -- a tree
 pub value_taken : (b : Building) (n : Node) → awaits_value b ≡ true → so_far (after_value n b) ≡ so_far b ++ events n []
 value_taken nothing n awaits = refl
@@ -105,34 +83,6 @@ value_taken (whole m) n awaits = absurd cc
 value_taken (within i outer) n awaits =
     ap (λ es. outer_events outer ++ es) (with_tree_events i n awaits)
     ∙ sym (append_assoc (outer_events outer) (inner_events i) (events n []))
-
-pub value_kinds : (b : Building) (n : Node) → kinds (after_value n b) ≡ kinds b
-value_kinds nothing n = refl
-value_kinds (whole m) n = refl
-value_kinds (within i outer) n = ap (λ k. k ∷ map around_kind outer) (with_tree_kind i n)
-
-pub value_awaits : (b : Building) (n : Node) → awaits_value (after_value n b) ≡ goes_on (kinds (after_value n b))
-value_awaits nothing n = refl
-value_awaits (whole m) n = refl
-value_awaits (within i outer) n = with_tree_awaits i n (map around_kind outer)
-
--- an opener
-pub start_taken : (b : Building) (i : Inner) (e : NodeEvent) → awaits_value b ≡ true → inner_events i ≡ e ∷ [] → so_far (after_start i b) ≡ so_far b ++ (e ∷ [])
-start_taken nothing i e awaits opener = opener
-start_taken (whole m) i e awaits opener = absurd cc
-start_taken (within j outer) i e awaits opener =
-    ap (λ es. outer_events outer ++ es ++ inner_events i) (put_around_events j awaits)
-    ∙ ap (λ es. outer_events outer ++ inner_events j ++ es) opener
-
-pub start_kinds : (b : Building) (i : Inner) → awaits_value b ≡ true → kinds (after_start i b) ≡ inner_kind i ∷ kinds b
-start_kinds nothing i awaits = refl
-start_kinds (whole m) i awaits = absurd cc
-start_kinds (within j outer) i awaits = ap (λ k. inner_kind i ∷ k ∷ map around_kind outer) (put_around_kind j awaits)
-
-pub start_awaits : (b : Building) (i : Inner) → awaits_value b ≡ true → awaits_value (after_start i b) ≡ inner_awaits i
-start_awaits nothing i awaits = refl
-start_awaits (whole m) i awaits = absurd cc
-start_awaits (within j outer) i awaits = refl
 
 -- the end of what is open
 pub end_taken : (i : Inner) (outer : List Around) → MayEnd i → so_far (after_end (within i outer)) ≡ so_far (within i outer) ++ (end_of i ∷ [])
@@ -144,18 +94,6 @@ end_taken i (a ∷ outer) may =
     ∙ ap (λ es. around_events a ++ es) (ended_events i may))
     ∙ sym (append_assoc (outer_events outer) (around_events a) (inner_events i ++ (end_of i ∷ [])))
     ∙ sym (append_assoc (outer_events outer ++ around_events a) (inner_events i) (end_of i ∷ []))
-
-pub back_inside_kind : (a : Around) → inner_kind (back_inside a) ≡ around_kind a
-back_inside_kind (around_list ns) = refl
-back_inside_kind (around_object ms k) = refl
-
-pub end_kinds : (i : Inner) (outer : List Around) → kinds (within i outer) ≡ inner_kind i ∷ kinds (after_end (within i outer))
-end_kinds i [] = refl
-end_kinds i (a ∷ outer) = ap (λ k. inner_kind i ∷ k ∷ map around_kind outer) (sym (with_tree_kind (back_inside a) (ended i) ∙ back_inside_kind a))
-
-pub end_awaits : (i : Inner) (outer : List Around) → awaits_value (after_end (within i outer)) ≡ goes_on (kinds (after_end (within i outer)))
-end_awaits i [] = refl
-end_awaits i (a ∷ outer) = with_tree_awaits (back_inside a) (ended i) (map around_kind outer)
 
 pub end_list_taken : (b : Building) → IsIn a_list (kinds b) → so_far (after_end b) ≡ so_far b ++ (end_list ∷ [])
 end_list_taken nothing is_in = absurd is_in

@@ -1,6 +1,6 @@
 -- What a builder's parts do at an event, by cases on what is open. The private methods of TreeBuilder
 -- cite these words; what the public calls promise is in Building.
-use Rattle.std.specs.Prelude.{ℕ, Bool, true, false, List, [], ◌∷◌, ◌++◌, Option, None, Some}
+use Rattle.std.specs.Prelude.{ℕ, List, [], ◌∷◌, ◌++◌, None, Some}
 use Rattle.sm_tree.specs.Node.{Node, list, object, nodes_of, members_of}
 use Rattle.sm_tree.specs.Building.{Inner, in_list, in_object, Around, around_list, around_object, Building, nothing, whole, within}
 
@@ -44,10 +44,3 @@ after_end nothing = nothing
 after_end (whole n) = whole n
 after_end (within inner []) = whole (ended inner)
 after_end (within inner (a ∷ outer)) = within (with_tree (ended inner) (back_inside a)) outer
-
--- behind a name
-abbrev pub after_key : List ℕ → Building → Building
-after_key k nothing = nothing
-after_key k (whole n) = whole n
-after_key k (within (in_list ns) outer) = within (in_list ns) outer
-after_key k (within (in_object ms p) outer) = within (in_object ms (Some k)) outer

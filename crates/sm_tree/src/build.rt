@@ -3,8 +3,8 @@
 ghost use Rattle.std.specs.Prelude.{◌≡◌, ◌++◌, ◌∷◌, [], List, OnOk, true, false, Some, None};
 ghost use Rattle.sm_tree.specs.View.{node_of};
 ghost use Rattle.sm_tree.specs.Events.{events, start_list as list_starts, start_object as object_starts, end_list as list_ends, end_object as object_ends, key_event};
-ghost use Rattle.sm_tree.specs.Building.{nothing, whole, within, in_list, in_object, so_far, kinds, awaits_value, inner_awaits, goes_on, first_kind, IsIn};
-ghost use Rattle.sm_tree.specs.BuilderSteps.{with_tree, ended, put_around, back_inside, after_value, after_start, after_end, after_key};
+ghost use Rattle.sm_tree.specs.Building.{so_far, kinds, awaits_value, inner_awaits, goes_on, first_kind, IsIn};
+ghost use Rattle.sm_tree.specs.BuilderSteps.{with_tree, ended, put_around, back_inside, after_start, after_end};
 ghost use Rattle.sm_tree.specs.BuilderView.{inner_of, around_of, open_of, building_of};
 
 use crate::NoMemory;

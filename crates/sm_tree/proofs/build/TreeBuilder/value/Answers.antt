@@ -2,8 +2,8 @@ use Rattle.std.proofs.Common.{◌≡◌, ◌++◌, true, [], ap, sym, subst, ◌
 use Rattle.std.proofs.lemmas.Result.{on_ok_weaker}
 use Rattle.sm_tree.specs.View.{node_of}
 use Rattle.sm_tree.specs.Events.{events}
-use Rattle.sm_tree.specs.Building.{so_far, awaits_value, Building, within}
-use Rattle.sm_tree.specs.BuilderView.{open_of, state_of, building_of, outer_of}
+use Rattle.sm_tree.specs.Building.{so_far, awaits_value, within}
+use Rattle.sm_tree.specs.BuilderView.{open_of, state_of, outer_of}
 use Rattle.sm_tree.specs.declared.build.State.{State}
 use Rattle.sm_tree.proofs.Building.{value_taken}
 use Rattle.sm_tree.proofs.build.TreeBuilder.value.Goals as goal
