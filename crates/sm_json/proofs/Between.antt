@@ -69,8 +69,8 @@ first_key_leads limit c ks out x w f h = record {
   back = λ s fs g. first_key_back limit ks (c ∷ s) (out ++ fs) (h.back s fs g);
 }
 
-pub first_key_stops : (limit : ℕ) (c : ℕ) (ks : List OpenKind) → is_white c ≡ false → c ≢ 125 → c ≢ 34 → Stops limit (at first_key (an_object ∷ ks)) c
-first_key_stops limit c ks w f g s es h = key_stops limit c (an_object ∷ ks) w g s es (first_key_onward limit c ks s es w f h)
+pub first_key_stops : (limit : ℕ) (c : ℕ) (ks : List OpenKind) → is_white c ≡ false → c ≢ 125 → Stops limit (at next_key (an_object ∷ ks)) c → Stops limit (at first_key (an_object ∷ ks)) c
+first_key_stops limit c ks w f h s es g = h s es (first_key_onward limit c ks s es w f g)
 
 no_keys : (limit : ℕ) (ks : List OpenKind) (s : List ℕ) (es : List NodeEvent) → FirstKeyComes limit (an_object ∷ ks) (125 ∷ s) es
     → (fs : List NodeEvent) × (es ≡ (end_object ∷ []) ++ fs) × Ends limit ks s fs

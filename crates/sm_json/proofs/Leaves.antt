@@ -9,6 +9,7 @@ use Rattle.sm_json.specs.Strings.{is_white, Skips, SpellsText, Characters}
 use Rattle.sm_json.specs.JsonText.{SpellsNumber, SpellsValue}
 use Rattle.sm_json.specs.TextRest.{TextRest}
 use Rattle.sm_json.specs.Rest.{Where, value, word, numeral, in_text, State, letters, literal_node, Ends, ValueNow, ValueComes, StringComes, RestAt, Rest, Leads, Stops}
+use Rattle.sm_json.specs.Machine.{first_letter}
 use Rattle.sm_json.specs.declared.spot.Spot.TheVariants.{Plain}
 use Rattle.sm_json.specs.declared.place.Literal.{Literal}
 use Rattle.sm_json.specs.declared.place.Literal.TheVariants.{Null, True, False}
@@ -77,12 +78,6 @@ kind_of_false (tag k n) h = absurd h
 kind_of_false (opaque b) h = absurd h
 kind_of_false (list ns) e = absurd (above 102 91 (lit< tt) e)
 kind_of_false (object ms) e = absurd (below 102 123 (lit< tt) e)
-
--- the first letter of a literal name
-abbrev pub first_letter : Literal → ℕ
-first_letter Null = 110
-first_letter True = 116
-first_letter False = 102
 
 letter_not_white : (w : Literal) → is_white (first_letter w) ≡ false
 letter_not_white Null = refl
@@ -203,19 +198,23 @@ number_begins limit c ks room f d = record {
 }
 
 -- any other byte
-other_byte : (n : Node) (c : ℕ) → FirstByte n c → c ≢ 34 → c ≢ 91 → c ≢ 123 → c ≢ 110 → c ≢ 116 → c ≢ 102 → (StartsNumber c → ⊥) → ⊥
-other_byte null c e q b o n t f d = n e
-other_byte (bool true) c e q b o n t f d = t e
-other_byte (bool false) c e q b o n t f d = f e
-other_byte (int z) c h q b o n t f d = d h
-other_byte (number u) c h q b o n t f d = d h
-other_byte (text u) c e q b o n t f d = q e
-other_byte (bytes u) c h q b o n t f d = absurd h
-other_byte (tag k m) c h q b o n t f d = absurd h
-other_byte (opaque x) c h q b o n t f d = absurd h
-other_byte (list ns) c e q b o n t f d = b e
-other_byte (object ms) c e q b o n t f d = o e
+no_number : (n : Node) (c : ℕ) (s r : List ℕ) → ((u : List ℕ) → IsNumber (c ∷ u) → ⊥) → SpellsNumber n (c ∷ s) r → ⊥
+no_number n c s r stop (t, e, x) =
+    let (u, e1, y) = number_cut n c s r t x e in stop u (number_is n (c ∷ u) y)
 
-pub value_stops : (limit : ℕ) (c : ℕ) (ks : List OpenKind) → is_white c ≡ false → c ≢ 34 → c ≢ 91 → c ≢ 123 → c ≢ 110 → c ≢ 116 → c ≢ 102 → (StartsNumber c → ⊥) → Stops limit (at value ks) c
-value_stops limit c ks w q b o n t f d s es h =
-    let (x, r, fs, sp, rest, en, e) = value_here limit ks c s es w h in other_byte x c (spells_first x c s r sp) q b o n t f d
+other_byte : (n : Node) (c : ℕ) (s r : List ℕ) → SpellsValue n (c ∷ s) r → c ≢ 34 → c ≢ 91 → c ≢ 123 → c ≢ 110 → c ≢ 116 → c ≢ 102 → ((u : List ℕ) → IsNumber (c ∷ u) → ⊥) → ⊥
+other_byte null c s r h q b o n t f stop = n (spells_first null c s r h)
+other_byte (bool true) c s r h q b o n t f stop = t (spells_first (bool true) c s r h)
+other_byte (bool false) c s r h q b o n t f stop = f (spells_first (bool false) c s r h)
+other_byte (int z) c s r h q b o n t f stop = no_number (int z) c s r stop h
+other_byte (number u) c s r h q b o n t f stop = no_number (number u) c s r stop h
+other_byte (text u) c s r h q b o n t f stop = q (spells_first (text u) c s r h)
+other_byte (bytes u) c s r h q b o n t f stop = absurd h
+other_byte (tag k m) c s r h q b o n t f stop = absurd h
+other_byte (opaque x) c s r h q b o n t f stop = absurd h
+other_byte (list ns) c s r h q b o n t f stop = b (spells_first (list ns) c s r h)
+other_byte (object ms) c s r h q b o n t f stop = o (spells_first (object ms) c s r h)
+
+pub value_stops : (limit : ℕ) (c : ℕ) (ks : List OpenKind) → is_white c ≡ false → c ≢ 34 → c ≢ 91 → c ≢ 123 → c ≢ 110 → c ≢ 116 → c ≢ 102 → ((u : List ℕ) → IsNumber (c ∷ u) → ⊥) → Stops limit (at value ks) c
+value_stops limit c ks w q b o n t f stop s es h =
+    let (x, r, fs, sp, room, en, e) = value_here limit ks c s es w h in other_byte x c s r sp q b o n t f stop

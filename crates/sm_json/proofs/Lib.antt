@@ -10,3 +10,4 @@ pub mod Between
 pub mod After
 pub mod Within
 pub mod Whole
+pub mod Readers

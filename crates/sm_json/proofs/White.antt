@@ -1,5 +1,5 @@
 -- White space changes nothing where a token may come: the laws of `Leads` for a white byte.
-use Rattle.std.proofs.Common.{◌≡◌, ℕ, zero, suc, ◌+◌, ◌≤◌, ◌<◌, ◌⊎◌, inl, inr, Bool, true, false, List, [], ◌∷◌, ◌++◌, refl, sym, ap, subst, ◌∙◌, arith, length}
+use Rattle.std.proofs.Common.{◌≡◌, ℕ, zero, suc, ◌+◌, ◌≤◌, ◌<◌, ◌⊎◌, inl, inr, Bool, true, false, List, [], ◌∷◌, ◌++◌, refl, sym, ap, subst, ◌∙◌, arith, length, take, get_or}
 use Rattle.std.proofs.lemmas.Bool.Decides.{nat_tests}
 use Rattle.sm_tree.specs.Node.{Node, Nodes, Members, null, bool, int, number, text, bytes, tag, opaque, list, object, no_nodes, node, no_members, member}
 use Rattle.sm_tree.specs.Events.{NodeEvent}
@@ -8,6 +8,8 @@ use Rattle.sm_tree.specs.declared.build.OpenKind.TheVariants.{List as a_list, Ob
 use Rattle.sm_json.specs.Strings.{is_white, Skips, SpellsText}
 use Rattle.sm_json.specs.JsonText.{SpellsValue, Entries, MoreEntries, Pairs, MorePairs}
 use Rattle.sm_json.specs.Rest.{Where, value, first_entry, first_key, next_key, colon, after, word, numeral, in_text, State, Ends, ValueNow, ValueComes, ColonComes, KeyNow, KeyComes, FirstEntryComes, FirstKeyComes, RestAt, Rest, Leads}
+use Rattle.std.proofs.lemmas.List.{take_more}
+use Rattle.sm_json.specs.Machine.{AllWhite}
 use Rattle.sm_json.proofs.Starts.{heads, skips_past, StartsNumber, FirstByte, Opens, spells_start}
 
 number_not_white : (c : ℕ) → StartsNumber c → is_white c ≡ false
@@ -153,4 +155,22 @@ pub white_leads : (limit : ℕ) (x : State) (c : ℕ) → TakesWhite x.place →
 white_leads limit x c p w = record {
   onward = λ s es h. (es, refl, white_onward limit x.place x.lists c s es p w h);
   back = λ s fs h. white_back limit x.place x.lists c s fs p w h;
+}
+
+-- one more white byte at the front
+pub whites_grow : (bs : List ℕ) (i : ℕ) → i < length bs → is_white (get_or bs i 0) ≡ true → AllWhite (take i bs) → AllWhite (take (i + 1) bs)
+whites_grow bs i inside here before = subst AllWhite (sym (take_more bs i 0 inside)) (whites_joined (take i bs) (get_or bs i 0) before here)
+  where
+  whites_joined : (ws : List ℕ) (c : ℕ) → AllWhite ws → is_white c ≡ true → AllWhite (ws ++ c ∷ [])
+  whites_joined [] c h w = (w, tt)
+  whites_joined (d ∷ ws) c h w = (h.0, whites_joined ws c h.1 w)
+
+-- a run of white space leads from such a state to itself
+pub whites_lead : (limit : ℕ) (x : State) (ws : List ℕ) → TakesWhite x.place → AllWhite ws → Leads limit x ws [] x
+whites_lead limit x [] p h = record { onward = λ s es r. (es, refl, r); back = λ s fs r. r; }
+whites_lead limit x (c ∷ ws) p h = record {
+  onward = λ s es r.
+    let (fs, e, r1) = (white_leads limit x c p h.0).onward (ws ++ s) es r in
+    let (gs, e1, r2) = (whites_lead limit x ws p h.1).onward s fs r1 in (gs, e ∙ e1, r2);
+  back = λ s fs r. (white_leads limit x c p h.0).back (ws ++ s) fs ((whites_lead limit x ws p h.1).back s fs r);
 }

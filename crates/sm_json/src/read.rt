@@ -124,11 +124,10 @@ impl Reader {
         Ok(())
     }
 
-    fn close_list(&mut self) -> Result<(), SyntaxRefusal>
+    fn close_list(&mut self) -> Result<(), NoMemory>
         requires sound { IsSound self.old }
         requires inside { IsIn OpenKind.List (lists_of self.old) }
-        ensures closed { OnOk result (HasClosed self.old OpenKind.List list_ends self.new) }
-        ensures err { OnErr result (result ≡ Err SyntaxRefusal.NoMemory) }
+        ensures { OnOk result (HasClosed self.old OpenKind.List list_ends self.new) }
     {
         self.builder.end_list()?;
         self.depth -= 1;
@@ -136,12 +135,11 @@ impl Reader {
         Ok(())
     }
 
-    fn close_object(&mut self) -> Result<(), SyntaxRefusal>
+    fn close_object(&mut self) -> Result<(), NoMemory>
         requires sound { IsSound self.old }
         requires inside { IsIn OpenKind.Object (lists_of self.old) }
         requires unnamed { awaits_value (building_of self.old.builder) ≡ false }
-        ensures closed { OnOk result (HasClosed self.old OpenKind.Object object_ends self.new) }
-        ensures err { OnErr result (result ≡ Err SyntaxRefusal.NoMemory) }
+        ensures { OnOk result (HasClosed self.old OpenKind.Object object_ends self.new) }
     {
         self.builder.end_object()?;
         self.depth -= 1;
@@ -169,8 +167,8 @@ impl Reader {
     fn begin_number(&mut self, byte: u8, phase: Phase) -> Result<(), NoMemory>
         requires sound { IsSound self.old }
         requires place { self.old.place ≡ Place.Value }
+        requires black { white byte ≡ false }
         requires begins { NumberLeads Phase.Start (byte ∷ []) phase }
-        requires starts { IsNumberByte byte }
         ensures { OnOk result (Goes self.old (byte ∷ []) self.new) }
     {
         self.number.clear();
@@ -207,7 +205,13 @@ impl Reader {
         requires black { white byte ≡ false }
         ensures { TakesByte self.old byte self.new result }
     {
-        if byte == b']' { self.close_list() } else { self.value(byte) }
+        if byte == b']' {
+            self.close_list()?;
+            Ok(())
+        } else {
+            self.place = Place::Value;
+            self.value(byte)
+        }
     }
 
     fn next_key(&mut self, byte: u8) -> Result<(), SyntaxRefusal>
@@ -230,7 +234,13 @@ impl Reader {
         requires black { white byte ≡ false }
         ensures { TakesByte self.old byte self.new result }
     {
-        if byte == b'}' { self.close_object() } else { self.next_key(byte) }
+        if byte == b'}' {
+            self.close_object()?;
+            Ok(())
+        } else {
+            self.place = Place::NextKey;
+            self.next_key(byte)
+        }
     }
 
     fn colon(&mut self, byte: u8) -> Result<(), SyntaxRefusal>
@@ -247,25 +257,56 @@ impl Reader {
         }
     }
 
+    // A byte that isn't white behind an entry of a list.
+    fn after_entry(&mut self, byte: u8) -> Result<(), SyntaxRefusal>
+        requires sound { IsSound self.old }
+        requires place { self.old.place ≡ Place.After }
+        requires inside { IsIn OpenKind.List (lists_of self.old) }
+        requires black { white byte ≡ false }
+        ensures { TakesByte self.old byte self.new result }
+    {
+        if byte == b',' {
+            self.place = Place::Value;
+            Ok(())
+        } else if byte == b']' {
+            self.close_list()?;
+            Ok(())
+        } else {
+            Err(SyntaxRefusal::Bad(0))
+        }
+    }
+
+    // A byte that isn't white behind a pair of an object.
+    fn after_pair(&mut self, byte: u8) -> Result<(), SyntaxRefusal>
+        requires sound { IsSound self.old }
+        requires place { self.old.place ≡ Place.After }
+        requires inside { IsIn OpenKind.Object (lists_of self.old) }
+        requires black { white byte ≡ false }
+        ensures { TakesByte self.old byte self.new result }
+    {
+        if byte == b',' {
+            self.place = Place::NextKey;
+            Ok(())
+        } else if byte == b'}' {
+            self.close_object()?;
+            Ok(())
+        } else {
+            Err(SyntaxRefusal::Bad(0))
+        }
+    }
+
     // A byte that isn't white behind a value.
+    #[tactic(auto, using(crate::proofs::Readers::first_is))]
     fn after(&mut self, byte: u8) -> Result<(), SyntaxRefusal>
         requires sound { IsSound self.old }
         requires place { self.old.place ≡ Place.After }
         requires black { white byte ≡ false }
         ensures { TakesByte self.old byte self.new result }
     {
-        match (self.builder.innermost(), byte) {
-            (Some(OpenKind::List), b',') => {
-                self.place = Place::Value;
-                Ok(())
-            }
-            (Some(OpenKind::List), b']') => self.close_list(),
-            (Some(OpenKind::Object), b',') => {
-                self.place = Place::NextKey;
-                Ok(())
-            }
-            (Some(OpenKind::Object), b'}') => self.close_object(),
-            _ => Err(SyntaxRefusal::Bad(0)),
+        match self.builder.innermost() {
+            Some(OpenKind::List) => self.after_entry(byte),
+            Some(OpenKind::Object) => self.after_pair(byte),
+            None => Err(SyntaxRefusal::Bad(0)),
         }
     }
 }

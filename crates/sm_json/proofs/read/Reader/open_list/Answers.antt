@@ -1,20 +1,9 @@
-use Rattle.std.proofs.Common.{rules, ◌≡◌, ◌<◌, ◌≤◌, ◌+◌, length, OnOk, OnErr, take, false, true, [], ◌∷◌, ◌++◌, ℕ, ◌-◌, ◌*◌, ◌/◌, ◌%◌, Bool, nat_eq, nat_lt, List, slice_index_or, slice_set, bit_and, bit_or, Fits, w8, w32, w64, Bor, MutBor}
-use Rattle.sm_tree.specs.View.{node_of}
-use Rattle.sm_tree.specs.Events.{end_list as list_ends}
-use Rattle.sm_tree.specs.Events.{end_object as object_ends}
-use Rattle.sm_tree.specs.Building.{IsIn, awaits_value}
-use Rattle.sm_tree.specs.BuilderView.{building_of}
-use Rattle.sm_json.specs.Strings.{is_white as white}
-use Rattle.sm_json.specs.NumberTail.{Leads as NumberLeads}
-use Rattle.sm_json.specs.NumberTail.{IsNumberByte}
-use Rattle.sm_json.specs.Rest.{letters, literal_node, start}
-use Rattle.sm_json.specs.Machine.{AllWhite, IsSound, TakesByte, Goes, HasClosed, BeginsText, state_of, lists_of, handed_on, first_letter}
+use Rattle.std.proofs.Common.{refl, arith}
+use Rattle.sm_json.proofs.Readers.{list_goes, list_halts}
 use Rattle.sm_json.proofs.read.Reader.open_list.Goals as goal
 
--- src/read.rt:105:13
 pub returns-then-self-ge-MOST_LEVELS : goal.returns-then-self-ge-MOST_LEVELS
-returns-then-self-ge-MOST_LEVELS c = ?
+returns-then-self-ge-MOST_LEVELS c = (refl, list_halts c.args.self.now c.requires.sound c.requires.place (omega arith))
 
--- src/read.rt:99:5
 pub returns : goal.returns
-returns c = ?
+returns c = list_goes c.args.self.now _ c.requires.sound c.requires.place (omega arith) refl refl c.in_ok-start_list.ensures.kinds c.in_ok-start_list.ensures.awaits c.in_ok-start_list.ensures.taken
