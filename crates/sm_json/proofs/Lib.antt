@@ -11,3 +11,14 @@ pub mod After
 pub mod Within
 pub mod Whole
 pub mod Readers
+pub mod Utf8Bytes
+pub mod Utf8Shapes
+pub mod Steps
+pub mod Units
+pub mod Escapes
+pub mod Utf8Parts
+pub mod Runs
+pub mod DigitSteps
+pub mod Texts
+pub mod Completions
+pub mod ReaderTurns

@@ -10,3 +10,11 @@ mod text;
 
 pub use read::read_tree;
 pub use sm_tree::{NoMemory, SyntaxRefusal};
+mod escape;
+mod spot;
+mod text;
+mod utf8;
+
+pub use sm_tree::NoMemory;
+pub use spot::{Digits, Part, Spot, Step};
+pub use text::{Reading, TextReader, TextRefusal};

@@ -1,0 +1,11 @@
+-- Behind a backslash `u` opens a code unit.
+use Rattle.std.proofs.Common.{sym, subst}
+use Rattle.sm_json.specs.TextSteps.{PartSteps}
+use Rattle.sm_json.specs.declared.spot.Digits.TheVariants.{First}
+use Rattle.sm_json.specs.declared.spot.Part.TheVariants.{Escape as BehindBackslash, Unit as InUnit}
+use Rattle.sm_json.specs.declared.spot.Step.TheVariants.{Within}
+use Rattle.sm_json.proofs.Escapes.{letter_taken}
+use Rattle.sm_json.proofs.escape.escaped.Goals as goal
+
+pub returns-then-byte-eq117 : goal.returns-then-byte-eq117
+returns-then-byte-eq117 c = subst (λ x. PartSteps BehindBackslash x (Within (InUnit First))) (sym c.if-byte-eq117.true) letter_taken

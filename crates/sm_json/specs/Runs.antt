@@ -1,0 +1,26 @@
+-- Stretches of a string that are taken at once, and what the text reader answers.
+use Rattle.std.specs.Prelude.{◌≡◌, ◌↔◌, ℕ, List, [], ◌∷◌, ◌++◌, encode_utf8_all}
+use Rattle.std.specs.Char.{IsScalar}
+use Rattle.sm_json.specs.declared.spot.Spot.{Spot}
+use Rattle.sm_json.specs.Strings.{IsUnescaped}
+use Rattle.sm_json.specs.TextRest.{TextRest}
+
+abbrev pub AreUnescaped : List ℕ → Type 0
+AreUnescaped [] = Unit {0}
+AreUnescaped (c ∷ cs) = IsScalar c × IsUnescaped c × AreUnescaped cs
+
+-- these bytes are whole characters in UTF-8 that stand for themselves
+abbrev pub IsRun : List ℕ → Type 0
+IsRun bs = (cs : List ℕ) × AreUnescaped cs × (encode_utf8_all cs ≡ bs)
+
+-- from one spot and text to another over these bytes: what may still come is the same
+abbrev pub Takes : Spot → List ℕ → Spot → List ℕ → List ℕ → Type 0
+Takes old b new d bs = (s t r : List ℕ) → TextRest old b (bs ++ s) t r ↔ TextRest new d s t r
+
+-- the string closes with the last of these bytes, its text is d
+abbrev pub Closes : Spot → List ℕ → List ℕ → List ℕ → Type 0
+Closes old b d bs = (s t r : List ℕ) → TextRest old b (bs ++ s) t r ↔ ((t ≡ d) × (s ≡ r))
+
+-- no string goes on over these bytes
+abbrev pub Stops : Spot → List ℕ → List ℕ → Type 0
+Stops old b bs = (s t r : List ℕ) → TextRest old b (bs ++ s) t r → ⊥
