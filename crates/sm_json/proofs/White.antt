@@ -9,7 +9,7 @@ use Rattle.sm_json.specs.Strings.{is_white, Skips, SpellsText}
 use Rattle.sm_json.specs.JsonText.{SpellsValue, Entries, MoreEntries, Pairs, MorePairs}
 use Rattle.sm_json.specs.Rest.{Where, value, first_entry, first_key, next_key, colon, after, word, numeral, in_text, State, Ends, ValueNow, ValueComes, ColonComes, KeyNow, KeyComes, FirstEntryComes, FirstKeyComes, RestAt, Rest, Leads}
 use Rattle.std.proofs.lemmas.List.{take_more}
-use Rattle.sm_json.specs.Machine.{AllWhite}
+use Rattle.sm_json.specs.Machine.{AllWhite, TakesWhite}
 use Rattle.sm_json.proofs.Starts.{heads, skips_past, StartsNumber, FirstByte, Opens, spells_start}
 
 number_not_white : (c : ℕ) → StartsNumber c → is_white c ≡ false
@@ -83,18 +83,6 @@ white_first_key : (limit : ℕ) (ks : List OpenKind) (c : ℕ) (s : List ℕ) (e
 white_first_key limit [] c s es w h = h
 white_first_key limit (a_list ∷ ks) c s es w h = h
 white_first_key limit (an_object ∷ ks) c s es w (ms, r, fs, m, room, en, e) = (ms, r, fs, white_pairs ms c s r w m, room, en, e)
-
--- white space may stand before the token that comes next
-abbrev pub TakesWhite : Where → Type 0
-TakesWhite value = Unit {0}
-TakesWhite first_entry = Unit {0}
-TakesWhite first_key = Unit {0}
-TakesWhite next_key = Unit {0}
-TakesWhite colon = Unit {0}
-TakesWhite after = Unit {0}
-TakesWhite (word w taken) = ⊥
-TakesWhite (numeral b) = ⊥
-TakesWhite (in_text role spot b) = ⊥
 
 white_onward : (limit : ℕ) (p : Where) (ks : List OpenKind) (c : ℕ) (s : List ℕ) (es : List NodeEvent) → TakesWhite p → is_white c ≡ true → RestAt limit p ks (c ∷ s) es → RestAt limit p ks s es
 white_onward limit value ks c s es p w h = white_value limit ks c s es w h

@@ -9,8 +9,5 @@ pub mod Reading
 pub mod NumberTail
 pub mod Rest
 pub mod Machine
-pub mod Utf8Bytes
-pub mod TextSteps
-pub mod Runs
 pub mod Live
-pub mod Reading
+pub mod Answers

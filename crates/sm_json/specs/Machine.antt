@@ -1,7 +1,11 @@
 -- What a reader stands for, what it keeps, and what its steps do. The contracts of the reader's methods cite
 -- it; that of `read_tree` doesn't.
 use Rattle.std.specs.Prelude.{◌≡◌, ℕ, ◌+◌, ◌≤◌, ◌<◌, Bool, true, false, List, [], ◌∷◌, ◌++◌, take, drop, length, Result, Ok, Err, slice_index, OnOk}
-use Rattle.sm_tree.specs.Events.{NodeEvent}
+use Rattle.sm_tree.specs.Node.{Node}
+use Rattle.sm_tree.specs.Numbers.{NumberText}
+use Rattle.sm_tree.specs.Events.{NodeEvent, events, key_event, text_event}
+use Rattle.sm_tree.specs.View.{node_of}
+use Rattle.sm_tree.specs.declared.tree.Tree.{Tree}
 use Rattle.sm_tree.specs.Building.{so_far, kinds, awaits_value, goes_on, IsIn}
 use Rattle.sm_tree.specs.BuilderView.{building_of}
 use Rattle.sm_tree.specs.declared.build.OpenKind.{OpenKind}
@@ -9,9 +13,10 @@ use Rattle.sm_tree.specs.declared.build.OpenKind.TheVariants.{List as a_list, Ob
 use Rattle.sm_tree.specs.declared.refusal.SyntaxRefusal.{SyntaxRefusal}
 use Rattle.sm_tree.specs.declared.refusal.SyntaxRefusal.TheVariants.{Bad, Ended, TooDeep, KeyKind, NoMemory}
 use Rattle.sm_json.specs.Strings.{is_white}
-use Rattle.sm_json.specs.NumberTail.{Leads as NumberLeads}
+use Rattle.sm_json.specs.NumberTail.{Leads as NumberLeads, Stops as NumberStops}
+use Rattle.sm_json.specs.declared.number.Run.{Run}
 use Rattle.sm_json.specs.Reading.{text_of}
-use Rattle.sm_json.specs.Rest.{Where, value, first_entry, first_key, next_key, colon, after, word, numeral, in_text, State, letters, Leads, Stops}
+use Rattle.sm_json.specs.Rest.{Where, value, first_entry, first_key, next_key, colon, after, word, numeral, in_text, State, letters, Rest, Leads, Stops}
 use Rattle.sm_json.specs.declared.number.Phase.{Phase}
 use Rattle.sm_json.specs.declared.number.Phase.TheVariants.{Start}
 use Rattle.sm_json.specs.declared.spot.Spot.{Spot}
@@ -97,12 +102,6 @@ pub record HasClosed (before : Reader) (k : OpenKind) (e : NodeEvent) (behind : 
   pub place : behind.place ≡ After
   pub sound : IsSound behind
 
--- nothing has come: the state and the events are as they were
-pub record Stays (before behind : Reader) : Type 0 where
-  pub lists : lists_of behind ≡ lists_of before
-  pub taken : handed_on behind ≡ handed_on before
-  pub depth : behind.depth ≡ before.depth
-
 -- the first letter of a literal name
 abbrev pub first_letter : Literal → ℕ
 first_letter Null = 110
@@ -113,3 +112,94 @@ first_letter False = 102
 abbrev pub BeginsText : Role → Place → Type 0
 BeginsText Key p = p ≡ NextKey
 BeginsText Whole p = p ≡ Value
+
+-- no text goes on from the reader's place with these bytes
+abbrev pub NoneGoesOn : Reader → List ℕ → Type 0
+NoneGoesOn before bs = (s : List ℕ) (es : List NodeEvent) → Rest most_levels (state_of before) (bs ++ s) es → ⊥
+
+-- what the reader makes of the front of some bytes: it takes so many of them, or refuses one of them
+abbrev pub TakesFront : Reader → List ℕ → Reader → Result ℕ SyntaxRefusal → Type 0
+TakesFront before bs behind (Ok n) = (0 < n) × (n ≤ length bs) × Goes before (take n bs) behind
+TakesFront before bs behind (Err NoMemory) = Unit {0}
+TakesFront before bs behind (Err (Bad at)) = (at < length bs) × NoneGoesOn before bs
+TakesFront before bs behind (Err Ended) = ⊥
+TakesFront before bs behind (Err (TooDeep at)) = (at < length bs) × NoneGoesOn before bs
+TakesFront before bs behind (Err (KeyKind at)) = ⊥
+
+-- what it makes of all of them
+abbrev pub TakesAll : Reader → List ℕ → Reader → Result (Unit {0}) SyntaxRefusal → Type 0
+TakesAll before bs behind (Ok x) = Goes before bs behind
+TakesAll before bs behind (Err NoMemory) = Unit {0}
+TakesAll before bs behind (Err (Bad at)) = (at < length bs) × NoneGoesOn before bs
+TakesAll before bs behind (Err Ended) = ⊥
+TakesAll before bs behind (Err (TooDeep at)) = (at < length bs) × NoneGoesOn before bs
+TakesAll before bs behind (Err (KeyKind at)) = ⊥
+
+-- the bytes end here: the events are those of the tree, or no text ends so
+abbrev pub Finishes : Reader → Result Tree SyntaxRefusal → Type 0
+Finishes reader (Ok tree) = (last : List NodeEvent) × Rest most_levels (state_of reader) [] last × (handed_on reader ++ last ≡ events (node_of tree) [])
+Finishes reader (Err NoMemory) = Unit {0}
+Finishes reader (Err (Bad at)) = ⊥
+Finishes reader (Err Ended) = (es : List NodeEvent) → Rest most_levels (state_of reader) [] es → ⊥
+Finishes reader (Err (TooDeep at)) = ⊥
+Finishes reader (Err (KeyKind at)) = ⊥
+
+-- a refusal whose place counts from further on
+abbrev pub moved_by : ℕ → SyntaxRefusal → SyntaxRefusal
+moved_by n (Bad at) = Bad (n + at)
+moved_by n Ended = Ended
+moved_by n (TooDeep at) = TooDeep (n + at)
+moved_by n (KeyKind at) = KeyKind (n + at)
+moved_by n NoMemory = NoMemory
+
+-- the place of a refusal is within so many bytes
+abbrev pub IsWithin : ℕ → SyntaxRefusal → Type 0
+IsWithin n (Bad at) = at < n
+IsWithin n Ended = Unit {0}
+IsWithin n (TooDeep at) = at < n
+IsWithin n (KeyKind at) = at < n
+IsWithin n NoMemory = Unit {0}
+
+-- white space may stand before the token that comes next
+abbrev pub TakesWhite : Where → Type 0
+TakesWhite value = Unit {0}
+TakesWhite first_entry = Unit {0}
+TakesWhite first_key = Unit {0}
+TakesWhite next_key = Unit {0}
+TakesWhite colon = Unit {0}
+TakesWhite after = Unit {0}
+TakesWhite (word w taken) = ⊥
+TakesWhite (numeral b) = ⊥
+TakesWhite (in_text role spot b) = ⊥
+
+-- the bytes of the run have been taken by the number, and the next one, if there is one, doesn't go on with it
+pub record Grows (before : Reader) (bs : List ℕ) (run : Run) (behind : Reader) : Type 0 where
+  pub inside : run.count ≤ length bs
+  pub goes : Goes before (take run.count bs) behind
+  pub place : behind.place ≡ Number run.phase
+  pub stops : run.count < length bs → NumberStops run.phase (slice_index bs run.count)
+
+-- the number has been handed on as the one tree of its text, and the reader stands behind it
+pub record HandsNumber (before behind : Reader) : Type 0 where
+  pub tree : Node
+  pub is : NumberText tree before.number.items
+  pub taken : handed_on behind ≡ handed_on before ++ events tree []
+  pub lists : lists_of behind ≡ lists_of before
+  pub place : behind.place ≡ After
+  pub sound : IsSound behind
+
+-- where a reader stands behind a string of this role, and the event of the string
+abbrev pub behind_text : Role → Place
+behind_text Key = Colon
+behind_text Whole = After
+
+abbrev pub text_event_of : Role → List ℕ → NodeEvent
+text_event_of Key t = key_event t
+text_event_of Whole t = text_event t
+
+-- the string has been handed on, and the reader stands behind it
+pub record HandsText (role : Role) (before behind : Reader) : Type 0 where
+  pub taken : handed_on behind ≡ handed_on before ++ text_event_of role (text_of before.text) ∷ []
+  pub lists : lists_of behind ≡ lists_of before
+  pub place : behind.place ≡ behind_text role
+  pub sound : IsSound behind

@@ -2,19 +2,13 @@
 // What reads and writes messages and model files in JSON stands on it.
 #![tactic(auto)]
 
+mod escape;
 mod number;
 mod place;
 mod read;
 mod spot;
 mod text;
+mod utf8;
 
 pub use read::read_tree;
 pub use sm_tree::{NoMemory, SyntaxRefusal};
-mod escape;
-mod spot;
-mod text;
-mod utf8;
-
-pub use sm_tree::NoMemory;
-pub use spot::{Digits, Part, Spot, Step};
-pub use text::{Reading, TextReader, TextRefusal};

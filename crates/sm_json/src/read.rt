@@ -1,16 +1,17 @@
 // The reader of JSON texts (RFC 8259): a machine over bytes. It stands at one place of the text, hands each
 // event on as soon as its bytes are complete, and never looks back. Trees are made from the events.
-ghost use Rattle.std.specs.Prelude.{◌≡◌, ◌<◌, ◌≤◌, ◌+◌, length, OnOk, OnErr, take, false, true, [], ◌∷◌, ◌++◌};
+ghost use Rattle.std.specs.Prelude.{◌≡◌, ◌<◌, ◌≤◌, ◌+◌, ◌-◌, ◌^◌, length, IfOk, OnOk, OnErr, take, false, true, [], ◌∷◌, ◌++◌};
 ghost use Rattle.sm_tree.specs.View.{node_of};
 ghost use Rattle.sm_tree.specs.Events.{end_list as list_ends, end_object as object_ends};
 ghost use Rattle.sm_tree.specs.Building.{IsIn, awaits_value};
 ghost use Rattle.sm_tree.specs.BuilderView.{building_of};
 ghost use Rattle.sm_json.specs.Strings.{is_white as white};
-ghost use Rattle.sm_json.specs.NumberTail.{Leads as NumberLeads, IsNumberByte};
+ghost use Rattle.sm_json.specs.NumberTail.{Leads as NumberLeads, Stops as NumberStops, Tail};
+ghost use Rattle.sm_json.specs.Answers.{ReadsTree};
 ghost use Rattle.sm_json.specs.Rest.{letters, literal_node, start};
-ghost use Rattle.sm_json.specs.Machine.{AllWhite};
+ghost use Rattle.sm_json.specs.Machine.{AllWhite, IsWithin, moved_by};
 
-use crate::number::{Phase, number_run, number_tree};
+use crate::number::{Phase, Run, number_run, number_tree};
 use crate::place::{Literal, Place, Role};
 use crate::text::{Reading, TextReader, TextRefusal};
 use sm_tree::{NoMemory, OpenKind, SyntaxRefusal, Tree, TreeBuilder};
@@ -78,7 +79,7 @@ impl Literal {
 }
 
 impl Reader {
-    ghost use Rattle.sm_json.specs.Machine.{IsSound, TakesByte, Goes, HasClosed, BeginsText, state_of, lists_of, handed_on, first_letter};
+    ghost use Rattle.sm_json.specs.Machine.{IsSound, TakesByte, Goes, HasClosed, BeginsText, TakesWhite, Grows, HandsNumber, HandsText, TakesFront, TakesAll, Finishes, state_of, lists_of, handed_on, first_letter};
 
     fn new(alloc: Global) -> Self
         ensures state { state_of result ≡ start }
@@ -309,9 +310,238 @@ impl Reader {
             None => Err(SyntaxRefusal::Bad(0)),
         }
     }
+
+    // Any byte behind a value.
+    fn behind(&mut self, byte: u8) -> Result<(), SyntaxRefusal>
+        requires sound { IsSound self.old }
+        requires place { self.old.place ≡ Place.After }
+        ensures { TakesByte self.old byte self.new result }
+    {
+        if is_white(byte) { Ok(()) } else { self.after(byte) }
+    }
+
+    // One more byte of a literal name.
+    fn letter(&mut self, word: Literal, taken: u8, byte: u8) -> Result<(), SyntaxRefusal>
+        requires sound { IsSound self.old }
+        requires place { self.old.place ≡ Place.Word word taken }
+        requires begun { taken < length (letters word) }
+        ensures { TakesByte self.old byte self.new result }
+    {
+        let name = word.letters();
+        let at = taken as usize;
+        if name[at] != byte {
+            return Err(SyntaxRefusal::Bad(0));
+        }
+        if at + 1 < name.len() {
+            self.place = Place::Word(word, taken + 1);
+        } else {
+            self.builder.value(word.tree())?;
+            self.place = Place::After;
+        }
+        Ok(())
+    }
+
+    // Takes the bytes in front that go on with the number, and says how many.
+    fn grow_number(&mut self, phase: Phase, bytes: &[u8]) -> Result<Run, NoMemory>
+        requires sound { IsSound self.old }
+        requires place { self.old.place ≡ Place.Number phase }
+        ensures { IfOk result (λ run. Grows self.old bytes.now run self.new) }
+    {
+        let run = number_run(phase, bytes);
+        self.number.extend_from_slice(&bytes[..run.count])?;
+        self.place = Place::Number(run.phase);
+        Ok(run)
+    }
+
+    // Hands on the number, which is whole.
+    fn hand_number(&mut self, phase: Phase) -> Result<(), NoMemory>
+        requires sound { IsSound self.old }
+        requires place { self.old.place ≡ Place.Number phase }
+        requires whole { Tail phase [] }
+        ensures { OnOk result (HandsNumber self.old self.new) }
+    {
+        let tree = number_tree(self.alloc, self.number.as_slice())?;
+        self.builder.value(tree)?;
+        self.place = Place::After;
+        Ok(())
+    }
+
+    // A byte that the number doesn't go on with.
+    fn end_number(&mut self, phase: Phase, byte: u8) -> Result<(), SyntaxRefusal>
+        requires sound { IsSound self.old }
+        requires place { self.old.place ≡ Place.Number phase }
+        requires stops { NumberStops phase byte }
+        ensures { TakesByte self.old byte self.new result }
+    {
+        if !phase.is_whole() {
+            return Err(SyntaxRefusal::Bad(0));
+        }
+        self.hand_number(phase)?;
+        self.behind(byte)
+    }
+
+    // Bytes in a number.
+    fn number(&mut self, phase: Phase, bytes: &[u8]) -> Result<usize, SyntaxRefusal>
+        requires sound { IsSound self.old }
+        requires place { self.old.place ≡ Place.Number phase }
+        requires some { 0 < length bytes.now }
+        ensures { TakesFront self.old bytes.now self.new result }
+    {
+        let run = self.grow_number(phase, bytes)?;
+        if run.count == bytes.len() {
+            return Ok(run.count);
+        }
+        match self.end_number(run.phase, bytes[run.count]) {
+            Ok(()) => Ok(run.count + 1),
+            Err(refusal) => Err(moved(refusal, run.count)),
+        }
+    }
+
+    // Hands on the string, which has closed.
+    fn hand_text(&mut self, role: Role) -> Result<(), NoMemory>
+        requires sound { IsSound self.old }
+        requires place { self.old.place ≡ Place.Text role }
+        ensures { OnOk result (HandsText role self.old self.new) }
+    {
+        let text = self.text.text(self.alloc)?;
+        match role {
+            Role::Key => {
+                self.builder.key(text);
+                self.place = Place::Colon;
+            }
+            Role::Value => {
+                self.builder.value(Tree::Text(text))?;
+                self.place = Place::After;
+            }
+        }
+        Ok(())
+    }
+
+    // Bytes in a string.
+    fn string(&mut self, role: Role, bytes: &[u8]) -> Result<usize, SyntaxRefusal>
+        requires sound { IsSound self.old }
+        requires place { self.old.place ≡ Place.Text role }
+        requires some { 0 < length bytes.now }
+        ensures { TakesFront self.old bytes.now self.new result }
+    {
+        match self.text.read(bytes) {
+            Ok(Reading::Closed(count)) => {
+                self.hand_text(role)?;
+                Ok(count)
+            }
+            Ok(Reading::Open) => Ok(bytes.len()),
+            Err(TextRefusal::Bad(at)) => Err(SyntaxRefusal::Bad(at as u64)),
+            Err(TextRefusal::NoMemory) => Err(SyntaxRefusal::NoMemory),
+        }
+    }
+
+    // A byte that isn't white, between two tokens.
+    fn token(&mut self, byte: u8) -> Result<(), SyntaxRefusal>
+        requires sound { IsSound self.old }
+        requires between { TakesWhite (state_of self.old).place }
+        requires black { white byte ≡ false }
+        ensures { TakesByte self.old byte self.new result }
+    {
+        match self.place {
+            Place::Value => self.value(byte),
+            Place::FirstEntry => self.first_entry(byte),
+            Place::FirstKey => self.first_key(byte),
+            Place::NextKey => self.next_key(byte),
+            Place::Colon => self.colon(byte),
+            Place::After => self.after(byte),
+            Place::Word(_, _) | Place::Number(_) | Place::Text(_) => unreachable!(),
+        }
+    }
+
+    // Bytes between two tokens: a run of white space, or one byte of a token.
+    fn between(&mut self, bytes: &[u8]) -> Result<usize, SyntaxRefusal>
+        requires sound { IsSound self.old }
+        requires between { TakesWhite (state_of self.old).place }
+        requires some { 0 < length bytes.now }
+        ensures { TakesFront self.old bytes.now self.new result }
+    {
+        if is_white(bytes[0]) {
+            return Ok(1 + white_run(&bytes[1..]));
+        }
+        self.token(bytes[0])?;
+        Ok(1)
+    }
+
+    // Takes some bytes in front.
+    fn turn(&mut self, bytes: &[u8]) -> Result<usize, SyntaxRefusal>
+        requires sound { IsSound self.old }
+        requires some { 0 < length bytes.now }
+        ensures { TakesFront self.old bytes.now self.new result }
+    {
+        match self.place {
+            Place::Text(role) => self.string(role, bytes),
+            Place::Number(phase) => self.number(phase, bytes),
+            Place::Word(word, taken) => {
+                self.letter(word, taken, bytes[0])?;
+                Ok(1)
+            }
+            _ => self.between(bytes),
+        }
+    }
+
+    // Takes all the bytes.
+    fn feed(&mut self, bytes: &[u8]) -> Result<(), SyntaxRefusal>
+        requires sound { IsSound self.old }
+        ensures { TakesAll self.old bytes.now self.new result }
+    {
+        let mut at = 0;
+        while at < bytes.len() {
+            match self.turn(&bytes[at..]) {
+                Ok(count) => at += count,
+                Err(refusal) => return Err(moved(refusal, at)),
+            }
+        }
+        Ok(())
+    }
+
+    // The tree, where the text ends here.
+    fn finish(mut self) -> Result<Tree, SyntaxRefusal>
+        requires sound { IsSound self }
+        ensures { Finishes self result }
+    {
+        if let Place::Number(phase) = self.place {
+            if !phase.is_whole() {
+                return Err(SyntaxRefusal::Ended);
+            }
+            self.hand_number(phase)?;
+        }
+        match self.place {
+            Place::After if self.depth == 0 => Ok(self.builder.finish()),
+            _ => Err(SyntaxRefusal::Ended),
+        }
+    }
 }
 
-/// The tree of a JSON text.
-pub fn read_tree(alloc: Global, bytes: &[u8]) -> Result<Tree, SyntaxRefusal> {
-    Err(SyntaxRefusal::Ended)
+// The refusal, its place counted from so many bytes further on.
+fn moved(refusal: SyntaxRefusal, by: usize) -> SyntaxRefusal
+    requires room { IsWithin (2 ^ 64 - by) refusal }
+    ensures { result ≡ moved_by by refusal }
+{
+    match refusal {
+        SyntaxRefusal::Bad(at) => SyntaxRefusal::Bad(by as u64 + at),
+        SyntaxRefusal::Ended => SyntaxRefusal::Ended,
+        SyntaxRefusal::TooDeep(at) => SyntaxRefusal::TooDeep(by as u64 + at),
+        SyntaxRefusal::KeyKind(at) => SyntaxRefusal::KeyKind(by as u64 + at),
+        SyntaxRefusal::NoMemory => SyntaxRefusal::NoMemory,
+    }
+}
+
+/// The tree that the bytes spell as a JSON text (RFC 8259) of at most 100 levels. White space may stand
+/// round tokens; a byte order mark and a lone surrogate escape are refused. An integer text that 64 bits
+/// hold is a `Tree::Int`, and `-0` is 0; any other number is a `Tree::Number` with its text.
+///
+/// # Errors
+///
+/// `Bad(at)`, `Ended` and `TooDeep(at)`, where the bytes are no such text; `NoMemory`.
+pub fn read_tree(alloc: Global, bytes: &[u8]) -> Result<Tree, SyntaxRefusal>
+    ensures { ReadsTree bytes.now result }
+{
+    let mut reader = Reader::new(alloc);
+    reader.feed(bytes)?;
+    reader.finish()
 }
