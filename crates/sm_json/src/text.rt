@@ -1,6 +1,6 @@
 // The reader of one string (RFC 8259, section 7) behind its opening quotation mark, from bytes that may come
 // in pieces. The reader of texts stands on it.
-ghost use Rattle.std.specs.Prelude.{◌≡◌, IfOk};
+ghost use Rattle.std.specs.Prelude.{◌≡◌, IfOk, IsUtf8};
 ghost use Rattle.sm_json.specs.TextSteps.{IsLive, IsPartLive, PartSteps, Steps};
 ghost use Rattle.sm_json.specs.Live.{IsLive-prop};
 
@@ -178,7 +178,8 @@ impl TextReader {
     ///
     /// `NoMemory`.
     pub fn text(&self, alloc: Global) -> Result<Text, NoMemory>
-        ensures { IfOk result (λ text. text ≡ text_of self.now) }
+        ensures bytes { IfOk result (λ text. text ≡ text_of self.now) }
+        ensures utf8 { IfOk result (λ text. IsUtf8 text) }
     {
         Text::copy(alloc, self.text.as_str())
     }
