@@ -22,3 +22,5 @@ pub mod DigitSteps
 pub mod Texts
 pub mod Completions
 pub mod ReaderTurns
+pub mod Owed
+pub mod Turns

@@ -40,7 +40,7 @@ digits_lead p [] each h = leads_nowhere p
 digits_lead p (d ∷ ds) each h = leads_joined p p p (d ∷ []) ds (each d h.0) (digits_lead p ds each h.1)
 
 -- a run, the byte behind it, and a run behind that: the slice from a place on is taken whole
-front_grows : (bs : List ℕ) (i k : ℕ) → i < length bs → k ≤ length bs - (i + 1) → take (i + 1 + k) bs ≡ take i bs ++ (get_or bs i 0 ∷ take k (take (length bs - (i + 1)) (drop (i + 1) bs)))
+pub front_grows : (bs : List ℕ) (i k : ℕ) → i < length bs → k ≤ length bs - (i + 1) → take (i + 1 + k) bs ≡ take i bs ++ (get_or bs i 0 ∷ take k (take (length bs - (i + 1)) (drop (i + 1) bs)))
 front_grows bs i k lt few =
     let one : take (i + 1) bs ≡ take i bs ++ get_or bs i 0 ∷ [] = grind (arith, common_steps) in
     let rest : take k (take (length bs - (i + 1)) (drop (i + 1) bs)) ≡ take k (drop (i + 1) bs) = take-take k (length bs - (i + 1)) (drop (i + 1) bs) few in

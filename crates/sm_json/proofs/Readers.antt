@@ -35,13 +35,13 @@ use Rattle.sm_json.proofs.After.{list_goes_on, list_ends, list_stops, object_goe
 abbrev pub place_at : Reader → Place → State
 place_at r p = at (where_of p r.number.items r.text.spot (text_of r.text)) (lists_of r)
 
-leads_from : (r : Reader) (p : Place) (w : List ℕ) (out : List NodeEvent) (x : State) → r.place ≡ p → Leads most_levels (place_at r p) w out x → Leads most_levels (state_of r) w out x
+pub leads_from : (r : Reader) (p : Place) (w : List ℕ) (out : List NodeEvent) (x : State) → r.place ≡ p → Leads most_levels (place_at r p) w out x → Leads most_levels (state_of r) w out x
 leads_from r p w out x e h = subst (λ q. Leads most_levels (place_at r q) w out x) (sym e) h
 
-stops_from : (r : Reader) (p : Place) (c : ℕ) → r.place ≡ p → Stops most_levels (place_at r p) c → Stops most_levels (state_of r) c
+pub stops_from : (r : Reader) (p : Place) (c : ℕ) → r.place ≡ p → Stops most_levels (place_at r p) c → Stops most_levels (state_of r) c
 stops_from r p c e h = subst (λ q. Stops most_levels (place_at r q) c) (sym e) h
 
-kept_at : (r : Reader) (p : Place) → r.place ≡ p → IsSound r → PlaceKeeps p r.number.items (lists_of r) (awaits_value (building_of r.builder))
+pub kept_at : (r : Reader) (p : Place) → r.place ≡ p → IsSound r → PlaceKeeps p r.number.items (lists_of r) (awaits_value (building_of r.builder))
 kept_at r p e sound = subst (λ q. PlaceKeeps q r.number.items (lists_of r) (awaits_value (building_of r.builder))) e sound.keeps
 
 room_in : (r : Reader) → IsSound r → length (lists_of r) ≤ most_levels

@@ -32,7 +32,7 @@ leads_joined limit x y z v w out more h g = record {
 start_text : (limit : ℕ) (bs : List ℕ) (es : List NodeEvent) → Rest limit start bs es → (n : Node) × JsonText n bs × (levels n ≤ limit) × (es ≡ events n [])
 start_text limit bs es (s, k, (n, r, fs, h, room, (k1, e1), e)) = (n, (s, r, k, h, k1), omega arith, e ∙ ap (λ x. events n x) e1)
 
-text_start : (limit : ℕ) (bs : List ℕ) (n : Node) → JsonText n bs → levels n ≤ limit → Rest limit start bs (events n [])
+pub text_start : (limit : ℕ) (bs : List ℕ) (n : Node) → JsonText n bs → levels n ≤ limit → Rest limit start bs (events n [])
 text_start limit bs n (s, r, k, h, k1) room = (s, k, (n, r, [], h, omega arith, (k1, refl), refl))
 
 -- a run through all the bytes to a state in which they may end: the bytes are a text with these events

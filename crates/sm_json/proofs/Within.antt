@@ -1,7 +1,8 @@
 -- What bytes do within a literal name, a number and a string, and where the bytes end: the laws of `Leads`
 -- and `Stops` there. And the laws that carry them to a whole text.
-use Rattle.std.proofs.Common.{◌≡◌, ◌≢◌, ℕ, zero, suc, ◌+◌, ◌≤◌, ◌<◌, ◌⊎◌, inl, inr, Bool, true, false, max, List, [], ◌∷◌, ◌++◌, Option, None, refl, sym, ap, subst, ◌∙◌, arith, length, drop, append_assoc, append-nil}
+use Rattle.std.proofs.Common.{◌≡◌, ◌≢◌, ℕ, zero, suc, ◌+◌, ◌≤◌, ◌<◌, ◌⊎◌, inl, inr, Bool, true, false, max, List, [], ◌∷◌, ◌++◌, Option, None, refl, sym, ap, subst, ◌∙◌, arith, length, drop, append_assoc, append-nil, get_or}
 use Rattle.std.proofs.lemmas.Bool.Decides.{nat_tests}
+use Rattle.std.proofs.lemmas.List.{drop_more}
 use Rattle.sm_tree.specs.Node.{Node, Nodes, Members, null, bool, int, number, text, bytes, tag, opaque, list, object, no_nodes, node, no_members, member}
 use Rattle.sm_tree.specs.Levels.{levels}
 use Rattle.sm_tree.specs.Events.{NodeEvent, events, key_event, text_event}
@@ -98,7 +99,7 @@ number_byte_leads limit b c ks i = record {
 }
 
 -- a number that has ended: what a byte does behind a value, it does behind the number
-number_over : (limit : ℕ) (b : List ℕ) (m : Node) (c : ℕ) (ks : List OpenKind) (s : List ℕ) (es : List NodeEvent)
+pub number_over : (limit : ℕ) (b : List ℕ) (m : Node) (c : ℕ) (ks : List OpenKind) (s : List ℕ) (es : List NodeEvent)
     → ((u : List ℕ) → IsNumber (b ++ c ∷ u) → ⊥) → ((n : Node) → NumberText n b → n ≡ m)
     → RestAt limit (numeral b) ks (c ∷ s) es → (fs : List NodeEvent) × (es ≡ events m fs) × Ends limit ks (c ∷ s) fs
 number_over limit b m c ks s es stop one (n, [], r, fs, e, h, en, e1) =
@@ -190,3 +191,83 @@ pub string_stops : (limit : ℕ) (role : Role) (spot : Spot) (b : List ℕ) (c :
     → ((s t r : List ℕ) → TextRest spot b (c ∷ s) t r → ⊥) → Stops limit (at (in_text role spot b) ks) c
 string_stops limit Key spot b c ks stop s es (t, r, fs, h, rest, e) = stop s t r h
 string_stops limit Value spot b c ks stop s es (t, r, fs, h, rest, e) = stop s t r h
+
+-- a run of bytes of a number
+pub number_bytes_lead : (limit : ℕ) (b w : List ℕ) (ks : List OpenKind) → AreNumberBytes w → Leads limit (at (numeral b) ks) w [] (at (numeral (b ++ w)) ks)
+number_bytes_lead limit b [] ks h =
+    subst (λ x. Leads limit (at (numeral b) ks) [] [] (at (numeral x) ks)) (sym (append-nil b)) (record { onward = λ s es r. (es, refl, r); back = λ s fs r. r; })
+number_bytes_lead limit b (c ∷ w) ks h =
+    let here = number_byte_leads limit b c ks h.0 in
+    let more = number_bytes_lead limit (b ++ c ∷ []) w ks h.1 in
+    subst (λ x. Leads limit (at (numeral b) ks) (c ∷ w) [] (at (numeral x) ks)) (append_assoc b (c ∷ []) w) (record {
+      onward = λ s es r.
+        let (fs, e, r1) = here.onward (w ++ s) es r in
+        let (gs, e1, r2) = more.onward s fs r1 in (gs, e ∙ e1, r2);
+      back = λ s fs r. here.back (w ++ s) fs (more.back s fs r);
+    })
+
+-- a number is one event
+pub number_event : (n : Node) (t : List ℕ) (fs : List NodeEvent) → NumberText n t → events n fs ≡ events n [] ++ fs
+number_event null t fs h = absurd h
+number_event (bool b) t fs h = absurd h
+number_event (int z) t fs h = refl
+number_event (number u) t fs h = refl
+number_event (text u) t fs h = absurd h
+number_event (bytes u) t fs h = absurd h
+number_event (tag k n) t fs h = absurd h
+number_event (opaque b) t fs h = absurd h
+number_event (list ns) t fs h = absurd h
+number_event (object ms) t fs h = absurd h
+
+-- a string that no bytes close
+pub string_no_rest : (limit : ℕ) (role : Role) (spot : Spot) (b : List ℕ) (ks : List OpenKind) (s : List ℕ) (es : List NodeEvent)
+    → ((t r : List ℕ) → TextRest spot b s t r → ⊥) → RestAt limit (in_text role spot b) ks s es → ⊥
+string_no_rest limit Key spot b ks s es none (t, r, fs, h, rest, e) = none t r h
+string_no_rest limit Value spot b ks s es none (t, r, fs, h, rest, e) = none t r h
+
+-- something must come
+abbrev pub IsOwed : Where → Type 0
+IsOwed value = Unit {0}
+IsOwed first_entry = Unit {0}
+IsOwed first_key = Unit {0}
+IsOwed next_key = Unit {0}
+IsOwed colon = Unit {0}
+IsOwed after = ⊥
+IsOwed (word w taken) = ⊥
+IsOwed (numeral b) = ⊥
+IsOwed (in_text role spot b) = ⊥
+
+-- the bytes don't end where something must come
+value_owed : (limit : ℕ) (ks : List OpenKind) (es : List NodeEvent) → ValueComes limit ks [] es → ⊥
+value_owed limit ks es (s, k, (n, r, fs, h, rest, en, e)) = spells_none n r (subst (λ x. SpellsValue n x r) k h)
+
+key_owed : (limit : ℕ) (ks : List OpenKind) (es : List NodeEvent) → KeyComes limit ks [] es → ⊥
+key_owed limit ks es (s, k, (name, r, fs, (cs, u, e1, e2, h), rest, e)) = skips_nothing 34 u (sym e2 ∙ k)
+
+first_entry_owed : (limit : ℕ) (ks : List OpenKind) (es : List NodeEvent) → FirstEntryComes limit ks [] es → ⊥
+first_entry_owed limit [] es h = h
+first_entry_owed limit (a_list ∷ ks) es (no_nodes, r, fs, k, room, en, e) = skips_nothing 93 r k
+first_entry_owed limit (a_list ∷ ks) es (node n ns, r, fs, (s1, s2, k, v, m), room, en, e) = spells_none n s2 (subst (λ x. SpellsValue n x s2) k v)
+first_entry_owed limit (an_object ∷ ks) es h = h
+
+first_key_owed : (limit : ℕ) (ks : List OpenKind) (es : List NodeEvent) → FirstKeyComes limit ks [] es → ⊥
+first_key_owed limit [] es h = h
+first_key_owed limit (a_list ∷ ks) es h = h
+first_key_owed limit (an_object ∷ ks) es (no_members, r, fs, k, room, en, e) = skips_nothing 125 r k
+first_key_owed limit (an_object ∷ ks) es (member name n ms, r, fs, (s1, s2, s3, s4, k, (cs, u, e1, e2, h), sep, v, m), room, en, e) = skips_nothing 34 u (sym e2 ∙ k)
+
+pub word_owed : (limit : ℕ) (w : Literal) (taken : ℕ) (ks : List OpenKind) (es : List NodeEvent) → taken < length (letters w) → RestAt limit (word w taken) ks [] es → ⊥
+word_owed limit w taken ks es inside (r, fs, e, en, e1) =
+    let cut : [] ≡ get_or (letters w) taken 0 ∷ (drop (taken + 1) (letters w) ++ r) = e ∙ ap (λ x. x ++ r) (drop_more (letters w) taken 0 inside) in cc
+
+-- between two tokens the bytes end only behind the one value
+pub token_owed : (limit : ℕ) (p : Where) (ks : List OpenKind) (es : List NodeEvent) → IsOwed p → RestAt limit p ks [] es → ⊥
+token_owed limit value ks es o h = value_owed limit ks es h
+token_owed limit first_entry ks es o h = first_entry_owed limit ks es h
+token_owed limit first_key ks es o h = first_key_owed limit ks es h
+token_owed limit next_key ks es o h = key_owed limit ks es h
+token_owed limit colon ks es o (s, k, h) = skips_nothing 58 s k
+token_owed limit after ks es o h = absurd o
+token_owed limit (word w taken) ks es o h = absurd o
+token_owed limit (numeral b) ks es o h = absurd o
+token_owed limit (in_text role spot b) ks es o h = absurd o

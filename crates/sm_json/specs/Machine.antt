@@ -13,6 +13,8 @@ use Rattle.sm_tree.specs.declared.build.OpenKind.TheVariants.{List as a_list, Ob
 use Rattle.sm_tree.specs.declared.refusal.SyntaxRefusal.{SyntaxRefusal}
 use Rattle.sm_tree.specs.declared.refusal.SyntaxRefusal.TheVariants.{Bad, Ended, TooDeep, KeyKind, NoMemory}
 use Rattle.sm_json.specs.Strings.{is_white}
+use Rattle.sm_json.specs.declared.text.TextRefusal.{TextRefusal}
+use Rattle.sm_json.specs.declared.text.TextRefusal.TheVariants.{Bad as BadString, NoMemory as NoRoom}
 use Rattle.sm_json.specs.NumberTail.{Leads as NumberLeads, Stops as NumberStops}
 use Rattle.sm_json.specs.declared.number.Run.{Run}
 use Rattle.sm_json.specs.Reading.{text_of}
@@ -203,3 +205,8 @@ pub record HandsText (role : Role) (before behind : Reader) : Type 0 where
   pub lists : lists_of behind ≡ lists_of before
   pub place : behind.place ≡ behind_text role
   pub sound : IsSound behind
+
+-- the refusal of a string as that of a text
+abbrev pub as_syntax : TextRefusal → SyntaxRefusal
+as_syntax (BadString at) = Bad at
+as_syntax NoRoom = NoMemory

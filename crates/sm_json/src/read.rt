@@ -9,7 +9,7 @@ ghost use Rattle.sm_json.specs.Strings.{is_white as white};
 ghost use Rattle.sm_json.specs.NumberTail.{Leads as NumberLeads, Stops as NumberStops, Tail};
 ghost use Rattle.sm_json.specs.Answers.{ReadsTree};
 ghost use Rattle.sm_json.specs.Rest.{letters, literal_node, start};
-ghost use Rattle.sm_json.specs.Machine.{AllWhite, IsWithin, moved_by};
+ghost use Rattle.sm_json.specs.Machine.{AllWhite, IsWithin, as_syntax, moved_by};
 
 use crate::number::{Phase, Run, number_run, number_tree};
 use crate::place::{Literal, Place, Role};
@@ -430,8 +430,7 @@ impl Reader {
                 Ok(count)
             }
             Ok(Reading::Open) => Ok(bytes.len()),
-            Err(TextRefusal::Bad(at)) => Err(SyntaxRefusal::Bad(at as u64)),
-            Err(TextRefusal::NoMemory) => Err(SyntaxRefusal::NoMemory),
+            Err(refusal) => Err(refused(refusal)),
         }
     }
 
@@ -499,21 +498,54 @@ impl Reader {
         Ok(())
     }
 
-    // The tree, where the text ends here.
-    fn finish(mut self) -> Result<Tree, SyntaxRefusal>
+    // The tree, where the text ends with this number.
+    fn finish_number(mut self, phase: Phase) -> Result<Tree, SyntaxRefusal>
         requires sound { IsSound self }
+        requires place { self.place ≡ Place.Number phase }
         ensures { Finishes self result }
     {
-        if let Place::Number(phase) = self.place {
-            if !phase.is_whole() {
-                return Err(SyntaxRefusal::Ended);
-            }
-            self.hand_number(phase)?;
+        if self.depth > 0 {
+            return Err(SyntaxRefusal::Ended);
         }
+        if !phase.is_whole() {
+            return Err(SyntaxRefusal::Ended);
+        }
+        self.hand_number(phase)?;
+        Ok(self.builder.finish())
+    }
+
+    // The tree, where the text ends behind this value.
+    fn finish_value(self) -> Result<Tree, SyntaxRefusal>
+        requires sound { IsSound self }
+        requires place { self.place ≡ Place.After }
+        ensures { Finishes self result }
+    {
+        if self.depth > 0 {
+            return Err(SyntaxRefusal::Ended);
+        }
+        Ok(self.builder.finish())
+    }
+
+    // The tree, where the text ends here.
+    fn finish(self) -> Result<Tree, SyntaxRefusal>
+        requires { IsSound self }
+        ensures { Finishes self result }
+    {
         match self.place {
-            Place::After if self.depth == 0 => Ok(self.builder.finish()),
+            Place::Number(phase) => self.finish_number(phase),
+            Place::After => self.finish_value(),
             _ => Err(SyntaxRefusal::Ended),
         }
+    }
+}
+
+// The refusal of a string as that of a text.
+fn refused(refusal: TextRefusal) -> SyntaxRefusal
+    ensures { result ≡ as_syntax refusal }
+{
+    match refusal {
+        TextRefusal::Bad(at) => SyntaxRefusal::Bad(at as u64),
+        TextRefusal::NoMemory => SyntaxRefusal::NoMemory,
     }
 }
 
@@ -542,6 +574,8 @@ pub fn read_tree(alloc: Global, bytes: &[u8]) -> Result<Tree, SyntaxRefusal>
     ensures { ReadsTree bytes.now result }
 {
     let mut reader = Reader::new(alloc);
-    reader.feed(bytes)?;
-    reader.finish()
+    match reader.feed(bytes) {
+        Ok(()) => reader.finish(),
+        Err(refusal) => Err(refusal),
+    }
 }
