@@ -1,3 +1,16 @@
+pub mod NumberParts
+pub mod NumberRuns
+pub mod NumberSteps
+pub mod Numbers
+pub mod Starts
+pub mod White
+pub mod Opening
+pub mod Leaves
+pub mod Between
+pub mod After
+pub mod Within
+pub mod Whole
+pub mod Readers
 pub mod Utf8Bytes
 pub mod Utf8Shapes
 pub mod Steps
@@ -9,3 +22,5 @@ pub mod DigitSteps
 pub mod Texts
 pub mod Completions
 pub mod ReaderTurns
+pub mod Owed
+pub mod Turns

@@ -2,8 +2,12 @@ pub mod Strings
 pub mod JsonText
 pub mod Written
 pub mod TextRest
-pub mod Utf8Bytes
 pub mod TextSteps
 pub mod Runs
-pub mod Live
+pub mod Utf8Bytes
 pub mod Reading
+pub mod NumberTail
+pub mod Rest
+pub mod Machine
+pub mod Live
+pub mod Answers

@@ -43,7 +43,7 @@ TakesByte old new x (Ok Refused) = Stops old.spot (text_of old) (x ∷ []) × Re
 TakesByte old new x (Err refusal) = Unit {0}
 
 abbrev pub ReadsText : TextReader → TextReader → List ℕ → Result Reading TextRefusal → Type 0
-ReadsText old new bs (Ok (Closed count)) = (count ≤ length bs) × ReadsWhole old new (take count bs)
+ReadsText old new bs (Ok (Closed count)) = (0 < count) × (count ≤ length bs) × ReadsWhole old new (take count bs)
 ReadsText old new bs (Ok Open) = ReadsOn old new bs
 ReadsText old new bs (Err (Bad at)) =
     (at < length bs) × Stops old.spot (text_of old) (take (at + 1) bs) × ReadsOn old new (take at bs)

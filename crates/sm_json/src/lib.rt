@@ -3,10 +3,12 @@
 #![tactic(auto)]
 
 mod escape;
+mod number;
+mod place;
+mod read;
 mod spot;
 mod text;
 mod utf8;
 
-pub use sm_tree::NoMemory;
-pub use spot::{Digits, Part, Spot, Step};
-pub use text::{Reading, TextReader, TextRefusal};
+pub use read::read_tree;
+pub use sm_tree::{NoMemory, SyntaxRefusal};

@@ -1,5 +1,5 @@
 pub mod Views
-mod Tokens
-mod Sameness
 pub mod Events
 pub mod Building
+mod Tokens
+mod Sameness

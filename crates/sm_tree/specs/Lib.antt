@@ -4,10 +4,10 @@ pub mod Weight
 pub mod Numbers
 pub mod Json
 pub mod Events
-pub mod Same
 pub mod View
-pub mod Pointer
 pub mod Building
 pub mod BuilderSteps
 pub mod BuilderView
 pub mod EventLaws
+pub mod Same
+pub mod Pointer

@@ -2,16 +2,16 @@
 // The readers and writers of both, and all that speaks of values, stand on it.
 #![tactic(auto)]
 
-pub mod laws;
-mod path;
 mod build;
 pub mod laws_of_events;
+pub mod laws;
+mod path;
 mod refusal;
 mod text;
 mod tree;
 
-pub use path::{Path, Step};
 pub use build::{OpenKind, TreeBuilder};
+pub use path::{Path, Step};
 pub use refusal::SyntaxRefusal;
 use std::alloc::{AllocError, AllocFailed};
 pub use text::{Bytes, Text};

@@ -1,0 +1,10 @@
+use Rattle.std.proofs.Common.{◌≡◌, true, false, inl, inr}
+use Rattle.sm_json.proofs.Turns.{number_cut_short}
+use Rattle.sm_json.proofs.read.Reader.finish_number.Goals as goal
+
+pub returns-then-self-gt0 : goal.returns-then-self-gt0
+returns-then-self-gt0 c = number_cut_short c.args.self c.args.phase c.requires.sound c.requires.place (inl c.if-self-gt0.true)
+
+pub returns-then-not-is_whole : goal.returns-then-not-is_whole
+returns-then-not-is_whole c =
+    number_cut_short c.args.self c.args.phase c.requires.sound c.requires.place (inr (λ whole. let clash : false ≡ true = c.if-not-is_whole.ensures.1 whole in cc))
