@@ -1,3 +1,5 @@
 pub mod Strings
 pub mod JsonText
 pub mod Written
+pub mod Laws
+pub mod Placing

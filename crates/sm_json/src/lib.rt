@@ -2,4 +2,12 @@
 // What reads and writes messages and model files in JSON stands on it.
 #![tactic(auto)]
 
+mod escape;
+pub mod laws;
+mod length;
+mod place;
+mod write;
+
+pub use length::encoded_len;
 pub use sm_tree::NoMemory;
+pub use write::write_tree;

@@ -1,0 +1,3 @@
+pub mod WrittenStrings
+pub mod WrittenNumbers
+pub mod WrittenTrees
