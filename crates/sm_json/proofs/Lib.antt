@@ -1,3 +1,5 @@
 pub mod WrittenStrings
 pub mod WrittenNumbers
 pub mod WrittenTrees
+pub mod Runs
+pub mod Placed

@@ -58,14 +58,16 @@ int_spelt (pos n) fits =
     let small : n < 2 ^ 64 = omega (arith, fits) in
     let numeral = decimal_is_IsNumeral n small in
     let digit = first_digit (decimal n) numeral.0.1 numeral.0.0 in
-    let value : signed_digits_value 10 (decimal n) ≡ pos n = unsigned_value (decimal n) digit ∙ ap pos numeral.1 in
-    (whole_number [] (decimal n) (inl refl) (decimal_is_int n small),
-     record { is_integer = subst (IsNumeral 10) (sym (unsigned_text (decimal n) digit)) numeral.0; in_range = subst (SFits w64) (sym value) fits },
-     value)
+    let value : signed_digits_value 10 (decimal n) ≡ pos n = unsigned_value (decimal n) digit ∙ ap pos numeral.1 in (
+      whole_number [] (decimal n) (inl refl) (decimal_is_int n small),
+      record { is_integer = subst (IsNumeral 10) (sym (unsigned_text (decimal n) digit)) numeral.0; in_range = subst (SFits w64) (sym value) fits },
+      value,
+    )
 int_spelt (negsuc n) fits =
     let small : suc n < 2 ^ 64 = omega (arith, fits) in
     let numeral = decimal_is_IsNumeral (suc n) small in
-    let value : signed_digits_value 10 (45 ∷ decimal (suc n)) ≡ negsuc n = ap (λ m. neg_ℤ (pos m)) numeral.1 in
-    (whole_number (45 ∷ []) (decimal (suc n)) (inr refl) (decimal_is_int (suc n) small),
-     record { is_integer = numeral.0; in_range = subst (SFits w64) (sym value) fits },
-     value)
+    let value : signed_digits_value 10 (45 ∷ decimal (suc n)) ≡ negsuc n = ap (λ m. neg_ℤ (pos m)) numeral.1 in (
+      whole_number (45 ∷ []) (decimal (suc n)) (inr refl) (decimal_is_int (suc n) small),
+      record { is_integer = numeral.0; in_range = subst (SFits w64) (sym value) fits },
+      value,
+    )

@@ -48,15 +48,37 @@ mutual
 
   pairs_spelt : (ms : Members) (r : List ℕ) → AreJsonMembers ms → Pairs ms (written_pairs ms ++ r) r
   pairs_spelt no_members r json = inl refl
-  pairs_spelt (member k n ms) r json =
-      (_, _, _, _, _, skips_none (written_pairs (member k n ms) ++ r), name_spelt k (written n ++ more_written_pairs ms) r json.0, inl refl, skips_none _,
-       followed n (more_written_pairs ms) r (tree_spelt n (more_written_pairs ms ++ r) json.1), more_pairs_spelt ms r json.2)
+  pairs_spelt (member k n ms) r json = (
+    _,
+    _,
+    _,
+    _,
+    _,
+    skips_none (written_pairs (member k n ms) ++ r),
+    name_spelt k (written n ++ more_written_pairs ms) r json.0,
+    inl refl,
+    skips_none _,
+    followed n (more_written_pairs ms) r (tree_spelt n (more_written_pairs ms ++ r) json.1),
+    more_pairs_spelt ms r json.2,
+  )
 
   more_pairs_spelt : (ms : Members) (r : List ℕ) → AreJsonMembers ms → MorePairs ms (more_written_pairs ms ++ r) r
   more_pairs_spelt no_members r json = inl refl
-  more_pairs_spelt (member k n ms) r json =
-      (_, _, _, _, _, _, inl refl, skips_none ((written_text k ++ 58 ∷ (written n ++ more_written_pairs ms)) ++ r), name_spelt k (written n ++ more_written_pairs ms) r json.0, inl refl, skips_none _,
-       followed n (more_written_pairs ms) r (tree_spelt n (more_written_pairs ms ++ r) json.1), more_pairs_spelt ms r json.2)
+  more_pairs_spelt (member k n ms) r json = (
+    _,
+    _,
+    _,
+    _,
+    _,
+    _,
+    inl refl,
+    skips_none ((written_text k ++ 58 ∷ (written n ++ more_written_pairs ms)) ++ r),
+    name_spelt k (written n ++ more_written_pairs ms) r json.0,
+    inl refl,
+    skips_none _,
+    followed n (more_written_pairs ms) r (tree_spelt n (more_written_pairs ms ++ r) json.1),
+    more_pairs_spelt ms r json.2,
+  )
 
 -- what is written is a JSON text of the tree
 pub text_of_tree : (n : Node) → IsJson n → JsonText n (written n)

@@ -50,6 +50,7 @@ fn int_len(value: i64) -> u64
     digits.format(value).len() as u64
 }
 
+#[cycle(lengths)]
 fn entries_len(items: &[Tree]) -> u64
     ensures { result ≡ length_word (length (written_entries (nodes_of (nodes_view items.now)))) }
 {
@@ -59,16 +60,18 @@ fn entries_len(items: &[Tree]) -> u64
     encoded_len(first).saturating_add(more_entries_len(more))
 }
 
+#[cycle(lengths)]
 fn more_entries_len(items: &[Tree]) -> u64
     ensures { result ≡ length_word (length (more_written_entries (nodes_of (nodes_view items.now)))) }
 {
-    let mut len: u64 = 1;
+    let mut len: u64 = 0;
     for item in items {
         len = len.saturating_add(encoded_len(item)).saturating_add(1);
     }
-    len
+    len.saturating_add(1)
 }
 
+#[cycle(lengths)]
 fn pairs_len(pairs: &[(Text, Tree)]) -> u64
     ensures { result ≡ length_word (length (written_pairs (members_of (members_view pairs.now)))) }
 {
@@ -77,22 +80,25 @@ fn pairs_len(pairs: &[(Text, Tree)]) -> u64
     };
     let name = text_len(&first.0).saturating_add(1);
     let value = encoded_len(&first.1);
-    name.saturating_add(value).saturating_add(more_pairs_len(more))
+    name.saturating_add(value)
+        .saturating_add(more_pairs_len(more))
 }
 
+#[cycle(lengths)]
 fn more_pairs_len(pairs: &[(Text, Tree)]) -> u64
     ensures { result ≡ length_word (length (more_written_pairs (members_of (members_view pairs.now)))) }
 {
-    let mut len: u64 = 1;
+    let mut len: u64 = 0;
     for pair in pairs {
         let name = text_len(&pair.0).saturating_add(2);
         let value = encoded_len(&pair.1);
         len = len.saturating_add(name).saturating_add(value);
     }
-    len
+    len.saturating_add(1)
 }
 
 /// How many bytes `write_tree` writes for a tree, or `u64::MAX` where they are more. No memory.
+#[cycle(lengths)]
 pub fn encoded_len(tree: &Tree) -> u64
     ensures length { result ≡ length_word (length (written (node_of tree.now))) }
 {

@@ -11,6 +11,7 @@ use sm_tree::{NoMemory, Text, Tree};
 use std::alloc::Global;
 use std::mem;
 
+#[cycle(placing)]
 fn place_entries(buf: &mut [u8], at: usize, items: &[Tree]) -> usize
     requires room { at + length (written_entries (nodes_of (nodes_view items.now))) ≤ length buf.old }
     ensures bytes { take result buf.new ≡ take at buf.old ++ written_entries (nodes_of (nodes_view items.now)) }
@@ -23,6 +24,7 @@ fn place_entries(buf: &mut [u8], at: usize, items: &[Tree]) -> usize
     place_more_entries(buf, at, more)
 }
 
+#[cycle(placing)]
 fn place_more_entries(buf: &mut [u8], at: usize, items: &[Tree]) -> usize
     requires room { at + length (more_written_entries (nodes_of (nodes_view items.now))) ≤ length buf.old }
     ensures bytes { take result buf.new ≡ take at buf.old ++ more_written_entries (nodes_of (nodes_view items.now)) }
@@ -36,6 +38,7 @@ fn place_more_entries(buf: &mut [u8], at: usize, items: &[Tree]) -> usize
     place_byte(buf, at, b']')
 }
 
+#[cycle(placing)]
 fn place_pairs(buf: &mut [u8], at: usize, pairs: &[(Text, Tree)]) -> usize
     requires room { at + length (written_pairs (members_of (members_view pairs.now))) ≤ length buf.old }
     ensures bytes { take result buf.new ≡ take at buf.old ++ written_pairs (members_of (members_view pairs.now)) }
@@ -49,6 +52,7 @@ fn place_pairs(buf: &mut [u8], at: usize, pairs: &[(Text, Tree)]) -> usize
     place_more_pairs(buf, at, more)
 }
 
+#[cycle(placing)]
 fn place_more_pairs(buf: &mut [u8], at: usize, pairs: &[(Text, Tree)]) -> usize
     requires room { at + length (more_written_pairs (members_of (members_view pairs.now))) ≤ length buf.old }
     ensures bytes { take result buf.new ≡ take at buf.old ++ more_written_pairs (members_of (members_view pairs.now)) }
@@ -63,6 +67,7 @@ fn place_more_pairs(buf: &mut [u8], at: usize, pairs: &[(Text, Tree)]) -> usize
     place_byte(buf, at, b'}')
 }
 
+#[cycle(placing)]
 fn place_tree(buf: &mut [u8], at: usize, tree: &Tree) -> usize
     requires room { at + length (written (node_of tree.now)) ≤ length buf.old }
     ensures bytes { take result buf.new ≡ take at buf.old ++ written (node_of tree.now) }
