@@ -3,3 +3,4 @@ pub mod WrittenNumbers
 pub mod WrittenTrees
 pub mod Runs
 pub mod Placed
+pub mod Lanes

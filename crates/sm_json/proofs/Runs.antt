@@ -6,7 +6,7 @@ use Rattle.sm_json.specs.Placing.{is_escaped}
 use Rattle.sm_json.specs.Written.{written_byte, written_bytes}
 use Rattle.sm_json.proofs.WrittenStrings.{plain_byte, written_bytes_append}
 
-unescaped_byte : (b : ℕ) → is_escaped b ≡ false → written_byte b ≡ b ∷ []
+pub unescaped_byte : (b : ℕ) → is_escaped b ≡ false → written_byte b ≡ b ∷ []
 unescaped_byte b h =
     let parts = or_parts (nat_lt b 32) _ h in
     let marks = or_parts (b == 34) _ parts.1 in

@@ -7,6 +7,7 @@ ghost use Rattle.sm_json.specs.Placing.{length_word};
 ghost use Rattle.sm_json.specs.Written.{written, written_entries, more_written_entries, written_pairs, more_written_pairs, written_byte, written_bytes, written_text};
 
 use crate::escape::{ByteForm, form_of, plain_run};
+use crate::plain::is_plain;
 use itoa::Buffer;
 use sm_tree::{Text, Tree};
 
@@ -24,6 +25,9 @@ fn byte_len(byte: u8) -> u64
 fn escaped_len(text: &[u8]) -> u64
     ensures { result ≡ length_word (length (written_bytes text.now)) }
 {
+    if is_plain(text) {
+        return text.len() as u64;
+    }
     let mut len: u64 = 0;
     let mut rest = text;
     loop {

@@ -6,6 +6,7 @@ mod escape;
 pub mod laws;
 mod length;
 mod place;
+mod plain;
 mod write;
 
 pub use length::encoded_len;

@@ -5,6 +5,7 @@ ghost use Rattle.std.specs.Fmt.{signed_decimal};
 ghost use Rattle.sm_json.specs.Written.{written_byte, written_bytes, written_text};
 
 use crate::escape::{ByteForm, form_of, hex_digit, plain_run};
+use crate::plain::is_plain;
 use itoa::Buffer;
 use sm_tree::Text;
 
@@ -50,6 +51,9 @@ fn place_escaped(buf: &mut [u8], at: usize, text: &[u8]) -> usize
     ensures bytes { take result buf.new ≡ take at buf.old ++ written_bytes text.now }
     ensures next { result ≡ at + length (written_bytes text.now) }
 {
+    if is_plain(text) {
+        return place_slice(buf, at, text);
+    }
     let mut at = at;
     let mut rest = text;
     loop {
