@@ -7,6 +7,8 @@ pub mod laws;
 mod length;
 mod place;
 mod plain;
+#[cfg(test)]
+mod tests;
 mod write;
 
 pub use length::encoded_len;
