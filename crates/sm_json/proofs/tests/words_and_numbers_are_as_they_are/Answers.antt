@@ -3,7 +3,7 @@ use Rattle.std.proofs.Common.{[], ◌∷◌, inl, inr, refl, arith}
 use Rattle.sm_json.proofs.tests.words_and_numbers_are_as_they_are.Goals as goal
 
 pub number_tree-requires : goal.number_tree-requires
-number_tree-requires c =
+number_tree-requires g c =
     (record {
       minus = [];
       whole = 49 ∷ [];
@@ -17,7 +17,7 @@ number_tree-requires c =
     }, (λ word. omega (arith, word.is_integer.1.1.0)), refl)
 
 pub number_tree-requires-2 : goal.number_tree-requires-2
-number_tree-requires-2 c =
+number_tree-requires-2 g c =
     (record {
       minus = [];
       whole = 49 ∷ [];
