@@ -1,5 +1,5 @@
 -- Bytes placed one after the other.
-use Rattle.std.proofs.Common.{◌≡◌, ℕ, List, ◌∷◌, ◌++◌, sym, ap, ◌∙◌, append_assoc}
+use Rattle.std.proofs.Common.{◌≡◌, ℕ, List, ◌++◌, ap, ◌∙◌, append_assoc}
 
 -- p and then w were placed behind a
 pub placed_twice : (a between after p w : List ℕ) → between ≡ a ++ p → after ≡ between ++ w → after ≡ a ++ (p ++ w)

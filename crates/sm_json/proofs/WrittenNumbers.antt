@@ -1,15 +1,14 @@
 -- The decimal text of an integer of 64 bits spells it.
-use Rattle.std.proofs.Common.{◌≡◌, ℕ, zero, suc, ◌+◌, ◌^◌, ◌<◌, ◌≤◌, ◌⊎◌, ℤ, pos, negsuc, neg_ℤ, List, [], ◌∷◌, ◌++◌, length, get_or, inl, inr, refl, sym, ap, ◌∙◌, subst, arith, append-nil}
+use Rattle.std.proofs.Common.{◌≡◌, ℕ, zero, suc, ◌^◌, ◌<◌, ◌≤◌, ℤ, pos, negsuc, neg_ℤ, List, [], ◌∷◌, ◌++◌, length, get_or, inl, inr, refl, sym, ap, ◌∙◌, subst, arith, append-nil}
 use Rattle.std.specs.Fmt.{decimal, signed_decimal}
 use Rattle.std.specs.Str.Parse.{AllDigits, IsNumeral, digits_value, signed_digits_value, without_leading_sign}
 use Rattle.std.proofs.lemmas.Bool.{cond-false, ne_eqb}
 use Rattle.std.proofs.lemmas.Fmt.{decimal_is_IsNumeral, decimal_digit, first_decimal}
 use Rattle.std.proofs.lemmas.Str.Parse.{digit_from_value, without_leading_plus_none}
-use Rattle.std.proofs.lemmas.Int.{ints}
 use mir.Syntax.{w64}
 use mir.Val.{SFits}
 use Rattle.sm_tree.specs.Node.{int}
-use Rattle.sm_tree.specs.Numbers.{IsDigit, IsMinus, AreDigits, IsInt, IsNumber, IsWord, NumberText}
+use Rattle.sm_tree.specs.Numbers.{IsMinus, AreDigits, IsInt, IsNumber, NumberText}
 
 digits_from_values : (ds : List ℕ) → AllDigits 10 ds → AreDigits ds
 digits_from_values [] all = tt

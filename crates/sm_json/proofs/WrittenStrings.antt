@@ -1,10 +1,10 @@
 -- The written text of a string spells it: through its characters, since the bytes from 128 on stand for
 -- themselves and no other byte of a longer character comes.
-use Rattle.std.proofs.Common.{◌≡◌, ℕ, suc, ◌+◌, ◌-◌, ◌*◌, ◌/◌, ◌%◌, ◌<◌, ◌≤◌, ◌≢◌, ◌⊎◌, ◌==◌, Bool, true, false, cond, ◌&&◌, nat_lt, nat_le, List, [], ◌∷◌, ◌++◌, length, get_or, Some, None, codes, IsUtf8, inl, inr, refl, sym, ap, ap₂, ◌∙◌, subst, arith, append_assoc, append-nil, ltb-true, ltb-false, eqb-true, ne_eqb, le-leb, lt-ltb, le-ltb}
-use Rattle.std.proofs.lemmas.Bool.{eqb-false, and_from, and_left, and_right, and_parts, cases_lt, cond-true, cond-false, cond_both, lt-leb}
+use Rattle.std.proofs.Common.{◌≡◌, ℕ, suc, ◌+◌, ◌/◌, ◌%◌, ◌<◌, ◌≤◌, ◌≢◌, ◌==◌, true, cond, nat_lt, List, [], ◌∷◌, ◌++◌, length, get_or, Some, codes, IsUtf8, inl, inr, refl, sym, ap, ap₂, ◌∙◌, subst, arith, append_assoc, append-nil, ltb-true, ltb-false, eqb-true, ne_eqb, le-leb, lt-ltb, le-ltb}
+use Rattle.std.proofs.lemmas.Bool.{eqb-false, and_from, and_right, and_parts, cases_lt, cond-true, cond-false, cond_both, lt-leb}
 use Rattle.std.proofs.lemmas.Str.{encode_ascii, inside_one}
 use lib.Utf8.{scalar, scalars, encode, encodes, low_scalar}
-use Rattle.sm_json.specs.Strings.{IsUnescaped, short_escape, hex_value, HexDigits, CodeUnit, Escape, Character, Characters, SpellsText}
+use Rattle.sm_json.specs.Strings.{short_escape, hex_value, HexDigits, Character, Characters, SpellsText}
 use Rattle.sm_json.specs.Written.{hex_digit, written_byte, written_bytes, written_text}
 
 pub written_bytes_append : (xs ys : List ℕ) → written_bytes (xs ++ ys) ≡ written_bytes xs ++ written_bytes ys

@@ -1,5 +1,5 @@
 -- What the written text and its definition are worth, as statements that the functions of src/laws.rt prove.
-use Rattle.std.specs.Prelude.{◌≡◌, ℕ, ◌<◌, List, [], ◌∷◌, ◌++◌, codes, IsUtf8}
+use Rattle.std.specs.Prelude.{◌≡◌, ℕ, List, [], ◌∷◌, ◌++◌, codes, IsUtf8}
 use Rattle.sm_tree.specs.Node.{Node}
 use Rattle.sm_tree.specs.Json.{IsJson}
 use Rattle.sm_json.specs.Strings.{SpellsText}
