@@ -10,7 +10,7 @@ use Rattle.std.specs.Prelude.{not}
 use lib.Lanes.{chunk, mask_l, zip2, top, Each1}
 use Rattle.sm_json.specs.Placing.{is_escaped, IsPlainBetween}
 use Rattle.sm_json.specs.Written.{written_bytes}
-use Rattle.sm_json.proofs.Runs.{unescaped_byte}
+use Rattle.sm_json.proofs.PlainRuns.{unescaped_byte}
 
 -- what a comparison of two lanes leaves in the mask's lane
 abbrev equal_lane : ℕ → ℕ → ℕ

@@ -1,6 +1,6 @@
 pub mod WrittenStrings
 pub mod WrittenNumbers
 pub mod WrittenTrees
-pub mod Runs
+pub mod PlainRuns
 pub mod Placed
 pub mod Lanes

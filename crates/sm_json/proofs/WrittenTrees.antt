@@ -4,7 +4,7 @@ use Rattle.std.specs.Fmt.{signed_decimal}
 use Rattle.sm_tree.specs.Node.{Node, Nodes, Members, null, bool, int, number, text, bytes, tag, opaque, list, object, no_nodes, node, no_members, member}
 use Rattle.sm_tree.specs.Json.{IsJson, AreJson, AreJsonMembers}
 use Rattle.sm_json.specs.Strings.{Skips, SpellsText}
-use Rattle.sm_json.specs.JsonText.{Spells, Entries, MoreEntries, Pairs, MorePairs, JsonText}
+use Rattle.sm_json.specs.JsonText.{SpellsValue, Entries, MoreEntries, Pairs, MorePairs, JsonText}
 use Rattle.sm_json.specs.Written.{written_text, written, written_entries, more_written_entries, written_pairs, more_written_pairs}
 use Rattle.sm_json.proofs.WrittenStrings.{text_spelt}
 use Rattle.sm_json.proofs.WrittenNumbers.{int_spelt}
@@ -19,12 +19,12 @@ name_spelt : (k rest r : List ℕ) → IsUtf8 k → SpellsText k ((written_text 
 name_spelt k rest r utf8 = subst (λ s. SpellsText k s (58 ∷ (rest ++ r))) (sym (append_assoc (written_text k) (58 ∷ rest) r)) (text_spelt k (58 ∷ (rest ++ r)) utf8)
 
 -- a tree with something behind it
-followed : (n : Node) (rest r : List ℕ) → Spells n (written n ++ (rest ++ r)) (rest ++ r) → Spells n ((written n ++ rest) ++ r) (rest ++ r)
-followed n rest r spelt = subst (λ s. Spells n s (rest ++ r)) (sym (append_assoc (written n) rest r)) spelt
+followed : (n : Node) (rest r : List ℕ) → SpellsValue n (written n ++ (rest ++ r)) (rest ++ r) → SpellsValue n ((written n ++ rest) ++ r) (rest ++ r)
+followed n rest r spelt = subst (λ s. SpellsValue n s (rest ++ r)) (sym (append_assoc (written n) rest r)) spelt
 
 mutual
   -- the written text of a tree begins with a spelling of it, and what follows is left
-  pub tree_spelt : (n : Node) (r : List ℕ) → IsJson n → Spells n (written n ++ r) r
+  pub tree_spelt : (n : Node) (r : List ℕ) → IsJson n → SpellsValue n (written n ++ r) r
   tree_spelt null r json = refl
   tree_spelt (bool b) r json = refl
   tree_spelt (int z) r json = (signed_decimal z, refl, int_spelt z json)
@@ -82,4 +82,4 @@ mutual
 
 -- what is written is a JSON text of the tree
 pub text_of_tree : (n : Node) → IsJson n → JsonText n (written n)
-text_of_tree n json = (written n, [], skips_none (written n), subst (λ s. Spells n s []) (append-nil (written n)) (tree_spelt n [] json), refl)
+text_of_tree n json = (written n, [], skips_none (written n), subst (λ s. SpellsValue n s []) (append-nil (written n)) (tree_spelt n [] json), refl)

@@ -3,7 +3,7 @@ use Rattle.std.specs.Prelude.{◌≡◌, ℕ, List, [], ◌∷◌, ◌++◌, cod
 use Rattle.sm_tree.specs.Node.{Node}
 use Rattle.sm_tree.specs.Json.{IsJson}
 use Rattle.sm_json.specs.Strings.{SpellsText}
-use Rattle.sm_json.specs.JsonText.{Spells, JsonText}
+use Rattle.sm_json.specs.JsonText.{SpellsValue, JsonText}
 use Rattle.sm_json.specs.Written.{written, written_text}
 
 -- what is written for a tree is a JSON text of that tree
@@ -12,7 +12,7 @@ WrittenIsText = (n : Node) → IsJson n → JsonText n (written n)
 
 -- the written text ends where the tree ends, whatever follows it
 abbrev pub WrittenSpells : Type 0
-WrittenSpells = (n : Node) (rest : List ℕ) → IsJson n → Spells n (written n ++ rest) rest
+WrittenSpells = (n : Node) (rest : List ℕ) → IsJson n → SpellsValue n (written n ++ rest) rest
 
 -- the written text of a string is a string of RFC 8259, section 7, for every UTF-8 text
 abbrev pub WrittenTextSpells : Type 0

@@ -1,7 +1,7 @@
 -- How the bytes of a string are written, one by one and in runs, and lengths as 64 bits hold them.
 use Rattle.std.specs.Prelude.{◌≡◌, ℕ, ◌/◌, ◌%◌, ◌-◌, ◌^◌, ◌<◌, ◌≤◌, min, Bool, false, List, slice_index, nat_lt, ◌==◌, ◌||◌, [], ◌∷◌, ◌++◌, codes}
-use Rattle.sm_json.specs.declared.escape.ByteForm.{ByteForm}
-use Rattle.sm_json.specs.declared.escape.ByteForm.TheVariants.{Plain, Letter, Digits}
+use Rattle.sm_json.specs.declared.byte_form.ByteForm.{ByteForm}
+use Rattle.sm_json.specs.declared.byte_form.ByteForm.TheVariants.{Plain, Letter, Digits}
 use Rattle.sm_json.specs.Written.{hex_digit, written_byte}
 
 -- a byte that doesn't stand for itself in a string

@@ -6,7 +6,7 @@ ghost use Rattle.sm_tree.specs.View.{node_of, nodes_view, members_view};
 ghost use Rattle.sm_json.specs.Placing.{length_word};
 ghost use Rattle.sm_json.specs.Written.{written, written_entries, more_written_entries, written_pairs, more_written_pairs, written_byte, written_bytes, written_text};
 
-use crate::escape::{ByteForm, form_of, plain_run};
+use crate::byte_form::{ByteForm, form_of, plain_run};
 use crate::plain::is_plain;
 use itoa::Buffer;
 use sm_tree::{Text, Tree};

@@ -2,10 +2,10 @@
 // What reads and writes messages and model files in JSON stands on it.
 #![tactic(auto)]
 
-mod escape;
+mod byte_form;
 pub mod laws;
 mod length;
-mod place;
+mod put;
 mod plain;
 #[cfg(test)]
 mod tests;

@@ -6,7 +6,7 @@ ghost use Rattle.sm_tree.specs.View.{node_of, nodes_view, members_view};
 ghost use Rattle.sm_json.specs.Written.{written, written_entries, more_written_entries, written_pairs, more_written_pairs};
 
 use crate::length::encoded_len;
-use crate::place::{place_byte, place_int, place_name, place_slice, place_text};
+use crate::put::{place_byte, place_int, place_name, place_slice, place_text};
 use sm_tree::{NoMemory, Text, Tree};
 use std::alloc::Global;
 use std::mem;

@@ -1,5 +1,5 @@
 use Rattle.std.proofs.Common.{sym, ap, ◌∙◌, length, arith}
-use Rattle.sm_json.proofs.Runs.{length_to_byte}
+use Rattle.sm_json.proofs.PlainRuns.{length_to_byte}
 use Rattle.sm_json.proofs.length.escaped_len.Goals as goal
 
 pub loop-byte-preserved : goal.loop-byte-preserved

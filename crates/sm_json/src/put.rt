@@ -4,7 +4,7 @@ ghost use Rattle.std.specs.Prelude.{◌≡◌, ◌+◌, ◌<◌, ◌≤◌, [], 
 ghost use Rattle.std.specs.Fmt.{signed_decimal};
 ghost use Rattle.sm_json.specs.Written.{written_byte, written_bytes, written_text};
 
-use crate::escape::{ByteForm, form_of, hex_digit, plain_run};
+use crate::byte_form::{ByteForm, form_of, hex_digit, plain_run};
 use crate::plain::is_plain;
 use itoa::Buffer;
 use sm_tree::Text;

@@ -1,6 +1,6 @@
 use Rattle.std.proofs.Common.{◌≡◌, ◌+◌, ◌++◌, length, take}
 use Rattle.sm_json.specs.Written.{written_bytes}
-use Rattle.sm_json.proofs.place.place_escaped.Given as goal
+use Rattle.sm_json.proofs.put.place_escaped.Given as goal
 
 abbrev pub invariant-loop-byte : goal.invariant-loop-byte
 invariant-loop-byte l = record {

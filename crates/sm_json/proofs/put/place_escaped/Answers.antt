@@ -1,7 +1,7 @@
 use Rattle.std.proofs.Common.{sym, ap, ◌∙◌, ◌++◌, length, take, arith}
 use Rattle.sm_json.proofs.Placed.{placed_before}
-use Rattle.sm_json.proofs.Runs.{run_fits, run_to_byte, length_to_byte}
-use Rattle.sm_json.proofs.place.place_escaped.Goals as goal
+use Rattle.sm_json.proofs.PlainRuns.{run_fits, run_to_byte, length_to_byte}
+use Rattle.sm_json.proofs.put.place_escaped.Goals as goal
 
 pub place_slice-at-requires : goal.place_slice-at-requires
 place_slice-at-requires c =

@@ -24,7 +24,7 @@ fn is_escaped(byte: u8) -> bool
 
 // How many bytes at the front of a text stand for themselves.
 #[inline(always)]
-#[tactic(auto, using(crate::proofs::Runs::run_more))]
+#[tactic(auto, using(crate::proofs::PlainRuns::run_more))]
 pub(crate) fn plain_run(text: &[u8]) -> usize
     ensures within { result ≤ length text.now }
     ensures plain { written_bytes (take result text.now) ≡ take result text.now }
