@@ -24,3 +24,9 @@ pub mod Completions
 pub mod ReaderTurns
 pub mod Owed
 pub mod Turns
+pub mod WrittenStrings
+pub mod WrittenNumbers
+pub mod WrittenTrees
+pub mod PlainRuns
+pub mod Placed
+pub mod Lanes

@@ -11,3 +11,5 @@ pub mod Rest
 pub mod Machine
 pub mod Live
 pub mod Answers
+pub mod Laws
+pub mod Placing

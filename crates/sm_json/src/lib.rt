@@ -12,3 +12,15 @@ mod utf8;
 
 pub use read::read_tree;
 pub use sm_tree::{NoMemory, SyntaxRefusal};
+mod byte_form;
+pub mod laws;
+mod length;
+mod put;
+mod plain;
+#[cfg(test)]
+mod tests;
+mod write;
+
+pub use length::encoded_len;
+pub use sm_tree::NoMemory;
+pub use write::write_tree;

@@ -1,0 +1,29 @@
+-- What the written text and its definition are worth, as statements that the functions of src/laws.rt prove.
+use Rattle.std.specs.Prelude.{◌≡◌, ℕ, List, [], ◌∷◌, ◌++◌, codes, IsUtf8}
+use Rattle.sm_tree.specs.Node.{Node}
+use Rattle.sm_tree.specs.Json.{IsJson}
+use Rattle.sm_json.specs.Strings.{SpellsText}
+use Rattle.sm_json.specs.JsonText.{SpellsValue, JsonText}
+use Rattle.sm_json.specs.Written.{written, written_text}
+
+-- what is written for a tree is a JSON text of that tree
+abbrev pub WrittenIsText : Type 0
+WrittenIsText = (n : Node) → IsJson n → JsonText n (written n)
+
+-- the written text ends where the tree ends, whatever follows it
+abbrev pub WrittenSpells : Type 0
+WrittenSpells = (n : Node) (rest : List ℕ) → IsJson n → SpellsValue n (written n ++ rest) rest
+
+-- the written text of a string is a string of RFC 8259, section 7, for every UTF-8 text
+abbrev pub WrittenTextSpells : Type 0
+WrittenTextSpells = (t rest : List ℕ) → IsUtf8 t → SpellsText t (written_text t ++ rest) rest
+
+-- the escapes byte by byte: a letter stands for itself, `"` and `\` are escaped, of the control characters
+-- some have a letter and the others four digits, and DEL is left as it is
+pub record EscapesAreMeant : Type 0 where
+  pub quote : written_text (97 ∷ 34 ∷ 92 ∷ []) ≡ 34 ∷ 97 ∷ 92 ∷ 34 ∷ 92 ∷ 92 ∷ 34 ∷ []
+  pub letters : written_text (8 ∷ 9 ∷ 10 ∷ 12 ∷ 13 ∷ []) ≡ codes "\"\\b\\t\\n\\f\\r\""
+  pub first_control : written_text (0 ∷ []) ≡ codes "\"\\u0000\""
+  pub last_control : written_text (31 ∷ []) ≡ codes "\"\\u001f\""
+  pub delete : written_text (127 ∷ []) ≡ 34 ∷ 127 ∷ 34 ∷ []
+  pub solidus : written_text (codes "/") ≡ codes "\"/\""

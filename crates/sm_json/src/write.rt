@@ -1,0 +1,130 @@
+// Writing trees as JSON text. Messages and model files are written by it.
+ghost use Rattle.std.specs.Prelude.{◌≡◌, ◌+◌, ◌<◌, ◌≤◌, ◌++◌, length, take, replicate, vec_len, vec_capacity, OnOk, OnErr, IsOk};
+ghost use Rattle.sm_tree.specs.Json.{IsJson};
+ghost use Rattle.sm_tree.specs.Node.{nodes_of, members_of};
+ghost use Rattle.sm_tree.specs.View.{node_of, nodes_view, members_view};
+ghost use Rattle.sm_json.specs.Written.{written, written_entries, more_written_entries, written_pairs, more_written_pairs};
+
+use crate::length::encoded_len;
+use crate::put::{place_byte, place_int, place_name, place_slice, place_text};
+use sm_tree::{NoMemory, Text, Tree};
+use std::alloc::Global;
+use std::mem;
+
+#[cycle(placing)]
+fn place_entries(buf: &mut [u8], at: usize, items: &[Tree]) -> usize
+    requires room { at + length (written_entries (nodes_of (nodes_view items.now))) ≤ length buf.old }
+    ensures bytes { take result buf.new ≡ take at buf.old ++ written_entries (nodes_of (nodes_view items.now)) }
+    ensures next { result ≡ at + length (written_entries (nodes_of (nodes_view items.now))) }
+{
+    let Some((first, more)) = items.split_first() else {
+        return place_byte(buf, at, b']');
+    };
+    let at = place_tree(buf, at, first);
+    place_more_entries(buf, at, more)
+}
+
+#[cycle(placing)]
+fn place_more_entries(buf: &mut [u8], at: usize, items: &[Tree]) -> usize
+    requires room { at + length (more_written_entries (nodes_of (nodes_view items.now))) ≤ length buf.old }
+    ensures bytes { take result buf.new ≡ take at buf.old ++ more_written_entries (nodes_of (nodes_view items.now)) }
+    ensures next { result ≡ at + length (more_written_entries (nodes_of (nodes_view items.now))) }
+{
+    let mut at = at;
+    for item in items {
+        at = place_byte(buf, at, b',');
+        at = place_tree(buf, at, item);
+    }
+    place_byte(buf, at, b']')
+}
+
+#[cycle(placing)]
+fn place_pairs(buf: &mut [u8], at: usize, pairs: &[(Text, Tree)]) -> usize
+    requires room { at + length (written_pairs (members_of (members_view pairs.now))) ≤ length buf.old }
+    ensures bytes { take result buf.new ≡ take at buf.old ++ written_pairs (members_of (members_view pairs.now)) }
+    ensures next { result ≡ at + length (written_pairs (members_of (members_view pairs.now))) }
+{
+    let Some((first, more)) = pairs.split_first() else {
+        return place_byte(buf, at, b'}');
+    };
+    let at = place_name(buf, at, &first.0);
+    let at = place_tree(buf, at, &first.1);
+    place_more_pairs(buf, at, more)
+}
+
+#[cycle(placing)]
+fn place_more_pairs(buf: &mut [u8], at: usize, pairs: &[(Text, Tree)]) -> usize
+    requires room { at + length (more_written_pairs (members_of (members_view pairs.now))) ≤ length buf.old }
+    ensures bytes { take result buf.new ≡ take at buf.old ++ more_written_pairs (members_of (members_view pairs.now)) }
+    ensures next { result ≡ at + length (more_written_pairs (members_of (members_view pairs.now))) }
+{
+    let mut at = at;
+    for pair in pairs {
+        at = place_byte(buf, at, b',');
+        at = place_name(buf, at, &pair.0);
+        at = place_tree(buf, at, &pair.1);
+    }
+    place_byte(buf, at, b'}')
+}
+
+#[cycle(placing)]
+fn place_tree(buf: &mut [u8], at: usize, tree: &Tree) -> usize
+    requires room { at + length (written (node_of tree.now)) ≤ length buf.old }
+    ensures bytes { take result buf.new ≡ take at buf.old ++ written (node_of tree.now) }
+    ensures next { result ≡ at + length (written (node_of tree.now)) }
+{
+    match tree {
+        Tree::Null => place_slice(buf, at, b"null"),
+        Tree::Bool(true) => place_slice(buf, at, b"true"),
+        Tree::Bool(false) => place_slice(buf, at, b"false"),
+        Tree::Int(value) => place_int(buf, at, *value),
+        Tree::Number(text) => place_slice(buf, at, text.as_str().as_bytes()),
+        Tree::Text(text) => place_text(buf, at, text),
+        Tree::Bytes(_) => at,
+        Tree::Tag(_, _) => at,
+        Tree::Opaque(_) => at,
+        Tree::List(items) => {
+            let at = place_byte(buf, at, b'[');
+            place_entries(buf, at, items.as_slice())
+        }
+        Tree::Object(pairs) => {
+            let at = place_byte(buf, at, b'{');
+            place_pairs(buf, at, pairs.as_slice())
+        }
+    }
+}
+
+// A vector owned, and not behind a reference, so that the loop becomes one fill.
+fn lengthened(bytes: Vec<u8>, count: usize) -> Vec<u8>
+    requires room { vec_len bytes + count ≤ vec_capacity bytes }
+    ensures front { take (vec_len bytes) result.items ≡ bytes.items }
+    ensures len { vec_len result ≡ vec_len bytes + count }
+    ensures capacity { vec_capacity result ≡ vec_capacity bytes }
+{
+    let mut bytes = bytes;
+    for _ in 0..count {
+        bytes.push_reserved(0);
+    }
+    bytes
+}
+
+/// Appends a tree as JSON text (RFC 8259) to `out`: no white space, pairs in their order. `NoMemory` where
+/// the allocator refuses the room, and then `out` is as before. Where `out` has room for `encoded_len(tree)`
+/// bytes more it takes no memory and succeeds.
+pub fn write_tree(alloc: Global, tree: &Tree, out: &mut Vec<u8>) -> Result<(), NoMemory>
+    requires json { IsJson (node_of tree.now) }
+    ensures written { OnOk result (out.new.items ≡ out.old.items ++ written (node_of tree.now)) }
+    ensures unchanged { OnErr result (out.new.items ≡ out.old.items) }
+    ensures succeeds { vec_len out.old + length (written (node_of tree.now)) ≤ vec_capacity out.old → IsOk result }
+    ensures no_memory { vec_len out.old + length (written (node_of tree.now)) ≤ vec_capacity out.old → vec_capacity out.new ≡ vec_capacity out.old }
+{
+    let len = encoded_len(tree) as usize;
+    if out.capacity() - out.len() < len {
+        out.reserve(len)?;
+    }
+    let at = out.len();
+    let bytes = mem::replace(out, Vec::new(alloc));
+    *out = lengthened(bytes, len);
+    place_tree(out.as_mut_slice(), at, tree);
+    Ok(())
+}
