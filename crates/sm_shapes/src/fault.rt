@@ -2,6 +2,8 @@
 ghost use Rattle.std.specs.Prelude.{◌≡◌};
 ghost use Rattle.sm_shapes.specs.Words.{fault_word};
 
+use sm_tree::Path;
+
 /// Why a tree, or a part of it, spells no value of its shape.
 #[derive(Debug, Clone, Copy, PartialEq, Eq, Drop)]
 pub enum FaultKind {
@@ -27,4 +29,13 @@ impl FaultKind {
             FaultKind::Width => "Width",
         }
     }
+}
+
+/// A fault of a tree for a shape.
+#[derive(Debug, Drop)]
+pub struct Fault {
+    /// Where it is, from the tree's root.
+    pub path: Path,
+    /// Why the part there spells no value.
+    pub kind: FaultKind,
 }

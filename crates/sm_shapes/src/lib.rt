@@ -6,6 +6,6 @@ mod fault;
 mod table;
 mod value;
 
-pub use fault::FaultKind;
+pub use fault::{Fault, FaultKind};
 pub use table::{ShapeKind, Table, TableMember, TableShape};
 pub use value::{Fields, Value};

@@ -1,0 +1,6 @@
+pub mod Conventions
+pub mod Found
+pub mod Fields
+pub mod Fitting
+pub mod Clear
+pub mod Unique

@@ -1,0 +1,5 @@
+pub mod Leaves
+pub mod Members
+pub mod Spelling
+pub mod Faults
+pub mod Encoded
