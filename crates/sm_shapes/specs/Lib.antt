@@ -3,3 +3,4 @@ pub mod View
 pub mod Tables
 pub mod Fits
 pub mod Words
+pub mod Weight

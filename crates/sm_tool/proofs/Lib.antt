@@ -4,3 +4,4 @@ pub mod Fields
 pub mod Fitting
 pub mod Clear
 pub mod Unique
+pub mod Encoding
