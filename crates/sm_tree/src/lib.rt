@@ -2,12 +2,10 @@
 // The readers and writers of both, and all that speaks of values, stand on it.
 #![tactic(auto)]
 
-mod path;
 mod refusal;
 mod text;
 mod tree;
 
-pub use path::{Path, Step};
 pub use refusal::SyntaxRefusal;
 use std::alloc::AllocError;
 pub use text::{Bytes, Text};
