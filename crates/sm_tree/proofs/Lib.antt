@@ -1,1 +1,3 @@
 pub mod Views
+mod Tokens
+mod Sameness

@@ -4,4 +4,6 @@ pub mod Weight
 pub mod Numbers
 pub mod Json
 pub mod Events
+pub mod Same
 pub mod View
+pub mod Pointer

@@ -2,12 +2,15 @@
 // The readers and writers of both, and all that speaks of values, stand on it.
 #![tactic(auto)]
 
+pub mod laws;
+mod path;
 mod refusal;
 mod text;
 mod tree;
 
+pub use path::{Path, Step};
 pub use refusal::SyntaxRefusal;
-use std::alloc::AllocError;
+use std::alloc::{AllocError, AllocFailed};
 pub use text::{Bytes, Text};
 pub use tree::{Items, Pairs, Tree};
 
@@ -22,6 +25,17 @@ impl From<AllocError> for NoMemory {
     ghost from_gives = { λ _ refusal. refusal ≡ record {} };
 
     fn from(_error: AllocError) -> Self {
+        NoMemory
+    }
+}
+
+impl<T: Drop> From<AllocFailed<T>> for NoMemory {
+    ghost use Rattle.std.specs.Prelude.{◌≡◌};
+    ghost use Rattle.sm_tree.specs.declared.NoMemory.{NoMemory};
+
+    ghost from_gives = { λ _ refusal. refusal ≡ record {} };
+
+    fn from(_refused: AllocFailed<T>) -> Self {
         NoMemory
     }
 }

@@ -90,3 +90,27 @@ impl Pairs {
         self.pairs.as_slice()
     }
 }
+
+#[cfg(test)]
+mod tests {
+    use super::*;
+    use std::alloc::Global;
+    use std::test::Fail;
+
+    // The object of these two members, in this order.
+    fn object_of(alloc: Global, first: (&str, i64), second: (&str, i64)) -> Result<Tree, Fail> {
+        let first = (Text::copy(alloc, first.0)?, Tree::Int(first.1));
+        let second = (Text::copy(alloc, second.0)?, Tree::Int(second.1));
+        Ok(Tree::Object(Pairs::new(vec![in alloc; first, second]?)))
+    }
+
+    #[test]
+    fn trees_are_equal_part_by_part(rt: HostRuntime) -> Result<(), Fail> {
+        let tree = object_of(rt.alloc(), ("a", 1), ("b", 2))?;
+        assert!(rt; tree == object_of(rt.alloc(), ("a", 1), ("b", 2))?);
+        assert!(rt; tree != object_of(rt.alloc(), ("a", 1), ("b", 3))?);
+        assert!(rt; tree != object_of(rt.alloc(), ("a", 1), ("c", 2))?);
+        assert!(rt; tree != object_of(rt.alloc(), ("b", 2), ("a", 1))?);
+        Ok(())
+    }
+}

@@ -1,0 +1,36 @@
+-- JSON Pointer (RFC 6901): the text of a path, and how a token is read back. Texts are their bytes in
+-- UTF-8; `/` is 47, `~` is 126, `0` is 48 and `1` is 49.
+use Rattle.std.specs.Prelude.{◌≡◌, ℕ, ◌==◌, ◌&&◌, if◌then◌else◌, List, [], ◌∷◌, ◌++◌, decimal}
+use Rattle.sm_tree.specs.declared.path.Step.{Step}
+use Rattle.sm_tree.specs.declared.path.Step.TheVariants.{Member, Index, Key}
+
+-- section 3: reference-token = *( unescaped / escaped ), where escaped = "~" ( "0" / "1" ) stands for
+-- '~' and '/'
+abbrev pub token : List ℕ → List ℕ
+token [] = []
+token (c ∷ cs) = (if c == 126 then 126 ∷ 48 ∷ [] else (if c == 47 then 126 ∷ 49 ∷ [] else c ∷ [])) ++ token cs
+
+-- one "/" reference-token; section 4: array-index is 0, or digits without a leading 0
+abbrev pub step_bytes : Step → List ℕ
+step_bytes (Member name) = 47 ∷ token name
+step_bytes (Index number) = 47 ∷ decimal number
+step_bytes (Key name) = 47 ∷ token name
+
+-- section 3: json-pointer = *( "/" reference-token )
+abbrev pub pointer : List Step → List ℕ
+pointer [] = []
+pointer (step ∷ steps) = step_bytes step ++ pointer steps
+
+-- any occurrence of the first byte and the second becomes the third
+abbrev pub replaced : ℕ → ℕ → ℕ → List ℕ → List ℕ
+replaced a b to [] = []
+replaced a b to (c ∷ []) = c ∷ []
+replaced a b to (c ∷ d ∷ cs) = if (c == a) && (d == b) then to ∷ replaced a b to cs else c ∷ replaced a b to (d ∷ cs)
+
+-- section 4: first any occurrence of '~1' becomes '/', and then any occurrence of '~0' becomes '~'
+abbrev pub unescaped : List ℕ → List ℕ
+unescaped t = replaced 126 48 126 (replaced 126 49 47 t)
+
+-- a token read back gives the name that it was written for
+abbrev pub TokenReadsBack : Type 0
+TokenReadsBack = (name : List ℕ) → unescaped (token name) ≡ name

@@ -1,0 +1,27 @@
+// Laws of the definitions that the contracts cite. Each is the contract of a function that does nothing.
+ghost use Rattle.sm_tree.specs.Pointer.{TokenReadsBack};
+ghost use Rattle.sm_tree.specs.Same.{SameToItself, SameBothWays, OneValueAName};
+
+/// A token of a JSON Pointer, read back as RFC 6901, section 4, says, is the name that it was written for.
+#[tactic(auto, using(crate::proofs::Tokens::reads_back))]
+pub fn token_reads_back()
+    ensures { TokenReadsBack }
+{}
+
+/// Each tree is the same as itself.
+#[tactic(auto, using(crate::proofs::Sameness::reflexive))]
+pub fn same_to_itself()
+    ensures { SameToItself }
+{}
+
+/// Where one tree is the same as another, the other is the same as the one.
+#[tactic(auto, using(crate::proofs::Sameness::symmetric))]
+pub fn same_both_ways()
+    ensures { SameBothWays }
+{}
+
+/// In an object of a node a name has one value.
+#[tactic(auto, using(crate::proofs::Sameness::one_value_each))]
+pub fn one_value_a_name()
+    ensures { OneValueAName }
+{}
