@@ -1,5 +1,6 @@
 -- White space and strings of JSON (RFC 8259, sections 2 and 7). A definition here has the form "s begins
--- with a spelling of .., and r is what follows it", so that a text is cut nowhere by hand.
+-- with a spelling of .., and r is what follows it", so that a text is cut nowhere by hand. A surrogate stands
+-- only as a pair of escapes, so "\uDEAD" is no string.
 use Rattle.std.specs.Prelude.{◌≡◌, ℕ, zero, suc, ◌+◌, ◌-◌, ◌*◌, ◌≤◌, ◌<◌, ◌⊎◌, ◌≢◌, ◌==◌, Bool, true, cond, ◌||◌, nat_le, ◌&&◌, List, [], ◌∷◌, ◌++◌, Option, Some, None, encode_utf8_all}
 use Rattle.std.specs.Char.{IsScalar, encode_utf8}
 
@@ -12,9 +13,9 @@ abbrev pub Skips : List ℕ → List ℕ → Type 0
 Skips [] r = r ≡ []
 Skips (c ∷ s) r = (r ≡ c ∷ s) ⊎ ((is_white c ≡ true) × Skips s r)
 
--- unescaped = %x20-21 / %x23-5B / %x5D-10FFFF
+-- unescaped = %x20-21 / %x23-5B / %x5D-10FFFF, of the characters of Unicode
 abbrev pub IsUnescaped : ℕ → Type 0
-IsUnescaped c = (32 ≤ c) × (c ≢ 34) × (c ≢ 92)
+IsUnescaped c = (0x20 ≤ c) × (c ≢ 0x22) × (c ≢ 0x5C)
 
 -- what stands for a character behind a backslash: one of `"` `\` `/` `b` `f` `n` `r` `t`
 abbrev pub short_escape : ℕ → Option ℕ
@@ -37,7 +38,7 @@ HexDigits (suc k) n v (c ∷ s) r = (d : ℕ) × (hex_value c ≡ Some d) × Hex
 
 -- %x75 4HEXDIG, behind a backslash: the code unit v
 abbrev pub CodeUnit : ℕ → List ℕ → List ℕ → Type 0
-CodeUnit v s r = (s1 : List ℕ) × (s ≡ 117 ∷ s1) × HexDigits 4 0 v s1 r
+CodeUnit v s r = (s1 : List ℕ) × (s ≡ 0x75 ∷ s1) × HexDigits 4 0 v s1 r
 
 -- the two halves of a UTF-16 surrogate pair
 abbrev pub IsHigh : ℕ → Type 0
@@ -52,7 +53,7 @@ joined high low = 0x10000 + ((high - 0xD800) * 0x400 + (low - 0xDC00))
 
 -- behind a backslash and a high surrogate: the escape of the low one that makes c with it
 abbrev pub LowHalf : ℕ → ℕ → List ℕ → List ℕ → Type 0
-LowHalf high c s r = (low : ℕ) × (s1 : List ℕ) × (s ≡ 92 ∷ s1) × CodeUnit low s1 r × IsLow low × (c ≡ joined high low)
+LowHalf high c s r = (low : ℕ) × (s1 : List ℕ) × (s ≡ 0x5C ∷ s1) × CodeUnit low s1 r × IsLow low × (c ≡ joined high low)
 
 -- behind a backslash: the character c
 abbrev pub Escape : ℕ → List ℕ → List ℕ → Type 0
@@ -64,13 +65,13 @@ Escape c s r =
 abbrev pub Character : ℕ → List ℕ → List ℕ → Type 0
 Character c s r =
     IsScalar c
-    × ((IsUnescaped c × (s ≡ encode_utf8 c ++ r)) ⊎ ((s1 : List ℕ) × (s ≡ 92 ∷ s1) × Escape c s1 r))
+    × ((IsUnescaped c × (s ≡ encode_utf8 c ++ r)) ⊎ ((s1 : List ℕ) × (s ≡ 0x5C ∷ s1) × Escape c s1 r))
 
 -- *char quotation-mark
 abbrev pub Characters : List ℕ → List ℕ → List ℕ → Type 0
-Characters [] s r = s ≡ 34 ∷ r
+Characters [] s r = s ≡ 0x22 ∷ r
 Characters (c ∷ cs) s r = (s1 : List ℕ) × Character c s s1 × Characters cs s1 r
 
 -- string = quotation-mark *char quotation-mark; its characters in UTF-8 are t
 abbrev pub SpellsText : List ℕ → List ℕ → List ℕ → Type 0
-SpellsText t s r = (cs s1 : List ℕ) × (t ≡ encode_utf8_all cs) × (s ≡ 34 ∷ s1) × Characters cs s1 r
+SpellsText t s r = (cs s1 : List ℕ) × (t ≡ encode_utf8_all cs) × (s ≡ 0x22 ∷ s1) × Characters cs s1 r

@@ -1,6 +1,7 @@
 -- The events of a tree: the tree as a stream, in the order in which a text spells it. Readers hand them
--- on, and what builds trees takes them. An opener may tell the number of entries that follow.
-use Rattle.std.specs.Prelude.{ℕ, ℤ, Bool, List, [], ◌∷◌, Option, None}
+-- on, and what builds trees takes them. An opener may tell the number of entries or pairs that follow; of
+-- the streams of one tree, `events` is the one whose openers tell none.
+use Rattle.std.specs.Prelude.{ℕ, ℤ, Bool, List, ◌∷◌, Option, None}
 use Rattle.sm_tree.specs.Node.{Node, Nodes, Members, null, bool, int, number, text, bytes, tag, opaque, list, object, no_nodes, node, no_members, member}
 
 pub data NodeEvent : Type 0 where

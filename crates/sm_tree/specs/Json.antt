@@ -1,16 +1,17 @@
--- Which trees JSON can spell, and which CBOR can.
-use Rattle.std.specs.Prelude.{ℕ, ◌≤◌, ◌<◌, ◌^◌, IsUtf8, List, [], ◌∷◌}
-use mir.Syntax.{w64}
-use mir.Val.{SFits}
+-- Which trees can be written as JSON, and which as CBOR. CBOR also spells numbers past 64 bits and opaque
+-- leaves, which aren't written.
+use Rattle.std.specs.Prelude.{ℕ, ◌<◌, ◌^◌, IsUtf8, FitsSigned, List, [], ◌∷◌}
+use Rattle.std.specs.Int.{w64}
 use Rattle.sm_tree.specs.Node.{Node, Nodes, Members, null, bool, int, number, text, bytes, tag, opaque, list, object, no_nodes, node, no_members, member}
 use Rattle.sm_tree.specs.Numbers.{NumberText}
 
 abbrev mutual
-  -- no byte string, tag or opaque leaf, and each number is the text of one that 64 bits don't hold whole
+  -- no byte string, tag or opaque leaf; each number is the text of one with a fraction, an exponent or more
+  -- than 64 bits
   pub IsJson : Node → Type 0
   IsJson null = Unit {0}
   IsJson (bool b) = Unit {0}
-  IsJson (int z) = SFits w64 z
+  IsJson (int z) = FitsSigned w64 z
   IsJson (number t) = NumberText (number t) t
   IsJson (text t) = IsUtf8 t
   IsJson (bytes t) = ⊥
@@ -37,7 +38,7 @@ abbrev mutual
   pub IsCbor : Node → Type 0
   IsCbor null = Unit {0}
   IsCbor (bool b) = Unit {0}
-  IsCbor (int z) = SFits w64 z
+  IsCbor (int z) = FitsSigned w64 z
   IsCbor (number t) = ⊥
   IsCbor (text t) = IsUtf8 t
   IsCbor (bytes t) = AreBytes t

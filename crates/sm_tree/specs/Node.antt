@@ -1,5 +1,5 @@
--- A tree as data: what JSON (RFC 8259) and CBOR (RFC 8949) have in common, without memory. Texts and
--- bytes are lists of bytes. An object is a list of pairs in their order, and names may repeat.
+-- A tree as data, without memory: what a JSON text (RFC 8259) or a CBOR item (RFC 8949) stands for. Texts
+-- and byte strings are lists of bytes. An object is a list of pairs in their order, and names may repeat.
 -- Every definition over trees stands on this file.
 use Rattle.std.specs.Prelude.{ℕ, ℤ, Bool, List, [], ◌∷◌}
 
@@ -8,8 +8,11 @@ mutual
     null : Node
     bool : Bool → Node
     int : ℤ → Node
+    -- the text of a JSON number that is no `int`; in CBOR an integer past 64 bits, in decimal
     number : List ℕ → Node
     text : List ℕ → Node
+    -- in CBOR alone: a byte string, a tag's number and content (section 3.4), and the first byte of a float
+    -- or a simple value (section 3.3)
     bytes : List ℕ → Node
     tag : ℕ → Node → Node
     opaque : ℕ → Node

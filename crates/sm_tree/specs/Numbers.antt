@@ -1,9 +1,8 @@
 -- The texts of JSON numbers (RFC 8259, section 6), and the tree that each stands for: an integer where
 -- the text has no fraction and no exponent and 64 bits hold it, else the text itself.
-use Rattle.std.specs.Prelude.{◌≡◌, ℕ, ◌≤◌, ◌⊎◌, ℤ, List, [], ◌∷◌, ◌++◌}
+use Rattle.std.specs.Prelude.{◌≡◌, ℕ, ◌≤◌, ◌⊎◌, FitsSigned, List, [], ◌∷◌, ◌++◌}
 use Rattle.std.specs.Str.Parse.{IsNumeral, signed_digits_value, without_leading_sign}
-use mir.Syntax.{w64}
-use mir.Val.{SFits}
+use Rattle.std.specs.Int.{w64}
 use Rattle.sm_tree.specs.Node.{Node, null, bool, int, number, text, bytes, tag, opaque, list, object}
 
 -- DIGIT = %x30-39
@@ -51,10 +50,10 @@ pub record IsNumber (t : List ℕ) : Type 0 where
   pub is_fraction : IsFraction fraction
   pub is_exponent : IsExponent exponent
 
--- a number without fraction and exponent that a signed word of 64 bits holds
+-- of a number's text: it has no fraction and no exponent, and a signed word of 64 bits holds it
 pub record IsWord (t : List ℕ) : Type 0 where
   pub is_integer : IsNumeral 10 (without_leading_sign t)
-  pub in_range : SFits w64 (signed_digits_value 10 t)
+  pub in_range : FitsSigned w64 (signed_digits_value 10 t)
 
 -- the tree that a number's text stands for; `-0` is the integer 0
 abbrev pub NumberText : Node → List ℕ → Type 0
