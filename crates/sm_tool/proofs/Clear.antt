@@ -13,9 +13,9 @@ use Rattle.sm_tool.specs.Leaves.{Leaf}
 use Rattle.sm_tool.specs.Members.{named, is_null}
 use Rattle.sm_tool.specs.Spelling.{NoneOrNull, AreAbsent, Spells, SpellsFields}
 use Rattle.std.specs.Str.{bytes_eq}
-use Rattle.sm_tool.specs.Faults.{FaultAt, Child, here, under, leaf_faults, absent_faults, member_faults, members_faults, by_kind, faults, children}
+use Rattle.sm_tool.specs.Faults.{FaultAt, Child, here, under, leaf_faults, absent_faults, member_faults, members_faults, by_kind, faults, children, child_of, found_faults, faults_in}
 use Rattle.sm_tool.proofs.Conventions.{IsConvention, LeafFits}
-use Rattle.sm_tool.proofs.Found.{child_of, found_faults, faults_in, members_faults_more, skipped_clear, absent_clear, absent_found, present_found, faults_of_leaf, faults_of_object}
+use Rattle.sm_tool.proofs.Found.{members_faults_more, skipped_clear, absent_clear, absent_found, present_found, faults_of_leaf, faults_of_object}
 use Rattle.sm_tool.proofs.Fields.{skip_member, take_member}
 
 -- a structure's value stands for no leaf

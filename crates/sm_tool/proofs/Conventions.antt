@@ -126,3 +126,6 @@ json_stands k (structure_val fs) h = absurd h
 
 pub json_writes : Writes json_leaf json_written
 json_writes = record { reads = json_reads; stands = json_stands }
+
+pub text_reads : (u : List ℕ) → IsUtf8 u → text_leaf (text u) ≡ Ok (text_val u)
+text_reads u h = ap (λ b. cond b (Ok (text_val u)) (Err WrongType)) (is_utf8-from_IsUtf8 u h)

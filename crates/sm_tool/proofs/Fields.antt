@@ -17,3 +17,30 @@ skip_member t leaf k ks (field j v fs) ms optional absent h =
 -- a member that is present before the others is the first field
 pub take_member : (t : Table) (leaf : Leaf) (k : ℕ) (ks : List ℕ) (v : Val) (n : Node) (fs : FieldVals) (ms : Members) → named (name_at t k) ms ≡ n ∷ [] → is_null n ≡ false → Spells t leaf (target_at t k) v n → SpellsFields t leaf ks fs ms → SpellsFields t leaf (k ∷ ks) (field k v fs) ms
 take_member t leaf k ks v n fs ms once stands spelled h = ([], ks, n, refl, tt, once, stands, spelled, h)
+
+-- the fields of a list before other fields
+abbrev pub and_fields : List (ℕ × Val) → FieldVals → FieldVals
+and_fields [] rest = rest
+and_fields (f ∷ fs) rest = field f.0 f.1 (and_fields fs rest)
+
+pub and_none : (fs : List (ℕ × Val)) → and_fields fs no_fields ≡ fields_of fs
+and_none [] = refl
+and_none (f ∷ fs) = ap (field f.0 f.1) (and_none fs)
+
+pub and_one_more : (fs : List (ℕ × Val)) (k : ℕ) (v : Val) (rest : FieldVals) → and_fields (fs ++ (k, v) ∷ []) rest ≡ and_fields fs (field k v rest)
+and_one_more [] k v rest = refl
+and_one_more (f ∷ fs) k v rest = ap (field f.0 f.1) (and_one_more fs k v rest)
+
+-- whatever spells the other members makes the fields so far whole
+abbrev pub Begun : Table → Leaf → Members → List ℕ → List (ℕ × Val) → List ℕ → Type 0
+Begun t leaf ms all fs others = (rest : FieldVals) → SpellsFields t leaf others rest ms → SpellsFields t leaf all (and_fields fs rest) ms
+
+pub begun_skips : (t : Table) (leaf : Leaf) (ms : Members) (all : List ℕ) (fs : List (ℕ × Val)) (k : ℕ) (ks : List ℕ) → required_at t k ≡ false → NoneOrNull (named (name_at t k) ms) → Begun t leaf ms all fs (k ∷ ks) → Begun t leaf ms all fs ks
+begun_skips t leaf ms all fs k ks optional absent begun = λ rest h. begun rest (skip_member t leaf k ks rest ms optional absent h)
+
+pub begun_takes : (t : Table) (leaf : Leaf) (ms : Members) (all : List ℕ) (fs : List (ℕ × Val)) (k : ℕ) (ks : List ℕ) (v : Val) (n : Node) → named (name_at t k) ms ≡ n ∷ [] → is_null n ≡ false → Spells t leaf (target_at t k) v n → Begun t leaf ms all fs (k ∷ ks) → Begun t leaf ms all (fs ++ (k, v) ∷ []) ks
+begun_takes t leaf ms all fs k ks v n once stands spelled begun = λ rest h.
+    subst (λ gs. SpellsFields t leaf all gs ms) (sym (and_one_more fs k v rest)) (begun (field k v rest) (take_member t leaf k ks v n rest ms once stands spelled h))
+
+pub begun_ends : (t : Table) (leaf : Leaf) (ms : Members) (all : List ℕ) (fs : List (ℕ × Val)) → Begun t leaf ms all fs [] → SpellsFields t leaf all (fields_of fs) ms
+begun_ends t leaf ms all fs begun = subst (λ gs. SpellsFields t leaf all gs ms) (and_none fs) (begun no_fields tt)

@@ -11,11 +11,7 @@ use Rattle.sm_shapes.specs.declared.fault.FaultKind.TheVariants.{WrongType, Repe
 use Rattle.sm_tool.specs.Leaves.{Leaf}
 use Rattle.sm_tool.specs.Members.{named, is_null}
 use Rattle.sm_tool.specs.Spelling.{NoneOrNull, AreAbsent}
-use Rattle.sm_tool.specs.Faults.{FaultAt, Child, here, under, leaf_faults, children_named, absent_faults, member_faults, members_faults, by_kind, faults, children}
-
--- a tree as a child
-abbrev pub child_of : Table → Leaf → Node → Child
-child_of t leaf n = record { null = is_null n; faults = λ s. faults t leaf n s }
+use Rattle.sm_tool.specs.Faults.{FaultAt, Child, here, under, leaf_faults, children_named, absent_faults, member_faults, members_faults, by_kind, faults, children, child_of, found_faults, faults_in}
 
 children_named_if : (b : Bool) (c : Child) (cs : List Child) (n : Node) (ns : List Node) (t : Table) (leaf : Leaf) → c ≡ child_of t leaf n → cs ≡ map (child_of t leaf) ns → cond b (c ∷ cs) cs ≡ map (child_of t leaf) (cond b (n ∷ ns) ns)
 children_named_if true c cs n ns t leaf e h = cc
@@ -26,14 +22,6 @@ pub children_are_named : (t : Table) (leaf : Leaf) (name : List ℕ) (ms : Membe
 children_are_named t leaf name no_members = refl
 children_are_named t leaf name (member k n ms) =
     children_named_if (bytes_eq k name) (child_of t leaf n) (children_named name (children t leaf ms)) n (named name ms) t leaf refl (children_are_named t leaf name ms)
-
--- the faults of the member k by the trees under its name, seen from the member
-abbrev pub found_faults : Table → Leaf → ℕ → List Node → List FaultAt
-found_faults t leaf k ns = member_faults (required_at t k) (target_at t k) (map (child_of t leaf) ns)
-
--- the faults of the member k in an object
-abbrev pub faults_in : Table → Leaf → ℕ → Members → List FaultAt
-faults_in t leaf k ms = under (name_at t k) (found_faults t leaf k (named (name_at t k) ms))
 
 pub members_faults_more : (t : Table) (leaf : Leaf) (ms : Members) (k : ℕ) (ks : List ℕ) → members_faults t (children t leaf ms) (k ∷ ks) ≡ faults_in t leaf k ms ++ members_faults t (children t leaf ms) ks
 members_faults_more t leaf ms k ks =

@@ -5,3 +5,6 @@ pub mod Fitting
 pub mod Clear
 pub mod Unique
 pub mod Encoding
+pub mod Refusals
+pub mod Decoding
+pub mod Written

@@ -1,8 +1,9 @@
 -- The one tree that is written for a value.
-use Rattle.std.specs.Prelude.{ℕ, List}
+use Rattle.std.specs.Prelude.{ℕ, ◌<◌, List}
 use Rattle.sm_tree.specs.Node.{Node, Nodes, Members, null, bool, int, text, object, no_members, member}
 use Rattle.sm_shapes.specs.Val.{Val, FieldVals, bool_val, int_val, text_val, structure_val, no_fields, field}
-use Rattle.sm_shapes.specs.Tables.{kind_at, name_at, target_at}
+use Rattle.sm_shapes.specs.Tables.{kind_at, name_at, target_at, member_count}
+use Rattle.sm_shapes.specs.Fits.{Fits}
 use Rattle.sm_shapes.specs.declared.table.Table.{Table}
 use Rattle.sm_shapes.specs.declared.table.ShapeKind.{ShapeKind}
 
@@ -29,3 +30,8 @@ abbrev mutual
   pub encoded_fields : Table → LeafWriter → FieldVals → Members
   encoded_fields t write no_fields = no_members
   encoded_fields t write (field k v fs) = member (name_at t k) (encoded t write (target_at t k) v) (encoded_fields t write fs)
+
+-- each field is of a member of the table, and its value is one of the member's shape
+abbrev pub FieldsFit : Table → FieldVals → Type 0
+FieldsFit t no_fields = Unit {0}
+FieldsFit t (field k v fs) = (k < member_count t) × Fits t (target_at t k) v × FieldsFit t fs

@@ -13,7 +13,7 @@ use Rattle.sm_shapes.specs.declared.table.ShapeKind.TheVariants.{Boolean, Text, 
 use Rattle.sm_shapes.specs.declared.fault.FaultKind.{FaultKind}
 use Rattle.sm_shapes.specs.declared.fault.FaultKind.TheVariants.{WrongType, Repeated, Missing}
 use Rattle.sm_tool.specs.Leaves.{Leaf}
-use Rattle.sm_tool.specs.Members.{is_null}
+use Rattle.sm_tool.specs.Members.{named, is_null}
 
 -- a fault as data: its path and its kind
 abbrev pub FaultAt : Type 0
@@ -85,3 +85,15 @@ abbrev mutual
   pub children : Table → Leaf → Members → List (List ℕ × Child)
   children t leaf no_members = []
   children t leaf (member k n ms) = (k, record { null = is_null n; faults = λ s. faults t leaf n s }) ∷ children t leaf ms
+
+-- a tree as a child
+abbrev pub child_of : Table → Leaf → Node → Child
+child_of t leaf n = record { null = is_null n; faults = λ s. faults t leaf n s }
+
+-- the faults of the member k by the trees under its name, seen from the member
+abbrev pub found_faults : Table → Leaf → ℕ → List Node → List FaultAt
+found_faults t leaf k ns = member_faults (required_at t k) (target_at t k) (map (child_of t leaf) ns)
+
+-- the faults of the member k in an object
+abbrev pub faults_in : Table → Leaf → ℕ → Members → List FaultAt
+faults_in t leaf k ms = under (name_at t k) (found_faults t leaf k (named (name_at t k) ms))

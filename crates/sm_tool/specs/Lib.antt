@@ -3,3 +3,4 @@ pub mod Members
 pub mod Spelling
 pub mod Faults
 pub mod Encoded
+pub mod Answers

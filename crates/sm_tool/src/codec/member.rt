@@ -1,0 +1,57 @@
+// What an object says of a structure's member.
+ghost use Rattle.std.specs.Prelude.{◌≡◌, ◌<◌, Bool, true, false, OnOk, OnErr, IfErr};
+ghost use Rattle.sm_tree.specs.Node.{members_of};
+ghost use Rattle.sm_tree.specs.View.{members_view};
+ghost use Rattle.sm_shapes.specs.Tables.{member_count, name_at, required_at};
+ghost use Rattle.sm_shapes.specs.declared.fault.FaultKind.TheVariants.{Missing};
+ghost use Rattle.sm_tool.specs.Leaves.{json_leaf};
+ghost use Rattle.sm_tool.specs.Faults.{here, under};
+ghost use Rattle.sm_tool.specs.Answers.{IsFirst, FindsMember};
+
+use super::find::{Found, find};
+use super::refusal::Refusal;
+use sm_shapes::{FaultKind, Table};
+use sm_tree::{Text, Tree};
+use std::alloc::Global;
+
+/// The tree of a member in an object's pairs, or `None` where the member is optional and is absent or null.
+pub fn find_member<'t>(
+    alloc: Global,
+    table: &Table,
+    member: u32,
+    pairs: &'t [(Text, Tree)],
+) -> Result<Option<&'t Tree>, Refusal>
+    requires { member < member_count table.now }
+    ensures { FindsMember table.now json_leaf member (members_of (members_view pairs.now)) result }
+{
+    match find(pairs, table.name(member).as_str()) {
+        Found::Repeated => {
+            let repeated = Refusal::here(alloc, FaultKind::Repeated);
+            Err(repeated.under(alloc, table.name(member)))
+        }
+        Found::Absent => match left_out(alloc, table, member) {
+            Ok(()) => Ok(None),
+            Err(missing) => Err(missing),
+        },
+        Found::Once(Tree::Null) => match left_out(alloc, table, member) {
+            Ok(()) => Ok(None),
+            Err(missing) => Err(missing),
+        },
+        Found::Once(tree) => Ok(Some(tree)),
+    }
+}
+
+// Whether a member may be left out, or the fault of an object that leaves it out.
+fn left_out(alloc: Global, table: &Table, member: u32) -> Result<(), Refusal>
+    requires { member < member_count table.now }
+    ensures optional { OnOk result (required_at table.now member ≡ false) }
+    ensures fault { IfErr result (IsFirst (under (name_at table.now member) (here Missing))) }
+    ensures required { OnErr result (required_at table.now member ≡ true) }
+{
+    if table.required(member) {
+        let missing = Refusal::here(alloc, FaultKind::Missing);
+        Err(missing.under(alloc, table.name(member)))
+    } else {
+        Ok(())
+    }
+}
