@@ -22,3 +22,7 @@ val_text t = search (rules, the_lemmas)
 pub val_structure : (v : Fields) → val_of (Structure v) ≡ structure_val (fields_of (vals_view v.fields.items))
 val_structure v = ap val_of (sym (rolls-Structure v)) ∙ fold-roll-Value Val (List (ℕ × Val)) value_step fields_step _
     ∙ ap (λ fs. structure_val (fields_of fs)) (view_fields v)
+
+-- the same, by the view of the fields
+pub val_of_fields : (v : Fields) → val_of (Structure v) ≡ structure_val (fields_of (fields_view v))
+val_of_fields v = val_structure v ∙ ap (λ fs. structure_val (fields_of fs)) (sym (view_fields v))

@@ -1,11 +1,21 @@
 -- The steps of decoding: first faults of members and of objects, and the tree of a member weighs less than
 -- its object.
 use Rattle.std.proofs.Common.{◌≡◌, ℕ, ◌+◌, ◌<◌, ◌≤◌, zero, suc, Bool, true, false, cond, List, [], ◌∷◌, ◌++◌, length, get_or, refl, sym, ap, ◌∙◌, subst, arith}
-use Rattle.std.specs.Prelude.{Result, Ok, Err}
+use Rattle.std.specs.Prelude.{Option, Some, None, Result, Ok, Err}
 use Rattle.std.specs.Str.{bytes_eq}
-use Rattle.sm_tree.specs.Node.{Node, Members, object, no_members, member}
+use Rattle.sm_tree.specs.Node.{Node, Members, object, no_members, member, members_of}
+use Rattle.sm_tree.specs.View.{node_of, pairs_view, members_view}
+use Rattle.sm_tree.specs.declared.tree.Tree.{Tree}
+use Rattle.sm_tree.specs.declared.tree.Pairs.{Pairs}
+use Rattle.sm_tree.specs.declared.tree.Tree.TheVariants.{Object}
+use Rattle.sm_tree.proofs.Views.{node_object, view_pairs}
 use Rattle.sm_tree.specs.Weight.{weight, members_weight}
-use Rattle.sm_shapes.specs.Val.{Val}
+use Rattle.sm_shapes.specs.Val.{Val, structure_val, fields_of}
+use Rattle.sm_shapes.specs.View.{val_of, fields_view}
+use Rattle.sm_shapes.specs.declared.value.Value.{Value}
+use Rattle.sm_shapes.specs.declared.value.Fields.{Fields}
+use Rattle.sm_shapes.specs.declared.value.Value.TheVariants.{Structure as StructureValue}
+use Rattle.sm_shapes.proofs.Views.{val_of_fields}
 use Rattle.sm_shapes.specs.Tables.{kind_at, members_at, name_at, target_at, required_at, member_count, StandIn}
 use Rattle.sm_shapes.specs.declared.table.Table.{Table}
 use Rattle.sm_shapes.specs.declared.table.ShapeKind.TheVariants.{Structure}
@@ -16,10 +26,11 @@ use Rattle.sm_tool.specs.Leaves.{Leaf}
 use Rattle.sm_tool.specs.Members.{named, is_null}
 use Rattle.sm_tool.specs.Spelling.{NoneOrNull, Spells, SpellsFields}
 use Rattle.sm_tool.specs.Faults.{FaultAt, here, under, leaf_faults, absent_faults, members_faults, faults, children, found_faults, faults_in}
-use Rattle.sm_tool.specs.Answers.{IsFirst}
+use Rattle.sm_tool.specs.Answers.{IsFirst, DecodesMember, kept}
 use Rattle.sm_tool.proofs.Conventions.{IsConvention}
 use Rattle.sm_tool.proofs.Found.{members_faults_more, absent_found, present_found, faults_of_leaf, faults_of_object}
 use Rattle.sm_tool.proofs.Clear.{clear_where_spelled}
+use Rattle.sm_tool.proofs.Fields.{Begun, begun_skips, begun_takes}
 use Rattle.sm_tool.proofs.Refusals.{first_before}
 
 -- a required member that is left out
@@ -71,3 +82,27 @@ lighter_if false name n m ms rest more h = let less = more h in omega arith
 pub lighter : (name : List ℕ) (n : Node) (ms : Members) (rest : List Node) → named name ms ≡ n ∷ rest → weight n < members_weight ms
 lighter name n no_members rest h = cc
 lighter name n (member k m ms) rest h = lighter_if (bytes_eq k name) name n m ms rest (lighter name n ms rest) h
+
+-- the node of an object's tree, by the view of its pairs
+pub node_of_pairs : (p : Pairs) → node_of (Object p) ≡ object (members_of (pairs_view p))
+node_of_pairs p = node_object p ∙ ap (λ ms. object (members_of ms)) (sym (view_pairs p))
+
+-- the node of an object's tree, by its pairs as a slice
+pub object_node : (tree : Tree) (p : Pairs) (slice : List (List ℕ × Tree)) → tree ≡ Object p → members_view slice ≡ pairs_view p → node_of tree ≡ object (members_of (members_view slice))
+object_node tree p slice is same = ap node_of is ∙ node_of_pairs p ∙ ap (λ ms. object (members_of ms)) (sym same)
+
+-- the fields of an object make the structure's value
+pub structure_decoded : (t : Table) (leaf : Leaf) → IsConvention leaf → (s : ℕ) (n : Node) (ms : Members) (fields : Fields) → kind_at t s ≡ Structure → n ≡ object ms → SpellsFields t leaf (members_at t s) (fields_of (fields_view fields)) ms → Spells t leaf s (val_of (StructureValue fields)) n × (faults t leaf n s ≡ [])
+structure_decoded t leaf laws s n ms fields kind is h =
+    let v = structure_val (fields_of (fields_view fields)) in
+    let spelled : Spells t leaf s v n = (kind, (ms, is, h)) in
+    (subst (λ v. Spells t leaf s v n) (sym (val_of_fields fields)) spelled, clear_where_spelled t leaf laws s v n spelled)
+
+-- one member more
+pub begun_keeps : (t : Table) (leaf : Leaf) (ms : Members) (all : List ℕ) (fs : List (ℕ × Val)) (k : ℕ) (ks : List ℕ) (found : Option Value) → DecodesMember t leaf k ms (Ok found) → Begun t leaf ms all fs (k ∷ ks) → Begun t leaf ms all (kept fs k found) ks
+begun_keeps t leaf ms all fs k ks None h begun = begun_skips t leaf ms all fs k ks h.0 h.1 begun
+begun_keeps t leaf ms all fs k ks (Some v) h begun = begun_takes t leaf ms all fs k ks (val_of v) h.0 h.1 h.2 h.3 begun
+
+pub behind_kept : (t : Table) (leaf : Leaf) → IsConvention leaf → (ms : Members) (k : ℕ) (ks : List ℕ) (found : Option Value) → DecodesMember t leaf k ms (Ok found) → members_faults t (children t leaf ms) (k ∷ ks) ≡ members_faults t (children t leaf ms) ks
+behind_kept t leaf laws ms k ks None h = behind_absent t leaf ms k ks h.0 h.1
+behind_kept t leaf laws ms k ks (Some v) h = behind_present t leaf laws ms k ks (val_of v) h.0 h.1 h.2 h.3

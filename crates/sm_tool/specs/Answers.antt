@@ -62,3 +62,8 @@ abbrev pub FindsMember : Table → Leaf → ℕ → Members → Result (Option (
 FindsMember t leaf k ms (Ok None) = (required_at t k ≡ false) × NoneOrNull (named (name_at t k) ms)
 FindsMember t leaf k ms (Ok (Some tree)) = (named (name_at t k) ms ≡ node_of tree.now ∷ []) × (is_null (node_of tree.now) ≡ false)
 FindsMember t leaf k ms (Err refusal) = IsFirst (faults_in t leaf k ms) refusal
+
+-- the fields with that of a member behind them, where the member has a value
+abbrev pub kept : List (ℕ × Val) → ℕ → Option Value → List (ℕ × Val)
+kept fs k None = fs
+kept fs k (Some v) = fs ++ (k, val_of v) ∷ []

@@ -4,3 +4,4 @@ pub mod Spelling
 pub mod Faults
 pub mod Encoded
 pub mod Answers
+pub mod Laws

@@ -1,17 +1,18 @@
 // Values from trees: a recursion over the tree and the shape at once.
-ghost use Rattle.std.specs.Prelude.{◌≡◌, ◌<◌};
+ghost use Rattle.std.specs.Prelude.{◌≡◌, ◌<◌, OnOk};
 ghost use Rattle.sm_tree.specs.Node.{members_of};
 ghost use Rattle.sm_tree.specs.View.{node_of, members_view};
+ghost use Rattle.sm_shapes.specs.View.{vals_view};
 ghost use Rattle.sm_shapes.specs.Tables.{shape_count, member_count, members_at, kind_at, Shaped};
 ghost use Rattle.sm_shapes.specs.declared.table.ShapeKind.TheVariants.{Structure};
 ghost use Rattle.sm_tool.specs.Leaves.{json_leaf};
-ghost use Rattle.sm_tool.specs.Answers.{Decodes, DecodesFields, DecodesMember};
+ghost use Rattle.sm_tool.specs.Answers.{Decodes, DecodesFields, DecodesMember, kept};
 
 use super::leaf::{LeafRefusal, read_leaf};
 use super::member::find_member;
 use super::refusal::Refusal;
 use sm_shapes::{FaultKind, Fields, ShapeKind, Table, Value};
-use sm_tree::{Text, Tree};
+use sm_tree::{NoMemory, Text, Tree};
 use std::alloc::Global;
 
 /// The value of a shape that a tree spells by JSON's conventions, or the first fault of the tree for the
@@ -58,15 +59,27 @@ fn decode_fields(alloc: Global, table: &Table, shape: u32, pairs: &[(Text, Tree)
     let mut fields = Vec::new(alloc);
     for member in members {
         match decode_member(alloc, table, *member, pairs) {
-            Ok(None) => {}
-            Ok(Some(value)) => match fields.push((*member, value)) {
+            Ok(value) => match keep(&mut fields, *member, value) {
                 Ok(()) => {}
-                Err(_) => return Err(Refusal::NoMemory),
+                Err(NoMemory) => return Err(Refusal::NoMemory),
             },
             Err(refusal) => return Err(refusal),
         }
     }
     Ok(Fields::new(fields))
+}
+
+// Adds a member's value, where there is one.
+fn keep(fields: &mut Vec<(u32, Value)>, member: u32, value: Option<Value>) -> Result<(), NoMemory>
+    ensures { OnOk result (vals_view fields.new.items ≡ kept (vals_view fields.old.items) member value) }
+{
+    match value {
+        None => Ok(()),
+        Some(value) => match fields.push((member, value)) {
+            Ok(()) => Ok(()),
+            Err(_) => Err(NoMemory),
+        },
+    }
 }
 
 // The value of a member, or `None` where the member is optional and is absent or null.

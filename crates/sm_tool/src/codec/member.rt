@@ -24,10 +24,11 @@ pub fn find_member<'t>(
     requires { member < member_count table.now }
     ensures { FindsMember table.now json_leaf member (members_of (members_view pairs.now)) result }
 {
-    match find(pairs, table.name(member).as_str()) {
+    let name = table.name(member);
+    match find(pairs, name.as_str()) {
         Found::Repeated => {
             let repeated = Refusal::here(alloc, FaultKind::Repeated);
-            Err(repeated.under(alloc, table.name(member)))
+            Err(repeated.under(alloc, name))
         }
         Found::Absent => match left_out(alloc, table, member) {
             Ok(()) => Ok(None),

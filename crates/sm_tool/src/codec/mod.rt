@@ -3,6 +3,7 @@
 mod decode;
 mod encode;
 mod find;
+pub mod laws;
 mod leaf;
 mod member;
 mod refusal;
