@@ -1,7 +1,7 @@
 -- A tree that spells a value has no fault, and one without a fault spells a value.
-use Rattle.std.proofs.Common.{◌≡◌, ◌⊎◌, inl, inr, ℕ, Bool, true, false, cond, List, [], ◌∷◌, ◌++◌, map, refl, sym, ap, ◌∙◌, subst}
+use Rattle.std.proofs.Common.{◌≡◌, inl, inr, ℕ, Bool, true, false, cond, List, [], ◌∷◌, ◌++◌, refl, sym, ap, ◌∙◌, subst}
 use Rattle.std.specs.Prelude.{Result, Ok, Err}
-use Rattle.sm_tree.specs.Node.{Node, Nodes, Members, null, bool, int, number, text, bytes, tag, opaque, list, object, no_members, member}
+use Rattle.sm_tree.specs.Node.{Node, Members, null, bool, int, number, text, bytes, tag, opaque, list, object, no_members, member}
 use Rattle.sm_shapes.specs.Val.{Val, FieldVals, bool_val, int_val, text_val, structure_val, no_fields, field}
 use Rattle.sm_shapes.specs.Tables.{kind_at, members_at, name_at, target_at, required_at}
 use Rattle.sm_shapes.specs.declared.table.Table.{Table}
@@ -11,11 +11,11 @@ use Rattle.sm_shapes.specs.declared.fault.FaultKind.{FaultKind}
 use Rattle.sm_shapes.specs.declared.fault.FaultKind.TheVariants.{WrongType}
 use Rattle.sm_tool.specs.Leaves.{Leaf}
 use Rattle.sm_tool.specs.Members.{named, is_null}
-use Rattle.sm_tool.specs.Spelling.{NoneOrNull, AreAbsent, Spells, SpellsFields}
+use Rattle.sm_tool.specs.Spelling.{NoneOrNull, Spells, SpellsFields}
 use Rattle.std.specs.Str.{bytes_eq}
-use Rattle.sm_tool.specs.Faults.{FaultAt, Child, here, under, leaf_faults, absent_faults, member_faults, members_faults, by_kind, faults, children, child_of, found_faults, faults_in}
+use Rattle.sm_tool.specs.Faults.{FaultAt, here, under, leaf_faults, absent_faults, members_faults, by_kind, faults, children, found_faults, faults_in}
 use Rattle.sm_tool.proofs.Conventions.{IsConvention, LeafFits}
-use Rattle.sm_tool.proofs.Found.{members_faults_more, skipped_clear, absent_clear, absent_found, present_found, faults_of_leaf, faults_of_object}
+use Rattle.sm_tool.proofs.Found.{members_faults_more, skipped_clear, absent_clear, present_found, faults_of_leaf, faults_of_object}
 use Rattle.sm_tool.proofs.Fields.{skip_member, take_member}
 
 -- a structure's value stands for no leaf
@@ -145,7 +145,7 @@ mutual
   spelled_where_clear t leaf laws (object ms) s h =
       let carry = members_carry t leaf laws ms in
       by_kind_spelled t leaf laws s (object ms) (members_faults t (children t leaf ms) (members_at t s)) (kind_at t s) refl
-        (λ e clear. let w = fields_spelled t leaf (members_at t s) ms carry clear in (structure_val w.0, (e, (ms, refl, w.1)))) h
+      (λ e clear. let w = fields_spelled t leaf (members_at t s) ms carry clear in (structure_val w.0, (e, (ms, refl, w.1)))) h
 
   members_carry : (t : Table) (leaf : Leaf) → IsConvention leaf → (ms : Members) → Carries t leaf ms
   members_carry t leaf laws no_members = tt

@@ -1,19 +1,18 @@
 -- What a convention keeps to: a leaf spells only values of its kind of shape. JSON's convention does.
-use Rattle.std.proofs.Common.{◌≡◌, ℕ, ◌<◌, ◌^◌, ◌⊎◌, inl, inr, ℤ, Bool, true, false, cond, List, refl, sym, ap, subst, arith, rules}
-use Rattle.std.specs.Prelude.{pos, negsuc, nat_lt, Result, Ok, Err, IsUtf8}
+use Rattle.std.proofs.Common.{◌≡◌, ℕ, ◌<◌, ◌^◌, ◌⊎◌, inl, inr, ℤ, Bool, true, false, cond, List, refl, sym, ap, subst, arith}
+use Rattle.std.specs.Prelude.{pos, negsuc, Result, Ok, Err, IsUtf8}
 use Rattle.std.specs.Str.{is_utf8}
 use Rattle.std.proofs.lemmas.Str.{IsUtf8-from_is_utf8, is_utf8-from_IsUtf8}
 use Rattle.std.proofs.lemmas.Bool.Decides.{nat_tests}
-use Rattle.std.proofs.Math.Facts.{sfits_lit}
 use mir.Syntax.{w32, w64}
 use mir.Val.{SFits}
-use Rattle.sm_tree.specs.Node.{Node, Nodes, Members, null, bool, int, number, text, bytes, tag, opaque, list, object}
+use Rattle.sm_tree.specs.Node.{Node, null, bool, int, number, text, bytes, tag, opaque, list, object}
 use Rattle.sm_shapes.specs.Val.{Val, bool_val, int_val, text_val, structure_val}
 use Rattle.sm_shapes.specs.declared.table.ShapeKind.{ShapeKind}
 use Rattle.sm_shapes.specs.declared.table.ShapeKind.TheVariants.{Boolean, Text, Integer, Long, Structure}
 use Rattle.sm_shapes.specs.declared.fault.FaultKind.{FaultKind}
 use Rattle.sm_shapes.specs.declared.fault.FaultKind.TheVariants.{WrongType, Width}
-use Rattle.sm_tool.specs.Leaves.{Leaf, holds, has_mark, boolean_leaf, text_leaf, whole_leaf, json_leaf}
+use Rattle.sm_tool.specs.Leaves.{Leaf, holds, boolean_leaf, text_leaf, whole_leaf, json_leaf}
 use Rattle.sm_tool.specs.Members.{is_null}
 use Rattle.sm_tool.specs.Encoded.{LeafWriter, json_written}
 
@@ -112,8 +111,9 @@ json_convention = record { fits = json_fits }
 json_reads : (k : ShapeKind) (v : Val) → LeafFits k v → json_leaf k (json_written k v) ≡ Ok v
 json_reads k (bool_val b) h = subst (λ k. json_leaf k (bool b) ≡ Ok (bool_val b)) (sym h) refl
 json_reads k (int_val z) h = elim h [
-    inl w ↦ subst (λ k. json_leaf k (int z) ≡ Ok (int_val z)) (sym w.0) (ap (λ b. cond b (Ok (int_val z)) (Err Width)) (holds_integer z w.1))
-  | inr w ↦ subst (λ k. json_leaf k (int z) ≡ Ok (int_val z)) (sym w.0) (ap (λ b. cond b (Ok (int_val z)) (Err Width)) (holds_long z w.1)) ]
+  | inl w ↦ subst (λ k. json_leaf k (int z) ≡ Ok (int_val z)) (sym w.0) (ap (λ b. cond b (Ok (int_val z)) (Err Width)) (holds_integer z w.1))
+  | inr w ↦ subst (λ k. json_leaf k (int z) ≡ Ok (int_val z)) (sym w.0) (ap (λ b. cond b (Ok (int_val z)) (Err Width)) (holds_long z w.1))
+]
 json_reads k (text_val u) h =
     subst (λ k. json_leaf k (text u) ≡ Ok (text_val u)) (sym h.0) (ap (λ b. cond b (Ok (text_val u)) (Err WrongType)) (is_utf8-from_IsUtf8 u h.1))
 json_reads k (structure_val fs) h = absurd h

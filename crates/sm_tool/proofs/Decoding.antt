@@ -1,7 +1,7 @@
 -- The steps of decoding: first faults of members and of objects, and the tree of a member weighs less than
 -- its object.
-use Rattle.std.proofs.Common.{◌≡◌, ℕ, ◌+◌, ◌<◌, ◌≤◌, zero, suc, Bool, true, false, cond, List, [], ◌∷◌, ◌++◌, length, get_or, refl, sym, ap, ◌∙◌, subst, arith}
-use Rattle.std.specs.Prelude.{Option, Some, None, Result, Ok, Err}
+use Rattle.std.proofs.Common.{◌≡◌, ℕ, ◌+◌, ◌<◌, zero, suc, Bool, true, false, cond, List, [], ◌∷◌, ◌++◌, length, get_or, sym, ap, ◌∙◌, subst, arith}
+use Rattle.std.specs.Prelude.{Option, Some, None, Ok, Err}
 use Rattle.std.specs.Str.{bytes_eq}
 use Rattle.sm_tree.specs.Node.{Node, Members, object, no_members, member, members_of}
 use Rattle.sm_tree.specs.View.{node_of, pairs_view, members_view}
@@ -20,15 +20,15 @@ use Rattle.sm_shapes.specs.Tables.{kind_at, members_at, name_at, target_at, requ
 use Rattle.sm_shapes.specs.declared.table.Table.{Table}
 use Rattle.sm_shapes.specs.declared.table.ShapeKind.TheVariants.{Structure}
 use Rattle.sm_shapes.specs.declared.fault.FaultKind.{FaultKind}
-use Rattle.sm_shapes.specs.declared.fault.FaultKind.TheVariants.{WrongType, Repeated, Missing}
+use Rattle.sm_shapes.specs.declared.fault.FaultKind.TheVariants.{Repeated, Missing}
 use Rattle.sm_tool.specs.declared.codec.refusal.Refusal.{Refusal}
 use Rattle.sm_tool.specs.Leaves.{Leaf}
 use Rattle.sm_tool.specs.Members.{named, is_null}
 use Rattle.sm_tool.specs.Spelling.{NoneOrNull, Spells, SpellsFields}
-use Rattle.sm_tool.specs.Faults.{FaultAt, here, under, leaf_faults, absent_faults, members_faults, faults, children, found_faults, faults_in}
+use Rattle.sm_tool.specs.Faults.{here, under, leaf_faults, absent_faults, members_faults, faults, children, found_faults, faults_in}
 use Rattle.sm_tool.specs.Answers.{IsFirst, DecodesMember, kept}
 use Rattle.sm_tool.proofs.Conventions.{IsConvention}
-use Rattle.sm_tool.proofs.Found.{members_faults_more, absent_found, present_found, faults_of_leaf, faults_of_object}
+use Rattle.sm_tool.proofs.Found.{members_faults_more, absent_found, present_found, faults_of_leaf}
 use Rattle.sm_tool.proofs.Clear.{clear_where_spelled}
 use Rattle.sm_tool.proofs.Fields.{Begun, begun_skips, begun_takes}
 use Rattle.sm_tool.proofs.Refusals.{first_before}
@@ -57,7 +57,7 @@ pub behind_present : (t : Table) (leaf : Leaf) → IsConvention leaf → (ms : M
 behind_present t leaf laws ms k ks v n once stands spelled =
     members_faults_more t leaf ms k ks
     ∙ ap (λ fs. under (name_at t k) fs ++ members_faults t (children t leaf ms) ks)
-        (ap (found_faults t leaf k) once ∙ present_found t leaf k n stands ∙ clear_where_spelled t leaf laws (target_at t k) v n spelled)
+    (ap (found_faults t leaf k) once ∙ present_found t leaf k n stands ∙ clear_where_spelled t leaf laws (target_at t k) v n spelled)
 
 -- the first fault of a member is the first of the members from it on
 pub member_first : (t : Table) (leaf : Leaf) (ms : Members) (k : ℕ) (ks : List ℕ) (refusal : Refusal) → IsFirst (faults_in t leaf k ms) refusal → IsFirst (members_faults t (children t leaf ms) (k ∷ ks)) refusal

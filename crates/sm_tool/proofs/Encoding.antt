@@ -1,19 +1,18 @@
 -- The tree that is written for a value spells it.
-use Rattle.std.proofs.Common.{◌≡◌, ℕ, ◌<◌, Bool, true, false, cond, List, [], ◌∷◌, ◌++◌, refl, sym, ap, ◌∙◌, subst}
-use Rattle.std.specs.Prelude.{Result, Ok}
+use Rattle.std.proofs.Common.{◌≡◌, ℕ, ◌<◌, false, cond, List, [], ◌∷◌, ◌++◌, refl, sym, ap, ◌∙◌, subst}
 use Rattle.std.specs.Str.{bytes_eq}
 use Rattle.std.proofs.lemmas.Slice.Eq.{bytes_eq-Decides}
 use Rattle.std.proofs.lemmas.Bool.{false_from_ne_true}
-use Rattle.sm_tree.specs.Node.{Node, Members, object, no_members, member}
+use Rattle.sm_tree.specs.Node.{Node, Members, no_members, member}
 use Rattle.sm_shapes.specs.Val.{Val, FieldVals, bool_val, int_val, text_val, structure_val, no_fields, field}
-use Rattle.sm_shapes.specs.Tables.{kind_at, members_at, name_at, target_at, required_at, shape_count, member_count, NoneNamed, NamesDiffer, StandIn, Shaped}
+use Rattle.sm_shapes.specs.Tables.{kind_at, members_at, name_at, target_at, shape_count, member_count, NoneNamed, NamesDiffer, StandIn, Shaped}
 use Rattle.sm_shapes.specs.Fits.{Fits, FitFields, AreOptional}
 use Rattle.sm_shapes.specs.declared.table.Table.{Table}
 use Rattle.sm_tool.specs.Leaves.{Leaf}
 use Rattle.sm_tool.specs.Members.{named, is_null}
 use Rattle.sm_tool.specs.Spelling.{NoneOrNull, AreAbsent, Spells, SpellsFields}
 use Rattle.sm_tool.specs.Encoded.{LeafWriter, encoded, encoded_fields}
-use Rattle.sm_tool.proofs.Conventions.{Writes, LeafFits}
+use Rattle.sm_tool.proofs.Conventions.{Writes}
 
 -- a pair of another name hides nothing, and a pair of the name stands first
 pub named_other : (name k : List ℕ) (n : Node) (ms : Members) → (k ≡ name → ⊥) → named name (member k n ms) ≡ named name ms
@@ -53,10 +52,17 @@ absent_beside t x n ms (k ∷ ks) none h =
 spells_beside : (t : Table) (leaf : Leaf) (x : List ℕ) (n : Node) (ks : List ℕ) (fs : FieldVals) (ms : Members) → NoneNamed t x ks → SpellsFields t leaf ks fs ms → SpellsFields t leaf ks fs (member x n ms)
 spells_beside t leaf x n ks no_fields ms none h = absent_beside t x n ms ks none h
 spells_beside t leaf x n ks (field k v fs) ms none h =
-    let parts : NoneNamed t x (h.0 ++ k ∷ h.1) = subst (NoneNamed t x) h.3 none in
-    (h.0, h.1, h.2, h.3, absent_beside t x n ms h.0 (none_front t x h.0 k h.1 parts) h.4,
-      named_other (name_at t k) x n ms (λ e. none_at t x h.0 k h.1 parts (sym e)) ∙ h.5, h.6, h.7,
-      spells_beside t leaf x n h.1 fs ms (none_back t x h.0 k h.1 parts) h.8)
+    let parts : NoneNamed t x (h.0 ++ k ∷ h.1) = subst (NoneNamed t x) h.3 none in (
+      h.0,
+      h.1,
+      h.2,
+      h.3,
+      absent_beside t x n ms h.0 (none_front t x h.0 k h.1 parts) h.4,
+      named_other (name_at t k) x n ms (λ e. none_at t x h.0 k h.1 parts (sym e)) ∙ h.5,
+      h.6,
+      h.7,
+      spells_beside t leaf x n h.1 fs ms (none_back t x h.0 k h.1 parts) h.8,
+    )
 
 -- nothing is written under a name that no member has
 none_written : (t : Table) (write : LeafWriter) (x : List ℕ) (ks : List ℕ) (fs : FieldVals) → NoneNamed t x ks → FitFields t ks fs → named x (encoded_fields t write fs) ≡ []
@@ -75,7 +81,7 @@ skipped_absent : (t : Table) (write : LeafWriter) (front : List ℕ) (k : ℕ) (
 skipped_absent t write [] k rest n fs differ optional fits = tt
 skipped_absent t write (j ∷ front) k rest n fs differ optional fits =
     let none = named_other (name_at t j) (name_at t k) n (encoded_fields t write fs) (none_at t (name_at t j) front k rest differ.0)
-          ∙ none_written t write (name_at t j) rest fs (none_back t (name_at t j) front k rest differ.0) fits in
+    ∙ none_written t write (name_at t j) rest fs (none_back t (name_at t j) front k rest differ.0) fits in
     (optional.0, subst NoneOrNull (sym none) tt, skipped_absent t write front k rest n fs differ.1 optional.1 fits)
 
 written_stands : (t : Table) (leaf : Leaf) (write : LeafWriter) → Writes leaf write → (s : ℕ) (v : Val) → Fits t s v → is_null (encoded t write s v) ≡ false
@@ -98,10 +104,15 @@ mutual
       let place = stand_at t s h.0 k h.1 (subst (StandIn t s) h.2 stand) in
       let names = subst (NamesDiffer t) h.2 differ in
       let apart = differ_at t h.0 k h.1 names in
-      let n = encoded t write (target_at t k) v in
-      (h.0, h.1, n, h.2, skipped_absent t write h.0 k h.1 n fs names h.3 h.5,
+      let n = encoded t write (target_at t k) v in (
+        h.0,
+        h.1,
+        n,
+        h.2,
+        skipped_absent t write h.0 k h.1 n fs names h.3 h.5,
         named_here (name_at t k) (name_at t k) n (encoded_fields t write fs) refl ∙ ap (λ ns. n ∷ ns) (none_written t write (name_at t k) h.1 fs apart.0 h.5),
         written_stands t leaf write laws (target_at t k) v h.4,
         spells_where_written t leaf write shaped laws (target_at t k) v (shaped.targets k place.0) h.4,
         spells_beside t leaf (name_at t k) n h.1 fs (encoded_fields t write fs) apart.0
-          (fields_written t leaf write shaped laws s h.1 fs place.1 apart.1 h.5))
+            (fields_written t leaf write shaped laws s h.1 fs place.1 apart.1 h.5),
+      )

@@ -1,12 +1,12 @@
 -- How the fields of a structure are spelled, member by member.
-use Rattle.std.proofs.Common.{◌≡◌, ℕ, Bool, true, false, List, [], ◌∷◌, ◌++◌, refl, sym, ap, ◌∙◌, subst}
+use Rattle.std.proofs.Common.{◌≡◌, ℕ, false, List, [], ◌∷◌, ◌++◌, refl, sym, ap, subst}
 use Rattle.sm_tree.specs.Node.{Node, Members}
 use Rattle.sm_shapes.specs.Val.{Val, FieldVals, no_fields, field, fields_of}
 use Rattle.sm_shapes.specs.Tables.{name_at, target_at, required_at}
 use Rattle.sm_shapes.specs.declared.table.Table.{Table}
 use Rattle.sm_tool.specs.Leaves.{Leaf}
 use Rattle.sm_tool.specs.Members.{named, is_null}
-use Rattle.sm_tool.specs.Spelling.{NoneOrNull, AreAbsent, Spells, SpellsFields}
+use Rattle.sm_tool.specs.Spelling.{NoneOrNull, Spells, SpellsFields}
 
 -- an absent member before the others changes no field
 pub skip_member : (t : Table) (leaf : Leaf) (k : ℕ) (ks : List ℕ) (fs : FieldVals) (ms : Members) → required_at t k ≡ false → NoneOrNull (named (name_at t k) ms) → SpellsFields t leaf ks fs ms → SpellsFields t leaf (k ∷ ks) fs ms

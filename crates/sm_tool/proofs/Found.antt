@@ -1,17 +1,15 @@
 -- What stands under a name, and the faults of leaves and members that follow from it.
-use Rattle.std.proofs.Common.{◌≡◌, ℕ, Bool, true, false, cond, List, [], ◌∷◌, ◌++◌, map, append-nil, refl, sym, ap, ◌∙◌, subst}
-use Rattle.std.specs.Prelude.{Result, Ok, Err}
+use Rattle.std.proofs.Common.{◌≡◌, ℕ, Bool, true, false, cond, List, [], ◌∷◌, ◌++◌, map, append-nil, refl, sym, ap, ◌∙◌}
 use Rattle.std.specs.Str.{bytes_eq}
-use Rattle.sm_tree.specs.Node.{Node, Nodes, Members, null, bool, int, number, text, bytes, tag, opaque, list, object, no_members, member}
+use Rattle.sm_tree.specs.Node.{Node, Members, null, bool, int, number, text, bytes, tag, opaque, list, object, no_members, member}
 use Rattle.sm_shapes.specs.Tables.{kind_at, members_at, name_at, target_at, required_at}
 use Rattle.sm_shapes.specs.declared.table.Table.{Table}
 use Rattle.sm_shapes.specs.declared.table.ShapeKind.{ShapeKind}
 use Rattle.sm_shapes.specs.declared.table.ShapeKind.TheVariants.{Boolean, Text, Integer, Long, Structure}
-use Rattle.sm_shapes.specs.declared.fault.FaultKind.TheVariants.{WrongType, Repeated, Missing}
 use Rattle.sm_tool.specs.Leaves.{Leaf}
 use Rattle.sm_tool.specs.Members.{named, is_null}
 use Rattle.sm_tool.specs.Spelling.{NoneOrNull, AreAbsent}
-use Rattle.sm_tool.specs.Faults.{FaultAt, Child, here, under, leaf_faults, children_named, absent_faults, member_faults, members_faults, by_kind, faults, children, child_of, found_faults, faults_in}
+use Rattle.sm_tool.specs.Faults.{FaultAt, Child, under, leaf_faults, children_named, absent_faults, member_faults, members_faults, by_kind, faults, children, child_of, found_faults, faults_in}
 
 children_named_if : (b : Bool) (c : Child) (cs : List Child) (n : Node) (ns : List Node) (t : Table) (leaf : Leaf) → c ≡ child_of t leaf n → cs ≡ map (child_of t leaf) ns → cond b (c ∷ cs) cs ≡ map (child_of t leaf) (cond b (n ∷ ns) ns)
 children_named_if true c cs n ns t leaf e h = cc

@@ -1,16 +1,16 @@
 -- A tree spells one value of a shape.
-use Rattle.std.proofs.Common.{◌≡◌, ℕ, Bool, true, false, List, [], ◌∷◌, ◌++◌, refl, sym, ap, ◌∙◌, subst}
+use Rattle.std.proofs.Common.{◌≡◌, ℕ, true, false, List, [], ◌∷◌, ◌++◌, refl, sym, ap, ◌∙◌, subst}
 use Rattle.std.specs.Prelude.{Result, Ok}
 use Rattle.sm_tree.specs.Node.{Node, Members, object}
 use Rattle.sm_shapes.specs.Val.{Val, FieldVals, bool_val, int_val, text_val, structure_val, no_fields, field}
-use Rattle.sm_shapes.specs.Tables.{kind_at, members_at, name_at, target_at, required_at}
+use Rattle.sm_shapes.specs.Tables.{kind_at, members_at, name_at, target_at}
 use Rattle.sm_shapes.specs.declared.table.Table.{Table}
 use Rattle.sm_shapes.specs.declared.table.ShapeKind.TheVariants.{Structure}
 use Rattle.sm_shapes.specs.declared.fault.FaultKind.{FaultKind}
 use Rattle.sm_tool.specs.Leaves.{Leaf}
 use Rattle.sm_tool.specs.Members.{named, is_null}
 use Rattle.sm_tool.specs.Spelling.{NoneOrNull, AreAbsent, Spells, SpellsFields}
-use Rattle.sm_tool.proofs.Conventions.{IsConvention, LeafFits}
+use Rattle.sm_tool.proofs.Conventions.{IsConvention}
 use Rattle.sm_tool.proofs.Clear.{simple_kind}
 
 -- the member stands once, and not with null
@@ -88,6 +88,6 @@ mutual
       let split = one_split t ms h.0 h.1 j h.2 g.0 g.1 k g.2 (sym h.3 ∙ g.3) h.4 (h.5, h.6) g.4 (g.5, g.6) in
       let tree : h.2 ≡ g.2 = one_tree (named (name_at t k) ms) h.2 g.2 (subst (λ i. named (name_at t i) ms ≡ h.2 ∷ []) split.0 h.5) g.5 in
       let value : v ≡ w =
-        one_value t leaf laws (target_at t k) v w g.2 (subst (λ i. Spells t leaf (target_at t i) v g.2) split.0 (subst (Spells t leaf (target_at t j) v) tree h.7)) g.7 in
+      one_value t leaf laws (target_at t k) v w g.2 (subst (λ i. Spells t leaf (target_at t i) v g.2) split.0 (subst (Spells t leaf (target_at t j) v) tree h.7)) g.7 in
       let rest : fs ≡ gs = one_fields t leaf laws g.1 fs gs ms (subst (λ ks. SpellsFields t leaf ks fs ms) split.1 h.8) g.8 in
       same_field j k v w fs gs split.0 value rest

@@ -1,10 +1,10 @@
 -- The pairs that are written for fields, one by one.
-use Rattle.std.proofs.Common.{◌≡◌, ℕ, ◌<◌, List, [], ◌∷◌, ◌++◌, refl, sym, ap, ◌∙◌, subst}
+use Rattle.std.proofs.Common.{◌≡◌, ℕ, List, [], ◌∷◌, ◌++◌, refl, ap, ◌∙◌, subst}
 use Rattle.std.specs.Prelude.{IsUtf8}
 use Rattle.sm_tree.specs.Node.{Node, Members, no_members, member, members_of}
 use Rattle.sm_tree.specs.Json.{IsJson, AreJsonMembers}
 use Rattle.sm_shapes.specs.Val.{Val, FieldVals, no_fields, field}
-use Rattle.sm_shapes.specs.Tables.{member_count, name_at, target_at, StandIn}
+use Rattle.sm_shapes.specs.Tables.{name_at, target_at, StandIn}
 use Rattle.sm_shapes.specs.Fits.{FitFields}
 use Rattle.sm_shapes.specs.declared.table.Table.{Table}
 use Rattle.sm_tool.specs.Encoded.{encoded, encoded_fields, json_written, FieldsFit}

@@ -1,14 +1,13 @@
 -- What the codec's functions answer, by cases on the answer.
-use Rattle.std.specs.Prelude.{◌≡◌, ℕ, Bool, true, false, List, [], ◌∷◌, ◌++◌, Option, Some, None, Result, Ok, Err}
+use Rattle.std.specs.Prelude.{◌≡◌, ℕ, false, List, [], ◌∷◌, ◌++◌, Option, Some, None, Result, Ok, Err}
 use Rattle.sm_tree.specs.Node.{Node, Members}
 use Rattle.sm_tree.specs.View.{node_of}
 use Rattle.sm_tree.specs.declared.tree.Tree.{Tree}
 use denote.Ref.{Bor}
-use Rattle.sm_shapes.specs.Val.{Val, FieldVals, fields_of}
+use Rattle.sm_shapes.specs.Val.{Val, fields_of}
 use Rattle.sm_shapes.specs.View.{val_of, fields_view}
-use Rattle.sm_shapes.specs.Tables.{kind_at, members_at, name_at, target_at, required_at}
+use Rattle.sm_shapes.specs.Tables.{name_at, target_at, required_at}
 use Rattle.sm_shapes.specs.declared.table.Table.{Table}
-use Rattle.sm_shapes.specs.declared.table.ShapeKind.{ShapeKind}
 use Rattle.sm_shapes.specs.declared.value.Value.{Value}
 use Rattle.sm_shapes.specs.declared.value.Fields.{Fields}
 use Rattle.sm_shapes.specs.declared.fault.FaultKind.{FaultKind}

@@ -1,6 +1,6 @@
 -- The one tree that is written for a value.
-use Rattle.std.specs.Prelude.{ℕ, ◌<◌, List}
-use Rattle.sm_tree.specs.Node.{Node, Nodes, Members, null, bool, int, text, object, no_members, member}
+use Rattle.std.specs.Prelude.{ℕ, ◌<◌}
+use Rattle.sm_tree.specs.Node.{Node, Members, null, bool, int, text, object, no_members, member}
 use Rattle.sm_shapes.specs.Val.{Val, FieldVals, bool_val, int_val, text_val, structure_val, no_fields, field}
 use Rattle.sm_shapes.specs.Tables.{kind_at, name_at, target_at, member_count}
 use Rattle.sm_shapes.specs.Fits.{Fits}

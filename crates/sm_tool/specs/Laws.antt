@@ -1,5 +1,5 @@
 -- The codec's laws, over the definitions alone.
-use Rattle.std.specs.Prelude.{◌≡◌, ◌↔◌, ℕ, ◌<◌, List, []}
+use Rattle.std.specs.Prelude.{◌≡◌, ◌↔◌, ℕ, ◌<◌, []}
 use Rattle.sm_tree.specs.Node.{Node}
 use Rattle.sm_shapes.specs.Val.{Val}
 use Rattle.sm_shapes.specs.Tables.{shape_count, Shaped}

@@ -1,9 +1,9 @@
 -- How JSON spells the values of simple shapes: booleans, texts and whole numbers (RFC 8259).
-use Rattle.std.specs.Prelude.{ℕ, ℤ, pos, negsuc, ◌^◌, Bool, true, false, ◌||◌, cond, List, Result, Ok, Err, nat_eq, nat_lt}
+use Rattle.std.specs.Prelude.{ℕ, ℤ, pos, negsuc, ◌^◌, Bool, ◌||◌, cond, List, Result, Ok, Err, nat_eq, nat_lt}
 use Rattle.std.specs.List.{list_any}
 use Rattle.std.specs.Str.{is_utf8}
-use Rattle.sm_tree.specs.Node.{Node, Nodes, Members, null, bool, int, number, text, bytes, tag, opaque, list, object}
-use Rattle.sm_shapes.specs.Val.{Val, bool_val, int_val, text_val, structure_val}
+use Rattle.sm_tree.specs.Node.{Node, bool, int, number, text}
+use Rattle.sm_shapes.specs.Val.{Val, bool_val, int_val, text_val}
 use Rattle.sm_shapes.specs.declared.table.ShapeKind.{ShapeKind}
 use Rattle.sm_shapes.specs.declared.table.ShapeKind.TheVariants.{Boolean, Text, Integer, Long, Structure}
 use Rattle.sm_shapes.specs.declared.fault.FaultKind.{FaultKind}

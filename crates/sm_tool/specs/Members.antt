@@ -1,7 +1,7 @@
 -- What stands under a name in an object, whose names may repeat.
 use Rattle.std.specs.Prelude.{ℕ, Bool, true, false, cond, List, [], ◌∷◌}
 use Rattle.std.specs.Str.{bytes_eq}
-use Rattle.sm_tree.specs.Node.{Node, Nodes, Members, null, bool, int, number, text, bytes, tag, opaque, list, object, no_members, member}
+use Rattle.sm_tree.specs.Node.{Node, Members, null, no_members, member}
 
 -- the trees that stand under a name, in their order
 abbrev pub named : List ℕ → Members → List Node

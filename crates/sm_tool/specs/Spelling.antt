@@ -1,6 +1,6 @@
 -- Which value of a shape a tree spells.
-use Rattle.std.specs.Prelude.{◌≡◌, ℕ, Bool, true, false, List, [], ◌∷◌, ◌++◌, Result, Ok}
-use Rattle.sm_tree.specs.Node.{Node, Nodes, Members, object}
+use Rattle.std.specs.Prelude.{◌≡◌, ℕ, true, false, List, [], ◌∷◌, ◌++◌, Ok}
+use Rattle.sm_tree.specs.Node.{Node, Members, object}
 use Rattle.sm_shapes.specs.Val.{Val, FieldVals, bool_val, int_val, text_val, structure_val, no_fields, field}
 use Rattle.sm_shapes.specs.Tables.{kind_at, members_at, name_at, target_at, required_at}
 use Rattle.sm_shapes.specs.declared.table.Table.{Table}

@@ -5,17 +5,14 @@ ghost use Rattle.sm_tool.specs.Laws.{ValueOrFault, OneValue, SpelledFits, Encode
 pub fn value_or_fault()
     ensures either { ValueOrFault }
     ensures one { OneValue }
-{
-}
+{}
 
 /// What a tree spells for a shape is a value of the shape.
 pub fn spelled_fits()
     ensures { SpelledFits }
-{
-}
+{}
 
 /// The tree that is written for a value of a shape spells the value.
 pub fn encoded_spells()
     ensures { EncodedSpells }
-{
-}
+{}

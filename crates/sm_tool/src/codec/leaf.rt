@@ -94,5 +94,7 @@ fn number_fault(number: &Text) -> FaultKind
 fn has_mark(number: &str) -> bool
     ensures { result ≡ has_mark number.now }
 {
-    number.bytes().any(|byte| byte == b'.' || byte == b'E' || byte == b'e')
+    number
+        .bytes()
+        .any(|byte| byte == b'.' || byte == b'E' || byte == b'e')
 }

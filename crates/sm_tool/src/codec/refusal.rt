@@ -22,7 +22,10 @@ impl Refusal {
     pub fn here(alloc: Global, kind: FaultKind) -> Self
         ensures { IsFirst (here kind) result }
     {
-        Refusal::Fault(Fault { path: Path::new(Vec::new(alloc)), kind })
+        Refusal::Fault(Fault {
+            path: Path::new(Vec::new(alloc)),
+            kind,
+        })
     }
 
     /// The refusal of the tree that has this one's tree as the member with this name.
@@ -31,7 +34,10 @@ impl Refusal {
     {
         match self {
             Refusal::Fault(fault) => match with_step(alloc, name, fault.path) {
-                Ok(path) => Refusal::Fault(Fault { path, kind: fault.kind }),
+                Ok(path) => Refusal::Fault(Fault {
+                    path,
+                    kind: fault.kind,
+                }),
                 Err(NoMemory) => Refusal::NoMemory,
             },
             Refusal::NoMemory => Refusal::NoMemory,

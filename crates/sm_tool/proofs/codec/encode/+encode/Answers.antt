@@ -19,10 +19,14 @@ encode-encode_fields-requires t c =
     let s = c.args.shape in
     let fs = fields_of (vals_view c.as_slice.result.now) in
     let whole : val_of c.args.value.now ≡ structure_val fs =
-          ap val_of c.in-Structure.is ∙ val_of_fields c.in-Structure.fields ∙ ap (λ fs. structure_val (fields_of fs)) (sym c.as_slice.ensures) in
-    let fits = subst (Fits table s) whole c.requires.fits in
-    (omega (arith, ap val_weight whole), (c.requires.shaped,
-      each_fits table s (members_at table s) fs (c.requires.shaped.members s c.requires.shape) fits.1))
+    ap val_of c.in-Structure.is ∙ val_of_fields c.in-Structure.fields ∙ ap (λ fs. structure_val (fields_of fs)) (sym c.as_slice.ensures) in
+    let fits = subst (Fits table s) whole c.requires.fits in (
+      omega (arith, ap val_weight whole),
+      (
+        c.requires.shaped,
+        each_fits table s (members_at table s) fs (c.requires.shaped.members s c.requires.shape) fits.1,
+      ),
+    )
 
 pub encode_fields-loop-field-preserved : goal.encode_fields-loop-field-preserved
 encode_fields-loop-field-preserved t c =
@@ -35,17 +39,17 @@ encode_fields-loop-field-preserved t c =
     let n = node_of c.in_ok-tree.tree in
     let ps = members_view c.loop-field.pairs.items in
     let view : fields_of (vals_view (drop i all)) ≡ field item.0 (val_of item.1) rest =
-          ap (λ fs. fields_of (vals_view fs)) (drop_more all i item c.loop-field-test.true ∙ ap (λ y. y ∷ drop (i + 1) all) (sym c.field-item.is)) in
+    ap (λ fs. fields_of (vals_view fs)) (drop_more all i item c.loop-field-test.true ∙ ap (λ y. y ∷ drop (i + 1) all) (sym c.field-item.is)) in
     let pushed : members_view c.push.new.self.items ≡ ps ++ (name, n) ∷ [] =
-          ap members_view c.in_ok-push.ensures.items ∙ map-append (λ m. (m.0, node_of m.1)) c.loop-field.pairs.items ((name, c.in_ok-tree.tree) ∷ []) in
+    ap members_view c.in_ok-push.ensures.items ∙ map-append (λ m. (m.0, node_of m.1)) c.loop-field.pairs.items ((name, c.in_ok-tree.tree) ∷ []) in
     let fit = subst (FieldsFit table) view c.loop-field.invariant.fit in
     record {
       pairs = written_step table (encoded_fields table json_written (fields_of (vals_view all))) ps (members_view c.push.new.self.items) item.0 (val_of item.1) rest name n pushed
-        (c.in_ok-name.ensures.bytes ∙ c.as_str.ensures.bytes ∙ c.name.ensures)
-        (c.in_ok-tree.ensures.tree ∙ ap (λ s. encoded table json_written s (val_of item.1)) c.target.ensures)
-        (ap (λ fs. and_pairs ps (encoded_fields table json_written fs)) (sym view) ∙ c.loop-field.invariant.pairs);
+          (c.in_ok-name.ensures.bytes ∙ c.as_str.ensures.bytes ∙ c.name.ensures)
+          (c.in_ok-tree.ensures.tree ∙ ap (λ s. encoded table json_written s (val_of item.1)) c.target.ensures)
+          (ap (λ fs. and_pairs ps (encoded_fields table json_written fs)) (sym view) ∙ c.loop-field.invariant.pairs);
       json = subst (λ ps. AreJsonMembers (members_of ps)) (sym pushed)
-        (json_one_more ps name n c.loop-field.invariant.json c.in_ok-name.ensures.utf8 c.in_ok-tree.ensures.json);
+          (json_one_more ps name n c.loop-field.invariant.json c.in_ok-name.ensures.utf8 c.in_ok-tree.ensures.json);
       fit = fit.2;
       weight = omega (arith, ap fields_weight view, c.loop-field.invariant.weight);
     }

@@ -1,4 +1,4 @@
-use Rattle.std.proofs.Common.{◌≡◌, List, [], ◌∷◌, ◌++◌, drop}
+use Rattle.std.proofs.Common.{◌≡◌, List, ◌∷◌, drop}
 use Rattle.sm_tree.specs.Node.{Node, members_of}
 use Rattle.sm_tree.specs.View.{node_of, members_view}
 use Rattle.sm_tool.specs.Members.{named}

@@ -1,4 +1,4 @@
-use Rattle.std.proofs.Common.{◌≡◌, ◌∷◌, subst, ap, sym, ◌∙◌}
+use Rattle.std.proofs.Common.{subst, ap, sym, ◌∙◌}
 use Rattle.sm_tree.specs.Node.{members_of}
 use Rattle.sm_tree.specs.View.{members_view}
 use Rattle.sm_shapes.specs.declared.fault.FaultKind.TheVariants.{Repeated}
@@ -15,4 +15,4 @@ returns-in-Repeated c =
     let w = c.in-Repeated.ensures in
     let name = c.as_str.ensures.bytes ∙ c.name-name.ensures in
     repeated_first c.args.table.now json_leaf c.args.member ms c.under.result w.0 w.1 w.2 (ap (λ name. named name ms) (sym name) ∙ w.3)
-      (subst (λ name. IsFirst (under name (here Repeated)) c.under.result) c.name-name.ensures (c.under.ensures (here Repeated) c.here-repeated.ensures))
+    (subst (λ name. IsFirst (under name (here Repeated)) c.under.result) c.name-name.ensures (c.under.ensures (here Repeated) c.here-repeated.ensures))
