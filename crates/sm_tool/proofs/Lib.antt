@@ -8,3 +8,4 @@ pub mod Encoding
 pub mod Refusals
 pub mod Decoding
 pub mod Written
+pub mod Indexing

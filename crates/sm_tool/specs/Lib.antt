@@ -4,4 +4,5 @@ pub mod Spelling
 pub mod Faults
 pub mod Encoded
 pub mod Answers
+pub mod Index
 pub mod Laws

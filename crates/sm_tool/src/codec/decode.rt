@@ -7,7 +7,9 @@ ghost use Rattle.sm_shapes.specs.Tables.{shape_count, member_count, members_at, 
 ghost use Rattle.sm_shapes.specs.declared.table.ShapeKind.TheVariants.{Structure};
 ghost use Rattle.sm_tool.specs.Leaves.{json_leaf};
 ghost use Rattle.sm_tool.specs.Answers.{Decodes, DecodesFields, DecodesMember, kept};
+ghost use Rattle.sm_tool.specs.Index.{IsIndexed, indexed_members};
 
+use super::index::Index;
 use super::leaf::{LeafRefusal, read_leaf};
 use super::member::find_member;
 use super::refusal::Refusal;
@@ -50,20 +52,29 @@ fn decode_leaf(alloc: Global, table: &Table, shape: u32, tree: &Tree) -> Result<
 
 // The fields of a structure, from an object's pairs.
 #[cycle(decode)]
-fn decode_fields(
-    alloc: Global,
-    table: &Table,
-    shape: u32,
-    pairs: &[(Text, Tree)],
-) -> Result<Fields, Refusal>
+fn decode_fields(alloc: Global, table: &Table, shape: u32, pairs: &[(Text, Tree)]) -> Result<Fields, Refusal>
     requires shaped { Shaped table.now }
     requires shape { shape < shape_count table.now }
     ensures { DecodesFields table.now json_leaf (members_at table.now shape) (members_of (members_view pairs.now)) result }
 {
+    match Index::new(alloc, pairs) {
+        Ok(index) => decode_members(alloc, table, shape, &index),
+        Err(NoMemory) => Err(Refusal::NoMemory),
+    }
+}
+
+// The fields of a structure, member by member.
+#[cycle(decode)]
+fn decode_members(alloc: Global, table: &Table, shape: u32, index: &Index<'_>) -> Result<Fields, Refusal>
+    requires shaped { Shaped table.now }
+    requires shape { shape < shape_count table.now }
+    requires indexed { IsIndexed index.now }
+    ensures { DecodesFields table.now json_leaf (members_at table.now shape) (indexed_members index.now) result }
+{
     let members = table.members(shape);
     let mut fields = Vec::new(alloc);
     for member in members {
-        match decode_member(alloc, table, *member, pairs) {
+        match decode_member(alloc, table, *member, index) {
             Ok(value) => match keep(&mut fields, *member, value) {
                 Ok(()) => {}
                 Err(NoMemory) => return Err(Refusal::NoMemory),
@@ -89,17 +100,13 @@ fn keep(fields: &mut Vec<(u32, Value)>, member: u32, value: Option<Value>) -> Re
 
 // The value of a member, or `None` where the member is optional and is absent or null.
 #[cycle(decode)]
-fn decode_member(
-    alloc: Global,
-    table: &Table,
-    member: u32,
-    pairs: &[(Text, Tree)],
-) -> Result<Option<Value>, Refusal>
+fn decode_member(alloc: Global, table: &Table, member: u32, index: &Index<'_>) -> Result<Option<Value>, Refusal>
     requires shaped { Shaped table.now }
     requires member { member < member_count table.now }
-    ensures { DecodesMember table.now json_leaf member (members_of (members_view pairs.now)) result }
+    requires indexed { IsIndexed index.now }
+    ensures { DecodesMember table.now json_leaf member (indexed_members index.now) result }
 {
-    match find_member(alloc, table, member, pairs) {
+    match find_member(alloc, table, member, index) {
         Ok(None) => Ok(None),
         Ok(Some(tree)) => match decode(alloc, table, table.target(member), tree) {
             Ok(value) => Ok(Some(value)),

@@ -1,31 +1,32 @@
 // What an object says of a structure's member.
 ghost use Rattle.std.specs.Prelude.{◌≡◌, ◌<◌, Bool, true, false, OnOk, OnErr, IfErr};
-ghost use Rattle.sm_tree.specs.Node.{members_of};
-ghost use Rattle.sm_tree.specs.View.{members_view};
 ghost use Rattle.sm_shapes.specs.Tables.{member_count, name_at, required_at};
 ghost use Rattle.sm_shapes.specs.declared.fault.FaultKind.TheVariants.{Missing};
 ghost use Rattle.sm_tool.specs.Leaves.{json_leaf};
 ghost use Rattle.sm_tool.specs.Faults.{here, under};
 ghost use Rattle.sm_tool.specs.Answers.{IsFirst, FindsMember};
+ghost use Rattle.sm_tool.specs.Index.{IsIndexed, indexed_members};
 
-use super::find::{Found, find};
+use super::find::Found;
+use super::index::Index;
 use super::refusal::Refusal;
 use sm_shapes::{FaultKind, Table};
-use sm_tree::{Text, Tree};
+use sm_tree::Tree;
 use std::alloc::Global;
 
-/// The tree of a member in an object's pairs, or `None` where the member is optional and is absent or null.
+/// The tree of a member in an object, or `None` where the member is optional and is absent or null.
 pub fn find_member<'t>(
     alloc: Global,
     table: &Table,
     member: u32,
-    pairs: &'t [(Text, Tree)],
+    index: &Index<'t>,
 ) -> Result<Option<&'t Tree>, Refusal>
-    requires { member < member_count table.now }
-    ensures { FindsMember table.now json_leaf member (members_of (members_view pairs.now)) result }
+    requires member { member < member_count table.now }
+    requires indexed { IsIndexed index.now }
+    ensures { FindsMember table.now json_leaf member (indexed_members index.now) result }
 {
     let name = table.name(member);
-    match find(pairs, name.as_str()) {
+    match index.find(name.as_str()) {
         Found::Repeated => {
             let repeated = Refusal::here(alloc, FaultKind::Repeated);
             Err(repeated.under(alloc, name))

@@ -3,10 +3,13 @@
 mod decode;
 mod encode;
 mod find;
+mod index;
 pub mod laws;
 mod leaf;
 mod member;
 mod refusal;
+#[cfg(test)]
+mod tests;
 
 pub use decode::decode;
 pub use encode::encode;

@@ -8,6 +8,7 @@ use Rattle.sm_shapes.specs.Tables.{StandIn, name_at, target_at, shape_count}
 use Rattle.sm_tool.specs.Leaves.{json_leaf}
 use Rattle.sm_tool.specs.Spelling.{SpellsFields}
 use Rattle.sm_tool.specs.Faults.{members_faults, faults, children, under}
+use Rattle.sm_tool.specs.Index.{indexed_members}
 use Rattle.sm_tool.specs.Answers.{IsFirst}
 use Rattle.sm_tool.proofs.Conventions.{json_convention}
 use Rattle.sm_tool.proofs.Fields.{Begun, begun_ends}
@@ -19,15 +20,15 @@ decode-returns-in-Ok t c =
     structure_decoded c.args.table.now json_leaf json_convention c.args.shape (node_of c.args.tree.now) (members_of (members_view c.as_slice.result.now)) c.in-Ok.fields
     (sym c.kind.ensures ∙ c.in-Structure.is) (object_node c.args.tree.now c.in-Object.pairs c.as_slice.result.now c.in-Object.is c.as_slice.ensures) c.in-Ok.ensures
 
-pub decode_fields-decode_member-requires : goal.decode_fields-decode_member-requires
-decode_fields-decode_member-requires t c =
+pub decode_members-decode_member-requires : goal.decode_members-decode_member-requires
+decode_members-decode_member-requires t c =
     let stand = subst (StandIn c.args.table.now c.args.shape) (sym c.members-members.ensures) (c.requires.shaped.members c.args.shape c.requires.shape) in
-    (omega arith, (c.requires.shaped, stand_index c.args.table.now c.args.shape c.members-members.result.now stand c.loop-member.member-index (omega arith)))
+    (omega arith, (c.requires.shaped, (stand_index c.args.table.now c.args.shape c.members-members.result.now stand c.loop-member.member-index (omega arith), c.requires.indexed)))
 
-pub decode_fields-returns-in-Err : goal.decode_fields-returns-in-Err
-decode_fields-returns-in-Err t c =
+pub decode_members-returns-in-Err : goal.decode_members-returns-in-Err
+decode_members-returns-in-Err t c =
     let table = c.args.table.now in
-    let ms = members_of (members_view c.args.pairs.now) in
+    let ms = indexed_members c.args.index.now in
     let all = c.members-members.result.now in
     let i = c.loop-member.member-index in
     let of = members_faults table (children table json_leaf ms) in
@@ -35,10 +36,10 @@ decode_fields-returns-in-Err t c =
     (sym (ap of (sym c.members-members.ensures) ∙ c.loop-member.invariant.faults ∙ ap of (drop_more all i 0 c.loop-member-test.true)))
     (member_first table json_leaf ms (get_or all i 0) (drop (i + 1) all) c.in-Err.refusal c.in-Err.ensures)
 
-pub decode_fields-loop-member-preserved : goal.decode_fields-loop-member-preserved
-decode_fields-loop-member-preserved t c =
+pub decode_members-loop-member-preserved : goal.decode_members-loop-member-preserved
+decode_members-loop-member-preserved t c =
     let table = c.args.table.now in
-    let ms = members_of (members_view c.args.pairs.now) in
+    let ms = indexed_members c.args.index.now in
     let all = c.members-members.result.now in
     let i = c.loop-member.member-index in
     let fs = vals_view c.loop-member.fields.items in
@@ -51,10 +52,10 @@ decode_fields-loop-member-preserved t c =
           ∙ behind_kept table json_leaf json_convention ms (get_or all i 0) (drop (i + 1) all) c.in-Ok.value c.in-Ok.ensures;
     }
 
-pub decode_fields-returns : goal.decode_fields-returns
-decode_fields-returns t c =
+pub decode_members-returns : goal.decode_members-returns
+decode_members-returns t c =
     let table = c.args.table.now in
-    let ms = members_of (members_view c.args.pairs.now) in
+    let ms = indexed_members c.args.index.now in
     let all = c.members-members.result.now in
     let fs = vals_view c.loop-member.fields.items in
     let whole = begun_ends table json_leaf ms all fs
@@ -65,7 +66,7 @@ decode_fields-returns t c =
 pub decode_member-decode-requires : goal.decode_member-decode-requires
 decode_member-decode-requires t c =
     let found = rw c.in-Ok-Some.field-0-is at c.in-Ok-Some.ensures in
-    let ms = members_of (members_view c.args.pairs.now) in
+    let ms = indexed_members c.args.index.now in
     let less = lighter (name_at c.args.table.now c.args.member) (node_of c.in-Ok-Some.tree.now) ms [] found.0 in (
       omega (arith, less),
       (
@@ -81,5 +82,5 @@ decode_member-returns-in-Err-decode t c =
     let n = node_of c.in-Ok-Some.tree.now in
     let fs = faults table json_leaf n (target_at table c.args.member) in
     let first = subst (λ s. IsFirst (faults table json_leaf n s) c.in-Err-decode.refusal) c.target.ensures c.in-Err-decode.ensures in
-    value_first table json_leaf c.args.member (members_of (members_view c.args.pairs.now)) c.under.result n found.0 found.1
+    value_first table json_leaf c.args.member (indexed_members c.args.index.now) c.under.result n found.0 found.1
     (subst (λ name. IsFirst (under name fs) c.under.result) c.name.ensures (c.under.ensures fs first))
