@@ -31,8 +31,8 @@ step_if false q name n ms before found same h one = subst (λ ns. FindsIn ns bef
 pub index_step : (ms : List (List ℕ × Node)) (name : List ℕ) (n : Node) (old new : List ℕ → Option Found) (found : Found) → ((q : List ℕ) → FindsIn (named q (members_of ms)) (old q)) → ((q : List ℕ) → new q ≡ update bytes_eq old name (Some found) q) → Finds (named name (members_of ms) ++ n ∷ []) found → (q : List ℕ) → FindsIn (named q (members_of (ms ++ (name, n) ∷ []))) (new q)
 index_step ms name n old new found h changed one q =
     subst (λ ns. FindsIn ns (new q)) (sym (named_more q ms name n))
-      (subst (FindsIn (named q (members_of ms) ++ cond (bytes_eq name q) (n ∷ []) [])) (sym (changed q))
-        (step_if (bytes_eq name q) q name n (members_of ms) (old q) found refl (h q) one))
+    (subst (FindsIn (named q (members_of ms) ++ cond (bytes_eq name q) (n ∷ []) [])) (sym (changed q))
+    (step_if (bytes_eq name q) q name n (members_of ms) (old q) found refl (h q) one))
 
 -- one tree more under a name under which one stands, or more
 pub once_more : (found : Found) (tree : Bor Tree) (ns : List Node) (n : Node) → found ≡ Once tree → Finds ns found → Finds (ns ++ n ∷ []) Repeated

@@ -52,7 +52,12 @@ fn decode_leaf(alloc: Global, table: &Table, shape: u32, tree: &Tree) -> Result<
 
 // The fields of a structure, from an object's pairs.
 #[cycle(decode)]
-fn decode_fields(alloc: Global, table: &Table, shape: u32, pairs: &[(Text, Tree)]) -> Result<Fields, Refusal>
+fn decode_fields(
+    alloc: Global,
+    table: &Table,
+    shape: u32,
+    pairs: &[(Text, Tree)],
+) -> Result<Fields, Refusal>
     requires shaped { Shaped table.now }
     requires shape { shape < shape_count table.now }
     ensures { DecodesFields table.now json_leaf (members_at table.now shape) (members_of (members_view pairs.now)) result }
@@ -65,7 +70,12 @@ fn decode_fields(alloc: Global, table: &Table, shape: u32, pairs: &[(Text, Tree)
 
 // The fields of a structure, member by member.
 #[cycle(decode)]
-fn decode_members(alloc: Global, table: &Table, shape: u32, index: &Index<'_>) -> Result<Fields, Refusal>
+fn decode_members(
+    alloc: Global,
+    table: &Table,
+    shape: u32,
+    index: &Index<'_>,
+) -> Result<Fields, Refusal>
     requires shaped { Shaped table.now }
     requires shape { shape < shape_count table.now }
     requires indexed { IsIndexed index.now }
@@ -100,7 +110,12 @@ fn keep(fields: &mut Vec<(u32, Value)>, member: u32, value: Option<Value>) -> Re
 
 // The value of a member, or `None` where the member is optional and is absent or null.
 #[cycle(decode)]
-fn decode_member(alloc: Global, table: &Table, member: u32, index: &Index<'_>) -> Result<Option<Value>, Refusal>
+fn decode_member(
+    alloc: Global,
+    table: &Table,
+    member: u32,
+    index: &Index<'_>,
+) -> Result<Option<Value>, Refusal>
     requires shaped { Shaped table.now }
     requires member { member < member_count table.now }
     requires indexed { IsIndexed index.now }

@@ -35,7 +35,10 @@ impl<'t> Index<'t> {
             return Ok(Index { pairs, names: None });
         }
         match names_of(alloc, pairs) {
-            Ok(names) => Ok(Index { pairs, names: Some(names) }),
+            Ok(names) => Ok(Index {
+                pairs,
+                names: Some(names),
+            }),
             Err(refusal) => Err(refusal),
         }
     }
@@ -63,7 +66,10 @@ fn look_up<'t>(names: &BTreeMap<&'t str, Found<'t>>, name: &str) -> Found<'t>
 }
 
 // What stands under each name.
-fn names_of<'t>(alloc: Global, pairs: &'t [(Text, Tree)]) -> Result<BTreeMap<&'t str, Found<'t>>, NoMemory>
+fn names_of<'t>(
+    alloc: Global,
+    pairs: &'t [(Text, Tree)],
+) -> Result<BTreeMap<&'t str, Found<'t>>, NoMemory>
     ensures { IfOk result (λ names. IsIndexOf names (members_of (members_view pairs.now))) }
 {
     let mut names: BTreeMap<&'t str, Found<'t>> = BTreeMap::new(alloc);

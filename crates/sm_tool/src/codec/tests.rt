@@ -4,9 +4,9 @@ ghost use Rattle.sm_shapes.specs.Tables.{shape_count, Shaped};
 
 use super::decode::decode;
 use super::encode::encode;
-use super::leaf::{LeafRefusal, read_leaf};
+use super::leaf::read_leaf;
 use super::refusal::Refusal;
-use sm_shapes::{Fields, ShapeKind, Table, TableMember, TableShape, Value};
+use sm_shapes::{Fault, Fields, ShapeKind, Table, TableMember, TableShape, Value};
 use sm_tree::{NoMemory, Pairs, Text, Tree};
 use std::alloc::Global;
 use std::test::Fail;
@@ -17,13 +17,25 @@ fn member(alloc: Global, name: &str, target: u32, required: bool) -> Result<Tabl
     ensures target { IfOk result (λ member. member.target ≡ target) }
 {
     let name = Text::copy(alloc, name)?;
-    Ok(TableMember { shape: 0, name, json_name: None, target, required })
+    Ok(TableMember {
+        shape: 0,
+        name,
+        json_name: None,
+        target,
+        required,
+    })
 }
 
 fn shape(kind: ShapeKind, members: Vec<u32>) -> TableShape
     ensures { result.members ≡ members }
 {
-    TableShape { kind, members, unique: false, sparse: false, unit: false }
+    TableShape {
+        kind,
+        members,
+        unique: false,
+        sparse: false,
+        unit: false,
+    }
 }
 
 fn links(alloc: Global) -> Result<Table, NoMemory>
@@ -74,17 +86,38 @@ fn said(alloc: Global, table: &Table, tree: &Tree) -> Result<String, NoMemory>
     requires shaped { Shaped table.now }
     requires link { 0 < shape_count table.now }
 {
-    let mut said = String::new(alloc);
     match decode(alloc, table, 0, tree) {
-        Ok(_) => said.push_str("value")?,
-        Err(Refusal::Fault(fault)) => {
-            said.push_str(fault.path.print(alloc)?.as_str())?;
-            said.push(' ')?;
-            said.push_str(fault.kind.word())?;
-        }
-        Err(Refusal::NoMemory) => return Err(NoMemory),
+        Ok(_value) => Ok(String::from_str(alloc, "value")?),
+        Err(refusal) => told(alloc, refusal),
     }
-    Ok(said)
+}
+
+fn told(alloc: Global, refusal: Refusal) -> Result<String, NoMemory> {
+    match refusal {
+        Refusal::Fault(fault) => told_fault(alloc, &fault),
+        Refusal::NoMemory => Err(NoMemory),
+    }
+}
+
+fn told_fault(alloc: Global, fault: &Fault) -> Result<String, NoMemory> {
+    let mut told = fault.path.print(alloc)?;
+    told.push(' ')?;
+    told.push_str(fault.kind.word())?;
+    Ok(told)
+}
+
+// The value of a link, and what is written for it.
+fn crossed(alloc: Global, table: &Table, tree: &Tree) -> Result<(Value, Tree), NoMemory>
+    requires shaped { Shaped table.now }
+    requires link { 0 < shape_count table.now }
+{
+    match decode(alloc, table, 0, tree) {
+        Ok(value) => match encode(alloc, table, 0, &value) {
+            Ok(written) => Ok((value, written)),
+            Err(refusal) => Err(refusal),
+        },
+        Err(_refusal) => Err(NoMemory),
+    }
 }
 
 #[test]
@@ -95,14 +128,32 @@ fn faults_stand_in_model_order(rt: HostRuntime) -> Result<(), Fail> {
         (&[("id", Leaf::Text("a")), ("count", Leaf::Int(1))], "value"),
         (&[("count", Leaf::Null), ("id", Leaf::Text("a"))], "value"),
         (&[("x", Leaf::Null), ("id", Leaf::Text("a"))], "value"),
-        (&[("id", Leaf::Text("a")), ("id", Leaf::Text("b"))], "/id Repeated"),
+        (
+            &[("id", Leaf::Text("a")), ("id", Leaf::Text("b"))],
+            "/id Repeated",
+        ),
         (&[("id", Leaf::Null), ("id", Leaf::Null)], "/id Repeated"),
         (&[("id", Leaf::Null), ("x", Leaf::Int(1))], "/id Missing"),
-        (&[("count", Leaf::Bool(true)), ("x", Leaf::Int(1))], "/id Missing"),
-        (&[("count", Leaf::Int(2147483648)), ("id", Leaf::Int(5))], "/id Type"),
-        (&[("count", Leaf::Int(2147483648)), ("id", Leaf::Text("a"))], "/count Width"),
-        (&[("count", Leaf::Number("1e2")), ("id", Leaf::Text("a"))], "/count Type"),
-        (&[("next", Leaf::Int(1)), ("id", Leaf::Text("a"))], "/next Type"),
+        (
+            &[("count", Leaf::Bool(true)), ("x", Leaf::Int(1))],
+            "/id Missing",
+        ),
+        (
+            &[("count", Leaf::Int(2147483648)), ("id", Leaf::Int(5))],
+            "/id Type",
+        ),
+        (
+            &[("count", Leaf::Int(2147483648)), ("id", Leaf::Text("a"))],
+            "/count Width",
+        ),
+        (
+            &[("count", Leaf::Number("1e2")), ("id", Leaf::Text("a"))],
+            "/count Type",
+        ),
+        (
+            &[("next", Leaf::Int(1)), ("id", Leaf::Text("a"))],
+            "/next Type",
+        ),
     ] {
         let tree = object(alloc, pairs)?;
         assert_eq!(rt; said(alloc, &table, &tree)?.as_str(), answer);
@@ -138,17 +189,26 @@ fn a_link_in_a_large_object_is_decoded_and_written(rt: HostRuntime) -> Result<()
     }
     let inner = object(alloc, &[("count", Leaf::Int(-7)), ("id", Leaf::Text("b"))])?;
     pairs.push((Text::copy(alloc, "next")?, inner))?;
-    pairs.push((Text::copy(alloc, "id")?, Tree::Text(Text::copy(alloc, "a")?)))?;
-    let value = match decode(alloc, &table, 0, &Tree::Object(Pairs::new(pairs))) {
-        Ok(value) => value,
-        Err(_) => return Err(Fail::from(NoMemory)),
-    };
-    let inner = vec![in alloc; (0u32, Value::Text(Text::copy(alloc, "b")?)), (2, Value::Int(-7))]?;
+    pairs.push((
+        Text::copy(alloc, "id")?,
+        Tree::Text(Text::copy(alloc, "a")?),
+    ))?;
+    let (value, written) = crossed(alloc, &table, &Tree::Object(Pairs::new(pairs)))?;
+    let inner = vec![in alloc;
+        (0u32, Value::Text(Text::copy(alloc, "b")?)),
+        (2, Value::Int(-7)),
+    ]?;
     let next = Value::Structure(Fields::new(inner));
     let outer = vec![in alloc; (0u32, Value::Text(Text::copy(alloc, "a")?)), (1, next)]?;
     assert!(rt; value == Value::Structure(Fields::new(outer)));
     let inner = object(alloc, &[("id", Leaf::Text("b")), ("count", Leaf::Int(-7))])?;
-    let written = vec![in alloc; (Text::copy(alloc, "id")?, Tree::Text(Text::copy(alloc, "a")?)), (Text::copy(alloc, "next")?, inner)]?;
-    assert!(rt; encode(alloc, &table, 0, &value)? == Tree::Object(Pairs::new(written)));
+    let expected = vec![in alloc;
+        (
+            Text::copy(alloc, "id")?,
+            Tree::Text(Text::copy(alloc, "a")?)
+        ),
+        (Text::copy(alloc, "next")?, inner),
+    ]?;
+    assert!(rt; written == Tree::Object(Pairs::new(expected)));
     Ok(())
 }

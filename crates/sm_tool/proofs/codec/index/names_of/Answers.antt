@@ -22,11 +22,11 @@ loop-pair-preserved c =
     let ps = members_view (take i pairs) in
     let here = named name (members_of ps) in
     let view : members_view (take (i + 1) pairs) ≡ ps ++ (name, n) ∷ [] =
-          ap members_view (take_more pairs i item c.loop-pair-test.true ∙ ap (λ x. take i pairs ++ x ∷ []) (sym c.pair-item.is))
-          ∙ map-append (λ m. (m.0, node_of m.1)) (take i pairs) (item ∷ [])
-          ∙ ap (λ name. ps ++ (name, n) ∷ []) (sym c.as_str-name.ensures.bytes) in
+    ap members_view (take_more pairs i item c.loop-pair-test.true ∙ ap (λ x. take i pairs ++ x ∷ []) (sym c.pair-item.is))
+    ∙ map-append (λ m. (m.0, node_of m.1)) (take i pairs) (item ∷ [])
+    ∙ ap (λ name. ps ++ (name, n) ∷ []) (sym c.as_str-name.ensures.bytes) in
     λ q. subst (λ ps. FindsIn (named q (members_of ps)) (get_by (λ k. slice_cmp nat_cmp q k.now) c.insert.new.self)) (sym view)
-      (index_step ps name n (λ q. get_by (λ k. slice_cmp nat_cmp q k.now) c.loop-pair.names) (λ q. get_by (λ k. slice_cmp nat_cmp q k.now) c.insert.new.self)
-        c.and_tree-found.result c.loop-pair.invariant
-        (btree_map_updates_str name c.loop-pair.names c.insert.new.self _ c.in_ok-insert.ensures.updates)
-        (c.and_tree-found.ensures here (c.look_up.ensures here (c.loop-pair.invariant name))) q)
+    (index_step ps name n (λ q. get_by (λ k. slice_cmp nat_cmp q k.now) c.loop-pair.names) (λ q. get_by (λ k. slice_cmp nat_cmp q k.now) c.insert.new.self)
+    c.and_tree-found.result c.loop-pair.invariant
+    (btree_map_updates_str name c.loop-pair.names c.insert.new.self _ c.in_ok-insert.ensures.updates)
+    (c.and_tree-found.ensures here (c.look_up.ensures here (c.loop-pair.invariant name))) q)
