@@ -1,16 +1,16 @@
 -- The steps of making an index.
-use Rattle.std.proofs.Common.{◌≡◌, ℕ, Bool, true, false, cond, List, [], ◌∷◌, ◌++◌, append-nil, refl, sym, ap, ◌∙◌, subst}
-use Rattle.std.specs.Prelude.{Option, Some, None}
+use Rattle.std.proofs.Common.{◌≡◌, ℕ, Bool, true, false, cond, List, [], ◌∷◌, ◌++◌, append-nil, refl, sym, ap, subst}
+use Rattle.std.specs.Prelude.{Option, Some}
 use Rattle.std.specs.Map.{update}
 use Rattle.std.specs.Str.{bytes_eq}
 use Rattle.std.proofs.lemmas.Slice.Eq.{bytes_eq-Decides}
-use Rattle.sm_tree.specs.Node.{Node, Members, members_of, member}
+use Rattle.sm_tree.specs.Node.{Node, Members, members_of}
 use Rattle.sm_tree.specs.View.{node_of}
 use Rattle.sm_tree.specs.declared.tree.Tree.{Tree}
 use denote.Ref.{Bor}
 use Rattle.sm_tool.specs.Members.{named}
 use Rattle.sm_tool.specs.declared.codec.find.Found.{Found}
-use Rattle.sm_tool.specs.declared.codec.find.Found.TheVariants.{Absent, Once, Repeated}
+use Rattle.sm_tool.specs.declared.codec.find.Found.TheVariants.{Once, Repeated}
 use Rattle.sm_tool.specs.Answers.{Finds}
 use Rattle.sm_tool.specs.Index.{FindsIn}
 

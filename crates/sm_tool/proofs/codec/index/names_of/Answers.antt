@@ -7,7 +7,6 @@ use Rattle.std.specs.Ordering.{nat_cmp}
 use Rattle.sm_tree.specs.Node.{members_of}
 use Rattle.sm_tree.specs.View.{node_of, members_view}
 use Rattle.sm_tool.specs.Members.{named}
-use Rattle.sm_tool.specs.Answers.{Finds}
 use Rattle.sm_tool.specs.Index.{FindsIn}
 use Rattle.sm_tool.proofs.Indexing.{index_step}
 use Rattle.sm_tool.proofs.codec.index.names_of.Goals as goal

@@ -1,6 +1,4 @@
 use Rattle.std.proofs.Common.{subst, ap, sym, ◌∙◌}
-use Rattle.sm_tree.specs.Node.{members_of}
-use Rattle.sm_tree.specs.View.{members_view}
 use Rattle.sm_shapes.specs.declared.fault.FaultKind.TheVariants.{Repeated}
 use Rattle.sm_tool.specs.Leaves.{json_leaf}
 use Rattle.sm_tool.specs.Members.{named}
