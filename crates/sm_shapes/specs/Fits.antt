@@ -1,5 +1,5 @@
 -- Which values a shape has.
-use Rattle.std.specs.Prelude.{◌≡◌, ℕ, ◌<◌, ◌^◌, ◌⊎◌, Bool, false, List, [], ◌∷◌, ◌++◌, IsUtf8}
+use Rattle.std.specs.Prelude.{◌≡◌, ℕ, ◌⊎◌, false, List, [], ◌∷◌, ◌++◌, IsUtf8}
 use mir.Syntax.{w32, w64}
 use mir.Val.{SFits}
 use Rattle.sm_shapes.specs.Val.{Val, FieldVals, bool_val, int_val, text_val, structure_val, no_fields, field}

@@ -4,7 +4,7 @@ use Rattle.sm_shapes.specs.declared.table.Table.{Table}
 use Rattle.sm_shapes.specs.declared.table.TableShape.{TableShape}
 use Rattle.sm_shapes.specs.declared.table.TableMember.{TableMember}
 use Rattle.sm_shapes.specs.declared.table.ShapeKind.{ShapeKind}
-use Rattle.sm_shapes.specs.declared.table.ShapeKind.TheVariants.{Boolean, Structure}
+use Rattle.sm_shapes.specs.declared.table.ShapeKind.TheVariants.{Boolean}
 
 -- how many shapes and members there are
 abbrev pub shape_count : Table → ℕ

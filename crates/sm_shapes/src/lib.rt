@@ -2,8 +2,10 @@
 // once names are numbers. The codec, and all that carries values, stand on it.
 #![tactic(auto)]
 
+mod fault;
 mod table;
 mod value;
 
+pub use fault::{Fault, FaultKind};
 pub use table::{ShapeKind, Table, TableMember, TableShape};
 pub use value::{Fields, Value};

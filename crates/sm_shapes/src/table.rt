@@ -1,4 +1,7 @@
 // Tables: shapes and members by number. What reads models makes them, and the codec looks them up.
+ghost use Rattle.std.specs.Prelude.{◌≡◌, ◌<◌};
+ghost use Rattle.sm_shapes.specs.Tables.{shape_count, member_count, kind_at, members_at, name_at, target_at, required_at};
+
 use sm_tree::Text;
 
 /// What kind of values a shape has (Smithy 2.0, "Simple types" and "Aggregate types").
@@ -53,4 +56,46 @@ pub struct Table {
     pub shapes: Vec<TableShape>,
     /// The members of all shapes. A member's number is one number in the whole table.
     pub members: Vec<TableMember>,
+}
+
+impl Table {
+    /// What kind of values a shape has. No memory.
+    pub fn kind(&self, shape: u32) -> ShapeKind
+        requires { shape < shape_count self.now }
+        ensures { result ≡ kind_at self.now shape }
+    {
+        self.shapes[shape as usize].kind
+    }
+
+    /// The numbers of a shape's members, in model order. No memory.
+    pub fn members(&self, shape: u32) -> &[u32]
+        requires { shape < shape_count self.now }
+        ensures { result.now ≡ members_at self.now shape }
+    {
+        self.shapes[shape as usize].members.as_slice()
+    }
+
+    /// A member's name. No memory.
+    pub fn name(&self, member: u32) -> &Text
+        requires { member < member_count self.now }
+        ensures { result.now ≡ name_at self.now member }
+    {
+        &self.members[member as usize].name
+    }
+
+    /// The number of the shape of a member's values. No memory.
+    pub fn target(&self, member: u32) -> u32
+        requires { member < member_count self.now }
+        ensures { result ≡ target_at self.now member }
+    {
+        self.members[member as usize].target
+    }
+
+    /// Whether a value of its shape must have a member. No memory.
+    pub fn required(&self, member: u32) -> bool
+        requires { member < member_count self.now }
+        ensures { result ≡ required_at self.now member }
+    {
+        self.members[member as usize].required
+    }
 }

@@ -1,0 +1,11 @@
+pub mod Conventions
+pub mod Found
+pub mod Fields
+pub mod Fitting
+pub mod Clear
+pub mod Unique
+pub mod Encoding
+pub mod Refusals
+pub mod Decoding
+pub mod Written
+pub mod Indexing

@@ -1,0 +1,68 @@
+-- What the codec's functions answer, by cases on the answer.
+use Rattle.std.specs.Prelude.{◌≡◌, ℕ, false, List, [], ◌∷◌, ◌++◌, Option, Some, None, Result, Ok, Err}
+use Rattle.sm_tree.specs.Node.{Node, Members}
+use Rattle.sm_tree.specs.View.{node_of}
+use Rattle.sm_tree.specs.declared.tree.Tree.{Tree}
+use denote.Ref.{Bor}
+use Rattle.sm_shapes.specs.Val.{Val, fields_of}
+use Rattle.sm_shapes.specs.View.{val_of, fields_view}
+use Rattle.sm_shapes.specs.Tables.{name_at, target_at, required_at}
+use Rattle.sm_shapes.specs.declared.table.Table.{Table}
+use Rattle.sm_shapes.specs.declared.value.Value.{Value}
+use Rattle.sm_shapes.specs.declared.value.Fields.{Fields}
+use Rattle.sm_shapes.specs.declared.fault.FaultKind.{FaultKind}
+use Rattle.sm_tool.specs.Leaves.{Leaf}
+use Rattle.sm_tool.specs.Members.{named, is_null}
+use Rattle.sm_tool.specs.Spelling.{NoneOrNull, Spells, SpellsFields}
+use Rattle.sm_tool.specs.Faults.{FaultAt, members_faults, faults, children, faults_in}
+use Rattle.sm_tool.specs.declared.codec.find.Found.{Found}
+use Rattle.sm_tool.specs.declared.codec.find.Found.TheVariants.{Absent, Once, Repeated}
+use Rattle.sm_tool.specs.declared.codec.refusal.Refusal.{Refusal}
+use Rattle.sm_tool.specs.declared.codec.refusal.Refusal.TheVariants.{Fault, NoMemory}
+use Rattle.sm_tool.specs.declared.codec.leaf.LeafRefusal.{LeafRefusal}
+use Rattle.sm_tool.specs.declared.codec.leaf.LeafRefusal.TheVariants.{Fault as LeafFault, NoMemory as no_leaf_memory}
+
+-- the refusal tells the first of these faults, or that memory is short
+abbrev pub IsFirst : List FaultAt → Refusal → Type 0
+IsFirst fs (Fault fault) = (rest : List FaultAt) × (fs ≡ (fault.path, fault.kind) ∷ rest)
+IsFirst fs NoMemory = Unit {0}
+
+-- a leaf: the value that the convention finds, or its fault
+abbrev pub ReadsLeaf : Result Val FaultKind → Result Value LeafRefusal → Type 0
+ReadsLeaf found (Ok v) = found ≡ Ok (val_of v)
+ReadsLeaf found (Err (LeafFault kind)) = found ≡ Err kind
+ReadsLeaf found (Err no_leaf_memory) = Unit {0}
+
+-- a tree: the value that it spells, and then it has no fault; or its first fault
+abbrev pub Decodes : Table → Leaf → ℕ → Node → Result Value Refusal → Type 0
+Decodes t leaf s n (Ok v) = Spells t leaf s (val_of v) n × (faults t leaf n s ≡ [])
+Decodes t leaf s n (Err refusal) = IsFirst (faults t leaf n s) refusal
+
+-- members in an object: their fields, or the first fault
+abbrev pub DecodesFields : Table → Leaf → List ℕ → Members → Result Fields Refusal → Type 0
+DecodesFields t leaf ks ms (Ok fields) = SpellsFields t leaf ks (fields_of (fields_view fields)) ms
+DecodesFields t leaf ks ms (Err refusal) = IsFirst (members_faults t (children t leaf ms) ks) refusal
+
+-- of the trees that stand under a name: none, the one, or that there are two or more
+abbrev pub Finds : List Node → Found → Type 0
+Finds ns Absent = ns ≡ []
+Finds ns (Once tree) = ns ≡ node_of tree.now ∷ []
+Finds ns Repeated = (first second : Node) × (rest : List Node) × (ns ≡ first ∷ second ∷ rest)
+
+-- a member in an object: that it is optional and absent, its value, or the first fault
+abbrev pub DecodesMember : Table → Leaf → ℕ → Members → Result (Option Value) Refusal → Type 0
+DecodesMember t leaf k ms (Ok None) = (required_at t k ≡ false) × NoneOrNull (named (name_at t k) ms)
+DecodesMember t leaf k ms (Ok (Some v)) =
+    (n : Node) × (named (name_at t k) ms ≡ n ∷ []) × (is_null n ≡ false) × Spells t leaf (target_at t k) (val_of v) n
+DecodesMember t leaf k ms (Err refusal) = IsFirst (faults_in t leaf k ms) refusal
+
+-- a member in an object: that it is optional and left out, the one tree that isn't null, or the first fault
+abbrev pub FindsMember : Table → Leaf → ℕ → Members → Result (Option (Bor Tree)) Refusal → Type 0
+FindsMember t leaf k ms (Ok None) = (required_at t k ≡ false) × NoneOrNull (named (name_at t k) ms)
+FindsMember t leaf k ms (Ok (Some tree)) = (named (name_at t k) ms ≡ node_of tree.now ∷ []) × (is_null (node_of tree.now) ≡ false)
+FindsMember t leaf k ms (Err refusal) = IsFirst (faults_in t leaf k ms) refusal
+
+-- the fields with that of a member behind them, where the member has a value
+abbrev pub kept : List (ℕ × Val) → ℕ → Option Value → List (ℕ × Val)
+kept fs k None = fs
+kept fs k (Some v) = fs ++ (k, val_of v) ∷ []

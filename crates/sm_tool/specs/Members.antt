@@ -1,0 +1,13 @@
+-- What stands under a name in an object, whose names may repeat.
+use Rattle.std.specs.Prelude.{ℕ, Bool, true, false, cond, List, [], ◌∷◌}
+use Rattle.std.specs.Str.{bytes_eq}
+use Rattle.sm_tree.specs.Node.{Node, Members, null, no_members, member}
+
+-- the trees that stand under a name, in their order
+abbrev pub named : List ℕ → Members → List Node
+named name no_members = []
+named name (member k n ms) = cond (bytes_eq k name) (n ∷ named name ms) (named name ms)
+
+abbrev pub is_null : Node → Bool
+is_null null = true
+is_null n = false

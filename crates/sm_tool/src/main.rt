@@ -1,0 +1,6 @@
+// The tool.
+#![tactic(auto)]
+
+mod codec;
+
+fn main(_rt: HostRuntime) {}
