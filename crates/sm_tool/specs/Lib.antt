@@ -1,0 +1,4 @@
+pub mod Names
+pub mod FirstForm
+pub mod Tabled
+pub mod ModelAnswers

@@ -1,0 +1,6 @@
+// The tool.
+#![tactic(auto)]
+
+mod model;
+
+fn main(_rt: HostRuntime) {}
