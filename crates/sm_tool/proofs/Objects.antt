@@ -27,22 +27,12 @@ empty_view (x ∷ xs) e = absurd (omega (arith, e))
 pub empty_length : (xs : List (List ℕ × Tree)) → object (members_of (members_view xs)) ≡ object no_members → length xs ≡ 0
 empty_length xs e = sym (count_view xs) ∙ ap (λ m. count (pairs_in m)) e
 
--- the pairs of an object of one field
-pub only_place : (xs : List (List ℕ × Tree)) (n : Node) (k : List ℕ) (a : Node) (d : List ℕ × Tree) → n ≡ object (members_of (members_view xs))
-    → n ≡ one_field k a → (length xs ≡ 1) × ((get_or xs 0 d).0 ≡ k) × (node_of (get_or xs 0 d).1 ≡ a)
-only_place [] n k a d e f = let none : 0 ≡ 1 = ap (λ m. count (pairs_in m)) (sym e ∙ f) in absurd (omega (arith, none))
-only_place (x ∷ []) n k a d e f = (refl, ap (λ m. first_name (pairs_in m)) (sym e ∙ f), ap (λ m. first_tree (pairs_in m)) (sym e ∙ f))
-only_place (x ∷ y ∷ xs) n k a d e f =
-    let more : suc (suc (count (members_of (members_view xs)))) ≡ 1 = ap (λ m. count (pairs_in m)) (sym e ∙ f) in absurd (omega (arith, more))
+-- how many pairs objects of one field and of two have
+pub one_count : (xs : List (List ℕ × Tree)) (n : Node) (k : List ℕ) (a : Node) → n ≡ object (members_of (members_view xs)) → n ≡ one_field k a → length xs ≡ 1
+one_count xs n k a e f = sym (count_view xs) ∙ ap (λ m. count (pairs_in m)) (sym e ∙ f)
 
--- the names of two pairs that stand in this order
-pub two_places : (xs : List (List ℕ × Tree)) (j : List ℕ) (a : Node) (k : List ℕ) (b : Node) (d e : List ℕ × Tree)
-    → members_of (members_view xs) ≡ member j a (member k b no_members) → (length xs ≡ 2) × ((get_or xs 0 d).0 ≡ j) × ((get_or xs 1 e).0 ≡ k)
-two_places [] j a k b d e f = let none : 0 ≡ 2 = ap count f in absurd (omega (arith, none))
-two_places (x ∷ []) j a k b d e f = let one : 1 ≡ 2 = ap count f in absurd (omega (arith, one))
-two_places (x ∷ y ∷ []) j a k b d e f = (refl, ap first_name f, ap (λ m. first_name (rest m)) f)
-two_places (x ∷ y ∷ z ∷ xs) j a k b d e f =
-    let more : suc (suc (suc (count (members_of (members_view xs))))) ≡ 2 = ap count f in absurd (omega (arith, more))
+pub two_count : (xs : List (List ℕ × Tree)) (j : List ℕ) (a : Node) (k : List ℕ) (b : Node) → members_of (members_view xs) ≡ member j a (member k b no_members) → length xs ≡ 2
+two_count xs j a k b e = sym (count_view xs) ∙ ap count e
 
 -- the fields of one object under two different names are determined
 pub both_same : (n : Node) (j : List ℕ) (a : Node) (k : List ℕ) (b : Node) (c d : Node) → (j ≡ k → ⊥) → HasBoth n j a k b → HasBoth n j c k d → (a ≡ c) × (b ≡ d)

@@ -1,6 +1,6 @@
 -- What is read of the first pairs of an object, and what the pairs behind them complete: the invariants of
 -- the loops over members and over shapes.
-use Rattle.std.proofs.Common.{◌≡◌, ℕ, suc, ◌+◌, List, [], ◌∷◌, ◌++◌, length, map, sym, ap, ◌∙◌, refl, subst, get_or, drop, ◌<◌, ◌≤◌, arith, rules, append_assoc, length-append}
+use Rattle.std.proofs.Common.{◌≡◌, ℕ, suc, ◌+◌, List, [], ◌∷◌, ◌++◌, length, map, None, sym, ap, ◌∙◌, refl, subst, get_or, drop, ◌<◌, ◌≤◌, arith, rules, append_assoc, length-append}
 use Rattle.std.proofs.lemmas.List.{length-map, append-nil, drop_more, drop_all}
 use Rattle.sm_tree.specs.Node.{Node, Members, no_members, member, members_of}
 use Rattle.sm_tree.specs.View.{node_of, members_view}
@@ -9,7 +9,7 @@ use Rattle.sm_shapes.specs.declared.table.Table.{Table}
 use Rattle.sm_shapes.specs.declared.table.TableMember.{TableMember}
 use Rattle.sm_shapes.specs.declared.table.ShapeKind.TheVariants.{Structure}
 use Rattle.sm_tool.specs.FirstForm.{MemberLine, StructureLine, PairSays, MembersSay, ShapeSays, ShapesSay}
-use Rattle.sm_tool.specs.Tabled.{ShapeRow, shape_row, plain_row, numbers, structure_rows, simple_rows, member_row, member_rows, Tabled}
+use Rattle.sm_tool.specs.Tabled.{ShapeRow, shape_row, plain_row, numbers, structure_rows, simple_rows, place, member_row, member_rows, Tabled}
 use Rattle.sm_tool.specs.ModelAnswers.{AreAdded, IsAdded}
 
 -- whatever the rest of the pairs says completes the rows so far to those of all pairs, and where all pairs
@@ -166,3 +166,7 @@ pub table_done : (n : ℕ) (all : Members) (xs : List (List ℕ × Tree)) (i s :
     → map shape_row after.shapes.items ≡ map shape_row before.shapes.items ++ simple_rows → after.members.items ≡ before.members.items
     → (m : List StructureLine) × ShapesSay all m × Tabled m after
 table_done n all xs i s before after h r = shapes_end n all s (map shape_row before.shapes.items) before.members.items after (subst (λ ms. TableRead n all ms s before) (past_pairs xs i h) r)
+
+-- the row of a member, from its parts
+pub row_is : (n s : ℕ) (l : MemberLine) (name : List ℕ) (p : ℕ) → name ≡ l.name → p ≡ place l.target → record { shape = s; name = name; json_name = None; target = n + p; required = l.required } ≡ member_row n s l
+row_is n s l name p e f = ap (λ x. record (member_row n s l) { name = x; target = n + p }) e ∙ ap (λ x. record (member_row n s l) { target = n + x }) f

@@ -49,7 +49,7 @@ pub fn is_empty_object(tree: &Tree) -> bool
 }
 
 /// Whether a pair has this name.
-fn is_named(pair: &(Text, Tree), name: &str) -> bool
+pub fn is_named(pair: &(Text, Tree), name: &str) -> bool
     ensures { IsTrue result ↔ (pair.now.0 ≡ name.now) }
 {
     pair.0.as_str() == name

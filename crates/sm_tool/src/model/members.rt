@@ -1,11 +1,11 @@
 // The members of a structure: what a tree says of one, and their rows in a table.
-ghost use Rattle.std.specs.Prelude.{◌≡◌, ◌↔◌, ◌≤◌, ◌<◌, ◌+◌, ◌^◌, ℕ, Bool, true, false, List, MatchOption, IsTrue, vec_len};
+ghost use Rattle.std.specs.Prelude.{◌≡◌, ◌↔◌, ◌≤◌, ◌<◌, ◌+◌, ◌^◌, ℕ, Bool, true, false, List, length, IfOk, MatchOption, IsTrue};
 ghost use Rattle.sm_tree.specs.Node.{text, members_of};
 ghost use Rattle.sm_tree.specs.View.{node_of, members_view};
 ghost use Rattle.sm_tool.specs.FirstForm.{MemberSays, required_traits, target_id};
 ghost use Rattle.sm_tool.specs.ModelAnswers.{ReadsMember, AddsMembers};
 
-use crate::model::fields::{both_fields, is_empty_object, only_field, text_of};
+use crate::model::fields::{both_fields, is_empty_object, is_named, only_field, text_of};
 use crate::model::push;
 use crate::model::target::SimpleTarget;
 use sm_shapes::TableMember;
@@ -86,7 +86,7 @@ fn member_row(alloc: Global, simple: u32, home: u32, pair: &(Text, Tree)) -> Res
     requires { simple + 4 ≤ 2 ^ 32 }
     ensures { ReadsMember simple home pair.now.0 (node_of pair.now.1) result }
 {
-    if pair.0.as_str() == "__type" {
+    if is_named(pair, "__type") {
         return Ok(None);
     }
     match member_target(&pair.1) {
@@ -99,6 +99,16 @@ fn member_row(alloc: Global, simple: u32, home: u32, pair: &(Text, Tree)) -> Res
     }
 }
 
+/// The number of the member that is added next; want of memory where it has more than 32 bits.
+fn next_number(members: &Vec<TableMember>) -> Result<u32, NoMemory>
+    ensures { IfOk result (λ number. number ≡ length members.now.items) }
+{
+    match u32::try_from(members.len()) {
+        Ok(number) => Ok(number),
+        Err(_) => Err(NoMemory),
+    }
+}
+
 /// Adds the rows of a structure's members, and gives their numbers; `None` where the pairs are no members.
 /// Want of memory is also answered where 2^32 numbers don't suffice.
 pub fn add_members(alloc: Global, simple: u32, home: u32, pairs: &[(Text, Tree)], members: &mut Vec<TableMember>) -> Result<Option<Vec<u32>>, NoMemory>
@@ -107,10 +117,13 @@ pub fn add_members(alloc: Global, simple: u32, home: u32, pairs: &[(Text, Tree)]
 {
     let mut numbers = Vec::with_capacity(alloc, pairs.len())?;
     for pair in pairs {
-        let Some(row) = member_row(alloc, simple, home, pair)? else { return Ok(None) };
-        let Ok(number) = u32::try_from(members.len()) else { return Err(NoMemory) };
-        push(&mut numbers, number)?;
-        push(members, row)?;
+        match member_row(alloc, simple, home, pair)? {
+            Some(row) => {
+                push(&mut numbers, next_number(members)?)?;
+                push(members, row)?;
+            }
+            None => return Ok(None),
+        }
     }
     Ok(Some(numbers))
 }
