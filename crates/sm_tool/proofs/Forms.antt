@@ -37,7 +37,7 @@ IsStructure n xs = HasBoth n (codes "type") (text (codes "structure")) (codes "m
 structure_pairs : (n : Node) (xs : List (List ℕ × Tree)) (ls : List MemberLine) → IsStructure n xs → (h : ShapeSays n ls) → h.pairs ≡ members_of (members_view xs)
 structure_pairs n xs ls is h =
     object_pairs h.pairs (members_of (members_view xs)) (both_same n (codes "type") (text (codes "structure")) (codes "members") (object h.pairs)
-      (text (codes "structure")) (object (members_of (members_view xs))) type_differs h.fields is).1
+    (text (codes "structure")) (object (members_of (members_view xs))) type_differs h.fields is).1
 
 pub shape_says : (n : Node) (xs : List (List ℕ × Tree)) (ls : List MemberLine) → IsStructure n xs → AllDiffer (map (λ p. p.0) xs) → MembersSay (members_of (members_view xs)) ls → ShapeSays n ls
 shape_says n xs ls is differ says = record {
@@ -61,7 +61,7 @@ IsVersioned n xs = HasBoth n (codes "smithy") (text (codes "2.0")) (codes "shape
 model_pairs : (n : Node) (xs : List (List ℕ × Tree)) (m : List StructureLine) → IsVersioned n xs → (h : FirstForm n m) → h.pairs ≡ members_of (members_view xs)
 model_pairs n xs m is h =
     object_pairs h.pairs (members_of (members_view xs)) (both_same n (codes "smithy") (text (codes "2.0")) (codes "shapes") (object h.pairs)
-      (text (codes "2.0")) (object (members_of (members_view xs))) smithy_differs h.fields is).1
+    (text (codes "2.0")) (object (members_of (members_view xs))) smithy_differs h.fields is).1
 
 pub same_shapes : (n : Node) (xs : List (List ℕ × Tree)) → IsVersioned n xs → (AllDiffer (map (λ p. p.0) xs) → ⊥) → (m : List StructureLine) → FirstForm n m → ⊥
 same_shapes n xs is refuses m h =
@@ -82,5 +82,6 @@ is_model n xs read m is differ says tabled names_are = record {
   where
     said : shape_names m ≡ map (λ p. p.0) xs
     said = said_shapes (members_of (members_view xs)) m says ∙ names_view xs
+
     form : FirstForm n m
     form = record { pairs = members_of (members_view xs); fields = is; says = says; differ = subst AllDiffer (sym said) differ }

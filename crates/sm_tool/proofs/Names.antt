@@ -1,6 +1,7 @@
 -- Names that differ, as a list grows at its end.
-use Rattle.std.proofs.Common.{◌≡◌, ℕ, ◌+◌, ◌<◌, Bool, true, false, cond, List, [], ◌∷◌, ◌++◌, length, map, take, drop, get_or, sym, ap, ◌∙◌, refl, subst, arith, rules}
-use Rattle.std.specs.Prelude.{◌||◌, not}
+use Rattle.std.proofs.Common.{◌≡◌, ℕ, ◌+◌, ◌<◌, Bool, true, false, cond, List, [], ◌∷◌, ◌++◌, length, map, Some, take, drop, get_or, sym, ap, ◌∙◌, refl, subst, arith, rules}
+use Rattle.std.specs.Prelude.{◌||◌, not, slice_get}
+use Rattle.std.proofs.lemmas.Option.{slice_get-get_or, get_or_from_slice_get}
 use Rattle.std.specs.List.{list_any}
 use Rattle.std.specs.BTreeSet as sorted
 use Rattle.std.specs.BTreeSet.{BTreeSet}
@@ -101,5 +102,12 @@ pub repeated : (xs : List (List ℕ × Tree)) (i : ℕ) (x : List ℕ × Tree) �
     → b ≡ any_is x.0 (map (λ p. p.0) (take i xs)) → false ≡ not b → AllDiffer (map (λ p. p.0) xs) → ⊥
 repeated xs i x h e true seen old differ =
     clash (seen ∙ any_from_none x.0 (map (λ p. p.0) (take i xs))
-      (all_differ_middle x.0 (map (λ p. p.0) (take i xs)) (map (λ p. p.0) (drop (i + 1) xs)) (subst AllDiffer (names_split xs i x h e) differ)))
+    (all_differ_middle x.0 (map (λ p. p.0) (take i xs)) (map (λ p. p.0) (drop (i + 1) xs)) (subst AllDiffer (names_split xs i x h e) differ)))
 repeated xs i x h e false seen old differ = clash (sym old)
+
+-- whether a name stands at a place of a list
+pub stands_at : (xs : List (List ℕ)) (i : ℕ) (x name : List ℕ) → i < length xs → x ≡ get_or xs i x → x ≡ name → slice_get xs i ≡ Some name
+stands_at xs i x name h e f = slice_get-get_or xs i x h ∙ ap (λ y. Some y) (sym e ∙ f)
+
+pub other_at : (xs : List (List ℕ)) (i : ℕ) (x name : List ℕ) → x ≡ get_or xs i x → (x ≡ name → ⊥) → slice_get xs i ≡ Some name → ⊥
+other_at xs i x name e refuses g = refuses (e ∙ get_or_from_slice_get xs i name x g)

@@ -38,11 +38,15 @@ members_more n s all k t rest before now added l row r p e = record {
   where
     Whole : List MemberLine → List TableMember → List ℕ → List ℕ → Type 0
     Whole ls later now_added later_numbers = (whole : List MemberLine) × MembersSay all whole × (before ++ map (member_row n s) whole ≡ later) × (numbers (length before) whole ≡ now_added ++ later_numbers)
+
     more : (ls : List MemberLine) → Whole ls (now ++ (member_row n s l ∷ map (member_row n s) ls)) added (length now ∷ numbers (length now + 1) ls)
         → Whole ls ((now ++ row ∷ []) ++ map (member_row n s) ls) (added ++ length now ∷ []) (numbers (length (now ++ row ∷ [])) ls)
-    more ls w = (w.0, w.1,
+    more ls w = (
+      w.0,
+      w.1,
       w.2 ∙ ap (λ x. now ++ (x ∷ map (member_row n s) ls)) (sym e) ∙ sym (append_assoc now (row ∷ []) (map (member_row n s) ls)),
-      w.3 ∙ sym (append_assoc added (length now ∷ []) (numbers (length now + 1) ls)) ∙ ap (λ x. (added ++ length now ∷ []) ++ numbers x ls) (sym (length-append now (row ∷ []))))
+      w.3 ∙ sym (append_assoc added (length now ∷ []) (numbers (length now + 1) ls)) ∙ ap (λ x. (added ++ length now ∷ []) ++ numbers x ls) (sym (length-append now (row ∷ []))),
+    )
 
 -- no pair is left
 pub members_end : (n s : ℕ) (all : Members) (before now : List TableMember) (added : List ℕ) → MembersRead n s all no_members before now added → AreAdded n s all before now added
@@ -79,25 +83,34 @@ shapes_more n all k t rest s rows members before after r same_rows same_members 
   where
     lines : List MemberLine
     lines = added.lines
+
     row : List TableMember → ShapeRow
     row x = plain_row Structure (numbers (length x) lines)
+
     rows_are : map shape_row after.shapes.items ≡ rows ++ row members ∷ []
     rows_are = added.shapes ∙ ap (λ x. x ++ row before.members.items ∷ []) (sym same_rows) ∙ ap (λ x. rows ++ row x ∷ []) (sym same_members)
+
     members_are : after.members.items ≡ members ++ map (member_row n s) lines
     members_are = added.members ∙ ap (λ x. x ++ map (member_row n s) lines) (sym same_members)
+
     count : length after.members.items ≡ length members + length lines
     count = ap (λ x. length x) members_are ∙ length-append members (map (member_row n s) lines) ∙ ap (λ x. length members + x) (length-map lines (member_row n s))
+
     Whole : List StructureLine → List ShapeRow → List TableMember → ℕ → Type 0
     Whole m later_rows later_members size = (whole : List StructureLine) × ShapesSay all whole × (structure_rows 0 whole ≡ later_rows) × (member_rows n 0 whole ≡ later_members) × (length whole ≡ size)
+
     more : (m : List StructureLine)
         → Whole m (rows ++ (row members ∷ structure_rows (length members + length lines) m)) (members ++ (map (member_row n s) lines ++ member_rows n (s + 1) m)) (s + suc (length m))
         → Whole m (map shape_row after.shapes.items ++ structure_rows (length after.members.items) m) (after.members.items ++ member_rows n (s + 1) m) (s + 1 + length m)
-    more m w = (w.0, w.1,
+    more m w = (
+      w.0,
+      w.1,
       w.2 ∙ sym (append_assoc rows (row members ∷ []) (structure_rows (length members + length lines) m))
-        ∙ ap (λ x. x ++ structure_rows (length members + length lines) m) (sym rows_are)
-        ∙ ap (λ x. map shape_row after.shapes.items ++ structure_rows x m) (sym count),
+          ∙ ap (λ x. x ++ structure_rows (length members + length lines) m) (sym rows_are)
+          ∙ ap (λ x. map shape_row after.shapes.items ++ structure_rows x m) (sym count),
       w.3 ∙ sym (append_assoc members (map (member_row n s) lines) (member_rows n (s + 1) m)) ∙ ap (λ x. x ++ member_rows n (s + 1) m) (sym members_are),
-      w.4 ∙ omega arith)
+      w.4 ∙ omega arith,
+    )
 
 pub shapes_stop : (n : ℕ) (all : Members) (k : List ℕ) (t : Node) (rest : Members) (s : ℕ) (rows : List ShapeRow) (members : List TableMember)
     → ShapesRead n all (member k t rest) s rows members → ((ls : List MemberLine) → ShapeSays t ls → ⊥) → (m : List StructureLine) → ShapesSay all m → ⊥
@@ -107,11 +120,14 @@ pub shapes_end : (n : ℕ) (all : Members) (s : ℕ) (rows : List ShapeRow) (mem
     → map shape_row t.shapes.items ≡ rows ++ simple_rows → t.members.items ≡ members → (m : List StructureLine) × ShapesSay all m × Tabled m t
 shapes_end n all s rows members t r same rows_are members_are =
     let w = r.whole [] tt in
-    let size : n ≡ length w.0 = omega (arith, same, w.4) in
-    (w.0, w.1, record {
-      shapes = rows_are ∙ ap (λ x. x ++ simple_rows) (sym (w.2 ∙ append-nil rows));
-      members = members_are ∙ sym (w.3 ∙ append-nil members) ∙ ap (λ x. member_rows x 0 w.0) size;
-    })
+    let size : n ≡ length w.0 = omega (arith, same, w.4) in (
+      w.0,
+      w.1,
+      record {
+        shapes = rows_are ∙ ap (λ x. x ++ simple_rows) (sym (w.2 ∙ append-nil rows));
+        members = members_are ∙ sym (w.3 ∙ append-nil members) ∙ ap (λ x. member_rows x 0 w.0) size;
+      },
+    )
 
 -- the loops over pairs: x stands at i
 abbrev pub view : List (List ℕ × Tree) → Members
@@ -129,9 +145,9 @@ pub members_step : (n s : ℕ) (all : Members) (xs : List (List ℕ × Tree)) (i
     → MembersRead n s all (view (drop (i + 1) xs)) before later more
 members_step n s all xs i x before now later added more row h e r said rows_are numbers_are =
     subst (λ ys. MembersRead n s all (view (drop (i + 1) xs)) before ys more) (sym rows_are)
-      (subst (λ ns. MembersRead n s all (view (drop (i + 1) xs)) before (now ++ row ∷ []) ns) (sym numbers_are)
-        (members_more n s all x.0 (node_of x.1) (view (drop (i + 1) xs)) before now added said.0 row
-          (subst (λ ms. MembersRead n s all ms before now added) (next_pair xs i x h e) r) said.1 said.2))
+    (subst (λ ns. MembersRead n s all (view (drop (i + 1) xs)) before (now ++ row ∷ []) ns) (sym numbers_are)
+    (members_more n s all x.0 (node_of x.1) (view (drop (i + 1) xs)) before now added said.0 row
+    (subst (λ ms. MembersRead n s all ms before now added) (next_pair xs i x h e) r) said.1 said.2))
 
 pub members_refused : (n s : ℕ) (all : Members) (xs : List (List ℕ × Tree)) (i : ℕ) (x : List ℕ × Tree) (before now : List TableMember) (added : List ℕ)
     → i < length xs → x ≡ get_or xs i x → MembersRead n s all (view (drop i xs)) before now added
@@ -155,7 +171,7 @@ pub table_step : (n : ℕ) (all : Members) (xs : List (List ℕ × Tree)) (i : �
     → i < length xs → x ≡ get_or xs i x → TableRead n all (view (drop i xs)) s before → IsAdded n s (node_of x.1) before after → TableRead n all (view (drop (i + 1) xs)) (s + 1) after
 table_step n all xs i x s before after h e r added =
     shapes_more n all x.0 (node_of x.1) (view (drop (i + 1) xs)) s (map shape_row before.shapes.items) before.members.items before after
-      (subst (λ ms. TableRead n all ms s before) (next_pair xs i x h e) r) refl refl added
+    (subst (λ ms. TableRead n all ms s before) (next_pair xs i x h e) r) refl refl added
 
 pub table_refused : (n : ℕ) (all : Members) (xs : List (List ℕ × Tree)) (i : ℕ) (x : List ℕ × Tree) (s : ℕ) (t : Table)
     → i < length xs → x ≡ get_or xs i x → TableRead n all (view (drop i xs)) s t → ((ls : List MemberLine) → ShapeSays (node_of x.1) ls → ⊥) → (m : List StructureLine) → ShapesSay all m → ⊥

@@ -66,22 +66,26 @@ module _ (t : Table) (n s : ℕ) (after : List TableMember) where
 
   stand_in : (before : List TableMember) (ls : List MemberLine) → Stand before ls → StandIn t s (numbers (length before) ls)
   stand_in before [] e = tt
-  stand_in before (l ∷ ls) e =
-      (slice_get_within _ _ _ (member_at before l ls e), ap home_in (member_at before l ls e),
-       subst (λ k. StandIn t s (numbers k ls)) (length-append before (member_row n s l ∷ [])) (stand_in (before ++ member_row n s l ∷ []) ls (next before l ls e)))
+  stand_in before (l ∷ ls) e = (
+    slice_get_within _ _ _ (member_at before l ls e),
+    ap home_in (member_at before l ls e),
+    subst (λ k. StandIn t s (numbers k ls)) (length-append before (member_row n s l ∷ [])) (stand_in (before ++ member_row n s l ∷ []) ls (next before l ls e)),
+  )
 
   none_named : (name : List ℕ) (before : List TableMember) (ls : List MemberLine) → Stand before ls → NoneIs name (member_names ls) → NoneNamed t name (numbers (length before) ls)
   none_named name before [] e h = tt
-  none_named name before (l ∷ ls) e h =
-      ((λ same. h.0 (sym (ap name_in (member_at before l ls e)) ∙ same)),
-       subst (λ k. NoneNamed t name (numbers k ls)) (length-append before (member_row n s l ∷ [])) (none_named name (before ++ member_row n s l ∷ []) ls (next before l ls e) h.1))
+  none_named name before (l ∷ ls) e h = (
+    (λ same. h.0 (sym (ap name_in (member_at before l ls e)) ∙ same)),
+    subst (λ k. NoneNamed t name (numbers k ls)) (length-append before (member_row n s l ∷ [])) (none_named name (before ++ member_row n s l ∷ []) ls (next before l ls e) h.1),
+  )
 
   names_differ : (before : List TableMember) (ls : List MemberLine) → Stand before ls → AllDiffer (member_names ls) → NamesDiffer t (numbers (length before) ls)
   names_differ before [] e h = tt
-  names_differ before (l ∷ ls) e h =
-      (subst (λ name. NoneNamed t name (numbers (length before + 1) ls)) (sym (ap name_in (member_at before l ls e)))
-         (subst (λ k. NoneNamed t l.name (numbers k ls)) (length-append before (member_row n s l ∷ [])) (none_named l.name (before ++ member_row n s l ∷ []) ls (next before l ls e) h.0)),
-       subst (λ k. NamesDiffer t (numbers k ls)) (length-append before (member_row n s l ∷ [])) (names_differ (before ++ member_row n s l ∷ []) ls (next before l ls e) h.1))
+  names_differ before (l ∷ ls) e h = (
+    subst (λ name. NoneNamed t name (numbers (length before + 1) ls)) (sym (ap name_in (member_at before l ls e)))
+        (subst (λ k. NoneNamed t l.name (numbers k ls)) (length-append before (member_row n s l ∷ [])) (none_named l.name (before ++ member_row n s l ∷ []) ls (next before l ls e) h.0)),
+    subst (λ k. NamesDiffer t (numbers k ls)) (length-append before (member_row n s l ∷ [])) (names_differ (before ++ member_row n s l ∷ []) ls (next before l ls e) h.1),
+  )
 
 abbrev row_members : Option ShapeRow → List ℕ
 row_members None = []
@@ -119,14 +123,14 @@ module _ (t : Table) (n : ℕ) where
   rows_good first before (l ∷ m) e d zero =
       let place_is : first ≡ first + 0 = omega arith in
       subst (λ x. Good x (numbers (length before) l.members)) place_is
-        (stand_in t n first (member_rows n (first + 1) m) before l.members e, names_differ t n first (member_rows n (first + 1) m) before l.members e d.0)
+      (stand_in t n first (member_rows n (first + 1) m) before l.members e, names_differ t n first (member_rows n (first + 1) m) before l.members e d.0)
   rows_good first before (l ∷ m) e d (suc i) =
       let more = map (member_row n first) l.members in
       let length_is : length (before ++ more) ≡ length before + length l.members = length-append before more ∙ ap (λ x. length before + x) (length-map l.members (member_row n first)) in
       let good = rows_good (first + 1) (before ++ more) m (e ∙ sym (append_assoc before more (member_rows n (first + 1) m))) d.1 i in
       let place_is : first + 1 + i ≡ first + suc i = omega arith in
       subst (λ x. Good x (row_members (slice_get (structure_rows (length before + length l.members) m ++ simple_rows) i))) place_is
-        (subst (λ x. Good (first + 1 + i) (row_members (slice_get (structure_rows x m ++ simple_rows) i))) length_is good)
+      (subst (λ x. Good (first + 1 + i) (row_members (slice_get (structure_rows x m ++ simple_rows) i))) length_is good)
 
 pub shaped : (node : Node) (m : List StructureLine) (t : Table) → FirstForm node m → Tabled m t → Shaped t
 shaped node m t form tabled = record {
@@ -137,8 +141,9 @@ shaped node m t form tabled = record {
   where
     size : shape_count t ≡ length m + 4
     size = sym (length-map t.shapes.items shape_row) ∙ ap (λ xs. length xs) tabled.shapes ∙ length-append (structure_rows 0 m) simple_rows ∙ ap (λ x. x + 4) (rows_length 0 m)
+
     good : (s : ℕ) → StandIn t s (members_at t s) × NamesDiffer t (members_at t s)
     good s = let zero_more : 0 + s ≡ s = omega arith in subst (λ ks. StandIn t s ks × NamesDiffer t ks)
-      (ap (λ xs. row_members (slice_get xs s)) (sym tabled.shapes) ∙ ap row_members (slice_get-map shape_row t.shapes.items s) ∙ members_of_row (slice_get t.shapes.items s))
-      (subst (λ x. StandIn t x (row_members (slice_get (structure_rows 0 m ++ simple_rows) s)) × NamesDiffer t (row_members (slice_get (structure_rows 0 m ++ simple_rows) s))) zero_more
+        (ap (λ xs. row_members (slice_get xs s)) (sym tabled.shapes) ∙ ap row_members (slice_get-map shape_row t.shapes.items s) ∙ members_of_row (slice_get t.shapes.items s))
+        (subst (λ x. StandIn t x (row_members (slice_get (structure_rows 0 m ++ simple_rows) s)) × NamesDiffer t (row_members (slice_get (structure_rows 0 m ++ simple_rows) s))) zero_more
         (rows_good t (length m) 0 [] m tabled.members (differ_from form.pairs m form.says) s))

@@ -80,3 +80,7 @@ pub record FirstForm (n : Node) (m : List StructureLine) : Type 0 where
   pub fields : HasBoth n (codes "smithy") (text (codes "2.0")) (codes "shapes") (object pairs)
   pub says : ShapesSay pairs m
   pub differ : AllDiffer (shape_names m)
+
+-- a law: a tree says at most one model
+abbrev pub SayOneModel : Type 0
+SayOneModel = (n : Node) (m o : List StructureLine) → FirstForm n m → FirstForm n o → m ≡ o

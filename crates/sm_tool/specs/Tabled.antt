@@ -8,7 +8,9 @@ use Rattle.sm_shapes.specs.declared.table.ShapeKind.{ShapeKind}
 use Rattle.sm_shapes.specs.declared.table.ShapeKind.TheVariants.{Boolean, Text, Integer, Long, Structure}
 use Rattle.sm_tool.specs.declared.model.target.SimpleTarget.{SimpleTarget}
 use Rattle.sm_tool.specs.declared.model.target.SimpleTarget.TheVariants.{String, Boolean as boolean, Integer as integer, Long as long}
-use Rattle.sm_tool.specs.FirstForm.{MemberLine, StructureLine}
+use Rattle.sm_tree.specs.Node.{Node}
+use Rattle.sm_shapes.specs.Tables.{Shaped}
+use Rattle.sm_tool.specs.FirstForm.{MemberLine, StructureLine, FirstForm}
 
 -- a shape of a table, without memory
 pub record ShapeRow : Type 0 where
@@ -58,3 +60,7 @@ member_rows n s (l ∷ m) = map (member_row n s) l.members ++ member_rows n (s +
 pub record Tabled (m : List StructureLine) (t : Table) : Type 0 where
   pub shapes : map shape_row t.shapes.items ≡ structure_rows 0 m ++ simple_rows
   pub members : t.members.items ≡ member_rows (length m) 0 m
+
+-- a law: the table of a model in the first form is sound
+abbrev pub AreShaped : Type 0
+AreShaped = (n : Node) (m : List StructureLine) (t : Table) → FirstForm n m → Tabled m t → Shaped t

@@ -59,22 +59,42 @@ pub fn is_named(pair: &(Text, Tree), name: &str) -> bool
 pub fn only_field<'a>(tree: &'a Tree, name: &str) -> Option<&'a Tree>
     ensures { MatchOption result ((n : Node) → node_of tree.now ≡ one_field name.now n → ⊥) (λ found. node_of tree.now ≡ one_field name.now (node_of found.now)) }
 {
-    let Some(pairs) = pairs_of(tree) else { return None };
-    let [pair] = pairs else { return None };
-    if is_named(pair, name) { Some(&pair.1) } else { None }
+    let Some(pairs) = pairs_of(tree) else {
+        return None
+    };
+    if pairs.len() != 1 {
+        return None;
+    }
+    let pair = &pairs[0];
+    if is_named(pair, name) {
+        Some(&pair.1)
+    } else {
+        None
+    }
 }
 
 /// The trees of two pairs that have these names in this order.
-fn trees_in_order<'a>(pairs: &'a [(Text, Tree)], first: &str, second: &str) -> Option<(&'a Tree, &'a Tree)>
+fn trees_in_order<'a>(
+    pairs: &'a [(Text, Tree)],
+    first: &str,
+    second: &str,
+) -> Option<(&'a Tree, &'a Tree)>
     ensures { MatchOption result
         ((a b : Node) → members_of (members_view pairs.now) ≡ member first.now a (member second.now b no_members) → ⊥)
         (λ found. members_of (members_view pairs.now) ≡ member first.now (node_of found.0.now) (member second.now (node_of found.1.now) no_members)) }
 {
-    let [one, two] = pairs else { return None };
+    if pairs.len() != 2 {
+        return None;
+    }
+    let (one, two) = (&pairs[0], &pairs[1]);
     if !is_named(one, first) {
         return None;
     }
-    if is_named(two, second) { Some((&one.1, &two.1)) } else { None }
+    if is_named(two, second) {
+        Some((&one.1, &two.1))
+    } else {
+        None
+    }
 }
 
 /// The trees of the two fields of an object, in the order of the names; `None` where the tree isn't an
@@ -82,7 +102,9 @@ fn trees_in_order<'a>(pairs: &'a [(Text, Tree)], first: &str, second: &str) -> O
 pub fn both_fields<'a>(tree: &'a Tree, first: &str, second: &str) -> Option<(&'a Tree, &'a Tree)>
     ensures { MatchOption result ((a b : Node) → HasBoth (node_of tree.now) first.now a second.now b → ⊥) (λ found. HasBoth (node_of tree.now) first.now (node_of found.0.now) second.now (node_of found.1.now)) }
 {
-    let Some(pairs) = pairs_of(tree) else { return None };
+    let Some(pairs) = pairs_of(tree) else {
+        return None
+    };
     match trees_in_order(pairs, first, second) {
         Some(found) => Some(found),
         None => match trees_in_order(pairs, second, first) {
@@ -94,7 +116,12 @@ pub fn both_fields<'a>(tree: &'a Tree, first: &str, second: &str) -> Option<(&'a
 
 /// The pairs of the object under `name`, in an object that has this field and, under `label`, the text
 /// `value`, and no other; `None` for any other tree.
-pub fn labelled_pairs<'a>(tree: &'a Tree, label: &str, value: &str, name: &str) -> Option<&'a [(Text, Tree)]>
+pub fn labelled_pairs<'a>(
+    tree: &'a Tree,
+    label: &str,
+    value: &str,
+    name: &str,
+) -> Option<&'a [(Text, Tree)]>
     requires { label.now ≡ name.now → ⊥ }
     ensures { MatchOption result
         ((ms : Members) → HasBoth (node_of tree.now) label.now (text value.now) name.now (object ms) → ⊥)

@@ -72,9 +72,15 @@ pub fn member_target(tree: &Tree) -> Option<MemberTarget>
     ensures { MatchOption result ((t : SimpleTarget) (b : Bool) → MemberSays (node_of tree.now) t b → ⊥) (λ m. MemberSays (node_of tree.now) m.simple m.required) }
 {
     match optional_target(tree) {
-        Some(simple) => Some(MemberTarget { simple, required: false }),
+        Some(simple) => Some(MemberTarget {
+            simple,
+            required: false,
+        }),
         None => match required_target(tree) {
-            Some(simple) => Some(MemberTarget { simple, required: true }),
+            Some(simple) => Some(MemberTarget {
+                simple,
+                required: true,
+            }),
             None => None,
         },
     }
@@ -82,7 +88,12 @@ pub fn member_target(tree: &Tree) -> Option<MemberTarget>
 
 /// The row of a member of the shape `home`, where `simple` is the number of the first simple shape; `None`
 /// where the pair is no member.
-fn member_row(alloc: Global, simple: u32, home: u32, pair: &(Text, Tree)) -> Result<Option<TableMember>, NoMemory>
+fn member_row(
+    alloc: Global,
+    simple: u32,
+    home: u32,
+    pair: &(Text, Tree),
+) -> Result<Option<TableMember>, NoMemory>
     requires { simple + 4 ≤ 2 ^ 32 }
     ensures { ReadsMember simple home pair.now.0 (node_of pair.now.1) result }
 {
@@ -93,7 +104,13 @@ fn member_row(alloc: Global, simple: u32, home: u32, pair: &(Text, Tree)) -> Res
         Some(says) => {
             let name = Text::copy(alloc, pair.0.as_str())?;
             let target = simple + says.simple.place();
-            Ok(Some(TableMember { shape: home, name, json_name: None, target, required: says.required }))
+            Ok(Some(TableMember {
+                shape: home,
+                name,
+                json_name: None,
+                target,
+                required: says.required,
+            }))
         }
         None => Ok(None),
     }
@@ -111,7 +128,13 @@ fn next_number(members: &Vec<TableMember>) -> Result<u32, NoMemory>
 
 /// Adds the rows of a structure's members, and gives their numbers; `None` where the pairs are no members.
 /// Want of memory is also answered where 2^32 numbers don't suffice.
-pub fn add_members(alloc: Global, simple: u32, home: u32, pairs: &[(Text, Tree)], members: &mut Vec<TableMember>) -> Result<Option<Vec<u32>>, NoMemory>
+pub fn add_members(
+    alloc: Global,
+    simple: u32,
+    home: u32,
+    pairs: &[(Text, Tree)],
+    members: &mut Vec<TableMember>,
+) -> Result<Option<Vec<u32>>, NoMemory>
     requires { simple + 4 ≤ 2 ^ 32 }
     ensures { AddsMembers simple home (members_of (members_view pairs.now)) members.old.items members.new.items result }
 {

@@ -13,7 +13,9 @@ pub fn names_differ(alloc: Global, pairs: &[(Text, Tree)]) -> Result<bool, NoMem
 {
     let mut seen: BTreeSet<&str> = BTreeSet::new(alloc);
     for pair in pairs {
-        let Ok(is_new) = seen.insert(pair.0.as_str()) else { return Err(NoMemory) };
+        let Ok(is_new) = seen.insert(pair.0.as_str()) else {
+            return Err(NoMemory)
+        };
         if !is_new {
             return Ok(false);
         }

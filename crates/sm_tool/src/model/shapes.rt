@@ -17,10 +17,23 @@ use std::alloc::Global;
 const MOST_STRUCTURES: usize = 4_294_967_292;
 
 /// Adds a shape of this kind with these members.
-fn add_shape(shapes: &mut Vec<TableShape>, kind: ShapeKind, members: Vec<u32>) -> Result<(), NoMemory>
+fn add_shape(
+    shapes: &mut Vec<TableShape>,
+    kind: ShapeKind,
+    members: Vec<u32>,
+) -> Result<(), NoMemory>
     ensures { OnOk result (map shape_row shapes.new.items ≡ map shape_row shapes.old.items ++ plain_row kind members.items ∷ []) }
 {
-    push(shapes, TableShape { kind, members, unique: false, sparse: false, unit: false })
+    push(
+        shapes,
+        TableShape {
+            kind,
+            members,
+            unique: false,
+            sparse: false,
+            unit: false,
+        },
+    )
 }
 
 /// Adds the simple shapes, in the order of their places.
@@ -34,11 +47,19 @@ fn add_simple_shapes(alloc: Global, shapes: &mut Vec<TableShape>) -> Result<(), 
 }
 
 /// Adds the structure that a tree says, with the number `home`; `false` where the tree is no structure.
-fn add_structure(alloc: Global, simple: u32, home: u32, tree: &Tree, table: &mut Table) -> Result<bool, NoMemory>
+fn add_structure(
+    alloc: Global,
+    simple: u32,
+    home: u32,
+    tree: &Tree,
+    table: &mut Table,
+) -> Result<bool, NoMemory>
     requires { simple + 4 ≤ 2 ^ 32 }
     ensures { AddsStructure simple home (node_of tree.now) table.old table.new result }
 {
-    let Some(pairs) = labelled_pairs(tree, "type", "structure", "members") else { return Ok(false) };
+    let Some(pairs) = labelled_pairs(tree, "type", "structure", "members") else {
+        return Ok(false)
+    };
     if !names_differ(alloc, pairs)? {
         return Ok(false);
     }
@@ -62,7 +83,10 @@ pub fn read_table(alloc: Global, pairs: &[(Text, Tree)]) -> Result<Option<Table>
     }
     let simple = pairs.len() as u32;
     let shapes = Vec::with_capacity(alloc, pairs.len() + 4)?;
-    let mut table = Table { shapes, members: Vec::new(alloc) };
+    let mut table = Table {
+        shapes,
+        members: Vec::new(alloc),
+    };
     let mut home = 0;
     for pair in pairs {
         if !add_structure(alloc, simple, home, &pair.1, &mut table)? {

@@ -1,5 +1,5 @@
 // A model of structures as it is kept: its table, and the numbers of its structures by name.
-ghost use Rattle.std.specs.Prelude.{◌≡◌, ℕ, ◌<◌, ◌^◌, Some, vec_len, MatchOption, slice_get};
+ghost use Rattle.std.specs.Prelude.{◌≡◌, ◌↔◌, IsTrue, ℕ, ◌<◌, ◌^◌, Some, vec_len, MatchOption, slice_get};
 
 use sm_shapes::Table;
 use sm_tree::Text;
@@ -22,10 +22,17 @@ impl FirstModel {
             (λ s. (slice_get self.now.names.items s ≡ Some name.now) × ((k : ℕ) → k < s → slice_get self.now.names.items k ≡ Some name.now → ⊥)) }
     {
         for (place, named) in self.names.iter().enumerate() {
-            if named.as_str() == name {
+            if is_name(named, name) {
                 return Some(place as u32);
             }
         }
         None
     }
+}
+
+/// Whether the text is this name.
+fn is_name(text: &Text, name: &str) -> bool
+    ensures { IsTrue result ↔ (text.now ≡ name.now) }
+{
+    text.as_str() == name
 }

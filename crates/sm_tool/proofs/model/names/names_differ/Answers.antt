@@ -8,11 +8,12 @@ returns-then-not-is_new c =
     let xs = c.args.pairs.now in
     let i = c.loop-pair.pair-index in
     let x = c.pair-item.result in
-    let key = c.as_str.result.now in
-    ((λ t. absurd (clash (sym t))),
-     (λ differ. absurd (repeated xs i x (omega arith) c.pair-item.is (has c.loop-pair.seen key)
-       (c.loop-pair.invariant.seen key ∙ ap (λ k. any_is k (map (λ p. p.0) (take i xs))) c.as_str.ensures.bytes)
-       (sym c.if-not-is_new.true ∙ c.in-Ok.ensures.added) differ)))
+    let key = c.as_str.result.now in (
+      (λ t. absurd (clash (sym t))),
+      (λ differ. absurd (repeated xs i x (omega arith) c.pair-item.is (has c.loop-pair.seen key)
+          (c.loop-pair.invariant.seen key ∙ ap (λ k. any_is k (map (λ p. p.0) (take i xs))) c.as_str.ensures.bytes)
+          (sym c.if-not-is_new.true ∙ c.in-Ok.ensures.added) differ)),
+    )
 
 pub loop-pair-preserved : goal.loop-pair-preserved
 loop-pair-preserved c =
@@ -24,8 +25,8 @@ loop-pair-preserved c =
     let within : i < length xs = omega arith in
     record {
       differ = differ_more xs i x within c.pair-item.is (has c.loop-pair.seen key) c.loop-pair.invariant.differ
-        (c.loop-pair.invariant.seen key ∙ ap (λ k. any_is k (map (λ p. p.0) (take i xs))) c.as_str.ensures.bytes)
-        (sym c.if-not-is_new.false ∙ c.in-Ok.ensures.added);
+          (c.loop-pair.invariant.seen key ∙ ap (λ k. any_is k (map (λ p. p.0) (take i xs))) c.as_str.ensures.bytes)
+          (sym c.if-not-is_new.false ∙ c.in-Ok.ensures.added);
       seen = λ cs. seen_more c.loop-pair.seen c.insert.new.self key (map (λ p. p.0) (take i xs)) c.in-Ok.ensures.updates c.loop-pair.invariant.seen cs
-        ∙ ap (λ names. any_is cs names) (ap (λ k. map (λ p. p.0) (take i xs) ++ k ∷ []) c.as_str.ensures.bytes ∙ sym (names_more xs i x within c.pair-item.is));
+          ∙ ap (λ names. any_is cs names) (ap (λ k. map (λ p. p.0) (take i xs) ++ k ∷ []) c.as_str.ensures.bytes ∙ sym (names_more xs i x within c.pair-item.is));
     }

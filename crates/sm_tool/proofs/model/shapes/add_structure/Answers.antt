@@ -18,12 +18,12 @@ returns-then-not-branch c =
 pub returns-in-None : goal.returns-in-None
 returns-in-None c =
     no_members_said (node_of c.args.tree.now) c.in-Some.pairs.now c.in-Some.ensures
-      (subst (λ r. AddsMembers c.args.simple c.args.home (members_of (members_view c.in-Some.pairs.now)) c.args.table.now.members.items c.add_members.new.members.items (Ok r)) c.in-None.is c.in_ok-numbers.ensures)
+    (subst (λ r. AddsMembers c.args.simple c.args.home (members_of (members_view c.in-Some.pairs.now)) c.args.table.now.members.items c.add_members.new.members.items (Ok r)) c.in-None.is c.in_ok-numbers.ensures)
 
 pub returns-in_ok-add_shape-in-Some-2 : goal.returns-in_ok-add_shape-in-Some-2
 returns-in_ok-add_shape-in-Some-2 c =
     let added : AreAdded c.args.simple c.args.home (members_of (members_view c.in-Some.pairs.now)) c.args.table.now.members.items c.add_members.new.members.items c.in-Some-2.numbers.items =
-      subst (λ r. AddsMembers c.args.simple c.args.home (members_of (members_view c.in-Some.pairs.now)) c.args.table.now.members.items c.add_members.new.members.items (Ok r)) c.in-Some-2.is c.in_ok-numbers.ensures in
+    subst (λ r. AddsMembers c.args.simple c.args.home (members_of (members_view c.in-Some.pairs.now)) c.args.table.now.members.items c.add_members.new.members.items (Ok r)) c.in-Some-2.is c.in_ok-numbers.ensures in
     record {
       lines = added.lines;
       says = shape_says (node_of c.args.tree.now) c.in-Some.pairs.now added.lines c.in-Some.ensures (c.in_ok-names_differ.ensures.0 c.if-not-branch.false) added.says;
