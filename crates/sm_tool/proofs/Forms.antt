@@ -1,8 +1,8 @@
 -- What makes a tree a model or a structure, from its parts: the fields, the names and what the pairs say.
-use Rattle.std.proofs.Common.{◌≡◌, ℕ, List, [], ◌∷◌, map, sym, ap, ◌∙◌, refl, subst, rules}
+use Rattle.std.proofs.Common.{◌≡◌, ℕ, ◌+◌, ◌<◌, Some, List, [], ◌∷◌, length, map, arith, sym, ap, ◌∙◌, refl, subst}
 use Rattle.std.specs.Prelude.{codes}
 use Rattle.sm_tree.specs.Node.{Node, Members, text, object, no_members, member, members_of}
-use Rattle.sm_tree.specs.View.{node_of, members_view}
+use Rattle.sm_tree.specs.View.{members_view}
 use Rattle.sm_tree.specs.declared.tree.Tree.{Tree}
 use Rattle.sm_tool.specs.Names.{AllDiffer}
 use Rattle.sm_tool.specs.FirstForm.{MemberLine, StructureLine, member_names, shape_names, HasBoth, MembersSay, ShapeSays, ShapesSay, FirstForm}
@@ -12,7 +12,11 @@ use Rattle.sm_tool.specs.declared.model.structures.FirstModel.{FirstModel}
 use Rattle.sm_tool.proofs.Pairs.{names}
 use Rattle.sm_tool.proofs.Objects.{both_same, object_pairs}
 use Rattle.sm_tool.proofs.Targets.{type_differs, smithy_differs}
-use Rattle.sm_tool.proofs.Shaped.{shaped}
+use Rattle.sm_tool.proofs.Shaped.{shaped, shape_count_is}
+use Rattle.std.specs.Prelude.{slice_get}
+use Rattle.std.proofs.lemmas.Option.{slice_get_within}
+use Rattle.std.proofs.lemmas.List.{length-map}
+use Rattle.sm_shapes.specs.Tables.{shape_count}
 
 names_view : (xs : List (List ℕ × Tree)) → names (members_of (members_view xs)) ≡ map (λ p. p.0) xs
 names_view [] = refl
@@ -85,3 +89,11 @@ is_model n xs read m is differ says tabled names_are = record {
 
     form : FirstForm n m
     form = record { pairs = members_of (members_view xs); fields = is; says = says; differ = subst AllDiffer (sym said) differ }
+
+-- the number of a named structure is that of a shape of the table
+pub named_within : (n : Node) (read : FirstModel) (s : ℕ) (name : List ℕ) → IsModel n read → slice_get read.names.items s ≡ Some name → s < shape_count read.table
+named_within n read s name is found =
+    let among : s < length read.names.items = slice_get_within read.names.items s name found in
+    let count : length read.names.items ≡ length is.model = ap (λ xs. length xs) is.names ∙ length-map is.model (λ l. l.name) in
+    let size : shape_count read.table ≡ length is.model + 4 = shape_count_is is.model read.table is.tabled in
+    omega (arith, among, count, size)

@@ -1,9 +1,9 @@
 -- Objects of one field and of two: what their pairs are, and that their parts are determined.
-use Rattle.std.proofs.Common.{◌≡◌, ◌⊎◌, inl, inr, ℕ, suc, Bool, true, false, Option, None, Some, List, [], ◌∷◌, length, get_or, sym, ap, ◌∙◌, refl, subst, arith, rules}
+use Rattle.std.proofs.Common.{◌≡◌, inl, inr, ℕ, suc, Bool, true, false, Option, None, Some, List, [], ◌∷◌, length, sym, ap, ◌∙◌, refl, subst, arith}
 use Rattle.std.specs.Prelude.{◌↔◌, IsTrue, MatchOption}
 use denote.Ref.{Bor}
 use Rattle.sm_tree.specs.Node.{Node, Members, text, object, no_members, member, members_of}
-use Rattle.sm_tree.specs.View.{node_of, members_view}
+use Rattle.sm_tree.specs.View.{members_view}
 use Rattle.sm_tree.specs.declared.tree.Tree.{Tree}
 use Rattle.sm_tool.specs.FirstForm.{HasBoth, one_field}
 use Rattle.sm_tool.proofs.Pairs.{pairs_in, text_in, count, rest, first_name, first_tree}

@@ -1,5 +1,5 @@
 -- A tree says at most one model.
-use Rattle.std.proofs.Common.{◌≡◌, ◌⊎◌, inl, inr, ℕ, Bool, true, false, cond, List, [], ◌∷◌, get_or, sym, ap, ◌∙◌, refl, subst, arith, rules}
+use Rattle.std.proofs.Common.{◌≡◌, inl, inr, ℕ, Bool, true, false, cond, List, [], ◌∷◌, get_or, sym, ap, ◌∙◌, refl, subst, arith}
 use Rattle.std.specs.Prelude.{nat_eq, codes}
 use Rattle.sm_tree.specs.Node.{Node, Members, text, object, no_members, member}
 use Rattle.sm_tool.specs.declared.model.target.SimpleTarget.{SimpleTarget}

@@ -1,6 +1,6 @@
 -- What is read of the first pairs of an object, and what the pairs behind them complete: the invariants of
 -- the loops over members and over shapes.
-use Rattle.std.proofs.Common.{◌≡◌, ℕ, suc, ◌+◌, List, [], ◌∷◌, ◌++◌, length, map, None, sym, ap, ◌∙◌, refl, subst, get_or, drop, ◌<◌, ◌≤◌, arith, rules, append_assoc, length-append}
+use Rattle.std.proofs.Common.{◌≡◌, ℕ, suc, ◌+◌, List, [], ◌∷◌, ◌++◌, length, map, None, sym, ap, ◌∙◌, refl, subst, get_or, drop, ◌<◌, ◌≤◌, arith, append_assoc, length-append}
 use Rattle.std.proofs.lemmas.List.{length-map, append-nil, drop_more, drop_all}
 use Rattle.sm_tree.specs.Node.{Node, Members, no_members, member, members_of}
 use Rattle.sm_tree.specs.View.{node_of, members_view}

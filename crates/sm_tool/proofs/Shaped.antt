@@ -1,20 +1,18 @@
 -- The table of a model in the first form is sound.
-use Rattle.std.proofs.Common.{◌≡◌, ℕ, zero, suc, ◌+◌, ◌<◌, List, [], ◌∷◌, ◌++◌, length, map, Option, None, Some, sym, ap, ◌∙◌, refl, subst, arith, rules, append_assoc, length-append}
+use Rattle.std.proofs.Common.{◌≡◌, ℕ, zero, suc, ◌+◌, ◌<◌, List, [], ◌∷◌, ◌++◌, length, map, Option, None, Some, sym, ap, ◌∙◌, refl, subst, arith, append_assoc, length-append}
 use Rattle.std.proofs.lemmas.List.{length-map}
-use Rattle.std.proofs.lemmas.Option.{slice_get-get_or, slice_get_within, slice_get-map}
-use Rattle.std.proofs.Math.Seq.{get_or-append_seam}
+use Rattle.std.proofs.lemmas.Option.{slice_get_within, slice_get-map}
 use Rattle.std.specs.Prelude.{slice_get, option_map}
 use Rattle.sm_tree.specs.Node.{Node, Members, no_members, member}
-use Rattle.sm_shapes.specs.Tables.{shape_count, member_count, members_in, name_in, target_in, home_in, members_at, name_at, target_at, home_at, NoneNamed, NamesDiffer, StandIn, Shaped}
+use Rattle.sm_shapes.specs.Tables.{shape_count, members_in, name_in, target_in, home_in, members_at, target_at, NoneNamed, NamesDiffer, StandIn, Shaped}
 use Rattle.sm_shapes.specs.declared.table.Table.{Table}
 use Rattle.sm_shapes.specs.declared.table.TableShape.{TableShape}
 use Rattle.sm_shapes.specs.declared.table.TableMember.{TableMember}
-use Rattle.sm_shapes.specs.declared.table.ShapeKind.TheVariants.{Structure}
 use Rattle.sm_tool.specs.declared.model.target.SimpleTarget.{SimpleTarget}
 use Rattle.sm_tool.specs.declared.model.target.SimpleTarget.TheVariants.{String, Boolean, Integer, Long}
 use Rattle.sm_tool.specs.Names.{NoneIs, AllDiffer}
 use Rattle.sm_tool.specs.FirstForm.{MemberLine, StructureLine, member_names, ShapesSay, FirstForm}
-use Rattle.sm_tool.specs.Tabled.{ShapeRow, shape_row, plain_row, numbers, structure_rows, simple_rows, place, member_row, member_rows, Tabled}
+use Rattle.sm_tool.specs.Tabled.{ShapeRow, shape_row, numbers, structure_rows, simple_rows, place, member_row, member_rows, Tabled}
 
 -- the element behind a front
 at : {X : Type 0} (before : List X) (x : X) (after : List X) → slice_get (before ++ (x ∷ after)) (length before) ≡ Some x
@@ -132,16 +130,17 @@ module _ (t : Table) (n : ℕ) where
       subst (λ x. Good x (row_members (slice_get (structure_rows (length before + length l.members) m ++ simple_rows) i))) place_is
       (subst (λ x. Good (first + 1 + i) (row_members (slice_get (structure_rows x m ++ simple_rows) i))) length_is good)
 
+-- a table has four shapes more than its model
+pub shape_count_is : (m : List StructureLine) (t : Table) → Tabled m t → shape_count t ≡ length m + 4
+shape_count_is m t tabled = sym (length-map t.shapes.items shape_row) ∙ ap (λ xs. length xs) tabled.shapes ∙ length-append (structure_rows 0 m) simple_rows ∙ ap (λ x. x + 4) (rows_length 0 m)
+
 pub shaped : (node : Node) (m : List StructureLine) (t : Table) → FirstForm node m → Tabled m t → Shaped t
 shaped node m t form tabled = record {
-  targets = λ k h. subst (λ b. target_at t k < b) (sym size) (target_below (length m + 4) t.members.items k (omega arith) (subst (λ xs. Below (length m + 4) xs) (sym tabled.members) (below_rows (length m) 0 m)));
+  targets = λ k h. subst (λ b. target_at t k < b) (sym (shape_count_is m t tabled)) (target_below (length m + 4) t.members.items k (omega arith) (subst (λ xs. Below (length m + 4) xs) (sym tabled.members) (below_rows (length m) 0 m)));
   members = λ s h. (good s).0;
   names = λ s h. (good s).1;
 }
   where
-    size : shape_count t ≡ length m + 4
-    size = sym (length-map t.shapes.items shape_row) ∙ ap (λ xs. length xs) tabled.shapes ∙ length-append (structure_rows 0 m) simple_rows ∙ ap (λ x. x + 4) (rows_length 0 m)
-
     good : (s : ℕ) → StandIn t s (members_at t s) × NamesDiffer t (members_at t s)
     good s = let zero_more : 0 + s ≡ s = omega arith in subst (λ ks. StandIn t s ks × NamesDiffer t ks)
         (ap (λ xs. row_members (slice_get xs s)) (sym tabled.shapes) ∙ ap row_members (slice_get-map shape_row t.shapes.items s) ∙ members_of_row (slice_get t.shapes.items s))

@@ -1,10 +1,10 @@
 -- What the tree of a member says, from what its fields say.
-use Rattle.std.proofs.Common.{◌≡◌, ℕ, Bool, true, false, Option, None, Some, List, get_or, sym, ap, ◌∙◌, refl, arith, rules}
-use Rattle.std.specs.Prelude.{◌↔◌, IsTrue, MatchOption, codes}
-use Rattle.sm_tree.specs.Node.{Node, text, object}
+use Rattle.std.proofs.Common.{◌≡◌, Bool, true, false, Option, None, Some, get_or, ap, ◌∙◌, arith}
+use Rattle.std.specs.Prelude.{MatchOption, codes}
+use Rattle.sm_tree.specs.Node.{Node, text}
 use Rattle.sm_tool.specs.declared.model.target.SimpleTarget.{SimpleTarget}
 use Rattle.sm_tool.specs.FirstForm.{HasBoth, one_field, target_id, required_traits, MemberSays}
-use Rattle.sm_tool.proofs.Objects.{both_same, has_both_is, only_same, clash}
+use Rattle.sm_tool.proofs.Objects.{both_same, has_both_is, only_same}
 
 pub target_differs : codes "target" ≡ codes "traits" → ⊥
 target_differs e = let second : 97 ≡ 114 = ap (λ s. get_or s 1 0) e in omega (arith, second)

@@ -1,4 +1,4 @@
-use Rattle.std.proofs.Common.{Ok, Some, List, sym, ◌∙◌, subst}
+use Rattle.std.proofs.Common.{Ok, List, sym, ◌∙◌, subst}
 use Rattle.sm_tree.specs.Node.{members_of}
 use Rattle.sm_tree.specs.View.{node_of, members_view}
 use Rattle.sm_tool.specs.FirstForm.{StructureLine, ShapesSay}

@@ -1,4 +1,4 @@
-use Rattle.std.proofs.Common.{◌≡◌, ◌<◌, Bool, List, ℕ, ◌++◌, ◌∷◌, [], length, map, take, sym, ap, ◌∙◌, arith}
+use Rattle.std.proofs.Common.{◌<◌, List, ℕ, ◌++◌, ◌∷◌, [], length, map, take, sym, ap, ◌∙◌, arith}
 use Rattle.sm_tool.proofs.Objects.{clash}
 use Rattle.sm_tool.proofs.Names.{has, any_is, differ_more, repeated, seen_more, names_more}
 use Rattle.sm_tool.proofs.model.names.names_differ.Goals as goal
