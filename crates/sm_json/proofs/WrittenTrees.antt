@@ -44,7 +44,7 @@ mutual
   more_entries_spelt : (ns : Nodes) (r : List ℕ) → AreJson ns → MoreEntries ns (more_written_entries ns ++ r) r
   more_entries_spelt no_nodes r json = inl refl
   more_entries_spelt (node n ns) r json =
-      (_, _, _, inl refl, skips_none _, followed n (more_written_entries ns) r (tree_spelt n (more_written_entries ns ++ r) json.0), more_entries_spelt ns r json.1)
+      (_, _, (_, inl refl, skips_none _), followed n (more_written_entries ns) r (tree_spelt n (more_written_entries ns ++ r) json.0), more_entries_spelt ns r json.1)
 
   pairs_spelt : (ms : Members) (r : List ℕ) → AreJsonMembers ms → Pairs ms (written_pairs ms ++ r) r
   pairs_spelt no_members r json = inl refl
@@ -53,11 +53,9 @@ mutual
     _,
     _,
     _,
-    _,
     skips_none (written_pairs (member k n ms) ++ r),
     name_spelt k (written n ++ more_written_pairs ms) r json.0,
-    inl refl,
-    skips_none _,
+    (_, inl refl, skips_none _),
     followed n (more_written_pairs ms) r (tree_spelt n (more_written_pairs ms ++ r) json.1),
     more_pairs_spelt ms r json.2,
   )
@@ -69,13 +67,9 @@ mutual
     _,
     _,
     _,
-    _,
-    _,
-    inl refl,
-    skips_none ((written_text k ++ 58 ∷ (written n ++ more_written_pairs ms)) ++ r),
+    (_, inl refl, skips_none ((written_text k ++ 58 ∷ (written n ++ more_written_pairs ms)) ++ r)),
     name_spelt k (written n ++ more_written_pairs ms) r json.0,
-    inl refl,
-    skips_none _,
+    (_, inl refl, skips_none _),
     followed n (more_written_pairs ms) r (tree_spelt n (more_written_pairs ms ++ r) json.1),
     more_pairs_spelt ms r json.2,
   )

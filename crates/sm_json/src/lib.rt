@@ -2,25 +2,23 @@
 // What reads and writes messages and model files in JSON stands on it.
 #![tactic(auto)]
 
-mod escape;
-mod number;
-mod place;
-mod read;
-mod spot;
-mod text;
-mod utf8;
-
-pub use read::read_tree;
-pub use sm_tree::{NoMemory, SyntaxRefusal};
 mod byte_form;
+mod escape;
 pub mod laws;
 mod length;
-mod put;
+mod number;
+mod place;
 mod plain;
+mod put;
+mod read;
+mod spot;
 #[cfg(test)]
 mod tests;
+mod text;
+mod utf8;
 mod write;
 
 pub use length::encoded_len;
-pub use sm_tree::NoMemory;
+pub use read::read_tree;
+pub use sm_tree::{NoMemory, SyntaxRefusal};
 pub use write::write_tree;

@@ -9,3 +9,11 @@ pub mod Refusals
 pub mod Decoding
 pub mod Written
 pub mod Indexing
+pub mod Pairs
+pub mod Objects
+pub mod Names
+pub mod Targets
+pub mod Reading
+pub mod Shaped
+pub mod Forms
+pub mod OneModel

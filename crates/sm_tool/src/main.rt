@@ -2,5 +2,6 @@
 #![tactic(auto)]
 
 mod codec;
+mod model;
 
 fn main(_rt: HostRuntime) {}

@@ -1,0 +1,66 @@
+-- The table that a model of structures comes to. The structures stand first, in model order; behind them
+-- String, Boolean, Integer and Long. Members are numbered in model order through the whole table.
+use Rattle.std.specs.Prelude.{◌≡◌, ℕ, ◌+◌, Bool, false, List, [], ◌∷◌, ◌++◌, length, map, None}
+use Rattle.sm_shapes.specs.declared.table.Table.{Table}
+use Rattle.sm_shapes.specs.declared.table.TableShape.{TableShape}
+use Rattle.sm_shapes.specs.declared.table.TableMember.{TableMember}
+use Rattle.sm_shapes.specs.declared.table.ShapeKind.{ShapeKind}
+use Rattle.sm_shapes.specs.declared.table.ShapeKind.TheVariants.{Boolean, Text, Integer, Long, Structure}
+use Rattle.sm_tool.specs.declared.model.target.SimpleTarget.{SimpleTarget}
+use Rattle.sm_tool.specs.declared.model.target.SimpleTarget.TheVariants.{String, Boolean as boolean, Integer as integer, Long as long}
+use Rattle.sm_tree.specs.Node.{Node}
+use Rattle.sm_shapes.specs.Tables.{Shaped}
+use Rattle.sm_tool.specs.FirstForm.{MemberLine, StructureLine, FirstForm}
+
+-- a shape of a table, without memory
+pub record ShapeRow : Type 0 where
+  pub kind : ShapeKind
+  pub members : List ℕ
+  pub unique : Bool
+  pub sparse : Bool
+  pub unit : Bool
+
+abbrev pub shape_row : TableShape → ShapeRow
+shape_row s = record { kind = s.kind; members = s.members.items; unique = s.unique; sparse = s.sparse; unit = s.unit }
+
+-- a shape of this kind with these members, of which nothing more is said
+abbrev pub plain_row : ShapeKind → List ℕ → ShapeRow
+plain_row kind members = record { kind = kind; members = members; unique = false; sparse = false; unit = false }
+
+-- the numbers of as many members as there are, from k on
+abbrev pub numbers : ℕ → List MemberLine → List ℕ
+numbers k [] = []
+numbers k (l ∷ ls) = k ∷ numbers (k + 1) ls
+
+-- the structures, whose members are numbered from k on
+abbrev pub structure_rows : ℕ → List StructureLine → List ShapeRow
+structure_rows k [] = []
+structure_rows k (l ∷ m) = plain_row Structure (numbers k l.members) ∷ structure_rows (k + length l.members) m
+
+abbrev pub simple_rows : List ShapeRow
+simple_rows = plain_row Text [] ∷ plain_row Boolean [] ∷ plain_row Integer [] ∷ plain_row Long [] ∷ []
+
+-- the place of a simple shape among the four
+abbrev pub place : SimpleTarget → ℕ
+place String = 0
+place boolean = 1
+place integer = 2
+place long = 3
+
+-- a member of the shape s, where the first simple shape has the number n
+abbrev pub member_row : ℕ → ℕ → MemberLine → TableMember
+member_row n s l = record { shape = s; name = l.name; json_name = None; target = n + place l.target; required = l.required }
+
+-- the members of the structures, which are numbered from s on
+abbrev pub member_rows : ℕ → ℕ → List StructureLine → List TableMember
+member_rows n s [] = []
+member_rows n s (l ∷ m) = map (member_row n s) l.members ++ member_rows n (s + 1) m
+
+-- the model comes to this table
+pub record Tabled (m : List StructureLine) (t : Table) : Type 0 where
+  pub shapes : map shape_row t.shapes.items ≡ structure_rows 0 m ++ simple_rows
+  pub members : t.members.items ≡ member_rows (length m) 0 m
+
+-- a law: the table of a model in the first form is sound
+abbrev pub AreShaped : Type 0
+AreShaped = (n : Node) (m : List StructureLine) (t : Table) → FirstForm n m → Tabled m t → Shaped t

@@ -1,0 +1,13 @@
+// What holds of all models in the first form and of their tables.
+ghost use Rattle.sm_tool.specs.FirstForm.{SayOneModel};
+ghost use Rattle.sm_tool.specs.Tabled.{AreShaped};
+
+/// A tree says at most one model.
+pub fn one_model()
+    ensures { SayOneModel }
+{}
+
+/// The table of a model in the first form is sound.
+pub fn model_tables_are_shaped()
+    ensures { AreShaped }
+{}

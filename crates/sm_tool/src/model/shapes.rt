@@ -1,0 +1,99 @@
+// The shapes of a model: the rows of its structures, and of the simple shapes behind them.
+ghost use Rattle.std.specs.Prelude.{◌≡◌, ◌≤◌, ◌<◌, ◌+◌, ◌^◌, ◌++◌, ℕ, List, [], ◌∷◌, map, IfOk, OnOk, length, vec_len};
+ghost use Rattle.sm_tree.specs.Node.{members_of};
+ghost use Rattle.sm_tree.specs.View.{node_of, members_view};
+ghost use Rattle.sm_tool.specs.Tabled.{shape_row, plain_row, simple_rows};
+ghost use Rattle.sm_tool.specs.ModelAnswers.{AddsStructure, ReadsTable};
+
+use crate::model::fields::labelled_pairs;
+use crate::model::members::add_members;
+use crate::model::names::names_differ;
+use crate::model::push;
+use sm_shapes::{ShapeKind, Table, TableShape};
+use sm_tree::{NoMemory, Text, Tree};
+use std::alloc::Global;
+
+/// The greatest number of structures: behind them stand four simple shapes, and numbers have 32 bits.
+const MOST_STRUCTURES: usize = 4_294_967_292;
+
+/// Adds a shape of this kind with these members.
+fn add_shape(
+    shapes: &mut Vec<TableShape>,
+    kind: ShapeKind,
+    members: Vec<u32>,
+) -> Result<(), NoMemory>
+    ensures { OnOk result (map shape_row shapes.new.items ≡ map shape_row shapes.old.items ++ plain_row kind members.items ∷ []) }
+{
+    push(
+        shapes,
+        TableShape {
+            kind,
+            members,
+            unique: false,
+            sparse: false,
+            unit: false,
+        },
+    )
+}
+
+/// Adds the simple shapes, in the order of their places.
+fn add_simple_shapes(alloc: Global, shapes: &mut Vec<TableShape>) -> Result<(), NoMemory>
+    ensures { OnOk result (map shape_row shapes.new.items ≡ map shape_row shapes.old.items ++ simple_rows) }
+{
+    add_shape(shapes, ShapeKind::Text, Vec::new(alloc))?;
+    add_shape(shapes, ShapeKind::Boolean, Vec::new(alloc))?;
+    add_shape(shapes, ShapeKind::Integer, Vec::new(alloc))?;
+    add_shape(shapes, ShapeKind::Long, Vec::new(alloc))
+}
+
+/// Adds the structure that a tree says, with the number `home`; `false` where the tree is no structure.
+fn add_structure(
+    alloc: Global,
+    simple: u32,
+    home: u32,
+    tree: &Tree,
+    table: &mut Table,
+) -> Result<bool, NoMemory>
+    requires { simple + 4 ≤ 2 ^ 32 }
+    ensures { AddsStructure simple home (node_of tree.now) table.old table.new result }
+{
+    let Some(pairs) = labelled_pairs(tree, "type", "structure", "members") else {
+        return Ok(false)
+    };
+    if !names_differ(alloc, pairs)? {
+        return Ok(false);
+    }
+    match add_members(alloc, simple, home, pairs, &mut table.members)? {
+        Some(numbers) => {
+            add_shape(&mut table.shapes, ShapeKind::Structure, numbers)?;
+            Ok(true)
+        }
+        None => Ok(false),
+    }
+}
+
+/// The table of a model's shapes; `None` where some tree is no structure. Want of memory is also answered
+/// where 2^32 numbers don't suffice.
+pub fn read_table(alloc: Global, pairs: &[(Text, Tree)]) -> Result<Option<Table>, NoMemory>
+    ensures table { ReadsTable (members_of (members_view pairs.now)) result }
+    ensures few { OnOk result (length pairs.now < 2 ^ 32) }
+{
+    if pairs.len() > MOST_STRUCTURES {
+        return Err(NoMemory);
+    }
+    let simple = pairs.len() as u32;
+    let shapes = Vec::with_capacity(alloc, pairs.len() + 4)?;
+    let mut table = Table {
+        shapes,
+        members: Vec::new(alloc),
+    };
+    let mut home = 0;
+    for pair in pairs {
+        if !add_structure(alloc, simple, home, &pair.1, &mut table)? {
+            return Ok(None);
+        }
+        home += 1;
+    }
+    add_simple_shapes(alloc, &mut table.shapes)?;
+    Ok(Some(table))
+}
