@@ -30,3 +30,5 @@ pub mod WrittenTrees
 pub mod PlainRuns
 pub mod Placed
 pub mod Lanes
+pub mod OneString
+pub mod OneTree

@@ -27,3 +27,7 @@ pub record EscapesAreMeant : Type 0 where
   pub last_control : written_text (31 ∷ []) ≡ codes "\"\\u001f\""
   pub delete : written_text (127 ∷ []) ≡ 34 ∷ 127 ∷ 34 ∷ []
   pub solidus : written_text (codes "/") ≡ codes "\"/\""
+
+-- bytes are a text of at most one tree
+abbrev pub OneReading : Type 0
+OneReading = (n m : Node) (bs : List ℕ) → JsonText n bs → JsonText m bs → n ≡ m

@@ -1,6 +1,6 @@
 // Laws of the written text, each the contract of a function whose body is empty.
 // What reads a written text back stands on them.
-ghost use Rattle.sm_json.specs.Laws.{WrittenIsText, WrittenSpells, WrittenTextSpells, EscapesAreMeant};
+ghost use Rattle.sm_json.specs.Laws.{WrittenIsText, WrittenSpells, WrittenTextSpells, EscapesAreMeant, OneReading};
 
 /// What is written for a tree is a JSON text of that tree (RFC 8259).
 pub fn written_is_text()
@@ -20,4 +20,9 @@ pub fn written_text_spells()
 /// The escapes that are written, each by an example.
 pub fn escapes_are_meant()
     ensures { EscapesAreMeant }
+{}
+
+/// Bytes are a JSON text of at most one tree.
+pub fn one_reading()
+    ensures { OneReading }
 {}
