@@ -8,6 +8,7 @@ use Rattle.sm_json.specs.Strings.{IsUnescaped, short_escape, HexDigits, CodeUnit
 use Rattle.sm_json.proofs.Starts.{above, heads, tails}
 use Rattle.sm_json.proofs.Units.{no_surrogate}
 
+-- equal where both are there
 some_same : (x y : ℕ) → Some x ≡ Some y → x ≡ y
 some_same x y e = cc
 
@@ -18,6 +19,7 @@ one_number (suc k) n v w [] r q h g = absurd h
 one_number (suc k) n v w (c ∷ s) r q (d, e, h) (b, f, g) =
     one_number k (n * 16 + d) v w s r q h (subst (λ x. HexDigits k (n * 16 + x) w s q) (some_same b d (sym f ∙ e)) g)
 
+-- a code unit
 one_unit : (v w : ℕ) (s r q : List ℕ) → CodeUnit v s r → CodeUnit w s q → (v ≡ w) × (r ≡ q)
 one_unit v w s r q (s1, e, h) (s2, f, g) =
     one_number 4 0 v w s1 r q h (subst (λ x. HexDigits 4 0 w x q) (tails 117 117 s2 s1 (sym f ∙ e)) g)
@@ -28,6 +30,7 @@ one_low high c d s r q (a, s1, e, u, is_low, j) (b, s2, f, v, is_low2, k) =
     let (same, rest) = one_unit a b s1 r q u (subst (λ x. CodeUnit b x q) (tails 92 92 s2 s1 (sym f ∙ e)) v) in
     (j ∙ ap (joined high) same ∙ sym k, rest)
 
+-- both halves
 one_pair : (a b c d : ℕ) (s s1 s2 r q : List ℕ) → CodeUnit a s s1 → LowHalf a c s1 r → CodeUnit b s s2 → LowHalf b d s2 q → (c ≡ d) × (r ≡ q)
 one_pair a b c d s s1 s2 r q u h v g =
     let (same, rest) = one_unit b a s s2 s1 v u in
@@ -64,6 +67,7 @@ one_escape c d s r q k l (inr (inr (a, s1, u, is_high, low))) (inr (inr (b, s2, 
 raw_first : (c d : ℕ) (s r q : List ℕ) → d < 128 → s ≡ encode_utf8 c ++ r → s ≡ d ∷ q → c ≡ d
 raw_first c d s r q small e f = (encode_same c d r q (sym e ∙ f ∙ ap (λ x. x ++ q) (sym (encode_ascii d small)))).0
 
+-- so none is an escape
 raw_no_escape : (c : ℕ) (s r q : List ℕ) → IsUnescaped c → s ≡ encode_utf8 c ++ r → s ≡ 92 ∷ q → ⊥
 raw_no_escape c s r q plain e f = plain.2 (raw_first c 92 s r q (lit< tt) e f)
 
@@ -80,6 +84,7 @@ no_character : (c : ℕ) (s r q : List ℕ) → Character c s r → s ≡ 34 ∷
 no_character c s r q (k, inl (plain, e)) f = plain.1 (raw_first c 34 s r q (lit< tt) e f)
 no_character c s r q (k, inr (s1, e, h)) f = absurd (above 92 34 (lit< tt) (heads 92 34 s1 q (sym e ∙ f)))
 
+-- the characters of a string up to its end
 one_run : (cs ds s r q : List ℕ) → Characters cs s r → Characters ds s q → (cs ≡ ds) × (r ≡ q)
 one_run [] [] s r q e f = (refl, tails 34 34 r q (sym e ∙ f))
 one_run [] (d ∷ ds) s r q e (s1, h, hs) = absurd (no_character d s s1 r h e)
@@ -89,6 +94,7 @@ one_run (c ∷ cs) (d ∷ ds) s r q (s1, h, hs) (s2, g, gs) =
     let (more, rest) = one_run cs ds s1 r q hs (subst (λ x. Characters ds x q) (sym behind) gs) in
     (cc, rest)
 
+-- a string
 pub one_text : (t u s r q : List ℕ) → SpellsText t s r → SpellsText u s q → (t ≡ u) × (r ≡ q)
 one_text t u s r q (cs, s1, e, o, h) (ds, s2, f, p, g) =
     let (same, rest) = one_run cs ds s1 r q h (subst (λ x. Characters ds x q) (tails 34 34 s2 s1 (sym p ∙ o)) g) in

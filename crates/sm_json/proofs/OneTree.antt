@@ -34,6 +34,7 @@ skips_to : (c d : ℕ) (s r q : List ℕ) → is_white c ≡ false → is_white 
 skips_to c d s r q f g h k =
     let e = skips_from s (c ∷ r) (d ∷ q) h f k g in (heads c d r q e, tails c d r q e)
 
+-- neither a value nor a string begins with white space
 value_black : (n : Node) (s r : List ℕ) → SpellsValue n s r → IsBlack s
 value_black n s r h =
     let (c, s1, e, first) = spells_start n s r h in subst IsBlack (sym e) (first_not_white n c first)
@@ -47,6 +48,7 @@ abbrev Quits : List ℕ → Type 0
 Quits [] = Unit {0}
 Quits (c ∷ s) = IsNumberByte c → ⊥
 
+-- white space is no byte of a number
 number_byte_black : (c : ℕ) → IsNumberByte c → is_white c ≡ false
 number_byte_black c (inl digit) = first_not_white (number []) c (inl digit)
 number_byte_black c (inr (inl e)) = ap is_white e
@@ -58,6 +60,7 @@ number_byte_black c (inr (inr (inr (inr (inr e))))) = ap is_white e
 quits_white : (c : ℕ) → is_white c ≡ true → IsNumberByte c → ⊥
 quits_white c w n = not_white c c (number_byte_black c n) refl w
 
+-- before white space and then another byte, or nothing
 quits_skips : (d : ℕ) (s r : List ℕ) → (IsNumberByte d → ⊥) → Skips s (d ∷ r) → Quits s
 quits_skips d [] r f e = tt
 quits_skips d (c ∷ s) r f (inl e) = subst (λ x. IsNumberByte x → ⊥) (heads d c r s e) f
@@ -68,6 +71,7 @@ quits_nothing [] e = tt
 quits_nothing (c ∷ s) (inl e) = let f : [] ≡ c ∷ s = e in absurd cc
 quits_nothing (c ∷ s) (inr h) = quits_white c h.0
 
+-- what may stand behind a value there
 comma : IsNumberByte 44 → ⊥
 comma h = grind arith
 
@@ -77,6 +81,7 @@ bracket h = grind arith
 brace : IsNumberByte 125 → ⊥
 brace h = grind arith
 
+-- behind a value in a list, and behind one in an object
 quits_entries : (ns : Nodes) (s r : List ℕ) → MoreEntries ns s r → Quits s
 quits_entries no_nodes s r k = quits_skips 93 s r bracket k
 quits_entries (node n ns) s r (s1, s2, (x, k, k1), h, m) = quits_skips 44 s x comma k
@@ -95,6 +100,7 @@ one_run (c ∷ t) (d ∷ u) r q a b x y e =
     let (more, rest) = one_run t u r q a.1 b.1 x y (tails c d (t ++ r) (u ++ q) e) in
     (cc, rest)
 
+-- a number, and what follows it
 one_number : (n m : Node) (s r q : List ℕ) → SpellsNumber n s r → Quits r → SpellsNumber m s q → Quits q → (n ≡ m) × (r ≡ q)
 one_number n m s r q (t, e, h) x (u, f, k) y =
     let (same, rest) = one_run t u r q (number_bytes t (number_is n t h)) (number_bytes u (number_is m u k)) x y (sym e ∙ f) in
@@ -121,6 +127,7 @@ abbrev kind_at : ℕ → Kind
 kind_at c =
     cond (c == 110) of_null (cond (c == 116) of_true (cond (c == 102) of_false (cond (c == 34) of_text (cond (c == 91) of_list (cond (c == 123) of_object of_number)))))
 
+-- the first byte of a number, and of any value, tells what it is
 number_kind : (c : ℕ) → StartsNumber c → kind_at c ≡ of_number
 number_kind c (inl (low, high)) = grind (arith, nat_tests)
 number_kind c (inr e) = ap kind_at e
@@ -138,6 +145,7 @@ told_kind (opaque b) c h = absurd h
 told_kind (list ns) c e = ap kind_at e
 told_kind (object ms) c e = ap kind_at e
 
+-- and so two trees that the same bytes spell are alike in that
 one_kind : (n m : Node) (s r q : List ℕ) → SpellsValue n s r → SpellsValue m s q → kind n ≡ kind m
 one_kind n m s r q h k =
     let (c, s1, e, x) = spells_start n s r h in
@@ -200,6 +208,7 @@ no_value (opaque b) h = h
 no_value (list ns) e = above 93 91 (lit< tt) e
 no_value (object ms) e = below 93 123 (lit< tt) e
 
+-- so a list that ends at once has no entry
 not_closed : (n : Node) (s s1 s2 r : List ℕ) → Skips s (93 ∷ r) → Skips s s1 → SpellsValue n s1 s2 → ⊥
 not_closed n s s1 s2 r a b h =
     let (c, u, e, x) = spells_start n s1 s2 h in
