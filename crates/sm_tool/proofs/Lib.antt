@@ -17,3 +17,5 @@ pub mod Reading
 pub mod Shaped
 pub mod Forms
 pub mod OneModel
+pub mod Bodies
+pub mod Runs

@@ -1,7 +1,87 @@
-// The tool.
+// The program: its words, the real files, input and output, and the status that it ends with.
 #![tactic(auto)]
 
+mod body;
 mod codec;
+mod command;
+mod lines;
 mod model;
+mod words;
 
-fn main(_rt: HostRuntime) {}
+use crate::command::{Status, run};
+use sm_io::{DiskFiles, StdSink, StdSource};
+use sm_tree::Text;
+use std::alloc::Global;
+use std::env;
+use std::process::ExitCode;
+
+/// What `--help` prints.
+const HELP: &str = "\
+sm_tool body MODELFILE SHAPE json json
+    Reads a JSON body of the shape from standard input, and prints its canonical form.
+sm_tool --help
+sm_tool --version
+";
+
+/// What `--version` prints.
+const VERSION: &str = "sm_tool 0.1.0\n";
+
+// The program's words, without its own name.
+fn given_words(rt: &HostRuntime, alloc: Global) -> Option<Vec<Text>> {
+    let mut words = Vec::new(alloc);
+    let Ok(args) = env::args(rt) else {
+        return None;
+    };
+    for word in args.skip(1) {
+        if words.push(Text::new(word)).is_err() {
+            return None;
+        }
+    }
+    Some(words)
+}
+
+// Prints a text on standard output.
+fn show(rt: &HostRuntime, text: &str) -> u8 {
+    match print!(rt; "{text}") {
+        Ok(()) => Status::Done.code(),
+        Err(_) => Status::WriteFault.code(),
+    }
+}
+
+// What is said on standard error for a status.
+fn complaint(status: u8) -> Option<&'static str> {
+    match status {
+        2 => Some("usage"),
+        3 => Some("read fault"),
+        4 => Some("write fault"),
+        5 => Some("no memory"),
+        _ => None,
+    }
+}
+
+// Does what the words ask for.
+fn answer(rt: &HostRuntime, words: &[Text]) -> u8 {
+    if words.len() == 1 {
+        match words[0].as_str() {
+            "--help" => return show(rt, HELP),
+            "--version" => return show(rt, VERSION),
+            _ => {}
+        }
+    }
+    let alloc = rt.alloc();
+    let mut files = DiskFiles::new(alloc, *rt);
+    let mut input = StdSource::new(rt.stdin());
+    let mut out = StdSink::new(rt.stdout());
+    run(alloc, words, &mut files, &mut input, &mut out)
+}
+
+fn main(rt: HostRuntime) -> ExitCode {
+    let status = match given_words(&rt, rt.alloc()) {
+        Some(words) => answer(&rt, words.as_slice()),
+        None => Status::Usage.code(),
+    };
+    if let Some(text) = complaint(status) {
+        let _ = eprintln!(rt; "{text}");
+    }
+    ExitCode::from(status)
+}

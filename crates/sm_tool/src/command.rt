@@ -1,0 +1,93 @@
+// The commands: what the program does for its words, over any files, input and output. Main stands on it.
+ghost use Rattle.std.specs.Prelude.{◌≡◌, ◌≤◌};
+ghost use Rattle.sm_tool.specs.Words.{LetsModel};
+ghost use Rattle.sm_tool.specs.Run.{code_of, PutEnds, Prints, RunAnswers};
+
+use crate::body::{Stop, body};
+use crate::words::form_of;
+use sm_io::{Files, PutRefusal, Sink, Source};
+use sm_tree::Text;
+use std::alloc::Global;
+
+/// How a command ended.
+#[derive(Debug, Clone, Copy, PartialEq, Eq, Drop)]
+pub enum Status {
+    /// Its work is done.
+    Done,
+    /// The model, the shape or the body is refused; a line was printed.
+    Refused,
+    /// The words have none of the forms; nothing was printed.
+    Usage,
+    /// A file or the input could not be read; nothing was printed.
+    ReadFault,
+    /// The output could not be written.
+    WriteFault,
+    /// The allocator refused the memory that is needed.
+    NoMemory,
+    /// A limit is passed; a line was printed.
+    Limit,
+}
+
+impl Status {
+    /// The number of the status, by which the process ends.
+    pub fn code(self) -> u8
+        ensures { result ≡ code_of self }
+    {
+        match self {
+            Status::Done => 0,
+            Status::Refused => 1,
+            Status::Usage => 2,
+            Status::ReadFault => 3,
+            Status::WriteFault => 4,
+            Status::NoMemory => 5,
+            Status::Limit => 7,
+        }
+    }
+}
+
+// Puts a piece, and ends with this status where that succeeds.
+fn put<K: Sink>(out: &mut K, piece: &[u8], status: Status) -> Status
+    ensures { PutEnds (K.written out.old) (K.written out.new) (K.faults out.old) (K.faults out.new) piece.now status result }
+{
+    match out.put(piece) {
+        Ok(()) => status,
+        Err(PutRefusal::Failed) => Status::WriteFault,
+        Err(PutRefusal::NoMemory) => Status::NoMemory,
+    }
+}
+
+// Prints what a command came to.
+fn print<K: Sink>(out: &mut K, came: Result<Vec<u8>, Stop>) -> Status
+    ensures { Prints (K.written out.old) (K.written out.new) (K.faults out.old) (K.faults out.new) came result }
+{
+    match came {
+        Ok(text) => put(out, &text, Status::Done),
+        Err(stop) => match stop {
+            Stop::Refused(line) => put(out, &line, Status::Refused),
+            Stop::Limit(line) => put(out, &line, Status::Limit),
+            Stop::ReadFault => Status::ReadFault,
+            Stop::NoMemory => Status::NoMemory,
+        },
+    }
+}
+
+/// Does what the words ask for, and answers the status of the process. `body MODELFILE SHAPE json json`
+/// prints the canonical body of the value that the input spells, or a line that says what is refused.
+pub fn run<F: Files, S: Source, K: Sink>(
+    alloc: Global,
+    words: &[Text],
+    files: &mut F,
+    input: &mut S,
+    out: &mut K,
+) -> u8
+    requires { LetsModel (F.lets_read files.old) words.now }
+    ensures { RunAnswers words.now (F.held files.old) (F.read_faults files.old) (F.read_faults files.new) (S.left input.old) (S.left input.new) (S.faults input.old) (S.faults input.new) (K.written out.old) (K.written out.new) (K.faults out.old) (K.faults out.new) result }
+{
+    match form_of(words) {
+        Some(words) => {
+            let came = body(alloc, words, files, input);
+            print(out, came).code()
+        }
+        None => Status::Usage.code(),
+    }
+}
