@@ -30,3 +30,4 @@ pub mod WrittenTrees
 pub mod PlainRuns
 pub mod Placed
 pub mod Lanes
+pub mod SpeltTrees
