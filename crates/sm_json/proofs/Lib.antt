@@ -32,3 +32,4 @@ pub mod Placed
 pub mod Lanes
 pub mod OneString
 pub mod OneTree
+pub mod SpeltTrees

@@ -11,6 +11,8 @@ mod place;
 mod plain;
 mod put;
 mod read;
+#[cfg(test)]
+mod read_tests;
 mod spot;
 #[cfg(test)]
 mod tests;
