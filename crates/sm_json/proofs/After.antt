@@ -50,9 +50,18 @@ pair_onward : (limit : ℕ) (ks : List OpenKind) (s : List ℕ) (es : List NodeE
 pair_onward limit ks s es (no_members, r, fs, k, room, en, e) = absurd (below 44 125 (lit< tt) (here_is 44 125 s r refl k))
 pair_onward limit ks s es (member name n ms, r, fs, (s1, s2, s3, s4, (x, k, k0), sp, (y, k1, k2), v, m), room, en, e) =
     let below : levels n ≤ max (levels n) (members_levels ms) = omega arith in
-    let rest : members_levels ms ≤ max (levels n) (members_levels ms) = omega arith in
-    (s1, subst (λ z. Skips z s1) (here_rest 44 44 s x refl k) k0, (name, s2, events n (pairs_events ms fs), sp,
-        (y, k1, (s3, k2, (n, s4, pairs_events ms fs, v, omega arith, (ms, r, fs, m, omega arith, en, refl), refl))), e))
+    let rest : members_levels ms ≤ max (levels n) (members_levels ms) = omega arith in (
+      s1,
+      subst (λ z. Skips z s1) (here_rest 44 44 s x refl k) k0,
+      (
+        name,
+        s2,
+        events n (pairs_events ms fs),
+        sp,
+        (y, k1, (s3, k2, (n, s4, pairs_events ms fs, v, omega arith, (ms, r, fs, m, omega arith, en, refl), refl))),
+        e,
+      ),
+    )
 
 pair_back : (limit : ℕ) (ks : List OpenKind) (s : List ℕ) (es : List NodeEvent) → KeyComes limit (an_object ∷ ks) s es → Ends limit (an_object ∷ ks) (44 ∷ s) es
 pair_back limit ks s es (s1, k, (name, s2, gs, sp, (x, k1, (s3, k2, (n, s4, hs, v, room, (ms, r, fs, m, room1, en, e2), e1))), e)) =

@@ -53,9 +53,18 @@ first_key_onward : (limit : ℕ) (c : ℕ) (ks : List OpenKind) (s : List ℕ) (
 first_key_onward limit c ks s es w f (no_members, r, fs, k, room, en, e) = absurd (f (here_is c 125 s r w k))
 first_key_onward limit c ks s es w f (member name n ms, r, fs, (s1, s2, s3, s4, k, sp, (x, k1, k2), v, m), room, en, e) =
     let below : levels n ≤ max (levels n) (members_levels ms) = omega arith in
-    let rest : members_levels ms ≤ max (levels n) (members_levels ms) = omega arith in
-    (s1, k, (name, s2, events n (pairs_events ms fs), sp,
-        (x, k1, (s3, k2, (n, s4, pairs_events ms fs, v, omega arith, (ms, r, fs, m, omega arith, en, refl), refl))), e))
+    let rest : members_levels ms ≤ max (levels n) (members_levels ms) = omega arith in (
+      s1,
+      k,
+      (
+        name,
+        s2,
+        events n (pairs_events ms fs),
+        sp,
+        (x, k1, (s3, k2, (n, s4, pairs_events ms fs, v, omega arith, (ms, r, fs, m, omega arith, en, refl), refl))),
+        e,
+      ),
+    )
 
 first_key_back : (limit : ℕ) (ks : List OpenKind) (s : List ℕ) (es : List NodeEvent) → KeyComes limit (an_object ∷ ks) s es → FirstKeyComes limit (an_object ∷ ks) s es
 first_key_back limit ks s es (s1, k, (name, s2, gs, sp, (x, k1, (s3, k2, (n, s4, hs, v, room, (ms, r, fs, m, room1, en, e2), e1))), e)) =
@@ -84,8 +93,8 @@ object_empty limit ks room = record {
   back = λ s fs h. (no_members, s, fs, skips_none (125 ∷ s), room_of_none limit ks room, h, refl);
 }
   where
-  room_of_none : (limit : ℕ) (ks : List OpenKind) → length (an_object ∷ ks) ≤ limit → 0 + suc (length ks) ≤ limit
-  room_of_none limit ks h = omega arith
+    room_of_none : (limit : ℕ) (ks : List OpenKind) → length (an_object ∷ ks) ≤ limit → 0 + suc (length ks) ≤ limit
+    room_of_none limit ks h = omega arith
 
 -- behind a bracket: an entry, or the end
 first_entry_onward : (limit : ℕ) (c : ℕ) (ks : List OpenKind) (s : List ℕ) (es : List NodeEvent) → is_white c ≡ false → c ≢ 93

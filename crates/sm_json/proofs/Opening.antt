@@ -88,7 +88,7 @@ list_onward limit ks s es (n, r, fs, h, room, en, e) =
 list_back : (limit : ℕ) (ks : List OpenKind) (s : List ℕ) (fs : List NodeEvent) → FirstEntryComes limit (a_list ∷ ks) s fs → ValueComes limit ks (91 ∷ s) (start_list None ∷ fs)
 list_back limit ks s fs (ns, r, gs, h, room, en, e) =
     value_now limit ks (91 ∷ s) (start_list None ∷ fs)
-        (list ns, r, gs, (s, refl, h), omega arith, en, ap (λ x. start_list None ∷ x) e)
+    (list ns, r, gs, (s, refl, h), omega arith, en, ap (λ x. start_list None ∷ x) e)
 
 pub list_opens : (limit : ℕ) (ks : List OpenKind) → Leads limit (at value ks) (91 ∷ []) (start_list None ∷ []) (at first_entry (a_list ∷ ks))
 list_opens limit ks = record {
@@ -109,7 +109,7 @@ object_onward limit ks s es (n, r, fs, h, room, en, e) =
 object_back : (limit : ℕ) (ks : List OpenKind) (s : List ℕ) (fs : List NodeEvent) → FirstKeyComes limit (an_object ∷ ks) s fs → ValueComes limit ks (123 ∷ s) (start_object None ∷ fs)
 object_back limit ks s fs (ms, r, gs, h, room, en, e) =
     value_now limit ks (123 ∷ s) (start_object None ∷ fs)
-        (object ms, r, gs, (s, refl, h), omega arith, en, ap (λ x. start_object None ∷ x) e)
+    (object ms, r, gs, (s, refl, h), omega arith, en, ap (λ x. start_object None ∷ x) e)
 
 pub object_opens : (limit : ℕ) (ks : List OpenKind) → Leads limit (at value ks) (123 ∷ []) (start_object None ∷ []) (at first_key (an_object ∷ ks))
 object_opens limit ks = record {

@@ -69,7 +69,7 @@ speaks r q p w e same leads taken sound = record {
 pub colon_goes : (r : Reader) → IsSound r → r.place ≡ Colon → Goes r (58 ∷ []) (record r { place = Value })
 colon_goes r sound e =
     silent r (record r { place = Value }) Colon (58 ∷ []) e (colon_leads most_levels (lists_of r)) refl
-        (record { depth = sound.depth; room = sound.room; keeps = kept_at r Colon e sound })
+    (record { depth = sound.depth; room = sound.room; keeps = kept_at r Colon e sound })
 
 pub colon_halts : (r : Reader) (c : ℕ) → r.place ≡ Colon → is_white c ≡ false → c ≢ 58 → Stops most_levels (state_of r) c
 colon_halts r c e w f = stops_from r Colon c e (colon_stops most_levels c (lists_of r) w f)
@@ -79,15 +79,15 @@ at_start : (role : Role) (t : TextReader) (ks : List OpenKind) (x : State) (w : 
     → Leads most_levels x w [] (at (in_text role Plain []) ks) → Leads most_levels x w [] (at (in_text role t.spot (text_of t)) ks)
 at_start role t ks x w (plain, none) h =
     subst (λ b. Leads most_levels x w [] (at (in_text role t.spot b) ks)) (sym none)
-        (subst (λ s. Leads most_levels x w [] (at (in_text role s []) ks)) (sym plain) h)
+    (subst (λ s. Leads most_levels x w [] (at (in_text role s []) ks)) (sym plain) h)
 
 pub text_goes : (r : Reader) (role : Role) (t : TextReader) → IsSound r → BeginsText role r.place → IsAtStart t → Goes r (34 ∷ []) (record r { place = Text role; text = t })
 text_goes r Key t sound e fresh =
     silent r (record r { place = Text Key; text = t }) NextKey (34 ∷ []) e (at_start Key t (lists_of r) (place_at r NextKey) (34 ∷ []) fresh (key_leads most_levels (lists_of r))) refl
-        (record { depth = sound.depth; room = sound.room; keeps = kept_at r NextKey e sound })
+    (record { depth = sound.depth; room = sound.room; keeps = kept_at r NextKey e sound })
 text_goes r Whole t sound e fresh =
     silent r (record r { place = Text Whole; text = t }) Value (34 ∷ []) e (at_start Whole t (lists_of r) (place_at r Value) (34 ∷ []) fresh (string_begins most_levels (lists_of r) (room_in r sound))) refl
-        (record { depth = sound.depth; room = sound.room; keeps = kept_at r Value e sound })
+    (record { depth = sound.depth; room = sound.room; keeps = kept_at r Value e sound })
 
 pub key_halts : (r : Reader) (c : ℕ) → r.place ≡ NextKey → is_white c ≡ false → c ≢ 34 → Stops most_levels (state_of r) c
 key_halts r c e w f = stops_from r NextKey c e (key_stops most_levels c (lists_of r) w f)
@@ -101,7 +101,7 @@ word_keeps False = lit< tt
 pub word_goes : (r : Reader) (w : Literal) → IsSound r → r.place ≡ Value → Goes r (first_letter w ∷ []) (record r { place = Word w 1 })
 word_goes r w sound e =
     silent r (record r { place = Word w 1 }) Value (first_letter w ∷ []) e (word_begins most_levels w (lists_of r) (room_in r sound)) refl
-        (record { depth = sound.depth; room = sound.room; keeps = (kept_at r Value e sound, word_keeps w) })
+    (record { depth = sound.depth; room = sound.room; keeps = (kept_at r Value e sound, word_keeps w) })
 
 -- `[` and `{`
 pub list_goes : (r q : Reader) → IsSound r → r.place ≡ Value → r.depth < most_levels → q.place ≡ FirstEntry → q.depth ≡ r.depth + 1
@@ -113,14 +113,16 @@ list_goes r q sound e room place depth lists awaits taken =
       keeps = opened_keeps q place (subst (IsIn a_list) (sym lists) refl) awaits;
     })
   where
-  opened : (r q : Reader) → q.place ≡ FirstEntry → lists_of q ≡ a_list ∷ lists_of r → Leads most_levels (place_at r Value) (91 ∷ []) (start_list None ∷ []) (state_of q)
-  opened r q place lists =
-      subst (λ p. Leads most_levels (place_at r Value) (91 ∷ []) (start_list None ∷ []) (place_at q p)) (sym place)
-          (subst (λ ks. Leads most_levels (place_at r Value) (91 ∷ []) (start_list None ∷ []) (at first_entry ks)) (sym lists) (list_opens most_levels (lists_of r)))
-  grown : (r q : Reader) → IsSound r → lists_of q ≡ a_list ∷ lists_of r → r.depth + 1 ≡ length (lists_of q)
-  grown r q sound lists = omega (arith, sound.depth, ap length lists)
-  opened_keeps : (q : Reader) → q.place ≡ FirstEntry → IsIn a_list (lists_of q) → awaits_value (building_of q.builder) ≡ true → PlaceKeeps q.place q.number.items (lists_of q) (awaits_value (building_of q.builder))
-  opened_keeps q place inside awaits = subst (λ p. PlaceKeeps p q.number.items (lists_of q) (awaits_value (building_of q.builder))) (sym place) (inside, awaits)
+    opened : (r q : Reader) → q.place ≡ FirstEntry → lists_of q ≡ a_list ∷ lists_of r → Leads most_levels (place_at r Value) (91 ∷ []) (start_list None ∷ []) (state_of q)
+    opened r q place lists =
+        subst (λ p. Leads most_levels (place_at r Value) (91 ∷ []) (start_list None ∷ []) (place_at q p)) (sym place)
+        (subst (λ ks. Leads most_levels (place_at r Value) (91 ∷ []) (start_list None ∷ []) (at first_entry ks)) (sym lists) (list_opens most_levels (lists_of r)))
+
+    grown : (r q : Reader) → IsSound r → lists_of q ≡ a_list ∷ lists_of r → r.depth + 1 ≡ length (lists_of q)
+    grown r q sound lists = omega (arith, sound.depth, ap length lists)
+
+    opened_keeps : (q : Reader) → q.place ≡ FirstEntry → IsIn a_list (lists_of q) → awaits_value (building_of q.builder) ≡ true → PlaceKeeps q.place q.number.items (lists_of q) (awaits_value (building_of q.builder))
+    opened_keeps q place inside awaits = subst (λ p. PlaceKeeps p q.number.items (lists_of q) (awaits_value (building_of q.builder))) (sym place) (inside, awaits)
 
 pub object_goes : (r q : Reader) → IsSound r → r.place ≡ Value → r.depth < most_levels → q.place ≡ FirstKey → q.depth ≡ r.depth + 1
     → lists_of q ≡ an_object ∷ lists_of r → awaits_value (building_of q.builder) ≡ false → handed_on q ≡ handed_on r ++ start_object None ∷ [] → Goes r (123 ∷ []) q
@@ -131,14 +133,16 @@ object_goes r q sound e room place depth lists awaits taken =
       keeps = opened_keeps q place (subst (IsIn an_object) (sym lists) refl) awaits;
     })
   where
-  opened : (r q : Reader) → q.place ≡ FirstKey → lists_of q ≡ an_object ∷ lists_of r → Leads most_levels (place_at r Value) (123 ∷ []) (start_object None ∷ []) (state_of q)
-  opened r q place lists =
-      subst (λ p. Leads most_levels (place_at r Value) (123 ∷ []) (start_object None ∷ []) (place_at q p)) (sym place)
-          (subst (λ ks. Leads most_levels (place_at r Value) (123 ∷ []) (start_object None ∷ []) (at first_key ks)) (sym lists) (object_opens most_levels (lists_of r)))
-  grown : (r q : Reader) → IsSound r → lists_of q ≡ an_object ∷ lists_of r → r.depth + 1 ≡ length (lists_of q)
-  grown r q sound lists = omega (arith, sound.depth, ap length lists)
-  opened_keeps : (q : Reader) → q.place ≡ FirstKey → IsIn an_object (lists_of q) → awaits_value (building_of q.builder) ≡ false → PlaceKeeps q.place q.number.items (lists_of q) (awaits_value (building_of q.builder))
-  opened_keeps q place inside awaits = subst (λ p. PlaceKeeps p q.number.items (lists_of q) (awaits_value (building_of q.builder))) (sym place) (inside, awaits)
+    opened : (r q : Reader) → q.place ≡ FirstKey → lists_of q ≡ an_object ∷ lists_of r → Leads most_levels (place_at r Value) (123 ∷ []) (start_object None ∷ []) (state_of q)
+    opened r q place lists =
+        subst (λ p. Leads most_levels (place_at r Value) (123 ∷ []) (start_object None ∷ []) (place_at q p)) (sym place)
+        (subst (λ ks. Leads most_levels (place_at r Value) (123 ∷ []) (start_object None ∷ []) (at first_key ks)) (sym lists) (object_opens most_levels (lists_of r)))
+
+    grown : (r q : Reader) → IsSound r → lists_of q ≡ an_object ∷ lists_of r → r.depth + 1 ≡ length (lists_of q)
+    grown r q sound lists = omega (arith, sound.depth, ap length lists)
+
+    opened_keeps : (q : Reader) → q.place ≡ FirstKey → IsIn an_object (lists_of q) → awaits_value (building_of q.builder) ≡ false → PlaceKeeps q.place q.number.items (lists_of q) (awaits_value (building_of q.builder))
+    opened_keeps q place inside awaits = subst (λ p. PlaceKeeps p q.number.items (lists_of q) (awaits_value (building_of q.builder))) (sym place) (inside, awaits)
 
 pub list_halts : (r : Reader) → IsSound r → r.place ≡ Value → most_levels ≤ r.depth → Stops most_levels (state_of r) 91
 list_halts r sound e deep = stops_from r Value 91 e (list_too_deep most_levels (lists_of r) (subst (λ n. most_levels ≤ n) sound.depth deep))
@@ -161,10 +165,10 @@ ends_at : (r q : Reader) (p : Place) (k : OpenKind) (e : NodeEvent) (c : ℕ) �
     → Goes r (c ∷ []) q
 ends_at r q p k e c sound place closed law =
     speaks r q p (c ∷ []) e place
-        (subst (λ x. Leads most_levels (place_at r p) (c ∷ []) (e ∷ []) (place_at q x)) (sym closed.place)
-            (subst (λ ls. Leads most_levels (at (where_of p r.number.items r.text.spot (text_of r.text)) ls) (c ∷ []) (e ∷ []) (at after (lists_of q))) (sym closed.lists)
-                (law (lists_of q) (subst (λ ls. length ls ≤ most_levels) closed.lists (room_in r sound)))))
-        closed.taken closed.sound
+    (subst (λ x. Leads most_levels (place_at r p) (c ∷ []) (e ∷ []) (place_at q x)) (sym closed.place)
+    (subst (λ ls. Leads most_levels (at (where_of p r.number.items r.text.spot (text_of r.text)) ls) (c ∷ []) (e ∷ []) (at after (lists_of q))) (sym closed.lists)
+    (law (lists_of q) (subst (λ ls. length ls ≤ most_levels) closed.lists (room_in r sound)))))
+    closed.taken closed.sound
 
 pub empty_list_goes : (r q : Reader) → IsSound r → r.place ≡ FirstEntry → HasClosed r a_list end_list q → Goes r (93 ∷ []) q
 empty_list_goes r q sound place closed = ends_at r q FirstEntry a_list end_list 93 sound place closed (λ ks. list_empty most_levels ks)
@@ -183,23 +187,23 @@ goes_on_in : (k : OpenKind) (ls : List OpenKind) → IsIn k ls → goes_on ls �
 goes_on_in k [] h = absurd h
 goes_on_in k (j ∷ ls) h = kind_goes_on j ls ∙ ap (λ x. goes_on (x ∷ [])) h
   where
-  kind_goes_on : (j : OpenKind) (ls : List OpenKind) → goes_on (j ∷ ls) ≡ goes_on (j ∷ [])
-  kind_goes_on a_list ls = refl
-  kind_goes_on an_object ls = refl
+    kind_goes_on : (j : OpenKind) (ls : List OpenKind) → goes_on (j ∷ ls) ≡ goes_on (j ∷ [])
+    kind_goes_on a_list ls = refl
+    kind_goes_on an_object ls = refl
 
 pub entry_goes : (r : Reader) → IsSound r → r.place ≡ After → IsIn a_list (lists_of r) → Goes r (44 ∷ []) (record r { place = Value })
 entry_goes r sound place h =
     let (ks, e) = inside (lists_of r) a_list h in
     silent r (record r { place = Value }) After (44 ∷ []) place
-        (subst (λ ls. Leads most_levels (at after ls) (44 ∷ []) [] (at value ls)) (sym e) (list_goes_on most_levels ks)) refl
-        (record { depth = sound.depth; room = sound.room; keeps = kept_at r After place sound ∙ goes_on_in a_list (lists_of r) h })
+    (subst (λ ls. Leads most_levels (at after ls) (44 ∷ []) [] (at value ls)) (sym e) (list_goes_on most_levels ks)) refl
+    (record { depth = sound.depth; room = sound.room; keeps = kept_at r After place sound ∙ goes_on_in a_list (lists_of r) h })
 
 pub pair_goes : (r : Reader) → IsSound r → r.place ≡ After → IsIn an_object (lists_of r) → Goes r (44 ∷ []) (record r { place = NextKey })
 pair_goes r sound place h =
     let (ks, e) = inside (lists_of r) an_object h in
     silent r (record r { place = NextKey }) After (44 ∷ []) place
-        (subst (λ ls. Leads most_levels (at after ls) (44 ∷ []) [] (at next_key ls)) (sym e) (object_goes_on most_levels ks)) refl
-        (record { depth = sound.depth; room = sound.room; keeps = (h, kept_at r After place sound ∙ goes_on_in an_object (lists_of r) h) })
+    (subst (λ ls. Leads most_levels (at after ls) (44 ∷ []) [] (at next_key ls)) (sym e) (object_goes_on most_levels ks)) refl
+    (record { depth = sound.depth; room = sound.room; keeps = (h, kept_at r After place sound ∙ goes_on_in an_object (lists_of r) h) })
 
 pub entry_halts : (r : Reader) (c : ℕ) → r.place ≡ After → IsIn a_list (lists_of r) → is_white c ≡ false → c ≢ 44 → c ≢ 93 → Stops most_levels (state_of r) c
 entry_halts r c place h w f g =
@@ -234,7 +238,7 @@ first_entry_takes r q c (Ok x) sound place w f h =
       out = h.out;
       leads = leads_from r FirstEntry (c ∷ []) h.out (state_of q) place
           (subst (λ ls. Leads most_levels (at value ls) (c ∷ []) h.out (state_of q) → Leads most_levels (at first_entry ls) (c ∷ []) h.out (state_of q)) (sym e)
-              (first_entry_leads most_levels c ks h.out (state_of q) w f) h.leads);
+          (first_entry_leads most_levels c ks h.out (state_of q) w f) h.leads);
       taken = h.taken;
       sound = h.sound;
     }
@@ -257,7 +261,7 @@ first_key_takes r q c (Ok x) sound place w f h =
       out = h.out;
       leads = leads_from r FirstKey (c ∷ []) h.out (state_of q) place
           (subst (λ ls. Leads most_levels (at next_key ls) (c ∷ []) h.out (state_of q) → Leads most_levels (at first_key ls) (c ∷ []) h.out (state_of q)) (sym e)
-              (first_key_leads most_levels c ks h.out (state_of q) w f) h.leads);
+          (first_key_leads most_levels c ks h.out (state_of q) w f) h.leads);
       taken = h.taken;
       sound = h.sound;
     }
@@ -277,17 +281,17 @@ pub number_goes : (r q : Reader) (c : ℕ) (phase : Phase) → IsSound r → r.p
     → q.place ≡ Number phase → q.number.items ≡ c ∷ [] → q.builder ≡ r.builder → q.depth ≡ r.depth → Goes r (c ∷ []) q
 number_goes r q c phase sound place w starts there kept same depth =
     silent r q Value (c ∷ []) place
-        (subst (λ p. Leads most_levels (place_at r Value) (c ∷ []) [] (place_at q p)) (sym there)
-            (subst (λ b. Leads most_levels (place_at r Value) (c ∷ []) [] (at (numeral b) (lists_of q))) (sym kept)
-                (subst (λ b. Leads most_levels (place_at r Value) (c ∷ []) [] (at (numeral (c ∷ [])) (kinds (building_of b)))) (sym same)
-                    (number_begins most_levels c (lists_of r) (room_in r sound) w (starts_of c phase starts)))))
-        (ap (λ b. so_far (building_of b)) same)
-        (record {
-          depth = depth ∙ sound.depth ∙ ap (λ b. length (kinds (building_of b))) (sym same);
-          room = subst (λ n. n ≤ most_levels) (sym depth) sound.room;
-          keeps = subst (λ p. PlaceKeeps p q.number.items (lists_of q) (awaits_value (building_of q.builder))) (sym there)
-              (ap (λ b. awaits_value (building_of b)) same ∙ kept_at r Value place sound, subst (λ b. NumberLeads Start b phase) (sym kept) starts);
-        })
+    (subst (λ p. Leads most_levels (place_at r Value) (c ∷ []) [] (place_at q p)) (sym there)
+    (subst (λ b. Leads most_levels (place_at r Value) (c ∷ []) [] (at (numeral b) (lists_of q))) (sym kept)
+    (subst (λ b. Leads most_levels (place_at r Value) (c ∷ []) [] (at (numeral (c ∷ [])) (kinds (building_of b)))) (sym same)
+    (number_begins most_levels c (lists_of r) (room_in r sound) w (starts_of c phase starts)))))
+    (ap (λ b. so_far (building_of b)) same)
+    (record {
+      depth = depth ∙ sound.depth ∙ ap (λ b. length (kinds (building_of b))) (sym same);
+      room = subst (λ n. n ≤ most_levels) (sym depth) sound.room;
+      keeps = subst (λ p. PlaceKeeps p q.number.items (lists_of q) (awaits_value (building_of q.builder))) (sym there)
+          (ap (λ b. awaits_value (building_of b)) same ∙ kept_at r Value place sound, subst (λ b. NumberLeads Start b phase) (sym kept) starts);
+    })
 
 pub value_halts : (r : Reader) (c : ℕ) → r.place ≡ Value → is_white c ≡ false → c ≢ 34 → c ≢ 91 → c ≢ 123 → c ≢ 110 → c ≢ 116 → c ≢ 102 → NumberStops Start c → Stops most_levels (state_of r) c
 value_halts r c place w q b o n t f stop = stops_from r Value c place (value_stops most_levels c (lists_of r) w q b o n t f stop)

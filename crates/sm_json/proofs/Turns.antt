@@ -53,14 +53,14 @@ goes_joined r q x v w h g = record {
 }
 
 pub goes_nowhere : (r : Reader) → IsSound r → Goes r [] r
-goes_nowhere r sound = record { out = []; leads = leads_none most_levels (state_of r); taken = sym (append-nil (handed_on r)); sound = sound; }
+goes_nowhere r sound = record { out = []; leads = leads_none most_levels (state_of r); taken = sym (append-nil (handed_on r)); sound = sound }
 
 -- white space
 pub takes_white_after : (r : Reader) → r.place ≡ After → TakesWhite (state_of r).place
 takes_white_after r e = subst (λ p. TakesWhite (where_of p r.number.items r.text.spot (text_of r.text))) (sym e) tt
 
 pub white_goes : (r : Reader) (c : ℕ) → IsSound r → TakesWhite (state_of r).place → is_white c ≡ true → Goes r (c ∷ []) r
-white_goes r c sound p w = record { out = []; leads = white_leads most_levels (state_of r) c p w; taken = sym (append-nil (handed_on r)); sound = sound; }
+white_goes r c sound p w = record { out = []; leads = white_leads most_levels (state_of r) c p w; taken = sym (append-nil (handed_on r)); sound = sound }
 
 pub white_run_goes : (r : Reader) (bs : List ℕ) (k : ℕ) → IsSound r → TakesWhite (state_of r).place → 0 < length bs → k ≤ length bs - 1
     → is_white (get_or bs 0 0) ≡ true → AllWhite (take k (take (length bs - 1) (drop 1 bs))) → Goes r (take (1 + k) bs) r
@@ -102,16 +102,17 @@ number_grows r q bs phase run sound place inside leads bytes stops there kept sa
     out = [];
     leads = leads_from r (Number phase) (take run.count bs) [] (state_of q) place
         (subst (λ p. Leads most_levels (place_at r (Number phase)) (take run.count bs) [] (place_at q p)) (sym there)
-            (subst (λ b. Leads most_levels (place_at r (Number phase)) (take run.count bs) [] (at (numeral b) (lists_of q))) (sym kept)
-                (subst (λ b. Leads most_levels (place_at r (Number phase)) (take run.count bs) [] (at (numeral (r.number.items ++ take run.count bs)) (kinds (building_of b)))) (sym same)
-                    (number_bytes_lead most_levels r.number.items (take run.count bs) (lists_of r) bytes))));
+        (subst (λ b. Leads most_levels (place_at r (Number phase)) (take run.count bs) [] (at (numeral b) (lists_of q))) (sym kept)
+        (subst (λ b. Leads most_levels (place_at r (Number phase)) (take run.count bs) [] (at (numeral (r.number.items ++ take run.count bs)) (kinds (building_of b)))) (sym same)
+        (number_bytes_lead most_levels r.number.items (take run.count bs) (lists_of r) bytes))));
     taken = ap (λ b. so_far (building_of b)) same ∙ sym (append-nil (handed_on r));
     sound = record {
       depth = depth ∙ sound.depth ∙ ap (λ b. length (kinds (building_of b))) (sym same);
       room = subst (λ n. n ≤ most_levels) (sym depth) sound.room;
-      keeps = subst (λ p. PlaceKeeps p q.number.items (lists_of q) (awaits_value (building_of q.builder))) (sym there)
-          (ap (λ b. awaits_value (building_of b)) same ∙ (kept_at r (Number phase) place sound).0,
-            subst (λ b. NumberLeads Start b run.phase) (sym kept) (numbers_joined Start phase run.phase r.number.items (take run.count bs) (kept_at r (Number phase) place sound).1 leads));
+      keeps = subst (λ p. PlaceKeeps p q.number.items (lists_of q) (awaits_value (building_of q.builder))) (sym there) (
+        ap (λ b. awaits_value (building_of b)) same ∙ (kept_at r (Number phase) place sound).0,
+        subst (λ b. NumberLeads Start b run.phase) (sym kept) (numbers_joined Start phase run.phase r.number.items (take run.count bs) (kept_at r (Number phase) place sound).1 leads),
+      );
     };
   };
   place = there;
@@ -131,8 +132,8 @@ number_of_phase r phase sound place whole = number_from_whole r.number.items pha
 pub number_halts : (r : Reader) (phase : Phase) (c : ℕ) → IsSound r → r.place ≡ Number phase → NumberStops phase c → (Tail phase [] → ⊥) → Stops most_levels (state_of r) c
 number_halts r phase c sound place stops not_whole =
     stops_from r (Number phase) c place
-        (number_stops most_levels r.number.items c (lists_of r) (λ n. not_whole (whole_from_number r.number.items phase (phase_of r phase sound place) n))
-            (stops_number r phase c sound place stops))
+    (number_stops most_levels r.number.items c (lists_of r) (λ n. not_whole (whole_from_number r.number.items phase (phase_of r phase sound place) n))
+    (stops_number r phase c sound place stops))
 
 -- the state behind a number that was handed on
 state_behind : (r h : Reader) → HandsNumber r h → state_of h ≡ at after (lists_of r)
@@ -143,8 +144,8 @@ state_behind r h hands =
 number_then_halts : (r h : Reader) (phase : Phase) (c : ℕ) → IsSound r → r.place ≡ Number phase → NumberStops phase c → HandsNumber r h → Stops most_levels (state_of h) c → Stops most_levels (state_of r) c
 number_then_halts r h phase c sound place stops hands halts =
     stops_from r (Number phase) c place (λ s es g.
-        let (fs, e, en) = number_over most_levels r.number.items hands.tree c (lists_of r) s es (stops_number r phase c sound place stops) (λ n x. one_node n hands.tree r.number.items x hands.is) g in
-        halts s fs (subst (λ x. Rest most_levels x (c ∷ s) fs) (sym (state_behind r h hands)) en))
+    let (fs, e, en) = number_over most_levels r.number.items hands.tree c (lists_of r) s es (stops_number r phase c sound place stops) (λ n x. one_node n hands.tree r.number.items x hands.is) g in
+    halts s fs (subst (λ x. Rest most_levels x (c ∷ s) fs) (sym (state_behind r h hands)) en))
 
 pub number_then : (r h q : Reader) (phase : Phase) (c : ℕ) (result : Result (Unit {0}) SyntaxRefusal) → IsSound r → r.place ≡ Number phase → NumberStops phase c → HandsNumber r h
     → TakesByte h c q result → TakesByte r c q result
@@ -152,8 +153,8 @@ number_then r h q phase c (Ok x) sound place stops hands g = record {
   out = events hands.tree [] ++ g.out;
   leads = leads_from r (Number phase) (c ∷ []) (events hands.tree [] ++ g.out) (state_of q) place
       (number_ends most_levels r.number.items hands.tree c (lists_of r) g.out (state_of q) (stops_number r phase c sound place stops)
-          (λ n x. one_node n hands.tree r.number.items x hands.is) hands.is (λ fs. number_event hands.tree r.number.items fs hands.is)
-          (subst (λ x. Leads most_levels x (c ∷ []) g.out (state_of q)) (state_behind r h hands) g.leads));
+      (λ n x. one_node n hands.tree r.number.items x hands.is) hands.is (λ fs. number_event hands.tree r.number.items fs hands.is)
+      (subst (λ x. Leads most_levels x (c ∷ []) g.out (state_of q)) (state_behind r h hands) g.leads));
   taken = g.taken ∙ ap (λ es. es ++ g.out) hands.taken ∙ append_assoc (handed_on r) (events hands.tree []) g.out;
   sound = g.sound;
 }
@@ -201,7 +202,7 @@ string_on r role t bs sound place on = record {
   out = [];
   leads = leads_from r (Text role) bs [] (state_of (record r { text = t })) place
       (subst (λ p. Leads most_levels (place_at r (Text role)) bs [] (place_at (record r { text = t }) p)) (sym place)
-          (string_goes most_levels role r.text.spot t.spot (text_of r.text) (text_of t) bs (lists_of r) (λ s u v. (on s u v).0) (λ s u v. (on s u v).1)));
+      (string_goes most_levels role r.text.spot t.spot (text_of r.text) (text_of t) bs (lists_of r) (λ s u v. (on s u v).0) (λ s u v. (on s u v).1)));
   taken = sym (append-nil (handed_on r));
   sound = record { depth = sound.depth; room = sound.room; keeps = sound.keeps };
 }
@@ -210,10 +211,10 @@ string_closes : (r h : Reader) (role : Role) (t : TextReader) (bs : List ℕ) �
     → Leads most_levels (place_at r (Text role)) bs (text_event_of role (text_of t) ∷ []) (place_at h (behind_text role))
 string_closes r h Key t bs whole hands =
     subst (λ ls. Leads most_levels (place_at r (Text Key)) bs (key_event (text_of t) ∷ []) (at colon ls)) (sym hands.lists)
-        (key_closes most_levels r.text.spot (text_of r.text) bs (text_of t) (lists_of r) (λ s u v x. let (a, b) = (whole s u v).0 x in (a, b)) (λ s. (whole s (text_of t) s).1 (refl, refl)))
+    (key_closes most_levels r.text.spot (text_of r.text) bs (text_of t) (lists_of r) (λ s u v x. let (a, b) = (whole s u v).0 x in (a, b)) (λ s. (whole s (text_of t) s).1 (refl, refl)))
 string_closes r h Whole t bs whole hands =
     subst (λ ls. Leads most_levels (place_at r (Text Whole)) bs (text_event (text_of t) ∷ []) (at after ls)) (sym hands.lists)
-        (text_closes most_levels r.text.spot (text_of r.text) bs (text_of t) (lists_of r) (λ s u v x. let (a, b) = (whole s u v).0 x in (a, b)) (λ s. (whole s (text_of t) s).1 (refl, refl)))
+    (text_closes most_levels r.text.spot (text_of r.text) bs (text_of t) (lists_of r) (λ s u v x. let (a, b) = (whole s u v).0 x in (a, b)) (λ s. (whole s (text_of t) s).1 (refl, refl)))
 
 pub string_over : (r h : Reader) (role : Role) (t : TextReader) (bs : List ℕ) → r.place ≡ Text role → ReadsWhole r.text t bs → HandsText role (record r { text = t }) h → Goes r bs h
 string_over r h role t bs place whole hands = record {
@@ -228,8 +229,8 @@ pub string_none : (r : Reader) (role : Role) (bs : List ℕ) (i : ℕ) → r.pla
     → ((s t v : List ℕ) → TextRest r.text.spot (text_of r.text) (take (i + 1) bs ++ s) t v → ⊥) → NoneGoesOn r bs
 string_none r role bs i place stops s es h =
     string_no_rest most_levels role r.text.spot (text_of r.text) (lists_of r) (bs ++ s) es
-        (λ t v x. stops (drop (i + 1) bs ++ s) t v (subst (λ u. TextRest r.text.spot (text_of r.text) u t v) (cut_at bs s (i + 1)) x))
-        (subst (λ p. Rest most_levels (place_at r p) (bs ++ s) es) place h)
+    (λ t v x. stops (drop (i + 1) bs ++ s) t v (subst (λ u. TextRest r.text.spot (text_of r.text) u t v) (cut_at bs s (i + 1)) x))
+    (subst (λ p. Rest most_levels (place_at r p) (bs ++ s) es) place h)
 
 -- the end of the bytes
 pub number_cut_short : (r : Reader) (phase : Phase) → IsSound r → r.place ≡ Number phase → (0 < r.depth) ⊎ (Tail phase [] → ⊥) → (es : List NodeEvent) → Rest most_levels (state_of r) [] es → ⊥
@@ -247,7 +248,7 @@ owed_at r p place owed es h =
 text_owed : (r : Reader) (role : Role) → r.place ≡ Text role → (es : List NodeEvent) → Rest most_levels (state_of r) [] es → ⊥
 text_owed r role place es h =
     string_no_rest most_levels role r.text.spot (text_of r.text) (lists_of r) [] es (λ t v x. string_owed r.text.spot (text_of r.text) t v r.text.live x)
-        (subst (λ q. Rest most_levels (place_at r q) [] es) place h)
+    (subst (λ q. Rest most_levels (place_at r q) [] es) place h)
 
 cut_at_place : (r : Reader) (p : Place) → r.place ≡ p → IsSound r → ((phase : Phase) → p ≡ Number phase → ⊥) → (p ≡ After → 0 < r.depth) → (es : List NodeEvent) → Rest most_levels (state_of r) [] es → ⊥
 cut_at_place r Value place sound n d es h = owed_at r Value place tt es h
@@ -291,7 +292,7 @@ letter_goes r w taken c sound place inside same =
       out = [];
       leads = leads_from r (Word w taken) (c ∷ []) [] (place_at r (Word w (taken + 1))) place (letter_leads most_levels w taken c (lists_of r) cut);
       taken = sym (append-nil (handed_on r));
-      sound = record { depth = sound.depth; room = sound.room; keeps = ((kept_at r (Word w taken) place sound).0, inside); };
+      sound = record { depth = sound.depth; room = sound.room; keeps = ((kept_at r (Word w taken) place sound).0, inside) };
     }
 
 -- the last letter of a literal name
@@ -299,13 +300,13 @@ pub word_over : (r q : Reader) (w : Literal) (taken c : ℕ) → r.place ≡ Wor
     → q.place ≡ After → lists_of q ≡ lists_of r → handed_on q ≡ handed_on r ++ events (literal_node w) [] → IsSound q → Goes r (c ∷ []) q
 word_over r q w taken c place inside last same there lists spoken sound =
     let cut : drop taken (letters w) ≡ c ∷ [] =
-        drop_more (letters w) taken 0 inside ∙ ap (λ x. get_or (letters w) taken 0 ∷ x) (drop_all (taken + 1) (letters w) last) ∙ ap (λ x. x ∷ []) same in
+    drop_more (letters w) taken 0 inside ∙ ap (λ x. get_or (letters w) taken 0 ∷ x) (drop_all (taken + 1) (letters w) last) ∙ ap (λ x. x ∷ []) same in
     record {
       out = events (literal_node w) [];
       leads = leads_from r (Word w taken) (c ∷ []) (events (literal_node w) []) (state_of q) place
           (subst (λ p. Leads most_levels (place_at r (Word w taken)) (c ∷ []) (events (literal_node w) []) (place_at q p)) (sym there)
-              (subst (λ ls. Leads most_levels (place_at r (Word w taken)) (c ∷ []) (events (literal_node w) []) (at after ls)) (sym lists)
-                  (word_ends most_levels w taken c (lists_of r) cut)));
+          (subst (λ ls. Leads most_levels (place_at r (Word w taken)) (c ∷ []) (events (literal_node w) []) (at after ls)) (sym lists)
+          (word_ends most_levels w taken c (lists_of r) cut)));
       taken = spoken;
       sound = sound;
     }
@@ -324,7 +325,7 @@ turn_grows q x bs n h = h.0
 starts_none : (r : Reader) (bs : List ℕ) → state_of r ≡ start → NoneGoesOn r bs → IsNoText bs
 starts_none r bs begins none n (text, room) =
     none [] (events n []) (subst (λ x. Rest most_levels x (bs ++ []) (events n [])) (sym begins)
-        (subst (λ u. Rest most_levels start u (events n [])) (sym (append-nil bs)) (text_start most_levels bs n text room)))
+    (subst (λ u. Rest most_levels start u (events n [])) (sym (append-nil bs)) (text_start most_levels bs n text room)))
 
 pub feed_refused : (r q : Reader) (bs : List ℕ) (refusal : SyntaxRefusal) → state_of r ≡ start → TakesAll r bs q (Err refusal) → ReadsTree bs (Err refusal)
 feed_refused r q bs (Bad p) begins h = starts_none r bs begins h.1
@@ -336,7 +337,7 @@ feed_refused r q bs NoMemory begins h = tt
 begun_leads : (r q : Reader) (bs : List ℕ) (goes : Goes r bs q) → state_of r ≡ start → handed_on r ≡ [] → Leads most_levels start bs (handed_on q) (state_of q)
 begun_leads r q bs goes begins nothing =
     subst (λ out. Leads most_levels start bs out (state_of q)) (sym (goes.taken ∙ ap (λ es. es ++ goes.out) nothing))
-        (subst (λ x. Leads most_levels x bs goes.out (state_of q)) begins goes.leads)
+    (subst (λ x. Leads most_levels x bs goes.out (state_of q)) begins goes.leads)
 
 pub tree_read : (r q : Reader) (bs : List ℕ) (result : Result Tree SyntaxRefusal) → state_of r ≡ start → handed_on r ≡ [] → Goes r bs q → Finishes q result → ReadsTree bs result
 tree_read r q bs (Ok tree) begins nothing goes (last, rest, e) =

@@ -149,16 +149,16 @@ white_leads limit x c p w = record {
 pub whites_grow : (bs : List ℕ) (i : ℕ) → i < length bs → is_white (get_or bs i 0) ≡ true → AllWhite (take i bs) → AllWhite (take (i + 1) bs)
 whites_grow bs i inside here before = subst AllWhite (sym (take_more bs i 0 inside)) (whites_joined (take i bs) (get_or bs i 0) before here)
   where
-  whites_joined : (ws : List ℕ) (c : ℕ) → AllWhite ws → is_white c ≡ true → AllWhite (ws ++ c ∷ [])
-  whites_joined [] c h w = (w, tt)
-  whites_joined (d ∷ ws) c h w = (h.0, whites_joined ws c h.1 w)
+    whites_joined : (ws : List ℕ) (c : ℕ) → AllWhite ws → is_white c ≡ true → AllWhite (ws ++ c ∷ [])
+    whites_joined [] c h w = (w, tt)
+    whites_joined (d ∷ ws) c h w = (h.0, whites_joined ws c h.1 w)
 
 -- a run of white space leads from such a state to itself
 pub whites_lead : (limit : ℕ) (x : State) (ws : List ℕ) → TakesWhite x.place → AllWhite ws → Leads limit x ws [] x
-whites_lead limit x [] p h = record { onward = λ s es r. (es, refl, r); back = λ s fs r. r; }
+whites_lead limit x [] p h = record { onward = λ s es r. (es, refl, r); back = λ s fs r. r }
 whites_lead limit x (c ∷ ws) p h = record {
   onward = λ s es r.
-    let (fs, e, r1) = (white_leads limit x c p h.0).onward (ws ++ s) es r in
-    let (gs, e1, r2) = (whites_lead limit x ws p h.1).onward s fs r1 in (gs, e ∙ e1, r2);
+      let (fs, e, r1) = (white_leads limit x c p h.0).onward (ws ++ s) es r in
+      let (gs, e1, r2) = (whites_lead limit x ws p h.1).onward s fs r1 in (gs, e ∙ e1, r2);
   back = λ s fs r. (white_leads limit x c p h.0).back (ws ++ s) fs ((whites_lead limit x ws p h.1).back s fs r);
 }

@@ -15,16 +15,16 @@ use Rattle.sm_json.proofs.Opening.{at}
 
 -- no byte leads from a state to itself, and two steps join to one
 pub leads_none : (limit : ℕ) (x : State) → Leads limit x [] [] x
-leads_none limit x = record { onward = λ s es h. (es, refl, h); back = λ s fs h. h; }
+leads_none limit x = record { onward = λ s es h. (es, refl, h); back = λ s fs h. h }
 
 pub leads_joined : (limit : ℕ) (x y z : State) (v w : List ℕ) (out more : List NodeEvent) → Leads limit x v out y → Leads limit y w more z → Leads limit x (v ++ w) (out ++ more) z
 leads_joined limit x y z v w out more h g = record {
   onward = λ s es rest.
-    let (fs, e, rest1) = h.onward (w ++ s) es (subst (λ u. Rest limit x u es) (append_assoc v w s) rest) in
-    let (gs, e1, rest2) = g.onward s fs rest1 in
-    (gs, e ∙ ap (λ u. out ++ u) e1 ∙ sym (append_assoc out more gs), rest2);
+      let (fs, e, rest1) = h.onward (w ++ s) es (subst (λ u. Rest limit x u es) (append_assoc v w s) rest) in
+      let (gs, e1, rest2) = g.onward s fs rest1 in
+      (gs, e ∙ ap (λ u. out ++ u) e1 ∙ sym (append_assoc out more gs), rest2);
   back = λ s fs rest.
-    subst (λ u. Rest limit x u ((out ++ more) ++ fs)) (sym (append_assoc v w s))
+      subst (λ u. Rest limit x u ((out ++ more) ++ fs)) (sym (append_assoc v w s))
       (subst (λ u. Rest limit x (v ++ (w ++ s)) u) (sym (append_assoc out more fs)) (h.back (w ++ s) (more ++ fs) (g.back s fs rest)));
 }
 

@@ -37,10 +37,10 @@ word_ends limit w taken c ks d = record {
   back = λ s fs en. (s, fs, ap (λ x. x ++ s) (sym d), en, sym (literal_event w fs));
 }
   where
-  literal_event : (w : Literal) (fs : List NodeEvent) → events (literal_node w) fs ≡ events (literal_node w) [] ++ fs
-  literal_event Literal.Null fs = refl
-  literal_event Literal.True fs = refl
-  literal_event Literal.False fs = refl
+    literal_event : (w : Literal) (fs : List NodeEvent) → events (literal_node w) fs ≡ events (literal_node w) [] ++ fs
+    literal_event Literal.Null fs = refl
+    literal_event Literal.True fs = refl
+    literal_event Literal.False fs = refl
 
 pub word_stops : (limit : ℕ) (w : Literal) (taken c d : ℕ) (ks : List OpenKind) → drop taken (letters w) ≡ d ∷ drop (taken + 1) (letters w) → c ≢ d
     → Stops limit (at (word w taken) ks) c
@@ -113,12 +113,19 @@ pub number_ends : (limit : ℕ) (b : List ℕ) (m : Node) (c : ℕ) (ks : List O
     → Leads limit (at after ks) (c ∷ []) out x → Leads limit (at (numeral b) ks) (c ∷ []) (events m [] ++ out) x
 number_ends limit b m c ks out x stop one is leaf h = record {
   onward = λ s es g.
-    let (fs, e, en) = number_over limit b m c ks s es stop one g in
-    let (gs, e1, rest) = h.onward s fs en in
-    (gs, e ∙ leaf fs ∙ ap (λ y. events m [] ++ y) e1 ∙ sym (append_assoc (events m []) out gs), rest);
-  back = λ s fs g.
-    (m, [], c ∷ s, out ++ fs, refl, subst (NumberText m) (sym (append-nil b)) is, h.back s fs g,
-      append_assoc (events m []) out fs ∙ sym (leaf (out ++ fs)));
+      let (fs, e, en) = number_over limit b m c ks s es stop one g in
+      let (gs, e1, rest) = h.onward s fs en in
+      (gs, e ∙ leaf fs ∙ ap (λ y. events m [] ++ y) e1 ∙ sym (append_assoc (events m []) out gs), rest);
+  back = λ s fs g. (
+    m,
+    [],
+    c ∷ s,
+    out ++ fs,
+    refl,
+    subst (NumberText m) (sym (append-nil b)) is,
+    h.back s fs g,
+    append_assoc (events m []) out fs ∙ sym (leaf (out ++ fs)),
+  );
 }
 
 -- a number that has not ended, and a byte that it doesn't go on with
@@ -171,8 +178,8 @@ pub key_closes : (limit : ℕ) (old : Spot) (b w name : List ℕ) (ks : List Ope
     → Leads limit (at (in_text Key old b) ks) w (key_event name ∷ []) (at colon ks)
 key_closes limit old b w name ks onward back = record {
   onward = λ s es (t, r, fs, h, co, e).
-    let (same, rest) = onward s t r h in
-    (fs, e ∙ ap (λ x. key_event x ∷ fs) same, subst (λ x. ColonComes limit ks x fs) (sym rest) co);
+      let (same, rest) = onward s t r h in
+      (fs, e ∙ ap (λ x. key_event x ∷ fs) same, subst (λ x. ColonComes limit ks x fs) (sym rest) co);
   back = λ s fs co. (name, s, fs, back s, co, refl);
 }
 
@@ -182,8 +189,8 @@ pub text_closes : (limit : ℕ) (old : Spot) (b w t1 : List ℕ) (ks : List Open
     → Leads limit (at (in_text Value old b) ks) w (text_event t1 ∷ []) (at after ks)
 text_closes limit old b w t1 ks onward back = record {
   onward = λ s es (t, r, fs, h, en, e).
-    let (same, rest) = onward s t r h in
-    (fs, e ∙ ap (λ x. text_event x ∷ fs) same, subst (λ x. Ends limit ks x fs) (sym rest) en);
+      let (same, rest) = onward s t r h in
+      (fs, e ∙ ap (λ x. text_event x ∷ fs) same, subst (λ x. Ends limit ks x fs) (sym rest) en);
   back = λ s fs en. (t1, s, fs, back s, en, refl);
 }
 
@@ -195,14 +202,14 @@ string_stops limit Value spot b c ks stop s es (t, r, fs, h, rest, e) = stop s t
 -- a run of bytes of a number
 pub number_bytes_lead : (limit : ℕ) (b w : List ℕ) (ks : List OpenKind) → AreNumberBytes w → Leads limit (at (numeral b) ks) w [] (at (numeral (b ++ w)) ks)
 number_bytes_lead limit b [] ks h =
-    subst (λ x. Leads limit (at (numeral b) ks) [] [] (at (numeral x) ks)) (sym (append-nil b)) (record { onward = λ s es r. (es, refl, r); back = λ s fs r. r; })
+    subst (λ x. Leads limit (at (numeral b) ks) [] [] (at (numeral x) ks)) (sym (append-nil b)) (record { onward = λ s es r. (es, refl, r); back = λ s fs r. r })
 number_bytes_lead limit b (c ∷ w) ks h =
     let here = number_byte_leads limit b c ks h.0 in
     let more = number_bytes_lead limit (b ++ c ∷ []) w ks h.1 in
     subst (λ x. Leads limit (at (numeral b) ks) (c ∷ w) [] (at (numeral x) ks)) (append_assoc b (c ∷ []) w) (record {
       onward = λ s es r.
-        let (fs, e, r1) = here.onward (w ++ s) es r in
-        let (gs, e1, r2) = more.onward s fs r1 in (gs, e ∙ e1, r2);
+          let (fs, e, r1) = here.onward (w ++ s) es r in
+          let (gs, e1, r2) = more.onward s fs r1 in (gs, e ∙ e1, r2);
       back = λ s fs r. here.back (w ++ s) fs (more.back s fs r);
     })
 

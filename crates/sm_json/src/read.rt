@@ -317,7 +317,11 @@ impl Reader {
         requires place { self.old.place ≡ Place.After }
         ensures { TakesByte self.old byte self.new result }
     {
-        if is_white(byte) { Ok(()) } else { self.after(byte) }
+        if is_white(byte) {
+            Ok(())
+        } else {
+            self.after(byte)
+        }
     }
 
     // One more byte of a literal name.

@@ -42,15 +42,15 @@ fault_stops t s n path kind later NoMemory first ends = tt
 
 -- a tree that was read from the bytes
 pub tree_crosses : (t : Table) (s : ℕ) (n : Node) (body : List ℕ) (result : Result (Vec ℕ) Stop) → IsRead n body → TreeCrosses t s n result → CrossesOrStops t s body result
-tree_crosses t s n body (Ok far) read (v, spells, text) = record { tree = n; value = v; read = read; spells = spells; text = text; }
+tree_crosses t s n body (Ok far) read (v, spells, text) = record { tree = n; value = v; read = read; spells = spells; text = text }
 tree_crosses t s n body (Err (Refused line)) read (path, kind, later, first, printed) =
-    inr (record { tree = n; path = path; kind = kind; later = later; read = read; first = first; line = printed; })
+    inr (record { tree = n; path = path; kind = kind; later = later; read = read; first = first; line = printed })
 tree_crosses t s n body (Err (Limit line)) read h = h
 tree_crosses t s n body (Err ReadFault) read h = h
 tree_crosses t s n body (Err NoMemory) read h = tt
 
 pub text_stops : (t : Table) (s : ℕ) (body : List ℕ) (refusal : SyntaxRefusal) (stop : Stop) → ((n : Node) → IsRead n body → ⊥) → EndsWithLine (syntax_line refusal) stop → CrossesOrStops t s body (Err stop)
-text_stops t s body refusal (Refused line) none ends = inl (record { none = none; refusal = refusal; line = ends; })
+text_stops t s body refusal (Refused line) none ends = inl (record { none = none; refusal = refusal; line = ends })
 text_stops t s body refusal (Limit line) none ends = ends
 text_stops t s body refusal ReadFault none ends = ends
 text_stops t s body refusal NoMemory none ends = tt
@@ -86,10 +86,10 @@ no_json_name name file no_name m is = no_name is.is_json
 
 pub file_opens : (told : Option Folder) (name file : List ℕ) (before now : ℕ) (read : FirstModel) → Holds told name (Some file) → ReadsModelFile name file (Ok (Some read)) → Opens told name before now (Ok read)
 file_opens told name file before now read held (json, (n, is_read, model)) =
-    (model.model, record { file = file; held = held; model = record { is_json = json; tree = n; read = is_read; form = model.form; }; tabled = model.tabled; shaped = model.shaped; }, model.names)
+    (model.model, record { file = file; held = held; model = record { is_json = json; tree = n; read = is_read; form = model.form }; tabled = model.tabled; shaped = model.shaped }, model.names)
 
 pub file_unbuilt : (told : Option Folder) (name file : List ℕ) (before now : ℕ) (stop : Stop) → Holds told name (Some file) → IsUnbuilt name file → EndsWithLine (unbuilt_line name) stop → Opens told name before now (Err stop)
-file_unbuilt told name file before now (Refused line) held unbuilt ends = record { file = file; held = held; unbuilt = unbuilt; line = ends; }
+file_unbuilt told name file before now (Refused line) held unbuilt ends = record { file = file; held = held; unbuilt = unbuilt; line = ends }
 file_unbuilt told name file before now (Limit line) held unbuilt ends = absurd ends
 file_unbuilt told name file before now ReadFault held unbuilt ends = absurd ends
 file_unbuilt told name file before now NoMemory held unbuilt ends = tt
@@ -103,7 +103,7 @@ file_past told name before now NoMemory long ends = tt
 -- the whole command
 pub shape_there : (told : Option Folder) (name shape : List ℕ) (m : List StructureLine) (read : FirstModel) (s : ℕ) → HasModel told name m read.table → read.names.items ≡ shape_names m
     → slice_get read.names.items s ≡ Some shape → HasShape told name shape read.table s
-shape_there told name shape m read s model names found = record { m = m; model = model; named = ap (λ xs. slice_get xs s) (sym names) ∙ found; }
+shape_there told name shape m read s model names found = record { m = m; model = model; named = ap (λ xs. slice_get xs s) (sym names) ∙ found }
 
 pub body_stops : (told : Option Folder) (reads reads1 : ℕ) (left rest : Option (List ℕ)) (faults0 faults1 : ℕ) (name shape : List ℕ) (stop : Stop)
     → Opens told name reads reads1 (Err stop) → BodyComesTo told reads reads1 left rest faults0 faults1 name shape (Err stop)
@@ -124,7 +124,7 @@ pub body_lacks : (told : Option Folder) (reads reads1 : ℕ) (left rest : Option
     → HasModel told name m read.table → read.names.items ≡ shape_names m → ((s : ℕ) → slice_get read.names.items s ≡ Some shape → ⊥) → EndsWithLine (no_shape_line shape) stop
     → BodyComesTo told reads reads1 left rest faults0 faults1 name shape (Err stop)
 body_lacks told reads reads1 left rest f0 f1 name shape m read (Refused line) model names none ends =
-    inr (inl (record { m = m; t = read.table; model = model; none = λ s is. none s (ap (λ xs. slice_get xs s) names ∙ is); line = ends; }))
+    inr (inl (record { m = m; t = read.table; model = model; none = λ s is. none s (ap (λ xs. slice_get xs s) names ∙ is); line = ends }))
 body_lacks told reads reads1 left rest f0 f1 name shape m read (Limit line) model names none ends = absurd ends
 body_lacks told reads reads1 left rest f0 f1 name shape m read ReadFault model names none ends = absurd ends
 body_lacks told reads reads1 left rest f0 f1 name shape m read NoMemory model names none ends = tt

@@ -177,7 +177,12 @@ fn open_model<F: Files>(alloc: Global, files: &mut F, name: &str) -> Result<Firs
 }
 
 // The canonical body of the whole input.
-fn cross_input<S: Source>(alloc: Global, table: &Table, shape: u32, input: &mut S) -> Result<Vec<u8>, Stop>
+fn cross_input<S: Source>(
+    alloc: Global,
+    table: &Table,
+    shape: u32,
+    input: &mut S,
+) -> Result<Vec<u8>, Stop>
     requires shaped { Shaped table.now }
     requires shape { shape < shape_count table.now }
     ensures crosses { CrossesInput (S.left input.old) (S.left input.new) (S.faults input.old) (S.faults input.new) table.now shape result }
@@ -198,7 +203,12 @@ fn cross_input<S: Source>(alloc: Global, table: &Table, shape: u32, input: &mut 
 /// In this order: a file that can't be read or is too long, a file that holds no model, a model without
 /// the shape, an input that can't be read or is too long, a body that is no text or has a fault; and want
 /// of memory.
-pub fn body<F: Files, S: Source>(alloc: Global, words: BodyWords<'_>, files: &mut F, input: &mut S) -> Result<Vec<u8>, Stop>
+pub fn body<F: Files, S: Source>(
+    alloc: Global,
+    words: BodyWords<'_>,
+    files: &mut F,
+    input: &mut S,
+) -> Result<Vec<u8>, Stop>
     requires { F.lets_read files.old words.model.now }
     ensures { BodyComesTo (F.held files.old) (F.read_faults files.old) (F.read_faults files.new) (S.left input.old) (S.left input.new) (S.faults input.old) (S.faults input.new) words.entry.model.now words.entry.shape.now result }
 {

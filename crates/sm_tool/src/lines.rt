@@ -10,7 +10,10 @@ use std::alloc::Global;
 pub fn line(alloc: Global, word: &str, text: &str) -> Result<Vec<u8>, NoMemory>
     ensures { IfOk result (λ line. line.items ≡ the_line word.now text.now) }
 {
-    let mut line = Vec::with_capacity(alloc, word.len().saturating_add(text.len()).saturating_add(2))?;
+    let mut line = Vec::with_capacity(
+        alloc,
+        word.len().saturating_add(text.len()).saturating_add(2),
+    )?;
     line.extend_from_slice(word.as_bytes())?;
     line.push(b' ')?;
     line.extend_from_slice(text.as_bytes())?;

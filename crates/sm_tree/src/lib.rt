@@ -3,8 +3,8 @@
 #![tactic(auto)]
 
 mod build;
-pub mod laws_of_events;
 pub mod laws;
+pub mod laws_of_events;
 mod path;
 mod refusal;
 mod text;

@@ -15,4 +15,4 @@ pub returns-in-Fault : goal.returns-in-Fault
 returns-in-Fault c =
     let first = rw c.in-Fault.is at c.in-Err.ensures in
     fault_stops c.args.table.now c.args.shape (node_of c.args.tree.now) c.in-Fault.fault.path c.in-Fault.fault.kind first.0 c.refused.result first.1
-        (c.refused.ensures (fault_line c.in-Fault.fault.path c.in-Fault.fault.kind) c.fault_line.ensures)
+    (c.refused.ensures (fault_line c.in-Fault.fault.path c.in-Fault.fault.kind) c.fault_line.ensures)

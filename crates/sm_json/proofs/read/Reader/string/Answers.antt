@@ -11,9 +11,12 @@ returns-in_ok-hand_text-in-Ok-Closed c =
 
 pub returns-in-Ok-Open : goal.returns-in-Ok-Open
 returns-in-Ok-Open c =
-    let on = rw c.in-Ok-Open.field-0-is at c.in-Ok-Open.ensures in
-    (c.requires.some, omega arith, subst (λ ws. Goes c.args.self.now ws (record c.args.self.now { text = c.read.new.self })) (sym (take_all (length c.args.bytes.now) c.args.bytes.now (omega arith)))
-        (string_on c.args.self.now c.args.role c.read.new.self c.args.bytes.now c.requires.sound c.requires.place on))
+    let on = rw c.in-Ok-Open.field-0-is at c.in-Ok-Open.ensures in (
+      c.requires.some,
+      omega arith,
+      subst (λ ws. Goes c.args.self.now ws (record c.args.self.now { text = c.read.new.self })) (sym (take_all (length c.args.bytes.now) c.args.bytes.now (omega arith)))
+          (string_on c.args.self.now c.args.role c.read.new.self c.args.bytes.now c.requires.sound c.requires.place on),
+    )
 
 pub returns-in-Err : goal.returns-in-Err
 returns-in-Err c =

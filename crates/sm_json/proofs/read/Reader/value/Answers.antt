@@ -3,6 +3,8 @@ use Rattle.sm_json.proofs.Readers.{value_halts}
 use Rattle.sm_json.proofs.read.Reader.value.Goals as goal
 
 pub returns-in-None : goal.returns-in-None
-returns-in-None c =
-    (refl, value_halts c.args.self.now c.args.byte c.requires.place c.requires.black (λ e. omega arith) (λ e. omega arith) (λ e. omega arith)
-        (λ e. omega arith) (λ e. omega arith) (λ e. omega arith) c.in-None.ensures)
+returns-in-None c = (
+  refl,
+  value_halts c.args.self.now c.args.byte c.requires.place c.requires.black (λ e. omega arith) (λ e. omega arith) (λ e. omega arith)
+      (λ e. omega arith) (λ e. omega arith) (λ e. omega arith) c.in-None.ensures,
+)
