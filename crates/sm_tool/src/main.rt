@@ -6,6 +6,8 @@ mod codec;
 mod command;
 mod lines;
 mod model;
+#[cfg(test)]
+mod tests;
 mod words;
 
 use crate::command::{Status, run};
