@@ -6,6 +6,7 @@ ghost use Rattle.sm_tool.specs.Run.{code_of, PutEnds, Prints, RunAnswers};
 use crate::body::{Stop, body};
 use crate::words::form_of;
 use sm_io::{Files, PutRefusal, Sink, Source};
+use sm_shapes::Patterns;
 use sm_tree::Text;
 use std::alloc::Global;
 
@@ -72,16 +73,19 @@ fn print<K: Sink>(out: &mut K, came: Result<Vec<u8>, Stop>) -> Status
 }
 
 /// Does what the words ask for, and answers the status of the process. `body MODELFILE SHAPE json json`
-/// prints the canonical body of the value that the input spells, or a line that says what is refused.
-pub fn run<F: Files, S: Source, K: Sink>(
+/// prints the canonical body of the value that the input spells, or a line that says what is refused. No
+/// model that is read today has patterns, so the store stays as it is.
+pub fn run<F: Files, S: Source, K: Sink, P: Patterns>(
     alloc: Global,
     words: &[Text],
     files: &mut F,
     input: &mut S,
     out: &mut K,
+    patterns: &mut P,
 ) -> u8
     requires { LetsModel (F.lets_read files.old) words.now }
-    ensures { RunAnswers words.now (F.held files.old) (F.read_faults files.old) (F.read_faults files.new) (S.left input.old) (S.left input.new) (S.faults input.old) (S.faults input.new) (K.written out.old) (K.written out.new) (K.faults out.old) (K.faults out.new) result }
+    ensures answers { RunAnswers words.now (F.held files.old) (F.read_faults files.old) (F.read_faults files.new) (S.left input.old) (S.left input.new) (S.faults input.old) (S.faults input.new) (K.written out.old) (K.written out.new) (K.faults out.old) (K.faults out.new) result }
+    ensures patterns { P.added patterns.new ≡ P.added patterns.old }
 {
     match form_of(words) {
         Some(words) => {

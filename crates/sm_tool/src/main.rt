@@ -12,6 +12,7 @@ mod words;
 
 use crate::command::{Status, run};
 use sm_io::{DiskFiles, StdSink, StdSource};
+use sm_shapes::LiteralPatterns;
 use sm_tree::Text;
 use std::alloc::Global;
 use std::env;
@@ -74,7 +75,15 @@ fn answer(rt: &HostRuntime, words: &[Text]) -> u8 {
     let mut files = DiskFiles::new(alloc, *rt);
     let mut input = StdSource::new(rt.stdin());
     let mut out = StdSink::new(rt.stdout());
-    run(alloc, words, &mut files, &mut input, &mut out)
+    let mut patterns = LiteralPatterns::new(alloc, Vec::new(alloc));
+    run(
+        alloc,
+        words,
+        &mut files,
+        &mut input,
+        &mut out,
+        &mut patterns,
+    )
 }
 
 fn main(rt: HostRuntime) -> ExitCode {

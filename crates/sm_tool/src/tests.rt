@@ -2,6 +2,7 @@
 // work is done where memory is ample, and the printed texts as a user sees them.
 use crate::command::run;
 use sm_io::{MemFiles, MemSink, MemSource};
+use sm_shapes::LiteralPatterns;
 use sm_tree::Text;
 use std::alloc::Global;
 use std::test::Fail;
@@ -40,7 +41,15 @@ fn ended(
     let mut files = shop_files(alloc, failing_reads)?;
     let mut source = MemSource::new(input.as_bytes().to_vec(alloc)?, Vec::new(alloc), failing_takes);
     let mut sink = MemSink::new(alloc, failing_puts);
-    let status = run(alloc, words.as_slice(), &mut files, &mut source, &mut sink);
+    let mut patterns = LiteralPatterns::new(alloc, Vec::new(alloc));
+    let status = run(
+        alloc,
+        words.as_slice(),
+        &mut files,
+        &mut source,
+        &mut sink,
+        &mut patterns,
+    );
     Ok((status, sink.bytes().to_vec(alloc)?))
 }
 
