@@ -1,5 +1,5 @@
 -- Patterns that stand for themselves, and the calls in which a store of them refuses.
-use Rattle.std.specs.Prelude.{◌≡◌, ◌++◌, ◌∷◌, ◌+◌, ◌-◌, ◌^◌, ◌==◌, [], ℕ, List, Bool, min, true}
+use Rattle.std.specs.Prelude.{◌≡◌, ◌++◌, ◌∷◌, ◌+◌, ◌-◌, ◌^◌, ◌==◌, [], ℕ, List, Bool, min, true, if◌then◌else◌}
 use Rattle.std.specs.List.{list_any, starts_with}
 
 -- the pattern is a contiguous part of the text

@@ -9,7 +9,7 @@ Rose before now = min (before + 1) (2 ^ 64 - 1) ≤ now
 -- a pattern is added behind those before, and their count is its number; a refusal adds none
 abbrev pub Adds : List (List ℕ) → List (List ℕ) → List ℕ → Result ℕ PatternRefusal → Type 0
 Adds before now text (Ok number) = (number ≡ length before) × (now ≡ before ++ text ∷ [])
-Adds before now text (Err refusal) = now ≡ before
+Adds before now text (Err _) = now ≡ before
 
 -- the text of the pattern with this number
 abbrev pub pattern_text : List (List ℕ) → ℕ → List ℕ
