@@ -4,3 +4,6 @@ pub mod Tables
 pub mod Fits
 pub mod Words
 pub mod Weight
+pub mod Patterns
+pub mod Literals
+pub mod LiteralStore

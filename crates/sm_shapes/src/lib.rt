@@ -1,11 +1,18 @@
-// Tables of shapes, values, and the faults of a tree for a shape. A table is what a model's shapes come to
-// once names are numbers. The codec, and all that carries values, stand on it.
+// Tables of shapes, values, the faults of a tree for a shape, and stores of patterns. A table is what a
+// model's shapes come to once names are numbers. The codec, and all that carries values, stand on it.
 #![tactic(auto)]
 
 mod fault;
+mod literal_patterns;
+mod patterns;
 mod table;
 mod value;
 
 pub use fault::{Fault, FaultKind};
+pub use literal_patterns::LiteralPatterns;
+pub use patterns::{PatternRefusal, Patterns};
 pub use table::{ShapeKind, Table, TableMember, TableShape};
 pub use value::{Fields, Value};
+
+#[cfg(test)]
+mod tests;
