@@ -127,8 +127,20 @@ fn second_add_is_refused_and_numbers_have_no_gap(rt: HostRuntime) -> Result<(), 
         Err(PatternRefusal::Refused)
     );
     assert_eq!(rt; add_all(&mut patterns, &["z", "w"]), Ok(2));
-    assert_eq!(rt; patterns.finds(1, "z").ok(), Some(true));
-    assert_eq!(rt; patterns.finds(1, "y").ok(), Some(false));
-    assert_eq!(rt; patterns.finds(2, "vw").ok(), Some(true));
+    Ok(())
+}
+
+#[test]
+fn a_pattern_is_found_under_the_number_that_its_add_gave(rt: HostRuntime) -> Result<(), Fail> {
+    let alloc = rt.alloc();
+    let mut patterns = LiteralPatterns::new(alloc, Vec::new(alloc));
+    match patterns.add("x") {
+        Ok(number) => assert_eq!(rt; patterns.finds(number, "yx").ok(), Some(true)),
+        Err(_) => assert!(rt; false, "the first is added"),
+    }
+    match patterns.add("z") {
+        Ok(number) => assert_eq!(rt; patterns.finds(number, "yx").ok(), Some(false)),
+        Err(_) => assert!(rt; false, "the second is added"),
+    }
     Ok(())
 }
