@@ -7,7 +7,8 @@ use sm_tree::Text;
 use std::alloc::Global;
 use std::test::Fail;
 
-const SHOP: &str = r#"{"smithy":"2.0","shapes":{"shop#Item":{"type":"structure","members":{"id":{"target":"smithy.api#String","traits":{"smithy.api#required":{}}},"sold":{"target":"smithy.api#Boolean"},"count":{"target":"smithy.api#Integer"},"total":{"target":"smithy.api#Long"}}}}}"#;
+const SHOP: &str =
+    r#"{"smithy":"2.0","shapes":{"shop#Item":{"type":"structure","members":{"id":{"target":"smithy.api#String","traits":{"smithy.api#required":{}}},"sold":{"target":"smithy.api#Boolean"},"count":{"target":"smithy.api#Integer"},"total":{"target":"smithy.api#Long"}}}}}"#;
 
 const BODY: &str = r#"{ "total": -7, "x": null, "id": "a\u0062", "sold": true }"#;
 
@@ -23,8 +24,14 @@ fn words_of(alloc: Global, line: &[&str]) -> Result<Vec<Text>, Fail> {
 // Files in memory: the model of a shop, under both names.
 fn shop_files(alloc: Global, failing: Vec<u64>) -> Result<MemFiles, Fail> {
     let mut files = Vec::new(alloc);
-    files.push((String::from_str(alloc, "shop.json")?, SHOP.as_bytes().to_vec(alloc)?))?;
-    files.push((String::from_str(alloc, "m.smithy")?, SHOP.as_bytes().to_vec(alloc)?))?;
+    files.push((
+        String::from_str(alloc, "shop.json")?,
+        SHOP.as_bytes().to_vec(alloc)?,
+    ))?;
+    files.push((
+        String::from_str(alloc, "m.smithy")?,
+        SHOP.as_bytes().to_vec(alloc)?,
+    ))?;
     Ok(MemFiles::new(alloc, files, failing))
 }
 
@@ -39,7 +46,11 @@ fn ended(
 ) -> Result<(u8, Vec<u8>), Fail> {
     let words = words_of(alloc, line)?;
     let mut files = shop_files(alloc, failing_reads)?;
-    let mut source = MemSource::new(input.as_bytes().to_vec(alloc)?, Vec::new(alloc), failing_takes);
+    let mut source = MemSource::new(
+        input.as_bytes().to_vec(alloc)?,
+        Vec::new(alloc),
+        failing_takes,
+    );
     let mut sink = MemSink::new(alloc, failing_puts);
     let mut patterns = LiteralPatterns::new(alloc, Vec::new(alloc));
     let status = run(
@@ -55,23 +66,40 @@ fn ended(
 
 // The same where nothing fails.
 fn calm(alloc: Global, line: &[&str], input: &str) -> Result<(u8, Vec<u8>), Fail> {
-    ended(alloc, line, input, Vec::new(alloc), Vec::new(alloc), Vec::new(alloc))
+    ended(
+        alloc,
+        line,
+        input,
+        Vec::new(alloc),
+        Vec::new(alloc),
+        Vec::new(alloc),
+    )
 }
 
 #[test]
-fn a_body_is_printed_in_its_canonical_form_or_refused_with_its_line(rt: HostRuntime) -> Result<(), Fail> {
+fn a_body_is_printed_in_its_canonical_form_or_refused_with_its_line(
+    rt: HostRuntime,
+) -> Result<(), Fail> {
     let alloc = rt.alloc();
     let shop = ["body", "shop.json", "shop#Item", "json", "json"];
     for (input, printed, status) in [
         (BODY, r#"{"id":"ab","sold":true,"total":-7}"#, 0),
         (r#"{"count":2147483648,"id":5}"#, "Fault /id Type\n", 1),
-        (r#"{"id":"a","count":2147483648}"#, "Fault /count Width\n", 1),
+        (
+            r#"{"id":"a","count":2147483648}"#,
+            "Fault /count Width\n",
+            1,
+        ),
         (r#"{"id":"a","id":"b"}"#, "Fault /id Repeated\n", 1),
         (r#"{"id":null}"#, "Fault /id Missing\n", 1),
         ("[]", "Fault  Type\n", 1),
         ("", "Syntax Ended\n", 1),
         (r#"{"id":"a",}"#, "Syntax Bad 10\n", 1),
-        (r#"{"id":"a","total":9223372036854775808}"#, "Fault /total Width\n", 1),
+        (
+            r#"{"id":"a","total":9223372036854775808}"#,
+            "Fault /total Width\n",
+            1,
+        ),
         (r#"{"id":"a","total":1.0}"#, "Fault /total Type\n", 1),
     ] {
         let (code, bytes) = calm(alloc, shop.as_slice(), input)?;
@@ -85,8 +113,16 @@ fn a_body_is_printed_in_its_canonical_form_or_refused_with_its_line(rt: HostRunt
 fn a_missing_shape_and_another_form_of_model_are_told(rt: HostRuntime) -> Result<(), Fail> {
     let alloc = rt.alloc();
     for (line, printed, status) in [
-        (["body", "shop.json", "shop#Itm", "json", "json"], "NoShape shop#Itm\n", 1),
-        (["body", "m.smithy", "shop#Item", "json", "json"], "Unbuilt m.smithy\n", 1),
+        (
+            ["body", "shop.json", "shop#Itm", "json", "json"],
+            "NoShape shop#Itm\n",
+            1,
+        ),
+        (
+            ["body", "m.smithy", "shop#Item", "json", "json"],
+            "Unbuilt m.smithy\n",
+            1,
+        ),
         (["body", "none.json", "shop#Item", "json", "json"], "", 3),
         (["body", "shop.json", "shop#Item", "json", "cbor"], "", 2),
         (["bodi", "shop.json", "shop#Item", "json", "json"], "", 2),
@@ -106,15 +142,36 @@ fn a_failing_read_take_or_put_has_its_status(rt: HostRuntime) -> Result<(), Fail
     let alloc = rt.alloc();
     let shop = ["body", "shop.json", "shop#Item", "json", "json"];
     let first = vec![in alloc; 1u64]?;
-    let (code, bytes) = ended(alloc, shop.as_slice(), BODY, first, Vec::new(alloc), Vec::new(alloc))?;
+    let (code, bytes) = ended(
+        alloc,
+        shop.as_slice(),
+        BODY,
+        first,
+        Vec::new(alloc),
+        Vec::new(alloc),
+    )?;
     assert_eq!(rt; code, 3);
     assert_eq!(rt; bytes.len(), 0);
     let second = vec![in alloc; 2u64]?;
-    let (code, bytes) = ended(alloc, shop.as_slice(), BODY, Vec::new(alloc), second, Vec::new(alloc))?;
+    let (code, bytes) = ended(
+        alloc,
+        shop.as_slice(),
+        BODY,
+        Vec::new(alloc),
+        second,
+        Vec::new(alloc),
+    )?;
     assert_eq!(rt; code, 3);
     assert_eq!(rt; bytes.len(), 0);
     let put = vec![in alloc; 1u64]?;
-    let (code, bytes) = ended(alloc, shop.as_slice(), BODY, Vec::new(alloc), Vec::new(alloc), put)?;
+    let (code, bytes) = ended(
+        alloc,
+        shop.as_slice(),
+        BODY,
+        Vec::new(alloc),
+        Vec::new(alloc),
+        put,
+    )?;
     assert_eq!(rt; code, 4);
     assert_eq!(rt; bytes.len(), 0);
     Ok(())
