@@ -1,5 +1,6 @@
 pub mod Node
 pub mod Levels
+pub mod Syntax
 pub mod Weight
 pub mod Numbers
 pub mod Json
