@@ -11,10 +11,14 @@ use Rattle.sm_io.specs.Causes.{Rose}
 use Rattle.sm_io.specs.Files.{Folder, Holds, HoldsLonger}
 use Rattle.sm_io.specs.Reading.{Empties}
 use Rattle.sm_tree.specs.Node.{Node}
+use Rattle.sm_tree.specs.Syntax.{IsRead}
+use Rattle.sm_tree.specs.SyntaxLaws.{IsRefused}
+use Rattle.sm_tree.proofs.OneAnswer.{refused_no_text}
 use Rattle.sm_tree.specs.declared.path.Step.{Step}
 use Rattle.sm_tree.specs.declared.NoMemory.{NoMemory as OutOfMemory}
 use Rattle.sm_tree.specs.declared.refusal.SyntaxRefusal.{SyntaxRefusal}
-use Rattle.sm_json.specs.Answers.{IsRead}
+use Rattle.sm_json.specs.JsonText.{JsonText}
+use Rattle.sm_json.specs.Answers.{ReadsTree}
 use Rattle.sm_json.proofs.OneTree.{one_tree}
 use Rattle.sm_shapes.specs.declared.table.Table.{Table}
 use Rattle.sm_shapes.specs.declared.fault.FaultKind.{FaultKind}
@@ -23,13 +27,13 @@ use Rattle.sm_tool.specs.Faults.{FaultAt, faults}
 use Rattle.sm_tool.specs.FirstForm.{StructureLine, FirstForm, shape_names}
 use Rattle.sm_tool.specs.ModelAnswers.{IsModel, ReadsModel}
 use Rattle.sm_tool.specs.Lines.{unbuilt_line, no_shape_line, fault_line, syntax_line, file_limit_line, body_limit_line}
-use Rattle.sm_tool.specs.Body.{EndsInJson, IsModelFile, IsUnbuilt, IsShape, Crosses, IsNoText, HasFault, CrossesOrStops, TreeCrosses, EndsWithLine, EndsWithLimit, ReadsModelFile, HasModel, HasNoModel, Opens, IsNoShape, HasShape, LacksShape, InputCrosses, InputRefused, CrossesInput, BodyComesTo}
+use Rattle.sm_tool.specs.Body.{EndsInJson, IsModelFile, IsUnbuilt, IsShape, Crosses, HasRefusal, HasFault, CrossesOrStops, TreeCrosses, EndsWithLine, EndsWithLimit, ReadsModelFile, HasModel, HasNoModel, Opens, IsNoShape, HasShape, LacksShape, InputCrosses, InputRefused, CrossesInput, BodyComesTo}
 use Rattle.sm_tool.specs.declared.model.structures.FirstModel.{FirstModel}
 use Rattle.sm_tool.specs.declared.body.Stop.{Stop}
 use Rattle.sm_tool.specs.declared.body.Stop.TheVariants.{Refused, Limit, ReadFault, NoMemory}
 
 -- bytes that are read are a text of one tree
-same_tree : (n m : Node) (bs : List ℕ) → IsRead n bs → IsRead m bs → n ≡ m
+same_tree : (n m : Node) (bs : List ℕ) → IsRead JsonText n bs → IsRead JsonText m bs → n ≡ m
 same_tree n m bs a b = one_tree n m bs a.0 b.0
 
 -- a fault of the tree, with its line
@@ -41,7 +45,7 @@ fault_stops t s n path kind later ReadFault first ends = ends
 fault_stops t s n path kind later NoMemory first ends = tt
 
 -- a tree that was read from the bytes
-pub tree_crosses : (t : Table) (s : ℕ) (n : Node) (body : List ℕ) (result : Result (Vec ℕ) Stop) → IsRead n body → TreeCrosses t s n result → CrossesOrStops t s body result
+pub tree_crosses : (t : Table) (s : ℕ) (n : Node) (body : List ℕ) (result : Result (Vec ℕ) Stop) → IsRead JsonText n body → TreeCrosses t s n result → CrossesOrStops t s body result
 tree_crosses t s n body (Ok far) read (v, spells, text) = record { tree = n; value = v; read = read; spells = spells; text = text }
 tree_crosses t s n body (Err (Refused line)) read (path, kind, later, first, printed) =
     inr (record { tree = n; path = path; kind = kind; later = later; read = read; first = first; line = printed })
@@ -49,7 +53,7 @@ tree_crosses t s n body (Err (Limit line)) read h = h
 tree_crosses t s n body (Err ReadFault) read h = h
 tree_crosses t s n body (Err NoMemory) read h = tt
 
-pub text_stops : (t : Table) (s : ℕ) (body : List ℕ) (refusal : SyntaxRefusal) (stop : Stop) → ((n : Node) → IsRead n body → ⊥) → EndsWithLine (syntax_line refusal) stop → CrossesOrStops t s body (Err stop)
+pub text_stops : (t : Table) (s : ℕ) (body : List ℕ) (refusal : SyntaxRefusal) (stop : Stop) → ((n : Node) → IsRead JsonText n body → ⊥) → EndsWithLine (syntax_line refusal) stop → CrossesOrStops t s body (Err stop)
 text_stops t s body refusal (Refused line) none ends = inl (record { none = none; refusal = refusal; line = ends })
 text_stops t s body refusal (Limit line) none ends = ends
 text_stops t s body refusal ReadFault none ends = ends
@@ -72,13 +76,13 @@ input_past left rest before now t s ReadFault long ends = absurd ends
 input_past left rest before now t s NoMemory long ends = tt
 
 -- the model that the tree of a file says
-pub model_read : (name file : List ℕ) (n : Node) (result : Result (Option FirstModel) OutOfMemory) → EndsInJson name → IsRead n file → ReadsModel n result → ReadsModelFile name file result
+pub model_read : (name file : List ℕ) (n : Node) (result : Result (Option FirstModel) OutOfMemory) → EndsInJson name → IsRead JsonText n file → ReadsModel n result → ReadsModelFile name file result
 model_read name file n (Ok (Some m)) json read h = (json, (n, read, h))
 model_read name file n (Ok None) json read h =
     λ m is. h m (subst (λ x. FirstForm x m) (same_tree is.tree n file is.read read) is.form)
 model_read name file n (Err e) json read h = tt
 
-pub no_model_text : (name file : List ℕ) → ((n : Node) → IsRead n file → ⊥) → IsUnbuilt name file
+pub no_model_text : (name file : List ℕ) → ((n : Node) → IsRead JsonText n file → ⊥) → IsUnbuilt name file
 no_model_text name file none m is = none is.tree is.read
 
 pub no_json_name : (name file : List ℕ) → (EndsInJson name → ⊥) → IsUnbuilt name file

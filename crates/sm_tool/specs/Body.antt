@@ -7,10 +7,12 @@ use Rattle.sm_io.specs.Files.{Folder, Holds, HoldsLonger}
 use Rattle.sm_io.specs.Reading.{Empties}
 use Rattle.sm_io.specs.Writing.{AppendsFront}
 use Rattle.sm_tree.specs.Node.{Node}
+use Rattle.sm_tree.specs.Syntax.{IsRead}
+use Rattle.sm_tree.specs.SyntaxLaws.{IsRefused}
 use Rattle.sm_tree.specs.declared.path.Step.{Step}
 use Rattle.sm_tree.specs.declared.NoMemory.{NoMemory as OutOfMemory}
 use Rattle.sm_tree.specs.declared.refusal.SyntaxRefusal.{SyntaxRefusal}
-use Rattle.sm_json.specs.Answers.{IsRead}
+use Rattle.sm_json.specs.JsonText.{JsonText}
 use Rattle.sm_json.specs.Written.{written}
 use Rattle.sm_shapes.specs.Val.{Val}
 use Rattle.sm_shapes.specs.declared.table.Table.{Table}
@@ -36,7 +38,7 @@ EndsInJson name = (stem : List ℕ) × (name ≡ stem ++ codes ".json")
 pub record IsModelFile (name file : List ℕ) (m : List StructureLine) : Type 0 where
   pub is_json : EndsInJson name
   pub tree : Node
-  pub read : IsRead tree file
+  pub read : IsRead JsonText tree file
   pub form : FirstForm tree m
 
 -- the file holds no model
@@ -51,14 +53,14 @@ IsShape m name s = slice_get (shape_names m) s ≡ Some name
 pub record Crosses (t : Table) (s : ℕ) (body far : List ℕ) : Type 0 where
   pub tree : Node
   pub value : Val
-  pub read : IsRead tree body
+  pub read : IsRead JsonText tree body
   pub spells : Spells t json_leaf s value tree
   pub text : far ≡ written (encoded t json_written s value)
 
--- the body is no JSON text of at most 100 levels; the word and the place are of some refusal
-pub record IsNoText (body printed : List ℕ) : Type 0 where
-  pub none : (n : Node) → IsRead n body → ⊥
+-- the body is no JSON text of at most 100 levels, and the word and the place of its refusal are printed
+pub record HasRefusal (body printed : List ℕ) : Type 0 where
   pub refusal : SyntaxRefusal
+  pub refused : IsRefused JsonText body refusal
   pub line : printed ≡ syntax_line refusal
 
 -- the body is a text of a tree with faults for the shape, and the first of them is printed
@@ -67,14 +69,14 @@ pub record HasFault (t : Table) (s : ℕ) (body printed : List ℕ) : Type 0 whe
   pub path : List Step
   pub kind : FaultKind
   pub later : List FaultAt
-  pub read : IsRead tree body
+  pub read : IsRead JsonText tree body
   pub first : faults t json_leaf tree s ≡ (path, kind) ∷ later
   pub line : printed ≡ fault_line path kind
 
 -- what a body comes to, for the shape s of a table
 abbrev pub CrossesOrStops : Table → ℕ → List ℕ → Result (Vec ℕ) Stop → Type 0
 CrossesOrStops t s body (Ok far) = Crosses t s body far.items
-CrossesOrStops t s body (Err (Refused line)) = IsNoText body line.items ⊎ HasFault t s body line.items
+CrossesOrStops t s body (Err (Refused line)) = HasRefusal body line.items ⊎ HasFault t s body line.items
 CrossesOrStops t s body (Err (Limit line)) = ⊥
 CrossesOrStops t s body (Err ReadFault) = ⊥
 CrossesOrStops t s body (Err NoMemory) = Unit {0}
@@ -103,7 +105,7 @@ EndsWithLimit line NoMemory = Unit {0}
 
 -- the bytes of a file are this model, or none
 abbrev pub ReadsModelFile : List ℕ → List ℕ → Result (Option FirstModel) OutOfMemory → Type 0
-ReadsModelFile name file (Ok (Some m)) = EndsInJson name × ((n : Node) × IsRead n file × IsModel n m)
+ReadsModelFile name file (Ok (Some m)) = EndsInJson name × ((n : Node) × IsRead JsonText n file × IsModel n m)
 ReadsModelFile name file (Ok None) = IsUnbuilt name file
 ReadsModelFile name file (Err e) = Unit {0}
 
@@ -153,7 +155,7 @@ abbrev pub InputCrosses : Option (List ℕ) → Option (List ℕ) → Table → 
 InputCrosses left rest t s far = (body : List ℕ) × Empties left rest body × Crosses t s body far
 
 abbrev pub InputRefused : Option (List ℕ) → Option (List ℕ) → Table → ℕ → List ℕ → Type 0
-InputRefused left rest t s printed = (body : List ℕ) × Empties left rest body × (IsNoText body printed ⊎ HasFault t s body printed)
+InputRefused left rest t s printed = (body : List ℕ) × Empties left rest body × (HasRefusal body printed ⊎ HasFault t s body printed)
 
 -- what the input comes to for the shape s of a table
 abbrev pub CrossesInput : Option (List ℕ) → Option (List ℕ) → ℕ → ℕ → Table → ℕ → Result (Vec ℕ) Stop → Type 0
