@@ -18,7 +18,7 @@ mod spot;
 mod tests;
 mod text;
 mod utf8;
-mod white;
+mod whitespace;
 mod write;
 
 pub use length::encoded_len;

@@ -52,6 +52,7 @@ impl Reader {
     }
 
     // Takes some bytes in front.
+    #[tactic(auto, using(crate::proofs::Turns::refused_first))]
     fn turn(&mut self, bytes: &[u8]) -> Result<usize, SyntaxRefusal>
         requires sound { IsSound self.old }
         requires some { 0 < length bytes.now }
@@ -60,10 +61,10 @@ impl Reader {
         match self.place {
             Place::Text(role) => self.string(role, bytes),
             Place::Number(phase) => self.number(phase, bytes),
-            Place::Word(word, taken) => {
-                self.letter(word, taken, bytes[0])?;
-                Ok(1)
-            }
+            Place::Word(word, taken) => match self.letter(word, taken, bytes[0]) {
+                Ok(()) => Ok(1),
+                Err(refusal) => Err(refusal),
+            },
             _ => self.between(bytes),
         }
     }

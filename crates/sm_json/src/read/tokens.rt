@@ -10,7 +10,7 @@ ghost use Rattle.sm_json.specs.NumberTail.{Leads as NumberLeads};
 use super::Reader;
 use crate::number::Phase;
 use crate::place::{Literal, Place, Role};
-use crate::white::{is_white, white_run};
+use crate::whitespace::{is_white, white_run};
 use sm_tree::{NoMemory, OpenKind, SyntaxRefusal};
 
 /// The greatest number of lists and objects that may be open at one place of a text.
@@ -266,6 +266,7 @@ impl Reader {
     }
 
     // Bytes between two tokens: a run of white space, or one byte of a token.
+    #[tactic(auto, using(crate::proofs::Turns::refused_first))]
     pub(super) fn between(&mut self, bytes: &[u8]) -> Result<usize, SyntaxRefusal>
         requires sound { IsSound self.old }
         requires between { TakesWhite (state_of self.old).place }
@@ -275,7 +276,9 @@ impl Reader {
         if is_white(bytes[0]) {
             return Ok(1 + white_run(&bytes[1..]));
         }
-        self.token(bytes[0])?;
-        Ok(1)
+        match self.token(bytes[0]) {
+            Ok(()) => Ok(1),
+            Err(refusal) => Err(refusal),
+        }
     }
 }
