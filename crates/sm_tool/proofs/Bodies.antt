@@ -17,6 +17,7 @@ use Rattle.sm_tree.proofs.OneAnswer.{refused_no_text}
 use Rattle.sm_tree.specs.declared.path.Step.{Step}
 use Rattle.sm_tree.specs.declared.NoMemory.{NoMemory as OutOfMemory}
 use Rattle.sm_tree.specs.declared.refusal.SyntaxRefusal.{SyntaxRefusal}
+use Rattle.sm_tree.specs.declared.refusal.SyntaxRefusal.TheVariants.{Bad, Ended, TooDeep, KeyKind, NoMemory as out_of_memory}
 use Rattle.sm_json.specs.JsonText.{JsonText}
 use Rattle.sm_json.specs.Answers.{ReadsTree}
 use Rattle.sm_json.proofs.OneTree.{one_tree}
@@ -53,11 +54,19 @@ tree_crosses t s n body (Err (Limit line)) read h = h
 tree_crosses t s n body (Err ReadFault) read h = h
 tree_crosses t s n body (Err NoMemory) read h = tt
 
-pub text_stops : (t : Table) (s : ℕ) (body : List ℕ) (refusal : SyntaxRefusal) (stop : Stop) → ((n : Node) → IsRead JsonText n body → ⊥) → EndsWithLine (syntax_line refusal) stop → CrossesOrStops t s body (Err stop)
-text_stops t s body refusal (Refused line) none ends = inl (record { none = none; refusal = refusal; line = ends })
-text_stops t s body refusal (Limit line) none ends = ends
-text_stops t s body refusal ReadFault none ends = ends
-text_stops t s body refusal NoMemory none ends = tt
+-- a body that is refused as a text
+pub refused_so : (body : List ℕ) (refusal : SyntaxRefusal) → ReadsTree body (Err refusal) → (refusal ≡ out_of_memory → ⊥) → IsRefused JsonText body refusal
+refused_so body (Bad at) h other = h
+refused_so body Ended h other = h
+refused_so body (TooDeep at) h other = h
+refused_so body (KeyKind at) h other = h
+refused_so body out_of_memory h other = other refl
+
+pub text_stops : (t : Table) (s : ℕ) (body : List ℕ) (refusal : SyntaxRefusal) (stop : Stop) → IsRefused JsonText body refusal → EndsWithLine (syntax_line refusal) stop → CrossesOrStops t s body (Err stop)
+text_stops t s body refusal (Refused line) refused ends = inl (record { refusal = refusal; refused = refused; line = ends })
+text_stops t s body refusal (Limit line) refused ends = ends
+text_stops t s body refusal ReadFault refused ends = ends
+text_stops t s body refusal NoMemory refused ends = tt
 
 -- the input that was read
 pub input_crosses : (left rest : Option (List ℕ)) (before now : ℕ) (t : Table) (s : ℕ) (body : List ℕ) (result : Result (Vec ℕ) Stop) → Empties left rest body → CrossesOrStops t s body result
@@ -82,8 +91,8 @@ model_read name file n (Ok None) json read h =
     λ m is. h m (subst (λ x. FirstForm x m) (same_tree is.tree n file is.read read) is.form)
 model_read name file n (Err e) json read h = tt
 
-pub no_model_text : (name file : List ℕ) → ((n : Node) → IsRead JsonText n file → ⊥) → IsUnbuilt name file
-no_model_text name file none m is = none is.tree is.read
+pub no_model_text : (name file : List ℕ) (refusal : SyntaxRefusal) → IsRefused JsonText file refusal → IsUnbuilt name file
+no_model_text name file refusal refused m is = refused_no_text JsonText file refusal refused is.tree is.read
 
 pub no_json_name : (name file : List ℕ) → (EndsInJson name → ⊥) → IsUnbuilt name file
 no_json_name name file no_name m is = no_name is.is_json
