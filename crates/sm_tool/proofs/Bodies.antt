@@ -148,5 +148,5 @@ pub shape_within : (told : Option Folder) (name shape : List ℕ) (m : List Stru
 shape_within told name shape m read s model names found =
     let among : s < length read.names.items = slice_get_within read.names.items s shape found in
     let count : length read.names.items ≡ length m = ap (λ xs. length xs) names ∙ length-map m (λ l. l.name) in
-    let size : shape_count read.table ≡ length m + 4 = shape_count_is m read.table model.tabled in
+    let size : shape_count read.table ≡ length m + 4 = ap shape_count model.tabled ∙ shape_count_is m in
     omega (arith, among, count, size)

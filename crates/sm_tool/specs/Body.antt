@@ -22,7 +22,7 @@ use Rattle.sm_tool.specs.Spelling.{Spells}
 use Rattle.sm_tool.specs.Faults.{FaultAt, faults}
 use Rattle.sm_tool.specs.Encoded.{encoded, json_written}
 use Rattle.sm_tool.specs.FirstForm.{StructureLine, FirstForm, shape_names}
-use Rattle.sm_tool.specs.Tabled.{Tabled}
+use Rattle.sm_tool.specs.Tabled.{table_of}
 use Rattle.sm_tool.specs.ModelAnswers.{IsModel}
 use Rattle.sm_tool.specs.declared.model.structures.FirstModel.{FirstModel}
 use Rattle.sm_shapes.specs.Tables.{Shaped}
@@ -114,7 +114,7 @@ pub record HasModel (told : Option Folder) (name : List ℕ) (m : List Structure
   pub file : List ℕ
   pub held : Holds told name (Some file)
   pub model : IsModelFile name file m
-  pub tabled : Tabled m t
+  pub tabled : t ≡ table_of m
   pub shaped : Shaped t
 
 -- the file of this name holds no model

@@ -10,6 +10,7 @@ pub mod Names
 pub mod FirstForm
 pub mod Tabled
 pub mod ModelAnswers
+pub mod Rows
 pub mod Words
 pub mod Lines
 pub mod Body
