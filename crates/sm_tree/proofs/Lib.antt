@@ -3,3 +3,6 @@ pub mod Events
 pub mod Building
 mod Tokens
 mod Sameness
+mod CharacterBytes
+mod CharacterShapes
+pub mod Characters

@@ -12,3 +12,4 @@ pub mod BuilderView
 pub mod EventLaws
 pub mod Same
 pub mod Pointer
+pub mod Utf8
