@@ -1,9 +1,11 @@
 -- What each call of a builder adds to the events that it has taken, over the data of Building alone.
 use Rattle.std.proofs.Common.{◌≡◌, ℕ, true, false, List, [], ◌∷◌, ◌++◌, refl, ap, sym, ◌∙◌, append_assoc, append-nil, None, Some}
-use Rattle.sm_tree.specs.Node.{Node, nodes_of, members_of}
-use Rattle.sm_tree.specs.Events.{NodeEvent, start_list, start_object, end_list, end_object, key_event, events, entries_events, pairs_events}
-use Rattle.sm_tree.specs.Building.{Inner, in_list, in_object, Around, around_list, around_object, Building, nothing, whole, within, each_events, each_pair_events, inner_events, around_events, outer_events, so_far, kinds, inner_awaits, awaits_value, IsIn}
-use Rattle.sm_tree.specs.BuilderSteps.{with_tree, ended, back_inside, after_value, after_end}
+use Rattle.std.proofs.Common.{◌==◌, length, arith}
+use Rattle.std.proofs.lemmas.Bool.Decides.{nat_tests}
+use Rattle.sm_tree.specs.Node.{Node, tag, nodes_of, members_of}
+use Rattle.sm_tree.specs.Events.{NodeEvent, start_list, start_object, end_list, end_object, key_event, tag_event, events, entries_events, pairs_events}
+use Rattle.sm_tree.specs.Building.{Inner, in_list, in_object, in_pair, Around, around_list, around_object, Building, nothing, whole, within, tagged, tag_events, each_events, each_pair_events, inner_events, around_events, outer_events, so_far, inner_kind, kinds, inner_awaits, awaits_value, IsIn}
+use Rattle.sm_tree.specs.BuilderSteps.{with_tree, with_tag, settled, may_end, ended, back_inside, after_value, after_tag, after_end}
 use Rattle.sm_tree.specs.declared.build.OpenKind.TheVariants.{List as a_list, Object as an_object}
 use Rattle.sm_tree.proofs.Events.{events_append}
 
@@ -43,67 +45,125 @@ pairs_then_end (m ∷ ms) = ap (λ es. key_event m.0 ∷ es)
     ∙ sym (append_assoc (events m.1 []) (each_pair_events ms) (end_object ∷ []))
     ∙ ap (λ es. es ++ (end_object ∷ [])) (sym (events_append m.1 (each_pair_events ms))))
 
+-- tags, one more, and round a tree
+pub tag_events_more : (ts : List ℕ) (t : ℕ) → tag_events (ts ++ t ∷ []) ≡ tag_events ts ++ tag_event t ∷ []
+tag_events_more [] t = refl
+tag_events_more (k ∷ ts) t = ap (λ es. tag_event k ∷ es) (tag_events_more ts t)
+
+pub tagged_events : (ts : List ℕ) (n : Node) (es : List NodeEvent) → events (tagged ts n) es ≡ tag_events ts ++ events n es
+tagged_events [] n es = refl
+tagged_events (k ∷ ts) n es = ap (λ fs. tag_event k ∷ fs) (tagged_events ts n es)
+
+pub tagged_more : (ts : List ℕ) (t : ℕ) (n : Node) → tagged (ts ++ t ∷ []) n ≡ tagged ts (tag t n)
+tagged_more [] t n = refl
+tagged_more (k ∷ ts) t n = ap (λ m. tag k m) (tagged_more ts t n)
+
 -- the end that a list or an object has
 abbrev pub end_of : Inner → NodeEvent
-end_of (in_list ns) = end_list
-end_of (in_object ms k) = end_object
+end_of (in_list ns ts) = end_list
+end_of (in_object ms) = end_object
+end_of (in_pair ms k ts) = end_object
 
--- no name awaits its tree
+-- no name and no tag awaits its tree
 abbrev pub MayEnd : Inner → Type 0
-MayEnd (in_list ns) = Unit {0}
-MayEnd (in_object ms None) = Unit {0}
-MayEnd (in_object ms (Some k)) = ⊥
+MayEnd (in_list ns ts) = ts ≡ []
+MayEnd (in_object ms) = Unit {0}
+MayEnd (in_pair ms k ts) = ⊥
 
 pub ended_events : (i : Inner) → MayEnd i → events (ended i) [] ≡ inner_events i ++ (end_of i ∷ [])
-ended_events (in_list ns) may = ap (λ es. start_list None ∷ es) (entries_then_end ns)
-ended_events (in_object ms None) may = ap (λ es. start_object None ∷ es)
-    (pairs_then_end ms ∙ ap (λ es. es ++ (end_object ∷ [])) (sym (append-nil (each_pair_events ms))))
-ended_events (in_object ms (Some k)) may = absurd may
+ended_events (in_list ns ts) may =
+    let tags : each_events ns ++ tag_events ts ≡ each_events ns = ap (λ us. each_events ns ++ tag_events us) may ∙ append-nil (each_events ns) in
+    ap (λ es. start_list None ∷ es) (entries_then_end ns ∙ ap (λ es. es ++ (end_list ∷ [])) (sym tags))
+ended_events (in_object ms) may = ap (λ es. start_object None ∷ es) (pairs_then_end ms)
+ended_events (in_pair ms k ts) may = absurd may
 
 pub with_tree_events : (i : Inner) (n : Node) → inner_awaits i ≡ true → inner_events (with_tree n i) ≡ inner_events i ++ events n []
-with_tree_events (in_list ns) n awaits = ap (λ es. start_list None ∷ es) (each_events_more ns n)
-with_tree_events (in_object ms None) n awaits = absurd cc
-with_tree_events (in_object ms (Some k)) n awaits = ap (λ es. start_object None ∷ es)
-    (append-nil (each_pair_events (ms ++ (k, n) ∷ []))
-    ∙ each_pair_events_more ms k n
-    ∙ sym (append_assoc (each_pair_events ms) (key_event k ∷ []) (events n [])))
+with_tree_events (in_list ns ts) n awaits = ap (λ es. start_list None ∷ es)
+    (append-nil (each_events (ns ++ tagged ts n ∷ []))
+    ∙ each_events_more ns (tagged ts n)
+    ∙ ap (λ es. each_events ns ++ es) (tagged_events ts n [])
+    ∙ sym (append_assoc (each_events ns) (tag_events ts) (events n [])))
+with_tree_events (in_object ms) n awaits = absurd cc
+with_tree_events (in_pair ms k ts) n awaits = ap (λ es. start_object None ∷ es)
+    (each_pair_events_more ms k (tagged ts n)
+    ∙ ap (λ es. each_pair_events ms ++ key_event k ∷ es) (tagged_events ts n [])
+    ∙ sym (append_assoc (each_pair_events ms) (key_event k ∷ tag_events ts) (events n [])))
+
+pub with_tag_events : (i : Inner) (t : ℕ) → inner_awaits i ≡ true → inner_events (with_tag t i) ≡ inner_events i ++ tag_event t ∷ []
+with_tag_events (in_list ns ts) t awaits = ap (λ es. start_list None ∷ es)
+    (ap (λ es. each_events ns ++ es) (tag_events_more ts t) ∙ sym (append_assoc (each_events ns) (tag_events ts) (tag_event t ∷ [])))
+with_tag_events (in_object ms) t awaits = absurd cc
+with_tag_events (in_pair ms k ts) t awaits = ap (λ es. start_object None ∷ es)
+    (ap (λ es. each_pair_events ms ++ key_event k ∷ es) (tag_events_more ts t)
+    ∙ sym (append_assoc (each_pair_events ms) (key_event k ∷ tag_events ts) (tag_event t ∷ [])))
+
+pub with_tag_kind : (i : Inner) (t : ℕ) → inner_kind (with_tag t i) ≡ inner_kind i
+with_tag_kind (in_list ns ts) t = refl
+with_tag_kind (in_object ms) t = refl
+with_tag_kind (in_pair ms k ts) t = refl
+
+pub with_tag_awaits : (i : Inner) (t : ℕ) → inner_awaits (with_tag t i) ≡ inner_awaits i
+with_tag_awaits (in_list ns ts) t = refl
+with_tag_awaits (in_object ms) t = refl
+with_tag_awaits (in_pair ms k ts) t = refl
 
 pub back_inside_events : (a : Around) → inner_events (back_inside a) ≡ around_events a
-back_inside_events (around_list ns) = refl
-back_inside_events (around_object ms k) = refl
+back_inside_events (around_list ns ts) = refl
+back_inside_events (around_object ms k ts) = refl
 
 pub back_inside_awaits : (a : Around) → inner_awaits (back_inside a) ≡ true
-back_inside_awaits (around_list ns) = refl
-back_inside_awaits (around_object ms k) = refl
+back_inside_awaits (around_list ns ts) = refl
+back_inside_awaits (around_object ms k ts) = refl
+
+-- events behind those of what is open
+more_behind : (ts : List ℕ) (outer : List Around) (es fs gs : List NodeEvent) → gs ≡ es ++ fs
+    → tag_events ts ++ (outer_events outer ++ gs) ≡ (tag_events ts ++ (outer_events outer ++ es)) ++ fs
+more_behind ts outer es fs gs e =
+    ap (λ hs. tag_events ts ++ (outer_events outer ++ hs)) e
+    ∙ ap (λ hs. tag_events ts ++ hs) (sym (append_assoc (outer_events outer) es fs))
+    ∙ sym (append_assoc (tag_events ts) (outer_events outer ++ es) fs)
 
 -- a tree
 pub value_taken : (b : Building) (n : Node) → awaits_value b ≡ true → so_far (after_value n b) ≡ so_far b ++ events n []
-value_taken nothing n awaits = refl
+value_taken (nothing ts) n awaits = tagged_events ts n []
 value_taken (whole m) n awaits = absurd cc
-value_taken (within i outer) n awaits =
-    ap (λ es. outer_events outer ++ es) (with_tree_events i n awaits)
-    ∙ sym (append_assoc (outer_events outer) (inner_events i) (events n []))
+value_taken (within ts i outer) n awaits = more_behind ts outer (inner_events i) (events n []) (inner_events (with_tree n i)) (with_tree_events i n awaits)
+
+-- a tag
+pub tag_taken : (b : Building) (t : ℕ) → awaits_value b ≡ true → so_far (after_tag t b) ≡ so_far b ++ tag_event t ∷ []
+tag_taken (nothing ts) t awaits = tag_events_more ts t
+tag_taken (whole m) t awaits = absurd cc
+tag_taken (within ts i outer) t awaits = more_behind ts outer (inner_events i) (tag_event t ∷ []) (inner_events (with_tag t i)) (with_tag_events i t awaits)
 
 -- the end of what is open
-pub end_taken : (i : Inner) (outer : List Around) → MayEnd i → so_far (after_end (within i outer)) ≡ so_far (within i outer) ++ (end_of i ∷ [])
-end_taken i [] may = ended_events i may
-end_taken i (a ∷ outer) may =
-    ap (λ es. outer_events outer ++ es)
-    (with_tree_events (back_inside a) (ended i) (back_inside_awaits a)
+pub end_taken : (ts : List ℕ) (i : Inner) (outer : List Around) → MayEnd i → so_far (after_end (within ts i outer)) ≡ so_far (within ts i outer) ++ (end_of i ∷ [])
+end_taken ts i [] may =
+    tagged_events ts (ended i) [] ∙ more_behind ts [] (inner_events i) (end_of i ∷ []) (events (ended i) []) (ended_events i may)
+end_taken ts i (a ∷ outer) may =
+    let entry : inner_events (with_tree (ended i) (back_inside a)) ≡ around_events a ++ (inner_events i ++ (end_of i ∷ [])) =
+    with_tree_events (back_inside a) (ended i) (back_inside_awaits a)
     ∙ ap (λ es. es ++ events (ended i) []) (back_inside_events a)
-    ∙ ap (λ es. around_events a ++ es) (ended_events i may))
+    ∙ ap (λ es. around_events a ++ es) (ended_events i may) in
+    ap (λ es. tag_events ts ++ es)
+    (ap (λ es. outer_events outer ++ es) entry
     ∙ sym (append_assoc (outer_events outer) (around_events a) (inner_events i ++ (end_of i ∷ [])))
-    ∙ sym (append_assoc (outer_events outer ++ around_events a) (inner_events i) (end_of i ∷ []))
+    ∙ sym (append_assoc (outer_events outer ++ around_events a) (inner_events i) (end_of i ∷ [])))
+    ∙ sym (append_assoc (tag_events ts) ((outer_events outer ++ around_events a) ++ inner_events i) (end_of i ∷ []))
 
-pub end_list_taken : (b : Building) → IsIn a_list (kinds b) → so_far (after_end b) ≡ so_far b ++ (end_list ∷ [])
-end_list_taken nothing is_in = absurd is_in
-end_list_taken (whole n) is_in = absurd is_in
-end_list_taken (within (in_list ns) outer) is_in = end_taken (in_list ns) outer tt
-end_list_taken (within (in_object ms k) outer) is_in = absurd cc
+none_left : (ts : List ℕ) → (length ts == 0) ≡ true → ts ≡ []
+none_left [] e = refl
+none_left (t ∷ ts) e = absurd (grind (arith, nat_tests))
+
+pub end_list_taken : (b : Building) → IsIn a_list (kinds b) → may_end b ≡ true → so_far (after_end b) ≡ so_far b ++ (end_list ∷ [])
+end_list_taken (nothing ts) is_in may = absurd is_in
+end_list_taken (whole n) is_in may = absurd is_in
+end_list_taken (within ts (in_list ns us) outer) is_in may = end_taken ts (in_list ns us) outer (none_left us may)
+end_list_taken (within ts (in_object ms) outer) is_in may = absurd cc
+end_list_taken (within ts (in_pair ms k us) outer) is_in may = absurd cc
 
 pub end_object_taken : (b : Building) → IsIn an_object (kinds b) → awaits_value b ≡ false → so_far (after_end b) ≡ so_far b ++ (end_object ∷ [])
-end_object_taken nothing is_in unnamed = absurd is_in
+end_object_taken (nothing ts) is_in unnamed = absurd is_in
 end_object_taken (whole n) is_in unnamed = absurd is_in
-end_object_taken (within (in_list ns) outer) is_in unnamed = absurd cc
-end_object_taken (within (in_object ms None) outer) is_in unnamed = end_taken (in_object ms None) outer tt
-end_object_taken (within (in_object ms (Some k)) outer) is_in unnamed = absurd cc
+end_object_taken (within ts (in_list ns us) outer) is_in unnamed = absurd cc
+end_object_taken (within ts (in_object ms) outer) is_in unnamed = end_taken ts (in_object ms) outer tt
+end_object_taken (within ts (in_pair ms k us) outer) is_in unnamed = absurd cc

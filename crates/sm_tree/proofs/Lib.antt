@@ -4,3 +4,6 @@ pub mod Building
 mod Tokens
 mod Sameness
 pub mod OneAnswer
+mod CharacterBytes
+mod CharacterShapes
+pub mod Characters

@@ -1,7 +1,7 @@
 -- What a TreeBuilder of the code stands for. Every contract that speaks of one cites it.
-use Rattle.std.specs.Prelude.{List, map, reverse}
+use Rattle.std.specs.Prelude.{List, None, Some, map, reverse}
 use Rattle.sm_tree.specs.View.{node_of, nodes_view, members_view}
-use Rattle.sm_tree.specs.Building.{Building, nothing, whole, within, in_list, in_object, around_list, around_object}
+use Rattle.sm_tree.specs.Building.{Building, nothing, whole, within, in_list, in_object, in_pair, around_list, around_object}
 use Rattle.sm_tree.specs.Building as building
 use Rattle.sm_tree.specs.declared.build.Inner.{Inner}
 use Rattle.sm_tree.specs.declared.build.Inner.TheVariants.{List as inner_list, Object as inner_object}
@@ -13,22 +13,23 @@ use Rattle.sm_tree.specs.declared.build.State.TheVariants.{Empty, Whole, Within}
 use Rattle.sm_tree.specs.declared.build.TreeBuilder.{TreeBuilder}
 
 abbrev pub inner_of : Inner → building.Inner
-inner_of (inner_list items) = in_list (nodes_view items.items)
-inner_of (inner_object pairs name) = in_object (members_view pairs.items) name
+inner_of (inner_list items tags) = in_list (nodes_view items.items) tags.items
+inner_of (inner_object pairs None) = in_object (members_view pairs.items)
+inner_of (inner_object pairs (Some pending)) = in_pair (members_view pairs.items) pending.name pending.tags.items
 
 abbrev pub around_of : Around → building.Around
-around_of (outer_list items) = around_list (nodes_view items.items)
-around_of (outer_object pairs name) = around_object (members_view pairs.items) name
+around_of (outer_list items tags) = around_list (nodes_view items.items) tags.items
+around_of (outer_object pairs pending) = around_object (members_view pairs.items) pending.name pending.tags.items
 
 -- the vector of what is around holds the outermost first
 abbrev pub outer_of : Open → List building.Around
 outer_of o = reverse (map around_of o.outer.items)
 
 abbrev pub open_of : Open → Building
-open_of o = within (inner_of o.inner) (outer_of o)
+open_of o = within o.tags.items (inner_of o.inner) (outer_of o)
 
 abbrev pub state_of : State → Building
-state_of Empty = nothing
+state_of (Empty tags) = nothing tags.items
 state_of (Whole tree) = whole (node_of tree)
 state_of (Within o) = open_of o
 

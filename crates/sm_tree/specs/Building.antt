@@ -2,26 +2,38 @@
 -- of it so far. The contracts of TreeBuilder cite it, and a reader that calls one keeps its list of what
 -- is open and its place next to `kinds` and `awaits_value`.
 use Rattle.std.specs.Prelude.{◌≡◌, ℕ, Bool, true, false, List, [], ◌∷◌, ◌++◌, map, Option, None, Some}
-use Rattle.sm_tree.specs.Node.{Node}
-use Rattle.sm_tree.specs.Events.{NodeEvent, events, start_list, start_object, key_event}
+use Rattle.sm_tree.specs.Node.{Node, tag}
+use Rattle.sm_tree.specs.Events.{NodeEvent, events, start_list, start_object, key_event, tag_event}
 use Rattle.sm_tree.specs.declared.build.OpenKind.{OpenKind}
 use Rattle.sm_tree.specs.declared.build.OpenKind.TheVariants.{List as a_list, Object as an_object}
 
--- the innermost list or object: its entries or pairs so far, and the name whose tree is to come
+-- the innermost list or object: its entries or pairs so far, and the name whose tree is to come. The tags that have
+-- come of the next tree go with it, the outermost first
 pub data Inner : Type 0 where
-  in_list : List Node → Inner
-  in_object : List (List ℕ × Node) → Option (List ℕ) → Inner
+  in_list : List Node → List ℕ → Inner
+  in_object : List (List ℕ × Node) → Inner
+  in_pair : List (List ℕ × Node) → List ℕ → List ℕ → Inner
 
--- a list or an object around it: what is open becomes its next entry, or the tree of this name
+-- a list or an object around it: what is open becomes its next entry, or the tree of this name, in these tags
 pub data Around : Type 0 where
-  around_list : List Node → Around
-  around_object : List (List ℕ × Node) → List ℕ → Around
+  around_list : List Node → List ℕ → Around
+  around_object : List (List ℕ × Node) → List ℕ → List ℕ → Around
 
--- no event yet; a whole tree; or in a list or an object, with what is around it, from the inside out
+-- no event yet but tags; a whole tree; or in a list or an object, with what is around it, from the inside out, and the
+-- tags round all of it
 pub data Building : Type 0 where
-  nothing : Building
+  nothing : List ℕ → Building
   whole : Node → Building
-  within : Inner → List Around → Building
+  within : List ℕ → Inner → List Around → Building
+
+-- a tree in tags, the outermost first
+abbrev pub tagged : List ℕ → Node → Node
+tagged [] n = n
+tagged (k ∷ ks) n = tag k (tagged ks n)
+
+abbrev pub tag_events : List ℕ → List NodeEvent
+tag_events [] = []
+tag_events (k ∷ ks) = tag_event k ∷ tag_events ks
 
 -- the events of these entries
 abbrev pub each_events : List Node → List NodeEvent
@@ -33,17 +45,14 @@ abbrev pub each_pair_events : List (List ℕ × Node) → List NodeEvent
 each_pair_events [] = []
 each_pair_events (m ∷ ms) = key_event m.0 ∷ events m.1 (each_pair_events ms)
 
-abbrev pub name_events : Option (List ℕ) → List NodeEvent
-name_events None = []
-name_events (Some k) = key_event k ∷ []
-
 abbrev pub inner_events : Inner → List NodeEvent
-inner_events (in_list ns) = start_list None ∷ each_events ns
-inner_events (in_object ms k) = start_object None ∷ (each_pair_events ms ++ name_events k)
+inner_events (in_list ns ts) = start_list None ∷ (each_events ns ++ tag_events ts)
+inner_events (in_object ms) = start_object None ∷ each_pair_events ms
+inner_events (in_pair ms k ts) = start_object None ∷ (each_pair_events ms ++ key_event k ∷ tag_events ts)
 
 abbrev pub around_events : Around → List NodeEvent
-around_events (around_list ns) = start_list None ∷ each_events ns
-around_events (around_object ms k) = start_object None ∷ (each_pair_events ms ++ (key_event k ∷ []))
+around_events (around_list ns ts) = start_list None ∷ (each_events ns ++ tag_events ts)
+around_events (around_object ms k ts) = start_object None ∷ (each_pair_events ms ++ key_event k ∷ tag_events ts)
 
 abbrev pub outer_events : List Around → List NodeEvent
 outer_events [] = []
@@ -51,28 +60,29 @@ outer_events (a ∷ outer) = outer_events outer ++ around_events a
 
 -- the events that were taken
 abbrev pub so_far : Building → List NodeEvent
-so_far nothing = []
+so_far (nothing ts) = tag_events ts
 so_far (whole n) = events n []
-so_far (within inner outer) = outer_events outer ++ inner_events inner
+so_far (within ts inner outer) = tag_events ts ++ (outer_events outer ++ inner_events inner)
 
 abbrev pub inner_kind : Inner → OpenKind
-inner_kind (in_list ns) = a_list
-inner_kind (in_object ms k) = an_object
+inner_kind (in_list ns ts) = a_list
+inner_kind (in_object ms) = an_object
+inner_kind (in_pair ms k ts) = an_object
 
 abbrev pub around_kind : Around → OpenKind
-around_kind (around_list ns) = a_list
-around_kind (around_object ms k) = an_object
+around_kind (around_list ns ts) = a_list
+around_kind (around_object ms k ts) = an_object
 
 -- what is open, from the inside out
 abbrev pub kinds : Building → List OpenKind
-kinds nothing = []
+kinds (nothing ts) = []
 kinds (whole n) = []
-kinds (within inner outer) = inner_kind inner ∷ map around_kind outer
+kinds (within ts inner outer) = inner_kind inner ∷ map around_kind outer
 
 abbrev pub inner_awaits : Inner → Bool
-inner_awaits (in_list ns) = true
-inner_awaits (in_object ms None) = false
-inner_awaits (in_object ms (Some k)) = true
+inner_awaits (in_list ns ts) = true
+inner_awaits (in_object ms) = false
+inner_awaits (in_pair ms k ts) = true
 
 -- the innermost of what is open
 abbrev pub first_kind : List OpenKind → Option OpenKind
@@ -81,9 +91,9 @@ first_kind (k ∷ ks) = Some k
 
 -- a tree may come next: at the start, in a list, and behind a name
 abbrev pub awaits_value : Building → Bool
-awaits_value nothing = true
+awaits_value (nothing ts) = true
 awaits_value (whole n) = false
-awaits_value (within inner outer) = inner_awaits inner
+awaits_value (within ts inner outer) = inner_awaits inner
 
 -- whether behind a tree another may come at once, where these are open: in a list alone
 abbrev pub goes_on : List OpenKind → Bool

@@ -13,3 +13,4 @@ pub mod BuilderView
 pub mod EventLaws
 pub mod Same
 pub mod Pointer
+pub mod Utf8

@@ -1,10 +1,10 @@
 // What makes a tree from its events, one call an event. The readers of JSON and CBOR stand on it.
 // Contracts see a builder as specs/Building.antt says.
-ghost use Rattle.std.specs.Prelude.{◌≡◌, ◌++◌, ◌∷◌, [], List, OnOk, true, false, Some, None};
+ghost use Rattle.std.specs.Prelude.{◌≡◌, ◌++◌, ◌∷◌, [], List, IfOk, OnOk, true, false, Some, None};
 ghost use Rattle.sm_tree.specs.View.{node_of};
-ghost use Rattle.sm_tree.specs.Events.{events, start_list as list_starts, start_object as object_starts, end_list as list_ends, end_object as object_ends, key_event};
-ghost use Rattle.sm_tree.specs.Building.{so_far, kinds, awaits_value, inner_awaits, goes_on, first_kind, IsIn};
-ghost use Rattle.sm_tree.specs.BuilderSteps.{with_tree, ended, put_around, back_inside, after_start, after_end};
+ghost use Rattle.sm_tree.specs.Events.{events, start_list as list_starts, start_object as object_starts, end_list as list_ends, end_object as object_ends, key_event, tag_event};
+ghost use Rattle.sm_tree.specs.Building.{so_far, kinds, awaits_value, inner_awaits, goes_on, first_kind, IsIn, tagged};
+ghost use Rattle.sm_tree.specs.BuilderSteps.{with_tree, with_tag, settled, may_end, ended, put_around, back_inside, after_tag, after_start, after_end};
 ghost use Rattle.sm_tree.specs.BuilderView.{inner_of, around_of, open_of, building_of};
 
 use crate::NoMemory;
@@ -32,53 +32,108 @@ pub struct TreeBuilder {
 
 #[derive(Drop)]
 enum State {
-    /// No event has come.
-    Empty,
+    /// No event has come but these tags, the outermost first.
+    Empty(Vec<u64>),
     /// The last event has come.
     Whole(Tree),
     Within(Open),
 }
 
-/// A list or an object that is open, and what is around it, the outermost first.
+/// A list or an object that is open, what is around it, the outermost first, and the tags round all of it.
 #[derive(Drop)]
 struct Open {
     inner: Inner,
     outer: Vec<Around>,
+    tags: Vec<u64>,
+}
+
+/// A name of an object whose tree is to come, and the tags that have come of that tree, the outermost first.
+#[derive(Drop)]
+struct Pending {
+    name: Text,
+    tags: Vec<u64>,
 }
 
 /// The innermost list or object.
 #[derive(Drop)]
 enum Inner {
-    List(Vec<Tree>),
+    /// The entries so far, and the tags that have come of the next one, the outermost first.
+    List(Vec<Tree>, Vec<u64>),
     /// The pairs so far, and the name whose tree is to come.
-    Object(Vec<(Text, Tree)>, Option<Text>),
+    Object(Vec<(Text, Tree)>, Option<Pending>),
 }
 
-/// A list or an object around it. What is open becomes its next entry, or the tree of the name.
+/// A list or an object around it. What is open becomes its next entry, or the tree of the name, in its tags.
 #[derive(Drop)]
 enum Around {
-    List(Vec<Tree>),
-    Object(Vec<(Text, Tree)>, Text),
+    List(Vec<Tree>, Vec<u64>),
+    Object(Vec<(Text, Tree)>, Pending),
+}
+
+// A tree in tags, the outermost first, which are used up.
+fn in_tags(alloc: Global, tags: &mut Vec<u64>, tree: Tree) -> Result<Tree, NoMemory>
+    ensures tree { IfOk result (λ whole. node_of whole ≡ tagged tags.old.items (node_of tree)) }
+    ensures none { OnOk result (tags.new.items ≡ []) }
+{
+    let mut tree = tree;
+    while let Some(number) = tags.pop() {
+        tree = Tree::Tag(number, Box::new(alloc, tree)?);
+    }
+    Ok(tree)
 }
 
 impl Inner {
     // Appends a tree: an entry, or the tree of the name that awaits one.
-    fn put(&mut self, tree: Tree) -> Result<(), NoMemory>
+    fn put(&mut self, alloc: Global, tree: Tree) -> Result<(), NoMemory>
         requires { inner_awaits (inner_of self.old) ≡ true }
         ensures { OnOk result (inner_of self.new ≡ with_tree (node_of tree) (inner_of self.old)) }
     {
         match self {
-            Inner::List(items) => match items.push(tree) {
+            Inner::List(items, tags) => {
+                let whole = in_tags(alloc, tags, tree)?;
+                match items.push(whole) {
+                    Ok(()) => Ok(()),
+                    Err(_) => Err(NoMemory),
+                }
+            }
+            Inner::Object(pairs, pending) => match pending.take() {
+                Some(Pending { name, mut tags }) => {
+                    let whole = in_tags(alloc, &mut tags, tree)?;
+                    match pairs.push((name, whole)) {
+                        Ok(()) => Ok(()),
+                        Err(_) => Err(NoMemory),
+                    }
+                }
+                None => unreachable!(),
+            },
+        }
+    }
+
+    // A tag of the next entry, or of the tree of the name that awaits one.
+    fn tag(&mut self, number: u64) -> Result<(), NoMemory>
+        requires { inner_awaits (inner_of self.old) ≡ true }
+        ensures { OnOk result (inner_of self.new ≡ with_tag number (inner_of self.old)) }
+    {
+        match self {
+            Inner::List(_, tags) => match tags.push(number) {
                 Ok(()) => Ok(()),
                 Err(_) => Err(NoMemory),
             },
-            Inner::Object(pairs, pending) => match pending.take() {
-                Some(name) => match pairs.push((name, tree)) {
-                    Ok(()) => Ok(()),
-                    Err(_) => Err(NoMemory),
-                },
-                None => unreachable!(),
+            Inner::Object(_, Some(pending)) => match pending.tags.push(number) {
+                Ok(()) => Ok(()),
+                Err(_) => Err(NoMemory),
             },
+            Inner::Object(_, None) => unreachable!(),
+        }
+    }
+
+    // Whether it may end: no tag of a next entry awaits its value.
+    fn is_settled(&self) -> bool
+        ensures { result ≡ settled (inner_of self.now) }
+    {
+        match self {
+            Inner::List(_, tags) => tags.is_empty(),
+            Inner::Object(_, _) => true,
         }
     }
 
@@ -87,7 +142,7 @@ impl Inner {
         ensures { node_of result ≡ ended (inner_of self) }
     {
         match self {
-            Inner::List(items) => Tree::List(Items::new(items)),
+            Inner::List(items, _) => Tree::List(Items::new(items)),
             Inner::Object(pairs, _) => Tree::Object(Pairs::new(pairs)),
         }
     }
@@ -98,9 +153,9 @@ impl Inner {
         ensures { around_of result ≡ put_around (inner_of self) }
     {
         match self {
-            Inner::List(items) => Around::List(items),
+            Inner::List(items, tags) => Around::List(items, tags),
             Inner::Object(pairs, pending) => match pending {
-                Some(name) => Around::Object(pairs, name),
+                Some(pending) => Around::Object(pairs, pending),
                 None => unreachable!(),
             },
         }
@@ -113,8 +168,8 @@ impl Around {
         ensures { inner_of result ≡ back_inside (around_of self) }
     {
         match self {
-            Around::List(items) => Inner::List(items),
-            Around::Object(pairs, name) => Inner::Object(pairs, Some(name)),
+            Around::List(items, tags) => Inner::List(items, tags),
+            Around::Object(pairs, pending) => Inner::Object(pairs, Some(pending)),
         }
     }
 }
@@ -141,7 +196,7 @@ impl TreeBuilder {
         ensures awaits { awaits_value (building_of result) ≡ true }
     {
         TreeBuilder {
-            state: State::Empty,
+            state: State::Empty(Vec::new(alloc)),
             alloc,
         }
     }
@@ -152,9 +207,10 @@ impl TreeBuilder {
         ensures { OnOk result (building_of self.new ≡ after_start (inner_of inner) (building_of self.old)) }
     {
         match &mut self.state {
-            State::Empty => {
+            State::Empty(tags) => {
                 let outer = Vec::new(self.alloc);
-                self.state = State::Within(Open { inner, outer });
+                let tags = mem::replace(tags, Vec::new(self.alloc));
+                self.state = State::Within(Open { inner, outer, tags });
                 Ok(())
             }
             State::Within(open) => open.start(inner),
@@ -164,21 +220,28 @@ impl TreeBuilder {
 
     // Ends the innermost list or object, and gives it to what is around it.
     fn end(&mut self) -> Result<(), NoMemory>
-        ensures { OnOk result (building_of self.new ≡ after_end (building_of self.old)) }
+        ensures { OnOk result ((building_of self.new ≡ after_end (building_of self.old)) × (may_end (building_of self.old) ≡ true)) }
     {
         match &mut self.state {
-            State::Within(open) => match open.outer.pop() {
-                Some(around) => {
-                    let inner = mem::replace(&mut open.inner, around.into_inner());
-                    open.inner.put(inner.into_tree())
+            State::Within(open) => {
+                if !open.inner.is_settled() {
+                    return Err(NoMemory);
                 }
-                None => {
-                    let inner = mem::replace(&mut open.inner, Inner::List(Vec::new(self.alloc)));
-                    self.state = State::Whole(inner.into_tree());
-                    Ok(())
+                match open.outer.pop() {
+                    Some(around) => {
+                        let inner = mem::replace(&mut open.inner, around.into_inner());
+                        open.inner.put(self.alloc, inner.into_tree())
+                    }
+                    None => {
+                        let empty = Inner::List(Vec::new(self.alloc), Vec::new(self.alloc));
+                        let inner = mem::replace(&mut open.inner, empty);
+                        let tree = in_tags(self.alloc, &mut open.tags, inner.into_tree())?;
+                        self.state = State::Whole(tree);
+                        Ok(())
+                    }
                 }
-            },
-            State::Empty | State::Whole(_) => Ok(()),
+            }
+            State::Empty(_) | State::Whole(_) => Ok(()),
         }
     }
 
@@ -188,10 +251,28 @@ impl TreeBuilder {
     {
         match &self.state {
             State::Within(open) => match &open.inner {
-                Inner::List(_) => Some(OpenKind::List),
+                Inner::List(_, _) => Some(OpenKind::List),
                 Inner::Object(_, _) => Some(OpenKind::Object),
             },
-            State::Empty | State::Whole(_) => None,
+            State::Empty(_) | State::Whole(_) => None,
+        }
+    }
+
+    /// Takes a tag (RFC 8949, section 3.4): the value that is to come is its content. `NoMemory` where it finds no
+    /// room.
+    pub fn tag(&mut self, number: u64) -> Result<(), NoMemory>
+        requires { awaits_value (building_of self.old) ≡ true }
+        ensures taken { OnOk result (so_far (building_of self.new) ≡ so_far (building_of self.old) ++ (tag_event number ∷ [])) }
+        ensures kinds { OnOk result (kinds (building_of self.new) ≡ kinds (building_of self.old)) }
+        ensures awaits { OnOk result (awaits_value (building_of self.new) ≡ true) }
+    {
+        match &mut self.state {
+            State::Empty(tags) => match tags.push(number) {
+                Ok(()) => Ok(()),
+                Err(_) => Err(NoMemory),
+            },
+            State::Within(open) => open.inner.tag(number),
+            State::Whole(_) => unreachable!(),
         }
     }
 
@@ -203,11 +284,12 @@ impl TreeBuilder {
         ensures awaits { OnOk result (awaits_value (building_of self.new) ≡ goes_on (kinds (building_of self.new))) }
     {
         match &mut self.state {
-            State::Empty => {
-                self.state = State::Whole(tree);
+            State::Empty(tags) => {
+                let whole = in_tags(self.alloc, tags, tree)?;
+                self.state = State::Whole(whole);
                 Ok(())
             }
-            State::Within(open) => open.inner.put(tree),
+            State::Within(open) => open.inner.put(self.alloc, tree),
             State::Whole(_) => unreachable!(),
         }
     }
@@ -222,10 +304,13 @@ impl TreeBuilder {
     {
         match &mut self.state {
             State::Within(open) => match &mut open.inner {
-                Inner::Object(_, pending) => *pending = Some(name),
-                Inner::List(_) => unreachable!(),
+                Inner::Object(_, pending) => {
+                    let tags = Vec::new(self.alloc);
+                    *pending = Some(Pending { name, tags });
+                }
+                Inner::List(_, _) => unreachable!(),
             },
-            State::Empty | State::Whole(_) => unreachable!(),
+            State::Empty(_) | State::Whole(_) => unreachable!(),
         }
     }
 
@@ -236,7 +321,7 @@ impl TreeBuilder {
         ensures kinds { OnOk result (kinds (building_of self.new) ≡ OpenKind.List ∷ kinds (building_of self.old)) }
         ensures awaits { OnOk result (awaits_value (building_of self.new) ≡ true) }
     {
-        self.start(Inner::List(Vec::new(self.alloc)))
+        self.start(Inner::List(Vec::new(self.alloc), Vec::new(self.alloc)))
     }
 
     /// Takes the opener of an object. `NoMemory` where what is open finds no room.
@@ -249,7 +334,8 @@ impl TreeBuilder {
         self.start(Inner::Object(Vec::new(self.alloc), None))
     }
 
-    /// Takes the end of the innermost list. `NoMemory` where what is around it has no room for it.
+    /// Takes the end of the innermost list. `NoMemory` where what is around it has no room for it, and where a tag in
+    /// the list awaits its value.
     pub fn end_list(&mut self) -> Result<(), NoMemory>
         requires { IsIn OpenKind.List (kinds (building_of self.old)) }
         ensures taken { OnOk result (so_far (building_of self.new) ≡ so_far (building_of self.old) ++ (list_ends ∷ [])) }
@@ -278,7 +364,7 @@ impl TreeBuilder {
     {
         match self.state {
             State::Whole(tree) => tree,
-            State::Empty | State::Within(_) => unreachable!(),
+            State::Empty(_) | State::Within(_) => unreachable!(),
         }
     }
 }
@@ -287,6 +373,48 @@ impl TreeBuilder {
 mod tests {
     use super::*;
     use std::test::Fail;
+
+    // A tree in one tag.
+    fn tagged(alloc: Global, number: u64, tree: Tree) -> Result<Tree, Fail> {
+        Ok(Tree::Tag(number, Box::new(alloc, tree)?))
+    }
+
+    // 7(8([9(null), {"a": 1([])}]))
+    #[test]
+    fn tags_go_round_what_follows(rt: HostRuntime) -> Result<(), Fail> {
+        let alloc = rt.alloc();
+        let mut builder = TreeBuilder::new(alloc);
+        builder.tag(7)?;
+        builder.tag(8)?;
+        builder.start_list()?;
+        builder.tag(9)?;
+        builder.value(Tree::Null)?;
+        builder.start_object()?;
+        builder.key(text(alloc, "a")?);
+        builder.tag(1)?;
+        builder.start_list()?;
+        builder.end_list()?;
+        builder.end_object()?;
+        builder.end_list()?;
+        let tree = builder.finish();
+
+        let empty = tagged(alloc, 1, Tree::List(Items::new(Vec::new(alloc))))?;
+        let pairs = vec![in alloc; (text(alloc, "a")?, empty)]?;
+        let null = tagged(alloc, 9, Tree::Null)?;
+        let entries = vec![in alloc; null, Tree::Object(Pairs::new(pairs))]?;
+        let list = tagged(alloc, 8, Tree::List(Items::new(entries)))?;
+        assert!(rt; tree == tagged(alloc, 7, list)?);
+        Ok(())
+    }
+
+    #[test]
+    fn list_ends_with_no_tag_open(rt: HostRuntime) -> Result<(), Fail> {
+        let mut builder = TreeBuilder::new(rt.alloc());
+        builder.start_list()?;
+        builder.tag(1)?;
+        assert!(rt; builder.end_list().is_err());
+        Ok(())
+    }
 
     fn text(alloc: Global, text: &str) -> Result<Text, NoMemory> {
         Text::copy(alloc, text)

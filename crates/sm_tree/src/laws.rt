@@ -1,5 +1,6 @@
 // Laws of the definitions that the contracts cite. Each is the contract of a function that does nothing.
 ghost use Rattle.sm_tree.specs.Pointer.{TokenReadsBack};
+ghost use Rattle.sm_tree.specs.Utf8.{RestIsUtf8};
 ghost use Rattle.sm_tree.specs.Same.{SameToItself, SameBothWays, OneValueAName};
 
 /// A token of a JSON Pointer, read back as RFC 6901, section 4, says, is the name that it was written for.
@@ -24,4 +25,10 @@ pub fn same_both_ways()
 #[tactic(auto, using(crate::proofs::Sameness::one_value_each))]
 pub fn one_value_a_name()
     ensures { OneValueAName }
+{}
+
+/// What may come at the start of a text is exactly the texts in UTF-8.
+#[tactic(auto, using(crate::proofs::Characters::rest_is_utf8))]
+pub fn rest_is_utf8()
+    ensures { RestIsUtf8 }
 {}

@@ -9,6 +9,7 @@ mod path;
 mod refusal;
 mod text;
 mod tree;
+mod utf8;
 
 pub use build::{OpenKind, TreeBuilder};
 pub use path::{Path, Step};
@@ -16,6 +17,7 @@ pub use refusal::SyntaxRefusal;
 use std::alloc::{AllocError, AllocFailed};
 pub use text::{Bytes, Text};
 pub use tree::{Items, Pairs, Tree};
+pub use utf8::{Utf8, whole_len};
 
 /// The allocator refused the memory that a call needs.
 #[derive(Debug, Clone, Copy, PartialEq, Eq, Drop)]

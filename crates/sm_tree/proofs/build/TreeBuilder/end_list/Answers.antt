@@ -8,5 +8,5 @@ use Rattle.sm_tree.proofs.build.TreeBuilder.end_list.Goals as goal
 pub returns-clause-taken : goal.returns-clause-taken
 returns-clause-taken c =
     on_ok_weaker c.end.result
-    (λ ended. ap so_far ended ∙ end_list_taken (building_of c.args.self.now) c.requires)
+    (λ ended. ap so_far ended.0 ∙ end_list_taken (building_of c.args.self.now) c.requires ended.1)
     c.end.ensures

@@ -5,7 +5,7 @@ use Rattle.sm_tree.specs.Events.{events}
 use Rattle.sm_tree.specs.Building.{so_far, awaits_value, within}
 use Rattle.sm_tree.specs.BuilderView.{open_of, state_of, outer_of}
 use Rattle.sm_tree.specs.declared.build.State.{State}
-use Rattle.sm_tree.proofs.Building.{value_taken}
+use Rattle.sm_tree.proofs.Building.{value_taken, tagged_events}
 use Rattle.sm_tree.proofs.build.TreeBuilder.value.Goals as goal
 
 pub returns-in-Within-clause-taken : goal.returns-in-Within-clause-taken
@@ -13,7 +13,12 @@ returns-in-Within-clause-taken c =
     let awaits : awaits_value (open_of c.in-Within.open) ≡ true =
     subst (λ (s : State). awaits_value (state_of s) ≡ true) c.in-Within.is c.requires in
     on_ok_weaker c.put.result
-    (λ put. ap (λ i. so_far (within i (outer_of c.in-Within.open))) put
+    (λ put. ap (λ i. so_far (within c.in-Within.open.tags.items i (outer_of c.in-Within.open))) put
     ∙ value_taken (open_of c.in-Within.open) (node_of c.args.tree) awaits
     ∙ ap (λ (s : State). so_far (state_of s) ++ events (node_of c.args.tree) []) (sym c.in-Within.is))
     c.put.ensures
+
+pub returns-in_ok-whole-in-Empty-clause-taken : goal.returns-in_ok-whole-in-Empty-clause-taken
+returns-in_ok-whole-in-Empty-clause-taken c =
+    ap (λ n. events n []) c.in_ok-whole-in-Empty.ensures.tree ∙ tagged_events c.in-Empty.tags.items (node_of c.args.tree) []
+    ∙ ap (λ (s : State). so_far (state_of s) ++ events (node_of c.args.tree) []) (sym c.in-Empty.is)
