@@ -12,5 +12,7 @@ pub mod Tabled
 pub mod ModelAnswers
 pub mod Words
 pub mod Lines
+pub mod Outside
 pub mod Body
 pub mod Run
+pub mod Steps
