@@ -66,7 +66,7 @@ first_key_onward limit c ks s es w f (member name n ms, r, fs, (s1, s2, s3, s4, 
       ),
     )
 
-first_key_back : (limit : ℕ) (ks : List OpenKind) (s : List ℕ) (es : List NodeEvent) → KeyComes limit (an_object ∷ ks) s es → FirstKeyComes limit (an_object ∷ ks) s es
+pub first_key_back : (limit : ℕ) (ks : List OpenKind) (s : List ℕ) (es : List NodeEvent) → KeyComes limit (an_object ∷ ks) s es → FirstKeyComes limit (an_object ∷ ks) s es
 first_key_back limit ks s es (s1, k, (name, s2, gs, sp, (x, k1, (s3, k2, (n, s4, hs, v, room, (ms, r, fs, m, room1, en, e2), e1))), e)) =
     (member name n ms, r, fs, (s1, s2, s3, s4, k, sp, (x, k1, k2), v, m), omega arith, en, e ∙ ap (λ y. key_event name ∷ y) (e1 ∙ ap (λ y. events n y) e2))
 
@@ -105,7 +105,7 @@ first_entry_onward limit c ks s es w f (node n ns, r, fs, (s1, s2, k, v, m), roo
     let rest : nodes_levels ns ≤ max (levels n) (nodes_levels ns) = omega arith in
     (s1, k, (n, s2, entries_events ns fs, v, omega arith, (ns, r, fs, m, omega arith, en, refl), e))
 
-first_entry_back : (limit : ℕ) (ks : List OpenKind) (s : List ℕ) (es : List NodeEvent) → ValueComes limit (a_list ∷ ks) s es → FirstEntryComes limit (a_list ∷ ks) s es
+pub first_entry_back : (limit : ℕ) (ks : List OpenKind) (s : List ℕ) (es : List NodeEvent) → ValueComes limit (a_list ∷ ks) s es → FirstEntryComes limit (a_list ∷ ks) s es
 first_entry_back limit ks s es (s1, k, (n, s2, gs, v, room, (ns, r, fs, m, room1, en, e1), e)) =
     (node n ns, r, fs, (s1, s2, k, v, m), omega arith, en, e ∙ ap (λ y. events n y) e1)
 

@@ -10,7 +10,6 @@ pub mod Between
 pub mod After
 pub mod Within
 pub mod Whole
-pub mod Readers
 pub mod Utf8Bytes
 pub mod Utf8Shapes
 pub mod Steps
@@ -21,6 +20,9 @@ pub mod Runs
 pub mod DigitSteps
 pub mod Texts
 pub mod Completions
+pub mod Closing
+pub mod Readers
+pub mod Onward
 pub mod ReaderTurns
 pub mod Owed
 pub mod Turns
@@ -33,3 +35,4 @@ pub mod Lanes
 pub mod OneString
 pub mod OneTree
 pub mod SpeltTrees
+pub mod Answered

@@ -20,8 +20,9 @@ use Rattle.sm_json.specs.declared.text.TextRefusal.{TextRefusal}
 use Rattle.sm_json.specs.declared.text.TextRefusal.TheVariants.{Bad as BadString, NoMemory as NoRoom}
 use Rattle.sm_json.specs.declared.place.Role.{Role}
 use Rattle.sm_json.specs.declared.place.Role.TheVariants.{Key, Value as Whole}
-use Rattle.sm_json.specs.Rest.{Where, after, colon, letters, literal_node, numeral, in_text, State, start, Rest, Leads, Stops}
-use Rattle.sm_json.specs.Machine.{most_levels, where_of, lists_of, state_of, handed_on, PlaceKeeps, IsSound, Goes, TakesByte, TakesFront, TakesAll, TakesWhite, AllWhite, NoneGoesOn, Grows, HandsNumber, HandsText, Finishes, behind_text, text_event_of, moved_by, as_syntax, IsWithin}
+use Rattle.sm_json.specs.Rest.{Where, after, colon, letters, literal_node, numeral, in_text, State, Rest, Leads, GoesOn, Stops}
+use Rattle.sm_tree.specs.Syntax.{most_levels}
+use Rattle.sm_json.specs.Machine.{where_of, lists_of, state_of, handed_on, PlaceKeeps, IsSound, LeadsTo, Goes, Halts, Deepens, HaltsAt, DeepensAt, TakesByte, TakesFront, TakesAll, TakesWhite, AllWhite, Grows, HandsNumber, HandsText, Finishes, behind_text, text_event_of, moved_by, as_syntax, IsWithin}
 use Rattle.sm_json.specs.declared.number.Phase.{Phase}
 use Rattle.sm_json.specs.declared.number.Phase.TheVariants.{Start}
 use Rattle.sm_json.specs.declared.number.Run.{Run}
@@ -36,61 +37,54 @@ use Rattle.sm_json.proofs.Leaves.{number_is}
 use Rattle.sm_json.proofs.White.{white_leads, whites_lead}
 use Rattle.sm_json.proofs.Within.{number_over, number_bytes_lead, number_ends, number_stops, number_last_is, number_event, nothing_ends, string_goes, key_closes, text_closes, letter_leads, word_ends, word_stops, string_no_rest, token_owed, word_owed, IsOwed}
 use Rattle.sm_json.proofs.Owed.{string_owed}
-use Rattle.sm_json.proofs.Whole.{leads_none, leads_joined, text_start, run_is_text, run_is_cut}
-use Rattle.sm_tree.proofs.Events.{events_injective}
-use Rattle.sm_json.specs.Answers.{IsRead, IsNoText, ReadsTree}
-use Rattle.sm_tree.specs.View.{node_of}
-use Rattle.sm_tree.specs.declared.tree.Tree.{Tree}
-use Rattle.sm_json.proofs.Readers.{place_at, leads_from, stops_from, kept_at}
+use Rattle.sm_json.proofs.Whole.{leads_none, leads_joined}
+use Rattle.sm_json.proofs.Readers.{place_at, leads_from, stops_from, deepens_from, kept_at}
+use Rattle.sm_json.proofs.Onward.{reader_goes_on, on_back, halts_then, deepens_then, halts_at, deepens_at}
 
 -- one step behind another
 pub goes_joined : (r q x : Reader) (v w : List ℕ) → Goes r v q → Goes q w x → Goes r (v ++ w) x
 goes_joined r q x v w h g = record {
   out = h.out ++ g.out;
-  leads = leads_joined most_levels (state_of r) (state_of q) (state_of x) v w h.out g.out h.leads g.leads;
+  leads = λ limit up. leads_joined limit (state_of r) (state_of q) (state_of x) v w h.out g.out (h.leads limit up) (g.leads limit up);
   taken = g.taken ∙ ap (λ es. es ++ g.out) h.taken ∙ append_assoc (handed_on r) h.out g.out;
   sound = g.sound;
 }
 
 pub goes_nowhere : (r : Reader) → IsSound r → Goes r [] r
-goes_nowhere r sound = record { out = []; leads = leads_none most_levels (state_of r); taken = sym (append-nil (handed_on r)); sound = sound }
+goes_nowhere r sound = record { out = []; leads = λ limit up. leads_none limit (state_of r); taken = sym (append-nil (handed_on r)); sound = sound }
 
 -- white space
 pub takes_white_after : (r : Reader) → r.place ≡ After → TakesWhite (state_of r).place
 takes_white_after r e = subst (λ p. TakesWhite (where_of p r.number.items r.text.spot (text_of r.text))) (sym e) tt
 
 pub white_goes : (r : Reader) (c : ℕ) → IsSound r → TakesWhite (state_of r).place → is_white c ≡ true → Goes r (c ∷ []) r
-white_goes r c sound p w = record { out = []; leads = white_leads most_levels (state_of r) c p w; taken = sym (append-nil (handed_on r)); sound = sound }
+white_goes r c sound p w = record { out = []; leads = λ limit up. white_leads limit (state_of r) c p w; taken = sym (append-nil (handed_on r)); sound = sound }
 
 pub white_run_goes : (r : Reader) (bs : List ℕ) (k : ℕ) → IsSound r → TakesWhite (state_of r).place → 0 < length bs → k ≤ length bs - 1
     → is_white (get_or bs 0 0) ≡ true → AllWhite (take k (take (length bs - 1) (drop 1 bs))) → Goes r (take (1 + k) bs) r
 white_run_goes r bs k sound p some few here more =
     subst (λ ws. Goes r ws r) (sym (front_grows bs 0 k some few)) (record {
       out = [];
-      leads = whites_lead most_levels (state_of r) (get_or bs 0 0 ∷ take k (take (length bs - 1) (drop 1 bs))) p (here, more);
+      leads = λ limit up. whites_lead limit (state_of r) (get_or bs 0 0 ∷ take k (take (length bs - 1) (drop 1 bs))) p (here, more);
       taken = sym (append-nil (handed_on r));
       sound = sound;
     })
 
--- no text goes on over a byte at which the reader stops, or over bytes at which it does
-cut_at : (bs s : List ℕ) (i : ℕ) → bs ++ s ≡ take i bs ++ (drop i bs ++ s)
-cut_at bs s i = ap (λ x. x ++ s) (sym (take-append-drop i bs)) ∙ append_assoc (take i bs) (drop i bs) s
-
-pub none_later : (r q : Reader) (bs : List ℕ) (i : ℕ) → Goes r (take i bs) q → NoneGoesOn q (drop i bs) → NoneGoesOn r bs
-none_later r q bs i goes none s es h =
-    let (fs, e, rest) = goes.leads.onward (drop i bs ++ s) es (subst (λ u. Rest most_levels (state_of r) u es) (cut_at bs s i) h) in none s fs rest
-
-none_at : (r : Reader) (bs : List ℕ) (i : ℕ) → i < length bs → Stops most_levels (state_of r) (get_or bs i 0) → NoneGoesOn r (drop i bs)
-none_at r bs i inside stops s es h =
-    stops (drop (i + 1) bs ++ s) es (subst (λ u. Rest most_levels (state_of r) (u ++ s) es) (drop_more bs i 0 inside) h)
-
+-- a byte that is refused behind those that led there, and the first byte
 pub refused_later : (r q x : Reader) (bs : List ℕ) (i : ℕ) (refusal : SyntaxRefusal) → i < length bs → Goes r (take i bs) q → TakesByte q (get_or bs i 0) x (Err refusal)
     → TakesFront r bs x (Err (moved_by i refusal))
-refused_later r q x bs i (Bad p) inside goes h = (omega (arith, h.0), none_later r q bs i goes (none_at q bs i inside h.1))
+refused_later r q x bs i (Bad p) inside goes h = subst (λ n. HaltsAt (state_of r) bs (i + n)) (sym h.0) (halts_at r q bs i inside goes h.1)
 refused_later r q x bs i Ended inside goes h = h
-refused_later r q x bs i (TooDeep p) inside goes h = (omega (arith, h.0), none_later r q bs i goes (none_at q bs i inside h.1))
+refused_later r q x bs i (TooDeep p) inside goes h = subst (λ n. DeepensAt (state_of r) bs (i + n)) (sym h.0) (deepens_at r q bs i inside goes h.1)
 refused_later r q x bs i (KeyKind p) inside goes h = h
 refused_later r q x bs i NoMemory inside goes h = tt
+
+pub refused_first : (r x : Reader) (bs : List ℕ) (refusal : SyntaxRefusal) → IsSound r → 0 < length bs → TakesByte r (get_or bs 0 0) x (Err refusal) → TakesFront r bs x (Err refusal)
+refused_first r x bs (Bad p) sound some h = subst (HaltsAt (state_of r) bs) (sym h.0) (halts_at r r bs 0 some (goes_nowhere r sound) h.1)
+refused_first r x bs Ended sound some h = h
+refused_first r x bs (TooDeep p) sound some h = subst (DeepensAt (state_of r) bs) (sym h.0) (deepens_at r r bs 0 some (goes_nowhere r sound) h.1)
+refused_first r x bs (KeyKind p) sound some h = h
+refused_first r x bs NoMemory sound some h = tt
 
 -- a number grows by a run
 pub number_grows : (r q : Reader) (bs : List ℕ) (phase : Phase) (run : Run) → IsSound r → r.place ≡ Number phase → run.count ≤ length bs
@@ -101,10 +95,10 @@ number_grows r q bs phase run sound place inside leads bytes stops there kept sa
   goes = record {
     out = [];
     leads = leads_from r (Number phase) (take run.count bs) [] (state_of q) place
-        (subst (λ p. Leads most_levels (place_at r (Number phase)) (take run.count bs) [] (place_at q p)) (sym there)
-        (subst (λ b. Leads most_levels (place_at r (Number phase)) (take run.count bs) [] (at (numeral b) (lists_of q))) (sym kept)
-        (subst (λ b. Leads most_levels (place_at r (Number phase)) (take run.count bs) [] (at (numeral (r.number.items ++ take run.count bs)) (kinds (building_of b)))) (sym same)
-        (number_bytes_lead most_levels r.number.items (take run.count bs) (lists_of r) bytes))));
+        (subst (λ p. LeadsTo (place_at r (Number phase)) (take run.count bs) [] (place_at q p)) (sym there)
+        (subst (λ b. LeadsTo (place_at r (Number phase)) (take run.count bs) [] (at (numeral b) (lists_of q))) (sym kept)
+        (subst (λ b. LeadsTo (place_at r (Number phase)) (take run.count bs) [] (at (numeral (r.number.items ++ take run.count bs)) (kinds (building_of b)))) (sym same)
+        (λ limit up. number_bytes_lead limit r.number.items (take run.count bs) (lists_of r) bytes))));
     taken = ap (λ b. so_far (building_of b)) same ∙ sym (append-nil (handed_on r));
     sound = record {
       depth = depth ∙ sound.depth ∙ ap (λ b. length (kinds (building_of b))) (sym same);
@@ -129,10 +123,10 @@ stops_number r phase c sound place stops u n = stops u ((phase_of r phase sound 
 pub number_of_phase : (r : Reader) (phase : Phase) → IsSound r → r.place ≡ Number phase → Tail phase [] → IsNumber r.number.items
 number_of_phase r phase sound place whole = number_from_whole r.number.items phase (phase_of r phase sound place) whole
 
-pub number_halts : (r : Reader) (phase : Phase) (c : ℕ) → IsSound r → r.place ≡ Number phase → NumberStops phase c → (Tail phase [] → ⊥) → Stops most_levels (state_of r) c
+pub number_halts : (r : Reader) (phase : Phase) (c : ℕ) → IsSound r → r.place ≡ Number phase → NumberStops phase c → (Tail phase [] → ⊥) → Halts (state_of r) c
 number_halts r phase c sound place stops not_whole =
     stops_from r (Number phase) c place
-    (number_stops most_levels r.number.items c (lists_of r) (λ n. not_whole (whole_from_number r.number.items phase (phase_of r phase sound place) n))
+    (λ limit. number_stops limit r.number.items c (lists_of r) (λ n. not_whole (whole_from_number r.number.items phase (phase_of r phase sound place) n))
     (stops_number r phase c sound place stops))
 
 -- the state behind a number that was handed on
@@ -141,27 +135,39 @@ state_behind r h hands =
     ap (λ p. place_at h p) hands.place ∙ ap (λ ls. at after ls) hands.lists
 
 -- a number is handed on, and then a byte comes that it doesn't go on with
-number_then_halts : (r h : Reader) (phase : Phase) (c : ℕ) → IsSound r → r.place ≡ Number phase → NumberStops phase c → HandsNumber r h → Stops most_levels (state_of h) c → Stops most_levels (state_of r) c
-number_then_halts r h phase c sound place stops hands halts =
-    stops_from r (Number phase) c place (λ s es g.
-    let (fs, e, en) = number_over most_levels r.number.items hands.tree c (lists_of r) s es (stops_number r phase c sound place stops) (λ n x. one_node n hands.tree r.number.items x hands.is) g in
-    halts s fs (subst (λ x. Rest most_levels x (c ∷ s) fs) (sym (state_behind r h hands)) en))
+behind_number : (r h : Reader) (phase : Phase) (c limit : ℕ) → IsSound r → r.place ≡ Number phase → NumberStops phase c → HandsNumber r h → Stops limit (state_of h) c
+    → Stops limit (place_at r (Number phase)) c
+behind_number r h phase c limit sound place stops hands halts s es g =
+    let (fs, e, en) = number_over limit r.number.items hands.tree c (lists_of r) s es (stops_number r phase c sound place stops) (λ n x. one_node n hands.tree r.number.items x hands.is) g in
+    halts s fs (subst (λ x. Rest limit x (c ∷ s) fs) (sym (state_behind r h hands)) en)
+
+number_then_halts : (r h : Reader) (phase : Phase) (c : ℕ) → IsSound r → r.place ≡ Number phase → NumberStops phase c → HandsNumber r h → Halts (state_of h) c → Halts (state_of r) c
+number_then_halts r h phase c sound place stops hands halts = stops_from r (Number phase) c place (λ limit. behind_number r h phase c limit sound place stops hands (halts limit))
+
+number_then_deepens : (r h : Reader) (phase : Phase) (c : ℕ) → IsSound r → r.place ≡ Number phase → NumberStops phase c → HandsNumber r h → Deepens (state_of h) c → Deepens (state_of r) c
+number_then_deepens r h phase c sound place stops hands deep = deepens_from r (Number phase) c place (record {
+  stops = behind_number r h phase c most_levels sound place stops hands deep.stops;
+  deeper =
+      let (s, es, rest) = deep.deeper in
+      let behind = subst (λ x. Rest (most_levels + 1) x (c ∷ s) es) (state_behind r h hands) rest in
+      (s, events hands.tree es, (hands.tree, [], c ∷ s, es, refl, subst (NumberText hands.tree) (sym (append-nil r.number.items)) hands.is, behind, refl));
+})
 
 pub number_then : (r h q : Reader) (phase : Phase) (c : ℕ) (result : Result (Unit {0}) SyntaxRefusal) → IsSound r → r.place ≡ Number phase → NumberStops phase c → HandsNumber r h
     → TakesByte h c q result → TakesByte r c q result
 number_then r h q phase c (Ok x) sound place stops hands g = record {
   out = events hands.tree [] ++ g.out;
   leads = leads_from r (Number phase) (c ∷ []) (events hands.tree [] ++ g.out) (state_of q) place
-      (number_ends most_levels r.number.items hands.tree c (lists_of r) g.out (state_of q) (stops_number r phase c sound place stops)
+      (λ limit up. number_ends limit r.number.items hands.tree c (lists_of r) g.out (state_of q) (stops_number r phase c sound place stops)
       (λ n x. one_node n hands.tree r.number.items x hands.is) hands.is (λ fs. number_event hands.tree r.number.items fs hands.is)
-      (subst (λ x. Leads most_levels x (c ∷ []) g.out (state_of q)) (state_behind r h hands) g.leads));
+      (subst (λ x. Leads limit x (c ∷ []) g.out (state_of q)) (state_behind r h hands) (g.leads limit up)));
   taken = g.taken ∙ ap (λ es. es ++ g.out) hands.taken ∙ append_assoc (handed_on r) (events hands.tree []) g.out;
   sound = g.sound;
 }
 number_then r h q phase c (Err NoMemory) sound place stops hands g = tt
 number_then r h q phase c (Err (Bad p)) sound place stops hands g = (g.0, number_then_halts r h phase c sound place stops hands g.1)
 number_then r h q phase c (Err Ended) sound place stops hands g = g
-number_then r h q phase c (Err (TooDeep p)) sound place stops hands g = (g.0, number_then_halts r h phase c sound place stops hands g.1)
+number_then r h q phase c (Err (TooDeep p)) sound place stops hands g = (g.0, number_then_deepens r h phase c sound place stops hands g.1)
 number_then r h q phase c (Err (KeyKind p)) sound place stops hands g = g
 
 -- one run behind another, by places
@@ -181,18 +187,16 @@ rest_of bs i = take_all (length bs - i) (drop i bs) (omega (arith, length-drop i
 -- a refusal of a turn, carried to all the bytes
 pub refused_in_turn : (r q x : Reader) (bs : List ℕ) (i : ℕ) (refusal : SyntaxRefusal) → i < length bs → Goes r (take i bs) q
     → TakesFront q (take (length bs - i) (drop i bs)) x (Err refusal) → TakesAll r bs x (Err (moved_by i refusal))
-refused_in_turn r q x bs i (Bad p) inside goes h =
-    (omega (arith, h.0, ap length (rest_of bs i), length-drop i bs), none_later r q bs i goes (subst (NoneGoesOn q) (rest_of bs i) h.1))
+refused_in_turn r q x bs i (Bad p) inside goes h = halts_then r q bs i p goes (subst (λ ws. HaltsAt (state_of q) ws p) (rest_of bs i) h)
 refused_in_turn r q x bs i Ended inside goes h = h
-refused_in_turn r q x bs i (TooDeep p) inside goes h =
-    (omega (arith, h.0, ap length (rest_of bs i), length-drop i bs), none_later r q bs i goes (subst (NoneGoesOn q) (rest_of bs i) h.1))
+refused_in_turn r q x bs i (TooDeep p) inside goes h = deepens_then r q bs i p goes (subst (λ ws. DeepensAt (state_of q) ws p) (rest_of bs i) h)
 refused_in_turn r q x bs i (KeyKind p) inside goes h = h
 refused_in_turn r q x bs i NoMemory inside goes h = tt
 
 pub refusal_within : (q x : Reader) (bs : List ℕ) (refusal : SyntaxRefusal) (n : ℕ) → length bs ≤ n → TakesFront q bs x (Err refusal) → IsWithin n refusal
-refusal_within q x bs (Bad p) n small h = omega (arith, h.0)
+refusal_within q x bs (Bad p) n small h = omega (arith, h.inside)
 refusal_within q x bs Ended n small h = tt
-refusal_within q x bs (TooDeep p) n small h = omega (arith, h.0)
+refusal_within q x bs (TooDeep p) n small h = omega (arith, h.inside)
 refusal_within q x bs (KeyKind p) n small h = absurd h
 refusal_within q x bs NoMemory n small h = tt
 
@@ -201,36 +205,42 @@ pub string_on : (r : Reader) (role : Role) (t : TextReader) (bs : List ℕ) → 
 string_on r role t bs sound place on = record {
   out = [];
   leads = leads_from r (Text role) bs [] (state_of (record r { text = t })) place
-      (subst (λ p. Leads most_levels (place_at r (Text role)) bs [] (place_at (record r { text = t }) p)) (sym place)
-      (string_goes most_levels role r.text.spot t.spot (text_of r.text) (text_of t) bs (lists_of r) (λ s u v. (on s u v).0) (λ s u v. (on s u v).1)));
+      (subst (λ p. LeadsTo (place_at r (Text role)) bs [] (place_at (record r { text = t }) p)) (sym place)
+      (λ limit up. string_goes limit role r.text.spot t.spot (text_of r.text) (text_of t) bs (lists_of r) (λ s u v. (on s u v).0) (λ s u v. (on s u v).1)));
   taken = sym (append-nil (handed_on r));
   sound = record { depth = sound.depth; room = sound.room; keeps = sound.keeps };
 }
 
 string_closes : (r h : Reader) (role : Role) (t : TextReader) (bs : List ℕ) → ReadsWhole r.text t bs → HandsText role (record r { text = t }) h
-    → Leads most_levels (place_at r (Text role)) bs (text_event_of role (text_of t) ∷ []) (place_at h (behind_text role))
+    → LeadsTo (place_at r (Text role)) bs (text_event_of role (text_of t) ∷ []) (place_at h (behind_text role))
 string_closes r h Key t bs whole hands =
-    subst (λ ls. Leads most_levels (place_at r (Text Key)) bs (key_event (text_of t) ∷ []) (at colon ls)) (sym hands.lists)
-    (key_closes most_levels r.text.spot (text_of r.text) bs (text_of t) (lists_of r) (λ s u v x. let (a, b) = (whole s u v).0 x in (a, b)) (λ s. (whole s (text_of t) s).1 (refl, refl)))
+    subst (λ ls. LeadsTo (place_at r (Text Key)) bs (key_event (text_of t) ∷ []) (at colon ls)) (sym hands.lists)
+    (λ limit up. key_closes limit r.text.spot (text_of r.text) bs (text_of t) (lists_of r) (λ s u v x. let (a, b) = (whole s u v).0 x in (a, b)) (λ s. (whole s (text_of t) s).1 (refl, refl)))
 string_closes r h Whole t bs whole hands =
-    subst (λ ls. Leads most_levels (place_at r (Text Whole)) bs (text_event (text_of t) ∷ []) (at after ls)) (sym hands.lists)
-    (text_closes most_levels r.text.spot (text_of r.text) bs (text_of t) (lists_of r) (λ s u v x. let (a, b) = (whole s u v).0 x in (a, b)) (λ s. (whole s (text_of t) s).1 (refl, refl)))
+    subst (λ ls. LeadsTo (place_at r (Text Whole)) bs (text_event (text_of t) ∷ []) (at after ls)) (sym hands.lists)
+    (λ limit up. text_closes limit r.text.spot (text_of r.text) bs (text_of t) (lists_of r) (λ s u v x. let (a, b) = (whole s u v).0 x in (a, b)) (λ s. (whole s (text_of t) s).1 (refl, refl)))
 
 pub string_over : (r h : Reader) (role : Role) (t : TextReader) (bs : List ℕ) → r.place ≡ Text role → ReadsWhole r.text t bs → HandsText role (record r { text = t }) h → Goes r bs h
 string_over r h role t bs place whole hands = record {
   out = text_event_of role (text_of t) ∷ [];
   leads = leads_from r (Text role) bs (text_event_of role (text_of t) ∷ []) (state_of h) place
-      (subst (λ p. Leads most_levels (place_at r (Text role)) bs (text_event_of role (text_of t) ∷ []) (place_at h p)) (sym hands.place) (string_closes r h role t bs whole hands));
+      (subst (λ p. LeadsTo (place_at r (Text role)) bs (text_event_of role (text_of t) ∷ []) (place_at h p)) (sym hands.place) (string_closes r h role t bs whole hands));
   taken = hands.taken;
   sound = hands.sound;
 }
 
-pub string_none : (r : Reader) (role : Role) (bs : List ℕ) (i : ℕ) → r.place ≡ Text role
-    → ((s t v : List ℕ) → TextRest r.text.spot (text_of r.text) (take (i + 1) bs ++ s) t v → ⊥) → NoneGoesOn r bs
-string_none r role bs i place stops s es h =
-    string_no_rest most_levels role r.text.spot (text_of r.text) (lists_of r) (bs ++ s) es
-    (λ t v x. stops (drop (i + 1) bs ++ s) t v (subst (λ u. TextRest r.text.spot (text_of r.text) u t v) (cut_at bs s (i + 1)) x))
-    (subst (λ p. Rest most_levels (place_at r p) (bs ++ s) es) place h)
+-- a byte that no string goes on with, behind those that one goes on with
+string_halts : (r : Reader) (role : Role) (t : TextReader) (bs : List ℕ) (i : ℕ) → IsSound r → r.place ≡ Text role → i < length bs → ReadsOn r.text t (take i bs)
+    → ((s u v : List ℕ) → TextRest r.text.spot (text_of r.text) (take (i + 1) bs ++ s) u v → ⊥) → HaltsAt (state_of r) bs i
+string_halts r role t bs i sound place inside on stops =
+    let goes = string_on r role t (take i bs) sound place on in
+    record {
+      inside = inside;
+      before = subst (GoesOn most_levels (state_of r)) (append-nil (take i bs)) (on_back r (record r { text = t }) (take i bs) [] most_levels goes (omega arith) (reader_goes_on (record r { text = t }) goes.sound));
+      behind = λ limit up (s, es, rest).
+          string_no_rest limit role r.text.spot (text_of r.text) (lists_of r) (take (i + 1) bs ++ s) es (λ u v x. stops s u v x)
+          (subst (λ p. Rest limit (place_at r p) (take (i + 1) bs ++ s) es) place rest);
+    }
 
 -- the end of the bytes
 pub number_cut_short : (r : Reader) (phase : Phase) → IsSound r → r.place ≡ Number phase → (0 < r.depth) ⊎ (Tail phase [] → ⊥) → (es : List NodeEvent) → Rest most_levels (state_of r) [] es → ⊥
@@ -269,9 +279,9 @@ pub cut_short : (r : Reader) → IsSound r → ((phase : Phase) → r.place ≡ 
 cut_short r sound no_number deep = cut_at_place r r.place refl sound no_number deep
 
 -- another byte than the next letter of a literal name
-pub letter_halts : (r : Reader) (w : Literal) (taken c : ℕ) → r.place ≡ Word w taken → taken < length (letters w) → get_or (letters w) taken 0 ≢ c → Stops most_levels (state_of r) c
+pub letter_halts : (r : Reader) (w : Literal) (taken c : ℕ) → r.place ≡ Word w taken → taken < length (letters w) → get_or (letters w) taken 0 ≢ c → Halts (state_of r) c
 letter_halts r w taken c place inside other =
-    stops_from r (Word w taken) c place (word_stops most_levels w taken c (get_or (letters w) taken 0) (lists_of r) (drop_more (letters w) taken 0 inside) (λ e. other (sym e)))
+    stops_from r (Word w taken) c place (λ limit. word_stops limit w taken c (get_or (letters w) taken 0) (lists_of r) (drop_more (letters w) taken 0 inside) (λ e. other (sym e)))
 
 pub white_run_takes : (r : Reader) (bs : List ℕ) (k : ℕ) → IsSound r → TakesWhite (state_of r).place → 0 < length bs → k ≤ length (take (length bs - 1) (drop 1 bs))
     → is_white (get_or bs 0 0) ≡ true → AllWhite (take k (take (length bs - 1) (drop 1 bs))) → TakesFront r bs r (Ok (1 + k))
@@ -279,9 +289,10 @@ white_run_takes r bs k sound p some few here more =
     let within : k ≤ length bs - 1 = omega (arith, ap length (rest_of bs 1), length-drop 1 bs) in
     (omega arith, omega arith, white_run_goes r bs k sound p some within here more)
 
-pub string_refused : (r : Reader) (role : Role) (t : TextReader) (q : Reader) (bs : List ℕ) (refusal : TextRefusal) → r.place ≡ Text role → ReadsText r.text t bs (Err refusal) → TakesFront r bs q (Err (as_syntax refusal))
-string_refused r role t q bs (BadString i) place (inside, stops, on) = (inside, string_none r role bs i place stops)
-string_refused r role t q bs NoRoom place h = tt
+pub string_refused : (r : Reader) (role : Role) (t : TextReader) (q : Reader) (bs : List ℕ) (refusal : TextRefusal) → IsSound r → r.place ≡ Text role → ReadsText r.text t bs (Err refusal)
+    → TakesFront r bs q (Err (as_syntax refusal))
+string_refused r role t q bs (BadString i) sound place (inside, stops, on) = string_halts r role t bs i sound place inside on stops
+string_refused r role t q bs NoRoom sound place h = tt
 
 -- one more letter of a literal name
 pub letter_goes : (r : Reader) (w : Literal) (taken c : ℕ) → IsSound r → r.place ≡ Word w taken → taken + 1 < length (letters w) → get_or (letters w) taken 0 ≡ c
@@ -290,7 +301,7 @@ letter_goes r w taken c sound place inside same =
     let cut : drop taken (letters w) ≡ c ∷ drop (taken + 1) (letters w) = drop_more (letters w) taken 0 (omega arith) ∙ ap (λ x. x ∷ drop (taken + 1) (letters w)) same in
     record {
       out = [];
-      leads = leads_from r (Word w taken) (c ∷ []) [] (place_at r (Word w (taken + 1))) place (letter_leads most_levels w taken c (lists_of r) cut);
+      leads = leads_from r (Word w taken) (c ∷ []) [] (place_at r (Word w (taken + 1))) place (λ limit up. letter_leads limit w taken c (lists_of r) cut);
       taken = sym (append-nil (handed_on r));
       sound = record { depth = sound.depth; room = sound.room; keeps = ((kept_at r (Word w taken) place sound).0, inside) };
     }
@@ -304,9 +315,9 @@ word_over r q w taken c place inside last same there lists spoken sound =
     record {
       out = events (literal_node w) [];
       leads = leads_from r (Word w taken) (c ∷ []) (events (literal_node w) []) (state_of q) place
-          (subst (λ p. Leads most_levels (place_at r (Word w taken)) (c ∷ []) (events (literal_node w) []) (place_at q p)) (sym there)
-          (subst (λ ls. Leads most_levels (place_at r (Word w taken)) (c ∷ []) (events (literal_node w) []) (at after ls)) (sym lists)
-          (word_ends most_levels w taken c (lists_of r) cut)));
+          (subst (λ p. LeadsTo (place_at r (Word w taken)) (c ∷ []) (events (literal_node w) []) (place_at q p)) (sym there)
+          (subst (λ ls. LeadsTo (place_at r (Word w taken)) (c ∷ []) (events (literal_node w) []) (at after ls)) (sym lists)
+          (λ limit up. word_ends limit w taken c (lists_of r) cut)));
       taken = spoken;
       sound = sound;
     }
@@ -320,32 +331,3 @@ turn_goes r q x bs i n inside h (some, few, g) =
 
 pub turn_grows : (q x : Reader) (bs : List ℕ) (n : ℕ) → TakesFront q bs x (Ok n) → 0 < n
 turn_grows q x bs n h = h.0
-
--- the answers of read_tree, from a reader that begins
-starts_none : (r : Reader) (bs : List ℕ) → state_of r ≡ start → NoneGoesOn r bs → IsNoText bs
-starts_none r bs begins none n (text, room) =
-    none [] (events n []) (subst (λ x. Rest most_levels x (bs ++ []) (events n [])) (sym begins)
-    (subst (λ u. Rest most_levels start u (events n [])) (sym (append-nil bs)) (text_start most_levels bs n text room)))
-
-pub feed_refused : (r q : Reader) (bs : List ℕ) (refusal : SyntaxRefusal) → state_of r ≡ start → TakesAll r bs q (Err refusal) → ReadsTree bs (Err refusal)
-feed_refused r q bs (Bad p) begins h = starts_none r bs begins h.1
-feed_refused r q bs Ended begins h = absurd h
-feed_refused r q bs (TooDeep p) begins h = starts_none r bs begins h.1
-feed_refused r q bs (KeyKind p) begins h = h
-feed_refused r q bs NoMemory begins h = tt
-
-begun_leads : (r q : Reader) (bs : List ℕ) (goes : Goes r bs q) → state_of r ≡ start → handed_on r ≡ [] → Leads most_levels start bs (handed_on q) (state_of q)
-begun_leads r q bs goes begins nothing =
-    subst (λ out. Leads most_levels start bs out (state_of q)) (sym (goes.taken ∙ ap (λ es. es ++ goes.out) nothing))
-    (subst (λ x. Leads most_levels x bs goes.out (state_of q)) begins goes.leads)
-
-pub tree_read : (r q : Reader) (bs : List ℕ) (result : Result Tree SyntaxRefusal) → state_of r ≡ start → handed_on r ≡ [] → Goes r bs q → Finishes q result → ReadsTree bs result
-tree_read r q bs (Ok tree) begins nothing goes (last, rest, e) =
-    let (n, text, room, same) = run_is_text most_levels bs (handed_on q) last (state_of q) (begun_leads r q bs goes begins nothing) rest in
-    let is = (events_injective n (node_of tree) [] [] (sym same ∙ e)).0 in
-    subst (λ m. IsRead m bs) is (text, room)
-tree_read r q bs (Err NoMemory) begins nothing goes h = tt
-tree_read r q bs (Err (Bad p)) begins nothing goes h = absurd h
-tree_read r q bs (Err Ended) begins nothing goes h = λ n (text, room). run_is_cut most_levels bs (handed_on q) (state_of q) (begun_leads r q bs goes begins nothing) h n text room
-tree_read r q bs (Err (TooDeep p)) begins nothing goes h = absurd h
-tree_read r q bs (Err (KeyKind p)) begins nothing goes h = h

@@ -29,7 +29,7 @@ leads_joined limit x y z v w out more h g = record {
 }
 
 -- what the first state says of a whole text
-start_text : (limit : ℕ) (bs : List ℕ) (es : List NodeEvent) → Rest limit start bs es → (n : Node) × JsonText n bs × (levels n ≤ limit) × (es ≡ events n [])
+pub start_text : (limit : ℕ) (bs : List ℕ) (es : List NodeEvent) → Rest limit start bs es → (n : Node) × JsonText n bs × (levels n ≤ limit) × (es ≡ events n [])
 start_text limit bs es (s, k, (n, r, fs, h, room, (k1, e1), e)) = (n, (s, r, k, h, k1), omega arith, e ∙ ap (λ x. events n x) e1)
 
 pub text_start : (limit : ℕ) (bs : List ℕ) (n : Node) → JsonText n bs → levels n ≤ limit → Rest limit start bs (events n [])

@@ -2,6 +2,7 @@
 use Rattle.std.specs.Prelude.{◌≡◌, ℕ, List, [], ◌∷◌, ◌++◌, codes, IsUtf8}
 use Rattle.sm_tree.specs.Node.{Node}
 use Rattle.sm_tree.specs.Json.{IsJson}
+use Rattle.sm_tree.specs.SyntaxLaws.{HasOneReading, HasOneAnswer}
 use Rattle.sm_json.specs.Strings.{SpellsText}
 use Rattle.sm_json.specs.JsonText.{SpellsValue, JsonText}
 use Rattle.sm_json.specs.Written.{written, written_text}
@@ -30,4 +31,8 @@ pub record EscapesAreMeant : Type 0 where
 
 -- bytes are a text of at most one tree
 abbrev pub OneReading : Type 0
-OneReading = (n m : Node) (bs : List ℕ) → JsonText n bs → JsonText m bs → n ≡ m
+OneReading = HasOneReading JsonText
+
+-- bytes are read as at most one tree, or refused by one word at one place, and never both
+abbrev pub OneRefusal : Type 0
+OneRefusal = HasOneAnswer JsonText

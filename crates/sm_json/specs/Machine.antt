@@ -2,6 +2,7 @@
 -- it; that of `read_tree` doesn't.
 use Rattle.std.specs.Prelude.{◌≡◌, ℕ, ◌+◌, ◌≤◌, ◌<◌, Bool, true, false, List, [], ◌∷◌, ◌++◌, take, drop, length, Result, Ok, Err, slice_index, OnOk}
 use Rattle.sm_tree.specs.Node.{Node}
+use Rattle.sm_tree.specs.Syntax.{most_levels}
 use Rattle.sm_tree.specs.Numbers.{NumberText}
 use Rattle.sm_tree.specs.Events.{NodeEvent, events, key_event, text_event}
 use Rattle.sm_tree.specs.View.{node_of}
@@ -18,7 +19,7 @@ use Rattle.sm_json.specs.declared.text.TextRefusal.TheVariants.{Bad as BadString
 use Rattle.sm_json.specs.NumberTail.{Leads as NumberLeads, Stops as NumberStops}
 use Rattle.sm_json.specs.declared.number.Run.{Run}
 use Rattle.sm_json.specs.Reading.{text_of}
-use Rattle.sm_json.specs.Rest.{Where, value, first_entry, first_key, next_key, colon, after, word, numeral, in_text, State, letters, Rest, Leads, Stops}
+use Rattle.sm_json.specs.Rest.{Where, value, first_entry, first_key, next_key, colon, after, word, numeral, in_text, State, letters, Rest, Leads, GoesOn, Stops}
 use Rattle.sm_json.specs.declared.number.Phase.{Phase}
 use Rattle.sm_json.specs.declared.number.Phase.TheVariants.{Start}
 use Rattle.sm_json.specs.declared.spot.Spot.{Spot}
@@ -34,10 +35,6 @@ use Rattle.sm_json.specs.declared.read.Reader.{Reader}
 abbrev pub AllWhite : List ℕ → Type 0
 AllWhite [] = Unit {0}
 AllWhite (c ∷ cs) = (is_white c ≡ true) × AllWhite cs
-
--- the greatest number of levels that is read
-abbrev pub most_levels : ℕ
-most_levels = 100
 
 -- where a reader stands that has begun a number or a text with these bytes
 abbrev pub where_of : Place → List ℕ → Spot → List ℕ → Where
@@ -81,20 +78,33 @@ pub record IsSound (r : Reader) : Type 0 where
   pub room : r.depth ≤ most_levels
   pub keeps : PlaceKeeps r.place r.number.items (lists_of r) (awaits_value (building_of r.builder))
 
+-- the bytes w lead from one state to another, and complete the events `out`: at each limit from the reader's on
+abbrev pub LeadsTo : State → List ℕ → List NodeEvent → State → Type 0
+LeadsTo before w out behind = (limit : ℕ) → most_levels ≤ limit → Leads limit before w out behind
+
 -- the bytes w lead the reader on, and the events that they complete are handed on
 pub record Goes (before : Reader) (w : List ℕ) (behind : Reader) : Type 0 where
   pub out : List NodeEvent
-  pub leads : Leads most_levels (state_of before) w out (state_of behind)
+  pub leads : LeadsTo (state_of before) w out (state_of behind)
   pub taken : handed_on behind ≡ handed_on before ++ out
   pub sound : IsSound behind
+
+-- with the byte c no text goes on from this state, however deep texts may nest
+abbrev pub Halts : State → ℕ → Type 0
+Halts x c = (limit : ℕ) → Stops limit x c
+
+-- the byte c opens one level too many: none of the texts that are read goes on with it, and a deeper one does
+pub record Deepens (x : State) (c : ℕ) : Type 0 where
+  pub stops : Stops most_levels x c
+  pub deeper : GoesOn (most_levels + 1) x (c ∷ [])
 
 -- what a byte does to the reader
 abbrev pub TakesByte : Reader → ℕ → Reader → Result (Unit {0}) SyntaxRefusal → Type 0
 TakesByte before c behind (Ok x) = Goes before (c ∷ []) behind
 TakesByte before c behind (Err NoMemory) = Unit {0}
-TakesByte before c behind (Err (Bad at)) = (at ≡ 0) × Stops most_levels (state_of before) c
+TakesByte before c behind (Err (Bad at)) = (at ≡ 0) × Halts (state_of before) c
 TakesByte before c behind (Err Ended) = ⊥
-TakesByte before c behind (Err (TooDeep at)) = (at ≡ 0) × Stops most_levels (state_of before) c
+TakesByte before c behind (Err (TooDeep at)) = (at ≡ 0) × Deepens (state_of before) c
 TakesByte before c behind (Err (KeyKind at)) = ⊥
 
 -- a list or an object has ended with the event e, and the reader stands behind it
@@ -115,26 +125,36 @@ abbrev pub BeginsText : Role → Place → Type 0
 BeginsText Key p = p ≡ NextKey
 BeginsText Whole p = p ≡ Value
 
--- no text goes on from the reader's place with these bytes
-abbrev pub NoneGoesOn : Reader → List ℕ → Type 0
-NoneGoesOn before bs = (s : List ℕ) (es : List NodeEvent) → Rest most_levels (state_of before) (bs ++ s) es → ⊥
+-- of the bytes that come at this state, those before the place begin the rest of a text that is read, and with
+-- the byte at the place none goes on, however deep texts may nest
+pub record HaltsAt (x : State) (bs : List ℕ) (at : ℕ) : Type 0 where
+  pub inside : at < length bs
+  pub before : GoesOn most_levels x (take at bs)
+  pub behind : (limit : ℕ) → most_levels ≤ limit → GoesOn limit x (take (at + 1) bs) → ⊥
+
+-- and with the byte at the place only deeper ones go on
+pub record DeepensAt (x : State) (bs : List ℕ) (at : ℕ) : Type 0 where
+  pub inside : at < length bs
+  pub before : GoesOn most_levels x (take at bs)
+  pub deeper : GoesOn (most_levels + 1) x (take (at + 1) bs)
+  pub stops : GoesOn most_levels x (take (at + 1) bs) → ⊥
 
 -- what the reader makes of the front of some bytes: it takes so many of them, or refuses one of them
 abbrev pub TakesFront : Reader → List ℕ → Reader → Result ℕ SyntaxRefusal → Type 0
 TakesFront before bs behind (Ok n) = (0 < n) × (n ≤ length bs) × Goes before (take n bs) behind
 TakesFront before bs behind (Err NoMemory) = Unit {0}
-TakesFront before bs behind (Err (Bad at)) = (at < length bs) × NoneGoesOn before bs
+TakesFront before bs behind (Err (Bad at)) = HaltsAt (state_of before) bs at
 TakesFront before bs behind (Err Ended) = ⊥
-TakesFront before bs behind (Err (TooDeep at)) = (at < length bs) × NoneGoesOn before bs
+TakesFront before bs behind (Err (TooDeep at)) = DeepensAt (state_of before) bs at
 TakesFront before bs behind (Err (KeyKind at)) = ⊥
 
 -- what it makes of all of them
 abbrev pub TakesAll : Reader → List ℕ → Reader → Result (Unit {0}) SyntaxRefusal → Type 0
 TakesAll before bs behind (Ok x) = Goes before bs behind
 TakesAll before bs behind (Err NoMemory) = Unit {0}
-TakesAll before bs behind (Err (Bad at)) = (at < length bs) × NoneGoesOn before bs
+TakesAll before bs behind (Err (Bad at)) = HaltsAt (state_of before) bs at
 TakesAll before bs behind (Err Ended) = ⊥
-TakesAll before bs behind (Err (TooDeep at)) = (at < length bs) × NoneGoesOn before bs
+TakesAll before bs behind (Err (TooDeep at)) = DeepensAt (state_of before) bs at
 TakesAll before bs behind (Err (KeyKind at)) = ⊥
 
 -- the bytes end here: the events are those of the tree, or no text ends so

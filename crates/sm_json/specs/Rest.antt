@@ -124,6 +124,10 @@ pub record Leads (limit : ℕ) (before : State) (w : List ℕ) (out : List NodeE
   pub onward : (s : List ℕ) (es : List NodeEvent) → Rest limit before (w ++ s) es → (fs : List NodeEvent) × (es ≡ out ++ fs) × Rest limit behind s fs
   pub back : (s : List ℕ) (fs : List NodeEvent) → Rest limit behind s fs → Rest limit before (w ++ s) (out ++ fs)
 
+-- some text of at most `limit` levels goes on from this state with these bytes
+abbrev pub GoesOn : ℕ → State → List ℕ → Type 0
+GoesOn limit x bs = (s : List ℕ) × (es : List NodeEvent) × Rest limit x (bs ++ s) es
+
 -- no text goes on from this state with the byte c
 abbrev pub Stops : ℕ → State → ℕ → Type 0
 Stops limit x c = (s : List ℕ) (es : List NodeEvent) → Rest limit x (c ∷ s) es → ⊥

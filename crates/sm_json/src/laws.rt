@@ -1,6 +1,6 @@
-// Laws of the written text, each the contract of a function whose body is empty.
+// Laws of texts and of what is written, each the contract of a function whose body is empty.
 // What reads a written text back stands on them.
-ghost use Rattle.sm_json.specs.Laws.{WrittenIsText, WrittenSpells, WrittenTextSpells, EscapesAreMeant, OneReading};
+ghost use Rattle.sm_json.specs.Laws.{WrittenIsText, WrittenSpells, WrittenTextSpells, EscapesAreMeant, OneReading, OneRefusal};
 
 /// What is written for a tree is a JSON text of that tree (RFC 8259).
 pub fn written_is_text()
@@ -25,4 +25,10 @@ pub fn escapes_are_meant()
 /// Bytes are a JSON text of at most one tree.
 pub fn one_reading()
     ensures { OneReading }
+{}
+
+/// Bytes are read as one tree, or refused by one word at one place: what `read_tree` answers is determined, but
+/// for want of memory.
+pub fn one_refusal()
+    ensures { OneRefusal }
 {}

@@ -18,6 +18,7 @@ mod spot;
 mod tests;
 mod text;
 mod utf8;
+mod whitespace;
 mod write;
 
 pub use length::encoded_len;

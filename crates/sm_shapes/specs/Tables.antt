@@ -1,5 +1,5 @@
--- What a table says of its shapes and members, by number, and what makes a table sound.
-use Rattle.std.specs.Prelude.{◌≡◌, ℕ, ◌<◌, Bool, false, List, [], ◌∷◌, length, Option, Some, None, slice_get}
+-- What a table says of its shapes and members, by number, and when a table is in order.
+use Rattle.std.specs.Prelude.{◌≡◌, ◌⊎◌, ℕ, ◌<◌, Bool, false, List, [], ◌∷◌, length, Option, Some, None, slice_get}
 use Rattle.sm_shapes.specs.declared.table.Table.{Table}
 use Rattle.sm_shapes.specs.declared.table.TableShape.{TableShape}
 use Rattle.sm_shapes.specs.declared.table.TableMember.{TableMember}
@@ -8,10 +8,10 @@ use Rattle.sm_shapes.specs.declared.table.ShapeKind.TheVariants.{Boolean}
 
 -- how many shapes and members there are
 abbrev pub shape_count : Table → ℕ
-shape_count t = length t.shapes.items
+shape_count t = length t.shapes
 
 abbrev pub member_count : Table → ℕ
-member_count t = length t.members.items
+member_count t = length t.members
 
 -- of a shape that may be missing; a number past the table's end is asked about nowhere
 abbrev pub kind_in : Option TableShape → ShapeKind
@@ -20,7 +20,7 @@ kind_in (Some s) = s.kind
 
 abbrev pub members_in : Option TableShape → List ℕ
 members_in None = []
-members_in (Some s) = s.members.items
+members_in (Some s) = s.members
 
 -- of a member that may be missing
 abbrev pub name_in : Option TableMember → List ℕ
@@ -41,24 +41,24 @@ home_in (Some m) = m.shape
 
 -- the kind of the shape with this number, and the numbers of its members in model order
 abbrev pub kind_at : Table → ℕ → ShapeKind
-kind_at t s = kind_in (slice_get t.shapes.items s)
+kind_at t s = kind_in (slice_get t.shapes s)
 
 abbrev pub members_at : Table → ℕ → List ℕ
-members_at t s = members_in (slice_get t.shapes.items s)
+members_at t s = members_in (slice_get t.shapes s)
 
 -- the name of the member with this number, the number of its target, and whether it is required
 abbrev pub name_at : Table → ℕ → List ℕ
-name_at t k = name_in (slice_get t.members.items k)
+name_at t k = name_in (slice_get t.members k)
 
 abbrev pub target_at : Table → ℕ → ℕ
-target_at t k = target_in (slice_get t.members.items k)
+target_at t k = target_in (slice_get t.members k)
 
 abbrev pub required_at : Table → ℕ → Bool
-required_at t k = required_in (slice_get t.members.items k)
+required_at t k = required_in (slice_get t.members k)
 
 -- the number of the shape that the member stands in
 abbrev pub home_at : Table → ℕ → ℕ
-home_at t k = home_in (slice_get t.members.items k)
+home_at t k = home_in (slice_get t.members k)
 
 -- no two of these members have one name
 abbrev pub NoneNamed : Table → List ℕ → List ℕ → Type 0
@@ -74,9 +74,15 @@ abbrev pub StandIn : Table → ℕ → List ℕ → Type 0
 StandIn t s [] = Unit {0}
 StandIn t s (k ∷ ks) = (k < member_count t) × (home_at t k ≡ s) × StandIn t s ks
 
--- Each number is in range; a member stands in the shape that it names, and the names of one shape's
+-- the number k is one of these
+abbrev pub IsAmong : ℕ → List ℕ → Type 0
+IsAmong k [] = ⊥
+IsAmong k (j ∷ js) = (k ≡ j) ⊎ IsAmong k js
+
+-- Each number is in range; a member stands in one shape, the one that it names, and the names of one shape's
 -- members differ.
 pub record Shaped (t : Table) : Type 0 where
   pub targets : (k : ℕ) → k < member_count t → target_at t k < shape_count t
+  pub homes : (k : ℕ) → k < member_count t → (home_at t k < shape_count t) × IsAmong k (members_at t (home_at t k))
   pub members : (s : ℕ) → s < shape_count t → StandIn t s (members_at t s)
   pub names : (s : ℕ) → s < shape_count t → NamesDiffer t (members_at t s)

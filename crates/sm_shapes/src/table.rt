@@ -2,6 +2,7 @@
 ghost use Rattle.std.specs.Prelude.{◌≡◌, ◌<◌};
 ghost use Rattle.sm_shapes.specs.Tables.{shape_count, member_count, kind_at, members_at, name_at, target_at, required_at};
 
+use crate::rows::{MemberNumbers, TableMembers, TableShapes};
 use sm_tree::Text;
 
 /// What kind of values a shape has (Smithy 2.0, "Simple types" and "Aggregate types").
@@ -25,7 +26,7 @@ pub struct TableShape {
     /// What kind of values it has.
     pub kind: ShapeKind,
     /// The numbers of its members, in model order.
-    pub members: Vec<u32>,
+    pub members: MemberNumbers,
     /// Whether the entries of a list differ from each other.
     pub unique: bool,
     /// Whether null may stand in a list or a map.
@@ -53,9 +54,9 @@ pub struct TableMember {
 #[derive(Debug, Drop)]
 pub struct Table {
     /// The shapes.
-    pub shapes: Vec<TableShape>,
+    pub shapes: TableShapes,
     /// The members of all shapes. A member's number is one number in the whole table.
-    pub members: Vec<TableMember>,
+    pub members: TableMembers,
 }
 
 impl Table {
@@ -64,7 +65,7 @@ impl Table {
         requires { shape < shape_count self.now }
         ensures { result ≡ kind_at self.now shape }
     {
-        self.shapes[shape as usize].kind
+        self.shapes.as_slice()[shape as usize].kind
     }
 
     /// The numbers of a shape's members, in model order. No memory.
@@ -72,7 +73,7 @@ impl Table {
         requires { shape < shape_count self.now }
         ensures { result.now ≡ members_at self.now shape }
     {
-        self.shapes[shape as usize].members.as_slice()
+        self.shapes.as_slice()[shape as usize].members.as_slice()
     }
 
     /// A member's name. No memory.
@@ -80,7 +81,7 @@ impl Table {
         requires { member < member_count self.now }
         ensures { result.now ≡ name_at self.now member }
     {
-        &self.members[member as usize].name
+        &self.members.as_slice()[member as usize].name
     }
 
     /// The number of the shape of a member's values. No memory.
@@ -88,7 +89,7 @@ impl Table {
         requires { member < member_count self.now }
         ensures { result ≡ target_at self.now member }
     {
-        self.members[member as usize].target
+        self.members.as_slice()[member as usize].target
     }
 
     /// Whether a value of its shape must have a member. No memory.
@@ -96,6 +97,6 @@ impl Table {
         requires { member < member_count self.now }
         ensures { result ≡ required_at self.now member }
     {
-        self.members[member as usize].required
+        self.members.as_slice()[member as usize].required
     }
 }

@@ -1,7 +1,7 @@
 // What no clause says: that calls succeed where memory is ample, and the calls at work together.
 use crate::{
-    FaultKind, Fields, LiteralPatterns, PatternRefusal, Patterns, ShapeKind, Table, TableMember,
-    TableShape, Value,
+    FaultKind, Fields, LiteralPatterns, MemberNumbers, PatternRefusal, Patterns, ShapeKind, Table,
+    TableMember, TableMembers, TableShape, TableShapes, Value,
 };
 use sm_tree::Text;
 use std::alloc::{AllocError, Global};
@@ -34,7 +34,7 @@ fn member(
 fn shape(kind: ShapeKind, members: Vec<u32>) -> TableShape {
     TableShape {
         kind,
-        members,
+        members: MemberNumbers::new(members),
         unique: false,
         sparse: false,
         unit: false,
@@ -61,11 +61,11 @@ fn table_gives_what_stands_at_a_number(rt: HostRuntime) -> Result<(), Fail> {
     let text = shape(ShapeKind::Text, Vec::new(alloc));
     let order = shape(ShapeKind::Structure, vec![in alloc; 0u32, 1]?);
     let table = Table {
-        shapes: vec![in alloc; text, order]?,
-        members: vec![in alloc;
+        shapes: TableShapes::new(vec![in alloc; text, order]?),
+        members: TableMembers::new(vec![in alloc;
             member(alloc, "id", 0, true)?,
             member(alloc, "next", 1, false)?,
-        ]?,
+        ]?),
     };
     assert_eq!(rt; table.kind(0), ShapeKind::Text);
     assert_eq!(rt; table.kind(1), ShapeKind::Structure);

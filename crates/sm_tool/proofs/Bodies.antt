@@ -13,7 +13,11 @@ use Rattle.sm_tree.specs.declared.path.Step.{Step}
 use Rattle.sm_tree.specs.declared.NoMemory.{NoMemory as OutOfMemory}
 use Rattle.sm_tree.specs.declared.refusal.SyntaxRefusal.{SyntaxRefusal}
 use Rattle.sm_tree.specs.declared.refusal.SyntaxRefusal.TheVariants.{Bad, Ended, TooDeep, KeyKind, NoMemory as no_room}
-use Rattle.sm_json.specs.Answers.{IsRead, IsNoText, ReadsTree}
+use Rattle.sm_tree.specs.Syntax.{IsRead}
+use Rattle.sm_tree.specs.SyntaxLaws.{IsRefused}
+use Rattle.sm_tree.proofs.OneAnswer.{refused_no_text}
+use Rattle.sm_json.specs.JsonText.{JsonText}
+use Rattle.sm_json.specs.Answers.{ReadsTree}
 use Rattle.sm_json.specs.Written.{written}
 use Rattle.sm_json.proofs.OneTree.{one_tree}
 use Rattle.sm_shapes.specs.Val.{Val}
@@ -72,30 +76,35 @@ pub fault_answers : (t : Table) (s : ℕ) (n : Node) (path : List Step) (kind : 
 fault_answers t s n path kind later first = λ body read. fault n path kind later read first refl
 
 -- a tree that was read from the bytes, and bytes that are no text
-pub tree_comes : (t : Table) (s : ℕ) (n : Node) (body : List ℕ) (result : Result (Vec ℕ) Stop) → IsRead n body → ComesTo (TreeAnswers t s n) ⊥ (Unit {0}) result → ComesTo (TextAnswers t s body) ⊥ (Unit {0}) result
+pub tree_comes : (t : Table) (s : ℕ) (n : Node) (body : List ℕ) (result : Result (Vec ℕ) Stop) → IsRead JsonText n body → ComesTo (TreeAnswers t s n) ⊥ (Unit {0}) result → ComesTo (TextAnswers t s body) ⊥ (Unit {0}) result
 tree_comes t s n body result read h = comes_map (TreeAnswers t s n) (TextAnswers t s body) ⊥ ⊥ (Unit {0}) (Unit {0}) result (λ a says. says body read) (λ x. x) (λ x. x) h
 
-pub refused_text : (bs : List ℕ) (refusal : SyntaxRefusal) → ReadsTree bs (Err refusal) → (refusal ≡ no_room → ⊥) → IsNoText bs
-refused_text bs (Bad at) h not = h
-refused_text bs Ended h not = h
-refused_text bs (TooDeep at) h not = h
-refused_text bs (KeyKind at) h not = absurd h
-refused_text bs no_room h not = absurd (not refl)
+pub refused_so : (body : List ℕ) (refusal : SyntaxRefusal) → ReadsTree body (Err refusal) → (refusal ≡ no_room → ⊥) → IsRefused JsonText body refusal
+refused_so body (Bad at) h other = h
+refused_so body Ended h other = h
+refused_so body (TooDeep at) h other = h
+refused_so body (KeyKind at) h other = h
+refused_so body no_room h other = other refl
 
-pub text_stops : (t : Table) (s : ℕ) (body : List ℕ) (refusal : SyntaxRefusal) (stop : Stop) → IsNoText body → EndsWithLine (syntax_line refusal) stop → StopsAt (TextAnswers t s body) ⊥ (Unit {0}) stop
-text_stops t s body refusal stop none ends = line_stops (TextAnswers t s body) ⊥ (Unit {0}) (syntax_line refusal) stop (no_text refusal none refl) tt ends
+pub text_stops : (t : Table) (s : ℕ) (body : List ℕ) (refusal : SyntaxRefusal) (stop : Stop) → IsRefused JsonText body refusal → EndsWithLine (syntax_line refusal) stop → StopsAt (TextAnswers t s body) ⊥ (Unit {0}) stop
+text_stops t s body refusal stop is ends = line_stops (TextAnswers t s body) ⊥ (Unit {0}) (syntax_line refusal) stop (no_text refusal is refl) tt ends
 
 -- the model that the tree of a file says
-pub model_read : (name file : List ℕ) (n : Node) (result : Result (Option FirstModel) OutOfMemory) → EndsInJson name → IsRead n file → ReadsModel n result → ReadsModelFile name file result
+pub model_read : (name file : List ℕ) (n : Node) (result : Result (Option FirstModel) OutOfMemory) → EndsInJson name → IsRead JsonText n file → ReadsModel n result → ReadsModelFile name file result
 model_read name file n (Ok (Some m)) json read h = (json, (n, read, h))
 model_read name file n (Ok None) json read h =
     λ m is. h m (subst (λ x. FirstForm x m) (one_tree is.tree n file is.read.0 read.0) is.form)
 model_read name file n (Err e) json read h = tt
 
--- a file that is longer than its limit
+-- a file that is no text
+pub no_model_text : (name file : List ℕ) (refusal : SyntaxRefusal) → IsRefused JsonText file refusal → IsUnbuilt name file
+no_model_text name file refusal is m model = refused_no_text JsonText file refusal is model.tree model.read
+
+-- a list of any length
 long_list : (n : ℕ) → (xs : List ℕ) × (length xs ≡ n)
 long_list n = (replicate n 0, length-replicate n 0)
 
+-- a file that is longer than the limit, where told or not; and such an input
 pub longer_file : (told : Option Folder) (name : List ℕ) (limit : ℕ) → HoldsLonger told name limit → (file : List ℕ) × Holds told name (Some file) × (limit < length file)
 longer_file None name limit h = let w = long_list (limit + 1) in (w.0, tt, omega (arith, w.1))
 longer_file (Some folder) name limit h = at_file (file_at folder name) h
@@ -176,5 +185,5 @@ pub shape_within : (files : FilesSeen) (name shape : List ℕ) (read : FirstMode
 shape_within files name shape read s h found =
     let among : s < length read.names.items = slice_get_within read.names.items s shape found in
     let count : length read.names.items ≡ length h.m = ap (λ xs. length xs) h.names ∙ length-map h.m (λ l. l.name) in
-    let size : shape_count read.table ≡ length h.m + 4 = shape_count_is h.m read.table h.tabled in
+    let size : shape_count read.table ≡ length h.m + 4 = ap shape_count h.tabled ∙ shape_count_is h.m in
     omega (arith, among, count, size)

@@ -6,7 +6,8 @@ use Rattle.sm_tree.specs.View.{members_view}
 use Rattle.sm_tree.specs.declared.tree.Tree.{Tree}
 use Rattle.sm_tool.specs.Names.{AllDiffer}
 use Rattle.sm_tool.specs.FirstForm.{MemberLine, StructureLine, member_names, shape_names, HasBoth, MembersSay, ShapeSays, ShapesSay, FirstForm}
-use Rattle.sm_tool.specs.Tabled.{Tabled}
+use Rattle.sm_tool.specs.Tabled.{table_of}
+use Rattle.sm_shapes.specs.Tables.{Shaped}
 use Rattle.sm_tool.specs.ModelAnswers.{IsModel}
 use Rattle.sm_tool.specs.declared.model.structures.FirstModel.{FirstModel}
 use Rattle.sm_tool.proofs.Pairs.{names}
@@ -75,13 +76,13 @@ pub no_shapes_said : (n : Node) (xs : List (List ℕ × Tree)) → IsVersioned n
 no_shapes_said n xs is refuses m h = refuses m (subst (λ ms. ShapesSay ms m) (model_pairs n xs m is h) h.says)
 
 pub is_model : (n : Node) (xs : List (List ℕ × Tree)) (read : FirstModel) (m : List StructureLine) → IsVersioned n xs → AllDiffer (map (λ p. p.0) xs)
-    → ShapesSay (members_of (members_view xs)) m → Tabled m read.table → read.names.items ≡ map (λ p. p.0) xs → IsModel n read
+    → ShapesSay (members_of (members_view xs)) m → read.table ≡ table_of m → read.names.items ≡ map (λ p. p.0) xs → IsModel n read
 is_model n xs read m is differ says tabled names_are = record {
   model = m;
   form = form;
   names = names_are ∙ sym said;
   tabled = tabled;
-  shaped = shaped n m read.table form tabled;
+  shaped = subst Shaped (sym tabled) (shaped n m form);
 }
   where
     said : shape_names m ≡ map (λ p. p.0) xs
@@ -95,5 +96,5 @@ pub named_within : (n : Node) (read : FirstModel) (s : ℕ) (name : List ℕ) �
 named_within n read s name is found =
     let among : s < length read.names.items = slice_get_within read.names.items s name found in
     let count : length read.names.items ≡ length is.model = ap (λ xs. length xs) is.names ∙ length-map is.model (λ l. l.name) in
-    let size : shape_count read.table ≡ length is.model + 4 = shape_count_is is.model read.table is.tabled in
+    let size : shape_count read.table ≡ length is.model + 4 = ap shape_count is.tabled ∙ shape_count_is is.model in
     omega (arith, among, count, size)

@@ -9,7 +9,8 @@ use Rattle.sm_shapes.specs.declared.table.Table.{Table}
 use Rattle.sm_shapes.specs.declared.table.TableMember.{TableMember}
 use Rattle.sm_shapes.specs.declared.table.ShapeKind.TheVariants.{Structure}
 use Rattle.sm_tool.specs.FirstForm.{MemberLine, StructureLine, PairSays, MembersSay, ShapeSays, ShapesSay}
-use Rattle.sm_tool.specs.Tabled.{ShapeRow, shape_row, plain_row, numbers, structure_rows, simple_rows, place, member_row, member_rows, Tabled}
+use Rattle.sm_shapes.specs.declared.table.TableShape.{TableShape}
+use Rattle.sm_tool.specs.Tabled.{plain_shape, numbers, structure_shapes, simple_shapes, place, member_row, member_rows, table_of}
 use Rattle.sm_tool.specs.ModelAnswers.{AreAdded, IsAdded}
 
 -- whatever the rest of the pairs says completes the rows so far to those of all pairs, and where all pairs
@@ -60,9 +61,9 @@ pub members_stop : (n s : ℕ) (all : Members) (k : List ℕ) (t : Node) (rest :
 members_stop n s all k t rest before now added r refuses ls h = let f = first_says k t rest (r.part ls h).0 (r.part ls h).1 in refuses f.0 f.2
 
 -- the same of shapes
-pub record ShapesRead (n : ℕ) (all rest : Members) (s : ℕ) (rows : List ShapeRow) (members : List TableMember) : Type 0 where
+pub record ShapesRead (n : ℕ) (all rest : Members) (s : ℕ) (rows : List TableShape) (members : List TableMember) : Type 0 where
   pub whole : (m : List StructureLine) → ShapesSay rest m → (whole : List StructureLine) × ShapesSay all whole
-      × (structure_rows 0 whole ≡ rows ++ structure_rows (length members) m) × (member_rows n 0 whole ≡ members ++ member_rows n s m) × (length whole ≡ s + length m)
+      × (structure_shapes 0 whole ≡ rows ++ structure_shapes (length members) m) × (member_rows n 0 whole ≡ members ++ member_rows n s m) × (length whole ≡ s + length m)
   pub part : (m : List StructureLine) → ShapesSay all m → (part : List StructureLine) × ShapesSay rest part
 
 pub shapes_start : (n : ℕ) (all : Members) → ShapesRead n all all 0 [] []
@@ -73,9 +74,9 @@ first_shape : (k : List ℕ) (t : Node) (rest : Members) (m : List StructureLine
 first_shape k t rest [] h = absurd h
 first_shape k t rest (l ∷ m) h = (l.members, m, h.1, h.2)
 
-pub shapes_more : (n : ℕ) (all : Members) (k : List ℕ) (t : Node) (rest : Members) (s : ℕ) (rows : List ShapeRow) (members : List TableMember) (before after : Table)
-    → ShapesRead n all (member k t rest) s rows members → rows ≡ map shape_row before.shapes.items → members ≡ before.members.items → IsAdded n s t before after
-    → ShapesRead n all rest (s + 1) (map shape_row after.shapes.items) after.members.items
+pub shapes_more : (n : ℕ) (all : Members) (k : List ℕ) (t : Node) (rest : Members) (s : ℕ) (rows : List TableShape) (members : List TableMember) (before after : Table)
+    → ShapesRead n all (member k t rest) s rows members → rows ≡ before.shapes → members ≡ before.members → IsAdded n s t before after
+    → ShapesRead n all rest (s + 1) (after.shapes) after.members
 shapes_more n all k t rest s rows members before after r same_rows same_members added = record {
   whole = λ m h. more m (r.whole (record { name = k; members = lines } ∷ m) (refl, added.says, h));
   part = λ m h. let f = first_shape k t rest (r.part m h).0 (r.part m h).1 in (f.1, f.3);
@@ -84,49 +85,51 @@ shapes_more n all k t rest s rows members before after r same_rows same_members 
     lines : List MemberLine
     lines = added.lines
 
-    row : List TableMember → ShapeRow
-    row x = plain_row Structure (numbers (length x) lines)
+    row : List TableMember → TableShape
+    row x = plain_shape Structure (numbers (length x) lines)
 
-    rows_are : map shape_row after.shapes.items ≡ rows ++ row members ∷ []
-    rows_are = added.shapes ∙ ap (λ x. x ++ row before.members.items ∷ []) (sym same_rows) ∙ ap (λ x. rows ++ row x ∷ []) (sym same_members)
+    rows_are : after.shapes ≡ rows ++ row members ∷ []
+    rows_are = added.shapes ∙ ap (λ x. x ++ row before.members ∷ []) (sym same_rows) ∙ ap (λ x. rows ++ row x ∷ []) (sym same_members)
 
-    members_are : after.members.items ≡ members ++ map (member_row n s) lines
+    members_are : after.members ≡ members ++ map (member_row n s) lines
     members_are = added.members ∙ ap (λ x. x ++ map (member_row n s) lines) (sym same_members)
 
-    count : length after.members.items ≡ length members + length lines
+    count : length after.members ≡ length members + length lines
     count = ap (λ x. length x) members_are ∙ length-append members (map (member_row n s) lines) ∙ ap (λ x. length members + x) (length-map lines (member_row n s))
 
-    Whole : List StructureLine → List ShapeRow → List TableMember → ℕ → Type 0
-    Whole m later_rows later_members size = (whole : List StructureLine) × ShapesSay all whole × (structure_rows 0 whole ≡ later_rows) × (member_rows n 0 whole ≡ later_members) × (length whole ≡ size)
+    Whole : List StructureLine → List TableShape → List TableMember → ℕ → Type 0
+    Whole m later_rows later_members size = (whole : List StructureLine) × ShapesSay all whole × (structure_shapes 0 whole ≡ later_rows) × (member_rows n 0 whole ≡ later_members) × (length whole ≡ size)
 
     more : (m : List StructureLine)
-        → Whole m (rows ++ (row members ∷ structure_rows (length members + length lines) m)) (members ++ (map (member_row n s) lines ++ member_rows n (s + 1) m)) (s + suc (length m))
-        → Whole m (map shape_row after.shapes.items ++ structure_rows (length after.members.items) m) (after.members.items ++ member_rows n (s + 1) m) (s + 1 + length m)
+        → Whole m (rows ++ (row members ∷ structure_shapes (length members + length lines) m)) (members ++ (map (member_row n s) lines ++ member_rows n (s + 1) m)) (s + suc (length m))
+        → Whole m (after.shapes ++ structure_shapes (length after.members) m) (after.members ++ member_rows n (s + 1) m) (s + 1 + length m)
     more m w = (
       w.0,
       w.1,
-      w.2 ∙ sym (append_assoc rows (row members ∷ []) (structure_rows (length members + length lines) m))
-          ∙ ap (λ x. x ++ structure_rows (length members + length lines) m) (sym rows_are)
-          ∙ ap (λ x. map shape_row after.shapes.items ++ structure_rows x m) (sym count),
+      w.2 ∙ sym (append_assoc rows (row members ∷ []) (structure_shapes (length members + length lines) m))
+          ∙ ap (λ x. x ++ structure_shapes (length members + length lines) m) (sym rows_are)
+          ∙ ap (λ x. after.shapes ++ structure_shapes x m) (sym count),
       w.3 ∙ sym (append_assoc members (map (member_row n s) lines) (member_rows n (s + 1) m)) ∙ ap (λ x. x ++ member_rows n (s + 1) m) (sym members_are),
       w.4 ∙ omega arith,
     )
 
-pub shapes_stop : (n : ℕ) (all : Members) (k : List ℕ) (t : Node) (rest : Members) (s : ℕ) (rows : List ShapeRow) (members : List TableMember)
+pub shapes_stop : (n : ℕ) (all : Members) (k : List ℕ) (t : Node) (rest : Members) (s : ℕ) (rows : List TableShape) (members : List TableMember)
     → ShapesRead n all (member k t rest) s rows members → ((ls : List MemberLine) → ShapeSays t ls → ⊥) → (m : List StructureLine) → ShapesSay all m → ⊥
 shapes_stop n all k t rest s rows members r refuses m h = let f = first_shape k t rest (r.part m h).0 (r.part m h).1 in refuses f.0 f.2
 
-pub shapes_end : (n : ℕ) (all : Members) (s : ℕ) (rows : List ShapeRow) (members : List TableMember) (t : Table) → ShapesRead n all no_members s rows members → n ≡ s
-    → map shape_row t.shapes.items ≡ rows ++ simple_rows → t.members.items ≡ members → (m : List StructureLine) × ShapesSay all m × Tabled m t
+-- tables are equal where their shapes and their members are
+same_table : (t u : Table) → t.shapes ≡ u.shapes → t.members ≡ u.members → t ≡ u
+same_table t u shapes members = ap (λ x. record { shapes = x; members = t.members }) shapes ∙ ap (λ x. record { shapes = u.shapes; members = x }) members
+
+pub shapes_end : (n : ℕ) (all : Members) (s : ℕ) (rows : List TableShape) (members : List TableMember) (t : Table) → ShapesRead n all no_members s rows members → n ≡ s
+    → t.shapes ≡ rows ++ simple_shapes → t.members ≡ members → (m : List StructureLine) × ShapesSay all m × (t ≡ table_of m)
 shapes_end n all s rows members t r same rows_are members_are =
     let w = r.whole [] tt in
     let size : n ≡ length w.0 = omega (arith, same, w.4) in (
       w.0,
       w.1,
-      record {
-        shapes = rows_are ∙ ap (λ x. x ++ simple_rows) (sym (w.2 ∙ append-nil rows));
-        members = members_are ∙ sym (w.3 ∙ append-nil members) ∙ ap (λ x. member_rows x 0 w.0) size;
-      },
+      same_table t (table_of w.0) (rows_are ∙ ap (λ x. x ++ simple_shapes) (sym (w.2 ∙ append-nil rows)))
+          (members_are ∙ sym (w.3 ∙ append-nil members) ∙ ap (λ x. member_rows x 0 w.0) size),
     )
 
 -- the loops over pairs: x stands at i
@@ -161,27 +164,27 @@ members_done n s all xs i before now added h r = members_end n s all before now 
 
 -- the rows and members of a table so far
 abbrev pub TableRead : ℕ → Members → Members → ℕ → Table → Type 0
-TableRead n all rest s t = ShapesRead n all rest s (map shape_row t.shapes.items) t.members.items
+TableRead n all rest s t = ShapesRead n all rest s (t.shapes) t.members
 
-pub table_start : (n : ℕ) (all : Members) (t : Table) → t.shapes.items ≡ [] → t.members.items ≡ [] → TableRead n all all 0 t
+pub table_start : (n : ℕ) (all : Members) (t : Table) → t.shapes ≡ [] → t.members ≡ [] → TableRead n all all 0 t
 table_start n all t no_shapes none =
-    subst (λ ys. ShapesRead n all all 0 (map shape_row ys) t.members.items) (sym no_shapes) (subst (λ ys. ShapesRead n all all 0 [] ys) (sym none) (shapes_start n all))
+    subst (λ ys. ShapesRead n all all 0 ys t.members) (sym no_shapes) (subst (λ ys. ShapesRead n all all 0 [] ys) (sym none) (shapes_start n all))
 
 pub table_step : (n : ℕ) (all : Members) (xs : List (List ℕ × Tree)) (i : ℕ) (x : List ℕ × Tree) (s : ℕ) (before after : Table)
     → i < length xs → x ≡ get_or xs i x → TableRead n all (view (drop i xs)) s before → IsAdded n s (node_of x.1) before after → TableRead n all (view (drop (i + 1) xs)) (s + 1) after
 table_step n all xs i x s before after h e r added =
-    shapes_more n all x.0 (node_of x.1) (view (drop (i + 1) xs)) s (map shape_row before.shapes.items) before.members.items before after
+    shapes_more n all x.0 (node_of x.1) (view (drop (i + 1) xs)) s (before.shapes) before.members before after
     (subst (λ ms. TableRead n all ms s before) (next_pair xs i x h e) r) refl refl added
 
 pub table_refused : (n : ℕ) (all : Members) (xs : List (List ℕ × Tree)) (i : ℕ) (x : List ℕ × Tree) (s : ℕ) (t : Table)
     → i < length xs → x ≡ get_or xs i x → TableRead n all (view (drop i xs)) s t → ((ls : List MemberLine) → ShapeSays (node_of x.1) ls → ⊥) → (m : List StructureLine) → ShapesSay all m → ⊥
 table_refused n all xs i x s t h e r =
-    shapes_stop n all x.0 (node_of x.1) (view (drop (i + 1) xs)) s (map shape_row t.shapes.items) t.members.items (subst (λ ms. TableRead n all ms s t) (next_pair xs i x h e) r)
+    shapes_stop n all x.0 (node_of x.1) (view (drop (i + 1) xs)) s (t.shapes) t.members (subst (λ ms. TableRead n all ms s t) (next_pair xs i x h e) r)
 
 pub table_done : (n : ℕ) (all : Members) (xs : List (List ℕ × Tree)) (i s : ℕ) (before after : Table) → length xs ≤ i → TableRead n all (view (drop i xs)) s before → n ≡ s
-    → map shape_row after.shapes.items ≡ map shape_row before.shapes.items ++ simple_rows → after.members.items ≡ before.members.items
-    → (m : List StructureLine) × ShapesSay all m × Tabled m after
-table_done n all xs i s before after h r = shapes_end n all s (map shape_row before.shapes.items) before.members.items after (subst (λ ms. TableRead n all ms s before) (past_pairs xs i h) r)
+    → after.shapes ≡ before.shapes ++ simple_shapes → after.members ≡ before.members
+    → (m : List StructureLine) × ShapesSay all m × (after ≡ table_of m)
+table_done n all xs i s before after h r = shapes_end n all s (before.shapes) before.members after (subst (λ ms. TableRead n all ms s before) (past_pairs xs i h) r)
 
 -- the row of a member, from its parts
 pub row_is : (n s : ℕ) (l : MemberLine) (name : List ℕ) (p : ℕ) → name ≡ l.name → p ≡ place l.target → record { shape = s; name = name; json_name = None; target = n + p; required = l.required } ≡ member_row n s l

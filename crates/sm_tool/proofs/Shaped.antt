@@ -1,10 +1,12 @@
--- The table of a model in the first form is sound.
-use Rattle.std.proofs.Common.{◌≡◌, ℕ, zero, suc, ◌+◌, ◌<◌, List, [], ◌∷◌, ◌++◌, length, map, Option, None, Some, sym, ap, ◌∙◌, refl, subst, arith, append_assoc, length-append}
+-- The table of a model in the first form is in order.
+use Rattle.std.proofs.Common.{◌≡◌, inl, inr, ℕ, zero, suc, ◌+◌, ◌<◌, ◌≤◌, List, [], ◌∷◌, ◌++◌, length, map, Option, None, Some, sym, ap, ◌∙◌, refl, subst, arith, append_assoc, length-append}
 use Rattle.std.proofs.lemmas.List.{length-map}
-use Rattle.std.proofs.lemmas.Option.{slice_get_within, slice_get-map}
-use Rattle.std.specs.Prelude.{slice_get, option_map}
+use Rattle.std.proofs.lemmas.Bool.{cases_lt}
+use Rattle.std.proofs.Math.Nat.{eq-or-lt_of_le}
+use Rattle.std.proofs.lemmas.Option.{slice_get_within}
+use Rattle.std.specs.Prelude.{slice_get}
 use Rattle.sm_tree.specs.Node.{Node, Members, no_members, member}
-use Rattle.sm_shapes.specs.Tables.{shape_count, members_in, name_in, target_in, home_in, members_at, target_at, NoneNamed, NamesDiffer, StandIn, Shaped}
+use Rattle.sm_shapes.specs.Tables.{shape_count, member_count, members_in, name_in, target_in, home_in, members_at, target_at, home_at, NoneNamed, NamesDiffer, StandIn, IsAmong, Shaped}
 use Rattle.sm_shapes.specs.declared.table.Table.{Table}
 use Rattle.sm_shapes.specs.declared.table.TableShape.{TableShape}
 use Rattle.sm_shapes.specs.declared.table.TableMember.{TableMember}
@@ -12,7 +14,7 @@ use Rattle.sm_tool.specs.declared.model.target.SimpleTarget.{SimpleTarget}
 use Rattle.sm_tool.specs.declared.model.target.SimpleTarget.TheVariants.{String, Boolean, Integer, Long}
 use Rattle.sm_tool.specs.Names.{NoneIs, AllDiffer}
 use Rattle.sm_tool.specs.FirstForm.{MemberLine, StructureLine, member_names, ShapesSay, FirstForm}
-use Rattle.sm_tool.specs.Tabled.{ShapeRow, shape_row, numbers, structure_rows, simple_rows, place, member_row, member_rows, Tabled}
+use Rattle.sm_tool.specs.Tabled.{numbers, structure_shapes, simple_shapes, place, member_row, member_rows, table_of}
 
 -- the element behind a front
 at : {X : Type 0} (before : List X) (x : X) (after : List X) → slice_get (before ++ (x ∷ after)) (length before) ≡ Some x
@@ -47,16 +49,24 @@ target_below b [] k pos h = pos
 target_below b (x ∷ xs) zero pos h = h.0
 target_below b (x ∷ xs) (suc k) pos h = target_below b xs k pos h.1
 
-rows_length : (k : ℕ) (m : List StructureLine) → length (structure_rows k m) ≡ length m
-rows_length k [] = refl
-rows_length k (l ∷ m) = ap (λ x. suc x) (rows_length (k + length l.members) m)
+shapes_length : (k : ℕ) (m : List StructureLine) → length (structure_shapes k m) ≡ length m
+shapes_length k [] = refl
+shapes_length k (l ∷ m) = ap (λ x. suc x) (shapes_length (k + length l.members) m)
+
+-- each number from b on, as many as there are members, is among theirs
+numbers_among : (b : ℕ) (ls : List MemberLine) (k : ℕ) → b ≤ k → k < b + length ls → IsAmong k (numbers b ls)
+numbers_among b [] k low high = absurd (omega arith)
+numbers_among b (l ∷ ls) k low high = elim (eq-or-lt_of_le low) [
+  | inl here ↦ inl (sym here)
+  | inr later ↦ inr (numbers_among (b + 1) ls k (omega (arith, later)) (omega (arith, high)))
+]
 
 -- the members of one structure, which stand behind others
 module _ (t : Table) (n s : ℕ) (after : List TableMember) where
   abbrev Stand : List TableMember → List MemberLine → Type 0
-  Stand before ls = t.members.items ≡ before ++ (map (member_row n s) ls ++ after)
+  Stand before ls = t.members ≡ before ++ (map (member_row n s) ls ++ after)
 
-  member_at : (before : List TableMember) (l : MemberLine) (ls : List MemberLine) → Stand before (l ∷ ls) → slice_get t.members.items (length before) ≡ Some (member_row n s l)
+  member_at : (before : List TableMember) (l : MemberLine) (ls : List MemberLine) → Stand before (l ∷ ls) → slice_get t.members (length before) ≡ Some (member_row n s l)
   member_at before l ls e = ap (λ xs. slice_get xs (length before)) e ∙ at before (member_row n s l) (map (member_row n s) ls ++ after)
 
   next : (before : List TableMember) (l : MemberLine) (ls : List MemberLine) → Stand before (l ∷ ls) → Stand (before ++ member_row n s l ∷ []) ls
@@ -69,6 +79,15 @@ module _ (t : Table) (n s : ℕ) (after : List TableMember) where
     ap home_in (member_at before l ls e),
     subst (λ k. StandIn t s (numbers k ls)) (length-append before (member_row n s l ∷ [])) (stand_in (before ++ member_row n s l ∷ []) ls (next before l ls e)),
   )
+
+  homes_in : (before : List TableMember) (ls : List MemberLine) → Stand before ls → (k : ℕ) → length before ≤ k → k < length before + length ls → home_at t k ≡ s
+  homes_in before [] e k low high = absurd (omega arith)
+  homes_in before (l ∷ ls) e k low high = elim (eq-or-lt_of_le low) [
+    | inl here ↦ subst (λ x. home_at t x ≡ s) here (ap home_in (member_at before l ls e))
+    | inr later ↦
+        let one_more : length (before ++ member_row n s l ∷ []) ≡ length before + 1 = length-append before (member_row n s l ∷ []) in
+        homes_in (before ++ member_row n s l ∷ []) ls (next before l ls e) k (omega (arith, one_more, later)) (omega (arith, one_more, high))
+  ]
 
   none_named : (name : List ℕ) (before : List TableMember) (ls : List MemberLine) → Stand before ls → NoneIs name (member_names ls) → NoneNamed t name (numbers (length before) ls)
   none_named name before [] e h = tt
@@ -85,15 +104,7 @@ module _ (t : Table) (n s : ℕ) (after : List TableMember) where
     subst (λ k. NamesDiffer t (numbers k ls)) (length-append before (member_row n s l ∷ [])) (names_differ (before ++ member_row n s l ∷ []) ls (next before l ls e) h.1),
   )
 
-abbrev row_members : Option ShapeRow → List ℕ
-row_members None = []
-row_members (Some r) = r.members
-
-members_of_row : (o : Option TableShape) → row_members (option_map shape_row o) ≡ members_in o
-members_of_row None = refl
-members_of_row (Some s) = refl
-
-simple_members : (i : ℕ) → row_members (slice_get simple_rows i) ≡ []
+simple_members : (i : ℕ) → members_in (slice_get simple_shapes i) ≡ []
 simple_members zero = refl
 simple_members (suc zero) = refl
 simple_members (suc (suc zero)) = refl
@@ -115,8 +126,8 @@ module _ (t : Table) (n : ℕ) where
   abbrev Good : ℕ → List ℕ → Type 0
   Good s ks = StandIn t s ks × NamesDiffer t ks
 
-  rows_good : (first : ℕ) (before : List TableMember) (m : List StructureLine) → t.members.items ≡ before ++ member_rows n first m → Differ m
-      → (i : ℕ) → Good (first + i) (row_members (slice_get (structure_rows (length before) m ++ simple_rows) i))
+  rows_good : (first : ℕ) (before : List TableMember) (m : List StructureLine) → t.members ≡ before ++ member_rows n first m → Differ m
+      → (i : ℕ) → Good (first + i) (members_in (slice_get (structure_shapes (length before) m ++ simple_shapes) i))
   rows_good first before [] e d i = subst (λ ks. Good (first + i) ks) (sym (simple_members i)) (tt, tt)
   rows_good first before (l ∷ m) e d zero =
       let place_is : first ≡ first + 0 = omega arith in
@@ -127,22 +138,60 @@ module _ (t : Table) (n : ℕ) where
       let length_is : length (before ++ more) ≡ length before + length l.members = length-append before more ∙ ap (λ x. length before + x) (length-map l.members (member_row n first)) in
       let good = rows_good (first + 1) (before ++ more) m (e ∙ sym (append_assoc before more (member_rows n (first + 1) m))) d.1 i in
       let place_is : first + 1 + i ≡ first + suc i = omega arith in
-      subst (λ x. Good x (row_members (slice_get (structure_rows (length before + length l.members) m ++ simple_rows) i))) place_is
-      (subst (λ x. Good (first + 1 + i) (row_members (slice_get (structure_rows x m ++ simple_rows) i))) length_is good)
+      subst (λ x. Good x (members_in (slice_get (structure_shapes (length before + length l.members) m ++ simple_shapes) i))) place_is
+      (subst (λ x. Good (first + 1 + i) (members_in (slice_get (structure_shapes x m ++ simple_shapes) i))) length_is good)
+
+  -- the member k stands in a structure that is numbered from first on, among the members of that structure
+  abbrev HasHome : ℕ → ℕ → List TableShape → List StructureLine → Type 0
+  HasHome k first shapes m = (i : ℕ) × (home_at t k ≡ first + i) × (i < length m) × IsAmong k (members_in (slice_get shapes i))
+
+  rows_home : (first : ℕ) (before : List TableMember) (m : List StructureLine) → t.members ≡ before ++ member_rows n first m
+      → (k : ℕ) → length before ≤ k → k < length before + length (member_rows n first m) → HasHome k first (structure_shapes (length before) m ++ simple_shapes) m
+  rows_home first before [] e k low high = absurd (omega arith)
+  rows_home first before (l ∷ m) e k low high =
+      let more = map (member_row n first) l.members in
+      let after = member_rows n (first + 1) m in
+      let count : length more ≡ length l.members = length-map l.members (member_row n first) in
+      let both : length (before ++ more) ≡ length before + length l.members = length-append before more ∙ ap (λ x. length before + x) count in
+      let all : length (more ++ after) ≡ length more + length after = length-append more after in
+      elim (cases_lt k (length before + length l.members)) [
+        | inl here ↦ (0, homes_in t n first after before l.members e k low here ∙ first_place first, omega arith, numbers_among (length before) l.members k low here)
+        | inr later ↦ next_home first before l m k
+            (subst (λ x. HasHome k (first + 1) (structure_shapes x m ++ simple_shapes) m) both
+            (rows_home (first + 1) (before ++ more) m (e ∙ sym (append_assoc before more after)) k (omega (arith, both)) (omega (arith, both, all, count))))
+      ]
+    where
+      first_place : (x : ℕ) → x ≡ x + 0
+      first_place x = omega arith
+
+      next_home : (first : ℕ) (before : List TableMember) (l : StructureLine) (m : List StructureLine) (k : ℕ)
+          → HasHome k (first + 1) (structure_shapes (length before + length l.members) m ++ simple_shapes) m
+          → HasHome k first (structure_shapes (length before) (l ∷ m) ++ simple_shapes) (l ∷ m)
+      next_home first before l m k h = (suc h.0, (let e = h.1 in omega arith), (let b = h.2 in omega arith), h.3)
 
 -- a table has four shapes more than its model
-pub shape_count_is : (m : List StructureLine) (t : Table) → Tabled m t → shape_count t ≡ length m + 4
-shape_count_is m t tabled = sym (length-map t.shapes.items shape_row) ∙ ap (λ xs. length xs) tabled.shapes ∙ length-append (structure_rows 0 m) simple_rows ∙ ap (λ x. x + 4) (rows_length 0 m)
+pub shape_count_is : (m : List StructureLine) → shape_count (table_of m) ≡ length m + 4
+shape_count_is m = length-append (structure_shapes 0 m) simple_shapes ∙ ap (λ x. x + 4) (shapes_length 0 m)
 
-pub shaped : (node : Node) (m : List StructureLine) (t : Table) → FirstForm node m → Tabled m t → Shaped t
-shaped node m t form tabled = record {
-  targets = λ k h. subst (λ b. target_at t k < b) (sym (shape_count_is m t tabled)) (target_below (length m + 4) t.members.items k (omega arith) (subst (λ xs. Below (length m + 4) xs) (sym tabled.members) (below_rows (length m) 0 m)));
+pub shaped : (node : Node) (m : List StructureLine) → FirstForm node m → Shaped (table_of m)
+shaped node m form = record {
+  targets = λ k h. subst (λ b. target_at t k < b) (sym (shape_count_is m)) (target_below (length m + 4) t.members k (omega arith) (below_rows (length m) 0 m));
+  homes = λ k h.
+      let zero_more : 0 + length t.members ≡ length t.members = omega arith in
+      home k (rows_home t (length m) 0 [] m refl k (omega arith) (subst (λ b. k < b) (sym zero_more) h));
   members = λ s h. (good s).0;
   names = λ s h. (good s).1;
 }
   where
+    t : Table
+    t = table_of m
+
     good : (s : ℕ) → StandIn t s (members_at t s) × NamesDiffer t (members_at t s)
-    good s = let zero_more : 0 + s ≡ s = omega arith in subst (λ ks. StandIn t s ks × NamesDiffer t ks)
-        (ap (λ xs. row_members (slice_get xs s)) (sym tabled.shapes) ∙ ap row_members (slice_get-map shape_row t.shapes.items s) ∙ members_of_row (slice_get t.shapes.items s))
-        (subst (λ x. StandIn t x (row_members (slice_get (structure_rows 0 m ++ simple_rows) s)) × NamesDiffer t (row_members (slice_get (structure_rows 0 m ++ simple_rows) s))) zero_more
-        (rows_good t (length m) 0 [] m tabled.members (differ_from form.pairs m form.says) s))
+    good s = let zero_more : 0 + s ≡ s = omega arith in
+        subst (λ x. StandIn t x (members_at t s) × NamesDiffer t (members_at t s)) zero_more (rows_good t (length m) 0 [] m refl (differ_from form.pairs m form.says) s)
+
+    home : (k : ℕ) → HasHome t (length m) k 0 t.shapes m → (home_at t k < shape_count t) × IsAmong k (members_at t (home_at t k))
+    home k h = let zero_more : 0 + h.0 ≡ h.0 = omega arith in let is : home_at t k ≡ h.0 = h.1 ∙ zero_more in (
+      subst (λ x. x < shape_count t) (sym is) (subst (λ b. h.0 < b) (sym (shape_count_is m)) (let low = h.2 in omega arith)),
+      subst (λ x. IsAmong k (members_at t x)) (sym is) h.3,
+    )

@@ -3,9 +3,11 @@
 -- its faults. What the program does stands on this file.
 use Rattle.std.specs.Prelude.{◌≡◌, ℕ, ◌<◌, ◌≤◌, List, ◌∷◌, ◌++◌, codes, Some, slice_get, length}
 use Rattle.sm_tree.specs.Node.{Node}
+use Rattle.sm_tree.specs.Syntax.{IsRead}
+use Rattle.sm_tree.specs.SyntaxLaws.{IsRefused}
 use Rattle.sm_tree.specs.declared.path.Step.{Step}
 use Rattle.sm_tree.specs.declared.refusal.SyntaxRefusal.{SyntaxRefusal}
-use Rattle.sm_json.specs.Answers.{IsRead, IsNoText}
+use Rattle.sm_json.specs.JsonText.{JsonText}
 use Rattle.sm_json.specs.Written.{written}
 use Rattle.sm_shapes.specs.Val.{Val}
 use Rattle.sm_shapes.specs.declared.table.Table.{Table}
@@ -15,7 +17,7 @@ use Rattle.sm_tool.specs.Spelling.{Spells}
 use Rattle.sm_tool.specs.Faults.{FaultAt, faults}
 use Rattle.sm_tool.specs.Encoded.{encoded, json_written}
 use Rattle.sm_tool.specs.FirstForm.{StructureLine, FirstForm, shape_names}
-use Rattle.sm_tool.specs.Tabled.{Tabled}
+use Rattle.sm_tool.specs.Tabled.{table_of}
 use Rattle.sm_tool.specs.Lines.{unbuilt_line, no_shape_line, fault_line, syntax_line, file_limit_line, body_limit_line}
 use Rattle.sm_tool.specs.declared.command.Status.{Status}
 use Rattle.sm_tool.specs.declared.command.Status.TheVariants.{Done, Refused, Limit}
@@ -49,7 +51,7 @@ EndsInJson name = (stem : List ℕ) × (name ≡ stem ++ codes ".json")
 pub record IsModelFile (name file : List ℕ) (m : List StructureLine) : Type 0 where
   pub is_json : EndsInJson name
   pub tree : Node
-  pub read : IsRead tree file
+  pub read : IsRead JsonText tree file
   pub form : FirstForm tree m
 
 -- the file holds no model
@@ -77,16 +79,16 @@ pub record HasShape (name file shape : List ℕ) (t : Table) (s : ℕ) : Type 0 
   pub within : length file ≤ file_limit
   pub m : List StructureLine
   pub model : IsModelFile name file m
-  pub tabled : Tabled m t
+  pub tabled : t ≡ table_of m
   pub named : IsShape m shape s
 
--- the answer to a body for the shape s of the table t: that it is no JSON text of at most 100 levels, its first
--- fault, or the one text that is written for the value that it spells
+-- the answer to a body for the shape s of the table t: the word and the place by which it is no JSON text of at
+-- most 100 levels, its first fault, or the one text that is written for the value that it spells
 pub data TextAnswers (t : Table) (s : ℕ) (body : List ℕ) (a : Answer) : Type 0 where
-  no_text : (refusal : SyntaxRefusal) → IsNoText body → a ≡ refused (syntax_line refusal) → TextAnswers t s body a
-  fault : (n : Node) → (path : List Step) → (kind : FaultKind) → (later : List FaultAt) → IsRead n body
+  no_text : (refusal : SyntaxRefusal) → IsRefused JsonText body refusal → a ≡ refused (syntax_line refusal) → TextAnswers t s body a
+  fault : (n : Node) → (path : List Step) → (kind : FaultKind) → (later : List FaultAt) → IsRead JsonText n body
       → faults t json_leaf n s ≡ (path, kind) ∷ later → a ≡ refused (fault_line path kind) → TextAnswers t s body a
-  value : (n : Node) → (v : Val) → IsRead n body → Spells t json_leaf s v n → a ≡ done (written (encoded t json_written s v))
+  value : (n : Node) → (v : Val) → IsRead JsonText n body → Spells t json_leaf s v n → a ≡ done (written (encoded t json_written s v))
       → TextAnswers t s body a
 
 -- the answers to an input for the shape s of the table t, in this order

@@ -13,7 +13,7 @@ pub record MemberLine : Type 0 where
   pub target : SimpleTarget
   pub required : Bool
 
--- a structure: its absolute shape ID, and its members in model order. A model is a list of structures
+-- a structure: its shape ID, and its members in model order. A model is a list of structures
 pub record StructureLine : Type 0 where
   pub name : List ℕ
   pub members : List MemberLine
@@ -32,7 +32,7 @@ one_field k n = object (member k n no_members)
 abbrev pub HasBoth : Node → List ℕ → Node → List ℕ → Node → Type 0
 HasBoth n j a k b = (n ≡ object (member j a (member k b no_members))) ⊎ (n ≡ object (member k b (member j a no_members)))
 
--- the absolute shape ID of a simple shape of the prelude
+-- the shape ID of a simple shape of the prelude
 abbrev pub target_id : SimpleTarget → List ℕ
 target_id String = codes "smithy.api#String"
 target_id Boolean = codes "smithy.api#Boolean"

@@ -10,9 +10,11 @@ pub mod Names
 pub mod FirstForm
 pub mod Tabled
 pub mod ModelAnswers
+pub mod Rows
 pub mod Words
 pub mod Lines
 pub mod Outside
 pub mod Body
 pub mod Run
+pub mod RunLaws
 pub mod Steps

@@ -8,7 +8,7 @@ use Rattle.sm_shapes.specs.declared.table.Table.{Table}
 use Rattle.sm_shapes.specs.declared.table.TableMember.{TableMember}
 use Rattle.sm_shapes.specs.declared.table.ShapeKind.TheVariants.{Structure}
 use Rattle.sm_tool.specs.FirstForm.{MemberLine, StructureLine, PairSays, MembersSay, ShapeSays, ShapesSay, FirstForm, shape_names}
-use Rattle.sm_tool.specs.Tabled.{shape_row, plain_row, numbers, member_row, Tabled}
+use Rattle.sm_tool.specs.Tabled.{plain_shape, numbers, member_row, table_of}
 use Rattle.sm_tool.specs.declared.model.structures.FirstModel.{FirstModel}
 
 -- The row of the member that a pair says. Here and below n is the number of the first simple shape, and s
@@ -30,12 +30,12 @@ AddsMembers n s ms before after (Ok (Some added)) = AreAdded n s ms before after
 AddsMembers n s ms before after (Ok None) = (ls : List MemberLine) → MembersSay ms ls → ⊥
 AddsMembers n s ms before after (Err e) = Unit {0}
 
--- the structure that the tree says is added to the table so far
+-- the structure that the tree says is added to the shapes and the members so far
 pub record IsAdded (n s : ℕ) (node : Node) (before after : Table) : Type 0 where
   pub lines : List MemberLine
   pub says : ShapeSays node lines
-  pub shapes : map shape_row after.shapes.items ≡ map shape_row before.shapes.items ++ plain_row Structure (numbers (length before.members.items) lines) ∷ []
-  pub members : after.members.items ≡ before.members.items ++ map (member_row n s) lines
+  pub shapes : after.shapes ≡ before.shapes ++ plain_shape Structure (numbers (length before.members) lines) ∷ []
+  pub members : after.members ≡ before.members ++ map (member_row n s) lines
 
 abbrev pub AddsStructure : ℕ → ℕ → Node → Table → Table → Result Bool NoMemory → Type 0
 AddsStructure n s node before after (Ok true) = IsAdded n s node before after
@@ -44,7 +44,7 @@ AddsStructure n s node before after (Err e) = Unit {0}
 
 -- the table of the shapes that the pairs say
 abbrev pub ReadsTable : Members → Result (Option Table) NoMemory → Type 0
-ReadsTable ms (Ok (Some table)) = (m : List StructureLine) × ShapesSay ms m × Tabled m table
+ReadsTable ms (Ok (Some table)) = (m : List StructureLine) × ShapesSay ms m × (table ≡ table_of m)
 ReadsTable ms (Ok None) = (m : List StructureLine) → ShapesSay ms m → ⊥
 ReadsTable ms (Err e) = Unit {0}
 
@@ -53,7 +53,7 @@ pub record IsModel (n : Node) (read : FirstModel) : Type 0 where
   pub model : List StructureLine
   pub form : FirstForm n model
   pub names : read.names.items ≡ shape_names model
-  pub tabled : Tabled model read.table
+  pub tabled : read.table ≡ table_of model
   pub shaped : Shaped read.table
 
 abbrev pub ReadsModel : Node → Result (Option FirstModel) NoMemory → Type 0

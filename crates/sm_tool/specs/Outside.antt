@@ -22,3 +22,6 @@ pub record Outside : Type 0 where
   pub files : FilesSeen
   pub input : Stream
   pub output : Stream
+
+abbrev pub outside : FilesSeen → Stream → Stream → Outside
+outside files input output = record { files = files; input = input; output = output }

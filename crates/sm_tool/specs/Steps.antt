@@ -7,12 +7,13 @@ use Rattle.sm_io.specs.Files.{Folder, Holds}
 use Rattle.sm_io.specs.Writing.{AppendsFront}
 use Rattle.sm_tree.specs.Node.{Node}
 use Rattle.sm_tree.specs.declared.NoMemory.{NoMemory as OutOfMemory}
-use Rattle.sm_json.specs.Answers.{IsRead}
+use Rattle.sm_tree.specs.Syntax.{IsRead}
+use Rattle.sm_json.specs.JsonText.{JsonText}
 use Rattle.sm_shapes.specs.Tables.{Shaped}
 use Rattle.sm_shapes.specs.declared.table.Table.{Table}
 use Rattle.sm_tool.specs.Outside.{Stream, FilesSeen}
 use Rattle.sm_tool.specs.FirstForm.{StructureLine, shape_names}
-use Rattle.sm_tool.specs.Tabled.{Tabled}
+use Rattle.sm_tool.specs.Tabled.{table_of}
 use Rattle.sm_tool.specs.ModelAnswers.{IsModel}
 use Rattle.sm_tool.specs.Body.{Answer, done, refused, past, EndsInJson, IsUnbuilt, IsModelFile, FileAnswers, TextAnswers, InputAnswers, file_limit}
 use Rattle.sm_tool.specs.Run.{IsInput, Comes, ReadFails, StopsShort}
@@ -50,11 +51,11 @@ EndsWithLimit line NoMemory = Unit {0}
 
 -- what every text of this tree comes to
 abbrev pub TreeAnswers : Table → ℕ → Node → Answer → Type 0
-TreeAnswers t s n a = (body : List ℕ) → IsRead n body → TextAnswers t s body a
+TreeAnswers t s n a = (body : List ℕ) → IsRead JsonText n body → TextAnswers t s body a
 
 -- the bytes of a file are this model, or none
 abbrev pub ReadsModelFile : List ℕ → List ℕ → Result (Option FirstModel) OutOfMemory → Type 0
-ReadsModelFile name file (Ok (Some m)) = EndsInJson name × ((n : Node) × IsRead n file × IsModel n m)
+ReadsModelFile name file (Ok (Some m)) = EndsInJson name × ((n : Node) × IsRead JsonText n file × IsModel n m)
 ReadsModelFile name file (Ok None) = IsUnbuilt name file
 ReadsModelFile name file (Err e) = Unit {0}
 
@@ -65,7 +66,7 @@ pub record HoldsModel (files : FilesSeen) (name : List ℕ) (read : FirstModel) 
   pub held : Holds files.held name (Some file)
   pub within : length file ≤ file_limit
   pub model : IsModelFile name file m
-  pub tabled : Tabled m read.table
+  pub tabled : read.table ≡ table_of m
   pub shaped : Shaped read.table
   pub names : read.names.items ≡ shape_names m
 

@@ -12,20 +12,9 @@ use Rattle.sm_tree.specs.Node.{Node}
 use Rattle.sm_shapes.specs.Tables.{Shaped}
 use Rattle.sm_tool.specs.FirstForm.{MemberLine, StructureLine, FirstForm}
 
--- a shape of a table, without memory
-pub record ShapeRow : Type 0 where
-  pub kind : ShapeKind
-  pub members : List ℕ
-  pub unique : Bool
-  pub sparse : Bool
-  pub unit : Bool
-
-abbrev pub shape_row : TableShape → ShapeRow
-shape_row s = record { kind = s.kind; members = s.members.items; unique = s.unique; sparse = s.sparse; unit = s.unit }
-
 -- a shape of this kind with these members, of which nothing more is said
-abbrev pub plain_row : ShapeKind → List ℕ → ShapeRow
-plain_row kind members = record { kind = kind; members = members; unique = false; sparse = false; unit = false }
+abbrev pub plain_shape : ShapeKind → List ℕ → TableShape
+plain_shape kind members = record { kind = kind; members = members; unique = false; sparse = false; unit = false }
 
 -- the numbers of as many members as there are, from k on
 abbrev pub numbers : ℕ → List MemberLine → List ℕ
@@ -33,12 +22,12 @@ numbers k [] = []
 numbers k (l ∷ ls) = k ∷ numbers (k + 1) ls
 
 -- the structures, whose members are numbered from k on
-abbrev pub structure_rows : ℕ → List StructureLine → List ShapeRow
-structure_rows k [] = []
-structure_rows k (l ∷ m) = plain_row Structure (numbers k l.members) ∷ structure_rows (k + length l.members) m
+abbrev pub structure_shapes : ℕ → List StructureLine → List TableShape
+structure_shapes k [] = []
+structure_shapes k (l ∷ m) = plain_shape Structure (numbers k l.members) ∷ structure_shapes (k + length l.members) m
 
-abbrev pub simple_rows : List ShapeRow
-simple_rows = plain_row Text [] ∷ plain_row Boolean [] ∷ plain_row Integer [] ∷ plain_row Long [] ∷ []
+abbrev pub simple_shapes : List TableShape
+simple_shapes = plain_shape Text [] ∷ plain_shape Boolean [] ∷ plain_shape Integer [] ∷ plain_shape Long [] ∷ []
 
 -- the place of a simple shape among the four
 abbrev pub place : SimpleTarget → ℕ
@@ -56,11 +45,10 @@ abbrev pub member_rows : ℕ → ℕ → List StructureLine → List TableMember
 member_rows n s [] = []
 member_rows n s (l ∷ m) = map (member_row n s) l.members ++ member_rows n (s + 1) m
 
--- the model comes to this table
-pub record Tabled (m : List StructureLine) (t : Table) : Type 0 where
-  pub shapes : map shape_row t.shapes.items ≡ structure_rows 0 m ++ simple_rows
-  pub members : t.members.items ≡ member_rows (length m) 0 m
+-- the table of a model
+abbrev pub table_of : List StructureLine → Table
+table_of m = record { shapes = structure_shapes 0 m ++ simple_shapes; members = member_rows (length m) 0 m }
 
--- a law: the table of a model in the first form is sound
+-- a law: the table of a model in the first form is in order
 abbrev pub AreShaped : Type 0
-AreShaped = (n : Node) (m : List StructureLine) (t : Table) → FirstForm n m → Tabled m t → Shaped t
+AreShaped = (n : Node) (m : List StructureLine) → FirstForm n m → Shaped (table_of m)

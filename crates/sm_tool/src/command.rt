@@ -1,7 +1,7 @@
 // The commands: what the program does for its words, over any files, input and output. Main stands on it.
 ghost use Rattle.std.specs.Prelude.{◌≡◌, ◌≤◌};
 ghost use Rattle.sm_io.specs.Reading.{LosesFront};
-ghost use Rattle.sm_tool.specs.Outside.{Outside, files_seen, stream};
+ghost use Rattle.sm_tool.specs.Outside.{files_seen, stream, outside};
 ghost use Rattle.sm_tool.specs.Words.{LetsModel};
 ghost use Rattle.sm_tool.specs.Run.{code_of, RunAnswers};
 ghost use Rattle.sm_tool.specs.Steps.{PutEnds, PrintsResult};
@@ -91,16 +91,8 @@ pub fn run<F: Files, S: Source, K: Sink, P: Patterns>(
     patterns: &mut P,
 ) -> u8
     requires { LetsModel (F.lets_read files.old) words.now }
-    ensures answers { let before : Outside = record {
-      files = files_seen (F.held files.old) (F.read_faults files.old);
-      input = stream (S.left input.old) (S.faults input.old);
-      output = stream (K.written out.old) (K.faults out.old);
-    } in
-        let after : Outside = record {
-          files = files_seen (F.held files.new) (F.read_faults files.new);
-          input = stream (S.left input.new) (S.faults input.new);
-          output = stream (K.written out.new) (K.faults out.new);
-        } in
+    ensures answers { let before = outside (files_seen (F.held files.old) (F.read_faults files.old)) (stream (S.left input.old) (S.faults input.old)) (stream (K.written out.old) (K.faults out.old)) in
+        let after = outside (files_seen (F.held files.new) (F.read_faults files.new)) (stream (S.left input.new) (S.faults input.new)) (stream (K.written out.new) (K.faults out.new)) in
         RunAnswers words.now before after result }
     ensures held { F.held files.new ≡ F.held files.old }
     ensures writes { F.write_faults files.new ≡ F.write_faults files.old }

@@ -144,7 +144,7 @@ mod tests {
         ] {
             assert_eq!(rt; shop.shape_named(name), number);
         }
-        let mut shapes = shop.table.shapes.iter();
+        let mut shapes = shop.table.shapes.as_slice().iter();
         for (kind, count) in [
             (ShapeKind::Structure, 3),
             (ShapeKind::Structure, 1),
@@ -157,7 +157,7 @@ mod tests {
                 panic!(rt; "a shape is missing")
             };
             assert_eq!(rt; shape.kind, kind);
-            assert_eq!(rt; shape.members.len(), count);
+            assert_eq!(rt; shape.members.as_slice().len(), count);
         }
         assert!(rt; shapes.next().is_none());
         Ok(())
@@ -169,7 +169,7 @@ mod tests {
         let Some(shop) = read_model(alloc, &shop(alloc)?)? else {
             panic!(rt; "the shop is in the first form")
         };
-        let mut members = shop.table.members.iter();
+        let mut members = shop.table.members.as_slice().iter();
         for (shape, name, target, required) in [
             (0, "id", 2, true),
             (0, "sold", 3, false),
@@ -194,7 +194,7 @@ mod tests {
         let Some(read) = read_model(alloc, &model(alloc, empty(alloc)?)?)? else {
             panic!(rt; "no shapes")
         };
-        assert_eq!(rt; read.table.shapes.len(), 4);
+        assert_eq!(rt; read.table.shapes.as_slice().len(), 4);
         Ok(())
     }
 

@@ -3,3 +3,4 @@ pub mod Events
 pub mod Building
 mod Tokens
 mod Sameness
+pub mod OneAnswer

@@ -1,6 +1,7 @@
 pub mod Node
 pub mod Levels
 pub mod Syntax
+pub mod SyntaxLaws
 pub mod Weight
 pub mod Numbers
 pub mod Json

@@ -6,7 +6,10 @@ use super::decode::decode;
 use super::encode::encode;
 use super::leaf::read_leaf;
 use super::refusal::Refusal;
-use sm_shapes::{Fault, Fields, ShapeKind, Table, TableMember, TableShape, Value};
+use sm_shapes::{
+    Fault, Fields, MemberNumbers, ShapeKind, Table, TableMember, TableMembers, TableShape,
+    TableShapes, Value,
+};
 use sm_tree::{NoMemory, Pairs, Text, Tree};
 use std::alloc::Global;
 use std::test::Fail;
@@ -27,11 +30,11 @@ fn member(alloc: Global, name: &str, target: u32, required: bool) -> Result<Tabl
 }
 
 fn shape(kind: ShapeKind, members: Vec<u32>) -> TableShape
-    ensures { result.members ≡ members }
+    ensures { result.members ≡ members.items }
 {
     TableShape {
         kind,
-        members,
+        members: MemberNumbers::new(members),
         unique: false,
         sparse: false,
         unit: false,
@@ -50,7 +53,10 @@ fn links(alloc: Global) -> Result<Table, NoMemory>
     let integer = shape(ShapeKind::Integer, Vec::new(alloc));
     let members = vec![in alloc; id, next, count]?;
     let shapes = vec![in alloc; link, text, integer]?;
-    Ok(Table { shapes, members })
+    Ok(Table {
+        shapes: TableShapes::new(shapes),
+        members: TableMembers::new(members),
+    })
 }
 
 // A tree of one level.

@@ -7,7 +7,7 @@ pub fn one_model()
     ensures { SayOneModel }
 {}
 
-/// The table of a model in the first form is sound.
+/// The table of a model in the first form is in order.
 pub fn model_tables_are_shaped()
     ensures { AreShaped }
 {}

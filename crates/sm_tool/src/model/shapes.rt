@@ -2,19 +2,41 @@
 ghost use Rattle.std.specs.Prelude.{◌≡◌, ◌≤◌, ◌<◌, ◌+◌, ◌^◌, ◌++◌, ℕ, List, [], ◌∷◌, map, IfOk, OnOk, length, vec_len};
 ghost use Rattle.sm_tree.specs.Node.{members_of};
 ghost use Rattle.sm_tree.specs.View.{node_of, members_view};
-ghost use Rattle.sm_tool.specs.Tabled.{shape_row, plain_row, simple_rows};
+ghost use Rattle.sm_tool.specs.Tabled.{plain_shape, simple_shapes};
 ghost use Rattle.sm_tool.specs.ModelAnswers.{AddsStructure, ReadsTable};
+ghost use Rattle.sm_tool.specs.Rows.{so_far};
 
 use crate::model::fields::labelled_pairs;
 use crate::model::members::add_members;
 use crate::model::names::names_differ;
 use crate::model::push;
-use sm_shapes::{ShapeKind, Table, TableShape};
+use sm_shapes::{
+    MemberNumbers, ShapeKind, Table, TableMember, TableMembers, TableShape, TableShapes,
+};
 use sm_tree::{NoMemory, Text, Tree};
 use std::alloc::Global;
 
 /// The greatest number of structures: behind them stand four simple shapes, and numbers have 32 bits.
 const MOST_STRUCTURES: usize = 4_294_967_292;
+
+/// The rows of a table so far.
+#[derive(Drop)]
+struct Rows {
+    shapes: Vec<TableShape>,
+    members: Vec<TableMember>,
+}
+
+impl Rows {
+    /// The table of these rows.
+    fn into_table(self) -> Table
+        ensures { result ≡ so_far self }
+    {
+        Table {
+            shapes: TableShapes::new(self.shapes),
+            members: TableMembers::new(self.members),
+        }
+    }
+}
 
 /// Adds a shape of this kind with these members.
 fn add_shape(
@@ -22,13 +44,13 @@ fn add_shape(
     kind: ShapeKind,
     members: Vec<u32>,
 ) -> Result<(), NoMemory>
-    ensures { OnOk result (map shape_row shapes.new.items ≡ map shape_row shapes.old.items ++ plain_row kind members.items ∷ []) }
+    ensures { OnOk result (shapes.new.items ≡ shapes.old.items ++ plain_shape kind members.items ∷ []) }
 {
     push(
         shapes,
         TableShape {
             kind,
-            members,
+            members: MemberNumbers::new(members),
             unique: false,
             sparse: false,
             unit: false,
@@ -38,7 +60,7 @@ fn add_shape(
 
 /// Adds the simple shapes, in the order of their places.
 fn add_simple_shapes(alloc: Global, shapes: &mut Vec<TableShape>) -> Result<(), NoMemory>
-    ensures { OnOk result (map shape_row shapes.new.items ≡ map shape_row shapes.old.items ++ simple_rows) }
+    ensures { OnOk result (shapes.new.items ≡ shapes.old.items ++ simple_shapes) }
 {
     add_shape(shapes, ShapeKind::Text, Vec::new(alloc))?;
     add_shape(shapes, ShapeKind::Boolean, Vec::new(alloc))?;
@@ -52,10 +74,10 @@ fn add_structure(
     simple: u32,
     home: u32,
     tree: &Tree,
-    table: &mut Table,
+    rows: &mut Rows,
 ) -> Result<bool, NoMemory>
     requires { simple + 4 ≤ 2 ^ 32 }
-    ensures { AddsStructure simple home (node_of tree.now) table.old table.new result }
+    ensures { AddsStructure simple home (node_of tree.now) (so_far rows.old) (so_far rows.new) result }
 {
     let Some(pairs) = labelled_pairs(tree, "type", "structure", "members") else {
         return Ok(false)
@@ -63,9 +85,9 @@ fn add_structure(
     if !names_differ(alloc, pairs)? {
         return Ok(false);
     }
-    match add_members(alloc, simple, home, pairs, &mut table.members)? {
+    match add_members(alloc, simple, home, pairs, &mut rows.members)? {
         Some(numbers) => {
-            add_shape(&mut table.shapes, ShapeKind::Structure, numbers)?;
+            add_shape(&mut rows.shapes, ShapeKind::Structure, numbers)?;
             Ok(true)
         }
         None => Ok(false),
@@ -83,17 +105,17 @@ pub fn read_table(alloc: Global, pairs: &[(Text, Tree)]) -> Result<Option<Table>
     }
     let simple = pairs.len() as u32;
     let shapes = Vec::with_capacity(alloc, pairs.len() + 4)?;
-    let mut table = Table {
+    let mut rows = Rows {
         shapes,
         members: Vec::new(alloc),
     };
     let mut home = 0;
     for pair in pairs {
-        if !add_structure(alloc, simple, home, &pair.1, &mut table)? {
+        if !add_structure(alloc, simple, home, &pair.1, &mut rows)? {
             return Ok(None);
         }
         home += 1;
     }
-    add_simple_shapes(alloc, &mut table.shapes)?;
-    Ok(Some(table))
+    add_simple_shapes(alloc, &mut rows.shapes)?;
+    Ok(Some(rows.into_table()))
 }

@@ -20,4 +20,4 @@ returns-in-Ok-Open c =
 
 pub returns-in-Err : goal.returns-in-Err
 returns-in-Err c =
-    rw c.refused.ensures (string_refused c.args.self.now c.args.role c.read.new.self (record c.args.self.now { text = c.read.new.self }) c.args.bytes.now c.in-Err.refusal c.requires.place c.in-Err.ensures)
+    rw c.refused.ensures (string_refused c.args.self.now c.args.role c.read.new.self (record c.args.self.now { text = c.read.new.self }) c.args.bytes.now c.in-Err.refusal c.requires.sound c.requires.place c.in-Err.ensures)

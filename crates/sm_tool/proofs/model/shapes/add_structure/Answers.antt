@@ -2,7 +2,7 @@ use Rattle.std.proofs.Common.{Ok, ◌++◌, ◌∷◌, [], map, sym, ap, ◌∙�
 use Rattle.sm_tree.specs.Node.{members_of}
 use Rattle.sm_tree.specs.View.{node_of, members_view}
 use Rattle.sm_shapes.specs.declared.table.ShapeKind.TheVariants.{Structure}
-use Rattle.sm_tool.specs.Tabled.{shape_row, plain_row}
+use Rattle.sm_tool.specs.Tabled.{plain_shape}
 use Rattle.sm_tool.specs.ModelAnswers.{AreAdded, AddsMembers}
 use Rattle.sm_tool.proofs.Objects.{clash}
 use Rattle.sm_tool.proofs.Forms.{same_members, no_members_said, shape_says}
@@ -18,15 +18,15 @@ returns-then-not-branch c =
 pub returns-in-None : goal.returns-in-None
 returns-in-None c =
     no_members_said (node_of c.args.tree.now) c.in-Some.pairs.now c.in-Some.ensures
-    (subst (λ r. AddsMembers c.args.simple c.args.home (members_of (members_view c.in-Some.pairs.now)) c.args.table.now.members.items c.add_members.new.members.items (Ok r)) c.in-None.is c.in_ok-numbers.ensures)
+    (subst (λ r. AddsMembers c.args.simple c.args.home (members_of (members_view c.in-Some.pairs.now)) c.args.rows.now.members.items c.add_members.new.members.items (Ok r)) c.in-None.is c.in_ok-numbers.ensures)
 
 pub returns-in_ok-add_shape-in-Some-2 : goal.returns-in_ok-add_shape-in-Some-2
 returns-in_ok-add_shape-in-Some-2 c =
-    let added : AreAdded c.args.simple c.args.home (members_of (members_view c.in-Some.pairs.now)) c.args.table.now.members.items c.add_members.new.members.items c.in-Some-2.numbers.items =
-    subst (λ r. AddsMembers c.args.simple c.args.home (members_of (members_view c.in-Some.pairs.now)) c.args.table.now.members.items c.add_members.new.members.items (Ok r)) c.in-Some-2.is c.in_ok-numbers.ensures in
+    let added : AreAdded c.args.simple c.args.home (members_of (members_view c.in-Some.pairs.now)) c.args.rows.now.members.items c.add_members.new.members.items c.in-Some-2.numbers.items =
+    subst (λ r. AddsMembers c.args.simple c.args.home (members_of (members_view c.in-Some.pairs.now)) c.args.rows.now.members.items c.add_members.new.members.items (Ok r)) c.in-Some-2.is c.in_ok-numbers.ensures in
     record {
       lines = added.lines;
       says = shape_says (node_of c.args.tree.now) c.in-Some.pairs.now added.lines c.in-Some.ensures (c.in_ok-names_differ.ensures.0 c.if-not-branch.false) added.says;
-      shapes = c.in_ok-add_shape-in-Some-2.ensures ∙ ap (λ ks. map shape_row c.args.table.now.shapes.items ++ plain_row Structure ks ∷ []) added.numbered;
+      shapes = c.in_ok-add_shape-in-Some-2.ensures ∙ ap (λ ks. c.args.rows.now.shapes.items ++ plain_shape Structure ks ∷ []) added.numbered;
       members = added.rows;
     }

@@ -1,7 +1,7 @@
 use Rattle.std.proofs.Common.{◌≡◌, take, ap, subst, sym, get_or, ◌<◌, length, arith}
 use Rattle.sm_json.specs.Machine.{AllWhite}
 use Rattle.sm_json.proofs.White.{whites_grow}
-use Rattle.sm_json.proofs.read.white_run.Goals as goal
+use Rattle.sm_json.proofs.whitespace.white_run.Goals as goal
 
 pub loop-at-preserved : goal.loop-at-preserved
 loop-at-preserved c = whites_grow c.args.bytes.now c.loop-at.at (omega arith) (cc) c.loop-at.invariant
