@@ -172,7 +172,7 @@ body_crosses files files1 input rest name shape read s result h found comes =
     let served : IsServed files name shape = record { file = h.file; t = read.table; s = s; held = h.held; there = there } in
     comes_map (InputSays input rest read.table s) (Comes files input rest name shape) (Rose input.faults rest.faults) (ReadFails files files1 input rest name shape)
     (Unit {0}) (StopsShort files input rest name shape) result
-    (λ a says. by_input h.file says.0 read.table s h.held there says.1 says.2) (λ rose. inr (rose, served)) (λ short. inr served) comes
+    (λ a says. by_input says.0 served says.1 says.2) (λ rose. inr (rose, served)) (λ short. inr served) comes
 
 pub body_lacks : (files files1 : FilesSeen) (input : Stream) (name shape : List ℕ) (read : FirstModel) (stop : Stop) → HoldsModel files name read → ((s : ℕ) → slice_get read.names.items s ≡ Some shape → ⊥)
     → EndsWithLine (no_shape_line shape) stop → BodyComesTo files files1 input input name shape (Err stop)

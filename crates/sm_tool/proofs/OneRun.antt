@@ -29,7 +29,7 @@ use Rattle.sm_tool.specs.Body.{Answer, done, refused, IsModelFile, IsShape, File
 use Rattle.sm_tool.specs.Body.FileAnswers.{long_file, unbuilt, no_shape}
 use Rattle.sm_tool.specs.Body.TextAnswers.{no_text, fault, value}
 use Rattle.sm_tool.specs.Body.InputAnswers.{long_input, whole}
-use Rattle.sm_tool.specs.Run.{IsInput, Comes, Prints, RunEnds}
+use Rattle.sm_tool.specs.Run.{IsInput, IsServed, Comes, Prints, RunEnds}
 use Rattle.sm_tool.specs.Run.Comes.{by_file, by_input}
 use Rattle.sm_tool.specs.RunLaws.{IsAnswered, IsRun, OneAnswer}
 use Rattle.sm_tool.specs.declared.command.Status.{Status}
@@ -146,17 +146,19 @@ comes_same : (folder : Folder) (bytes : List ℕ) (files files1 : FilesSeen) (in
 comes_same folder bytes files files1 input rest input1 rest1 model shape a b held held1 left left1 (by_file f h says same) (by_file g i says1 same1) =
     let one : f ≡ g = held_same files.held files1.held folder model f g held held1 h i in
     file_same model g shape a b (subst (λ x. FileAnswers model x shape a) one says) says1
-comes_same folder bytes files files1 input rest input1 rest1 model shape a b held held1 left left1 (by_file f h says same) (by_input g body t s i there is says1) =
-    let one : f ≡ g = held_same files.held files1.held folder model f g held held1 h i in
-    absurd (file_apart model g shape a t s (subst (λ x. FileAnswers model x shape a) one says) there)
-comes_same folder bytes files files1 input rest input1 rest1 model shape a b held held1 left left1 (by_input f body t s h there is says) (by_file g i says1 same1) =
-    let one : f ≡ g = held_same files.held files1.held folder model f g held held1 h i in
-    absurd (file_apart model g shape b t s says1 (subst (λ x. HasShape model x shape t s) one there))
-comes_same folder bytes files files1 input rest input1 rest1 model shape a b held held1 left left1 (by_input f body t s h there is says) (by_input g body1 u r i there1 is1 says1) =
-    let one : f ≡ g = held_same files.held files1.held folder model f g held held1 h i in
-    let shapes : (t ≡ u) × (s ≡ r) = shape_same model g shape t u s r (subst (λ x. HasShape model x shape t s) one there) there1 in
+comes_same folder bytes files files1 input rest input1 rest1 model shape a b held held1 left left1 (by_file f h says same) (by_input body served is says1) =
+    let one : f ≡ served.file = held_same files.held files1.held folder model f served.file held held1 h served.held in
+    absurd (file_apart model served.file shape a served.t served.s (subst (λ x. FileAnswers model x shape a) one says) served.there)
+comes_same folder bytes files files1 input rest input1 rest1 model shape a b held held1 left left1 (by_input body served is says) (by_file g i says1 same1) =
+    let one : served.file ≡ g = held_same files.held files1.held folder model served.file g held held1 served.held i in
+    absurd (file_apart model g shape b served.t served.s says1 (subst (λ x. HasShape model x shape served.t served.s) one served.there))
+comes_same folder bytes files files1 input rest input1 rest1 model shape a b held held1 left left1 (by_input body at is says) (by_input body1 to is1 says1) =
+    let one : at.file ≡ to.file = held_same files.held files1.held folder model at.file to.file held held1 at.held to.held in
+    let shapes : (at.t ≡ to.t) × (at.s ≡ to.s) =
+    shape_same model to.file shape at.t to.t at.s to.s (subst (λ x. HasShape model x shape at.t at.s) one at.there) to.there in
     let bodies : body ≡ body1 = told_same input.bytes rest.bytes input1.bytes rest1.bytes bytes body body1 left left1 is is1 in
-    input_same u r body1 a b (subst (λ x. InputAnswers x r body1 a) shapes.0 (subst (λ x. InputAnswers t x body1 a) shapes.1 (subst (λ x. InputAnswers t s x a) bodies says))) says1
+    input_same to.t to.s body1 a b
+    (subst (λ x. InputAnswers x to.s body1 a) shapes.0 (subst (λ x. InputAnswers at.t x body1 a) shapes.1 (subst (λ x. InputAnswers at.t at.s x a) bodies says))) says1
 
 -- the words name one file and one shape
 words_same : (words : List (List ℕ)) (model shape model1 shape1 : List ℕ) → IsBody words model shape → IsBody words model1 shape1 → (model ≡ model1) × (shape ≡ shape1)

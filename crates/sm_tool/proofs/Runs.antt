@@ -16,7 +16,7 @@ use Rattle.sm_tool.specs.declared.command.Status.TheVariants.{Done, Refused, Usa
 -- an answer leaves the input as it was, or stands behind no other
 comes_short : (files : FilesSeen) (input rest : Stream) (model shape : List ℕ) (a : Answer) → Comes files input rest model shape a → StopsShort files input rest model shape
 comes_short files input rest model shape a (by_file file held answers same) = inl same
-comes_short files input rest model shape a (by_input file body t s held there is answers) = inr (record { file = file; t = t; s = s; held = held; there = there })
+comes_short files input rest model shape a (by_input body served is answers) = inr served
 
 -- an answer that is printed, by what the put came to
 put_ends : (words : List (List ℕ)) (before after : Outside) (model shape : List ℕ) (wanted : Status) (text : List ℕ) (status : Status) → IsBody words model shape

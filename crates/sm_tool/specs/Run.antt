@@ -27,21 +27,21 @@ pub record IsInput (left rest : Option (List ℕ)) (input : List ℕ) : Type 0 w
   pub told : IfSome left (λ bytes. bytes ≡ input)
   pub read : length input ≤ body_limit → IsAtEnd rest
 
--- The file of this name and the input come to this answer. The input is as it was where the answer stands
--- before it.
-pub data Comes (files : FilesSeen) (input rest : Stream) (model shape : List ℕ) (a : Answer) : Type 0 where
-  by_file : (file : List ℕ) → Holds files.held model (Some file) → FileAnswers model file shape a → rest ≡ input
-      → Comes files input rest model shape a
-  by_input : (file body : List ℕ) → (t : Table) → (s : ℕ) → Holds files.held model (Some file) → HasShape model file shape t s
-      → IsInput input.bytes rest.bytes body → InputAnswers t s body a → Comes files input rest model shape a
-
--- no answer stands before the input
+-- no answer stands before the input: the file of this name holds a model, and the shape is there
 pub record IsServed (files : FilesSeen) (model shape : List ℕ) : Type 0 where
   pub file : List ℕ
   pub t : Table
   pub s : ℕ
   pub held : Holds files.held model (Some file)
   pub there : HasShape model file shape t s
+
+-- The file of this name and the input come to this answer. The input is as it was where the answer stands
+-- before it.
+pub data Comes (files : FilesSeen) (input rest : Stream) (model shape : List ℕ) (a : Answer) : Type 0 where
+  by_file : (file : List ℕ) → Holds files.held model (Some file) → FileAnswers model file shape a → rest ≡ input
+      → Comes files input rest model shape a
+  by_input : (body : List ℕ) → (served : IsServed files model shape) → IsInput input.bytes rest.bytes body
+      → InputAnswers served.t served.s body a → Comes files input rest model shape a
 
 -- a read of the file failed, and the input is as it was; or one of the input failed, and no answer stands before it
 abbrev pub ReadFails : FilesSeen → FilesSeen → Stream → Stream → List ℕ → List ℕ → Type 0
