@@ -12,7 +12,7 @@ use Rattle.sm_tree.specs.declared.build.OpenKind.TheVariants.{List as a_list, Ob
 use Rattle.sm_json.specs.Strings.{is_white, Skips, SpellsText}
 use Rattle.sm_json.specs.JsonText.{SpellsValue, Separator, Entries, MoreEntries, Pairs, MorePairs, JsonText}
 use Rattle.sm_json.specs.TextRest.{TextRest}
-use Rattle.sm_json.specs.NumberTail.{IsNumberByte, AreNumberBytes}
+use Rattle.sm_tree.specs.NumberTail.{IsNumberByte, AreNumberBytes}
 use Rattle.sm_json.specs.Rest.{Where, value, first_entry, first_key, next_key, colon, after, word, numeral, in_text, State, start, letters, literal_node, Ends, ValueNow, ValueComes, ColonComes, KeyNow, KeyComes, FirstEntryComes, FirstKeyComes, StringComes, RestAt, Rest, Leads, Stops}
 use Rattle.sm_json.specs.declared.spot.Spot.{Spot}
 use Rattle.sm_json.specs.declared.place.Literal.{Literal}

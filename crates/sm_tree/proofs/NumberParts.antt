@@ -2,7 +2,7 @@
 -- The steps of the phases stand on it.
 use Rattle.std.proofs.Common.{◌≡◌, ℕ, ◌≤◌, ◌⊎◌, inl, inr, List, [], ◌∷◌, ◌++◌, refl, sym, ap, subst, ◌∙◌, arith}
 use Rattle.sm_tree.specs.Numbers.{IsDigit, AreDigits, IsMinus, IsInt, IsDigits, IsFraction, IsSign, IsExponent, IsNumber}
-use Rattle.sm_json.specs.NumberTail.{IsLetter, Then}
+use Rattle.sm_tree.specs.NumberTail.{IsLetter, Then}
 
 -- two texts, the first of which may be empty: the byte belongs to the second or to the first
 split_front : (P Q : List ℕ → Type 0) (c : ℕ) (u f r : List ℕ) → c ∷ u ≡ f ++ r → P f → Q r → (P [] × Q (c ∷ u)) ⊎ Then (λ s. P (c ∷ s)) Q u

@@ -2,8 +2,8 @@
 -- does to that. The reader of numbers stands on it.
 use Rattle.std.specs.Prelude.{◌≡◌, ℕ, ◌⊎◌, List, [], ◌∷◌, ◌++◌, Option, Some, None}
 use Rattle.sm_tree.specs.Numbers.{IsDigit, AreDigits, IsInt, IsDigits, IsFraction, IsSign, IsExponent, IsNumber}
-use Rattle.sm_json.specs.declared.number.Phase.{Phase}
-use Rattle.sm_json.specs.declared.number.Phase.TheVariants.{Start, Minus, Zero, Whole, Point, Fraction, Exponent, ExponentSign, ExponentDigits}
+use Rattle.sm_tree.specs.declared.number.Phase.{Phase}
+use Rattle.sm_tree.specs.declared.number.Phase.TheVariants.{Start, Minus, Zero, Whole, Point, Fraction, Exponent, ExponentSign, ExponentDigits}
 
 -- the letter of an exponent, `e` or `E`
 abbrev pub IsLetter : ℕ → Type 0

@@ -1,6 +1,6 @@
 use Rattle.std.proofs.Common.{◌≤◌, ◌-◌, length, take}
-use Rattle.sm_json.specs.NumberTail.{Leads, AreNumberBytes}
-use Rattle.sm_json.proofs.number.number_run.Given as goal
+use Rattle.sm_tree.specs.NumberTail.{Leads, AreNumberBytes}
+use Rattle.sm_tree.proofs.number.number_run.Given as goal
 
 abbrev pub invariant-loop-run : goal.invariant-loop-run
 invariant-loop-run l = record {

@@ -5,8 +5,8 @@ use Rattle.std.proofs.Math.Seq.{take-add}
 use Rattle.std.proofs.lemmas.List.{take-take}
 use Rattle.std.proofs.lemmas.Grind.{common_steps}
 use Rattle.sm_tree.specs.Numbers.{IsDigit, AreDigits}
-use Rattle.sm_json.specs.NumberTail.{IsNumberByte, AreNumberBytes, Tail, Leads}
-use Rattle.sm_json.specs.declared.number.Phase.{Phase}
+use Rattle.sm_tree.specs.NumberTail.{IsNumberByte, AreNumberBytes, Tail, Leads}
+use Rattle.sm_tree.specs.declared.number.Phase.{Phase}
 
 pub digits_joined : (xs ys : List ℕ) → AreDigits xs → AreDigits ys → AreDigits (xs ++ ys)
 digits_joined [] ys h k = k

@@ -3,9 +3,9 @@
 ghost use Rattle.std.specs.Prelude.{◌≡◌, [], ◌↔◌, IsTrue, IfOk, length, take, slice_index, ◌≤◌, ◌<◌};
 ghost use Rattle.sm_tree.specs.Numbers.{IsNumber, IsDigit, AreDigits, NumberText};
 ghost use Rattle.sm_tree.specs.View.{node_of};
-ghost use Rattle.sm_json.specs.NumberTail.{Tail, Leads, Stops, IsNext, TakesDigits, AreNumberBytes};
+ghost use Rattle.sm_tree.specs.NumberTail.{Tail, Leads, Stops, IsNext, TakesDigits, AreNumberBytes};
 
-use sm_tree::{NoMemory, Text, Tree};
+use crate::{NoMemory, Text, Tree};
 use std::alloc::Global;
 use std::str;
 

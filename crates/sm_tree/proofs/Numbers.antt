@@ -16,11 +16,11 @@ use Rattle.std.specs.Int.Signed.{mag}
 use mir.Val.{hbits}
 use Rattle.sm_tree.specs.Node.{Node, null, bool, int, number, text, bytes, tag, opaque, list, object}
 use Rattle.sm_tree.specs.Numbers.{AreDigits, IsMinus, IsInt, IsFraction, IsExponent, IsNumber, IsWord, NumberText}
-use Rattle.sm_json.specs.NumberTail.{IsNumberByte, AreNumberBytes, IsNumberStart, Then, Tail, Leads}
-use Rattle.sm_json.specs.declared.number.Phase.{Phase}
-use Rattle.sm_json.specs.declared.number.Phase.TheVariants.{Start, Minus, Zero, Whole, Point, Fraction, Exponent, ExponentSign, ExponentDigits}
-use Rattle.sm_json.proofs.NumberParts.{then_none}
-use Rattle.sm_json.proofs.NumberSteps.{goes_on, comes_from, next_byte}
+use Rattle.sm_tree.specs.NumberTail.{IsNumberByte, AreNumberBytes, IsNumberStart, Then, Tail, Leads}
+use Rattle.sm_tree.specs.declared.number.Phase.{Phase}
+use Rattle.sm_tree.specs.declared.number.Phase.TheVariants.{Start, Minus, Zero, Whole, Point, Fraction, Exponent, ExponentSign, ExponentDigits}
+use Rattle.sm_tree.proofs.NumberParts.{then_none}
+use Rattle.sm_tree.proofs.NumberSteps.{goes_on, comes_from, next_byte}
 
 -- every byte of what completes a number is a byte of numbers, and so is every byte of a number
 

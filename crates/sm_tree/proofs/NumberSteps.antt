@@ -5,11 +5,11 @@ use Rattle.std.specs.Prelude.{nat_le}
 use Rattle.std.proofs.lemmas.Bool.{cond-true, cond-false}
 use Rattle.std.proofs.lemmas.Bool.Decides.{nat_tests}
 use Rattle.sm_tree.specs.Numbers.{IsDigit, AreDigits, IsMinus, IsInt, IsDigits, IsFraction, IsSign, IsExponent}
-use Rattle.sm_json.specs.NumberTail.{IsLetter, IsNumberByte, Then, Tail, Leads, Stops, IsNext}
-use Rattle.sm_json.specs.declared.number.Phase.{Phase}
-use Rattle.sm_json.specs.declared.number.Phase.TheVariants.{Start, Minus, Zero, Whole, Point, Fraction, Exponent, ExponentSign, ExponentDigits}
-use Rattle.sm_json.proofs.NumberRuns.{digits_lead}
-use Rattle.sm_json.proofs.NumberParts.{then_split, then_none, then_more, then_front, then_rest, minus_then, then_minus, no_int, no_digits, digits_front, digits_more, int_front, fraction_front, exponent_front, exponent_more, sign_front, minus_front}
+use Rattle.sm_tree.specs.NumberTail.{IsLetter, IsNumberByte, Then, Tail, Leads, Stops, IsNext}
+use Rattle.sm_tree.specs.declared.number.Phase.{Phase}
+use Rattle.sm_tree.specs.declared.number.Phase.TheVariants.{Start, Minus, Zero, Whole, Point, Fraction, Exponent, ExponentSign, ExponentDigits}
+use Rattle.sm_tree.proofs.NumberRuns.{digits_lead}
+use Rattle.sm_tree.proofs.NumberParts.{then_split, then_none, then_more, then_front, then_rest, minus_then, then_minus, no_int, no_digits, digits_front, digits_more, int_front, fraction_front, exponent_front, exponent_more, sign_front, minus_front}
 
 -- the table
 

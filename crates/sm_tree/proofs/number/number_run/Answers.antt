@@ -1,8 +1,8 @@
 -- A byte and the digits behind it make the run longer.
 use Rattle.std.proofs.Common.{◌≤◌, ◌-◌, ◌+◌, length, drop, arith}
 use Rattle.std.proofs.lemmas.List.{length-take}
-use Rattle.sm_json.proofs.NumberRuns.{run_leads, run_bytes}
-use Rattle.sm_json.proofs.number.number_run.Goals as goal
+use Rattle.sm_tree.proofs.NumberRuns.{run_leads, run_bytes}
+use Rattle.sm_tree.proofs.number.number_run.Goals as goal
 
 pub loop-run-preserved : goal.loop-run-preserved
 loop-run-preserved c =
