@@ -6,7 +6,7 @@ mod byte_form;
 mod escape;
 pub mod laws;
 mod length;
-mod number;
+pub mod number;
 mod place;
 mod plain;
 mod put;
