@@ -2,6 +2,8 @@ pub mod Node
 pub mod Levels
 pub mod Weight
 pub mod Numbers
+pub mod NumberTail
+pub mod Escapes
 pub mod Json
 pub mod Events
 pub mod View
