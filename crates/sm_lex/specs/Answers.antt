@@ -10,7 +10,4 @@ use Rattle.sm_lex.specs.Tokens.{lexeme_of, Spelled, Refused}
 abbrev pub Lexes : List ℕ → Result (Vec Token Global) LexRefusal → Type 0
 Lexes text (Ok tokens) = Spelled (map lexeme_of tokens.items) text
 Lexes text (Err NoMemory) = Unit {0}
-Lexes text (Err (Bad at)) = Refused (Bad at) text
-Lexes text (Err (UnclosedString at)) = Refused (UnclosedString at) text
-Lexes text (Err (UnclosedBlock at)) = Refused (UnclosedBlock at) text
-Lexes text (Err (BadEscape at)) = Refused (BadEscape at) text
+Lexes text (Err e) = Refused e text

@@ -4,5 +4,6 @@ pub mod Escapes
 pub mod Lines
 pub mod Values
 pub mod Tokens
+pub mod Steps
 pub mod Answers
 pub mod Laws

@@ -1,10 +1,10 @@
 -- What the inside of a string or a text block means (Smithy 2.0, "Smithy IDL", "String values" and "Text
--- blocks"), line by line. LF, CR LF and CR end a line, and each counts as LF. A place counts bytes from the
--- token's first quotation mark.
+-- blocks"), line by line. LF, CR LF and CR end a line, and each counts as LF.
 use Rattle.std.specs.Prelude.{◌≡◌, ℕ, zero, suc, ◌+◌, ◌-◌, ◌==◌, ◌||◌, ◌&&◌, Bool, true, false, cond, min, List, [], ◌∷◌, ◌++◌, take, drop, length, Option, Some, None, Result, Ok, Err, map}
 use Rattle.std.specs.Char.{encode_utf8}
 use Rattle.std.specs.List.{list_all, prefix_len, suffix_len}
-use Rattle.sm_lex.specs.Escapes.{Escaped, escape}
+use Rattle.sm_lex.specs.declared.escape.Escape.{Escape}
+use Rattle.sm_lex.specs.Escapes.{escape}
 
 -- the bytes of a line, without its end, and the place of the first
 pub record Line : Type 0 where
@@ -48,11 +48,14 @@ end_of_line (Some below) = put (10 ∷ []) below
 
 -- a backslash at `at`, before the bytes s of its line: an escape; or, at the end of a line, nothing, and the
 -- next line joins. The last line has none to join
-abbrev pub backslash : ℕ → List ℕ → Option Escaped → Option (Result (List ℕ) ℕ) → (ℕ → Result (List ℕ) ℕ) → Result (List ℕ) ℕ
+abbrev pub backslash : ℕ → List ℕ → Option Escape → Option (Result (List ℕ) ℕ) → (ℕ → Result (List ℕ) ℕ) → Result (List ℕ) ℕ
 backslash at [] e None behind = Err at
 backslash at [] e (Some below) behind = below
 backslash at (d ∷ s) None below behind = Err at
-backslash at (d ∷ s) (Some e) below behind = put (encode_utf8 e.char) (behind e.count)
+backslash at (d ∷ s) (Some e) below behind = put (encode_utf8 e.character) (behind e.count)
+
+abbrev pub is_backslash : ℕ → Bool
+is_backslash c = c == 92
 
 -- the text of a line and of those below; the first `skip` bytes belong to an escape before them. A byte that
 -- isn't a backslash stands for itself
@@ -60,7 +63,7 @@ abbrev pub line_text : ℕ → ℕ → List ℕ → Option (Result (List ℕ) �
 line_text at skip [] below = end_of_line below
 line_text at (suc skip) (c ∷ s) below = line_text (at + 1) skip s below
 line_text at zero (c ∷ s) below =
-    cond (c == 92) (backslash at s (escape s) below (λ skip. line_text (at + 1) skip s below)) (put (c ∷ []) (line_text (at + 1) 0 s below))
+    cond (is_backslash c) (backslash at s (escape s) below (λ skip. line_text (at + 1) skip s below)) (put (c ∷ []) (line_text (at + 1) 0 s below))
 
 -- the text of lines, or the place of the backslash of their first bad escape
 abbrev pub lines_text : List Line → Result (List ℕ) ℕ
@@ -85,9 +88,11 @@ indent (l ∷ (m ∷ ls)) = cond (list_all is_blank l.bytes) (indent (m ∷ ls))
 abbrev pub without_trailing : List ℕ → List ℕ
 without_trailing bs = take (length bs - suffix_len is_blank bs) bs
 
--- the indent of n goes, and then trailing blanks: nothing is left of a blank line
+-- n leading spaces go, or all that there are, and then trailing blanks
 abbrev pub trimmed : ℕ → Line → Line
-trimmed n l = record { at = l.at + n; bytes = without_trailing (drop n l.bytes) }
+trimmed n l =
+    let taken = min n (leading_spaces l.bytes) in
+    record { at = l.at + taken; bytes = without_trailing (drop taken l.bytes) }
 
 abbrev pub trimmed_lines : List Line → List Line
 trimmed_lines ls = map (trimmed (indent ls)) ls

@@ -45,6 +45,6 @@ joined [] = None
 joined (t ∷ []) = Some t
 joined (t ∷ u ∷ us) = before t (joined (u ∷ us))
   where
-  before : List ℕ → Option (List ℕ) → Option (List ℕ)
-  before t None = Some t
-  before t (Some d) = Some (t ++ (10 ∷ d))
+    before : List ℕ → Option (List ℕ) → Option (List ℕ)
+    before t None = Some t
+    before t (Some d) = Some (t ++ (10 ∷ d))

@@ -1,7 +1,7 @@
 -- The tokens of a model's text (Smithy 2.0, "Smithy IDL", "Grammar"): what each is, how a list of them
 -- spells a text with white space and comments between, and why a text has none. Each token is the longest
 -- that its rule gives.
-use Rattle.std.specs.Prelude.{◌≡◌, ℕ, ◌+◌, ◌-◌, ◌≤◌, ◌<◌, ◌⊎◌, Bool, true, false, cond, List, [], ◌∷◌, ◌++◌, take, drop, length, codes, Option, Some, None, Result, Ok, Err, IsOk, slice_range}
+use Rattle.std.specs.Prelude.{◌≡◌, ℕ, ◌+◌, ◌-◌, ◌≤◌, ◌<◌, ◌⊎◌, Bool, true, false, cond, List, [], ◌∷◌, ◌++◌, take, drop, length, codes, ◌==◌, Option, Some, None, Result, Ok, Err, IsOk, slice_range}
 use Rattle.std.specs.Option.{option_map}
 use Rattle.std.specs.List.{prefix_len}
 use Rattle.sm_tree.specs.Numbers.{IsNumber}
@@ -14,7 +14,7 @@ use Rattle.sm_lex.specs.declared.token.LexRefusal.{LexRefusal}
 use Rattle.sm_lex.specs.declared.token.LexRefusal.TheVariants.{Bad, UnclosedString, UnclosedBlock, BadEscape, NoMemory}
 use Rattle.sm_lex.specs.Bytes.{is_word_byte, Begins, opens}
 use Rattle.sm_lex.specs.Space.{Skips}
-use Rattle.sm_lex.specs.Lines.{line_end_len}
+use Rattle.sm_lex.specs.Lines.{line_end_len, is_backslash}
 use Rattle.sm_lex.specs.Values.{string_value, block_value}
 
 -- some number begins with these bytes
@@ -32,10 +32,11 @@ pub record LongestNumber (s : List ℕ) (n : ℕ) : Type 0 where
 abbrev pub first_end : (List ℕ → Bool) → Bool → List ℕ → Option ℕ
 first_end ends escaped [] = None
 first_end ends true (c ∷ s) = option_map (λ n. n + 1) (first_end ends false s)
-first_end ends false (c ∷ s) = cond (ends (c ∷ s)) (Some 0) (option_map (λ n. n + 1) (first_end ends (opens (c ∷ s) (codes "\\")) s))
+first_end ends false (c ∷ s) = cond (ends (c ∷ s)) (Some 0) (option_map (λ n. n + 1) (first_end ends (is_backslash c) s))
 
 abbrev pub one_quote : List ℕ → Bool
-one_quote s = opens s (codes "\"")
+one_quote [] = false
+one_quote (c ∷ s) = c == 34
 
 abbrev pub three_quotes : List ℕ → Bool
 three_quotes s = opens s (codes "\"\"\"")
@@ -57,13 +58,14 @@ string_len s = option_map (λ n. n + 2) (first_end one_quote false (drop 1 s))
 abbrev pub block_len : List ℕ → Option ℕ
 block_len s = option_map (λ n. n + 6) (first_end three_quotes false (drop 3 s))
 
--- a token of this kind, of n bytes, stands at the front of s. `:=` goes before `:`
-abbrev pub TokenAt : TokenKind → List ℕ → ℕ → Type 0
-TokenAt Word s n = Begins a_word s × (n ≡ prefix_len is_word_byte s)
-TokenAt Number s n = Begins a_number s × LongestNumber s n × IsNumber (take n s)
-TokenAt Text s n = OpensString s × (string_len s ≡ Some n) × IsOk (string_value (take n s))
-TokenAt Block s n = OpensBlock s × (block_len s ≡ Some n) × IsOk (block_value (take n s))
-TokenAt Mark s n = Begins a_mark s × (n ≡ cond (opens s (codes ":=")) 2 1)
+-- a token of this kind, of n bytes, stands at the front of s, which is at the place `start`. `:=` goes
+-- before `:`
+abbrev pub TokenAt : TokenKind → ℕ → List ℕ → ℕ → Type 0
+TokenAt Word start s n = Begins a_word s × (n ≡ prefix_len is_word_byte s)
+TokenAt Number start s n = Begins a_number s × LongestNumber s n × IsNumber (take n s)
+TokenAt Text start s n = OpensString s × (string_len s ≡ Some n) × IsOk (string_value start (take n s))
+TokenAt Block start s n = OpensBlock s × (block_len s ≡ Some n) × IsOk (block_value start (take n s))
+TokenAt Mark start s n = Begins a_mark s × (n ≡ cond (opens s (codes ":=")) 2 1)
 
 -- a byte that begins neither a token nor white space nor a comment
 abbrev pub IsStray : List ℕ → Type 0
@@ -80,7 +82,7 @@ pub record OpensNothing (s : List ℕ) : Type 0 where
   pub three : three_quotes s ≡ true
   pub no_line_end : line_end_len (drop 3 s) ≡ 0
 
--- at the front of s, which stands at the place `start`, no token stands, for this reason
+-- no token stands at the front of s, which is at the place `start`, for this reason
 abbrev pub RefusedAt : LexRefusal → ℕ → List ℕ → Type 0
 RefusedAt (Bad at) start s =
     (IsStray s × (at ≡ start))
@@ -88,9 +90,9 @@ RefusedAt (Bad at) start s =
 RefusedAt (UnclosedString at) start s = OpensString s × (string_len s ≡ None) × (at ≡ start)
 RefusedAt (UnclosedBlock at) start s = OpensBlock s × (block_len s ≡ None) × (at ≡ start)
 RefusedAt (BadEscape at) start s =
-    (n p : ℕ) × (at ≡ start + p)
-    × ((OpensString s × (string_len s ≡ Some n) × (string_value (take n s) ≡ Err p))
-    ⊎ (OpensBlock s × (block_len s ≡ Some n) × (block_value (take n s) ≡ Err p)))
+    (n : ℕ)
+    × ((OpensString s × (string_len s ≡ Some n) × (string_value start (take n s) ≡ Err at))
+    ⊎ (OpensBlock s × (block_len s ≡ Some n) × (block_value start (take n s) ≡ Err at)))
 RefusedAt NoMemory start s = ⊥
 
 -- a token as data: its kind, its bytes, the place of the first, and the place behind the last
@@ -109,7 +111,7 @@ pub record IsNext (text : List ℕ) (at : ℕ) (x : Lexeme) : Type 0 where
   pub in_order : at ≤ x.start
   pub some_bytes : x.start < x.end
   pub inside : x.end ≤ length text
-  pub token : TokenAt x.kind (drop x.start text) (x.end - x.start)
+  pub token : TokenAt x.kind x.start (drop x.start text) (x.end - x.start)
   pub slice : x.text ≡ slice_range text x.start x.end
 
 -- from the place `at` on, these tokens lead to the place `to`

@@ -4,6 +4,16 @@
 
 mod byte;
 mod escape;
+mod judge;
+mod lex;
+#[cfg(test)]
+mod lex_tests;
+mod lines;
+mod part;
+mod quoted;
+mod runs;
+mod space;
 mod token;
 
+pub use lex::tokens;
 pub use token::{LexRefusal, Token, TokenKind};

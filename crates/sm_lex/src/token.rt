@@ -44,3 +44,25 @@ pub enum LexRefusal {
     /// The allocator refused the memory that the list of tokens needs.
     NoMemory,
 }
+
+impl From<AllocError> for LexRefusal {
+    ghost use Rattle.std.specs.Prelude.{◌≡◌};
+    ghost use Rattle.sm_lex.specs.declared.token.LexRefusal.TheVariants.{NoMemory as no_memory};
+
+    ghost from_gives = { λ _ refusal. refusal ≡ no_memory };
+
+    fn from(_error: AllocError) -> Self {
+        LexRefusal::NoMemory
+    }
+}
+
+impl<T: Drop> From<AllocFailed<T>> for LexRefusal {
+    ghost use Rattle.std.specs.Prelude.{◌≡◌};
+    ghost use Rattle.sm_lex.specs.declared.token.LexRefusal.TheVariants.{NoMemory as no_memory};
+
+    ghost from_gives = { λ _ refusal. refusal ≡ no_memory };
+
+    fn from(_refused: AllocFailed<T>) -> Self {
+        LexRefusal::NoMemory
+    }
+}
