@@ -1,9 +1,7 @@
 -- What may stand in an id's text from the start of an identifier on, for each part of the id. The scanner
 -- stands on it.
-use Rattle.std.specs.Prelude.{◌≡◌, ◌+◌, ◌-◌, ◌<◌, ◌≤◌, ℕ, false, List, [], ◌∷◌, ◌++◌, length, take, drop, slice_index, Option, Result, Ok, Err}
+use Rattle.std.specs.Prelude.{◌≡◌, ◌+◌, ◌-◌, ◌<◌, ◌≤◌, ℕ, Bool, false, List, [], ◌∷◌, ◌++◌, length, take, drop, slice_index, slice_range, Option, Result, Ok, Err}
 use Rattle.std.specs.Option.{ForSome}
-use Rattle.sm_ids.specs.declared.refusal.IdRefusal.{IdRefusal}
-use Rattle.sm_ids.specs.declared.refusal.IdRefusal.TheVariants.{Empty, BadIdentifier}
 use Rattle.sm_ids.specs.Identifier.{is_identifier_byte, IsIdentifier, IsNamespace}
 use Rattle.sm_ids.specs.IdText.{member_text, IsIdText, BreaksAt}
 
@@ -26,23 +24,22 @@ Ahead in_namespace u = IsIdText u
 Ahead in_name u = NameAhead u
 Ahead in_member u = IsIdentifier u
 
--- an identifier that stands before these bytes ends there
-abbrev pub IsBehind : List ℕ → Type 0
-IsBehind [] = Unit {0}
-IsBehind (c ∷ cs) = is_identifier_byte c ≡ false
+-- a run of bytes that pass the test ends before these: there are none, or the first fails it
+abbrev pub EndsRun : (ℕ → Bool) → List ℕ → Type 0
+EndsRun test [] = Unit {0}
+EndsRun test (c ∷ cs) = test c ≡ false
 
--- an identifier from one place to another, the longest
+-- an identifier from one place to another, the longest that stands there
 pub record IsIdentifierFrom (bytes : List ℕ) (from to : ℕ) : Type 0 where
   pub above : from ≤ to
   pub within : to ≤ length bytes
-  pub identifier : IsIdentifier (take (to - from) (drop from bytes))
-  pub ends : IsBehind (drop to bytes)
+  pub identifier : IsIdentifier (slice_range bytes from to)
+  pub ends : EndsRun is_identifier_byte (drop to bytes)
 
--- the identifier that stands from a place on, or the place up to which one may have begun there
-abbrev pub TakesIdentifier : List ℕ → ℕ → Result ℕ IdRefusal → Type 0
+-- where the identifier ends that stands from a place on, or up to where one may have begun there
+abbrev pub TakesIdentifier : List ℕ → ℕ → Result ℕ ℕ → Type 0
 TakesIdentifier bytes from (Ok to) = IsIdentifierFrom bytes from to
-TakesIdentifier bytes from (Err (BadIdentifier at)) = (from ≤ at) × ((part : Part) → BreaksAt (Ahead part) (drop from bytes) (at - from))
-TakesIdentifier bytes from (Err Empty) = ⊥
+TakesIdentifier bytes from (Err at) = (from ≤ at) × ((part : Part) → BreaksAt (Ahead part) (drop from bytes) (at - from))
 
 -- a namespace at the front and a `#` behind it
 pub record IsNamespaceTo (bytes : List ℕ) (to : ℕ) : Type 0 where
@@ -50,7 +47,7 @@ pub record IsNamespaceTo (bytes : List ℕ) (to : ℕ) : Type 0 where
   pub namespace : IsNamespace (take to bytes)
   pub hash : slice_index bytes to ≡ 35
 
-abbrev pub TakesNamespace : List ℕ → Result ℕ IdRefusal → Type 0
+-- where the namespace at the front ends, or where the bytes break
+abbrev pub TakesNamespace : List ℕ → Result ℕ ℕ → Type 0
 TakesNamespace bytes (Ok to) = IsNamespaceTo bytes to
-TakesNamespace bytes (Err (BadIdentifier at)) = BreaksAt IsIdText bytes at
-TakesNamespace bytes (Err Empty) = ⊥
+TakesNamespace bytes (Err at) = BreaksAt IsIdText bytes at

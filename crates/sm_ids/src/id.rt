@@ -3,11 +3,12 @@ ghost use Rattle.std.specs.Option.{ForSome};
 ghost use Rattle.sm_ids.specs.Identifier.{IsIdentifier, IsNamespace};
 
 use crate::refusal::IdRefusal;
-use crate::scan::{identifier_end, namespace_end};
+use crate::scan::{Ends, scan};
 use std::fmt;
 
 /// An absolute shape id (Smithy 2.0, "Shape ID"), `namespace#Name` of a shape or `namespace#Name$member` of
-/// one of its members.
+/// one of its members. Who writes one down proves that its parts are what they say: `is_namespace` and
+/// `is_identifier` test it.
 #[derive(Debug, Clone, Copy, PartialEq, Eq)]
 pub struct ShapeIdRef<'a> {
     /// Identifiers joined by full stops.
@@ -23,6 +24,12 @@ pub struct ShapeIdRef<'a> {
 
 impl<'a> ShapeIdRef<'a> {
     ghost use Rattle.sm_ids.specs.Answers.{Parses};
+    ghost use Rattle.std.specs.Prelude.{◌≡◌, ◌≤◌, ℕ, List, Option, length, drop};
+    ghost use Rattle.std.specs.Str.{IsAscii};
+    ghost use Rattle.std.specs.Option.{option_copied};
+    ghost use Rattle.sm_ids.specs.IdText.{IdText, member_text};
+    ghost use Rattle.sm_ids.specs.Parts.{HasParts};
+    ghost use Rattle.sm_ids.specs.View.{id_of};
 
     /// The id that a text spells. `Empty` for the empty text; `BadIdentifier` for any other text that spells
     /// none, with the number of leading bytes that begin one. No memory.
@@ -32,29 +39,37 @@ impl<'a> ShapeIdRef<'a> {
         if text.is_empty() {
             return Err(IdRefusal::Empty);
         }
-        let bytes = text.as_bytes();
-        let hash = namespace_end(bytes)?;
-        let name_end = identifier_end(bytes, hash + 1)?;
-        let namespace = &text[..hash];
-        let name = &text[hash + 1..name_end];
-        match bytes.get(name_end) {
-            None => Ok(ShapeIdRef {
-                namespace,
-                name,
-                member: None,
-            }),
-            Some(b'$') => {
-                let end = identifier_end(bytes, name_end + 1)?;
-                if end < bytes.len() {
-                    return Err(IdRefusal::BadIdentifier(end as u64));
-                }
-                Ok(ShapeIdRef {
-                    namespace,
-                    name,
-                    member: Some(&text[name_end + 1..]),
-                })
-            }
-            Some(_) => Err(IdRefusal::BadIdentifier(name_end as u64)),
+        match scan(text.as_bytes()) {
+            Ok(ends) => Ok(ShapeIdRef::cut(text, ends)),
+            Err(at) => Err(IdRefusal::BadIdentifier(at as u64)),
+        }
+    }
+
+    // The member behind a name that ends at this place.
+    fn member_at(text: &'a str, name: usize) -> Option<&'a str>
+        requires ascii { IsAscii text.now }
+        requires within { name ≤ length text.now }
+        ensures { (m : Option (List ℕ)) → drop name text.now ≡ member_text m → option_copied result ≡ m }
+    {
+        if name < text.len() {
+            Some(&text[name + 1..])
+        } else {
+            None
+        }
+    }
+
+    // The id whose parts end at these places of its text.
+    pub(crate) fn cut(text: &'a str, ends: Ends) -> Self
+        requires { HasParts text.now ends }
+        ensures { IdText (id_of result) text.now }
+    {
+        let namespace = &text[..ends.namespace];
+        let name = &text[ends.namespace + 1..ends.name];
+        let member = ShapeIdRef::member_at(text, ends.name);
+        ShapeIdRef {
+            namespace,
+            name,
+            member,
         }
     }
 }

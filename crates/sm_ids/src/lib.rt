@@ -4,6 +4,7 @@
 
 mod fold;
 mod id;
+mod identifier;
 pub mod laws;
 mod owned;
 mod refusal;
@@ -13,5 +14,6 @@ mod tests;
 
 pub use fold::folds_to;
 pub use id::ShapeIdRef;
+pub use identifier::{is_identifier, is_namespace};
 pub use owned::ShapeId;
 pub use refusal::{IdRefusal, NoMemory};

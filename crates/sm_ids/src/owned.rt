@@ -1,8 +1,11 @@
 // A shape id that owns its printed text. Maps and sorted lists of shapes are keyed by it.
-ghost use Rattle.std.specs.Prelude.{◌≡◌, IfOk};
+ghost use Rattle.std.specs.Prelude.{◌≡◌, ◌++◌, OnOk, string_bytes};
+ghost use Rattle.std.specs.Option.{option_copied};
+ghost use Rattle.sm_ids.specs.IdText.{member_text};
 
 use crate::id::ShapeIdRef;
 use crate::refusal::NoMemory;
+use crate::scan::Ends;
 use std::alloc::Global;
 use std::cmp::Ordering;
 use std::fmt;
@@ -14,10 +17,8 @@ use std::marker::Model;
 pub struct ShapeId {
     /// The printed text.
     text: String,
-    /// Where the namespace ends, before the `#`.
-    namespace_end: usize,
-    /// Where the name ends, at the end of the text or before a member's `$`.
-    name_end: usize,
+    /// Where its parts end.
+    ends: Ends,
 }
 
 impl Model for ShapeId {
@@ -28,7 +29,7 @@ impl Model for ShapeId {
 
     ghost view = { λ a. string_bytes a.text };
 
-    ghost invariant = { λ a. HasParts (string_bytes a.text) a.namespace_end a.name_end };
+    ghost invariant = { λ a. HasParts (string_bytes a.text) a.ends };
 }
 
 impl ShapeId {
@@ -42,18 +43,14 @@ impl ShapeId {
     {
         let mut text = String::with_capacity(alloc, printed_len(id))?;
         text.push_str(id.namespace)?;
-        let namespace_end = text.len();
+        let namespace = text.len();
         text.push('#')?;
         text.push_str(id.name)?;
-        let name_end = text.len();
-        if let Some(member) = id.member {
-            text.push('$')?;
-            text.push_str(member)?;
-        }
+        let name = text.len();
+        push_member(&mut text, id.member)?;
         Ok(ShapeId {
             text,
-            namespace_end,
-            name_end,
+            ends: Ends { namespace, name },
         })
     }
 
@@ -61,17 +58,7 @@ impl ShapeId {
     pub fn as_ref(&self) -> ShapeIdRef<'_>
         ensures { IdText (id_of result) self.now }
     {
-        let text = self.text.as_str();
-        let member = if self.name_end == text.len() {
-            None
-        } else {
-            Some(&text[self.name_end + 1..])
-        };
-        ShapeIdRef {
-            namespace: &text[..self.namespace_end],
-            name: &text[self.namespace_end + 1..self.name_end],
-            member,
-        }
+        ShapeIdRef::cut(self.as_str(), self.ends)
     }
 
     /// The printed text. No memory.
@@ -80,6 +67,17 @@ impl ShapeId {
     {
         self.text.as_str()
     }
+}
+
+// Appends a member's name and the `$` before it.
+fn push_member(text: &mut String, member: Option<&str>) -> Result<(), NoMemory>
+    ensures { OnOk result (string_bytes text.new ≡ string_bytes text.old ++ member_text (option_copied member.entry)) }
+{
+    if let Some(member) = member {
+        text.push('$')?;
+        text.push_str(member)?;
+    }
+    Ok(())
 }
 
 // How many bytes the printed text has, at most the greatest number of 64 bits.
