@@ -1,14 +1,14 @@
 -- What may stand from the start of an identifier on is an identifier, and then what may stand behind it.
-use Rattle.std.proofs.Common.{◌≡◌, ℕ, ◌⊎◌, inl, inr, Bool, true, false, List, [], ◌∷◌, ◌++◌, append_assoc, append-nil, Option, Some, None, refl, sym, ap, subst, ◌∙◌, lit<}
+use Rattle.std.proofs.Common.{◌≡◌, ℕ, ◌⊎◌, inl, inr, true, List, [], ◌∷◌, ◌++◌, append_assoc, append-nil, Option, Some, None, refl, sym, ap, subst, ◌∙◌, lit<}
 use Rattle.std.specs.List.{list_all}
 use Rattle.std.specs.Option.{ForSome}
-use Rattle.sm_ids.specs.Identifier.{is_identifier_byte, is_identifier, IsIdentifier, IsNamespace}
-use Rattle.sm_ids.specs.IdText.{Id, IsId, IdText, IsIdText, member_text, printed}
+use Rattle.sm_ids.specs.Identifier.{is_identifier_byte, IsIdentifier, IsNamespace}
+use Rattle.sm_ids.specs.IdText.{Id, IsId, IdText, IsIdText, member_text}
 use Rattle.sm_ids.specs.Ahead.{Part, in_namespace, in_name, in_member, EndsRun, NameAhead, Ahead}
 use Rattle.sm_ids.proofs.Cutting.{one_cut, heads, tails, above}
 use Rattle.sm_ids.proofs.Identifiers.{made_of_bytes}
 use Rattle.sm_ids.proofs.Namespaces.{Front, namespace_front, one_identifier, one_more}
-use Rattle.sm_ids.proofs.Spellings.{hash_cut, member_ends}
+use Rattle.sm_ids.proofs.Spellings.{hash_cut}
 
 -- what may stand behind an identifier of this part
 abbrev pub After : Part → List ℕ → Type 0

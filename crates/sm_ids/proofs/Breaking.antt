@@ -1,14 +1,13 @@
 -- Where a text breaks: from the place in it where the part begins that breaks, and behind a run of bytes.
-use Rattle.std.proofs.Common.{◌≡◌, ℕ, suc, zero, ◌+◌, ◌-◌, ◌<◌, ◌≤◌, ◌⊎◌, inl, inr, Bool, true, false, List, [], ◌∷◌, ◌++◌, length, take, drop, append_assoc, append-nil, Option, Some, None, refl, sym, ap, subst, ◌∙◌, arith, length-append}
+use Rattle.std.proofs.Common.{◌≡◌, ℕ, suc, ◌+◌, ◌-◌, ◌<◌, ◌≤◌, inl, inr, true, List, [], ◌∷◌, ◌++◌, length, take, append_assoc, append-nil, None, refl, sym, ap, subst, ◌∙◌, arith, length-append}
 use Rattle.std.proofs.Math.Seq.{take-append_seam, take-append-add}
-use Rattle.std.proofs.lemmas.List.{take-append-drop}
 use Rattle.std.proofs.lemmas.Bool.{cases_lt}
 use Rattle.std.specs.List.{list_all}
-use Rattle.sm_ids.specs.Identifier.{is_identifier_byte, is_identifier, IsIdentifier}
+use Rattle.sm_ids.specs.Identifier.{is_identifier_byte, IsIdentifier}
 use Rattle.sm_ids.specs.IdText.{Begins, BreaksAt}
-use Rattle.sm_ids.specs.Ahead.{Part, in_namespace, in_name, in_member, EndsRun, NameAhead, Ahead}
+use Rattle.sm_ids.specs.Ahead.{Part, in_namespace, in_name, in_member, EndsRun, Ahead}
 use Rattle.sm_ids.proofs.Identifiers.{is_underscore, opener, Shuts, whole, shut, letter_opens, made_of_bytes}
-use Rattle.sm_ids.proofs.Aheads.{After, Opened, opened, joined, after_run, no_member, Leads}
+use Rattle.sm_ids.proofs.Aheads.{After, Opened, opened, joined, after_run, no_member}
 
 -- some bytes more of the second list reach past the first
 past : (a v : List ℕ) (n : ℕ) → length a < n → n ≤ length (a ++ v) → (c : ℕ) × (w : List ℕ) × (k : ℕ) × (v ≡ c ∷ w) × (take n (a ++ v) ≡ a ++ c ∷ take k w)

@@ -7,7 +7,7 @@ use Rattle.std.proofs.lemmas.Bool.Decides.{nat_tests}
 use Rattle.std.proofs.lemmas.Grind.{common_steps}
 use Rattle.std.specs.Char.{is_ascii_alphabetic, is_ascii_alphanumeric}
 use Rattle.std.specs.List.{list_all, slice_range}
-use Rattle.sm_ids.specs.Identifier.{is_identifier_byte, is_identifier, IsIdentifier}
+use Rattle.sm_ids.specs.Identifier.{is_identifier_byte, IsIdentifier}
 use Rattle.sm_ids.specs.IdText.{BreaksAt}
 use Rattle.sm_ids.specs.Ahead.{Part, EndsRun, Ahead, IsIdentifierFrom}
 use Rattle.sm_ids.proofs.Identifiers.{is_underscore, opener, Shuts, whole}

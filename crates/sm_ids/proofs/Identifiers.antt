@@ -1,10 +1,10 @@
 -- Identifiers by their bytes: what begins one, what one is made of, and what ends before one is whole.
-use Rattle.std.proofs.Common.{◌≡◌, ℕ, ◌<◌, ◌≤◌, ◌⊎◌, inl, inr, Bool, true, false, cond, ◌&&◌, ◌||◌, ◌==◌, List, [], ◌∷◌, ◌++◌, refl, sym, ap, subst, ◌∙◌, arith}
-use Rattle.std.specs.Char.{is_ascii_alphabetic, is_ascii_alphanumeric, is_ascii_digit}
+use Rattle.std.proofs.Common.{◌≡◌, ℕ, inl, inr, Bool, true, false, cond, ◌&&◌, ◌==◌, List, [], ◌∷◌, ◌++◌, refl, sym, subst, ◌∙◌, arith}
+use Rattle.std.specs.Char.{is_ascii_alphabetic, is_ascii_alphanumeric}
 use Rattle.std.specs.List.{list_all}
 use Rattle.std.proofs.lemmas.Bool.{cond-true, cond-false}
 use Rattle.std.proofs.lemmas.Bool.Decides.{nat_tests}
-use Rattle.sm_ids.specs.Identifier.{is_identifier_byte, is_behind_underscore, is_identifier, IsIdentifier}
+use Rattle.sm_ids.specs.Identifier.{is_identifier_byte, is_behind_underscore, IsIdentifier}
 use Rattle.sm_ids.proofs.Cutting.{both, and_also, pick, heads, tails, clash}
 
 abbrev pub is_underscore : ℕ → Bool
@@ -24,12 +24,6 @@ letter_is_no_underscore c h = grind (arith, nat_tests)
 
 letter_or_digit_is_no_underscore : (c : ℕ) → is_ascii_alphanumeric c ≡ true → (c == 95) ≡ false
 letter_or_digit_is_no_underscore c h = grind (arith, nat_tests)
-
-pub letter_or_digit : (c : ℕ) → is_ascii_alphabetic c ≡ true → is_ascii_alphanumeric c ≡ true
-letter_or_digit c h = grind (arith, nat_tests)
-
-pub digit_too : (c : ℕ) → is_ascii_digit c ≡ true → is_ascii_alphanumeric c ≡ true
-digit_too c h = grind (arith, nat_tests)
 
 -- what one is made of
 behind_bytes : (t : List ℕ) → is_behind_underscore t ≡ true → list_all is_identifier_byte t ≡ true
@@ -68,39 +62,34 @@ abbrev pub Shuts : (ℕ → Bool) → List ℕ → Type 0
 Shuts test [] = Unit {0}
 Shuts test (c ∷ v) = (test c ≡ false) × ((c == 95) ≡ false)
 
+-- what an identifier's first byte is, by the test that it has to pass
+no_opener : (test : ℕ → Bool) (d c : ℕ) (i : List ℕ) → d ≡ c → cond (d == 95) (is_behind_underscore i) (test d && list_all is_identifier_byte i) ≡ true → (test c ≡ false) × ((c == 95) ≡ false) → ⊥
+no_opener test d c i same h shut = elim (pick (d == 95) (is_behind_underscore i) (test d && list_all is_identifier_byte i) h) [
+  | inl k ↦ clash (d == 95) k.0 (subst (λ x. (x == 95) ≡ false) (sym same) shut.1)
+  | inr k ↦ clash (test d) (both (test d) (list_all is_identifier_byte i) k.1).0 (subst (λ x. test x ≡ false) (sym same) shut.0)
+]
+
+behind_it : (test : ℕ → Bool) (d u : ℕ) (i : List ℕ) → d ≡ u → cond (d == 95) (is_behind_underscore i) (test d && list_all is_identifier_byte i) ≡ true → (u == 95) ≡ true → is_behind_underscore i ≡ true
+behind_it test d u i same h underscore = elim (pick (d == 95) (is_behind_underscore i) (test d && list_all is_identifier_byte i) h) [
+  | inl k ↦ k.1
+  | inr k ↦ absurd (clash (d == 95) (subst (λ x. (x == 95) ≡ true) (sym same) underscore) k.0)
+]
+
 behind_shut : (us v i r : List ℕ) → list_all is_underscore us ≡ true → Shuts is_ascii_alphanumeric v → is_behind_underscore i ≡ true → i ++ r ≡ us ++ v → ⊥
 behind_shut us v [] r hu hv hi e = cc
 behind_shut [] [] (d ∷ i) r hu hv hi e = cc
-behind_shut [] (c ∷ v) (d ∷ i) r hu hv hi e =
-    let same : d ≡ c = heads d c (i ++ r) v e in
-    elim (pick (d == 95) (is_behind_underscore i) (is_ascii_alphanumeric d && list_all is_identifier_byte i) hi) [
-      | inl k ↦ clash (d == 95) k.0 (subst (λ x. (x == 95) ≡ false) (sym same) hv.1)
-      | inr k ↦ clash (is_ascii_alphanumeric d) (both (is_ascii_alphanumeric d) (list_all is_identifier_byte i) k.1).0 (subst (λ x. is_ascii_alphanumeric x ≡ false) (sym same) hv.0)
-    ]
+behind_shut [] (c ∷ v) (d ∷ i) r hu hv hi e = no_opener is_ascii_alphanumeric d c i (heads d c (i ++ r) v e) hi hv
 behind_shut (u ∷ us) v (d ∷ i) r hu hv hi e =
-    let same : d ≡ u = heads d u (i ++ r) (us ++ v) e in
     let k = both (u == 95) (list_all is_underscore us) hu in
-    elim (pick (d == 95) (is_behind_underscore i) (is_ascii_alphanumeric d && list_all is_identifier_byte i) hi) [
-      | inl l ↦ behind_shut us v i r k.1 hv l.1 (tails d u (i ++ r) (us ++ v) e)
-      | inr l ↦ clash (d == 95) (subst (λ x. (x == 95) ≡ true) (sym same) k.0) l.0
-    ]
+    behind_shut us v i r k.1 hv (behind_it is_ascii_alphanumeric d u i (heads d u (i ++ r) (us ++ v) e) hi k.0) (tails d u (i ++ r) (us ++ v) e)
 
 pub shut : (us v i r : List ℕ) → list_all is_underscore us ≡ true → Shuts (opener us) v → IsIdentifier i → i ++ r ≡ us ++ v → ⊥
 shut us v [] r hu hv hi e = cc
 shut [] [] (d ∷ i) r hu hv hi e = cc
-shut [] (c ∷ v) (d ∷ i) r hu hv hi e =
-    let same : d ≡ c = heads d c (i ++ r) v e in
-    elim (pick (d == 95) (is_behind_underscore i) (is_ascii_alphabetic d && list_all is_identifier_byte i) hi) [
-      | inl k ↦ clash (d == 95) k.0 (subst (λ x. (x == 95) ≡ false) (sym same) hv.1)
-      | inr k ↦ clash (is_ascii_alphabetic d) (both (is_ascii_alphabetic d) (list_all is_identifier_byte i) k.1).0 (subst (λ x. is_ascii_alphabetic x ≡ false) (sym same) hv.0)
-    ]
+shut [] (c ∷ v) (d ∷ i) r hu hv hi e = no_opener is_ascii_alphabetic d c i (heads d c (i ++ r) v e) hi hv
 shut (u ∷ us) v (d ∷ i) r hu hv hi e =
-    let same : d ≡ u = heads d u (i ++ r) (us ++ v) e in
     let k = both (u == 95) (list_all is_underscore us) hu in
-    elim (pick (d == 95) (is_behind_underscore i) (is_ascii_alphabetic d && list_all is_identifier_byte i) hi) [
-      | inl l ↦ behind_shut us v i r k.1 hv l.1 (tails d u (i ++ r) (us ++ v) e)
-      | inr l ↦ clash (d == 95) (subst (λ x. (x == 95) ≡ true) (sym same) k.0) l.0
-    ]
+    behind_shut us v i r k.1 hv (behind_it is_ascii_alphabetic d u i (heads d u (i ++ r) (us ++ v) e) hi k.0) (tails d u (i ++ r) (us ++ v) e)
 
 -- an `A` opens the rest of an identifier behind any underscores
 pub letter_opens : (us : List ℕ) → opener us 65 ≡ true

@@ -6,5 +6,5 @@ mod Aheads
 mod Breaking
 mod Scanning
 mod Finding
-mod Parting
+pub mod Parting
 mod Grammar

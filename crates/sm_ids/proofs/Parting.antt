@@ -1,5 +1,5 @@
 -- An id's text taken apart at the ends of its parts.
-use Rattle.std.proofs.Common.{◌≡◌, ℕ, ◌+◌, ◌-◌, ◌<◌, ◌≤◌, Bool, true, false, ◌&&◌, List, [], ◌∷◌, ◌++◌, length, take, drop, get_or, Option, Some, None, refl, sym, ap, subst, ◌∙◌, arith, append_assoc, length-append, Bor}
+use Rattle.std.proofs.Common.{◌≡◌, ℕ, ◌+◌, ◌-◌, ◌<◌, true, List, [], ◌∷◌, ◌++◌, length, take, drop, get_or, Option, Some, None, refl, sym, ap, subst, ◌∙◌, arith, append_assoc, length-append, Bor}
 use Rattle.std.proofs.Math.Seq.{take-append_seam, drop-append_seam}
 use Rattle.std.proofs.lemmas.Bool.Decides.{nat_tests}
 use Rattle.std.proofs.lemmas.Grind.{common_steps}
@@ -10,7 +10,7 @@ use Rattle.std.specs.Char.{is_ascii}
 use Rattle.std.specs.List.{list_all, slice_range}
 use Rattle.std.specs.Option.{ForSome, option_copied}
 use Rattle.std.specs.Str.{IsAscii}
-use Rattle.sm_ids.specs.Identifier.{is_identifier_byte, is_identifier, IsIdentifier, IsNamespace}
+use Rattle.sm_ids.specs.Identifier.{is_identifier_byte, IsIdentifier}
 use Rattle.sm_ids.specs.IdText.{Id, IsId, IdText, member_text, printed}
 use Rattle.sm_ids.specs.Parts.{HasParts}
 use Rattle.sm_ids.specs.declared.scan.Ends.{Ends}
@@ -72,15 +72,11 @@ behind_name id =
 pub rest_is : (text : List ℕ) (ends : Ends) (h : HasParts text ends) → drop ends.name text ≡ member_text h.id.member
 rest_is text ends h = ap (λ t. drop ends.name t) h.spells.spelled ∙ ap (λ n. drop n (printed h.id)) (sym h.name) ∙ behind_name h.id
 
-pub within : (text : List ℕ) (ends : Ends) → HasParts text ends → (ends.namespace + 1 ≤ ends.name) × (ends.name ≤ length text)
-within text ends h =
-    let len : length text ≡ length h.id.namespace + (1 + (length h.id.name + length (member_text h.id.member))) = ap length h.spells.spelled ∙ printed_len h.id in
-    let a = h.namespace in
-    let b = h.name in
-    (omega arith, omega arith)
-  where
-    printed_len : (id : Id) → length (printed id) ≡ length id.namespace + (1 + (length id.name + length (member_text id.member)))
-    printed_len id = let a = length-append id.namespace (35 ∷ (id.name ++ member_text id.member)) in let b = length-append id.name (member_text id.member) in omega arith
+pub printed_length : (id : Id) → length (printed id) ≡ length id.namespace + 1 + length id.name + length (member_text id.member)
+printed_length id =
+    let a = length-append id.namespace (35 ∷ (id.name ++ member_text id.member)) in
+    let b = length-append id.name (member_text id.member) in
+    omega arith
 
 -- a member that is there is the member that is seen
 pub copied_member : (o : Option (Bor (List ℕ))) (m : Option (List ℕ)) → option_copied o ≡ m → ForSome m IsIdentifier → ForSome o (λ x. IsIdentifier x.now)

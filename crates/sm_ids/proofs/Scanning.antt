@@ -1,22 +1,21 @@
 -- What the scanner's places mean in its text: fronts and rests of the bytes.
-use Rattle.std.proofs.Common.{◌≡◌, ◌≢◌, ◌↔◌, ◌==◌, ℕ, suc, zero, ◌+◌, ◌-◌, ◌<◌, ◌≤◌, ◌⊎◌, inl, inr, Bool, true, false, List, [], ◌∷◌, ◌++◌, length, take, drop, get_or, append_assoc, append-nil, Option, Some, None, refl, sym, ap, subst, ◌∙◌, arith, lit<, length-append, length-drop, drop-cons, eq-eqb}
+use Rattle.std.proofs.Common.{◌≡◌, ◌≢◌, ◌↔◌, ◌==◌, ℕ, ◌+◌, ◌-◌, ◌<◌, ◌≤◌, inl, inr, true, List, [], ◌∷◌, ◌++◌, length, take, drop, get_or, append_assoc, append-nil, Option, Some, None, sym, ap, subst, ◌∙◌, arith, length-drop, eq-eqb}
 use Rattle.std.proofs.Math.Seq.{take-add}
 use Rattle.std.proofs.lemmas.List.Folds.{drop_split}
 use Rattle.std.specs.List.{slice_range}
-use Rattle.std.proofs.lemmas.List.{take-append-drop, length-take, take_rest}
-use Rattle.std.proofs.lemmas.Bool.{cases_lt, eqb-true}
+use Rattle.std.proofs.lemmas.List.{take-append-drop}
+use Rattle.std.proofs.lemmas.Bool.{eqb-true}
 use Rattle.std.proofs.lemmas.Grind.{common_steps}
-use Rattle.std.specs.List.{list_all}
-use Rattle.sm_ids.specs.Identifier.{is_identifier_byte, is_identifier, IsIdentifier, IsNamespace}
+use Rattle.sm_ids.specs.Identifier.{IsIdentifier, IsNamespace}
 use Rattle.std.specs.Option.{ForSome}
-use Rattle.sm_ids.specs.IdText.{Id, IdText, IsIdText, member_text, BreaksAt}
+use Rattle.sm_ids.specs.IdText.{IsIdText, member_text, BreaksAt}
 use Rattle.sm_ids.specs.Parts.{HasParts}
-use Rattle.sm_ids.specs.Ahead.{Part, in_namespace, in_name, in_member, EndsRun, NameAhead, Ahead, IsIdentifierFrom, IsNamespaceTo}
-use Rattle.sm_ids.proofs.Cutting.{above, heads}
-use Rattle.sm_ids.proofs.Identifiers.{is_underscore, opener, Shuts, whole, shut, made_of_bytes}
+use Rattle.sm_ids.specs.Ahead.{Part, in_namespace, in_name, in_member, Ahead, IsIdentifierFrom, IsNamespaceTo}
+use Rattle.sm_ids.proofs.Cutting.{heads}
+use Rattle.sm_ids.proofs.Identifiers.{made_of_bytes}
 use Rattle.sm_ids.proofs.Namespaces.{one_identifier, one_more}
 use Rattle.sm_ids.proofs.Aheads.{After, after_run, some_member, no_member, Leads, leads_nowhere, leads_joined, full_stop_leads, hash_leads, dollar_leads}
-use Rattle.sm_ids.proofs.Breaking.{breaks_after, breaks_shut, breaks_behind}
+use Rattle.sm_ids.proofs.Breaking.{breaks_after, breaks_behind}
 
 -- where the rest breaks behind what leads there, the text breaks
 pub breaks_from : (p q : Part) (bs : List ℕ) (from at : ℕ) → Leads p (take from bs) q → from ≤ length bs → from ≤ at → BreaksAt (Ahead q) (drop from bs) (at - from) → BreaksAt (Ahead p) bs at

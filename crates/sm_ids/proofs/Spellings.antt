@@ -1,15 +1,14 @@
 -- The texts of ids have one reading: a `#` ends the namespace, and a `$` ends the name.
-use Rattle.std.proofs.Common.{◌≡◌, ◌↔◌, ℕ, ◌⊎◌, inl, inr, Bool, true, false, cond, List, [], ◌∷◌, ◌++◌, Option, Some, None, refl, sym, ap, subst, ◌∙◌, arith}
-use Rattle.std.specs.List.{list_all}
+use Rattle.std.proofs.Common.{◌≡◌, ◌↔◌, ℕ, true, List, [], ◌∷◌, ◌++◌, Option, Some, None, refl, sym, ap, subst, ◌∙◌, arith}
 use Rattle.std.specs.Ordering.{nat_cmp, ordering_then}
 use Rattle.std.specs.Cmp.Lexicographic.{slice_cmp}
 use Rattle.std.specs.declared.cmp.Ordering.TheVariants.{Less, Equal}
 use Rattle.std.proofs.lemmas.Bool.Decides.{nat_tests}
 use Rattle.std.specs.Str.{bytes_eq}
 use Rattle.std.proofs.lemmas.Slice.Eq.{bytes_eq-Decides}
-use Rattle.sm_ids.specs.Identifier.{is_identifier_byte, is_identifier, IsIdentifier, IsNamespace}
+use Rattle.sm_ids.specs.Identifier.{is_identifier_byte, IsIdentifier, IsNamespace}
 use Rattle.sm_ids.specs.IdText.{Id, IsId, IdText, member_text, printed}
-use Rattle.sm_ids.specs.Ahead.{EndsRun, NameAhead}
+use Rattle.sm_ids.specs.Ahead.{EndsRun}
 use Rattle.sm_ids.proofs.Cutting.{one_cut, tails}
 use Rattle.sm_ids.proofs.Identifiers.{made_of_bytes}
 use Rattle.sm_ids.proofs.Namespaces.{is_namespace_byte, namespace_bytes}

@@ -1,6 +1,6 @@
 -- What may stand in an id's text from the start of an identifier on, for each part of the id. The scanner
 -- stands on it.
-use Rattle.std.specs.Prelude.{◌≡◌, ◌+◌, ◌-◌, ◌<◌, ◌≤◌, ℕ, Bool, false, List, [], ◌∷◌, ◌++◌, length, take, drop, slice_index, slice_range, Option, Result, Ok, Err}
+use Rattle.std.specs.Prelude.{◌≡◌, ◌-◌, ◌<◌, ◌≤◌, ℕ, Bool, false, List, [], ◌∷◌, ◌++◌, length, take, drop, slice_index, slice_range, Option, Result, Ok, Err}
 use Rattle.std.specs.Option.{ForSome}
 use Rattle.sm_ids.specs.Identifier.{is_identifier_byte, IsIdentifier, IsNamespace}
 use Rattle.sm_ids.specs.IdText.{member_text, IsIdText, BreaksAt}

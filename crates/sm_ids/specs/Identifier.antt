@@ -1,6 +1,6 @@
 -- Identifiers and namespaces of Smithy 2.0 ("The Smithy model", section "Shape ID", the ABNF of shape ids).
 -- Letters are those of ASCII. In bytes `_` is 95 and `.` is 46.
-use Rattle.std.specs.Prelude.{◌==◌, ◌&&◌, ◌||◌, ℕ, Bool, true, false, if◌then◌else◌, List, [], ◌∷◌, IsTrue}
+use Rattle.std.specs.Prelude.{◌==◌, ◌&&◌, ◌||◌, ℕ, Bool, false, if◌then◌else◌, List, [], ◌∷◌, IsTrue}
 use Rattle.std.specs.Char.{is_ascii_alphabetic, is_ascii_alphanumeric}
 use Rattle.std.specs.List.{list_all, slice_split}
 

@@ -1,5 +1,5 @@
 -- What the definitions are worth, as statements that the functions of src/laws.rt prove.
-use Rattle.std.specs.Prelude.{◌≡◌, ◌↔◌, ◌+◌, ◌⊎◌, ℕ, List, [], ◌∷◌, ◌++◌, replicate, Bool, true, Option, Some, None}
+use Rattle.std.specs.Prelude.{◌≡◌, ◌↔◌, ◌+◌, ◌⊎◌, ℕ, List, [], ◌∷◌, ◌++◌, replicate, Bool, true, Some, None}
 use Rattle.std.specs.Ordering.{nat_cmp}
 use Rattle.std.specs.Cmp.Lexicographic.{slice_cmp}
 use Rattle.std.specs.declared.cmp.Ordering.{Ordering}

@@ -23,10 +23,10 @@ pub struct ShapeIdRef<'a> {
 }
 
 impl<'a> ShapeIdRef<'a> {
-    ghost use Rattle.sm_ids.specs.Answers.{Parses};
     ghost use Rattle.std.specs.Prelude.{◌≡◌, ◌≤◌, ℕ, List, Option, length, drop};
-    ghost use Rattle.std.specs.Str.{IsAscii};
     ghost use Rattle.std.specs.Option.{option_copied};
+    ghost use Rattle.std.specs.Str.{IsAscii};
+    ghost use Rattle.sm_ids.specs.Answers.{Parses};
     ghost use Rattle.sm_ids.specs.IdText.{IdText, member_text};
     ghost use Rattle.sm_ids.specs.Parts.{HasParts};
     ghost use Rattle.sm_ids.specs.View.{id_of};

@@ -1,7 +1,8 @@
 // A shape id that owns its printed text. Maps and sorted lists of shapes are keyed by it.
-ghost use Rattle.std.specs.Prelude.{◌≡◌, ◌++◌, OnOk, string_bytes};
+ghost use Rattle.std.specs.Prelude.{◌≡◌, ◌-◌, ◌^◌, ◌++◌, IfOk, OnOk, length, min, string_bytes};
 ghost use Rattle.std.specs.Option.{option_copied};
-ghost use Rattle.sm_ids.specs.IdText.{member_text};
+ghost use Rattle.sm_ids.specs.IdText.{member_text, printed, IdText};
+ghost use Rattle.sm_ids.specs.View.{id_of};
 
 use crate::id::ShapeIdRef;
 use crate::refusal::NoMemory;
@@ -33,10 +34,6 @@ impl Model for ShapeId {
 }
 
 impl ShapeId {
-    ghost use Rattle.std.specs.Prelude.{◌≡◌, IfOk};
-    ghost use Rattle.sm_ids.specs.IdText.{printed, IdText};
-    ghost use Rattle.sm_ids.specs.View.{id_of};
-
     /// A copy of an id. `NoMemory` where its text finds no room.
     pub fn new(alloc: Global, id: &ShapeIdRef<'_>) -> Result<Self, NoMemory>
         ensures { IfOk result (λ copy. copy ≡ printed (id_of id.now)) }
@@ -80,17 +77,26 @@ fn push_member(text: &mut String, member: Option<&str>) -> Result<(), NoMemory>
     Ok(())
 }
 
-// How many bytes the printed text has, at most the greatest number of 64 bits.
-fn printed_len(id: &ShapeIdRef<'_>) -> usize {
-    let member_len = match id.member {
+// How many bytes `push_member` appends, at most the greatest number of 64 bits.
+fn member_len(member: Option<&str>) -> usize
+    ensures { result ≡ min (length (member_text (option_copied member.entry))) (2 ^ 64 - 1) }
+{
+    match member {
         Some(member) => member.len().saturating_add(1),
         None => 0,
-    };
+    }
+}
+
+// How many bytes the printed text has, at most the greatest number of 64 bits.
+#[tactic(auto, using(crate::proofs::Parting::printed_length))]
+fn printed_len(id: &ShapeIdRef<'_>) -> usize
+    ensures { result ≡ min (length (printed (id_of id.now))) (2 ^ 64 - 1) }
+{
     id.namespace
         .len()
         .saturating_add(1)
         .saturating_add(id.name.len())
-        .saturating_add(member_len)
+        .saturating_add(member_len(id.member))
 }
 
 impl PartialEq for ShapeId {

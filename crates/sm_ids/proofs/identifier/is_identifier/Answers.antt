@@ -1,4 +1,4 @@
-use Rattle.std.proofs.Common.{false, subst, sym}
+use Rattle.std.proofs.Common.{subst, sym}
 use Rattle.sm_ids.specs.Identifier.{IsIdentifier}
 use Rattle.sm_ids.specs.Ahead.{IsIdentifierFrom, in_member}
 use Rattle.sm_ids.proofs.Scanning.{alone}

@@ -1,4 +1,4 @@
-use Rattle.std.proofs.Common.{◌<◌, ◌≤◌, ◌+◌, length, subst, sym, arith}
+use Rattle.std.proofs.Common.{◌<◌, ◌≤◌, ◌+◌, length, arith}
 use Rattle.std.proofs.lemmas.Result.{err_from_is_err_and}
 use Rattle.sm_ids.specs.Ahead.{in_namespace, in_name, in_member}
 use Rattle.sm_ids.proofs.Scanning.{breaks_from, breaks_at_byte, name_stops, member_stops, name_comes, member_comes, ends_with_name, ends_with_member}

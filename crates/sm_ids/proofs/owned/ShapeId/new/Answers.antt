@@ -1,4 +1,4 @@
-use Rattle.std.proofs.Common.{◌≡◌, ◌+◌, ◌++◌, ◌∙◌, length, ap, sym, lit<, arith, string_bytes}
+use Rattle.std.proofs.Common.{◌≡◌, ◌+◌, ◌++◌, ◌∙◌, length, ap, lit<, arith, string_bytes}
 use Rattle.sm_ids.specs.View.{id_of}
 use Rattle.sm_ids.proofs.Parting.{printed_parts, member_of_copy}
 use Rattle.sm_ids.proofs.owned.ShapeId.new.Goals as goal
