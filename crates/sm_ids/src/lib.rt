@@ -1,0 +1,19 @@
+// Shape ids (Smithy 2.0, "Shape ID"): the names of shapes and of their members, borrowed from a text or owned.
+// Whatever names a shape stands on it: models, their readers and writers, selectors, tables.
+#![tactic(auto)]
+
+mod fold;
+mod id;
+mod identifier;
+pub mod laws;
+mod owned;
+mod refusal;
+mod scan;
+#[cfg(test)]
+mod tests;
+
+pub use fold::folds_to;
+pub use id::ShapeIdRef;
+pub use identifier::{is_identifier, is_namespace};
+pub use owned::ShapeId;
+pub use refusal::{IdRefusal, NoMemory};
