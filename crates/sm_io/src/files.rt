@@ -42,8 +42,8 @@ pub trait Files {
         requires let_name { lets_read self.old name.now }
         ensures bytes { ReadsFile (held self.old) name.now limit result }
         ensures held { held self.new ≡ held self.old }
-        ensures later_reads { read_faults self.old ≤ read_faults self.new }
-        ensures later_writes { write_faults self.old ≤ write_faults self.new }
+        ensures later { read_faults self.old ≤ read_faults self.new }
+        ensures other_count { write_faults self.new ≡ write_faults self.old }
         ensures cause { IsErrOf result FileRefusal.Failed → Rose (read_faults self.old) (read_faults self.new) }
         ensures same_reads { LetsSame (lets_read self.old) (lets_read self.new) }
         ensures same_writes { LetsSame (lets_write self.old) (lets_write self.new) };
@@ -53,8 +53,8 @@ pub trait Files {
     fn write(&mut self, name: &str, bytes: &[u8]) -> Result<(), FileRefusal>
         requires let_name { lets_write self.old name.now }
         ensures bytes { WritesFile (held self.old) (held self.new) name.now bytes.now result }
-        ensures later_reads { read_faults self.old ≤ read_faults self.new }
-        ensures later_writes { write_faults self.old ≤ write_faults self.new }
+        ensures later { write_faults self.old ≤ write_faults self.new }
+        ensures other_count { read_faults self.new ≡ read_faults self.old }
         ensures cause { IsErrOf result FileRefusal.Failed → Rose (write_faults self.old) (write_faults self.new) }
         ensures same_reads { LetsSame (lets_read self.old) (lets_read self.new) }
         ensures same_writes { LetsSame (lets_write self.old) (lets_write self.new) };

@@ -62,9 +62,9 @@ impl Files for MemFiles {
     fn read(&mut self, name: &str, limit: u64) -> Result<Vec<u8>, FileRefusal>
         ensures bytes { ReadsFile (Some (mem_folder self.old)) name.now limit result }
         ensures held { mem_folder self.new ≡ mem_folder self.old }
-        ensures later { self.old.read_faults ≤ self.new.read_faults }
-        ensures other_count { self.new.write_faults ≡ self.old.write_faults }
-        ensures cause { IsErrOf result FileRefusal.Failed → Rose self.old.read_faults self.new.read_faults }
+        ensures later { ⟦<MemFiles as Files>⟧.read_faults self.old ≤ ⟦<MemFiles as Files>⟧.read_faults self.new }
+        ensures other_count { ⟦<MemFiles as Files>⟧.write_faults self.new ≡ ⟦<MemFiles as Files>⟧.write_faults self.old }
+        ensures cause { IsErrOf result FileRefusal.Failed → Rose (⟦<MemFiles as Files>⟧.read_faults self.old) (⟦<MemFiles as Files>⟧.read_faults self.new) }
         ensures script { files_script self.new ≡ after_call (files_script self.old) }
         ensures failing { IsErrOf result FileRefusal.Failed
             ↔ IsTrue (fails (files_script self.new)) ⊎ (file_at (mem_folder self.old) name.now ≡ None) }
@@ -84,9 +84,9 @@ impl Files for MemFiles {
 
     fn write(&mut self, name: &str, bytes: &[u8]) -> Result<(), FileRefusal>
         ensures bytes { WritesFile (Some (mem_folder self.old)) (Some (mem_folder self.new)) name.now bytes.now result }
-        ensures later { self.old.write_faults ≤ self.new.write_faults }
-        ensures other_count { self.new.read_faults ≡ self.old.read_faults }
-        ensures cause { IsErrOf result FileRefusal.Failed → Rose self.old.write_faults self.new.write_faults }
+        ensures later { ⟦<MemFiles as Files>⟧.write_faults self.old ≤ ⟦<MemFiles as Files>⟧.write_faults self.new }
+        ensures other_count { ⟦<MemFiles as Files>⟧.read_faults self.new ≡ ⟦<MemFiles as Files>⟧.read_faults self.old }
+        ensures cause { IsErrOf result FileRefusal.Failed → Rose (⟦<MemFiles as Files>⟧.write_faults self.old) (⟦<MemFiles as Files>⟧.write_faults self.new) }
         ensures script { files_script self.new ≡ after_call (files_script self.old) }
         ensures failing { IsErrOf result FileRefusal.Failed ↔ IsTrue (fails (files_script self.new)) }
         ensures nothing { IsErrOf result FileRefusal.Failed → mem_folder self.new ≡ mem_folder self.old }

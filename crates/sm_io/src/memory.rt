@@ -49,8 +49,8 @@ impl Source for MemSource {
         requires room { 0 < length buf.old }
         ensures bound { ReadsAtMost result buf.new }
         ensures bytes { Takes (Some (source_left self.old)) (Some (source_left self.new)) buf.new result }
-        ensures later { self.old.faults ≤ self.new.faults }
-        ensures cause { OnErr result (Rose self.old.faults self.new.faults) }
+        ensures later { ⟦<MemSource as Source>⟧.faults self.old ≤ ⟦<MemSource as Source>⟧.faults self.new }
+        ensures cause { OnErr result (Rose (⟦<MemSource as Source>⟧.faults self.old) (⟦<MemSource as Source>⟧.faults self.new)) }
         ensures script { source_script self.new ≡ after_call (source_script self.old) }
         ensures failing { is_err result ≡ fails (source_script self.new) }
         ensures count { IfOk result (λ count. count
@@ -105,8 +105,8 @@ impl Sink for MemSink {
 
     fn put(&mut self, piece: &[u8]) -> Result<(), PutRefusal>
         ensures bytes { Puts (Some (sink_written self.old)) (Some (sink_written self.new)) piece.now result }
-        ensures later { self.old.faults ≤ self.new.faults }
-        ensures cause { IsErrOf result PutRefusal.Failed → Rose self.old.faults self.new.faults }
+        ensures later { ⟦<MemSink as Sink>⟧.faults self.old ≤ ⟦<MemSink as Sink>⟧.faults self.new }
+        ensures cause { IsErrOf result PutRefusal.Failed → Rose (⟦<MemSink as Sink>⟧.faults self.old) (⟦<MemSink as Sink>⟧.faults self.new) }
         ensures script { sink_script self.new ≡ after_call (sink_script self.old) }
         ensures failing { IsErrOf result PutRefusal.Failed ↔ IsTrue (fails (sink_script self.new)) }
         ensures nothing { OnErr result (sink_written self.new ≡ sink_written self.old) }

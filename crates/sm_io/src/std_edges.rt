@@ -1,7 +1,8 @@
 // The readers and writers of std as a source and a sink.
-ghost use Rattle.std.specs.Prelude.{◌≡◌, OnOk, OnErr};
+ghost use Rattle.std.specs.Prelude.{◌≡◌, ◌≤◌, OnOk, OnErr, IsErrOf};
 ghost use Rattle.std.specs.Io.KnownBytes.{Appends};
-ghost use Rattle.sm_io.specs.Writing.{AppendsFront};
+ghost use Rattle.sm_io.specs.Causes.{Rose};
+ghost use Rattle.sm_io.specs.Writing.{AppendsFront, Puts};
 
 use crate::{Failed, PutRefusal, Sink, Source};
 use std::io::{Read, Write};
@@ -61,7 +62,12 @@ impl<W: Write> Sink for StdSink<W> {
 
     ghost faults = { λ s. s.faults };
 
-    fn put(&mut self, piece: &[u8]) -> Result<(), PutRefusal> {
+    fn put(&mut self, piece: &[u8]) -> Result<(), PutRefusal>
+        ensures bytes { Puts (⟦<StdSink<W> as Sink>⟧.written self.old) (⟦<StdSink<W> as Sink>⟧.written self.new) piece.now result }
+        ensures later { ⟦<StdSink<W> as Sink>⟧.faults self.old ≤ ⟦<StdSink<W> as Sink>⟧.faults self.new }
+        ensures cause { IsErrOf result PutRefusal.Failed → Rose (⟦<StdSink<W> as Sink>⟧.faults self.old) (⟦<StdSink<W> as Sink>⟧.faults self.new) }
+        ensures takes_no_memory { IsErrOf result PutRefusal.NoMemory → ⊥ }
+    {
         match write_whole(&mut self.writer, piece) {
             Ok(()) => Ok(()),
             Err(Failed) => {

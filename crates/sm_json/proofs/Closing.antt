@@ -13,7 +13,7 @@ use Rattle.sm_json.specs.declared.place.Role.{Role}
 use Rattle.sm_json.specs.declared.place.Role.TheVariants.{Key, Value}
 use Rattle.sm_json.proofs.Starts.{skips_none}
 use Rattle.sm_json.proofs.Opening.{at, value_now, list_opens, object_opens}
-use Rattle.sm_json.proofs.Numbers.{number_exists}
+use Rattle.sm_tree.proofs.Numbers.{number_exists}
 use Rattle.sm_json.proofs.Completions.{live_goes_on}
 
 -- the brackets and braces that close what is open, and their events

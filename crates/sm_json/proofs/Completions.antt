@@ -9,8 +9,9 @@ use Rattle.sm_json.specs.declared.spot.Part.{Part}
 use Rattle.sm_json.specs.declared.spot.Part.TheVariants.{Escape as BehindBackslash, Unit as InUnit, LowBackslash, LowLetter, LowUnit, One, Two, Three}
 use Rattle.sm_json.specs.declared.spot.Spot.{Spot}
 use Rattle.sm_json.specs.declared.spot.Spot.TheVariants.{Plain, Inside}
-use Rattle.sm_json.specs.Strings.{IsHigh, IsLow, joined, LowHalf}
-use Rattle.sm_json.specs.Utf8Bytes.{IsTail, IsSecond, least_second}
+use Rattle.sm_tree.specs.Escapes.{IsHigh, IsLow, joined}
+use Rattle.sm_json.specs.Strings.{LowHalf}
+use Rattle.sm_tree.specs.Utf8.{IsTail, IsSecond, least_second}
 use Rattle.sm_json.specs.TextRest.{DigitsRest, PartRest, TextRest}
 use Rattle.sm_json.specs.TextSteps.{IsUnitBegun, IsLowBegun, IsPartLive, IsLive}
 use Rattle.sm_json.proofs.Utf8Bytes.{low_three, low_four, two_encode, three_encode, four_encode}

@@ -5,7 +5,7 @@ use Rattle.sm_json.specs.declared.spot.Digits.TheVariants.{First, Second, Third,
 use Rattle.sm_json.specs.declared.spot.Part.TheVariants.{Unit as InUnit, LowUnit}
 use Rattle.sm_json.specs.declared.spot.Step.{Step}
 use Rattle.sm_json.specs.declared.spot.Step.TheVariants.{Within}
-use Rattle.sm_json.specs.Strings.{hex_value, IsLow, joined}
+use Rattle.sm_tree.specs.Escapes.{hex_value, IsLow, joined}
 use Rattle.sm_json.specs.TextRest.{PartRest}
 use Rattle.sm_json.specs.TextSteps.{IsLowBegun, UnitEnd, CodeEnd, StepsTo, PartSteps}
 use Rattle.sm_json.proofs.Steps.{steps_along}

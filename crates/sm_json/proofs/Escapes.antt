@@ -5,7 +5,8 @@ use Rattle.sm_json.specs.declared.spot.Digits.{Digits}
 use Rattle.sm_json.specs.declared.spot.Digits.TheVariants.{First, Second, Third, Fourth}
 use Rattle.sm_json.specs.declared.spot.Part.TheVariants.{Escape as BehindBackslash, Unit as InUnit, LowBackslash, LowLetter, LowUnit}
 use Rattle.sm_json.specs.declared.spot.Step.TheVariants.{Within, Whole, Refused}
-use Rattle.sm_json.specs.Strings.{short_escape, HexDigits, CodeUnit, IsHigh, IsLow, joined, Escape}
+use Rattle.sm_tree.specs.Escapes.{short_escape, IsHigh, IsLow, joined}
+use Rattle.sm_json.specs.Strings.{HexDigits, CodeUnit, Escape}
 use Rattle.sm_json.specs.TextRest.{DigitsRest, UnitRest, PartRest}
 use Rattle.sm_json.specs.TextSteps.{IsLowBegun, CodeEnd, StepsTo, PartSteps}
 use Rattle.sm_json.proofs.Units.{SameRest, LastDigit, digits_range_1, digits_range_2, digits_range_3}

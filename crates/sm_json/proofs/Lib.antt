@@ -1,7 +1,3 @@
-pub mod NumberParts
-pub mod NumberRuns
-pub mod NumberSteps
-pub mod Numbers
 pub mod Starts
 pub mod White
 pub mod Opening

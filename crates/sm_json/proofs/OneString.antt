@@ -4,7 +4,8 @@ use Rattle.std.proofs.Common.{◌≡◌, ◌<◌, ◌+◌, ◌*◌, ◌++◌, �
 use Rattle.std.specs.Char.{IsScalar, encode_utf8}
 use Rattle.std.specs.Prelude.{encode_utf8_all}
 use Rattle.std.proofs.lemmas.Str.{encode_same, encode_ascii}
-use Rattle.sm_json.specs.Strings.{IsUnescaped, short_escape, HexDigits, CodeUnit, IsHigh, LowHalf, joined, Escape, Character, Characters, SpellsText}
+use Rattle.sm_tree.specs.Escapes.{short_escape, IsHigh, joined}
+use Rattle.sm_json.specs.Strings.{IsUnescaped, HexDigits, CodeUnit, LowHalf, Escape, Character, Characters, SpellsText}
 use Rattle.sm_json.proofs.Starts.{above, heads, tails}
 use Rattle.sm_json.proofs.Units.{no_surrogate}
 

@@ -6,11 +6,11 @@ use Rattle.sm_tree.specs.Numbers.{NumberText}
 use Rattle.sm_tree.specs.Node.{Node, Nodes, Members, null, bool, int, number, text, bytes, tag, opaque, list, object, no_nodes, node, no_members, member}
 use Rattle.sm_json.specs.Strings.{is_white, Skips, SpellsText}
 use Rattle.sm_json.specs.JsonText.{SpellsNumber, Separator, SpellsValue, Entries, MoreEntries, Pairs, MorePairs}
-use Rattle.sm_json.specs.NumberTail.{IsNumberByte, AreNumberBytes}
+use Rattle.sm_tree.specs.NumberTail.{IsNumberByte, AreNumberBytes}
 use Rattle.sm_json.specs.Laws.{OneReading}
 use Rattle.sm_json.proofs.Starts.{below, above, heads, tails, not_white, StartsNumber, FirstByte, spells_start}
 use Rattle.sm_json.proofs.White.{first_not_white}
-use Rattle.sm_json.proofs.Numbers.{number_bytes, one_node}
+use Rattle.sm_tree.proofs.Numbers.{number_bytes, one_node}
 use Rattle.sm_json.proofs.Leaves.{number_is}
 use Rattle.sm_json.proofs.Opening.{digit_is_not}
 use Rattle.sm_json.proofs.OneString.{one_text}

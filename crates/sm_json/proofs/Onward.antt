@@ -11,7 +11,7 @@ use Rattle.sm_json.specs.Machine.{lists_of, state_of, IsSound, Goes, Halts, Deep
 use Rattle.sm_json.specs.declared.place.Place.{Place}
 use Rattle.sm_json.specs.declared.place.Place.TheVariants.{Value, FirstEntry, FirstKey, NextKey, Colon, After, Word, Number, Text}
 use Rattle.sm_json.specs.declared.read.Reader.{Reader}
-use Rattle.sm_json.proofs.Numbers.{completion, completes}
+use Rattle.sm_tree.proofs.Numbers.{completion, completes}
 use Rattle.sm_json.proofs.Opening.{at}
 use Rattle.sm_json.proofs.Closing.{after_goes_on, value_goes_on, colon_goes_on, next_key_goes_on, first_entry_goes_on, first_key_goes_on, word_goes_on, numeral_goes_on, text_goes_on}
 use Rattle.sm_json.proofs.Readers.{place_at, kept_at, room_in, inside}

@@ -8,13 +8,13 @@ use Rattle.sm_tree.specs.declared.build.OpenKind.TheVariants.{List as a_list, Ob
 use Rattle.sm_tree.specs.declared.refusal.SyntaxRefusal.{SyntaxRefusal}
 use Rattle.sm_tree.specs.declared.refusal.SyntaxRefusal.TheVariants.{Bad, Ended, TooDeep, KeyKind, NoMemory}
 use Rattle.sm_json.specs.Strings.{is_white}
-use Rattle.sm_json.specs.NumberTail.{Leads as NumberLeads, Stops as NumberStops}
+use Rattle.sm_tree.specs.NumberTail.{Leads as NumberLeads, Stops as NumberStops}
 use Rattle.sm_json.specs.Reading.{text_of, IsAtStart}
 use Rattle.sm_json.specs.Rest.{value, first_entry, first_key, next_key, after, in_text, numeral, State, letters, Leads}
 use Rattle.sm_tree.specs.Syntax.{most_levels}
 use Rattle.sm_json.specs.Machine.{where_of, lists_of, state_of, handed_on, PlaceKeeps, IsSound, LeadsTo, Goes, Halts, Deepens, TakesByte, HasClosed, BeginsText, first_letter}
-use Rattle.sm_json.specs.declared.number.Phase.{Phase}
-use Rattle.sm_json.specs.declared.number.Phase.TheVariants.{Start}
+use Rattle.sm_tree.specs.declared.number.Phase.{Phase}
+use Rattle.sm_tree.specs.declared.number.Phase.TheVariants.{Start}
 use Rattle.sm_json.specs.declared.spot.Spot.TheVariants.{Plain}
 use Rattle.sm_json.specs.declared.text.TextReader.{TextReader}
 use Rattle.sm_json.specs.declared.place.Literal.{Literal}
@@ -24,7 +24,7 @@ use Rattle.sm_json.specs.declared.place.Place.TheVariants.{Value, FirstEntry, Fi
 use Rattle.sm_json.specs.declared.place.Role.{Role}
 use Rattle.sm_json.specs.declared.place.Role.TheVariants.{Key, Value as Whole}
 use Rattle.sm_json.specs.declared.read.Reader.{Reader}
-use Rattle.sm_json.proofs.Numbers.{completion, completes}
+use Rattle.sm_tree.proofs.Numbers.{completion, completes}
 use Rattle.sm_json.proofs.Starts.{heads, StartsNumber, number_start}
 use Rattle.sm_json.proofs.Opening.{at, list_opens, object_opens, list_too_deep, object_too_deep}
 use Rattle.sm_json.proofs.Closing.{list_deeper, object_deeper}

@@ -11,7 +11,7 @@ use Rattle.sm_json.specs.declared.spot.Spot.TheVariants.{Plain}
 use Rattle.sm_json.specs.Strings.{IsUnescaped, Character, Characters}
 use Rattle.sm_json.specs.TextRest.{PlainRest, TextRest}
 use Rattle.sm_json.specs.Runs.{AreUnescaped, IsRun, Takes}
-use Rattle.sm_json.specs.Utf8Bytes.{IsTail, IsSecond}
+use Rattle.sm_tree.specs.Utf8.{IsTail, IsSecond}
 use Rattle.sm_json.proofs.Utf8Bytes.{low_three, low_four, two_encode, three_encode, four_encode}
 use Rattle.sm_json.proofs.Utf8Parts.{lead, unescaped_high}
 use lib.Utf8.{scalar, scalars, encode, encodes, low_scalar}

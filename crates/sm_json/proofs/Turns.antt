@@ -10,7 +10,7 @@ use Rattle.sm_tree.specs.BuilderView.{building_of}
 use Rattle.sm_tree.specs.declared.refusal.SyntaxRefusal.{SyntaxRefusal}
 use Rattle.sm_tree.specs.declared.refusal.SyntaxRefusal.TheVariants.{Bad, Ended, TooDeep, KeyKind, NoMemory}
 use Rattle.sm_json.specs.Strings.{is_white}
-use Rattle.sm_json.specs.NumberTail.{Tail, AreNumberBytes, Leads as NumberLeads, Stops as NumberStops}
+use Rattle.sm_tree.specs.NumberTail.{Tail, AreNumberBytes, Leads as NumberLeads, Stops as NumberStops}
 use Rattle.sm_json.specs.TextRest.{TextRest}
 use Rattle.sm_json.specs.Reading.{text_of, ReadsOn, ReadsWhole, ReadsText}
 use Rattle.sm_json.specs.declared.text.TextReader.{TextReader}
@@ -21,15 +21,15 @@ use Rattle.sm_json.specs.declared.place.Role.TheVariants.{Key, Value as Whole}
 use Rattle.sm_json.specs.Rest.{after, colon, letters, literal_node, numeral, Rest, Leads, GoesOn, Stops}
 use Rattle.sm_tree.specs.Syntax.{most_levels}
 use Rattle.sm_json.specs.Machine.{where_of, lists_of, state_of, handed_on, PlaceKeeps, IsSound, LeadsTo, Goes, Halts, Deepens, HaltsAt, DeepensAt, TakesByte, TakesFront, TakesAll, TakesWhite, AllWhite, Grows, HandsNumber, HandsText, behind_text, text_event_of, moved_by, as_syntax, IsWithin}
-use Rattle.sm_json.specs.declared.number.Phase.{Phase}
-use Rattle.sm_json.specs.declared.number.Phase.TheVariants.{Start}
-use Rattle.sm_json.specs.declared.number.Run.{Run}
+use Rattle.sm_tree.specs.declared.number.Phase.{Phase}
+use Rattle.sm_tree.specs.declared.number.Phase.TheVariants.{Start}
+use Rattle.sm_tree.specs.declared.number.Run.{Run}
 use Rattle.sm_json.specs.declared.place.Literal.{Literal}
 use Rattle.sm_json.specs.declared.place.Place.{Place}
 use Rattle.sm_json.specs.declared.place.Place.TheVariants.{Value, FirstEntry, FirstKey, NextKey, Colon, After, Word, Number, Text}
 use Rattle.sm_json.specs.declared.read.Reader.{Reader}
-use Rattle.sm_json.proofs.Numbers.{one_node, number_from_whole, whole_from_number}
-use Rattle.sm_json.proofs.NumberRuns.{front_grows, leads_joined as numbers_joined}
+use Rattle.sm_tree.proofs.Numbers.{one_node, number_from_whole, whole_from_number}
+use Rattle.sm_tree.proofs.NumberRuns.{front_grows, leads_joined as numbers_joined}
 use Rattle.sm_json.proofs.Opening.{at}
 use Rattle.sm_json.proofs.Leaves.{number_is}
 use Rattle.sm_json.proofs.White.{white_leads, whites_lead}

@@ -5,7 +5,8 @@ use Rattle.sm_json.specs.declared.spot.Digits.{Digits}
 use Rattle.sm_json.specs.declared.spot.Digits.TheVariants.{First, Second, Third, Fourth}
 use Rattle.sm_json.specs.declared.spot.Part.TheVariants.{LowBackslash}
 use Rattle.sm_json.specs.declared.spot.Step.TheVariants.{Within, Whole, Refused}
-use Rattle.sm_json.specs.Strings.{hex_value, HexDigits, IsHigh, LowHalf}
+use Rattle.sm_tree.specs.Escapes.{hex_value, IsHigh}
+use Rattle.sm_json.specs.Strings.{HexDigits, LowHalf}
 use Rattle.sm_json.specs.TextRest.{DigitsRest, UnitRest}
 use Rattle.sm_json.specs.TextSteps.{UnitEnd, StepsTo}
 use Rattle.std.proofs.lemmas.Bool.Decides.{nat_tests}

@@ -2,7 +2,7 @@
 use Rattle.std.proofs.Common.{◌≡◌, ℕ, ◌+◌, ◌-◌, ◌*◌, ◌/◌, ◌<◌, ◌≤◌, [], ◌∷◌, ◌∙◌, arith}
 use Rattle.std.proofs.lemmas.Bool.{cond-true, cond-false, lt-ltb, le-ltb}
 use Rattle.std.proofs.lemmas.Bool.Decides.{nat_tests}
-use Rattle.sm_json.specs.Utf8Bytes.{IsTail, IsSecond}
+use Rattle.sm_tree.specs.Utf8.{IsTail, IsSecond}
 use lib.Utf8.{encode, next}
 
 -- the encodings of one, two, three and four bytes

@@ -8,7 +8,7 @@ use Rattle.sm_json.specs.declared.spot.Spot.TheVariants.{Plain}
 use Rattle.sm_json.specs.declared.spot.Step.{Step}
 use Rattle.sm_json.specs.declared.spot.Step.TheVariants.{Within, Whole, Closed, Refused}
 use Rattle.sm_json.specs.Strings.{IsUnescaped, Escape, Character, Characters}
-use Rattle.sm_json.specs.Utf8Bytes.{IsTail, IsSecond}
+use Rattle.sm_tree.specs.Utf8.{IsTail, IsSecond}
 use Rattle.sm_json.specs.TextRest.{PartRest}
 use Rattle.sm_json.specs.TextSteps.{CodeEnd, StepsTo, PartSteps, Steps}
 use Rattle.sm_json.proofs.Steps.{steps_along, CharacterRest, begun}

@@ -1,7 +1,7 @@
 -- The four shapes that the encoding of a character can have, and what they say of its first bytes.
 use Rattle.std.proofs.Common.{◌≡◌, ℕ, true, ◌+◌, ◌/◌, ◌<◌, ◌≤◌, ◌⊎◌, ◌==◌, [], ◌∷◌, inl, inr, arith}
 use Rattle.std.proofs.lemmas.Bool.{cases_lt, cond_both, eqb-true}
-use Rattle.sm_json.specs.Utf8Bytes.{IsTail, IsSecond}
+use Rattle.sm_tree.specs.Utf8.{IsTail, IsSecond}
 use Rattle.sm_json.proofs.Utf8Bytes.{one_byte, two_bytes, three_bytes, four_bytes}
 use lib.Utf8.{scalar, encode, scalar_cases, next}
 

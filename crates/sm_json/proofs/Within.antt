@@ -11,7 +11,7 @@ use Rattle.sm_tree.specs.declared.build.OpenKind.TheVariants.{List as a_list, Ob
 use Rattle.sm_json.specs.Strings.{is_white, Skips}
 use Rattle.sm_json.specs.JsonText.{SpellsValue}
 use Rattle.sm_json.specs.TextRest.{TextRest}
-use Rattle.sm_json.specs.NumberTail.{IsNumberByte, AreNumberBytes}
+use Rattle.sm_tree.specs.NumberTail.{IsNumberByte, AreNumberBytes}
 use Rattle.sm_json.specs.Rest.{Where, value, first_entry, first_key, next_key, colon, after, word, numeral, in_text, State, letters, literal_node, Ends, ValueComes, ColonComes, KeyComes, FirstEntryComes, FirstKeyComes, RestAt, Rest, Leads, Stops}
 use Rattle.sm_json.specs.declared.spot.Spot.{Spot}
 use Rattle.sm_json.specs.declared.place.Literal.{Literal}

@@ -4,7 +4,8 @@ use Rattle.std.proofs.Common.{◌≡◌, ℕ, suc, ◌+◌, ◌/◌, ◌%◌, �
 use Rattle.std.proofs.lemmas.Bool.{eqb-false, and_from, and_right, and_parts, cases_lt, cond-true, cond-false, cond_both, lt-leb}
 use Rattle.std.proofs.lemmas.Str.{encode_ascii, inside_one}
 use lib.Utf8.{scalar, scalars, encode, encodes, low_scalar}
-use Rattle.sm_json.specs.Strings.{short_escape, hex_value, HexDigits, Character, Characters, SpellsText}
+use Rattle.sm_tree.specs.Escapes.{short_escape, hex_value}
+use Rattle.sm_json.specs.Strings.{HexDigits, Character, Characters, SpellsText}
 use Rattle.sm_json.specs.Written.{hex_digit, written_byte, written_bytes, written_text}
 
 pub written_bytes_append : (xs ys : List ℕ) → written_bytes (xs ++ ys) ≡ written_bytes xs ++ written_bytes ys

@@ -4,9 +4,7 @@ pub mod Written
 pub mod TextRest
 pub mod TextSteps
 pub mod Runs
-pub mod Utf8Bytes
 pub mod Reading
-pub mod NumberTail
 pub mod Rest
 pub mod Machine
 pub mod Live

@@ -16,11 +16,11 @@ use Rattle.sm_tree.specs.declared.refusal.SyntaxRefusal.TheVariants.{Bad, Ended,
 use Rattle.sm_json.specs.Strings.{is_white}
 use Rattle.sm_json.specs.declared.text.TextRefusal.{TextRefusal}
 use Rattle.sm_json.specs.declared.text.TextRefusal.TheVariants.{Bad as BadString, NoMemory as NoRoom}
-use Rattle.sm_json.specs.NumberTail.{Leads as NumberLeads, Stops as NumberStops}
-use Rattle.sm_json.specs.declared.number.Run.{Run}
+use Rattle.sm_tree.specs.NumberTail.{Leads as NumberLeads, Stops as NumberStops}
+use Rattle.sm_tree.specs.declared.number.Run.{Run}
 use Rattle.sm_json.specs.Reading.{text_of}
 use Rattle.sm_json.specs.Rest.{Where, value, first_entry, first_key, next_key, colon, after, word, numeral, in_text, State, letters, Rest, Leads, GoesOn, Stops}
-use Rattle.sm_json.specs.declared.number.Phase.TheVariants.{Start}
+use Rattle.sm_tree.specs.declared.number.Phase.TheVariants.{Start}
 use Rattle.sm_json.specs.declared.spot.Spot.{Spot}
 use Rattle.sm_json.specs.declared.place.Place.{Place}
 use Rattle.sm_json.specs.declared.place.Place.TheVariants.{Value, FirstEntry, FirstKey, NextKey, Colon, After, Word, Number, Text}

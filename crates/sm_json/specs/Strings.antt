@@ -3,6 +3,7 @@
 -- only as a pair of escapes, so "\uDEAD" is no string.
 use Rattle.std.specs.Prelude.{◌≡◌, ℕ, zero, suc, ◌+◌, ◌-◌, ◌*◌, ◌≤◌, ◌<◌, ◌⊎◌, ◌≢◌, ◌==◌, Bool, true, cond, ◌||◌, nat_le, ◌&&◌, List, [], ◌∷◌, ◌++◌, Option, Some, None, encode_utf8_all}
 use Rattle.std.specs.Char.{IsScalar, encode_utf8}
+use Rattle.sm_tree.specs.Escapes.{short_escape, hex_value, IsHigh, IsLow, joined}
 
 -- ws = *( %x20 / %x09 / %x0A / %x0D )
 abbrev pub is_white : ℕ → Bool
@@ -17,19 +18,6 @@ Skips (c ∷ s) r = (r ≡ c ∷ s) ⊎ ((is_white c ≡ true) × Skips s r)
 abbrev pub IsUnescaped : ℕ → Type 0
 IsUnescaped c = (0x20 ≤ c) × (c ≢ 0x22) × (c ≢ 0x5C)
 
--- what stands for a character behind a backslash: one of `"` `\` `/` `b` `f` `n` `r` `t`
-abbrev pub short_escape : ℕ → Option ℕ
-short_escape e =
-    cond (e == 34) (Some 34) (cond (e == 92) (Some 92) (cond (e == 47) (Some 47) (cond (e == 98) (Some 8)
-    (cond (e == 102) (Some 12) (cond (e == 110) (Some 10) (cond (e == 114) (Some 13) (cond (e == 116) (Some 9) None)))))))
-
--- HEXDIG, in either case
-abbrev pub hex_value : ℕ → Option ℕ
-hex_value c =
-    cond (nat_le 48 c && nat_le c 57) (Some (c - 48))
-    (cond (nat_le 65 c && nat_le c 70) (Some (c - 55))
-    (cond (nat_le 97 c && nat_le c 102) (Some (c - 87)) None))
-
 -- k hexadecimal digits which, after those that made n, make v
 abbrev pub HexDigits : ℕ → ℕ → ℕ → List ℕ → List ℕ → Type 0
 HexDigits zero n v s r = (v ≡ n) × (s ≡ r)
@@ -39,17 +27,6 @@ HexDigits (suc k) n v (c ∷ s) r = (d : ℕ) × (hex_value c ≡ Some d) × Hex
 -- %x75 4HEXDIG, behind a backslash: the code unit v
 abbrev pub CodeUnit : ℕ → List ℕ → List ℕ → Type 0
 CodeUnit v s r = (s1 : List ℕ) × (s ≡ 0x75 ∷ s1) × HexDigits 4 0 v s1 r
-
--- the two halves of a UTF-16 surrogate pair
-abbrev pub IsHigh : ℕ → Type 0
-IsHigh v = (0xD800 ≤ v) × (v < 0xDC00)
-
-abbrev pub IsLow : ℕ → Type 0
-IsLow v = (0xDC00 ≤ v) × (v < 0xE000)
-
--- the character that a surrogate pair stands for
-abbrev pub joined : ℕ → ℕ → ℕ
-joined high low = 0x10000 + ((high - 0xD800) * 0x400 + (low - 0xDC00))
 
 -- behind a backslash and a high surrogate: the escape of the low one that makes c with it
 abbrev pub LowHalf : ℕ → ℕ → List ℕ → List ℕ → Type 0

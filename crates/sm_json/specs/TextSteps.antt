@@ -9,8 +9,9 @@ use Rattle.sm_json.specs.declared.spot.Spot.{Spot}
 use Rattle.sm_json.specs.declared.spot.Spot.TheVariants.{Plain, Inside}
 use Rattle.sm_json.specs.declared.spot.Step.{Step}
 use Rattle.sm_json.specs.declared.spot.Step.TheVariants.{Within, Whole, Closed, Refused}
-use Rattle.sm_json.specs.Strings.{IsHigh, LowHalf}
-use Rattle.sm_json.specs.Utf8Bytes.{IsTail, IsSecond}
+use Rattle.sm_tree.specs.Escapes.{IsHigh}
+use Rattle.sm_json.specs.Strings.{LowHalf}
+use Rattle.sm_tree.specs.Utf8.{IsTail, IsSecond}
 use Rattle.sm_json.specs.TextRest.{PartRest, TextRest}
 
 -- the digits so far are those of a code unit that may stand first: no low surrogate

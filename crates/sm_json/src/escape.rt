@@ -3,7 +3,7 @@
 ghost use Rattle.std.specs.Prelude.{◌≡◌, ◌<◌, ◌≤◌};
 ghost use Rattle.sm_json.specs.declared.spot.Digits.TheVariants.{Second, Third};
 ghost use Rattle.sm_json.specs.declared.spot.Part.TheVariants.{Escape as BehindBackslash, Unit as InUnit, LowBackslash, LowLetter, LowUnit};
-ghost use Rattle.sm_json.specs.Strings.{short_escape, hex_value, IsHigh, IsLow, joined};
+ghost use Rattle.sm_tree.specs.Escapes.{short_escape, hex_value, IsHigh, IsLow, joined};
 ghost use Rattle.sm_json.specs.TextRest.{PartRest};
 ghost use Rattle.sm_json.specs.TextSteps.{IsUnitBegun, IsLowBegun, CodeEnd, UnitEnd, StepsTo, PartSteps};
 

@@ -8,7 +8,6 @@ mod checker;
 mod escape;
 pub mod laws;
 mod length;
-mod number;
 mod place;
 mod plain;
 #[cfg(test)]

@@ -1,5 +1,5 @@
 // Where a reader stands within a JSON text (RFC 8259), between two bytes. The reader stands on it.
-use crate::number::Phase;
+use sm_tree::number::Phase;
 
 /// One of the three literal names (section 3).
 #[derive(Debug, Clone, Copy, PartialEq, Eq, Drop)]

@@ -11,9 +11,9 @@ ghost use Rattle.sm_json.specs.Machine.{IsWithin, moved_by};
 mod leaves;
 mod tokens;
 
-use crate::number::Phase;
 use crate::place::Place;
 use crate::text::TextReader;
+use sm_tree::number::Phase;
 use sm_tree::{SyntaxRefusal, Tree, TreeBuilder};
 use std::alloc::Global;
 

@@ -4,7 +4,7 @@ ghost use Rattle.std.specs.Prelude.{◌≡◌, ◌+◌, ◌-◌, ◌*◌, ◌^�
 ghost use Rattle.sm_json.specs.declared.spot.Part.TheVariants.{One, Two, Three};
 ghost use Rattle.sm_json.specs.declared.spot.Spot.TheVariants.{Plain};
 ghost use Rattle.sm_json.specs.Strings.{IsUnescaped};
-ghost use Rattle.sm_json.specs.Utf8Bytes.{IsTail, IsSecond};
+ghost use Rattle.sm_tree.specs.Utf8.{IsTail, IsSecond};
 ghost use Rattle.sm_json.specs.TextSteps.{CodeEnd, IsPartLive, StepsTo, PartSteps, Steps};
 ghost use Rattle.sm_json.specs.Runs.{IsRun};
 

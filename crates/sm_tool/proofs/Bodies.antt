@@ -1,152 +1,189 @@
--- What the steps of the command `body` come to, joined: the answers of src/body.rt and src/command.rt cite it.
-use Rattle.std.proofs.Common.{◌≡◌, ℕ, ◌<◌, ◌⊎◌, inl, inr, List, [], ◌∷◌, ◌++◌, Option, Some, None, Result, Ok, Err, IfSome, length, sym, ap, subst, ◌∙◌, ◌+◌, refl, arith}
+-- What the steps of the command `body` come to, joined: the answers of src/body.rt cite it.
+use Rattle.std.proofs.Common.{◌≡◌, ℕ, ◌<◌, ◌≤◌, ◌⊎◌, inl, inr, List, [], ◌∷◌, ◌++◌, Option, Some, None, Result, Ok, Err, IfSome, length, sym, ap, subst, ◌∙◌, ◌+◌, refl, arith, append-nil}
+use Rattle.std.specs.Prelude.{slice_get, IsSomeAnd, replicate}
 use Rattle.std.proofs.lemmas.Option.{slice_get_within}
-use Rattle.std.proofs.lemmas.List.{length-map}
-use Rattle.sm_shapes.specs.Tables.{shape_count}
-use Rattle.sm_tool.proofs.Shaped.{shape_count_is}
+use Rattle.std.proofs.lemmas.List.{length-map, length-replicate}
 use Rattle.std.specs.Global.{Vec}
-use Rattle.std.specs.Io.KnownBytes.{Keeps, Appends}
-use Rattle.std.specs.Prelude.{slice_get}
+use Rattle.std.specs.Io.KnownBytes.{Consumes, IsAtEnd}
 use Rattle.sm_io.specs.Causes.{Rose}
-use Rattle.sm_io.specs.Files.{Folder, Holds, HoldsLonger}
-use Rattle.sm_io.specs.Reading.{Empties}
+use Rattle.sm_io.specs.Files.{Folder, Holds, HoldsLonger, file_at}
+use Rattle.sm_io.specs.Reading.{Empties, LosesFront}
 use Rattle.sm_tree.specs.Node.{Node}
-use Rattle.sm_tree.specs.Syntax.{IsRead}
-use Rattle.sm_tree.specs.SyntaxLaws.{IsRefused}
-use Rattle.sm_tree.proofs.OneAnswer.{refused_no_text}
 use Rattle.sm_tree.specs.declared.path.Step.{Step}
 use Rattle.sm_tree.specs.declared.NoMemory.{NoMemory as OutOfMemory}
 use Rattle.sm_tree.specs.declared.refusal.SyntaxRefusal.{SyntaxRefusal}
-use Rattle.sm_tree.specs.declared.refusal.SyntaxRefusal.TheVariants.{Bad, Ended, TooDeep, KeyKind, NoMemory as out_of_memory}
+use Rattle.sm_tree.specs.declared.refusal.SyntaxRefusal.TheVariants.{Bad, Ended, TooDeep, KeyKind, NoMemory as no_room}
+use Rattle.sm_tree.specs.Syntax.{IsRead}
+use Rattle.sm_tree.specs.SyntaxLaws.{IsRefused}
+use Rattle.sm_tree.proofs.OneAnswer.{refused_no_text}
 use Rattle.sm_json.specs.JsonText.{JsonText}
 use Rattle.sm_json.specs.Answers.{ReadsTree}
+use Rattle.sm_json.specs.Written.{written}
 use Rattle.sm_json.proofs.OneTree.{one_tree}
+use Rattle.sm_shapes.specs.Val.{Val}
+use Rattle.sm_shapes.specs.Tables.{shape_count}
 use Rattle.sm_shapes.specs.declared.table.Table.{Table}
 use Rattle.sm_shapes.specs.declared.fault.FaultKind.{FaultKind}
 use Rattle.sm_tool.specs.Leaves.{json_leaf}
+use Rattle.sm_tool.specs.Spelling.{Spells}
 use Rattle.sm_tool.specs.Faults.{FaultAt, faults}
+use Rattle.sm_tool.specs.Encoded.{encoded, json_written}
 use Rattle.sm_tool.specs.FirstForm.{StructureLine, FirstForm, shape_names}
 use Rattle.sm_tool.specs.ModelAnswers.{IsModel, ReadsModel}
 use Rattle.sm_tool.specs.Lines.{unbuilt_line, no_shape_line, fault_line, syntax_line, file_limit_line, body_limit_line}
-use Rattle.sm_tool.specs.Body.{EndsInJson, IsModelFile, IsUnbuilt, IsShape, Crosses, HasRefusal, HasFault, CrossesOrStops, TreeCrosses, EndsWithLine, EndsWithLimit, ReadsModelFile, HasModel, HasNoModel, Opens, IsNoShape, HasShape, LacksShape, InputCrosses, InputRefused, CrossesInput, BodyComesTo}
+use Rattle.sm_tool.specs.Outside.{FilesSeen, Stream}
+use Rattle.sm_tool.specs.Body.{Answer, done, refused, past, EndsInJson, IsModelFile, IsUnbuilt, IsNoShape, FileAnswers, TextAnswers, InputAnswers, HasShape, file_limit, body_limit}
+use Rattle.sm_tool.specs.Body.FileAnswers.{long_file, unbuilt, no_shape}
+use Rattle.sm_tool.specs.Body.TextAnswers.{no_text, fault, value}
+use Rattle.sm_tool.specs.Body.InputAnswers.{long_input, whole}
+use Rattle.sm_tool.specs.Run.{IsInput, Comes, IsServed, ReadFails, StopsShort}
+use Rattle.sm_tool.specs.Run.Comes.{by_file, by_input}
+use Rattle.sm_tool.specs.Steps.{StopsAt, ComesTo, EndsWithLine, EndsWithLimit, TreeAnswers, ReadsModelFile, HoldsModel, RefusesFile, Opens, InputSays, InputComesTo, BodyComesTo}
 use Rattle.sm_tool.specs.declared.model.structures.FirstModel.{FirstModel}
 use Rattle.sm_tool.specs.declared.body.Stop.{Stop}
 use Rattle.sm_tool.specs.declared.body.Stop.TheVariants.{Refused, Limit, ReadFault, NoMemory}
+use Rattle.sm_tool.proofs.Shaped.{shape_count_is}
 
--- bytes that are read are a text of one tree
-same_tree : (n m : Node) (bs : List ℕ) → IsRead JsonText n bs → IsRead JsonText m bs → n ≡ m
-same_tree n m bs a b = one_tree n m bs a.0 b.0
+-- a step that ends with a line has the answer of that line
+pub line_stops : (Says : Answer → Type 0) (Failed Short : Type 0) (line : List ℕ) (stop : Stop) → Says (refused line) → Short → EndsWithLine line stop → StopsAt Says Failed Short stop
+line_stops Says Failed Short line (Refused printed) says short ends = subst (λ x. Says (refused x)) (sym ends) says
+line_stops Says Failed Short line (Limit printed) says short ends = absurd ends
+line_stops Says Failed Short line ReadFault says short ends = absurd ends
+line_stops Says Failed Short line NoMemory says short ends = short
 
--- a fault of the tree, with its line
-pub fault_stops : (t : Table) (s : ℕ) (n : Node) (path : List Step) (kind : FaultKind) (later : List FaultAt) (stop : Stop) → faults t json_leaf n s ≡ (path, kind) ∷ later
-    → EndsWithLine (fault_line path kind) stop → TreeCrosses t s n (Err stop)
-fault_stops t s n path kind later (Refused line) first ends = (path, kind, later, first, ends)
-fault_stops t s n path kind later (Limit line) first ends = ends
-fault_stops t s n path kind later ReadFault first ends = ends
-fault_stops t s n path kind later NoMemory first ends = tt
+pub limit_stops : (Says : Answer → Type 0) (Failed Short : Type 0) (line : List ℕ) (stop : Stop) → Says (past line) → Short → EndsWithLimit line stop → StopsAt Says Failed Short stop
+limit_stops Says Failed Short line (Refused printed) says short ends = absurd ends
+limit_stops Says Failed Short line (Limit printed) says short ends = subst (λ x. Says (past x)) (sym ends) says
+limit_stops Says Failed Short line ReadFault says short ends = absurd ends
+limit_stops Says Failed Short line NoMemory says short ends = short
 
--- a tree that was read from the bytes
-pub tree_crosses : (t : Table) (s : ℕ) (n : Node) (body : List ℕ) (result : Result (Vec ℕ) Stop) → IsRead JsonText n body → TreeCrosses t s n result → CrossesOrStops t s body result
-tree_crosses t s n body (Ok far) read (v, spells, text) = record { tree = n; value = v; read = read; spells = spells; text = text }
-tree_crosses t s n body (Err (Refused line)) read (path, kind, later, first, printed) =
-    inr (record { tree = n; path = path; kind = kind; later = later; read = read; first = first; line = printed })
-tree_crosses t s n body (Err (Limit line)) read h = h
-tree_crosses t s n body (Err ReadFault) read h = h
-tree_crosses t s n body (Err NoMemory) read h = tt
+-- what holds of a step's answer, failed read and want of memory, holds where more is known
+stops_map : (Says Tells : Answer → Type 0) (F G S T : Type 0) (stop : Stop) → ((a : Answer) → Says a → Tells a) → (F → G) → (S → T) → StopsAt Says F S stop → StopsAt Tells G T stop
+stops_map Says Tells F G S T (Refused line) says failed short h = says (refused line.items) h
+stops_map Says Tells F G S T (Limit line) says failed short h = says (past line.items) h
+stops_map Says Tells F G S T ReadFault says failed short h = failed h
+stops_map Says Tells F G S T NoMemory says failed short h = short h
 
--- a body that is refused as a text
-pub refused_so : (body : List ℕ) (refusal : SyntaxRefusal) → ReadsTree body (Err refusal) → (refusal ≡ out_of_memory → ⊥) → IsRefused JsonText body refusal
+comes_map : (Says Tells : Answer → Type 0) (F G S T : Type 0) (result : Result (Vec ℕ) Stop) → ((a : Answer) → Says a → Tells a) → (F → G) → (S → T) → ComesTo Says F S result → ComesTo Tells G T result
+comes_map Says Tells F G S T (Ok far) says failed short h = says (done far.items) h
+comes_map Says Tells F G S T (Err stop) says failed short h = stops_map Says Tells F G S T stop says failed short h
+
+-- a tree that spells a value, and one that has a fault
+pub value_answers : (t : Table) (s : ℕ) (n : Node) (v : Val) (far : List ℕ) → Spells t json_leaf s v n → far ≡ written (encoded t json_written s v) → TreeAnswers t s n (done far)
+value_answers t s n v far spells is = λ body read. value n v read spells (ap done is)
+
+pub fault_answers : (t : Table) (s : ℕ) (n : Node) (path : List Step) (kind : FaultKind) (later : List FaultAt) → faults t json_leaf n s ≡ (path, kind) ∷ later → TreeAnswers t s n (refused (fault_line path kind))
+fault_answers t s n path kind later first = λ body read. fault n path kind later read first refl
+
+-- a tree that was read from the bytes, and bytes that are no text
+pub tree_comes : (t : Table) (s : ℕ) (n : Node) (body : List ℕ) (result : Result (Vec ℕ) Stop) → IsRead JsonText n body → ComesTo (TreeAnswers t s n) ⊥ (Unit {0}) result → ComesTo (TextAnswers t s body) ⊥ (Unit {0}) result
+tree_comes t s n body result read h = comes_map (TreeAnswers t s n) (TextAnswers t s body) ⊥ ⊥ (Unit {0}) (Unit {0}) result (λ a says. says body read) (λ x. x) (λ x. x) h
+
+pub refused_so : (body : List ℕ) (refusal : SyntaxRefusal) → ReadsTree body (Err refusal) → (refusal ≡ no_room → ⊥) → IsRefused JsonText body refusal
 refused_so body (Bad at) h other = h
 refused_so body Ended h other = h
 refused_so body (TooDeep at) h other = h
 refused_so body (KeyKind at) h other = h
-refused_so body out_of_memory h other = other refl
+refused_so body no_room h other = other refl
 
-pub text_stops : (t : Table) (s : ℕ) (body : List ℕ) (refusal : SyntaxRefusal) (stop : Stop) → IsRefused JsonText body refusal → EndsWithLine (syntax_line refusal) stop → CrossesOrStops t s body (Err stop)
-text_stops t s body refusal (Refused line) refused ends = inl (record { refusal = refusal; refused = refused; line = ends })
-text_stops t s body refusal (Limit line) refused ends = ends
-text_stops t s body refusal ReadFault refused ends = ends
-text_stops t s body refusal NoMemory refused ends = tt
-
--- the input that was read
-pub input_crosses : (left rest : Option (List ℕ)) (before now : ℕ) (t : Table) (s : ℕ) (body : List ℕ) (result : Result (Vec ℕ) Stop) → Empties left rest body → CrossesOrStops t s body result
-    → CrossesInput left rest before now t s result
-input_crosses left rest before now t s body (Ok far) empties h = (body, empties, h)
-input_crosses left rest before now t s body (Err (Refused line)) empties h = (body, empties, h)
-input_crosses left rest before now t s body (Err (Limit line)) empties h = absurd h
-input_crosses left rest before now t s body (Err ReadFault) empties h = absurd h
-input_crosses left rest before now t s body (Err NoMemory) empties h = tt
-
-pub input_past : (left rest : Option (List ℕ)) (before now : ℕ) (t : Table) (s : ℕ) (stop : Stop) → IfSome left (λ body. 1048576 < length body) → EndsWithLimit body_limit_line stop
-    → CrossesInput left rest before now t s (Err stop)
-input_past left rest before now t s (Refused line) long ends = absurd ends
-input_past left rest before now t s (Limit line) long ends = (long, ends)
-input_past left rest before now t s ReadFault long ends = absurd ends
-input_past left rest before now t s NoMemory long ends = tt
+pub text_stops : (t : Table) (s : ℕ) (body : List ℕ) (refusal : SyntaxRefusal) (stop : Stop) → IsRefused JsonText body refusal → EndsWithLine (syntax_line refusal) stop → StopsAt (TextAnswers t s body) ⊥ (Unit {0}) stop
+text_stops t s body refusal stop is ends = line_stops (TextAnswers t s body) ⊥ (Unit {0}) (syntax_line refusal) stop (no_text refusal is refl) tt ends
 
 -- the model that the tree of a file says
 pub model_read : (name file : List ℕ) (n : Node) (result : Result (Option FirstModel) OutOfMemory) → EndsInJson name → IsRead JsonText n file → ReadsModel n result → ReadsModelFile name file result
 model_read name file n (Ok (Some m)) json read h = (json, (n, read, h))
 model_read name file n (Ok None) json read h =
-    λ m is. h m (subst (λ x. FirstForm x m) (same_tree is.tree n file is.read read) is.form)
+    λ m is. h m (subst (λ x. FirstForm x m) (one_tree is.tree n file is.read.0 read.0) is.form)
 model_read name file n (Err e) json read h = tt
 
+-- a file that is no text
 pub no_model_text : (name file : List ℕ) (refusal : SyntaxRefusal) → IsRefused JsonText file refusal → IsUnbuilt name file
-no_model_text name file refusal refused m is = refused_no_text JsonText file refusal refused is.tree is.read
+no_model_text name file refusal is m model = refused_no_text JsonText file refusal is model.tree model.read
 
-pub no_json_name : (name file : List ℕ) → (EndsInJson name → ⊥) → IsUnbuilt name file
-no_json_name name file no_name m is = no_name is.is_json
+-- a list of any length
+long_list : (n : ℕ) → (xs : List ℕ) × (length xs ≡ n)
+long_list n = (replicate n 0, length-replicate n 0)
 
-pub file_opens : (told : Option Folder) (name file : List ℕ) (before now : ℕ) (read : FirstModel) → Holds told name (Some file) → ReadsModelFile name file (Ok (Some read)) → Opens told name before now (Ok read)
-file_opens told name file before now read held (json, (n, is_read, model)) =
-    (model.model, record { file = file; held = held; model = record { is_json = json; tree = n; read = is_read; form = model.form }; tabled = model.tabled; shaped = model.shaped }, model.names)
+-- a file that is longer than the limit, where told or not; and such an input
+pub longer_file : (told : Option Folder) (name : List ℕ) (limit : ℕ) → HoldsLonger told name limit → (file : List ℕ) × Holds told name (Some file) × (limit < length file)
+longer_file None name limit h = let w = long_list (limit + 1) in (w.0, tt, omega (arith, w.1))
+longer_file (Some folder) name limit h = at_file (file_at folder name) h
+  where
+    at_file : (content : Option (List ℕ)) → IsSomeAnd content (λ bytes. limit < length bytes) → (file : List ℕ) × (content ≡ Some file) × (limit < length file)
+    at_file None h = absurd h
+    at_file (Some bytes) h = (bytes, refl, h)
 
-pub file_unbuilt : (told : Option Folder) (name file : List ℕ) (before now : ℕ) (stop : Stop) → Holds told name (Some file) → IsUnbuilt name file → EndsWithLine (unbuilt_line name) stop → Opens told name before now (Err stop)
-file_unbuilt told name file before now (Refused line) held unbuilt ends = record { file = file; held = held; unbuilt = unbuilt; line = ends }
-file_unbuilt told name file before now (Limit line) held unbuilt ends = absurd ends
-file_unbuilt told name file before now ReadFault held unbuilt ends = absurd ends
-file_unbuilt told name file before now NoMemory held unbuilt ends = tt
+longer_input : (left : Option (List ℕ)) (limit : ℕ) → IfSome left (λ bytes. limit < length bytes) → (input : List ℕ) × IfSome left (λ bytes. bytes ≡ input) × (limit < length input)
+longer_input None limit h = let w = long_list (limit + 1) in (w.0, tt, omega (arith, w.1))
+longer_input (Some bytes) limit h = (bytes, refl, h)
 
-pub file_past : (told : Option Folder) (name : List ℕ) (before now : ℕ) (stop : Stop) → HoldsLonger told name 4194304 → EndsWithLimit file_limit_line stop → Opens told name before now (Err stop)
-file_past told name before now (Refused line) long ends = absurd ends
-file_past told name before now (Limit line) long ends = (long, ends)
-file_past told name before now ReadFault long ends = absurd ends
-file_past told name before now NoMemory long ends = tt
+-- the file's model, or its refusal
+pub file_opens : (files files1 : FilesSeen) (name file : List ℕ) (read : FirstModel) → Holds files.held name (Some file) → length file ≤ file_limit → ReadsModelFile name file (Ok (Some read)) → Opens files files1 name (Ok read)
+file_opens files files1 name file read held within (json, (n, is_read, model)) = record {
+  file = file;
+  m = model.model;
+  held = held;
+  within = within;
+  model = record { is_json = json; tree = n; read = is_read; form = model.form };
+  tabled = model.tabled;
+  shaped = model.shaped;
+  names = model.names;
+}
 
--- the whole command
-pub shape_there : (told : Option Folder) (name shape : List ℕ) (m : List StructureLine) (read : FirstModel) (s : ℕ) → HasModel told name m read.table → read.names.items ≡ shape_names m
-    → slice_get read.names.items s ≡ Some shape → HasShape told name shape read.table s
-shape_there told name shape m read s model names found = record { m = m; model = model; named = ap (λ xs. slice_get xs s) (sym names) ∙ found }
+pub file_unbuilt : (files files1 : FilesSeen) (name file : List ℕ) (stop : Stop) → Holds files.held name (Some file) → length file ≤ file_limit → IsUnbuilt name file → EndsWithLine (unbuilt_line name) stop → Opens files files1 name (Err stop)
+file_unbuilt files files1 name file stop held within none ends =
+    line_stops (RefusesFile files name) (Rose files.faults files1.faults) (Unit {0}) (unbuilt_line name) stop (file, held, λ shape. unbuilt within none refl) tt ends
 
-pub body_stops : (told : Option Folder) (reads reads1 : ℕ) (left rest : Option (List ℕ)) (faults0 faults1 : ℕ) (name shape : List ℕ) (stop : Stop)
-    → Opens told name reads reads1 (Err stop) → BodyComesTo told reads reads1 left rest faults0 faults1 name shape (Err stop)
-body_stops told reads reads1 left rest f0 f1 name shape (Refused line) h = inl h
-body_stops told reads reads1 left rest f0 f1 name shape (Limit line) h = inl h
-body_stops told reads reads1 left rest f0 f1 name shape ReadFault h = inl h
-body_stops told reads reads1 left rest f0 f1 name shape NoMemory h = tt
+pub file_past : (files files1 : FilesSeen) (name : List ℕ) (stop : Stop) → HoldsLonger files.held name 4194304 → EndsWithLimit file_limit_line stop → Opens files files1 name (Err stop)
+file_past files files1 name stop long ends = let w = longer_file files.held name 4194304 long in
+    limit_stops (RefusesFile files name) (Rose files.faults files1.faults) (Unit {0}) file_limit_line stop (w.0, w.1, λ shape. long_file w.2 refl) tt ends
 
-pub body_crosses : (told : Option Folder) (reads reads1 : ℕ) (left rest : Option (List ℕ)) (faults0 faults1 : ℕ) (name shape : List ℕ) (t : Table) (s : ℕ) (result : Result (Vec ℕ) Stop)
-    → HasShape told name shape t s → CrossesInput left rest faults0 faults1 t s result → BodyComesTo told reads reads1 left rest faults0 faults1 name shape result
-body_crosses told reads reads1 left rest f0 f1 name shape t s (Ok far) there h = (t, s, there, h)
-body_crosses told reads reads1 left rest f0 f1 name shape t s (Err (Refused line)) there h = inr (inr (t, s, there, h))
-body_crosses told reads reads1 left rest f0 f1 name shape t s (Err (Limit line)) there h = inr (t, s, there, h.0, h.1)
-body_crosses told reads reads1 left rest f0 f1 name shape t s (Err ReadFault) there h = inr h
-body_crosses told reads reads1 left rest f0 f1 name shape t s (Err NoMemory) there h = tt
+-- the whole input was read: a text that answers, and one that is too long
+emptied : (left rest : Option (List ℕ)) (body : List ℕ) → Empties left rest body → IfSome left (λ bytes. bytes ≡ body)
+emptied None rest body h = tt
+emptied (Some xs) None body h = absurd h.0
+emptied (Some xs) (Some ys) body h = h.0 ∙ ap (λ r. body ++ r) h.1 ∙ append-nil body
 
-pub body_lacks : (told : Option Folder) (reads reads1 : ℕ) (left rest : Option (List ℕ)) (faults0 faults1 : ℕ) (name shape : List ℕ) (m : List StructureLine) (read : FirstModel) (stop : Stop)
-    → HasModel told name m read.table → read.names.items ≡ shape_names m → ((s : ℕ) → slice_get read.names.items s ≡ Some shape → ⊥) → EndsWithLine (no_shape_line shape) stop
-    → BodyComesTo told reads reads1 left rest faults0 faults1 name shape (Err stop)
-body_lacks told reads reads1 left rest f0 f1 name shape m read (Refused line) model names none ends =
-    inr (inl (record { m = m; t = read.table; model = model; none = λ s is. none s (ap (λ xs. slice_get xs s) names ∙ is); line = ends }))
-body_lacks told reads reads1 left rest f0 f1 name shape m read (Limit line) model names none ends = absurd ends
-body_lacks told reads reads1 left rest f0 f1 name shape m read ReadFault model names none ends = absurd ends
-body_lacks told reads reads1 left rest f0 f1 name shape m read NoMemory model names none ends = tt
+pub input_comes : (input rest : Stream) (t : Table) (s : ℕ) (body : List ℕ) (result : Result (Vec ℕ) Stop) → Empties input.bytes rest.bytes body → length body ≤ body_limit → ComesTo (TextAnswers t s body) ⊥ (Unit {0}) result
+    → InputComesTo input rest t s result
+input_comes input rest t s body result empties within h =
+    comes_map (TextAnswers t s body) (InputSays input rest t s) ⊥ (Rose input.faults rest.faults) (Unit {0}) (Unit {0}) result
+    (λ a says. (body, record { told = emptied input.bytes rest.bytes body empties; read = λ _. empties.1 }, whole within says)) (λ x. absurd x) (λ x. x) h
+
+pub input_past : (input rest : Stream) (t : Table) (s : ℕ) (stop : Stop) → IfSome input.bytes (λ body. 1048576 < length body) → EndsWithLimit body_limit_line stop → InputComesTo input rest t s (Err stop)
+input_past input rest t s stop long ends = let w = longer_input input.bytes 1048576 long in
+    limit_stops (InputSays input rest t s) (Rose input.faults rest.faults) (Unit {0}) body_limit_line stop
+    (w.0, record { told = w.1; read = λ within. absurd (omega (arith, w.2, within)) }, long_input w.2 refl) tt ends
+
+-- the whole command: a refused file, a missing shape, and the input
+pub body_stops : (files files1 : FilesSeen) (input : Stream) (name shape : List ℕ) (stop : Stop) → Opens files files1 name (Err stop) → BodyComesTo files files1 input input name shape (Err stop)
+body_stops files files1 input name shape stop h =
+    stops_map (RefusesFile files name) (Comes files input input name shape) (Rose files.faults files1.faults) (ReadFails files files1 input input name shape)
+    (Unit {0}) (StopsShort files input input name shape) stop (λ a says. by_file says.0 says.1 (says.2 shape) refl) (λ rose. inl (rose, refl)) (λ short. inl refl) h
+
+pub shape_there : (files : FilesSeen) (name shape : List ℕ) (read : FirstModel) (s : ℕ) → (h : HoldsModel files name read) → slice_get read.names.items s ≡ Some shape → HasShape name h.file shape read.table s
+shape_there files name shape read s h found =
+    record { within = h.within; m = h.m; model = h.model; tabled = h.tabled; named = ap (λ xs. slice_get xs s) (sym h.names) ∙ found }
+
+pub body_crosses : (files files1 : FilesSeen) (input rest : Stream) (name shape : List ℕ) (read : FirstModel) (s : ℕ) (result : Result (Vec ℕ) Stop) → HoldsModel files name read → slice_get read.names.items s ≡ Some shape
+    → InputComesTo input rest read.table s result → BodyComesTo files files1 input rest name shape result
+body_crosses files files1 input rest name shape read s result h found comes =
+    let there = shape_there files name shape read s h found in
+    let served : IsServed files name shape = record { file = h.file; t = read.table; s = s; held = h.held; there = there } in
+    comes_map (InputSays input rest read.table s) (Comes files input rest name shape) (Rose input.faults rest.faults) (ReadFails files files1 input rest name shape)
+    (Unit {0}) (StopsShort files input rest name shape) result
+    (λ a says. by_input says.0 served says.1 says.2) (λ rose. inr (rose, served)) (λ short. inr served) comes
+
+pub body_lacks : (files files1 : FilesSeen) (input : Stream) (name shape : List ℕ) (read : FirstModel) (stop : Stop) → HoldsModel files name read → ((s : ℕ) → slice_get read.names.items s ≡ Some shape → ⊥)
+    → EndsWithLine (no_shape_line shape) stop → BodyComesTo files files1 input input name shape (Err stop)
+body_lacks files files1 input name shape read stop h none ends =
+    line_stops (Comes files input input name shape) (ReadFails files files1 input input name shape) (StopsShort files input input name shape) (no_shape_line shape) stop
+    (by_file h.file h.held (no_shape h.m h.within h.model (λ s is. none s (ap (λ xs. slice_get xs s) h.names ∙ is)) refl) refl) (inl refl) ends
 
 -- a structure that is named is a shape of the table
-pub shape_within : (told : Option Folder) (name shape : List ℕ) (m : List StructureLine) (read : FirstModel) (s : ℕ) → HasModel told name m read.table → read.names.items ≡ shape_names m
-    → slice_get read.names.items s ≡ Some shape → s < shape_count read.table
-shape_within told name shape m read s model names found =
+pub shape_within : (files : FilesSeen) (name shape : List ℕ) (read : FirstModel) (s : ℕ) → HoldsModel files name read → slice_get read.names.items s ≡ Some shape → s < shape_count read.table
+shape_within files name shape read s h found =
     let among : s < length read.names.items = slice_get_within read.names.items s shape found in
-    let count : length read.names.items ≡ length m = ap (λ xs. length xs) names ∙ length-map m (λ l. l.name) in
-    let size : shape_count read.table ≡ length m + 4 = ap shape_count model.tabled ∙ shape_count_is m in
+    let count : length read.names.items ≡ length h.m = ap (λ xs. length xs) h.names ∙ length-map h.m (λ l. l.name) in
+    let size : shape_count read.table ≡ length h.m + 4 = ap shape_count h.tabled ∙ shape_count_is h.m in
     omega (arith, among, count, size)

@@ -19,3 +19,4 @@ pub mod Forms
 pub mod OneModel
 pub mod Bodies
 pub mod Runs
+pub mod OneRun

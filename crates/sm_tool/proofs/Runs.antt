@@ -2,53 +2,53 @@
 use Rattle.std.proofs.Common.{◌≡◌, ℕ, ◌⊎◌, inl, inr, List, Option, Some, None, Result, Ok, Err, sym, ap, subst, ◌∙◌, refl}
 use Rattle.std.specs.Global.{Vec}
 use Rattle.std.specs.Io.KnownBytes.{Keeps, Appends}
-use Rattle.sm_io.specs.Files.{Folder}
+use Rattle.sm_tool.specs.Outside.{FilesSeen, Stream, Outside}
 use Rattle.sm_tool.specs.Words.{IsBody}
-use Rattle.sm_tool.specs.Body.{BodyComesTo}
-use Rattle.sm_tool.specs.Run.{code_of, PutEnds, Prints, RunEnds, RunAnswers}
+use Rattle.sm_tool.specs.Body.{Answer, done, refused, past}
+use Rattle.sm_tool.specs.Run.{code_of, Comes, StopsShort, Prints, RunEnds, RunAnswers}
+use Rattle.sm_tool.specs.Run.Comes.{by_file, by_input}
+use Rattle.sm_tool.specs.Steps.{BodyComesTo, PutEnds, PutsAnswer, PrintsStop, PrintsResult}
 use Rattle.sm_tool.specs.declared.body.Stop.{Stop}
 use Rattle.sm_tool.specs.declared.body.Stop.TheVariants.{Refused as is_refused, Limit as is_past, ReadFault as is_fault, NoMemory as is_short}
 use Rattle.sm_tool.specs.declared.command.Status.{Status}
 use Rattle.sm_tool.specs.declared.command.Status.TheVariants.{Done, Refused, Usage, ReadFault, WriteFault, NoMemory, Limit}
 
+-- an answer leaves the input as it was, or stands behind no other
+comes_short : (files : FilesSeen) (input rest : Stream) (model shape : List ℕ) (a : Answer) → Comes files input rest model shape a → StopsShort files input rest model shape
+comes_short files input rest model shape a (by_file file held answers same) = inl same
+comes_short files input rest model shape a (by_input body served is answers) = inr served
+
+-- an answer that is printed, by what the put came to
+put_ends : (words : List (List ℕ)) (before after : Outside) (model shape : List ℕ) (wanted : Status) (text : List ℕ) (status : Status) → IsBody words model shape
+    → Comes before.files before.input after.input model shape (record { status = wanted; text = text })
+    → (Prints words before after wanted → RunEnds words before after wanted) → PutEnds before.output after.output text wanted status → RunEnds words before after status
+put_ends words before after model shape wanted text status is comes ends (inl (e, put)) =
+    subst (λ x. RunEnds words before after x) (sym e) (ends (model, shape, is, (text, comes, put)))
+put_ends words before after model shape wanted text status is comes ends (inr (inl (e, rose, front))) =
+    subst (λ x. RunEnds words before after x) (sym e) (model, shape, is, (record { status = wanted; text = text }, comes, rose, front))
+put_ends words before after model shape wanted text status is comes ends (inr (inr (e, keeps))) =
+    subst (λ x. RunEnds words before after x) (sym e)
+    ((model, shape, is, comes_short before.files before.input after.input model shape (record { status = wanted; text = text }) comes), keeps)
+
+-- an output that is as it was keeps its bytes
+keeps_all : (before after : Stream) → after ≡ before → Keeps before.bytes after.bytes
+keeps_all before after e = subst (λ x. Keeps before.bytes x.bytes) (sym e) (kept before.bytes)
+  where
+    kept : (bytes : Option (List ℕ)) → Keeps bytes bytes
+    kept None = tt
+    kept (Some xs) = refl
+
 -- at the status that the print answered
-at_status : (words : List (List ℕ)) (told : Option Folder) (r0 r1 : ℕ) (left rest : Option (List ℕ)) (f0 f1 : ℕ) (before now : Option (List ℕ)) (p0 p1 : ℕ) (model shape : List ℕ)
-    (came : Result (Vec ℕ) Stop) (status : Status) → IsBody words model shape → BodyComesTo told r0 r1 left rest f0 f1 model shape came → Prints before now p0 p1 came status
-    → RunEnds words told r0 r1 left rest f0 f1 before now p0 p1 status
-at_status words told r0 r1 left rest f0 f1 before now p0 p1 model shape (Ok far) status is (t, s, there, crosses) (inl (e, put)) =
-    subst (λ x. RunEnds words told r0 r1 left rest f0 f1 before now p0 p1 x) (sym e) (model, shape, is, (t, s, far.items, there, crosses, put))
-at_status words told r0 r1 left rest f0 f1 before now p0 p1 model shape (Ok far) status is h (inr (inl (e, rose, front))) =
-    subst (λ x. RunEnds words told r0 r1 left rest f0 f1 before now p0 p1 x) (sym e) rose
-at_status words told r0 r1 left rest f0 f1 before now p0 p1 model shape (Ok far) status is h (inr (inr (e, keeps))) =
-    subst (λ x. RunEnds words told r0 r1 left rest f0 f1 before now p0 p1 x) (sym e) tt
-at_status words told r0 r1 left rest f0 f1 before now p0 p1 model shape (Err (is_refused line)) status is h (inl (e, put)) =
-    subst (λ x. RunEnds words told r0 r1 left rest f0 f1 before now p0 p1 x) (sym e) (model, shape, is, (line.items, h, put))
-at_status words told r0 r1 left rest f0 f1 before now p0 p1 model shape (Err (is_refused line)) status is h (inr (inl (e, rose, front))) =
-    subst (λ x. RunEnds words told r0 r1 left rest f0 f1 before now p0 p1 x) (sym e) rose
-at_status words told r0 r1 left rest f0 f1 before now p0 p1 model shape (Err (is_refused line)) status is h (inr (inr (e, keeps))) =
-    subst (λ x. RunEnds words told r0 r1 left rest f0 f1 before now p0 p1 x) (sym e) tt
-at_status words told r0 r1 left rest f0 f1 before now p0 p1 model shape (Err (is_past line)) status is h (inl (e, put)) =
-    subst (λ x. RunEnds words told r0 r1 left rest f0 f1 before now p0 p1 x) (sym e) (model, shape, is, (line.items, h, put))
-at_status words told r0 r1 left rest f0 f1 before now p0 p1 model shape (Err (is_past line)) status is h (inr (inl (e, rose, front))) =
-    subst (λ x. RunEnds words told r0 r1 left rest f0 f1 before now p0 p1 x) (sym e) rose
-at_status words told r0 r1 left rest f0 f1 before now p0 p1 model shape (Err (is_past line)) status is h (inr (inr (e, keeps))) =
-    subst (λ x. RunEnds words told r0 r1 left rest f0 f1 before now p0 p1 x) (sym e) tt
-at_status words told r0 r1 left rest f0 f1 before now p0 p1 model shape (Err is_fault) status is h (e, keeps) =
-    subst (λ x. RunEnds words told r0 r1 left rest f0 f1 before now p0 p1 x) (sym e) (h, keeps)
-at_status words told r0 r1 left rest f0 f1 before now p0 p1 model shape (Err is_short) status is h (e, keeps) =
-    subst (λ x. RunEnds words told r0 r1 left rest f0 f1 before now p0 p1 x) (sym e) tt
+at_status : (words : List (List ℕ)) (before after : Outside) (model shape : List ℕ) (came : Result (Vec ℕ) Stop) (status : Status) → IsBody words model shape
+    → BodyComesTo before.files after.files before.input after.input model shape came → PrintsResult before.output after.output came status → RunEnds words before after status
+at_status words before after model shape (Ok far) status is comes prints = put_ends words before after model shape Done far.items status is comes (λ x. x) prints
+at_status words before after model shape (Err (is_refused line)) status is comes prints = put_ends words before after model shape Refused line.items status is comes (λ x. x) prints
+at_status words before after model shape (Err (is_past line)) status is comes prints = put_ends words before after model shape Limit line.items status is comes (λ x. x) prints
+at_status words before after model shape (Err is_fault) status is comes (e, same) = subst (λ x. RunEnds words before after x) (sym e) ((model, shape, is, comes), same)
+at_status words before after model shape (Err is_short) status is comes (e, same) =
+    subst (λ x. RunEnds words before after x) (sym e) ((model, shape, is, comes), keeps_all before.output after.output same)
 
-pub body_runs : (words : List (List ℕ)) (told : Option Folder) (r0 r1 : ℕ) (left rest : Option (List ℕ)) (f0 f1 : ℕ) (before now : Option (List ℕ)) (p0 p1 : ℕ) (model shape : List ℕ)
-    (came : Result (Vec ℕ) Stop) (status : Status) (code : ℕ) → IsBody words model shape → BodyComesTo told r0 r1 left rest f0 f1 model shape came → Prints before now p0 p1 came status
-    → code ≡ code_of status → RunAnswers words told r0 r1 left rest f0 f1 before now p0 p1 code
-body_runs words told r0 r1 left rest f0 f1 before now p0 p1 model shape came status code is comes prints number =
-    (status, number, at_status words told r0 r1 left rest f0 f1 before now p0 p1 model shape came status is comes prints)
-
--- nothing was put
-keeps_all : (told : Option (List ℕ)) → Keeps told told
-keeps_all None = tt
-keeps_all (Some bytes) = refl
-
-pub no_form_runs : (words : List (List ℕ)) (told : Option Folder) (r0 r1 : ℕ) (left rest : Option (List ℕ)) (f0 f1 : ℕ) (before : Option (List ℕ)) (p0 p1 : ℕ) (code : ℕ)
-    → ((model shape : List ℕ) → IsBody words model shape → ⊥) → code ≡ 2 → RunAnswers words told r0 r1 left rest f0 f1 before before p0 p1 code
-no_form_runs words told r0 r1 left rest f0 f1 before p0 p1 code none number = (Usage, number, (none, keeps_all before))
+pub body_runs : (words : List (List ℕ)) (before after : Outside) (model shape : List ℕ) (came : Result (Vec ℕ) Stop) (status : Status) (code : ℕ) → IsBody words model shape
+    → BodyComesTo before.files after.files before.input after.input model shape came → PrintsResult before.output after.output came status → code ≡ code_of status
+    → RunAnswers words before after code
+body_runs words before after model shape came status code is comes prints number = (status, number, at_status words before after model shape came status is comes prints)

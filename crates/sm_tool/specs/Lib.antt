@@ -13,5 +13,8 @@ pub mod ModelAnswers
 pub mod Rows
 pub mod Words
 pub mod Lines
+pub mod Outside
 pub mod Body
 pub mod Run
+pub mod RunLaws
+pub mod Steps

@@ -1,16 +1,14 @@
--- What the program does for its words: what is printed, and the status that it ends with.
-use Rattle.std.specs.Prelude.{◌≡◌, ℕ, ◌<◌, ◌⊎◌, List, Option, Result, Ok, Err, IfSome, length}
-use Rattle.std.specs.Global.{Vec}
-use Rattle.std.specs.Io.KnownBytes.{Keeps, Appends}
+-- What the program does for its words, files and input: what it prints, the status that it ends with, and what
+-- it leaves as it was. Clauses on bytes hold where the outside tells them.
+use Rattle.std.specs.Prelude.{◌≡◌, ℕ, ◌≤◌, ◌⊎◌, List, Option, Some, IfSome, length}
+use Rattle.std.specs.Io.KnownBytes.{Keeps, Appends, IsAtEnd}
 use Rattle.sm_io.specs.Causes.{Rose}
-use Rattle.sm_io.specs.Files.{Folder, HoldsLonger}
+use Rattle.sm_io.specs.Files.{Folder, Holds}
 use Rattle.sm_io.specs.Writing.{AppendsFront}
 use Rattle.sm_shapes.specs.declared.table.Table.{Table}
-use Rattle.sm_tool.specs.Lines.{file_limit_line, body_limit_line}
+use Rattle.sm_tool.specs.Outside.{Stream, FilesSeen, Outside}
 use Rattle.sm_tool.specs.Words.{IsBody}
-use Rattle.sm_tool.specs.Body.{HasNoModel, LacksShape, HasShape, InputCrosses, InputRefused}
-use Rattle.sm_tool.specs.declared.body.Stop.{Stop}
-use Rattle.sm_tool.specs.declared.body.Stop.TheVariants.{Refused as is_refused, Limit as is_past, ReadFault as is_fault, NoMemory as is_short}
+use Rattle.sm_tool.specs.Body.{Answer, FileAnswers, HasShape, InputAnswers, body_limit}
 use Rattle.sm_tool.specs.declared.command.Status.{Status}
 use Rattle.sm_tool.specs.declared.command.Status.TheVariants.{Done, Refused, Usage, ReadFault, WriteFault, NoMemory, Limit}
 
@@ -24,56 +22,61 @@ code_of WriteFault = 4
 code_of NoMemory = 5
 code_of Limit = 7
 
--- the piece was put, and the status is this one; or the output failed, or memory was short
-abbrev pub PutEnds : Option (List ℕ) → Option (List ℕ) → ℕ → ℕ → List ℕ → Status → Status → Type 0
-PutEnds before now faults0 faults1 piece wanted status =
-    ((status ≡ wanted) × Appends before now piece)
-    ⊎ (((status ≡ WriteFault) × Rose faults0 faults1 × AppendsFront before now piece) ⊎ ((status ≡ NoMemory) × Keeps before now))
+-- these are the bytes that the input had left; within the limit they were read to their end
+pub record IsInput (left rest : Option (List ℕ)) (input : List ℕ) : Type 0 where
+  pub told : IfSome left (λ bytes. bytes ≡ input)
+  pub read : length input ≤ body_limit → IsAtEnd rest
 
--- what a command came to is printed
-abbrev pub Prints : Option (List ℕ) → Option (List ℕ) → ℕ → ℕ → Result (Vec ℕ) Stop → Status → Type 0
-Prints before now faults0 faults1 (Ok text) status = PutEnds before now faults0 faults1 text.items Done status
-Prints before now faults0 faults1 (Err (is_refused line)) status = PutEnds before now faults0 faults1 line.items Refused status
-Prints before now faults0 faults1 (Err (is_past line)) status = PutEnds before now faults0 faults1 line.items Limit status
-Prints before now faults0 faults1 (Err is_fault) status = (status ≡ ReadFault) × Keeps before now
-Prints before now faults0 faults1 (Err is_short) status = (status ≡ NoMemory) × Keeps before now
+-- no answer stands before the input: the file of this name holds a model, and the shape is there
+pub record IsServed (files : FilesSeen) (model shape : List ℕ) : Type 0 where
+  pub file : List ℕ
+  pub t : Table
+  pub s : ℕ
+  pub held : Holds files.held model (Some file)
+  pub there : HasShape model file shape t s
 
--- why a body is refused, with its line, in this order: the file holds no model; the model has no such
--- shape; the input is no text, or has a fault
-abbrev pub IsRefusal : Option Folder → Option (List ℕ) → Option (List ℕ) → List ℕ → List ℕ → List ℕ → Type 0
-IsRefusal told left rest model shape line =
-    HasNoModel told model line
-    ⊎ (LacksShape told model shape line
-    ⊎ ((t : Table) × (s : ℕ) × HasShape told model shape t s × InputRefused left rest t s line))
+-- The file of this name and the input come to this answer. The input is as it was where the answer stands
+-- before it.
+pub data Comes (files : FilesSeen) (input rest : Stream) (model shape : List ℕ) (a : Answer) : Type 0 where
+  by_file : (file : List ℕ) → Holds files.held model (Some file) → FileAnswers model file shape a → rest ≡ input
+      → Comes files input rest model shape a
+  by_input : (body : List ℕ) → (served : IsServed files model shape) → IsInput input.bytes rest.bytes body
+      → InputAnswers served.t served.s body a → Comes files input rest model shape a
 
--- which limit is passed, with its line: the model file's, or the input's
-abbrev pub IsPast : Option Folder → Option (List ℕ) → List ℕ → List ℕ → List ℕ → Type 0
-IsPast told left model shape line =
-    (HoldsLonger told model 4194304 × (line ≡ file_limit_line))
-    ⊎ ((t : Table) × (s : ℕ) × HasShape told model shape t s × IfSome left (λ body. 1048576 < length body) × (line ≡ body_limit_line))
+-- a read of the file failed, and the input is as it was; or one of the input failed, and no answer stands before it
+abbrev pub ReadFails : FilesSeen → FilesSeen → Stream → Stream → List ℕ → List ℕ → Type 0
+ReadFails files files1 input rest model shape =
+    (Rose files.faults files1.faults × (rest ≡ input)) ⊎ (Rose input.faults rest.faults × IsServed files model shape)
+
+-- the input is as it was, unless no answer stands before it
+abbrev pub StopsShort : FilesSeen → Stream → Stream → List ℕ → List ℕ → Type 0
+StopsShort files input rest model shape = (rest ≡ input) ⊎ IsServed files model shape
 
 -- the words `body MODELFILE SHAPE json json`, and what is said of them
 abbrev pub ForBody : List (List ℕ) → (List ℕ → List ℕ → Type 0) → Type 0
 ForBody words P = (model shape : List ℕ) × IsBody words model shape × P model shape
 
--- Done: the shape is there, the whole input spells a value of it, and its one text is what was printed.
--- Refused, Limit: the line of the reason is what was printed. Usage: the words have no form. ReadFault and
+-- the answer has this status, and its text was put
+abbrev pub Prints : List (List ℕ) → Outside → Outside → Status → Type 0
+Prints words before after status = ForBody words (λ model shape.
+    (text : List ℕ) × Comes before.files before.input after.input model shape (record { status = status; text = text })
+    × Appends before.output.bytes after.output.bytes text)
+
+-- How the program ends. After an answer its text was put; after a failed write a front of it. ReadFault and
 -- WriteFault come only where a count of faults rose. NoMemory is free.
-abbrev pub RunEnds : List (List ℕ) → Option Folder → ℕ → ℕ → Option (List ℕ) → Option (List ℕ) → ℕ → ℕ → Option (List ℕ) → Option (List ℕ) → ℕ → ℕ → Status → Type 0
-RunEnds words told reads0 reads1 left rest faults0 faults1 before now puts0 puts1 Done =
-    ForBody words (λ model shape. (t : Table) × (s : ℕ) × (far : List ℕ) × HasShape told model shape t s × InputCrosses left rest t s far × Appends before now far)
-RunEnds words told reads0 reads1 left rest faults0 faults1 before now puts0 puts1 Refused =
-    ForBody words (λ model shape. (line : List ℕ) × IsRefusal told left rest model shape line × Appends before now line)
-RunEnds words told reads0 reads1 left rest faults0 faults1 before now puts0 puts1 Usage =
-    ((model shape : List ℕ) → IsBody words model shape → ⊥) × Keeps before now
-RunEnds words told reads0 reads1 left rest faults0 faults1 before now puts0 puts1 ReadFault =
-    (Rose reads0 reads1 ⊎ Rose faults0 faults1) × Keeps before now
-RunEnds words told reads0 reads1 left rest faults0 faults1 before now puts0 puts1 WriteFault = Rose puts0 puts1
-RunEnds words told reads0 reads1 left rest faults0 faults1 before now puts0 puts1 NoMemory = Unit {0}
-RunEnds words told reads0 reads1 left rest faults0 faults1 before now puts0 puts1 Limit =
-    ForBody words (λ model shape. (line : List ℕ) × IsPast told left model shape line × Appends before now line)
+abbrev pub RunEnds : List (List ℕ) → Outside → Outside → Status → Type 0
+RunEnds words before after Done = Prints words before after Done
+RunEnds words before after Refused = Prints words before after Refused
+RunEnds words before after Limit = Prints words before after Limit
+RunEnds words before after Usage = ((model shape : List ℕ) → IsBody words model shape → ⊥) × (after ≡ before)
+RunEnds words before after ReadFault =
+    ForBody words (λ model shape. ReadFails before.files after.files before.input after.input model shape) × (after.output ≡ before.output)
+RunEnds words before after WriteFault = ForBody words (λ model shape.
+    (a : Answer) × Comes before.files before.input after.input model shape a
+    × Rose before.output.faults after.output.faults × AppendsFront before.output.bytes after.output.bytes a.text)
+RunEnds words before after NoMemory =
+    ForBody words (λ model shape. StopsShort before.files before.input after.input model shape) × Keeps before.output.bytes after.output.bytes
 
 -- the number is that of a status by which the program ends so
-abbrev pub RunAnswers : List (List ℕ) → Option Folder → ℕ → ℕ → Option (List ℕ) → Option (List ℕ) → ℕ → ℕ → Option (List ℕ) → Option (List ℕ) → ℕ → ℕ → ℕ → Type 0
-RunAnswers words told reads0 reads1 left rest faults0 faults1 before now puts0 puts1 code =
-    (status : Status) × (code ≡ code_of status) × RunEnds words told reads0 reads1 left rest faults0 faults1 before now puts0 puts1 status
+abbrev pub RunAnswers : List (List ℕ) → Outside → Outside → ℕ → Type 0
+RunAnswers words before after code = (status : Status) × (code ≡ code_of status) × RunEnds words before after status

@@ -1,5 +1,6 @@
 // The command `body`: a body of one shape, read and written again in its canonical form. `run` stands on it.
 ghost use Rattle.std.specs.Prelude.{◌≡◌, ◌<◌, ◌≤◌, ◌↔◌, List, ℕ, IsTrue, IfOk};
+ghost use Rattle.sm_io.specs.Reading.{LosesFront};
 ghost use Rattle.sm_tree.specs.View.{node_of};
 ghost use Rattle.sm_tree.specs.Json.{IsJson};
 ghost use Rattle.sm_json.specs.Written.{written};
@@ -8,7 +9,9 @@ ghost use Rattle.sm_shapes.specs.Fits.{Fits};
 ghost use Rattle.sm_shapes.specs.View.{val_of};
 ghost use Rattle.sm_tool.specs.Encoded.{encoded, json_written};
 ghost use Rattle.sm_tool.specs.Lines.{syntax_line as the_syntax_line};
-ghost use Rattle.sm_tool.specs.Body.{CrossesOrStops, TreeCrosses, EndsWithLine, EndsWithLimit, EndsInJson, ReadsModelFile, Opens, CrossesInput, BodyComesTo};
+ghost use Rattle.sm_tool.specs.Outside.{files_seen, stream};
+ghost use Rattle.sm_tool.specs.Body.{EndsInJson, TextAnswers};
+ghost use Rattle.sm_tool.specs.Steps.{ComesTo, TreeAnswers, EndsWithLine, EndsWithLimit, ReadsModelFile, Opens, InputComesTo, BodyComesTo};
 
 use crate::codec::{Refusal, decode, encode};
 use crate::lines::{fault_line, line, syntax_line};
@@ -99,7 +102,7 @@ fn far_text(alloc: Global, table: &Table, shape: u32, value: &Value) -> Result<V
 fn cross_tree(alloc: Global, table: &Table, shape: u32, tree: &Tree) -> Result<Vec<u8>, Stop>
     requires shaped { Shaped table.now }
     requires shape { shape < shape_count table.now }
-    ensures { TreeCrosses table.now shape (node_of tree.now) result }
+    ensures { ComesTo (TreeAnswers table.now shape (node_of tree.now)) ⊥ (Unit {0}) result }
 {
     match decode(alloc, table, shape, tree) {
         Ok(value) => match far_text(alloc, table, shape, &value) {
@@ -124,7 +127,7 @@ fn no_text(alloc: Global, refusal: SyntaxRefusal) -> Stop
 pub fn cross(alloc: Global, table: &Table, shape: u32, body: &[u8]) -> Result<Vec<u8>, Stop>
     requires shaped { Shaped table.now }
     requires shape { shape < shape_count table.now }
-    ensures { CrossesOrStops table.now shape body.now result }
+    ensures { ComesTo (TextAnswers table.now shape body.now) ⊥ (Unit {0}) result }
 {
     match read_tree(alloc, body) {
         Ok(tree) => cross_tree(alloc, table, shape, &tree),
@@ -161,8 +164,10 @@ fn model_in(alloc: Global, name: &str, file: &[u8]) -> Result<Option<FirstModel>
 // The model of a file.
 fn open_model<F: Files>(alloc: Global, files: &mut F, name: &str) -> Result<FirstModel, Stop>
     requires { F.lets_read files.old name.now }
-    ensures opens { Opens (F.held files.old) name.now (F.read_faults files.old) (F.read_faults files.new) result }
-    ensures later { F.read_faults files.old ≤ F.read_faults files.new }
+    ensures opens { Opens (files_seen (F.held files.old) (F.read_faults files.old)) (files_seen (F.held files.new) (F.read_faults files.new)) name.now result }
+    ensures held { F.held files.new ≡ F.held files.old }
+    ensures reads { F.read_faults files.old ≤ F.read_faults files.new }
+    ensures writes { F.write_faults files.new ≡ F.write_faults files.old }
 {
     match files.read(name, FILE_LIMIT) {
         Ok(file) => match model_in(alloc, name, &file) {
@@ -185,8 +190,9 @@ fn cross_input<S: Source>(
 ) -> Result<Vec<u8>, Stop>
     requires shaped { Shaped table.now }
     requires shape { shape < shape_count table.now }
-    ensures crosses { CrossesInput (S.left input.old) (S.left input.new) (S.faults input.old) (S.faults input.new) table.now shape result }
-    ensures later { S.faults input.old ≤ S.faults input.new }
+    ensures comes { InputComesTo (stream (S.left input.old) (S.faults input.old)) (stream (S.left input.new) (S.faults input.new)) table.now shape result }
+    ensures front { LosesFront (S.left input.old) (S.left input.new) }
+    ensures takes { S.faults input.old ≤ S.faults input.new }
 {
     match read_all(alloc, input, BODY_LIMIT) {
         Ok(body) => cross(alloc, table, shape, &body),
@@ -210,7 +216,14 @@ pub fn body<F: Files, S: Source>(
     input: &mut S,
 ) -> Result<Vec<u8>, Stop>
     requires { F.lets_read files.old words.model.now }
-    ensures { BodyComesTo (F.held files.old) (F.read_faults files.old) (F.read_faults files.new) (S.left input.old) (S.left input.new) (S.faults input.old) (S.faults input.new) words.entry.model.now words.entry.shape.now result }
+    ensures comes { BodyComesTo (files_seen (F.held files.old) (F.read_faults files.old)) (files_seen (F.held files.new) (F.read_faults files.new))
+        (stream (S.left input.old) (S.faults input.old)) (stream (S.left input.new) (S.faults input.new))
+        words.entry.model.now words.entry.shape.now result }
+    ensures held { F.held files.new ≡ F.held files.old }
+    ensures reads { F.read_faults files.old ≤ F.read_faults files.new }
+    ensures writes { F.write_faults files.new ≡ F.write_faults files.old }
+    ensures front { LosesFront (S.left input.old) (S.left input.new) }
+    ensures takes { S.faults input.old ≤ S.faults input.new }
 {
     let model = match open_model(alloc, files, words.model) {
         Ok(model) => model,

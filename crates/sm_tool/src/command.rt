@@ -1,7 +1,10 @@
 // The commands: what the program does for its words, over any files, input and output. Main stands on it.
 ghost use Rattle.std.specs.Prelude.{◌≡◌, ◌≤◌};
+ghost use Rattle.sm_io.specs.Reading.{LosesFront};
+ghost use Rattle.sm_tool.specs.Outside.{files_seen, stream, outside};
 ghost use Rattle.sm_tool.specs.Words.{LetsModel};
-ghost use Rattle.sm_tool.specs.Run.{code_of, PutEnds, Prints, RunAnswers};
+ghost use Rattle.sm_tool.specs.Run.{code_of, RunAnswers};
+ghost use Rattle.sm_tool.specs.Steps.{PutEnds, PrintsResult};
 
 use crate::body::{Stop, body};
 use crate::words::form_of;
@@ -48,7 +51,8 @@ impl Status {
 
 // Puts a piece, and ends with this status where that succeeds.
 fn put<K: Sink>(out: &mut K, piece: &[u8], status: Status) -> Status
-    ensures { PutEnds (K.written out.old) (K.written out.new) (K.faults out.old) (K.faults out.new) piece.now status result }
+    ensures ends { PutEnds (stream (K.written out.old) (K.faults out.old)) (stream (K.written out.new) (K.faults out.new)) piece.now status result }
+    ensures puts { K.faults out.old ≤ K.faults out.new }
 {
     match out.put(piece) {
         Ok(()) => status,
@@ -59,7 +63,8 @@ fn put<K: Sink>(out: &mut K, piece: &[u8], status: Status) -> Status
 
 // Prints what a command came to.
 fn print<K: Sink>(out: &mut K, came: Result<Vec<u8>, Stop>) -> Status
-    ensures { Prints (K.written out.old) (K.written out.new) (K.faults out.old) (K.faults out.new) came result }
+    ensures prints { PrintsResult (stream (K.written out.old) (K.faults out.old)) (stream (K.written out.new) (K.faults out.new)) came result }
+    ensures puts { K.faults out.old ≤ K.faults out.new }
 {
     match came {
         Ok(text) => put(out, &text, Status::Done),
@@ -73,8 +78,10 @@ fn print<K: Sink>(out: &mut K, came: Result<Vec<u8>, Stop>) -> Status
 }
 
 /// Does what the words ask for, and answers the status of the process. `body MODELFILE SHAPE json json`
-/// prints the canonical body of the value that the input spells, or a line that says what is refused. No
-/// model that is read today has patterns, so the store stays as it is.
+/// prints the canonical body of the value that the input spells, or the line of the first thing that is
+/// refused: the file's length, the model, the shape, the input's length, its syntax, its faults. Other words
+/// have status 2, and then nothing is touched. Nothing is put before the whole answer is there. No model
+/// that is read today has patterns, so the store stays as it is.
 pub fn run<F: Files, S: Source, K: Sink, P: Patterns>(
     alloc: Global,
     words: &[Text],
@@ -84,8 +91,16 @@ pub fn run<F: Files, S: Source, K: Sink, P: Patterns>(
     patterns: &mut P,
 ) -> u8
     requires { LetsModel (F.lets_read files.old) words.now }
-    ensures answers { RunAnswers words.now (F.held files.old) (F.read_faults files.old) (F.read_faults files.new) (S.left input.old) (S.left input.new) (S.faults input.old) (S.faults input.new) (K.written out.old) (K.written out.new) (K.faults out.old) (K.faults out.new) result }
-    ensures patterns { P.added patterns.new ≡ P.added patterns.old }
+    ensures answers { let before = outside (files_seen (F.held files.old) (F.read_faults files.old)) (stream (S.left input.old) (S.faults input.old)) (stream (K.written out.old) (K.faults out.old)) in
+        let after = outside (files_seen (F.held files.new) (F.read_faults files.new)) (stream (S.left input.new) (S.faults input.new)) (stream (K.written out.new) (K.faults out.new)) in
+        RunAnswers words.now before after result }
+    ensures held { F.held files.new ≡ F.held files.old }
+    ensures writes { F.write_faults files.new ≡ F.write_faults files.old }
+    ensures reads { F.read_faults files.old ≤ F.read_faults files.new }
+    ensures front { LosesFront (S.left input.old) (S.left input.new) }
+    ensures takes { S.faults input.old ≤ S.faults input.new }
+    ensures puts { K.faults out.old ≤ K.faults out.new }
+    ensures patterns { patterns.new ≡ patterns.old }
 {
     match form_of(words) {
         Some(words) => {

@@ -4,6 +4,7 @@
 mod body;
 mod codec;
 mod command;
+mod laws;
 mod lines;
 mod model;
 #[cfg(test)]

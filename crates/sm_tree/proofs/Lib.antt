@@ -1,6 +1,10 @@
 pub mod Views
 pub mod Events
 pub mod Building
+pub mod NumberParts
+pub mod NumberRuns
+pub mod NumberSteps
+pub mod Numbers
 mod Tokens
 mod Sameness
 pub mod OneAnswer

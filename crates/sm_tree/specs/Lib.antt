@@ -4,6 +4,8 @@ pub mod Syntax
 pub mod SyntaxLaws
 pub mod Weight
 pub mod Numbers
+pub mod NumberTail
+pub mod Escapes
 pub mod Json
 pub mod Events
 pub mod View

@@ -5,6 +5,7 @@
 mod build;
 pub mod laws;
 pub mod laws_of_events;
+pub mod number;
 mod path;
 mod refusal;
 mod text;

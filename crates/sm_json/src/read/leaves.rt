@@ -1,14 +1,14 @@
 // The steps of the reader within a literal name, a number and a string, and where these end.
 ghost use Rattle.std.specs.Prelude.{◌≡◌, ◌<◌, length, IfOk, OnOk, []};
 ghost use Rattle.sm_tree.specs.View.{node_of};
-ghost use Rattle.sm_json.specs.NumberTail.{Stops as NumberStops, Tail};
+ghost use Rattle.sm_tree.specs.NumberTail.{Stops as NumberStops, Tail};
 ghost use Rattle.sm_json.specs.Rest.{letters, literal_node};
 ghost use Rattle.sm_json.specs.Machine.{as_syntax};
 
 use super::{Reader, moved};
-use crate::number::{Phase, Run, number_run, number_tree};
 use crate::place::{Literal, Place, Role};
 use crate::text::{Reading, TextRefusal};
+use sm_tree::number::{Phase, Run, number_run, number_tree};
 use sm_tree::{NoMemory, SyntaxRefusal, Tree};
 
 impl Literal {

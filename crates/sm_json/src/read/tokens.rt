@@ -5,12 +5,12 @@ ghost use Rattle.sm_tree.specs.Events.{end_list as list_ends, end_object as obje
 ghost use Rattle.sm_tree.specs.Building.{IsIn, awaits_value};
 ghost use Rattle.sm_tree.specs.BuilderView.{building_of};
 ghost use Rattle.sm_json.specs.Strings.{is_white as white};
-ghost use Rattle.sm_json.specs.NumberTail.{Leads as NumberLeads};
+ghost use Rattle.sm_tree.specs.NumberTail.{Leads as NumberLeads};
 
 use super::Reader;
-use crate::number::Phase;
 use crate::place::{Literal, Place, Role};
 use crate::whitespace::{is_white, white_run};
+use sm_tree::number::Phase;
 use sm_tree::{NoMemory, OpenKind, SyntaxRefusal};
 
 /// The greatest number of lists and objects that may be open at one place of a text.

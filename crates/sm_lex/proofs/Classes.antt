@@ -1,0 +1,71 @@
+-- What the class of a byte says of it.
+use Rattle.std.proofs.Common.{◌≡◌, ℕ, ◌+◌, ◌-◌, ◌≤◌, ◌<◌, Bool, true, false, cond, List, [], ◌∷◌, length, get_or, take, refl, sym, ap, subst, ◌∙◌, arith, eqb}
+use Rattle.std.specs.Prelude.{IsUtf8}
+use Rattle.std.specs.List.{prefix_len}
+use Rattle.std.specs.Str.{IsCharBoundary}
+use Rattle.std.proofs.lemmas.Str.{IsCharBoundary-after_ascii}
+use Rattle.std.proofs.lemmas.List.Sums.{prefix_len-le-length, prefix_len_passes}
+use Rattle.std.proofs.lemmas.Bool.Decides.{nat_tests}
+use Rattle.sm_lex.specs.declared.byte.First.{First}
+use Rattle.sm_lex.specs.declared.byte.First.TheVariants.{White, Slash, Word, Number, Quote, Mark, Stray}
+use Rattle.sm_lex.specs.Bytes.{first_of, Begins, is_white, is_letter, is_number_start, is_mark, is_word_byte}
+
+-- the class by the tests in their order
+abbrev by_tests : Bool → Bool → Bool → Bool → Bool → Bool → First
+by_tests w s l n q m = cond w White (cond s Slash (cond l Word (cond n Number (cond q Quote (cond m Mark Stray)))))
+
+tests_word : (w s l n q m : Bool) → by_tests w s l n q m ≡ Word → l ≡ true
+tests_word true s l n q m e = absurd cc
+tests_word false true l n q m e = absurd cc
+tests_word false false true n q m e = refl
+tests_word false false false true q m e = absurd cc
+tests_word false false false false true m e = absurd cc
+tests_word false false false false false true e = absurd cc
+tests_word false false false false false false e = absurd cc
+
+tests_quote : (w s l n q m : Bool) → by_tests w s l n q m ≡ Quote → q ≡ true
+tests_quote true s l n q m e = absurd cc
+tests_quote false true l n q m e = absurd cc
+tests_quote false false true n q m e = absurd cc
+tests_quote false false false true q m e = absurd cc
+tests_quote false false false false true m e = refl
+tests_quote false false false false false true e = absurd cc
+tests_quote false false false false false false e = absurd cc
+
+tests_mark : (w s l n q m : Bool) → by_tests w s l n q m ≡ Mark → m ≡ true
+tests_mark true s l n q m e = absurd cc
+tests_mark false true l n q m e = absurd cc
+tests_mark false false true n q m e = absurd cc
+tests_mark false false false true q m e = absurd cc
+tests_mark false false false false true m e = absurd cc
+tests_mark false false false false false true e = refl
+tests_mark false false false false false false e = absurd cc
+
+pub word_is : (c : ℕ) → first_of c ≡ Word → is_letter c ≡ true
+word_is c e = tests_word (is_white c) (eqb c 47) (is_letter c) (is_number_start c) (eqb c 34) (is_mark c) e
+
+pub quote_is : (c : ℕ) → first_of c ≡ Quote → c ≡ 34
+quote_is c e = let t : eqb c 34 ≡ true = tests_quote (is_white c) (eqb c 47) (is_letter c) (is_number_start c) (eqb c 34) (is_mark c) e in grind (arith, nat_tests)
+
+pub mark_is_ascii : (c : ℕ) → first_of c ≡ Mark → c < 128
+mark_is_ascii c e = let t : is_mark c ≡ true = tests_mark (is_white c) (eqb c 47) (is_letter c) (is_number_start c) (eqb c 34) (is_mark c) e in grind (arith, nat_tests)
+
+pub word_bytes_are_ascii : (c : ℕ) → is_word_byte c ≡ true → c < 128
+word_bytes_are_ascii c e = grind (arith, nat_tests)
+
+-- a word's first byte goes on with a word
+pub letter_goes_on : (c : ℕ) → is_letter c ≡ true → is_word_byte c ≡ true
+letter_goes_on c e = grind (arith, nat_tests)
+
+-- a run of ASCII bytes ends between characters
+pub boundary_behind_run : (p : ℕ → Bool) (s : List ℕ) → ((c : ℕ) → p c ≡ true → c < 128) → IsUtf8 s → 0 < prefix_len p s → IsCharBoundary s (prefix_len p s)
+boundary_behind_run p s small u some =
+    let n = prefix_len p s in
+    let within : n ≤ length s = prefix_len-le-length p s in
+    let low : get_or s (n - 1) 0 < 128 = small _ (prefix_len_passes p s (n - 1) 0 (omega arith)) in
+    let same : n - 1 + 1 ≡ n = omega arith in
+    subst (IsCharBoundary s) same (IsCharBoundary-after_ascii s (n - 1) u (omega arith) low)
+
+pub word_some : (s : List ℕ) → Begins Word s → 0 < prefix_len is_word_byte s
+word_some [] h = absurd h
+word_some (c ∷ s) h = let one : prefix_len is_word_byte (c ∷ s) ≡ 1 + prefix_len is_word_byte s = ap (λ b. cond b (1 + prefix_len is_word_byte s) 0) (letter_goes_on c (word_is c h)) in omega arith

@@ -1,0 +1,13 @@
+pub mod Lengths
+pub mod NumberRuns
+pub mod Ends
+pub mod Spaces
+pub mod LineCuts
+pub mod LineParts
+pub mod Indents
+pub mod Judged
+pub mod Classes
+pub mod Strings
+pub mod Blocks
+pub mod Measured
+pub mod Leading

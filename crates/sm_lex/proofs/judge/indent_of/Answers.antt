@@ -1,0 +1,13 @@
+use Rattle.std.proofs.Common.{◌≡◌, subst, sym, ◌∙◌, ap, cond, []}
+use Rattle.sm_lex.specs.Lines.{indent, lines}
+use Rattle.sm_lex.specs.Steps.{lines_left, line_of, counted}
+use Rattle.sm_lex.proofs.Indents.{IndentOf, counts}
+use Rattle.sm_lex.proofs.judge.indent_of.Goals as goal
+
+pub loop-line-preserved : goal.loop-line-preserved
+loop-line-preserved c =
+    let rest = c.next.new.self in
+    let bytes = c.as_bytes.ensures.value in
+    let step = c.counted-least.ensures ∙ ap (λ b. counted c.loop-line.least b c.is_done.result) bytes ∙ ap (counted c.loop-line.least c.in-Some.line.text.now) c.is_done.ensures in
+    subst (λ o. IndentOf (indent (lines_left c.args.lines)) o (lines_left rest)) (sym step)
+    (counts (indent (lines_left c.args.lines)) rest.at c.loop-line.least (lines_left c.loop-line.lines) (line_of c.in-Some.line) rest.rest.now rest.done c.in-Some.ensures c.loop-line.invariant)

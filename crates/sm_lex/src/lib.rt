@@ -1,0 +1,19 @@
+// The tokens of the Smithy IDL 2.0, and what a token's bytes mean.
+// The reader of models in the IDL stands on it.
+#![tactic(auto)]
+
+mod byte;
+mod escape;
+mod judge;
+mod lex;
+#[cfg(test)]
+mod lex_tests;
+mod lines;
+mod part;
+mod quoted;
+mod runs;
+mod space;
+mod token;
+
+pub use lex::tokens;
+pub use token::{LexRefusal, Token, TokenKind};

@@ -1,0 +1,54 @@
+// White space and comments (Smithy 2.0, "Smithy IDL", "Whitespace" and "Comments"). The lexer stands on it.
+ghost use Rattle.std.specs.Prelude.{◌≡◌, ◌≤◌, length, drop, ◌<◌, IfSome};
+ghost use Rattle.sm_lex.specs.Space.{Skips, EndsSpace};
+ghost use Rattle.sm_lex.specs.Steps.{PartOfSpace, part_len};
+
+use crate::byte::is_white;
+use crate::runs::comment_len;
+
+/// A piece of what stands between tokens.
+#[derive(Debug, Clone, Copy, PartialEq, Eq, Drop)]
+pub enum SpacePart {
+    /// One byte of white space.
+    White,
+    /// A comment, with the number of its bytes.
+    Comment(usize),
+}
+
+impl SpacePart {
+    /// How many bytes it has.
+    fn len(self) -> usize
+        ensures { result ≡ part_len self }
+    {
+        match self {
+            SpacePart::White => 1,
+            SpacePart::Comment(len) => len,
+        }
+    }
+}
+
+/// The piece of white space or comment that stands at the front.
+pub fn space_part(bytes: &[u8]) -> Option<SpacePart>
+    ensures part { PartOfSpace bytes.now result }
+    ensures within { IfSome result (λ part. part_len part ≤ length bytes.now) }
+    ensures some { IfSome result (λ part. 0 < part_len part) }
+{
+    match bytes {
+        [b'/', b'/', text @ ..] => Some(SpacePart::Comment(2 + comment_len(text))),
+        [byte, ..] if is_white(*byte) => Some(SpacePart::White),
+        _ => None,
+    }
+}
+
+/// How many bytes of white space and comments stand at the front.
+pub fn space_len(bytes: &[u8]) -> usize
+    ensures within { result ≤ length bytes.now }
+    ensures skips { Skips bytes.now (drop result bytes.now) }
+    ensures ends { EndsSpace (drop result bytes.now) }
+{
+    let mut at = 0;
+    while let Some(part) = space_part(&bytes[at..]) {
+        at += part.len();
+    }
+    at
+}
