@@ -1,14 +1,13 @@
 -- What a byte does behind a value, by what is open: the laws of `Leads` and `Stops` there.
-use Rattle.std.proofs.Common.{◌≡◌, ◌≢◌, ℕ, zero, suc, ◌+◌, ◌≤◌, ◌<◌, ◌⊎◌, inl, inr, Bool, true, false, max, List, [], ◌∷◌, ◌++◌, Option, None, refl, sym, ap, subst, ◌∙◌, arith, lit<, length}
-use Rattle.sm_tree.specs.Node.{Node, Nodes, Members, no_nodes, node, no_members, member}
+use Rattle.std.proofs.Common.{◌≡◌, ◌≢◌, ℕ, ◌≤◌, inl, inr, true, false, max, List, [], ◌∷◌, ◌++◌, refl, ap, subst, ◌∙◌, arith, lit<, length}
+use Rattle.sm_tree.specs.Node.{no_nodes, node, no_members, member}
 use Rattle.sm_tree.specs.Levels.{levels, nodes_levels, members_levels}
 use Rattle.sm_tree.specs.Events.{NodeEvent, events, entries_events, pairs_events, end_list, end_object, key_event}
 use Rattle.sm_tree.specs.declared.build.OpenKind.{OpenKind}
 use Rattle.sm_tree.specs.declared.build.OpenKind.TheVariants.{List as a_list, Object as an_object}
-use Rattle.sm_json.specs.Strings.{is_white, Skips, SpellsText}
-use Rattle.sm_json.specs.JsonText.{SpellsValue, Separator, Entries, MoreEntries, Pairs, MorePairs}
-use Rattle.sm_json.specs.Rest.{Where, value, next_key, after, State, Ends, ValueNow, ValueComes, ColonComes, KeyNow, KeyComes, RestAt, Rest, Leads, Stops}
-use Rattle.sm_json.proofs.Starts.{below, above, heads, tails, skips_none, skips_here}
+use Rattle.sm_json.specs.Strings.{is_white, Skips}
+use Rattle.sm_json.specs.Rest.{value, next_key, after, Ends, ValueComes, KeyComes, Leads, Stops}
+use Rattle.sm_json.proofs.Starts.{below, above, skips_none}
 use Rattle.sm_json.proofs.Opening.{at}
 use Rattle.sm_json.proofs.Between.{here_is, here_rest}
 

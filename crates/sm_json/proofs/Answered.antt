@@ -1,6 +1,6 @@
 -- What the reader's answers say of the bytes: a tree of the whole text, or where no text goes on. The answers of
 -- `read_tree` cite it.
-use Rattle.std.proofs.Common.{Result, Ok, Err, ◌≡◌, ℕ, ◌+◌, ◌≤◌, List, [], ◌∷◌, ◌++◌, refl, sym, ap, subst, ◌∙◌, arith, take, append-nil, IfOk}
+use Rattle.std.proofs.Common.{Result, Ok, Err, ◌≡◌, ℕ, ◌+◌, ◌≤◌, List, [], ◌++◌, sym, ap, subst, ◌∙◌, arith, take, append-nil, IfOk}
 use Rattle.sm_tree.specs.Node.{Node}
 use Rattle.sm_tree.specs.Levels.{levels}
 use Rattle.sm_tree.specs.Json.{IsJson}

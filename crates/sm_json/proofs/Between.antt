@@ -1,19 +1,18 @@
 -- What a byte does behind a bracket, a brace, a comma, a name and a value: the laws of `Leads` and `Stops` at
 -- these places.
-use Rattle.std.proofs.Common.{◌≡◌, ◌≢◌, ℕ, zero, suc, ◌+◌, ◌≤◌, ◌<◌, ◌⊎◌, inl, inr, Bool, true, false, max, List, [], ◌∷◌, ◌++◌, Option, None, refl, sym, ap, subst, ◌∙◌, arith, lit<, length}
-use Rattle.sm_tree.specs.Node.{Node, Nodes, Members, null, bool, int, number, text, bytes, tag, opaque, list, object, no_nodes, node, no_members, member}
+use Rattle.std.proofs.Common.{◌≡◌, ◌≢◌, ℕ, suc, ◌+◌, ◌≤◌, inr, true, false, max, List, [], ◌∷◌, ◌++◌, refl, sym, ap, subst, ◌∙◌, arith, lit<, length}
+use Rattle.sm_tree.specs.Node.{Node, null, bool, int, number, text, bytes, tag, opaque, list, object, no_nodes, node, no_members, member}
 use Rattle.sm_tree.specs.Levels.{levels, nodes_levels, members_levels}
 use Rattle.sm_tree.specs.Events.{NodeEvent, events, entries_events, pairs_events, end_list, end_object, key_event}
 use Rattle.sm_tree.specs.declared.build.OpenKind.{OpenKind}
 use Rattle.sm_tree.specs.declared.build.OpenKind.TheVariants.{List as a_list, Object as an_object}
-use Rattle.sm_json.specs.Strings.{is_white, Skips, SpellsText, Characters}
-use Rattle.sm_json.specs.JsonText.{SpellsValue, Separator, Entries, MoreEntries, Pairs, MorePairs}
-use Rattle.sm_json.specs.TextRest.{TextRest}
-use Rattle.sm_json.specs.Rest.{Where, value, first_entry, first_key, next_key, colon, after, in_text, State, Ends, ValueNow, ValueComes, ColonComes, KeyNow, KeyComes, FirstEntryComes, FirstKeyComes, StringComes, RestAt, Rest, Leads, Stops}
+use Rattle.sm_json.specs.Strings.{is_white, Skips}
+use Rattle.sm_json.specs.JsonText.{SpellsValue}
+use Rattle.sm_json.specs.Rest.{value, first_entry, first_key, next_key, colon, after, in_text, State, Ends, ValueComes, KeyNow, KeyComes, FirstEntryComes, FirstKeyComes, Leads, Stops}
 use Rattle.sm_json.specs.declared.spot.Spot.TheVariants.{Plain}
-use Rattle.sm_json.specs.declared.place.Role.TheVariants.{Key, Value}
-use Rattle.sm_json.proofs.Starts.{below, above, heads, tails, skips_none, skips_here, FirstByte, spells_first, spells_start}
-use Rattle.sm_json.proofs.Opening.{at, digit_is_not, value_here, value_now}
+use Rattle.sm_json.specs.declared.place.Role.TheVariants.{Key}
+use Rattle.sm_json.proofs.Starts.{below, above, heads, tails, skips_none, skips_here, FirstByte, spells_first}
+use Rattle.sm_json.proofs.Opening.{at, digit_is_not}
 use Rattle.sm_json.proofs.Leaves.{text_onward, text_back}
 
 -- white space, or none, before a byte that isn't white: none

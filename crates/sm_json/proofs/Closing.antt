@@ -1,6 +1,6 @@
 -- What is open can be closed: from each place of a text some text goes on, if there is room for what is open.
-use Rattle.std.proofs.Common.{◌≡◌, ℕ, ◌+◌, ◌≤◌, List, [], ◌∷◌, ◌++◌, Option, None, refl, arith, length, drop, codes}
-use Rattle.sm_tree.specs.Node.{Node, null, no_nodes, no_members}
+use Rattle.std.proofs.Common.{ℕ, ◌+◌, ◌≤◌, List, [], ◌∷◌, ◌++◌, None, refl, arith, length, drop, codes}
+use Rattle.sm_tree.specs.Node.{null, no_nodes, no_members}
 use Rattle.sm_tree.specs.Events.{NodeEvent, events, null_event, key_event, text_event, start_list, start_object, end_list, end_object}
 use Rattle.sm_tree.specs.Numbers.{IsNumber}
 use Rattle.sm_tree.specs.declared.build.OpenKind.{OpenKind}

@@ -1,19 +1,19 @@
 -- What a byte does where a leaf must come: a string, a literal name or a number begins, or nothing does.
-use Rattle.std.proofs.Common.{◌≡◌, ◌≢◌, ℕ, zero, suc, ◌+◌, ◌≤◌, ◌<◌, ◌⊎◌, inl, inr, Bool, true, false, List, [], ◌∷◌, ◌++◌, Option, None, refl, sym, ap, subst, ◌∙◌, arith, lit<, length, drop, codes}
-use Rattle.sm_tree.specs.Node.{Node, Nodes, Members, null, bool, int, number, text, bytes, tag, opaque, list, object}
+use Rattle.std.proofs.Common.{◌≡◌, ◌≢◌, ℕ, ◌≤◌, inl, inr, true, false, List, [], ◌∷◌, ◌++◌, refl, sym, ap, subst, ◌∙◌, arith, lit<, length, drop, codes}
+use Rattle.sm_tree.specs.Node.{Node, null, bool, int, number, text, bytes, tag, opaque, list, object}
 use Rattle.sm_tree.specs.Levels.{levels}
 use Rattle.sm_tree.specs.Events.{NodeEvent, events}
-use Rattle.sm_tree.specs.Numbers.{IsNumber, IsDigit, NumberText}
+use Rattle.sm_tree.specs.Numbers.{IsNumber, NumberText}
 use Rattle.sm_tree.specs.declared.build.OpenKind.{OpenKind}
-use Rattle.sm_json.specs.Strings.{is_white, Skips, SpellsText, Characters}
+use Rattle.sm_json.specs.Strings.{is_white, SpellsText, Characters}
 use Rattle.sm_json.specs.JsonText.{SpellsNumber, SpellsValue}
 use Rattle.sm_json.specs.TextRest.{TextRest}
-use Rattle.sm_json.specs.Rest.{Where, value, word, numeral, in_text, State, letters, literal_node, Ends, ValueNow, ValueComes, StringComes, RestAt, Rest, Leads, Stops}
+use Rattle.sm_json.specs.Rest.{value, word, numeral, in_text, letters, literal_node, ValueNow, ValueComes, StringComes, RestAt, Leads, Stops}
 use Rattle.sm_json.specs.Machine.{first_letter}
 use Rattle.sm_json.specs.declared.spot.Spot.TheVariants.{Plain}
 use Rattle.sm_json.specs.declared.place.Literal.{Literal}
 use Rattle.sm_json.specs.declared.place.Literal.TheVariants.{Null, True, False}
-use Rattle.sm_json.specs.declared.place.Role.TheVariants.{Key, Value}
+use Rattle.sm_json.specs.declared.place.Role.TheVariants.{Value}
 use Rattle.sm_json.proofs.Starts.{below, above, heads, tails, StartsNumber, FirstByte, spells_first, number_start}
 use Rattle.sm_json.proofs.Opening.{at, digit_is_not, kind_of_text, value_here, value_now}
 

@@ -14,7 +14,6 @@ pub mod Escapes
 pub mod Utf8Parts
 pub mod Runs
 pub mod DigitSteps
-pub mod Texts
 pub mod Completions
 pub mod Closing
 pub mod Readers

@@ -1,22 +1,15 @@
 -- What a byte does where a value must come: the laws of `Leads` and `Stops` there, and where a bracket has
 -- opened.
-use Rattle.std.proofs.Common.{◌≡◌, ◌≢◌, ℕ, zero, suc, ◌+◌, ◌≤◌, ◌<◌, ◌⊎◌, inl, inr, Bool, true, false, List, [], ◌∷◌, ◌++◌, Option, None, refl, sym, ap, subst, ◌∙◌, arith, lit<, length, codes}
-use Rattle.sm_tree.specs.Node.{Node, Nodes, Members, null, bool, int, number, text, bytes, tag, opaque, list, object, no_nodes, node, no_members, member}
+use Rattle.std.proofs.Common.{◌≡◌, ℕ, ◌+◌, ◌≤◌, ◌<◌, ◌⊎◌, inl, inr, true, false, List, [], ◌∷◌, ◌++◌, None, refl, sym, ap, subst, ◌∙◌, arith, lit<, length}
+use Rattle.sm_tree.specs.Node.{Node, Nodes, Members, null, bool, int, number, text, bytes, tag, opaque, list, object}
 use Rattle.sm_tree.specs.Levels.{levels, nodes_levels, members_levels}
-use Rattle.sm_tree.specs.Events.{NodeEvent, events, entries_events, pairs_events, start_list, start_object, end_list, end_object}
-use Rattle.sm_tree.specs.Numbers.{IsNumber, IsDigit, NumberText}
+use Rattle.sm_tree.specs.Events.{NodeEvent, events, entries_events, pairs_events, start_list, start_object}
 use Rattle.sm_tree.specs.declared.build.OpenKind.{OpenKind}
 use Rattle.sm_tree.specs.declared.build.OpenKind.TheVariants.{List as a_list, Object as an_object}
-use Rattle.sm_json.specs.Strings.{is_white, Skips, SpellsText}
-use Rattle.sm_json.specs.JsonText.{SpellsNumber, SpellsValue, Entries, MoreEntries, Pairs, MorePairs}
-use Rattle.sm_json.specs.TextRest.{TextRest}
-use Rattle.sm_json.specs.Rest.{Where, value, first_entry, first_key, next_key, colon, after, word, numeral, in_text, State, letters, literal_node, Ends, ValueNow, ValueComes, FirstEntryComes, FirstKeyComes, StringComes, RestAt, Rest, Leads, Stops}
-use Rattle.sm_json.specs.declared.spot.Spot.TheVariants.{Plain}
-use Rattle.sm_json.specs.declared.place.Literal.{Literal}
-use Rattle.sm_json.specs.declared.place.Literal.TheVariants.{Null, True, False}
-use Rattle.sm_json.specs.declared.place.Role.TheVariants.{Key, Value}
-use Rattle.sm_json.proofs.Starts.{below, above, heads, tails, skips_none, skips_here, StartsNumber, FirstByte, spells_first, spells_none, number_start}
-use Rattle.sm_json.proofs.White.{first_not_white}
+use Rattle.sm_json.specs.Strings.{is_white}
+use Rattle.sm_json.specs.JsonText.{SpellsValue, Entries, Pairs}
+use Rattle.sm_json.specs.Rest.{Where, value, first_entry, first_key, State, ValueNow, ValueComes, FirstEntryComes, FirstKeyComes, Leads, Stops}
+use Rattle.sm_json.proofs.Starts.{below, above, tails, skips_none, skips_here, StartsNumber, FirstByte, spells_first}
 
 -- a spelling that begins with a byte has the kind that the byte tells
 pub digit_is_not : (c d : ℕ) → StartsNumber c → c ≡ d → (d < 45) ⊎ (57 < d) → ⊥

@@ -1,5 +1,5 @@
 -- A string does not end where the bytes do: its closing quotation mark has to come.
-use Rattle.std.proofs.Common.{◌≡◌, ◌≢◌, ℕ, ◌+◌, ◌-◌, ◌*◌, ◌/◌, ◌≤◌, ◌<◌, ◌⊎◌, inl, inr, List, [], ◌∷◌, ◌++◌, refl, sym, ap, ◌∙◌, arith}
+use Rattle.std.proofs.Common.{◌≡◌, ℕ, ◌≤◌, ◌⊎◌, inl, inr, List, [], ◌∷◌, ◌++◌, ap, ◌∙◌, arith}
 use Rattle.std.specs.Char.{IsScalar, encode_utf8}
 use Rattle.sm_json.specs.declared.spot.Digits.{Digits}
 use Rattle.sm_json.specs.declared.spot.Digits.TheVariants.{First, Second, Third, Fourth}
@@ -8,7 +8,7 @@ use Rattle.sm_json.specs.declared.spot.Part.TheVariants.{Escape as BehindBacksla
 use Rattle.sm_json.specs.declared.spot.Spot.{Spot}
 use Rattle.sm_json.specs.declared.spot.Spot.TheVariants.{Plain, Inside}
 use Rattle.sm_json.specs.Strings.{Characters, Character, Escape, CodeUnit}
-use Rattle.sm_json.specs.TextRest.{DigitsRest, UnitRest, PartRest, TextRest}
+use Rattle.sm_json.specs.TextRest.{DigitsRest, PartRest, TextRest}
 use Rattle.sm_json.specs.TextSteps.{IsPartLive, IsLive}
 use Rattle.sm_json.proofs.Starts.{heads}
 use Rattle.sm_json.proofs.Utf8Shapes.{IsOne, IsTwo, IsThree, IsFour, shape}

@@ -1,17 +1,16 @@
 -- What the steps of the reader do to it: the laws of the machine at readers. The answers cite these.
-use Rattle.std.proofs.Common.{Result, Ok, Err, ◌≡◌, ◌≢◌, ℕ, ◌+◌, ◌≤◌, ◌<◌, ◌⊎◌, inl, inr, Bool, true, false, List, [], ◌∷◌, ◌++◌, Option, None, Some, refl, sym, ap, subst, ◌∙◌, arith, length, append-nil, lit<}
+use Rattle.std.proofs.Common.{Result, Ok, Err, ◌≡◌, ◌≢◌, ℕ, ◌+◌, ◌≤◌, ◌<◌, true, false, List, [], ◌∷◌, ◌++◌, None, Some, refl, sym, ap, subst, ◌∙◌, arith, length, append-nil, lit<}
 use Rattle.sm_tree.specs.Events.{NodeEvent, start_list, start_object, end_list, end_object}
 use Rattle.sm_tree.specs.Building.{so_far, kinds, first_kind, awaits_value, goes_on, IsIn}
 use Rattle.sm_tree.specs.BuilderView.{building_of}
-use Rattle.sm_tree.specs.declared.build.TreeBuilder.{TreeBuilder}
 use Rattle.sm_tree.specs.declared.build.OpenKind.{OpenKind}
 use Rattle.sm_tree.specs.declared.build.OpenKind.TheVariants.{List as a_list, Object as an_object}
 use Rattle.sm_tree.specs.declared.refusal.SyntaxRefusal.{SyntaxRefusal}
 use Rattle.sm_tree.specs.declared.refusal.SyntaxRefusal.TheVariants.{Bad, Ended, TooDeep, KeyKind, NoMemory}
 use Rattle.sm_json.specs.Strings.{is_white}
-use Rattle.sm_tree.specs.NumberTail.{IsNumberByte, Leads as NumberLeads, Stops as NumberStops}
+use Rattle.sm_tree.specs.NumberTail.{Leads as NumberLeads, Stops as NumberStops}
 use Rattle.sm_json.specs.Reading.{text_of, IsAtStart}
-use Rattle.sm_json.specs.Rest.{Where, value, first_entry, first_key, next_key, after, in_text, numeral, word, State, letters, Leads, GoesOn, Stops}
+use Rattle.sm_json.specs.Rest.{value, first_entry, first_key, next_key, after, in_text, numeral, State, letters, Leads}
 use Rattle.sm_tree.specs.Syntax.{most_levels}
 use Rattle.sm_json.specs.Machine.{where_of, lists_of, state_of, handed_on, PlaceKeeps, IsSound, LeadsTo, Goes, Halts, Deepens, TakesByte, HasClosed, BeginsText, first_letter}
 use Rattle.sm_tree.specs.declared.number.Phase.{Phase}

@@ -1,9 +1,9 @@
 -- Which byte a spelling begins with, what may follow a value, and what white space does before a byte.
-use Rattle.std.proofs.Common.{◌≡◌, ℕ, zero, suc, ◌+◌, ◌≤◌, ◌<◌, ◌⊎◌, inl, inr, Bool, true, false, List, [], ◌∷◌, ◌++◌, refl, sym, ap, subst, ◌∙◌, arith, codes}
-use Rattle.sm_tree.specs.Node.{Node, Nodes, Members, null, bool, int, number, text, bytes, tag, opaque, list, object, no_nodes, node, no_members, member}
-use Rattle.sm_tree.specs.Numbers.{IsDigit, AreDigits, IsMinus, IsInt, IsNumber, NumberText}
-use Rattle.sm_json.specs.Strings.{is_white, Skips, SpellsText, Characters}
-use Rattle.sm_json.specs.JsonText.{bool_word, SpellsNumber, SpellsValue, Entries, MoreEntries, Pairs, MorePairs}
+use Rattle.std.proofs.Common.{◌≡◌, ℕ, ◌<◌, ◌⊎◌, inl, inr, true, false, List, [], ◌∷◌, ◌++◌, refl, sym, ap, subst, ◌∙◌, arith}
+use Rattle.sm_tree.specs.Node.{Node, null, bool, int, number, text, bytes, tag, opaque, list, object}
+use Rattle.sm_tree.specs.Numbers.{IsDigit, IsMinus, IsInt, IsNumber, NumberText}
+use Rattle.sm_json.specs.Strings.{is_white, Skips}
+use Rattle.sm_json.specs.JsonText.{SpellsNumber, SpellsValue}
 
 -- from two equal lists: their first bytes, and what follows them
 pub heads : (c d : ℕ) (s r : List ℕ) → c ∷ s ≡ d ∷ r → c ≡ d

@@ -1,14 +1,12 @@
 -- What runs of bytes do to a reader: white space, numbers and strings, one run behind another, and the end of
 -- the bytes. The answers of the reader's turns cite these.
-use Rattle.std.proofs.Common.{Result, Ok, Err, ◌≡◌, ◌≢◌, ℕ, ◌+◌, ◌-◌, ◌≤◌, ◌<◌, ◌⊎◌, inl, inr, Bool, true, false, List, [], ◌∷◌, ◌++◌, refl, sym, ap, subst, ◌∙◌, arith, length, take, drop, get_or, append-nil, append_assoc, take-append-drop, length-drop}
+use Rattle.std.proofs.Common.{Result, Ok, Err, ◌≡◌, ◌≢◌, ℕ, ◌+◌, ◌-◌, ◌≤◌, ◌<◌, ◌⊎◌, inl, inr, true, List, [], ◌∷◌, ◌++◌, refl, sym, ap, subst, ◌∙◌, arith, length, take, drop, get_or, append-nil, append_assoc, length-drop}
 use Rattle.std.proofs.Math.Seq.{take-add}
 use Rattle.std.proofs.lemmas.List.{take_more, drop_more, take-take, take_all, drop_all}
-use Rattle.sm_tree.specs.Node.{Node}
 use Rattle.sm_tree.specs.Numbers.{IsNumber, NumberText}
 use Rattle.sm_tree.specs.Events.{NodeEvent, events, key_event, text_event}
-use Rattle.sm_tree.specs.Building.{so_far, kinds, awaits_value, goes_on, IsIn}
+use Rattle.sm_tree.specs.Building.{so_far, kinds, awaits_value}
 use Rattle.sm_tree.specs.BuilderView.{building_of}
-use Rattle.sm_tree.specs.declared.build.OpenKind.{OpenKind}
 use Rattle.sm_tree.specs.declared.refusal.SyntaxRefusal.{SyntaxRefusal}
 use Rattle.sm_tree.specs.declared.refusal.SyntaxRefusal.TheVariants.{Bad, Ended, TooDeep, KeyKind, NoMemory}
 use Rattle.sm_json.specs.Strings.{is_white}
@@ -20,9 +18,9 @@ use Rattle.sm_json.specs.declared.text.TextRefusal.{TextRefusal}
 use Rattle.sm_json.specs.declared.text.TextRefusal.TheVariants.{Bad as BadString, NoMemory as NoRoom}
 use Rattle.sm_json.specs.declared.place.Role.{Role}
 use Rattle.sm_json.specs.declared.place.Role.TheVariants.{Key, Value as Whole}
-use Rattle.sm_json.specs.Rest.{Where, after, colon, letters, literal_node, numeral, in_text, State, Rest, Leads, GoesOn, Stops}
+use Rattle.sm_json.specs.Rest.{after, colon, letters, literal_node, numeral, Rest, Leads, GoesOn, Stops}
 use Rattle.sm_tree.specs.Syntax.{most_levels}
-use Rattle.sm_json.specs.Machine.{where_of, lists_of, state_of, handed_on, PlaceKeeps, IsSound, LeadsTo, Goes, Halts, Deepens, HaltsAt, DeepensAt, TakesByte, TakesFront, TakesAll, TakesWhite, AllWhite, Grows, HandsNumber, HandsText, Finishes, behind_text, text_event_of, moved_by, as_syntax, IsWithin}
+use Rattle.sm_json.specs.Machine.{where_of, lists_of, state_of, handed_on, PlaceKeeps, IsSound, LeadsTo, Goes, Halts, Deepens, HaltsAt, DeepensAt, TakesByte, TakesFront, TakesAll, TakesWhite, AllWhite, Grows, HandsNumber, HandsText, behind_text, text_event_of, moved_by, as_syntax, IsWithin}
 use Rattle.sm_tree.specs.declared.number.Phase.{Phase}
 use Rattle.sm_tree.specs.declared.number.Phase.TheVariants.{Start}
 use Rattle.sm_tree.specs.declared.number.Run.{Run}

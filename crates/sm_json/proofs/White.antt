@@ -1,5 +1,5 @@
 -- White space changes nothing where a token may come: the laws of `Leads` for a white byte.
-use Rattle.std.proofs.Common.{◌≡◌, ℕ, zero, suc, ◌+◌, ◌≤◌, ◌<◌, ◌⊎◌, inl, inr, Bool, true, false, List, [], ◌∷◌, ◌++◌, refl, sym, ap, subst, ◌∙◌, arith, length, take, get_or}
+use Rattle.std.proofs.Common.{◌≡◌, ℕ, ◌+◌, ◌<◌, inl, inr, true, false, List, [], ◌∷◌, ◌++◌, refl, sym, subst, ◌∙◌, arith, length, take, get_or}
 use Rattle.std.proofs.lemmas.Bool.Decides.{nat_tests}
 use Rattle.sm_tree.specs.Node.{Node, Nodes, Members, null, bool, int, number, text, bytes, tag, opaque, list, object, no_nodes, node, no_members, member}
 use Rattle.sm_tree.specs.Events.{NodeEvent}
@@ -7,10 +7,10 @@ use Rattle.sm_tree.specs.declared.build.OpenKind.{OpenKind}
 use Rattle.sm_tree.specs.declared.build.OpenKind.TheVariants.{List as a_list, Object as an_object}
 use Rattle.sm_json.specs.Strings.{is_white, Skips, SpellsText}
 use Rattle.sm_json.specs.JsonText.{SpellsValue, Entries, MoreEntries, Pairs, MorePairs}
-use Rattle.sm_json.specs.Rest.{Where, value, first_entry, first_key, next_key, colon, after, word, numeral, in_text, State, Ends, ValueNow, ValueComes, ColonComes, KeyNow, KeyComes, FirstEntryComes, FirstKeyComes, RestAt, Rest, Leads}
+use Rattle.sm_json.specs.Rest.{Where, value, first_entry, first_key, next_key, colon, after, word, numeral, in_text, State, Ends, ValueComes, ColonComes, KeyComes, FirstEntryComes, FirstKeyComes, RestAt, Leads}
 use Rattle.std.proofs.lemmas.List.{take_more}
 use Rattle.sm_json.specs.Machine.{AllWhite, TakesWhite}
-use Rattle.sm_json.proofs.Starts.{heads, skips_past, StartsNumber, FirstByte, Opens, spells_start}
+use Rattle.sm_json.proofs.Starts.{skips_past, StartsNumber, FirstByte, spells_start}
 
 number_not_white : (c : ℕ) → StartsNumber c → is_white c ≡ false
 number_not_white c (inl (low, high)) = grind (arith, nat_tests)

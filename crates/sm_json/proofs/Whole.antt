@@ -1,17 +1,11 @@
 -- From states to texts: how the laws of `Leads` join, what may stand where the bytes end, and what a run of
 -- the reader says of a whole text.
-use Rattle.std.proofs.Common.{◌≡◌, ◌≢◌, ℕ, zero, suc, ◌+◌, ◌≤◌, ◌<◌, ◌⊎◌, inl, inr, List, [], ◌∷◌, ◌++◌, refl, sym, ap, subst, ◌∙◌, arith, length, drop, append_assoc, append-nil}
-use Rattle.sm_tree.specs.Node.{Node, no_nodes, node, no_members, member}
+use Rattle.std.proofs.Common.{◌≡◌, ℕ, ◌≤◌, List, [], ◌++◌, refl, sym, ap, subst, ◌∙◌, arith, append_assoc, append-nil}
+use Rattle.sm_tree.specs.Node.{Node}
 use Rattle.sm_tree.specs.Levels.{levels}
 use Rattle.sm_tree.specs.Events.{NodeEvent, events}
-use Rattle.sm_tree.specs.Numbers.{NumberText}
-use Rattle.sm_tree.specs.declared.build.OpenKind.{OpenKind}
-use Rattle.sm_tree.specs.declared.build.OpenKind.TheVariants.{List as a_list, Object as an_object}
-use Rattle.sm_json.specs.Strings.{Skips}
-use Rattle.sm_json.specs.JsonText.{SpellsValue, JsonText}
-use Rattle.sm_json.specs.Rest.{value, after, State, start, Ends, Rest, Leads, Stops}
-use Rattle.sm_json.proofs.Starts.{skips_none}
-use Rattle.sm_json.proofs.Opening.{at}
+use Rattle.sm_json.specs.JsonText.{JsonText}
+use Rattle.sm_json.specs.Rest.{State, start, Rest, Leads}
 
 -- no byte leads from a state to itself, and two steps join to one
 pub leads_none : (limit : ℕ) (x : State) → Leads limit x [] [] x
@@ -46,9 +40,3 @@ pub run_is_cut : (limit : ℕ) (bs : List ℕ) (out : List NodeEvent) (x : State
     → (n : Node) → JsonText n bs → levels n ≤ limit → ⊥
 run_is_cut limit bs out x h cut n t room =
     let (fs, e, rest) = h.onward [] (events n []) (subst (λ u. Rest limit start u (events n [])) (sym (append-nil bs)) (text_start limit bs n t room)) in cut fs rest
-
--- a run to a byte at which none goes on: no text begins so
-pub run_is_bad : (limit : ℕ) (bs ws more : List ℕ) (c : ℕ) (out : List NodeEvent) (x : State) → bs ≡ ws ++ c ∷ more → Leads limit start ws out x → Stops limit x c
-    → (n : Node) → JsonText n bs → levels n ≤ limit → ⊥
-run_is_bad limit bs ws more c out x same h stop n t room =
-    let (fs, e, rest) = h.onward (c ∷ more) (events n []) (subst (λ u. Rest limit start u (events n [])) same (text_start limit bs n t room)) in stop more fs rest

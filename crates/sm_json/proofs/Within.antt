@@ -1,24 +1,23 @@
 -- What bytes do within a literal name, a number and a string, and where the bytes end: the laws of `Leads`
 -- and `Stops` there. And the laws that carry them to a whole text.
-use Rattle.std.proofs.Common.{◌≡◌, ◌≢◌, ℕ, zero, suc, ◌+◌, ◌≤◌, ◌<◌, ◌⊎◌, inl, inr, Bool, true, false, max, List, [], ◌∷◌, ◌++◌, Option, None, refl, sym, ap, subst, ◌∙◌, arith, length, drop, append_assoc, append-nil, get_or}
+use Rattle.std.proofs.Common.{◌≡◌, ◌≢◌, ℕ, ◌+◌, ◌<◌, ◌⊎◌, inl, inr, true, false, List, [], ◌∷◌, ◌++◌, refl, sym, ap, subst, ◌∙◌, arith, length, drop, append_assoc, append-nil, get_or}
 use Rattle.std.proofs.lemmas.Bool.Decides.{nat_tests}
 use Rattle.std.proofs.lemmas.List.{drop_more}
-use Rattle.sm_tree.specs.Node.{Node, Nodes, Members, null, bool, int, number, text, bytes, tag, opaque, list, object, no_nodes, node, no_members, member}
-use Rattle.sm_tree.specs.Levels.{levels}
+use Rattle.sm_tree.specs.Node.{Node, null, bool, int, number, text, bytes, tag, opaque, list, object, no_nodes, node, no_members, member}
 use Rattle.sm_tree.specs.Events.{NodeEvent, events, key_event, text_event}
 use Rattle.sm_tree.specs.Numbers.{IsNumber, NumberText}
 use Rattle.sm_tree.specs.declared.build.OpenKind.{OpenKind}
 use Rattle.sm_tree.specs.declared.build.OpenKind.TheVariants.{List as a_list, Object as an_object}
-use Rattle.sm_json.specs.Strings.{is_white, Skips, SpellsText}
-use Rattle.sm_json.specs.JsonText.{SpellsValue, Separator, Entries, MoreEntries, Pairs, MorePairs, JsonText}
+use Rattle.sm_json.specs.Strings.{is_white, Skips}
+use Rattle.sm_json.specs.JsonText.{SpellsValue}
 use Rattle.sm_json.specs.TextRest.{TextRest}
 use Rattle.sm_tree.specs.NumberTail.{IsNumberByte, AreNumberBytes}
-use Rattle.sm_json.specs.Rest.{Where, value, first_entry, first_key, next_key, colon, after, word, numeral, in_text, State, start, letters, literal_node, Ends, ValueNow, ValueComes, ColonComes, KeyNow, KeyComes, FirstEntryComes, FirstKeyComes, StringComes, RestAt, Rest, Leads, Stops}
+use Rattle.sm_json.specs.Rest.{Where, value, first_entry, first_key, next_key, colon, after, word, numeral, in_text, State, letters, literal_node, Ends, ValueComes, ColonComes, KeyComes, FirstEntryComes, FirstKeyComes, RestAt, Rest, Leads, Stops}
 use Rattle.sm_json.specs.declared.spot.Spot.{Spot}
 use Rattle.sm_json.specs.declared.place.Literal.{Literal}
 use Rattle.sm_json.specs.declared.place.Role.{Role}
 use Rattle.sm_json.specs.declared.place.Role.TheVariants.{Key, Value}
-use Rattle.sm_json.proofs.Starts.{not_white, below, above, heads, tails, skips_none, spells_none}
+use Rattle.sm_json.proofs.Starts.{not_white, heads, tails, spells_none}
 use Rattle.sm_json.proofs.Opening.{at}
 use Rattle.sm_json.proofs.Leaves.{number_is}
 

@@ -1,6 +1,6 @@
 -- What a reader stands for, what it keeps, and what its steps do. The contracts of the reader's methods cite
 -- it; that of `read_tree` doesn't.
-use Rattle.std.specs.Prelude.{◌≡◌, ℕ, ◌+◌, ◌≤◌, ◌<◌, Bool, true, false, List, [], ◌∷◌, ◌++◌, take, drop, length, Result, Ok, Err, slice_index, OnOk}
+use Rattle.std.specs.Prelude.{◌≡◌, ℕ, ◌+◌, ◌≤◌, ◌<◌, Bool, true, false, List, [], ◌∷◌, ◌++◌, take, length, Result, Ok, Err, slice_index}
 use Rattle.sm_tree.specs.Node.{Node}
 use Rattle.sm_tree.specs.Syntax.{most_levels}
 use Rattle.sm_tree.specs.Numbers.{NumberText}
@@ -20,7 +20,6 @@ use Rattle.sm_tree.specs.NumberTail.{Leads as NumberLeads, Stops as NumberStops}
 use Rattle.sm_tree.specs.declared.number.Run.{Run}
 use Rattle.sm_json.specs.Reading.{text_of}
 use Rattle.sm_json.specs.Rest.{Where, value, first_entry, first_key, next_key, colon, after, word, numeral, in_text, State, letters, Rest, Leads, GoesOn, Stops}
-use Rattle.sm_tree.specs.declared.number.Phase.{Phase}
 use Rattle.sm_tree.specs.declared.number.Phase.TheVariants.{Start}
 use Rattle.sm_json.specs.declared.spot.Spot.{Spot}
 use Rattle.sm_json.specs.declared.place.Place.{Place}

@@ -2,7 +2,7 @@
 -- these bytes complete. The reader's contracts are stated by it: two states of which the same may still
 -- come are as good as one. Any depth is a limit, so nothing here is bound to the reader's own.
 use Rattle.std.specs.Prelude.{◌≡◌, ℕ, suc, ◌+◌, ◌≤◌, List, [], ◌∷◌, ◌++◌, drop, length, codes, true, false}
-use Rattle.sm_tree.specs.Node.{Node, Nodes, Members, null, bool, text}
+use Rattle.sm_tree.specs.Node.{Node, Nodes, Members, null, bool}
 use Rattle.sm_tree.specs.Levels.{levels, nodes_levels, members_levels}
 use Rattle.sm_tree.specs.Events.{NodeEvent, events, entries_events, pairs_events, key_event, text_event}
 use Rattle.sm_tree.specs.Numbers.{NumberText}

@@ -3,11 +3,15 @@
 #![tactic(auto)]
 
 mod byte_form;
+#[cfg(test)]
+mod checker;
 mod escape;
 pub mod laws;
 mod length;
 mod place;
 mod plain;
+#[cfg(test)]
+mod prefix_tests;
 mod put;
 mod read;
 #[cfg(test)]

@@ -1,5 +1,4 @@
-use Rattle.std.proofs.Common.{◌≡◌, take, ap, subst, sym, get_or, ◌<◌, length, arith}
-use Rattle.sm_json.specs.Machine.{AllWhite}
+use Rattle.std.proofs.Common.{arith}
 use Rattle.sm_json.proofs.White.{whites_grow}
 use Rattle.sm_json.proofs.whitespace.white_run.Goals as goal
 

@@ -1,4 +1,4 @@
-use Rattle.std.proofs.Common.{sym, ap, ◌∙◌, refl, arith, append-nil}
+use Rattle.std.proofs.Common.{refl}
 use Rattle.sm_json.proofs.Readers.{entry_goes, entry_halts, list_end_goes}
 use Rattle.sm_json.proofs.read.Reader.after_entry.Goals as goal
 

@@ -1,4 +1,4 @@
-use Rattle.std.proofs.Common.{sym, ap, ◌∙◌, refl, arith, append-nil}
+use Rattle.std.proofs.Common.{refl}
 use Rattle.sm_json.proofs.Readers.{pair_goes, pair_halts, object_end_goes}
 use Rattle.sm_json.proofs.read.Reader.after_pair.Goals as goal
 

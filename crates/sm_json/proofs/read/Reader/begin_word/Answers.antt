@@ -1,4 +1,3 @@
-use Rattle.std.proofs.Common.{sym, ap, ◌∙◌, refl, arith, append-nil}
 use Rattle.sm_json.proofs.Readers.{word_goes}
 use Rattle.sm_json.proofs.read.Reader.begin_word.Goals as goal
 

@@ -1,4 +1,4 @@
-use Rattle.std.proofs.Common.{sym, ◌∙◌}
+use Rattle.std.proofs.Common.{sym}
 use Rattle.sm_json.proofs.Turns.{white_goes, takes_white_after}
 use Rattle.sm_json.proofs.read.Reader.behind.Goals as goal
 

@@ -1,4 +1,4 @@
-use Rattle.std.proofs.Common.{arith, sym, length-take, length-drop, ℕ}
+use Rattle.std.proofs.Common.{sym}
 use Rattle.sm_json.proofs.Turns.{white_run_takes}
 use Rattle.sm_json.proofs.read.Reader.between.Goals as goal
 

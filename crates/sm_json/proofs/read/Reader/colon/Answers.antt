@@ -1,4 +1,4 @@
-use Rattle.std.proofs.Common.{sym, ap, ◌∙◌, refl, arith, append-nil}
+use Rattle.std.proofs.Common.{refl}
 use Rattle.sm_json.proofs.Readers.{colon_goes, colon_halts}
 use Rattle.sm_json.proofs.read.Reader.colon.Goals as goal
 

@@ -1,4 +1,3 @@
-use Rattle.std.proofs.Common.{arith}
 use Rattle.sm_json.proofs.Turns.{turn_goes, refused_in_turn}
 use Rattle.sm_json.proofs.read.Reader.feed.Goals as goal
 

@@ -1,4 +1,3 @@
-use Rattle.std.proofs.Common.{arith}
 use Rattle.sm_json.proofs.Turns.{cut_short}
 use Rattle.sm_json.proofs.read.Reader.finish_value.Goals as goal
 

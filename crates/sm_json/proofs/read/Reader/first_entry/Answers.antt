@@ -1,4 +1,3 @@
-use Rattle.std.proofs.Common.{sym, ap, ◌∙◌, refl, arith, append-nil}
 use Rattle.sm_json.proofs.Readers.{empty_list_goes, first_entry_takes}
 use Rattle.sm_json.proofs.read.Reader.first_entry.Goals as goal
 

@@ -1,5 +1,4 @@
-use Rattle.std.proofs.Common.{arith, subst, sym, Err}
-use Rattle.sm_json.specs.Machine.{TakesFront}
+use Rattle.std.proofs.Common.{arith}
 use Rattle.sm_json.proofs.Turns.{then_byte_goes, refused_later}
 use Rattle.sm_json.proofs.read.Reader.number.Goals as goal
 

@@ -1,4 +1,4 @@
-use Rattle.std.proofs.Common.{arith, sym, length, subst, refl}
+use Rattle.std.proofs.Common.{arith, sym, length, subst}
 use Rattle.std.proofs.lemmas.List.{take_all}
 use Rattle.sm_json.specs.Machine.{Goes}
 use Rattle.sm_json.proofs.Turns.{string_over, string_on, string_refused}
