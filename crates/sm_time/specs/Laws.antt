@@ -1,0 +1,24 @@
+-- Laws of the definitions: the two ways to state the calendar agree, a text shows one form and is of one stamp,
+-- and what is written for a stamp is a text of it.
+use Rattle.std.specs.Prelude.{◌≡◌, ℕ, List, ℤ}
+use Rattle.sm_time.specs.declared.format.Format.{Format}
+use Rattle.sm_time.specs.Calendar.{Date, IsDate, day_count, date_of}
+use Rattle.sm_time.specs.TimeText.{Form, Shows, TimeText, IsStamp}
+use Rattle.sm_time.specs.Written.{written, IsWritable}
+
+-- the date after so many days is that many days after the first
+abbrev pub CountOfDate : Type 0
+CountOfDate = (n : ℕ) → day_count (date_of n) ≡ n
+
+-- a date is the one after its count of days
+abbrev pub DateOfCount : Type 0
+DateOfCount = (d : Date) → IsDate d → date_of (day_count d) ≡ d
+
+abbrev pub OneForm : Type 0
+OneForm = (format : Format) (text : List ℕ) (a b : Form) → Shows format text a → Shows format text b → a ≡ b
+
+abbrev pub OneReading : Type 0
+OneReading = (format : Format) (text : List ℕ) (a b : ℤ) → TimeText format a text → TimeText format b text → a ≡ b
+
+abbrev pub WrittenIsText : Type 0
+WrittenIsText = (format : Format) (ms : ℤ) → IsStamp ms → IsWritable format ms → TimeText format ms (written format ms)
