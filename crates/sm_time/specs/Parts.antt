@@ -1,11 +1,11 @@
 -- The parts that the readers take a text apart into. Private functions alone cite them.
-use Rattle.std.specs.Prelude.{◌≡◌, ◌≢◌, ℕ, ◌*◌, ◌+◌, ◌<◌, ◌≤◌, ◌⊎◌, List, [], ◌∷◌, ◌++◌, ℤ, Option, Some, None}
+use Rattle.std.specs.Prelude.{◌≡◌, ◌≢◌, ℕ, ◌*◌, ◌+◌, ◌<◌, ◌≤◌, ◌⊎◌, List, [], ◌∷◌, ◌++◌, ℤ, pos, neg_ℤ, ◌≤ℤ◌, Option, Some, None}
 use Rattle.std.specs.Char.{digit_value}
 use Rattle.std.specs.Str.Parse.{AllDigits}
 use Rattle.sm_time.specs.declared.civil.Civil.{Civil}
-use Rattle.sm_time.specs.declared.format.Format.TheVariants.{DateTime, EpochSeconds}
+use Rattle.sm_time.specs.declared.format.Format.TheVariants.{DateTime}
 use Rattle.sm_time.specs.Civil.{IsCivil, second_count, clock_text, two_digits}
-use Rattle.sm_time.specs.TimeText.{Form, clock, number, Shows, Zone, IsZone, zone_text, offset, fraction_text}
+use Rattle.sm_time.specs.TimeText.{clock, Shows, Zone, IsZone, zone_text, offset, fraction_text}
 
 -- no digit comes first
 abbrev pub NoDigitFirst : List ℕ → Type 0
@@ -53,3 +53,7 @@ abbrev pub ShowsClock : List ℕ → ℕ → List ℕ → ℤ → Type 0
 ShowsClock text seconds digits ahead_by =
     (letter : ℕ) × (c : Civil) × (zone : Zone) × Shows DateTime text (clock letter c digits zone)
     × (seconds ≡ second_count c) × (ahead_by ≡ offset zone)
+
+-- less than a day, either way
+abbrev pub IsOffset : ℤ → Type 0
+IsOffset ms = (neg_ℤ (pos 86_340_000) ≤ℤ ms) × (ms ≤ℤ pos 86_340_000)

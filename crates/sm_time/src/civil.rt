@@ -1,7 +1,7 @@
 // A date with a time of day: to and from seconds, and its text. Both formats with a clock stand on it.
-ghost use Rattle.std.specs.Prelude.{◌≡◌, ◌+◌, ◌/◌, ◌%◌, ℕ, ◌<◌, MatchOption};
+ghost use Rattle.std.specs.Prelude.{◌≡◌, ◌+◌, ◌/◌, ◌%◌, ℕ, ◌<◌, ◌↔◌, IsTrue, IfSome, MatchOption};
 ghost use Rattle.sm_time.specs.Civil.{IsCivil, second_count, civil_of, clock_text};
-ghost use Rattle.sm_time.specs.Parts.{ClockSeconds};
+ghost use Rattle.sm_time.specs.Parts.{ClockSeconds, IsLetter};
 
 use jiff_core::civil::Date;
 
@@ -41,8 +41,9 @@ impl Civil {
 
     /// The seconds from 0000-01-01T00:00:00, where the calendar has the day and the clock the time.
     pub fn seconds(self) -> Option<u64>
-        ensures { MatchOption result (¬ (IsCivil self))
+        ensures value { MatchOption result (¬ (IsCivil self))
             (λ seconds. IsCivil self × (seconds ≡ second_count self)) }
+        ensures bound { IfSome result (λ seconds. seconds < 315_569_520_000) }
     {
         if self.year > 9999 || self.month > 12 || self.day > 31 {
             return None;
@@ -112,10 +113,11 @@ fn pair(tens: u8, ones: u8) -> u8
 
 /// The seconds from 0000-01-01T00:00:00 to what the text of a clock shows, or `None` where it shows none.
 pub fn clock_seconds(text: &[u8; 19]) -> Option<u64>
-    ensures { ClockSeconds text.now result }
+    ensures value { ClockSeconds text.now result }
+    ensures bound { IfSome result (λ seconds. seconds < 315_569_520_000) }
 {
     let letter = text[10];
-    if letter != b'T' && letter != b't' {
+    if !is_letter(letter) {
         return None;
     }
     let civil = Civil::supposed(text);
@@ -127,4 +129,10 @@ pub fn clock_seconds(text: &[u8; 19]) -> Option<u64>
     } else {
         None
     }
+}
+
+fn is_letter(byte: u8) -> bool
+    ensures { IsTrue result ↔ IsLetter byte }
+{
+    byte == b'T' || byte == b't'
 }

@@ -1,10 +1,11 @@
 // The format date-time (RFC 3339, section 5.6), read and written. `Stamp` stands on it.
-ghost use Rattle.std.specs.Prelude.{◌≡◌, take, drop, length, MatchOption};
+ghost use Rattle.std.specs.Prelude.{◌≡◌, ◌<◌, ◌≤◌, ◌+◌, ◌++◌, take, drop, length, pos, ◌+ℤ◌, ◌-ℤ◌, IfSome, MatchOption};
+ghost use Rattle.std.specs.Str.Parse.{AllDigits};
 ghost use Rattle.sm_time.specs.declared.format.Format.TheVariants.{DateTime};
-ghost use Rattle.sm_time.specs.TimeText.{Form, Shows};
+ghost use Rattle.sm_time.specs.TimeText.{Form, Shows, fraction_text, from_1970};
 ghost use Rattle.sm_time.specs.Answers.{Reads};
-ghost use Rattle.sm_time.specs.Parts.{ShowsClock};
-ghost use Rattle.sm_time.specs.Written.{written};
+ghost use Rattle.sm_time.specs.Parts.{ShowsClock, IsOffset};
+ghost use Rattle.sm_time.specs.Written.{written, fixed_digits};
 
 use crate::civil::{Civil, clock_seconds};
 use crate::digits::{put, put_fraction, split_fraction, three_digits_of, whole_millis};
@@ -24,8 +25,11 @@ struct Shown<'a> {
 }
 
 fn take_apart(text: &[u8]) -> Option<Shown<'_>>
-    ensures { MatchOption result ((form : Form) → ¬ (Shows DateTime text.now form))
+    ensures form { MatchOption result ((form : Form) → ¬ (Shows DateTime text.now form))
         (λ s. ShowsClock text.now s.seconds s.digits.now s.offset) }
+    ensures digits { IfSome result (λ s. AllDigits 10 s.digits.now) }
+    ensures seconds { IfSome result (λ s. s.seconds < 315_569_520_000) }
+    ensures offset { IfSome result (λ s. IsOffset s.offset) }
 {
     let (clock, rest) = text.split_first_chunk::<19>()?;
     let seconds = clock_seconds(clock)?;
@@ -48,8 +52,20 @@ pub fn read(text: &[u8]) -> Result<Stamp, TimeRefusal>
     let Some(millis) = whole_millis(shown.digits) else {
         return Err(TimeRefusal::TooFine);
     };
-    let local = shown.seconds as i64 * 1000 + millis as i64 + FIRST;
-    Stamp::new(local - shown.offset).ok_or(TimeRefusal::OutOfRange)
+    match Stamp::new(moment_of(shown.seconds, millis, shown.offset)) {
+        Some(stamp) => Ok(stamp),
+        None => Err(TimeRefusal::OutOfRange),
+    }
+}
+
+// The milliseconds from 1970 of what a clock shows that is so many milliseconds ahead of UTC.
+fn moment_of(seconds: u64, millis: u16, offset: i64) -> i64
+    requires seconds { seconds < 315_569_520_000 }
+    requires millis { millis < 1000 }
+    requires offset { IsOffset offset }
+    ensures { result ≡ from_1970 seconds +ℤ pos millis -ℤ offset }
+{
+    seconds as i64 * 1000 + millis as i64 + FIRST - offset
 }
 
 /// Writes a stamp as a date-time to the front of `out`, and gives its length.
@@ -60,12 +76,21 @@ pub fn write(stamp: Stamp, out: &mut [u8; 32]) -> usize
 {
     let since = (stamp.milliseconds() - FIRST) as u64;
     let at = put(out, 0, &Civil::at(since / 1000).text(b'T'));
-    let three = three_digits_of((since % 1000) as u16);
-    let digits = if since % 1000 == 0 {
-        &three[..0]
-    } else {
-        &three[..]
-    };
-    let at = put_fraction(out, at, digits);
+    let at = put_millis(out, at, (since % 1000) as u16);
     put(out, at, b"Z")
+}
+
+// Puts milliseconds as a fraction of three digits, or nothing where they are 0.
+fn put_millis(out: &mut [u8], at: usize, millis: u16) -> usize
+    requires small { millis < 1000 }
+    requires room { at + 4 ≤ length out.old }
+    ensures next { result ≡ at + length (fraction_text (fixed_digits millis)) }
+    ensures bound { result ≤ at + 4 }
+    ensures text { take result out.new ≡ take at out.old ++ fraction_text (fixed_digits millis) }
+    ensures after { drop result out.new ≡ drop result out.old }
+{
+    if millis == 0 {
+        return at;
+    }
+    put_fraction(out, at, &three_digits_of(millis))
 }

@@ -1,5 +1,6 @@
 // Digits of fractions, and bytes put into a buffer. Both ends of date-time and epoch-seconds stand on it.
-ghost use Rattle.std.specs.Prelude.{◌≡◌, ◌+◌, ◌<◌, ◌≤◌, ◌++◌, length, take, drop, MatchOption};
+ghost use Rattle.std.specs.Prelude.{◌≡◌, ◌+◌, ◌<◌, ◌≤◌, ◌++◌, length, take, drop, MatchOption, IsTrue, ◌↔◌};
+ghost use Rattle.std.specs.Char.{digit_value};
 ghost use Rattle.std.specs.Str.Parse.{AllDigits};
 ghost use Rattle.sm_time.specs.TimeText.{IsWholeMillis, thousandths, fraction_text};
 ghost use Rattle.sm_time.specs.Written.{three_digits};
@@ -42,19 +43,42 @@ pub fn whole_millis(digits: &[u8]) -> Option<u16>
     ensures { MatchOption result (¬ (IsWholeMillis digits.now))
         (λ ms. IsWholeMillis digits.now × (ms ≡ thousandths digits.now) × (ms < 1000)) }
 {
-    if digits.len() > 3 && digits[3..].iter().any(|digit| *digit != b'0') {
+    if !is_whole(digits) {
         return None;
     }
-    let mut millis = 0;
-    for i in 0..3 {
-        let digit = if i < digits.len() {
-            digits[i] - b'0'
-        } else {
-            0
-        };
-        millis = millis * 10 + digit as u16;
+    Some(first_three(digits))
+}
+
+fn is_whole(digits: &[u8]) -> bool
+    ensures { IsTrue result ↔ IsWholeMillis digits.now }
+{
+    match digits {
+        [_, _, _, rest @ ..] => rest.iter().all(|digit| *digit == b'0'),
+        _ => true,
     }
-    Some(millis)
+}
+
+// The first three digits, with zeros where there are fewer.
+fn first_three(digits: &[u8]) -> u16
+    requires { AllDigits 10 digits.now }
+    ensures value { result ≡ thousandths digits.now }
+    ensures bound { result < 1000 }
+{
+    match digits {
+        [] => 0,
+        [a] => value_of(*a) * 100,
+        [a, b] => value_of(*a) * 100 + value_of(*b) * 10,
+        [a, b, c, ..] => value_of(*a) * 100 + value_of(*b) * 10 + value_of(*c),
+    }
+}
+
+/// The value of a digit.
+pub fn value_of(digit: u8) -> u16
+    requires { digit_value digit < 10 }
+    ensures value { result ≡ digit_value digit }
+    ensures bound { result < 10 }
+{
+    (digit - b'0') as u16
 }
 
 /// Three digits of a number below 1000.

@@ -1,13 +1,15 @@
 // The format epoch-seconds (a number of RFC 8259, section 6, without an exponent), read and written. `Stamp`
 // stands on it.
-ghost use Rattle.std.specs.Prelude.{◌≡◌, ◌≢◌, ℕ, ◌^◌, ◌-◌, ◌/◌, ◌%◌, ◌<◌, ◌++◌, [], min, take, drop, length, slice_index, false, MatchOption, if◌then◌else◌, codes};
+ghost use Rattle.std.specs.Prelude.{◌≡◌, ◌≢◌, ℕ, ◌^◌, ◌-◌, ◌/◌, ◌%◌, ◌<◌, ◌++◌, [], min, take, drop, length, slice_index, false, IsTrue, ◌↔◌, ◌+◌, ◌≤◌, pos, neg_ℤ, MatchOption, if◌then◌else◌, codes};
 ghost use Rattle.std.specs.Str.Parse.{AllDigits, digits_value};
 ghost use Rattle.sm_time.specs.declared.format.Format.TheVariants.{EpochSeconds};
-ghost use Rattle.sm_time.specs.TimeText.{Form, number, Shows};
+ghost use Rattle.sm_time.specs.TimeText.{Form, number, Shows, IsInt, fraction_text};
 ghost use Rattle.sm_time.specs.Answers.{Reads};
 ghost use Rattle.sm_time.specs.Written.{written, three_digits, short_digits};
 
-use crate::digits::{digit_run, put, put_fraction, split_fraction, three_digits_of, whole_millis};
+use crate::digits::{
+    digit_run, put, put_fraction, split_fraction, three_digits_of, value_of, whole_millis,
+};
 use crate::{Stamp, TimeRefusal};
 use itoa::Buffer;
 
@@ -31,7 +33,7 @@ fn take_apart(text: &[u8]) -> Option<Shown<'_>>
 {
     let (negative, rest) = split_minus(text);
     let (int, rest) = rest.split_at(digit_run(rest));
-    if int.is_empty() || (int[0] == b'0' && int.len() > 1) {
+    if !is_int(int) {
         return None;
     }
     let (digits, rest) = split_fraction(rest);
@@ -48,7 +50,7 @@ fn take_apart(text: &[u8]) -> Option<Shown<'_>>
 // Whether a minus stands first, and what comes after it.
 fn split_minus(text: &[u8]) -> (bool, &[u8])
     ensures parts { text.now ≡ (if result.0 then codes "-" else []) ++ result.1.now }
-    ensures only { result.0 ≡ false → slice_index text.now 0 ≢ 45 }
+    ensures only { result.0 ≡ false → slice_index result.1.now 0 ≢ 45 }
 {
     match text {
         [b'-', rest @ ..] => (true, rest),
@@ -56,8 +58,19 @@ fn split_minus(text: &[u8]) -> (bool, &[u8])
     }
 }
 
+// Whether digits are those of a number: there are some, and a first 0 stands alone.
+fn is_int(digits: &[u8]) -> bool
+    requires { AllDigits 10 digits.now }
+    ensures { IsTrue result ↔ IsInt digits.now }
+{
+    match digits {
+        [] | [b'0', _, ..] => false,
+        _ => true,
+    }
+}
+
 // The number that the digits show, or the greatest word where 64 bits don't hold it.
-fn value_of(digits: &[u8]) -> u64
+fn seconds_of(digits: &[u8]) -> u64
     requires { AllDigits 10 digits.now }
     ensures { result ≡ min (digits_value 10 digits.now) (2 ^ 64 - 1) }
 {
@@ -65,7 +78,7 @@ fn value_of(digits: &[u8]) -> u64
     for digit in digits {
         value = value
             .saturating_mul(10)
-            .saturating_add((*digit - b'0') as u64);
+            .saturating_add(value_of(*digit) as u64);
     }
     value
 }
@@ -80,14 +93,22 @@ pub fn read(text: &[u8]) -> Result<Stamp, TimeRefusal>
     let Some(millis) = whole_millis(shown.digits) else {
         return Err(TimeRefusal::TooFine);
     };
-    let seconds = value_of(shown.int).min(FAR);
-    let magnitude = seconds as i64 * 1000 + millis as i64;
-    let milliseconds = if shown.negative {
-        -magnitude
+    let seconds = seconds_of(shown.int).min(FAR);
+    match Stamp::new(signed(shown.negative, seconds * 1000 + millis as u64)) {
+        Some(stamp) => Ok(stamp),
+        None => Err(TimeRefusal::OutOfRange),
+    }
+}
+
+fn signed(negative: bool, magnitude: u64) -> i64
+    requires { magnitude < 2 ^ 63 }
+    ensures { result ≡ (if negative then neg_ℤ (pos magnitude) else pos magnitude) }
+{
+    if negative {
+        -(magnitude as i64)
     } else {
-        magnitude
-    };
-    Stamp::new(milliseconds).ok_or(TimeRefusal::OutOfRange)
+        magnitude as i64
+    }
 }
 
 /// Writes a stamp as seconds to the front of `out`, and gives the text's length.
@@ -101,8 +122,19 @@ pub fn write(stamp: Stamp, out: &mut [u8; 32]) -> usize
     let at = put_sign(out, milliseconds < 0);
     let mut buffer = Buffer::new();
     let at = put(out, at, buffer.format(magnitude / 1000).as_bytes());
-    let three = three_digits_of((magnitude % 1000) as u16);
-    put_fraction(out, at, without_zeros(&three))
+    put_millis(out, at, (magnitude % 1000) as u16)
+}
+
+// Puts milliseconds as a fraction without trailing zeros, or nothing where they are 0.
+fn put_millis(out: &mut [u8], at: usize, millis: u16) -> usize
+    requires small { millis < 1000 }
+    requires room { at + 4 ≤ length out.old }
+    ensures next { result ≡ at + length (fraction_text (short_digits millis)) }
+    ensures bound { result ≤ at + 4 }
+    ensures text { take result out.new ≡ take at out.old ++ fraction_text (short_digits millis) }
+    ensures after { drop result out.new ≡ drop result out.old }
+{
+    put_fraction(out, at, without_zeros(&three_digits_of(millis)))
 }
 
 // Puts a minus to the front where one is owed.

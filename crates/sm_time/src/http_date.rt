@@ -16,7 +16,10 @@ pub fn read(text: &[u8]) -> Result<Stamp, TimeRefusal>
     if date.to_bytes().as_slice() != text {
         return Err(TimeRefusal::BadText);
     }
-    Stamp::new(date.unix_secs() as i64 * 1000).ok_or(TimeRefusal::OutOfRange)
+    match Stamp::new(date.unix_secs() as i64 * 1000) {
+        Some(stamp) => Ok(stamp),
+        None => Err(TimeRefusal::OutOfRange),
+    }
 }
 
 /// Writes a stamp as an http-date, as `Stamp::write_into` says.
@@ -24,10 +27,14 @@ pub fn write(stamp: Stamp, out: &mut [u8; 32]) -> Result<usize, TimeRefusal>
     ensures { Writes HttpDate stamp out.old out.new result }
 {
     let milliseconds = stamp.milliseconds();
-    if milliseconds < 0 || milliseconds % 1000 != 0 {
+    if milliseconds < 0 {
         return Err(TimeRefusal::OutOfFormat);
     }
-    let Ok(date) = httpdate::HttpDate::from_unix_secs(milliseconds as u64 / 1000) else {
+    let elapsed = milliseconds as u64;
+    if elapsed % 1000 != 0 {
+        return Err(TimeRefusal::OutOfFormat);
+    }
+    let Ok(date) = httpdate::HttpDate::from_unix_secs(elapsed / 1000) else {
         return Err(TimeRefusal::OutOfFormat);
     };
     Ok(put(out, 0, &date.to_bytes()))

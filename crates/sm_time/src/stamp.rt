@@ -7,7 +7,7 @@ use crate::{Format, TimeRefusal, date_time, epoch_seconds, http_date};
 use std::marker::Model;
 
 /// The first millisecond of the year 0000.
-pub const FIRST: i64 = -62_167_219_200_000;
+pub(crate) const FIRST: i64 = -62_167_219_200_000;
 
 /// The last millisecond of the year 9999.
 const LAST: i64 = 253_402_300_799_999;

@@ -1,10 +1,11 @@
 // The zone at the end of a date-time (RFC 3339, section 5.6). Reading date-time stands on it.
-ghost use Rattle.std.specs.Prelude.{[], ◌∷◌};
-ghost use Rattle.sm_time.specs.Parts.{TwoDigits, ClockOffset, ZoneOffset};
+ghost use Rattle.std.specs.Prelude.{[], ◌∷◌, ◌≤◌, IfSome};
+ghost use Rattle.sm_time.specs.Parts.{TwoDigits, ClockOffset, ZoneOffset, IsOffset};
 
 /// The milliseconds by which a zone's clock is ahead of UTC, or `None` where the text is no zone.
 pub fn zone_offset(text: &[u8]) -> Option<i64>
-    ensures { ZoneOffset text.now result }
+    ensures value { ZoneOffset text.now result }
+    ensures bounds { IfSome result IsOffset }
 {
     match text {
         b"Z" | b"z" => Some(0),
@@ -22,7 +23,8 @@ pub fn zone_offset(text: &[u8]) -> Option<i64>
 
 // The milliseconds of hours and minutes, by their digits.
 fn clock_offset(hours: [u8; 2], minutes: [u8; 2]) -> Option<u32>
-    ensures { ClockOffset hours minutes result }
+    ensures value { ClockOffset hours minutes result }
+    ensures bound { IfSome result (λ ms. ms ≤ 86_340_000) }
 {
     let hours = two_digits(hours[0], hours[1])?;
     let minutes = two_digits(minutes[0], minutes[1])?;
