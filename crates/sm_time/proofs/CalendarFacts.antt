@@ -11,11 +11,13 @@ pub record IsDay (d : Date) : Type 0 where
   pub first_day : 1 ≤ d.day
   pub last_day : d.day ≤ days_in_month d.year d.month
 
+-- a month more
 days_of_months_more : (y m : ℕ) → 1 ≤ m → days_of_months y m ≡ days_of_months y (m - 1) + days_in_month y m
 unfolding days_of_months
 days_of_months_more y zero h = absurd (omega arith)
 days_of_months_more y (suc m) h = let back : suc m - 1 ≡ m = omega arith in rw back
 
+-- no month has no days
 days_of_months_zero : (y : ℕ) → days_of_months y 0 ≡ 0
 unfolding days_of_months
 days_of_months_zero y = refl
@@ -25,6 +27,7 @@ days_of_months_all : (y : ℕ) → days_of_months y 12 ≡ days_in_year y
 unfolding days_of_months
 days_of_months_all y = grind arith
 
+-- more months have no fewer days
 days_of_months_mono : (y m k : ℕ) → days_of_months y m ≤ days_of_months y (m + k)
 unfolding days_of_months
 days_of_months_mono y m zero = let same : m + 0 ≡ m = omega arith in rw same (omega arith)
@@ -40,10 +43,12 @@ before_month y m d later low first last h =
     let same : m + (later - m) ≡ later = omega arith in
     omega (arith, days_of_months_more y m low, rw same at up)
 
+-- a year more
 days_before_year_suc : (y : ℕ) → days_before_year (suc y) ≡ days_before_year y + days_in_year y
 unfolding days_before_year
 days_before_year_suc y = refl
 
+-- a later year has no fewer days before it
 pub days_before_year_mono : (y k : ℕ) → days_before_year y ≤ days_before_year (y + k)
 days_before_year_mono y zero = let same : y + 0 ≡ y = omega arith in rw same (omega arith)
 days_before_year_mono y (suc k) =
@@ -73,20 +78,25 @@ one_day a b h k e =
     let day : a.day ≡ b.day = omega (arith, ap (λ m. days_of_months a.year (m - 1)) month, places, h.first_day, k.first_day) in
     λ i. record { year = year i; month = month i; day = day i }
 
+-- the first day is a day
 first_day : IsDay (date_of 0)
 unfolding date_of
 first_day = record { first_month = omega arith; last_month = omega arith; first_day = omega arith; last_day = omega arith }
 
+-- and has no day before it
 first_count : day_count (date_of 0) ≡ 0
 unfolding date_of days_before_year days_of_months
 first_count = refl
 
+-- each month has a day
 days_bound : (y m : ℕ) → 1 ≤ days_in_month y m
 days_bound y m = grind arith
 
+-- what the test of `<` says where it holds
 under : (m n : ℕ) → nat_lt m n ≡ true → m < n
 under m n h = grind (arith, nat_tests)
 
+-- and where it fails
 not_under : (m n : ℕ) → nat_lt m n ≡ false → n ≤ m
 not_under m n h = grind (arith, nat_tests)
 
@@ -122,6 +132,7 @@ next_day_is d false false e f h =
       )),
     )
 
+-- the date after so many days is a day, and has that count
 pub days_of_date : (n : ℕ) → IsDay (date_of n) × (day_count (date_of n) ≡ n)
 unfolding date_of
 days_of_date zero = (first_day, first_count)
@@ -130,6 +141,7 @@ days_of_date (suc n) =
     let next = next_day_is (date_of n) _ _ refl refl before.0 in
     (next.0, next.1 ∙ omega (arith, before.1))
 
+-- a date of the years of four digits is a day
 pub day_of : (d : Date) → IsDate d → IsDay d
 day_of d h = record { first_month = h.1; last_month = h.2; first_day = h.3; last_day = h.4 }
 

@@ -12,6 +12,7 @@ use Rattle.httpdate.specs.Calendar.{days_of_years as http_years, days_of_months 
 use Rattle.sm_time.specs.Calendar.{Date, IsDate, days_in_month, days_before_year, days_of_months, day_count, date_of}
 use Rattle.sm_time.proofs.CalendarFacts.{IsDay, day_of, date_of_days}
 
+-- `jiff_core`'s months have the same days
 jiff_months_are : (y n : ℕ) → jiff_months (pos y) n ≡ days_of_months y n
 unfolding jiff_months days_of_months
 jiff_months_are y zero = refl
@@ -26,6 +27,7 @@ jiff_years_are (suc y) =
     let year : pos (y + 10000) -ℤ pos 10000 ≡ pos y = omega (arith, signed_arith) in
     rw (next, year) (omega (arith, jiff_years_are y))
 
+-- and its count is this one, from the year 0
 jiff_count_is : (d : Date) → IsDay d → jiff_count (pos d.year) d.month d.day ≡ day_count d + 3_652_425
 unfolding jiff_count
 jiff_count_is d h = omega (arith, jiff_years_are d.year, jiff_months_are d.year (d.month - 1), h.first_day)
@@ -34,19 +36,23 @@ jiff_count_is d h = omega (arith, jiff_years_are d.year, jiff_months_are d.year 
 jiff_days : (date : JiffDate) (n : ℕ) → epoch_day date +ℤ pos 4_371_587 ≡ pos n → jiff_count date.year date.month date.day ≡ n + 366
 jiff_days date n e = omega (arith, signed_arith, days_from_civil-day_count date.year date.month date.day)
 
+-- no year comes before the year 0
 year_0 : days_before_year 0 ≡ 0
 unfolding days_before_year
 year_0 = refl
 
+-- nor a month before its first
 months_0 : days_of_months 0 0 ≡ 0
 unfolding days_of_months
 months_0 = refl
 
+-- the count of 1 January of the year 0
 first_count : jiff_count (pos 0) 1 1 ≡ 3_652_425
 first_count =
     let first : IsDay (record { year = 0; month = 1; day = 1 }) = record { first_month = omega arith; last_month = omega arith; first_day = omega arith; last_day = omega arith } in
     jiff_count_is (record { year = 0; month = 1; day = 1 }) first ∙ omega (arith, year_0, months_0)
 
+-- a date of that count, in plain variables
 date_at : (y : ℤ) (m d n : ℕ) → IsCivilDate y m d → jiff_count y m d ≡ n + 3_652_425 → (pos 0 ≤ℤ y) × (date_of n ≡ record { year = unsigned_abs y; month = m; day = d })
 date_at (pos a) m d n h e =
     let day : IsDay (record { year = a; month = m; day = d }) = record { first_month = h.1.0; last_month = h.1.1; first_day = h.2.0; last_day = h.2.1 } in
@@ -64,6 +70,7 @@ jiff_days_of date d n e year month day h =
     let count : jiff_count (pos d.year) d.month d.day ≡ n + 366 = rw (← year, ← month, ← day) (jiff_days date n e) in
     omega (arith, count, jiff_count_is d (day_of d h))
 
+-- `jiff_core`'s years have four digits
 pub small_year : (y : ℤ) → IsYear y → unsigned_abs y ≤ 9999
 small_year (pos a) h = omega (arith, signed_arith)
 small_year (negsuc a) h = omega (arith, signed_arith)
@@ -82,11 +89,13 @@ date_shown date d n y31 m31 d31 shown e =
     let is : IsDate d = (y31, there.1.0, there.1.1, there.2.0, there.2.1) in
     (is, jiff_days_of date d n e year month day is)
 
+-- `httpdate`'s months have the same days
 http_months_are : (y n : ℕ) → http_months y n ≡ days_of_months y n
 unfolding http_months days_of_months
 http_months_are y zero = refl
 http_months_are y (suc n) = ap (λ k. k + days_in_month y (suc n)) (http_months_are y n)
 
+-- the days before the year 1970
 pub days_before_1970 : days_before_year 1970 ≡ 719_528
 unfolding days_before_year
 days_before_1970 = refl
@@ -99,6 +108,7 @@ http_years_are (suc n) =
     let next : 1970 + suc n ≡ suc (1970 + n) = omega arith in
     rw next (omega (arith, http_years_are n))
 
+-- its days are counted from 1970
 pub http_days_are : (d : Date) → 1970 ≤ d.year → http_days d.year d.month d.day + 719_528 ≡ day_count d
 http_days_are d h =
     let same : 1970 + (d.year - 1970) ≡ d.year = omega arith in

@@ -17,23 +17,29 @@ use Rattle.sm_time.specs.Answers.{Reads}
 use Rattle.sm_time.proofs.CalendarLinks.{http_days_are}
 use Rattle.sm_time.proofs.Civils.{civil_of_count}
 
+-- what the clock of a date shows
 abbrev pub civil_in : Parts → Civil
 civil_in p = record { year = p.year; month = p.mon; day = p.day; hour = p.hour; minute = p.min; second = p.sec }
 
+-- the weekday of a date, from 0 for Monday
 weekday_is : (p : Parts) → 1970 ≤ p.year → p.wday ≡ http_weekday (days_from_civil p.year p.mon p.day) → p.wday - 1 ≡ weekday (day_count (date_in (civil_in p)))
 weekday_is p h e = omega (arith, http_days_are (date_in (civil_in p)) h)
 
+-- the text of a date is the IMF-fixdate of its clock
 pub text_is : (p : Parts) → 1970 ≤ p.year → p.wday ≡ http_weekday (days_from_civil p.year p.mon p.day) → http_fixdate p ≡ imf_fixdate (civil_in p)
 text_is p h e =
     ap (λ w. day_name w ++ codes ", " ++ two_digits p.day ++ codes " " ++ month_name p.mon ++ codes " " ++ four_digits p.year ++ codes " " ++ time_of_day (civil_in p) ++ codes " GMT")
     (weekday_is p h e)
 
+-- the calendar has a date's day
 pub civil_there : (d : Http) → IsCivil (civil_in d.parts)
 civil_there d = ((d.civil.0.1, d.civil.1.0, d.civil.1.1, d.civil.2.0, d.civil.2.1), d.time.0, d.time.1, d.time.2)
 
+-- a date's seconds are counted from 1970
 pub seconds_are : (d : Http) → second_count (civil_in d.parts) ≡ unix_secs d + 62_167_219_200
 seconds_are d = omega (arith, http_days_are (date_in (civil_in d.parts)) d.civil.0.0)
 
+-- the text that `httpdate` writes
 pub date_text_is : (d : Http) → date_text d ≡ imf_fixdate (civil_in d.parts)
 date_text_is d = text_is d.parts d.civil.0.0 d.right_day
 
@@ -44,6 +50,7 @@ http_of c h low =
     let d : Http = record { parts = p; civil = ((low, h.0.0), (h.0.1, h.0.2), (h.0.3, h.0.4)); time = (h.1, h.2, h.3); right_day = refl } in
     (d, text_is p low refl, refl)
 
+-- where `httpdate` reads no date, no form is shown
 pub no_date : (text : List ℕ) → ((d : Http) → IsDateText text d → ⊥) → (form : Form) → Shows HttpDate text form → ⊥
 no_date text none (clock letter c ds z) h = h.0
 no_date text none (gmt c) h = let there = http_of c h.0.0 h.0.1 in none there.0 (inl (h.1 ∙ sym there.1))
@@ -58,13 +65,16 @@ other_form text d shown other (gmt c) h =
     other (e ∙ ap http_fixdate (IsDateText_unique text there.0 d (inl e) shown))
 other_form text d shown other (number n i ds) h = h.0
 
+-- seconds from the year 0 as milliseconds from 1970
 from_seconds : (n secs : ℕ) → n ≡ secs + 62_167_219_200 → from_1970 n ≡ pos (secs * 1000)
 from_seconds n secs e = omega (arith, ints)
 
+-- whole seconds of a stamp from 1970 on
 since_is : (ms : ℤ) (secs : ℕ) → pos 0 ≤ℤ ms → unsigned_abs ms % 1000 ≡ 0 → secs ≡ unsigned_abs ms / 1000 → since_year_0 ms / 1000 ≡ secs + 62_167_219_200
 since_is (pos n) secs low whole e = omega arith
 since_is (negsuc n) secs low whole e = absurd (omega (arith, ints))
 
+-- a date that is written as the text gives its stamp
 pub date_read : (text : List ℕ) (d : Http) (ms : ℤ) → text ≡ date_text d → ms ≡ pos (unix_secs d * 1000) → IsStamp ms → Reads HttpDate text (Ok ms)
 date_read text d ms e m there =
     let same : moment (gmt (civil_in d.parts)) ≡ ms = from_seconds (second_count (civil_in d.parts)) (unix_secs d) (seconds_are d) ∙ sym m in

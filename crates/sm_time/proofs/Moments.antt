@@ -16,10 +16,12 @@ clock_moment text seconds digits millis ahead_by h e =
     ∙ ap (λ n. from_1970 seconds +ℤ pos n -ℤ offset h.2) (sym e)
     ∙ ap (λ o. from_1970 seconds +ℤ pos millis -ℤ o) (sym h.5)
 
+-- a moment in range is the stamp of a date-time
 pub clock_read : (text : List ℕ) (seconds : ℕ) (digits : List ℕ) (millis : ℕ) (ahead_by ms : ℤ) → ShowsClock text seconds digits ahead_by → IsWholeMillis digits → millis ≡ thousandths digits → ms ≡ from_1970 seconds +ℤ pos millis -ℤ ahead_by → IsStamp ms → Reads DateTime text (Ok ms)
 clock_read text seconds digits millis ahead_by ms h whole e m there =
     (clock h.0 h.1 digits h.2, h.3, whole, clock_moment text seconds digits millis ahead_by h e ∙ sym m, there)
 
+-- and one out of range is none
 pub clock_far : (text : List ℕ) (seconds : ℕ) (digits : List ℕ) (millis : ℕ) (ahead_by ms : ℤ) → ShowsClock text seconds digits ahead_by → IsWholeMillis digits → millis ≡ thousandths digits → ms ≡ from_1970 seconds +ℤ pos millis -ℤ ahead_by → (IsStamp ms → ⊥) → Reads DateTime text (Err OutOfRange)
 clock_far text seconds digits millis ahead_by ms h whole e m far =
     let P : ℤ → Type 0 = λ z. IsStamp z in
@@ -38,10 +40,12 @@ in_reach : (negative : Bool) (seconds millis : ℕ) → IsStamp (signed negative
 in_reach true seconds millis h = omega (arith, ints)
 in_reach false seconds millis h = omega (arith, ints)
 
+-- nor is an uncapped one beyond the cap
 within_cap : (negative : Bool) (seconds millis : ℕ) → IsStamp (signed negative (seconds * 1000 + millis)) → seconds ≡ capped seconds
 within_cap true seconds millis h = omega (arith, ints)
 within_cap false seconds millis h = omega (arith, ints)
 
+-- a number in range is the stamp of epoch-seconds
 pub number_read : (text : List ℕ) (negative : Bool) (int digits : List ℕ) (seconds millis : ℕ) (ms : ℤ) → Shows EpochSeconds text (number negative int digits) → IsWholeMillis digits → millis ≡ thousandths digits → seconds ≡ capped (digits_value 10 int) → ms ≡ signed negative (seconds * 1000 + millis) → IsStamp ms → Reads EpochSeconds text (Ok ms)
 number_read text negative int digits seconds millis ms h whole e cap m there =
     let P : ℤ → Type 0 = λ z. IsStamp z in
@@ -51,6 +55,7 @@ number_read text negative int digits seconds millis ms h whole e cap m there =
     ap (λ n. signed negative (digits_value 10 int * 1000 + n)) (sym e) ∙ ap (λ s. signed negative (s * 1000 + millis)) exact ∙ sym shown in
     (number negative int digits, h, whole, same, there)
 
+-- and one out of range is none
 pub number_far : (text : List ℕ) (negative : Bool) (int digits : List ℕ) (seconds millis : ℕ) (ms : ℤ) → Shows EpochSeconds text (number negative int digits) → IsWholeMillis digits → millis ≡ thousandths digits → seconds ≡ capped (digits_value 10 int) → ms ≡ signed negative (seconds * 1000 + millis) → (IsStamp ms → ⊥) → Reads EpochSeconds text (Err OutOfRange)
 number_far text negative int digits seconds millis ms h whole e cap m far =
     let P : ℤ → Type 0 = λ z. IsStamp z in

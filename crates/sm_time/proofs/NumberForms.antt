@@ -8,6 +8,7 @@ use Rattle.sm_time.specs.TimeText.{Form, clock, gmt, number, Shows, IsInt, fract
 use Rattle.sm_time.specs.Parts.{NoDigitFirst, SplitsFraction}
 use Rattle.sm_time.proofs.DigitFacts.{same_rest, one_run}
 
+-- a minus, or nothing
 abbrev pub sign_text : Bool → List ℕ
 sign_text negative = if negative then codes "-" else []
 
@@ -53,6 +54,7 @@ no_fraction text rest int tail ds left negative e f g digits ends split none (nu
     let one = one_number text rest int tail negative e f g digits ends n i es h in
     none (sym (split.only es [] h.0.1 tt (sym one.2 ∙ sym (append-nil (fraction_text es)))).1)
 
+-- a text is that of one fraction
 one_fraction : (ds es : List ℕ) → fraction_text ds ≡ fraction_text es → ds ≡ es
 one_fraction [] [] e = refl
 one_fraction [] (d ∷ es) e = absurd (omega (arith, ap length e))

@@ -9,9 +9,11 @@ use Rattle.sm_time.specs.Answers.{Reads}
 use Rattle.sm_time.proofs.OneReading.{one_form, one_reading}
 use Rattle.sm_time.proofs.WrittenTexts.{written_is_text}
 
+-- one form, so one answer to whether it is fine enough
 same_whole : (format : Format) (text : List ℕ) (a b : Form) → Shows format text a → Shows format text b → IsWholeMillis (digits_of a) → IsWholeMillis (digits_of b)
 same_whole format text a b h k whole = let P : Form → Type 0 = λ f. IsWholeMillis (digits_of f) in subst P (one_form format text a b h k) whole
 
+-- and to whether its moment is in range
 same_range : (format : Format) (text : List ℕ) (a b : Form) → Shows format text a → Shows format text b → IsStamp (moment a) → IsStamp (moment b)
 same_range format text a b h k there = let P : Form → Type 0 = λ f. IsStamp (moment f) in subst P (one_form format text a b h k) there
 
@@ -38,11 +40,13 @@ one_refusal format text OutOfRange OutOfRange h k = refl
 one_refusal format text OutOfRange OutOfFormat h k = absurd k
 one_refusal format text OutOfFormat e h k = absurd h
 
+-- two answers at a text are one
 pub one_answer : (format : Format) (text : List ℕ) (r s : Result ℤ TimeRefusal) → Reads format text r → Reads format text s → r ≡ s
 one_answer format text (Ok a) (Ok b) h k = ap Ok (one_reading format text a b h k)
 one_answer format text (Ok a) (Err e) h k = absurd (not_refused format text a e h k)
 one_answer format text (Err e) (Ok b) h k = absurd (not_refused format text b e k h)
 one_answer format text (Err d) (Err e) h k = ap Err (one_refusal format text d e h k)
 
+-- the answer at a written text is its stamp
 pub written_reads_back : (format : Format) (ms : ℤ) (r : Result ℤ TimeRefusal) → IsStamp ms → IsWritable format ms → Reads format (written format ms) r → r ≡ Ok ms
 written_reads_back format ms r h w reads = one_answer format (written format ms) r (Ok ms) reads (written_is_text format ms h w)

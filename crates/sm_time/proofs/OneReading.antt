@@ -7,6 +7,7 @@ use Rattle.sm_time.proofs.ClockForms.{one_clock}
 use Rattle.sm_time.proofs.HttpForms.{one_gmt}
 use Rattle.sm_time.proofs.NumberForms.{one_epoch}
 
+-- two forms of a text are one
 pub one_form : (format : Format) (text : List ℕ) (a b : Form) → Shows format text a → Shows format text b → a ≡ b
 one_form DateTime text (clock l c ds z) (clock l' c' ds' z') h k = one_clock text l c ds z l' c' ds' z' h k
 one_form DateTime text (clock l c ds z) (gmt d) h k = absurd k.0
@@ -24,5 +25,6 @@ one_form EpochSeconds text (number n i ds) (gmt d) h k = absurd k.0
 one_form EpochSeconds text (clock l d es z) b h k = absurd h.0
 one_form EpochSeconds text (gmt d) b h k = absurd h.0
 
+-- two stamps of a text are one
 pub one_reading : (format : Format) (text : List ℕ) (a b : ℤ) → TimeText format a text → TimeText format b text → a ≡ b
 one_reading format text a b h k = sym h.3 ∙ ap moment (one_form format text h.0 k.0 h.1 k.1) ∙ k.3
