@@ -12,6 +12,7 @@ pub record Date : Type 0 where
 abbrev pub is_leap_year : ℕ → Bool
 is_leap_year y = (y % 4 == 0) && (not (y % 100 == 0) || (y % 400 == 0))
 
+-- the days of a year
 abbrev pub days_in_year : ℕ → ℕ
 days_in_year y = if is_leap_year y then 366 else 365
 

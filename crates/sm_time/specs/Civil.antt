@@ -4,6 +4,7 @@ use Rattle.std.specs.Prelude.{ℕ, ◌+◌, ◌-◌, ◌*◌, ◌/◌, ◌%◌, 
 use Rattle.sm_time.specs.declared.civil.Civil.{Civil}
 use Rattle.sm_time.specs.Calendar.{Date, IsDate, day_count, date_of, weekday}
 
+-- its date
 abbrev pub date_in : Civil → Date
 date_in c = record { year = c.year; month = c.month; day = c.day }
 

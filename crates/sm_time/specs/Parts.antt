@@ -39,6 +39,7 @@ abbrev pub ZoneOffset : List ℕ → Option ℤ → Type 0
 ZoneOffset text (Some ms) = (zone : Zone) × IsZone zone × (text ≡ zone_text zone) × (ms ≡ offset zone)
 ZoneOffset text None = (zone : Zone) → IsZone zone → ¬ (text ≡ zone_text zone)
 
+-- the letter between date and time
 abbrev pub IsLetter : ℕ → Type 0
 IsLetter letter = (letter ≡ 84) ⊎ (letter ≡ 116)
 

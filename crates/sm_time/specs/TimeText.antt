@@ -17,12 +17,14 @@ pub data Zone : Type 0 where
   zulu small_zulu : Zone
   ahead behind : ℕ → ℕ → Zone
 
+-- how it is spelled
 abbrev pub zone_text : Zone → List ℕ
 zone_text zulu = codes "Z"
 zone_text small_zulu = codes "z"
 zone_text (ahead h m) = codes "+" ++ two_digits h ++ codes ":" ++ two_digits m
 zone_text (behind h m) = codes "-" ++ two_digits h ++ codes ":" ++ two_digits m
 
+-- hours to 23 and minutes to 59
 abbrev pub IsZone : Zone → Type 0
 IsZone zulu = Unit {0}
 IsZone small_zulu = Unit {0}
@@ -60,6 +62,7 @@ pub data Form : Type 0 where
   gmt : Civil → Form
   number : Bool → List ℕ → List ℕ → Form
 
+-- the text that shows it
 abbrev pub form_text : Form → List ℕ
 form_text (clock letter c digits zone) = clock_text letter c ++ fraction_text digits ++ zone_text zone
 form_text (gmt c) = imf_fixdate c

@@ -11,6 +11,7 @@ use Rattle.sm_time.specs.TimeText.{Form, clock, gmt, number, zulu, form_text}
 abbrev pub since_year_0 : ℤ → ℕ
 since_year_0 ms = unsigned_abs (ms +ℤ pos 62_167_219_200_000)
 
+-- three digits of a number below 1000
 abbrev pub three_digits : ℕ → List ℕ
 three_digits n = (48 + n / 100) ∷ (48 + n / 10 % 10) ∷ (48 + n % 10) ∷ []
 
@@ -23,6 +24,7 @@ abbrev pub short_digits : ℕ → List ℕ
 short_digits ms =
     if ms == 0 then [] else (if ms % 100 == 0 then take 1 (three_digits ms) else (if ms % 10 == 0 then take 2 (three_digits ms) else three_digits ms))
 
+-- a number below 0
 abbrev pub is_negative : ℤ → Bool
 is_negative (pos n) = false
 is_negative (negsuc n) = true
@@ -33,6 +35,7 @@ written_form DateTime ms = clock 84 (civil_of (since_year_0 ms / 1000)) (fixed_d
 written_form HttpDate ms = gmt (civil_of (since_year_0 ms / 1000))
 written_form EpochSeconds ms = number (is_negative ms) (decimal (unsigned_abs ms / 1000)) (short_digits (unsigned_abs ms % 1000))
 
+-- the text that is written
 abbrev pub written : Format → ℤ → List ℕ
 written format ms = form_text (written_form format ms)
 
