@@ -1,0 +1,14 @@
+pub mod CalendarFacts
+pub mod CalendarLinks
+pub mod DigitFacts
+pub mod Places
+pub mod ZoneFacts
+pub mod ClockForms
+pub mod Moments
+pub mod NumberForms
+pub mod ShortDigits
+pub mod Civils
+pub mod HttpForms
+pub mod OneReading
+pub mod WrittenTexts
+pub mod OneAnswer

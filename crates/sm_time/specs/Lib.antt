@@ -1,0 +1,7 @@
+pub mod Calendar
+pub mod Civil
+pub mod TimeText
+pub mod Written
+pub mod Answers
+pub mod Laws
+pub mod Parts
