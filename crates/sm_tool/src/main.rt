@@ -17,6 +17,7 @@ use sm_shapes::LiteralPatterns;
 use sm_tree::Text;
 use std::alloc::Global;
 use std::env;
+use std::io::ErrorKind;
 use std::process::ExitCode;
 
 /// What `--help` prints.
@@ -30,18 +31,28 @@ sm_tool --version
 /// What `--version` prints.
 const VERSION: &str = "sm_tool 0.1.0\n";
 
-// The program's words, without its own name.
-fn given_words(rt: &HostRuntime, alloc: Global) -> Option<Vec<Text>> {
-    let mut words = Vec::new(alloc);
-    let Ok(args) = env::args(rt) else {
-        return None;
+// The program's words, without its own name; or the status of a program that can't have them.
+fn given_words(rt: &HostRuntime, alloc: Global) -> Result<Vec<Text>, Status> {
+    let args = match env::args(rt) {
+        Ok(args) => args,
+        Err(error) => return Err(without_words(error.kind())),
     };
+    let mut words = Vec::new(alloc);
     for word in args.skip(1) {
-        if words.push(Text::new(word)).is_err() {
-            return None;
+        match words.push(Text::new(word)) {
+            Ok(()) => {}
+            Err(_) => return Err(Status::NoMemory),
         }
     }
-    Some(words)
+    Ok(words)
+}
+
+// Why there are no words: memory ran out, or an argument isn't a text, which makes a faulty command line.
+fn without_words(kind: ErrorKind) -> Status {
+    match kind {
+        ErrorKind::OutOfMemory => Status::NoMemory,
+        _ => Status::Usage,
+    }
 }
 
 // Prints a text on standard output.
@@ -89,8 +100,8 @@ fn answer(rt: &HostRuntime, words: &[Text]) -> u8 {
 
 fn main(rt: HostRuntime) -> ExitCode {
     let status = match given_words(&rt, rt.alloc()) {
-        Some(words) => answer(&rt, words.as_slice()),
-        None => Status::Usage.code(),
+        Ok(words) => answer(&rt, words.as_slice()),
+        Err(status) => status.code(),
     };
     if let Some(text) = complaint(status) {
         let _ = eprintln!(rt; "{text}");

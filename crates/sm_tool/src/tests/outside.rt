@@ -1,6 +1,8 @@
 // The outside fails: the k-th read, take or put, for each k until a run meets no failure. And the input comes in pieces.
 use super::*;
-use sm_io::read_all;
+use sm_io::{StdSource, read_all};
+use std::io;
+use std::io::Read;
 
 // One call that fails.
 fn only(alloc: Global, call: u64) -> Result<Vec<u64>, Fail> {
@@ -95,6 +97,24 @@ fn a_refusal_before_the_input_leaves_it_unread(rt: HostRuntime) -> Result<(), Fa
     Ok(())
 }
 
+// A reader that gives its bytes in pieces of at most one size.
+#[derive(Drop)]
+struct Pieces {
+    bytes: Vec<u8>,
+    at: usize,
+    size: usize,
+}
+
+impl Read for Pieces {
+    fn read(&mut self, buf: &mut [u8]) -> io::Result<usize> {
+        let left = self.bytes.get(self.at..).unwrap_or(&[]);
+        let count = left.len().min(buf.len()).min(self.size);
+        buf[..count].copy_from_slice(&left[..count]);
+        self.at = self.at.saturating_add(count);
+        Ok(count)
+    }
+}
+
 // A text of 10,002 bytes, so that also pieces of 4,096 bytes are several.
 fn long_body(alloc: Global) -> Result<Vec<u8>, Fail> {
     let mut body = Vec::new(alloc);
@@ -114,14 +134,26 @@ fn pieces_of_any_size_give_the_same_output(rt: HostRuntime) -> Result<(), Fail> 
     assert!(rt; whole.starts_with(br#"{"id":"xxx"#));
     assert!(rt; whole.ends_with(br#"xxx","sold":false}"#));
     assert_eq!(rt; whole.len(), 10_002);
-    for cut in [1u64, 2, 3, 4096] {
+    let words = words_of(alloc, &ITEM)?;
+    for size in [1, 2, 3, 4096] {
         let mut files = one_file(alloc, "shop.json", SHOP.as_bytes(), Vec::new(alloc))?;
-        let cuts = vec![in alloc; cut; 10_002]?;
-        let mut input = MemSource::new(body.to_vec(alloc)?, cuts, Vec::new(alloc));
+        let mut input = StdSource::new(Pieces {
+            bytes: body.to_vec(alloc)?,
+            at: 0,
+            size,
+        });
         let mut out = MemSink::new(alloc, Vec::new(alloc));
-        let status = status_of(alloc, &ITEM, &mut files, &mut input, &mut out)?;
-        assert_eq!(rt; status, 0, "at {cut}");
-        assert_eq!(rt; out.bytes(), whole.as_slice(), "at {cut}");
+        let mut patterns = LiteralPatterns::new(alloc, Vec::new(alloc));
+        let status = run(
+            alloc,
+            words.as_slice(),
+            &mut files,
+            &mut input,
+            &mut out,
+            &mut patterns,
+        );
+        assert_eq!(rt; status, 0, "at {size}");
+        assert_eq!(rt; out.bytes(), whole.as_slice(), "at {size}");
     }
     Ok(())
 }
