@@ -71,13 +71,13 @@ pub block_cut : (s : List ℕ) (n : ℕ) → Some n ≡ first_end three_quotes f
 block_cut s n e = let h = three_there s n (found_end three_quotes s n e).1 in boundary_here s n (omega arith) (omega arith)
 
 module _ {s behind inside : List ℕ} {n e : ℕ} (it : IsBlock s behind inside n e) where
-  closing : (n + 3 ≤ length behind) × (get_or behind n 0 ≡ 34) × (get_or behind (n + 2) 0 ≡ 34)
+  pub closing : (n + 3 ≤ length behind) × (get_or behind n 0 ≡ 34) × (get_or behind (n + 2) 0 ≡ 34)
   closing = three_there behind n (found_end three_quotes behind n it.closes).1
 
-  block_within : n + 6 ≤ length s
+  pub block_within : n + 6 ≤ length s
   block_within = let h = closing in omega (arith, ap length it.behind_is, length-drop 3 s)
 
-  line_end_within : e ≤ n
+  pub line_end_within : e ≤ n
   line_end_within =
       let same : e ≡ line_end_len behind = it.line_end_is ∙ ap line_end_len (sym it.behind_is) in
       let not_before : n < e → ⊥ = λ lt.
@@ -97,7 +97,7 @@ module _ {s behind inside : List ℕ} {n e : ℕ} (it : IsBlock s behind inside 
   pub block_len_is : block_len s ≡ Some (n + 6)
   block_len_is = ap (λ t. option_map (λ k. k + 6) (first_end three_quotes false t)) (sym it.behind_is) ∙ ap (option_map (λ k. k + 6)) (sym it.closes)
 
-  opener_is : opener_len (take (n + 6) s) ≡ 3 + e
+  pub opener_is : opener_len (take (n + 6) s) ≡ 3 + e
   opener_is =
       let order : n + 6 ≡ 3 + suc (suc (n + 1)) = omega arith in
       ap (λ k. 3 + line_end_len (drop 3 (take k s))) order ∙ ap (λ t. 3 + line_end_len t) (drop-take 3 (suc (suc (n + 1))) s) ∙ ap (λ k. 3 + k) (line_end_front (n + 1) (drop 3 s) ∙ sym it.line_end_is)
@@ -120,7 +120,7 @@ module _ {s behind inside : List ℕ} {n e : ℕ} (it : IsBlock s behind inside 
   pub block_judged : (start k : ℕ) (ls : List Line) → ls ≡ lines (start + (3 + e)) (drop e inside) → k ≡ indent ls → lines_text (map (kept (Some k)) ls) ≡ block_value start (take (n + 6) s)
   block_judged start k ls ls_is k_is = ap (λ j. lines_text (map (kept (Some j)) ls)) k_is ∙ ap (λ m. lines_text (trimmed_lines m)) (ls_is ∙ sym (inside_lines start))
 
-  block_ends : IsUtf8 s → IsCharBoundary s (n + 6)
+  pub block_ends : IsUtf8 s → IsCharBoundary s (n + 6)
   block_ends u =
       let order : n + 5 ≡ 3 + (n + 2) = omega arith in
       let quote : get_or s (n + 5) 0 ≡ 34 = ap (λ k. get_or s k 0) order ∙ sym (get_or-drop 3 s (n + 2) 0) ∙ ap (λ t. get_or t (n + 2) 0) (sym it.behind_is) ∙ closing.2 in

@@ -1,14 +1,15 @@
 -- What the class of a byte says of it.
-use Rattle.std.proofs.Common.{◌≡◌, ℕ, ◌+◌, ◌-◌, ◌≤◌, ◌<◌, Bool, true, false, cond, List, [], ◌∷◌, length, get_or, take, refl, sym, ap, subst, ◌∙◌, arith, eqb}
-use Rattle.std.specs.Prelude.{IsUtf8}
-use Rattle.std.specs.List.{prefix_len}
+use Rattle.std.proofs.Common.{◌≡◌, ℕ, ◌+◌, ◌-◌, ◌≤◌, ◌<◌, Bool, true, false, cond, List, [], ◌∷◌, length, get_or, take, refl, sym, ap, subst, ◌∙◌, arith, eqb, nat_eq, ◌&&◌}
+use Rattle.std.specs.Prelude.{IsUtf8, codes}
+use Rattle.std.specs.List.{prefix_len, starts_with}
 use Rattle.std.specs.Str.{IsCharBoundary}
 use Rattle.std.proofs.lemmas.Str.{IsCharBoundary-after_ascii}
 use Rattle.std.proofs.lemmas.List.Sums.{prefix_len-le-length, prefix_len_passes}
 use Rattle.std.proofs.lemmas.Bool.Decides.{nat_tests}
 use Rattle.sm_lex.specs.declared.byte.First.{First}
 use Rattle.sm_lex.specs.declared.byte.First.TheVariants.{White, Slash, Word, Number, Quote, Mark, Stray}
-use Rattle.sm_lex.specs.Bytes.{first_of, Begins, is_white, is_letter, is_number_start, is_mark, is_word_byte}
+use Rattle.sm_lex.specs.Bytes.{first_of, Begins, is_white, is_letter, is_number_start, is_mark, is_word_byte, opens}
+use Rattle.sm_lex.specs.Space.{EndsSpace}
 
 -- the class by the tests in their order
 abbrev by_tests : Bool → Bool → Bool → Bool → Bool → Bool → First
@@ -69,3 +70,24 @@ boundary_behind_run p s small u some =
 pub word_some : (s : List ℕ) → Begins Word s → 0 < prefix_len is_word_byte s
 word_some [] h = absurd h
 word_some (c ∷ s) h = let one : prefix_len is_word_byte (c ∷ s) ≡ 1 + prefix_len is_word_byte s = ap (λ b. cond b (1 + prefix_len is_word_byte s) 0) (letter_goes_on c (word_is c h)) in omega arith
+
+tests_other : (w s l n q m : Bool) → (by_tests w s l n q m ≡ White → ⊥) → (by_tests w s l n q m ≡ Slash → ⊥) → (w ≡ false) × (s ≡ false)
+tests_other true s l n q m not_white not_slash = absurd (not_white refl)
+tests_other false true l n q m not_white not_slash = absurd (not_slash refl)
+tests_other false false l n q m not_white not_slash = (refl, refl)
+
+tests_slash : (w s l n q m : Bool) → by_tests w s l n q m ≡ Slash → w ≡ false
+tests_slash true s l n q m e = absurd cc
+tests_slash false s l n q m e = refl
+
+-- where a byte of another class stands, white space ends
+pub class_ends : (f : First) (s : List ℕ) → Begins f s → (f ≡ White → ⊥) → (f ≡ Slash → ⊥) → EndsSpace s
+class_ends f [] h not_white not_slash = tt
+class_ends f (c ∷ s) h not_white not_slash =
+    let other = tests_other (is_white c) (eqb c 47) (is_letter c) (is_number_start c) (eqb c 34) (is_mark c) (λ e. not_white (sym h ∙ e)) (λ e. not_slash (sym h ∙ e)) in
+    let no_slash : nat_eq 47 c ≡ false = grind (arith, nat_tests, other.1) in
+    (other.0, ap (λ b. b && starts_with nat_eq s (47 ∷ [])) no_slash)
+
+pub slash_ends : (s : List ℕ) → Begins Slash s → opens s (codes "//") ≡ false → EndsSpace s
+slash_ends [] h e = tt
+slash_ends (c ∷ s) h e = (tests_slash (is_white c) (eqb c 47) (is_letter c) (is_number_start c) (eqb c 34) (is_mark c) h, e)

@@ -51,7 +51,7 @@ white_is_ascii : (c : ℕ) → is_white c ≡ true → c < 128
 white_is_ascii c e = grind (arith, nat_tests)
 
 -- white space and comments leave whole characters behind
-space_utf8 : (ps : List Piece) (s r : List ℕ) → Space ps s r → IsUtf8 s → IsUtf8 r
+pub space_utf8 : (ps : List Piece) (s r : List ℕ) → Space ps s r → IsUtf8 s → IsUtf8 r
 space_utf8 [] s r e u = subst (λ t. IsUtf8 t) e u
 space_utf8 (white c ∷ ps) s r (s1, e, w, more) u =
     let v : IsUtf8 (c ∷ s1) = subst (λ t. IsUtf8 t) e u in

@@ -11,3 +11,9 @@ pub mod Strings
 pub mod Blocks
 pub mod Measured
 pub mod Leading
+pub mod OneSpace
+pub mod OneVerdict
+pub mod OneReading
+pub mod Written
+pub mod Insides
+pub mod Wholes

@@ -1,8 +1,10 @@
 -- The parts of a line: characters that stand for themselves, and escapes.
 use Rattle.std.proofs.Common.{◌≡◌, ℕ, zero, suc, ◌+◌, ◌-◌, ◌≤◌, ◌<◌, Bool, true, false, cond, List, [], ◌∷◌, ◌++◌, length, get_or, take, drop, refl, sym, ap, subst, ◌∙◌, arith, append_assoc, not, eqb}
-use Rattle.std.specs.Prelude.{Option, Some, None, Result, Ok, Err}
+use Rattle.std.specs.Prelude.{Option, Some, None, Result, Ok, Err, IsUtf8}
 use Rattle.std.specs.List.{position_or_len}
 use Rattle.std.specs.Char.{encode_utf8}
+use Rattle.std.specs.Str.{IsCharBoundary}
+use Rattle.std.proofs.lemmas.Str.{IsCharBoundary-after_ascii}
 use Rattle.std.proofs.lemmas.List.{take_all, drop-drop, drop_all}
 use Rattle.std.proofs.lemmas.List.Sums.{prefix_len-le-length, passes_at_first}
 use Rattle.std.proofs.lemmas.Bool.Decides.{nat_tests}
@@ -91,46 +93,69 @@ escaped_part last (c ∷ r) behind e some h behind_is g within positive low =
           ∙ ap (put (encode_utf8 e.character)) (passed_over (at + 1) e.count r below ∙ ap (λ p. line_text p 0 (drop e.count r) below) place ∙ ap (λ n. line_text (at + (1 + e.count)) 0 (drop n (c ∷ r)) below) one_more),
     )
 
--- the line's first i bytes give some text, and then come the others
-abbrev pub Reached : ℕ → List ℕ → ℕ → Type 0
-Reached at s i = (t : List ℕ) × ((below : Option (Result (List ℕ) ℕ)) → line_text at 0 s below ≡ put t (line_text (at + i) 0 (drop i s) below))
+-- the line's first i bytes give the text t, and then come the others
+abbrev pub Gave : ℕ → List ℕ → ℕ → List ℕ → Type 0
+Gave at s i t = (below : Option (Result (List ℕ) ℕ)) → line_text at 0 s below ≡ put t (line_text (at + i) 0 (drop i s) below)
 
-pub reached_none : (at : ℕ) (s : List ℕ) → Reached at s 0
-reached_none at s = ([], λ below. stand_none at s below)
+pub gave_none : (at : ℕ) (s : List ℕ) → Gave at s 0 []
+gave_none at s below = stand_none at s below
 
 -- k bytes more, which give the text u
-reached_more : (at i k : ℕ) (s u : List ℕ) → Reached at s i → ((below : Option (Result (List ℕ) ℕ)) → line_text (at + i) 0 (drop i s) below ≡ put u (line_text (at + i + k) 0 (drop k (drop i s)) below)) → Reached at s (i + k)
-reached_more at i k s u (t, h) more = (
-  t ++ u,
-  λ below.
-      let place : at + i + k ≡ at + (i + k) = omega arith in
-      h below ∙ ap (put t) (more below) ∙ put_put t u (line_text (at + i + k) 0 (drop k (drop i s)) below)
-      ∙ ap (λ p. put (t ++ u) (line_text p 0 (drop k (drop i s)) below)) place ∙ ap (λ r. put (t ++ u) (line_text (at + (i + k)) 0 r below)) (drop-drop k i s),
-)
+gave_more : (at i k : ℕ) (s t u : List ℕ) → Gave at s i t → ((below : Option (Result (List ℕ) ℕ)) → line_text (at + i) 0 (drop i s) below ≡ put u (line_text (at + i + k) 0 (drop k (drop i s)) below)) → Gave at s (i + k) (t ++ u)
+gave_more at i k s t u h more below =
+    let place : at + i + k ≡ at + (i + k) = omega arith in
+    h below ∙ ap (put t) (more below) ∙ put_put t u (line_text (at + i + k) 0 (drop k (drop i s)) below)
+    ∙ ap (λ p. put (t ++ u) (line_text p 0 (drop k (drop i s)) below)) place ∙ ap (λ r. put (t ++ u) (line_text (at + (i + k)) 0 r below)) (drop-drop k i s)
 
-pub reached_plain : (last : Bool) (at i n : ℕ) (s : List ℕ) → Reached at s i → PartOfLine last (drop i s) (Plain n) → Reached at s (i + n)
-reached_plain last at i n s h (some, within, low, stand) = reached_more at i n s (take n (drop i s)) h (λ below. stand (at + i) below)
+pub gave_plain : (last : Bool) (at i n : ℕ) (s t : List ℕ) → Gave at s i t → PartOfLine last (drop i s) (Plain n) → Gave at s (i + n) (t ++ take n (drop i s))
+gave_plain last at i n s t h (some, within, low, stand) = gave_more at i n s t (take n (drop i s)) h (λ below. stand (at + i) below)
 
-pub reached_escaped : (last : Bool) (at i : ℕ) (s : List ℕ) (e : Escape) → Reached at s i → PartOfLine last (drop i s) (Escaped e) → Reached at s (i + (1 + e.count))
-reached_escaped last at i s e h (within, low, stand) = reached_more at i (1 + e.count) s (encode_utf8 e.character) h (λ below. stand (at + i) below)
+pub gave_escaped : (last : Bool) (at i : ℕ) (s t : List ℕ) (e : Escape) → Gave at s i t → PartOfLine last (drop i s) (Escaped e) → Gave at s (i + (1 + e.count)) (t ++ encode_utf8 e.character)
+gave_escaped last at i s t e h (within, low, stand) = gave_more at i (1 + e.count) s t (encode_utf8 e.character) h (λ below. stand (at + i) below)
 
 -- a backslash at the end of a line that another one follows
-pub reached_joins : (last : Bool) (at i : ℕ) (s : List ℕ) → Reached at s i → PartOfLine last (drop i s) Joins → (t : List ℕ) × Gives last at s t
-reached_joins last at i s (t, h) (not_last, joins) = (t, λ below is_below. h below ∙ ap (put t) (onward below (subst (λ b. IsBelow b below) not_last is_below)))
+pub gave_joins : (last : Bool) (at i : ℕ) (s t : List ℕ) → Gave at s i t → PartOfLine last (drop i s) Joins → Gives last at s t
+gave_joins last at i s t h (not_last, joins) = λ below is_below. h below ∙ ap (put t) (onward below (subst (λ b. IsBelow b below) not_last is_below))
   where
     onward : (below : Option (Result (List ℕ) ℕ)) → IsBelow false below → line_text (at + i) 0 (drop i s) below ≡ rest_of below
     onward None k = absurd k
     onward (Some r) k = joins (at + i) r
 
-pub reached_bad : (last : Bool) (at i : ℕ) (s : List ℕ) → Reached at s i → PartOfLine last (drop i s) BadPart → Fails last at s (at + i)
-reached_bad last at i s (t, h) bad below is_below = h below ∙ ap (put t) (bad (at + i) below is_below)
+pub gave_bad : (last : Bool) (at i : ℕ) (s t : List ℕ) → Gave at s i t → PartOfLine last (drop i s) BadPart → Fails last at s (at + i)
+gave_bad last at i s t h bad below is_below = h below ∙ ap (put t) (bad (at + i) below is_below)
 
 -- the line's end
-pub reached_end : (last : Bool) (at i : ℕ) (s : List ℕ) → Reached at s i → length s ≤ i → (t : List ℕ) × Gives last at s t
-reached_end last at i s (t, h) past = (t ++ cond last [] (10 ∷ []), λ below is_below. h below ∙ ap (λ r. put t (line_text (at + i) 0 r below)) (drop_all i s past) ∙ ending last below is_below)
+abbrev pub ending : Bool → List ℕ
+ending last = cond last [] (10 ∷ [])
+
+pub gave_end : (last : Bool) (at i : ℕ) (s t : List ℕ) → Gave at s i t → length s ≤ i → Gives last at s (t ++ ending last)
+gave_end last at i s t h past = λ below is_below. h below ∙ ap (λ r. put t (line_text (at + i) 0 r below)) (drop_all i s past) ∙ at_end last below is_below
   where
-    ending : (last : Bool) (below : Option (Result (List ℕ) ℕ)) → IsBelow last below → put t (end_of_line below) ≡ put (t ++ cond last [] (10 ∷ [])) (rest_of below)
-    ending true None k = put_put t [] (Ok [])
-    ending true (Some r) k = absurd k
-    ending false None k = absurd k
-    ending false (Some r) k = put_put t (10 ∷ []) r
+    at_end : (last : Bool) (below : Option (Result (List ℕ) ℕ)) → IsBelow last below → put t (end_of_line below) ≡ put (t ++ ending last) (rest_of below)
+    at_end true None k = put_put t [] (Ok [])
+    at_end true (Some r) k = absurd k
+    at_end false None k = absurd k
+    at_end false (Some r) k = put_put t (10 ∷ []) r
+
+-- the same of some text
+abbrev pub Reached : ℕ → List ℕ → ℕ → Type 0
+Reached at s i = (t : List ℕ) × Gave at s i t
+
+pub reached_none : (at : ℕ) (s : List ℕ) → Reached at s 0
+reached_none at s = ([], gave_none at s)
+
+pub reached_plain : (last : Bool) (at i n : ℕ) (s : List ℕ) → Reached at s i → PartOfLine last (drop i s) (Plain n) → Reached at s (i + n)
+reached_plain last at i n s (t, h) part = (t ++ take n (drop i s), gave_plain last at i n s t h part)
+
+pub reached_escaped : (last : Bool) (at i : ℕ) (s : List ℕ) (e : Escape) → Reached at s i → PartOfLine last (drop i s) (Escaped e) → Reached at s (i + (1 + e.count))
+reached_escaped last at i s e (t, h) part = (t ++ encode_utf8 e.character, gave_escaped last at i s t e h part)
+
+pub reached_end : (last : Bool) (at i : ℕ) (s : List ℕ) → Reached at s i → length s ≤ i → (t : List ℕ) × Gives last at s t
+reached_end last at i s (t, h) past = (t ++ ending last, gave_end last at i s t h past)
+
+-- the cuts between parts fall between characters
+pub plain_cut : (last : Bool) (s : List ℕ) (n : ℕ) → PartOfLine last s (Plain n) → IsCharBoundary s n
+plain_cut last s n (some, within, low, stand) = (within, λ lt high. let edge : get_or s n 0 < 128 = low lt in absurd (omega arith))
+
+pub escaped_cut : (last : Bool) (s : List ℕ) (e : Escape) → IsUtf8 s → PartOfLine last s (Escaped e) → IsCharBoundary s (1 + e.count)
+escaped_cut last s e u (within, low, stand) = let same : e.count + 1 ≡ 1 + e.count = omega arith in subst (IsCharBoundary s) same (IsCharBoundary-after_ascii s e.count u within low)

@@ -39,7 +39,7 @@ pub record IsString (s behind inside : List ℕ) (n : ℕ) : Type 0 where
   pub inside_is : inside ≡ take n behind
 
 module _ {s behind inside : List ℕ} {n : ℕ} (it : IsString s behind inside n) where
-  string_within : n + 2 ≤ length s
+  pub string_within : n + 2 ≤ length s
   string_within = omega (arith, (found_end one_quote behind n it.closes).0, ap length it.behind_is, length-drop 1 s)
 
   pub string_len_is : string_len s ≡ Some (n + 2)
@@ -54,10 +54,15 @@ module _ {s behind inside : List ℕ} {n : ℕ} (it : IsString s behind inside n
   pub string_judged : (start : ℕ) → lines_text (map (kept None) (lines (start + 1) inside)) ≡ string_value start (take (n + 2) s)
   string_judged start = ap lines_text (kept_none (lines (start + 1) inside)) ∙ ap (λ t. lines_text (lines (start + 1) t)) (sym string_inside_is)
 
+  pub string_quote : get_or s (n + 1) 0 ≡ 34
+  string_quote =
+      let h = found_end one_quote behind n it.closes in
+      let order : n + 1 ≡ 1 + n = omega arith in
+      ap (λ k. get_or s k 0) order ∙ sym (get_or-drop 1 s n 0) ∙ ap (λ t. get_or t n 0) (sym it.behind_is) ∙ quote_there behind n h.0 h.1
+
   pub string_ends : IsUtf8 s → IsCharBoundary s (n + 2)
   string_ends u =
-      let h = found_end one_quote behind n it.closes in
-      let quote : get_or s (n + 1) 0 ≡ 34 = let order : n + 1 ≡ 1 + n = omega arith in ap (λ k. get_or s k 0) order ∙ sym (get_or-drop 1 s n 0) ∙ ap (λ t. get_or t n 0) (sym it.behind_is) ∙ quote_there behind n h.0 h.1 in
+      let quote = string_quote in
       let same : n + 1 + 1 ≡ n + 2 = omega arith in
       let within = string_within in
       subst (IsCharBoundary s) same (IsCharBoundary-after_ascii s (n + 1) u (omega arith) (omega arith))

@@ -4,6 +4,7 @@ pub mod Escapes
 pub mod Lines
 pub mod Values
 pub mod Tokens
+pub mod Meanings
 pub mod Steps
 pub mod Answers
 pub mod Laws

@@ -39,12 +39,8 @@ doc_texts (white c ∷ ps) = doc_texts ps
 doc_texts (comment [] ∷ ps) = doc_texts ps
 doc_texts (comment (c ∷ t) ∷ ps) = cond (c == 47) (without_space t ∷ doc_texts ps) (doc_texts ps)
 
--- the texts joined with line feeds, where there are any
-abbrev pub joined : List (List ℕ) → Option (List ℕ)
-joined [] = None
-joined (t ∷ []) = Some t
-joined (t ∷ u ∷ us) = before t (joined (u ∷ us))
-  where
-    before : List ℕ → Option (List ℕ) → Option (List ℕ)
-    before t None = Some t
-    before t (Some d) = Some (t ++ (10 ∷ d))
+-- the texts joined with line feeds, behind those so far, where there are any
+abbrev pub joined : Option (List ℕ) → List (List ℕ) → Option (List ℕ)
+joined docs [] = docs
+joined None (t ∷ ts) = joined (Some t) ts
+joined (Some docs) (t ∷ ts) = joined (Some (docs ++ (10 ∷ t))) ts

@@ -14,6 +14,8 @@ use Rattle.sm_lex.specs.declared.part.Part.{Part}
 use Rattle.sm_lex.specs.declared.part.Part.TheVariants.{Plain, Escaped, Joins, Bad as BadPart}
 use Rattle.sm_lex.specs.declared.lex.Measured.{Measured}
 use Rattle.sm_lex.specs.declared.token.LexRefusal.{LexRefusal}
+use Rattle.sm_lex.specs.declared.value.ValueRefusal.{ValueRefusal}
+use Rattle.sm_lex.specs.declared.value.ValueRefusal.TheVariants.{BadEscape, NoMemory}
 use Rattle.sm_lex.specs.Bytes.{is_white}
 use Rattle.sm_lex.specs.Space.{EndsSpace, is_line_feed}
 use Rattle.sm_lex.specs.Lines.{Line, lines, line_text, lines_text, put, trimmed, is_blank, leading_spaces}
@@ -100,3 +102,9 @@ JudgesLines ls (Some p) = lines_text ls ≡ Err p
 abbrev pub Measures : ℕ → List ℕ → Result Measured LexRefusal → Type 0
 Measures start s (Ok m) = (0 < m.len) × (m.len ≤ length s) × IsCharBoundary s m.len × TokenAt m.kind start s m.len
 Measures start s (Err e) = RefusedAt e start s
+
+-- a line appends its text, or has a bad escape
+abbrev pub PutsLine : Bool → Line → List ℕ → List ℕ → Result (Unit {0}) ValueRefusal → Type 0
+PutsLine last l old new (Ok done) = (t : List ℕ) × (new ≡ old ++ t) × Gives last l.at l.bytes t
+PutsLine last l old new (Err (BadEscape p)) = Fails last l.at l.bytes p
+PutsLine last l old new (Err NoMemory) = Unit {0}

@@ -15,9 +15,12 @@ string_value start t = lines_text (lines (start + 1) (string_inside t))
 abbrev pub opener_len : List ℕ → ℕ
 opener_len t = 3 + line_end_len (drop 3 t)
 
--- the lines between there and the closing quotation marks
+-- what stands between there and the closing quotation marks
+abbrev pub block_inside : List ℕ → List ℕ
+block_inside t = take (length t - (opener_len t + 3)) (drop (opener_len t) t)
+
 abbrev pub block_lines : ℕ → List ℕ → List Line
-block_lines start t = lines (start + opener_len t) (take (length t - (opener_len t + 3)) (drop (opener_len t) t))
+block_lines start t = lines (start + opener_len t) (block_inside t)
 
 abbrev pub block_value : ℕ → List ℕ → Result (List ℕ) ℕ
 block_value start t = lines_text (trimmed_lines (block_lines start t))

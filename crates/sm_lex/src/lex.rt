@@ -1,11 +1,12 @@
 // The lexer: the tokens of a text, from its first byte on.
-ghost use Rattle.std.specs.Prelude.{◌≡◌, ◌<◌, ◌≤◌, ◌+◌, ◌^◌, length, drop, if◌then◌else◌, codes};
+ghost use Rattle.std.specs.Prelude.{◌≡◌, ◌<◌, ◌≤◌, ◌+◌, ◌^◌, length, drop, if◌then◌else◌, codes, IfOk, All, map};
 ghost use Rattle.sm_lex.specs.declared.byte.First.TheVariants.{Quote as a_quote};
 ghost use Rattle.sm_lex.specs.Bytes.{Begins, opens};
 ghost use Rattle.sm_lex.specs.Space.{EndsSpace};
 ghost use Rattle.sm_lex.specs.Lines.{line_end_len};
-ghost use Rattle.sm_lex.specs.Tokens.{OpensString, OpensBlock};
+ghost use Rattle.sm_lex.specs.Tokens.{OpensString, OpensBlock, lexeme_of};
 ghost use Rattle.sm_lex.specs.Steps.{MeasuresNumber, Measures};
+ghost use Rattle.sm_lex.specs.Meanings.{IsWhole};
 ghost use Rattle.sm_lex.specs.Answers.{Lexes};
 
 use crate::byte::{First, first_of};
@@ -139,7 +140,8 @@ fn measure(text: &str, start: usize) -> Result<Measured, LexRefusal>
 ///
 /// The first reason in the text for which it has no tokens, or `NoMemory`.
 pub fn tokens(alloc: Global, text: &str) -> Result<Vec<Token<'_>>, LexRefusal>
-    ensures { Lexes text.now result }
+    ensures lexes { Lexes text.now result }
+    ensures whole { IfOk result (λ tokens. All (IsWhole text.now) (map lexeme_of tokens.items)) }
 {
     let mut tokens = Vec::new(alloc);
     let mut rest = text;

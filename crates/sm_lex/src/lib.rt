@@ -5,6 +5,7 @@
 mod byte;
 mod escape;
 mod judge;
+pub mod laws;
 mod lex;
 #[cfg(test)]
 mod lex_tests;
@@ -14,6 +15,10 @@ mod quoted;
 mod runs;
 mod space;
 mod token;
+mod value;
+#[cfg(test)]
+mod value_tests;
 
 pub use lex::tokens;
 pub use token::{LexRefusal, Token, TokenKind};
+pub use value::{ValueRefusal, block_value, number_value, string_value};

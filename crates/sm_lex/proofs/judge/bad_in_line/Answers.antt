@@ -3,7 +3,7 @@ use Rattle.std.specs.Prelude.{List, ℕ, length}
 use Rattle.sm_lex.specs.Steps.{PartOfLine, Gives}
 use Rattle.sm_lex.specs.declared.part.Part.TheVariants.{Plain, Escaped}
 use Rattle.sm_lex.proofs.Lengths.{whole_rest}
-use Rattle.sm_lex.proofs.LineParts.{reached_plain, reached_escaped, reached_joins, reached_bad, reached_end}
+use Rattle.sm_lex.proofs.LineParts.{reached_plain, reached_escaped, reached_end}
 use Rattle.sm_lex.proofs.judge.bad_in_line.Goals as goal
 
 pub loop-at-preserved-in-Plain : goal.loop-at-preserved-in-Plain

@@ -6,6 +6,7 @@ use Rattle.std.proofs.lemmas.Str.{IsUtf8-drop}
 use Rattle.sm_lex.specs.Space.{Skips}
 use Rattle.sm_lex.specs.Tokens.{lexeme_of}
 use Rattle.sm_lex.proofs.Leading.{behind_space, is_next, leads_on, refused_here, lexes, space_cut}
+use Rattle.sm_lex.proofs.Wholes.{all_whole}
 use Rattle.sm_lex.proofs.lex.tokens.Goals as goal
 use Rattle.sm_lex.proofs.lex.tokens.Goals.{After-space_len-space}
 
@@ -22,12 +23,15 @@ split_at-requires c =
     let skip = skipped (goal.at.split_at-requires c).After-space_len-space in
     space_cut c.loop-behind.rest.now c.space_len-space.result skip.0 skip.1 c.loop-behind.invariant.utf8
 
-pub returns-in-Err : goal.returns-in-Err
-returns-in-Err c =
+pub returns-in-Err-clause-lexes : goal.returns-in-Err-clause-lexes
+returns-in-Err-clause-lexes c =
     let now = c.loop-behind.invariant in
-    let skip = skipped (goal.at.returns-in-Err c).After-space_len-space in
+    let skip = skipped (goal.at.returns-in-Err-clause-lexes c).After-space_len-space in
     lexes c.args.text.now c.in-Err.refusal
     (refused_here c.args.text.now c.loop-behind.rest.now c.split_at.result.1.now c.loop-behind.at c.space_len-space.result (map lexeme_of c.loop-behind.tokens.items) c.in-Err.refusal now.rest now.within skip.0 skip.1 c.split_at.ensures.back now.leads c.in-Err.ensures)
+
+pub returns-then-is_empty-clause-whole : goal.returns-then-is_empty-clause-whole
+returns-then-is_empty-clause-whole c = all_whole c.args.text.now 0 c.loop-behind.at (map lexeme_of c.loop-behind.tokens.items) c.utf8.text c.loop-behind.invariant.leads
 
 pub loop-behind-preserved : goal.loop-behind-preserved
 loop-behind-preserved c =
