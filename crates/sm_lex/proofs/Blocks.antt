@@ -1,6 +1,6 @@
 -- Text blocks: where they are cut, and that the lines that are judged are theirs.
 use Rattle.std.proofs.Common.{◌≡◌, ℕ, zero, suc, ◌+◌, ◌-◌, ◌≤◌, ◌<◌, Bool, true, false, cond, ◌&&◌, List, [], ◌∷◌, length, get_or, take, drop, refl, sym, ap, subst, ◌∙◌, arith, eqb, length-drop, length-take-le}
-use Rattle.std.specs.Prelude.{Option, Some, None, Result, Ok, Err, IsOk, IsUtf8, map}
+use Rattle.std.specs.Prelude.{Some, IsOk, IsUtf8, map}
 use Rattle.std.specs.Option.{option_map}
 use Rattle.std.specs.Str.{IsCharBoundary}
 use Rattle.std.proofs.lemmas.List.{drop-take, take-take, get_or-drop, get_or-take, drop-drop}

@@ -1,5 +1,5 @@
 -- Where strings and text blocks end: one step of the search, and a run of them.
-use Rattle.std.proofs.Common.{◌≡◌, ℕ, zero, suc, ◌+◌, ◌-◌, ◌≤◌, ◌<◌, Bool, true, false, cond, List, [], ◌∷◌, length, get_or, take, drop, refl, sym, ap, subst, ◌∙◌, arith, eqb, ◌&&◌}
+use Rattle.std.proofs.Common.{◌≡◌, ℕ, suc, ◌+◌, ◌-◌, ◌≤◌, ◌<◌, Bool, true, false, cond, List, [], ◌∷◌, length, get_or, take, drop, refl, sym, ap, subst, ◌∙◌, arith, eqb, ◌&&◌}
 use Rattle.std.specs.Prelude.{Option, Some, None, codes, nat_eq}
 use Rattle.std.specs.Option.{option_map}
 use Rattle.std.specs.List.{starts_with}

@@ -1,6 +1,6 @@
 -- Lengths of runs of bytes, as std's searches give them.
-use Rattle.std.proofs.Common.{◌≡◌, ℕ, ◌<◌, ◌≤◌, Bool, true, false, cond, List, length, Option, Some, None, refl, sym, ◌∙◌, ap, subst, arith, ◌-◌, get_or, take, drop, not}
-use Rattle.std.specs.List.{prefix_len, position_or_len, position}
+use Rattle.std.proofs.Common.{◌≡◌, ℕ, ◌≤◌, Bool, true, false, cond, List, length, Option, Some, None, refl, ◌∙◌, ap, arith, ◌-◌, take, drop, not}
+use Rattle.std.specs.List.{position_or_len, position}
 use Rattle.std.specs.Option.{unwrap_or}
 use Rattle.std.specs.Prelude.{nat_lt}
 use Rattle.std.proofs.lemmas.List.Sums.{prefix_len-le-length}

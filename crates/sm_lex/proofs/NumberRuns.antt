@@ -2,10 +2,10 @@
 use Rattle.std.proofs.Common.{◌≡◌, ℕ, ◌+◌, ◌≤◌, ◌<◌, List, [], ◌∷◌, ◌++◌, length, get_or, take, ap, subst, ◌∙◌, append_assoc, arith}
 use Rattle.std.proofs.lemmas.Grind.{common_steps}
 use Rattle.sm_tree.specs.Numbers.{IsNumber}
-use Rattle.sm_tree.specs.NumberTail.{Tail, Leads, Stops}
+use Rattle.sm_tree.specs.NumberTail.{Leads, Stops}
 use Rattle.sm_tree.specs.declared.number.Phase.{Phase}
 use Rattle.sm_tree.specs.declared.number.Phase.TheVariants.{Start}
-use Rattle.sm_tree.proofs.Numbers.{completion, completes, number_from_whole, whole_from_number}
+use Rattle.sm_tree.proofs.Numbers.{completion, completes}
 use Rattle.sm_lex.specs.Tokens.{LongestNumber}
 
 pub longest_number : (s : List ℕ) (n : ℕ) (p : Phase) → n ≤ length s → Leads Start (take n s) p → (n < length s → Stops p (get_or s n 0)) → LongestNumber s n

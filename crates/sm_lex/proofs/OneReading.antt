@@ -1,9 +1,9 @@
 -- A text is spelled by one list of tokens, or refused for one reason.
-use Rattle.std.proofs.Common.{◌≡◌, ℕ, ◌+◌, ◌-◌, ◌≤◌, ◌<◌, List, [], ◌∷◌, length, drop, refl, sym, ap, subst, ◌∙◌, arith, length-drop}
+use Rattle.std.proofs.Common.{◌≡◌, ℕ, ◌-◌, ◌≤◌, List, [], ◌∷◌, length, drop, refl, sym, ap, subst, ◌∙◌, arith, length-drop}
 use Rattle.std.specs.Prelude.{slice_range}
 use Rattle.sm_lex.specs.declared.token.LexRefusal.{LexRefusal}
-use Rattle.sm_lex.specs.Space.{Skips, EndsSpace}
-use Rattle.sm_lex.specs.Tokens.{Lexeme, IsNext, Leads, RefusedAt, Spelled, Refused}
+use Rattle.sm_lex.specs.Space.{Skips}
+use Rattle.sm_lex.specs.Tokens.{Lexeme, IsNext, Leads, Refused}
 use Rattle.sm_lex.specs.Laws.{OneReading, OneRefusal, SpelledOrRefused}
 use Rattle.sm_lex.proofs.OneSpace.{one_space}
 use Rattle.sm_lex.proofs.OneVerdict.{Verdict, token, refused, Stands, one_verdict, some_stands, stands_ends}

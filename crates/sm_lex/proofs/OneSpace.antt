@@ -1,9 +1,7 @@
 -- White space and comments end at one place, and are the same pieces.
-use Rattle.std.proofs.Common.{◌≡◌, ℕ, ◌<◌, Bool, true, false, cond, ◌&&◌, List, [], ◌∷◌, length, drop, refl, sym, ap, subst, ◌∙◌, arith, eqb, nat_eq}
-use Rattle.std.specs.Prelude.{codes}
+use Rattle.std.proofs.Common.{◌≡◌, ℕ, true, false, List, [], ◌∷◌, length, drop, refl, sym, ap, subst, ◌∙◌}
 use Rattle.std.specs.List.{before_first}
-use Rattle.std.proofs.lemmas.Bool.Decides.{nat_tests}
-use Rattle.sm_lex.specs.Bytes.{is_white, opens}
+use Rattle.sm_lex.specs.Bytes.{is_white}
 use Rattle.sm_lex.specs.Space.{Piece, white, comment, Space, EndsSpace, is_line_feed}
 
 tail_is : (c d : ℕ) (s t : List ℕ) → c ∷ s ≡ d ∷ t → s ≡ t

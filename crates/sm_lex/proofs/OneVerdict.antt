@@ -1,9 +1,8 @@
 -- What stands at a place of a text: a token, or a reason for which none does. It is one alone.
-use Rattle.std.proofs.Common.{◌≡◌, ℕ, zero, suc, ◌+◌, ◌-◌, ◌≤◌, ◌<◌, ◌⊎◌, inl, inr, Bool, true, false, cond, List, [], ◌∷◌, ◌++◌, length, take, drop, refl, sym, ap, subst, ◌∙◌, arith, append_assoc, take-append-drop, ⊎_elim}
+use Rattle.std.proofs.Common.{◌≡◌, ℕ, zero, suc, ◌+◌, ◌≤◌, ◌<◌, ◌⊎◌, inl, inr, Bool, true, false, cond, List, [], ◌∷◌, ◌++◌, length, take, drop, refl, sym, ap, subst, ◌∙◌, arith, append_assoc, take-append-drop}
 use Rattle.std.specs.Prelude.{Option, Some, None, Result, Ok, Err, IsOk, codes}
 use Rattle.std.specs.List.{prefix_len}
 use Rattle.std.proofs.lemmas.List.{take-take}
-use Rattle.std.proofs.str.Laws.{order}
 use Rattle.sm_tree.specs.Numbers.{IsNumber}
 use Rattle.sm_lex.specs.declared.byte.First.{First}
 use Rattle.sm_lex.specs.declared.byte.First.TheVariants.{White, Slash, Word as a_word, Number as a_number, Quote as a_quote, Mark as a_mark, Stray as a_stray}
@@ -11,10 +10,10 @@ use Rattle.sm_lex.specs.declared.token.TokenKind.{TokenKind}
 use Rattle.sm_lex.specs.declared.token.TokenKind.TheVariants.{Word, Number, Text, Block, Mark}
 use Rattle.sm_lex.specs.declared.token.LexRefusal.{LexRefusal}
 use Rattle.sm_lex.specs.declared.token.LexRefusal.TheVariants.{Bad, UnclosedString, UnclosedBlock, BadEscape, NoMemory}
-use Rattle.sm_lex.specs.Bytes.{first_of, Begins, is_word_byte, opens}
+use Rattle.sm_lex.specs.Bytes.{Begins, is_word_byte, opens}
 use Rattle.sm_lex.specs.Lines.{line_end_len}
 use Rattle.sm_lex.specs.Values.{string_value, block_value}
-use Rattle.sm_lex.specs.Tokens.{BeginsNumber, LongestNumber, three_quotes, string_len, block_len, OpensString, OpensBlock, OpensNothing, BreaksOff, TokenAt, RefusedAt}
+use Rattle.sm_lex.specs.Tokens.{BeginsNumber, LongestNumber, three_quotes, string_len, block_len, OpensString, OpensBlock, OpensNothing, TokenAt, RefusedAt}
 use Rattle.sm_lex.specs.Space.{EndsSpace}
 use Rattle.sm_lex.proofs.Classes.{class_ends, slash_ends}
 use Rattle.sm_lex.proofs.Ends.{three_are}

@@ -1,10 +1,10 @@
 -- White space and comments: one piece more, and where they end.
-use Rattle.std.proofs.Common.{◌≡◌, ℕ, ◌+◌, ◌-◌, ◌≤◌, ◌<◌, Bool, true, false, List, [], ◌∷◌, length, get_or, take, drop, refl, sym, ap, subst, ◌∙◌, arith}
-use Rattle.std.specs.Prelude.{Option, Some, None}
+use Rattle.std.proofs.Common.{◌≡◌, ℕ, List, ◌∷◌, length, drop, refl, sym, ap, subst, ◌∙◌}
+use Rattle.std.specs.Prelude.{Some}
 use Rattle.std.specs.List.{position_or_len, before_first}
 use Rattle.std.proofs.lemmas.List.{drop-drop}
 use Rattle.std.proofs.lemmas.List.Folds.{length-prefix_len}
-use Rattle.sm_lex.specs.Space.{Piece, white, comment, Space, Skips, is_line_feed}
+use Rattle.sm_lex.specs.Space.{white, comment, Space, Skips, is_line_feed}
 use Rattle.sm_lex.specs.declared.space.SpacePart.{SpacePart}
 use Rattle.sm_lex.specs.declared.space.SpacePart.TheVariants.{White, Comment}
 use Rattle.sm_lex.specs.Steps.{PartOfSpace, part_len}

@@ -1,17 +1,17 @@
 -- Strings and text blocks: where they are cut, and that the lines that are judged are theirs.
-use Rattle.std.proofs.Common.{◌≡◌, ℕ, ◌+◌, ◌-◌, ◌≤◌, ◌<◌, Bool, true, false, cond, List, [], ◌∷◌, length, get_or, take, drop, refl, sym, ap, subst, ◌∙◌, arith, length-drop, length-take-le}
-use Rattle.std.specs.Prelude.{Option, Some, None, Result, Ok, Err, IsOk, IsUtf8, map}
+use Rattle.std.proofs.Common.{◌≡◌, ℕ, ◌+◌, ◌-◌, ◌≤◌, ◌<◌, false, List, [], ◌∷◌, length, get_or, take, drop, sym, ap, subst, ◌∙◌, arith, length-drop, length-take-le}
+use Rattle.std.specs.Prelude.{Some, None, IsOk, IsUtf8, map}
 use Rattle.std.specs.Option.{option_map}
 use Rattle.std.specs.Str.{IsCharBoundary}
-use Rattle.std.proofs.lemmas.List.{drop-take, take-take, get_or-drop, drop-drop}
+use Rattle.std.proofs.lemmas.List.{drop-take, take-take, get_or-drop}
 use Rattle.std.proofs.lemmas.Str.{IsCharBoundary-after_ascii}
 use Rattle.sm_lex.specs.declared.byte.First.TheVariants.{Quote as a_quote}
-use Rattle.sm_lex.specs.declared.token.TokenKind.TheVariants.{Text, Block}
+use Rattle.sm_lex.specs.declared.token.TokenKind.TheVariants.{Text}
 use Rattle.sm_lex.specs.Bytes.{Begins}
-use Rattle.sm_lex.specs.Lines.{lines, lines_text, line_end_len}
+use Rattle.sm_lex.specs.Lines.{lines, lines_text}
 use Rattle.sm_lex.specs.Values.{string_value, string_inside}
-use Rattle.sm_lex.specs.Tokens.{first_end, one_quote, three_quotes, OpensString, string_len, TokenAt}
-use Rattle.sm_lex.specs.Steps.{kept, JudgesLines}
+use Rattle.sm_lex.specs.Tokens.{first_end, one_quote, OpensString, string_len, TokenAt}
+use Rattle.sm_lex.specs.Steps.{kept}
 use Rattle.sm_lex.proofs.Classes.{quote_is}
 use Rattle.sm_lex.proofs.Ends.{found_end, quote_there}
 use Rattle.sm_lex.proofs.Judged.{kept_none}

@@ -1,6 +1,6 @@
 -- Each token is the text between its places, which are cuts between characters, and has its kind's shape.
 use Rattle.std.proofs.Common.{◌≡◌, ℕ, zero, suc, ◌+◌, ◌-◌, ◌≤◌, ◌<◌, List, [], ◌∷◌, length, get_or, take, drop, refl, sym, ap, subst, ◌∙◌, arith, length-take-le, length-drop}
-use Rattle.std.specs.Prelude.{Option, Some, None, Result, Ok, Err, IsUtf8, All, map, true, false}
+use Rattle.std.specs.Prelude.{Option, Some, None, IsUtf8, All, map, true, false}
 use Rattle.std.specs.Option.{option_map}
 use Rattle.std.specs.Str.{IsCharBoundary}
 use Rattle.std.proofs.lemmas.List.{get_or-take, get_or-drop, drop-drop}

@@ -9,7 +9,7 @@ use Rattle.sm_lex.specs.declared.value.ValueRefusal.TheVariants.{BadEscape, NoMe
 use Rattle.sm_lex.specs.Meanings.{HasValue}
 use Rattle.sm_lex.proofs.LineCuts.{lines_some}
 use Rattle.sm_lex.proofs.LineParts.{put_nothing, put_put}
-use Rattle.sm_lex.proofs.Judged.{Judged, judged_none, bad_line}
+use Rattle.sm_lex.proofs.Judged.{Judged, bad_line}
 
 -- the lines so far give these bytes, and then come these lines, which are the last
 abbrev pub Written : Result (List ℕ) ℕ → List ℕ → List Line → Type 0

@@ -3,7 +3,7 @@ use Rattle.std.specs.Prelude.{List, ℕ, Result, Ok, Err, Vec, map}
 use Rattle.std.specs.declared.alloc.Global.{Global}
 use Rattle.sm_lex.specs.declared.token.Token.{Token}
 use Rattle.sm_lex.specs.declared.token.LexRefusal.{LexRefusal}
-use Rattle.sm_lex.specs.declared.token.LexRefusal.TheVariants.{Bad, UnclosedString, UnclosedBlock, BadEscape, NoMemory}
+use Rattle.sm_lex.specs.declared.token.LexRefusal.TheVariants.{NoMemory}
 use Rattle.sm_lex.specs.Tokens.{lexeme_of, Spelled, Refused}
 
 -- want of memory is the one answer that says nothing of the text

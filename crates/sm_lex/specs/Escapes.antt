@@ -1,6 +1,6 @@
 -- Escapes in strings and text blocks (Smithy 2.0, "Smithy IDL", "String values"): those of JSON (RFC 8259,
 -- section 7). A surrogate stands only in a pair. That a backslash joins two lines is said by the lines.
-use Rattle.std.specs.Prelude.{◌≡◌, ℕ, zero, suc, ◌+◌, ◌*◌, ◌==◌, ◌&&◌, Bool, true, false, cond, nat_le, nat_lt, List, [], ◌∷◌, drop, codes, Option, Some, None}
+use Rattle.std.specs.Prelude.{ℕ, ◌+◌, ◌*◌, ◌==◌, ◌&&◌, Bool, cond, nat_le, nat_lt, List, [], ◌∷◌, drop, codes, Option, Some, None}
 use Rattle.sm_tree.specs.Escapes.{short_escape, hex_value, joined}
 use Rattle.sm_lex.specs.declared.escape.Escape.{Escape}
 use Rattle.sm_lex.specs.Bytes.{opens}

@@ -1,5 +1,5 @@
 -- The laws of the crate as statements, each the contract of a function in `laws`.
-use Rattle.std.specs.Prelude.{◌≡◌, ℕ, List, IsUtf8}
+use Rattle.std.specs.Prelude.{◌≡◌, ℕ, List}
 use Rattle.sm_lex.specs.declared.token.LexRefusal.{LexRefusal}
 use Rattle.sm_lex.specs.Tokens.{Lexeme, Spelled, Refused}
 

@@ -1,6 +1,6 @@
 -- What the inside of a string or a text block means (Smithy 2.0, "Smithy IDL", "String values" and "Text
 -- blocks"), line by line. LF, CR LF and CR end a line, and each counts as LF.
-use Rattle.std.specs.Prelude.{◌≡◌, ℕ, zero, suc, ◌+◌, ◌-◌, ◌==◌, ◌||◌, ◌&&◌, Bool, true, false, cond, min, List, [], ◌∷◌, ◌++◌, take, drop, length, Option, Some, None, Result, Ok, Err, map}
+use Rattle.std.specs.Prelude.{ℕ, zero, suc, ◌+◌, ◌-◌, ◌==◌, ◌||◌, ◌&&◌, Bool, cond, min, List, [], ◌∷◌, ◌++◌, take, drop, length, Option, Some, None, Result, Ok, Err, map}
 use Rattle.std.specs.Char.{encode_utf8}
 use Rattle.std.specs.List.{list_all, prefix_len, suffix_len}
 use Rattle.sm_lex.specs.declared.escape.Escape.{Escape}

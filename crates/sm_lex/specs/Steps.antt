@@ -1,10 +1,8 @@
 -- What the parts of the lexer answer: each cited by a private function alone.
-use Rattle.std.specs.Prelude.{◌≡◌, ℕ, ◌+◌, ◌-◌, ◌≤◌, ◌<◌, Bool, true, false, cond, List, [], ◌∷◌, ◌++◌, take, drop, length, Option, Some, None, Result, Ok, Err, IsOk, slice_index, map, string_bytes, min, not, ◌&&◌}
+use Rattle.std.specs.Prelude.{◌≡◌, ℕ, ◌+◌, ◌≤◌, ◌<◌, Bool, true, false, cond, List, [], ◌∷◌, ◌++◌, take, drop, length, Option, Some, None, Result, Ok, Err, IsOk, slice_index, min, not, ◌&&◌}
 use Rattle.std.specs.Char.{encode_utf8}
 use Rattle.std.specs.List.{position_or_len, list_all}
 use Rattle.std.specs.Str.{IsCharBoundary}
-use Rattle.std.specs.declared.string.String.{String}
-use Rattle.std.specs.declared.alloc.Global.{Global}
 use Rattle.sm_tree.specs.Numbers.{IsNumber}
 use Rattle.sm_lex.specs.declared.space.SpacePart.{SpacePart}
 use Rattle.sm_lex.specs.declared.space.SpacePart.TheVariants.{White, Comment}

@@ -1,11 +1,10 @@
 -- The tokens of a model's text (Smithy 2.0, "Smithy IDL", "Grammar"): what each is, how a list of them
 -- spells a text with white space and comments between, and why a text has none. Each token is the longest
 -- that its rule gives.
-use Rattle.std.specs.Prelude.{◌≡◌, ℕ, ◌+◌, ◌-◌, ◌≤◌, ◌<◌, ◌⊎◌, Bool, true, false, cond, List, [], ◌∷◌, ◌++◌, take, drop, length, codes, ◌==◌, Option, Some, None, Result, Ok, Err, IsOk, slice_range}
+use Rattle.std.specs.Prelude.{◌≡◌, ℕ, ◌+◌, ◌-◌, ◌≤◌, ◌<◌, ◌⊎◌, Bool, true, false, cond, List, [], ◌∷◌, ◌++◌, take, drop, length, codes, ◌==◌, Option, Some, None, Err, IsOk, slice_range}
 use Rattle.std.specs.Option.{option_map}
 use Rattle.std.specs.List.{prefix_len}
 use Rattle.sm_tree.specs.Numbers.{IsNumber}
-use Rattle.sm_lex.specs.declared.byte.First.{First}
 use Rattle.sm_lex.specs.declared.byte.First.TheVariants.{Word as a_word, Number as a_number, Quote as a_quote, Mark as a_mark, Stray as a_stray, Slash as a_slash}
 use Rattle.sm_lex.specs.declared.token.TokenKind.{TokenKind}
 use Rattle.sm_lex.specs.declared.token.TokenKind.TheVariants.{Word, Number, Text, Block, Mark}

@@ -1,6 +1,6 @@
-use Rattle.std.proofs.Common.{◌≡◌, Bool, subst, sym, ◌∙◌, ap}
+use Rattle.std.proofs.Common.{subst}
 use Rattle.std.specs.Prelude.{map, None, Some}
-use Rattle.sm_lex.specs.Lines.{Line, lines_text}
+use Rattle.sm_lex.specs.Lines.{lines_text}
 use Rattle.sm_lex.specs.Steps.{lines_left, line_of, kept, JudgesLine}
 use Rattle.sm_lex.proofs.Judged.{judged_none, judged_line, bad_line}
 use Rattle.sm_lex.proofs.judge.bad_escape.Goals as goal

@@ -1,5 +1,5 @@
-use Rattle.std.proofs.Common.{◌+◌, subst, ap}
-use Rattle.std.specs.Prelude.{List, ℕ, length}
+use Rattle.std.proofs.Common.{subst}
+use Rattle.std.specs.Prelude.{List, ℕ}
 use Rattle.sm_lex.specs.Steps.{PartOfLine, Gives}
 use Rattle.sm_lex.specs.declared.part.Part.TheVariants.{Plain, Escaped}
 use Rattle.sm_lex.proofs.Lengths.{whole_rest}

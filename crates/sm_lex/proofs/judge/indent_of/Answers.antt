@@ -1,5 +1,5 @@
-use Rattle.std.proofs.Common.{◌≡◌, subst, sym, ◌∙◌, ap, cond, []}
-use Rattle.sm_lex.specs.Lines.{indent, lines}
+use Rattle.std.proofs.Common.{subst, sym, ◌∙◌, ap}
+use Rattle.sm_lex.specs.Lines.{indent}
 use Rattle.sm_lex.specs.Steps.{lines_left, line_of, counted}
 use Rattle.sm_lex.proofs.Indents.{IndentOf, counts}
 use Rattle.sm_lex.proofs.judge.indent_of.Goals as goal

@@ -1,4 +1,4 @@
-use Rattle.std.proofs.Common.{◌≡◌, ◌≤◌, ◌<◌, ap, subst, sym, arith, ◌∙◌, length, min, get_or}
+use Rattle.std.proofs.Common.{◌≡◌, ◌≤◌, ◌<◌, ap, subst, arith, ◌∙◌, length, get_or}
 use Rattle.std.specs.Prelude.{IsUtf8}
 use Rattle.sm_lex.specs.Lines.{leading_spaces}
 use Rattle.sm_lex.proofs.LineCuts.{boundary_in_spaces}

@@ -1,4 +1,4 @@
-use Rattle.std.proofs.Common.{◌≡◌, ◌+◌, false, inr, subst, sym, ◌∙◌, ap}
+use Rattle.std.proofs.Common.{◌+◌, false, inr, subst, sym, ◌∙◌, ap}
 use Rattle.std.specs.Prelude.{IsUtf8}
 use Rattle.sm_lex.specs.Lines.{lines}
 use Rattle.sm_lex.specs.Tokens.{first_end, three_quotes}

@@ -1,4 +1,4 @@
-use Rattle.std.proofs.Common.{◌≡◌, ◌+◌, refl, inl, inr, subst, sym, ◌∙◌, ap, cond, get_or, take}
+use Rattle.std.proofs.Common.{refl, inl, inr, subst, ◌∙◌, ap, cond, get_or, take}
 use Rattle.std.specs.Prelude.{codes}
 use Rattle.std.specs.List.{prefix_len}
 use Rattle.sm_tree.specs.Numbers.{IsNumber}

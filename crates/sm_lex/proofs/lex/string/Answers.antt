@@ -1,6 +1,6 @@
-use Rattle.std.proofs.Common.{◌≡◌, ◌+◌, false, inl, subst, sym, ◌∙◌, ap}
+use Rattle.std.proofs.Common.{◌+◌, false, inl, subst, sym, ◌∙◌, ap}
 use Rattle.std.specs.Prelude.{None, IsOk, map}
-use Rattle.sm_lex.specs.Lines.{lines_text, lines}
+use Rattle.sm_lex.specs.Lines.{lines_text}
 use Rattle.sm_lex.specs.Tokens.{first_end, one_quote}
 use Rattle.sm_lex.specs.Steps.{kept}
 use Rattle.sm_lex.proofs.Strings.{IsString, behind_quote, string_cut, is_string, string_judged, string_len_is}

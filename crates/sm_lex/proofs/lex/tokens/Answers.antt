@@ -1,6 +1,5 @@
-use Rattle.std.proofs.Common.{◌≡◌, ◌+◌, ◌≤◌, subst, sym, ◌∙◌, ap, arith, length, drop, length-drop}
+use Rattle.std.proofs.Common.{◌+◌, ◌≤◌, subst, sym, ◌∙◌, ap, length, drop}
 use Rattle.std.specs.Prelude.{ℕ, List, IsUtf8, map}
-use Rattle.std.specs.Str.{IsCharBoundary}
 use Rattle.std.proofs.lemmas.List.{drop-drop}
 use Rattle.std.proofs.lemmas.Str.{IsUtf8-drop}
 use Rattle.sm_lex.specs.Space.{Skips}

@@ -1,8 +1,8 @@
-use Rattle.std.proofs.Common.{◌+◌, subst, sym, ◌∙◌, ap, arith, drop, length, length-drop}
+use Rattle.std.proofs.Common.{subst, sym, ◌∙◌, ap, arith, drop, length, length-drop}
 use Rattle.std.specs.Prelude.{Some}
 use Rattle.std.proofs.lemmas.List.{drop-drop}
 use Rattle.sm_lex.specs.Space.{Skips}
-use Rattle.sm_lex.specs.Steps.{PartOfSpace, part_len}
+use Rattle.sm_lex.specs.Steps.{PartOfSpace}
 use Rattle.sm_lex.proofs.Lengths.{whole_rest}
 use Rattle.sm_lex.proofs.Spaces.{skips_part}
 use Rattle.sm_lex.proofs.space.space_len.Goals as goal

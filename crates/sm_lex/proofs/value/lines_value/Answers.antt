@@ -1,4 +1,4 @@
-use Rattle.std.proofs.Common.{◌≡◌, subst}
+use Rattle.std.proofs.Common.{subst}
 use Rattle.std.specs.Prelude.{map, string_bytes}
 use Rattle.sm_lex.specs.Lines.{lines_text}
 use Rattle.sm_lex.specs.Steps.{lines_left, line_of, kept, Gives, PutsLine}

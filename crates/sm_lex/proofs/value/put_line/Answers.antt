@@ -1,4 +1,4 @@
-use Rattle.std.proofs.Common.{◌≡◌, ◌+◌, ◌++◌, ◌<◌, ◌≤◌, List, ℕ, subst, sym, ◌∙◌, ap, arith, length, take, drop, append_assoc, length-drop}
+use Rattle.std.proofs.Common.{◌+◌, ◌++◌, subst, sym, ◌∙◌, ap, arith, take, drop, append_assoc, length-drop}
 use Rattle.std.specs.Prelude.{IsUtf8, string_bytes}
 use Rattle.std.specs.Char.{encode_utf8}
 use Rattle.std.proofs.lemmas.List.{drop-drop}
