@@ -1,0 +1,140 @@
+-- From the reader's steps to what bytes are: an item, cut short, or refused at one place for one cause.
+use Rattle.std.proofs.Common.{Result, Ok, Err, ◌≡◌, ◌≢◌, ℕ, zero, suc, ◌+◌, ◌-◌, ◌≤◌, ◌<◌, max, ◌⊎◌, inl, inr, List, [], ◌∷◌, ◌++◌, refl, sym, ap, subst, ◌∙◌, arith, length, take, drop, get_or, append-nil, append_assoc}
+use Rattle.std.proofs.lemmas.List.{take_more}
+use Rattle.sm_tree.specs.Node.{Node}
+use Rattle.sm_tree.specs.Levels.{levels}
+use Rattle.sm_tree.specs.View.{node_of}
+use Rattle.sm_tree.specs.Syntax.{most_levels, IsRead, Begins, BeginsRead, IsBadAt, IsTooDeepAt, IsCutShort}
+use Rattle.sm_tree.specs.Events.{NodeEvent, events}
+use Rattle.sm_tree.specs.declared.tree.Tree.{Tree}
+use Rattle.sm_tree.specs.declared.refusal.SyntaxRefusal.{SyntaxRefusal}
+use Rattle.sm_tree.specs.declared.refusal.SyntaxRefusal.TheVariants.{Bad, Ended, TooDeep, KeyKind, NoMemory}
+use Rattle.sm_tree.proofs.Events.{events_injective}
+use Rattle.sm_cbor.specs.CborItem.{Keys, plain, marked, mark, Item as ItemBytes, CborItem}
+use Rattle.sm_cbor.specs.Refusals.{EndsAtKey, BeginsOther, IsKeyKindAt, IsBadByteAt}
+use Rattle.sm_cbor.specs.Answers.{ReadsTree}
+use Rattle.sm_cbor.specs.Rest.{State, start, Rest, Leads, Stops}
+use Rattle.sm_cbor.specs.Machine.{Keeps, Lives, opens, state_at, state_of, levels_of, handed_on, IsAt, IsSound, Goes, GoesOn, IsBadByte, IsOtherKey, OpensTooDeep, RefusesAt, IsPlace, TakesAll, Finishes}
+use Rattle.sm_cbor.specs.declared.place.Place.{Place}
+use Rattle.sm_cbor.specs.declared.place.Place.TheVariants.{Item, Key, After, Argument as InArgument, String, Chunks}
+use Rattle.sm_cbor.specs.declared.read.Reader.{Reader}
+use Rattle.sm_cbor.proofs.Endings.{goes_on}
+
+-- what the first state says of whole bytes
+item_start : (w : Keys) (limit : ℕ) (bs : List ℕ) (n : Node) → ItemBytes w n bs [] → levels n ≤ limit → Rest w limit start bs (events n [])
+item_start w limit bs n h room = (n, [], [], h, omega arith, (refl, refl), refl)
+
+start_item : (w : Keys) (limit : ℕ) (bs : List ℕ) (es : List NodeEvent) → Rest w limit start bs es → (n : Node) × ItemBytes w n bs [] × (levels n ≤ limit) × (es ≡ events n [])
+start_item w limit bs es (n, r, fs, h, room, (e, f), g) = (n, subst (λ x. ItemBytes w n bs x) e h, omega arith, g ∙ ap (events n) f)
+
+-- a run of the reader from the start
+pub record Runs (bs : List ℕ) (out : List NodeEvent) (q : Reader) : Type 0 where
+  pub leads : (w : Keys) (limit : ℕ) → most_levels ≤ limit → Leads w limit start bs out (state_of q)
+  pub sound : IsSound q
+
+pub runs_from : (r q : Reader) (bs : List ℕ) → state_of r ≡ start → (goes : Goes r [] r.place bs q) → Runs bs goes.out q
+runs_from r q bs first goes = record { leads = λ w limit high. subst (λ x. Leads w limit x bs goes.out (state_of q)) first (goes.leads w limit high); sound = goes.sound }
+
+-- the place at which a sound reader stands lives
+lives : (r : Reader) (p : Place) → IsAt r p → Lives p
+lives r Item there = tt
+lives r Key there = tt
+lives r After there = tt
+lives r (InArgument j k v) there = let keeps = there.keeps in keeps.0
+lives r (String kind span n place) there = let keeps = there.keeps in keeps.0
+lives r (Chunks kind) there = tt
+
+-- so the bytes so far begin an item that is read
+begun : (bs : List ℕ) (out : List NodeEvent) (q : Reader) → Runs bs out q → BeginsRead CborItem bs
+begun bs out q run =
+    let (s, es, rest) = goes_on plain most_levels q.place q.held.items (levels_of q) run.sound.there.room (lives q q.place run.sound.there) in
+    let (n, item, room, e) = start_item plain most_levels (bs ++ s) (out ++ es) ((run.leads plain most_levels (omega arith)).back s es rest) in
+    (s, n, (item, room))
+
+-- some limit holds of any tree
+abbrev limit_of : Node → ℕ
+limit_of n = max (levels n) most_levels
+
+onward_of : (w : Keys) (bs s : List ℕ) (out : List NodeEvent) (q : Reader) (n : Node) → Runs bs out q → ItemBytes w n (bs ++ s) [] → (es : List NodeEvent) × Rest w (limit_of n) (state_of q) s es
+onward_of w bs s out q n run item =
+    let (fs, e, rest) = (run.leads w (limit_of n) (omega arith)).onward s (events n []) (item_start w (limit_of n) (bs ++ s) n item (omega arith)) in (fs, rest)
+
+with_byte : (bs more : List ℕ) (at : ℕ) → at < length bs → take (at + 1) bs ++ more ≡ take at bs ++ (get_or bs at 0 ∷ more)
+with_byte bs more at inside = ap (λ x. x ++ more) (take_more bs at 0 inside) ∙ append_assoc (take at bs) (get_or bs at 0 ∷ []) more
+
+-- no item goes on with the byte
+never : (bs : List ℕ) (at : ℕ) (out : List NodeEvent) (q : Reader) → at < length bs → Runs (take at bs) out q → ((limit : ℕ) → Stops plain limit (state_of q) (get_or bs at 0)) → Begins CborItem (take (at + 1) bs) → ⊥
+never bs at out q inside run stops (more, n, item) =
+    let (es, rest) = onward_of plain (take at bs) (get_or bs at 0 ∷ more) out q n run (subst (λ x. ItemBytes plain n x []) (with_byte bs more at inside) item) in
+    stops (limit_of n) more es rest
+
+bad_at : (bs : List ℕ) (at : ℕ) (out : List NodeEvent) (q : Reader) → at < length bs → Runs (take at bs) out q → ((limit : ℕ) → Stops plain limit (state_of q) (get_or bs at 0)) → IsBadAt CborItem bs at
+bad_at bs at out q inside run stops = record { inside = inside; before = begun (take at bs) out q run; behind = never bs at out q inside run stops }
+
+back_of : (w : Keys) (bs s : List ℕ) (out es : List NodeEvent) (limit : ℕ) (q : Reader) → most_levels ≤ limit → Runs bs out q → Rest w limit (state_of q) s es → (n : Node) × ItemBytes w n (bs ++ s) []
+back_of w bs s out es limit q high run rest =
+    let (n, item, room, e) = start_item w limit (bs ++ s) (out ++ es) ((run.leads w limit high).back s es rest) in (n, item)
+
+-- each refusal is what the bytes are
+pub refused_is : (bs : List ℕ) (at : ℕ) (out : List NodeEvent) (q : Reader) (refusal : SyntaxRefusal) → at < length bs → Runs (take at bs) out q → RefusesAt (state_of q) (get_or bs at 0) refusal → IsPlace at refusal
+    → ReadsTree bs (Err refusal)
+refused_is bs at out q NoMemory inside run refuses is = tt
+refused_is bs at out q Ended inside run refuses is = absurd refuses
+refused_is bs at out q (Bad place) inside run refuses is =
+    subst (λ i. IsBadByteAt bs i) (sym is) (record {
+      bad = bad_at bs at out q inside run refuses.stops;
+      no_key_kind = λ h. elim refuses.no_key [
+        | inl no_mark ↦
+            let (more, n, item) = h.key in
+            let (es, rest) = onward_of marked (take at bs) (mark ∷ more) out q n run item in
+            no_mark (limit_of n) more es rest
+        | inr no_other ↦ no_other h.other
+      ];
+    })
+refused_is bs at out q (TooDeep place) inside run refuses is =
+    let (limit, high, s, es, rest) = refuses.goes_on in
+    let (n, item) = back_of plain (take at bs) (get_or bs at 0 ∷ s) out es limit q high run rest in
+    subst (λ i. IsTooDeepAt CborItem bs i) (sym is) (record {
+      inside = inside;
+      before = begun (take at bs) out q run;
+      goes_on = (s, n, subst (λ x. ItemBytes plain n x []) (sym (with_byte bs s at inside)) item);
+      too_deep = λ h.
+          let (more, m, (item1, room)) = h in
+          let (fs, e, rest1) = (run.leads plain most_levels (omega arith)).onward (get_or bs at 0 ∷ more) (events m [])
+          (item_start plain most_levels (take at bs ++ (get_or bs at 0 ∷ more)) m (subst (λ x. ItemBytes plain m x []) (with_byte bs more at inside) item1) room) in
+          refuses.stops more fs rest1;
+    })
+refused_is bs at out q (KeyKind place) inside run refuses is =
+    let (limit, high, s, es, rest) = refuses.key in
+    let (n, item) = back_of marked (take at bs) (mark ∷ s) out es limit q high run rest in
+    subst (λ i. IsKeyKindAt bs i) (sym is) (record {
+      bad = bad_at bs at out q inside run refuses.stops;
+      key = (s, n, item);
+      other = refuses.other;
+    })
+
+pub feed_refused : (r q : Reader) (bs : List ℕ) (refusal : SyntaxRefusal) → state_of r ≡ start → TakesAll r bs q (Err refusal) → ReadsTree bs (Err refusal)
+feed_refused r q bs refusal first (at, x, inside, goes, refuses, is) = refused_is bs at goes.out x refusal inside (runs_from r x (take at bs) first goes) refuses is
+
+-- and the end of the bytes
+pub tree_read : (r q : Reader) (bs : List ℕ) (result : Result Tree SyntaxRefusal) → state_of r ≡ start → handed_on r ≡ [] → Goes r [] r.place bs q → Finishes q result → ReadsTree bs result
+tree_read r q bs (Ok tree) first nothing goes (place, none_open, events_are) =
+    let run = runs_from r q bs first goes in
+    let done : Rest plain most_levels (state_of q) [] [] =
+    subst (λ p. Rest plain most_levels (state_at q p) [] []) (sym place) (subst (λ ls. Rest plain most_levels (record { place = After; held = q.held.items; levels = ls }) [] []) (sym none_open) (refl, refl)) in
+    let (n, item, room, e) = start_item plain most_levels (bs ++ []) (goes.out ++ []) ((run.leads plain most_levels (omega arith)).back [] [] done) in
+    let same : events (node_of tree) [] ≡ events n [] =
+    sym events_are ∙ goes.taken ∙ ap (λ es. es ++ goes.out) nothing ∙ sym (append-nil goes.out) ∙ e in
+    let tree_is : node_of tree ≡ n = (events_injective (node_of tree) n [] [] same).0 in
+    (subst (λ m. ItemBytes plain m bs []) (sym tree_is) (subst (λ x. ItemBytes plain n x []) (append-nil bs) item), subst (λ m. levels m ≤ most_levels) (sym tree_is) room)
+tree_read r q bs (Err Ended) first nothing goes owed =
+    let run = runs_from r q bs first goes in record {
+      begun = begun bs goes.out q run;
+      no_text = λ n h.
+          let (fs, e, rest) = (run.leads plain most_levels (omega arith)).onward [] (events n []) (item_start plain most_levels (bs ++ []) n (subst (λ x. ItemBytes plain n x []) (sym (append-nil bs)) h.0) h.1) in
+          owed plain most_levels fs rest;
+    }
+tree_read r q bs (Err NoMemory) first nothing goes h = absurd h
+tree_read r q bs (Err (Bad at)) first nothing goes h = absurd h
+tree_read r q bs (Err (TooDeep at)) first nothing goes h = absurd h
+tree_read r q bs (Err (KeyKind at)) first nothing goes h = absurd h

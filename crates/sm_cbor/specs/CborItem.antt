@@ -1,0 +1,98 @@
+-- The items of CBOR (RFC 8949, section 3) with text keys: which bytes are an item of which tree. By cases on the
+-- tree, in the form "s begins with an item of n, and r is what follows it". Levels aren't limited here.
+use Rattle.std.specs.Prelude.{◌≡◌, ℕ, ℤ, pos, negsuc, zero, suc, ◌+◌, ◌*◌, ◌/◌, ◌%◌, ◌<◌, ◌≤◌, ◌⊎◌, true, false, FitsSigned, IsUtf8, List, [], ◌∷◌, ◌++◌, length}
+use Rattle.std.specs.Int.{w64}
+use Rattle.std.specs.Fmt.{signed_decimal}
+use Rattle.std.specs.List.{concat}
+use Rattle.sm_tree.specs.Json.{AreBytes}
+use Rattle.sm_tree.specs.Node.{Node, Nodes, Members, null, bool, int, number, text, bytes, tag, opaque, list, object, no_nodes, node, no_members, member}
+use Rattle.sm_cbor.specs.Heads.{Byte, Argument, Head, unsigned_type, negative_type, bytes_type, text_type, array_type, map_type, tag_type, simple_type, Indefinite, Break}
+
+-- major types 0 and 1: the integer n, and the integer -1 - n
+abbrev pub Integer : ℤ → List ℕ → List ℕ → Type 0
+Integer z s r = (n : ℕ) × ((Head unsigned_type n s r × (z ≡ pos n)) ⊎ (Head negative_type n s r × (z ≡ negsuc n)))
+
+-- major types 2 and 3. A string with a definite length: its length in bytes, and its bytes, which are of this kind
+abbrev pub Definite : ℕ → (List ℕ → Type 0) → List ℕ → List ℕ → List ℕ → Type 0
+Definite major P t s r = (s1 : List ℕ) × Head major (length t) s s1 × (s1 ≡ t ++ r) × P t
+
+-- section 3.2.3. Chunks, each a string with a definite length of the same major type, and a "break"
+abbrev pub Chunks : ℕ → (List ℕ → Type 0) → List (List ℕ) → List ℕ → List ℕ → Type 0
+Chunks major P [] s r = Break s r
+Chunks major P (t ∷ ts) s r = (s1 : List ℕ) × Definite major P t s s1 × Chunks major P ts s1 r
+
+-- a string with a definite length, or with an indefinite one, which is its chunks joined
+abbrev pub String : ℕ → (List ℕ → Type 0) → List ℕ → List ℕ → List ℕ → Type 0
+String major P t s r =
+    Definite major P t s r ⊎ ((s1 : List ℕ) × (ts : List (List ℕ)) × Indefinite major s s1 × Chunks major P ts s1 r × (t ≡ concat ts))
+
+abbrev pub ByteString : List ℕ → List ℕ → List ℕ → Type 0
+ByteString t s r = String bytes_type AreBytes t s r
+
+abbrev pub TextString : List ℕ → List ℕ → List ℕ → Type 0
+TextString t s r = String text_type IsUtf8 t s r
+
+-- section 3.3, major type 7 with this initial byte: simple values below 20 and from 32 on, and floats, whose bits are
+-- the argument
+abbrev pub IsOpaque : ℕ → ℕ → Type 0
+IsOpaque info n = (info < 20) ⊎ (((info ≡ 24) × (32 ≤ n)) ⊎ (25 ≤ info))
+
+abbrev pub SimpleOrFloat : ℕ → List ℕ → List ℕ → Type 0
+SimpleOrFloat b [] r = ⊥
+SimpleOrFloat b (c ∷ s) r = (c ≡ b) × (c / 32 ≡ simple_type) × (n : ℕ) × Argument (c % 32) n s r × IsOpaque (c % 32) n
+
+-- what stands for a map's key: a text; or, to say where keys stand, also a mark, which is no byte
+pub data Keys : Type 0 where
+  plain marked : Keys
+
+abbrev pub mark : ℕ
+mark = 256
+
+abbrev pub Key : Keys → List ℕ → List ℕ → List ℕ → Type 0
+Key plain k s r = TextString k s r
+Key marked k s r = TextString k s r ⊎ (Byte mark s r × (k ≡ []))
+
+abbrev mutual
+  pub Item : Keys → Node → List ℕ → List ℕ → Type 0
+  -- null and undefined
+  Item w null s r = Byte 0xF6 s r ⊎ Byte 0xF7 s r
+  Item w (bool false) s r = Byte 0xF4 s r
+  Item w (bool true) s r = Byte 0xF5 s r
+  -- major types 0 and 1: an integer of 64 bits with a sign, else the number in decimal
+  Item w (int z) s r = FitsSigned w64 z × Integer z s r
+  Item w (number t) s r = (z : ℤ) × (FitsSigned w64 z → ⊥) × (t ≡ signed_decimal z) × Integer z s r
+  -- major types 3 and 2
+  Item w (text t) s r = TextString t s r
+  Item w (bytes t) s r = ByteString t s r
+  -- major type 6, section 3.4: the tag number, and the enclosed item
+  Item w (tag k n) s r = (s1 : List ℕ) × Head tag_type k s s1 × Item w n s1 r
+  -- major type 7
+  Item w (opaque b) s r = SimpleOrFloat b s r
+  -- major type 4: the number of entries, and the entries; or entries up to a "break"
+  Item w (list ns) s r =
+      ((n : ℕ) × (s1 : List ℕ) × Head array_type n s s1 × Entries w n ns s1 r) ⊎ ((s1 : List ℕ) × Indefinite array_type s s1 × EntriesToBreak w ns s1 r)
+  -- major type 5: the number of pairs, and the pairs; or pairs up to a "break"
+  Item w (object ms) s r =
+      ((n : ℕ) × (s1 : List ℕ) × Head map_type n s s1 × Pairs w n ms s1 r) ⊎ ((s1 : List ℕ) × Indefinite map_type s s1 × PairsToBreak w ms s1 r)
+
+  -- so many entries
+  pub Entries : Keys → ℕ → Nodes → List ℕ → List ℕ → Type 0
+  Entries w n no_nodes s r = (n ≡ 0) × (s ≡ r)
+  Entries w n (node x xs) s r = (m : ℕ) × (n ≡ suc m) × (s1 : List ℕ) × Item w x s s1 × Entries w m xs s1 r
+
+  pub EntriesToBreak : Keys → Nodes → List ℕ → List ℕ → Type 0
+  EntriesToBreak w no_nodes s r = Break s r
+  EntriesToBreak w (node x xs) s r = (s1 : List ℕ) × Item w x s s1 × EntriesToBreak w xs s1 r
+
+  -- so many pairs, each a key and its value
+  pub Pairs : Keys → ℕ → Members → List ℕ → List ℕ → Type 0
+  Pairs w n no_members s r = (n ≡ 0) × (s ≡ r)
+  Pairs w n (member k x ms) s r = (m : ℕ) × (n ≡ suc m) × (s1 s2 : List ℕ) × Key w k s s1 × Item w x s1 s2 × Pairs w m ms s2 r
+
+  pub PairsToBreak : Keys → Members → List ℕ → List ℕ → Type 0
+  PairsToBreak w no_members s r = Break s r
+  PairsToBreak w (member k x ms) s r = (s1 s2 : List ℕ) × Key w k s s1 × Item w x s1 s2 × PairsToBreak w ms s2 r
+
+-- the bytes are one item of this tree, and nothing after it
+abbrev pub CborItem : Node → List ℕ → Type 0
+CborItem n bs = Item plain n bs []

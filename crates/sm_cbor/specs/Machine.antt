@@ -1,0 +1,311 @@
+-- What a reader stands for, what it keeps, and what its steps do. The contracts of the reader's methods cite it; that
+-- of `read_tree` doesn't.
+use Rattle.std.specs.Prelude.{◌≡◌, ℕ, zero, suc, ◌/◌, ◌+◌, ◌*◌, ◌-◌, ◌%◌, ◌^◌, ◌≤◌, ◌<◌, ◌⊎◌, ◌↔◌, ◌≢◌, Option, None, Some, Bool, true, false, List, [], ◌∷◌, ◌++◌, take, reverse, length, slice_index, Result, Ok, Err, OnOk}
+use Rattle.sm_tree.specs.Syntax.{most_levels}
+use Rattle.sm_tree.specs.Events.{NodeEvent, events}
+use Rattle.sm_tree.specs.View.{node_of}
+use Rattle.sm_tree.specs.declared.tree.Tree.{Tree}
+use Rattle.sm_tree.specs.Building.{so_far, kinds, awaits_value, goes_on}
+use Rattle.sm_tree.specs.BuilderView.{building_of}
+use Rattle.sm_tree.specs.declared.build.OpenKind.{OpenKind}
+use Rattle.sm_tree.specs.declared.build.OpenKind.TheVariants.{List as a_list, Object as an_object}
+use Rattle.sm_tree.specs.declared.refusal.SyntaxRefusal.{SyntaxRefusal}
+use Rattle.sm_tree.specs.declared.refusal.SyntaxRefusal.TheVariants.{Bad, Ended, TooDeep, KeyKind, NoMemory}
+use Rattle.sm_tree.specs.declared.utf8.Utf8.{Utf8}
+use Rattle.sm_tree.specs.declared.utf8.Utf8.TheVariants.{Between}
+use Rattle.sm_tree.specs.Utf8 as utf8
+use Rattle.sm_cbor.specs.CborItem.{Keys, plain, marked, mark, IsOpaque}
+use Rattle.sm_cbor.specs.Refusals.{BeginsOther}
+use Rattle.sm_cbor.specs.Reading.{IsOf, EndsAs}
+use Rattle.sm_cbor.specs.Rest.{State, Rest, Leads, Stops}
+use Rattle.sm_cbor.specs.declared.place.StringKind.{StringKind}
+use Rattle.sm_cbor.specs.declared.place.StringKind.TheVariants.{Bytes, Text, Key as KeyText}
+use Rattle.sm_cbor.specs.declared.place.Span.{Span}
+use Rattle.sm_cbor.specs.declared.place.Span.TheVariants.{Whole, Chunk}
+use Rattle.sm_cbor.specs.declared.place.Subject.{Subject}
+use Rattle.sm_cbor.specs.declared.place.Subject.TheVariants.{Unsigned, Negative, String as StringHead, List as ListHead, Map as MapHead, Tag as TagHead, Opaque}
+use Rattle.sm_cbor.specs.declared.place.Level.{Level}
+use Rattle.sm_cbor.specs.declared.place.Level.TheVariants.{Tag, List as AList, ListToBreak as AListToBreak, Map as AMap, MapToBreak as AMapToBreak}
+use Rattle.sm_cbor.specs.declared.place.Place.{Place}
+use Rattle.sm_cbor.specs.declared.place.Place.TheVariants.{Item, Key, After, Argument, String, Chunks}
+use Rattle.sm_cbor.specs.declared.read.Reader.{Reader}
+
+-- how many levels open where the argument ends
+abbrev pub opens_of : Subject → ℕ
+opens_of Unsigned = 0
+opens_of Negative = 0
+opens_of (StringHead kind span) = 0
+opens_of ListHead = 1
+opens_of MapHead = 1
+opens_of TagHead = 1
+opens_of (Opaque b) = 0
+
+abbrev pub opens : Place → ℕ
+opens Item = 0
+opens Key = 0
+opens After = 0
+opens (Argument j k v) = opens_of j
+opens (String kind span n place) = 0
+opens (Chunks kind) = 0
+
+-- some number with k bytes more is an argument of this
+abbrev pub ArgumentLives : Subject → ℕ → ℕ → Type 0
+ArgumentLives Unsigned k v = Unit {0}
+ArgumentLives Negative k v = Unit {0}
+ArgumentLives (StringHead kind span) k v = Unit {0}
+ArgumentLives ListHead k v = Unit {0}
+ArgumentLives MapHead k v = Unit {0}
+ArgumentLives TagHead k v = Unit {0}
+ArgumentLives (Opaque b) k v = ((k ≡ 0) × IsOpaque (b % 32) v) ⊎ (((b ≡ 0xF8) × (k ≡ 1) × (v ≡ 0)) ⊎ (25 ≤ b % 32))
+
+-- something may come at the place
+abbrev pub Lives : Place → Type 0
+Lives Item = Unit {0}
+Lives Key = Unit {0}
+Lives After = Unit {0}
+Lives (Argument j k v) = ArgumentLives j k v
+Lives (String kind span n place) = utf8.owed place ≤ n
+Lives (Chunks kind) = Unit {0}
+
+-- a number that has k bytes more is below this, since 64 bits hold the whole
+abbrev pub bound : ℕ → ℕ
+bound zero = 2 ^ 64
+bound (suc k) = bound k / 256
+
+-- what is open, as the builder of trees sees it
+abbrev pub kinds_of : List Level → List OpenKind
+kinds_of [] = []
+kinds_of (Tag ∷ ls) = kinds_of ls
+kinds_of (AList n ∷ ls) = a_list ∷ kinds_of ls
+kinds_of (AListToBreak ∷ ls) = a_list ∷ kinds_of ls
+kinds_of (AMap n ∷ ls) = an_object ∷ kinds_of ls
+kinds_of (AMapToBreak ∷ ls) = an_object ∷ kinds_of ls
+
+abbrev pub levels_of : Reader → List Level
+levels_of r = reverse r.levels.items
+
+-- the reader's state, if it stood at this place; and its state
+abbrev pub state_at : Reader → Place → State
+state_at r p = record { place = p; held = r.held.items; levels = levels_of r }
+
+abbrev pub state_of : Reader → State
+state_of r = state_at r r.place
+
+-- the events that a reader has handed on
+abbrev pub handed_on : Reader → List NodeEvent
+handed_on r = so_far (building_of r.builder)
+
+-- the innermost of what is open is a map
+abbrev pub InMap : List Level → Type 0
+InMap [] = ⊥
+InMap (Tag ∷ ls) = ⊥
+InMap (AList n ∷ ls) = ⊥
+InMap (AListToBreak ∷ ls) = ⊥
+InMap (AMap n ∷ ls) = Unit {0}
+InMap (AMapToBreak ∷ ls) = Unit {0}
+
+-- nothing is open, or what ends with a break
+abbrev pub BehindItem : List Level → Type 0
+BehindItem [] = Unit {0}
+BehindItem (Tag ∷ ls) = ⊥
+BehindItem (AList n ∷ ls) = ⊥
+BehindItem (AListToBreak ∷ ls) = Unit {0}
+BehindItem (AMap n ∷ ls) = ⊥
+BehindItem (AMapToBreak ∷ ls) = Unit {0}
+
+-- the builder awaits what the string stands for
+abbrev pub StringAwaits : StringKind → List Level → Bool → Type 0
+StringAwaits Bytes ls awaits = awaits ≡ true
+StringAwaits Text ls awaits = awaits ≡ true
+StringAwaits KeyText ls awaits = InMap ls × (awaits ≡ false)
+
+abbrev pub ArgumentAwaits : Subject → List Level → Bool → Type 0
+ArgumentAwaits Unsigned ls awaits = awaits ≡ true
+ArgumentAwaits Negative ls awaits = awaits ≡ true
+ArgumentAwaits (StringHead kind span) ls awaits = StringAwaits kind ls awaits
+ArgumentAwaits ListHead ls awaits = awaits ≡ true
+ArgumentAwaits MapHead ls awaits = awaits ≡ true
+ArgumentAwaits TagHead ls awaits = awaits ≡ true
+ArgumentAwaits (Opaque b) ls awaits = awaits ≡ true
+
+-- with any end that may come, these bytes are a string of the kind
+abbrev pub Holds : StringKind → Utf8 → List ℕ → Type 0
+Holds kind place t = (u : List ℕ) → EndsAs kind place u → IsOf kind (t ++ u)
+
+-- the chunks before a chunk are of the kind
+abbrev pub ChunksHeld : Subject → List ℕ → Type 0
+ChunksHeld Unsigned t = Unit {0}
+ChunksHeld Negative t = Unit {0}
+ChunksHeld (StringHead kind Whole) t = Unit {0}
+ChunksHeld (StringHead kind Chunk) t = IsOf kind t
+ChunksHeld ListHead t = Unit {0}
+ChunksHeld MapHead t = Unit {0}
+ChunksHeld TagHead t = Unit {0}
+ChunksHeld (Opaque b) t = Unit {0}
+
+-- what the builder awaits at each place, and what the place itself keeps
+abbrev pub Keeps : Place → List ℕ → List Level → Bool → Type 0
+Keeps Item t ls awaits = awaits ≡ true
+Keeps Key t ls awaits = InMap ls × (awaits ≡ false)
+Keeps After t ls awaits = awaits ≡ goes_on (kinds_of ls)
+Keeps (Argument j k v) t ls awaits = ArgumentLives j k v × (v < bound k) × ArgumentAwaits j ls awaits × ChunksHeld j t
+Keeps (String kind span n place) t ls awaits = (utf8.owed place ≤ n) × StringAwaits kind ls awaits × Holds kind place t
+Keeps (Chunks kind) t ls awaits = StringAwaits kind ls awaits × IsOf kind t
+
+-- what holds of a reader that stands at this place
+pub record IsAt (r : Reader) (p : Place) : Type 0 where
+  pub kinds_are : kinds (building_of r.builder) ≡ kinds_of (levels_of r)
+  pub room : length (levels_of r) + opens p ≤ most_levels
+  pub keeps : Keeps p r.held.items (levels_of r) (awaits_value (building_of r.builder))
+
+-- bytes are owed at the place, or what may come is open
+abbrev pub Begun : Place → List Level → Type 0
+Begun Item ls = Unit {0}
+Begun Key ls = Unit {0}
+Begun After ls = BehindItem ls
+Begun (Argument j k v) ls = 0 < k
+Begun (String kind span n place) ls = 0 < n
+Begun (Chunks kind) ls = Unit {0}
+
+-- what holds of a reader between two bytes
+pub record IsSound (r : Reader) : Type 0 where
+  pub there : IsAt r r.place
+  pub begun : Begun r.place (levels_of r)
+
+-- the events es were handed on; and from the place p the bytes v lead the reader on, and their events are handed on too
+pub record Goes (before : Reader) (es : List NodeEvent) (p : Place) (v : List ℕ) (behind : Reader) : Type 0 where
+  pub out : List NodeEvent
+  pub leads : (w : Keys) (limit : ℕ) → most_levels ≤ limit → Leads w limit (state_at before p) v out (state_of behind)
+  pub taken : handed_on behind ≡ handed_on before ++ (es ++ out)
+  pub sound : IsSound behind
+
+-- a level stands round what comes
+pub record Enters (before : Reader) (level : Level) (behind : Reader) : Type 0 where
+  pub levels : levels_of behind ≡ level ∷ levels_of before
+  pub place : behind.place ≡ before.place
+  pub builder : behind.builder ≡ before.builder
+  pub held : behind.held ≡ before.held
+
+-- a level has opened with the events es, and no item of it has come
+pub record Opens (before : Reader) (level : Level) (es : List NodeEvent) (behind : Reader) : Type 0 where
+  pub levels : levels_of behind ≡ level ∷ levels_of before
+  pub taken : handed_on behind ≡ handed_on before ++ es
+  pub there : IsAt behind After
+
+-- the innermost of what is open
+abbrev pub first_level : List Level → Option Level
+first_level [] = None
+first_level (l ∷ ls) = Some l
+
+abbrev pub IsFirst : Level → List Level → Type 0
+IsFirst l ls = first_level ls ≡ Some l
+
+-- the place is in a byte string, or in a text, or in none
+abbrev pub IsBytesPlace : Place → ℕ → Utf8 → Type 0
+IsBytesPlace p n place = (span : Span) × (p ≡ String Bytes span n place)
+
+abbrev pub IsTextPlace : Place → ℕ → Utf8 → Type 0
+IsTextPlace p n place = (kind : StringKind) × (span : Span) × (kind ≢ Bytes) × (p ≡ String kind span n place)
+
+abbrev pub IsOutside : Place → Type 0
+IsOutside Item = Unit {0}
+IsOutside Key = Unit {0}
+IsOutside After = Unit {0}
+IsOutside (Argument j k v) = Unit {0}
+IsOutside (String kind span n place) = ⊥
+IsOutside (Chunks kind) = Unit {0}
+
+-- the bytes go on with the string at this place, and lead to this place of its UTF-8
+abbrev pub RunFits : Place → Utf8 → List ℕ → Type 0
+RunFits Item next run = ⊥
+RunFits Key next run = ⊥
+RunFits After next run = ⊥
+RunFits (Argument j k v) next run = ⊥
+RunFits (String kind span n place) next run =
+    (length run ≤ n) × (utf8.owed next ≤ n - length run) × ((u : List ℕ) → EndsAs kind place (run ++ u) ↔ EndsAs kind next u)
+RunFits (Chunks kind) next run = ⊥
+
+-- a front of the bytes, of no more than n, but of some
+abbrev pub IsFront : List ℕ → List ℕ → ℕ → Type 0
+IsFront run bs n = (run ≡ take (length run) bs) × (length run ≤ length bs) × (length run ≤ n) × (0 < n → 0 < length bs → 0 < length run)
+
+-- something completes an item from the state with this byte, at some limit
+abbrev pub GoesOn : Keys → State → ℕ → Type 0
+GoesOn w x c = (limit : ℕ) × (most_levels ≤ limit) × (s : List ℕ) × (es : List NodeEvent) × Rest w limit x (c ∷ s) es
+
+-- no item goes on with the byte: no key stands here, or no item at all begins with it
+pub record IsBadByte (x : State) (c : ℕ) : Type 0 where
+  pub stops : (limit : ℕ) → Stops plain limit x c
+  pub no_key : ((limit : ℕ) → Stops marked limit x mark) ⊎ (BeginsOther c → ⊥)
+
+-- a key stands here, and the byte begins another item
+pub record IsOtherKey (x : State) (c : ℕ) : Type 0 where
+  pub stops : (limit : ℕ) → Stops plain limit x c
+  pub key : GoesOn marked x mark
+  pub other : BeginsOther c
+
+-- the byte opens a level too many
+pub record OpensTooDeep (x : State) (c : ℕ) : Type 0 where
+  pub stops : Stops plain most_levels x c
+  pub goes_on : GoesOn plain x c
+
+-- what a byte does to the reader that stands at a place
+abbrev pub TakesByte : Reader → Place → ℕ → Reader → Result (Unit {0}) SyntaxRefusal → Type 0
+TakesByte before p c behind (Ok x) = Goes before [] p (c ∷ []) behind
+TakesByte before p c behind (Err NoMemory) = Unit {0}
+TakesByte before p c behind (Err (Bad at)) = (at ≡ 0) × IsBadByte (state_at before p) c
+TakesByte before p c behind (Err Ended) = ⊥
+TakesByte before p c behind (Err (TooDeep at)) = (at ≡ 0) × OpensTooDeep (state_at before p) c
+TakesByte before p c behind (Err (KeyKind at)) = (at ≡ 0) × IsOtherKey (state_at before p) c
+
+-- what the reader makes of the front of some bytes: it takes so many of them, or refuses the first
+abbrev pub TakesFront : Reader → List ℕ → Reader → Result ℕ SyntaxRefusal → Type 0
+TakesFront before bs behind (Ok n) = (0 < n) × (n ≤ length bs) × Goes before [] before.place (take n bs) behind
+TakesFront before bs behind (Err refusal) = TakesByte before before.place (slice_index bs 0) behind (Err refusal)
+
+-- a refusal of the byte c, at which the reader stands
+abbrev pub RefusesAt : State → ℕ → SyntaxRefusal → Type 0
+RefusesAt x c NoMemory = Unit {0}
+RefusesAt x c (Bad at) = IsBadByte x c
+RefusesAt x c Ended = ⊥
+RefusesAt x c (TooDeep at) = OpensTooDeep x c
+RefusesAt x c (KeyKind at) = IsOtherKey x c
+
+-- the refusal's place is this one
+abbrev pub IsPlace : ℕ → SyntaxRefusal → Type 0
+IsPlace at (Bad n) = n ≡ at
+IsPlace at Ended = ⊥
+IsPlace at (TooDeep n) = n ≡ at
+IsPlace at (KeyKind n) = n ≡ at
+IsPlace at NoMemory = Unit {0}
+
+-- what it makes of all of them
+abbrev pub TakesAll : Reader → List ℕ → Reader → Result (Unit {0}) SyntaxRefusal → Type 0
+TakesAll before bs behind (Ok x) = Goes before [] before.place bs behind
+TakesAll before bs behind (Err refusal) =
+    (at : ℕ) × (q : Reader) × (at < length bs) × Goes before [] before.place (take at bs) q × RefusesAt (state_of q) (slice_index bs at) refusal × IsPlace at refusal
+
+-- the refusal, its place counted from so many bytes further on
+abbrev pub moved_by : ℕ → SyntaxRefusal → SyntaxRefusal
+moved_by n (Bad at) = Bad (n + at)
+moved_by n Ended = Ended
+moved_by n (TooDeep at) = TooDeep (n + at)
+moved_by n (KeyKind at) = KeyKind (n + at)
+moved_by n NoMemory = NoMemory
+
+-- the place of a refusal is within so many bytes
+abbrev pub IsWithin : ℕ → SyntaxRefusal → Type 0
+IsWithin n (Bad at) = at < n
+IsWithin n Ended = Unit {0}
+IsWithin n (TooDeep at) = at < n
+IsWithin n (KeyKind at) = at < n
+IsWithin n NoMemory = Unit {0}
+
+-- the bytes end where the reader stands
+abbrev pub Finishes : Reader → Result Tree SyntaxRefusal → Type 0
+Finishes r (Ok tree) = (r.place ≡ After) × (levels_of r ≡ []) × (handed_on r ≡ events (node_of tree) [])
+Finishes r (Err Ended) = (w : Keys) (limit : ℕ) (es : List NodeEvent) → Rest w limit (state_of r) [] es → ⊥
+Finishes r (Err NoMemory) = ⊥
+Finishes r (Err (Bad at)) = ⊥
+Finishes r (Err (TooDeep at)) = ⊥
+Finishes r (Err (KeyKind at)) = ⊥

@@ -1,0 +1,113 @@
+// The initial byte of an item (RFC 8949, section 3): what it says of the item, and what follows it.
+// The reader stands on it.
+ghost use Rattle.std.specs.Prelude.{◌≡◌, ◌<◌, ◌≤◌, ◌%◌};
+ghost use Rattle.sm_cbor.specs.Reading.{HeadIs, StartsNumber, WidthIs, ChunkIs, major_of};
+
+use crate::place::{Span, StringKind, Subject};
+
+/// What an initial byte says.
+#[derive(Clone, Copy, PartialEq, Eq, Debug, Drop)]
+pub enum Head {
+    /// What this is comes with an argument, of which so many bytes follow; its value so far.
+    Argument(Subject, u8, u64),
+    /// The chunks of a string of indefinite length.
+    Chunks(StringKind),
+    /// An array of indefinite length.
+    List,
+    /// A map of indefinite length.
+    Map,
+    /// `null` or `undefined`.
+    Null,
+    /// `false` or `true`.
+    Bool(bool),
+    /// Reserved, or a "break".
+    NoItem,
+}
+
+/// The initial byte of a "break".
+pub const BREAK: u8 = 0xFF;
+
+/// The major type of texts.
+pub const TEXT: u8 = 3;
+
+/// How many bytes of the argument follow, and its value so far. None where there is no argument.
+pub fn width(info: u8) -> Option<(u8, u64)>
+    requires { info < 32 }
+    ensures { WidthIs info result }
+{
+    match info {
+        24 => Some((1, 0)),
+        25 => Some((2, 0)),
+        26 => Some((4, 0)),
+        27 => Some((8, 0)),
+        28..=31 => None,
+        _ => Some((0, u64::from(info))),
+    }
+}
+
+// An initial byte whose length is indefinite, or that is reserved.
+fn without_argument(byte: u8) -> Head
+    requires { 28 ≤ byte % 32 }
+    ensures { HeadIs byte result }
+{
+    match byte {
+        0x5F => Head::Chunks(StringKind::Bytes),
+        0x7F => Head::Chunks(StringKind::Text),
+        0x9F => Head::List,
+        0xBF => Head::Map,
+        _ => Head::NoItem,
+    }
+}
+
+// An initial byte with an argument.
+fn with_argument(byte: u8, left: u8, value: u64) -> Head
+    requires { StartsNumber (byte % 32) left value }
+    ensures { HeadIs byte result }
+{
+    match byte {
+        0..=0x1F => Head::Argument(Subject::Unsigned, left, value),
+        0x20..=0x3F => Head::Argument(Subject::Negative, left, value),
+        0x40..=0x5F => Head::Argument(Subject::String(StringKind::Bytes, Span::Whole), left, value),
+        0x60..=0x7F => Head::Argument(Subject::String(StringKind::Text, Span::Whole), left, value),
+        0x80..=0x9F => Head::Argument(Subject::List, left, value),
+        0xA0..=0xBF => Head::Argument(Subject::Map, left, value),
+        0xC0..=0xDF => Head::Argument(Subject::Tag, left, value),
+        0xF4 => Head::Bool(false),
+        0xF5 => Head::Bool(true),
+        0xF6 | 0xF7 => Head::Null,
+        _ => Head::Argument(Subject::Opaque(byte), left, value),
+    }
+}
+
+/// What an initial byte says of the item that it begins.
+pub fn head_of(byte: u8) -> Head
+    ensures { HeadIs byte result }
+{
+    match width(byte % 32) {
+        Some((left, value)) => with_argument(byte, left, value),
+        None => without_argument(byte),
+    }
+}
+
+impl StringKind {
+    // The major type.
+    fn major(self) -> u8
+        ensures { result ≡ major_of self }
+    {
+        match self {
+            StringKind::Bytes => 2,
+            StringKind::Text | StringKind::Key => TEXT,
+        }
+    }
+}
+
+/// What follows the initial byte of a chunk of such a string. None where it begins no chunk.
+pub fn chunk_head(kind: StringKind, byte: u8) -> Option<(u8, u64)>
+    ensures { ChunkIs kind byte result }
+{
+    if byte / 32 == kind.major() {
+        width(byte % 32)
+    } else {
+        None
+    }
+}

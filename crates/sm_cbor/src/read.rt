@@ -1,0 +1,147 @@
+// The reader of CBOR items (RFC 8949, section 3): a machine over bytes. It stands at one place of the item, hands each
+// event on as soon as its bytes are complete, and never looks back. Trees are made from the events.
+ghost use Rattle.std.specs.Prelude.{◌≡◌, ◌<◌, ◌-◌, ◌^◌, ◌↔◌, IsTrue, length, []};
+ghost use Rattle.sm_cbor.specs.Answers.{ReadsTree};
+ghost use Rattle.sm_cbor.specs.Rest.{start};
+ghost use Rattle.sm_cbor.specs.Machine.{moved_by, IsWithin};
+
+mod initial;
+mod strings;
+mod whole;
+
+use crate::place::{Level, Place, StringKind};
+use sm_tree::{SyntaxRefusal, Tree, TreeBuilder};
+use std::alloc::Global;
+
+/// Reads one item.
+#[derive(Drop)]
+pub struct Reader {
+    /// Where the reader stands.
+    place: Place,
+    /// Takes the events.
+    builder: TreeBuilder,
+    /// What is open, the outermost first.
+    levels: Vec<Level>,
+    /// The bytes so far of the string that has begun, if the place is in one.
+    held: Vec<u8>,
+    alloc: Global,
+}
+
+impl Reader {
+    ghost use Rattle.sm_cbor.specs.Machine.{IsSound, TakesByte, TakesFront, TakesAll, Finishes, IsOutside, state_of, levels_of, handed_on};
+
+    fn new(alloc: Global) -> Self
+        ensures state { state_of result ≡ start }
+        ensures nothing { handed_on result ≡ [] }
+        ensures sound { IsSound result }
+    {
+        Reader {
+            place: Place::Item,
+            builder: TreeBuilder::new(alloc),
+            levels: Vec::new(alloc),
+            held: Vec::new(alloc),
+            alloc,
+        }
+    }
+
+    // One byte outside of strings.
+    fn byte(&mut self, byte: u8) -> Result<(), SyntaxRefusal>
+        requires sound { IsSound self.old }
+        requires outside { IsOutside self.old.place }
+        ensures { TakesByte self.old self.old.place byte self.new result }
+    {
+        match self.place {
+            Place::Item => self.item(byte),
+            Place::Key => self.key(byte),
+            Place::After => self.after(byte),
+            Place::Argument(subject, left, value) => self.argument(subject, left, value, byte),
+            Place::Chunks(kind) => self.chunk(kind, byte),
+            Place::String(_, _, _, _) => unreachable!(),
+        }
+    }
+
+    // Takes some bytes in front.
+    fn turn(&mut self, bytes: &[u8]) -> Result<usize, SyntaxRefusal>
+        requires sound { IsSound self.old }
+        requires some { 0 < length bytes.now }
+        ensures { TakesFront self.old bytes.now self.new result }
+    {
+        match self.place {
+            Place::String(StringKind::Bytes, _, left, utf8) => self.string_bytes(left, utf8, bytes),
+            Place::String(_, _, left, utf8) => self.text_bytes(left, utf8, bytes),
+            _ => {
+                self.byte(bytes[0])?;
+                Ok(1)
+            }
+        }
+    }
+
+    // Takes all the bytes.
+    fn feed(&mut self, bytes: &[u8]) -> Result<(), SyntaxRefusal>
+        requires { IsSound self.old }
+        ensures { TakesAll self.old bytes.now self.new result }
+    {
+        let mut at = 0;
+        while at < bytes.len() {
+            match self.turn(&bytes[at..]) {
+                Ok(count) => at += count,
+                Err(refusal) => return Err(moved(refusal, at)),
+            }
+        }
+        Ok(())
+    }
+
+    // Whether an item is whole, and nothing is open.
+    fn is_whole(&self) -> bool
+        ensures { IsTrue result ↔ ((self.now.place ≡ Place.After) × (levels_of self.now ≡ [])) }
+    {
+        match self.place {
+            Place::After => self.levels.is_empty(),
+            _ => false,
+        }
+    }
+
+    // The tree, where the bytes end here.
+    fn finish(self) -> Result<Tree, SyntaxRefusal>
+        requires { IsSound self }
+        ensures { Finishes self result }
+    {
+        if self.is_whole() {
+            Ok(self.builder.finish())
+        } else {
+            Err(SyntaxRefusal::Ended)
+        }
+    }
+}
+
+// The refusal, its place counted from so many bytes further on.
+fn moved(refusal: SyntaxRefusal, by: usize) -> SyntaxRefusal
+    requires room { IsWithin (2 ^ 64 - by) refusal }
+    ensures { result ≡ moved_by by refusal }
+{
+    match refusal {
+        SyntaxRefusal::Bad(at) => SyntaxRefusal::Bad(by as u64 + at),
+        SyntaxRefusal::Ended => SyntaxRefusal::Ended,
+        SyntaxRefusal::TooDeep(at) => SyntaxRefusal::TooDeep(by as u64 + at),
+        SyntaxRefusal::KeyKind(at) => SyntaxRefusal::KeyKind(by as u64 + at),
+        SyntaxRefusal::NoMemory => SyntaxRefusal::NoMemory,
+    }
+}
+
+/// The tree of the bytes, where they are one CBOR item (RFC 8949) of at most 100 levels with text keys. Lengths may have
+/// any form that holds them, and strings, arrays and maps may be of indefinite length. An integer that 64 bits hold is
+/// a `Tree::Int`, another a `Tree::Number` in decimal; `null` and `undefined` are `Tree::Null`, and a float or any
+/// other simple value is a `Tree::Opaque` with its initial byte. No memory is reserved by a length that is claimed.
+///
+/// # Errors
+///
+/// `Bad(at)`, `Ended`, `TooDeep(at)` and `KeyKind(at)`, exactly as the bytes are none; `NoMemory`.
+pub fn read_tree(alloc: Global, bytes: &[u8]) -> Result<Tree, SyntaxRefusal>
+    ensures { ReadsTree bytes.now result }
+{
+    let mut reader = Reader::new(alloc);
+    match reader.feed(bytes) {
+        Ok(()) => reader.finish(),
+        Err(refusal) => Err(refusal),
+    }
+}

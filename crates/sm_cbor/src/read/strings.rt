@@ -1,0 +1,109 @@
+// The bytes of strings and chunks, in runs, and UTF-8 judged as they come. The reader stands on it.
+ghost use Rattle.std.specs.Prelude.{◌≡◌, ◌<◌, ◌≤◌, length, take, OnOk, IsUtf8, [], ◌∷◌};
+ghost use Rattle.sm_tree.specs.declared.utf8.Utf8.TheVariants.{Between};
+ghost use Rattle.sm_cbor.specs.Machine.{IsFront};
+
+use super::Reader;
+use crate::place::Place;
+use sm_tree::{NoMemory, SyntaxRefusal, Utf8, whole_len};
+
+// The bytes in front, but no more than are left.
+fn front(bytes: &[u8], left: u64) -> &[u8]
+    ensures { IsFront result.now bytes.now left }
+{
+    if left < bytes.len() as u64 {
+        &bytes[..left as usize]
+    } else {
+        bytes
+    }
+}
+
+// How many bytes in front are whole characters. None within a character.
+fn characters(utf8: Utf8, bytes: &[u8]) -> usize
+    ensures within { result ≤ length bytes.now }
+    ensures utf8 { IsUtf8 (take result bytes.now) }
+    ensures between { 0 < result → utf8 ≡ Between }
+{
+    match utf8 {
+        Utf8::Between => whole_len(bytes),
+        _ => 0,
+    }
+}
+
+impl Reader {
+    ghost use Rattle.sm_cbor.specs.Machine.{IsAt, IsSound, Goes, TakesByte, TakesFront, RunFits, IsBytesPlace, IsTextPlace};
+
+    // Holds bytes of the string, behind which its UTF-8 stands at this place.
+    pub(super) fn take_run(&mut self, next: Utf8, run: &[u8]) -> Result<(), NoMemory>
+        requires sound { IsAt self.old self.old.place }
+        requires fits { RunFits self.old.place next run.now }
+        ensures { OnOk result (Goes self.old [] self.old.place run.now self.new) }
+    {
+        let Place::String(kind, span, all, _) = self.place else {
+            unreachable!()
+        };
+        self.held.extend_from_slice(run)?;
+        let left = all - run.len() as u64;
+        if left == 0 {
+            return self.end_span(kind, span);
+        }
+        self.place = Place::String(kind, span, left, next);
+        Ok(())
+    }
+
+    // Bytes of a byte string.
+    pub(super) fn string_bytes(
+        &mut self,
+        left: u64,
+        utf8: Utf8,
+        bytes: &[u8],
+    ) -> Result<usize, SyntaxRefusal>
+        requires sound { IsSound self.old }
+        requires place { IsBytesPlace self.old.place left utf8 }
+        requires some { 0 < length bytes.now }
+        ensures { TakesFront self.old bytes.now self.new result }
+    {
+        let run = front(bytes, left);
+        self.take_run(Utf8::Between, run)?;
+        Ok(run.len())
+    }
+
+    // One byte of a text.
+    pub(super) fn text_byte(&mut self, left: u64, utf8: Utf8, byte: u8) -> Result<(), SyntaxRefusal>
+        requires sound { IsSound self.old }
+        requires place { IsTextPlace self.old.place left utf8 }
+        ensures { TakesByte self.old self.old.place byte self.new result }
+    {
+        match utf8.next(byte) {
+            Some(next) => {
+                if next.owed() >= left {
+                    return Err(SyntaxRefusal::Bad(0));
+                }
+                self.take_run(next, &[byte])?;
+                Ok(())
+            }
+            None => Err(SyntaxRefusal::Bad(0)),
+        }
+    }
+
+    // Bytes of a text: whole characters, or one byte.
+    pub(super) fn text_bytes(
+        &mut self,
+        left: u64,
+        utf8: Utf8,
+        bytes: &[u8],
+    ) -> Result<usize, SyntaxRefusal>
+        requires sound { IsSound self.old }
+        requires place { IsTextPlace self.old.place left utf8 }
+        requires some { 0 < length bytes.now }
+        ensures { TakesFront self.old bytes.now self.new result }
+    {
+        let whole = characters(utf8, front(bytes, left));
+        if whole > 0 {
+            self.take_run(Utf8::Between, &bytes[..whole])?;
+            return Ok(whole);
+        }
+        self.text_byte(left, utf8, bytes[0])?;
+        Ok(1)
+    }
+}

@@ -1,0 +1,318 @@
+// What no clause says of the reader: that reading succeeds, by items written by hand, each with its tree. Trees are
+// shown as they are debugged.
+use crate::read_tree;
+use std::alloc::Global;
+use std::process::Abort;
+use std::test::Fail;
+
+// Asserts that the bytes are read, and how their tree is shown.
+fn reads(rt: &impl Abort, alloc: Global, bytes: &[u8], want: &str) -> Result<(), Fail> {
+    match read_tree(alloc, bytes) {
+        Ok(tree) => {
+            let shown = format!(in alloc; "{tree:?}")?;
+            assert_eq!(rt; shown.as_str(), want, "at {bytes:?}");
+        }
+        Err(refusal) => panic!(rt; "{refusal:?} at {bytes:?}"),
+    }
+    Ok(())
+}
+
+// RFC 8949, appendix A
+#[test]
+fn integers_of_the_standard_are_read(rt: HostRuntime) -> Result<(), Fail> {
+    let alloc = rt.alloc();
+    reads(&rt, alloc, b"\x00", "Int(0)")?;
+    reads(&rt, alloc, b"\x01", "Int(1)")?;
+    reads(&rt, alloc, b"\x0A", "Int(10)")?;
+    reads(&rt, alloc, b"\x17", "Int(23)")?;
+    reads(&rt, alloc, b"\x18\x18", "Int(24)")?;
+    reads(&rt, alloc, b"\x18\x19", "Int(25)")?;
+    reads(&rt, alloc, b"\x18\x64", "Int(100)")?;
+    reads(&rt, alloc, b"\x19\x03\xE8", "Int(1000)")?;
+    reads(&rt, alloc, b"\x1A\x00\x0F\x42\x40", "Int(1000000)")?;
+    reads(
+        &rt,
+        alloc,
+        b"\x1B\x00\x00\x00\xE8\xD4\xA5\x10\x00",
+        "Int(1000000000000)",
+    )?;
+    reads(
+        &rt,
+        alloc,
+        b"\x1B\xFF\xFF\xFF\xFF\xFF\xFF\xFF\xFF",
+        "Number(Text { text: \"18446744073709551615\" })",
+    )?;
+    reads(
+        &rt,
+        alloc,
+        b"\x3B\xFF\xFF\xFF\xFF\xFF\xFF\xFF\xFF",
+        "Number(Text { text: \"-18446744073709551616\" })",
+    )?;
+    reads(&rt, alloc, b"\x20", "Int(-1)")?;
+    reads(&rt, alloc, b"\x29", "Int(-10)")?;
+    reads(&rt, alloc, b"\x38\x63", "Int(-100)")?;
+    reads(&rt, alloc, b"\x39\x03\xE7", "Int(-1000)")
+}
+
+#[test]
+fn integers_at_the_ends_of_their_ranges_are_read(rt: HostRuntime) -> Result<(), Fail> {
+    let alloc = rt.alloc();
+    reads(
+        &rt,
+        alloc,
+        b"\x1B\x7F\xFF\xFF\xFF\xFF\xFF\xFF\xFF",
+        "Int(9223372036854775807)",
+    )?;
+    reads(
+        &rt,
+        alloc,
+        b"\x1B\x80\x00\x00\x00\x00\x00\x00\x00",
+        "Number(Text { text: \"9223372036854775808\" })",
+    )?;
+    reads(
+        &rt,
+        alloc,
+        b"\x3B\x7F\xFF\xFF\xFF\xFF\xFF\xFF\xFF",
+        "Int(-9223372036854775808)",
+    )?;
+    reads(
+        &rt,
+        alloc,
+        b"\x3B\x80\x00\x00\x00\x00\x00\x00\x00",
+        "Number(Text { text: \"-9223372036854775809\" })",
+    )
+}
+
+// Each form that holds the number.
+#[test]
+fn longer_heads_are_read(rt: HostRuntime) -> Result<(), Fail> {
+    let alloc = rt.alloc();
+    reads(&rt, alloc, b"\x18\x05", "Int(5)")?;
+    reads(&rt, alloc, b"\x19\x00\x05", "Int(5)")?;
+    reads(&rt, alloc, b"\x1A\x00\x00\x00\x05", "Int(5)")?;
+    reads(
+        &rt,
+        alloc,
+        b"\x1B\x00\x00\x00\x00\x00\x00\x00\x05",
+        "Int(5)",
+    )?;
+    reads(&rt, alloc, b"\x38\x05", "Int(-6)")?;
+    reads(
+        &rt,
+        alloc,
+        b"\x3B\x00\x00\x00\x00\x00\x00\x00\x05",
+        "Int(-6)",
+    )?;
+    reads(&rt, alloc, b"\x58\x01\x07", "Bytes(Bytes { bytes: [7] })")?;
+    reads(
+        &rt,
+        alloc,
+        b"\x7B\x00\x00\x00\x00\x00\x00\x00\x01\x61",
+        "Text(Text { text: \"a\" })",
+    )?;
+    reads(
+        &rt,
+        alloc,
+        b"\x99\x00\x01\x02",
+        "List(Items { items: [Int(2)] })",
+    )?;
+    reads(
+        &rt,
+        alloc,
+        b"\xBA\x00\x00\x00\x01\x78\x01\x61\x02",
+        "Object(Pairs { pairs: [(Text { text: \"a\" }, Int(2))] })",
+    )?;
+    reads(&rt, alloc, b"\xD8\x01\x02", "Tag(1, Int(2))")
+}
+
+#[test]
+fn strings_of_the_standard_are_read(rt: HostRuntime) -> Result<(), Fail> {
+    let alloc = rt.alloc();
+    reads(&rt, alloc, b"\x40", "Bytes(Bytes { bytes: [] })")?;
+    reads(
+        &rt,
+        alloc,
+        b"\x44\x01\x02\x03\x04",
+        "Bytes(Bytes { bytes: [1, 2, 3, 4] })",
+    )?;
+    reads(&rt, alloc, b"\x60", "Text(Text { text: \"\" })")?;
+    reads(&rt, alloc, b"\x61\x61", "Text(Text { text: \"a\" })")?;
+    reads(
+        &rt,
+        alloc,
+        b"\x64\x49\x45\x54\x46",
+        "Text(Text { text: \"IETF\" })",
+    )?;
+    reads(
+        &rt,
+        alloc,
+        b"\x62\x22\x5C",
+        "Text(Text { text: \"\\\"\\\\\" })",
+    )?;
+    reads(
+        &rt,
+        alloc,
+        b"\x62\xC3\xBC",
+        "Text(Text { text: \"\u{fc}\" })",
+    )?;
+    reads(
+        &rt,
+        alloc,
+        b"\x63\xE6\xB0\xB4",
+        "Text(Text { text: \"\u{6c34}\" })",
+    )?;
+    reads(
+        &rt,
+        alloc,
+        b"\x64\xF0\x90\x85\x91",
+        "Text(Text { text: \"\u{10151}\" })",
+    )?;
+    reads(
+        &rt,
+        alloc,
+        b"\x5F\x42\x01\x02\x43\x03\x04\x05\xFF",
+        "Bytes(Bytes { bytes: [1, 2, 3, 4, 5] })",
+    )?;
+    reads(
+        &rt,
+        alloc,
+        b"\x7F\x65\x73\x74\x72\x65\x61\x64\x6D\x69\x6E\x67\xFF",
+        "Text(Text { text: \"streaming\" })",
+    )?;
+    reads(&rt, alloc, b"\x5F\xFF", "Bytes(Bytes { bytes: [] })")?;
+    reads(&rt, alloc, b"\x7F\xFF", "Text(Text { text: \"\" })")?;
+    reads(
+        &rt,
+        alloc,
+        b"\x7F\x60\x61\x61\x60\x62\xC3\xBC\xFF",
+        "Text(Text { text: \"a\u{fc}\" })",
+    )?;
+    reads(
+        &rt,
+        alloc,
+        b"\x5F\x40\x40\x41\xFF\xFF",
+        "Bytes(Bytes { bytes: [255] })",
+    )
+}
+
+#[test]
+fn arrays_and_maps_of_the_standard_are_read(rt: HostRuntime) -> Result<(), Fail> {
+    let alloc = rt.alloc();
+    let nested =
+        "List(Items { items: [Int(1), List(Items { items: [Int(2), Int(3)] }), List(Items { items: [Int(4), Int(5)] })] })";
+    reads(&rt, alloc, b"\x80", "List(Items { items: [] })")?;
+    reads(
+        &rt,
+        alloc,
+        b"\x83\x01\x02\x03",
+        "List(Items { items: [Int(1), Int(2), Int(3)] })",
+    )?;
+    reads(&rt, alloc, b"\x83\x01\x82\x02\x03\x82\x04\x05", nested)?;
+    reads(
+        &rt,
+        alloc,
+        b"\x9F\x01\x82\x02\x03\x9F\x04\x05\xFF\xFF",
+        nested,
+    )?;
+    reads(&rt, alloc, b"\x9F\x01\x82\x02\x03\x82\x04\x05\xFF", nested)?;
+    reads(&rt, alloc, b"\x83\x01\x82\x02\x03\x9F\x04\x05\xFF", nested)?;
+    reads(&rt, alloc, b"\x83\x01\x9F\x02\x03\xFF\x82\x04\x05", nested)?;
+    reads(&rt, alloc, b"\x9F\xFF", "List(Items { items: [] })")?;
+    reads(&rt, alloc, b"\xA0", "Object(Pairs { pairs: [] })")?;
+    reads(&rt, alloc, b"\xBF\xFF", "Object(Pairs { pairs: [] })")?;
+    let mixed =
+        "Object(Pairs { pairs: [(Text { text: \"a\" }, Int(1)), (Text { text: \"b\" }, List(Items { items: [Int(2), Int(3)] }))] })";
+    reads(&rt, alloc, b"\xA2\x61\x61\x01\x61\x62\x82\x02\x03", mixed)?;
+    reads(
+        &rt,
+        alloc,
+        b"\xBF\x61\x61\x01\x61\x62\x9F\x02\x03\xFF\xFF",
+        mixed,
+    )?;
+    reads(
+        &rt,
+        alloc,
+        b"\x82\x61\x61\xA1\x61\x62\x61\x63",
+        "List(Items { items: [Text(Text { text: \"a\" }), Object(Pairs { pairs: [(Text { text: \"b\" }, Text(Text { text: \"c\" }))] })] })",
+    )?;
+    reads(
+        &rt,
+        alloc,
+        b"\x82\x61\x61\xBF\x61\x62\x61\x63\xFF",
+        "List(Items { items: [Text(Text { text: \"a\" }), Object(Pairs { pairs: [(Text { text: \"b\" }, Text(Text { text: \"c\" }))] })] })",
+    )?;
+    reads(
+        &rt,
+        alloc,
+        b"\xBF\x63\x46\x75\x6E\xF5\x63\x41\x6D\x74\x21\xFF",
+        "Object(Pairs { pairs: [(Text { text: \"Fun\" }, Bool(true)), (Text { text: \"Amt\" }, Int(-2))] })",
+    )?;
+    reads(
+        &rt,
+        alloc,
+        b"\xBF\x65\x63\x6F\x75\x6E\x74\x18\x03\xFF",
+        "Object(Pairs { pairs: [(Text { text: \"count\" }, Int(3))] })",
+    )?;
+    reads(
+        &rt,
+        alloc,
+        b"\xBF\x7F\x61\x61\xFF\x01\xFF",
+        "Object(Pairs { pairs: [(Text { text: \"a\" }, Int(1))] })",
+    )?;
+    reads(
+        &rt,
+        alloc,
+        b"\xA2\x61\x61\x01\x61\x61\x02",
+        "Object(Pairs { pairs: [(Text { text: \"a\" }, Int(1)), (Text { text: \"a\" }, Int(2))] })",
+    )
+}
+
+#[test]
+fn simple_values_floats_and_tags_are_read(rt: HostRuntime) -> Result<(), Fail> {
+    let alloc = rt.alloc();
+    reads(&rt, alloc, b"\xF4", "Bool(false)")?;
+    reads(&rt, alloc, b"\xF5", "Bool(true)")?;
+    reads(&rt, alloc, b"\xF6", "Null")?;
+    reads(&rt, alloc, b"\xF7", "Null")?;
+    reads(&rt, alloc, b"\xF0", "Opaque(240)")?;
+    reads(&rt, alloc, b"\xE0", "Opaque(224)")?;
+    reads(&rt, alloc, b"\xF3", "Opaque(243)")?;
+    reads(&rt, alloc, b"\xF8\x20", "Opaque(248)")?;
+    reads(&rt, alloc, b"\xF8\xFF", "Opaque(248)")?;
+    reads(
+        &rt,
+        alloc,
+        b"\x83\xF9\x00\x00\xFA\x47\xC3\x50\x00\xFB\x3F\xF1\x99\x99\x99\x99\x99\x9A",
+        "List(Items { items: [Opaque(249), Opaque(250), Opaque(251)] })",
+    )?;
+    reads(
+        &rt,
+        alloc,
+        b"\xC1\x1A\x51\x4B\x67\xB0",
+        "Tag(1, Int(1363896240))",
+    )?;
+    reads(
+        &rt,
+        alloc,
+        b"\xC1\xFB\x41\xD4\x52\xD9\xEC\x20\x00\x00",
+        "Tag(1, Opaque(251))",
+    )?;
+    reads(
+        &rt,
+        alloc,
+        b"\xD7\x44\x01\x02\x03\x04",
+        "Tag(23, Bytes(Bytes { bytes: [1, 2, 3, 4] }))",
+    )?;
+    reads(
+        &rt,
+        alloc,
+        b"\xD8\x18\x45\x64\x49\x45\x54\x46",
+        "Tag(24, Bytes(Bytes { bytes: [100, 73, 69, 84, 70] }))",
+    )?;
+    reads(
+        &rt,
+        alloc,
+        b"\xC2\xC3\x81\xC4\x80",
+        "Tag(2, Tag(3, List(Items { items: [Tag(4, List(Items { items: [] }))] })))",
+    )
+}
