@@ -17,3 +17,4 @@ pub mod OneReading
 pub mod Written
 pub mod Insides
 pub mod Wholes
+pub mod DocTexts

@@ -1,5 +1,5 @@
 -- What the parts of the lexer answer: each cited by a private function alone.
-use Rattle.std.specs.Prelude.{◌≡◌, ℕ, ◌+◌, ◌≤◌, ◌<◌, Bool, true, false, cond, List, [], ◌∷◌, ◌++◌, take, drop, length, Option, Some, None, Result, Ok, Err, IsOk, slice_index, min, not, ◌&&◌}
+use Rattle.std.specs.Prelude.{◌≡◌, ℕ, ◌+◌, ◌≤◌, ◌<◌, Bool, true, false, cond, List, [], ◌∷◌, ◌++◌, take, drop, length, Option, Some, None, Result, Ok, Err, IsOk, slice_index, min, not, ◌&&◌, ◌==◌}
 use Rattle.std.specs.Char.{encode_utf8}
 use Rattle.std.specs.List.{position_or_len, list_all}
 use Rattle.std.specs.Str.{IsCharBoundary}
@@ -15,7 +15,7 @@ use Rattle.sm_lex.specs.declared.token.LexRefusal.{LexRefusal}
 use Rattle.sm_lex.specs.declared.value.ValueRefusal.{ValueRefusal}
 use Rattle.sm_lex.specs.declared.value.ValueRefusal.TheVariants.{BadEscape, NoMemory}
 use Rattle.sm_lex.specs.Bytes.{is_white}
-use Rattle.sm_lex.specs.Space.{EndsSpace, is_line_feed}
+use Rattle.sm_lex.specs.Space.{EndsSpace, is_line_feed, without_space}
 use Rattle.sm_lex.specs.Lines.{Line, lines, line_text, lines_text, put, trimmed, is_blank, leading_spaces}
 use Rattle.sm_lex.specs.Tokens.{LongestNumber, TokenAt, RefusedAt}
 
@@ -106,3 +106,8 @@ abbrev pub PutsLine : Bool → Line → List ℕ → List ℕ → Result (Unit {
 PutsLine last l old new (Ok done) = (t : List ℕ) × (new ≡ old ++ t) × Gives last l.at l.bytes t
 PutsLine last l old new (Err (BadEscape p)) = Fails last l.at l.bytes p
 PutsLine last l old new (Err NoMemory) = Unit {0}
+
+-- the text of a piece that is a documentation comment
+abbrev pub doc_of : List ℕ → Option (List ℕ)
+doc_of (a ∷ (b ∷ (c ∷ t))) = cond ((a == 47) && ((b == 47) && (c == 47))) (Some (without_space t)) None
+doc_of _ = None

@@ -3,6 +3,7 @@
 #![tactic(auto)]
 
 mod byte;
+mod docs;
 mod escape;
 mod judge;
 pub mod laws;
@@ -19,6 +20,7 @@ mod value;
 #[cfg(test)]
 mod value_tests;
 
+pub use docs::documentation;
 pub use lex::tokens;
 pub use token::{LexRefusal, Token, TokenKind};
 pub use value::{ValueRefusal, block_value, number_value, string_value};

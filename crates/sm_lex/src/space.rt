@@ -17,7 +17,7 @@ pub enum SpacePart {
 
 impl SpacePart {
     /// How many bytes it has.
-    fn len(self) -> usize
+    pub fn len(self) -> usize
         ensures { result ≡ part_len self }
     {
         match self {

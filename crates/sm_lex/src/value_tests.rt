@@ -2,7 +2,7 @@
 ghost use Rattle.sm_lex.specs.Tokens.{lexeme_of};
 ghost use Rattle.sm_lex.specs.Meanings.{ShapedAs};
 
-use crate::{Token, TokenKind, ValueRefusal, block_value, string_value, tokens};
+use crate::{Token, TokenKind, ValueRefusal, block_value, documentation, string_value, tokens};
 use std::alloc::Global;
 use std::process::Abort;
 use std::test::Fail;
@@ -68,6 +68,32 @@ fn text_blocks_have_values(rt: HostRuntime) -> Result<(), Fail> {
         ("\"\"\"\n  a\n\n  b\n  \"\"\"", "a\n\nb\n"),
     ] {
         means(&rt, rt.alloc(), text, want)?;
+    }
+    Ok(())
+}
+
+#[test]
+fn documentation_comments_have_texts(rt: HostRuntime) -> Result<(), Fail> {
+    for (text, want) in [
+        ("/// a\n\n// b\n/// c\nstring S", "a\nc"),
+        ("////", "/"),
+        ("///", ""),
+        ("///  a", " a"),
+        ("/// x\r\nstring S", "x\r"),
+        (" ,\t/// a, b\n,///c", "a, b\nc"),
+    ] {
+        match documentation(rt.alloc(), text)? {
+            Some(docs) => assert_eq!(rt; docs.as_str(), want, "at {text:?}"),
+            None => panic!(rt; "no documentation at {text:?}"),
+        }
+    }
+    Ok(())
+}
+
+#[test]
+fn other_white_space_documents_nothing(rt: HostRuntime) -> Result<(), Fail> {
+    for text in ["", " \n", "// a", "string S /// x", "/ // a"] {
+        assert!(rt; documentation(rt.alloc(), text)?.is_none(), "at {text:?}");
     }
     Ok(())
 }
