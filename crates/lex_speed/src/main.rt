@@ -2,6 +2,8 @@
 // itself. docs/PERFORMANCE.md says how it is used.
 #![tactic(auto)]
 
+ghost use Rattle.lex_speed.specs.Counts.{Counts};
+
 use sm_io::{StdSource, read_all};
 use sm_lex::{LexRefusal, tokens};
 use std::alloc::Global;
@@ -25,7 +27,9 @@ fn asked(rt: &HostRuntime) -> io::Result<Option<u32>> {
 }
 
 // How many tokens the text has, which is taken apart so many times, and at least once.
-fn token_count(alloc: Global, text: &str, turns: u32) -> Result<usize, LexRefusal> {
+fn token_count(alloc: Global, text: &str, turns: u32) -> Result<usize, LexRefusal>
+    ensures { Counts text.now result }
+{
     for _ in 1..turns {
         match tokens(alloc, text) {
             Ok(_) => {}
