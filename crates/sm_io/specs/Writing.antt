@@ -5,11 +5,11 @@ use Rattle.sm_io.specs.declared.sink.PutRefusal.{PutRefusal}
 use Rattle.sm_io.specs.declared.sink.PutRefusal.TheVariants.{Failed, NoMemory}
 
 -- the bytes written grew by the first bytes of the piece, none and all among them
-abbrev pub AppendsFront : Option (List ℕ) → Option (List ℕ) → List ℕ → Type 0
-AppendsFront old new piece = (count : ℕ) × Appends old new (take count piece)
+abbrev pub AppendsPrefix : Option (List ℕ) → Option (List ℕ) → List ℕ → Type 0
+AppendsPrefix old new piece = (count : ℕ) × Appends old new (take count piece)
 
--- the whole piece was written; a fault may have written a front of it, and want of memory wrote nothing
+-- the whole piece was written; a fault may have written a prefix of it, and want of memory wrote nothing
 abbrev pub Puts : Option (List ℕ) → Option (List ℕ) → List ℕ → Result (Unit {0}) PutRefusal → Type 0
 Puts old new piece (Ok done) = Appends old new piece
-Puts old new piece (Err Failed) = AppendsFront old new piece
+Puts old new piece (Err Failed) = AppendsPrefix old new piece
 Puts old new piece (Err NoMemory) = Keeps old new

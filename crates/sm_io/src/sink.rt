@@ -8,7 +8,7 @@ use thiserror::Error;
 /// Why a piece wasn't written.
 #[derive(Clone, Copy, Debug, Error, PartialEq, Eq)]
 pub enum PutRefusal {
-    /// The outside failed, and may have taken a front of the piece.
+    /// The outside failed, and may have taken a prefix of the piece.
     #[error("the write failed")]
     Failed,
     /// Memory ran out, and nothing was written.

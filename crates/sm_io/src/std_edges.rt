@@ -2,7 +2,7 @@
 ghost use Rattle.std.specs.Prelude.{◌≡◌, ◌≤◌, OnOk, OnErr, IsErrOf};
 ghost use Rattle.std.specs.Io.KnownBytes.{Appends};
 ghost use Rattle.sm_io.specs.Causes.{Rose};
-ghost use Rattle.sm_io.specs.Writing.{AppendsFront, Puts};
+ghost use Rattle.sm_io.specs.Writing.{AppendsPrefix, Puts};
 
 use crate::{Failed, PutRefusal, Sink, Source};
 use std::io::{Read, Write};
@@ -82,7 +82,7 @@ impl<W: Write> Sink for StdSink<W> {
 // A writer that takes nothing of what is left has failed.
 fn write_whole<W: Write>(writer: &mut W, piece: &[u8]) -> Result<(), Failed>
     ensures whole { OnOk result (Appends (W.contents writer.old) (W.contents writer.new) piece.now) }
-    ensures front { OnErr result (AppendsFront (W.contents writer.old) (W.contents writer.new) piece.now) }
+    ensures prefix { OnErr result (AppendsPrefix (W.contents writer.old) (W.contents writer.new) piece.now) }
 {
     let mut at = 0;
     while at < piece.len() {
