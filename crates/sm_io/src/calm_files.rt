@@ -19,7 +19,7 @@ impl CalmFiles {
 
     /// These files. Of two with one name the first counts.
     pub fn new(alloc: Global, files: Vec<(String, Vec<u8>)>) -> Self
-        ensures { calm_folder result ≡ folder_of files.items empty_file }
+        ensures { ⟦<CalmFiles as Files>⟧.held result ≡ Some (folder_of files.items empty_file) }
     {
         CalmFiles {
             files: NamedFiles::new(alloc, files),

@@ -25,7 +25,7 @@ impl MemFiles {
     /// These files. Of two with one name the first counts.
     /// The reads and writes that `failing` lists, counted from 1 in one sequence, fail.
     pub fn new(alloc: Global, files: Vec<(String, Vec<u8>)>, failing: Vec<u64>) -> Self
-        ensures held { mem_folder result ≡ folder_of files.items nothing }
+        ensures held { ⟦<MemFiles as Files>⟧.held result ≡ Some (folder_of files.items nothing) }
         ensures read_faults { ⟦<MemFiles as Files>⟧.read_faults result ≡ 0 }
         ensures write_faults { ⟦<MemFiles as Files>⟧.write_faults result ≡ 0 }
         ensures script { files_script result ≡ record { cuts = []; failing = failing.items; calls = 0 } }

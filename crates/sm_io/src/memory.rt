@@ -1,10 +1,10 @@
 // Objects over memory that fail in the calls they were told.
-ghost use Rattle.std.specs.Prelude.{◌≡◌, ◌<◌, ◌≤◌, ◌↔◌, ℕ, [], All, length, min, IfOk, OnErr, is_err, IsErrOf, IsTrue, Ok, Some};
+ghost use Rattle.std.specs.Prelude.{◌≡◌, ◌<◌, ◌≤◌, ◌↔◌, ℕ, [], All, length, min, IfOk, OnErr, is_err, IsErrOf, IsTrue, Some};
 ghost use Rattle.std.specs.Io.{ReadsAtMost};
 ghost use Rattle.sm_io.specs.Causes.{Rose};
 ghost use Rattle.sm_io.specs.Reading.{Takes};
 ghost use Rattle.sm_io.specs.Writing.{Puts};
-ghost use Rattle.sm_io.specs.Script.{Script, after_call, fails, most};
+ghost use Rattle.sm_io.specs.Script.{after_call, fails, most};
 
 use crate::script::{CutBytes, FailingCalls};
 use crate::sink::append;
@@ -20,13 +20,13 @@ pub struct MemSource {
 }
 
 impl MemSource {
-    ghost use Rattle.sm_io.specs.Memory.{source_left, source_script};
+    ghost use Rattle.sm_io.specs.Memory.{source_script};
 
     /// A source of these bytes, whose k-th take gives at most as many as the k-th cut, and past the last cut all that fit.
-    /// The takes that `failing` lists, counted from 1, fail.
+    /// Each cut is at least 1. The takes that `failing` lists, counted from 1, fail.
     pub fn new(bytes: Vec<u8>, cuts: Vec<u64>, failing: Vec<u64>) -> Self
         requires positive { All (λ cut. 0 < cut) cuts.items }
-        ensures left { source_left result ≡ bytes.items }
+        ensures left { ⟦<MemSource as Source>⟧.left result ≡ Some bytes.items }
         ensures faults { ⟦<MemSource as Source>⟧.faults result ≡ 0 }
         ensures script { source_script result ≡ record { cuts = cuts.items; failing = failing.items; calls = 0 } }
     {
@@ -73,11 +73,11 @@ pub struct MemSink {
 }
 
 impl MemSink {
-    ghost use Rattle.sm_io.specs.Memory.{sink_written, sink_script};
+    ghost use Rattle.sm_io.specs.Memory.{sink_script};
 
     /// A sink to which nothing was written. The puts that `failing` lists, counted from 1, fail.
     pub fn new(alloc: Global, failing: Vec<u64>) -> Self
-        ensures written { sink_written result ≡ [] }
+        ensures written { ⟦<MemSink as Sink>⟧.written result ≡ Some [] }
         ensures faults { ⟦<MemSink as Sink>⟧.faults result ≡ 0 }
         ensures script { sink_script result ≡ record { cuts = []; failing = failing.items; calls = 0 } }
     {
@@ -90,7 +90,7 @@ impl MemSink {
 
     /// The bytes written so far.
     pub fn bytes(&self) -> &[u8]
-        ensures { result.now ≡ sink_written self.now }
+        ensures { ⟦<MemSink as Sink>⟧.written self.now ≡ Some result.now }
     {
         &self.bytes
     }

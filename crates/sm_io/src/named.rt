@@ -14,7 +14,7 @@ pub struct NamedFiles {
 }
 
 impl NamedFiles {
-    ghost use Rattle.sm_io.specs.Memory.{files_of, named, IsPlace};
+    ghost use Rattle.sm_io.specs.Named.{files_of, named, IsPlace};
 
     /// These files.
     pub fn new(alloc: Global, files: Vec<(String, Vec<u8>)>) -> Self
