@@ -5,6 +5,10 @@ use Rattle.std.specs.declared.alloc.Global.{Global}
 use Rattle.sm_io.specs.Files.{Named, entries}
 use Rattle.sm_io.specs.declared.named.NamedFiles.{NamedFiles}
 
+-- the allocator for copies
+abbrev pub alloc_of : NamedFiles → Global
+alloc_of files = files.alloc
+
 -- the files by name, in the order in which they are kept
 abbrev pub files_of : NamedFiles → List (String Global × Vec ℕ Global)
 files_of files = files.files.items
