@@ -1,5 +1,5 @@
 -- What files stand for, where they are told: a finite map from names to bytes, and what stands at every other name.
-use Rattle.std.specs.Prelude.{◌≡◌, ◌≢◌, ◌<◌, ◌≤◌, ◌↔◌, ℕ, List, [], map, length, ⊤, IfSome, IsSomeAnd, None, Some, Ok, Err, Option, Result, Vec, String, string_bytes}
+use Rattle.std.specs.Prelude.{◌≡◌, ◌≢◌, ◌<◌, ◌≤◌, ◌↔◌, ℕ, Bool, true, false, List, [], map, length, ⊤, IfSome, IsSomeAnd, None, Some, Ok, Err, Option, Result, Vec, String, string_bytes}
 use Rattle.std.specs.FinMap as fin
 use Rattle.std.specs.Ordering.{nat_cmp}
 use Rattle.std.specs.Cmp.Lexicographic.{slice_cmp}
@@ -64,6 +64,13 @@ WritesFile told now name bytes (Ok done) = Holds now name (Some bytes) × KeepsO
 WritesFile told now name bytes (Err Failed) = KeepsOthers told now name
 WritesFile told now name bytes (Err TooLong) = ⊥
 WritesFile told now name bytes (Err NoMemory) = now ≡ told
+
+-- the answer tells of a fault
+abbrev pub file_failed : {A : Type 0} → Result A FileRefusal → Bool
+file_failed (Ok done) = false
+file_failed (Err Failed) = true
+file_failed (Err TooLong) = false
+file_failed (Err NoMemory) = false
 
 -- the same names are let
 abbrev pub LetsSame : (List ℕ → Type 0) → (List ℕ → Type 0) → Type 0

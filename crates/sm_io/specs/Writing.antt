@@ -1,5 +1,5 @@
 -- What a write does to the bytes that a sink holds, where the sink tells them.
-use Rattle.std.specs.Prelude.{ℕ, List, take, Ok, Err, Option, Result}
+use Rattle.std.specs.Prelude.{ℕ, Bool, true, false, List, take, Ok, Err, Option, Result}
 use Rattle.std.specs.Io.KnownBytes.{Keeps, Appends}
 use Rattle.sm_io.specs.declared.sink.PutRefusal.{PutRefusal}
 use Rattle.sm_io.specs.declared.sink.PutRefusal.TheVariants.{Failed, NoMemory}
@@ -13,3 +13,9 @@ abbrev pub Puts : Option (List ℕ) → Option (List ℕ) → List ℕ → Resul
 Puts old new piece (Ok done) = Appends old new piece
 Puts old new piece (Err Failed) = AppendsPrefix old new piece
 Puts old new piece (Err NoMemory) = Keeps old new
+
+-- the answer tells of a fault
+abbrev pub put_failed : Result (Unit {0}) PutRefusal → Bool
+put_failed (Ok done) = false
+put_failed (Err Failed) = true
+put_failed (Err NoMemory) = false

@@ -1,9 +1,9 @@
 // Objects over memory that fail in the calls they were told.
 ghost use Rattle.std.specs.Prelude.{◌≡◌, ◌<◌, ◌≤◌, ◌↔◌, ℕ, [], All, length, min, IfOk, OnErr, is_err, IsErrOf, IsTrue, Some};
 ghost use Rattle.std.specs.Io.{ReadsAtMost};
-ghost use Rattle.sm_io.specs.Causes.{Rose};
+ghost use Rattle.sm_io.specs.Causes.{Rose, counted};
 ghost use Rattle.sm_io.specs.Reading.{Takes};
-ghost use Rattle.sm_io.specs.Writing.{Puts};
+ghost use Rattle.sm_io.specs.Writing.{Puts, put_failed};
 ghost use Rattle.sm_io.specs.Script.{after_call, fails, most};
 
 use crate::script::{CutBytes, FailingCalls};
@@ -51,6 +51,7 @@ impl Source for MemSource {
         ensures bytes { Takes (Some (source_left self.old)) (Some (source_left self.new)) buf.new result }
         ensures later { ⟦<MemSource as Source>⟧.faults self.old ≤ ⟦<MemSource as Source>⟧.faults self.new }
         ensures cause { OnErr result (Rose (⟦<MemSource as Source>⟧.faults self.old) (⟦<MemSource as Source>⟧.faults self.new)) }
+        ensures faults { ⟦<MemSource as Source>⟧.faults self.new ≡ counted (is_err result) (⟦<MemSource as Source>⟧.faults self.old) }
         ensures script { source_script self.new ≡ after_call (source_script self.old) }
         ensures failing { is_err result ≡ fails (source_script self.new) }
         ensures count { IfOk result (λ count. count
@@ -107,6 +108,7 @@ impl Sink for MemSink {
         ensures bytes { Puts (Some (sink_written self.old)) (Some (sink_written self.new)) piece.now result }
         ensures later { ⟦<MemSink as Sink>⟧.faults self.old ≤ ⟦<MemSink as Sink>⟧.faults self.new }
         ensures cause { IsErrOf result PutRefusal.Failed → Rose (⟦<MemSink as Sink>⟧.faults self.old) (⟦<MemSink as Sink>⟧.faults self.new) }
+        ensures faults { ⟦<MemSink as Sink>⟧.faults self.new ≡ counted (put_failed result) (⟦<MemSink as Sink>⟧.faults self.old) }
         ensures script { sink_script self.new ≡ after_call (sink_script self.old) }
         ensures failing { IsErrOf result PutRefusal.Failed ↔ IsTrue (fails (sink_script self.new)) }
         ensures nothing { OnErr result (sink_written self.new ≡ sink_written self.old) }
