@@ -31,10 +31,11 @@ or_other None others = other_file others
 abbrev pub file_at : Folder → List ℕ → Option (List ℕ)
 file_at folder name = or_other (fin.get folder.named name) folder.others
 
--- the folder of these files; of two with one name the first counts
+-- the names and bytes of these files, in order
 abbrev pub entries : List (String Global × Vec ℕ Global) → List (List ℕ × List ℕ)
 entries files = map (λ file. (string_bytes file.0, file.1.items)) files
 
+-- the folder of these files; of two with one name the first counts
 abbrev pub folder_of : List (String Global × Vec ℕ Global) → Others → Folder
 folder_of files others = record { named = fin.from_entries (entries files); others = others }
 

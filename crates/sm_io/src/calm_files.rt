@@ -26,7 +26,7 @@ impl CalmFiles {
         }
     }
 
-    /// The bytes that are kept under this name, or `None` where the name stands for an empty file only because nothing is.
+    /// The bytes that are kept under this name, or `None` where none are kept and the name stands for an empty file.
     pub fn file(&self, name: &str) -> Option<&[u8]>
         ensures { option_copied result ≡ get (calm_folder self.now).named name.now }
     {

@@ -31,7 +31,7 @@ impl<R: rt::Files> DiskFiles<R> {
     }
 }
 
-// The bytes of a file, of which it holds at most the limit and one buffer.
+// The bytes of a file. At most `limit` bytes and one buffer are held at a time; no clause says so.
 fn load<R: rt::Files>(
     alloc: Global,
     runtime: &R,

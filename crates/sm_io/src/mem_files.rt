@@ -1,4 +1,4 @@
-// Files in memory whose reads and writes fail in the calls they were told.
+// Files in memory whose reads and writes fail in the calls they were told, and reads of names without a file.
 ghost use Rattle.std.specs.Prelude.{◌≡◌, ◌≤◌, ◌↔◌, ◌⊎◌, List, ℕ, [], ⊤, None, Some, IsErrOf, IsTrue, option_copied};
 ghost use Rattle.sm_io.specs.Causes.{Rose, counted};
 ghost use Rattle.sm_io.specs.Files.{file_at, file_failed, folder_of, ReadsFile, WritesFile};
@@ -10,7 +10,7 @@ use crate::script::FailingCalls;
 use crate::{FileRefusal, Files};
 use std::alloc::{AllocError, Global};
 
-/// Files in memory that fail in the calls they were told. Every name without a file stands for nothing.
+/// Files in memory that fail in the calls they were told. Every name without a file stands for nothing, and reading it fails.
 #[derive(Drop)]
 pub struct MemFiles {
     files: NamedFiles,
