@@ -5,7 +5,7 @@ use Rattle.std.specs.Ordering.{nat_cmp, eq_by_cmp}
 use Rattle.std.specs.Cmp.Lexicographic.{slice_cmp, bytes_decides, texts_ties, nat_list_cmp_total}
 use Rattle.std.specs.declared.alloc.Global.{Global}
 use Rattle.sm_io.specs.Files.{entries}
-use Rattle.sm_io.specs.Memory.{HasNone}
+use Rattle.sm_io.specs.Named.{HasNone}
 
 abbrev pub Entry : Type 0
 Entry = String Global × Vec ℕ Global

@@ -21,7 +21,7 @@ longer_than_lost (Some xs) (Some ys) front limit lost more = rw lost (omega (ari
 pub rest_cut : (piece : List ℕ) (at count : ℕ) → take count (take (length piece - at) (drop at piece)) ≡ take count (drop at piece)
 rest_cut piece at count = ap (take count) (take_all (length piece - at) (drop at piece) (omega (arith, length-drop at piece)))
 
--- what two writes append is a longer front of the piece
+-- what two writes append is a longer prefix of the piece
 pub appends_both : (old middle new : Option (List ℕ)) (piece : List ℕ) (at count : ℕ) → Appends old middle (take at piece) → Appends middle new (take count (take (length piece - at) (drop at piece))) → Appends old new (take (at + count) piece)
 appends_both None middle new piece at count one two = tt
 appends_both (Some xs) None new piece at count one two = absurd one

@@ -1,5 +1,5 @@
 -- What files stand for, where they are told: a finite map from names to bytes, and what stands at every other name.
-use Rattle.std.specs.Prelude.{◌≡◌, ◌≢◌, ◌<◌, ◌≤◌, ◌↔◌, ℕ, List, [], map, length, ⊤, IfSome, IsSomeAnd, None, Some, Ok, Err, Option, Result, Vec, String, string_bytes}
+use Rattle.std.specs.Prelude.{◌≡◌, ◌≢◌, ◌<◌, ◌≤◌, ◌↔◌, ℕ, Bool, true, false, List, [], map, length, ⊤, IfSome, IsSomeAnd, None, Some, Ok, Err, Option, Result, Vec, String, string_bytes}
 use Rattle.std.specs.FinMap as fin
 use Rattle.std.specs.Ordering.{nat_cmp}
 use Rattle.std.specs.Cmp.Lexicographic.{slice_cmp}
@@ -31,10 +31,11 @@ or_other None others = other_file others
 abbrev pub file_at : Folder → List ℕ → Option (List ℕ)
 file_at folder name = or_other (fin.get folder.named name) folder.others
 
--- the folder of these files; of two with one name the first counts
+-- the names and bytes of these files, in order
 abbrev pub entries : List (String Global × Vec ℕ Global) → List (List ℕ × List ℕ)
 entries files = map (λ file. (string_bytes file.0, file.1.items)) files
 
+-- the folder of these files; of two with one name the first counts
 abbrev pub folder_of : List (String Global × Vec ℕ Global) → Others → Folder
 folder_of files others = record { named = fin.from_entries (entries files); others = others }
 
@@ -64,6 +65,13 @@ WritesFile told now name bytes (Ok done) = Holds now name (Some bytes) × KeepsO
 WritesFile told now name bytes (Err Failed) = KeepsOthers told now name
 WritesFile told now name bytes (Err TooLong) = ⊥
 WritesFile told now name bytes (Err NoMemory) = now ≡ told
+
+-- the answer tells of a fault
+abbrev pub file_failed : {A : Type 0} → Result A FileRefusal → Bool
+file_failed (Ok done) = false
+file_failed (Err Failed) = true
+file_failed (Err TooLong) = false
+file_failed (Err NoMemory) = false
 
 -- the same names are let
 abbrev pub LetsSame : (List ℕ → Type 0) → (List ℕ → Type 0) → Type 0

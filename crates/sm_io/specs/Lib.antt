@@ -3,4 +3,5 @@ pub mod Reading
 pub mod Writing
 pub mod Files
 pub mod Script
+pub mod Named
 pub mod Memory

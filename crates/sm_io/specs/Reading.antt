@@ -14,13 +14,13 @@ Takes left rest buffer (Err fault) = Keeps left rest
 abbrev pub Empties : Option (List ℕ) → Option (List ℕ) → List ℕ → Type 0
 Empties left rest bytes = Consumes left rest bytes × IsAtEnd rest
 
--- some bytes from the front are no longer left
-abbrev pub LosesFront : Option (List ℕ) → Option (List ℕ) → Type 0
-LosesFront left rest = (front : List ℕ) × Consumes left rest front
+-- bytes from the front, perhaps none, are no longer left
+abbrev pub LosesPrefix : Option (List ℕ) → Option (List ℕ) → Type 0
+LosesPrefix left rest = (prefix : List ℕ) × Consumes left rest prefix
 
 -- all bytes left were read; or they are more than the limit; or a fault or want of memory stopped the read
 abbrev pub ReadsAll : Option (List ℕ) → Option (List ℕ) → ℕ → Result (Vec ℕ Global) ReadRefusal → Type 0
 ReadsAll left rest limit (Ok bytes) = Empties left rest bytes.items × (length bytes.items ≤ limit)
-ReadsAll left rest limit (Err Failed) = LosesFront left rest
-ReadsAll left rest limit (Err TooLong) = IfSome left (λ bytes. limit < length bytes) × LosesFront left rest
-ReadsAll left rest limit (Err NoMemory) = LosesFront left rest
+ReadsAll left rest limit (Err Failed) = LosesPrefix left rest
+ReadsAll left rest limit (Err TooLong) = IfSome left (λ bytes. limit < length bytes) × LosesPrefix left rest
+ReadsAll left rest limit (Err NoMemory) = LosesPrefix left rest

@@ -1,10 +1,8 @@
 // Objects over memory that never fail: their counts of faults are the constant 0.
-ghost use Rattle.std.specs.Prelude.{◌≡◌, ◌<◌, ◌≤◌, ℕ, [], All, length, min, IfOk, IsOk, OnErr, IsErrOf, Ok, Some};
+ghost use Rattle.std.specs.Prelude.{◌≡◌, ◌<◌, ℕ, [], All, length, min, Ok, Some};
 ghost use Rattle.std.specs.Io.{ReadsAtMost};
-ghost use Rattle.sm_io.specs.Causes.{Rose};
 ghost use Rattle.sm_io.specs.Reading.{Takes};
-ghost use Rattle.sm_io.specs.Writing.{Puts};
-ghost use Rattle.sm_io.specs.Script.{Script, after_call, most};
+ghost use Rattle.sm_io.specs.Script.{after_call, most};
 
 use crate::script::CutBytes;
 use crate::sink::append;
@@ -19,12 +17,13 @@ pub struct CalmSource {
 }
 
 impl CalmSource {
-    ghost use Rattle.sm_io.specs.Memory.{calm_left, calm_script};
+    ghost use Rattle.sm_io.specs.Memory.{calm_script};
 
     /// A source of these bytes, whose k-th take gives at most as many as the k-th cut, and past the last cut all that fit.
+    /// Each cut is at least 1.
     pub fn new(bytes: Vec<u8>, cuts: Vec<u64>) -> Self
         requires positive { All (λ cut. 0 < cut) cuts.items }
-        ensures left { calm_left result ≡ bytes.items }
+        ensures left { ⟦<CalmSource as Source>⟧.left result ≡ Some bytes.items }
         ensures script { calm_script result ≡ record { cuts = cuts.items; failing = []; calls = 0 } }
     {
         let bytes = CutBytes { bytes, at: 0, cuts };
@@ -58,11 +57,9 @@ pub struct CalmSink {
 }
 
 impl CalmSink {
-    ghost use Rattle.sm_io.specs.Memory.{calm_written};
-
     /// A sink to which nothing was written.
     pub fn new(alloc: Global) -> Self
-        ensures { calm_written result ≡ [] }
+        ensures { ⟦<CalmSink as Sink>⟧.written result ≡ Some [] }
     {
         CalmSink {
             bytes: Vec::new(alloc),
@@ -71,14 +68,16 @@ impl CalmSink {
 
     /// The bytes written so far.
     pub fn bytes(&self) -> &[u8]
-        ensures { result.now ≡ calm_written self.now }
+        ensures { ⟦<CalmSink as Sink>⟧.written self.now ≡ Some result.now }
     {
         &self.bytes
     }
 }
 
 impl Sink for CalmSink {
-    ghost written = { λ s. Some s.bytes.items };
+    ghost use Rattle.sm_io.specs.Memory.{calm_written};
+
+    ghost written = { λ s. Some (calm_written s) };
 
     ghost faults = { λ s. 0 };
 

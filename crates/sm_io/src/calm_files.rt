@@ -19,14 +19,14 @@ impl CalmFiles {
 
     /// These files. Of two with one name the first counts.
     pub fn new(alloc: Global, files: Vec<(String, Vec<u8>)>) -> Self
-        ensures { calm_folder result ≡ folder_of files.items empty_file }
+        ensures { ⟦<CalmFiles as Files>⟧.held result ≡ Some (folder_of files.items empty_file) }
     {
         CalmFiles {
             files: NamedFiles::new(alloc, files),
         }
     }
 
-    /// The bytes that are kept under this name, or `None` where the name stands for an empty file only because nothing is.
+    /// The bytes that are kept under this name, or `None` where none are kept and the name stands for an empty file.
     pub fn file(&self, name: &str) -> Option<&[u8]>
         ensures { option_copied result ≡ get (calm_folder self.now).named name.now }
     {

@@ -1,5 +1,7 @@
 // Files by their paths, over the files of std. They tell nothing of what they hold.
-ghost use Rattle.std.specs.Prelude.{◌≡◌, ◌≤◌, List, ℕ, length, ⊤, None, IfOk};
+ghost use Rattle.std.specs.Prelude.{◌≡◌, ◌≤◌, List, ℕ, length, ⊤, None, IfOk, IsErrOf};
+ghost use Rattle.sm_io.specs.Causes.{Rose, counted};
+ghost use Rattle.sm_io.specs.Files.{ReadsFile, WritesFile, file_failed};
 
 use crate::{FileRefusal, Files, ReadRefusal, StdSource, read_all};
 use std::alloc::Global;
@@ -29,7 +31,7 @@ impl<R: rt::Files> DiskFiles<R> {
     }
 }
 
-// The bytes of a file, of which it holds at most the limit and one buffer.
+// The bytes of a file. At most `limit` bytes and one buffer are held at a time; no clause says so.
 fn load<R: rt::Files>(
     alloc: Global,
     runtime: &R,
@@ -55,7 +57,13 @@ impl<R: rt::Files> Files for DiskFiles<R> {
 
     ghost lets_write = { λ s name. ⊤ };
 
-    fn read(&mut self, name: &str, limit: u64) -> Result<Vec<u8>, FileRefusal> {
+    fn read(&mut self, name: &str, limit: u64) -> Result<Vec<u8>, FileRefusal>
+        ensures bytes { ReadsFile None name.now limit result }
+        ensures later { ⟦<DiskFiles<R> as Files>⟧.read_faults self.old ≤ ⟦<DiskFiles<R> as Files>⟧.read_faults self.new }
+        ensures other_count { ⟦<DiskFiles<R> as Files>⟧.write_faults self.new ≡ ⟦<DiskFiles<R> as Files>⟧.write_faults self.old }
+        ensures cause { IsErrOf result FileRefusal.Failed → Rose (⟦<DiskFiles<R> as Files>⟧.read_faults self.old) (⟦<DiskFiles<R> as Files>⟧.read_faults self.new) }
+        ensures faults { ⟦<DiskFiles<R> as Files>⟧.read_faults self.new ≡ counted (file_failed result) (⟦<DiskFiles<R> as Files>⟧.read_faults self.old) }
+    {
         match load(self.alloc, &self.runtime, name, limit) {
             Ok(bytes) => Ok(bytes),
             Err(ReadRefusal::TooLong) => Err(FileRefusal::TooLong),
@@ -67,7 +75,13 @@ impl<R: rt::Files> Files for DiskFiles<R> {
         }
     }
 
-    fn write(&mut self, name: &str, bytes: &[u8]) -> Result<(), FileRefusal> {
+    fn write(&mut self, name: &str, bytes: &[u8]) -> Result<(), FileRefusal>
+        ensures bytes { WritesFile None None name.now bytes.now result }
+        ensures later { ⟦<DiskFiles<R> as Files>⟧.write_faults self.old ≤ ⟦<DiskFiles<R> as Files>⟧.write_faults self.new }
+        ensures other_count { ⟦<DiskFiles<R> as Files>⟧.read_faults self.new ≡ ⟦<DiskFiles<R> as Files>⟧.read_faults self.old }
+        ensures cause { IsErrOf result FileRefusal.Failed → Rose (⟦<DiskFiles<R> as Files>⟧.write_faults self.old) (⟦<DiskFiles<R> as Files>⟧.write_faults self.new) }
+        ensures faults { ⟦<DiskFiles<R> as Files>⟧.write_faults self.new ≡ counted (file_failed result) (⟦<DiskFiles<R> as Files>⟧.write_faults self.old) }
+    {
         match fs::write(&self.runtime, name, bytes) {
             Ok(()) => Ok(()),
             Err(_) => {

@@ -8,13 +8,13 @@ use thiserror::Error;
 /// Why a file wasn't read or written.
 #[derive(Clone, Copy, Debug, Error, PartialEq, Eq)]
 pub enum FileRefusal {
-    /// The outside failed. A file that should have been written may hold anything.
+    /// The outside failed, or the name to be read stands for nothing. A file that should have been written may hold anything.
     #[error("the file could not be read or written")]
     Failed,
     /// The file has more bytes than the limit.
     #[error("the file is longer than the limit")]
     TooLong,
-    /// Memory ran out, and nothing was written.
+    /// Memory ran out. What the files hold is as before, where it is told.
     #[error("out of memory")]
     NoMemory,
 }
@@ -24,10 +24,10 @@ pub trait Files {
     /// What the names stand for, where it is told.
     ghost held: { Self → Option Folder };
 
-    /// How many reads have failed.
+    /// A count of faults of reads. It never falls, and a read answers `Failed` only where it rose or stands at 2^64 - 1.
     ghost read_faults: { Self → ℕ };
 
-    /// How many writes have failed.
+    /// A count of faults of writes. It never falls, and a write answers `Failed` only where it rose or stands at 2^64 - 1.
     ghost write_faults: { Self → ℕ };
 
     /// The names, by their bytes, that may be read.

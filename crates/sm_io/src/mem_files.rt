@@ -1,7 +1,7 @@
-// Files in memory whose reads and writes fail in the calls they were told.
+// Files in memory whose reads and writes fail in the calls they were told, and reads of names without a file.
 ghost use Rattle.std.specs.Prelude.{◌≡◌, ◌≤◌, ◌↔◌, ◌⊎◌, List, ℕ, [], ⊤, None, Some, IsErrOf, IsTrue, option_copied};
-ghost use Rattle.sm_io.specs.Causes.{Rose};
-ghost use Rattle.sm_io.specs.Files.{file_at, folder_of, ReadsFile, WritesFile};
+ghost use Rattle.sm_io.specs.Causes.{Rose, counted};
+ghost use Rattle.sm_io.specs.Files.{file_at, file_failed, folder_of, ReadsFile, WritesFile};
 ghost use Rattle.sm_io.specs.Files.Others.{nothing};
 ghost use Rattle.sm_io.specs.Script.{after_call, fails};
 
@@ -10,7 +10,7 @@ use crate::script::FailingCalls;
 use crate::{FileRefusal, Files};
 use std::alloc::{AllocError, Global};
 
-/// Files in memory that fail in the calls they were told. Every name without a file stands for nothing.
+/// Files in memory that fail in the calls they were told. Every name without a file stands for nothing, and reading it fails.
 #[derive(Drop)]
 pub struct MemFiles {
     files: NamedFiles,
@@ -25,7 +25,7 @@ impl MemFiles {
     /// These files. Of two with one name the first counts.
     /// The reads and writes that `failing` lists, counted from 1 in one sequence, fail.
     pub fn new(alloc: Global, files: Vec<(String, Vec<u8>)>, failing: Vec<u64>) -> Self
-        ensures held { mem_folder result ≡ folder_of files.items nothing }
+        ensures held { ⟦<MemFiles as Files>⟧.held result ≡ Some (folder_of files.items nothing) }
         ensures read_faults { ⟦<MemFiles as Files>⟧.read_faults result ≡ 0 }
         ensures write_faults { ⟦<MemFiles as Files>⟧.write_faults result ≡ 0 }
         ensures script { files_script result ≡ record { cuts = []; failing = failing.items; calls = 0 } }
@@ -65,6 +65,7 @@ impl Files for MemFiles {
         ensures later { ⟦<MemFiles as Files>⟧.read_faults self.old ≤ ⟦<MemFiles as Files>⟧.read_faults self.new }
         ensures other_count { ⟦<MemFiles as Files>⟧.write_faults self.new ≡ ⟦<MemFiles as Files>⟧.write_faults self.old }
         ensures cause { IsErrOf result FileRefusal.Failed → Rose (⟦<MemFiles as Files>⟧.read_faults self.old) (⟦<MemFiles as Files>⟧.read_faults self.new) }
+        ensures faults { ⟦<MemFiles as Files>⟧.read_faults self.new ≡ counted (file_failed result) (⟦<MemFiles as Files>⟧.read_faults self.old) }
         ensures script { files_script self.new ≡ after_call (files_script self.old) }
         ensures failing { IsErrOf result FileRefusal.Failed
             ↔ IsTrue (fails (files_script self.new)) ⊎ (file_at (mem_folder self.old) name.now ≡ None) }
@@ -87,6 +88,7 @@ impl Files for MemFiles {
         ensures later { ⟦<MemFiles as Files>⟧.write_faults self.old ≤ ⟦<MemFiles as Files>⟧.write_faults self.new }
         ensures other_count { ⟦<MemFiles as Files>⟧.read_faults self.new ≡ ⟦<MemFiles as Files>⟧.read_faults self.old }
         ensures cause { IsErrOf result FileRefusal.Failed → Rose (⟦<MemFiles as Files>⟧.write_faults self.old) (⟦<MemFiles as Files>⟧.write_faults self.new) }
+        ensures faults { ⟦<MemFiles as Files>⟧.write_faults self.new ≡ counted (file_failed result) (⟦<MemFiles as Files>⟧.write_faults self.old) }
         ensures script { files_script self.new ≡ after_call (files_script self.old) }
         ensures failing { IsErrOf result FileRefusal.Failed ↔ IsTrue (fails (files_script self.new)) }
         ensures nothing { IsErrOf result FileRefusal.Failed → mem_folder self.new ≡ mem_folder self.old }

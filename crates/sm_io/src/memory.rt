@@ -1,10 +1,10 @@
 // Objects over memory that fail in the calls they were told.
-ghost use Rattle.std.specs.Prelude.{◌≡◌, ◌<◌, ◌≤◌, ◌↔◌, ℕ, [], All, length, min, IfOk, OnErr, is_err, IsErrOf, IsTrue, Ok, Some};
+ghost use Rattle.std.specs.Prelude.{◌≡◌, ◌<◌, ◌≤◌, ◌↔◌, ℕ, [], All, length, min, IfOk, OnErr, is_err, IsErrOf, IsTrue, Some};
 ghost use Rattle.std.specs.Io.{ReadsAtMost};
-ghost use Rattle.sm_io.specs.Causes.{Rose};
+ghost use Rattle.sm_io.specs.Causes.{Rose, counted};
 ghost use Rattle.sm_io.specs.Reading.{Takes};
-ghost use Rattle.sm_io.specs.Writing.{Puts};
-ghost use Rattle.sm_io.specs.Script.{Script, after_call, fails, most};
+ghost use Rattle.sm_io.specs.Writing.{Puts, put_failed};
+ghost use Rattle.sm_io.specs.Script.{after_call, fails, most};
 
 use crate::script::{CutBytes, FailingCalls};
 use crate::sink::append;
@@ -20,13 +20,13 @@ pub struct MemSource {
 }
 
 impl MemSource {
-    ghost use Rattle.sm_io.specs.Memory.{source_left, source_script};
+    ghost use Rattle.sm_io.specs.Memory.{source_script};
 
     /// A source of these bytes, whose k-th take gives at most as many as the k-th cut, and past the last cut all that fit.
-    /// The takes that `failing` lists, counted from 1, fail.
+    /// Each cut is at least 1. The takes that `failing` lists, counted from 1, fail.
     pub fn new(bytes: Vec<u8>, cuts: Vec<u64>, failing: Vec<u64>) -> Self
         requires positive { All (λ cut. 0 < cut) cuts.items }
-        ensures left { source_left result ≡ bytes.items }
+        ensures left { ⟦<MemSource as Source>⟧.left result ≡ Some bytes.items }
         ensures faults { ⟦<MemSource as Source>⟧.faults result ≡ 0 }
         ensures script { source_script result ≡ record { cuts = cuts.items; failing = failing.items; calls = 0 } }
     {
@@ -51,6 +51,7 @@ impl Source for MemSource {
         ensures bytes { Takes (Some (source_left self.old)) (Some (source_left self.new)) buf.new result }
         ensures later { ⟦<MemSource as Source>⟧.faults self.old ≤ ⟦<MemSource as Source>⟧.faults self.new }
         ensures cause { OnErr result (Rose (⟦<MemSource as Source>⟧.faults self.old) (⟦<MemSource as Source>⟧.faults self.new)) }
+        ensures faults { ⟦<MemSource as Source>⟧.faults self.new ≡ counted (is_err result) (⟦<MemSource as Source>⟧.faults self.old) }
         ensures script { source_script self.new ≡ after_call (source_script self.old) }
         ensures failing { is_err result ≡ fails (source_script self.new) }
         ensures count { IfOk result (λ count. count
@@ -73,11 +74,11 @@ pub struct MemSink {
 }
 
 impl MemSink {
-    ghost use Rattle.sm_io.specs.Memory.{sink_written, sink_script};
+    ghost use Rattle.sm_io.specs.Memory.{sink_script};
 
     /// A sink to which nothing was written. The puts that `failing` lists, counted from 1, fail.
     pub fn new(alloc: Global, failing: Vec<u64>) -> Self
-        ensures written { sink_written result ≡ [] }
+        ensures written { ⟦<MemSink as Sink>⟧.written result ≡ Some [] }
         ensures faults { ⟦<MemSink as Sink>⟧.faults result ≡ 0 }
         ensures script { sink_script result ≡ record { cuts = []; failing = failing.items; calls = 0 } }
     {
@@ -90,7 +91,7 @@ impl MemSink {
 
     /// The bytes written so far.
     pub fn bytes(&self) -> &[u8]
-        ensures { result.now ≡ sink_written self.now }
+        ensures { ⟦<MemSink as Sink>⟧.written self.now ≡ Some result.now }
     {
         &self.bytes
     }
@@ -107,6 +108,7 @@ impl Sink for MemSink {
         ensures bytes { Puts (Some (sink_written self.old)) (Some (sink_written self.new)) piece.now result }
         ensures later { ⟦<MemSink as Sink>⟧.faults self.old ≤ ⟦<MemSink as Sink>⟧.faults self.new }
         ensures cause { IsErrOf result PutRefusal.Failed → Rose (⟦<MemSink as Sink>⟧.faults self.old) (⟦<MemSink as Sink>⟧.faults self.new) }
+        ensures faults { ⟦<MemSink as Sink>⟧.faults self.new ≡ counted (put_failed result) (⟦<MemSink as Sink>⟧.faults self.old) }
         ensures script { sink_script self.new ≡ after_call (sink_script self.old) }
         ensures failing { IsErrOf result PutRefusal.Failed ↔ IsTrue (fails (sink_script self.new)) }
         ensures nothing { OnErr result (sink_written self.new ≡ sink_written self.old) }

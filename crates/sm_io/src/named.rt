@@ -14,17 +14,20 @@ pub struct NamedFiles {
 }
 
 impl NamedFiles {
-    ghost use Rattle.sm_io.specs.Memory.{files_of, named, IsPlace};
+    ghost use Rattle.sm_io.specs.Named.{alloc_of, files_of, named, IsPlace};
 
     /// These files.
     pub fn new(alloc: Global, files: Vec<(String, Vec<u8>)>) -> Self
-        ensures { files_of result ≡ files.items }
+        ensures alloc { alloc_of result ≡ alloc }
+        ensures files { files_of result ≡ files.items }
     {
         NamedFiles { alloc, files }
     }
 
     /// The allocator for copies of the files.
-    pub fn alloc(&self) -> Global {
+    pub fn alloc(&self) -> Global
+        ensures { result ≡ alloc_of self.now }
+    {
         self.alloc
     }
 
@@ -44,6 +47,7 @@ impl NamedFiles {
         ensures others { (other : List ℕ) → other ≢ name.now
             → get (named self.new) other ≡ get (named self.old) other }
         ensures kept { OnErr result (files_of self.new ≡ files_of self.old) }
+        ensures alloc { alloc_of self.new ≡ alloc_of self.old }
     {
         let copy = Vec::from_slice(self.alloc, bytes)?;
         match self.place(name) {

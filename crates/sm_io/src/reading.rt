@@ -7,7 +7,7 @@ use crate::{Failed, Source};
 use std::alloc::{AllocError, Global};
 use thiserror::Error;
 
-/// The bytes of one read.
+/// The most bytes of one read. The number is free: a larger one means fewer calls and more room.
 const BUFFER: usize = 16384;
 
 /// Why a source wasn't read to its end.
@@ -24,8 +24,10 @@ pub enum ReadRefusal {
     NoMemory,
 }
 
-/// All bytes that the source has left, of which there are at most `limit`. It never holds more than those and one buffer.
-/// `TooLong`: there are more. `Failed`: the source failed. After a refusal some bytes from the front are gone.
+/// All bytes that the source has left, of which there are at most `limit`.
+/// `TooLong`: there are more. `Failed`: the source failed. `NoMemory`: memory ran out.
+/// After a refusal bytes from the front, perhaps none, are gone.
+// At most `limit` bytes and one buffer are held at a time; no clause says so.
 pub fn read_all<S: Source>(
     alloc: Global,
     source: &mut S,

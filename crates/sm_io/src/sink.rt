@@ -8,7 +8,7 @@ use thiserror::Error;
 /// Why a piece wasn't written.
 #[derive(Clone, Copy, Debug, Error, PartialEq, Eq)]
 pub enum PutRefusal {
-    /// The outside failed, and may have taken a front of the piece.
+    /// The outside failed, and may have taken a prefix of the piece.
     #[error("the write failed")]
     Failed,
     /// Memory ran out, and nothing was written.
@@ -21,17 +21,18 @@ pub trait Sink {
     /// The bytes written so far, where they are told.
     ghost written: { Self → Option (List ℕ) };
 
-    /// How many calls have failed.
+    /// A count of faults. It never falls, and a call answers `Failed` only where it rose or stands at 2^64 - 1.
     ghost faults: { Self → ℕ };
 
     /// Writes the whole piece behind what was written so far.
+    /// `Failed`: the outside failed, and a prefix of the piece may have been written. `NoMemory`: nothing was written.
     fn put(&mut self, piece: &[u8]) -> Result<(), PutRefusal>
         ensures bytes { Puts (written self.old) (written self.new) piece.now result }
         ensures later { faults self.old ≤ faults self.new }
         ensures cause { IsErrOf result PutRefusal.Failed → Rose (faults self.old) (faults self.new) };
 }
 
-// Appends the piece to bytes in memory, which never fails.
+// Appends the piece to bytes in memory, which is never `Failed`.
 pub fn append(bytes: &mut Vec<u8>, piece: &[u8]) -> Result<(), PutRefusal>
     ensures ok { OnOk result (bytes.new.items ≡ bytes.old.items ++ piece.now) }
     ensures err { OnErr result (bytes.new.items ≡ bytes.old.items) }

@@ -1,13 +1,12 @@
 // Where bytes come from.
-ghost use Rattle.std.specs.Prelude.{◌<◌, ◌≤◌, List, ℕ, length, OnErr};
-ghost use Rattle.std.specs.Prelude.{Option};
+ghost use Rattle.std.specs.Prelude.{◌<◌, ◌≤◌, List, ℕ, length, OnErr, Option};
 ghost use Rattle.std.specs.Io.{ReadsAtMost};
 ghost use Rattle.sm_io.specs.Causes.{Rose};
 ghost use Rattle.sm_io.specs.Reading.{Takes};
 
 use thiserror::Error;
 
-/// A fault of the outside. The object that answers it has raised its count.
+/// A fault of the outside. The count of the object that answers it rose, or stands at its last number.
 #[derive(Clone, Copy, Debug, Error, PartialEq, Eq)]
 #[error("an object of the outside failed")]
 pub struct Failed;
@@ -17,7 +16,7 @@ pub trait Source {
     /// The bytes that are left, where they are told.
     ghost left: { Self → Option (List ℕ) };
 
-    /// How many calls have failed.
+    /// A count of faults. It never falls, and a call answers `Failed` only where it rose or stands at 2^64 - 1.
     ghost faults: { Self → ℕ };
 
     /// Moves bytes that are left to the front of `buf` and gives their count, which is 0 exactly at the end.

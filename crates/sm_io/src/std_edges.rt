@@ -1,8 +1,10 @@
 // The readers and writers of std as a source and a sink.
-ghost use Rattle.std.specs.Prelude.{◌≡◌, ◌≤◌, OnOk, OnErr, IsErrOf};
+ghost use Rattle.std.specs.Prelude.{◌≡◌, ◌<◌, ◌≤◌, length, OnOk, OnErr, is_err, IsErrOf};
+ghost use Rattle.std.specs.Io.{ReadsAtMost};
 ghost use Rattle.std.specs.Io.KnownBytes.{Appends};
-ghost use Rattle.sm_io.specs.Causes.{Rose};
-ghost use Rattle.sm_io.specs.Writing.{AppendsFront, Puts};
+ghost use Rattle.sm_io.specs.Causes.{Rose, counted};
+ghost use Rattle.sm_io.specs.Reading.{Takes};
+ghost use Rattle.sm_io.specs.Writing.{AppendsPrefix, Puts, put_failed};
 
 use crate::{Failed, PutRefusal, Sink, Source};
 use std::io::{Read, Write};
@@ -29,7 +31,14 @@ impl<R: Read> Source for StdSource<R> {
 
     ghost faults = { λ s. s.faults };
 
-    fn take(&mut self, buf: &mut [u8]) -> Result<usize, Failed> {
+    fn take(&mut self, buf: &mut [u8]) -> Result<usize, Failed>
+        requires room { 0 < length buf.old }
+        ensures bound { ReadsAtMost result buf.new }
+        ensures bytes { Takes (⟦<StdSource<R> as Source>⟧.left self.old) (⟦<StdSource<R> as Source>⟧.left self.new) buf.new result }
+        ensures later { ⟦<StdSource<R> as Source>⟧.faults self.old ≤ ⟦<StdSource<R> as Source>⟧.faults self.new }
+        ensures cause { OnErr result (Rose (⟦<StdSource<R> as Source>⟧.faults self.old) (⟦<StdSource<R> as Source>⟧.faults self.new)) }
+        ensures faults { ⟦<StdSource<R> as Source>⟧.faults self.new ≡ counted (is_err result) (⟦<StdSource<R> as Source>⟧.faults self.old) }
+    {
         match self.reader.read(buf) {
             Ok(count) => Ok(count),
             Err(_) => {
@@ -66,6 +75,7 @@ impl<W: Write> Sink for StdSink<W> {
         ensures bytes { Puts (⟦<StdSink<W> as Sink>⟧.written self.old) (⟦<StdSink<W> as Sink>⟧.written self.new) piece.now result }
         ensures later { ⟦<StdSink<W> as Sink>⟧.faults self.old ≤ ⟦<StdSink<W> as Sink>⟧.faults self.new }
         ensures cause { IsErrOf result PutRefusal.Failed → Rose (⟦<StdSink<W> as Sink>⟧.faults self.old) (⟦<StdSink<W> as Sink>⟧.faults self.new) }
+        ensures faults { ⟦<StdSink<W> as Sink>⟧.faults self.new ≡ counted (put_failed result) (⟦<StdSink<W> as Sink>⟧.faults self.old) }
         ensures takes_no_memory { IsErrOf result PutRefusal.NoMemory → ⊥ }
     {
         match write_whole(&mut self.writer, piece) {
@@ -82,7 +92,7 @@ impl<W: Write> Sink for StdSink<W> {
 // A writer that takes nothing of what is left has failed.
 fn write_whole<W: Write>(writer: &mut W, piece: &[u8]) -> Result<(), Failed>
     ensures whole { OnOk result (Appends (W.contents writer.old) (W.contents writer.new) piece.now) }
-    ensures front { OnErr result (AppendsFront (W.contents writer.old) (W.contents writer.new) piece.now) }
+    ensures prefix { OnErr result (AppendsPrefix (W.contents writer.old) (W.contents writer.new) piece.now) }
 {
     let mut at = 0;
     while at < piece.len() {

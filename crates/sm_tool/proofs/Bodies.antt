@@ -7,7 +7,7 @@ use Rattle.std.specs.Global.{Vec}
 use Rattle.std.specs.Io.KnownBytes.{Consumes, IsAtEnd}
 use Rattle.sm_io.specs.Causes.{Rose}
 use Rattle.sm_io.specs.Files.{Folder, Holds, HoldsLonger, file_at}
-use Rattle.sm_io.specs.Reading.{Empties, LosesFront}
+use Rattle.sm_io.specs.Reading.{Empties, LosesPrefix}
 use Rattle.sm_tree.specs.Node.{Node}
 use Rattle.sm_tree.specs.declared.path.Step.{Step}
 use Rattle.sm_tree.specs.declared.NoMemory.{NoMemory as OutOfMemory}

@@ -4,7 +4,7 @@ use Rattle.std.specs.Prelude.{◌≡◌, ℕ, ◌≤◌, ◌⊎◌, List, Option
 use Rattle.std.specs.Io.KnownBytes.{Keeps, Appends, IsAtEnd}
 use Rattle.sm_io.specs.Causes.{Rose}
 use Rattle.sm_io.specs.Files.{Folder, Holds}
-use Rattle.sm_io.specs.Writing.{AppendsFront}
+use Rattle.sm_io.specs.Writing.{AppendsPrefix}
 use Rattle.sm_shapes.specs.declared.table.Table.{Table}
 use Rattle.sm_tool.specs.Outside.{Stream, FilesSeen, Outside}
 use Rattle.sm_tool.specs.Words.{IsBody}
@@ -73,7 +73,7 @@ RunEnds words before after ReadFault =
     ForBody words (λ model shape. ReadFails before.files after.files before.input after.input model shape) × (after.output ≡ before.output)
 RunEnds words before after WriteFault = ForBody words (λ model shape.
     (a : Answer) × Comes before.files before.input after.input model shape a
-    × Rose before.output.faults after.output.faults × AppendsFront before.output.bytes after.output.bytes a.text)
+    × Rose before.output.faults after.output.faults × AppendsPrefix before.output.bytes after.output.bytes a.text)
 RunEnds words before after NoMemory =
     ForBody words (λ model shape. StopsShort before.files before.input after.input model shape) × Keeps before.output.bytes after.output.bytes
 

@@ -4,7 +4,7 @@ use Rattle.std.specs.Global.{Vec}
 use Rattle.std.specs.Io.KnownBytes.{Keeps, Appends}
 use Rattle.sm_io.specs.Causes.{Rose}
 use Rattle.sm_io.specs.Files.{Folder, Holds}
-use Rattle.sm_io.specs.Writing.{AppendsFront}
+use Rattle.sm_io.specs.Writing.{AppendsPrefix}
 use Rattle.sm_tree.specs.Node.{Node}
 use Rattle.sm_tree.specs.declared.NoMemory.{NoMemory as OutOfMemory}
 use Rattle.sm_tree.specs.Syntax.{IsRead}
@@ -95,7 +95,7 @@ BodyComesTo files files1 input rest model shape result =
 abbrev pub PutEnds : Stream → Stream → List ℕ → Status → Status → Type 0
 PutEnds before after text wanted status =
     ((status ≡ wanted) × Appends before.bytes after.bytes text)
-    ⊎ (((status ≡ WriteFault) × Rose before.faults after.faults × AppendsFront before.bytes after.bytes text)
+    ⊎ (((status ≡ WriteFault) × Rose before.faults after.faults × AppendsPrefix before.bytes after.bytes text)
     ⊎ ((status ≡ ends_by_memory) × Keeps before.bytes after.bytes))
 
 -- an answer is printed; where there is none the output is as it was

@@ -1,6 +1,6 @@
 // The command `body`: a body of one shape, read and written again in its canonical form. `run` stands on it.
 ghost use Rattle.std.specs.Prelude.{◌≡◌, ◌<◌, ◌≤◌, ◌↔◌, List, ℕ, IsTrue, IfOk};
-ghost use Rattle.sm_io.specs.Reading.{LosesFront};
+ghost use Rattle.sm_io.specs.Reading.{LosesPrefix};
 ghost use Rattle.sm_tree.specs.View.{node_of};
 ghost use Rattle.sm_tree.specs.Json.{IsJson};
 ghost use Rattle.sm_json.specs.Written.{written};
@@ -191,7 +191,7 @@ fn cross_input<S: Source>(
     requires shaped { Shaped table.now }
     requires shape { shape < shape_count table.now }
     ensures comes { InputComesTo (stream (S.left input.old) (S.faults input.old)) (stream (S.left input.new) (S.faults input.new)) table.now shape result }
-    ensures front { LosesFront (S.left input.old) (S.left input.new) }
+    ensures front { LosesPrefix (S.left input.old) (S.left input.new) }
     ensures takes { S.faults input.old ≤ S.faults input.new }
 {
     match read_all(alloc, input, BODY_LIMIT) {
@@ -222,7 +222,7 @@ pub fn body<F: Files, S: Source>(
     ensures held { F.held files.new ≡ F.held files.old }
     ensures reads { F.read_faults files.old ≤ F.read_faults files.new }
     ensures writes { F.write_faults files.new ≡ F.write_faults files.old }
-    ensures front { LosesFront (S.left input.old) (S.left input.new) }
+    ensures front { LosesPrefix (S.left input.old) (S.left input.new) }
     ensures takes { S.faults input.old ≤ S.faults input.new }
 {
     let model = match open_model(alloc, files, words.model) {

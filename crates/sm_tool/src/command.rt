@@ -1,6 +1,6 @@
 // The commands: what the program does for its words, over any files, input and output. Main stands on it.
 ghost use Rattle.std.specs.Prelude.{◌≡◌, ◌≤◌};
-ghost use Rattle.sm_io.specs.Reading.{LosesFront};
+ghost use Rattle.sm_io.specs.Reading.{LosesPrefix};
 ghost use Rattle.sm_tool.specs.Outside.{files_seen, stream, outside};
 ghost use Rattle.sm_tool.specs.Words.{LetsModel};
 ghost use Rattle.sm_tool.specs.Run.{code_of, RunAnswers};
@@ -97,7 +97,7 @@ pub fn run<F: Files, S: Source, K: Sink, P: Patterns>(
     ensures held { F.held files.new ≡ F.held files.old }
     ensures writes { F.write_faults files.new ≡ F.write_faults files.old }
     ensures reads { F.read_faults files.old ≤ F.read_faults files.new }
-    ensures front { LosesFront (S.left input.old) (S.left input.new) }
+    ensures front { LosesPrefix (S.left input.old) (S.left input.new) }
     ensures takes { S.faults input.old ≤ S.faults input.new }
     ensures puts { K.faults out.old ≤ K.faults out.new }
     ensures patterns { patterns.new ≡ patterns.old }

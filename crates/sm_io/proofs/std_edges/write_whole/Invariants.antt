@@ -1,4 +1,4 @@
--- What was written so far is a front of the piece.
+-- What was written so far is a prefix of the piece.
 use Rattle.std.proofs.Common.{◌≤◌, ◌-◌, length, take}
 use Rattle.std.specs.Io.KnownBytes.{Appends}
 use Rattle.sm_io.proofs.std_edges.write_whole.Given as goal
