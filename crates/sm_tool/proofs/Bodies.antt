@@ -36,8 +36,8 @@ use Rattle.sm_tool.specs.Body.{Answer, done, refused, past, EndsInJson, IsModelF
 use Rattle.sm_tool.specs.Body.FileAnswers.{long_file, unbuilt, no_shape}
 use Rattle.sm_tool.specs.Body.TextAnswers.{no_text, fault, value}
 use Rattle.sm_tool.specs.Body.InputAnswers.{long_input, whole}
-use Rattle.sm_tool.specs.Run.{IsInput, Comes, IsServed, ReadFails, StopsShort}
-use Rattle.sm_tool.specs.Run.Comes.{by_file, by_input}
+use Rattle.sm_tool.specs.Run.{IsInput, BodyAnswers, ReachesInput, ReadFails, StopsShort}
+use Rattle.sm_tool.specs.Run.BodyAnswers.{by_file, by_input}
 use Rattle.sm_tool.specs.Steps.{StopsAt, ComesTo, EndsWithLine, EndsWithLimit, TreeAnswers, ReadsModelFile, HoldsModel, RefusesFile, Opens, InputSays, InputComesTo, BodyComesTo}
 use Rattle.sm_tool.specs.declared.model.structures.FirstModel.{FirstModel}
 use Rattle.sm_tool.specs.declared.body.Stop.{Stop}
@@ -158,7 +158,7 @@ input_past input rest t s stop long ends = let w = longer_input input.bytes 1048
 -- the whole command: a refused file, a missing shape, and the input
 pub body_stops : (files files1 : FilesSeen) (input : Stream) (name shape : List ℕ) (stop : Stop) → Opens files files1 name (Err stop) → BodyComesTo files files1 input input name shape (Err stop)
 body_stops files files1 input name shape stop h =
-    stops_map (RefusesFile files name) (Comes files input input name shape) (Rose files.faults files1.faults) (ReadFails files files1 input input name shape)
+    stops_map (RefusesFile files name) (BodyAnswers files input input name shape) (Rose files.faults files1.faults) (ReadFails files files1 input input name shape)
     (Unit {0}) (StopsShort files input input name shape) stop (λ a says. by_file says.0 says.1 (says.2 shape) refl) (λ rose. inl (rose, refl)) (λ short. inl refl) h
 
 pub shape_there : (files : FilesSeen) (name shape : List ℕ) (read : FirstModel) (s : ℕ) → (h : HoldsModel files name read) → slice_get read.names.items s ≡ Some shape → HasShape name h.file shape read.table s
@@ -169,15 +169,15 @@ pub body_crosses : (files files1 : FilesSeen) (input rest : Stream) (name shape 
     → InputComesTo input rest read.table s result → BodyComesTo files files1 input rest name shape result
 body_crosses files files1 input rest name shape read s result h found comes =
     let there = shape_there files name shape read s h found in
-    let served : IsServed files name shape = record { file = h.file; t = read.table; s = s; held = h.held; there = there } in
-    comes_map (InputSays input rest read.table s) (Comes files input rest name shape) (Rose input.faults rest.faults) (ReadFails files files1 input rest name shape)
+    let served : ReachesInput files name shape = record { file = h.file; t = read.table; s = s; held = h.held; there = there } in
+    comes_map (InputSays input rest read.table s) (BodyAnswers files input rest name shape) (Rose input.faults rest.faults) (ReadFails files files1 input rest name shape)
     (Unit {0}) (StopsShort files input rest name shape) result
     (λ a says. by_input says.0 served says.1 says.2) (λ rose. inr (rose, served)) (λ short. inr served) comes
 
 pub body_lacks : (files files1 : FilesSeen) (input : Stream) (name shape : List ℕ) (read : FirstModel) (stop : Stop) → HoldsModel files name read → ((s : ℕ) → slice_get read.names.items s ≡ Some shape → ⊥)
     → EndsWithLine (no_shape_line shape) stop → BodyComesTo files files1 input input name shape (Err stop)
 body_lacks files files1 input name shape read stop h none ends =
-    line_stops (Comes files input input name shape) (ReadFails files files1 input input name shape) (StopsShort files input input name shape) (no_shape_line shape) stop
+    line_stops (BodyAnswers files input input name shape) (ReadFails files files1 input input name shape) (StopsShort files input input name shape) (no_shape_line shape) stop
     (by_file h.file h.held (no_shape h.m h.within h.model (λ s is. none s (ap (λ xs. slice_get xs s) h.names ∙ is)) refl) refl) (inl refl) ends
 
 -- a structure that is named is a shape of the table

@@ -29,8 +29,8 @@ use Rattle.sm_tool.specs.Body.{Answer, done, refused, IsModelFile, IsShape, File
 use Rattle.sm_tool.specs.Body.FileAnswers.{long_file, unbuilt, no_shape}
 use Rattle.sm_tool.specs.Body.TextAnswers.{no_text, fault, value}
 use Rattle.sm_tool.specs.Body.InputAnswers.{long_input, whole}
-use Rattle.sm_tool.specs.Run.{IsInput, IsServed, Comes, Prints, RunEnds}
-use Rattle.sm_tool.specs.Run.Comes.{by_file, by_input}
+use Rattle.sm_tool.specs.Run.{IsInput, ReachesInput, BodyAnswers, Prints, RunEnds}
+use Rattle.sm_tool.specs.Run.BodyAnswers.{by_file, by_input}
 use Rattle.sm_tool.specs.RunLaws.{IsAnswered, IsRun, OneAnswer}
 use Rattle.sm_tool.specs.declared.command.Status.{Status}
 use Rattle.sm_tool.specs.declared.command.Status.TheVariants.{Done, Refused, Usage, ReadFault, WriteFault, NoMemory, Limit}
@@ -142,7 +142,7 @@ told_same left rest left1 rest1 input body body1 e e1 h i =
 -- two runs for one file name and shape come to one answer
 comes_same : (folder : Folder) (bytes : List ℕ) (files files1 : FilesSeen) (input rest input1 rest1 : Stream) (model shape : List ℕ) (a b : Answer)
     → files.held ≡ Some folder → files1.held ≡ Some folder → input.bytes ≡ Some bytes → input1.bytes ≡ Some bytes
-    → Comes files input rest model shape a → Comes files1 input1 rest1 model shape b → a ≡ b
+    → BodyAnswers files input rest model shape a → BodyAnswers files1 input1 rest1 model shape b → a ≡ b
 comes_same folder bytes files files1 input rest input1 rest1 model shape a b held held1 left left1 (by_file f h says same) (by_file g i says1 same1) =
     let one : f ≡ g = held_same files.held files1.held folder model f g held held1 h i in
     file_same model g shape a b (subst (λ x. FileAnswers model x shape a) one says) says1
@@ -192,8 +192,8 @@ ends_same words folder input before after before1 after1 status status1 h i (inl
     let named = words_same words model shape model1 shape1 is is1 in
     let a : Answer = record { status = status; text = text } in
     let b : Answer = record { status = status1; text = text1 } in
-    let moved : Comes before.files before.input after.input model1 shape1 a =
-    subst (λ x. Comes before.files before.input after.input model1 x a) named.1 (subst (λ x. Comes before.files before.input after.input x shape a) named.0 comes) in
+    let moved : BodyAnswers before.files before.input after.input model1 shape1 a =
+    subst (λ x. BodyAnswers before.files before.input after.input model1 x a) named.1 (subst (λ x. BodyAnswers before.files before.input after.input x shape a) named.0 comes) in
     let same : a ≡ b = comes_same folder input before.files before1.files before.input after.input before1.input after1.input model1 shape1 a b h.files i.files h.left i.left moved comes1 in (
       ap (λ (x : Answer). x.status) same,
       (text1, subst (λ x. Appends before.output.bytes after.output.bytes x) (ap (λ (x : Answer). x.text) same) put, put1),

@@ -1,4 +1,4 @@
--- How a body is answered, over bytes alone: by the model file's name and bytes, the shape's ID, and the input.
+-- How a body is answered, over bytes alone: by the model file's name and bytes, the word for the shape, and the input.
 -- The decisions stand in their order: the file's length, the model, the shape; the input's length, its syntax,
 -- its faults. What the program does stands on this file.
 use Rattle.std.specs.Prelude.{◌≡◌, ℕ, ◌<◌, ◌≤◌, List, ◌∷◌, ◌++◌, codes, Some, slice_get, length}
@@ -54,7 +54,7 @@ pub record IsModelFile (name file : List ℕ) (m : List StructureLine) : Type 0 
   pub read : IsRead JsonText tree file
   pub form : FirstForm tree m
 
--- the file holds no model
+-- the file is none that is read: by its name, its text, or the form of its tree
 abbrev pub IsUnbuilt : List ℕ → List ℕ → Type 0
 IsUnbuilt name file = (m : List StructureLine) → IsModelFile name file m → ⊥
 

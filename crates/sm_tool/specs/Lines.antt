@@ -24,7 +24,7 @@ no_shape_line shape = line (codes "NoShape") shape
 abbrev pub fault_line : List Step → FaultKind → List ℕ
 fault_line path kind = line (codes "Fault") (pointer path ++ (32 ∷ fault_word kind))
 
--- a body that is no text
+-- a body that is no text; of JSON no `KeyKind` comes, and `NoMemory` is no refusal of a body
 abbrev pub syntax_text : SyntaxRefusal → List ℕ
 syntax_text (Bad at) = codes "Bad " ++ decimal at
 syntax_text Ended = codes "Ended"

@@ -99,7 +99,7 @@ fn far_text(alloc: Global, table: &Table, shape: u32, value: &Value) -> Result<V
 }
 
 // The canonical body of the value that a tree spells.
-fn cross_tree(alloc: Global, table: &Table, shape: u32, tree: &Tree) -> Result<Vec<u8>, Stop>
+fn canonical_of_tree(alloc: Global, table: &Table, shape: u32, tree: &Tree) -> Result<Vec<u8>, Stop>
     requires shaped { Shaped table.now }
     requires shape { shape < shape_count table.now }
     ensures { ComesTo (TreeAnswers table.now shape (node_of tree.now)) ⊥ (Unit {0}) result }
@@ -123,14 +123,15 @@ fn no_text(alloc: Global, refusal: SyntaxRefusal) -> Stop
     refused(syntax_line(alloc, refusal))
 }
 
-/// The canonical body of the value that the bytes spell for a shape of the table.
-pub fn cross(alloc: Global, table: &Table, shape: u32, body: &[u8]) -> Result<Vec<u8>, Stop>
+/// The canonical body of the value that the bytes spell for a shape of the table. Else the line of its syntax, or
+/// of its first fault.
+pub fn canonical_body(alloc: Global, table: &Table, shape: u32, body: &[u8]) -> Result<Vec<u8>, Stop>
     requires shaped { Shaped table.now }
     requires shape { shape < shape_count table.now }
     ensures { ComesTo (TextAnswers table.now shape body.now) ⊥ (Unit {0}) result }
 {
     match read_tree(alloc, body) {
-        Ok(tree) => cross_tree(alloc, table, shape, &tree),
+        Ok(tree) => canonical_of_tree(alloc, table, shape, &tree),
         Err(refusal) => match refusal {
             SyntaxRefusal::NoMemory => Err(Stop::NoMemory),
             _ => Err(no_text(alloc, refusal)),
@@ -166,8 +167,8 @@ fn open_model<F: Files>(alloc: Global, files: &mut F, name: &str) -> Result<Firs
     requires { F.lets_read files.old name.now }
     ensures opens { Opens (files_seen (F.held files.old) (F.read_faults files.old)) (files_seen (F.held files.new) (F.read_faults files.new)) name.now result }
     ensures held { F.held files.new ≡ F.held files.old }
-    ensures reads { F.read_faults files.old ≤ F.read_faults files.new }
-    ensures writes { F.write_faults files.new ≡ F.write_faults files.old }
+    ensures read_faults { F.read_faults files.old ≤ F.read_faults files.new }
+    ensures write_faults { F.write_faults files.new ≡ F.write_faults files.old }
 {
     match files.read(name, FILE_LIMIT) {
         Ok(file) => match model_in(alloc, name, &file) {
@@ -182,7 +183,7 @@ fn open_model<F: Files>(alloc: Global, files: &mut F, name: &str) -> Result<Firs
 }
 
 // The canonical body of the whole input.
-fn cross_input<S: Source>(
+fn canonical_of_input<S: Source>(
     alloc: Global,
     table: &Table,
     shape: u32,
@@ -192,10 +193,10 @@ fn cross_input<S: Source>(
     requires shape { shape < shape_count table.now }
     ensures comes { InputComesTo (stream (S.left input.old) (S.faults input.old)) (stream (S.left input.new) (S.faults input.new)) table.now shape result }
     ensures front { LosesFront (S.left input.old) (S.left input.new) }
-    ensures takes { S.faults input.old ≤ S.faults input.new }
+    ensures input_faults { S.faults input.old ≤ S.faults input.new }
 {
     match read_all(alloc, input, BODY_LIMIT) {
-        Ok(body) => cross(alloc, table, shape, &body),
+        Ok(body) => canonical_body(alloc, table, shape, &body),
         Err(ReadRefusal::Failed) => Err(Stop::ReadFault),
         Err(ReadRefusal::TooLong) => Err(past(line(alloc, "Limit", "body 1048576"))),
         Err(ReadRefusal::NoMemory) => Err(Stop::NoMemory),
@@ -220,17 +221,17 @@ pub fn body<F: Files, S: Source>(
         (stream (S.left input.old) (S.faults input.old)) (stream (S.left input.new) (S.faults input.new))
         words.entry.model.now words.entry.shape.now result }
     ensures held { F.held files.new ≡ F.held files.old }
-    ensures reads { F.read_faults files.old ≤ F.read_faults files.new }
-    ensures writes { F.write_faults files.new ≡ F.write_faults files.old }
+    ensures read_faults { F.read_faults files.old ≤ F.read_faults files.new }
+    ensures write_faults { F.write_faults files.new ≡ F.write_faults files.old }
     ensures front { LosesFront (S.left input.old) (S.left input.new) }
-    ensures takes { S.faults input.old ≤ S.faults input.new }
+    ensures input_faults { S.faults input.old ≤ S.faults input.new }
 {
     let model = match open_model(alloc, files, words.model) {
         Ok(model) => model,
         Err(stop) => return Err(stop),
     };
     match model.shape_named(words.shape) {
-        Some(shape) => cross_input(alloc, &model.table, shape, input),
+        Some(shape) => canonical_of_input(alloc, &model.table, shape, input),
         None => Err(refused(line(alloc, "NoShape", words.shape))),
     }
 }

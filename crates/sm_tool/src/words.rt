@@ -9,7 +9,7 @@ use sm_tree::Text;
 pub struct BodyWords<'a> {
     /// The name of the model file.
     pub model: &'a str,
-    /// The absolute shape ID.
+    /// The word for the shape: any text, which may be the name of no shape.
     pub shape: &'a str,
 }
 
