@@ -1,5 +1,6 @@
 // The command `body`: a body of one shape, read and written again in its canonical form. `run` stands on it.
 ghost use Rattle.std.specs.Prelude.{◌≡◌, ◌<◌, ◌≤◌, ◌↔◌, List, ℕ, IsTrue, IfOk};
+ghost use Rattle.sm_io.specs.Files.{LetsSame};
 ghost use Rattle.sm_io.specs.Reading.{LosesFront};
 ghost use Rattle.sm_tree.specs.View.{node_of};
 ghost use Rattle.sm_tree.specs.Json.{IsJson};
@@ -169,6 +170,8 @@ fn open_model<F: Files>(alloc: Global, files: &mut F, name: &str) -> Result<Firs
     ensures held { F.held files.new ≡ F.held files.old }
     ensures read_faults { F.read_faults files.old ≤ F.read_faults files.new }
     ensures write_faults { F.write_faults files.new ≡ F.write_faults files.old }
+    ensures same_reads { LetsSame (F.lets_read files.old) (F.lets_read files.new) }
+    ensures same_writes { LetsSame (F.lets_write files.old) (F.lets_write files.new) }
 {
     match files.read(name, FILE_LIMIT) {
         Ok(file) => match model_in(alloc, name, &file) {
@@ -223,6 +226,8 @@ pub fn body<F: Files, S: Source>(
     ensures held { F.held files.new ≡ F.held files.old }
     ensures read_faults { F.read_faults files.old ≤ F.read_faults files.new }
     ensures write_faults { F.write_faults files.new ≡ F.write_faults files.old }
+    ensures same_reads { LetsSame (F.lets_read files.old) (F.lets_read files.new) }
+    ensures same_writes { LetsSame (F.lets_write files.old) (F.lets_write files.new) }
     ensures front { LosesFront (S.left input.old) (S.left input.new) }
     ensures input_faults { S.faults input.old ≤ S.faults input.new }
 {

@@ -1,5 +1,6 @@
 // The commands: what the program does for its words, over any files, input and output. Main stands on it.
 ghost use Rattle.std.specs.Prelude.{◌≡◌, ◌≤◌};
+ghost use Rattle.sm_io.specs.Files.{LetsSame};
 ghost use Rattle.sm_io.specs.Reading.{LosesFront};
 ghost use Rattle.sm_tool.specs.Outside.{files_seen, stream, outside};
 ghost use Rattle.sm_tool.specs.Words.{LetsModel};
@@ -101,6 +102,8 @@ pub fn run<F: Files, S: Source, K: Sink, P: Patterns>(
     ensures held { F.held files.new ≡ F.held files.old }
     ensures write_faults { F.write_faults files.new ≡ F.write_faults files.old }
     ensures read_faults { F.read_faults files.old ≤ F.read_faults files.new }
+    ensures same_reads { LetsSame (F.lets_read files.old) (F.lets_read files.new) }
+    ensures same_writes { LetsSame (F.lets_write files.old) (F.lets_write files.new) }
     ensures front { LosesFront (S.left input.old) (S.left input.new) }
     ensures input_faults { S.faults input.old ≤ S.faults input.new }
     ensures output_faults { K.faults out.old ≤ K.faults out.new }
