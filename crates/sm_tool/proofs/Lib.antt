@@ -20,3 +20,4 @@ pub mod OneModel
 pub mod Bodies
 pub mod Runs
 pub mod OneRun
+pub mod SomeRun
