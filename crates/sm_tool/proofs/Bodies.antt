@@ -32,7 +32,8 @@ use Rattle.sm_tool.specs.FirstForm.{StructureLine, FirstForm, shape_names}
 use Rattle.sm_tool.specs.ModelAnswers.{IsModel, ReadsModel}
 use Rattle.sm_tool.specs.Lines.{unbuilt_line, no_shape_line, fault_line, syntax_line, file_limit_line, body_limit_line}
 use Rattle.sm_tool.specs.Outside.{FilesSeen, Stream}
-use Rattle.sm_tool.specs.Body.{Answer, done, refused, past, EndsInJson, IsModelFile, IsUnbuilt, IsNoShape, FileAnswers, TextAnswers, InputAnswers, HasShape, file_limit, body_limit}
+use Rattle.sm_tool.specs.Limits.{file_limit, body_limit}
+use Rattle.sm_tool.specs.Body.{Answer, done, refused, past, EndsInJson, IsModelFile, IsUnbuilt, IsNoShape, FileAnswers, TextAnswers, InputAnswers, HasShape}
 use Rattle.sm_tool.specs.Body.FileAnswers.{long_file, unbuilt, no_shape}
 use Rattle.sm_tool.specs.Body.TextAnswers.{no_text, fault, value}
 use Rattle.sm_tool.specs.Body.InputAnswers.{long_input, whole}
@@ -134,8 +135,8 @@ pub file_unbuilt : (files files1 : FilesSeen) (name file : List ℕ) (stop : Sto
 file_unbuilt files files1 name file stop held within none ends =
     line_stops (RefusesFile files name) (Rose files.faults files1.faults) (Unit {0}) (unbuilt_line name) stop (file, held, λ shape. unbuilt within none refl) tt ends
 
-pub file_past : (files files1 : FilesSeen) (name : List ℕ) (stop : Stop) → HoldsLonger files.held name 4194304 → EndsWithLimit file_limit_line stop → Opens files files1 name (Err stop)
-file_past files files1 name stop long ends = let w = longer_file files.held name 4194304 long in
+pub file_past : (files files1 : FilesSeen) (name : List ℕ) (stop : Stop) → HoldsLonger files.held name file_limit → EndsWithLimit file_limit_line stop → Opens files files1 name (Err stop)
+file_past files files1 name stop long ends = let w = longer_file files.held name file_limit long in
     limit_stops (RefusesFile files name) (Rose files.faults files1.faults) (Unit {0}) file_limit_line stop (w.0, w.1, λ shape. long_file w.2 refl) tt ends
 
 -- the whole input was read: a text that answers, and one that is too long
@@ -150,8 +151,8 @@ input_comes input rest t s body result empties within h =
     comes_map (TextAnswers t s body) (InputSays input rest t s) ⊥ (Rose input.faults rest.faults) (Unit {0}) (Unit {0}) result
     (λ a says. (body, record { told = emptied input.bytes rest.bytes body empties; read = λ _. empties.1 }, whole within says)) (λ x. absurd x) (λ x. x) h
 
-pub input_past : (input rest : Stream) (t : Table) (s : ℕ) (stop : Stop) → IfSome input.bytes (λ body. 1048576 < length body) → EndsWithLimit body_limit_line stop → InputComesTo input rest t s (Err stop)
-input_past input rest t s stop long ends = let w = longer_input input.bytes 1048576 long in
+pub input_past : (input rest : Stream) (t : Table) (s : ℕ) (stop : Stop) → IfSome input.bytes (λ body. body_limit < length body) → EndsWithLimit body_limit_line stop → InputComesTo input rest t s (Err stop)
+input_past input rest t s stop long ends = let w = longer_input input.bytes body_limit long in
     limit_stops (InputSays input rest t s) (Rose input.faults rest.faults) (Unit {0}) body_limit_line stop
     (w.0, record { told = w.1; read = λ within. absurd (omega (arith, w.2, within)) }, long_input w.2 refl) tt ends
 

@@ -25,7 +25,8 @@ use Rattle.sm_tool.specs.Tabled.{table_of}
 use Rattle.sm_tool.specs.Lines.{fault_line, syntax_line}
 use Rattle.sm_tool.specs.Words.{IsBody}
 use Rattle.sm_tool.specs.Outside.{Outside, FilesSeen, Stream}
-use Rattle.sm_tool.specs.Body.{Answer, done, refused, IsModelFile, IsShape, FileAnswers, TextAnswers, InputAnswers, HasShape, body_limit}
+use Rattle.sm_tool.specs.Limits.{body_limit}
+use Rattle.sm_tool.specs.Body.{Answer, done, refused, IsModelFile, IsShape, FileAnswers, TextAnswers, InputAnswers, HasShape}
 use Rattle.sm_tool.specs.Body.FileAnswers.{long_file, unbuilt, no_shape}
 use Rattle.sm_tool.specs.Body.TextAnswers.{no_text, fault, value}
 use Rattle.sm_tool.specs.Body.InputAnswers.{long_input, whole}

@@ -20,7 +20,8 @@ use Rattle.sm_tool.specs.FirstForm.{StructureLine}
 use Rattle.sm_tool.specs.Tabled.{table_of}
 use Rattle.sm_tool.specs.Lines.{unbuilt_line, no_shape_line, fault_line, syntax_line, file_limit_line, body_limit_line}
 use Rattle.sm_tool.specs.Outside.{FilesSeen, Stream, files_seen, stream}
-use Rattle.sm_tool.specs.Body.{Answer, done, refused, past, IsModelFile, IsShape, FileAnswers, TextAnswers, InputAnswers, HasShape, file_limit, body_limit}
+use Rattle.sm_tool.specs.Limits.{file_limit, body_limit}
+use Rattle.sm_tool.specs.Body.{Answer, done, refused, past, IsModelFile, IsShape, FileAnswers, TextAnswers, InputAnswers, HasShape}
 use Rattle.sm_tool.specs.Body.FileAnswers.{long_file, unbuilt, no_shape}
 use Rattle.sm_tool.specs.Body.TextAnswers.{no_text, fault, value}
 use Rattle.sm_tool.specs.Body.InputAnswers.{long_input, whole}

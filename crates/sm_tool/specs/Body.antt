@@ -18,6 +18,7 @@ use Rattle.sm_tool.specs.Faults.{FaultAt, faults}
 use Rattle.sm_tool.specs.Encoded.{encoded, json_written}
 use Rattle.sm_tool.specs.FirstForm.{StructureLine, FirstForm, shape_names}
 use Rattle.sm_tool.specs.Tabled.{table_of}
+use Rattle.sm_tool.specs.Limits.{file_limit, body_limit}
 use Rattle.sm_tool.specs.Lines.{unbuilt_line, no_shape_line, fault_line, syntax_line, file_limit_line, body_limit_line}
 use Rattle.sm_tool.specs.declared.command.Status.{Status}
 use Rattle.sm_tool.specs.declared.command.Status.TheVariants.{Done, Refused, Limit}
@@ -35,13 +36,6 @@ refused line = record { status = Refused; text = line }
 
 abbrev pub past : List ℕ → Answer
 past line = record { status = Limit; text = line }
-
--- the greatest lengths of a model file and of an input, in bytes
-abbrev pub file_limit : ℕ
-file_limit = 4194304
-
-abbrev pub body_limit : ℕ
-body_limit = 1048576
 
 -- the name of a file in the JSON AST
 abbrev pub EndsInJson : List ℕ → Type 0

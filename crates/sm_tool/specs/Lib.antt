@@ -12,6 +12,7 @@ pub mod Tabled
 pub mod ModelAnswers
 pub mod Rows
 pub mod Words
+pub mod Limits
 pub mod Lines
 pub mod Outside
 pub mod Body

@@ -7,6 +7,7 @@ use Rattle.sm_tree.specs.declared.refusal.SyntaxRefusal.{SyntaxRefusal}
 use Rattle.sm_tree.specs.declared.refusal.SyntaxRefusal.TheVariants.{Bad, Ended, TooDeep, KeyKind, NoMemory}
 use Rattle.sm_shapes.specs.Words.{fault_word}
 use Rattle.sm_shapes.specs.declared.fault.FaultKind.{FaultKind}
+use Rattle.sm_tool.specs.Limits.{file_limit, body_limit}
 
 -- a word, a blank and a text
 abbrev pub line : List ℕ → List ℕ → List ℕ
@@ -35,9 +36,12 @@ syntax_text NoMemory = codes "NoMemory"
 abbrev pub syntax_line : SyntaxRefusal → List ℕ
 syntax_line refusal = line (codes "Syntax") (syntax_text refusal)
 
--- a limit that was passed
+-- a limit that was passed: its word and its number
+abbrev pub limit_line : List ℕ → ℕ → List ℕ
+limit_line word number = line (codes "Limit") (word ++ (32 ∷ decimal number))
+
 abbrev pub file_limit_line : List ℕ
-file_limit_line = line (codes "Limit") (codes "file 4194304")
+file_limit_line = limit_line (codes "file") file_limit
 
 abbrev pub body_limit_line : List ℕ
-body_limit_line = line (codes "Limit") (codes "body 1048576")
+body_limit_line = limit_line (codes "body") body_limit

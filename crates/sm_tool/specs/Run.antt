@@ -8,7 +8,8 @@ use Rattle.sm_io.specs.Writing.{AppendsFront}
 use Rattle.sm_shapes.specs.declared.table.Table.{Table}
 use Rattle.sm_tool.specs.Outside.{Stream, FilesSeen, Outside}
 use Rattle.sm_tool.specs.Words.{IsBody}
-use Rattle.sm_tool.specs.Body.{Answer, FileAnswers, HasShape, InputAnswers, body_limit}
+use Rattle.sm_tool.specs.Limits.{body_limit}
+use Rattle.sm_tool.specs.Body.{Answer, FileAnswers, HasShape, InputAnswers}
 use Rattle.sm_tool.specs.declared.command.Status.{Status}
 use Rattle.sm_tool.specs.declared.command.Status.TheVariants.{Done, Refused, Usage, ReadFault, WriteFault, NoMemory, Limit}
 

@@ -15,7 +15,8 @@ use Rattle.sm_tool.specs.Outside.{Stream, FilesSeen}
 use Rattle.sm_tool.specs.FirstForm.{StructureLine, shape_names}
 use Rattle.sm_tool.specs.Tabled.{table_of}
 use Rattle.sm_tool.specs.ModelAnswers.{IsModel}
-use Rattle.sm_tool.specs.Body.{Answer, done, refused, past, EndsInJson, IsUnbuilt, IsModelFile, FileAnswers, TextAnswers, InputAnswers, file_limit}
+use Rattle.sm_tool.specs.Limits.{file_limit}
+use Rattle.sm_tool.specs.Body.{Answer, done, refused, past, EndsInJson, IsUnbuilt, IsModelFile, FileAnswers, TextAnswers, InputAnswers}
 use Rattle.sm_tool.specs.Run.{IsInput, BodyAnswers, ReadFails, StopsShort}
 use Rattle.sm_tool.specs.declared.model.structures.FirstModel.{FirstModel}
 use Rattle.sm_tool.specs.declared.body.Stop.{Stop}

@@ -15,7 +15,7 @@ ghost use Rattle.sm_tool.specs.Body.{EndsInJson, TextAnswers};
 ghost use Rattle.sm_tool.specs.Steps.{ComesTo, TreeAnswers, EndsWithLine, EndsWithLimit, ReadsModelFile, Opens, InputComesTo, BodyComesTo};
 
 use crate::codec::{Refusal, decode, encode};
-use crate::lines::{fault_line, line, syntax_line};
+use crate::lines::{fault_line, limit_line, line, syntax_line};
 use crate::model::{FirstModel, read_model};
 use crate::words::BodyWords;
 use sm_io::{FileRefusal, Files, ReadRefusal, Source, read_all};
@@ -180,7 +180,7 @@ fn open_model<F: Files>(alloc: Global, files: &mut F, name: &str) -> Result<Firs
             Err(NoMemory) => Err(Stop::NoMemory),
         },
         Err(FileRefusal::Failed) => Err(Stop::ReadFault),
-        Err(FileRefusal::TooLong) => Err(past(line(alloc, "Limit", "file 4194304"))),
+        Err(FileRefusal::TooLong) => Err(past(limit_line(alloc, "file", FILE_LIMIT))),
         Err(FileRefusal::NoMemory) => Err(Stop::NoMemory),
     }
 }
@@ -201,7 +201,7 @@ fn canonical_of_input<S: Source>(
     match read_all(alloc, input, BODY_LIMIT) {
         Ok(body) => canonical_body(alloc, table, shape, &body),
         Err(ReadRefusal::Failed) => Err(Stop::ReadFault),
-        Err(ReadRefusal::TooLong) => Err(past(line(alloc, "Limit", "body 1048576"))),
+        Err(ReadRefusal::TooLong) => Err(past(limit_line(alloc, "body", BODY_LIMIT))),
         Err(ReadRefusal::NoMemory) => Err(Stop::NoMemory),
     }
 }

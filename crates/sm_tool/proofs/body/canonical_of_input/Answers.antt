@@ -16,4 +16,4 @@ pub returns-in-Err-TooLong-clause-comes : goal.returns-in-Err-TooLong-clause-com
 returns-in-Err-TooLong-clause-comes g c =
     let long = rw c.in-Err-TooLong.field-0-is at c.in-Err-TooLong.ensures.bytes in
     input_past (stream (g.S.Source.left c.args.input.now) (g.S.Source.faults c.args.input.now)) (stream (g.S.Source.left c.read_all.new.source) (g.S.Source.faults c.read_all.new.source))
-    c.args.table.now c.args.shape c.past.result long.0 (c.past.ensures body_limit_line c.line.ensures)
+    c.args.table.now c.args.shape c.past.result long.0 (c.past.ensures body_limit_line c.limit_line.ensures)
