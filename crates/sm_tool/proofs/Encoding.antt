@@ -1,11 +1,12 @@
 -- The tree that is written for a value spells it.
-use Rattle.std.proofs.Common.{◌≡◌, ℕ, ◌<◌, false, cond, List, [], ◌∷◌, ◌++◌, refl, sym, ap, ◌∙◌, subst}
+use Rattle.std.proofs.Common.{◌≡◌, ℕ, ◌<◌, false, cond, List, [], ◌∷◌, ◌++◌, map, refl, sym, ap, ◌∙◌, subst}
 use Rattle.std.specs.Str.{bytes_eq}
 use Rattle.std.proofs.lemmas.Slice.Eq.{bytes_eq-Decides}
 use Rattle.std.proofs.lemmas.Bool.{false_from_ne_true}
 use Rattle.sm_tree.specs.Node.{Node, Members, no_members, member}
 use Rattle.sm_shapes.specs.Val.{Val, FieldVals, bool_val, int_val, text_val, structure_val, no_fields, field}
-use Rattle.sm_shapes.specs.Tables.{kind_at, members_at, name_at, target_at, shape_count, member_count, NoneNamed, NamesDiffer, StandIn, Shaped}
+use Rattle.sm_shapes.specs.Tables.{kind_at, members_at, name_at, target_at, shape_count, member_count, StandIn, Shaped}
+use Rattle.sm_shapes.specs.Names.{NoneIs, AllDiffer}
 use Rattle.sm_shapes.specs.Fits.{Fits, FitFields, AreOptional}
 use Rattle.sm_shapes.specs.declared.table.Table.{Table}
 use Rattle.sm_tool.specs.Leaves.{Leaf}
@@ -21,6 +22,13 @@ named_other name k n ms other =
 
 pub named_here : (name k : List ℕ) (n : Node) (ms : Members) → k ≡ name → named name (member k n ms) ≡ n ∷ named name ms
 named_here name k n ms same = ap (λ b. cond b (n ∷ named name ms) (named name ms)) ((bytes_eq-Decides k name).1 same)
+
+-- none of these members has the name, and no two of them have one name
+abbrev NoneNamed : Table → List ℕ → List ℕ → Type 0
+NoneNamed t name ks = NoneIs name (map (name_at t) ks)
+
+abbrev NamesDiffer : Table → List ℕ → Type 0
+NamesDiffer t ks = AllDiffer (map (name_at t) ks)
 
 -- of members that are split, each part
 none_at : (t : Table) (name : List ℕ) (front : List ℕ) (k : ℕ) (rest : List ℕ) → NoneNamed t name (front ++ k ∷ rest) → name_at t k ≡ name → ⊥

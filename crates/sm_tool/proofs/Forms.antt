@@ -4,7 +4,7 @@ use Rattle.std.specs.Prelude.{codes}
 use Rattle.sm_tree.specs.Node.{Node, Members, text, object, no_members, member, members_of}
 use Rattle.sm_tree.specs.View.{members_view}
 use Rattle.sm_tree.specs.declared.tree.Tree.{Tree}
-use Rattle.sm_tool.specs.Names.{AllDiffer}
+use Rattle.sm_shapes.specs.Names.{AllDiffer}
 use Rattle.sm_tool.specs.FirstForm.{MemberLine, StructureLine, member_names, shape_names, HasBoth, MembersSay, ShapeSays, ShapesSay, FirstForm}
 use Rattle.sm_tool.specs.Tabled.{table_of}
 use Rattle.sm_shapes.specs.Tables.{Shaped}

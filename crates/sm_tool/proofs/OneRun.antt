@@ -19,7 +19,7 @@ use Rattle.sm_tool.specs.Leaves.{json_leaf}
 use Rattle.sm_tool.specs.Spelling.{Spells}
 use Rattle.sm_tool.specs.Faults.{FaultAt, faults}
 use Rattle.sm_tool.specs.Encoded.{encoded, json_written}
-use Rattle.sm_tool.specs.Names.{NoneIs, AllDiffer}
+use Rattle.sm_shapes.specs.Names.{NoneIs, AllDiffer}
 use Rattle.sm_tool.specs.FirstForm.{StructureLine, FirstForm, shape_names}
 use Rattle.sm_tool.specs.Tabled.{table_of}
 use Rattle.sm_tool.specs.Lines.{fault_line, syntax_line}

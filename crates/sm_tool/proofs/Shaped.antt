@@ -6,13 +6,13 @@ use Rattle.std.proofs.Math.Nat.{eq-or-lt_of_le}
 use Rattle.std.proofs.lemmas.Option.{slice_get_within}
 use Rattle.std.specs.Prelude.{slice_get}
 use Rattle.sm_tree.specs.Node.{Node, Members, no_members, member}
-use Rattle.sm_shapes.specs.Tables.{shape_count, member_count, members_in, name_in, target_in, home_in, members_at, target_at, home_at, NoneNamed, NamesDiffer, StandIn, IsAmong, Shaped}
+use Rattle.sm_shapes.specs.Tables.{shape_count, member_count, members_in, name_in, target_in, home_in, members_at, target_at, home_at, name_at, json_name_in, json_name_at, StandIn, IsAmong, Shaped}
 use Rattle.sm_shapes.specs.declared.table.Table.{Table}
 use Rattle.sm_shapes.specs.declared.table.TableShape.{TableShape}
 use Rattle.sm_shapes.specs.declared.table.TableMember.{TableMember}
 use Rattle.sm_tool.specs.declared.model.target.SimpleTarget.{SimpleTarget}
 use Rattle.sm_tool.specs.declared.model.target.SimpleTarget.TheVariants.{String, Boolean, Integer, Long}
-use Rattle.sm_tool.specs.Names.{NoneIs, AllDiffer}
+use Rattle.sm_shapes.specs.Names.{AllDiffer}
 use Rattle.sm_tool.specs.FirstForm.{MemberLine, StructureLine, member_names, ShapesSay, FirstForm}
 use Rattle.sm_tool.specs.Tabled.{numbers, structure_shapes, simple_shapes, place, member_row, member_rows, table_of}
 
@@ -89,20 +89,18 @@ module _ (t : Table) (n s : ℕ) (after : List TableMember) where
         homes_in (before ++ member_row n s l ∷ []) ls (next before l ls e) k (omega (arith, one_more, later)) (omega (arith, one_more, high))
   ]
 
-  none_named : (name : List ℕ) (before : List TableMember) (ls : List MemberLine) → Stand before ls → NoneIs name (member_names ls) → NoneNamed t name (numbers (length before) ls)
-  none_named name before [] e h = tt
-  none_named name before (l ∷ ls) e h = (
-    (λ same. h.0 (sym (ap name_in (member_at before l ls e)) ∙ same)),
-    subst (λ k. NoneNamed t name (numbers k ls)) (length-append before (member_row n s l ∷ [])) (none_named name (before ++ member_row n s l ∷ []) ls (next before l ls e) h.1),
-  )
+-- a name that each member has, whether its own or the one that JSON looks at
+module _ (t : Table) (n s : ℕ) (after : List TableMember) (name_of : Option TableMember → List ℕ) (is_name : (l : MemberLine) → name_of (Some (member_row n s l)) ≡ l.name) where
+  abbrev names_of : List ℕ → List (List ℕ)
+  names_of ks = map (λ k. name_of (slice_get t.members k)) ks
 
-  names_differ : (before : List TableMember) (ls : List MemberLine) → Stand before ls → AllDiffer (member_names ls) → NamesDiffer t (numbers (length before) ls)
-  names_differ before [] e h = tt
-  names_differ before (l ∷ ls) e h = (
-    subst (λ name. NoneNamed t name (numbers (length before + 1) ls)) (sym (ap name_in (member_at before l ls e)))
-        (subst (λ k. NoneNamed t l.name (numbers k ls)) (length-append before (member_row n s l ∷ [])) (none_named l.name (before ++ member_row n s l ∷ []) ls (next before l ls e) h.0)),
-    subst (λ k. NamesDiffer t (numbers k ls)) (length-append before (member_row n s l ∷ [])) (names_differ (before ++ member_row n s l ∷ []) ls (next before l ls e) h.1),
-  )
+  -- are the names that the lines say
+  names_are : (before : List TableMember) (ls : List MemberLine) → Stand t n s after before ls → names_of (numbers (length before) ls) ≡ member_names ls
+  names_are before [] e = refl
+  names_are before (l ∷ ls) e =
+      ap (λ x. x ∷ names_of (numbers (length before + 1) ls)) (ap name_of (member_at t n s after before l ls e) ∙ is_name l)
+      ∙ ap (λ xs. l.name ∷ xs) (ap (λ k. names_of (numbers k ls)) (sym (length-append before (member_row n s l ∷ [])))
+      ∙ names_are (before ++ member_row n s l ∷ []) ls (next t n s after before l ls e))
 
 simple_members : (i : ℕ) → members_in (slice_get simple_shapes i) ≡ []
 simple_members zero = refl
@@ -124,15 +122,19 @@ differ_from (member k t ms) (l ∷ m) h = (h.1.differ, differ_from ms m h.2)
 
 module _ (t : Table) (n : ℕ) where
   abbrev Good : ℕ → List ℕ → Type 0
-  Good s ks = StandIn t s ks × NamesDiffer t ks
+  Good s ks = StandIn t s ks × AllDiffer (map (name_at t) ks) × AllDiffer (map (json_name_at t) ks)
 
   rows_good : (first : ℕ) (before : List TableMember) (m : List StructureLine) → t.members ≡ before ++ member_rows n first m → Differ m
       → (i : ℕ) → Good (first + i) (members_in (slice_get (structure_shapes (length before) m ++ simple_shapes) i))
-  rows_good first before [] e d i = subst (λ ks. Good (first + i) ks) (sym (simple_members i)) (tt, tt)
+  rows_good first before [] e d i = subst (λ ks. Good (first + i) ks) (sym (simple_members i)) (tt, tt, tt)
   rows_good first before (l ∷ m) e d zero =
       let place_is : first ≡ first + 0 = omega arith in
       subst (λ x. Good x (numbers (length before) l.members)) place_is
-      (stand_in t n first (member_rows n (first + 1) m) before l.members e, names_differ t n first (member_rows n (first + 1) m) before l.members e d.0)
+      (
+        stand_in t n first (member_rows n (first + 1) m) before l.members e,
+        subst AllDiffer (sym (names_are t n first (member_rows n (first + 1) m) name_in (λ l. refl) before l.members e)) d.0,
+        subst AllDiffer (sym (names_are t n first (member_rows n (first + 1) m) json_name_in (λ l. refl) before l.members e)) d.0,
+      )
   rows_good first before (l ∷ m) e d (suc i) =
       let more = map (member_row n first) l.members in
       let length_is : length (before ++ more) ≡ length before + length l.members = length-append before more ∙ ap (λ x. length before + x) (length-map l.members (member_row n first)) in
@@ -181,14 +183,15 @@ shaped node m form = record {
       home k (rows_home t (length m) 0 [] m refl k (omega arith) (subst (λ b. k < b) (sym zero_more) h));
   members = λ s h. (good s).0;
   names = λ s h. (good s).1;
+  json_names = λ s h. (good s).2;
 }
   where
     t : Table
     t = table_of m
 
-    good : (s : ℕ) → StandIn t s (members_at t s) × NamesDiffer t (members_at t s)
+    good : (s : ℕ) → Good t (length m) s (members_at t s)
     good s = let zero_more : 0 + s ≡ s = omega arith in
-        subst (λ x. StandIn t x (members_at t s) × NamesDiffer t (members_at t s)) zero_more (rows_good t (length m) 0 [] m refl (differ_from form.pairs m form.says) s)
+        subst (λ x. Good t (length m) x (members_at t s)) zero_more (rows_good t (length m) 0 [] m refl (differ_from form.pairs m form.says) s)
 
     home : (k : ℕ) → HasHome t (length m) k 0 t.shapes m → (home_at t k < shape_count t) × IsAmong k (members_at t (home_at t k))
     home k h = let zero_more : 0 + h.0 ≡ h.0 = omega arith in let is : home_at t k ≡ h.0 = h.1 ∙ zero_more in (

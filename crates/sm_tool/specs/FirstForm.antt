@@ -3,7 +3,7 @@
 -- shapes and members stand in the order of their pairs. What reads models stands on this file.
 use Rattle.std.specs.Prelude.{◌≡◌, ◌⊎◌, ℕ, Bool, true, false, List, [], ◌∷◌, map, codes}
 use Rattle.sm_tree.specs.Node.{Node, Members, text, object, no_members, member}
-use Rattle.sm_tool.specs.Names.{AllDiffer}
+use Rattle.sm_shapes.specs.Names.{AllDiffer}
 use Rattle.sm_tool.specs.declared.model.target.SimpleTarget.{SimpleTarget}
 use Rattle.sm_tool.specs.declared.model.target.SimpleTarget.TheVariants.{String, Boolean, Integer, Long}
 

@@ -6,7 +6,6 @@ pub mod Encoded
 pub mod Answers
 pub mod Index
 pub mod Laws
-pub mod Names
 pub mod FirstForm
 pub mod Tabled
 pub mod ModelAnswers
