@@ -15,6 +15,7 @@ pub mod Names
 pub mod Targets
 pub mod Reading
 pub mod Shaped
+pub mod SaysModel
 pub mod Forms
 pub mod OneModel
 pub mod Bodies

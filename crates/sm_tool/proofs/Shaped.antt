@@ -49,7 +49,7 @@ target_below b [] k pos h = pos
 target_below b (x ∷ xs) zero pos h = h.0
 target_below b (x ∷ xs) (suc k) pos h = target_below b xs k pos h.1
 
-shapes_length : (k : ℕ) (m : List StructureLine) → length (structure_shapes k m) ≡ length m
+pub shapes_length : (k : ℕ) (m : List StructureLine) → length (structure_shapes k m) ≡ length m
 shapes_length k [] = refl
 shapes_length k (l ∷ m) = ap (λ x. suc x) (shapes_length (k + length l.members) m)
 
@@ -63,13 +63,13 @@ numbers_among b (l ∷ ls) k low high = elim (eq-or-lt_of_le low) [
 
 -- the members of one structure, which stand behind others
 module _ (t : Table) (n s : ℕ) (after : List TableMember) where
-  abbrev Stand : List TableMember → List MemberLine → Type 0
+  abbrev pub Stand : List TableMember → List MemberLine → Type 0
   Stand before ls = t.members ≡ before ++ (map (member_row n s) ls ++ after)
 
-  member_at : (before : List TableMember) (l : MemberLine) (ls : List MemberLine) → Stand before (l ∷ ls) → slice_get t.members (length before) ≡ Some (member_row n s l)
+  pub member_at : (before : List TableMember) (l : MemberLine) (ls : List MemberLine) → Stand before (l ∷ ls) → slice_get t.members (length before) ≡ Some (member_row n s l)
   member_at before l ls e = ap (λ xs. slice_get xs (length before)) e ∙ at before (member_row n s l) (map (member_row n s) ls ++ after)
 
-  next : (before : List TableMember) (l : MemberLine) (ls : List MemberLine) → Stand before (l ∷ ls) → Stand (before ++ member_row n s l ∷ []) ls
+  pub next : (before : List TableMember) (l : MemberLine) (ls : List MemberLine) → Stand before (l ∷ ls) → Stand (before ++ member_row n s l ∷ []) ls
   next before l ls e = e ∙ sym (append_assoc before (member_row n s l ∷ []) (map (member_row n s) ls ++ after))
 
   stand_in : (before : List TableMember) (ls : List MemberLine) → Stand before ls → StandIn t s (numbers (length before) ls)

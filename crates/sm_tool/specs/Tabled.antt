@@ -1,6 +1,6 @@
 -- The table that a model of structures comes to. The structures stand first, in model order; behind them
 -- String, Boolean, Integer and Long. Members are numbered in model order through the whole table.
-use Rattle.std.specs.Prelude.{◌≡◌, ℕ, ◌+◌, Bool, false, List, [], ◌∷◌, ◌++◌, length, map, None}
+use Rattle.std.specs.Prelude.{◌≡◌, ℕ, ◌+◌, Bool, false, List, [], ◌∷◌, ◌++◌, length, map, None, Some, slice_get}
 use Rattle.sm_shapes.specs.declared.table.Table.{Table}
 use Rattle.sm_shapes.specs.declared.table.TableShape.{TableShape}
 use Rattle.sm_shapes.specs.declared.table.TableMember.{TableMember}
@@ -9,7 +9,7 @@ use Rattle.sm_shapes.specs.declared.table.ShapeKind.TheVariants.{Boolean, Text, 
 use Rattle.sm_tool.specs.declared.model.target.SimpleTarget.{SimpleTarget}
 use Rattle.sm_tool.specs.declared.model.target.SimpleTarget.TheVariants.{String, Boolean as boolean, Integer as integer, Long as long}
 use Rattle.sm_tree.specs.Node.{Node}
-use Rattle.sm_shapes.specs.Tables.{Shaped}
+use Rattle.sm_shapes.specs.Tables.{kind_at, members_at, name_at, target_at, required_at, Shaped}
 use Rattle.sm_tool.specs.FirstForm.{MemberLine, StructureLine, FirstForm}
 
 -- a shape of this kind with these members, of which nothing more is said
@@ -48,6 +48,26 @@ member_rows n s (l ∷ m) = map (member_row n s) l.members ++ member_rows n (s +
 -- the table of a model
 abbrev pub table_of : List StructureLine → Table
 table_of m = record { shapes = structure_shapes 0 m ++ simple_shapes; members = member_rows (length m) 0 m }
+
+-- the kind of the values of a simple shape
+abbrev pub kind_of : SimpleTarget → ShapeKind
+kind_of String = Text
+kind_of boolean = Boolean
+kind_of integer = Integer
+kind_of long = Long
+
+-- these numbers are of these members, one by one: of the name, required or not, and with a target of the kind
+abbrev pub AreMembers : Table → List ℕ → List MemberLine → Type 0
+AreMembers t [] [] = Unit {0}
+AreMembers t [] (l ∷ ls) = ⊥
+AreMembers t (k ∷ ks) [] = ⊥
+AreMembers t (k ∷ ks) (l ∷ ls) =
+    (name_at t k ≡ l.name) × (required_at t k ≡ l.required) × (kind_at t (target_at t k) ≡ kind_of l.target) × AreMembers t ks ls
+
+-- a law: under the number of each structure the table has a structure with its members, in model order
+abbrev pub TableSaysModel : Type 0
+TableSaysModel = (m : List StructureLine) (s : ℕ) (l : StructureLine) → slice_get m s ≡ Some l
+    → (kind_at (table_of m) s ≡ Structure) × AreMembers (table_of m) (members_at (table_of m) s) l.members
 
 -- a law: the table of a model in the first form is in order
 abbrev pub AreShaped : Type 0
