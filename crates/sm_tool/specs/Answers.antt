@@ -3,6 +3,7 @@ use Rattle.std.specs.Prelude.{◌≡◌, ℕ, false, List, [], ◌∷◌, ◌++�
 use Rattle.sm_tree.specs.Node.{Node, Members}
 use Rattle.sm_tree.specs.View.{node_of}
 use Rattle.sm_tree.specs.declared.tree.Tree.{Tree}
+use Rattle.sm_tree.specs.declared.path.Step.{Step}
 use denote.Ref.{Bor}
 use Rattle.sm_shapes.specs.Val.{Val, fields_of}
 use Rattle.sm_shapes.specs.View.{val_of, fields_view}
@@ -27,11 +28,21 @@ abbrev pub IsFirst : List FaultAt → Refusal → Type 0
 IsFirst fs (Fault fault) = (rest : List FaultAt) × (fs ≡ (fault.path, fault.kind) ∷ rest)
 IsFirst fs NoMemory = Unit {0}
 
+-- the refusal tells this fault
+abbrev pub IsFault : List Step → FaultKind → Refusal → Type 0
+IsFault path kind (Fault fault) = (fault.path ≡ path) × (fault.kind ≡ kind)
+IsFault path kind NoMemory = ⊥
+
 -- a leaf: the value that the convention finds, or its fault
 abbrev pub ReadsLeaf : Result Val FaultKind → Result Value LeafRefusal → Type 0
 ReadsLeaf found (Ok v) = found ≡ Ok (val_of v)
 ReadsLeaf found (Err (LeafFault kind)) = found ≡ Err kind
 ReadsLeaf found (Err no_leaf_memory) = Unit {0}
+
+-- the same of a leaf that takes no memory
+abbrev pub FindsLeaf : Result Val FaultKind → Result Value FaultKind → Type 0
+FindsLeaf found (Ok v) = found ≡ Ok (val_of v)
+FindsLeaf found (Err kind) = found ≡ Err kind
 
 -- a tree: the value that it spells, and then it has no fault; or its first fault
 abbrev pub Decodes : Table → Leaf → ℕ → Node → Result Value Refusal → Type 0

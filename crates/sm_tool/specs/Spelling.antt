@@ -20,7 +20,7 @@ AreAbsent t ms [] = Unit {0}
 AreAbsent t ms (k ∷ ks) = (required_at t k ≡ false) × NoneOrNull (named (name_at t k) ms) × AreAbsent t ms ks
 
 abbrev mutual
-  -- the tree spells the value, which is one of the shape s
+  -- the tree spells the value for the shape s. That it is one of the shape is a law, for the leaves of JSON
   pub Spells : Table → Leaf → ℕ → Val → Node → Type 0
   Spells t leaf s (bool_val b) n = leaf (kind_at t s) n ≡ Ok (bool_val b)
   Spells t leaf s (int_val z) n = leaf (kind_at t s) n ≡ Ok (int_val z)

@@ -127,7 +127,8 @@ fn next_number(members: &Vec<TableMember>) -> Result<u32, NoMemory>
 }
 
 /// Adds the rows of a structure's members, and gives their numbers; `None` where the pairs are no members.
-/// Want of memory is also answered where 2^32 numbers don't suffice.
+/// Want of memory is also answered where 2^32 numbers don't suffice. After `None` or want of memory the members are
+/// what they may be; the caller drops them.
 pub fn add_members(
     alloc: Global,
     simple: u32,

@@ -14,4 +14,4 @@ returns-in-Repeated c =
     let w = c.in-Repeated.ensures in
     let name = c.as_str.ensures.bytes ∙ c.name-name.ensures in
     repeated_first c.args.table.now json_leaf c.args.member ms c.under.result w.0 w.1 w.2 (ap (λ name. named name ms) (sym name) ∙ w.3)
-    (subst (λ name. IsFirst (under name (here Repeated)) c.under.result) c.name-name.ensures (c.under.ensures (here Repeated) c.here-repeated.ensures))
+    (subst (λ name. IsFirst (under name (here Repeated)) c.under.result) c.name-name.ensures (c.under.ensures (here Repeated) c.here-repeated.ensures.first))

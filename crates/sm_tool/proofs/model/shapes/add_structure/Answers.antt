@@ -27,6 +27,6 @@ returns-in_ok-add_shape-in-Some-2 c =
     record {
       lines = added.lines;
       says = shape_says (node_of c.args.tree.now) c.in-Some.pairs.now added.lines c.in-Some.ensures (c.in_ok-names_differ.ensures.0 c.if-not-branch.false) added.says;
-      shapes = c.in_ok-add_shape-in-Some-2.ensures ∙ ap (λ ks. c.args.rows.now.shapes.items ++ plain_shape Structure ks ∷ []) added.numbered;
+      shapes = c.in_ok-add_shape-in-Some-2.ensures.added ∙ ap (λ ks. c.args.rows.now.shapes.items ++ plain_shape Structure ks ∷ []) added.numbered;
       members = added.rows;
     }
