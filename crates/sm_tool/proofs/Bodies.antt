@@ -27,8 +27,8 @@ use Rattle.sm_shapes.specs.declared.fault.FaultKind.{FaultKind}
 use Rattle.sm_tool.specs.Leaves.{json_leaf}
 use Rattle.sm_tool.specs.Spelling.{Spells}
 use Rattle.sm_tool.specs.Faults.{FaultAt, faults}
-use Rattle.sm_tool.specs.Encoded.{encoded, json_written}
-use Rattle.sm_tool.specs.FirstForm.{StructureLine, FirstForm, shape_names}
+use Rattle.sm_tool.specs.Encoded.{encoded_tree, json_written}
+use Rattle.sm_tool.specs.FirstForm.{ModelStructure, FirstForm, shape_names}
 use Rattle.sm_tool.specs.ModelAnswers.{IsModel, ReadsModel}
 use Rattle.sm_tool.specs.Lines.{unbuilt_line, no_shape_line, fault_line, syntax_line, file_limit_line, body_limit_line}
 use Rattle.sm_tool.specs.Outside.{FilesSeen, Stream}
@@ -70,7 +70,7 @@ comes_map Says Tells F G S T (Ok far) says failed short h = says (done far.items
 comes_map Says Tells F G S T (Err stop) says failed short h = stops_map Says Tells F G S T stop says failed short h
 
 -- a tree that spells a value, and one that has a fault
-pub value_answers : (t : Table) (s : ℕ) (n : Node) (v : Val) (far : List ℕ) → Spells t json_leaf s v n → far ≡ written (encoded t json_written s v) → TreeAnswers t s n (done far)
+pub value_answers : (t : Table) (s : ℕ) (n : Node) (v : Val) (far : List ℕ) → Spells t json_leaf s v n → far ≡ written (encoded_tree t json_written s v) → TreeAnswers t s n (done far)
 value_answers t s n v far spells is = λ body read. value n v read spells (ap done is)
 
 pub fault_answers : (t : Table) (s : ℕ) (n : Node) (path : List Step) (kind : FaultKind) (later : List FaultAt) → faults t json_leaf n s ≡ (path, kind) ∷ later → TreeAnswers t s n (refused (fault_line path kind))

@@ -18,9 +18,9 @@ use Rattle.sm_shapes.specs.declared.fault.FaultKind.{FaultKind}
 use Rattle.sm_tool.specs.Leaves.{json_leaf}
 use Rattle.sm_tool.specs.Spelling.{Spells}
 use Rattle.sm_tool.specs.Faults.{FaultAt, faults}
-use Rattle.sm_tool.specs.Encoded.{encoded, json_written}
+use Rattle.sm_tool.specs.Encoded.{encoded_tree, json_written}
 use Rattle.sm_shapes.specs.Names.{NoneIs, AllDiffer}
-use Rattle.sm_tool.specs.FirstForm.{StructureLine, FirstForm, shape_names}
+use Rattle.sm_tool.specs.FirstForm.{ModelStructure, FirstForm, shape_names}
 use Rattle.sm_tool.specs.Tabled.{table_of}
 use Rattle.sm_tool.specs.Lines.{fault_line, syntax_line}
 use Rattle.sm_tool.specs.Words.{IsBody}
@@ -54,7 +54,7 @@ one_place (k ∷ ks) name (suc i) zero differ a b = let is : k ≡ name = cc in 
 one_place (k ∷ ks) name (suc i) (suc j) differ a b = ap suc (one_place ks name i j differ.1 a b)
 
 -- a file holds one model
-model_same : (name file : List ℕ) (m o : List StructureLine) → IsModelFile name file m → IsModelFile name file o → m ≡ o
+model_same : (name file : List ℕ) (m o : List ModelStructure) → IsModelFile name file m → IsModelFile name file o → m ≡ o
 model_same name file m o h i = one_model i.tree m o (subst (λ n. FirstForm n m) (one_tree h.tree i.tree file h.read.0 i.read.0) h.form) i.form
 
 -- one answer stands before the input
@@ -119,7 +119,7 @@ text_same t s body a b (value m v read1 spells is) (fault n path kind later read
 text_same t s body a b (value n v read spells is) (value m w read1 spells1 is1) =
     let trees : n ≡ m = one_tree n m body read.0 read1.0 in
     let values : v ≡ w = one_value t json_leaf json_convention s v w m (subst (λ x. Spells t json_leaf s v x) trees spells) spells1 in
-    is ∙ ap (λ x. done (written (encoded t json_written s x))) values ∙ sym is1
+    is ∙ ap (λ x. done (written (encoded_tree t json_written s x))) values ∙ sym is1
 
 input_same : (t : Table) (s : ℕ) (input : List ℕ) (a b : Answer) → InputAnswers t s input a → InputAnswers t s input b → a ≡ b
 input_same t s input a b (long_input long is) (long_input long1 is1) = is ∙ sym is1

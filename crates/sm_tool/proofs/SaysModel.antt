@@ -9,7 +9,7 @@ use Rattle.sm_shapes.specs.declared.table.TableMember.{TableMember}
 use Rattle.sm_shapes.specs.declared.table.ShapeKind.TheVariants.{Structure}
 use Rattle.sm_tool.specs.declared.model.target.SimpleTarget.{SimpleTarget}
 use Rattle.sm_tool.specs.declared.model.target.SimpleTarget.TheVariants.{String, Boolean, Integer, Long}
-use Rattle.sm_tool.specs.FirstForm.{MemberLine, StructureLine}
+use Rattle.sm_tool.specs.FirstForm.{ModelMember, ModelStructure}
 use Rattle.sm_tool.specs.Tabled.{numbers, structure_shapes, simple_shapes, place, member_row, member_rows, table_of, kind_of, AreMembers, TableSaysModel}
 use Rattle.sm_tool.proofs.Shaped.{Stand, member_at, next, shapes_length}
 
@@ -25,13 +25,13 @@ simple_kind Integer = refl
 simple_kind Long = refl
 
 -- each simple shape has its kind
-target_kind : (m : List StructureLine) (x : SimpleTarget) → kind_at (table_of m) (length m + place x) ≡ kind_of x
+target_kind : (m : List ModelStructure) (x : SimpleTarget) → kind_at (table_of m) (length m + place x) ≡ kind_of x
 target_kind m x =
     ap (λ c. kind_at (table_of m) (c + place x)) (sym (shapes_length 0 m)) ∙ ap kind_in (behind (structure_shapes 0 m) simple_shapes (place x)) ∙ simple_kind x
 
 -- the rows of members that stand in a table say them
 module _ (t : Table) (n : ℕ) (kinds : (x : SimpleTarget) → kind_at t (n + place x) ≡ kind_of x) where
-  are_members : (s : ℕ) (after : List TableMember) (before : List TableMember) (ls : List MemberLine) → Stand t n s after before ls → AreMembers t (numbers (length before) ls) ls
+  are_members : (s : ℕ) (after : List TableMember) (before : List TableMember) (ls : List ModelMember) → Stand t n s after before ls → AreMembers t (numbers (length before) ls) ls
   are_members s after before [] e = tt
   are_members s after before (l ∷ ls) e =
       let row = member_at t n s after before l ls e in (
@@ -43,11 +43,11 @@ module _ (t : Table) (n : ℕ) (kinds : (x : SimpleTarget) → kind_at t (n + pl
       )
 
   -- the shape in a place is a structure of these members
-  abbrev Says : List TableShape → ℕ → StructureLine → Type 0
+  abbrev Says : List TableShape → ℕ → ModelStructure → Type 0
   Says shapes i l = (kind_in (slice_get shapes i) ≡ Structure) × AreMembers t (members_in (slice_get shapes i)) l.members
 
-  says_each : (first : ℕ) (before : List TableMember) (m : List StructureLine) → t.members ≡ before ++ member_rows n first m
-      → (i : ℕ) (l : StructureLine) → slice_get m i ≡ Some l → Says (structure_shapes (length before) m ++ simple_shapes) i l
+  says_each : (first : ℕ) (before : List TableMember) (m : List ModelStructure) → t.members ≡ before ++ member_rows n first m
+      → (i : ℕ) (l : ModelStructure) → slice_get m i ≡ Some l → Says (structure_shapes (length before) m ++ simple_shapes) i l
   says_each first before [] e i l h = cc
   says_each first before (x ∷ m) e zero l h =
       let same : x ≡ l = cc in

@@ -13,7 +13,7 @@ use Rattle.sm_shapes.specs.declared.table.TableMember.{TableMember}
 use Rattle.sm_tool.specs.declared.model.target.SimpleTarget.{SimpleTarget}
 use Rattle.sm_tool.specs.declared.model.target.SimpleTarget.TheVariants.{String, Boolean, Integer, Long}
 use Rattle.sm_shapes.specs.Names.{AllDiffer}
-use Rattle.sm_tool.specs.FirstForm.{MemberLine, StructureLine, member_names, ShapesSay, FirstForm}
+use Rattle.sm_tool.specs.FirstForm.{ModelMember, ModelStructure, member_names, ShapesSay, FirstForm}
 use Rattle.sm_tool.specs.Tabled.{numbers, structure_shapes, simple_shapes, place, member_row, member_rows, table_of}
 
 -- the element behind a front
@@ -36,11 +36,11 @@ place_below Boolean = omega arith
 place_below Integer = omega arith
 place_below Long = omega arith
 
-below_lines : (n s : ℕ) (ls : List MemberLine) → Below (n + 4) (map (member_row n s) ls)
+below_lines : (n s : ℕ) (ls : List ModelMember) → Below (n + 4) (map (member_row n s) ls)
 below_lines n s [] = tt
 below_lines n s (l ∷ ls) = (omega (arith, place_below l.target), below_lines n s ls)
 
-below_rows : (n s : ℕ) (m : List StructureLine) → Below (n + 4) (member_rows n s m)
+below_rows : (n s : ℕ) (m : List ModelStructure) → Below (n + 4) (member_rows n s m)
 below_rows n s [] = tt
 below_rows n s (l ∷ m) = below_append (n + 4) (map (member_row n s) l.members) (member_rows n (s + 1) m) (below_lines n s l.members) (below_rows n (s + 1) m)
 
@@ -49,12 +49,12 @@ target_below b [] k pos h = pos
 target_below b (x ∷ xs) zero pos h = h.0
 target_below b (x ∷ xs) (suc k) pos h = target_below b xs k pos h.1
 
-pub shapes_length : (k : ℕ) (m : List StructureLine) → length (structure_shapes k m) ≡ length m
+pub shapes_length : (k : ℕ) (m : List ModelStructure) → length (structure_shapes k m) ≡ length m
 shapes_length k [] = refl
 shapes_length k (l ∷ m) = ap (λ x. suc x) (shapes_length (k + length l.members) m)
 
 -- each number from b on, as many as there are members, is among theirs
-numbers_among : (b : ℕ) (ls : List MemberLine) (k : ℕ) → b ≤ k → k < b + length ls → IsAmong k (numbers b ls)
+numbers_among : (b : ℕ) (ls : List ModelMember) (k : ℕ) → b ≤ k → k < b + length ls → IsAmong k (numbers b ls)
 numbers_among b [] k low high = absurd (omega arith)
 numbers_among b (l ∷ ls) k low high = elim (eq-or-lt_of_le low) [
   | inl here ↦ inl (sym here)
@@ -63,16 +63,16 @@ numbers_among b (l ∷ ls) k low high = elim (eq-or-lt_of_le low) [
 
 -- the members of one structure, which stand behind others
 module _ (t : Table) (n s : ℕ) (after : List TableMember) where
-  abbrev pub Stand : List TableMember → List MemberLine → Type 0
+  abbrev pub Stand : List TableMember → List ModelMember → Type 0
   Stand before ls = t.members ≡ before ++ (map (member_row n s) ls ++ after)
 
-  pub member_at : (before : List TableMember) (l : MemberLine) (ls : List MemberLine) → Stand before (l ∷ ls) → slice_get t.members (length before) ≡ Some (member_row n s l)
+  pub member_at : (before : List TableMember) (l : ModelMember) (ls : List ModelMember) → Stand before (l ∷ ls) → slice_get t.members (length before) ≡ Some (member_row n s l)
   member_at before l ls e = ap (λ xs. slice_get xs (length before)) e ∙ at before (member_row n s l) (map (member_row n s) ls ++ after)
 
-  pub next : (before : List TableMember) (l : MemberLine) (ls : List MemberLine) → Stand before (l ∷ ls) → Stand (before ++ member_row n s l ∷ []) ls
+  pub next : (before : List TableMember) (l : ModelMember) (ls : List ModelMember) → Stand before (l ∷ ls) → Stand (before ++ member_row n s l ∷ []) ls
   next before l ls e = e ∙ sym (append_assoc before (member_row n s l ∷ []) (map (member_row n s) ls ++ after))
 
-  stand_in : (before : List TableMember) (ls : List MemberLine) → Stand before ls → StandIn t s (numbers (length before) ls)
+  stand_in : (before : List TableMember) (ls : List ModelMember) → Stand before ls → StandIn t s (numbers (length before) ls)
   stand_in before [] e = tt
   stand_in before (l ∷ ls) e = (
     slice_get_within _ _ _ (member_at before l ls e),
@@ -80,7 +80,7 @@ module _ (t : Table) (n s : ℕ) (after : List TableMember) where
     subst (λ k. StandIn t s (numbers k ls)) (length-append before (member_row n s l ∷ [])) (stand_in (before ++ member_row n s l ∷ []) ls (next before l ls e)),
   )
 
-  homes_in : (before : List TableMember) (ls : List MemberLine) → Stand before ls → (k : ℕ) → length before ≤ k → k < length before + length ls → home_at t k ≡ s
+  homes_in : (before : List TableMember) (ls : List ModelMember) → Stand before ls → (k : ℕ) → length before ≤ k → k < length before + length ls → home_at t k ≡ s
   homes_in before [] e k low high = absurd (omega arith)
   homes_in before (l ∷ ls) e k low high = elim (eq-or-lt_of_le low) [
     | inl here ↦ subst (λ x. home_at t x ≡ s) here (ap home_in (member_at before l ls e))
@@ -90,12 +90,12 @@ module _ (t : Table) (n s : ℕ) (after : List TableMember) where
   ]
 
 -- a name that each member has, whether its own or the one that JSON looks at
-module _ (t : Table) (n s : ℕ) (after : List TableMember) (name_of : Option TableMember → List ℕ) (is_name : (l : MemberLine) → name_of (Some (member_row n s l)) ≡ l.name) where
+module _ (t : Table) (n s : ℕ) (after : List TableMember) (name_of : Option TableMember → List ℕ) (is_name : (l : ModelMember) → name_of (Some (member_row n s l)) ≡ l.name) where
   abbrev names_of : List ℕ → List (List ℕ)
   names_of ks = map (λ k. name_of (slice_get t.members k)) ks
 
-  -- are the names that the lines say
-  names_are : (before : List TableMember) (ls : List MemberLine) → Stand t n s after before ls → names_of (numbers (length before) ls) ≡ member_names ls
+  -- are the names that the model says
+  names_are : (before : List TableMember) (ls : List ModelMember) → Stand t n s after before ls → names_of (numbers (length before) ls) ≡ member_names ls
   names_are before [] e = refl
   names_are before (l ∷ ls) e =
       ap (λ x. x ∷ names_of (numbers (length before + 1) ls)) (ap name_of (member_at t n s after before l ls e) ∙ is_name l)
@@ -110,11 +110,11 @@ simple_members (suc (suc (suc zero))) = refl
 simple_members (suc (suc (suc (suc i)))) = refl
 
 -- the names of each structure's members differ
-abbrev Differ : List StructureLine → Type 0
+abbrev Differ : List ModelStructure → Type 0
 Differ [] = Unit {0}
 Differ (l ∷ m) = AllDiffer (member_names l.members) × Differ m
 
-differ_from : (ms : Members) (m : List StructureLine) → ShapesSay ms m → Differ m
+differ_from : (ms : Members) (m : List ModelStructure) → ShapesSay ms m → Differ m
 differ_from no_members [] h = tt
 differ_from no_members (l ∷ m) h = absurd h
 differ_from (member k t ms) [] h = absurd h
@@ -124,7 +124,7 @@ module _ (t : Table) (n : ℕ) where
   abbrev Good : ℕ → List ℕ → Type 0
   Good s ks = StandIn t s ks × AllDiffer (map (name_at t) ks) × AllDiffer (map (json_name_at t) ks)
 
-  rows_good : (first : ℕ) (before : List TableMember) (m : List StructureLine) → t.members ≡ before ++ member_rows n first m → Differ m
+  rows_good : (first : ℕ) (before : List TableMember) (m : List ModelStructure) → t.members ≡ before ++ member_rows n first m → Differ m
       → (i : ℕ) → Good (first + i) (members_in (slice_get (structure_shapes (length before) m ++ simple_shapes) i))
   rows_good first before [] e d i = subst (λ ks. Good (first + i) ks) (sym (simple_members i)) (tt, tt, tt)
   rows_good first before (l ∷ m) e d zero =
@@ -144,10 +144,10 @@ module _ (t : Table) (n : ℕ) where
       (subst (λ x. Good (first + 1 + i) (members_in (slice_get (structure_shapes x m ++ simple_shapes) i))) length_is good)
 
   -- the member k stands in a structure that is numbered from first on, among the members of that structure
-  abbrev HasHome : ℕ → ℕ → List TableShape → List StructureLine → Type 0
+  abbrev HasHome : ℕ → ℕ → List TableShape → List ModelStructure → Type 0
   HasHome k first shapes m = (i : ℕ) × (home_at t k ≡ first + i) × (i < length m) × IsAmong k (members_in (slice_get shapes i))
 
-  rows_home : (first : ℕ) (before : List TableMember) (m : List StructureLine) → t.members ≡ before ++ member_rows n first m
+  rows_home : (first : ℕ) (before : List TableMember) (m : List ModelStructure) → t.members ≡ before ++ member_rows n first m
       → (k : ℕ) → length before ≤ k → k < length before + length (member_rows n first m) → HasHome k first (structure_shapes (length before) m ++ simple_shapes) m
   rows_home first before [] e k low high = absurd (omega arith)
   rows_home first before (l ∷ m) e k low high =
@@ -166,16 +166,16 @@ module _ (t : Table) (n : ℕ) where
       first_place : (x : ℕ) → x ≡ x + 0
       first_place x = omega arith
 
-      next_home : (first : ℕ) (before : List TableMember) (l : StructureLine) (m : List StructureLine) (k : ℕ)
+      next_home : (first : ℕ) (before : List TableMember) (l : ModelStructure) (m : List ModelStructure) (k : ℕ)
           → HasHome k (first + 1) (structure_shapes (length before + length l.members) m ++ simple_shapes) m
           → HasHome k first (structure_shapes (length before) (l ∷ m) ++ simple_shapes) (l ∷ m)
       next_home first before l m k h = (suc h.0, (let e = h.1 in omega arith), (let b = h.2 in omega arith), h.3)
 
 -- a table has four shapes more than its model
-pub shape_count_is : (m : List StructureLine) → shape_count (table_of m) ≡ length m + 4
+pub shape_count_is : (m : List ModelStructure) → shape_count (table_of m) ≡ length m + 4
 shape_count_is m = length-append (structure_shapes 0 m) simple_shapes ∙ ap (λ x. x + 4) (shapes_length 0 m)
 
-pub shaped : (node : Node) (m : List StructureLine) → FirstForm node m → Shaped (table_of m)
+pub shaped : (node : Node) (m : List ModelStructure) → FirstForm node m → Shaped (table_of m)
 shaped node m form = record {
   targets = λ k h. subst (λ b. target_at t k < b) (sym (shape_count_is m)) (target_below (length m + 4) t.members k (omega arith) (below_rows (length m) 0 m));
   homes = λ k h.

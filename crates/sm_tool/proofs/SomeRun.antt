@@ -15,8 +15,8 @@ use Rattle.sm_json.specs.Written.{written}
 use Rattle.sm_shapes.specs.declared.table.Table.{Table}
 use Rattle.sm_tool.specs.Leaves.{json_leaf}
 use Rattle.sm_tool.specs.Faults.{FaultAt, faults}
-use Rattle.sm_tool.specs.Encoded.{encoded, json_written}
-use Rattle.sm_tool.specs.FirstForm.{StructureLine}
+use Rattle.sm_tool.specs.Encoded.{encoded_tree, json_written}
+use Rattle.sm_tool.specs.FirstForm.{ModelStructure}
 use Rattle.sm_tool.specs.Tabled.{table_of}
 use Rattle.sm_tool.specs.Lines.{unbuilt_line, no_shape_line, fault_line, syntax_line, file_limit_line, body_limit_line}
 use Rattle.sm_tool.specs.Outside.{FilesSeen, Stream, files_seen, stream}
@@ -60,7 +60,7 @@ null_begins = (codes "null", null, ((codes "null", [], inl refl, refl, refl), om
 tree_answered : (t : Table) (s : ℕ) (body : List ℕ) (n : Node) → ((a : Answer) → TextAnswers t s body a → ⊥) → IsRead JsonText n body → (fs : List FaultAt) → faults t json_leaf n s ≡ fs → ⊥
 tree_answered t s body n none read [] clear =
     let w = spelled_where_clear t json_leaf json_convention n s clear in
-    none (done (written (encoded t json_written s w.0))) (value n w.0 read w.1 refl)
+    none (done (written (encoded_tree t json_written s w.0))) (value n w.0 read w.1 refl)
 tree_answered t s body n none read (f ∷ fs) first = none (refused (fault_line f.0 f.1)) (fault n f.0 f.1 fs read first refl)
 
 text_answered : (t : Table) (s : ℕ) (body : List ℕ) → ((a : Answer) → TextAnswers t s body a → ⊥) → ⊥

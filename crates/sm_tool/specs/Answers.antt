@@ -13,7 +13,7 @@ use Rattle.sm_shapes.specs.declared.value.Value.{Value}
 use Rattle.sm_shapes.specs.declared.value.Fields.{Fields}
 use Rattle.sm_shapes.specs.declared.fault.FaultKind.{FaultKind}
 use Rattle.sm_tool.specs.Leaves.{Leaf}
-use Rattle.sm_tool.specs.Members.{named, is_null}
+use Rattle.sm_tool.specs.Named.{trees_named, is_null}
 use Rattle.sm_tool.specs.Spelling.{NoneOrNull, Spells, SpellsFields}
 use Rattle.sm_tool.specs.Faults.{FaultAt, members_faults, faults, children, faults_in}
 use Rattle.sm_tool.specs.declared.codec.find.Found.{Found}
@@ -62,18 +62,18 @@ Finds ns Repeated = (first second : Node) × (rest : List Node) × (ns ≡ first
 
 -- a member in an object: that it is optional and absent, its value, or the first fault
 abbrev pub DecodesMember : Table → Leaf → ℕ → Members → Result (Option Value) Refusal → Type 0
-DecodesMember t leaf k ms (Ok None) = (required_at t k ≡ false) × NoneOrNull (named (name_at t k) ms)
+DecodesMember t leaf k ms (Ok None) = (required_at t k ≡ false) × NoneOrNull (trees_named (name_at t k) ms)
 DecodesMember t leaf k ms (Ok (Some v)) =
-    (n : Node) × (named (name_at t k) ms ≡ n ∷ []) × (is_null n ≡ false) × Spells t leaf (target_at t k) (val_of v) n
+    (n : Node) × (trees_named (name_at t k) ms ≡ n ∷ []) × (is_null n ≡ false) × Spells t leaf (target_at t k) (val_of v) n
 DecodesMember t leaf k ms (Err refusal) = IsFirst (faults_in t leaf k ms) refusal
 
 -- a member in an object: that it is optional and left out, the one tree that isn't null, or the first fault
 abbrev pub FindsMember : Table → Leaf → ℕ → Members → Result (Option (Bor Tree)) Refusal → Type 0
-FindsMember t leaf k ms (Ok None) = (required_at t k ≡ false) × NoneOrNull (named (name_at t k) ms)
-FindsMember t leaf k ms (Ok (Some tree)) = (named (name_at t k) ms ≡ node_of tree.now ∷ []) × (is_null (node_of tree.now) ≡ false)
+FindsMember t leaf k ms (Ok None) = (required_at t k ≡ false) × NoneOrNull (trees_named (name_at t k) ms)
+FindsMember t leaf k ms (Ok (Some tree)) = (trees_named (name_at t k) ms ≡ node_of tree.now ∷ []) × (is_null (node_of tree.now) ≡ false)
 FindsMember t leaf k ms (Err refusal) = IsFirst (faults_in t leaf k ms) refusal
 
 -- the fields with that of a member behind them, where the member has a value
-abbrev pub kept : List (ℕ × Val) → ℕ → Option Value → List (ℕ × Val)
-kept fs k None = fs
-kept fs k (Some v) = fs ++ (k, val_of v) ∷ []
+abbrev pub with_value : List (ℕ × Val) → ℕ → Option Value → List (ℕ × Val)
+with_value fs k None = fs
+with_value fs k (Some v) = fs ++ (k, val_of v) ∷ []

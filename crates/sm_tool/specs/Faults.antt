@@ -13,7 +13,7 @@ use Rattle.sm_shapes.specs.declared.table.ShapeKind.TheVariants.{Boolean, Text, 
 use Rattle.sm_shapes.specs.declared.fault.FaultKind.{FaultKind}
 use Rattle.sm_shapes.specs.declared.fault.FaultKind.TheVariants.{WrongType, Repeated, Missing}
 use Rattle.sm_tool.specs.Leaves.{Leaf}
-use Rattle.sm_tool.specs.Members.{named, is_null}
+use Rattle.sm_tool.specs.Named.{trees_named, is_null}
 
 -- a fault as data: its path and its kind
 abbrev pub FaultAt : Type 0
@@ -96,4 +96,4 @@ found_faults t leaf k ns = member_faults (required_at t k) (target_at t k) (map 
 
 -- the faults of the member k in an object
 abbrev pub faults_in : Table → Leaf → ℕ → Members → List FaultAt
-faults_in t leaf k ms = under (name_at t k) (found_faults t leaf k (named (name_at t k) ms))
+faults_in t leaf k ms = under (name_at t k) (found_faults t leaf k (trees_named (name_at t k) ms))

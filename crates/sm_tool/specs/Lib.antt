@@ -1,5 +1,5 @@
 pub mod Leaves
-pub mod Members
+pub mod Named
 pub mod Spelling
 pub mod Faults
 pub mod Encoded

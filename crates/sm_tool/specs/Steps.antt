@@ -12,7 +12,7 @@ use Rattle.sm_json.specs.JsonText.{JsonText}
 use Rattle.sm_shapes.specs.Tables.{Shaped}
 use Rattle.sm_shapes.specs.declared.table.Table.{Table}
 use Rattle.sm_tool.specs.Outside.{Stream, FilesSeen}
-use Rattle.sm_tool.specs.FirstForm.{StructureLine, shape_names}
+use Rattle.sm_tool.specs.FirstForm.{ModelStructure, shape_names}
 use Rattle.sm_tool.specs.Tabled.{table_of}
 use Rattle.sm_tool.specs.ModelAnswers.{IsModel}
 use Rattle.sm_tool.specs.Limits.{file_limit}
@@ -63,7 +63,7 @@ ReadsModelFile name file (Err e) = Unit {0}
 -- a file of the name holds this model, with its table and its names
 pub record HoldsModel (files : FilesSeen) (name : List ℕ) (read : FirstModel) : Type 0 where
   pub file : List ℕ
-  pub m : List StructureLine
+  pub m : List ModelStructure
   pub held : Holds files.held name (Some file)
   pub within : length file ≤ file_limit
   pub model : IsModelFile name file m

@@ -8,7 +8,7 @@ ghost use Rattle.sm_json.specs.Written.{written};
 ghost use Rattle.sm_shapes.specs.Tables.{shape_count, Shaped};
 ghost use Rattle.sm_shapes.specs.Fits.{Fits};
 ghost use Rattle.sm_shapes.specs.View.{val_of};
-ghost use Rattle.sm_tool.specs.Encoded.{encoded, json_written};
+ghost use Rattle.sm_tool.specs.Encoded.{encoded_tree, json_written};
 ghost use Rattle.sm_tool.specs.Lines.{syntax_line as the_syntax_line};
 ghost use Rattle.sm_tool.specs.Outside.{files_seen, stream};
 ghost use Rattle.sm_tool.specs.Body.{EndsInJson, TextAnswers};
@@ -91,7 +91,7 @@ fn far_text(alloc: Global, table: &Table, shape: u32, value: &Value) -> Result<V
     requires shaped { Shaped table.now }
     requires shape { shape < shape_count table.now }
     requires fits { Fits table.now shape (val_of value.now) }
-    ensures { IfOk result (λ text. text.items ≡ written (encoded table.now json_written shape (val_of value.now))) }
+    ensures { IfOk result (λ text. text.items ≡ written (encoded_tree table.now json_written shape (val_of value.now))) }
 {
     match encode(alloc, table, shape, value) {
         Ok(tree) => text_of(alloc, &tree),

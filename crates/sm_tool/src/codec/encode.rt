@@ -7,7 +7,7 @@ ghost use Rattle.sm_shapes.specs.Val.{fields_of};
 ghost use Rattle.sm_shapes.specs.View.{val_of, vals_view};
 ghost use Rattle.sm_shapes.specs.Tables.{shape_count, Shaped};
 ghost use Rattle.sm_shapes.specs.Fits.{Fits};
-ghost use Rattle.sm_tool.specs.Encoded.{encoded, encoded_fields, json_written, FieldsFit};
+ghost use Rattle.sm_tool.specs.Encoded.{encoded_tree, encoded_fields, json_written, FieldsFit};
 
 use sm_shapes::{Table, Value};
 use sm_tree::{NoMemory, Pairs, Text, Tree};
@@ -20,7 +20,7 @@ pub fn encode(alloc: Global, table: &Table, shape: u32, value: &Value) -> Result
     requires shaped { Shaped table.now }
     requires shape { shape < shape_count table.now }
     requires fits { Fits table.now shape (val_of value.now) }
-    ensures tree { IfOk result (λ tree. node_of tree ≡ encoded table.now json_written shape (val_of value.now)) }
+    ensures tree { IfOk result (λ tree. node_of tree ≡ encoded_tree table.now json_written shape (val_of value.now)) }
     ensures json { IfOk result (λ tree. IsJson (node_of tree)) }
 {
     match value {

@@ -14,7 +14,7 @@ use std::alloc::Global;
 
 /// What the tree of a member says.
 #[derive(Debug, Clone, Copy, Drop)]
-pub struct MemberTarget {
+pub struct SaidMember {
     /// The shape of its values.
     pub simple: SimpleTarget,
     /// Whether it has the trait `required`.
@@ -68,16 +68,16 @@ fn required_target(tree: &Tree) -> Option<SimpleTarget>
 }
 
 /// What the tree of a member says; `None` where it has other fields or values than a member has.
-pub fn member_target(tree: &Tree) -> Option<MemberTarget>
+pub fn said_member(tree: &Tree) -> Option<SaidMember>
     ensures { MatchOption result ((t : SimpleTarget) (b : Bool) → MemberSays (node_of tree.now) t b → ⊥) (λ m. MemberSays (node_of tree.now) m.simple m.required) }
 {
     match optional_target(tree) {
-        Some(simple) => Some(MemberTarget {
+        Some(simple) => Some(SaidMember {
             simple,
             required: false,
         }),
         None => match required_target(tree) {
-            Some(simple) => Some(MemberTarget {
+            Some(simple) => Some(SaidMember {
                 simple,
                 required: true,
             }),
@@ -100,7 +100,7 @@ fn member_row(
     if is_named(pair, "__type") {
         return Ok(None);
     }
-    match member_target(&pair.1) {
+    match said_member(&pair.1) {
         Some(says) => {
             let name = Text::copy(alloc, pair.0.as_str())?;
             let target = simple + says.simple.place();
