@@ -13,7 +13,8 @@ use Rattle.sm_tool.specs.Leaves.{Leaf}
 use Rattle.sm_tool.specs.Named.{trees_named, is_null}
 use Rattle.sm_tool.specs.Spelling.{NoneOrNull, Spells, SpellsFields}
 use Rattle.std.specs.Str.{bytes_eq}
-use Rattle.sm_tool.specs.Faults.{FaultAt, here, under, leaf_faults, absent_faults, members_faults, by_kind, faults, children, found_faults, faults_in}
+use Rattle.sm_tool.specs.Faults.{FaultAt, here, under, leaf_faults, absent_faults, members_faults, by_kind, faults, children}
+use Rattle.sm_tool.specs.Answers.{found_faults, faults_in}
 use Rattle.sm_tool.proofs.Conventions.{IsConvention, LeafFits}
 use Rattle.sm_tool.proofs.Found.{members_faults_more, skipped_clear, absent_clear, present_found, faults_of_leaf, faults_of_object}
 use Rattle.sm_tool.proofs.Fields.{skip_member, take_member}

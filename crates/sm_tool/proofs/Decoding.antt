@@ -25,8 +25,8 @@ use Rattle.sm_tool.specs.declared.codec.refusal.Refusal.{Refusal}
 use Rattle.sm_tool.specs.Leaves.{Leaf}
 use Rattle.sm_tool.specs.Named.{trees_named, is_null}
 use Rattle.sm_tool.specs.Spelling.{NoneOrNull, Spells, SpellsFields}
-use Rattle.sm_tool.specs.Faults.{here, under, leaf_faults, absent_faults, members_faults, faults, children, found_faults, faults_in}
-use Rattle.sm_tool.specs.Answers.{IsFirst, DecodesMember, with_value}
+use Rattle.sm_tool.specs.Faults.{here, under, leaf_faults, absent_faults, members_faults, faults, children}
+use Rattle.sm_tool.specs.Answers.{IsFirst, DecodesMember, with_value, found_faults, faults_in}
 use Rattle.sm_tool.proofs.Conventions.{IsConvention}
 use Rattle.sm_tool.proofs.Found.{members_faults_more, absent_found, present_found, faults_of_leaf}
 use Rattle.sm_tool.proofs.Clear.{clear_where_spelled}

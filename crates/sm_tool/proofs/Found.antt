@@ -9,7 +9,8 @@ use Rattle.sm_shapes.specs.declared.table.ShapeKind.TheVariants.{Boolean, Text, 
 use Rattle.sm_tool.specs.Leaves.{Leaf}
 use Rattle.sm_tool.specs.Named.{trees_named, is_null}
 use Rattle.sm_tool.specs.Spelling.{NoneOrNull, MayBeLeftOut}
-use Rattle.sm_tool.specs.Faults.{FaultAt, Child, under, leaf_faults, children_named, absent_faults, member_faults, members_faults, by_kind, faults, children, child_of, found_faults, faults_in}
+use Rattle.sm_tool.specs.Faults.{FaultAt, Child, under, leaf_faults, children_named, absent_faults, member_faults, members_faults, by_kind, faults, children, child_of}
+use Rattle.sm_tool.specs.Answers.{found_faults, faults_in}
 
 children_named_if : (b : Bool) (c : Child) (cs : List Child) (n : Node) (ns : List Node) (t : Table) (leaf : Leaf) → c ≡ child_of t leaf n → cs ≡ map (child_of t leaf) ns → cond b (c ∷ cs) cs ≡ map (child_of t leaf) (cond b (n ∷ ns) ns)
 children_named_if true c cs n ns t leaf e h = cc

@@ -1,5 +1,5 @@
 -- What the codec's functions answer, by cases on the answer.
-use Rattle.std.specs.Prelude.{◌≡◌, ℕ, false, List, [], ◌∷◌, ◌++◌, Option, Some, None, Result, Ok, Err}
+use Rattle.std.specs.Prelude.{◌≡◌, ℕ, false, List, [], ◌∷◌, ◌++◌, map, Option, Some, None, Result, Ok, Err}
 use Rattle.sm_tree.specs.Node.{Node, Members}
 use Rattle.sm_tree.specs.View.{node_of}
 use Rattle.sm_tree.specs.declared.tree.Tree.{Tree}
@@ -15,7 +15,7 @@ use Rattle.sm_shapes.specs.declared.fault.FaultKind.{FaultKind}
 use Rattle.sm_tool.specs.Leaves.{Leaf}
 use Rattle.sm_tool.specs.Named.{trees_named, is_null}
 use Rattle.sm_tool.specs.Spelling.{NoneOrNull, Spells, SpellsFields}
-use Rattle.sm_tool.specs.Faults.{FaultAt, members_faults, faults, children, faults_in}
+use Rattle.sm_tool.specs.Faults.{FaultAt, under, member_faults, members_faults, faults, child_of, children}
 use Rattle.sm_tool.specs.declared.codec.find.Found.{Found}
 use Rattle.sm_tool.specs.declared.codec.find.Found.TheVariants.{Absent, Once, Repeated}
 use Rattle.sm_tool.specs.declared.codec.refusal.Refusal.{Refusal}
@@ -53,6 +53,14 @@ Decodes t leaf s n (Err refusal) = IsFirst (faults t leaf n s) refusal
 abbrev pub DecodesFields : Table → Leaf → List ℕ → Members → Result Fields Refusal → Type 0
 DecodesFields t leaf ks ms (Ok fields) = SpellsFields t leaf ks (fields_of (fields_view fields)) ms
 DecodesFields t leaf ks ms (Err refusal) = IsFirst (members_faults t (children t leaf ms) ks) refusal
+
+-- the faults of the member k by the trees under its name, seen from the member
+abbrev pub found_faults : Table → Leaf → ℕ → List Node → List FaultAt
+found_faults t leaf k ns = member_faults (required_at t k) (target_at t k) (map (child_of t leaf) ns)
+
+-- the faults of the member k in an object
+abbrev pub faults_in : Table → Leaf → ℕ → Members → List FaultAt
+faults_in t leaf k ms = under (name_at t k) (found_faults t leaf k (trees_named (name_at t k) ms))
 
 -- of the trees that stand under a name: none, the one, or that there are two or more
 abbrev pub Finds : List Node → Found → Type 0
