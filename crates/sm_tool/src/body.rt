@@ -91,7 +91,8 @@ fn far_text(alloc: Global, table: &Table, shape: u32, value: &Value) -> Result<V
     requires shaped { Shaped table.now }
     requires shape { shape < shape_count table.now }
     requires fits { Fits table.now shape (val_of value.now) }
-    ensures { IfOk result (λ text. text.items ≡ written (encoded_tree table.now json_written shape (val_of value.now))) }
+    ensures { IfOk result
+        (λ text. text.items ≡ written (encoded_tree table.now json_written shape (val_of value.now))) }
 {
     match encode(alloc, table, shape, value) {
         Ok(tree) => text_of(alloc, &tree),
@@ -166,7 +167,10 @@ fn model_in(alloc: Global, name: &str, file: &[u8]) -> Result<Option<FirstModel>
 // The model of a file.
 fn open_model<F: Files>(alloc: Global, files: &mut F, name: &str) -> Result<FirstModel, Stop>
     requires { F.lets_read files.old name.now }
-    ensures opens { Opens (files_seen (F.held files.old) (F.read_faults files.old)) (files_seen (F.held files.new) (F.read_faults files.new)) name.now result }
+    ensures opens { Opens
+        (files_seen (F.held files.old) (F.read_faults files.old))
+        (files_seen (F.held files.new) (F.read_faults files.new))
+        name.now result }
     ensures held { F.held files.new ≡ F.held files.old }
     ensures read_faults { F.read_faults files.old ≤ F.read_faults files.new }
     ensures write_faults { F.write_faults files.new ≡ F.write_faults files.old }
@@ -194,7 +198,10 @@ fn canonical_of_input<S: Source>(
 ) -> Result<Vec<u8>, Stop>
     requires shaped { Shaped table.now }
     requires shape { shape < shape_count table.now }
-    ensures comes { InputComesTo (stream (S.left input.old) (S.faults input.old)) (stream (S.left input.new) (S.faults input.new)) table.now shape result }
+    ensures comes { InputComesTo
+        (stream (S.left input.old) (S.faults input.old))
+        (stream (S.left input.new) (S.faults input.new))
+        table.now shape result }
     ensures front { LosesFront (S.left input.old) (S.left input.new) }
     ensures input_faults { S.faults input.old ≤ S.faults input.new }
 {
@@ -220,8 +227,11 @@ pub fn body<F: Files, S: Source>(
     input: &mut S,
 ) -> Result<Vec<u8>, Stop>
     requires { F.lets_read files.old words.model.now }
-    ensures comes { BodyComesTo (files_seen (F.held files.old) (F.read_faults files.old)) (files_seen (F.held files.new) (F.read_faults files.new))
-        (stream (S.left input.old) (S.faults input.old)) (stream (S.left input.new) (S.faults input.new))
+    ensures comes { BodyComesTo
+        (files_seen (F.held files.old) (F.read_faults files.old))
+        (files_seen (F.held files.new) (F.read_faults files.new))
+        (stream (S.left input.old) (S.faults input.old))
+        (stream (S.left input.new) (S.faults input.new))
         words.entry.model.now words.entry.shape.now result }
     ensures held { F.held files.new ≡ F.held files.old }
     ensures read_faults { F.read_faults files.old ≤ F.read_faults files.new }

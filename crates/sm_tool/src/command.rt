@@ -52,7 +52,10 @@ impl Status {
 
 // Puts a piece, and ends with this status where that succeeds.
 fn put<K: Sink>(out: &mut K, piece: &[u8], status: Status) -> Status
-    ensures ends { PutEnds (stream (K.written out.old) (K.faults out.old)) (stream (K.written out.new) (K.faults out.new)) piece.now status result }
+    ensures ends { PutEnds
+        (stream (K.written out.old) (K.faults out.old))
+        (stream (K.written out.new) (K.faults out.new))
+        piece.now status result }
     ensures output_faults { K.faults out.old ≤ K.faults out.new }
 {
     match out.put(piece) {
@@ -64,7 +67,10 @@ fn put<K: Sink>(out: &mut K, piece: &[u8], status: Status) -> Status
 
 // Prints what a command came to.
 fn print<K: Sink>(out: &mut K, came: Result<Vec<u8>, Stop>) -> Status
-    ensures prints { PrintsResult (stream (K.written out.old) (K.faults out.old)) (stream (K.written out.new) (K.faults out.new)) came result }
+    ensures prints { PrintsResult
+        (stream (K.written out.old) (K.faults out.old))
+        (stream (K.written out.new) (K.faults out.new))
+        came result }
     ensures output_faults { K.faults out.old ≤ K.faults out.new }
 {
     match came {
@@ -96,8 +102,15 @@ pub fn run<F: Files, S: Source, K: Sink, P: Patterns>(
     patterns: &mut P,
 ) -> u8
     requires { LetsModel (F.lets_read files.old) words.now }
-    ensures answers { let before = outside (files_seen (F.held files.old) (F.read_faults files.old)) (stream (S.left input.old) (S.faults input.old)) (stream (K.written out.old) (K.faults out.old)) in
-        let after = outside (files_seen (F.held files.new) (F.read_faults files.new)) (stream (S.left input.new) (S.faults input.new)) (stream (K.written out.new) (K.faults out.new)) in
+    ensures answers {
+        let before = outside
+            (files_seen (F.held files.old) (F.read_faults files.old))
+            (stream (S.left input.old) (S.faults input.old))
+            (stream (K.written out.old) (K.faults out.old)) in
+        let after = outside
+            (files_seen (F.held files.new) (F.read_faults files.new))
+            (stream (S.left input.new) (S.faults input.new))
+            (stream (K.written out.new) (K.faults out.new)) in
         RunAnswers words.now before after result }
     ensures held { F.held files.new ≡ F.held files.old }
     ensures write_faults { F.write_faults files.new ≡ F.write_faults files.old }

@@ -15,7 +15,9 @@ pub struct BodyWords<'a> {
 
 /// What the words ask for; `None` where they have none of the forms.
 pub fn form_of(words: &[Text]) -> Option<BodyWords<'_>>
-    ensures { MatchOption result ((model shape : List ℕ) → IsBody words.now model shape → ⊥) (λ form. IsBody words.now form.model.now form.shape.now) }
+    ensures { MatchOption result
+        ((model shape : List ℕ) → IsBody words.now model shape → ⊥)
+        (λ form. IsBody words.now form.model.now form.shape.now) }
 {
     if words.len() != 5 {
         return None;

@@ -20,7 +20,8 @@ pub fn encode(alloc: Global, table: &Table, shape: u32, value: &Value) -> Result
     requires shaped { Shaped table.now }
     requires shape { shape < shape_count table.now }
     requires fits { Fits table.now shape (val_of value.now) }
-    ensures tree { IfOk result (λ tree. node_of tree ≡ encoded_tree table.now json_written shape (val_of value.now)) }
+    ensures tree { IfOk result
+        (λ tree. node_of tree ≡ encoded_tree table.now json_written shape (val_of value.now)) }
     ensures json { IfOk result (λ tree. IsJson (node_of tree)) }
 {
     match value {
@@ -42,7 +43,8 @@ pub fn encode(alloc: Global, table: &Table, shape: u32, value: &Value) -> Result
 fn encode_fields(alloc: Global, table: &Table, fields: &[(u32, Value)]) -> Result<Pairs, NoMemory>
     requires shaped { Shaped table.now }
     requires fit { FieldsFit table.now (fields_of (vals_view fields.now)) }
-    ensures pairs { IfOk result (λ pairs. members_of (pairs_view pairs) ≡ encoded_fields table.now json_written (fields_of (vals_view fields.now))) }
+    ensures pairs { IfOk result
+        (λ pairs. members_of (pairs_view pairs) ≡ encoded_fields table.now json_written (fields_of (vals_view fields.now))) }
     ensures json { IfOk result (λ pairs. AreJsonMembers (members_of (pairs_view pairs))) }
 {
     let mut pairs = Vec::with_capacity(alloc, fields.len())?;

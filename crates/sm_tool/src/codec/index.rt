@@ -28,7 +28,8 @@ pub struct Index<'t> {
 impl<'t> Index<'t> {
     /// The pairs of an object, indexed.
     pub fn new(alloc: Global, pairs: &'t [(Text, Tree)]) -> Result<Self, NoMemory>
-        ensures pairs { IfOk result (λ index. indexed_members index ≡ members_of (members_view pairs.now)) }
+        ensures pairs { IfOk result
+            (λ index. indexed_members index ≡ members_of (members_view pairs.now)) }
         ensures indexed { IfOk result IsIndexed }
     {
         if pairs.len() <= FEW_PAIRS {

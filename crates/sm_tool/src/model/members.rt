@@ -23,7 +23,9 @@ pub struct SaidMember {
 
 /// The simple shape whose absolute shape ID a tree is; `None` for any other tree.
 fn simple_target(tree: &Tree) -> Option<SimpleTarget>
-    ensures { MatchOption result ((t : SimpleTarget) → node_of tree.now ≡ text (target_id t) → ⊥) (λ t. node_of tree.now ≡ text (target_id t)) }
+    ensures { MatchOption result
+        ((t : SimpleTarget) → node_of tree.now ≡ text (target_id t) → ⊥)
+        (λ t. node_of tree.now ≡ text (target_id t)) }
 {
     match text_of(tree) {
         Some(id) => SimpleTarget::with_id(id),
@@ -43,7 +45,9 @@ fn is_required_alone(tree: &Tree) -> bool
 
 /// What a member targets whose tree has no traits; `None` for any other tree.
 fn optional_target(tree: &Tree) -> Option<SimpleTarget>
-    ensures { MatchOption result ((t : SimpleTarget) → MemberSays (node_of tree.now) t false → ⊥) (λ t. MemberSays (node_of tree.now) t false) }
+    ensures { MatchOption result
+        ((t : SimpleTarget) → MemberSays (node_of tree.now) t false → ⊥)
+        (λ t. MemberSays (node_of tree.now) t false) }
 {
     match only_field(tree, "target") {
         Some(target) => simple_target(target),
@@ -53,7 +57,9 @@ fn optional_target(tree: &Tree) -> Option<SimpleTarget>
 
 /// What a member targets whose tree says that it is required; `None` for any other tree.
 fn required_target(tree: &Tree) -> Option<SimpleTarget>
-    ensures { MatchOption result ((t : SimpleTarget) → MemberSays (node_of tree.now) t true → ⊥) (λ t. MemberSays (node_of tree.now) t true) }
+    ensures { MatchOption result
+        ((t : SimpleTarget) → MemberSays (node_of tree.now) t true → ⊥)
+        (λ t. MemberSays (node_of tree.now) t true) }
 {
     match both_fields(tree, "target", "traits") {
         Some((target, traits)) => {
@@ -69,7 +75,9 @@ fn required_target(tree: &Tree) -> Option<SimpleTarget>
 
 /// What the tree of a member says; `None` where it has other fields or values than a member has.
 pub fn said_member(tree: &Tree) -> Option<SaidMember>
-    ensures { MatchOption result ((t : SimpleTarget) (b : Bool) → MemberSays (node_of tree.now) t b → ⊥) (λ m. MemberSays (node_of tree.now) m.simple m.required) }
+    ensures { MatchOption result
+        ((t : SimpleTarget) (b : Bool) → MemberSays (node_of tree.now) t b → ⊥)
+        (λ m. MemberSays (node_of tree.now) m.simple m.required) }
 {
     match optional_target(tree) {
         Some(simple) => Some(SaidMember {
