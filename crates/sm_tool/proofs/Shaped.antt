@@ -129,8 +129,7 @@ module _ (t : Table) (n : ℕ) where
   rows_good first before [] e d i = subst (λ ks. Good (first + i) ks) (sym (simple_members i)) (tt, tt, tt)
   rows_good first before (l ∷ m) e d zero =
       let place_is : first ≡ first + 0 = omega arith in
-      subst (λ x. Good x (numbers (length before) l.members)) place_is
-      (
+      subst (λ x. Good x (numbers (length before) l.members)) place_is (
         stand_in t n first (member_rows n (first + 1) m) before l.members e,
         subst AllDiffer (sym (names_are t n first (member_rows n (first + 1) m) name_in (λ l. refl) before l.members e)) d.0,
         subst AllDiffer (sym (names_are t n first (member_rows n (first + 1) m) json_name_in (λ l. refl) before l.members e)) d.0,

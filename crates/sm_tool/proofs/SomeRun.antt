@@ -36,8 +36,12 @@ module _ (F : Format) (bs : List ℕ) (none : (refusal : SyntaxRefusal) → IsRe
   -- with one byte more of them some text still goes on
   one_more : (i : ℕ) → i < length bs → BeginsRead F (take i bs) → (BeginsRead F (take (i + 1) bs) → ⊥) → ⊥
   one_more i inside before stops =
-      none (Bad i) (record { inside = inside; before = before; behind = λ goes_on.
-      none (TooDeep i) (record { inside = inside; before = before; goes_on = goes_on; too_deep = stops }) })
+      none (Bad i) (record {
+        inside = inside;
+        before = before;
+        behind = λ goes_on.
+            none (TooDeep i) (record { inside = inside; before = before; goes_on = goes_on; too_deep = stops });
+      })
 
   -- so it does with all
   all_begin : BeginsRead F [] → (i : ℕ) → i ≤ length bs → (BeginsRead F (take i bs) → ⊥) → ⊥

@@ -127,7 +127,12 @@ fn no_text(alloc: Global, refusal: SyntaxRefusal) -> Stop
 
 /// The canonical body of the value that the bytes spell for a shape of the table. Else the line of its syntax, or
 /// of its first fault.
-pub fn canonical_body(alloc: Global, table: &Table, shape: u32, body: &[u8]) -> Result<Vec<u8>, Stop>
+pub fn canonical_body(
+    alloc: Global,
+    table: &Table,
+    shape: u32,
+    body: &[u8],
+) -> Result<Vec<u8>, Stop>
     requires shaped { Shaped table.now }
     requires shape { shape < shape_count table.now }
     ensures { ComesTo (TextAnswers table.now shape body.now) ⊥ (Unit {0}) result }

@@ -102,15 +102,8 @@ pub fn run<F: Files, S: Source, K: Sink, P: Patterns>(
     patterns: &mut P,
 ) -> u8
     requires { LetsModel (F.lets_read files.old) words.now }
-    ensures answers {
-        let before = outside
-            (files_seen (F.held files.old) (F.read_faults files.old))
-            (stream (S.left input.old) (S.faults input.old))
-            (stream (K.written out.old) (K.faults out.old)) in
-        let after = outside
-            (files_seen (F.held files.new) (F.read_faults files.new))
-            (stream (S.left input.new) (S.faults input.new))
-            (stream (K.written out.new) (K.faults out.new)) in
+    ensures answers { let before = outside (files_seen (F.held files.old) (F.read_faults files.old)) (stream (S.left input.old) (S.faults input.old)) (stream (K.written out.old) (K.faults out.old)) in
+        let after = outside (files_seen (F.held files.new) (F.read_faults files.new)) (stream (S.left input.new) (S.faults input.new)) (stream (K.written out.new) (K.faults out.new)) in
         RunAnswers words.now before after result }
     ensures held { F.held files.new ≡ F.held files.old }
     ensures write_faults { F.write_faults files.new ≡ F.write_faults files.old }
