@@ -1,13 +1,12 @@
 -- What the steps of the command `body` come to, joined: the answers of src/body.rt cite it.
-use Rattle.std.proofs.Common.{◌≡◌, ℕ, ◌<◌, ◌≤◌, ◌⊎◌, inl, inr, List, [], ◌∷◌, ◌++◌, Option, Some, None, Result, Ok, Err, IfSome, length, sym, ap, subst, ◌∙◌, ◌+◌, refl, arith, append-nil}
+use Rattle.std.proofs.Common.{◌≡◌, ℕ, ◌<◌, ◌≤◌, inl, inr, List, ◌∷◌, ◌++◌, Option, Some, None, Result, Ok, Err, IfSome, length, sym, ap, subst, ◌∙◌, ◌+◌, refl, arith, append-nil}
 use Rattle.std.specs.Prelude.{slice_get, IsSomeAnd, replicate}
 use Rattle.std.proofs.lemmas.Option.{slice_get_within}
 use Rattle.std.proofs.lemmas.List.{length-map, length-replicate}
 use Rattle.std.specs.Global.{Vec}
-use Rattle.std.specs.Io.KnownBytes.{Consumes, IsAtEnd}
 use Rattle.sm_io.specs.Causes.{Rose}
 use Rattle.sm_io.specs.Files.{Folder, Holds, HoldsLonger, file_at}
-use Rattle.sm_io.specs.Reading.{Empties, LosesFront}
+use Rattle.sm_io.specs.Reading.{Empties}
 use Rattle.sm_tree.specs.Node.{Node}
 use Rattle.sm_tree.specs.declared.path.Step.{Step}
 use Rattle.sm_tree.specs.declared.NoMemory.{NoMemory as OutOfMemory}
@@ -28,16 +27,16 @@ use Rattle.sm_tool.specs.Leaves.{json_leaf}
 use Rattle.sm_tool.specs.Spelling.{Spells}
 use Rattle.sm_tool.specs.Faults.{FaultAt, faults}
 use Rattle.sm_tool.specs.Encoded.{encoded_tree, json_written}
-use Rattle.sm_tool.specs.FirstForm.{ModelStructure, FirstForm, shape_names}
-use Rattle.sm_tool.specs.ModelAnswers.{IsModel, ReadsModel}
+use Rattle.sm_tool.specs.FirstForm.{FirstForm}
+use Rattle.sm_tool.specs.ModelAnswers.{ReadsModel}
 use Rattle.sm_tool.specs.Lines.{unbuilt_line, no_shape_line, fault_line, syntax_line, file_limit_line, body_limit_line}
 use Rattle.sm_tool.specs.Outside.{FilesSeen, Stream}
 use Rattle.sm_tool.specs.Limits.{file_limit, body_limit}
-use Rattle.sm_tool.specs.Body.{Answer, done, refused, past, EndsInJson, IsModelFile, IsUnbuilt, IsNoShape, FileAnswers, TextAnswers, InputAnswers, HasShape}
+use Rattle.sm_tool.specs.Body.{Answer, done, refused, past, EndsInJson, IsUnbuilt, TextAnswers, HasShape}
 use Rattle.sm_tool.specs.Body.FileAnswers.{long_file, unbuilt, no_shape}
 use Rattle.sm_tool.specs.Body.TextAnswers.{no_text, fault, value}
 use Rattle.sm_tool.specs.Body.InputAnswers.{long_input, whole}
-use Rattle.sm_tool.specs.Run.{IsInput, BodyAnswers, ReachesInput, ReadFails, StopsShort}
+use Rattle.sm_tool.specs.Run.{BodyAnswers, ReachesInput, ReadFails, StopsShort}
 use Rattle.sm_tool.specs.Run.BodyAnswers.{by_file, by_input}
 use Rattle.sm_tool.specs.Steps.{StopsAt, ComesTo, EndsWithLine, EndsWithLimit, TreeAnswers, ReadsModelFile, HoldsModel, RefusesFile, Opens, InputSays, InputComesTo, BodyComesTo}
 use Rattle.sm_tool.specs.declared.model.structures.FirstModel.{FirstModel}

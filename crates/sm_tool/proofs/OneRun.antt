@@ -1,20 +1,18 @@
 -- Words, files and an input come to one answer: at each decision two answers go the same way.
-use Rattle.std.proofs.Common.{◌≡◌, ℕ, zero, suc, ◌<◌, ◌≤◌, ◌⊎◌, inl, inr, List, [], ◌∷◌, ◌++◌, Option, Some, None, Result, Ok, Err, IfSome, length, sym, ap, subst, ◌∙◌, refl, arith, append-nil, get_or}
-use Rattle.std.specs.Prelude.{slice_get, codes}
+use Rattle.std.proofs.Common.{◌≡◌, ℕ, zero, suc, ◌⊎◌, inl, inr, List, [], ◌∷◌, Option, Some, None, Err, IfSome, sym, ap, subst, ◌∙◌, refl, arith, append-nil}
+use Rattle.std.specs.Prelude.{slice_get}
 use Rattle.std.specs.Io.KnownBytes.{Appends}
 use Rattle.sm_io.specs.Files.{Folder, Holds, file_at}
 use Rattle.sm_tree.specs.Node.{Node}
 use Rattle.sm_tree.specs.Syntax.{IsRead}
 use Rattle.sm_tree.specs.SyntaxLaws.{IsRefused}
 use Rattle.sm_tree.proofs.OneAnswer as syntax
-use Rattle.sm_tree.specs.declared.path.Step.{Step}
 use Rattle.sm_tree.specs.declared.refusal.SyntaxRefusal.{SyntaxRefusal}
 use Rattle.sm_json.specs.JsonText.{JsonText}
 use Rattle.sm_json.specs.Written.{written}
 use Rattle.sm_json.proofs.OneTree.{one_tree}
 use Rattle.sm_shapes.specs.Val.{Val}
 use Rattle.sm_shapes.specs.declared.table.Table.{Table}
-use Rattle.sm_shapes.specs.declared.fault.FaultKind.{FaultKind}
 use Rattle.sm_tool.specs.Leaves.{json_leaf}
 use Rattle.sm_tool.specs.Spelling.{Spells}
 use Rattle.sm_tool.specs.Faults.{FaultAt, faults}
@@ -25,12 +23,11 @@ use Rattle.sm_tool.specs.Tabled.{table_of}
 use Rattle.sm_tool.specs.Lines.{fault_line, syntax_line}
 use Rattle.sm_tool.specs.Words.{IsBody}
 use Rattle.sm_tool.specs.Outside.{Outside, FilesSeen, Stream}
-use Rattle.sm_tool.specs.Limits.{body_limit}
 use Rattle.sm_tool.specs.Body.{Answer, done, refused, IsModelFile, IsShape, FileAnswers, TextAnswers, InputAnswers, HasShape}
 use Rattle.sm_tool.specs.Body.FileAnswers.{long_file, unbuilt, no_shape}
 use Rattle.sm_tool.specs.Body.TextAnswers.{no_text, fault, value}
 use Rattle.sm_tool.specs.Body.InputAnswers.{long_input, whole}
-use Rattle.sm_tool.specs.Run.{IsInput, ReachesInput, BodyAnswers, Prints, RunEnds}
+use Rattle.sm_tool.specs.Run.{IsInput, BodyAnswers, Prints, RunEnds}
 use Rattle.sm_tool.specs.Run.BodyAnswers.{by_file, by_input}
 use Rattle.sm_tool.specs.RunLaws.{IsAnswered, IsRun, OneAnswer}
 use Rattle.sm_tool.specs.declared.command.Status.{Status}

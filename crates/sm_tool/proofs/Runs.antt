@@ -1,17 +1,17 @@
 -- From what a command came to, and what was printed, to how the program ends. The answers of `run` cite it.
-use Rattle.std.proofs.Common.{◌≡◌, ℕ, ◌⊎◌, inl, inr, List, Option, Some, None, Result, Ok, Err, sym, ap, subst, ◌∙◌, refl}
+use Rattle.std.proofs.Common.{◌≡◌, ℕ, inl, inr, List, Option, Some, None, Result, Ok, Err, sym, subst, refl}
 use Rattle.std.specs.Global.{Vec}
-use Rattle.std.specs.Io.KnownBytes.{Keeps, Appends}
+use Rattle.std.specs.Io.KnownBytes.{Keeps}
 use Rattle.sm_tool.specs.Outside.{FilesSeen, Stream, Outside}
 use Rattle.sm_tool.specs.Words.{IsBody}
-use Rattle.sm_tool.specs.Body.{Answer, done, refused, past}
+use Rattle.sm_tool.specs.Body.{Answer}
 use Rattle.sm_tool.specs.Run.{code_of, BodyAnswers, StopsShort, Prints, RunEnds, RunAnswers}
 use Rattle.sm_tool.specs.Run.BodyAnswers.{by_file, by_input}
-use Rattle.sm_tool.specs.Steps.{BodyComesTo, PutEnds, PutsAnswer, PrintsStop, PrintsResult}
+use Rattle.sm_tool.specs.Steps.{BodyComesTo, PutEnds, PrintsResult}
 use Rattle.sm_tool.specs.declared.body.Stop.{Stop}
 use Rattle.sm_tool.specs.declared.body.Stop.TheVariants.{Refused as is_refused, Limit as is_past, ReadFault as is_fault, NoMemory as is_short}
 use Rattle.sm_tool.specs.declared.command.Status.{Status}
-use Rattle.sm_tool.specs.declared.command.Status.TheVariants.{Done, Refused, Usage, ReadFault, WriteFault, NoMemory, Limit}
+use Rattle.sm_tool.specs.declared.command.Status.TheVariants.{Done, Refused, Limit}
 
 -- an answer leaves the input as it was, or stands behind no other
 comes_short : (files : FilesSeen) (input rest : Stream) (model shape : List ℕ) (a : Answer) → BodyAnswers files input rest model shape a → StopsShort files input rest model shape

@@ -1,12 +1,12 @@
 -- A file that is there and an input come to some answer. Where a case can't be decided, each of its two sides is
 -- denied in turn.
-use Rattle.std.proofs.Common.{◌≡◌, ℕ, zero, suc, ◌+◌, ◌<◌, ◌≤◌, ◌⊎◌, inl, inr, List, [], ◌∷◌, Some, length, take, sym, ap, subst, ◌∙◌, refl, arith}
+use Rattle.std.proofs.Common.{◌≡◌, ℕ, zero, suc, ◌+◌, ◌<◌, ◌≤◌, inl, inr, List, [], ◌∷◌, Some, length, take, subst, refl, arith}
 use Rattle.std.specs.Prelude.{codes}
 use Rattle.std.proofs.lemmas.Bool.{cases_lt}
 use Rattle.std.proofs.lemmas.List.{take_all}
-use Rattle.sm_io.specs.Files.{Folder, Holds, file_at}
+use Rattle.sm_io.specs.Files.{Folder, file_at}
 use Rattle.sm_tree.specs.Node.{Node, null}
-use Rattle.sm_tree.specs.Syntax.{Format, IsRead, Begins, BeginsRead, IsNoText}
+use Rattle.sm_tree.specs.Syntax.{Format, IsRead, BeginsRead, IsNoText}
 use Rattle.sm_tree.specs.SyntaxLaws.{IsRefused}
 use Rattle.sm_tree.specs.declared.refusal.SyntaxRefusal.{SyntaxRefusal}
 use Rattle.sm_tree.specs.declared.refusal.SyntaxRefusal.TheVariants.{Bad, Ended, TooDeep}
@@ -16,12 +16,11 @@ use Rattle.sm_shapes.specs.declared.table.Table.{Table}
 use Rattle.sm_tool.specs.Leaves.{json_leaf}
 use Rattle.sm_tool.specs.Faults.{FaultAt, faults}
 use Rattle.sm_tool.specs.Encoded.{encoded_tree, json_written}
-use Rattle.sm_tool.specs.FirstForm.{ModelStructure}
 use Rattle.sm_tool.specs.Tabled.{table_of}
 use Rattle.sm_tool.specs.Lines.{unbuilt_line, no_shape_line, fault_line, syntax_line, file_limit_line, body_limit_line}
-use Rattle.sm_tool.specs.Outside.{FilesSeen, Stream, files_seen, stream}
+use Rattle.sm_tool.specs.Outside.{Stream, files_seen, stream}
 use Rattle.sm_tool.specs.Limits.{file_limit, body_limit}
-use Rattle.sm_tool.specs.Body.{Answer, done, refused, past, IsModelFile, IsShape, FileAnswers, TextAnswers, InputAnswers, HasShape}
+use Rattle.sm_tool.specs.Body.{Answer, done, refused, past, TextAnswers}
 use Rattle.sm_tool.specs.Body.FileAnswers.{long_file, unbuilt, no_shape}
 use Rattle.sm_tool.specs.Body.TextAnswers.{no_text, fault, value}
 use Rattle.sm_tool.specs.Body.InputAnswers.{long_input, whole}

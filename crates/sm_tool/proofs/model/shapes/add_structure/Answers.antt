@@ -1,4 +1,4 @@
-use Rattle.std.proofs.Common.{Ok, ◌++◌, ◌∷◌, [], map, sym, ap, ◌∙◌, subst}
+use Rattle.std.proofs.Common.{Ok, ◌++◌, ◌∷◌, [], sym, ap, ◌∙◌, subst}
 use Rattle.sm_tree.specs.Node.{members_of}
 use Rattle.sm_tree.specs.View.{node_of, members_view}
 use Rattle.sm_shapes.specs.declared.table.ShapeKind.TheVariants.{Structure}
