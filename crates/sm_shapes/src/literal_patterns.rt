@@ -1,7 +1,7 @@
 // A store of patterns that stand for themselves: such a pattern finds a text of which it is a part. It
 // serves tests, which say in which calls it refuses.
-ghost use Rattle.std.specs.Prelude.{◌≡◌, ◌<◌, ◌≤◌, ◌-◌, ◌^◌, ◌↔◌, [], None, Some, length, IfOk, OnOk, IsErrOf, IsTrue, Ok, true, false};
-ghost use Rattle.sm_shapes.specs.Patterns.{Adds, Rose, pattern_text};
+ghost use Rattle.std.specs.Prelude.{◌≡◌, ◌<◌, ◌≤◌, ◌-◌, ◌^◌, ◌↔◌, [], None, length, IfOk, OnOk, IsErrOf, IsTrue, Ok, true, false};
+ghost use Rattle.sm_shapes.specs.Patterns.{Adds, RecordsRefusal, CountsRefusal, pattern_text};
 ghost use Rattle.sm_shapes.specs.Literals.{IsPart, is_part, AddCalls, after_call, refuses};
 
 use crate::{PatternRefusal, Patterns};
@@ -20,13 +20,13 @@ pub struct LiteralPatterns {
 }
 
 impl LiteralPatterns {
-    ghost use Rattle.sm_shapes.specs.LiteralStore.{add_calls};
+    ghost use Rattle.sm_shapes.specs.LiteralStore.{texts, refused_last, refusal_count, add_calls};
 
     /// A store without patterns. The calls of `add` that `failing` lists, counted from 1, refuse. No memory.
     pub fn new(alloc: Global, failing: Vec<u64>) -> Self
-        ensures added { ⟦<LiteralPatterns as Patterns>⟧.added result ≡ [] }
-        ensures refused { ⟦<LiteralPatterns as Patterns>⟧.refused result ≡ None }
-        ensures refusals { ⟦<LiteralPatterns as Patterns>⟧.refusals result ≡ 0 }
+        ensures added { texts result ≡ [] }
+        ensures refused { refused_last result ≡ None }
+        ensures refusals { refusal_count result ≡ 0 }
         ensures calls { add_calls result ≡ record { failing = failing.items; made = 0 } }
     {
         LiteralPatterns {
@@ -41,22 +41,22 @@ impl LiteralPatterns {
 }
 
 impl Patterns for LiteralPatterns {
-    ghost use Rattle.sm_shapes.specs.LiteralStore.{add_calls, texts};
+    ghost use Rattle.sm_shapes.specs.LiteralStore.{texts, refused_last, refusal_count, add_calls};
 
     ghost added = { texts };
 
-    ghost refused = { λ s. s.refused };
+    ghost refused = { refused_last };
 
-    ghost refusals = { λ s. s.refusals };
+    ghost refusals = { refusal_count };
 
     ghost test = { is_part };
 
     fn add(&mut self, text: &str) -> Result<u32, PatternRefusal>
         ensures number { Adds (texts self.old) (texts self.new) text.now result }
         ensures full { 2 ^ 32 - 1 ≤ length (texts self.old) → IsErrOf result PatternRefusal.NoMemory }
-        ensures later { self.old.refusals ≤ self.new.refusals }
-        ensures cause { IsErrOf result PatternRefusal.Refused → Rose self.old.refusals self.new.refusals }
-        ensures last { IsErrOf result PatternRefusal.Refused → self.new.refused ≡ Some text.now }
+        ensures last { RecordsRefusal (refused_last self.old) (refused_last self.new) text.now result }
+        ensures count { CountsRefusal (refusal_count self.old) (refusal_count self.new) result }
+        ensures later { refusal_count self.old ≤ refusal_count self.new }
         ensures calls { add_calls self.new ≡ after_call (add_calls self.old) }
         ensures listed { IsErrOf result PatternRefusal.Refused → refuses (add_calls self.new) ≡ true }
         ensures unlisted { OnOk result (refuses (add_calls self.new) ≡ false) }
@@ -81,7 +81,10 @@ impl Patterns for LiteralPatterns {
         requires number { pattern < length (texts self.old) }
         ensures found { result ≡ Ok (is_part (pattern_text (texts self.old) pattern) text.now) }
         ensures part { IfOk result (λ found. IsTrue found ↔ IsPart (pattern_text (texts self.old) pattern) text.now) }
-        ensures same { self.new ≡ self.old }
+        ensures added { texts self.new ≡ texts self.old }
+        ensures refused { refused_last self.new ≡ refused_last self.old }
+        ensures refusals { refusal_count self.new ≡ refusal_count self.old }
+        ensures calls { add_calls self.new ≡ add_calls self.old }
     {
         Ok(text.contains(self.patterns[pattern as usize].as_str()))
     }

@@ -1,7 +1,7 @@
 // Stores of patterns: what tests a text against the patterns of a table's shapes. The compiler of models
 // adds the patterns, and the codec asks for them by number.
-ghost use Rattle.std.specs.Prelude.{◌≡◌, ◌<◌, ◌≤◌, ◌-◌, ◌^◌, ℕ, List, Bool, Option, Some, length, IfOk, IsErrOf};
-ghost use Rattle.sm_shapes.specs.Patterns.{Adds, Rose, pattern_text};
+ghost use Rattle.std.specs.Prelude.{◌≡◌, ◌<◌, ◌≤◌, ◌-◌, ◌^◌, ℕ, List, Bool, Option, length, IfOk, IsErrOf};
+ghost use Rattle.sm_shapes.specs.Patterns.{Adds, RecordsRefusal, CountsRefusal, pattern_text};
 
 use sm_tree::NoMemory;
 use std::alloc::AllocFailed;
@@ -45,7 +45,7 @@ pub trait Patterns {
     /// The text refused last.
     ghost refused: { Self → Option (List ℕ) };
 
-    /// How many texts were refused.
+    /// How many calls of `add` refused a text; it stands still at its type's end.
     ghost refusals: { Self → ℕ };
 
     /// Whether a pattern of this text finds a text: one test for all stores of the type.
@@ -53,13 +53,14 @@ pub trait Patterns {
 
     /// Adds a pattern and gives its number.
     /// `Refused`: the store takes no such pattern, and `text` is the text refused last.
-    /// `NoMemory`: memory ran out, or there are 2^32 - 1 patterns. Neither changes the patterns added.
+    /// `NoMemory`: memory ran out, or there are 2^32 - 1 patterns. Neither changes the patterns added, and
+    /// nothing but `Refused` changes the text refused last and the count of refusals.
     fn add(&mut self, text: &str) -> Result<u32, PatternRefusal>
         ensures number { Adds (added self.old) (added self.new) text.now result }
         ensures full { 2 ^ 32 - 1 ≤ length (added self.old) → IsErrOf result PatternRefusal.NoMemory }
-        ensures later { refusals self.old ≤ refusals self.new }
-        ensures cause { IsErrOf result PatternRefusal.Refused → Rose (refusals self.old) (refusals self.new) }
-        ensures last { IsErrOf result PatternRefusal.Refused → refused self.new ≡ Some text.now };
+        ensures last { RecordsRefusal (refused self.old) (refused self.new) text.now result }
+        ensures count { CountsRefusal (refusals self.old) (refusals self.new) result }
+        ensures later { refusals self.old ≤ refusals self.new };
 
     /// Whether the pattern of this number finds the text.
     fn finds(&mut self, pattern: u32, text: &str) -> Result<bool, NoMemory>

@@ -27,7 +27,7 @@ impl MemberNumbers {
         MemberNumbers { numbers }
     }
 
-    /// The vector, which keeps its memory.
+    /// The vector. No memory.
     pub fn into_inner(self) -> Vec<u32>
         ensures { result.items ≡ self }
     {
@@ -65,7 +65,7 @@ impl TableShapes {
         TableShapes { shapes }
     }
 
-    /// The vector, which keeps its memory.
+    /// The vector. No memory.
     pub fn into_inner(self) -> Vec<TableShape>
         ensures { result.items ≡ self }
     {
@@ -103,7 +103,7 @@ impl TableMembers {
         TableMembers { members }
     }
 
-    /// The vector, which keeps its memory.
+    /// The vector. No memory.
     pub fn into_inner(self) -> Vec<TableMember>
         ensures { result.items ≡ self }
     {

@@ -34,7 +34,7 @@ impl Fields {
         Fields { fields }
     }
 
-    /// The vector, which keeps its memory.
+    /// The vector. No memory.
     pub fn into_inner(self) -> Vec<(u32, Value)>
         ensures { vals_view result.items ≡ fields_view self }
     {

@@ -1,13 +1,12 @@
 -- What the steps of the command `body` come to, joined: the answers of src/body.rt cite it.
-use Rattle.std.proofs.Common.{◌≡◌, ℕ, ◌<◌, ◌≤◌, ◌⊎◌, inl, inr, List, [], ◌∷◌, ◌++◌, Option, Some, None, Result, Ok, Err, IfSome, length, sym, ap, subst, ◌∙◌, ◌+◌, refl, arith, append-nil}
+use Rattle.std.proofs.Common.{◌≡◌, ℕ, ◌<◌, ◌≤◌, inl, inr, List, ◌∷◌, ◌++◌, Option, Some, None, Result, Ok, Err, IfSome, length, sym, ap, subst, ◌∙◌, ◌+◌, refl, arith, append-nil}
 use Rattle.std.specs.Prelude.{slice_get, IsSomeAnd, replicate}
 use Rattle.std.proofs.lemmas.Option.{slice_get_within}
 use Rattle.std.proofs.lemmas.List.{length-map, length-replicate}
 use Rattle.std.specs.Global.{Vec}
-use Rattle.std.specs.Io.KnownBytes.{Consumes, IsAtEnd}
 use Rattle.sm_io.specs.Causes.{Rose}
 use Rattle.sm_io.specs.Files.{Folder, Holds, HoldsLonger, file_at}
-use Rattle.sm_io.specs.Reading.{Empties, LosesPrefix}
+use Rattle.sm_io.specs.Reading.{Empties}
 use Rattle.sm_tree.specs.Node.{Node}
 use Rattle.sm_tree.specs.declared.path.Step.{Step}
 use Rattle.sm_tree.specs.declared.NoMemory.{NoMemory as OutOfMemory}
@@ -27,17 +26,18 @@ use Rattle.sm_shapes.specs.declared.fault.FaultKind.{FaultKind}
 use Rattle.sm_tool.specs.Leaves.{json_leaf}
 use Rattle.sm_tool.specs.Spelling.{Spells}
 use Rattle.sm_tool.specs.Faults.{FaultAt, faults}
-use Rattle.sm_tool.specs.Encoded.{encoded, json_written}
-use Rattle.sm_tool.specs.FirstForm.{StructureLine, FirstForm, shape_names}
-use Rattle.sm_tool.specs.ModelAnswers.{IsModel, ReadsModel}
+use Rattle.sm_tool.specs.Encoded.{encoded_tree, json_written}
+use Rattle.sm_tool.specs.FirstForm.{FirstForm}
+use Rattle.sm_tool.specs.ModelAnswers.{ReadsModel}
 use Rattle.sm_tool.specs.Lines.{unbuilt_line, no_shape_line, fault_line, syntax_line, file_limit_line, body_limit_line}
 use Rattle.sm_tool.specs.Outside.{FilesSeen, Stream}
-use Rattle.sm_tool.specs.Body.{Answer, done, refused, past, EndsInJson, IsModelFile, IsUnbuilt, IsNoShape, FileAnswers, TextAnswers, InputAnswers, HasShape, file_limit, body_limit}
+use Rattle.sm_tool.specs.Limits.{file_limit, body_limit}
+use Rattle.sm_tool.specs.Body.{Answer, done, refused, past, EndsInJson, IsUnbuilt, TextAnswers, HasShape}
 use Rattle.sm_tool.specs.Body.FileAnswers.{long_file, unbuilt, no_shape}
 use Rattle.sm_tool.specs.Body.TextAnswers.{no_text, fault, value}
 use Rattle.sm_tool.specs.Body.InputAnswers.{long_input, whole}
-use Rattle.sm_tool.specs.Run.{IsInput, Comes, IsServed, ReadFails, StopsShort}
-use Rattle.sm_tool.specs.Run.Comes.{by_file, by_input}
+use Rattle.sm_tool.specs.Run.{BodyAnswers, ReachesInput, ReadFails, StopsShort}
+use Rattle.sm_tool.specs.Run.BodyAnswers.{by_file, by_input}
 use Rattle.sm_tool.specs.Steps.{StopsAt, ComesTo, EndsWithLine, EndsWithLimit, TreeAnswers, ReadsModelFile, HoldsModel, RefusesFile, Opens, InputSays, InputComesTo, BodyComesTo}
 use Rattle.sm_tool.specs.declared.model.structures.FirstModel.{FirstModel}
 use Rattle.sm_tool.specs.declared.body.Stop.{Stop}
@@ -69,7 +69,7 @@ comes_map Says Tells F G S T (Ok far) says failed short h = says (done far.items
 comes_map Says Tells F G S T (Err stop) says failed short h = stops_map Says Tells F G S T stop says failed short h
 
 -- a tree that spells a value, and one that has a fault
-pub value_answers : (t : Table) (s : ℕ) (n : Node) (v : Val) (far : List ℕ) → Spells t json_leaf s v n → far ≡ written (encoded t json_written s v) → TreeAnswers t s n (done far)
+pub value_answers : (t : Table) (s : ℕ) (n : Node) (v : Val) (far : List ℕ) → Spells t json_leaf s v n → far ≡ written (encoded_tree t json_written s v) → TreeAnswers t s n (done far)
 value_answers t s n v far spells is = λ body read. value n v read spells (ap done is)
 
 pub fault_answers : (t : Table) (s : ℕ) (n : Node) (path : List Step) (kind : FaultKind) (later : List FaultAt) → faults t json_leaf n s ≡ (path, kind) ∷ later → TreeAnswers t s n (refused (fault_line path kind))
@@ -134,8 +134,8 @@ pub file_unbuilt : (files files1 : FilesSeen) (name file : List ℕ) (stop : Sto
 file_unbuilt files files1 name file stop held within none ends =
     line_stops (RefusesFile files name) (Rose files.faults files1.faults) (Unit {0}) (unbuilt_line name) stop (file, held, λ shape. unbuilt within none refl) tt ends
 
-pub file_past : (files files1 : FilesSeen) (name : List ℕ) (stop : Stop) → HoldsLonger files.held name 4194304 → EndsWithLimit file_limit_line stop → Opens files files1 name (Err stop)
-file_past files files1 name stop long ends = let w = longer_file files.held name 4194304 long in
+pub file_past : (files files1 : FilesSeen) (name : List ℕ) (stop : Stop) → HoldsLonger files.held name file_limit → EndsWithLimit file_limit_line stop → Opens files files1 name (Err stop)
+file_past files files1 name stop long ends = let w = longer_file files.held name file_limit long in
     limit_stops (RefusesFile files name) (Rose files.faults files1.faults) (Unit {0}) file_limit_line stop (w.0, w.1, λ shape. long_file w.2 refl) tt ends
 
 -- the whole input was read: a text that answers, and one that is too long
@@ -150,15 +150,15 @@ input_comes input rest t s body result empties within h =
     comes_map (TextAnswers t s body) (InputSays input rest t s) ⊥ (Rose input.faults rest.faults) (Unit {0}) (Unit {0}) result
     (λ a says. (body, record { told = emptied input.bytes rest.bytes body empties; read = λ _. empties.1 }, whole within says)) (λ x. absurd x) (λ x. x) h
 
-pub input_past : (input rest : Stream) (t : Table) (s : ℕ) (stop : Stop) → IfSome input.bytes (λ body. 1048576 < length body) → EndsWithLimit body_limit_line stop → InputComesTo input rest t s (Err stop)
-input_past input rest t s stop long ends = let w = longer_input input.bytes 1048576 long in
+pub input_past : (input rest : Stream) (t : Table) (s : ℕ) (stop : Stop) → IfSome input.bytes (λ body. body_limit < length body) → EndsWithLimit body_limit_line stop → InputComesTo input rest t s (Err stop)
+input_past input rest t s stop long ends = let w = longer_input input.bytes body_limit long in
     limit_stops (InputSays input rest t s) (Rose input.faults rest.faults) (Unit {0}) body_limit_line stop
     (w.0, record { told = w.1; read = λ within. absurd (omega (arith, w.2, within)) }, long_input w.2 refl) tt ends
 
 -- the whole command: a refused file, a missing shape, and the input
 pub body_stops : (files files1 : FilesSeen) (input : Stream) (name shape : List ℕ) (stop : Stop) → Opens files files1 name (Err stop) → BodyComesTo files files1 input input name shape (Err stop)
 body_stops files files1 input name shape stop h =
-    stops_map (RefusesFile files name) (Comes files input input name shape) (Rose files.faults files1.faults) (ReadFails files files1 input input name shape)
+    stops_map (RefusesFile files name) (BodyAnswers files input input name shape) (Rose files.faults files1.faults) (ReadFails files files1 input input name shape)
     (Unit {0}) (StopsShort files input input name shape) stop (λ a says. by_file says.0 says.1 (says.2 shape) refl) (λ rose. inl (rose, refl)) (λ short. inl refl) h
 
 pub shape_there : (files : FilesSeen) (name shape : List ℕ) (read : FirstModel) (s : ℕ) → (h : HoldsModel files name read) → slice_get read.names.items s ≡ Some shape → HasShape name h.file shape read.table s
@@ -169,15 +169,15 @@ pub body_crosses : (files files1 : FilesSeen) (input rest : Stream) (name shape 
     → InputComesTo input rest read.table s result → BodyComesTo files files1 input rest name shape result
 body_crosses files files1 input rest name shape read s result h found comes =
     let there = shape_there files name shape read s h found in
-    let served : IsServed files name shape = record { file = h.file; t = read.table; s = s; held = h.held; there = there } in
-    comes_map (InputSays input rest read.table s) (Comes files input rest name shape) (Rose input.faults rest.faults) (ReadFails files files1 input rest name shape)
+    let served : ReachesInput files name shape = record { file = h.file; t = read.table; s = s; held = h.held; there = there } in
+    comes_map (InputSays input rest read.table s) (BodyAnswers files input rest name shape) (Rose input.faults rest.faults) (ReadFails files files1 input rest name shape)
     (Unit {0}) (StopsShort files input rest name shape) result
     (λ a says. by_input says.0 served says.1 says.2) (λ rose. inr (rose, served)) (λ short. inr served) comes
 
 pub body_lacks : (files files1 : FilesSeen) (input : Stream) (name shape : List ℕ) (read : FirstModel) (stop : Stop) → HoldsModel files name read → ((s : ℕ) → slice_get read.names.items s ≡ Some shape → ⊥)
     → EndsWithLine (no_shape_line shape) stop → BodyComesTo files files1 input input name shape (Err stop)
 body_lacks files files1 input name shape read stop h none ends =
-    line_stops (Comes files input input name shape) (ReadFails files files1 input input name shape) (StopsShort files input input name shape) (no_shape_line shape) stop
+    line_stops (BodyAnswers files input input name shape) (ReadFails files files1 input input name shape) (StopsShort files input input name shape) (no_shape_line shape) stop
     (by_file h.file h.held (no_shape h.m h.within h.model (λ s is. none s (ap (λ xs. slice_get xs s) h.names ∙ is)) refl) refl) (inl refl) ends
 
 -- a structure that is named is a shape of the table

@@ -10,10 +10,11 @@ use Rattle.sm_shapes.specs.declared.table.ShapeKind.TheVariants.{Boolean, Text, 
 use Rattle.sm_shapes.specs.declared.fault.FaultKind.{FaultKind}
 use Rattle.sm_shapes.specs.declared.fault.FaultKind.TheVariants.{WrongType}
 use Rattle.sm_tool.specs.Leaves.{Leaf}
-use Rattle.sm_tool.specs.Members.{named, is_null}
+use Rattle.sm_tool.specs.Named.{trees_named, is_null}
 use Rattle.sm_tool.specs.Spelling.{NoneOrNull, Spells, SpellsFields}
 use Rattle.std.specs.Str.{bytes_eq}
-use Rattle.sm_tool.specs.Faults.{FaultAt, here, under, leaf_faults, absent_faults, members_faults, by_kind, faults, children, found_faults, faults_in}
+use Rattle.sm_tool.specs.Faults.{FaultAt, here, under, leaf_faults, absent_faults, members_faults, by_kind, faults, children}
+use Rattle.sm_tool.specs.Answers.{found_faults, faults_in}
 use Rattle.sm_tool.proofs.Conventions.{IsConvention, LeafFits}
 use Rattle.sm_tool.proofs.Found.{members_faults_more, skipped_clear, absent_clear, present_found, faults_of_leaf, faults_of_object}
 use Rattle.sm_tool.proofs.Fields.{skip_member, take_member}
@@ -90,23 +91,23 @@ named_carry_if : (t : Table) (leaf : Leaf) (b : Bool) (n : Node) (ns : List Node
 named_carry_if t leaf true n ns one all = (one, all)
 named_carry_if t leaf false n ns one all = all
 
-named_carry : (t : Table) (leaf : Leaf) (name : List ℕ) (ms : Members) → Carries t leaf ms → AllCarry t leaf (named name ms)
+named_carry : (t : Table) (leaf : Leaf) (name : List ℕ) (ms : Members) → Carries t leaf ms → AllCarry t leaf (trees_named name ms)
 named_carry t leaf name no_members h = tt
-named_carry t leaf name (member k n ms) h = named_carry_if t leaf (bytes_eq k name) n (named name ms) h.0 (named_carry t leaf name ms h.1)
+named_carry t leaf name (member k n ms) h = named_carry_if t leaf (bytes_eq k name) n (trees_named name ms) h.0 (named_carry t leaf name ms h.1)
 
 optional_where_clear : (b : Bool) → absent_faults b ≡ [] → b ≡ false
 optional_where_clear true h = cc
 optional_where_clear false h = refl
 
 -- a member without a fault, and what spells the members behind it, spell its field and theirs
-member_spelled_if : (t : Table) (leaf : Leaf) (k : ℕ) (ks : List ℕ) (ms : Members) (fs : FieldVals) (n : Node) (b : Bool) → is_null n ≡ b → named (name_at t k) ms ≡ n ∷ [] → ((s : ℕ) → faults t leaf n s ≡ [] → (v : Val) × Spells t leaf s v n) → cond b (absent_faults (required_at t k)) (faults t leaf n (target_at t k)) ≡ [] → SpellsFields t leaf ks fs ms → (gs : FieldVals) × SpellsFields t leaf (k ∷ ks) gs ms
+member_spelled_if : (t : Table) (leaf : Leaf) (k : ℕ) (ks : List ℕ) (ms : Members) (fs : FieldVals) (n : Node) (b : Bool) → is_null n ≡ b → trees_named (name_at t k) ms ≡ n ∷ [] → ((s : ℕ) → faults t leaf n s ≡ [] → (v : Val) × Spells t leaf s v n) → cond b (absent_faults (required_at t k)) (faults t leaf n (target_at t k)) ≡ [] → SpellsFields t leaf ks fs ms → (gs : FieldVals) × SpellsFields t leaf (k ∷ ks) gs ms
 member_spelled_if t leaf k ks ms fs n true nothing once carry clear h =
     (fs, skip_member t leaf k ks fs ms (optional_where_clear (required_at t k) clear) (subst NoneOrNull (sym once) nothing) h)
 member_spelled_if t leaf k ks ms fs n false stands once carry clear h =
     let w = carry (target_at t k) clear in
     (field k w.0 fs, take_member t leaf k ks w.0 n fs ms once stands w.1 h)
 
-member_spelled : (t : Table) (leaf : Leaf) (k : ℕ) (ks : List ℕ) (ms : Members) (fs : FieldVals) (ns : List Node) → named (name_at t k) ms ≡ ns → AllCarry t leaf ns → found_faults t leaf k ns ≡ [] → SpellsFields t leaf ks fs ms → (gs : FieldVals) × SpellsFields t leaf (k ∷ ks) gs ms
+member_spelled : (t : Table) (leaf : Leaf) (k : ℕ) (ks : List ℕ) (ms : Members) (fs : FieldVals) (ns : List Node) → trees_named (name_at t k) ms ≡ ns → AllCarry t leaf ns → found_faults t leaf k ns ≡ [] → SpellsFields t leaf ks fs ms → (gs : FieldVals) × SpellsFields t leaf (k ∷ ks) gs ms
 member_spelled t leaf k ks ms fs [] found carry clear h =
     (fs, skip_member t leaf k ks fs ms (optional_where_clear (required_at t k) clear) (subst NoneOrNull (sym found) tt) h)
 member_spelled t leaf k ks ms fs (n ∷ []) found carry clear h = member_spelled_if t leaf k ks ms fs n (is_null n) refl found carry.0 clear h
@@ -116,9 +117,9 @@ fields_spelled : (t : Table) (leaf : Leaf) (ks : List ℕ) (ms : Members) → Ca
 fields_spelled t leaf [] ms carry h = (no_fields, tt)
 fields_spelled t leaf (k ∷ ks) ms carry h =
     let parts : faults_in t leaf k ms ++ members_faults t (children t leaf ms) ks ≡ [] = sym (members_faults_more t leaf ms k ks) ∙ h in
-    let clear = none_under (name_at t k) (found_faults t leaf k (named (name_at t k) ms)) (front_empty (faults_in t leaf k ms) (members_faults t (children t leaf ms) ks) parts) in
+    let clear = none_under (name_at t k) (found_faults t leaf k (trees_named (name_at t k) ms)) (front_empty (faults_in t leaf k ms) (members_faults t (children t leaf ms) ks) parts) in
     let rest = fields_spelled t leaf ks ms carry (back_empty (faults_in t leaf k ms) (members_faults t (children t leaf ms) ks) parts) in
-    member_spelled t leaf k ks ms rest.0 (named (name_at t k) ms) refl (named_carry t leaf (name_at t k) ms carry) clear rest.1
+    member_spelled t leaf k ks ms rest.0 (trees_named (name_at t k) ms) refl (named_carry t leaf (name_at t k) ms carry) clear rest.1
 
 -- by kind: what is spelled where there is no fault
 by_kind_spelled : (t : Table) (leaf : Leaf) → IsConvention leaf → (s : ℕ) (n : Node) (structure : List FaultAt) → (k : ShapeKind) → kind_at t s ≡ k → (kind_at t s ≡ Structure → structure ≡ [] → (v : Val) × Spells t leaf s v n) → by_kind k (leaf_faults (leaf k n)) structure ≡ [] → (v : Val) × Spells t leaf s v n

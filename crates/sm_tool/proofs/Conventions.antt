@@ -12,8 +12,8 @@ use Rattle.sm_shapes.specs.declared.table.ShapeKind.{ShapeKind}
 use Rattle.sm_shapes.specs.declared.table.ShapeKind.TheVariants.{Boolean, Text, Integer, Long, Structure}
 use Rattle.sm_shapes.specs.declared.fault.FaultKind.{FaultKind}
 use Rattle.sm_shapes.specs.declared.fault.FaultKind.TheVariants.{WrongType, Width}
-use Rattle.sm_tool.specs.Leaves.{Leaf, holds, boolean_leaf, text_leaf, whole_leaf, json_leaf}
-use Rattle.sm_tool.specs.Members.{is_null}
+use Rattle.sm_tool.specs.Leaves.{Leaf, fits_word, boolean_leaf, text_leaf, whole_leaf, json_leaf}
+use Rattle.sm_tool.specs.Named.{is_null}
 use Rattle.sm_tool.specs.Encoded.{LeafWriter, json_written}
 
 -- the value is one of a simple shape of this kind
@@ -37,19 +37,19 @@ ok_same : (x y : Val) → ok_val x ≡ Ok y → x ≡ y
 ok_same x y h = cc
 
 -- a number that the test takes fits its word, and back
-pub fits_integer : (z : ℤ) → holds 31 z ≡ true → SFits w32 z
+pub fits_integer : (z : ℤ) → fits_word 31 z ≡ true → SFits w32 z
 fits_integer (pos n) h = record { sfits = grind (arith, nat_tests) }
 fits_integer (negsuc n) h = record { sfits = grind (arith, nat_tests) }
 
-pub fits_long : (z : ℤ) → holds 63 z ≡ true → SFits w64 z
+pub fits_long : (z : ℤ) → fits_word 63 z ≡ true → SFits w64 z
 fits_long (pos n) h = record { sfits = grind (arith, nat_tests) }
 fits_long (negsuc n) h = record { sfits = grind (arith, nat_tests) }
 
-pub holds_integer : (z : ℤ) → SFits w32 z → holds 31 z ≡ true
+pub holds_integer : (z : ℤ) → SFits w32 z → fits_word 31 z ≡ true
 holds_integer (pos n) h = let small : n < 2 ^ 31 = h.sfits in grind (arith, nat_tests)
 holds_integer (negsuc n) h = let small : n < 2 ^ 31 = h.sfits in grind (arith, nat_tests)
 
-pub holds_long : (z : ℤ) → SFits w64 z → holds 63 z ≡ true
+pub holds_long : (z : ℤ) → SFits w64 z → fits_word 63 z ≡ true
 holds_long (pos n) h = let small : n < 2 ^ 63 = h.sfits in grind (arith, nat_tests)
 holds_long (negsuc n) h = let small : n < 2 ^ 63 = h.sfits in grind (arith, nat_tests)
 
@@ -82,14 +82,14 @@ text_fits (list ns) v h = absurd cc
 text_fits (object ms) v h = absurd cc
 
 -- a whole number is read only from an integer that the word holds
-whole_if : (b : Bool) (h : ℕ) (z : ℤ) (v : Val) → holds h z ≡ b → cond b (Ok (int_val z)) (Err Width) ≡ Ok v → (holds h z ≡ true) × (int_val z ≡ v)
+whole_if : (b : Bool) (h : ℕ) (z : ℤ) (v : Val) → fits_word h z ≡ b → cond b (Ok (int_val z)) (Err Width) ≡ Ok v → (fits_word h z ≡ true) × (int_val z ≡ v)
 whole_if true h z v e is = (e, ok_same (int_val z) v is)
 whole_if false h z v e is = absurd cc
 
-whole_is : (h : ℕ) (n : Node) (v : Val) → whole_leaf h n ≡ Ok v → (z : ℤ) × (holds h z ≡ true) × (int_val z ≡ v)
+whole_is : (h : ℕ) (n : Node) (v : Val) → whole_leaf h n ≡ Ok v → (z : ℤ) × (fits_word h z ≡ true) × (int_val z ≡ v)
 whole_is h null v is = absurd cc
 whole_is h (bool b) v is = absurd cc
-whole_is h (int z) v is = let found = whole_if (holds h z) h z v refl is in (z, found.0, found.1)
+whole_is h (int z) v is = let found = whole_if (fits_word h z) h z v refl is in (z, found.0, found.1)
 whole_is h (number u) v is = absurd cc
 whole_is h (text u) v is = absurd cc
 whole_is h (bytes u) v is = absurd cc

@@ -23,10 +23,10 @@ use Rattle.sm_shapes.specs.declared.fault.FaultKind.{FaultKind}
 use Rattle.sm_shapes.specs.declared.fault.FaultKind.TheVariants.{Repeated, Missing}
 use Rattle.sm_tool.specs.declared.codec.refusal.Refusal.{Refusal}
 use Rattle.sm_tool.specs.Leaves.{Leaf}
-use Rattle.sm_tool.specs.Members.{named, is_null}
+use Rattle.sm_tool.specs.Named.{trees_named, is_null}
 use Rattle.sm_tool.specs.Spelling.{NoneOrNull, Spells, SpellsFields}
-use Rattle.sm_tool.specs.Faults.{here, under, leaf_faults, absent_faults, members_faults, faults, children, found_faults, faults_in}
-use Rattle.sm_tool.specs.Answers.{IsFirst, DecodesMember, kept}
+use Rattle.sm_tool.specs.Faults.{here, under, leaf_faults, absent_faults, members_faults, faults, children}
+use Rattle.sm_tool.specs.Answers.{IsFirst, DecodesMember, with_value, found_faults, faults_in}
 use Rattle.sm_tool.proofs.Conventions.{IsConvention}
 use Rattle.sm_tool.proofs.Found.{members_faults_more, absent_found, present_found, faults_of_leaf}
 use Rattle.sm_tool.proofs.Clear.{clear_where_spelled}
@@ -34,26 +34,26 @@ use Rattle.sm_tool.proofs.Fields.{Begun, begun_skips, begun_takes}
 use Rattle.sm_tool.proofs.Refusals.{first_before}
 
 -- a required member that is left out
-pub missing_first : (t : Table) (leaf : Leaf) (k : ℕ) (ms : Members) (refusal : Refusal) → NoneOrNull (named (name_at t k) ms) → required_at t k ≡ true → IsFirst (under (name_at t k) (here Missing)) refusal → IsFirst (faults_in t leaf k ms) refusal
+pub missing_first : (t : Table) (leaf : Leaf) (k : ℕ) (ms : Members) (refusal : Refusal) → NoneOrNull (trees_named (name_at t k) ms) → required_at t k ≡ true → IsFirst (under (name_at t k) (here Missing)) refusal → IsFirst (faults_in t leaf k ms) refusal
 missing_first t leaf k ms refusal absent required h =
-    subst (λ fs. IsFirst (under (name_at t k) fs) refusal) (sym (absent_found t leaf k (named (name_at t k) ms) absent ∙ ap absent_faults required)) h
+    subst (λ fs. IsFirst (under (name_at t k) fs) refusal) (sym (absent_found t leaf k (trees_named (name_at t k) ms) absent ∙ ap absent_faults required)) h
 
 -- a member whose name stands twice
-pub repeated_first : (t : Table) (leaf : Leaf) (k : ℕ) (ms : Members) (refusal : Refusal) (a b : Node) (ns : List Node) → named (name_at t k) ms ≡ a ∷ b ∷ ns → IsFirst (under (name_at t k) (here Repeated)) refusal → IsFirst (faults_in t leaf k ms) refusal
+pub repeated_first : (t : Table) (leaf : Leaf) (k : ℕ) (ms : Members) (refusal : Refusal) (a b : Node) (ns : List Node) → trees_named (name_at t k) ms ≡ a ∷ b ∷ ns → IsFirst (under (name_at t k) (here Repeated)) refusal → IsFirst (faults_in t leaf k ms) refusal
 repeated_first t leaf k ms refusal a b ns twice h = subst (λ found. IsFirst (under (name_at t k) (found_faults t leaf k found)) refusal) (sym twice) h
 
 -- a member whose value has a fault
-pub value_first : (t : Table) (leaf : Leaf) (k : ℕ) (ms : Members) (refusal : Refusal) (n : Node) → named (name_at t k) ms ≡ n ∷ [] → is_null n ≡ false → IsFirst (under (name_at t k) (faults t leaf n (target_at t k))) refusal → IsFirst (faults_in t leaf k ms) refusal
+pub value_first : (t : Table) (leaf : Leaf) (k : ℕ) (ms : Members) (refusal : Refusal) (n : Node) → trees_named (name_at t k) ms ≡ n ∷ [] → is_null n ≡ false → IsFirst (under (name_at t k) (faults t leaf n (target_at t k))) refusal → IsFirst (faults_in t leaf k ms) refusal
 value_first t leaf k ms refusal n once stands h =
     subst (λ fs. IsFirst (under (name_at t k) fs) refusal) (sym (ap (found_faults t leaf k) once ∙ present_found t leaf k n stands)) h
 
 -- members behind those without a fault
-pub behind_absent : (t : Table) (leaf : Leaf) (ms : Members) (k : ℕ) (ks : List ℕ) → required_at t k ≡ false → NoneOrNull (named (name_at t k) ms) → members_faults t (children t leaf ms) (k ∷ ks) ≡ members_faults t (children t leaf ms) ks
+pub behind_absent : (t : Table) (leaf : Leaf) (ms : Members) (k : ℕ) (ks : List ℕ) → required_at t k ≡ false → NoneOrNull (trees_named (name_at t k) ms) → members_faults t (children t leaf ms) (k ∷ ks) ≡ members_faults t (children t leaf ms) ks
 behind_absent t leaf ms k ks optional absent =
     members_faults_more t leaf ms k ks
-    ∙ ap (λ fs. under (name_at t k) fs ++ members_faults t (children t leaf ms) ks) (absent_found t leaf k (named (name_at t k) ms) absent ∙ ap absent_faults optional)
+    ∙ ap (λ fs. under (name_at t k) fs ++ members_faults t (children t leaf ms) ks) (absent_found t leaf k (trees_named (name_at t k) ms) absent ∙ ap absent_faults optional)
 
-pub behind_present : (t : Table) (leaf : Leaf) → IsConvention leaf → (ms : Members) (k : ℕ) (ks : List ℕ) (v : Val) (n : Node) → named (name_at t k) ms ≡ n ∷ [] → is_null n ≡ false → Spells t leaf (target_at t k) v n → members_faults t (children t leaf ms) (k ∷ ks) ≡ members_faults t (children t leaf ms) ks
+pub behind_present : (t : Table) (leaf : Leaf) → IsConvention leaf → (ms : Members) (k : ℕ) (ks : List ℕ) (v : Val) (n : Node) → trees_named (name_at t k) ms ≡ n ∷ [] → is_null n ≡ false → Spells t leaf (target_at t k) v n → members_faults t (children t leaf ms) (k ∷ ks) ≡ members_faults t (children t leaf ms) ks
 behind_present t leaf laws ms k ks v n once stands spelled =
     members_faults_more t leaf ms k ks
     ∙ ap (λ fs. under (name_at t k) fs ++ members_faults t (children t leaf ms) ks)
@@ -75,11 +75,11 @@ stand_index t s (k ∷ ks) h zero below = h.0
 stand_index t s (k ∷ ks) h (suc i) below = stand_index t s ks h.2 i (omega arith)
 
 -- a tree under a name weighs less than the pairs
-lighter_if : (b : Bool) (name : List ℕ) (n m : Node) (ms : Members) (rest : List Node) → (named name ms ≡ n ∷ rest → weight n < members_weight ms) → cond b (m ∷ named name ms) (named name ms) ≡ n ∷ rest → weight n < weight m + members_weight ms + 1
+lighter_if : (b : Bool) (name : List ℕ) (n m : Node) (ms : Members) (rest : List Node) → (trees_named name ms ≡ n ∷ rest → weight n < members_weight ms) → cond b (m ∷ trees_named name ms) (trees_named name ms) ≡ n ∷ rest → weight n < weight m + members_weight ms + 1
 lighter_if true name n m ms rest more h = let same : m ≡ n = cc in subst (λ m. weight n < weight m + members_weight ms + 1) (sym same) (omega arith)
 lighter_if false name n m ms rest more h = let less = more h in omega arith
 
-pub lighter : (name : List ℕ) (n : Node) (ms : Members) (rest : List Node) → named name ms ≡ n ∷ rest → weight n < members_weight ms
+pub lighter : (name : List ℕ) (n : Node) (ms : Members) (rest : List Node) → trees_named name ms ≡ n ∷ rest → weight n < members_weight ms
 lighter name n no_members rest h = cc
 lighter name n (member k m ms) rest h = lighter_if (bytes_eq k name) name n m ms rest (lighter name n ms rest) h
 
@@ -99,7 +99,7 @@ structure_decoded t leaf laws s n ms fields kind is h =
     (subst (λ v. Spells t leaf s v n) (sym (val_of_fields fields)) spelled, clear_where_spelled t leaf laws s v n spelled)
 
 -- one member more
-pub begun_keeps : (t : Table) (leaf : Leaf) (ms : Members) (all : List ℕ) (fs : List (ℕ × Val)) (k : ℕ) (ks : List ℕ) (found : Option Value) → DecodesMember t leaf k ms (Ok found) → Begun t leaf ms all fs (k ∷ ks) → Begun t leaf ms all (kept fs k found) ks
+pub begun_keeps : (t : Table) (leaf : Leaf) (ms : Members) (all : List ℕ) (fs : List (ℕ × Val)) (k : ℕ) (ks : List ℕ) (found : Option Value) → DecodesMember t leaf k ms (Ok found) → Begun t leaf ms all fs (k ∷ ks) → Begun t leaf ms all (with_value fs k found) ks
 begun_keeps t leaf ms all fs k ks None h begun = begun_skips t leaf ms all fs k ks h.0 h.1 begun
 begun_keeps t leaf ms all fs k ks (Some v) h begun = begun_takes t leaf ms all fs k ks (val_of v) h.0 h.1 h.2 h.3 begun
 

@@ -1,26 +1,34 @@
 -- The tree that is written for a value spells it.
-use Rattle.std.proofs.Common.{◌≡◌, ℕ, ◌<◌, false, cond, List, [], ◌∷◌, ◌++◌, refl, sym, ap, ◌∙◌, subst}
+use Rattle.std.proofs.Common.{◌≡◌, ℕ, ◌<◌, false, cond, List, [], ◌∷◌, ◌++◌, map, refl, sym, ap, ◌∙◌, subst}
 use Rattle.std.specs.Str.{bytes_eq}
 use Rattle.std.proofs.lemmas.Slice.Eq.{bytes_eq-Decides}
 use Rattle.std.proofs.lemmas.Bool.{false_from_ne_true}
 use Rattle.sm_tree.specs.Node.{Node, Members, no_members, member}
 use Rattle.sm_shapes.specs.Val.{Val, FieldVals, bool_val, int_val, text_val, structure_val, no_fields, field}
-use Rattle.sm_shapes.specs.Tables.{kind_at, members_at, name_at, target_at, shape_count, member_count, NoneNamed, NamesDiffer, StandIn, Shaped}
+use Rattle.sm_shapes.specs.Tables.{kind_at, members_at, name_at, target_at, shape_count, member_count, StandIn, Shaped}
+use Rattle.sm_shapes.specs.Names.{NoneIs, AllDiffer}
 use Rattle.sm_shapes.specs.Fits.{Fits, FitFields, AreOptional}
 use Rattle.sm_shapes.specs.declared.table.Table.{Table}
 use Rattle.sm_tool.specs.Leaves.{Leaf}
-use Rattle.sm_tool.specs.Members.{named, is_null}
-use Rattle.sm_tool.specs.Spelling.{NoneOrNull, AreAbsent, Spells, SpellsFields}
-use Rattle.sm_tool.specs.Encoded.{LeafWriter, encoded, encoded_fields}
+use Rattle.sm_tool.specs.Named.{trees_named, is_null}
+use Rattle.sm_tool.specs.Spelling.{NoneOrNull, MayBeLeftOut, Spells, SpellsFields}
+use Rattle.sm_tool.specs.Encoded.{LeafWriter, encoded_tree, encoded_fields}
 use Rattle.sm_tool.proofs.Conventions.{Writes}
 
 -- a pair of another name hides nothing, and a pair of the name stands first
-pub named_other : (name k : List ℕ) (n : Node) (ms : Members) → (k ≡ name → ⊥) → named name (member k n ms) ≡ named name ms
+pub named_other : (name k : List ℕ) (n : Node) (ms : Members) → (k ≡ name → ⊥) → trees_named name (member k n ms) ≡ trees_named name ms
 named_other name k n ms other =
-    ap (λ b. cond b (n ∷ named name ms) (named name ms)) (false_from_ne_true (bytes_eq k name) (λ e. other ((bytes_eq-Decides k name).0 e)))
+    ap (λ b. cond b (n ∷ trees_named name ms) (trees_named name ms)) (false_from_ne_true (bytes_eq k name) (λ e. other ((bytes_eq-Decides k name).0 e)))
 
-pub named_here : (name k : List ℕ) (n : Node) (ms : Members) → k ≡ name → named name (member k n ms) ≡ n ∷ named name ms
-named_here name k n ms same = ap (λ b. cond b (n ∷ named name ms) (named name ms)) ((bytes_eq-Decides k name).1 same)
+pub named_here : (name k : List ℕ) (n : Node) (ms : Members) → k ≡ name → trees_named name (member k n ms) ≡ n ∷ trees_named name ms
+named_here name k n ms same = ap (λ b. cond b (n ∷ trees_named name ms) (trees_named name ms)) ((bytes_eq-Decides k name).1 same)
+
+-- none of these members has the name, and no two of them have one name
+abbrev NoneNamed : Table → List ℕ → List ℕ → Type 0
+NoneNamed t name ks = NoneIs name (map (name_at t) ks)
+
+abbrev NamesDiffer : Table → List ℕ → Type 0
+NamesDiffer t ks = AllDiffer (map (name_at t) ks)
 
 -- of members that are split, each part
 none_at : (t : Table) (name : List ℕ) (front : List ℕ) (k : ℕ) (rest : List ℕ) → NoneNamed t name (front ++ k ∷ rest) → name_at t k ≡ name → ⊥
@@ -44,7 +52,7 @@ stand_at t s [] k rest h = (h.0, h.2)
 stand_at t s (j ∷ front) k rest h = stand_at t s front k rest h.2
 
 -- a pair of a name that no member has changes nothing
-absent_beside : (t : Table) (x : List ℕ) (n : Node) (ms : Members) (ks : List ℕ) → NoneNamed t x ks → AreAbsent t ms ks → AreAbsent t (member x n ms) ks
+absent_beside : (t : Table) (x : List ℕ) (n : Node) (ms : Members) (ks : List ℕ) → NoneNamed t x ks → MayBeLeftOut t ms ks → MayBeLeftOut t (member x n ms) ks
 absent_beside t x n ms [] none h = tt
 absent_beside t x n ms (k ∷ ks) none h =
     (h.0, subst NoneOrNull (sym (named_other (name_at t k) x n ms (λ e. none.0 (sym e)))) h.1, absent_beside t x n ms ks none.1 h.2)
@@ -65,33 +73,33 @@ spells_beside t leaf x n ks (field k v fs) ms none h =
     )
 
 -- nothing is written under a name that no member has
-none_written : (t : Table) (write : LeafWriter) (x : List ℕ) (ks : List ℕ) (fs : FieldVals) → NoneNamed t x ks → FitFields t ks fs → named x (encoded_fields t write fs) ≡ []
+none_written : (t : Table) (write : LeafWriter) (x : List ℕ) (ks : List ℕ) (fs : FieldVals) → NoneNamed t x ks → FitFields t ks fs → trees_named x (encoded_fields t write fs) ≡ []
 none_written t write x ks no_fields none h = refl
 none_written t write x ks (field k v fs) none h =
     let parts : NoneNamed t x (h.0 ++ k ∷ h.1) = subst (NoneNamed t x) h.2 none in
-    named_other x (name_at t k) (encoded t write (target_at t k) v) (encoded_fields t write fs) (none_at t x h.0 k h.1 parts)
+    named_other x (name_at t k) (encoded_tree t write (target_at t k) v) (encoded_fields t write fs) (none_at t x h.0 k h.1 parts)
     ∙ none_written t write x h.1 fs (none_back t x h.0 k h.1 parts) h.5
 
-optional_absent : (t : Table) (ks : List ℕ) → AreOptional t ks → AreAbsent t no_members ks
+optional_absent : (t : Table) (ks : List ℕ) → AreOptional t ks → MayBeLeftOut t no_members ks
 optional_absent t [] h = tt
 optional_absent t (k ∷ ks) h = (h.0, tt, optional_absent t ks h.1)
 
 -- members that are left out before a field are absent
-skipped_absent : (t : Table) (write : LeafWriter) (front : List ℕ) (k : ℕ) (rest : List ℕ) (n : Node) (fs : FieldVals) → NamesDiffer t (front ++ k ∷ rest) → AreOptional t front → FitFields t rest fs → AreAbsent t (member (name_at t k) n (encoded_fields t write fs)) front
+skipped_absent : (t : Table) (write : LeafWriter) (front : List ℕ) (k : ℕ) (rest : List ℕ) (n : Node) (fs : FieldVals) → NamesDiffer t (front ++ k ∷ rest) → AreOptional t front → FitFields t rest fs → MayBeLeftOut t (member (name_at t k) n (encoded_fields t write fs)) front
 skipped_absent t write [] k rest n fs differ optional fits = tt
 skipped_absent t write (j ∷ front) k rest n fs differ optional fits =
     let none = named_other (name_at t j) (name_at t k) n (encoded_fields t write fs) (none_at t (name_at t j) front k rest differ.0)
     ∙ none_written t write (name_at t j) rest fs (none_back t (name_at t j) front k rest differ.0) fits in
     (optional.0, subst NoneOrNull (sym none) tt, skipped_absent t write front k rest n fs differ.1 optional.1 fits)
 
-written_stands : (t : Table) (leaf : Leaf) (write : LeafWriter) → Writes leaf write → (s : ℕ) (v : Val) → Fits t s v → is_null (encoded t write s v) ≡ false
+written_stands : (t : Table) (leaf : Leaf) (write : LeafWriter) → Writes leaf write → (s : ℕ) (v : Val) → Fits t s v → is_null (encoded_tree t write s v) ≡ false
 written_stands t leaf write laws s (bool_val b) h = laws.stands (kind_at t s) (bool_val b) h
 written_stands t leaf write laws s (int_val z) h = laws.stands (kind_at t s) (int_val z) h
 written_stands t leaf write laws s (text_val u) h = laws.stands (kind_at t s) (text_val u) h
 written_stands t leaf write laws s (structure_val fs) h = refl
 
 mutual
-  pub spells_where_written : (t : Table) (leaf : Leaf) (write : LeafWriter) → Shaped t → Writes leaf write → (s : ℕ) (v : Val) → s < shape_count t → Fits t s v → Spells t leaf s v (encoded t write s v)
+  pub spells_where_written : (t : Table) (leaf : Leaf) (write : LeafWriter) → Shaped t → Writes leaf write → (s : ℕ) (v : Val) → s < shape_count t → Fits t s v → Spells t leaf s v (encoded_tree t write s v)
   spells_where_written t leaf write shaped laws s (bool_val b) inside h = laws.reads (kind_at t s) (bool_val b) h
   spells_where_written t leaf write shaped laws s (int_val z) inside h = laws.reads (kind_at t s) (int_val z) h
   spells_where_written t leaf write shaped laws s (text_val u) inside h = laws.reads (kind_at t s) (text_val u) h
@@ -104,7 +112,7 @@ mutual
       let place = stand_at t s h.0 k h.1 (subst (StandIn t s) h.2 stand) in
       let names = subst (NamesDiffer t) h.2 differ in
       let apart = differ_at t h.0 k h.1 names in
-      let n = encoded t write (target_at t k) v in (
+      let n = encoded_tree t write (target_at t k) v in (
         h.0,
         h.1,
         n,

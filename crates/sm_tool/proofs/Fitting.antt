@@ -6,10 +6,10 @@ use Rattle.sm_shapes.specs.Tables.{kind_at, members_at, target_at}
 use Rattle.sm_shapes.specs.Fits.{Fits, FitFields, AreOptional}
 use Rattle.sm_shapes.specs.declared.table.Table.{Table}
 use Rattle.sm_tool.specs.Leaves.{Leaf}
-use Rattle.sm_tool.specs.Spelling.{AreAbsent, Spells, SpellsFields}
+use Rattle.sm_tool.specs.Spelling.{MayBeLeftOut, Spells, SpellsFields}
 use Rattle.sm_tool.proofs.Conventions.{IsConvention}
 
-absent_optional : (t : Table) (ms : Members) (ks : List ℕ) → AreAbsent t ms ks → AreOptional t ks
+absent_optional : (t : Table) (ms : Members) (ks : List ℕ) → MayBeLeftOut t ms ks → AreOptional t ks
 absent_optional t ms [] h = tt
 absent_optional t ms (k ∷ ks) h = (h.0, absent_optional t ms ks h.2)
 

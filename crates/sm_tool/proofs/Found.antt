@@ -7,19 +7,20 @@ use Rattle.sm_shapes.specs.declared.table.Table.{Table}
 use Rattle.sm_shapes.specs.declared.table.ShapeKind.{ShapeKind}
 use Rattle.sm_shapes.specs.declared.table.ShapeKind.TheVariants.{Boolean, Text, Integer, Long, Structure}
 use Rattle.sm_tool.specs.Leaves.{Leaf}
-use Rattle.sm_tool.specs.Members.{named, is_null}
-use Rattle.sm_tool.specs.Spelling.{NoneOrNull, AreAbsent}
-use Rattle.sm_tool.specs.Faults.{FaultAt, Child, under, leaf_faults, children_named, absent_faults, member_faults, members_faults, by_kind, faults, children, child_of, found_faults, faults_in}
+use Rattle.sm_tool.specs.Named.{trees_named, is_null}
+use Rattle.sm_tool.specs.Spelling.{NoneOrNull, MayBeLeftOut}
+use Rattle.sm_tool.specs.Faults.{FaultAt, Child, under, leaf_faults, children_named, absent_faults, member_faults, members_faults, by_kind, faults, children, child_of}
+use Rattle.sm_tool.specs.Answers.{found_faults, faults_in}
 
 children_named_if : (b : Bool) (c : Child) (cs : List Child) (n : Node) (ns : List Node) (t : Table) (leaf : Leaf) → c ≡ child_of t leaf n → cs ≡ map (child_of t leaf) ns → cond b (c ∷ cs) cs ≡ map (child_of t leaf) (cond b (n ∷ ns) ns)
 children_named_if true c cs n ns t leaf e h = cc
 children_named_if false c cs n ns t leaf e h = h
 
 -- the children under a name are the trees under it
-pub children_are_named : (t : Table) (leaf : Leaf) (name : List ℕ) (ms : Members) → children_named name (children t leaf ms) ≡ map (child_of t leaf) (named name ms)
+pub children_are_named : (t : Table) (leaf : Leaf) (name : List ℕ) (ms : Members) → children_named name (children t leaf ms) ≡ map (child_of t leaf) (trees_named name ms)
 children_are_named t leaf name no_members = refl
 children_are_named t leaf name (member k n ms) =
-    children_named_if (bytes_eq k name) (child_of t leaf n) (children_named name (children t leaf ms)) n (named name ms) t leaf refl (children_are_named t leaf name ms)
+    children_named_if (bytes_eq k name) (child_of t leaf n) (children_named name (children t leaf ms)) n (trees_named name ms) t leaf refl (children_are_named t leaf name ms)
 
 pub members_faults_more : (t : Table) (leaf : Leaf) (ms : Members) (k : ℕ) (ks : List ℕ) → members_faults t (children t leaf ms) (k ∷ ks) ≡ faults_in t leaf k ms ++ members_faults t (children t leaf ms) ks
 members_faults_more t leaf ms k ks =
@@ -36,15 +37,15 @@ pub present_found : (t : Table) (leaf : Leaf) (k : ℕ) (n : Node) → is_null n
 present_found t leaf k n h = ap (λ b. cond b (absent_faults (required_at t k)) (faults t leaf n (target_at t k))) h
 
 -- optional members that are absent have no fault
-pub skipped_clear : (t : Table) (leaf : Leaf) (ms : Members) (skipped ks : List ℕ) → AreAbsent t ms skipped → members_faults t (children t leaf ms) (skipped ++ ks) ≡ members_faults t (children t leaf ms) ks
+pub skipped_clear : (t : Table) (leaf : Leaf) (ms : Members) (skipped ks : List ℕ) → MayBeLeftOut t ms skipped → members_faults t (children t leaf ms) (skipped ++ ks) ≡ members_faults t (children t leaf ms) ks
 skipped_clear t leaf ms [] ks h = refl
 skipped_clear t leaf ms (k ∷ skipped) ks h =
     members_faults_more t leaf ms k (skipped ++ ks)
-    ∙ ap (λ fs. under (name_at t k) fs ++ members_faults t (children t leaf ms) (skipped ++ ks)) (absent_found t leaf k (named (name_at t k) ms) h.1)
+    ∙ ap (λ fs. under (name_at t k) fs ++ members_faults t (children t leaf ms) (skipped ++ ks)) (absent_found t leaf k (trees_named (name_at t k) ms) h.1)
     ∙ ap (λ b. under (name_at t k) (absent_faults b) ++ members_faults t (children t leaf ms) (skipped ++ ks)) h.0
     ∙ skipped_clear t leaf ms skipped ks h.2
 
-pub absent_clear : (t : Table) (leaf : Leaf) (ms : Members) (ks : List ℕ) → AreAbsent t ms ks → members_faults t (children t leaf ms) ks ≡ []
+pub absent_clear : (t : Table) (leaf : Leaf) (ms : Members) (ks : List ℕ) → MayBeLeftOut t ms ks → members_faults t (children t leaf ms) ks ≡ []
 absent_clear t leaf ms ks h = ap (members_faults t (children t leaf ms)) (sym (append-nil ks)) ∙ skipped_clear t leaf ms ks [] h
 
 -- at a shape that is no structure, a tree has the faults of its leaf

@@ -15,8 +15,10 @@ pub mod Names
 pub mod Targets
 pub mod Reading
 pub mod Shaped
+pub mod SaysModel
 pub mod Forms
 pub mod OneModel
 pub mod Bodies
 pub mod Runs
 pub mod OneRun
+pub mod SomeRun

@@ -16,7 +16,7 @@ use Rattle.std.proofs.lemmas.Slice.Eq.{bytes_eq-Decides}
 use denote.Ref.{Bor}
 use Rattle.sm_tree.specs.declared.tree.Tree.{Tree}
 use Rattle.sm_tool.proofs.Objects.{clash}
-use Rattle.sm_tool.specs.Names.{NoneIs, AllDiffer}
+use Rattle.sm_shapes.specs.Names.{NoneIs, AllDiffer}
 
 pub none_is_snoc : (name x : List ℕ) (xs : List (List ℕ)) → NoneIs name xs → (x ≡ name → ⊥) → NoneIs name (xs ++ x ∷ [])
 none_is_snoc name x [] h n = (n, tt)

@@ -1,36 +1,34 @@
 -- Words, files and an input come to one answer: at each decision two answers go the same way.
-use Rattle.std.proofs.Common.{◌≡◌, ℕ, zero, suc, ◌<◌, ◌≤◌, ◌⊎◌, inl, inr, List, [], ◌∷◌, ◌++◌, Option, Some, None, Result, Ok, Err, IfSome, length, sym, ap, subst, ◌∙◌, refl, arith, append-nil, get_or}
-use Rattle.std.specs.Prelude.{slice_get, codes}
+use Rattle.std.proofs.Common.{◌≡◌, ℕ, zero, suc, ◌⊎◌, inl, inr, List, [], ◌∷◌, Option, Some, None, Err, IfSome, sym, ap, subst, ◌∙◌, refl, arith, append-nil}
+use Rattle.std.specs.Prelude.{slice_get}
 use Rattle.std.specs.Io.KnownBytes.{Appends}
 use Rattle.sm_io.specs.Files.{Folder, Holds, file_at}
 use Rattle.sm_tree.specs.Node.{Node}
 use Rattle.sm_tree.specs.Syntax.{IsRead}
 use Rattle.sm_tree.specs.SyntaxLaws.{IsRefused}
 use Rattle.sm_tree.proofs.OneAnswer as syntax
-use Rattle.sm_tree.specs.declared.path.Step.{Step}
 use Rattle.sm_tree.specs.declared.refusal.SyntaxRefusal.{SyntaxRefusal}
 use Rattle.sm_json.specs.JsonText.{JsonText}
 use Rattle.sm_json.specs.Written.{written}
 use Rattle.sm_json.proofs.OneTree.{one_tree}
 use Rattle.sm_shapes.specs.Val.{Val}
 use Rattle.sm_shapes.specs.declared.table.Table.{Table}
-use Rattle.sm_shapes.specs.declared.fault.FaultKind.{FaultKind}
 use Rattle.sm_tool.specs.Leaves.{json_leaf}
 use Rattle.sm_tool.specs.Spelling.{Spells}
 use Rattle.sm_tool.specs.Faults.{FaultAt, faults}
-use Rattle.sm_tool.specs.Encoded.{encoded, json_written}
-use Rattle.sm_tool.specs.Names.{NoneIs, AllDiffer}
-use Rattle.sm_tool.specs.FirstForm.{StructureLine, FirstForm, shape_names}
+use Rattle.sm_tool.specs.Encoded.{encoded_tree, json_written}
+use Rattle.sm_shapes.specs.Names.{NoneIs, AllDiffer}
+use Rattle.sm_tool.specs.FirstForm.{ModelStructure, FirstForm, shape_names}
 use Rattle.sm_tool.specs.Tabled.{table_of}
 use Rattle.sm_tool.specs.Lines.{fault_line, syntax_line}
 use Rattle.sm_tool.specs.Words.{IsBody}
 use Rattle.sm_tool.specs.Outside.{Outside, FilesSeen, Stream}
-use Rattle.sm_tool.specs.Body.{Answer, done, refused, IsModelFile, IsShape, FileAnswers, TextAnswers, InputAnswers, HasShape, body_limit}
+use Rattle.sm_tool.specs.Body.{Answer, done, refused, IsModelFile, IsShape, FileAnswers, TextAnswers, InputAnswers, HasShape}
 use Rattle.sm_tool.specs.Body.FileAnswers.{long_file, unbuilt, no_shape}
 use Rattle.sm_tool.specs.Body.TextAnswers.{no_text, fault, value}
 use Rattle.sm_tool.specs.Body.InputAnswers.{long_input, whole}
-use Rattle.sm_tool.specs.Run.{IsInput, IsServed, Comes, Prints, RunEnds}
-use Rattle.sm_tool.specs.Run.Comes.{by_file, by_input}
+use Rattle.sm_tool.specs.Run.{IsInput, BodyAnswers, Prints, RunEnds}
+use Rattle.sm_tool.specs.Run.BodyAnswers.{by_file, by_input}
 use Rattle.sm_tool.specs.RunLaws.{IsAnswered, IsRun, OneAnswer}
 use Rattle.sm_tool.specs.declared.command.Status.{Status}
 use Rattle.sm_tool.specs.declared.command.Status.TheVariants.{Done, Refused, Usage, ReadFault, WriteFault, NoMemory, Limit}
@@ -53,7 +51,7 @@ one_place (k ∷ ks) name (suc i) zero differ a b = let is : k ≡ name = cc in 
 one_place (k ∷ ks) name (suc i) (suc j) differ a b = ap suc (one_place ks name i j differ.1 a b)
 
 -- a file holds one model
-model_same : (name file : List ℕ) (m o : List StructureLine) → IsModelFile name file m → IsModelFile name file o → m ≡ o
+model_same : (name file : List ℕ) (m o : List ModelStructure) → IsModelFile name file m → IsModelFile name file o → m ≡ o
 model_same name file m o h i = one_model i.tree m o (subst (λ n. FirstForm n m) (one_tree h.tree i.tree file h.read.0 i.read.0) h.form) i.form
 
 -- one answer stands before the input
@@ -118,7 +116,7 @@ text_same t s body a b (value m v read1 spells is) (fault n path kind later read
 text_same t s body a b (value n v read spells is) (value m w read1 spells1 is1) =
     let trees : n ≡ m = one_tree n m body read.0 read1.0 in
     let values : v ≡ w = one_value t json_leaf json_convention s v w m (subst (λ x. Spells t json_leaf s v x) trees spells) spells1 in
-    is ∙ ap (λ x. done (written (encoded t json_written s x))) values ∙ sym is1
+    is ∙ ap (λ x. done (written (encoded_tree t json_written s x))) values ∙ sym is1
 
 input_same : (t : Table) (s : ℕ) (input : List ℕ) (a b : Answer) → InputAnswers t s input a → InputAnswers t s input b → a ≡ b
 input_same t s input a b (long_input long is) (long_input long1 is1) = is ∙ sym is1
@@ -142,7 +140,7 @@ told_same left rest left1 rest1 input body body1 e e1 h i =
 -- two runs for one file name and shape come to one answer
 comes_same : (folder : Folder) (bytes : List ℕ) (files files1 : FilesSeen) (input rest input1 rest1 : Stream) (model shape : List ℕ) (a b : Answer)
     → files.held ≡ Some folder → files1.held ≡ Some folder → input.bytes ≡ Some bytes → input1.bytes ≡ Some bytes
-    → Comes files input rest model shape a → Comes files1 input1 rest1 model shape b → a ≡ b
+    → BodyAnswers files input rest model shape a → BodyAnswers files1 input1 rest1 model shape b → a ≡ b
 comes_same folder bytes files files1 input rest input1 rest1 model shape a b held held1 left left1 (by_file f h says same) (by_file g i says1 same1) =
     let one : f ≡ g = held_same files.held files1.held folder model f g held held1 h i in
     file_same model g shape a b (subst (λ x. FileAnswers model x shape a) one says) says1
@@ -192,8 +190,8 @@ ends_same words folder input before after before1 after1 status status1 h i (inl
     let named = words_same words model shape model1 shape1 is is1 in
     let a : Answer = record { status = status; text = text } in
     let b : Answer = record { status = status1; text = text1 } in
-    let moved : Comes before.files before.input after.input model1 shape1 a =
-    subst (λ x. Comes before.files before.input after.input model1 x a) named.1 (subst (λ x. Comes before.files before.input after.input x shape a) named.0 comes) in
+    let moved : BodyAnswers before.files before.input after.input model1 shape1 a =
+    subst (λ x. BodyAnswers before.files before.input after.input model1 x a) named.1 (subst (λ x. BodyAnswers before.files before.input after.input x shape a) named.0 comes) in
     let same : a ≡ b = comes_same folder input before.files before1.files before.input after.input before1.input after1.input model1 shape1 a b h.files i.files h.left i.left moved comes1 in (
       ap (λ (x : Answer). x.status) same,
       (text1, subst (λ x. Appends before.output.bytes after.output.bytes x) (ap (λ (x : Answer). x.text) same) put, put1),

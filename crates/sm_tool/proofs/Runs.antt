@@ -1,26 +1,26 @@
 -- From what a command came to, and what was printed, to how the program ends. The answers of `run` cite it.
-use Rattle.std.proofs.Common.{◌≡◌, ℕ, ◌⊎◌, inl, inr, List, Option, Some, None, Result, Ok, Err, sym, ap, subst, ◌∙◌, refl}
+use Rattle.std.proofs.Common.{◌≡◌, ℕ, inl, inr, List, Option, Some, None, Result, Ok, Err, sym, subst, refl}
 use Rattle.std.specs.Global.{Vec}
-use Rattle.std.specs.Io.KnownBytes.{Keeps, Appends}
+use Rattle.std.specs.Io.KnownBytes.{Keeps}
 use Rattle.sm_tool.specs.Outside.{FilesSeen, Stream, Outside}
 use Rattle.sm_tool.specs.Words.{IsBody}
-use Rattle.sm_tool.specs.Body.{Answer, done, refused, past}
-use Rattle.sm_tool.specs.Run.{code_of, Comes, StopsShort, Prints, RunEnds, RunAnswers}
-use Rattle.sm_tool.specs.Run.Comes.{by_file, by_input}
-use Rattle.sm_tool.specs.Steps.{BodyComesTo, PutEnds, PutsAnswer, PrintsStop, PrintsResult}
+use Rattle.sm_tool.specs.Body.{Answer}
+use Rattle.sm_tool.specs.Run.{code_of, BodyAnswers, StopsShort, Prints, RunEnds, RunAnswers}
+use Rattle.sm_tool.specs.Run.BodyAnswers.{by_file, by_input}
+use Rattle.sm_tool.specs.Steps.{BodyComesTo, PutEnds, PrintsResult}
 use Rattle.sm_tool.specs.declared.body.Stop.{Stop}
 use Rattle.sm_tool.specs.declared.body.Stop.TheVariants.{Refused as is_refused, Limit as is_past, ReadFault as is_fault, NoMemory as is_short}
 use Rattle.sm_tool.specs.declared.command.Status.{Status}
-use Rattle.sm_tool.specs.declared.command.Status.TheVariants.{Done, Refused, Usage, ReadFault, WriteFault, NoMemory, Limit}
+use Rattle.sm_tool.specs.declared.command.Status.TheVariants.{Done, Refused, Limit}
 
 -- an answer leaves the input as it was, or stands behind no other
-comes_short : (files : FilesSeen) (input rest : Stream) (model shape : List ℕ) (a : Answer) → Comes files input rest model shape a → StopsShort files input rest model shape
+comes_short : (files : FilesSeen) (input rest : Stream) (model shape : List ℕ) (a : Answer) → BodyAnswers files input rest model shape a → StopsShort files input rest model shape
 comes_short files input rest model shape a (by_file file held answers same) = inl same
 comes_short files input rest model shape a (by_input body served is answers) = inr served
 
 -- an answer that is printed, by what the put came to
 put_ends : (words : List (List ℕ)) (before after : Outside) (model shape : List ℕ) (wanted : Status) (text : List ℕ) (status : Status) → IsBody words model shape
-    → Comes before.files before.input after.input model shape (record { status = wanted; text = text })
+    → BodyAnswers before.files before.input after.input model shape (record { status = wanted; text = text })
     → (Prints words before after wanted → RunEnds words before after wanted) → PutEnds before.output after.output text wanted status → RunEnds words before after status
 put_ends words before after model shape wanted text status is comes ends (inl (e, put)) =
     subst (λ x. RunEnds words before after x) (sym e) (ends (model, shape, is, (text, comes, put)))

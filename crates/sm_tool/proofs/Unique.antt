@@ -8,37 +8,37 @@ use Rattle.sm_shapes.specs.declared.table.Table.{Table}
 use Rattle.sm_shapes.specs.declared.table.ShapeKind.TheVariants.{Structure}
 use Rattle.sm_shapes.specs.declared.fault.FaultKind.{FaultKind}
 use Rattle.sm_tool.specs.Leaves.{Leaf}
-use Rattle.sm_tool.specs.Members.{named, is_null}
-use Rattle.sm_tool.specs.Spelling.{NoneOrNull, AreAbsent, Spells, SpellsFields}
+use Rattle.sm_tool.specs.Named.{trees_named, is_null}
+use Rattle.sm_tool.specs.Spelling.{NoneOrNull, MayBeLeftOut, Spells, SpellsFields}
 use Rattle.sm_tool.proofs.Conventions.{IsConvention}
 use Rattle.sm_tool.proofs.Clear.{simple_kind}
 
 -- the member stands once, and not with null
 abbrev IsPresent : Table → Members → ℕ → Node → Type 0
-IsPresent t ms k n = (named (name_at t k) ms ≡ n ∷ []) × (is_null n ≡ false)
+IsPresent t ms k n = (trees_named (name_at t k) ms ≡ n ∷ []) × (is_null n ≡ false)
 
 present_or_absent : (ns : List Node) (n : Node) → ns ≡ n ∷ [] → is_null n ≡ false → NoneOrNull ns → ⊥
 present_or_absent ns n once stands absent = let null : is_null n ≡ true = subst NoneOrNull once absent in cc
 
 -- no present member stands among absent ones
-none_present : (t : Table) (ms : Members) (ks skipped rest : List ℕ) (k : ℕ) (n : Node) → AreAbsent t ms ks → ks ≡ skipped ++ k ∷ rest → IsPresent t ms k n → ⊥
+none_present : (t : Table) (ms : Members) (ks skipped rest : List ℕ) (k : ℕ) (n : Node) → MayBeLeftOut t ms ks → ks ≡ skipped ++ k ∷ rest → IsPresent t ms k n → ⊥
 none_present t ms [] [] rest k n absent split present = cc
 none_present t ms [] (j ∷ skipped) rest k n absent split present = cc
 none_present t ms (j ∷ ks) [] rest k n absent split present =
     let same : j ≡ k = cc in
-    present_or_absent (named (name_at t k) ms) n present.0 present.1 (subst (λ i. NoneOrNull (named (name_at t i) ms)) same absent.1)
+    present_or_absent (trees_named (name_at t k) ms) n present.0 present.1 (subst (λ i. NoneOrNull (trees_named (name_at t i) ms)) same absent.1)
 none_present t ms (j ∷ ks) (i ∷ skipped) rest k n absent split present =
     let more : ks ≡ skipped ++ k ∷ rest = cc in none_present t ms ks skipped rest k n absent.2 more present
 
 -- the first present member, and what is behind it, is one
-one_split : (t : Table) (ms : Members) (front rest : List ℕ) (j : ℕ) (m : Node) (skipped others : List ℕ) (k : ℕ) (n : Node) → front ++ j ∷ rest ≡ skipped ++ k ∷ others → AreAbsent t ms front → IsPresent t ms j m → AreAbsent t ms skipped → IsPresent t ms k n → (j ≡ k) × (rest ≡ others)
+one_split : (t : Table) (ms : Members) (front rest : List ℕ) (j : ℕ) (m : Node) (skipped others : List ℕ) (k : ℕ) (n : Node) → front ++ j ∷ rest ≡ skipped ++ k ∷ others → MayBeLeftOut t ms front → IsPresent t ms j m → MayBeLeftOut t ms skipped → IsPresent t ms k n → (j ≡ k) × (rest ≡ others)
 one_split t ms [] rest j m [] others k n split absent here missing there = let first : j ≡ k = cc in let last : rest ≡ others = cc in (first, last)
 one_split t ms [] rest j m (i ∷ skipped) others k n split absent here missing there =
     let same : i ≡ j = cc in
-    absurd (present_or_absent (named (name_at t j) ms) m here.0 here.1 (subst (λ i. NoneOrNull (named (name_at t i) ms)) same missing.1))
+    absurd (present_or_absent (trees_named (name_at t j) ms) m here.0 here.1 (subst (λ i. NoneOrNull (trees_named (name_at t i) ms)) same missing.1))
 one_split t ms (i ∷ front) rest j m [] others k n split absent here missing there =
     let same : i ≡ k = cc in
-    absurd (present_or_absent (named (name_at t k) ms) n there.0 there.1 (subst (λ i. NoneOrNull (named (name_at t i) ms)) same absent.1))
+    absurd (present_or_absent (trees_named (name_at t k) ms) n there.0 there.1 (subst (λ i. NoneOrNull (trees_named (name_at t i) ms)) same absent.1))
 one_split t ms (i ∷ front) rest j m (h ∷ skipped) others k n split absent here missing there =
     let more : front ++ j ∷ rest ≡ skipped ++ k ∷ others = cc in
     one_split t ms front rest j m skipped others k n more absent.2 here missing.2 there
@@ -86,7 +86,7 @@ mutual
   one_fields t leaf laws ks (field j v fs) no_fields ms h g = absurd (none_present t ms ks h.0 h.1 j h.2 g h.3 (h.5, h.6))
   one_fields t leaf laws ks (field j v fs) (field k w gs) ms h g =
       let split = one_split t ms h.0 h.1 j h.2 g.0 g.1 k g.2 (sym h.3 ∙ g.3) h.4 (h.5, h.6) g.4 (g.5, g.6) in
-      let tree : h.2 ≡ g.2 = one_tree (named (name_at t k) ms) h.2 g.2 (subst (λ i. named (name_at t i) ms ≡ h.2 ∷ []) split.0 h.5) g.5 in
+      let tree : h.2 ≡ g.2 = one_tree (trees_named (name_at t k) ms) h.2 g.2 (subst (λ i. trees_named (name_at t i) ms ≡ h.2 ∷ []) split.0 h.5) g.5 in
       let value : v ≡ w =
       one_value t leaf laws (target_at t k) v w g.2 (subst (λ i. Spells t leaf (target_at t i) v g.2) split.0 (subst (Spells t leaf (target_at t j) v) tree h.7)) g.7 in
       let rest : fs ≡ gs = one_fields t leaf laws g.1 fs gs ms (subst (λ ks. SpellsFields t leaf ks fs ms) split.1 h.8) g.8 in

@@ -7,7 +7,7 @@ use Rattle.sm_shapes.specs.Val.{Val, FieldVals, no_fields, field}
 use Rattle.sm_shapes.specs.Tables.{name_at, target_at, StandIn}
 use Rattle.sm_shapes.specs.Fits.{FitFields}
 use Rattle.sm_shapes.specs.declared.table.Table.{Table}
-use Rattle.sm_tool.specs.Encoded.{encoded, encoded_fields, json_written, FieldsFit}
+use Rattle.sm_tool.specs.Encoded.{encoded_tree, encoded_fields, json_written, FieldsFit}
 use Rattle.sm_tool.proofs.Encoding.{stand_at}
 
 -- the pairs of a list before other pairs
@@ -35,7 +35,7 @@ each_fits t s ks (field k v fs) stand h =
     (place.0, h.4, each_fits t s h.1 fs place.1 h.5)
 
 -- one field more is written
-pub written_step : (t : Table) (all : Members) (ps new : List (List ℕ × Node)) (k : ℕ) (v : Val) (rest : FieldVals) (name : List ℕ) (n : Node) → new ≡ ps ++ (name, n) ∷ [] → name ≡ name_at t k → n ≡ encoded t json_written (target_at t k) v → and_pairs ps (encoded_fields t json_written (field k v rest)) ≡ all → and_pairs new (encoded_fields t json_written rest) ≡ all
+pub written_step : (t : Table) (all : Members) (ps new : List (List ℕ × Node)) (k : ℕ) (v : Val) (rest : FieldVals) (name : List ℕ) (n : Node) → new ≡ ps ++ (name, n) ∷ [] → name ≡ name_at t k → n ≡ encoded_tree t json_written (target_at t k) v → and_pairs ps (encoded_fields t json_written (field k v rest)) ≡ all → and_pairs new (encoded_fields t json_written rest) ≡ all
 written_step t all ps new k v rest name n pushed named tree h =
     let others = encoded_fields t json_written rest in
     ap (λ ps. and_pairs ps others) pushed ∙ and_one_pair ps name n others

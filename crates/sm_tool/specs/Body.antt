@@ -1,4 +1,4 @@
--- How a body is answered, over bytes alone: by the model file's name and bytes, the shape's ID, and the input.
+-- How a body is answered, over bytes alone: by the model file's name and bytes, the word for the shape, and the input.
 -- The decisions stand in their order: the file's length, the model, the shape; the input's length, its syntax,
 -- its faults. What the program does stands on this file.
 use Rattle.std.specs.Prelude.{◌≡◌, ℕ, ◌<◌, ◌≤◌, List, ◌∷◌, ◌++◌, codes, Some, slice_get, length}
@@ -15,9 +15,10 @@ use Rattle.sm_shapes.specs.declared.fault.FaultKind.{FaultKind}
 use Rattle.sm_tool.specs.Leaves.{json_leaf}
 use Rattle.sm_tool.specs.Spelling.{Spells}
 use Rattle.sm_tool.specs.Faults.{FaultAt, faults}
-use Rattle.sm_tool.specs.Encoded.{encoded, json_written}
-use Rattle.sm_tool.specs.FirstForm.{StructureLine, FirstForm, shape_names}
+use Rattle.sm_tool.specs.Encoded.{encoded_tree, json_written}
+use Rattle.sm_tool.specs.FirstForm.{ModelStructure, FirstForm, shape_names}
 use Rattle.sm_tool.specs.Tabled.{table_of}
+use Rattle.sm_tool.specs.Limits.{file_limit, body_limit}
 use Rattle.sm_tool.specs.Lines.{unbuilt_line, no_shape_line, fault_line, syntax_line, file_limit_line, body_limit_line}
 use Rattle.sm_tool.specs.declared.command.Status.{Status}
 use Rattle.sm_tool.specs.declared.command.Status.TheVariants.{Done, Refused, Limit}
@@ -36,48 +37,41 @@ refused line = record { status = Refused; text = line }
 abbrev pub past : List ℕ → Answer
 past line = record { status = Limit; text = line }
 
--- the greatest lengths of a model file and of an input, in bytes
-abbrev pub file_limit : ℕ
-file_limit = 4194304
-
-abbrev pub body_limit : ℕ
-body_limit = 1048576
-
 -- the name of a file in the JSON AST
 abbrev pub EndsInJson : List ℕ → Type 0
 EndsInJson name = (stem : List ℕ) × (name ≡ stem ++ codes ".json")
 
 -- the file of this name holds this model: its bytes are a JSON text of at most 100 levels in the first form
-pub record IsModelFile (name file : List ℕ) (m : List StructureLine) : Type 0 where
+pub record IsModelFile (name file : List ℕ) (m : List ModelStructure) : Type 0 where
   pub is_json : EndsInJson name
   pub tree : Node
   pub read : IsRead JsonText tree file
   pub form : FirstForm tree m
 
--- the file holds no model
+-- the file is none that is read: by its name, its text, or the form of its tree
 abbrev pub IsUnbuilt : List ℕ → List ℕ → Type 0
-IsUnbuilt name file = (m : List StructureLine) → IsModelFile name file m → ⊥
+IsUnbuilt name file = (m : List ModelStructure) → IsModelFile name file m → ⊥
 
 -- the structure of this name has the number s
-abbrev pub IsShape : List StructureLine → List ℕ → ℕ → Type 0
+abbrev pub IsShape : List ModelStructure → List ℕ → ℕ → Type 0
 IsShape m name s = slice_get (shape_names m) s ≡ Some name
 
 -- no structure of the model has this name
-abbrev pub IsNoShape : List StructureLine → List ℕ → Type 0
+abbrev pub IsNoShape : List ModelStructure → List ℕ → Type 0
 IsNoShape m name = (s : ℕ) → IsShape m name s → ⊥
 
 -- the answers that stand before the input, in this order
 pub data FileAnswers (name file shape : List ℕ) (a : Answer) : Type 0 where
   long_file : file_limit < length file → a ≡ past file_limit_line → FileAnswers name file shape a
   unbuilt : length file ≤ file_limit → IsUnbuilt name file → a ≡ refused (unbuilt_line name) → FileAnswers name file shape a
-  no_shape : (m : List StructureLine) → length file ≤ file_limit → IsModelFile name file m → IsNoShape m shape
+  no_shape : (m : List ModelStructure) → length file ≤ file_limit → IsModelFile name file m → IsNoShape m shape
       → a ≡ refused (no_shape_line shape) → FileAnswers name file shape a
 
 -- no answer stands before the input: the file is within its limit and holds a model, and the shape of this
 -- name is there, with the number s in the model's table t
 pub record HasShape (name file shape : List ℕ) (t : Table) (s : ℕ) : Type 0 where
   pub within : length file ≤ file_limit
-  pub m : List StructureLine
+  pub m : List ModelStructure
   pub model : IsModelFile name file m
   pub tabled : t ≡ table_of m
   pub named : IsShape m shape s
@@ -88,7 +82,7 @@ pub data TextAnswers (t : Table) (s : ℕ) (body : List ℕ) (a : Answer) : Type
   no_text : (refusal : SyntaxRefusal) → IsRefused JsonText body refusal → a ≡ refused (syntax_line refusal) → TextAnswers t s body a
   fault : (n : Node) → (path : List Step) → (kind : FaultKind) → (later : List FaultAt) → IsRead JsonText n body
       → faults t json_leaf n s ≡ (path, kind) ∷ later → a ≡ refused (fault_line path kind) → TextAnswers t s body a
-  value : (n : Node) → (v : Val) → IsRead JsonText n body → Spells t json_leaf s v n → a ≡ done (written (encoded t json_written s v))
+  value : (n : Node) → (v : Val) → IsRead JsonText n body → Spells t json_leaf s v n → a ≡ done (written (encoded_tree t json_written s v))
       → TextAnswers t s body a
 
 -- the answers to an input for the shape s of the table t, in this order

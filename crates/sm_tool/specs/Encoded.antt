@@ -20,16 +20,16 @@ json_written kind (structure_val fs) = null
 
 abbrev mutual
   -- the tree of a value of the shape s
-  pub encoded : Table → LeafWriter → ℕ → Val → Node
-  encoded t write s (bool_val b) = write (kind_at t s) (bool_val b)
-  encoded t write s (int_val z) = write (kind_at t s) (int_val z)
-  encoded t write s (text_val u) = write (kind_at t s) (text_val u)
-  encoded t write s (structure_val fs) = object (encoded_fields t write fs)
+  pub encoded_tree : Table → LeafWriter → ℕ → Val → Node
+  encoded_tree t write s (bool_val b) = write (kind_at t s) (bool_val b)
+  encoded_tree t write s (int_val z) = write (kind_at t s) (int_val z)
+  encoded_tree t write s (text_val u) = write (kind_at t s) (text_val u)
+  encoded_tree t write s (structure_val fs) = object (encoded_fields t write fs)
 
   -- a pair for each member that is present, in model order
   pub encoded_fields : Table → LeafWriter → FieldVals → Members
   encoded_fields t write no_fields = no_members
-  encoded_fields t write (field k v fs) = member (name_at t k) (encoded t write (target_at t k) v) (encoded_fields t write fs)
+  encoded_fields t write (field k v fs) = member (name_at t k) (encoded_tree t write (target_at t k) v) (encoded_fields t write fs)
 
 -- each field is of a member of the table, and its value is one of the member's shape
 abbrev pub FieldsFit : Table → FieldVals → Type 0

@@ -2,7 +2,7 @@
 -- stand in model order, whatever the order of the pairs.
 use Rattle.std.specs.Prelude.{ℕ, Bool, cond, List, [], ◌∷◌, ◌++◌, map, Result, Ok, Err}
 use Rattle.std.specs.Str.{bytes_eq}
-use Rattle.sm_tree.specs.Node.{Node, Members, null, bool, int, number, text, bytes, tag, opaque, list, object, no_members, member}
+use Rattle.sm_tree.specs.Node.{Node, Members, object, no_members, member}
 use Rattle.sm_tree.specs.declared.path.Step.{Step}
 use Rattle.sm_tree.specs.declared.path.Step.TheVariants.{Member}
 use Rattle.sm_shapes.specs.Val.{Val}
@@ -13,7 +13,7 @@ use Rattle.sm_shapes.specs.declared.table.ShapeKind.TheVariants.{Boolean, Text, 
 use Rattle.sm_shapes.specs.declared.fault.FaultKind.{FaultKind}
 use Rattle.sm_shapes.specs.declared.fault.FaultKind.TheVariants.{WrongType, Repeated, Missing}
 use Rattle.sm_tool.specs.Leaves.{Leaf}
-use Rattle.sm_tool.specs.Members.{named, is_null}
+use Rattle.sm_tool.specs.Named.{is_null}
 
 -- a fault as data: its path and its kind
 abbrev pub FaultAt : Type 0
@@ -67,33 +67,18 @@ by_kind Long simple structure = simple
 by_kind Structure simple structure = structure
 
 abbrev mutual
-  -- the faults of a tree for the shape s
+  -- the faults of a tree for the shape s: those of a leaf; at a structure those of its members, and of a tree that is
+  -- no object that it is none
   pub faults : Table → Leaf → Node → ℕ → List FaultAt
-  faults t leaf null s = by_kind (kind_at t s) (leaf_faults (leaf (kind_at t s) null)) (here WrongType)
-  faults t leaf (bool b) s = by_kind (kind_at t s) (leaf_faults (leaf (kind_at t s) (bool b))) (here WrongType)
-  faults t leaf (int z) s = by_kind (kind_at t s) (leaf_faults (leaf (kind_at t s) (int z))) (here WrongType)
-  faults t leaf (number u) s = by_kind (kind_at t s) (leaf_faults (leaf (kind_at t s) (number u))) (here WrongType)
-  faults t leaf (text u) s = by_kind (kind_at t s) (leaf_faults (leaf (kind_at t s) (text u))) (here WrongType)
-  faults t leaf (bytes u) s = by_kind (kind_at t s) (leaf_faults (leaf (kind_at t s) (bytes u))) (here WrongType)
-  faults t leaf (tag k n) s = by_kind (kind_at t s) (leaf_faults (leaf (kind_at t s) (tag k n))) (here WrongType)
-  faults t leaf (opaque b) s = by_kind (kind_at t s) (leaf_faults (leaf (kind_at t s) (opaque b))) (here WrongType)
-  faults t leaf (list ns) s = by_kind (kind_at t s) (leaf_faults (leaf (kind_at t s) (list ns))) (here WrongType)
   faults t leaf (object ms) s =
       by_kind (kind_at t s) (leaf_faults (leaf (kind_at t s) (object ms))) (members_faults t (children t leaf ms) (members_at t s))
+  faults t leaf n s = by_kind (kind_at t s) (leaf_faults (leaf (kind_at t s) n)) (here WrongType)
 
   -- the pairs of an object, with what each tree gives for each shape
   pub children : Table → Leaf → Members → List (List ℕ × Child)
   children t leaf no_members = []
   children t leaf (member k n ms) = (k, record { null = is_null n; faults = λ s. faults t leaf n s }) ∷ children t leaf ms
 
--- a tree as a child
+-- a tree as a child, as `children` has it
 abbrev pub child_of : Table → Leaf → Node → Child
 child_of t leaf n = record { null = is_null n; faults = λ s. faults t leaf n s }
-
--- the faults of the member k by the trees under its name, seen from the member
-abbrev pub found_faults : Table → Leaf → ℕ → List Node → List FaultAt
-found_faults t leaf k ns = member_faults (required_at t k) (target_at t k) (map (child_of t leaf) ns)
-
--- the faults of the member k in an object
-abbrev pub faults_in : Table → Leaf → ℕ → Members → List FaultAt
-faults_in t leaf k ms = under (name_at t k) (found_faults t leaf k (named (name_at t k) ms))

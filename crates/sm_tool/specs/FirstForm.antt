@@ -3,25 +3,25 @@
 -- shapes and members stand in the order of their pairs. What reads models stands on this file.
 use Rattle.std.specs.Prelude.{◌≡◌, ◌⊎◌, ℕ, Bool, true, false, List, [], ◌∷◌, map, codes}
 use Rattle.sm_tree.specs.Node.{Node, Members, text, object, no_members, member}
-use Rattle.sm_tool.specs.Names.{AllDiffer}
+use Rattle.sm_shapes.specs.Names.{AllDiffer}
 use Rattle.sm_tool.specs.declared.model.target.SimpleTarget.{SimpleTarget}
 use Rattle.sm_tool.specs.declared.model.target.SimpleTarget.TheVariants.{String, Boolean, Integer, Long}
 
 -- a member: its name, the shape that it targets, and whether it has the trait `required`
-pub record MemberLine : Type 0 where
+pub record ModelMember : Type 0 where
   pub name : List ℕ
   pub target : SimpleTarget
   pub required : Bool
 
--- a structure: its shape ID, and its members in model order. A model is a list of structures
-pub record StructureLine : Type 0 where
+-- a structure: its name, and its members in model order. A model is a list of structures
+pub record ModelStructure : Type 0 where
   pub name : List ℕ
-  pub members : List MemberLine
+  pub members : List ModelMember
 
-abbrev pub member_names : List MemberLine → List (List ℕ)
+abbrev pub member_names : List ModelMember → List (List ℕ)
 member_names ls = map (λ l. l.name) ls
 
-abbrev pub shape_names : List StructureLine → List (List ℕ)
+abbrev pub shape_names : List ModelStructure → List (List ℕ)
 shape_names m = map (λ l. l.name) m
 
 -- an object of one field
@@ -49,25 +49,25 @@ MemberSays n t false = n ≡ one_field (codes "target") (text (target_id t))
 MemberSays n t true = HasBoth n (codes "target") (text (target_id t)) (codes "traits") required_traits
 
 -- the pair is this member, which isn't named `__type`
-abbrev pub PairSays : List ℕ → Node → MemberLine → Type 0
+abbrev pub PairSays : List ℕ → Node → ModelMember → Type 0
 PairSays k n l = (k ≡ l.name) × (k ≡ codes "__type" → ⊥) × MemberSays n l.target l.required
 
 -- the pairs are these members
-abbrev pub MembersSay : Members → List MemberLine → Type 0
+abbrev pub MembersSay : Members → List ModelMember → Type 0
 MembersSay no_members [] = Unit {0}
 MembersSay no_members (l ∷ ls) = ⊥
 MembersSay (member k n ms) [] = ⊥
 MembersSay (member k n ms) (l ∷ ls) = PairSays k n l × MembersSay ms ls
 
 -- a shape has the `type` "structure" and `members`, whose names differ
-pub record ShapeSays (n : Node) (ls : List MemberLine) : Type 0 where
+pub record ShapeSays (n : Node) (ls : List ModelMember) : Type 0 where
   pub pairs : Members
   pub fields : HasBoth n (codes "type") (text (codes "structure")) (codes "members") (object pairs)
   pub says : MembersSay pairs ls
   pub differ : AllDiffer (member_names ls)
 
 -- the pairs are these shapes
-abbrev pub ShapesSay : Members → List StructureLine → Type 0
+abbrev pub ShapesSay : Members → List ModelStructure → Type 0
 ShapesSay no_members [] = Unit {0}
 ShapesSay no_members (l ∷ ls) = ⊥
 ShapesSay (member k n ms) [] = ⊥
@@ -75,12 +75,12 @@ ShapesSay (member k n ms) (l ∷ ls) = (k ≡ l.name) × ShapeSays n l.members �
 
 -- The tree is in the first form and says this model: it has `smithy`, the version "2.0", and `shapes`,
 -- whose names differ.
-pub record FirstForm (n : Node) (m : List StructureLine) : Type 0 where
+pub record FirstForm (n : Node) (m : List ModelStructure) : Type 0 where
   pub pairs : Members
   pub fields : HasBoth n (codes "smithy") (text (codes "2.0")) (codes "shapes") (object pairs)
   pub says : ShapesSay pairs m
   pub differ : AllDiffer (shape_names m)
 
 -- a law: a tree says at most one model
-abbrev pub SayOneModel : Type 0
-SayOneModel = (n : Node) (m o : List StructureLine) → FirstForm n m → FirstForm n o → m ≡ o
+abbrev pub OneModelATree : Type 0
+OneModelATree = (n : Node) (m o : List ModelStructure) → FirstForm n m → FirstForm n o → m ≡ o

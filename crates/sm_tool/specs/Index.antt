@@ -8,7 +8,7 @@ use Rattle.sm_tree.specs.Node.{Node, Members, members_of}
 use Rattle.sm_tree.specs.View.{members_view}
 use Rattle.sm_tool.specs.declared.codec.find.Found.{Found}
 use Rattle.sm_tool.specs.declared.codec.index.Index.{Index}
-use Rattle.sm_tool.specs.Members.{named}
+use Rattle.sm_tool.specs.Named.{trees_named}
 use Rattle.sm_tool.specs.Answers.{Finds}
 
 -- an index without a name says that nothing stands under it
@@ -18,7 +18,7 @@ FindsIn ns (Some found) = Finds ns found
 
 -- at each name the index says what stands under it
 abbrev pub IsIndexOf : BTreeMap (Bor (List ℕ)) Found → Members → Type 0
-IsIndexOf names ms = (q : List ℕ) → FindsIn (named q ms) (get_by (λ k. slice_cmp nat_cmp q k.now) names)
+IsIndexOf names ms = (q : List ℕ) → FindsIn (trees_named q ms) (get_by (λ k. slice_cmp nat_cmp q k.now) names)
 
 abbrev pub IsIndexIfAny : Option (BTreeMap (Bor (List ℕ)) Found) → Members → Type 0
 IsIndexIfAny None ms = Unit {0}

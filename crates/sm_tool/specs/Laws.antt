@@ -8,7 +8,7 @@ use Rattle.sm_shapes.specs.declared.table.Table.{Table}
 use Rattle.sm_tool.specs.Leaves.{json_leaf}
 use Rattle.sm_tool.specs.Spelling.{Spells}
 use Rattle.sm_tool.specs.Faults.{faults}
-use Rattle.sm_tool.specs.Encoded.{encoded, json_written}
+use Rattle.sm_tool.specs.Encoded.{encoded_tree, json_written}
 
 -- a tree has no fault for a shape exactly where it spells some value of the shape
 abbrev pub ValueOrFault : Type 0
@@ -24,4 +24,4 @@ SpelledFits = (t : Table) (s : ℕ) (v : Val) (n : Node) → Spells t json_leaf 
 
 -- the tree that is written for a value of the shape spells it
 abbrev pub EncodedSpells : Type 0
-EncodedSpells = (t : Table) (s : ℕ) (v : Val) → Shaped t → s < shape_count t → Fits t s v → Spells t json_leaf s v (encoded t json_written s v)
+EncodedSpells = (t : Table) (s : ℕ) (v : Val) → Shaped t → s < shape_count t → Fits t s v → Spells t json_leaf s v (encoded_tree t json_written s v)

@@ -14,9 +14,9 @@ abbrev pub Leaf : Type 0
 Leaf = ShapeKind → Node → Result Val FaultKind
 
 -- a word with a sign and h bits beside it holds the number
-abbrev pub holds : ℕ → ℤ → Bool
-holds h (pos n) = nat_lt n (2 ^ h)
-holds h (negsuc n) = nat_lt n (2 ^ h)
+abbrev pub fits_word : ℕ → ℤ → Bool
+fits_word h (pos n) = nat_lt n (2 ^ h)
+fits_word h (negsuc n) = nat_lt n (2 ^ h)
 
 -- `.`, `E` or `e`
 abbrev pub is_mark : ℕ → Bool
@@ -26,17 +26,19 @@ is_mark c = nat_eq c 46 || (nat_eq c 69 || nat_eq c 101)
 abbrev pub has_mark : List ℕ → Bool
 has_mark u = list_any is_mark u
 
+-- a truth value
 abbrev pub boolean_leaf : Node → Result Val FaultKind
 boolean_leaf (bool b) = Ok (bool_val b)
 boolean_leaf n = Err WrongType
 
+-- a text; trees of the code hold texts in UTF-8 alone, so the other case never comes
 abbrev pub text_leaf : Node → Result Val FaultKind
 text_leaf (text u) = cond (is_utf8 u) (Ok (text_val u)) (Err WrongType)
 text_leaf n = Err WrongType
 
 -- an integer that the shape's word holds; other numbers have a fraction or an exponent, or are out of range
 abbrev pub whole_leaf : ℕ → Node → Result Val FaultKind
-whole_leaf h (int z) = cond (holds h z) (Ok (int_val z)) (Err Width)
+whole_leaf h (int z) = cond (fits_word h z) (Ok (int_val z)) (Err Width)
 whole_leaf h (number u) = Err (cond (has_mark u) WrongType Width)
 whole_leaf h n = Err WrongType
 

@@ -7,6 +7,7 @@ use Rattle.sm_tree.specs.declared.refusal.SyntaxRefusal.{SyntaxRefusal}
 use Rattle.sm_tree.specs.declared.refusal.SyntaxRefusal.TheVariants.{Bad, Ended, TooDeep, KeyKind, NoMemory}
 use Rattle.sm_shapes.specs.Words.{fault_word}
 use Rattle.sm_shapes.specs.declared.fault.FaultKind.{FaultKind}
+use Rattle.sm_tool.specs.Limits.{file_limit, body_limit}
 
 -- a word, a blank and a text
 abbrev pub line : List ℕ → List ℕ → List ℕ
@@ -24,7 +25,7 @@ no_shape_line shape = line (codes "NoShape") shape
 abbrev pub fault_line : List Step → FaultKind → List ℕ
 fault_line path kind = line (codes "Fault") (pointer path ++ (32 ∷ fault_word kind))
 
--- a body that is no text
+-- a body that is no text; of JSON no `KeyKind` comes, and `NoMemory` is no refusal of a body
 abbrev pub syntax_text : SyntaxRefusal → List ℕ
 syntax_text (Bad at) = codes "Bad " ++ decimal at
 syntax_text Ended = codes "Ended"
@@ -35,9 +36,12 @@ syntax_text NoMemory = codes "NoMemory"
 abbrev pub syntax_line : SyntaxRefusal → List ℕ
 syntax_line refusal = line (codes "Syntax") (syntax_text refusal)
 
--- a limit that was passed
+-- a limit that was passed: its word and its number
+abbrev pub limit_line : List ℕ → ℕ → List ℕ
+limit_line word number = line (codes "Limit") (word ++ (32 ∷ decimal number))
+
 abbrev pub file_limit_line : List ℕ
-file_limit_line = line (codes "Limit") (codes "file 4194304")
+file_limit_line = limit_line (codes "file") file_limit
 
 abbrev pub body_limit_line : List ℕ
-body_limit_line = line (codes "Limit") (codes "body 1048576")
+body_limit_line = limit_line (codes "body") body_limit

@@ -3,12 +3,13 @@
 use Rattle.std.specs.Prelude.{◌≡◌, ℕ, ◌≤◌, ◌⊎◌, List, Option, Some, IfSome, length}
 use Rattle.std.specs.Io.KnownBytes.{Keeps, Appends, IsAtEnd}
 use Rattle.sm_io.specs.Causes.{Rose}
-use Rattle.sm_io.specs.Files.{Folder, Holds}
+use Rattle.sm_io.specs.Files.{Holds}
 use Rattle.sm_io.specs.Writing.{AppendsPrefix}
 use Rattle.sm_shapes.specs.declared.table.Table.{Table}
 use Rattle.sm_tool.specs.Outside.{Stream, FilesSeen, Outside}
 use Rattle.sm_tool.specs.Words.{IsBody}
-use Rattle.sm_tool.specs.Body.{Answer, FileAnswers, HasShape, InputAnswers, body_limit}
+use Rattle.sm_tool.specs.Limits.{body_limit}
+use Rattle.sm_tool.specs.Body.{Answer, FileAnswers, HasShape, InputAnswers}
 use Rattle.sm_tool.specs.declared.command.Status.{Status}
 use Rattle.sm_tool.specs.declared.command.Status.TheVariants.{Done, Refused, Usage, ReadFault, WriteFault, NoMemory, Limit}
 
@@ -28,7 +29,7 @@ pub record IsInput (left rest : Option (List ℕ)) (input : List ℕ) : Type 0 w
   pub read : length input ≤ body_limit → IsAtEnd rest
 
 -- no answer stands before the input: the file of this name holds a model, and the shape is there
-pub record IsServed (files : FilesSeen) (model shape : List ℕ) : Type 0 where
+pub record ReachesInput (files : FilesSeen) (model shape : List ℕ) : Type 0 where
   pub file : List ℕ
   pub t : Table
   pub s : ℕ
@@ -37,20 +38,20 @@ pub record IsServed (files : FilesSeen) (model shape : List ℕ) : Type 0 where
 
 -- The file of this name and the input come to this answer. The input is as it was where the answer stands
 -- before it.
-pub data Comes (files : FilesSeen) (input rest : Stream) (model shape : List ℕ) (a : Answer) : Type 0 where
+pub data BodyAnswers (files : FilesSeen) (input rest : Stream) (model shape : List ℕ) (a : Answer) : Type 0 where
   by_file : (file : List ℕ) → Holds files.held model (Some file) → FileAnswers model file shape a → rest ≡ input
-      → Comes files input rest model shape a
-  by_input : (body : List ℕ) → (served : IsServed files model shape) → IsInput input.bytes rest.bytes body
-      → InputAnswers served.t served.s body a → Comes files input rest model shape a
+      → BodyAnswers files input rest model shape a
+  by_input : (body : List ℕ) → (served : ReachesInput files model shape) → IsInput input.bytes rest.bytes body
+      → InputAnswers served.t served.s body a → BodyAnswers files input rest model shape a
 
 -- a read of the file failed, and the input is as it was; or one of the input failed, and no answer stands before it
 abbrev pub ReadFails : FilesSeen → FilesSeen → Stream → Stream → List ℕ → List ℕ → Type 0
 ReadFails files files1 input rest model shape =
-    (Rose files.faults files1.faults × (rest ≡ input)) ⊎ (Rose input.faults rest.faults × IsServed files model shape)
+    (Rose files.faults files1.faults × (rest ≡ input)) ⊎ (Rose input.faults rest.faults × ReachesInput files model shape)
 
 -- the input is as it was, unless no answer stands before it
 abbrev pub StopsShort : FilesSeen → Stream → Stream → List ℕ → List ℕ → Type 0
-StopsShort files input rest model shape = (rest ≡ input) ⊎ IsServed files model shape
+StopsShort files input rest model shape = (rest ≡ input) ⊎ ReachesInput files model shape
 
 -- the words `body MODELFILE SHAPE json json`, and what is said of them
 abbrev pub ForBody : List (List ℕ) → (List ℕ → List ℕ → Type 0) → Type 0
@@ -59,11 +60,11 @@ ForBody words P = (model shape : List ℕ) × IsBody words model shape × P mode
 -- the answer has this status, and its text was put
 abbrev pub Prints : List (List ℕ) → Outside → Outside → Status → Type 0
 Prints words before after status = ForBody words (λ model shape.
-    (text : List ℕ) × Comes before.files before.input after.input model shape (record { status = status; text = text })
+    (text : List ℕ) × BodyAnswers before.files before.input after.input model shape (record { status = status; text = text })
     × Appends before.output.bytes after.output.bytes text)
 
--- How the program ends. After an answer its text was put; after a failed write a front of it. ReadFault and
--- WriteFault come only where a count of faults rose. NoMemory is free.
+-- How the program ends. After an answer its text was put; after a failed write a front of it; else nothing. ReadFault
+-- and WriteFault come only where a count of faults rose. NoMemory may always come, but for words of no form.
 abbrev pub RunEnds : List (List ℕ) → Outside → Outside → Status → Type 0
 RunEnds words before after Done = Prints words before after Done
 RunEnds words before after Refused = Prints words before after Refused
@@ -72,7 +73,7 @@ RunEnds words before after Usage = ((model shape : List ℕ) → IsBody words mo
 RunEnds words before after ReadFault =
     ForBody words (λ model shape. ReadFails before.files after.files before.input after.input model shape) × (after.output ≡ before.output)
 RunEnds words before after WriteFault = ForBody words (λ model shape.
-    (a : Answer) × Comes before.files before.input after.input model shape a
+    (a : Answer) × BodyAnswers before.files before.input after.input model shape a
     × Rose before.output.faults after.output.faults × AppendsPrefix before.output.bytes after.output.bytes a.text)
 RunEnds words before after NoMemory =
     ForBody words (λ model shape. StopsShort before.files before.input after.input model shape) × Keeps before.output.bytes after.output.bytes

@@ -1,9 +1,9 @@
--- What the steps of the command `body` come to: private functions cite it.
+-- What the steps of the command `body` come to. The functions below `run` cite it; `run` itself doesn't.
 use Rattle.std.specs.Prelude.{◌≡◌, ℕ, ◌≤◌, ◌⊎◌, List, Option, Some, None, Result, Ok, Err, length}
 use Rattle.std.specs.Global.{Vec}
 use Rattle.std.specs.Io.KnownBytes.{Keeps, Appends}
 use Rattle.sm_io.specs.Causes.{Rose}
-use Rattle.sm_io.specs.Files.{Folder, Holds}
+use Rattle.sm_io.specs.Files.{Holds}
 use Rattle.sm_io.specs.Writing.{AppendsPrefix}
 use Rattle.sm_tree.specs.Node.{Node}
 use Rattle.sm_tree.specs.declared.NoMemory.{NoMemory as OutOfMemory}
@@ -12,11 +12,12 @@ use Rattle.sm_json.specs.JsonText.{JsonText}
 use Rattle.sm_shapes.specs.Tables.{Shaped}
 use Rattle.sm_shapes.specs.declared.table.Table.{Table}
 use Rattle.sm_tool.specs.Outside.{Stream, FilesSeen}
-use Rattle.sm_tool.specs.FirstForm.{StructureLine, shape_names}
+use Rattle.sm_tool.specs.FirstForm.{ModelStructure, shape_names}
 use Rattle.sm_tool.specs.Tabled.{table_of}
 use Rattle.sm_tool.specs.ModelAnswers.{IsModel}
-use Rattle.sm_tool.specs.Body.{Answer, done, refused, past, EndsInJson, IsUnbuilt, IsModelFile, FileAnswers, TextAnswers, InputAnswers, file_limit}
-use Rattle.sm_tool.specs.Run.{IsInput, Comes, ReadFails, StopsShort}
+use Rattle.sm_tool.specs.Limits.{file_limit}
+use Rattle.sm_tool.specs.Body.{Answer, done, refused, past, EndsInJson, IsUnbuilt, IsModelFile, FileAnswers, TextAnswers, InputAnswers}
+use Rattle.sm_tool.specs.Run.{IsInput, BodyAnswers, ReadFails, StopsShort}
 use Rattle.sm_tool.specs.declared.model.structures.FirstModel.{FirstModel}
 use Rattle.sm_tool.specs.declared.body.Stop.{Stop}
 use Rattle.sm_tool.specs.declared.body.Stop.TheVariants.{Refused, Limit, ReadFault, NoMemory}
@@ -62,7 +63,7 @@ ReadsModelFile name file (Err e) = Unit {0}
 -- a file of the name holds this model, with its table and its names
 pub record HoldsModel (files : FilesSeen) (name : List ℕ) (read : FirstModel) : Type 0 where
   pub file : List ℕ
-  pub m : List StructureLine
+  pub m : List ModelStructure
   pub held : Holds files.held name (Some file)
   pub within : length file ≤ file_limit
   pub model : IsModelFile name file m
@@ -89,7 +90,7 @@ InputComesTo input rest t s result = ComesTo (InputSays input rest t s) (Rose in
 -- what the whole command comes to
 abbrev pub BodyComesTo : FilesSeen → FilesSeen → Stream → Stream → List ℕ → List ℕ → Result (Vec ℕ) Stop → Type 0
 BodyComesTo files files1 input rest model shape result =
-    ComesTo (Comes files input rest model shape) (ReadFails files files1 input rest model shape) (StopsShort files input rest model shape) result
+    ComesTo (BodyAnswers files input rest model shape) (ReadFails files files1 input rest model shape) (StopsShort files input rest model shape) result
 
 -- the text was put, and the status is this one; or the output failed, or memory was short
 abbrev pub PutEnds : Stream → Stream → List ℕ → Status → Status → Type 0
@@ -98,10 +99,11 @@ PutEnds before after text wanted status =
     ⊎ (((status ≡ WriteFault) × Rose before.faults after.faults × AppendsPrefix before.bytes after.bytes text)
     ⊎ ((status ≡ ends_by_memory) × Keeps before.bytes after.bytes))
 
--- an answer is printed; where there is none the output is as it was
+-- an answer is printed
 abbrev pub PutsAnswer : Stream → Stream → Answer → Status → Type 0
 PutsAnswer before after a status = PutEnds before after a.text a.status status
 
+-- the line of a refusal is printed; after a failed read or want of memory the output is as it was
 abbrev pub PrintsStop : Stream → Stream → Stop → Status → Type 0
 PrintsStop before after (Refused line) status = PutsAnswer before after (refused line.items) status
 PrintsStop before after (Limit line) status = PutsAnswer before after (past line.items) status

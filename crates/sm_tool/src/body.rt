@@ -1,5 +1,6 @@
 // The command `body`: a body of one shape, read and written again in its canonical form. `run` stands on it.
 ghost use Rattle.std.specs.Prelude.{◌≡◌, ◌<◌, ◌≤◌, ◌↔◌, List, ℕ, IsTrue, IfOk};
+ghost use Rattle.sm_io.specs.Files.{LetsSame};
 ghost use Rattle.sm_io.specs.Reading.{LosesPrefix};
 ghost use Rattle.sm_tree.specs.View.{node_of};
 ghost use Rattle.sm_tree.specs.Json.{IsJson};
@@ -7,14 +8,14 @@ ghost use Rattle.sm_json.specs.Written.{written};
 ghost use Rattle.sm_shapes.specs.Tables.{shape_count, Shaped};
 ghost use Rattle.sm_shapes.specs.Fits.{Fits};
 ghost use Rattle.sm_shapes.specs.View.{val_of};
-ghost use Rattle.sm_tool.specs.Encoded.{encoded, json_written};
+ghost use Rattle.sm_tool.specs.Encoded.{encoded_tree, json_written};
 ghost use Rattle.sm_tool.specs.Lines.{syntax_line as the_syntax_line};
 ghost use Rattle.sm_tool.specs.Outside.{files_seen, stream};
 ghost use Rattle.sm_tool.specs.Body.{EndsInJson, TextAnswers};
 ghost use Rattle.sm_tool.specs.Steps.{ComesTo, TreeAnswers, EndsWithLine, EndsWithLimit, ReadsModelFile, Opens, InputComesTo, BodyComesTo};
 
 use crate::codec::{Refusal, decode, encode};
-use crate::lines::{fault_line, line, syntax_line};
+use crate::lines::{fault_line, limit_line, line, syntax_line};
 use crate::model::{FirstModel, read_model};
 use crate::words::BodyWords;
 use sm_io::{FileRefusal, Files, ReadRefusal, Source, read_all};
@@ -90,7 +91,8 @@ fn far_text(alloc: Global, table: &Table, shape: u32, value: &Value) -> Result<V
     requires shaped { Shaped table.now }
     requires shape { shape < shape_count table.now }
     requires fits { Fits table.now shape (val_of value.now) }
-    ensures { IfOk result (λ text. text.items ≡ written (encoded table.now json_written shape (val_of value.now))) }
+    ensures { IfOk result
+        (λ text. text.items ≡ written (encoded_tree table.now json_written shape (val_of value.now))) }
 {
     match encode(alloc, table, shape, value) {
         Ok(tree) => text_of(alloc, &tree),
@@ -99,7 +101,7 @@ fn far_text(alloc: Global, table: &Table, shape: u32, value: &Value) -> Result<V
 }
 
 // The canonical body of the value that a tree spells.
-fn cross_tree(alloc: Global, table: &Table, shape: u32, tree: &Tree) -> Result<Vec<u8>, Stop>
+fn canonical_of_tree(alloc: Global, table: &Table, shape: u32, tree: &Tree) -> Result<Vec<u8>, Stop>
     requires shaped { Shaped table.now }
     requires shape { shape < shape_count table.now }
     ensures { ComesTo (TreeAnswers table.now shape (node_of tree.now)) ⊥ (Unit {0}) result }
@@ -123,14 +125,20 @@ fn no_text(alloc: Global, refusal: SyntaxRefusal) -> Stop
     refused(syntax_line(alloc, refusal))
 }
 
-/// The canonical body of the value that the bytes spell for a shape of the table.
-pub fn cross(alloc: Global, table: &Table, shape: u32, body: &[u8]) -> Result<Vec<u8>, Stop>
+/// The canonical body of the value that the bytes spell for a shape of the table. Else the line of its syntax, or
+/// of its first fault.
+pub fn canonical_body(
+    alloc: Global,
+    table: &Table,
+    shape: u32,
+    body: &[u8],
+) -> Result<Vec<u8>, Stop>
     requires shaped { Shaped table.now }
     requires shape { shape < shape_count table.now }
     ensures { ComesTo (TextAnswers table.now shape body.now) ⊥ (Unit {0}) result }
 {
     match read_tree(alloc, body) {
-        Ok(tree) => cross_tree(alloc, table, shape, &tree),
+        Ok(tree) => canonical_of_tree(alloc, table, shape, &tree),
         Err(refusal) => match refusal {
             SyntaxRefusal::NoMemory => Err(Stop::NoMemory),
             _ => Err(no_text(alloc, refusal)),
@@ -164,10 +172,15 @@ fn model_in(alloc: Global, name: &str, file: &[u8]) -> Result<Option<FirstModel>
 // The model of a file.
 fn open_model<F: Files>(alloc: Global, files: &mut F, name: &str) -> Result<FirstModel, Stop>
     requires { F.lets_read files.old name.now }
-    ensures opens { Opens (files_seen (F.held files.old) (F.read_faults files.old)) (files_seen (F.held files.new) (F.read_faults files.new)) name.now result }
+    ensures opens { Opens
+        (files_seen (F.held files.old) (F.read_faults files.old))
+        (files_seen (F.held files.new) (F.read_faults files.new))
+        name.now result }
     ensures held { F.held files.new ≡ F.held files.old }
-    ensures reads { F.read_faults files.old ≤ F.read_faults files.new }
-    ensures writes { F.write_faults files.new ≡ F.write_faults files.old }
+    ensures read_faults { F.read_faults files.old ≤ F.read_faults files.new }
+    ensures write_faults { F.write_faults files.new ≡ F.write_faults files.old }
+    ensures same_reads { LetsSame (F.lets_read files.old) (F.lets_read files.new) }
+    ensures same_writes { LetsSame (F.lets_write files.old) (F.lets_write files.new) }
 {
     match files.read(name, FILE_LIMIT) {
         Ok(file) => match model_in(alloc, name, &file) {
@@ -176,13 +189,13 @@ fn open_model<F: Files>(alloc: Global, files: &mut F, name: &str) -> Result<Firs
             Err(NoMemory) => Err(Stop::NoMemory),
         },
         Err(FileRefusal::Failed) => Err(Stop::ReadFault),
-        Err(FileRefusal::TooLong) => Err(past(line(alloc, "Limit", "file 4194304"))),
+        Err(FileRefusal::TooLong) => Err(past(limit_line(alloc, "file", FILE_LIMIT))),
         Err(FileRefusal::NoMemory) => Err(Stop::NoMemory),
     }
 }
 
 // The canonical body of the whole input.
-fn cross_input<S: Source>(
+fn canonical_of_input<S: Source>(
     alloc: Global,
     table: &Table,
     shape: u32,
@@ -190,14 +203,17 @@ fn cross_input<S: Source>(
 ) -> Result<Vec<u8>, Stop>
     requires shaped { Shaped table.now }
     requires shape { shape < shape_count table.now }
-    ensures comes { InputComesTo (stream (S.left input.old) (S.faults input.old)) (stream (S.left input.new) (S.faults input.new)) table.now shape result }
+    ensures comes { InputComesTo
+        (stream (S.left input.old) (S.faults input.old))
+        (stream (S.left input.new) (S.faults input.new))
+        table.now shape result }
     ensures front { LosesPrefix (S.left input.old) (S.left input.new) }
-    ensures takes { S.faults input.old ≤ S.faults input.new }
+    ensures input_faults { S.faults input.old ≤ S.faults input.new }
 {
     match read_all(alloc, input, BODY_LIMIT) {
-        Ok(body) => cross(alloc, table, shape, &body),
+        Ok(body) => canonical_body(alloc, table, shape, &body),
         Err(ReadRefusal::Failed) => Err(Stop::ReadFault),
-        Err(ReadRefusal::TooLong) => Err(past(line(alloc, "Limit", "body 1048576"))),
+        Err(ReadRefusal::TooLong) => Err(past(limit_line(alloc, "body", BODY_LIMIT))),
         Err(ReadRefusal::NoMemory) => Err(Stop::NoMemory),
     }
 }
@@ -216,21 +232,26 @@ pub fn body<F: Files, S: Source>(
     input: &mut S,
 ) -> Result<Vec<u8>, Stop>
     requires { F.lets_read files.old words.model.now }
-    ensures comes { BodyComesTo (files_seen (F.held files.old) (F.read_faults files.old)) (files_seen (F.held files.new) (F.read_faults files.new))
-        (stream (S.left input.old) (S.faults input.old)) (stream (S.left input.new) (S.faults input.new))
+    ensures comes { BodyComesTo
+        (files_seen (F.held files.old) (F.read_faults files.old))
+        (files_seen (F.held files.new) (F.read_faults files.new))
+        (stream (S.left input.old) (S.faults input.old))
+        (stream (S.left input.new) (S.faults input.new))
         words.entry.model.now words.entry.shape.now result }
     ensures held { F.held files.new ≡ F.held files.old }
-    ensures reads { F.read_faults files.old ≤ F.read_faults files.new }
-    ensures writes { F.write_faults files.new ≡ F.write_faults files.old }
+    ensures read_faults { F.read_faults files.old ≤ F.read_faults files.new }
+    ensures write_faults { F.write_faults files.new ≡ F.write_faults files.old }
+    ensures same_reads { LetsSame (F.lets_read files.old) (F.lets_read files.new) }
+    ensures same_writes { LetsSame (F.lets_write files.old) (F.lets_write files.new) }
     ensures front { LosesPrefix (S.left input.old) (S.left input.new) }
-    ensures takes { S.faults input.old ≤ S.faults input.new }
+    ensures input_faults { S.faults input.old ≤ S.faults input.new }
 {
     let model = match open_model(alloc, files, words.model) {
         Ok(model) => model,
         Err(stop) => return Err(stop),
     };
     match model.shape_named(words.shape) {
-        Some(shape) => cross_input(alloc, &model.table, shape, input),
+        Some(shape) => canonical_of_input(alloc, &model.table, shape, input),
         None => Err(refused(line(alloc, "NoShape", words.shape))),
     }
 }

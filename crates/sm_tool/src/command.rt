@@ -1,5 +1,6 @@
 // The commands: what the program does for its words, over any files, input and output. Main stands on it.
 ghost use Rattle.std.specs.Prelude.{◌≡◌, ◌≤◌};
+ghost use Rattle.sm_io.specs.Files.{LetsSame};
 ghost use Rattle.sm_io.specs.Reading.{LosesPrefix};
 ghost use Rattle.sm_tool.specs.Outside.{files_seen, stream, outside};
 ghost use Rattle.sm_tool.specs.Words.{LetsModel};
@@ -51,8 +52,11 @@ impl Status {
 
 // Puts a piece, and ends with this status where that succeeds.
 fn put<K: Sink>(out: &mut K, piece: &[u8], status: Status) -> Status
-    ensures ends { PutEnds (stream (K.written out.old) (K.faults out.old)) (stream (K.written out.new) (K.faults out.new)) piece.now status result }
-    ensures puts { K.faults out.old ≤ K.faults out.new }
+    ensures ends { PutEnds
+        (stream (K.written out.old) (K.faults out.old))
+        (stream (K.written out.new) (K.faults out.new))
+        piece.now status result }
+    ensures output_faults { K.faults out.old ≤ K.faults out.new }
 {
     match out.put(piece) {
         Ok(()) => status,
@@ -63,8 +67,11 @@ fn put<K: Sink>(out: &mut K, piece: &[u8], status: Status) -> Status
 
 // Prints what a command came to.
 fn print<K: Sink>(out: &mut K, came: Result<Vec<u8>, Stop>) -> Status
-    ensures prints { PrintsResult (stream (K.written out.old) (K.faults out.old)) (stream (K.written out.new) (K.faults out.new)) came result }
-    ensures puts { K.faults out.old ≤ K.faults out.new }
+    ensures prints { PrintsResult
+        (stream (K.written out.old) (K.faults out.old))
+        (stream (K.written out.new) (K.faults out.new))
+        came result }
+    ensures output_faults { K.faults out.old ≤ K.faults out.new }
 {
     match came {
         Ok(text) => put(out, &text, Status::Done),
@@ -77,11 +84,15 @@ fn print<K: Sink>(out: &mut K, came: Result<Vec<u8>, Stop>) -> Status
     }
 }
 
-/// Does what the words ask for, and answers the status of the process. `body MODELFILE SHAPE json json`
-/// prints the canonical body of the value that the input spells, or the line of the first thing that is
-/// refused: the file's length, the model, the shape, the input's length, its syntax, its faults. Other words
-/// have status 2, and then nothing is touched. Nothing is put before the whole answer is there. No model
-/// that is read today has patterns, so the store stays as it is.
+/// Does what the words ask for, and answers the status of the process. `body MODELFILE SHAPE json json` prints
+/// the canonical body of the value that the input spells (0), or the line of the first thing that is refused:
+/// the model file's length (7), the model, the shape (1); the input's length (7), its syntax, its faults (1).
+/// The input is touched only where nothing that stands before it is refused.
+///
+/// 2: the words have no form, and nothing is touched. 3: a read of the file or of the input failed, and nothing
+/// is put. 4: the output failed, and holds a front of what was to be put. 5: want of memory, and nothing is put.
+/// 3 and 4 come only where that object's count of faults rose. No model that is read today has patterns, so the
+/// store stays as it is.
 pub fn run<F: Files, S: Source, K: Sink, P: Patterns>(
     alloc: Global,
     words: &[Text],
@@ -95,11 +106,13 @@ pub fn run<F: Files, S: Source, K: Sink, P: Patterns>(
         let after = outside (files_seen (F.held files.new) (F.read_faults files.new)) (stream (S.left input.new) (S.faults input.new)) (stream (K.written out.new) (K.faults out.new)) in
         RunAnswers words.now before after result }
     ensures held { F.held files.new ≡ F.held files.old }
-    ensures writes { F.write_faults files.new ≡ F.write_faults files.old }
-    ensures reads { F.read_faults files.old ≤ F.read_faults files.new }
+    ensures write_faults { F.write_faults files.new ≡ F.write_faults files.old }
+    ensures read_faults { F.read_faults files.old ≤ F.read_faults files.new }
+    ensures same_reads { LetsSame (F.lets_read files.old) (F.lets_read files.new) }
+    ensures same_writes { LetsSame (F.lets_write files.old) (F.lets_write files.new) }
     ensures front { LosesPrefix (S.left input.old) (S.left input.new) }
-    ensures takes { S.faults input.old ≤ S.faults input.new }
-    ensures puts { K.faults out.old ≤ K.faults out.new }
+    ensures input_faults { S.faults input.old ≤ S.faults input.new }
+    ensures output_faults { K.faults out.old ≤ K.faults out.new }
     ensures patterns { patterns.new ≡ patterns.old }
 {
     match form_of(words) {

@@ -1,6 +1,6 @@
 // The lines that are printed for what is refused. The commands stand on it.
 ghost use Rattle.std.specs.Prelude.{◌≡◌, IfOk, string_bytes};
-ghost use Rattle.sm_tool.specs.Lines.{line as the_line, fault_line as the_fault_line, syntax_line as the_syntax_line, syntax_text as the_syntax_text};
+ghost use Rattle.sm_tool.specs.Lines.{line as the_line, fault_line as the_fault_line, limit_line as the_limit_line, syntax_line as the_syntax_line, syntax_text as the_syntax_text};
 
 use sm_shapes::Fault;
 use sm_tree::{NoMemory, SyntaxRefusal};
@@ -29,6 +29,14 @@ pub fn fault_line(alloc: Global, fault: &Fault) -> Result<Vec<u8>, NoMemory>
     text.push_str(" ")?;
     text.push_str(fault.kind.word())?;
     line(alloc, "Fault", text.as_str())
+}
+
+/// The line of a limit that was passed: its word and its number.
+pub fn limit_line(alloc: Global, word: &str, number: u64) -> Result<Vec<u8>, NoMemory>
+    ensures { IfOk result (λ line. line.items ≡ the_limit_line word.now number) }
+{
+    let text = format!(in alloc; "{word} {number}")?;
+    line(alloc, "Limit", text.as_str())
 }
 
 /// The line of a body that is no text.

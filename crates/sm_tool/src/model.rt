@@ -1,6 +1,6 @@
 // The reader of models in the JSON AST whose shapes are structures of simple members. The program's
 // commands stand on it.
-ghost use Rattle.std.specs.Prelude.{◌≡◌, List, [], ◌∷◌, ◌++◌, OnOk};
+ghost use Rattle.std.specs.Prelude.{◌≡◌, List, [], ◌∷◌, ◌++◌, OnOk, OnErr};
 ghost use Rattle.sm_tree.specs.View.{node_of};
 ghost use Rattle.sm_tool.specs.ModelAnswers.{ReadsModel};
 
@@ -39,9 +39,10 @@ pub fn read_model(alloc: Global, tree: &Tree) -> Result<Option<FirstModel>, NoMe
     }
 }
 
-/// Adds an item at the end of a list.
+/// Adds an item at the end of a list. After want of memory the list is as it was.
 fn push<T: Drop>(list: &mut Vec<T>, item: T) -> Result<(), NoMemory>
-    ensures { OnOk result (list.new.items ≡ list.old.items ++ item ∷ []) }
+    ensures added { OnOk result (list.new.items ≡ list.old.items ++ item ∷ []) }
+    ensures refused { OnErr result (list.new.items ≡ list.old.items) }
 {
     match list.push(item) {
         Ok(()) => Ok(()),

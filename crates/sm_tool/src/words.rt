@@ -9,13 +9,15 @@ use sm_tree::Text;
 pub struct BodyWords<'a> {
     /// The name of the model file.
     pub model: &'a str,
-    /// The absolute shape ID.
+    /// The word for the shape: any text, which may be the name of no shape.
     pub shape: &'a str,
 }
 
 /// What the words ask for; `None` where they have none of the forms.
 pub fn form_of(words: &[Text]) -> Option<BodyWords<'_>>
-    ensures { MatchOption result ((model shape : List ℕ) → IsBody words.now model shape → ⊥) (λ form. IsBody words.now form.model.now form.shape.now) }
+    ensures { MatchOption result
+        ((model shape : List ℕ) → IsBody words.now model shape → ⊥)
+        (λ form. IsBody words.now form.model.now form.shape.now) }
 {
     if words.len() != 5 {
         return None;

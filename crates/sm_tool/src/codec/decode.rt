@@ -6,7 +6,7 @@ ghost use Rattle.sm_shapes.specs.View.{vals_view};
 ghost use Rattle.sm_shapes.specs.Tables.{shape_count, member_count, members_at, kind_at, Shaped};
 ghost use Rattle.sm_shapes.specs.declared.table.ShapeKind.TheVariants.{Structure};
 ghost use Rattle.sm_tool.specs.Leaves.{json_leaf};
-ghost use Rattle.sm_tool.specs.Answers.{Decodes, DecodesFields, DecodesMember, kept};
+ghost use Rattle.sm_tool.specs.Answers.{Decodes, DecodesFields, DecodesMember, with_value};
 ghost use Rattle.sm_tool.specs.Index.{IsIndexed, indexed_members};
 
 use super::index::Index;
@@ -97,7 +97,7 @@ fn decode_members(
 
 // Adds a member's value, where there is one.
 fn keep(fields: &mut Vec<(u32, Value)>, member: u32, value: Option<Value>) -> Result<(), NoMemory>
-    ensures { OnOk result (vals_view fields.new.items ≡ kept (vals_view fields.old.items) member value) }
+    ensures { OnOk result (vals_view fields.new.items ≡ with_value (vals_view fields.old.items) member value) }
 {
     match value {
         None => Ok(()),

@@ -7,7 +7,7 @@ ghost use Rattle.sm_shapes.specs.Val.{fields_of};
 ghost use Rattle.sm_shapes.specs.View.{val_of, vals_view};
 ghost use Rattle.sm_shapes.specs.Tables.{shape_count, Shaped};
 ghost use Rattle.sm_shapes.specs.Fits.{Fits};
-ghost use Rattle.sm_tool.specs.Encoded.{encoded, encoded_fields, json_written, FieldsFit};
+ghost use Rattle.sm_tool.specs.Encoded.{encoded_tree, encoded_fields, json_written, FieldsFit};
 
 use sm_shapes::{Table, Value};
 use sm_tree::{NoMemory, Pairs, Text, Tree};
@@ -20,7 +20,8 @@ pub fn encode(alloc: Global, table: &Table, shape: u32, value: &Value) -> Result
     requires shaped { Shaped table.now }
     requires shape { shape < shape_count table.now }
     requires fits { Fits table.now shape (val_of value.now) }
-    ensures tree { IfOk result (λ tree. node_of tree ≡ encoded table.now json_written shape (val_of value.now)) }
+    ensures tree { IfOk result
+        (λ tree. node_of tree ≡ encoded_tree table.now json_written shape (val_of value.now)) }
     ensures json { IfOk result (λ tree. IsJson (node_of tree)) }
 {
     match value {
@@ -42,7 +43,8 @@ pub fn encode(alloc: Global, table: &Table, shape: u32, value: &Value) -> Result
 fn encode_fields(alloc: Global, table: &Table, fields: &[(u32, Value)]) -> Result<Pairs, NoMemory>
     requires shaped { Shaped table.now }
     requires fit { FieldsFit table.now (fields_of (vals_view fields.now)) }
-    ensures pairs { IfOk result (λ pairs. members_of (pairs_view pairs) ≡ encoded_fields table.now json_written (fields_of (vals_view fields.now))) }
+    ensures pairs { IfOk result
+        (λ pairs. members_of (pairs_view pairs) ≡ encoded_fields table.now json_written (fields_of (vals_view fields.now))) }
     ensures json { IfOk result (λ pairs. AreJsonMembers (members_of (pairs_view pairs))) }
 {
     let mut pairs = Vec::with_capacity(alloc, fields.len())?;

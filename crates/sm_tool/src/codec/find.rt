@@ -2,7 +2,7 @@
 ghost use Rattle.std.specs.Prelude.{◌≡◌, ◌++◌, drop};
 ghost use Rattle.sm_tree.specs.Node.{members_of};
 ghost use Rattle.sm_tree.specs.View.{members_view};
-ghost use Rattle.sm_tool.specs.Members.{named};
+ghost use Rattle.sm_tool.specs.Named.{trees_named};
 ghost use Rattle.sm_tool.specs.Answers.{Finds};
 
 use sm_tree::{Text, Tree};
@@ -20,7 +20,7 @@ pub enum Found<'t> {
 
 /// What stands under a name in an object's pairs. No memory.
 pub fn find<'t>(pairs: &'t [(Text, Tree)], name: &str) -> Found<'t>
-    ensures { Finds (named name.now (members_of (members_view pairs.now))) result }
+    ensures { Finds (trees_named name.now (members_of (members_view pairs.now))) result }
 {
     let mut found = Found::Absent;
     for pair in pairs {

@@ -6,7 +6,7 @@ ghost use Rattle.std.specs.Cmp.Lexicographic.{slice_cmp};
 ghost use Rattle.std.specs.Ordering.{nat_cmp};
 ghost use Rattle.sm_tree.specs.Node.{Node, members_of};
 ghost use Rattle.sm_tree.specs.View.{node_of, members_view};
-ghost use Rattle.sm_tool.specs.Members.{named};
+ghost use Rattle.sm_tool.specs.Named.{trees_named};
 ghost use Rattle.sm_tool.specs.Answers.{Finds};
 ghost use Rattle.sm_tool.specs.Index.{FindsIn, IsIndexOf, IsIndexed, indexed_members};
 
@@ -28,7 +28,8 @@ pub struct Index<'t> {
 impl<'t> Index<'t> {
     /// The pairs of an object, indexed.
     pub fn new(alloc: Global, pairs: &'t [(Text, Tree)]) -> Result<Self, NoMemory>
-        ensures pairs { IfOk result (λ index. indexed_members index ≡ members_of (members_view pairs.now)) }
+        ensures pairs { IfOk result
+            (λ index. indexed_members index ≡ members_of (members_view pairs.now)) }
         ensures indexed { IfOk result IsIndexed }
     {
         if pairs.len() <= FEW_PAIRS {
@@ -46,7 +47,7 @@ impl<'t> Index<'t> {
     /// What stands under a name. No memory.
     pub fn find(&self, name: &str) -> Found<'t>
         requires { IsIndexed self.now }
-        ensures { Finds (named name.now (indexed_members self.now)) result }
+        ensures { Finds (trees_named name.now (indexed_members self.now)) result }
     {
         match &self.names {
             None => find(self.pairs, name),

@@ -1,9 +1,10 @@
 // The leaves of JSON: how booleans, texts and whole numbers are read and written (RFC 8259).
-ghost use Rattle.std.specs.Prelude.{◌≡◌, cond};
+ghost use Rattle.std.specs.Prelude.{◌≡◌, cond, Result};
 ghost use Rattle.sm_tree.specs.View.{node_of};
+ghost use Rattle.sm_shapes.specs.Val.{Val};
 ghost use Rattle.sm_shapes.specs.declared.fault.FaultKind.TheVariants.{WrongType, Width};
 ghost use Rattle.sm_tool.specs.Leaves.{has_mark, boolean_leaf, text_leaf, whole_leaf, json_leaf};
-ghost use Rattle.sm_tool.specs.Answers.{ReadsLeaf};
+ghost use Rattle.sm_tool.specs.Answers.{FindsLeaf, ReadsLeaf};
 
 use sm_shapes::{FaultKind, ShapeKind, Value};
 use sm_tree::{NoMemory, Text, Tree};
@@ -23,20 +24,30 @@ pub fn read_leaf(alloc: Global, kind: ShapeKind, tree: &Tree) -> Result<Value, L
     ensures { ReadsLeaf (json_leaf kind (node_of tree.now)) result }
 {
     match kind {
-        ShapeKind::Boolean => read_boolean(tree),
+        ShapeKind::Boolean => at_once(read_boolean(tree)),
         ShapeKind::Text => read_text(alloc, tree),
-        ShapeKind::Integer => read_integer(tree),
-        ShapeKind::Long => read_long(tree),
+        ShapeKind::Integer => at_once(read_integer(tree)),
+        ShapeKind::Long => at_once(read_long(tree)),
         ShapeKind::Structure => Err(LeafRefusal::Fault(FaultKind::WrongType)),
     }
 }
 
-fn read_boolean(tree: &Tree) -> Result<Value, LeafRefusal>
-    ensures { ReadsLeaf (boolean_leaf (node_of tree.now)) result }
+// What a leaf says that takes no memory.
+fn at_once(read: Result<Value, FaultKind>) -> Result<Value, LeafRefusal>
+    ensures { (found : Result Val FaultKind) → FindsLeaf found read → ReadsLeaf found result }
+{
+    match read {
+        Ok(value) => Ok(value),
+        Err(kind) => Err(LeafRefusal::Fault(kind)),
+    }
+}
+
+fn read_boolean(tree: &Tree) -> Result<Value, FaultKind>
+    ensures { FindsLeaf (boolean_leaf (node_of tree.now)) result }
 {
     match tree {
         Tree::Bool(truth) => Ok(Value::Bool(*truth)),
-        _ => Err(LeafRefusal::Fault(FaultKind::WrongType)),
+        _ => Err(FaultKind::WrongType),
     }
 }
 
@@ -52,29 +63,29 @@ fn read_text(alloc: Global, tree: &Tree) -> Result<Value, LeafRefusal>
     }
 }
 
-fn read_integer(tree: &Tree) -> Result<Value, LeafRefusal>
-    ensures { ReadsLeaf (whole_leaf 31 (node_of tree.now)) result }
+fn read_integer(tree: &Tree) -> Result<Value, FaultKind>
+    ensures { FindsLeaf (whole_leaf 31 (node_of tree.now)) result }
 {
     match tree {
         Tree::Int(number) => {
             if *number < -2147483648 || 2147483647 < *number {
-                Err(LeafRefusal::Fault(FaultKind::Width))
+                Err(FaultKind::Width)
             } else {
                 Ok(Value::Int(*number))
             }
         }
-        Tree::Number(text) => Err(LeafRefusal::Fault(number_fault(text))),
-        _ => Err(LeafRefusal::Fault(FaultKind::WrongType)),
+        Tree::Number(text) => Err(number_fault(text)),
+        _ => Err(FaultKind::WrongType),
     }
 }
 
-fn read_long(tree: &Tree) -> Result<Value, LeafRefusal>
-    ensures { ReadsLeaf (whole_leaf 63 (node_of tree.now)) result }
+fn read_long(tree: &Tree) -> Result<Value, FaultKind>
+    ensures { FindsLeaf (whole_leaf 63 (node_of tree.now)) result }
 {
     match tree {
         Tree::Int(number) => Ok(Value::Int(*number)),
-        Tree::Number(text) => Err(LeafRefusal::Fault(number_fault(text))),
-        _ => Err(LeafRefusal::Fault(FaultKind::WrongType)),
+        Tree::Number(text) => Err(number_fault(text)),
+        _ => Err(FaultKind::WrongType),
     }
 }
 

@@ -1,8 +1,8 @@
 // Why a tree isn't decoded.
-ghost use Rattle.std.specs.Prelude.{◌≡◌, ◌∷◌, List, IfOk};
+ghost use Rattle.std.specs.Prelude.{◌≡◌, [], ◌∷◌, List, IfOk};
 ghost use Rattle.sm_tree.specs.declared.path.Step.TheVariants.{Member};
 ghost use Rattle.sm_tool.specs.Faults.{FaultAt, here, under};
-ghost use Rattle.sm_tool.specs.Answers.{IsFirst};
+ghost use Rattle.sm_tool.specs.Answers.{IsFault, IsFirst};
 
 use sm_shapes::{Fault, FaultKind};
 use sm_tree::{NoMemory, Path, Step, Text};
@@ -20,7 +20,8 @@ pub enum Refusal {
 impl Refusal {
     /// A fault of the tree itself. Alone or before others it is the first. No memory.
     pub fn here(alloc: Global, kind: FaultKind) -> Self
-        ensures { IsFirst (here kind) result }
+        ensures fault { IsFault [] kind result }
+        ensures first { IsFirst (here kind) result }
     {
         Refusal::Fault(Fault {
             path: Path::new(Vec::new(alloc)),

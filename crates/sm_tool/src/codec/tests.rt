@@ -1,22 +1,24 @@
-// Objects decoded and encoded by hand. A link has a required text `id`, a link `next` and an integer `count`.
-ghost use Rattle.std.specs.Prelude.{◌≡◌, ◌<◌, IfOk};
+// Trees decoded, and values encoded. A link has a required text `id`, a link `next` and an integer `count`.
+ghost use Rattle.std.specs.Prelude.{◌≡◌, ◌<◌, None, IfOk};
 ghost use Rattle.sm_shapes.specs.Tables.{shape_count, Shaped};
 
 use super::decode::decode;
 use super::encode::encode;
 use super::leaf::read_leaf;
 use super::refusal::Refusal;
+use sm_json::read_tree;
 use sm_shapes::{
     Fault, Fields, MemberNumbers, ShapeKind, Table, TableMember, TableMembers, TableShape,
     TableShapes, Value,
 };
-use sm_tree::{NoMemory, Pairs, Text, Tree};
+use sm_tree::{NoMemory, Text, Tree};
 use std::alloc::Global;
 use std::test::Fail;
 
 fn member(alloc: Global, name: &str, target: u32, required: bool) -> Result<TableMember, NoMemory>
     ensures home { IfOk result (λ member. member.shape ≡ 0) }
     ensures name { IfOk result (λ member. member.name ≡ name.now) }
+    ensures json_name { IfOk result (λ member. member.json_name ≡ None) }
     ensures target { IfOk result (λ member. member.target ≡ target) }
 {
     let name = Text::copy(alloc, name)?;
@@ -59,34 +61,6 @@ fn links(alloc: Global) -> Result<Table, NoMemory>
     })
 }
 
-// A tree of one level.
-#[derive(Clone, Copy, Drop)]
-enum Leaf<'a> {
-    Null,
-    Bool(bool),
-    Int(i64),
-    Number(&'a str),
-    Text(&'a str),
-}
-
-fn tree_of(alloc: Global, leaf: Leaf<'_>) -> Result<Tree, NoMemory> {
-    match leaf {
-        Leaf::Null => Ok(Tree::Null),
-        Leaf::Bool(truth) => Ok(Tree::Bool(truth)),
-        Leaf::Int(number) => Ok(Tree::Int(number)),
-        Leaf::Number(number) => Ok(Tree::Number(Text::copy(alloc, number)?)),
-        Leaf::Text(text) => Ok(Tree::Text(Text::copy(alloc, text)?)),
-    }
-}
-
-fn object(alloc: Global, pairs: &[(&str, Leaf<'_>)]) -> Result<Tree, NoMemory> {
-    let mut object = Vec::new(alloc);
-    for pair in pairs {
-        object.push((Text::copy(alloc, pair.0)?, tree_of(alloc, pair.1)?))?;
-    }
-    Ok(Tree::Object(Pairs::new(object)))
-}
-
 // What decoding a link answers: `value`, or the fault's path and word.
 fn said(alloc: Global, table: &Table, tree: &Tree) -> Result<String, NoMemory>
     requires shaped { Shaped table.now }
@@ -126,45 +100,32 @@ fn crossed(alloc: Global, table: &Table, tree: &Tree) -> Result<(Value, Tree), N
     }
 }
 
+/// A tree on each line, with what decoding it as a link answers.
+const CASES: &str = r#"{"id":"a","count":1} -> value
+{"count":null,"id":"a"} -> value
+{"x":null,"id":"a"} -> value
+{"id":"a","id":"b"} -> /id Repeated
+{"id":null,"id":null} -> /id Repeated
+{"id":null,"x":1} -> /id Missing
+{"count":true,"x":1} -> /id Missing
+{"count":2147483648,"id":5} -> /id Type
+{"count":2147483648,"id":"a"} -> /count Width
+{"count":1e2,"id":"a"} -> /count Type
+{"next":1,"id":"a"} -> /next Type
+{"next":{"id":5},"id":"a"} -> /next/id Type
+null ->  Type"#;
+
 #[test]
 fn faults_stand_in_model_order(rt: HostRuntime) -> Result<(), Fail> {
     let alloc = rt.alloc();
     let table = links(alloc)?;
-    for (pairs, answer) in [
-        (&[("id", Leaf::Text("a")), ("count", Leaf::Int(1))], "value"),
-        (&[("count", Leaf::Null), ("id", Leaf::Text("a"))], "value"),
-        (&[("x", Leaf::Null), ("id", Leaf::Text("a"))], "value"),
-        (
-            &[("id", Leaf::Text("a")), ("id", Leaf::Text("b"))],
-            "/id Repeated",
-        ),
-        (&[("id", Leaf::Null), ("id", Leaf::Null)], "/id Repeated"),
-        (&[("id", Leaf::Null), ("x", Leaf::Int(1))], "/id Missing"),
-        (
-            &[("count", Leaf::Bool(true)), ("x", Leaf::Int(1))],
-            "/id Missing",
-        ),
-        (
-            &[("count", Leaf::Int(2147483648)), ("id", Leaf::Int(5))],
-            "/id Type",
-        ),
-        (
-            &[("count", Leaf::Int(2147483648)), ("id", Leaf::Text("a"))],
-            "/count Width",
-        ),
-        (
-            &[("count", Leaf::Number("1e2")), ("id", Leaf::Text("a"))],
-            "/count Type",
-        ),
-        (
-            &[("next", Leaf::Int(1)), ("id", Leaf::Text("a"))],
-            "/next Type",
-        ),
-    ] {
-        let tree = object(alloc, pairs)?;
-        assert_eq!(rt; said(alloc, &table, &tree)?.as_str(), answer);
+    for case in CASES.lines() {
+        let Some((text, answer)) = case.split_once(" -> ") else {
+            panic!(rt; "no answer in {case}")
+        };
+        let tree = read_tree(alloc, text.as_bytes())?;
+        assert_eq!(rt; said(alloc, &table, &tree)?.as_str(), answer, "at {text}");
     }
-    assert_eq!(rt; said(alloc, &table, &Tree::Null)?.as_str(), " Type");
     Ok(())
 }
 
@@ -184,37 +145,31 @@ fn a_word_of_32_bits_ends_where_rust_says(rt: HostRuntime) -> Result<(), Fail> {
     Ok(())
 }
 
-// An object of nine other names, so that an index is made, round a link.
-#[test]
-fn a_link_in_a_large_object_is_decoded_and_written(rt: HostRuntime) -> Result<(), Fail> {
-    let alloc = rt.alloc();
-    let table = links(alloc)?;
-    let mut pairs = Vec::new(alloc);
-    for name in ["a", "b", "c", "d", "e", "f", "g", "h", "i"] {
-        pairs.push((Text::copy(alloc, name)?, Tree::Bool(true)))?;
-    }
-    let inner = object(alloc, &[("count", Leaf::Int(-7)), ("id", Leaf::Text("b"))])?;
-    pairs.push((Text::copy(alloc, "next")?, inner))?;
-    pairs.push((
-        Text::copy(alloc, "id")?,
-        Tree::Text(Text::copy(alloc, "a")?),
-    ))?;
-    let (value, written) = crossed(alloc, &table, &Tree::Object(Pairs::new(pairs)))?;
+/// A link with another in it, in an object of eleven pairs, so that an index is made.
+const LARGE: &str =
+    r#"{"a":true,"b":true,"c":true,"d":true,"e":true,"f":true,"g":true,"h":true,"i":true,"next":{"count":-7,"id":"b"},"id":"a"}"#;
+
+/// What is written for it.
+const LARGE_WRITTEN: &str = r#"{"id":"a","next":{"id":"b","count":-7}}"#;
+
+// The value of it.
+fn large_value(alloc: Global) -> Result<Value, NoMemory> {
     let inner = vec![in alloc;
         (0u32, Value::Text(Text::copy(alloc, "b")?)),
         (2, Value::Int(-7)),
     ]?;
     let next = Value::Structure(Fields::new(inner));
     let outer = vec![in alloc; (0u32, Value::Text(Text::copy(alloc, "a")?)), (1, next)]?;
-    assert!(rt; value == Value::Structure(Fields::new(outer)));
-    let inner = object(alloc, &[("id", Leaf::Text("b")), ("count", Leaf::Int(-7))])?;
-    let expected = vec![in alloc;
-        (
-            Text::copy(alloc, "id")?,
-            Tree::Text(Text::copy(alloc, "a")?)
-        ),
-        (Text::copy(alloc, "next")?, inner),
-    ]?;
-    assert!(rt; written == Tree::Object(Pairs::new(expected)));
+    Ok(Value::Structure(Fields::new(outer)))
+}
+
+#[test]
+fn a_link_in_a_large_object_is_decoded_and_written(rt: HostRuntime) -> Result<(), Fail> {
+    let alloc = rt.alloc();
+    let table = links(alloc)?;
+    let tree = read_tree(alloc, LARGE.as_bytes())?;
+    let (value, written) = crossed(alloc, &table, &tree)?;
+    assert!(rt; value == large_value(alloc)?);
+    assert!(rt; written == read_tree(alloc, LARGE_WRITTEN.as_bytes())?);
     Ok(())
 }

@@ -9,7 +9,9 @@ use sm_tree::{Text, Tree};
 /// The bytes of a text; `None` for any other tree.
 #[tactic(auto, using(sm_tree::proofs::Views::node_text))]
 pub fn text_of(tree: &Tree) -> Option<&str>
-    ensures { MatchOption result ((t : List ℕ) → node_of tree.now ≡ text t → ⊥) (λ t. node_of tree.now ≡ text t.now) }
+    ensures { MatchOption result
+        ((t : List ℕ) → node_of tree.now ≡ text t → ⊥)
+        (λ t. node_of tree.now ≡ text t.now) }
 {
     match tree {
         Tree::Text(text) => Some(text.as_str()),
@@ -20,7 +22,9 @@ pub fn text_of(tree: &Tree) -> Option<&str>
 /// The pairs of an object; `None` for any other tree.
 #[tactic(auto, using(sm_tree::proofs::Views::node_object))]
 pub fn pairs_of(tree: &Tree) -> Option<&[(Text, Tree)]>
-    ensures { MatchOption result ((ms : Members) → node_of tree.now ≡ object ms → ⊥) (λ pairs. node_of tree.now ≡ object (members_of (members_view pairs.now))) }
+    ensures { MatchOption result
+        ((ms : Members) → node_of tree.now ≡ object ms → ⊥)
+        (λ pairs. node_of tree.now ≡ object (members_of (members_view pairs.now))) }
 {
     match tree {
         Tree::Object(pairs) => Some(pairs.as_slice()),
@@ -57,7 +61,9 @@ pub fn is_named(pair: &(Text, Tree), name: &str) -> bool
 
 /// The tree of the one field of an object; `None` where the tree isn't an object of this field alone.
 pub fn only_field<'a>(tree: &'a Tree, name: &str) -> Option<&'a Tree>
-    ensures { MatchOption result ((n : Node) → node_of tree.now ≡ one_field name.now n → ⊥) (λ found. node_of tree.now ≡ one_field name.now (node_of found.now)) }
+    ensures { MatchOption result
+        ((n : Node) → node_of tree.now ≡ one_field name.now n → ⊥)
+        (λ found. node_of tree.now ≡ one_field name.now (node_of found.now)) }
 {
     let Some(pairs) = pairs_of(tree) else {
         return None
@@ -100,7 +106,9 @@ fn trees_in_order<'a>(
 /// The trees of the two fields of an object, in the order of the names; `None` where the tree isn't an
 /// object of these fields alone.
 pub fn both_fields<'a>(tree: &'a Tree, first: &str, second: &str) -> Option<(&'a Tree, &'a Tree)>
-    ensures { MatchOption result ((a b : Node) → HasBoth (node_of tree.now) first.now a second.now b → ⊥) (λ found. HasBoth (node_of tree.now) first.now (node_of found.0.now) second.now (node_of found.1.now)) }
+    ensures { MatchOption result
+        ((a b : Node) → HasBoth (node_of tree.now) first.now a second.now b → ⊥)
+        (λ found. HasBoth (node_of tree.now) first.now (node_of found.0.now) second.now (node_of found.1.now)) }
 {
     let Some(pairs) = pairs_of(tree) else {
         return None

@@ -14,7 +14,7 @@ use std::alloc::Global;
 
 /// What the tree of a member says.
 #[derive(Debug, Clone, Copy, Drop)]
-pub struct MemberTarget {
+pub struct SaidMember {
     /// The shape of its values.
     pub simple: SimpleTarget,
     /// Whether it has the trait `required`.
@@ -23,7 +23,9 @@ pub struct MemberTarget {
 
 /// The simple shape whose absolute shape ID a tree is; `None` for any other tree.
 fn simple_target(tree: &Tree) -> Option<SimpleTarget>
-    ensures { MatchOption result ((t : SimpleTarget) → node_of tree.now ≡ text (target_id t) → ⊥) (λ t. node_of tree.now ≡ text (target_id t)) }
+    ensures { MatchOption result
+        ((t : SimpleTarget) → node_of tree.now ≡ text (target_id t) → ⊥)
+        (λ t. node_of tree.now ≡ text (target_id t)) }
 {
     match text_of(tree) {
         Some(id) => SimpleTarget::with_id(id),
@@ -43,7 +45,9 @@ fn is_required_alone(tree: &Tree) -> bool
 
 /// What a member targets whose tree has no traits; `None` for any other tree.
 fn optional_target(tree: &Tree) -> Option<SimpleTarget>
-    ensures { MatchOption result ((t : SimpleTarget) → MemberSays (node_of tree.now) t false → ⊥) (λ t. MemberSays (node_of tree.now) t false) }
+    ensures { MatchOption result
+        ((t : SimpleTarget) → MemberSays (node_of tree.now) t false → ⊥)
+        (λ t. MemberSays (node_of tree.now) t false) }
 {
     match only_field(tree, "target") {
         Some(target) => simple_target(target),
@@ -53,7 +57,9 @@ fn optional_target(tree: &Tree) -> Option<SimpleTarget>
 
 /// What a member targets whose tree says that it is required; `None` for any other tree.
 fn required_target(tree: &Tree) -> Option<SimpleTarget>
-    ensures { MatchOption result ((t : SimpleTarget) → MemberSays (node_of tree.now) t true → ⊥) (λ t. MemberSays (node_of tree.now) t true) }
+    ensures { MatchOption result
+        ((t : SimpleTarget) → MemberSays (node_of tree.now) t true → ⊥)
+        (λ t. MemberSays (node_of tree.now) t true) }
 {
     match both_fields(tree, "target", "traits") {
         Some((target, traits)) => {
@@ -68,16 +74,18 @@ fn required_target(tree: &Tree) -> Option<SimpleTarget>
 }
 
 /// What the tree of a member says; `None` where it has other fields or values than a member has.
-pub fn member_target(tree: &Tree) -> Option<MemberTarget>
-    ensures { MatchOption result ((t : SimpleTarget) (b : Bool) → MemberSays (node_of tree.now) t b → ⊥) (λ m. MemberSays (node_of tree.now) m.simple m.required) }
+pub fn said_member(tree: &Tree) -> Option<SaidMember>
+    ensures { MatchOption result
+        ((t : SimpleTarget) (b : Bool) → MemberSays (node_of tree.now) t b → ⊥)
+        (λ m. MemberSays (node_of tree.now) m.simple m.required) }
 {
     match optional_target(tree) {
-        Some(simple) => Some(MemberTarget {
+        Some(simple) => Some(SaidMember {
             simple,
             required: false,
         }),
         None => match required_target(tree) {
-            Some(simple) => Some(MemberTarget {
+            Some(simple) => Some(SaidMember {
                 simple,
                 required: true,
             }),
@@ -100,7 +108,7 @@ fn member_row(
     if is_named(pair, "__type") {
         return Ok(None);
     }
-    match member_target(&pair.1) {
+    match said_member(&pair.1) {
         Some(says) => {
             let name = Text::copy(alloc, pair.0.as_str())?;
             let target = simple + says.simple.place();
@@ -127,7 +135,8 @@ fn next_number(members: &Vec<TableMember>) -> Result<u32, NoMemory>
 }
 
 /// Adds the rows of a structure's members, and gives their numbers; `None` where the pairs are no members.
-/// Want of memory is also answered where 2^32 numbers don't suffice.
+/// Want of memory is also answered where 2^32 numbers don't suffice. After `None` or want of memory the members are
+/// what they may be; the caller drops them.
 pub fn add_members(
     alloc: Global,
     simple: u32,

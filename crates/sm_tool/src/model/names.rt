@@ -1,6 +1,6 @@
 // The names of an object's pairs.
 ghost use Rattle.std.specs.Prelude.{◌≡◌, ◌↔◌, IfOk, IsTrue, map};
-ghost use Rattle.sm_tool.specs.Names.{AllDiffer};
+ghost use Rattle.sm_shapes.specs.Names.{AllDiffer};
 
 use crate::model::push;
 use sm_tree::{NoMemory, Text, Tree};

@@ -1,5 +1,5 @@
 // The shapes of a model: the rows of its structures, and of the simple shapes behind them.
-ghost use Rattle.std.specs.Prelude.{◌≡◌, ◌≤◌, ◌<◌, ◌+◌, ◌^◌, ◌++◌, ℕ, List, [], ◌∷◌, map, IfOk, OnOk, length, vec_len};
+ghost use Rattle.std.specs.Prelude.{◌≡◌, ◌≤◌, ◌<◌, ◌+◌, ◌^◌, ◌++◌, ℕ, List, [], ◌∷◌, map, IfOk, IfSome, OnOk, OnErr, length, vec_len};
 ghost use Rattle.sm_tree.specs.Node.{members_of};
 ghost use Rattle.sm_tree.specs.View.{node_of, members_view};
 ghost use Rattle.sm_tool.specs.Tabled.{plain_shape, simple_shapes};
@@ -38,13 +38,14 @@ impl Rows {
     }
 }
 
-/// Adds a shape of this kind with these members.
+/// Adds a shape of this kind with these members. After want of memory the shapes are as they were.
 fn add_shape(
     shapes: &mut Vec<TableShape>,
     kind: ShapeKind,
     members: Vec<u32>,
 ) -> Result<(), NoMemory>
-    ensures { OnOk result (shapes.new.items ≡ shapes.old.items ++ plain_shape kind members.items ∷ []) }
+    ensures added { OnOk result (shapes.new.items ≡ shapes.old.items ++ plain_shape kind members.items ∷ []) }
+    ensures refused { OnErr result (shapes.new.items ≡ shapes.old.items) }
 {
     push(
         shapes,
@@ -58,7 +59,7 @@ fn add_shape(
     )
 }
 
-/// Adds the simple shapes, in the order of their places.
+/// Adds the simple shapes, in the order of their places. After want of memory some may stand; the caller drops them.
 fn add_simple_shapes(alloc: Global, shapes: &mut Vec<TableShape>) -> Result<(), NoMemory>
     ensures { OnOk result (shapes.new.items ≡ shapes.old.items ++ simple_shapes) }
 {
@@ -68,7 +69,8 @@ fn add_simple_shapes(alloc: Global, shapes: &mut Vec<TableShape>) -> Result<(), 
     add_shape(shapes, ShapeKind::Long, Vec::new(alloc))
 }
 
-/// Adds the structure that a tree says, with the number `home`; `false` where the tree is no structure.
+/// Adds the structure that a tree says, with the number `home`; `false` where the tree is no structure. After
+/// `false` or want of memory the rows are what they may be; the caller drops them.
 fn add_structure(
     alloc: Global,
     simple: u32,
@@ -98,7 +100,7 @@ fn add_structure(
 /// where 2^32 numbers don't suffice.
 pub fn read_table(alloc: Global, pairs: &[(Text, Tree)]) -> Result<Option<Table>, NoMemory>
     ensures table { ReadsTable (members_of (members_view pairs.now)) result }
-    ensures few { OnOk result (length pairs.now < 2 ^ 32) }
+    ensures few { IfOk result (λ table. IfSome table (λ _. length pairs.now < 2 ^ 32)) }
 {
     if pairs.len() > MOST_STRUCTURES {
         return Err(NoMemory);

@@ -7,7 +7,7 @@ use sm_tree::Text;
 /// A model of structures.
 #[derive(Debug, Drop)]
 pub struct FirstModel {
-    /// The absolute shape IDs of the structures. A structure's number in the table is its place here.
+    /// The names of the structures, by which a shape is asked for. A structure's number in the table is its place here.
     pub names: Vec<Text>,
     /// The structures, and behind them the four simple shapes.
     pub table: Table,
@@ -15,7 +15,7 @@ pub struct FirstModel {
 }
 
 impl FirstModel {
-    /// The number of the structure with this absolute shape ID; `None` where no structure has it.
+    /// The number of the structure with this name; `None` where no structure has it.
     pub fn shape_named(&self, name: &str) -> Option<u32>
         ensures { MatchOption result
             ((s : ℕ) → slice_get self.now.names.items s ≡ Some name.now → ⊥)

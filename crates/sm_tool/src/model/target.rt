@@ -19,7 +19,9 @@ pub enum SimpleTarget {
 impl SimpleTarget {
     /// The simple shape with this absolute shape ID; `None` for any other text.
     pub fn with_id(id: &str) -> Option<Self>
-        ensures { MatchOption result ((t : SimpleTarget) → id.now ≡ target_id t → ⊥) (λ t. id.now ≡ target_id t) }
+        ensures { MatchOption result
+            ((t : SimpleTarget) → id.now ≡ target_id t → ⊥)
+            (λ t. id.now ≡ target_id t) }
     {
         match id {
             "smithy.api#String" => Some(SimpleTarget::String),

@@ -35,6 +35,12 @@ fn a_missing_shape_and_another_form_of_model_are_told(rt: HostRuntime) -> Result
     for (name, shape, line) in [
         ("shop.json", "shop#Itm", "NoShape shop#Itm\n"),
         ("m.smithy", "shop#Item", "Unbuilt m.smithy\n"),
+        // Of the prelude the model has no shape.
+        (
+            "shop.json",
+            "smithy.api#String",
+            "NoShape smithy.api#String\n",
+        ),
         // The model is judged before the shape.
         ("m.smithy", "shop#Itm", "Unbuilt m.smithy\n"),
     ] {

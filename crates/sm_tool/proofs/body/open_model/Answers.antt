@@ -16,4 +16,4 @@ pub returns-in-Err-TooLong-clause-opens : goal.returns-in-Err-TooLong-clause-ope
 returns-in-Err-TooLong-clause-opens g c =
     let long = rw c.in-Err-TooLong.field-0-is at c.in-Err-TooLong.ensures.bytes in
     file_past (files_seen (g.F.Files.held c.args.files.now) (g.F.Files.read_faults c.args.files.now)) (files_seen (g.F.Files.held c.read.new.self) (g.F.Files.read_faults c.read.new.self))
-    c.args.name.now c.past.result long (c.past.ensures file_limit_line c.line-in-Err-TooLong.ensures)
+    c.args.name.now c.past.result long (c.past.ensures file_limit_line c.limit_line.ensures)

@@ -1,7 +1,7 @@
 use Rattle.std.proofs.Common.{Ok, List, sym, ◌∙◌, subst}
 use Rattle.sm_tree.specs.Node.{members_of}
 use Rattle.sm_tree.specs.View.{node_of, members_view}
-use Rattle.sm_tool.specs.FirstForm.{StructureLine, ShapesSay}
+use Rattle.sm_tool.specs.FirstForm.{ModelStructure, ShapesSay}
 use Rattle.std.proofs.Common.{◌≡◌}
 use Rattle.sm_tool.specs.Tabled.{table_of}
 use Rattle.sm_tool.specs.ModelAnswers.{ReadsTable}
@@ -23,6 +23,6 @@ returns-in-None c =
 
 pub returns-in_ok-names-in-Some-2 : goal.returns-in_ok-names-in-Some-2
 returns-in_ok-names-in-Some-2 c =
-    let said : (m : List StructureLine) × ShapesSay (members_of (members_view c.in-Some.pairs.now)) m × (c.in-Some-2.table ≡ table_of m) =
+    let said : (m : List ModelStructure) × ShapesSay (members_of (members_view c.in-Some.pairs.now)) m × (c.in-Some-2.table ≡ table_of m) =
     subst (λ r. ReadsTable (members_of (members_view c.in-Some.pairs.now)) (Ok r)) c.in-Some-2.is c.in_ok-table.ensures.table in
     is_model (node_of c.args.tree.now) c.in-Some.pairs.now _ said.0 c.in-Some.ensures (c.in_ok-names_differ.ensures.0 c.if-not-branch.false) said.1 said.2 c.in_ok-names-in-Some-2.ensures

@@ -9,7 +9,7 @@ use Rattle.sm_shapes.specs.Weight.{val_weight, fields_weight}
 use Rattle.sm_shapes.specs.Tables.{members_at}
 use Rattle.sm_shapes.specs.Fits.{Fits}
 use Rattle.sm_shapes.proofs.Views.{val_of_fields}
-use Rattle.sm_tool.specs.Encoded.{encoded, encoded_fields, json_written, FieldsFit}
+use Rattle.sm_tool.specs.Encoded.{encoded_tree, encoded_fields, json_written, FieldsFit}
 use Rattle.sm_tool.proofs.Written.{and_pairs, and_no_pairs, json_one_more, each_fits, written_step}
 use Rattle.sm_tool.proofs.codec.encode.+encode.Goals as goal
 
@@ -46,7 +46,7 @@ encode_fields-loop-field-preserved t c =
     record {
       pairs = written_step table (encoded_fields table json_written (fields_of (vals_view all))) ps (members_view c.push.new.self.items) item.0 (val_of item.1) rest name n pushed
           (c.in_ok-name.ensures.bytes ∙ c.as_str.ensures.bytes ∙ c.name.ensures)
-          (c.in_ok-tree.ensures.tree ∙ ap (λ s. encoded table json_written s (val_of item.1)) c.target.ensures)
+          (c.in_ok-tree.ensures.tree ∙ ap (λ s. encoded_tree table json_written s (val_of item.1)) c.target.ensures)
           (ap (λ fs. and_pairs ps (encoded_fields table json_written fs)) (sym view) ∙ c.loop-field.invariant.pairs);
       json = subst (λ ps. AreJsonMembers (members_of ps)) (sym pushed)
           (json_one_more ps name n c.loop-field.invariant.json c.in_ok-name.ensures.utf8 c.in_ok-tree.ensures.json);

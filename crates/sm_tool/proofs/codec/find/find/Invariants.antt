@@ -1,7 +1,7 @@
 use Rattle.std.proofs.Common.{◌≡◌, List, ◌∷◌, drop}
 use Rattle.sm_tree.specs.Node.{Node, members_of}
 use Rattle.sm_tree.specs.View.{node_of, members_view}
-use Rattle.sm_tool.specs.Members.{named}
+use Rattle.sm_tool.specs.Named.{trees_named}
 use Rattle.sm_tool.specs.declared.codec.find.Found.{Found}
 use Rattle.sm_tool.specs.declared.codec.find.Found.TheVariants.{Absent, Once, Repeated}
 use Rattle.sm_tool.proofs.codec.find.find.Given as goal
@@ -14,4 +14,4 @@ Seen Repeated all rest = ⊥
 
 abbrev pub invariant-loop-pair : goal.invariant-loop-pair
 invariant-loop-pair l =
-    Seen l.found (named l.name (members_of (members_view l.pairs))) (named l.name (members_of (members_view (drop l.pair-index l.pairs))))
+    Seen l.found (trees_named l.name (members_of (members_view l.pairs))) (trees_named l.name (members_of (members_view (drop l.pair-index l.pairs))))

@@ -6,4 +6,4 @@ use Rattle.sm_tool.proofs.codec.member.left_out.Goals as goal
 
 pub returns-then-required-clause-fault : goal.returns-then-required-clause-fault
 returns-then-required-clause-fault c =
-    subst (λ name. IsFirst (under name (here Missing)) c.under.result) c.name.ensures (c.under.ensures (here Missing) c.here-missing.ensures)
+    subst (λ name. IsFirst (under name (here Missing)) c.under.result) c.name.ensures (c.under.ensures (here Missing) c.here-missing.ensures.first)

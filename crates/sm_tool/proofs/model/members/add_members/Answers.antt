@@ -15,8 +15,8 @@ loop-pair-preserved c =
     members_step c.args.simple c.args.home (view c.args.pairs.now) c.args.pairs.now c.loop-pair.pair-index c.pair-item.result c.args.members.now.items c.loop-pair.members.items c.push-in-Some.new.list.items
     c.loop-pair.numbers.items c.push.new.list.items c.in-Some.row (omega arith) c.pair-item.is c.loop-pair.invariant
     (subst (λ r. ReadsMember c.args.simple c.args.home c.pair-item.result.0 (node_of c.pair-item.result.1) (Ok r)) c.in-Some.is c.in_ok-row.ensures)
-    c.in_ok-push-in-Some-2.ensures
-    (c.in_ok-push-in-Some.ensures ∙ ap (λ k. c.loop-pair.numbers.items ++ k ∷ []) c.in_ok-next_number-in-Some.ensures)
+    c.in_ok-push-in-Some-2.ensures.added
+    (c.in_ok-push-in-Some.ensures.added ∙ ap (λ k. c.loop-pair.numbers.items ++ k ∷ []) c.in_ok-next_number-in-Some.ensures)
 
 pub returns : goal.returns
 returns c =

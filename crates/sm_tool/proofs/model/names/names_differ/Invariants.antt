@@ -1,5 +1,5 @@
 use Rattle.std.proofs.Common.{◌≡◌, ℕ, List, map, take}
-use Rattle.sm_tool.specs.Names.{AllDiffer}
+use Rattle.sm_shapes.specs.Names.{AllDiffer}
 use Rattle.sm_tool.proofs.Names.{has, any_is}
 use Rattle.sm_tool.proofs.model.names.names_differ.Given as goal
 

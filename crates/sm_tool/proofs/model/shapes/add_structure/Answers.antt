@@ -1,4 +1,4 @@
-use Rattle.std.proofs.Common.{Ok, ◌++◌, ◌∷◌, [], map, sym, ap, ◌∙◌, subst}
+use Rattle.std.proofs.Common.{Ok, ◌++◌, ◌∷◌, [], sym, ap, ◌∙◌, subst}
 use Rattle.sm_tree.specs.Node.{members_of}
 use Rattle.sm_tree.specs.View.{node_of, members_view}
 use Rattle.sm_shapes.specs.declared.table.ShapeKind.TheVariants.{Structure}
@@ -25,8 +25,8 @@ returns-in_ok-add_shape-in-Some-2 c =
     let added : AreAdded c.args.simple c.args.home (members_of (members_view c.in-Some.pairs.now)) c.args.rows.now.members.items c.add_members.new.members.items c.in-Some-2.numbers.items =
     subst (λ r. AddsMembers c.args.simple c.args.home (members_of (members_view c.in-Some.pairs.now)) c.args.rows.now.members.items c.add_members.new.members.items (Ok r)) c.in-Some-2.is c.in_ok-numbers.ensures in
     record {
-      lines = added.lines;
-      says = shape_says (node_of c.args.tree.now) c.in-Some.pairs.now added.lines c.in-Some.ensures (c.in_ok-names_differ.ensures.0 c.if-not-branch.false) added.says;
-      shapes = c.in_ok-add_shape-in-Some-2.ensures ∙ ap (λ ks. c.args.rows.now.shapes.items ++ plain_shape Structure ks ∷ []) added.numbered;
+      said = added.said;
+      says = shape_says (node_of c.args.tree.now) c.in-Some.pairs.now added.said c.in-Some.ensures (c.in_ok-names_differ.ensures.0 c.if-not-branch.false) added.says;
+      shapes = c.in_ok-add_shape-in-Some-2.ensures.added ∙ ap (λ ks. c.args.rows.now.shapes.items ++ plain_shape Structure ks ∷ []) added.numbered;
       members = added.rows;
     }

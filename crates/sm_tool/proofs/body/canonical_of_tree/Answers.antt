@@ -6,7 +6,7 @@ use Rattle.sm_tool.specs.Steps.{TreeAnswers}
 use Rattle.sm_tool.proofs.Conventions.{json_convention}
 use Rattle.sm_tool.proofs.Fitting.{fits_where_spelled}
 use Rattle.sm_tool.proofs.Bodies.{line_stops, value_answers, fault_answers}
-use Rattle.sm_tool.proofs.body.cross_tree.Goals as goal
+use Rattle.sm_tool.proofs.body.canonical_of_tree.Goals as goal
 
 pub far_text-requires-clause-fits : goal.far_text-requires-clause-fits
 far_text-requires-clause-fits c =

@@ -4,9 +4,9 @@ use Rattle.std.specs.Str.{bytes_eq}
 use Rattle.sm_tree.specs.Node.{Node, Members, null, no_members, member}
 
 -- the trees that stand under a name, in their order
-abbrev pub named : List ℕ → Members → List Node
-named name no_members = []
-named name (member k n ms) = cond (bytes_eq k name) (n ∷ named name ms) (named name ms)
+abbrev pub trees_named : List ℕ → Members → List Node
+trees_named name no_members = []
+trees_named name (member k n ms) = cond (bytes_eq k name) (n ∷ trees_named name ms) (trees_named name ms)
 
 abbrev pub is_null : Node → Bool
 is_null null = true

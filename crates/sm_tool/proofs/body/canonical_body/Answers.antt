@@ -1,9 +1,9 @@
 use Rattle.sm_tree.specs.View.{node_of}
 use Rattle.sm_tool.proofs.Bodies.{tree_comes, text_stops, refused_so}
-use Rattle.sm_tool.proofs.body.cross.Goals as goal
+use Rattle.sm_tool.proofs.body.canonical_body.Goals as goal
 
 pub returns-in-Ok : goal.returns-in-Ok
-returns-in-Ok c = tree_comes c.args.table.now c.args.shape (node_of c.in-Ok.tree) c.args.body.now c.cross_tree.result c.in-Ok.ensures.text c.cross_tree.ensures
+returns-in-Ok c = tree_comes c.args.table.now c.args.shape (node_of c.in-Ok.tree) c.args.body.now c.canonical_of_tree.result c.in-Ok.ensures.text c.canonical_of_tree.ensures
 
 pub returns-in_default : goal.returns-in_default
 returns-in_default c = text_stops c.args.table.now c.args.shape c.args.body.now c.in-Err.refusal c.no_text.result
