@@ -3,8 +3,8 @@
 ghost use Rattle.std.specs.Prelude.{◌≡◌, ◌++◌, ◌∷◌, [], List, min, max, IfOk, OnOk, true, false, Some, None};
 ghost use Rattle.sm_tree.specs.View.{node_of};
 ghost use Rattle.sm_tree.specs.Events.{events, start_list as list_starts, start_object as object_starts, end_list as list_ends, end_object as object_ends, key_event, tag_event};
-ghost use Rattle.sm_tree.specs.Building.{so_far, kinds, awaits_value, inner_awaits, goes_on, first_kind, IsIn, tagged};
-ghost use Rattle.sm_tree.specs.BuilderSteps.{with_tree, with_tag, settled, may_end, ended, put_around, back_inside, after_tag, after_start, after_end};
+ghost use Rattle.sm_tree.specs.Building.{so_far, kinds, awaits_value, awaits_content, inner_awaits, goes_on, first_kind, IsIn, tagged};
+ghost use Rattle.sm_tree.specs.BuilderSteps.{with_tree, with_tag, ended, put_around, back_inside, after_tag, after_start, after_end};
 ghost use Rattle.sm_tree.specs.BuilderView.{inner_of, around_of, open_of, building_of};
 
 use crate::NoMemory;
@@ -147,16 +147,6 @@ impl Inner {
         }
     }
 
-    // Whether it may end: no tag of a next entry awaits its value.
-    fn is_settled(&self) -> bool
-        ensures { result ≡ settled (inner_of self.now) }
-    {
-        match self {
-            Inner::List(_, tags, _) => tags.is_empty(),
-            Inner::Object(_, _, _) => true,
-        }
-    }
-
     // The tree of what ends.
     fn into_tree(self) -> Tree
         ensures { node_of result ≡ ended (inner_of self) }
@@ -214,6 +204,7 @@ impl TreeBuilder {
         ensures taken { so_far (building_of result) ≡ [] }
         ensures kinds { kinds (building_of result) ≡ [] }
         ensures awaits { awaits_value (building_of result) ≡ true }
+        ensures content { awaits_content (building_of result) ≡ false }
     {
         TreeBuilder {
             state: State::Empty(Vec::new(alloc)),
@@ -240,27 +231,22 @@ impl TreeBuilder {
 
     // Ends the innermost list or object, and gives it to what is around it.
     fn end(&mut self) -> Result<(), NoMemory>
-        ensures { OnOk result ((building_of self.new ≡ after_end (building_of self.old)) × (may_end (building_of self.old) ≡ true)) }
+        ensures { OnOk result (building_of self.new ≡ after_end (building_of self.old)) }
     {
         match &mut self.state {
-            State::Within(open) => {
-                if !open.inner.is_settled() {
-                    return Err(NoMemory);
+            State::Within(open) => match open.outer.pop() {
+                Some(around) => {
+                    let inner = mem::replace(&mut open.inner, around.into_inner());
+                    open.inner.put(self.alloc, inner.into_tree())
                 }
-                match open.outer.pop() {
-                    Some(around) => {
-                        let inner = mem::replace(&mut open.inner, around.into_inner());
-                        open.inner.put(self.alloc, inner.into_tree())
-                    }
-                    None => {
-                        let empty = Inner::List(Vec::new(self.alloc), Vec::new(self.alloc), 1);
-                        let inner = mem::replace(&mut open.inner, empty);
-                        let tree = in_tags(self.alloc, &mut open.tags, inner.into_tree())?;
-                        self.state = State::Whole(tree);
-                        Ok(())
-                    }
+                None => {
+                    let empty = Inner::List(Vec::new(self.alloc), Vec::new(self.alloc), 1);
+                    let inner = mem::replace(&mut open.inner, empty);
+                    let tree = in_tags(self.alloc, &mut open.tags, inner.into_tree())?;
+                    self.state = State::Whole(tree);
+                    Ok(())
                 }
-            }
+            },
             State::Empty(_) | State::Whole(_) => Ok(()),
         }
     }
@@ -285,6 +271,7 @@ impl TreeBuilder {
         ensures taken { OnOk result (so_far (building_of self.new) ≡ so_far (building_of self.old) ++ (tag_event number ∷ [])) }
         ensures kinds { OnOk result (kinds (building_of self.new) ≡ kinds (building_of self.old)) }
         ensures awaits { OnOk result (awaits_value (building_of self.new) ≡ true) }
+        ensures content { OnOk result (awaits_content (building_of self.new) ≡ true) }
     {
         match &mut self.state {
             State::Empty(tags) => match tags.push(number) {
@@ -302,6 +289,7 @@ impl TreeBuilder {
         ensures taken { OnOk result (so_far (building_of self.new) ≡ so_far (building_of self.old) ++ events (node_of tree) []) }
         ensures kinds { OnOk result (kinds (building_of self.new) ≡ kinds (building_of self.old)) }
         ensures awaits { OnOk result (awaits_value (building_of self.new) ≡ goes_on (kinds (building_of self.new))) }
+        ensures content { OnOk result (awaits_content (building_of self.new) ≡ false) }
     {
         match &mut self.state {
             State::Empty(tags) => {
@@ -321,6 +309,7 @@ impl TreeBuilder {
         ensures taken { so_far (building_of self.new) ≡ so_far (building_of self.old) ++ (key_event name ∷ []) }
         ensures kinds { kinds (building_of self.new) ≡ kinds (building_of self.old) }
         ensures awaits { awaits_value (building_of self.new) ≡ true }
+        ensures content { awaits_content (building_of self.new) ≡ false }
     {
         match &mut self.state {
             State::Within(open) => match &mut open.inner {
@@ -343,6 +332,7 @@ impl TreeBuilder {
         ensures taken { OnOk result (so_far (building_of self.new) ≡ so_far (building_of self.old) ++ (list_starts None ∷ [])) }
         ensures kinds { OnOk result (kinds (building_of self.new) ≡ OpenKind.List ∷ kinds (building_of self.old)) }
         ensures awaits { OnOk result (awaits_value (building_of self.new) ≡ true) }
+        ensures content { OnOk result (awaits_content (building_of self.new) ≡ false) }
     {
         let (items, tags) = (Vec::new(self.alloc), Vec::new(self.alloc));
         self.start(Inner::List(items, tags, first_room(expected)))
@@ -357,17 +347,20 @@ impl TreeBuilder {
         ensures taken { OnOk result (so_far (building_of self.new) ≡ so_far (building_of self.old) ++ (object_starts None ∷ [])) }
         ensures kinds { OnOk result (kinds (building_of self.new) ≡ OpenKind.Object ∷ kinds (building_of self.old)) }
         ensures awaits { OnOk result (awaits_value (building_of self.new) ≡ false) }
+        ensures content { OnOk result (awaits_content (building_of self.new) ≡ false) }
     {
         self.start(Inner::Object(Vec::new(self.alloc), None, first_room(expected)))
     }
 
-    /// Takes the end of the innermost list. `NoMemory` where what is around it has no room for it, and where a tag in
-    /// the list awaits its value.
+    /// Takes the end of the innermost list, in which no tag awaits its content. `NoMemory` where what is around it
+    /// has no room for it.
     pub fn end_list(&mut self) -> Result<(), NoMemory>
-        requires { IsIn OpenKind.List (kinds (building_of self.old)) }
+        requires innermost { IsIn OpenKind.List (kinds (building_of self.old)) }
+        requires content { awaits_content (building_of self.old) ≡ false }
         ensures taken { OnOk result (so_far (building_of self.new) ≡ so_far (building_of self.old) ++ (list_ends ∷ [])) }
         ensures kinds { OnOk result (kinds (building_of self.old) ≡ OpenKind.List ∷ kinds (building_of self.new)) }
         ensures awaits { OnOk result (awaits_value (building_of self.new) ≡ goes_on (kinds (building_of self.new))) }
+        ensures content { OnOk result (awaits_content (building_of self.new) ≡ false) }
     {
         self.end()
     }
@@ -379,6 +372,7 @@ impl TreeBuilder {
         ensures taken { OnOk result (so_far (building_of self.new) ≡ so_far (building_of self.old) ++ (object_ends ∷ [])) }
         ensures kinds { OnOk result (kinds (building_of self.old) ≡ OpenKind.Object ∷ kinds (building_of self.new)) }
         ensures awaits { OnOk result (awaits_value (building_of self.new) ≡ goes_on (kinds (building_of self.new))) }
+        ensures content { OnOk result (awaits_content (building_of self.new) ≡ false) }
     {
         self.end()
     }

@@ -35,15 +35,6 @@ fn tags_go_round_what_follows(rt: HostRuntime) -> Result<(), Fail> {
     Ok(())
 }
 
-#[test]
-fn list_ends_with_no_tag_open(rt: HostRuntime) -> Result<(), Fail> {
-    let mut builder = TreeBuilder::new(rt.alloc());
-    builder.start_list(0)?;
-    builder.tag(1)?;
-    assert!(rt; builder.end_list().is_err());
-    Ok(())
-}
-
 fn text(alloc: Global, text: &str) -> Result<Text, NoMemory> {
     Text::copy(alloc, text)
 }
