@@ -4,7 +4,6 @@
 
 mod build;
 pub mod laws;
-pub mod laws_of_events;
 pub mod number;
 mod path;
 mod refusal;
@@ -12,7 +11,7 @@ mod text;
 mod tree;
 mod utf8;
 
-pub use build::{OpenKind, TreeBuilder};
+pub use build::{FIRST_ROOM, OpenKind, TreeBuilder};
 pub use path::{Path, Step};
 pub use refusal::SyntaxRefusal;
 use std::alloc::{AllocError, AllocFailed};
