@@ -19,9 +19,9 @@ use Rattle.sm_tree.specs.declared.utf8.Utf8.TheVariants.{Between}
 use Rattle.sm_cbor.specs.CborItem.{Keys, plain, marked, mark, Item as ItemBytes, CborItem}
 use Rattle.sm_cbor.specs.Heads.{HasWidth}
 use Rattle.sm_cbor.specs.Refusals.{IsNoText, BeginsOther}
-use Rattle.sm_cbor.specs.Reading.{StartsNumber, HeadIs, SubjectIs, IsOf, major_of}
+use Rattle.sm_cbor.specs.Reading.{StartsNumber, HeadIs, SubjectIs, IsOf, major_of, bound}
 use Rattle.sm_cbor.specs.Rest.{State, Rest, RestAt, Leads, Stops, ItemComes, Ends}
-use Rattle.sm_cbor.specs.Machine.{kinds_of, levels_of, state_at, state_of, handed_on, opens_of, ArgumentLives, ArgumentAwaits, ChunksHeld, bound, InMap, StringAwaits, Keeps, Begun, BehindItem, IsAt, IsSound, Goes, Opens, GoesOn, IsBadByte, IsOtherKey, OpensTooDeep, TakesByte, IsFirst, first_level}
+use Rattle.sm_cbor.specs.Machine.{kinds_of, levels_of, state_at, state_of, handed_on, opens_of, ArgumentLives, ArgumentAwaits, ChunksHeld, InMap, StringAwaits, Keeps, Begun, BehindItem, IsAt, IsSound, Goes, Opens, GoesOn, IsBadByte, IsOtherKey, OpensTooDeep, TakesByte, IsFirst, first_level}
 use Rattle.sm_cbor.specs.declared.head.Head.{Head}
 use Rattle.sm_cbor.specs.declared.head.Head.TheVariants.{Argument as ArgumentHead, Chunks as ChunksHead, List as EntriesHead, Map as PairsHead, Null as NullHead, Bool as BoolHead, NoItem}
 use Rattle.sm_cbor.specs.declared.place.StringKind.{StringKind}

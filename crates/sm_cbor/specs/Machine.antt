@@ -16,7 +16,7 @@ use Rattle.sm_tree.specs.declared.utf8.Utf8.TheVariants.{Between}
 use Rattle.sm_tree.specs.Utf8 as utf8
 use Rattle.sm_cbor.specs.CborItem.{Keys, plain, marked, mark, IsOpaque}
 use Rattle.sm_cbor.specs.Refusals.{BeginsOther}
-use Rattle.sm_cbor.specs.Reading.{IsOf, EndsAs}
+use Rattle.sm_cbor.specs.Reading.{IsOf, EndsAs, bound}
 use Rattle.sm_cbor.specs.Rest.{State, Rest, Leads, Stops}
 use Rattle.sm_cbor.specs.declared.place.StringKind.{StringKind}
 use Rattle.sm_cbor.specs.declared.place.StringKind.TheVariants.{Bytes, Text, Key as KeyText}
@@ -66,11 +66,6 @@ Lives After = Unit {0}
 Lives (Argument j k v) = ArgumentLives j k v
 Lives (String kind span n place) = utf8.owed place ≤ n
 Lives (Chunks kind) = Unit {0}
-
--- a number that has k bytes more is below this, since 64 bits hold the whole
-abbrev pub bound : ℕ → ℕ
-bound zero = 2 ^ 64
-bound (suc k) = bound k / 256
 
 -- what is open, as the builder of trees sees it
 abbrev pub kinds_of : List Level → List OpenKind
@@ -258,10 +253,13 @@ TakesByte before p c behind (Err Ended) = ⊥
 TakesByte before p c behind (Err (TooDeep at)) = (at ≡ 0) × OpensTooDeep (state_at before p) c
 TakesByte before p c behind (Err (KeyKind at)) = (at ≡ 0) × IsOtherKey (state_at before p) c
 
--- what the reader makes of the front of some bytes: it takes so many of them, or refuses the first
+-- what a reader that stands at a place makes of the front of some bytes: it takes so many of them, or refuses the first
+abbrev pub TakesFrontAt : Reader → Place → List ℕ → Reader → Result ℕ SyntaxRefusal → Type 0
+TakesFrontAt before p bs behind (Ok n) = (0 < n) × (n ≤ length bs) × Goes before [] p (take n bs) behind
+TakesFrontAt before p bs behind (Err refusal) = TakesByte before p (slice_index bs 0) behind (Err refusal)
+
 abbrev pub TakesFront : Reader → List ℕ → Reader → Result ℕ SyntaxRefusal → Type 0
-TakesFront before bs behind (Ok n) = (0 < n) × (n ≤ length bs) × Goes before [] before.place (take n bs) behind
-TakesFront before bs behind (Err refusal) = TakesByte before before.place (slice_index bs 0) behind (Err refusal)
+TakesFront before bs behind result = TakesFrontAt before before.place bs behind result
 
 -- a refusal of the byte c, at which the reader stands
 abbrev pub RefusesAt : State → ℕ → SyntaxRefusal → Type 0
