@@ -1,7 +1,7 @@
 -- What the steps of the reader do to it: the laws of the machine at readers. The answers cite these.
 use Rattle.std.proofs.Common.{Result, Ok, Err, ◌≡◌, ◌≢◌, ℕ, ◌+◌, ◌≤◌, ◌<◌, true, false, List, [], ◌∷◌, ◌++◌, None, Some, refl, sym, ap, subst, ◌∙◌, arith, length, append-nil, lit<}
 use Rattle.sm_tree.specs.Events.{NodeEvent, start_list, start_object, end_list, end_object}
-use Rattle.sm_tree.specs.Building.{so_far, kinds, first_kind, awaits_value, goes_on, IsIn}
+use Rattle.sm_tree.specs.Building.{so_far, kinds, first_kind, awaits_value, awaits_content, goes_on, IsIn}
 use Rattle.sm_tree.specs.BuilderView.{building_of}
 use Rattle.sm_tree.specs.declared.build.OpenKind.{OpenKind}
 use Rattle.sm_tree.specs.declared.build.OpenKind.TheVariants.{List as a_list, Object as an_object}
@@ -73,7 +73,7 @@ speaks r q p w e same leads taken sound = record {
 pub colon_goes : (r : Reader) → IsSound r → r.place ≡ Colon → Goes r (58 ∷ []) (record r { place = Value })
 colon_goes r sound e =
     silent r (record r { place = Value }) Colon (58 ∷ []) e (λ limit up. colon_leads limit (lists_of r)) refl
-    (record { depth = sound.depth; room = sound.room; keeps = kept_at r Colon e sound })
+    (record { depth = sound.depth; room = sound.room; keeps = kept_at r Colon e sound; content = sound.content })
 
 pub colon_halts : (r : Reader) (c : ℕ) → r.place ≡ Colon → is_white c ≡ false → c ≢ 58 → Halts (state_of r) c
 colon_halts r c e w f = stops_from r Colon c e (λ limit. colon_stops limit c (lists_of r) w f)
@@ -88,10 +88,10 @@ at_start role t ks x w (plain, none) h =
 pub text_goes : (r : Reader) (role : Role) (t : TextReader) → IsSound r → BeginsText role r.place → IsAtStart t → Goes r (34 ∷ []) (record r { place = Text role; text = t })
 text_goes r Key t sound e fresh =
     silent r (record r { place = Text Key; text = t }) NextKey (34 ∷ []) e (at_start Key t (lists_of r) (place_at r NextKey) (34 ∷ []) fresh (λ limit up. key_leads limit (lists_of r))) refl
-    (record { depth = sound.depth; room = sound.room; keeps = kept_at r NextKey e sound })
+    (record { depth = sound.depth; room = sound.room; keeps = kept_at r NextKey e sound; content = sound.content })
 text_goes r Whole t sound e fresh =
     silent r (record r { place = Text Whole; text = t }) Value (34 ∷ []) e (at_start Whole t (lists_of r) (place_at r Value) (34 ∷ []) fresh (λ limit up. string_begins limit (lists_of r) (room_in r limit up sound))) refl
-    (record { depth = sound.depth; room = sound.room; keeps = kept_at r Value e sound })
+    (record { depth = sound.depth; room = sound.room; keeps = kept_at r Value e sound; content = sound.content })
 
 pub key_halts : (r : Reader) (c : ℕ) → r.place ≡ NextKey → is_white c ≡ false → c ≢ 34 → Halts (state_of r) c
 key_halts r c e w f = stops_from r NextKey c e (λ limit. key_stops limit c (lists_of r) w f)
@@ -105,16 +105,17 @@ word_keeps False = lit< tt
 pub word_goes : (r : Reader) (w : Literal) → IsSound r → r.place ≡ Value → Goes r (first_letter w ∷ []) (record r { place = Word w 1 })
 word_goes r w sound e =
     silent r (record r { place = Word w 1 }) Value (first_letter w ∷ []) e (λ limit up. word_begins limit w (lists_of r) (room_in r limit up sound)) refl
-    (record { depth = sound.depth; room = sound.room; keeps = (kept_at r Value e sound, word_keeps w) })
+    (record { depth = sound.depth; room = sound.room; keeps = (kept_at r Value e sound, word_keeps w); content = sound.content })
 
 -- `[` and `{`
 pub list_goes : (r q : Reader) → IsSound r → r.place ≡ Value → r.depth < most_levels → q.place ≡ FirstEntry → q.depth ≡ r.depth + 1
-    → lists_of q ≡ a_list ∷ lists_of r → awaits_value (building_of q.builder) ≡ true → handed_on q ≡ handed_on r ++ start_list None ∷ [] → Goes r (91 ∷ []) q
-list_goes r q sound e room place depth lists awaits taken =
+    → lists_of q ≡ a_list ∷ lists_of r → awaits_value (building_of q.builder) ≡ true → awaits_content (building_of q.builder) ≡ false → handed_on q ≡ handed_on r ++ start_list None ∷ [] → Goes r (91 ∷ []) q
+list_goes r q sound e room place depth lists awaits content taken =
     speaks r q Value (91 ∷ []) (start_list None) e (opened r q place lists) taken (record {
       depth = depth ∙ grown r q sound lists;
       room = omega arith;
       keeps = opened_keeps q place (subst (IsIn a_list) (sym lists) refl) awaits;
+      content = content;
     })
   where
     opened : (r q : Reader) → q.place ≡ FirstEntry → lists_of q ≡ a_list ∷ lists_of r → LeadsTo (place_at r Value) (91 ∷ []) (start_list None ∷ []) (state_of q)
@@ -129,12 +130,13 @@ list_goes r q sound e room place depth lists awaits taken =
     opened_keeps q place inside awaits = subst (λ p. PlaceKeeps p q.number.items (lists_of q) (awaits_value (building_of q.builder))) (sym place) (inside, awaits)
 
 pub object_goes : (r q : Reader) → IsSound r → r.place ≡ Value → r.depth < most_levels → q.place ≡ FirstKey → q.depth ≡ r.depth + 1
-    → lists_of q ≡ an_object ∷ lists_of r → awaits_value (building_of q.builder) ≡ false → handed_on q ≡ handed_on r ++ start_object None ∷ [] → Goes r (123 ∷ []) q
-object_goes r q sound e room place depth lists awaits taken =
+    → lists_of q ≡ an_object ∷ lists_of r → awaits_value (building_of q.builder) ≡ false → awaits_content (building_of q.builder) ≡ false → handed_on q ≡ handed_on r ++ start_object None ∷ [] → Goes r (123 ∷ []) q
+object_goes r q sound e room place depth lists awaits content taken =
     speaks r q Value (123 ∷ []) (start_object None) e (opened r q place lists) taken (record {
       depth = depth ∙ grown r q sound lists;
       room = omega arith;
       keeps = opened_keeps q place (subst (IsIn an_object) (sym lists) refl) awaits;
+      content = content;
     })
   where
     opened : (r q : Reader) → q.place ≡ FirstKey → lists_of q ≡ an_object ∷ lists_of r → LeadsTo (place_at r Value) (123 ∷ []) (start_object None ∷ []) (state_of q)
@@ -206,14 +208,14 @@ entry_goes r sound place h =
     let (ks, e) = inside (lists_of r) a_list h in
     silent r (record r { place = Value }) After (44 ∷ []) place
     (subst (λ ls. LeadsTo (at after ls) (44 ∷ []) [] (at value ls)) (sym e) (λ limit up. list_goes_on limit ks)) refl
-    (record { depth = sound.depth; room = sound.room; keeps = kept_at r After place sound ∙ goes_on_in a_list (lists_of r) h })
+    (record { depth = sound.depth; room = sound.room; keeps = kept_at r After place sound ∙ goes_on_in a_list (lists_of r) h; content = sound.content })
 
 pub pair_goes : (r : Reader) → IsSound r → r.place ≡ After → IsIn an_object (lists_of r) → Goes r (44 ∷ []) (record r { place = NextKey })
 pair_goes r sound place h =
     let (ks, e) = inside (lists_of r) an_object h in
     silent r (record r { place = NextKey }) After (44 ∷ []) place
     (subst (λ ls. LeadsTo (at after ls) (44 ∷ []) [] (at next_key ls)) (sym e) (λ limit up. object_goes_on limit ks)) refl
-    (record { depth = sound.depth; room = sound.room; keeps = (h, kept_at r After place sound ∙ goes_on_in an_object (lists_of r) h) })
+    (record { depth = sound.depth; room = sound.room; keeps = (h, kept_at r After place sound ∙ goes_on_in an_object (lists_of r) h); content = sound.content })
 
 pub entry_halts : (r : Reader) (c : ℕ) → r.place ≡ After → IsIn a_list (lists_of r) → is_white c ≡ false → c ≢ 44 → c ≢ 93 → Halts (state_of r) c
 entry_halts r c place h w f g =
@@ -323,6 +325,7 @@ number_goes r q c phase sound place w starts there kept same depth =
       room = subst (λ n. n ≤ most_levels) (sym depth) sound.room;
       keeps = subst (λ p. PlaceKeeps p q.number.items (lists_of q) (awaits_value (building_of q.builder))) (sym there)
           (ap (λ b. awaits_value (building_of b)) same ∙ kept_at r Value place sound, subst (λ b. NumberLeads Start b phase) (sym kept) starts);
+      content = ap (λ b. awaits_content (building_of b)) same ∙ sound.content;
     })
 
 pub value_halts : (r : Reader) (c : ℕ) → r.place ≡ Value → is_white c ≡ false → c ≢ 34 → c ≢ 91 → c ≢ 123 → c ≢ 110 → c ≢ 116 → c ≢ 102 → NumberStops Start c → Halts (state_of r) c

@@ -5,7 +5,7 @@ use Rattle.std.proofs.Math.Seq.{take-add}
 use Rattle.std.proofs.lemmas.List.{take_more, drop_more, take-take, take_all, drop_all}
 use Rattle.sm_tree.specs.Numbers.{IsNumber, NumberText}
 use Rattle.sm_tree.specs.Events.{NodeEvent, events, key_event, text_event}
-use Rattle.sm_tree.specs.Building.{so_far, kinds, awaits_value}
+use Rattle.sm_tree.specs.Building.{so_far, kinds, awaits_value, awaits_content}
 use Rattle.sm_tree.specs.BuilderView.{building_of}
 use Rattle.sm_tree.specs.declared.refusal.SyntaxRefusal.{SyntaxRefusal}
 use Rattle.sm_tree.specs.declared.refusal.SyntaxRefusal.TheVariants.{Bad, Ended, TooDeep, KeyKind, NoMemory}
@@ -105,6 +105,7 @@ number_grows r q bs phase run sound place inside leads bytes stops there kept sa
         ap (λ b. awaits_value (building_of b)) same ∙ (kept_at r (Number phase) place sound).0,
         subst (λ b. NumberLeads Start b run.phase) (sym kept) (numbers_joined Start phase run.phase r.number.items (take run.count bs) (kept_at r (Number phase) place sound).1 leads),
       );
+      content = ap (λ b. awaits_content (building_of b)) same ∙ sound.content;
     };
   };
   place = there;
@@ -206,7 +207,7 @@ string_on r role t bs sound place on = record {
       (subst (λ p. LeadsTo (place_at r (Text role)) bs [] (place_at (record r { text = t }) p)) (sym place)
       (λ limit up. string_goes limit role r.text.spot t.spot (text_of r.text) (text_of t) bs (lists_of r) (λ s u v. (on s u v).0) (λ s u v. (on s u v).1)));
   taken = sym (append-nil (handed_on r));
-  sound = record { depth = sound.depth; room = sound.room; keeps = sound.keeps };
+  sound = record { depth = sound.depth; room = sound.room; keeps = sound.keeps; content = sound.content };
 }
 
 string_closes : (r h : Reader) (role : Role) (t : TextReader) (bs : List ℕ) → ReadsWhole r.text t bs → HandsText role (record r { text = t }) h
@@ -301,7 +302,7 @@ letter_goes r w taken c sound place inside same =
       out = [];
       leads = leads_from r (Word w taken) (c ∷ []) [] (place_at r (Word w (taken + 1))) place (λ limit up. letter_leads limit w taken c (lists_of r) cut);
       taken = sym (append-nil (handed_on r));
-      sound = record { depth = sound.depth; room = sound.room; keeps = ((kept_at r (Word w taken) place sound).0, inside) };
+      sound = record { depth = sound.depth; room = sound.room; keeps = ((kept_at r (Word w taken) place sound).0, inside); content = sound.content };
     }
 
 -- the last letter of a literal name

@@ -1,8 +1,11 @@
 -- What the written text and its definition are worth, as statements that the functions of src/laws.rt prove.
-use Rattle.std.specs.Prelude.{◌≡◌, ℕ, List, [], ◌∷◌, ◌++◌, codes, IsUtf8}
+use Rattle.std.specs.Prelude.{◌≡◌, ◌≤◌, ℕ, List, [], ◌∷◌, ◌++◌, codes, IsUtf8, Result, Ok}
 use Rattle.sm_tree.specs.Node.{Node}
 use Rattle.sm_tree.specs.Json.{IsJson}
-use Rattle.sm_tree.specs.SyntaxLaws.{HasOneReading, HasOneAnswer}
+use Rattle.sm_tree.specs.Levels.{levels}
+use Rattle.sm_tree.specs.Syntax.{IsRead, most_levels}
+use Rattle.sm_tree.specs.SyntaxLaws.{ComesTo, HasOneReading, HasOneAnswer}
+use Rattle.sm_tree.specs.declared.refusal.SyntaxRefusal.{SyntaxRefusal}
 use Rattle.sm_json.specs.Strings.{SpellsText}
 use Rattle.sm_json.specs.JsonText.{SpellsValue, JsonText}
 use Rattle.sm_json.specs.Written.{written, written_text}
@@ -11,9 +14,15 @@ use Rattle.sm_json.specs.Written.{written, written_text}
 abbrev pub WrittenIsText : Type 0
 WrittenIsText = (n : Node) → IsJson n → JsonText n (written n)
 
--- the written text ends where the tree ends, whatever follows it
+-- what is written for a tree spells it, whatever follows (a digit behind a number makes another reading beside it)
 abbrev pub WrittenSpells : Type 0
 WrittenSpells = (n : Node) (rest : List ℕ) → IsJson n → SpellsValue n (written n ++ rest) rest
+
+-- a tree of at most 100 levels is read again as itself: what is written for it is read as it, and comes to nothing else
+abbrev pub WrittenIsRead : Type 0
+WrittenIsRead =
+    (n : Node) → IsJson n → (levels n ≤ most_levels)
+    → IsRead JsonText n (written n) × ((a : Result Node SyntaxRefusal) → ComesTo JsonText (written n) a → a ≡ Ok n)
 
 -- the written text of a string is a string of RFC 8259, section 7, for every UTF-8 text
 abbrev pub WrittenTextSpells : Type 0
@@ -34,5 +43,5 @@ abbrev pub OneReading : Type 0
 OneReading = HasOneReading JsonText
 
 -- bytes are read as at most one tree, or refused by one word at one place, and never both
-abbrev pub OneRefusal : Type 0
-OneRefusal = HasOneAnswer JsonText
+abbrev pub OneAnswer : Type 0
+OneAnswer = HasOneAnswer JsonText

@@ -7,7 +7,7 @@ use Rattle.sm_tree.specs.Numbers.{NumberText}
 use Rattle.sm_tree.specs.Events.{NodeEvent, events, key_event, text_event}
 use Rattle.sm_tree.specs.View.{node_of}
 use Rattle.sm_tree.specs.declared.tree.Tree.{Tree}
-use Rattle.sm_tree.specs.Building.{so_far, kinds, awaits_value, goes_on, IsIn}
+use Rattle.sm_tree.specs.Building.{so_far, kinds, awaits_value, awaits_content, goes_on, IsIn}
 use Rattle.sm_tree.specs.BuilderView.{building_of}
 use Rattle.sm_tree.specs.declared.build.OpenKind.{OpenKind}
 use Rattle.sm_tree.specs.declared.build.OpenKind.TheVariants.{List as a_list, Object as an_object}
@@ -76,6 +76,7 @@ pub record IsSound (r : Reader) : Type 0 where
   pub depth : r.depth ≡ length (lists_of r)
   pub room : r.depth ≤ most_levels
   pub keeps : PlaceKeeps r.place r.number.items (lists_of r) (awaits_value (building_of r.builder))
+  pub content : awaits_content (building_of r.builder) ≡ false
 
 -- the bytes w lead from one state to another, and complete the events `out`: at each limit from the reader's on
 abbrev pub LeadsTo : State → List ℕ → List NodeEvent → State → Type 0

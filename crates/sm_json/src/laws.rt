@@ -1,15 +1,20 @@
 // Laws of texts and of what is written, each the contract of a function whose body is empty.
 // What reads a written text back stands on them.
-ghost use Rattle.sm_json.specs.Laws.{WrittenIsText, WrittenSpells, WrittenTextSpells, EscapesAreMeant, OneReading, OneRefusal};
+ghost use Rattle.sm_json.specs.Laws.{WrittenIsText, WrittenSpells, WrittenIsRead, WrittenTextSpells, EscapesAreMeant, OneReading, OneAnswer};
 
 /// What is written for a tree is a JSON text of that tree (RFC 8259).
 pub fn written_is_text()
     ensures { WrittenIsText }
 {}
 
-/// The written text of a tree begins with a spelling of it and ends with it, whatever follows.
+/// What is written for a tree spells it in front of whatever follows.
 pub fn written_spells()
     ensures { WrittenSpells }
+{}
+
+/// What is written for a tree of at most 100 levels is read as that tree, and as no other, and isn't refused.
+pub fn written_is_read()
+    ensures { WrittenIsRead }
 {}
 
 /// The written text of a string is a string of RFC 8259, section 7, for every text in UTF-8.
@@ -27,8 +32,8 @@ pub fn one_reading()
     ensures { OneReading }
 {}
 
-/// Bytes are read as one tree, or refused by one word at one place: what `read_tree` answers is determined, but
-/// for want of memory.
-pub fn one_refusal()
-    ensures { OneRefusal }
+/// Bytes are read as one tree at most, or refused by one word at one place, and never both: what `read_tree` answers
+/// is determined, but for want of memory.
+pub fn one_answer()
+    ensures { OneAnswer }
 {}

@@ -101,7 +101,8 @@ fn more_pairs_len(pairs: &[(Text, Tree)]) -> u64
     len.saturating_add(1)
 }
 
-/// How many bytes `write_tree` writes for a tree, or `u64::MAX` where they are more. No memory.
+/// How many bytes `write_tree` writes for a tree, or `u64::MAX` where they are more. A byte string, a tag or an
+/// opaque leaf, which JSON doesn't have, counts nothing. No memory.
 #[cycle(lengths)]
 pub fn encoded_len(tree: &Tree) -> u64
     ensures length { result ≡ length_word (length (written (node_of tree.now))) }

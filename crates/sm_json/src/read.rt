@@ -140,8 +140,8 @@ fn moved(refusal: SyntaxRefusal, by: usize) -> SyntaxRefusal
 }
 
 /// The tree that the bytes spell as a JSON text (RFC 8259) of at most 100 levels. White space may stand
-/// round tokens; a byte order mark and a lone surrogate escape are refused. An integer text that 64 bits
-/// hold is a `Tree::Int`, and `-0` is 0; any other number is a `Tree::Number` with its text.
+/// round tokens; a byte order mark and a lone surrogate escape are refused. An integer text that an `i64`
+/// holds is a `Tree::Int`, and `-0` is 0; any other number is a `Tree::Number` with its text.
 /// What is read can be written again.
 ///
 /// # Errors
@@ -149,7 +149,7 @@ fn moved(refusal: SyntaxRefusal, by: usize) -> SyntaxRefusal
 /// Places count bytes from 0, and the least place decides. `Bad(at)`: the bytes before the place begin a text
 /// of at most 100 levels, and with the byte at it no text goes on. `TooDeep(at)`: with the byte at the place,
 /// which opens level 101, only deeper texts go on. `Ended`: all the bytes begin a text of at most 100 levels,
-/// and are none. `NoMemory`.
+/// and are none. `NoMemory`: the allocator refused the memory that the tree needs.
 pub fn read_tree(alloc: Global, bytes: &[u8]) -> Result<Tree, SyntaxRefusal>
     ensures text { ReadsTree bytes.now result }
     ensures json { IfOk result (λ tree. IsJson (node_of tree)) }

@@ -1,11 +1,10 @@
 -- What each call of a builder adds to the events that it has taken, over the data of Building alone.
 use Rattle.std.proofs.Common.{◌≡◌, ℕ, true, false, List, [], ◌∷◌, ◌++◌, refl, ap, sym, ◌∙◌, append_assoc, append-nil, None, Some}
-use Rattle.std.proofs.Common.{◌==◌, length, arith}
-use Rattle.std.proofs.lemmas.Bool.Decides.{nat_tests}
 use Rattle.sm_tree.specs.Node.{Node, tag, nodes_of, members_of}
 use Rattle.sm_tree.specs.Events.{NodeEvent, start_list, start_object, end_list, end_object, key_event, tag_event, events, entries_events, pairs_events}
-use Rattle.sm_tree.specs.Building.{Inner, in_list, in_object, in_pair, Around, around_list, around_object, Building, nothing, whole, within, tagged, tag_events, each_events, each_pair_events, inner_events, around_events, outer_events, so_far, inner_kind, kinds, inner_awaits, awaits_value, IsIn}
-use Rattle.sm_tree.specs.BuilderSteps.{with_tree, with_tag, settled, may_end, ended, back_inside, after_value, after_tag, after_end}
+use Rattle.sm_tree.specs.Building.{Inner, in_list, in_object, in_pair, Around, around_list, around_object, Building, nothing, whole, within, tagged, tag_events, each_events, each_pair_events, inner_events, around_events, outer_events, so_far, inner_kind, kinds, inner_awaits, awaits_value, is_tagged, inner_awaits_content, awaits_content, IsIn}
+use Rattle.sm_tree.specs.BuilderSteps.{with_tree, with_tag, ended, back_inside, after_value, after_tag, after_end}
+use Rattle.sm_tree.specs.declared.build.OpenKind.{OpenKind}
 use Rattle.sm_tree.specs.declared.build.OpenKind.TheVariants.{List as a_list, Object as an_object}
 use Rattle.sm_tree.proofs.Events.{events_append}
 
@@ -150,16 +149,17 @@ end_taken ts i (a ∷ outer) may =
     ∙ sym (append_assoc (outer_events outer ++ around_events a) (inner_events i) (end_of i ∷ [])))
     ∙ sym (append_assoc (tag_events ts) ((outer_events outer ++ around_events a) ++ inner_events i) (end_of i ∷ []))
 
-none_left : (ts : List ℕ) → (length ts == 0) ≡ true → ts ≡ []
+-- where no tag awaits its content, none is left
+none_left : (ts : List ℕ) → is_tagged ts ≡ false → ts ≡ []
 none_left [] e = refl
-none_left (t ∷ ts) e = absurd (grind (arith, nat_tests))
+none_left (t ∷ ts) e = absurd cc
 
-pub end_list_taken : (b : Building) → IsIn a_list (kinds b) → may_end b ≡ true → so_far (after_end b) ≡ so_far b ++ (end_list ∷ [])
-end_list_taken (nothing ts) is_in may = absurd is_in
-end_list_taken (whole n) is_in may = absurd is_in
-end_list_taken (within ts (in_list ns us) outer) is_in may = end_taken ts (in_list ns us) outer (none_left us may)
-end_list_taken (within ts (in_object ms) outer) is_in may = absurd cc
-end_list_taken (within ts (in_pair ms k us) outer) is_in may = absurd cc
+pub end_list_taken : (b : Building) → IsIn a_list (kinds b) → awaits_content b ≡ false → so_far (after_end b) ≡ so_far b ++ (end_list ∷ [])
+end_list_taken (nothing ts) is_in settled = absurd is_in
+end_list_taken (whole n) is_in settled = absurd is_in
+end_list_taken (within ts (in_list ns us) outer) is_in settled = end_taken ts (in_list ns us) outer (none_left us settled)
+end_list_taken (within ts (in_object ms) outer) is_in settled = absurd cc
+end_list_taken (within ts (in_pair ms k us) outer) is_in settled = absurd cc
 
 pub end_object_taken : (b : Building) → IsIn an_object (kinds b) → awaits_value b ≡ false → so_far (after_end b) ≡ so_far b ++ (end_object ∷ [])
 end_object_taken (nothing ts) is_in unnamed = absurd is_in
@@ -167,3 +167,24 @@ end_object_taken (whole n) is_in unnamed = absurd is_in
 end_object_taken (within ts (in_list ns us) outer) is_in unnamed = absurd cc
 end_object_taken (within ts (in_object ms) outer) is_in unnamed = end_taken ts (in_object ms) outer tt
 end_object_taken (within ts (in_pair ms k us) outer) is_in unnamed = absurd cc
+
+-- a tag awaits its content behind it, and nowhere else
+pub is_tagged_more : (ts : List ℕ) (t : ℕ) → is_tagged (ts ++ t ∷ []) ≡ true
+is_tagged_more [] t = refl
+is_tagged_more (k ∷ ts) t = refl
+
+pub with_tag_content : (i : Inner) (t : ℕ) → inner_awaits i ≡ true → inner_awaits_content (with_tag t i) ≡ true
+with_tag_content (in_list ns ts) t awaits = is_tagged_more ts t
+with_tag_content (in_object ms) t awaits = absurd cc
+with_tag_content (in_pair ms k ts) t awaits = is_tagged_more ts t
+
+pub with_tree_content : (i : Inner) (n : Node) → inner_awaits_content (with_tree n i) ≡ false
+with_tree_content (in_list ns ts) n = refl
+with_tree_content (in_object ms) n = refl
+with_tree_content (in_pair ms k ts) n = refl
+
+pub end_content : (b : Building) (k : OpenKind) → IsIn k (kinds b) → awaits_content (after_end b) ≡ false
+end_content (nothing ts) k is_in = absurd is_in
+end_content (whole n) k is_in = refl
+end_content (within ts i []) k is_in = refl
+end_content (within ts i (a ∷ outer)) k is_in = with_tree_content (back_inside a) (ended i)

@@ -1,6 +1,6 @@
 -- What a builder's parts do at an event, by cases on what is open. The private methods of TreeBuilder
 -- cite these words; what the public calls promise is in Building.
-use Rattle.std.specs.Prelude.{ℕ, Bool, true, ◌==◌, length, List, [], ◌∷◌, ◌++◌}
+use Rattle.std.specs.Prelude.{ℕ, List, [], ◌∷◌, ◌++◌}
 use Rattle.sm_tree.specs.Node.{Node, list, object, nodes_of, members_of}
 use Rattle.sm_tree.specs.Building.{Inner, in_list, in_object, in_pair, Around, around_list, around_object, Building, nothing, whole, within, tagged}
 
@@ -15,17 +15,6 @@ abbrev pub with_tag : ℕ → Inner → Inner
 with_tag t (in_list ns ts) = in_list ns (ts ++ t ∷ [])
 with_tag t (in_object ms) = in_object ms
 with_tag t (in_pair ms k ts) = in_pair ms k (ts ++ t ∷ [])
-
--- no tag awaits its value in a list
-abbrev pub settled : Inner → Bool
-settled (in_list ns ts) = length ts == 0
-settled (in_object ms) = true
-settled (in_pair ms k ts) = true
-
-abbrev pub may_end : Building → Bool
-may_end (nothing ts) = true
-may_end (whole n) = true
-may_end (within ts inner outer) = settled inner
 
 -- the tree of a list or an object that ends
 abbrev pub ended : Inner → Node

@@ -12,14 +12,15 @@ use Rattle.sm_tree.specs.declared.build.State.{State}
 use Rattle.sm_tree.specs.declared.build.State.TheVariants.{Empty, Whole, Within}
 use Rattle.sm_tree.specs.declared.build.TreeBuilder.{TreeBuilder}
 
+-- the room that is made where the first entry comes isn't seen
 abbrev pub inner_of : Inner → building.Inner
-inner_of (inner_list items tags) = in_list (nodes_view items.items) tags.items
-inner_of (inner_object pairs None) = in_object (members_view pairs.items)
-inner_of (inner_object pairs (Some pending)) = in_pair (members_view pairs.items) pending.name pending.tags.items
+inner_of (inner_list items tags room) = in_list (nodes_view items.items) tags.items
+inner_of (inner_object pairs None room) = in_object (members_view pairs.items)
+inner_of (inner_object pairs (Some pending) room) = in_pair (members_view pairs.items) pending.name pending.tags.items
 
 abbrev pub around_of : Around → building.Around
-around_of (outer_list items tags) = around_list (nodes_view items.items) tags.items
-around_of (outer_object pairs pending) = around_object (members_view pairs.items) pending.name pending.tags.items
+around_of (outer_list items tags room) = around_list (nodes_view items.items) tags.items
+around_of (outer_object pairs pending room) = around_object (members_view pairs.items) pending.name pending.tags.items
 
 -- the vector of what is around holds the outermost first
 abbrev pub outer_of : Open → List building.Around

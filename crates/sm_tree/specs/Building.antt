@@ -1,6 +1,6 @@
 -- What a tree builder holds between two events, without memory: what is open, and the entries and pairs
 -- of it so far. The contracts of TreeBuilder cite it, and a reader that calls one keeps its list of what
--- is open and its place next to `kinds` and `awaits_value`.
+-- is open and its place next to `kinds`, `awaits_value` and `awaits_content`.
 use Rattle.std.specs.Prelude.{◌≡◌, ℕ, Bool, true, false, List, [], ◌∷◌, ◌++◌, map, Option, None, Some}
 use Rattle.sm_tree.specs.Node.{Node, tag}
 use Rattle.sm_tree.specs.Events.{NodeEvent, events, start_list, start_object, key_event, tag_event}
@@ -94,6 +94,21 @@ abbrev pub awaits_value : Building → Bool
 awaits_value (nothing ts) = true
 awaits_value (whole n) = false
 awaits_value (within ts inner outer) = inner_awaits inner
+
+-- a tag has come, and its content hasn't begun
+abbrev pub is_tagged : List ℕ → Bool
+is_tagged [] = false
+is_tagged (t ∷ ts) = true
+
+abbrev pub inner_awaits_content : Inner → Bool
+inner_awaits_content (in_list ns ts) = is_tagged ts
+inner_awaits_content (in_object ms) = false
+inner_awaits_content (in_pair ms k ts) = is_tagged ts
+
+abbrev pub awaits_content : Building → Bool
+awaits_content (nothing ts) = is_tagged ts
+awaits_content (whole n) = false
+awaits_content (within ts inner outer) = inner_awaits_content inner
 
 -- whether behind a tree another may come at once, where these are open: in a list alone
 abbrev pub goes_on : List OpenKind → Bool

@@ -8,6 +8,7 @@ pub mod NumberTail
 pub mod Escapes
 pub mod Json
 pub mod Events
+pub mod TextView
 pub mod View
 pub mod Building
 pub mod BuilderSteps

@@ -1,10 +1,10 @@
 // What makes a tree from its events, one call an event. The readers of JSON and CBOR stand on it.
 // Contracts see a builder as specs/Building.antt says.
-ghost use Rattle.std.specs.Prelude.{◌≡◌, ◌++◌, ◌∷◌, [], List, IfOk, OnOk, true, false, Some, None};
+ghost use Rattle.std.specs.Prelude.{◌≡◌, ◌++◌, ◌∷◌, [], List, min, max, IfOk, OnOk, true, false, Some, None};
 ghost use Rattle.sm_tree.specs.View.{node_of};
 ghost use Rattle.sm_tree.specs.Events.{events, start_list as list_starts, start_object as object_starts, end_list as list_ends, end_object as object_ends, key_event, tag_event};
-ghost use Rattle.sm_tree.specs.Building.{so_far, kinds, awaits_value, inner_awaits, goes_on, first_kind, IsIn, tagged};
-ghost use Rattle.sm_tree.specs.BuilderSteps.{with_tree, with_tag, settled, may_end, ended, put_around, back_inside, after_tag, after_start, after_end};
+ghost use Rattle.sm_tree.specs.Building.{so_far, kinds, awaits_value, awaits_content, inner_awaits, goes_on, first_kind, IsIn, tagged};
+ghost use Rattle.sm_tree.specs.BuilderSteps.{with_tree, with_tag, ended, put_around, back_inside, after_tag, after_start, after_end};
 ghost use Rattle.sm_tree.specs.BuilderView.{inner_of, around_of, open_of, building_of};
 
 use crate::NoMemory;
@@ -12,6 +12,10 @@ use crate::text::Text;
 use crate::tree::{Items, Pairs, Tree};
 use std::alloc::Global;
 use std::mem;
+
+/// The most entries or pairs that room is made for where the first comes: as many as an empty vector would take by
+/// itself.
+pub const FIRST_ROOM: usize = 4;
 
 /// What is open at a place of a tree.
 #[derive(Debug, Clone, Copy, PartialEq, Eq, Drop)]
@@ -57,17 +61,24 @@ struct Pending {
 /// The innermost list or object.
 #[derive(Drop)]
 enum Inner {
-    /// The entries so far, and the tags that have come of the next one, the outermost first.
-    List(Vec<Tree>, Vec<u64>),
-    /// The pairs so far, and the name whose tree is to come.
-    Object(Vec<(Text, Tree)>, Option<Pending>),
+    /// The entries so far, the tags that have come of the next one, the outermost first, and the first room.
+    List(Vec<Tree>, Vec<u64>, u8),
+    /// The pairs so far, the name whose tree is to come, and the first room.
+    Object(Vec<(Text, Tree)>, Option<Pending>, u8),
 }
 
 /// A list or an object around it. What is open becomes its next entry, or the tree of the name, in its tags.
 #[derive(Drop)]
 enum Around {
-    List(Vec<Tree>, Vec<u64>),
-    Object(Vec<(Text, Tree)>, Pending),
+    List(Vec<Tree>, Vec<u64>, u8),
+    Object(Vec<(Text, Tree)>, Pending, u8),
+}
+
+// The room for entries or pairs that is made where the first comes, for a caller that expects so many.
+fn first_room(expected: usize) -> u8
+    ensures { result ≡ max 1 (min expected 4) }
+{
+    expected.clamp(1, FIRST_ROOM) as u8
 }
 
 // A tree in tags, the outermost first, which are used up.
@@ -75,6 +86,9 @@ fn in_tags(alloc: Global, tags: &mut Vec<u64>, tree: Tree) -> Result<Tree, NoMem
     ensures tree { IfOk result (λ whole. node_of whole ≡ tagged tags.old.items (node_of tree)) }
     ensures none { OnOk result (tags.new.items ≡ []) }
 {
+    if tags.is_empty() {
+        return Ok(tree);
+    }
     let mut tree = tree;
     while let Some(number) = tags.pop() {
         tree = Tree::Tag(number, Box::new(alloc, tree)?);
@@ -89,16 +103,22 @@ impl Inner {
         ensures { OnOk result (inner_of self.new ≡ with_tree (node_of tree) (inner_of self.old)) }
     {
         match self {
-            Inner::List(items, tags) => {
+            Inner::List(items, tags, room) => {
                 let whole = in_tags(alloc, tags, tree)?;
+                if items.is_empty() {
+                    items.reserve_exact(usize::from(*room))?;
+                }
                 match items.push(whole) {
                     Ok(()) => Ok(()),
                     Err(_) => Err(NoMemory),
                 }
             }
-            Inner::Object(pairs, pending) => match pending.take() {
+            Inner::Object(pairs, pending, room) => match pending.take() {
                 Some(Pending { name, mut tags }) => {
                     let whole = in_tags(alloc, &mut tags, tree)?;
+                    if pairs.is_empty() {
+                        pairs.reserve_exact(usize::from(*room))?;
+                    }
                     match pairs.push((name, whole)) {
                         Ok(()) => Ok(()),
                         Err(_) => Err(NoMemory),
@@ -115,25 +135,15 @@ impl Inner {
         ensures { OnOk result (inner_of self.new ≡ with_tag number (inner_of self.old)) }
     {
         match self {
-            Inner::List(_, tags) => match tags.push(number) {
+            Inner::List(_, tags, _) => match tags.push(number) {
                 Ok(()) => Ok(()),
                 Err(_) => Err(NoMemory),
             },
-            Inner::Object(_, Some(pending)) => match pending.tags.push(number) {
+            Inner::Object(_, Some(pending), _) => match pending.tags.push(number) {
                 Ok(()) => Ok(()),
                 Err(_) => Err(NoMemory),
             },
-            Inner::Object(_, None) => unreachable!(),
-        }
-    }
-
-    // Whether it may end: no tag of a next entry awaits its value.
-    fn is_settled(&self) -> bool
-        ensures { result ≡ settled (inner_of self.now) }
-    {
-        match self {
-            Inner::List(_, tags) => tags.is_empty(),
-            Inner::Object(_, _) => true,
+            Inner::Object(_, None, _) => unreachable!(),
         }
     }
 
@@ -142,8 +152,8 @@ impl Inner {
         ensures { node_of result ≡ ended (inner_of self) }
     {
         match self {
-            Inner::List(items, _) => Tree::List(Items::new(items)),
-            Inner::Object(pairs, _) => Tree::Object(Pairs::new(pairs)),
+            Inner::List(items, _, _) => Tree::List(Items::new(items)),
+            Inner::Object(pairs, _, _) => Tree::Object(Pairs::new(pairs)),
         }
     }
 
@@ -153,9 +163,9 @@ impl Inner {
         ensures { around_of result ≡ put_around (inner_of self) }
     {
         match self {
-            Inner::List(items, tags) => Around::List(items, tags),
-            Inner::Object(pairs, pending) => match pending {
-                Some(pending) => Around::Object(pairs, pending),
+            Inner::List(items, tags, room) => Around::List(items, tags, room),
+            Inner::Object(pairs, pending, room) => match pending {
+                Some(pending) => Around::Object(pairs, pending, room),
                 None => unreachable!(),
             },
         }
@@ -168,8 +178,8 @@ impl Around {
         ensures { inner_of result ≡ back_inside (around_of self) }
     {
         match self {
-            Around::List(items, tags) => Inner::List(items, tags),
-            Around::Object(pairs, pending) => Inner::Object(pairs, Some(pending)),
+            Around::List(items, tags, room) => Inner::List(items, tags, room),
+            Around::Object(pairs, pending, room) => Inner::Object(pairs, Some(pending), room),
         }
     }
 }
@@ -194,6 +204,7 @@ impl TreeBuilder {
         ensures taken { so_far (building_of result) ≡ [] }
         ensures kinds { kinds (building_of result) ≡ [] }
         ensures awaits { awaits_value (building_of result) ≡ true }
+        ensures content { awaits_content (building_of result) ≡ false }
     {
         TreeBuilder {
             state: State::Empty(Vec::new(alloc)),
@@ -220,27 +231,22 @@ impl TreeBuilder {
 
     // Ends the innermost list or object, and gives it to what is around it.
     fn end(&mut self) -> Result<(), NoMemory>
-        ensures { OnOk result ((building_of self.new ≡ after_end (building_of self.old)) × (may_end (building_of self.old) ≡ true)) }
+        ensures { OnOk result (building_of self.new ≡ after_end (building_of self.old)) }
     {
         match &mut self.state {
-            State::Within(open) => {
-                if !open.inner.is_settled() {
-                    return Err(NoMemory);
+            State::Within(open) => match open.outer.pop() {
+                Some(around) => {
+                    let inner = mem::replace(&mut open.inner, around.into_inner());
+                    open.inner.put(self.alloc, inner.into_tree())
                 }
-                match open.outer.pop() {
-                    Some(around) => {
-                        let inner = mem::replace(&mut open.inner, around.into_inner());
-                        open.inner.put(self.alloc, inner.into_tree())
-                    }
-                    None => {
-                        let empty = Inner::List(Vec::new(self.alloc), Vec::new(self.alloc));
-                        let inner = mem::replace(&mut open.inner, empty);
-                        let tree = in_tags(self.alloc, &mut open.tags, inner.into_tree())?;
-                        self.state = State::Whole(tree);
-                        Ok(())
-                    }
+                None => {
+                    let empty = Inner::List(Vec::new(self.alloc), Vec::new(self.alloc), 1);
+                    let inner = mem::replace(&mut open.inner, empty);
+                    let tree = in_tags(self.alloc, &mut open.tags, inner.into_tree())?;
+                    self.state = State::Whole(tree);
+                    Ok(())
                 }
-            }
+            },
             State::Empty(_) | State::Whole(_) => Ok(()),
         }
     }
@@ -251,8 +257,8 @@ impl TreeBuilder {
     {
         match &self.state {
             State::Within(open) => match &open.inner {
-                Inner::List(_, _) => Some(OpenKind::List),
-                Inner::Object(_, _) => Some(OpenKind::Object),
+                Inner::List(_, _, _) => Some(OpenKind::List),
+                Inner::Object(_, _, _) => Some(OpenKind::Object),
             },
             State::Empty(_) | State::Whole(_) => None,
         }
@@ -265,6 +271,7 @@ impl TreeBuilder {
         ensures taken { OnOk result (so_far (building_of self.new) ≡ so_far (building_of self.old) ++ (tag_event number ∷ [])) }
         ensures kinds { OnOk result (kinds (building_of self.new) ≡ kinds (building_of self.old)) }
         ensures awaits { OnOk result (awaits_value (building_of self.new) ≡ true) }
+        ensures content { OnOk result (awaits_content (building_of self.new) ≡ true) }
     {
         match &mut self.state {
             State::Empty(tags) => match tags.push(number) {
@@ -282,6 +289,7 @@ impl TreeBuilder {
         ensures taken { OnOk result (so_far (building_of self.new) ≡ so_far (building_of self.old) ++ events (node_of tree) []) }
         ensures kinds { OnOk result (kinds (building_of self.new) ≡ kinds (building_of self.old)) }
         ensures awaits { OnOk result (awaits_value (building_of self.new) ≡ goes_on (kinds (building_of self.new))) }
+        ensures content { OnOk result (awaits_content (building_of self.new) ≡ false) }
     {
         match &mut self.state {
             State::Empty(tags) => {
@@ -301,46 +309,58 @@ impl TreeBuilder {
         ensures taken { so_far (building_of self.new) ≡ so_far (building_of self.old) ++ (key_event name ∷ []) }
         ensures kinds { kinds (building_of self.new) ≡ kinds (building_of self.old) }
         ensures awaits { awaits_value (building_of self.new) ≡ true }
+        ensures content { awaits_content (building_of self.new) ≡ false }
     {
         match &mut self.state {
             State::Within(open) => match &mut open.inner {
-                Inner::Object(_, pending) => {
+                Inner::Object(_, pending, _) => {
                     let tags = Vec::new(self.alloc);
                     *pending = Some(Pending { name, tags });
                 }
-                Inner::List(_, _) => unreachable!(),
+                Inner::List(_, _, _) => unreachable!(),
             },
             State::Empty(_) | State::Whole(_) => unreachable!(),
         }
     }
 
     /// Takes the opener of a list. `NoMemory` where what is open finds no room.
-    pub fn start_list(&mut self) -> Result<(), NoMemory>
+    ///
+    /// `expected` is how many entries may come: where the first comes, room is made for so many, but for one at least
+    /// and `FIRST_ROOM` at most. Where more come than room was made for, the list grows as a vector does.
+    pub fn start_list(&mut self, expected: usize) -> Result<(), NoMemory>
         requires { awaits_value (building_of self.old) ≡ true }
         ensures taken { OnOk result (so_far (building_of self.new) ≡ so_far (building_of self.old) ++ (list_starts None ∷ [])) }
         ensures kinds { OnOk result (kinds (building_of self.new) ≡ OpenKind.List ∷ kinds (building_of self.old)) }
         ensures awaits { OnOk result (awaits_value (building_of self.new) ≡ true) }
+        ensures content { OnOk result (awaits_content (building_of self.new) ≡ false) }
     {
-        self.start(Inner::List(Vec::new(self.alloc), Vec::new(self.alloc)))
+        let (items, tags) = (Vec::new(self.alloc), Vec::new(self.alloc));
+        self.start(Inner::List(items, tags, first_room(expected)))
     }
 
     /// Takes the opener of an object. `NoMemory` where what is open finds no room.
-    pub fn start_object(&mut self) -> Result<(), NoMemory>
+    ///
+    /// `expected` is how many pairs may come: where the first comes, room is made for so many, but for one at least
+    /// and `FIRST_ROOM` at most. Where more come than room was made for, the object grows as a vector does.
+    pub fn start_object(&mut self, expected: usize) -> Result<(), NoMemory>
         requires { awaits_value (building_of self.old) ≡ true }
         ensures taken { OnOk result (so_far (building_of self.new) ≡ so_far (building_of self.old) ++ (object_starts None ∷ [])) }
         ensures kinds { OnOk result (kinds (building_of self.new) ≡ OpenKind.Object ∷ kinds (building_of self.old)) }
         ensures awaits { OnOk result (awaits_value (building_of self.new) ≡ false) }
+        ensures content { OnOk result (awaits_content (building_of self.new) ≡ false) }
     {
-        self.start(Inner::Object(Vec::new(self.alloc), None))
+        self.start(Inner::Object(Vec::new(self.alloc), None, first_room(expected)))
     }
 
-    /// Takes the end of the innermost list. `NoMemory` where what is around it has no room for it, and where a tag in
-    /// the list awaits its value.
+    /// Takes the end of the innermost list, in which no tag awaits its content. `NoMemory` where what is around it
+    /// has no room for it.
     pub fn end_list(&mut self) -> Result<(), NoMemory>
-        requires { IsIn OpenKind.List (kinds (building_of self.old)) }
+        requires innermost { IsIn OpenKind.List (kinds (building_of self.old)) }
+        requires content { awaits_content (building_of self.old) ≡ false }
         ensures taken { OnOk result (so_far (building_of self.new) ≡ so_far (building_of self.old) ++ (list_ends ∷ [])) }
         ensures kinds { OnOk result (kinds (building_of self.old) ≡ OpenKind.List ∷ kinds (building_of self.new)) }
         ensures awaits { OnOk result (awaits_value (building_of self.new) ≡ goes_on (kinds (building_of self.new))) }
+        ensures content { OnOk result (awaits_content (building_of self.new) ≡ false) }
     {
         self.end()
     }
@@ -352,6 +372,7 @@ impl TreeBuilder {
         ensures taken { OnOk result (so_far (building_of self.new) ≡ so_far (building_of self.old) ++ (object_ends ∷ [])) }
         ensures kinds { OnOk result (kinds (building_of self.old) ≡ OpenKind.Object ∷ kinds (building_of self.new)) }
         ensures awaits { OnOk result (awaits_value (building_of self.new) ≡ goes_on (kinds (building_of self.new))) }
+        ensures content { OnOk result (awaits_content (building_of self.new) ≡ false) }
     {
         self.end()
     }
@@ -370,127 +391,4 @@ impl TreeBuilder {
 }
 
 #[cfg(test)]
-mod tests {
-    use super::*;
-    use std::test::Fail;
-
-    // A tree in one tag.
-    fn tagged(alloc: Global, number: u64, tree: Tree) -> Result<Tree, Fail> {
-        Ok(Tree::Tag(number, Box::new(alloc, tree)?))
-    }
-
-    // 7(8([9(null), {"a": 1([])}]))
-    #[test]
-    fn tags_go_round_what_follows(rt: HostRuntime) -> Result<(), Fail> {
-        let alloc = rt.alloc();
-        let mut builder = TreeBuilder::new(alloc);
-        builder.tag(7)?;
-        builder.tag(8)?;
-        builder.start_list()?;
-        builder.tag(9)?;
-        builder.value(Tree::Null)?;
-        builder.start_object()?;
-        builder.key(text(alloc, "a")?);
-        builder.tag(1)?;
-        builder.start_list()?;
-        builder.end_list()?;
-        builder.end_object()?;
-        builder.end_list()?;
-        let tree = builder.finish();
-
-        let empty = tagged(alloc, 1, Tree::List(Items::new(Vec::new(alloc))))?;
-        let pairs = vec![in alloc; (text(alloc, "a")?, empty)]?;
-        let null = tagged(alloc, 9, Tree::Null)?;
-        let entries = vec![in alloc; null, Tree::Object(Pairs::new(pairs))]?;
-        let list = tagged(alloc, 8, Tree::List(Items::new(entries)))?;
-        assert!(rt; tree == tagged(alloc, 7, list)?);
-        Ok(())
-    }
-
-    #[test]
-    fn list_ends_with_no_tag_open(rt: HostRuntime) -> Result<(), Fail> {
-        let mut builder = TreeBuilder::new(rt.alloc());
-        builder.start_list()?;
-        builder.tag(1)?;
-        assert!(rt; builder.end_list().is_err());
-        Ok(())
-    }
-
-    fn text(alloc: Global, text: &str) -> Result<Text, NoMemory> {
-        Text::copy(alloc, text)
-    }
-
-    // {"a":[1,[true],null],"":{"b":0},"a":[]}
-    #[test]
-    fn nested_stream_makes_its_tree(rt: HostRuntime) -> Result<(), Fail> {
-        let alloc = rt.alloc();
-        let mut builder = TreeBuilder::new(alloc);
-        builder.start_object()?;
-        builder.key(text(alloc, "a")?);
-        builder.start_list()?;
-        builder.value(Tree::Int(1))?;
-        builder.start_list()?;
-        builder.value(Tree::Bool(true))?;
-        assert_eq!(rt; builder.innermost(), Some(OpenKind::List));
-        builder.end_list()?;
-        builder.value(Tree::Null)?;
-        builder.end_list()?;
-        builder.key(text(alloc, "")?);
-        builder.start_object()?;
-        builder.key(text(alloc, "b")?);
-        builder.value(Tree::Int(0))?;
-        builder.end_object()?;
-        assert_eq!(rt; builder.innermost(), Some(OpenKind::Object));
-        builder.key(text(alloc, "a")?);
-        builder.start_list()?;
-        builder.end_list()?;
-        builder.end_object()?;
-        assert_eq!(rt; builder.innermost(), None);
-        let tree = builder.finish();
-
-        let inside = vec![in alloc; Tree::Bool(true)]?;
-        let entries = vec![in alloc; Tree::Int(1), Tree::List(Items::new(inside)), Tree::Null]?;
-        let second = vec![in alloc; (text(alloc, "b")?, Tree::Int(0))]?;
-        let pairs = vec![in alloc;
-            (text(alloc, "a")?, Tree::List(Items::new(entries))),
-            (text(alloc, "")?, Tree::Object(Pairs::new(second))),
-            (text(alloc, "a")?, Tree::List(Items::new(Vec::new(alloc)))),
-        ]?;
-        assert!(rt; tree == Tree::Object(Pairs::new(pairs)));
-        Ok(())
-    }
-
-    #[test]
-    fn thousand_lists_nest(rt: HostRuntime) -> Result<(), Fail> {
-        let alloc = rt.alloc();
-        let mut builder = TreeBuilder::new(alloc);
-        builder.start_list()?;
-        'opened: for _ in 1..1000 {
-            builder.start_list()?;
-        }
-        'ended: for _ in 0..1000 {
-            match builder.innermost() {
-                Some(OpenKind::List) => builder.end_list()?,
-                Some(OpenKind::Object) => {}
-                None => {}
-            }
-        }
-        assert_eq!(rt; builder.innermost(), None);
-        let mut tree = builder.finish();
-        for _ in 1..1000 {
-            tree = only_entry(tree);
-        }
-        assert!(rt; tree == Tree::List(Items::new(Vec::new(alloc))));
-        Ok(())
-    }
-
-    fn only_entry(tree: Tree) -> Tree {
-        match tree {
-            Tree::List(items) => match items.into_inner().pop() {
-                Some(entry) => entry,
-                None => Tree::Null,
-            },
-            other => other,
-        }
-    }
-}
+mod tests;

@@ -12,7 +12,7 @@ mod text;
 mod tree;
 mod utf8;
 
-pub use build::{OpenKind, TreeBuilder};
+pub use build::{FIRST_ROOM, OpenKind, TreeBuilder};
 pub use path::{Path, Step};
 pub use refusal::SyntaxRefusal;
 use std::alloc::{AllocError, AllocFailed};

@@ -3,21 +3,37 @@
 ghost use Rattle.std.specs.Prelude.{◌≡◌, IfOk, IsUtf8, string_bytes};
 
 use crate::NoMemory;
+use arrayvec::ArrayString;
 use std::alloc::Global;
+use std::fmt;
 use std::marker::Model;
 
-/// A text in UTF-8. Contracts see its bytes.
-#[derive(Debug, Drop)]
+// The most bytes that a text keeps in its own value. Most names have no more, and a value with room for more makes
+// each entry and pair of a tree larger.
+const SHORT: usize = 23;
+
+/// A text in UTF-8. One of at most 23 bytes may lie in the value itself. Contracts see its bytes.
+#[derive(Drop)]
 pub struct Text {
-    text: String,
+    form: Form,
+}
+
+// Where the bytes of a text are.
+#[derive(Drop)]
+enum Form {
+    // In the value itself.
+    Short(ArrayString<SHORT>),
+    // In memory of their own.
+    Long(String),
 }
 
 impl Model for Text {
-    ghost use Rattle.std.specs.Prelude.{List, ℕ, string_bytes};
+    ghost use Rattle.std.specs.Prelude.{List, ℕ};
+    ghost use Rattle.sm_tree.specs.TextView.{bytes_of};
 
     ghost Value = { List ℕ };
 
-    ghost view = { λ a. string_bytes a.text };
+    ghost view = { λ a. bytes_of a.form };
 }
 
 impl Text {
@@ -26,24 +42,21 @@ impl Text {
         ensures bytes { result ≡ string_bytes text }
         ensures utf8 { IsUtf8 result }
     {
-        Text { text }
+        Text {
+            form: Form::Long(text),
+        }
     }
 
-    /// A copy of a text.
+    /// A copy of a text. One of at most 23 bytes takes no memory, and a longer one as much as its length.
     pub fn copy(alloc: Global, text: &str) -> Result<Self, NoMemory>
         ensures bytes { IfOk result (λ copy. copy ≡ text.now) }
         ensures utf8 { IfOk result (λ copy. IsUtf8 copy) }
     {
-        let text = String::from_str(alloc, text)?;
-        Ok(Text { text })
-    }
-
-    /// The string, which keeps its memory.
-    pub fn into_inner(self) -> String
-        ensures bytes { string_bytes result ≡ self }
-        ensures utf8 { IsUtf8 self }
-    {
-        self.text
+        let form = match ArrayString::from(text) {
+            Ok(short) => Form::Short(short),
+            Err(_) => Form::Long(String::from_str(alloc, text)?),
+        };
+        Ok(Text { form })
     }
 
     /// The text. No memory.
@@ -51,7 +64,18 @@ impl Text {
         ensures bytes { result.now ≡ self.now }
         ensures utf8 { IsUtf8 self.now }
     {
-        self.text.as_str()
+        match &self.form {
+            Form::Short(text) => text.as_str(),
+            Form::Long(text) => text.as_str(),
+        }
+    }
+}
+
+impl fmt::Debug for Text {
+    fn fmt<W: fmt::Write>(&self, f: &mut fmt::Formatter<W>) -> fmt::Result {
+        f.debug_struct("Text")
+            .field("text", &self.as_str())
+            .finish()
     }
 }
 
@@ -66,7 +90,7 @@ impl PartialEq for Text {
     ghost laws = { partial_equiv_from_equiv nat_list_eq_equiv };
 
     fn eq(&self, other: &Self) -> bool {
-        self.text.as_str() == other.text.as_str()
+        self.as_str() == other.as_str()
     }
 }
 
@@ -132,4 +156,46 @@ impl Eq for Bytes {
     ghost use Rattle.std.proofs.lemmas.Cmp.{nat_list_eq_equiv};
 
     ghost laws = { nat_list_eq_equiv };
+}
+
+#[cfg(test)]
+mod tests {
+    use super::*;
+    use std::test::Fail;
+
+    // Whether a text lies in its value.
+    fn is_short(text: &Text) -> bool {
+        match &text.form {
+            Form::Short(_) => true,
+            Form::Long(_) => false,
+        }
+    }
+
+    #[test]
+    fn texts_of_23_bytes_lie_in_their_value(rt: HostRuntime) -> Result<(), Fail> {
+        for (text, short) in [
+            ("", true),
+            ("1234567890123456789012", true),
+            ("12345678901234567890123", true),
+            ("123456789012345678901234", false),
+            ("éééééééééééx", true),
+            ("éééééééééééé", false),
+        ] {
+            let copy = Text::copy(rt.alloc(), text)?;
+            assert_eq!(rt; copy.as_str(), text);
+            assert_eq!(rt; is_short(&copy), short);
+        }
+        Ok(())
+    }
+
+    #[test]
+    fn texts_are_equal_by_their_bytes(rt: HostRuntime) -> Result<(), Fail> {
+        let copy = Text::copy(rt.alloc(), "a")?;
+        let kept = Text::new(String::from_str(rt.alloc(), "a")?);
+        assert!(rt; !is_short(&kept));
+        assert!(rt; copy == kept);
+        assert!(rt; copy != Text::copy(rt.alloc(), "b")?);
+        assert!(rt; copy != Text::copy(rt.alloc(), "")?);
+        Ok(())
+    }
 }

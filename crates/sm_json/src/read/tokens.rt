@@ -11,7 +11,7 @@ use super::Reader;
 use crate::place::{Literal, Place, Role};
 use crate::whitespace::{is_white, white_run};
 use sm_tree::number::Phase;
-use sm_tree::{NoMemory, OpenKind, SyntaxRefusal};
+use sm_tree::{FIRST_ROOM, NoMemory, OpenKind, SyntaxRefusal};
 
 /// The greatest number of lists and objects that may be open at one place of a text.
 const MOST_LEVELS: usize = 100;
@@ -28,7 +28,7 @@ impl Reader {
         if self.depth >= MOST_LEVELS {
             return Err(SyntaxRefusal::TooDeep(0));
         }
-        self.builder.start_list()?;
+        self.builder.start_list(FIRST_ROOM)?;
         self.depth += 1;
         self.place = Place::FirstEntry;
         Ok(())
@@ -42,7 +42,7 @@ impl Reader {
         if self.depth >= MOST_LEVELS {
             return Err(SyntaxRefusal::TooDeep(0));
         }
-        self.builder.start_object()?;
+        self.builder.start_object(FIRST_ROOM)?;
         self.depth += 1;
         self.place = Place::FirstKey;
         Ok(())

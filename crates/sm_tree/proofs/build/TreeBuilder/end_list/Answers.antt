@@ -1,12 +1,19 @@
 use Rattle.std.proofs.Common.{ap, ◌∙◌}
 use Rattle.std.proofs.lemmas.Result.{on_ok_weaker}
-use Rattle.sm_tree.specs.Building.{so_far}
+use Rattle.sm_tree.specs.Building.{so_far, awaits_content}
 use Rattle.sm_tree.specs.BuilderView.{building_of}
-use Rattle.sm_tree.proofs.Building.{end_list_taken}
+use Rattle.sm_tree.specs.declared.build.OpenKind.TheVariants.{List as a_list}
+use Rattle.sm_tree.proofs.Building.{end_list_taken, end_content}
 use Rattle.sm_tree.proofs.build.TreeBuilder.end_list.Goals as goal
 
 pub returns-clause-taken : goal.returns-clause-taken
 returns-clause-taken c =
     on_ok_weaker c.end.result
-    (λ ended. ap so_far ended.0 ∙ end_list_taken (building_of c.args.self.now) c.requires ended.1)
+    (λ ended. ap so_far ended ∙ end_list_taken (building_of c.args.self.now) c.requires.innermost c.requires.content)
+    c.end.ensures
+
+pub returns-clause-content : goal.returns-clause-content
+returns-clause-content c =
+    on_ok_weaker c.end.result
+    (λ ended. ap awaits_content ended ∙ end_content (building_of c.args.self.now) a_list c.requires.innermost)
     c.end.ensures

@@ -1,0 +1,8 @@
+-- What a Text of the code stands for: its bytes, wherever they are.
+use Rattle.std.specs.Prelude.{ℕ, List, string_bytes}
+use Rattle.sm_tree.specs.declared.text.Form.{Form}
+use Rattle.sm_tree.specs.declared.text.Form.TheVariants.{Short, Long}
+
+abbrev pub bytes_of : Form → List ℕ
+bytes_of (Short text) = text.bytes
+bytes_of (Long text) = string_bytes text
