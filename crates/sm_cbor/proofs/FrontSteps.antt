@@ -179,7 +179,7 @@ pub key_goes : (r : Reader) (b : TreeBuilder) (bs run : List ℕ) (j : Subject) 
     → Goes r [] Key (take (len + n) bs) (record r { builder = b; place = Item })
 key_goes r b bs run j n len there head is behind utf8 taken same awaits =
     goes_to r (record r { builder = b; place = Item }) Key (take (len + n) bs) (key_event run ∷ [])
-    (record { there = record { kinds_are = same ∙ there.kinds_are; room = there.room; keeps = awaits }; begun = tt })
+    (record { there = record { kinds_are = same ∙ there.kinds_are; room = there.room; keeps = awaits; settled = tt }; begun = tt })
     taken
     (λ w limit high. both_leads w limit bs run n len (state_at r Key) (state_at r (InArgument (StringHead KeyText Whole) 0 n)) (state_at r Item) (key_event run) behind
     (key_head_leads w limit bs j n len r.held.items (levels_of r) head is)

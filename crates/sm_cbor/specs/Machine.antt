@@ -5,7 +5,7 @@ use Rattle.sm_tree.specs.Syntax.{most_levels}
 use Rattle.sm_tree.specs.Events.{NodeEvent, events}
 use Rattle.sm_tree.specs.View.{node_of}
 use Rattle.sm_tree.specs.declared.tree.Tree.{Tree}
-use Rattle.sm_tree.specs.Building.{so_far, kinds, awaits_value, goes_on}
+use Rattle.sm_tree.specs.Building.{so_far, kinds, awaits_value, awaits_content, goes_on}
 use Rattle.sm_tree.specs.BuilderView.{building_of}
 use Rattle.sm_tree.specs.declared.build.OpenKind.{OpenKind}
 use Rattle.sm_tree.specs.declared.build.OpenKind.TheVariants.{List as a_list, Object as an_object}
@@ -147,11 +147,21 @@ Keeps (Argument j k v) t ls awaits = ArgumentLives j k v × (v < bound k) × Arg
 Keeps (String kind span n place) t ls awaits = (utf8.owed place ≤ n) × StringAwaits kind ls awaits × Holds kind place t
 Keeps (Chunks kind) t ls awaits = StringAwaits kind ls awaits × IsOf kind t
 
+-- behind an item no tag awaits its content
+abbrev pub Settled : Place → Bool → Type 0
+Settled Item content = Unit {0}
+Settled Key content = Unit {0}
+Settled After content = content ≡ false
+Settled (Argument j k v) content = Unit {0}
+Settled (String kind span n place) content = Unit {0}
+Settled (Chunks kind) content = Unit {0}
+
 -- what holds of a reader that stands at this place
 pub record IsAt (r : Reader) (p : Place) : Type 0 where
   pub kinds_are : kinds (building_of r.builder) ≡ kinds_of (levels_of r)
   pub room : length (levels_of r) + opens p ≤ most_levels
   pub keeps : Keeps p r.held.items (levels_of r) (awaits_value (building_of r.builder))
+  pub settled : Settled p (awaits_content (building_of r.builder))
 
 -- bytes are owed at the place, or what may come is open
 abbrev pub Begun : Place → List Level → Type 0
