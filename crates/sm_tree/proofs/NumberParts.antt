@@ -2,7 +2,7 @@
 -- The steps of the phases stand on it.
 use Rattle.std.proofs.Common.{◌≡◌, ℕ, ◌≤◌, ◌⊎◌, inl, inr, List, [], ◌∷◌, ◌++◌, refl, sym, ap, subst, ◌∙◌, arith}
 use Rattle.sm_tree.specs.Numbers.{IsDigit, AreDigits, IsMinus, IsInt, IsDigits, IsFraction, IsSign, IsExponent, IsNumber}
-use Rattle.sm_tree.specs.NumberTail.{IsLetter, Then}
+use Rattle.sm_tree.specs.NumberTail.{IsExponentMark, Then}
 
 -- two texts, the first of which may be empty: the byte belongs to the second or to the first
 split_front : (P Q : List ℕ → Type 0) (c : ℕ) (u f r : List ℕ) → c ∷ u ≡ f ++ r → P f → Q r → (P [] × Q (c ∷ u)) ⊎ Then (λ s. P (c ∷ s)) Q u
@@ -94,14 +94,14 @@ fraction_front c u (inr (ds, e, digits)) =
     ((cc), subst IsDigits rest digits)
 
 -- exp
-pub exponent_front : (c : ℕ) (u : List ℕ) → IsExponent (c ∷ u) → IsLetter c × Then IsSign IsDigits u
+pub exponent_front : (c : ℕ) (u : List ℕ) → IsExponent (c ∷ u) → IsExponentMark c × Then IsSign IsDigits u
 exponent_front c u (inl e) = absurd (cc)
 exponent_front c u (inr (d, sign, ds, e, letter, is_sign, digits)) =
     let same : d ≡ c = cc in
     let rest : u ≡ sign ++ ds = cc in
-    (subst IsLetter same letter, record { front = sign; rest = ds; parts = rest; is_front = is_sign; is_rest = digits })
+    (subst IsExponentMark same letter, record { front = sign; rest = ds; parts = rest; is_front = is_sign; is_rest = digits })
 
-pub exponent_more : (c : ℕ) (u : List ℕ) → IsLetter c → Then IsSign IsDigits u → IsExponent (c ∷ u)
+pub exponent_more : (c : ℕ) (u : List ℕ) → IsExponentMark c → Then IsSign IsDigits u → IsExponent (c ∷ u)
 exponent_more c u letter t = inr (c, t.front, t.rest, ap (λ s. c ∷ s) t.parts, letter, t.is_front, t.is_rest)
 
 -- [ minus / plus ]

@@ -5,7 +5,7 @@ use Rattle.std.specs.Prelude.{nat_le}
 use Rattle.std.proofs.lemmas.Bool.{cond-true, cond-false}
 use Rattle.std.proofs.lemmas.Bool.Decides.{nat_tests}
 use Rattle.sm_tree.specs.Numbers.{IsDigit, AreDigits, IsMinus, IsInt, IsDigits, IsFraction, IsSign, IsExponent}
-use Rattle.sm_tree.specs.NumberTail.{IsLetter, IsNumberByte, Then, Tail, Leads, Stops, IsNext}
+use Rattle.sm_tree.specs.NumberTail.{IsExponentMark, IsNumberByte, Then, Tail, Leads, Stops, IsNext}
 use Rattle.sm_tree.specs.declared.number.Phase.{Phase}
 use Rattle.sm_tree.specs.declared.number.Phase.TheVariants.{Start, Minus, Zero, Whole, Point, Fraction, Exponent, ExponentSign, ExponentDigits}
 use Rattle.sm_tree.proofs.NumberRuns.{digits_lead}
@@ -44,7 +44,7 @@ digit_test c d = grind (arith, nat_tests)
 test_digit : (c : ℕ) → is_digit c ≡ true → IsDigit c
 test_digit c e = grind (arith, nat_tests)
 
-test_letter : (c : ℕ) → is_letter c ≡ true → IsLetter c
+test_letter : (c : ℕ) → is_letter c ≡ true → IsExponentMark c
 test_letter c e = grind (arith, nat_tests)
 
 test_sign : (c : ℕ) → ((c == 43) || (c == 45)) ≡ true → (c ≡ 45) ⊎ (c ≡ 43)
@@ -96,12 +96,12 @@ from_minus c u t = begun (then_split IsInt (Then IsFraction IsExponent) c u t)
 from_exponent_letter : (c : ℕ) (u : List ℕ) → IsExponent (c ∷ u) → Goes (cond (is_letter c) (Some Exponent) None) u
 from_exponent_letter c u h = let parts = exponent_front c u h in (Exponent, letter_goes c parts.0, parts.1)
   where
-    letter_goes : (c : ℕ) → IsLetter c → cond (is_letter c) (Some Exponent) None ≡ Some Exponent
+    letter_goes : (c : ℕ) → IsExponentMark c → cond (is_letter c) (Some Exponent) None ≡ Some Exponent
     letter_goes c (inl e) = subst (λ d. cond (is_letter d) (Some Exponent) None ≡ Some Exponent) (sym e) refl
     letter_goes c (inr e) = subst (λ d. cond (is_letter d) (Some Exponent) None ≡ Some Exponent) (sym e) refl
 
 -- a letter is no point and no digit, so its arc is the one of both tables
-letter_at_zero : (c : ℕ) → IsLetter c → after_zero c ≡ cond (is_letter c) (Some Exponent) None
+letter_at_zero : (c : ℕ) → IsExponentMark c → after_zero c ≡ cond (is_letter c) (Some Exponent) None
 letter_at_zero c (inl e) = subst (λ d. after_zero d ≡ cond (is_letter d) (Some Exponent) None) (sym e) refl
 letter_at_zero c (inr e) = subst (λ d. after_zero d ≡ cond (is_letter d) (Some Exponent) None) (sym e) refl
 
@@ -119,7 +119,7 @@ from_zero c u t = begun (then_split IsFraction IsExponent c u t)
 no_digit_at_zero : (c : ℕ) (u : List ℕ) → Tail Zero (c ∷ u) → is_digit c ≡ false
 no_digit_at_zero c u t = begun (then_split IsFraction IsExponent c u t)
   where
-    letter : IsLetter c → is_digit c ≡ false
+    letter : IsExponentMark c → is_digit c ≡ false
     letter (inl e) = subst (λ d. is_digit d ≡ false) (sym e) refl
     letter (inr e) = subst (λ d. is_digit d ≡ false) (sym e) refl
 
@@ -150,7 +150,7 @@ from_point c u t = begun (then_split IsDigits IsExponent c u t)
 from_fraction : (c : ℕ) (u : List ℕ) → Tail Fraction (c ∷ u) → Goes (next_of Fraction c) u
 from_fraction c u t = begun (then_split AreDigits IsExponent c u t)
   where
-    no_digit : IsLetter c → is_digit c ≡ false
+    no_digit : IsExponentMark c → is_digit c ≡ false
     no_digit (inl e) = subst (λ d. is_digit d ≡ false) (sym e) refl
     no_digit (inr e) = subst (λ d. is_digit d ≡ false) (sym e) refl
 

@@ -15,7 +15,7 @@ use mir.Syntax.{w64}
 use Rattle.std.specs.Int.Signed.{mag}
 use mir.Val.{hbits}
 use Rattle.sm_tree.specs.Node.{Node, null, bool, int, number, text, bytes, tag, opaque, list, object}
-use Rattle.sm_tree.specs.Numbers.{AreDigits, IsMinus, IsInt, IsFraction, IsExponent, IsNumber, IsWord, NumberText}
+use Rattle.sm_tree.specs.Numbers.{AreDigits, IsMinus, IsInt, IsFraction, IsExponent, IsNumber, IsInt64, NumberText}
 use Rattle.sm_tree.specs.NumberTail.{IsNumberByte, AreNumberBytes, IsNumberStart, Then, Tail, Leads}
 use Rattle.sm_tree.specs.declared.number.Phase.{Phase}
 use Rattle.sm_tree.specs.declared.number.Phase.TheVariants.{Start, Minus, Zero, Whole, Point, Fraction, Exponent, ExponentSign, ExponentDigits}
@@ -157,10 +157,10 @@ are_digits (c ∷ cs) = both (is_below (digit_value c) 10) (are_digits cs)
     both (inr d) x = inr (λ h. d h.0)
     both (inl d) (inr ds) = inr (λ h. ds h.1)
 
-is_word : (t : List ℕ) → Decided (IsWord t)
+is_word : (t : List ℕ) → Decided (IsInt64 t)
 is_word t = all (is_below 0 (length (without_leading_sign t))) (are_digits (without_leading_sign t)) (is_below (mag (signed_digits_value 10 t)) (2 ^ hbits w64))
   where
-    all : Decided (0 < length (without_leading_sign t)) → Decided (AllDigits 10 (without_leading_sign t)) → Decided (mag (signed_digits_value 10 t) < 2 ^ hbits w64) → Decided (IsWord t)
+    all : Decided (0 < length (without_leading_sign t)) → Decided (AllDigits 10 (without_leading_sign t)) → Decided (mag (signed_digits_value 10 t) < 2 ^ hbits w64) → Decided (IsInt64 t)
     all (inl some) (inl digits) (inl fits) = inl (record { is_integer = (some, digits); in_range = record { sfits = fits } })
     all (inr none) x y = inr (λ w. none w.is_integer.0)
     all (inl some) (inr other) y = inr (λ w. other w.is_integer.1)
@@ -169,6 +169,6 @@ is_word t = all (is_below 0 (length (without_leading_sign t))) (are_digits (with
 pub number_exists : (t : List ℕ) → IsNumber t → (n : Node) × NumberText n t
 number_exists t h = by_word (is_word t)
   where
-    by_word : Decided (IsWord t) → (n : Node) × NumberText n t
+    by_word : Decided (IsInt64 t) → (n : Node) × NumberText n t
     by_word (inl word) = (int (signed_digits_value 10 t), (h, word, refl))
     by_word (inr none) = (number t, (h, none, refl))

@@ -4,7 +4,7 @@ use Rattle.std.proofs.Common.{◌≡◌, ℕ, ◌+◌, ◌-◌, ◌≤◌, ◌<�
 use Rattle.std.proofs.lemmas.Bool.{cases_order}
 use Rattle.std.proofs.lemmas.List.{take-take, take_all}
 use Rattle.sm_tree.specs.Node.{Node}
-use Rattle.sm_tree.specs.Syntax.{Format, IsRead, Begins, BeginsRead, IsNoText, IsBadAt, IsTooDeepAt, IsCutShort}
+use Rattle.sm_tree.specs.Syntax.{Format, IsRead, Begins, BeginsRead, IsUnread, IsBadAt, IsTooDeepAt, IsCutShort}
 use Rattle.sm_tree.specs.SyntaxLaws.{IsRefused, ComesTo, HasOneReading, HasOneAnswer}
 use Rattle.sm_tree.specs.declared.refusal.SyntaxRefusal.{SyntaxRefusal}
 use Rattle.sm_tree.specs.declared.refusal.SyntaxRefusal.TheVariants.{Bad, Ended, TooDeep, KeyKind, NoMemory}
@@ -55,7 +55,7 @@ one_word F bs i j bad deep =
     bad.behind (subst (λ k. Begins F (take (k + 1) bs)) (sym same) deep.goes_on)
 
 -- bytes that are refused are no text
-pub refused_no_text : (F : Format) (bs : List ℕ) (refusal : SyntaxRefusal) → IsRefused F bs refusal → IsNoText F bs
+pub refused_no_text : (F : Format) (bs : List ℕ) (refusal : SyntaxRefusal) → IsRefused F bs refusal → IsUnread F bs
 refused_no_text F bs (Bad i) h n text = none_begins F bs i (inl h) (read_begins F bs n text)
 refused_no_text F bs Ended h n text = h.no_text n text
 refused_no_text F bs (TooDeep i) h n text = none_begins F bs i (inr h) (read_begins F bs n text)

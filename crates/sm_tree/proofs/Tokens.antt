@@ -8,7 +8,7 @@ use Rattle.std.proofs.lemmas.List.{length-map}
 use Rattle.std.proofs.lemmas.Int.Digits.{length-digits_of_step}
 use Rattle.std.specs.Fmt.{decimal}
 use Rattle.std.specs.Int.Digits.{digits_of}
-use Rattle.sm_tree.specs.Pointer.{token, replaced, TokenReadsBack}
+use Rattle.sm_tree.specs.Pointer.{token, replaced, TokenReadsBack, TokenHasNoSlash}
 
 token-plain : (c : ℕ) (cs : List ℕ) → c ≢ 126 → c ≢ 47 → token (c ∷ cs) ≡ c ∷ token cs
 token-plain c cs not_tilde not_slash = grind (arith, common_steps)
@@ -90,3 +90,33 @@ read-half-read (c ∷ cs) =
 
 pub reads_back : TokenReadsBack
 reads_back name = ap (replaced 126 48 126) (half-read-token name) ∙ read-half-read name
+
+-- no byte is `/`
+abbrev NoSlash : List ℕ → Type 0
+NoSlash [] = Unit {0}
+NoSlash (c ∷ cs) = (c ≢ 47) × NoSlash cs
+
+no_slash-more : (c : ℕ) (cs : List ℕ) → c ≢ 47 → NoSlash cs → NoSlash (c ∷ cs)
+no_slash-more c cs other h = (other, h)
+
+no_slash-token : (t : List ℕ) → NoSlash (token t)
+no_slash-token [] = tt
+no_slash-token (c ∷ cs) =
+    let more : NoSlash (token cs) = no_slash-token cs in
+    let G : ℕ → Type 0 = λ x. NoSlash (token (x ∷ cs)) in
+    let tilde : G 126 = no_slash-more 126 (48 ∷ token cs) (omega arith) (no_slash-more 48 (token cs) (omega arith) more) in
+    let slash : G 47 = no_slash-more 126 (49 ∷ token cs) (omega arith) (no_slash-more 49 (token cs) (omega arith) more) in
+    elim (cases_eq c 126) [
+      | inl is ↦ subst G (sym is) tilde
+      | inr not_tilde ↦ elim (cases_eq c 47) [
+        | inl is ↦ subst G (sym is) slash
+        | inr not_slash ↦ subst NoSlash (sym (token-plain c cs not_tilde not_slash)) (no_slash-more c (token cs) not_slash more)
+      ]
+    ]
+
+slash_inside : (front back : List ℕ) → NoSlash (front ++ 47 ∷ back) → ⊥
+slash_inside [] back h = h.0 refl
+slash_inside (c ∷ front) back h = slash_inside front back h.1
+
+pub has_no_slash : TokenHasNoSlash
+has_no_slash name front back e = slash_inside front back (subst NoSlash e (no_slash-token name))

@@ -1,13 +1,13 @@
--- Which trees can be written as JSON, and which as CBOR. CBOR also spells numbers past 64 bits and opaque
--- leaves, which aren't written.
+-- Which trees can be written as JSON, and which as CBOR. CBOR also spells integers that are no `int` and
+-- opaque leaves, which aren't written.
 use Rattle.std.specs.Prelude.{ℕ, ◌<◌, ◌^◌, IsUtf8, FitsSigned, List, [], ◌∷◌}
 use Rattle.std.specs.Int.{w64}
 use Rattle.sm_tree.specs.Node.{Node, Nodes, Members, null, bool, int, number, text, bytes, tag, opaque, list, object, no_nodes, node, no_members, member}
 use Rattle.sm_tree.specs.Numbers.{NumberText}
 
 abbrev mutual
-  -- no byte string, tag or opaque leaf; each number is the text of one with a fraction, an exponent or more
-  -- than 64 bits
+  -- no byte string, tag or opaque leaf; each number is the text of one with a fraction, an exponent or a value
+  -- out of the range of 64 bits with sign
   pub IsJson : Node → Type 0
   IsJson null = Unit {0}
   IsJson (bool b) = Unit {0}

@@ -8,7 +8,8 @@ mutual
     null : Node
     bool : Bool → Node
     int : ℤ → Node
-    -- the text of a JSON number that is no `int`; in CBOR an integer past 64 bits, in decimal
+    -- the text of a JSON number that is no `int`; in CBOR an integer that a signed word of 64
+    -- bits doesn't hold, in decimal
     number : List ℕ → Node
     text : List ℕ → Node
     -- in CBOR alone: a byte string, a tag's number and content (section 3.4), and the first byte of a float

@@ -6,12 +6,12 @@ use Rattle.sm_tree.specs.declared.number.Phase.{Phase}
 use Rattle.sm_tree.specs.declared.number.Phase.TheVariants.{Start, Minus, Zero, Whole, Point, Fraction, Exponent, ExponentSign, ExponentDigits}
 
 -- the letter of an exponent, `e` or `E`
-abbrev pub IsLetter : ℕ → Type 0
-IsLetter c = (c ≡ 101) ⊎ (c ≡ 69)
+abbrev pub IsExponentMark : ℕ → Type 0
+IsExponentMark c = (c ≡ 101) ⊎ (c ≡ 69)
 
 -- a byte that stands in numbers: a digit, `-`, `+`, `.`, `e` or `E`
 abbrev pub IsNumberByte : ℕ → Type 0
-IsNumberByte c = IsDigit c ⊎ ((c ≡ 45) ⊎ ((c ≡ 43) ⊎ ((c ≡ 46) ⊎ IsLetter c)))
+IsNumberByte c = IsDigit c ⊎ ((c ≡ 45) ⊎ ((c ≡ 43) ⊎ ((c ≡ 46) ⊎ IsExponentMark c)))
 
 abbrev pub AreNumberBytes : List ℕ → Type 0
 AreNumberBytes [] = Unit {0}

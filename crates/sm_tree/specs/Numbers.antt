@@ -1,5 +1,5 @@
 -- The texts of JSON numbers (RFC 8259, section 6), and the tree that each stands for: an integer where
--- the text has no fraction and no exponent and 64 bits hold it, else the text itself.
+-- the text has no fraction and no exponent and an `i64` holds it, else the text itself.
 use Rattle.std.specs.Prelude.{◌≡◌, ℕ, ◌≤◌, ◌⊎◌, FitsSigned, List, [], ◌∷◌, ◌++◌}
 use Rattle.std.specs.Str.Parse.{IsNumeral, signed_digits_value, without_leading_sign}
 use Rattle.std.specs.Int.{w64}
@@ -51,7 +51,7 @@ pub record IsNumber (t : List ℕ) : Type 0 where
   pub is_exponent : IsExponent exponent
 
 -- of a number's text: it has no fraction and no exponent, and a signed word of 64 bits holds it
-pub record IsWord (t : List ℕ) : Type 0 where
+pub record IsInt64 (t : List ℕ) : Type 0 where
   pub is_integer : IsNumeral 10 (without_leading_sign t)
   pub in_range : FitsSigned w64 (signed_digits_value 10 t)
 
@@ -59,8 +59,8 @@ pub record IsWord (t : List ℕ) : Type 0 where
 abbrev pub NumberText : Node → List ℕ → Type 0
 NumberText null t = ⊥
 NumberText (bool b) t = ⊥
-NumberText (int z) t = IsNumber t × IsWord t × (signed_digits_value 10 t ≡ z)
-NumberText (number u) t = IsNumber t × (IsWord t → ⊥) × (t ≡ u)
+NumberText (int z) t = IsNumber t × IsInt64 t × (signed_digits_value 10 t ≡ z)
+NumberText (number u) t = IsNumber t × (IsInt64 t → ⊥) × (t ≡ u)
 NumberText (text u) t = ⊥
 NumberText (bytes u) t = ⊥
 NumberText (tag k n) t = ⊥

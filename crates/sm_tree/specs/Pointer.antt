@@ -34,3 +34,7 @@ unescaped t = replaced 126 48 126 (replaced 126 49 47 t)
 -- a token read back gives the name that it was written for
 abbrev pub TokenReadsBack : Type 0
 TokenReadsBack = (name : List ℕ) → unescaped (token name) ≡ name
+
+-- section 3: "/" stands in no token, so a pointer is cut into its tokens at each "/"
+abbrev pub TokenHasNoSlash : Type 0
+TokenHasNoSlash = (name front back : List ℕ) → token name ≡ front ++ 47 ∷ back → ⊥

@@ -53,7 +53,7 @@ abbrev mutual
   Same (tag k n) m = (content : Node) × (m ≡ tag k content) × Same n content
   Same (opaque b) m = m ≡ opaque b
   Same (list ns) m = (entries : Nodes) × (m ≡ list entries) × SameEntries ns entries
-  Same (object ps) m = (qs : Members) × (m ≡ object qs) × AllIn ps qs × ((k : List ℕ) (q : Node) → HasPair k q qs → IsIn ps k q)
+  Same (object ps) m = (qs : Members) × (m ≡ object qs) × AllIn ps qs × ((k : List ℕ) (q : Node) → HasPair k q qs → HasSamePair ps k q)
 
   -- entry by entry
   pub SameEntries : Nodes → Nodes → Type 0
@@ -65,10 +65,10 @@ abbrev mutual
   AllIn no_members qs = Unit {0}
   AllIn (member k n ps) qs = ((q : Node) × HasPair k q qs × Same n q) × AllIn ps qs
 
-  -- this name with this value is one of the object's pairs
-  pub IsIn : Members → List ℕ → Node → Type 0
-  IsIn no_members l q = ⊥
-  IsIn (member k n ps) l q = ((k ≡ l) × Same n q) ⊎ IsIn ps l q
+  -- a pair of the object has this name and a value that is the same as this one
+  pub HasSamePair : Members → List ℕ → Node → Type 0
+  HasSamePair no_members l q = ⊥
+  HasSamePair (member k n ps) l q = ((k ≡ l) × Same n q) ⊎ HasSamePair ps l q
 
 -- what equality must be, at nodes and elsewhere
 abbrev pub SameToItself : Type 0
@@ -76,6 +76,9 @@ SameToItself = (n : Node) → Same n n
 
 abbrev pub SameBothWays : Type 0
 SameBothWays = (n m : Node) → Same n m → Same m n
+
+abbrev pub SameThrough : Type 0
+SameThrough = (n m k : Node) → Same n m → Same m k → Same n k
 
 -- a name stands for one value in an object of a node
 abbrev pub OneValueAName : Type 0

@@ -1,6 +1,7 @@
 -- Where bytes stop being a text: what the readers of JSON and of CBOR refuse, and at which place. A format says
 -- which bytes are a text of which tree, whatever its levels. Every refusal is stated over texts alone, and
--- never over a reader.
+-- never over a reader. A format with a refusal of its own, as CBOR's `KeyKind`, puts that first: at its place
+-- `IsBadAt` may hold too.
 use Rattle.std.specs.Prelude.{ℕ, ◌+◌, ◌≤◌, ◌<◌, List, ◌++◌, take, length}
 use Rattle.sm_tree.specs.Node.{Node}
 use Rattle.sm_tree.specs.Levels.{levels}
@@ -26,8 +27,8 @@ abbrev pub BeginsRead : Format → List ℕ → Type 0
 BeginsRead F bs = (more : List ℕ) × (n : Node) × IsRead F n (bs ++ more)
 
 -- the bytes are no text of at most 100 levels
-abbrev pub IsNoText : Format → List ℕ → Type 0
-IsNoText F bs = (n : Node) → IsRead F n bs → ⊥
+abbrev pub IsUnread : Format → List ℕ → Type 0
+IsUnread F bs = (n : Node) → IsRead F n bs → ⊥
 
 -- `Bad`: up to this place nothing is bad, and with the byte there no text goes on
 pub record IsBadAt (F : Format) (bs : List ℕ) (at : ℕ) : Type 0 where
@@ -46,4 +47,4 @@ pub record IsTooDeepAt (F : Format) (bs : List ℕ) (at : ℕ) : Type 0 where
 -- `Ended`: no place is bad, and the bytes are no text
 pub record IsCutShort (F : Format) (bs : List ℕ) : Type 0 where
   pub begun : BeginsRead F bs
-  pub no_text : IsNoText F bs
+  pub no_text : IsUnread F bs

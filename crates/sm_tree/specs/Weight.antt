@@ -1,5 +1,5 @@
--- How many nodes a tree has, for the measures of recursions over trees: each part weighs less than the
--- whole.
+-- A measure for recursions over trees: each part weighs less than the whole. It isn't the number of nodes: each
+-- entry and each pair adds one of its own.
 use Rattle.std.specs.Prelude.{ℕ, ◌+◌}
 use Rattle.sm_tree.specs.Node.{Node, Nodes, Members, null, bool, int, number, text, bytes, tag, opaque, list, object, no_nodes, node, no_members, member}
 

@@ -1,12 +1,19 @@
 // Laws of the definitions that the contracts cite. Each is the contract of a function that does nothing.
-ghost use Rattle.sm_tree.specs.Pointer.{TokenReadsBack};
+ghost use Rattle.sm_tree.specs.Pointer.{TokenReadsBack, TokenHasNoSlash};
 ghost use Rattle.sm_tree.specs.Utf8.{RestIsUtf8};
-ghost use Rattle.sm_tree.specs.Same.{SameToItself, SameBothWays, OneValueAName};
+ghost use Rattle.sm_tree.specs.Same.{SameToItself, SameBothWays, SameThrough, OneValueAName};
+ghost use Rattle.sm_tree.specs.EventLaws.{OneTreeAStream};
 
 /// A token of a JSON Pointer, read back as RFC 6901, section 4, says, is the name that it was written for.
 #[tactic(auto, using(crate::proofs::Tokens::reads_back))]
 pub fn token_reads_back()
     ensures { TokenReadsBack }
+{}
+
+/// `/` stands in no token of a JSON Pointer (RFC 6901, section 3), so a pointer is cut into its tokens at each `/`.
+#[tactic(auto, using(crate::proofs::Tokens::has_no_slash))]
+pub fn token_has_no_slash()
+    ensures { TokenHasNoSlash }
 {}
 
 /// Each tree is the same as itself.
@@ -21,6 +28,12 @@ pub fn same_both_ways()
     ensures { SameBothWays }
 {}
 
+/// Where one tree is the same as a second, and that as a third, the first is the same as the third.
+#[tactic(auto, using(crate::proofs::Sameness::transitive))]
+pub fn same_through()
+    ensures { SameThrough }
+{}
+
 /// In an object of a node a name has one value.
 #[tactic(auto, using(crate::proofs::Sameness::one_value_each))]
 pub fn one_value_a_name()
@@ -31,4 +44,10 @@ pub fn one_value_a_name()
 #[tactic(auto, using(crate::proofs::Characters::rest_is_utf8))]
 pub fn rest_is_utf8()
     ensures { RestIsUtf8 }
+{}
+
+/// A stream of events begins with those of one tree at most, so no tree's events begin another's.
+#[tactic(auto, using(crate::proofs::Events::events_injective))]
+pub fn one_tree_a_stream()
+    ensures { OneTreeAStream }
 {}

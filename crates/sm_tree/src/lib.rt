@@ -4,7 +4,6 @@
 
 mod build;
 pub mod laws;
-pub mod laws_of_events;
 pub mod number;
 mod path;
 mod refusal;

@@ -139,7 +139,7 @@ fn number_text(number: &[u8]) -> &str
     }
 }
 
-/// The tree that the text of a number stands for: an integer that 64 bits hold, else a copy of the text.
+/// The tree that the text of a number stands for: an integer that an `i64` holds, else a copy of the text.
 #[tactic(auto, using(crate::proofs::Numbers::number_bytes))]
 pub fn number_tree(alloc: Global, number: &[u8]) -> Result<Tree, NoMemory>
     requires { IsNumber number.now }

@@ -13,9 +13,10 @@ pub enum Tree {
     Null,
     /// `true` or `false`.
     Bool(bool),
-    /// An integer that 64 bits hold.
+    /// An integer that an `i64` holds.
     Int(i64),
-    /// The text of a JSON number that is no `Int`: it has a fraction or an exponent, or is out of range.
+    /// The text of a JSON number that is no `Int`: it has a fraction or an exponent, or is out of range. In CBOR an
+    /// integer out of range, in decimal.
     Number(Text),
     /// A text.
     Text(Text),

@@ -1,6 +1,6 @@
 // Characters in UTF-8 (RFC 3629, section 4), byte by byte: what must come behind some bytes of a text. Readers that
 // take a text in pieces, or of a length that is told before it, stand on it.
-ghost use Rattle.std.specs.Prelude.{◌≡◌, ◌≤◌, ◌&&◌, nat_le, nat_lt, IsUtf8, length, take};
+ghost use Rattle.std.specs.Prelude.{◌≡◌, ℕ, ◌≤◌, ◌&&◌, nat_le, nat_lt, IsUtf8, length, take};
 ghost use Rattle.sm_tree.specs.Utf8.{behind_second as place_behind, step, owed as bytes_owed, least_second, greatest_second};
 
 use std::str::from_utf8;
@@ -86,10 +86,11 @@ impl Utf8 {
     }
 }
 
-/// How many bytes in front are whole characters.
+/// How many bytes in front are whole characters: the length of the longest front that is UTF-8.
 pub fn whole_len(bytes: &[u8]) -> usize
     ensures within { result ≤ length bytes.now }
     ensures utf8 { IsUtf8 (take result bytes.now) }
+    ensures longest { (len : ℕ) → len ≤ length bytes.now → IsUtf8 (take len bytes.now) → len ≤ result }
 {
     match from_utf8(bytes) {
         Ok(_) => bytes.len(),
