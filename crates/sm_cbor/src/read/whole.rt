@@ -75,6 +75,7 @@ impl Reader {
     }
 
     // A whole item.
+    #[inline(always)]
     pub(super) fn leaf(&mut self, tree: Tree) -> Result<(), NoMemory>
         requires { IsAt self.old Place.Item }
         ensures { OnOk result (Goes self.old (events (node_of tree) []) Place.After [] self.new) }
