@@ -5,7 +5,6 @@
 
 mod command;
 mod turns;
-mod writable;
 
 use command::Command;
 use sm_io::{StdSource, read_all};
@@ -45,7 +44,7 @@ fn main(rt: HostRuntime) -> anyhow::Result<ExitCode> {
     let Ok(tree) = sm_json::read_tree(alloc, &text) else {
         anyhow::bail!("the input is no JSON text that can be read");
     };
-    if !writable::is_writable(&tree) {
+    if !sm_cbor::is_writable(&tree) {
         anyhow::bail!("the input has a number that isn't written as CBOR");
     }
     let Ok(item) = turns::write_times(alloc, &tree, command.writes()) else {

@@ -10,7 +10,7 @@ use Rattle.sm_tree.specs.Syntax.{most_levels}
 use Rattle.sm_tree.specs.Levels.{levels}
 use Rattle.sm_tree.specs.Node.{Node, null, bool, int, number, text, bytes, tag, opaque, list, object}
 use Rattle.sm_tree.specs.Events.{NodeEvent, events, null_event, bool_event, start_list, start_object, end_list, end_object}
-use Rattle.sm_tree.specs.Building.{so_far, kinds, awaits_value, goes_on, IsIn}
+use Rattle.sm_tree.specs.Building.{so_far, kinds, awaits_value, awaits_content, goes_on, IsIn}
 use Rattle.sm_tree.specs.BuilderView.{building_of}
 use Rattle.sm_tree.specs.declared.build.TreeBuilder.{TreeBuilder}
 use Rattle.sm_tree.specs.declared.build.OpenKind.TheVariants.{List as a_list, Object as an_object}
@@ -19,9 +19,9 @@ use Rattle.sm_tree.specs.declared.utf8.Utf8.TheVariants.{Between}
 use Rattle.sm_cbor.specs.CborItem.{Keys, plain, marked, mark, Item as ItemBytes, CborItem}
 use Rattle.sm_cbor.specs.Heads.{HasWidth}
 use Rattle.sm_cbor.specs.Refusals.{IsNoText, BeginsOther}
-use Rattle.sm_cbor.specs.Reading.{StartsNumber, HeadIs, SubjectIs, IsOf, major_of}
+use Rattle.sm_cbor.specs.Reading.{StartsNumber, HeadIs, SubjectIs, IsOf, major_of, bound}
 use Rattle.sm_cbor.specs.Rest.{State, Rest, RestAt, Leads, Stops, ItemComes, Ends}
-use Rattle.sm_cbor.specs.Machine.{kinds_of, levels_of, state_at, state_of, handed_on, opens_of, ArgumentLives, ArgumentAwaits, ChunksHeld, bound, InMap, StringAwaits, Keeps, Begun, BehindItem, IsAt, IsSound, Goes, Opens, GoesOn, IsBadByte, IsOtherKey, OpensTooDeep, TakesByte, IsFirst, first_level}
+use Rattle.sm_cbor.specs.Machine.{kinds_of, levels_of, state_at, state_of, handed_on, opens_of, ArgumentLives, ArgumentAwaits, ChunksHeld, InMap, StringAwaits, Keeps, Begun, BehindItem, IsAt, IsSound, Goes, Opens, GoesOn, IsBadByte, IsOtherKey, OpensTooDeep, TakesByte, IsFirst, first_level}
 use Rattle.sm_cbor.specs.declared.head.Head.{Head}
 use Rattle.sm_cbor.specs.declared.head.Head.TheVariants.{Argument as ArgumentHead, Chunks as ChunksHead, List as EntriesHead, Map as PairsHead, Null as NullHead, Bool as BoolHead, NoItem}
 use Rattle.sm_cbor.specs.declared.place.StringKind.{StringKind}
@@ -63,6 +63,7 @@ argument_more r j k v c there some small large = record {
   kinds_are = there.kinds_are;
   room = there.room;
   keeps = (lives_on j k v c some large there.keeps.0, byte_bound k v c some there.keeps.1 small, there.keeps.2, there.keeps.3);
+  settled = tt;
 }
 
 pub argument_takes : (r q : Reader) (j : Subject) (k v c : ℕ) → 0 < k → c < 256 → Goes r [] (InArgument j (k - 1) (v * 256 + c)) [] q → Goes r [] (InArgument j k v) (c ∷ []) q
@@ -97,6 +98,7 @@ chunks_string r kind there = record {
   kinds_are = there.kinds_are;
   room = there.room;
   keeps = (omega arith, there.keeps.0, λ u h. kind_append kind r.held.items u there.keeps.1 (ends_are kind u h));
+  settled = tt;
 }
 
 pub break_goes : (r q : Reader) (kind : StringKind) (c : ℕ) → c ≡ 0xFF → Goes r [] (String kind Whole 0 Between) [] q → Goes r [] (Chunks kind) (c ∷ []) q
@@ -105,7 +107,7 @@ break_goes r q kind c is goes =
     (λ w limit high. break_leads w limit c kind r.held.items (levels_of r) is)
 
 pub chunk_there : (r : Reader) (kind : StringKind) (c k v : ℕ) → IsAt r (Chunks kind) → StartsNumber (c % 32) k v → IsAt r (InArgument (StringHead kind Chunk) k v)
-chunk_there r kind c k v there starts = record { kinds_are = there.kinds_are; room = there.room; keeps = (tt, start_bound (c % 32) k v starts, there.keeps.0, there.keeps.1) }
+chunk_there r kind c k v there starts = record { kinds_are = there.kinds_are; room = there.room; keeps = (tt, start_bound (c % 32) k v starts, there.keeps.0, there.keeps.1); settled = tt }
 
 pub chunk_begins : (r q : Reader) (kind : StringKind) (c k v : ℕ) → c / 32 ≡ major_of kind → StartsNumber (c % 32) k v → Goes r [] (InArgument (StringHead kind Chunk) k v) [] q → Goes r [] (Chunks kind) (c ∷ []) q
 chunk_begins r q kind c k v is starts goes =
@@ -128,12 +130,12 @@ pub broken : (items rest : List Level) (o : Option Level) (l : Level) → items 
 broken items rest o l e f = ap reverse (e ∙ ap (λ x. rest ++ option_to_list x) f) ∙ one_more rest l
 
 pub list_break_there : (r next : Reader) → IsAt r After → levels_of r ≡ AListToBreak ∷ levels_of next → kinds (building_of r.builder) ≡ a_list ∷ kinds (building_of next.builder)
-    → awaits_value (building_of next.builder) ≡ goes_on (kinds (building_of next.builder)) → IsAt next After
-list_break_there r next there e ended awaits = ended_there r next AListToBreak a_list there e refl ended awaits
+    → awaits_value (building_of next.builder) ≡ goes_on (kinds (building_of next.builder)) → awaits_content (building_of next.builder) ≡ false → IsAt next After
+list_break_there r next there e ended awaits content = ended_there r next AListToBreak a_list there e refl ended awaits content
 
 pub map_break_there : (r next : Reader) → IsAt r After → levels_of r ≡ AMapToBreak ∷ levels_of next → kinds (building_of r.builder) ≡ an_object ∷ kinds (building_of next.builder)
-    → awaits_value (building_of next.builder) ≡ goes_on (kinds (building_of next.builder)) → IsAt next After
-map_break_there r next there e ended awaits = ended_there r next AMapToBreak an_object there e refl ended awaits
+    → awaits_value (building_of next.builder) ≡ goes_on (kinds (building_of next.builder)) → awaits_content (building_of next.builder) ≡ false → IsAt next After
+map_break_there r next there e ended awaits content = ended_there r next AMapToBreak an_object there e refl ended awaits content
 
 pub list_break_goes : (r next q : Reader) → IsAt r After → levels_of r ≡ AListToBreak ∷ levels_of next → so_far (building_of next.builder) ≡ so_far (building_of r.builder) ++ (end_list ∷ [])
     → Goes next [] After [] q → Goes r [] After (255 ∷ []) q

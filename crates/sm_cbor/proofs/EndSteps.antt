@@ -7,7 +7,7 @@ use Rattle.sm_tree.specs.Json.{AreBytes}
 use Rattle.sm_tree.specs.Syntax.{most_levels}
 use Rattle.sm_tree.specs.Node.{Node, text, bytes, opaque}
 use Rattle.sm_tree.specs.Events.{NodeEvent, events, key_event, text_event, bytes_event, tag_event, opaque_event, start_list, start_object}
-use Rattle.sm_tree.specs.Building.{so_far, kinds, awaits_value, goes_on, IsIn}
+use Rattle.sm_tree.specs.Building.{so_far, kinds, awaits_value, awaits_content, goes_on, IsIn}
 use Rattle.sm_tree.specs.BuilderView.{building_of}
 use Rattle.sm_tree.specs.declared.build.OpenKind.{OpenKind}
 use Rattle.sm_tree.specs.declared.build.OpenKind.TheVariants.{List as a_list, Object as an_object}
@@ -35,12 +35,13 @@ use Rattle.sm_cbor.proofs.ArgumentSteps.{unsigned_ends, negative_ends, string_be
 use Rattle.sm_cbor.proofs.Readings.{leads_joined, goes_by, goes_with, goes_to}
 
 -- behind a tree that the builder took
-pub after_value : (before : Reader) (b : TreeBuilder) → IsAt before Item → kinds (building_of b) ≡ kinds (building_of before.builder) → awaits_value (building_of b) ≡ goes_on (kinds (building_of b))
+pub after_value : (before : Reader) (b : TreeBuilder) → IsAt before Item → kinds (building_of b) ≡ kinds (building_of before.builder) → awaits_value (building_of b) ≡ goes_on (kinds (building_of b)) → awaits_content (building_of b) ≡ false
     → IsAt (record before { builder = b }) After
-after_value before b there same awaits = record {
+after_value before b there same awaits content = record {
   kinds_are = same ∙ there.kinds_are;
   room = there.room;
   keeps = awaits ∙ ap goes_on (same ∙ there.kinds_are);
+  settled = content;
 }
 
 pub leaf_goes : (before behind : Reader) (b : TreeBuilder) (es : List NodeEvent) → Goes (record before { builder = b }) [] After [] behind → so_far (building_of b) ≡ handed_on before ++ es → Goes before es After [] behind
@@ -53,10 +54,10 @@ leaf_goes before behind b es goes taken = record {
 
 -- a string as an item
 pub bytes_item : (r : Reader) (h : Vec ℕ Global) → IsAt r (String Bytes Whole 0 Between) → IsAt (record r { held = h }) Item
-bytes_item r h there = record { kinds_are = there.kinds_are; room = there.room; keeps = there.keeps.1 }
+bytes_item r h there = record { kinds_are = there.kinds_are; room = there.room; keeps = there.keeps.1; settled = tt }
 
 pub text_item : (r : Reader) (h : Vec ℕ Global) → IsAt r (String Text Whole 0 Between) → IsAt (record r { held = h }) Item
-text_item r h there = record { kinds_are = there.kinds_are; room = there.room; keeps = there.keeps.1 }
+text_item r h there = record { kinds_are = there.kinds_are; room = there.room; keeps = there.keeps.1; settled = tt }
 
 pub bytes_goes : (before behind : Reader) (h : Vec ℕ Global) (n : Node) → n ≡ bytes before.held.items → Goes (record before { held = h }) (events n []) After [] behind → Goes before [] (String Bytes Whole 0 Between) [] behind
 bytes_goes before behind h n e goes =
@@ -92,6 +93,7 @@ key_goes before behind there place levels taken same awaits =
         kinds_are = same ∙ there.kinds_are ∙ sym (ap kinds_of same_levels);
         room = let room = there.room in let len = ap length same_levels in omega arith;
         keeps = awaits;
+        settled = tt;
       });
       begun = subst (λ p. Begun p (levels_of behind)) (sym place) tt;
     })
@@ -120,7 +122,7 @@ pub chunk_goes : (before : Reader) (kind : StringKind) → IsAt before (String k
 chunk_goes before kind there =
     goes_to before (record before { place = Chunks kind }) (String kind Chunk 0 Between) [] []
     (record {
-      there = record { kinds_are = there.kinds_are; room = there.room; keeps = (there.keeps.1, held_is kind before.held.items there.keeps.2) };
+      there = record { kinds_are = there.kinds_are; room = there.room; keeps = (there.keeps.1, held_is kind before.held.items there.keeps.2); settled = tt };
       begun = tt;
     })
     (sym (append-nil (handed_on before)))
@@ -159,6 +161,7 @@ string_there r q kind span n there e same levels =
         subst (λ ks. StringAwaits kind ks (awaits_value (building_of q.builder))) (sym same_levels) (subst (λ b. StringAwaits kind (levels_of r) (awaits_value (building_of b))) (sym same) there.keeps.2),
         subst (Holds kind Between) (sym e) (before_holds r kind span n there),
       );
+      settled = tt;
     }
 
 string_leads : (r q : Reader) (kind : StringKind) (span : Span) (n : ℕ) → IsAt r (InArgument (StringHead kind span) 0 n) → q.held.items ≡ before_span span r.held.items → q.levels ≡ r.levels
@@ -191,13 +194,13 @@ empty_there r q kind span n none there e same levels = subst (λ m. IsAt q (Stri
 
 -- an argument ends: an integer, or a simple value or a float
 pub unsigned_item : (r : Reader) (n : ℕ) → IsAt r (InArgument Unsigned 0 n) → IsAt r Item
-unsigned_item r n there = record { kinds_are = there.kinds_are; room = there.room; keeps = there.keeps.2 }
+unsigned_item r n there = record { kinds_are = there.kinds_are; room = there.room; keeps = there.keeps.2; settled = tt }
 
 pub negative_item : (r : Reader) (n : ℕ) → IsAt r (InArgument Negative 0 n) → IsAt r Item
-negative_item r n there = record { kinds_are = there.kinds_are; room = there.room; keeps = there.keeps.2 }
+negative_item r n there = record { kinds_are = there.kinds_are; room = there.room; keeps = there.keeps.2; settled = tt }
 
 pub opaque_item : (r : Reader) (b n : ℕ) → IsAt r (InArgument (Opaque b) 0 n) → IsAt r Item
-opaque_item r b n there = record { kinds_are = there.kinds_are; room = there.room; keeps = there.keeps.2 }
+opaque_item r b n there = record { kinds_are = there.kinds_are; room = there.room; keeps = there.keeps.2; settled = tt }
 
 pub unsigned_goes : (r q : Reader) (n : ℕ) (x : Node) → x ≡ integer_node n (pos n) → Goes r (events x []) After [] q → Goes r [] (InArgument Unsigned 0 n) [] q
 unsigned_goes r q n x e goes =
@@ -221,10 +224,10 @@ opaque_goes r q b n x there e goes =
 
 -- or a level opens
 pub list_item : (r : Reader) (n : ℕ) → IsAt r (InArgument ListHead 0 n) → IsAt r Item
-list_item r n there = record { kinds_are = there.kinds_are; room = let room = there.room in omega arith; keeps = there.keeps.2 }
+list_item r n there = record { kinds_are = there.kinds_are; room = let room = there.room in omega arith; keeps = there.keeps.2; settled = tt }
 
 pub map_item : (r : Reader) (n : ℕ) → IsAt r (InArgument MapHead 0 n) → IsAt r Item
-map_item r n there = record { kinds_are = there.kinds_are; room = let room = there.room in omega arith; keeps = there.keeps.2 }
+map_item r n there = record { kinds_are = there.kinds_are; room = let room = there.room in omega arith; keeps = there.keeps.2; settled = tt }
 
 pub list_room : (r : Reader) (n : ℕ) → IsAt r (InArgument ListHead 0 n) → length (levels_of r) < most_levels
 list_room r n there = let room = there.room in omega arith
@@ -253,6 +256,7 @@ tag_goes r q n there place levels taken same awaits =
         kinds_are = same ∙ there.kinds_are ∙ sym (ap kinds_of levels);
         room = let room = there.room in let len = ap length levels in omega arith;
         keeps = awaits;
+        settled = tt;
       });
       begun = subst (λ p. Begun p (levels_of q)) (sym place) tt;
     })
@@ -265,7 +269,7 @@ tag_goes r q n there place levels taken same awaits =
 pub argument_begins : (r : Reader) (j : Subject) (k v : ℕ) → IsAt r (InArgument j k v) → 0 < k → Goes r [] (InArgument j k v) [] (record r { place = InArgument j k v })
 argument_begins r j k v there some =
     goes_to r (record r { place = InArgument j k v }) (InArgument j k v) [] []
-    (record { there = record { kinds_are = there.kinds_are; room = there.room; keeps = there.keeps }; begun = some })
+    (record { there = record { kinds_are = there.kinds_are; room = there.room; keeps = there.keeps; settled = tt }; begun = some })
     (sym (append-nil (handed_on r)))
     (λ w limit high. record { onward = λ s es h. (es, refl, h); back = λ s es h. h })
 

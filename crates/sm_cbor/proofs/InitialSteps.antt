@@ -19,9 +19,9 @@ use Rattle.sm_tree.specs.declared.utf8.Utf8.TheVariants.{Between}
 use Rattle.sm_cbor.specs.CborItem.{Keys, plain, marked, mark, Item as ItemBytes, CborItem}
 use Rattle.sm_cbor.specs.Heads.{HasWidth}
 use Rattle.sm_cbor.specs.Refusals.{IsNoText, BeginsOther}
-use Rattle.sm_cbor.specs.Reading.{StartsNumber, HeadIs, SubjectIs, IsOf, major_of}
+use Rattle.sm_cbor.specs.Reading.{StartsNumber, HeadIs, SubjectIs, IsOf, major_of, bound}
 use Rattle.sm_cbor.specs.Rest.{State, Rest, RestAt, Leads, Stops, ItemComes, Ends}
-use Rattle.sm_cbor.specs.Machine.{kinds_of, levels_of, state_at, state_of, handed_on, opens_of, ArgumentLives, ArgumentAwaits, ChunksHeld, bound, InMap, StringAwaits, Keeps, Begun, BehindItem, IsAt, IsSound, Goes, Opens, GoesOn, IsBadByte, IsOtherKey, OpensTooDeep, TakesByte, IsFirst, first_level}
+use Rattle.sm_cbor.specs.Machine.{kinds_of, levels_of, state_at, state_of, handed_on, opens_of, ArgumentLives, ArgumentAwaits, ChunksHeld, InMap, StringAwaits, Keeps, Begun, BehindItem, IsAt, IsSound, Goes, Opens, GoesOn, IsBadByte, IsOtherKey, OpensTooDeep, TakesByte, IsFirst, first_level}
 use Rattle.sm_cbor.specs.declared.head.Head.{Head}
 use Rattle.sm_cbor.specs.declared.head.Head.TheVariants.{Argument as ArgumentHead, Chunks as ChunksHead, List as EntriesHead, Map as PairsHead, Null as NullHead, Bool as BoolHead, NoItem}
 use Rattle.sm_cbor.specs.declared.place.StringKind.{StringKind}
@@ -131,6 +131,7 @@ argument_there r c k v j there is more = record {
   kinds_are = there.kinds_are;
   room = room_for (length (levels_of r)) (opens_of j) (opens_small j) there.room more;
   keeps = (head_lives c k v j is, start_bound (c % 32) k v is.1, head_awaits c j (levels_of r) (awaits_value (building_of r.builder)) is.0 there.keeps, head_held c j r.held.items is.0);
+  settled = tt;
 }
 
 in_room : (r : Reader) (p : Place) (limit : ℕ) → IsAt r p → most_levels ≤ limit → length (levels_of r) ≤ limit
@@ -184,7 +185,7 @@ map_deep r c is full =
 -- an array or a map of indefinite length opens
 after_sound : (r : Reader) (l : Level) (ls : List Level) → levels_of r ≡ l ∷ ls → BehindItem (l ∷ ls) → IsAt r After → IsSound (record r { place = After })
 after_sound r l ls e behind there = record {
-  there = record { kinds_are = there.kinds_are; room = there.room; keeps = there.keeps };
+  there = record { kinds_are = there.kinds_are; room = there.room; keeps = there.keeps; settled = there.settled };
   begun = subst BehindItem (sym e) behind;
 }
 
@@ -208,7 +209,7 @@ kind_nil KeyText = IsUtf8-nil
 
 chunks_sound : (r : Reader) (p : Place) (kind : StringKind) (h : Vec ℕ Global) → h.items ≡ [] → IsAt r p → StringAwaits kind (levels_of r) (awaits_value (building_of r.builder)) → IsSound (record r { place = Chunks kind; held = h })
 chunks_sound r p kind h empty there awaits = record {
-  there = record { kinds_are = there.kinds_are; room = let room = there.room in omega arith; keeps = (awaits, subst (IsOf kind) (sym empty) (kind_nil kind)) };
+  there = record { kinds_are = there.kinds_are; room = let room = there.room in omega arith; keeps = (awaits, subst (IsOf kind) (sym empty) (kind_nil kind)); settled = tt };
   begun = tt;
 }
 
@@ -253,7 +254,7 @@ item_bad r c is = record { stops = λ limit. item_stops plain limit c r.held.ite
 
 -- a key that is a text
 pub key_there : (r : Reader) (c k v : ℕ) → IsAt r Key → StartsNumber (c % 32) k v → IsAt r (InArgument (StringHead KeyText Whole) k v)
-key_there r c k v there starts = record { kinds_are = there.kinds_are; room = there.room; keeps = (tt, start_bound (c % 32) k v starts, there.keeps, tt) }
+key_there r c k v there starts = record { kinds_are = there.kinds_are; room = there.room; keeps = (tt, start_bound (c % 32) k v starts, there.keeps, tt); settled = tt }
 
 pub key_begins : (r q : Reader) (c k v : ℕ) → c / 32 ≡ 3 → StartsNumber (c % 32) k v → Goes r [] (InArgument (StringHead KeyText Whole) k v) [] q → Goes r [] Key (c ∷ []) q
 key_begins r q c k v is starts goes =
@@ -331,12 +332,12 @@ done_bad r c none = subst (λ ls. IsBadByte (at After r.held.items ls) c) (sym (
 pub entry_there : (r : Reader) → IsAt r After → IsFirst AListToBreak (levels_of r) → IsAt r Item
 entry_there r there first =
     let (ls, e) = first_is (levels_of r) AListToBreak first in
-    record { kinds_are = there.kinds_are; room = there.room; keeps = there.keeps ∙ ap (λ ks. goes_on (kinds_of ks)) e }
+    record { kinds_are = there.kinds_are; room = there.room; keeps = there.keeps ∙ ap (λ ks. goes_on (kinds_of ks)) e; settled = tt }
 
 pub pair_there : (r : Reader) → IsAt r After → IsFirst AMapToBreak (levels_of r) → IsAt r Key
 pair_there r there first =
     let (ls, e) = first_is (levels_of r) AMapToBreak first in
-    record { kinds_are = there.kinds_are; room = there.room; keeps = (subst InMap (sym e) tt, there.keeps ∙ ap (λ ks. goes_on (kinds_of ks)) e) }
+    record { kinds_are = there.kinds_are; room = there.room; keeps = (subst InMap (sym e) tt, there.keeps ∙ ap (λ ks. goes_on (kinds_of ks)) e); settled = tt }
 
 -- what a byte that is no break does behind an entry is what it does where an item must come
 entry_stops : (w : Keys) (limit c : ℕ) (t : List ℕ) (ls : List Level) → c ≢ 0xFF → Stops w limit (at Item t (AListToBreak ∷ ls)) c → Stops w limit (at After t (AListToBreak ∷ ls)) c

@@ -13,6 +13,7 @@ mod EndSteps
 mod InitialSteps
 mod ByteSteps
 mod RunSteps
+mod FrontSteps
 mod FeedSteps
 mod WrittenItems
 mod OneVerdict

@@ -55,6 +55,7 @@ run_there r h kind span n place next run there fits held = record {
   kinds_are = there.kinds_are;
   room = there.room;
   keeps = (fits.1, there.keeps.1, subst (Holds kind next) (sym held) (holds_run kind place next r.held.items run fits.2 there.keeps.2));
+  settled = tt;
 }
 
 pub run_goes : (r : Reader) (h : Vec ℕ Global) (kind : StringKind) (span : Span) (n : ℕ) (place next : Utf8) (run : List ℕ) → r.place ≡ String kind span n place → IsAt r r.place → RunFits r.place next run
@@ -66,7 +67,7 @@ run_goes r h kind span n place next run e there fits held some =
     (record {
       there =
           let q = run_there r h kind span n place next run (subst (IsAt r) e there) fits1 held in
-          record { kinds_are = q.kinds_are; room = q.room; keeps = q.keeps };
+          record { kinds_are = q.kinds_are; room = q.room; keeps = q.keeps; settled = tt };
       begun = some;
     })
     (sym (append-nil (handed_on r)))

@@ -4,7 +4,7 @@ use Rattle.std.proofs.Common.{◌==◌}
 use Rattle.std.proofs.lemmas.Bool.Decides.{nat_tests}
 use Rattle.sm_tree.specs.Syntax.{most_levels}
 use Rattle.sm_tree.specs.Events.{NodeEvent, end_list, end_object}
-use Rattle.sm_tree.specs.Building.{so_far, kinds, awaits_value, goes_on, IsIn}
+use Rattle.sm_tree.specs.Building.{so_far, kinds, awaits_value, awaits_content, goes_on, IsIn}
 use Rattle.sm_tree.specs.BuilderView.{building_of}
 use Rattle.sm_tree.specs.declared.build.OpenKind.{OpenKind}
 use Rattle.sm_tree.specs.declared.build.OpenKind.TheVariants.{List as a_list, Object as an_object}
@@ -72,6 +72,7 @@ tag_settles before now next h e same =
       kinds_are = ap (λ b. kinds (building_of b)) same ∙ kinds_at now (Tag ∷ levels_of next) h.there e;
       room = let room = room_at now (Tag ∷ levels_of next) h.there e in omega arith;
       keeps = ap (λ b. awaits_value (building_of b)) same ∙ awaits_at now (Tag ∷ levels_of next) h.there e;
+      settled = ap (λ b. awaits_content (building_of b)) same ∙ h.there.settled;
     })
 
 kinds_behind : (k : OpenKind) (js ks ls : List OpenKind) → js ≡ k ∷ ks → js ≡ k ∷ ls → ks ≡ ls
@@ -79,33 +80,34 @@ kinds_behind k js ks ls e f = cc
 
 -- an array, and a map, all of which has come
 pub ended_there : (now next : Reader) (l : Level) (k : OpenKind) → IsAt now After → levels_of now ≡ l ∷ levels_of next → kinds_of (l ∷ levels_of next) ≡ k ∷ kinds_of (levels_of next)
-    → kinds (building_of now.builder) ≡ k ∷ kinds (building_of next.builder) → awaits_value (building_of next.builder) ≡ goes_on (kinds (building_of next.builder)) → IsAt next After
-ended_there now next l k there e kind ended awaits =
+    → kinds (building_of now.builder) ≡ k ∷ kinds (building_of next.builder) → awaits_value (building_of next.builder) ≡ goes_on (kinds (building_of next.builder)) → awaits_content (building_of next.builder) ≡ false → IsAt next After
+ended_there now next l k there e kind ended awaits content =
     let same : kinds (building_of next.builder) ≡ kinds_of (levels_of next) =
     kinds_behind k (kinds (building_of now.builder)) (kinds (building_of next.builder)) (kinds_of (levels_of next)) ended (kinds_at now (l ∷ levels_of next) there e ∙ kind) in
     record {
       kinds_are = same;
       room = let room = room_at now (l ∷ levels_of next) there e in omega arith;
       keeps = awaits ∙ ap goes_on same;
+      settled = content;
     }
 
 pub list_settles : (before now next : Reader) → Settles before now → levels_of now ≡ AList 0 ∷ levels_of next
     → so_far (building_of next.builder) ≡ so_far (building_of now.builder) ++ (end_list ∷ []) → kinds (building_of now.builder) ≡ a_list ∷ kinds (building_of next.builder)
-    → awaits_value (building_of next.builder) ≡ goes_on (kinds (building_of next.builder)) → Settles before next
-list_settles before now next h e taken ended awaits =
+    → awaits_value (building_of next.builder) ≡ goes_on (kinds (building_of next.builder)) → awaits_content (building_of next.builder) ≡ false → Settles before next
+list_settles before now next h e taken ended awaits content =
     let room = room_at now (AList 0 ∷ levels_of next) h.there e in
     settles_more before now next (end_list ∷ []) h
     (λ w limit high. from_levels w limit now After (AList 0 ∷ levels_of next) [] (end_list ∷ []) (state_at next After) e (list_ends w limit now.held.items next.held.items (levels_of next) (omega arith)))
-    taken (ended_there now next (AList 0) a_list h.there e refl ended awaits)
+    taken (ended_there now next (AList 0) a_list h.there e refl ended awaits content)
 
 pub map_settles : (before now next : Reader) → Settles before now → levels_of now ≡ AMap 0 ∷ levels_of next
     → so_far (building_of next.builder) ≡ so_far (building_of now.builder) ++ (end_object ∷ []) → kinds (building_of now.builder) ≡ an_object ∷ kinds (building_of next.builder)
-    → awaits_value (building_of next.builder) ≡ goes_on (kinds (building_of next.builder)) → Settles before next
-map_settles before now next h e taken ended awaits =
+    → awaits_value (building_of next.builder) ≡ goes_on (kinds (building_of next.builder)) → awaits_content (building_of next.builder) ≡ false → Settles before next
+map_settles before now next h e taken ended awaits content =
     let room = room_at now (AMap 0 ∷ levels_of next) h.there e in
     settles_more before now next (end_object ∷ []) h
     (λ w limit high. from_levels w limit now After (AMap 0 ∷ levels_of next) [] (end_object ∷ []) (state_at next After) e (map_ends w limit now.held.items next.held.items (levels_of next) (omega arith)))
-    taken (ended_there now next (AMap 0) an_object h.there e refl ended awaits)
+    taken (ended_there now next (AMap 0) an_object h.there e refl ended awaits content)
 
 -- what the builder needs before such an end
 pub in_list_there : (now : Reader) (ls : List Level) → IsAt now After → levels_of now ≡ AList 0 ∷ ls → IsIn a_list (kinds (building_of now.builder))
@@ -128,6 +130,7 @@ entry_settles before now behind n ls h e some place same f =
         kinds_are = ap (λ b. kinds (building_of b)) same ∙ kinds_at now (AList n ∷ ls) h.there e ∙ sym (ap kinds_of f);
         room = let room = room_at now (AList n ∷ ls) h.there e in let len = ap length f in omega arith;
         keeps = ap (λ b. awaits_value (building_of b)) same ∙ awaits_at now (AList n ∷ ls) h.there e;
+        settled = tt;
       });
       begun = subst (λ p. Begun p (levels_of behind)) (sym place) tt;
     })
@@ -145,6 +148,7 @@ pair_settles before now behind n ls h e some place same f =
         kinds_are = ap (λ b. kinds (building_of b)) same ∙ kinds_at now (AMap n ∷ ls) h.there e ∙ sym (ap kinds_of f);
         room = let room = room_at now (AMap n ∷ ls) h.there e in let len = ap length f in omega arith;
         keeps = subst (λ ks. Keeps Key behind.held.items ks (awaits_value (building_of behind.builder))) (sym f) (tt, ap (λ b. awaits_value (building_of b)) same ∙ awaits_at now (AMap n ∷ ls) h.there e);
+        settled = tt;
       });
       begun = subst (λ p. Begun p (levels_of behind)) (sym place) tt;
     })
@@ -162,6 +166,7 @@ rests_there before now behind h place same f begun =
         kinds_are = ap (λ b. kinds (building_of b)) same ∙ h.there.kinds_are ∙ sym (ap kinds_of f);
         room = let room = h.there.room in let len = ap length f in omega arith;
         keeps = ap (λ b. awaits_value (building_of b)) same ∙ h.there.keeps ∙ sym (ap (λ ks. goes_on (kinds_of ks)) f);
+        settled = ap (λ b. awaits_content (building_of b)) same ∙ h.there.settled;
       });
       begun = subst (λ p. Begun p (levels_of behind)) (sym place) begun;
     })

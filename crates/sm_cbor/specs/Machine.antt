@@ -5,7 +5,7 @@ use Rattle.sm_tree.specs.Syntax.{most_levels}
 use Rattle.sm_tree.specs.Events.{NodeEvent, events}
 use Rattle.sm_tree.specs.View.{node_of}
 use Rattle.sm_tree.specs.declared.tree.Tree.{Tree}
-use Rattle.sm_tree.specs.Building.{so_far, kinds, awaits_value, goes_on}
+use Rattle.sm_tree.specs.Building.{so_far, kinds, awaits_value, awaits_content, goes_on}
 use Rattle.sm_tree.specs.BuilderView.{building_of}
 use Rattle.sm_tree.specs.declared.build.OpenKind.{OpenKind}
 use Rattle.sm_tree.specs.declared.build.OpenKind.TheVariants.{List as a_list, Object as an_object}
@@ -16,7 +16,7 @@ use Rattle.sm_tree.specs.declared.utf8.Utf8.TheVariants.{Between}
 use Rattle.sm_tree.specs.Utf8 as utf8
 use Rattle.sm_cbor.specs.CborItem.{Keys, plain, marked, mark, IsOpaque}
 use Rattle.sm_cbor.specs.Refusals.{BeginsOther}
-use Rattle.sm_cbor.specs.Reading.{IsOf, EndsAs}
+use Rattle.sm_cbor.specs.Reading.{IsOf, EndsAs, bound}
 use Rattle.sm_cbor.specs.Rest.{State, Rest, Leads, Stops}
 use Rattle.sm_cbor.specs.declared.place.StringKind.{StringKind}
 use Rattle.sm_cbor.specs.declared.place.StringKind.TheVariants.{Bytes, Text, Key as KeyText}
@@ -66,11 +66,6 @@ Lives After = Unit {0}
 Lives (Argument j k v) = ArgumentLives j k v
 Lives (String kind span n place) = utf8.owed place ≤ n
 Lives (Chunks kind) = Unit {0}
-
--- a number that has k bytes more is below this, since 64 bits hold the whole
-abbrev pub bound : ℕ → ℕ
-bound zero = 2 ^ 64
-bound (suc k) = bound k / 256
 
 -- what is open, as the builder of trees sees it
 abbrev pub kinds_of : List Level → List OpenKind
@@ -152,11 +147,21 @@ Keeps (Argument j k v) t ls awaits = ArgumentLives j k v × (v < bound k) × Arg
 Keeps (String kind span n place) t ls awaits = (utf8.owed place ≤ n) × StringAwaits kind ls awaits × Holds kind place t
 Keeps (Chunks kind) t ls awaits = StringAwaits kind ls awaits × IsOf kind t
 
+-- behind an item no tag awaits its content
+abbrev pub Settled : Place → Bool → Type 0
+Settled Item content = Unit {0}
+Settled Key content = Unit {0}
+Settled After content = content ≡ false
+Settled (Argument j k v) content = Unit {0}
+Settled (String kind span n place) content = Unit {0}
+Settled (Chunks kind) content = Unit {0}
+
 -- what holds of a reader that stands at this place
 pub record IsAt (r : Reader) (p : Place) : Type 0 where
   pub kinds_are : kinds (building_of r.builder) ≡ kinds_of (levels_of r)
   pub room : length (levels_of r) + opens p ≤ most_levels
   pub keeps : Keeps p r.held.items (levels_of r) (awaits_value (building_of r.builder))
+  pub settled : Settled p (awaits_content (building_of r.builder))
 
 -- bytes are owed at the place, or what may come is open
 abbrev pub Begun : Place → List Level → Type 0
@@ -258,10 +263,13 @@ TakesByte before p c behind (Err Ended) = ⊥
 TakesByte before p c behind (Err (TooDeep at)) = (at ≡ 0) × OpensTooDeep (state_at before p) c
 TakesByte before p c behind (Err (KeyKind at)) = (at ≡ 0) × IsOtherKey (state_at before p) c
 
--- what the reader makes of the front of some bytes: it takes so many of them, or refuses the first
+-- what a reader that stands at a place makes of the front of some bytes: it takes so many of them, or refuses the first
+abbrev pub TakesFrontAt : Reader → Place → List ℕ → Reader → Result ℕ SyntaxRefusal → Type 0
+TakesFrontAt before p bs behind (Ok n) = (0 < n) × (n ≤ length bs) × Goes before [] p (take n bs) behind
+TakesFrontAt before p bs behind (Err refusal) = TakesByte before p (slice_index bs 0) behind (Err refusal)
+
 abbrev pub TakesFront : Reader → List ℕ → Reader → Result ℕ SyntaxRefusal → Type 0
-TakesFront before bs behind (Ok n) = (0 < n) × (n ≤ length bs) × Goes before [] before.place (take n bs) behind
-TakesFront before bs behind (Err refusal) = TakesByte before before.place (slice_index bs 0) behind (Err refusal)
+TakesFront before bs behind result = TakesFrontAt before before.place bs behind result
 
 -- a refusal of the byte c, at which the reader stands
 abbrev pub RefusesAt : State → ℕ → SyntaxRefusal → Type 0

@@ -1,11 +1,11 @@
 -- What the reader makes of a head, in words of its own. Its private methods cite it.
-use Rattle.std.specs.Prelude.{◌≡◌, ◌≢◌, ℕ, ◌*◌, ◌/◌, ◌%◌, ◌<◌, ◌≤◌, ◌⊎◌, ◌^◌, nat_lt, if◌then◌else◌, ℤ, true, false, Option, None, Some, List, IsUtf8}
+use Rattle.std.specs.Prelude.{◌≡◌, ◌≢◌, ℕ, zero, suc, ◌+◌, ◌*◌, ◌/◌, ◌%◌, ◌<◌, ◌≤◌, ◌⊎◌, ◌^◌, nat_lt, if◌then◌else◌, ℤ, true, false, Option, None, Some, List, [], length, take, drop, slice_index, IsUtf8}
 use Rattle.std.specs.Fmt.{signed_decimal}
 use Rattle.sm_tree.specs.Json.{AreBytes}
 use Rattle.sm_tree.specs.Node.{Node, int, number}
 use Rattle.sm_tree.specs.declared.utf8.Utf8.{Utf8}
 use Rattle.sm_tree.specs.Utf8 as utf8
-use Rattle.sm_cbor.specs.Heads.{HasWidth, unsigned_type, negative_type, bytes_type, text_type, array_type, map_type, tag_type, simple_type}
+use Rattle.sm_cbor.specs.Heads.{Number, HasWidth, unsigned_type, negative_type, bytes_type, text_type, array_type, map_type, tag_type, simple_type}
 use Rattle.sm_cbor.specs.declared.place.StringKind.{StringKind}
 use Rattle.sm_cbor.specs.declared.place.StringKind.TheVariants.{Bytes, Text, Key}
 use Rattle.sm_cbor.specs.declared.place.Span.TheVariants.{Whole, Chunk}
@@ -68,6 +68,47 @@ HeadIs c Null = (c ≡ 0xF6) ⊎ (c ≡ 0xF7)
 HeadIs c (Bool false) = c ≡ 0xF4
 HeadIs c (Bool true) = c ≡ 0xF5
 HeadIs c NoItem = (28 ≤ c % 32) × (c ≢ 0x5F) × (c ≢ 0x7F) × (c ≢ 0x9F) × (c ≢ 0xBF)
+
+-- the argument is the bits of a value
+abbrev pub IsBits : Subject → Type 0
+IsBits Unsigned = ⊥
+IsBits Negative = ⊥
+IsBits (String kind span) = ⊥
+IsBits AList = ⊥
+IsBits Map = ⊥
+IsBits Tag = ⊥
+IsBits (Opaque b) = Unit {0}
+
+-- the argument is a text's length
+abbrev pub IsText : Subject → Type 0
+IsText Unsigned = ⊥
+IsText Negative = ⊥
+IsText (String Bytes span) = ⊥
+IsText (String Text span) = Unit {0}
+IsText (String Key span) = ⊥
+IsText AList = ⊥
+IsText Map = ⊥
+IsText Tag = ⊥
+IsText (Opaque b) = ⊥
+
+-- the n bytes behind the first len
+abbrev pub IsBehind : List ℕ → ℕ → ℕ → List ℕ → Type 0
+IsBehind bs len n run = (run ≡ take n (drop len bs)) × (length run ≡ n) × (len + n ≤ length bs)
+
+-- a number that has k bytes more is below this, since 64 bits hold the whole
+abbrev pub bound : ℕ → ℕ
+bound zero = 2 ^ 64
+bound (suc k) = bound k / 256
+
+-- the first bytes, so many, are a head with this argument, which isn't bits
+pub record HasHead (bs : List ℕ) (j : Subject) (n len : ℕ) : Type 0 where
+  pub left : ℕ
+  pub value : ℕ
+  pub initial : HeadIs (slice_index bs 0) (Argument j left value)
+  pub argument : Number left value n (drop 1 (take len bs)) []
+  pub all : len ≡ suc left
+  pub inside : len ≤ length bs
+  pub no_bits : IsBits j → ⊥
 
 -- the tree of an integer that n more than nothing, or n more than -1, tells
 abbrev pub integer_node : ℕ → ℤ → Node

@@ -1,7 +1,8 @@
 // The initial byte of an item (RFC 8949, section 3): what it says of the item, and what follows it.
 // The reader stands on it.
-ghost use Rattle.std.specs.Prelude.{◌≡◌, ◌<◌, ◌≤◌, ◌%◌};
-ghost use Rattle.sm_cbor.specs.Reading.{HeadIs, StartsNumber, WidthIs, ChunkIs, major_of};
+ghost use Rattle.std.specs.Prelude.{◌≡◌, ◌<◌, ◌≤◌, ◌%◌, ◌↔◌, length, IfSome, IsTrue, []};
+ghost use Rattle.sm_cbor.specs.Heads.{Number};
+ghost use Rattle.sm_cbor.specs.Reading.{HeadIs, StartsNumber, WidthIs, ChunkIs, HasHead, IsBits, IsText, bound, major_of};
 
 use crate::place::{Span, StringKind, Subject};
 
@@ -22,6 +23,17 @@ pub enum Head {
     Bool(bool),
     /// Reserved, or a "break".
     NoItem,
+}
+
+/// A head whose bytes are all at hand.
+#[derive(Clone, Copy, PartialEq, Eq, Debug, Drop)]
+pub struct WholeHead {
+    /// What the argument is of.
+    pub subject: Subject,
+    /// The argument.
+    pub value: u64,
+    /// How many bytes the head has.
+    pub len: usize,
 }
 
 /// The initial byte of a "break".
@@ -87,6 +99,53 @@ pub fn head_of(byte: u8) -> Head
         Some((left, value)) => with_argument(byte, left, value),
         None => without_argument(byte),
     }
+}
+
+impl Subject {
+    // Whether the argument is the bits of a value, of which not all are any value's.
+    fn is_bits(self) -> bool
+        ensures { IsTrue result ↔ IsBits self }
+    {
+        matches!(self, Subject::Opaque(_))
+    }
+
+    /// Whether the argument is a text's length in bytes.
+    pub fn is_text(self) -> bool
+        ensures { IsTrue result ↔ IsText self }
+    {
+        matches!(self, Subject::String(StringKind::Text, _))
+    }
+}
+
+// The number that begins with this value and goes on with these bytes, the most significant first.
+fn number(value: u64, bytes: &[u8]) -> u64
+    requires { value < bound (length bytes.now) }
+    ensures { Number (length bytes.now) value result bytes.now [] }
+{
+    let mut number = value;
+    for byte in bytes {
+        number = number * 256 + u64::from(*byte);
+    }
+    number
+}
+
+/// The head in front, where all its bytes are at hand and it has an argument that isn't bits. No memory.
+pub fn whole_head(bytes: &[u8]) -> Option<WholeHead>
+    requires { 0 < length bytes.now }
+    ensures { IfSome result (λ head. HasHead bytes.now head.subject head.value head.len) }
+{
+    let Head::Argument(subject, left, value) = head_of(bytes[0]) else {
+        return None;
+    };
+    let len = 1 + left as usize;
+    if subject.is_bits() || bytes.len() < len {
+        return None;
+    }
+    Some(WholeHead {
+        subject,
+        value: number(value, &bytes[1..len]),
+        len,
+    })
 }
 
 impl StringKind {

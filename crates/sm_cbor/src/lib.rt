@@ -13,6 +13,7 @@ mod read;
 mod read_tests;
 #[cfg(test)]
 mod refusal_tests;
+mod writable;
 mod write;
 #[cfg(test)]
 mod write_tests;
@@ -20,4 +21,5 @@ mod write_tests;
 pub use length::encoded_len;
 pub use read::read_tree;
 pub use sm_tree::{NoMemory, SyntaxRefusal};
+pub use writable::is_writable;
 pub use write::write_tree;

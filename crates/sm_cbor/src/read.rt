@@ -5,6 +5,7 @@ ghost use Rattle.sm_cbor.specs.Answers.{ReadsTree};
 ghost use Rattle.sm_cbor.specs.Rest.{start};
 ghost use Rattle.sm_cbor.specs.Machine.{moved_by, IsWithin};
 
+mod front;
 mod initial;
 mod strings;
 mod whole;
@@ -69,6 +70,8 @@ impl Reader {
         match self.place {
             Place::String(StringKind::Bytes, _, left, utf8) => self.string_bytes(left, utf8, bytes),
             Place::String(_, _, left, utf8) => self.text_bytes(left, utf8, bytes),
+            Place::Item => self.item_front(bytes),
+            Place::Key => self.key_front(bytes),
             _ => {
                 self.byte(bytes[0])?;
                 Ok(1)

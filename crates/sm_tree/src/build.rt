@@ -82,6 +82,7 @@ fn first_room(expected: usize) -> u8
 }
 
 // A tree in tags, the outermost first, which are used up.
+#[inline(always)]
 fn in_tags(alloc: Global, tags: &mut Vec<u64>, tree: Tree) -> Result<Tree, NoMemory>
     ensures tree { IfOk result (λ whole. node_of whole ≡ tagged tags.old.items (node_of tree)) }
     ensures none { OnOk result (tags.new.items ≡ []) }
@@ -98,6 +99,7 @@ fn in_tags(alloc: Global, tags: &mut Vec<u64>, tree: Tree) -> Result<Tree, NoMem
 
 impl Inner {
     // Appends a tree: an entry, or the tree of the name that awaits one.
+    #[inline(always)]
     fn put(&mut self, alloc: Global, tree: Tree) -> Result<(), NoMemory>
         requires { inner_awaits (inner_of self.old) ≡ true }
         ensures { OnOk result (inner_of self.new ≡ with_tree (node_of tree) (inner_of self.old)) }
@@ -284,6 +286,7 @@ impl TreeBuilder {
     }
 
     /// Takes all events of a tree, or the one of a leaf. `NoMemory` where the entry finds no room.
+    #[inline(always)]
     pub fn value(&mut self, tree: Tree) -> Result<(), NoMemory>
         requires { awaits_value (building_of self.old) ≡ true }
         ensures taken { OnOk result (so_far (building_of self.new) ≡ so_far (building_of self.old) ++ events (node_of tree) []) }
@@ -303,6 +306,7 @@ impl TreeBuilder {
     }
 
     /// Takes the name of the next pair of the innermost object. No memory.
+    #[inline(always)]
     pub fn key(&mut self, name: Text)
         requires innermost { IsIn OpenKind.Object (kinds (building_of self.old)) }
         requires unnamed { awaits_value (building_of self.old) ≡ false }

@@ -8,11 +8,11 @@ use std::alloc::Global;
 use std::fmt;
 use std::marker::Model;
 
-// The most bytes that a text keeps in its own value. Most names have no more, and a value with room for more makes
-// each entry and pair of a tree larger.
-const SHORT: usize = 23;
+// The most bytes that a text keeps in its own value. Most names have no more, and a value with room for more would be
+// larger than one that keeps a string.
+const SHORT: usize = 16;
 
-/// A text in UTF-8. One of at most 23 bytes may lie in the value itself. Contracts see its bytes.
+/// A text in UTF-8. One of at most 16 bytes may lie in the value itself. Contracts see its bytes.
 #[derive(Drop)]
 pub struct Text {
     form: Form,
@@ -47,7 +47,7 @@ impl Text {
         }
     }
 
-    /// A copy of a text. One of at most 23 bytes takes no memory, and a longer one as much as its length.
+    /// A copy of a text. One of at most 16 bytes takes no memory, and a longer one as much as its length.
     pub fn copy(alloc: Global, text: &str) -> Result<Self, NoMemory>
         ensures bytes { IfOk result (λ copy. copy ≡ text.now) }
         ensures utf8 { IfOk result (λ copy. IsUtf8 copy) }
@@ -172,14 +172,14 @@ mod tests {
     }
 
     #[test]
-    fn texts_of_23_bytes_lie_in_their_value(rt: HostRuntime) -> Result<(), Fail> {
+    fn texts_of_16_bytes_lie_in_their_value(rt: HostRuntime) -> Result<(), Fail> {
         for (text, short) in [
             ("", true),
-            ("1234567890123456789012", true),
-            ("12345678901234567890123", true),
-            ("123456789012345678901234", false),
-            ("éééééééééééx", true),
-            ("éééééééééééé", false),
+            ("123456789012345", true),
+            ("1234567890123456", true),
+            ("12345678901234567", false),
+            ("éééééééé", true),
+            ("éééééééxé", false),
         ] {
             let copy = Text::copy(rt.alloc(), text)?;
             assert_eq!(rt; copy.as_str(), text);

@@ -15,7 +15,7 @@ const MOST_LEVELS: usize = 100;
 
 impl Subject {
     // Whether what the argument is of is a level.
-    fn is_level(self) -> bool
+    pub(super) fn is_level(self) -> bool
         ensures { IsTrue result ↔ (opens_of self ≡ 1) }
     {
         matches!(self, Subject::List | Subject::Map | Subject::Tag)

@@ -1,6 +1,6 @@
 // What ends where its last byte has come: arguments, strings, whole items and what is round them. The steps of the
 // reader stand on it.
-ghost use Rattle.std.specs.Prelude.{◌≡◌, ◌<◌, length, OnOk, IsUtf8, None, [], ◌∷◌};
+ghost use Rattle.std.specs.Prelude.{◌≤◌, ◌≡◌, ◌<◌, length, OnOk, IsUtf8, None, [], ◌∷◌};
 ghost use Rattle.sm_tree.specs.Syntax.{most_levels};
 ghost use Rattle.sm_tree.specs.View.{node_of};
 ghost use Rattle.sm_tree.specs.Events.{events, start_list, start_object};
@@ -10,8 +10,20 @@ ghost use Rattle.sm_cbor.specs.Rest.{before_span};
 use super::Reader;
 use crate::integer::{negative_tree, unsigned_tree};
 use crate::place::{Level, Place, Span, StringKind, Subject};
-use sm_tree::{Bytes, NoMemory, Text, Tree, Utf8};
+use sm_tree::{Bytes, FIRST_ROOM, NoMemory, Text, Tree, Utf8};
 use std::mem;
+
+// How many entries or pairs are expected where so many are claimed. No claim makes more room than the first entry of
+// an indefinite length would.
+fn expected(claimed: u64) -> usize
+    ensures { result ≤ 4 }
+{
+    if claimed < FIRST_ROOM as u64 {
+        claimed as usize
+    } else {
+        FIRST_ROOM
+    }
+}
 
 impl Reader {
     ghost use Rattle.sm_cbor.specs.Machine.{IsAt, Goes, Enters, Opens, levels_of};
@@ -63,6 +75,7 @@ impl Reader {
     }
 
     // A whole item.
+    #[inline(always)]
     pub(super) fn leaf(&mut self, tree: Tree) -> Result<(), NoMemory>
         requires { IsAt self.old Place.Item }
         ensures { OnOk result (Goes self.old (events (node_of tree) []) Place.After [] self.new) }
@@ -77,7 +90,7 @@ impl Reader {
         requires room { length (levels_of self.old) < most_levels }
         ensures { OnOk result (Opens self.old (Level.List count) (start_list None ∷ []) self.new) }
     {
-        self.builder.start_list()?;
+        self.builder.start_list(expected(count))?;
         self.enter(Level::List(count))
     }
 
@@ -87,7 +100,7 @@ impl Reader {
         requires room { length (levels_of self.old) < most_levels }
         ensures { OnOk result (Opens self.old Level.ListToBreak (start_list None ∷ []) self.new) }
     {
-        self.builder.start_list()?;
+        self.builder.start_list(FIRST_ROOM)?;
         self.enter(Level::ListToBreak)
     }
 
@@ -97,7 +110,7 @@ impl Reader {
         requires room { length (levels_of self.old) < most_levels }
         ensures { OnOk result (Opens self.old (Level.Map count) (start_object None ∷ []) self.new) }
     {
-        self.builder.start_object()?;
+        self.builder.start_object(expected(count))?;
         self.enter(Level::Map(count))
     }
 
@@ -107,7 +120,7 @@ impl Reader {
         requires room { length (levels_of self.old) < most_levels }
         ensures { OnOk result (Opens self.old Level.MapToBreak (start_object None ∷ []) self.new) }
     {
-        self.builder.start_object()?;
+        self.builder.start_object(FIRST_ROOM)?;
         self.enter(Level::MapToBreak)
     }
 

@@ -12,13 +12,13 @@ pub loop-level-preserved-in-Continue-1 : goal.loop-level-preserved-in-Continue-1
 loop-level-preserved-in-Continue-1 c =
     list_settles _ c.loop-level.self _ c.loop-level.invariant
     (popped c.loop-level.self c.pop.new.self.items c.in-Some.level (AList 0) c.in-Some.ensures.items (c.in-List.is ∙ ap AList (omega arith)))
-    c.in_ok-end_list-in-List.ensures.taken c.in_ok-end_list-in-List.ensures.kinds c.in_ok-end_list-in-List.ensures.awaits
+    c.in_ok-end_list-in-List.ensures.taken c.in_ok-end_list-in-List.ensures.kinds c.in_ok-end_list-in-List.ensures.awaits c.in_ok-end_list-in-List.ensures.content
 
 pub loop-level-preserved : goal.loop-level-preserved
 loop-level-preserved c =
     map_settles _ c.loop-level.self _ c.loop-level.invariant
     (popped c.loop-level.self c.pop.new.self.items c.in-Some.level (AMap 0) c.in-Some.ensures.items (c.in-Map.is ∙ ap AMap (omega arith)))
-    c.in_ok-end_object-in-Map.ensures.taken c.in_ok-end_object-in-Map.ensures.kinds c.in_ok-end_object-in-Map.ensures.awaits
+    c.in_ok-end_object-in-Map.ensures.taken c.in_ok-end_object-in-Map.ensures.kinds c.in_ok-end_object-in-Map.ensures.awaits c.in_ok-end_object-in-Map.ensures.content
 
 pub returns-then-left-gt0 : goal.returns-then-left-gt0
 returns-then-left-gt0 c =

@@ -1,9 +1,9 @@
-use Rattle.std.proofs.Common.{◌≤◌, drop}
+use Rattle.std.proofs.Common.{◌≤◌, ◌↔◌, drop}
 use Rattle.sm_tree.specs.Json.{AreCbor, AreCborMembers}
 use Rattle.sm_tree.specs.Node.{nodes_of, members_of}
 use Rattle.sm_tree.specs.View.{node_of, nodes_view, members_view}
 use Rattle.sm_tree.specs.Weight.{weight, nodes_weight, members_weight}
-use Rattle.cbor_speed.proofs.writable.+writable.Given as goal
+use Rattle.sm_cbor.proofs.writable.+writable.Given as goal
 
 abbrev pub decreases-is_writable : goal.decreases-is_writable
 decreases-is_writable l = weight (node_of l.tree.now)
@@ -16,12 +16,12 @@ decreases-pairs_are_writable l = members_weight (members_of (members_view l.pair
 
 abbrev pub invariant-entries_are_writable-loop-item : goal.invariant-entries_are_writable-loop-item
 invariant-entries_are_writable-loop-item l = record {
-  writable : AreCbor (nodes_of (nodes_view (drop l.item-index l.items))) → AreCbor (nodes_of (nodes_view l.items));
+  writable : AreCbor (nodes_of (nodes_view (drop l.item-index l.items))) ↔ AreCbor (nodes_of (nodes_view l.items));
   weight : nodes_weight (nodes_of (nodes_view (drop l.item-index l.items))) ≤ nodes_weight (nodes_of (nodes_view l.items));
 }
 
 abbrev pub invariant-pairs_are_writable-loop-pair : goal.invariant-pairs_are_writable-loop-pair
 invariant-pairs_are_writable-loop-pair l = record {
-  writable : AreCborMembers (members_of (members_view (drop l.pair-index l.pairs))) → AreCborMembers (members_of (members_view l.pairs));
+  writable : AreCborMembers (members_of (members_view (drop l.pair-index l.pairs))) ↔ AreCborMembers (members_of (members_view l.pairs));
   weight : members_weight (members_of (members_view (drop l.pair-index l.pairs))) ≤ members_weight (members_of (members_view l.pairs));
 }

@@ -1,7 +1,7 @@
-// Which trees of JSON texts can be written as CBOR items: those without a number that isn't an integer of 64 bits.
-ghost use Rattle.std.specs.Prelude.{◌≡◌, true, IsUtf8, FitsSigned};
+// Which trees can be written as CBOR items. Whoever has a tree of another format asks here before it is written.
+ghost use Rattle.std.specs.Prelude.{◌≡◌, ◌<◌, ◌^◌, ◌↔◌, IsTrue, IsUtf8, FitsSigned};
 ghost use Rattle.std.specs.Int.{w64};
-ghost use Rattle.sm_tree.specs.Json.{IsCbor, AreCbor, AreCborMembers};
+ghost use Rattle.sm_tree.specs.Json.{IsCbor, AreCbor, AreCborMembers, AreBytes};
 ghost use Rattle.sm_tree.specs.Node.{nodes_of, members_of};
 ghost use Rattle.sm_tree.specs.View.{node_of, nodes_view, members_view};
 
@@ -21,9 +21,23 @@ fn see_int(value: i64)
     let _value = value;
 }
 
+// So has a tag's number.
+fn see_number(number: u64)
+    ensures { number < 2 ^ 64 }
+{
+    let _number = number;
+}
+
+// Bytes are bytes by their type.
+fn see_bytes(bytes: &[u8])
+    ensures { AreBytes bytes.now }
+{
+    let _bytes = bytes;
+}
+
 #[cycle(writable)]
 fn entries_are_writable(items: &[Tree]) -> bool
-    ensures { result ≡ true → AreCbor (nodes_of (nodes_view items.now)) }
+    ensures { IsTrue result ↔ AreCbor (nodes_of (nodes_view items.now)) }
 {
     for item in items {
         if !is_writable(item) {
@@ -35,7 +49,7 @@ fn entries_are_writable(items: &[Tree]) -> bool
 
 #[cycle(writable)]
 fn pairs_are_writable(pairs: &[(Text, Tree)]) -> bool
-    ensures { result ≡ true → AreCborMembers (members_of (members_view pairs.now)) }
+    ensures { IsTrue result ↔ AreCborMembers (members_of (members_view pairs.now)) }
 {
     for pair in pairs {
         see_text(&pair.0);
@@ -46,10 +60,10 @@ fn pairs_are_writable(pairs: &[(Text, Tree)]) -> bool
     true
 }
 
-/// Whether a tree that a JSON text spells can be written as a CBOR item. Byte strings and tags count as other trees.
+/// Whether a tree can be written as an item: no float, no simple value and no number past 64 bits is in it. No memory.
 #[cycle(writable)]
 pub fn is_writable(tree: &Tree) -> bool
-    ensures { result ≡ true → IsCbor (node_of tree.now) }
+    ensures { IsTrue result ↔ IsCbor (node_of tree.now) }
 {
     match tree {
         Tree::Null | Tree::Bool(_) => true,
@@ -61,8 +75,16 @@ pub fn is_writable(tree: &Tree) -> bool
             see_text(text);
             true
         }
+        Tree::Bytes(bytes) => {
+            see_bytes(bytes.as_slice());
+            true
+        }
+        Tree::Tag(number, content) => {
+            see_number(*number);
+            is_writable(content)
+        }
         Tree::List(items) => entries_are_writable(items.as_slice()),
         Tree::Object(pairs) => pairs_are_writable(pairs.as_slice()),
-        Tree::Number(_) | Tree::Bytes(_) | Tree::Tag(_, _) | Tree::Opaque(_) => false,
+        Tree::Number(_) | Tree::Opaque(_) => false,
     }
 }
