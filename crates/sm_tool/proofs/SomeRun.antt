@@ -6,7 +6,7 @@ use Rattle.std.proofs.lemmas.Bool.{cases_lt}
 use Rattle.std.proofs.lemmas.List.{take_all}
 use Rattle.sm_io.specs.Files.{Folder, file_at}
 use Rattle.sm_tree.specs.Node.{Node, null}
-use Rattle.sm_tree.specs.Syntax.{Format, IsRead, BeginsRead, IsNoText}
+use Rattle.sm_tree.specs.Syntax.{Format, IsRead, BeginsRead, IsUnread}
 use Rattle.sm_tree.specs.SyntaxLaws.{IsRefused}
 use Rattle.sm_tree.specs.declared.refusal.SyntaxRefusal.{SyntaxRefusal}
 use Rattle.sm_tree.specs.declared.refusal.SyntaxRefusal.TheVariants.{Bad, Ended, TooDeep}
@@ -51,7 +51,7 @@ module _ (F : Format) (bs : List ℕ) (none : (refusal : SyntaxRefusal) → IsRe
       next : (i : ℕ) → i + 1 ≡ suc i
       next i = omega arith
 
-  some_refusal : BeginsRead F [] → IsNoText F bs → ⊥
+  some_refusal : BeginsRead F [] → IsUnread F bs → ⊥
   some_refusal begins unread =
       all_begin begins (length bs) (omega arith) (λ all. none Ended (record { begun = subst (BeginsRead F) (take_all (length bs) bs (omega arith)) all; no_text = unread }))
 
