@@ -1,15 +1,14 @@
 -- Texts in UTF-8 byte by byte: the steps over a whole character, what may stand behind a run of characters, and that
 -- from each place a text goes on where there is room. The proofs of readers cite them.
-use Rattle.std.proofs.Common.{◌≡◌, ◌↔◌, ◌⊎◌, ◌&&◌, ◌≤◌, ◌<◌, ◌+◌, ◌-◌, ◌*◌, ℕ, zero, suc, Bool, true, false, cond, ◌==◌, Option, None, Some, List, [], ◌∷◌, ◌++◌, inl, inr, refl, sym, ap, ◌∙◌, subst, arith, length, encode_utf8_all, IsUtf8, append-nil}
+use Rattle.std.proofs.Common.{◌≡◌, ◌⊎◌, ◌&&◌, ◌≤◌, ◌<◌, ◌+◌, ◌-◌, ◌*◌, ℕ, zero, suc, Bool, true, false, Option, None, Some, List, [], ◌∷◌, ◌++◌, inl, inr, refl, sym, ap, ◌∙◌, subst, arith, length, encode_utf8_all, IsUtf8}
 use Rattle.std.specs.Prelude.{option_and_then}
 use Rattle.std.specs.Char.{IsScalar}
 use Rattle.std.proofs.lemmas.Bool.{and_from, cases_lt, cases_order, cond-false, le-ltb, lt-ltb, le-leb}
 use Rattle.std.proofs.lemmas.Bool.Decides.{nat_tests}
-use Rattle.std.proofs.lemmas.Grind.{common_steps}
 use Rattle.std.proofs.lemmas.Str.{IsUtf8-append, IsUtf8-nil, IsUtf8-encode}
 use Rattle.sm_tree.specs.declared.utf8.Utf8.{Utf8}
 use Rattle.sm_tree.specs.declared.utf8.Utf8.TheVariants.{Between, Second, LastTwo, Last}
-use Rattle.sm_tree.specs.Utf8.{IsTail, IsSecond, least_second, greatest_second, first_step, behind_second, step, owed, run, Rest, RestIsUtf8}
+use Rattle.sm_tree.specs.Utf8.{IsTail, IsSecond, least_second, greatest_second, behind_second, step, owed, run, Rest, RestIsUtf8}
 use Rattle.sm_tree.proofs.CharacterBytes.{low_three, low_four, two_encode, three_encode, four_encode, one_byte}
 use Rattle.sm_tree.proofs.CharacterShapes.{IsOne, IsTwo, IsThree, IsFour, shape}
 use lib.Utf8.{scalar, scalars, encode, encodes, low_scalar}

@@ -1,11 +1,11 @@
 -- Bytes have one answer at most, whatever the format: each refusal says that up to its place texts of at most
 -- 100 levels go on, so no earlier place is bad.
-use Rattle.std.proofs.Common.{◌≡◌, ℕ, ◌+◌, ◌-◌, ◌≤◌, ◌<◌, ◌⊎◌, inl, inr, List, ◌++◌, take, drop, length, Result, Ok, Err, refl, sym, ap, subst, ◌∙◌, arith, append_assoc, append-nil, take-append-drop}
+use Rattle.std.proofs.Common.{◌≡◌, ℕ, ◌+◌, ◌<◌, ◌⊎◌, inl, inr, List, ◌++◌, take, drop, Ok, Err, refl, sym, ap, subst, ◌∙◌, arith, append_assoc, append-nil, take-append-drop}
 use Rattle.std.proofs.lemmas.Bool.{cases_order}
-use Rattle.std.proofs.lemmas.List.{take-take, take_all}
+use Rattle.std.proofs.lemmas.List.{take-take}
 use Rattle.sm_tree.specs.Node.{Node}
-use Rattle.sm_tree.specs.Syntax.{Format, IsRead, Begins, BeginsRead, IsUnread, IsBadAt, IsTooDeepAt, IsCutShort}
-use Rattle.sm_tree.specs.SyntaxLaws.{IsRefused, ComesTo, HasOneReading, HasOneAnswer}
+use Rattle.sm_tree.specs.Syntax.{Format, IsRead, Begins, BeginsRead, IsUnread, IsBadAt, IsTooDeepAt}
+use Rattle.sm_tree.specs.SyntaxLaws.{IsRefused, HasOneReading, HasOneAnswer}
 use Rattle.sm_tree.specs.declared.refusal.SyntaxRefusal.{SyntaxRefusal}
 use Rattle.sm_tree.specs.declared.refusal.SyntaxRefusal.TheVariants.{Bad, Ended, TooDeep, KeyKind, NoMemory}
 

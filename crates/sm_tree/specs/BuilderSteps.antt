@@ -1,6 +1,6 @@
 -- What a builder's parts do at an event, by cases on what is open. The private methods of TreeBuilder
 -- cite these words; what the public calls promise is in Building.
-use Rattle.std.specs.Prelude.{ℕ, List, [], ◌∷◌, ◌++◌}
+use Rattle.std.specs.Prelude.{ℕ, [], ◌∷◌, ◌++◌}
 use Rattle.sm_tree.specs.Node.{Node, list, object, nodes_of, members_of}
 use Rattle.sm_tree.specs.Building.{Inner, in_list, in_object, in_pair, Around, around_list, around_object, Building, nothing, whole, within, tagged}
 
