@@ -1,5 +1,6 @@
 pub mod Val
 pub mod View
+pub mod Names
 pub mod Tables
 pub mod Fits
 pub mod Words

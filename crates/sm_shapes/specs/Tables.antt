@@ -1,5 +1,6 @@
 -- What a table says of its shapes and members, by number, and when a table is in order.
-use Rattle.std.specs.Prelude.{◌≡◌, ◌⊎◌, ℕ, ◌<◌, Bool, false, List, [], ◌∷◌, length, Option, Some, None, slice_get}
+use Rattle.std.specs.Prelude.{◌≡◌, ◌⊎◌, ℕ, ◌<◌, Bool, false, List, [], ◌∷◌, map, length, Option, Some, None, unwrap_or, slice_get}
+use Rattle.sm_shapes.specs.Names.{AllDiffer}
 use Rattle.sm_shapes.specs.declared.table.Table.{Table}
 use Rattle.sm_shapes.specs.declared.table.TableShape.{TableShape}
 use Rattle.sm_shapes.specs.declared.table.TableMember.{TableMember}
@@ -13,7 +14,8 @@ shape_count t = length t.shapes
 abbrev pub member_count : Table → ℕ
 member_count t = length t.members
 
--- of a shape that may be missing; a number past the table's end is asked about nowhere
+-- Of a shape that may be missing. Past the table's end these words answer something, to be total; calls ask
+-- within it.
 abbrev pub kind_in : Option TableShape → ShapeKind
 kind_in None = Boolean
 kind_in (Some s) = s.kind
@@ -26,6 +28,11 @@ members_in (Some s) = s.members
 abbrev pub name_in : Option TableMember → List ℕ
 name_in None = []
 name_in (Some m) = m.name
+
+-- the name that a member has where JSON names are looked at: its JSON name, else its name
+abbrev pub json_name_in : Option TableMember → List ℕ
+json_name_in None = []
+json_name_in (Some m) = unwrap_or m.json_name m.name
 
 abbrev pub target_in : Option TableMember → ℕ
 target_in None = 0
@@ -46,10 +53,14 @@ kind_at t s = kind_in (slice_get t.shapes s)
 abbrev pub members_at : Table → ℕ → List ℕ
 members_at t s = members_in (slice_get t.shapes s)
 
--- the name of the member with this number, the number of its target, and whether it is required
+-- the name of the member with this number, and its name where JSON names are looked at
 abbrev pub name_at : Table → ℕ → List ℕ
 name_at t k = name_in (slice_get t.members k)
 
+abbrev pub json_name_at : Table → ℕ → List ℕ
+json_name_at t k = json_name_in (slice_get t.members k)
+
+-- the number of the member's target, and whether it is required
 abbrev pub target_at : Table → ℕ → ℕ
 target_at t k = target_in (slice_get t.members k)
 
@@ -59,15 +70,6 @@ required_at t k = required_in (slice_get t.members k)
 -- the number of the shape that the member stands in
 abbrev pub home_at : Table → ℕ → ℕ
 home_at t k = home_in (slice_get t.members k)
-
--- no two of these members have one name
-abbrev pub NoneNamed : Table → List ℕ → List ℕ → Type 0
-NoneNamed t name [] = Unit {0}
-NoneNamed t name (k ∷ ks) = (name_at t k ≡ name → ⊥) × NoneNamed t name ks
-
-abbrev pub NamesDiffer : Table → List ℕ → Type 0
-NamesDiffer t [] = Unit {0}
-NamesDiffer t (k ∷ ks) = NoneNamed t (name_at t k) ks × NamesDiffer t ks
 
 -- each is the number of a member that stands in the shape s
 abbrev pub StandIn : Table → ℕ → List ℕ → Type 0
@@ -79,10 +81,11 @@ abbrev pub IsAmong : ℕ → List ℕ → Type 0
 IsAmong k [] = ⊥
 IsAmong k (j ∷ js) = (k ≡ j) ⊎ IsAmong k js
 
--- Each number is in range; a member stands in one shape, the one that it names, and the names of one shape's
--- members differ.
+-- Each number is in range; a member stands in one shape, the one that it names; the names of one shape's
+-- members differ, and so do their names where JSON names are looked at.
 pub record Shaped (t : Table) : Type 0 where
   pub targets : (k : ℕ) → k < member_count t → target_at t k < shape_count t
   pub homes : (k : ℕ) → k < member_count t → (home_at t k < shape_count t) × IsAmong k (members_at t (home_at t k))
   pub members : (s : ℕ) → s < shape_count t → StandIn t s (members_at t s)
-  pub names : (s : ℕ) → s < shape_count t → NamesDiffer t (members_at t s)
+  pub names : (s : ℕ) → s < shape_count t → AllDiffer (map (name_at t) (members_at t s))
+  pub json_names : (s : ℕ) → s < shape_count t → AllDiffer (map (json_name_at t) (members_at t s))

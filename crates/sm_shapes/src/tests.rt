@@ -1,9 +1,12 @@
 // What no clause says: that calls succeed where memory is ample, and the calls at work together.
+ghost use Rattle.std.specs.Prelude.{◌≡◌, IfOk, Some};
+ghost use Rattle.sm_shapes.specs.Tables.{Shaped};
+
 use crate::{
     FaultKind, Fields, LiteralPatterns, MemberNumbers, PatternRefusal, Patterns, ShapeKind, Table,
     TableMember, TableMembers, TableShape, TableShapes, Value,
 };
-use sm_tree::Text;
+use sm_tree::{NoMemory, Text};
 use std::alloc::{AllocError, Global};
 use std::test::Fail;
 
@@ -31,7 +34,9 @@ fn member(
     })
 }
 
-fn shape(kind: ShapeKind, members: Vec<u32>) -> TableShape {
+fn shape(kind: ShapeKind, members: Vec<u32>) -> TableShape
+    ensures { result.members ≡ members.items }
+{
     TableShape {
         kind,
         members: MemberNumbers::new(members),
@@ -39,6 +44,40 @@ fn shape(kind: ShapeKind, members: Vec<u32>) -> TableShape {
         sparse: false,
         unit: false,
     }
+}
+
+// A member of the shape 0 that targets the shape 1.
+fn renamed(alloc: Global, name: &str, json_name: &str) -> Result<TableMember, NoMemory>
+    ensures home { IfOk result (λ member. member.shape ≡ 0) }
+    ensures name { IfOk result (λ member. member.name ≡ name.now) }
+    ensures json_name { IfOk result (λ member. member.json_name ≡ Some json_name.now) }
+    ensures target { IfOk result (λ member. member.target ≡ 1) }
+{
+    let name = Text::copy(alloc, name)?;
+    let json_name = Text::copy(alloc, json_name)?;
+    Ok(TableMember {
+        shape: 0,
+        name,
+        json_name: Some(json_name),
+        target: 1,
+        required: true,
+    })
+}
+
+// A structure of two members, each with the other's name as its JSON name.
+fn names_swapped(alloc: Global) -> Result<Table, NoMemory>
+    ensures { IfOk result Shaped }
+{
+    let first = renamed(alloc, "a", "b")?;
+    let second = renamed(alloc, "b", "a")?;
+    let pair = shape(ShapeKind::Structure, vec![in alloc; 0, 1]?);
+    let text = shape(ShapeKind::Text, Vec::new(alloc));
+    let members = vec![in alloc; first, second]?;
+    let shapes = vec![in alloc; pair, text]?;
+    Ok(Table {
+        shapes: TableShapes::new(shapes),
+        members: TableMembers::new(members),
+    })
 }
 
 #[test]
@@ -74,6 +113,12 @@ fn table_gives_what_stands_at_a_number(rt: HostRuntime) -> Result<(), Fail> {
     assert_eq!(rt; table.name(1).as_str(), "next");
     assert_eq!(rt; (table.target(0), table.target(1)), (0, 1));
     assert_eq!(rt; (table.required(0), table.required(1)), (true, false));
+    Ok(())
+}
+
+#[test]
+fn json_names_may_be_names_of_other_members(rt: HostRuntime) -> Result<(), Fail> {
+    assert!(rt; names_swapped(rt.alloc()).is_ok());
     Ok(())
 }
 

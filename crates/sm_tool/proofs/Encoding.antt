@@ -1,11 +1,12 @@
 -- The tree that is written for a value spells it.
-use Rattle.std.proofs.Common.{◌≡◌, ℕ, ◌<◌, false, cond, List, [], ◌∷◌, ◌++◌, refl, sym, ap, ◌∙◌, subst}
+use Rattle.std.proofs.Common.{◌≡◌, ℕ, ◌<◌, false, cond, List, [], ◌∷◌, ◌++◌, map, refl, sym, ap, ◌∙◌, subst}
 use Rattle.std.specs.Str.{bytes_eq}
 use Rattle.std.proofs.lemmas.Slice.Eq.{bytes_eq-Decides}
 use Rattle.std.proofs.lemmas.Bool.{false_from_ne_true}
 use Rattle.sm_tree.specs.Node.{Node, Members, no_members, member}
 use Rattle.sm_shapes.specs.Val.{Val, FieldVals, bool_val, int_val, text_val, structure_val, no_fields, field}
-use Rattle.sm_shapes.specs.Tables.{kind_at, members_at, name_at, target_at, shape_count, member_count, NoneNamed, NamesDiffer, StandIn, Shaped}
+use Rattle.sm_shapes.specs.Tables.{kind_at, members_at, name_at, target_at, shape_count, member_count, StandIn, Shaped}
+use Rattle.sm_shapes.specs.Names.{NoneIs, AllDiffer}
 use Rattle.sm_shapes.specs.Fits.{Fits, FitFields, AreOptional}
 use Rattle.sm_shapes.specs.declared.table.Table.{Table}
 use Rattle.sm_tool.specs.Leaves.{Leaf}
@@ -13,6 +14,14 @@ use Rattle.sm_tool.specs.Members.{named, is_null}
 use Rattle.sm_tool.specs.Spelling.{NoneOrNull, AreAbsent, Spells, SpellsFields}
 use Rattle.sm_tool.specs.Encoded.{LeafWriter, encoded, encoded_fields}
 use Rattle.sm_tool.proofs.Conventions.{Writes}
+
+-- none of these members has the name
+abbrev NoneNamed : Table → List ℕ → List ℕ → Type 0
+NoneNamed t name ks = NoneIs name (map (name_at t) ks)
+
+-- the names of these members differ
+abbrev NamesDiffer : Table → List ℕ → Type 0
+NamesDiffer t ks = AllDiffer (map (name_at t) ks)
 
 -- a pair of another name hides nothing, and a pair of the name stands first
 pub named_other : (name k : List ℕ) (n : Node) (ms : Members) → (k ≡ name → ⊥) → named name (member k n ms) ≡ named name ms

@@ -4,9 +4,9 @@ use Rattle.std.proofs.lemmas.List.{length-map}
 use Rattle.std.proofs.lemmas.Bool.{cases_lt}
 use Rattle.std.proofs.Math.Nat.{eq-or-lt_of_le}
 use Rattle.std.proofs.lemmas.Option.{slice_get_within}
-use Rattle.std.specs.Prelude.{slice_get}
+use Rattle.std.specs.Prelude.{slice_get, unwrap_or}
 use Rattle.sm_tree.specs.Node.{Node, Members, no_members, member}
-use Rattle.sm_shapes.specs.Tables.{shape_count, member_count, members_in, name_in, target_in, home_in, members_at, target_at, home_at, NoneNamed, NamesDiffer, StandIn, IsAmong, Shaped}
+use Rattle.sm_shapes.specs.Tables.{shape_count, member_count, members_in, name_in, json_name_in, target_in, home_in, members_at, name_at, json_name_at, target_at, home_at, StandIn, IsAmong, Shaped}
 use Rattle.sm_shapes.specs.declared.table.Table.{Table}
 use Rattle.sm_shapes.specs.declared.table.TableShape.{TableShape}
 use Rattle.sm_shapes.specs.declared.table.TableMember.{TableMember}
@@ -15,6 +15,14 @@ use Rattle.sm_tool.specs.declared.model.target.SimpleTarget.TheVariants.{String,
 use Rattle.sm_tool.specs.Names.{NoneIs, AllDiffer}
 use Rattle.sm_tool.specs.FirstForm.{MemberLine, StructureLine, member_names, ShapesSay, FirstForm}
 use Rattle.sm_tool.specs.Tabled.{numbers, structure_shapes, simple_shapes, place, member_row, member_rows, table_of}
+
+-- none of these members has the name
+abbrev NoneNamed : Table → List ℕ → List ℕ → Type 0
+NoneNamed t name ks = NoneIs name (map (name_at t) ks)
+
+-- the names of these members differ
+abbrev NamesDiffer : Table → List ℕ → Type 0
+NamesDiffer t ks = AllDiffer (map (name_at t) ks)
 
 -- the element behind a front
 at : {X : Type 0} (before : List X) (x : X) (after : List X) → slice_get (before ++ (x ∷ after)) (length before) ≡ Some x
@@ -48,6 +56,32 @@ target_below : (b : ℕ) (xs : List TableMember) (k : ℕ) → 0 < b → Below b
 target_below b [] k pos h = pos
 target_below b (x ∷ xs) zero pos h = h.0
 target_below b (x ∷ xs) (suc k) pos h = target_below b xs k pos h.1
+
+-- none of these has a JSON name, so each has its own name there
+abbrev HaveNoJsonNames : List TableMember → Type 0
+HaveNoJsonNames [] = Unit {0}
+HaveNoJsonNames (x ∷ xs) = (x.json_name ≡ None) × HaveNoJsonNames xs
+
+no_json_append : (xs ys : List TableMember) → HaveNoJsonNames xs → HaveNoJsonNames ys → HaveNoJsonNames (xs ++ ys)
+no_json_append [] ys h i = i
+no_json_append (x ∷ xs) ys h i = (h.0, no_json_append xs ys h.1 i)
+
+no_json_lines : (n s : ℕ) (ls : List MemberLine) → HaveNoJsonNames (map (member_row n s) ls)
+no_json_lines n s [] = tt
+no_json_lines n s (l ∷ ls) = (refl, no_json_lines n s ls)
+
+no_json_rows : (n s : ℕ) (m : List StructureLine) → HaveNoJsonNames (member_rows n s m)
+no_json_rows n s [] = tt
+no_json_rows n s (l ∷ m) = no_json_append (map (member_row n s) l.members) (member_rows n (s + 1) m) (no_json_lines n s l.members) (no_json_rows n (s + 1) m)
+
+own_name : (xs : List TableMember) (k : ℕ) → HaveNoJsonNames xs → name_in (slice_get xs k) ≡ json_name_in (slice_get xs k)
+own_name [] k h = refl
+own_name (x ∷ xs) zero h = ap (λ json_name. unwrap_or json_name x.name) (sym h.0)
+own_name (x ∷ xs) (suc k) h = own_name xs k h.1
+
+own_names : (t : Table) (ks : List ℕ) → HaveNoJsonNames t.members → map (name_at t) ks ≡ map (json_name_at t) ks
+own_names t [] h = refl
+own_names t (k ∷ ks) h = ap (λ x. x ∷ map (name_at t) ks) (own_name t.members k h) ∙ ap (λ xs. json_name_at t k ∷ xs) (own_names t ks h)
 
 shapes_length : (k : ℕ) (m : List StructureLine) → length (structure_shapes k m) ≡ length m
 shapes_length k [] = refl
@@ -181,6 +215,7 @@ shaped node m form = record {
       home k (rows_home t (length m) 0 [] m refl k (omega arith) (subst (λ b. k < b) (sym zero_more) h));
   members = λ s h. (good s).0;
   names = λ s h. (good s).1;
+  json_names = λ s h. subst AllDiffer (own_names t (members_at t s) (no_json_rows (length m) 0 m)) (good s).1;
 }
   where
     t : Table

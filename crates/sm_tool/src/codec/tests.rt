@@ -1,5 +1,5 @@
 // Objects decoded and encoded by hand. A link has a required text `id`, a link `next` and an integer `count`.
-ghost use Rattle.std.specs.Prelude.{◌≡◌, ◌<◌, IfOk};
+ghost use Rattle.std.specs.Prelude.{◌≡◌, ◌<◌, None, IfOk};
 ghost use Rattle.sm_shapes.specs.Tables.{shape_count, Shaped};
 
 use super::decode::decode;
@@ -17,6 +17,7 @@ use std::test::Fail;
 fn member(alloc: Global, name: &str, target: u32, required: bool) -> Result<TableMember, NoMemory>
     ensures home { IfOk result (λ member. member.shape ≡ 0) }
     ensures name { IfOk result (λ member. member.name ≡ name.now) }
+    ensures json_name { IfOk result (λ member. member.json_name ≡ None) }
     ensures target { IfOk result (λ member. member.target ≡ target) }
 {
     let name = Text::copy(alloc, name)?;
