@@ -1,20 +1,17 @@
 -- What the bytes of an argument leave to come, and what comes behind its last byte.
-use Rattle.std.proofs.Common.{◌≡◌, ◌≢◌, ℕ, ℤ, pos, negsuc, zero, suc, ◌+◌, ◌-◌, ◌*◌, ◌/◌, ◌%◌, ◌≤◌, ◌<◌, ◌⊎◌, inl, inr, List, [], ◌∷◌, ◌++◌, None, refl, sym, ap, subst, ◌∙◌, arith, length}
-use Rattle.sm_tree.specs.Node.{Node}
-use Rattle.sm_tree.specs.Levels.{levels, nodes_levels, members_levels}
+use Rattle.std.proofs.Common.{◌≡◌, ℕ, pos, negsuc, ◌+◌, ◌-◌, ◌*◌, ◌%◌, ◌≤◌, ◌<◌, ◌⊎◌, inl, inr, List, [], ◌∷◌, ◌++◌, None, refl, sym, subst, ◌∙◌, arith, length}
 use Rattle.sm_tree.specs.Events.{NodeEvent, events, tag_event, opaque_event, start_list, start_object}
 use Rattle.sm_tree.proofs.Events.{events_append}
 use Rattle.sm_tree.specs.declared.utf8.Utf8.TheVariants.{Between}
-use Rattle.sm_cbor.specs.Heads.{Number}
 use Rattle.sm_cbor.specs.CborItem.{Keys, IsOpaque}
 use Rattle.sm_cbor.specs.Reading.{integer_node}
-use Rattle.sm_cbor.specs.Rest.{State, Ends, ItemComes, ArgumentEnded, ArgumentComes, before_span, Leads, Stops}
+use Rattle.sm_cbor.specs.Rest.{ArgumentEnded, ArgumentComes, before_span, Leads, Stops}
 use Rattle.sm_cbor.specs.declared.place.StringKind.{StringKind}
 use Rattle.sm_cbor.specs.declared.place.Span.{Span}
 use Rattle.sm_cbor.specs.declared.place.Subject.{Subject}
 use Rattle.sm_cbor.specs.declared.place.Subject.TheVariants.{Unsigned, Negative, String as StringHead, List as ListHead, Map as MapHead, Tag as TagHead, Opaque}
 use Rattle.sm_cbor.specs.declared.place.Level.{Level}
-use Rattle.sm_cbor.specs.declared.place.Level.TheVariants.{Tag, List as AList, ListToBreak as AListToBreak, Map as AMap, MapToBreak as AMapToBreak}
+use Rattle.sm_cbor.specs.declared.place.Level.TheVariants.{Tag, List as AList, Map as AMap}
 use Rattle.sm_cbor.specs.declared.place.Place.TheVariants.{Item, After, Argument as InArgument, String}
 use Rattle.sm_cbor.proofs.Arguments.{number_byte, number_more, number_owed}
 use Rattle.sm_cbor.proofs.Items.{at}

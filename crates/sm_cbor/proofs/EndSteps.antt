@@ -1,5 +1,5 @@
 -- What the reader does where something ends: whole items, strings, and arguments. The answers of those steps cite these.
-use Rattle.std.proofs.Common.{◌≡◌, ◌≢◌, ℕ, pos, negsuc, zero, suc, ◌+◌, ◌-◌, ◌%◌, ◌≤◌, ◌<◌, ◌⊎◌, inl, inr, Bool, true, false, List, [], ◌∷◌, ◌++◌, None, refl, sym, ap, subst, ◌∙◌, arith, length, reverse, append-nil, append_assoc, IsUtf8}
+use Rattle.std.proofs.Common.{◌≡◌, ℕ, pos, negsuc, ◌%◌, ◌≤◌, ◌<◌, inl, inr, true, false, List, [], ◌∷◌, ◌++◌, None, refl, sym, ap, subst, ◌∙◌, arith, length, reverse, append-nil, append_assoc, IsUtf8}
 use Rattle.std.proofs.Common.{Global}
 use Rattle.std.specs.Prelude.{Vec}
 use Rattle.std.proofs.lemmas.Str.{IsUtf8-append}
@@ -9,15 +9,13 @@ use Rattle.sm_tree.specs.Node.{Node, text, bytes, opaque}
 use Rattle.sm_tree.specs.Events.{NodeEvent, events, key_event, text_event, bytes_event, tag_event, opaque_event, start_list, start_object}
 use Rattle.sm_tree.specs.Building.{so_far, kinds, awaits_value, awaits_content, goes_on, IsIn}
 use Rattle.sm_tree.specs.BuilderView.{building_of}
-use Rattle.sm_tree.specs.declared.build.OpenKind.{OpenKind}
-use Rattle.sm_tree.specs.declared.build.OpenKind.TheVariants.{List as a_list, Object as an_object}
+use Rattle.sm_tree.specs.declared.build.OpenKind.TheVariants.{Object as an_object}
 use Rattle.sm_tree.specs.declared.build.TreeBuilder.{TreeBuilder}
-use Rattle.sm_tree.specs.declared.utf8.Utf8.{Utf8}
 use Rattle.sm_tree.specs.declared.utf8.Utf8.TheVariants.{Between}
 use Rattle.sm_cbor.specs.CborItem.{Keys, IsOpaque}
 use Rattle.sm_cbor.specs.Reading.{IsOf, EndsAs, integer_node}
-use Rattle.sm_cbor.specs.Rest.{State, Leads, before_span}
-use Rattle.sm_cbor.specs.Machine.{kinds_of, levels_of, state_at, state_of, handed_on, ArgumentLives, InMap, StringAwaits, Holds, Keeps, Begun, IsAt, IsSound, Goes, Enters, Opens}
+use Rattle.sm_cbor.specs.Rest.{Leads, before_span}
+use Rattle.sm_cbor.specs.Machine.{kinds_of, levels_of, state_at, handed_on, ArgumentLives, InMap, StringAwaits, Holds, Begun, IsAt, Goes, Opens}
 use Rattle.sm_cbor.specs.declared.place.StringKind.{StringKind}
 use Rattle.sm_cbor.specs.declared.place.StringKind.TheVariants.{Bytes, Text, Key as KeyText}
 use Rattle.sm_cbor.specs.declared.place.Span.{Span}
@@ -26,13 +24,12 @@ use Rattle.sm_cbor.specs.declared.place.Subject.{Subject}
 use Rattle.sm_cbor.specs.declared.place.Subject.TheVariants.{Unsigned, Negative, String as StringHead, List as ListHead, Map as MapHead, Tag as TagHead, Opaque}
 use Rattle.sm_cbor.specs.declared.place.Level.{Level}
 use Rattle.sm_cbor.specs.declared.place.Level.TheVariants.{Tag, List as AList, ListToBreak as AListToBreak, Map as AMap, MapToBreak as AMapToBreak}
-use Rattle.sm_cbor.specs.declared.place.Place.{Place}
-use Rattle.sm_cbor.specs.declared.place.Place.TheVariants.{Item, Key, After, Argument as InArgument, String, Chunks}
+use Rattle.sm_cbor.specs.declared.place.Place.TheVariants.{Item, After, Argument as InArgument, String, Chunks}
 use Rattle.sm_cbor.specs.declared.read.Reader.{Reader}
 use Rattle.sm_cbor.proofs.Items.{at}
 use Rattle.sm_cbor.proofs.StringSteps.{bytes_end, text_end, key_end, chunk_end, ends_are}
 use Rattle.sm_cbor.proofs.ArgumentSteps.{unsigned_ends, negative_ends, string_begins, list_opens, map_opens, tag_opens, opaque_ends}
-use Rattle.sm_cbor.proofs.Readings.{leads_joined, goes_by, goes_with, goes_to}
+use Rattle.sm_cbor.proofs.Readings.{goes_by, goes_with, goes_to}
 
 -- behind a tree that the builder took
 pub after_value : (before : Reader) (b : TreeBuilder) → IsAt before Item → kinds (building_of b) ≡ kinds (building_of before.builder) → awaits_value (building_of b) ≡ goes_on (kinds (building_of b)) → awaits_content (building_of b) ≡ false

@@ -1,8 +1,8 @@
 -- From each place where something may come, some bytes complete an item, if the limit has room for what is open.
-use Rattle.std.proofs.Common.{◌≡◌, ◌≢◌, ℕ, zero, suc, ◌+◌, ◌-◌, ◌*◌, ◌/◌, ◌%◌, ◌≤◌, ◌<◌, ◌⊎◌, inl, inr, List, [], ◌∷◌, ◌++◌, refl, sym, ap, subst, ◌∙◌, arith, length}
+use Rattle.std.proofs.Common.{◌≡◌, ℕ, zero, suc, ◌+◌, ◌*◌, ◌%◌, ◌≤◌, inl, inr, List, [], ◌∷◌, ◌++◌, refl, sym, ap, subst, arith, length}
 use Rattle.std.proofs.lemmas.Str.{IsUtf8-nil}
 use Rattle.sm_tree.specs.Json.{AreBytes}
-use Rattle.sm_tree.specs.Node.{Node, Nodes, Members, null, no_nodes, node, no_members, member}
+use Rattle.sm_tree.specs.Node.{Nodes, Members, null, no_nodes, node, no_members, member}
 use Rattle.sm_tree.specs.Levels.{nodes_levels, members_levels}
 use Rattle.sm_tree.specs.Events.{NodeEvent, events, entries_events, pairs_events, key_event, text_event, bytes_event, tag_event, opaque_event, start_list, start_object}
 use Rattle.sm_tree.specs.declared.utf8.Utf8.{Utf8}
@@ -12,8 +12,8 @@ use Rattle.sm_tree.proofs.Characters.{rest_goes_on}
 use Rattle.std.proofs.Common.{None}
 use Rattle.sm_cbor.specs.Heads.{Number}
 use Rattle.sm_cbor.specs.CborItem.{Keys, plain, marked, Key as KeyBytes, Entries, Pairs, IsOpaque}
-use Rattle.sm_cbor.specs.Reading.{EndsAs, integer_node}
-use Rattle.sm_cbor.specs.Rest.{State, Ends, ItemComes, KeyComes, StringEnded, ChunksCome, SpanEnded, StringComes, ArgumentEnded, ArgumentComes, before_span, RestAt, Rest}
+use Rattle.sm_cbor.specs.Reading.{EndsAs}
+use Rattle.sm_cbor.specs.Rest.{Ends, ItemComes, KeyComes, StringEnded, ChunksCome, SpanEnded, StringComes, ArgumentEnded, ArgumentComes, before_span, RestAt}
 use Rattle.sm_cbor.specs.declared.place.StringKind.{StringKind}
 use Rattle.sm_cbor.specs.declared.place.StringKind.TheVariants.{Bytes, Text, Key as KeyText}
 use Rattle.sm_cbor.specs.declared.place.Span.{Span}
@@ -25,7 +25,6 @@ use Rattle.sm_cbor.specs.declared.place.Level.TheVariants.{Tag, List as AList, L
 use Rattle.sm_cbor.specs.declared.place.Place.{Place}
 use Rattle.sm_cbor.specs.declared.place.Place.TheVariants.{Item, Key, After, Argument as InArgument, String, Chunks}
 use Rattle.sm_cbor.specs.Machine.{opens, ArgumentLives, Lives}
-use Rattle.sm_cbor.proofs.Items.{at}
 
 -- as many nulls as are counted, and as many pairs of an empty text and null
 nulls : ℕ → Nodes

@@ -1,15 +1,14 @@
 -- One turn of the reader behind another, and where it ends.
-use Rattle.std.proofs.Common.{Result, Ok, Err, ◌≡◌, ◌≢◌, ℕ, zero, suc, ◌+◌, ◌-◌, ◌^◌, ◌≤◌, ◌<◌, ◌⊎◌, inl, inr, Bool, true, false, List, [], ◌∷◌, ◌++◌, refl, sym, ap, subst, ◌∙◌, arith, length, take, drop, get_or, append-nil, append_assoc, length-drop}
+use Rattle.std.proofs.Common.{Ok, Err, ◌≡◌, ℕ, ◌+◌, ◌-◌, ◌≤◌, ◌<◌, inl, inr, true, false, List, [], ◌∷◌, ◌++◌, refl, sym, ap, subst, ◌∙◌, arith, length, take, drop, get_or, append-nil, append_assoc, length-drop}
 use Rattle.std.proofs.Math.Seq.{take-add}
-use Rattle.std.proofs.lemmas.List.{take_more, drop_more, take-take, take_all, drop_all}
-use Rattle.sm_tree.specs.Syntax.{most_levels}
-use Rattle.sm_tree.specs.Node.{Node, Nodes, Members, null, bool, int, number, text, bytes, tag, opaque, list, object, no_nodes, node, no_members, member}
+use Rattle.std.proofs.lemmas.List.{take_more, drop_more, take_all}
+use Rattle.sm_tree.specs.Node.{Node, null, bool, int, number, text, bytes, tag, opaque, list, object, no_nodes, node, no_members, member}
 use Rattle.sm_tree.specs.Events.{NodeEvent}
 use Rattle.sm_tree.specs.declared.refusal.SyntaxRefusal.{SyntaxRefusal}
 use Rattle.sm_tree.specs.declared.refusal.SyntaxRefusal.TheVariants.{Bad, Ended, TooDeep, KeyKind, NoMemory}
 use Rattle.sm_cbor.specs.CborItem.{Keys, Item as ItemBytes}
-use Rattle.sm_cbor.specs.Rest.{State, Ends, Rest, RestAt, ItemComes}
-use Rattle.sm_cbor.specs.Machine.{levels_of, state_at, state_of, handed_on, Begun, BehindItem, IsAt, IsSound, Goes, TakesByte, TakesFront, TakesAll, RefusesAt, IsPlace, IsWithin, moved_by}
+use Rattle.sm_cbor.specs.Rest.{Ends, Rest, RestAt}
+use Rattle.sm_cbor.specs.Machine.{levels_of, state_of, handed_on, Begun, BehindItem, IsSound, Goes, TakesByte, TakesFront, TakesAll, RefusesAt, IsPlace, IsWithin, moved_by}
 use Rattle.sm_cbor.specs.declared.place.Level.{Level}
 use Rattle.sm_cbor.specs.declared.place.Level.TheVariants.{Tag, List as AList, ListToBreak as AListToBreak, Map as AMap, MapToBreak as AMapToBreak}
 use Rattle.sm_cbor.specs.declared.place.Place.{Place}

@@ -1,27 +1,23 @@
 -- What the reader does with a byte outside of strings. The answers of those steps cite these.
-use Rattle.std.proofs.Common.{◌≡◌, ◌≢◌, ℕ, zero, suc, ◌+◌, ◌-◌, ◌*◌, ◌/◌, ◌%◌, ◌^◌, ◌≤◌, ◌<◌, ◌⊎◌, inl, inr, Bool, true, false, List, [], ◌∷◌, ◌++◌, None, Some, Option, refl, sym, ap, subst, ◌∙◌, arith, length, reverse, append-nil, append_assoc, IsUtf8}
+use Rattle.std.proofs.Common.{◌≡◌, ◌≢◌, ℕ, zero, suc, ◌+◌, ◌-◌, ◌*◌, ◌/◌, ◌%◌, ◌^◌, ◌≤◌, ◌<◌, ◌⊎◌, inl, inr, Bool, true, List, [], ◌∷◌, None, refl, sym, ap, subst, ◌∙◌, arith, length, append-nil}
 use Rattle.std.proofs.Common.{Result, Ok, Err}
 use Rattle.std.proofs.Common.{Global}
-use Rattle.std.specs.Prelude.{Vec, vec_len, option_to_list, MatchOption}
+use Rattle.std.specs.Prelude.{Vec}
 use Rattle.sm_tree.specs.declared.refusal.SyntaxRefusal.{SyntaxRefusal}
 use Rattle.sm_tree.specs.declared.refusal.SyntaxRefusal.TheVariants.{Bad, Ended, TooDeep, KeyKind, NoMemory}
 use Rattle.std.proofs.lemmas.Str.{IsUtf8-nil}
 use Rattle.sm_tree.specs.Syntax.{most_levels}
 use Rattle.sm_tree.specs.Levels.{levels}
 use Rattle.sm_tree.specs.Node.{Node, null, bool, int, number, text, bytes, tag, opaque, list, object}
-use Rattle.sm_tree.specs.Events.{NodeEvent, events, null_event, bool_event, start_list, start_object, end_list, end_object}
-use Rattle.sm_tree.specs.Building.{so_far, kinds, awaits_value, goes_on, IsIn}
+use Rattle.sm_tree.specs.Events.{NodeEvent, events, null_event, bool_event, start_list, start_object}
+use Rattle.sm_tree.specs.Building.{awaits_value, goes_on}
 use Rattle.sm_tree.specs.BuilderView.{building_of}
-use Rattle.sm_tree.specs.declared.build.TreeBuilder.{TreeBuilder}
-use Rattle.sm_tree.specs.declared.build.OpenKind.TheVariants.{List as a_list, Object as an_object}
-use Rattle.sm_tree.specs.declared.build.OpenKind.{OpenKind}
-use Rattle.sm_tree.specs.declared.utf8.Utf8.TheVariants.{Between}
-use Rattle.sm_cbor.specs.CborItem.{Keys, plain, marked, mark, Item as ItemBytes, CborItem}
+use Rattle.sm_cbor.specs.CborItem.{Keys, plain, marked, mark, Item as ItemBytes}
 use Rattle.sm_cbor.specs.Heads.{HasWidth}
 use Rattle.sm_cbor.specs.Refusals.{IsNoText, BeginsOther}
-use Rattle.sm_cbor.specs.Reading.{StartsNumber, HeadIs, SubjectIs, IsOf, major_of, bound}
-use Rattle.sm_cbor.specs.Rest.{State, Rest, RestAt, Leads, Stops, ItemComes, Ends}
-use Rattle.sm_cbor.specs.Machine.{kinds_of, levels_of, state_at, state_of, handed_on, opens_of, ArgumentLives, ArgumentAwaits, ChunksHeld, InMap, StringAwaits, Keeps, Begun, BehindItem, IsAt, IsSound, Goes, Opens, GoesOn, IsBadByte, IsOtherKey, OpensTooDeep, TakesByte, IsFirst, first_level}
+use Rattle.sm_cbor.specs.Reading.{StartsNumber, HeadIs, SubjectIs, IsOf, bound}
+use Rattle.sm_cbor.specs.Rest.{State, Leads, Stops}
+use Rattle.sm_cbor.specs.Machine.{kinds_of, levels_of, state_at, state_of, handed_on, opens_of, ArgumentLives, ArgumentAwaits, ChunksHeld, InMap, StringAwaits, BehindItem, IsAt, IsSound, Goes, Opens, IsBadByte, IsOtherKey, OpensTooDeep, TakesByte, IsFirst, first_level}
 use Rattle.sm_cbor.specs.declared.head.Head.{Head}
 use Rattle.sm_cbor.specs.declared.head.Head.TheVariants.{Argument as ArgumentHead, Chunks as ChunksHead, List as EntriesHead, Map as PairsHead, Null as NullHead, Bool as BoolHead, NoItem}
 use Rattle.sm_cbor.specs.declared.place.StringKind.{StringKind}
@@ -30,20 +26,16 @@ use Rattle.sm_cbor.specs.declared.place.Span.TheVariants.{Whole, Chunk}
 use Rattle.sm_cbor.specs.declared.place.Subject.{Subject}
 use Rattle.sm_cbor.specs.declared.place.Subject.TheVariants.{Unsigned, Negative, String as StringHead, List as ListHead, Map as MapHead, Tag as TagHead, Opaque}
 use Rattle.sm_cbor.specs.declared.place.Level.{Level}
-use Rattle.sm_cbor.specs.declared.place.Level.TheVariants.{Tag, List as AList, ListToBreak as AListToBreak, Map as AMap, MapToBreak as AMapToBreak}
+use Rattle.sm_cbor.specs.declared.place.Level.TheVariants.{ListToBreak as AListToBreak, MapToBreak as AMapToBreak}
 use Rattle.sm_cbor.specs.declared.place.Place.{Place}
-use Rattle.sm_cbor.specs.declared.place.Place.TheVariants.{Item, Key, After, Argument as InArgument, String, Chunks}
+use Rattle.sm_cbor.specs.declared.place.Place.TheVariants.{Item, Key, After, Argument as InArgument, Chunks}
 use Rattle.sm_cbor.specs.declared.read.Reader.{Reader}
-use Rattle.sm_cbor.proofs.Arguments.{no_start}
 use Rattle.sm_cbor.proofs.Items.{at, HeadComes, item_onward, item_back, argument_leads, chunks_lead, list_leads, map_leads, null_leads, bool_leads, item_stops}
 use Rattle.sm_cbor.proofs.KeySteps.{key_leads, key_chunks_lead, key_stops, key_mark}
-use Rattle.sm_cbor.proofs.LevelSteps.{list_breaks, map_breaks, entry_goes_on, pair_goes_on, only_entry, only_pair, done_stops, entry_comes, pair_comes}
-use Rattle.sm_cbor.proofs.StringSteps.{break_leads, chunk_leads, chunks_stop, ends_are}
-use Rattle.sm_cbor.proofs.ArgumentSteps.{argument_byte, simple_stops, argument_no_mark, no_room}
+use Rattle.sm_cbor.proofs.LevelSteps.{entry_goes_on, pair_goes_on, only_entry, only_pair, done_stops, entry_comes, pair_comes}
+use Rattle.sm_cbor.proofs.ArgumentSteps.{no_room}
 use Rattle.sm_cbor.proofs.Endings.{goes_on as something_comes, ends_can, item_can}
-use Rattle.sm_cbor.proofs.Readings.{goes_by, goes_with, goes_to, one_more}
-use Rattle.sm_cbor.proofs.EndSteps.{kind_append}
-use Rattle.sm_cbor.proofs.Settling.{ended_there, from_levels}
+use Rattle.sm_cbor.proofs.Readings.{goes_by, goes_with, goes_to}
 
 -- an argument that begins lives
 pub head_lives : (c k v : ℕ) (j : Subject) → HeadIs c (ArgumentHead j k v) → ArgumentLives j k v

@@ -1,16 +1,16 @@
 -- What the initial byte of an item leaves to come: the laws of `Leads` and `Stops` where an item must come.
-use Rattle.std.proofs.Common.{◌≡◌, ◌≢◌, ℕ, ℤ, pos, negsuc, zero, suc, ◌+◌, ◌*◌, ◌/◌, ◌%◌, ◌^◌, ◌≤◌, ◌<◌, ◌⊎◌, inl, inr, Bool, true, false, cond, nat_lt, List, [], ◌∷◌, ◌++◌, None, refl, sym, ap, subst, ◌∙◌, arith, length, FitsSigned, IsUtf8}
+use Rattle.std.proofs.Common.{◌≡◌, ℕ, ℤ, pos, negsuc, ◌+◌, ◌%◌, ◌^◌, ◌≤◌, ◌<◌, ◌⊎◌, inl, inr, Bool, true, false, cond, List, [], ◌∷◌, None, refl, sym, ap, subst, ◌∙◌, arith, length, FitsSigned, IsUtf8}
 use Rattle.std.specs.Int.{w64}
 use Rattle.std.specs.Fmt.{signed_decimal}
 use Rattle.std.specs.List.{concat}
 use Rattle.std.proofs.lemmas.Bool.{cases_lt, lt-ltb, le-ltb}
-use Rattle.sm_tree.specs.Node.{Node, Nodes, Members, null, bool, int, number, text, bytes, tag, opaque, list, object}
+use Rattle.sm_tree.specs.Node.{Node, null, bool, int, number, text, bytes, tag, opaque, list, object}
 use Rattle.sm_tree.specs.Json.{AreBytes}
-use Rattle.sm_tree.specs.Levels.{levels, nodes_levels, members_levels}
+use Rattle.sm_tree.specs.Levels.{levels}
 use Rattle.sm_tree.specs.Events.{NodeEvent, events, entries_events, pairs_events, null_event, bool_event, tag_event, start_list, start_object}
 use Rattle.sm_tree.proofs.Characters.{utf8_runs, rest_utf8}
 use Rattle.sm_cbor.specs.Heads.{Argument}
-use Rattle.sm_cbor.specs.CborItem.{Keys, Item as ItemBytes, Integer, Entries, EntriesToBreak, Pairs, PairsToBreak, Chunks as ChunkBytes, IsOpaque}
+use Rattle.sm_cbor.specs.CborItem.{Keys, Item as ItemBytes, Integer, EntriesToBreak, PairsToBreak, Chunks as ChunkBytes, IsOpaque}
 use Rattle.sm_cbor.specs.Reading.{SubjectIs, HeadIs, integer_node}
 use Rattle.sm_cbor.specs.Rest.{State, Ends, ItemComes, ChunksCome, ArgumentEnded, ArgumentComes, Leads, Stops}
 use Rattle.sm_cbor.specs.declared.place.StringKind.{StringKind}
@@ -19,9 +19,9 @@ use Rattle.sm_cbor.specs.declared.place.Span.TheVariants.{Whole, Chunk}
 use Rattle.sm_cbor.specs.declared.place.Subject.{Subject}
 use Rattle.sm_cbor.specs.declared.place.Subject.TheVariants.{Unsigned, Negative, String as StringHead, List as ListHead, Map as MapHead, Tag as TagHead, Opaque}
 use Rattle.sm_cbor.specs.declared.place.Level.{Level}
-use Rattle.sm_cbor.specs.declared.place.Level.TheVariants.{Tag, List as AList, ListToBreak as AListToBreak, Map as AMap, MapToBreak as AMapToBreak}
+use Rattle.sm_cbor.specs.declared.place.Level.TheVariants.{ListToBreak as AListToBreak, MapToBreak as AMapToBreak}
 use Rattle.sm_cbor.specs.declared.place.Place.{Place}
-use Rattle.sm_cbor.specs.declared.place.Place.TheVariants.{Item, Key, After, Argument as InArgument, String, Chunks}
+use Rattle.sm_cbor.specs.declared.place.Place.TheVariants.{Item, After, Argument as InArgument, Chunks}
 use Rattle.sm_cbor.specs.declared.head.Head.{Head}
 use Rattle.sm_cbor.specs.declared.head.Head.TheVariants.{Argument as ArgumentHead, Chunks as ChunksHead, List as EntriesHead, Map as PairsHead, Null as NullHead, Bool as BoolHead, NoItem}
 use Rattle.sm_cbor.proofs.Arguments.{argument_starts, argument_back, one_head}

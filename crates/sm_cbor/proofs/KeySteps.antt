@@ -1,12 +1,12 @@
 -- What the initial byte of a map's key leaves to come, and where a mark may stand in place of one.
-use Rattle.std.proofs.Common.{◌≡◌, ◌≢◌, ℕ, ◌+◌, ◌*◌, ◌/◌, ◌%◌, ◌≤◌, ◌<◌, ◌⊎◌, inl, inr, List, [], ◌∷◌, ◌++◌, refl, sym, ap, subst, ◌∙◌, arith, length, IsUtf8}
+use Rattle.std.proofs.Common.{◌≡◌, ◌≢◌, ℕ, ◌/◌, ◌%◌, ◌≤◌, inl, inr, List, [], ◌∷◌, refl, sym, ap, subst, ◌∙◌, arith, length, IsUtf8}
 use Rattle.std.specs.List.{concat}
 use Rattle.sm_tree.specs.Events.{NodeEvent, key_event}
 use Rattle.sm_tree.proofs.Characters.{utf8_runs, rest_utf8}
 use Rattle.sm_cbor.specs.Heads.{Argument}
 use Rattle.sm_cbor.specs.CborItem.{Keys, plain, marked, TextString, Key as KeyBytes, Chunks as ChunkBytes}
 use Rattle.sm_cbor.specs.Reading.{StartsNumber}
-use Rattle.sm_cbor.specs.Rest.{State, ItemComes, KeyComes, ChunksCome, ArgumentComes, Leads, Stops}
+use Rattle.sm_cbor.specs.Rest.{ItemComes, KeyComes, ChunksCome, ArgumentComes, Leads, Stops}
 use Rattle.sm_cbor.specs.declared.place.StringKind.TheVariants.{Key as KeyText}
 use Rattle.sm_cbor.specs.declared.place.Span.TheVariants.{Whole}
 use Rattle.sm_cbor.specs.declared.place.Subject.TheVariants.{String as StringHead}

@@ -1,9 +1,8 @@
 -- What stands behind an item: what ends with it, and the next entry or key. And breaks.
-use Rattle.std.proofs.Common.{◌≡◌, ◌≢◌, ℕ, zero, suc, ◌+◌, ◌-◌, ◌≤◌, ◌<◌, max, ◌⊎◌, inl, inr, List, [], ◌∷◌, ◌++◌, refl, sym, ap, subst, ◌∙◌, arith, length}
-use Rattle.sm_tree.specs.Node.{Node, Nodes, Members, null, bool, int, number, text, bytes, tag, opaque, list, object, no_nodes, node, no_members, member}
-use Rattle.sm_tree.specs.Levels.{levels, nodes_levels, members_levels}
+use Rattle.std.proofs.Common.{◌≡◌, ◌≢◌, ℕ, suc, ◌-◌, ◌≤◌, ◌<◌, ◌⊎◌, inl, inr, List, [], ◌∷◌, ◌++◌, refl, sym, ap, subst, ◌∙◌, arith, length}
+use Rattle.sm_tree.specs.Node.{no_nodes, node, no_members, member}
 use Rattle.sm_tree.specs.Events.{NodeEvent, events, entries_events, pairs_events, end_list, end_object, key_event}
-use Rattle.sm_cbor.specs.CborItem.{Keys, plain, marked, Item as ItemBytes, Entries, EntriesToBreak, Pairs, PairsToBreak, Key as KeyBytes}
+use Rattle.sm_cbor.specs.CborItem.{Keys, plain, marked, Entries, Pairs}
 use Rattle.sm_cbor.specs.Reading.{HeadIs}
 use Rattle.sm_cbor.specs.Rest.{State, Ends, ItemComes, KeyComes, Leads, Stops}
 use Rattle.sm_cbor.specs.declared.head.Head.TheVariants.{NoItem}

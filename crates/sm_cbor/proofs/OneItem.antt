@@ -1,5 +1,5 @@
 -- Bytes are an item of at most one tree, and are one thing alone: by cases on two trees that they are an item of.
-use Rattle.std.proofs.Common.{◌≡◌, ◌≢◌, ℕ, ℤ, pos, negsuc, zero, suc, ◌+◌, ◌-◌, ◌*◌, ◌/◌, ◌%◌, ◌≤◌, ◌<◌, ◌==◌, ◌⊎◌, inl, inr, Bool, true, false, cond, List, [], ◌∷◌, ◌++◌, refl, sym, ap, subst, ◌∙◌, arith, length, length-append, append-nil, IsUtf8, FitsSigned}
+use Rattle.std.proofs.Common.{◌≡◌, ◌≢◌, ℕ, ℤ, pos, negsuc, zero, suc, ◌+◌, ◌*◌, ◌/◌, ◌%◌, ◌<◌, ◌==◌, inl, inr, true, false, cond, List, [], ◌∷◌, ◌++◌, refl, sym, ap, subst, ◌∙◌, arith, length, length-append, append-nil, IsUtf8, FitsSigned}
 use Rattle.std.specs.Int.{w64}
 use Rattle.std.specs.Fmt.{signed_decimal}
 use Rattle.std.specs.List.{concat}
@@ -8,7 +8,7 @@ use Rattle.std.proofs.lemmas.Bool.Decides.{nat_tests}
 use Rattle.sm_tree.specs.Json.{AreBytes}
 use Rattle.sm_tree.specs.Node.{Node, Nodes, Members, null, bool, int, number, text, bytes, tag, opaque, list, object, no_nodes, node, no_members, member}
 use Rattle.sm_cbor.specs.Heads.{Byte, Number, Argument, Head, Indefinite}
-use Rattle.sm_cbor.specs.CborItem.{plain, Item, Integer, Definite, Chunks, String, TextString, Entries, EntriesToBreak, Pairs, PairsToBreak, CborItem}
+use Rattle.sm_cbor.specs.CborItem.{plain, Item, Integer, Definite, Chunks, String, TextString, Entries, EntriesToBreak, Pairs, PairsToBreak}
 use Rattle.sm_cbor.specs.Laws.{OneReading}
 use Rattle.sm_cbor.proofs.Arguments.{argument_starts, argument_onward, no_argument}
 use Rattle.sm_cbor.proofs.StringSteps.{split}

@@ -1,12 +1,12 @@
 -- Bytes are one thing alone: an item that is read, or bad at one place for one cause, or cut short.
-use Rattle.std.proofs.Common.{◌≡◌, ℕ, suc, ◌+◌, ◌-◌, ◌≤◌, ◌<◌, ◌⊎◌, inl, inr, List, [], ◌∷◌, ◌++◌, refl, sym, ap, subst, ◌∙◌, arith, length, take, drop, append_assoc, append-nil, take-append-drop}
+use Rattle.std.proofs.Common.{◌≡◌, ℕ, ◌+◌, ◌-◌, ◌≤◌, inl, inr, List, [], ◌++◌, refl, sym, ap, subst, arith, take, drop, append_assoc, append-nil, take-append-drop}
 use Rattle.std.proofs.Math.Seq.{take-add}
 use Rattle.std.proofs.lemmas.Bool.{cases_order}
 use Rattle.sm_tree.specs.Node.{Node}
-use Rattle.sm_tree.specs.Syntax.{most_levels, IsRead, Begins, BeginsRead, IsBadAt, IsTooDeepAt, IsCutShort}
+use Rattle.sm_tree.specs.Syntax.{IsRead, Begins, BeginsRead, IsBadAt, IsTooDeepAt}
 use Rattle.sm_cbor.specs.CborItem.{CborItem}
 use Rattle.sm_cbor.specs.Refusals.{IsKeyKindAt, IsBadByteAt}
-use Rattle.sm_cbor.specs.Answers.{Verdict, read, bad, too_deep, key_kind, cut_short, Is}
+use Rattle.sm_cbor.specs.Answers.{read, bad, too_deep, key_kind, cut_short}
 use Rattle.sm_cbor.specs.Laws.{OneAnswer}
 use Rattle.sm_cbor.proofs.OneItem.{one_reading}
 

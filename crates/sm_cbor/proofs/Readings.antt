@@ -1,15 +1,11 @@
 -- Steps of the reader, from the laws of `Leads`: how they join, and what the levels of a vector are.
-use Rattle.std.proofs.Common.{◌≡◌, ◌≢◌, ℕ, zero, suc, ◌+◌, ◌-◌, ◌*◌, ◌/◌, ◌%◌, ◌≤◌, ◌<◌, ◌⊎◌, inl, inr, Bool, true, false, List, [], ◌∷◌, ◌++◌, Option, None, Some, refl, sym, ap, subst, ◌∙◌, arith, length, take, drop, get_or, reverse, append-nil, append_assoc, take-append-drop, length-drop}
-use Rattle.std.proofs.Math.Seq.{take-add}
-use Rattle.std.proofs.lemmas.List.{take_more, drop_more, take-take, take_all, drop_all, reverse-append, length-reverse}
-use Rattle.std.specs.Prelude.{option_to_list, slice_get}
+use Rattle.std.proofs.Common.{◌≡◌, ℕ, ◌≤◌, List, [], ◌∷◌, ◌++◌, refl, sym, ap, subst, ◌∙◌, reverse, append_assoc}
+use Rattle.std.proofs.lemmas.List.{reverse-append}
 use Rattle.sm_tree.specs.Syntax.{most_levels}
 use Rattle.sm_tree.specs.Events.{NodeEvent}
-use Rattle.sm_tree.specs.Building.{so_far, kinds, awaits_value}
-use Rattle.sm_tree.specs.BuilderView.{building_of}
 use Rattle.sm_cbor.specs.CborItem.{Keys}
-use Rattle.sm_cbor.specs.Rest.{State, Rest, Leads, Stops}
-use Rattle.sm_cbor.specs.Machine.{levels_of, state_at, state_of, handed_on, IsAt, IsSound, Goes}
+use Rattle.sm_cbor.specs.Rest.{State, Rest, Leads}
+use Rattle.sm_cbor.specs.Machine.{state_at, state_of, handed_on, IsSound, Goes}
 use Rattle.sm_cbor.specs.declared.place.Level.{Level}
 use Rattle.sm_cbor.specs.declared.place.Place.{Place}
 use Rattle.sm_cbor.specs.declared.read.Reader.{Reader}

@@ -1,21 +1,20 @@
 -- What the reader does with bytes of strings. The answers of those steps cite these.
-use Rattle.std.proofs.Common.{◌≡◌, ◌≢◌, ◌↔◌, ℕ, zero, suc, ◌+◌, ◌-◌, ◌≤◌, ◌<◌, ◌⊎◌, inl, inr, Option, None, Some, List, [], ◌∷◌, ◌++◌, refl, sym, ap, subst, ◌∙◌, arith, length, take, get_or, length-take, length-append, append-nil, append_assoc, IsUtf8}
+use Rattle.std.proofs.Common.{◌≡◌, ◌≢◌, ◌↔◌, ℕ, suc, ◌-◌, ◌≤◌, ◌<◌, inl, inr, Option, Some, List, [], ◌∷◌, ◌++◌, refl, sym, ap, subst, ◌∙◌, arith, length, take, get_or, length-take, append-nil, append_assoc, IsUtf8}
 use Rattle.std.proofs.Common.{Global}
 use Rattle.std.specs.Prelude.{Vec}
-use Rattle.std.proofs.lemmas.List.{take-take, take_all}
+use Rattle.std.proofs.lemmas.List.{take-take}
 use Rattle.sm_tree.specs.Json.{AreBytes}
 use Rattle.sm_tree.specs.Syntax.{most_levels}
-use Rattle.sm_tree.specs.Events.{NodeEvent}
 use Rattle.sm_tree.specs.declared.utf8.Utf8.{Utf8}
 use Rattle.sm_tree.specs.declared.utf8.Utf8.TheVariants.{Between, Second, LastTwo, Last}
 use Rattle.sm_tree.specs.Utf8 as utf8
 use Rattle.sm_tree.proofs.Characters.{utf8_runs, over, whole_then}
 use Rattle.std.proofs.lemmas.Bool.{cases_lt}
 use Rattle.std.proofs.lemmas.Bool.Decides.{nat_tests}
-use Rattle.sm_cbor.specs.CborItem.{Keys, plain, marked, mark}
+use Rattle.sm_cbor.specs.CborItem.{Keys, plain, marked}
 use Rattle.sm_cbor.specs.Reading.{IsOf, EndsAs}
-use Rattle.sm_cbor.specs.Rest.{State, Leads}
-use Rattle.sm_cbor.specs.Machine.{levels_of, state_at, state_of, handed_on, Holds, Keeps, Begun, IsAt, IsSound, Goes, IsBadByte, RunFits, IsFront, IsTextPlace, IsBytesPlace}
+use Rattle.sm_cbor.specs.Rest.{Leads}
+use Rattle.sm_cbor.specs.Machine.{levels_of, state_at, handed_on, Holds, Begun, IsAt, IsSound, Goes, IsBadByte, RunFits, IsFront, IsTextPlace, IsBytesPlace}
 use Rattle.sm_cbor.specs.declared.place.StringKind.{StringKind}
 use Rattle.sm_cbor.specs.declared.place.StringKind.TheVariants.{Bytes, Text, Key as KeyText}
 use Rattle.sm_cbor.specs.declared.place.Span.{Span}

@@ -1,5 +1,5 @@
 -- What bytes leave to come of a string and of its chunks: the laws of `Leads` and `Stops` there.
-use Rattle.std.proofs.Common.{◌≡◌, ◌≢◌, ℕ, zero, suc, ◌+◌, ◌-◌, ◌/◌, ◌%◌, ◌≤◌, ◌<◌, ◌⊎◌, inl, inr, Option, None, Some, List, [], ◌∷◌, ◌++◌, refl, sym, ap, subst, ◌∙◌, arith, length, length-append, append-nil, append_assoc, IsUtf8}
+use Rattle.std.proofs.Common.{◌≡◌, ◌≢◌, ℕ, ◌+◌, ◌-◌, ◌/◌, ◌%◌, ◌≤◌, ◌<◌, Option, None, Some, List, [], ◌∷◌, ◌++◌, refl, sym, ap, subst, ◌∙◌, arith, length, length-append, append-nil, append_assoc, IsUtf8}
 use Rattle.std.specs.List.{concat}
 use Rattle.sm_tree.specs.Json.{AreBytes}
 use Rattle.sm_tree.specs.Events.{NodeEvent, key_event, text_event, bytes_event}
@@ -8,17 +8,17 @@ use Rattle.sm_tree.specs.declared.utf8.Utf8.TheVariants.{Between}
 use Rattle.sm_tree.specs.Utf8 as utf8
 use Rattle.sm_tree.proofs.Characters.{utf8_runs, rest_utf8, over, no_rest, whole_then, rest_fits, no_byte}
 use Rattle.sm_cbor.specs.Heads.{Argument}
-use Rattle.sm_cbor.specs.CborItem.{Keys, Chunks as ChunkBytes}
+use Rattle.sm_cbor.specs.CborItem.{Keys}
 use Rattle.sm_cbor.specs.Reading.{StartsNumber, major_of, IsOf, EndsAs}
-use Rattle.sm_cbor.specs.Rest.{State, Ends, ItemComes, StringEnded, ChunksCome, SpanEnded, StringComes, ArgumentComes, Leads, Stops}
+use Rattle.sm_cbor.specs.Rest.{StringEnded, ChunksCome, SpanEnded, StringComes, ArgumentComes, Leads, Stops}
 use Rattle.sm_cbor.specs.declared.place.StringKind.{StringKind}
 use Rattle.sm_cbor.specs.declared.place.StringKind.TheVariants.{Bytes, Text, Key as KeyText}
 use Rattle.sm_cbor.specs.declared.place.Span.{Span}
 use Rattle.sm_cbor.specs.declared.place.Span.TheVariants.{Whole, Chunk}
 use Rattle.sm_cbor.specs.declared.place.Subject.TheVariants.{String as StringHead}
 use Rattle.sm_cbor.specs.declared.place.Level.{Level}
-use Rattle.sm_cbor.specs.declared.place.Place.TheVariants.{Item, Key, After, Argument as InArgument, String, Chunks}
-use Rattle.sm_cbor.proofs.Arguments.{no_start, argument_onward, argument_back, no_argument}
+use Rattle.sm_cbor.specs.declared.place.Place.TheVariants.{Item, After, Argument as InArgument, String, Chunks}
+use Rattle.sm_cbor.proofs.Arguments.{argument_onward, argument_back, no_argument}
 use Rattle.sm_cbor.proofs.Items.{at}
 
 -- a run that is no longer than what comes is its front

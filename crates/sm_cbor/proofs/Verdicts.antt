@@ -1,20 +1,20 @@
 -- From the reader's steps to what bytes are: an item, cut short, or refused at one place for one cause.
-use Rattle.std.proofs.Common.{Result, Ok, Err, ◌≡◌, ◌≢◌, ℕ, zero, suc, ◌+◌, ◌-◌, ◌≤◌, ◌<◌, max, ◌⊎◌, inl, inr, List, [], ◌∷◌, ◌++◌, refl, sym, ap, subst, ◌∙◌, arith, length, take, drop, get_or, append-nil, append_assoc}
+use Rattle.std.proofs.Common.{Result, Ok, Err, ◌≡◌, ℕ, ◌+◌, ◌≤◌, ◌<◌, max, inl, inr, List, [], ◌∷◌, ◌++◌, refl, sym, ap, subst, ◌∙◌, arith, length, take, get_or, append-nil, append_assoc}
 use Rattle.std.proofs.lemmas.List.{take_more}
 use Rattle.sm_tree.specs.Node.{Node}
 use Rattle.sm_tree.specs.Levels.{levels}
 use Rattle.sm_tree.specs.View.{node_of}
-use Rattle.sm_tree.specs.Syntax.{most_levels, IsRead, Begins, BeginsRead, IsBadAt, IsTooDeepAt, IsCutShort}
+use Rattle.sm_tree.specs.Syntax.{most_levels, Begins, BeginsRead, IsBadAt, IsTooDeepAt}
 use Rattle.sm_tree.specs.Events.{NodeEvent, events}
 use Rattle.sm_tree.specs.declared.tree.Tree.{Tree}
 use Rattle.sm_tree.specs.declared.refusal.SyntaxRefusal.{SyntaxRefusal}
 use Rattle.sm_tree.specs.declared.refusal.SyntaxRefusal.TheVariants.{Bad, Ended, TooDeep, KeyKind, NoMemory}
 use Rattle.sm_tree.proofs.Events.{events_injective}
 use Rattle.sm_cbor.specs.CborItem.{Keys, plain, marked, mark, Item as ItemBytes, CborItem}
-use Rattle.sm_cbor.specs.Refusals.{EndsAtKey, BeginsOther, IsKeyKindAt, IsBadByteAt}
+use Rattle.sm_cbor.specs.Refusals.{IsKeyKindAt, IsBadByteAt}
 use Rattle.sm_cbor.specs.Answers.{ReadsTree}
-use Rattle.sm_cbor.specs.Rest.{State, start, Rest, Leads, Stops}
-use Rattle.sm_cbor.specs.Machine.{Keeps, Lives, opens, state_at, state_of, levels_of, handed_on, IsAt, IsSound, Goes, GoesOn, IsBadByte, IsOtherKey, OpensTooDeep, RefusesAt, IsPlace, TakesAll, Finishes}
+use Rattle.sm_cbor.specs.Rest.{start, Rest, Leads, Stops}
+use Rattle.sm_cbor.specs.Machine.{Lives, state_at, state_of, levels_of, handed_on, IsAt, IsSound, Goes, RefusesAt, IsPlace, TakesAll, Finishes}
 use Rattle.sm_cbor.specs.declared.place.Place.{Place}
 use Rattle.sm_cbor.specs.declared.place.Place.TheVariants.{Item, Key, After, Argument as InArgument, String, Chunks}
 use Rattle.sm_cbor.specs.declared.read.Reader.{Reader}

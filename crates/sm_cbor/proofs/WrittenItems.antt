@@ -1,12 +1,12 @@
 -- What is written for a tree is an item of that tree.
-use Rattle.std.proofs.Common.{◌≡◌, ℕ, ℤ, pos, negsuc, zero, suc, ◌+◌, ◌-◌, ◌*◌, ◌/◌, ◌%◌, ◌^◌, ◌≤◌, ◌<◌, ◌⊎◌, inl, inr, Bool, true, false, cond, nat_lt, List, [], ◌∷◌, ◌++◌, refl, sym, ap, subst, ◌∙◌, arith, length, length-append, append_assoc, append-nil, IsUtf8, FitsSigned}
+use Rattle.std.proofs.Common.{◌≡◌, ℕ, ℤ, pos, negsuc, suc, ◌+◌, ◌*◌, ◌/◌, ◌%◌, ◌^◌, ◌≤◌, ◌<◌, inl, inr, true, false, List, [], ◌∷◌, ◌++◌, refl, sym, ap, subst, ◌∙◌, arith, length, length-append, append_assoc, append-nil, IsUtf8, FitsSigned}
 use Rattle.std.specs.Int.{w64}
 use Rattle.std.proofs.lemmas.Bool.{cond-true, cond-false, lt-ltb, le-ltb, cases_lt}
 use Rattle.sm_tree.specs.Json.{AreBytes, IsCbor, AreCbor, AreCborMembers}
 use Rattle.sm_tree.specs.Node.{Node, Nodes, Members, null, bool, int, number, text, bytes, tag, opaque, list, object, no_nodes, node, no_members, member}
 use Rattle.sm_cbor.specs.Heads.{Number, Head}
 use Rattle.sm_cbor.specs.CborItem.{plain, Item, Integer, Definite, TextString, Entries, Pairs}
-use Rattle.sm_cbor.specs.Written.{two_bytes, four_bytes, eight_bytes, written_head, written_int, int_type, int_argument, written_text, nodes_count, members_count, written, written_entries, written_pairs}
+use Rattle.sm_cbor.specs.Written.{two_bytes, four_bytes, eight_bytes, written_head, written_int, written_text, nodes_count, members_count, written, written_entries, written_pairs}
 use Rattle.sm_cbor.specs.Laws.{WrittenIsItem}
 
 -- the five forms of a head

@@ -1,5 +1,5 @@
 -- What some bytes are: an item that is read, or none and why. And what `read_tree` answers for them.
-use Rattle.std.specs.Prelude.{◌≡◌, ℕ, List, Result, Ok, Err}
+use Rattle.std.specs.Prelude.{ℕ, List, Result, Ok, Err}
 use Rattle.sm_tree.specs.Node.{Node}
 use Rattle.sm_tree.specs.View.{node_of}
 use Rattle.sm_tree.specs.Syntax.{IsRead, IsTooDeepAt, IsCutShort}

@@ -1,6 +1,6 @@
 -- The items of CBOR (RFC 8949, section 3) with text keys: which bytes are an item of which tree. By cases on the
 -- tree, in the form "s begins with an item of n, and r is what follows it". Levels aren't limited here.
-use Rattle.std.specs.Prelude.{◌≡◌, ℕ, ℤ, pos, negsuc, zero, suc, ◌+◌, ◌*◌, ◌/◌, ◌%◌, ◌<◌, ◌≤◌, ◌⊎◌, true, false, FitsSigned, IsUtf8, List, [], ◌∷◌, ◌++◌, length}
+use Rattle.std.specs.Prelude.{◌≡◌, ℕ, ℤ, pos, negsuc, suc, ◌/◌, ◌%◌, ◌<◌, ◌≤◌, ◌⊎◌, true, false, FitsSigned, IsUtf8, List, [], ◌∷◌, ◌++◌, length}
 use Rattle.std.specs.Int.{w64}
 use Rattle.std.specs.Fmt.{signed_decimal}
 use Rattle.std.specs.List.{concat}

@@ -1,6 +1,6 @@
 -- What a reader stands for, what it keeps, and what its steps do. The contracts of the reader's methods cite it; that
 -- of `read_tree` doesn't.
-use Rattle.std.specs.Prelude.{◌≡◌, ℕ, zero, suc, ◌/◌, ◌+◌, ◌*◌, ◌-◌, ◌%◌, ◌^◌, ◌≤◌, ◌<◌, ◌⊎◌, ◌↔◌, ◌≢◌, Option, None, Some, Bool, true, false, List, [], ◌∷◌, ◌++◌, take, reverse, length, slice_index, Result, Ok, Err, OnOk}
+use Rattle.std.specs.Prelude.{◌≡◌, ℕ, ◌+◌, ◌-◌, ◌%◌, ◌≤◌, ◌<◌, ◌⊎◌, ◌↔◌, ◌≢◌, Option, None, Some, Bool, true, false, List, [], ◌∷◌, ◌++◌, take, reverse, length, slice_index, Result, Ok, Err}
 use Rattle.sm_tree.specs.Syntax.{most_levels}
 use Rattle.sm_tree.specs.Events.{NodeEvent, events}
 use Rattle.sm_tree.specs.View.{node_of}
@@ -12,7 +12,6 @@ use Rattle.sm_tree.specs.declared.build.OpenKind.TheVariants.{List as a_list, Ob
 use Rattle.sm_tree.specs.declared.refusal.SyntaxRefusal.{SyntaxRefusal}
 use Rattle.sm_tree.specs.declared.refusal.SyntaxRefusal.TheVariants.{Bad, Ended, TooDeep, KeyKind, NoMemory}
 use Rattle.sm_tree.specs.declared.utf8.Utf8.{Utf8}
-use Rattle.sm_tree.specs.declared.utf8.Utf8.TheVariants.{Between}
 use Rattle.sm_tree.specs.Utf8 as utf8
 use Rattle.sm_cbor.specs.CborItem.{Keys, plain, marked, mark, IsOpaque}
 use Rattle.sm_cbor.specs.Refusals.{BeginsOther}

@@ -1,5 +1,5 @@
 -- What the reader makes of a head, in words of its own. Its private methods cite it.
-use Rattle.std.specs.Prelude.{◌≡◌, ◌≢◌, ℕ, zero, suc, ◌+◌, ◌*◌, ◌/◌, ◌%◌, ◌<◌, ◌≤◌, ◌⊎◌, ◌^◌, nat_lt, if◌then◌else◌, ℤ, true, false, Option, None, Some, List, [], length, take, drop, slice_index, IsUtf8}
+use Rattle.std.specs.Prelude.{◌≡◌, ◌≢◌, ℕ, zero, suc, ◌+◌, ◌/◌, ◌%◌, ◌<◌, ◌≤◌, ◌⊎◌, ◌^◌, nat_lt, if◌then◌else◌, ℤ, true, false, Option, None, Some, List, [], length, take, drop, slice_index, IsUtf8}
 use Rattle.std.specs.Fmt.{signed_decimal}
 use Rattle.sm_tree.specs.Json.{AreBytes}
 use Rattle.sm_tree.specs.Node.{Node, int, number}

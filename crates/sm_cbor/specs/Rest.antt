@@ -3,7 +3,7 @@
 -- Any depth is a limit, so nothing here is bound to the reader's own; and keys may be marked or not.
 use Rattle.std.specs.Prelude.{◌≡◌, ℕ, suc, pos, negsuc, ◌+◌, ◌%◌, ◌≤◌, None, List, [], ◌∷◌, ◌++◌, length}
 use Rattle.std.specs.List.{concat}
-use Rattle.sm_tree.specs.Node.{Node, Nodes, Members, null, bool}
+use Rattle.sm_tree.specs.Node.{Node, Nodes, Members}
 use Rattle.sm_tree.specs.Levels.{levels, nodes_levels, members_levels}
 use Rattle.sm_tree.specs.Events.{NodeEvent, events, entries_events, pairs_events, key_event, text_event, bytes_event, tag_event, opaque_event, start_list, start_object}
 use Rattle.sm_tree.specs.declared.utf8.Utf8.{Utf8}

@@ -1,6 +1,5 @@
-use Rattle.std.proofs.Common.{◌≡◌, ◌≤◌, inl, inr, true, false, refl, arith}
+use Rattle.std.proofs.Common.{◌≡◌, inl, inr, true, false, refl, arith}
 use Rattle.std.proofs.lemmas.Bool.{cases_lt}
-use Rattle.sm_cbor.specs.declared.place.Subject.TheVariants.{Opaque}
 use Rattle.sm_cbor.proofs.ByteSteps.{argument_more, argument_takes, simple_bad, sum_fits}
 use Rattle.sm_cbor.proofs.read.Reader.argument.Goals as goal
 

@@ -1,5 +1,5 @@
-use Rattle.std.proofs.Common.{arith, refl}
-use Rattle.sm_cbor.proofs.ByteSteps.{chunks_string, break_goes, chunk_begins, chunk_there, chunk_bad}
+use Rattle.std.proofs.Common.{refl}
+use Rattle.sm_cbor.proofs.ByteSteps.{chunks_string, break_goes, chunk_begins, chunk_bad}
 use Rattle.sm_cbor.proofs.read.Reader.chunk.Goals as goal
 
 pub end_string-requires : goal.end_string-requires

@@ -1,5 +1,4 @@
-use Rattle.std.proofs.Common.{arith}
-use Rattle.sm_cbor.proofs.FeedSteps.{turn_goes, turn_refused, whole_goes, goes_nowhere}
+use Rattle.sm_cbor.proofs.FeedSteps.{turn_goes, turn_refused}
 use Rattle.sm_cbor.proofs.read.Reader.feed.Goals as goal
 
 pub loop-at-preserved : goal.loop-at-preserved

@@ -3,7 +3,7 @@ use Rattle.sm_cbor.specs.Machine.{Goes}
 use Rattle.sm_cbor.specs.declared.place.Place.TheVariants.{Item}
 use Rattle.sm_cbor.specs.declared.read.Reader.{Reader}
 use Rattle.sm_tree.proofs.Views.{node_null, node_bool}
-use Rattle.sm_cbor.proofs.InitialSteps.{argument_there, argument_goes, argument_deep, list_deep, map_deep, list_begins, map_begins, chunks_begin, null_goes, bool_goes, item_bad}
+use Rattle.sm_cbor.proofs.InitialSteps.{argument_goes, argument_deep, list_deep, map_deep, list_begins, map_begins, chunks_begin, null_goes, bool_goes, item_bad}
 use Rattle.sm_cbor.proofs.read.Reader.item.Goals as goal
 
 pub returns-then-is_full : goal.returns-then-is_full

@@ -1,5 +1,5 @@
 use Rattle.std.proofs.Common.{refl}
-use Rattle.sm_cbor.proofs.FrontSteps.{head_there, head_front, head_deep}
+use Rattle.sm_cbor.proofs.FrontSteps.{head_front, head_deep}
 use Rattle.sm_cbor.proofs.read.Reader.take_head.Goals as goal
 
 pub returns-then-is_full : goal.returns-then-is_full

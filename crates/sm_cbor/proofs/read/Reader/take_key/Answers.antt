@@ -2,7 +2,7 @@ use Rattle.std.proofs.Common.{[], ◌∷◌, ◌++◌, ap, ◌∙◌}
 use Rattle.sm_tree.specs.Events.{key_event}
 use Rattle.sm_tree.specs.Building.{so_far}
 use Rattle.sm_tree.specs.BuilderView.{building_of}
-use Rattle.sm_cbor.proofs.FrontSteps.{key_front, key_may}
+use Rattle.sm_cbor.proofs.FrontSteps.{key_front}
 use Rattle.sm_cbor.proofs.read.Reader.take_key.Goals as goal
 
 pub returns-in_ok-copy-in-Some : goal.returns-in_ok-copy-in-Some

@@ -1,4 +1,4 @@
-use Rattle.std.proofs.Common.{refl, ◌∙◌, arith}
+use Rattle.std.proofs.Common.{arith}
 use Rattle.std.proofs.lemmas.Result.{on_ok_weaker}
 use Rattle.sm_cbor.proofs.RunSteps.{run_goes, run_ends}
 use Rattle.sm_cbor.proofs.read.Reader.take_run.Goals as goal

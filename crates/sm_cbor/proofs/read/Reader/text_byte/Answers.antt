@@ -1,5 +1,4 @@
-use Rattle.std.proofs.Common.{Some, None, refl, sym, ap, subst, ◌∙◌}
-use Rattle.sm_cbor.proofs.StringSteps.{Misfits}
+use Rattle.std.proofs.Common.{Some, None, refl, sym, ◌∙◌}
 use Rattle.sm_cbor.proofs.RunSteps.{text_bad, misfit_from}
 use Rattle.sm_cbor.proofs.read.Reader.text_byte.Goals as goal
 

@@ -1,4 +1,3 @@
-use Rattle.std.proofs.Common.{arith}
 use Rattle.sm_cbor.proofs.RunSteps.{text_front_fits}
 use Rattle.sm_cbor.proofs.read.Reader.text_bytes.Goals as goal
 

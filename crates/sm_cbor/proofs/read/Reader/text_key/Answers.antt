@@ -2,7 +2,7 @@ use Rattle.std.proofs.Common.{[], ◌∷◌, sym, subst}
 use Rattle.sm_cbor.specs.Machine.{Goes}
 use Rattle.sm_cbor.specs.declared.place.Place.TheVariants.{Key}
 use Rattle.sm_cbor.specs.declared.read.Reader.{Reader}
-use Rattle.sm_cbor.proofs.InitialSteps.{key_there, key_begins, key_chunks_begin, text_bad}
+use Rattle.sm_cbor.proofs.InitialSteps.{key_begins, key_chunks_begin}
 use Rattle.sm_cbor.proofs.read.Reader.text_key.Goals as goal
 
 pub returns-then-byte-eq127 : goal.returns-then-byte-eq127
