@@ -1,5 +1,5 @@
 -- The test of a literal pattern holds exactly of the texts of which it is a part.
-use Rattle.std.proofs.Common.{◌≡◌, ◌↔◌, ◌++◌, ◌∷◌, ◌∙◌, ◌==◌, [], None, ℕ, Bool, true, false, cond, List, length, drop, refl, sym, ap, subst}
+use Rattle.std.proofs.Common.{◌≡◌, ◌↔◌, ◌++◌, ◌∷◌, ◌∙◌, ◌==◌, [], None, ℕ, Bool, true, false, cond, List, length, drop, refl, sym, ap}
 use Rattle.std.specs.Bool.{MatchBool}
 use Rattle.std.specs.List.{starts_with}
 use Rattle.std.specs.Str.Pattern.{HasMatch, FindsText}

@@ -1,5 +1,5 @@
 -- The texts of date-time: 19 bytes, a fraction and a zone, which the text determines.
-use Rattle.std.proofs.Common.{◌≡◌, ◌≢◌, ℕ, ◌<◌, List, [], ◌∷◌, ◌++◌, length, take, drop, refl, sym, ap, ◌∙◌, arith, ℤ, Some, None, get_or}
+use Rattle.std.proofs.Common.{◌≡◌, ◌≢◌, ℕ, List, [], ◌∷◌, ◌++◌, take, drop, refl, sym, ap, ◌∙◌, arith, ℤ, Some, None, get_or}
 use Rattle.std.proofs.lemmas.List.{take-append-drop}
 use Rattle.sm_time.specs.declared.civil.Civil.{Civil}
 use Rattle.sm_time.specs.declared.format.Format.TheVariants.{DateTime}
