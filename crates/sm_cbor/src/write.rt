@@ -120,7 +120,7 @@ pub fn write_tree(alloc: Global, tree: &Tree, out: &mut Vec<u8>) -> Result<(), N
     ensures written { OnOk result (out.new.items ≡ out.old.items ++ written (node_of tree.now)) }
     ensures unchanged { OnErr result (out.new.items ≡ out.old.items) }
     ensures succeeds { vec_len out.old + length (written (node_of tree.now)) ≤ vec_capacity out.old → IsOk result }
-    ensures no_memory { vec_len out.old + length (written (node_of tree.now)) ≤ vec_capacity out.old → vec_capacity out.new ≡ vec_capacity out.old }
+    ensures same_room { vec_len out.old + length (written (node_of tree.now)) ≤ vec_capacity out.old → vec_capacity out.new ≡ vec_capacity out.old }
 {
     let len = encoded_len(tree) as usize;
     if out.capacity() - out.len() < len {
