@@ -1,11 +1,15 @@
 // Laws of items and of what is written, each the contract of a function whose body is empty.
 // What reads a written item back stands on them.
-ghost use Rattle.sm_cbor.specs.Laws.{OneReading, OneAnswer, WrittenIsItem};
+ghost use Rattle.sm_cbor.specs.Laws.{OneReading, OneAnswer, WrittenIsItem, WrittenIsRead};
 
-/// What is written for a tree is a CBOR item of that tree (RFC 8949), so with at most 100 levels it is read again
-/// as itself.
+/// What is written for a tree is a CBOR item of that tree (RFC 8949), if 64 bits hold its length.
 pub fn written_is_item()
     ensures { WrittenIsItem }
+{}
+
+/// So what is written for a tree of at most 100 levels is read as that tree, and as no other, and isn't refused.
+pub fn written_is_read()
+    ensures { WrittenIsRead }
 {}
 
 /// Bytes are an item of at most one tree.
