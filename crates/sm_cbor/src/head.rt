@@ -1,6 +1,6 @@
 // The initial byte of an item (RFC 8949, section 3): what it says of the item, and what follows it.
 // The reader stands on it.
-ghost use Rattle.std.specs.Prelude.{◌≡◌, ◌<◌, ◌≤◌, ◌%◌, ◌↔◌, length, IfSome, IsTrue, []};
+ghost use Rattle.std.specs.Prelude.{◌≡◌, ◌<◌, ◌≤◌, ◌%◌, ◌↔◌, length, ℕ, IfSome, IfNone, IsTrue, []};
 ghost use Rattle.sm_cbor.specs.Heads.{Number};
 ghost use Rattle.sm_cbor.specs.Reading.{HeadIs, StartsNumber, WidthIs, ChunkIs, HasHead, IsBits, IsText, bound, major_of};
 
@@ -129,10 +129,12 @@ fn number(value: u64, bytes: &[u8]) -> u64
     number
 }
 
-/// The head in front, where all its bytes are at hand and it has an argument that isn't bits. No memory.
+/// The head in front. None where not all its bytes are at hand, or where it has no argument or one that is bits. No
+/// memory.
 pub fn whole_head(bytes: &[u8]) -> Option<WholeHead>
     requires { 0 < length bytes.now }
-    ensures { IfSome result (λ head. HasHead bytes.now head.subject head.value head.len) }
+    ensures some { IfSome result (λ head. HasHead bytes.now head.subject head.value head.len) }
+    ensures none { IfNone result ((subject : Subject) (value len : ℕ) → HasHead bytes.now subject value len → ⊥) }
 {
     let Head::Argument(subject, left, value) = head_of(bytes[0]) else {
         return None;

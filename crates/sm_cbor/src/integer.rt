@@ -1,5 +1,5 @@
 // The trees of integers (RFC 8949, section 3.1): major types 0 and 1. The reader stands on it.
-ghost use Rattle.std.specs.Prelude.{◌≡◌, IfOk, pos, negsuc};
+ghost use Rattle.std.specs.Prelude.{◌≡◌, ◌<◌, ◌^◌, IfOk, IsOk, pos, negsuc};
 ghost use Rattle.std.specs.Fmt.{signed_decimal};
 ghost use Rattle.sm_tree.specs.Node.{number};
 ghost use Rattle.sm_tree.specs.View.{node_of};
@@ -17,9 +17,10 @@ fn number_tree(alloc: Global, value: i128) -> Result<Tree, NoMemory>
     Ok(Tree::Number(Text::copy(alloc, digits.format(value))?))
 }
 
-/// The integer `value`, a tree.
+/// The integer `value`, a tree. One that 64 bits hold takes no memory.
 pub fn unsigned_tree(alloc: Global, value: u64) -> Result<Tree, NoMemory>
-    ensures { IfOk result (λ tree. node_of tree ≡ integer_node value (pos value)) }
+    ensures tree { IfOk result (λ tree. node_of tree ≡ integer_node value (pos value)) }
+    ensures small { value < 2 ^ 63 → IsOk result }
 {
     if value < 1 << 63 {
         Ok(Tree::Int(value as i64))
@@ -28,9 +29,10 @@ pub fn unsigned_tree(alloc: Global, value: u64) -> Result<Tree, NoMemory>
     }
 }
 
-/// The integer -1 less `value`, a tree.
+/// The integer -1 less `value`, a tree. One that 64 bits hold takes no memory.
 pub fn negative_tree(alloc: Global, value: u64) -> Result<Tree, NoMemory>
-    ensures { IfOk result (λ tree. node_of tree ≡ integer_node value (negsuc value)) }
+    ensures tree { IfOk result (λ tree. node_of tree ≡ integer_node value (negsuc value)) }
+    ensures small { value < 2 ^ 63 → IsOk result }
 {
     if value < 1 << 63 {
         Ok(Tree::Int(-1 - (value as i64)))

@@ -10,14 +10,14 @@ pub returns-in_ok-tree-in-Unsigned : goal.returns-in_ok-tree-in-Unsigned
 returns-in_ok-tree-in-Unsigned c =
     on_ok_weaker c.leaf.result
     (λ goes. subst (λ j. Goes c.args.self.now [] (Argument j 0 c.args.value) [] c.leaf.new.self) (sym c.in-Unsigned.is)
-    (unsigned_goes c.args.self.now c.leaf.new.self c.args.value _ c.in_ok-tree-in-Unsigned.ensures goes))
+    (unsigned_goes c.args.self.now c.leaf.new.self c.args.value _ c.in_ok-tree-in-Unsigned.ensures.tree goes))
     c.leaf.ensures
 
 pub returns-in_ok-tree-in-Negative : goal.returns-in_ok-tree-in-Negative
 returns-in_ok-tree-in-Negative c =
     on_ok_weaker c.leaf-in-Negative.result
     (λ goes. subst (λ j. Goes c.args.self.now [] (Argument j 0 c.args.value) [] c.leaf-in-Negative.new.self) (sym c.in-Negative.is)
-    (negative_goes c.args.self.now c.leaf-in-Negative.new.self c.args.value _ c.in_ok-tree-in-Negative.ensures goes))
+    (negative_goes c.args.self.now c.leaf-in-Negative.new.self c.args.value _ c.in_ok-tree-in-Negative.ensures.tree goes))
     c.leaf-in-Negative.ensures
 
 pub returns-in-Opaque : goal.returns-in-Opaque
