@@ -3,7 +3,6 @@ use Rattle.std.proofs.Common.{◌≡◌, ℕ, pos, negsuc, ◌%◌, ◌≤◌, �
 use Rattle.std.proofs.Common.{Global}
 use Rattle.std.specs.Prelude.{Vec}
 use Rattle.std.proofs.lemmas.Str.{IsUtf8-append}
-use Rattle.sm_tree.specs.Json.{AreBytes}
 use Rattle.sm_tree.specs.Syntax.{most_levels}
 use Rattle.sm_tree.specs.Node.{Node, text, bytes, opaque}
 use Rattle.sm_tree.specs.Events.{NodeEvent, events, key_event, text_event, bytes_event, tag_event, opaque_event, start_list, start_object}
@@ -13,7 +12,7 @@ use Rattle.sm_tree.specs.declared.build.OpenKind.TheVariants.{Object as an_objec
 use Rattle.sm_tree.specs.declared.build.TreeBuilder.{TreeBuilder}
 use Rattle.sm_tree.specs.declared.utf8.Utf8.TheVariants.{Between}
 use Rattle.sm_cbor.specs.CborItem.{Keys, IsOpaque}
-use Rattle.sm_cbor.specs.Reading.{IsOf, EndsAs, integer_node}
+use Rattle.sm_cbor.specs.Reading.{IsOf, integer_node}
 use Rattle.sm_cbor.specs.Rest.{Leads, before_span}
 use Rattle.sm_cbor.specs.Machine.{kinds_of, levels_of, state_at, handed_on, ArgumentLives, InMap, StringAwaits, Holds, Begun, IsAt, Goes, Opens}
 use Rattle.sm_cbor.specs.declared.place.StringKind.{StringKind}
@@ -27,7 +26,7 @@ use Rattle.sm_cbor.specs.declared.place.Level.TheVariants.{Tag, List as AList, L
 use Rattle.sm_cbor.specs.declared.place.Place.TheVariants.{Item, After, Argument as InArgument, String, Chunks}
 use Rattle.sm_cbor.specs.declared.read.Reader.{Reader}
 use Rattle.sm_cbor.proofs.Items.{at}
-use Rattle.sm_cbor.proofs.StringSteps.{bytes_end, text_end, key_end, chunk_end, ends_are}
+use Rattle.sm_cbor.proofs.StringSteps.{bytes_front, ends_nil, bytes_end, text_end, key_end, chunk_end, ends_are}
 use Rattle.sm_cbor.proofs.ArgumentSteps.{unsigned_ends, negative_ends, string_begins, list_opens, map_opens, tag_opens, opaque_ends}
 use Rattle.sm_cbor.proofs.Readings.{goes_by, goes_with, goes_to}
 
@@ -100,11 +99,6 @@ key_goes before behind there place levels taken same awaits =
     (key_end w limit before.held.items behind.held.items (levels_of before))))
 
 -- what is held at the end is a string of its kind
-ends_nil : (kind : StringKind) → EndsAs kind Between []
-ends_nil Bytes = tt
-ends_nil Text = refl
-ends_nil KeyText = refl
-
 pub held_is : (kind : StringKind) (t : List ℕ) → Holds kind Between t → IsOf kind t
 held_is kind t h = subst (IsOf kind) (append-nil t) (h [] (ends_nil kind))
 
@@ -126,12 +120,8 @@ chunk_goes before kind there =
     (λ w limit high. chunk_end w limit kind before.held.items (levels_of before))
 
 -- a string begins
-bytes_append : (v u : List ℕ) → AreBytes v → AreBytes u → AreBytes (v ++ u)
-bytes_append [] u a b = b
-bytes_append (c ∷ v) u a b = (a.0, bytes_append v u a.1 b)
-
 pub kind_append : (kind : StringKind) (t u : List ℕ) → IsOf kind t → IsOf kind u → IsOf kind (t ++ u)
-kind_append Bytes t u a b = bytes_append t u a b
+kind_append Bytes t u a b = bytes_front t u a b
 kind_append Text t u a b = IsUtf8-append t u a b
 kind_append KeyText t u a b = IsUtf8-append t u a b
 

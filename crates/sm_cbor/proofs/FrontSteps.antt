@@ -31,7 +31,7 @@ use Rattle.sm_cbor.proofs.ArgumentSteps.{argument_byte, string_begins}
 use Rattle.sm_cbor.proofs.StringSteps.{text_run, text_end, key_end}
 use Rattle.sm_cbor.proofs.Readings.{leads_none, leads_joined, goes_by, goes_with, goes_to}
 use Rattle.sm_cbor.proofs.Arguments.{number_more}
-use Rattle.sm_cbor.proofs.InitialSteps.{argument_there, argument_deep, byte_bound, bound_word}
+use Rattle.sm_cbor.proofs.InitialSteps.{in_room, argument_there, argument_deep, byte_bound, bound_word}
 use Rattle.sm_cbor.proofs.ByteSteps.{argument_more}
 use Rattle.sm_cbor.proofs.EndSteps.{in_map}
 
@@ -144,9 +144,6 @@ both_leads w limit bs run n len x y z e behind h g =
 pub head_there : (r : Reader) (bs : List ℕ) (j : Subject) (n len : ℕ) → IsAt r Item → HasHead bs j n len → (opens_of j ≡ 1 → length (levels_of r) < most_levels) → IsAt r (InArgument j 0 n)
 head_there r bs j n len there head more =
     number_there r head.left head.value n j (drop 1 (take len bs)) head.no_bits head.argument (argument_there r (slice_index bs 0) head.left head.value j there head.initial more)
-
-in_room : (r : Reader) (p : Place) (limit : ℕ) → IsAt r p → most_levels ≤ limit → length (levels_of r) ≤ limit
-in_room r p limit there high = let room = there.room in omega arith
 
 pub head_goes : (r q : Reader) (bs : List ℕ) (j : Subject) (n len : ℕ) → IsAt r Item → HasHead bs j n len → Goes r [] (InArgument j 0 n) [] q → Goes r [] Item (take len bs) q
 head_goes r q bs j n len there head goes =

@@ -126,7 +126,7 @@ argument_there r c k v j there is more = record {
   settled = tt;
 }
 
-in_room : (r : Reader) (p : Place) (limit : ℕ) → IsAt r p → most_levels ≤ limit → length (levels_of r) ≤ limit
+pub in_room : (r : Reader) (p : Place) (limit : ℕ) → IsAt r p → most_levels ≤ limit → length (levels_of r) ≤ limit
 in_room r p limit there high = let room = there.room in omega arith
 
 pub argument_goes : (r q : Reader) (c k v : ℕ) (j : Subject) → IsAt r Item → HeadIs c (ArgumentHead j k v) → Goes r [] (InArgument j k v) [] q → Goes r [] Item (c ∷ []) q

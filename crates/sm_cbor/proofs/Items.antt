@@ -30,16 +30,16 @@ abbrev pub at : Place → List ℕ → List Level → State
 at p t ls = record { place = p; held = t; levels = ls }
 
 -- integers of 64 bits, and the others
-fits_pos : (n : ℕ) → n < 2 ^ 63 → FitsSigned w64 (pos n)
+pub fits_pos : (n : ℕ) → n < 2 ^ 63 → FitsSigned w64 (pos n)
 fits_pos n small = omega arith
 
-fits_neg : (n : ℕ) → n < 2 ^ 63 → FitsSigned w64 (negsuc n)
+pub fits_neg : (n : ℕ) → n < 2 ^ 63 → FitsSigned w64 (negsuc n)
 fits_neg n small = omega arith
 
-small_pos : (n : ℕ) → FitsSigned w64 (pos n) → n < 2 ^ 63
+pub small_pos : (n : ℕ) → FitsSigned w64 (pos n) → n < 2 ^ 63
 small_pos n fits = omega arith
 
-small_neg : (n : ℕ) → FitsSigned w64 (negsuc n) → n < 2 ^ 63
+pub small_neg : (n : ℕ) → FitsSigned w64 (negsuc n) → n < 2 ^ 63
 small_neg n fits = omega arith
 
 node_small : (n : ℕ) (z : ℤ) → n < 2 ^ 63 → integer_node n z ≡ int z
@@ -49,13 +49,13 @@ node_large : (n : ℕ) (z : ℤ) → 2 ^ 63 ≤ n → integer_node n z ≡ numbe
 node_large n z large = ap (λ b. cond b (int z) (number (signed_decimal z))) (le-ltb n (2 ^ 63) large)
 
 -- the tree of an integer, from its bytes and back
-integer_item : (w : Keys) (n : ℕ) (z : ℤ) (s r : List ℕ) → (n < 2 ^ 63 → FitsSigned w64 z) → (FitsSigned w64 z → n < 2 ^ 63) → Integer z s r → ItemBytes w (integer_node n z) s r
+pub integer_item : (w : Keys) (n : ℕ) (z : ℤ) (s r : List ℕ) → (n < 2 ^ 63 → FitsSigned w64 z) → (FitsSigned w64 z → n < 2 ^ 63) → Integer z s r → ItemBytes w (integer_node n z) s r
 integer_item w n z s r fits small h = elim (cases_lt n (2 ^ 63)) [
   | inl below ↦ subst (λ x. ItemBytes w x s r) (sym (node_small n z below)) (fits below, h)
   | inr above ↦ subst (λ x. ItemBytes w x s r) (sym (node_large n z above)) (z, (λ f. let less = small f in omega arith), refl, h)
 ]
 
-integer_levels : (n : ℕ) (z : ℤ) → levels (integer_node n z) ≡ 0
+pub integer_levels : (n : ℕ) (z : ℤ) → levels (integer_node n z) ≡ 0
 integer_levels n z = elim (cases_lt n (2 ^ 63)) [ inl below ↦ ap levels (node_small n z below) | inr above ↦ ap levels (node_large n z above) ]
 
 -- what may come behind an initial byte that says this

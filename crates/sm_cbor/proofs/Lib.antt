@@ -18,3 +18,4 @@ mod FeedSteps
 mod WrittenItems
 mod OneVerdict
 mod Counts
+mod Descending

@@ -144,7 +144,7 @@ string_owed w limit kind span n place t ls es some ([], r, e, len, ends, more) =
 string_owed w limit kind span n place t ls es some (d ∷ u, r, e, len, ends, more) = let f : [] ≡ d ∷ (u ++ r) = e in cc
 
 -- behind its last byte
-ends_nil : (kind : StringKind) → EndsAs kind Between []
+pub ends_nil : (kind : StringKind) → EndsAs kind Between []
 ends_nil Bytes = tt
 ends_nil Text = refl
 ends_nil KeyText = refl

@@ -7,3 +7,4 @@ pub mod Laws
 pub mod Reading
 pub mod Rest
 pub mod Machine
+pub mod Descent

@@ -204,20 +204,21 @@ first_level (l ∷ ls) = Some l
 abbrev pub IsFirst : Level → List Level → Type 0
 IsFirst l ls = first_level ls ≡ Some l
 
--- the place is in a byte string, or in a text, or in none
+-- the place is in a byte string, or in a text
 abbrev pub IsBytesPlace : Place → ℕ → Utf8 → Type 0
 IsBytesPlace p n place = (span : Span) × (p ≡ String Bytes span n place)
 
 abbrev pub IsTextPlace : Place → ℕ → Utf8 → Type 0
 IsTextPlace p n place = (kind : StringKind) × (span : Span) × (kind ≢ Bytes) × (p ≡ String kind span n place)
 
-abbrev pub IsOutside : Place → Type 0
-IsOutside Item = Unit {0}
-IsOutside Key = Unit {0}
-IsOutside After = Unit {0}
-IsOutside (Argument j k v) = Unit {0}
-IsOutside (String kind span n place) = ⊥
-IsOutside (Chunks kind) = Unit {0}
+-- what may come is taken one byte at a time: neither an item nor a key nor the bytes of a string
+abbrev pub IsBytewise : Place → Type 0
+IsBytewise Item = ⊥
+IsBytewise Key = ⊥
+IsBytewise After = Unit {0}
+IsBytewise (Argument j k v) = Unit {0}
+IsBytewise (String kind span n place) = ⊥
+IsBytewise (Chunks kind) = Unit {0}
 
 -- the bytes go on with the string at this place, and lead to this place of its UTF-8
 abbrev pub RunFits : Place → Utf8 → List ℕ → Type 0

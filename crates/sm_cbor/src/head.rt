@@ -1,5 +1,5 @@
 // The initial byte of an item (RFC 8949, section 3): what it says of the item, and what follows it.
-// The reader stands on it.
+// Both readers stand on it.
 ghost use Rattle.std.specs.Prelude.{◌≡◌, ◌<◌, ◌≤◌, ◌%◌, ◌↔◌, length, ℕ, IfSome, IfNone, IsTrue, []};
 ghost use Rattle.sm_cbor.specs.Heads.{Number};
 ghost use Rattle.sm_cbor.specs.Reading.{HeadIs, StartsNumber, WidthIs, ChunkIs, HasHead, IsBits, IsText, bound, major_of};
@@ -35,6 +35,18 @@ pub struct WholeHead {
     /// How many bytes the head has.
     pub len: usize,
 }
+
+/// The initial byte of a byte string of indefinite length.
+pub const INDEFINITE_BYTES: u8 = 0x5F;
+
+/// The initial byte of a text of indefinite length.
+pub const INDEFINITE_TEXT: u8 = 0x7F;
+
+/// The initial byte of an array of indefinite length.
+pub const INDEFINITE_ARRAY: u8 = 0x9F;
+
+/// The initial byte of a map of indefinite length.
+pub const INDEFINITE_MAP: u8 = 0xBF;
 
 /// The initial byte of a "break".
 pub const BREAK: u8 = 0xFF;
@@ -117,8 +129,8 @@ impl Subject {
     }
 }
 
-// The number that begins with this value and goes on with these bytes, the most significant first.
-fn number(value: u64, bytes: &[u8]) -> u64
+/// The number that begins with this value and goes on with these bytes, the most significant first.
+pub fn number(value: u64, bytes: &[u8]) -> u64
     requires { value < bound (length bytes.now) }
     ensures { Number (length bytes.now) value result bytes.now [] }
 {

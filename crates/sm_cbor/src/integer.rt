@@ -1,4 +1,4 @@
-// The trees of integers (RFC 8949, section 3.1): major types 0 and 1. The reader stands on it.
+// The trees of integers (RFC 8949, section 3.1): major types 0 and 1. Both readers stand on it.
 ghost use Rattle.std.specs.Prelude.{◌≡◌, ◌<◌, ◌^◌, IfOk, IsOk, pos, negsuc};
 ghost use Rattle.std.specs.Fmt.{signed_decimal};
 ghost use Rattle.sm_tree.specs.Node.{number};

@@ -2,6 +2,8 @@
 // What reads and writes messages in CBOR stands on it.
 #![tactic(auto)]
 
+mod claim;
+mod descent;
 mod head;
 mod integer;
 pub mod laws;
@@ -13,6 +15,7 @@ mod read;
 mod read_tests;
 #[cfg(test)]
 mod refusal_tests;
+mod seen;
 mod writable;
 mod write;
 #[cfg(test)]

@@ -1,5 +1,7 @@
-// The reader of CBOR items (RFC 8949, section 3): a machine over bytes. It stands at one place of the item, hands each
-// event on as soon as its bytes are complete, and never looks back. Trees are made from the events.
+// The reader of CBOR items (RFC 8949, section 3). An item is read by recursive descent (descent.rt). What that gives up is
+// read by a machine over bytes, which says what the bytes are and where they stop being an item. It stands at one place of
+// the item, hands each event on as soon as its bytes are complete, and never looks back. It makes trees too, since no
+// clause says that recursive descent gives up no item.
 ghost use Rattle.std.specs.Prelude.{◌≡◌, ◌<◌, ◌-◌, ◌^◌, ◌↔◌, IsTrue, length, []};
 ghost use Rattle.sm_cbor.specs.Answers.{ReadsTree};
 ghost use Rattle.sm_cbor.specs.Rest.{start};
@@ -10,11 +12,12 @@ mod initial;
 mod strings;
 mod whole;
 
+use crate::descent::{Unread, read_item};
 use crate::place::{Level, Place, StringKind};
 use sm_tree::{SyntaxRefusal, Tree, TreeBuilder};
 use std::alloc::Global;
 
-/// Reads one item.
+/// Reads one item, from bytes that may come in pieces.
 #[derive(Drop)]
 pub struct Reader {
     /// Where the reader stands.
@@ -29,7 +32,7 @@ pub struct Reader {
 }
 
 impl Reader {
-    ghost use Rattle.sm_cbor.specs.Machine.{IsSound, TakesByte, TakesFront, TakesAll, Finishes, IsOutside, state_of, levels_of, handed_on};
+    ghost use Rattle.sm_cbor.specs.Machine.{IsSound, TakesByte, TakesFront, TakesAll, Finishes, IsBytewise, state_of, levels_of, handed_on};
 
     fn new(alloc: Global) -> Self
         ensures state { state_of result ≡ start }
@@ -45,19 +48,17 @@ impl Reader {
         }
     }
 
-    // One byte outside of strings.
+    // One byte where bytes are taken one at a time.
     fn byte(&mut self, byte: u8) -> Result<(), SyntaxRefusal>
         requires sound { IsSound self.old }
-        requires outside { IsOutside self.old.place }
+        requires bytewise { IsBytewise self.old.place }
         ensures { TakesByte self.old self.old.place byte self.new result }
     {
         match self.place {
-            Place::Item => self.item(byte),
-            Place::Key => self.key(byte),
             Place::After => self.after(byte),
             Place::Argument(subject, left, value) => self.argument(subject, left, value, byte),
             Place::Chunks(kind) => self.chunk(kind, byte),
-            Place::String(_, _, _, _) => unreachable!(),
+            Place::Item | Place::Key | Place::String(_, _, _, _) => unreachable!(),
         }
     }
 
@@ -131,10 +132,22 @@ fn moved(refusal: SyntaxRefusal, by: usize) -> SyntaxRefusal
     }
 }
 
+/// The answer of `read_tree`, from the machine alone: the tree, or the refusal with its place.
+pub fn read_by_bytes(alloc: Global, bytes: &[u8]) -> Result<Tree, SyntaxRefusal>
+    ensures { ReadsTree bytes.now result }
+{
+    let mut reader = Reader::new(alloc);
+    match reader.feed(bytes) {
+        Ok(()) => reader.finish(),
+        Err(refusal) => Err(refusal),
+    }
+}
+
 /// The tree of the bytes, where they are one CBOR item (RFC 8949) of at most 100 levels with text keys. Lengths may have
 /// any form that holds them, and strings, arrays and maps may be of indefinite length. An integer that 64 bits hold is
 /// a `Tree::Int`, another a `Tree::Number` in decimal; `null` and `undefined` are `Tree::Null`, and a float or any
-/// other simple value is a `Tree::Opaque` with its initial byte. No memory is reserved by a length that is claimed.
+/// other simple value is a `Tree::Opaque` with its initial byte. A length that is claimed makes room for four entries
+/// or pairs at most.
 ///
 /// # Errors
 ///
@@ -142,9 +155,9 @@ fn moved(refusal: SyntaxRefusal, by: usize) -> SyntaxRefusal
 pub fn read_tree(alloc: Global, bytes: &[u8]) -> Result<Tree, SyntaxRefusal>
     ensures { ReadsTree bytes.now result }
 {
-    let mut reader = Reader::new(alloc);
-    match reader.feed(bytes) {
-        Ok(()) => reader.finish(),
-        Err(refusal) => Err(refusal),
+    match read_item(alloc, bytes) {
+        Ok(tree) => Ok(tree),
+        Err(Unread::GaveUp) => read_by_bytes(alloc, bytes),
+        Err(Unread::NoMemory) => Err(SyntaxRefusal::NoMemory),
     }
 }

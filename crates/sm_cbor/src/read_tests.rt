@@ -1,20 +1,39 @@
-// What no clause says of the reader: that reading succeeds, by items written by hand, each with its tree. Trees are
-// shown as they are debugged.
-use crate::read_tree;
+// What no clause says of reading: that it succeeds, by items written by hand, each with its tree. Trees are shown as they
+// are debugged. Each of the two readers is asked by itself: recursive descent, which may give up, and the one of bytes.
+use crate::descent::read_item;
+use crate::read::{read_by_bytes, read_tree};
+use sm_tree::Tree;
 use std::alloc::Global;
 use std::process::Abort;
 use std::test::Fail;
 
-// Asserts that the bytes are read, and how their tree is shown.
+// Asserts how a tree is shown.
+fn shows(
+    rt: &impl Abort,
+    alloc: Global,
+    tree: &Tree,
+    want: &str,
+    bytes: &[u8],
+) -> Result<(), Fail> {
+    let shown = format!(in alloc; "{tree:?}")?;
+    assert_eq!(rt; shown.as_str(), want, "at {bytes:?}");
+    Ok(())
+}
+
+// Asserts that the bytes are read, by each reader, and how their tree is shown.
 fn reads(rt: &impl Abort, alloc: Global, bytes: &[u8], want: &str) -> Result<(), Fail> {
-    match read_tree(alloc, bytes) {
-        Ok(tree) => {
-            let shown = format!(in alloc; "{tree:?}")?;
-            assert_eq!(rt; shown.as_str(), want, "at {bytes:?}");
-        }
+    match read_item(alloc, bytes) {
+        Ok(tree) => shows(rt, alloc, &tree, want, bytes)?,
+        Err(unread) => panic!(rt; "{unread:?} at {bytes:?}"),
+    }
+    match read_by_bytes(alloc, bytes) {
+        Ok(tree) => shows(rt, alloc, &tree, want, bytes)?,
         Err(refusal) => panic!(rt; "{refusal:?} at {bytes:?}"),
     }
-    Ok(())
+    match read_tree(alloc, bytes) {
+        Ok(tree) => shows(rt, alloc, &tree, want, bytes),
+        Err(refusal) => panic!(rt; "{refusal:?} at {bytes:?}"),
+    }
 }
 
 // RFC 8949, appendix A
@@ -314,5 +333,23 @@ fn simple_values_floats_and_tags_are_read(rt: HostRuntime) -> Result<(), Fail> {
         alloc,
         b"\xC2\xC3\x81\xC4\x80",
         "Tag(2, Tag(3, List(Items { items: [Tag(4, List(Items { items: [] }))] })))",
+    )
+}
+
+// More entries and pairs than the first room.
+#[test]
+fn long_arrays_and_maps_of_the_standard_are_read(rt: HostRuntime) -> Result<(), Fail> {
+    let alloc = rt.alloc();
+    reads(
+        &rt,
+        alloc,
+        b"\x98\x19\x01\x02\x03\x04\x05\x06\x07\x08\x09\x0A\x0B\x0C\x0D\x0E\x0F\x10\x11\x12\x13\x14\x15\x16\x17\x18\x18\x18\x19",
+        "List(Items { items: [Int(1), Int(2), Int(3), Int(4), Int(5), Int(6), Int(7), Int(8), Int(9), Int(10), Int(11), Int(12), Int(13), Int(14), Int(15), Int(16), Int(17), Int(18), Int(19), Int(20), Int(21), Int(22), Int(23), Int(24), Int(25)] })",
+    )?;
+    reads(
+        &rt,
+        alloc,
+        b"\xA5\x61\x61\x61\x41\x61\x62\x61\x42\x61\x63\x61\x43\x61\x64\x61\x44\x61\x65\x61\x45",
+        "Object(Pairs { pairs: [(Text { text: \"a\" }, Text(Text { text: \"A\" })), (Text { text: \"b\" }, Text(Text { text: \"B\" })), (Text { text: \"c\" }, Text(Text { text: \"C\" })), (Text { text: \"d\" }, Text(Text { text: \"D\" })), (Text { text: \"e\" }, Text(Text { text: \"E\" }))] })",
     )
 }

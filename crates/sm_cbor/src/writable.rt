@@ -1,39 +1,11 @@
 // Which trees can be written as CBOR items. Whoever has a tree of another format asks here before it is written.
-ghost use Rattle.std.specs.Prelude.{◌≡◌, ◌<◌, ◌^◌, ◌↔◌, IsTrue, IsUtf8, FitsSigned};
-ghost use Rattle.std.specs.Int.{w64};
-ghost use Rattle.sm_tree.specs.Json.{IsCbor, AreCbor, AreCborMembers, AreBytes};
+ghost use Rattle.std.specs.Prelude.{◌↔◌, IsTrue};
+ghost use Rattle.sm_tree.specs.Json.{IsCbor, AreCbor, AreCborMembers};
 ghost use Rattle.sm_tree.specs.Node.{nodes_of, members_of};
 ghost use Rattle.sm_tree.specs.View.{node_of, nodes_view, members_view};
 
+use crate::seen::{see_bytes, see_int, see_number, see_text};
 use sm_tree::{Text, Tree};
-
-// A text is UTF-8 by its type.
-fn see_text(text: &Text)
-    ensures { IsUtf8 text.now }
-{
-    let _text = text.as_str();
-}
-
-// An integer has 64 bits by its type.
-fn see_int(value: i64)
-    ensures { FitsSigned w64 value }
-{
-    let _value = value;
-}
-
-// So has a tag's number.
-fn see_number(number: u64)
-    ensures { number < 2 ^ 64 }
-{
-    let _number = number;
-}
-
-// Bytes are bytes by their type.
-fn see_bytes(bytes: &[u8])
-    ensures { AreBytes bytes.now }
-{
-    let _bytes = bytes;
-}
 
 #[cycle(writable)]
 fn entries_are_writable(items: &[Tree]) -> bool

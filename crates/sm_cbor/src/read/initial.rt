@@ -6,12 +6,9 @@ ghost use Rattle.sm_cbor.specs.Heads.{text_type};
 ghost use Rattle.sm_cbor.specs.Machine.{opens_of};
 
 use super::Reader;
-use crate::head::{BREAK, Head, TEXT, chunk_head, head_of, width};
-use crate::place::{Level, Place, Span, StringKind, Subject};
+use crate::head::{BREAK, Head, INDEFINITE_TEXT, TEXT, chunk_head, head_of, width};
+use crate::place::{Level, MOST_LEVELS, Place, Span, StringKind, Subject};
 use sm_tree::{NoMemory, SyntaxRefusal, Tree};
-
-/// The greatest number of arrays, maps and tags that may be open at one place of an item.
-const MOST_LEVELS: usize = 100;
 
 impl Subject {
     // Whether what the argument is of is a level.
@@ -82,7 +79,7 @@ impl Reader {
         requires text { byte / 32 ≡ text_type }
         ensures { TakesByte self.old Place.Key byte self.new result }
     {
-        if byte == 0x7F {
+        if byte == INDEFINITE_TEXT {
             self.begin_chunks(StringKind::Key);
             return Ok(());
         }

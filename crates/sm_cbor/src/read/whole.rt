@@ -1,6 +1,6 @@
 // What ends where its last byte has come: arguments, strings, whole items and what is round them. The steps of the
 // reader stand on it.
-ghost use Rattle.std.specs.Prelude.{◌≤◌, ◌≡◌, ◌<◌, length, OnOk, IsUtf8, None, [], ◌∷◌};
+ghost use Rattle.std.specs.Prelude.{◌≡◌, ◌<◌, length, OnOk, IsUtf8, None, [], ◌∷◌};
 ghost use Rattle.sm_tree.specs.Syntax.{most_levels};
 ghost use Rattle.sm_tree.specs.View.{node_of};
 ghost use Rattle.sm_tree.specs.Events.{events, start_list, start_object};
@@ -8,22 +8,11 @@ ghost use Rattle.sm_tree.specs.declared.utf8.Utf8.TheVariants.{Between};
 ghost use Rattle.sm_cbor.specs.Rest.{before_span};
 
 use super::Reader;
+use crate::claim::expected;
 use crate::integer::{negative_tree, unsigned_tree};
 use crate::place::{Level, Place, Span, StringKind, Subject};
 use sm_tree::{Bytes, FIRST_ROOM, NoMemory, Text, Tree, Utf8};
 use std::mem;
-
-// How many entries or pairs are expected where so many are claimed. No claim makes more room than the first entry of
-// an indefinite length would.
-fn expected(claimed: u64) -> usize
-    ensures { result ≤ 4 }
-{
-    if claimed < FIRST_ROOM as u64 {
-        claimed as usize
-    } else {
-        FIRST_ROOM
-    }
-}
 
 impl Reader {
     ghost use Rattle.sm_cbor.specs.Machine.{IsAt, Goes, Enters, Opens, levels_of};

@@ -5,10 +5,10 @@ use Rattle.sm_cbor.specs.declared.read.Reader.{Reader}
 use Rattle.sm_cbor.proofs.InitialSteps.{key_begins, key_chunks_begin}
 use Rattle.sm_cbor.proofs.read.Reader.text_key.Goals as goal
 
-pub returns-then-byte-eq127 : goal.returns-then-byte-eq127
-returns-then-byte-eq127 c =
+pub returns-then-byte-eq-INDEFINITE_TEXT : goal.returns-then-byte-eq-INDEFINITE_TEXT
+returns-then-byte-eq-INDEFINITE_TEXT c =
     subst (λ (q : Reader). Goes c.args.self.now [] Key (c.args.byte ∷ []) q) (sym c.begin_chunks.ensures.others)
-    (key_chunks_begin c.args.self.now c.args.byte c.begin_chunks.new.self.held c.begin_chunks.ensures.held c.requires.sound c.if-byte-eq127.true)
+    (key_chunks_begin c.args.self.now c.args.byte c.begin_chunks.new.self.held c.begin_chunks.ensures.held c.requires.sound c.if-byte-eq-INDEFINITE_TEXT.true)
 
 pub returns-in_ok-begin_argument-in-Some : goal.returns-in_ok-begin_argument-in-Some
 returns-in_ok-begin_argument-in-Some c =

@@ -1,5 +1,5 @@
 use Rattle.sm_cbor.proofs.Verdicts.{feed_refused, tree_read}
-use Rattle.sm_cbor.proofs.read.read_tree.Goals as goal
+use Rattle.sm_cbor.proofs.read.read_by_bytes.Goals as goal
 
 pub returns-in-Err : goal.returns-in-Err
 returns-in-Err c = feed_refused c.new-reader.result c.feed.new.self c.args.bytes.now c.in-Err.refusal c.new-reader.ensures.state c.in-Err.ensures

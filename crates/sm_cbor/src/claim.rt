@@ -1,0 +1,16 @@
+// What is made of a claimed number of entries or pairs before they come. Both readers stand on it.
+ghost use Rattle.std.specs.Prelude.{◌≤◌};
+
+use sm_tree::FIRST_ROOM;
+
+/// How many entries or pairs room is made for where so many are claimed. No claim makes more room than the first push
+/// into an empty vector does.
+pub fn expected(claimed: u64) -> usize
+    ensures { result ≤ 4 }
+{
+    if claimed < FIRST_ROOM as u64 {
+        claimed as usize
+    } else {
+        FIRST_ROOM
+    }
+}
