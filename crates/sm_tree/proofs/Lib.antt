@@ -8,6 +8,7 @@ pub mod Numbers
 mod Tokens
 mod Sameness
 pub mod OneAnswer
+mod ShortTexts
 mod CharacterBytes
 mod CharacterShapes
 pub mod Characters

@@ -4,5 +4,5 @@ use Rattle.sm_tree.specs.declared.text.Form.{Form}
 use Rattle.sm_tree.specs.declared.text.Form.TheVariants.{Short, Long}
 
 abbrev pub bytes_of : Form → List ℕ
-bytes_of (Short text) = text.bytes
+bytes_of (Short text) = text
 bytes_of (Long text) = string_bytes text

@@ -1,16 +1,14 @@
 // The leaves of a tree that own memory: texts, and strings of bytes. Contracts see both as lists of
 // bytes. Trees and paths stand on them.
-ghost use Rattle.std.specs.Prelude.{◌≡◌, IfOk, IsUtf8, string_bytes};
+ghost use Rattle.std.specs.Prelude.{◌≡◌, ◌≤◌, ◌↔◌, length, take, IsOk, IsSome, IfOk, IfSome, IsAscii, IsUtf8, string_bytes};
+
+mod short;
 
 use crate::NoMemory;
-use arrayvec::ArrayString;
+use short::ShortText;
 use std::alloc::Global;
 use std::fmt;
 use std::marker::Model;
-
-// The most bytes that a text keeps in its own value. Most names have no more, and a value with room for more would be
-// larger than one that keeps a string.
-const SHORT: usize = 16;
 
 /// A text in UTF-8. One of at most 16 bytes may lie in the value itself. Contracts see its bytes.
 #[derive(Drop)]
@@ -22,7 +20,7 @@ pub struct Text {
 #[derive(Drop)]
 enum Form {
     // In the value itself.
-    Short(ArrayString<SHORT>),
+    Short(ShortText),
     // In memory of their own.
     Long(String),
 }
@@ -47,16 +45,32 @@ impl Text {
         }
     }
 
-    /// A copy of a text. One of at most 16 bytes takes no memory, and a longer one as much as its length.
+    /// A copy of a text. One of at most 16 bytes is never refused, and lies in the value; a longer one takes as much memory as
+    /// its length.
     pub fn copy(alloc: Global, text: &str) -> Result<Self, NoMemory>
         ensures bytes { IfOk result (λ copy. copy ≡ text.now) }
         ensures utf8 { IfOk result (λ copy. IsUtf8 copy) }
+        ensures short { length text.now ≤ 16 → IsOk result }
     {
-        let form = match ArrayString::from(text) {
-            Ok(short) => Form::Short(short),
-            Err(_) => Form::Long(String::from_str(alloc, text)?),
+        let form = match ShortText::copy(text) {
+            Some(short) => Form::Short(short),
+            None => Form::Long(String::from_str(alloc, text)?),
         };
         Ok(Text { form })
+    }
+
+    /// The text that so many bytes in front are, where that is seen at a glance: where they are at most 16 and ASCII, and 16
+    /// bytes are at hand. Other bytes may be a text too. No memory.
+    #[inline(always)]
+    pub fn in_front(bytes: &[u8], len: usize) -> Option<Self>
+        ensures some { IsSome result ↔ ((len ≤ 16) × (16 ≤ length bytes.now) × IsAscii (take len bytes.now)) }
+        ensures bytes { IfSome result (λ text. text ≡ take len bytes.now) }
+        ensures utf8 { IfSome result (λ text. IsUtf8 text) }
+    {
+        let short = ShortText::in_front(bytes, len)?;
+        Some(Text {
+            form: Form::Short(short),
+        })
     }
 
     /// The text. No memory.
@@ -184,6 +198,31 @@ mod tests {
             let copy = Text::copy(rt.alloc(), text)?;
             assert_eq!(rt; copy.as_str(), text);
             assert_eq!(rt; is_short(&copy), short);
+        }
+        Ok(())
+    }
+
+    #[test]
+    fn texts_in_front_are_seen_at_a_glance_or_not(rt: HostRuntime) -> Result<(), Fail> {
+        let sixteen = "abcdefghijklmnop".as_bytes();
+        for (bytes, len, want) in [
+            (sixteen, 0, Some("")),
+            (sixteen, 3, Some("abc")),
+            (sixteen, 16, Some("abcdefghijklmnop")),
+            (sixteen, 17, None),
+            (&sixteen[1..], 3, None),
+            ("".as_bytes(), 0, None),
+            ("abcdefghijklmnopé".as_bytes(), 16, Some("abcdefghijklmnop")),
+            ("abcdefghijklmné".as_bytes(), 16, None),
+            ("éabcdefghijklmn".as_bytes(), 1, None),
+            ("abcdefghijklmé!".as_bytes(), 13, Some("abcdefghijklm")),
+            ("abcdefghijklmé!".as_bytes(), 14, None),
+            ("abcdefghijklmé!".as_bytes(), 15, None),
+        ] {
+            match Text::in_front(bytes, len) {
+                Some(text) => assert_eq!(rt; Some(text.as_str()), want),
+                None => assert_eq!(rt; None, want),
+            }
         }
         Ok(())
     }
