@@ -1,11 +1,15 @@
 -- What the reader by recursive descent finds at the front of some bytes, in the words of Heads, CborItem and Levels: "s
--- begins so, and r is what follows it", and how many levels it has at most. The methods of that reader cite it.
-use Rattle.std.specs.Prelude.{◌≡◌, ℕ, ◌/◌, ◌≤◌, Bool, true, false, List, slice_index}
+-- begins so, and r is what follows it", how many levels it has at most, and what is put behind the entries that there
+-- were. The methods of that reader cite it.
+use Rattle.std.specs.Prelude.{◌≡◌, ℕ, ℤ, ◌/◌, ◌≤◌, Bool, true, false, List, [], ◌∷◌, ◌++◌, slice_index, Option, Some, None}
 use Rattle.std.specs.List.{concat}
 use Rattle.sm_tree.specs.Node.{Node, nodes_of, members_of}
+use Rattle.sm_tree.specs.View.{node_of}
+use Rattle.sm_tree.specs.declared.tree.Tree.{Tree}
 use Rattle.sm_tree.specs.Levels.{levels, nodes_levels, members_levels}
 use Rattle.sm_cbor.specs.Heads.{unsigned_type, negative_type, bytes_type, text_type, array_type, map_type, tag_type, simple_type, Break}
-use Rattle.sm_cbor.specs.CborItem.{plain, Chunks, Item, Entries, EntriesToBreak, Pairs, PairsToBreak}
+use Rattle.sm_cbor.specs.Reading.{integer_node}
+use Rattle.sm_cbor.specs.CborItem.{plain, Chunks, Key, Item, Entries, EntriesToBreak, Pairs, PairsToBreak}
 use Rattle.sm_cbor.specs.declared.descent.major_type.MajorType.{MajorType}
 use Rattle.sm_cbor.specs.declared.descent.major_type.MajorType.TheVariants.{Unsigned, Negative, Bytes, Text, Array, Map, Tag, Simple}
 
@@ -31,6 +35,24 @@ Joined major P t s r = (ts : List (List ℕ)) × Chunks major P ts s r × (t ≡
 -- an item of this tree, which nests at most so many levels
 abbrev pub ItemIn : ℕ → Node → List ℕ → List ℕ → Type 0
 ItemIn limit n s r = Item plain n s r × (levels n ≤ limit)
+
+-- the integer z, told by this argument, was put behind the entries that there were, under its name
+abbrev pub PutsInteger : {N E : Type 0} → (N → Tree → E) → ℕ → ℤ → N → List E → List E → Type 0
+PutsInteger named value z name before now = (t : Tree) × (now ≡ before ++ named name t ∷ []) × (node_of t ≡ integer_node value z)
+
+-- None: the leaf in front was put behind the entries that there were, under its name. Some: nothing was done, and the name
+-- is handed back
+abbrev pub PutsLeaf : {N E : Type 0} → (N → Tree → E) → N → List E → List E → List ℕ → List ℕ → Option N → Type 0
+PutsLeaf named name before now s r None = (t : Tree) × (now ≡ before ++ named name t ∷ []) × ItemIn 0 (node_of t) s r
+PutsLeaf named name before now s r (Some same) = (same ≡ name) × (now ≡ before) × (s ≡ r)
+
+-- the entry in front, of at most so many levels, was put behind the entries that there were
+abbrev pub PutsEntry : ℕ → List Tree → List Tree → List ℕ → List ℕ → Type 0
+PutsEntry limit before now s r = (t : Tree) × (now ≡ before ++ t ∷ []) × ItemIn limit (node_of t) s r
+
+-- the pair in front, whose value has at most so many levels, was put behind the pairs that there were
+abbrev pub PutsPair : ℕ → List (List ℕ × Tree) → List (List ℕ × Tree) → List ℕ → List ℕ → Type 0
+PutsPair limit before now s r = (k : List ℕ) × (t : Tree) × (now ≡ before ++ (k, t) ∷ []) × (s1 : List ℕ) × Key plain k s s1 × ItemIn limit (node_of t) s1 r
 
 -- so many entries, and entries up to a "break", each of at most so many levels
 abbrev pub EntriesIn : ℕ → ℕ → List Node → List ℕ → List ℕ → Type 0

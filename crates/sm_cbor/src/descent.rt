@@ -1,18 +1,21 @@
 // Items whose bytes are all at hand, read in one pass by recursive descent. It may give up, and then says nothing of the
 // bytes: the machine (read.rt) does. `read_tree` stands on both.
-ghost use Rattle.std.specs.Prelude.{◌≡◌, ◌<◌, ◌≤◌, length, IfSome, IfOk};
+ghost use Rattle.std.specs.Prelude.{◌≡◌, ◌<◌, ◌≤◌, length, IfSome, IfOk, OnOk};
 ghost use Rattle.sm_tree.specs.Syntax.{IsRead};
 ghost use Rattle.sm_tree.specs.View.{node_of, nodes_view, members_view};
 ghost use Rattle.sm_cbor.specs.CborItem.{CborItem};
+ghost use Rattle.sm_cbor.specs.declared.descent.Unread.TheVariants.{NoMemory as no_memory};
 
 mod leaves;
 mod major_type;
+mod placing;
 
 use crate::claim::expected;
 use crate::head::{INDEFINITE_ARRAY, INDEFINITE_MAP};
 use crate::integer::{negative_tree, unsigned_tree};
 use crate::place::MOST_LEVELS;
 use major_type::MajorType;
+use placing::Unnamed;
 use sm_tree::{Items, NoMemory, Pairs, Text, Tree};
 use std::alloc::{AllocError, AllocFailed, Global};
 
@@ -26,18 +29,24 @@ pub enum Unread {
 }
 
 impl From<NoMemory> for Unread {
+    ghost from_gives = { λ _ unread. unread ≡ no_memory };
+
     fn from(_refusal: NoMemory) -> Self {
         Unread::NoMemory
     }
 }
 
 impl From<AllocError> for Unread {
+    ghost from_gives = { λ _ unread. unread ≡ no_memory };
+
     fn from(_error: AllocError) -> Self {
         Unread::NoMemory
     }
 }
 
 impl<T: Drop> From<AllocFailed<T>> for Unread {
+    ghost from_gives = { λ _ unread. unread ≡ no_memory };
+
     fn from(_refused: AllocFailed<T>) -> Self {
         Unread::NoMemory
     }
@@ -54,7 +63,7 @@ pub struct Descent<'a> {
 impl<'a> Descent<'a> {
     ghost use Rattle.sm_tree.specs.Node.{list, object, nodes_of, members_of};
     ghost use Rattle.sm_cbor.specs.Heads.{array_type, map_type, tag_type};
-    ghost use Rattle.sm_cbor.specs.Descent.{number_of, front_type, ItemIn, EntriesIn, EntriesToBreakIn, PairsIn, PairsToBreakIn};
+    ghost use Rattle.sm_cbor.specs.Descent.{number_of, front_type, ItemIn, PutsEntry, PutsPair, EntriesIn, EntriesToBreakIn, PairsIn, PairsToBreakIn};
 
     // What the initial byte in front says.
     #[inline(always)]
@@ -69,7 +78,7 @@ impl<'a> Descent<'a> {
 
     // The item in front, of so many levels at most.
     #[cycle(descent)]
-    #[inline(always)]
+    #[inline(never)]
     fn item(&mut self, levels: usize) -> Result<Tree, Unread>
         ensures { IfOk result (λ tree. ItemIn levels (node_of tree) self.old.rest.now self.new.rest.now) }
     {
@@ -77,19 +86,12 @@ impl<'a> Descent<'a> {
             return Err(Unread::GaveUp);
         };
         match front {
-            // An integer that 64 bits hold is made as integer.rt makes it, but without a call.
             MajorType::Unsigned => {
                 let value = self.argument()?;
-                if value < 1 << 63 {
-                    return Ok(Tree::Int(value as i64));
-                }
                 Ok(unsigned_tree(self.alloc, value)?)
             }
             MajorType::Negative => {
                 let value = self.argument()?;
-                if value < 1 << 63 {
-                    return Ok(Tree::Int(-1 - (value as i64)));
-                }
                 Ok(negative_tree(self.alloc, value)?)
             }
             MajorType::Bytes => Ok(Tree::Bytes(self.bytes()?)),
@@ -162,17 +164,54 @@ impl<'a> Descent<'a> {
         expected(claimed).min(self.rest.len())
     }
 
+    // Puts the entry in front, of so many levels at most, behind those that there are.
+    #[cycle(descent)]
+    #[inline(always)]
+    fn put_entry(&mut self, items: &mut Vec<Tree>, levels: usize) -> Result<(), Unread>
+        ensures { OnOk result (PutsEntry levels items.old.items items.new.items self.old.rest.now self.new.rest.now) }
+    {
+        // An array in an array is put in place too: lists that nest deep are read a fifth faster so.
+        if let Some(MajorType::Array) = self.front() {
+            let entries = self.list(levels)?;
+            items.push(Tree::List(Items::new(entries)))?;
+            return Ok(());
+        }
+        match self.put_leaf(Unnamed, items)? {
+            None => Ok(()),
+            Some(Unnamed) => {
+                let entry = self.item(levels)?;
+                items.push(entry)?;
+                Ok(())
+            }
+        }
+    }
+
+    // Puts the pair in front, whose value has so many levels at most, behind those that there are.
+    #[cycle(descent)]
+    #[inline(always)]
+    fn put_pair(&mut self, pairs: &mut Vec<(Text, Tree)>, levels: usize) -> Result<(), Unread>
+        ensures { OnOk result (PutsPair levels pairs.old.items pairs.new.items self.old.rest.now self.new.rest.now) }
+    {
+        let name = self.key()?;
+        match self.put_leaf(name, pairs)? {
+            None => Ok(()),
+            Some(name) => {
+                let value = self.item(levels)?;
+                pairs.push((name, value))?;
+                Ok(())
+            }
+        }
+    }
+
     // So many entries.
     #[cycle(descent)]
     #[inline(never)]
     fn entries(&mut self, count: u64, levels: usize) -> Result<Vec<Tree>, Unread>
         ensures { IfOk result (λ items. EntriesIn levels count (nodes_view items.items) self.old.rest.now self.new.rest.now) }
     {
-        let mut items = Vec::new(self.alloc);
-        items.reserve_exact(self.first_room(count))?;
+        let mut items = Vec::with_capacity(self.alloc, self.first_room(count))?;
         for _ in 0..count {
-            let entry = self.item(levels)?;
-            items.push(entry)?;
+            self.put_entry(&mut items, levels)?;
         }
         Ok(items)
     }
@@ -189,8 +228,7 @@ impl<'a> Descent<'a> {
             if self.takes_break() {
                 return Ok(items);
             }
-            let entry = self.item(levels)?;
-            items.push(entry)?;
+            self.put_entry(&mut items, levels)?;
         }
         Err(Unread::GaveUp)
     }
@@ -201,12 +239,9 @@ impl<'a> Descent<'a> {
     fn pairs(&mut self, count: u64, levels: usize) -> Result<Vec<(Text, Tree)>, Unread>
         ensures { IfOk result (λ pairs. PairsIn levels count (members_view pairs.items) self.old.rest.now self.new.rest.now) }
     {
-        let mut pairs = Vec::new(self.alloc);
-        pairs.reserve_exact(self.first_room(count))?;
+        let mut pairs = Vec::with_capacity(self.alloc, self.first_room(count))?;
         for _ in 0..count {
-            let name = self.key()?;
-            let value = self.item(levels)?;
-            pairs.push((name, value))?;
+            self.put_pair(&mut pairs, levels)?;
         }
         Ok(pairs)
     }
@@ -223,9 +258,7 @@ impl<'a> Descent<'a> {
             if self.takes_break() {
                 return Ok(pairs);
             }
-            let name = self.key()?;
-            let value = self.item(levels)?;
-            pairs.push((name, value))?;
+            self.put_pair(&mut pairs, levels)?;
         }
         Err(Unread::GaveUp)
     }

@@ -36,6 +36,109 @@ fn reads(rt: &impl Abort, alloc: Global, bytes: &[u8], want: &str) -> Result<(),
     }
 }
 
+// Asserts that a leaf is read where it is an entry or a value: the last one, and in front of a text of 16 bytes, so that
+// enough bytes are at hand for a short text to be seen at a glance.
+fn reads_within(rt: &impl Abort, alloc: Global, leaf: &[u8], want: &str) -> Result<(), Fail> {
+    let behind = "Text(Text { text: \"0123456789abcdef\" })";
+    let mut bytes = Vec::from_slice(alloc, b"\x81")?;
+    bytes.extend_from_slice(leaf)?;
+    let shown = format!(in alloc; "List(Items {{ items: [{want}] }})")?;
+    reads(rt, alloc, &bytes, shown.as_str())?;
+    let mut bytes = Vec::from_slice(alloc, b"\x82")?;
+    bytes.extend_from_slice(leaf)?;
+    bytes.extend_from_slice(b"\x700123456789abcdef")?;
+    let shown = format!(in alloc; "List(Items {{ items: [{want}, {behind}] }})")?;
+    reads(rt, alloc, &bytes, shown.as_str())?;
+    let mut bytes = Vec::from_slice(alloc, b"\xBF\x61a")?;
+    bytes.extend_from_slice(leaf)?;
+    bytes.extend_from_slice(b"\x62\xC3\xBC\x700123456789abcdef\xFF")?;
+    let shown = format!(in alloc;
+        "Object(Pairs {{ pairs: [(Text {{ text: \"a\" }}, {want}), (Text {{ text: \"ü\" }}, {behind})] }})"
+    )?;
+    reads(rt, alloc, &bytes, shown.as_str())
+}
+
+#[test]
+fn numbers_are_read_as_entries_and_values(rt: HostRuntime) -> Result<(), Fail> {
+    let alloc = rt.alloc();
+    reads_within(&rt, alloc, b"\x17", "Int(23)")?;
+    reads_within(&rt, alloc, b"\x18\x18", "Int(24)")?;
+    reads_within(&rt, alloc, b"\x19\x03\xE8", "Int(1000)")?;
+    reads_within(&rt, alloc, b"\x1A\x00\x0F\x42\x40", "Int(1000000)")?;
+    reads_within(
+        &rt,
+        alloc,
+        b"\x1B\x80\x00\x00\x00\x00\x00\x00\x00",
+        "Number(Text { text: \"9223372036854775808\" })",
+    )?;
+    reads_within(
+        &rt,
+        alloc,
+        b"\x1B\x7F\xFF\xFF\xFF\xFF\xFF\xFF\xFF",
+        "Int(9223372036854775807)",
+    )?;
+    reads_within(&rt, alloc, b"\x38\x63", "Int(-100)")?;
+    reads_within(&rt, alloc, b"\x39\x03\xE7", "Int(-1000)")?;
+    reads_within(
+        &rt,
+        alloc,
+        b"\x3B\x7F\xFF\xFF\xFF\xFF\xFF\xFF\xFF",
+        "Int(-9223372036854775808)",
+    )?;
+    reads_within(
+        &rt,
+        alloc,
+        b"\x3B\x80\x00\x00\x00\x00\x00\x00\x00",
+        "Number(Text { text: \"-9223372036854775809\" })",
+    )
+}
+
+#[test]
+fn other_leaves_are_read_as_entries_and_values(rt: HostRuntime) -> Result<(), Fail> {
+    let alloc = rt.alloc();
+    reads_within(&rt, alloc, b"\x60", "Text(Text { text: \"\" })")?;
+    reads_within(
+        &rt,
+        alloc,
+        b"\x700123456789abcdef",
+        "Text(Text { text: \"0123456789abcdef\" })",
+    )?;
+    reads_within(
+        &rt,
+        alloc,
+        b"\x710123456789abcdefg",
+        "Text(Text { text: \"0123456789abcdefg\" })",
+    )?;
+    reads_within(&rt, alloc, b"\x62\xC3\xBC", "Text(Text { text: \"ü\" })")?;
+    reads_within(&rt, alloc, b"\x78\x01a", "Text(Text { text: \"a\" })")?;
+    reads_within(&rt, alloc, b"\x7F\x61a\xFF", "Text(Text { text: \"a\" })")?;
+    reads_within(&rt, alloc, b"\x41\x07", "Bytes(Bytes { bytes: [7] })")?;
+    reads_within(&rt, alloc, b"\xF4", "Bool(false)")?;
+    reads_within(&rt, alloc, b"\xF5", "Bool(true)")?;
+    reads_within(&rt, alloc, b"\xF6", "Null")?;
+    reads_within(&rt, alloc, b"\xF7", "Null")?;
+    reads_within(&rt, alloc, b"\xF8\x20", "Opaque(248)")?;
+    reads_within(&rt, alloc, b"\xF9\x3C\x00", "Opaque(249)")?;
+    reads_within(
+        &rt,
+        alloc,
+        b"\x81\x80",
+        "List(Items { items: [List(Items { items: [] })] })",
+    )?;
+    reads_within(&rt, alloc, b"\xC1\x00", "Tag(1, Int(0))")
+}
+
+#[test]
+fn keys_of_sixteen_bytes_and_of_more_are_read(rt: HostRuntime) -> Result<(), Fail> {
+    let alloc = rt.alloc();
+    reads(
+        &rt,
+        alloc,
+        b"\xA2\x700123456789abcdef\x00\x710123456789abcdefg\x01",
+        "Object(Pairs { pairs: [(Text { text: \"0123456789abcdef\" }, Int(0)), (Text { text: \"0123456789abcdefg\" }, Int(1))] })",
+    )
+}
+
 // RFC 8949, appendix A
 #[test]
 fn integers_of_the_standard_are_read(rt: HostRuntime) -> Result<(), Fail> {

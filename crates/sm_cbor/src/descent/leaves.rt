@@ -1,11 +1,11 @@
 // What recursive descent ends at: heads, strings, simple values and breaks.
-ghost use Rattle.std.specs.Prelude.{◌≡◌, ◌<◌, ◌↔◌, length, slice_index, string_bytes, IsTrue, IfOk, IsUtf8};
+ghost use Rattle.std.specs.Prelude.{◌≡◌, ◌<◌, ◌%◌, ◌↔◌, length, slice_index, string_bytes, IsTrue, IfOk, IsUtf8};
 ghost use Rattle.sm_tree.specs.View.{node_of};
 ghost use Rattle.sm_cbor.specs.CborItem.{IsOpaque};
 
 use super::major_type::MajorType;
 use super::{Descent, Unread};
-use crate::head::{BREAK, INDEFINITE_BYTES, INDEFINITE_TEXT, number, width};
+use crate::head::{BREAK, INDEFINITE_BYTES, INDEFINITE_TEXT, number};
 use crate::seen::see_bytes;
 use sm_tree::{Bytes, Text, Tree};
 use std::str;
@@ -26,7 +26,7 @@ fn is_opaque(info: u8, argument: u64) -> bool
 
 impl<'a> Descent<'a> {
     ghost use Rattle.sm_tree.specs.Json.{AreBytes};
-    ghost use Rattle.sm_cbor.specs.Heads.{Byte, Head, bytes_type, text_type, simple_type};
+    ghost use Rattle.sm_cbor.specs.Heads.{Byte, HasWidth, Head, bytes_type, text_type, simple_type};
     ghost use Rattle.sm_cbor.specs.CborItem.{plain, Key, Definite, ByteString, TextString};
     ghost use Rattle.sm_cbor.specs.Descent.{front_type, Joined, ItemIn, TakesBreak};
 
@@ -39,35 +39,49 @@ impl<'a> Descent<'a> {
         self.rest = &self.rest[1..];
     }
 
-    // The argument of the head in front, whatever form it has.
+    // The argument of the head in front, in so many bytes behind the initial one.
+    #[inline(always)]
+    fn argument_in(&mut self, count: usize) -> Result<u64, Unread>
+        requires some { 0 < length self.old.rest.now }
+        requires width { HasWidth (slice_index self.old.rest.now 0 % 32) count }
+        ensures { IfOk result (λ value. Head (front_type self.old.rest.now) value self.old.rest.now self.new.rest.now) }
+    {
+        if self.rest.len() <= count {
+            return Err(Unread::GaveUp);
+        }
+        let argument = number(0, &self.rest[1..1 + count]);
+        self.rest = &self.rest[1 + count..];
+        Ok(argument)
+    }
+
+    // The same in four or eight bytes, which few have. Gives up where the head has no argument.
+    #[inline(never)]
     fn wide_argument(&mut self) -> Result<u64, Unread>
         requires { 0 < length self.old.rest.now }
         ensures { IfOk result (λ value. Head (front_type self.old.rest.now) value self.old.rest.now self.new.rest.now) }
     {
-        let Some((left, value)) = width(self.rest[0] % 32) else {
-            return Err(Unread::GaveUp);
-        };
-        let len = 1 + left as usize;
-        if self.rest.len() < len {
-            return Err(Unread::GaveUp);
+        match self.rest[0] % 32 {
+            26 => self.argument_in(4),
+            27 => self.argument_in(8),
+            _ => Err(Unread::GaveUp),
         }
-        let argument = number(value, &self.rest[1..len]);
-        self.rest = &self.rest[len..];
-        Ok(argument)
     }
 
-    // The argument of the head in front. Most are in the initial byte itself.
+    // The argument of the head in front. Most are in the initial byte itself, or in one or two bytes behind it.
     #[inline(always)]
     pub(super) fn argument(&mut self) -> Result<u64, Unread>
         requires { 0 < length self.old.rest.now }
         ensures { IfOk result (λ value. Head (front_type self.old.rest.now) value self.old.rest.now self.new.rest.now) }
     {
-        let info = self.rest[0] % 32;
-        if info < 24 {
-            self.rest = &self.rest[1..];
-            return Ok(u64::from(info));
+        match self.rest[0] % 32 {
+            info @ 0..=23 => {
+                self.rest = &self.rest[1..];
+                Ok(u64::from(info))
+            }
+            24 => self.argument_in(1),
+            25 => self.argument_in(2),
+            _ => self.wide_argument(),
         }
-        self.wide_argument()
     }
 
     // The bytes of the string of definite length in front.
@@ -130,9 +144,8 @@ impl<'a> Descent<'a> {
         Err(Unread::GaveUp)
     }
 
-    // The text in front.
-    #[inline(always)]
-    pub(super) fn text(&mut self) -> Result<Text, Unread>
+    // The text in front, of definite or indefinite length.
+    fn any_text(&mut self) -> Result<Text, Unread>
         requires some { 0 < length self.old.rest.now }
         requires text { front_type self.old.rest.now ≡ text_type }
         ensures { IfOk result (λ text. TextString text self.old.rest.now self.new.rest.now) }
@@ -144,6 +157,24 @@ impl<'a> Descent<'a> {
         }
         let text = self.definite_text()?;
         Ok(Text::copy(self.alloc, text)?)
+    }
+
+    // The text in front. Most are short.
+    #[inline(always)]
+    pub(super) fn text(&mut self) -> Result<Text, Unread>
+        requires some { 0 < length self.old.rest.now }
+        requires text { front_type self.old.rest.now ≡ text_type }
+        ensures { IfOk result (λ text. TextString text self.old.rest.now self.new.rest.now) }
+    {
+        let info = self.rest[0] % 32;
+        if info < 24 {
+            let behind = &self.rest[1..];
+            if let Some(text) = Text::in_front(behind, info as usize) {
+                self.rest = &behind[info as usize..];
+                return Ok(text);
+            }
+        }
+        self.any_text()
     }
 
     // The key in front, a text.

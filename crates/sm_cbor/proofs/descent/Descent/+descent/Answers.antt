@@ -1,9 +1,7 @@
-use Rattle.std.proofs.Common.{ℕ, List, sym, ap, subst, ◌∙◌}
-use Rattle.sm_tree.specs.declared.tree.Tree.{Tree}
-use Rattle.sm_tree.specs.View.{node_of, nodes_view, members_view}
+use Rattle.std.proofs.Common.{sym, ap, subst, ◌∙◌}
+use Rattle.sm_tree.specs.View.{nodes_view, members_view}
 use Rattle.sm_cbor.specs.Heads.{Head}
-use Rattle.sm_cbor.specs.CborItem.{plain, Item, Key}
-use Rattle.sm_cbor.specs.Descent.{number_of, ItemIn}
+use Rattle.sm_cbor.specs.Descent.{number_of, ItemIn, PutsEntry, PutsPair}
 use Rattle.sm_cbor.proofs.Descending.{unsigned_in, negative_in, entry_more, entries_end, entry_to_break_more, entries_break, pair_more, pairs_end, pair_to_break_more, pairs_break, entry_levels, pair_levels}
 use Rattle.sm_cbor.proofs.descent.Descent.+descent.Goals as goal
 
@@ -24,25 +22,30 @@ item-returns-in_ok-negative_tree-in-Negative t c =
     (negative_in c.args.levels value bytes behind (subst (λ m. Head m value bytes behind) (c.in-Some.ensures.1 ∙ ap number_of c.in-Negative.is) c.in_ok-value-in-Negative.ensures))
 
 pub entries-loop-preserved : goal.entries-loop-preserved
-entries-loop-preserved t c = record {
-  read = λ ns r more.
-      entry_more c.args.count c.loop.counter c.loop.items.items c.push.new.self.items c.in_ok-entry.entry ns c.loop.self.rest.now c.item.new.self.rest.now r c.args.self.now.rest.now
-      c.in_ok-push.ensures.items c.loop-test.true c.loop.invariant.read c.in_ok-entry.ensures.0 more;
-  levels = entry_levels c.args.levels c.loop.items.items c.push.new.self.items c.in_ok-entry.entry c.in_ok-push.ensures.items c.loop.invariant.levels c.in_ok-entry.ensures.1;
-}
+entries-loop-preserved t c =
+    let before = c.loop.self.rest.now in
+    let behind = c.put_entry.new.self.rest.now in
+    record {
+      read = λ ns r more.
+          entry_more c.args.levels c.args.count c.loop.counter c.loop.items.items c.put_entry.new.items.items ns before behind r c.args.self.now.rest.now
+          c.in_ok-put_entry.ensures c.loop-test.true c.loop.invariant.read more;
+      levels = entry_levels c.args.levels c.loop.items.items c.put_entry.new.items.items before behind c.in_ok-put_entry.ensures c.loop.invariant.levels;
+    }
 
 pub entries-returns : goal.entries-returns
 entries-returns t c =
     (entries_end c.args.count c.loop.counter (nodes_view c.loop.items.items) c.loop.self.rest.now c.args.self.now.rest.now c.loop-test.false c.loop.invariant.read, c.loop.invariant.levels)
 
 pub entries_to_break-loop-preserved : goal.entries_to_break-loop-preserved
-entries_to_break-loop-preserved t c = record {
-  read = λ ns r more.
-      entry_to_break_more c.loop.items.items c.push.new.self.items c.in_ok-entry.entry ns c.loop.self.rest.now c.item.new.self.rest.now r c.args.self.now.rest.now
-      c.in_ok-push.ensures.items c.loop.invariant.read
-      (subst (λ s. Item plain (node_of c.in_ok-entry.entry) s c.item.new.self.rest.now) (sym c.if-takes_break.ensures.0) c.in_ok-entry.ensures.0) more;
-  levels = entry_levels c.args.levels c.loop.items.items c.push.new.self.items c.in_ok-entry.entry c.in_ok-push.ensures.items c.loop.invariant.levels c.in_ok-entry.ensures.1;
-}
+entries_to_break-loop-preserved t c =
+    let before = c.loop.self.rest.now in
+    let behind = c.put_entry.new.self.rest.now in
+    let puts : PutsEntry c.args.levels c.loop.items.items c.put_entry.new.items.items before behind =
+    subst (λ s. PutsEntry c.args.levels c.loop.items.items c.put_entry.new.items.items s behind) (sym c.if-takes_break.ensures.0) c.in_ok-put_entry.ensures in
+    record {
+      read = λ ns r more. entry_to_break_more c.args.levels c.loop.items.items c.put_entry.new.items.items ns before behind r c.args.self.now.rest.now puts c.loop.invariant.read more;
+      levels = entry_levels c.args.levels c.loop.items.items c.put_entry.new.items.items before behind puts c.loop.invariant.levels;
+    }
 
 pub entries_to_break-returns-then-takes_break : goal.entries_to_break-returns-then-takes_break
 entries_to_break-returns-then-takes_break t c =
@@ -50,12 +53,13 @@ entries_to_break-returns-then-takes_break t c =
 
 pub pairs-loop-preserved : goal.pairs-loop-preserved
 pairs-loop-preserved t c =
-    let pair : List ℕ × Tree = (c.in_ok-name.name, c.in_ok-value.value) in
+    let before = c.loop.self.rest.now in
+    let behind = c.put_pair.new.self.rest.now in
     record {
       read = λ ms r more.
-          pair_more c.args.count c.loop.counter c.loop.pairs.items c.push.new.self.items pair ms c.loop.self.rest.now c.key.new.self.rest.now c.item.new.self.rest.now r c.args.self.now.rest.now
-          c.in_ok-push.ensures.items c.loop-test.true c.loop.invariant.read c.in_ok-name.ensures c.in_ok-value.ensures.0 more;
-      levels = pair_levels c.args.levels c.loop.pairs.items c.push.new.self.items pair c.in_ok-push.ensures.items c.loop.invariant.levels c.in_ok-value.ensures.1;
+          pair_more c.args.levels c.args.count c.loop.counter c.loop.pairs.items c.put_pair.new.pairs.items ms before behind r c.args.self.now.rest.now
+          c.in_ok-put_pair.ensures c.loop-test.true c.loop.invariant.read more;
+      levels = pair_levels c.args.levels c.loop.pairs.items c.put_pair.new.pairs.items before behind c.in_ok-put_pair.ensures c.loop.invariant.levels;
     }
 
 pub pairs-returns : goal.pairs-returns
@@ -64,13 +68,13 @@ pairs-returns t c =
 
 pub pairs_to_break-loop-preserved : goal.pairs_to_break-loop-preserved
 pairs_to_break-loop-preserved t c =
-    let pair : List ℕ × Tree = (c.in_ok-name.name, c.in_ok-value.value) in
+    let before = c.loop.self.rest.now in
+    let behind = c.put_pair.new.self.rest.now in
+    let puts : PutsPair c.args.levels c.loop.pairs.items c.put_pair.new.pairs.items before behind =
+    subst (λ s. PutsPair c.args.levels c.loop.pairs.items c.put_pair.new.pairs.items s behind) (sym c.if-takes_break.ensures.0) c.in_ok-put_pair.ensures in
     record {
-      read = λ ms r more.
-          pair_to_break_more c.loop.pairs.items c.push.new.self.items pair ms c.loop.self.rest.now c.key.new.self.rest.now c.item.new.self.rest.now r c.args.self.now.rest.now
-          c.in_ok-push.ensures.items c.loop.invariant.read
-          (subst (λ s. Key plain c.in_ok-name.name s c.key.new.self.rest.now) (sym c.if-takes_break.ensures.0) c.in_ok-name.ensures) c.in_ok-value.ensures.0 more;
-      levels = pair_levels c.args.levels c.loop.pairs.items c.push.new.self.items pair c.in_ok-push.ensures.items c.loop.invariant.levels c.in_ok-value.ensures.1;
+      read = λ ms r more. pair_to_break_more c.args.levels c.loop.pairs.items c.put_pair.new.pairs.items ms before behind r c.args.self.now.rest.now puts c.loop.invariant.read more;
+      levels = pair_levels c.args.levels c.loop.pairs.items c.put_pair.new.pairs.items before behind puts c.loop.invariant.levels;
     }
 
 pub pairs_to_break-returns-then-takes_break : goal.pairs_to_break-returns-then-takes_break

@@ -5,30 +5,36 @@ use Rattle.sm_tree.specs.View.{nodes_view, members_view}
 use Rattle.sm_cbor.specs.CborItem.{plain, Entries, EntriesToBreak, Pairs, PairsToBreak}
 use Rattle.sm_cbor.proofs.descent.Descent.+descent.Given as goal
 
--- each level inside has less room, and a list is measured above its entries
+-- each level inside has less room; entries are measured above each entry, and that above its item
 abbrev pub decreases-item : goal.decreases-item
-decreases-item l = 3 * l.levels + 1
+decreases-item l = 4 * l.levels + 1
 
 abbrev pub decreases-tagged : goal.decreases-tagged
-decreases-tagged l = 3 * l.levels
+decreases-tagged l = 4 * l.levels
 
 abbrev pub decreases-list : goal.decreases-list
-decreases-list l = 3 * l.levels
+decreases-list l = 4 * l.levels
 
 abbrev pub decreases-map : goal.decreases-map
-decreases-map l = 3 * l.levels
+decreases-map l = 4 * l.levels
+
+abbrev pub decreases-put_entry : goal.decreases-put_entry
+decreases-put_entry l = 4 * l.levels + 2
+
+abbrev pub decreases-put_pair : goal.decreases-put_pair
+decreases-put_pair l = 4 * l.levels + 2
 
 abbrev pub decreases-entries : goal.decreases-entries
-decreases-entries l = 3 * l.levels + 2
+decreases-entries l = 4 * l.levels + 3
 
 abbrev pub decreases-entries_to_break : goal.decreases-entries_to_break
-decreases-entries_to_break l = 3 * l.levels + 2
+decreases-entries_to_break l = 4 * l.levels + 3
 
 abbrev pub decreases-pairs : goal.decreases-pairs
-decreases-pairs l = 3 * l.levels + 2
+decreases-pairs l = 4 * l.levels + 3
 
 abbrev pub decreases-pairs_to_break : goal.decreases-pairs_to_break
-decreases-pairs_to_break l = 3 * l.levels + 2
+decreases-pairs_to_break l = 4 * l.levels + 3
 
 -- whatever the rest says completes what has come
 abbrev pub invariant-entries-loop : goal.invariant-entries-loop
