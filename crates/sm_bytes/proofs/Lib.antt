@@ -1,0 +1,4 @@
+pub mod Runs
+pub mod CharacterBytes
+pub mod CharacterShapes
+pub mod Characters

@@ -1,0 +1,1 @@
+// What only tests say of the reader and the writer of CBOR.

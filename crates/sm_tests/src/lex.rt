@@ -1,0 +1,1 @@
+// What only tests say of the lexer.

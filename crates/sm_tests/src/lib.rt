@@ -1,0 +1,22 @@
+// Tests of what neither a clause says nor a line of text can: sources and sinks that fail, cuts, and memory. Cases that a line
+// of text can say are played by format_rows and command_rows.
+#![tactic(auto)]
+
+#[cfg(test)]
+mod cbor;
+#[cfg(test)]
+mod ids;
+#[cfg(test)]
+mod io;
+#[cfg(test)]
+mod json;
+#[cfg(test)]
+mod lex;
+#[cfg(test)]
+mod shapes;
+#[cfg(test)]
+mod time;
+#[cfg(test)]
+mod tool;
+#[cfg(test)]
+mod tree;
