@@ -113,7 +113,7 @@ pub utf8_runs : (u : List ℕ) → IsUtf8 u → Rest Between u
 utf8_runs u (cs, (e, f)) = subst (Rest Between) f (characters_run cs e)
 
 -- which numbers are characters: those of whole sequences
-high_scalar : (c : ℕ) → 57344 ≤ c → c < 1114112 → IsScalar c
+pub high_scalar : (c : ℕ) → 57344 ≤ c → c < 1114112 → IsScalar c
 high_scalar c low high = cond-false _ _ _ (le-ltb c 55296 (omega arith)) ∙ and_from _ _ (le-leb 57344 c low) (lt-ltb c 1114112 high)
 
 surrogate_tail : (x y : ℕ) → x ≡ 237 → IsSecond x y → y < 160
@@ -122,7 +122,7 @@ surrogate_tail x y e h = grind (arith, nat_tests)
 fourth_plane : (x y : ℕ) → x ≡ 244 → IsSecond x y → y < 144
 fourth_plane x y e h = grind (arith, nat_tests)
 
-three_scalar : (x y z : ℕ) → 224 ≤ x → x < 240 → IsSecond x y → IsTail z → (c : ℕ) → c ≡ ((x - 224) * 64 + (y - 128)) * 64 + (z - 128) → IsScalar c
+pub three_scalar : (x y z : ℕ) → 224 ≤ x → x < 240 → IsSecond x y → IsTail z → (c : ℕ) → c ≡ ((x - 224) * 64 + (y - 128)) * 64 + (z - 128) → IsScalar c
 three_scalar x y z a b h t c e =
     let low = low_three x y a h in
     elim (cases_order x 237) [
@@ -130,7 +130,7 @@ three_scalar x y z a b h t c e =
       | inr other ↦ elim other [ inl below ↦ low_scalar c (omega arith) | inr above ↦ high_scalar c (omega arith) (omega arith) ]
     ]
 
-four_scalar : (x y z w : ℕ) → 240 ≤ x → x < 245 → IsSecond x y → IsTail z → IsTail w → (c : ℕ) → c ≡ (((x - 240) * 64 + (y - 128)) * 64 + (z - 128)) * 64 + (w - 128) → IsScalar c
+pub four_scalar : (x y z w : ℕ) → 240 ≤ x → x < 245 → IsSecond x y → IsTail z → IsTail w → (c : ℕ) → c ≡ (((x - 240) * 64 + (y - 128)) * 64 + (z - 128)) * 64 + (w - 128) → IsScalar c
 four_scalar x y z w a b h t u c e =
     let low = low_four x y a h in
     elim (cases_order x 244) [

@@ -1,5 +1,5 @@
 -- Lengths of runs of bytes, as std's searches give them.
-use Rattle.std.proofs.Common.{◌≡◌, ℕ, ◌≤◌, Bool, true, false, cond, ◌+◌, List, [], ◌∷◌, length, Option, Some, None, refl, ◌∙◌, ap, arith, not}
+use Rattle.std.proofs.Common.{◌≡◌, ℕ, suc, ◌≤◌, Bool, true, false, cond, ◌+◌, List, [], ◌∷◌, length, take, Option, Some, None, refl, ◌∙◌, ap, subst, arith, not}
 use Rattle.std.specs.List.{position_or_len, prefix_len, position}
 use Rattle.std.specs.Option.{unwrap_or}
 use Rattle.std.specs.Prelude.{nat_lt}
@@ -28,3 +28,16 @@ run_is p xs r e = unwrap_position (λ c. not (p c)) xs r e ∙ first_other p xs
 
 pub run_within : (p : ℕ → Bool) (xs : List ℕ) → prefix_len p xs ≤ length xs
 run_within p xs = prefix_len-le-length p xs
+
+-- what holds of no bytes, and of bytes with one of the class before them where it holds of them, holds of the run
+at_test : (p : ℕ → Bool) (P : List ℕ → Type 0) → P [] → ((c : ℕ) (s : List ℕ) → p c ≡ true → P s → P (c ∷ s)) → (x : ℕ) (xs : List ℕ) → P (take (prefix_len p xs) xs)
+    → (b : Bool) → p x ≡ b → P (take (cond b (1 + prefix_len p xs) 0) (x ∷ xs))
+at_test p P none more x xs rest true h = subst (λ n. P (take n (x ∷ xs))) (next (prefix_len p xs)) (more x (take (prefix_len p xs) xs) h rest)
+  where
+    next : (n : ℕ) → suc n ≡ 1 + n
+    next n = omega arith
+at_test p P none more x xs rest false h = none
+
+pub of_run : (p : ℕ → Bool) (P : List ℕ → Type 0) → P [] → ((c : ℕ) (s : List ℕ) → p c ≡ true → P s → P (c ∷ s)) → (xs : List ℕ) → P (take (prefix_len p xs) xs)
+of_run p P none more [] = none
+of_run p P none more (x ∷ xs) = at_test p P none more x xs (of_run p P none more xs) (p x) refl

@@ -32,6 +32,12 @@ dollar = 36
 abbrev pub apostrophe : ℕ
 apostrophe = 39
 
+abbrev pub left_parenthesis : ℕ
+left_parenthesis = 40
+
+abbrev pub right_parenthesis : ℕ
+right_parenthesis = 41
+
 abbrev pub plus : ℕ
 plus = 43
 
@@ -50,6 +56,9 @@ slash = 47
 abbrev pub digit_zero : ℕ
 digit_zero = 48
 
+abbrev pub digit_one : ℕ
+digit_one = 49
+
 abbrev pub digit_nine : ℕ
 digit_nine = 57
 
@@ -65,8 +74,14 @@ at_sign = 64
 abbrev pub capital_a : ℕ
 capital_a = 65
 
+abbrev pub capital_e : ℕ
+capital_e = 69
+
 abbrev pub capital_f : ℕ
 capital_f = 70
+
+abbrev pub capital_t : ℕ
+capital_t = 84
 
 abbrev pub capital_z : ℕ
 capital_z = 90
