@@ -1,14 +1,18 @@
 pub mod Views
+pub mod NodeKinds
+mod SameViews
+mod SameOrder
+mod SameForms
+pub mod Equal
 pub mod Events
 pub mod Building
 pub mod NumberParts
 pub mod NumberRuns
 pub mod NumberSteps
+pub mod DigitRuns
 pub mod Numbers
 mod Tokens
 mod Sameness
 pub mod OneAnswer
+pub mod SomeAnswer
 mod ShortTexts
-mod CharacterBytes
-mod CharacterShapes
-pub mod Characters

@@ -1,5 +1,4 @@
--- Laws of number texts (RFC 8259, section 6): each stands for one tree, and what bytes it has. The reader
--- of JSON stands on them.
+-- Laws of number texts (RFC 8259, section 6): each stands for one tree, and what bytes it has.
 use Rattle.std.proofs.Common.{◌≡◌, ℕ, ◌^◌, ◌≤◌, ◌<◌, ◌⊎◌, inl, inr, ℤ, true, false, List, [], ◌∷◌, ◌++◌, length, take, refl, sym, ap, subst, ◌∙◌, arith}
 use Rattle.std.specs.Prelude.{IsUtf8}
 use Rattle.std.specs.List.{All}
@@ -16,7 +15,8 @@ use Rattle.std.specs.Int.Signed.{mag}
 use mir.Val.{hbits}
 use Rattle.sm_tree.specs.Node.{Node, null, bool, int, number, text, bytes, tag, opaque, list, object}
 use Rattle.sm_tree.specs.Numbers.{AreDigits, IsMinus, IsInt, IsFraction, IsExponent, IsNumber, IsInt64, NumberText}
-use Rattle.sm_tree.specs.NumberTail.{IsNumberByte, AreNumberBytes, IsNumberStart, Then, Tail, Leads}
+use Rattle.sm_tree.specs.NumberTail.{IsNumberByte, AreNumberBytes, Then, NumberTail, NumberLeads}
+use Rattle.sm_tree.specs.steps.NumberBytes.{IsNumberStart}
 use Rattle.sm_tree.specs.declared.number.Phase.{Phase}
 use Rattle.sm_tree.specs.declared.number.Phase.TheVariants.{Start, Minus, Zero, Whole, Point, Fraction, Exponent, ExponentSign, ExponentDigits}
 use Rattle.sm_tree.proofs.NumberParts.{then_none}
@@ -24,7 +24,7 @@ use Rattle.sm_tree.proofs.NumberSteps.{goes_on, comes_from, next_byte}
 
 -- every byte of what completes a number is a byte of numbers, and so is every byte of a number
 
-pub tail_bytes : (p : Phase) (u : List ℕ) → Tail p u → AreNumberBytes u
+pub tail_bytes : (p : Phase) (u : List ℕ) → NumberTail p u → AreNumberBytes u
 tail_bytes p [] t = tt
 tail_bytes p (c ∷ u) t = let h = goes_on p c u t in (next_byte p c h.0 h.1, tail_bytes h.0 u h.2)
 
@@ -50,7 +50,7 @@ completes_zero = then_none IsFraction IsExponent [] (inl refl) (inl refl)
 completes_fraction : Then AreDigits IsExponent []
 completes_fraction = then_none AreDigits IsExponent [] tt (inl refl)
 
-pub completes : (p : Phase) → Tail p (completion p)
+pub completes : (p : Phase) → NumberTail p (completion p)
 completes Start = comes_from Start 48 Zero [] refl completes_zero
 completes Minus = comes_from Minus 48 Zero [] refl completes_zero
 completes Zero = completes_zero
@@ -63,14 +63,14 @@ completes ExponentDigits = tt
 
 -- what has been read is a number exactly where the phase may be the last
 
-pub number_from_whole : (t : List ℕ) (p : Phase) → Leads Start t p → Tail p [] → IsNumber t
+pub number_from_whole : (t : List ℕ) (p : Phase) → NumberLeads Start t p → NumberTail p [] → IsNumber t
 number_from_whole t p h ends = subst IsNumber (append-nil t) (h.back [] ends)
 
 -- a run that took all of a text
-pub number_from_run : (t : List ℕ) (n : ℕ) (p : Phase) → Leads Start (take n t) p → length t ≤ n → Tail p [] → IsNumber t
-number_from_run t n p h all ends = number_from_whole t p (subst (λ s. Leads Start s p) (take_all n t all) h) ends
+pub number_from_run : (t : List ℕ) (n : ℕ) (p : Phase) → NumberLeads Start (take n t) p → length t ≤ n → NumberTail p [] → IsNumber t
+number_from_run t n p h all ends = number_from_whole t p (subst (λ s. NumberLeads Start s p) (take_all n t all) h) ends
 
-pub whole_from_number : (t : List ℕ) (p : Phase) → Leads Start t p → IsNumber t → Tail p []
+pub whole_from_number : (t : List ℕ) (p : Phase) → NumberLeads Start t p → IsNumber t → NumberTail p []
 whole_from_number t p h n = h.onward [] (subst IsNumber (sym (append-nil t)) n)
 
 -- and so a number is UTF-8

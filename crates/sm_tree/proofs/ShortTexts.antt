@@ -51,5 +51,5 @@ pub all_utf8 : (ascii : Bool) (bytes : List ℕ) → IsTrue ascii ↔ IsAscii by
 all_utf8 ascii bytes seen holds = IsUtf8-from_ascii bytes (seen.0 holds)
 
 -- the bytes that were copied begin as those at hand do
-pub same_front : (len : ℕ) (bytes copied : List ℕ) → len ≤ 16 → copied ≡ take 16 bytes → take len copied ≡ take len bytes
-same_front len bytes copied short is = ap (take len) is ∙ take-take len 16 bytes short
+pub same_prefix : (len : ℕ) (bytes copied : List ℕ) → len ≤ 16 → copied ≡ take 16 bytes → take len copied ≡ take len bytes
+same_prefix len bytes copied short is = ap (take len) is ∙ take-take len 16 bytes short

@@ -8,22 +8,25 @@ use Rattle.std.proofs.lemmas.List.{length-map}
 use Rattle.std.proofs.lemmas.Int.Digits.{length-digits_of_step}
 use Rattle.std.specs.Fmt.{decimal}
 use Rattle.std.specs.Int.Digits.{digits_of}
-use Rattle.sm_tree.specs.Pointer.{token, replaced, TokenReadsBack, TokenHasNoSlash}
+use Rattle.sm_tree.specs.Pointer.{reference_token, replaced, TokenReadsBack, TokenHasNoSlash}
 
-token-plain : (c : ℕ) (cs : List ℕ) → c ≢ 126 → c ≢ 47 → token (c ∷ cs) ≡ c ∷ token cs
+token-plain : (c : ℕ) (cs : List ℕ) → c ≢ 126 → c ≢ 47 → reference_token (c ∷ cs) ≡ c ∷ reference_token cs
 token-plain c cs not_tilde not_slash = grind (arith, common_steps)
 
 -- bytes without `~` and `/` stand for themselves
-plain_run : (bs rest : List ℕ) → ((k : ℕ) → k < length bs → get_or bs k 0 ≢ 126) → ((k : ℕ) → k < length bs → get_or bs k 0 ≢ 47) → token (bs ++ rest) ≡ bs ++ token rest
+plain_run : (bs rest : List ℕ) → ((k : ℕ) → k < length bs → get_or bs k 0 ≢ 126) → ((k : ℕ) → k < length bs → get_or bs k 0 ≢ 47)
+    → reference_token (bs ++ rest) ≡ bs ++ reference_token rest
 plain_run [] rest no_tilde no_slash = refl
 plain_run (b ∷ bs) rest no_tilde no_slash =
     let head_tilde : b ≢ 126 = no_tilde 0 (omega arith) in
     let head_slash : b ≢ 47 = no_slash 0 (omega arith) in
-    let tail : token (bs ++ rest) ≡ bs ++ token rest = plain_run bs rest (λ k lt. grind (arith, common_steps, no_tilde (k + 1))) (λ k lt. grind (arith, common_steps, no_slash (k + 1))) in
+    let tail : reference_token (bs ++ rest) ≡ bs ++ reference_token rest =
+    plain_run bs rest (λ k lt. grind (arith, common_steps, no_tilde (k + 1))) (λ k lt. grind (arith, common_steps, no_slash (k + 1))) in
     token-plain b (bs ++ rest) head_tilde head_slash ∙ ap (λ r. b ∷ r) tail
 
 -- so does a letter that is neither
-pub token-letter : (c : ℕ) (rest : List ℕ) → c ≢ 126 → c ≢ 47 → token (encode_utf8 c ++ rest) ≡ encode_utf8 c ++ token rest
+pub token-letter : (c : ℕ) (rest : List ℕ) → c ≢ 126 → c ≢ 47
+    → reference_token (encode_utf8 c ++ rest) ≡ encode_utf8 c ++ reference_token rest
 token-letter c rest not_tilde not_slash =
     let own : (k : ℕ) → k < length (encode_utf8 c) → get_or (encode_utf8 c) k 0 < 128 → c ≡ get_or (encode_utf8 c) k 0 = λ k lt. inside_one c [] (encode_utf8 c) k (sym (append-nil (encode_utf8 c))) lt in
     plain_run (encode_utf8 c) rest
@@ -31,7 +34,7 @@ token-letter c rest not_tilde not_slash =
     (λ k lt is. not_slash (own k lt (omega (arith, is)) ∙ is))
 
 -- each escape has one byte more
-pub length-token : (t : List ℕ) → length (token t) ≡ length t + count_by (λ b. (b == 126) || (b == 47)) t
+pub length-token : (t : List ℕ) → length (reference_token t) ≡ length t + count_by (λ b. (b == 126) || (b == 47)) t
 length-token [] = refl
 length-token (c ∷ cs) = let more = length-token cs in grind (arith, common_steps)
 
@@ -61,19 +64,19 @@ half_read (c ∷ cs) = cond (c == 126) (126 ∷ 48 ∷ half_read cs) (c ∷ half
 half_read-other : (c : ℕ) (cs : List ℕ) → c ≢ 126 → half_read (c ∷ cs) ≡ c ∷ half_read cs
 half_read-other c cs other = grind (arith, common_steps)
 
-half-read-token : (t : List ℕ) → replaced 126 49 47 (token t) ≡ half_read t
+half-read-token : (t : List ℕ) → replaced 126 49 47 (reference_token t) ≡ half_read t
 half-read-token [] = refl
 half-read-token (c ∷ cs) =
-    let more : replaced 126 49 47 (token cs) ≡ half_read cs = half-read-token cs in
-    let G : ℕ → Type 0 = λ x. replaced 126 49 47 (token (x ∷ cs)) ≡ half_read (x ∷ cs) in
-    let tilde : G 126 = ap (λ r. 126 ∷ r) (replaced-other 126 49 47 48 (token cs) (omega arith) ∙ ap (λ r. 48 ∷ r) more) in
+    let more : replaced 126 49 47 (reference_token cs) ≡ half_read cs = half-read-token cs in
+    let G : ℕ → Type 0 = λ x. replaced 126 49 47 (reference_token (x ∷ cs)) ≡ half_read (x ∷ cs) in
+    let tilde : G 126 = ap (λ r. 126 ∷ r) (replaced-other 126 49 47 48 (reference_token cs) (omega arith) ∙ ap (λ r. 48 ∷ r) more) in
     let slash : G 47 = ap (λ r. 47 ∷ r) more in
     elim (cases_eq c 126) [
       | inl is ↦ subst G (sym is) tilde
       | inr not_tilde ↦ elim (cases_eq c 47) [
         | inl is ↦ subst G (sym is) slash
         | inr not_slash ↦ ap (replaced 126 49 47) (token-plain c cs not_tilde not_slash)
-            ∙ replaced-other 126 49 47 c (token cs) not_tilde ∙ ap (λ r. c ∷ r) more ∙ sym (half_read-other c cs not_tilde)
+            ∙ replaced-other 126 49 47 c (reference_token cs) not_tilde ∙ ap (λ r. c ∷ r) more ∙ sym (half_read-other c cs not_tilde)
       ]
     ]
 
@@ -99,24 +102,26 @@ NoSlash (c ∷ cs) = (c ≢ 47) × NoSlash cs
 no_slash-more : (c : ℕ) (cs : List ℕ) → c ≢ 47 → NoSlash cs → NoSlash (c ∷ cs)
 no_slash-more c cs other h = (other, h)
 
-no_slash-token : (t : List ℕ) → NoSlash (token t)
+no_slash-token : (t : List ℕ) → NoSlash (reference_token t)
 no_slash-token [] = tt
 no_slash-token (c ∷ cs) =
-    let more : NoSlash (token cs) = no_slash-token cs in
-    let G : ℕ → Type 0 = λ x. NoSlash (token (x ∷ cs)) in
-    let tilde : G 126 = no_slash-more 126 (48 ∷ token cs) (omega arith) (no_slash-more 48 (token cs) (omega arith) more) in
-    let slash : G 47 = no_slash-more 126 (49 ∷ token cs) (omega arith) (no_slash-more 49 (token cs) (omega arith) more) in
+    let more : NoSlash (reference_token cs) = no_slash-token cs in
+    let G : ℕ → Type 0 = λ x. NoSlash (reference_token (x ∷ cs)) in
+    let tilde : G 126 =
+    no_slash-more 126 (48 ∷ reference_token cs) (omega arith) (no_slash-more 48 (reference_token cs) (omega arith) more) in
+    let slash : G 47 =
+    no_slash-more 126 (49 ∷ reference_token cs) (omega arith) (no_slash-more 49 (reference_token cs) (omega arith) more) in
     elim (cases_eq c 126) [
       | inl is ↦ subst G (sym is) tilde
       | inr not_tilde ↦ elim (cases_eq c 47) [
         | inl is ↦ subst G (sym is) slash
-        | inr not_slash ↦ subst NoSlash (sym (token-plain c cs not_tilde not_slash)) (no_slash-more c (token cs) not_slash more)
+        | inr not_slash ↦ subst NoSlash (sym (token-plain c cs not_tilde not_slash)) (no_slash-more c (reference_token cs) not_slash more)
       ]
     ]
 
-slash_inside : (front back : List ℕ) → NoSlash (front ++ 47 ∷ back) → ⊥
-slash_inside [] back h = h.0 refl
-slash_inside (c ∷ front) back h = slash_inside front back h.1
+slash_inside : (before behind : List ℕ) → NoSlash (before ++ 47 ∷ behind) → ⊥
+slash_inside [] behind h = h.0 refl
+slash_inside (c ∷ before) behind h = slash_inside before behind h.1
 
 pub has_no_slash : TokenHasNoSlash
-has_no_slash name front back e = slash_inside front back (subst NoSlash e (no_slash-token name))
+has_no_slash name before behind e = slash_inside before behind (subst NoSlash e (no_slash-token name))

@@ -3,11 +3,12 @@
 use Rattle.std.specs.Prelude.{◌≡◌, ℕ, ◌≤◌, ◌⊎◌, FitsSigned, List, [], ◌∷◌, ◌++◌}
 use Rattle.std.specs.Str.Parse.{IsNumeral, signed_digits_value, without_leading_sign}
 use Rattle.std.specs.Int.{w64}
+use Rattle.sm_bytes.specs.Ascii.{plus, minus, full_stop, digit_zero, digit_one, digit_nine, capital_e, small_e}
 use Rattle.sm_tree.specs.Node.{Node, null, bool, int, number, text, bytes, tag, opaque, list, object}
 
 -- DIGIT = %x30-39
 abbrev pub IsDigit : ℕ → Type 0
-IsDigit c = (48 ≤ c) × (c ≤ 57)
+IsDigit c = (digit_zero ≤ c) × (c ≤ digit_nine)
 
 -- *DIGIT
 abbrev pub AreDigits : List ℕ → Type 0
@@ -16,11 +17,11 @@ AreDigits (c ∷ cs) = IsDigit c × AreDigits cs
 
 -- [ minus ]
 abbrev pub IsMinus : List ℕ → Type 0
-IsMinus t = (t ≡ []) ⊎ (t ≡ 45 ∷ [])
+IsMinus t = (t ≡ []) ⊎ (t ≡ minus ∷ [])
 
 -- int = zero / ( digit1-9 *DIGIT )
 abbrev pub IsInt : List ℕ → Type 0
-IsInt t = (t ≡ 48 ∷ []) ⊎ ((c : ℕ) × (ds : List ℕ) × (t ≡ c ∷ ds) × (49 ≤ c) × (c ≤ 57) × AreDigits ds)
+IsInt t = (t ≡ digit_zero ∷ []) ⊎ ((c : ℕ) × (ds : List ℕ) × (t ≡ c ∷ ds) × (digit_one ≤ c) × (c ≤ digit_nine) × AreDigits ds)
 
 -- 1*DIGIT
 abbrev pub IsDigits : List ℕ → Type 0
@@ -28,15 +29,16 @@ IsDigits t = (c : ℕ) × (ds : List ℕ) × (t ≡ c ∷ ds) × IsDigit c × Ar
 
 -- [ frac ], where frac = decimal-point 1*DIGIT
 abbrev pub IsFraction : List ℕ → Type 0
-IsFraction t = (t ≡ []) ⊎ ((ds : List ℕ) × (t ≡ 46 ∷ ds) × IsDigits ds)
+IsFraction t = (t ≡ []) ⊎ ((ds : List ℕ) × (t ≡ full_stop ∷ ds) × IsDigits ds)
 
 -- [ minus / plus ]
 abbrev pub IsSign : List ℕ → Type 0
-IsSign t = (t ≡ []) ⊎ ((t ≡ 45 ∷ []) ⊎ (t ≡ 43 ∷ []))
+IsSign t = (t ≡ []) ⊎ ((t ≡ minus ∷ []) ⊎ (t ≡ plus ∷ []))
 
 -- [ exp ], where exp = e [ minus / plus ] 1*DIGIT
 abbrev pub IsExponent : List ℕ → Type 0
-IsExponent t = (t ≡ []) ⊎ ((e : ℕ) × (sign ds : List ℕ) × (t ≡ e ∷ (sign ++ ds)) × ((e ≡ 101) ⊎ (e ≡ 69)) × IsSign sign × IsDigits ds)
+IsExponent t =
+    (t ≡ []) ⊎ ((e : ℕ) × (sign ds : List ℕ) × (t ≡ e ∷ (sign ++ ds)) × ((e ≡ small_e) ⊎ (e ≡ capital_e)) × IsSign sign × IsDigits ds)
 
 -- number = [ minus ] int [ frac ] [ exp ]
 pub record IsNumber (t : List ℕ) : Type 0 where

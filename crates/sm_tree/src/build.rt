@@ -1,10 +1,10 @@
-// What makes a tree from its events, one call an event. The readers of JSON and CBOR stand on it.
-// Contracts see a builder as specs/Building.antt says.
+// What makes a tree from its events, one call an event. Contracts see a builder as specs/Building.antt says.
 ghost use Rattle.std.specs.Prelude.{◌≡◌, ◌++◌, ◌∷◌, [], List, min, max, IfOk, OnOk, true, false, Some, None};
+ghost use Rattle.sm_tree.specs.Limits.{first_room};
 ghost use Rattle.sm_tree.specs.View.{node_of};
 ghost use Rattle.sm_tree.specs.Events.{events, start_list as list_starts, start_object as object_starts, end_list as list_ends, end_object as object_ends, key_event, tag_event};
 ghost use Rattle.sm_tree.specs.Building.{so_far, kinds, awaits_value, awaits_content, inner_awaits, goes_on, first_kind, IsIn, tagged};
-ghost use Rattle.sm_tree.specs.BuilderSteps.{with_tree, with_tag, ended, put_around, back_inside, after_tag, after_start, after_end};
+ghost use Rattle.sm_tree.specs.steps.BuilderSteps.{with_tree, with_tag, ended, put_around, back_inside, after_tag, after_start, after_end};
 ghost use Rattle.sm_tree.specs.BuilderView.{inner_of, around_of, open_of, building_of};
 
 use crate::NoMemory;
@@ -26,8 +26,8 @@ pub enum OpenKind {
     Object,
 }
 
-/// Makes a tree from its events, which come one call each and in order. The builder never judges: a
-/// caller sees to it that each event has its place. After `NoMemory` a builder is of no use.
+/// Makes a tree from its events, which come one call each and in order. The caller must bring each event where it has its
+/// place: the builder's `requires` say so, and it checks nothing. After `NoMemory` a builder is of no use.
 #[derive(Drop)]
 pub struct TreeBuilder {
     state: State,
@@ -75,8 +75,8 @@ enum Around {
 }
 
 // The room for entries or pairs that is made where the first comes, for a caller that expects so many.
-fn first_room(expected: usize) -> u8
-    ensures { result ≡ max 1 (min expected 4) }
+fn room_for(expected: usize) -> u8
+    ensures { result ≡ max 1 (min expected first_room) }
 {
     expected.clamp(1, FIRST_ROOM) as u8
 }
@@ -339,7 +339,7 @@ impl TreeBuilder {
         ensures content { OnOk result (awaits_content (building_of self.new) ≡ false) }
     {
         let (items, tags) = (Vec::new(self.alloc), Vec::new(self.alloc));
-        self.start(Inner::List(items, tags, first_room(expected)))
+        self.start(Inner::List(items, tags, room_for(expected)))
     }
 
     /// Takes the opener of an object. `NoMemory` where what is open finds no room.
@@ -353,7 +353,7 @@ impl TreeBuilder {
         ensures awaits { OnOk result (awaits_value (building_of self.new) ≡ false) }
         ensures content { OnOk result (awaits_content (building_of self.new) ≡ false) }
     {
-        self.start(Inner::Object(Vec::new(self.alloc), None, first_room(expected)))
+        self.start(Inner::Object(Vec::new(self.alloc), None, room_for(expected)))
     }
 
     /// Takes the end of the innermost list, in which no tag awaits its content. `NoMemory` where what is around it
@@ -393,6 +393,3 @@ impl TreeBuilder {
         }
     }
 }
-
-#[cfg(test)]
-mod tests;

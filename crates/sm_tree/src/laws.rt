@@ -1,8 +1,13 @@
 // Laws of the definitions that the contracts cite. Each is the contract of a function that does nothing.
+ghost use Rattle.std.specs.Prelude.{◌≡◌, ◌↔◌, ℕ, List, IsTrue};
+ghost use Rattle.sm_tree.specs.declared.tree.Tree.{Tree};
+ghost use Rattle.sm_tree.specs.View.{node_of};
 ghost use Rattle.sm_tree.specs.Pointer.{TokenReadsBack, TokenHasNoSlash};
-ghost use Rattle.sm_tree.specs.Utf8.{RestIsUtf8};
 ghost use Rattle.sm_tree.specs.Same.{SameToItself, SameBothWays, SameThrough, OneValueAName};
 ghost use Rattle.sm_tree.specs.EventLaws.{OneTreeAStream};
+
+use crate::text::{Bytes, Text};
+use crate::tree::Tree;
 
 /// A token of a JSON Pointer, read back as RFC 6901, section 4, says, is the name that it was written for.
 #[tactic(auto, using(crate::proofs::Tokens::reads_back))]
@@ -40,14 +45,21 @@ pub fn one_value_a_name()
     ensures { OneValueAName }
 {}
 
-/// What may come at the start of a text is exactly the texts in UTF-8.
-#[tactic(auto, using(crate::proofs::Characters::rest_is_utf8))]
-pub fn rest_is_utf8()
-    ensures { RestIsUtf8 }
-{}
-
 /// A stream of events begins with those of one tree at most, so no tree's events begin another's.
 #[tactic(auto, using(crate::proofs::Events::events_injective))]
 pub fn one_tree_a_stream()
     ensures { OneTreeAStream }
+{}
+
+/// `==` of trees is true exactly where both stand for one node.
+#[tactic(auto, using(crate::proofs::Equal::equal_is))]
+pub fn equal_trees()
+    ensures { (a b : Tree) → IsTrue (⟦<Tree as PartialEq>⟧.eq a b) ↔ (node_of a ≡ node_of b) }
+{}
+
+/// `==` of texts, and that of byte strings, is true exactly where the bytes are equal.
+#[tactic(auto, using(crate::proofs::Equal::bytes_equal_is))]
+pub fn equal_bytes()
+    ensures texts { (a b : List ℕ) → IsTrue (⟦<Text as PartialEq>⟧.eq a b) ↔ (a ≡ b) }
+    ensures bytes { (a b : List ℕ) → IsTrue (⟦<Bytes as PartialEq>⟧.eq a b) ↔ (a ≡ b) }
 {}

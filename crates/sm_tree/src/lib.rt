@@ -1,5 +1,5 @@
-// Trees, paths and syntax refusals: what JSON and CBOR have in common.
-// The readers and writers of both, and all that speaks of values, stand on it.
+// Trees of JSON (RFC 8259) and CBOR (RFC 8949), paths into them (RFC 6901), and why bytes are refused that are no text of
+// one: what both formats have in common.
 #![tactic(auto)]
 
 mod build;
@@ -7,17 +7,17 @@ pub mod laws;
 pub mod number;
 mod path;
 mod refusal;
+mod same;
 mod text;
 mod tree;
-mod utf8;
 
 pub use build::{FIRST_ROOM, OpenKind, TreeBuilder};
 pub use path::{Path, Step};
-pub use refusal::SyntaxRefusal;
+pub use refusal::{MOST_LEVELS, SyntaxRefusal};
+pub use same::is_same;
 use std::alloc::{AllocError, AllocFailed};
-pub use text::{Bytes, Text};
+pub use text::{Bytes, SHORT_LEN, Text};
 pub use tree::{Items, Pairs, Tree};
-pub use utf8::{Utf8, whole_len};
 
 /// The allocator refused the memory that a call needs.
 #[derive(Debug, Clone, Copy, PartialEq, Eq, Drop)]

@@ -1,11 +1,13 @@
-// Numbers (RFC 8259, section 6): how far the text of one has come, the longest run of bytes that goes on
-// with it, and the tree of a whole one. The reader stands on it.
+// Numbers (RFC 8259, section 6): how far the text of one has come, the longest run of bytes that goes on with it, and the
+// tree of a whole one.
 ghost use Rattle.std.specs.Prelude.{◌≡◌, [], ◌↔◌, IsTrue, IfOk, length, take, slice_index, ◌≤◌, ◌<◌};
 ghost use Rattle.sm_tree.specs.Numbers.{IsNumber, IsDigit, AreDigits, NumberText};
 ghost use Rattle.sm_tree.specs.View.{node_of};
-ghost use Rattle.sm_tree.specs.NumberTail.{Tail, Leads, Stops, IsNext, TakesDigits, AreNumberBytes};
+ghost use Rattle.sm_tree.specs.NumberTail.{NumberTail, NumberLeads, NumberStops, IsNextPhase, AreNumberBytes};
+ghost use Rattle.sm_tree.specs.steps.NumberBytes.{TakesDigits};
 
 use crate::{NoMemory, Text, Tree};
+use sm_bytes::{ByteClass, run_len};
 use std::alloc::Global;
 use std::str;
 
@@ -36,7 +38,7 @@ impl Phase {
     /// The phase after one more byte, or `None` where no number goes on with it.
     #[tactic(auto, using(crate::proofs::NumberSteps::leads_next, crate::proofs::NumberSteps::next_byte, crate::proofs::NumberSteps::stops_next))]
     pub fn next(self, byte: u8) -> Option<Phase>
-        ensures { IsNext self byte result }
+        ensures { IsNextPhase self byte result }
     {
         match (self, byte) {
             (Phase::Start, b'-') => Some(Phase::Minus),
@@ -56,7 +58,7 @@ impl Phase {
 
     /// Whether the number may end here.
     pub fn is_whole(self) -> bool
-        ensures { IsTrue result ↔ Tail self [] }
+        ensures { IsTrue result ↔ NumberTail self [] }
     {
         matches!(
             self,
@@ -65,7 +67,7 @@ impl Phase {
     }
 }
 
-/// The bytes at the front of a text that go on with a number.
+/// The first bytes of a text, which go on with a number.
 #[derive(Debug, Clone, Copy, PartialEq, Eq, Drop)]
 pub struct Run {
     /// How many bytes they are.
@@ -74,31 +76,29 @@ pub struct Run {
     pub phase: Phase,
 }
 
-// How many digits stand at the front.
-#[tactic(auto, using(crate::proofs::NumberRuns::digits_grow))]
-fn leading_digits(bytes: &[u8]) -> usize
-    ensures within { result ≤ length bytes.now }
-    ensures digits { AreDigits (take result bytes.now) }
-    ensures all { result < length bytes.now → IsDigit (slice_index bytes.now result) → ⊥ }
-{
-    for (at, byte) in bytes.iter().enumerate() {
-        if !byte.is_ascii_digit() {
-            return at;
-        }
+// The digits, as a class of bytes.
+struct Digits;
+
+impl ByteClass for Digits {
+    ghost use Rattle.sm_tree.specs.steps.NumberBytes.{is_digit};
+
+    ghost holds = { is_digit };
+
+    fn has(byte: u8) -> bool {
+        byte.is_ascii_digit()
     }
-    bytes.len()
 }
 
-// How many digits at the front leave a number in its phase.
-#[tactic(auto, using(crate::proofs::NumberSteps::whole_stays, crate::proofs::NumberSteps::fraction_stays, crate::proofs::NumberSteps::exponent_stays, crate::proofs::NumberRuns::leads_nowhere))]
+// How many of the first bytes are digits that leave a number in its phase.
+#[tactic(auto, using(crate::proofs::NumberSteps::whole_stays, crate::proofs::NumberSteps::fraction_stays, crate::proofs::NumberSteps::exponent_stays, crate::proofs::NumberRuns::leads_nowhere, crate::proofs::DigitRuns::run_digits, crate::proofs::DigitRuns::run_ends))]
 fn more_digits(phase: Phase, bytes: &[u8]) -> usize
     ensures within { result ≤ length bytes.now }
-    ensures stays { Leads phase (take result bytes.now) phase }
+    ensures stays { NumberLeads phase (take result bytes.now) phase }
     ensures digits { AreDigits (take result bytes.now) }
     ensures all { TakesDigits phase → result < length bytes.now → IsDigit (slice_index bytes.now result) → ⊥ }
 {
     match phase {
-        Phase::Whole | Phase::Fraction | Phase::ExponentDigits => leading_digits(bytes),
+        Phase::Whole | Phase::Fraction | Phase::ExponentDigits => run_len::<Digits>(bytes),
         _ => 0,
     }
 }
@@ -107,9 +107,9 @@ fn more_digits(phase: Phase, bytes: &[u8]) -> usize
 #[tactic(auto, using(crate::proofs::NumberRuns::leads_nowhere))]
 pub fn number_run(phase: Phase, bytes: &[u8]) -> Run
     ensures within { result.count ≤ length bytes.now }
-    ensures taken { Leads phase (take result.count bytes.now) result.phase }
+    ensures taken { NumberLeads phase (take result.count bytes.now) result.phase }
     ensures bytes { AreNumberBytes (take result.count bytes.now) }
-    ensures longest { result.count < length bytes.now → Stops result.phase (slice_index bytes.now result.count) }
+    ensures longest { result.count < length bytes.now → NumberStops result.phase (slice_index bytes.now result.count) }
 {
     let mut run = Run { count: 0, phase };
     while run.count < bytes.len() {
@@ -151,109 +151,5 @@ pub fn number_tree(alloc: Global, number: &[u8]) -> Result<Tree, NoMemory>
             let text = Text::copy(alloc, number_text(number))?;
             Ok(Tree::Number(text))
         }
-    }
-}
-
-#[cfg(test)]
-mod tests {
-    use super::*;
-    use std::test::Fail;
-
-    #[test]
-    fn runs_end_at_the_first_byte_that_no_number_goes_on_with(rt: HostRuntime) {
-        for (text, count, phase) in [
-            ("", 0, Phase::Start),
-            ("-", 1, Phase::Minus),
-            ("-x", 1, Phase::Minus),
-            ("0", 1, Phase::Zero),
-            ("-0", 2, Phase::Zero),
-            ("01", 1, Phase::Zero),
-            ("1.", 2, Phase::Point),
-            ("1.5", 3, Phase::Fraction),
-            ("1.5.2", 3, Phase::Fraction),
-            ("1e", 2, Phase::Exponent),
-            ("1e+", 3, Phase::ExponentSign),
-            ("1e5", 3, Phase::ExponentDigits),
-            ("1E+2", 4, Phase::ExponentDigits),
-            ("123456789012, 3", 12, Phase::Whole),
-            ("-120.0340e-056]", 14, Phase::ExponentDigits),
-            ("NaN", 0, Phase::Start),
-            ("+1", 0, Phase::Start),
-        ] {
-            let run = number_run(Phase::Start, text.as_bytes());
-            assert_eq!(rt; run.count, count, "at {text}");
-            assert!(rt; run.phase == phase, "at {text}");
-        }
-    }
-
-    #[test]
-    fn a_run_goes_on_where_another_stopped(rt: HostRuntime) {
-        for (phase, text, count, end) in [
-            (Phase::Minus, "12.5", 4, Phase::Fraction),
-            (Phase::Zero, "12.5", 0, Phase::Zero),
-            (Phase::Exponent, "-", 1, Phase::ExponentSign),
-            (Phase::ExponentSign, "+7", 0, Phase::ExponentSign),
-        ] {
-            let run = number_run(phase, text.as_bytes());
-            assert_eq!(rt; run.count, count, "at {text}");
-            assert!(rt; run.phase == end, "at {text}");
-        }
-    }
-
-    // The tree of a text that is a number, and `None` of another text.
-    #[tactic(auto, using(crate::proofs::Numbers::number_from_run))]
-    fn tree_of(alloc: Global, text: &str) -> Result<Option<Tree>, NoMemory> {
-        let bytes = text.as_bytes();
-        let run = number_run(Phase::Start, bytes);
-        if run.count < bytes.len() || !run.phase.is_whole() {
-            return Ok(None);
-        }
-        Ok(Some(number_tree(alloc, bytes)?))
-    }
-
-    #[test]
-    fn integers_of_64_bits_are_read(rt: HostRuntime) -> Result<(), Fail> {
-        for (text, value) in [
-            ("0", 0),
-            ("-0", 0),
-            ("7", 7),
-            ("-7", -7),
-            ("120034", 120034),
-            ("999999999999999999", 999999999999999999),
-            ("9223372036854775807", 9223372036854775807),
-            ("-9223372036854775808", -9223372036854775808),
-        ] {
-            let tree = tree_of(rt.alloc(), text)?;
-            assert!(rt; tree == Some(Tree::Int(value)), "at {text}");
-        }
-        Ok(())
-    }
-
-    #[test]
-    fn other_numbers_keep_their_text(rt: HostRuntime) -> Result<(), Fail> {
-        for text in [
-            "9223372036854775808",
-            "-9223372036854775809",
-            "18446744073709551616",
-            "1234567890123456789012345678901234567890",
-            "1.5",
-            "1.0",
-            "-0.0",
-            "1e5",
-            "1E+2",
-        ] {
-            let tree = tree_of(rt.alloc(), text)?;
-            let number = Tree::Number(Text::copy(rt.alloc(), text)?);
-            assert!(rt; tree == Some(number), "at {text}");
-        }
-        Ok(())
-    }
-
-    #[test]
-    fn texts_that_end_too_early_are_no_numbers(rt: HostRuntime) -> Result<(), Fail> {
-        for text in ["", "-", "1.", "1e", "1e+", "01", "-x", "1.5.2"] {
-            assert!(rt; tree_of(rt.alloc(), text)? == None, "at {text}");
-        }
-        Ok(())
     }
 }

@@ -1,7 +1,7 @@
 // Paths from a tree's root to one of its parts, and how they are printed: JSON Pointer (RFC 6901).
-// Whatever names a place in a document stands on it.
 ghost use Rattle.std.specs.Prelude.{◌≡◌, ◌+◌, ◌-◌, ◌*◌, ◌^◌, ◌++◌, length, min, string_bytes, IfOk, OnOk, decimal, count_by, ◌==◌, ◌||◌};
-ghost use Rattle.sm_tree.specs.Pointer.{token, step_bytes, pointer};
+ghost use Rattle.sm_bytes.specs.Ascii.{slash, tilde};
+ghost use Rattle.sm_tree.specs.Pointer.{reference_token, step_bytes, pointer};
 
 use crate::NoMemory;
 use crate::text::Text;
@@ -130,7 +130,7 @@ impl Step {
 
 // Appends a name as a token, with its escapes.
 fn write_token(name: &str, out: &mut String) -> Result<(), NoMemory>
-    ensures { OnOk result (string_bytes out.new ≡ string_bytes out.old ++ token name.now) }
+    ensures { OnOk result (string_bytes out.new ≡ string_bytes out.old ++ reference_token name.now) }
 {
     for letter in name.chars() {
         match letter {
@@ -152,14 +152,14 @@ fn write_decimal(number: u64, out: &mut String) -> Result<(), NoMemory>
 
 // How many bytes a name's token has, at most the greatest number of 64 bits: each escape has one byte more.
 fn token_len(name: &str) -> usize
-    ensures { result ≡ min (length (token name.now)) (2 ^ 64 - 1) }
+    ensures { result ≡ min (length (reference_token name.now)) (2 ^ 64 - 1) }
 {
     name.len().saturating_add(escapes(name))
 }
 
 // How many bytes of a name are escaped in a token.
 fn escapes(name: &str) -> usize
-    ensures { result ≡ count_by (λ byte. (byte == 126) || (byte == 47)) name.now }
+    ensures { result ≡ count_by (λ byte. (byte == tilde) || (byte == slash)) name.now }
 {
     name.as_bytes()
         .iter()
@@ -178,61 +178,4 @@ fn decimal_len(number: u64) -> usize
         digits += 1;
     }
     digits
-}
-
-#[cfg(test)]
-mod tests {
-    use super::*;
-    use std::test::Fail;
-
-    // The path of these names, from an object to a member at each step.
-    fn path_of(alloc: Global, names: &[&str]) -> Result<Path, NoMemory> {
-        let mut steps = Vec::new(alloc);
-        for name in names {
-            steps.push(Step::Member(Text::copy(alloc, name)?))?;
-        }
-        Ok(Path::new(steps))
-    }
-
-    // The examples of RFC 6901, section 5.
-    #[test]
-    fn names_are_escaped_as_rfc_6901_shows(rt: HostRuntime) -> Result<(), Fail> {
-        for (name, pointer) in [
-            ("foo", "/foo"),
-            ("", "/"),
-            ("a/b", "/a~1b"),
-            ("c%d", "/c%d"),
-            ("e^f", "/e^f"),
-            ("g|h", "/g|h"),
-            ("i\\j", "/i\\j"),
-            ("k\"l", "/k\"l"),
-            (" ", "/ "),
-            ("m~n", "/m~0n"),
-        ] {
-            let path = path_of(rt.alloc(), &[name])?;
-            assert_eq!(rt; path.print(rt.alloc())?.as_str(), pointer);
-        }
-        Ok(())
-    }
-
-    #[test]
-    fn the_root_is_the_empty_text(rt: HostRuntime) -> Result<(), Fail> {
-        let path = path_of(rt.alloc(), &[])?;
-        assert_eq!(rt; path.print(rt.alloc())?.as_str(), "");
-        Ok(())
-    }
-
-    #[test]
-    fn steps_follow_one_another(rt: HostRuntime) -> Result<(), Fail> {
-        let steps = vec![in rt.alloc();
-            Step::Member(Text::copy(rt.alloc(), "foo")?),
-            Step::Index(0),
-            Step::Key(Text::copy(rt.alloc(), "~1é/")?),
-            Step::Index(18446744073709551615),
-        ]?;
-        let path = Path::new(steps);
-        let printed = path.print(rt.alloc())?;
-        assert_eq!(rt; printed.as_str(), "/foo/0/~01é~1/18446744073709551615");
-        Ok(())
-    }
 }

@@ -1,16 +1,17 @@
-// The leaves of a tree that own memory: texts, and strings of bytes. Contracts see both as lists of
-// bytes. Trees and paths stand on them.
+// The leaves of a tree that own memory: texts, and strings of bytes. Contracts see both as lists of bytes.
 ghost use Rattle.std.specs.Prelude.{◌≡◌, ◌≤◌, ◌↔◌, length, take, IsOk, IsSome, IfOk, IfSome, IsAscii, IsUtf8, string_bytes};
+ghost use Rattle.sm_tree.specs.Limits.{short_len};
 
 mod short;
 
 use crate::NoMemory;
+pub use short::SHORT_LEN;
 use short::ShortText;
 use std::alloc::Global;
 use std::fmt;
 use std::marker::Model;
 
-/// A text in UTF-8. One of at most 16 bytes may lie in the value itself. Contracts see its bytes.
+/// A text in UTF-8. One of at most `SHORT_LEN` bytes may lie in the value itself. Contracts see its bytes.
 #[derive(Drop)]
 pub struct Text {
     form: Form,
@@ -45,12 +46,12 @@ impl Text {
         }
     }
 
-    /// A copy of a text. One of at most 16 bytes is never refused, and lies in the value; a longer one takes as much memory as
-    /// its length.
+    /// A copy of a text. One of at most `SHORT_LEN` bytes is never refused, and lies in the value; a longer one takes as much
+    /// memory as its length.
     pub fn copy(alloc: Global, text: &str) -> Result<Self, NoMemory>
         ensures bytes { IfOk result (λ copy. copy ≡ text.now) }
         ensures utf8 { IfOk result (λ copy. IsUtf8 copy) }
-        ensures short { length text.now ≤ 16 → IsOk result }
+        ensures short { length text.now ≤ short_len → IsOk result }
     {
         let form = match ShortText::copy(text) {
             Some(short) => Form::Short(short),
@@ -59,15 +60,15 @@ impl Text {
         Ok(Text { form })
     }
 
-    /// The text that so many bytes in front are, where that is seen at a glance: where they are at most 16 and ASCII, and 16
-    /// bytes are at hand. Other bytes may be a text too. No memory.
+    /// The text that a prefix of some bytes is, where that is seen at a glance: where it has at most `SHORT_LEN` bytes, which
+    /// are ASCII, and the bytes are no fewer than `SHORT_LEN`. None says nothing: another prefix may be a text too. No memory.
     #[inline(always)]
-    pub fn in_front(bytes: &[u8], len: usize) -> Option<Self>
-        ensures some { IsSome result ↔ ((len ≤ 16) × (16 ≤ length bytes.now) × IsAscii (take len bytes.now)) }
+    pub fn short_prefix(bytes: &[u8], len: usize) -> Option<Self>
+        ensures some { IsSome result ↔ ((len ≤ short_len) × (short_len ≤ length bytes.now) × IsAscii (take len bytes.now)) }
         ensures bytes { IfSome result (λ text. text ≡ take len bytes.now) }
         ensures utf8 { IfSome result (λ text. IsUtf8 text) }
     {
-        let short = ShortText::in_front(bytes, len)?;
+        let short = ShortText::short_prefix(bytes, len)?;
         Some(Text {
             form: Form::Short(short),
         })
@@ -170,71 +171,4 @@ impl Eq for Bytes {
     ghost use Rattle.std.proofs.lemmas.Cmp.{nat_list_eq_equiv};
 
     ghost laws = { nat_list_eq_equiv };
-}
-
-#[cfg(test)]
-mod tests {
-    use super::*;
-    use std::test::Fail;
-
-    // Whether a text lies in its value.
-    fn is_short(text: &Text) -> bool {
-        match &text.form {
-            Form::Short(_) => true,
-            Form::Long(_) => false,
-        }
-    }
-
-    #[test]
-    fn texts_of_16_bytes_lie_in_their_value(rt: HostRuntime) -> Result<(), Fail> {
-        for (text, short) in [
-            ("", true),
-            ("123456789012345", true),
-            ("1234567890123456", true),
-            ("12345678901234567", false),
-            ("éééééééé", true),
-            ("éééééééxé", false),
-        ] {
-            let copy = Text::copy(rt.alloc(), text)?;
-            assert_eq!(rt; copy.as_str(), text);
-            assert_eq!(rt; is_short(&copy), short);
-        }
-        Ok(())
-    }
-
-    #[test]
-    fn texts_in_front_are_seen_at_a_glance_or_not(rt: HostRuntime) -> Result<(), Fail> {
-        let sixteen = "abcdefghijklmnop".as_bytes();
-        for (bytes, len, want) in [
-            (sixteen, 0, Some("")),
-            (sixteen, 3, Some("abc")),
-            (sixteen, 16, Some("abcdefghijklmnop")),
-            (sixteen, 17, None),
-            (&sixteen[1..], 3, None),
-            ("".as_bytes(), 0, None),
-            ("abcdefghijklmnopé".as_bytes(), 16, Some("abcdefghijklmnop")),
-            ("abcdefghijklmné".as_bytes(), 16, None),
-            ("éabcdefghijklmn".as_bytes(), 1, None),
-            ("abcdefghijklmé!".as_bytes(), 13, Some("abcdefghijklm")),
-            ("abcdefghijklmé!".as_bytes(), 14, None),
-            ("abcdefghijklmé!".as_bytes(), 15, None),
-        ] {
-            match Text::in_front(bytes, len) {
-                Some(text) => assert_eq!(rt; Some(text.as_str()), want),
-                None => assert_eq!(rt; None, want),
-            }
-        }
-        Ok(())
-    }
-
-    #[test]
-    fn texts_are_equal_by_their_bytes(rt: HostRuntime) -> Result<(), Fail> {
-        let copy = Text::copy(rt.alloc(), "a")?;
-        let kept = Text::new(String::from_str(rt.alloc(), "a")?);
-        assert!(rt; !is_short(&kept));
-        assert!(rt; copy == kept);
-        assert!(rt; copy != Text::copy(rt.alloc(), "b")?);
-        assert!(rt; copy != Text::copy(rt.alloc(), "")?);
-        Ok(())
-    }
 }

@@ -1,5 +1,4 @@
 // Trees: what a JSON text or a CBOR item says. Contracts see a tree as a node of specs/Node.antt.
-// The readers and writers of both formats, and all that speaks of documents, stand on it.
 ghost use Rattle.std.specs.Prelude.{◌≡◌};
 ghost use Rattle.sm_tree.specs.View.{items_view, pairs_view, nodes_view, members_view};
 
@@ -94,7 +93,7 @@ impl Pairs {
     }
 }
 
-// The last entry and the last pair are let go first, and then the others in order. No clause says so, and no answer depends
+// The last entry and the last pair are dropped first, and then the others in order. No clause says so, and no answer depends
 // on it. It is for the allocator: glibc's, as measured (docs/PERFORMANCE.md), then keeps more of the pages for the next tree.
 
 impl Drop for Items {
@@ -115,29 +114,5 @@ impl Drop for Pairs {
             drop(tree);
             drop(name);
         }
-    }
-}
-
-#[cfg(test)]
-mod tests {
-    use super::*;
-    use std::alloc::Global;
-    use std::test::Fail;
-
-    // The object of these two members, in this order.
-    fn object_of(alloc: Global, first: (&str, i64), second: (&str, i64)) -> Result<Tree, Fail> {
-        let first = (Text::copy(alloc, first.0)?, Tree::Int(first.1));
-        let second = (Text::copy(alloc, second.0)?, Tree::Int(second.1));
-        Ok(Tree::Object(Pairs::new(vec![in alloc; first, second]?)))
-    }
-
-    #[test]
-    fn trees_are_equal_part_by_part(rt: HostRuntime) -> Result<(), Fail> {
-        let tree = object_of(rt.alloc(), ("a", 1), ("b", 2))?;
-        assert!(rt; tree == object_of(rt.alloc(), ("a", 1), ("b", 2))?);
-        assert!(rt; tree != object_of(rt.alloc(), ("a", 1), ("b", 3))?);
-        assert!(rt; tree != object_of(rt.alloc(), ("a", 1), ("c", 2))?);
-        assert!(rt; tree != object_of(rt.alloc(), ("b", 2), ("a", 1))?);
-        Ok(())
     }
 }

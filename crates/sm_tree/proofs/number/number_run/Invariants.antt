@@ -1,11 +1,11 @@
 use Rattle.std.proofs.Common.{◌≤◌, ◌-◌, length, take}
-use Rattle.sm_tree.specs.NumberTail.{Leads, AreNumberBytes}
+use Rattle.sm_tree.specs.NumberTail.{NumberLeads, AreNumberBytes}
 use Rattle.sm_tree.proofs.number.number_run.Given as goal
 
 abbrev pub invariant-loop-run : goal.invariant-loop-run
 invariant-loop-run l = record {
   within : l.run.count ≤ length l.bytes;
-  taken : Leads l.fn.phase (take l.run.count l.bytes) l.run.phase;
+  taken : NumberLeads l.fn.phase (take l.run.count l.bytes) l.run.phase;
   bytes : AreNumberBytes (take l.run.count l.bytes);
 }
 

@@ -1,0 +1,59 @@
+-- What a builder's parts do at an event, by cases on what is open. The private methods of TreeBuilder cite these words;
+-- what the public calls promise is in Building.
+use Rattle.std.specs.Prelude.{ℕ, [], ◌∷◌, ◌++◌}
+use Rattle.sm_tree.specs.Node.{Node, list, object, nodes_of, members_of}
+use Rattle.sm_tree.specs.Building.{Inner, in_list, in_object, in_pair, Around, around_list, around_object, Building, nothing, whole, within, tagged}
+
+-- a tree becomes the last entry, or the tree of the name that awaits one, in the tags that have come
+abbrev pub with_tree : Node → Inner → Inner
+with_tree n (in_list ns ts) = in_list (ns ++ tagged ts n ∷ []) []
+with_tree n (in_object ms) = in_object ms
+with_tree n (in_pair ms k ts) = in_object (ms ++ (k, tagged ts n) ∷ [])
+
+-- one more tag
+abbrev pub with_tag : ℕ → Inner → Inner
+with_tag t (in_list ns ts) = in_list ns (ts ++ t ∷ [])
+with_tag t (in_object ms) = in_object ms
+with_tag t (in_pair ms k ts) = in_pair ms k (ts ++ t ∷ [])
+
+-- the tree of a list or an object that ends
+abbrev pub ended : Inner → Node
+ended (in_list ns ts) = list (nodes_of ns)
+ended (in_object ms) = object (members_of ms)
+ended (in_pair ms k ts) = object (members_of ms)
+
+-- a list or an object in which another opens
+abbrev pub put_around : Inner → Around
+put_around (in_list ns ts) = around_list ns ts
+put_around (in_object ms) = around_object ms [] []
+put_around (in_pair ms k ts) = around_object ms k ts
+
+-- and where that one ends
+abbrev pub back_inside : Around → Inner
+back_inside (around_list ns ts) = in_list ns ts
+back_inside (around_object ms k ts) = in_pair ms k ts
+
+-- behind a tree
+abbrev pub after_value : Node → Building → Building
+after_value n (nothing ts) = whole (tagged ts n)
+after_value n (whole m) = whole m
+after_value n (within ts inner outer) = within ts (with_tree n inner) outer
+
+-- behind a tag
+abbrev pub after_tag : ℕ → Building → Building
+after_tag t (nothing ts) = nothing (ts ++ t ∷ [])
+after_tag t (whole m) = whole m
+after_tag t (within ts inner outer) = within ts (with_tag t inner) outer
+
+-- behind an opener
+abbrev pub after_start : Inner → Building → Building
+after_start new (nothing ts) = within ts new []
+after_start new (whole n) = whole n
+after_start new (within ts inner outer) = within ts new (put_around inner ∷ outer)
+
+-- behind the end of the innermost list or object
+abbrev pub after_end : Building → Building
+after_end (nothing ts) = nothing ts
+after_end (whole n) = whole n
+after_end (within ts inner []) = whole (tagged ts (ended inner))
+after_end (within ts inner (a ∷ outer)) = within ts (with_tree (ended inner) (back_inside a)) outer
