@@ -1,3 +1,4 @@
+pub mod Counts
 pub mod Look
 pub mod Pieces
 pub mod Told

@@ -1,28 +1,32 @@
 -- Steps of a read or a write, one after another, over bytes that may be told.
-use Rattle.std.proofs.Common.{◌≡◌, ℕ, ◌+◌, ◌-◌, ◌<◌, List, ◌++◌, length, take, drop, Option, None, Some, IfSome, ◌∙◌, ap, sym, append_assoc, arith, length-append, length-drop}
+use Rattle.std.proofs.Common.{◌≡◌, ℕ, ◌+◌, ◌-◌, ◌<◌, List, ◌++◌, length, take, drop, Option, None, Some, IfSome, ◌∙◌, ap, sym, append_assoc}
+use Rattle.std.proofs.Common.{arith, length-append, length-drop}
 use Rattle.std.proofs.Math.Seq.{take-add}
 use Rattle.std.proofs.lemmas.List.{take_all}
 use Rattle.std.specs.Io.KnownBytes.{Consumes, Appends}
 
 -- what two reads lose is lost in that order
-pub consumes_both : (left middle rest : Option (List ℕ)) (front next : List ℕ) → Consumes left middle front → Consumes middle rest next → Consumes left rest (front ++ next)
-consumes_both None middle rest front next one two = tt
-consumes_both (Some xs) None rest front next one two = absurd one
-consumes_both (Some xs) (Some ys) None front next one two = absurd two
-consumes_both (Some xs) (Some ys) (Some zs) front next one two = one ∙ ap (λ s. front ++ s) two ∙ sym (append_assoc front next zs)
+pub consumes_both : (left middle rest : Option (List ℕ)) (prefix next : List ℕ) → Consumes left middle prefix → Consumes middle rest next
+    → Consumes left rest (prefix ++ next)
+consumes_both None middle rest prefix next one two = tt
+consumes_both (Some xs) None rest prefix next one two = absurd one
+consumes_both (Some xs) (Some ys) None prefix next one two = absurd two
+consumes_both (Some xs) (Some ys) (Some zs) prefix next one two = one ∙ ap (λ s. prefix ++ s) two ∙ sym (append_assoc prefix next zs)
 
 -- at least what was lost was left
-pub longer_than_lost : (left rest : Option (List ℕ)) (front : List ℕ) (limit : ℕ) → Consumes left rest front → limit < length front → IfSome left (λ bytes. limit < length bytes)
-longer_than_lost None rest front limit lost more = tt
-longer_than_lost (Some xs) None front limit lost more = absurd lost
-longer_than_lost (Some xs) (Some ys) front limit lost more = rw lost (omega (arith, length-append front ys))
+pub longer_than_lost : (left rest : Option (List ℕ)) (prefix : List ℕ) (limit : ℕ) → Consumes left rest prefix → limit < length prefix
+    → IfSome left (λ bytes. limit < length bytes)
+longer_than_lost None rest prefix limit lost more = tt
+longer_than_lost (Some xs) None prefix limit lost more = absurd lost
+longer_than_lost (Some xs) (Some ys) prefix limit lost more = rw lost (omega (arith, length-append prefix ys))
 
 -- the rest of a piece behind its first bytes, cut short
 pub rest_cut : (piece : List ℕ) (at count : ℕ) → take count (take (length piece - at) (drop at piece)) ≡ take count (drop at piece)
 rest_cut piece at count = ap (take count) (take_all (length piece - at) (drop at piece) (omega (arith, length-drop at piece)))
 
 -- what two writes append is a longer prefix of the piece
-pub appends_both : (old middle new : Option (List ℕ)) (piece : List ℕ) (at count : ℕ) → Appends old middle (take at piece) → Appends middle new (take count (take (length piece - at) (drop at piece))) → Appends old new (take (at + count) piece)
+pub appends_both : (old middle new : Option (List ℕ)) (piece : List ℕ) (at count : ℕ) → Appends old middle (take at piece)
+    → Appends middle new (take count (take (length piece - at) (drop at piece))) → Appends old new (take (at + count) piece)
 appends_both None middle new piece at count one two = tt
 appends_both (Some xs) None new piece at count one two = absurd one
 appends_both (Some xs) (Some ys) None piece at count one two = absurd two

@@ -2,6 +2,8 @@ pub mod Causes
 pub mod Reading
 pub mod Writing
 pub mod Files
+pub mod Seen
+pub mod Laws
 pub mod Script
-pub mod Named
 pub mod Memory
+pub mod steps

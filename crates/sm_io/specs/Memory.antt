@@ -3,7 +3,6 @@ use Rattle.std.specs.Prelude.{ℕ, List, [], drop}
 use Rattle.sm_io.specs.Script.{Script}
 use Rattle.sm_io.specs.Files.{Folder, folder_of}
 use Rattle.sm_io.specs.Files.Others.{nothing, empty_file}
-use Rattle.sm_io.specs.Named.{files_of}
 use Rattle.sm_io.specs.declared.calm.CalmSource.{CalmSource}
 use Rattle.sm_io.specs.declared.calm.CalmSink.{CalmSink}
 use Rattle.sm_io.specs.declared.memory.MemSource.{MemSource}
@@ -36,10 +35,10 @@ sink_script sink = record { cuts = []; failing = sink.failing.failing.items; cal
 
 -- what the names of the two kinds of files stand for, and the script of those that fail
 abbrev pub calm_folder : CalmFiles → Folder
-calm_folder files = folder_of (files_of files.files) empty_file
+calm_folder files = folder_of files.files.files.items empty_file
 
 abbrev pub mem_folder : MemFiles → Folder
-mem_folder files = folder_of (files_of files.files) nothing
+mem_folder files = folder_of files.files.files.items nothing
 
 abbrev pub files_script : MemFiles → Script
 files_script files = record { cuts = []; failing = files.failing.failing.items; calls = files.failing.calls }

@@ -8,7 +8,7 @@ use Rattle.sm_io.specs.declared.sink.PutRefusal.TheVariants.{Failed, NoMemory}
 abbrev pub AppendsPrefix : Option (List ℕ) → Option (List ℕ) → List ℕ → Type 0
 AppendsPrefix old new piece = (count : ℕ) × Appends old new (take count piece)
 
--- the whole piece was written; a fault may have written a prefix of it, and want of memory wrote nothing
+-- the whole piece was written; a fault may have written a prefix of it, and nothing was written where memory ran out
 abbrev pub Puts : Option (List ℕ) → Option (List ℕ) → List ℕ → Result (Unit {0}) PutRefusal → Type 0
 Puts old new piece (Ok done) = Appends old new piece
 Puts old new piece (Err Failed) = AppendsPrefix old new piece

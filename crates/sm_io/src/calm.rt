@@ -2,7 +2,7 @@
 ghost use Rattle.std.specs.Prelude.{◌≡◌, ◌<◌, ℕ, [], All, length, min, Ok, Some};
 ghost use Rattle.std.specs.Io.{ReadsAtMost};
 ghost use Rattle.sm_io.specs.Reading.{Takes};
-ghost use Rattle.sm_io.specs.Script.{after_call, most};
+ghost use Rattle.sm_io.specs.Script.{script_after, most_given};
 
 use crate::script::CutBytes;
 use crate::sink::append;
@@ -42,8 +42,8 @@ impl Source for CalmSource {
         requires room { 0 < length buf.old }
         ensures bound { ReadsAtMost result buf.new }
         ensures bytes { Takes (Some (calm_left self.old)) (Some (calm_left self.new)) buf.new result }
-        ensures script { calm_script self.new ≡ after_call (calm_script self.old) }
-        ensures count { result ≡ Ok (min (most (calm_script self.new) (length buf.old)) (length (calm_left self.old))) }
+        ensures script { calm_script self.new ≡ script_after (calm_script self.old) }
+        ensures count { result ≡ Ok (min (most_given (calm_script self.new) (length buf.old)) (length (calm_left self.old))) }
     {
         self.calls = self.calls.saturating_add(1);
         Ok(self.bytes.take(self.calls, buf))

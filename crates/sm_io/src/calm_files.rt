@@ -1,7 +1,7 @@
 // Files in memory whose reads and writes never fail: their counts of faults are the constant 0.
-ghost use Rattle.std.specs.Prelude.{◌≡◌, List, ℕ, ⊤, Some, option_copied};
+ghost use Rattle.std.specs.Prelude.{◌≡◌, List, ℕ, ⊤, Some, OnOk, OnErr, IsErrOf, option_copied};
 ghost use Rattle.std.specs.FinMap.{get};
-ghost use Rattle.sm_io.specs.Files.{folder_of};
+ghost use Rattle.sm_io.specs.Files.{folder_of, with_file, WritesFile};
 ghost use Rattle.sm_io.specs.Files.Others.{empty_file};
 
 use crate::named::{NamedFiles, copy_within};
@@ -54,7 +54,12 @@ impl Files for CalmFiles {
         }
     }
 
-    fn write(&mut self, name: &str, bytes: &[u8]) -> Result<(), FileRefusal> {
+    fn write(&mut self, name: &str, bytes: &[u8]) -> Result<(), FileRefusal>
+        ensures bytes { WritesFile (Some (calm_folder self.old)) (Some (calm_folder self.new)) name.now bytes.now result }
+        ensures calm { IsErrOf result FileRefusal.Failed → ⊥ }
+        ensures written { OnOk result (calm_folder self.new ≡ with_file (calm_folder self.old) name.now bytes.now) }
+        ensures nothing { OnErr result (calm_folder self.new ≡ calm_folder self.old) }
+    {
         match self.files.put(name, bytes) {
             Ok(()) => Ok(()),
             Err(AllocError) => Err(FileRefusal::NoMemory),

@@ -1,6 +1,6 @@
 // Files by their paths, over the files of std. They tell nothing of what they hold.
 ghost use Rattle.std.specs.Prelude.{◌≡◌, ◌≤◌, List, ℕ, length, ⊤, None, IfOk, IsErrOf};
-ghost use Rattle.sm_io.specs.Causes.{Rose, counted};
+ghost use Rattle.sm_io.specs.Causes.{HasCause, count_after};
 ghost use Rattle.sm_io.specs.Files.{ReadsFile, WritesFile, file_failed};
 
 use crate::{FileRefusal, Files, ReadRefusal, StdSource, read_all};
@@ -61,8 +61,8 @@ impl<R: rt::Files> Files for DiskFiles<R> {
         ensures bytes { ReadsFile None name.now limit result }
         ensures later { ⟦<DiskFiles<R> as Files>⟧.read_faults self.old ≤ ⟦<DiskFiles<R> as Files>⟧.read_faults self.new }
         ensures other_count { ⟦<DiskFiles<R> as Files>⟧.write_faults self.new ≡ ⟦<DiskFiles<R> as Files>⟧.write_faults self.old }
-        ensures cause { IsErrOf result FileRefusal.Failed → Rose (⟦<DiskFiles<R> as Files>⟧.read_faults self.old) (⟦<DiskFiles<R> as Files>⟧.read_faults self.new) }
-        ensures faults { ⟦<DiskFiles<R> as Files>⟧.read_faults self.new ≡ counted (file_failed result) (⟦<DiskFiles<R> as Files>⟧.read_faults self.old) }
+        ensures cause { HasCause (IsErrOf result FileRefusal.Failed) (⟦<DiskFiles<R> as Files>⟧.read_faults self.old) (⟦<DiskFiles<R> as Files>⟧.read_faults self.new) }
+        ensures faults { ⟦<DiskFiles<R> as Files>⟧.read_faults self.new ≡ count_after (file_failed result) (⟦<DiskFiles<R> as Files>⟧.read_faults self.old) }
     {
         match load(self.alloc, &self.runtime, name, limit) {
             Ok(bytes) => Ok(bytes),
@@ -79,8 +79,8 @@ impl<R: rt::Files> Files for DiskFiles<R> {
         ensures bytes { WritesFile None None name.now bytes.now result }
         ensures later { ⟦<DiskFiles<R> as Files>⟧.write_faults self.old ≤ ⟦<DiskFiles<R> as Files>⟧.write_faults self.new }
         ensures other_count { ⟦<DiskFiles<R> as Files>⟧.read_faults self.new ≡ ⟦<DiskFiles<R> as Files>⟧.read_faults self.old }
-        ensures cause { IsErrOf result FileRefusal.Failed → Rose (⟦<DiskFiles<R> as Files>⟧.write_faults self.old) (⟦<DiskFiles<R> as Files>⟧.write_faults self.new) }
-        ensures faults { ⟦<DiskFiles<R> as Files>⟧.write_faults self.new ≡ counted (file_failed result) (⟦<DiskFiles<R> as Files>⟧.write_faults self.old) }
+        ensures cause { HasCause (IsErrOf result FileRefusal.Failed) (⟦<DiskFiles<R> as Files>⟧.write_faults self.old) (⟦<DiskFiles<R> as Files>⟧.write_faults self.new) }
+        ensures faults { ⟦<DiskFiles<R> as Files>⟧.write_faults self.new ≡ count_after (file_failed result) (⟦<DiskFiles<R> as Files>⟧.write_faults self.old) }
     {
         match fs::write(&self.runtime, name, bytes) {
             Ok(()) => Ok(()),

@@ -1,6 +1,6 @@
 // Files by name.
 ghost use Rattle.std.specs.Prelude.{◌≡◌, ◌≤◌, List, ℕ, Option, IsErrOf};
-ghost use Rattle.sm_io.specs.Causes.{Rose};
+ghost use Rattle.sm_io.specs.Causes.{HasCause};
 ghost use Rattle.sm_io.specs.Files.{Folder, ReadsFile, WritesFile, LetsSame};
 
 use thiserror::Error;
@@ -14,7 +14,7 @@ pub enum FileRefusal {
     /// The file has more bytes than the limit.
     #[error("the file is longer than the limit")]
     TooLong,
-    /// Memory ran out. What the files hold is as before, where it is told.
+    /// Memory ran out. A file that should have been written may hold anything.
     #[error("out of memory")]
     NoMemory,
 }
@@ -44,18 +44,18 @@ pub trait Files {
         ensures held { held self.new ≡ held self.old }
         ensures later { read_faults self.old ≤ read_faults self.new }
         ensures other_count { write_faults self.new ≡ write_faults self.old }
-        ensures cause { IsErrOf result FileRefusal.Failed → Rose (read_faults self.old) (read_faults self.new) }
+        ensures cause { HasCause (IsErrOf result FileRefusal.Failed) (read_faults self.old) (read_faults self.new) }
         ensures same_reads { LetsSame (lets_read self.old) (lets_read self.new) }
         ensures same_writes { LetsSame (lets_write self.old) (lets_write self.new) };
 
     /// Puts a file of these bytes in the place of the file `name`, or makes one. It is never `TooLong`.
-    /// `Failed`: the outside failed, and that one file may hold anything.
+    /// `Failed`: the outside failed. `NoMemory`: memory ran out. After both that one file may hold anything.
     fn write(&mut self, name: &str, bytes: &[u8]) -> Result<(), FileRefusal>
         requires let_name { lets_write self.old name.now }
         ensures bytes { WritesFile (held self.old) (held self.new) name.now bytes.now result }
         ensures later { write_faults self.old ≤ write_faults self.new }
         ensures other_count { read_faults self.new ≡ read_faults self.old }
-        ensures cause { IsErrOf result FileRefusal.Failed → Rose (write_faults self.old) (write_faults self.new) }
+        ensures cause { HasCause (IsErrOf result FileRefusal.Failed) (write_faults self.old) (write_faults self.new) }
         ensures same_reads { LetsSame (lets_read self.old) (lets_read self.new) }
         ensures same_writes { LetsSame (lets_write self.old) (lets_write self.new) };
 }

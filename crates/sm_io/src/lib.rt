@@ -6,6 +6,7 @@ mod calm;
 mod calm_files;
 mod disk;
 mod files;
+pub mod laws;
 mod mem_files;
 mod memory;
 mod named;
@@ -25,6 +26,3 @@ pub use reading::{ReadRefusal, read_all};
 pub use sink::{PutRefusal, Sink};
 pub use source::{Failed, Source};
 pub use std_edges::{StdSink, StdSource};
-
-#[cfg(test)]
-mod tests;

@@ -1,9 +1,9 @@
 // Files in memory whose reads and writes fail in the calls they were told, and reads of names without a file.
-ghost use Rattle.std.specs.Prelude.{◌≡◌, ◌≤◌, ◌↔◌, ◌⊎◌, List, ℕ, [], ⊤, None, Some, IsErrOf, IsTrue, option_copied};
-ghost use Rattle.sm_io.specs.Causes.{Rose, counted};
-ghost use Rattle.sm_io.specs.Files.{file_at, file_failed, folder_of, ReadsFile, WritesFile};
+ghost use Rattle.std.specs.Prelude.{◌≡◌, ◌≤◌, ◌↔◌, ◌⊎◌, List, ℕ, [], ⊤, None, Some, OnOk, OnErr, IsErrOf, IsTrue, option_copied};
+ghost use Rattle.sm_io.specs.Causes.{HasCause, count_after};
+ghost use Rattle.sm_io.specs.Files.{file_at, file_failed, folder_of, with_file, ReadsFile, WritesFile};
 ghost use Rattle.sm_io.specs.Files.Others.{nothing};
-ghost use Rattle.sm_io.specs.Script.{after_call, fails};
+ghost use Rattle.sm_io.specs.Script.{script_after, is_failing};
 
 use crate::named::{NamedFiles, copy_within};
 use crate::script::FailingCalls;
@@ -64,11 +64,11 @@ impl Files for MemFiles {
         ensures held { mem_folder self.new ≡ mem_folder self.old }
         ensures later { ⟦<MemFiles as Files>⟧.read_faults self.old ≤ ⟦<MemFiles as Files>⟧.read_faults self.new }
         ensures other_count { ⟦<MemFiles as Files>⟧.write_faults self.new ≡ ⟦<MemFiles as Files>⟧.write_faults self.old }
-        ensures cause { IsErrOf result FileRefusal.Failed → Rose (⟦<MemFiles as Files>⟧.read_faults self.old) (⟦<MemFiles as Files>⟧.read_faults self.new) }
-        ensures faults { ⟦<MemFiles as Files>⟧.read_faults self.new ≡ counted (file_failed result) (⟦<MemFiles as Files>⟧.read_faults self.old) }
-        ensures script { files_script self.new ≡ after_call (files_script self.old) }
+        ensures cause { HasCause (IsErrOf result FileRefusal.Failed) (⟦<MemFiles as Files>⟧.read_faults self.old) (⟦<MemFiles as Files>⟧.read_faults self.new) }
+        ensures faults { ⟦<MemFiles as Files>⟧.read_faults self.new ≡ count_after (file_failed result) (⟦<MemFiles as Files>⟧.read_faults self.old) }
+        ensures script { files_script self.new ≡ script_after (files_script self.old) }
         ensures failing { IsErrOf result FileRefusal.Failed
-            ↔ IsTrue (fails (files_script self.new)) ⊎ (file_at (mem_folder self.old) name.now ≡ None) }
+            ↔ IsTrue (is_failing (files_script self.new)) ⊎ (file_at (mem_folder self.old) name.now ≡ None) }
     {
         if self.failing.next_fails() {
             self.read_faults = self.read_faults.saturating_add(1);
@@ -87,11 +87,12 @@ impl Files for MemFiles {
         ensures bytes { WritesFile (Some (mem_folder self.old)) (Some (mem_folder self.new)) name.now bytes.now result }
         ensures later { ⟦<MemFiles as Files>⟧.write_faults self.old ≤ ⟦<MemFiles as Files>⟧.write_faults self.new }
         ensures other_count { ⟦<MemFiles as Files>⟧.read_faults self.new ≡ ⟦<MemFiles as Files>⟧.read_faults self.old }
-        ensures cause { IsErrOf result FileRefusal.Failed → Rose (⟦<MemFiles as Files>⟧.write_faults self.old) (⟦<MemFiles as Files>⟧.write_faults self.new) }
-        ensures faults { ⟦<MemFiles as Files>⟧.write_faults self.new ≡ counted (file_failed result) (⟦<MemFiles as Files>⟧.write_faults self.old) }
-        ensures script { files_script self.new ≡ after_call (files_script self.old) }
-        ensures failing { IsErrOf result FileRefusal.Failed ↔ IsTrue (fails (files_script self.new)) }
-        ensures nothing { IsErrOf result FileRefusal.Failed → mem_folder self.new ≡ mem_folder self.old }
+        ensures cause { HasCause (IsErrOf result FileRefusal.Failed) (⟦<MemFiles as Files>⟧.write_faults self.old) (⟦<MemFiles as Files>⟧.write_faults self.new) }
+        ensures faults { ⟦<MemFiles as Files>⟧.write_faults self.new ≡ count_after (file_failed result) (⟦<MemFiles as Files>⟧.write_faults self.old) }
+        ensures script { files_script self.new ≡ script_after (files_script self.old) }
+        ensures failing { IsErrOf result FileRefusal.Failed ↔ IsTrue (is_failing (files_script self.new)) }
+        ensures written { OnOk result (mem_folder self.new ≡ with_file (mem_folder self.old) name.now bytes.now) }
+        ensures nothing { OnErr result (mem_folder self.new ≡ mem_folder self.old) }
     {
         if self.failing.next_fails() {
             self.write_faults = self.write_faults.saturating_add(1);

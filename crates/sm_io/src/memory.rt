@@ -1,10 +1,10 @@
 // Objects over memory that fail in the calls they were told.
-ghost use Rattle.std.specs.Prelude.{◌≡◌, ◌<◌, ◌≤◌, ◌↔◌, ℕ, [], All, length, min, IfOk, OnErr, is_err, IsErrOf, IsTrue, Some};
+ghost use Rattle.std.specs.Prelude.{◌≡◌, ◌<◌, ◌≤◌, ◌↔◌, ℕ, [], All, length, min, IfOk, OnErr, is_err, IsErr, IsErrOf, IsTrue, Some};
 ghost use Rattle.std.specs.Io.{ReadsAtMost};
-ghost use Rattle.sm_io.specs.Causes.{Rose, counted};
+ghost use Rattle.sm_io.specs.Causes.{HasCause, count_after};
 ghost use Rattle.sm_io.specs.Reading.{Takes};
 ghost use Rattle.sm_io.specs.Writing.{Puts, put_failed};
-ghost use Rattle.sm_io.specs.Script.{after_call, fails, most};
+ghost use Rattle.sm_io.specs.Script.{script_after, is_failing, most_given};
 
 use crate::script::{CutBytes, FailingCalls};
 use crate::sink::append;
@@ -50,12 +50,12 @@ impl Source for MemSource {
         ensures bound { ReadsAtMost result buf.new }
         ensures bytes { Takes (Some (source_left self.old)) (Some (source_left self.new)) buf.new result }
         ensures later { ⟦<MemSource as Source>⟧.faults self.old ≤ ⟦<MemSource as Source>⟧.faults self.new }
-        ensures cause { OnErr result (Rose (⟦<MemSource as Source>⟧.faults self.old) (⟦<MemSource as Source>⟧.faults self.new)) }
-        ensures faults { ⟦<MemSource as Source>⟧.faults self.new ≡ counted (is_err result) (⟦<MemSource as Source>⟧.faults self.old) }
-        ensures script { source_script self.new ≡ after_call (source_script self.old) }
-        ensures failing { is_err result ≡ fails (source_script self.new) }
+        ensures cause { HasCause (IsErr result) (⟦<MemSource as Source>⟧.faults self.old) (⟦<MemSource as Source>⟧.faults self.new) }
+        ensures faults { ⟦<MemSource as Source>⟧.faults self.new ≡ count_after (is_err result) (⟦<MemSource as Source>⟧.faults self.old) }
+        ensures script { source_script self.new ≡ script_after (source_script self.old) }
+        ensures failing { is_err result ≡ is_failing (source_script self.new) }
         ensures count { IfOk result (λ count. count
-            ≡ min (most (source_script self.new) (length buf.old)) (length (source_left self.old))) }
+            ≡ min (most_given (source_script self.new) (length buf.old)) (length (source_left self.old))) }
     {
         if self.failing.next_fails() {
             self.faults = self.faults.saturating_add(1);
@@ -107,10 +107,10 @@ impl Sink for MemSink {
     fn put(&mut self, piece: &[u8]) -> Result<(), PutRefusal>
         ensures bytes { Puts (Some (sink_written self.old)) (Some (sink_written self.new)) piece.now result }
         ensures later { ⟦<MemSink as Sink>⟧.faults self.old ≤ ⟦<MemSink as Sink>⟧.faults self.new }
-        ensures cause { IsErrOf result PutRefusal.Failed → Rose (⟦<MemSink as Sink>⟧.faults self.old) (⟦<MemSink as Sink>⟧.faults self.new) }
-        ensures faults { ⟦<MemSink as Sink>⟧.faults self.new ≡ counted (put_failed result) (⟦<MemSink as Sink>⟧.faults self.old) }
-        ensures script { sink_script self.new ≡ after_call (sink_script self.old) }
-        ensures failing { IsErrOf result PutRefusal.Failed ↔ IsTrue (fails (sink_script self.new)) }
+        ensures cause { HasCause (IsErrOf result PutRefusal.Failed) (⟦<MemSink as Sink>⟧.faults self.old) (⟦<MemSink as Sink>⟧.faults self.new) }
+        ensures faults { ⟦<MemSink as Sink>⟧.faults self.new ≡ count_after (put_failed result) (⟦<MemSink as Sink>⟧.faults self.old) }
+        ensures script { sink_script self.new ≡ script_after (sink_script self.old) }
+        ensures failing { IsErrOf result PutRefusal.Failed ↔ IsTrue (is_failing (sink_script self.new)) }
         ensures nothing { OnErr result (sink_written self.new ≡ sink_written self.old) }
     {
         if self.failing.next_fails() {

@@ -1,6 +1,6 @@
 // A source read to its end, within a limit.
 ghost use Rattle.std.specs.Prelude.{◌≤◌, IsErrOf};
-ghost use Rattle.sm_io.specs.Causes.{Rose};
+ghost use Rattle.sm_io.specs.Causes.{HasCause};
 ghost use Rattle.sm_io.specs.Reading.{ReadsAll};
 
 use crate::{Failed, Source};
@@ -26,7 +26,7 @@ pub enum ReadRefusal {
 
 /// All bytes that the source has left, of which there are at most `limit`.
 /// `TooLong`: there are more. `Failed`: the source failed. `NoMemory`: memory ran out.
-/// After a refusal bytes from the front, perhaps none, are gone.
+/// After a refusal a prefix of the bytes, perhaps none, is no longer left.
 // At most `limit` bytes and one buffer are held at a time; no clause says so.
 pub fn read_all<S: Source>(
     alloc: Global,
@@ -35,7 +35,7 @@ pub fn read_all<S: Source>(
 ) -> Result<Vec<u8>, ReadRefusal>
     ensures bytes { ReadsAll (S.left source.old) (S.left source.new) limit result }
     ensures later { S.faults source.old ≤ S.faults source.new }
-    ensures cause { IsErrOf result ReadRefusal.Failed → Rose (S.faults source.old) (S.faults source.new) }
+    ensures cause { HasCause (IsErrOf result ReadRefusal.Failed) (S.faults source.old) (S.faults source.new) }
 {
     let mut bytes = Vec::new(alloc);
     let mut buffer = [0; BUFFER];

@@ -1,20 +1,20 @@
 // The calls of an object over memory that fail, and bytes that are given in pieces.
 ghost use Rattle.std.specs.Prelude.{◌≡◌, ◌<◌, ◌≤◌, ◌-◌, ◌==◌, ◌++◌, [], All, length, drop, take, min, slice_index_or};
 ghost use Rattle.std.specs.List.{list_any};
-ghost use Rattle.sm_io.specs.Script.{next_call};
+ghost use Rattle.sm_io.specs.Causes.{next_count};
 
 /// The calls that fail, by their numbers from 1, and how many calls were made.
 #[derive(Drop)]
-pub struct FailingCalls {
+pub(super) struct FailingCalls {
     pub failing: Vec<u64>,
     pub calls: u64,
 }
 
 impl FailingCalls {
     /// Counts a call, and says whether it is one of those that fail.
-    pub fn next_fails(&mut self) -> bool
+    pub(super) fn next_fails(&mut self) -> bool
         ensures listed { result ≡ list_any (λ call. call == self.new.calls) self.new.failing.items }
-        ensures counted { self.new.calls ≡ next_call self.old.calls }
+        ensures counted { self.new.calls ≡ next_count self.old.calls }
         ensures failing { self.new.failing.items ≡ self.old.failing.items }
     {
         self.calls = self.calls.saturating_add(1);
@@ -24,7 +24,7 @@ impl FailingCalls {
 
 /// Bytes to be given in pieces, of which the k-th has at most as many bytes as the k-th cut says.
 #[derive(Drop)]
-pub struct CutBytes {
+pub(super) struct CutBytes {
     pub bytes: Vec<u8>,
     pub at: usize,
     pub cuts: Vec<u64>,
@@ -33,8 +33,8 @@ pub struct CutBytes {
 }
 
 impl CutBytes {
-    /// Moves the next bytes to the front of `buf` and gives their count. `call` is the call's number, from 1.
-    pub fn take(&mut self, call: u64, buf: &mut [u8]) -> usize
+    /// Moves the next bytes to the start of `buf` and gives their count. `call` is the call's number, from 1.
+    pub(super) fn take(&mut self, call: u64, buf: &mut [u8]) -> usize
         requires room { 0 < length buf.old }
         ensures count { result ≡ min (min (slice_index_or self.old.cuts.items (call - 1) (length buf.old)) (length buf.old))
             (length (drop self.old.at self.old.bytes.items)) }

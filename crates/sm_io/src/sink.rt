@@ -1,6 +1,6 @@
 // Where bytes go.
 ghost use Rattle.std.specs.Prelude.{◌≡◌, ◌≤◌, ◌++◌, List, ℕ, Option, OnOk, OnErr, IsErrOf};
-ghost use Rattle.sm_io.specs.Causes.{Rose};
+ghost use Rattle.sm_io.specs.Causes.{HasCause};
 ghost use Rattle.sm_io.specs.Writing.{Puts};
 
 use thiserror::Error;
@@ -29,11 +29,11 @@ pub trait Sink {
     fn put(&mut self, piece: &[u8]) -> Result<(), PutRefusal>
         ensures bytes { Puts (written self.old) (written self.new) piece.now result }
         ensures later { faults self.old ≤ faults self.new }
-        ensures cause { IsErrOf result PutRefusal.Failed → Rose (faults self.old) (faults self.new) };
+        ensures cause { HasCause (IsErrOf result PutRefusal.Failed) (faults self.old) (faults self.new) };
 }
 
 // Appends the piece to bytes in memory, which is never `Failed`.
-pub fn append(bytes: &mut Vec<u8>, piece: &[u8]) -> Result<(), PutRefusal>
+pub(super) fn append(bytes: &mut Vec<u8>, piece: &[u8]) -> Result<(), PutRefusal>
     ensures ok { OnOk result (bytes.new.items ≡ bytes.old.items ++ piece.now) }
     ensures err { OnErr result (bytes.new.items ≡ bytes.old.items) }
     ensures calm { IsErrOf result PutRefusal.Failed → ⊥ }

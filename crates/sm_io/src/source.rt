@@ -1,7 +1,7 @@
 // Where bytes come from.
-ghost use Rattle.std.specs.Prelude.{◌<◌, ◌≤◌, List, ℕ, length, OnErr, Option};
+ghost use Rattle.std.specs.Prelude.{◌<◌, ◌≤◌, List, ℕ, length, IsErr, Option};
 ghost use Rattle.std.specs.Io.{ReadsAtMost};
-ghost use Rattle.sm_io.specs.Causes.{Rose};
+ghost use Rattle.sm_io.specs.Causes.{HasCause};
 ghost use Rattle.sm_io.specs.Reading.{Takes};
 
 use thiserror::Error;
@@ -19,12 +19,12 @@ pub trait Source {
     /// A count of faults. It never falls, and a call answers `Failed` only where it rose or stands at 2^64 - 1.
     ghost faults: { Self → ℕ };
 
-    /// Moves bytes that are left to the front of `buf` and gives their count, which is 0 exactly at the end.
+    /// Moves bytes that are left to the start of `buf` and gives their count, which is 0 exactly at the end.
     /// `Failed`: the outside failed, and the bytes left are as before.
     fn take(&mut self, buf: &mut [u8]) -> Result<usize, Failed>
         requires room { 0 < length buf.old }
         ensures bound { ReadsAtMost result buf.new }
         ensures bytes { Takes (left self.old) (left self.new) buf.new result }
         ensures later { faults self.old ≤ faults self.new }
-        ensures cause { OnErr result (Rose (faults self.old) (faults self.new)) };
+        ensures cause { HasCause (IsErr result) (faults self.old) (faults self.new) };
 }

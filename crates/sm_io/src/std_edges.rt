@@ -1,8 +1,8 @@
 // The readers and writers of std as a source and a sink.
-ghost use Rattle.std.specs.Prelude.{◌≡◌, ◌<◌, ◌≤◌, length, OnOk, OnErr, is_err, IsErrOf};
+ghost use Rattle.std.specs.Prelude.{◌≡◌, ◌<◌, ◌≤◌, length, OnOk, OnErr, is_err, IsErr, IsErrOf};
 ghost use Rattle.std.specs.Io.{ReadsAtMost};
 ghost use Rattle.std.specs.Io.KnownBytes.{Appends};
-ghost use Rattle.sm_io.specs.Causes.{Rose, counted};
+ghost use Rattle.sm_io.specs.Causes.{HasCause, count_after};
 ghost use Rattle.sm_io.specs.Reading.{Takes};
 ghost use Rattle.sm_io.specs.Writing.{AppendsPrefix, Puts, put_failed};
 
@@ -36,8 +36,8 @@ impl<R: Read> Source for StdSource<R> {
         ensures bound { ReadsAtMost result buf.new }
         ensures bytes { Takes (⟦<StdSource<R> as Source>⟧.left self.old) (⟦<StdSource<R> as Source>⟧.left self.new) buf.new result }
         ensures later { ⟦<StdSource<R> as Source>⟧.faults self.old ≤ ⟦<StdSource<R> as Source>⟧.faults self.new }
-        ensures cause { OnErr result (Rose (⟦<StdSource<R> as Source>⟧.faults self.old) (⟦<StdSource<R> as Source>⟧.faults self.new)) }
-        ensures faults { ⟦<StdSource<R> as Source>⟧.faults self.new ≡ counted (is_err result) (⟦<StdSource<R> as Source>⟧.faults self.old) }
+        ensures cause { HasCause (IsErr result) (⟦<StdSource<R> as Source>⟧.faults self.old) (⟦<StdSource<R> as Source>⟧.faults self.new) }
+        ensures faults { ⟦<StdSource<R> as Source>⟧.faults self.new ≡ count_after (is_err result) (⟦<StdSource<R> as Source>⟧.faults self.old) }
     {
         match self.reader.read(buf) {
             Ok(count) => Ok(count),
@@ -74,8 +74,8 @@ impl<W: Write> Sink for StdSink<W> {
     fn put(&mut self, piece: &[u8]) -> Result<(), PutRefusal>
         ensures bytes { Puts (⟦<StdSink<W> as Sink>⟧.written self.old) (⟦<StdSink<W> as Sink>⟧.written self.new) piece.now result }
         ensures later { ⟦<StdSink<W> as Sink>⟧.faults self.old ≤ ⟦<StdSink<W> as Sink>⟧.faults self.new }
-        ensures cause { IsErrOf result PutRefusal.Failed → Rose (⟦<StdSink<W> as Sink>⟧.faults self.old) (⟦<StdSink<W> as Sink>⟧.faults self.new) }
-        ensures faults { ⟦<StdSink<W> as Sink>⟧.faults self.new ≡ counted (put_failed result) (⟦<StdSink<W> as Sink>⟧.faults self.old) }
+        ensures cause { HasCause (IsErrOf result PutRefusal.Failed) (⟦<StdSink<W> as Sink>⟧.faults self.old) (⟦<StdSink<W> as Sink>⟧.faults self.new) }
+        ensures faults { ⟦<StdSink<W> as Sink>⟧.faults self.new ≡ count_after (put_failed result) (⟦<StdSink<W> as Sink>⟧.faults self.old) }
         ensures takes_no_memory { IsErrOf result PutRefusal.NoMemory → ⊥ }
     {
         match write_whole(&mut self.writer, piece) {

@@ -1,0 +1,5 @@
+use Rattle.sm_io.proofs.Look.{stands_for}
+use Rattle.sm_io.proofs.calm_files.CalmFilesFiles.write.Goals as goal
+
+pub returns-in-Ok-clause-bytes : goal.returns-in-Ok-clause-bytes
+returns-in-Ok-clause-bytes c = stands_for _ _ _ _ _ c.in-Ok.ensures.put
