@@ -4,10 +4,10 @@ use Rattle.std.specs.List.{list_all}
 use Rattle.std.specs.Option.{ForSome}
 use Rattle.sm_ids.specs.Identifier.{is_identifier_byte, IsIdentifier, IsNamespace}
 use Rattle.sm_ids.specs.IdText.{Id, IsId, IdText, IsIdText, member_text}
-use Rattle.sm_ids.specs.Ahead.{Part, in_namespace, in_name, in_member, EndsRun, NameAhead, Ahead}
+use Rattle.sm_ids.specs.steps.Ahead.{Part, in_namespace, in_name, in_member, EndsRun, NameAhead, Ahead}
 use Rattle.sm_ids.proofs.Cutting.{one_cut, heads, tails, above}
 use Rattle.sm_ids.proofs.Identifiers.{made_of_bytes}
-use Rattle.sm_ids.proofs.Namespaces.{Front, namespace_front, one_identifier, one_more}
+use Rattle.sm_ids.proofs.Namespaces.{FirstIdentifier, namespace_first, one_identifier, one_more}
 use Rattle.sm_ids.proofs.Spellings.{hash_cut}
 
 -- what may stand behind an identifier of this part
@@ -17,10 +17,10 @@ After in_name v = (v ≡ []) ⊎ ((w : List ℕ) × (v ≡ 36 ∷ w) × IsIdenti
 After in_member v = v ≡ []
 
 pub record Opened (part : Part) (u : List ℕ) : Type 0 where
-  pub front : List ℕ
+  pub opening : List ℕ
   pub behind : List ℕ
-  pub is_front : IsIdentifier front
-  pub parts : u ≡ front ++ behind
+  pub is_opening : IsIdentifier opening
+  pub parts : u ≡ opening ++ behind
   pub after : After part behind
 
 pub some_member : (m : List ℕ) → IsIdentifier m → ForSome (Some m) IsIdentifier
@@ -33,32 +33,43 @@ name_of : (id : Id) → IsId id → NameAhead (id.name ++ member_text id.member)
 name_of id h = record { name = id.name; member = id.member; is_name = h.name; is_member = h.member; spelled = refl }
 
 -- an id's text whose namespace is cut behind its first identifier
-open_namespace : (u : List ℕ) (id : Id) → IdText id u → Front id.namespace → Opened in_namespace u
+open_namespace : (u : List ℕ) (id : Id) → IdText id u → FirstIdentifier id.namespace → Opened in_namespace u
 open_namespace u id h f = elim f.is_rest [
   | inl none ↦ record {
-    front = f.first;
+    opening = f.first;
     behind = 35 ∷ (id.name ++ member_text id.member);
-    is_front = f.is_first;
-    parts = h.spelled ∙ ap (λ ns. ns ++ 35 ∷ (id.name ++ member_text id.member)) (f.parts ∙ ap (λ r. f.first ++ r) none ∙ append-nil f.first);
+    is_opening = f.is_first;
+    parts = h.spelled ∙ ap (λ ns. ns ++ 35 ∷ (id.name ++ member_text id.member))
+        (f.parts ∙ ap (λ r. f.first ++ r) none ∙ append-nil f.first);
     after = inr (id.name ++ member_text id.member, refl, name_of id h.is_id);
   }
   | inr more ↦ record {
-    front = f.first;
+    opening = f.first;
     behind = 46 ∷ (more.0 ++ 35 ∷ (id.name ++ member_text id.member));
-    is_front = f.is_first;
-    parts = h.spelled ∙ ap (λ ns. ns ++ 35 ∷ (id.name ++ member_text id.member)) (f.parts ∙ ap (λ r. f.first ++ r) more.1) ∙ append_assoc f.first (46 ∷ more.0) (35 ∷ (id.name ++ member_text id.member));
-    after = inl (more.0 ++ 35 ∷ (id.name ++ member_text id.member), refl, (record id { namespace = more.0 }, record { is_id = record { namespace = more.2; name = h.is_id.name; member = h.is_id.member }; spelled = refl }));
+    is_opening = f.is_first;
+    parts = h.spelled ∙ ap (λ ns. ns ++ 35 ∷ (id.name ++ member_text id.member)) (f.parts ∙ ap (λ r. f.first ++ r) more.1)
+        ∙ append_assoc f.first (46 ∷ more.0) (35 ∷ (id.name ++ member_text id.member));
+    after = inl (
+      more.0 ++ 35 ∷ (id.name ++ member_text id.member),
+      refl,
+      (
+        record id { namespace = more.0 },
+        record
+            { is_id = record { namespace = more.2; name = h.is_id.name; member = h.is_id.member }; spelled = refl },
+      ),
+    );
   }
 ]
 
-open_name : (u name : List ℕ) (member : Option (List ℕ)) → IsIdentifier name → ForSome member IsIdentifier → u ≡ name ++ member_text member → Opened in_name u
-open_name u name None h k e = record { front = name; behind = []; is_front = h; parts = e; after = inl refl }
-open_name u name (Some m) h k e = record { front = name; behind = 36 ∷ m; is_front = h; parts = e; after = inr (m, refl, k m refl) }
+open_name : (u name : List ℕ) (member : Option (List ℕ)) → IsIdentifier name → ForSome member IsIdentifier → u ≡ name ++ member_text member
+    → Opened in_name u
+open_name u name None h k e = record { opening = name; behind = []; is_opening = h; parts = e; after = inl refl }
+open_name u name (Some m) h k e = record { opening = name; behind = 36 ∷ m; is_opening = h; parts = e; after = inr (m, refl, k m refl) }
 
 pub opened : (part : Part) (u : List ℕ) → Ahead part u → Opened part u
-opened in_namespace u (id, h) = open_namespace u id h (namespace_front id.namespace h.is_id.namespace)
+opened in_namespace u (id, h) = open_namespace u id h (namespace_first id.namespace h.is_id.namespace)
 opened in_name u h = open_name u h.name h.member h.is_name h.is_member h.spelled
-opened in_member u h = record { front = u; behind = []; is_front = h; parts = sym (append-nil u); after = refl }
+opened in_member u h = record { opening = u; behind = []; is_opening = h; parts = sym (append-nil u); after = refl }
 
 join_full_stop : (i w : List ℕ) → IsIdentifier i → IsIdText w → IsIdText (i ++ 46 ∷ w)
 join_full_stop i w h (id, t) = (
@@ -79,7 +90,8 @@ pub joined : (part : Part) (i v : List ℕ) → IsIdentifier i → After part v 
 joined in_namespace i v h (inl (w, e, t)) = subst (λ x. IsIdText (i ++ x)) (sym e) (join_full_stop i w h t)
 joined in_namespace i v h (inr (w, e, n)) = subst (λ x. IsIdText (i ++ x)) (sym e) (join_hash i w (one_identifier i h) n)
 joined in_name i v h (inl e) = record { name = i; member = None; is_name = h; is_member = no_member; spelled = ap (λ x. i ++ x) e }
-joined in_name i v h (inr (w, e, k)) = record { name = i; member = Some w; is_name = h; is_member = some_member w k; spelled = ap (λ x. i ++ x) e }
+joined in_name i v h (inr (w, e, k)) = record
+    { name = i; member = Some w; is_name = h; is_member = some_member w k; spelled = ap (λ x. i ++ x) e }
 joined in_member i v h e = subst IsIdentifier (sym (append-nil i) ∙ ap (λ x. i ++ x) (sym e)) h
 
 -- none of it goes on with the identifier
@@ -91,30 +103,33 @@ after_ends in_name v (inr (w, e, k)) = subst (EndsRun is_identifier_byte) (sym e
 after_ends in_member v e = subst (EndsRun is_identifier_byte) (sym e) tt
 
 -- behind the longest run of identifier bytes stands what may stand behind an identifier
-pub after_run : (part : Part) (i v : List ℕ) → list_all is_identifier_byte i ≡ true → EndsRun is_identifier_byte v → Ahead part (i ++ v) → After part v
+pub after_run : (part : Part) (i v : List ℕ) → list_all is_identifier_byte i ≡ true → EndsRun is_identifier_byte v → Ahead part (i ++ v)
+    → After part v
 after_run part i v h o a =
     let x = opened part (i ++ v) a in
-    let k = one_cut is_identifier_byte i x.front v x.behind h (made_of_bytes x.front x.is_front) o (after_ends part x.behind x.after) x.parts in
+    let k = one_cut is_identifier_byte i x.opening v x.behind h (made_of_bytes x.opening x.is_opening) o (after_ends part x.behind x.after)
+    x.parts in
     subst (After part) (sym k.1) x.after
 
 -- from here on
-pub record Leads (part : Part) (w : List ℕ) (next : Part) : Type 0 where
+pub record LeadsToPart (part : Part) (w : List ℕ) (next : Part) : Type 0 where
   pub onward : (x : List ℕ) → Ahead part (w ++ x) → Ahead next x
   pub back : (x : List ℕ) → Ahead next x → Ahead part (w ++ x)
 
-pub leads_nowhere : (part : Part) → Leads part [] part
+pub leads_nowhere : (part : Part) → LeadsToPart part [] part
 leads_nowhere part = record { onward = λ x a. a; back = λ x a. a }
 
-pub leads_joined : (p q r : Part) (w v : List ℕ) → Leads p w q → Leads q v r → Leads p (w ++ v) r
+pub leads_joined : (p q r : Part) (w v : List ℕ) → LeadsToPart p w q → LeadsToPart q v r → LeadsToPart p (w ++ v) r
 leads_joined p q r w v h k = record {
   onward = λ x a. k.onward x (h.onward (v ++ x) (subst (Ahead p) (append_assoc w v x) a));
   back = λ x a. subst (Ahead p) (sym (append_assoc w v x)) (h.back (v ++ x) (k.back x a));
 }
 
 -- an identifier of a namespace and a full stop
-pub full_stop_leads : (i : List ℕ) → IsIdentifier i → Leads in_namespace (i ++ 46 ∷ []) in_namespace
+pub full_stop_leads : (i : List ℕ) → IsIdentifier i → LeadsToPart in_namespace (i ++ 46 ∷ []) in_namespace
 full_stop_leads i h = record {
-  onward = λ x a. behind_stop x (after_run in_namespace i (46 ∷ x) (made_of_bytes i h) refl (subst IsIdText (append_assoc i (46 ∷ []) x) a));
+  onward = λ x a. behind_stop x (after_run in_namespace i (46 ∷ x) (made_of_bytes i h) refl
+      (subst IsIdText (append_assoc i (46 ∷ []) x) a));
   back = λ x a. subst IsIdText (sym (append_assoc i (46 ∷ []) x)) (join_full_stop i x h a);
 }
   where
@@ -123,14 +138,15 @@ full_stop_leads i h = record {
     behind_stop x (inr (w, e, n)) = absurd (above 46 35 (lit< tt) (heads 46 35 x w e))
 
 -- a namespace and a hash
-pub hash_leads : (ns : List ℕ) → IsNamespace ns → Leads in_namespace (ns ++ 35 ∷ []) in_name
+pub hash_leads : (ns : List ℕ) → IsNamespace ns → LeadsToPart in_namespace (ns ++ 35 ∷ []) in_name
 hash_leads ns h = record {
-  onward = λ x (id, t). subst NameAhead (hash_cut id.namespace ns (id.name ++ member_text id.member) x t.is_id.namespace h (sym t.spelled ∙ append_assoc ns (35 ∷ []) x)).1 (name_of id t.is_id);
+  onward = λ x (id, t). subst NameAhead (hash_cut id.namespace ns (id.name ++ member_text id.member) x t.is_id.namespace h
+      (sym t.spelled ∙ append_assoc ns (35 ∷ []) x)).1 (name_of id t.is_id);
   back = λ x n. subst IsIdText (sym (append_assoc ns (35 ∷ []) x)) (join_hash ns x h n);
 }
 
 -- a name and a dollar sign
-pub dollar_leads : (i : List ℕ) → IsIdentifier i → Leads in_name (i ++ 36 ∷ []) in_member
+pub dollar_leads : (i : List ℕ) → IsIdentifier i → LeadsToPart in_name (i ++ 36 ∷ []) in_member
 dollar_leads i h = record {
   onward = λ x a. behind_dollar x (after_run in_name i (36 ∷ x) (made_of_bytes i h) refl (subst NameAhead (append_assoc i (36 ∷ []) x) a));
   back = λ x a. subst NameAhead (sym (append_assoc i (36 ∷ []) x)) (joined in_name i (36 ∷ x) h (inr (x, refl, a)));

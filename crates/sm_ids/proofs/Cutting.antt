@@ -1,7 +1,7 @@
 -- Lists of bytes cut where a run of bytes of one kind ends. A list has one such cut.
 use Rattle.std.proofs.Common.{◌≡◌, ℕ, ◌<◌, ◌⊎◌, inl, inr, Bool, true, false, cond, ◌&&◌, List, [], ◌∷◌, ◌++◌, refl, sym, subst, ◌∙◌, arith}
 use Rattle.std.specs.List.{list_all}
-use Rattle.sm_ids.specs.Ahead.{EndsRun}
+use Rattle.sm_ids.specs.steps.Ahead.{EndsRun}
 
 pub both : (a b : Bool) → (a && b) ≡ true → (a ≡ true) × (b ≡ true)
 both true b h = (refl, h)
@@ -11,9 +11,11 @@ pub and_also : (a b : Bool) → a ≡ true → b ≡ true → (a && b) ≡ true
 and_also true b h k = k
 and_also false b h k = cc
 
-pub list_all_weaker : {X : Type 0} (p q : X → Bool) → ((x : X) → p x ≡ true → q x ≡ true) → (xs : List X) → list_all p xs ≡ true → list_all q xs ≡ true
+pub list_all_weaker : {X : Type 0} (p q : X → Bool) → ((x : X) → p x ≡ true → q x ≡ true) → (xs : List X) → list_all p xs ≡ true
+    → list_all q xs ≡ true
 list_all_weaker p q weaker [] h = refl
-list_all_weaker p q weaker (x ∷ xs) h = let k = both (p x) (list_all p xs) h in and_also (q x) (list_all q xs) (weaker x k.0) (list_all_weaker p q weaker xs k.1)
+list_all_weaker p q weaker (x ∷ xs) h = let k = both (p x) (list_all p xs) h in
+    and_also (q x) (list_all q xs) (weaker x k.0) (list_all_weaker p q weaker xs k.1)
 
 pub pick : (b x y : Bool) → cond b x y ≡ true → ((b ≡ true) × (x ≡ true)) ⊎ ((b ≡ false) × (y ≡ true))
 pick true x y h = inl (refl, h)
@@ -36,7 +38,8 @@ run_head p d [] r o t e = cc
 run_head p d (c ∷ x) r o t e = clash (p d) t (subst (λ y. p y ≡ false) (heads c d x r e) o)
 
 -- a run of bytes that pass, and then what doesn't go on with it: one cut
-pub one_cut : (p : ℕ → Bool) (a b x y : List ℕ) → list_all p a ≡ true → list_all p b ≡ true → EndsRun p x → EndsRun p y → a ++ x ≡ b ++ y → (a ≡ b) × (x ≡ y)
+pub one_cut : (p : ℕ → Bool) (a b x y : List ℕ) → list_all p a ≡ true → list_all p b ≡ true → EndsRun p x → EndsRun p y → a ++ x ≡ b ++ y
+    → (a ≡ b) × (x ≡ y)
 one_cut p [] [] x y ha hb ox oy e = (refl, e)
 one_cut p [] (d ∷ b) x y ha hb ox oy e = absurd (run_head p d x (b ++ y) ox (both (p d) (list_all p b) hb).0 e)
 one_cut p (c ∷ a) [] x y ha hb ox oy e = absurd (run_head p c y (a ++ x) oy (both (p c) (list_all p a) ha).0 (sym e))

@@ -8,3 +8,5 @@ mod Scanning
 mod Finding
 pub mod Parting
 mod Grammar
+mod PartOrder
+mod IdAnswers

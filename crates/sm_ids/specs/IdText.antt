@@ -1,7 +1,8 @@
 -- Shape ids, and the texts that spell them: Smithy 2.0 ("The Smithy model", section "Shape ID", the ABNF of
--- absolute shape ids). In bytes `#` is 35 and `$` is 36.
+-- absolute shape ids).
 use Rattle.std.specs.Prelude.{◌≡◌, ◌≤◌, ℕ, List, [], ◌∷◌, ◌++◌, take, length, Option, Some, None}
 use Rattle.std.specs.Option.{ForSome}
+use Rattle.sm_bytes.specs.Ascii.{number_sign, dollar}
 use Rattle.sm_ids.specs.Identifier.{IsIdentifier, IsNamespace}
 
 -- a shape, or a member of one, by the texts of its parts
@@ -19,11 +20,11 @@ pub record IsId (id : Id) : Type 0 where
 -- ["$" Identifier]
 abbrev pub member_text : Option (List ℕ) → List ℕ
 member_text None = []
-member_text (Some member) = 36 ∷ member
+member_text (Some member) = dollar ∷ member
 
 -- the text that is printed for an id: Namespace "#" Identifier ["$" Identifier]
 abbrev pub printed : Id → List ℕ
-printed id = id.namespace ++ 35 ∷ (id.name ++ member_text id.member)
+printed id = id.namespace ++ number_sign ∷ (id.name ++ member_text id.member)
 
 -- the text spells the id
 pub record IdText (id : Id) (text : List ℕ) : Type 0 where
@@ -35,12 +36,12 @@ abbrev pub IsIdText : List ℕ → Type 0
 IsIdText text = (id : Id) × IdText id text
 
 -- these bytes begin some text of a kind: some continuation is one
-abbrev pub Begins : (List ℕ → Type 0) → List ℕ → Type 0
-Begins IsText bytes = (more : List ℕ) × IsText (bytes ++ more)
+abbrev pub BeginsText : (List ℕ → Type 0) → List ℕ → Type 0
+BeginsText IsText bytes = (more : List ℕ) × IsText (bytes ++ more)
 
 -- the bytes are no text of a kind, and the first `at` of them are the most that begin one
 pub record BreaksAt (IsText : List ℕ → Type 0) (bytes : List ℕ) (at : ℕ) : Type 0 where
   pub none : IsText bytes → ⊥
   pub within : at ≤ length bytes
-  pub begun : Begins IsText (take at bytes)
-  pub most : (n : ℕ) → n ≤ length bytes → Begins IsText (take n bytes) → n ≤ at
+  pub begun : BeginsText IsText (take at bytes)
+  pub most : (n : ℕ) → n ≤ length bytes → BeginsText IsText (take n bytes) → n ≤ at

@@ -1,9 +1,13 @@
 // A shape id whose parts are borrowed from a text.
+ghost use Rattle.std.specs.Prelude.{◌≡◌};
 ghost use Rattle.std.specs.Option.{ForSome};
+ghost use Rattle.std.specs.Ordering.{nat_cmp};
+ghost use Rattle.std.specs.Cmp.Lexicographic.{slice_cmp};
 ghost use Rattle.sm_ids.specs.Identifier.{IsIdentifier, IsNamespace};
 
 use crate::refusal::IdRefusal;
 use crate::scan::{Ends, scan};
+use std::cmp::Ordering;
 use std::fmt;
 
 /// An absolute shape id (Smithy 2.0, "Shape ID"), `namespace#Name` of a shape or `namespace#Name$member` of
@@ -23,12 +27,12 @@ pub struct ShapeIdRef<'a> {
 }
 
 impl<'a> ShapeIdRef<'a> {
-    ghost use Rattle.std.specs.Prelude.{◌≡◌, ◌≤◌, ℕ, List, Option, length, drop};
+    ghost use Rattle.std.specs.Prelude.{◌≤◌, ℕ, List, Option, length, drop};
     ghost use Rattle.std.specs.Option.{option_copied};
     ghost use Rattle.std.specs.Str.{IsAscii};
     ghost use Rattle.sm_ids.specs.Answers.{Parses};
-    ghost use Rattle.sm_ids.specs.IdText.{IdText, member_text};
-    ghost use Rattle.sm_ids.specs.Parts.{HasParts};
+    ghost use Rattle.sm_ids.specs.IdText.{IdText, member_text, printed};
+    ghost use Rattle.sm_ids.specs.steps.Parts.{HasParts};
     ghost use Rattle.sm_ids.specs.View.{id_of};
 
     /// The id that a text spells. `Empty` for the empty text; `BadIdentifier` for any other text that spells
@@ -72,6 +76,28 @@ impl<'a> ShapeIdRef<'a> {
             member,
         }
     }
+
+    // The order by the bytes of the printed texts. It is that of the parts one after the other, since `#` and `$`
+    // come before every byte that a part can have.
+    pub(crate) fn compare(&self, other: &ShapeIdRef<'_>) -> Ordering
+        ensures { result ≡ slice_cmp nat_cmp (printed (id_of self.now)) (printed (id_of other.now)) }
+    {
+        let order = order_of(self.namespace, other.namespace);
+        if order.is_ne() {
+            return order;
+        }
+        let order = order_of(self.name, other.name);
+        if order.is_ne() {
+            return order;
+        }
+        order_of(self.member.unwrap_or(""), other.member.unwrap_or(""))
+    }
+}
+
+fn order_of(a: &str, b: &str) -> Ordering
+    ensures { result ≡ slice_cmp nat_cmp a.now b.now }
+{
+    a.cmp(b)
 }
 
 impl fmt::Display for ShapeIdRef<'_> {

@@ -1,11 +1,16 @@
 // Laws of shape ids, each the contract of a function that does nothing.
-ghost use Rattle.sm_ids.specs.Laws.{OneReading, PrintedReadsBack, OrdersByBytes, ShapesBeforeMembers, EqualByParts, IdentifiersByTheGrammar, NamespacesByTheGrammar};
+ghost use Rattle.sm_ids.specs.Laws.{OneReading, OneAnswer, PrintedReadsBack, OrdersByBytes, ShapesBeforeMembers, EqualByParts, IdentifiersByTheGrammar, NamespacesByTheGrammar};
 
 use crate::owned::ShapeId;
 
 /// A text spells at most one id.
 pub fn one_reading()
     ensures { OneReading }
+{}
+
+/// A text has one answer of `ShapeIdRef::parse`: one id at most, or one refusal at one place, and never both.
+pub fn one_answer()
+    ensures { OneAnswer }
 {}
 
 /// What is printed for an id spells it, and no other.

@@ -1,5 +1,4 @@
 // Shape ids (Smithy 2.0, "Shape ID"): the names of shapes and of their members, borrowed from a text or owned.
-// Whatever names a shape stands on it: models, their readers and writers, selectors, tables.
 #![tactic(auto)]
 
 mod fold;
@@ -9,8 +8,6 @@ pub mod laws;
 mod owned;
 mod refusal;
 mod scan;
-#[cfg(test)]
-mod tests;
 
 pub use fold::folds_to;
 pub use id::ShapeIdRef;

@@ -1,6 +1,8 @@
 // A shape id that owns its printed text. Maps and sorted lists of shapes are keyed by it.
 ghost use Rattle.std.specs.Prelude.{◌≡◌, ◌-◌, ◌^◌, ◌++◌, IfOk, OnOk, length, min, string_bytes};
 ghost use Rattle.std.specs.Option.{option_copied};
+ghost use Rattle.std.specs.Ordering.{nat_cmp};
+ghost use Rattle.std.specs.Cmp.Lexicographic.{slice_cmp};
 ghost use Rattle.sm_ids.specs.IdText.{member_text, printed, IdText};
 ghost use Rattle.sm_ids.specs.View.{id_of};
 
@@ -24,7 +26,7 @@ pub struct ShapeId {
 
 impl Model for ShapeId {
     ghost use Rattle.std.specs.Prelude.{List, ℕ, string_bytes};
-    ghost use Rattle.sm_ids.specs.Parts.{HasParts};
+    ghost use Rattle.sm_ids.specs.steps.Parts.{HasParts};
 
     ghost Value = { List ℕ };
 
@@ -63,6 +65,14 @@ impl ShapeId {
         ensures { result.now ≡ self.now }
     {
         self.text.as_str()
+    }
+
+    /// The order of an owned id and a borrowed one, by the bytes of their printed texts. No memory: sorted ids are
+    /// searched for a borrowed one with it.
+    pub fn compare(&self, other: &ShapeIdRef<'_>) -> Ordering
+        ensures { result ≡ slice_cmp nat_cmp self.now (printed (id_of other.now)) }
+    {
+        self.as_ref().compare(other)
     }
 }
 

@@ -1,11 +1,11 @@
-// Where the identifiers of a shape id end in its text, by one pass over the bytes. `ShapeIdRef::parse`
-// stands on it.
-ghost use Rattle.std.specs.Prelude.{◌≡◌, ◌==◌, ◌≤◌, ◌<◌, IsTrue, true, false, if◌then◌else◌, take, drop, length, slice_index};
+// Where the identifiers of a shape id end in its text, by one pass over the bytes.
+ghost use Rattle.std.specs.Prelude.{◌≡◌, ◌==◌, ◌≤◌, if◌then◌else◌, length};
 ghost use Rattle.std.specs.Char.{is_ascii_alphabetic, is_ascii_alphanumeric};
-ghost use Rattle.std.specs.List.{list_all};
 ghost use Rattle.sm_ids.specs.Identifier.{is_identifier_byte};
-ghost use Rattle.sm_ids.specs.Ahead.{TakesIdentifier, TakesNamespace};
-ghost use Rattle.sm_ids.specs.Parts.{TakesId};
+ghost use Rattle.sm_ids.specs.steps.Ahead.{is_underscore, TakesIdentifier, TakesNamespace};
+ghost use Rattle.sm_ids.specs.steps.Parts.{TakesId};
+
+use sm_bytes::{ByteClass, run_len};
 
 /// Where the first two parts of an id end in its text.
 #[derive(Debug, Clone, Copy)]
@@ -16,32 +16,25 @@ pub(crate) struct Ends {
     pub name: usize,
 }
 
-// How many underscores stand at the front.
-fn underscores(bytes: &[u8]) -> usize
-    ensures within { result ≤ length bytes.now }
-    ensures all { IsTrue (list_all (λ c. c == 95) (take result bytes.now)) }
-    ensures stop { result < length bytes.now → (slice_index bytes.now result == 95) ≡ false }
-{
-    for (at, byte) in bytes.iter().enumerate() {
-        if *byte != b'_' {
-            return at;
-        }
+struct Underscores;
+
+impl ByteClass for Underscores {
+    ghost holds = { is_underscore };
+
+    fn has(byte: u8) -> bool {
+        byte == b'_'
     }
-    bytes.len()
 }
 
-// How many letters, digits and underscores stand at the front.
-fn identifier_bytes(bytes: &[u8]) -> usize
-    ensures within { result ≤ length bytes.now }
-    ensures all { IsTrue (list_all is_identifier_byte (take result bytes.now)) }
-    ensures stop { result < length bytes.now → is_identifier_byte (slice_index bytes.now result) ≡ false }
-{
-    for (at, byte) in bytes.iter().enumerate() {
-        if !byte.is_ascii_alphanumeric() && *byte != b'_' {
-            return at;
-        }
+// Letters, digits and underscores.
+struct IdentifierBytes;
+
+impl ByteClass for IdentifierBytes {
+    ghost holds = { is_identifier_byte };
+
+    fn has(byte: u8) -> bool {
+        byte.is_ascii_alphanumeric() || byte == b'_'
     }
-    bytes.len()
 }
 
 // Whether an identifier goes on with this byte behind the underscores that begin it.
@@ -60,16 +53,16 @@ pub(crate) fn identifier_end(bytes: &[u8], from: usize) -> Result<usize, usize>
     requires { from ≤ length bytes.now }
     ensures { TakesIdentifier bytes.now from result }
 {
-    let count = underscores(&bytes[from..]);
+    let count = run_len::<Underscores>(&bytes[from..]);
     let start = from + count;
     if start < bytes.len() && opens(bytes[start], count) {
-        Ok(start + 1 + identifier_bytes(&bytes[start + 1..]))
+        Ok(start + 1 + run_len::<IdentifierBytes>(&bytes[start + 1..]))
     } else {
         Err(start)
     }
 }
 
-/// Where the namespace at the front ends, before a `#`, or where the bytes break.
+/// Where the namespace at the start ends, before a `#`, or where the bytes break.
 fn namespace_end(bytes: &[u8]) -> Result<usize, usize>
     ensures { TakesNamespace bytes.now result }
 {

@@ -1,6 +1,6 @@
 use Rattle.std.proofs.Common.{subst, sym}
 use Rattle.sm_ids.specs.Identifier.{IsIdentifier}
-use Rattle.sm_ids.specs.Ahead.{IsIdentifierFrom, in_member}
+use Rattle.sm_ids.specs.steps.Ahead.{IsIdentifierFrom, in_member}
 use Rattle.sm_ids.proofs.Scanning.{alone}
 use Rattle.sm_ids.proofs.identifier.is_identifier.Goals as goal
 

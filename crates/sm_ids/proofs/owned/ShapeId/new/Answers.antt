@@ -13,5 +13,8 @@ invariant_of-result c =
     let sign = hashed.ascii (lit< tt) in
     let sign_len = ap length sign in
     let namespace : length id.namespace.now ≡ c.len-namespace.result = omega (arith, made.len, spaced.len) in
-    let name : length id.namespace.now + 1 + length id.name.now ≡ c.len-name.result = omega (arith, made.len, spaced.len, hashed.len, named.len, sign_len) in
-    printed_parts (id_of id) _ _ _ _ _ _ (record { namespace = id.is_namespace; name = id.is_name; member = member_of_copy id.member id.is_member }) made.bytes spaced.bytes (hashed.bytes ∙ ap (λ x. string_bytes c.push_str.new.self ++ x) sign) named.bytes c.in_ok-push_member.ensures namespace name
+    let name : length id.namespace.now + 1 + length id.name.now ≡ c.len-name.result =
+    omega (arith, made.len, spaced.len, hashed.len, named.len, sign_len) in
+    printed_parts (id_of id) _ _ _ _ _ _ (record
+    { namespace = id.is_namespace; name = id.is_name; member = member_of_copy id.member id.is_member }) made.bytes spaced.bytes
+    (hashed.bytes ∙ ap (λ x. string_bytes c.push_str.new.self ++ x) sign) named.bytes c.in_ok-push_member.ensures namespace name

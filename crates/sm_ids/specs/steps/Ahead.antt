@@ -1,7 +1,8 @@
--- What may stand in an id's text from the start of an identifier on, for each part of the id. The scanner
--- stands on it.
-use Rattle.std.specs.Prelude.{◌≡◌, ◌-◌, ◌<◌, ◌≤◌, ℕ, Bool, false, List, [], ◌∷◌, ◌++◌, length, take, drop, slice_index, slice_range, Option, Result, Ok, Err}
+-- What may stand in an id's text from the start of an identifier on, for each part of the id, and what the scanner's
+-- functions answer.
+use Rattle.std.specs.Prelude.{◌≡◌, ◌==◌, ◌-◌, ◌<◌, ◌≤◌, ℕ, Bool, false, List, [], ◌∷◌, ◌++◌, length, take, drop, slice_index, slice_range, Option, Result, Ok, Err}
 use Rattle.std.specs.Option.{ForSome}
+use Rattle.sm_bytes.specs.Ascii.{number_sign, underscore}
 use Rattle.sm_ids.specs.Identifier.{is_identifier_byte, IsIdentifier, IsNamespace}
 use Rattle.sm_ids.specs.IdText.{member_text, IsIdText, BreaksAt}
 
@@ -29,6 +30,9 @@ abbrev pub EndsRun : (ℕ → Bool) → List ℕ → Type 0
 EndsRun test [] = Unit {0}
 EndsRun test (c ∷ cs) = test c ≡ false
 
+abbrev pub is_underscore : ℕ → Bool
+is_underscore c = c == underscore
+
 -- an identifier from one place to another, the longest that stands there
 pub record IsIdentifierFrom (bytes : List ℕ) (from to : ℕ) : Type 0 where
   pub above : from ≤ to
@@ -41,13 +45,13 @@ abbrev pub TakesIdentifier : List ℕ → ℕ → Result ℕ ℕ → Type 0
 TakesIdentifier bytes from (Ok to) = IsIdentifierFrom bytes from to
 TakesIdentifier bytes from (Err at) = (from ≤ at) × ((part : Part) → BreaksAt (Ahead part) (drop from bytes) (at - from))
 
--- a namespace at the front and a `#` behind it
+-- a namespace at the start and a `#` behind it
 pub record IsNamespaceTo (bytes : List ℕ) (to : ℕ) : Type 0 where
   pub within : to < length bytes
   pub namespace : IsNamespace (take to bytes)
-  pub hash : slice_index bytes to ≡ 35
+  pub hash : slice_index bytes to ≡ number_sign
 
--- where the namespace at the front ends, or where the bytes break
+-- where the namespace at the start ends, or where the bytes break
 abbrev pub TakesNamespace : List ℕ → Result ℕ ℕ → Type 0
 TakesNamespace bytes (Ok to) = IsNamespaceTo bytes to
 TakesNamespace bytes (Err at) = BreaksAt IsIdText bytes at

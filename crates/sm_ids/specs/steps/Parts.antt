@@ -1,4 +1,4 @@
--- Where the parts of an id end in its text. What takes a text apart stands on it.
+-- Where the parts of an id end in its text.
 use Rattle.std.specs.Prelude.{◌≡◌, ◌+◌, ℕ, List, length, Result, Ok, Err}
 use Rattle.sm_ids.specs.declared.scan.Ends.{Ends}
 use Rattle.sm_ids.specs.IdText.{Id, IdText, IsIdText, BreaksAt}
