@@ -37,7 +37,8 @@ days_of_months_mono y m (suc k) =
     rw next (omega arith)
 
 -- a day lies before each later month of its year
-before_month : (y m d later : ℕ) → 1 ≤ m → 1 ≤ d → d ≤ days_in_month y m → m ≤ later → days_of_months y (m - 1) + (d - 1) < days_of_months y later
+before_month : (y m d later : ℕ) → 1 ≤ m → 1 ≤ d → d ≤ days_in_month y m → m ≤ later
+    → days_of_months y (m - 1) + (d - 1) < days_of_months y later
 before_month y m d later low first last h =
     let up = days_of_months_mono y m (later - m) in
     let same : m + (later - m) ≡ later = omega arith in
@@ -64,7 +65,8 @@ before_year d later h lt =
     omega (arith, rw same at up, inside, days_of_months_all d.year, days_before_year_suc d.year)
 
 -- the place in the year has the month and the day
-same_month : (y m d n e : ℕ) → 1 ≤ m → 1 ≤ d → d ≤ days_in_month y m → 1 ≤ n → 1 ≤ e → e ≤ days_in_month y n → days_of_months y (m - 1) + (d - 1) ≡ days_of_months y (n - 1) + (e - 1) → m ≡ n
+same_month : (y m d n e : ℕ) → 1 ≤ m → 1 ≤ d → d ≤ days_in_month y m → 1 ≤ n → 1 ≤ e → e ≤ days_in_month y n
+    → days_of_months y (m - 1) + (d - 1) ≡ days_of_months y (n - 1) + (e - 1) → m ≡ n
 same_month y m d n e lm ld hd ln le he same =
     grind (arith, cases_order m n, before_month y m d (n - 1) lm ld hd, before_month y n e (m - 1) ln le he)
 
@@ -72,7 +74,8 @@ same_month y m d n e lm ld hd ln le he same =
 pub one_day : (a b : Date) → IsDay a → IsDay b → day_count a ≡ day_count b → a ≡ b
 one_day a b h k e =
     let year : a.year ≡ b.year = grind (arith, cases_order a.year b.year, before_year a b.year h, before_year b a.year k) in
-    let places : days_of_months a.year (a.month - 1) + (a.day - 1) ≡ days_of_months a.year (b.month - 1) + (b.day - 1) = omega (arith, ap (λ y. days_before_year y) year, ap (λ y. days_of_months y (b.month - 1)) year) in
+    let places : days_of_months a.year (a.month - 1) + (a.day - 1) ≡ days_of_months a.year (b.month - 1) + (b.day - 1) =
+    omega (arith, ap (λ y. days_before_year y) year, ap (λ y. days_of_months y (b.month - 1)) year) in
     let last : b.day ≤ days_in_month a.year b.month = rw year k.last_day in
     let month = same_month a.year a.month a.day b.month b.day h.first_month h.first_day h.last_day k.first_month k.first_day last places in
     let day : a.day ≡ b.day = omega (arith, ap (λ m. days_of_months a.year (m - 1)) month, places, h.first_day, k.first_day) in
@@ -101,17 +104,27 @@ not_under : (m n : ℕ) → nat_lt m n ≡ false → n ≤ m
 not_under m n h = grind (arith, nat_tests)
 
 -- the day after is a day, and the next one
-next_day_is : (d : Date) (a b : Bool) → nat_lt d.day (days_in_month d.year d.month) ≡ a → nat_lt d.month 12 ≡ b → IsDay d → IsDay (next_day d) × (day_count (next_day d) ≡ day_count d + 1)
+next_day_is : (d : Date) (a b : Bool) → nat_lt d.day (days_in_month d.year d.month) ≡ a → nat_lt d.month 12 ≡ b → IsDay d
+    → IsDay (next_day d) × (day_count (next_day d) ≡ day_count d + 1)
 next_day_is d true b e f h =
     let more = under _ _ e in
-    rw e
-    (record { first_month = h.first_month; last_month = h.last_month; first_day = omega arith; last_day = omega (arith, more) }, omega (arith, h.first_day))
+    rw e (
+      record { first_month = h.first_month; last_month = h.last_month; first_day = omega arith; last_day = omega (arith, more) },
+      omega
+          (arith, h.first_day),
+    )
 next_day_is d false true e f h =
     let last : d.day ≡ days_in_month d.year d.month = omega (arith, not_under _ _ e, h.last_day) in
     let same : d.month + 1 - 1 ≡ d.month = omega arith in
     let less = under _ _ f in
     rw (e, f) (
-      record { first_month = omega arith; last_month = omega (arith, less); first_day = omega arith; last_day = days_bound d.year (d.month + 1) },
+      record {
+        first_month = omega arith;
+        last_month = omega (arith, less);
+        first_day = omega arith;
+        last_day =
+            days_bound d.year (d.month + 1);
+      },
       rw same (omega (arith, last, h.first_day, days_of_months_more d.year d.month h.first_month)),
     )
 next_day_is d false false e f h =

@@ -49,23 +49,30 @@ months_0 = refl
 -- the count of 1 January of the year 0
 first_count : jiff_count (pos 0) 1 1 ≡ 3_652_425
 first_count =
-    let first : IsDay (record { year = 0; month = 1; day = 1 }) = record { first_month = omega arith; last_month = omega arith; first_day = omega arith; last_day = omega arith } in
+    let first : IsDay (record { year = 0; month = 1; day = 1 }) =
+    record { first_month = omega arith; last_month = omega arith; first_day = omega arith; last_day = omega arith } in
     jiff_count_is (record { year = 0; month = 1; day = 1 }) first ∙ omega (arith, year_0, months_0)
 
 -- a date of that count, in plain variables
-date_at : (y : ℤ) (m d n : ℕ) → IsCivilDate y m d → jiff_count y m d ≡ n + 3_652_425 → (pos 0 ≤ℤ y) × (date_of n ≡ record { year = unsigned_abs y; month = m; day = d })
+date_at : (y : ℤ) (m d n : ℕ) → IsCivilDate y m d → jiff_count y m d ≡ n + 3_652_425
+    → (pos 0 ≤ℤ y) × (date_of n ≡ record { year = unsigned_abs y; month = m; day = d })
 date_at (pos a) m d n h e =
-    let day : IsDay (record { year = a; month = m; day = d }) = record { first_month = h.1.0; last_month = h.1.1; first_day = h.2.0; last_day = h.2.1 } in
-    let same : n ≡ day_count (record { year = a; month = m; day = d }) = omega (arith, e, jiff_count_is (record { year = a; month = m; day = d }) day) in
+    let day : IsDay (record { year = a; month = m; day = d }) =
+    record { first_month = h.1.0; last_month = h.1.1; first_day = h.2.0; last_day = h.2.1 } in
+    let same : n ≡ day_count (record { year = a; month = m; day = d }) =
+    omega (arith, e, jiff_count_is (record { year = a; month = m; day = d }) day) in
     (omega (arith, signed_arith), ap date_of same ∙ date_of_days _ day)
-date_at (negsuc a) m d n h e = absurd (omega (arith, e, first_count, day_count-lt_year (negsuc a) m d (pos 0) 1 1 h (omega arith) (omega (arith, signed_arith))))
+date_at (negsuc a) m d n h e = absurd (omega
+    (arith, e, first_count, day_count-lt_year (negsuc a) m d (pos 0) 1 1 h (omega arith) (omega (arith, signed_arith))))
 
 -- the date so many days after the first of the year 0
-pub jiff_date_at : (date : JiffDate) (n : ℕ) → epoch_day date +ℤ pos 4_371_587 ≡ pos (3_652_059 + n) → (pos 0 ≤ℤ date.year) × (date_of n ≡ record { year = unsigned_abs date.year; month = date.month; day = date.day })
+pub jiff_date_at : (date : JiffDate) (n : ℕ) → epoch_day date +ℤ pos 4_371_587 ≡ pos (3_652_059 + n)
+    → (pos 0 ≤ℤ date.year) × (date_of n ≡ record { year = unsigned_abs date.year; month = date.month; day = date.day })
 jiff_date_at date n e = date_at date.year date.month date.day n (civil date) (jiff_days date (3_652_059 + n) e ∙ omega arith)
 
 -- the days of `jiff_core`'s date, from the first of the year 0
-pub jiff_days_of : (date : JiffDate) (d : Date) (n : ℕ) → epoch_day date +ℤ pos 4_371_587 ≡ pos n → date.year ≡ pos d.year → date.month ≡ d.month → date.day ≡ d.day → IsDate d → n ≡ 3_652_059 + day_count d
+pub jiff_days_of : (date : JiffDate) (d : Date) (n : ℕ) → epoch_day date +ℤ pos 4_371_587 ≡ pos n → date.year ≡ pos d.year
+    → date.month ≡ d.month → date.day ≡ d.day → IsDate d → n ≡ 3_652_059 + day_count d
 jiff_days_of date d n e year month day h =
     let count : jiff_count (pos d.year) d.month d.day ≡ n + 366 = rw (← year, ← month, ← day) (jiff_days date n e) in
     omega (arith, count, jiff_count_is d (day_of d h))
@@ -80,12 +87,15 @@ pub year_back : (date : JiffDate) → to_z w16 (of_z w16 date.year) ≡ date.yea
 year_back date = back_small w16 date.year (omega (arith, small_year date.year (civil date).0))
 
 -- a date that `jiff_core` has, made of numbers in few bits
-pub date_shown : (date : JiffDate) (d : Date) (n : ℕ) → d.year ≤ 9999 → d.month ≤ 12 → d.day ≤ 31 → IsYmd (to_z w16 d.year) (to_z w8 d.month) (to_z w8 d.day) date → epoch_day date +ℤ pos 4_371_587 ≡ pos n → IsDate d × (n ≡ 3_652_059 + day_count d)
+pub date_shown : (date : JiffDate) (d : Date) (n : ℕ) → d.year ≤ 9999 → d.month ≤ 12 → d.day ≤ 31
+    → IsYmd (to_z w16 d.year) (to_z w8 d.month) (to_z w8 d.day) date → epoch_day date +ℤ pos 4_371_587 ≡ pos n
+    → IsDate d × (n ≡ 3_652_059 + day_count d)
 date_shown date d n y31 m31 d31 shown e =
     let year : date.year ≡ pos d.year = shown.0 ∙ to_z_pos w16 d.year (omega arith) in
     let month : date.month ≡ d.month = ap unsigned_abs (shown.1 ∙ to_z_pos w8 d.month (omega arith)) in
     let day : date.day ≡ d.day = ap unsigned_abs (shown.2 ∙ to_z_pos w8 d.day (omega arith)) in
-    let there : IsCivilDate (pos d.year) d.month d.day = let of : ℤ → ℕ → ℕ → Type 0 = IsCivilDate in subst (λ y. of y d.month d.day) year (rw (← month, ← day) (civil date)) in
+    let there : IsCivilDate (pos d.year) d.month d.day = let of : ℤ → ℕ → ℕ
+    → Type 0 = IsCivilDate in subst (λ y. of y d.month d.day) year (rw (← month, ← day) (civil date)) in
     let is : IsDate d = (y31, there.1.0, there.1.1, there.2.0, there.2.1) in
     (is, jiff_days_of date d n e year month day is)
 

@@ -4,9 +4,9 @@ use Rattle.std.proofs.lemmas.List.{take-append-drop}
 use Rattle.sm_time.specs.declared.civil.Civil.{Civil}
 use Rattle.sm_time.specs.declared.format.Format.TheVariants.{DateTime}
 use Rattle.sm_time.specs.Civil.{clock_text, two_digits}
-use Rattle.sm_time.specs.TimeText.{Form, clock, gmt, number, Shows, Zone, zulu, small_zulu, ahead, behind, zone_text, fraction_text}
+use Rattle.sm_time.specs.TimeText.{Form, clock_form, gmt_form, seconds_form, Shows, Zone, zulu, small_zulu, ahead, behind, zone_text, fraction_text}
 use Rattle.sm_time.proofs.DigitFacts.{same_first, same_rest, one_tail}
-use Rattle.sm_time.specs.Parts.{EndsFraction, SplitsFraction, ClockSeconds, ZoneOffset, ShowsClock}
+use Rattle.sm_time.specs.steps.Parts.{EndsFraction, SplitsFraction, ClockSeconds, ZoneOffset, ShowsClock}
 
 -- a zone doesn't go on with a fraction
 pub zone_ends : (z : Zone) → EndsFraction (zone_text z)
@@ -16,34 +16,39 @@ zone_ends (ahead h m) = (λ e. omega (arith, e), omega arith)
 zone_ends (behind h m) = (λ e. omega (arith, e), omega arith)
 
 -- the first 19 bytes are the clock's
-pub front_is : (text : List ℕ) (letter : ℕ) (c : Civil) (ds : List ℕ) (z : Zone) → Shows DateTime text (clock letter c ds z) → take 19 text ≡ clock_text letter c
-front_is text letter c ds z h = ap (take 19) h.1
+pub clock_prefix : (text : List ℕ) (letter : ℕ) (c : Civil) (ds : List ℕ) (z : Zone) → Shows DateTime text (clock_form letter c ds z)
+    → take 19 text ≡ clock_text letter c
+clock_prefix text letter c ds z h = ap (take 19) h.1
 
 -- the others are a fraction and a zone
-pub back_is : (text : List ℕ) (letter : ℕ) (c : Civil) (ds : List ℕ) (z : Zone) → Shows DateTime text (clock letter c ds z) → drop 19 text ≡ fraction_text ds ++ zone_text z
-back_is text letter c ds z h = ap (drop 19) h.1
+pub behind_clock : (text : List ℕ) (letter : ℕ) (c : Civil) (ds : List ℕ) (z : Zone) → Shows DateTime text (clock_form letter c ds z)
+    → drop 19 text ≡ fraction_text ds ++ zone_text z
+behind_clock text letter c ds z h = ap (drop 19) h.1
 
--- where the front is no clock, no form is shown
-pub no_clock : (text front : List ℕ) → front ≡ take 19 text → ClockSeconds front None → (form : Form) → Shows DateTime text form → ⊥
-no_clock text front e none (clock letter c ds z) h = none letter c h.0.0 h.0.1 (e ∙ front_is text letter c ds z h)
-no_clock text front e none (gmt c) h = h.0
-no_clock text front e none (number n int ds) h = h.0
+-- where the prefix is no clock, no form is shown
+pub no_clock : (text prefix : List ℕ) → prefix ≡ take 19 text → ClockSeconds prefix None → (form : Form) → Shows DateTime text form → ⊥
+no_clock text prefix e none (clock_form letter c ds z) h = none letter c h.0.0 h.0.1 (e ∙ clock_prefix text letter c ds z h)
+no_clock text prefix e none (gmt_form c) h = h.0
+no_clock text prefix e none (seconds_form n int ds) h = h.0
 
 -- nor where what follows the fraction is no zone
-pub no_zone : (text rest digits zone : List ℕ) → rest ≡ drop 19 text → SplitsFraction rest digits zone → ZoneOffset zone None → (form : Form) → Shows DateTime text form → ⊥
-no_zone text rest digits zone e split none (clock letter c ds z) h =
-    none z h.0.3 (sym (split.only ds (zone_text z) h.0.2 (zone_ends z) (e ∙ back_is text letter c ds z h)).1)
-no_zone text rest digits zone e split none (gmt c) h = h.0
-no_zone text rest digits zone e split none (number n int ds) h = h.0
+pub no_zone : (text rest digits zone : List ℕ) → rest ≡ drop 19 text → SplitsFraction rest digits zone → ZoneOffset zone None
+    → (form : Form) → Shows DateTime text form → ⊥
+no_zone text rest digits zone e split none (clock_form letter c ds z) h =
+    none z h.0.3 (sym (split.only ds (zone_text z) h.0.2 (zone_ends z) (e ∙ behind_clock text letter c ds z h)).1)
+no_zone text rest digits zone e split none (gmt_form c) h = h.0
+no_zone text rest digits zone e split none (seconds_form n int ds) h = h.0
 
 -- a clock, a fraction and a zone make a form
-pub shows_clock : (text front rest digits zone : List ℕ) (seconds : ℕ) (ms : ℤ) → front ≡ take 19 text → rest ≡ drop 19 text → ClockSeconds front (Some seconds) → SplitsFraction rest digits zone → ZoneOffset zone (Some ms) → ShowsClock text seconds digits ms
-shows_clock text front rest digits zone seconds ms e f some split there =
+pub shows_clock : (text prefix rest digits zone : List ℕ) (seconds : ℕ) (ms : ℤ) → prefix ≡ take 19 text → rest ≡ drop 19 text
+    → ClockSeconds prefix (Some seconds) → SplitsFraction rest digits zone → ZoneOffset zone (Some ms) → ShowsClock text seconds digits ms
+shows_clock text prefix rest digits zone seconds ms e f some split there =
     let letter = some.0 in
     let c = some.1 in
     let z = there.0 in
     let tail : rest ≡ fraction_text digits ++ zone_text z = split.parts ∙ ap (λ l. fraction_text digits ++ l) there.2 in
-    let whole : text ≡ clock_text letter c ++ (fraction_text digits ++ zone_text z) = sym (take-append-drop 19 text) ∙ ap (λ l. l ++ drop 19 text) (sym e ∙ some.4) ∙ ap (λ l. clock_text letter c ++ l) (sym f ∙ tail) in
+    let whole : text ≡ clock_text letter c ++ (fraction_text digits ++ zone_text z) = sym (take-append-drop 19 text)
+    ∙ ap (λ l. l ++ drop 19 text) (sym e ∙ some.4) ∙ ap (λ l. clock_text letter c ++ l) (sym f ∙ tail) in
     (letter, c, z, ((some.2, some.3, split.are_digits, there.1), whole), some.5, there.3)
 
 -- two digits are those of one number
@@ -55,8 +60,8 @@ two_same m n s t e =
     (omega (arith, tens, ones), same_rest _ _ _ _ rest)
 
 -- 19 bytes show one letter and one clock
-one_front : (letter letter' : ℕ) (c c' : Civil) → clock_text letter c ≡ clock_text letter' c' → (letter ≡ letter') × (c ≡ c')
-one_front letter letter' c c' e =
+one_prefix : (letter letter' : ℕ) (c c' : Civil) → clock_text letter c ≡ clock_text letter' c' → (letter ≡ letter') × (c ≡ c')
+one_prefix letter letter' c c' e =
     let at : (k : ℕ) → get_or (clock_text letter c) k 0 ≡ get_or (clock_text letter' c') k 0 = λ k. ap (λ l. get_or l k 0) e in
     let year : c.year ≡ c'.year = omega (arith, at 0, at 1, at 2, at 3) in
     let month : c.month ≡ c'.month = omega (arith, at 5, at 6) in
@@ -67,7 +72,8 @@ one_front letter letter' c c' e =
     (at 10, λ i. record { year = year i; month = month i; day = day i; hour = hour i; minute = minute i; second = second i })
 
 -- an offset has one hour and one minute
-one_shift : (sign : ℕ) (shift : ℕ → ℕ → Zone) (h m h' m' : ℕ) → sign ∷ (two_digits h ++ 58 ∷ two_digits m) ≡ sign ∷ (two_digits h' ++ 58 ∷ two_digits m') → shift h m ≡ shift h' m'
+one_shift : (sign : ℕ) (shift : ℕ → ℕ → Zone) (h m h' m' : ℕ)
+    → sign ∷ (two_digits h ++ 58 ∷ two_digits m) ≡ sign ∷ (two_digits h' ++ 58 ∷ two_digits m') → shift h m ≡ shift h' m'
 one_shift sign shift h m h' m' e =
     let hours = two_same h h' (58 ∷ two_digits m) (58 ∷ two_digits m') (same_rest _ _ _ _ e) in
     let minutes = two_same m m' [] [] (same_rest _ _ _ _ hours.1) in
@@ -97,10 +103,12 @@ one_zone (behind h m) (ahead h' m') e = differ 45 43 _ _ (λ n. omega (arith, n)
 one_zone (behind h m) (behind h' m') e = one_shift 45 behind h m h' m' e
 
 -- the parts are determined
-pub one_clock : (text : List ℕ) (letter : ℕ) (c : Civil) (ds : List ℕ) (z : Zone) (letter' : ℕ) (c' : Civil) (ds' : List ℕ) (z' : Zone) → Shows DateTime text (clock letter c ds z) → Shows DateTime text (clock letter' c' ds' z') → clock letter c ds z ≡ clock letter' c' ds' z'
+pub one_clock : (text : List ℕ) (letter : ℕ) (c : Civil) (ds : List ℕ) (z : Zone) (letter' : ℕ) (c' : Civil) (ds' : List ℕ) (z' : Zone)
+    → Shows DateTime text (clock_form letter c ds z) → Shows DateTime text (clock_form letter' c' ds' z')
+    → clock_form letter c ds z ≡ clock_form letter' c' ds' z'
 one_clock text letter c ds z letter' c' ds' z' h k =
-    let front = one_front letter letter' c c' (sym (front_is text letter c ds z h) ∙ front_is text letter' c' ds' z' k) in
-    let back = sym (back_is text letter c ds z h) ∙ back_is text letter' c' ds' z' k in
+    let prefix = one_prefix letter letter' c c' (sym (clock_prefix text letter c ds z h) ∙ clock_prefix text letter' c' ds' z' k) in
+    let back = sym (behind_clock text letter c ds z h) ∙ behind_clock text letter' c' ds' z' k in
     let tail = one_tail ds ds' (zone_text z) (zone_text z') h.0.2 k.0.2 (zone_ends z) (zone_ends z') back in
     let zone = one_zone z z' tail.1 in
-    λ i. clock (front.0 i) (front.1 i) (tail.0 i) (zone i)
+    λ i. clock_form (prefix.0 i) (prefix.1 i) (tail.0 i) (zone i)

@@ -13,8 +13,8 @@ use Rattle.sm_time.specs.declared.format.Format.{Format}
 use Rattle.sm_time.specs.declared.format.Format.TheVariants.{DateTime, HttpDate, EpochSeconds}
 use Rattle.sm_time.specs.Calendar.{date_of}
 use Rattle.sm_time.specs.Civil.{civil_of}
-use Rattle.sm_time.specs.TimeText.{zulu, clock, gmt, number, TimeText, IsWholeMillis, IsStamp, IsInt, thousandths, from_1970}
-use Rattle.sm_time.specs.Written.{since_year_0, three_digits, fixed_digits, short_digits, written, IsWritable}
+use Rattle.sm_time.specs.TimeText.{zulu, clock_form, gmt_form, seconds_form, TimeText, IsWholeMillis, IsStamp, IsInt, thousandths, from_1970}
+use Rattle.sm_time.specs.Written.{since_year_0, three_digits, fixed_digits, short_digits, written_stamp, IsWritable}
 use Rattle.sm_time.proofs.CalendarFacts.{before_year, days_of_date}
 use Rattle.sm_time.proofs.CalendarLinks.{days_before_1970}
 use Rattle.sm_time.proofs.Civils.{civil_is, count_of_civil}
@@ -44,7 +44,12 @@ two_digits_left : (n : ℕ) → n < 1000 → n % 10 ≡ 0 → AreMillis n (take 
 two_digits_left n h z =
     let first = digit_is (n / 100) (omega arith) in
     let second = digit_is (n / 10 % 10) (omega arith) in
-    record { are_digits = (omega (arith, first), (omega (arith, second), tt)); whole = λ k z lt. absurd (omega arith); value = omega (arith, first, second) }
+    record {
+      are_digits = (omega (arith, first), (omega (arith, second), tt));
+      whole = λ k z lt. absurd (omega arith);
+      value =
+          omega (arith, first, second);
+    }
 
 -- three for any number below 1000
 all_three : (n : ℕ) → n < 1000 → AreMillis n (three_digits n)
@@ -52,7 +57,12 @@ all_three n h =
     let first = digit_is (n / 100) (omega arith) in
     let second = digit_is (n / 10 % 10) (omega arith) in
     let third = digit_is (n % 10) (omega arith) in
-    record { are_digits = (omega (arith, first), (omega (arith, second), (omega (arith, third), tt))); whole = λ k z lt. absurd (omega arith); value = omega (arith, first, second, third) }
+    record {
+      are_digits = (omega (arith, first), (omega (arith, second), (omega (arith, third), tt)));
+      whole =
+          λ k z lt. absurd (omega arith);
+      value = omega (arith, first, second, third);
+    }
 
 -- what the test of 0 says
 zero_if : (n : ℕ) → (n == 0) ≡ true → n ≡ 0
@@ -68,7 +78,8 @@ fixed_are : (n : ℕ) → n < 1000 → AreMillis n (fixed_digits n)
 fixed_are n h = by_fixed (n == 0) n refl h
 
 -- no trailing zeros, by the tests of zeros
-by_short : (a b c : Bool) (n : ℕ) → (n == 0) ≡ a → (n % 100 == 0) ≡ b → (n % 10 == 0) ≡ c → n < 1000 → AreMillis n (if a then [] else (if b then take 1 (three_digits n) else (if c then take 2 (three_digits n) else three_digits n)))
+by_short : (a b c : Bool) (n : ℕ) → (n == 0) ≡ a → (n % 100 == 0) ≡ b → (n % 10 == 0) ≡ c → n < 1000
+    → AreMillis n (if a then [] else (if b then take 1 (three_digits n) else (if c then take 2 (three_digits n) else three_digits n)))
 by_short true b c n e f g h = let P : ℕ → Type 0 = λ k. AreMillis k [] in subst P (sym (zero_if n e)) no_digits
 by_short false true c n e f g h = one_digit n h (zero_if (n % 100) f)
 by_short false false true n e f g h = two_digits_left n h (zero_if (n % 10) g)
@@ -93,34 +104,49 @@ with_millis : (n : ℕ) (ms : ℤ) → pos n ≡ ms +ℤ pos 62_167_219_200_000 
 with_millis n ms e = omega (arith, ints)
 
 -- written date-time is a text of its stamp
-clock_text_is : (ms : ℤ) → IsStamp ms → TimeText DateTime ms (written DateTime ms)
+clock_text_is : (ms : ℤ) → IsStamp ms → TimeText DateTime ms (written_stamp DateTime ms)
 clock_text_is ms h =
     let since = since_is ms h in
     let n = since_year_0 ms in
     let millis = fixed_are (n % 1000) (omega arith) in
     let moment_is = ap (λ s. from_1970 s +ℤ pos (thousandths (fixed_digits (n % 1000))) -ℤ pos 0) (count_of_civil (n / 1000))
-    ∙ ap (λ m. from_1970 (n / 1000) +ℤ pos m -ℤ pos 0) millis.value ∙ with_millis n ms since.0 in
-    (clock 84 (civil_of (n / 1000)) (fixed_digits (n % 1000)) zulu, ((inl refl, civil_is (n / 1000) (omega (arith, since.1)), millis.are_digits, tt), refl), millis.whole, moment_is, h)
+    ∙ ap (λ m. from_1970 (n / 1000) +ℤ pos m -ℤ pos 0) millis.value ∙ with_millis n ms since.0 in (
+      clock_form 84 (civil_of (n / 1000)) (fixed_digits (n % 1000)) zulu,
+      ((inl refl, civil_is (n / 1000) (omega (arith, since.1)), millis.are_digits, tt), refl),
+      millis.whole,
+      moment_is,
+      h,
+    )
 
 -- days from 1970 on lie in its year or later
 since_1970 : (n : ℕ) → 719_528 ≤ n → 1970 ≤ (date_of n).year
 since_1970 n h =
     let there = days_of_date n in
     let d = date_of n in
-    elim (cases_lt d.year 1970) [ inl early ↦ absurd (omega (arith, before_year d 1970 there.0 early, there.1, days_before_1970)) | inr late ↦ late ]
+    elim (cases_lt d.year 1970) [
+      | inl early ↦ absurd (omega (arith, before_year d 1970 there.0 early, there.1, days_before_1970))
+      | inr
+          late ↦ late
+    ]
 
 -- whole seconds from 1970 on
-whole_seconds : (ms : ℤ) → pos 0 ≤ℤ ms → unsigned_abs ms % 1000 ≡ 0 → (from_1970 (since_year_0 ms / 1000) ≡ ms) × (719_528 ≤ since_year_0 ms / 1000 / 86400)
+whole_seconds : (ms : ℤ) → pos 0 ≤ℤ ms → unsigned_abs ms % 1000 ≡ 0
+    → (from_1970 (since_year_0 ms / 1000) ≡ ms) × (719_528 ≤ since_year_0 ms / 1000 / 86400)
 whole_seconds (pos n) low whole = (omega (arith, ints), omega arith)
 whole_seconds (negsuc n) low whole = absurd (omega (arith, ints))
 
 -- written http-date is a text of its stamp
-http_text_is : (ms : ℤ) → IsStamp ms → IsWritable HttpDate ms → TimeText HttpDate ms (written HttpDate ms)
+http_text_is : (ms : ℤ) → IsStamp ms → IsWritable HttpDate ms → TimeText HttpDate ms (written_stamp HttpDate ms)
 http_text_is ms h w =
     let since = since_is ms h in
     let n = since_year_0 ms in
-    let seconds = whole_seconds ms w.0 w.1 in
-    (gmt (civil_of (n / 1000)), ((civil_is (n / 1000) (omega (arith, since.1)), since_1970 (n / 1000 / 86400) seconds.1), refl), (λ k z lt. absurd (omega arith)), ap from_1970 (count_of_civil (n / 1000)) ∙ seconds.0, h)
+    let seconds = whole_seconds ms w.0 w.1 in (
+      gmt_form (civil_of (n / 1000)),
+      ((civil_is (n / 1000) (omega (arith, since.1)), since_1970 (n / 1000 / 86400) seconds.1), refl),
+      (λ k z lt. absurd (omega arith)),
+      ap from_1970 (count_of_civil (n / 1000)) ∙ seconds.0,
+      h,
+    )
 
 -- the digits of a written number give its milliseconds
 digits_are : (n : ℕ) → n < 2 ^ 63 → digits_value 10 (decimal (n / 1000)) * 1000 + thousandths (short_digits (n % 1000)) ≡ n
@@ -130,17 +156,29 @@ digits_are n h =
     omega (arith, whole, millis)
 
 -- written epoch-seconds are a text of their stamp
-number_text_is : (ms : ℤ) → IsStamp ms → TimeText EpochSeconds ms (written EpochSeconds ms)
+number_text_is : (ms : ℤ) → IsStamp ms → TimeText EpochSeconds ms (written_stamp EpochSeconds ms)
 number_text_is (pos n) h =
-    let millis = short_are (n % 1000) (omega arith) in
-    (number false (decimal (n / 1000)) (short_digits (n % 1000)), ((decimal_int (n / 1000) (omega (arith, ints)), millis.are_digits), refl), millis.whole, ap pos (digits_are n (omega (arith, ints))), h)
+    let millis = short_are (n % 1000) (omega arith) in (
+      seconds_form false (decimal (n / 1000)) (short_digits (n % 1000)),
+      ((decimal_int (n / 1000) (omega (arith, ints)), millis.are_digits), refl),
+      millis.whole,
+      ap pos
+          (digits_are n (omega (arith, ints))),
+      h,
+    )
 number_text_is (negsuc k) h =
     let n = suc k in
-    let millis = short_are (n % 1000) (omega arith) in
-    (number true (decimal (n / 1000)) (short_digits (n % 1000)), ((decimal_int (n / 1000) (omega (arith, ints)), millis.are_digits), refl), millis.whole, ap (λ m. neg_ℤ (pos m)) (digits_are n (omega (arith, ints))), h)
+    let millis = short_are (n % 1000) (omega arith) in (
+      seconds_form true (decimal (n / 1000)) (short_digits (n % 1000)),
+      ((decimal_int (n / 1000) (omega (arith, ints)), millis.are_digits), refl),
+      millis.whole,
+      ap (λ m. neg_ℤ (pos m))
+          (digits_are n (omega (arith, ints))),
+      h,
+    )
 
 -- so is what is written in each format
-pub written_is_text : (format : Format) (ms : ℤ) → IsStamp ms → IsWritable format ms → TimeText format ms (written format ms)
+pub written_is_text : (format : Format) (ms : ℤ) → IsStamp ms → IsWritable format ms → TimeText format ms (written_stamp format ms)
 written_is_text DateTime ms h w = clock_text_is ms h
 written_is_text HttpDate ms h w = http_text_is ms h w
 written_is_text EpochSeconds ms h w = number_text_is ms h

@@ -3,7 +3,9 @@ use Rattle.std.proofs.Common.{◌≡◌, ℕ, List, [], ◌∷◌, ◌++◌, len
 use Rattle.sm_time.specs.Civil.{two_digits}
 
 -- six bytes, of which the first and the fourth are known, and the others are two pairs of digits
-pub six_bytes : (t : List ℕ) (sign h m : ℕ) → length t ≡ 6 → get_or t 0 0 ≡ sign → get_or t 3 0 ≡ 58 → two_digits h ≡ get_or t 1 0 ∷ get_or t 2 0 ∷ [] → two_digits m ≡ get_or t 4 0 ∷ get_or t 5 0 ∷ [] → t ≡ sign ∷ (two_digits h ++ 58 ∷ two_digits m)
+pub six_bytes : (t : List ℕ) (sign h m : ℕ) → length t ≡ 6 → get_or t 0 0 ≡ sign → get_or t 3 0 ≡ 58
+    → two_digits h ≡ get_or t 1 0 ∷ get_or t 2 0 ∷ [] → two_digits m ≡ get_or t 4 0 ∷ get_or t 5 0 ∷ []
+    → t ≡ sign ∷ (two_digits h ++ 58 ∷ two_digits m)
 six_bytes (a ∷ b ∷ c ∷ d ∷ e ∷ f ∷ []) sign h m six first colon hours minutes =
     let hour = sym hours in
     let minute = sym minutes in

@@ -4,24 +4,25 @@ use Rattle.sm_time.specs.declared.format.Format.{Format}
 use Rattle.sm_time.specs.declared.format.TimeRefusal.{TimeRefusal}
 use Rattle.sm_time.specs.declared.format.TimeRefusal.TheVariants.{BadText, TooFine, OutOfRange, OutOfFormat}
 use Rattle.sm_time.specs.TimeText.{Form, Shows, TimeText, IsWholeMillis, digits_of, moment, IsStamp}
-use Rattle.sm_time.specs.Written.{written, IsWritable}
+use Rattle.sm_time.specs.Written.{written_stamp, IsWritable}
 
 -- a text of the stamp; none of the format's texts; one that is finer than a millisecond; one whose moment is
 -- no stamp's
-abbrev pub Reads : Format → List ℕ → Result ℤ TimeRefusal → Type 0
-Reads format text (Ok ms) = TimeText format ms text
-Reads format text (Err BadText) = (form : Form) → ¬ (Shows format text form)
-Reads format text (Err TooFine) = (form : Form) × Shows format text form × (¬ (IsWholeMillis (digits_of form)))
-Reads format text (Err OutOfRange) =
+abbrev pub ReadsStamp : Format → List ℕ → Result ℤ TimeRefusal → Type 0
+ReadsStamp format text (Ok ms) = TimeText format ms text
+ReadsStamp format text (Err BadText) = (form : Form) → ¬ (Shows format text form)
+ReadsStamp format text (Err TooFine) = (form : Form) × Shows format text form × (¬ (IsWholeMillis (digits_of form)))
+ReadsStamp format text (Err OutOfRange) =
     (form : Form) × Shows format text form × IsWholeMillis (digits_of form) × (¬ (IsStamp (moment form)))
-Reads format text (Err OutOfFormat) = ⊥
+ReadsStamp format text (Err OutOfFormat) = ⊥
 
 -- the written text and its length, with the bytes after it as before; or a stamp that the format can't write,
 -- and nothing written
-abbrev pub Writes : Format → ℤ → List ℕ → List ℕ → Result ℕ TimeRefusal → Type 0
-Writes format ms old new (Ok n) =
-    IsWritable format ms × (n ≡ length (written format ms)) × (n ≤ 32) × (take n new ≡ written format ms) × (drop n new ≡ drop n old)
-Writes format ms old new (Err OutOfFormat) = (¬ (IsWritable format ms)) × (new ≡ old)
-Writes format ms old new (Err BadText) = ⊥
-Writes format ms old new (Err TooFine) = ⊥
-Writes format ms old new (Err OutOfRange) = ⊥
+abbrev pub WritesStamp : Format → ℤ → List ℕ → List ℕ → Result ℕ TimeRefusal → Type 0
+WritesStamp format ms old new (Ok n) =
+    IsWritable format ms × (n ≡ length (written_stamp format ms)) × (n ≤ 32) × (take n new ≡ written_stamp format ms)
+    × (drop n new ≡ drop n old)
+WritesStamp format ms old new (Err OutOfFormat) = (¬ (IsWritable format ms)) × (new ≡ old)
+WritesStamp format ms old new (Err BadText) = ⊥
+WritesStamp format ms old new (Err TooFine) = ⊥
+WritesStamp format ms old new (Err OutOfRange) = ⊥

@@ -1,5 +1,5 @@
 -- The proleptic Gregorian calendar (RFC 3339, section 5.7, appendices B and C): leap years, the lengths of
--- months, and the days counted from 1 January of the year 0. What stamps mean stands on it.
+-- months, and the days counted from 1 January of the year 0.
 use Rattle.std.specs.Prelude.{ℕ, zero, suc, ◌+◌, ◌-◌, ◌%◌, ◌≤◌, Bool, not, ◌&&◌, ◌||◌, ◌==◌, nat_lt, if◌then◌else◌}
 
 -- a day of the calendar

@@ -1,6 +1,7 @@
 -- A date with a time of day, its seconds from the year 0, and the texts that show it: `full-date`, the letter
 -- and `partial-time` of RFC 3339, section 5.6, and IMF-fixdate of RFC 9110, section 5.6.7.
 use Rattle.std.specs.Prelude.{ℕ, ◌+◌, ◌-◌, ◌*◌, ◌/◌, ◌%◌, ◌<◌, List, [], ◌∷◌, ◌++◌, slice_index_or, codes}
+use Rattle.sm_bytes.specs.Ascii.{digit_zero}
 use Rattle.sm_time.specs.declared.civil.Civil.{Civil}
 use Rattle.sm_time.specs.Calendar.{Date, IsDate, day_count, date_of, weekday}
 
@@ -24,7 +25,7 @@ civil_of n =
 
 -- 2DIGIT, of a number below 100
 abbrev pub two_digits : ℕ → List ℕ
-two_digits n = (48 + n / 10) ∷ (48 + n % 10) ∷ []
+two_digits n = (digit_zero + n / 10) ∷ (digit_zero + n % 10) ∷ []
 
 -- 4DIGIT, of a number below 10000
 abbrev pub four_digits : ℕ → List ℕ

@@ -5,8 +5,8 @@ use Rattle.sm_time.specs.declared.format.Format.{Format}
 use Rattle.sm_time.specs.declared.format.TimeRefusal.{TimeRefusal}
 use Rattle.sm_time.specs.Calendar.{Date, IsDate, day_count, date_of}
 use Rattle.sm_time.specs.TimeText.{Form, Shows, TimeText, IsStamp}
-use Rattle.sm_time.specs.Written.{written, IsWritable}
-use Rattle.sm_time.specs.Answers.{Reads}
+use Rattle.sm_time.specs.Written.{written_stamp, IsWritable}
+use Rattle.sm_time.specs.Answers.{ReadsStamp}
 
 -- the date after so many days is that many days after the first
 abbrev pub CountOfDate : Type 0
@@ -26,13 +26,14 @@ OneReading = (format : Format) (text : List ℕ) (a b : ℤ) → TimeText format
 
 -- and has at most one answer
 abbrev pub OneAnswer : Type 0
-OneAnswer = (format : Format) (text : List ℕ) (r s : Result ℤ TimeRefusal) → Reads format text r → Reads format text s → r ≡ s
+OneAnswer = (format : Format) (text : List ℕ) (r s : Result ℤ TimeRefusal) → ReadsStamp format text r → ReadsStamp format text s → r ≡ s
 
 -- what is written for a stamp is a text of it
 abbrev pub WrittenIsText : Type 0
-WrittenIsText = (format : Format) (ms : ℤ) → IsStamp ms → IsWritable format ms → TimeText format ms (written format ms)
+WrittenIsText = (format : Format) (ms : ℤ) → IsStamp ms → IsWritable format ms → TimeText format ms (written_stamp format ms)
 
 -- whatever is answered at a written text is its stamp
 abbrev pub WrittenReadsBack : Type 0
 WrittenReadsBack =
-    (format : Format) (ms : ℤ) (r : Result ℤ TimeRefusal) → IsStamp ms → IsWritable format ms → Reads format (written format ms) r → r ≡ Ok ms
+    (format : Format) (ms : ℤ) (r : Result ℤ TimeRefusal) → IsStamp ms → IsWritable format ms
+    → ReadsStamp format (written_stamp format ms) r → r ≡ Ok ms

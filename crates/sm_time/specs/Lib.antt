@@ -4,4 +4,4 @@ pub mod TimeText
 pub mod Written
 pub mod Answers
 pub mod Laws
-pub mod Parts
+pub mod steps

@@ -3,6 +3,7 @@
 -- number of RFC 8259, section 6, without an exponent.
 use Rattle.std.specs.Prelude.{◌≡◌, ◌⊎◌, ℕ, ◌+◌, ◌*◌, ◌<◌, ◌≤◌, Bool, List, [], ◌∷◌, ◌++◌, length, slice_index, All, take, drop, codes, if◌then◌else◌, ℤ, pos, neg_ℤ, ◌+ℤ◌, ◌-ℤ◌, ◌≤ℤ◌}
 use Rattle.std.specs.Str.Parse.{AllDigits, IsNumeral, digits_value}
+use Rattle.sm_bytes.specs.Ascii.{full_stop, digit_zero, capital_t, small_t}
 use Rattle.sm_time.specs.declared.format.Format.{Format}
 use Rattle.sm_time.specs.declared.format.Format.TheVariants.{DateTime, HttpDate, EpochSeconds}
 use Rattle.sm_time.specs.declared.civil.Civil.{Civil}
@@ -41,7 +42,7 @@ offset (behind h m) = neg_ℤ (pos ((h * 60 + m) * 60_000))
 -- nothing, or a point and digits
 abbrev pub fraction_text : List ℕ → List ℕ
 fraction_text [] = []
-fraction_text (d ∷ ds) = 46 ∷ d ∷ ds
+fraction_text (d ∷ ds) = full_stop ∷ d ∷ ds
 
 -- the first three digits of a fraction, with zeros where it has fewer: its whole milliseconds
 abbrev pub thousandths : List ℕ → ℕ
@@ -49,43 +50,47 @@ thousandths digits = digits_value 10 (take 3 (digits ++ codes "000"))
 
 -- no digit after the third is other than 0
 abbrev pub IsWholeMillis : List ℕ → Type 0
-IsWholeMillis digits = All (λ d. d ≡ 48) (drop 3 digits)
+IsWholeMillis digits = All (λ d. d ≡ digit_zero) (drop 3 digits)
 
 -- int = zero / ( digit1-9 *DIGIT ): digits, of which a first 0 stands alone
 abbrev pub IsInt : List ℕ → Type 0
-IsInt digits = IsNumeral 10 digits × (slice_index digits 0 ≡ 48 → length digits ≡ 1)
+IsInt digits = IsNumeral 10 digits × (slice_index digits 0 ≡ digit_zero → length digits ≡ 1)
 
 -- what a text shows: a clock, with its letter, the digits of its fraction and its zone; a clock of GMT; or a
 -- number, negative or not, with the digits before and after its point
 pub data Form : Type 0 where
-  clock : ℕ → Civil → List ℕ → Zone → Form
-  gmt : Civil → Form
-  number : Bool → List ℕ → List ℕ → Form
+  clock_form : ℕ → Civil → List ℕ → Zone → Form
+  gmt_form : Civil → Form
+  seconds_form : Bool → List ℕ → List ℕ → Form
 
 -- the text that shows it
 abbrev pub form_text : Form → List ℕ
-form_text (clock letter c digits zone) = clock_text letter c ++ fraction_text digits ++ zone_text zone
-form_text (gmt c) = imf_fixdate c
-form_text (number negative int digits) = (if negative then codes "-" else []) ++ int ++ fraction_text digits
+form_text (clock_form letter c digits zone) = clock_text letter c ++ fraction_text digits ++ zone_text zone
+form_text (gmt_form c) = imf_fixdate c
+form_text (seconds_form negative int digits) = (if negative then codes "-" else []) ++ int ++ fraction_text digits
+
+-- the letter between date and time, `T` or `t`
+abbrev pub IsLetter : ℕ → Type 0
+IsLetter letter = (letter ≡ capital_t) ⊎ (letter ≡ small_t)
 
 -- the forms of each format
 abbrev pub IsForm : Format → Form → Type 0
-IsForm DateTime (clock letter c digits zone) =
-    ((letter ≡ 84) ⊎ (letter ≡ 116)) × IsCivil c × AllDigits 10 digits × IsZone zone
-IsForm DateTime (gmt c) = ⊥
-IsForm DateTime (number negative int digits) = ⊥
-IsForm HttpDate (clock letter c digits zone) = ⊥
-IsForm HttpDate (gmt c) = IsCivil c × (1970 ≤ c.year)
-IsForm HttpDate (number negative int digits) = ⊥
-IsForm EpochSeconds (clock letter c digits zone) = ⊥
-IsForm EpochSeconds (gmt c) = ⊥
-IsForm EpochSeconds (number negative int digits) = IsInt int × AllDigits 10 digits
+IsForm DateTime (clock_form letter c digits zone) =
+    IsLetter letter × IsCivil c × AllDigits 10 digits × IsZone zone
+IsForm DateTime (gmt_form c) = ⊥
+IsForm DateTime (seconds_form negative int digits) = ⊥
+IsForm HttpDate (clock_form letter c digits zone) = ⊥
+IsForm HttpDate (gmt_form c) = IsCivil c × (1970 ≤ c.year)
+IsForm HttpDate (seconds_form negative int digits) = ⊥
+IsForm EpochSeconds (clock_form letter c digits zone) = ⊥
+IsForm EpochSeconds (gmt_form c) = ⊥
+IsForm EpochSeconds (seconds_form negative int digits) = IsInt int × AllDigits 10 digits
 
 -- the digits of its fraction
 abbrev pub digits_of : Form → List ℕ
-digits_of (clock letter c digits zone) = digits
-digits_of (gmt c) = []
-digits_of (number negative int digits) = digits
+digits_of (clock_form letter c digits zone) = digits
+digits_of (gmt_form c) = []
+digits_of (seconds_form negative int digits) = digits
 
 -- the milliseconds from 1970 to a moment that lies so many seconds after 0000-01-01T00:00:00Z
 abbrev pub from_1970 : ℕ → ℤ
@@ -93,9 +98,9 @@ from_1970 seconds = pos (seconds * 1000) -ℤ pos 62_167_219_200_000
 
 -- the moment, in whole milliseconds from 1970: what the clock shows, less its offset; or the number of seconds
 abbrev pub moment : Form → ℤ
-moment (clock letter c digits zone) = from_1970 (second_count c) +ℤ pos (thousandths digits) -ℤ offset zone
-moment (gmt c) = from_1970 (second_count c)
-moment (number negative int digits) =
+moment (clock_form letter c digits zone) = from_1970 (second_count c) +ℤ pos (thousandths digits) -ℤ offset zone
+moment (gmt_form c) = from_1970 (second_count c)
+moment (seconds_form negative int digits) =
     let ms = pos (digits_value 10 int * 1000 + thousandths digits) in if negative then neg_ℤ ms else ms
 
 -- the text shows this form of the format

@@ -1,7 +1,8 @@
-// A date with a time of day: to and from seconds, and its text. Both formats with a clock stand on it.
+// A date with a time of day: to and from seconds, and its text.
 ghost use Rattle.std.specs.Prelude.{◌≡◌, ◌+◌, ◌/◌, ◌%◌, ℕ, ◌<◌, ◌↔◌, IsTrue, IfSome, MatchOption};
 ghost use Rattle.sm_time.specs.Civil.{IsCivil, second_count, civil_of, clock_text};
-ghost use Rattle.sm_time.specs.Parts.{ClockSeconds, IsLetter};
+ghost use Rattle.sm_time.specs.TimeText.{IsLetter};
+ghost use Rattle.sm_time.specs.steps.Parts.{ClockSeconds};
 
 use jiff_core::civil::Date;
 

@@ -1,11 +1,11 @@
-// The format date-time (RFC 3339, section 5.6), read and written. `Stamp` stands on it.
+// The format date-time (RFC 3339, section 5.6), read and written.
 ghost use Rattle.std.specs.Prelude.{◌≡◌, ◌<◌, ◌≤◌, ◌+◌, ◌++◌, take, drop, length, pos, ◌+ℤ◌, ◌-ℤ◌, IfSome, MatchOption};
 ghost use Rattle.std.specs.Str.Parse.{AllDigits};
 ghost use Rattle.sm_time.specs.declared.format.Format.TheVariants.{DateTime};
 ghost use Rattle.sm_time.specs.TimeText.{Form, Shows, fraction_text, from_1970};
-ghost use Rattle.sm_time.specs.Answers.{Reads};
-ghost use Rattle.sm_time.specs.Parts.{ShowsClock, IsOffset};
-ghost use Rattle.sm_time.specs.Written.{written, fixed_digits};
+ghost use Rattle.sm_time.specs.Answers.{ReadsStamp};
+ghost use Rattle.sm_time.specs.steps.Parts.{ShowsClock, IsOffset};
+ghost use Rattle.sm_time.specs.Written.{written_stamp, fixed_digits};
 
 use crate::civil::{Civil, clock_seconds};
 use crate::digits::{put, put_fraction, split_fraction, three_digits_of, whole_millis};
@@ -44,7 +44,7 @@ fn take_apart(text: &[u8]) -> Option<Shown<'_>>
 
 /// The stamp of a date-time, as `Stamp::read` says.
 pub fn read(text: &[u8]) -> Result<Stamp, TimeRefusal>
-    ensures { Reads DateTime text.now result }
+    ensures { ReadsStamp DateTime text.now result }
 {
     let Some(shown) = take_apart(text) else {
         return Err(TimeRefusal::BadText);
@@ -68,10 +68,10 @@ fn moment_of(seconds: u64, millis: u16, offset: i64) -> i64
     seconds as i64 * 1000 + millis as i64 + FIRST - offset
 }
 
-/// Writes a stamp as a date-time to the front of `out`, and gives its length.
+/// Writes a stamp as a date-time to the start of `out`, and gives its length.
 pub fn write(stamp: Stamp, out: &mut [u8; 32]) -> usize
-    ensures count { result ≡ length (written DateTime stamp) }
-    ensures text { take result out.new ≡ written DateTime stamp }
+    ensures count { result ≡ length (written_stamp DateTime stamp) }
+    ensures text { take result out.new ≡ written_stamp DateTime stamp }
     ensures after { drop result out.new ≡ drop result out.old }
 {
     let since = (stamp.milliseconds() - FIRST) as u64;

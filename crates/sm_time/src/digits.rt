@@ -1,26 +1,33 @@
-// Digits of fractions, and bytes put into a buffer. Both ends of date-time and epoch-seconds stand on it.
+// Digits of fractions, and bytes put into a buffer.
 ghost use Rattle.std.specs.Prelude.{◌≡◌, ◌+◌, ◌<◌, ◌≤◌, ◌++◌, length, take, drop, MatchOption, IsTrue, ◌↔◌};
-ghost use Rattle.std.specs.Char.{digit_value};
+ghost use Rattle.std.specs.Char.{digit_value, is_ascii_digit};
 ghost use Rattle.std.specs.Str.Parse.{AllDigits};
 ghost use Rattle.sm_time.specs.TimeText.{IsWholeMillis, thousandths, fraction_text};
 ghost use Rattle.sm_time.specs.Written.{three_digits};
-ghost use Rattle.sm_time.specs.Parts.{NoDigitFirst, SplitsFraction};
+ghost use Rattle.sm_time.specs.steps.Parts.{NoDigitFirst, SplitsFraction};
 
-/// How many digits stand at the front.
+use sm_bytes::{ByteClass, run_len};
+
+struct Digits;
+
+impl ByteClass for Digits {
+    ghost holds = { is_ascii_digit };
+
+    fn has(byte: u8) -> bool {
+        byte.is_ascii_digit()
+    }
+}
+
+/// How many digits stand first.
 pub fn digit_run(text: &[u8]) -> usize
     ensures within { result ≤ length text.now }
     ensures digits { AllDigits 10 (take result text.now) }
     ensures longest { NoDigitFirst (drop result text.now) }
 {
-    for (i, byte) in text.iter().enumerate() {
-        if !byte.is_ascii_digit() {
-            return i;
-        }
-    }
-    text.len()
+    run_len::<Digits>(text)
 }
 
-/// The digits of the fraction at the front, none where there is no fraction, and what comes after it.
+/// The digits of the fraction that stands first, none where there is no fraction, and what comes after it.
 pub fn split_fraction(text: &[u8]) -> (&[u8], &[u8])
     ensures { SplitsFraction text.now result.0.now result.1.now }
 {

@@ -1,11 +1,10 @@
-// The format epoch-seconds (a number of RFC 8259, section 6, without an exponent), read and written. `Stamp`
-// stands on it.
+// The format epoch-seconds (a number of RFC 8259, section 6, without an exponent), read and written.
 ghost use Rattle.std.specs.Prelude.{◌≡◌, ◌≢◌, ℕ, ◌^◌, ◌-◌, ◌/◌, ◌%◌, ◌<◌, ◌++◌, [], min, take, drop, length, slice_index, false, IsTrue, ◌↔◌, ◌+◌, ◌≤◌, pos, neg_ℤ, MatchOption, if◌then◌else◌, codes};
 ghost use Rattle.std.specs.Str.Parse.{AllDigits, digits_value};
 ghost use Rattle.sm_time.specs.declared.format.Format.TheVariants.{EpochSeconds};
-ghost use Rattle.sm_time.specs.TimeText.{Form, number, Shows, IsInt, fraction_text};
-ghost use Rattle.sm_time.specs.Answers.{Reads};
-ghost use Rattle.sm_time.specs.Written.{written, three_digits, short_digits};
+ghost use Rattle.sm_time.specs.TimeText.{Form, seconds_form, Shows, IsInt, fraction_text};
+ghost use Rattle.sm_time.specs.Answers.{ReadsStamp};
+ghost use Rattle.sm_time.specs.Written.{written_stamp, three_digits, short_digits};
 
 use crate::digits::{
     digit_run, put, put_fraction, split_fraction, three_digits_of, value_of, whole_millis,
@@ -29,7 +28,7 @@ struct Shown<'a> {
 
 fn take_apart(text: &[u8]) -> Option<Shown<'_>>
     ensures { MatchOption result ((form : Form) → ¬ (Shows EpochSeconds text.now form))
-        (λ s. Shows EpochSeconds text.now (number s.negative s.int.now s.digits.now)) }
+        (λ s. Shows EpochSeconds text.now (seconds_form s.negative s.int.now s.digits.now)) }
 {
     let (negative, rest) = split_minus(text);
     let (int, rest) = rest.split_at(digit_run(rest));
@@ -85,7 +84,7 @@ fn seconds_of(digits: &[u8]) -> u64
 
 /// The stamp of a number of seconds, as `Stamp::read` says.
 pub fn read(text: &[u8]) -> Result<Stamp, TimeRefusal>
-    ensures { Reads EpochSeconds text.now result }
+    ensures { ReadsStamp EpochSeconds text.now result }
 {
     let Some(shown) = take_apart(text) else {
         return Err(TimeRefusal::BadText);
@@ -111,10 +110,10 @@ fn signed(negative: bool, magnitude: u64) -> i64
     }
 }
 
-/// Writes a stamp as seconds to the front of `out`, and gives the text's length.
+/// Writes a stamp as seconds to the start of `out`, and gives the text's length.
 pub fn write(stamp: Stamp, out: &mut [u8; 32]) -> usize
-    ensures count { result ≡ length (written EpochSeconds stamp) }
-    ensures text { take result out.new ≡ written EpochSeconds stamp }
+    ensures count { result ≡ length (written_stamp EpochSeconds stamp) }
+    ensures text { take result out.new ≡ written_stamp EpochSeconds stamp }
     ensures after { drop result out.new ≡ drop result out.old }
 {
     let milliseconds = stamp.milliseconds();
@@ -137,7 +136,7 @@ fn put_millis(out: &mut [u8], at: usize, millis: u16) -> usize
     put_fraction(out, at, without_zeros(&three_digits_of(millis)))
 }
 
-// Puts a minus to the front where one is owed.
+// Puts a minus first where one is owed.
 fn put_sign(out: &mut [u8], negative: bool) -> usize
     requires { 0 < length out.old }
     ensures next { result ≡ length (if negative then codes "-" else []) }

@@ -1,13 +1,13 @@
-// The format http-date (IMF-fixdate of RFC 9110, section 5.6.7), read and written. `Stamp` stands on it.
+// The format http-date (IMF-fixdate of RFC 9110, section 5.6.7), read and written.
 ghost use Rattle.sm_time.specs.declared.format.Format.TheVariants.{HttpDate};
-ghost use Rattle.sm_time.specs.Answers.{Reads, Writes};
+ghost use Rattle.sm_time.specs.Answers.{ReadsStamp, WritesStamp};
 
 use crate::digits::put;
 use crate::{Stamp, TimeRefusal};
 
 /// The stamp of an http-date, as `Stamp::read` says.
 pub fn read(text: &[u8]) -> Result<Stamp, TimeRefusal>
-    ensures { Reads HttpDate text.now result }
+    ensures { ReadsStamp HttpDate text.now result }
 {
     let Ok(date) = httpdate::HttpDate::parse_ascii(text) else {
         return Err(TimeRefusal::BadText);
@@ -24,7 +24,7 @@ pub fn read(text: &[u8]) -> Result<Stamp, TimeRefusal>
 
 /// Writes a stamp as an http-date, as `Stamp::write_into` says.
 pub fn write(stamp: Stamp, out: &mut [u8; 32]) -> Result<usize, TimeRefusal>
-    ensures { Writes HttpDate stamp out.old out.new result }
+    ensures { WritesStamp HttpDate stamp out.old out.new result }
 {
     let milliseconds = stamp.milliseconds();
     if milliseconds < 0 {

@@ -1,5 +1,4 @@
-// Laws of the definitions, each the contract of a function whose body is empty. What reads a written stamp back
-// stands on them.
+// Laws of the definitions, each the contract of a function whose body is empty.
 ghost use Rattle.sm_time.specs.Laws.{CountOfDate, DateOfCount, OneForm, OneReading, OneAnswer, WrittenIsText, WrittenReadsBack};
 
 /// The date that comes so many days after 0000-01-01 has that count of days: counting day by day agrees with

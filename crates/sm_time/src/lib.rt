@@ -1,5 +1,5 @@
 // Stamps: whole milliseconds of the years 0000 to 9999, and their texts in Smithy's three formats (Smithy 2.0,
-// "timestampFormat trait"; RFC 3339, RFC 9110). The calls take no memory. Values and codecs stand on it.
+// "timestampFormat trait"; RFC 3339, RFC 9110). The calls take no memory.
 #![tactic(auto)]
 
 mod civil;
@@ -10,8 +10,6 @@ mod format;
 mod http_date;
 pub mod laws;
 mod stamp;
-#[cfg(test)]
-mod tests;
 mod zone;
 
 pub use format::{Format, TimeRefusal};

@@ -1,7 +1,7 @@
-// Stamps, and the two calls that turn them into texts and back. Values of the type timestamp stand on them.
+// Stamps, and the two calls that turn them into texts and back.
 ghost use Rattle.std.specs.Prelude.{◌≡◌, ◌↔◌, IsSome, IfSome};
 ghost use Rattle.sm_time.specs.TimeText.{IsStamp};
-ghost use Rattle.sm_time.specs.Answers.{Reads, Writes};
+ghost use Rattle.sm_time.specs.Answers.{ReadsStamp, WritesStamp};
 
 use crate::{Format, TimeRefusal, date_time, epoch_seconds, http_date};
 use std::marker::Model;
@@ -52,13 +52,13 @@ impl Stamp {
         self.milliseconds
     }
 
-    /// Writes the stamp's text to the front of `out`, and gives its length. The bytes after it stay as they were.
+    /// Writes the stamp's text to the start of `out`, and gives its length. The bytes after it stay as they were.
     ///
     /// `date-time` is written in UTC with `T` and `Z`, and with three digits of a fraction where the
     /// milliseconds aren't 0; `epoch-seconds` without trailing zeros. `OutOfFormat` exactly where an
     /// `http-date` would lie before 1970 or isn't whole seconds; then nothing is written.
     pub fn write_into(self, format: Format, out: &mut [u8; 32]) -> Result<usize, TimeRefusal>
-        ensures { Writes format self out.old out.new result }
+        ensures { WritesStamp format self out.old out.new result }
     {
         match format {
             Format::DateTime => Ok(date_time::write(self, out)),
@@ -74,7 +74,7 @@ impl Stamp {
     /// `date-time` is RFC 3339, section 5.6, with hours to 23 and seconds to 59; `http-date` is IMF-fixdate of
     /// RFC 9110, section 5.6.7, from 1970 on; `epoch-seconds` a number of RFC 8259, section 6, without an exponent.
     pub fn read(format: Format, text: &[u8]) -> Result<Stamp, TimeRefusal>
-        ensures { Reads format text.now result }
+        ensures { ReadsStamp format text.now result }
     {
         match format {
             Format::DateTime => date_time::read(text),

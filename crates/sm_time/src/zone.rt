@@ -1,6 +1,6 @@
-// The zone at the end of a date-time (RFC 3339, section 5.6). Reading date-time stands on it.
+// The zone at the end of a date-time (RFC 3339, section 5.6).
 ghost use Rattle.std.specs.Prelude.{[], ◌∷◌, ◌≤◌, IfSome};
-ghost use Rattle.sm_time.specs.Parts.{TwoDigits, ClockOffset, ZoneOffset, IsOffset};
+ghost use Rattle.sm_time.specs.steps.Parts.{TwoDigits, ClockOffset, ZoneOffset, IsOffset};
 
 /// The milliseconds by which a zone's clock is ahead of UTC, or `None` where the text is no zone.
 pub fn zone_offset(text: &[u8]) -> Option<i64>

@@ -14,6 +14,7 @@ pub returns-else-eq-clause-value : goal.returns-else-eq-clause-value
 returns-else-eq-clause-value c = λ letter k is civil e.
     let same = c.supposed-civil.ensures letter k civil e in
     let tenth : get_or c.args.text.now 10 0 ≡ letter = ap (λ l. get_or l 10 0) e in
-    let written : c.text.result ≡ c.args.text.now = c.text.ensures ∙ ap (λ l. clock_text l c.supposed-civil.result) tenth ∙ ap (λ x. clock_text letter x) same ∙ sym e in
-    let test = (bytes_eq-Decides c.text.result c.args.text.now).1 written in
+    let written_stamp : c.text.result ≡ c.args.text.now = c.text.ensures ∙ ap (λ l. clock_text l c.supposed-civil.result) tenth
+    ∙ ap (λ x. clock_text letter x) same ∙ sym e in
+    let test = (bytes_eq-Decides c.text.result c.args.text.now).1 written_stamp in
     grind (arith, test, c.eq.ensures, c.if-eq.false)

@@ -14,7 +14,8 @@ returns-in-Some-new c =
     let range = c.in-Some-new.ensures.in_range in
     let same = c.in-Some-new.ensures.value in
     let P : ℤ → Type 0 = λ z. IsStamp z in
-    clock_read c.args.text.now c.in-Some.shown.seconds c.in-Some.shown.digits.now c.in-Some-whole_millis.millis _ c.in-Some-new.stamp c.in-Some.ensures.form millis.0 millis.1
+    clock_read c.args.text.now c.in-Some.shown.seconds c.in-Some.shown.digits.now c.in-Some-whole_millis.millis _ c.in-Some-new.stamp
+    c.in-Some.ensures.form millis.0 millis.1
     (same ∙ to_z-of_z fits ∙ moment_is) (subst P (sym same) (range.0 refl))
 
 pub returns-in-None : goal.returns-in-None
@@ -26,5 +27,6 @@ returns-in-None c =
     let millis = c.in-Some-whole_millis.ensures in
     let back : to_z w64 (of_z w64 c.moment_of.result) ≡ c.moment_of.result = to_z-of_z fits in
     let range = c.in-None.ensures.in_range in
-    clock_far c.args.text.now c.in-Some.shown.seconds c.in-Some.shown.digits.now c.in-Some-whole_millis.millis _ (to_z w64 (of_z w64 c.moment_of.result)) c.in-Some.ensures.form millis.0 millis.1
+    clock_far c.args.text.now c.in-Some.shown.seconds c.in-Some.shown.digits.now c.in-Some-whole_millis.millis _
+    (to_z w64 (of_z w64 c.moment_of.result)) c.in-Some.ensures.form millis.0 millis.1
     (back ∙ moment_is) (λ there. search (rules, range.1 there))

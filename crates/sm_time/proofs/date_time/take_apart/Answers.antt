@@ -14,4 +14,5 @@ returns-clause-form c =
     let fits : FitsSigned w64 c.in_ok-offset.offset = omega (arith, ints, c.in_ok-offset.ensures.bounds) in
     let back : to_z w64 (of_z w64 c.in_ok-offset.offset) ≡ c.in_ok-offset.offset = to_z-of_z fits in
     rw back
-    (shows_clock c.args.text.now c.in_ok-clock.clock.now c.in_ok-clock.rest.now c.split_fraction.result.0.now c.split_fraction.result.1.now c.in_ok-seconds.seconds _ chunk.0 chunk.1 c.in_ok-seconds.ensures.value c.split_fraction.ensures c.in_ok-offset.ensures.value)
+    (shows_clock c.args.text.now c.in_ok-clock.clock.now c.in_ok-clock.rest.now c.split_fraction.result.0.now c.split_fraction.result.1.now
+    c.in_ok-seconds.seconds _ chunk.0 chunk.1 c.in_ok-seconds.ensures.value c.split_fraction.ensures c.in_ok-offset.ensures.value)

@@ -1,8 +1,11 @@
-use Rattle.std.proofs.lemmas.Int.Digits.{digits_more}
-use Rattle.std.proofs.Common.{sym, get_or}
-use Rattle.sm_time.proofs.DigitFacts.{digit_small}
+use Rattle.std.proofs.Common.{take, drop, sym, subst}
+use Rattle.std.specs.Str.Parse.{AllDigits}
+use Rattle.sm_time.specs.steps.Parts.{NoDigitFirst}
+use Rattle.sm_time.proofs.DigitFacts.{run_digits, run_ends}
 use Rattle.sm_time.proofs.digits.digit_run.Goals as goal
 
-pub loop-i-preserved : goal.loop-i-preserved
-loop-i-preserved c =
-    digits_more 10 c.args.text.now c.loop-i.i c.loop-i-test.true c.loop-i.invariant (digit_small (get_or c.args.text.now c.loop-i.i 0) (sym c.if-not-is_ascii_digit.ensures.value))
+pub returns-clause-digits : goal.returns-clause-digits
+returns-clause-digits c = subst (λ n. AllDigits 10 (take n c.args.text.now)) (sym c.run_len.ensures.run) (run_digits c.args.text.now)
+
+pub returns-clause-longest : goal.returns-clause-longest
+returns-clause-longest c = subst (λ n. NoDigitFirst (drop n c.args.text.now)) (sym c.run_len.ensures.run) (run_ends c.args.text.now)

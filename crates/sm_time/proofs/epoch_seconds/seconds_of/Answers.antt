@@ -8,4 +8,11 @@ value_of-requires c = digit_below c.args.digits.now c.loop-digit.digit-index c.r
 
 pub loop-digit-preserved : goal.loop-digit-preserved
 loop-digit-preserved c =
-    omega (arith, c.loop-digit.invariant, c.saturating_mul.ensures, c.saturating_add-value.ensures, c.value_of.ensures.value, digits_value_more 10 c.args.digits.now c.loop-digit.digit-index c.loop-digit-test.true)
+    omega (
+      arith,
+      c.loop-digit.invariant,
+      c.saturating_mul.ensures,
+      c.saturating_add-value.ensures,
+      c.value_of.ensures.value,
+      digits_value_more 10 c.args.digits.now c.loop-digit.digit-index c.loop-digit-test.true,
+    )

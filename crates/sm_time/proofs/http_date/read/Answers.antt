@@ -21,5 +21,7 @@ returns-in-Some c =
     let same : c.as_slice.result.now ≡ c.args.text.now = test.0 (grind (arith, c.ne.ensures, c.if-ne.false)) in
     let value = c.in-Some.ensures.value in
     let P : ℤ → Type 0 = λ z. IsStamp z in
-    let ms : to_z w64 (of_z w64 (to_z w64 c.unix_secs.result *ℤ pos 1000)) ≡ pos (unix_secs c.in-Ok.date * 1000) = omega (arith, ints, c.unix_secs.ensures.value, c.unix_secs.ensures.bound) in
-    date_read c.args.text.now c.in-Ok.date c.in-Some.stamp (sym same ∙ c.as_slice.ensures ∙ c.to_bytes.ensures) (value ∙ ms) (subst P (sym value) (c.in-Some.ensures.in_range.0 refl))
+    let ms : to_z w64 (of_z w64 (to_z w64 c.unix_secs.result *ℤ pos 1000)) ≡ pos (unix_secs c.in-Ok.date * 1000) =
+    omega (arith, ints, c.unix_secs.ensures.value, c.unix_secs.ensures.bound) in
+    date_read c.args.text.now c.in-Ok.date c.in-Some.stamp (sym same ∙ c.as_slice.ensures ∙ c.to_bytes.ensures) (value ∙ ms)
+    (subst P (sym value) (c.in-Some.ensures.in_range.0 refl))

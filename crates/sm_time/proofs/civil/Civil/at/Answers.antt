@@ -17,5 +17,13 @@ returns-clause-shown c =
     let date = c.from_days_since_min-date.result in
     let same = (jiff_date_at date (c.args.seconds / 86400) c.from_days_since_min-date.ensures).1 in
     let n = c.args.seconds in
-    let with : Date → Civil = λ d. record { year = d.year; month = d.month; day = d.day; hour = n % 86400 / 3600; minute = n % 3600 / 60; second = n % 60 } in
+    let with : Date → Civil = λ d. record {
+      year = d.year;
+      month = d.month;
+      day = d.day;
+      hour = n % 86400 / 3600;
+      minute =
+          n % 3600 / 60;
+      second = n % 60;
+    } in
     rw (year_back date) (ap with (sym same))

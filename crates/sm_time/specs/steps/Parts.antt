@@ -1,11 +1,12 @@
--- The parts that the readers take a text apart into. Private functions alone cite them.
-use Rattle.std.specs.Prelude.{◌≡◌, ◌≢◌, ℕ, ◌*◌, ◌+◌, ◌<◌, ◌≤◌, ◌⊎◌, List, [], ◌∷◌, ◌++◌, ℤ, pos, neg_ℤ, ◌≤ℤ◌, Option, Some, None}
+-- The parts that the readers take a text apart into.
+use Rattle.std.specs.Prelude.{◌≡◌, ◌≢◌, ℕ, ◌*◌, ◌+◌, ◌<◌, ◌≤◌, List, [], ◌∷◌, ◌++◌, ℤ, pos, neg_ℤ, ◌≤ℤ◌, Option, Some, None}
 use Rattle.std.specs.Char.{digit_value}
 use Rattle.std.specs.Str.Parse.{AllDigits}
+use Rattle.sm_bytes.specs.Ascii.{full_stop}
 use Rattle.sm_time.specs.declared.civil.Civil.{Civil}
 use Rattle.sm_time.specs.declared.format.Format.TheVariants.{DateTime}
 use Rattle.sm_time.specs.Civil.{IsCivil, second_count, clock_text, two_digits}
-use Rattle.sm_time.specs.TimeText.{clock, Shows, Zone, IsZone, zone_text, offset, fraction_text}
+use Rattle.sm_time.specs.TimeText.{clock_form, IsLetter, Shows, Zone, IsZone, zone_text, offset, fraction_text}
 
 -- no digit comes first
 abbrev pub NoDigitFirst : List ℕ → Type 0
@@ -15,7 +16,7 @@ NoDigitFirst (c ∷ cs) = 10 ≤ digit_value c
 -- no digit and no point comes first
 abbrev pub EndsFraction : List ℕ → Type 0
 EndsFraction [] = Unit {0}
-EndsFraction (c ∷ cs) = (c ≢ 46) × (10 ≤ digit_value c)
+EndsFraction (c ∷ cs) = (c ≢ full_stop) × (10 ≤ digit_value c)
 
 -- the text is a fraction and the rest, in the only way in which the rest doesn't go on with the fraction
 pub record SplitsFraction (text digits rest : List ℕ) : Type 0 where
@@ -39,10 +40,6 @@ abbrev pub ZoneOffset : List ℕ → Option ℤ → Type 0
 ZoneOffset text (Some ms) = (zone : Zone) × IsZone zone × (text ≡ zone_text zone) × (ms ≡ offset zone)
 ZoneOffset text None = (zone : Zone) → IsZone zone → ¬ (text ≡ zone_text zone)
 
--- the letter between date and time
-abbrev pub IsLetter : ℕ → Type 0
-IsLetter letter = (letter ≡ 84) ⊎ (letter ≡ 116)
-
 -- the seconds that 19 bytes show
 abbrev pub ClockSeconds : List ℕ → Option ℕ → Type 0
 ClockSeconds text (Some seconds) =
@@ -52,7 +49,7 @@ ClockSeconds text None = (letter : ℕ) (c : Civil) → IsLetter letter → IsCi
 -- a text of date-time, by the seconds that its clock shows, the digits of its fraction and its offset
 abbrev pub ShowsClock : List ℕ → ℕ → List ℕ → ℤ → Type 0
 ShowsClock text seconds digits ahead_by =
-    (letter : ℕ) × (c : Civil) × (zone : Zone) × Shows DateTime text (clock letter c digits zone)
+    (letter : ℕ) × (c : Civil) × (zone : Zone) × Shows DateTime text (clock_form letter c digits zone)
     × (seconds ≡ second_count c) × (ahead_by ≡ offset zone)
 
 -- less than a day, either way
