@@ -5,10 +5,10 @@ use Rattle.sm_json.specs.declared.spot.Digits.{Digits}
 use Rattle.sm_json.specs.declared.spot.Digits.TheVariants.{First, Second, Third, Fourth}
 use Rattle.sm_json.specs.declared.spot.Part.TheVariants.{Escape as BehindBackslash, Unit as InUnit, LowBackslash, LowLetter, LowUnit}
 use Rattle.sm_json.specs.declared.spot.Step.TheVariants.{Within, Whole, Refused}
-use Rattle.sm_tree.specs.Escapes.{short_escape, IsHigh, IsLow, joined}
+use Rattle.sm_bytes.specs.Escapes.{short_escape, IsHigh, IsLow, joined}
 use Rattle.sm_json.specs.Strings.{HexDigits, CodeUnit, Escape}
-use Rattle.sm_json.specs.TextRest.{DigitsRest, UnitRest, PartRest}
-use Rattle.sm_json.specs.TextSteps.{IsLowBegun, CodeEnd, StepsTo, PartSteps}
+use Rattle.sm_json.specs.steps.TextRest.{DigitsRest, UnitRest, PartRest}
+use Rattle.sm_json.specs.steps.TextSteps.{IsLowBegun, CodeEnd, StepsTo, PartSteps}
 use Rattle.sm_json.proofs.Units.{SameRest, LastDigit, digits_range_1, digits_range_2, digits_range_3}
 
 some_same : (x y : ℕ) → Some x ≡ Some y → x ≡ y
@@ -16,18 +16,21 @@ some_same x y e = cc
 
 -- behind a backslash: a short escape
 short_there : (x d : ℕ) → short_escape x ≡ Some d → (x ≢ 117) → (c : ℕ) (s r : List ℕ) → Escape c (x ∷ s) r → (c ≡ d) × (s ≡ r)
-short_there x d e other c s r (inl h) = let f : short_escape x ≡ short_escape h.0 = ap short_escape (let g : x ≡ h.0 = cc in g) in (some_same c d (sym h.2 ∙ (sym f ∙ e)), cc)
+short_there x d e other c s r (inl h) = let f : short_escape x ≡ short_escape h.0 = ap short_escape (let g : x ≡ h.0 = cc in g) in
+    (some_same c d (sym h.2 ∙ (sym f ∙ e)), cc)
 short_there x d e other c s r (inr (inl h)) = absurd (other cc)
 short_there x d e other c s r (inr (inr h)) = absurd (other (let g = h.2.1 in cc))
 
 pub short_taken : (x d : ℕ) → short_escape x ≡ Some d → x ≢ 117 → IsScalar d → PartSteps BehindBackslash x (Whole d)
-short_taken x d e other scalar = (scalar, λ c s r k. (short_there x d e other c s r, λ h. inl (x, ap (λ l. x ∷ l) h.1, e ∙ ap Some (sym h.0))))
+short_taken x d e other scalar =
+    (scalar, λ c s r k. (short_there x d e other c s r, λ h. inl (x, ap (λ l. x ∷ l) h.1, e ∙ ap Some (sym h.0))))
 
 -- behind a backslash: the letter of a code unit
 letter_there : (c : ℕ) (s r : List ℕ) → Escape c (117 ∷ s) r → UnitRest First c s r
 letter_there c s r (inl h) = let f : None ≡ Some c = ap short_escape (let g : 117 ≡ h.0 = cc in g) ∙ h.2 in absurd (cc)
 letter_there c s r (inr (inl h)) = inl (subst (λ l. HexDigits 4 0 c l r) (let g : h.0 ≡ s = cc in g) h.2)
-letter_there c s r (inr (inr h)) = inr (h.0, h.1, subst (λ l. HexDigits 4 0 h.0 l h.1) (let g : h.2.0 ≡ s = (let e = h.2.1 in cc) in g) h.2.2, h.3, h.4)
+letter_there c s r (inr (inr h)) =
+    inr (h.0, h.1, subst (λ l. HexDigits 4 0 h.0 l h.1) (let g : h.2.0 ≡ s = (let e = h.2.1 in cc) in g) h.2.2, h.3, h.4)
 
 pub letter_taken : PartSteps BehindBackslash 117 (Within (InUnit First))
 letter_taken = (
@@ -39,7 +42,8 @@ letter_taken = (
 )
 
 pub escape_refused : (x : ℕ) → short_escape x ≡ None → x ≢ 117 → PartSteps BehindBackslash x Refused
-escape_refused x e other c s r k (inl h) = let f : None ≡ Some c = sym e ∙ (ap short_escape (let g : x ≡ h.0 = cc in g) ∙ h.2) in absurd (cc)
+escape_refused x e other c s r k (inl h) = let f : None ≡ Some c = sym e
+    ∙ (ap short_escape (let g : x ≡ h.0 = cc in g) ∙ h.2) in absurd (cc)
 escape_refused x e other c s r k (inr (inl h)) = other cc
 escape_refused x e other c s r k (inr (inr h)) = other (let g = h.2.1 in cc)
 
@@ -69,21 +73,25 @@ pub low_letter_refused : (high x : ℕ) → x ≢ 117 → PartSteps (LowLetter h
 low_letter_refused high x other c s r k h = other (let e = h.1.1 in cc)
 
 -- the digits of a low surrogate
-pub low_same : (high : ℕ) (old new : Digits) (x : ℕ) → SameRest old x new → (c : ℕ) (s r : List ℕ) → IsScalar c → PartRest (LowUnit high old) c (x ∷ s) r ↔ PartRest (LowUnit high new) c s r
+pub low_same : (high : ℕ) (old new : Digits) (x : ℕ) → SameRest old x new → (c : ℕ) (s r : List ℕ) → IsScalar c
+    → PartRest (LowUnit high old) c (x ∷ s) r ↔ PartRest (LowUnit high new) c s r
 low_same high old new x same c s r k = (
   λ h. (h.0, (same h.0 s r).0 h.1, h.2, h.3),
   λ h. (h.0, (same h.0 s r).1 h.1, h.2, h.3),
 )
 
-low_ends_there : (high : ℕ) (old : Digits) (x u : ℕ) → LastDigit old x u → (c : ℕ) (s r : List ℕ) → PartRest (LowUnit high old) c (x ∷ s) r → CodeEnd (joined high u) c s r
+low_ends_there : (high : ℕ) (old : Digits) (x u : ℕ) → LastDigit old x u → (c : ℕ) (s r : List ℕ) → PartRest (LowUnit high old) c (x ∷ s) r
+    → CodeEnd (joined high u) c s r
 low_ends_there high old x u same c s r h =
     let e = (same h.0 s r).0 h.1 in
     (h.3 ∙ ap (joined high) e.0, e.1)
 
-pub low_ends : (high : ℕ) (old : Digits) (x u : ℕ) → IsLow u → LastDigit old x u → (c : ℕ) (s r : List ℕ) → IsScalar c → PartRest (LowUnit high old) c (x ∷ s) r ↔ CodeEnd (joined high u) c s r
+pub low_ends : (high : ℕ) (old : Digits) (x u : ℕ) → IsLow u → LastDigit old x u → (c : ℕ) (s r : List ℕ) → IsScalar c
+    → PartRest (LowUnit high old) c (x ∷ s) r ↔ CodeEnd (joined high u) c s r
 low_ends high old x u low same c s r k = (low_ends_there high old x u same c s r, λ h. (u, (same u s r).1 (refl, h.1), low, h.0))
 
-pub low_no_digit : (high : ℕ) (old : Digits) (x : ℕ) → ((v : ℕ) (s r : List ℕ) → DigitsRest old v (x ∷ s) r → ⊥) → PartSteps (LowUnit high old) x Refused
+pub low_no_digit : (high : ℕ) (old : Digits) (x : ℕ) → ((v : ℕ) (s r : List ℕ) → DigitsRest old v (x ∷ s) r → ⊥)
+    → PartSteps (LowUnit high old) x Refused
 low_no_digit high old x none c s r k h = none h.0 s r h.1
 
 -- digits that begin no low surrogate

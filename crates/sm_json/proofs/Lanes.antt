@@ -6,9 +6,8 @@ use Rattle.std.proofs.lemmas.List.{length-map}
 use Rattle.std.proofs.lemmas.List.Sums.{prefix_len-le-length}
 use Rattle.std.specs.Bool.{OnTrue}
 use Rattle.std.specs.List.{prefix_len}
-use Rattle.std.specs.Prelude.{not}
 use lib.Lanes.{chunk, mask_l, zip2, top, Each1}
-use Rattle.sm_json.specs.Placing.{is_escaped, IsPlainBetween}
+use Rattle.sm_json.specs.steps.Placing.{is_escaped, is_unescaped, IsPlainBetween}
 use Rattle.sm_json.specs.Written.{written_bytes}
 use Rattle.sm_json.proofs.PlainRuns.{unescaped_byte}
 
@@ -31,24 +30,26 @@ either_lane f g v p q = ap₂ (zip2 bit_or) p q ∙ zip2-map f g v
 
 each_lane : (v : List ℕ) → Each1 (Fits w8) v → map (top 7) (map escape_lane v) ≡ map is_escaped v
 each_lane [] fits = refl
-each_lane (x ∷ xs) fits = ap₂ (λ (a : Bool) (b : List Bool). a ∷ b) (agree_below_at (λ y. top 7 (escape_lane y)) is_escaped 256 x refl fits.0.fits) (each_lane xs fits.1)
+each_lane (x ∷ xs) fits = ap₂ (λ (a : Bool) (b : List Bool). a ∷ b)
+    (agree_below_at (λ y. top 7 (escape_lane y)) is_escaped 256 x refl fits.0.fits) (each_lane xs fits.1)
 
 -- the mask has the bits of the bytes that are escaped
-escape_mask : (v z : List ℕ) → length v ≤ 64 → Each1 (Fits w8) v → z ≡ map escape_lane v → mask_l (map (top 7) z) % 2 ^ 64 ≡ mask_l (map is_escaped v)
+escape_mask : (v z : List ℕ) → length v ≤ 64 → Each1 (Fits w8) v → z ≡ map escape_lane v
+    → mask_l (map (top 7) z) % 2 ^ 64 ≡ mask_l (map is_escaped v)
 escape_mask v z short fits e =
-    ap (λ l. mask_l l % 2 ^ 64) (ap (map (top 7)) e ∙ each_lane v fits) ∙ mask_l-mod (map is_escaped v) 64 (omega (arith, length-map v is_escaped))
-
-abbrev is_plain : ℕ → Bool
-is_plain b = not (is_escaped b)
+    ap (λ l. mask_l l % 2 ^ 64) (ap (map (top 7)) e ∙ each_lane v fits)
+    ∙ mask_l-mod (map is_escaped v) 64 (omega (arith, length-map v is_escaped))
 
 all_of_run : (p : Bool) (n l : ℕ) → n ≤ l → cond p (1 + n) 0 ≡ suc l → (p ≡ true) × (n ≡ l)
 all_of_run true n l h e = (refl, omega arith)
 all_of_run false n l h e = absurd (omega arith)
 
-whole_run : (xs : List ℕ) → prefix_len is_plain xs ≡ length xs → IsPlainBetween xs 0 (length xs)
+whole_run : (xs : List ℕ) → prefix_len is_unescaped xs ≡ length xs → IsPlainBetween xs 0 (length xs)
 whole_run [] e k p q = absurd (omega arith)
-whole_run (x ∷ xs) e zero p q = not-true (is_escaped x) (all_of_run (is_plain x) _ (length xs) (prefix_len-le-length is_plain xs) e).0
-whole_run (x ∷ xs) e (suc k) p q = whole_run xs (all_of_run (is_plain x) _ (length xs) (prefix_len-le-length is_plain xs) e).1 k (omega arith) (omega arith)
+whole_run (x ∷ xs) e zero p q =
+    not-true (is_escaped x) (all_of_run (is_unescaped x) _ (length xs) (prefix_len-le-length is_unescaped xs) e).0
+whole_run (x ∷ xs) e (suc k) p q =
+    whole_run xs (all_of_run (is_unescaped x) _ (length xs) (prefix_len-le-length is_unescaped xs) e).1 k (omega arith) (omega arith)
 
 plain_from_mask : (bs : List ℕ) (i n : ℕ) → i + n ≤ length bs → mask_l (map is_escaped (chunk i n bs)) ≡ 0 → IsPlainBetween bs i (i + n)
 plain_from_mask bs i n room none k p q =
@@ -63,18 +64,22 @@ on_true false P f = tt
 
 -- the three tests of a vector of n lanes
 pub plain_from_lanes : (bs : List ℕ) (i n : ℕ) → i + n ≤ length bs → n ≤ 64 → ((k : ℕ) → Fits w8 (get_or bs k 0))
-    → OnTrue (mask_l (map (top 7) (zip2 bit_or (zip2 below_lane (chunk i n bs) (replicate n 32)) (zip2 bit_or (zip2 equal_lane (chunk i n bs) (replicate n 34)) (zip2 equal_lane (chunk i n bs) (replicate n 92))))) % 2 ^ 64 == 0)
+    → OnTrue (mask_l (map (top 7) (zip2 bit_or (zip2 below_lane (chunk i n bs) (replicate n 32))
+    (zip2 bit_or (zip2 equal_lane (chunk i n bs) (replicate n 34)) (zip2 equal_lane (chunk i n bs) (replicate n 92))))) % 2 ^ 64 == 0)
     (IsPlainBetween bs i (i + n))
 plain_from_lanes bs i n room few fits =
     let v = chunk i n bs in
     let long = length-chunk i n bs room in
-    let mask = escape_mask v _ (omega arith) (chunk-fits w8 i n bs fits) (either_lane _ _ v (zip2_splat below_lane v n 32 long) (either_lane _ _ v (zip2_splat equal_lane v n 34 long) (zip2_splat equal_lane v n 92 long))) in
+    let mask = escape_mask v _ (omega arith) (chunk-fits w8 i n bs fits)
+    (either_lane _ _ v (zip2_splat below_lane v n 32 long)
+    (either_lane _ _ v (zip2_splat equal_lane v n 34 long) (zip2_splat equal_lane v n 92 long))) in
     on_true _ _ (λ e. plain_from_mask bs i n room (sym mask ∙ eqb-true _ 0 e))
 
 written_plain : (bs : List ℕ) → IsPlainBetween bs 0 (length bs) → written_bytes bs ≡ bs
 written_plain [] h = refl
 written_plain (b ∷ bs) h =
-    ap₂ (λ (x y : List ℕ). x ++ y) (unescaped_byte b (h 0 (omega arith) (omega arith))) (written_plain bs (λ k p q. h (suc k) (omega arith) (omega arith)))
+    ap₂ (λ (x y : List ℕ). x ++ y) (unescaped_byte b (h 0 (omega arith) (omega arith)))
+    (written_plain bs (λ k p q. h (suc k) (omega arith) (omega arith)))
 
 pub written_on_plain : (b : Bool) (bs : List ℕ) → OnTrue b (IsPlainBetween bs 0 (length bs)) → OnTrue b (written_bytes bs ≡ bs)
 written_on_plain true bs h = written_plain bs h

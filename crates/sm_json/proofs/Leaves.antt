@@ -5,11 +5,11 @@ use Rattle.sm_tree.specs.Levels.{levels}
 use Rattle.sm_tree.specs.Events.{NodeEvent, events}
 use Rattle.sm_tree.specs.Numbers.{IsNumber, NumberText}
 use Rattle.sm_tree.specs.declared.build.OpenKind.{OpenKind}
-use Rattle.sm_json.specs.Strings.{is_white, SpellsText, Characters}
+use Rattle.sm_json.specs.Strings.{is_whitespace, SpellsText, Characters}
 use Rattle.sm_json.specs.JsonText.{SpellsNumber, SpellsValue}
-use Rattle.sm_json.specs.TextRest.{TextRest}
-use Rattle.sm_json.specs.Rest.{value, word, numeral, in_text, letters, literal_node, ValueNow, ValueComes, StringComes, RestAt, Leads, Stops}
-use Rattle.sm_json.specs.Machine.{first_letter}
+use Rattle.sm_json.specs.steps.TextRest.{TextRest}
+use Rattle.sm_json.specs.steps.Rest.{value, word, numeral, in_text, letters, literal_node, ValueNow, ValueComes, QuotedComes, JsonRestAt, JsonLeads, JsonStops}
+use Rattle.sm_json.specs.steps.Machine.{first_letter}
 use Rattle.sm_json.specs.declared.spot.Spot.TheVariants.{Plain}
 use Rattle.sm_json.specs.declared.place.Literal.{Literal}
 use Rattle.sm_json.specs.declared.place.Literal.TheVariants.{Null, True, False}
@@ -24,16 +24,19 @@ text_onward t s r (cs, s1, e, o, h) = (cs, e, subst (λ x. Characters cs x r) (s
 pub text_back : (t s r : List ℕ) → TextRest Plain [] s t r → SpellsText t (34 ∷ s) r
 text_back t s r (cs, e, h) = (cs, s, e, refl, h)
 
-string_onward : (limit : ℕ) (ks : List OpenKind) (s : List ℕ) (es : List NodeEvent) → ValueNow limit ks (34 ∷ s) es → StringComes limit Value Plain [] ks s es
+string_onward : (limit : ℕ) (ks : List OpenKind) (s : List ℕ) (es : List NodeEvent) → ValueNow limit ks (34 ∷ s) es
+    → QuotedComes limit Value Plain [] ks s es
 string_onward limit ks s es (n, r, fs, h, room, en, e) =
     let k = kind_of_text n (spells_first n 34 s r h) in
     (k.0, r, fs, text_onward k.0 s r (subst (λ x. SpellsValue x (34 ∷ s) r) k.1 h), en, e ∙ ap (λ x. events x fs) k.1)
 
-string_back : (limit : ℕ) (ks : List OpenKind) (s : List ℕ) (fs : List NodeEvent) → length ks ≤ limit → StringComes limit Value Plain [] ks s fs → ValueComes limit ks (34 ∷ s) fs
+string_back : (limit : ℕ) (ks : List OpenKind) (s : List ℕ) (fs : List NodeEvent) → length ks ≤ limit
+    → QuotedComes limit Value Plain [] ks s fs → ValueComes limit ks (34 ∷ s) fs
 string_back limit ks s fs room (t, r, gs, h, en, e) =
     value_now limit ks (34 ∷ s) fs (text t, r, gs, text_back t s r h, omega arith, en, e)
 
-pub string_begins : (limit : ℕ) (ks : List OpenKind) → length ks ≤ limit → Leads limit (at value ks) (34 ∷ []) [] (at (in_text Value Plain []) ks)
+pub string_begins : (limit : ℕ) (ks : List OpenKind) → length ks ≤ limit
+    → JsonLeads limit (at value ks) (34 ∷ []) [] (at (in_text Value Plain []) ks)
 string_begins limit ks room = record {
   onward = λ s es h. (es, refl, string_onward limit ks s es (value_here limit ks 34 s es refl h));
   back = λ s fs h. string_back limit ks s fs room h;
@@ -79,12 +82,13 @@ kind_of_false (opaque b) h = absurd h
 kind_of_false (list ns) e = absurd (above 102 91 (lit< tt) e)
 kind_of_false (object ms) e = absurd (below 102 123 (lit< tt) e)
 
-letter_not_white : (w : Literal) → is_white (first_letter w) ≡ false
+letter_not_white : (w : Literal) → is_whitespace (first_letter w) ≡ false
 letter_not_white Null = refl
 letter_not_white True = refl
 letter_not_white False = refl
 
-spells_word : (w : Literal) (n : Node) (s r : List ℕ) → SpellsValue n (first_letter w ∷ s) r → (n ≡ literal_node w) × (s ≡ drop 1 (letters w) ++ r)
+spells_word : (w : Literal) (n : Node) (s r : List ℕ) → SpellsValue n (first_letter w ∷ s) r
+    → (n ≡ literal_node w) × (s ≡ drop 1 (letters w) ++ r)
 spells_word Null n s r h =
     let k = kind_of_null n (spells_first n 110 s r h) in
     (k, tails 110 110 s (codes "ull" ++ r) (subst (λ x. SpellsValue x (110 ∷ s) r) k h))
@@ -95,7 +99,8 @@ spells_word False n s r h =
     let k = kind_of_false n (spells_first n 102 s r h) in
     (k, tails 102 102 s (codes "alse" ++ r) (subst (λ x. SpellsValue x (102 ∷ s) r) k h))
 
-word_onward : (limit : ℕ) (w : Literal) (ks : List OpenKind) (s : List ℕ) (es : List NodeEvent) → ValueNow limit ks (first_letter w ∷ s) es → RestAt limit (word w 1) ks s es
+word_onward : (limit : ℕ) (w : Literal) (ks : List OpenKind) (s : List ℕ) (es : List NodeEvent) → ValueNow limit ks (first_letter w ∷ s) es
+    → JsonRestAt limit (word w 1) ks s es
 word_onward limit w ks s es (n, r, fs, h, room, en, e) =
     let k = spells_word w n s r h in (r, fs, k.1, en, e ∙ ap (λ x. events x fs) k.0)
 
@@ -109,11 +114,13 @@ word_levels Null = refl
 word_levels True = refl
 word_levels False = refl
 
-word_back : (limit : ℕ) (w : Literal) (ks : List OpenKind) (s : List ℕ) (fs : List NodeEvent) → length ks ≤ limit → RestAt limit (word w 1) ks s fs → ValueComes limit ks (first_letter w ∷ s) fs
+word_back : (limit : ℕ) (w : Literal) (ks : List OpenKind) (s : List ℕ) (fs : List NodeEvent) → length ks ≤ limit
+    → JsonRestAt limit (word w 1) ks s fs → ValueComes limit ks (first_letter w ∷ s) fs
 word_back limit w ks s fs room (r, gs, e, en, e1) =
     value_now limit ks (first_letter w ∷ s) fs (literal_node w, r, gs, word_spells w s r e, omega (arith, word_levels w), en, e1)
 
-pub word_begins : (limit : ℕ) (w : Literal) (ks : List OpenKind) → length ks ≤ limit → Leads limit (at value ks) (first_letter w ∷ []) [] (at (word w 1) ks)
+pub word_begins : (limit : ℕ) (w : Literal) (ks : List OpenKind) → length ks ≤ limit
+    → JsonLeads limit (at value ks) (first_letter w ∷ []) [] (at (word w 1) ks)
 word_begins limit w ks room = record {
   onward = λ s es h. (es, refl, word_onward limit w ks s es (value_here limit ks (first_letter w) s es (letter_not_white w) h));
   back = λ s fs h. word_back limit w ks s fs room h;
@@ -181,17 +188,29 @@ number_cut n c s r t h e =
     let e2 = heads c o.0 s (o.1 ++ r) e1 in
     (o.1, tails c o.0 s (o.1 ++ r) e1, subst (NumberText n) (o.2 ∙ ap (λ x. x ∷ o.1) (sym e2)) h)
 
-number_onward : (limit : ℕ) (c : ℕ) (ks : List OpenKind) (s : List ℕ) (es : List NodeEvent) → StartsNumber c → ValueNow limit ks (c ∷ s) es → RestAt limit (numeral (c ∷ [])) ks s es
+number_onward : (limit : ℕ) (c : ℕ) (ks : List OpenKind) (s : List ℕ) (es : List NodeEvent) → StartsNumber c → ValueNow limit ks (c ∷ s) es
+    → JsonRestAt limit (numeral (c ∷ [])) ks s es
 number_onward limit c ks s es d (n, r, fs, h, room, en, e) =
     let (t, e1, x) = numeral_of n c s r d h in
     let (u, e2, y) = number_cut n c s r t x e1 in
     (n, u, r, fs, e2, y, en, e)
 
-number_back : (limit : ℕ) (c : ℕ) (ks : List OpenKind) (s : List ℕ) (fs : List NodeEvent) → length ks ≤ limit → RestAt limit (numeral (c ∷ [])) ks s fs → ValueComes limit ks (c ∷ s) fs
+number_back : (limit : ℕ) (c : ℕ) (ks : List OpenKind) (s : List ℕ) (fs : List NodeEvent) → length ks ≤ limit
+    → JsonRestAt limit (numeral (c ∷ [])) ks s fs → ValueComes limit ks (c ∷ s) fs
 number_back limit c ks s fs room (n, u, r, gs, e, h, en, e1) =
-    value_now limit ks (c ∷ s) fs (n, r, gs, number_spells n (c ∷ u) (c ∷ s) r h (ap (λ x. c ∷ x) e), omega (arith, number_levels n (c ∷ u) h), en, e1)
+    value_now limit ks (c ∷ s) fs (
+      n,
+      r,
+      gs,
+      number_spells n (c ∷ u) (c ∷ s) r h (ap (λ x. c ∷ x) e),
+      omega
+          (arith, number_levels n (c ∷ u) h),
+      en,
+      e1,
+    )
 
-pub number_begins : (limit : ℕ) (c : ℕ) (ks : List OpenKind) → length ks ≤ limit → is_white c ≡ false → StartsNumber c → Leads limit (at value ks) (c ∷ []) [] (at (numeral (c ∷ [])) ks)
+pub number_begins : (limit : ℕ) (c : ℕ) (ks : List OpenKind) → length ks ≤ limit → is_whitespace c ≡ false → StartsNumber c
+    → JsonLeads limit (at value ks) (c ∷ []) [] (at (numeral (c ∷ [])) ks)
 number_begins limit c ks room f d = record {
   onward = λ s es h. (es, refl, number_onward limit c ks s es d (value_here limit ks c s es f h));
   back = λ s fs h. number_back limit c ks s fs room h;
@@ -202,7 +221,8 @@ no_number : (n : Node) (c : ℕ) (s r : List ℕ) → ((u : List ℕ) → IsNumb
 no_number n c s r stop (t, e, x) =
     let (u, e1, y) = number_cut n c s r t x e in stop u (number_is n (c ∷ u) y)
 
-other_byte : (n : Node) (c : ℕ) (s r : List ℕ) → SpellsValue n (c ∷ s) r → c ≢ 34 → c ≢ 91 → c ≢ 123 → c ≢ 110 → c ≢ 116 → c ≢ 102 → ((u : List ℕ) → IsNumber (c ∷ u) → ⊥) → ⊥
+other_byte : (n : Node) (c : ℕ) (s r : List ℕ) → SpellsValue n (c ∷ s) r → c ≢ 34 → c ≢ 91 → c ≢ 123 → c ≢ 110 → c ≢ 116 → c ≢ 102
+    → ((u : List ℕ) → IsNumber (c ∷ u) → ⊥) → ⊥
 other_byte null c s r h q b o n t f stop = n (spells_first null c s r h)
 other_byte (bool true) c s r h q b o n t f stop = t (spells_first (bool true) c s r h)
 other_byte (bool false) c s r h q b o n t f stop = f (spells_first (bool false) c s r h)
@@ -215,6 +235,7 @@ other_byte (opaque x) c s r h q b o n t f stop = absurd h
 other_byte (list ns) c s r h q b o n t f stop = b (spells_first (list ns) c s r h)
 other_byte (object ms) c s r h q b o n t f stop = o (spells_first (object ms) c s r h)
 
-pub value_stops : (limit : ℕ) (c : ℕ) (ks : List OpenKind) → is_white c ≡ false → c ≢ 34 → c ≢ 91 → c ≢ 123 → c ≢ 110 → c ≢ 116 → c ≢ 102 → ((u : List ℕ) → IsNumber (c ∷ u) → ⊥) → Stops limit (at value ks) c
+pub value_stops : (limit : ℕ) (c : ℕ) (ks : List OpenKind) → is_whitespace c ≡ false → c ≢ 34 → c ≢ 91 → c ≢ 123 → c ≢ 110 → c ≢ 116
+    → c ≢ 102 → ((u : List ℕ) → IsNumber (c ∷ u) → ⊥) → JsonStops limit (at value ks) c
 value_stops limit c ks w q b o n t f stop s es h =
     let (x, r, fs, sp, room, en, e) = value_here limit ks c s es w h in other_byte x c s r sp q b o n t f stop

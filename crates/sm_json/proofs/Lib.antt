@@ -6,12 +6,11 @@ pub mod Between
 pub mod After
 pub mod Within
 pub mod Whole
-pub mod Utf8Bytes
-pub mod Utf8Shapes
 pub mod Steps
 pub mod Units
 pub mod Escapes
 pub mod Utf8Parts
+pub mod Utf8Tests
 pub mod Runs
 pub mod DigitSteps
 pub mod Completions

@@ -4,7 +4,7 @@ use Rattle.std.proofs.Common.{◌≡◌, ◌<◌, ◌+◌, ◌*◌, ◌++◌, �
 use Rattle.std.specs.Char.{IsScalar, encode_utf8}
 use Rattle.std.specs.Prelude.{encode_utf8_all}
 use Rattle.std.proofs.lemmas.Str.{encode_same, encode_ascii}
-use Rattle.sm_tree.specs.Escapes.{short_escape, IsHigh, joined}
+use Rattle.sm_bytes.specs.Escapes.{short_escape, IsHigh, joined}
 use Rattle.sm_json.specs.Strings.{IsUnescaped, HexDigits, CodeUnit, LowHalf, Escape, Character, Characters, SpellsText}
 use Rattle.sm_json.proofs.Starts.{above, heads, tails}
 use Rattle.sm_json.proofs.Units.{no_surrogate}
@@ -32,7 +32,8 @@ one_low high c d s r q (a, s1, e, u, is_low, j) (b, s2, f, v, is_low2, k) =
     (j ∙ ap (joined high) same ∙ sym k, rest)
 
 -- both halves
-one_pair : (a b c d : ℕ) (s s1 s2 r q : List ℕ) → CodeUnit a s s1 → LowHalf a c s1 r → CodeUnit b s s2 → LowHalf b d s2 q → (c ≡ d) × (r ≡ q)
+one_pair : (a b c d : ℕ) (s s1 s2 r q : List ℕ) → CodeUnit a s s1 → LowHalf a c s1 r → CodeUnit b s s2 → LowHalf b d s2 q
+    → (c ≡ d) × (r ≡ q)
 one_pair a b c d s s1 s2 r q u h v g =
     let (same, rest) = one_unit b a s s2 s1 v u in
     one_low a c d s1 r q h (subst (λ x. LowHalf x d s1 q) same (subst (λ x. LowHalf b d x q) rest g))
@@ -62,7 +63,8 @@ one_escape c d s r q k l (inr (inl u)) (inr (inl v)) = one_unit c d s r q u v
 one_escape c d s r q k l (inr (inl u)) (inr (inr (high, s1, v, is_high, low))) = absurd (unit_no_pair c high s r s1 k u v is_high)
 one_escape c d s r q k l (inr (inr (high, s1, u, is_high, low))) (inl (b, f, g)) = absurd (short_no_unit b d high s q s1 f g u)
 one_escape c d s r q k l (inr (inr (high, s1, u, is_high, low))) (inr (inl v)) = absurd (unit_no_pair d high s q s1 l v u is_high)
-one_escape c d s r q k l (inr (inr (a, s1, u, is_high, low))) (inr (inr (b, s2, v, is_high2, low2))) = one_pair a b c d s s1 s2 r q u low v low2
+one_escape c d s r q k l (inr (inr (a, s1, u, is_high, low))) (inr (inr (b, s2, v, is_high2, low2))) =
+    one_pair a b c d s s1 s2 r q u low v low2
 
 -- an unescaped character begins with neither a backslash nor a quotation mark
 raw_first : (c d : ℕ) (s r q : List ℕ) → d < 128 → s ≡ encode_utf8 c ++ r → s ≡ d ∷ q → c ≡ d

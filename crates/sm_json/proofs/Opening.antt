@@ -1,4 +1,4 @@
--- What a byte does where a value must come: the laws of `Leads` and `Stops` there, and where a bracket has
+-- What a byte does where a value must come: the laws of `JsonLeads` and `JsonStops` there, and where a bracket has
 -- opened.
 use Rattle.std.proofs.Common.{◌≡◌, ℕ, ◌+◌, ◌≤◌, ◌<◌, ◌⊎◌, inl, inr, true, false, List, [], ◌∷◌, ◌++◌, None, refl, sym, ap, subst, ◌∙◌, arith, lit<, length}
 use Rattle.sm_tree.specs.Node.{Node, Nodes, Members, null, bool, int, number, text, bytes, tag, opaque, list, object}
@@ -6,9 +6,9 @@ use Rattle.sm_tree.specs.Levels.{levels, nodes_levels, members_levels}
 use Rattle.sm_tree.specs.Events.{NodeEvent, events, entries_events, pairs_events, start_list, start_object}
 use Rattle.sm_tree.specs.declared.build.OpenKind.{OpenKind}
 use Rattle.sm_tree.specs.declared.build.OpenKind.TheVariants.{List as a_list, Object as an_object}
-use Rattle.sm_json.specs.Strings.{is_white}
+use Rattle.sm_json.specs.Strings.{is_whitespace}
 use Rattle.sm_json.specs.JsonText.{SpellsValue, Entries, Pairs}
-use Rattle.sm_json.specs.Rest.{Where, value, first_entry, first_key, State, ValueNow, ValueComes, FirstEntryComes, FirstKeyComes, Leads, Stops}
+use Rattle.sm_json.specs.steps.Rest.{Where, value, first_entry, first_key, JsonState, ValueNow, ValueComes, FirstEntryComes, FirstKeyComes, JsonLeads, JsonStops}
 use Rattle.sm_json.proofs.Starts.{below, above, tails, skips_none, skips_here, StartsNumber, FirstByte, spells_first}
 
 -- a spelling that begins with a byte has the kind that the byte tells
@@ -59,13 +59,14 @@ kind_of_text (list ns) e = absurd (below 34 91 (lit< tt) e)
 kind_of_text (object ms) e = absurd (below 34 123 (lit< tt) e)
 
 -- a value that comes, at a byte that isn't white
-pub value_here : (limit : ℕ) (ks : List OpenKind) (c : ℕ) (s : List ℕ) (es : List NodeEvent) → is_white c ≡ false → ValueComes limit ks (c ∷ s) es → ValueNow limit ks (c ∷ s) es
+pub value_here : (limit : ℕ) (ks : List OpenKind) (c : ℕ) (s : List ℕ) (es : List NodeEvent) → is_whitespace c ≡ false
+    → ValueComes limit ks (c ∷ s) es → ValueNow limit ks (c ∷ s) es
 value_here limit ks c s es f (t, k, h) = subst (λ x. ValueNow limit ks x es) (skips_here c s t f k) h
 
 pub value_now : (limit : ℕ) (ks : List OpenKind) (s : List ℕ) (es : List NodeEvent) → ValueNow limit ks s es → ValueComes limit ks s es
 value_now limit ks s es h = (s, skips_none s, h)
 
-abbrev pub at : Where → List OpenKind → State
+abbrev pub at : Where → List OpenKind → JsonState
 at p ks = record { place = p; lists = ks }
 
 -- `[`
@@ -78,12 +79,14 @@ list_onward limit ks s es (n, r, fs, h, room, en, e) =
     let entries = subst (λ x. Entries k.0 x r) (sym (tails 91 91 s h1.0 h1.1)) h1.2 in
     (entries_events k.0 fs, e ∙ ap (λ x. events x fs) k.1, (k.0, r, fs, entries, omega arith, en, refl))
 
-list_back : (limit : ℕ) (ks : List OpenKind) (s : List ℕ) (fs : List NodeEvent) → FirstEntryComes limit (a_list ∷ ks) s fs → ValueComes limit ks (91 ∷ s) (start_list None ∷ fs)
+list_back : (limit : ℕ) (ks : List OpenKind) (s : List ℕ) (fs : List NodeEvent) → FirstEntryComes limit (a_list ∷ ks) s fs
+    → ValueComes limit ks (91 ∷ s) (start_list None ∷ fs)
 list_back limit ks s fs (ns, r, gs, h, room, en, e) =
     value_now limit ks (91 ∷ s) (start_list None ∷ fs)
     (list ns, r, gs, (s, refl, h), omega arith, en, ap (λ x. start_list None ∷ x) e)
 
-pub list_opens : (limit : ℕ) (ks : List OpenKind) → Leads limit (at value ks) (91 ∷ []) (start_list None ∷ []) (at first_entry (a_list ∷ ks))
+pub list_opens : (limit : ℕ) (ks : List OpenKind)
+    → JsonLeads limit (at value ks) (91 ∷ []) (start_list None ∷ []) (at first_entry (a_list ∷ ks))
 list_opens limit ks = record {
   onward = λ s es h. list_onward limit ks s es (value_here limit ks 91 s es refl h);
   back = λ s fs h. list_back limit ks s fs h;
@@ -99,22 +102,24 @@ object_onward limit ks s es (n, r, fs, h, room, en, e) =
     let pairs = subst (λ x. Pairs k.0 x r) (sym (tails 123 123 s h1.0 h1.1)) h1.2 in
     (pairs_events k.0 fs, e ∙ ap (λ x. events x fs) k.1, (k.0, r, fs, pairs, omega arith, en, refl))
 
-object_back : (limit : ℕ) (ks : List OpenKind) (s : List ℕ) (fs : List NodeEvent) → FirstKeyComes limit (an_object ∷ ks) s fs → ValueComes limit ks (123 ∷ s) (start_object None ∷ fs)
+object_back : (limit : ℕ) (ks : List OpenKind) (s : List ℕ) (fs : List NodeEvent) → FirstKeyComes limit (an_object ∷ ks) s fs
+    → ValueComes limit ks (123 ∷ s) (start_object None ∷ fs)
 object_back limit ks s fs (ms, r, gs, h, room, en, e) =
     value_now limit ks (123 ∷ s) (start_object None ∷ fs)
     (object ms, r, gs, (s, refl, h), omega arith, en, ap (λ x. start_object None ∷ x) e)
 
-pub object_opens : (limit : ℕ) (ks : List OpenKind) → Leads limit (at value ks) (123 ∷ []) (start_object None ∷ []) (at first_key (an_object ∷ ks))
+pub object_opens : (limit : ℕ) (ks : List OpenKind)
+    → JsonLeads limit (at value ks) (123 ∷ []) (start_object None ∷ []) (at first_key (an_object ∷ ks))
 object_opens limit ks = record {
   onward = λ s es h. object_onward limit ks s es (value_here limit ks 123 s es refl h);
   back = λ s fs h. object_back limit ks s fs h;
 }
 
 -- a bracket or a brace that opens one level too many
-pub list_too_deep : (limit : ℕ) (ks : List OpenKind) → limit ≤ length ks → Stops limit (at value ks) 91
+pub list_too_deep : (limit : ℕ) (ks : List OpenKind) → limit ≤ length ks → JsonStops limit (at value ks) 91
 list_too_deep limit ks deep s es h =
     let (fs, e, (ns, r, gs, h1, room, en, e1)) = list_onward limit ks s es (value_here limit ks 91 s es refl h) in omega arith
 
-pub object_too_deep : (limit : ℕ) (ks : List OpenKind) → limit ≤ length ks → Stops limit (at value ks) 123
+pub object_too_deep : (limit : ℕ) (ks : List OpenKind) → limit ≤ length ks → JsonStops limit (at value ks) 123
 object_too_deep limit ks deep s es h =
     let (fs, e, (ms, r, gs, h1, room, en, e1)) = object_onward limit ks s es (value_here limit ks 123 s es refl h) in omega arith

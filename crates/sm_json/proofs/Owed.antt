@@ -8,15 +8,15 @@ use Rattle.sm_json.specs.declared.spot.Part.TheVariants.{Escape as BehindBacksla
 use Rattle.sm_json.specs.declared.spot.Spot.{Spot}
 use Rattle.sm_json.specs.declared.spot.Spot.TheVariants.{Plain, Inside}
 use Rattle.sm_json.specs.Strings.{Characters, Character, Escape, CodeUnit}
-use Rattle.sm_json.specs.TextRest.{DigitsRest, PartRest, TextRest}
-use Rattle.sm_json.specs.TextSteps.{IsPartLive, IsLive}
+use Rattle.sm_json.specs.steps.TextRest.{DigitsRest, PartRest, TextRest}
+use Rattle.sm_json.specs.steps.TextSteps.{IsPartLive, IsLive}
 use Rattle.sm_json.proofs.Starts.{heads}
-use Rattle.sm_json.proofs.Utf8Shapes.{IsOne, IsTwo, IsThree, IsFour, shape}
+use Rattle.sm_bytes.proofs.CharacterShapes.{IsOne, IsTwo, IsThree, IsFour, shape}
 
 abbrev Shape : ℕ → Type 0
 Shape c = IsOne c ⊎ (IsTwo c ⊎ (IsThree c ⊎ IsFour c))
 
--- the bytes of a character at the front of a list: it has more, or its first byte tells that it has no more
+-- the bytes of a character that stand first in a list: it has more, or its first byte tells that it has no more
 one_left : (c x : ℕ) (r : List ℕ) → 0xC2 ≤ x → x ∷ [] ≡ encode_utf8 c ++ r → Shape c → ⊥
 one_left c x r big e (inl (small, f)) =
     let e1 = heads x c [] r (e ∙ ap (λ s. s ++ r) f) in omega arith

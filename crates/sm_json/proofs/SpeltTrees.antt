@@ -12,7 +12,8 @@ use Rattle.sm_json.specs.JsonText.{SpellsValue, Entries, MoreEntries, Pairs, Mor
 -- the characters of a string are scalars
 characters_utf8 : (cs s r : List ℕ) → Characters cs s r → IsUtf8 (encode_utf8_all cs)
 characters_utf8 [] s r spelt = IsUtf8-nil
-characters_utf8 (c ∷ cs) s r spelt = IsUtf8-append (encode_utf8 c) (encode_utf8_all cs) (IsUtf8-encode c spelt.1.0) (characters_utf8 cs spelt.0 r spelt.2)
+characters_utf8 (c ∷ cs) s r spelt =
+    IsUtf8-append (encode_utf8 c) (encode_utf8_all cs) (IsUtf8-encode c spelt.1.0) (characters_utf8 cs spelt.0 r spelt.2)
 
 text_utf8 : (t s r : List ℕ) → SpellsText t s r → IsUtf8 t
 text_utf8 t s r (cs, inside, same, opens, spelt) = subst IsUtf8 (sym same) (characters_utf8 cs inside r spelt)

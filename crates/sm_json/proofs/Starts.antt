@@ -1,8 +1,8 @@
--- Which byte a spelling begins with, what may follow a value, and what white space does before a byte.
+-- Which byte a spelling begins with, what may follow a value, and what whitespace does before a byte.
 use Rattle.std.proofs.Common.{◌≡◌, ℕ, ◌<◌, ◌⊎◌, inl, inr, true, false, List, [], ◌∷◌, ◌++◌, refl, sym, ap, subst, ◌∙◌, arith}
 use Rattle.sm_tree.specs.Node.{Node, null, bool, int, number, text, bytes, tag, opaque, list, object}
 use Rattle.sm_tree.specs.Numbers.{IsDigit, IsMinus, IsInt, IsNumber, NumberText}
-use Rattle.sm_json.specs.Strings.{is_white, Skips}
+use Rattle.sm_json.specs.Strings.{is_whitespace, Whitespace}
 use Rattle.sm_json.specs.JsonText.{SpellsNumber, SpellsValue}
 
 -- from two equal lists: their first bytes, and what follows them
@@ -19,19 +19,20 @@ below c d h e = omega arith
 pub above : (c d : ℕ) → d < c → c ≡ d → ⊥
 above c d h e = omega arith
 
--- white space: none, one more, and past a byte that isn't white
-pub skips_none : (s : List ℕ) → Skips s s
+-- whitespace: none, one more, and past a byte that isn't white
+pub skips_none : (s : List ℕ) → Whitespace s s
 skips_none [] = refl
 skips_none (c ∷ s) = inl refl
 
-pub not_white : (c d : ℕ) → is_white d ≡ false → c ≡ d → is_white c ≡ true → ⊥
+pub not_white : (c d : ℕ) → is_whitespace d ≡ false → c ≡ d → is_whitespace c ≡ true → ⊥
 not_white c d f e t = cc
 
-pub skips_past : (c d : ℕ) (s r : List ℕ) → is_white c ≡ true → is_white d ≡ false → Skips (c ∷ s) (d ∷ r) → Skips s (d ∷ r)
+pub skips_past : (c d : ℕ) (s r : List ℕ) → is_whitespace c ≡ true → is_whitespace d ≡ false → Whitespace (c ∷ s) (d ∷ r)
+    → Whitespace s (d ∷ r)
 skips_past c d s r w f (inl e) = absurd (not_white c d f (sym (heads d c r s e)) w)
 skips_past c d s r w f (inr h) = h.1
 
-pub skips_here : (c : ℕ) (s r : List ℕ) → is_white c ≡ false → Skips (c ∷ s) r → r ≡ c ∷ s
+pub skips_here : (c : ℕ) (s r : List ℕ) → is_whitespace c ≡ false → Whitespace (c ∷ s) r → r ≡ c ∷ s
 skips_here c s r f (inl e) = e
 skips_here c s r f (inr h) = absurd (not_white c c f refl h.0)
 

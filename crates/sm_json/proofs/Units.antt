@@ -5,10 +5,10 @@ use Rattle.sm_json.specs.declared.spot.Digits.{Digits}
 use Rattle.sm_json.specs.declared.spot.Digits.TheVariants.{First, Second, Third, Fourth}
 use Rattle.sm_json.specs.declared.spot.Part.TheVariants.{LowBackslash}
 use Rattle.sm_json.specs.declared.spot.Step.TheVariants.{Within, Whole, Refused}
-use Rattle.sm_tree.specs.Escapes.{hex_value, IsHigh}
+use Rattle.sm_bytes.specs.Escapes.{hex_value, IsHigh}
 use Rattle.sm_json.specs.Strings.{HexDigits, LowHalf}
-use Rattle.sm_json.specs.TextRest.{DigitsRest, UnitRest}
-use Rattle.sm_json.specs.TextSteps.{UnitEnd, StepsTo}
+use Rattle.sm_json.specs.steps.TextRest.{DigitsRest, UnitRest}
+use Rattle.sm_json.specs.steps.TextSteps.{UnitEnd, StepsTo}
 use Rattle.std.proofs.lemmas.Bool.Decides.{nat_tests}
 use lib.Utf8.{scalar_cases}
 
@@ -75,7 +75,8 @@ unit_ends old x u same c s r = (
   λ h. elim h [ inl y ↦ inl ((same c s r).1 y) | inr y ↦ inr (u, s, (same u s s).1 (refl, refl), y.0, y.1) ],
 )
 
-pub unit_refused : (old : Digits) (x : ℕ) → ((v : ℕ) (s r : List ℕ) → DigitsRest old v (x ∷ s) r → ⊥) → (c : ℕ) (s r : List ℕ) → UnitRest old c (x ∷ s) r → ⊥
+pub unit_refused : (old : Digits) (x : ℕ) → ((v : ℕ) (s r : List ℕ) → DigitsRest old v (x ∷ s) r → ⊥) → (c : ℕ) (s r : List ℕ)
+    → UnitRest old c (x ∷ s) r → ⊥
 unit_refused old x none c s r h = elim h [ inl y ↦ none c s r y | inr y ↦ none y.0 s y.1 y.2 ]
 
 -- two digits of a low surrogate begin no character
@@ -85,10 +86,12 @@ low_first_refused n c s r low high k (inr y) = let range = digits_range_2 n y.0 
 
 -- a whole unit
 pub end_high : (u : ℕ) → IsHigh u → StepsTo (UnitEnd u) (Within (LowBackslash u))
-end_high u high = (high, λ c s r k. (λ h. elim h [ inl y ↦ absurd (no_surrogate c k (omega arith) (omega arith)) | inr y ↦ y.1 ], λ h. inr (high, h)))
+end_high u high =
+    (high, λ c s r k. (λ h. elim h [ inl y ↦ absurd (no_surrogate c k (omega arith) (omega arith)) | inr y ↦ y.1 ], λ h. inr (high, h)))
 
 pub end_scalar : (u : ℕ) → IsScalar u → StepsTo (UnitEnd u) (Whole u)
-end_scalar u scalar = (scalar, λ c s r k. (λ h. elim h [ inl y ↦ y | inr y ↦ absurd (no_surrogate u scalar (omega arith) (omega arith)) ], λ h. inl h))
+end_scalar u scalar =
+    (scalar, λ c s r k. (λ h. elim h [ inl y ↦ y | inr y ↦ absurd (no_surrogate u scalar (omega arith) (omega arith)) ], λ h. inl h))
 
 pub end_refused : (u : ℕ) → (IsHigh u → ⊥) → (IsScalar u → ⊥) → StepsTo (UnitEnd u) Refused
 end_refused u not_high no_scalar = λ c s r k h. elim h [ inl y ↦ no_scalar (subst IsScalar y.0 k) | inr y ↦ not_high y.0 ]
@@ -96,8 +99,11 @@ end_refused u not_high no_scalar = λ c s r k h. elim h [ inl y ↦ no_scalar (s
 -- each digit in its place
 pub first_digit : (x d : ℕ) → hex_value x ≡ Some d → SameRest First x (Second d)
 first_digit x d e v s r =
-    let same : 0 * 16 + d ≡ d = omega arith in
-    (λ h. subst (λ n. HexDigits 3 n v s r) same ((digit_taken 3 0 v x d s r e).0 h), λ h. (digit_taken 3 0 v x d s r e).1 (subst (λ n. HexDigits 3 n v s r) (sym same) h))
+    let same : 0 * 16 + d ≡ d = omega arith in (
+      λ h. subst (λ n. HexDigits 3 n v s r) same ((digit_taken 3 0 v x d s r e).0 h),
+      λ h. (digit_taken 3 0 v x d s r e).1
+          (subst (λ n. HexDigits 3 n v s r) (sym same) h),
+    )
 
 pub second_digit : (n x d : ℕ) → hex_value x ≡ Some d → SameRest (Second n) x (Third (n * 16 + d))
 second_digit n x d e v s r = digit_taken 2 n v x d s r e

@@ -8,20 +8,24 @@ use Rattle.sm_json.specs.declared.spot.Spot.TheVariants.{Plain}
 use Rattle.sm_json.specs.declared.spot.Step.{Step}
 use Rattle.sm_json.specs.declared.spot.Step.TheVariants.{Within, Whole, Closed, Refused}
 use Rattle.sm_json.specs.Strings.{IsUnescaped, Escape, Character, Characters}
-use Rattle.sm_tree.specs.Utf8.{IsTail, IsSecond}
-use Rattle.sm_json.specs.TextRest.{PartRest}
-use Rattle.sm_json.specs.TextSteps.{CodeEnd, StepsTo, PartSteps, Steps}
-use Rattle.sm_json.proofs.Steps.{steps_along, CharacterRest, begun}
-use Rattle.sm_json.proofs.Utf8Bytes.{low_three, low_four, two_encode, three_encode, four_encode}
-use Rattle.sm_json.proofs.Utf8Shapes.{IsOne, IsTwo, IsThree, IsFour, shape}
+use Rattle.sm_bytes.specs.Utf8.{IsTail, IsSecond}
+use Rattle.sm_json.specs.steps.TextRest.{PartRest}
+use Rattle.sm_json.specs.steps.TextSteps.{CodeEnd, StepsTo, PartSteps, StringSteps}
+use Rattle.sm_json.proofs.Steps.{steps_along, BegunRest, begun}
+use Rattle.sm_bytes.proofs.CharacterBytes.{low_three, low_four, two_encode, three_encode, four_encode}
+use Rattle.sm_bytes.proofs.CharacterShapes.{IsOne, IsTwo, IsThree, IsFour, shape}
 use lib.Utf8.{encode, low_scalar}
 
 -- the first byte of a character
-lead_of : (c x : ℕ) (s r : List ℕ) → IsOne c ⊎ (IsTwo c ⊎ (IsThree c ⊎ IsFour c)) → x ∷ s ≡ encode c ++ r → ((x < 128) × (c ≡ x)) ⊎ ((194 ≤ x) × (x < 245))
+lead_of : (c x : ℕ) (s r : List ℕ) → IsOne c ⊎ (IsTwo c ⊎ (IsThree c ⊎ IsFour c)) → x ∷ s ≡ encode c ++ r
+    → ((x < 128) × (c ≡ x)) ⊎ ((194 ≤ x) × (x < 245))
 lead_of c x s r (inl h) e = let f : x ∷ s ≡ c ∷ r = e ∙ ap (λ l. l ++ r) h.1 in let g : x ≡ c = cc in inl (omega arith, sym g)
-lead_of c x s r (inr (inl h)) e = let f : x ∷ s ≡ h.0 ∷ (h.1 ∷ r) = e ∙ ap (λ l. l ++ r) h.5 in let g : x ≡ h.0 = cc in inr (omega arith, omega arith)
-lead_of c x s r (inr (inr (inl h))) e = let f : x ∷ s ≡ h.0 ∷ (h.1 ∷ (h.2 ∷ r)) = e ∙ ap (λ l. l ++ r) h.7 in let g : x ≡ h.0 = cc in inr (omega arith, omega arith)
-lead_of c x s r (inr (inr (inr h))) e = let f : x ∷ s ≡ h.0 ∷ (h.1 ∷ (h.2 ∷ (h.3 ∷ r))) = e ∙ ap (λ l. l ++ r) h.9 in let g : x ≡ h.0 = cc in inr (omega arith, omega arith)
+lead_of c x s r (inr (inl h)) e = let f : x ∷ s ≡ h.0 ∷ (h.1 ∷ r) = e
+    ∙ ap (λ l. l ++ r) h.5 in let g : x ≡ h.0 = cc in inr (omega arith, omega arith)
+lead_of c x s r (inr (inr (inl h))) e = let f : x ∷ s ≡ h.0 ∷ (h.1 ∷ (h.2 ∷ r)) = e
+    ∙ ap (λ l. l ++ r) h.7 in let g : x ≡ h.0 = cc in inr (omega arith, omega arith)
+lead_of c x s r (inr (inr (inr h))) e = let f : x ∷ s ≡ h.0 ∷ (h.1 ∷ (h.2 ∷ (h.3 ∷ r))) = e
+    ∙ ap (λ l. l ++ r) h.9 in let g : x ≡ h.0 = cc in inr (omega arith, omega arith)
 
 pub lead : (c x : ℕ) (s r : List ℕ) → IsScalar c → x ∷ s ≡ encode c ++ r → ((x < 128) × (c ≡ x)) ⊎ ((194 ≤ x) × (x < 245))
 lead c x s r k e = lead_of c x s r (shape c k) e
@@ -35,23 +39,36 @@ second_along x y u v e f h = subst (λ n. IsSecond n y) (sym e) (subst (λ n. Is
 
 second_of : (c x y : ℕ) (s r : List ℕ) → IsOne c ⊎ (IsTwo c ⊎ (IsThree c ⊎ IsFour c)) → 128 ≤ x → x ∷ (y ∷ s) ≡ encode c ++ r → IsSecond x y
 second_of c x y s r (inl h) a e = let f : x ∷ (y ∷ s) ≡ c ∷ r = e ∙ ap (λ l. l ++ r) h.1 in let g : x ≡ c = cc in absurd (omega arith)
-second_of c x y s r (inr (inl h)) a e = let f : x ∷ (y ∷ s) ≡ h.0 ∷ (h.1 ∷ r) = e ∙ ap (λ l. l ++ r) h.5 in second_along x y h.0 h.1 (cc) (cc) (tail_second h.0 h.1 h.2 h.3 h.4)
-second_of c x y s r (inr (inr (inl h))) a e = let f : x ∷ (y ∷ s) ≡ h.0 ∷ (h.1 ∷ (h.2 ∷ r)) = e ∙ ap (λ l. l ++ r) h.7 in second_along x y h.0 h.1 (cc) (cc) h.5
-second_of c x y s r (inr (inr (inr h))) a e = let f : x ∷ (y ∷ s) ≡ h.0 ∷ (h.1 ∷ (h.2 ∷ (h.3 ∷ r))) = e ∙ ap (λ l. l ++ r) h.9 in second_along x y h.0 h.1 (cc) (cc) h.6
+second_of c x y s r (inr (inl h)) a e = let f : x ∷ (y ∷ s) ≡ h.0 ∷ (h.1 ∷ r) = e
+    ∙ ap (λ l. l ++ r) h.5 in second_along x y h.0 h.1 (cc) (cc) (tail_second h.0 h.1 h.2 h.3 h.4)
+second_of c x y s r (inr (inr (inl h))) a e = let f : x ∷ (y ∷ s) ≡ h.0 ∷ (h.1 ∷ (h.2 ∷ r)) = e
+    ∙ ap (λ l. l ++ r) h.7 in second_along x y h.0 h.1 (cc) (cc) h.5
+second_of c x y s r (inr (inr (inr h))) a e = let f : x ∷ (y ∷ s) ≡ h.0 ∷ (h.1 ∷ (h.2 ∷ (h.3 ∷ r))) = e
+    ∙ ap (λ l. l ++ r) h.9 in second_along x y h.0 h.1 (cc) (cc) h.6
 
 -- the third
-third_of : (c x y z : ℕ) (s r : List ℕ) → IsOne c ⊎ (IsTwo c ⊎ (IsThree c ⊎ IsFour c)) → 224 ≤ x → x ∷ (y ∷ (z ∷ s)) ≡ encode c ++ r → IsTail z
-third_of c x y z s r (inl h) a e = let f : x ∷ (y ∷ (z ∷ s)) ≡ c ∷ r = e ∙ ap (λ l. l ++ r) h.1 in let g : x ≡ c = cc in absurd (omega arith)
-third_of c x y z s r (inr (inl h)) a e = let f : x ∷ (y ∷ (z ∷ s)) ≡ h.0 ∷ (h.1 ∷ r) = e ∙ ap (λ l. l ++ r) h.5 in let g : x ≡ h.0 = cc in absurd (omega arith)
-third_of c x y z s r (inr (inr (inl h))) a e = let f : x ∷ (y ∷ (z ∷ s)) ≡ h.0 ∷ (h.1 ∷ (h.2 ∷ r)) = e ∙ ap (λ l. l ++ r) h.7 in let g : z ≡ h.2 = cc in subst IsTail (sym g) h.6
-third_of c x y z s r (inr (inr (inr h))) a e = let f : x ∷ (y ∷ (z ∷ s)) ≡ h.0 ∷ (h.1 ∷ (h.2 ∷ (h.3 ∷ r))) = e ∙ ap (λ l. l ++ r) h.9 in let g : z ≡ h.2 = cc in subst IsTail (sym g) h.7
+third_of : (c x y z : ℕ) (s r : List ℕ) → IsOne c ⊎ (IsTwo c ⊎ (IsThree c ⊎ IsFour c)) → 224 ≤ x → x ∷ (y ∷ (z ∷ s)) ≡ encode c ++ r
+    → IsTail z
+third_of c x y z s r (inl h) a e = let f : x ∷ (y ∷ (z ∷ s)) ≡ c ∷ r = e
+    ∙ ap (λ l. l ++ r) h.1 in let g : x ≡ c = cc in absurd (omega arith)
+third_of c x y z s r (inr (inl h)) a e = let f : x ∷ (y ∷ (z ∷ s)) ≡ h.0 ∷ (h.1 ∷ r) = e
+    ∙ ap (λ l. l ++ r) h.5 in let g : x ≡ h.0 = cc in absurd (omega arith)
+third_of c x y z s r (inr (inr (inl h))) a e = let f : x ∷ (y ∷ (z ∷ s)) ≡ h.0 ∷ (h.1 ∷ (h.2 ∷ r)) = e
+    ∙ ap (λ l. l ++ r) h.7 in let g : z ≡ h.2 = cc in subst IsTail (sym g) h.6
+third_of c x y z s r (inr (inr (inr h))) a e = let f : x ∷ (y ∷ (z ∷ s)) ≡ h.0 ∷ (h.1 ∷ (h.2 ∷ (h.3 ∷ r))) = e
+    ∙ ap (λ l. l ++ r) h.9 in let g : z ≡ h.2 = cc in subst IsTail (sym g) h.7
 
 -- the fourth
-fourth_of : (c x y z w : ℕ) (s r : List ℕ) → IsOne c ⊎ (IsTwo c ⊎ (IsThree c ⊎ IsFour c)) → 240 ≤ x → x ∷ (y ∷ (z ∷ (w ∷ s))) ≡ encode c ++ r → IsTail w
-fourth_of c x y z w s r (inl h) a e = let f : x ∷ (y ∷ (z ∷ (w ∷ s))) ≡ c ∷ r = e ∙ ap (λ l. l ++ r) h.1 in let g : x ≡ c = cc in absurd (omega arith)
-fourth_of c x y z w s r (inr (inl h)) a e = let f : x ∷ (y ∷ (z ∷ (w ∷ s))) ≡ h.0 ∷ (h.1 ∷ r) = e ∙ ap (λ l. l ++ r) h.5 in let g : x ≡ h.0 = cc in absurd (omega arith)
-fourth_of c x y z w s r (inr (inr (inl h))) a e = let f : x ∷ (y ∷ (z ∷ (w ∷ s))) ≡ h.0 ∷ (h.1 ∷ (h.2 ∷ r)) = e ∙ ap (λ l. l ++ r) h.7 in let g : x ≡ h.0 = cc in absurd (omega arith)
-fourth_of c x y z w s r (inr (inr (inr h))) a e = let f : x ∷ (y ∷ (z ∷ (w ∷ s))) ≡ h.0 ∷ (h.1 ∷ (h.2 ∷ (h.3 ∷ r))) = e ∙ ap (λ l. l ++ r) h.9 in let g : w ≡ h.3 = cc in subst IsTail (sym g) h.8
+fourth_of : (c x y z w : ℕ) (s r : List ℕ) → IsOne c ⊎ (IsTwo c ⊎ (IsThree c ⊎ IsFour c)) → 240 ≤ x
+    → x ∷ (y ∷ (z ∷ (w ∷ s))) ≡ encode c ++ r → IsTail w
+fourth_of c x y z w s r (inl h) a e = let f : x ∷ (y ∷ (z ∷ (w ∷ s))) ≡ c ∷ r = e
+    ∙ ap (λ l. l ++ r) h.1 in let g : x ≡ c = cc in absurd (omega arith)
+fourth_of c x y z w s r (inr (inl h)) a e = let f : x ∷ (y ∷ (z ∷ (w ∷ s))) ≡ h.0 ∷ (h.1 ∷ r) = e
+    ∙ ap (λ l. l ++ r) h.5 in let g : x ≡ h.0 = cc in absurd (omega arith)
+fourth_of c x y z w s r (inr (inr (inl h))) a e = let f : x ∷ (y ∷ (z ∷ (w ∷ s))) ≡ h.0 ∷ (h.1 ∷ (h.2 ∷ r)) = e
+    ∙ ap (λ l. l ++ r) h.7 in let g : x ≡ h.0 = cc in absurd (omega arith)
+fourth_of c x y z w s r (inr (inr (inr h))) a e = let f : x ∷ (y ∷ (z ∷ (w ∷ s))) ≡ h.0 ∷ (h.1 ∷ (h.2 ∷ (h.3 ∷ r))) = e
+    ∙ ap (λ l. l ++ r) h.9 in let g : w ≡ h.3 = cc in subst IsTail (sym g) h.8
 
 -- a whole sequence is one character
 same_there : (c d : ℕ) (p s r : List ℕ) → encode d ≡ p → p ++ s ≡ encode c ++ r → (c ≡ d) × (s ≡ r)
@@ -63,7 +80,8 @@ same_back c d p s r e f g = ap (λ l. l ++ s) (sym e ∙ ap encode (sym f)) ∙ 
 pub unescaped_high : (c : ℕ) → 128 ≤ c → IsUnescaped c
 unescaped_high c h = (omega arith, λ e. omega arith, λ e. omega arith)
 
-pub sequence_ends : (d : ℕ) (p : List ℕ) → encode d ≡ p → 128 ≤ d → (c : ℕ) (s r : List ℕ) → IsScalar c → (IsUnescaped c × (p ++ s ≡ encode c ++ r)) ↔ CodeEnd d c s r
+pub sequence_ends : (d : ℕ) (p : List ℕ) → encode d ≡ p → 128 ≤ d → (c : ℕ) (s r : List ℕ) → IsScalar c
+    → (IsUnescaped c × (p ++ s ≡ encode c ++ r)) ↔ CodeEnd d c s r
 sequence_ends d p e high c s r k = (
   λ h. same_there c d p s r e h.1,
   λ h. (subst IsUnescaped (sym h.0) (unescaped_high d high), same_back c d p s r e h.0 h.1),
@@ -79,7 +97,8 @@ one_refused x y a none c s r k h = none (second_of c x y s r (shape c k) a h.1)
 pub second_tail : (x y : ℕ) → IsSecond x y → IsTail y
 second_tail x y h = grind (arith, nat_tests)
 
-pub one_whole : (x y : ℕ) (step : Step) → 194 ≤ x → x < 224 → IsSecond x y → StepsTo (CodeEnd ((x - 192) * 64 + (y - 128))) step → PartSteps (One x) y step
+pub one_whole : (x y : ℕ) (step : Step) → 194 ≤ x → x < 224 → IsSecond x y → StepsTo (CodeEnd ((x - 192) * 64 + (y - 128))) step
+    → PartSteps (One x) y step
 one_whole x y step a b h to =
     let tail = second_tail x y h in
     steps_along (λ c s r. PartRest (One x) c (y ∷ s) r) (CodeEnd ((x - 192) * 64 + (y - 128))) step
@@ -92,21 +111,26 @@ two_goes x y z a b h t = ((a, b, h, t), λ c s r k. (λ p. p, λ p. p))
 pub two_refused : (x y z : ℕ) → 224 ≤ x → (IsTail z → ⊥) → PartSteps (Two x y) z Refused
 two_refused x y z a none c s r k h = none (third_of c x y z s r (shape c k) a h.1)
 
-pub two_whole : (x y z : ℕ) (step : Step) → 224 ≤ x → x < 240 → IsSecond x y → IsTail z → StepsTo (CodeEnd (((x - 224) * 64 + (y - 128)) * 64 + (z - 128))) step → PartSteps (Two x y) z step
+pub two_whole : (x y z : ℕ) (step : Step) → 224 ≤ x → x < 240 → IsSecond x y → IsTail z
+    → StepsTo (CodeEnd (((x - 224) * 64 + (y - 128)) * 64 + (z - 128))) step → PartSteps (Two x y) z step
 two_whole x y z step a b h t to =
     let low = low_three x y a h in
     steps_along (λ c s r. PartRest (Two x y) c (z ∷ s) r) (CodeEnd (((x - 224) * 64 + (y - 128)) * 64 + (z - 128))) step
-    (λ c s r k. sequence_ends (((x - 224) * 64 + (y - 128)) * 64 + (z - 128)) (x ∷ y ∷ z ∷ []) (three_encode x y z a b h t) (omega arith) c s r k) to
+    (λ c s r k. sequence_ends (((x - 224) * 64 + (y - 128)) * 64 + (z - 128)) (x ∷ y ∷ z ∷ []) (three_encode x y z a b h t) (omega arith) c
+    s r k) to
 
 -- behind three bytes
 pub three_refused : (x y z w : ℕ) → 240 ≤ x → (IsTail w → ⊥) → PartSteps (Three x y z) w Refused
 three_refused x y z w a none c s r k h = none (fourth_of c x y z w s r (shape c k) a h.1)
 
-pub three_whole : (x y z w : ℕ) (step : Step) → 240 ≤ x → x < 245 → IsSecond x y → IsTail z → IsTail w → StepsTo (CodeEnd ((((x - 240) * 64 + (y - 128)) * 64 + (z - 128)) * 64 + (w - 128))) step → PartSteps (Three x y z) w step
+pub three_whole : (x y z w : ℕ) (step : Step) → 240 ≤ x → x < 245 → IsSecond x y → IsTail z → IsTail w
+    → StepsTo (CodeEnd ((((x - 240) * 64 + (y - 128)) * 64 + (z - 128)) * 64 + (w - 128))) step → PartSteps (Three x y z) w step
 three_whole x y z w step a b h t u to =
     let low = low_four x y a h in
-    steps_along (λ c s r. PartRest (Three x y z) c (w ∷ s) r) (CodeEnd ((((x - 240) * 64 + (y - 128)) * 64 + (z - 128)) * 64 + (w - 128))) step
-    (λ c s r k. sequence_ends ((((x - 240) * 64 + (y - 128)) * 64 + (z - 128)) * 64 + (w - 128)) (x ∷ y ∷ z ∷ w ∷ []) (four_encode x y z w a b h t u) (omega arith) c s r k) to
+    steps_along (λ c s r. PartRest (Three x y z) c (w ∷ s) r) (CodeEnd ((((x - 240) * 64 + (y - 128)) * 64 + (z - 128)) * 64 + (w - 128)))
+    step
+    (λ c s r k. sequence_ends ((((x - 240) * 64 + (y - 128)) * 64 + (z - 128)) * 64 + (w - 128)) (x ∷ y ∷ z ∷ w ∷ [])
+    (four_encode x y z w a b h t u) (omega arith) c s r k) to
 
 -- between two characters: a character of one byte
 ascii_unescaped : (x : ℕ) → 32 ≤ x → x ≢ 34 → x ≢ 92 → IsUnescaped x
@@ -116,7 +140,7 @@ one_encode : (x : ℕ) → x < 128 → encode x ≡ x ∷ []
 unfolding encode
 one_encode x h = grind (arith, nat_tests)
 
-pub ascii_whole : (x : ℕ) → 32 ≤ x → x < 128 → x ≢ 34 → x ≢ 92 → Steps Plain x (Whole x)
+pub ascii_whole : (x : ℕ) → 32 ≤ x → x < 128 → x ≢ 34 → x ≢ 92 → StringSteps Plain x (Whole x)
 ascii_whole x a b q w = begun x (Whole x) q (
   low_scalar x (omega arith),
   λ c s r k. (
@@ -126,15 +150,15 @@ ascii_whole x a b q w = begun x (Whole x) q (
 )
 
 -- a backslash
-backslash_there : (c : ℕ) (s r : List ℕ) → IsScalar c → CharacterRest 92 c s r → Escape c s r
+backslash_there : (c : ℕ) (s r : List ℕ) → IsScalar c → BegunRest 92 c s r → Escape c s r
 backslash_there c s r k (inl h) = elim (lead c 92 s r k h.1) [ inl y ↦ absurd (h.0.2 y.1) | inr y ↦ absurd (omega arith) ]
 backslash_there c s r k (inr h) = subst (λ l. Escape c l r) (let g : h.0 ≡ s = (let e = h.1 in cc) in g) h.2
 
-pub backslash_taken : Steps Plain 92 (Within BehindBackslash)
+pub backslash_taken : StringSteps Plain 92 (Within BehindBackslash)
 backslash_taken = begun 92 (Within BehindBackslash) (λ e. omega arith) (tt, λ c s r k. (backslash_there c s r k, λ h. inr (s, refl, h)))
 
 -- the first byte of a longer one
-pub lead_taken : (x : ℕ) → 194 ≤ x → x < 245 → Steps Plain x (Within (One x))
+pub lead_taken : (x : ℕ) → 194 ≤ x → x < 245 → StringSteps Plain x (Within (One x))
 lead_taken x a b = begun x (Within (One x)) (λ e. omega arith) (
   (a, b),
   λ c s r k. (
@@ -144,7 +168,7 @@ lead_taken x a b = begun x (Within (One x)) (λ e. omega arith) (
 )
 
 -- no character begins so
-pub plain_refused : (x : ℕ) → x ≢ 34 → x ≢ 92 → (32 ≤ x → x < 128 → ⊥) → (194 ≤ x → x < 245 → ⊥) → Steps Plain x Refused
+pub plain_refused : (x : ℕ) → x ≢ 34 → x ≢ 92 → (32 ≤ x → x < 128 → ⊥) → (194 ≤ x → x < 245 → ⊥) → StringSteps Plain x Refused
 plain_refused x q w no_ascii no_lead = begun x Refused q (λ c s r k h. elim h [
   | inl y ↦ elim (lead c x s r k y.1) [ inl z ↦ no_ascii (let a = y.0.0 in let b = z.1 in omega arith) z.0 | inr z ↦ no_lead z.0 z.1 ]
   | inr y ↦ w (let e = y.1 in cc)
@@ -162,5 +186,5 @@ quote_there : (b s t r cs : List ℕ) → t ≡ b ++ encode_utf8_all cs → Char
 quote_there b s t r [] e h = (e ∙ append-nil b, cc)
 quote_there b s t r (c ∷ cs) e h = absurd (no_quote c s h.0 h.1)
 
-pub quote_closes : Steps Plain 34 Closed
+pub quote_closes : StringSteps Plain 34 Closed
 quote_closes = λ b s t r. (λ h. quote_there b s t r h.0 h.1 h.2, λ h. ([], h.0 ∙ sym (append-nil b), ap (λ l. 34 ∷ l) h.1))

@@ -1,90 +1,100 @@
--- White space changes nothing where a token may come: the laws of `Leads` for a white byte.
-use Rattle.std.proofs.Common.{◌≡◌, ℕ, ◌+◌, ◌<◌, inl, inr, true, false, List, [], ◌∷◌, ◌++◌, refl, sym, subst, ◌∙◌, arith, length, take, get_or}
+-- Whitespace changes nothing where a token may come: the laws of `JsonLeads` for a white byte.
+use Rattle.std.proofs.Common.{◌≡◌, ℕ, inl, inr, true, false, List, [], ◌∷◌, ◌++◌, refl, sym, subst, ◌∙◌, arith, take}
 use Rattle.std.proofs.lemmas.Bool.Decides.{nat_tests}
 use Rattle.sm_tree.specs.Node.{Node, Nodes, Members, null, bool, int, number, text, bytes, tag, opaque, list, object, no_nodes, node, no_members, member}
 use Rattle.sm_tree.specs.Events.{NodeEvent}
 use Rattle.sm_tree.specs.declared.build.OpenKind.{OpenKind}
 use Rattle.sm_tree.specs.declared.build.OpenKind.TheVariants.{List as a_list, Object as an_object}
-use Rattle.sm_json.specs.Strings.{is_white, Skips, SpellsText}
+use Rattle.sm_json.specs.Strings.{is_whitespace, Whitespace, SpellsText}
 use Rattle.sm_json.specs.JsonText.{SpellsValue, Entries, MoreEntries, Pairs, MorePairs}
-use Rattle.sm_json.specs.Rest.{Where, value, first_entry, first_key, next_key, colon, after, word, numeral, in_text, State, Ends, ValueComes, ColonComes, KeyComes, FirstEntryComes, FirstKeyComes, RestAt, Leads}
-use Rattle.std.proofs.lemmas.List.{take_more}
-use Rattle.sm_json.specs.Machine.{AllWhite, TakesWhite}
+use Rattle.sm_json.specs.steps.Rest.{Where, value, first_entry, first_key, next_key, colon, after, word, numeral, in_text, JsonState, JsonEnds, ValueComes, ColonComes, NameComes, FirstEntryComes, FirstKeyComes, JsonRestAt, JsonLeads}
+use Rattle.std.specs.List.{prefix_len}
+use Rattle.sm_bytes.proofs.Runs.{of_run}
+use Rattle.sm_json.specs.steps.Machine.{AllWhitespace, TakesWhitespace}
 use Rattle.sm_json.proofs.Starts.{skips_past, StartsNumber, FirstByte, spells_start}
 
-number_not_white : (c : ℕ) → StartsNumber c → is_white c ≡ false
+number_not_white : (c : ℕ) → StartsNumber c → is_whitespace c ≡ false
 number_not_white c (inl (low, high)) = grind (arith, nat_tests)
-number_not_white c (inr e) = subst (λ x. is_white x ≡ false) (sym e) refl
+number_not_white c (inr e) = subst (λ x. is_whitespace x ≡ false) (sym e) refl
 
-pub first_not_white : (n : Node) (c : ℕ) → FirstByte n c → is_white c ≡ false
-first_not_white null c e = subst (λ x. is_white x ≡ false) (sym e) refl
-first_not_white (bool true) c e = subst (λ x. is_white x ≡ false) (sym e) refl
-first_not_white (bool false) c e = subst (λ x. is_white x ≡ false) (sym e) refl
+pub first_not_white : (n : Node) (c : ℕ) → FirstByte n c → is_whitespace c ≡ false
+first_not_white null c e = subst (λ x. is_whitespace x ≡ false) (sym e) refl
+first_not_white (bool true) c e = subst (λ x. is_whitespace x ≡ false) (sym e) refl
+first_not_white (bool false) c e = subst (λ x. is_whitespace x ≡ false) (sym e) refl
 first_not_white (int z) c h = number_not_white c h
 first_not_white (number t) c h = number_not_white c h
-first_not_white (text t) c e = subst (λ x. is_white x ≡ false) (sym e) refl
+first_not_white (text t) c e = subst (λ x. is_whitespace x ≡ false) (sym e) refl
 first_not_white (bytes t) c h = absurd h
 first_not_white (tag k n) c h = absurd h
 first_not_white (opaque b) c h = absurd h
-first_not_white (list ns) c e = subst (λ x. is_white x ≡ false) (sym e) refl
-first_not_white (object ms) c e = subst (λ x. is_white x ≡ false) (sym e) refl
+first_not_white (list ns) c e = subst (λ x. is_whitespace x ≡ false) (sym e) refl
+first_not_white (object ms) c e = subst (λ x. is_whitespace x ≡ false) (sym e) refl
 
--- white space before a list that begins with a byte that isn't white
-skips_over : (c d : ℕ) (s t u : List ℕ) → is_white c ≡ true → t ≡ d ∷ u → is_white d ≡ false → Skips (c ∷ s) t → Skips s t
-skips_over c d s t u w e f k = subst (Skips s) (sym e) (skips_past c d s u w f (subst (Skips (c ∷ s)) e k))
+-- whitespace before a list that begins with a byte that isn't white
+skips_over : (c d : ℕ) (s t u : List ℕ) → is_whitespace c ≡ true → t ≡ d ∷ u → is_whitespace d ≡ false → Whitespace (c ∷ s) t
+    → Whitespace s t
+skips_over c d s t u w e f k = subst (Whitespace s) (sym e) (skips_past c d s u w f (subst (Whitespace (c ∷ s)) e k))
 
-skips_value : (n : Node) (c : ℕ) (s t r : List ℕ) → is_white c ≡ true → SpellsValue n t r → Skips (c ∷ s) t → Skips s t
+skips_value : (n : Node) (c : ℕ) (s t r : List ℕ) → is_whitespace c ≡ true → SpellsValue n t r → Whitespace (c ∷ s) t → Whitespace s t
 skips_value n c s t r w h k =
     let o = spells_start n t r h in skips_over c o.0 s t o.1 w o.2 (first_not_white n o.0 o.3) k
 
-skips_text : (k : List ℕ) (c : ℕ) (s t r : List ℕ) → is_white c ≡ true → SpellsText k t r → Skips (c ∷ s) t → Skips s t
+skips_text : (k : List ℕ) (c : ℕ) (s t r : List ℕ) → is_whitespace c ≡ true → SpellsText k t r → Whitespace (c ∷ s) t → Whitespace s t
 skips_text k c s t r w (cs, u, e, o, h) g = skips_over c 34 s t u w o refl g
 
-white_value : (limit : ℕ) (ks : List OpenKind) (c : ℕ) (s : List ℕ) (es : List NodeEvent) → is_white c ≡ true → ValueComes limit ks (c ∷ s) es → ValueComes limit ks s es
+white_value : (limit : ℕ) (ks : List OpenKind) (c : ℕ) (s : List ℕ) (es : List NodeEvent) → is_whitespace c ≡ true
+    → ValueComes limit ks (c ∷ s) es → ValueComes limit ks s es
 white_value limit ks c s es w (t, k, (n, r, fs, h, room, en, e)) = (t, skips_value n c s t r w h k, (n, r, fs, h, room, en, e))
 
-white_colon : (limit : ℕ) (ks : List OpenKind) (c : ℕ) (s : List ℕ) (es : List NodeEvent) → is_white c ≡ true → ColonComes limit ks (c ∷ s) es → ColonComes limit ks s es
+white_colon : (limit : ℕ) (ks : List OpenKind) (c : ℕ) (s : List ℕ) (es : List NodeEvent) → is_whitespace c ≡ true
+    → ColonComes limit ks (c ∷ s) es → ColonComes limit ks s es
 white_colon limit ks c s es w (t, k, h) = (t, skips_past c 58 s t w refl k, h)
 
-white_key : (limit : ℕ) (ks : List OpenKind) (c : ℕ) (s : List ℕ) (es : List NodeEvent) → is_white c ≡ true → KeyComes limit ks (c ∷ s) es → KeyComes limit ks s es
+white_key : (limit : ℕ) (ks : List OpenKind) (c : ℕ) (s : List ℕ) (es : List NodeEvent) → is_whitespace c ≡ true
+    → NameComes limit ks (c ∷ s) es → NameComes limit ks s es
 white_key limit ks c s es w (t, k, (name, r, fs, h, v, e)) = (t, skips_text name c s t r w h k, (name, r, fs, h, v, e))
 
-white_entries : (ns : Nodes) (c : ℕ) (s r : List ℕ) → is_white c ≡ true → Entries ns (c ∷ s) r → Entries ns s r
+white_entries : (ns : Nodes) (c : ℕ) (s r : List ℕ) → is_whitespace c ≡ true → Entries ns (c ∷ s) r → Entries ns s r
 white_entries no_nodes c s r w k = skips_past c 93 s r w refl k
 white_entries (node n ns) c s r w (s1, s2, k, h, m) = (s1, s2, skips_value n c s s1 s2 w h k, h, m)
 
-white_more : (ns : Nodes) (c : ℕ) (s r : List ℕ) → is_white c ≡ true → MoreEntries ns (c ∷ s) r → MoreEntries ns s r
+white_more : (ns : Nodes) (c : ℕ) (s r : List ℕ) → is_whitespace c ≡ true → MoreEntries ns (c ∷ s) r → MoreEntries ns s r
 white_more no_nodes c s r w k = skips_past c 93 s r w refl k
 white_more (node n ns) c s r w (s1, s2, (x, k, k1), h, m) = (s1, s2, (x, skips_past c 44 s x w refl k, k1), h, m)
 
-white_pairs : (ms : Members) (c : ℕ) (s r : List ℕ) → is_white c ≡ true → Pairs ms (c ∷ s) r → Pairs ms s r
+white_pairs : (ms : Members) (c : ℕ) (s r : List ℕ) → is_whitespace c ≡ true → Pairs ms (c ∷ s) r → Pairs ms s r
 white_pairs no_members c s r w k = skips_past c 125 s r w refl k
 white_pairs (member name n ms) c s r w (s1, s2, s3, s4, k, h, k2, v, m) = (s1, s2, s3, s4, skips_text name c s s1 s2 w h k, h, k2, v, m)
 
-white_more_pairs : (ms : Members) (c : ℕ) (s r : List ℕ) → is_white c ≡ true → MorePairs ms (c ∷ s) r → MorePairs ms s r
+white_more_pairs : (ms : Members) (c : ℕ) (s r : List ℕ) → is_whitespace c ≡ true → MorePairs ms (c ∷ s) r → MorePairs ms s r
 white_more_pairs no_members c s r w k = skips_past c 125 s r w refl k
-white_more_pairs (member name n ms) c s r w (s1, s2, s3, s4, (x, k, k1), h, k2, v, m) = (s1, s2, s3, s4, (x, skips_past c 44 s x w refl k, k1), h, k2, v, m)
+white_more_pairs (member name n ms) c s r w (s1, s2, s3, s4, (x, k, k1), h, k2, v, m) =
+    (s1, s2, s3, s4, (x, skips_past c 44 s x w refl k, k1), h, k2, v, m)
 
-white_nothing : (c : ℕ) (s : List ℕ) → Skips (c ∷ s) [] → Skips s []
+white_nothing : (c : ℕ) (s : List ℕ) → Whitespace (c ∷ s) [] → Whitespace s []
 white_nothing c s (inl e) = let e1 : [] ≡ c ∷ s = e in absurd cc
 white_nothing c s (inr h) = h.1
 
-white_ends : (limit : ℕ) (ks : List OpenKind) (c : ℕ) (s : List ℕ) (es : List NodeEvent) → is_white c ≡ true → Ends limit ks (c ∷ s) es → Ends limit ks s es
+white_ends : (limit : ℕ) (ks : List OpenKind) (c : ℕ) (s : List ℕ) (es : List NodeEvent) → is_whitespace c ≡ true
+    → JsonEnds limit ks (c ∷ s) es → JsonEnds limit ks s es
 white_ends limit [] c s es w (k, e) = (white_nothing c s k, e)
 white_ends limit (a_list ∷ ks) c s es w (ns, r, fs, m, room, en, e) = (ns, r, fs, white_more ns c s r w m, room, en, e)
 white_ends limit (an_object ∷ ks) c s es w (ms, r, fs, m, room, en, e) = (ms, r, fs, white_more_pairs ms c s r w m, room, en, e)
 
-white_first_entry : (limit : ℕ) (ks : List OpenKind) (c : ℕ) (s : List ℕ) (es : List NodeEvent) → is_white c ≡ true → FirstEntryComes limit ks (c ∷ s) es → FirstEntryComes limit ks s es
+white_first_entry : (limit : ℕ) (ks : List OpenKind) (c : ℕ) (s : List ℕ) (es : List NodeEvent) → is_whitespace c ≡ true
+    → FirstEntryComes limit ks (c ∷ s) es → FirstEntryComes limit ks s es
 white_first_entry limit [] c s es w h = h
 white_first_entry limit (a_list ∷ ks) c s es w (ns, r, fs, m, room, en, e) = (ns, r, fs, white_entries ns c s r w m, room, en, e)
 white_first_entry limit (an_object ∷ ks) c s es w h = h
 
-white_first_key : (limit : ℕ) (ks : List OpenKind) (c : ℕ) (s : List ℕ) (es : List NodeEvent) → is_white c ≡ true → FirstKeyComes limit ks (c ∷ s) es → FirstKeyComes limit ks s es
+white_first_key : (limit : ℕ) (ks : List OpenKind) (c : ℕ) (s : List ℕ) (es : List NodeEvent) → is_whitespace c ≡ true
+    → FirstKeyComes limit ks (c ∷ s) es → FirstKeyComes limit ks s es
 white_first_key limit [] c s es w h = h
 white_first_key limit (a_list ∷ ks) c s es w h = h
 white_first_key limit (an_object ∷ ks) c s es w (ms, r, fs, m, room, en, e) = (ms, r, fs, white_pairs ms c s r w m, room, en, e)
 
-white_onward : (limit : ℕ) (p : Where) (ks : List OpenKind) (c : ℕ) (s : List ℕ) (es : List NodeEvent) → TakesWhite p → is_white c ≡ true → RestAt limit p ks (c ∷ s) es → RestAt limit p ks s es
+white_onward : (limit : ℕ) (p : Where) (ks : List OpenKind) (c : ℕ) (s : List ℕ) (es : List NodeEvent) → TakesWhitespace p
+    → is_whitespace c ≡ true → JsonRestAt limit p ks (c ∷ s) es → JsonRestAt limit p ks s es
 white_onward limit value ks c s es p w h = white_value limit ks c s es w h
 white_onward limit first_entry ks c s es p w h = white_first_entry limit ks c s es w h
 white_onward limit first_key ks c s es p w h = white_first_key limit ks c s es w h
@@ -95,39 +105,43 @@ white_onward limit (word x taken) ks c s es p w h = absurd p
 white_onward limit (numeral b) ks c s es p w h = absurd p
 white_onward limit (in_text role spot b) ks c s es p w h = absurd p
 
--- the other way: a white byte before what takes white space
-back_entries : (ns : Nodes) (c : ℕ) (s r : List ℕ) → is_white c ≡ true → Entries ns s r → Entries ns (c ∷ s) r
+-- the other way: a white byte before what takes whitespace
+back_entries : (ns : Nodes) (c : ℕ) (s r : List ℕ) → is_whitespace c ≡ true → Entries ns s r → Entries ns (c ∷ s) r
 back_entries no_nodes c s r w k = inr (w, k)
 back_entries (node n ns) c s r w (s1, s2, k, h, m) = (s1, s2, inr (w, k), h, m)
 
-back_more : (ns : Nodes) (c : ℕ) (s r : List ℕ) → is_white c ≡ true → MoreEntries ns s r → MoreEntries ns (c ∷ s) r
+back_more : (ns : Nodes) (c : ℕ) (s r : List ℕ) → is_whitespace c ≡ true → MoreEntries ns s r → MoreEntries ns (c ∷ s) r
 back_more no_nodes c s r w k = inr (w, k)
 back_more (node n ns) c s r w (s1, s2, (x, k, k1), h, m) = (s1, s2, (x, inr (w, k), k1), h, m)
 
-back_pairs : (ms : Members) (c : ℕ) (s r : List ℕ) → is_white c ≡ true → Pairs ms s r → Pairs ms (c ∷ s) r
+back_pairs : (ms : Members) (c : ℕ) (s r : List ℕ) → is_whitespace c ≡ true → Pairs ms s r → Pairs ms (c ∷ s) r
 back_pairs no_members c s r w k = inr (w, k)
 back_pairs (member name n ms) c s r w (s1, s2, s3, s4, k, h, k2, v, m) = (s1, s2, s3, s4, inr (w, k), h, k2, v, m)
 
-back_more_pairs : (ms : Members) (c : ℕ) (s r : List ℕ) → is_white c ≡ true → MorePairs ms s r → MorePairs ms (c ∷ s) r
+back_more_pairs : (ms : Members) (c : ℕ) (s r : List ℕ) → is_whitespace c ≡ true → MorePairs ms s r → MorePairs ms (c ∷ s) r
 back_more_pairs no_members c s r w k = inr (w, k)
 back_more_pairs (member name n ms) c s r w (s1, s2, s3, s4, (x, k, k1), h, k2, v, m) = (s1, s2, s3, s4, (x, inr (w, k), k1), h, k2, v, m)
 
-back_ends : (limit : ℕ) (ks : List OpenKind) (c : ℕ) (s : List ℕ) (es : List NodeEvent) → is_white c ≡ true → Ends limit ks s es → Ends limit ks (c ∷ s) es
+back_ends : (limit : ℕ) (ks : List OpenKind) (c : ℕ) (s : List ℕ) (es : List NodeEvent) → is_whitespace c ≡ true → JsonEnds limit ks s es
+    → JsonEnds limit ks (c ∷ s) es
 back_ends limit [] c s es w (k, e) = (inr (w, k), e)
 back_ends limit (a_list ∷ ks) c s es w (ns, r, fs, m, room, en, e) = (ns, r, fs, back_more ns c s r w m, room, en, e)
 back_ends limit (an_object ∷ ks) c s es w (ms, r, fs, m, room, en, e) = (ms, r, fs, back_more_pairs ms c s r w m, room, en, e)
 
-back_first_entry : (limit : ℕ) (ks : List OpenKind) (c : ℕ) (s : List ℕ) (es : List NodeEvent) → is_white c ≡ true → FirstEntryComes limit ks s es → FirstEntryComes limit ks (c ∷ s) es
+back_first_entry : (limit : ℕ) (ks : List OpenKind) (c : ℕ) (s : List ℕ) (es : List NodeEvent) → is_whitespace c ≡ true
+    → FirstEntryComes limit ks s es → FirstEntryComes limit ks (c ∷ s) es
 back_first_entry limit [] c s es w h = h
 back_first_entry limit (a_list ∷ ks) c s es w (ns, r, fs, m, room, en, e) = (ns, r, fs, back_entries ns c s r w m, room, en, e)
 back_first_entry limit (an_object ∷ ks) c s es w h = h
 
-back_first_key : (limit : ℕ) (ks : List OpenKind) (c : ℕ) (s : List ℕ) (es : List NodeEvent) → is_white c ≡ true → FirstKeyComes limit ks s es → FirstKeyComes limit ks (c ∷ s) es
+back_first_key : (limit : ℕ) (ks : List OpenKind) (c : ℕ) (s : List ℕ) (es : List NodeEvent) → is_whitespace c ≡ true
+    → FirstKeyComes limit ks s es → FirstKeyComes limit ks (c ∷ s) es
 back_first_key limit [] c s es w h = h
 back_first_key limit (a_list ∷ ks) c s es w h = h
 back_first_key limit (an_object ∷ ks) c s es w (ms, r, fs, m, room, en, e) = (ms, r, fs, back_pairs ms c s r w m, room, en, e)
 
-white_back : (limit : ℕ) (p : Where) (ks : List OpenKind) (c : ℕ) (s : List ℕ) (es : List NodeEvent) → TakesWhite p → is_white c ≡ true → RestAt limit p ks s es → RestAt limit p ks (c ∷ s) es
+white_back : (limit : ℕ) (p : Where) (ks : List OpenKind) (c : ℕ) (s : List ℕ) (es : List NodeEvent) → TakesWhitespace p
+    → is_whitespace c ≡ true → JsonRestAt limit p ks s es → JsonRestAt limit p ks (c ∷ s) es
 white_back limit value ks c s es p w (t, k, h) = (t, inr (w, k), h)
 white_back limit first_entry ks c s es p w h = back_first_entry limit ks c s es w h
 white_back limit first_key ks c s es p w h = back_first_key limit ks c s es w h
@@ -139,22 +153,19 @@ white_back limit (numeral b) ks c s es p w h = absurd p
 white_back limit (in_text role spot b) ks c s es p w h = absurd p
 
 -- a white byte leads from such a state to itself
-pub white_leads : (limit : ℕ) (x : State) (c : ℕ) → TakesWhite x.place → is_white c ≡ true → Leads limit x (c ∷ []) [] x
+pub white_leads : (limit : ℕ) (x : JsonState) (c : ℕ) → TakesWhitespace x.place → is_whitespace c ≡ true → JsonLeads limit x (c ∷ []) [] x
 white_leads limit x c p w = record {
   onward = λ s es h. (es, refl, white_onward limit x.place x.lists c s es p w h);
   back = λ s fs h. white_back limit x.place x.lists c s fs p w h;
 }
 
--- one more white byte at the front
-pub whites_grow : (bs : List ℕ) (i : ℕ) → i < length bs → is_white (get_or bs i 0) ≡ true → AllWhite (take i bs) → AllWhite (take (i + 1) bs)
-whites_grow bs i inside here before = subst AllWhite (sym (take_more bs i 0 inside)) (whites_joined (take i bs) (get_or bs i 0) before here)
-  where
-    whites_joined : (ws : List ℕ) (c : ℕ) → AllWhite ws → is_white c ≡ true → AllWhite (ws ++ c ∷ [])
-    whites_joined [] c h w = (w, tt)
-    whites_joined (d ∷ ws) c h w = (h.0, whites_joined ws c h.1 w)
+-- the bytes of a run of whitespace
+pub whites_of_run : (bs : List ℕ) (k : ℕ) → k ≡ prefix_len is_whitespace bs → AllWhitespace (take k bs)
+whites_of_run bs k e =
+    subst (λ n. AllWhitespace (take n bs)) (sym e) (of_run is_whitespace AllWhitespace tt (λ c s here more. (here, more)) bs)
 
--- a run of white space leads from such a state to itself
-pub whites_lead : (limit : ℕ) (x : State) (ws : List ℕ) → TakesWhite x.place → AllWhite ws → Leads limit x ws [] x
+-- a run of whitespace leads from such a state to itself
+pub whites_lead : (limit : ℕ) (x : JsonState) (ws : List ℕ) → TakesWhitespace x.place → AllWhitespace ws → JsonLeads limit x ws [] x
 whites_lead limit x [] p h = record { onward = λ s es r. (es, refl, r); back = λ s fs r. r }
 whites_lead limit x (c ∷ ws) p h = record {
   onward = λ s es r.

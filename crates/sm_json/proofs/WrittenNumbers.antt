@@ -23,7 +23,8 @@ is_int (d ∷ ds) all some leading =
 decimal_is_int : (n : ℕ) → n < 2 ^ 64 → IsInt (decimal n)
 decimal_is_int zero small = inl (decimal_digit 0 (omega arith))
 decimal_is_int (suc n) small =
-    let numeral = (decimal_is_IsNumeral (suc n) small).0 in is_int (decimal (suc n)) numeral.1 numeral.0 (first_decimal (suc n) (omega arith) small)
+    let numeral = (decimal_is_IsNumeral (suc n) small).0 in
+    is_int (decimal (suc n)) numeral.1 numeral.0 (first_decimal (suc n) (omega arith) small)
 
 -- no decimal text begins with a sign
 first_digit : (ds : List ℕ) → AllDigits 10 ds → 0 < length ds → 48 ≤ get_or ds 0 0
@@ -59,7 +60,11 @@ int_spelt (pos n) fits =
     let digit = first_digit (decimal n) numeral.0.1 numeral.0.0 in
     let value : signed_digits_value 10 (decimal n) ≡ pos n = unsigned_value (decimal n) digit ∙ ap pos numeral.1 in (
       whole_number [] (decimal n) (inl refl) (decimal_is_int n small),
-      record { is_integer = subst (IsNumeral 10) (sym (unsigned_text (decimal n) digit)) numeral.0; in_range = subst (SFits w64) (sym value) fits },
+      record {
+        is_integer = subst (IsNumeral 10) (sym (unsigned_text (decimal n) digit)) numeral.0;
+        in_range =
+            subst (SFits w64) (sym value) fits;
+      },
       value,
     )
 int_spelt (negsuc n) fits =

@@ -4,7 +4,7 @@ use Rattle.std.proofs.Common.{◌≡◌, ℕ, suc, ◌+◌, ◌/◌, ◌%◌, �
 use Rattle.std.proofs.lemmas.Bool.{eqb-false, and_from, and_right, and_parts, cases_lt, cond-true, cond-false, cond_both, lt-leb}
 use Rattle.std.proofs.lemmas.Str.{encode_ascii, inside_one}
 use lib.Utf8.{scalar, scalars, encode, encodes, low_scalar}
-use Rattle.sm_tree.specs.Escapes.{short_escape, hex_value}
+use Rattle.sm_bytes.specs.Escapes.{short_escape, hex_value}
 use Rattle.sm_json.specs.Strings.{HexDigits, Character, Characters, SpellsText}
 use Rattle.sm_json.specs.Written.{hex_digit, written_byte, written_bytes, written_text}
 
@@ -28,8 +28,19 @@ digit_value_back d small = elim (cases_lt d 10) [
 ]
 
 control_digits : (c : ℕ) (s : List ℕ) → c < 32 → HexDigits 4 0 c (48 ∷ 48 ∷ hex_digit (c / 16) ∷ hex_digit (c % 16) ∷ s) s
-control_digits c s small =
-    (0, refl, (0, refl, (c / 16, digit_value_back (c / 16) (omega arith), (c % 16, digit_value_back (c % 16) (omega arith), (omega arith, refl)))))
+control_digits c s small = (
+  0,
+  refl,
+  (
+    0,
+    refl,
+    (
+      c / 16,
+      digit_value_back (c / 16) (omega arith),
+      (c % 16, digit_value_back (c % 16) (omega arith), (omega arith, refl)),
+    ),
+  ),
+)
 
 -- x, followed by s, begins with the character c
 abbrev Spelt : ℕ → List ℕ → List ℕ → Type 0
@@ -39,7 +50,8 @@ short : (c e : ℕ) (s : List ℕ) → scalar c ≡ true → short_escape e ≡ 
 short c e s is_scalar means = (is_scalar, inr (e ∷ s, refl, inl (e, refl, means)))
 
 -- with the digits of a control character, and else as it is
-long : (c : ℕ) (s : List ℕ) → c < 128 → c ≢ 34 → c ≢ 92 → Spelt c s (cond (nat_lt c 32) (codes "\\u00" ++ hex_digit (c / 16) ∷ hex_digit (c % 16) ∷ []) (c ∷ []))
+long : (c : ℕ) (s : List ℕ) → c < 128 → c ≢ 34 → c ≢ 92
+    → Spelt c s (cond (nat_lt c 32) (codes "\\u00" ++ hex_digit (c / 16) ∷ hex_digit (c % 16) ∷ []) (c ∷ []))
 long c s ascii not_quote not_backslash =
     cond_both (nat_lt c 32) _ _ (Spelt c s)
     (λ e. (low_scalar c (omega arith), inr (_, refl, inr (inl (_, refl, control_digits c s (ltb-true c 32 e))))))
@@ -71,7 +83,8 @@ plain_byte b printed not_quote not_backslash =
 high_bytes : (bs : List ℕ) → ((k : ℕ) → k < length bs → 128 ≤ get_or bs k 0) → written_bytes bs ≡ bs
 high_bytes [] high = refl
 high_bytes (b ∷ bs) high =
-    ap₂ (λ (x y : List ℕ). x ++ y) (plain_byte b (omega (arith, high 0 (omega arith))) (λ e. omega (arith, high 0 (omega arith))) (λ e. omega (arith, high 0 (omega arith)))) (high_bytes bs (λ k below. high (suc k) (omega arith)))
+    ap₂ (λ (x y : List ℕ). x ++ y) (plain_byte b (omega (arith, high 0 (omega arith))) (λ e. omega (arith, high 0 (omega arith)))
+    (λ e. omega (arith, high 0 (omega arith)))) (high_bytes bs (λ k below. high (suc k) (omega arith)))
 
 -- each byte of a longer character is such a byte
 long_character : (c : ℕ) → 128 ≤ c → written_bytes (encode c) ≡ encode c

@@ -1,13 +1,14 @@
 -- What the written text and its definition are worth, as statements that the functions of src/laws.rt prove.
 use Rattle.std.specs.Prelude.{◌≡◌, ◌≤◌, ℕ, List, [], ◌∷◌, ◌++◌, codes, IsUtf8, Result, Ok}
+use Rattle.sm_bytes.specs.Ascii.{backspace, tab, line_feed, form_feed, carriage_return, quote, delete}
 use Rattle.sm_tree.specs.Node.{Node}
 use Rattle.sm_tree.specs.Json.{IsJson}
 use Rattle.sm_tree.specs.Levels.{levels}
-use Rattle.sm_tree.specs.Syntax.{IsRead, most_levels}
-use Rattle.sm_tree.specs.SyntaxLaws.{ComesTo, HasOneReading, HasOneAnswer}
+use Rattle.sm_tree.specs.Syntax.{ComesTo, most_levels}
+use Rattle.sm_tree.specs.SyntaxLaws.{HasOneReading, HasOneAnswer, HasSomeAnswer}
 use Rattle.sm_tree.specs.declared.refusal.SyntaxRefusal.{SyntaxRefusal}
 use Rattle.sm_json.specs.Strings.{SpellsText}
-use Rattle.sm_json.specs.JsonText.{SpellsValue, JsonText}
+use Rattle.sm_json.specs.JsonText.{SpellsValue, JsonText, json_syntax}
 use Rattle.sm_json.specs.Written.{written, written_text}
 
 -- what is written for a tree is a JSON text of that tree
@@ -22,26 +23,30 @@ WrittenSpells = (n : Node) (rest : List ℕ) → IsJson n → SpellsValue n (wri
 abbrev pub WrittenIsRead : Type 0
 WrittenIsRead =
     (n : Node) → IsJson n → (levels n ≤ most_levels)
-    → IsRead JsonText n (written n) × ((a : Result Node SyntaxRefusal) → ComesTo JsonText (written n) a → a ≡ Ok n)
+    → ComesTo json_syntax (written n) (Ok n) × ((a : Result Node SyntaxRefusal) → ComesTo json_syntax (written n) a → a ≡ Ok n)
 
 -- the written text of a string is a string of RFC 8259, section 7, for every UTF-8 text
 abbrev pub WrittenTextSpells : Type 0
 WrittenTextSpells = (t rest : List ℕ) → IsUtf8 t → SpellsText t (written_text t ++ rest) rest
 
 -- the escapes byte by byte: a letter stands for itself, `"` and `\` are escaped, of the control characters
--- some have a letter and the others four digits, and DEL is left as it is
+-- some have a letter and the others four digits, and DEL and `/` are left as they are
 pub record EscapesAreMeant : Type 0 where
-  pub quote : written_text (97 ∷ 34 ∷ 92 ∷ []) ≡ 34 ∷ 97 ∷ 92 ∷ 34 ∷ 92 ∷ 92 ∷ 34 ∷ []
-  pub letters : written_text (8 ∷ 9 ∷ 10 ∷ 12 ∷ 13 ∷ []) ≡ codes "\"\\b\\t\\n\\f\\r\""
-  pub first_control : written_text (0 ∷ []) ≡ codes "\"\\u0000\""
-  pub last_control : written_text (31 ∷ []) ≡ codes "\"\\u001f\""
-  pub delete : written_text (127 ∷ []) ≡ 34 ∷ 127 ∷ 34 ∷ []
+  pub marks : written_text (codes "a\"\\") ≡ codes "\"a\\\"\\\\\""
+  pub letters : written_text (backspace ∷ tab ∷ line_feed ∷ form_feed ∷ carriage_return ∷ []) ≡ codes "\"\\b\\t\\n\\f\\r\""
+  pub first_control : written_text (0x00 ∷ []) ≡ codes "\"\\u0000\""
+  pub last_control : written_text (0x1F ∷ []) ≡ codes "\"\\u001f\""
+  pub other : written_text (delete ∷ []) ≡ quote ∷ delete ∷ quote ∷ []
   pub solidus : written_text (codes "/") ≡ codes "\"/\""
 
 -- bytes are a text of at most one tree
 abbrev pub OneReading : Type 0
-OneReading = HasOneReading JsonText
+OneReading = HasOneReading json_syntax
 
 -- bytes are read as at most one tree, or refused by one word at one place, and never both
 abbrev pub OneAnswer : Type 0
-OneAnswer = HasOneAnswer JsonText
+OneAnswer = HasOneAnswer json_syntax
+
+-- and no bytes are without an answer
+abbrev pub SomeAnswer : Type 0
+SomeAnswer = HasSomeAnswer json_syntax

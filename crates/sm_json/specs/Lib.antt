@@ -1,13 +1,5 @@
 pub mod Strings
 pub mod JsonText
 pub mod Written
-pub mod TextRest
-pub mod TextSteps
-pub mod Runs
-pub mod Reading
-pub mod Rest
-pub mod Machine
-pub mod Live
-pub mod Answers
 pub mod Laws
-pub mod Placing
+pub mod steps

@@ -1,8 +1,9 @@
-// Which bytes of a string are escaped in JSON (RFC 8259, section 7), and how. Lengths and texts of
-// strings stand on it.
-ghost use Rattle.std.specs.Prelude.{◌≡◌, ◌<◌, ◌≤◌, true, length, take, slice_index};
-ghost use Rattle.sm_json.specs.Placing.{is_escaped, HasForm};
-ghost use Rattle.sm_json.specs.Written.{written_bytes, hex_digit};
+// Which bytes of a string are escaped in JSON (RFC 8259, section 7), and how.
+ghost use Rattle.std.specs.Prelude.{◌≡◌, ◌<◌};
+ghost use Rattle.sm_json.specs.steps.Placing.{HasForm};
+ghost use Rattle.sm_json.specs.Written.{hex_digit};
+
+use sm_bytes::ByteClass;
 
 // How a byte of a string is written.
 #[derive(Clone, Copy, Drop)]
@@ -15,27 +16,18 @@ pub(crate) enum ByteForm {
     Digits,
 }
 
-#[inline(always)]
-fn is_escaped(byte: u8) -> bool
-    ensures { result ≡ is_escaped byte }
-{
-    byte < 0x20 || byte == b'"' || byte == b'\\'
-}
+// The bytes of a string that stand for themselves.
+pub(crate) struct Unescaped;
 
-// How many bytes at the front of a text stand for themselves.
-#[inline(always)]
-#[tactic(auto, using(crate::proofs::PlainRuns::run_more))]
-pub(crate) fn plain_run(text: &[u8]) -> usize
-    ensures within { result ≤ length text.now }
-    ensures plain { written_bytes (take result text.now) ≡ take result text.now }
-    ensures stop { result < length text.now → is_escaped (slice_index text.now result) ≡ true }
-{
-    for (at, byte) in text.iter().enumerate() {
-        if is_escaped(*byte) {
-            return at;
-        }
+impl ByteClass for Unescaped {
+    ghost use Rattle.sm_json.specs.steps.Placing.{is_unescaped};
+
+    ghost holds = { is_unescaped };
+
+    #[inline(always)]
+    fn has(byte: u8) -> bool {
+        !(byte < 0x20 || byte == b'"' || byte == b'\\')
     }
-    text.len()
 }
 
 pub(crate) fn form_of(byte: u8) -> ByteForm

@@ -1,43 +1,15 @@
 // Escapes in strings (RFC 8259, section 7), byte by byte: the short ones, code units in hexadecimal digits,
-// and pairs of surrogates. The text reader stands on it.
+// and pairs of surrogates.
 ghost use Rattle.std.specs.Prelude.{◌≡◌, ◌<◌, ◌≤◌};
 ghost use Rattle.sm_json.specs.declared.spot.Digits.TheVariants.{Second, Third};
 ghost use Rattle.sm_json.specs.declared.spot.Part.TheVariants.{Escape as BehindBackslash, Unit as InUnit, LowBackslash, LowLetter, LowUnit};
-ghost use Rattle.sm_tree.specs.Escapes.{short_escape, hex_value, IsHigh, IsLow, joined};
-ghost use Rattle.sm_json.specs.TextRest.{PartRest};
-ghost use Rattle.sm_json.specs.TextSteps.{IsUnitBegun, IsLowBegun, CodeEnd, UnitEnd, StepsTo, PartSteps};
+ghost use Rattle.sm_bytes.specs.Escapes.{IsHigh, IsLow, joined};
+ghost use Rattle.sm_json.specs.steps.TextRest.{PartRest};
+ghost use Rattle.sm_json.specs.steps.TextSteps.{IsUnitBegun, IsLowBegun, CodeEnd, UnitEnd, StepsTo, PartSteps};
 
 use crate::spot::{Digits, Part, Step};
 use crate::utf8::whole;
-
-/// The character that a byte stands for behind a backslash.
-fn short_escape(byte: u8) -> Option<char>
-    ensures { result ≡ short_escape byte }
-{
-    match byte {
-        b'"' => Some('"'),
-        b'\\' => Some('\\'),
-        b'/' => Some('/'),
-        b'b' => Some('\u{8}'),
-        b'f' => Some('\u{c}'),
-        b'n' => Some('\n'),
-        b'r' => Some('\r'),
-        b't' => Some('\t'),
-        _ => None,
-    }
-}
-
-/// The value of a hexadecimal digit, in either case.
-fn hex_value(byte: u8) -> Option<u16>
-    ensures { result ≡ hex_value byte }
-{
-    match byte {
-        b'0'..=b'9' => Some(u16::from(byte - 48)),
-        b'A'..=b'F' => Some(u16::from(byte - 55)),
-        b'a'..=b'f' => Some(u16::from(byte - 87)),
-        _ => None,
-    }
-}
+use sm_bytes::{hex_value, short_escape};
 
 /// The byte behind a backslash.
 pub fn escaped(byte: u8) -> Step
@@ -54,14 +26,14 @@ pub fn escaped(byte: u8) -> Step
 }
 
 /// The first two digits of a code unit that stands first. Those that begin a low surrogate are refused.
-fn unit_front(front: u16) -> Step
-    requires { front < 0x100 }
-    ensures { StepsTo (PartRest (InUnit (Third front))) result }
+fn unit_half(half: u16) -> Step
+    requires { half < 0x100 }
+    ensures { StepsTo (PartRest (InUnit (Third half))) result }
 {
-    if front >= 0xDC && front < 0xE0 {
+    if half >= 0xDC && half < 0xE0 {
         Step::Refused
     } else {
-        Step::Within(Part::Unit(Digits::Third(front)))
+        Step::Within(Part::Unit(Digits::Third(half)))
     }
 }
 
@@ -88,7 +60,7 @@ pub fn unit_digit(digits: Digits, byte: u8) -> Step
     };
     match digits {
         Digits::First => Step::Within(Part::Unit(Digits::Second(digit))),
-        Digits::Second(n) => unit_front(n * 16 + digit),
+        Digits::Second(n) => unit_half(n * 16 + digit),
         Digits::Third(n) => Step::Within(Part::Unit(Digits::Fourth(n * 16 + digit))),
         Digits::Fourth(n) => whole_unit(n * 16 + digit),
     }
@@ -131,12 +103,12 @@ fn low_first(high: u16, digit: u16) -> Step
 }
 
 /// The first two digits of a low surrogate.
-fn low_front(high: u16, front: u16) -> Step
+fn low_half(high: u16, half: u16) -> Step
     requires { IsHigh high }
-    ensures { StepsTo (PartRest (LowUnit high (Third front))) result }
+    ensures { StepsTo (PartRest (LowUnit high (Third half))) result }
 {
-    if 0xDC <= front && front < 0xE0 {
-        Step::Within(Part::LowUnit(high, Digits::Third(front)))
+    if 0xDC <= half && half < 0xE0 {
+        Step::Within(Part::LowUnit(high, Digits::Third(half)))
     } else {
         Step::Refused
     }
@@ -162,7 +134,7 @@ pub fn low_digit(high: u16, digits: Digits, byte: u8) -> Step
     };
     match digits {
         Digits::First => low_first(high, digit),
-        Digits::Second(n) => low_front(high, n * 16 + digit),
+        Digits::Second(n) => low_half(high, n * 16 + digit),
         Digits::Third(n) => Step::Within(Part::LowUnit(high, Digits::Fourth(n * 16 + digit))),
         Digits::Fourth(n) => whole_pair(high, n * 16 + digit),
     }

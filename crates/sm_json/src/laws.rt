@@ -1,13 +1,12 @@
 // Laws of texts and of what is written, each the contract of a function whose body is empty.
-// What reads a written text back stands on them.
-ghost use Rattle.sm_json.specs.Laws.{WrittenIsText, WrittenSpells, WrittenIsRead, WrittenTextSpells, EscapesAreMeant, OneReading, OneAnswer};
+ghost use Rattle.sm_json.specs.Laws.{WrittenIsText, WrittenSpells, WrittenIsRead, WrittenTextSpells, EscapesAreMeant, OneReading, OneAnswer, SomeAnswer};
 
 /// What is written for a tree is a JSON text of that tree (RFC 8259).
 pub fn written_is_text()
     ensures { WrittenIsText }
 {}
 
-/// What is written for a tree spells it in front of whatever follows.
+/// What is written for a tree spells it, whatever follows.
 pub fn written_spells()
     ensures { WrittenSpells }
 {}
@@ -33,7 +32,12 @@ pub fn one_reading()
 {}
 
 /// Bytes are read as one tree at most, or refused by one word at one place, and never both: what `read_tree` answers
-/// is determined, but for want of memory.
+/// is determined, but where it is out of memory.
 pub fn one_answer()
     ensures { OneAnswer }
+{}
+
+/// No bytes are without an answer: any are read as a tree, or refused by some word.
+pub fn some_answer()
+    ensures { SomeAnswer }
 {}

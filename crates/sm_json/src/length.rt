@@ -1,14 +1,15 @@
-// How many bytes a tree takes as JSON text, told before anything is written. Room is reserved by it.
+// How many bytes a tree takes as JSON text, told before anything is written, so that its room is made at once.
 ghost use Rattle.std.specs.Prelude.{◌≡◌, ◌+◌, length};
 ghost use Rattle.std.specs.Fmt.{signed_decimal};
 ghost use Rattle.sm_tree.specs.Node.{nodes_of, members_of};
 ghost use Rattle.sm_tree.specs.View.{node_of, nodes_view, members_view};
-ghost use Rattle.sm_json.specs.Placing.{length_word};
+ghost use Rattle.sm_bytes.specs.Lengths.{length_word};
 ghost use Rattle.sm_json.specs.Written.{written, written_entries, more_written_entries, written_pairs, more_written_pairs, written_byte, written_bytes, written_text};
 
-use crate::byte_form::{ByteForm, form_of, plain_run};
+use crate::byte_form::{ByteForm, Unescaped, form_of};
 use crate::plain::is_plain;
 use itoa::Buffer;
+use sm_bytes::run_len;
 use sm_tree::{Text, Tree};
 
 fn byte_len(byte: u8) -> u64
@@ -31,7 +32,7 @@ fn escaped_len(text: &[u8]) -> u64
     let mut len: u64 = 0;
     let mut rest = text;
     loop {
-        let (plain, more) = rest.split_at(plain_run(rest));
+        let (plain, more) = rest.split_at(run_len::<Unescaped>(rest));
         len = len.saturating_add(plain.len() as u64);
         let Some((byte, after)) = more.split_first() else {
             return len;

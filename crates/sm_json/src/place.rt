@@ -1,4 +1,4 @@
-// Where a reader stands within a JSON text (RFC 8259), between two bytes. The reader stands on it.
+// Where a reader stands within a JSON text (RFC 8259), between two bytes.
 use sm_tree::number::Phase;
 
 /// One of the three literal names (section 3).

@@ -1,8 +1,7 @@
-// Whether a text needs no escape, many bytes at once. Two loads that overlap cover a short text. Texts
-// are measured and written by it.
+// Whether a text needs no escape, many bytes at once. Two loads that overlap cover a short text.
 ghost use Rattle.std.specs.Prelude.{◌≡◌, ◌+◌, ◌≤◌, length};
 ghost use Rattle.std.specs.Bool.{OnTrue};
-ghost use Rattle.sm_json.specs.Placing.{IsPlainBetween};
+ghost use Rattle.sm_json.specs.steps.Placing.{IsPlainBetween};
 ghost use Rattle.sm_json.specs.Written.{written_bytes};
 
 use std::simd::prelude::*;

@@ -1,34 +1,14 @@
-// Writing JSON into bytes that are there already, from a place on: the next place comes back, and what
-// lies behind it may change. The writer of trees stands on it.
-ghost use Rattle.std.specs.Prelude.{◌≡◌, ◌+◌, ◌<◌, ◌≤◌, [], ◌∷◌, ◌++◌, length, take};
+// Strings and integers of JSON, written into bytes that are there already.
+ghost use Rattle.std.specs.Prelude.{◌≡◌, ◌+◌, ◌≤◌, [], ◌∷◌, ◌++◌, length, take};
 ghost use Rattle.std.specs.Fmt.{signed_decimal};
+ghost use Rattle.sm_bytes.specs.Ascii.{colon};
 ghost use Rattle.sm_json.specs.Written.{written_byte, written_bytes, written_text};
 
-use crate::byte_form::{ByteForm, form_of, hex_digit, plain_run};
+use crate::byte_form::{ByteForm, Unescaped, form_of, hex_digit};
 use crate::plain::is_plain;
 use itoa::Buffer;
+use sm_bytes::{place_byte, place_slice, run_len};
 use sm_tree::Text;
-
-#[inline(always)]
-pub(crate) fn place_byte(buf: &mut [u8], at: usize, byte: u8) -> usize
-    requires room { at < length buf.old }
-    ensures bytes { take result buf.new ≡ take at buf.old ++ byte ∷ [] }
-    ensures next { result ≡ at + 1 }
-{
-    buf[at] = byte;
-    at + 1
-}
-
-#[inline(always)]
-pub(crate) fn place_slice(buf: &mut [u8], at: usize, bytes: &[u8]) -> usize
-    requires room { at + length bytes.now ≤ length buf.old }
-    ensures bytes { take result buf.new ≡ take at buf.old ++ bytes.now }
-    ensures next { result ≡ at + length bytes.now }
-{
-    let end = at + bytes.len();
-    buf[at..end].copy_from_slice(bytes);
-    end
-}
 
 fn place_escape(buf: &mut [u8], at: usize, byte: u8) -> usize
     requires room { at + length (written_byte byte) ≤ length buf.old }
@@ -57,7 +37,7 @@ fn place_escaped(buf: &mut [u8], at: usize, text: &[u8]) -> usize
     let mut at = at;
     let mut rest = text;
     loop {
-        let (plain, more) = rest.split_at(plain_run(rest));
+        let (plain, more) = rest.split_at(run_len::<Unescaped>(rest));
         at = place_slice(buf, at, plain);
         let Some((byte, after)) = more.split_first() else {
             return at;
@@ -80,7 +60,7 @@ pub(crate) fn place_text(buf: &mut [u8], at: usize, text: &Text) -> usize
 // A name of an object, with its colon.
 pub(crate) fn place_name(buf: &mut [u8], at: usize, name: &Text) -> usize
     requires room { at + length (written_text name.now) + 1 ≤ length buf.old }
-    ensures bytes { take result buf.new ≡ take at buf.old ++ (written_text name.now ++ 58 ∷ []) }
+    ensures bytes { take result buf.new ≡ take at buf.old ++ (written_text name.now ++ colon ∷ []) }
     ensures next { result ≡ at + length (written_text name.now) + 1 }
 {
     let at = place_text(buf, at, name);

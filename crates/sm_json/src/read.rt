@@ -1,12 +1,12 @@
 // The reader of JSON texts (RFC 8259): a machine over bytes. It stands at one place of the text, hands each
 // event on as soon as its bytes are complete, and never looks back. Trees are made from the events.
 // Its steps between two tokens stand in read/tokens.rt, those within one in read/leaves.rt.
-ghost use Rattle.std.specs.Prelude.{◌≡◌, ◌<◌, ◌-◌, ◌^◌, length, IfOk, []};
+ghost use Rattle.std.specs.Prelude.{◌≡◌, ◌<◌, length, IfOk, []};
 ghost use Rattle.sm_tree.specs.Json.{IsJson};
 ghost use Rattle.sm_tree.specs.View.{node_of};
-ghost use Rattle.sm_json.specs.Answers.{ReadsTree};
-ghost use Rattle.sm_json.specs.Rest.{start};
-ghost use Rattle.sm_json.specs.Machine.{IsWithin, moved_by};
+ghost use Rattle.sm_tree.specs.Syntax.{Reads};
+ghost use Rattle.sm_json.specs.JsonText.{json_syntax};
+ghost use Rattle.sm_json.specs.steps.Rest.{json_start};
 
 mod leaves;
 mod tokens;
@@ -34,12 +34,12 @@ pub struct Reader {
 }
 
 impl Reader {
-    ghost use Rattle.sm_json.specs.Machine.{IsSound, TakesFront, TakesAll, Finishes, state_of, handed_on};
+    ghost use Rattle.sm_json.specs.steps.Machine.{JsonIsSound, JsonTakesPrefix, JsonTakesAll, JsonFinishes, json_state, json_handed_on};
 
     fn new(alloc: Global) -> Self
-        ensures state { state_of result ≡ start }
-        ensures nothing { handed_on result ≡ [] }
-        ensures sound { IsSound result }
+        ensures state { json_state result ≡ json_start }
+        ensures nothing { json_handed_on result ≡ [] }
+        ensures sound { JsonIsSound result }
     {
         Reader {
             place: Place::Value,
@@ -51,12 +51,12 @@ impl Reader {
         }
     }
 
-    // Takes some bytes in front.
+    // Takes some bytes, from the first one on, and says how many.
     #[tactic(auto, using(crate::proofs::Turns::refused_first))]
     fn turn(&mut self, bytes: &[u8]) -> Result<usize, SyntaxRefusal>
-        requires sound { IsSound self.old }
+        requires sound { JsonIsSound self.old }
         requires some { 0 < length bytes.now }
-        ensures { TakesFront self.old bytes.now self.new result }
+        ensures { JsonTakesPrefix self.old bytes.now self.new result }
     {
         match self.place {
             Place::Text(role) => self.string(role, bytes),
@@ -71,14 +71,14 @@ impl Reader {
 
     // Takes all the bytes.
     fn feed(&mut self, bytes: &[u8]) -> Result<(), SyntaxRefusal>
-        requires sound { IsSound self.old }
-        ensures { TakesAll self.old bytes.now self.new result }
+        requires sound { JsonIsSound self.old }
+        ensures { JsonTakesAll self.old bytes.now self.new result }
     {
         let mut at = 0;
         while at < bytes.len() {
             match self.turn(&bytes[at..]) {
                 Ok(count) => at += count,
-                Err(refusal) => return Err(moved(refusal, at)),
+                Err(refusal) => return Err(refusal.moved_by(at)),
             }
         }
         Ok(())
@@ -86,9 +86,9 @@ impl Reader {
 
     // The tree, where the text ends with this number.
     fn finish_number(mut self, phase: Phase) -> Result<Tree, SyntaxRefusal>
-        requires sound { IsSound self }
+        requires sound { JsonIsSound self }
         requires place { self.place ≡ Place.Number phase }
-        ensures { Finishes self result }
+        ensures { JsonFinishes self result }
     {
         if self.depth > 0 {
             return Err(SyntaxRefusal::Ended);
@@ -102,9 +102,9 @@ impl Reader {
 
     // The tree, where the text ends behind this value.
     fn finish_value(self) -> Result<Tree, SyntaxRefusal>
-        requires sound { IsSound self }
+        requires sound { JsonIsSound self }
         requires place { self.place ≡ Place.After }
-        ensures { Finishes self result }
+        ensures { JsonFinishes self result }
     {
         if self.depth > 0 {
             return Err(SyntaxRefusal::Ended);
@@ -114,8 +114,8 @@ impl Reader {
 
     // The tree, where the text ends here.
     fn finish(self) -> Result<Tree, SyntaxRefusal>
-        requires { IsSound self }
-        ensures { Finishes self result }
+        requires { JsonIsSound self }
+        ensures { JsonFinishes self result }
     {
         match self.place {
             Place::Number(phase) => self.finish_number(phase),
@@ -125,21 +125,7 @@ impl Reader {
     }
 }
 
-// The refusal, its place counted from so many bytes further on.
-fn moved(refusal: SyntaxRefusal, by: usize) -> SyntaxRefusal
-    requires room { IsWithin (2 ^ 64 - by) refusal }
-    ensures { result ≡ moved_by by refusal }
-{
-    match refusal {
-        SyntaxRefusal::Bad(at) => SyntaxRefusal::Bad(by as u64 + at),
-        SyntaxRefusal::Ended => SyntaxRefusal::Ended,
-        SyntaxRefusal::TooDeep(at) => SyntaxRefusal::TooDeep(by as u64 + at),
-        SyntaxRefusal::KeyKind(at) => SyntaxRefusal::KeyKind(by as u64 + at),
-        SyntaxRefusal::NoMemory => SyntaxRefusal::NoMemory,
-    }
-}
-
-/// The tree that the bytes spell as a JSON text (RFC 8259) of at most 100 levels. White space may stand
+/// The tree that the bytes spell as a JSON text (RFC 8259) of at most `MOST_LEVELS` levels. Whitespace may stand
 /// round tokens; a byte order mark and a lone surrogate escape are refused. An integer text that an `i64`
 /// holds is a `Tree::Int`, and `-0` is 0; any other number is a `Tree::Number` with its text.
 /// What is read can be written again.
@@ -151,7 +137,7 @@ fn moved(refusal: SyntaxRefusal, by: usize) -> SyntaxRefusal
 /// which opens level 101, only deeper texts go on. `Ended`: all the bytes begin a text of at most 100 levels,
 /// and are none. `NoMemory`: the allocator refused the memory that the tree needs.
 pub fn read_tree(alloc: Global, bytes: &[u8]) -> Result<Tree, SyntaxRefusal>
-    ensures text { ReadsTree bytes.now result }
+    ensures text { Reads json_syntax bytes.now result }
     ensures json { IfOk result (λ tree. IsJson (node_of tree)) }
 {
     let mut reader = Reader::new(alloc);

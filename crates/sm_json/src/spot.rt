@@ -1,5 +1,4 @@
 // Where a reader stands within a string (RFC 8259, section 7), and what one byte makes of that place.
-// The text reader stands on it.
 
 /// How far the four hexadecimal digits of a code unit have come, with the number that those so far make.
 #[derive(Clone, Copy)]

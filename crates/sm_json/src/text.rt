@@ -1,15 +1,12 @@
 // The reader of one string (RFC 8259, section 7) behind its opening quotation mark, from bytes that may come
-// in pieces. The reader of texts stands on it.
+// in pieces.
 ghost use Rattle.std.specs.Prelude.{◌≡◌, IfOk, IsUtf8};
-ghost use Rattle.sm_json.specs.TextSteps.{IsLive, IsPartLive, PartSteps, Steps};
-ghost use Rattle.sm_json.specs.Live.{IsLive-prop};
-
-#[cfg(test)]
-mod tests;
+ghost use Rattle.sm_json.specs.steps.TextSteps.{IsLive, IsPartLive, PartSteps, StringSteps};
+ghost use Rattle.sm_json.specs.steps.Live.{IsLive-prop};
 
 use crate::escape::{escaped, low_backslash, low_digit, low_letter, unit_digit};
 use crate::spot::{Part, Spot, Step};
-use crate::utf8::{fourth_byte, plain_byte, run_len, second_byte, third_byte};
+use crate::utf8::{fourth_byte, plain_byte, plain_len, second_byte, third_byte};
 use sm_tree::{NoMemory, Text};
 use std::alloc::Global;
 use std::str::from_utf8_unchecked;
@@ -82,7 +79,7 @@ fn part_step(part: Part, byte: u8) -> Step
 /// What a byte makes of a place within a string.
 fn step(spot: Spot, byte: u8) -> Step
     requires { IsLive spot }
-    ensures { Steps spot byte result }
+    ensures { StringSteps spot byte result }
 {
     match spot {
         Spot::Plain => plain_byte(byte),
@@ -91,7 +88,7 @@ fn step(spot: Spot, byte: u8) -> Step
 }
 
 impl TextReader {
-    ghost use Rattle.sm_json.specs.Reading.{text_of, IsAtStart, TakesRun, TakesByte, ReadsText};
+    ghost use Rattle.sm_json.specs.steps.StringReading.{string_so_far, IsAtStart, StringTakesRun, StringTakesByte, ReadsString};
 
     /// A reader at the start of a string. No memory.
     pub fn new(alloc: Global) -> Self
@@ -111,14 +108,14 @@ impl TextReader {
         self.spot = Spot::Plain;
     }
 
-    /// Takes the run of characters in front that stand for themselves, if the spot is between two.
+    /// Takes the run of characters at the start that stand for themselves, if the spot is between two.
     fn take_run(&mut self, bytes: &[u8]) -> Result<usize, NoMemory>
-        ensures { TakesRun self.old self.new bytes.now result }
+        ensures { StringTakesRun self.old self.new bytes.now result }
     {
         match self.spot {
             Spot::Inside(_) => Ok(0),
             Spot::Plain => {
-                let len = run_len(bytes);
+                let len = plain_len(bytes);
                 let run = unsafe { from_utf8_unchecked(&bytes[..len]) };
                 self.text.push_str(run)?;
                 Ok(len)
@@ -127,7 +124,7 @@ impl TextReader {
     }
 
     fn take_byte(&mut self, byte: u8) -> Result<Taken, NoMemory>
-        ensures { TakesByte self.old self.new byte result }
+        ensures { StringTakesByte self.old self.new byte result }
     {
         match step(self.spot, byte) {
             Step::Within(part) => {
@@ -155,7 +152,7 @@ impl TextReader {
     ///
     /// `Bad` with the first place whose byte no string goes on with, `NoMemory`.
     pub fn read(&mut self, bytes: &[u8]) -> Result<Reading, TextRefusal>
-        ensures { ReadsText self.old self.new bytes.now result }
+        ensures { ReadsString self.old self.new bytes.now result }
     {
         let mut at = self.take_run(bytes)?;
         while at < bytes.len() {
@@ -178,7 +175,7 @@ impl TextReader {
     ///
     /// `NoMemory`.
     pub fn text(&self, alloc: Global) -> Result<Text, NoMemory>
-        ensures bytes { IfOk result (λ text. text ≡ text_of self.now) }
+        ensures bytes { IfOk result (λ text. text ≡ string_so_far self.now) }
         ensures utf8 { IfOk result (λ text. IsUtf8 text) }
     {
         Text::copy(alloc, self.text.as_str())

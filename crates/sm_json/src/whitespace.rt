@@ -1,24 +1,16 @@
-// White space (RFC 8259, section 2). The reader stands on it.
-ghost use Rattle.std.specs.Prelude.{◌≡◌, ◌≤◌, length, take};
-ghost use Rattle.sm_json.specs.Strings.{is_white as white};
-ghost use Rattle.sm_json.specs.Machine.{AllWhite};
+// Whitespace between tokens (RFC 8259, section 2).
+use sm_bytes::ByteClass;
 
-/// Whether a byte is white space: a blank, a tab, a line feed or a carriage return.
-pub fn is_white(byte: u8) -> bool
-    ensures { result ≡ white byte }
-{
-    matches!(byte, b' ' | b'\t' | b'\n' | b'\r')
-}
+// A blank, a tab, a line feed or a carriage return.
+pub(crate) struct Whitespace;
 
-/// How many bytes at the front are white space.
-pub fn white_run(bytes: &[u8]) -> usize
-    ensures within { result ≤ length bytes.now }
-    ensures white { AllWhite (take result bytes.now) }
-{
-    for (at, byte) in bytes.iter().enumerate() {
-        if !is_white(*byte) {
-            return at;
-        }
+impl ByteClass for Whitespace {
+    ghost use Rattle.sm_json.specs.Strings.{is_whitespace};
+
+    ghost holds = { is_whitespace };
+
+    #[inline(always)]
+    fn has(byte: u8) -> bool {
+        matches!(byte, b' ' | b'\t' | b'\n' | b'\r')
     }
-    bytes.len()
 }

@@ -1,15 +1,19 @@
-// Writing trees as JSON text. Messages and model files are written by it.
-ghost use Rattle.std.specs.Prelude.{◌≡◌, ◌+◌, ◌<◌, ◌≤◌, ◌++◌, length, take, replicate, vec_len, vec_capacity, OnOk, OnErr, IsOk};
+// Writing trees as JSON text.
+ghost use Rattle.std.specs.Prelude.{◌≡◌, ◌+◌, ◌≤◌, ◌++◌, length, take, drop, vec_len, vec_capacity, OnOk, OnErr, IsOk, Ok};
+ghost use Rattle.std.specs.Vec.{SameBlock};
 ghost use Rattle.sm_tree.specs.Json.{IsJson};
+ghost use Rattle.sm_tree.specs.Levels.{levels};
 ghost use Rattle.sm_tree.specs.Node.{nodes_of, members_of};
+ghost use Rattle.sm_tree.specs.Syntax.{ComesTo, most_levels};
 ghost use Rattle.sm_tree.specs.View.{node_of, nodes_view, members_view};
+ghost use Rattle.sm_json.specs.JsonText.{json_syntax};
 ghost use Rattle.sm_json.specs.Written.{written, written_entries, more_written_entries, written_pairs, more_written_pairs};
 
 use crate::length::encoded_len;
-use crate::put::{place_byte, place_int, place_name, place_slice, place_text};
+use crate::put::{place_int, place_name, place_text};
+use sm_bytes::{make_room, place_byte, place_slice};
 use sm_tree::{NoMemory, Text, Tree};
 use std::alloc::Global;
-use std::mem;
 
 #[cycle(placing)]
 fn place_entries(buf: &mut [u8], at: usize, items: &[Tree]) -> usize
@@ -94,37 +98,19 @@ fn place_tree(buf: &mut [u8], at: usize, tree: &Tree) -> usize
     }
 }
 
-// A vector owned, and not behind a reference, so that the loop becomes one fill.
-fn lengthened(bytes: Vec<u8>, count: usize) -> Vec<u8>
-    requires room { vec_len bytes + count ≤ vec_capacity bytes }
-    ensures front { take (vec_len bytes) result.items ≡ bytes.items }
-    ensures len { vec_len result ≡ vec_len bytes + count }
-    ensures capacity { vec_capacity result ≡ vec_capacity bytes }
-{
-    let mut bytes = bytes;
-    for _ in 0..count {
-        bytes.push_reserved(0);
-    }
-    bytes
-}
-
-/// Appends a tree as JSON text (RFC 8259) to `out`: no white space, pairs in their order. `NoMemory` where
-/// the allocator refuses the room, and then `out` is as before. Where `out` has room for `encoded_len(tree)`
-/// bytes more it takes no memory and succeeds.
+/// Appends a tree as JSON text (RFC 8259) to `out`: no whitespace, pairs in their order. What is appended is read again as
+/// the tree, if that has at most 100 levels. `NoMemory` where the allocator refuses the room, and then `out` is as
+/// before. Where `out` has room for `encoded_len(tree)` bytes more it takes no memory and succeeds.
 pub fn write_tree(alloc: Global, tree: &Tree, out: &mut Vec<u8>) -> Result<(), NoMemory>
     requires json { IsJson (node_of tree.now) }
     ensures written { OnOk result (out.new.items ≡ out.old.items ++ written (node_of tree.now)) }
+    ensures read_again { OnOk result (levels (node_of tree.now) ≤ most_levels → ComesTo json_syntax (drop (length out.old.items) out.new.items) (Ok (node_of tree.now))) }
     ensures unchanged { OnErr result (out.new.items ≡ out.old.items) }
     ensures succeeds { vec_len out.old + length (written (node_of tree.now)) ≤ vec_capacity out.old → IsOk result }
     ensures same_room { vec_len out.old + length (written (node_of tree.now)) ≤ vec_capacity out.old → vec_capacity out.new ≡ vec_capacity out.old }
+    ensures same_block { vec_len out.old + length (written (node_of tree.now)) ≤ vec_capacity out.old → SameBlock out.old out.new }
 {
-    let len = encoded_len(tree) as usize;
-    if out.capacity() - out.len() < len {
-        out.reserve(len)?;
-    }
-    let at = out.len();
-    let bytes = mem::replace(out, Vec::new(alloc));
-    *out = lengthened(bytes, len);
+    let at = make_room(alloc, out, encoded_len(tree) as usize)?;
     place_tree(out.as_mut_slice(), at, tree);
     Ok(())
 }

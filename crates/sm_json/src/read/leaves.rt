@@ -1,11 +1,11 @@
 // The steps of the reader within a literal name, a number and a string, and where these end.
 ghost use Rattle.std.specs.Prelude.{◌≡◌, ◌<◌, length, IfOk, OnOk, []};
 ghost use Rattle.sm_tree.specs.View.{node_of};
-ghost use Rattle.sm_tree.specs.NumberTail.{Stops as NumberStops, Tail};
-ghost use Rattle.sm_json.specs.Rest.{letters, literal_node};
-ghost use Rattle.sm_json.specs.Machine.{as_syntax};
+ghost use Rattle.sm_tree.specs.NumberTail.{NumberStops, NumberTail};
+ghost use Rattle.sm_json.specs.steps.Rest.{letters, literal_node};
+ghost use Rattle.sm_json.specs.steps.Machine.{as_syntax};
 
-use super::{Reader, moved};
+use super::Reader;
 use crate::place::{Literal, Place, Role};
 use crate::text::{Reading, TextRefusal};
 use sm_tree::number::{Phase, Run, number_run, number_tree};
@@ -35,14 +35,14 @@ impl Literal {
 }
 
 impl Reader {
-    ghost use Rattle.sm_json.specs.Machine.{IsSound, TakesByte, Grows, HandsNumber, HandsText, TakesFront};
+    ghost use Rattle.sm_json.specs.steps.Machine.{JsonIsSound, JsonTakesByte, Grows, HandsNumber, HandsText, JsonTakesPrefix};
 
     // One more byte of a literal name.
     pub(super) fn letter(&mut self, word: Literal, taken: u8, byte: u8) -> Result<(), SyntaxRefusal>
-        requires sound { IsSound self.old }
+        requires sound { JsonIsSound self.old }
         requires place { self.old.place ≡ Place.Word word taken }
         requires begun { taken < length (letters word) }
-        ensures { TakesByte self.old byte self.new result }
+        ensures { JsonTakesByte self.old byte self.new result }
     {
         let name = word.letters();
         let at = taken as usize;
@@ -58,9 +58,9 @@ impl Reader {
         Ok(())
     }
 
-    // Takes the bytes in front that go on with the number, and says how many.
+    // Takes the bytes that go on with the number, up to the first that doesn't, and says how many.
     fn grow_number(&mut self, phase: Phase, bytes: &[u8]) -> Result<Run, NoMemory>
-        requires sound { IsSound self.old }
+        requires sound { JsonIsSound self.old }
         requires place { self.old.place ≡ Place.Number phase }
         ensures { IfOk result (λ run. Grows self.old bytes.now run self.new) }
     {
@@ -72,9 +72,9 @@ impl Reader {
 
     // Hands on the number, which is whole.
     pub(super) fn hand_number(&mut self, phase: Phase) -> Result<(), NoMemory>
-        requires sound { IsSound self.old }
+        requires sound { JsonIsSound self.old }
         requires place { self.old.place ≡ Place.Number phase }
-        requires whole { Tail phase [] }
+        requires whole { NumberTail phase [] }
         ensures { OnOk result (HandsNumber self.old self.new) }
     {
         let tree = number_tree(self.alloc, self.number.as_slice())?;
@@ -85,10 +85,10 @@ impl Reader {
 
     // A byte that the number doesn't go on with.
     fn end_number(&mut self, phase: Phase, byte: u8) -> Result<(), SyntaxRefusal>
-        requires sound { IsSound self.old }
+        requires sound { JsonIsSound self.old }
         requires place { self.old.place ≡ Place.Number phase }
         requires stops { NumberStops phase byte }
-        ensures { TakesByte self.old byte self.new result }
+        ensures { JsonTakesByte self.old byte self.new result }
     {
         if !phase.is_whole() {
             return Err(SyntaxRefusal::Bad(0));
@@ -99,10 +99,10 @@ impl Reader {
 
     // Bytes in a number.
     pub(super) fn number(&mut self, phase: Phase, bytes: &[u8]) -> Result<usize, SyntaxRefusal>
-        requires sound { IsSound self.old }
+        requires sound { JsonIsSound self.old }
         requires place { self.old.place ≡ Place.Number phase }
         requires some { 0 < length bytes.now }
-        ensures { TakesFront self.old bytes.now self.new result }
+        ensures { JsonTakesPrefix self.old bytes.now self.new result }
     {
         let run = self.grow_number(phase, bytes)?;
         if run.count == bytes.len() {
@@ -110,13 +110,13 @@ impl Reader {
         }
         match self.end_number(run.phase, bytes[run.count]) {
             Ok(()) => Ok(run.count + 1),
-            Err(refusal) => Err(moved(refusal, run.count)),
+            Err(refusal) => Err(refusal.moved_by(run.count)),
         }
     }
 
     // Hands on the string, which has closed.
     fn hand_text(&mut self, role: Role) -> Result<(), NoMemory>
-        requires sound { IsSound self.old }
+        requires sound { JsonIsSound self.old }
         requires place { self.old.place ≡ Place.Text role }
         ensures { OnOk result (HandsText role self.old self.new) }
     {
@@ -136,10 +136,10 @@ impl Reader {
 
     // Bytes in a string.
     pub(super) fn string(&mut self, role: Role, bytes: &[u8]) -> Result<usize, SyntaxRefusal>
-        requires sound { IsSound self.old }
+        requires sound { JsonIsSound self.old }
         requires place { self.old.place ≡ Place.Text role }
         requires some { 0 < length bytes.now }
-        ensures { TakesFront self.old bytes.now self.new result }
+        ensures { JsonTakesPrefix self.old bytes.now self.new result }
     {
         match self.text.read(bytes) {
             Ok(Reading::Closed(count)) => {

@@ -1,29 +1,28 @@
-// The steps of the reader from one token to the next: brackets, braces, commas, colons and white space, and
+// The steps of the reader from one token to the next: brackets, braces, commas, colons and whitespace, and
 // the first byte of each value and each name.
 ghost use Rattle.std.specs.Prelude.{◌≡◌, ◌<◌, length, OnOk, false, [], ◌∷◌};
+ghost use Rattle.sm_bytes.specs.Ascii.{quote, left_bracket, left_brace};
 ghost use Rattle.sm_tree.specs.Events.{end_list as list_ends, end_object as object_ends};
 ghost use Rattle.sm_tree.specs.Building.{IsIn, awaits_value};
 ghost use Rattle.sm_tree.specs.BuilderView.{building_of};
-ghost use Rattle.sm_json.specs.Strings.{is_white as white};
-ghost use Rattle.sm_tree.specs.NumberTail.{Leads as NumberLeads};
+ghost use Rattle.sm_json.specs.Strings.{is_whitespace};
+ghost use Rattle.sm_tree.specs.NumberTail.{NumberLeads};
 
 use super::Reader;
 use crate::place::{Literal, Place, Role};
-use crate::whitespace::{is_white, white_run};
+use crate::whitespace::Whitespace;
+use sm_bytes::{ByteClass, run_len};
 use sm_tree::number::Phase;
-use sm_tree::{FIRST_ROOM, NoMemory, OpenKind, SyntaxRefusal};
-
-/// The greatest number of lists and objects that may be open at one place of a text.
-const MOST_LEVELS: usize = 100;
+use sm_tree::{FIRST_ROOM, MOST_LEVELS, NoMemory, OpenKind, SyntaxRefusal};
 
 impl Reader {
-    ghost use Rattle.sm_json.specs.Machine.{IsSound, TakesByte, Goes, HasClosed, BeginsText, TakesWhite, TakesFront, state_of, lists_of, first_letter};
+    ghost use Rattle.sm_json.specs.steps.Machine.{JsonIsSound, JsonTakesByte, JsonGoes, HasClosed, BeginsString, TakesWhitespace, JsonTakesPrefix, json_state, lists_of, first_letter};
 
     // A bracket where a value may come.
     fn open_list(&mut self) -> Result<(), SyntaxRefusal>
-        requires sound { IsSound self.old }
+        requires sound { JsonIsSound self.old }
         requires place { self.old.place ≡ Place.Value }
-        ensures { TakesByte self.old 91 self.new result }
+        ensures { JsonTakesByte self.old left_bracket self.new result }
     {
         if self.depth >= MOST_LEVELS {
             return Err(SyntaxRefusal::TooDeep(0));
@@ -35,9 +34,9 @@ impl Reader {
     }
 
     fn open_object(&mut self) -> Result<(), SyntaxRefusal>
-        requires sound { IsSound self.old }
+        requires sound { JsonIsSound self.old }
         requires place { self.old.place ≡ Place.Value }
-        ensures { TakesByte self.old 123 self.new result }
+        ensures { JsonTakesByte self.old left_brace self.new result }
     {
         if self.depth >= MOST_LEVELS {
             return Err(SyntaxRefusal::TooDeep(0));
@@ -49,7 +48,7 @@ impl Reader {
     }
 
     fn close_list(&mut self) -> Result<(), NoMemory>
-        requires sound { IsSound self.old }
+        requires sound { JsonIsSound self.old }
         requires inside { IsIn OpenKind.List (lists_of self.old) }
         ensures { OnOk result (HasClosed self.old OpenKind.List list_ends self.new) }
     {
@@ -60,7 +59,7 @@ impl Reader {
     }
 
     fn close_object(&mut self) -> Result<(), NoMemory>
-        requires sound { IsSound self.old }
+        requires sound { JsonIsSound self.old }
         requires inside { IsIn OpenKind.Object (lists_of self.old) }
         requires unnamed { awaits_value (building_of self.old.builder) ≡ false }
         ensures { OnOk result (HasClosed self.old OpenKind.Object object_ends self.new) }
@@ -72,28 +71,28 @@ impl Reader {
     }
 
     fn begin_word(&mut self, word: Literal)
-        requires sound { IsSound self.old }
+        requires sound { JsonIsSound self.old }
         requires place { self.old.place ≡ Place.Value }
-        ensures { Goes self.old (first_letter word ∷ []) self.new }
+        ensures { JsonGoes self.old (first_letter word ∷ []) self.new }
     {
         self.place = Place::Word(word, 1);
     }
 
     fn begin_text(&mut self, role: Role)
-        requires sound { IsSound self.old }
-        requires place { BeginsText role self.old.place }
-        ensures { Goes self.old (34 ∷ []) self.new }
+        requires sound { JsonIsSound self.old }
+        requires place { BeginsString role self.old.place }
+        ensures { JsonGoes self.old (quote ∷ []) self.new }
     {
         self.text.start();
         self.place = Place::Text(role);
     }
 
     fn begin_number(&mut self, byte: u8, phase: Phase) -> Result<(), NoMemory>
-        requires sound { IsSound self.old }
+        requires sound { JsonIsSound self.old }
         requires place { self.old.place ≡ Place.Value }
-        requires black { white byte ≡ false }
+        requires black { is_whitespace byte ≡ false }
         requires begins { NumberLeads Phase.Start (byte ∷ []) phase }
-        ensures { OnOk result (Goes self.old (byte ∷ []) self.new) }
+        ensures { OnOk result (JsonGoes self.old (byte ∷ []) self.new) }
     {
         self.number.clear();
         self.number.push(byte)?;
@@ -103,10 +102,10 @@ impl Reader {
 
     // A byte where a value must come.
     fn value(&mut self, byte: u8) -> Result<(), SyntaxRefusal>
-        requires sound { IsSound self.old }
+        requires sound { JsonIsSound self.old }
         requires place { self.old.place ≡ Place.Value }
-        requires black { white byte ≡ false }
-        ensures { TakesByte self.old byte self.new result }
+        requires black { is_whitespace byte ≡ false }
+        ensures { JsonTakesByte self.old byte self.new result }
     {
         match byte {
             b'"' => self.begin_text(Role::Value),
@@ -124,10 +123,10 @@ impl Reader {
     }
 
     fn first_entry(&mut self, byte: u8) -> Result<(), SyntaxRefusal>
-        requires sound { IsSound self.old }
+        requires sound { JsonIsSound self.old }
         requires place { self.old.place ≡ Place.FirstEntry }
-        requires black { white byte ≡ false }
-        ensures { TakesByte self.old byte self.new result }
+        requires black { is_whitespace byte ≡ false }
+        ensures { JsonTakesByte self.old byte self.new result }
     {
         if byte == b']' {
             self.close_list()?;
@@ -139,10 +138,10 @@ impl Reader {
     }
 
     fn next_key(&mut self, byte: u8) -> Result<(), SyntaxRefusal>
-        requires sound { IsSound self.old }
+        requires sound { JsonIsSound self.old }
         requires place { self.old.place ≡ Place.NextKey }
-        requires black { white byte ≡ false }
-        ensures { TakesByte self.old byte self.new result }
+        requires black { is_whitespace byte ≡ false }
+        ensures { JsonTakesByte self.old byte self.new result }
     {
         if byte == b'"' {
             self.begin_text(Role::Key);
@@ -153,10 +152,10 @@ impl Reader {
     }
 
     fn first_key(&mut self, byte: u8) -> Result<(), SyntaxRefusal>
-        requires sound { IsSound self.old }
+        requires sound { JsonIsSound self.old }
         requires place { self.old.place ≡ Place.FirstKey }
-        requires black { white byte ≡ false }
-        ensures { TakesByte self.old byte self.new result }
+        requires black { is_whitespace byte ≡ false }
+        ensures { JsonTakesByte self.old byte self.new result }
     {
         if byte == b'}' {
             self.close_object()?;
@@ -168,10 +167,10 @@ impl Reader {
     }
 
     fn colon(&mut self, byte: u8) -> Result<(), SyntaxRefusal>
-        requires sound { IsSound self.old }
+        requires sound { JsonIsSound self.old }
         requires place { self.old.place ≡ Place.Colon }
-        requires black { white byte ≡ false }
-        ensures { TakesByte self.old byte self.new result }
+        requires black { is_whitespace byte ≡ false }
+        ensures { JsonTakesByte self.old byte self.new result }
     {
         if byte == b':' {
             self.place = Place::Value;
@@ -181,13 +180,13 @@ impl Reader {
         }
     }
 
-    // A byte that isn't white behind an entry of a list.
+    // A byte that is no whitespace behind an entry of a list.
     fn after_entry(&mut self, byte: u8) -> Result<(), SyntaxRefusal>
-        requires sound { IsSound self.old }
+        requires sound { JsonIsSound self.old }
         requires place { self.old.place ≡ Place.After }
         requires inside { IsIn OpenKind.List (lists_of self.old) }
-        requires black { white byte ≡ false }
-        ensures { TakesByte self.old byte self.new result }
+        requires black { is_whitespace byte ≡ false }
+        ensures { JsonTakesByte self.old byte self.new result }
     {
         if byte == b',' {
             self.place = Place::Value;
@@ -200,13 +199,13 @@ impl Reader {
         }
     }
 
-    // A byte that isn't white behind a pair of an object.
+    // A byte that is no whitespace behind a pair of an object.
     fn after_pair(&mut self, byte: u8) -> Result<(), SyntaxRefusal>
-        requires sound { IsSound self.old }
+        requires sound { JsonIsSound self.old }
         requires place { self.old.place ≡ Place.After }
         requires inside { IsIn OpenKind.Object (lists_of self.old) }
-        requires black { white byte ≡ false }
-        ensures { TakesByte self.old byte self.new result }
+        requires black { is_whitespace byte ≡ false }
+        ensures { JsonTakesByte self.old byte self.new result }
     {
         if byte == b',' {
             self.place = Place::NextKey;
@@ -219,13 +218,13 @@ impl Reader {
         }
     }
 
-    // A byte that isn't white behind a value.
+    // A byte that is no whitespace behind a value.
     #[tactic(auto, using(crate::proofs::Readers::first_is))]
     fn after(&mut self, byte: u8) -> Result<(), SyntaxRefusal>
-        requires sound { IsSound self.old }
+        requires sound { JsonIsSound self.old }
         requires place { self.old.place ≡ Place.After }
-        requires black { white byte ≡ false }
-        ensures { TakesByte self.old byte self.new result }
+        requires black { is_whitespace byte ≡ false }
+        ensures { JsonTakesByte self.old byte self.new result }
     {
         match self.builder.innermost() {
             Some(OpenKind::List) => self.after_entry(byte),
@@ -236,23 +235,23 @@ impl Reader {
 
     // Any byte behind a value.
     pub(super) fn behind(&mut self, byte: u8) -> Result<(), SyntaxRefusal>
-        requires sound { IsSound self.old }
+        requires sound { JsonIsSound self.old }
         requires place { self.old.place ≡ Place.After }
-        ensures { TakesByte self.old byte self.new result }
+        ensures { JsonTakesByte self.old byte self.new result }
     {
-        if is_white(byte) {
+        if Whitespace::has(byte) {
             Ok(())
         } else {
             self.after(byte)
         }
     }
 
-    // A byte that isn't white, between two tokens.
+    // A byte that is no whitespace, between two tokens.
     fn token(&mut self, byte: u8) -> Result<(), SyntaxRefusal>
-        requires sound { IsSound self.old }
-        requires between { TakesWhite (state_of self.old).place }
-        requires black { white byte ≡ false }
-        ensures { TakesByte self.old byte self.new result }
+        requires sound { JsonIsSound self.old }
+        requires between { TakesWhitespace (json_state self.old).place }
+        requires black { is_whitespace byte ≡ false }
+        ensures { JsonTakesByte self.old byte self.new result }
     {
         match self.place {
             Place::Value => self.value(byte),
@@ -265,16 +264,16 @@ impl Reader {
         }
     }
 
-    // Bytes between two tokens: a run of white space, or one byte of a token.
+    // Bytes between two tokens: a run of whitespace, or one byte of a token.
     #[tactic(auto, using(crate::proofs::Turns::refused_first))]
     pub(super) fn between(&mut self, bytes: &[u8]) -> Result<usize, SyntaxRefusal>
-        requires sound { IsSound self.old }
-        requires between { TakesWhite (state_of self.old).place }
+        requires sound { JsonIsSound self.old }
+        requires between { TakesWhitespace (json_state self.old).place }
         requires some { 0 < length bytes.now }
-        ensures { TakesFront self.old bytes.now self.new result }
+        ensures { JsonTakesPrefix self.old bytes.now self.new result }
     {
-        if is_white(bytes[0]) {
-            return Ok(1 + white_run(&bytes[1..]));
+        if Whitespace::has(bytes[0]) {
+            return Ok(1 + run_len::<Whitespace>(&bytes[1..]));
         }
         match self.token(bytes[0]) {
             Ok(()) => Ok(1),

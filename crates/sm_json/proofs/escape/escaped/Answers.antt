@@ -1,6 +1,6 @@
 -- Behind a backslash `u` opens a code unit.
 use Rattle.std.proofs.Common.{sym, subst}
-use Rattle.sm_json.specs.TextSteps.{PartSteps}
+use Rattle.sm_json.specs.steps.TextSteps.{PartSteps}
 use Rattle.sm_json.specs.declared.spot.Digits.TheVariants.{First}
 use Rattle.sm_json.specs.declared.spot.Part.TheVariants.{Escape as BehindBackslash, Unit as InUnit}
 use Rattle.sm_json.specs.declared.spot.Step.TheVariants.{Within}

@@ -1,8 +1,8 @@
 use Rattle.std.proofs.Common.{◌≡◌, ◌+◌, ◌≤◌, length, drop}
 use Rattle.sm_tree.specs.Node.{nodes_of, members_of}
 use Rattle.sm_tree.specs.View.{node_of, nodes_view, members_view}
-use Rattle.sm_tree.specs.Weight.{weight, nodes_weight, members_weight}
-use Rattle.sm_json.specs.Placing.{length_word}
+use Rattle.sm_tree.specs.steps.Weight.{weight, nodes_weight, members_weight}
+use Rattle.sm_bytes.specs.Lengths.{length_word}
 use Rattle.sm_json.specs.Written.{more_written_entries, more_written_pairs}
 use Rattle.sm_json.proofs.length.+lengths.Given as goal
 
@@ -23,12 +23,14 @@ decreases-more_pairs_len l = members_weight (members_of (members_view l.pairs.no
 
 abbrev pub invariant-more_entries_len-loop-item : goal.invariant-more_entries_len-loop-item
 invariant-more_entries_len-loop-item l = record {
-  length : length_word (l.len + length (more_written_entries (nodes_of (nodes_view (drop l.item-index l.items))))) ≡ length_word (length (more_written_entries (nodes_of (nodes_view l.items))));
+  length : length_word (l.len + length (more_written_entries (nodes_of (nodes_view (drop l.item-index l.items))))) ≡ length_word
+      (length (more_written_entries (nodes_of (nodes_view l.items))));
   weight : nodes_weight (nodes_of (nodes_view (drop l.item-index l.items))) ≤ nodes_weight (nodes_of (nodes_view l.items));
 }
 
 abbrev pub invariant-more_pairs_len-loop-pair : goal.invariant-more_pairs_len-loop-pair
 invariant-more_pairs_len-loop-pair l = record {
-  length : length_word (l.len + length (more_written_pairs (members_of (members_view (drop l.pair-index l.pairs))))) ≡ length_word (length (more_written_pairs (members_of (members_view l.pairs))));
+  length : length_word (l.len + length (more_written_pairs (members_of (members_view (drop l.pair-index l.pairs))))) ≡ length_word
+      (length (more_written_pairs (members_of (members_view l.pairs))));
   weight : members_weight (members_of (members_view (drop l.pair-index l.pairs))) ≤ members_weight (members_of (members_view l.pairs));
 }

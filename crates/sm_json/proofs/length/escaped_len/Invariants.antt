@@ -1,5 +1,5 @@
 use Rattle.std.proofs.Common.{◌≡◌, ◌+◌, length}
-use Rattle.sm_json.specs.Placing.{length_word}
+use Rattle.sm_bytes.specs.Lengths.{length_word}
 use Rattle.sm_json.specs.Written.{written_bytes}
 use Rattle.sm_json.proofs.length.escaped_len.Given as goal
 

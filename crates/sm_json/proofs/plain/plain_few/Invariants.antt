@@ -1,4 +1,4 @@
-use Rattle.sm_json.specs.Placing.{IsPlainBetween}
+use Rattle.sm_json.specs.steps.Placing.{IsPlainBetween}
 use Rattle.sm_json.proofs.plain.plain_few.Given as goal
 
 abbrev pub invariant-loop-byte : goal.invariant-loop-byte

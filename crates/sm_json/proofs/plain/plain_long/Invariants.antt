@@ -1,5 +1,5 @@
 use Rattle.std.proofs.Common.{◌-◌, ◌≤◌, length}
-use Rattle.sm_json.specs.Placing.{IsPlainBetween}
+use Rattle.sm_json.specs.steps.Placing.{IsPlainBetween}
 use Rattle.sm_json.proofs.plain.plain_long.Given as goal
 
 abbrev pub invariant-loop-at : goal.invariant-loop-at

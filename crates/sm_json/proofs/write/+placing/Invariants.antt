@@ -1,7 +1,7 @@
 use Rattle.std.proofs.Common.{◌≡◌, ◌+◌, ◌≤◌, ◌++◌, length, take, drop}
 use Rattle.sm_tree.specs.Node.{nodes_of, members_of}
 use Rattle.sm_tree.specs.View.{node_of, nodes_view, members_view}
-use Rattle.sm_tree.specs.Weight.{weight, nodes_weight, members_weight}
+use Rattle.sm_tree.specs.steps.Weight.{weight, nodes_weight, members_weight}
 use Rattle.sm_json.specs.Written.{more_written_entries, more_written_pairs}
 use Rattle.sm_json.proofs.write.+placing.Given as goal
 
@@ -22,14 +22,18 @@ decreases-place_more_pairs l = members_weight (members_of (members_view l.pairs.
 
 abbrev pub invariant-place_more_entries-loop-item : goal.invariant-place_more_entries-loop-item
 invariant-place_more_entries-loop-item l = record {
-  bytes : take l.at l.buf ++ more_written_entries (nodes_of (nodes_view (drop l.item-index l.items))) ≡ take l.fn.at l.fn.buf ++ more_written_entries (nodes_of (nodes_view l.items));
-  next : l.at + length (more_written_entries (nodes_of (nodes_view (drop l.item-index l.items)))) ≡ l.fn.at + length (more_written_entries (nodes_of (nodes_view l.items)));
+  bytes : take l.at l.buf ++ more_written_entries (nodes_of (nodes_view (drop l.item-index l.items))) ≡ take l.fn.at
+      l.fn.buf ++ more_written_entries (nodes_of (nodes_view l.items));
+  next : l.at + length (more_written_entries (nodes_of (nodes_view (drop l.item-index l.items)))) ≡ l.fn.at + length
+      (more_written_entries (nodes_of (nodes_view l.items)));
   weight : nodes_weight (nodes_of (nodes_view (drop l.item-index l.items))) ≤ nodes_weight (nodes_of (nodes_view l.items));
 }
 
 abbrev pub invariant-place_more_pairs-loop-pair : goal.invariant-place_more_pairs-loop-pair
 invariant-place_more_pairs-loop-pair l = record {
-  bytes : take l.at l.buf ++ more_written_pairs (members_of (members_view (drop l.pair-index l.pairs))) ≡ take l.fn.at l.fn.buf ++ more_written_pairs (members_of (members_view l.pairs));
-  next : l.at + length (more_written_pairs (members_of (members_view (drop l.pair-index l.pairs)))) ≡ l.fn.at + length (more_written_pairs (members_of (members_view l.pairs)));
+  bytes : take l.at l.buf ++ more_written_pairs (members_of (members_view (drop l.pair-index l.pairs))) ≡ take l.fn.at
+      l.fn.buf ++ more_written_pairs (members_of (members_view l.pairs));
+  next : l.at + length (more_written_pairs (members_of (members_view (drop l.pair-index l.pairs)))) ≡ l.fn.at + length
+      (more_written_pairs (members_of (members_view l.pairs)));
   weight : members_weight (members_of (members_view (drop l.pair-index l.pairs))) ≤ members_weight (members_of (members_view l.pairs));
 }

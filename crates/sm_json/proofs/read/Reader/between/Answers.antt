@@ -1,7 +1,9 @@
-use Rattle.std.proofs.Common.{sym}
+use Rattle.std.proofs.Common.{sym, ◌∙◌}
+use Rattle.sm_json.proofs.White.{whites_of_run}
 use Rattle.sm_json.proofs.Turns.{white_run_takes}
 use Rattle.sm_json.proofs.read.Reader.between.Goals as goal
 
-pub returns-then-is_white : goal.returns-then-is_white
-returns-then-is_white c =
-    white_run_takes c.args.self.now c.args.bytes.now c.white_run.result c.requires.sound c.requires.between c.requires.some c.white_run.ensures.within (sym c.if-is_white.ensures) c.white_run.ensures.white
+pub returns-then-has : goal.returns-then-has
+returns-then-has c =
+    white_run_takes c.args.self.now c.args.bytes.now c.run_len.result c.requires.sound c.requires.between c.requires.some
+    c.run_len.ensures.within (sym c.has.ensures ∙ c.if-has.true) (whites_of_run _ c.run_len.result c.run_len.ensures.run)

@@ -11,5 +11,6 @@ returns-then-not-is_whole c = (
 
 pub returns : goal.returns
 returns c =
-    number_then c.args.self.now c.hand_number.new.self c.behind.new.self c.args.phase c.args.byte c.behind.result c.requires.sound c.requires.place c.requires.stops
+    number_then c.args.self.now c.hand_number.new.self c.behind.new.self c.args.phase c.args.byte c.behind.result c.requires.sound
+    c.requires.place c.requires.stops
     c.in_ok-hand_number.ensures c.behind.ensures

@@ -7,4 +7,5 @@ returns-then-self-gt0 c = number_cut_short c.args.self c.args.phase c.requires.s
 
 pub returns-then-not-is_whole : goal.returns-then-not-is_whole
 returns-then-not-is_whole c =
-    number_cut_short c.args.self c.args.phase c.requires.sound c.requires.place (inr (λ whole. let clash : false ≡ true = c.if-not-is_whole.ensures.1 whole in cc))
+    number_cut_short c.args.self c.args.phase c.requires.sound c.requires.place
+    (inr (λ whole. let clash : false ≡ true = c.if-not-is_whole.ensures.1 whole in cc))

@@ -6,10 +6,12 @@ pub returns-in-Ok : goal.returns-in-Ok
 returns-in-Ok c = (
   omega arith,
   omega (arith, c.in_ok-run.ensures.inside),
-  then_byte_goes c.args.self.now c.grow_number.new.self c.end_number.new.self c.args.bytes.now c.in_ok-run.run'.count (omega (arith, c.in_ok-run.ensures.inside)) c.in_ok-run.ensures.goes c.in-Ok.ensures,
+  then_byte_goes c.args.self.now c.grow_number.new.self c.end_number.new.self c.args.bytes.now c.in_ok-run.run'.count
+      (omega (arith, c.in_ok-run.ensures.inside)) c.in_ok-run.ensures.goes c.in-Ok.ensures,
 )
 
 pub returns-in-Err : goal.returns-in-Err
 returns-in-Err c =
-    rw c.moved.ensures (refused_later c.args.self.now c.grow_number.new.self c.end_number.new.self c.args.bytes.now c.in_ok-run.run'.count c.in-Err.refusal
+    rw c.moved_by.ensures (refused_later c.args.self.now c.grow_number.new.self c.end_number.new.self c.args.bytes.now
+    c.in_ok-run.run'.count c.in-Err.refusal
     (omega (arith, c.in_ok-run.ensures.inside)) c.in_ok-run.ensures.goes c.in-Err.ensures)

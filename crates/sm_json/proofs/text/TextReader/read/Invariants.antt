@@ -1,5 +1,5 @@
 use Rattle.std.proofs.Common.{◌≤◌, ◌-◌, length, take}
-use Rattle.sm_json.specs.Reading.{ReadsOn}
+use Rattle.sm_json.specs.steps.StringReading.{ReadsOn}
 use Rattle.sm_json.proofs.text.TextReader.read.Given as goal
 
 abbrev pub invariant-loop-at : goal.invariant-loop-at

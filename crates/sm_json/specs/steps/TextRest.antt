@@ -8,7 +8,7 @@ use Rattle.sm_json.specs.declared.spot.Part.{Part}
 use Rattle.sm_json.specs.declared.spot.Part.TheVariants.{Escape as BehindBackslash, Unit as InUnit, LowBackslash, LowLetter, LowUnit, One, Two, Three}
 use Rattle.sm_json.specs.declared.spot.Spot.{Spot}
 use Rattle.sm_json.specs.declared.spot.Spot.TheVariants.{Plain, Inside}
-use Rattle.sm_tree.specs.Escapes.{IsHigh, IsLow, joined}
+use Rattle.sm_bytes.specs.Escapes.{IsHigh, IsLow, joined}
 use Rattle.sm_json.specs.Strings.{IsUnescaped, HexDigits, CodeUnit, LowHalf, Escape, Characters}
 
 -- the digits that are left of a code unit, which make v with those before

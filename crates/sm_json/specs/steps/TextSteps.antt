@@ -9,10 +9,10 @@ use Rattle.sm_json.specs.declared.spot.Spot.{Spot}
 use Rattle.sm_json.specs.declared.spot.Spot.TheVariants.{Plain, Inside}
 use Rattle.sm_json.specs.declared.spot.Step.{Step}
 use Rattle.sm_json.specs.declared.spot.Step.TheVariants.{Within, Whole, Closed, Refused}
-use Rattle.sm_tree.specs.Escapes.{IsHigh}
+use Rattle.sm_bytes.specs.Escapes.{IsHigh}
 use Rattle.sm_json.specs.Strings.{LowHalf}
-use Rattle.sm_tree.specs.Utf8.{IsTail, IsSecond}
-use Rattle.sm_json.specs.TextRest.{PartRest, TextRest}
+use Rattle.sm_bytes.specs.Utf8.{IsTail, IsSecond}
+use Rattle.sm_json.specs.steps.TextRest.{PartRest, TextRest}
 
 -- the digits so far are those of a code unit that may stand first: no low surrogate
 abbrev pub IsUnitBegun : Digits → Type 0
@@ -52,11 +52,11 @@ abbrev pub UnitEnd : ℕ → ℕ → List ℕ → List ℕ → Type 0
 UnitEnd u c s r = CodeEnd u c s r ⊎ (IsHigh u × LowHalf u c s r)
 
 -- the rest of a character, as a relation between the character, what spells its rest, and what follows
-abbrev pub Rest : Type 1
-Rest = ℕ → List ℕ → List ℕ → Type 0
+abbrev pub CharacterRest : Type 1
+CharacterRest = ℕ → List ℕ → List ℕ → Type 0
 
 -- this step leaves the same rests as R
-abbrev pub StepsTo : Rest → Step → Type 0
+abbrev pub StepsTo : CharacterRest → Step → Type 0
 StepsTo R (Within p) = IsPartLive p × ((c : ℕ) (s r : List ℕ) → IsScalar c → R c s r ↔ PartRest p c s r)
 StepsTo R (Whole d) = IsScalar d × ((c : ℕ) (s r : List ℕ) → IsScalar c → R c s r ↔ CodeEnd d c s r)
 StepsTo R Closed = ⊥
@@ -67,8 +67,8 @@ abbrev pub PartSteps : Part → ℕ → Step → Type 0
 PartSteps p x step = StepsTo (λ c s r. PartRest p c (x ∷ s) r) step
 
 -- what the byte x makes of a place within a string
-abbrev pub Steps : Spot → ℕ → Step → Type 0
-Steps spot x (Within p) = IsPartLive p × ((b s t r : List ℕ) → TextRest spot b (x ∷ s) t r ↔ TextRest (Inside p) b s t r)
-Steps spot x (Whole c) = (b s t r : List ℕ) → TextRest spot b (x ∷ s) t r ↔ TextRest Plain (b ++ encode_utf8 c) s t r
-Steps spot x Closed = (b s t r : List ℕ) → TextRest spot b (x ∷ s) t r ↔ ((t ≡ b) × (s ≡ r))
-Steps spot x Refused = (b s t r : List ℕ) → TextRest spot b (x ∷ s) t r → ⊥
+abbrev pub StringSteps : Spot → ℕ → Step → Type 0
+StringSteps spot x (Within p) = IsPartLive p × ((b s t r : List ℕ) → TextRest spot b (x ∷ s) t r ↔ TextRest (Inside p) b s t r)
+StringSteps spot x (Whole c) = (b s t r : List ℕ) → TextRest spot b (x ∷ s) t r ↔ TextRest Plain (b ++ encode_utf8 c) s t r
+StringSteps spot x Closed = (b s t r : List ℕ) → TextRest spot b (x ∷ s) t r ↔ ((t ≡ b) × (s ≡ r))
+StringSteps spot x Refused = (b s t r : List ℕ) → TextRest spot b (x ∷ s) t r → ⊥

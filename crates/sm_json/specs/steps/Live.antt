@@ -6,7 +6,7 @@ use Rattle.sm_json.specs.declared.spot.Part.{Part}
 use Rattle.sm_json.specs.declared.spot.Part.TheVariants.{Escape as BehindBackslash, Unit as InUnit, LowBackslash, LowLetter, LowUnit, One, Two, Three}
 use Rattle.sm_json.specs.declared.spot.Spot.{Spot}
 use Rattle.sm_json.specs.declared.spot.Spot.TheVariants.{Plain, Inside}
-use Rattle.sm_json.specs.TextSteps.{IsUnitBegun, IsLowBegun, IsPartLive, IsLive}
+use Rattle.sm_json.specs.steps.TextSteps.{IsUnitBegun, IsLowBegun, IsPartLive, IsLive}
 
 unit-prop : (d : Digits) → IsProp (IsUnitBegun d)
 unit-prop First = Unit-prop
