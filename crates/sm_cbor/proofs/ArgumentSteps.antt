@@ -2,10 +2,11 @@
 use Rattle.std.proofs.Common.{◌≡◌, ℕ, pos, negsuc, ◌+◌, ◌-◌, ◌*◌, ◌%◌, ◌≤◌, ◌<◌, ◌⊎◌, inl, inr, List, [], ◌∷◌, ◌++◌, None, refl, sym, subst, ◌∙◌, arith, length}
 use Rattle.sm_tree.specs.Events.{NodeEvent, events, tag_event, opaque_event, start_list, start_object}
 use Rattle.sm_tree.proofs.Events.{events_append}
-use Rattle.sm_tree.specs.declared.utf8.Utf8.TheVariants.{Between}
-use Rattle.sm_cbor.specs.CborItem.{Keys, IsOpaque}
-use Rattle.sm_cbor.specs.Reading.{integer_node}
-use Rattle.sm_cbor.specs.Rest.{ArgumentEnded, ArgumentComes, before_span, Leads, Stops}
+use Rattle.sm_bytes.specs.declared.utf8.Utf8.TheVariants.{Between}
+use Rattle.sm_cbor.specs.CborItem.{IsOpaque}
+use Rattle.sm_cbor.specs.steps.Marks.{Keys}
+use Rattle.sm_cbor.specs.steps.Reading.{integer_node}
+use Rattle.sm_cbor.specs.steps.Rest.{ArgumentEnded, ArgumentComes, before_span, CborLeads, CborStops}
 use Rattle.sm_cbor.specs.declared.place.StringKind.{StringKind}
 use Rattle.sm_cbor.specs.declared.place.Span.{Span}
 use Rattle.sm_cbor.specs.declared.place.Subject.{Subject}
@@ -18,77 +19,95 @@ use Rattle.sm_cbor.proofs.Items.{at}
 
 -- a byte of it
 pub argument_byte : (w : Keys) (limit : ℕ) (j : Subject) (k v b : ℕ) (t : List ℕ) (ls : List Level) → 0 < k → b < 256
-    → Leads w limit (at (InArgument j k v) t ls) (b ∷ []) [] (at (InArgument j (k - 1) (v * 256 + b)) t ls)
+    → CborLeads w limit (at (InArgument j k v) t ls) (b ∷ []) [] (at (InArgument j (k - 1) (v * 256 + b)) t ls)
 argument_byte w limit j k v b t ls some small = record {
   onward = λ s es h. let (n, r, more, ended) = h in (es, refl, (n, r, (number_byte k v n b s r some more).1, ended));
   back = λ s fs h. let (n, r, more, ended) = h in (n, r, number_more k v n b s r some small more, ended);
 }
 
 -- a byte of a simple value that has none
-pub simple_stops : (w : Keys) (limit b c : ℕ) (t : List ℕ) (ls : List Level) → b % 32 ≡ 24 → c < 32 → Stops w limit (at (InArgument (Opaque b) 1 0) t ls) c
+pub simple_stops : (w : Keys) (limit b c : ℕ) (t : List ℕ) (ls : List Level) → b % 32 ≡ 24 → c < 32
+    → CborStops w limit (at (InArgument (Opaque b) 1 0) t ls) c
 simple_stops w limit b c t ls info small s es (n, r, more, (fs, inl low, en, e)) = omega arith
-simple_stops w limit b c t ls info small s es (n, r, more, (fs, inr (inl (same, big)), en, e)) = let is : n ≡ 0 * 256 + c = more.1.0 in omega arith
+simple_stops w limit b c t ls info small s es (n, r, more, (fs, inr (inl (same, big)), en, e)) = let is : n ≡ 0 * 256 + c = more.1.0 in
+    omega arith
 simple_stops w limit b c t ls info small s es (n, r, more, (fs, inr (inr high), en, e)) = omega arith
 
 -- no mark in it, and no end
-pub argument_no_mark : (w : Keys) (limit : ℕ) (j : Subject) (k v : ℕ) (t : List ℕ) (ls : List Level) → 0 < k → Stops w limit (at (InArgument j k v) t ls) 256
+pub argument_no_mark : (w : Keys) (limit : ℕ) (j : Subject) (k v : ℕ) (t : List ℕ) (ls : List Level) → 0 < k
+    → CborStops w limit (at (InArgument j k v) t ls) 256
 argument_no_mark w limit j k v t ls some s es (n, r, more, ended) = let small = (number_byte k v n 256 s r some more).0 in omega arith
 
-pub argument_owed : (w : Keys) (limit : ℕ) (j : Subject) (k v : ℕ) (t : List ℕ) (ls : List Level) (es : List NodeEvent) → 0 < k → ArgumentComes w limit j k v t ls [] es → ⊥
+pub argument_owed : (w : Keys) (limit : ℕ) (j : Subject) (k v : ℕ) (t : List ℕ) (ls : List Level) (es : List NodeEvent) → 0 < k
+    → ArgumentComes w limit j k v t ls [] es → ⊥
 argument_owed w limit j k v t ls es some (n, r, more, ended) = number_owed k v n r some more
 
 -- behind its last byte
-ended_onward : (w : Keys) (limit : ℕ) (j : Subject) (v : ℕ) (t : List ℕ) (ls : List Level) (s : List ℕ) (es : List NodeEvent) → ArgumentComes w limit j 0 v t ls s es → ArgumentEnded w limit j v t ls s es
-ended_onward w limit j v t ls s es (n, r, (e, f), h) = subst (λ x. ArgumentEnded w limit j v t ls x es) (sym f) (subst (λ x. ArgumentEnded w limit j x t ls r es) e h)
+ended_onward : (w : Keys) (limit : ℕ) (j : Subject) (v : ℕ) (t : List ℕ) (ls : List Level) (s : List ℕ) (es : List NodeEvent)
+    → ArgumentComes w limit j 0 v t ls s es → ArgumentEnded w limit j v t ls s es
+ended_onward w limit j v t ls s es (n, r, (e, f), h) =
+    subst (λ x. ArgumentEnded w limit j v t ls x es) (sym f) (subst (λ x. ArgumentEnded w limit j x t ls r es) e h)
 
-ended_back : (w : Keys) (limit : ℕ) (j : Subject) (v : ℕ) (t : List ℕ) (ls : List Level) (s : List ℕ) (es : List NodeEvent) → ArgumentEnded w limit j v t ls s es → ArgumentComes w limit j 0 v t ls s es
+ended_back : (w : Keys) (limit : ℕ) (j : Subject) (v : ℕ) (t : List ℕ) (ls : List Level) (s : List ℕ) (es : List NodeEvent)
+    → ArgumentEnded w limit j v t ls s es → ArgumentComes w limit j 0 v t ls s es
 ended_back w limit j v t ls s es h = (v, s, (refl, refl), h)
 
-pub unsigned_ends : (w : Keys) (limit n : ℕ) (t u : List ℕ) (ls : List Level) → Leads w limit (at (InArgument Unsigned 0 n) t ls) [] (events (integer_node n (pos n)) []) (at After u ls)
+pub unsigned_ends : (w : Keys) (limit n : ℕ) (t u : List ℕ) (ls : List Level)
+    → CborLeads w limit (at (InArgument Unsigned 0 n) t ls) [] (events (integer_node n (pos n)) []) (at After u ls)
 unsigned_ends w limit n t u ls = record {
-  onward = λ s es h. let (fs, en, e) = ended_onward w limit Unsigned n t ls s es h in (fs, e ∙ events_append (integer_node n (pos n)) fs, en);
-  back = λ s fs h. ended_back w limit Unsigned n t ls s (events (integer_node n (pos n)) [] ++ fs) (fs, h, sym (events_append (integer_node n (pos n)) fs));
+  onward = λ s es h. let (fs, en, e) = ended_onward w limit Unsigned n t ls s es h in
+      (fs, e ∙ events_append (integer_node n (pos n)) fs, en);
+  back = λ s fs h. ended_back w limit Unsigned n t ls s (events (integer_node n (pos n)) [] ++ fs)
+      (fs, h, sym (events_append (integer_node n (pos n)) fs));
 }
 
-pub negative_ends : (w : Keys) (limit n : ℕ) (t u : List ℕ) (ls : List Level) → Leads w limit (at (InArgument Negative 0 n) t ls) [] (events (integer_node n (negsuc n)) []) (at After u ls)
+pub negative_ends : (w : Keys) (limit n : ℕ) (t u : List ℕ) (ls : List Level)
+    → CborLeads w limit (at (InArgument Negative 0 n) t ls) [] (events (integer_node n (negsuc n)) []) (at After u ls)
 negative_ends w limit n t u ls = record {
-  onward = λ s es h. let (fs, en, e) = ended_onward w limit Negative n t ls s es h in (fs, e ∙ events_append (integer_node n (negsuc n)) fs, en);
-  back = λ s fs h. ended_back w limit Negative n t ls s (events (integer_node n (negsuc n)) [] ++ fs) (fs, h, sym (events_append (integer_node n (negsuc n)) fs));
+  onward = λ s es h. let (fs, en, e) = ended_onward w limit Negative n t ls s es h in
+      (fs, e ∙ events_append (integer_node n (negsuc n)) fs, en);
+  back = λ s fs h. ended_back w limit Negative n t ls s (events (integer_node n (negsuc n)) [] ++ fs)
+      (fs, h, sym (events_append (integer_node n (negsuc n)) fs));
 }
 
 pub string_begins : (w : Keys) (limit n : ℕ) (kind : StringKind) (span : Span) (t : List ℕ) (ls : List Level)
-    → Leads w limit (at (InArgument (StringHead kind span) 0 n) t ls) [] [] (at (String kind span n Between) (before_span span t) ls)
+    → CborLeads w limit (at (InArgument (StringHead kind span) 0 n) t ls) [] [] (at (String kind span n Between) (before_span span t) ls)
 string_begins w limit n kind span t ls = record {
   onward = λ s es h. (es, refl, ended_onward w limit (StringHead kind span) n t ls s es h);
   back = λ s fs h. ended_back w limit (StringHead kind span) n t ls s fs h;
 }
 
-pub list_opens : (w : Keys) (limit n : ℕ) (t u : List ℕ) (ls : List Level) → Leads w limit (at (InArgument ListHead 0 n) t ls) [] (start_list None ∷ []) (at After u (AList n ∷ ls))
+pub list_opens : (w : Keys) (limit n : ℕ) (t u : List ℕ) (ls : List Level)
+    → CborLeads w limit (at (InArgument ListHead 0 n) t ls) [] (start_list None ∷ []) (at After u (AList n ∷ ls))
 list_opens w limit n t u ls = record {
   onward = λ s es h. let (fs, en, e) = ended_onward w limit ListHead n t ls s es h in (fs, e, en);
   back = λ s fs h. ended_back w limit ListHead n t ls s (start_list None ∷ fs) (fs, h, refl);
 }
 
-pub map_opens : (w : Keys) (limit n : ℕ) (t u : List ℕ) (ls : List Level) → Leads w limit (at (InArgument MapHead 0 n) t ls) [] (start_object None ∷ []) (at After u (AMap n ∷ ls))
+pub map_opens : (w : Keys) (limit n : ℕ) (t u : List ℕ) (ls : List Level)
+    → CborLeads w limit (at (InArgument MapHead 0 n) t ls) [] (start_object None ∷ []) (at After u (AMap n ∷ ls))
 map_opens w limit n t u ls = record {
   onward = λ s es h. let (fs, en, e) = ended_onward w limit MapHead n t ls s es h in (fs, e, en);
   back = λ s fs h. ended_back w limit MapHead n t ls s (start_object None ∷ fs) (fs, h, refl);
 }
 
-pub tag_opens : (w : Keys) (limit n : ℕ) (t u : List ℕ) (ls : List Level) → Leads w limit (at (InArgument TagHead 0 n) t ls) [] (tag_event n ∷ []) (at Item u (Tag ∷ ls))
+pub tag_opens : (w : Keys) (limit n : ℕ) (t u : List ℕ) (ls : List Level)
+    → CborLeads w limit (at (InArgument TagHead 0 n) t ls) [] (tag_event n ∷ []) (at Item u (Tag ∷ ls))
 tag_opens w limit n t u ls = record {
   onward = λ s es h. let (fs, en, e) = ended_onward w limit TagHead n t ls s es h in (fs, e, en);
   back = λ s fs h. ended_back w limit TagHead n t ls s (tag_event n ∷ fs) (fs, h, refl);
 }
 
-pub opaque_ends : (w : Keys) (limit b n : ℕ) (t u : List ℕ) (ls : List Level) → IsOpaque (b % 32) n → Leads w limit (at (InArgument (Opaque b) 0 n) t ls) [] (opaque_event b ∷ []) (at After u ls)
+pub opaque_ends : (w : Keys) (limit b n : ℕ) (t u : List ℕ) (ls : List Level) → IsOpaque (b % 32) n
+    → CborLeads w limit (at (InArgument (Opaque b) 0 n) t ls) [] (opaque_event b ∷ []) (at After u ls)
 opaque_ends w limit b n t u ls is = record {
   onward = λ s es h. let (fs, opq, en, e) = ended_onward w limit (Opaque b) n t ls s es h in (fs, e, en);
   back = λ s fs h. ended_back w limit (Opaque b) n t ls s (opaque_event b ∷ fs) (fs, is, h, refl);
 }
 
 -- an opener needs a level
-pub no_room : (w : Keys) (limit : ℕ) (j : Subject) (k v : ℕ) (t : List ℕ) (ls : List Level) (s : List ℕ) (es : List NodeEvent) → limit ≤ length ls
+pub no_room : (w : Keys) (limit : ℕ) (j : Subject) (k v : ℕ) (t : List ℕ) (ls : List Level) (s : List ℕ) (es : List NodeEvent)
+    → limit ≤ length ls
     → ((j ≡ ListHead) ⊎ ((j ≡ MapHead) ⊎ (j ≡ TagHead))) → ArgumentComes w limit j k v t ls s es → ⊥
 no_room w limit j k v t ls s es deep (inl e) (n, r, more, ended) =
     let (gs, (ns, q, fs, h, room, en, e1), e2) = subst (λ x. ArgumentEnded w limit x n t ls r es) e ended in omega arith

@@ -3,7 +3,7 @@ use Rattle.std.proofs.Common.{◌≡◌, ◌≢◌, ℕ, zero, suc, ◌+◌, ◌
 use Rattle.std.proofs.lemmas.Bool.{cond-true, cond-false, lt-ltb, le-ltb, le-leb, lt-leb}
 use Rattle.std.proofs.lemmas.Bool.Decides.{nat_tests}
 use Rattle.sm_cbor.specs.Heads.{Number, HasWidth, Argument}
-use Rattle.sm_cbor.specs.Reading.{StartsNumber, SubjectIs, HeadIs}
+use Rattle.sm_cbor.specs.steps.Reading.{StartsNumber, SubjectIs, HeadIs}
 use Rattle.sm_cbor.specs.declared.head.Head.{Head}
 use Rattle.sm_cbor.specs.declared.head.Head.TheVariants.{Argument as ArgumentHead, Chunks as ChunksHead, List as EntriesHead, Map as PairsHead, Null as NullHead, Bool as BoolHead, NoItem}
 use Rattle.sm_cbor.specs.declared.place.StringKind.TheVariants.{Bytes, Text, Key}
@@ -76,7 +76,8 @@ argument_back info k v n s r (inr (wide, f)) h = inr (k, wide, number_as k k 0 v
 pub argument_onward : (info k v n : ℕ) (s r : List ℕ) → StartsNumber info k v → Argument info n s r → Number k v n s r
 argument_onward info k v n s r starts a =
     let (j, u, other, h) = argument_starts info n s r a in
-    number_as k j v u n s r (left_is info k v starts ∙ sym (left_is info j u other)) (value_is info k v starts ∙ sym (value_is info j u other)) h
+    number_as k j v u n s r (left_is info k v starts ∙ sym (left_is info j u other))
+    (value_is info k v starts ∙ sym (value_is info j u other)) h
 
 -- the initial byte tells of what the argument is
 abbrev subject_at : ℕ → ℕ → Subject
@@ -100,7 +101,8 @@ subject_told c (Opaque b) h = ap Opaque (sym h.0) ∙ ap (λ m. subject_at m c) 
 
 -- and with its argument it tells what the whole head says
 abbrev without_argument_at : ℕ → Head
-without_argument_at c = cond (c == 0x5F) (ChunksHead Bytes) (cond (c == 0x7F) (ChunksHead Text) (cond (c == 0x9F) EntriesHead (cond (c == 0xBF) PairsHead NoItem)))
+without_argument_at c = cond (c == 0x5F) (ChunksHead Bytes)
+    (cond (c == 0x7F) (ChunksHead Text) (cond (c == 0x9F) EntriesHead (cond (c == 0xBF) PairsHead NoItem)))
 
 abbrev with_argument_at : ℕ → Head
 with_argument_at c =
@@ -133,7 +135,8 @@ same_argument i j k l v u e f g = cc
 
 head_told : (c : ℕ) (h : Head) → HeadIs c h → h ≡ head_at c
 head_told c (ArgumentHead j k v) (is, starts) =
-    same_argument j (subject_at (c / 32) c) k (left_at (c % 32)) v (value_at (c % 32)) (subject_told c j is) (left_is (c % 32) k v starts) (value_is (c % 32) k v starts)
+    same_argument j (subject_at (c / 32) c) k (left_at (c % 32)) v (value_at (c % 32)) (subject_told c j is) (left_is (c % 32) k v starts)
+    (value_is (c % 32) k v starts)
     ∙ sym (cond-false _ _ _ (other_byte c 0xF7 (λ e. simple_apart c j is (omega arith) (omega arith) (omega arith))))
     ∙ sym (cond-false _ _ _ (other_byte c 0xF6 (λ e. simple_apart c j is (omega arith) (omega arith) (omega arith))))
     ∙ sym (cond-false _ _ _ (other_byte c 0xF5 (λ e. simple_apart c j is (omega arith) (omega arith) (omega arith))))
@@ -149,7 +152,8 @@ head_told c NullHead (inr e) = sym (ap head_at e)
 head_told c (BoolHead false) e = sym (ap head_at e)
 head_told c (BoolHead true) e = sym (ap head_at e)
 head_told c NoItem (none, b, t, l, m) =
-    sym (cond-false _ _ _ (other_byte c 0xBF m)) ∙ sym (cond-false _ _ _ (other_byte c 0x9F l)) ∙ sym (cond-false _ _ _ (other_byte c 0x7F t))
+    sym (cond-false _ _ _ (other_byte c 0xBF m)) ∙ sym (cond-false _ _ _ (other_byte c 0x9F l))
+    ∙ sym (cond-false _ _ _ (other_byte c 0x7F t))
     ∙ sym (cond-false _ _ _ (other_byte c 0x5F b)) ∙ sym (cond-true _ _ _ (le-leb 28 (c % 32) none))
 
 pub one_head : (c : ℕ) (g h : Head) → HeadIs c g → HeadIs c h → g ≡ h

@@ -1,23 +1,21 @@
 -- What the reader does with a byte outside of strings. The answers of those steps cite these.
-use Rattle.std.proofs.Common.{◌≡◌, ◌≢◌, ℕ, zero, suc, ◌+◌, ◌-◌, ◌*◌, ◌/◌, ◌%◌, ◌^◌, ◌≤◌, ◌<◌, ◌⊎◌, inl, inr, Bool, true, List, [], ◌∷◌, None, refl, sym, ap, subst, ◌∙◌, arith, length, append-nil}
-use Rattle.std.proofs.Common.{Result, Ok, Err}
+use Rattle.std.proofs.Common.{◌≡◌, ◌≢◌, ℕ, zero, suc, ◌+◌, ◌-◌, ◌*◌, ◌/◌, ◌%◌, ◌^◌, ◌≤◌, ◌<◌, ◌⊎◌, inl, inr, Bool, true, List, [], ◌∷◌, None, refl, sym, subst, arith, length, append-nil}
 use Rattle.std.proofs.Common.{Global}
 use Rattle.std.specs.Prelude.{Vec}
-use Rattle.sm_tree.specs.declared.refusal.SyntaxRefusal.{SyntaxRefusal}
-use Rattle.sm_tree.specs.declared.refusal.SyntaxRefusal.TheVariants.{Bad, Ended, TooDeep, KeyKind, NoMemory}
 use Rattle.std.proofs.lemmas.Str.{IsUtf8-nil}
-use Rattle.sm_tree.specs.Syntax.{most_levels}
+use Rattle.sm_tree.specs.Limits.{most_levels}
 use Rattle.sm_tree.specs.Levels.{levels}
 use Rattle.sm_tree.specs.Node.{Node, null, bool, int, number, text, bytes, tag, opaque, list, object}
 use Rattle.sm_tree.specs.Events.{NodeEvent, events, null_event, bool_event, start_list, start_object}
-use Rattle.sm_tree.specs.Building.{awaits_value, goes_on}
+use Rattle.sm_tree.specs.Building.{awaits_value}
 use Rattle.sm_tree.specs.BuilderView.{building_of}
-use Rattle.sm_cbor.specs.CborItem.{Keys, plain, marked, mark, Item as ItemBytes}
+use Rattle.sm_cbor.specs.CborItem.{TextString, Item as ItemBytes}
+use Rattle.sm_cbor.specs.steps.Marks.{plain, marked}
 use Rattle.sm_cbor.specs.Heads.{HasWidth}
 use Rattle.sm_cbor.specs.Refusals.{IsNoText, BeginsOther}
-use Rattle.sm_cbor.specs.Reading.{StartsNumber, HeadIs, SubjectIs, IsOf, bound}
-use Rattle.sm_cbor.specs.Rest.{State, Leads, Stops}
-use Rattle.sm_cbor.specs.Machine.{kinds_of, levels_of, state_at, state_of, handed_on, opens_of, ArgumentLives, ArgumentAwaits, ChunksHeld, InMap, StringAwaits, BehindItem, IsAt, IsSound, Goes, Opens, IsBadByte, IsOtherKey, OpensTooDeep, TakesByte, IsFirst, first_level}
+use Rattle.sm_cbor.specs.steps.Reading.{StartsNumber, HeadIs, SubjectIs, IsOf, bound}
+use Rattle.sm_cbor.specs.steps.Rest.{CborLeads}
+use Rattle.sm_cbor.specs.steps.Machine.{levels_of, cbor_state_at, cbor_handed_on, opens_of, ArgumentLives, ArgumentAwaits, ChunksHeld, StringAwaits, BehindItem, IsAt, IsSoundReader, CborGoes, OpensLevel, IsBadByte, IsOtherKey, OpensTooDeep}
 use Rattle.sm_cbor.specs.declared.head.Head.{Head}
 use Rattle.sm_cbor.specs.declared.head.Head.TheVariants.{Argument as ArgumentHead, Chunks as ChunksHead, List as EntriesHead, Map as PairsHead, Null as NullHead, Bool as BoolHead, NoItem}
 use Rattle.sm_cbor.specs.declared.place.StringKind.{StringKind}
@@ -32,7 +30,6 @@ use Rattle.sm_cbor.specs.declared.place.Place.TheVariants.{Item, Key, After, Arg
 use Rattle.sm_cbor.specs.declared.read.Reader.{Reader}
 use Rattle.sm_cbor.proofs.Items.{at, HeadComes, item_onward, item_back, argument_leads, chunks_lead, list_leads, map_leads, null_leads, bool_leads, item_stops}
 use Rattle.sm_cbor.proofs.KeySteps.{key_leads, key_chunks_lead, key_stops, key_mark}
-use Rattle.sm_cbor.proofs.LevelSteps.{entry_goes_on, pair_goes_on, only_entry, only_pair, done_stops, entry_comes, pair_comes}
 use Rattle.sm_cbor.proofs.ArgumentSteps.{no_room}
 use Rattle.sm_cbor.proofs.Endings.{goes_on as something_comes, ends_can, item_can}
 use Rattle.sm_cbor.proofs.Readings.{goes_by, goes_with, goes_to}
@@ -118,20 +115,28 @@ room_for : (n o : ℕ) → o ≤ 1 → n + 0 ≤ most_levels → (o ≡ 1 → n 
 room_for n zero small room more = room
 room_for n (suc o) small room more = let e : suc o ≡ 1 = omega arith in let less = more e in omega arith
 
-pub argument_there : (r : Reader) (c k v : ℕ) (j : Subject) → IsAt r Item → HeadIs c (ArgumentHead j k v) → (opens_of j ≡ 1 → length (levels_of r) < most_levels) → IsAt r (InArgument j k v)
+pub argument_there : (r : Reader) (c k v : ℕ) (j : Subject) → IsAt r Item → HeadIs c (ArgumentHead j k v)
+    → (opens_of j ≡ 1 → length (levels_of r) < most_levels) → IsAt r (InArgument j k v)
 argument_there r c k v j there is more = record {
   kinds_are = there.kinds_are;
   room = room_for (length (levels_of r)) (opens_of j) (opens_small j) there.room more;
-  keeps = (head_lives c k v j is, start_bound (c % 32) k v is.1, head_awaits c j (levels_of r) (awaits_value (building_of r.builder)) is.0 there.keeps, head_held c j r.held.items is.0);
+  keeps = (
+    head_lives c k v j is,
+    start_bound (c % 32) k v is.1,
+    head_awaits c j (levels_of r) (awaits_value (building_of r.builder)) is.0
+        there.keeps,
+    head_held c j r.held.items is.0,
+  );
   settled = tt;
 }
 
 pub in_room : (r : Reader) (p : Place) (limit : ℕ) → IsAt r p → most_levels ≤ limit → length (levels_of r) ≤ limit
 in_room r p limit there high = let room = there.room in omega arith
 
-pub argument_goes : (r q : Reader) (c k v : ℕ) (j : Subject) → IsAt r Item → HeadIs c (ArgumentHead j k v) → Goes r [] (InArgument j k v) [] q → Goes r [] Item (c ∷ []) q
+pub argument_goes : (r q : Reader) (c k v : ℕ) (j : Subject) → IsAt r Item → HeadIs c (ArgumentHead j k v)
+    → CborGoes r [] (InArgument j k v) [] q → CborGoes r [] Item (c ∷ []) q
 argument_goes r q c k v j there is goes =
-    goes_by r r q Item (InArgument j k v) (c ∷ []) [] [] goes (sym (append-nil (handed_on r)))
+    goes_by r r q Item (InArgument j k v) (c ∷ []) [] [] goes (sym (append-nil (cbor_handed_on r)))
     (λ w limit high. argument_leads w limit c k v j r.held.items (levels_of r) (in_room r Item limit there high) is)
 
 -- an opener where no more levels may open
@@ -144,53 +149,85 @@ level_is MapHead e = inr (inl refl)
 level_is TagHead e = inr (inr refl)
 level_is (Opaque b) e = absurd (omega arith)
 
-pub argument_deep : (r : Reader) (c k v : ℕ) (j : Subject) → HeadIs c (ArgumentHead j k v) → opens_of j ≡ 1 → most_levels ≤ length (levels_of r) → OpensTooDeep (state_at r Item) c
+pub argument_deep : (r : Reader) (c k v : ℕ) (j : Subject) → HeadIs c (ArgumentHead j k v) → opens_of j ≡ 1
+    → most_levels ≤ length (levels_of r) → OpensTooDeep (cbor_state_at r Item) c
 argument_deep r c k v j is level full =
     let n = length (levels_of r) in
     let opens = opens_small j in
     let (s, es, rest) = something_comes plain (n + 1) (InArgument j k v) r.held.items (levels_of r) (omega arith) (head_lives c k v j is) in
     record {
-      stops = λ s es h. no_room plain most_levels j k v r.held.items (levels_of r) s es full (level_is j level) (item_onward plain most_levels c (ArgumentHead j k v) r.held.items (levels_of r) s es is h);
-      goes_on = (n + 1, omega arith, s, es, item_back plain (n + 1) c (ArgumentHead j k v) r.held.items (levels_of r) s es (omega arith) is rest);
+      stops = λ s es h. no_room plain most_levels j k v r.held.items (levels_of r) s es full (level_is j level)
+          (item_onward plain most_levels c (ArgumentHead j k v) r.held.items (levels_of r) s es is h);
+      goes_on = (
+        n + 1,
+        omega arith,
+        s,
+        es,
+        item_back plain (n + 1) c (ArgumentHead j k v) r.held.items (levels_of r) s es (omega arith) is
+            rest,
+      );
     }
 
-pub list_deep : (r : Reader) (c : ℕ) → HeadIs c EntriesHead → most_levels ≤ length (levels_of r) → OpensTooDeep (state_at r Item) c
+pub list_deep : (r : Reader) (c : ℕ) → HeadIs c EntriesHead → most_levels ≤ length (levels_of r) → OpensTooDeep (cbor_state_at r Item) c
 list_deep r c is full =
     let n = length (levels_of r) in
     let (s, es, en) = ends_can plain (n + 1) (AListToBreak ∷ levels_of r) (omega arith) in
     record {
       stops = λ s es h.
-          let (fs, (ns, q, gs, more, room, en, e1), e) = item_onward plain most_levels c EntriesHead r.held.items (levels_of r) s es is h in omega arith;
-      goes_on = (n + 1, omega arith, s, start_list None ∷ es, item_back plain (n + 1) c EntriesHead r.held.items (levels_of r) s (start_list None ∷ es) (omega arith) is (es, en, refl));
+          let (fs, (ns, q, gs, more, room, en, e1), e) = item_onward plain most_levels c EntriesHead r.held.items (levels_of r) s es is h in
+          omega arith;
+      goes_on = (
+        n + 1,
+        omega arith,
+        s,
+        start_list None ∷ es,
+        item_back plain (n + 1) c EntriesHead r.held.items (levels_of r) s
+            (start_list None ∷ es) (omega arith) is (es, en, refl),
+      );
     }
 
-pub map_deep : (r : Reader) (c : ℕ) → HeadIs c PairsHead → most_levels ≤ length (levels_of r) → OpensTooDeep (state_at r Item) c
+pub map_deep : (r : Reader) (c : ℕ) → HeadIs c PairsHead → most_levels ≤ length (levels_of r) → OpensTooDeep (cbor_state_at r Item) c
 map_deep r c is full =
     let n = length (levels_of r) in
     let (s, es, en) = ends_can plain (n + 1) (AMapToBreak ∷ levels_of r) (omega arith) in
     record {
       stops = λ s es h.
-          let (fs, (ms, q, gs, more, room, en, e1), e) = item_onward plain most_levels c PairsHead r.held.items (levels_of r) s es is h in omega arith;
-      goes_on = (n + 1, omega arith, s, start_object None ∷ es, item_back plain (n + 1) c PairsHead r.held.items (levels_of r) s (start_object None ∷ es) (omega arith) is (es, en, refl));
+          let (fs, (ms, q, gs, more, room, en, e1), e) = item_onward plain most_levels c PairsHead r.held.items (levels_of r) s es is h in
+          omega arith;
+      goes_on = (
+        n + 1,
+        omega arith,
+        s,
+        start_object None ∷ es,
+        item_back plain (n + 1) c PairsHead r.held.items (levels_of r) s
+            (start_object None ∷ es) (omega arith) is (es, en, refl),
+      );
     }
 
 -- an array or a map of indefinite length opens
-after_sound : (r : Reader) (l : Level) (ls : List Level) → levels_of r ≡ l ∷ ls → BehindItem (l ∷ ls) → IsAt r After → IsSound (record r { place = After })
+after_sound : (r : Reader) (l : Level) (ls : List Level) → levels_of r ≡ l ∷ ls → BehindItem (l ∷ ls) → IsAt r After
+    → IsSoundReader (record r { place = After })
 after_sound r l ls e behind there = record {
   there = record { kinds_are = there.kinds_are; room = there.room; keeps = there.keeps; settled = there.settled };
   begun = subst BehindItem (sym e) behind;
 }
 
-pub list_begins : (r mid : Reader) (c : ℕ) → IsAt r Item → HeadIs c EntriesHead → Opens r AListToBreak (start_list None ∷ []) mid → Goes r [] Item (c ∷ []) (record mid { place = After })
+pub list_begins : (r mid : Reader) (c : ℕ) → IsAt r Item → HeadIs c EntriesHead → OpensLevel r AListToBreak (start_list None ∷ []) mid
+    → CborGoes r [] Item (c ∷ []) (record mid { place = After })
 list_begins r mid c there is opens =
-    goes_to r (record mid { place = After }) Item (c ∷ []) (start_list None ∷ []) (after_sound mid AListToBreak (levels_of r) opens.levels tt opens.there) opens.taken
-    (λ w limit high. subst (λ ks. Leads w limit (state_at r Item) (c ∷ []) (start_list None ∷ []) (at After mid.held.items ks)) (sym opens.levels)
+    goes_to r (record mid { place = After }) Item (c ∷ []) (start_list None ∷ [])
+    (after_sound mid AListToBreak (levels_of r) opens.levels tt opens.there) opens.taken
+    (λ w limit high. subst (λ ks. CborLeads w limit (cbor_state_at r Item) (c ∷ []) (start_list None ∷ []) (at After mid.held.items ks))
+    (sym opens.levels)
     (list_leads w limit c r.held.items mid.held.items (levels_of r) (in_room r Item limit there high) is))
 
-pub map_begins : (r mid : Reader) (c : ℕ) → IsAt r Item → HeadIs c PairsHead → Opens r AMapToBreak (start_object None ∷ []) mid → Goes r [] Item (c ∷ []) (record mid { place = After })
+pub map_begins : (r mid : Reader) (c : ℕ) → IsAt r Item → HeadIs c PairsHead → OpensLevel r AMapToBreak (start_object None ∷ []) mid
+    → CborGoes r [] Item (c ∷ []) (record mid { place = After })
 map_begins r mid c there is opens =
-    goes_to r (record mid { place = After }) Item (c ∷ []) (start_object None ∷ []) (after_sound mid AMapToBreak (levels_of r) opens.levels tt opens.there) opens.taken
-    (λ w limit high. subst (λ ks. Leads w limit (state_at r Item) (c ∷ []) (start_object None ∷ []) (at After mid.held.items ks)) (sym opens.levels)
+    goes_to r (record mid { place = After }) Item (c ∷ []) (start_object None ∷ [])
+    (after_sound mid AMapToBreak (levels_of r) opens.levels tt opens.there) opens.taken
+    (λ w limit high. subst (λ ks. CborLeads w limit (cbor_state_at r Item) (c ∷ []) (start_object None ∷ []) (at After mid.held.items ks))
+    (sym opens.levels)
     (map_leads w limit c r.held.items mid.held.items (levels_of r) (in_room r Item limit there high) is))
 
 -- the chunks of a string begin
@@ -199,67 +236,87 @@ kind_nil Bytes = tt
 kind_nil Text = IsUtf8-nil
 kind_nil KeyText = IsUtf8-nil
 
-chunks_sound : (r : Reader) (p : Place) (kind : StringKind) (h : Vec ℕ Global) → h.items ≡ [] → IsAt r p → StringAwaits kind (levels_of r) (awaits_value (building_of r.builder)) → IsSound (record r { place = Chunks kind; held = h })
+chunks_sound : (r : Reader) (p : Place) (kind : StringKind) (h : Vec ℕ Global) → h.items ≡ [] → IsAt r p
+    → StringAwaits kind (levels_of r) (awaits_value (building_of r.builder)) → IsSoundReader (record r { place = Chunks kind; held = h })
 chunks_sound r p kind h empty there awaits = record {
-  there = record { kinds_are = there.kinds_are; room = let room = there.room in omega arith; keeps = (awaits, subst (IsOf kind) (sym empty) (kind_nil kind)); settled = tt };
+  there = record {
+    kinds_are = there.kinds_are;
+    room = let room = there.room in omega arith;
+    keeps =
+        (awaits, subst (IsOf kind) (sym empty) (kind_nil kind));
+    settled = tt;
+  };
   begun = tt;
 }
 
-head_string : (c : ℕ) (kind : StringKind) (ls : List Level) (awaits : Bool) → HeadIs c (ChunksHead kind) → awaits ≡ true → StringAwaits kind ls awaits
+head_string : (c : ℕ) (kind : StringKind) (ls : List Level) (awaits : Bool) → HeadIs c (ChunksHead kind) → awaits ≡ true
+    → StringAwaits kind ls awaits
 head_string c Bytes ls awaits is e = e
 head_string c Text ls awaits is e = e
 head_string c KeyText ls awaits is e = absurd is
 
-pub chunks_begin : (r : Reader) (c : ℕ) (kind : StringKind) (h : Vec ℕ Global) → h.items ≡ [] → IsAt r Item → HeadIs c (ChunksHead kind) → Goes r [] Item (c ∷ []) (record r { place = Chunks kind; held = h })
+pub chunks_begin : (r : Reader) (c : ℕ) (kind : StringKind) (h : Vec ℕ Global) → h.items ≡ [] → IsAt r Item → HeadIs c (ChunksHead kind)
+    → CborGoes r [] Item (c ∷ []) (record r { place = Chunks kind; held = h })
 chunks_begin r c kind h empty there is =
     goes_to r (record r { place = Chunks kind; held = h }) Item (c ∷ []) []
     (chunks_sound r Item kind h empty there (head_string c kind (levels_of r) (awaits_value (building_of r.builder)) is there.keeps))
-    (sym (append-nil (handed_on r)))
-    (λ w limit high. subst (λ t. Leads w limit (state_at r Item) (c ∷ []) [] (at (Chunks kind) t (levels_of r))) (sym empty)
+    (sym (append-nil (cbor_handed_on r)))
+    (λ w limit high. subst (λ t. CborLeads w limit (cbor_state_at r Item) (c ∷ []) [] (at (Chunks kind) t (levels_of r))) (sym empty)
     (chunks_lead w limit c kind r.held.items (levels_of r) (in_room r Item limit there high) is))
 
-pub key_chunks_begin : (r : Reader) (c : ℕ) (h : Vec ℕ Global) → h.items ≡ [] → IsAt r Key → c ≡ 0x7F → Goes r [] Key (c ∷ []) (record r { place = Chunks KeyText; held = h })
+pub key_chunks_begin : (r : Reader) (c : ℕ) (h : Vec ℕ Global) → h.items ≡ [] → IsAt r Key → c ≡ 0x7F
+    → CborGoes r [] Key (c ∷ []) (record r { place = Chunks KeyText; held = h })
 key_chunks_begin r c h empty there is =
     goes_to r (record r { place = Chunks KeyText; held = h }) Key (c ∷ []) []
     (chunks_sound r Key KeyText h empty there there.keeps)
-    (sym (append-nil (handed_on r)))
-    (λ w limit high. subst (λ t. Leads w limit (state_at r Key) (c ∷ []) [] (at (Chunks KeyText) t (levels_of r))) (sym empty)
+    (sym (append-nil (cbor_handed_on r)))
+    (λ w limit high. subst (λ t. CborLeads w limit (cbor_state_at r Key) (c ∷ []) [] (at (Chunks KeyText) t (levels_of r))) (sym empty)
     (key_chunks_lead w limit c r.held.items (levels_of r) is))
 
 -- null, false and true
-pub null_goes : (r q : Reader) (c : ℕ) (x : Node) → IsAt r Item → HeadIs c NullHead → x ≡ null → Goes r (events x []) After [] q → Goes r [] Item (c ∷ []) q
+pub null_goes : (r q : Reader) (c : ℕ) (x : Node) → IsAt r Item → HeadIs c NullHead → x ≡ null → CborGoes r (events x []) After [] q
+    → CborGoes r [] Item (c ∷ []) q
 null_goes r q c x there is e goes =
-    goes_with r r q Item After (c ∷ []) [] (null_event ∷ []) (subst (λ y. Goes r (events y []) After [] q) e goes) refl
+    goes_with r r q Item After (c ∷ []) [] (null_event ∷ []) (subst (λ y. CborGoes r (events y []) After [] q) e goes) refl
     (λ w limit high. null_leads w limit c r.held.items r.held.items (levels_of r) (in_room r Item limit there high) is)
 
-pub bool_goes : (r q : Reader) (c : ℕ) (b : Bool) (x : Node) → IsAt r Item → HeadIs c (BoolHead b) → x ≡ bool b → Goes r (events x []) After [] q → Goes r [] Item (c ∷ []) q
+pub bool_goes : (r q : Reader) (c : ℕ) (b : Bool) (x : Node) → IsAt r Item → HeadIs c (BoolHead b) → x ≡ bool b
+    → CborGoes r (events x []) After [] q → CborGoes r [] Item (c ∷ []) q
 bool_goes r q c b x there is e goes =
-    goes_with r r q Item After (c ∷ []) [] (bool_event b ∷ []) (subst (λ y. Goes r (events y []) After [] q) e goes) refl
+    goes_with r r q Item After (c ∷ []) [] (bool_event b ∷ []) (subst (λ y. CborGoes r (events y []) After [] q) e goes) refl
     (λ w limit high. bool_leads w limit c b r.held.items r.held.items (levels_of r) (in_room r Item limit there high) is)
 
 -- no item begins with the byte
 pub none_begins : (c : ℕ) → HeadIs c NoItem → BeginsOther c → ⊥
-none_begins c is (more, n, no_text, item) = item_stops plain (levels n) c [] [] is more (events n []) (n, [], [], item, omega arith, (refl, refl), refl)
+none_begins c is (more, n, no_text, item) =
+    item_stops plain (levels n) c [] [] is more (events n []) (n, [], [], item, omega arith, (refl, refl), refl)
 
-pub item_bad : (r : Reader) (c : ℕ) → HeadIs c NoItem → IsBadByte (state_at r Item) c
+pub item_bad : (r : Reader) (c : ℕ) → HeadIs c NoItem → IsBadByte (cbor_state_at r Item) c
 item_bad r c is = record { stops = λ limit. item_stops plain limit c r.held.items (levels_of r) is; no_key = inr (none_begins c is) }
 
 -- a key that is a text
 pub key_there : (r : Reader) (c k v : ℕ) → IsAt r Key → StartsNumber (c % 32) k v → IsAt r (InArgument (StringHead KeyText Whole) k v)
-key_there r c k v there starts = record { kinds_are = there.kinds_are; room = there.room; keeps = (tt, start_bound (c % 32) k v starts, there.keeps, tt); settled = tt }
+key_there r c k v there starts = record {
+  kinds_are = there.kinds_are;
+  room = there.room;
+  keeps =
+      (tt, start_bound (c % 32) k v starts, there.keeps, tt);
+  settled = tt;
+}
 
-pub key_begins : (r q : Reader) (c k v : ℕ) → c / 32 ≡ 3 → StartsNumber (c % 32) k v → Goes r [] (InArgument (StringHead KeyText Whole) k v) [] q → Goes r [] Key (c ∷ []) q
+pub key_begins : (r q : Reader) (c k v : ℕ) → c / 32 ≡ 3 → StartsNumber (c % 32) k v
+    → CborGoes r [] (InArgument (StringHead KeyText Whole) k v) [] q → CborGoes r [] Key (c ∷ []) q
 key_begins r q c k v is starts goes =
-    goes_by r r q Key (InArgument (StringHead KeyText Whole) k v) (c ∷ []) [] [] goes (sym (append-nil (handed_on r)))
+    goes_by r r q Key (InArgument (StringHead KeyText Whole) k v) (c ∷ []) [] [] goes (sym (append-nil (cbor_handed_on r)))
     (λ w limit high. key_leads w limit c k v r.held.items (levels_of r) is starts)
 
-pub text_bad : (r : Reader) (c : ℕ) → c / 32 ≡ 3 → 28 ≤ c % 32 → c ≢ 0x7F → IsBadByte (state_at r Key) c
+pub text_bad : (r : Reader) (c : ℕ) → c / 32 ≡ 3 → 28 ≤ c % 32 → c ≢ 0x7F → IsBadByte (cbor_state_at r Key) c
 text_bad r c is none no_chunks = record {
   stops = λ limit. key_stops limit c r.held.items (levels_of r) (λ e. none) no_chunks;
   no_key = inr (none_begins c (none, (λ e. omega arith), no_chunks, (λ e. omega arith), (λ e. omega arith)));
 }
 
-pub key_bad : (r : Reader) (c : ℕ) → c / 32 ≢ 3 → HeadIs c NoItem → IsBadByte (state_at r Key) c
+pub key_bad : (r : Reader) (c : ℕ) → c / 32 ≢ 3 → HeadIs c NoItem → IsBadByte (cbor_state_at r Key) c
 key_bad r c other is = record {
   stops = λ limit. key_stops limit c r.held.items (levels_of r) (λ e. absurd (other e)) (λ e. other (omega arith));
   no_key = inr (none_begins c is);
@@ -270,15 +327,18 @@ abbrev Can : (List ℕ → List NodeEvent → Type 0) → Type 0
 Can P = (s : List ℕ) × (es : List NodeEvent) × P s es
 
 head_can : (c : ℕ) (h : Head) → HeadIs c h → (h ≡ NoItem → ⊥) → Can (HeadComes plain 1 h [] [])
-head_can c (ArgumentHead j k v) is some = let small = opens_small j in something_comes plain 1 (InArgument j k v) [] [] (omega arith) (head_lives c k v j is)
+head_can c (ArgumentHead j k v) is some = let small = opens_small j in
+    something_comes plain 1 (InArgument j k v) [] [] (omega arith) (head_lives c k v j is)
 head_can c (ChunksHead kind) is some = something_comes plain 1 (Chunks kind) [] [] (omega arith) tt
-head_can c EntriesHead is some = let (s, es, en) = ends_can plain 1 (AListToBreak ∷ []) (omega arith) in (s, start_list None ∷ es, (es, en, refl))
-head_can c PairsHead is some = let (s, es, en) = ends_can plain 1 (AMapToBreak ∷ []) (omega arith) in (s, start_object None ∷ es, (es, en, refl))
+head_can c EntriesHead is some = let (s, es, en) = ends_can plain 1 (AListToBreak ∷ []) (omega arith) in
+    (s, start_list None ∷ es, (es, en, refl))
+head_can c PairsHead is some = let (s, es, en) = ends_can plain 1 (AMapToBreak ∷ []) (omega arith) in
+    (s, start_object None ∷ es, (es, en, refl))
 head_can c NullHead is some = ([], null_event ∷ [], ([], (refl, refl), refl))
 head_can c (BoolHead b) is some = ([], bool_event b ∷ [], ([], (refl, refl), refl))
 head_can c NoItem is some = absurd (some refl)
 
-no_text_node : (n : Node) (c : ℕ) (s r : List ℕ) → c / 32 ≢ 3 → ItemBytes plain n (c ∷ s) r → IsNoText n
+no_text_node : (n : Node) (c : ℕ) (s r : List ℕ) → c / 32 ≢ 3 → ItemBytes TextString n (c ∷ s) r → IsNoText n
 no_text_node null c s r other h = tt
 no_text_node (bool b) c s r other h = tt
 no_text_node (int z) c s r other h = tt
@@ -295,9 +355,10 @@ begins_other : (c : ℕ) (h : Head) → HeadIs c h → (h ≡ NoItem → ⊥) �
 begins_other c h is some other =
     let (s, es, comes) = head_can c h is some in
     let (n, r, fs, item, room, (none, nothing), e) = item_back plain 1 c h [] [] s es (omega arith) is comes in
-    (s, n, no_text_node n c s r other item, subst (λ x. ItemBytes plain n (c ∷ s) x) none item)
+    (s, n, no_text_node n c s r other item, subst (λ x. ItemBytes TextString n (c ∷ s) x) none item)
 
-pub other_key : (r : Reader) (c : ℕ) (h : Head) → IsAt r Key → HeadIs c h → (h ≡ NoItem → ⊥) → c / 32 ≢ 3 → IsOtherKey (state_at r Key) c
+pub other_key : (r : Reader) (c : ℕ) (h : Head) → IsAt r Key → HeadIs c h → (h ≡ NoItem → ⊥) → c / 32 ≢ 3
+    → IsOtherKey (cbor_state_at r Key) c
 other_key r c h there is some other =
     let (s, es, item) = item_can marked most_levels (levels_of r) (in_room r Key most_levels there (omega arith)) in
     record {
@@ -305,115 +366,3 @@ other_key r c h there is some other =
       key = (most_levels, omega arith, s, _, key_mark most_levels (levels_of r) s es item);
       other = begins_other c h is some other;
     }
-
--- behind an item
-first_is : (ls : List Level) (l : Level) → IsFirst l ls → (ks : List Level) × (ls ≡ l ∷ ks)
-first_is [] l e = absurd cc
-first_is (k ∷ ks) l e = (ks, let same : k ≡ l = cc in ap (λ x. x ∷ ks) same)
-
-nothing_open : (ls : List Level) → first_level ls ≡ None → ls ≡ []
-nothing_open [] e = refl
-nothing_open (k ∷ ks) e = absurd cc
-
-pub done_bad : (r : Reader) (c : ℕ) → first_level (levels_of r) ≡ None → IsBadByte (state_at r After) c
-done_bad r c none = subst (λ ls. IsBadByte (at After r.held.items ls) c) (sym (nothing_open (levels_of r) none)) (record {
-  stops = λ limit. done_stops plain limit c r.held.items;
-  no_key = inl (λ limit. done_stops marked limit mark r.held.items);
-})
-
-pub entry_there : (r : Reader) → IsAt r After → IsFirst AListToBreak (levels_of r) → IsAt r Item
-entry_there r there first =
-    let (ls, e) = first_is (levels_of r) AListToBreak first in
-    record { kinds_are = there.kinds_are; room = there.room; keeps = there.keeps ∙ ap (λ ks. goes_on (kinds_of ks)) e; settled = tt }
-
-pub pair_there : (r : Reader) → IsAt r After → IsFirst AMapToBreak (levels_of r) → IsAt r Key
-pair_there r there first =
-    let (ls, e) = first_is (levels_of r) AMapToBreak first in
-    record { kinds_are = there.kinds_are; room = there.room; keeps = (subst InMap (sym e) tt, there.keeps ∙ ap (λ ks. goes_on (kinds_of ks)) e); settled = tt }
-
--- what a byte that is no break does behind an entry is what it does where an item must come
-entry_stops : (w : Keys) (limit c : ℕ) (t : List ℕ) (ls : List Level) → c ≢ 0xFF → Stops w limit (at Item t (AListToBreak ∷ ls)) c → Stops w limit (at After t (AListToBreak ∷ ls)) c
-entry_stops w limit c t ls other stops s es h = stops s es (only_entry w limit c ls s es other h)
-
-pair_stops : (w : Keys) (limit c : ℕ) (t : List ℕ) (ls : List Level) → c ≢ 0xFF → Stops w limit (at Key t (AMapToBreak ∷ ls)) c → Stops w limit (at After t (AMapToBreak ∷ ls)) c
-pair_stops w limit c t ls other stops s es h = stops s es (only_pair w limit c ls s es other h)
-
-entry_bad : (t : List ℕ) (c : ℕ) (ls : List Level) → c ≢ 0xFF → IsBadByte (at Item t (AListToBreak ∷ ls)) c → IsBadByte (at After t (AListToBreak ∷ ls)) c
-entry_bad t c ls other h = record {
-  stops = λ limit. entry_stops plain limit c t ls other (h.stops limit);
-  no_key = elim h.no_key [ inl no_mark ↦ inl (λ limit. entry_stops marked limit mark t ls (λ e. omega arith) (no_mark limit)) | inr none ↦ inr none ];
-}
-
-entry_deep : (t : List ℕ) (c : ℕ) (ls : List Level) → c ≢ 0xFF → OpensTooDeep (at Item t (AListToBreak ∷ ls)) c → OpensTooDeep (at After t (AListToBreak ∷ ls)) c
-entry_deep t c ls other h =
-    let (limit, high, s, es, rest) = h.goes_on in record {
-      stops = entry_stops plain most_levels c t ls other h.stops;
-      goes_on = (limit, high, s, es, entry_comes plain limit ls (c ∷ s) es rest);
-    }
-
-entry_other : (t : List ℕ) (c : ℕ) (ls : List Level) → c ≢ 0xFF → IsOtherKey (at Item t (AListToBreak ∷ ls)) c → IsOtherKey (at After t (AListToBreak ∷ ls)) c
-entry_other t c ls other h =
-    let (limit, high, s, es, rest) = h.key in record {
-      stops = λ limit. entry_stops plain limit c t ls other (h.stops limit);
-      key = (limit, high, s, es, entry_comes marked limit ls (mark ∷ s) es rest);
-      other = h.other;
-    }
-
-pair_bad : (t : List ℕ) (c : ℕ) (ls : List Level) → c ≢ 0xFF → IsBadByte (at Key t (AMapToBreak ∷ ls)) c → IsBadByte (at After t (AMapToBreak ∷ ls)) c
-pair_bad t c ls other h = record {
-  stops = λ limit. pair_stops plain limit c t ls other (h.stops limit);
-  no_key = elim h.no_key [ inl no_mark ↦ inl (λ limit. pair_stops marked limit mark t ls (λ e. omega arith) (no_mark limit)) | inr none ↦ inr none ];
-}
-
-pair_deep : (t : List ℕ) (c : ℕ) (ls : List Level) → c ≢ 0xFF → OpensTooDeep (at Key t (AMapToBreak ∷ ls)) c → OpensTooDeep (at After t (AMapToBreak ∷ ls)) c
-pair_deep t c ls other h =
-    let (limit, high, s, es, rest) = h.goes_on in record {
-      stops = pair_stops plain most_levels c t ls other h.stops;
-      goes_on = (limit, high, s, es, pair_comes plain limit ls (c ∷ s) es rest);
-    }
-
-pair_other : (t : List ℕ) (c : ℕ) (ls : List Level) → c ≢ 0xFF → IsOtherKey (at Key t (AMapToBreak ∷ ls)) c → IsOtherKey (at After t (AMapToBreak ∷ ls)) c
-pair_other t c ls other h =
-    let (limit, high, s, es, rest) = h.key in record {
-      stops = λ limit. pair_stops plain limit c t ls other (h.stops limit);
-      key = (limit, high, s, es, pair_comes marked limit ls (mark ∷ s) es rest);
-      other = h.other;
-    }
-
-abbrev ToAfter : (State → ℕ → Type 0) → Place → Level → Type 0
-ToAfter P p l = (t : List ℕ) (c : ℕ) (ls : List Level) → c ≢ 0xFF → P (at p t (l ∷ ls)) c → P (at After t (l ∷ ls)) c
-
-as_after : (P : State → ℕ → Type 0) (r : Reader) (p : Place) (l : Level) (ls : List Level) (c : ℕ) → levels_of r ≡ l ∷ ls → ToAfter P p l → c ≢ 0xFF → P (state_at r p) c → P (state_at r After) c
-as_after P r p l ls c e to other h = subst (λ ks. P (at p r.held.items ks) c → P (at After r.held.items ks) c) (sym e) (to r.held.items c ls other) h
-
-leads_after : (w : Keys) (limit c : ℕ) (r : Reader) (p : Place) (l : Level) (ls : List Level) (out : List NodeEvent) (x : State) → levels_of r ≡ l ∷ ls
-    → (Leads w limit (at p r.held.items (l ∷ ls)) (c ∷ []) out x → Leads w limit (at After r.held.items (l ∷ ls)) (c ∷ []) out x) → Leads w limit (state_at r p) (c ∷ []) out x → Leads w limit (state_at r After) (c ∷ []) out x
-leads_after w limit c r p l ls out x e to h = subst (λ ks. Leads w limit (at p r.held.items ks) (c ∷ []) out x → Leads w limit (at After r.held.items ks) (c ∷ []) out x) (sym e) to h
-
-pub entry_takes : (r q : Reader) (c : ℕ) (result : Result (Unit {0}) SyntaxRefusal) → IsFirst AListToBreak (levels_of r) → c ≢ 0xFF → TakesByte r Item c q result → TakesByte r After c q result
-entry_takes r q c (Ok x) first other h =
-    let (ls, e) = first_is (levels_of r) AListToBreak first in record {
-      out = h.out;
-      leads = λ w limit high. leads_after w limit c r Item AListToBreak ls h.out (state_of q) e (entry_goes_on w limit c r.held.items ls h.out (state_of q) other) (h.leads w limit high);
-      taken = h.taken;
-      sound = h.sound;
-    }
-entry_takes r q c (Err NoMemory) first other h = tt
-entry_takes r q c (Err (Bad n)) first other h = let (ls, e) = first_is (levels_of r) AListToBreak first in (h.0, as_after IsBadByte r Item AListToBreak ls c e (λ t d ks o x. entry_bad t d ks o x) other h.1)
-entry_takes r q c (Err Ended) first other h = h
-entry_takes r q c (Err (TooDeep n)) first other h = let (ls, e) = first_is (levels_of r) AListToBreak first in (h.0, as_after OpensTooDeep r Item AListToBreak ls c e (λ t d ks o x. entry_deep t d ks o x) other h.1)
-entry_takes r q c (Err (KeyKind n)) first other h = let (ls, e) = first_is (levels_of r) AListToBreak first in (h.0, as_after IsOtherKey r Item AListToBreak ls c e (λ t d ks o x. entry_other t d ks o x) other h.1)
-
-pub pair_takes : (r q : Reader) (c : ℕ) (result : Result (Unit {0}) SyntaxRefusal) → IsFirst AMapToBreak (levels_of r) → c ≢ 0xFF → TakesByte r Key c q result → TakesByte r After c q result
-pair_takes r q c (Ok x) first other h =
-    let (ls, e) = first_is (levels_of r) AMapToBreak first in record {
-      out = h.out;
-      leads = λ w limit high. leads_after w limit c r Key AMapToBreak ls h.out (state_of q) e (pair_goes_on w limit c r.held.items ls h.out (state_of q) other) (h.leads w limit high);
-      taken = h.taken;
-      sound = h.sound;
-    }
-pair_takes r q c (Err NoMemory) first other h = tt
-pair_takes r q c (Err (Bad n)) first other h = let (ls, e) = first_is (levels_of r) AMapToBreak first in (h.0, as_after IsBadByte r Key AMapToBreak ls c e (λ t d ks o x. pair_bad t d ks o x) other h.1)
-pair_takes r q c (Err Ended) first other h = h
-pair_takes r q c (Err (TooDeep n)) first other h = let (ls, e) = first_is (levels_of r) AMapToBreak first in (h.0, as_after OpensTooDeep r Key AMapToBreak ls c e (λ t d ks o x. pair_deep t d ks o x) other h.1)
-pair_takes r q c (Err (KeyKind n)) first other h = let (ls, e) = first_is (levels_of r) AMapToBreak first in (h.0, as_after IsOtherKey r Key AMapToBreak ls c e (λ t d ks o x. pair_other t d ks o x) other h.1)

@@ -1,4 +1,4 @@
--- What the initial byte of an item leaves to come: the laws of `Leads` and `Stops` where an item must come.
+-- What the initial byte of an item leaves to come: the laws of `CborLeads` and `CborStops` where an item must come.
 use Rattle.std.proofs.Common.{◌≡◌, ℕ, ℤ, pos, negsuc, ◌+◌, ◌%◌, ◌^◌, ◌≤◌, ◌<◌, ◌⊎◌, inl, inr, Bool, true, false, cond, List, [], ◌∷◌, None, refl, sym, ap, subst, ◌∙◌, arith, length, FitsSigned, IsUtf8}
 use Rattle.std.specs.Int.{w64}
 use Rattle.std.specs.Fmt.{signed_decimal}
@@ -8,11 +8,12 @@ use Rattle.sm_tree.specs.Node.{Node, null, bool, int, number, text, bytes, tag, 
 use Rattle.sm_tree.specs.Json.{AreBytes}
 use Rattle.sm_tree.specs.Levels.{levels}
 use Rattle.sm_tree.specs.Events.{NodeEvent, events, entries_events, pairs_events, null_event, bool_event, tag_event, start_list, start_object}
-use Rattle.sm_tree.proofs.Characters.{utf8_runs, rest_utf8}
+use Rattle.sm_bytes.proofs.Characters.{utf8_runs, rest_utf8}
 use Rattle.sm_cbor.specs.Heads.{Argument}
-use Rattle.sm_cbor.specs.CborItem.{Keys, Item as ItemBytes, Integer, EntriesToBreak, PairsToBreak, Chunks as ChunkBytes, IsOpaque}
-use Rattle.sm_cbor.specs.Reading.{SubjectIs, HeadIs, integer_node}
-use Rattle.sm_cbor.specs.Rest.{State, Ends, ItemComes, ChunksCome, ArgumentEnded, ArgumentComes, Leads, Stops}
+use Rattle.sm_cbor.specs.CborItem.{Item as ItemBytes, Integer, EntriesToBreak, PairsToBreak, Chunks as ChunkBytes, IsOpaque}
+use Rattle.sm_cbor.specs.steps.Marks.{Keys, key_of}
+use Rattle.sm_cbor.specs.steps.Reading.{SubjectIs, HeadIs, integer_node}
+use Rattle.sm_cbor.specs.steps.Rest.{CborState, CborEnds, ItemComes, ChunksCome, ArgumentEnded, ArgumentComes, CborLeads, CborStops}
 use Rattle.sm_cbor.specs.declared.place.StringKind.{StringKind}
 use Rattle.sm_cbor.specs.declared.place.StringKind.TheVariants.{Bytes, Text, Key as KeyText}
 use Rattle.sm_cbor.specs.declared.place.Span.TheVariants.{Whole, Chunk}
@@ -26,7 +27,7 @@ use Rattle.sm_cbor.specs.declared.head.Head.{Head}
 use Rattle.sm_cbor.specs.declared.head.Head.TheVariants.{Argument as ArgumentHead, Chunks as ChunksHead, List as EntriesHead, Map as PairsHead, Null as NullHead, Bool as BoolHead, NoItem}
 use Rattle.sm_cbor.proofs.Arguments.{argument_starts, argument_back, one_head}
 
-abbrev pub at : Place → List ℕ → List Level → State
+abbrev pub at : Place → List ℕ → List Level → CborState
 at p t ls = record { place = p; held = t; levels = ls }
 
 -- integers of 64 bits, and the others
@@ -49,18 +50,20 @@ node_large : (n : ℕ) (z : ℤ) → 2 ^ 63 ≤ n → integer_node n z ≡ numbe
 node_large n z large = ap (λ b. cond b (int z) (number (signed_decimal z))) (le-ltb n (2 ^ 63) large)
 
 -- the tree of an integer, from its bytes and back
-pub integer_item : (w : Keys) (n : ℕ) (z : ℤ) (s r : List ℕ) → (n < 2 ^ 63 → FitsSigned w64 z) → (FitsSigned w64 z → n < 2 ^ 63) → Integer z s r → ItemBytes w (integer_node n z) s r
+pub integer_item : (w : Keys) (n : ℕ) (z : ℤ) (s r : List ℕ) → (n < 2 ^ 63 → FitsSigned w64 z) → (FitsSigned w64 z → n < 2 ^ 63)
+    → Integer z s r → ItemBytes (key_of w) (integer_node n z) s r
 integer_item w n z s r fits small h = elim (cases_lt n (2 ^ 63)) [
-  | inl below ↦ subst (λ x. ItemBytes w x s r) (sym (node_small n z below)) (fits below, h)
-  | inr above ↦ subst (λ x. ItemBytes w x s r) (sym (node_large n z above)) (z, (λ f. let less = small f in omega arith), refl, h)
+  | inl below ↦ subst (λ x. ItemBytes (key_of w) x s r) (sym (node_small n z below)) (fits below, h)
+  | inr above ↦ subst (λ x. ItemBytes (key_of w) x s r) (sym (node_large n z above)) (z, (λ f. let less = small f in omega arith), refl, h)
 ]
 
 pub integer_levels : (n : ℕ) (z : ℤ) → levels (integer_node n z) ≡ 0
-integer_levels n z = elim (cases_lt n (2 ^ 63)) [ inl below ↦ ap levels (node_small n z below) | inr above ↦ ap levels (node_large n z above) ]
+integer_levels n z = elim (cases_lt n (2 ^ 63))
+    [ inl below ↦ ap levels (node_small n z below) | inr above ↦ ap levels (node_large n z above) ]
 
 -- what may come behind an initial byte that says this
 abbrev pub Leaf : Keys → ℕ → NodeEvent → List Level → List ℕ → List NodeEvent → Type 0
-Leaf w limit e ls s es = (fs : List NodeEvent) × Ends w limit ls s fs × (es ≡ e ∷ fs)
+Leaf w limit e ls s es = (fs : List NodeEvent) × CborEnds w limit ls s fs × (es ≡ e ∷ fs)
 
 abbrev pub HeadComes : Keys → ℕ → Head → List ℕ → List Level → List ℕ → List NodeEvent → Type 0
 HeadComes w limit (ArgumentHead j k v) t ls s es = ArgumentComes w limit j k v t ls s es
@@ -74,10 +77,12 @@ HeadComes w limit NoItem t ls s es = ⊥
 abbrev InitialByte : Keys → ℕ → ℕ → List ℕ → List Level → List ℕ → List NodeEvent → Type 0
 InitialByte w limit c t ls s es = (h : Head) × HeadIs c h × HeadComes w limit h t ls s es
 
-leaf_at : (w : Keys) (limit : ℕ) (e : NodeEvent) (ls : List Level) (s r : List ℕ) (es fs : List NodeEvent) → s ≡ r → Ends w limit ls r fs → es ≡ e ∷ fs → Leaf w limit e ls s es
-leaf_at w limit e ls s r es fs same en is = (fs, subst (λ x. Ends w limit ls x fs) (sym same) en, is)
+leaf_at : (w : Keys) (limit : ℕ) (e : NodeEvent) (ls : List Level) (s r : List ℕ) (es fs : List NodeEvent) → s ≡ r
+    → CborEnds w limit ls r fs → es ≡ e ∷ fs → Leaf w limit e ls s es
+leaf_at w limit e ls s r es fs same en is = (fs, subst (λ x. CborEnds w limit ls x fs) (sym same) en, is)
 
-with_argument : (w : Keys) (limit c : ℕ) (t : List ℕ) (ls : List Level) (s : List ℕ) (es : List NodeEvent) (j : Subject) (n : ℕ) (r : List ℕ)
+with_argument : (w : Keys) (limit c : ℕ) (t : List ℕ) (ls : List Level) (s : List ℕ) (es : List NodeEvent) (j : Subject) (n : ℕ)
+    (r : List ℕ)
     → SubjectIs c j → Argument (c % 32) n s r → ArgumentEnded w limit j n t ls r es → InitialByte w limit c t ls s es
 with_argument w limit c t ls s es j n r is a h =
     let (k, v, starts, more) = argument_starts (c % 32) n s r a in (ArgumentHead j k v, (is, starts), (n, r, more, h))
@@ -88,58 +93,112 @@ opaque_range info n (inr (inl h)) = inr (omega arith)
 opaque_range info n (inr (inr h)) = inr (omega arith)
 
 initial_onward : (w : Keys) (limit c : ℕ) (t : List ℕ) (ls : List Level) (s r : List ℕ) (es fs : List NodeEvent) (n : Node)
-    → ItemBytes w n (c ∷ s) r → levels n + length ls ≤ limit → Ends w limit ls r fs → es ≡ events n fs → InitialByte w limit c t ls s es
+    → ItemBytes (key_of w) n (c ∷ s) r → levels n + length ls ≤ limit → CborEnds w limit ls r fs → es ≡ events n fs
+    → InitialByte w limit c t ls s es
 initial_onward w limit c t ls s r es fs null (inl h) room en e = (NullHead, inl h.0, leaf_at w limit null_event ls s r es fs h.1 en e)
 initial_onward w limit c t ls s r es fs null (inr h) room en e = (NullHead, inr h.0, leaf_at w limit null_event ls s r es fs h.1 en e)
-initial_onward w limit c t ls s r es fs (bool false) h room en e = (BoolHead false, h.0, leaf_at w limit (bool_event false) ls s r es fs h.1 en e)
-initial_onward w limit c t ls s r es fs (bool true) h room en e = (BoolHead true, h.0, leaf_at w limit (bool_event true) ls s r es fs h.1 en e)
+initial_onward w limit c t ls s r es fs (bool false) h room en e =
+    (BoolHead false, h.0, leaf_at w limit (bool_event false) ls s r es fs h.1 en e)
+initial_onward w limit c t ls s r es fs (bool true) h room en e =
+    (BoolHead true, h.0, leaf_at w limit (bool_event true) ls s r es fs h.1 en e)
 initial_onward w limit c t ls s r es fs (int z) (fits, (n, inl (head, is))) room en e =
     let same : int z ≡ integer_node n (pos n) = ap int is ∙ sym (node_small n (pos n) (small_pos n (subst (FitsSigned w64) is fits))) in
     with_argument w limit c t ls s es Unsigned n r head.0 head.1 (fs, en, e ∙ ap (λ x. events x fs) same)
 initial_onward w limit c t ls s r es fs (int z) (fits, (n, inr (head, is))) room en e =
-    let same : int z ≡ integer_node n (negsuc n) = ap int is ∙ sym (node_small n (negsuc n) (small_neg n (subst (FitsSigned w64) is fits))) in
+    let same : int z ≡ integer_node n (negsuc n) = ap int is
+    ∙ sym (node_small n (negsuc n) (small_neg n (subst (FitsSigned w64) is fits))) in
     with_argument w limit c t ls s es Negative n r head.0 head.1 (fs, en, e ∙ ap (λ x. events x fs) same)
 initial_onward w limit c t ls s r es fs (number u) (z, out, is_text, (n, inl (head, is))) room en e =
-    let large : 2 ^ 63 ≤ n = elim (cases_lt n (2 ^ 63)) [ inl below ↦ absurd (out (subst (FitsSigned w64) (sym is) (fits_pos n below))) | inr above ↦ above ] in
+    let large : 2 ^ 63 ≤ n = elim (cases_lt n (2 ^ 63))
+    [ inl below ↦ absurd (out (subst (FitsSigned w64) (sym is) (fits_pos n below))) | inr above ↦ above ] in
     let same : number u ≡ integer_node n (pos n) = ap number (is_text ∙ ap signed_decimal is) ∙ sym (node_large n (pos n) large) in
     with_argument w limit c t ls s es Unsigned n r head.0 head.1 (fs, en, e ∙ ap (λ x. events x fs) same)
 initial_onward w limit c t ls s r es fs (number u) (z, out, is_text, (n, inr (head, is))) room en e =
-    let large : 2 ^ 63 ≤ n = elim (cases_lt n (2 ^ 63)) [ inl below ↦ absurd (out (subst (FitsSigned w64) (sym is) (fits_neg n below))) | inr above ↦ above ] in
+    let large : 2 ^ 63 ≤ n = elim (cases_lt n (2 ^ 63))
+    [ inl below ↦ absurd (out (subst (FitsSigned w64) (sym is) (fits_neg n below))) | inr above ↦ above ] in
     let same : number u ≡ integer_node n (negsuc n) = ap number (is_text ∙ ap signed_decimal is) ∙ sym (node_large n (negsuc n) large) in
     with_argument w limit c t ls s es Negative n r head.0 head.1 (fs, en, e ∙ ap (λ x. events x fs) same)
 initial_onward w limit c t ls s r es fs (text u) (inl (s1, head, is, utf8)) room en e =
     with_argument w limit c t ls s es (StringHead Text Whole) (length u) s1 head.0 head.1 (u, r, is, refl, utf8_runs u utf8, (fs, en, e))
-initial_onward w limit c t ls s r es fs (text u) (inr (s1, us, first, chunks, is)) room en e =
-    (ChunksHead Text, first.0, (us, r, subst (λ x. ChunkBytes 3 IsUtf8 us x r) (sym first.1) chunks, (fs, en, e ∙ ap (λ x. events (text x) fs) is)))
+initial_onward w limit c t ls s r es fs (text u) (inr (s1, us, first, chunks, is)) room en e = (
+  ChunksHead Text,
+  first.0,
+  (
+    us,
+    r,
+    subst (λ x. ChunkBytes 3 IsUtf8 us x r) (sym first.1) chunks,
+    (fs, en, e ∙ ap (λ x. events (text x) fs) is),
+  ),
+)
 initial_onward w limit c t ls s r es fs (bytes u) (inl (s1, head, is, are)) room en e =
     with_argument w limit c t ls s es (StringHead Bytes Whole) (length u) s1 head.0 head.1 (u, r, is, refl, are, (fs, en, e))
-initial_onward w limit c t ls s r es fs (bytes u) (inr (s1, us, first, chunks, is)) room en e =
-    (ChunksHead Bytes, first.0, (us, r, subst (λ x. ChunkBytes 2 AreBytes us x r) (sym first.1) chunks, (fs, en, e ∙ ap (λ x. events (bytes x) fs) is)))
+initial_onward w limit c t ls s r es fs (bytes u) (inr (s1, us, first, chunks, is)) room en e = (
+  ChunksHead Bytes,
+  first.0,
+  (
+    us,
+    r,
+    subst (λ x. ChunkBytes 2 AreBytes us x r) (sym first.1) chunks,
+    (fs, en, e ∙ ap (λ x. events (bytes x) fs) is),
+  ),
+)
 initial_onward w limit c t ls s r es fs (tag k n) (s1, head, h) room en e =
     with_argument w limit c t ls s es TagHead k s1 head.0 head.1 (events n fs, (n, r, fs, h, omega arith, en, refl), e)
 initial_onward w limit c t ls s r es fs (opaque b) (first, kind, n, argument, is) room en e =
-    with_argument w limit c t ls s es (Opaque b) n r (first, kind, opaque_range (c % 32) n is) argument (fs, subst (λ x. IsOpaque (x % 32) n) first is, en, e)
+    with_argument w limit c t ls s es (Opaque b) n r (first, kind, opaque_range (c % 32) n is) argument
+    (fs, subst (λ x. IsOpaque (x % 32) n) first is, en, e)
 initial_onward w limit c t ls s r es fs (list ns) (inl (n, s1, head, h)) room en e =
     with_argument w limit c t ls s es ListHead n s1 head.0 head.1 (entries_events ns fs, (ns, r, fs, h, omega arith, en, refl), e)
-initial_onward w limit c t ls s r es fs (list ns) (inr (s1, first, h)) room en e =
-    (EntriesHead, first.0, (entries_events ns fs, (ns, r, fs, subst (λ x. EntriesToBreak w ns x r) (sym first.1) h, omega arith, en, refl), e))
+initial_onward w limit c t ls s r es fs (list ns) (inr (s1, first, h)) room en e = (
+  EntriesHead,
+  first.0,
+  (
+    entries_events ns fs,
+    (ns, r, fs, subst (λ x. EntriesToBreak (key_of w) ns x r) (sym first.1) h, omega arith, en, refl),
+    e,
+  ),
+)
 initial_onward w limit c t ls s r es fs (object ms) (inl (n, s1, head, h)) room en e =
     with_argument w limit c t ls s es MapHead n s1 head.0 head.1 (pairs_events ms fs, (ms, r, fs, h, omega arith, en, refl), e)
-initial_onward w limit c t ls s r es fs (object ms) (inr (s1, first, h)) room en e =
-    (PairsHead, first.0, (pairs_events ms fs, (ms, r, fs, subst (λ x. PairsToBreak w ms x r) (sym first.1) h, omega arith, en, refl), e))
+initial_onward w limit c t ls s r es fs (object ms) (inr (s1, first, h)) room en e = (
+  PairsHead,
+  first.0,
+  (
+    pairs_events ms fs,
+    (ms, r, fs, subst (λ x. PairsToBreak (key_of w) ms x r) (sym first.1) h, omega arith, en, refl),
+    e,
+  ),
+)
 
-initial_byte : (w : Keys) (limit c : ℕ) (t : List ℕ) (ls : List Level) (s : List ℕ) (es : List NodeEvent) → ItemComes w limit ls (c ∷ s) es → InitialByte w limit c t ls s es
+initial_byte : (w : Keys) (limit c : ℕ) (t : List ℕ) (ls : List Level) (s : List ℕ) (es : List NodeEvent) → ItemComes w limit ls (c ∷ s) es
+    → InitialByte w limit c t ls s es
 initial_byte w limit c t ls s es (n, r, fs, h, room, en, e) = initial_onward w limit c t ls s r es fs n h room en e
 
 -- and back
-argument_back_to_item : (w : Keys) (limit c : ℕ) (t : List ℕ) (ls : List Level) (s : List ℕ) (es : List NodeEvent) (j : Subject) (n : ℕ) (r : List ℕ)
+argument_back_to_item : (w : Keys) (limit c : ℕ) (t : List ℕ) (ls : List Level) (s : List ℕ) (es : List NodeEvent) (j : Subject) (n : ℕ)
+    (r : List ℕ)
     → length ls ≤ limit → SubjectIs c j → Argument (c % 32) n s r → ArgumentEnded w limit j n t ls r es → ItemComes w limit ls (c ∷ s) es
 argument_back_to_item w limit c t ls s es Unsigned n r room is a (fs, en, e) =
-    let flat = integer_levels n (pos n) in
-    (integer_node n (pos n), r, fs, integer_item w n (pos n) (c ∷ s) r (fits_pos n) (small_pos n) (n, inl ((is, a), refl)), omega arith, en, e)
+    let flat = integer_levels n (pos n) in (
+      integer_node n (pos n),
+      r,
+      fs,
+      integer_item w n (pos n) (c ∷ s) r (fits_pos n) (small_pos n) (n, inl ((is, a), refl)),
+      omega arith,
+      en,
+      e,
+    )
 argument_back_to_item w limit c t ls s es Negative n r room is a (fs, en, e) =
-    let flat = integer_levels n (negsuc n) in
-    (integer_node n (negsuc n), r, fs, integer_item w n (negsuc n) (c ∷ s) r (fits_neg n) (small_neg n) (n, inr ((is, a), refl)), omega arith, en, e)
+    let flat = integer_levels n (negsuc n) in (
+      integer_node n (negsuc n),
+      r,
+      fs,
+      integer_item w n (negsuc n) (c ∷ s) r (fits_neg n) (small_neg n) (n, inr ((is, a), refl)),
+      omega
+          arith,
+      en,
+      e,
+    )
 argument_back_to_item w limit c t ls s es (StringHead Bytes Whole) n r room is a (u, q, split, len, are, (fs, en, e)) =
     (bytes u, q, fs, inl (r, (is, subst (λ x. Argument (c % 32) x s r) (sym len) a), split, are), omega arith, en, e)
 argument_back_to_item w limit c t ls s es (StringHead Text Whole) n r room is a (u, q, split, len, runs, (fs, en, e)) =
@@ -157,11 +216,14 @@ argument_back_to_item w limit c t ls s es TagHead n r room is a (gs, (x, q, fs, 
 argument_back_to_item w limit c t ls s es (Opaque b) n r room is a (fs, opq, en, e) =
     (opaque b, r, fs, (is.0, is.1, n, a, subst (λ x. IsOpaque (x % 32) n) (sym is.0) opq), omega arith, en, e)
 
-head_back_to_item : (w : Keys) (limit c : ℕ) (h : Head) (t : List ℕ) (ls : List Level) (s : List ℕ) (es : List NodeEvent) → length ls ≤ limit → HeadIs c h → HeadComes w limit h t ls s es → ItemComes w limit ls (c ∷ s) es
+head_back_to_item : (w : Keys) (limit c : ℕ) (h : Head) (t : List ℕ) (ls : List Level) (s : List ℕ) (es : List NodeEvent)
+    → length ls ≤ limit → HeadIs c h → HeadComes w limit h t ls s es → ItemComes w limit ls (c ∷ s) es
 head_back_to_item w limit c (ArgumentHead j k v) t ls s es room is (n, r, more, h) =
     argument_back_to_item w limit c t ls s es j n r room is.0 (argument_back (c % 32) k v n s r is.1 more) h
-head_back_to_item w limit c (ChunksHead Bytes) t ls s es room is (us, q, h, (fs, en, e)) = (bytes (concat us), q, fs, inr (s, us, (is, refl), h, refl), omega arith, en, e)
-head_back_to_item w limit c (ChunksHead Text) t ls s es room is (us, q, h, (fs, en, e)) = (text (concat us), q, fs, inr (s, us, (is, refl), h, refl), omega arith, en, e)
+head_back_to_item w limit c (ChunksHead Bytes) t ls s es room is (us, q, h, (fs, en, e)) =
+    (bytes (concat us), q, fs, inr (s, us, (is, refl), h, refl), omega arith, en, e)
+head_back_to_item w limit c (ChunksHead Text) t ls s es room is (us, q, h, (fs, en, e)) =
+    (text (concat us), q, fs, inr (s, us, (is, refl), h, refl), omega arith, en, e)
 head_back_to_item w limit c (ChunksHead KeyText) t ls s es room is h = absurd is
 head_back_to_item w limit c EntriesHead t ls s es room is (gs, (ns, q, fs, h, deep, en, e1), e) =
     (list ns, q, fs, inr (s, (is, refl), h), omega arith, en, e ∙ ap (λ x. start_list None ∷ x) e1)
@@ -174,21 +236,26 @@ head_back_to_item w limit c (BoolHead true) t ls s es room is (fs, en, e) = (boo
 head_back_to_item w limit c NoItem t ls s es room is h = absurd h
 
 -- so what may come of an item is what its initial byte says
-pub item_onward : (w : Keys) (limit c : ℕ) (h : Head) (t : List ℕ) (ls : List Level) (s : List ℕ) (es : List NodeEvent) → HeadIs c h → ItemComes w limit ls (c ∷ s) es → HeadComes w limit h t ls s es
+pub item_onward : (w : Keys) (limit c : ℕ) (h : Head) (t : List ℕ) (ls : List Level) (s : List ℕ) (es : List NodeEvent) → HeadIs c h
+    → ItemComes w limit ls (c ∷ s) es → HeadComes w limit h t ls s es
 item_onward w limit c h t ls s es is comes =
-    let (g, is_g, there) = initial_byte w limit c t ls s es comes in subst (λ x. HeadComes w limit x t ls s es) (one_head c g h is_g is) there
+    let (g, is_g, there) = initial_byte w limit c t ls s es comes in
+    subst (λ x. HeadComes w limit x t ls s es) (one_head c g h is_g is) there
 
-pub item_back : (w : Keys) (limit c : ℕ) (h : Head) (t : List ℕ) (ls : List Level) (s : List ℕ) (es : List NodeEvent) → length ls ≤ limit → HeadIs c h → HeadComes w limit h t ls s es → ItemComes w limit ls (c ∷ s) es
+pub item_back : (w : Keys) (limit c : ℕ) (h : Head) (t : List ℕ) (ls : List Level) (s : List ℕ) (es : List NodeEvent) → length ls ≤ limit
+    → HeadIs c h → HeadComes w limit h t ls s es → ItemComes w limit ls (c ∷ s) es
 item_back w limit c h t ls s es room is there = head_back_to_item w limit c h t ls s es room is there
 
-pub argument_leads : (w : Keys) (limit c k v : ℕ) (j : Subject) (t : List ℕ) (ls : List Level) → length ls ≤ limit → HeadIs c (ArgumentHead j k v)
-    → Leads w limit (at Item t ls) (c ∷ []) [] (at (InArgument j k v) t ls)
+pub argument_leads : (w : Keys) (limit c k v : ℕ) (j : Subject) (t : List ℕ) (ls : List Level) → length ls ≤ limit
+    → HeadIs c (ArgumentHead j k v)
+    → CborLeads w limit (at Item t ls) (c ∷ []) [] (at (InArgument j k v) t ls)
 argument_leads w limit c k v j t ls room is = record {
   onward = λ s es h. (es, refl, item_onward w limit c (ArgumentHead j k v) t ls s es is h);
   back = λ s fs h. item_back w limit c (ArgumentHead j k v) t ls s fs room is h;
 }
 
-pub chunks_lead : (w : Keys) (limit c : ℕ) (kind : StringKind) (t : List ℕ) (ls : List Level) → length ls ≤ limit → HeadIs c (ChunksHead kind) → Leads w limit (at Item t ls) (c ∷ []) [] (at (Chunks kind) [] ls)
+pub chunks_lead : (w : Keys) (limit c : ℕ) (kind : StringKind) (t : List ℕ) (ls : List Level) → length ls ≤ limit
+    → HeadIs c (ChunksHead kind) → CborLeads w limit (at Item t ls) (c ∷ []) [] (at (Chunks kind) [] ls)
 chunks_lead w limit c kind t ls room is = record {
   onward = λ s es h. (es, refl, item_onward w limit c (ChunksHead kind) t ls s es is h);
   back = λ s fs h. item_back w limit c (ChunksHead kind) t ls s fs room is h;
@@ -196,27 +263,32 @@ chunks_lead w limit c kind t ls room is = record {
 
 -- a head that completes an event, and what is open behind it
 leaf_leads : (w : Keys) (limit c : ℕ) (h : Head) (e : NodeEvent) (t u : List ℕ) (ls ks : List Level) → length ls ≤ limit → HeadIs c h
-    → ((s : List ℕ) (es : List NodeEvent) → HeadComes w limit h t ls s es → Leaf w limit e ks s es) → ((s : List ℕ) (es : List NodeEvent) → Leaf w limit e ks s es → HeadComes w limit h t ls s es)
-    → Leads w limit (at Item t ls) (c ∷ []) (e ∷ []) (at After u ks)
+    → ((s : List ℕ) (es : List NodeEvent) → HeadComes w limit h t ls s es → Leaf w limit e ks s es)
+    → ((s : List ℕ) (es : List NodeEvent) → Leaf w limit e ks s es → HeadComes w limit h t ls s es)
+    → CborLeads w limit (at Item t ls) (c ∷ []) (e ∷ []) (at After u ks)
 leaf_leads w limit c h e t u ls ks room is to from = record {
   onward = λ s es comes. let (fs, en, same) = to s es (item_onward w limit c h t ls s es is comes) in (fs, same, en);
   back = λ s fs en. item_back w limit c h t ls s (e ∷ fs) room is (from s (e ∷ fs) (fs, en, refl));
 }
 
 pub list_leads : (w : Keys) (limit c : ℕ) (t u : List ℕ) (ls : List Level) → length ls ≤ limit → HeadIs c EntriesHead
-    → Leads w limit (at Item t ls) (c ∷ []) (start_list None ∷ []) (at After u (AListToBreak ∷ ls))
-list_leads w limit c t u ls room is = leaf_leads w limit c EntriesHead (start_list None) t u ls (AListToBreak ∷ ls) room is (λ s es h. h) (λ s es h. h)
+    → CborLeads w limit (at Item t ls) (c ∷ []) (start_list None ∷ []) (at After u (AListToBreak ∷ ls))
+list_leads w limit c t u ls room is = leaf_leads w limit c EntriesHead (start_list None) t u ls (AListToBreak ∷ ls) room is (λ s es h. h)
+    (λ s es h. h)
 
 pub map_leads : (w : Keys) (limit c : ℕ) (t u : List ℕ) (ls : List Level) → length ls ≤ limit → HeadIs c PairsHead
-    → Leads w limit (at Item t ls) (c ∷ []) (start_object None ∷ []) (at After u (AMapToBreak ∷ ls))
-map_leads w limit c t u ls room is = leaf_leads w limit c PairsHead (start_object None) t u ls (AMapToBreak ∷ ls) room is (λ s es h. h) (λ s es h. h)
+    → CborLeads w limit (at Item t ls) (c ∷ []) (start_object None ∷ []) (at After u (AMapToBreak ∷ ls))
+map_leads w limit c t u ls room is = leaf_leads w limit c PairsHead (start_object None) t u ls (AMapToBreak ∷ ls) room is (λ s es h. h)
+    (λ s es h. h)
 
-pub null_leads : (w : Keys) (limit c : ℕ) (t u : List ℕ) (ls : List Level) → length ls ≤ limit → HeadIs c NullHead → Leads w limit (at Item t ls) (c ∷ []) (null_event ∷ []) (at After u ls)
+pub null_leads : (w : Keys) (limit c : ℕ) (t u : List ℕ) (ls : List Level) → length ls ≤ limit → HeadIs c NullHead
+    → CborLeads w limit (at Item t ls) (c ∷ []) (null_event ∷ []) (at After u ls)
 null_leads w limit c t u ls room is = leaf_leads w limit c NullHead null_event t u ls ls room is (λ s es h. h) (λ s es h. h)
 
-pub bool_leads : (w : Keys) (limit c : ℕ) (b : Bool) (t u : List ℕ) (ls : List Level) → length ls ≤ limit → HeadIs c (BoolHead b) → Leads w limit (at Item t ls) (c ∷ []) (bool_event b ∷ []) (at After u ls)
+pub bool_leads : (w : Keys) (limit c : ℕ) (b : Bool) (t u : List ℕ) (ls : List Level) → length ls ≤ limit → HeadIs c (BoolHead b)
+    → CborLeads w limit (at Item t ls) (c ∷ []) (bool_event b ∷ []) (at After u ls)
 bool_leads w limit c b t u ls room is = leaf_leads w limit c (BoolHead b) (bool_event b) t u ls ls room is (λ s es h. h) (λ s es h. h)
 
 -- no item begins with a break or a reserved byte
-pub item_stops : (w : Keys) (limit c : ℕ) (t : List ℕ) (ls : List Level) → HeadIs c NoItem → Stops w limit (at Item t ls) c
+pub item_stops : (w : Keys) (limit c : ℕ) (t : List ℕ) (ls : List Level) → HeadIs c NoItem → CborStops w limit (at Item t ls) c
 item_stops w limit c t ls is s es h = item_onward w limit c NoItem t ls s es is h

@@ -11,11 +11,11 @@ mod Verdicts
 mod OneItem
 mod EndSteps
 mod InitialSteps
+mod AfterSteps
 mod ByteSteps
 mod RunSteps
-mod FrontSteps
+mod PrefixSteps
 mod FeedSteps
 mod WrittenItems
-mod OneVerdict
 mod Counts
 mod Descending

@@ -8,8 +8,10 @@ use Rattle.std.proofs.lemmas.Bool.Decides.{nat_tests}
 use Rattle.sm_tree.specs.Json.{AreBytes}
 use Rattle.sm_tree.specs.Node.{Node, Nodes, Members, null, bool, int, number, text, bytes, tag, opaque, list, object, no_nodes, node, no_members, member}
 use Rattle.sm_cbor.specs.Heads.{Byte, Number, Argument, Head, Indefinite}
-use Rattle.sm_cbor.specs.CborItem.{plain, Item, Integer, Definite, Chunks, String, TextString, Entries, EntriesToBreak, Pairs, PairsToBreak}
-use Rattle.sm_cbor.specs.Laws.{OneReading}
+use Rattle.sm_cbor.specs.CborItem.{Item, Integer, Definite, Chunks, String, TextString, CountedEntries, EntriesToBreak, CountedPairs, PairsToBreak}
+use Rattle.sm_tree.proofs.NodeKinds.{NodeKind, node_kind, of_null, of_true, of_false, of_number, of_text, of_bytes, of_tag, of_opaque, of_list, of_object, null_only, true_only, false_only, text_only, bytes_only, tag_only, opaque_only, list_only, object_only}
+use Rattle.sm_tree.specs.SyntaxLaws.{HasOneReading}
+use Rattle.sm_cbor.specs.Refusals.{cbor_syntax}
 use Rattle.sm_cbor.proofs.Arguments.{argument_starts, argument_onward, no_argument}
 use Rattle.sm_cbor.proofs.StringSteps.{split}
 
@@ -41,10 +43,12 @@ apart i n (c ∷ s) r q h g = let f = g.0 in no_argument (c % 32) n s r (omega a
 one_integer : (y z : ℤ) (s r q : List ℕ) → Integer y s r → Integer z s q → (y ≡ z) × (r ≡ q)
 one_integer y z [] r q (n, inl (h, e)) k = absurd h
 one_integer y z [] r q (n, inr (h, e)) k = absurd h
-one_integer y z (c ∷ s) r q (n, inl (h, e)) (m, inl (k, f)) = let (same, rest) = one_head 0 n m (c ∷ s) r q h k in (e ∙ ap pos same ∙ sym f, rest)
+one_integer y z (c ∷ s) r q (n, inl (h, e)) (m, inl (k, f)) = let (same, rest) = one_head 0 n m (c ∷ s) r q h k in
+    (e ∙ ap pos same ∙ sym f, rest)
 one_integer y z (c ∷ s) r q (n, inl (h, e)) (m, inr (k, f)) = absurd (let a = h.0 in let b = k.0 in omega arith)
 one_integer y z (c ∷ s) r q (n, inr (h, e)) (m, inl (k, f)) = absurd (let a = h.0 in let b = k.0 in omega arith)
-one_integer y z (c ∷ s) r q (n, inr (h, e)) (m, inr (k, f)) = let (same, rest) = one_head 1 n m (c ∷ s) r q h k in (e ∙ ap negsuc same ∙ sym f, rest)
+one_integer y z (c ∷ s) r q (n, inr (h, e)) (m, inr (k, f)) = let (same, rest) = one_head 1 n m (c ∷ s) r q h k in
+    (e ∙ ap negsuc same ∙ sym f, rest)
 
 -- strings
 empty : (p : List ℕ) → length p ≡ 0 → p ≡ []
@@ -65,7 +69,8 @@ no_chunk : (i : ℕ) (P : List ℕ → Type 0) (t s r q : List ℕ) → i < 7 �
 no_chunk i P t [] r q small h k = h
 no_chunk i P t (c ∷ s) r q small h (s1, k, e, is) = let a = h.0 in let b = k.0 in omega arith
 
-one_chunks : (i : ℕ) (P : List ℕ → Type 0) (ts us : List (List ℕ)) (s r q : List ℕ) → i < 7 → Chunks i P ts s r → Chunks i P us s q → (concat ts ≡ concat us) × (r ≡ q)
+one_chunks : (i : ℕ) (P : List ℕ → Type 0) (ts us : List (List ℕ)) (s r q : List ℕ) → i < 7 → Chunks i P ts s r → Chunks i P us s q
+    → (concat ts ≡ concat us) × (r ≡ q)
 one_chunks i P [] [] s r q small h k = (refl, (one_byte 0xFF 0xFF s r q h k).1)
 one_chunks i P [] (u ∷ us) s r q small h (s2, k, more) = absurd (no_chunk i P u s r s2 small h k)
 one_chunks i P (t ∷ ts) [] s r q small (s1, h, more) k = absurd (no_chunk i P t s q s1 small k h)
@@ -83,35 +88,20 @@ one_string i P t u s r q small (inr (s1, ts, h, chunks, e)) (inr (s2, us, k, oth
     let (joined, rest) = one_chunks i P ts us s1 r q small chunks (subst (λ x. Chunks i P us x q) (sym start) others) in
     (e ∙ joined ∙ sym f, rest)
 
--- what a tree is, as far as its first byte tells it
-data Kind : Type 0 where
-  of_integer of_bytes of_text of_list of_map of_tag of_false of_true of_null of_opaque : Kind
-
-abbrev kind : Node → Kind
-kind null = of_null
-kind (bool true) = of_true
-kind (bool false) = of_false
-kind (int z) = of_integer
-kind (number t) = of_integer
-kind (text t) = of_text
-kind (bytes t) = of_bytes
-kind (tag k n) = of_tag
-kind (opaque b) = of_opaque
-kind (list ns) = of_list
-kind (object ms) = of_map
-
-abbrev simple_kind : ℕ → Kind
+-- what kind of tree the first byte tells
+abbrev simple_kind : ℕ → NodeKind
 simple_kind c = cond (c == 0xF4) of_false (cond (c == 0xF5) of_true (cond (c == 0xF6) of_null (cond (c == 0xF7) of_null of_opaque)))
 
-abbrev kind_at : ℕ → ℕ → Kind
+abbrev kind_at : ℕ → ℕ → NodeKind
 kind_at m c =
-    cond (m == 0) of_integer (cond (m == 1) of_integer (cond (m == 2) of_bytes (cond (m == 3) of_text (cond (m == 4) of_list (cond (m == 5) of_map
+    cond (m == 0) of_number (cond (m == 1) of_number
+    (cond (m == 2) of_bytes (cond (m == 3) of_text (cond (m == 4) of_list (cond (m == 5) of_object
     (cond (m == 6) of_tag (simple_kind c)))))))
 
-at_byte : (c b : ℕ) (k : Kind) → c ≡ b → kind_at (b / 32) b ≡ k → kind_at (c / 32) c ≡ k
+at_byte : (c b : ℕ) (k : NodeKind) → c ≡ b → kind_at (b / 32) b ≡ k → kind_at (c / 32) c ≡ k
 at_byte c b k e f = ap (λ x. kind_at (x / 32) x) e ∙ f
 
-at_type : (c m : ℕ) (k : Kind) → c / 32 ≡ m → kind_at m c ≡ k → kind_at (c / 32) c ≡ k
+at_type : (c m : ℕ) (k : NodeKind) → c / 32 ≡ m → kind_at m c ≡ k → kind_at (c / 32) c ≡ k
 at_type c m k e f = ap (λ x. kind_at x c) e ∙ f
 
 other_byte : (c m : ℕ) → c ≢ m → (c == m) ≡ false
@@ -119,32 +109,36 @@ other_byte c m other = grind (arith, nat_tests)
 
 opaque_kind : (c : ℕ) → c ≢ 0xF4 → c ≢ 0xF5 → c ≢ 0xF6 → c ≢ 0xF7 → simple_kind c ≡ of_opaque
 opaque_kind c a b d e =
-    cond-false _ _ _ (other_byte c 0xF4 a) ∙ cond-false _ _ _ (other_byte c 0xF5 b) ∙ cond-false _ _ _ (other_byte c 0xF6 d) ∙ cond-false _ _ _ (other_byte c 0xF7 e)
+    cond-false _ _ _ (other_byte c 0xF4 a) ∙ cond-false _ _ _ (other_byte c 0xF5 b) ∙ cond-false _ _ _ (other_byte c 0xF6 d)
+    ∙ cond-false _ _ _ (other_byte c 0xF7 e)
 
-told : (n : Node) (c : ℕ) (s r : List ℕ) → Item plain n (c ∷ s) r → kind_at (c / 32) c ≡ kind n
+told : (n : Node) (c : ℕ) (s r : List ℕ) → Item TextString n (c ∷ s) r → kind_at (c / 32) c ≡ node_kind n
 told null c s r (inl h) = at_byte c 0xF6 of_null h.0 refl
 told null c s r (inr h) = at_byte c 0xF7 of_null h.0 refl
 told (bool false) c s r h = at_byte c 0xF4 of_false h.0 refl
 told (bool true) c s r h = at_byte c 0xF5 of_true h.0 refl
-told (int z) c s r (fits, (n, inl (h, e))) = at_type c 0 of_integer h.0 refl
-told (int z) c s r (fits, (n, inr (h, e))) = at_type c 1 of_integer h.0 refl
-told (number t) c s r (z, out, is, (n, inl (h, e))) = at_type c 0 of_integer h.0 refl
-told (number t) c s r (z, out, is, (n, inr (h, e))) = at_type c 1 of_integer h.0 refl
+told (int z) c s r (fits, (n, inl (h, e))) = at_type c 0 of_number h.0 refl
+told (int z) c s r (fits, (n, inr (h, e))) = at_type c 1 of_number h.0 refl
+told (number t) c s r (z, out, is, (n, inl (h, e))) = at_type c 0 of_number h.0 refl
+told (number t) c s r (z, out, is, (n, inr (h, e))) = at_type c 1 of_number h.0 refl
 told (text t) c s r (inl (s1, h, e, is)) = at_type c 3 of_text h.0 refl
 told (text t) c s r (inr (s1, ts, h, chunks, e)) = at_byte c 0x7F of_text h.0 refl
 told (bytes t) c s r (inl (s1, h, e, is)) = at_type c 2 of_bytes h.0 refl
 told (bytes t) c s r (inr (s1, ts, h, chunks, e)) = at_byte c 0x5F of_bytes h.0 refl
 told (tag k n) c s r (s1, h, item) = at_type c 6 of_tag h.0 refl
-told (opaque b) c s r (e, seven, n, a, inl low) = at_type c 7 of_opaque seven (opaque_kind c (λ f. omega arith) (λ f. omega arith) (λ f. omega arith) (λ f. omega arith))
-told (opaque b) c s r (e, seven, n, a, inr (inl h)) = let info = h.0 in at_type c 7 of_opaque seven (opaque_kind c (λ f. omega arith) (λ f. omega arith) (λ f. omega arith) (λ f. omega arith))
-told (opaque b) c s r (e, seven, n, a, inr (inr high)) = at_type c 7 of_opaque seven (opaque_kind c (λ f. omega arith) (λ f. omega arith) (λ f. omega arith) (λ f. omega arith))
+told (opaque b) c s r (e, seven, n, a, inl low) =
+    at_type c 7 of_opaque seven (opaque_kind c (λ f. omega arith) (λ f. omega arith) (λ f. omega arith) (λ f. omega arith))
+told (opaque b) c s r (e, seven, n, a, inr (inl h)) = let info = h.0 in
+    at_type c 7 of_opaque seven (opaque_kind c (λ f. omega arith) (λ f. omega arith) (λ f. omega arith) (λ f. omega arith))
+told (opaque b) c s r (e, seven, n, a, inr (inr high)) =
+    at_type c 7 of_opaque seven (opaque_kind c (λ f. omega arith) (λ f. omega arith) (λ f. omega arith) (λ f. omega arith))
 told (list ns) c s r (inl (n, s1, h, more)) = at_type c 4 of_list h.0 refl
 told (list ns) c s r (inr (s1, h, more)) = at_byte c 0x9F of_list h.0 refl
-told (object ms) c s r (inl (n, s1, h, more)) = at_type c 5 of_map h.0 refl
-told (object ms) c s r (inr (s1, h, more)) = at_byte c 0xBF of_map h.0 refl
+told (object ms) c s r (inl (n, s1, h, more)) = at_type c 5 of_object h.0 refl
+told (object ms) c s r (inr (s1, h, more)) = at_byte c 0xBF of_object h.0 refl
 
 -- no item in no bytes, and none at a break
-item_some : (n : Node) (r : List ℕ) → Item plain n [] r → ⊥
+item_some : (n : Node) (r : List ℕ) → Item TextString n [] r → ⊥
 item_some null r (inl h) = h
 item_some null r (inr h) = h
 item_some (bool false) r h = h
@@ -164,92 +158,44 @@ item_some (list ns) r (inr (s1, h, more)) = h
 item_some (object ms) r (inl (n, s1, h, more)) = h
 item_some (object ms) r (inr (s1, h, more)) = h
 
-is_opaque : (n : Node) → of_opaque ≡ kind n → (b : ℕ) × (n ≡ opaque b)
-is_opaque (opaque b) e = (b, refl)
-is_opaque (bool true) e = absurd cc
-is_opaque (bool false) e = absurd cc
-is_opaque n e = absurd cc
-
-no_break : (n : Node) (s r q : List ℕ) → Byte 0xFF s r → Item plain n s q → ⊥
+no_break : (n : Node) (s r q : List ℕ) → Byte 0xFF s r → Item TextString n s q → ⊥
 no_break n [] r q h k = h
 no_break n (c ∷ s) r q h k =
-    let (b, e) = is_opaque n (sym (at_byte c 0xFF of_opaque h.0 refl) ∙ told n c s q k) in
-    let g = subst (λ x. Item plain x (c ∷ s) q) e k in
+    let (b, e) = opaque_only n (sym (at_byte c 0xFF of_opaque h.0 refl) ∙ told n c s q k) in
+    let g = subst (λ x. Item TextString x (c ∷ s) q) e k in
     let f = h.0 in no_argument (c % 32) g.2 s q (omega arith) g.3
 
-one_kind : (n m : Node) (s r q : List ℕ) → Item plain n s r → Item plain m s q → kind n ≡ kind m
+one_kind : (n m : Node) (s r q : List ℕ) → Item TextString n s r → Item TextString m s q → node_kind n ≡ node_kind m
 one_kind n m [] r q h k = absurd (item_some n r h)
 one_kind n m (c ∷ s) r q h k = sym (told n c s r h) ∙ told m c s q k
 
--- the trees of a kind
-null_only : (m : Node) → of_null ≡ kind m → m ≡ null
-null_only null e = refl
-null_only (bool true) e = absurd cc
-null_only (bool false) e = absurd cc
-null_only m e = absurd cc
-
-true_only : (m : Node) → of_true ≡ kind m → m ≡ bool true
-true_only (bool true) e = refl
-true_only (bool false) e = absurd cc
-true_only m e = absurd cc
-
-false_only : (m : Node) → of_false ≡ kind m → m ≡ bool false
-false_only (bool true) e = absurd cc
-false_only (bool false) e = refl
-false_only m e = absurd cc
-
-text_only : (m : Node) → of_text ≡ kind m → (t : List ℕ) × (m ≡ text t)
-text_only (text t) e = (t, refl)
-text_only (bool true) e = absurd cc
-text_only (bool false) e = absurd cc
-text_only m e = absurd cc
-
-bytes_only : (m : Node) → of_bytes ≡ kind m → (t : List ℕ) × (m ≡ bytes t)
-bytes_only (bytes t) e = (t, refl)
-bytes_only (bool true) e = absurd cc
-bytes_only (bool false) e = absurd cc
-bytes_only m e = absurd cc
-
-tag_only : (m : Node) → of_tag ≡ kind m → (k : ℕ) × (n : Node) × (m ≡ tag k n)
-tag_only (tag k n) e = (k, n, refl)
-tag_only (bool true) e = absurd cc
-tag_only (bool false) e = absurd cc
-tag_only m e = absurd cc
-
-list_only : (m : Node) → of_list ≡ kind m → (ns : Nodes) × (m ≡ list ns)
-list_only (list ns) e = (ns, refl)
-list_only (bool true) e = absurd cc
-list_only (bool false) e = absurd cc
-list_only m e = absurd cc
-
-map_only : (m : Node) → of_map ≡ kind m → (ms : Members) × (m ≡ object ms)
-map_only (object ms) e = (ms, refl)
-map_only (bool true) e = absurd cc
-map_only (bool false) e = absurd cc
-map_only m e = absurd cc
-
 -- an integer has one tree
-int_here : (z : ℤ) (m : Node) (s r q : List ℕ) → FitsSigned w64 z → Integer z s r → of_integer ≡ kind m → Item plain m s q → (int z ≡ m) × (r ≡ q)
+int_here : (z : ℤ) (m : Node) (s r q : List ℕ) → FitsSigned w64 z → Integer z s r → of_number ≡ node_kind m → Item TextString m s q
+    → (int z ≡ m) × (r ≡ q)
 int_here z (int y) s r q fits h e (other, k) = let (same, rest) = one_integer z y s r q h k in (ap int same, rest)
-int_here z (number t) s r q fits h e (y, out, is, k) = let (same, rest) = one_integer z y s r q h k in absurd (out (subst (FitsSigned w64) same fits))
+int_here z (number t) s r q fits h e (y, out, is, k) = let (same, rest) = one_integer z y s r q h k in
+    absurd (out (subst (FitsSigned w64) same fits))
 int_here z (bool true) s r q fits h e k = absurd cc
 int_here z (bool false) s r q fits h e k = absurd cc
 int_here z m s r q fits h e k = absurd cc
 
-number_here : (t : List ℕ) (z : ℤ) (m : Node) (s r q : List ℕ) → (FitsSigned w64 z → ⊥) → t ≡ signed_decimal z → Integer z s r → of_integer ≡ kind m → Item plain m s q → (number t ≡ m) × (r ≡ q)
-number_here t z (int y) s r q out is h e (fits, k) = let (same, rest) = one_integer z y s r q h k in absurd (out (subst (FitsSigned w64) (sym same) fits))
-number_here t z (number u) s r q out is h e (y, other, is_u, k) = let (same, rest) = one_integer z y s r q h k in (ap number (is ∙ ap signed_decimal same ∙ sym is_u), rest)
+number_here : (t : List ℕ) (z : ℤ) (m : Node) (s r q : List ℕ) → (FitsSigned w64 z → ⊥) → t ≡ signed_decimal z → Integer z s r
+    → of_number ≡ node_kind m → Item TextString m s q → (number t ≡ m) × (r ≡ q)
+number_here t z (int y) s r q out is h e (fits, k) = let (same, rest) = one_integer z y s r q h k in
+    absurd (out (subst (FitsSigned w64) (sym same) fits))
+number_here t z (number u) s r q out is h e (y, other, is_u, k) = let (same, rest) = one_integer z y s r q h k in
+    (ap number (is ∙ ap signed_decimal same ∙ sym is_u), rest)
 number_here t z (bool true) s r q out is h e k = absurd cc
 number_here t z (bool false) s r q out is h e k = absurd cc
 number_here t z m s r q out is h e k = absurd cc
 
-one_null : (s r q : List ℕ) → Item plain null s r → Item plain null s q → r ≡ q
+one_null : (s r q : List ℕ) → Item TextString null s r → Item TextString null s q → r ≡ q
 one_null s r q (inl h) (inl k) = (one_byte 0xF6 0xF6 s r q h k).1
 one_null s r q (inl h) (inr k) = (one_byte 0xF6 0xF7 s r q h k).1
 one_null s r q (inr h) (inl k) = (one_byte 0xF7 0xF6 s r q h k).1
 one_null s r q (inr h) (inr k) = (one_byte 0xF7 0xF7 s r q h k).1
 
-one_opaque : (b d : ℕ) (s r q : List ℕ) → Item plain (opaque b) s r → Item plain (opaque d) s q → (b ≡ d) × (r ≡ q)
+one_opaque : (b d : ℕ) (s r q : List ℕ) → Item TextString (opaque b) s r → Item TextString (opaque d) s q → (b ≡ d) × (r ≡ q)
 one_opaque b d [] r q h k = absurd h
 one_opaque b d (c ∷ s) r q (e, seven, n, a, is) (f, also, m, g, is_m) = (sym e ∙ f, (one_argument (c % 32) n m s r q a g).1)
 
@@ -258,34 +204,40 @@ same_suc k m n e f = omega arith
 
 -- a list or a map, if its entries or pairs are one alone
 abbrev OneEntries : Nodes → Type 0
-OneEntries ns = (ms : Nodes) (k : ℕ) (s r q : List ℕ) → Entries plain k ns s r → Entries plain k ms s q → (ns ≡ ms) × (r ≡ q)
+OneEntries ns = (ms : Nodes) (k : ℕ) (s r q : List ℕ) → CountedEntries TextString k ns s r → CountedEntries TextString k ms s q
+    → (ns ≡ ms) × (r ≡ q)
 
 abbrev OneToBreak : Nodes → Type 0
-OneToBreak ns = (ms : Nodes) (s r q : List ℕ) → EntriesToBreak plain ns s r → EntriesToBreak plain ms s q → (ns ≡ ms) × (r ≡ q)
+OneToBreak ns = (ms : Nodes) (s r q : List ℕ) → EntriesToBreak TextString ns s r → EntriesToBreak TextString ms s q → (ns ≡ ms) × (r ≡ q)
 
-one_list : (ns ms : Nodes) (s r q : List ℕ) → OneEntries ns → OneToBreak ns → Item plain (list ns) s r → Item plain (list ms) s q → (ns ≡ ms) × (r ≡ q)
+one_list : (ns ms : Nodes) (s r q : List ℕ) → OneEntries ns → OneToBreak ns → Item TextString (list ns) s r → Item TextString (list ms) s q
+    → (ns ≡ ms) × (r ≡ q)
 one_list ns ms s r q counted broken (inl (n, s1, h, more)) (inl (m, s2, k, others)) =
     let (count, start) = one_head 4 n m s s1 s2 h k in
-    counted ms n s1 r q more (subst (λ x. Entries plain x ms s1 q) (sym count) (subst (λ x. Entries plain m ms x q) (sym start) others))
+    counted ms n s1 r q more (subst (λ x. CountedEntries TextString x ms s1 q) (sym count)
+    (subst (λ x. CountedEntries TextString m ms x q) (sym start) others))
 one_list ns ms s r q counted broken (inl (n, s1, h, more)) (inr (s2, k, others)) = absurd (apart 4 n s s1 s2 h k)
 one_list ns ms s r q counted broken (inr (s1, h, more)) (inl (m, s2, k, others)) = absurd (apart 4 m s s2 s1 k h)
 one_list ns ms s r q counted broken (inr (s1, h, more)) (inr (s2, k, others)) =
-    broken ms s1 r q more (subst (λ x. EntriesToBreak plain ms x q) (sym (one_byte 0x9F 0x9F s s1 s2 h k).1) others)
+    broken ms s1 r q more (subst (λ x. EntriesToBreak TextString ms x q) (sym (one_byte 0x9F 0x9F s s1 s2 h k).1) others)
 
 abbrev OnePairs : Members → Type 0
-OnePairs ns = (ms : Members) (k : ℕ) (s r q : List ℕ) → Pairs plain k ns s r → Pairs plain k ms s q → (ns ≡ ms) × (r ≡ q)
+OnePairs ns = (ms : Members) (k : ℕ) (s r q : List ℕ) → CountedPairs TextString k ns s r → CountedPairs TextString k ms s q
+    → (ns ≡ ms) × (r ≡ q)
 
 abbrev OnePairsToBreak : Members → Type 0
-OnePairsToBreak ns = (ms : Members) (s r q : List ℕ) → PairsToBreak plain ns s r → PairsToBreak plain ms s q → (ns ≡ ms) × (r ≡ q)
+OnePairsToBreak ns = (ms : Members) (s r q : List ℕ) → PairsToBreak TextString ns s r → PairsToBreak TextString ms s q → (ns ≡ ms) × (r ≡ q)
 
-one_map : (ns ms : Members) (s r q : List ℕ) → OnePairs ns → OnePairsToBreak ns → Item plain (object ns) s r → Item plain (object ms) s q → (ns ≡ ms) × (r ≡ q)
+one_map : (ns ms : Members) (s r q : List ℕ) → OnePairs ns → OnePairsToBreak ns → Item TextString (object ns) s r
+    → Item TextString (object ms) s q → (ns ≡ ms) × (r ≡ q)
 one_map ns ms s r q counted broken (inl (n, s1, h, more)) (inl (m, s2, k, others)) =
     let (count, start) = one_head 5 n m s s1 s2 h k in
-    counted ms n s1 r q more (subst (λ x. Pairs plain x ms s1 q) (sym count) (subst (λ x. Pairs plain m ms x q) (sym start) others))
+    counted ms n s1 r q more (subst (λ x. CountedPairs TextString x ms s1 q) (sym count)
+    (subst (λ x. CountedPairs TextString m ms x q) (sym start) others))
 one_map ns ms s r q counted broken (inl (n, s1, h, more)) (inr (s2, k, others)) = absurd (apart 5 n s s1 s2 h k)
 one_map ns ms s r q counted broken (inr (s1, h, more)) (inl (m, s2, k, others)) = absurd (apart 5 m s s2 s1 k h)
 one_map ns ms s r q counted broken (inr (s1, h, more)) (inr (s2, k, others)) =
-    broken ms s1 r q more (subst (λ x. PairsToBreak plain ms x q) (sym (one_byte 0xBF 0xBF s s1 s2 h k).1) others)
+    broken ms s1 r q more (subst (λ x. PairsToBreak TextString ms x q) (sym (one_byte 0xBF 0xBF s s1 s2 h k).1) others)
 
 -- no key begins with a break
 no_key : (t s r q : List ℕ) → Byte 0xFF s r → TextString t s q → ⊥
@@ -294,81 +246,91 @@ no_key t (c ∷ s) r q h (inl (s1, k, e, is)) = let a = h.0 in let b = k.0 in om
 no_key t (c ∷ s) r q h (inr (s1, ts, k, chunks, e)) = let a = h.0 in let b = k.0 in omega arith
 
 mutual
-  one_item : (n m : Node) (s r q : List ℕ) → Item plain n s r → Item plain m s q → (n ≡ m) × (r ≡ q)
+  one_item : (n m : Node) (s r q : List ℕ) → Item TextString n s r → Item TextString m s q → (n ≡ m) × (r ≡ q)
   one_item null m s r q h k =
-      let e = null_only m (one_kind null m s r q h k) in (sym e, one_null s r q h (subst (λ x. Item plain x s q) e k))
+      let e = null_only m (one_kind null m s r q h k) in (sym e, one_null s r q h (subst (λ x. Item TextString x s q) e k))
   one_item (bool true) m s r q h k =
-      let e = true_only m (one_kind (bool true) m s r q h k) in (sym e, (one_byte 0xF5 0xF5 s r q h (subst (λ x. Item plain x s q) e k)).1)
+      let e = true_only m (one_kind (bool true) m s r q h k) in
+      (sym e, (one_byte 0xF5 0xF5 s r q h (subst (λ x. Item TextString x s q) e k)).1)
   one_item (bool false) m s r q h k =
-      let e = false_only m (one_kind (bool false) m s r q h k) in (sym e, (one_byte 0xF4 0xF4 s r q h (subst (λ x. Item plain x s q) e k)).1)
+      let e = false_only m (one_kind (bool false) m s r q h k) in
+      (sym e, (one_byte 0xF4 0xF4 s r q h (subst (λ x. Item TextString x s q) e k)).1)
   one_item (int z) m s r q h k = int_here z m s r q h.0 h.1 (one_kind (int z) m s r q h k) k
   one_item (number t) m s r q h k = number_here t h.0 m s r q h.1 h.2 h.3 (one_kind (number t) m s r q h k) k
   one_item (text t) m s r q h k =
       let (u, e) = text_only m (one_kind (text t) m s r q h k) in
-      let (same, rest) = one_string 3 IsUtf8 t u s r q (omega arith) h (subst (λ x. Item plain x s q) e k) in
+      let (same, rest) = one_string 3 IsUtf8 t u s r q (omega arith) h (subst (λ x. Item TextString x s q) e k) in
       (ap text same ∙ sym e, rest)
   one_item (bytes t) m s r q h k =
       let (u, e) = bytes_only m (one_kind (bytes t) m s r q h k) in
-      let (same, rest) = one_string 2 AreBytes t u s r q (omega arith) h (subst (λ x. Item plain x s q) e k) in
+      let (same, rest) = one_string 2 AreBytes t u s r q (omega arith) h (subst (λ x. Item TextString x s q) e k) in
       (ap bytes same ∙ sym e, rest)
   one_item (tag a n) m s r q h k =
       let (b, x, e) = tag_only m (one_kind (tag a n) m s r q h k) in
-      let g = subst (λ y. Item plain y s q) e k in
+      let g = subst (λ y. Item TextString y s q) e k in
       let (number_same, start) = one_head 6 a b s h.0 g.0 h.1 g.1 in
-      let (content, rest) = one_item n x h.0 r q h.2 (subst (λ y. Item plain x y q) (sym start) g.2) in
+      let (content, rest) = one_item n x h.0 r q h.2 (subst (λ y. Item TextString x y q) (sym start) g.2) in
       (ap (λ y. tag y n) number_same ∙ ap (tag b) content ∙ sym e, rest)
   one_item (opaque b) m s r q h k =
-      let (d, e) = is_opaque m (one_kind (opaque b) m s r q h k) in
-      let (same, rest) = one_opaque b d s r q h (subst (λ x. Item plain x s q) e k) in
+      let (d, e) = opaque_only m (one_kind (opaque b) m s r q h k) in
+      let (same, rest) = one_opaque b d s r q h (subst (λ x. Item TextString x s q) e k) in
       (ap opaque same ∙ sym e, rest)
   one_item (list ns) m s r q h k =
       let (ms, e) = list_only m (one_kind (list ns) m s r q h k) in
-      let (same, rest) = one_list ns ms s r q (λ us k t x y a b. one_entries ns us k t x y a b) (λ us t x y a b. one_to_break ns us t x y a b) h (subst (λ x. Item plain x s q) e k) in
+      let (same, rest) = one_list ns ms s r q (λ us k t x y a b. one_entries ns us k t x y a b)
+      (λ us t x y a b. one_to_break ns us t x y a b) h (subst (λ x. Item TextString x s q) e k) in
       (ap list same ∙ sym e, rest)
   one_item (object ns) m s r q h k =
-      let (ms, e) = map_only m (one_kind (object ns) m s r q h k) in
-      let (same, rest) = one_map ns ms s r q (λ us k t x y a b. one_pairs ns us k t x y a b) (λ us t x y a b. one_pairs_to_break ns us t x y a b) h (subst (λ x. Item plain x s q) e k) in
+      let (ms, e) = object_only m (one_kind (object ns) m s r q h k) in
+      let (same, rest) = one_map ns ms s r q (λ us k t x y a b. one_pairs ns us k t x y a b)
+      (λ us t x y a b. one_pairs_to_break ns us t x y a b) h (subst (λ x. Item TextString x s q) e k) in
       (ap object same ∙ sym e, rest)
 
-  one_entries : (ns ms : Nodes) (k : ℕ) (s r q : List ℕ) → Entries plain k ns s r → Entries plain k ms s q → (ns ≡ ms) × (r ≡ q)
+  one_entries : (ns ms : Nodes) (k : ℕ) (s r q : List ℕ) → CountedEntries TextString k ns s r → CountedEntries TextString k ms s q
+      → (ns ≡ ms) × (r ≡ q)
   one_entries no_nodes no_nodes k s r q h g = (refl, sym h.1 ∙ g.1)
   one_entries no_nodes (node y ys) k s r q h g = absurd (let e = h.0 in let f = g.1 in omega arith)
   one_entries (node x xs) no_nodes k s r q h g = absurd (let e = h.1 in let f = g.0 in omega arith)
   one_entries (node x xs) (node y ys) k s r q (n, e, s1, h, hs) (m, f, s2, g, gs) =
       let (first, rest) = one_item x y s s1 s2 h g in
       let less = same_suc k n m e f in
-      let (others, behind) = one_entries xs ys n s1 r q hs (subst (λ z. Entries plain z ys s1 q) (sym less) (subst (λ z. Entries plain m ys z q) (sym rest) gs)) in
+      let (others, behind) = one_entries xs ys n s1 r q hs
+      (subst (λ z. CountedEntries TextString z ys s1 q) (sym less) (subst (λ z. CountedEntries TextString m ys z q) (sym rest) gs)) in
       (cc, behind)
 
-  one_to_break : (ns ms : Nodes) (s r q : List ℕ) → EntriesToBreak plain ns s r → EntriesToBreak plain ms s q → (ns ≡ ms) × (r ≡ q)
+  one_to_break : (ns ms : Nodes) (s r q : List ℕ) → EntriesToBreak TextString ns s r → EntriesToBreak TextString ms s q
+      → (ns ≡ ms) × (r ≡ q)
   one_to_break no_nodes no_nodes s r q h g = (refl, (one_byte 0xFF 0xFF s r q h g).1)
   one_to_break no_nodes (node y ys) s r q h (s2, g, gs) = absurd (no_break y s r s2 h g)
   one_to_break (node x xs) no_nodes s r q (s1, h, hs) g = absurd (no_break x s q s1 g h)
   one_to_break (node x xs) (node y ys) s r q (s1, h, hs) (s2, g, gs) =
       let (first, rest) = one_item x y s s1 s2 h g in
-      let (others, behind) = one_to_break xs ys s1 r q hs (subst (λ z. EntriesToBreak plain ys z q) (sym rest) gs) in
+      let (others, behind) = one_to_break xs ys s1 r q hs (subst (λ z. EntriesToBreak TextString ys z q) (sym rest) gs) in
       (cc, behind)
 
-  one_pairs : (ns ms : Members) (k : ℕ) (s r q : List ℕ) → Pairs plain k ns s r → Pairs plain k ms s q → (ns ≡ ms) × (r ≡ q)
+  one_pairs : (ns ms : Members) (k : ℕ) (s r q : List ℕ) → CountedPairs TextString k ns s r → CountedPairs TextString k ms s q
+      → (ns ≡ ms) × (r ≡ q)
   one_pairs no_members no_members k s r q h g = (refl, sym h.1 ∙ g.1)
   one_pairs no_members (member u y ys) k s r q h g = absurd (let e = h.0 in let f = g.1 in omega arith)
   one_pairs (member t x xs) no_members k s r q h g = absurd (let e = h.1 in let f = g.0 in omega arith)
   one_pairs (member t x xs) (member u y ys) k s r q (n, e, s1, s3, a, h, hs) (m, f, s2, s4, b, g, gs) =
       let (name, start) = one_string 3 IsUtf8 t u s s1 s2 (omega arith) a b in
-      let (first, rest) = one_item x y s1 s3 s4 h (subst (λ z. Item plain y z s4) (sym start) g) in
+      let (first, rest) = one_item x y s1 s3 s4 h (subst (λ z. Item TextString y z s4) (sym start) g) in
       let less = same_suc k n m e f in
-      let (others, behind) = one_pairs xs ys n s3 r q hs (subst (λ z. Pairs plain z ys s3 q) (sym less) (subst (λ z. Pairs plain m ys z q) (sym rest) gs)) in
+      let (others, behind) = one_pairs xs ys n s3 r q hs
+      (subst (λ z. CountedPairs TextString z ys s3 q) (sym less) (subst (λ z. CountedPairs TextString m ys z q) (sym rest) gs)) in
       (cc, behind)
 
-  one_pairs_to_break : (ns ms : Members) (s r q : List ℕ) → PairsToBreak plain ns s r → PairsToBreak plain ms s q → (ns ≡ ms) × (r ≡ q)
+  one_pairs_to_break : (ns ms : Members) (s r q : List ℕ) → PairsToBreak TextString ns s r → PairsToBreak TextString ms s q
+      → (ns ≡ ms) × (r ≡ q)
   one_pairs_to_break no_members no_members s r q h g = (refl, (one_byte 0xFF 0xFF s r q h g).1)
   one_pairs_to_break no_members (member u y ys) s r q h (s2, s4, b, g, gs) = absurd (no_key u s r s2 h b)
   one_pairs_to_break (member t x xs) no_members s r q (s1, s3, a, h, hs) g = absurd (no_key t s q s1 g a)
   one_pairs_to_break (member t x xs) (member u y ys) s r q (s1, s3, a, h, hs) (s2, s4, b, g, gs) =
       let (name, start) = one_string 3 IsUtf8 t u s s1 s2 (omega arith) a b in
-      let (first, rest) = one_item x y s1 s3 s4 h (subst (λ z. Item plain y z s4) (sym start) g) in
-      let (others, behind) = one_pairs_to_break xs ys s3 r q hs (subst (λ z. PairsToBreak plain ys z q) (sym rest) gs) in
+      let (first, rest) = one_item x y s1 s3 s4 h (subst (λ z. Item TextString y z s4) (sym start) g) in
+      let (others, behind) = one_pairs_to_break xs ys s3 r q hs (subst (λ z. PairsToBreak TextString ys z q) (sym rest) gs) in
       (cc, behind)
 
-pub one_reading : OneReading
+pub one_reading : HasOneReading cbor_syntax
 one_reading n m bs h k = (one_item n m bs [] [] h k).0

@@ -1,39 +1,47 @@
 -- From the reader's steps to what bytes are: an item, cut short, or refused at one place for one cause.
 use Rattle.std.proofs.Common.{Result, Ok, Err, ◌≡◌, ℕ, ◌+◌, ◌≤◌, ◌<◌, max, inl, inr, List, [], ◌∷◌, ◌++◌, refl, sym, ap, subst, ◌∙◌, arith, length, take, get_or, append-nil, append_assoc}
 use Rattle.std.proofs.lemmas.List.{take_more}
-use Rattle.sm_tree.specs.Node.{Node}
+use Rattle.sm_tree.specs.Node.{Node, null}
 use Rattle.sm_tree.specs.Levels.{levels}
 use Rattle.sm_tree.specs.View.{node_of}
-use Rattle.sm_tree.specs.Syntax.{most_levels, Begins, BeginsRead, IsBadAt, IsTooDeepAt}
+use Rattle.sm_tree.specs.Limits.{most_levels}
+use Rattle.sm_tree.specs.Syntax.{Begins, BeginsRead, IsBadAt, IsKeyKindAt, IsBadByteAt, IsTooDeepAt, Reads}
 use Rattle.sm_tree.specs.Events.{NodeEvent, events}
 use Rattle.sm_tree.specs.declared.tree.Tree.{Tree}
 use Rattle.sm_tree.specs.declared.refusal.SyntaxRefusal.{SyntaxRefusal}
 use Rattle.sm_tree.specs.declared.refusal.SyntaxRefusal.TheVariants.{Bad, Ended, TooDeep, KeyKind, NoMemory}
 use Rattle.sm_tree.proofs.Events.{events_injective}
-use Rattle.sm_cbor.specs.CborItem.{Keys, plain, marked, mark, Item as ItemBytes, CborItem}
-use Rattle.sm_cbor.specs.Refusals.{IsKeyKindAt, IsBadByteAt}
-use Rattle.sm_cbor.specs.Answers.{ReadsTree}
-use Rattle.sm_cbor.specs.Rest.{start, Rest, Leads, Stops}
-use Rattle.sm_cbor.specs.Machine.{Lives, state_at, state_of, levels_of, handed_on, IsAt, IsSound, Goes, RefusesAt, IsPlace, TakesAll, Finishes}
+use Rattle.sm_cbor.specs.CborItem.{TextString, Item as ItemBytes, CborItem}
+use Rattle.sm_cbor.specs.steps.Marks.{Keys, plain, marked, key_of}
+use Rattle.sm_cbor.specs.Refusals.{mark, cbor_syntax}
+use Rattle.sm_cbor.specs.steps.Rest.{first_state, CborRest, CborLeads, CborStops}
+use Rattle.sm_cbor.specs.steps.Machine.{Lives, cbor_state_at, cbor_state_of, levels_of, cbor_handed_on, IsAt, IsSoundReader, CborGoes, RefusesAt, IsPlaceOf, CborTakesAll, CborFinishes}
 use Rattle.sm_cbor.specs.declared.place.Place.{Place}
 use Rattle.sm_cbor.specs.declared.place.Place.TheVariants.{Item, Key, After, Argument as InArgument, String, Chunks}
 use Rattle.sm_cbor.specs.declared.read.Reader.{Reader}
 use Rattle.sm_cbor.proofs.Endings.{goes_on}
 
 -- what the first state says of whole bytes
-item_start : (w : Keys) (limit : ℕ) (bs : List ℕ) (n : Node) → ItemBytes w n bs [] → levels n ≤ limit → Rest w limit start bs (events n [])
+item_start : (w : Keys) (limit : ℕ) (bs : List ℕ) (n : Node) → ItemBytes (key_of w) n bs [] → levels n ≤ limit
+    → CborRest w limit first_state bs (events n [])
 item_start w limit bs n h room = (n, [], [], h, omega arith, (refl, refl), refl)
 
-start_item : (w : Keys) (limit : ℕ) (bs : List ℕ) (es : List NodeEvent) → Rest w limit start bs es → (n : Node) × ItemBytes w n bs [] × (levels n ≤ limit) × (es ≡ events n [])
-start_item w limit bs es (n, r, fs, h, room, (e, f), g) = (n, subst (λ x. ItemBytes w n bs x) e h, omega arith, g ∙ ap (events n) f)
+start_item : (w : Keys) (limit : ℕ) (bs : List ℕ) (es : List NodeEvent) → CborRest w limit first_state bs es
+    → (n : Node) × ItemBytes (key_of w) n bs [] × (levels n ≤ limit) × (es ≡ events n [])
+start_item w limit bs es (n, r, fs, h, room, (e, f), g) =
+    (n, subst (λ x. ItemBytes (key_of w) n bs x) e h, omega arith, g ∙ ap (events n) f)
 
--- a run of the reader from the start
+-- a run of the reader from the first state
 pub record Runs (bs : List ℕ) (out : List NodeEvent) (q : Reader) : Type 0 where
-  pub leads : (w : Keys) (limit : ℕ) → most_levels ≤ limit → Leads w limit start bs out (state_of q)
-  pub sound : IsSound q
+  pub leads : (w : Keys) (limit : ℕ) → most_levels ≤ limit → CborLeads w limit first_state bs out (cbor_state_of q)
+  pub sound : IsSoundReader q
 
-pub runs_from : (r q : Reader) (bs : List ℕ) → state_of r ≡ start → (goes : Goes r [] r.place bs q) → Runs bs goes.out q
-runs_from r q bs first goes = record { leads = λ w limit high. subst (λ x. Leads w limit x bs goes.out (state_of q)) first (goes.leads w limit high); sound = goes.sound }
+pub runs_from : (r q : Reader) (bs : List ℕ) → cbor_state_of r ≡ first_state → (goes : CborGoes r [] r.place bs q) → Runs bs goes.out q
+runs_from r q bs first goes = record {
+  leads =
+      λ w limit high. subst (λ x. CborLeads w limit x bs goes.out (cbor_state_of q)) first (goes.leads w limit high);
+  sound = goes.sound;
+}
 
 -- the place at which a sound reader stands lives
 lives : (r : Reader) (p : Place) → IsAt r p → Lives p
@@ -47,48 +55,62 @@ lives r (Chunks kind) there = tt
 -- so the bytes so far begin an item that is read
 begun : (bs : List ℕ) (out : List NodeEvent) (q : Reader) → Runs bs out q → BeginsRead CborItem bs
 begun bs out q run =
-    let (s, es, rest) = goes_on plain most_levels q.place q.held.items (levels_of q) run.sound.there.room (lives q q.place run.sound.there) in
-    let (n, item, room, e) = start_item plain most_levels (bs ++ s) (out ++ es) ((run.leads plain most_levels (omega arith)).back s es rest) in
+    let (s, es, rest) = goes_on plain most_levels q.place q.held.items (levels_of q) run.sound.there.room
+    (lives q q.place run.sound.there) in
+    let (n, item, room, e) = start_item plain most_levels (bs ++ s) (out ++ es)
+    ((run.leads plain most_levels (omega arith)).back s es rest) in
     (s, n, (item, room))
+
+-- no bytes begin one
+pub nothing_begins : BeginsRead CborItem []
+nothing_begins = (0xF6 ∷ [], null, (inl (refl, refl), omega arith))
 
 -- some limit holds of any tree
 abbrev limit_of : Node → ℕ
 limit_of n = max (levels n) most_levels
 
-onward_of : (w : Keys) (bs s : List ℕ) (out : List NodeEvent) (q : Reader) (n : Node) → Runs bs out q → ItemBytes w n (bs ++ s) [] → (es : List NodeEvent) × Rest w (limit_of n) (state_of q) s es
+onward_of : (w : Keys) (bs s : List ℕ) (out : List NodeEvent) (q : Reader) (n : Node) → Runs bs out q → ItemBytes (key_of w) n (bs ++ s) []
+    → (es : List NodeEvent) × CborRest w (limit_of n) (cbor_state_of q) s es
 onward_of w bs s out q n run item =
-    let (fs, e, rest) = (run.leads w (limit_of n) (omega arith)).onward s (events n []) (item_start w (limit_of n) (bs ++ s) n item (omega arith)) in (fs, rest)
+    let (fs, e, rest) = (run.leads w (limit_of n) (omega arith)).onward s (events n [])
+    (item_start w (limit_of n) (bs ++ s) n item (omega arith)) in (fs, rest)
 
 with_byte : (bs more : List ℕ) (at : ℕ) → at < length bs → take (at + 1) bs ++ more ≡ take at bs ++ (get_or bs at 0 ∷ more)
 with_byte bs more at inside = ap (λ x. x ++ more) (take_more bs at 0 inside) ∙ append_assoc (take at bs) (get_or bs at 0 ∷ []) more
 
 -- no item goes on with the byte
-never : (bs : List ℕ) (at : ℕ) (out : List NodeEvent) (q : Reader) → at < length bs → Runs (take at bs) out q → ((limit : ℕ) → Stops plain limit (state_of q) (get_or bs at 0)) → Begins CborItem (take (at + 1) bs) → ⊥
+never : (bs : List ℕ) (at : ℕ) (out : List NodeEvent) (q : Reader) → at < length bs → Runs (take at bs) out q
+    → ((limit : ℕ) → CborStops plain limit (cbor_state_of q) (get_or bs at 0)) → Begins CborItem (take (at + 1) bs) → ⊥
 never bs at out q inside run stops (more, n, item) =
-    let (es, rest) = onward_of plain (take at bs) (get_or bs at 0 ∷ more) out q n run (subst (λ x. ItemBytes plain n x []) (with_byte bs more at inside) item) in
+    let (es, rest) = onward_of plain (take at bs) (get_or bs at 0 ∷ more) out q n run
+    (subst (λ x. ItemBytes TextString n x []) (with_byte bs more at inside) item) in
     stops (limit_of n) more es rest
 
-bad_at : (bs : List ℕ) (at : ℕ) (out : List NodeEvent) (q : Reader) → at < length bs → Runs (take at bs) out q → ((limit : ℕ) → Stops plain limit (state_of q) (get_or bs at 0)) → IsBadAt CborItem bs at
-bad_at bs at out q inside run stops = record { inside = inside; before = begun (take at bs) out q run; behind = never bs at out q inside run stops }
+bad_at : (bs : List ℕ) (at : ℕ) (out : List NodeEvent) (q : Reader) → at < length bs → Runs (take at bs) out q
+    → ((limit : ℕ) → CborStops plain limit (cbor_state_of q) (get_or bs at 0)) → IsBadAt CborItem bs at
+bad_at bs at out q inside run stops = record
+    { inside = inside; before = begun (take at bs) out q run; behind = never bs at out q inside run stops }
 
-back_of : (w : Keys) (bs s : List ℕ) (out es : List NodeEvent) (limit : ℕ) (q : Reader) → most_levels ≤ limit → Runs bs out q → Rest w limit (state_of q) s es → (n : Node) × ItemBytes w n (bs ++ s) []
+back_of : (w : Keys) (bs s : List ℕ) (out es : List NodeEvent) (limit : ℕ) (q : Reader) → most_levels ≤ limit → Runs bs out q
+    → CborRest w limit (cbor_state_of q) s es → (n : Node) × ItemBytes (key_of w) n (bs ++ s) []
 back_of w bs s out es limit q high run rest =
     let (n, item, room, e) = start_item w limit (bs ++ s) (out ++ es) ((run.leads w limit high).back s es rest) in (n, item)
 
 -- each refusal is what the bytes are
-pub refused_is : (bs : List ℕ) (at : ℕ) (out : List NodeEvent) (q : Reader) (refusal : SyntaxRefusal) → at < length bs → Runs (take at bs) out q → RefusesAt (state_of q) (get_or bs at 0) refusal → IsPlace at refusal
-    → ReadsTree bs (Err refusal)
+pub refused_is : (bs : List ℕ) (at : ℕ) (out : List NodeEvent) (q : Reader) (refusal : SyntaxRefusal) → at < length bs
+    → Runs (take at bs) out q → RefusesAt (cbor_state_of q) (get_or bs at 0) refusal → IsPlaceOf at refusal
+    → Reads cbor_syntax bs (Err refusal)
 refused_is bs at out q NoMemory inside run refuses is = tt
 refused_is bs at out q Ended inside run refuses is = absurd refuses
 refused_is bs at out q (Bad place) inside run refuses is =
-    subst (λ i. IsBadByteAt bs i) (sym is) (record {
+    subst (λ i. IsBadByteAt cbor_syntax bs i) (sym is) (record {
       bad = bad_at bs at out q inside run refuses.stops;
       no_key_kind = λ h. elim refuses.no_key [
         | inl no_mark ↦
-            let (more, n, item) = h.key in
+            let (more, n, item) = (h.key).0 in
             let (es, rest) = onward_of marked (take at bs) (mark ∷ more) out q n run item in
             no_mark (limit_of n) more es rest
-        | inr no_other ↦ no_other h.other
+        | inr no_other ↦ no_other (h.key).1
       ];
     })
 refused_is bs at out q (TooDeep place) inside run refuses is =
@@ -97,41 +119,51 @@ refused_is bs at out q (TooDeep place) inside run refuses is =
     subst (λ i. IsTooDeepAt CborItem bs i) (sym is) (record {
       inside = inside;
       before = begun (take at bs) out q run;
-      goes_on = (s, n, subst (λ x. ItemBytes plain n x []) (sym (with_byte bs s at inside)) item);
+      goes_on = (s, n, subst (λ x. ItemBytes TextString n x []) (sym (with_byte bs s at inside)) item);
       too_deep = λ h.
           let (more, m, (item1, room)) = h in
           let (fs, e, rest1) = (run.leads plain most_levels (omega arith)).onward (get_or bs at 0 ∷ more) (events m [])
-          (item_start plain most_levels (take at bs ++ (get_or bs at 0 ∷ more)) m (subst (λ x. ItemBytes plain m x []) (with_byte bs more at inside) item1) room) in
+          (item_start plain most_levels (take at bs ++ (get_or bs at 0 ∷ more)) m
+          (subst (λ x. ItemBytes TextString m x []) (with_byte bs more at inside) item1) room) in
           refuses.stops more fs rest1;
     })
 refused_is bs at out q (KeyKind place) inside run refuses is =
     let (limit, high, s, es, rest) = refuses.key in
     let (n, item) = back_of marked (take at bs) (mark ∷ s) out es limit q high run rest in
-    subst (λ i. IsKeyKindAt bs i) (sym is) (record {
+    subst (λ i. IsKeyKindAt cbor_syntax bs i) (sym is) (record {
       bad = bad_at bs at out q inside run refuses.stops;
-      key = (s, n, item);
-      other = refuses.other;
+      key = ((s, n, item), refuses.other);
     })
 
-pub feed_refused : (r q : Reader) (bs : List ℕ) (refusal : SyntaxRefusal) → state_of r ≡ start → TakesAll r bs q (Err refusal) → ReadsTree bs (Err refusal)
-feed_refused r q bs refusal first (at, x, inside, goes, refuses, is) = refused_is bs at goes.out x refusal inside (runs_from r x (take at bs) first goes) refuses is
+pub feed_refused : (r q : Reader) (bs : List ℕ) (refusal : SyntaxRefusal) → cbor_state_of r ≡ first_state
+    → CborTakesAll r bs q (Err refusal) → Reads cbor_syntax bs (Err refusal)
+feed_refused r q bs refusal first (at, x, inside, goes, refuses, is) =
+    refused_is bs at goes.out x refusal inside (runs_from r x (take at bs) first goes) refuses is
 
 -- and the end of the bytes
-pub tree_read : (r q : Reader) (bs : List ℕ) (result : Result Tree SyntaxRefusal) → state_of r ≡ start → handed_on r ≡ [] → Goes r [] r.place bs q → Finishes q result → ReadsTree bs result
+pub tree_read : (r q : Reader) (bs : List ℕ) (result : Result Tree SyntaxRefusal) → cbor_state_of r ≡ first_state → cbor_handed_on r ≡ []
+    → CborGoes r [] r.place bs q → CborFinishes q result → Reads cbor_syntax bs result
 tree_read r q bs (Ok tree) first nothing goes (place, none_open, events_are) =
     let run = runs_from r q bs first goes in
-    let done : Rest plain most_levels (state_of q) [] [] =
-    subst (λ p. Rest plain most_levels (state_at q p) [] []) (sym place) (subst (λ ls. Rest plain most_levels (record { place = After; held = q.held.items; levels = ls }) [] []) (sym none_open) (refl, refl)) in
-    let (n, item, room, e) = start_item plain most_levels (bs ++ []) (goes.out ++ []) ((run.leads plain most_levels (omega arith)).back [] [] done) in
+    let done : CborRest plain most_levels (cbor_state_of q) [] [] =
+    subst (λ p. CborRest plain most_levels (cbor_state_at q p) [] []) (sym place)
+    (subst (λ ls. CborRest plain most_levels (record { place = After; held = q.held.items; levels = ls }) [] []) (sym none_open)
+    (refl, refl)) in
+    let (n, item, room, e) = start_item plain most_levels (bs ++ []) (goes.out ++ [])
+    ((run.leads plain most_levels (omega arith)).back [] [] done) in
     let same : events (node_of tree) [] ≡ events n [] =
     sym events_are ∙ goes.taken ∙ ap (λ es. es ++ goes.out) nothing ∙ sym (append-nil goes.out) ∙ e in
-    let tree_is : node_of tree ≡ n = (events_injective (node_of tree) n [] [] same).0 in
-    (subst (λ m. ItemBytes plain m bs []) (sym tree_is) (subst (λ x. ItemBytes plain n x []) (append-nil bs) item), subst (λ m. levels m ≤ most_levels) (sym tree_is) room)
+    let tree_is : node_of tree ≡ n = (events_injective (node_of tree) n [] [] same).0 in (
+      subst (λ m. ItemBytes TextString m bs []) (sym tree_is) (subst (λ x. ItemBytes TextString n x []) (append-nil bs) item),
+      subst
+          (λ m. levels m ≤ most_levels) (sym tree_is) room,
+    )
 tree_read r q bs (Err Ended) first nothing goes owed =
     let run = runs_from r q bs first goes in record {
       begun = begun bs goes.out q run;
       no_text = λ n h.
-          let (fs, e, rest) = (run.leads plain most_levels (omega arith)).onward [] (events n []) (item_start plain most_levels (bs ++ []) n (subst (λ x. ItemBytes plain n x []) (sym (append-nil bs)) h.0) h.1) in
+          let (fs, e, rest) = (run.leads plain most_levels (omega arith)).onward [] (events n [])
+          (item_start plain most_levels (bs ++ []) n (subst (λ x. ItemBytes TextString n x []) (sym (append-nil bs)) h.0) h.1) in
           owed plain most_levels fs rest;
     }
 tree_read r q bs (Err NoMemory) first nothing goes h = absurd h

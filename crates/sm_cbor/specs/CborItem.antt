@@ -6,7 +6,7 @@ use Rattle.std.specs.Fmt.{signed_decimal}
 use Rattle.std.specs.List.{concat}
 use Rattle.sm_tree.specs.Json.{AreBytes}
 use Rattle.sm_tree.specs.Node.{Node, Nodes, Members, null, bool, int, number, text, bytes, tag, opaque, list, object, no_nodes, node, no_members, member}
-use Rattle.sm_cbor.specs.Heads.{Byte, Argument, Head, unsigned_type, negative_type, bytes_type, text_type, array_type, map_type, tag_type, simple_type, Indefinite, Break}
+use Rattle.sm_cbor.specs.Heads.{Byte, Argument, Head, unsigned_type, negative_type, bytes_type, text_type, array_type, map_type, tag_type, simple_type, false_byte, true_byte, null_byte, undefined_byte, Indefinite, Break}
 
 -- major types 0 and 1: the integer n, and the integer -1 - n
 abbrev pub Integer : ℤ → List ℕ → List ℕ → Type 0
@@ -41,58 +41,54 @@ abbrev pub SimpleOrFloat : ℕ → List ℕ → List ℕ → Type 0
 SimpleOrFloat b [] r = ⊥
 SimpleOrFloat b (c ∷ s) r = (c ≡ b) × (c / 32 ≡ simple_type) × (n : ℕ) × Argument (c % 32) n s r × IsOpaque (c % 32) n
 
--- what stands for a map's key: a text; or, to say where keys stand, also a mark, which is no byte
-pub data Keys : Type 0 where
-  plain marked : Keys
-
-abbrev pub mark : ℕ
-mark = 256
-
-abbrev pub Key : Keys → List ℕ → List ℕ → List ℕ → Type 0
-Key plain k s r = TextString k s r
-Key marked k s r = TextString k s r ⊎ (Byte mark s r × (k ≡ []))
+-- the form of a map's keys: which bytes spell which key, and what follows them
+abbrev pub KeyForm : Type 1
+KeyForm = List ℕ → List ℕ → List ℕ → Type 0
 
 abbrev mutual
-  pub Item : Keys → Node → List ℕ → List ℕ → Type 0
+  pub Item : KeyForm → Node → List ℕ → List ℕ → Type 0
   -- null and undefined
-  Item w null s r = Byte 0xF6 s r ⊎ Byte 0xF7 s r
-  Item w (bool false) s r = Byte 0xF4 s r
-  Item w (bool true) s r = Byte 0xF5 s r
+  Item Key null s r = Byte null_byte s r ⊎ Byte undefined_byte s r
+  Item Key (bool false) s r = Byte false_byte s r
+  Item Key (bool true) s r = Byte true_byte s r
   -- major types 0 and 1: an integer of 64 bits with a sign, else the number in decimal
-  Item w (int z) s r = FitsSigned w64 z × Integer z s r
-  Item w (number t) s r = (z : ℤ) × (FitsSigned w64 z → ⊥) × (t ≡ signed_decimal z) × Integer z s r
+  Item Key (int z) s r = FitsSigned w64 z × Integer z s r
+  Item Key (number t) s r = (z : ℤ) × (FitsSigned w64 z → ⊥) × (t ≡ signed_decimal z) × Integer z s r
   -- major types 3 and 2
-  Item w (text t) s r = TextString t s r
-  Item w (bytes t) s r = ByteString t s r
+  Item Key (text t) s r = TextString t s r
+  Item Key (bytes t) s r = ByteString t s r
   -- major type 6, section 3.4: the tag number, and the enclosed item
-  Item w (tag k n) s r = (s1 : List ℕ) × Head tag_type k s s1 × Item w n s1 r
+  Item Key (tag k n) s r = (s1 : List ℕ) × Head tag_type k s s1 × Item Key n s1 r
   -- major type 7
-  Item w (opaque b) s r = SimpleOrFloat b s r
+  Item Key (opaque b) s r = SimpleOrFloat b s r
   -- major type 4: the number of entries, and the entries; or entries up to a "break"
-  Item w (list ns) s r =
-      ((n : ℕ) × (s1 : List ℕ) × Head array_type n s s1 × Entries w n ns s1 r) ⊎ ((s1 : List ℕ) × Indefinite array_type s s1 × EntriesToBreak w ns s1 r)
+  Item Key (list ns) s r =
+      ((n : ℕ) × (s1 : List ℕ) × Head array_type n s s1 × CountedEntries Key n ns s1 r)
+      ⊎ ((s1 : List ℕ) × Indefinite array_type s s1 × EntriesToBreak Key ns s1 r)
   -- major type 5: the number of pairs, and the pairs; or pairs up to a "break"
-  Item w (object ms) s r =
-      ((n : ℕ) × (s1 : List ℕ) × Head map_type n s s1 × Pairs w n ms s1 r) ⊎ ((s1 : List ℕ) × Indefinite map_type s s1 × PairsToBreak w ms s1 r)
+  Item Key (object ms) s r =
+      ((n : ℕ) × (s1 : List ℕ) × Head map_type n s s1 × CountedPairs Key n ms s1 r)
+      ⊎ ((s1 : List ℕ) × Indefinite map_type s s1 × PairsToBreak Key ms s1 r)
 
   -- so many entries
-  pub Entries : Keys → ℕ → Nodes → List ℕ → List ℕ → Type 0
-  Entries w n no_nodes s r = (n ≡ 0) × (s ≡ r)
-  Entries w n (node x xs) s r = (m : ℕ) × (n ≡ suc m) × (s1 : List ℕ) × Item w x s s1 × Entries w m xs s1 r
+  pub CountedEntries : KeyForm → ℕ → Nodes → List ℕ → List ℕ → Type 0
+  CountedEntries Key n no_nodes s r = (n ≡ 0) × (s ≡ r)
+  CountedEntries Key n (node x xs) s r = (m : ℕ) × (n ≡ suc m) × (s1 : List ℕ) × Item Key x s s1 × CountedEntries Key m xs s1 r
 
-  pub EntriesToBreak : Keys → Nodes → List ℕ → List ℕ → Type 0
-  EntriesToBreak w no_nodes s r = Break s r
-  EntriesToBreak w (node x xs) s r = (s1 : List ℕ) × Item w x s s1 × EntriesToBreak w xs s1 r
+  pub EntriesToBreak : KeyForm → Nodes → List ℕ → List ℕ → Type 0
+  EntriesToBreak Key no_nodes s r = Break s r
+  EntriesToBreak Key (node x xs) s r = (s1 : List ℕ) × Item Key x s s1 × EntriesToBreak Key xs s1 r
 
   -- so many pairs, each a key and its value
-  pub Pairs : Keys → ℕ → Members → List ℕ → List ℕ → Type 0
-  Pairs w n no_members s r = (n ≡ 0) × (s ≡ r)
-  Pairs w n (member k x ms) s r = (m : ℕ) × (n ≡ suc m) × (s1 s2 : List ℕ) × Key w k s s1 × Item w x s1 s2 × Pairs w m ms s2 r
+  pub CountedPairs : KeyForm → ℕ → Members → List ℕ → List ℕ → Type 0
+  CountedPairs Key n no_members s r = (n ≡ 0) × (s ≡ r)
+  CountedPairs Key n (member k x ms) s r =
+      (m : ℕ) × (n ≡ suc m) × (s1 s2 : List ℕ) × Key k s s1 × Item Key x s1 s2 × CountedPairs Key m ms s2 r
 
-  pub PairsToBreak : Keys → Members → List ℕ → List ℕ → Type 0
-  PairsToBreak w no_members s r = Break s r
-  PairsToBreak w (member k x ms) s r = (s1 s2 : List ℕ) × Key w k s s1 × Item w x s1 s2 × PairsToBreak w ms s2 r
+  pub PairsToBreak : KeyForm → Members → List ℕ → List ℕ → Type 0
+  PairsToBreak Key no_members s r = Break s r
+  PairsToBreak Key (member k x ms) s r = (s1 s2 : List ℕ) × Key k s s1 × Item Key x s1 s2 × PairsToBreak Key ms s2 r
 
--- the bytes are one item of this tree, and nothing after it
+-- the bytes are one item of this tree, whose keys are texts, and nothing after it
 abbrev pub CborItem : Node → List ℕ → Type 0
-CborItem n bs = Item plain n bs []
+CborItem n bs = Item TextString n bs []

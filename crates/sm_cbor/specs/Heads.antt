@@ -1,6 +1,6 @@
 -- The heads of data items (RFC 8949, section 3): an initial byte, whose high-order 3 bits are the major type and
 -- whose low-order 5 bits are the additional information, and the bytes of the argument. Each definition says "s begins
--- so, and r is what follows". Every case of an item stands on it.
+-- so, and r is what follows".
 use Rattle.std.specs.Prelude.{◌≡◌, ℕ, zero, suc, ◌+◌, ◌*◌, ◌/◌, ◌%◌, ◌<◌, ◌⊎◌, List, [], ◌∷◌}
 
 -- this byte, and then r
@@ -52,10 +52,26 @@ tag_type = 6
 abbrev pub simple_type : ℕ
 simple_type = 7
 
+-- the initial bytes of the simple values 20 to 23, section 3.3
+abbrev pub false_byte : ℕ
+false_byte = 0xF4
+
+abbrev pub true_byte : ℕ
+true_byte = 0xF5
+
+abbrev pub null_byte : ℕ
+null_byte = 0xF6
+
+abbrev pub undefined_byte : ℕ
+undefined_byte = 0xF7
+
 -- additional information 31: the length is indefinite
 abbrev pub Indefinite : ℕ → List ℕ → List ℕ → Type 0
 Indefinite major s r = Byte (major * 32 + 31) s r
 
 -- the "break" that ends what has an indefinite length, section 3.2.1
+abbrev pub break_byte : ℕ
+break_byte = 0xFF
+
 abbrev pub Break : List ℕ → List ℕ → Type 0
-Break s r = Byte 0xFF s r
+Break s r = Byte break_byte s r

@@ -1,10 +1,6 @@
 pub mod Heads
 pub mod CborItem
 pub mod Refusals
-pub mod Answers
 pub mod Written
 pub mod Laws
-pub mod Reading
-pub mod Rest
-pub mod Machine
-pub mod Descent
+pub mod steps

@@ -1,12 +1,21 @@
--- Where bytes stop being an item, in what is CBOR's own: a map's key that is no text. All else is sm_tree's Syntax.
-use Rattle.std.specs.Prelude.{ℕ, List, [], ◌∷◌, ◌++◌, take, slice_index}
+-- Where bytes stop being an item, in what is CBOR's own: a map's key that is no text. All else is said by `Syntax` of
+-- sm_tree, of any format.
+use Rattle.std.specs.Prelude.{◌≡◌, ℕ, ◌⊎◌, List, [], ◌∷◌, ◌++◌}
 use Rattle.sm_tree.specs.Node.{Node, null, bool, int, number, text, bytes, tag, opaque, list, object}
-use Rattle.sm_tree.specs.Syntax.{IsBadAt}
-use Rattle.sm_cbor.specs.CborItem.{marked, mark, Item, CborItem}
+use Rattle.sm_tree.specs.Syntax.{Syntax}
+use Rattle.sm_cbor.specs.Heads.{Byte}
+use Rattle.sm_cbor.specs.CborItem.{KeyForm, TextString, Item, CborItem}
+
+-- a key may also be a mark, which is no byte
+abbrev pub mark : ℕ
+mark = 256
+
+abbrev pub MarkedKey : KeyForm
+MarkedKey k s r = TextString k s r ⊎ (Byte mark s r × (k ≡ []))
 
 -- a map's key stands behind these bytes: with a mark in place of that key an item goes on
 abbrev pub EndsAtKey : List ℕ → Type 0
-EndsAtKey bs = (more : List ℕ) × (n : Node) × Item marked n (bs ++ mark ∷ more) []
+EndsAtKey bs = (more : List ℕ) × (n : Node) × Item MarkedKey n (bs ++ mark ∷ more) []
 
 abbrev pub IsNoText : Node → Type 0
 IsNoText null = Unit {0}
@@ -24,14 +33,6 @@ IsNoText (object ms) = Unit {0}
 abbrev pub BeginsOther : ℕ → Type 0
 BeginsOther b = (more : List ℕ) × (n : Node) × IsNoText n × CborItem n (b ∷ more)
 
--- `KeyKind`: up to this place nothing is bad, and with the byte there no item goes on, since it begins an item that
--- isn't text where a map's key stands
-pub record IsKeyKindAt (bs : List ℕ) (at : ℕ) : Type 0 where
-  pub bad : IsBadAt CborItem bs at
-  pub key : EndsAtKey (take at bs)
-  pub other : BeginsOther (slice_index bs at)
-
--- `Bad`: any other place at which none goes on
-pub record IsBadByteAt (bs : List ℕ) (at : ℕ) : Type 0 where
-  pub bad : IsBadAt CborItem bs at
-  pub no_key_kind : IsKeyKindAt bs at → ⊥
+-- the syntax by which items are read. A key has no kind where an item begins that isn't text
+abbrev pub cbor_syntax : Syntax
+cbor_syntax = record { text = CborItem; wrong_key = λ bs b. EndsAtKey bs × BeginsOther b }

@@ -1,8 +1,8 @@
 -- The one item that is written for a tree: the shortest heads and definite lengths (RFC 8949, section 4.2.1, but that
 -- pairs keep their order), and `F6` for null.
-use Rattle.std.specs.Prelude.{ℕ, ℤ, pos, negsuc, suc, ◌+◌, ◌*◌, ◌/◌, ◌%◌, ◌-◌, ◌^◌, min, nat_lt, if◌then◌else◌, true, false, List, [], ◌∷◌, ◌++◌, length}
+use Rattle.std.specs.Prelude.{ℕ, ℤ, pos, negsuc, suc, ◌+◌, ◌*◌, ◌/◌, ◌%◌, nat_lt, if◌then◌else◌, true, false, List, [], ◌∷◌, ◌++◌, length}
 use Rattle.sm_tree.specs.Node.{Node, Nodes, Members, null, bool, int, number, text, bytes, tag, opaque, list, object, no_nodes, node, no_members, member}
-use Rattle.sm_cbor.specs.Heads.{unsigned_type, negative_type, bytes_type, text_type, array_type, map_type, tag_type}
+use Rattle.sm_cbor.specs.Heads.{unsigned_type, negative_type, bytes_type, text_type, array_type, map_type, tag_type, false_byte, true_byte, null_byte}
 
 -- a number in 2, 4 and 8 bytes, in network byte order
 abbrev pub two_bytes : ℕ → List ℕ
@@ -36,8 +36,8 @@ abbrev pub written_int : ℤ → List ℕ
 written_int z = written_head (int_type z) (int_argument z)
 
 -- a text, as a value and as a key
-abbrev pub written_text : List ℕ → List ℕ
-written_text t = written_head text_type (length t) ++ t
+abbrev pub written_text_item : List ℕ → List ℕ
+written_text_item t = written_head text_type (length t) ++ t
 
 abbrev pub nodes_count : Nodes → ℕ
 nodes_count no_nodes = 0
@@ -49,27 +49,23 @@ members_count (member k n ms) = suc (members_count ms)
 
 abbrev mutual
   -- numbers that are texts and opaque leaves aren't written: they stand in no tree that is written as CBOR
-  pub written : Node → List ℕ
-  written null = 0xF6 ∷ []
-  written (bool false) = 0xF4 ∷ []
-  written (bool true) = 0xF5 ∷ []
-  written (int z) = written_int z
-  written (number t) = []
-  written (text t) = written_text t
-  written (bytes t) = written_head bytes_type (length t) ++ t
-  written (tag k n) = written_head tag_type k ++ written n
-  written (opaque b) = []
-  written (list ns) = written_head array_type (nodes_count ns) ++ written_entries ns
-  written (object ms) = written_head map_type (members_count ms) ++ written_pairs ms
+  pub written_item : Node → List ℕ
+  written_item null = null_byte ∷ []
+  written_item (bool false) = false_byte ∷ []
+  written_item (bool true) = true_byte ∷ []
+  written_item (int z) = written_int z
+  written_item (number t) = []
+  written_item (text t) = written_text_item t
+  written_item (bytes t) = written_head bytes_type (length t) ++ t
+  written_item (tag k n) = written_head tag_type k ++ written_item n
+  written_item (opaque b) = []
+  written_item (list ns) = written_head array_type (nodes_count ns) ++ written_item_entries ns
+  written_item (object ms) = written_head map_type (members_count ms) ++ written_item_pairs ms
 
-  pub written_entries : Nodes → List ℕ
-  written_entries no_nodes = []
-  written_entries (node n ns) = written n ++ written_entries ns
+  pub written_item_entries : Nodes → List ℕ
+  written_item_entries no_nodes = []
+  written_item_entries (node n ns) = written_item n ++ written_item_entries ns
 
-  pub written_pairs : Members → List ℕ
-  written_pairs no_members = []
-  written_pairs (member k n ms) = written_text k ++ (written n ++ written_pairs ms)
-
--- a length, or the greatest word where 64 bits don't hold it
-abbrev pub length_word : ℕ → ℕ
-length_word n = min n (2 ^ 64 - 1)
+  pub written_item_pairs : Members → List ℕ
+  written_item_pairs no_members = []
+  written_item_pairs (member k n ms) = written_text_item k ++ (written_item n ++ written_item_pairs ms)

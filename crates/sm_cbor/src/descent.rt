@@ -1,7 +1,8 @@
 // Items whose bytes are all at hand, read in one pass by recursive descent. It may give up, and then says nothing of the
-// bytes: the machine (read.rt) does. `read_tree` stands on both.
+// bytes: the machine (read.rt) does.
 ghost use Rattle.std.specs.Prelude.{◌≡◌, ◌<◌, ◌≤◌, length, IfSome, IfOk, OnOk};
 ghost use Rattle.sm_tree.specs.Syntax.{IsRead};
+ghost use Rattle.sm_tree.specs.Limits.{first_room};
 ghost use Rattle.sm_tree.specs.View.{node_of, nodes_view, members_view};
 ghost use Rattle.sm_cbor.specs.CborItem.{CborItem};
 ghost use Rattle.sm_cbor.specs.declared.descent.Unread.TheVariants.{NoMemory as no_memory};
@@ -13,10 +14,9 @@ mod placing;
 use crate::claim::expected;
 use crate::head::{INDEFINITE_ARRAY, INDEFINITE_MAP};
 use crate::integer::{negative_tree, unsigned_tree};
-use crate::place::MOST_LEVELS;
 use major_type::MajorType;
 use placing::Unnamed;
-use sm_tree::{Items, NoMemory, Pairs, Text, Tree};
+use sm_tree::{Items, MOST_LEVELS, NoMemory, Pairs, Text, Tree};
 use std::alloc::{AllocError, AllocFailed, Global};
 
 /// Why no tree was made.
@@ -52,7 +52,7 @@ impl<T: Drop> From<AllocFailed<T>> for Unread {
     }
 }
 
-/// Reads items from the front of some bytes. After it gave up it is of no use.
+/// Reads items one after the other. After it gave up it is of no use.
 #[derive(Drop)]
 pub struct Descent<'a> {
     /// The bytes that are to be read.
@@ -63,12 +63,12 @@ pub struct Descent<'a> {
 impl<'a> Descent<'a> {
     ghost use Rattle.sm_tree.specs.Node.{list, object, nodes_of, members_of};
     ghost use Rattle.sm_cbor.specs.Heads.{array_type, map_type, tag_type};
-    ghost use Rattle.sm_cbor.specs.Descent.{number_of, front_type, ItemIn, PutsEntry, PutsPair, EntriesIn, EntriesToBreakIn, PairsIn, PairsToBreakIn};
+    ghost use Rattle.sm_cbor.specs.steps.Descent.{number_of, initial_type, ItemIn, PutsEntry, PutsPair, EntriesIn, EntriesToBreakIn, PairsIn, PairsToBreakIn};
 
-    // What the initial byte in front says.
+    // What the next initial byte says.
     #[inline(always)]
-    fn front(&self) -> Option<MajorType>
-        ensures { IfSome result (λ front. (0 < length self.now.rest.now) × (front_type self.now.rest.now ≡ number_of front)) }
+    fn next_type(&self) -> Option<MajorType>
+        ensures { IfSome result (λ major. (0 < length self.now.rest.now) × (initial_type self.now.rest.now ≡ number_of major)) }
     {
         if self.rest.is_empty() {
             return None;
@@ -76,16 +76,16 @@ impl<'a> Descent<'a> {
         Some(MajorType::of(self.rest[0]))
     }
 
-    // The item in front, of so many levels at most.
+    // The next item, of so many levels at most.
     #[cycle(descent)]
     #[inline(never)]
     fn item(&mut self, levels: usize) -> Result<Tree, Unread>
         ensures { IfOk result (λ tree. ItemIn levels (node_of tree) self.old.rest.now self.new.rest.now) }
     {
-        let Some(front) = self.front() else {
+        let Some(major) = self.next_type() else {
             return Err(Unread::GaveUp);
         };
-        match front {
+        match major {
             MajorType::Unsigned => {
                 let value = self.argument()?;
                 Ok(unsigned_tree(self.alloc, value)?)
@@ -107,7 +107,7 @@ impl<'a> Descent<'a> {
     #[cycle(descent)]
     fn tagged(&mut self, levels: usize) -> Result<Tree, Unread>
         requires some { 0 < length self.old.rest.now }
-        requires tag { front_type self.old.rest.now ≡ tag_type }
+        requires tag { initial_type self.old.rest.now ≡ tag_type }
         ensures { IfOk result (λ tree. ItemIn levels (node_of tree) self.old.rest.now self.new.rest.now) }
     {
         if levels == 0 {
@@ -118,12 +118,12 @@ impl<'a> Descent<'a> {
         Ok(Tree::Tag(number, Box::new(self.alloc, content)?))
     }
 
-    // The entries of the array in front.
+    // The entries of an array, which is next.
     #[cycle(descent)]
     #[inline(always)]
     fn list(&mut self, levels: usize) -> Result<Vec<Tree>, Unread>
         requires some { 0 < length self.old.rest.now }
-        requires array { front_type self.old.rest.now ≡ array_type }
+        requires array { initial_type self.old.rest.now ≡ array_type }
         ensures { IfOk result (λ items. ItemIn levels (list (nodes_of (nodes_view items.items))) self.old.rest.now self.new.rest.now) }
     {
         if levels == 0 {
@@ -137,12 +137,12 @@ impl<'a> Descent<'a> {
         self.entries(count, levels - 1)
     }
 
-    // The pairs of the map in front.
+    // The pairs of a map, which is next.
     #[cycle(descent)]
     #[inline(always)]
     fn map(&mut self, levels: usize) -> Result<Vec<(Text, Tree)>, Unread>
         requires some { 0 < length self.old.rest.now }
-        requires map { front_type self.old.rest.now ≡ map_type }
+        requires map { initial_type self.old.rest.now ≡ map_type }
         ensures { IfOk result (λ pairs. ItemIn levels (object (members_of (members_view pairs.items))) self.old.rest.now self.new.rest.now) }
     {
         if levels == 0 {
@@ -158,20 +158,20 @@ impl<'a> Descent<'a> {
 
     // How many entries or pairs room is made for where so many are claimed: for no more than bytes are left.
     fn first_room(&self, claimed: u64) -> usize
-        ensures claim { result ≤ 4 }
+        ensures claim { result ≤ first_room }
         ensures left { result ≤ length self.now.rest.now }
     {
         expected(claimed).min(self.rest.len())
     }
 
-    // Puts the entry in front, of so many levels at most, behind those that there are.
+    // Puts the next entry, of so many levels at most, behind those that there are.
     #[cycle(descent)]
     #[inline(always)]
     fn put_entry(&mut self, items: &mut Vec<Tree>, levels: usize) -> Result<(), Unread>
         ensures { OnOk result (PutsEntry levels items.old.items items.new.items self.old.rest.now self.new.rest.now) }
     {
         // An array in an array is put in place too: lists that nest deep are read a fifth faster so.
-        if let Some(MajorType::Array) = self.front() {
+        if let Some(MajorType::Array) = self.next_type() {
             let entries = self.list(levels)?;
             items.push(Tree::List(Items::new(entries)))?;
             return Ok(());
@@ -186,7 +186,7 @@ impl<'a> Descent<'a> {
         }
     }
 
-    // Puts the pair in front, whose value has so many levels at most, behind those that there are.
+    // Puts the next pair, whose value has so many levels at most, behind those that there are.
     #[cycle(descent)]
     #[inline(always)]
     fn put_pair(&mut self, pairs: &mut Vec<(Text, Tree)>, levels: usize) -> Result<(), Unread>

@@ -1,8 +1,7 @@
 // The initial byte of an item (RFC 8949, section 3): what it says of the item, and what follows it.
-// Both readers stand on it.
 ghost use Rattle.std.specs.Prelude.{◌≡◌, ◌<◌, ◌≤◌, ◌%◌, ◌↔◌, length, ℕ, IfSome, IfNone, IsTrue, []};
 ghost use Rattle.sm_cbor.specs.Heads.{Number};
-ghost use Rattle.sm_cbor.specs.Reading.{HeadIs, StartsNumber, WidthIs, ChunkIs, HasHead, IsBits, IsText, bound, major_of};
+ghost use Rattle.sm_cbor.specs.steps.Reading.{HeadIs, StartsNumber, WidthIs, ChunkIs, HasHead, IsBits, IsText, bound, major_of};
 
 use crate::place::{Span, StringKind, Subject};
 
@@ -141,7 +140,7 @@ pub fn number(value: u64, bytes: &[u8]) -> u64
     number
 }
 
-/// The head in front. None where not all its bytes are at hand, or where it has no argument or one that is bits. No
+/// The head that the bytes begin with. None where not all its bytes are at hand, or where it has no argument or one that is bits. No
 /// memory.
 pub fn whole_head(bytes: &[u8]) -> Option<WholeHead>
     requires { 0 < length bytes.now }

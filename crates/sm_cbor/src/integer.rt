@@ -1,9 +1,9 @@
-// The trees of integers (RFC 8949, section 3.1): major types 0 and 1. Both readers stand on it.
+// The trees of integers (RFC 8949, section 3.1): major types 0 and 1.
 ghost use Rattle.std.specs.Prelude.{◌≡◌, ◌<◌, ◌^◌, IfOk, IsOk, pos, negsuc};
 ghost use Rattle.std.specs.Fmt.{signed_decimal};
 ghost use Rattle.sm_tree.specs.Node.{number};
 ghost use Rattle.sm_tree.specs.View.{node_of};
-ghost use Rattle.sm_cbor.specs.Reading.{integer_node};
+ghost use Rattle.sm_cbor.specs.steps.Reading.{integer_node};
 
 use itoa::Buffer;
 use sm_tree::{NoMemory, Text, Tree};

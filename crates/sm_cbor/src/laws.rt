@@ -1,6 +1,7 @@
 // Laws of items and of what is written, each the contract of a function whose body is empty.
-// What reads a written item back stands on them.
-ghost use Rattle.sm_cbor.specs.Laws.{OneReading, OneAnswer, WrittenIsItem, WrittenIsRead};
+ghost use Rattle.sm_tree.specs.SyntaxLaws.{HasOneReading, HasOneAnswer, HasSomeAnswer};
+ghost use Rattle.sm_cbor.specs.Refusals.{cbor_syntax};
+ghost use Rattle.sm_cbor.specs.Laws.{WrittenIsItem, WrittenItemIsRead};
 
 /// What is written for a tree is a CBOR item of that tree (RFC 8949), if 64 bits hold its length.
 pub fn written_is_item()
@@ -9,15 +10,20 @@ pub fn written_is_item()
 
 /// So what is written for a tree of at most 100 levels is read as that tree, and as no other, and isn't refused.
 pub fn written_is_read()
-    ensures { WrittenIsRead }
+    ensures { WrittenItemIsRead }
 {}
 
 /// Bytes are an item of at most one tree.
 pub fn one_reading()
-    ensures { OneReading }
+    ensures { HasOneReading cbor_syntax }
 {}
 
 /// Bytes are an item that is read, or have one place with one cause, or are cut short, and only one of these.
 pub fn one_answer()
-    ensures { OneAnswer }
+    ensures { HasOneAnswer cbor_syntax }
+{}
+
+/// And no bytes are without an answer.
+pub fn some_answer()
+    ensures { HasSomeAnswer cbor_syntax }
 {}

@@ -3,7 +3,8 @@ ghost use Rattle.std.specs.Prelude.{◌≡◌, ◌++◌, ℕ, length};
 ghost use Rattle.sm_cbor.specs.Heads.{bytes_type, array_type, map_type, tag_type};
 ghost use Rattle.sm_tree.specs.Node.{nodes_of, members_of};
 ghost use Rattle.sm_tree.specs.View.{node_of, nodes_view, members_view};
-ghost use Rattle.sm_cbor.specs.Written.{length_word, nodes_count, members_count, written, written_head, written_int, written_text, written_entries, written_pairs};
+ghost use Rattle.sm_bytes.specs.Lengths.{length_word};
+ghost use Rattle.sm_cbor.specs.Written.{nodes_count, members_count, written_item, written_head, written_int, written_text_item, written_item_entries, written_item_pairs};
 
 use crate::put::argument_of;
 use sm_tree::{Bytes, Text, Tree};
@@ -40,7 +41,7 @@ fn string_len(bytes: &[u8]) -> u64
 }
 
 fn text_len(text: &Text) -> u64
-    ensures { result ≡ length_word (length (written_text text.now)) }
+    ensures { result ≡ length_word (length (written_text_item text.now)) }
 {
     string_len(text.as_str().as_bytes())
 }
@@ -74,7 +75,7 @@ fn map_head_len(pairs: &[(Text, Tree)]) -> u64
 
 #[cycle(lengths)]
 fn entries_len(items: &[Tree]) -> u64
-    ensures { result ≡ length_word (length (written_entries (nodes_of (nodes_view items.now)))) }
+    ensures { result ≡ length_word (length (written_item_entries (nodes_of (nodes_view items.now)))) }
 {
     let mut len: u64 = 0;
     for item in items {
@@ -85,7 +86,7 @@ fn entries_len(items: &[Tree]) -> u64
 
 #[cycle(lengths)]
 fn pairs_len(pairs: &[(Text, Tree)]) -> u64
-    ensures { result ≡ length_word (length (written_pairs (members_of (members_view pairs.now)))) }
+    ensures { result ≡ length_word (length (written_item_pairs (members_of (members_view pairs.now)))) }
 {
     let mut len: u64 = 0;
     for pair in pairs {
@@ -99,7 +100,7 @@ fn pairs_len(pairs: &[(Text, Tree)]) -> u64
 /// How many bytes `write_tree` writes for a tree, or `u64::MAX` where they are more. No memory.
 #[cycle(lengths)]
 pub fn encoded_len(tree: &Tree) -> u64
-    ensures length { result ≡ length_word (length (written (node_of tree.now))) }
+    ensures length { result ≡ length_word (length (written_item (node_of tree.now))) }
 {
     match tree {
         Tree::Null => 1,

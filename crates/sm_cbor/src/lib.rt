@@ -1,5 +1,4 @@
 // CBOR (RFC 8949): a reader from bytes to trees, and a writer from trees to bytes.
-// What reads and writes messages in CBOR stands on it.
 #![tactic(auto)]
 
 mod claim;
@@ -11,15 +10,10 @@ mod length;
 mod place;
 mod put;
 mod read;
-#[cfg(test)]
-mod read_tests;
-#[cfg(test)]
-mod refusal_tests;
+pub mod readers;
 mod seen;
 mod writable;
 mod write;
-#[cfg(test)]
-mod write_tests;
 
 pub use length::encoded_len;
 pub use read::read_tree;

@@ -1,8 +1,5 @@
-// Where the machine that reads items stands (RFC 8949, section 3), and how many levels any reader takes.
-use sm_tree::Utf8;
-
-/// The greatest number of arrays, maps and tags that may be open at one place of an item.
-pub const MOST_LEVELS: usize = 100;
+// Where the machine that reads items stands (RFC 8949, section 3).
+use sm_bytes::Utf8;
 
 /// What a string stands for.
 #[derive(Clone, Copy, PartialEq, Eq, Debug, Drop)]

@@ -1,31 +1,11 @@
-// Writing CBOR into bytes that are there already, from a place on: the next place comes back, and what lies behind it
-// may change. The writer of trees stands on it.
-ghost use Rattle.std.specs.Prelude.{◌≡◌, ◌+◌, ◌<◌, ◌≤◌, [], ◌∷◌, ◌++◌, ℤ, length, take};
-ghost use Rattle.sm_cbor.specs.Written.{int_type, int_argument, two_bytes, four_bytes, eight_bytes, written_head, written_int, written_text};
+// Heads and strings of CBOR, written into bytes that are there already, from a place on: the next place comes back, and
+// what lies behind it may change.
+ghost use Rattle.std.specs.Prelude.{◌≡◌, ◌+◌, ◌<◌, ◌≤◌, ◌++◌, ℤ, length, take};
+ghost use Rattle.sm_cbor.specs.Written.{int_type, int_argument, two_bytes, four_bytes, eight_bytes, written_head, written_int, written_text_item};
 
 use crate::head::TEXT;
+use sm_bytes::{place_byte, place_slice};
 use sm_tree::Text;
-
-#[inline(always)]
-pub(crate) fn place_byte(buf: &mut [u8], at: usize, byte: u8) -> usize
-    requires room { at < length buf.old }
-    ensures bytes { take result buf.new ≡ take at buf.old ++ byte ∷ [] }
-    ensures next { result ≡ at + 1 }
-{
-    buf[at] = byte;
-    at + 1
-}
-
-#[inline(always)]
-pub(crate) fn place_slice(buf: &mut [u8], at: usize, bytes: &[u8]) -> usize
-    requires room { at + length bytes.now ≤ length buf.old }
-    ensures bytes { take result buf.new ≡ take at buf.old ++ bytes.now }
-    ensures next { result ≡ at + length bytes.now }
-{
-    let end = at + bytes.len();
-    buf[at..end].copy_from_slice(bytes);
-    end
-}
 
 // A number in two bytes.
 fn place_two(buf: &mut [u8], at: usize, value: u64) -> usize
@@ -124,9 +104,9 @@ pub(crate) fn place_string(buf: &mut [u8], at: usize, major: u8, bytes: &[u8]) -
 }
 
 pub(crate) fn place_text(buf: &mut [u8], at: usize, text: &Text) -> usize
-    requires room { at + length (written_text text.now) ≤ length buf.old }
-    ensures bytes { take result buf.new ≡ take at buf.old ++ written_text text.now }
-    ensures next { result ≡ at + length (written_text text.now) }
+    requires room { at + length (written_text_item text.now) ≤ length buf.old }
+    ensures bytes { take result buf.new ≡ take at buf.old ++ written_text_item text.now }
+    ensures next { result ≡ at + length (written_text_item text.now) }
 {
     place_string(buf, at, TEXT, text.as_str().as_bytes())
 }

@@ -3,12 +3,12 @@
 // the item, hands each event on as soon as its bytes are complete, and never looks back. It makes trees too, since no
 // clause says that recursive descent gives up no item.
 ghost use Rattle.std.specs.Prelude.{◌≡◌, ◌<◌, ◌-◌, ◌^◌, ◌↔◌, IsTrue, length, []};
-ghost use Rattle.sm_cbor.specs.Answers.{ReadsTree};
-ghost use Rattle.sm_cbor.specs.Rest.{start};
-ghost use Rattle.sm_cbor.specs.Machine.{moved_by, IsWithin};
+ghost use Rattle.sm_tree.specs.Syntax.{Reads};
+ghost use Rattle.sm_cbor.specs.Refusals.{cbor_syntax};
+ghost use Rattle.sm_cbor.specs.steps.Rest.{first_state};
 
-mod front;
 mod initial;
+mod prefix;
 mod strings;
 mod whole;
 
@@ -32,12 +32,12 @@ pub struct Reader {
 }
 
 impl Reader {
-    ghost use Rattle.sm_cbor.specs.Machine.{IsSound, TakesByte, TakesFront, TakesAll, Finishes, IsBytewise, state_of, levels_of, handed_on};
+    ghost use Rattle.sm_cbor.specs.steps.Machine.{IsSoundReader, CborTakesByte, CborTakesPrefix, CborTakesAll, CborFinishes, IsBytewise, cbor_state_of, levels_of, cbor_handed_on};
 
     fn new(alloc: Global) -> Self
-        ensures state { state_of result ≡ start }
-        ensures nothing { handed_on result ≡ [] }
-        ensures sound { IsSound result }
+        ensures state { cbor_state_of result ≡ first_state }
+        ensures nothing { cbor_handed_on result ≡ [] }
+        ensures sound { IsSoundReader result }
     {
         Reader {
             place: Place::Item,
@@ -50,9 +50,9 @@ impl Reader {
 
     // One byte where bytes are taken one at a time.
     fn byte(&mut self, byte: u8) -> Result<(), SyntaxRefusal>
-        requires sound { IsSound self.old }
+        requires sound { IsSoundReader self.old }
         requires bytewise { IsBytewise self.old.place }
-        ensures { TakesByte self.old self.old.place byte self.new result }
+        ensures { CborTakesByte self.old self.old.place byte self.new result }
     {
         match self.place {
             Place::After => self.after(byte),
@@ -62,17 +62,17 @@ impl Reader {
         }
     }
 
-    // Takes some bytes in front.
+    // Takes a prefix of the bytes.
     fn turn(&mut self, bytes: &[u8]) -> Result<usize, SyntaxRefusal>
-        requires sound { IsSound self.old }
+        requires sound { IsSoundReader self.old }
         requires some { 0 < length bytes.now }
-        ensures { TakesFront self.old bytes.now self.new result }
+        ensures { CborTakesPrefix self.old bytes.now self.new result }
     {
         match self.place {
             Place::String(StringKind::Bytes, _, left, utf8) => self.string_bytes(left, utf8, bytes),
             Place::String(_, _, left, utf8) => self.text_bytes(left, utf8, bytes),
-            Place::Item => self.item_front(bytes),
-            Place::Key => self.key_front(bytes),
+            Place::Item => self.item_prefix(bytes),
+            Place::Key => self.key_prefix(bytes),
             _ => {
                 self.byte(bytes[0])?;
                 Ok(1)
@@ -82,14 +82,14 @@ impl Reader {
 
     // Takes all the bytes.
     fn feed(&mut self, bytes: &[u8]) -> Result<(), SyntaxRefusal>
-        requires { IsSound self.old }
-        ensures { TakesAll self.old bytes.now self.new result }
+        requires { IsSoundReader self.old }
+        ensures { CborTakesAll self.old bytes.now self.new result }
     {
         let mut at = 0;
         while at < bytes.len() {
             match self.turn(&bytes[at..]) {
                 Ok(count) => at += count,
-                Err(refusal) => return Err(moved(refusal, at)),
+                Err(refusal) => return Err(refusal.moved_by(at)),
             }
         }
         Ok(())
@@ -107,8 +107,8 @@ impl Reader {
 
     // The tree, where the bytes end here.
     fn finish(self) -> Result<Tree, SyntaxRefusal>
-        requires { IsSound self }
-        ensures { Finishes self result }
+        requires { IsSoundReader self }
+        ensures { CborFinishes self result }
     {
         if self.is_whole() {
             Ok(self.builder.finish())
@@ -118,23 +118,9 @@ impl Reader {
     }
 }
 
-// The refusal, its place counted from so many bytes further on.
-fn moved(refusal: SyntaxRefusal, by: usize) -> SyntaxRefusal
-    requires room { IsWithin (2 ^ 64 - by) refusal }
-    ensures { result ≡ moved_by by refusal }
-{
-    match refusal {
-        SyntaxRefusal::Bad(at) => SyntaxRefusal::Bad(by as u64 + at),
-        SyntaxRefusal::Ended => SyntaxRefusal::Ended,
-        SyntaxRefusal::TooDeep(at) => SyntaxRefusal::TooDeep(by as u64 + at),
-        SyntaxRefusal::KeyKind(at) => SyntaxRefusal::KeyKind(by as u64 + at),
-        SyntaxRefusal::NoMemory => SyntaxRefusal::NoMemory,
-    }
-}
-
 /// The answer of `read_tree`, from the machine alone: the tree, or the refusal with its place.
 pub fn read_by_bytes(alloc: Global, bytes: &[u8]) -> Result<Tree, SyntaxRefusal>
-    ensures { ReadsTree bytes.now result }
+    ensures { Reads cbor_syntax bytes.now result }
 {
     let mut reader = Reader::new(alloc);
     match reader.feed(bytes) {
@@ -153,7 +139,7 @@ pub fn read_by_bytes(alloc: Global, bytes: &[u8]) -> Result<Tree, SyntaxRefusal>
 ///
 /// `Bad(at)`, `Ended`, `TooDeep(at)` and `KeyKind(at)`, exactly as the bytes are none; `NoMemory`.
 pub fn read_tree(alloc: Global, bytes: &[u8]) -> Result<Tree, SyntaxRefusal>
-    ensures { ReadsTree bytes.now result }
+    ensures { Reads cbor_syntax bytes.now result }
 {
     match read_item(alloc, bytes) {
         Ok(tree) => Ok(tree),

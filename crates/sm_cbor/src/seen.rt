@@ -1,4 +1,4 @@
-// What values are by their types alone, for proofs that need it. The test of trees and the reader stand on it.
+// What values are by their types alone, for proofs that need it.
 ghost use Rattle.std.specs.Prelude.{◌<◌, ◌^◌, IsUtf8, FitsSigned};
 ghost use Rattle.std.specs.Int.{w64};
 ghost use Rattle.sm_tree.specs.Json.{AreBytes};

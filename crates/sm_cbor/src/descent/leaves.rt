@@ -27,10 +27,10 @@ fn is_opaque(info: u8, argument: u64) -> bool
 impl<'a> Descent<'a> {
     ghost use Rattle.sm_tree.specs.Json.{AreBytes};
     ghost use Rattle.sm_cbor.specs.Heads.{Byte, HasWidth, Head, bytes_type, text_type, simple_type};
-    ghost use Rattle.sm_cbor.specs.CborItem.{plain, Key, Definite, ByteString, TextString};
-    ghost use Rattle.sm_cbor.specs.Descent.{front_type, Joined, ItemIn, TakesBreak};
+    ghost use Rattle.sm_cbor.specs.CborItem.{Definite, ByteString, TextString};
+    ghost use Rattle.sm_cbor.specs.steps.Descent.{initial_type, Joined, ItemIn, TakesBreak};
 
-    // Passes over the byte in front.
+    // Passes over the next byte.
     #[inline(always)]
     pub(super) fn skip(&mut self)
         requires { 0 < length self.old.rest.now }
@@ -39,12 +39,12 @@ impl<'a> Descent<'a> {
         self.rest = &self.rest[1..];
     }
 
-    // The argument of the head in front, in so many bytes behind the initial one.
+    // The argument of the next head, in so many bytes behind the initial one.
     #[inline(always)]
     fn argument_in(&mut self, count: usize) -> Result<u64, Unread>
         requires some { 0 < length self.old.rest.now }
         requires width { HasWidth (slice_index self.old.rest.now 0 % 32) count }
-        ensures { IfOk result (λ value. Head (front_type self.old.rest.now) value self.old.rest.now self.new.rest.now) }
+        ensures { IfOk result (λ value. Head (initial_type self.old.rest.now) value self.old.rest.now self.new.rest.now) }
     {
         if self.rest.len() <= count {
             return Err(Unread::GaveUp);
@@ -58,7 +58,7 @@ impl<'a> Descent<'a> {
     #[inline(never)]
     fn wide_argument(&mut self) -> Result<u64, Unread>
         requires { 0 < length self.old.rest.now }
-        ensures { IfOk result (λ value. Head (front_type self.old.rest.now) value self.old.rest.now self.new.rest.now) }
+        ensures { IfOk result (λ value. Head (initial_type self.old.rest.now) value self.old.rest.now self.new.rest.now) }
     {
         match self.rest[0] % 32 {
             26 => self.argument_in(4),
@@ -67,11 +67,11 @@ impl<'a> Descent<'a> {
         }
     }
 
-    // The argument of the head in front. Most are in the initial byte itself, or in one or two bytes behind it.
+    // The argument of the next head. Most are in the initial byte itself, or in one or two bytes behind it.
     #[inline(always)]
     pub(super) fn argument(&mut self) -> Result<u64, Unread>
         requires { 0 < length self.old.rest.now }
-        ensures { IfOk result (λ value. Head (front_type self.old.rest.now) value self.old.rest.now self.new.rest.now) }
+        ensures { IfOk result (λ value. Head (initial_type self.old.rest.now) value self.old.rest.now self.new.rest.now) }
     {
         match self.rest[0] % 32 {
             info @ 0..=23 => {
@@ -84,11 +84,11 @@ impl<'a> Descent<'a> {
         }
     }
 
-    // The bytes of the string of definite length in front.
+    // The bytes of a string of definite length, which is next.
     #[inline(always)]
     fn run(&mut self) -> Result<&'a [u8], Unread>
         requires { 0 < length self.old.rest.now }
-        ensures { IfOk result (λ run. Definite (front_type self.old.rest.now) AreBytes run.now self.old.rest.now self.new.rest.now) }
+        ensures { IfOk result (λ run. Definite (initial_type self.old.rest.now) AreBytes run.now self.old.rest.now self.new.rest.now) }
     {
         let len = self.argument()?;
         if len > self.rest.len() as u64 {
@@ -100,7 +100,7 @@ impl<'a> Descent<'a> {
         Ok(run)
     }
 
-    // Whether a break is in front, which is taken.
+    // Whether a break is next, which is taken.
     #[inline(always)]
     pub(super) fn takes_break(&mut self) -> bool
         ensures { TakesBreak self.old.rest.now self.new.rest.now result }
@@ -112,11 +112,11 @@ impl<'a> Descent<'a> {
         true
     }
 
-    // The text of definite length in front.
+    // A text of definite length, which is next.
     #[inline(always)]
     fn definite_text(&mut self) -> Result<&'a str, Unread>
         requires { 0 < length self.old.rest.now }
-        ensures { IfOk result (λ text. Definite (front_type self.old.rest.now) IsUtf8 text.now self.old.rest.now self.new.rest.now) }
+        ensures { IfOk result (λ text. Definite (initial_type self.old.rest.now) IsUtf8 text.now self.old.rest.now self.new.rest.now) }
     {
         let run = self.run()?;
         match str::from_utf8(run) {
@@ -135,7 +135,7 @@ impl<'a> Descent<'a> {
             if self.takes_break() {
                 return Ok(text);
             }
-            let Some(MajorType::Text) = self.front() else {
+            let Some(MajorType::Text) = self.next_type() else {
                 return Err(Unread::GaveUp);
             };
             let chunk = self.definite_text()?;
@@ -144,10 +144,10 @@ impl<'a> Descent<'a> {
         Err(Unread::GaveUp)
     }
 
-    // The text in front, of definite or indefinite length.
+    // The next text, of definite or indefinite length.
     fn any_text(&mut self) -> Result<Text, Unread>
         requires some { 0 < length self.old.rest.now }
-        requires text { front_type self.old.rest.now ≡ text_type }
+        requires text { initial_type self.old.rest.now ≡ text_type }
         ensures { IfOk result (λ text. TextString text self.old.rest.now self.new.rest.now) }
     {
         if self.rest[0] == INDEFINITE_TEXT {
@@ -159,17 +159,17 @@ impl<'a> Descent<'a> {
         Ok(Text::copy(self.alloc, text)?)
     }
 
-    // The text in front. Most are short.
+    // The next text. Most are short.
     #[inline(always)]
     pub(super) fn text(&mut self) -> Result<Text, Unread>
         requires some { 0 < length self.old.rest.now }
-        requires text { front_type self.old.rest.now ≡ text_type }
+        requires text { initial_type self.old.rest.now ≡ text_type }
         ensures { IfOk result (λ text. TextString text self.old.rest.now self.new.rest.now) }
     {
         let info = self.rest[0] % 32;
         if info < 24 {
             let behind = &self.rest[1..];
-            if let Some(text) = Text::in_front(behind, info as usize) {
+            if let Some(text) = Text::short_prefix(behind, info as usize) {
                 self.rest = &behind[info as usize..];
                 return Ok(text);
             }
@@ -177,12 +177,12 @@ impl<'a> Descent<'a> {
         self.any_text()
     }
 
-    // The key in front, a text.
+    // The next key, a text.
     #[inline(always)]
     pub(super) fn key(&mut self) -> Result<Text, Unread>
-        ensures { IfOk result (λ key. Key plain key self.old.rest.now self.new.rest.now) }
+        ensures { IfOk result (λ key. TextString key self.old.rest.now self.new.rest.now) }
     {
-        let Some(MajorType::Text) = self.front() else {
+        let Some(MajorType::Text) = self.next_type() else {
             return Err(Unread::GaveUp);
         };
         self.text()
@@ -198,7 +198,7 @@ impl<'a> Descent<'a> {
             if self.takes_break() {
                 return Ok(bytes);
             }
-            let Some(MajorType::Bytes) = self.front() else {
+            let Some(MajorType::Bytes) = self.next_type() else {
                 return Err(Unread::GaveUp);
             };
             let chunk = self.run()?;
@@ -207,10 +207,10 @@ impl<'a> Descent<'a> {
         Err(Unread::GaveUp)
     }
 
-    // The byte string in front.
+    // The next byte string.
     pub(super) fn bytes(&mut self) -> Result<Bytes, Unread>
         requires some { 0 < length self.old.rest.now }
-        requires bytes { front_type self.old.rest.now ≡ bytes_type }
+        requires bytes { initial_type self.old.rest.now ≡ bytes_type }
         ensures { IfOk result (λ bytes. ByteString bytes self.old.rest.now self.new.rest.now) }
     {
         if self.rest[0] == INDEFINITE_BYTES {
@@ -222,10 +222,10 @@ impl<'a> Descent<'a> {
         Ok(Bytes::new(Vec::from_slice(self.alloc, run)?))
     }
 
-    // The float or the simple value in front, of which the initial byte is kept.
+    // The next float or simple value, of which the initial byte is kept.
     fn opaque(&mut self) -> Result<Tree, Unread>
         requires some { 0 < length self.old.rest.now }
-        requires simple { front_type self.old.rest.now ≡ simple_type }
+        requires simple { initial_type self.old.rest.now ≡ simple_type }
         ensures { IfOk result (λ tree. ItemIn 0 (node_of tree) self.old.rest.now self.new.rest.now) }
     {
         let byte = self.rest[0];
@@ -236,10 +236,10 @@ impl<'a> Descent<'a> {
         Ok(Tree::Opaque(byte))
     }
 
-    // The simple value or the float in front.
+    // The next simple value or float.
     pub(super) fn simple(&mut self) -> Result<Tree, Unread>
         requires some { 0 < length self.old.rest.now }
-        requires simple { front_type self.old.rest.now ≡ simple_type }
+        requires simple { initial_type self.old.rest.now ≡ simple_type }
         ensures { IfOk result (λ tree. ItemIn 0 (node_of tree) self.old.rest.now self.new.rest.now) }
     {
         match self.rest[0] {

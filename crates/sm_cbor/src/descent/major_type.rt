@@ -1,6 +1,6 @@
-// The major types of items (RFC 8949, section 3.1). The reader by recursive descent stands on it.
+// The major types of items (RFC 8949, section 3.1).
 ghost use Rattle.std.specs.Prelude.{◌≡◌, ◌/◌};
-ghost use Rattle.sm_cbor.specs.Descent.{number_of};
+ghost use Rattle.sm_cbor.specs.steps.Descent.{number_of};
 
 /// What the high-order 3 bits of an initial byte say.
 #[derive(Clone, Copy, Debug, PartialEq, Eq, Drop)]

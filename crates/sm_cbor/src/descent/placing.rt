@@ -1,7 +1,6 @@
-// Leaves of arrays and maps, pushed as they are made, so that the compiler can build them in place. What reads entries and
-// pairs (src/descent.rt) stands on it.
+// Leaves of arrays and maps, pushed as they are made, so that the compiler can build them in place.
 ghost use Rattle.std.specs.Prelude.{◌≡◌, ◌<◌, length, IfOk, OnOk, pos, negsuc};
-ghost use Rattle.sm_cbor.specs.Descent.{PutsInteger, PutsLeaf};
+ghost use Rattle.sm_cbor.specs.steps.Descent.{PutsInteger, PutsLeaf};
 
 use super::major_type::MajorType;
 use super::{Descent, Unread};
@@ -78,7 +77,7 @@ fn put_negative<N: Naming>(
 }
 
 impl<'a> Descent<'a> {
-    // Puts the item in front behind the entries, under its name, if it is a truth value, null or undefined. Another is left
+    // Puts the next item behind the entries, under its name, if it is a truth value, null or undefined. Another is left
     // where it is, and the name is handed back.
     #[inline(always)]
     fn put_constant<N: Naming>(
@@ -109,7 +108,7 @@ impl<'a> Descent<'a> {
         }
     }
 
-    // Puts the item in front behind the entries, under its name, if it is an integer, a text, a truth value, null or
+    // Puts the next item behind the entries, under its name, if it is an integer, a text, a truth value, null or
     // undefined. Another is left where it is, and the name is handed back.
     #[inline(always)]
     pub(super) fn put_leaf<N: Naming>(
@@ -119,10 +118,10 @@ impl<'a> Descent<'a> {
     ) -> Result<Option<N>, Unread>
         ensures { IfOk result (PutsLeaf N.named name entries.old.items entries.new.items self.old.rest.now self.new.rest.now) }
     {
-        let Some(front) = self.front() else {
+        let Some(major) = self.next_type() else {
             return Err(Unread::GaveUp);
         };
-        match front {
+        match major {
             MajorType::Unsigned => {
                 let value = self.argument()?;
                 if value < 1 << 63 {

@@ -1,14 +1,13 @@
-// The bytes outside of strings: initial bytes of items, keys and chunks, breaks, and the bytes of arguments. The reader
-// stands on it.
+// The bytes outside of strings: initial bytes of items, keys and chunks, breaks, and the bytes of arguments.
 ghost use Rattle.std.specs.Prelude.{◌≡◌, ◌<◌, ◌≤◌, ◌/◌, length, OnOk, IsTrue, ◌↔◌, [], ◌∷◌};
-ghost use Rattle.sm_tree.specs.Syntax.{most_levels};
+ghost use Rattle.sm_tree.specs.Limits.{most_levels};
 ghost use Rattle.sm_cbor.specs.Heads.{text_type};
-ghost use Rattle.sm_cbor.specs.Machine.{opens_of};
+ghost use Rattle.sm_cbor.specs.steps.Machine.{opens_of};
 
 use super::Reader;
 use crate::head::{BREAK, Head, INDEFINITE_TEXT, TEXT, chunk_head, head_of, width};
-use crate::place::{Level, MOST_LEVELS, Place, Span, StringKind, Subject};
-use sm_tree::{NoMemory, SyntaxRefusal, Tree};
+use crate::place::{Level, Place, Span, StringKind, Subject};
+use sm_tree::{MOST_LEVELS, NoMemory, SyntaxRefusal, Tree};
 
 impl Subject {
     // Whether what the argument is of is a level.
@@ -30,12 +29,12 @@ fn is_no_simple(subject: Subject, byte: u8) -> bool
 }
 
 impl Reader {
-    ghost use Rattle.sm_cbor.specs.Machine.{IsAt, Goes, TakesByte, BehindItem, IsFirst, first_level, levels_of};
+    ghost use Rattle.sm_cbor.specs.steps.Machine.{IsAt, CborGoes, CborTakesByte, BehindItem, IsFirstLevel, first_level, levels_of};
 
     // The initial byte of an item.
     pub(super) fn item(&mut self, byte: u8) -> Result<(), SyntaxRefusal>
         requires { IsAt self.old Place.Item }
-        ensures { TakesByte self.old Place.Item byte self.new result }
+        ensures { CborTakesByte self.old Place.Item byte self.new result }
     {
         match head_of(byte) {
             Head::Argument(subject, left, value) => {
@@ -77,7 +76,7 @@ impl Reader {
     pub(super) fn text_key(&mut self, byte: u8) -> Result<(), SyntaxRefusal>
         requires sound { IsAt self.old Place.Key }
         requires text { byte / 32 ≡ text_type }
-        ensures { TakesByte self.old Place.Key byte self.new result }
+        ensures { CborTakesByte self.old Place.Key byte self.new result }
     {
         if byte == INDEFINITE_TEXT {
             self.begin_chunks(StringKind::Key);
@@ -96,7 +95,7 @@ impl Reader {
     // The initial byte of a map's key.
     pub(super) fn key(&mut self, byte: u8) -> Result<(), SyntaxRefusal>
         requires { IsAt self.old Place.Key }
-        ensures { TakesByte self.old Place.Key byte self.new result }
+        ensures { CborTakesByte self.old Place.Key byte self.new result }
     {
         if byte / 32 == TEXT {
             return self.text_key(byte);
@@ -110,8 +109,8 @@ impl Reader {
     // A break ends the innermost array.
     pub(super) fn break_list(&mut self) -> Result<(), NoMemory>
         requires sound { IsAt self.old Place.After }
-        requires innermost { IsFirst Level.ListToBreak (levels_of self.old) }
-        ensures { OnOk result (Goes self.old [] Place.After (255 ∷ []) self.new) }
+        requires innermost { IsFirstLevel Level.ListToBreak (levels_of self.old) }
+        ensures { OnOk result (CborGoes self.old [] Place.After (255 ∷ []) self.new) }
     {
         self.levels.pop();
         self.builder.end_list()?;
@@ -121,8 +120,8 @@ impl Reader {
     // A break ends the innermost map.
     pub(super) fn break_map(&mut self) -> Result<(), NoMemory>
         requires sound { IsAt self.old Place.After }
-        requires innermost { IsFirst Level.MapToBreak (levels_of self.old) }
-        ensures { OnOk result (Goes self.old [] Place.After (255 ∷ []) self.new) }
+        requires innermost { IsFirstLevel Level.MapToBreak (levels_of self.old) }
+        ensures { OnOk result (CborGoes self.old [] Place.After (255 ∷ []) self.new) }
     {
         self.levels.pop();
         self.builder.end_object()?;
@@ -132,8 +131,8 @@ impl Reader {
     // A byte behind an entry of an array that ends with a break.
     pub(super) fn after_entry(&mut self, byte: u8) -> Result<(), SyntaxRefusal>
         requires sound { IsAt self.old Place.After }
-        requires innermost { IsFirst Level.ListToBreak (levels_of self.old) }
-        ensures { TakesByte self.old Place.After byte self.new result }
+        requires innermost { IsFirstLevel Level.ListToBreak (levels_of self.old) }
+        ensures { CborTakesByte self.old Place.After byte self.new result }
     {
         if byte == BREAK {
             self.break_list()?;
@@ -145,8 +144,8 @@ impl Reader {
     // A byte behind a pair of a map that ends with a break.
     pub(super) fn after_pair(&mut self, byte: u8) -> Result<(), SyntaxRefusal>
         requires sound { IsAt self.old Place.After }
-        requires innermost { IsFirst Level.MapToBreak (levels_of self.old) }
-        ensures { TakesByte self.old Place.After byte self.new result }
+        requires innermost { IsFirstLevel Level.MapToBreak (levels_of self.old) }
+        ensures { CborTakesByte self.old Place.After byte self.new result }
     {
         if byte == BREAK {
             self.break_map()?;
@@ -166,7 +165,7 @@ impl Reader {
     pub(super) fn after(&mut self, byte: u8) -> Result<(), SyntaxRefusal>
         requires sound { IsAt self.old Place.After }
         requires open_to { BehindItem (levels_of self.old) }
-        ensures { TakesByte self.old Place.After byte self.new result }
+        ensures { CborTakesByte self.old Place.After byte self.new result }
     {
         match self.innermost() {
             Some(Level::ListToBreak) => self.after_entry(byte),
@@ -186,7 +185,7 @@ impl Reader {
     ) -> Result<(), SyntaxRefusal>
         requires sound { IsAt self.old (Place.Argument subject left value) }
         requires some { 0 < left }
-        ensures { TakesByte self.old (Place.Argument subject left value) byte self.new result }
+        ensures { CborTakesByte self.old (Place.Argument subject left value) byte self.new result }
     {
         if is_no_simple(subject, byte) {
             return Err(SyntaxRefusal::Bad(0));
@@ -198,7 +197,7 @@ impl Reader {
     // The initial byte of a chunk, or a break.
     pub(super) fn chunk(&mut self, kind: StringKind, byte: u8) -> Result<(), SyntaxRefusal>
         requires { IsAt self.old (Place.Chunks kind) }
-        ensures { TakesByte self.old (Place.Chunks kind) byte self.new result }
+        ensures { CborTakesByte self.old (Place.Chunks kind) byte self.new result }
     {
         if byte == BREAK {
             self.end_string(kind)?;

@@ -1,15 +1,16 @@
-// The bytes of strings and chunks, in runs, and UTF-8 judged as they come. The reader stands on it.
+// The bytes of strings and chunks, in runs, and UTF-8 judged as they come.
 ghost use Rattle.std.specs.Prelude.{◌≡◌, ◌<◌, ◌≤◌, length, take, OnOk, IsUtf8, [], ◌∷◌};
-ghost use Rattle.sm_tree.specs.declared.utf8.Utf8.TheVariants.{Between};
-ghost use Rattle.sm_cbor.specs.Machine.{IsFront};
+ghost use Rattle.sm_bytes.specs.declared.utf8.Utf8.TheVariants.{Between};
+ghost use Rattle.sm_cbor.specs.steps.Machine.{IsSomePrefix};
 
 use super::Reader;
 use crate::place::Place;
-use sm_tree::{NoMemory, SyntaxRefusal, Utf8, whole_len};
+use sm_bytes::{Utf8, whole_len};
+use sm_tree::{NoMemory, SyntaxRefusal};
 
-// The bytes in front, but no more than are left.
-fn front(bytes: &[u8], left: u64) -> &[u8]
-    ensures { IsFront result.now bytes.now left }
+// The first bytes, but no more than are left.
+fn first_bytes(bytes: &[u8], left: u64) -> &[u8]
+    ensures { IsSomePrefix result.now bytes.now left }
 {
     if left < bytes.len() as u64 {
         &bytes[..left as usize]
@@ -18,7 +19,7 @@ fn front(bytes: &[u8], left: u64) -> &[u8]
     }
 }
 
-// How many bytes in front are whole characters. None within a character.
+// How many of the first bytes are whole characters. None within a character.
 fn characters(utf8: Utf8, bytes: &[u8]) -> usize
     ensures within { result ≤ length bytes.now }
     ensures utf8 { IsUtf8 (take result bytes.now) }
@@ -31,13 +32,13 @@ fn characters(utf8: Utf8, bytes: &[u8]) -> usize
 }
 
 impl Reader {
-    ghost use Rattle.sm_cbor.specs.Machine.{IsAt, IsSound, Goes, TakesByte, TakesFront, RunFits, IsBytesPlace, IsTextPlace};
+    ghost use Rattle.sm_cbor.specs.steps.Machine.{IsAt, IsSoundReader, CborGoes, CborTakesByte, CborTakesPrefix, RunFits, IsBytesPlace, IsTextPlace};
 
     // Holds bytes of the string, behind which its UTF-8 stands at this place.
     pub(super) fn take_run(&mut self, next: Utf8, run: &[u8]) -> Result<(), NoMemory>
         requires sound { IsAt self.old self.old.place }
         requires fits { RunFits self.old.place next run.now }
-        ensures { OnOk result (Goes self.old [] self.old.place run.now self.new) }
+        ensures { OnOk result (CborGoes self.old [] self.old.place run.now self.new) }
     {
         let Place::String(kind, span, all, _) = self.place else {
             unreachable!()
@@ -58,21 +59,21 @@ impl Reader {
         utf8: Utf8,
         bytes: &[u8],
     ) -> Result<usize, SyntaxRefusal>
-        requires sound { IsSound self.old }
+        requires sound { IsSoundReader self.old }
         requires place { IsBytesPlace self.old.place left utf8 }
         requires some { 0 < length bytes.now }
-        ensures { TakesFront self.old bytes.now self.new result }
+        ensures { CborTakesPrefix self.old bytes.now self.new result }
     {
-        let run = front(bytes, left);
+        let run = first_bytes(bytes, left);
         self.take_run(Utf8::Between, run)?;
         Ok(run.len())
     }
 
     // One byte of a text.
     pub(super) fn text_byte(&mut self, left: u64, utf8: Utf8, byte: u8) -> Result<(), SyntaxRefusal>
-        requires sound { IsSound self.old }
+        requires sound { IsSoundReader self.old }
         requires place { IsTextPlace self.old.place left utf8 }
-        ensures { TakesByte self.old self.old.place byte self.new result }
+        ensures { CborTakesByte self.old self.old.place byte self.new result }
     {
         match utf8.next(byte) {
             Some(next) => {
@@ -93,12 +94,12 @@ impl Reader {
         utf8: Utf8,
         bytes: &[u8],
     ) -> Result<usize, SyntaxRefusal>
-        requires sound { IsSound self.old }
+        requires sound { IsSoundReader self.old }
         requires place { IsTextPlace self.old.place left utf8 }
         requires some { 0 < length bytes.now }
-        ensures { TakesFront self.old bytes.now self.new result }
+        ensures { CborTakesPrefix self.old bytes.now self.new result }
     {
-        let whole = characters(utf8, front(bytes, left));
+        let whole = characters(utf8, first_bytes(bytes, left));
         if whole > 0 {
             self.take_run(Utf8::Between, &bytes[..whole])?;
             return Ok(whole);

@@ -1,21 +1,21 @@
-// What ends where its last byte has come: arguments, strings, whole items and what is round them. The steps of the
-// reader stand on it.
+// What ends where its last byte has come: arguments, strings, whole items and what is round them.
 ghost use Rattle.std.specs.Prelude.{◌≡◌, ◌<◌, length, OnOk, IsUtf8, None, [], ◌∷◌};
-ghost use Rattle.sm_tree.specs.Syntax.{most_levels};
+ghost use Rattle.sm_tree.specs.Limits.{most_levels};
 ghost use Rattle.sm_tree.specs.View.{node_of};
 ghost use Rattle.sm_tree.specs.Events.{events, start_list, start_object};
-ghost use Rattle.sm_tree.specs.declared.utf8.Utf8.TheVariants.{Between};
-ghost use Rattle.sm_cbor.specs.Rest.{before_span};
+ghost use Rattle.sm_bytes.specs.declared.utf8.Utf8.TheVariants.{Between};
+ghost use Rattle.sm_cbor.specs.steps.Rest.{before_span};
 
 use super::Reader;
 use crate::claim::expected;
 use crate::integer::{negative_tree, unsigned_tree};
 use crate::place::{Level, Place, Span, StringKind, Subject};
-use sm_tree::{Bytes, FIRST_ROOM, NoMemory, Text, Tree, Utf8};
+use sm_bytes::Utf8;
+use sm_tree::{Bytes, FIRST_ROOM, NoMemory, Text, Tree};
 use std::mem;
 
 impl Reader {
-    ghost use Rattle.sm_cbor.specs.Machine.{IsAt, Goes, Enters, Opens, levels_of};
+    ghost use Rattle.sm_cbor.specs.steps.Machine.{IsAt, CborGoes, Enters, OpensLevel, levels_of};
 
     // Puts a level round what comes.
     pub(super) fn enter(&mut self, level: Level) -> Result<(), NoMemory>
@@ -30,7 +30,7 @@ impl Reader {
     // An item has ended: ends what ends with it, and stands where the next may come.
     pub(super) fn settle(&mut self) -> Result<(), NoMemory>
         requires { IsAt self.old Place.After }
-        ensures { OnOk result (Goes self.old [] Place.After [] self.new) }
+        ensures { OnOk result (CborGoes self.old [] Place.After [] self.new) }
     {
         while let Some(level) = self.levels.pop() {
             match level {
@@ -67,7 +67,7 @@ impl Reader {
     #[inline(always)]
     pub(super) fn leaf(&mut self, tree: Tree) -> Result<(), NoMemory>
         requires { IsAt self.old Place.Item }
-        ensures { OnOk result (Goes self.old (events (node_of tree) []) Place.After [] self.new) }
+        ensures { OnOk result (CborGoes self.old (events (node_of tree) []) Place.After [] self.new) }
     {
         self.builder.value(tree)?;
         self.settle()
@@ -77,7 +77,7 @@ impl Reader {
     pub(super) fn open_list(&mut self, count: u64) -> Result<(), NoMemory>
         requires sound { IsAt self.old Place.Item }
         requires room { length (levels_of self.old) < most_levels }
-        ensures { OnOk result (Opens self.old (Level.List count) (start_list None ∷ []) self.new) }
+        ensures { OnOk result (OpensLevel self.old (Level.List count) (start_list None ∷ []) self.new) }
     {
         self.builder.start_list(expected(count))?;
         self.enter(Level::List(count))
@@ -87,7 +87,7 @@ impl Reader {
     pub(super) fn open_list_to_break(&mut self) -> Result<(), NoMemory>
         requires sound { IsAt self.old Place.Item }
         requires room { length (levels_of self.old) < most_levels }
-        ensures { OnOk result (Opens self.old Level.ListToBreak (start_list None ∷ []) self.new) }
+        ensures { OnOk result (OpensLevel self.old Level.ListToBreak (start_list None ∷ []) self.new) }
     {
         self.builder.start_list(FIRST_ROOM)?;
         self.enter(Level::ListToBreak)
@@ -97,7 +97,7 @@ impl Reader {
     pub(super) fn open_map(&mut self, count: u64) -> Result<(), NoMemory>
         requires sound { IsAt self.old Place.Item }
         requires room { length (levels_of self.old) < most_levels }
-        ensures { OnOk result (Opens self.old (Level.Map count) (start_object None ∷ []) self.new) }
+        ensures { OnOk result (OpensLevel self.old (Level.Map count) (start_object None ∷ []) self.new) }
     {
         self.builder.start_object(expected(count))?;
         self.enter(Level::Map(count))
@@ -107,7 +107,7 @@ impl Reader {
     pub(super) fn open_map_to_break(&mut self) -> Result<(), NoMemory>
         requires sound { IsAt self.old Place.Item }
         requires room { length (levels_of self.old) < most_levels }
-        ensures { OnOk result (Opens self.old Level.MapToBreak (start_object None ∷ []) self.new) }
+        ensures { OnOk result (OpensLevel self.old Level.MapToBreak (start_object None ∷ []) self.new) }
     {
         self.builder.start_object(FIRST_ROOM)?;
         self.enter(Level::MapToBreak)
@@ -126,7 +126,7 @@ impl Reader {
     // The last byte of a string has come.
     pub(super) fn end_string(&mut self, kind: StringKind) -> Result<(), NoMemory>
         requires { IsAt self.old (Place.String kind Span.Whole 0 Between) }
-        ensures { OnOk result (Goes self.old [] (Place.String kind Span.Whole 0 Between) [] self.new) }
+        ensures { OnOk result (CborGoes self.old [] (Place.String kind Span.Whole 0 Between) [] self.new) }
     {
         match kind {
             StringKind::Bytes => {
@@ -149,7 +149,7 @@ impl Reader {
     // The last byte of what a head has begun has come.
     pub(super) fn end_span(&mut self, kind: StringKind, span: Span) -> Result<(), NoMemory>
         requires { IsAt self.old (Place.String kind span 0 Between) }
-        ensures { OnOk result (Goes self.old [] (Place.String kind span 0 Between) [] self.new) }
+        ensures { OnOk result (CborGoes self.old [] (Place.String kind span 0 Between) [] self.new) }
     {
         match span {
             Span::Whole => self.end_string(kind),
@@ -179,7 +179,7 @@ impl Reader {
         len: u64,
     ) -> Result<(), NoMemory>
         requires { IsAt self.old (Place.Argument (Subject.String kind span) 0 len) }
-        ensures { OnOk result (Goes self.old [] (Place.Argument (Subject.String kind span) 0 len) [] self.new) }
+        ensures { OnOk result (CborGoes self.old [] (Place.Argument (Subject.String kind span) 0 len) [] self.new) }
     {
         self.forget_before(span);
         if len == 0 {
@@ -192,7 +192,7 @@ impl Reader {
     // A tag opens.
     pub(super) fn open_tag(&mut self, number: u64) -> Result<(), NoMemory>
         requires { IsAt self.old (Place.Argument Subject.Tag 0 number) }
-        ensures { OnOk result (Goes self.old [] (Place.Argument Subject.Tag 0 number) [] self.new) }
+        ensures { OnOk result (CborGoes self.old [] (Place.Argument Subject.Tag 0 number) [] self.new) }
     {
         self.builder.tag(number)?;
         self.enter(Level::Tag)?;
@@ -203,7 +203,7 @@ impl Reader {
     // The argument has come: what it is the argument of begins, or is whole.
     pub(super) fn end_argument(&mut self, subject: Subject, value: u64) -> Result<(), NoMemory>
         requires { IsAt self.old (Place.Argument subject 0 value) }
-        ensures { OnOk result (Goes self.old [] (Place.Argument subject 0 value) [] self.new) }
+        ensures { OnOk result (CborGoes self.old [] (Place.Argument subject 0 value) [] self.new) }
     {
         match subject {
             Subject::Unsigned => {
@@ -236,7 +236,7 @@ impl Reader {
         value: u64,
     ) -> Result<(), NoMemory>
         requires { IsAt self.old (Place.Argument subject left value) }
-        ensures { OnOk result (Goes self.old [] (Place.Argument subject left value) [] self.new) }
+        ensures { OnOk result (CborGoes self.old [] (Place.Argument subject left value) [] self.new) }
     {
         if left == 0 {
             return self.end_argument(subject, value);

@@ -2,7 +2,7 @@ use Rattle.std.proofs.Common.{◌≤◌, ◌↔◌, drop}
 use Rattle.sm_tree.specs.Json.{AreCbor, AreCborMembers}
 use Rattle.sm_tree.specs.Node.{nodes_of, members_of}
 use Rattle.sm_tree.specs.View.{node_of, nodes_view, members_view}
-use Rattle.sm_tree.specs.Weight.{weight, nodes_weight, members_weight}
+use Rattle.sm_tree.specs.steps.Weight.{weight, nodes_weight, members_weight}
 use Rattle.sm_cbor.proofs.writable.+writable.Given as goal
 
 abbrev pub decreases-is_writable : goal.decreases-is_writable

@@ -1,8 +1,8 @@
 use Rattle.std.proofs.Common.{◌≡◌, ◌+◌, ◌≤◌, ◌++◌, length, take, drop}
 use Rattle.sm_tree.specs.Node.{nodes_of, members_of}
 use Rattle.sm_tree.specs.View.{node_of, nodes_view, members_view}
-use Rattle.sm_tree.specs.Weight.{weight, nodes_weight, members_weight}
-use Rattle.sm_cbor.specs.Written.{written_entries, written_pairs}
+use Rattle.sm_tree.specs.steps.Weight.{weight, nodes_weight, members_weight}
+use Rattle.sm_cbor.specs.Written.{written_item_entries, written_item_pairs}
 use Rattle.sm_cbor.proofs.write.+placing.Given as goal
 
 abbrev pub decreases-place_tree : goal.decreases-place_tree
@@ -16,14 +16,18 @@ decreases-place_pairs l = members_weight (members_of (members_view l.pairs.now))
 
 abbrev pub invariant-place_entries-loop-item : goal.invariant-place_entries-loop-item
 invariant-place_entries-loop-item l = record {
-  bytes : take l.at l.buf ++ written_entries (nodes_of (nodes_view (drop l.item-index l.items))) ≡ take l.fn.at l.fn.buf ++ written_entries (nodes_of (nodes_view l.items));
-  next : l.at + length (written_entries (nodes_of (nodes_view (drop l.item-index l.items)))) ≡ l.fn.at + length (written_entries (nodes_of (nodes_view l.items)));
+  bytes : take l.at l.buf ++ written_item_entries (nodes_of (nodes_view (drop l.item-index l.items))) ≡ take l.fn.at
+      l.fn.buf ++ written_item_entries (nodes_of (nodes_view l.items));
+  next : l.at + length (written_item_entries (nodes_of (nodes_view (drop l.item-index l.items)))) ≡ l.fn.at + length
+      (written_item_entries (nodes_of (nodes_view l.items)));
   weight : nodes_weight (nodes_of (nodes_view (drop l.item-index l.items))) ≤ nodes_weight (nodes_of (nodes_view l.items));
 }
 
 abbrev pub invariant-place_pairs-loop-pair : goal.invariant-place_pairs-loop-pair
 invariant-place_pairs-loop-pair l = record {
-  bytes : take l.at l.buf ++ written_pairs (members_of (members_view (drop l.pair-index l.pairs))) ≡ take l.fn.at l.fn.buf ++ written_pairs (members_of (members_view l.pairs));
-  next : l.at + length (written_pairs (members_of (members_view (drop l.pair-index l.pairs)))) ≡ l.fn.at + length (written_pairs (members_of (members_view l.pairs)));
+  bytes : take l.at l.buf ++ written_item_pairs (members_of (members_view (drop l.pair-index l.pairs))) ≡ take l.fn.at
+      l.fn.buf ++ written_item_pairs (members_of (members_view l.pairs));
+  next : l.at + length (written_item_pairs (members_of (members_view (drop l.pair-index l.pairs)))) ≡ l.fn.at + length
+      (written_item_pairs (members_of (members_view l.pairs)));
   weight : members_weight (members_of (members_view (drop l.pair-index l.pairs))) ≤ members_weight (members_of (members_view l.pairs));
 }

@@ -1,4 +1,4 @@
-use Rattle.sm_cbor.proofs.InitialSteps.{pair_takes}
+use Rattle.sm_cbor.proofs.AfterSteps.{pair_takes}
 use Rattle.sm_cbor.proofs.read.Reader.after_pair.Goals as goal
 
 pub returns : goal.returns

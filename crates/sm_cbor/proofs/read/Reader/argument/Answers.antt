@@ -4,10 +4,12 @@ use Rattle.sm_cbor.proofs.ByteSteps.{argument_more, argument_takes, simple_bad, 
 use Rattle.sm_cbor.proofs.read.Reader.argument.Goals as goal
 
 pub overflow_mul-value : goal.overflow_mul-value
-overflow_mul-value c = let fits = sum_fits c.args.self.now c.args.subject c.args.left c.args.value c.args.byte c.requires.sound c.requires.some c.ranges.byte.fits in omega (arith, fits)
+overflow_mul-value c = let fits = sum_fits c.args.self.now c.args.subject c.args.left c.args.value c.args.byte c.requires.sound
+    c.requires.some c.ranges.byte.fits in omega (arith, fits)
 
 pub overflow_add-value : goal.overflow_add-value
-overflow_add-value c = let fits = sum_fits c.args.self.now c.args.subject c.args.left c.args.value c.args.byte c.requires.sound c.requires.some c.ranges.byte.fits in omega (arith, fits)
+overflow_add-value c = let fits = sum_fits c.args.self.now c.args.subject c.args.left c.args.value c.args.byte c.requires.sound
+    c.requires.some c.ranges.byte.fits in omega (arith, fits)
 
 pub begin_argument-requires : goal.begin_argument-requires
 begin_argument-requires c =
@@ -18,7 +20,8 @@ begin_argument-requires c =
     ])
 
 pub returns : goal.returns
-returns c = argument_takes c.args.self.now c.begin_argument.new.self c.args.subject c.args.left c.args.value c.args.byte c.requires.some c.ranges.byte.fits c.in_ok-begin_argument.ensures
+returns c = argument_takes c.args.self.now c.begin_argument.new.self c.args.subject c.args.left c.args.value c.args.byte c.requires.some
+    c.ranges.byte.fits c.in_ok-begin_argument.ensures
 
 pub returns-then-is_no_simple : goal.returns-then-is_no_simple
 returns-then-is_no_simple c =

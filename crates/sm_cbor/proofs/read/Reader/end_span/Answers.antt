@@ -1,11 +1,12 @@
 use Rattle.std.proofs.Common.{[], sym, subst}
-use Rattle.sm_tree.specs.declared.utf8.Utf8.TheVariants.{Between}
-use Rattle.sm_cbor.specs.Machine.{IsAt, Goes}
+use Rattle.sm_bytes.specs.declared.utf8.Utf8.TheVariants.{Between}
+use Rattle.sm_cbor.specs.steps.Machine.{IsAt, CborGoes}
 use Rattle.sm_cbor.specs.declared.place.Place.TheVariants.{String, Chunks}
 use Rattle.sm_cbor.proofs.EndSteps.{chunk_goes}
 use Rattle.sm_cbor.proofs.read.Reader.end_span.Goals as goal
 
 pub returns-in-Chunk : goal.returns-in-Chunk
 returns-in-Chunk c =
-    subst (λ s. Goes c.args.self.now [] (String c.args.kind s 0 Between) [] (record c.args.self.now { place = Chunks c.args.kind })) (sym c.in-Chunk.is)
+    subst (λ s. CborGoes c.args.self.now [] (String c.args.kind s 0 Between) [] (record c.args.self.now { place = Chunks c.args.kind }))
+    (sym c.in-Chunk.is)
     (chunk_goes c.args.self.now c.args.kind (subst (λ s. IsAt c.args.self.now (String c.args.kind s 0 Between)) c.in-Chunk.is c.requires))

@@ -1,7 +1,7 @@
 // Items and keys that are whole in the bytes at hand are taken at once: a head in one step, and a text behind it with
-// one copy. What is cut is taken byte by byte. The reader stands on it.
+// one copy. What is cut is taken byte by byte.
 ghost use Rattle.std.specs.Prelude.{◌≡◌, ◌<◌, ◌≤◌, length, IfSome, IsUtf8};
-ghost use Rattle.sm_cbor.specs.Reading.{IsBehind};
+ghost use Rattle.sm_cbor.specs.steps.Reading.{IsBehind};
 
 use super::Reader;
 use crate::head::{WholeHead, whole_head};
@@ -9,7 +9,7 @@ use crate::place::Place;
 use sm_tree::{SyntaxRefusal, Text, Tree};
 use std::str;
 
-// The bytes of the string whose head is in front, where they are all at hand.
+// The bytes of the string with this head, where they are all at hand.
 fn bytes_behind<'a>(bytes: &'a [u8], head: &WholeHead) -> Option<&'a [u8]>
     requires { head.now.len ≤ length bytes.now }
     ensures { IfSome result (λ run. IsBehind bytes.now head.now.len head.now.value run.now) }
@@ -22,7 +22,7 @@ fn bytes_behind<'a>(bytes: &'a [u8], head: &WholeHead) -> Option<&'a [u8]>
     }
 }
 
-// The text whose head is in front, where its bytes are all at hand and are UTF-8.
+// The text with this head, where its bytes are all at hand and are UTF-8.
 fn text_behind<'a>(bytes: &'a [u8], head: &WholeHead) -> Option<&'a str>
     requires { head.now.len ≤ length bytes.now }
     ensures behind { IfSome result (λ text. IsBehind bytes.now head.now.len head.now.value text.now) }
@@ -36,24 +36,24 @@ fn text_behind<'a>(bytes: &'a [u8], head: &WholeHead) -> Option<&'a str>
 }
 
 impl Reader {
-    ghost use Rattle.sm_cbor.specs.Machine.{IsAt, TakesFrontAt};
-    ghost use Rattle.sm_cbor.specs.Reading.{HasHead, IsText};
+    ghost use Rattle.sm_cbor.specs.steps.Machine.{IsAt, CborTakesPrefixAt};
+    ghost use Rattle.sm_cbor.specs.steps.Reading.{HasHead, IsText};
 
-    // The byte in front of an item.
+    // The initial byte of an item.
     fn item_byte(&mut self, bytes: &[u8]) -> Result<usize, SyntaxRefusal>
         requires sound { IsAt self.old Place.Item }
         requires some { 0 < length bytes.now }
-        ensures { TakesFrontAt self.old Place.Item bytes.now self.new result }
+        ensures { CborTakesPrefixAt self.old Place.Item bytes.now self.new result }
     {
         self.item(bytes[0])?;
         Ok(1)
     }
 
-    // The byte in front of a key.
+    // The initial byte of a key.
     fn key_byte(&mut self, bytes: &[u8]) -> Result<usize, SyntaxRefusal>
         requires sound { IsAt self.old Place.Key }
         requires some { 0 < length bytes.now }
-        ensures { TakesFrontAt self.old Place.Key bytes.now self.new result }
+        ensures { CborTakesPrefixAt self.old Place.Key bytes.now self.new result }
     {
         self.key(bytes[0])?;
         Ok(1)
@@ -63,7 +63,7 @@ impl Reader {
     fn take_head(&mut self, head: &WholeHead, bytes: &[u8]) -> Result<usize, SyntaxRefusal>
         requires sound { IsAt self.old Place.Item }
         requires head { HasHead bytes.now head.now.subject head.now.value head.now.len }
-        ensures { TakesFrontAt self.old Place.Item bytes.now self.new result }
+        ensures { CborTakesPrefixAt self.old Place.Item bytes.now self.new result }
     {
         if head.subject.is_level() && self.is_full() {
             return Err(SyntaxRefusal::TooDeep(0));
@@ -77,7 +77,7 @@ impl Reader {
         requires sound { IsAt self.old Place.Item }
         requires head { HasHead bytes.now head.now.subject head.now.value head.now.len }
         requires text { IsText head.now.subject }
-        ensures { TakesFrontAt self.old Place.Item bytes.now self.new result }
+        ensures { CborTakesPrefixAt self.old Place.Item bytes.now self.new result }
     {
         match text_behind(bytes, head) {
             Some(text) => {
@@ -94,7 +94,7 @@ impl Reader {
         requires sound { IsAt self.old Place.Key }
         requires head { HasHead bytes.now head.now.subject head.now.value head.now.len }
         requires text { IsText head.now.subject }
-        ensures { TakesFrontAt self.old Place.Key bytes.now self.new result }
+        ensures { CborTakesPrefixAt self.old Place.Key bytes.now self.new result }
     {
         match text_behind(bytes, head) {
             Some(text) => {
@@ -107,11 +107,11 @@ impl Reader {
         }
     }
 
-    // The front of an item: a text with its head, another head, or one byte.
-    pub(super) fn item_front(&mut self, bytes: &[u8]) -> Result<usize, SyntaxRefusal>
+    // A prefix of an item: a text with its head, another head, or one byte.
+    pub(super) fn item_prefix(&mut self, bytes: &[u8]) -> Result<usize, SyntaxRefusal>
         requires sound { IsAt self.old Place.Item }
         requires some { 0 < length bytes.now }
-        ensures { TakesFrontAt self.old Place.Item bytes.now self.new result }
+        ensures { CborTakesPrefixAt self.old Place.Item bytes.now self.new result }
     {
         match whole_head(bytes) {
             Some(head) => {
@@ -124,11 +124,11 @@ impl Reader {
         }
     }
 
-    // The front of a key: all of it with its head, or one byte.
-    pub(super) fn key_front(&mut self, bytes: &[u8]) -> Result<usize, SyntaxRefusal>
+    // A prefix of a key: all of it with its head, or one byte.
+    pub(super) fn key_prefix(&mut self, bytes: &[u8]) -> Result<usize, SyntaxRefusal>
         requires sound { IsAt self.old Place.Key }
         requires some { 0 < length bytes.now }
-        ensures { TakesFrontAt self.old Place.Key bytes.now self.new result }
+        ensures { CborTakesPrefixAt self.old Place.Key bytes.now self.new result }
     {
         match whole_head(bytes) {
             Some(head) => {

@@ -3,19 +3,19 @@ use Rattle.std.proofs.Common.{◌≡◌, ℕ, zero, suc, ◌+◌, ◌-◌, ◌*�
 use Rattle.std.specs.Prelude.{slice_index, Ok}
 use Rattle.std.proofs.Math.Seq.{take-add}
 use Rattle.std.proofs.lemmas.List.{drop_more}
-use Rattle.sm_tree.specs.Syntax.{most_levels}
+use Rattle.sm_tree.specs.Limits.{most_levels}
 use Rattle.sm_tree.specs.Node.{Node, text}
 use Rattle.sm_tree.specs.Events.{NodeEvent, events, key_event, text_event}
 use Rattle.sm_tree.specs.Building.{so_far, kinds, awaits_value, IsIn}
 use Rattle.sm_tree.specs.BuilderView.{building_of}
 use Rattle.sm_tree.specs.declared.build.TreeBuilder.{TreeBuilder}
 use Rattle.sm_tree.specs.declared.build.OpenKind.TheVariants.{Object as an_object}
-use Rattle.sm_tree.specs.declared.utf8.Utf8.TheVariants.{Between}
+use Rattle.sm_bytes.specs.declared.utf8.Utf8.TheVariants.{Between}
 use Rattle.sm_cbor.specs.Heads.{Number}
-use Rattle.sm_cbor.specs.CborItem.{Keys}
-use Rattle.sm_cbor.specs.Reading.{StartsNumber, HeadIs, IsBits, IsText, HasHead, IsBehind, bound}
-use Rattle.sm_cbor.specs.Rest.{State, Leads}
-use Rattle.sm_cbor.specs.Machine.{levels_of, state_at, handed_on, opens_of, IsAt, Goes, OpensTooDeep, TakesFrontAt}
+use Rattle.sm_cbor.specs.steps.Marks.{Keys}
+use Rattle.sm_cbor.specs.steps.Reading.{StartsNumber, HeadIs, IsBits, IsText, HasHead, IsBehind, bound}
+use Rattle.sm_cbor.specs.steps.Rest.{CborState, CborLeads}
+use Rattle.sm_cbor.specs.steps.Machine.{levels_of, cbor_state_at, cbor_handed_on, opens_of, IsAt, CborGoes, OpensTooDeep, CborTakesPrefixAt}
 use Rattle.sm_cbor.specs.declared.head.Head.TheVariants.{Argument as ArgumentHead}
 use Rattle.sm_cbor.specs.declared.place.StringKind.TheVariants.{Bytes, Text, Key as KeyText}
 use Rattle.sm_cbor.specs.declared.place.Span.TheVariants.{Whole, Chunk}
@@ -40,26 +40,30 @@ less_one k = omega arith
 
 -- the bytes of an argument, all of them
 number_leads : (w : Keys) (limit k v n : ℕ) (j : Subject) (s t : List ℕ) (ls : List Level) → Number k v n s []
-    → Leads w limit (at (InArgument j k v) t ls) s [] (at (InArgument j 0 n) t ls)
+    → CborLeads w limit (at (InArgument j k v) t ls) s [] (at (InArgument j 0 n) t ls)
 number_leads w limit zero v n j s t ls (e, f) =
-    subst (λ x. Leads w limit (at (InArgument j 0 v) t ls) x [] (at (InArgument j 0 n) t ls)) (sym f)
-    (subst (λ m. Leads w limit (at (InArgument j 0 v) t ls) [] [] (at (InArgument j 0 m) t ls)) (sym e) (leads_none w limit (at (InArgument j 0 v) t ls)))
+    subst (λ x. CborLeads w limit (at (InArgument j 0 v) t ls) x [] (at (InArgument j 0 n) t ls)) (sym f)
+    (subst (λ m. CborLeads w limit (at (InArgument j 0 v) t ls) [] [] (at (InArgument j 0 m) t ls)) (sym e)
+    (leads_none w limit (at (InArgument j 0 v) t ls)))
 number_leads w limit (suc k) v n j [] t ls h = absurd h
 number_leads w limit (suc k) v n j (b ∷ s) t ls (small, h) =
-    leads_joined w limit (at (InArgument j (suc k) v) t ls) (at (InArgument j k (v * 256 + b)) t ls) (at (InArgument j 0 n) t ls) (b ∷ []) s [] []
-    (subst (λ x. Leads w limit (at (InArgument j (suc k) v) t ls) (b ∷ []) [] (at (InArgument j x (v * 256 + b)) t ls)) (less_one k)
+    leads_joined w limit (at (InArgument j (suc k) v) t ls) (at (InArgument j k (v * 256 + b)) t ls) (at (InArgument j 0 n) t ls) (b ∷ []) s
+    [] []
+    (subst (λ x. CborLeads w limit (at (InArgument j (suc k) v) t ls) (b ∷ []) [] (at (InArgument j x (v * 256 + b)) t ls)) (less_one k)
     (argument_byte w limit j (suc k) v b t ls (omega arith) small))
     (number_leads w limit k (v * 256 + b) n j s t ls h)
 
 no_byte_value : (j : Subject) → (IsBits j → ⊥) → j ≡ Opaque 0xF8 → ⊥
 no_byte_value j none e = none (subst IsBits (sym e) tt)
 
-number_there : (r : Reader) (k v n : ℕ) (j : Subject) (s : List ℕ) → (IsBits j → ⊥) → Number k v n s [] → IsAt r (InArgument j k v) → IsAt r (InArgument j 0 n)
+number_there : (r : Reader) (k v n : ℕ) (j : Subject) (s : List ℕ) → (IsBits j → ⊥) → Number k v n s [] → IsAt r (InArgument j k v)
+    → IsAt r (InArgument j 0 n)
 number_there r zero v n j s none (e, f) there = subst (λ m. IsAt r (InArgument j 0 m)) (sym e) there
 number_there r (suc k) v n j [] none h there = absurd h
 number_there r (suc k) v n j (b ∷ s) none (small, h) there =
     number_there r k (v * 256 + b) n j s none h
-    (subst (λ x. IsAt r (InArgument j x (v * 256 + b))) (less_one k) (argument_more r j (suc k) v b there (omega arith) small (λ e. absurd (no_byte_value j none e))))
+    (subst (λ x. IsAt r (InArgument j x (v * 256 + b))) (less_one k)
+    (argument_more r j (suc k) v b there (omega arith) small (λ e. absurd (no_byte_value j none e))))
 
 -- a head is its initial byte, and then the bytes of its argument
 head_bytes : (bs : List ℕ) (k len : ℕ) → len ≡ suc k → len ≤ length bs → take len bs ≡ slice_index bs 0 ∷ drop 1 (take len bs)
@@ -67,11 +71,13 @@ head_bytes [] k len e inside = absurd (omega arith)
 head_bytes (c ∷ bs) k len e inside = subst (λ m. take m (c ∷ bs) ≡ c ∷ drop 1 (take m (c ∷ bs))) (sym e) refl
 
 -- what a head leads to, where an item must come, and where a key stands
-item_head_leads : (w : Keys) (limit : ℕ) (bs : List ℕ) (j : Subject) (n len : ℕ) (t : List ℕ) (ls : List Level) → HasHead bs j n len → length ls ≤ limit
-    → Leads w limit (at Item t ls) (take len bs) [] (at (InArgument j 0 n) t ls)
+item_head_leads : (w : Keys) (limit : ℕ) (bs : List ℕ) (j : Subject) (n len : ℕ) (t : List ℕ) (ls : List Level) → HasHead bs j n len
+    → length ls ≤ limit
+    → CborLeads w limit (at Item t ls) (take len bs) [] (at (InArgument j 0 n) t ls)
 item_head_leads w limit bs j n len t ls head room =
-    subst (λ v. Leads w limit (at Item t ls) v [] (at (InArgument j 0 n) t ls)) (sym (head_bytes bs head.left len head.all head.inside))
-    (leads_joined w limit (at Item t ls) (at (InArgument j head.left head.value) t ls) (at (InArgument j 0 n) t ls) (slice_index bs 0 ∷ []) (drop 1 (take len bs)) [] []
+    subst (λ v. CborLeads w limit (at Item t ls) v [] (at (InArgument j 0 n) t ls)) (sym (head_bytes bs head.left len head.all head.inside))
+    (leads_joined w limit (at Item t ls) (at (InArgument j head.left head.value) t ls) (at (InArgument j 0 n) t ls) (slice_index bs 0 ∷ [])
+    (drop 1 (take len bs)) [] []
     (argument_leads w limit (slice_index bs 0) head.left head.value j t ls room head.initial)
     (number_leads w limit head.left head.value n j (drop 1 (take len bs)) t ls head.argument))
 
@@ -99,12 +105,15 @@ text_head_is c k v MapHead is h = absurd is
 text_head_is c k v TagHead is h = absurd is
 text_head_is c k v (Opaque b) is h = absurd is
 
-key_head_leads : (w : Keys) (limit : ℕ) (bs : List ℕ) (j : Subject) (n len : ℕ) (t : List ℕ) (ls : List Level) → HasHead bs j n len → IsText j
-    → Leads w limit (at Key t ls) (take len bs) [] (at (InArgument (StringHead KeyText Whole) 0 n) t ls)
+key_head_leads : (w : Keys) (limit : ℕ) (bs : List ℕ) (j : Subject) (n len : ℕ) (t : List ℕ) (ls : List Level) → HasHead bs j n len
+    → IsText j
+    → CborLeads w limit (at Key t ls) (take len bs) [] (at (InArgument (StringHead KeyText Whole) 0 n) t ls)
 key_head_leads w limit bs j n len t ls head is =
     let (type, starts) = text_type_is (slice_index bs 0) head.left head.value j is head.initial in
-    subst (λ v. Leads w limit (at Key t ls) v [] (at (InArgument (StringHead KeyText Whole) 0 n) t ls)) (sym (head_bytes bs head.left len head.all head.inside))
-    (leads_joined w limit (at Key t ls) (at (InArgument (StringHead KeyText Whole) head.left head.value) t ls) (at (InArgument (StringHead KeyText Whole) 0 n) t ls) (slice_index bs 0 ∷ []) (drop 1 (take len bs)) [] []
+    subst (λ v. CborLeads w limit (at Key t ls) v [] (at (InArgument (StringHead KeyText Whole) 0 n) t ls))
+    (sym (head_bytes bs head.left len head.all head.inside))
+    (leads_joined w limit (at Key t ls) (at (InArgument (StringHead KeyText Whole) head.left head.value) t ls)
+    (at (InArgument (StringHead KeyText Whole) 0 n) t ls) (slice_index bs 0 ∷ []) (drop 1 (take len bs)) [] []
     (key_leads w limit (slice_index bs 0) head.left head.value t ls type starts)
     (number_leads w limit head.left head.value n (StringHead KeyText Whole) (drop 1 (take len bs)) t ls head.argument))
 
@@ -113,55 +122,68 @@ no_more : (n : ℕ) (run : List ℕ) → length run ≡ n → n - length run ≡
 no_more n run e = omega arith
 
 text_leads : (w : Keys) (limit n : ℕ) (run t u : List ℕ) (ls : List Level) → length run ≡ n → IsUtf8 run
-    → Leads w limit (at (InArgument (StringHead Text Whole) 0 n) t ls) run (text_event run ∷ []) (at After u ls)
+    → CborLeads w limit (at (InArgument (StringHead Text Whole) 0 n) t ls) run (text_event run ∷ []) (at After u ls)
 text_leads w limit n run t u ls len utf8 =
-    leads_joined w limit (at (InArgument (StringHead Text Whole) 0 n) t ls) (at (String Text Whole n Between) [] ls) (at After u ls) [] run [] (text_event run ∷ [])
+    leads_joined w limit (at (InArgument (StringHead Text Whole) 0 n) t ls) (at (String Text Whole n Between) [] ls) (at After u ls) [] run
+    [] (text_event run ∷ [])
     (string_begins w limit n Text Whole t ls)
-    (subst (λ v. Leads w limit (at (String Text Whole n Between) [] ls) v (text_event run ∷ []) (at After u ls)) (append-nil run)
-    (leads_joined w limit (at (String Text Whole n Between) [] ls) (at (String Text Whole 0 Between) run ls) (at After u ls) run [] [] (text_event run ∷ [])
-    (subst (λ m. Leads w limit (at (String Text Whole n Between) [] ls) run [] (at (String Text Whole m Between) run ls)) (no_more n run len)
+    (subst (λ v. CborLeads w limit (at (String Text Whole n Between) [] ls) v (text_event run ∷ []) (at After u ls)) (append-nil run)
+    (leads_joined w limit (at (String Text Whole n Between) [] ls) (at (String Text Whole 0 Between) run ls) (at After u ls) run [] []
+    (text_event run ∷ [])
+    (subst (λ m. CborLeads w limit (at (String Text Whole n Between) [] ls) run [] (at (String Text Whole m Between) run ls))
+    (no_more n run len)
     (text_run w limit Text Whole n [] run ls tt (omega arith) utf8))
     (text_end w limit run u ls)))
 
 key_text_leads : (w : Keys) (limit n : ℕ) (run t u : List ℕ) (ls : List Level) → length run ≡ n → IsUtf8 run
-    → Leads w limit (at (InArgument (StringHead KeyText Whole) 0 n) t ls) run (key_event run ∷ []) (at Item u ls)
+    → CborLeads w limit (at (InArgument (StringHead KeyText Whole) 0 n) t ls) run (key_event run ∷ []) (at Item u ls)
 key_text_leads w limit n run t u ls len utf8 =
-    leads_joined w limit (at (InArgument (StringHead KeyText Whole) 0 n) t ls) (at (String KeyText Whole n Between) [] ls) (at Item u ls) [] run [] (key_event run ∷ [])
+    leads_joined w limit (at (InArgument (StringHead KeyText Whole) 0 n) t ls) (at (String KeyText Whole n Between) [] ls) (at Item u ls) []
+    run [] (key_event run ∷ [])
     (string_begins w limit n KeyText Whole t ls)
-    (subst (λ v. Leads w limit (at (String KeyText Whole n Between) [] ls) v (key_event run ∷ []) (at Item u ls)) (append-nil run)
-    (leads_joined w limit (at (String KeyText Whole n Between) [] ls) (at (String KeyText Whole 0 Between) run ls) (at Item u ls) run [] [] (key_event run ∷ [])
-    (subst (λ m. Leads w limit (at (String KeyText Whole n Between) [] ls) run [] (at (String KeyText Whole m Between) run ls)) (no_more n run len)
+    (subst (λ v. CborLeads w limit (at (String KeyText Whole n Between) [] ls) v (key_event run ∷ []) (at Item u ls)) (append-nil run)
+    (leads_joined w limit (at (String KeyText Whole n Between) [] ls) (at (String KeyText Whole 0 Between) run ls) (at Item u ls) run [] []
+    (key_event run ∷ [])
+    (subst (λ m. CborLeads w limit (at (String KeyText Whole n Between) [] ls) run [] (at (String KeyText Whole m Between) run ls))
+    (no_more n run len)
     (text_run w limit KeyText Whole n [] run ls tt (omega arith) utf8))
     (key_end w limit run u ls)))
 
-both_leads : (w : Keys) (limit : ℕ) (bs run : List ℕ) (n len : ℕ) (x y z : State) (e : NodeEvent) → IsBehind bs len n run → Leads w limit x (take len bs) [] y → Leads w limit y run (e ∷ []) z
-    → Leads w limit x (take (len + n) bs) (e ∷ []) z
+both_leads : (w : Keys) (limit : ℕ) (bs run : List ℕ) (n len : ℕ) (x y z : CborState) (e : NodeEvent) → IsBehind bs len n run
+    → CborLeads w limit x (take len bs) [] y → CborLeads w limit y run (e ∷ []) z
+    → CborLeads w limit x (take (len + n) bs) (e ∷ []) z
 both_leads w limit bs run n len x y z e behind h g =
-    subst (λ v. Leads w limit x v (e ∷ []) z) (ap (λ v. take len bs ++ v) behind.0 ∙ sym (take-add len n bs))
+    subst (λ v. CborLeads w limit x v (e ∷ []) z) (ap (λ v. take len bs ++ v) behind.0 ∙ sym (take-add len n bs))
     (leads_joined w limit x y z (take len bs) run [] (e ∷ []) h g)
 
 -- so the reader takes a head
-pub head_there : (r : Reader) (bs : List ℕ) (j : Subject) (n len : ℕ) → IsAt r Item → HasHead bs j n len → (opens_of j ≡ 1 → length (levels_of r) < most_levels) → IsAt r (InArgument j 0 n)
+pub head_there : (r : Reader) (bs : List ℕ) (j : Subject) (n len : ℕ) → IsAt r Item → HasHead bs j n len
+    → (opens_of j ≡ 1 → length (levels_of r) < most_levels) → IsAt r (InArgument j 0 n)
 head_there r bs j n len there head more =
-    number_there r head.left head.value n j (drop 1 (take len bs)) head.no_bits head.argument (argument_there r (slice_index bs 0) head.left head.value j there head.initial more)
+    number_there r head.left head.value n j (drop 1 (take len bs)) head.no_bits head.argument
+    (argument_there r (slice_index bs 0) head.left head.value j there head.initial more)
 
-pub head_goes : (r q : Reader) (bs : List ℕ) (j : Subject) (n len : ℕ) → IsAt r Item → HasHead bs j n len → Goes r [] (InArgument j 0 n) [] q → Goes r [] Item (take len bs) q
+pub head_goes : (r q : Reader) (bs : List ℕ) (j : Subject) (n len : ℕ) → IsAt r Item → HasHead bs j n len
+    → CborGoes r [] (InArgument j 0 n) [] q → CborGoes r [] Item (take len bs) q
 head_goes r q bs j n len there head goes =
-    subst (λ v. Goes r [] Item v q) (append-nil (take len bs))
-    (goes_by r r q Item (InArgument j 0 n) (take len bs) [] [] goes (sym (append-nil (handed_on r)))
+    subst (λ v. CborGoes r [] Item v q) (append-nil (take len bs))
+    (goes_by r r q Item (InArgument j 0 n) (take len bs) [] [] goes (sym (append-nil (cbor_handed_on r)))
     (λ w limit high. item_head_leads w limit bs j n len r.held.items (levels_of r) head (in_room r Item limit there high)))
 
-pub head_deep : (r : Reader) (bs : List ℕ) (j : Subject) (n len : ℕ) → HasHead bs j n len → opens_of j ≡ 1 → most_levels ≤ length (levels_of r) → OpensTooDeep (state_at r Item) (slice_index bs 0)
+pub head_deep : (r : Reader) (bs : List ℕ) (j : Subject) (n len : ℕ) → HasHead bs j n len → opens_of j ≡ 1
+    → most_levels ≤ length (levels_of r) → OpensTooDeep (cbor_state_at r Item) (slice_index bs 0)
 head_deep r bs j n len head level full = argument_deep r (slice_index bs 0) head.left head.value j head.initial level full
 
 -- a text
-pub text_goes : (r q : Reader) (bs run : List ℕ) (j : Subject) (n len : ℕ) (x : Node) → IsAt r Item → HasHead bs j n len → IsText j → IsBehind bs len n run → IsUtf8 run → x ≡ text run
-    → Goes r (events x []) After [] q → Goes r [] Item (take (len + n) bs) q
+pub text_goes : (r q : Reader) (bs run : List ℕ) (j : Subject) (n len : ℕ) (x : Node) → IsAt r Item → HasHead bs j n len → IsText j
+    → IsBehind bs len n run → IsUtf8 run → x ≡ text run
+    → CborGoes r (events x []) After [] q → CborGoes r [] Item (take (len + n) bs) q
 text_goes r q bs run j n len x there head is behind utf8 e goes =
     let head1 = subst (λ y. HasHead bs y n len) (text_head_is (slice_index bs 0) head.left head.value j is head.initial) head in
-    subst (λ v. Goes r [] Item v q) (append-nil (take (len + n) bs))
-    (goes_with r r q Item After (take (len + n) bs) [] (text_event run ∷ []) (subst (λ y. Goes r (events y []) After [] q) e goes) refl
-    (λ w limit high. both_leads w limit bs run n len (state_at r Item) (state_at r (InArgument (StringHead Text Whole) 0 n)) (state_at r After) (text_event run) behind
+    subst (λ v. CborGoes r [] Item v q) (append-nil (take (len + n) bs))
+    (goes_with r r q Item After (take (len + n) bs) [] (text_event run ∷ []) (subst (λ y. CborGoes r (events y []) After [] q) e goes) refl
+    (λ w limit high. both_leads w limit bs run n len (cbor_state_at r Item) (cbor_state_at r (InArgument (StringHead Text Whole) 0 n))
+    (cbor_state_at r After) (text_event run) behind
     (item_head_leads w limit bs (StringHead Text Whole) n len r.held.items (levels_of r) head1 (in_room r Item limit there high))
     (text_leads w limit n run r.held.items r.held.items (levels_of r) behind.1 utf8)))
 
@@ -169,14 +191,17 @@ text_goes r q bs run j n len x there head is behind utf8 e goes =
 pub key_may : (r : Reader) → IsAt r Key → IsIn an_object (kinds (building_of r.builder)) × (awaits_value (building_of r.builder) ≡ false)
 key_may r there = (subst (IsIn an_object) (sym there.kinds_are) (in_map (levels_of r) there.keeps.0), there.keeps.1)
 
-pub key_goes : (r : Reader) (b : TreeBuilder) (bs run : List ℕ) (j : Subject) (n len : ℕ) → IsAt r Key → HasHead bs j n len → IsText j → IsBehind bs len n run → IsUtf8 run
-    → so_far (building_of b) ≡ so_far (building_of r.builder) ++ (key_event run ∷ []) → kinds (building_of b) ≡ kinds (building_of r.builder) → awaits_value (building_of b) ≡ true
-    → Goes r [] Key (take (len + n) bs) (record r { builder = b; place = Item })
+pub key_goes : (r : Reader) (b : TreeBuilder) (bs run : List ℕ) (j : Subject) (n len : ℕ) → IsAt r Key → HasHead bs j n len → IsText j
+    → IsBehind bs len n run → IsUtf8 run
+    → so_far (building_of b) ≡ so_far (building_of r.builder) ++ (key_event run ∷ [])
+    → kinds (building_of b) ≡ kinds (building_of r.builder) → awaits_value (building_of b) ≡ true
+    → CborGoes r [] Key (take (len + n) bs) (record r { builder = b; place = Item })
 key_goes r b bs run j n len there head is behind utf8 taken same awaits =
     goes_to r (record r { builder = b; place = Item }) Key (take (len + n) bs) (key_event run ∷ [])
     (record { there = record { kinds_are = same ∙ there.kinds_are; room = there.room; keeps = awaits; settled = tt }; begun = tt })
     taken
-    (λ w limit high. both_leads w limit bs run n len (state_at r Key) (state_at r (InArgument (StringHead KeyText Whole) 0 n)) (state_at r Item) (key_event run) behind
+    (λ w limit high. both_leads w limit bs run n len (cbor_state_at r Key) (cbor_state_at r (InArgument (StringHead KeyText Whole) 0 n))
+    (cbor_state_at r Item) (key_event run) behind
     (key_head_leads w limit bs j n len r.held.items (levels_of r) head is)
     (key_text_leads w limit n run r.held.items r.held.items (levels_of r) behind.1 utf8))
 
@@ -184,24 +209,31 @@ key_goes r b bs run j n len there head is behind utf8 taken same awaits =
 pub some_taken : (bs : List ℕ) (j : Subject) (n len : ℕ) → HasHead bs j n len → 0 < len
 some_taken bs j n len head = let e = head.all in omega arith
 
--- what the reader makes of the front of its bytes
-pub head_front : (r q : Reader) (bs : List ℕ) (j : Subject) (n len : ℕ) → IsAt r Item → HasHead bs j n len → Goes r [] (InArgument j 0 n) [] q → TakesFrontAt r Item bs q (Ok len)
-head_front r q bs j n len there head goes = (some_taken bs j n len head, head.inside, head_goes r q bs j n len there head goes)
+-- what the reader makes of a prefix of its bytes
+pub head_prefix : (r q : Reader) (bs : List ℕ) (j : Subject) (n len : ℕ) → IsAt r Item → HasHead bs j n len
+    → CborGoes r [] (InArgument j 0 n) [] q → CborTakesPrefixAt r Item bs q (Ok len)
+head_prefix r q bs j n len there head goes = (some_taken bs j n len head, head.inside, head_goes r q bs j n len there head goes)
 
-front_of : (r q : Reader) (p : Place) (bs run : List ℕ) (j : Subject) (n len : ℕ) → HasHead bs j n len → IsBehind bs len n run → Goes r [] p (take (len + n) bs) q → TakesFrontAt r p bs q (Ok (len + length run))
-front_of r q p bs run j n len head behind goes =
+prefix_of : (r q : Reader) (p : Place) (bs run : List ℕ) (j : Subject) (n len : ℕ) → HasHead bs j n len → IsBehind bs len n run
+    → CborGoes r [] p (take (len + n) bs) q → CborTakesPrefixAt r p bs q (Ok (len + length run))
+prefix_of r q p bs run j n len head behind goes =
     let some = some_taken bs j n len head in
-    (omega arith, omega (arith, behind.1, behind.2), subst (λ m. Goes r [] p (take (len + m) bs) q) (sym behind.1) goes)
+    (omega arith, omega (arith, behind.1, behind.2), subst (λ m. CborGoes r [] p (take (len + m) bs) q) (sym behind.1) goes)
 
-pub text_front : (r q : Reader) (bs run : List ℕ) (j : Subject) (n len : ℕ) (x : Node) → IsAt r Item → HasHead bs j n len → IsText j → IsBehind bs len n run → IsUtf8 run → x ≡ text run
-    → Goes r (events x []) After [] q → TakesFrontAt r Item bs q (Ok (len + length run))
-text_front r q bs run j n len x there head is behind utf8 e goes = front_of r q Item bs run j n len head behind (text_goes r q bs run j n len x there head is behind utf8 e goes)
+pub text_prefix : (r q : Reader) (bs run : List ℕ) (j : Subject) (n len : ℕ) (x : Node) → IsAt r Item → HasHead bs j n len → IsText j
+    → IsBehind bs len n run → IsUtf8 run → x ≡ text run
+    → CborGoes r (events x []) After [] q → CborTakesPrefixAt r Item bs q (Ok (len + length run))
+text_prefix r q bs run j n len x there head is behind utf8 e goes =
+    prefix_of r q Item bs run j n len head behind (text_goes r q bs run j n len x there head is behind utf8 e goes)
 
-pub key_front : (r : Reader) (b : TreeBuilder) (bs run : List ℕ) (j : Subject) (n len : ℕ) → IsAt r Key → HasHead bs j n len → IsText j → IsBehind bs len n run → IsUtf8 run
-    → so_far (building_of b) ≡ so_far (building_of r.builder) ++ (key_event run ∷ []) → kinds (building_of b) ≡ kinds (building_of r.builder) → awaits_value (building_of b) ≡ true
-    → TakesFrontAt r Key bs (record r { builder = b; place = Item }) (Ok (len + length run))
-key_front r b bs run j n len there head is behind utf8 taken same awaits =
-    front_of r (record r { builder = b; place = Item }) Key bs run j n len head behind (key_goes r b bs run j n len there head is behind utf8 taken same awaits)
+pub key_prefix : (r : Reader) (b : TreeBuilder) (bs run : List ℕ) (j : Subject) (n len : ℕ) → IsAt r Key → HasHead bs j n len → IsText j
+    → IsBehind bs len n run → IsUtf8 run
+    → so_far (building_of b) ≡ so_far (building_of r.builder) ++ (key_event run ∷ [])
+    → kinds (building_of b) ≡ kinds (building_of r.builder) → awaits_value (building_of b) ≡ true
+    → CborTakesPrefixAt r Key bs (record r { builder = b; place = Item }) (Ok (len + length run))
+key_prefix r b bs run j n len there head is behind utf8 taken same awaits =
+    prefix_of r (record r { builder = b; place = Item }) Key bs run j n len head behind
+    (key_goes r b bs run j n len there head is behind utf8 taken same awaits)
 
 -- a number grows by one byte more
 one_left : (m i : ℕ) → (m - i) - 1 ≡ m - (i + 1)
@@ -213,7 +245,8 @@ number_word bs i number b inside small below =
     let word = bound_word ((length bs - i) - 1) in
     omega arith
 
-pub number_below : (bs : List ℕ) (i number b : ℕ) → i < length bs → b < 256 → number < bound (length bs - i) → number * 256 + b < bound (length bs - (i + 1))
+pub number_below : (bs : List ℕ) (i number b : ℕ) → i < length bs → b < 256 → number < bound (length bs - i)
+    → number * 256 + b < bound (length bs - (i + 1))
 number_below bs i number b inside small below =
     subst (λ k. number * 256 + b < bound k) (one_left (length bs) i) (byte_bound (length bs - i) number b (omega arith) below small)
 

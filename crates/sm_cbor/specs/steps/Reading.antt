@@ -3,8 +3,8 @@ use Rattle.std.specs.Prelude.{◌≡◌, ◌≢◌, ℕ, zero, suc, ◌+◌, ◌
 use Rattle.std.specs.Fmt.{signed_decimal}
 use Rattle.sm_tree.specs.Json.{AreBytes}
 use Rattle.sm_tree.specs.Node.{Node, int, number}
-use Rattle.sm_tree.specs.declared.utf8.Utf8.{Utf8}
-use Rattle.sm_tree.specs.Utf8 as utf8
+use Rattle.sm_bytes.specs.declared.utf8.Utf8.{Utf8}
+use Rattle.sm_bytes.specs.Utf8 as utf8
 use Rattle.sm_cbor.specs.Heads.{Number, HasWidth, unsigned_type, negative_type, bytes_type, text_type, array_type, map_type, tag_type, simple_type}
 use Rattle.sm_cbor.specs.declared.place.StringKind.{StringKind}
 use Rattle.sm_cbor.specs.declared.place.StringKind.TheVariants.{Bytes, Text, Key}
@@ -12,7 +12,7 @@ use Rattle.sm_cbor.specs.declared.place.Span.TheVariants.{Whole, Chunk}
 use Rattle.sm_cbor.specs.declared.place.Subject.{Subject}
 use Rattle.sm_cbor.specs.declared.place.Subject.TheVariants.{Unsigned, Negative, String, List as AList, Map, Tag, Opaque}
 use Rattle.sm_cbor.specs.declared.head.Head.{Head}
-use Rattle.sm_cbor.specs.declared.head.Head.TheVariants.{Argument, Chunks, List as Entries, Map as Pairs, Null, Bool, NoItem}
+use Rattle.sm_cbor.specs.declared.head.Head.TheVariants.{Argument, Chunks, List as EntriesHead, Map as PairsHead, Null, Bool, NoItem}
 
 -- the argument of this additional information is the number that is v so far, with k more bytes
 abbrev pub StartsNumber : ℕ → ℕ → ℕ → Type 0
@@ -62,8 +62,8 @@ HeadIs c (Argument j k v) = SubjectIs c j × StartsNumber (c % 32) k v
 HeadIs c (Chunks Bytes) = c ≡ 0x5F
 HeadIs c (Chunks Text) = c ≡ 0x7F
 HeadIs c (Chunks Key) = ⊥
-HeadIs c Entries = c ≡ 0x9F
-HeadIs c Pairs = c ≡ 0xBF
+HeadIs c EntriesHead = c ≡ 0x9F
+HeadIs c PairsHead = c ≡ 0xBF
 HeadIs c Null = (c ≡ 0xF6) ⊎ (c ≡ 0xF7)
 HeadIs c (Bool false) = c ≡ 0xF4
 HeadIs c (Bool true) = c ≡ 0xF5

@@ -1,7 +1,7 @@
 -- What a reader stands for, what it keeps, and what its steps do. The contracts of the reader's methods cite it; that
 -- of `read_tree` doesn't.
 use Rattle.std.specs.Prelude.{◌≡◌, ℕ, ◌+◌, ◌-◌, ◌%◌, ◌≤◌, ◌<◌, ◌⊎◌, ◌↔◌, ◌≢◌, Option, None, Some, Bool, true, false, List, [], ◌∷◌, ◌++◌, take, reverse, length, slice_index, Result, Ok, Err}
-use Rattle.sm_tree.specs.Syntax.{most_levels}
+use Rattle.sm_tree.specs.Limits.{most_levels}
 use Rattle.sm_tree.specs.Events.{NodeEvent, events}
 use Rattle.sm_tree.specs.View.{node_of}
 use Rattle.sm_tree.specs.declared.tree.Tree.{Tree}
@@ -11,12 +11,14 @@ use Rattle.sm_tree.specs.declared.build.OpenKind.{OpenKind}
 use Rattle.sm_tree.specs.declared.build.OpenKind.TheVariants.{List as a_list, Object as an_object}
 use Rattle.sm_tree.specs.declared.refusal.SyntaxRefusal.{SyntaxRefusal}
 use Rattle.sm_tree.specs.declared.refusal.SyntaxRefusal.TheVariants.{Bad, Ended, TooDeep, KeyKind, NoMemory}
-use Rattle.sm_tree.specs.declared.utf8.Utf8.{Utf8}
-use Rattle.sm_tree.specs.Utf8 as utf8
-use Rattle.sm_cbor.specs.CborItem.{Keys, plain, marked, mark, IsOpaque}
+use Rattle.sm_bytes.specs.declared.utf8.Utf8.{Utf8}
+use Rattle.sm_bytes.specs.Utf8 as utf8
+use Rattle.sm_cbor.specs.CborItem.{IsOpaque}
+use Rattle.sm_cbor.specs.Refusals.{mark}
+use Rattle.sm_cbor.specs.steps.Marks.{Keys, plain, marked}
 use Rattle.sm_cbor.specs.Refusals.{BeginsOther}
-use Rattle.sm_cbor.specs.Reading.{IsOf, EndsAs, bound}
-use Rattle.sm_cbor.specs.Rest.{State, Rest, Leads, Stops}
+use Rattle.sm_cbor.specs.steps.Reading.{IsOf, EndsAs, bound}
+use Rattle.sm_cbor.specs.steps.Rest.{CborState, CborRest, CborLeads, CborStops}
 use Rattle.sm_cbor.specs.declared.place.StringKind.{StringKind}
 use Rattle.sm_cbor.specs.declared.place.StringKind.TheVariants.{Bytes, Text, Key as KeyText}
 use Rattle.sm_cbor.specs.declared.place.Span.{Span}
@@ -79,15 +81,15 @@ abbrev pub levels_of : Reader → List Level
 levels_of r = reverse r.levels.items
 
 -- the reader's state, if it stood at this place; and its state
-abbrev pub state_at : Reader → Place → State
-state_at r p = record { place = p; held = r.held.items; levels = levels_of r }
+abbrev pub cbor_state_at : Reader → Place → CborState
+cbor_state_at r p = record { place = p; held = r.held.items; levels = levels_of r }
 
-abbrev pub state_of : Reader → State
-state_of r = state_at r r.place
+abbrev pub cbor_state_of : Reader → CborState
+cbor_state_of r = cbor_state_at r r.place
 
 -- the events that a reader has handed on
-abbrev pub handed_on : Reader → List NodeEvent
-handed_on r = so_far (building_of r.builder)
+abbrev pub cbor_handed_on : Reader → List NodeEvent
+cbor_handed_on r = so_far (building_of r.builder)
 
 -- the innermost of what is open is a map
 abbrev pub InMap : List Level → Type 0
@@ -123,8 +125,8 @@ ArgumentAwaits TagHead ls awaits = awaits ≡ true
 ArgumentAwaits (Opaque b) ls awaits = awaits ≡ true
 
 -- with any end that may come, these bytes are a string of the kind
-abbrev pub Holds : StringKind → Utf8 → List ℕ → Type 0
-Holds kind place t = (u : List ℕ) → EndsAs kind place u → IsOf kind (t ++ u)
+abbrev pub CborHolds : StringKind → Utf8 → List ℕ → Type 0
+CborHolds kind place t = (u : List ℕ) → EndsAs kind place u → IsOf kind (t ++ u)
 
 -- the chunks before a chunk are of the kind
 abbrev pub ChunksHeld : Subject → List ℕ → Type 0
@@ -143,7 +145,7 @@ Keeps Item t ls awaits = awaits ≡ true
 Keeps Key t ls awaits = InMap ls × (awaits ≡ false)
 Keeps After t ls awaits = awaits ≡ goes_on (kinds_of ls)
 Keeps (Argument j k v) t ls awaits = ArgumentLives j k v × (v < bound k) × ArgumentAwaits j ls awaits × ChunksHeld j t
-Keeps (String kind span n place) t ls awaits = (utf8.owed place ≤ n) × StringAwaits kind ls awaits × Holds kind place t
+Keeps (String kind span n place) t ls awaits = (utf8.owed place ≤ n) × StringAwaits kind ls awaits × CborHolds kind place t
 Keeps (Chunks kind) t ls awaits = StringAwaits kind ls awaits × IsOf kind t
 
 -- behind an item no tag awaits its content
@@ -172,16 +174,16 @@ Begun (String kind span n place) ls = 0 < n
 Begun (Chunks kind) ls = Unit {0}
 
 -- what holds of a reader between two bytes
-pub record IsSound (r : Reader) : Type 0 where
+pub record IsSoundReader (r : Reader) : Type 0 where
   pub there : IsAt r r.place
   pub begun : Begun r.place (levels_of r)
 
 -- the events es were handed on; and from the place p the bytes v lead the reader on, and their events are handed on too
-pub record Goes (before : Reader) (es : List NodeEvent) (p : Place) (v : List ℕ) (behind : Reader) : Type 0 where
+pub record CborGoes (before : Reader) (es : List NodeEvent) (p : Place) (v : List ℕ) (behind : Reader) : Type 0 where
   pub out : List NodeEvent
-  pub leads : (w : Keys) (limit : ℕ) → most_levels ≤ limit → Leads w limit (state_at before p) v out (state_of behind)
-  pub taken : handed_on behind ≡ handed_on before ++ (es ++ out)
-  pub sound : IsSound behind
+  pub leads : (w : Keys) (limit : ℕ) → most_levels ≤ limit → CborLeads w limit (cbor_state_at before p) v out (cbor_state_of behind)
+  pub taken : cbor_handed_on behind ≡ cbor_handed_on before ++ (es ++ out)
+  pub sound : IsSoundReader behind
 
 -- a level stands round what comes
 pub record Enters (before : Reader) (level : Level) (behind : Reader) : Type 0 where
@@ -191,9 +193,9 @@ pub record Enters (before : Reader) (level : Level) (behind : Reader) : Type 0 w
   pub held : behind.held ≡ before.held
 
 -- a level has opened with the events es, and no item of it has come
-pub record Opens (before : Reader) (level : Level) (es : List NodeEvent) (behind : Reader) : Type 0 where
+pub record OpensLevel (before : Reader) (level : Level) (es : List NodeEvent) (behind : Reader) : Type 0 where
   pub levels : levels_of behind ≡ level ∷ levels_of before
-  pub taken : handed_on behind ≡ handed_on before ++ es
+  pub taken : cbor_handed_on behind ≡ cbor_handed_on before ++ es
   pub there : IsAt behind After
 
 -- the innermost of what is open
@@ -201,8 +203,8 @@ abbrev pub first_level : List Level → Option Level
 first_level [] = None
 first_level (l ∷ ls) = Some l
 
-abbrev pub IsFirst : Level → List Level → Type 0
-IsFirst l ls = first_level ls ≡ Some l
+abbrev pub IsFirstLevel : Level → List Level → Type 0
+IsFirstLevel l ls = first_level ls ≡ Some l
 
 -- the place is in a byte string, or in a text
 abbrev pub IsBytesPlace : Place → ℕ → Utf8 → Type 0
@@ -230,49 +232,50 @@ RunFits (String kind span n place) next run =
     (length run ≤ n) × (utf8.owed next ≤ n - length run) × ((u : List ℕ) → EndsAs kind place (run ++ u) ↔ EndsAs kind next u)
 RunFits (Chunks kind) next run = ⊥
 
--- a front of the bytes, of no more than n, but of some
-abbrev pub IsFront : List ℕ → List ℕ → ℕ → Type 0
-IsFront run bs n = (run ≡ take (length run) bs) × (length run ≤ length bs) × (length run ≤ n) × (0 < n → 0 < length bs → 0 < length run)
+-- a prefix of the bytes, of no more than n, but of some
+abbrev pub IsSomePrefix : List ℕ → List ℕ → ℕ → Type 0
+IsSomePrefix run bs n =
+    (run ≡ take (length run) bs) × (length run ≤ length bs) × (length run ≤ n) × (0 < n → 0 < length bs → 0 < length run)
 
 -- something completes an item from the state with this byte, at some limit
-abbrev pub GoesOn : Keys → State → ℕ → Type 0
-GoesOn w x c = (limit : ℕ) × (most_levels ≤ limit) × (s : List ℕ) × (es : List NodeEvent) × Rest w limit x (c ∷ s) es
+abbrev pub CborGoesOn : Keys → CborState → ℕ → Type 0
+CborGoesOn w x c = (limit : ℕ) × (most_levels ≤ limit) × (s : List ℕ) × (es : List NodeEvent) × CborRest w limit x (c ∷ s) es
 
 -- no item goes on with the byte: no key stands here, or no item at all begins with it
-pub record IsBadByte (x : State) (c : ℕ) : Type 0 where
-  pub stops : (limit : ℕ) → Stops plain limit x c
-  pub no_key : ((limit : ℕ) → Stops marked limit x mark) ⊎ (BeginsOther c → ⊥)
+pub record IsBadByte (x : CborState) (c : ℕ) : Type 0 where
+  pub stops : (limit : ℕ) → CborStops plain limit x c
+  pub no_key : ((limit : ℕ) → CborStops marked limit x mark) ⊎ (BeginsOther c → ⊥)
 
 -- a key stands here, and the byte begins another item
-pub record IsOtherKey (x : State) (c : ℕ) : Type 0 where
-  pub stops : (limit : ℕ) → Stops plain limit x c
-  pub key : GoesOn marked x mark
+pub record IsOtherKey (x : CborState) (c : ℕ) : Type 0 where
+  pub stops : (limit : ℕ) → CborStops plain limit x c
+  pub key : CborGoesOn marked x mark
   pub other : BeginsOther c
 
 -- the byte opens a level too many
-pub record OpensTooDeep (x : State) (c : ℕ) : Type 0 where
-  pub stops : Stops plain most_levels x c
-  pub goes_on : GoesOn plain x c
+pub record OpensTooDeep (x : CborState) (c : ℕ) : Type 0 where
+  pub stops : CborStops plain most_levels x c
+  pub goes_on : CborGoesOn plain x c
 
 -- what a byte does to the reader that stands at a place
-abbrev pub TakesByte : Reader → Place → ℕ → Reader → Result (Unit {0}) SyntaxRefusal → Type 0
-TakesByte before p c behind (Ok x) = Goes before [] p (c ∷ []) behind
-TakesByte before p c behind (Err NoMemory) = Unit {0}
-TakesByte before p c behind (Err (Bad at)) = (at ≡ 0) × IsBadByte (state_at before p) c
-TakesByte before p c behind (Err Ended) = ⊥
-TakesByte before p c behind (Err (TooDeep at)) = (at ≡ 0) × OpensTooDeep (state_at before p) c
-TakesByte before p c behind (Err (KeyKind at)) = (at ≡ 0) × IsOtherKey (state_at before p) c
+abbrev pub CborTakesByte : Reader → Place → ℕ → Reader → Result (Unit {0}) SyntaxRefusal → Type 0
+CborTakesByte before p c behind (Ok x) = CborGoes before [] p (c ∷ []) behind
+CborTakesByte before p c behind (Err NoMemory) = Unit {0}
+CborTakesByte before p c behind (Err (Bad at)) = (at ≡ 0) × IsBadByte (cbor_state_at before p) c
+CborTakesByte before p c behind (Err Ended) = ⊥
+CborTakesByte before p c behind (Err (TooDeep at)) = (at ≡ 0) × OpensTooDeep (cbor_state_at before p) c
+CborTakesByte before p c behind (Err (KeyKind at)) = (at ≡ 0) × IsOtherKey (cbor_state_at before p) c
 
--- what a reader that stands at a place makes of the front of some bytes: it takes so many of them, or refuses the first
-abbrev pub TakesFrontAt : Reader → Place → List ℕ → Reader → Result ℕ SyntaxRefusal → Type 0
-TakesFrontAt before p bs behind (Ok n) = (0 < n) × (n ≤ length bs) × Goes before [] p (take n bs) behind
-TakesFrontAt before p bs behind (Err refusal) = TakesByte before p (slice_index bs 0) behind (Err refusal)
+-- what a reader that stands at a place makes of a prefix of some bytes: it takes so many of them, or refuses the first
+abbrev pub CborTakesPrefixAt : Reader → Place → List ℕ → Reader → Result ℕ SyntaxRefusal → Type 0
+CborTakesPrefixAt before p bs behind (Ok n) = (0 < n) × (n ≤ length bs) × CborGoes before [] p (take n bs) behind
+CborTakesPrefixAt before p bs behind (Err refusal) = CborTakesByte before p (slice_index bs 0) behind (Err refusal)
 
-abbrev pub TakesFront : Reader → List ℕ → Reader → Result ℕ SyntaxRefusal → Type 0
-TakesFront before bs behind result = TakesFrontAt before before.place bs behind result
+abbrev pub CborTakesPrefix : Reader → List ℕ → Reader → Result ℕ SyntaxRefusal → Type 0
+CborTakesPrefix before bs behind result = CborTakesPrefixAt before before.place bs behind result
 
 -- a refusal of the byte c, at which the reader stands
-abbrev pub RefusesAt : State → ℕ → SyntaxRefusal → Type 0
+abbrev pub RefusesAt : CborState → ℕ → SyntaxRefusal → Type 0
 RefusesAt x c NoMemory = Unit {0}
 RefusesAt x c (Bad at) = IsBadByte x c
 RefusesAt x c Ended = ⊥
@@ -280,40 +283,25 @@ RefusesAt x c (TooDeep at) = OpensTooDeep x c
 RefusesAt x c (KeyKind at) = IsOtherKey x c
 
 -- the refusal's place is this one
-abbrev pub IsPlace : ℕ → SyntaxRefusal → Type 0
-IsPlace at (Bad n) = n ≡ at
-IsPlace at Ended = ⊥
-IsPlace at (TooDeep n) = n ≡ at
-IsPlace at (KeyKind n) = n ≡ at
-IsPlace at NoMemory = Unit {0}
+abbrev pub IsPlaceOf : ℕ → SyntaxRefusal → Type 0
+IsPlaceOf at (Bad n) = n ≡ at
+IsPlaceOf at Ended = ⊥
+IsPlaceOf at (TooDeep n) = n ≡ at
+IsPlaceOf at (KeyKind n) = n ≡ at
+IsPlaceOf at NoMemory = Unit {0}
 
 -- what it makes of all of them
-abbrev pub TakesAll : Reader → List ℕ → Reader → Result (Unit {0}) SyntaxRefusal → Type 0
-TakesAll before bs behind (Ok x) = Goes before [] before.place bs behind
-TakesAll before bs behind (Err refusal) =
-    (at : ℕ) × (q : Reader) × (at < length bs) × Goes before [] before.place (take at bs) q × RefusesAt (state_of q) (slice_index bs at) refusal × IsPlace at refusal
-
--- the refusal, its place counted from so many bytes further on
-abbrev pub moved_by : ℕ → SyntaxRefusal → SyntaxRefusal
-moved_by n (Bad at) = Bad (n + at)
-moved_by n Ended = Ended
-moved_by n (TooDeep at) = TooDeep (n + at)
-moved_by n (KeyKind at) = KeyKind (n + at)
-moved_by n NoMemory = NoMemory
-
--- the place of a refusal is within so many bytes
-abbrev pub IsWithin : ℕ → SyntaxRefusal → Type 0
-IsWithin n (Bad at) = at < n
-IsWithin n Ended = Unit {0}
-IsWithin n (TooDeep at) = at < n
-IsWithin n (KeyKind at) = at < n
-IsWithin n NoMemory = Unit {0}
+abbrev pub CborTakesAll : Reader → List ℕ → Reader → Result (Unit {0}) SyntaxRefusal → Type 0
+CborTakesAll before bs behind (Ok x) = CborGoes before [] before.place bs behind
+CborTakesAll before bs behind (Err refusal) =
+    (at : ℕ) × (q : Reader) × (at < length bs) × CborGoes before [] before.place (take at bs) q
+    × RefusesAt (cbor_state_of q) (slice_index bs at) refusal × IsPlaceOf at refusal
 
 -- the bytes end where the reader stands
-abbrev pub Finishes : Reader → Result Tree SyntaxRefusal → Type 0
-Finishes r (Ok tree) = (r.place ≡ After) × (levels_of r ≡ []) × (handed_on r ≡ events (node_of tree) [])
-Finishes r (Err Ended) = (w : Keys) (limit : ℕ) (es : List NodeEvent) → Rest w limit (state_of r) [] es → ⊥
-Finishes r (Err NoMemory) = ⊥
-Finishes r (Err (Bad at)) = ⊥
-Finishes r (Err (TooDeep at)) = ⊥
-Finishes r (Err (KeyKind at)) = ⊥
+abbrev pub CborFinishes : Reader → Result Tree SyntaxRefusal → Type 0
+CborFinishes r (Ok tree) = (r.place ≡ After) × (levels_of r ≡ []) × (cbor_handed_on r ≡ events (node_of tree) [])
+CborFinishes r (Err Ended) = (w : Keys) (limit : ℕ) (es : List NodeEvent) → CborRest w limit (cbor_state_of r) [] es → ⊥
+CborFinishes r (Err NoMemory) = ⊥
+CborFinishes r (Err (Bad at)) = ⊥
+CborFinishes r (Err (TooDeep at)) = ⊥
+CborFinishes r (Err (KeyKind at)) = ⊥
