@@ -1,5 +1,6 @@
 -- What the class of a byte says of it.
-use Rattle.std.proofs.Common.{◌≡◌, ℕ, ◌+◌, ◌-◌, ◌≤◌, ◌<◌, Bool, true, false, cond, List, [], ◌∷◌, length, get_or, refl, sym, ap, subst, ◌∙◌, arith, eqb, nat_eq, ◌&&◌}
+use Rattle.std.proofs.Common.{◌≡◌, ℕ, ◌+◌, ◌-◌, ◌≤◌, ◌<◌, Bool, true, false, cond, List, [], ◌∷◌, length, get_or, refl, sym, ap, subst}
+use Rattle.std.proofs.Common.{◌∙◌, arith, eqb, nat_eq, ◌&&◌}
 use Rattle.std.specs.Prelude.{IsUtf8, codes}
 use Rattle.std.specs.List.{prefix_len, starts_with}
 use Rattle.std.specs.Str.{IsCharBoundary}
@@ -8,7 +9,7 @@ use Rattle.std.proofs.lemmas.List.Sums.{prefix_len-le-length, prefix_len_passes}
 use Rattle.std.proofs.lemmas.Bool.Decides.{nat_tests}
 use Rattle.sm_lex.specs.declared.byte.First.{First}
 use Rattle.sm_lex.specs.declared.byte.First.TheVariants.{White, Slash, Word, Number, Quote, Mark, Stray}
-use Rattle.sm_lex.specs.Bytes.{first_of, Begins, is_white, is_letter, is_number_start, is_mark, is_word_byte, opens}
+use Rattle.sm_lex.specs.Bytes.{first_of, FirstIs, is_idl_white, begins_word, begins_number, begins_mark, is_word_byte, opens_with}
 use Rattle.sm_lex.specs.Space.{EndsSpace}
 
 -- the class by the tests in their order
@@ -42,24 +43,27 @@ tests_mark false false false false true m e = absurd cc
 tests_mark false false false false false true e = refl
 tests_mark false false false false false false e = absurd cc
 
-pub word_is : (c : ℕ) → first_of c ≡ Word → is_letter c ≡ true
-word_is c e = tests_word (is_white c) (eqb c 47) (is_letter c) (is_number_start c) (eqb c 34) (is_mark c) e
+pub word_is : (c : ℕ) → first_of c ≡ Word → begins_word c ≡ true
+word_is c e = tests_word (is_idl_white c) (eqb c 47) (begins_word c) (begins_number c) (eqb c 34) (begins_mark c) e
 
 pub quote_is : (c : ℕ) → first_of c ≡ Quote → c ≡ 34
-quote_is c e = let t : eqb c 34 ≡ true = tests_quote (is_white c) (eqb c 47) (is_letter c) (is_number_start c) (eqb c 34) (is_mark c) e in grind (arith, nat_tests)
+quote_is c e = let t : eqb c 34 ≡ true = tests_quote (is_idl_white c) (eqb c 47) (begins_word c) (begins_number c) (eqb c 34)
+    (begins_mark c) e in grind (arith, nat_tests)
 
 pub mark_is_ascii : (c : ℕ) → first_of c ≡ Mark → c < 128
-mark_is_ascii c e = let t : is_mark c ≡ true = tests_mark (is_white c) (eqb c 47) (is_letter c) (is_number_start c) (eqb c 34) (is_mark c) e in grind (arith, nat_tests)
+mark_is_ascii c e = let t : begins_mark c ≡ true = tests_mark (is_idl_white c) (eqb c 47) (begins_word c) (begins_number c) (eqb c 34)
+    (begins_mark c) e in grind (arith, nat_tests)
 
 pub word_bytes_are_ascii : (c : ℕ) → is_word_byte c ≡ true → c < 128
 word_bytes_are_ascii c e = grind (arith, nat_tests)
 
 -- a word's first byte goes on with a word
-pub letter_goes_on : (c : ℕ) → is_letter c ≡ true → is_word_byte c ≡ true
+pub letter_goes_on : (c : ℕ) → begins_word c ≡ true → is_word_byte c ≡ true
 letter_goes_on c e = grind (arith, nat_tests)
 
 -- a run of ASCII bytes ends between characters
-pub boundary_behind_run : (p : ℕ → Bool) (s : List ℕ) → ((c : ℕ) → p c ≡ true → c < 128) → IsUtf8 s → 0 < prefix_len p s → IsCharBoundary s (prefix_len p s)
+pub boundary_behind_run : (p : ℕ → Bool) (s : List ℕ) → ((c : ℕ) → p c ≡ true → c < 128) → IsUtf8 s → 0 < prefix_len p s
+    → IsCharBoundary s (prefix_len p s)
 boundary_behind_run p s small u some =
     let n = prefix_len p s in
     let within : n ≤ length s = prefix_len-le-length p s in
@@ -67,9 +71,10 @@ boundary_behind_run p s small u some =
     let same : n - 1 + 1 ≡ n = omega arith in
     subst (IsCharBoundary s) same (IsCharBoundary-after_ascii s (n - 1) u (omega arith) low)
 
-pub word_some : (s : List ℕ) → Begins Word s → 0 < prefix_len is_word_byte s
+pub word_some : (s : List ℕ) → FirstIs Word s → 0 < prefix_len is_word_byte s
 word_some [] h = absurd h
-word_some (c ∷ s) h = let one : prefix_len is_word_byte (c ∷ s) ≡ 1 + prefix_len is_word_byte s = ap (λ b. cond b (1 + prefix_len is_word_byte s) 0) (letter_goes_on c (word_is c h)) in omega arith
+word_some (c ∷ s) h = let one : prefix_len is_word_byte (c ∷ s) ≡ 1 + prefix_len is_word_byte s = ap
+    (λ b. cond b (1 + prefix_len is_word_byte s) 0) (letter_goes_on c (word_is c h)) in omega arith
 
 tests_other : (w s l n q m : Bool) → (by_tests w s l n q m ≡ White → ⊥) → (by_tests w s l n q m ≡ Slash → ⊥) → (w ≡ false) × (s ≡ false)
 tests_other true s l n q m not_white not_slash = absurd (not_white refl)
@@ -80,14 +85,15 @@ tests_slash : (w s l n q m : Bool) → by_tests w s l n q m ≡ Slash → w ≡ 
 tests_slash true s l n q m e = absurd cc
 tests_slash false s l n q m e = refl
 
--- where a byte of another class stands, white space ends
-pub class_ends : (f : First) (s : List ℕ) → Begins f s → (f ≡ White → ⊥) → (f ≡ Slash → ⊥) → EndsSpace s
+-- where a byte of another class stands, whitespace ends
+pub class_ends : (f : First) (s : List ℕ) → FirstIs f s → (f ≡ White → ⊥) → (f ≡ Slash → ⊥) → EndsSpace s
 class_ends f [] h not_white not_slash = tt
 class_ends f (c ∷ s) h not_white not_slash =
-    let other = tests_other (is_white c) (eqb c 47) (is_letter c) (is_number_start c) (eqb c 34) (is_mark c) (λ e. not_white (sym h ∙ e)) (λ e. not_slash (sym h ∙ e)) in
+    let other = tests_other (is_idl_white c) (eqb c 47) (begins_word c) (begins_number c) (eqb c 34) (begins_mark c)
+    (λ e. not_white (sym h ∙ e)) (λ e. not_slash (sym h ∙ e)) in
     let no_slash : nat_eq 47 c ≡ false = grind (arith, nat_tests, other.1) in
     (other.0, ap (λ b. b && starts_with nat_eq s (47 ∷ [])) no_slash)
 
-pub slash_ends : (s : List ℕ) → Begins Slash s → opens s (codes "//") ≡ false → EndsSpace s
+pub slash_ends : (s : List ℕ) → FirstIs Slash s → opens_with s (codes "//") ≡ false → EndsSpace s
 slash_ends [] h e = tt
-slash_ends (c ∷ s) h e = (tests_slash (is_white c) (eqb c 47) (is_letter c) (is_number_start c) (eqb c 34) (is_mark c) h, e)
+slash_ends (c ∷ s) h e = (tests_slash (is_idl_white c) (eqb c 47) (begins_word c) (begins_number c) (eqb c 34) (begins_mark c) h, e)

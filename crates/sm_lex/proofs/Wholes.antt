@@ -1,6 +1,7 @@
 -- Each token is the text between its places, which are cuts between characters, and has its kind's shape.
-use Rattle.std.proofs.Common.{◌≡◌, ℕ, zero, suc, ◌+◌, ◌-◌, ◌≤◌, ◌<◌, List, [], ◌∷◌, length, get_or, take, drop, refl, sym, ap, subst, ◌∙◌, arith, length-take-le, length-drop}
-use Rattle.std.specs.Prelude.{Option, Some, None, IsUtf8, All, map, true, false}
+use Rattle.std.proofs.Common.{◌≡◌, ℕ, zero, suc, ◌+◌, ◌-◌, ◌≤◌, ◌<◌, List, [], ◌∷◌, length, get_or, take, drop, refl, sym, ap, subst, ◌∙◌}
+use Rattle.std.proofs.Common.{arith, length-take-le, length-drop}
+use Rattle.std.specs.Prelude.{Option, Some, None, IsOk, IsUtf8, All, map, true, false}
 use Rattle.std.specs.Option.{option_map}
 use Rattle.std.specs.Str.{IsCharBoundary}
 use Rattle.std.proofs.lemmas.List.{get_or-take, get_or-drop, drop-drop}
@@ -10,12 +11,13 @@ use Rattle.sm_lex.specs.declared.token.TokenKind.{TokenKind}
 use Rattle.sm_lex.specs.declared.token.Token.{Token}
 use Rattle.sm_lex.specs.declared.token.TokenKind.TheVariants.{Word, Number, Text, Block, Mark}
 use Rattle.sm_lex.specs.declared.byte.First.TheVariants.{Quote as a_quote}
-use Rattle.sm_lex.specs.Bytes.{Begins}
+use Rattle.sm_lex.specs.Bytes.{FirstIs}
 use Rattle.sm_tree.specs.Numbers.{IsNumber}
 use Rattle.sm_lex.specs.Lines.{line_end_len}
-use Rattle.sm_lex.specs.Values.{opener_len}
-use Rattle.sm_lex.specs.Tokens.{first_end, one_quote, three_quotes, TokenAt, Lexeme, lexeme_of, IsNext, Leads}
-use Rattle.sm_lex.specs.Meanings.{IsQuoted, ShapedAs, IsWhole}
+use Rattle.sm_lex.specs.Values.{opener_len, string_value, block_value}
+use Rattle.sm_lex.specs.Tokens.{first_end, one_quote, three_quotes, TokenAt, Lexeme, lexeme_of, IsNextToken, TokensLead}
+use Rattle.sm_lex.specs.Shapes.{IsQuoted, IsStringText, IsBlockText, HasShape}
+use Rattle.sm_lex.specs.Answers.{IsWhole}
 use Rattle.sm_lex.proofs.Classes.{quote_is}
 use Rattle.sm_lex.proofs.Ends.{three_are}
 use Rattle.sm_lex.proofs.Measured.{found_word, found_number, found_mark}
@@ -28,7 +30,7 @@ counted_on : (k n : ℕ) (o : Option ℕ) → option_map (λ m. m + k) o ≡ Som
 counted_on k n None e = absurd (let wrong : None ≡ Some n = e in cc)
 counted_on k n (Some m) e = (m, refl, cc)
 
-first_quote : (s : List ℕ) → Begins a_quote s → get_or s 0 0 ≡ 34
+first_quote : (s : List ℕ) → FirstIs a_quote s → get_or s 0 0 ≡ 34
 first_quote [] h = absurd h
 first_quote (c ∷ s) h = quote_is c h
 
@@ -38,7 +40,8 @@ string_shape s behind inside m it =
     let len : length (take (m + 2) s) ≡ m + 2 = length-take-le (m + 2) s within in
     let place : length (take (m + 2) s) - 1 ≡ m + 1 = omega arith in record {
       long = omega arith;
-      opens = λ i lt. let zeroth : 0 ≡ i = omega arith in subst (λ k. get_or (take (m + 2) s) k 0 ≡ 34) zeroth (get_or-take (m + 2) s 0 0 (omega arith) ∙ first_quote s it.opens.first);
+      opens = λ i lt. let zeroth : 0 ≡ i = omega arith in subst (λ k. get_or (take (m + 2) s) k 0 ≡ 34) zeroth
+          (get_or-take (m + 2) s 0 0 (omega arith) ∙ first_quote s it.opens.first);
       closes = ap (λ k. get_or (take (m + 2) s) k 0) place ∙ get_or-take (m + 2) s (m + 1) 0 (omega arith) ∙ string_quote it;
     }
 
@@ -56,28 +59,53 @@ block_shape s behind inside m e it =
     let place : length (take (m + 6) s) - 3 ≡ 3 + m = omega arith in record {
       long = omega (arith, opener_is it);
       opens = λ i lt. get_or-take (m + 6) s i 0 (omega arith) ∙ three_first s i it.opens.three lt;
-      closes = ap (λ k. get_or (take (m + 6) s) k 0) place ∙ get_or-take (m + 6) s (3 + m) 0 (omega arith) ∙ sym (get_or-drop 3 s m 0) ∙ ap (λ t. get_or t m 0) (sym it.behind_is) ∙ (closing it).1;
+      closes = ap (λ k. get_or (take (m + 6) s) k 0) place ∙ get_or-take (m + 6) s (3 + m) 0 (omega arith) ∙ sym (get_or-drop 3 s m 0)
+          ∙ ap (λ t. get_or t m 0) (sym it.behind_is) ∙ (closing it).1;
     }
 
--- what stands at the front of s ends between characters, and has its shape
-cut_and_shape : (k : TokenKind) (start n : ℕ) (s : List ℕ) (x : Lexeme) → IsUtf8 s → TokenAt k start s n → x.text ≡ take n s → x.end ≡ x.start + length x.text → IsCharBoundary s n × ShapedAs k x
-cut_and_shape Word start n s x u (first, e) text span = ((found_word start n s u first e).2, span)
-cut_and_shape Number start n s x u (first, longest, number) text span = ((found_number start n s u first longest number).2, (span, subst IsNumber (sym text) number))
-cut_and_shape Mark start n s x u (first, e) text span = ((found_mark start n s u first e).2, span)
-cut_and_shape Text start n s x u (opens, e, fine) text span =
+-- what stands at the start of s ends between characters, and is what its kind says
+pub cut_and_shape : (k : TokenKind) (start n : ℕ) (s t : List ℕ) → IsUtf8 s → TokenAt k start s n → t ≡ take n s
+    → IsCharBoundary s n × HasShape k start t
+cut_and_shape Word start n s t u (first, e) text = ((found_word start n s u first e).2, tt)
+cut_and_shape Number start n s t u (first, longest, number)
+    text = ((found_number start n s u first longest number).2, subst IsNumber (sym text) number)
+cut_and_shape Mark start n s t u (first, e) text = ((found_mark start n s u first e).2, tt)
+cut_and_shape Text start n s t u (opens, e, fine) text =
     let h = counted_on 2 n (first_end one_quote false (drop 1 s)) e in
-    let it : IsString s (drop 1 s) (take h.0 (drop 1 s)) h.0 = record { opens = opens; behind_is = refl; closes = sym h.1; inside_is = refl } in (
+    let it : IsString s (drop 1 s) (take h.0 (drop 1 s)) h.0 = record
+    { opens = opens; behind_is = refl; closes = sym h.1; inside_is = refl } in
+    let shape = string_shape s (drop 1 s) (take h.0 (drop 1 s)) h.0 it in (
       subst (IsCharBoundary s) h.2 (string_ends it u),
-      record { span = span; quoted = subst (IsQuoted 1 1) (ap (λ k. take k s) h.2 ∙ sym text) (string_shape s (drop 1 s) (take h.0 (drop 1 s)) h.0 it) },
+      record {
+        quoted = subst (IsQuoted 1 1) (ap (λ k. take k s) h.2 ∙ sym text) shape;
+        value = subst (λ x. IsOk (string_value start x)) (sym text) fine;
+      },
     )
-cut_and_shape Block start n s x u (opens, e, fine) text span =
+cut_and_shape Block start n s t u (opens, e, fine) text =
     let h = counted_on 6 n (first_end three_quotes false (drop 3 s)) e in
-    let it : IsBlock s (drop 3 s) (take h.0 (drop 3 s)) h.0 (line_end_len (drop 3 s)) = record { opens = opens; behind_is = refl; closes = sym h.1; inside_is = refl; line_end_is = refl } in (
+    let it : IsBlock s (drop 3 s) (take h.0 (drop 3 s)) h.0 (line_end_len (drop 3 s)) =
+    record { opens = opens; behind_is = refl; closes = sym h.1; inside_is = refl; line_end_is = refl }
+    in
+    let shape = block_shape s (drop 3 s) (take h.0 (drop 3 s)) h.0 (line_end_len (drop 3 s)) it in (
       subst (IsCharBoundary s) h.2 (block_ends it u),
-      record { span = span; quoted = subst (λ t. IsQuoted (opener_len t) 3 t) (ap (λ k. take k s) h.2 ∙ sym text) (block_shape s (drop 3 s) (take h.0 (drop 3 s)) h.0 (line_end_len (drop 3 s)) it) },
+      record {
+        quoted = subst (λ x. IsQuoted (opener_len x) 3 x) (ap (λ k. take k s) h.2 ∙ sym text) shape;
+        value = subst (λ x. IsOk (block_value start x)) (sym text) fine;
+      },
     )
 
-whole_next : (text : List ℕ) (at : ℕ) (x : Lexeme) → IsUtf8 (drop at text) → IsNext text at x → IsWhole text x × IsUtf8 (drop x.end text)
+-- what the fields of a token promise, by its kind
+pub number_shape : (k : TokenKind) (start : ℕ) (t : List ℕ) → HasShape k start t → k ≡ Number → IsNumber t
+number_shape k start t h e = subst (λ j. HasShape j start t) e h
+
+pub text_shape : (k : TokenKind) (start : ℕ) (t : List ℕ) → HasShape k start t → k ≡ Text → IsStringText start t
+text_shape k start t h e = subst (λ j. HasShape j start t) e h
+
+pub text_block_shape : (k : TokenKind) (start : ℕ) (t : List ℕ) → HasShape k start t → k ≡ Block → IsBlockText start t
+text_block_shape k start t h e = subst (λ j. HasShape j start t) e h
+
+whole_next : (text : List ℕ) (at : ℕ) (x : Lexeme) → IsUtf8 (drop at text) → IsNextToken text at x
+    → IsWhole text x × IsUtf8 (drop x.end text)
 whole_next text at x u h =
     let s = drop x.start text in
     let some = h.some_bytes in
@@ -87,11 +115,13 @@ whole_next text at x u h =
     let few : n ≤ length s = omega (arith, length-drop x.start text) in
     let len : length x.text ≡ n = ap length h.slice ∙ length-take-le n s few in
     let span : x.end ≡ x.start + length x.text = omega arith in
-    let found = cut_and_shape x.kind x.start n s x v h.token h.slice span in
+    let found = cut_and_shape x.kind x.start n s x.text v h.token h.slice in
     let order : x.start + n ≡ x.end = omega arith in
-    let behind : IsUtf8 (drop x.end text) = subst IsUtf8 (drop-drop n x.start text ∙ ap (λ k. drop k text) order) (IsUtf8-drop s n v found.0) in (
+    let behind : IsUtf8 (drop x.end text) = subst IsUtf8 (drop-drop n x.start text
+    ∙ ap (λ k. drop k text) order) (IsUtf8-drop s n v found.0) in (
       record {
         slice = h.slice;
+        span = span;
         start = IsCharBoundary-from_drop text x.start (omega arith) v;
         end = IsCharBoundary-from_drop text x.end inside behind;
         shape = found.1;
@@ -99,14 +129,8 @@ whole_next text at x u h =
       behind,
     )
 
-pub all_whole : (text : List ℕ) (at to : ℕ) (xs : List Lexeme) → IsUtf8 (drop at text) → Leads text at xs to → All (IsWhole text) xs
+pub all_whole : (text : List ℕ) (at to : ℕ) (xs : List Lexeme) → IsUtf8 (drop at text) → TokensLead text at xs to → All (IsWhole text) xs
 all_whole text at to [] u h = All-nil (IsWhole text)
 all_whole text at to (x ∷ xs) u (first, more) =
     let here = whole_next text at x u first in
     All-cons (IsWhole text) x xs here.0 (all_whole text x.end to xs here.1 more)
-
--- a token in the list of those that `tokens` gives: its value may be asked for
-pub shaped_at : (text : List ℕ) (ts : List Token) (d : Token) (i : ℕ) → All (IsWhole text) (map lexeme_of ts) → i < length ts → ShapedAs (get_or ts i d).kind (lexeme_of (get_or ts i d))
-shaped_at text [] d i h lt = absurd (omega arith)
-shaped_at text (u ∷ ts) d zero h lt = let here : IsWhole text (lexeme_of u) = All-head (IsWhole text) (lexeme_of u) (map lexeme_of ts) h in here.shape
-shaped_at text (u ∷ ts) d (suc i) h lt = shaped_at text ts d i (All-tail (IsWhole text) (lexeme_of u) (map lexeme_of ts) h) (omega arith)

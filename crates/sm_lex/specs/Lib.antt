@@ -3,8 +3,8 @@ pub mod Space
 pub mod Escapes
 pub mod Lines
 pub mod Values
+pub mod Shapes
 pub mod Tokens
-pub mod Meanings
-pub mod Steps
 pub mod Answers
 pub mod Laws
+pub mod steps

@@ -1,11 +1,13 @@
-// Classes of bytes (Smithy 2.0, "Smithy IDL", "Grammar"). The lexer stands on it.
+// Classes of bytes (Smithy 2.0, "Smithy IDL", "Grammar"), and those whose runs are measured.
 ghost use Rattle.std.specs.Prelude.{◌≡◌};
-ghost use Rattle.sm_lex.specs.Bytes.{first_of, is_white, is_word_byte};
+ghost use Rattle.sm_lex.specs.Bytes.{first_of, is_idl_white};
+
+use sm_bytes::ByteClass;
 
 /// What a byte begins where a token may stand.
 #[derive(Debug, Clone, Copy, PartialEq, Eq, Drop)]
 pub enum First {
-    /// White space: a space, a tab, CR, LF or a comma.
+    /// Whitespace: a space, a tab, CR, LF or a comma.
     White,
     /// `/`, which begins a comment where another one follows.
     Slash,
@@ -36,16 +38,82 @@ pub fn first_of(byte: u8) -> First
     }
 }
 
-/// Whether the byte is white space.
-pub fn is_white(byte: u8) -> bool
-    ensures { result ≡ is_white byte }
+/// Whether the byte is whitespace.
+pub fn is_idl_white(byte: u8) -> bool
+    ensures { result ≡ is_idl_white byte }
 {
     matches!(byte, b' ' | b'\t' | b'\r' | b'\n' | b',')
 }
 
-/// Whether a word goes on with the byte.
-pub fn is_word_byte(byte: u8) -> bool
-    ensures { result ≡ is_word_byte byte }
-{
-    matches!(byte, b'a'..=b'z' | b'A'..=b'Z' | b'_' | b'0'..=b'9' | b'.' | b'#' | b'$')
+/// The bytes with which a word goes on.
+pub struct WordBytes;
+
+impl ByteClass for WordBytes {
+    ghost use Rattle.sm_lex.specs.Bytes.{is_word_byte};
+
+    ghost holds = { is_word_byte };
+
+    #[inline(always)]
+    fn has(byte: u8) -> bool {
+        matches!(byte, b'a'..=b'z' | b'A'..=b'Z' | b'_' | b'0'..=b'9' | b'.' | b'#' | b'$')
+    }
+}
+
+/// The bytes with which a comment goes on: all but LF.
+pub struct CommentBytes;
+
+impl ByteClass for CommentBytes {
+    ghost use Rattle.std.specs.Prelude.{not};
+    ghost use Rattle.sm_lex.specs.Space.{is_line_feed};
+
+    ghost holds = { λ c. not (is_line_feed c) };
+
+    #[inline(always)]
+    fn has(byte: u8) -> bool {
+        byte != b'\n'
+    }
+}
+
+/// The bytes with which a line goes on: all but LF and CR.
+pub struct LineBytes;
+
+impl ByteClass for LineBytes {
+    ghost use Rattle.std.specs.Prelude.{not};
+    ghost use Rattle.sm_lex.specs.Lines.{is_line_end};
+
+    ghost holds = { λ c. not (is_line_end c) };
+
+    #[inline(always)]
+    fn has(byte: u8) -> bool {
+        byte != b'\n' && byte != b'\r'
+    }
+}
+
+/// The bytes of a line that stand for themselves: all but a backslash.
+pub struct PlainBytes;
+
+impl ByteClass for PlainBytes {
+    ghost use Rattle.std.specs.Prelude.{not};
+    ghost use Rattle.sm_lex.specs.Lines.{is_backslash};
+
+    ghost holds = { λ c. not (is_backslash c) };
+
+    #[inline(always)]
+    fn has(byte: u8) -> bool {
+        byte != b'\\'
+    }
+}
+
+/// The space alone.
+pub struct Spaces;
+
+impl ByteClass for Spaces {
+    ghost use Rattle.sm_lex.specs.Lines.{is_space};
+
+    ghost holds = { is_space };
+
+    #[inline(always)]
+    fn has(byte: u8) -> bool {
+        byte == b' '
+    }
 }

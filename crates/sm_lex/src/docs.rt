@@ -1,10 +1,9 @@
-// The text of documentation comments (Smithy 2.0, "Smithy IDL", "Documentation comment"). The reader of
-// models stands on it.
+// The text of documentation comments (Smithy 2.0, "Smithy IDL", "Documentation comment").
 ghost use Rattle.std.specs.Prelude.{◌≡◌, IfOk, [], ◌∷◌, string_bytes};
 ghost use Rattle.std.specs.Option.{option_map, option_copied, option_to_list};
-ghost use Rattle.sm_lex.specs.Space.{joined, without_space};
-ghost use Rattle.sm_lex.specs.Steps.{doc_of};
-ghost use Rattle.sm_lex.specs.Meanings.{HasDocs};
+ghost use Rattle.sm_lex.specs.Space.{docs_joined, without_space};
+ghost use Rattle.sm_lex.specs.steps.LexSteps.{doc_of};
+ghost use Rattle.sm_lex.specs.Answers.{HasDocs};
 
 use crate::space::space_part;
 use sm_tree::NoMemory;
@@ -12,7 +11,7 @@ use std::alloc::Global;
 
 /// The documentation so far, with one more line.
 fn with_line(alloc: Global, docs: Option<String>, line: &str) -> Result<Option<String>, NoMemory>
-    ensures { IfOk result (λ all. option_map string_bytes all ≡ joined (option_map string_bytes docs) (line.now ∷ [])) }
+    ensures { IfOk result (λ all. option_map string_bytes all ≡ docs_joined (option_map string_bytes docs) (line.now ∷ [])) }
 {
     match docs {
         None => {
@@ -38,7 +37,7 @@ fn without_space(text: &str) -> &str
     }
 }
 
-/// The text of a piece of white space that is a documentation comment.
+/// The text of a piece of whitespace that is a documentation comment.
 fn doc_line(piece: &str) -> Option<&str>
     ensures { option_copied result ≡ doc_of piece.now }
 {
@@ -48,9 +47,9 @@ fn doc_line(piece: &str) -> Option<&str>
     }
 }
 
-/// The documentation so far, with the text of one more piece of white space.
+/// The documentation so far, with the text of one more piece of whitespace.
 fn with_piece(alloc: Global, docs: Option<String>, piece: &str) -> Result<Option<String>, NoMemory>
-    ensures { IfOk result (λ all. option_map string_bytes all ≡ joined (option_map string_bytes docs) (option_to_list (doc_of piece.now))) }
+    ensures { IfOk result (λ all. option_map string_bytes all ≡ docs_joined (option_map string_bytes docs) (option_to_list (doc_of piece.now))) }
 {
     match doc_line(piece) {
         Some(line) => with_line(alloc, docs, line),
@@ -58,8 +57,8 @@ fn with_piece(alloc: Global, docs: Option<String>, piece: &str) -> Result<Option
     }
 }
 
-/// The documentation comments in the white space at the front of a text: their texts joined with LF, or `None`
-/// where there are none. The white space before a token begins behind the token before it.
+/// What the documentation comments before the first token of a text say: their texts joined with LF, or `None` where there are
+/// none. For those before another token, pass the text from the end of the token before it.
 ///
 /// # Errors
 ///

@@ -1,9 +1,10 @@
 // Escapes in strings and text blocks (Smithy 2.0, "Smithy IDL", "String values"; RFC 8259, section 7): the
-// character that stands behind a backslash. The reader of insides stands on it.
+// character that stands behind a backslash.
 ghost use Rattle.std.specs.Prelude.{◌≡◌, ◌<◌, ◌≤◌, ◌+◌, ◌-◌, IfSome, IsSome, drop, length, slice_index};
-ghost use Rattle.sm_tree.specs.Escapes.{short_escape, hex_value};
-ghost use Rattle.sm_tree.specs.Escapes.{IsHigh};
+ghost use Rattle.sm_bytes.specs.Escapes.{IsHigh};
 ghost use Rattle.sm_lex.specs.Escapes.{code_unit, pair, unit, escape};
+
+use sm_bytes::{hex_value, short_escape};
 
 /// A character, and how many bytes spell it behind the backslash.
 #[derive(Debug, Clone, Copy, PartialEq, Eq, Drop)]
@@ -14,39 +15,7 @@ pub struct Escape {
     pub count: usize,
 }
 
-/// The character that a letter stands for behind a backslash.
-fn short_escape(byte: u8) -> Option<char>
-    ensures value { result ≡ short_escape byte }
-    ensures ascii { IsSome result → byte < 128 }
-{
-    match byte {
-        b'"' => Some('"'),
-        b'\\' => Some('\\'),
-        b'/' => Some('/'),
-        b'b' => Some('\u{8}'),
-        b'f' => Some('\u{c}'),
-        b'n' => Some('\n'),
-        b'r' => Some('\r'),
-        b't' => Some('\t'),
-        _ => None,
-    }
-}
-
-/// The value of a hexadecimal digit, in either case.
-fn hex_value(byte: u8) -> Option<u16>
-    ensures value { result ≡ hex_value byte }
-    ensures digit { IfSome result (λ digit. digit < 16) }
-    ensures ascii { IsSome result → byte < 128 }
-{
-    match byte {
-        b'0'..=b'9' => Some(u16::from(byte - 48)),
-        b'A'..=b'F' => Some(u16::from(byte - 55)),
-        b'a'..=b'f' => Some(u16::from(byte - 87)),
-        _ => None,
-    }
-}
-
-/// The code unit that `u` and four hexadecimal digits at the front spell.
+/// The code unit that `u` and four hexadecimal digits first spell.
 fn code_unit(bytes: &[u8]) -> Option<u16>
     ensures value { result ≡ code_unit bytes.now }
     ensures within { IsSome result → 5 ≤ length bytes.now }

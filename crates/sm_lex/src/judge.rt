@@ -1,21 +1,22 @@
-// Whether the inside of a string or a text block has a bad escape, and where the first stands. The lexer
-// stands on it.
+// Whether the inside of a string or a text block has a bad escape, and where the first stands.
 ghost use Rattle.std.specs.Prelude.{◌≡◌, map};
 ghost use Rattle.sm_lex.specs.Lines.{trimmed, indent, trimmed_lines};
-ghost use Rattle.sm_lex.specs.Steps.{line_of, lines_left, kept, counted, JudgesLine, JudgesLines};
+ghost use Rattle.sm_lex.specs.steps.LexSteps.{line_of, lines_left, line_kept, indent_with, JudgesLine, JudgesLines};
 
+use crate::byte::Spaces;
 use crate::lines::{Line, Lines};
-use crate::part::{Part, front_part};
-use crate::runs::{is_blank_line, kept_len, leading_spaces};
+use crate::part::{Part, first_part};
+use crate::runs::{is_blank_line, kept_len};
+use sm_bytes::run_len;
 
 /// The least number of leading spaces, with those of one more line. A blank line counts only as the last.
-fn counted(least: Option<usize>, line: &[u8], last: bool) -> Option<usize>
-    ensures { result ≡ counted least line.now last }
+fn indent_with(least: Option<usize>, line: &[u8], last: bool) -> Option<usize>
+    ensures { result ≡ indent_with least line.now last }
 {
     if !last && is_blank_line(line) {
         return least;
     }
-    let spaces = leading_spaces(line);
+    let spaces = run_len::<Spaces>(line);
     match least {
         Some(least) => Some(least.min(spaces)),
         None => Some(spaces),
@@ -29,19 +30,19 @@ pub fn indent_of(lines: Lines) -> usize
     let mut lines = lines;
     let mut least = None;
     while let Some(line) = lines.next() {
-        least = counted(least, line.text.as_bytes(), lines.is_done());
+        least = indent_with(least, line.text.as_bytes(), lines.is_done());
     }
     least.unwrap_or(0)
 }
 
 /// A line without the indent and without the spaces and tabs at its end; of a string, the line as it is.
 pub fn kept_line(line: Line, indent: Option<usize>) -> Line
-    ensures { line_of result ≡ kept indent (line_of line.entry) }
+    ensures { line_of result ≡ line_kept indent (line_of line.entry) }
 {
     let Some(indent) = indent else {
         return line;
     };
-    let taken = indent.min(leading_spaces(line.text.as_bytes()));
+    let taken = indent.min(run_len::<Spaces>(line.text.as_bytes()));
     let (_, behind) = line.text.split_at(taken);
     let (text, _) = behind.split_at(kept_len(behind.as_bytes()));
     Line {
@@ -57,7 +58,7 @@ fn bad_in_line(line: Line, last: bool) -> Option<usize>
     let bytes = line.text.as_bytes();
     let mut at = 0;
     while at < bytes.len() {
-        match front_part(&bytes[at..], last) {
+        match first_part(&bytes[at..], last) {
             Part::Plain(len) => at += len,
             Part::Escaped(escape) => at += 1 + escape.count,
             Part::Joins => return None,
@@ -69,7 +70,7 @@ fn bad_in_line(line: Line, last: bool) -> Option<usize>
 
 /// The place of the first bad escape of lines, from each of which the indent goes.
 pub fn bad_escape(lines: Lines, indent: Option<usize>) -> Option<usize>
-    ensures { JudgesLines (map (kept indent) (lines_left lines.entry)) result }
+    ensures { JudgesLines (map (line_kept indent) (lines_left lines.entry)) result }
 {
     let mut lines = lines;
     while let Some(line) = lines.next() {

@@ -1,25 +1,26 @@
 // The lexer: the tokens of a text, from its first byte on.
 ghost use Rattle.std.specs.Prelude.{◌≡◌, ◌<◌, ◌≤◌, ◌+◌, ◌^◌, length, drop, if◌then◌else◌, codes, IfOk, All, map};
 ghost use Rattle.sm_lex.specs.declared.byte.First.TheVariants.{Quote as a_quote};
-ghost use Rattle.sm_lex.specs.Bytes.{Begins, opens};
+ghost use Rattle.sm_lex.specs.Bytes.{FirstIs, opens_with};
 ghost use Rattle.sm_lex.specs.Space.{EndsSpace};
 ghost use Rattle.sm_lex.specs.Lines.{line_end_len};
+ghost use Rattle.sm_lex.specs.Shapes.{HasShape};
 ghost use Rattle.sm_lex.specs.Tokens.{OpensString, OpensBlock, lexeme_of};
-ghost use Rattle.sm_lex.specs.Steps.{MeasuresNumber, Measures};
-ghost use Rattle.sm_lex.specs.Meanings.{IsWhole};
-ghost use Rattle.sm_lex.specs.Answers.{Lexes};
+ghost use Rattle.sm_lex.specs.steps.LexSteps.{MeasuresNumber, Measures};
+ghost use Rattle.sm_lex.specs.Answers.{Lexes, IsWhole};
 
-use crate::byte::{First, first_of};
+use crate::byte::{First, WordBytes, first_of};
 use crate::judge::{bad_escape, indent_of};
 use crate::lines::Lines;
 use crate::quoted::{block_end, string_end};
-use crate::runs::{line_end_len, word_len};
+use crate::runs::line_end_len;
 use crate::space::space_len;
 use crate::token::{LexRefusal, Token, TokenKind};
+use sm_bytes::run_len;
 use sm_tree::number::{Phase, number_run};
 use std::alloc::Global;
 
-/// A token at the front of a text.
+/// A token at the start of a text.
 #[derive(Clone, Copy)]
 pub struct Measured {
     pub kind: TokenKind,
@@ -39,14 +40,14 @@ fn number_len(bytes: &[u8]) -> Result<usize, usize>
     }
 }
 
-/// The mark at the front. `:=` goes before `:`.
+/// The mark that stands first. `:=` goes before `:`.
 fn mark_len(bytes: &[u8]) -> usize
-    ensures { result ≡ (if opens bytes.now (codes ":=") then 2 else 1) }
+    ensures { result ≡ (if opens_with bytes.now (codes ":=") then 2 else 1) }
 {
     if bytes.starts_with(b":=") { 2 } else { 1 }
 }
 
-/// The string at the front of a text that is at the place `start`.
+/// The string at the start of a text that is at the place `start`.
 fn string(text: &str, start: usize) -> Result<Measured, LexRefusal>
     requires opens { OpensString text.now }
     requires room { start + length text.now < 2 ^ 64 }
@@ -66,7 +67,7 @@ fn string(text: &str, start: usize) -> Result<Measured, LexRefusal>
     }
 }
 
-/// The text block at the front of a text that is at the place `start`, whose first line end has this length.
+/// The text block at the start of a text that is at the place `start`, whose first line end has this length.
 fn block(text: &str, start: usize, line_end: usize) -> Result<Measured, LexRefusal>
     requires opens { OpensBlock text.now }
     requires line_end { line_end ≡ line_end_len (drop 3 text.now) }
@@ -88,9 +89,9 @@ fn block(text: &str, start: usize, line_end: usize) -> Result<Measured, LexRefus
     }
 }
 
-/// The string or the text block at the front of a text that is at the place `start`.
+/// The string or the text block at the start of a text that is at the place `start`.
 fn quoted(text: &str, start: usize) -> Result<Measured, LexRefusal>
-    requires first { Begins a_quote text.now }
+    requires first { FirstIs a_quote text.now }
     requires room { start + length text.now < 2 ^ 64 }
     ensures { Measures start text.now result }
 {
@@ -105,7 +106,7 @@ fn quoted(text: &str, start: usize) -> Result<Measured, LexRefusal>
     block(text, start, line_end)
 }
 
-/// The token at the front of a text that is at the place `start`. No white space and no comment stands there.
+/// The token at the start of a text that is at the place `start`. No whitespace and no comment stands there.
 fn measure(text: &str, start: usize) -> Result<Measured, LexRefusal>
     requires some { 0 < length text.now }
     requires no_space { EndsSpace text.now }
@@ -116,7 +117,7 @@ fn measure(text: &str, start: usize) -> Result<Measured, LexRefusal>
     match first_of(bytes[0]) {
         First::Word => Ok(Measured {
             kind: TokenKind::Word,
-            len: word_len(bytes),
+            len: run_len::<WordBytes>(bytes),
         }),
         First::Number => match number_len(bytes) {
             Ok(len) => Ok(Measured {
@@ -131,6 +132,24 @@ fn measure(text: &str, start: usize) -> Result<Measured, LexRefusal>
             len: mark_len(bytes),
         }),
         First::White | First::Slash | First::Stray => Err(LexRefusal::Bad(start as u64)),
+    }
+}
+
+/// The token that was measured at the place `start`, whose bytes are these.
+fn token_of(measured: Measured, text: &str, start: usize) -> Token<'_>
+    requires shape { HasShape measured.kind start text.now }
+    requires len { measured.len ≡ length text.now }
+    requires room { start + length text.now < 2 ^ 64 }
+    ensures kind { result.kind ≡ measured.kind }
+    ensures text { result.text.now ≡ text.now }
+    ensures start { result.start ≡ start }
+    ensures end { result.end ≡ start + measured.len }
+{
+    Token {
+        kind: measured.kind,
+        text,
+        start: start as u64,
+        end: (start + measured.len) as u64,
     }
 }
 
@@ -158,14 +177,11 @@ pub fn tokens(alloc: Global, text: &str) -> Result<Vec<Token<'_>>, LexRefusal>
             Err(refusal) => return Err(refusal),
         };
         let (text, below) = behind.split_at(measured.len);
-        let end = start + measured.len;
-        tokens.push(Token {
-            kind: measured.kind,
-            text,
-            start: start as u64,
-            end: end as u64,
-        })?;
+        match tokens.push(token_of(measured, text, start)) {
+            Ok(()) => {}
+            Err(_) => return Err(LexRefusal::NoMemory),
+        }
         rest = below;
-        at = end;
+        at = start + measured.len;
     }
 }

@@ -1,8 +1,10 @@
 // The inside of a string or a text block, line by line (Smithy 2.0, "Smithy IDL", "String values" and "Text
-// blocks"). The lexer judges escapes by it, and values are read by it.
+// blocks").
 ghost use Rattle.std.specs.Prelude.{◌<◌, ◌+◌, ◌^◌, length};
 
-use crate::runs::{line_end_len, line_len};
+use crate::byte::LineBytes;
+use crate::runs::line_end_len;
+use sm_bytes::run_len;
 
 /// A line, without its end.
 #[derive(Clone, Copy)]
@@ -28,13 +30,13 @@ pub struct Lines<'a> {
 
 impl<'a> Lines<'a> {
     ghost use Rattle.std.specs.Prelude.{◌≡◌};
-    ghost use Rattle.sm_lex.specs.Lines.{lines};
-    ghost use Rattle.sm_lex.specs.Steps.{lines_left, NextLine};
+    ghost use Rattle.sm_lex.specs.Lines.{lines_at};
+    ghost use Rattle.sm_lex.specs.steps.LexSteps.{lines_left, NextLine};
 
     /// The lines of a text that begins at the place `at`.
     pub fn new(text: &'a str, at: usize) -> Self
         requires { at + length text.now < 2 ^ 64 }
-        ensures { lines_left result ≡ lines at text.entry.now }
+        ensures { lines_left result ≡ lines_at at text.entry.now }
     {
         Lines {
             rest: text,
@@ -51,7 +53,7 @@ impl<'a> Lines<'a> {
             return None;
         }
         let at = self.at;
-        let len = line_len(self.rest.as_bytes());
+        let len = run_len::<LineBytes>(self.rest.as_bytes());
         let (text, below) = self.rest.split_at(len);
         let end = line_end_len(below.as_bytes());
         if end == 0 {

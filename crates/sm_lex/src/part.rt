@@ -1,10 +1,10 @@
-// The parts of a line within a string or a text block (Smithy 2.0, "Smithy IDL", "String values"). The lexer
-// judges escapes by it, and values are read by it.
+// The parts of a line within a string or a text block (Smithy 2.0, "Smithy IDL", "String values").
 ghost use Rattle.std.specs.Prelude.{◌<◌, length};
-ghost use Rattle.sm_lex.specs.Steps.{PartOfLine};
+ghost use Rattle.sm_lex.specs.steps.LexSteps.{PartOfLine};
 
+use crate::byte::PlainBytes;
 use crate::escape::{Escape, escape_at};
-use crate::runs::plain_len;
+use sm_bytes::run_len;
 
 /// A part of a line.
 #[derive(Clone, Copy)]
@@ -19,12 +19,12 @@ pub enum Part {
     Bad,
 }
 
-/// The part at the front of a line's bytes. Below the last line there is none to join.
-pub fn front_part(bytes: &[u8], last: bool) -> Part
+/// The part at the start of a line's bytes. Below the last line there is none to join.
+pub fn first_part(bytes: &[u8], last: bool) -> Part
     requires { 0 < length bytes.now }
     ensures { PartOfLine last bytes.now result }
 {
-    let plain = plain_len(bytes);
+    let plain = run_len::<PlainBytes>(bytes);
     if plain > 0 {
         return Part::Plain(plain);
     }

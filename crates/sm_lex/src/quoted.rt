@@ -1,5 +1,5 @@
 // Where strings and text blocks end (Smithy 2.0, "Smithy IDL", "String values" and "Text blocks"): at the next
-// quotation marks that no backslash escapes. The lexer stands on it.
+// quotation marks that no backslash escapes.
 ghost use Rattle.std.specs.Prelude.{◌≡◌, false, if◌then◌else◌};
 ghost use Rattle.sm_lex.specs.Lines.{is_backslash};
 ghost use Rattle.sm_lex.specs.Tokens.{first_end, one_quote, three_quotes};

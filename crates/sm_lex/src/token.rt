@@ -1,4 +1,9 @@
-// Tokens as data, and why a text has none. The lexer and the reader of models stand on it.
+// Tokens as data, and why a text has none.
+ghost use Rattle.std.specs.Prelude.{◌≡◌, ◌+◌, length};
+ghost use Rattle.sm_tree.specs.Numbers.{IsNumber};
+ghost use Rattle.sm_lex.specs.declared.token.TokenKind.TheVariants.{Number as a_number, Text as a_string, Block as a_block};
+ghost use Rattle.sm_lex.specs.Shapes.{IsStringText, IsBlockText};
+
 use std::alloc::{AllocError, AllocFailed};
 
 /// What a token is (Smithy 2.0, "Smithy IDL", "Grammar").
@@ -16,7 +21,7 @@ pub enum TokenKind {
     Mark,
 }
 
-/// A token, and where it stands.
+/// A token, and where it stands. A string and a text block have no bad escape.
 #[derive(Debug, Clone, Copy, PartialEq, Eq, Drop)]
 pub struct Token<'a> {
     /// What it is.
@@ -27,6 +32,10 @@ pub struct Token<'a> {
     pub start: u64,
     /// The place behind its last byte.
     pub end: u64,
+    pub ghost span: { end ≡ start + length text.now },
+    pub ghost number: { kind ≡ a_number → ∥ IsNumber text.now ∥₁ },
+    pub ghost string: { kind ≡ a_string → IsStringText start text.now },
+    pub ghost block: { kind ≡ a_block → IsBlockText start text.now },
 }
 
 /// Why a text has no tokens: the first reason in the text. Places count bytes from 0.

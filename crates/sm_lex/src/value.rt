@@ -1,64 +1,42 @@
 // What tokens mean: the text of a string and of a text block, and the tree of a number (Smithy 2.0, "Smithy
-// IDL", "Node values"). The reader of models stands on it.
-ghost use Rattle.std.specs.Prelude.{◌≡◌, IfOk, drop, map, string_bytes};
-ghost use Rattle.sm_tree.specs.Numbers.{IsNumber, NumberText};
+// IDL", "Node values").
+ghost use Rattle.std.specs.Prelude.{◌≡◌, Ok, IfOk, IsOk, drop, map, string_bytes};
+ghost use Rattle.sm_tree.specs.Numbers.{NumberText};
 ghost use Rattle.sm_tree.specs.View.{node_of};
 ghost use Rattle.sm_lex.specs.Lines.{line_end_len, lines_text};
 ghost use Rattle.sm_lex.specs.Values.{string_inside, block_inside, opener_len, string_value, block_value};
-ghost use Rattle.sm_lex.specs.Tokens.{lexeme_of};
-ghost use Rattle.sm_lex.specs.Meanings.{IsQuoted, IsStringToken, IsBlockToken, HasValue};
-ghost use Rattle.sm_lex.specs.Steps.{line_of, lines_left, kept, PutsLine};
+ghost use Rattle.sm_lex.specs.Shapes.{IsQuoted};
+ghost use Rattle.sm_lex.specs.declared.token.TokenKind.TheVariants.{Number as a_number, Text as a_string, Block as a_block};
+ghost use Rattle.sm_lex.specs.steps.LexSteps.{line_of, lines_left, line_kept, IsFine, PutsLine};
 
 use crate::judge::{indent_of, kept_line};
 use crate::lines::{Line, Lines};
-use crate::part::{Part, front_part};
+use crate::part::{Part, first_part};
 use crate::runs::line_end_len;
 use crate::token::Token;
 use sm_tree::number::number_tree;
 use sm_tree::{NoMemory, Tree};
-use std::alloc::{AllocError, Global};
-
-/// Why a string or a text block has no value.
-#[derive(Debug, Clone, Copy, PartialEq, Eq, Drop)]
-pub enum ValueRefusal {
-    /// The backslash at this place begins no escape. No token that `tokens` gives has one.
-    BadEscape(u64),
-    /// The allocator refused the memory that the value needs.
-    NoMemory,
-}
-
-impl From<AllocError> for ValueRefusal {
-    ghost use Rattle.std.specs.Prelude.{◌≡◌};
-    ghost use Rattle.sm_lex.specs.declared.value.ValueRefusal.TheVariants.{NoMemory as no_memory};
-
-    ghost from_gives = { λ _ refusal. refusal ≡ no_memory };
-
-    fn from(_error: AllocError) -> Self {
-        ValueRefusal::NoMemory
-    }
-}
+use std::alloc::Global;
 
 /// Appends the text of a line, and a line feed where another line follows.
-fn put_line(line: Line, last: bool, out: &mut String) -> Result<(), ValueRefusal>
-    ensures { PutsLine last (line_of line.entry) (string_bytes out.old) (string_bytes out.new) result }
+fn put_line(line: Line, last: bool, out: &mut String) -> Result<(), NoMemory>
+    requires { IsFine last (line_of line) }
+    ensures { IfOk result (λ done. PutsLine last (line_of line.entry) (string_bytes out.old) (string_bytes out.new)) }
 {
     let mut rest = line.text;
-    let mut at = 0;
     while !rest.is_empty() {
-        match front_part(rest.as_bytes(), last) {
+        match first_part(rest.as_bytes(), last) {
             Part::Plain(len) => {
                 let (plain, behind) = rest.split_at(len);
                 out.push_str(plain)?;
                 rest = behind;
-                at += len;
             }
             Part::Escaped(escape) => {
                 out.push(escape.character)?;
                 rest = rest.split_at(1 + escape.count).1;
-                at += 1 + escape.count;
             }
             Part::Joins => return Ok(()),
-            Part::Bad => return Err(ValueRefusal::BadEscape((line.at + at) as u64)),
+            Part::Bad => unreachable!(),
         }
     }
     if last {
@@ -69,8 +47,9 @@ fn put_line(line: Line, last: bool, out: &mut String) -> Result<(), ValueRefusal
 }
 
 /// The text of lines, from each of which the indent goes.
-fn lines_value(alloc: Global, lines: Lines, indent: Option<usize>) -> Result<String, ValueRefusal>
-    ensures { HasValue (lines_text (map (kept indent) (lines_left lines.entry))) result }
+fn lines_value(alloc: Global, lines: Lines, indent: Option<usize>) -> Result<String, NoMemory>
+    requires { IsOk (lines_text (map (line_kept indent) (lines_left lines))) }
+    ensures { IfOk result (λ text. lines_text (map (line_kept indent) (lines_left lines.entry)) ≡ Ok (string_bytes text)) }
 {
     let mut text = String::new(alloc);
     let mut lines = lines;
@@ -107,10 +86,10 @@ fn block_inside(text: &str, line_end: usize) -> &str
 ///
 /// # Errors
 ///
-/// `BadEscape` with the place of its backslash, `NoMemory`.
-pub fn string_value(alloc: Global, token: &Token<'_>) -> Result<String, ValueRefusal>
-    requires { IsStringToken (lexeme_of token.now) }
-    ensures { HasValue (string_value token.now.start token.now.text.now) result }
+/// `NoMemory` alone.
+pub fn string_value(alloc: Global, token: &Token<'_>) -> Result<String, NoMemory>
+    requires { token.now.kind ≡ a_string }
+    ensures { IfOk result (λ text. string_value token.now.start token.now.text.now ≡ Ok (string_bytes text)) }
 {
     let inside = string_inside(token.text);
     lines_value(alloc, Lines::new(inside, token.start as usize + 1), None)
@@ -121,10 +100,10 @@ pub fn string_value(alloc: Global, token: &Token<'_>) -> Result<String, ValueRef
 ///
 /// # Errors
 ///
-/// `BadEscape` with the place of its backslash, `NoMemory`.
-pub fn block_value(alloc: Global, token: &Token<'_>) -> Result<String, ValueRefusal>
-    requires { IsBlockToken (lexeme_of token.now) }
-    ensures { HasValue (block_value token.now.start token.now.text.now) result }
+/// `NoMemory` alone.
+pub fn block_value(alloc: Global, token: &Token<'_>) -> Result<String, NoMemory>
+    requires { token.now.kind ≡ a_block }
+    ensures { IfOk result (λ text. block_value token.now.start token.now.text.now ≡ Ok (string_bytes text)) }
 {
     let line_end = line_end_len(&token.text.as_bytes()[3..]);
     let inside = block_inside(token.text, line_end);
@@ -136,9 +115,9 @@ pub fn block_value(alloc: Global, token: &Token<'_>) -> Result<String, ValueRefu
 ///
 /// # Errors
 ///
-/// `NoMemory`.
+/// `NoMemory` alone.
 pub fn number_value(alloc: Global, token: &Token<'_>) -> Result<Tree, NoMemory>
-    requires { IsNumber token.now.text.now }
+    requires { token.now.kind ≡ a_number }
     ensures { IfOk result (λ tree. NumberText (node_of tree) token.now.text.now) }
 {
     number_tree(alloc, token.text.as_bytes())

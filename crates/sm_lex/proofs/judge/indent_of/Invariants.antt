@@ -1,6 +1,6 @@
 use Rattle.std.proofs.Common.{length}
 use Rattle.sm_lex.specs.Lines.{indent}
-use Rattle.sm_lex.specs.Steps.{lines_left}
+use Rattle.sm_lex.specs.steps.LexSteps.{lines_left}
 use Rattle.sm_lex.proofs.Indents.{IndentOf}
 use Rattle.sm_lex.proofs.judge.indent_of.Given as goal
 

@@ -8,8 +8,7 @@ decreases-loop-rest l = length l.rest
 
 abbrev pub invariant-loop-rest : goal.invariant-loop-rest
 invariant-loop-rest l = record {
-  rest : l.rest ≡ drop l.at l.line.text.now;
-  within : l.at ≤ length l.line.text.now;
   utf8 : IsUtf8 l.rest;
-  gave : (t : List ℕ) × (string_bytes l.out ≡ string_bytes l.initial.out ++ t) × Gave l.line.at l.line.text.now l.at t;
+  gave : (at : ℕ) × (t : List ℕ) × (at ≤ length l.line.text.now) × (l.rest ≡ drop at l.line.text.now)
+      × (string_bytes l.out ≡ string_bytes l.initial.out ++ t) × Gave l.line.at l.line.text.now at t;
 }
