@@ -1,0 +1,13 @@
+mod FirstLine
+mod Cuts
+mod Numbers
+mod Found
+mod HeadLines
+mod HeadRoom
+mod ReadingHeads
+mod OneChunked
+mod OneBody
+mod OneHead
+mod OneFraming
+mod SomeFraming
+mod WrittenRead

@@ -1,0 +1,77 @@
+-- What the reading calls answer. The bytes ahead of a call are those held and then those that the source has left, where it
+-- tells them.
+use Rattle.std.specs.Prelude.{◌≡◌, ℕ, ◌≤◌, ◌<◌, ◌⊎◌, List, [], ◌++◌, take, length, Bool, IfSome, Option, Some, None, Result, Ok, Err}
+use Rattle.std.specs.Io.KnownBytes.{prepend_known, Consumes}
+use Rattle.sm_http.specs.declared.message.Head.{Head}
+use Rattle.sm_http.specs.declared.message.Message.{Message}
+use Rattle.sm_http.specs.declared.message.Side.{Side}
+use Rattle.sm_http.specs.declared.message.BodyLeft.{BodyLeft}
+use Rattle.sm_http.specs.declared.message.BodyLeft.TheVariants.{Known, Size, Data, Done}
+use Rattle.sm_http.specs.declared.refusal.HttpRefusal.{HttpRefusal}
+use Rattle.sm_http.specs.declared.refusal.HttpRefusal.TheVariants.{ReadFault, Ended, HeadTooLarge, Coding, Length, TooLong, Chunk, NoMemory}
+use Rattle.sm_http.specs.declared.refusal.HttpRefusal.TheVariants.{Head as BadHead}
+use Rattle.sm_http.specs.Limits.{body_limit, piece_limit}
+use Rattle.sm_http.specs.BodyFields.{body_begin}
+use Rattle.sm_http.specs.Bodies.{BodyFraming, BodyFramed, body, body_refused, behind_data}
+use Rattle.sm_http.specs.Framed.{HeadFraming, no_head, head, head_refused, HeadFramed, Framing, no_message, message, message_refused, Framed}
+
+-- P of the bytes that were ahead and of those that are ahead now, where the source tells its bytes
+abbrev pub IfAhead : Option (List ℕ) → Option (List ℕ) → (List ℕ → List ℕ → Type 0) → Type 0
+IfAhead None now P = Unit {0}
+IfAhead (Some before) None P = ⊥
+IfAhead (Some before) (Some now) P = P before now
+
+-- the bytes held and taken by a call that the source failed: a prefix of those ahead, of which P holds
+abbrev pub IfTaken : Option (List ℕ) → Option (List ℕ) → (List ℕ → Type 0) → Type 0
+IfTaken before left P = (taken : List ℕ) × Consumes before left taken × P taken
+
+-- nothing, or a message that hasn't ended
+abbrev pub IsOpen : Side → List ℕ → Type 0
+IsOpen side taken = Framed side taken no_message ⊎ Framed side taken (message_refused Ended)
+
+abbrev pub IsOpenHead : Side → List ℕ → Type 0
+IsOpenHead side taken = HeadFramed side taken no_head ⊎ HeadFramed side taken (head_refused Ended)
+
+-- a refusal that the bytes decide, where `refused` says which bytes are refused so; `open_bytes` says it of a failed read
+abbrev pub RefusedAs : Option (List ℕ) → Option (List ℕ) → (List ℕ → HttpRefusal → Type 0) → (List ℕ → Type 0) → HttpRefusal → Type 0
+RefusedAs ahead left refused open_bytes ReadFault = IfTaken ahead left open_bytes
+RefusedAs ahead left refused open_bytes Ended = IfSome ahead (λ bytes. refused bytes Ended)
+RefusedAs ahead left refused open_bytes BadHead = IfSome ahead (λ bytes. refused bytes BadHead)
+RefusedAs ahead left refused open_bytes HeadTooLarge = IfSome ahead (λ bytes. refused bytes HeadTooLarge)
+RefusedAs ahead left refused open_bytes Coding = IfSome ahead (λ bytes. refused bytes Coding)
+RefusedAs ahead left refused open_bytes Length = IfSome ahead (λ bytes. refused bytes Length)
+RefusedAs ahead left refused open_bytes TooLong = IfSome ahead (λ bytes. refused bytes TooLong)
+RefusedAs ahead left refused open_bytes Chunk = IfSome ahead (λ bytes. refused bytes Chunk)
+RefusedAs ahead left refused open_bytes NoMemory = Unit {0}
+
+-- `read_head`, of a source with so many bytes left behind the call
+abbrev pub ReadsAHead : Side → Option (List ℕ) → Option (List ℕ) → Option (List ℕ) → Result (Option (Head × BodyLeft)) HttpRefusal → Type 0
+ReadsAHead side ahead now left (Ok None) = IfAhead ahead now (λ bytes rest. HeadFramed side bytes no_head × (rest ≡ []))
+ReadsAHead side ahead now left (Ok (Some found)) =
+    (found.1 ≡ body_begin found.0) × IfAhead ahead now (λ bytes rest. HeadFramed side bytes (head found.0 rest))
+ReadsAHead side ahead now left (Err refusal) =
+    RefusedAs ahead left (λ bytes why. HeadFramed side bytes (head_refused why)) (IsOpenHead side) refusal
+
+-- a body within the limit, as a head begins it and pieces leave it
+abbrev pub IsWithinLimit : BodyLeft → Type 0
+IsWithinLimit (Known count) = count ≤ body_limit
+IsWithinLimit (Size sum) = sum ≤ body_limit
+IsWithinLimit (Data left total) = (left ≤ total) × (total ≤ body_limit)
+IsWithinLimit Done = Unit {0}
+
+-- `read_piece`: none is exactly the end; else what comes behind the piece, with the piece in front, is what was to come
+abbrev pub ReadsAPiece : BodyLeft → BodyLeft → Option (List ℕ) → Option (List ℕ) → Option (List ℕ) → List ℕ → Result ℕ HttpRefusal → Type 0
+ReadsAPiece before now ahead behind left buffer (Ok count) =
+    (count ≤ piece_limit) × (count ≡ 0 → IfAhead ahead behind (λ bytes rest. BodyFramed before bytes (body [] rest)))
+    × IfAhead ahead behind (λ bytes rest.
+    (framing : BodyFraming) → BodyFramed now rest framing → BodyFramed before bytes (behind_data (take count buffer) framing))
+ReadsAPiece before now ahead behind left buffer (Err refusal) =
+    RefusedAs ahead left (λ bytes why. BodyFramed before bytes (body_refused why))
+    (λ taken. BodyFramed before taken (body_refused Ended)) refusal
+
+-- `read_message`
+abbrev pub ReadsAMessage : Side → Option (List ℕ) → Option (List ℕ) → Option (List ℕ) → Result (Option Message) HttpRefusal → Type 0
+ReadsAMessage side ahead now left (Ok None) = IfAhead ahead now (λ bytes rest. Framed side bytes no_message × (rest ≡ []))
+ReadsAMessage side ahead now left (Ok (Some said)) = IfAhead ahead now (λ bytes rest. Framed side bytes (message said rest))
+ReadsAMessage side ahead now left (Err refusal) =
+    RefusedAs ahead left (λ bytes why. Framed side bytes (message_refused why)) (IsOpen side) refusal

@@ -1,0 +1,10 @@
+pub mod Limits
+pub mod Heads
+pub mod BodyFields
+pub mod Chunks
+pub mod Bodies
+pub mod Framed
+pub mod Written
+pub mod Calls
+pub mod Laws
+pub mod steps

@@ -1,0 +1,14 @@
+-- Digits without the zeros in front, by which numbers of any length are compared.
+use Rattle.std.specs.Prelude.{ℕ, Bool, List, [], ◌∷◌, ◌==◌, if◌then◌else◌, Option, Some, None}
+use Rattle.sm_bytes.specs.Ascii.{digit_zero}
+
+abbrev pub is_zero_digit : ℕ → Bool
+is_zero_digit b = b == digit_zero
+
+abbrev pub significant : List ℕ → List ℕ
+significant [] = []
+significant (c ∷ cs) = if is_zero_digit c then significant cs else c ∷ cs
+
+abbrev pub first_value : List (List ℕ) → Option (List ℕ)
+first_value [] = None
+first_value (value ∷ values) = Some value

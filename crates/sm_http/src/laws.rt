@@ -1,0 +1,29 @@
+// Laws of the definitions, each the contract of a function that does nothing.
+ghost use Rattle.sm_http.specs.declared.message.BodyLeft.{BodyLeft};
+ghost use Rattle.sm_http.specs.declared.message.Side.{Side};
+ghost use Rattle.sm_http.specs.Laws.{HasOneHead, HasOneBody, HasOneFraming, HasSomeFraming, WrittenIsRead};
+
+/// Bytes begin with one head at most, or are refused by one word, and never both.
+pub fn one_head()
+    ensures { (side : Side) → HasOneHead side }
+{}
+
+/// From any place in a body on, bytes come to one answer at most.
+pub fn one_body()
+    ensures { (left : BodyLeft) → HasOneBody left }
+{}
+
+/// Bytes come to one answer at most: nothing, a message with what follows it, or a refusal.
+pub fn one_answer()
+    ensures { (side : Side) → HasOneFraming side }
+{}
+
+/// No bytes are without an answer.
+pub fn some_answer()
+    ensures { (side : Side) → HasSomeFraming side }
+{}
+
+/// A written message is read again as itself, whatever follows it.
+pub fn written_is_read()
+    ensures { (side : Side) → WrittenIsRead side }
+{}
