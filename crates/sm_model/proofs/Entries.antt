@@ -1,0 +1,107 @@
+-- What a row stands for, by what it is.
+use Rattle.std.proofs.Common.{◌≡◌, ℕ, ◌<◌, zero, suc, Bool, true, List, [], ◌∷◌, length, map, get_or, Some, None, Option, sym, ap, ◌∙◌, subst, refl}
+use Rattle.std.specs.Prelude.{IsSomeAnd, MatchOption, slice_get}
+use Rattle.std.specs.Bool.{passes}
+use Rattle.std.specs.Option.{option_map}
+use Rattle.std.specs.FinMap as fin
+use Rattle.std.specs.FinMap.{get-from_sorted, find, is_sorted}
+use Rattle.std.specs.List.{HoldsAt, list_all}
+use Rattle.std.specs.List.Sorted.{IsNonDecreasingBy, IsPartitionPoint}
+use Rattle.std.specs.Ordering.{ordering_index}
+use Rattle.std.specs.declared.cmp.Ordering.TheVariants.{Less, Equal, Greater}
+use Rattle.std.proofs.lemmas.Option.{slice_get-map}
+use Rattle.sm_tree.specs.Node.{Node}
+use Rattle.sm_tree.specs.View.{pairs_view}
+use Rattle.sm_model.specs.Graphs.{text_cmp, NodeMap, traits_in, Entry, shape_entry, member_entry}
+use Rattle.sm_model.specs.GraphRows.{entry_view, is_sound_row, members_kept, row_entry}
+use Rattle.sm_model.specs.GraphView.{At, HasMembers, Stands, Targets, entries_of, ids, maps_of, target_of}
+use Rattle.sm_model.specs.declared.graph.Graph.{Graph}
+use Rattle.sm_model.specs.declared.graph.rows.Row.{Row}
+use Rattle.sm_model.specs.declared.graph.rows.RowEntry.{RowEntry}
+use Rattle.sm_model.specs.declared.graph.rows.RowEntry.TheVariants.{Shape, Member}
+use Rattle.sm_model.proofs.Searching.{and_left, and_right, rises, found_at, found_nowhere}
+
+pub members_viewed : (ids : List (List ℕ)) (traits : NodeMap) (e : RowEntry)
+    → HasMembers (map (λ k. get_or ids k []) (members_kept e)) (entry_view ids traits e)
+members_viewed ids traits (Shape s) = refl
+members_viewed ids traits (Member target) = refl
+
+-- what stands at a number is what its row stands for
+pub at_row : (g : Graph) (s : ℕ) (r : Row) → IsSomeAnd (slice_get g.rows.items s) (λ x. r ≡ x) → (Is : List ℕ → Entry → Type 0)
+    → Is (row_entry (ids g) r).0 (row_entry (ids g) r).1 → At g s Is
+at_row g s r at Is is =
+    subst (λ o. IsSomeAnd o (λ e. Is e.0 e.1)) (sym (slice_get-map (row_entry (ids g)) g.rows.items s))
+    (mapped (slice_get g.rows.items s) at)
+  where
+    mapped : (o : Option Row) → IsSomeAnd o (λ x. r ≡ x) → IsSomeAnd (option_map (row_entry (ids g)) o) (λ e. Is e.0 e.1)
+    mapped None h = h
+    mapped (Some x) h = subst (λ y. Is (row_entry (ids g) y).0 (row_entry (ids g) y).1) h is
+
+-- what a search for an id among the rows comes to
+pub found_number : (g : Graph) (q : List ℕ) (i : ℕ) → i < length g.rows.items → HoldsAt (λ r. text_cmp r.id q ≡ Equal) g.rows.items i
+    → Stands g i q
+found_number g q i lt tied =
+    let es = entries_of g in
+    let sorted = and_left (is_sorted text_cmp es) _ g.sound in
+    subst (λ v. IsSomeAnd (slice_get es i) (λ e. (e.0 ≡ q) × (v ≡ Some e.1)))
+    (sym (get-from_sorted text_cmp es q (passes _ sorted)))
+    (found_at (row_entry (ids g)) g.rows.items sorted q i lt tied)
+
+pub found_no_number : (g : Graph) (q : List ℕ) (i : ℕ)
+    → (IsNonDecreasingBy (λ r. ordering_index (text_cmp r.id q)) g.rows.items
+    → IsPartitionPoint (λ r. text_cmp r.id q ≡ Less) (λ r. text_cmp r.id q ≡ Greater) g.rows.items i)
+    → fin.get (maps_of g).shapes q ≡ None
+found_no_number g q i parted =
+    let es = entries_of g in
+    let sorted = and_left (is_sorted text_cmp es) _ g.sound in
+    get-from_sorted text_cmp es q (passes _ sorted)
+    ∙ found_nowhere (row_entry (ids g)) g.rows.items q i (parted (rises (row_entry (ids g)) g.rows.items sorted q))
+
+-- what holds of an entry, by what is known of it
+at_by : (g : Graph) (s : ℕ) (P Q : List ℕ → Entry → Type 0) → ((id : List ℕ) (e : Entry) → P id e → Q id e) → At g s P → At g s Q
+at_by g s P Q f h = by (slice_get (entries_of g) s) h
+  where
+    by : (o : Option (List ℕ × Entry)) → IsSomeAnd o (λ e. P e.0 e.1) → IsSomeAnd o (λ e. Q e.0 e.1)
+    by None h = h
+    by (Some e) h = f e.0 e.1 h
+
+targeted : (t : List ℕ) (e : Entry) → Targets t e → target_of e ≡ t
+targeted t (shape_entry s) h = absurd h
+targeted t (member_entry m) h = h
+
+-- the number of a target is that of its id
+pub target_number : (g : Graph) (m : ℕ) (t q : List ℕ) (found : Option ℕ) → At g m (λ id e. Targets t e) → t ≡ q
+    → MatchOption found (fin.get (maps_of g).shapes q ≡ None) (λ s. Stands g s q)
+    → At g m (λ id e. MatchOption found (fin.get (maps_of g).shapes (target_of e) ≡ None) (λ s. Stands g s (target_of e)))
+target_number g m t q found at same is =
+    at_by g m (λ id e. Targets t e) _
+    (λ id e h. subst (λ x. MatchOption found (fin.get (maps_of g).shapes x ≡ None) (λ s. Stands g s x)) (sym (targeted t e h ∙ same)) is) at
+
+-- what holds of each row holds of the row at a number
+all_at : {X : Type 0} (q : X → Bool) (xs : List X) → list_all q xs ≡ true → (n : ℕ) (r : X) → IsSomeAnd (slice_get xs n) (λ x. r ≡ x)
+    → q r ≡ true
+all_at q [] h n r at = absurd at
+all_at q (x ∷ xs) h zero r at = ap q at ∙ and_left (q x) _ h
+all_at q (x ∷ xs) h (suc n) r at = all_at q xs (and_right (q x) _ h) n r at
+
+pub traits_sorted : (g : Graph) (s : ℕ) (r : Row) → IsSomeAnd (slice_get g.rows.items s) (λ x. r ≡ x)
+    → is_sorted text_cmp (pairs_view r.traits) ≡ true
+traits_sorted g s r at =
+    let rows = g.rows.items in
+    let each = and_right (is_sorted text_cmp (entries_of g)) (list_all (is_sound_row (length rows)) rows) g.sound in
+    and_left _ _ (all_at (is_sound_row (length rows)) rows each s r at)
+
+traits_viewed : (ids : List (List ℕ)) (traits : NodeMap) (e : RowEntry) → traits_in (entry_view ids traits e) ≡ traits
+traits_viewed ids traits (Shape s) = refl
+traits_viewed ids traits (Member target) = refl
+
+-- the value of a trait is what stands under its id among the row's pairs
+pub trait_found : {T : Type 0} (node : T → Node) (g : Graph) (s : ℕ) (r : Row) → IsSomeAnd (slice_get g.rows.items s) (λ x. r ≡ x)
+    → (ps : List (List ℕ × Node)) → ps ≡ pairs_view r.traits → (q : List ℕ) (found : Option T)
+    → MatchOption found (find text_cmp q ps ≡ None) (λ t. find text_cmp q ps ≡ Some (node t))
+    → At g s (λ i e. MatchOption found (fin.get (traits_in e) q ≡ None) (λ t. fin.get (traits_in e) q ≡ Some (node t)))
+trait_found node g s r at ps same q found h =
+    at_row g s r at (λ i e. MatchOption found (fin.get (traits_in e) q ≡ None) (λ t. fin.get (traits_in e) q ≡ Some (node t)))
+    (subst (λ v. MatchOption found (v ≡ None) (λ t. v ≡ Some (node t)))
+    (ap (find text_cmp q) same ∙ sym (get-from_sorted text_cmp (pairs_view r.traits) q (passes _ (traits_sorted g s r at)))
+    ∙ ap (λ m. fin.get m q) (sym (traits_viewed (ids g) _ r.entry))) h)

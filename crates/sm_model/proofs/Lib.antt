@@ -1,0 +1,3 @@
+pub mod RawViews
+mod Searching
+mod Entries

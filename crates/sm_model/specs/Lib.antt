@@ -1,0 +1,12 @@
+pub mod Kinds
+pub mod Properties
+pub mod References
+pub mod Raw
+pub mod RawView
+pub mod Said
+pub mod SaidView
+pub mod Formed
+pub mod Graphs
+pub mod Given
+pub mod GraphRows
+pub mod GraphView

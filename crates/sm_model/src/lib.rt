@@ -1,0 +1,19 @@
+// Models as data (Smithy 2.0, "The Smithy model"): the statements that a model file says, before files are merged, and
+// the graph of shapes that they come to.
+#![tactic(auto)]
+
+mod graph;
+mod kind;
+mod property;
+mod raw;
+mod reference;
+mod statement;
+
+pub use graph::Graph;
+pub use kind::Kind;
+pub use property::PropertyForm;
+pub use raw::{RawItems, RawNode, RawPairs};
+pub use reference::{Ref, Refs, Uses};
+pub use statement::{
+    MemberStatement, MemberStatements, ShapeStatement, Statement, TraitUse, TraitUses,
+};
