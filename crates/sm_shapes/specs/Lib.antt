@@ -3,8 +3,8 @@ pub mod View
 pub mod Names
 pub mod Tables
 pub mod Fits
-pub mod Words
-pub mod Weight
+pub mod FaultWords
 pub mod Patterns
 pub mod Literals
 pub mod LiteralStore
+pub mod steps

@@ -17,8 +17,8 @@ pub record AddCalls : Type 0 where
   pub made : ℕ
 
 -- one call more; the count stands still at the end of its type
-abbrev pub after_call : AddCalls → AddCalls
-after_call calls = record { failing = calls.failing; made = min (calls.made + 1) (2 ^ 64 - 1) }
+abbrev pub after_add : AddCalls → AddCalls
+after_add calls = record { failing = calls.failing; made = min (calls.made + 1) (2 ^ 64 - 1) }
 
 -- the call that was counted last is one of those that refuse
 abbrev pub refuses : AddCalls → Bool

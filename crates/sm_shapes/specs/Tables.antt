@@ -1,5 +1,5 @@
 -- What a table says of its shapes and members, by number, and when a table is in order.
-use Rattle.std.specs.Prelude.{◌≡◌, ◌⊎◌, ℕ, ◌<◌, Bool, false, List, [], ◌∷◌, map, length, Option, Some, None, unwrap_or, slice_get}
+use Rattle.std.specs.Prelude.{◌≡◌, ◌⊎◌, ℕ, ◌<◌, Bool, false, List, [], ◌∷◌, map, length, Option, Some, None, unwrap_or, slice_get, IsUtf8}
 use Rattle.sm_shapes.specs.Names.{AllDiffer}
 use Rattle.sm_shapes.specs.declared.table.Table.{Table}
 use Rattle.sm_shapes.specs.declared.table.TableShape.{TableShape}
@@ -82,10 +82,11 @@ IsAmong k [] = ⊥
 IsAmong k (j ∷ js) = (k ≡ j) ⊎ IsAmong k js
 
 -- Each number is in range; a member stands in one shape, the one that it names; the names of one shape's
--- members differ, and so do their names where JSON names are looked at.
+-- members differ, and so do their names where JSON names are looked at; all these names are texts in UTF-8.
 pub record Shaped (t : Table) : Type 0 where
   pub targets : (k : ℕ) → k < member_count t → target_at t k < shape_count t
   pub homes : (k : ℕ) → k < member_count t → (home_at t k < shape_count t) × IsAmong k (members_at t (home_at t k))
   pub members : (s : ℕ) → s < shape_count t → StandIn t s (members_at t s)
   pub names : (s : ℕ) → s < shape_count t → AllDiffer (map (name_at t) (members_at t s))
   pub json_names : (s : ℕ) → s < shape_count t → AllDiffer (map (json_name_at t) (members_at t s))
+  pub utf8 : (k : ℕ) → k < member_count t → IsUtf8 (name_at t k) × IsUtf8 (json_name_at t k)

@@ -1,6 +1,6 @@
 // Faults: why a tree spells no value of a shape, and where. The codec finds them, and programs print them.
 ghost use Rattle.std.specs.Prelude.{◌≡◌};
-ghost use Rattle.sm_shapes.specs.Words.{fault_word};
+ghost use Rattle.sm_shapes.specs.FaultWords.{fault_word};
 
 use sm_tree::Path;
 

@@ -1,5 +1,5 @@
 // Tables of shapes, values, the faults of a tree for a shape, and stores of patterns. A table is what a
-// model's shapes come to once names are numbers. The codec, and all that carries values, stand on it.
+// model's shapes come to once names are numbers.
 #![tactic(auto)]
 
 mod fault;
@@ -15,6 +15,3 @@ pub use patterns::{PatternRefusal, Patterns};
 pub use rows::{MemberNumbers, TableMembers, TableShapes};
 pub use table::{ShapeKind, Table, TableMember, TableShape};
 pub use value::{Fields, Value};
-
-#[cfg(test)]
-mod tests;

@@ -2,7 +2,7 @@
 // serves tests, which say in which calls it refuses.
 ghost use Rattle.std.specs.Prelude.{◌≡◌, ◌<◌, ◌≤◌, ◌-◌, ◌^◌, ◌↔◌, [], None, length, IfOk, OnOk, IsErrOf, IsTrue, Ok, true, false};
 ghost use Rattle.sm_shapes.specs.Patterns.{Adds, RecordsRefusal, CountsRefusal, pattern_text};
-ghost use Rattle.sm_shapes.specs.Literals.{IsPart, is_part, AddCalls, after_call, refuses};
+ghost use Rattle.sm_shapes.specs.Literals.{IsPart, is_part, AddCalls, after_add, refuses};
 
 use crate::{PatternRefusal, Patterns};
 use sm_tree::{NoMemory, Text};
@@ -57,7 +57,7 @@ impl Patterns for LiteralPatterns {
         ensures last { RecordsRefusal (refused_last self.old) (refused_last self.new) text.now result }
         ensures count { CountsRefusal (refusal_count self.old) (refusal_count self.new) result }
         ensures later { refusal_count self.old ≤ refusal_count self.new }
-        ensures calls { add_calls self.new ≡ after_call (add_calls self.old) }
+        ensures calls { add_calls self.new ≡ after_add (add_calls self.old) }
         ensures listed { IsErrOf result PatternRefusal.Refused → refuses (add_calls self.new) ≡ true }
         ensures unlisted { OnOk result (refuses (add_calls self.new) ≡ false) }
     {

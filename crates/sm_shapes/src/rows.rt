@@ -1,5 +1,5 @@
 // The vectors of a table, as types of their own: contracts see each as a list, so that two tables that say the
-// same are equal. Tables stand on them.
+// same are equal.
 ghost use Rattle.std.specs.Prelude.{◌≡◌};
 
 use crate::table::{TableMember, TableShape};
