@@ -1,17 +1,7 @@
 // The program: its words, the real files, input and output, and the status that it ends with.
 #![tactic(auto)]
 
-mod body;
-mod codec;
-mod command;
-mod laws;
-mod lines;
-mod model;
-#[cfg(test)]
-mod tests;
-mod words;
-
-use crate::command::{Status, run};
+use sm_commands::{Status, run};
 use sm_io::{DiskFiles, StdSink, StdSource};
 use sm_shapes::LiteralPatterns;
 use sm_tree::Text;

@@ -1,0 +1,220 @@
+-- What the steps of the command `body` come to, joined: the answers of src/body.rt cite it.
+use Rattle.std.proofs.Common.{◌≡◌, ℕ, ◌<◌, ◌≤◌, inl, inr, List, ◌∷◌, ◌++◌, Option, Some, None, Result, Ok, Err, IfSome, length, sym, ap, subst, ◌∙◌, ◌+◌, refl, arith, append-nil}
+use Rattle.std.specs.Prelude.{slice_get, IsSomeAnd, replicate}
+use Rattle.std.proofs.lemmas.Option.{slice_get_within}
+use Rattle.std.proofs.lemmas.List.{length-map, length-replicate}
+use Rattle.std.specs.Global.{Vec}
+use Rattle.sm_io.specs.Causes.{Rose}
+use Rattle.sm_io.specs.Files.{Folder, Holds, HoldsLonger, file_at}
+use Rattle.sm_io.specs.Reading.{Empties}
+use Rattle.sm_tree.specs.Node.{Node}
+use Rattle.sm_tree.specs.declared.path.Step.{Step}
+use Rattle.sm_tree.specs.declared.NoMemory.{NoMemory as OutOfMemory}
+use Rattle.sm_tree.specs.declared.refusal.SyntaxRefusal.{SyntaxRefusal}
+use Rattle.sm_tree.specs.declared.refusal.SyntaxRefusal.TheVariants.{Bad, Ended, TooDeep, KeyKind, NoMemory as no_room}
+use Rattle.sm_tree.specs.Syntax.{IsRead, IsRefused, Reads}
+use Rattle.sm_tree.proofs.OneAnswer.{refused_no_text}
+use Rattle.sm_json.specs.JsonText.{JsonText, json_syntax}
+use Rattle.sm_json.specs.Written.{written}
+use Rattle.sm_json.proofs.OneTree.{one_tree}
+use Rattle.sm_shapes.specs.Val.{Val}
+use Rattle.sm_shapes.specs.Tables.{shape_count}
+use Rattle.sm_shapes.specs.declared.table.Table.{Table}
+use Rattle.sm_shapes.specs.declared.fault.FaultKind.{FaultKind}
+use Rattle.sm_commands.specs.Leaves.{json_leaf}
+use Rattle.sm_commands.specs.Spelling.{Spells}
+use Rattle.sm_commands.specs.Faults.{FaultAt, faults}
+use Rattle.sm_commands.specs.Encoded.{encoded_tree, json_written}
+use Rattle.sm_commands.specs.FirstForm.{FirstForm}
+use Rattle.sm_commands.specs.ReadModel.{ReadsModel}
+use Rattle.sm_commands.specs.Lines.{unbuilt_line, no_shape_line, fault_line, syntax_line, file_limit_line, body_limit_line}
+use Rattle.sm_io.specs.Seen.{FilesSeen, Stream}
+use Rattle.sm_commands.specs.Limits.{file_limit, body_limit}
+use Rattle.sm_commands.specs.Body.{Answer, done, refused, past, EndsInJson, IsUnbuilt, TextAnswers, FileHasShape}
+use Rattle.sm_commands.specs.Body.FileAnswers.{long_file, unbuilt, no_shape}
+use Rattle.sm_commands.specs.Body.TextAnswers.{no_text, fault, value}
+use Rattle.sm_commands.specs.Body.InputAnswers.{long_input, whole}
+use Rattle.sm_commands.specs.Run.{BodyAnswers, ReachesInput, ReadFails, StopsShort}
+use Rattle.sm_commands.specs.Run.BodyAnswers.{by_file, by_input}
+use Rattle.sm_commands.specs.steps.BodySteps.{StepStops, StepComesTo, EndsWithLine, EndsWithLimit, TreeAnswers, ReadsModelFile, HoldsModel, RefusesFile, OpensModel, InputSays, InputComesTo, BodyComesTo}
+use Rattle.sm_commands.specs.declared.model.structures.FirstModel.{FirstModel}
+use Rattle.sm_commands.specs.declared.body.Stop.{Stop}
+use Rattle.sm_commands.specs.declared.body.Stop.TheVariants.{Refused, Limit, ReadFault, NoMemory}
+use Rattle.sm_commands.proofs.Shaped.{shape_count_is}
+
+-- a step that ends with a line has the answer of that line
+pub line_stops : (Says : Answer → Type 0) (Failed Short : Type 0) (line : List ℕ) (stop : Stop) → Says (refused line) → Short
+    → EndsWithLine line stop → StepStops Says Failed Short stop
+line_stops Says Failed Short line (Refused printed) says short ends = subst (λ x. Says (refused x)) (sym ends) says
+line_stops Says Failed Short line (Limit printed) says short ends = absurd ends
+line_stops Says Failed Short line ReadFault says short ends = absurd ends
+line_stops Says Failed Short line NoMemory says short ends = short
+
+pub limit_stops : (Says : Answer → Type 0) (Failed Short : Type 0) (line : List ℕ) (stop : Stop) → Says (past line) → Short
+    → EndsWithLimit line stop → StepStops Says Failed Short stop
+limit_stops Says Failed Short line (Refused printed) says short ends = absurd ends
+limit_stops Says Failed Short line (Limit printed) says short ends = subst (λ x. Says (past x)) (sym ends) says
+limit_stops Says Failed Short line ReadFault says short ends = absurd ends
+limit_stops Says Failed Short line NoMemory says short ends = short
+
+-- what holds of a step's answer, failed read and `NoMemory`, holds where more is known
+stops_map : (Says Tells : Answer → Type 0) (F G S T : Type 0) (stop : Stop) → ((a : Answer) → Says a → Tells a) → (F → G) → (S → T)
+    → StepStops Says F S stop → StepStops Tells G T stop
+stops_map Says Tells F G S T (Refused line) says failed short h = says (refused line.items) h
+stops_map Says Tells F G S T (Limit line) says failed short h = says (past line.items) h
+stops_map Says Tells F G S T ReadFault says failed short h = failed h
+stops_map Says Tells F G S T NoMemory says failed short h = short h
+
+comes_map : (Says Tells : Answer → Type 0) (F G S T : Type 0) (result : Result (Vec ℕ) Stop) → ((a : Answer) → Says a → Tells a) → (F → G)
+    → (S → T) → StepComesTo Says F S result → StepComesTo Tells G T result
+comes_map Says Tells F G S T (Ok far) says failed short h = says (done far.items) h
+comes_map Says Tells F G S T (Err stop) says failed short h = stops_map Says Tells F G S T stop says failed short h
+
+-- a tree that spells a value, and one that has a fault
+pub value_answers : (t : Table) (s : ℕ) (n : Node) (v : Val) (far : List ℕ) → Spells t json_leaf s v n
+    → far ≡ written (encoded_tree t json_written s v) → TreeAnswers t s n (done far)
+value_answers t s n v far spells is = λ body read. value n v read spells (ap done is)
+
+pub fault_answers : (t : Table) (s : ℕ) (n : Node) (path : List Step) (kind : FaultKind) (later : List FaultAt)
+    → faults t json_leaf n s ≡ (path, kind) ∷ later → TreeAnswers t s n (refused (fault_line path kind))
+fault_answers t s n path kind later first = λ body read. fault n path kind later read first refl
+
+-- a tree that was read from the bytes, and bytes that are no text
+pub tree_comes : (t : Table) (s : ℕ) (n : Node) (body : List ℕ) (result : Result (Vec ℕ) Stop) → IsRead JsonText n body
+    → StepComesTo (TreeAnswers t s n) ⊥ (Unit {0}) result → StepComesTo (TextAnswers t s body) ⊥ (Unit {0}) result
+tree_comes t s n body result read h = comes_map (TreeAnswers t s n) (TextAnswers t s body) ⊥ ⊥ (Unit {0}) (Unit {0}) result
+    (λ a says. says body read) (λ x. x) (λ x. x) h
+
+pub refused_so : (body : List ℕ) (refusal : SyntaxRefusal) → Reads json_syntax body (Err refusal) → (refusal ≡ no_room → ⊥)
+    → IsRefused json_syntax body refusal
+refused_so body (Bad at) h other = h
+refused_so body Ended h other = h
+refused_so body (TooDeep at) h other = h
+refused_so body (KeyKind at) h other = h
+refused_so body no_room h other = other refl
+
+pub text_stops : (t : Table) (s : ℕ) (body : List ℕ) (refusal : SyntaxRefusal) (stop : Stop) → IsRefused json_syntax body refusal
+    → EndsWithLine (syntax_line refusal) stop → StepStops (TextAnswers t s body) ⊥ (Unit {0}) stop
+text_stops t s body refusal stop is ends =
+    line_stops (TextAnswers t s body) ⊥ (Unit {0}) (syntax_line refusal) stop (no_text refusal is refl) tt ends
+
+-- the model that the tree of a file says
+pub model_read : (name file : List ℕ) (n : Node) (result : Result (Option FirstModel) OutOfMemory) → EndsInJson name
+    → IsRead JsonText n file → ReadsModel n result → ReadsModelFile name file result
+model_read name file n (Ok (Some m)) json read h = (json, (n, read, h))
+model_read name file n (Ok None) json read h =
+    λ m is. h m (subst (λ x. FirstForm x m) (one_tree is.tree n file is.read.0 read.0) is.form)
+model_read name file n (Err e) json read h = tt
+
+-- a file that is no text
+pub no_model_text : (name file : List ℕ) (refusal : SyntaxRefusal) → IsRefused json_syntax file refusal → IsUnbuilt name file
+no_model_text name file refusal is m model = refused_no_text json_syntax file refusal is model.tree model.read
+
+-- a list of any length
+long_list : (n : ℕ) → (xs : List ℕ) × (length xs ≡ n)
+long_list n = (replicate n 0, length-replicate n 0)
+
+-- a file that is longer than the limit, where told or not; and such an input
+pub longer_file : (told : Option Folder) (name : List ℕ) (limit : ℕ) → HoldsLonger told name limit
+    → (file : List ℕ) × Holds told name (Some file) × (limit < length file)
+longer_file None name limit h = let w = long_list (limit + 1) in (w.0, tt, omega (arith, w.1))
+longer_file (Some folder) name limit h = at_file (file_at folder name) h
+  where
+    at_file : (content : Option (List ℕ)) → IsSomeAnd content (λ bytes. limit < length bytes)
+        → (file : List ℕ) × (content ≡ Some file) × (limit < length file)
+    at_file None h = absurd h
+    at_file (Some bytes) h = (bytes, refl, h)
+
+longer_input : (left : Option (List ℕ)) (limit : ℕ) → IfSome left (λ bytes. limit < length bytes)
+    → (input : List ℕ) × IfSome left (λ bytes. bytes ≡ input) × (limit < length input)
+longer_input None limit h = let w = long_list (limit + 1) in (w.0, tt, omega (arith, w.1))
+longer_input (Some bytes) limit h = (bytes, refl, h)
+
+-- the file's model, or its refusal
+pub file_opens : (files files1 : FilesSeen) (name file : List ℕ) (read : FirstModel) → Holds files.held name (Some file)
+    → length file ≤ file_limit → ReadsModelFile name file (Ok (Some read)) → OpensModel files files1 name (Ok read)
+file_opens files files1 name file read held within (json, (n, is_read, model)) = record {
+  file = file;
+  m = model.model;
+  held = held;
+  within = within;
+  model = record { is_json = json; tree = n; read = is_read; form = model.form };
+  tabled = model.tabled;
+  shaped = model.shaped;
+  names = model.names;
+}
+
+pub file_unbuilt : (files files1 : FilesSeen) (name file : List ℕ) (stop : Stop) → Holds files.held name (Some file)
+    → length file ≤ file_limit → IsUnbuilt name file → EndsWithLine (unbuilt_line name) stop → OpensModel files files1 name (Err stop)
+file_unbuilt files files1 name file stop held within none ends =
+    line_stops (RefusesFile files name) (Rose files.faults files1.faults) (Unit {0}) (unbuilt_line name) stop
+    (file, held, λ shape. unbuilt within none refl) tt ends
+
+pub file_past : (files files1 : FilesSeen) (name : List ℕ) (stop : Stop) → HoldsLonger files.held name file_limit
+    → EndsWithLimit file_limit_line stop → OpensModel files files1 name (Err stop)
+file_past files files1 name stop long ends = let w = longer_file files.held name file_limit long in
+    limit_stops (RefusesFile files name) (Rose files.faults files1.faults) (Unit {0}) file_limit_line stop
+    (w.0, w.1, λ shape. long_file w.2 refl) tt ends
+
+-- the whole input was read: a text that answers, and one that is too long
+emptied : (left rest : Option (List ℕ)) (body : List ℕ) → Empties left rest body → IfSome left (λ bytes. bytes ≡ body)
+emptied None rest body h = tt
+emptied (Some xs) None body h = absurd h.0
+emptied (Some xs) (Some ys) body h = h.0 ∙ ap (λ r. body ++ r) h.1 ∙ append-nil body
+
+pub input_comes : (input rest : Stream) (t : Table) (s : ℕ) (body : List ℕ) (result : Result (Vec ℕ) Stop)
+    → Empties input.bytes rest.bytes body → length body ≤ body_limit → StepComesTo (TextAnswers t s body) ⊥ (Unit {0}) result
+    → InputComesTo input rest t s result
+input_comes input rest t s body result empties within h =
+    comes_map (TextAnswers t s body) (InputSays input rest t s) ⊥ (Rose input.faults rest.faults) (Unit {0}) (Unit {0}) result
+    (λ a says. (body, record { told = emptied input.bytes rest.bytes body empties; read = λ _. empties.1 }, whole within says))
+    (λ x. absurd x) (λ x. x) h
+
+pub input_past : (input rest : Stream) (t : Table) (s : ℕ) (stop : Stop) → IfSome input.bytes (λ body. body_limit < length body)
+    → EndsWithLimit body_limit_line stop → InputComesTo input rest t s (Err stop)
+input_past input rest t s stop long ends = let w = longer_input input.bytes body_limit long in
+    limit_stops (InputSays input rest t s) (Rose input.faults rest.faults) (Unit {0}) body_limit_line stop
+    (w.0, record { told = w.1; read = λ within. absurd (omega (arith, w.2, within)) }, long_input w.2 refl) tt ends
+
+-- the whole command: a refused file, a missing shape, and the input
+pub body_stops : (files files1 : FilesSeen) (input : Stream) (name shape : List ℕ) (stop : Stop) → OpensModel files files1 name (Err stop)
+    → BodyComesTo files files1 input input name shape (Err stop)
+body_stops files files1 input name shape stop h =
+    stops_map (RefusesFile files name) (BodyAnswers files input input name shape) (Rose files.faults files1.faults)
+    (ReadFails files files1 input input name shape)
+    (Unit {0}) (StopsShort files input input name shape) stop (λ a says. by_file says.0 says.1 (says.2 shape) refl)
+    (λ rose. inl (rose, refl)) (λ short. inl refl) h
+
+pub shape_there : (files : FilesSeen) (name shape : List ℕ) (read : FirstModel) (s : ℕ) → (h : HoldsModel files name read)
+    → slice_get read.names.items s ≡ Some shape → FileHasShape name h.file shape read.table s
+shape_there files name shape read s h found =
+    record { within = h.within; m = h.m; model = h.model; tabled = h.tabled; named = ap (λ xs. slice_get xs s) (sym h.names) ∙ found }
+
+pub body_crosses : (files files1 : FilesSeen) (input rest : Stream) (name shape : List ℕ) (read : FirstModel) (s : ℕ)
+    (result : Result (Vec ℕ) Stop) → HoldsModel files name read → slice_get read.names.items s ≡ Some shape
+    → InputComesTo input rest read.table s result → BodyComesTo files files1 input rest name shape result
+body_crosses files files1 input rest name shape read s result h found comes =
+    let there = shape_there files name shape read s h found in
+    let served : ReachesInput files name shape = record { file = h.file; t = read.table; s = s; held = h.held; there = there } in
+    comes_map (InputSays input rest read.table s) (BodyAnswers files input rest name shape) (Rose input.faults rest.faults)
+    (ReadFails files files1 input rest name shape)
+    (Unit {0}) (StopsShort files input rest name shape) result
+    (λ a says. by_input says.0 served says.1 says.2) (λ rose. inr (rose, served)) (λ short. inr served) comes
+
+pub body_lacks : (files files1 : FilesSeen) (input : Stream) (name shape : List ℕ) (read : FirstModel) (stop : Stop)
+    → HoldsModel files name read → ((s : ℕ) → slice_get read.names.items s ≡ Some shape → ⊥)
+    → EndsWithLine (no_shape_line shape) stop → BodyComesTo files files1 input input name shape (Err stop)
+body_lacks files files1 input name shape read stop h none ends =
+    line_stops (BodyAnswers files input input name shape) (ReadFails files files1 input input name shape)
+    (StopsShort files input input name shape) (no_shape_line shape) stop
+    (by_file h.file h.held (no_shape h.m h.within h.model (λ s is. none s (ap (λ xs. slice_get xs s) h.names ∙ is)) refl) refl) (inl refl)
+    ends
+
+-- a structure that is named is a shape of the table
+pub shape_within : (files : FilesSeen) (name shape : List ℕ) (read : FirstModel) (s : ℕ) → HoldsModel files name read
+    → slice_get read.names.items s ≡ Some shape → s < shape_count read.table
+shape_within files name shape read s h found =
+    let among : s < length read.names.items = slice_get_within read.names.items s shape found in
+    let count : length read.names.items ≡ length h.m = ap (λ xs. length xs) h.names ∙ length-map h.m (λ l. l.name) in
+    let size : shape_count read.table ≡ length h.m + 4 = ap shape_count h.tabled ∙ shape_count_is h.m in
+    omega (arith, among, count, size)

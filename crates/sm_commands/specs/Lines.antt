@@ -1,0 +1,48 @@
+-- The lines that are printed for what is refused. Each ends with a line feed.
+use Rattle.std.specs.Prelude.{ℕ, List, [], ◌∷◌, ◌++◌, codes}
+use Rattle.std.specs.Fmt.{decimal}
+use Rattle.sm_bytes.specs.Ascii.{space, line_feed}
+use Rattle.sm_tree.specs.Pointer.{pointer}
+use Rattle.sm_tree.specs.declared.path.Step.{Step}
+use Rattle.sm_tree.specs.declared.refusal.SyntaxRefusal.{SyntaxRefusal}
+use Rattle.sm_tree.specs.declared.refusal.SyntaxRefusal.TheVariants.{Bad, Ended, TooDeep, KeyKind, NoMemory}
+use Rattle.sm_shapes.specs.FaultWords.{fault_word}
+use Rattle.sm_shapes.specs.declared.fault.FaultKind.{FaultKind}
+use Rattle.sm_commands.specs.Limits.{file_limit, body_limit}
+
+-- a word, a blank and a text
+abbrev pub line : List ℕ → List ℕ → List ℕ
+line word text = word ++ (space ∷ (text ++ line_feed ∷ []))
+
+-- the model file isn't of the form that is read
+abbrev pub unbuilt_line : List ℕ → List ℕ
+unbuilt_line model = line (codes "Unbuilt") model
+
+-- the model has no shape of this name
+abbrev pub no_shape_line : List ℕ → List ℕ
+no_shape_line shape = line (codes "NoShape") shape
+
+-- a fault of the body: its path as a JSON Pointer, and its kind
+abbrev pub fault_line : List Step → FaultKind → List ℕ
+fault_line path kind = line (codes "Fault") (pointer path ++ (space ∷ fault_word kind))
+
+-- a body that is no text; of JSON no `KeyKind` comes, and `NoMemory` is no refusal of a body
+abbrev pub syntax_text : SyntaxRefusal → List ℕ
+syntax_text (Bad at) = codes "Bad " ++ decimal at
+syntax_text Ended = codes "Ended"
+syntax_text (TooDeep at) = codes "TooDeep " ++ decimal at
+syntax_text (KeyKind at) = codes "KeyKind " ++ decimal at
+syntax_text NoMemory = codes "NoMemory"
+
+abbrev pub syntax_line : SyntaxRefusal → List ℕ
+syntax_line refusal = line (codes "Syntax") (syntax_text refusal)
+
+-- a limit that was passed: its word and its number
+abbrev pub limit_line : List ℕ → ℕ → List ℕ
+limit_line word number = line (codes "Limit") (word ++ (space ∷ decimal number))
+
+abbrev pub file_limit_line : List ℕ
+file_limit_line = limit_line (codes "file") file_limit
+
+abbrev pub body_limit_line : List ℕ
+body_limit_line = limit_line (codes "body") body_limit

@@ -1,0 +1,58 @@
+-- That the program has one answer, and that it has one at all, where the outside tells its bytes; and that the answer is put
+-- where nothing failed.
+use Rattle.std.specs.Prelude.{◌≡◌, ◌⊎◌, ℕ, List, Some}
+use Rattle.std.specs.Io.KnownBytes.{Appends}
+use Rattle.sm_io.specs.Causes.{Quiet}
+use Rattle.sm_io.specs.Files.{Folder, file_at}
+use Rattle.sm_io.specs.Seen.{Stream, files_seen, stream}
+use Rattle.sm_commands.specs.Outside.{Outside}
+use Rattle.sm_commands.specs.CommandWords.{IsBody}
+use Rattle.sm_commands.specs.Body.{Answer}
+use Rattle.sm_commands.specs.Run.{BodyAnswers, Prints, RunEnds}
+use Rattle.sm_commands.specs.declared.command.Status.{Status}
+use Rattle.sm_commands.specs.declared.command.Status.TheVariants.{Done, Refused, Usage, ReadFault, WriteFault, NoMemory, Limit}
+
+-- the status is of an answer: neither `NoMemory` nor that of a fault of the outside
+abbrev pub IsAnswered : Status → Type 0
+IsAnswered Done = Unit {0}
+IsAnswered Refused = Unit {0}
+IsAnswered Usage = Unit {0}
+IsAnswered Limit = Unit {0}
+IsAnswered ReadFault = ⊥
+IsAnswered WriteFault = ⊥
+IsAnswered NoMemory = ⊥
+
+-- a run of these words over files and an input that tell these bytes, which ends with an answer of this status
+pub record IsAnsweredRun (words : List (List ℕ)) (folder : Folder) (input : List ℕ) (before after : Outside) (status : Status)
+    : Type 0 where
+  pub files : before.files.held ≡ Some folder
+  pub left : before.input.bytes ≡ Some input
+  pub ends : RunEnds words before after status
+  pub answered : IsAnswered status
+
+-- a law: the words, the files and the input determine the status and the bytes that are put. So each status
+-- comes exactly where its reason is, but for faults of the outside and where memory runs out
+abbrev pub OneRunAnswer : Type 0
+OneRunAnswer = (words : List (List ℕ)) (folder : Folder) (input : List ℕ) (before after before1 after1 : Outside) (status status1 : Status)
+    → IsAnsweredRun words folder input before after status → IsAnsweredRun words folder input before1 after1 status1
+    → (status ≡ status1)
+    × ((text : List ℕ) × Appends before.output.bytes after.output.bytes text × Appends before1.output.bytes after1.output.bytes text)
+
+-- a law: where the model file is there, every input comes to some answer, said by two denials. So no gap in what
+-- is said is left to `NoMemory`
+abbrev pub SomeRunAnswer : Type 0
+SomeRunAnswer = (folder : Folder) (model shape file input : List ℕ) (reads takes : ℕ) → file_at folder model ≡ Some file
+    → ((rest : Stream) (a : Answer) → BodyAnswers (files_seen (Some folder) reads) (stream (Some input) takes) rest model shape a → ⊥) → ⊥
+
+-- no count of faults rose in between: neither that of reads of files, nor those of the input and of the output
+pub record IsQuiet (before after : Outside) : Type 0 where
+  pub files : Quiet before.files.faults after.files.faults
+  pub input : Quiet before.input.faults after.input.faults
+  pub output : Quiet before.output.faults after.output.faults
+
+-- a law: where the words have the form and no count rose, the answer is put, or memory ran out. That the model file is
+-- there needn't be said: to read one that isn't raises the count
+abbrev pub QuietRunAnswers : Type 0
+QuietRunAnswers = (words : List (List ℕ)) (model shape : List ℕ) (before after : Outside) (status : Status)
+    → IsBody words model shape → IsQuiet before after → RunEnds words before after status
+    → Prints words before after status ⊎ (status ≡ NoMemory)

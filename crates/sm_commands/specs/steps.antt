@@ -1,0 +1,6 @@
+pub mod DecodeSteps
+pub mod Indexed
+pub mod FieldsFit
+pub mod ModelSteps
+pub mod RowsSoFar
+pub mod BodySteps

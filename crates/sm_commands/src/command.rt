@@ -1,0 +1,126 @@
+// The commands: what the program does for its words, over any files, input and output.
+ghost use Rattle.std.specs.Prelude.{◌≡◌, ◌≤◌};
+ghost use Rattle.sm_io.specs.Files.{LetsSame};
+ghost use Rattle.sm_io.specs.Reading.{LosesPrefix};
+ghost use Rattle.sm_io.specs.Seen.{files_seen, stream};
+ghost use Rattle.sm_commands.specs.Outside.{outside};
+ghost use Rattle.sm_commands.specs.CommandWords.{LetsModel};
+ghost use Rattle.sm_commands.specs.Run.{code_of, RunAnswers};
+ghost use Rattle.sm_commands.specs.steps.BodySteps.{PutEnds, PrintsResult};
+
+use crate::body::{Stop, body};
+use crate::words::form_of;
+use sm_io::{Files, PutRefusal, Sink, Source};
+use sm_shapes::Patterns;
+use sm_tree::Text;
+use std::alloc::Global;
+
+/// How a command ended.
+#[derive(Debug, Clone, Copy, PartialEq, Eq, Drop)]
+pub enum Status {
+    /// Its work is done.
+    Done,
+    /// The model, the shape or the body is refused; a line was printed.
+    Refused,
+    /// The words have none of the forms; nothing was printed.
+    Usage,
+    /// A file or the input could not be read; nothing was printed.
+    ReadFault,
+    /// The output could not be written.
+    WriteFault,
+    /// The allocator refused the memory that is needed.
+    NoMemory,
+    /// A limit is passed; a line was printed.
+    Limit,
+}
+
+impl Status {
+    /// The number of the status, by which the process ends.
+    pub fn code(self) -> u8
+        ensures { result ≡ code_of self }
+    {
+        match self {
+            Status::Done => 0,
+            Status::Refused => 1,
+            Status::Usage => 2,
+            Status::ReadFault => 3,
+            Status::WriteFault => 4,
+            Status::NoMemory => 5,
+            Status::Limit => 7,
+        }
+    }
+}
+
+// Puts a piece, and ends with this status where that succeeds.
+fn put<K: Sink>(out: &mut K, piece: &[u8], status: Status) -> Status
+    ensures ends { PutEnds
+        (stream (K.written out.old) (K.faults out.old))
+        (stream (K.written out.new) (K.faults out.new))
+        piece.now status result }
+    ensures output_faults { K.faults out.old ≤ K.faults out.new }
+{
+    match out.put(piece) {
+        Ok(()) => status,
+        Err(PutRefusal::Failed) => Status::WriteFault,
+        Err(PutRefusal::NoMemory) => Status::NoMemory,
+    }
+}
+
+// Prints what a command came to.
+fn print<K: Sink>(out: &mut K, came: Result<Vec<u8>, Stop>) -> Status
+    ensures prints { PrintsResult
+        (stream (K.written out.old) (K.faults out.old))
+        (stream (K.written out.new) (K.faults out.new))
+        came result }
+    ensures output_faults { K.faults out.old ≤ K.faults out.new }
+{
+    match came {
+        Ok(text) => put(out, &text, Status::Done),
+        Err(stop) => match stop {
+            Stop::Refused(line) => put(out, &line, Status::Refused),
+            Stop::Limit(line) => put(out, &line, Status::Limit),
+            Stop::ReadFault => Status::ReadFault,
+            Stop::NoMemory => Status::NoMemory,
+        },
+    }
+}
+
+/// Does what the words ask for, and answers the status of the process. `body MODELFILE SHAPE json json` prints
+/// the canonical body of the value that the input spells (0), or the line of the first thing that is refused:
+/// the model file's length (7), the model, the shape (1); the input's length (7), its syntax, its faults (1).
+/// The input is touched only where nothing that stands before it is refused.
+///
+/// 2: the words have no form, and nothing is touched. 3: a read of the file or of the input failed, and nothing
+/// is put. 4: the output failed, and holds a prefix of what was to be put. 5: memory ran out, and nothing is put.
+/// 3 and 4 come only where that object's count of faults rose. No model that is read today has patterns, so the
+/// store stays as it is.
+pub fn run<F: Files, S: Source, K: Sink, P: Patterns>(
+    alloc: Global,
+    words: &[Text],
+    files: &mut F,
+    input: &mut S,
+    out: &mut K,
+    patterns: &mut P,
+) -> u8
+    requires { LetsModel (F.lets_read files.old) words.now }
+    ensures answers { let before = outside (files_seen (F.held files.old) (F.read_faults files.old)) (stream (S.left input.old) (S.faults input.old)) (stream (K.written out.old) (K.faults out.old)) in
+        let after = outside (files_seen (F.held files.new) (F.read_faults files.new)) (stream (S.left input.new) (S.faults input.new)) (stream (K.written out.new) (K.faults out.new)) in
+        RunAnswers words.now before after result }
+    ensures held { F.held files.new ≡ F.held files.old }
+    ensures write_faults { F.write_faults files.new ≡ F.write_faults files.old }
+    ensures read_faults { F.read_faults files.old ≤ F.read_faults files.new }
+    ensures same_reads { LetsSame (F.lets_read files.old) (F.lets_read files.new) }
+    ensures same_writes { LetsSame (F.lets_write files.old) (F.lets_write files.new) }
+    ensures prefix { LosesPrefix (S.left input.old) (S.left input.new) }
+    ensures input_faults { S.faults input.old ≤ S.faults input.new }
+    ensures output_faults { K.faults out.old ≤ K.faults out.new }
+    ensures patterns { patterns.new ≡ patterns.old }
+{
+    match form_of(words) {
+        Some(words) => {
+            let came = body(alloc, words, files, input);
+            print(out, came).code()
+        }
+        None => Status::Usage.code(),
+    }
+}

@@ -1,0 +1,13 @@
+// The commands: what the program does for its words, over any files, input and output. Until they have crates of their
+// own, the codec and the reader of models stand here too.
+#![tactic(auto)]
+
+mod body;
+pub mod codec;
+mod command;
+pub mod laws;
+mod lines;
+pub mod model;
+mod words;
+
+pub use command::{Status, run};

@@ -1,0 +1,61 @@
+// The lines that are printed for what is refused.
+ghost use Rattle.std.specs.Prelude.{◌≡◌, IfOk, string_bytes};
+ghost use Rattle.sm_commands.specs.Lines.{line as the_line, fault_line as the_fault_line, limit_line as the_limit_line, syntax_line as the_syntax_line, syntax_text as the_syntax_text};
+
+use sm_shapes::Fault;
+use sm_tree::{NoMemory, SyntaxRefusal};
+use std::alloc::Global;
+
+/// A word, a blank and a text, with a line feed.
+pub(crate) fn line(alloc: Global, word: &str, text: &str) -> Result<Vec<u8>, NoMemory>
+    ensures { IfOk result (λ line. line.items ≡ the_line word.now text.now) }
+{
+    let mut line = Vec::with_capacity(
+        alloc,
+        word.len().saturating_add(text.len()).saturating_add(2),
+    )?;
+    line.extend_from_slice(word.as_bytes())?;
+    line.push(b' ')?;
+    line.extend_from_slice(text.as_bytes())?;
+    line.push(b'\n')?;
+    Ok(line)
+}
+
+/// The line of a fault: its path as a JSON Pointer (RFC 6901), and its kind.
+pub(crate) fn fault_line(alloc: Global, fault: &Fault) -> Result<Vec<u8>, NoMemory>
+    ensures { IfOk result (λ line. line.items ≡ the_fault_line fault.now.path fault.now.kind) }
+{
+    let mut text = fault.path.print(alloc)?;
+    text.push_str(" ")?;
+    text.push_str(fault.kind.word())?;
+    line(alloc, "Fault", text.as_str())
+}
+
+/// The line of a limit that was passed: its word and its number.
+pub(crate) fn limit_line(alloc: Global, word: &str, number: u64) -> Result<Vec<u8>, NoMemory>
+    ensures { IfOk result (λ line. line.items ≡ the_limit_line word.now number) }
+{
+    let text = format!(in alloc; "{word} {number}")?;
+    line(alloc, "Limit", text.as_str())
+}
+
+/// The line of a body that is no text.
+pub(crate) fn syntax_line(alloc: Global, refusal: SyntaxRefusal) -> Result<Vec<u8>, NoMemory>
+    ensures { IfOk result (λ line. line.items ≡ the_syntax_line refusal) }
+{
+    let text = syntax_text(alloc, refusal)?;
+    line(alloc, "Syntax", text.as_str())
+}
+
+// The word of a refusal, and its place.
+fn syntax_text(alloc: Global, refusal: SyntaxRefusal) -> Result<String, NoMemory>
+    ensures { IfOk result (λ text. string_bytes text ≡ the_syntax_text refusal) }
+{
+    match refusal {
+        SyntaxRefusal::Bad(at) => Ok(format!(in alloc; "Bad {at}")?),
+        SyntaxRefusal::Ended => Ok(String::from_str(alloc, "Ended")?),
+        SyntaxRefusal::TooDeep(at) => Ok(format!(in alloc; "TooDeep {at}")?),
+        SyntaxRefusal::KeyKind(at) => Ok(format!(in alloc; "KeyKind {at}")?),
+        SyntaxRefusal::NoMemory => Ok(String::from_str(alloc, "NoMemory")?),
+    }
+}

@@ -1,7 +1,0 @@
-use Rattle.std.proofs.Common.{subst}
-use Rattle.sm_tool.specs.Answers.{IsFirst}
-use Rattle.sm_tool.proofs.Refusals.{under_first}
-use Rattle.sm_tool.proofs.codec.refusal.Refusal.under.Goals as goal
-
-pub returns-in-Ok : goal.returns-in-Ok
-returns-in-Ok c = λ fs first. under_first _ fs c.in-Fault.fault.path c.in-Ok.path c.in-Fault.fault.kind c.in-Ok.ensures (subst (IsFirst fs) c.in-Fault.is first)

@@ -1,5 +1,0 @@
-use Rattle.sm_tool.proofs.SomeRun.{some_answer}
-use Rattle.sm_tool.proofs.laws.some_answer.Goals as goal
-
-pub returns : goal.returns
-returns c = some_answer
