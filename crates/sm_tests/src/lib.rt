@@ -9,13 +9,7 @@ mod ids;
 #[cfg(test)]
 mod io;
 #[cfg(test)]
-mod json;
-#[cfg(test)]
-mod lex;
-#[cfg(test)]
 mod shapes;
-#[cfg(test)]
-mod time;
 #[cfg(test)]
 mod tool;
 #[cfg(test)]

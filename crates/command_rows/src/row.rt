@@ -1,0 +1,52 @@
+// What a line of text says.
+
+/// A row.
+#[derive(Debug, Clone, Copy)]
+pub enum Row<'a> {
+    /// An empty line, or a title (`# ..`).
+    Title,
+    /// `pad N`: what the next row gives, a file's text or an input, is padded with blanks up to so many bytes.
+    Pad(usize),
+    /// `file NAME TEXT`: from now on the name stands for a file of this text.
+    File(&'a str, &'a str),
+    /// `run WORDS < INPUT`: a run of these words, and its input. `run < INPUT` has no words.
+    Run(Option<&'a str>, &'a str),
+    /// Any other line.
+    Unknown,
+}
+
+impl<'a> Row<'a> {
+    /// What a line says.
+    pub fn of(line: &'a str) -> Self {
+        if line.is_empty() || line.starts_with('#') {
+            return Row::Title;
+        }
+        if let Some(rest) = line.strip_prefix("run") {
+            return Row::run(rest);
+        }
+        match line.split_once(' ') {
+            Some(("file", rest)) => Row::file(rest),
+            Some(("pad", length)) => match length.parse::<usize>() {
+                Ok(length) => Row::Pad(length),
+                Err(_) => Row::Unknown,
+            },
+            _ => Row::Unknown,
+        }
+    }
+
+    // A row `run`, without this word.
+    fn run(rest: &'a str) -> Self {
+        match rest.split_once(" < ") {
+            Some((words, input)) => Row::Run(words.strip_prefix(' '), input),
+            None => Row::Unknown,
+        }
+    }
+
+    // A row `file`, without this word.
+    fn file(rest: &'a str) -> Self {
+        match rest.split_once(' ') {
+            Some((name, text)) => Row::File(name, text),
+            None => Row::Unknown,
+        }
+    }
+}

@@ -1,0 +1,102 @@
+// The files of the rows so far, over which commands run.
+ghost use Rattle.std.specs.Prelude.{◌≡◌, ◌≤◌, IfOk, length, take};
+
+use sm_commands::run;
+use sm_io::{CalmSink, CalmSource, Files, MemFiles};
+use sm_shapes::LiteralPatterns;
+use sm_tree::{NoMemory, Text};
+use std::alloc::Global;
+
+/// Files in memory, and the length up to which the next text is padded.
+#[derive(Drop)]
+pub struct Shelf {
+    files: MemFiles,
+    padded: usize,
+}
+
+impl Shelf {
+    /// No files. Reading a name without a file fails.
+    pub fn new(alloc: Global) -> Self {
+        Shelf {
+            files: MemFiles::new(alloc, Vec::new(alloc), Vec::new(alloc)),
+            padded: 0,
+        }
+    }
+
+    /// The next text is padded up to so many bytes.
+    pub fn pad(&mut self, length: usize) {
+        self.padded = length;
+    }
+
+    // The bytes of a text, and blanks behind it where the row before asks for them.
+    fn bytes_of(&mut self, alloc: Global, text: &str) -> Result<Vec<u8>, NoMemory>
+        ensures text { IfOk result (λ bytes. take (length text.now) bytes.items ≡ text.now) }
+        ensures padded { IfOk result (λ bytes. self.old.padded ≤ length bytes.items) }
+    {
+        let mut bytes = Vec::new(alloc);
+        bytes.extend_from_slice(text.as_bytes())?;
+        let blanks = vec![in alloc; b' '; self.padded.saturating_sub(text.len())]?;
+        bytes.extend_from_slice(blanks.as_slice())?;
+        self.padded = 0;
+        Ok(bytes)
+    }
+
+    /// From now on the name stands for a file of this text.
+    pub fn keep(&mut self, alloc: Global, name: &str, text: &str) -> Result<(), NoMemory> {
+        let bytes = self.bytes_of(alloc, text)?;
+        match self.files.write(name, bytes.as_slice()) {
+            Ok(()) => Ok(()),
+            Err(_) => Err(NoMemory),
+        }
+    }
+
+    /// Runs these words on an input, and appends its answer: the status and what was put, where `\n` is a line feed.
+    pub fn run(
+        &mut self,
+        alloc: Global,
+        words: Option<&str>,
+        input: &str,
+        out: &mut String,
+    ) -> Result<(), NoMemory> {
+        let words = words_of(alloc, words)?;
+        let mut input = CalmSource::new(self.bytes_of(alloc, input)?, Vec::new(alloc));
+        let mut put = CalmSink::new(alloc);
+        let mut patterns = LiteralPatterns::new(alloc, Vec::new(alloc));
+        let status = run(
+            alloc,
+            words.as_slice(),
+            &mut self.files,
+            &mut input,
+            &mut put,
+            &mut patterns,
+        );
+        out.push_str(format!(in alloc; " => {status}")?.as_str())?;
+        show(alloc, put.bytes(), out)
+    }
+}
+
+// The words that stand in a row, with a blank between two.
+fn words_of(alloc: Global, row: Option<&str>) -> Result<Vec<Text>, NoMemory> {
+    let mut words = Vec::new(alloc);
+    if let Some(row) = row {
+        for word in row.split(' ') {
+            words.push(Text::copy(alloc, word)?)?;
+        }
+    }
+    Ok(words)
+}
+
+// Appends a blank and what was put, if anything.
+fn show(alloc: Global, put: &[u8], out: &mut String) -> Result<(), NoMemory> {
+    if put.is_empty() {
+        return Ok(());
+    }
+    match std::str::from_utf8(put) {
+        Ok(text) => {
+            out.push(' ')?;
+            out.push_str(text.replace(alloc, "\n", "\\n")?.as_str())?;
+        }
+        Err(_) => out.push_str(" no text")?,
+    }
+    Ok(())
+}

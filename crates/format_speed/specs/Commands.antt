@@ -1,0 +1,33 @@
+-- What the words of the command line ask for.
+use Rattle.std.specs.Prelude.{◌≡◌, ℕ, List, codes, Option, Some, None}
+use Rattle.format_speed.specs.declared.command.Format.{Format}
+use Rattle.format_speed.specs.declared.command.Format.TheVariants.{Json, Cbor}
+use Rattle.format_speed.specs.declared.command.Work.{Work}
+use Rattle.format_speed.specs.declared.command.Work.TheVariants.{Read, Write, Copy}
+use Rattle.format_speed.specs.declared.command.Command.{Command}
+use Rattle.format_speed.specs.declared.command.Command.TheVariants.{Tree, Tokens}
+
+-- json or cbor
+abbrev pub AsksFormat : List ℕ → Option Format → Type 0
+AsksFormat word (Some Json) = word ≡ codes "json"
+AsksFormat word (Some Cbor) = word ≡ codes "cbor"
+AsksFormat word None = Unit {0}
+
+-- read N, write N, or copy
+abbrev pub AsksWork : List ℕ → Option ℕ → Option Work → Type 0
+AsksWork word count (Some (Read n)) = (word ≡ codes "read") × (count ≡ Some n)
+AsksWork word count (Some (Write n)) = (word ≡ codes "write") × (count ≡ Some n)
+AsksWork word count (Some Copy) = (word ≡ codes "copy") × (count ≡ None)
+AsksWork word count None = Unit {0}
+
+-- a format and what is done with it, or tokens read N
+abbrev pub AsksCommand : List ℕ → List ℕ → Option ℕ → Option Command → Type 0
+AsksCommand format work count (Some (Tree f w)) = AsksFormat format (Some f) × AsksWork work count (Some w)
+AsksCommand format work count (Some (Tokens n)) = (format ≡ codes "tokens") × (work ≡ codes "read") × (count ≡ Some n)
+AsksCommand format work count None = Unit {0}
+
+-- the text is read so many times
+abbrev pub reads_asked : Work → ℕ
+reads_asked (Read n) = n
+reads_asked (Write n) = 1
+reads_asked Copy = 1

@@ -1,0 +1,83 @@
+// What the program is asked to do.
+ghost use Rattle.std.specs.Prelude.{◌≡◌};
+ghost use Rattle.format_speed.specs.Commands.{AsksFormat, AsksWork, AsksCommand, reads_asked};
+
+/// A format of trees.
+#[derive(Clone, Copy, Debug, PartialEq, Eq, Drop)]
+pub enum Format {
+    /// `json`.
+    Json,
+    /// `cbor`: the input is a JSON text, and its tree is written as CBOR first, so that both are measured on the same values.
+    Cbor,
+}
+
+impl Format {
+    fn of(word: &str) -> Option<Self>
+        ensures { AsksFormat word.now result }
+    {
+        match word {
+            "json" => Some(Format::Json),
+            "cbor" => Some(Format::Cbor),
+            _ => None,
+        }
+    }
+}
+
+/// What is done with the text of a tree.
+#[derive(Clone, Copy, Debug, PartialEq, Eq, Drop)]
+pub enum Work {
+    /// `read N`: it is read N times.
+    Read(u32),
+    /// `write N`: it is read once and written N times.
+    Write(u32),
+    /// `copy`: it is read and written once, and comes out.
+    Copy,
+}
+
+impl Work {
+    fn of(word: &str, count: Option<u32>) -> Option<Self>
+        ensures { AsksWork word.now count result }
+    {
+        match (word, count) {
+            ("read", Some(count)) => Some(Work::Read(count)),
+            ("write", Some(count)) => Some(Work::Write(count)),
+            ("copy", None) => Some(Work::Copy),
+            _ => None,
+        }
+    }
+
+    /// How many times the text is read.
+    pub fn reads(self) -> u32
+        ensures { result ≡ reads_asked self }
+    {
+        match self {
+            Work::Read(count) => count,
+            Work::Write(_) | Work::Copy => 1,
+        }
+    }
+}
+
+/// What is measured.
+#[derive(Clone, Copy, Debug, PartialEq, Eq, Drop)]
+pub enum Command {
+    /// `json ..` or `cbor ..`: the reader or the writer of a format.
+    Tree(Format, Work),
+    /// `tokens read N`: the text is cut into tokens N times.
+    Tokens(u32),
+}
+
+impl Command {
+    /// The command of these words and this count, or `None` where there is none such.
+    pub fn of(format: &str, work: &str, count: Option<u32>) -> Option<Self>
+        ensures { AsksCommand format.now work.now count result }
+    {
+        let work = Work::of(work, count)?;
+        if let Some(format) = Format::of(format) {
+            return Some(Command::Tree(format, work));
+        }
+        match (format, work) {
+            ("tokens", Work::Read(count)) => Some(Command::Tokens(count)),
+            _ => None,
+        }
+    }
+}

@@ -1,0 +1,109 @@
+// Reads or writes one text many times over, so that others can measure the reader and the writer of its format. It tells no
+// time itself. docs/PERFORMANCE.md says how it is used.
+#![tactic(auto)]
+
+ghost use Rattle.std.specs.Prelude.{◌≡◌, IfOk};
+ghost use Rattle.sm_tree.specs.Json.{IsJson};
+ghost use Rattle.sm_tree.specs.View.{node_of};
+
+mod command;
+mod turns;
+
+use command::{Command, Format, Work};
+use sm_io::{Sink, StdSink, StdSource, read_all};
+use sm_tree::Tree;
+use std::alloc::Global;
+use std::process::ExitCode;
+use std::{env, io};
+
+/// The most bytes that are read.
+const TEXT_LIMIT: u64 = 1 << 30;
+
+// What the arguments ask for. The first of them is the program's name.
+fn asked(rt: &HostRuntime) -> io::Result<Option<Command>> {
+    let mut words = env::args(rt)?;
+    let _program = words.next();
+    let (Some(format), Some(work)) = (words.next(), words.next()) else {
+        return Ok(None);
+    };
+    let count = words.next();
+    if words.next().is_some() {
+        return Ok(None);
+    }
+    let Some(count) = count else {
+        return Ok(Command::of(format.as_str(), work.as_str(), None));
+    };
+    match count.as_str().parse::<u32>() {
+        Ok(count) => Ok(Command::of(format.as_str(), work.as_str(), Some(count))),
+        Err(_) => Ok(None),
+    }
+}
+
+// The bytes of a JSON text in a format: those of the text, or the item of its tree.
+fn in_format(alloc: Global, format: Format, text: Vec<u8>) -> anyhow::Result<Vec<u8>> {
+    match format {
+        Format::Json => Ok(text),
+        Format::Cbor => {
+            let Ok(tree) = sm_json::read_tree(alloc, &text) else {
+                anyhow::bail!("the input is no JSON text that can be read");
+            };
+            written(alloc, Format::Cbor, &tree, 1)
+        }
+    }
+}
+
+fn tree_of(alloc: Global, format: Format, bytes: &[u8], turns: u32) -> anyhow::Result<Tree>
+    ensures { IfOk result (λ tree. format ≡ Format.Json → IsJson (node_of tree)) }
+{
+    match turns::read_times(alloc, format, bytes, turns) {
+        Ok(tree) => Ok(tree),
+        Err(_) => anyhow::bail!("the input is no text that can be read"),
+    }
+}
+
+fn written(alloc: Global, format: Format, tree: &Tree, turns: u32) -> anyhow::Result<Vec<u8>>
+    requires { format ≡ Format.Json → IsJson (node_of tree.now) }
+{
+    if !turns::can_write(format, tree) {
+        anyhow::bail!("the input has a number that isn't written in this format");
+    }
+    match turns::write_times(alloc, format, tree, turns) {
+        Ok(written) => Ok(written),
+        Err(_) => anyhow::bail!("out of memory"),
+    }
+}
+
+// One format, read or written many times over, from a JSON text.
+fn measured(rt: &HostRuntime, format: Format, work: Work, text: Vec<u8>) -> anyhow::Result<()> {
+    let alloc = rt.alloc();
+    let bytes = in_format(alloc, format, text)?;
+    let tree = tree_of(alloc, format, &bytes, work.reads())?;
+    match work {
+        Work::Read(_) => println!(rt; "ok")?,
+        Work::Write(count) => println!(rt; "{}", written(alloc, format, &tree, count)?.len())?,
+        Work::Copy => StdSink::new(rt.stdout()).put(&written(alloc, format, &tree, 1)?)?,
+    }
+    Ok(())
+}
+
+fn main(rt: HostRuntime) -> anyhow::Result<ExitCode> {
+    let alloc = rt.alloc();
+    let Some(command) = asked(&rt)? else {
+        eprintln!(rt; "usage")?;
+        return Ok(ExitCode::from(2));
+    };
+    let text = read_all(alloc, &mut StdSource::new(rt.stdin()), TEXT_LIMIT)?;
+    match command {
+        Command::Tree(format, work) => measured(&rt, format, work, text)?,
+        Command::Tokens(count) => {
+            let Ok(text) = std::str::from_utf8(&text) else {
+                anyhow::bail!("the input is no text in UTF-8");
+            };
+            let Ok(count) = turns::token_count(alloc, text, count) else {
+                anyhow::bail!("the input has no tokens");
+            };
+            println!(rt; "{count}")?;
+        }
+    }
+    Ok(ExitCode::SUCCESS)
+}

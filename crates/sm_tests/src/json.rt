@@ -1,1 +1,0 @@
-// What only tests say of the reader and the writer of JSON.

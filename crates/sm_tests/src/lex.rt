@@ -1,1 +1,0 @@
-// What only tests say of the lexer.
