@@ -1,6 +1,6 @@
-// Writing into bytes that are there already, from a place on: the next place comes back, and what lies behind it may
-// change. A writer asks for its room once, by the length that it tells, and then places its bytes there.
-ghost use Rattle.std.specs.Prelude.{◌≡◌, ◌+◌, ◌<◌, ◌≤◌, [], ◌∷◌, ◌++◌, length, take, vec_len, vec_capacity, OnOk, OnErr, IsOk, IfOk};
+// Writing into bytes that are there already, from a place on: the next place comes back, and what lies behind it stays as it
+// was. A writer asks for its room once, by the length that it tells, and then places its bytes there.
+ghost use Rattle.std.specs.Prelude.{◌≡◌, ◌+◌, ◌<◌, ◌≤◌, [], ◌∷◌, ◌++◌, length, take, drop, vec_len, vec_capacity, OnOk, OnErr, IsOk, IfOk};
 ghost use Rattle.std.specs.Vec.{SameBlock};
 
 use std::alloc::{AllocError, Global};
@@ -12,6 +12,7 @@ pub fn place_byte(buf: &mut [u8], at: usize, byte: u8) -> usize
     requires room { at < length buf.old }
     ensures bytes { take result buf.new ≡ take at buf.old ++ byte ∷ [] }
     ensures next { result ≡ at + 1 }
+    ensures after { drop result buf.new ≡ drop result buf.old }
 {
     buf[at] = byte;
     at + 1
@@ -23,6 +24,7 @@ pub fn place_slice(buf: &mut [u8], at: usize, bytes: &[u8]) -> usize
     requires room { at + length bytes.now ≤ length buf.old }
     ensures bytes { take result buf.new ≡ take at buf.old ++ bytes.now }
     ensures next { result ≡ at + length bytes.now }
+    ensures after { drop result buf.new ≡ drop result buf.old }
 {
     let end = at + bytes.len();
     buf[at..end].copy_from_slice(bytes);

@@ -8,10 +8,11 @@ ghost use Rattle.sm_time.specs.steps.Parts.{ShowsClock, IsOffset};
 ghost use Rattle.sm_time.specs.Written.{written_stamp, fixed_digits};
 
 use crate::civil::{Civil, clock_seconds};
-use crate::digits::{put, put_fraction, split_fraction, three_digits_of, whole_millis};
+use crate::digits::{put_fraction, split_fraction, three_digits_of, whole_millis};
 use crate::stamp::FIRST;
 use crate::zone::zone_offset;
 use crate::{Stamp, TimeRefusal};
+use sm_bytes::{place_byte, place_slice};
 
 /// What the text of a date-time shows.
 #[derive(Drop)]
@@ -75,9 +76,9 @@ pub fn write(stamp: Stamp, out: &mut [u8; 32]) -> usize
     ensures after { drop result out.new ≡ drop result out.old }
 {
     let since = (stamp.milliseconds() - FIRST) as u64;
-    let at = put(out, 0, &Civil::at(since / 1000).text(b'T'));
+    let at = place_slice(out, 0, &Civil::at(since / 1000).text(b'T'));
     let at = put_millis(out, at, (since % 1000) as u16);
-    put(out, at, b"Z")
+    place_byte(out, at, b'Z')
 }
 
 // Puts milliseconds as a fraction of three digits, or nothing where they are 0.

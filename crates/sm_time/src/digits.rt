@@ -1,4 +1,4 @@
-// Digits of fractions, and bytes put into a buffer.
+// Digits of fractions, read and put into a buffer.
 ghost use Rattle.std.specs.Prelude.{◌≡◌, ◌+◌, ◌<◌, ◌≤◌, ◌++◌, length, take, drop, MatchOption, IsTrue, ◌↔◌};
 ghost use Rattle.std.specs.Char.{digit_value, is_ascii_digit};
 ghost use Rattle.std.specs.Str.Parse.{AllDigits};
@@ -6,7 +6,7 @@ ghost use Rattle.sm_time.specs.TimeText.{IsWholeMillis, thousandths, fraction_te
 ghost use Rattle.sm_time.specs.Written.{three_digits};
 ghost use Rattle.sm_time.specs.steps.Parts.{NoDigitFirst, SplitsFraction};
 
-use sm_bytes::{ByteClass, run_len};
+use sm_bytes::{ByteClass, place_byte, place_slice, run_len};
 
 struct Digits;
 
@@ -100,18 +100,6 @@ pub fn three_digits_of(number: u16) -> [u8; 3]
     ]
 }
 
-/// Puts bytes into a buffer from a place on, and gives the next place.
-pub fn put(out: &mut [u8], at: usize, bytes: &[u8]) -> usize
-    requires { at + length bytes.now ≤ length out.old }
-    ensures next { result ≡ at + length bytes.now }
-    ensures text { take result out.new ≡ take at out.old ++ bytes.now }
-    ensures after { drop result out.new ≡ drop result out.old }
-{
-    let end = at + bytes.len();
-    out[at..end].copy_from_slice(bytes);
-    end
-}
-
 /// Puts a fraction of these digits into a buffer: nothing where there are none.
 pub fn put_fraction(out: &mut [u8], at: usize, digits: &[u8]) -> usize
     requires { at + length (fraction_text digits.now) ≤ length out.old }
@@ -122,6 +110,6 @@ pub fn put_fraction(out: &mut [u8], at: usize, digits: &[u8]) -> usize
     if digits.is_empty() {
         return at;
     }
-    let at = put(out, at, b".");
-    put(out, at, digits)
+    let at = place_byte(out, at, b'.');
+    place_slice(out, at, digits)
 }

@@ -7,10 +7,11 @@ ghost use Rattle.sm_time.specs.Answers.{ReadsStamp};
 ghost use Rattle.sm_time.specs.Written.{written_stamp, three_digits, short_digits};
 
 use crate::digits::{
-    digit_run, put, put_fraction, split_fraction, three_digits_of, value_of, whole_millis,
+    digit_run, put_fraction, split_fraction, three_digits_of, value_of, whole_millis,
 };
 use crate::{Stamp, TimeRefusal};
 use itoa::Buffer;
+use sm_bytes::{place_byte, place_slice};
 
 /// More seconds than lie between 1970 and any stamp.
 const FAR: u64 = 1_000_000_000_000;
@@ -120,7 +121,7 @@ pub fn write(stamp: Stamp, out: &mut [u8; 32]) -> usize
     let magnitude = milliseconds.unsigned_abs();
     let at = put_sign(out, milliseconds < 0);
     let mut buffer = Buffer::new();
-    let at = put(out, at, buffer.format(magnitude / 1000).as_bytes());
+    let at = place_slice(out, at, buffer.format(magnitude / 1000).as_bytes());
     put_millis(out, at, (magnitude % 1000) as u16)
 }
 
@@ -143,7 +144,11 @@ fn put_sign(out: &mut [u8], negative: bool) -> usize
     ensures text { take result out.new ≡ (if negative then codes "-" else []) }
     ensures after { drop result out.new ≡ drop result out.old }
 {
-    if negative { put(out, 0, b"-") } else { 0 }
+    if negative {
+        place_byte(out, 0, b'-')
+    } else {
+        0
+    }
 }
 
 // Three digits without trailing zeros.

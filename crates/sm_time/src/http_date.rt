@@ -2,8 +2,8 @@
 ghost use Rattle.sm_time.specs.declared.format.Format.TheVariants.{HttpDate};
 ghost use Rattle.sm_time.specs.Answers.{ReadsStamp, WritesStamp};
 
-use crate::digits::put;
 use crate::{Stamp, TimeRefusal};
+use sm_bytes::place_slice;
 
 /// The stamp of an http-date, as `Stamp::read` says.
 pub fn read(text: &[u8]) -> Result<Stamp, TimeRefusal>
@@ -37,5 +37,5 @@ pub fn write(stamp: Stamp, out: &mut [u8; 32]) -> Result<usize, TimeRefusal>
     let Ok(date) = httpdate::HttpDate::from_unix_secs(elapsed / 1000) else {
         return Err(TimeRefusal::OutOfFormat);
     };
-    Ok(put(out, 0, &date.to_bytes()))
+    Ok(place_slice(out, 0, &date.to_bytes()))
 }

@@ -15,9 +15,9 @@ returns c =
     let text = c.to_bytes.ensures ∙ date_written c.in-Ok.date c.args.stamp low whole seconds in
     let short : length c.to_bytes.result ≡ 29 = search rules in (
       (low, whole),
-      c.put.ensures.next ∙ omega (arith, ap length text),
-      omega (arith, c.put.ensures.next, short),
-      c.put.ensures.text
+      c.place_slice.ensures.next ∙ omega (arith, ap length text),
+      omega (arith, c.place_slice.ensures.next, short),
+      c.place_slice.ensures.bytes
           ∙ text,
-      c.put.ensures.after,
+      c.place_slice.ensures.after,
     )
