@@ -4,43 +4,43 @@ use Rattle.std.proofs.Common.{◌≡◌, ℕ, ◌+◌, ◌<◌, ◌⊎◌, inl, 
 use Rattle.std.proofs.lemmas.Bool.{cases_order}
 use Rattle.std.proofs.lemmas.List.{take-take}
 use Rattle.sm_tree.specs.Node.{Node}
-use Rattle.sm_tree.specs.Syntax.{Format, Syntax, IsRead, Begins, BeginsRead, IsUnread, IsBadAt, IsKeyKindAt, IsBadByteAt, IsTooDeepAt}
+use Rattle.sm_tree.specs.Syntax.{TreeFormat, Syntax, IsRead, Begins, BeginsRead, IsUnread, IsBadAt, IsKeyKindAt, IsBadByteAt, IsTooDeepAt}
 use Rattle.sm_tree.specs.Syntax.{IsRefused}
 use Rattle.sm_tree.specs.SyntaxLaws.{HasOneReading, HasOneAnswer}
 use Rattle.sm_tree.specs.declared.refusal.SyntaxRefusal.{SyntaxRefusal}
 use Rattle.sm_tree.specs.declared.refusal.SyntaxRefusal.TheVariants.{Bad, Ended, TooDeep, KeyKind, NoMemory}
 
 -- what begins with some bytes begins with the first of them
-prefix_begins : (F : Format) (bs : List ℕ) (i : ℕ) → BeginsRead F bs → BeginsRead F (take i bs)
+prefix_begins : (F : TreeFormat) (bs : List ℕ) (i : ℕ) → BeginsRead F bs → BeginsRead F (take i bs)
 prefix_begins F bs i (more, n, text) =
     (drop i bs ++ more, n, subst (λ s. IsRead F n s) (ap (λ s. s ++ more) (sym (take-append-drop i bs)) ∙ append_assoc (take i bs) (drop i bs) more) text)
 
 -- a text begins with all its bytes
-read_begins : (F : Format) (bs : List ℕ) (n : Node) → IsRead F n bs → BeginsRead F bs
+read_begins : (F : TreeFormat) (bs : List ℕ) (n : Node) → IsRead F n bs → BeginsRead F bs
 read_begins F bs n text = (_, n, subst (λ s. IsRead F n s) (sym (append-nil bs)) text)
 
 -- up to a place that is no later than the end of what begins a text
-earlier_begins : (F : Format) (bs : List ℕ) (i j : ℕ) → i < j → BeginsRead F (take j bs) → BeginsRead F (take (i + 1) bs)
+earlier_begins : (F : TreeFormat) (bs : List ℕ) (i j : ℕ) → i < j → BeginsRead F (take j bs) → BeginsRead F (take (i + 1) bs)
 earlier_begins F bs i j before h = subst (BeginsRead F) (take-take (i + 1) j bs (omega arith)) (prefix_begins F (take j bs) (i + 1) h)
 
-begins_at_all : (F : Format) (bs : List ℕ) → BeginsRead F bs → Begins F bs
+begins_at_all : (F : TreeFormat) (bs : List ℕ) → BeginsRead F bs → Begins F bs
 begins_at_all F bs (more, n, text) = (more, n, text.0)
 
 -- with the byte at a refused place no text of at most 100 levels goes on
-none_goes_on : (F : Format) (bs : List ℕ) (i : ℕ) → IsBadAt F bs i ⊎ IsTooDeepAt F bs i → BeginsRead F (take (i + 1) bs) → ⊥
+none_goes_on : (F : TreeFormat) (bs : List ℕ) (i : ℕ) → IsBadAt F bs i ⊎ IsTooDeepAt F bs i → BeginsRead F (take (i + 1) bs) → ⊥
 none_goes_on F bs i (inl bad) h = bad.behind (begins_at_all F (take (i + 1) bs) h)
 none_goes_on F bs i (inr deep) h = deep.too_deep h
 
 -- so bytes with such a place begin none
-pub none_begins : (F : Format) (bs : List ℕ) (i : ℕ) → IsBadAt F bs i ⊎ IsTooDeepAt F bs i → BeginsRead F bs → ⊥
+pub none_begins : (F : TreeFormat) (bs : List ℕ) (i : ℕ) → IsBadAt F bs i ⊎ IsTooDeepAt F bs i → BeginsRead F bs → ⊥
 none_begins F bs i refused h = none_goes_on F bs i refused (prefix_begins F bs (i + 1) h)
 
-goes_on_before : (F : Format) (bs : List ℕ) (i : ℕ) → IsBadAt F bs i ⊎ IsTooDeepAt F bs i → BeginsRead F (take i bs)
+goes_on_before : (F : TreeFormat) (bs : List ℕ) (i : ℕ) → IsBadAt F bs i ⊎ IsTooDeepAt F bs i → BeginsRead F (take i bs)
 goes_on_before F bs i (inl bad) = bad.before
 goes_on_before F bs i (inr deep) = deep.before
 
 -- and there is one such place
-one_place : (F : Format) (bs : List ℕ) (i j : ℕ) → IsBadAt F bs i ⊎ IsTooDeepAt F bs i → IsBadAt F bs j ⊎ IsTooDeepAt F bs j → i ≡ j
+one_place : (F : TreeFormat) (bs : List ℕ) (i j : ℕ) → IsBadAt F bs i ⊎ IsTooDeepAt F bs i → IsBadAt F bs j ⊎ IsTooDeepAt F bs j → i ≡ j
 one_place F bs i j first second = elim (cases_order i j) [
   | inl same ↦ same
   | inr other ↦ elim other [
@@ -50,7 +50,7 @@ one_place F bs i j first second = elim (cases_order i j) [
 ]
 
 -- at which the word is one
-one_word : (F : Format) (bs : List ℕ) (i j : ℕ) → IsBadAt F bs i → IsTooDeepAt F bs j → ⊥
+one_word : (F : TreeFormat) (bs : List ℕ) (i j : ℕ) → IsBadAt F bs i → IsTooDeepAt F bs j → ⊥
 one_word F bs i j bad deep =
     let same = one_place F bs i j (inl bad) (inr deep) in
     bad.behind (subst (λ k. Begins F (take (k + 1) bs)) (sym same) deep.goes_on)

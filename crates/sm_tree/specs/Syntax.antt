@@ -10,34 +10,34 @@ use Rattle.sm_tree.specs.declared.tree.Tree.{Tree}
 use Rattle.sm_tree.specs.declared.refusal.SyntaxRefusal.{SyntaxRefusal}
 use Rattle.sm_tree.specs.declared.refusal.SyntaxRefusal.TheVariants.{Bad, Ended, TooDeep, KeyKind, NoMemory}
 
--- these bytes are a text of this tree
-abbrev pub Format : Type 1
-Format = Node → List ℕ → Type 0
+-- a format of trees: these bytes are a text of this tree
+abbrev pub TreeFormat : Type 1
+TreeFormat = Node → List ℕ → Type 0
 
 -- a format; and which keys have no kind: behind these bytes a map's key stands, and with this byte begins an item that
 -- can't be one. JSON has none such: there a key that is no string is a bad byte as any other
 pub record Syntax : Type 1 where
-  pub text : Format
+  pub text : TreeFormat
   pub wrong_key : List ℕ → ℕ → Type 0
 
 -- the bytes are a text of this tree, which nests at most 100 levels
-abbrev pub IsRead : Format → Node → List ℕ → Type 0
+abbrev pub IsRead : TreeFormat → Node → List ℕ → Type 0
 IsRead F n bs = F n bs × (levels n ≤ most_levels)
 
 -- some text begins with these bytes
-abbrev pub Begins : Format → List ℕ → Type 0
+abbrev pub Begins : TreeFormat → List ℕ → Type 0
 Begins F bs = (more : List ℕ) × (n : Node) × F n (bs ++ more)
 
 -- some text of at most 100 levels begins with them: up to their end no place is bad
-abbrev pub BeginsRead : Format → List ℕ → Type 0
+abbrev pub BeginsRead : TreeFormat → List ℕ → Type 0
 BeginsRead F bs = (more : List ℕ) × (n : Node) × IsRead F n (bs ++ more)
 
 -- the bytes are no text of at most 100 levels
-abbrev pub IsUnread : Format → List ℕ → Type 0
+abbrev pub IsUnread : TreeFormat → List ℕ → Type 0
 IsUnread F bs = (n : Node) → IsRead F n bs → ⊥
 
 -- up to this place nothing is bad, and with the byte there no text goes on
-pub record IsBadAt (F : Format) (bs : List ℕ) (at : ℕ) : Type 0 where
+pub record IsBadAt (F : TreeFormat) (bs : List ℕ) (at : ℕ) : Type 0 where
   pub inside : at < length bs
   pub before : BeginsRead F (take at bs)
   pub behind : Begins F (take (at + 1) bs) → ⊥
@@ -54,14 +54,14 @@ pub record IsBadByteAt (S : Syntax) (bs : List ℕ) (at : ℕ) : Type 0 where
 
 -- `TooDeep`: up to this place nothing is bad, and the byte there opens level 101: with it texts go on, but only
 -- such as nest deeper than is read
-pub record IsTooDeepAt (F : Format) (bs : List ℕ) (at : ℕ) : Type 0 where
+pub record IsTooDeepAt (F : TreeFormat) (bs : List ℕ) (at : ℕ) : Type 0 where
   pub inside : at < length bs
   pub before : BeginsRead F (take at bs)
   pub goes_on : Begins F (take (at + 1) bs)
   pub too_deep : BeginsRead F (take (at + 1) bs) → ⊥
 
 -- `Ended`: no place is bad, and the bytes are no text
-pub record IsCutShort (F : Format) (bs : List ℕ) : Type 0 where
+pub record IsCutShort (F : TreeFormat) (bs : List ℕ) : Type 0 where
   pub begun : BeginsRead F bs
   pub no_text : IsUnread F bs
 
