@@ -1,14 +1,14 @@
 -- What the words of the command line ask for.
 use Rattle.std.specs.Prelude.{◌≡◌, ℕ, List, codes, Option, Some, None}
-use Rattle.format_speed.specs.declared.command.Format.{Format}
-use Rattle.format_speed.specs.declared.command.Format.TheVariants.{Json, Cbor}
+use Rattle.format_speed.specs.declared.command.MeasuredFormat.{MeasuredFormat}
+use Rattle.format_speed.specs.declared.command.MeasuredFormat.TheVariants.{Json, Cbor}
 use Rattle.format_speed.specs.declared.command.Work.{Work}
 use Rattle.format_speed.specs.declared.command.Work.TheVariants.{Read, Write, Copy}
 use Rattle.format_speed.specs.declared.command.Command.{Command}
 use Rattle.format_speed.specs.declared.command.Command.TheVariants.{Tree, Tokens}
 
 -- json or cbor
-abbrev pub AsksFormat : List ℕ → Option Format → Type 0
+abbrev pub AsksFormat : List ℕ → Option MeasuredFormat → Type 0
 AsksFormat word (Some Json) = word ≡ codes "json"
 AsksFormat word (Some Cbor) = word ≡ codes "cbor"
 AsksFormat word None = Unit {0}

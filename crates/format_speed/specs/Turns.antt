@@ -9,19 +9,19 @@ use Rattle.sm_cbor.specs.Refusals.{cbor_syntax}
 use Rattle.sm_cbor.specs.Written.{written_item as cbor_written}
 use Rattle.sm_lex.specs.Tokens.{Lexeme, TokensSpell}
 use Rattle.sm_lex.specs.declared.token.LexRefusal.{LexRefusal}
-use Rattle.format_speed.specs.declared.command.Format.{Format}
-use Rattle.format_speed.specs.declared.command.Format.TheVariants.{Json, Cbor}
+use Rattle.format_speed.specs.declared.command.MeasuredFormat.{MeasuredFormat}
+use Rattle.format_speed.specs.declared.command.MeasuredFormat.TheVariants.{Json, Cbor}
 
-abbrev pub syntax_of : Format → Syntax
+abbrev pub syntax_of : MeasuredFormat → Syntax
 syntax_of Json = json_syntax
 syntax_of Cbor = cbor_syntax
 
-abbrev pub CanWrite : Format → Node → Type 0
+abbrev pub CanWrite : MeasuredFormat → Node → Type 0
 CanWrite Json n = IsJson n
 CanWrite Cbor n = IsCbor n
 
 -- nothing before the first turn, and the tree's text after each
-abbrev pub text_of : Format → ℕ → Node → List ℕ
+abbrev pub text_of : MeasuredFormat → ℕ → Node → List ℕ
 text_of f zero n = []
 text_of Json (suc k) n = json_written n
 text_of Cbor (suc k) n = cbor_written n

@@ -4,20 +4,20 @@ ghost use Rattle.format_speed.specs.Commands.{AsksFormat, AsksWork, AsksCommand,
 
 /// A format of trees.
 #[derive(Clone, Copy, Debug, PartialEq, Eq, Drop)]
-pub enum Format {
+pub enum MeasuredFormat {
     /// `json`.
     Json,
     /// `cbor`: the input is a JSON text, and its tree is written as CBOR first, so that both are measured on the same values.
     Cbor,
 }
 
-impl Format {
+impl MeasuredFormat {
     fn of(word: &str) -> Option<Self>
         ensures { AsksFormat word.now result }
     {
         match word {
-            "json" => Some(Format::Json),
-            "cbor" => Some(Format::Cbor),
+            "json" => Some(MeasuredFormat::Json),
+            "cbor" => Some(MeasuredFormat::Cbor),
             _ => None,
         }
     }
@@ -61,7 +61,7 @@ impl Work {
 #[derive(Clone, Copy, Debug, PartialEq, Eq, Drop)]
 pub enum Command {
     /// `json ..` or `cbor ..`: the reader or the writer of a format.
-    Tree(Format, Work),
+    Tree(MeasuredFormat, Work),
     /// `tokens read N`: the text is cut into tokens N times.
     Tokens(u32),
 }
@@ -72,7 +72,7 @@ impl Command {
         ensures { AsksCommand format.now work.now count result }
     {
         let work = Work::of(work, count)?;
-        if let Some(format) = Format::of(format) {
+        if let Some(format) = MeasuredFormat::of(format) {
             return Some(Command::Tree(format, work));
         }
         match (format, work) {

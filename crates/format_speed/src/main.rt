@@ -9,7 +9,7 @@ ghost use Rattle.sm_tree.specs.View.{node_of};
 mod command;
 mod turns;
 
-use command::{Command, Format, Work};
+use command::{Command, MeasuredFormat, Work};
 use sm_io::{Sink, StdSink, StdSource, read_all};
 use sm_tree::Tree;
 use std::alloc::Global;
@@ -40,20 +40,20 @@ fn asked(rt: &HostRuntime) -> io::Result<Option<Command>> {
 }
 
 // The bytes of a JSON text in a format: those of the text, or the item of its tree.
-fn in_format(alloc: Global, format: Format, text: Vec<u8>) -> anyhow::Result<Vec<u8>> {
+fn in_format(alloc: Global, format: MeasuredFormat, text: Vec<u8>) -> anyhow::Result<Vec<u8>> {
     match format {
-        Format::Json => Ok(text),
-        Format::Cbor => {
+        MeasuredFormat::Json => Ok(text),
+        MeasuredFormat::Cbor => {
             let Ok(tree) = sm_json::read_tree(alloc, &text) else {
                 anyhow::bail!("the input is no JSON text that can be read");
             };
-            written(alloc, Format::Cbor, &tree, 1)
+            written(alloc, MeasuredFormat::Cbor, &tree, 1)
         }
     }
 }
 
-fn tree_of(alloc: Global, format: Format, bytes: &[u8], turns: u32) -> anyhow::Result<Tree>
-    ensures { IfOk result (λ tree. format ≡ Format.Json → IsJson (node_of tree)) }
+fn tree_of(alloc: Global, format: MeasuredFormat, bytes: &[u8], turns: u32) -> anyhow::Result<Tree>
+    ensures { IfOk result (λ tree. format ≡ MeasuredFormat.Json → IsJson (node_of tree)) }
 {
     match turns::read_times(alloc, format, bytes, turns) {
         Ok(tree) => Ok(tree),
@@ -61,8 +61,8 @@ fn tree_of(alloc: Global, format: Format, bytes: &[u8], turns: u32) -> anyhow::R
     }
 }
 
-fn written(alloc: Global, format: Format, tree: &Tree, turns: u32) -> anyhow::Result<Vec<u8>>
-    requires { format ≡ Format.Json → IsJson (node_of tree.now) }
+fn written(alloc: Global, format: MeasuredFormat, tree: &Tree, turns: u32) -> anyhow::Result<Vec<u8>>
+    requires { format ≡ MeasuredFormat.Json → IsJson (node_of tree.now) }
 {
     if !turns::can_write(format, tree) {
         anyhow::bail!("the input has a number that isn't written in this format");
@@ -74,7 +74,7 @@ fn written(alloc: Global, format: Format, tree: &Tree, turns: u32) -> anyhow::Re
 }
 
 // One format, read or written many times over, from a JSON text.
-fn measured(rt: &HostRuntime, format: Format, work: Work, text: Vec<u8>) -> anyhow::Result<()> {
+fn measured(rt: &HostRuntime, format: MeasuredFormat, work: Work, text: Vec<u8>) -> anyhow::Result<()> {
     let alloc = rt.alloc();
     let bytes = in_format(alloc, format, text)?;
     let tree = tree_of(alloc, format, &bytes, work.reads())?;

@@ -6,18 +6,18 @@ ghost use Rattle.sm_tree.specs.Syntax.{Reads};
 ghost use Rattle.sm_tree.specs.View.{node_of};
 ghost use Rattle.format_speed.specs.Turns.{syntax_of, CanWrite, text_of, Counts};
 
-use crate::command::Format;
+use crate::command::MeasuredFormat;
 use sm_lex::{LexRefusal, tokens};
 use sm_tree::{NoMemory, SyntaxRefusal, Tree};
 use std::alloc::Global;
 
-fn read_once(alloc: Global, format: Format, bytes: &[u8]) -> Result<Tree, SyntaxRefusal>
+fn read_once(alloc: Global, format: MeasuredFormat, bytes: &[u8]) -> Result<Tree, SyntaxRefusal>
     ensures reads { Reads (syntax_of format) bytes.now result }
-    ensures json { IfOk result (λ tree. format ≡ Format.Json → IsJson (node_of tree)) }
+    ensures json { IfOk result (λ tree. format ≡ MeasuredFormat.Json → IsJson (node_of tree)) }
 {
     match format {
-        Format::Json => sm_json::read_tree(alloc, bytes),
-        Format::Cbor => sm_cbor::read_tree(alloc, bytes),
+        MeasuredFormat::Json => sm_json::read_tree(alloc, bytes),
+        MeasuredFormat::Cbor => sm_cbor::read_tree(alloc, bytes),
     }
 }
 
@@ -28,12 +28,12 @@ fn read_once(alloc: Global, format: Format, bytes: &[u8]) -> Result<Tree, Syntax
 /// Those of `read_tree`.
 pub fn read_times(
     alloc: Global,
-    format: Format,
+    format: MeasuredFormat,
     bytes: &[u8],
     turns: u32,
 ) -> Result<Tree, SyntaxRefusal>
     ensures reads { Reads (syntax_of format) bytes.now result }
-    ensures json { IfOk result (λ tree. format ≡ Format.Json → IsJson (node_of tree)) }
+    ensures json { IfOk result (λ tree. format ≡ MeasuredFormat.Json → IsJson (node_of tree)) }
 {
     for _ in 1..turns {
         match read_once(alloc, format, bytes) {
@@ -45,24 +45,24 @@ pub fn read_times(
 }
 
 /// Whether a tree that was read can be written in its format.
-pub fn can_write(format: Format, tree: &Tree) -> bool
-    requires { format ≡ Format.Json → IsJson (node_of tree.now) }
+pub fn can_write(format: MeasuredFormat, tree: &Tree) -> bool
+    requires { format ≡ MeasuredFormat.Json → IsJson (node_of tree.now) }
     ensures { IsTrue result → CanWrite format (node_of tree.now) }
 {
     match format {
-        Format::Json => true,
-        Format::Cbor => sm_cbor::is_writable(tree),
+        MeasuredFormat::Json => true,
+        MeasuredFormat::Cbor => sm_cbor::is_writable(tree),
     }
 }
 
-fn write_once(alloc: Global, format: Format, tree: &Tree) -> Result<Vec<u8>, NoMemory>
+fn write_once(alloc: Global, format: MeasuredFormat, tree: &Tree) -> Result<Vec<u8>, NoMemory>
     requires { CanWrite format (node_of tree.now) }
     ensures { IfOk result (λ out. out.items ≡ text_of format 1 (node_of tree.now)) }
 {
     let mut out = Vec::new(alloc);
     match format {
-        Format::Json => sm_json::write_tree(alloc, tree, &mut out)?,
-        Format::Cbor => sm_cbor::write_tree(alloc, tree, &mut out)?,
+        MeasuredFormat::Json => sm_json::write_tree(alloc, tree, &mut out)?,
+        MeasuredFormat::Cbor => sm_cbor::write_tree(alloc, tree, &mut out)?,
     }
     Ok(out)
 }
@@ -74,7 +74,7 @@ fn write_once(alloc: Global, format: Format, tree: &Tree) -> Result<Vec<u8>, NoM
 /// `NoMemory`.
 pub fn write_times(
     alloc: Global,
-    format: Format,
+    format: MeasuredFormat,
     tree: &Tree,
     turns: u32,
 ) -> Result<Vec<u8>, NoMemory>
