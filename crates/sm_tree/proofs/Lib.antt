@@ -6,6 +6,8 @@ mod SameForms
 pub mod Equal
 pub mod Events
 pub mod Building
+pub mod Streams
+pub mod Awaited
 pub mod NumberParts
 pub mod NumberRuns
 pub mod NumberSteps

@@ -12,6 +12,10 @@ pub mod Refusal
 pub mod Syntax
 pub mod SyntaxLaws
 pub mod Events
+pub mod Streams
+pub mod EventView
+pub mod Timing
+pub mod TimingLaws
 pub mod EventLaws
 pub mod Building
 pub mod BuilderView

@@ -3,6 +3,7 @@
 #![tactic(auto)]
 
 mod build;
+mod event;
 pub mod laws;
 pub mod number;
 mod path;
@@ -12,6 +13,7 @@ mod text;
 mod tree;
 
 pub use build::{FIRST_ROOM, OpenKind, TreeBuilder};
+pub use event::{Event, EventSink};
 pub use path::{Path, Step};
 pub use refusal::{MOST_LEVELS, SyntaxRefusal};
 pub use same::is_same;

@@ -1,8 +1,10 @@
 -- What a builder's parts do at an event, by cases on what is open. The private methods of TreeBuilder cite these words;
 -- what the public calls promise is in Building.
-use Rattle.std.specs.Prelude.{ℕ, [], ◌∷◌, ◌++◌}
+use Rattle.std.specs.Prelude.{◌≡◌, ℕ, true, false, [], ◌∷◌, ◌++◌}
+use Rattle.sm_tree.specs.Events.{NodeEvent, null_event, bool_event, int_event, number_event, text_event, bytes_event, tag_event, opaque_event, start_list, end_list, start_object, key_event, end_object}
 use Rattle.sm_tree.specs.Node.{Node, list, object, nodes_of, members_of}
-use Rattle.sm_tree.specs.Building.{Inner, in_list, in_object, in_pair, Around, around_list, around_object, Building, nothing, whole, within, tagged}
+use Rattle.sm_tree.specs.Building.{Inner, in_list, in_object, in_pair, Around, around_list, around_object, Building, nothing, whole, within, tagged, kinds, awaits_value, awaits_content, IsIn}
+use Rattle.sm_tree.specs.declared.build.OpenKind.TheVariants.{List as a_list, Object as an_object}
 
 -- a tree becomes the last entry, or the tree of the name that awaits one, in the tags that have come
 abbrev pub with_tree : Node → Inner → Inner
@@ -57,3 +59,20 @@ after_end (nothing ts) = nothing ts
 after_end (whole n) = whole n
 after_end (within ts inner []) = whole (tagged ts (ended inner))
 after_end (within ts inner (a ∷ outer)) = within ts (with_tree (ended inner) (back_inside a)) outer
+
+-- the event is one that may come next: a value, a tag or an opener where a tree may come, a name in an object behind
+-- whose name none is owed, and the end of what is open innermost
+abbrev pub Awaits : Building → NodeEvent → Type 0
+Awaits b null_event = awaits_value b ≡ true
+Awaits b (bool_event t) = awaits_value b ≡ true
+Awaits b (int_event z) = awaits_value b ≡ true
+Awaits b (number_event t) = awaits_value b ≡ true
+Awaits b (text_event t) = awaits_value b ≡ true
+Awaits b (bytes_event t) = awaits_value b ≡ true
+Awaits b (tag_event k) = awaits_value b ≡ true
+Awaits b (opaque_event c) = awaits_value b ≡ true
+Awaits b (start_list told) = awaits_value b ≡ true
+Awaits b end_list = IsIn a_list (kinds b) × (awaits_content b ≡ false)
+Awaits b (start_object told) = awaits_value b ≡ true
+Awaits b (key_event k) = IsIn an_object (kinds b) × (awaits_value b ≡ false)
+Awaits b end_object = IsIn an_object (kinds b) × (awaits_value b ≡ false)
