@@ -4,6 +4,7 @@ use Rattle.sm_tree.proofs.Events.{events_injective}
 use Rattle.std.proofs.Common.{sym, ◌≡◌, List, [], ◌∷◌, ◌++◌, refl, ap, ◌∙◌, Some, None}
 use Rattle.sm_tree.specs.Node.{Node, Nodes, Members, null, bool, int, number, text, bytes, tag, opaque, list, object, no_nodes, node, no_members, member}
 use Rattle.sm_tree.specs.Events.{NodeEvent, tag_event, start_list, start_object, key_event, events, entries_events, pairs_events}
+use Rattle.sm_tree.specs.EventLaws.{HasStreams}
 use Rattle.sm_tree.specs.Streams.{Streams, EntriesStream, PairsStream, unnumbered_event, unnumbered, entry_count, pair_count, numbered, numbered_entries, numbered_pairs}
 
 pub unnumbered_append : (es fs : List NodeEvent) → unnumbered (es ++ fs) ≡ unnumbered es ++ unnumbered fs
@@ -85,3 +86,6 @@ mutual
 -- a stream is that of one tree
 pub one_tree_of_stream : (n m : Node) (es : List NodeEvent) → Streams n es [] → Streams m es [] → n ≡ m
 one_tree_of_stream n m es h g = (events_injective n m [] [] (sym (stream_events n es [] h) ∙ stream_events m es [] g)).0
+
+pub has_streams : HasStreams
+has_streams = record { without = λ n. events_stream n []; with_counts = λ n. numbered_stream n [] }

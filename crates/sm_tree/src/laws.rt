@@ -4,7 +4,7 @@ ghost use Rattle.sm_tree.specs.declared.tree.Tree.{Tree};
 ghost use Rattle.sm_tree.specs.View.{node_of};
 ghost use Rattle.sm_tree.specs.Pointer.{TokenReadsBack, TokenHasNoSlash};
 ghost use Rattle.sm_tree.specs.Same.{SameToItself, SameBothWays, SameThrough, OneValueAName};
-ghost use Rattle.sm_tree.specs.EventLaws.{OneTreeAStream};
+ghost use Rattle.sm_tree.specs.EventLaws.{OneTreeAStream, OneTreeOfStreams, HasStreams};
 
 use crate::text::{Bytes, Text};
 use crate::tree::Tree;
@@ -49,6 +49,18 @@ pub fn one_value_a_name()
 #[tactic(auto, using(crate::proofs::Events::events_injective))]
 pub fn one_tree_a_stream()
     ensures { OneTreeAStream }
+{}
+
+/// A stream is that of one tree, whatever counts its openers have.
+#[tactic(auto, using(crate::proofs::Streams::one_tree_of_stream))]
+pub fn one_tree_of_streams()
+    ensures { OneTreeOfStreams }
+{}
+
+/// Each tree has a stream whose openers have no counts, and one in which all have theirs.
+#[tactic(auto, using(crate::proofs::Streams::has_streams))]
+pub fn has_streams()
+    ensures { HasStreams }
 {}
 
 /// `==` of trees is true exactly where both stand for one node.
