@@ -14,7 +14,8 @@ pub enum Notation {
     Plain,
     /// A JSON string (RFC 8259, section 7), whose text they are.
     Quoted,
-    /// Pairs of hexadecimal digits, each perhaps with a count: `5b*100` is a hundred times one byte.
+    /// Pairs of hexadecimal digits in words, each perhaps with a count: `5b*100` is a hundred times one byte, and `612e*3` three
+    /// times two bytes.
     Pairs,
 }
 
@@ -41,29 +42,41 @@ fn quoted(alloc: Global, text: &str) -> Result<Option<Vec<u8>>, NoMemory> {
 fn pairs(alloc: Global, text: &str) -> Result<Option<Vec<u8>>, NoMemory> {
     let mut bytes = Vec::new(alloc);
     for word in text.split(' ') {
-        if word.is_empty() {
-            continue;
-        }
-        let Some((byte, count)) = pair(word) else {
+        let Some((digits, count)) = counted(word) else {
+            return Ok(None);
+        };
+        let Some(shown) = shown(alloc, digits)? else {
             return Ok(None);
         };
         for _ in 0..count {
-            bytes.push(byte)?;
+            bytes.extend_from_slice(&shown)?;
         }
     }
     Ok(Some(bytes))
 }
 
-// A byte, and how many times it stands.
-fn pair(word: &str) -> Option<(u8, u32)> {
+// Digits, and how many times their bytes stand.
+fn counted(word: &str) -> Option<(&str, u32)> {
     match word.split_once('*') {
-        Some((byte, count)) => Some((byte_of(byte)?, count.parse::<u32>().ok()?)),
-        None => Some((byte_of(word)?, 1)),
+        Some((digits, count)) => Some((digits, count.parse::<u32>().ok()?)),
+        None => Some((word, 1)),
     }
 }
 
-fn byte_of(word: &str) -> Option<u8> {
-    match word.as_bytes() {
+// The bytes that pairs of digits show, one behind the other.
+fn shown(alloc: Global, digits: &str) -> Result<Option<Vec<u8>>, NoMemory> {
+    let mut bytes = Vec::new(alloc);
+    for pair in digits.as_bytes().chunks(2) {
+        match shown_by(pair) {
+            Some(byte) => bytes.push(byte)?,
+            None => return Ok(None),
+        }
+    }
+    Ok(Some(bytes))
+}
+
+fn shown_by(pair: &[u8]) -> Option<u8> {
+    match pair {
         [high, low] => shown_byte(*high, *low),
         _ => None,
     }
@@ -76,4 +89,12 @@ fn shown_byte(high: u8, low: u8) -> Option<u8>
 {
     let (high, low) = (hex_value(high)?, hex_value(low)?);
     Some((high * 16 + low) as u8)
+}
+
+/// The trees of a JSON list, or `None` where the text is none.
+pub fn list_of(alloc: Global, text: &str) -> Option<Vec<Tree>> {
+    match read_tree(alloc, text.as_bytes()) {
+        Ok(Tree::List(items)) => Some(items.into_inner()),
+        Ok(_) | Err(_) => None,
+    }
 }

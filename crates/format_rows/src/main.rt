@@ -2,44 +2,40 @@
 // hand (README.md has their notation), so a table of a thousand cases is proved by nobody and read by everybody.
 #![tactic(auto)]
 
+mod formats;
 mod given;
+mod idl;
+mod ids;
 mod play;
 mod question;
 mod show;
+mod stamps;
+mod trees;
 
 use play::answer_to;
-use sm_io::{Sink, StdSink, StdSource, read_all};
 use sm_tree::NoMemory;
 use std::alloc::Global;
-use std::process::ExitCode;
-use std::str::from_utf8;
+use std::io;
 
-/// The most bytes of rows.
-const ROWS_LIMIT: u64 = 1 << 24;
-
-// Appends what comes out for a row: an empty row and a title (`# ..`) as they are, a case with its answer.
-fn play_row(alloc: Global, row: &str, out: &mut String) -> Result<(), NoMemory> {
-    out.push_str(row)?;
-    if !row.is_empty() && !row.starts_with('#') {
-        out.push_str(" => ")?;
-        answer_to(alloc, row, out)?;
-    }
-    out.push('\n')?;
-    Ok(())
-}
-
-fn main(rt: HostRuntime) -> anyhow::Result<ExitCode> {
-    let alloc = rt.alloc();
-    let rows = read_all(alloc, &mut StdSource::new(rt.stdin()), ROWS_LIMIT)?;
-    let Ok(rows) = from_utf8(&rows) else {
-        anyhow::bail!("the rows are no text in UTF-8");
-    };
+// What comes out for rows: an empty row and a title (`# ..`) as they are, a case with its answer.
+fn played(alloc: Global, rows: &str) -> Result<String, NoMemory> {
     let mut out = String::new(alloc);
     for row in rows.lines() {
-        if play_row(alloc, row, &mut out).is_err() {
-            anyhow::bail!("out of memory");
+        out.push_str(row)?;
+        if !row.is_empty() && !row.starts_with('#') {
+            out.push_str(" => ")?;
+            answer_to(alloc, row, &mut out)?;
         }
+        out.push('\n')?;
     }
-    StdSink::new(rt.stdout()).put(out.as_bytes())?;
-    Ok(ExitCode::SUCCESS)
+    Ok(out)
+}
+
+fn main(rt: HostRuntime) -> anyhow::Result<()> {
+    let rows = io::read_to_string(rt.alloc(), rt.stdin())?;
+    match played(rt.alloc(), &rows) {
+        Ok(out) => print!(rt; "{out}")?,
+        Err(NoMemory) => anyhow::bail!("out of memory"),
+    }
+    Ok(())
 }

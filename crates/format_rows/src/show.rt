@@ -1,6 +1,7 @@
 // Trees, bytes and refusals as a person reads them. A tree is shown in the diagnostic notation of CBOR (RFC 8949, section 8).
 use sm_tree::{Bytes, NoMemory, SyntaxRefusal, Text, Tree};
 use std::alloc::Global;
+use std::cmp::Ordering;
 
 /// Appends pairs of hexadecimal digits, with a blank between two.
 pub fn show_bytes(bytes: &[u8], out: &mut String) -> Result<(), NoMemory> {
@@ -11,6 +12,46 @@ pub fn show_bytes(bytes: &[u8], out: &mut String) -> Result<(), NoMemory> {
         write!(out, "{byte:02x}")?;
     }
     Ok(())
+}
+
+// Appends a range of bytes.
+fn show_range(first: u8, last: u8, out: &mut String) -> Result<(), NoMemory> {
+    if !out.ends_with(' ') {
+        out.push(' ')?;
+    }
+    write!(out, "{first:02x}")?;
+    if first != last {
+        write!(out, "-{last:02x}")?;
+    }
+    Ok(())
+}
+
+/// Appends the ranges that bytes make up, which rise.
+pub fn show_ranges(bytes: &[u8], out: &mut String) -> Result<(), NoMemory> {
+    let mut range: Option<(u8, u8)> = None;
+    for byte in bytes {
+        range = match range {
+            Some((first, last)) if *byte == last.saturating_add(1) => Some((first, *byte)),
+            Some((first, last)) => {
+                show_range(first, last, out)?;
+                Some((*byte, *byte))
+            }
+            None => Some((*byte, *byte)),
+        };
+    }
+    match range {
+        Some((first, last)) => show_range(first, last, out),
+        None => Ok(()),
+    }
+}
+
+/// Appends the word of an order.
+pub fn show_order(order: Ordering, out: &mut String) -> Result<(), NoMemory> {
+    Ok(out.push_str(match order {
+        Ordering::Less => "less",
+        Ordering::Equal => "equal",
+        Ordering::Greater => "greater",
+    })?)
 }
 
 /// Appends the text as a JSON string.
