@@ -36,6 +36,7 @@ pub enum Phase {
 
 impl Phase {
     /// The phase after one more byte, or `None` where no number goes on with it.
+    #[inline(always)]
     #[tactic(auto, using(crate::proofs::NumberSteps::leads_next, crate::proofs::NumberSteps::next_byte, crate::proofs::NumberSteps::stops_next))]
     pub fn next(self, byte: u8) -> Option<Phase>
         ensures { IsNextPhase self byte result }
