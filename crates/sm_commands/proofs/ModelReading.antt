@@ -10,7 +10,8 @@ use Rattle.sm_shapes.specs.declared.table.TableMember.{TableMember}
 use Rattle.sm_shapes.specs.declared.table.ShapeKind.TheVariants.{Structure}
 use Rattle.sm_commands.specs.FirstForm.{ModelMember, ModelStructure, PairSays, MembersSay, ShapeSays, ShapesSay}
 use Rattle.sm_shapes.specs.declared.table.TableShape.{TableShape}
-use Rattle.sm_commands.specs.Tabled.{plain_shape, numbers, structure_shapes, simple_shapes, place, member_row, member_rows, table_of}
+use Rattle.sm_shapes.specs.Tables.{plain_shape}
+use Rattle.sm_commands.specs.Tabled.{numbers, structure_shapes, simple_shapes, place, member_row, member_rows, table_of}
 use Rattle.sm_commands.specs.steps.ModelSteps.{AreAdded, IsAdded}
 
 -- whatever the rest of the pairs says completes the rows so far to those of all pairs, and where all pairs

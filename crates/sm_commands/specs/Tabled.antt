@@ -9,12 +9,8 @@ use Rattle.sm_shapes.specs.declared.table.ShapeKind.TheVariants.{Boolean as a_bo
 use Rattle.sm_commands.specs.declared.model.target.SimpleTarget.{SimpleTarget}
 use Rattle.sm_commands.specs.declared.model.target.SimpleTarget.TheVariants.{String, Boolean, Integer, Long}
 use Rattle.sm_tree.specs.Node.{Node}
-use Rattle.sm_shapes.specs.Tables.{kind_at, members_at, name_at, target_at, required_at, Shaped}
+use Rattle.sm_shapes.specs.Tables.{plain_shape, kind_at, members_at, name_at, target_at, required_at, Shaped}
 use Rattle.sm_commands.specs.FirstForm.{ModelMember, ModelStructure, FirstForm}
-
--- a shape of this kind with these members, of which nothing more is said
-abbrev pub plain_shape : ShapeKind → List ℕ → TableShape
-plain_shape kind members = record { kind = kind; members = members; unique = false; sparse = false; unit = false }
 
 -- the numbers of as many members as there are, from k on
 abbrev pub numbers : ℕ → List ModelMember → List ℕ

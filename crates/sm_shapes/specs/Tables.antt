@@ -14,6 +14,10 @@ shape_count t = length t.shapes
 abbrev pub member_count : Table → ℕ
 member_count t = length t.members
 
+-- a shape of this kind with these members, of which nothing more is said
+abbrev pub plain_shape : ShapeKind → List ℕ → TableShape
+plain_shape kind members = record { kind = kind; members = members; unique = false; sparse = false; unit = false }
+
 -- Of a shape that may be missing. Past the table's end these words answer something, to be total; calls ask
 -- within it.
 abbrev pub kind_in : Option TableShape → ShapeKind

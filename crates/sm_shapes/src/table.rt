@@ -1,6 +1,6 @@
 // Tables: shapes and members by number. What reads models makes them, and the codec looks them up.
 ghost use Rattle.std.specs.Prelude.{◌≡◌, ◌<◌};
-ghost use Rattle.sm_shapes.specs.Tables.{shape_count, member_count, kind_at, members_at, name_at, target_at, required_at};
+ghost use Rattle.sm_shapes.specs.Tables.{plain_shape, shape_count, member_count, kind_at, members_at, name_at, target_at, required_at};
 
 use crate::rows::{MemberNumbers, TableMembers, TableShapes};
 use sm_tree::Text;
@@ -33,6 +33,21 @@ pub struct TableShape {
     pub sparse: bool,
     /// Whether it is the prelude's `Unit`.
     pub unit: bool,
+}
+
+impl TableShape {
+    /// A shape of this kind with these members, of which nothing more is said. No memory.
+    pub fn plain(kind: ShapeKind, members: Vec<u32>) -> TableShape
+        ensures { result ≡ plain_shape kind members.items }
+    {
+        TableShape {
+            kind,
+            members: MemberNumbers::new(members),
+            unique: false,
+            sparse: false,
+            unit: false,
+        }
+    }
 }
 
 /// A member of a shape.

@@ -7,7 +7,8 @@ use Rattle.sm_shapes.specs.declared.table.Table.{Table}
 use Rattle.sm_shapes.specs.declared.table.TableMember.{TableMember}
 use Rattle.sm_shapes.specs.declared.table.ShapeKind.TheVariants.{Structure}
 use Rattle.sm_commands.specs.FirstForm.{ModelMember, ModelStructure, PairSays, MembersSay, ShapeSays, ShapesSay}
-use Rattle.sm_commands.specs.Tabled.{plain_shape, numbers, member_row, table_of}
+use Rattle.sm_shapes.specs.Tables.{plain_shape}
+use Rattle.sm_commands.specs.Tabled.{numbers, member_row, table_of}
 
 -- The row of the member that a pair says. Here and below n is the number of the first simple shape, and s
 -- that of the structure.

@@ -2,7 +2,8 @@
 ghost use Rattle.std.specs.Prelude.{◌≡◌, ◌≤◌, ◌<◌, ◌+◌, ◌^◌, ◌++◌, ℕ, List, [], ◌∷◌, map, IfOk, IfSome, OnOk, OnErr, length, vec_len};
 ghost use Rattle.sm_tree.specs.Node.{members_of};
 ghost use Rattle.sm_tree.specs.View.{node_of, members_view};
-ghost use Rattle.sm_commands.specs.Tabled.{plain_shape, simple_shapes};
+ghost use Rattle.sm_shapes.specs.Tables.{plain_shape};
+ghost use Rattle.sm_commands.specs.Tabled.{simple_shapes};
 ghost use Rattle.sm_commands.specs.steps.ModelSteps.{AddsStructure, ReadsTable};
 ghost use Rattle.sm_commands.specs.steps.RowsSoFar.{rows_so_far};
 
@@ -10,9 +11,7 @@ use crate::model::fields::labelled_pairs;
 use crate::model::members::add_members;
 use crate::model::names::names_differ;
 use crate::model::push;
-use sm_shapes::{
-    MemberNumbers, ShapeKind, Table, TableMember, TableMembers, TableShape, TableShapes,
-};
+use sm_shapes::{ShapeKind, Table, TableMember, TableMembers, TableShape, TableShapes};
 use sm_tree::{NoMemory, Text, Tree};
 use std::alloc::Global;
 
@@ -47,16 +46,7 @@ fn add_shape(
     ensures added { OnOk result (shapes.new.items ≡ shapes.old.items ++ plain_shape kind members.items ∷ []) }
     ensures refused { OnErr result (shapes.new.items ≡ shapes.old.items) }
 {
-    push(
-        shapes,
-        TableShape {
-            kind,
-            members: MemberNumbers::new(members),
-            unique: false,
-            sparse: false,
-            unit: false,
-        },
-    )
+    push(shapes, TableShape::plain(kind, members))
 }
 
 /// Adds the simple shapes, in the order of their places. After `NoMemory` some may stand; the caller drops them.

@@ -2,7 +2,7 @@ use Rattle.std.proofs.Common.{Ok, ◌++◌, ◌∷◌, [], sym, ap, ◌∙◌, s
 use Rattle.sm_tree.specs.Node.{members_of}
 use Rattle.sm_tree.specs.View.{node_of, members_view}
 use Rattle.sm_shapes.specs.declared.table.ShapeKind.TheVariants.{Structure}
-use Rattle.sm_commands.specs.Tabled.{plain_shape}
+use Rattle.sm_shapes.specs.Tables.{plain_shape}
 use Rattle.sm_commands.specs.steps.ModelSteps.{AreAdded, AddsMembers}
 use Rattle.sm_commands.proofs.Objects.{clash}
 use Rattle.sm_commands.proofs.Forms.{same_members, no_members_said, shape_says}
