@@ -7,14 +7,9 @@ mod shelf;
 
 use row::Row;
 use shelf::Shelf;
-use sm_io::{Sink, StdSink, StdSource, read_all};
 use sm_tree::NoMemory;
 use std::alloc::Global;
-use std::process::ExitCode;
-use std::str::from_utf8;
-
-/// The most bytes of rows.
-const ROWS_LIMIT: u64 = 1 << 24;
+use std::io;
 
 // Appends what comes out for a line: the line, and behind a case its answer.
 fn play_line(
@@ -35,19 +30,15 @@ fn play_line(
     Ok(())
 }
 
-fn main(rt: HostRuntime) -> anyhow::Result<ExitCode> {
-    let alloc = rt.alloc();
-    let rows = read_all(alloc, &mut StdSource::new(rt.stdin()), ROWS_LIMIT)?;
-    let Ok(rows) = from_utf8(&rows) else {
-        anyhow::bail!("the rows are no text in UTF-8");
-    };
-    let mut shelf = Shelf::new(alloc);
-    let mut out = String::new(alloc);
+fn main(rt: HostRuntime) -> anyhow::Result<()> {
+    let rows = io::read_to_string(rt.alloc(), rt.stdin())?;
+    let mut shelf = Shelf::new(rt.alloc());
+    let mut out = String::new(rt.alloc());
     for line in rows.lines() {
-        if play_line(alloc, &mut shelf, line, &mut out).is_err() {
+        if play_line(rt.alloc(), &mut shelf, line, &mut out).is_err() {
             anyhow::bail!("out of memory");
         }
     }
-    StdSink::new(rt.stdout()).put(out.as_bytes())?;
-    Ok(ExitCode::SUCCESS)
+    print!(rt; "{out}")?;
+    Ok(())
 }
