@@ -69,7 +69,14 @@ pub fn order(alloc: Global, text: &str, out: &mut String) -> Result<(), NoMemory
     let (Some(a), Some(b)) = (owned(alloc, a.as_str()), owned(alloc, b.as_str())) else {
         return Ok(out.push_str("no two ids")?);
     };
-    show_order(a.cmp(&b), out)
+    show_order(a.cmp(&b), out)?;
+    if a.compare(&b.as_ref()) != a.cmp(&b) {
+        out.push_str(", but not where the second is borrowed")?;
+    }
+    if format!(in alloc; "{a}")?.as_str() != a.as_str() {
+        out.push_str(", and printed otherwise")?;
+    }
+    Ok(())
 }
 
 pub fn fold(alloc: Global, text: &str, out: &mut String) -> Result<(), NoMemory> {

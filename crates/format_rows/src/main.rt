@@ -2,6 +2,7 @@
 // hand (README.md has their notation), so a table of a thousand cases is proved by nobody and read by everybody.
 #![tactic(auto)]
 
+mod both_readers;
 mod formats;
 mod given;
 mod idl;

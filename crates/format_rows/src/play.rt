@@ -1,4 +1,5 @@
 // The answer to each case.
+use crate::both_readers::cbor_two;
 use crate::formats::{cbor, json, json_next, number_run};
 use crate::given::given;
 use crate::idl::{docs, lexed};
@@ -44,6 +45,7 @@ fn answer(
         return Ok(out.push_str("no text")?);
     };
     match question {
+        Question::CborTwo => cbor_two(alloc, text, out),
         Question::Id => id(text, out),
         Question::IdLengths => id_lengths(text, out),
         Question::WriteStamp(format) => write_stamp(format, text, out),

@@ -10,6 +10,8 @@ pub enum Question {
     Json,
     /// To read them as a CBOR item; the answer is its tree, and the item that is written for it.
     Cbor,
+    /// How many items all two bytes make that stand between these.
+    CborTwo,
     /// To read them as a shape id.
     Id,
     /// To read them as a shape id, of whose parts only the lengths are told.
@@ -69,6 +71,7 @@ pub fn question_of<'a>(word: &str, rest: &'a str) -> Option<(Question, &'a str)>
     let plain = match word {
         "json" => Question::Json,
         "cbor" => Question::Cbor,
+        "cbor-two" => Question::CborTwo,
         "id" => Question::Id,
         "id-lengths" => Question::IdLengths,
         "fold" => Question::Fold,
