@@ -61,7 +61,12 @@ fn tree_of(alloc: Global, format: MeasuredFormat, bytes: &[u8], turns: u32) -> a
     }
 }
 
-fn written(alloc: Global, format: MeasuredFormat, tree: &Tree, turns: u32) -> anyhow::Result<Vec<u8>>
+fn written(
+    alloc: Global,
+    format: MeasuredFormat,
+    tree: &Tree,
+    turns: u32,
+) -> anyhow::Result<Vec<u8>>
     requires { format ≡ MeasuredFormat.Json → IsJson (node_of tree.now) }
 {
     if !turns::can_write(format, tree) {
@@ -74,7 +79,12 @@ fn written(alloc: Global, format: MeasuredFormat, tree: &Tree, turns: u32) -> an
 }
 
 // One format, read or written many times over, from a JSON text.
-fn measured(rt: &HostRuntime, format: MeasuredFormat, work: Work, text: Vec<u8>) -> anyhow::Result<()> {
+fn measured(
+    rt: &HostRuntime,
+    format: MeasuredFormat,
+    work: Work,
+    text: Vec<u8>,
+) -> anyhow::Result<()> {
     let alloc = rt.alloc();
     let bytes = in_format(alloc, format, text)?;
     let tree = tree_of(alloc, format, &bytes, work.reads())?;
