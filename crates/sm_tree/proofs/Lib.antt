@@ -8,6 +8,7 @@ pub mod Events
 pub mod Building
 pub mod Streams
 pub mod Awaited
+pub mod Counted
 pub mod NumberParts
 pub mod NumberRuns
 pub mod NumberSteps
