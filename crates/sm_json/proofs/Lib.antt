@@ -23,6 +23,9 @@ pub mod Turns
 pub mod WrittenStrings
 pub mod WrittenNumbers
 pub mod WrittenTrees
+pub mod EventTexts
+pub mod TakenEvents
+pub mod EventWriter
 pub mod PlainRuns
 pub mod Placed
 pub mod Lanes

@@ -1,5 +1,7 @@
 pub mod Strings
 pub mod JsonText
 pub mod Written
+pub mod WrittenEvents
 pub mod Laws
+pub mod WriterView
 pub mod steps

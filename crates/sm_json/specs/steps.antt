@@ -6,3 +6,4 @@ pub mod StringRuns
 pub mod StringReading
 pub mod Rest
 pub mod Machine
+pub mod Writing

@@ -1,5 +1,6 @@
 // Laws of texts and of what is written, each the contract of a function whose body is empty.
 ghost use Rattle.sm_json.specs.Laws.{WrittenIsText, WrittenSpells, WrittenIsRead, WrittenTextSpells, EscapesAreMeant, OneReading, OneAnswer, SomeAnswer};
+ghost use Rattle.sm_json.specs.WrittenEvents.{WrittenEventsAreTree, WrittenEventsBegin, JsonEventsStand, JsonStreamsAreTaken};
 
 /// What is written for a tree is a JSON text of that tree (RFC 8259).
 pub fn written_is_text()
@@ -40,4 +41,28 @@ pub fn one_answer()
 /// No bytes are without an answer: any are read as a tree, or refused by some word.
 pub fn some_answer()
     ensures { SomeAnswer }
+{}
+
+/// What is written for the events of a tree, one after the other, is the text that is written for the tree.
+#[tactic(auto, using(crate::proofs::EventTexts::tree_written))]
+pub fn written_events_are_tree()
+    ensures { WrittenEventsAreTree }
+{}
+
+/// What is written for the first events of a tree is a prefix of that text.
+#[tactic(auto, using(crate::proofs::EventTexts::prefix_written))]
+pub fn written_events_begin()
+    ensures { WrittenEventsBegin }
+{}
+
+/// The events that a `JsonWriter` takes are exactly those that stand in a stream of some tree that JSON can spell.
+#[tactic(auto, using(crate::proofs::TakenEvents::events_stand))]
+pub fn events_stand()
+    ensures { JsonEventsStand }
+{}
+
+/// So it takes each event of such a stream.
+#[tactic(auto, using(crate::proofs::TakenEvents::streams_taken))]
+pub fn streams_are_taken()
+    ensures { JsonStreamsAreTaken }
 {}

@@ -42,13 +42,13 @@ fn escaped_len(text: &[u8]) -> u64
     }
 }
 
-fn text_len(text: &Text) -> u64
+pub(crate) fn text_len(text: &Text) -> u64
     ensures { result ≡ length_word (length (written_text text.now)) }
 {
     escaped_len(text.as_str().as_bytes()).saturating_add(2)
 }
 
-fn int_len(value: i64) -> u64
+pub(crate) fn int_len(value: i64) -> u64
     ensures { result ≡ length (signed_decimal value) }
 {
     let mut digits = Buffer::new();

@@ -14,8 +14,10 @@ mod text;
 mod utf8;
 mod whitespace;
 mod write;
+mod writer;
 
 pub use length::encoded_len;
 pub use read::read_tree;
 pub use sm_tree::{NoMemory, SyntaxRefusal};
 pub use write::write_tree;
+pub use writer::JsonWriter;
