@@ -17,5 +17,7 @@ mod RunSteps
 mod PrefixSteps
 mod FeedSteps
 mod WrittenItems
+pub mod EventItems
+pub mod TakenEvents
 mod Counts
 mod Descending

@@ -6,12 +6,13 @@ use Rattle.sm_tree.specs.Json.{AreBytes, IsCbor, AreCbor, AreCborMembers}
 use Rattle.sm_tree.specs.Node.{Node, Nodes, Members, null, bool, int, number, text, bytes, tag, opaque, list, object, no_nodes, node, no_members, member}
 use Rattle.sm_cbor.specs.Heads.{Number, Head}
 use Rattle.sm_cbor.specs.CborItem.{CborItem, Item, Integer, Definite, TextString, CountedEntries, CountedPairs}
-use Rattle.sm_cbor.specs.Written.{two_bytes, four_bytes, eight_bytes, written_head, written_int, written_text_item, nodes_count, members_count, written_item, written_item_entries, written_item_pairs}
+use Rattle.sm_cbor.specs.Written.{two_bytes, four_bytes, eight_bytes, written_head, written_int, written_text_item, written_item, written_item_entries, written_item_pairs}
 use Rattle.sm_cbor.specs.Laws.{WrittenIsItem}
 use Rattle.std.proofs.Math.Seq.{drop-append_seam}
 use Rattle.sm_tree.specs.Levels.{levels}
 use Rattle.sm_tree.specs.Limits.{most_levels}
 use Rattle.sm_tree.specs.Syntax.{IsRead}
+use Rattle.sm_tree.specs.Streams.{entry_count, pair_count}
 
 -- the five forms of a head
 pub short_head : (m n : ℕ) → n < 24 → written_head m n ≡ (m * 32 + n) ∷ []
@@ -125,19 +126,19 @@ some (text t) c = let h = string_long 3 t in omega arith
 some (bytes t) c = let h = string_long 2 t in omega arith
 some (tag k n) c = let h = head_long 6 k in omega (arith, length-append (written_head 6 k) (written_item n))
 some (opaque b) c = absurd c
-some (list ns) c = let h = head_long 4 (nodes_count ns) in
-    omega (arith, length-append (written_head 4 (nodes_count ns)) (written_item_entries ns))
-some (object ms) c = let h = head_long 5 (members_count ms) in
-    omega (arith, length-append (written_head 5 (members_count ms)) (written_item_pairs ms))
+some (list ns) c = let h = head_long 4 (entry_count ns) in
+    omega (arith, length-append (written_head 4 (entry_count ns)) (written_item_entries ns))
+some (object ms) c = let h = head_long 5 (pair_count ms) in
+    omega (arith, length-append (written_head 5 (pair_count ms)) (written_item_pairs ms))
 
-entries_count : (ns : Nodes) → AreCbor ns → nodes_count ns ≤ length (written_item_entries ns)
+entries_count : (ns : Nodes) → AreCbor ns → entry_count ns ≤ length (written_item_entries ns)
 entries_count no_nodes c = omega arith
 entries_count (node n ns) c =
     let first = some n c.0 in
     let more = entries_count ns c.1 in
     omega (arith, length-append (written_item n) (written_item_entries ns))
 
-pairs_count : (ms : Members) → AreCborMembers ms → members_count ms ≤ length (written_item_pairs ms)
+pairs_count : (ms : Members) → AreCborMembers ms → pair_count ms ≤ length (written_item_pairs ms)
 pairs_count no_members c = omega arith
 pairs_count (member k n ms) c =
     let key = string_long 3 k in
@@ -175,32 +176,32 @@ mutual
   item_of (opaque b) r c small = absurd c
   item_of (list ns) r c small =
       let few = entries_count ns c in
-      let short = back_short (written_head 4 (nodes_count ns)) (written_item_entries ns) small in
+      let short = back_short (written_head 4 (entry_count ns)) (written_item_entries ns) small in
       inl (
-        nodes_count ns,
+        entry_count ns,
         written_item_entries ns ++ r,
-        subst (λ x. Head 4 (nodes_count ns) x (written_item_entries ns ++ r))
-            (sym (append_assoc (written_head 4 (nodes_count ns)) (written_item_entries ns) r))
-            (head_is 4 (nodes_count ns) (written_item_entries ns ++ r) (omega arith)),
+        subst (λ x. Head 4 (entry_count ns) x (written_item_entries ns ++ r))
+            (sym (append_assoc (written_head 4 (entry_count ns)) (written_item_entries ns) r))
+            (head_is 4 (entry_count ns) (written_item_entries ns ++ r) (omega arith)),
         entries_of ns r c short,
       )
   item_of (object ms) r c small =
       let few = pairs_count ms c in
-      let short = back_short (written_head 5 (members_count ms)) (written_item_pairs ms) small in
+      let short = back_short (written_head 5 (pair_count ms)) (written_item_pairs ms) small in
       inl (
-        members_count ms,
+        pair_count ms,
         written_item_pairs ms ++ r,
-        subst (λ x. Head 5 (members_count ms) x (written_item_pairs ms ++ r))
-            (sym (append_assoc (written_head 5 (members_count ms)) (written_item_pairs ms) r))
-            (head_is 5 (members_count ms) (written_item_pairs ms ++ r) (omega arith)),
+        subst (λ x. Head 5 (pair_count ms) x (written_item_pairs ms ++ r))
+            (sym (append_assoc (written_head 5 (pair_count ms)) (written_item_pairs ms) r))
+            (head_is 5 (pair_count ms) (written_item_pairs ms ++ r) (omega arith)),
         pairs_of ms r c short,
       )
 
   entries_of : (ns : Nodes) (r : List ℕ) → AreCbor ns → length (written_item_entries ns) < 2 ^ 64
-      → CountedEntries TextString (nodes_count ns) ns (written_item_entries ns ++ r) r
+      → CountedEntries TextString (entry_count ns) ns (written_item_entries ns ++ r) r
   entries_of no_nodes r c small = (refl, refl)
   entries_of (node n ns) r c small = (
-    nodes_count ns,
+    entry_count ns,
     refl,
     written_item_entries ns ++ r,
     subst (λ x. Item TextString n x (written_item_entries ns ++ r)) (sym (append_assoc (written_item n) (written_item_entries ns) r))
@@ -209,7 +210,7 @@ mutual
   )
 
   pairs_of : (ms : Members) (r : List ℕ) → AreCborMembers ms → length (written_item_pairs ms) < 2 ^ 64
-      → CountedPairs TextString (members_count ms) ms (written_item_pairs ms ++ r) r
+      → CountedPairs TextString (pair_count ms) ms (written_item_pairs ms ++ r) r
   pairs_of no_members r c small = (refl, refl)
   pairs_of (member k n ms) r c small =
       let behind = back_short (written_text_item k) (written_item n ++ written_item_pairs ms) small in
@@ -217,7 +218,7 @@ mutual
       let long = string_long 3 k in
       let tail : (written_item n ++ written_item_pairs ms) ++ r ≡ written_item n ++ (written_item_pairs ms ++ r) =
       append_assoc (written_item n) (written_item_pairs ms) r in (
-        members_count ms,
+        pair_count ms,
         refl,
         (written_item n ++ written_item_pairs ms) ++ r,
         written_item_pairs ms ++ r,

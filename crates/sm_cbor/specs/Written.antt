@@ -1,7 +1,8 @@
 -- The one item that is written for a tree: the shortest heads and definite lengths (RFC 8949, section 4.2.1, but that
 -- pairs keep their order), and `F6` for null.
-use Rattle.std.specs.Prelude.{ℕ, ℤ, pos, negsuc, suc, ◌+◌, ◌*◌, ◌/◌, ◌%◌, nat_lt, if◌then◌else◌, true, false, List, [], ◌∷◌, ◌++◌, length}
+use Rattle.std.specs.Prelude.{ℕ, ℤ, pos, negsuc, ◌+◌, ◌*◌, ◌/◌, ◌%◌, nat_lt, if◌then◌else◌, true, false, List, [], ◌∷◌, ◌++◌, length}
 use Rattle.sm_tree.specs.Node.{Node, Nodes, Members, null, bool, int, number, text, bytes, tag, opaque, list, object, no_nodes, node, no_members, member}
+use Rattle.sm_tree.specs.Streams.{entry_count, pair_count}
 use Rattle.sm_cbor.specs.Heads.{unsigned_type, negative_type, bytes_type, text_type, array_type, map_type, tag_type, false_byte, true_byte, null_byte}
 
 -- a number in 2, 4 and 8 bytes, in network byte order
@@ -39,14 +40,6 @@ written_int z = written_head (int_type z) (int_argument z)
 abbrev pub written_text_item : List ℕ → List ℕ
 written_text_item t = written_head text_type (length t) ++ t
 
-abbrev pub nodes_count : Nodes → ℕ
-nodes_count no_nodes = 0
-nodes_count (node n ns) = suc (nodes_count ns)
-
-abbrev pub members_count : Members → ℕ
-members_count no_members = 0
-members_count (member k n ms) = suc (members_count ms)
-
 abbrev mutual
   -- numbers that are texts and opaque leaves aren't written: they stand in no tree that is written as CBOR
   pub written_item : Node → List ℕ
@@ -59,8 +52,8 @@ abbrev mutual
   written_item (bytes t) = written_head bytes_type (length t) ++ t
   written_item (tag k n) = written_head tag_type k ++ written_item n
   written_item (opaque b) = []
-  written_item (list ns) = written_head array_type (nodes_count ns) ++ written_item_entries ns
-  written_item (object ms) = written_head map_type (members_count ms) ++ written_item_pairs ms
+  written_item (list ns) = written_head array_type (entry_count ns) ++ written_item_entries ns
+  written_item (object ms) = written_head map_type (pair_count ms) ++ written_item_pairs ms
 
   pub written_item_entries : Nodes → List ℕ
   written_item_entries no_nodes = []

@@ -2,6 +2,7 @@
 ghost use Rattle.sm_tree.specs.SyntaxLaws.{HasOneReading, HasOneAnswer, HasSomeAnswer};
 ghost use Rattle.sm_cbor.specs.Refusals.{cbor_syntax};
 ghost use Rattle.sm_cbor.specs.Laws.{WrittenIsItem, WrittenItemIsRead};
+ghost use Rattle.sm_cbor.specs.WrittenEvents.{WrittenEventsAreItem, WrittenEventsBeginItem, CborEventsStand, CborStreamsAreTaken};
 
 /// What is written for a tree is a CBOR item of that tree (RFC 8949), if 64 bits hold its length.
 pub fn written_is_item()
@@ -26,4 +27,30 @@ pub fn one_answer()
 /// And no bytes are without an answer.
 pub fn some_answer()
     ensures { HasSomeAnswer cbor_syntax }
+{}
+
+/// What is written for the events of a tree, one after the other, is the item that is written for the tree, where openers
+/// tell their numbers.
+#[tactic(auto, using(crate::proofs::EventItems::item_written))]
+pub fn written_events_are_item()
+    ensures { WrittenEventsAreItem }
+{}
+
+/// What is written for the first events of a tree is a prefix of that item.
+#[tactic(auto, using(crate::proofs::EventItems::prefix_written))]
+pub fn written_events_begin()
+    ensures { WrittenEventsBeginItem }
+{}
+
+/// The events that a `CborWriter` takes are exactly those that stand in a stream of some tree that is written as CBOR, where
+/// openers tell their numbers.
+#[tactic(auto, using(crate::proofs::TakenEvents::events_stand))]
+pub fn events_stand()
+    ensures { CborEventsStand }
+{}
+
+/// So it takes each event of such a stream.
+#[tactic(auto, using(crate::proofs::TakenEvents::streams_taken))]
+pub fn streams_are_taken()
+    ensures { CborStreamsAreTaken }
 {}

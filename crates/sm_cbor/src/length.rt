@@ -2,9 +2,10 @@
 ghost use Rattle.std.specs.Prelude.{◌≡◌, ◌++◌, ℕ, length};
 ghost use Rattle.sm_cbor.specs.Heads.{bytes_type, array_type, map_type, tag_type};
 ghost use Rattle.sm_tree.specs.Node.{nodes_of, members_of};
+ghost use Rattle.sm_tree.specs.Streams.{entry_count, pair_count};
 ghost use Rattle.sm_tree.specs.View.{node_of, nodes_view, members_view};
 ghost use Rattle.sm_bytes.specs.Lengths.{length_word};
-ghost use Rattle.sm_cbor.specs.Written.{nodes_count, members_count, written_item, written_head, written_int, written_text_item, written_item_entries, written_item_pairs};
+ghost use Rattle.sm_cbor.specs.Written.{written_item, written_head, written_int, written_text_item, written_item_entries, written_item_pairs};
 
 use crate::put::argument_of;
 use sm_tree::{Bytes, Text, Tree};
@@ -26,14 +27,14 @@ pub(crate) fn head_len(value: u64) -> u64
     }
 }
 
-fn int_len(value: i64) -> u64
+pub(crate) fn int_len(value: i64) -> u64
     ensures { result ≡ length (written_int value) }
 {
     head_len(argument_of(value))
 }
 
 // The length of a string with its head, whatever its major type.
-fn string_len(bytes: &[u8]) -> u64
+pub(crate) fn string_len(bytes: &[u8]) -> u64
     ensures { (major : ℕ) → result ≡ length_word (length (written_head major (length bytes.now) ++ bytes.now)) }
 {
     let len = bytes.len() as u64;
@@ -61,14 +62,14 @@ fn tag_head_len(number: u64) -> u64
 
 // The length of an array's head.
 fn list_head_len(items: &[Tree]) -> u64
-    ensures { result ≡ length (written_head array_type (nodes_count (nodes_of (nodes_view items.now)))) }
+    ensures { result ≡ length (written_head array_type (entry_count (nodes_of (nodes_view items.now)))) }
 {
     head_len(items.len() as u64)
 }
 
 // The length of a map's head.
 fn map_head_len(pairs: &[(Text, Tree)]) -> u64
-    ensures { result ≡ length (written_head map_type (members_count (members_of (members_view pairs.now)))) }
+    ensures { result ≡ length (written_head map_type (pair_count (members_of (members_view pairs.now)))) }
 {
     head_len(pairs.len() as u64)
 }

@@ -14,9 +14,11 @@ pub mod readers;
 mod seen;
 mod writable;
 mod write;
+mod writer;
 
 pub use length::encoded_len;
 pub use read::read_tree;
 pub use sm_tree::{NoMemory, SyntaxRefusal};
 pub use writable::is_writable;
 pub use write::write_tree;
+pub use writer::CborWriter;

@@ -3,13 +3,14 @@ ghost use Rattle.std.specs.Prelude.{◌≡◌, ◌+◌, ◌≤◌, ◌++◌, len
 ghost use Rattle.std.specs.Vec.{SameBlock};
 ghost use Rattle.sm_tree.specs.Json.{IsCbor};
 ghost use Rattle.sm_tree.specs.Node.{nodes_of, members_of};
+ghost use Rattle.sm_tree.specs.Streams.{entry_count, pair_count};
 ghost use Rattle.sm_tree.specs.View.{node_of, nodes_view, members_view};
 ghost use Rattle.sm_tree.specs.Levels.{levels};
 ghost use Rattle.sm_tree.specs.Limits.{most_levels};
 ghost use Rattle.sm_tree.specs.Syntax.{ComesTo};
 ghost use Rattle.sm_cbor.specs.Heads.{array_type, map_type};
 ghost use Rattle.sm_cbor.specs.Refusals.{cbor_syntax};
-ghost use Rattle.sm_cbor.specs.Written.{nodes_count, members_count, written_head, written_item, written_item_entries, written_item_pairs};
+ghost use Rattle.sm_cbor.specs.Written.{written_head, written_item, written_item_entries, written_item_pairs};
 
 use crate::length::encoded_len;
 use crate::put::{place_head, place_int, place_string, place_text};
@@ -18,28 +19,28 @@ use sm_tree::{NoMemory, Text, Tree};
 use std::alloc::Global;
 
 /// The major types of byte strings, arrays, maps and tags (RFC 8949, section 3.1).
-const BYTES: u8 = 2;
+pub(crate) const BYTES: u8 = 2;
 
-const ARRAY: u8 = 4;
+pub(crate) const ARRAY: u8 = 4;
 
-const MAP: u8 = 5;
+pub(crate) const MAP: u8 = 5;
 
-const TAG: u8 = 6;
+pub(crate) const TAG: u8 = 6;
 
 // The head of an array.
 fn place_list_head(buf: &mut [u8], at: usize, items: &[Tree]) -> usize
-    requires room { at + length (written_head array_type (nodes_count (nodes_of (nodes_view items.now)))) ≤ length buf.old }
-    ensures bytes { take result buf.new ≡ take at buf.old ++ written_head array_type (nodes_count (nodes_of (nodes_view items.now))) }
-    ensures next { result ≡ at + length (written_head array_type (nodes_count (nodes_of (nodes_view items.now)))) }
+    requires room { at + length (written_head array_type (entry_count (nodes_of (nodes_view items.now)))) ≤ length buf.old }
+    ensures bytes { take result buf.new ≡ take at buf.old ++ written_head array_type (entry_count (nodes_of (nodes_view items.now))) }
+    ensures next { result ≡ at + length (written_head array_type (entry_count (nodes_of (nodes_view items.now)))) }
 {
     place_head(buf, at, ARRAY, items.len() as u64)
 }
 
 // The head of a map.
 fn place_map_head(buf: &mut [u8], at: usize, pairs: &[(Text, Tree)]) -> usize
-    requires room { at + length (written_head map_type (members_count (members_of (members_view pairs.now)))) ≤ length buf.old }
-    ensures bytes { take result buf.new ≡ take at buf.old ++ written_head map_type (members_count (members_of (members_view pairs.now))) }
-    ensures next { result ≡ at + length (written_head map_type (members_count (members_of (members_view pairs.now)))) }
+    requires room { at + length (written_head map_type (pair_count (members_of (members_view pairs.now)))) ≤ length buf.old }
+    ensures bytes { take result buf.new ≡ take at buf.old ++ written_head map_type (pair_count (members_of (members_view pairs.now))) }
+    ensures next { result ≡ at + length (written_head map_type (pair_count (members_of (members_view pairs.now)))) }
 {
     place_head(buf, at, MAP, pairs.len() as u64)
 }
