@@ -1,5 +1,5 @@
 -- What is written for the events of a tree is its written item, and one event more adds its own bytes.
-use Rattle.std.proofs.Common.{◌≡◌, ◌≤◌, true, false, Option, None, Some, ℕ, List, [], ◌∷◌, ◌++◌, refl, sym, ap, subst, ◌∙◌, append_assoc, append-nil}
+use Rattle.std.proofs.Common.{◌≡◌, true, false, Option, None, Some, ℕ, List, [], ◌∷◌, ◌++◌, refl, sym, ap, subst, ◌∙◌, append_assoc, append-nil}
 use Rattle.sm_tree.specs.Node.{Node, Nodes, Members, null, bool, int, number, text, bytes, tag, opaque, list, object, no_nodes, node, no_members, member}
 use Rattle.sm_tree.specs.Events.{NodeEvent, start_list, start_object}
 use Rattle.sm_tree.specs.Streams.{Streams, EntriesStream, PairsStream, HasCount, TakesOn, entry_count, pair_count}
@@ -77,7 +77,8 @@ item_written n es stream counted = (tree_events n es [] stream counted).0 ∙ ap
 pub events_joined : (es more : List NodeEvent) → written_item_events (es ++ more) ≡ written_item_events es ++ written_item_events more
 events_joined [] more = refl
 events_joined (e ∷ es) more =
-    ap (λ s. event_item e ++ s) (events_joined es more) ∙ sym (append_assoc (event_item e) (written_item_events es) (written_item_events more))
+    ap (λ s. event_item e ++ s) (events_joined es more)
+    ∙ sym (append_assoc (event_item e) (written_item_events es) (written_item_events more))
 
 pub prefix_written : WrittenEventsBeginItem
 prefix_written n es more stream counted =

@@ -90,8 +90,10 @@ object_taken None is_counted = absurd is_counted
 object_taken (Some k) is_counted = tt
 
 mutual
-  -- the events of a tree are taken, and those that follow tell their numbers
-  tree_taken : (n : Node) (es fs : List NodeEvent) → IsCbor n → Streams n es fs → AreCounted es → (AreCounted fs → TakesEach IsCborEvent fs) → TakesEach IsCborEvent es
+  -- the events of a tree are taken, and then what follows, whose openers tell their numbers too
+  tree_taken : (n : Node) (es fs : List NodeEvent) → IsCbor n → Streams n es fs → AreCounted es
+      → (AreCounted fs → TakesEach IsCborEvent fs)
+      → TakesEach IsCborEvent es
   tree_taken null es fs cbor h counted rest = subst (TakesEach IsCborEvent) (sym h) (tt, rest (subst AreCounted h counted).1)
   tree_taken (bool b) es fs cbor h counted rest = subst (TakesEach IsCborEvent) (sym h) (tt, rest (subst AreCounted h counted).1)
   tree_taken (int z) es fs cbor h counted rest = subst (TakesEach IsCborEvent) (sym h) (cbor, rest (subst AreCounted h counted).1)
@@ -109,11 +111,12 @@ mutual
       subst (TakesEach IsCborEvent) (sym is)
       (object_taken says (subst AreCounted is counted).0, pairs_taken ms gs fs cbor stream (subst AreCounted is counted).1 rest)
 
-  entries_taken : (ns : Nodes) (es fs : List NodeEvent) → AreCbor ns → EntriesStream ns es fs → AreCounted es → (AreCounted fs → TakesEach IsCborEvent fs)
+  entries_taken : (ns : Nodes) (es fs : List NodeEvent) → AreCbor ns → EntriesStream ns es fs → AreCounted es
+      → (AreCounted fs → TakesEach IsCborEvent fs)
       → TakesEach IsCborEvent es
   entries_taken no_nodes es fs cbor h counted rest = subst (TakesEach IsCborEvent) (sym h) (tt, rest (subst AreCounted h counted).1)
   entries_taken (node n ns) es fs cbor (gs, first, more) counted rest =
-      tree_taken n es gs cbor.0 first counted (λ counted_behind. entries_taken ns gs fs cbor.1 more counted_behind rest)
+      tree_taken n es gs cbor.0 first counted (λ behind. entries_taken ns gs fs cbor.1 more behind rest)
 
   pairs_taken : (ms : Members) (es fs : List NodeEvent) → AreCborMembers ms → PairsStream ms es fs → AreCounted es
       → (AreCounted fs → TakesEach IsCborEvent fs)
@@ -122,7 +125,7 @@ mutual
   pairs_taken (member k n ms) es fs cbor (gs, hs, is, first, more) counted rest =
       subst (TakesEach IsCborEvent) (sym is) (
         cbor.0,
-        tree_taken n gs hs cbor.1 first (subst AreCounted is counted).1 (λ counted_behind. pairs_taken ms hs fs cbor.2 more counted_behind rest),
+        tree_taken n gs hs cbor.1 first (subst AreCounted is counted).1 (λ behind. pairs_taken ms hs fs cbor.2 more behind rest),
       )
 
 one_taken : (ds : List NodeEvent) (e : NodeEvent) (es : List NodeEvent) → TakesEach IsCborEvent (ds ++ e ∷ es) → IsCborEvent e

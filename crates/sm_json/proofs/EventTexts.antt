@@ -118,7 +118,8 @@ behind_joined d [] more = (written_behind d more, refl)
 behind_joined d (e ∷ es) more =
     let later : (rest : List ℕ) × (written_behind e (es ++ more) ≡ written_behind e es ++ rest) = behind_joined e es more in (
       later.0,
-      with_rest (comma_before (ends_value d) e) (event_text e ++ written_behind e (es ++ more)) (event_text e ++ written_behind e es) later.0
+      with_rest (comma_before (ends_value d) e) (event_text e ++ written_behind e (es ++ more))
+          (event_text e ++ written_behind e es) later.0
           (with_rest (event_text e) (written_behind e (es ++ more)) (written_behind e es) later.0 later.1),
     )
 

@@ -1,8 +1,8 @@
 -- A writer that appended an event's text stands for the longer stream.
-use Rattle.std.proofs.Common.{◌≡◌, ℕ, Bool, true, false, cond, List, [], ◌∷◌, ◌++◌, refl, sym, ap, ◌∙◌}
+use Rattle.std.proofs.Common.{◌≡◌, ℕ, Bool, true, false, cond, List, [], ◌++◌, refl, sym, ap, ◌∙◌}
 use Rattle.sm_tree.specs.Events.{NodeEvent}
 use Rattle.sm_tree.specs.Streams.{TakesOn}
-use Rattle.sm_json.specs.WrittenEvents.{comma_before, event_text, value_ended, written_events}
+use Rattle.sm_json.specs.WrittenEvents.{comma_before, event_text, written_events}
 use Rattle.sm_json.specs.WriterView.{has_comma, JsonWritten}
 use Rattle.sm_json.specs.steps.Writing.{WritesEvent, Keeps}
 use Rattle.sm_json.specs.declared.writer.JsonWriter.{JsonWriter}

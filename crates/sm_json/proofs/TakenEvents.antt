@@ -69,12 +69,14 @@ mutual
   tree_taken (object ms) es fs json (told, gs, is, tells, stream) rest =
       subst (TakesEach IsJsonEvent) (sym is) (tt, pairs_taken ms gs fs json stream rest)
 
-  entries_taken : (ns : Nodes) (es fs : List NodeEvent) → AreJson ns → EntriesStream ns es fs → TakesEach IsJsonEvent fs → TakesEach IsJsonEvent es
+  entries_taken : (ns : Nodes) (es fs : List NodeEvent) → AreJson ns → EntriesStream ns es fs → TakesEach IsJsonEvent fs
+      → TakesEach IsJsonEvent es
   entries_taken no_nodes es fs json h rest = subst (TakesEach IsJsonEvent) (sym h) (tt, rest)
   entries_taken (node n ns) es fs json (gs, first, more) rest =
       tree_taken n es gs json.0 first (entries_taken ns gs fs json.1 more rest)
 
-  pairs_taken : (ms : Members) (es fs : List NodeEvent) → AreJsonMembers ms → PairsStream ms es fs → TakesEach IsJsonEvent fs → TakesEach IsJsonEvent es
+  pairs_taken : (ms : Members) (es fs : List NodeEvent) → AreJsonMembers ms → PairsStream ms es fs → TakesEach IsJsonEvent fs
+      → TakesEach IsJsonEvent es
   pairs_taken no_members es fs json h rest = subst (TakesEach IsJsonEvent) (sym h) (tt, rest)
   pairs_taken (member k n ms) es fs json (gs, hs, is, first, more) rest =
       subst (TakesEach IsJsonEvent) (sym is)

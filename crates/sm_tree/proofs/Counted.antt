@@ -1,5 +1,5 @@
 -- For each number there is a list of so many entries, and an object of so many pairs, whose openers tell it.
-use Rattle.std.proofs.Common.{◌≡◌, ℕ, zero, suc, List, [], ◌∷◌, refl, ap, subst, Some}
+use Rattle.std.proofs.Common.{◌≡◌, ℕ, zero, suc, [], ◌∷◌, refl, ap, subst, Some}
 use Rattle.sm_tree.specs.Node.{Nodes, Members, null, list, object, no_nodes, node, no_members, member}
 use Rattle.sm_tree.specs.Events.{start_list, start_object}
 use Rattle.sm_tree.specs.Streams.{Streams, entry_count, pair_count, numbered_entries, numbered_pairs}
