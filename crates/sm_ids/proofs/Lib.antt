@@ -1,12 +1,12 @@
 mod Cutting
 mod Identifiers
 mod Namespaces
-mod Spellings
+pub mod Spellings
 mod Aheads
 mod Breaking
 mod Scanning
 mod Finding
 pub mod Parting
 mod Grammar
-mod PartOrder
+pub mod PartOrder
 mod IdAnswers

@@ -64,7 +64,7 @@ behind_namespaces id other = ordering_then (slice_cmp nat_cmp id.name other.name
     (slice_cmp nat_cmp (member_text id.member) (member_text other.member))
 
 -- the namespaces decide, or else the names, or else the members
-printed_order : (id other : Id) → IsId id → IsId other
+pub printed_order : (id other : Id) → IsId id → IsId other
     → slice_cmp nat_cmp (printed id) (printed other) ≡ ordering_then (slice_cmp nat_cmp id.namespace other.namespace)
     (behind_namespaces id other)
 printed_order id other h k =
