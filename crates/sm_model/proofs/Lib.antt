@@ -1,3 +1,6 @@
 pub mod RawViews
 mod Searching
 mod Entries
+mod Moved
+mod Rises
+mod Sorting

@@ -8,5 +8,7 @@ pub mod SaidView
 pub mod Formed
 pub mod Graphs
 pub mod Given
+pub mod GivenView
 pub mod GraphRows
 pub mod GraphView
+pub mod steps

@@ -5,10 +5,13 @@ ghost use Rattle.sm_tree.specs.View.{pairs_view};
 ghost use Rattle.sm_model.specs.Graphs.{text_cmp};
 ghost use Rattle.sm_model.specs.GraphRows.{AreSound};
 
+mod given;
 mod lookup;
 mod ordered;
 mod rows;
+mod sorting;
 
+pub use given::{GraphMember, GraphMembers, GraphShape};
 pub use rows::{Numbers, Row, RowEntry, ShapeRow};
 use sm_tree::Pairs;
 

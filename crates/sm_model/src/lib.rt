@@ -9,7 +9,7 @@ mod raw;
 mod reference;
 mod statement;
 
-pub use graph::Graph;
+pub use graph::{Graph, GraphMember, GraphMembers, GraphShape};
 pub use kind::Kind;
 pub use property::PropertyForm;
 pub use raw::{RawItems, RawNode, RawPairs};
