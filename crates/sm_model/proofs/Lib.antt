@@ -4,3 +4,6 @@ mod Entries
 mod Moved
 mod Rises
 mod Sorting
+mod MemberIds
+mod Appending
+mod Places

@@ -64,10 +64,12 @@ pub record ShapeGiven : Type 0 where
 abbrev pub member_id : List ℕ → List ℕ → List ℕ
 member_id shape name = shape ++ dollar ∷ name
 
+-- a member and members of a shape, by their ids
+abbrev pub given_member : List ℕ → MemberGiven → List ℕ × Entry
+given_member shape m = (member_id shape m.name, member_entry (record { target = m.target; traits = fin.from_entries m.traits }))
+
 abbrev pub given_members : List ℕ → List MemberGiven → List (List ℕ × Entry)
-given_members shape [] = []
-given_members shape (m ∷ ms) =
-    (member_id shape m.name, member_entry (record { target = m.target; traits = fin.from_entries m.traits })) ∷ given_members shape ms
+given_members shape ms = map (given_member shape) ms
 
 -- a shape and its members, by their ids
 abbrev pub given_shape : ShapeGiven → List (List ℕ × Entry)

@@ -7,6 +7,8 @@ ghost use Rattle.sm_model.specs.GraphRows.{AreSound};
 
 mod given;
 mod lookup;
+mod members;
+mod numbers;
 mod ordered;
 mod rows;
 mod sorting;

@@ -4,12 +4,17 @@ use Rattle.std.specs.Prelude.{◌≡◌, ◌<◌, ◌+◌, ℕ, true, List, [], 
 use Rattle.std.specs.List.{list_all}
 use Rattle.sm_ids.specs.Identifier.{IsIdentifier}
 use Rattle.sm_model.specs.Formed.{StandsAmong}
-use Rattle.sm_model.specs.Graphs.{MemberGiven, ShapeGiven, member_id, given_members, given_shape, given_entries}
+use Rattle.sm_model.specs.Graphs.{MemberGiven, ShapeGiven, member_id, given_member, given_members, given_shape, given_entries}
 use Rattle.sm_model.specs.GraphRows.{ids_of, row_entry, entries_of_rows, are_below, is_sound_row}
 use Rattle.sm_model.specs.steps.Rising.{Rise}
 use Rattle.sm_model.specs.declared.graph.rows.Row.{Row}
 
--- the rows of members, in model order. What a member's row stands for doesn't depend on the other rows
+-- the row of a member. What it stands for doesn't depend on the other rows
+pub record IsMemberRow (shape : List ℕ) (m : MemberGiven) (row : Row) : Type 0 where
+  pub entry : (ids : List (List ℕ)) → row_entry ids row ≡ given_member shape m
+  pub sound : (n : ℕ) → is_sound_row n row ≡ true
+
+-- the rows of members, in model order
 pub record AreMemberRows (shape : List ℕ) (ms : List MemberGiven) (rows : List Row) : Type 0 where
   pub entries : (ids : List (List ℕ)) → map (row_entry ids) rows ≡ given_members shape ms
   pub sound : (n : ℕ) → list_all (is_sound_row n) rows ≡ true
@@ -19,10 +24,11 @@ abbrev pub AreNamesIn : List (List ℕ) → List ℕ → List (List ℕ) → Typ
 AreNamesIn ids shape [] = Unit {0}
 AreNamesIn ids shape (name ∷ names) = IsIdentifier name × StandsAmong (member_id shape name) ids × AreNamesIn ids shape names
 
--- these places, counted from the first one, are those of the members' ids
-pub record AreNumbers (first : ℕ) (ids : List (List ℕ)) (shape : List ℕ) (names : List (List ℕ)) (numbers : List ℕ) : Type 0 where
-  pub mean : (before : List (List ℕ)) → length before ≡ first → map (λ k. get_or (before ++ ids) k []) numbers ≡ map (member_id shape) names
-  pub below : are_below (first + length ids) numbers ≡ true
+-- the numbers of the members of these names, where their rows stand from the first number on
+pub record AreNumbers (first : ℕ) (rows : List Row) (shape : List ℕ) (names : List (List ℕ)) (numbers : List ℕ) : Type 0 where
+  pub mean : (before : List (List ℕ)) → length before ≡ first
+      → map (λ k. get_or (before ++ ids_of rows) k []) numbers ≡ map (member_id shape) names
+  pub below : are_below (first + length rows) numbers ≡ true
 
 -- each is the id of a member of the shape
 abbrev pub AreMemberIds : List ℕ → List (List ℕ) → Type 0
