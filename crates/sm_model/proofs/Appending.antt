@@ -2,12 +2,8 @@
 use Rattle.std.proofs.Common.{◌≡◌, ℕ, true, Bool, List, [], ◌∷◌, ◌++◌, map, length, get_or, suc, ◌+◌, refl, sym, ap, ◌∙◌, arith, append_assoc, append-nil}
 use Rattle.std.specs.Prelude.{◌&&◌}
 use Rattle.std.specs.List.{list_all}
-use Rattle.std.proofs.lemmas.List.{map-append}
+use Rattle.std.proofs.lemmas.List.{map-append, get_or-append-add}
 use Rattle.std.proofs.lemmas.List.Folds.{list_all-append}
-
-pub nothing_left : {X : Type 0} (xs : List X) → length xs ≡ 0 → xs ≡ []
-nothing_left [] h = refl
-nothing_left (x ∷ xs) h = absurd (omega (arith, h))
 
 -- one more element, which stands for the next one of the rest
 pub one_more : {X Y : Type 0} (f : X → Y) (xs : List X) (x : X) (y : Y) (ys whole : List Y) → f x ≡ y → map f xs ++ y ∷ ys ≡ whole
@@ -23,7 +19,4 @@ passes_more p xs x all one =
 
 -- the element behind others, counted from the first of all
 pub behind : {X : Type 0} (before xs : List X) (first i : ℕ) (d : X) → length before ≡ first → get_or (before ++ xs) (first + i) d ≡ get_or xs i d
-behind [] xs first i d long = let same : first + i ≡ i = omega (arith, long) in ap (λ n. get_or xs n d) same
-behind (x ∷ before) xs first i d long =
-    let next : first + i ≡ suc (length before + i) = omega (arith, long) in
-    ap (λ n. get_or (x ∷ before ++ xs) n d) next ∙ behind before xs (length before) i d refl
+behind before xs first i d long = ap (λ n. get_or (before ++ xs) (n + i) d) (sym long) ∙ get_or-append-add before xs i d

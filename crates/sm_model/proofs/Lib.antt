@@ -7,3 +7,8 @@ mod Sorting
 mod MemberIds
 mod Appending
 mod Places
+mod MemberBlocks
+mod ShapeBlocks
+mod BlockOrder
+mod MoreRows
+mod MadeGraphs

@@ -5,6 +5,8 @@ ghost use Rattle.sm_tree.specs.View.{pairs_view};
 ghost use Rattle.sm_model.specs.Graphs.{text_cmp};
 ghost use Rattle.sm_model.specs.GraphRows.{AreSound};
 
+mod blocks;
+mod building;
 mod given;
 mod lookup;
 mod members;

@@ -4,6 +4,7 @@ use Rattle.std.specs.Prelude.{◌≡◌, ◌<◌, ◌+◌, ℕ, true, List, [], 
 use Rattle.std.specs.List.{list_all}
 use Rattle.sm_ids.specs.Identifier.{IsIdentifier}
 use Rattle.sm_model.specs.Formed.{StandsAmong}
+use Rattle.sm_model.specs.Given.{AreGivenShapes, given_ids, given_names}
 use Rattle.sm_model.specs.Graphs.{MemberGiven, ShapeGiven, member_id, given_member, given_members, given_shape, given_entries}
 use Rattle.sm_model.specs.GraphRows.{ids_of, row_entry, entries_of_rows, are_below, is_sound_row}
 use Rattle.sm_model.specs.steps.Rising.{Rise}
@@ -35,6 +36,14 @@ abbrev pub AreMemberIds : List ℕ → List (List ℕ) → Type 0
 AreMemberIds shape [] = Unit {0}
 AreMemberIds shape (id ∷ ids) = ((name : List ℕ) × IsIdentifier name × (id ≡ member_id shape name)) × AreMemberIds shape ids
 
+-- the rows of a shape's members in the order of their ids, which stand from this number on, and their numbers in model order
+pub record IsMemberBlock (first : ℕ) (shape : List ℕ) (ms : List MemberGiven) (numbers : List ℕ) (rows : List Row) : Type 0 where
+  pub rise : Rise (ids_of rows)
+  pub members : AreMemberIds shape (ids_of rows)
+  pub entries : (ids : List (List ℕ)) → IsPermutation (given_members shape ms) (map (row_entry ids) rows)
+  pub sound : (n : ℕ) → list_all (is_sound_row n) rows ≡ true
+  pub numbered : AreNumbers first rows shape (given_names ms) numbers
+
 -- the rows of a shape and of its members, which stand from this number on
 pub record IsBlock (first : ℕ) (s : ShapeGiven) (block : List Row) : Type 0 where
   pub ids : List (List ℕ)
@@ -56,3 +65,10 @@ pub record AreRowsOf (ss : List ShapeGiven) (rows : List Row) : Type 0 where
   pub entries : IsPermutation (given_entries ss) (entries_of_rows rows)
   pub rise : Rise (ids_of rows)
   pub sound : list_all (is_sound_row (length rows)) rows ≡ true
+
+-- the same of the first shapes, where the rest have no rows yet
+pub record AreRowsUpTo (all rest : List ShapeGiven) (rows : List Row) : Type 0 where
+  pub entries : IsPermutation (given_entries all) (entries_of_rows rows ++ given_entries rest)
+  pub rise : Rise (ids_of rows ++ given_ids rest)
+  pub sound : list_all (is_sound_row (length rows)) rows ≡ true
+  pub given : AreGivenShapes rest

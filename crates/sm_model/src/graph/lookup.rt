@@ -3,7 +3,7 @@ ghost use Rattle.std.specs.Prelude.{◌≡◌, [], IsSomeAnd, MatchOption, None,
 ghost use Rattle.std.specs.FinMap as fin;
 ghost use Rattle.sm_ids.specs.IdText.{printed};
 ghost use Rattle.sm_ids.specs.View.{id_of};
-ghost use Rattle.sm_tree.specs.View.{node_of, members_view, pairs_view};
+ghost use Rattle.sm_tree.specs.View.{node_of, members_view};
 ghost use Rattle.sm_model.specs.Graphs.{traits_in};
 ghost use Rattle.sm_model.specs.GraphView.{At, HasBodyNode, HasKind, HasMembers, ids, IsShapeNumber, IsShapeAt, IsMemberAt, Stands, Targets, entries_of, maps_of, target_of};
 
@@ -125,7 +125,7 @@ impl Graph {
 
     /// The metadata, in the order of its keys. No memory.
     pub fn metadata(&self) -> &[(Text, Tree)]
-        ensures { members_view result.now ≡ pairs_view self.now.metadata }
+        ensures { (maps_of self.now).metadata ≡ fin.from_sorted (members_view result.now) }
     {
         self.metadata.as_slice()
     }

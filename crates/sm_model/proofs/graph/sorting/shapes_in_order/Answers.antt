@@ -10,7 +10,6 @@ use Rattle.sm_model.specs.steps.Rising.{Rise}
 use Rattle.sm_model.proofs.Sorting.{map_twice, rise_moved}
 use Rattle.sm_model.proofs.graph.sorting.shapes_in_order.Goals as goal
 
-
 pub returns-clause-rise : goal.returns-clause-rise
 returns-clause-rise c =
     let moved = c.sort_unstable_by.ensures.permutation in
