@@ -1,12 +1,11 @@
 -- A graph of the rows of shapes: what its type asks, and its map of shapes and members.
-use Rattle.std.proofs.Common.{◌≡◌, ℕ, ◌<◌, ◌^◌, true, List, map, length, IsPermutation, sym, subst, ◌∙◌, arith}
+use Rattle.std.proofs.Common.{◌≡◌, ◌<◌, ◌^◌, true, List, map, length, IsPermutation, sym, subst, arith}
 use Rattle.std.specs.FinMap as fin
 use Rattle.std.specs.FinMap.Entries.{is_sorted}
 use Rattle.std.specs.List.{list_all}
 use Rattle.std.proofs.lemmas.Bool.{and_from}
 use Rattle.std.proofs.lemmas.List.{length-map}
 use Rattle.std.proofs.lemmas.List.Sorted.{IsPermutation-map, IsPermutation-sym, IsPermutation-trans, length_permutation}
-use Rattle.sm_model.specs.Formed.{DifferInNames}
 use Rattle.sm_model.specs.Given.{AreGivenShapes}
 use Rattle.sm_model.specs.GivenView.{given_view, shape_given_view}
 use Rattle.sm_model.specs.Graphs.{GraphMaps, NodeMap, ShapeMap, given_entries, text_cmp}

@@ -1,10 +1,9 @@
 -- The rows of a shape's members in the order of their ids.
-use Rattle.std.proofs.Common.{◌≡◌, inl, inr, ⊎_elim, ℕ, ◌+◌, true, Bool, List, [], ◌∷◌, ◌++◌, map, length, All, IsPermutation, refl, sym, ap, subst, ◌∙◌, append_assoc}
+use Rattle.std.proofs.Common.{◌≡◌, inl, inr, ⊎_elim, ℕ, true, Bool, List, [], ◌∷◌, map, length, IsPermutation, refl, sym, ap, subst, ◌∙◌}
 use Rattle.std.specs.List.{list_all}
 use Rattle.std.proofs.lemmas.List.{length-map, append_cancel_left}
 use Rattle.std.proofs.lemmas.List.Sorted.{IsPermutation-sym, IsPermutation-map, length_permutation, All-permutation}
 use Rattle.std.proofs.lemmas.List.Sums.{AllPass-from_list_all, list_all-from_AllPass}
-use Rattle.sm_ids.specs.Identifier.{IsIdentifier}
 use Rattle.sm_model.specs.Formed.{StandsAmong, DifferInNames}
 use Rattle.sm_model.specs.Given.{AreGivenMembers, given_names}
 use Rattle.sm_model.specs.Graphs.{MemberGiven, member_id, given_members}

@@ -1,15 +1,14 @@
 -- What stays of a list whose elements change places: which names stand in it, that they differ, what is found under a name,
 -- and the entries of shapes.
-use Rattle.std.proofs.Common.{◌≡◌, ◌⊎◌, inl, inr, ⊎_elim, ℕ, ◌<◌, zero, suc, Bool, true, false, cond, List, [], ◌∷◌, ◌++◌, map, length, get_or, set, swap, Option, Some, None, IsPermutation, refl, sym, ap, subst, ◌∙◌, arith, append_assoc}
+use Rattle.std.proofs.Common.{◌≡◌, inl, inr, ⊎_elim, ℕ, ◌<◌, zero, suc, Bool, true, false, cond, List, [], ◌∷◌, map, length, get_or, set, swap, Some, IsPermutation, refl, sym, ap, subst, ◌∙◌, arith, append_assoc}
 use Rattle.std.proofs.lemmas.List.Sorted.{IsPermutation-keeps, IsPermutation-refl, IsPermutation-trans, IsPermutation-append_left, IsPermutation-append_right, IsPermutation-append_comm}
 use Rattle.std.specs.FinMap.Entries.{find}
 use Rattle.std.specs.FinMap.{slice_cmp-IsAntisymmetric, nat_cmp-IsAntisymmetric}
-use Rattle.std.specs.Cmp.Lexicographic.{nat_list_cmp_total}
 use Rattle.std.specs.Ordering.{is_eq}
 use Rattle.std.specs.declared.cmp.Ordering.{Ordering}
 use Rattle.std.specs.declared.cmp.Ordering.TheVariants.{Less, Equal, Greater}
 use Rattle.sm_model.specs.Formed.{StandsAmong, DifferInNames}
-use Rattle.sm_model.specs.Given.{IsGivenShape, AreGivenShapes}
+use Rattle.sm_model.specs.Given.{AreGivenShapes}
 use Rattle.sm_model.specs.Graphs.{ShapeGiven, given_shape, given_entries, text_cmp}
 
 -- a relation that is reflexive and transitive, and goes under a head and over an exchange of two heads, holds along each permutation

@@ -5,11 +5,10 @@ use Rattle.sm_tree.specs.declared.tree.Tree.{Tree}
 use Rattle.sm_model.specs.Raw.{Raw, raw_leaf, raw_id, raw_list, raw_object, raws_of, raw_members_of}
 use Rattle.sm_model.specs.RawView.{raw_step, raw_items_step, raw_pairs_step, raw_view, raw_items_view, raw_pairs_view, raws_view, raw_members_view}
 use Rattle.sm_model.specs.declared.reference.Ref.{Ref}
-use Rattle.sm_model.specs.declared.raw.RawNode.{RawNode}
 use Rattle.sm_model.specs.declared.raw.RawItems.{RawItems}
 use Rattle.sm_model.specs.declared.raw.RawPairs.{RawPairs}
 use Rattle.sm_model.specs.declared.raw.RawNode.{the_lemmas}
-use Rattle.sm_model.specs.declared.raw.RawNode.TheVariants.{Leaf, Id, List as Array, rolls-List, Object, rolls-Object}
+use Rattle.sm_model.specs.declared.raw.RawNode.TheVariants.{Leaf, Id, List as Array, Object, rolls-Object}
 use Rattle.sm_model.specs.declared.raw.RawNode.TheFolds.{fold-roll-RawNode, fold-roll-RawItems, fold-roll-RawPairs}
 
 -- the entries and the pairs, in the words for nodes that stand by themselves

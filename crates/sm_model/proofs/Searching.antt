@@ -1,6 +1,6 @@
 -- Where a binary search ends among entries whose keys rise by the bytes of texts, and what a finite map gives there.
-use Rattle.std.proofs.Common.{inl, inr, ◌≡◌, ℕ, ◌+◌, ◌<◌, ◌≤◌, Bool, true, false, List, [], ◌∷◌, length, get_or, map, Some, None, Option, Result, Ok, Err, sym, ap, ◌∙◌, suc, subst, refl, arith, zero}
-use Rattle.std.specs.Prelude.{◌&&◌, ◌⊎◌, IsSomeAnd, slice_get, cond}
+use Rattle.std.proofs.Common.{inl, inr, ◌≡◌, ℕ, ◌<◌, ◌≤◌, Bool, true, false, List, [], ◌∷◌, length, get_or, map, Some, None, Option, sym, ap, ◌∙◌, suc, subst, refl, arith, zero}
+use Rattle.std.specs.Prelude.{◌&&◌, IsSomeAnd, slice_get, cond}
 use Rattle.std.specs.Option.{option_map}
 use Rattle.std.specs.List.{HoldsAt}
 use Rattle.std.specs.List.Sorted.{IsNonDecreasingBy, IsPartitionPoint}
@@ -8,10 +8,9 @@ use Rattle.std.specs.FinMap.{slice_cmp-IsAntisymmetric, nat_cmp-IsAntisymmetric}
 use Rattle.std.proofs.lemmas.Option.{slice_get-map, slice_get-get_or}
 use Rattle.std.proofs.lemmas.List.{get_or-map, length-map}
 use Rattle.std.proofs.lemmas.Bool.{cases_lt}
-use Rattle.std.specs.FinMap as fin
 use Rattle.std.specs.FinMap.Entries.{is_sorted, below_all, find}
 use Rattle.std.specs.Cmp.Lexicographic.{nat_list_cmp_total}
-use Rattle.std.specs.Ordering.{ordering_index, ordering_reverse, is_lt, is_eq, eq_by_cmp}
+use Rattle.std.specs.Ordering.{ordering_index, ordering_reverse, is_lt, is_eq}
 use Rattle.std.specs.declared.cmp.Ordering.{Ordering}
 use Rattle.std.specs.declared.cmp.Ordering.TheVariants.{Less, Equal, Greater}
 use Rattle.sm_model.specs.Graphs.{text_cmp}

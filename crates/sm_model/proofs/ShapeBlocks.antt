@@ -1,23 +1,20 @@
 -- The rows of a shape and of its members, one after the other.
-use Rattle.std.proofs.Common.{◌≡◌, ℕ, ◌+◌, suc, true, Bool, List, [], ◌∷◌, ◌++◌, map, length, get_or, IsPermutation, refl, sym, ap, subst, ◌∙◌, arith, append_assoc}
-use Rattle.std.specs.Prelude.{◌&&◌}
+use Rattle.std.proofs.Common.{◌≡◌, ℕ, ◌+◌, true, List, [], ◌∷◌, ◌++◌, map, length, get_or, IsPermutation, refl, sym, ap, subst, ◌∙◌, arith, append_assoc}
 use Rattle.std.specs.FinMap as fin
 use Rattle.std.specs.FinMap.Entries.{is_sorted}
 use Rattle.std.specs.List.{list_all}
 use Rattle.std.proofs.lemmas.Bool.{and_from}
 use Rattle.std.proofs.lemmas.List.{length_push}
 use Rattle.std.proofs.lemmas.List.Sorted.{IsPermutation-cons}
-use Rattle.sm_tree.specs.Node.{Node}
 use Rattle.sm_tree.specs.View.{node_of, pairs_view}
 use Rattle.sm_tree.specs.declared.tree.Pairs.{Pairs}
 use Rattle.sm_model.specs.GivenView.{members_given_of, shape_given_view}
-use Rattle.sm_model.specs.Graphs.{text_cmp, NodeMap, ShapeGiven, Entry, shape_entry, member_id, given_members, given_shape}
+use Rattle.sm_model.specs.Graphs.{text_cmp, NodeMap, Entry, shape_entry, member_id, given_shape}
 use Rattle.sm_model.specs.GraphRows.{are_below, ids_of, is_sound_row, row_entry}
-use Rattle.sm_model.specs.steps.Blocks.{IsMemberBlock, IsBlock, PutsBlock}
+use Rattle.sm_model.specs.steps.Blocks.{IsMemberBlock, PutsBlock}
 use Rattle.sm_model.specs.steps.Rising.{KeepsMap}
 use Rattle.sm_model.specs.declared.graph.given.GraphShape.{GraphShape}
 use Rattle.sm_model.specs.declared.graph.rows.Row.{Row}
-use Rattle.sm_model.specs.declared.graph.rows.RowEntry.{RowEntry}
 use Rattle.sm_model.specs.declared.graph.rows.RowEntry.TheVariants.{Shape}
 use Rattle.sm_model.proofs.Sorting.{map_twice}
 

@@ -1,7 +1,7 @@
 -- What every reader of models promises of its statements, and what merging may build on: ids, names and nodes are what they
 -- stand for, and a shape has the members and the fields of its type. Whether a reference means a shape, and whether traits
 -- and values are right, is judged later.
-use Rattle.std.specs.Prelude.{◌≡◌, ◌⊎◌, ℕ, ⊤, List, [], ◌∷◌, map, Option, Some, None}
+use Rattle.std.specs.Prelude.{◌≡◌, ◌⊎◌, ℕ, List, [], ◌∷◌, map, Some}
 use Rattle.sm_ids.specs.Identifier.{IsIdentifier}
 use Rattle.sm_ids.specs.IdText.{IsIdText}
 use Rattle.sm_tree.specs.Node.{Node, null, bool, int, number, text, bytes, tag, opaque, list, object}
@@ -9,7 +9,7 @@ use Rattle.sm_tree.specs.Json.{IsJson}
 use Rattle.sm_model.specs.Kinds.{MemberForm, none, exactly, any, member_form}
 use Rattle.sm_model.specs.Properties.{TypeFields, form_named, property_forms}
 use Rattle.sm_model.specs.References.{IsReference, AreReferences, IsShapeId}
-use Rattle.sm_model.specs.Raw.{Raw, Raws, RawMembers, raw_leaf, raw_id, raw_list, raw_object, no_raws, raw, no_raw_members, raw_member, empty_raw}
+use Rattle.sm_model.specs.Raw.{Raw, Raws, RawMembers, raw_leaf, raw_id, raw_list, raw_object, no_raws, raw, no_raw_members, raw_member}
 use Rattle.sm_model.specs.Said.{TraitSaid, MemberSaid, ShapeSaid, Said, metadata_said, shape_said, apply_said}
 use Rattle.sm_model.specs.declared.property.PropertyForm.{PropertyForm}
 use Rattle.sm_model.specs.declared.property.PropertyForm.TheVariants.{Reference, References, NamedReferences, Text, Rename}

@@ -1,6 +1,6 @@
 -- A graph as data, without memory: a finite map from ids to shapes and members, and a finite map of metadata (Smithy 2.0,
 -- "The Smithy model"). Ids are in the order of the bytes of their texts, so a shape stands before its members.
-use Rattle.std.specs.Prelude.{◌≡◌, ◌+◌, ◌<◌, ◌^◌, ⊤, ℕ, List, [], ◌∷◌, ◌++◌, map, length}
+use Rattle.std.specs.Prelude.{ℕ, List, [], ◌∷◌, ◌++◌, map}
 use Rattle.std.specs.FinMap as fin
 use Rattle.std.specs.Ordering.{nat_cmp}
 use Rattle.std.specs.Cmp.Lexicographic.{slice_cmp}

@@ -1,5 +1,5 @@
 -- References as a file writes them: Smithy 2.0 ("Shape ID", relative shape ids).
-use Rattle.std.specs.Prelude.{◌≡◌, ◌⊎◌, ℕ, false, List, [], ◌∷◌, ◌++◌, Bool, Option, Some, None}
+use Rattle.std.specs.Prelude.{◌≡◌, ◌⊎◌, ℕ, List, [], ◌∷◌, ◌++◌, Bool, Option, Some, None}
 use Rattle.std.specs.Option.{ForSome}
 use Rattle.sm_ids.specs.Identifier.{IsIdentifier, IsNamespace}
 use Rattle.sm_ids.specs.IdText.{Id, IdText, IsIdText, member_text}

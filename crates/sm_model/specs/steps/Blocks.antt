@@ -1,6 +1,6 @@
 -- What the steps that make a graph's rows promise. The rows of a shape are a block: its own, and then those of its members in
 -- the order of their ids. Blocks in the order of their shapes' ids are the rows of the graph.
-use Rattle.std.specs.Prelude.{◌≡◌, ◌<◌, ◌+◌, ℕ, true, List, [], ◌∷◌, ◌++◌, map, length, get_or, IsPermutation}
+use Rattle.std.specs.Prelude.{◌≡◌, ◌+◌, ℕ, true, List, [], ◌∷◌, ◌++◌, map, length, get_or, IsPermutation}
 use Rattle.std.specs.List.{list_all}
 use Rattle.sm_ids.specs.Identifier.{IsIdentifier}
 use Rattle.sm_model.specs.Formed.{StandsAmong}

@@ -1,7 +1,7 @@
-use Rattle.std.proofs.Common.{◌≡◌, ◌+◌, length, ap, subst, sym, arith, rules, ◌∙◌, ◌++◌, ◌∷◌, []}
+use Rattle.std.proofs.Common.{◌+◌, length, ap, subst, rules, ◌∙◌, ◌++◌}
 use Rattle.sm_model.specs.GivenView.{members_given_view}
 use Rattle.sm_model.specs.steps.Blocks.{IsMemberBlock}
-use Rattle.sm_model.proofs.ShapeBlocks.{puts_block, shape_row}
+use Rattle.sm_model.proofs.ShapeBlocks.{puts_block}
 use Rattle.sm_model.proofs.graph.blocks.put_block.Goals as goal
 
 pub returns : goal.returns

@@ -1,4 +1,4 @@
-use Rattle.std.proofs.Common.{◌≡◌, ◌+◌, ◌++◌, ◌∷◌, ◌<◌, ℕ, true, [], List, map, get_or, drop, length, nat_lt, subst, sym, ap, ◌∙◌, arith, rules}
+use Rattle.std.proofs.Common.{◌≡◌, ◌+◌, ◌++◌, ◌∷◌, true, [], map, get_or, drop, length, nat_lt, subst, sym, ap, ◌∙◌, arith, rules}
 use Rattle.std.proofs.lemmas.List.{drop_more}
 use Rattle.sm_model.specs.Graphs.{member_id}
 use Rattle.sm_model.specs.GraphRows.{are_below, ids_of}

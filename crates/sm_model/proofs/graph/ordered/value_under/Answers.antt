@@ -1,7 +1,6 @@
-use Rattle.std.proofs.Common.{◌≡◌, ℕ, List, Option, None, Some, ap, rules, length}
+use Rattle.std.proofs.Common.{◌≡◌, ℕ, List, Option, None, Some, ap, rules}
 use Rattle.std.specs.Prelude.{IsSomeAnd, slice_get}
 use Rattle.sm_tree.specs.declared.tree.Tree.{Tree}
-use Rattle.std.specs.declared.cmp.Ordering.TheVariants.{Less, Equal, Greater}
 use Rattle.std.proofs.lemmas.Fn.{always_returns_same}
 use Rattle.sm_model.specs.Graphs.{text_cmp}
 use Rattle.sm_tree.specs.View.{node_of}
