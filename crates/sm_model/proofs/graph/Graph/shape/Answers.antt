@@ -22,6 +22,6 @@ pub returns-in-Err : goal.returns-in-Err
 returns-in-Err c =
     let q = printed (id_of c.args.id.now) in
     let parted = c.in-Err.ensures.position (λ r. text_cmp r.id q) (always_returns_same _ _ _ (λ a r g called. search rules)) in
-    found_no_number c.args.self.now q _
+    found_no_number c.args.self.now q c.in-Err.field-0
     (subst (λ rows. IsNonDecreasingBy (λ r. ordering_index (text_cmp r.id q)) rows
     → IsPartitionPoint (λ r. text_cmp r.id q ≡ Less) (λ r. text_cmp r.id q ≡ Greater) rows c.in-Err.field-0) c.deref.ensures.value parted)

@@ -11,7 +11,7 @@ use Rattle.sm_model.proofs.graph.numbers.place_of.Goals as goal
 pub unreachable-requires : goal.unreachable-requires
 unreachable-requires c =
     let q = printed (id_of c.member_ref-id.result) in
-    no_place c.args.rows.now q _ c.requires.rise
+    no_place c.args.rows.now q c.in-Err.field-0 c.requires.rise
     (subst (λ k. StandsAmong k (ids_of c.args.rows.now)) (sym c.member_ref-id.ensures) c.requires.there)
     (c.in-Err.ensures.position (λ r. text_cmp r.id q) (always_returns_same _ _ _ (λ a r g called. search rules)))
 

@@ -22,4 +22,4 @@ pub returns-in-Err : goal.returns-in-Err
 returns-in-Err c =
     let q = c.args.name.now in
     let parted = c.in-Err.ensures.position (λ p. text_cmp p.0 q) (always_returns_same _ _ _ (λ a r g called. search rules)) in
-    found_nowhere (λ p. (p.0, node_of p.1)) c.args.pairs.now q _ (parted (rises (λ p. (p.0, node_of p.1)) c.args.pairs.now c.requires q))
+    found_nowhere (λ p. (p.0, node_of p.1)) c.args.pairs.now q c.in-Err.field-0 (parted (rises (λ p. (p.0, node_of p.1)) c.args.pairs.now c.requires q))
