@@ -10,6 +10,6 @@ use Rattle.sm_model.proofs.graph.sorting.rows_in_order.Goals as goal
 
 pub returns-clause-rise : goal.returns-clause-rise
 returns-clause-rise c =
-    rise_moved id_of_row c.args.rows.items _ c.sort_unstable_by.ensures.permutation
+    rise_moved id_of_row c.args.rows.items c.sort_unstable_by.new.self.items c.sort_unstable_by.ensures.permutation
     (c.sort_unstable_by.ensures.sorted (λ a b. is_lt (text_cmp a.id b.id)) (ranks_by nat_list_cmp_total id_of_row)
     (always_returns_same _ _ _ (λ a r f called. search rules))) c.requires

@@ -10,12 +10,12 @@ use Rattle.sm_model.proofs.graph.sorting.trees_in_order.Goals as goal
 
 pub returns-clause-sorted : goal.returns-clause-sorted
 returns-clause-sorted c =
-    trees_sorted node_of c.args.trees.items _ c.sort_unstable_by.ensures.permutation
+    trees_sorted node_of c.args.trees.items c.sort_unstable_by.new.self.items c.sort_unstable_by.ensures.permutation
     (c.sort_unstable_by.ensures.sorted (λ a b. is_lt (text_cmp a.0 b.0)) (ranks_by nat_list_cmp_total (λ t. t.0))
     (always_returns_same _ _ _ (λ a r f called. search rules))) c.requires
 
 pub returns-clause-same : goal.returns-clause-same
 returns-clause-same c =
-    trees_kept node_of c.args.trees.items _ c.sort_unstable_by.ensures.permutation
+    trees_kept node_of c.args.trees.items c.sort_unstable_by.new.self.items c.sort_unstable_by.ensures.permutation
     (c.sort_unstable_by.ensures.sorted (λ a b. is_lt (text_cmp a.0 b.0)) (ranks_by nat_list_cmp_total (λ t. t.0))
     (always_returns_same _ _ _ (λ a r f called. search rules))) c.requires
