@@ -1,0 +1,5 @@
+mod SeenNames
+mod Telling
+mod IdTests
+mod Fields
+mod Judged

@@ -1,0 +1,6 @@
+pub mod Ids
+pub mod Layout
+pub mod Ast
+pub mod Faults
+pub mod Answers
+pub mod steps

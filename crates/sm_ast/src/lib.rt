@@ -1,0 +1,11 @@
+// Models in the JSON AST (Smithy 2.0, "JSON AST"): the statements that a tree says, and why a tree says none.
+#![tactic(auto)]
+
+mod check;
+mod id;
+mod layout;
+mod names;
+mod part;
+mod refusal;
+
+pub use refusal::AstRefusal;
