@@ -89,10 +89,10 @@ none_of_entries judge at n ns e =
     (none_inside (Index at) (judge n) parts.0, parts.1)
 
 -- names that stood before still do
-or_left : (a b : Bool) → a ≡ true → (a || b) ≡ true
+pub or_left : (a b : Bool) → a ≡ true → (a || b) ≡ true
 or_left a b e = ap (λ c. c || b) e
 
-or_right : (a b : Bool) → b ≡ true → (a || b) ≡ true
+pub or_right : (a b : Bool) → b ≡ true → (a || b) ≡ true
 or_right true b e = refl
 or_right false b e = e
 
@@ -123,6 +123,17 @@ judged_pair judge before (member l m ms) e k n (inl same) =
     ap (λ j. judge j n) same.0 ∙ ap (judge l) same.1 ∙ parts.1
 judged_pair judge before (member l m ms) e k n (inr has) =
     judged_pair judge (before ++ l ∷ []) ms (none_of_pairs judge before l m ms e).2 k n has
+
+-- the name of a pair is a name, and has a tree
+pub pair_name : (k : List ℕ) (n : Node) (ms : Members) → HasPair k n ms → HasName k ms
+pair_name k n no_members has = has
+pair_name k n (member l m ms) (inl same) = inl same.0
+pair_name k n (member l m ms) (inr has) = inr (pair_name k n ms has)
+
+pub name_pair : (k : List ℕ) (ms : Members) → HasName k ms → (n : Node) × HasPair k n ms
+name_pair k no_members has = absurd has
+name_pair k (member l m ms) (inl same) = (m, inl (same, refl))
+name_pair k (member l m ms) (inr has) = let later = name_pair k ms has in (later.0, inr later.1)
 
 -- the first tree under a name is one under it
 pub named_pair : (name : List ℕ) (ms : Members) (n : Node) → tree_named name ms ≡ Some n → HasPair name n ms
@@ -167,3 +178,16 @@ stands_nowhere name (member k m ms) e = elim (either_way (bytes_eq k name)) [
   | inr other ↦ ap (λ b. b || stands_in name (names_of ms)) other
       ∙ stands_nowhere name ms (ap (λ b. if b then Some m else tree_named name ms) (sym other) ∙ e)
 ]
+
+-- an object has one value under a name
+pub one_value : (judge : List ℕ → Node → Option AstFault) (before : List (List ℕ)) (ms : Members) → pairs_fault judge before ms ≡ None
+    → (k : List ℕ) (t : Node) → tree_named k ms ≡ Some t → (n : Node) → HasPair k n ms → n ≡ t
+one_value judge before no_members e k t named n has = absurd has
+one_value judge before (member l m ms) e k t named n (inl same) =
+    same.1 ∙ some_same m t (ap (λ b. if b then Some m else tree_named k ms) (sym (test_same l k (sym same.0))) ∙ named)
+one_value judge before (member l m ms) e k t named n (inr has) =
+    let parts = none_of_pairs judge before l m ms e in elim (either_way (bytes_eq l k)) [
+      | inl same ↦ absurd (not_before judge (before ++ l ∷ []) ms parts.2 l (stands_last l before)
+          (pair_name l n ms (subst (λ j. HasPair j n ms) (sym (same_text l k same)) has)))
+      | inr other ↦ one_value judge (before ++ l ∷ []) ms parts.2 k t (ap (λ b. if b then Some m else tree_named k ms) (sym other) ∙ named) n has
+    ]

@@ -3,3 +3,11 @@ mod Telling
 mod IdTests
 mod Fields
 mod Judged
+mod JsonParts
+mod SaidReferences
+mod SaidFields
+mod SaidTypes
+mod SaidShapes
+mod SaidTop
+mod DistinctNames
+mod DistinctTop

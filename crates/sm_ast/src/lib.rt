@@ -6,6 +6,9 @@ mod id;
 mod layout;
 mod names;
 mod part;
+mod read;
 mod refusal;
+mod statements;
 
+pub use read::read_ast;
 pub use refusal::AstRefusal;

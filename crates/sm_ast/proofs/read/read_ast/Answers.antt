@@ -1,0 +1,10 @@
+use Rattle.std.proofs.Common.{sym, subst}
+use Rattle.sm_tree.specs.View.{node_of}
+use Rattle.sm_ast.specs.Ast.{Ast}
+use Rattle.sm_ast.proofs.SaidTop.{ast_holds}
+use Rattle.sm_ast.proofs.read.read_ast.Goals as goal
+
+pub returns-in_ok-statements_of-in-Ok : goal.returns-in_ok-statements_of-in-Ok
+returns-in_ok-statements_of-in-Ok c =
+    let n = node_of c.args.tree.now in
+    (c.in-Ok.ensures, subst (λ said. Ast said n) (sym c.in_ok-statements_of-in-Ok.ensures) (ast_holds n c.requires c.in-Ok.ensures))
