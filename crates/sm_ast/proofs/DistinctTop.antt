@@ -1,13 +1,13 @@
 -- Where nothing is refused, no name stands twice in any object of the whole tree.
-use Rattle.std.proofs.Common.{◌≡◌, ℕ, inl, inr, ◌⊎◌, Bool, true, false, List, [], ◌∷◌, Option, Some, None, refl, sym, ap, subst, ◌∙◌, if◌then◌else◌, bytes_eq, codes}
-use Rattle.sm_tree.specs.Node.{Node, Members, text, object}
+use Rattle.std.proofs.Common.{◌≡◌, ℕ, inl, inr, List, [], ◌∷◌, Option, Some, None, refl, sym, ap, subst, ◌∙◌, bytes_eq, codes}
+use Rattle.sm_tree.specs.Node.{Node, Members}
 use Rattle.sm_tree.specs.Same.{HasDistinctNames, AreDistinct}
 use Rattle.sm_tree.specs.Json.{IsJson, AreJsonMembers}
 use Rattle.sm_model.specs.Kinds.{kind_name}
 use Rattle.sm_ast.specs.declared.layout.ShapeType.{ShapeType}
 use Rattle.sm_ast.specs.declared.layout.ShapeType.TheVariants.{Defined, Applied}
 use Rattle.sm_ast.specs.Layout.{type_name, smithy_name, metadata_name, shapes_name}
-use Rattle.sm_ast.specs.Faults.{AstFault, field, wrong_type, bad_id, version, unless, is_version, of_object, pairs_fault, object_fault, members_fault, tree_named, type_said, typed_fault, shape_pairs_fault, shape_value_fault, is_shape_key, shape_fault, top_fault, ast_fault}
+use Rattle.sm_ast.specs.Faults.{field, wrong_type, bad_id, version, unless, is_version, of_object, pairs_fault, members_fault, tree_named, type_said, typed_fault, shape_pairs_fault, shape_value_fault, is_shape_key, shape_fault, top_fault, ast_fault}
 use Rattle.sm_ast.proofs.Judged.{some_is_none, none_first, none_unless, none_if, none_either}
 use Rattle.sm_ast.proofs.SaidReferences.{by_object}
 use Rattle.sm_ast.proofs.SaidTypes.{defined_is, applied_is, version_text}

@@ -1,19 +1,15 @@
 -- The field of a name, where fields stand behind others; and the type of a name.
-use Rattle.std.proofs.Common.{◌≡◌, ℕ, Bool, true, false, List, [], ◌∷◌, ◌++◌, map, Option, Some, None, sym, ap, ◌∙◌, refl, if◌then◌else◌, codes}
+use Rattle.std.proofs.Common.{◌≡◌, ℕ, Bool, true, false, List, [], ◌∷◌, Option, Some, None, sym, refl, if◌then◌else◌, codes}
 use Rattle.std.proofs.lemmas.Slice.Eq.{bytes_eq-Decides}
 use Rattle.std.specs.Str.{bytes_eq}
 use Rattle.sm_model.specs.Kinds.{kind_name}
-use Rattle.sm_model.specs.Properties.{TypeFields, form_named}
-use Rattle.sm_model.specs.declared.property.PropertyForm.{PropertyForm}
 use Rattle.sm_model.specs.declared.kind.Kind.{Kind}
 use Rattle.sm_model.specs.declared.kind.Kind.TheVariants.{Blob, Boolean, Text, Enum, Byte, Short, Integer, IntEnum, Long, Float, Double, BigInteger}
 use Rattle.sm_model.specs.declared.kind.Kind.TheVariants.{BigDecimal, Timestamp, Document, List as list_kind, Map, Structure, Union}
 use Rattle.sm_model.specs.declared.kind.Kind.TheVariants.{Service, Operation, Resource}
 use Rattle.sm_ast.specs.declared.layout.ShapeType.{ShapeType}
 use Rattle.sm_ast.specs.declared.layout.ShapeType.TheVariants.{Defined, Applied}
-use Rattle.sm_ast.specs.declared.layout.FieldForm.{FieldForm}
-use Rattle.sm_ast.specs.declared.layout.FieldForm.TheVariants.{Property}
-use Rattle.sm_ast.specs.Layout.{FieldForms, field_named, property_fields, type_named, kind_among, all_kinds}
+use Rattle.sm_ast.specs.Layout.{type_named, kind_among, all_kinds}
 
 -- the name of a type names it
 pub named_kind : (k : Kind) → type_named (kind_name k) ≡ Some (Defined k)

@@ -1,5 +1,5 @@
 -- The parts of a JSON tree are JSON.
-use Rattle.std.proofs.Common.{◌≡◌, ℕ, inl, inr, List, Option, Some, None, sym, ap, subst, ◌∙◌, if◌then◌else◌, bytes_eq}
+use Rattle.std.proofs.Common.{◌≡◌, ℕ, inl, inr, List, Some, sym, ap, subst, ◌∙◌, if◌then◌else◌, bytes_eq}
 use Rattle.sm_tree.specs.Node.{Node, Members, null, bool, int, number, text, bytes, tag, opaque, list, object, no_members, member}
 use Rattle.sm_tree.specs.Json.{IsJson, AreJsonMembers}
 use Rattle.sm_ast.specs.Faults.{tree_named}

@@ -2,9 +2,9 @@
 use Rattle.std.proofs.Common.{◌≡◌, ℕ, ◌+◌, inl, inr, ◌⊎◌, Bool, true, false, List, [], ◌∷◌, ◌++◌, Option, Some, None, refl, sym, ap, subst, ◌∙◌, if◌then◌else◌, bytes_eq, nat_eq, ◌||◌}
 use Rattle.std.specs.List.{list_any}
 use Rattle.std.specs.Cmp.Lexicographic.{pointwise}
-use Rattle.sm_tree.specs.Node.{Node, Nodes, Members, text, list, object, no_nodes, node, no_members, member}
+use Rattle.sm_tree.specs.Node.{Node, Nodes, Members, text, no_nodes, node, no_members, member}
 use Rattle.sm_model.specs.Properties.{TypeFields, form_named, property_forms}
-use Rattle.sm_model.specs.Raw.{raw_leaf, raw_id, raw_list, raw_object, raws_of, raw_member, raw_members_of}
+use Rattle.sm_model.specs.Raw.{raw_leaf, raw_id, raws_of, raw_member, raw_members_of}
 use Rattle.sm_model.specs.declared.property.PropertyForm.{PropertyForm}
 use Rattle.sm_model.specs.declared.property.PropertyForm.TheVariants.{Reference, References, NamedReferences, Text, Rename}
 use Rattle.sm_model.specs.declared.kind.Kind.{Kind}
@@ -17,7 +17,7 @@ use Rattle.sm_ast.specs.declared.layout.FieldForm.{FieldForm}
 use Rattle.sm_ast.specs.declared.layout.FieldForm.TheVariants.{TypeName, OneMember, AllMembers, Property, Mixins, Traits}
 use Rattle.sm_ast.specs.Ids.{is_id}
 use Rattle.sm_ast.specs.Layout.{FieldForms, field_named, layout_of, shape_fields, type_name, traits_name, mixins_name}
-use Rattle.sm_ast.specs.Ast.{RawReferenceSays, RawReferencesSay, NamedReferencesSay, NewNamesSay, PropertySays, PropertyPairsSay}
+use Rattle.sm_ast.specs.Ast.{RawReferencesSay, NamedReferencesSay, NewNamesSay, PropertySays, PropertyPairsSay}
 use Rattle.sm_ast.specs.Faults.{AstFault, bad_id, unless, identifier_fault, pairs_fault, entries_fault, reference_fault, new_name_fault, property_fault}
 use Rattle.sm_ast.specs.steps.Saying.{text_said, reference_said, reference_entries, reference_pairs, text_pairs, property_said, with_property, property_pairs}
 use Rattle.sm_ast.proofs.IdTests.{passed_is_id}

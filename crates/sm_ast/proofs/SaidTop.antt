@@ -1,16 +1,14 @@
 -- A whole tree without a fault says what is read of it.
-use Rattle.std.proofs.Common.{◌≡◌, ℕ, inl, inr, ◌⊎◌, ◌||◌, Bool, true, false, List, [], ◌∷◌, ◌++◌, Option, Some, None, refl, sym, ap, subst, ◌∙◌, if◌then◌else◌, bytes_eq, codes}
-use Rattle.sm_tree.specs.Node.{Node, Members, text, object, no_members, member}
-use Rattle.sm_tree.specs.Same.{HasName, HasDistinctNames}
-use Rattle.sm_tree.specs.Json.{IsJson, AreJsonMembers}
-use Rattle.sm_model.specs.Raw.{raw_of}
-use Rattle.sm_model.specs.Said.{metadata_said}
-use Rattle.sm_ast.specs.Layout.{type_name, smithy_name, metadata_name, shapes_name}
+use Rattle.std.proofs.Common.{◌≡◌, ℕ, inl, inr, true, List, [], ◌∷◌, ◌++◌, None, refl, sym, subst, bytes_eq}
+use Rattle.sm_tree.specs.Node.{Node, Members, no_members, member}
+use Rattle.sm_tree.specs.Same.{HasDistinctNames}
+use Rattle.sm_tree.specs.Json.{IsJson}
+use Rattle.sm_ast.specs.Layout.{smithy_name, metadata_name, shapes_name}
 use Rattle.sm_ast.specs.Ast.{ShapePairsSay, MetadataPairsSay, TopPairSays, TopPairsSay, Ast}
-use Rattle.sm_ast.specs.Faults.{AstFault, field, wrong_type, version, unless, is_this, is_version, text_in, of_object, names_of, stands_in, pairs_fault, object_fault, members_fault, tree_named, type_said, typed_fault, shape_pairs_fault, shape_value_fault, is_shape_key, shape_fault, top_fault, ast_fault}
-use Rattle.sm_ast.specs.steps.Saying.{pairs_said, statement_said, shape_statements, metadata_statements, top_said, top_statements, ast_said}
-use Rattle.sm_ast.proofs.Judged.{either_way, both_true, true_is_false, same_text, some_is_none, none_first, none_unless, none_if, none_either, none_of_pairs, named_pair, found_named, pair_name}
-use Rattle.sm_ast.proofs.SaidReferences.{text_is, by_object}
+use Rattle.sm_ast.specs.Faults.{field, version, unless, is_version, of_object, names_of, stands_in, pairs_fault, object_fault, members_fault, shape_fault, top_fault, ast_fault}
+use Rattle.sm_ast.specs.steps.Saying.{statement_said, shape_statements, metadata_statements, top_said, top_statements, ast_said}
+use Rattle.sm_ast.proofs.Judged.{both_true, same_text, none_first, none_unless, none_if, none_either, none_of_pairs, named_pair, found_named, pair_name}
+use Rattle.sm_ast.proofs.SaidReferences.{by_object}
 use Rattle.sm_ast.proofs.SaidTypes.{version_text}
 use Rattle.sm_ast.proofs.SaidShapes.{shape_holds}
 use Rattle.sm_ast.proofs.DistinctTop.{ast_distinct}

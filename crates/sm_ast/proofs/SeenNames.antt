@@ -1,7 +1,6 @@
 -- A set of the names that stood before, as one name comes.
 use Rattle.std.proofs.Common.{◌≡◌, ℕ, Bool, true, false, cond, List, [], ◌∷◌, ◌++◌, sym, ap, ◌∙◌, refl}
 use Rattle.std.specs.Prelude.{◌||◌, not}
-use Rattle.std.specs.List.{list_any}
 use Rattle.std.specs.BTreeSet as sorted
 use Rattle.std.specs.BTreeSet.{BTreeSet}
 use Rattle.std.specs.Cmp.Lexicographic.{slice_cmp}

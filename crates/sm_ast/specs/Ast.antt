@@ -1,11 +1,10 @@
 -- The statements that a tree says as a model of the JSON AST (Smithy 2.0, "JSON AST"): by cases on the tree, row by row of
 -- the layout. Statements stand in the order of the pairs.
-use Rattle.std.specs.Prelude.{◌≡◌, ◌⊎◌, ℕ, false, true, List, [], ◌∷◌, ◌++◌, Option, Some, None, codes}
+use Rattle.std.specs.Prelude.{◌≡◌, ◌⊎◌, ℕ, false, true, List, [], ◌∷◌, ◌++◌, Some, None, codes}
 use Rattle.sm_ids.specs.Identifier.{IsIdentifier}
 use Rattle.sm_ids.specs.IdText.{IsIdText}
 use Rattle.sm_tree.specs.Node.{Node, Nodes, Members, text, list, object, no_nodes, node, no_members, member}
 use Rattle.sm_tree.specs.Same.{HasPair, HasName, HasDistinctNames}
-use Rattle.sm_model.specs.declared.kind.Kind.{Kind}
 use Rattle.sm_model.specs.declared.reference.Ref.{Ref}
 use Rattle.sm_model.specs.declared.property.PropertyForm.{PropertyForm}
 use Rattle.sm_model.specs.declared.property.PropertyForm.TheVariants.{Reference, References, NamedReferences, Text, Rename}

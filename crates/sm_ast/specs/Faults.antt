@@ -1,6 +1,6 @@
 -- The first refusal of a tree as a model of the JSON AST (Smithy 2.0, "JSON AST"), in the order of the tree: a refusal at a
 -- pair goes before those inside it, and a missing field stands at the end of its object.
-use Rattle.std.specs.Prelude.{◌+◌, ◌++◌, ◌&&◌, ◌||◌, not, ℕ, Bool, true, false, List, [], ◌∷◌, map, Option, Some, None, if◌then◌else◌, codes}
+use Rattle.std.specs.Prelude.{◌+◌, ◌++◌, ◌&&◌, ◌||◌, not, ℕ, Bool, true, false, List, [], ◌∷◌, Option, Some, None, if◌then◌else◌, codes}
 use Rattle.std.specs.List.{list_any}
 use Rattle.std.specs.Str.{bytes_eq}
 use Rattle.sm_ids.specs.Identifier.{is_identifier}

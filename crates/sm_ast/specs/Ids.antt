@@ -1,5 +1,5 @@
 -- Whether a text is a shape id, as a test: the productions of Smithy 2.0 ("Shape ID") by the parts between `#` and `$`.
-use Rattle.std.specs.Prelude.{◌==◌, ◌&&◌, ℕ, Bool, true, false, List, [], ◌∷◌}
+use Rattle.std.specs.Prelude.{◌==◌, ◌&&◌, ℕ, Bool, false, List, [], ◌∷◌}
 use Rattle.std.specs.List.{list_all, list_any, slice_split}
 use Rattle.sm_bytes.specs.Ascii.{number_sign, dollar}
 use Rattle.sm_ids.specs.Identifier.{is_identifier, identifiers}

@@ -1,4 +1,4 @@
-use Rattle.std.proofs.Common.{ℕ, ◌+◌, ◌++◌, ◌∷◌, List, [], drop, map, take, Some, subst, sym, ap, ◌∙◌, arith}
+use Rattle.std.proofs.Common.{ℕ, ◌++◌, ◌∷◌, List, [], map, take, Some, subst, sym, ap, ◌∙◌, arith}
 use Rattle.sm_tree.specs.View.{node_of}
 use Rattle.sm_ast.specs.Faults.{field, stands_in}
 use Rattle.sm_ast.specs.steps.Checks.{Remembers}
