@@ -3,9 +3,10 @@ use Rattle.std.proofs.Common.{◌≡◌, ℕ, inl, inr, ◌⊎◌, Bool, true, f
 use Rattle.std.specs.Prelude.{◌&&◌, ◌||◌, ◌==◌}
 use Rattle.std.specs.Char.{is_ascii_alphabetic, is_ascii_alphanumeric}
 use Rattle.std.specs.Option.{ForSome, unwrap_or}
-use Rattle.std.specs.List.{list_all, slice_split, join_with_byte, All}
+use Rattle.std.specs.List.{list_all, list_any, slice_split, join_with_byte, All}
 use Rattle.std.proofs.lemmas.Bool.Decides.{nat_tests}
 use Rattle.std.proofs.lemmas.List.{append-nil}
+use Rattle.std.proofs.lemmas.List.Folds.{list_any-append}
 use Rattle.std.proofs.lemmas.List.Sums.{AllPass-from_list_all}
 use Rattle.std.proofs.lemmas.List.Splits.{join_with_byte-slice_split, slice_split_none, slice_split_at}
 use Rattle.sm_ids.specs.Identifier.{is_identifier_byte, is_behind_underscore, is_identifier, IsIdentifier, identifiers, IsNamespace}
@@ -13,7 +14,8 @@ use Rattle.sm_ids.specs.IdText.{Id, IsId, IdText, IsIdText, member_text, printed
 use Rattle.sm_ids.specs.Answers.{Parses}
 use Rattle.sm_ids.specs.declared.refusal.IdRefusal.{IdRefusal}
 use Rattle.sm_ids.specs.declared.refusal.IdRefusal.TheVariants.{Empty, BadIdentifier}
-use Rattle.sm_ast.specs.Ids.{are_names, are_id_parts, is_id, is_dollar, is_number_sign}
+use Rattle.sm_model.specs.References.{IsShapeId}
+use Rattle.sm_ast.specs.Ids.{are_names, are_id_parts, is_id, is_dollar, is_number_sign, has_member}
 
 both : (a b : Bool) → (a && b) ≡ true → (a ≡ true) × (b ≡ true)
 both true b h = (refl, h)
@@ -186,3 +188,25 @@ refused_fails false h = refl
 pub no_id_fails : (t : List ℕ) (refusal : IdRefusal) → Parses t (Err refusal) → false ≡ is_id t
 no_id_fails t Empty e = sym (ap is_id e)
 no_id_fails t (BadIdentifier at) h = refused_fails (is_id t) (λ p. h.1.none (passed_is_id t p))
+
+-- the id of a shape passes, and has no `$`
+space_is_no_dollar : (c : ℕ) → is_space_byte c ≡ true → is_dollar c ≡ false
+unfolding is_space_byte
+space_is_no_dollar c h = grind (arith, nat_tests)
+
+none_is_dollar : (q : ℕ → Bool) → ((c : ℕ) → q c ≡ true → is_dollar c ≡ false) → (xs : List ℕ) → list_all q xs ≡ true
+    → list_any is_dollar xs ≡ false
+none_is_dollar q f [] h = refl
+none_is_dollar q f (x ∷ xs) h =
+    let l = both (q x) (list_all q xs) h in ap (λ b. b || list_any is_dollar xs) (f x l.0) ∙ none_is_dollar q f xs l.1
+
+pub plain_id : (k : List ℕ) → IsShapeId k → (is_id k ≡ true) × (has_member k ≡ false)
+plain_id k (id, h, alone) =
+    let space = none_is_dollar is_space_byte space_is_no_dollar id.namespace (namespace_bytes id.namespace h.is_id.namespace) in
+    let name = none_is_dollar is_identifier_byte identifier_is_no_dollar id.name (made_of_bytes id.name h.is_id.name) in
+    let rest = id.name ++ member_text id.member in (
+      id_passes k (id, h),
+      ap has_member h.spelled ∙ list_any-append is_dollar id.namespace (35 ∷ rest) ∙ ap (λ b. b || list_any is_dollar (35 ∷ rest)) space
+          ∙ list_any-append is_dollar id.name (member_text id.member) ∙ ap (λ b. b || list_any is_dollar (member_text id.member)) name
+          ∙ ap (λ o. list_any is_dollar (member_text o)) alone,
+    )

@@ -11,3 +11,8 @@ mod SaidShapes
 mod SaidTop
 mod DistinctNames
 mod DistinctTop
+mod FaultlessParts
+mod FaultlessShapes
+mod FaultlessTop
+mod Agreeing
+mod FormedParts

@@ -93,11 +93,11 @@ property_pairs_hold fs judge fits before (member k n ms) e =
     (form_named k fs) refl
 
 -- what holds of each field of a type holds of one that is found
-abbrev AllForms : (List ℕ → PropertyForm → Type 0) → TypeFields → Type 0
+abbrev pub AllForms : (List ℕ → PropertyForm → Type 0) → TypeFields → Type 0
 AllForms P [] = Unit {0}
 AllForms P (f ∷ fs) = P f.0 f.1 × AllForms P fs
 
-form_found : (P : List ℕ → PropertyForm → Type 0) (fs : TypeFields) → AllForms P fs → (k : List ℕ) (form : PropertyForm)
+pub form_found : (P : List ℕ → PropertyForm → Type 0) (fs : TypeFields) → AllForms P fs → (k : List ℕ) (form : PropertyForm)
     → form_named k fs ≡ Some form → P k form
 form_found P [] all k form e = some_is_none form (sym e)
 form_found P (f ∷ fs) all k form e = elim (either_way (pointwise nat_eq k f.0)) [

@@ -77,7 +77,7 @@ names_more xs i x h e = ap (λ ys. map (λ p. p.0) ys) (take_more xs i x h ∙ a
     ∙ map-append (λ p. p.0) (take i xs) (x ∷ [])
 
 -- a pair without a fault is passed
-passed : (before : List (List ℕ)) (k : List ℕ) (fault : Option AstFault) → stands_in k before ≡ false → fault ≡ None
+pub passed : (before : List (List ℕ)) (k : List ℕ) (fault : Option AstFault) → stands_in k before ≡ false → fault ≡ None
     → pair_fault before k fault ≡ None
 passed before k fault fresh none = ap (λ b. seen_from (Key k) (if b then Some (field []) else fault)) fresh ∙ ap (seen_from (Key k)) none
 

@@ -3,4 +3,5 @@ pub mod Layout
 pub mod Ast
 pub mod Faults
 pub mod Answers
+pub mod Laws
 pub mod steps

@@ -3,6 +3,7 @@
 
 mod check;
 mod id;
+pub mod laws;
 mod layout;
 mod names;
 mod part;
