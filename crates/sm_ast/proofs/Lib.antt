@@ -16,3 +16,4 @@ mod FaultlessShapes
 mod FaultlessTop
 mod Agreeing
 mod FormedParts
+mod FormedShapes

@@ -1,6 +1,9 @@
 // The statements of a tree, which is checked whole before any is made.
+ghost use Rattle.std.specs.Prelude.{IfOk};
 ghost use Rattle.sm_tree.specs.Json.{IsJson};
 ghost use Rattle.sm_tree.specs.View.{node_of};
+ghost use Rattle.sm_model.specs.Formed.{AreFormed};
+ghost use Rattle.sm_model.specs.SaidView.{statements_view};
 ghost use Rattle.sm_ast.specs.Answers.{ReadsAst};
 
 use crate::check::check_model;
@@ -15,7 +18,8 @@ use std::alloc::Global;
 /// or an id as [`AstRefusal`] says, and `NoMemory` where the allocator refuses.
 pub fn read_ast(alloc: Global, tree: &Tree) -> Result<Vec<Statement>, AstRefusal>
     requires { IsJson (node_of tree.now) }
-    ensures { ReadsAst (node_of tree.now) result }
+    ensures statements { ReadsAst (node_of tree.now) result }
+    ensures formed { IfOk result (λ ss. AreFormed (statements_view ss.items)) }
 {
     match check_model(alloc, tree) {
         Ok(()) => Ok(statements_of(alloc, tree)?),
