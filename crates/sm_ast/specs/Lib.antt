@@ -4,4 +4,5 @@ pub mod Ast
 pub mod Faults
 pub mod Answers
 pub mod Laws
+pub mod Written
 pub mod steps
