@@ -17,3 +17,5 @@ mod FaultlessTop
 mod Agreeing
 mod FormedParts
 mod FormedShapes
+mod OneParts
+mod OneReading

@@ -16,14 +16,14 @@ use Rattle.sm_ast.specs.Layout.{smithy_name, metadata_name, shapes_name, target_
 use Rattle.sm_ast.specs.Faults.{entries_in, pairs_in, tree_named}
 
 -- fields in their order, without those that are missing
-abbrev pub Fields : Type 0
-Fields = List (List ℕ × Option Node)
+abbrev pub WrittenFields : Type 0
+WrittenFields = List (List ℕ × Option Node)
 
 abbrev pub with_field : List ℕ → Option Node → Members → Members
 with_field name None ms = ms
 with_field name (Some n) ms = member name n ms
 
-abbrev pub fields_there : Fields → Members
+abbrev pub fields_there : WrittenFields → Members
 fields_there [] = no_members
 fields_there (f ∷ fs) = with_field f.0 f.1 (fields_there fs)
 
@@ -67,11 +67,11 @@ abbrev pub name_in_id : List ℕ → List ℕ
 name_in_id [] = []
 name_in_id (c ∷ cs) = if c == dollar then cs else name_in_id cs
 
-abbrev pub written_members : ShapeMap → List (List ℕ) → Fields
+abbrev pub written_members : ShapeMap → List (List ℕ) → WrittenFields
 written_members shapes ids = map (λ id. (name_in_id id, written_entry (fin.get shapes id))) ids
 
 -- members by their names as fields of a list or map, and in an object of their own elsewhere
-abbrev pub member_fields_written : MemberForm → Fields → Fields
+abbrev pub member_fields_written : MemberForm → WrittenFields → WrittenFields
 member_fields_written none members = []
 member_fields_written (exactly names) members = members
 member_fields_written any members = (members_name, Some (object (fields_there members))) ∷ []
@@ -104,7 +104,7 @@ abbrev pub property_in : List ℕ → PropertyForm → Option Members → Option
 property_in name form None = None
 property_in name form (Some ms) = property_there form (tree_named name ms)
 
-abbrev pub written_properties : TypeFields → Node → Fields
+abbrev pub written_properties : TypeFields → Node → WrittenFields
 written_properties fs properties = map (λ f. (f.0, property_in f.0 f.1 (pairs_in properties))) fs
 
 -- a shape
@@ -129,7 +129,7 @@ written_statement shapes (member_entry m) = None
 abbrev pub written_at : ShapeMap → List ℕ → Entry → Option Node
 written_at shapes id e = if is_of_prelude id then None else written_statement shapes e
 
-abbrev pub written_shapes : ShapeMap → Fields
+abbrev pub written_shapes : ShapeMap → WrittenFields
 written_shapes shapes = map (λ e. (e.0, written_at shapes e.0 e.1)) (fin.entries shapes)
 
 -- the whole tree
