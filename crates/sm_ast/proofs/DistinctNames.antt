@@ -1,7 +1,8 @@
 -- Where nothing is refused, no name stands twice in any object of the tree.
 use Rattle.std.proofs.Common.{◌≡◌, ℕ, ◌+◌, inl, inr, List, [], ◌∷◌, ◌++◌, Option, Some, None, refl, sym, ap, subst, ◌∙◌, bytes_eq}
 use Rattle.sm_ids.specs.Identifier.{is_identifier}
-use Rattle.sm_tree.specs.Node.{Node, Nodes, Members, null, bool, int, number, text, bytes, tag, opaque, list, object, no_nodes, node, no_members, member}
+use Rattle.sm_tree.specs.Node.{Node, Nodes, Members, null, bool, int, number, text, bytes, tag, opaque, list, object, no_nodes, node}
+use Rattle.sm_tree.specs.Node.{no_members, member}
 use Rattle.sm_tree.specs.Same.{HasPair, HasDistinctNames, HaveDistinctNames, AreDistinct}
 use Rattle.sm_tree.specs.Json.{IsJson, AreJson, AreJsonMembers}
 use Rattle.sm_tree.specs.declared.path.Step.TheVariants.{Index}
@@ -12,8 +13,12 @@ use Rattle.sm_ast.specs.declared.layout.FieldForm.{FieldForm}
 use Rattle.sm_ast.specs.declared.layout.FieldForm.TheVariants.{TypeName, OneMember, AllMembers, Property, Mixins, Traits}
 use Rattle.sm_ast.specs.Ids.{is_id}
 use Rattle.sm_ast.specs.Layout.{field_named, layout_of, target_name, traits_name, type_name}
-use Rattle.sm_ast.specs.Faults.{AstFault, field, bad_id, unless, earlier_of, seen_from, of_object, pair_fault, pairs_fault, entries_fault, object_fault, node_fault, nodes_fault, members_fault, identifier_fault, target_fault, reference_fault, references_fault, new_name_fault, trait_fault, traits_fault, part_of_member_fault, member_fault, named_member_fault, property_fault, form_fault, tree_named, typed_fault}
-use Rattle.sm_ast.proofs.Judged.{either_way, same_text, one_value, some_is_none, none_first, none_inside, none_either, none_at_pair, none_of_pairs, none_of_entries, not_before, stands_last}
+use Rattle.sm_ast.specs.Faults.{AstFault, field, bad_id, unless, earlier_of, seen_from, of_object, pair_fault, pairs_fault, entries_fault}
+use Rattle.sm_ast.specs.Faults.{object_fault, node_fault, nodes_fault, members_fault, identifier_fault, target_fault, reference_fault}
+use Rattle.sm_ast.specs.Faults.{references_fault, new_name_fault, trait_fault, traits_fault, part_of_member_fault, member_fault}
+use Rattle.sm_ast.specs.Faults.{named_member_fault, property_fault, form_fault, tree_named, typed_fault}
+use Rattle.sm_ast.proofs.Judged.{either_way, same_text, one_value, some_is_none, none_first, none_inside, none_either, none_at_pair}
+use Rattle.sm_ast.proofs.Judged.{none_of_pairs, none_of_entries, not_before, stands_last}
 use Rattle.sm_ast.proofs.SaidFields.{only_type}
 use Rattle.sm_ast.proofs.SaidReferences.{by_text, by_list, by_object, identifier_said, target_pair}
 

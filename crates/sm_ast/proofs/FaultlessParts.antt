@@ -1,9 +1,11 @@
 -- What the relations say is refused nowhere: pairs with distinct names, nodes, references, traits, members and properties.
-use Rattle.std.proofs.Common.{◌≡◌, ℕ, ◌+◌, inl, inr, ◌⊎◌, ◌&&◌, ◌||◌, Bool, true, false, List, [], ◌∷◌, ◌++◌, Option, Some, None, refl, sym, ap, subst, ◌∙◌, if◌then◌else◌, bytes_eq}
+use Rattle.std.proofs.Common.{◌≡◌, ℕ, ◌+◌, inl, inr, ◌&&◌, ◌||◌, Bool, true, false, List, [], ◌∷◌, ◌++◌, Option, Some, None, refl, sym}
+use Rattle.std.proofs.Common.{ap, subst, ◌∙◌, if◌then◌else◌, bytes_eq}
 use Rattle.std.proofs.lemmas.List.Folds.{list_any-append}
-use Rattle.sm_ids.specs.Identifier.{is_identifier, IsIdentifier}
+use Rattle.sm_ids.specs.Identifier.{IsIdentifier}
 use Rattle.sm_ids.specs.IdText.{IsIdText}
-use Rattle.sm_tree.specs.Node.{Node, Nodes, Members, null, bool, int, number, text, bytes, tag, opaque, list, object, no_nodes, node, no_members, member}
+use Rattle.sm_tree.specs.Node.{Node, Nodes, Members, null, bool, int, number, text, bytes, tag, opaque, list, object, no_nodes, node}
+use Rattle.sm_tree.specs.Node.{no_members, member}
 use Rattle.sm_tree.specs.Same.{HasPair, HasName, HasDistinctNames, HaveDistinctNames, AreDistinct}
 use Rattle.sm_tree.specs.declared.path.Step.TheVariants.{Index, Key}
 use Rattle.sm_model.specs.Raw.{Raw, Raws, RawMembers}
@@ -11,10 +13,13 @@ use Rattle.sm_model.specs.Said.{TraitSaid, MemberSaid}
 use Rattle.sm_model.specs.declared.reference.Ref.{Ref}
 use Rattle.sm_model.specs.declared.property.PropertyForm.{PropertyForm}
 use Rattle.sm_model.specs.declared.property.PropertyForm.TheVariants.{Reference, References, NamedReferences, Text, Rename}
-use Rattle.sm_ast.specs.Ids.{is_id}
 use Rattle.sm_ast.specs.Layout.{target_name, traits_name}
-use Rattle.sm_ast.specs.Ast.{ReferenceSays, EntriesSay, ReferencesSay, TraitPairsSay, TraitsSay, MemberParts, AstMember, MemberPairsSay, MembersObjectSays, RawReferencesSay, NamedReferencesSay, NewNamesSay, PropertySays}
-use Rattle.sm_ast.specs.Faults.{AstFault, field, bad_id, unless, earlier_of, seen_from, stands_in, names_of, are_there, pair_fault, pairs_fault, entries_fault, object_fault, node_fault, nodes_fault, members_fault, id_fault, identifier_fault, reference_fault, references_fault, new_name_fault, trait_fault, traits_fault, part_of_member_fault, member_fault, named_member_fault, named_members_fault, property_fault, tree_named}
+use Rattle.sm_ast.specs.Ast.{ReferenceSays, EntriesSay, ReferencesSay, TraitPairsSay, TraitsSay, MemberParts, AstMember, MemberPairsSay}
+use Rattle.sm_ast.specs.Ast.{MembersObjectSays, RawReferencesSay, NamedReferencesSay, NewNamesSay, PropertySays}
+use Rattle.sm_ast.specs.Faults.{AstFault, field, bad_id, unless, earlier_of, seen_from, stands_in, names_of, are_there, pairs_fault}
+use Rattle.sm_ast.specs.Faults.{entries_fault, object_fault, node_fault, nodes_fault, members_fault, identifier_fault, reference_fault}
+use Rattle.sm_ast.specs.Faults.{references_fault, new_name_fault, trait_fault, traits_fault, part_of_member_fault, member_fault}
+use Rattle.sm_ast.specs.Faults.{named_member_fault, named_members_fault, property_fault, tree_named}
 use Rattle.sm_ast.proofs.IdTests.{id_passes}
 use Rattle.sm_ast.proofs.Judged.{either_way, same_text, test_same, some_same, pair_name, stands_named}
 use Rattle.sm_ast.proofs.Telling.{passed}

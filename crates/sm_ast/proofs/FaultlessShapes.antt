@@ -1,32 +1,35 @@
 -- What the relations say of shapes and of applied traits is refused nowhere.
-use Rattle.std.proofs.Common.{◌≡◌, ℕ, inl, inr, ◌⊎◌, not, ◌&&◌, ◌||◌, Bool, true, false, List, [], ◌∷◌, ◌++◌, map, Option, Some, None, refl, sym, ap, subst, ◌∙◌, if◌then◌else◌, bytes_eq, codes}
-use Rattle.std.specs.List.{list_any}
-use Rattle.sm_ids.specs.IdText.{IsIdText}
+use Rattle.std.proofs.Common.{◌≡◌, ℕ, inl, inr, not, ◌&&◌, ◌||◌, Bool, true, false, List, [], ◌∷◌, ◌++◌, map, Option, Some, None, refl}
+use Rattle.std.proofs.Common.{sym, ap, subst, ◌∙◌, if◌then◌else◌, bytes_eq, codes}
 use Rattle.sm_tree.specs.Node.{Node, Members, text, object, no_members, member}
-use Rattle.sm_tree.specs.Same.{HasPair, HasName, HasDistinctNames, AreDistinct}
+use Rattle.sm_tree.specs.Same.{HasPair, HasDistinctNames, AreDistinct}
 use Rattle.sm_model.specs.Kinds.{MemberForm, none, exactly, any, member_form, kind_name}
 use Rattle.sm_model.specs.Properties.{TypeFields, form_named, property_forms}
-use Rattle.sm_model.specs.References.{IsShapeId}
 use Rattle.sm_model.specs.Raw.{RawMembers}
 use Rattle.sm_model.specs.Said.{MemberSaid, ShapeSaid, TraitSaid, Said, metadata_said, shape_said, apply_said}
 use Rattle.sm_model.specs.declared.property.PropertyForm.{PropertyForm}
 use Rattle.sm_model.specs.declared.kind.Kind.{Kind}
-use Rattle.sm_model.specs.declared.kind.Kind.TheVariants.{Blob, Boolean, Text as text_kind, Enum, Byte, Short, Integer, IntEnum, Long, Float, Double, BigInteger}
+use Rattle.sm_model.specs.declared.kind.Kind.TheVariants.{Blob, Boolean, Text as text_kind, Enum, Byte, Short, Integer, IntEnum, Long}
+use Rattle.sm_model.specs.declared.kind.Kind.TheVariants.{Float, Double, BigInteger}
 use Rattle.sm_model.specs.declared.kind.Kind.TheVariants.{BigDecimal, Timestamp, Document, List as list_kind, Map, Structure, Union}
 use Rattle.sm_model.specs.declared.kind.Kind.TheVariants.{Service, Operation, Resource}
 use Rattle.sm_ast.specs.declared.layout.ShapeType.{ShapeType}
 use Rattle.sm_ast.specs.declared.layout.ShapeType.TheVariants.{Defined, Applied}
 use Rattle.sm_ast.specs.declared.layout.FieldForm.{FieldForm}
-use Rattle.sm_ast.specs.declared.layout.FieldForm.TheVariants.{TypeName, OneMember, AllMembers, Property, Mixins, Traits}
+use Rattle.sm_ast.specs.declared.layout.FieldForm.TheVariants.{OneMember, AllMembers, Mixins, Traits}
 use Rattle.sm_ast.specs.Ids.{is_id, has_member}
-use Rattle.sm_ast.specs.Layout.{FieldForms, field_named, layout_of, shape_fields, member_fields, property_fields, mixin_fields, needed, needed_members, type_name, members_name, mixins_name, traits_name}
-use Rattle.sm_ast.specs.Ast.{AreFieldsOf, OrNothing, ReferencesSay, TraitsSay, AstMember, MembersObjectSays, NamedMembersSay, AstMembers, PropertySays, PropertyPairsSay, ShapeParts, ApplyParts, AstShape}
-use Rattle.sm_ast.specs.Faults.{AstFault, bad_id, unless, earlier_of, names_of, stands_in, are_there, pairs_fault, object_fault, form_fault, property_fault, tree_named, type_said, typed_fault, shape_pairs_fault, shape_value_fault, says_apply, is_shape_key, shape_fault}
+use Rattle.sm_ast.specs.Layout.{FieldForms, field_named, layout_of, shape_fields, member_fields, property_fields, mixin_fields, needed}
+use Rattle.sm_ast.specs.Layout.{needed_members, type_name, members_name, mixins_name, traits_name}
+use Rattle.sm_ast.specs.Ast.{AreFieldsOf, OrNothing, ReferencesSay, TraitsSay, MembersObjectSays, NamedMembersSay, AstMembers}
+use Rattle.sm_ast.specs.Ast.{PropertyPairsSay, ShapeParts, ApplyParts, AstShape}
+use Rattle.sm_ast.specs.Faults.{AstFault, bad_id, unless, earlier_of, names_of, are_there, form_fault, property_fault, tree_named}
+use Rattle.sm_ast.specs.Faults.{type_said, typed_fault, shape_pairs_fault, shape_value_fault, says_apply, shape_fault}
 use Rattle.sm_ast.proofs.IdTests.{id_passes, plain_id}
 use Rattle.sm_ast.proofs.Fields.{named_kind}
 use Rattle.sm_ast.proofs.Judged.{either_way, same_text, some_is_none, some_same, pair_name}
-use Rattle.sm_ast.proofs.SaidFields.{AllForms, form_found}
-use Rattle.sm_ast.proofs.FaultlessParts.{pairs_pass, object_passes, pair_named, one_under, stands_under, distinct_under, references_pass, traits_pass, member_passes, members_pass_named, property_passes}
+use Rattle.sm_ast.proofs.SaidFields.{AllForms}
+use Rattle.sm_ast.proofs.FaultlessParts.{pairs_pass, object_passes, pair_named, one_under, stands_under, distinct_under, references_pass}
+use Rattle.sm_ast.proofs.FaultlessParts.{traits_pass, member_passes, members_pass_named, property_passes}
 
 -- what holds of each field of a layout holds of one that is found
 abbrev AllFields : (List ℕ → FieldForm → Type 0) → FieldForms → Type 0

@@ -1,13 +1,14 @@
 -- What the relation says of a whole tree is refused nowhere.
-use Rattle.std.proofs.Common.{◌≡◌, ℕ, inl, inr, ◌⊎◌, ◌&&◌, ◌||◌, Bool, true, false, List, [], ◌∷◌, Option, Some, None, refl, sym, ap, subst, ◌∙◌, if◌then◌else◌, codes}
-use Rattle.sm_tree.specs.Node.{Node, Members, text, object, no_members, member}
-use Rattle.sm_tree.specs.Same.{HasPair, HasName, HasDistinctNames, AreDistinct}
+use Rattle.std.proofs.Common.{◌≡◌, ℕ, inl, inr, ◌⊎◌, ◌&&◌, List, [], ◌∷◌, None, refl, ap, subst, ◌∙◌, codes}
+use Rattle.sm_tree.specs.Node.{Node, Members, text, no_members, member}
+use Rattle.sm_tree.specs.Same.{HasPair, HasDistinctNames, AreDistinct}
 use Rattle.sm_model.specs.Said.{Said}
-use Rattle.sm_ast.specs.Layout.{smithy_name, metadata_name, shapes_name}
-use Rattle.sm_ast.specs.Ast.{AstShape, ShapePairsSay, TopPairSays, TopPairsSay, Ast}
-use Rattle.sm_ast.specs.Faults.{AstFault, unless, version, names_of, are_there, is_version, members_fault, of_object, pairs_fault, shape_fault, top_fault, ast_fault}
+use Rattle.sm_ast.specs.Layout.{smithy_name}
+use Rattle.sm_ast.specs.Ast.{ShapePairsSay, TopPairSays, TopPairsSay, Ast}
+use Rattle.sm_ast.specs.Faults.{unless, version, names_of, are_there, is_version, members_fault, of_object, pairs_fault, shape_fault}
+use Rattle.sm_ast.specs.Faults.{top_fault, ast_fault}
 use Rattle.sm_ast.proofs.Judged.{name_pair}
-use Rattle.sm_ast.proofs.FaultlessParts.{pairs_pass, object_passes, stands_under, distinct_under, members_pass}
+use Rattle.sm_ast.proofs.FaultlessParts.{pairs_pass, object_passes, stands_under, members_pass}
 use Rattle.sm_ast.proofs.FaultlessShapes.{shape_no_fault}
 
 shape_at : (ms : Members) (said : List Said) → AreDistinct ms → ShapePairsSay ms said → (k : List ℕ) (n : Node) → HasPair k n ms

@@ -4,7 +4,8 @@ use Rattle.std.proofs.lemmas.Slice.Eq.{bytes_eq-Decides}
 use Rattle.std.specs.Str.{bytes_eq}
 use Rattle.sm_model.specs.Kinds.{kind_name}
 use Rattle.sm_model.specs.declared.kind.Kind.{Kind}
-use Rattle.sm_model.specs.declared.kind.Kind.TheVariants.{Blob, Boolean, Text, Enum, Byte, Short, Integer, IntEnum, Long, Float, Double, BigInteger}
+use Rattle.sm_model.specs.declared.kind.Kind.TheVariants.{Blob, Boolean, Text, Enum, Byte, Short, Integer, IntEnum, Long, Float, Double}
+use Rattle.sm_model.specs.declared.kind.Kind.TheVariants.{BigInteger}
 use Rattle.sm_model.specs.declared.kind.Kind.TheVariants.{BigDecimal, Timestamp, Document, List as list_kind, Map, Structure, Union}
 use Rattle.sm_model.specs.declared.kind.Kind.TheVariants.{Service, Operation, Resource}
 use Rattle.sm_ast.specs.declared.layout.ShapeType.{ShapeType}

@@ -1,19 +1,22 @@
 -- What the relation says of a tree is formed as merging asks: nodes, references, traits, members and properties.
-use Rattle.std.proofs.Common.{◌≡◌, ℕ, inl, inr, ◌⊎◌, Bool, true, false, List, [], ◌∷◌, map, Option, Some, None, refl, sym, ap, subst, ◌∙◌}
-use Rattle.sm_ids.specs.Identifier.{IsIdentifier}
+use Rattle.std.proofs.Common.{ℕ, inl, inr, Bool, true, false, List, ◌∷◌, refl, sym, subst}
 use Rattle.sm_ids.specs.IdText.{IsIdText}
-use Rattle.sm_tree.specs.Node.{Node, Nodes, Members, null, bool, int, number, text, bytes, tag, opaque, list, object, no_nodes, node, no_members, member}
+use Rattle.sm_tree.specs.Node.{Node, Nodes, Members, null, bool, int, number, text, bytes, tag, opaque, list, object, no_nodes, node}
+use Rattle.sm_tree.specs.Node.{no_members, member}
 use Rattle.sm_tree.specs.Same.{HasPair, HasName, HasDistinctNames, HaveDistinctNames, AreDistinct}
 use Rattle.sm_tree.specs.Json.{IsJson, AreJson, AreJsonMembers}
 use Rattle.sm_model.specs.References.{absolute, IsReference, AreReferences}
-use Rattle.sm_model.specs.Raw.{Raw, Raws, RawMembers, raw_leaf, raw_id, raw_list, raw_object, no_raws, raw, no_raw_members, raw_member, raws_of, raw_members_of, raw_of, node_raws, member_raws}
+use Rattle.sm_model.specs.Raw.{Raw, Raws, RawMembers, raw_leaf, no_raw_members, raw_member, raws_of, raw_members_of, raw_of, node_raws}
+use Rattle.sm_model.specs.Raw.{member_raws}
 use Rattle.sm_model.specs.Said.{TraitSaid, MemberSaid}
-use Rattle.sm_model.specs.Formed.{StandsAmong, DifferInNames, raw_names, IsRaw, AreRaw, AreRawMembers, IsRawReference, AreRawReferences, AreNamedReferences, IsNewName, AreNewNames, HasPropertyForm, AreTraits, AreStatedMembers}
+use Rattle.sm_model.specs.Formed.{StandsAmong, DifferInNames, raw_names, IsRaw, AreRaw, AreRawMembers, IsRawReference, AreRawReferences}
+use Rattle.sm_model.specs.Formed.{AreNamedReferences, AreNewNames, HasPropertyForm, AreTraits}
 use Rattle.sm_model.specs.declared.reference.Ref.{Ref}
 use Rattle.sm_model.specs.declared.property.PropertyForm.{PropertyForm}
 use Rattle.sm_model.specs.declared.property.PropertyForm.TheVariants.{Reference, References, NamedReferences, Text, Rename}
 use Rattle.sm_ast.specs.Layout.{traits_name}
-use Rattle.sm_ast.specs.Ast.{OrNothing, ReferenceSays, EntriesSay, ReferencesSay, TraitPairsSay, TraitsSay, MemberParts, AstMember, RawReferenceSays, RawReferencesSay, NamedReferencesSay, NewNamesSay, PropertySays}
+use Rattle.sm_ast.specs.Ast.{OrNothing, ReferenceSays, EntriesSay, ReferencesSay, TraitPairsSay, TraitsSay, AstMember, RawReferenceSays}
+use Rattle.sm_ast.specs.Ast.{RawReferencesSay, NamedReferencesSay, NewNamesSay, PropertySays}
 use Rattle.sm_ast.proofs.FaultlessParts.{distinct_under}
 
 -- nodes: names of the pairs are those of the tree

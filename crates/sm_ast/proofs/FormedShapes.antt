@@ -1,24 +1,29 @@
 -- What the relation says of a tree is formed as merging asks: shapes, and whole trees.
-use Rattle.std.proofs.Common.{◌≡◌, ℕ, inl, inr, ◌⊎◌, Bool, true, false, List, [], ◌∷◌, ◌++◌, map, Option, Some, None, refl, sym, ap, subst, ◌∙◌, codes}
+use Rattle.std.proofs.Common.{◌≡◌, ℕ, inl, inr, false, List, [], ◌∷◌, ◌++◌, refl, sym, ap, subst, ◌∙◌, codes}
 use Rattle.sm_ids.specs.Identifier.{IsIdentifier}
 use Rattle.sm_tree.specs.Node.{Node, Members, no_members, member}
-use Rattle.sm_tree.specs.Same.{HasPair, HasName, HasDistinctNames, AreDistinct}
+use Rattle.sm_tree.specs.Same.{HasName, HasDistinctNames, AreDistinct}
 use Rattle.sm_tree.specs.Json.{IsJson, AreJsonMembers}
-use Rattle.sm_model.specs.Kinds.{MemberForm, none, exactly, any, member_form}
+use Rattle.sm_model.specs.Kinds.{member_form}
 use Rattle.sm_model.specs.Properties.{TypeFields, property_forms}
 use Rattle.sm_model.specs.References.{AreReferences, IsReference, IsShapeId}
 use Rattle.sm_model.specs.declared.reference.Ref.{Ref}
-use Rattle.sm_model.specs.Raw.{Raw, RawMembers, raw_object, no_raw_members, raw_member, raw_of}
-use Rattle.sm_model.specs.Said.{TraitSaid, MemberSaid, ShapeSaid, Said, metadata_said, shape_said, apply_said}
-use Rattle.sm_model.specs.Formed.{StandsAmong, DifferInNames, IsRaw, AreFields, AreProperties, AreTraits, AreStatedMembers, stated_names, HaveForm, IsFormedShape, IsFormed, AreFormed}
+use Rattle.sm_model.specs.Raw.{Raw, RawMembers}
+use Rattle.sm_model.specs.Said.{MemberSaid, ShapeSaid, Said, metadata_said, shape_said, apply_said}
+use Rattle.sm_model.specs.Formed.{StandsAmong, DifferInNames, IsRaw, AreFields, AreProperties, AreStatedMembers, stated_names, HaveForm}
+use Rattle.sm_model.specs.Formed.{IsFormedShape, IsFormed, AreFormed}
 use Rattle.sm_model.specs.declared.kind.Kind.{Kind}
-use Rattle.sm_model.specs.declared.kind.Kind.TheVariants.{Blob, Boolean, Text as text_kind, Enum, Byte, Short, Integer, IntEnum, Long, Float, Double, BigInteger}
+use Rattle.sm_model.specs.declared.kind.Kind.TheVariants.{Blob, Boolean, Text as text_kind, Enum, Byte, Short, Integer, IntEnum, Long}
+use Rattle.sm_model.specs.declared.kind.Kind.TheVariants.{Float, Double, BigInteger}
 use Rattle.sm_model.specs.declared.kind.Kind.TheVariants.{BigDecimal, Timestamp, Document, List as list_kind, Map, Structure, Union}
 use Rattle.sm_model.specs.declared.kind.Kind.TheVariants.{Service, Operation, Resource}
 use Rattle.sm_ast.specs.Layout.{members_name, mixins_name, traits_name}
-use Rattle.sm_ast.specs.Ast.{OrNothing, ReferencesSay, TraitsSay, AstMember, MemberPairsSay, MembersObjectSays, NamedMembersSay, AstMembers, PropertySays, PropertyPairsSay, PropertiesSay, ShapeParts, ApplyParts, AstShape, ShapePairsSay, MetadataPairsSay, TopPairSays, TopPairsSay, Ast}
+use Rattle.sm_ast.specs.Ast.{OrNothing, ReferencesSay, AstMember, MemberPairsSay, MembersObjectSays, NamedMembersSay, AstMembers}
+use Rattle.sm_ast.specs.Ast.{PropertyPairsSay, PropertiesSay, ShapeParts, AstShape, ShapePairsSay, MetadataPairsSay, TopPairSays}
+use Rattle.sm_ast.specs.Ast.{TopPairsSay, Ast}
 use Rattle.sm_ast.proofs.FaultlessParts.{distinct_under}
-use Rattle.sm_ast.proofs.FormedParts.{node_formed, json_at, absolute_formed, references_formed, traits_formed, traits_there_formed, member_formed, AreFormedPairs, no_pairs_formed, pair_formed, property_formed}
+use Rattle.sm_ast.proofs.FormedParts.{node_formed, json_at, absolute_formed, references_formed, traits_formed, traits_there_formed}
+use Rattle.sm_ast.proofs.FormedParts.{member_formed, AreFormedPairs, no_pairs_formed, pair_formed, property_formed}
 
 -- members, and their names
 member_name : (name : List ℕ) (n : Node) (said : MemberSaid) → AstMember name n said → said.name ≡ name

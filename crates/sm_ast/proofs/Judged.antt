@@ -1,5 +1,6 @@
 -- What follows where nothing is refused: of a step, of entries, and of pairs; and what stands under a name.
-use Rattle.std.proofs.Common.{◌≡◌, ℕ, ◌+◌, inl, inr, ◌⊎◌, ◌&&◌, ◌||◌, Bool, true, false, cond, List, [], ◌∷◌, ◌++◌, Option, Some, None, refl, sym, ap, subst, ◌∙◌, if◌then◌else◌, bytes_eq}
+use Rattle.std.proofs.Common.{◌≡◌, ℕ, ◌+◌, inl, inr, ◌⊎◌, ◌&&◌, ◌||◌, Bool, true, false, cond, List, [], ◌∷◌, ◌++◌, Option, Some, None}
+use Rattle.std.proofs.Common.{refl, sym, ap, subst, ◌∙◌, if◌then◌else◌, bytes_eq}
 use Rattle.std.specs.Option.{unwrap_or}
 use Rattle.std.proofs.lemmas.List.Folds.{list_any-append}
 use Rattle.std.proofs.lemmas.Slice.Eq.{bytes_eq-Decides}
@@ -7,7 +8,8 @@ use Rattle.sm_tree.specs.Node.{Node, Nodes, Members, node, no_members, member}
 use Rattle.sm_tree.specs.Same.{HasPair, HasName}
 use Rattle.sm_tree.specs.declared.path.Step.{Step}
 use Rattle.sm_tree.specs.declared.path.Step.TheVariants.{Index, Key}
-use Rattle.sm_ast.specs.Faults.{AstFault, field, seen_from, earlier_of, unless, stands_in, names_of, pair_fault, pairs_fault, entries_fault, judged, tree_named}
+use Rattle.sm_ast.specs.Faults.{AstFault, field, seen_from, earlier_of, unless, stands_in, names_of, pair_fault, pairs_fault}
+use Rattle.sm_ast.specs.Faults.{entries_fault, judged, tree_named}
 
 -- a fault is none, true isn't false
 pub some_is_none : {X : Type 0} {A : Type 0} (x : X) → ◌≡◌ {A = Option X} (Some x) None → A

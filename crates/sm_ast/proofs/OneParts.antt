@@ -1,9 +1,9 @@
 -- A part of a tree says one thing: what is read of it. References, traits, members and properties.
-use Rattle.std.proofs.Common.{◌≡◌, ℕ, inl, inr, ◌⊎◌, Bool, true, false, List, [], ◌∷◌, Option, Some, None, refl, sym, ap, subst, ◌∙◌}
-use Rattle.sm_tree.specs.Node.{Node, Nodes, Members, text, list, object, no_nodes, node, no_members, member}
-use Rattle.sm_tree.specs.Same.{HasPair, HasName, HasDistinctNames, AreDistinct}
+use Rattle.std.proofs.Common.{◌≡◌, ℕ, inl, inr, false, List, [], ◌∷◌, Option, Some, None, refl, sym, ap, subst, ◌∙◌}
+use Rattle.sm_tree.specs.Node.{Node, Nodes, Members, text, no_nodes, node, no_members, member}
+use Rattle.sm_tree.specs.Same.{HasName, HasDistinctNames, AreDistinct}
 use Rattle.sm_model.specs.Kinds.{MemberForm, none, exactly, any}
-use Rattle.sm_model.specs.Properties.{TypeFields, form_named}
+use Rattle.sm_model.specs.Properties.{TypeFields}
 use Rattle.sm_model.specs.References.{absolute}
 use Rattle.sm_model.specs.Raw.{Raw, Raws, RawMembers, raw_leaf, raw_id, raw_list, raw_object, raw, raw_member, raws_of, raw_members_of}
 use Rattle.sm_model.specs.Said.{TraitSaid, MemberSaid}
@@ -11,9 +11,14 @@ use Rattle.sm_model.specs.declared.reference.Ref.{Ref}
 use Rattle.sm_model.specs.declared.property.PropertyForm.{PropertyForm}
 use Rattle.sm_model.specs.declared.property.PropertyForm.TheVariants.{Reference, References, NamedReferences, Text, Rename}
 use Rattle.sm_ast.specs.Layout.{target_name, traits_name, members_name}
-use Rattle.sm_ast.specs.Ast.{OrNothing, ReferenceSays, EntriesSay, ReferencesSay, TraitPairsSay, TraitsSay, MemberParts, AstMember, MemberPairsSay, MembersObjectSays, NamedMembersSay, AstMembers, RawReferenceSays, RawReferencesSay, NamedReferencesSay, NewNamesSay, PropertySays, PropertyPairsSay}
+use Rattle.sm_ast.specs.Ast.{OrNothing, ReferenceSays, EntriesSay, ReferencesSay, TraitPairsSay, TraitsSay, MemberParts, AstMember}
+use Rattle.sm_ast.specs.Ast.{MemberPairsSay, MembersObjectSays, NamedMembersSay, AstMembers, RawReferenceSays, RawReferencesSay}
+use Rattle.sm_ast.specs.Ast.{NamedReferencesSay, NewNamesSay, PropertySays, PropertyPairsSay}
 use Rattle.sm_ast.specs.Faults.{tree_named}
-use Rattle.sm_ast.specs.steps.Saying.{text_said, text_there, entries_said, pairs_said, target_said, reference_said, references_said, references_there, trait_said, traits_said, traits_there, member_by_pairs, member_said, members_said, members_there, member_there, named_members_said, members_by_form, reference_entries, reference_pairs, text_pairs, property_said, with_property, property_pairs}
+use Rattle.sm_ast.specs.steps.Saying.{text_said, text_there, entries_said, pairs_said, target_said, reference_said, references_said}
+use Rattle.sm_ast.specs.steps.Saying.{trait_said, traits_said, traits_there, member_by_pairs, member_said, members_said, members_there}
+use Rattle.sm_ast.specs.steps.Saying.{member_there, named_members_said, members_by_form, reference_entries, reference_pairs, text_pairs}
+use Rattle.sm_ast.specs.steps.Saying.{property_said, with_property, property_pairs}
 use Rattle.sm_ast.proofs.Judged.{named_pair, pair_name}
 use Rattle.sm_ast.proofs.FaultlessParts.{pair_named, distinct_under}
 

@@ -1,6 +1,6 @@
 -- A tree says one list of statements: what is read of it.
-use Rattle.std.proofs.Common.{◌≡◌, ℕ, inl, inr, ◌⊎◌, Bool, true, false, List, [], ◌∷◌, ◌++◌, Option, Some, None, refl, sym, ap, subst, ◌∙◌, if◌then◌else◌, codes}
-use Rattle.sm_tree.specs.Node.{Node, Members, text, object, no_members, member}
+use Rattle.std.proofs.Common.{◌≡◌, ℕ, inl, inr, true, false, List, ◌∷◌, ◌++◌, Some, refl, sym, ap, subst, ◌∙◌, if◌then◌else◌, codes}
+use Rattle.sm_tree.specs.Node.{Node, Members, text, no_members, member}
 use Rattle.sm_tree.specs.Same.{HasPair, HasDistinctNames, AreDistinct}
 use Rattle.sm_model.specs.Kinds.{member_form, kind_name}
 use Rattle.sm_model.specs.Properties.{property_forms}
@@ -13,12 +13,14 @@ use Rattle.sm_ast.specs.declared.layout.ShapeType.{ShapeType}
 use Rattle.sm_ast.specs.declared.layout.ShapeType.TheVariants.{Defined, Applied}
 use Rattle.sm_ast.specs.Ids.{is_id}
 use Rattle.sm_ast.specs.Layout.{type_name, mixins_name, traits_name, metadata_name, shapes_name}
-use Rattle.sm_ast.specs.Ast.{ReferencesSay, ShapeParts, ApplyParts, AstShape, ShapePairsSay, MetadataPairsSay, TopPairSays, TopPairsSay, Ast}
+use Rattle.sm_ast.specs.Ast.{ReferencesSay, ShapeParts, AstShape, ShapePairsSay, MetadataPairsSay, TopPairSays, TopPairsSay, Ast}
 use Rattle.sm_ast.specs.Faults.{tree_named, type_said}
-use Rattle.sm_ast.specs.steps.Saying.{pairs_said, references_there, traits_there, members_by_form, property_pairs, shape_by_kind, type_there, applied_said, statement_by_type, statement_by_pairs, statement_said, shape_statements, metadata_statements, top_said, top_statements, ast_said}
+use Rattle.sm_ast.specs.steps.Saying.{references_there, traits_there, members_by_form, property_pairs, shape_by_kind, type_there}
+use Rattle.sm_ast.specs.steps.Saying.{applied_said, statement_by_type, statement_by_pairs, statement_said, shape_statements}
+use Rattle.sm_ast.specs.steps.Saying.{metadata_statements, top_said, top_statements, ast_said}
 use Rattle.sm_ast.proofs.IdTests.{id_passes, plain_id}
 use Rattle.sm_ast.proofs.Fields.{named_kind}
-use Rattle.sm_ast.proofs.FaultlessParts.{pair_named, distinct_under}
+use Rattle.sm_ast.proofs.FaultlessParts.{pair_named}
 use Rattle.sm_ast.proofs.OneParts.{one_or_nothing, one_references, one_traits, one_traits_there, one_members, one_properties}
 
 -- a shape

@@ -1,5 +1,6 @@
 -- Fields of operations, services and resources without a fault say what is read of them; and which field a name is.
-use Rattle.std.proofs.Common.{◌≡◌, ℕ, ◌+◌, inl, inr, ◌⊎◌, Bool, true, false, List, [], ◌∷◌, ◌++◌, Option, Some, None, refl, sym, ap, subst, ◌∙◌, if◌then◌else◌, bytes_eq, nat_eq, ◌||◌}
+use Rattle.std.proofs.Common.{◌≡◌, ℕ, ◌+◌, inl, inr, ◌⊎◌, Bool, true, false, List, [], ◌∷◌, ◌++◌, Option, Some, None, refl, sym, ap}
+use Rattle.std.proofs.Common.{subst, ◌∙◌, if◌then◌else◌, bytes_eq, nat_eq, ◌||◌}
 use Rattle.std.specs.List.{list_any}
 use Rattle.std.specs.Cmp.Lexicographic.{pointwise}
 use Rattle.sm_tree.specs.Node.{Node, Nodes, Members, text, no_nodes, node, no_members, member}
@@ -8,7 +9,8 @@ use Rattle.sm_model.specs.Raw.{raw_leaf, raw_id, raws_of, raw_member, raw_member
 use Rattle.sm_model.specs.declared.property.PropertyForm.{PropertyForm}
 use Rattle.sm_model.specs.declared.property.PropertyForm.TheVariants.{Reference, References, NamedReferences, Text, Rename}
 use Rattle.sm_model.specs.declared.kind.Kind.{Kind}
-use Rattle.sm_model.specs.declared.kind.Kind.TheVariants.{Blob, Boolean, Text as text_kind, Enum, Byte, Short, Integer, IntEnum, Long, Float, Double, BigInteger}
+use Rattle.sm_model.specs.declared.kind.Kind.TheVariants.{Blob, Boolean, Text as text_kind, Enum, Byte, Short, Integer, IntEnum, Long}
+use Rattle.sm_model.specs.declared.kind.Kind.TheVariants.{Float, Double, BigInteger}
 use Rattle.sm_model.specs.declared.kind.Kind.TheVariants.{BigDecimal, Timestamp, Document, List as list_kind, Map, Structure, Union}
 use Rattle.sm_model.specs.declared.kind.Kind.TheVariants.{Service, Operation, Resource}
 use Rattle.sm_ast.specs.declared.layout.ShapeType.{ShapeType}
@@ -18,10 +20,13 @@ use Rattle.sm_ast.specs.declared.layout.FieldForm.TheVariants.{TypeName, OneMemb
 use Rattle.sm_ast.specs.Ids.{is_id}
 use Rattle.sm_ast.specs.Layout.{FieldForms, field_named, layout_of, shape_fields, type_name, traits_name, mixins_name}
 use Rattle.sm_ast.specs.Ast.{RawReferencesSay, NamedReferencesSay, NewNamesSay, PropertySays, PropertyPairsSay}
-use Rattle.sm_ast.specs.Faults.{AstFault, bad_id, unless, identifier_fault, pairs_fault, entries_fault, reference_fault, new_name_fault, property_fault}
-use Rattle.sm_ast.specs.steps.Saying.{text_said, reference_said, reference_entries, reference_pairs, text_pairs, property_said, with_property, property_pairs}
+use Rattle.sm_ast.specs.Faults.{AstFault, bad_id, unless, identifier_fault, pairs_fault, entries_fault, reference_fault, new_name_fault}
+use Rattle.sm_ast.specs.Faults.{property_fault}
+use Rattle.sm_ast.specs.steps.Saying.{text_said, reference_said, reference_entries, reference_pairs, text_pairs, property_said}
+use Rattle.sm_ast.specs.steps.Saying.{with_property, property_pairs}
 use Rattle.sm_ast.proofs.IdTests.{passed_is_id}
-use Rattle.sm_ast.proofs.Judged.{either_way, or_left, true_is_false, same_text, some_is_none, some_same, none_first, none_unless, none_of_pairs, none_of_entries}
+use Rattle.sm_ast.proofs.Judged.{either_way, or_left, true_is_false, same_text, some_is_none, some_same, none_first, none_unless}
+use Rattle.sm_ast.proofs.Judged.{none_of_pairs, none_of_entries}
 use Rattle.sm_ast.proofs.SaidReferences.{by_text, by_list, by_object, identifier_said, reference_holds}
 
 raw_references_hold : (at : ℕ) (ns : Nodes) → entries_fault reference_fault at ns ≡ None → RawReferencesSay ns (raws_of (reference_entries ns))

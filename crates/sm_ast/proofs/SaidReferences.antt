@@ -1,17 +1,26 @@
 -- References, traits and members without a fault say what is read of them.
-use Rattle.std.proofs.Common.{◌≡◌, ℕ, ◌+◌, inl, inr, ◌⊎◌, false, List, [], ◌∷◌, ◌++◌, Option, Some, None, refl, sym, ap, subst, ◌∙◌, bytes_eq}
+use Rattle.std.proofs.Common.{◌≡◌, ℕ, ◌+◌, inl, inr, ◌⊎◌, false, List, [], ◌∷◌, ◌++◌, Option, Some, None, refl, sym, ap, subst, ◌∙◌}
+use Rattle.std.proofs.Common.{bytes_eq}
 use Rattle.sm_ids.specs.Identifier.{is_identifier, IsIdentifier}
 use Rattle.sm_ids.specs.IdText.{IsIdText}
-use Rattle.sm_tree.specs.Node.{Node, Nodes, Members, null, bool, int, number, text, bytes, tag, opaque, list, object, no_nodes, node, no_members, member}
+use Rattle.sm_tree.specs.Node.{Node, Nodes, Members, null, bool, int, number, text, bytes, tag, opaque, list, object, no_nodes, node}
+use Rattle.sm_tree.specs.Node.{no_members, member}
 use Rattle.sm_tree.specs.Same.{HasPair}
 use Rattle.sm_model.specs.References.{absolute}
 use Rattle.sm_ast.specs.Ids.{is_id}
 use Rattle.sm_ast.specs.Layout.{target_name, traits_name}
-use Rattle.sm_ast.specs.Ast.{OrNothing, ReferenceSays, EntriesSay, ReferencesSay, TraitPairsSay, TraitsSay, MemberParts, AstMember, MemberPairsSay, MembersObjectSays}
-use Rattle.sm_ast.specs.Faults.{AstFault, field, bad_id, unless, text_in, entries_in, pairs_in, of_text, of_list, of_object, names_of, stands_in, pairs_fault, entries_fault, object_fault, id_fault, identifier_fault, target_fault, reference_fault, references_fault, trait_fault, traits_fault, part_of_member_fault, member_fault, named_member_fault, named_members_fault, node_fault, tree_named}
-use Rattle.sm_ast.specs.steps.Saying.{text_there, entries_said, pairs_said, reference_said, references_said, traits_said, traits_there, member_by_pairs, member_said, members_said}
+use Rattle.sm_ast.specs.Ast.{OrNothing, ReferenceSays, EntriesSay, ReferencesSay, TraitPairsSay, TraitsSay, MemberParts, AstMember}
+use Rattle.sm_ast.specs.Ast.{MemberPairsSay, MembersObjectSays}
+use Rattle.sm_ast.specs.Faults.{AstFault, field, bad_id, unless, text_in, entries_in, pairs_in, of_text, of_list, of_object, names_of}
+use Rattle.sm_ast.specs.Faults.{stands_in, pairs_fault, entries_fault, object_fault, id_fault, identifier_fault, target_fault}
+use Rattle.sm_ast.specs.Faults.{reference_fault, references_fault, trait_fault, traits_fault, part_of_member_fault, member_fault}
+use Rattle.sm_ast.specs.Faults.{named_member_fault, named_members_fault, node_fault, tree_named}
+use Rattle.sm_ast.specs.steps.Saying.{text_there, entries_said, pairs_said, reference_said, references_said, traits_said, traits_there}
+use Rattle.sm_ast.specs.steps.Saying.{member_by_pairs, member_said, members_said}
 use Rattle.sm_ast.proofs.IdTests.{passed_is_id}
-use Rattle.sm_ast.proofs.Judged.{both_true, same_text, some_is_none, none_first, none_unless, none_if, none_either, none_judged, none_of_pairs, none_of_entries, not_before, judged_pair, named_pair, none_named, name_pair, found_named, stands_last}
+use Rattle.sm_ast.proofs.Judged.{both_true, same_text, some_is_none, none_first, none_unless, none_if, none_either, none_judged}
+use Rattle.sm_ast.proofs.Judged.{none_of_pairs, none_of_entries, not_before, judged_pair, named_pair, none_named, name_pair, found_named}
+use Rattle.sm_ast.proofs.Judged.{stands_last}
 
 -- a tree with a text, entries, or pairs is that text, list, or object
 pub text_is : (n : Node) (t : List ℕ) → text_in n ≡ Some t → n ≡ text t

@@ -1,5 +1,6 @@
 -- Shapes without a fault, and traits that are applied, say what is read of them.
-use Rattle.std.proofs.Common.{◌≡◌, ℕ, inl, inr, not, ◌||◌, Bool, true, false, List, [], ◌∷◌, ◌++◌, Option, Some, None, refl, sym, ap, subst, ◌∙◌, if◌then◌else◌, codes}
+use Rattle.std.proofs.Common.{◌≡◌, ℕ, inl, inr, not, ◌||◌, Bool, true, false, List, [], ◌∷◌, ◌++◌, Option, Some, None, refl, sym, ap}
+use Rattle.std.proofs.Common.{subst, ◌∙◌, if◌then◌else◌, codes}
 use Rattle.sm_tree.specs.Node.{Node, Members, text, object, no_members, member}
 use Rattle.sm_tree.specs.Same.{HasPair}
 use Rattle.sm_model.specs.Kinds.{any, member_form, kind_name}
@@ -7,7 +8,8 @@ use Rattle.sm_model.specs.Properties.{property_forms}
 use Rattle.sm_model.specs.References.{IsShapeId}
 use Rattle.sm_model.specs.Raw.{raw_members_of}
 use Rattle.sm_model.specs.declared.kind.Kind.{Kind}
-use Rattle.sm_model.specs.declared.kind.Kind.TheVariants.{Blob, Boolean, Text as text_kind, Enum, Byte, Short, Integer, IntEnum, Long, Float, Double, BigInteger}
+use Rattle.sm_model.specs.declared.kind.Kind.TheVariants.{Blob, Boolean, Text as text_kind, Enum, Byte, Short, Integer, IntEnum, Long}
+use Rattle.sm_model.specs.declared.kind.Kind.TheVariants.{Float, Double, BigInteger}
 use Rattle.sm_model.specs.declared.kind.Kind.TheVariants.{BigDecimal, Timestamp, Document, List as list_kind, Map, Structure, Union}
 use Rattle.sm_model.specs.declared.kind.Kind.TheVariants.{Service, Operation, Resource}
 use Rattle.sm_ast.specs.declared.layout.ShapeType.{ShapeType}
@@ -16,11 +18,16 @@ use Rattle.sm_ast.specs.declared.layout.FieldForm.{FieldForm}
 use Rattle.sm_ast.specs.declared.layout.FieldForm.TheVariants.{OneMember, AllMembers, Traits}
 use Rattle.sm_ast.specs.Ids.{is_id, has_member}
 use Rattle.sm_ast.specs.Layout.{FieldForms, field_named, layout_of, needed, type_name, members_name, mixins_name, traits_name}
-use Rattle.sm_ast.specs.Ast.{AreFieldsOf, ReferencesSay, TraitsSay, AstMember, MembersObjectSays, NamedMembersSay, AstMembers, ShapeParts, ApplyParts, AstShape}
-use Rattle.sm_ast.specs.Faults.{AstFault, field, wrong_type, bad_id, unless, names_of, stands_in, are_there, pairs_fault, form_fault, members_fault, tree_named, type_said, typed_fault, shape_pairs_fault, shape_value_fault, says_apply, is_shape_key, shape_fault}
-use Rattle.sm_ast.specs.steps.Saying.{references_there, traits_there, member_there, members_there, named_members_said, members_by_form, property_pairs, shape_by_kind, applied_said, type_there, statement_by_type, statement_said}
+use Rattle.sm_ast.specs.Ast.{AreFieldsOf, ReferencesSay, TraitsSay, AstMember, MembersObjectSays, NamedMembersSay, AstMembers, ShapeParts}
+use Rattle.sm_ast.specs.Ast.{ApplyParts, AstShape}
+use Rattle.sm_ast.specs.Faults.{AstFault, field, wrong_type, bad_id, unless, names_of, stands_in, are_there, pairs_fault, form_fault}
+use Rattle.sm_ast.specs.Faults.{members_fault, tree_named, type_said, typed_fault, shape_pairs_fault, shape_value_fault, says_apply}
+use Rattle.sm_ast.specs.Faults.{is_shape_key, shape_fault}
+use Rattle.sm_ast.specs.steps.Saying.{references_there, traits_there, member_there, members_there, named_members_said, members_by_form}
+use Rattle.sm_ast.specs.steps.Saying.{property_pairs, shape_by_kind, applied_said, type_there, statement_by_type, statement_said}
 use Rattle.sm_ast.proofs.IdTests.{passed_is_id}
-use Rattle.sm_ast.proofs.Judged.{both_true, true_is_false, some_is_none, none_first, none_unless, none_of_pairs, judged_pair, named_pair, found_named}
+use Rattle.sm_ast.proofs.Judged.{both_true, true_is_false, some_is_none, none_first, none_unless, none_of_pairs, judged_pair, named_pair}
+use Rattle.sm_ast.proofs.Judged.{found_named}
 use Rattle.sm_ast.proofs.SaidReferences.{by_object, references_hold, or_nothing, traits_hold, member_holds, members_hold}
 use Rattle.sm_ast.proofs.SaidTypes.{defined_is, applied_is, without_dollar}
 use Rattle.sm_ast.proofs.SaidFields.{property_field, property_pairs_hold, traits_field, mixins_field}

@@ -5,9 +5,11 @@ use Rattle.sm_tree.specs.Same.{HasDistinctNames}
 use Rattle.sm_tree.specs.Json.{IsJson}
 use Rattle.sm_ast.specs.Layout.{smithy_name, metadata_name, shapes_name}
 use Rattle.sm_ast.specs.Ast.{ShapePairsSay, MetadataPairsSay, TopPairSays, TopPairsSay, Ast}
-use Rattle.sm_ast.specs.Faults.{field, version, unless, is_version, of_object, names_of, stands_in, pairs_fault, object_fault, members_fault, shape_fault, top_fault, ast_fault}
+use Rattle.sm_ast.specs.Faults.{field, version, unless, is_version, of_object, names_of, stands_in, pairs_fault, object_fault}
+use Rattle.sm_ast.specs.Faults.{members_fault, shape_fault, top_fault, ast_fault}
 use Rattle.sm_ast.specs.steps.Saying.{statement_said, shape_statements, metadata_statements, top_said, top_statements, ast_said}
-use Rattle.sm_ast.proofs.Judged.{both_true, same_text, none_first, none_unless, none_if, none_either, none_of_pairs, named_pair, found_named, pair_name}
+use Rattle.sm_ast.proofs.Judged.{both_true, same_text, none_first, none_unless, none_if, none_either, none_of_pairs, named_pair}
+use Rattle.sm_ast.proofs.Judged.{found_named, pair_name}
 use Rattle.sm_ast.proofs.SaidReferences.{by_object}
 use Rattle.sm_ast.proofs.SaidTypes.{version_text}
 use Rattle.sm_ast.proofs.SaidShapes.{shape_holds}

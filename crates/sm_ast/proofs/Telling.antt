@@ -1,5 +1,6 @@
 -- The first fault of entries and of pairs, as a reader comes to one.
-use Rattle.std.proofs.Common.{◌≡◌, ℕ, ◌+◌, ◌<◌, true, false, List, [], ◌∷◌, ◌++◌, length, map, get_or, drop, take, Option, Some, None, sym, ap, ◌∙◌, subst, if◌then◌else◌}
+use Rattle.std.proofs.Common.{◌≡◌, ℕ, ◌+◌, ◌<◌, true, false, List, [], ◌∷◌, ◌++◌, length, map, get_or, drop, take, Option, Some, None}
+use Rattle.std.proofs.Common.{sym, ap, ◌∙◌, subst, if◌then◌else◌}
 use Rattle.std.proofs.lemmas.List.{drop_more, take_more, map-append, append_assoc}
 use Rattle.sm_tree.specs.Node.{Node, nodes_of, members_of}
 use Rattle.sm_tree.specs.View.{node_of, nodes_view, members_view}
@@ -7,7 +8,8 @@ use Rattle.sm_tree.specs.Json.{AreJsonMembers}
 use Rattle.sm_tree.specs.declared.tree.Tree.{Tree}
 use Rattle.sm_tree.specs.declared.path.Step.TheVariants.{Index, Key}
 use Rattle.sm_ast.specs.Answers.{Tells}
-use Rattle.sm_ast.specs.Faults.{AstFault, field, seen_from, earlier_of, stands_in, pair_fault, pairs_fault, entries_fault, node_fault, nodes_fault, members_fault}
+use Rattle.sm_ast.specs.Faults.{AstFault, field, seen_from, earlier_of, stands_in, pair_fault, pairs_fault, entries_fault, node_fault}
+use Rattle.sm_ast.specs.Faults.{nodes_fault, members_fault}
 use Rattle.sm_ast.specs.declared.refusal.AstRefusal.{AstRefusal}
 use Rattle.sm_ast.specs.declared.refusal.AstRefusal.TheVariants.{Version, Field, WrongType, BadId, NoMemory}
 

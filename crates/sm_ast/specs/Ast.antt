@@ -11,7 +11,8 @@ use Rattle.sm_model.specs.declared.property.PropertyForm.TheVariants.{Reference,
 use Rattle.sm_model.specs.Kinds.{MemberForm, none, exactly, any, member_form, kind_name}
 use Rattle.sm_model.specs.Properties.{TypeFields, form_named, property_forms}
 use Rattle.sm_model.specs.References.{absolute, IsShapeId}
-use Rattle.sm_model.specs.Raw.{Raw, Raws, RawMembers, raw_leaf, raw_id, raw_list, raw_object, no_raws, raw, no_raw_members, raw_member, raw_of}
+use Rattle.sm_model.specs.Raw.{Raw, Raws, RawMembers, raw_leaf, raw_id, raw_list, raw_object, no_raws, raw, no_raw_members, raw_member}
+use Rattle.sm_model.specs.Raw.{raw_of}
 use Rattle.sm_model.specs.Said.{TraitSaid, MemberSaid, ShapeSaid, Said, metadata_said, shape_said, apply_said}
 use Rattle.sm_ast.specs.declared.layout.ShapeType.TheVariants.{Defined, Applied}
 use Rattle.sm_ast.specs.declared.layout.FieldForm.{FieldForm}

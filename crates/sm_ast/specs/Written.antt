@@ -9,7 +9,7 @@ use Rattle.sm_bytes.specs.Ascii.{dollar}
 use Rattle.sm_tree.specs.Node.{Node, Nodes, Members, text, list, object, no_nodes, node, no_members, member, members_of}
 use Rattle.sm_model.specs.Kinds.{MemberForm, none, exactly, any, member_form, kind_name}
 use Rattle.sm_model.specs.Properties.{TypeFields, property_forms}
-use Rattle.sm_model.specs.Graphs.{NodeMap, ShapeMap, ShapeEntry, MemberEntry, Entry, shape_entry, member_entry, GraphMaps}
+use Rattle.sm_model.specs.Graphs.{NodeMap, ShapeMap, ShapeEntry, Entry, shape_entry, member_entry, GraphMaps}
 use Rattle.sm_model.specs.declared.property.PropertyForm.{PropertyForm}
 use Rattle.sm_model.specs.declared.property.PropertyForm.TheVariants.{Reference, References, NamedReferences, Text, Rename}
 use Rattle.sm_ast.specs.Layout.{smithy_name, metadata_name, shapes_name, target_name, traits_name, type_name, members_name}
