@@ -24,7 +24,8 @@ use Rattle.sm_ast.proofs.SaidReferences.{by_text, by_list, by_object, identifier
 
 members_as_pairs : (before : List (List ℕ)) (ms : Members) → members_fault before ms ≡ pairs_fault (λ k n. node_fault n) before ms
 members_as_pairs before no_members = refl
-members_as_pairs before (member k n ms) = ap (λ o. earlier_of (pair_fault before k (node_fault n)) o) (members_as_pairs (before ++ k ∷ []) ms)
+members_as_pairs before (member k n ms) = ap (λ o. earlier_of (pair_fault before k (node_fault n)) o)
+    (members_as_pairs (before ++ k ∷ []) ms)
 
 -- nodes
 mutual
@@ -50,7 +51,8 @@ mutual
   members_distinct before no_members json e = tt
   members_distinct before (member k n ms) json e =
       let parts = none_first (pair_fault before k (node_fault n)) (members_fault (before ++ k ∷ []) ms) e in (
-        not_before (λ j m. node_fault m) (before ++ k ∷ []) ms (sym (members_as_pairs (before ++ k ∷ []) ms) ∙ parts.1) k (stands_last k before),
+        not_before (λ j m. node_fault m) (before ++ k ∷ []) ms (sym (members_as_pairs (before ++ k ∷ []) ms) ∙ parts.1) k
+            (stands_last k before),
         node_distinct n json.1 (none_at_pair before k (node_fault n) parts.0).1,
         members_distinct (before ++ k ∷ []) ms json.2 parts.1,
       )
@@ -72,12 +74,14 @@ pairs_distinct : (judge : List ℕ → Node → Option AstFault) → ((k : List 
     → (ms : Members) → AreJsonMembers ms → pairs_fault judge [] ms ≡ None → AreDistinct ms
 pairs_distinct judge each ms json e = pairs_distinct_in ms judge (λ k n has. each k n) [] ms (λ k n has. has) json e
 
-pub of_pairs_distinct : (judge : List ℕ → Node → Option AstFault) → ((k : List ℕ) (n : Node) → IsJson n → judge k n ≡ None → HasDistinctNames n)
+pub of_pairs_distinct : (judge : List ℕ → Node → Option AstFault)
+    → ((k : List ℕ) (n : Node) → IsJson n → judge k n ≡ None → HasDistinctNames n)
     → (n : Node) → IsJson n → of_object (pairs_fault judge []) n ≡ None → HasDistinctNames n
 of_pairs_distinct judge each n json e = by_object (λ m. IsJson m → HasDistinctNames m) (pairs_fault judge []) n e
     (λ ms f j. pairs_distinct judge each ms j f) json
 
-pub of_object_distinct : (judge : List ℕ → Node → Option AstFault) → ((k : List ℕ) (n : Node) → IsJson n → judge k n ≡ None → HasDistinctNames n)
+pub of_object_distinct : (judge : List ℕ → Node → Option AstFault)
+    → ((k : List ℕ) (n : Node) → IsJson n → judge k n ≡ None → HasDistinctNames n)
     → (wanted : List (List ℕ)) (n : Node) → IsJson n → of_object (object_fault judge wanted) n ≡ None → HasDistinctNames n
 of_object_distinct judge each wanted n json e = by_object (λ m. IsJson m → HasDistinctNames m) (object_fault judge wanted) n e
     (λ ms f j. pairs_distinct judge each ms j (none_first (pairs_fault judge [] ms) _ f).0) json
@@ -146,6 +150,7 @@ fields_distinct type ms t json named e =
     let judge : List ℕ → Node → Option AstFault = λ k n. form_fault (field_named k (layout_of type)) n in
     let parts = none_first (pairs_fault judge [] ms) _ e in
     pairs_distinct_in ms judge (λ k n has j f. elim (either_way (bytes_eq k type_name)) [
-      | inl is ↦ subst HasDistinctNames (sym (one_value judge [] ms parts.0 type_name (text t) named n (subst (λ l. HasPair l n ms) (same_text k type_name is) has))) tt
+      | inl is ↦ subst HasDistinctNames (sym (one_value judge [] ms parts.0 type_name (text t) named n
+          (subst (λ l. HasPair l n ms) (same_text k type_name is) has))) tt
       | inr other ↦ form_distinct (field_named k (layout_of type)) n j f (only_type k type other)
     ]) [] ms (λ k n has. has) json parts.0

@@ -34,11 +34,13 @@ not_same s t differ = elim (either_way (bytes_eq s t)) [
 or_neither : (a b : Bool) → a ≡ false → b ≡ false → (a || (b || false)) ≡ false
 or_neither a b e f = ap (λ c. c || (b || false)) e ∙ ap (λ c. c || false) f
 
-still_fresh : (before : List (List ℕ)) (k : List ℕ) (n : Node) (ms : Members) → ((j : List ℕ) → HasName j (member k n ms) → stands_in j before ≡ false)
+still_fresh : (before : List (List ℕ)) (k : List ℕ) (n : Node) (ms : Members)
+    → ((j : List ℕ) → HasName j (member k n ms) → stands_in j before ≡ false)
     → (HasName k ms → ⊥) → (j : List ℕ) → HasName j ms → stands_in j (before ++ k ∷ []) ≡ false
 still_fresh before k n ms fresh once j has =
     list_any-append (λ l. bytes_eq l j) before (k ∷ [])
-    ∙ or_neither (stands_in j before) (bytes_eq k j) (fresh j (inr has)) (not_same k j (λ same. once (subst (λ l. HasName l ms) (sym same) has)))
+    ∙ or_neither (stands_in j before) (bytes_eq k j) (fresh j (inr has))
+    (not_same k j (λ same. once (subst (λ l. HasName l ms) (sym same) has)))
 
 -- pairs that each pass
 pub pairs_pass_behind : (judge : List ℕ → Node → Option AstFault) (before : List (List ℕ)) (ms : Members)
@@ -65,7 +67,8 @@ pair_named k n no_members distinct has = absurd has
 pair_named k n (member l m ms) distinct (inl same) =
     ap (λ b. if b then Some m else tree_named k ms) (test_same l k (sym same.0)) ∙ ap (λ x. Some x) (sym same.1)
 pair_named k n (member l m ms) distinct (inr has) =
-    ap (λ b. if b then Some m else tree_named k ms) (not_same l k (λ same. distinct.0 (subst (λ j. HasName j ms) (sym same) (pair_name k n ms has))))
+    ap (λ b. if b then Some m else tree_named k ms) (not_same l k
+    (λ same. distinct.0 (subst (λ j. HasName j ms) (sym same) (pair_name k n ms has))))
     ∙ pair_named k n ms distinct.2 has
 
 pub one_under : (k : List ℕ) (n m : Node) (ms : Members) → AreDistinct ms → HasPair k n ms → HasPair k m ms → n ≡ m
@@ -141,7 +144,8 @@ part_passes : (name : List ℕ) (ms : Members) (said : MemberSaid) → AreDistin
 part_passes name ms said d parts k n has = elim (parts.fields k (pair_name k n ms has)) [
   | inl is ↦
       let here = subst (λ j. HasPair j n ms) is has in
-      ap (λ j. part_of_member_fault j n) is ∙ ap (part_of_member_fault target_name) (one_under target_name n (text parts.id) ms d here parts.target)
+      ap (λ j. part_of_member_fault j n) is ∙ ap (part_of_member_fault target_name)
+      (one_under target_name n (text parts.id) ms d here parts.target)
       ∙ ap (λ b. unless b (bad_id [])) (id_passes parts.id parts.is_id)
   | inr is ↦
       let here = subst (λ j. HasPair j n ms) is has in
@@ -184,7 +188,8 @@ raw_entries_pass at (node n ns) said (r, more, is, (id, says, same), rest) =
 named_reference : (ms : Members) (said : RawMembers) → NamedReferencesSay ms said → (k : List ℕ) (n : Node) → HasPair k n ms
     → reference_fault n ≡ None
 named_reference no_members said says k n has = absurd has
-named_reference (member l m ms) said (r, more, is, (id, says, same), rest) k n (inl at) = ap reference_fault at.1 ∙ reference_passes m id says
+named_reference (member l m ms) said (r, more, is, (id, says, same), rest) k n (inl at) = ap reference_fault at.1
+    ∙ reference_passes m id says
 named_reference (member l m ms) said (r, more, is, (id, says, same), rest) k n (inr has) = named_reference ms more rest k n has
 
 new_name : (ms : Members) (said : RawMembers) → NewNamesSay ms said → (k : List ℕ) (n : Node) → HasPair k n ms → new_name_fault k n ≡ None
@@ -199,7 +204,8 @@ pub property_passes : (form : PropertyForm) (n : Node) (r : Raw) → HasDistinct
 property_passes Reference n r d (id, says, same) = reference_passes n id says
 property_passes References n r d (ns, entries, is, same, says) = ap references_fault is ∙ raw_entries_pass 0 ns entries says
 property_passes NamedReferences n r d (ms, pairs, is, same, says) =
-    ap (property_fault NamedReferences) is ∙ pairs_pass (λ k m. reference_fault m) ms (subst HasDistinctNames is d) (named_reference ms pairs says)
+    ap (property_fault NamedReferences) is ∙ pairs_pass (λ k m. reference_fault m) ms (subst HasDistinctNames is d)
+    (named_reference ms pairs says)
 property_passes Text n r d (t, is, same) = ap (property_fault Text) is
 property_passes Rename n r d (ms, pairs, is, same, says) =
     ap (property_fault Rename) is ∙ pairs_pass new_name_fault ms (subst HasDistinctNames is d) (new_name ms pairs says)

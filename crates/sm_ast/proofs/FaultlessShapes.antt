@@ -69,7 +69,8 @@ fields_pass type ms d fields all there =
     ap (λ o. form_fault o n) found.1 ∙ field_found (Passes ms) (layout_of type) all k found.0 found.1 n has)) there
 
 -- what may be missing
-or_nothing_passes : {X : Type 0} (name : List ℕ) (ms : Members) (Says : Node → List X → Type 0) (xs : List X) (judge : Node → Option AstFault)
+or_nothing_passes : {X : Type 0} (name : List ℕ) (ms : Members) (Says : Node → List X → Type 0) (xs : List X)
+    (judge : Node → Option AstFault)
     → AreDistinct ms → ((n : Node) → HasDistinctNames n → Says n xs → judge n ≡ None) → OrNothing name ms Says xs → (n : Node)
     → HasPair name n ms → judge n ≡ None
 or_nothing_passes name ms Says xs judge d each (inl said) n has =
@@ -114,7 +115,8 @@ property_at fs (member l m ms) d said (inl skipped) k form is n (inl same) =
     some_is_none form (sym is ∙ ap (λ j. form_named j fs) same.0 ∙ skipped.0)
 property_at fs (member l m ms) d said (inl skipped) k form is n (inr has) = property_at fs ms d.2 said skipped.1 k form is n has
 property_at fs (member l m ms) d said (inr taken) k form is n (inl same) =
-    ap (λ o. property_fault o n) (some_same form taken.0 (sym is ∙ ap (λ j. form_named j fs) same.0 ∙ taken.3)) ∙ ap (property_fault taken.0) same.1
+    ap (λ o. property_fault o n) (some_same form taken.0 (sym is ∙ ap (λ j. form_named j fs) same.0 ∙ taken.3))
+    ∙ ap (property_fault taken.0) same.1
     ∙ property_passes taken.0 m taken.1 d.1 taken.4
 property_at fs (member l m ms) d said (inr taken) k form is n (inr has) = property_at fs ms d.2 taken.2 taken.6 k form is n has
 
@@ -177,23 +179,28 @@ shape_all : (k : List ℕ) (ms : Members) (said : ShapeSaid) → AreDistinct ms 
     → AllFields (Passes ms) (shape_fields said.kind)
 shape_all k ms said d parts =
     let last : AllFields (Passes ms) ((traits_name, Traits) ∷ mixin_fields said.kind) = (
-      or_nothing_passes traits_name ms TraitsSay said.traits (form_fault (Some Traits)) d (λ n e f. traits_pass n said.traits e f) parts.traits,
+      or_nothing_passes traits_name ms TraitsSay said.traits (form_fault (Some Traits)) d
+          (λ n e f. traits_pass n said.traits e f) parts.traits,
       mixins_pass said.kind ms
-          (or_nothing_passes mixins_name ms ReferencesSay said.mixins (form_fault (Some Mixins)) d (λ n e f. references_pass n said.mixins f) parts.mixins),
+          (or_nothing_passes mixins_name ms ReferencesSay said.mixins (form_fault (Some Mixins)) d
+          (λ n e f. references_pass n said.mixins f) parts.mixins),
     ) in
     let own : AllFields (Passes ms) (property_fields (property_forms said.kind)) =
-    properties_pass (property_forms said.kind) ms d parts.properties.0 parts.properties.2 (property_forms said.kind) (own_forms said.kind) in
+    properties_pass (property_forms said.kind) ms d parts.properties.0 parts.properties.2 (property_forms said.kind)
+    (own_forms said.kind) in
     all_behind (Passes ms) (member_fields (member_form said.kind) ++ property_fields (property_forms said.kind))
     ((traits_name, Traits) ∷ mixin_fields said.kind)
     (all_behind (Passes ms) (member_fields (member_form said.kind)) (property_fields (property_forms said.kind))
     (members_fields_pass (member_form said.kind) ms said.members d parts.members) own) last
 
-shape_passes : (k : List ℕ) (ms : Members) (said : ShapeSaid) → AreDistinct ms → ShapeParts k ms said → typed_fault (Some (Defined said.kind)) ms ≡ None
+shape_passes : (k : List ℕ) (ms : Members) (said : ShapeSaid) → AreDistinct ms → ShapeParts k ms said
+    → typed_fault (Some (Defined said.kind)) ms ≡ None
 shape_passes k ms said d parts =
     fields_pass (Defined said.kind) ms d parts.fields ((λ n has. refl), shape_all k ms said d parts)
     (members_there (member_form said.kind) ms said.members d parts.members)
 
-apply_passes : (k : List ℕ) (ms : Members) (ts : List TraitSaid) → AreDistinct ms → ApplyParts k ms ts → typed_fault (Some Applied) ms ≡ None
+apply_passes : (k : List ℕ) (ms : Members) (ts : List TraitSaid) → AreDistinct ms → ApplyParts k ms ts
+    → typed_fault (Some Applied) ms ≡ None
 apply_passes k ms ts d parts =
     fields_pass Applied ms d parts.fields (
       (λ n has. refl),
@@ -213,7 +220,8 @@ typed_by k ms t type d has is e =
 key_passes : (k : List ℕ) (ms : Members) → is_id k ≡ true → (not (has_member k) || says_apply (tree_named type_name ms)) ≡ true
     → shape_value_fault (object ms) ≡ None → shape_fault k (object ms) ≡ None
 key_passes k ms id key e =
-    ap (λ b. earlier_of (unless (b && (not (has_member k) || says_apply (tree_named type_name ms))) (bad_id [])) (shape_value_fault (object ms))) id
+    ap (λ b. earlier_of (unless (b && (not (has_member k) || says_apply (tree_named type_name ms))) (bad_id []))
+    (shape_value_fault (object ms))) id
     ∙ ap (λ b. earlier_of (unless b (bad_id [])) (shape_value_fault (object ms))) key ∙ e
 
 or_last : (a b : Bool) → b ≡ true → (a || b) ≡ true
@@ -226,7 +234,8 @@ shape_no_fault k n (shape_said said) d (ms, is, parts) =
     let distinct : AreDistinct ms = subst HasDistinctNames is d in
     let plain = plain_id k parts.is_shape in
     ap (shape_fault k) is ∙ key_passes k ms plain.0 (ap (λ b. not b || says_apply (tree_named type_name ms)) plain.1)
-    (typed_by k ms (kind_name said.kind) (Defined said.kind) distinct parts.type (named_kind said.kind) (shape_passes k ms said distinct parts))
+    (typed_by k ms (kind_name said.kind) (Defined said.kind) distinct parts.type (named_kind said.kind)
+    (shape_passes k ms said distinct parts))
 shape_no_fault k n (apply_said r ts) d (ms, is, same, parts) =
     let distinct : AreDistinct ms = subst HasDistinctNames is d in
     ap (shape_fault k) is ∙ key_passes k ms (id_passes k parts.is_id)

@@ -25,13 +25,15 @@ version_passes n (inr is) = ap (λ m. unless (is_version m) version) is
 top_passes : (k : List ℕ) (n : Node) (said : List Said) → HasDistinctNames n → TopPairSays k n said → top_fault k n ≡ None
 top_passes k n said d (inl (is, known, none)) = ap (λ j. top_fault j n) is ∙ version_passes n known
 top_passes k n said d (inr (inl (is, ms, is_object, says))) =
-    ap (λ j. top_fault j n) is ∙ ap (of_object (members_fault [])) is_object ∙ members_pass [] ms (λ j has. refl) (subst HasDistinctNames is_object d)
+    ap (λ j. top_fault j n) is ∙ ap (of_object (members_fault [])) is_object
+    ∙ members_pass [] ms (λ j has. refl) (subst HasDistinctNames is_object d)
 top_passes k n said d (inr (inr (is, ms, is_object, says))) =
     let distinct : AreDistinct ms = subst HasDistinctNames is_object d in
     ap (λ j. top_fault j n) is ∙ ap (of_object (pairs_fault shape_fault [])) is_object
     ∙ pairs_pass shape_fault ms distinct (shape_at ms said distinct says)
 
-top_at : (ms : Members) (said : List Said) → AreDistinct ms → TopPairsSay ms said → (k : List ℕ) (n : Node) → HasPair k n ms → top_fault k n ≡ None
+top_at : (ms : Members) (said : List Said) → AreDistinct ms → TopPairsSay ms said → (k : List ℕ) (n : Node) → HasPair k n ms
+    → top_fault k n ≡ None
 top_at no_members said d says k n has = absurd has
 top_at (member l m ms) said d (first, more, is, says, rest) k n (inl same) =
     ap (λ j. top_fault j n) same.0 ∙ ap (top_fault l) same.1 ∙ top_passes l m first d.1 says

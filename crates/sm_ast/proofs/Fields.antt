@@ -45,9 +45,11 @@ found_not false k more unnamed e = e
 none_among : (name : List ℕ) → ((k : Kind) → name ≡ kind_name k → ⊥) → (ks : List Kind) → kind_among name ks ≡ None
 none_among name unnamed [] = refl
 none_among name unnamed (k ∷ ks) =
-    found_not (bytes_eq name (kind_name k)) (Defined k) (kind_among name ks) (λ e. unnamed k ((bytes_eq-Decides name (kind_name k)).0 e)) (none_among name unnamed ks)
+    found_not (bytes_eq name (kind_name k)) (Defined k) (kind_among name ks)
+    (λ e. unnamed k ((bytes_eq-Decides name (kind_name k)).0 e)) (none_among name unnamed ks)
 
 pub named_none : (name : List ℕ) → (name ≡ codes "apply" → ⊥) → ((k : Kind) → name ≡ kind_name k → ⊥) → None ≡ type_named name
 named_none name other unnamed =
-    sym (found_not (bytes_eq name (codes "apply")) Applied (kind_among name all_kinds) (λ e. other ((bytes_eq-Decides name (codes "apply")).0 e))
+    sym (found_not (bytes_eq name (codes "apply")) Applied (kind_among name all_kinds)
+    (λ e. other ((bytes_eq-Decides name (codes "apply")).0 e))
     (none_among name unnamed all_kinds))

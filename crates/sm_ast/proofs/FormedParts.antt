@@ -123,7 +123,8 @@ pub no_pairs_formed : (ms : Members) (AreSuch : RawMembers → Type 0) → AreSu
 no_pairs_formed ms AreSuch such = record { such = such; raws = tt; differ = tt; stand = λ k among. absurd among }
 
 pub pair_formed : (k : List ℕ) (n : Node) (ms : Members) (AreSuch : RawMembers → Type 0) (r : Raw) (more : RawMembers) → (HasName k ms → ⊥)
-    → AreSuch (raw_member k r more) → IsRaw r → AreFormedPairs ms AreSuch more → AreFormedPairs (member k n ms) AreSuch (raw_member k r more)
+    → AreSuch (raw_member k r more) → IsRaw r → AreFormedPairs ms AreSuch more
+    → AreFormedPairs (member k n ms) AreSuch (raw_member k r more)
 pair_formed k n ms AreSuch r more once such is_raw rest = record {
   such = such;
   raws = (is_raw, rest.raws);
@@ -135,19 +136,24 @@ pair_formed k n ms AreSuch r more once such is_raw rest = record {
     by_place j (inl same) = inl same
     by_place j (inr among) = inr (rest.stand j among)
 
-named_references_formed : (ms : Members) (said : RawMembers) → AreDistinct ms → NamedReferencesSay ms said → AreFormedPairs ms AreNamedReferences said
-named_references_formed no_members said d says = subst (AreFormedPairs no_members AreNamedReferences) (sym says) (no_pairs_formed no_members AreNamedReferences tt)
+named_references_formed : (ms : Members) (said : RawMembers) → AreDistinct ms → NamedReferencesSay ms said
+    → AreFormedPairs ms AreNamedReferences said
+named_references_formed no_members said d says = subst (AreFormedPairs no_members AreNamedReferences) (sym says)
+    (no_pairs_formed no_members AreNamedReferences tt)
 named_references_formed (member k n ms) said d (r, more, is, says, rest) =
     let later = named_references_formed ms more d.2 rest in
     subst (AreFormedPairs (member k n ms) AreNamedReferences) (sym is)
     (pair_formed k n ms AreNamedReferences r more d.0 (raw_reference_formed n r says, later.such) (raw_reference_raw n r says) later)
 
-new_names_formed : (ms : Members) (said : RawMembers) → AreJsonMembers ms → AreDistinct ms → NewNamesSay ms said → AreFormedPairs ms AreNewNames said
-new_names_formed no_members said json d says = subst (AreFormedPairs no_members AreNewNames) (sym says) (no_pairs_formed no_members AreNewNames tt)
+new_names_formed : (ms : Members) (said : RawMembers) → AreJsonMembers ms → AreDistinct ms → NewNamesSay ms said
+    → AreFormedPairs ms AreNewNames said
+new_names_formed no_members said json d says = subst (AreFormedPairs no_members AreNewNames) (sym says)
+    (no_pairs_formed no_members AreNewNames tt)
 new_names_formed (member k n ms) said json d (name, more, id, is_text, identifier, is, rest) =
     let later = new_names_formed ms more json.2 d.2 rest in
     subst (AreFormedPairs (member k n ms) AreNewNames) (sym is)
-    (pair_formed k n ms AreNewNames (raw_leaf (text name)) more d.0 (id, (name, refl, identifier), later.such) (subst IsJson is_text json.1) later)
+    (pair_formed k n ms AreNewNames (raw_leaf (text name)) more d.0 (id, (name, refl, identifier), later.such)
+    (subst IsJson is_text json.1) later)
 
 pub property_formed : (form : PropertyForm) (n : Node) (r : Raw) → IsJson n → HasDistinctNames n → PropertySays form n r
     → HasPropertyForm form r × IsRaw r
@@ -158,7 +164,11 @@ property_formed References n r json d (ns, entries, is, said, says) =
 property_formed NamedReferences n r json d (ms, pairs, is, said, says) =
     let parts = named_references_formed ms pairs (subst HasDistinctNames is d) says in
     ((pairs, said, parts.such), subst IsRaw (sym said) (parts.differ, parts.raws))
-property_formed Text n r json d (t, is, said) = (subst (HasPropertyForm Text) (sym said) (t, refl), subst IsRaw (sym said) (subst IsJson is json))
+property_formed Text n r json d (t, is, said) = (
+  subst (HasPropertyForm Text) (sym said) (t, refl),
+  subst IsRaw (sym said)
+      (subst IsJson is json),
+)
 property_formed Rename n r json d (ms, pairs, is, said, says) =
     let parts = new_names_formed ms pairs (subst IsJson is json) (subst HasDistinctNames is d) says in
     ((pairs, said, parts.such), subst IsRaw (sym said) (parts.differ, parts.raws))

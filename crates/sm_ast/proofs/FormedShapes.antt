@@ -43,7 +43,8 @@ by_place : (k : List ℕ) (n : Node) (ms : Members) (m : MemberSaid) (more : Lis
 by_place k n ms m more named stand j (inl same) = inl (same ∙ named)
 by_place k n ms m more named stand j (inr among) = inr (stand j among)
 
-member_pairs_formed : (ms : Members) (said : List MemberSaid) → AreJsonMembers ms → AreDistinct ms → MemberPairsSay ms said → AreFormedMembers ms said
+member_pairs_formed : (ms : Members) (said : List MemberSaid) → AreJsonMembers ms → AreDistinct ms → MemberPairsSay ms said
+    → AreFormedMembers ms said
 member_pairs_formed no_members said json d says = subst (AreFormedMembers no_members) (sym says) (no_members_formed no_members)
 member_pairs_formed (member k n ms) said json d (m, more, is, name, says, rest) =
     let later = member_pairs_formed ms more json.2 d.2 rest in
@@ -85,7 +86,8 @@ any_formed ms said json d (inr missing) =
 none_formed : (said : List MemberSaid) → said ≡ [] → AreStatedMembers said × (stated_names said ≡ [])
 none_formed said says = (subst AreStatedMembers (sym says) tt, ap stated_names says)
 
-members_formed : (kind : Kind) (ms : Members) (said : List MemberSaid) → AreJsonMembers ms → AreDistinct ms → AstMembers (member_form kind) ms said
+members_formed : (kind : Kind) (ms : Members) (said : List MemberSaid) → AreJsonMembers ms → AreDistinct ms
+    → AstMembers (member_form kind) ms said
     → AreStatedMembers said × HaveForm (member_form kind) (stated_names said)
 members_formed list_kind ms said json d says = named_formed (codes "member" ∷ []) ms said (refl, tt) json d says
 members_formed Map ms said json d says = named_formed (codes "key" ∷ codes "value" ∷ []) ms said (refl, (refl, tt)) json d says
@@ -113,7 +115,8 @@ members_formed Resource ms said json d says = none_formed said says
 -- fields of operations, services and resources
 fields_formed : (fs : TypeFields) (ms : Members) (said : RawMembers) → AreJsonMembers ms → AreDistinct ms → PropertyPairsSay fs ms said
     → AreFormedPairs ms (AreFields fs) said
-fields_formed fs no_members said json d says = subst (AreFormedPairs no_members (AreFields fs)) (sym says) (no_pairs_formed no_members (AreFields fs) tt)
+fields_formed fs no_members said json d says = subst (AreFormedPairs no_members (AreFields fs)) (sym says)
+    (no_pairs_formed no_members (AreFields fs) tt)
 fields_formed fs (member k n ms) said json d (inl skipped) =
     let later = fields_formed fs ms said json.2 d.2 skipped.1 in record {
       such = later.such;
@@ -138,7 +141,8 @@ mixins_formed : (ms : Members) (rs : List Ref) → OrNothing mixins_name ms Refe
 mixins_formed ms rs (inl found) = references_formed found.0 rs found.2
 mixins_formed ms rs (inr missing) = subst AreReferences (sym missing.1) tt
 
-shape_formed : (k : List ℕ) (ms : Members) (said : ShapeSaid) → AreJsonMembers ms → AreDistinct ms → ShapeParts k ms said → IsFormedShape said
+shape_formed : (k : List ℕ) (ms : Members) (said : ShapeSaid) → AreJsonMembers ms → AreDistinct ms → ShapeParts k ms said
+    → IsFormedShape said
 shape_formed k ms said json d parts =
     let members = members_formed said.kind ms said.members json d parts.members in record {
       id = subst IsShapeId (sym parts.id) parts.is_shape;
@@ -151,7 +155,8 @@ shape_formed k ms said json d parts =
 
 statement_formed : (k : List ℕ) (n : Node) (said : Said) → IsJson n → HasDistinctNames n → AstShape k n said → IsFormed said
 statement_formed k n (metadata_said key value) json d says = absurd says
-statement_formed k n (shape_said said) json d (ms, is, parts) = shape_formed k ms said (subst IsJson is json) (subst HasDistinctNames is d) parts
+statement_formed k n (shape_said said) json d (ms, is, parts) = shape_formed k ms said (subst IsJson is json)
+    (subst HasDistinctNames is d) parts
 statement_formed k n (apply_said r ts) json d (ms, is, same, parts) = (
   subst IsReference (sym same) (absolute_formed k false parts.is_id),
   traits_formed parts.node ts (json_at traits_name parts.node ms (subst IsJson is json) parts.traits)

@@ -54,7 +54,8 @@ none_unless true fault e = refl
 none_unless false fault e = some_is_none fault e
 
 -- where a test decides between a judge and a fault, or between two judges
-pub none_if : (b : Bool) (fault : AstFault) (found : Option AstFault) → (if b then found else Some fault) ≡ None → (b ≡ true) × (found ≡ None)
+pub none_if : (b : Bool) (fault : AstFault) (found : Option AstFault) → (if b then found else Some fault) ≡ None → (b ≡ true)
+    × (found ≡ None)
 none_if true fault found e = (refl, e)
 none_if false fault found e = some_is_none fault e
 
@@ -63,11 +64,13 @@ pub none_either : (b : Bool) (one other : Option AstFault) → (if b then one el
 none_either true one other e = inl (refl, e)
 none_either false one other e = inr (refl, e)
 
-pub none_judged : {X : Type 0} (judge : X → Option AstFault) (o : Option X) → judged judge o ≡ None → (x : X) × (o ≡ Some x) × (judge x ≡ None)
+pub none_judged : {X : Type 0} (judge : X → Option AstFault) (o : Option X) → judged judge o ≡ None → (x : X) × (o ≡ Some x)
+    × (judge x ≡ None)
 none_judged judge None e = some_is_none _ e
 none_judged judge (Some x) e = (x, refl, e)
 
-none_again : (b : Bool) (fault : AstFault) (found : Option AstFault) → (if b then Some fault else found) ≡ None → (b ≡ false) × (found ≡ None)
+none_again : (b : Bool) (fault : AstFault) (found : Option AstFault) → (if b then Some fault else found) ≡ None → (b ≡ false)
+    × (found ≡ None)
 none_again true fault found e = some_is_none fault e
 none_again false fault found e = (refl, e)
 
@@ -190,5 +193,6 @@ one_value judge before (member l m ms) e k t named n (inr has) =
     let parts = none_of_pairs judge before l m ms e in elim (either_way (bytes_eq l k)) [
       | inl same ↦ absurd (not_before judge (before ++ l ∷ []) ms parts.2 l (stands_last l before)
           (pair_name l n ms (subst (λ j. HasPair j n ms) (sym (same_text l k same)) has)))
-      | inr other ↦ one_value judge (before ++ l ∷ []) ms parts.2 k t (ap (λ b. if b then Some m else tree_named k ms) (sym other) ∙ named) n has
+      | inr other ↦ one_value judge (before ++ l ∷ []) ms parts.2 k t
+          (ap (λ b. if b then Some m else tree_named k ms) (sym other) ∙ named) n has
     ]

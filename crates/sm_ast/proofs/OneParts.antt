@@ -30,7 +30,8 @@ nothing_named name ms missing = by_found (tree_named name ms) refl
     by_found None e = refl
     by_found (Some n) e = absurd (missing (pair_name name n ms (named_pair name ms n e)))
 
-pub one_or_nothing : {X : Type 0} (name : List ℕ) (ms : Members) (Says : Node → List X → Type 0) (there : Option Node → List X) (xs : List X)
+pub one_or_nothing : {X : Type 0} (name : List ℕ) (ms : Members) (Says : Node → List X → Type 0) (there : Option Node → List X)
+    (xs : List X)
     → AreDistinct ms → there None ≡ [] → ((n : Node) → HasDistinctNames n → Says n xs → xs ≡ there (Some n)) → OrNothing name ms Says xs
     → xs ≡ there (tree_named name ms)
 one_or_nothing name ms Says there xs d empty one (inl said) =
@@ -65,7 +66,8 @@ one_traits_there ms ts d says = one_or_nothing traits_name ms TraitsSay traits_t
 abbrev member_made : List ℕ → Ref → List TraitSaid → MemberSaid
 member_made name target traits = record { name = name; target = target; traits = traits }
 
-same_member : (m : MemberSaid) (name : List ℕ) (target : Ref) (traits : List TraitSaid) → m.name ≡ name → m.target ≡ target → m.traits ≡ traits
+same_member : (m : MemberSaid) (name : List ℕ) (target : Ref) (traits : List TraitSaid) → m.name ≡ name → m.target ≡ target
+    → m.traits ≡ traits
     → m ≡ member_made name target traits
 same_member m name target traits e f g =
     ap (λ x. member_made x m.target m.traits) e ∙ ap (λ x. member_made name x m.traits) f ∙ ap (λ x. member_made name target x) g
@@ -85,7 +87,8 @@ one_member_pairs no_members said d says = says
 one_member_pairs (member k n ms) said d (m, more, is, name, says, rest) =
     is ∙ ap (λ x. x ∷ more) (one_member k n m d.1 says) ∙ ap (λ xs. member_said k n ∷ xs) (one_member_pairs ms more d.2 rest)
 
-one_members_object : (n : Node) (said : List MemberSaid) → HasDistinctNames n → MembersObjectSays n said → said ≡ members_said (pairs_said n)
+one_members_object : (n : Node) (said : List MemberSaid) → HasDistinctNames n → MembersObjectSays n said
+    → said ≡ members_said (pairs_said n)
 one_members_object n said d (ms, is, says) =
     one_member_pairs ms said (subst HasDistinctNames is d) says ∙ ap (λ m. members_said (pairs_said m)) (sym is)
 

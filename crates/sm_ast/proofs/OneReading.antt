@@ -31,13 +31,15 @@ shape_made id kind members mixins properties traits =
 shape_by : (k : List ℕ) (ms : Members) (s : ShapeSaid) → AreDistinct ms → ShapeParts k ms s → s ≡ shape_by_kind k s.kind ms
 shape_by k ms s d parts =
     let members = one_members (member_form s.kind) ms s.members d parts.members in
-    let mixins = one_or_nothing mixins_name ms ReferencesSay references_there s.mixins d refl (λ n e f. one_references n s.mixins f) parts.mixins in
+    let mixins = one_or_nothing mixins_name ms ReferencesSay references_there s.mixins d refl
+    (λ n e f. one_references n s.mixins f) parts.mixins in
     let properties = parts.properties.1 ∙ ap raw_object (one_properties (property_forms s.kind) ms parts.properties.0 parts.properties.2) in
     let traits = one_traits_there ms s.traits d parts.traits in
     ap (λ x. shape_made x s.kind s.members s.mixins s.properties s.traits) parts.id
     ∙ ap (λ x. shape_made k s.kind x s.mixins s.properties s.traits) members
     ∙ ap (λ x. shape_made k s.kind (members_by_form (member_form s.kind) ms) x s.properties s.traits) mixins
-    ∙ ap (λ x. shape_made k s.kind (members_by_form (member_form s.kind) ms) (references_there (tree_named mixins_name ms)) x s.traits) properties
+    ∙ ap (λ x. shape_made k s.kind (members_by_form (member_form s.kind) ms)
+    (references_there (tree_named mixins_name ms)) x s.traits) properties
     ∙ ap (λ x. shape_made k s.kind (members_by_form (member_form s.kind) ms) (references_there (tree_named mixins_name ms))
     (raw_object (raw_members_of (property_pairs (property_forms s.kind) ms))) x) traits
 
@@ -78,7 +80,8 @@ one_top_pair k n said d (inl (is, known, nothing)) = nothing ∙ ap (λ j. top_s
 one_top_pair k n said d (inr (inl (is, ms, is_object, says))) =
     one_metadata ms said says ∙ ap (top_said metadata_name) (sym is_object) ∙ ap (λ j. top_said j n) (sym is)
 one_top_pair k n said d (inr (inr (is, ms, is_object, says))) =
-    one_shapes ms said (subst HasDistinctNames is_object d) says ∙ ap (top_said shapes_name) (sym is_object) ∙ ap (λ j. top_said j n) (sym is)
+    one_shapes ms said (subst HasDistinctNames is_object d) says ∙ ap (top_said shapes_name) (sym is_object)
+    ∙ ap (λ j. top_said j n) (sym is)
 
 one_top : (ms : Members) (said : List Said) → AreDistinct ms → TopPairsSay ms said → said ≡ top_statements ms
 one_top no_members said d says = says

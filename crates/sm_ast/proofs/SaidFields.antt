@@ -29,7 +29,8 @@ use Rattle.sm_ast.proofs.Judged.{either_way, or_left, true_is_false, same_text, 
 use Rattle.sm_ast.proofs.Judged.{none_of_pairs, none_of_entries}
 use Rattle.sm_ast.proofs.SaidReferences.{by_text, by_list, by_object, identifier_said, reference_holds}
 
-raw_references_hold : (at : ℕ) (ns : Nodes) → entries_fault reference_fault at ns ≡ None → RawReferencesSay ns (raws_of (reference_entries ns))
+raw_references_hold : (at : ℕ) (ns : Nodes) → entries_fault reference_fault at ns ≡ None
+    → RawReferencesSay ns (raws_of (reference_entries ns))
 raw_references_hold at no_nodes e = refl
 raw_references_hold at (node n ns) e =
     let parts = none_of_entries reference_fault at n ns e in (
@@ -90,7 +91,8 @@ property_pair fs k n ms fits rest (Some form) is =
 
 pub property_pairs_hold : (fs : TypeFields) (judge : List ℕ → Node → Option AstFault)
     → ((k : List ℕ) (n : Node) (form : PropertyForm) → form_named k fs ≡ Some form → judge k n ≡ None → property_fault form n ≡ None)
-    → (before : List (List ℕ)) (ms : Members) → pairs_fault judge before ms ≡ None → PropertyPairsSay fs ms (raw_members_of (property_pairs fs ms))
+    → (before : List (List ℕ)) (ms : Members) → pairs_fault judge before ms ≡ None
+    → PropertyPairsSay fs ms (raw_members_of (property_pairs fs ms))
 property_pairs_hold fs judge fits before no_members e = refl
 property_pairs_hold fs judge fits before (member k n ms) e =
     let parts = none_of_pairs judge before k n ms e in
@@ -114,7 +116,8 @@ form_found P (f ∷ fs) all k form e = elim (either_way (pointwise nat_eq k f.0)
 -- such a field is one of the layout
 pub property_field : (kind : Kind) (k : List ℕ) (form : PropertyForm) → form_named k (property_forms kind) ≡ Some form
     → field_named k (layout_of (Defined kind)) ≡ Some (Property form)
-property_field kind k form e = form_found (λ j f. field_named j (layout_of (Defined kind)) ≡ Some (Property f)) (property_forms kind) (all_forms kind) k form e
+property_field kind k form e = form_found (λ j f. field_named j (layout_of (Defined kind)) ≡ Some (Property f)) (property_forms kind)
+    (all_forms kind) k form e
   where
     all_forms : (kind : Kind) → AllForms (λ j f. field_named j (layout_of (Defined kind)) ≡ Some (Property f)) (property_forms kind)
     all_forms Operation = (refl, (refl, (refl, tt)))
@@ -165,7 +168,8 @@ traits_field Service = refl
 traits_field Operation = refl
 traits_field Resource = refl
 
-pub mixins_field : (kind : Kind) → (field_named mixins_name (layout_of (Defined kind)) ≡ Some Mixins) ⊎ (field_named mixins_name (layout_of (Defined kind)) ≡ None)
+pub mixins_field : (kind : Kind) → (field_named mixins_name (layout_of (Defined kind)) ≡ Some Mixins) ⊎
+    (field_named mixins_name (layout_of (Defined kind)) ≡ None)
 mixins_field Blob = inl refl
 mixins_field Boolean = inl refl
 mixins_field text_kind = inl refl

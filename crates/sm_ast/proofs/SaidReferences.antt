@@ -107,7 +107,8 @@ one_pair (member k n no_members) e =
     let parts = none_first (pairs_fault target_fault [] (member k n no_members)) _ e in
     let said = target_pair k n (none_of_pairs target_fault [] k n no_members parts.0).1 in
     subst (λ j. ReferenceSays (object (member j n no_members)) (reference_said (object (member j n no_members)))) (sym said.0)
-    (subst (λ m. ReferenceSays (object (member target_name m no_members)) (reference_said (object (member target_name m no_members)))) (sym said.2)
+    (subst (λ m. ReferenceSays (object (member target_name m no_members)) (reference_said (object (member target_name m no_members))))
+    (sym said.2)
     (said.1, refl, said.3, refl))
 one_pair (member k n (member l m ms)) e =
     let parts = none_first (pairs_fault target_fault [] (member k n (member l m ms))) _ e in
@@ -169,7 +170,8 @@ member_parts name ms e =
       id = said.0;
       target = subst (λ m. HasPair target_name m ms) said.1 has;
       is_id = said.2;
-      fields = λ k named. let pair = name_pair k ms named in part_of_member k pair.0 (judged_pair part_of_member_fault [] ms parts.0 k pair.0 pair.1);
+      fields = λ k named. let pair = name_pair k ms named in part_of_member k pair.0
+          (judged_pair part_of_member_fault [] ms parts.0 k pair.0 pair.1);
       name_is = refl;
       target_is = ap (λ o. absolute (text_there o) false) (found.1 ∙ ap (λ m. Some m) said.1);
       traits = or_nothing traits_name ms TraitsSay traits_there refl
@@ -180,7 +182,8 @@ pub member_holds : (name : List ℕ) (n : Node) → member_fault n ≡ None → 
 member_holds name n e = by_object (λ m. AstMember name m (member_said name m)) (object_fault part_of_member_fault (target_name ∷ [])) n e
     (λ ms f. (ms, refl, member_parts name ms f))
 
-member_pairs_hold : (before : List (List ℕ)) (ms : Members) → pairs_fault named_member_fault before ms ≡ None → MemberPairsSay ms (members_said ms)
+member_pairs_hold : (before : List (List ℕ)) (ms : Members) → pairs_fault named_member_fault before ms ≡ None
+    → MemberPairsSay ms (members_said ms)
 member_pairs_hold before no_members e = refl
 member_pairs_hold before (member k n ms) e =
     let parts = none_of_pairs named_member_fault before k n ms e in

@@ -37,7 +37,8 @@ abbrev judge_of : ShapeType → List ℕ → Node → Option AstFault
 judge_of type k n = form_fault (field_named k (layout_of type)) n
 
 -- every pair is a field
-fields_hold : (fs : FieldForms) (before : List (List ℕ)) (ms : Members) → pairs_fault (λ k n. form_fault (field_named k fs) n) before ms ≡ None
+fields_hold : (fs : FieldForms) (before : List (List ℕ)) (ms : Members)
+    → pairs_fault (λ k n. form_fault (field_named k fs) n) before ms ≡ None
     → AreFieldsOf fs ms
 fields_hold fs before no_members e = tt
 fields_hold fs before (member k n ms) e =
@@ -70,14 +71,16 @@ named_members_hold type ms e (k ∷ ks) all there =
       named_members_said ks ms,
       refl,
       has,
-      subst (λ o. AstMember k found.0 (member_there k o)) (sym found.1) (member_holds k found.0 (by_form type ms e k OneMember all.0 found.0 has)),
+      subst (λ o. AstMember k found.0 (member_there k o)) (sym found.1)
+          (member_holds k found.0 (by_form type ms e k OneMember all.0 found.0 has)),
       named_members_hold type ms e ks all.1 each.1,
     )
 
 any_members_hold : (type : ShapeType) (ms : Members) → pairs_fault (judge_of type) [] ms ≡ None
     → field_named members_name (layout_of type) ≡ Some AllMembers → AstMembers any ms (members_there (tree_named members_name ms))
 any_members_hold type ms e is =
-    or_nothing members_name ms MembersObjectSays members_there refl (λ n has. members_hold n (by_form type ms e members_name AllMembers is n has))
+    or_nothing members_name ms MembersObjectSays members_there refl
+    (λ n has. members_hold n (by_form type ms e members_name AllMembers is n has))
 
 shape_members : (kind : Kind) (ms : Members) → pairs_fault (judge_of (Defined kind)) [] ms ≡ None
     → are_there (needed (Defined kind)) (names_of ms) ≡ true → AstMembers (member_form kind) ms (members_by_form (member_form kind) ms)
@@ -191,16 +194,19 @@ typed_holds k ms t named id key (Some (Defined kind)) said e =
 typed_holds k ms t named id key (Some Applied) said e = (ms, refl, refl, apply_parts k ms t named said id e)
 
 pairs_hold : (k : List ℕ) (ms : Members) → is_id k ≡ true → (o : Option Node) → tree_named type_name ms ≡ o
-    → (not (has_member k) || says_apply o) ≡ true → shape_pairs_fault o ms ≡ None → AstShape k (object ms) (statement_by_type (type_there o) k ms)
+    → (not (has_member k) || says_apply o) ≡ true → shape_pairs_fault o ms ≡ None
+    → AstShape k (object ms) (statement_by_type (type_there o) k ms)
 pairs_hold k ms id None named key e = some_is_none (field []) (none_first (members_fault [] ms) (Some (field [])) e).1
 pairs_hold k ms id (Some t) named key e = typed_holds k ms t named id key (type_said t) refl e
 
 pub shape_holds : (k : List ℕ) (n : Node) → shape_fault k n ≡ None → AstShape k n (statement_said k n)
 shape_holds k n e =
     let parts = none_first (unless (is_shape_key k n) (bad_id [])) (shape_value_fault n) e in
-    by_object (λ m. is_shape_key k m ≡ true → AstShape k m (statement_said k m)) (λ ms. shape_pairs_fault (tree_named type_name ms) ms) n parts.1
+    by_object (λ m. is_shape_key k m ≡ true → AstShape k m (statement_said k m))
+    (λ ms. shape_pairs_fault (tree_named type_name ms) ms) n parts.1
     (λ ms f passed.
     let key = both_true (is_id k) (not (has_member k) || says_apply (tree_named type_name ms)) passed in
-    subst (λ b. AstShape k (object ms) (if b then statement_by_type (type_there (tree_named type_name ms)) k ms else applied_said k ms)) (sym key.0)
+    subst (λ b. AstShape k (object ms) (if b then statement_by_type (type_there (tree_named type_name ms)) k ms else applied_said k ms))
+    (sym key.0)
     (pairs_hold k ms key.0 (tree_named type_name ms) refl key.1 f))
     (none_unless (is_shape_key k n) (bad_id []) parts.0)

@@ -15,7 +15,8 @@ use Rattle.sm_ast.proofs.SaidTypes.{version_text}
 use Rattle.sm_ast.proofs.SaidShapes.{shape_holds}
 use Rattle.sm_ast.proofs.DistinctTop.{ast_distinct}
 
-shape_pairs_hold : (before : List (List ℕ)) (ms : Members) → pairs_fault shape_fault before ms ≡ None → ShapePairsSay ms (shape_statements ms)
+shape_pairs_hold : (before : List (List ℕ)) (ms : Members) → pairs_fault shape_fault before ms ≡ None
+    → ShapePairsSay ms (shape_statements ms)
 shape_pairs_hold before no_members e = refl
 shape_pairs_hold before (member k n ms) e =
     let parts = none_of_pairs shape_fault before k n ms e in

@@ -40,7 +40,8 @@ kind_is s kind (j ∷ ks) e = elim (either_way (bytes_eq s (kind_name j))) [
 no_applied : {A : Type 0} (s : List ℕ) (ks : List Kind) → kind_among s ks ≡ Some Applied → A
 no_applied s [] e = some_is_none Applied (sym e)
 no_applied s (j ∷ ks) e = elim (either_way (bytes_eq s (kind_name j))) [
-  | inl same ↦ absurd (subst IsApplied (sym (some_same (Defined j) Applied (ap (λ b. if b then Some (Defined j) else kind_among s ks) (sym same) ∙ e))) tt)
+  | inl same ↦ absurd (subst IsApplied (sym (some_same (Defined j) Applied
+      (ap (λ b. if b then Some (Defined j) else kind_among s ks) (sym same) ∙ e))) tt)
   | inr other ↦ no_applied s ks (ap (λ b. if b then Some (Defined j) else kind_among s ks) (sym other) ∙ e)
 ]
 
@@ -60,7 +61,8 @@ applied_text s e = elim (either_way (bytes_eq s (codes "apply"))) [
 type_text : (t : Node) (type : ShapeType) → type_said t ≡ Some type → (s : List ℕ) × (t ≡ text s) × (type_named s ≡ Some type)
 type_text t type e = by_text_in (text_in t) refl e
   where
-    by_text_in : (o : Option (List ℕ)) → text_in t ≡ o → type_of_text o ≡ Some type → (s : List ℕ) × (t ≡ text s) × (type_named s ≡ Some type)
+    by_text_in : (o : Option (List ℕ)) → text_in t ≡ o → type_of_text o ≡ Some type → (s : List ℕ) × (t ≡ text s)
+        × (type_named s ≡ Some type)
     by_text_in None is f = some_is_none type (sym f)
     by_text_in (Some s) is f = (s, text_is t s is, f)
 

@@ -21,7 +21,8 @@ tells_first found later (WrongType path) e = ap (λ o. earlier_of o later) e
 tells_first found later (BadId path) e = ap (λ o. earlier_of o later) e
 tells_first found later NoMemory e = tt
 
-pub tells_later : (found later : Option AstFault) (refusal : AstRefusal) → found ≡ None → Tells later refusal → Tells (earlier_of found later) refusal
+pub tells_later : (found later : Option AstFault) (refusal : AstRefusal) → found ≡ None → Tells later refusal
+    → Tells (earlier_of found later) refusal
 tells_later found later refusal e told = subst (λ o. Tells (earlier_of o later) refusal) (sym e) told
 
 pub tells_same : (found other : Option AstFault) (refusal : AstRefusal) → found ≡ other → Tells other refusal → Tells found refusal
@@ -47,7 +48,8 @@ pub node_entry_told : (xs : List Tree) (i : ℕ) (x : Tree) → i < length xs �
     → whole ≡ nodes_fault at (nodes_of (nodes_view (drop i xs))) → (refusal : AstRefusal)
     → Tells (seen_from (Index at) (node_fault (node_of x))) refusal → Tells whole refusal
 node_entry_told xs i x lt e at whole same refusal told =
-    tells_same whole _ refusal (same ∙ ap (λ ys. nodes_fault at (nodes_of (nodes_view ys))) (rest_is xs i x lt e)) (tells_first _ _ refusal told)
+    tells_same whole _ refusal (same ∙ ap (λ ys. nodes_fault at (nodes_of (nodes_view ys))) (rest_is xs i x lt e))
+    (tells_first _ _ refusal told)
 
 pub node_pair_told : (xs : List (List ℕ × Tree)) (i : ℕ) (x : List ℕ × Tree) → i < length xs → x ≡ get_or xs i x
     → (before : List (List ℕ)) (whole : Option AstFault) → whole ≡ members_fault before (members_of (members_view (drop i xs)))
@@ -89,7 +91,8 @@ pub pair_passed : (judge : List ℕ → Node → Option AstFault) (xs : List (Li
     → judge x.0 (node_of x.1) ≡ None → whole ≡ pairs_fault judge after (members_of (members_view (drop (i + 1) xs)))
 pair_passed judge xs i x lt e before after more whole same fresh none =
     same ∙ ap (λ ys. pairs_fault judge before (members_of (members_view ys))) (rest_is xs i x lt e)
-    ∙ ap (λ o. earlier_of o (pairs_fault judge (before ++ x.0 ∷ []) (members_of (members_view (drop (i + 1) xs))))) (passed before x.0 _ fresh none)
+    ∙ ap (λ o. earlier_of o (pairs_fault judge (before ++ x.0 ∷ []) (members_of (members_view (drop (i + 1) xs)))))
+    (passed before x.0 _ fresh none)
     ∙ ap (λ names. pairs_fault judge names (members_of (members_view (drop (i + 1) xs)))) (sym more)
 
 pub pairs_json : (xs : List (List ℕ × Tree)) (i : ℕ) (x : List ℕ × Tree) → i < length xs → x ≡ get_or xs i x

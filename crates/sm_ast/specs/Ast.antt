@@ -75,7 +75,8 @@ MembersObjectSays n said = (ms : Members) × (n ≡ object ms) × MemberPairsSay
 abbrev pub NamedMembersSay : List (List ℕ) → Members → List MemberSaid → Type 0
 NamedMembersSay [] ms said = said ≡ []
 NamedMembersSay (k ∷ ks) ms said =
-    (n : Node) × (m : MemberSaid) × (more : List MemberSaid) × (said ≡ m ∷ more) × HasPair k n ms × AstMember k n m × NamedMembersSay ks ms more
+    (n : Node) × (m : MemberSaid) × (more : List MemberSaid) × (said ≡ m ∷ more) × HasPair k n ms × AstMember k n m
+    × NamedMembersSay ks ms more
 
 abbrev pub AstMembers : MemberForm → Members → List MemberSaid → Type 0
 AstMembers none ms said = said ≡ []
@@ -98,7 +99,8 @@ NamedReferencesSay (member k n ms) said =
 abbrev pub NewNamesSay : Members → RawMembers → Type 0
 NewNamesSay no_members said = said ≡ no_raw_members
 NewNamesSay (member k n ms) said =
-    (name : List ℕ) × (more : RawMembers) × IsIdText k × (n ≡ text name) × IsIdentifier name × (said ≡ raw_member k (raw_leaf (text name)) more)
+    (name : List ℕ) × (more : RawMembers) × IsIdText k × (n ≡ text name) × IsIdentifier name
+    × (said ≡ raw_member k (raw_leaf (text name)) more)
     × NewNamesSay ms more
 
 abbrev pub PropertySays : PropertyForm → Node → Raw → Type 0

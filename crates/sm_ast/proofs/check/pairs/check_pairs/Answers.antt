@@ -38,6 +38,7 @@ loop-pair-preserved g c =
     record {
       seen = subst (λ names. Remembers c.stands_again.new.seen names) (sym more)
           (subst (λ k. Remembers c.stands_again.new.seen (before ++ k ∷ [])) c.as_str.ensures.bytes kept.1);
-      fault = pair_passed (g.R.PairRule.fault c.args.rule.now) xs i x (omega arith) c.pair-item.is before _ more _ c.loop-pair.invariant.fault
+      fault = pair_passed (g.R.PairRule.fault c.args.rule.now) xs i x
+          (omega arith) c.pair-item.is before _ more _ c.loop-pair.invariant.fault
           (ap (λ k. stands_in k before) (sym c.as_str.ensures.bytes) ∙ sym kept.0 ∙ c.if-branch.false) c.in-Ok.ensures;
     }

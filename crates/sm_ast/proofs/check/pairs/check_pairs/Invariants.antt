@@ -9,5 +9,6 @@ abbrev pub invariant-loop-pair : goal.invariant-loop-pair
 invariant-loop-pair g l = record {
   seen : Remembers l.seen (map (λ p. p.0) (take l.pair-index l.pairs));
   fault : pairs_fault (g.R.PairRule.fault l.rule) [] (members_of (members_view l.pairs))
-      ≡ pairs_fault (g.R.PairRule.fault l.rule) (map (λ p. p.0) (take l.pair-index l.pairs)) (members_of (members_view (drop l.pair-index l.pairs)));
+      ≡ pairs_fault (g.R.PairRule.fault l.rule) (map (λ p. p.0) (take l.pair-index l.pairs))
+      (members_of (members_view (drop l.pair-index l.pairs)));
 }

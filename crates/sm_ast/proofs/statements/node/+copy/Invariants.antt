@@ -19,7 +19,8 @@ decreases-raw_pairs l = members_weight (members_of (members_view l.pairs.now))
 abbrev pub invariant-raw_entries-loop-item : goal.invariant-raw_entries-loop-item
 invariant-raw_entries-loop-item l = record {
   json : AreJson (nodes_of (nodes_view (drop l.item-index l.items)));
-  said : raws_view l.entries.items ++ node_raws (nodes_of (nodes_view (drop l.item-index l.items))) ≡ node_raws (nodes_of (nodes_view l.items));
+  said : raws_view l.entries.items ++ node_raws (nodes_of (nodes_view (drop l.item-index l.items))) ≡ node_raws
+      (nodes_of (nodes_view l.items));
   weight : nodes_weight (nodes_of (nodes_view (drop l.item-index l.items))) ≤ nodes_weight (nodes_of (nodes_view l.items));
 }
 

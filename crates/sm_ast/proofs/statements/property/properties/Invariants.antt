@@ -8,6 +8,7 @@ use Rattle.sm_ast.proofs.statements.property.properties.Given as goal
 
 abbrev pub invariant-loop-pair : goal.invariant-loop-pair
 invariant-loop-pair l = record {
-  said : raw_members_view l.properties.items ++ property_pairs (property_forms l.kind) (members_of (members_view (drop l.pair-index l.pairs)))
+  said : raw_members_view l.properties.items ++ property_pairs (property_forms l.kind)
+      (members_of (members_view (drop l.pair-index l.pairs)))
       ≡ property_pairs (property_forms l.kind) (members_of (members_view l.pairs));
 }
