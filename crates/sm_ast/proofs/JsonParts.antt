@@ -29,6 +29,3 @@ json_pairs (object ms) json = json
 pub json_under : (name : List ℕ) (ms : Members) (n : Node) → AreJsonMembers ms → tree_named name ms ≡ Some n
     → (there : Members) → there ≡ pairs_said n → AreJsonMembers there
 json_under name ms n json e there same = subst AreJsonMembers (sym same) (json_pairs n (json_named name ms n json e))
-
-pub json_inside : (n : Node) → IsJson n → (there : Members) → there ≡ pairs_said n → AreJsonMembers there
-json_inside n json there same = subst AreJsonMembers (sym same) (json_pairs n json)

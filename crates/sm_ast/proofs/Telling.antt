@@ -1,10 +1,9 @@
 -- The first fault of entries and of pairs, as a reader comes to one.
 use Rattle.std.proofs.Common.{◌≡◌, ℕ, ◌+◌, ◌<◌, true, false, List, [], ◌∷◌, ◌++◌, length, map, get_or, drop, take, Option, Some, None}
 use Rattle.std.proofs.Common.{sym, ap, ◌∙◌, subst, if◌then◌else◌}
-use Rattle.std.proofs.lemmas.List.{drop_more, take_more, map-append, append_assoc}
+use Rattle.std.proofs.lemmas.List.{drop_more, take_more, map-append}
 use Rattle.sm_tree.specs.Node.{Node, nodes_of, members_of}
 use Rattle.sm_tree.specs.View.{node_of, nodes_view, members_view}
-use Rattle.sm_tree.specs.Json.{AreJsonMembers}
 use Rattle.sm_tree.specs.declared.tree.Tree.{Tree}
 use Rattle.sm_tree.specs.declared.path.Step.TheVariants.{Index, Key}
 use Rattle.sm_ast.specs.Answers.{Tells}
@@ -20,10 +19,6 @@ tells_first found later (Field path) e = ap (λ o. earlier_of o later) e
 tells_first found later (WrongType path) e = ap (λ o. earlier_of o later) e
 tells_first found later (BadId path) e = ap (λ o. earlier_of o later) e
 tells_first found later NoMemory e = tt
-
-pub tells_later : (found later : Option AstFault) (refusal : AstRefusal) → found ≡ None → Tells later refusal
-    → Tells (earlier_of found later) refusal
-tells_later found later refusal e told = subst (λ o. Tells (earlier_of o later) refusal) (sym e) told
 
 pub tells_same : (found other : Option AstFault) (refusal : AstRefusal) → found ≡ other → Tells other refusal → Tells found refusal
 tells_same found other refusal e told = subst (λ o. Tells o refusal) (sym e) told
@@ -94,14 +89,3 @@ pair_passed judge xs i x lt e before after more whole same fresh none =
     ∙ ap (λ o. earlier_of o (pairs_fault judge (before ++ x.0 ∷ []) (members_of (members_view (drop (i + 1) xs)))))
     (passed before x.0 _ fresh none)
     ∙ ap (λ names. pairs_fault judge names (members_of (members_view (drop (i + 1) xs)))) (sym more)
-
-pub pairs_json : (xs : List (List ℕ × Tree)) (i : ℕ) (x : List ℕ × Tree) → i < length xs → x ≡ get_or xs i x
-    → AreJsonMembers (members_of (members_view (drop i xs))) → AreJsonMembers (members_of (members_view (drop (i + 1) xs)))
-pairs_json xs i x lt e json = (subst (λ ys. AreJsonMembers (members_of (members_view ys))) (rest_is xs i x lt e) json).2
-
--- what was said before a pair, the pair, and what the rest says
-pub said_more : {Y S : Type 0} (view : Y → S) (ys zs : List Y) (y : Y) (s : S) (rest all : List S) → zs ≡ ys ++ y ∷ [] → view y ≡ s
-    → map view ys ++ (s ∷ rest) ≡ all → map view zs ++ rest ≡ all
-said_more view ys zs y s rest all e same h =
-    ap (λ us. map view us ++ rest) e ∙ ap (λ us. us ++ rest) (map-append view ys (y ∷ []))
-    ∙ append_assoc (map view ys) (view y ∷ []) rest ∙ ap (λ v. map view ys ++ (v ∷ rest)) same ∙ h
