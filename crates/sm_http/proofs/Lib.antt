@@ -11,3 +11,13 @@ mod OneHead
 mod OneFraming
 mod SomeFraming
 mod WrittenRead
+mod LinesSeen
+mod SizeTexts
+mod SizesSeen
+mod SizeTails
+mod TrailersSeen
+mod BodySteps
+mod BodyEnds
+mod PlacesSeen
+mod ReadingPieces
+mod ReadingMessages

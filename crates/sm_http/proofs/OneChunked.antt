@@ -15,17 +15,17 @@ use Rattle.sm_http.proofs.Cuts.{same_cut}
 pub behind_line : (u f r : List ℕ) → ((u ++ crlf_bytes) ++ f) ++ r ≡ u ++ 13 ∷ 10 ∷ (f ++ r)
 behind_line u f r = append_assoc (u ++ crlf_bytes) f r ∙ append_assoc u crlf_bytes (f ++ r)
 
-behind_chunk : (l d f r : List ℕ) → ((l ++ d ++ crlf_bytes) ++ f) ++ r ≡ l ++ (d ++ 13 ∷ 10 ∷ (f ++ r))
+pub behind_chunk : (l d f r : List ℕ) → ((l ++ d ++ crlf_bytes) ++ f) ++ r ≡ l ++ (d ++ 13 ∷ 10 ∷ (f ++ r))
 behind_chunk l d f r = behind_line (l ++ d) f r ∙ append_assoc l d (13 ∷ 10 ∷ (f ++ r))
 
-behind_text : (c l t r : List ℕ) → (c ++ l ++ t ++ crlf_bytes) ++ r ≡ c ++ (l ++ (t ++ 13 ∷ 10 ∷ r))
+pub behind_text : (c l t r : List ℕ) → (c ++ l ++ t ++ crlf_bytes) ++ r ≡ c ++ (l ++ (t ++ 13 ∷ 10 ∷ r))
 behind_text c l t r =
     append_assoc (c ++ l ++ t) crlf_bytes r ∙ append_assoc (c ++ l) t (13 ∷ 10 ∷ r) ∙ append_assoc c l (t ++ 13 ∷ 10 ∷ r)
 
 -- ---- trailer lines
 
 -- a trailer line begins with no CR
-no_trailer : (u rest r : List ℕ) → IsTrailer u → 13 ∷ r ≡ u ++ rest → ⊥
+pub no_trailer : (u rest r : List ℕ) → IsTrailer u → 13 ∷ r ≡ u ++ rest → ⊥
 no_trailer [] rest r line e = let none : 0 < length {A = ℕ} [] = line.some in omega arith
 no_trailer (b ∷ u) rest r line e =
     let first : b ≡ 13 = cc in
@@ -49,7 +49,7 @@ trailers_unique (t ∷ ts) (u ∷ us) r q pt pu e =
 -- ---- chunks
 
 -- the last line is no chunk's
-no_chunk : (l : ChunkLine) (d : Chunk) (r q : List ℕ) → IsSizeLine l → IsChunk d → chunk_size l ≡ 0
+pub no_chunk : (l : ChunkLine) (d : Chunk) (r q : List ℕ) → IsSizeLine l → IsChunk d → chunk_size l ≡ 0
     → print_chunk_line l ++ r ≡ print_chunk_line d.line ++ q → ⊥
 no_chunk l d r q last chunk zero_size e =
     let same = chunk_line_unique _ l d.line r q (last.form, refl) (chunk.line.form, e) in

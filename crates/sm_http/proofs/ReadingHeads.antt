@@ -82,13 +82,13 @@ ahead_same None h = tt
 ahead_same (Some l) h = refl
 
 -- a fact of the bytes ahead, by what is held and what is left
-by_ahead : (a l : Option (List ℕ)) (h k : List ℕ) (P : List ℕ → List ℕ → Type 0) → Keeps a (prepend_known h l)
+pub by_ahead : (a l : Option (List ℕ)) (h k : List ℕ) (P : List ℕ → List ℕ → Type 0) → Keeps a (prepend_known h l)
     → ((more : List ℕ) → P (h ++ more) (k ++ more)) → IfAhead a (prepend_known k l) P
 by_ahead None l h k P kept p = tt
 by_ahead (Some a) None h k P kept p = absurd kept
 by_ahead (Some a) (Some l) h k P kept p = subst (λ bs. P bs (k ++ l)) kept (p l)
 
-by_some : (a l : Option (List ℕ)) (h : List ℕ) (P : List ℕ → Type 0) → Keeps a (prepend_known h l)
+pub by_some : (a l : Option (List ℕ)) (h : List ℕ) (P : List ℕ → Type 0) → Keeps a (prepend_known h l)
     → ((more : List ℕ) → P (h ++ more)) → IfSome a P
 by_some None l h P kept p = tt
 by_some (Some a) None h P kept p = absurd kept
@@ -157,7 +157,7 @@ empty : (h : List ℕ) → length h ≡ 0 → h ≡ []
 empty [] e = refl
 empty (x ∷ h) e = absurd (omega arith)
 
-at_end : (a l r : Option (List ℕ)) (h k : List ℕ) (P : List ℕ → List ℕ → Type 0) → Keeps a (prepend_known h l) → Fills l r h k (Ok 0)
+pub at_end : (a l r : Option (List ℕ)) (h k : List ℕ) (P : List ℕ → List ℕ → Type 0) → Keeps a (prepend_known h l) → Fills l r h k (Ok 0)
     → P h k → IfAhead a (prepend_known k r) P
 at_end None l r h k P kept fills p = tt
 at_end (Some a) None r h k P kept fills p = absurd kept
@@ -170,7 +170,7 @@ at_end (Some a) (Some l) (Some r) h k P kept fills p =
     let now : k ++ r ≡ k = ap (λ x. k ++ x) rest ∙ append-nil k in
     subst (λ x. P x (k ++ r)) (sym before) (subst (λ y. P h y) (sym now) p)
 
-some_end : (a l r : Option (List ℕ)) (h k : List ℕ) (P : List ℕ → Type 0) → Keeps a (prepend_known h l) → Fills l r h k (Ok 0)
+pub some_end : (a l r : Option (List ℕ)) (h k : List ℕ) (P : List ℕ → Type 0) → Keeps a (prepend_known h l) → Fills l r h k (Ok 0)
     → P h → IfSome a P
 some_end None l r h k P kept fills p = tt
 some_end (Some a) None r h k P kept fills p = absurd kept
@@ -182,7 +182,7 @@ some_end (Some a) (Some l) (Some r) h k P kept fills p =
     let before : a ≡ h = sym kept ∙ ap (λ x. h ++ x) left ∙ append-nil h in
     subst P (sym before) p
 
-same_held : (l r : Option (List ℕ)) (h k : List ℕ) → Fills l r h k (Ok 0) → k ≡ h
+pub same_held : (l r : Option (List ℕ)) (h k : List ℕ) → Fills l r h k (Ok 0) → k ≡ h
 same_held l r h k fills = fills.2 ∙ ap (λ x. h ++ x) (empty fills.0 fills.3) ∙ append-nil h
 
 pub none_ahead : (side : Side) (a l r : Option (List ℕ)) (h k : List ℕ) → Keeps a (prepend_known h l) → Fills l r h k (Ok 0)
@@ -203,7 +203,7 @@ open_part : (side : Side) (h : List ℕ) → length h < head_limit → SeesHead 
 open_part side [] short sees = inl refl
 open_part side (b ∷ h) short sees = inr (part_ended side (b ∷ h) (omega arith) short sees)
 
-taken_ahead : (a l r : Option (List ℕ)) (h : List ℕ) → Keeps a (prepend_known h l) → Keeps l r → Consumes a r h
+pub taken_ahead : (a l r : Option (List ℕ)) (h : List ℕ) → Keeps a (prepend_known h l) → Keeps l r → Consumes a r h
 taken_ahead None l r h kept same = tt
 taken_ahead (Some a) None r h kept same = absurd kept
 taken_ahead (Some a) (Some l) None h kept same = absurd same

@@ -1,6 +1,6 @@
 -- What the reading calls answer. The bytes ahead of a call are those held and then those that the source has left, where it
 -- tells them.
-use Rattle.std.specs.Prelude.{◌≡◌, ℕ, ◌≤◌, ◌<◌, ◌⊎◌, List, [], ◌++◌, take, length, Bool, IfSome, Option, Some, None, Result, Ok, Err}
+use Rattle.std.specs.Prelude.{◌≡◌, ℕ, ◌+◌, ◌-◌, ◌≤◌, ◌<◌, ◌⊎◌, List, [], ◌++◌, take, length, Bool, IfSome, Option, Some, None, Result, Ok, Err}
 use Rattle.std.specs.Io.KnownBytes.{prepend_known, Consumes}
 use Rattle.sm_http.specs.declared.message.Head.{Head}
 use Rattle.sm_http.specs.declared.message.Message.{Message}
@@ -58,6 +58,19 @@ IsWithinLimit (Known count) = count ≤ body_limit
 IsWithinLimit (Size sum) = sum ≤ body_limit
 IsWithinLimit (Data left total) = (left ≤ total) × (total ≤ body_limit)
 IsWithinLimit Done = Unit {0}
+
+-- a head begins no body past the limit
+abbrev pub BeginsWithin : Result (Option (Head × BodyLeft)) HttpRefusal → Type 0
+BeginsWithin (Ok None) = Unit {0}
+BeginsWithin (Ok (Some found)) = IsWithinLimit found.1
+BeginsWithin (Err refusal) = Unit {0}
+
+-- the data that may still come, within the limit
+abbrev pub data_room : BodyLeft → ℕ
+data_room (Known count) = count
+data_room (Size sum) = body_limit - sum
+data_room (Data left total) = left + (body_limit - total)
+data_room Done = 0
 
 -- `read_piece`: none is exactly the end; else what comes behind the piece, with the piece in front, is what was to come
 abbrev pub ReadsAPiece : BodyLeft → BodyLeft → Option (List ℕ) → Option (List ℕ) → Option (List ℕ) → List ℕ → Result ℕ HttpRefusal → Type 0

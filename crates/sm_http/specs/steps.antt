@@ -3,3 +3,8 @@ pub mod Judging
 pub mod Holding
 pub mod Finding
 pub mod Seeing
+pub mod Lines
+pub mod SizeLines
+pub mod Trailers
+pub mod Places
+pub mod Passing

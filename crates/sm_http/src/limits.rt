@@ -14,3 +14,12 @@ pub const PIECE_LIMIT: usize = 4096;
 
 /// More fields than the bytes of a head can hold, each of at least three bytes.
 pub const FIELD_ROOM: usize = 5500;
+
+/// The most hexadecimal digits of a chunk's size.
+pub const MOST_SIZE_DIGITS: usize = 8;
+
+/// The most bytes of a size line, without its line end.
+pub const SIZE_LINE_LIMIT: usize = 256;
+
+/// The most bytes of all trailer lines, with their line ends.
+pub const TRAILER_LIMIT: usize = 4096;

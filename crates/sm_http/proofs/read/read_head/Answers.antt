@@ -5,6 +5,8 @@ use Rattle.sm_http.specs.declared.held.Unfilled.TheVariants.{Failed}
 use Rattle.sm_http.specs.Limits.{head_limit}
 use Rattle.sm_http.specs.Calls.{ReadsAHead}
 use Rattle.sm_http.proofs.ReadingHeads.{sees_at, fills_at, ahead_same, ahead_kept, whole_ahead, refused_ahead, large_ahead, ended_ahead, failed_ahead}
+use Rattle.sm_http.specs.steps.Finding.{found_text}
+use Rattle.sm_http.proofs.ReadingMessages.{begins_within}
 use Rattle.sm_http.proofs.read.read_head.Goals as goal
 
 pub loop-found-init : goal.loop-found-init
@@ -21,6 +23,12 @@ returns-in-Ok-Whole-clause-bytes g c =
     (Ok (Some (c.in-Ok-Whole.found.head, c.in-Ok-Whole.left)))) (sym c.advance.ensures)
     (whole_ahead c.args.side (prepend_known c.args.held.now (g.S.Source.left c.args.source.now)) (g.S.Source.left c.loop-found.source) c.loop-found.held c.in-Ok-Whole.found c.in-Ok-Whole.left c.loop-found.invariant.kept
     c.as_slice.ensures.few sees)
+
+pub returns-in-Ok-Whole-clause-within : goal.returns-in-Ok-Whole-clause-within
+returns-in-Ok-Whole-clause-within g c =
+    let sees = sees_at c.args.side _ _ _ (Ok (Whole c.in-Ok-Whole.found c.in-Ok-Whole.left)) c.as_slice.ensures.bytes
+    (c.in-Ok-Whole.is ∙ ap Ok c.in-Ok-Whole.field-0-is) c.see_head.ensures in
+    begins_within (found_text c.in-Ok-Whole.found) c.in-Ok-Whole.left sees.2 sees.3
 
 pub returns-in-Err-clause-bytes : goal.returns-in-Err-clause-bytes
 returns-in-Err-clause-bytes g c =

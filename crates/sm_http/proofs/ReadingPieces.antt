@@ -1,0 +1,284 @@
+-- From what is seen of the bytes held to what a body from a place on comes to.
+use Rattle.std.proofs.Common.{◌≡◌, ℕ, zero, suc, ◌+◌, ◌-◌, ◌<◌, ◌≤◌, List, [], ◌∷◌, ◌++◌, length, take, drop, refl, sym, ap, subst, ◌∙◌, arith, append_assoc, append-nil, Option, Some, None, Ok, Err}
+use Rattle.std.specs.Prelude.{IfSome, IsErrOf, Result}
+use Rattle.std.proofs.lemmas.List.{length-take-le, take-append-drop}
+use Rattle.std.proofs.Math.Seq.{take-append_seam}
+use Rattle.std.specs.Io.KnownBytes.{prepend_known, Consumes, Keeps}
+use Rattle.sm_http.specs.declared.message.BodyLeft.{BodyLeft}
+use Rattle.sm_http.specs.declared.message.BodyLeft.TheVariants.{Known, Size, Data, Done}
+use Rattle.sm_http.specs.declared.refusal.HttpRefusal.{HttpRefusal}
+use Rattle.sm_http.specs.declared.refusal.HttpRefusal.TheVariants.{ReadFault, Ended, HeadTooLarge, Coding, Length, TooLong, Chunk, NoMemory}
+use Rattle.sm_http.specs.declared.refusal.HttpRefusal.TheVariants.{Head as BadHead}
+use Rattle.sm_http.specs.declared.place.SeenPlace.{SeenPlace}
+use Rattle.sm_http.specs.declared.place.SeenPlace.TheVariants.{Next, Part}
+use Rattle.sm_http.specs.Limits.{piece_limit}
+use Rattle.sm_http.specs.Bodies.{HasBody, IsPastLimit, BodyFraming, body, body_refused, BodyFramed, behind_data}
+use Rattle.sm_http.specs.Calls.{IfAhead, IfTaken, RefusedAs, IsWithinLimit, ReadsAPiece}
+use Rattle.sm_http.specs.steps.Holding.{Fills}
+use Rattle.sm_http.specs.steps.Places.{Steps}
+use Rattle.sm_http.specs.steps.Passing.{lines_before, Leads, SeesPlace, RefusesBody, Gives, GoesTo, PassesTo, Passes, GivesPiece, GivesBody}
+use Rattle.sm_http.proofs.ReadingHeads.{ahead_same, by_some, some_end, taken_ahead}
+use Rattle.sm_http.proofs.BodySteps.{framed_on, known_step, data_step}
+use Rattle.sm_http.proofs.BodyEnds.{known_end, known_open, data_open}
+use Rattle.sm_http.proofs.PlacesSeen.{none_before}
+
+-- ---- one call to the next place
+
+consumed : (a l : Option (List ℕ)) (h : List ℕ) (used : ℕ) → Keeps a (prepend_known h l)
+    → Consumes a (prepend_known (drop used h) l) (take used h)
+consumed None l h used kept = tt
+consumed (Some a) None h used kept = absurd kept
+consumed (Some a) (Some l) h used kept =
+    sym kept ∙ ap (λ x. x ++ l) (sym (take-append-drop used h)) ∙ append_assoc (take used h) (drop used h) l
+
+pub next_ahead : (before next : BodyLeft) (a l : Option (List ℕ)) (h : List ℕ) (used : ℕ) → Keeps a (prepend_known h l)
+    → SeesPlace before h (Ok (Next used next)) → PassesTo before next a (prepend_known (drop used h) l)
+next_ahead before next a l h used kept sees = record {
+  goes = record { used = take used h; consumes = consumed a l h used kept; steps = sees.steps; within = sees.within };
+  fewer = sees.fewer;
+  room = sees.room;
+}
+
+pub refused_ahead : (before : BodyLeft) (a l r : Option (List ℕ)) (h : List ℕ) (why : HttpRefusal) → Keeps a (prepend_known h l)
+    → SeesPlace before h (Err why) → RefusesBody before a r why
+refused_ahead before a l r h ReadFault kept sees = absurd (sees [])
+refused_ahead before a l r h Ended kept sees = by_some a l h (λ bytes. BodyFramed before bytes (body_refused Ended)) kept sees
+refused_ahead before a l r h BadHead kept sees = by_some a l h (λ bytes. BodyFramed before bytes (body_refused BadHead)) kept sees
+refused_ahead before a l r h HeadTooLarge kept sees = by_some a l h (λ bytes. BodyFramed before bytes (body_refused HeadTooLarge)) kept sees
+refused_ahead before a l r h Coding kept sees = by_some a l h (λ bytes. BodyFramed before bytes (body_refused Coding)) kept sees
+refused_ahead before a l r h Length kept sees = by_some a l h (λ bytes. BodyFramed before bytes (body_refused Length)) kept sees
+refused_ahead before a l r h TooLong kept sees = by_some a l h (λ bytes. BodyFramed before bytes (body_refused TooLong)) kept sees
+refused_ahead before a l r h Chunk kept sees = by_some a l h (λ bytes. BodyFramed before bytes (body_refused Chunk)) kept sees
+refused_ahead before a l r h NoMemory kept sees = tt
+
+pub ended_ahead : (before : BodyLeft) (a l r : Option (List ℕ)) (h k : List ℕ) → Keeps a (prepend_known h l) → Fills l r h k (Ok 0)
+    → SeesPlace before h (Ok Part) → RefusesBody before a r Ended
+ended_ahead before a l r h k kept fills sees =
+    some_end a l r h k (λ bytes. BodyFramed before bytes (body_refused Ended)) kept fills sees.1
+
+pub failed_ahead : (before : BodyLeft) (a l r : Option (List ℕ)) (h : List ℕ) → Keeps a (prepend_known h l) → Keeps l r
+    → SeesPlace before h (Ok Part) → RefusesBody before a r ReadFault
+failed_ahead before a l r h kept same sees = (h, taken_ahead a l r h kept same, sees.1)
+
+pub sees_at : (before : BodyLeft) (s h : List ℕ) (r q : Result SeenPlace HttpRefusal) → s ≡ h → r ≡ q → SeesPlace before s r
+    → SeesPlace before h q
+sees_at before s h r q e f sees = subst (λ x. SeesPlace before h x) f (subst (λ x. SeesPlace before x r) e sees)
+
+-- ---- calls one after the other
+
+consumes_joined : (a b c : Option (List ℕ)) (u v : List ℕ) → Consumes a b u → Consumes b c v → Consumes a c (u ++ v)
+consumes_joined None b c u v x y = tt
+consumes_joined (Some a) None c u v x y = absurd x
+consumes_joined (Some a) (Some b) None u v x y = absurd y
+consumes_joined (Some a) (Some b) (Some c) u v x y = x ∙ ap (λ r. u ++ r) y ∙ sym (append_assoc u v c)
+
+steps_joined : (a b c : BodyLeft) (u v p q : List ℕ) → Steps a u p b → Steps b v q c → Steps a (u ++ v) (p ++ q) c
+steps_joined a b c u v p q s t = record {
+  on = λ rest content behind x.
+      subst (λ y. HasBody a y ((p ++ q) ++ content) behind) (sym (append_assoc u v rest))
+      (subst (λ y. HasBody a (u ++ (v ++ rest)) y behind) (sym (append_assoc p q content))
+      (s.on (v ++ rest) (q ++ content) behind (t.on rest content behind x)));
+  back = λ rest content behind x none.
+      s.back (v ++ rest) content behind (subst (λ y. HasBody a y content behind) (append_assoc u v rest) x)
+      (λ inner r y. t.back rest inner r y none);
+  past_on = λ rest x. subst (λ y. IsPastLimit a y) (sym (append_assoc u v rest)) (s.past_on (v ++ rest) (t.past_on rest x));
+  past_back = λ rest x. t.past_back rest (s.past_back (v ++ rest) (subst (λ y. IsPastLimit a y) (append_assoc u v rest) x));
+}
+
+pub goes_joined : (a b c : BodyLeft) (x y z : Option (List ℕ)) (p q : List ℕ) → GoesTo a b x y p → GoesTo b c y z q → GoesTo a c x z (p ++ q)
+goes_joined a b c x y z p q s t = record {
+  used = s.used ++ t.used;
+  consumes = consumes_joined x y z s.used t.used s.consumes t.consumes;
+  steps = steps_joined a b c s.used t.used p q s.steps t.steps;
+  within = t.within;
+}
+
+some_behind : (P Q : List ℕ → Type 0) (x y : Option (List ℕ)) (used : List ℕ) → Consumes x y used
+    → ((rest : List ℕ) → Q rest → P (used ++ rest)) → IfSome y Q → IfSome x P
+some_behind P Q None y used e f q = tt
+some_behind P Q (Some x) None used e f q = absurd e
+some_behind P Q (Some x) (Some y) used e f q = subst P (sym e) (f y q)
+
+word_behind : (a b : BodyLeft) (x y : Option (List ℕ)) (piece : List ℕ) (why : HttpRefusal) → (s : GoesTo a b x y piece)
+    → IfSome y (λ bytes. BodyFramed b bytes (body_refused why)) → IfSome x (λ bytes. BodyFramed a bytes (body_refused why))
+word_behind a b x y piece why s said =
+    some_behind (λ bytes. BodyFramed a bytes (body_refused why)) (λ bytes. BodyFramed b bytes (body_refused why)) x y s.used s.consumes
+    (λ rest framed. framed_on a b s.used piece s.steps rest (body_refused why) framed) said
+
+pub refused_behind : (a b : BodyLeft) (x y left : Option (List ℕ)) (piece : List ℕ) (why : HttpRefusal) → GoesTo a b x y piece
+    → RefusesBody b y left why → RefusesBody a x left why
+refused_behind a b x y left piece ReadFault s said = (
+  s.used ++ said.0,
+  consumes_joined x y left s.used said.0 s.consumes said.1,
+  framed_on a b s.used piece s.steps said.0 (body_refused Ended) said.2,
+)
+refused_behind a b x y left piece Ended s said = word_behind a b x y piece Ended s said
+refused_behind a b x y left piece BadHead s said = word_behind a b x y piece BadHead s said
+refused_behind a b x y left piece HeadTooLarge s said = word_behind a b x y piece HeadTooLarge s said
+refused_behind a b x y left piece Coding s said = word_behind a b x y piece Coding s said
+refused_behind a b x y left piece Length s said = word_behind a b x y piece Length s said
+refused_behind a b x y left piece TooLong s said = word_behind a b x y piece TooLong s said
+refused_behind a b x y left piece Chunk s said = word_behind a b x y piece Chunk s said
+refused_behind a b x y left piece NoMemory s said = tt
+
+-- ---- data
+
+pub gives_refused : (before : BodyLeft) (most : ℕ) (x y left : Option (List ℕ)) (buffer : List ℕ) (why : HttpRefusal)
+    → BodyFramed before [] (body_refused Ended) → Gives most x y left buffer (Err why) → RefusesBody before x left why
+gives_refused before most x y left buffer ReadFault opened said = ([], said, opened)
+gives_refused before most None y left buffer Ended opened said = tt
+gives_refused before most (Some x) y left buffer Ended opened said =
+    subst (λ bytes. BodyFramed before bytes (body_refused Ended)) (sym said) opened
+gives_refused before most x y left buffer BadHead opened said = absurd said
+gives_refused before most x y left buffer HeadTooLarge opened said = absurd said
+gives_refused before most x y left buffer Coding opened said = absurd said
+gives_refused before most x y left buffer Length opened said = absurd said
+gives_refused before most x y left buffer TooLong opened said = absurd said
+gives_refused before most x y left buffer Chunk opened said = absurd said
+gives_refused before most x y left buffer NoMemory opened said = absurd said
+
+pub gives_known : (most count : ℕ) (x y left : Option (List ℕ)) (buffer : List ℕ) → IsWithinLimit (Known most) → length buffer ≡ piece_limit
+    → Gives most x y left buffer (Ok count) → GivesPiece (Known most) (Known (most - count)) x y buffer count
+gives_known most count x y left buffer within room said =
+    let len = length-take-le count buffer (omega (arith, said.2)) in
+    let all : length (take count buffer) + (most - count) ≡ most = omega (arith, said.1) in
+    record {
+      few = said.2;
+      goes = record {
+        used = take count buffer;
+        consumes = said.3;
+        steps = subst (λ n. Steps (Known n) (take count buffer) (take count buffer) (Known (most - count))) all
+            (known_step (most - count) (take count buffer));
+        within = omega arith;
+      };
+      ends = λ none. absurd (omega (arith, said.0));
+      room = omega (arith, said.1);
+    }
+
+pub gives_data : (most total count : ℕ) (x y left : Option (List ℕ)) (buffer : List ℕ) → IsWithinLimit (Data most total)
+    → length buffer ≡ piece_limit → Gives most x y left buffer (Ok count)
+    → GivesPiece (Data most total) (Data (most - count) total) x y buffer count
+gives_data most total count x y left buffer within room said =
+    let len = length-take-le count buffer (omega (arith, said.2)) in
+    let all : length (take count buffer) + (most - count) ≡ most = omega (arith, said.1) in
+    record {
+      few = said.2;
+      goes = record {
+        used = take count buffer;
+        consumes = said.3;
+        steps = subst (λ n. Steps (Data n total) (take count buffer) (take count buffer) (Data (most - count) total)) all
+            (data_step (most - count) total (take count buffer));
+        within = (omega (arith, within.0), within.1);
+      };
+      ends = λ none. absurd (omega (arith, said.0));
+      room = omega (arith, said.1);
+    }
+
+same_ahead : (x : Option (List ℕ)) → Consumes x x []
+same_ahead None = tt
+same_ahead (Some x) = refl
+
+pub gives_none : (x : Option (List ℕ)) (buffer : List ℕ) → GivesPiece (Known 0) Done x x buffer 0
+gives_none x buffer = record {
+  few = omega arith;
+  goes = record { used = []; consumes = same_ahead x; steps = known_end; within = tt };
+  ends = λ none. refl;
+  room = omega arith;
+}
+
+pub gives_done : (x : Option (List ℕ)) (buffer : List ℕ) → GivesPiece Done Done x x buffer 0
+gives_done x buffer = record {
+  few = omega arith;
+  goes = record {
+    used = [];
+    consumes = same_ahead x;
+    steps = record {
+      on = λ rest content behind y. y;
+      back = λ rest content behind y none. none content behind y;
+      past_on = λ rest p. p;
+      past_back = λ rest p. p;
+    };
+    within = tt;
+  };
+  ends = λ none. refl;
+  room = omega arith;
+}
+
+-- ---- the whole call
+
+framed_ahead : (a b : BodyLeft) (x y : Option (List ℕ)) (piece : List ℕ) → GoesTo a b x y piece
+    → IfAhead x y (λ bytes rest. (framing : BodyFraming) → BodyFramed b rest framing → BodyFramed a bytes (behind_data piece framing))
+framed_ahead a b None y piece s = tt
+framed_ahead a b (Some x) None piece s = absurd s.consumes
+framed_ahead a b (Some x) (Some y) piece s = λ framing framed.
+    subst (λ bytes. BodyFramed a bytes (behind_data piece framing)) (sym s.consumes) (framed_on a b s.used piece s.steps y framing framed)
+
+ended_here : (a : BodyLeft) (x y : Option (List ℕ)) → GoesTo a Done x y [] → IfAhead x y (λ bytes rest. BodyFramed a bytes (body [] rest))
+ended_here a None y s = tt
+ended_here a (Some x) None s = absurd s.consumes
+ended_here a (Some x) (Some y) s =
+    subst (λ bytes. BodyFramed a bytes (body [] y)) (sym s.consumes)
+    (framed_on a Done s.used [] s.steps y (body [] y) (([], (refl, refl), refl), λ p. p))
+
+pub gives_behind : (a b c d : BodyLeft) (x y z v : Option (List ℕ)) (buffer : List ℕ) (count : ℕ) → PassesTo a b x y → PassesTo b c y z
+    → GivesPiece c d z v buffer count → GivesPiece a d x v buffer count
+gives_behind a b c d x y z v buffer count first second gives = record {
+  few = gives.few;
+  goes = goes_joined a c d x z v [] (take count buffer) (goes_joined a b c x y z [] [] first.goes second.goes) gives.goes;
+  ends = gives.ends;
+  room = let one = first.room in let two = second.room in let three = gives.room in omega arith;
+}
+
+pub piece_ahead : (a d : BodyLeft) (x v left : Option (List ℕ)) (buffer : List ℕ) (count : ℕ) → GivesPiece a d x v buffer count
+    → ReadsAPiece a d x v left buffer (Ok count)
+piece_ahead a d x v left buffer count gives = (
+  gives.few,
+  λ none. ended_here a x v (subst (λ n. GoesTo a Done x v (take n buffer)) none
+      (subst (λ e. GoesTo a e x v (take count buffer)) (gives.ends none) gives.goes)),
+  framed_ahead a d x v (take count buffer) gives.goes,
+)
+
+-- ---- pieces one after the other
+
+pub begins_empty : (a : BodyLeft) (x : Option (List ℕ)) → IsWithinLimit a → GoesTo a a x x []
+begins_empty a x within = record {
+  used = [];
+  consumes = same_ahead x;
+  steps = record {
+    on = λ rest content behind y. y;
+    back = λ rest content behind y none. none content behind y;
+    past_on = λ rest p. p;
+    past_back = λ rest p. p;
+  };
+  within = within;
+}
+
+pub whole_body : (a b d : BodyLeft) (x y z : Option (List ℕ)) (before buffer : List ℕ) (count : ℕ) → count ≡ 0 → GoesTo a b x y before
+    → GivesPiece b d y z buffer count → GoesTo a Done x z before
+whole_body a b d x y z before buffer count none goes gives =
+    subst (λ s. GoesTo a Done x z s) (append-nil before) (subst (λ n. GoesTo a Done x z (before ++ take n buffer)) none
+    (subst (λ e. GoesTo a e x z (before ++ take count buffer)) (gives.ends none) (goes_joined a b d x y z before (take count buffer) goes gives.goes)))
+
+pub more_body : (a b d : BodyLeft) (x y z : Option (List ℕ)) (before now buffer : List ℕ) (count : ℕ) → now ≡ before ++ take count buffer
+    → GoesTo a b x y before → GivesPiece b d y z buffer count → GoesTo a d x z now
+more_body a b d x y z before now buffer count e goes gives =
+    subst (λ s. GoesTo a d x z s) (sym e) (goes_joined a b d x y z before (take count buffer) goes gives.goes)
+
+-- no bytes are refused as a failed read
+pub never_fault : (before : BodyLeft) (h : List ℕ) (why : HttpRefusal) → IsErrOf {T = Unit {0}} {E = HttpRefusal} (Err why) ReadFault → SeesPlace before h (Err why) → ⊥
+never_fault before h why e sees =
+    let same : why ≡ ReadFault = cc in
+    subst (λ w. BodyFramed before (h ++ []) (body_refused w)) same (sees [])
+
+-- data from the bytes held
+pub held_gives : (most n : ℕ) (l : Option (List ℕ)) (h k xs ys : List ℕ) → 0 < n → n ≤ most → n ≤ piece_limit → n ≤ length h → k ≡ drop n h
+    → xs ≡ take n h → Gives most (prepend_known h l) (prepend_known k l) l (xs ++ ys) (Ok n)
+held_gives most n l h k xs ys some within few inside e f =
+    let long : n ≡ length xs = sym (ap length f ∙ length-take-le n h inside) in
+    let front : take n h ≡ take n (xs ++ ys) = sym f ∙ sym (take-append_seam xs ys) ∙ ap (λ i. take i (xs ++ ys)) (sym long) in (
+      some,
+      within,
+      few,
+      subst (λ t. Consumes (prepend_known h l) (prepend_known k l) t) front
+          (subst (λ d. Consumes (prepend_known h l) (prepend_known d l) (take n h)) (sym e) (consumed (prepend_known h l) l h n (ahead_same l h))),
+    )

@@ -1,0 +1,14 @@
+-- The bytes ahead are the same, held or left.
+use Rattle.std.proofs.Common.{◌≤◌, ◌-◌, length}
+use Rattle.std.specs.Io.KnownBytes.{prepend_known, Keeps}
+use Rattle.sm_http.specs.Limits.{head_limit}
+use Rattle.sm_http.proofs.piece.pass_place.Given as goal
+
+abbrev pub invariant-loop-used : goal.invariant-loop-used
+invariant-loop-used g l = record {
+  kept : Keeps (prepend_known l.fn.held (g.S.Source.left l.fn.source)) (prepend_known l.held (g.S.Source.left l.source));
+  faults : g.S.Source.faults l.fn.source ≤ g.S.Source.faults l.source;
+}
+
+abbrev pub decreases-loop-used : goal.decreases-loop-used
+decreases-loop-used g l = head_limit - length l.held
