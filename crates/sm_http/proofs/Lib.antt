@@ -21,3 +21,5 @@ mod BodyEnds
 mod PlacesSeen
 mod ReadingPieces
 mod ReadingMessages
+mod Phrases
+mod Printed

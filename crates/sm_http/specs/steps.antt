@@ -8,3 +8,4 @@ pub mod SizeLines
 pub mod Trailers
 pub mod Places
 pub mod Passing
+pub mod Printing

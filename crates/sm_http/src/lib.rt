@@ -17,9 +17,11 @@ mod refusal;
 mod see;
 mod size_line;
 mod trailers;
+mod write;
 
 pub use held::Held;
 pub use message::{BodyLeft, Field, FieldList, Head, Message, Protocol, Side, Start};
 pub use piece::read_piece;
 pub use read::{read_head, read_message};
 pub use refusal::HttpRefusal;
+pub use write::{message_len, write_message};
