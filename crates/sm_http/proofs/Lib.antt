@@ -21,5 +21,6 @@ mod BodyEnds
 mod PlacesSeen
 mod ReadingPieces
 mod ReadingMessages
+mod FillingLines
 mod Phrases
 mod Printed

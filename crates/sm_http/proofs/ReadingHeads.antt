@@ -199,7 +199,7 @@ ended_ahead side a n l r h k kept fills some short sees =
     (part_ended side h (subst (λ x. 0 < length x) held some) short sees)
 
 -- the source failed
-open_part : (side : Side) (h : List ℕ) → length h < head_limit → SeesHead side h (Ok Part) → IsOpenHead side h
+pub open_part : (side : Side) (h : List ℕ) → length h < head_limit → SeesHead side h (Ok Part) → IsOpenHead side h
 open_part side [] short sees = inl refl
 open_part side (b ∷ h) short sees = inr (part_ended side (b ∷ h) (omega arith) short sees)
 

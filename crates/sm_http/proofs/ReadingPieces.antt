@@ -66,7 +66,7 @@ sees_at before s h r q e f sees = subst (λ x. SeesPlace before h x) f (subst (�
 
 -- ---- calls one after the other
 
-consumes_joined : (a b c : Option (List ℕ)) (u v : List ℕ) → Consumes a b u → Consumes b c v → Consumes a c (u ++ v)
+pub consumes_joined : (a b c : Option (List ℕ)) (u v : List ℕ) → Consumes a b u → Consumes b c v → Consumes a c (u ++ v)
 consumes_joined None b c u v x y = tt
 consumes_joined (Some a) None c u v x y = absurd x
 consumes_joined (Some a) (Some b) None u v x y = absurd y
@@ -174,7 +174,7 @@ gives_data most total count x y left buffer within room said =
       room = omega (arith, said.1);
     }
 
-same_ahead : (x : Option (List ℕ)) → Consumes x x []
+pub same_ahead : (x : Option (List ℕ)) → Consumes x x []
 same_ahead None = tt
 same_ahead (Some x) = refl
 

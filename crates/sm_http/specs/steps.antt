@@ -9,3 +9,4 @@ pub mod Trailers
 pub mod Places
 pub mod Passing
 pub mod Printing
+pub mod Looking

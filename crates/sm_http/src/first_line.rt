@@ -17,8 +17,8 @@ impl ByteClass for LineBytes {
     }
 }
 
-// Whether an LF stands in the bytes.
-fn has_line_feed(bytes: &[u8]) -> bool
+/// Whether an LF stands in the bytes.
+pub fn has_line_feed(bytes: &[u8]) -> bool
     ensures { result ≡ has_line_feed bytes.now }
 {
     bytes.iter().any(|byte| *byte == b'\n')

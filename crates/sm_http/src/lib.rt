@@ -9,6 +9,7 @@ mod held;
 pub mod laws;
 mod limits;
 mod line;
+mod look;
 mod message;
 mod piece;
 mod place;

@@ -9,9 +9,9 @@ ghost use Rattle.sm_http.specs.steps.Passing.{TakesBody};
 use crate::HttpRefusal;
 use crate::held::{Held, Unfilled};
 use crate::limits::{HEAD_LIMIT, PIECE_LIMIT};
+use crate::look::{fill_line, look};
 use crate::message::{BodyLeft, Head, Message, Side};
 use crate::piece::next_piece;
-use crate::see::{Seen, see_head};
 use sm_io::Source;
 use sm_tree::Bytes;
 use std::alloc::{AllocError, Global};
@@ -31,18 +31,15 @@ pub fn read_head<S: Source>(
     ensures cause { HasCause (IsErrOf result HttpRefusal.ReadFault) (S.faults source.old) (S.faults source.new) }
 {
     loop {
-        match see_head(alloc, side, held.as_slice()) {
-            Ok(Seen::Whole(found, left)) => {
-                held.advance(found.len);
-                return Ok(Some((found.head, left)));
-            }
-            Ok(Seen::Part) => {}
+        match look(alloc, held, side) {
+            Ok(Some(found)) => return Ok(Some(found)),
+            Ok(None) => {}
             Err(refusal) => return Err(refusal),
         }
         if held.as_slice().len() == HEAD_LIMIT {
             return Err(HttpRefusal::HeadTooLarge);
         }
-        match held.fill(source) {
+        match fill_line(source, held) {
             Ok(0) => {
                 return if held.len() == 0 {
                     Ok(None)
@@ -51,7 +48,13 @@ pub fn read_head<S: Source>(
                 };
             }
             Ok(_) => {}
-            Err(Unfilled::Failed) => return Err(HttpRefusal::ReadFault),
+            Err(Unfilled::Failed) => {
+                return match look(alloc, held, side) {
+                    Ok(Some(found)) => Ok(Some(found)),
+                    Ok(None) => Err(HttpRefusal::ReadFault),
+                    Err(refusal) => Err(refusal),
+                };
+            }
             Err(Unfilled::NoMemory) => return Err(HttpRefusal::NoMemory),
         }
     }
