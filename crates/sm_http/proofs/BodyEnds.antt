@@ -1,8 +1,8 @@
 -- Where a body ends: the last line and the trailers; and where it is refused, or the bytes end.
 use Rattle.std.proofs.Common.{◌≡◌, ℕ, zero, suc, ◌+◌, ◌<◌, ◌≤◌, List, [], ◌∷◌, ◌++◌, length, replicate, refl, sym, ap, subst, ◌∙◌, arith, append_assoc, append-nil}
 use Rattle.std.specs.Prelude.{All}
-use Rattle.std.proofs.lemmas.List.{length-append, length-replicate}
-use Rattle.std.proofs.lemmas.List.Elements.{All-head, All-tail, All-cons, All-nil}
+use Rattle.std.proofs.lemmas.List.{length-replicate}
+use Rattle.std.proofs.lemmas.List.Elements.{All-head, All-nil}
 use Rattle.httparse.specs.Ascii.{crlf_bytes}
 use Rattle.httparse.specs.Grammar.{ChunkLine, print_chunk_line, chunk_size}
 use Rattle.httparse.proofs.ChunkLemmas.{chunk_line_unique}
@@ -10,15 +10,14 @@ use Rattle.sm_http.specs.declared.message.BodyLeft.{BodyLeft}
 use Rattle.sm_http.specs.declared.message.BodyLeft.TheVariants.{Known, Size, Data, Done}
 use Rattle.sm_http.specs.declared.refusal.HttpRefusal.TheVariants.{Ended, TooLong}
 use Rattle.sm_http.specs.declared.refusal.HttpRefusal.TheVariants.{Chunk as BadChunk}
-use Rattle.sm_http.specs.Limits.{body_limit, trailer_limit}
+use Rattle.sm_http.specs.Limits.{body_limit}
 use Rattle.sm_http.specs.Chunks.{IsSizeLine, Chunk, IsChunk, IsTrailer, ChunkedText, print_chunks, print_trailers, print_chunked, IsChunkedText, chunks_data, PassesLimit}
-use Rattle.sm_http.specs.Bodies.{HasBody, HasNoBody, NeverHasBody, IsPastLimit, body_refused, BodyFramed}
+use Rattle.sm_http.specs.Bodies.{HasBody, NeverHasBody, body_refused, BodyFramed}
 use Rattle.sm_http.specs.steps.SizeLines.{HasNoSize, NeverHasSize, MayBecomeSize}
 use Rattle.sm_http.specs.steps.Trailers.{ReadsTrailers, HasNoTrailers, NeverHasTrailers, MayBecomeTrailers}
 use Rattle.sm_http.specs.steps.Places.{Steps}
 use Rattle.sm_http.proofs.Cuts.{left_empty, right_empty}
 use Rattle.sm_http.proofs.OneChunked.{behind_line, behind_chunk, behind_text, no_chunk}
-use Rattle.sm_http.proofs.OneBody.{body_unique}
 use Rattle.sm_http.proofs.SizesSeen.{zero_line}
 use Rattle.sm_http.proofs.BodySteps.{end_begins, past_begins, size_on}
 

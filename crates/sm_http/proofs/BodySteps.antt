@@ -1,24 +1,20 @@
 -- Steps from one place in a body to the next, and what bytes come to where a body ends or is refused.
-use Rattle.std.proofs.Common.{◌≡◌, ℕ, zero, suc, ◌+◌, ◌<◌, ◌≤◌, List, [], ◌∷◌, ◌++◌, length, replicate, refl, sym, ap, subst, ◌∙◌, arith, append_assoc, append-nil}
+use Rattle.std.proofs.Common.{◌≡◌, ℕ, ◌+◌, ◌<◌, ◌≤◌, List, [], ◌∷◌, ◌++◌, length, refl, sym, ap, subst, ◌∙◌, arith, append_assoc}
 use Rattle.std.specs.Prelude.{All}
-use Rattle.std.proofs.lemmas.List.{length-append, length-replicate}
-use Rattle.std.proofs.lemmas.List.Elements.{All-head, All-tail, All-cons, All-nil}
+use Rattle.std.proofs.lemmas.List.{length-append}
+use Rattle.std.proofs.lemmas.List.Elements.{All-head, All-tail, All-cons}
 use Rattle.httparse.specs.Ascii.{crlf_bytes}
 use Rattle.httparse.specs.Grammar.{ChunkLine, print_chunk_line, chunk_size}
 use Rattle.httparse.proofs.ChunkLemmas.{chunk_line_unique}
 use Rattle.sm_http.specs.declared.message.BodyLeft.{BodyLeft}
-use Rattle.sm_http.specs.declared.message.BodyLeft.TheVariants.{Known, Size, Data, Done}
+use Rattle.sm_http.specs.declared.message.BodyLeft.TheVariants.{Known, Size, Data}
 use Rattle.sm_http.specs.declared.refusal.HttpRefusal.TheVariants.{ReadFault, Ended, HeadTooLarge, Coding, Length, TooLong, NoMemory}
 use Rattle.sm_http.specs.declared.refusal.HttpRefusal.TheVariants.{Head as BadHead, Chunk as BadChunk}
-use Rattle.sm_http.specs.Limits.{body_limit, trailer_limit}
-use Rattle.sm_http.specs.Chunks.{IsSizeLine, Chunk, print_chunk, IsChunk, IsTrailer, ChunkedText, print_chunks, print_trailers, print_chunked, IsChunkedText, chunks_data, PassesLimit}
-use Rattle.sm_http.specs.Bodies.{BodyText, HasBody, HasNoBody, NeverHasBody, IsPastLimit, BodyFraming, body, body_refused, BodyFramed, behind_data}
-use Rattle.sm_http.specs.steps.SizeLines.{HasNoSize, NeverHasSize, MayBecomeSize}
-use Rattle.sm_http.specs.steps.Trailers.{ReadsTrailers, HasNoTrailers, NeverHasTrailers, MayBecomeTrailers}
+use Rattle.sm_http.specs.Limits.{body_limit}
+use Rattle.sm_http.specs.Chunks.{IsSizeLine, Chunk, print_chunk, IsChunk, ChunkedText, print_chunks, print_trailers, print_chunked, IsChunkedText, chunks_data, PassesLimit}
+use Rattle.sm_http.specs.Bodies.{HasBody, HasNoBody, IsPastLimit, BodyFraming, body, body_refused, BodyFramed, behind_data}
 use Rattle.sm_http.specs.steps.Places.{Steps}
-use Rattle.sm_http.proofs.OneChunked.{behind_line, behind_chunk, behind_text, no_chunk}
-use Rattle.sm_http.proofs.OneBody.{body_unique}
-use Rattle.sm_http.proofs.SizesSeen.{zero_line}
+use Rattle.sm_http.proofs.OneChunked.{behind_line, behind_text}
 
 -- ---- what a step carries
 

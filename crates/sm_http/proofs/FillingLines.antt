@@ -1,13 +1,12 @@
 -- Fills one after the other.
-use Rattle.std.proofs.Common.{◌≡◌, ℕ, zero, suc, ◌+◌, ◌<◌, ◌≤◌, List, [], ◌++◌, length, drop, refl, sym, ap, subst, ◌∙◌, arith, append_assoc, append-nil, Option, Some, None, Ok, Err}
+use Rattle.std.proofs.Common.{◌≡◌, ℕ, ◌+◌, ◌<◌, ◌≤◌, List, [], ◌++◌, length, refl, sym, ap, subst, ◌∙◌, arith, append_assoc, append-nil, Option, Some, None, Ok, Err}
 use Rattle.std.specs.Prelude.{Result}
 use Rattle.std.proofs.lemmas.List.{length-append}
-use Rattle.std.specs.Io.KnownBytes.{prepend_known, Consumes, Keeps, IsAtEnd}
+use Rattle.std.specs.Io.KnownBytes.{prepend_known, Consumes, Keeps}
 use Rattle.sm_http.specs.declared.message.Head.{Head}
 use Rattle.sm_http.specs.declared.message.BodyLeft.{BodyLeft}
 use Rattle.sm_http.specs.declared.message.Side.{Side}
-use Rattle.sm_http.specs.declared.held.Unfilled.TheVariants.{Failed, NoMemory}
-use Rattle.sm_http.specs.declared.see.Seen.TheVariants.{Whole, Part}
+use Rattle.sm_http.specs.declared.held.Unfilled.TheVariants.{Failed}
 use Rattle.sm_http.specs.Limits.{head_limit}
 use Rattle.sm_http.specs.declared.held.Unfilled.{Unfilled}
 use Rattle.sm_http.specs.declared.refusal.HttpRefusal.{HttpRefusal}

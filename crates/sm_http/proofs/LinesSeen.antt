@@ -1,5 +1,5 @@
 -- Where the run of a line's text ends, and what that says of the line.
-use Rattle.std.proofs.Common.{◌≡◌, ℕ, ◌+◌, ◌<◌, ◌≤◌, Bool, true, false, List, [], ◌∷◌, ◌++◌, length, take, drop, get_or, refl, sym, ap, ◌∙◌, subst, arith, append_assoc, inl, inr}
+use Rattle.std.proofs.Common.{◌≡◌, ℕ, ◌+◌, ◌<◌, Bool, true, false, List, ◌∷◌, ◌++◌, length, take, drop, get_or, refl, sym, ap, ◌∙◌, subst, arith, append_assoc, inl, inr}
 use Rattle.std.proofs.lemmas.List.{take-append-drop, drop_more, drop_all, take_all}
 use Rattle.std.proofs.lemmas.List.Elements.{All-cons, All-nil}
 use Rattle.std.proofs.lemmas.List.Sums.{prefix_len_stops}
@@ -8,7 +8,7 @@ use Rattle.httparse.specs.Grammar.{is_extension_byte, AllPass}
 use Rattle.httparse.proofs.RunLemmas.{run_unique}
 use Rattle.sm_bytes.proofs.Runs.{of_run}
 use Rattle.sm_http.specs.declared.line.SeenLine.TheVariants.{Whole, Part, Never}
-use Rattle.sm_http.specs.steps.Lines.{ReadsLine, NeverHasLine, IsLinePart, SeesLine}
+use Rattle.sm_http.specs.steps.Lines.{ReadsLine, SeesLine}
 
 -- the bytes of a run pass, and the byte behind it doesn't
 pub run_passes : (p : ℕ → Bool) (xs : List ℕ) (n : ℕ) → n ≡ prefix_len p xs → AllPass p (take n xs)

@@ -4,10 +4,9 @@ use Rattle.std.proofs.Common.{true≢false, eq-eqb}
 use Rattle.std.specs.Cmp.{both_ways}
 use Rattle.std.specs.Cmp.Lexicographic.{pointwise}
 use Rattle.sm_tree.proofs.Equal.{bytes_equal_is}
-use Rattle.std.specs.Prelude.{◌==◌, if◌then◌else◌, nat_le, nat_eq}
+use Rattle.std.specs.Prelude.{if◌then◌else◌, nat_le, nat_eq}
 use Rattle.std.proofs.lemmas.Bool.{leb-true, leb-false, eqb-true}
 use Rattle.std.proofs.lemmas.Bool.Decides.{nat_tests}
-use Rattle.std.proofs.lemmas.List.{length-append}
 use Rattle.std.proofs.lemmas.List.Folds.{list_all_at}
 use Rattle.std.proofs.lemmas.Int.Digits.{digits_value_more}
 use Rattle.std.proofs.lemmas.Str.Parse.{digits_value-take-le}

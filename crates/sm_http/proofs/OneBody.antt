@@ -1,12 +1,12 @@
 -- What follows a head comes to one answer.
-use Rattle.std.proofs.Common.{◌≡◌, ℕ, List, [], ◌∷◌, ◌++◌, length, refl, sym, ap, ◌∙◌, append-nil}
+use Rattle.std.proofs.Common.{◌≡◌, ℕ, List, [], ◌++◌, refl, sym, ap, ◌∙◌, append-nil}
 use Rattle.sm_http.specs.declared.message.BodyLeft.{BodyLeft}
 use Rattle.sm_http.specs.declared.message.BodyLeft.TheVariants.{Known, Size, Data, Done}
 use Rattle.sm_http.specs.declared.refusal.HttpRefusal.{HttpRefusal}
 use Rattle.sm_http.specs.declared.refusal.HttpRefusal.TheVariants.{ReadFault, Ended, HeadTooLarge, Coding, Length, TooLong, Chunk, NoMemory}
 use Rattle.sm_http.specs.declared.refusal.HttpRefusal.TheVariants.{Head as BadHead}
 use Rattle.sm_http.specs.Chunks.{print_chunked, chunks_data}
-use Rattle.sm_http.specs.Bodies.{HasBody, BodyFraming, body, body_refused, BodyFramed}
+use Rattle.sm_http.specs.Bodies.{HasBody, body, body_refused, BodyFramed}
 use Rattle.sm_http.specs.Laws.{HasOneBody}
 use Rattle.sm_http.proofs.Cuts.{same_cut}
 use Rattle.sm_http.proofs.OneChunked.{behind_line, chunked_unique}

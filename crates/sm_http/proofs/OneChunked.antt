@@ -1,5 +1,5 @@
 -- Bytes begin with at most one chunked text.
-use Rattle.std.proofs.Common.{◌≡◌, ℕ, ◌<◌, ◌≤◌, true, false, List, [], ◌∷◌, ◌++◌, length, refl, sym, ap, ◌∙◌, subst, arith, append_assoc}
+use Rattle.std.proofs.Common.{◌≡◌, ℕ, ◌<◌, true, List, [], ◌∷◌, ◌++◌, length, refl, sym, ap, ◌∙◌, subst, arith, append_assoc}
 use Rattle.std.proofs.Common.{true≢false}
 use Rattle.std.specs.Prelude.{All}
 use Rattle.std.proofs.lemmas.List.Elements.{All-head, All-tail}
@@ -7,7 +7,7 @@ use Rattle.httparse.specs.Ascii.{crlf_bytes}
 use Rattle.httparse.specs.Grammar.{is_extension_byte, ChunkLine, print_chunk_line, chunk_size}
 use Rattle.httparse.proofs.ChunkLemmas.{chunk_line_unique}
 use Rattle.httparse.proofs.RunLemmas.{run_unique}
-use Rattle.sm_http.specs.Chunks.{IsSizeLine, Chunk, print_chunk, IsChunk, IsTrailer, ChunkedText, print_chunks, print_trailers, print_chunked, IsChunkedText, chunks_data}
+use Rattle.sm_http.specs.Chunks.{IsSizeLine, Chunk, IsChunk, IsTrailer, ChunkedText, print_chunks, print_trailers, print_chunked, IsChunkedText, chunks_data}
 use Rattle.sm_http.proofs.Cuts.{same_cut}
 
 -- ---- how printed parts stand one behind the other

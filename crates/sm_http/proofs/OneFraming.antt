@@ -1,12 +1,12 @@
 -- Bytes come to one answer.
-use Rattle.std.proofs.Common.{◌≡◌, ℕ, List, refl, sym, ap, ◌∙◌, subst, inl, inr}
+use Rattle.std.proofs.Common.{◌≡◌, ℕ, List, refl, ap, ◌∙◌, subst, inl, inr}
 use Rattle.sm_http.specs.declared.message.Head.{Head}
 use Rattle.sm_http.specs.declared.message.Message.{Message}
 use Rattle.sm_http.specs.declared.message.Side.{Side}
 use Rattle.sm_http.specs.declared.refusal.HttpRefusal.{HttpRefusal}
 use Rattle.sm_http.specs.BodyFields.{body_begin}
 use Rattle.sm_http.specs.Bodies.{BodyFraming, body, body_refused, BodyFramed}
-use Rattle.sm_http.specs.Framed.{HeadFraming, no_head, head, head_refused, HeadFramed, Framing, no_message, message, message_refused, Framed}
+use Rattle.sm_http.specs.Framed.{no_head, head, head_refused, HeadFramed, no_message, message, message_refused, Framed}
 use Rattle.sm_http.specs.Laws.{HasOneFraming}
 use Rattle.sm_http.proofs.OneHead.{one_head}
 use Rattle.sm_http.proofs.OneBody.{one_body}

@@ -1,7 +1,7 @@
 -- The bytes of a side come to one head, or to one word.
-use Rattle.std.proofs.Common.{◌≡◌, ℕ, ◌<◌, ◌≤◌, ◌+◌, ◌-◌, true, false, List, [], ◌∷◌, ◌++◌, length, take, refl, sym, ap, ◌∙◌, subst, arith, append-nil, append_assoc, inl, inr, Option, Some, None, ◌⊎◌}
+use Rattle.std.proofs.Common.{◌≡◌, ℕ, true, List, [], ◌∷◌, length, take, refl, sym, ap, ◌∙◌, subst, arith, append-nil, inl, inr, Option, Some, None, ◌⊎◌}
 use Rattle.std.proofs.Common.{true≢false}
-use Rattle.httparse.specs.Grammar.{RequestHead, print_request, ReadsRequest, ResponseHead, print_response, ReadsResponse, print_blank, print_version}
+use Rattle.httparse.specs.Grammar.{print_request, print_response, print_blank, print_version}
 use Rattle.httparse.proofs.GrammarLemmas.{request_unique, response_unique, print_request-append, print_response-append}
 use Rattle.sm_http.specs.declared.message.Side.{Side}
 use Rattle.sm_http.specs.declared.message.Side.TheVariants.{Request as of_requests, Response as of_responses}
@@ -9,11 +9,11 @@ use Rattle.sm_http.specs.declared.refusal.HttpRefusal.{HttpRefusal}
 use Rattle.sm_http.specs.declared.refusal.HttpRefusal.TheVariants.{ReadFault, Ended, HeadTooLarge, Coding, Length, TooLong, Chunk, NoMemory}
 use Rattle.sm_http.specs.declared.refusal.HttpRefusal.TheVariants.{Head as BadHead}
 use Rattle.sm_http.specs.Limits.{head_limit}
-use Rattle.sm_http.specs.Heads.{HeadText, request_text, response_text, ReadsHead, HasNoHead, NeverHasHead, HeadStands, IsNoHead, AwaitsHead, has_first_line}
+use Rattle.sm_http.specs.Heads.{HeadText, request_text, response_text, ReadsHead, HasNoHead, NeverHasHead, HeadStands, has_first_line}
 use Rattle.sm_http.specs.BodyFields.{head_refusal}
-use Rattle.sm_http.specs.Framed.{HeadFraming, no_head, head, head_refused, RefusesPart, RefusesWhole, HeadFramed}
+use Rattle.sm_http.specs.Framed.{no_head, head, head_refused, RefusesPart, RefusesWhole}
 use Rattle.sm_http.specs.Laws.{HasOneHead}
-use Rattle.sm_http.proofs.Cuts.{cut_behind, left_empty, right_empty}
+use Rattle.sm_http.proofs.Cuts.{cut_behind, right_empty}
 
 -- bytes begin with one head at most
 pub head_unique : (side : Side) (bytes : List ℕ) (t u : HeadText) (r q : List ℕ) → ReadsHead side bytes t r

@@ -1,23 +1,22 @@
 -- What size lines, trailers and line ends that are seen say of the place behind them.
-use Rattle.std.proofs.Common.{◌≡◌, ℕ, zero, suc, ◌+◌, ◌-◌, ◌<◌, ◌≤◌, List, [], ◌∷◌, ◌++◌, length, take, drop, get_or, refl, sym, ap, subst, ◌∙◌, arith, append_assoc, Ok, Err}
+use Rattle.std.proofs.Common.{◌≡◌, ℕ, zero, suc, ◌+◌, ◌<◌, ◌≤◌, List, [], ◌∷◌, ◌++◌, length, take, drop, get_or, refl, sym, ap, subst, ◌∙◌, arith, append_assoc, Ok, Err}
 use Rattle.std.proofs.lemmas.List.{length-append, length-drop, length-take-le, take-append-drop}
 use Rattle.std.proofs.Math.Seq.{take-add}
-use Rattle.httparse.specs.Ascii.{crlf_bytes}
-use Rattle.httparse.specs.Grammar.{ChunkLine, print_chunk_line, chunk_size}
+use Rattle.httparse.specs.Grammar.{print_chunk_line}
 use Rattle.sm_http.specs.declared.message.BodyLeft.{BodyLeft}
-use Rattle.sm_http.specs.declared.message.BodyLeft.TheVariants.{Known, Size, Data, Done}
+use Rattle.sm_http.specs.declared.message.BodyLeft.TheVariants.{Size, Data, Done}
 use Rattle.sm_http.specs.declared.refusal.HttpRefusal.TheVariants.{Ended, TooLong}
 use Rattle.sm_http.specs.declared.refusal.HttpRefusal.TheVariants.{Chunk as BadChunk}
 use Rattle.sm_http.specs.declared.place.SeenPlace.TheVariants.{Next, Part}
 use Rattle.sm_http.specs.declared.trailers.SeenTrailers.TheVariants as trailers
-use Rattle.sm_http.specs.Limits.{body_limit, head_limit}
+use Rattle.sm_http.specs.Limits.{body_limit}
 use Rattle.sm_http.specs.Chunks.{print_trailers}
 use Rattle.sm_http.specs.Bodies.{body_refused, BodyFramed}
 use Rattle.sm_http.specs.Calls.{IsWithinLimit}
 use Rattle.sm_http.specs.steps.SizeLines.{HasNoSize, NeverHasSize, MayBecomeSize, ReadsSize}
 use Rattle.sm_http.specs.steps.Trailers.{ReadsTrailers, SeesTrailers}
 use Rattle.sm_http.specs.steps.Places.{Steps}
-use Rattle.sm_http.specs.steps.Passing.{lines_before, Leads, SeesPlace}
+use Rattle.sm_http.specs.steps.Passing.{lines_before, SeesPlace}
 use Rattle.sm_http.proofs.Cuts.{same_cut}
 use Rattle.sm_http.proofs.LinesSeen.{same_first, same_rest}
 use Rattle.sm_http.proofs.BodySteps.{end_step, size_step}

@@ -1,10 +1,9 @@
 -- The written text is its parts, one after the other.
-use Rattle.std.proofs.Common.{◌≡◌, ℕ, ◌+◌, List, [], ◌∷◌, ◌++◌, length, map, refl, sym, ap, ◌∙◌, append_assoc, append-nil, Some}
+use Rattle.std.proofs.Common.{◌≡◌, ℕ, List, [], ◌∷◌, ◌++◌, map, refl, sym, ap, ◌∙◌, append_assoc, Some}
 use Rattle.std.specs.Prelude.{codes, decimal}
 use Rattle.std.specs.List.{flat_map}
-use Rattle.std.proofs.lemmas.List.{length-append}
 use Rattle.httparse.specs.Ascii.{crlf_bytes}
-use Rattle.httparse.specs.Grammar.{crlf, print_field, print_request, print_response}
+use Rattle.httparse.specs.Grammar.{crlf, print_field}
 use Rattle.httparse.proofs.GrammarLemmas.{print_request-append, print_response-append}
 use Rattle.sm_http.specs.declared.message.Field.{Field}
 use Rattle.sm_http.specs.declared.message.Message.{Message}

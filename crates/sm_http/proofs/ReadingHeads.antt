@@ -1,9 +1,9 @@
 -- From what is seen of the bytes held to what the bytes ahead come to.
-use Rattle.std.proofs.Common.{◌≡◌, ℕ, zero, ◌+◌, ◌-◌, ◌<◌, ◌≤◌, Bool, true, false, List, [], ◌∷◌, ◌++◌, length, take, drop, refl, sym, ap, ◌∙◌, subst, arith, append-nil, append_assoc, inl, inr, ◌⊎◌, Option, Some, None, Ok, Err}
+use Rattle.std.proofs.Common.{◌≡◌, ℕ, ◌+◌, ◌-◌, ◌<◌, ◌≤◌, Bool, true, false, List, [], ◌∷◌, ◌++◌, length, take, drop, refl, sym, ap, ◌∙◌, subst, arith, append-nil, append_assoc, inl, inr, Option, Some, None, Ok, Err}
 use Rattle.std.specs.Prelude.{IfSome, if◌then◌else◌, Result}
-use Rattle.std.proofs.lemmas.List.{length-append, length-drop, take_all}
+use Rattle.std.proofs.lemmas.List.{length-append, take_all}
 use Rattle.std.proofs.Math.Seq.{take-append-add, take-append_seam}
-use Rattle.std.specs.Io.KnownBytes.{prepend_known, Consumes, Keeps, IsAtEnd}
+use Rattle.std.specs.Io.KnownBytes.{prepend_known, Consumes, Keeps}
 use Rattle.httparse.proofs.GrammarLemmas.{ReadsRequest-append, ReadsResponse-append}
 use Rattle.sm_http.specs.declared.message.Side.{Side}
 use Rattle.sm_http.specs.declared.message.Side.TheVariants.{Request as of_requests, Response as of_responses}
@@ -16,10 +16,9 @@ use Rattle.sm_http.specs.declared.see.Seen.{Seen}
 use Rattle.sm_http.specs.declared.see.Seen.TheVariants.{Whole, Part}
 use Rattle.sm_http.specs.declared.held.Unfilled.{Unfilled}
 use Rattle.sm_http.specs.Limits.{head_limit}
-use Rattle.sm_http.specs.Heads.{HeadText, ReadsHead, HasNoHead, NeverHasHead, HeadStands, IsNoHead, AwaitsHead, has_first_line, has_line_feed, is_line_byte}
-use Rattle.sm_http.specs.BodyFields.{head_refusal, body_begin}
-use Rattle.sm_http.specs.Framed.{HeadFraming, no_head, head, head_refused, HeadFramed, RefusesPart, RefusesWhole}
-use Rattle.sm_http.specs.Calls.{IfAhead, IfTaken, IsOpenHead, RefusedAs, ReadsAHead}
+use Rattle.sm_http.specs.Heads.{HeadText, ReadsHead, HasNoHead, NeverHasHead, HeadStands, IsNoHead, AwaitsHead, has_first_line}
+use Rattle.sm_http.specs.Framed.{no_head, head, head_refused, HeadFramed}
+use Rattle.sm_http.specs.Calls.{IfAhead, IsOpenHead, ReadsAHead}
 use Rattle.sm_http.specs.steps.Finding.{found_text}
 use Rattle.sm_http.specs.steps.Seeing.{IsLost, RefusesRead, SeesHead}
 use Rattle.sm_http.specs.steps.Holding.{Fills}

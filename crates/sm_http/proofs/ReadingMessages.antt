@@ -1,17 +1,15 @@
 -- From a head and a body to a message.
-use Rattle.std.proofs.Common.{◌≡◌, ℕ, ◌+◌, ◌<◌, ◌≤◌, Bool, true, false, List, [], ◌∷◌, ◌++◌, length, refl, sym, ap, subst, ◌∙◌, arith, append_assoc, append-nil, inl, inr, Option, Some, None, Ok, Err}
-use Rattle.std.specs.Prelude.{IfSome, if◌then◌else◌, nat_lt}
+use Rattle.std.proofs.Common.{◌≡◌, ℕ, ◌+◌, ◌≤◌, Bool, true, false, List, [], ◌∷◌, ◌++◌, length, refl, sym, ap, subst, ◌∙◌, arith, append_assoc, append-nil, inl, inr, Option, Some, None, Ok, Err}
+use Rattle.std.specs.Prelude.{IfSome, if◌then◌else◌}
 use Rattle.std.proofs.lemmas.Bool.{ltb-false}
 use Rattle.std.proofs.lemmas.List.{length-append}
-use Rattle.std.specs.Io.KnownBytes.{Consumes}
 use Rattle.std.specs.Str.Parse.{digits_value}
 use Rattle.httparse.specs.Grammar.{print_request, print_response}
 use Rattle.sm_http.specs.declared.message.Head.{Head}
-use Rattle.sm_http.specs.declared.message.Message.{Message}
 use Rattle.sm_http.specs.declared.message.Side.{Side}
 use Rattle.sm_http.specs.declared.message.Side.TheVariants.{Request as of_requests, Response as of_responses}
 use Rattle.sm_http.specs.declared.message.BodyLeft.{BodyLeft}
-use Rattle.sm_http.specs.declared.message.BodyLeft.TheVariants.{Known, Size, Data, Done}
+use Rattle.sm_http.specs.declared.message.BodyLeft.TheVariants.{Known, Done}
 use Rattle.sm_http.specs.declared.refusal.HttpRefusal.{HttpRefusal}
 use Rattle.sm_http.specs.declared.refusal.HttpRefusal.TheVariants.{ReadFault, Ended, HeadTooLarge, Coding, Length, TooLong, Chunk, NoMemory}
 use Rattle.sm_http.specs.declared.refusal.HttpRefusal.TheVariants.{Head as BadHead}
@@ -19,8 +17,8 @@ use Rattle.sm_http.specs.Limits.{head_limit, body_limit}
 use Rattle.sm_http.specs.Heads.{HeadText, ReadsHead, HeadStands}
 use Rattle.sm_http.specs.BodyFields.{head_refusal, body_begin, told_body, is_past_limit, has_no_body, codings, lengths}
 use Rattle.sm_http.specs.Bodies.{body, body_refused, BodyFramed}
-use Rattle.sm_http.specs.Framed.{no_head, head, head_refused, HeadFramed, no_message, message, message_refused, Framed}
-use Rattle.sm_http.specs.Calls.{IfAhead, IsOpen, IsOpenHead, ReadsAHead, IsWithinLimit, ReadsAMessage}
+use Rattle.sm_http.specs.Framed.{head_refused, HeadFramed, message_refused, Framed}
+use Rattle.sm_http.specs.Calls.{IsOpen, IsOpenHead, ReadsAHead, IsWithinLimit, ReadsAMessage}
 use Rattle.sm_http.specs.steps.Passing.{RefusesBody, GoesTo}
 use Rattle.sm_http.proofs.BodySteps.{framed_on}
 

@@ -1,11 +1,11 @@
 -- From what is seen of the bytes held to what a body from a place on comes to.
-use Rattle.std.proofs.Common.{◌≡◌, ℕ, zero, suc, ◌+◌, ◌-◌, ◌<◌, ◌≤◌, List, [], ◌∷◌, ◌++◌, length, take, drop, refl, sym, ap, subst, ◌∙◌, arith, append_assoc, append-nil, Option, Some, None, Ok, Err}
+use Rattle.std.proofs.Common.{◌≡◌, ℕ, ◌+◌, ◌-◌, ◌<◌, ◌≤◌, List, [], ◌++◌, length, take, drop, refl, sym, ap, subst, ◌∙◌, arith, append_assoc, append-nil, Option, Some, None, Ok, Err}
 use Rattle.std.specs.Prelude.{IfSome, IsErrOf, Result}
 use Rattle.std.proofs.lemmas.List.{length-take-le, take-append-drop}
 use Rattle.std.proofs.Math.Seq.{take-append_seam}
 use Rattle.std.specs.Io.KnownBytes.{prepend_known, Consumes, Keeps}
 use Rattle.sm_http.specs.declared.message.BodyLeft.{BodyLeft}
-use Rattle.sm_http.specs.declared.message.BodyLeft.TheVariants.{Known, Size, Data, Done}
+use Rattle.sm_http.specs.declared.message.BodyLeft.TheVariants.{Known, Data, Done}
 use Rattle.sm_http.specs.declared.refusal.HttpRefusal.{HttpRefusal}
 use Rattle.sm_http.specs.declared.refusal.HttpRefusal.TheVariants.{ReadFault, Ended, HeadTooLarge, Coding, Length, TooLong, Chunk, NoMemory}
 use Rattle.sm_http.specs.declared.refusal.HttpRefusal.TheVariants.{Head as BadHead}
@@ -13,14 +13,13 @@ use Rattle.sm_http.specs.declared.place.SeenPlace.{SeenPlace}
 use Rattle.sm_http.specs.declared.place.SeenPlace.TheVariants.{Next, Part}
 use Rattle.sm_http.specs.Limits.{piece_limit}
 use Rattle.sm_http.specs.Bodies.{HasBody, IsPastLimit, BodyFraming, body, body_refused, BodyFramed, behind_data}
-use Rattle.sm_http.specs.Calls.{IfAhead, IfTaken, RefusedAs, IsWithinLimit, ReadsAPiece}
+use Rattle.sm_http.specs.Calls.{IfAhead, IsWithinLimit, ReadsAPiece}
 use Rattle.sm_http.specs.steps.Holding.{Fills}
 use Rattle.sm_http.specs.steps.Places.{Steps}
-use Rattle.sm_http.specs.steps.Passing.{lines_before, Leads, SeesPlace, RefusesBody, Gives, GoesTo, PassesTo, Passes, GivesPiece, GivesBody}
+use Rattle.sm_http.specs.steps.Passing.{SeesPlace, RefusesBody, Gives, GoesTo, PassesTo, GivesPiece}
 use Rattle.sm_http.proofs.ReadingHeads.{ahead_same, by_some, some_end, taken_ahead}
 use Rattle.sm_http.proofs.BodySteps.{framed_on, known_step, data_step}
-use Rattle.sm_http.proofs.BodyEnds.{known_end, known_open, data_open}
-use Rattle.sm_http.proofs.PlacesSeen.{none_before}
+use Rattle.sm_http.proofs.BodyEnds.{known_end}
 
 -- ---- one call to the next place
 

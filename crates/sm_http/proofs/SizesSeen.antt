@@ -1,5 +1,5 @@
 -- What the line at the start of some bytes says of a size line there.
-use Rattle.std.proofs.Common.{◌≡◌, ℕ, ◌+◌, ◌<◌, ◌≤◌, inl, inr, Bool, true, List, [], ◌∷◌, ◌++◌, length, take, drop, refl, sym, ap, subst, ◌∙◌, arith, append_assoc, append-nil, None, Some}
+use Rattle.std.proofs.Common.{◌≡◌, ℕ, ◌+◌, ◌<◌, ◌≤◌, inl, inr, true, List, [], ◌∷◌, ◌++◌, length, take, drop, refl, sym, ap, subst, ◌∙◌, arith, append_assoc, append-nil, None, Some}
 use Rattle.std.proofs.lemmas.List.{length-append, length-take-le}
 use Rattle.std.proofs.lemmas.List.Elements.{All-cons, All-nil}
 use Rattle.std.specs.Str.Parse.{digits_value}
@@ -10,7 +10,7 @@ use Rattle.sm_http.specs.declared.size_line.SeenSize.TheVariants.{Whole, Part, N
 use Rattle.sm_http.specs.Limits.{size_line_limit}
 use Rattle.sm_http.specs.Chunks.{IsSizeLine}
 use Rattle.sm_http.specs.steps.Lines.{ReadsLine, IsLinePart, SeesLine}
-use Rattle.sm_http.specs.steps.SizeLines.{line_text, digit_count, IsSizeText, SaysSize, HasNoSize, NeverHasSize, MayBecomeSize, ReadsSize, SeesSize}
+use Rattle.sm_http.specs.steps.SizeLines.{line_text, IsSizeText, SaysSize, HasNoSize, MayBecomeSize, SeesSize}
 use Rattle.sm_http.proofs.Cuts.{right_empty}
 use Rattle.sm_http.proofs.SizeTexts.{printed, printed_alone, two_cuts, text_of_line, short_text, line_passes, text_front, line_of, LineOf}
 

@@ -1,5 +1,5 @@
 -- What the line at the start of some bytes says of trailer lines there, and how they are seen one after the other.
-use Rattle.std.proofs.Common.{◌≡◌, ℕ, ◌+◌, ◌<◌, ◌≤◌, inl, inr, Bool, true, List, [], ◌∷◌, ◌++◌, length, take, drop, refl, sym, ap, subst, ◌∙◌, arith, append_assoc, append-nil, drop-drop}
+use Rattle.std.proofs.Common.{◌≡◌, ℕ, ◌+◌, ◌<◌, ◌≤◌, inl, inr, true, List, [], ◌∷◌, ◌++◌, length, take, drop, refl, sym, ap, subst, ◌∙◌, arith, append_assoc, append-nil, drop-drop}
 use Rattle.std.specs.Prelude.{All}
 use Rattle.std.proofs.lemmas.List.{length-append, length-drop, length-take-le}
 use Rattle.std.proofs.lemmas.List.Elements.{All-head, All-tail, All-cons, All-nil}
@@ -11,8 +11,8 @@ use Rattle.sm_http.specs.Chunks.{IsTrailer, print_trailer, print_trailers}
 use Rattle.sm_http.specs.declared.line.SeenLine.TheVariants as line
 use Rattle.sm_http.specs.declared.trailers.SeenTrailer.TheVariants as trailer
 use Rattle.sm_http.specs.declared.trailers.SeenTrailers.TheVariants.{Whole, Part, Never}
-use Rattle.sm_http.specs.steps.Lines.{ReadsLine, NeverHasLine, IsLinePart, SeesLine}
-use Rattle.sm_http.specs.steps.Trailers.{ReadsTrailers, HasNoTrailers, NeverHasTrailers, MayBecomeTrailers, ReadsTrailer, SeesTrailer, SameTrailers, SeesTrailers}
+use Rattle.sm_http.specs.steps.Lines.{IsLinePart, SeesLine}
+use Rattle.sm_http.specs.steps.Trailers.{ReadsTrailers, HasNoTrailers, ReadsTrailer, SeesTrailer, SameTrailers, SeesTrailers}
 use Rattle.sm_http.proofs.OneChunked.{behind_line, no_trailer}
 use Rattle.sm_http.proofs.SizesSeen.{front_of, return_text}
 

@@ -1,7 +1,7 @@
 -- A written message is read as itself.
-use Rattle.std.proofs.Common.{◌≡◌, ℕ, ◌+◌, ◌<◌, ◌≤◌, true, false, List, [], ◌∷◌, ◌++◌, length, map, refl, sym, ap, ◌∙◌, subst, arith, append_assoc, Option, Some, None}
-use Rattle.std.proofs.Common.{suc, zero, Bool, ◌&&◌, ◌||◌, true≢false}
-use Rattle.std.specs.Prelude.{All, IsUtf8, ◌==◌, nat_lt, decimal}
+use Rattle.std.proofs.Common.{◌≡◌, ℕ, ◌<◌, ◌≤◌, true, List, [], ◌∷◌, ◌++◌, length, map, refl, sym, ap, ◌∙◌, subst, arith, append_assoc, Some}
+use Rattle.std.proofs.Common.{suc, zero, Bool, ◌&&◌, ◌||◌}
+use Rattle.std.specs.Prelude.{All, ◌==◌, nat_lt, decimal}
 use Rattle.std.proofs.lemmas.Bool.{eqb-true, le-ltb}
 use Rattle.std.proofs.lemmas.Bool.Decides.{Decides-below_and}
 use Rattle.std.specs.Char.{is_ascii_digit}
@@ -10,22 +10,18 @@ use Rattle.std.specs.List.{list_all}
 use Rattle.std.specs.Str.Parse.{digits_value}
 use Rattle.std.proofs.lemmas.List.{length-append}
 use Rattle.std.proofs.lemmas.List.Elements.{All-head, All-tail, All-cons, All-nil}
-use Rattle.httparse.specs.Grammar.{trim_ows, is_value_byte, crlf, IsField, RequestHead, ResponseHead, print_request, print_response, AllPass}
-use Rattle.httparse.specs.Grammar.{Field as FieldLine}
+use Rattle.httparse.specs.Grammar.{trim_ows, is_value_byte, crlf, IsField}
 use Rattle.sm_http.specs.declared.message.Field.{Field}
-use Rattle.sm_http.specs.declared.message.Head.{Head}
-use Rattle.sm_http.specs.declared.message.Message.{Message}
 use Rattle.sm_http.specs.declared.message.Start.{Start}
 use Rattle.sm_http.specs.declared.message.Start.TheVariants.{Request, Response}
 use Rattle.sm_http.specs.declared.message.Side.{Side}
 use Rattle.sm_http.specs.declared.message.Side.TheVariants.{Request as of_requests, Response as of_responses}
 use Rattle.sm_http.specs.declared.message.BodyLeft.TheVariants.{Known}
-use Rattle.sm_http.specs.Limits.{head_limit}
 use Rattle.sm_http.specs.Bodies.{BodyFramed, body}
 use Rattle.sm_http.specs.Laws.{WrittenIsRead}
 use Rattle.sm_http.proofs.Numbers.{and_left, and_right}
 use Rattle.sm_http.specs.Heads.{HeadText, ReadsHead, field_of}
-use Rattle.sm_http.specs.Written.{line_of, phrase, written_from, written_head, written, IsWritableField, IsWritableStart, IsWritable}
+use Rattle.sm_http.specs.Written.{line_of, phrase, written_from, written_head, IsWritableField, IsWritableStart}
 
 -- a written field is read as itself
 field_again : (field : Field) → IsWritableField field → field_of (line_of field) ≡ field

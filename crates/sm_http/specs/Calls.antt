@@ -1,7 +1,7 @@
 -- What the reading calls answer. The bytes ahead of a call are those held and then those that the source has left, where it
 -- tells them.
-use Rattle.std.specs.Prelude.{◌≡◌, ℕ, ◌+◌, ◌-◌, ◌≤◌, ◌<◌, ◌⊎◌, List, [], ◌++◌, take, length, Bool, IfSome, Option, Some, None, Result, Ok, Err}
-use Rattle.std.specs.Io.KnownBytes.{prepend_known, Consumes}
+use Rattle.std.specs.Prelude.{◌≡◌, ℕ, ◌+◌, ◌-◌, ◌≤◌, ◌⊎◌, List, [], take, IfSome, Option, Some, None, Result, Ok, Err}
+use Rattle.std.specs.Io.KnownBytes.{Consumes}
 use Rattle.sm_http.specs.declared.message.Head.{Head}
 use Rattle.sm_http.specs.declared.message.Message.{Message}
 use Rattle.sm_http.specs.declared.message.Side.{Side}
@@ -13,7 +13,7 @@ use Rattle.sm_http.specs.declared.refusal.HttpRefusal.TheVariants.{Head as BadHe
 use Rattle.sm_http.specs.Limits.{body_limit, piece_limit}
 use Rattle.sm_http.specs.BodyFields.{body_begin}
 use Rattle.sm_http.specs.Bodies.{BodyFraming, BodyFramed, body, body_refused, behind_data}
-use Rattle.sm_http.specs.Framed.{HeadFraming, no_head, head, head_refused, HeadFramed, Framing, no_message, message, message_refused, Framed}
+use Rattle.sm_http.specs.Framed.{no_head, head, head_refused, HeadFramed, no_message, message, message_refused, Framed}
 
 -- P of the bytes that were ahead and of those that are ahead now, where the source tells its bytes
 abbrev pub IfAhead : Option (List ℕ) → Option (List ℕ) → (List ℕ → List ℕ → Type 0) → Type 0

@@ -1,6 +1,6 @@
 -- The text of a chunked body (RFC 9112, section 7.1), in the limits of the profile. A size line is a chunk line of httparse's
 -- grammar. Trailer lines are passed over, so any bytes but CR and LF stand in them.
-use Rattle.std.specs.Prelude.{◌≡◌, ℕ, ◌+◌, ◌<◌, ◌≤◌, List, ◌++◌, length, All, codes}
+use Rattle.std.specs.Prelude.{◌≡◌, ℕ, ◌+◌, ◌<◌, ◌≤◌, List, ◌++◌, length, All}
 use Rattle.std.specs.List.{flat_map}
 use Rattle.httparse.specs.Ascii.{crlf_bytes}
 use Rattle.httparse.specs.Grammar.{AllPass, is_extension_byte, ChunkLine, IsChunkLine, print_chunk_line, chunk_size}

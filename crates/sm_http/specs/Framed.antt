@@ -1,6 +1,6 @@
 -- Where one message ends and the next begins: what bytes come to on a side. It is said of bytes, and never of the cuts in which
 -- they come.
-use Rattle.std.specs.Prelude.{◌≡◌, ℕ, ◌<◌, ◌≤◌, ◌⊎◌, List, [], length, Option, Some, None}
+use Rattle.std.specs.Prelude.{◌≡◌, ℕ, ◌<◌, ◌≤◌, ◌⊎◌, List, [], length, Some, None}
 use Rattle.sm_http.specs.declared.message.Head.{Head}
 use Rattle.sm_http.specs.declared.message.Message.{Message}
 use Rattle.sm_http.specs.declared.message.Side.{Side}

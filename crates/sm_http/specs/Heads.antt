@@ -7,7 +7,6 @@ use Rattle.httparse.specs.Grammar.{Field as FieldLine}
 use Rattle.sm_bytes.specs.Ascii.{carriage_return, line_feed}
 use Rattle.sm_http.specs.declared.message.Field.{Field}
 use Rattle.sm_http.specs.declared.message.Head.{Head}
-use Rattle.sm_http.specs.declared.message.Start.{Start}
 use Rattle.sm_http.specs.declared.message.Start.TheVariants.{Request, Response}
 use Rattle.sm_http.specs.declared.message.Side.{Side}
 use Rattle.sm_http.specs.declared.message.Side.TheVariants.{Request as of_requests, Response as of_responses}

@@ -1,6 +1,6 @@
 -- The one text that a message is written as: its first line, its fields in their order, an empty line, and its body. Lines end in
 -- CR LF. It is the text of a head in httparse's grammar.
-use Rattle.std.specs.Prelude.{◌≡◌, ℕ, ◌<◌, ◌≤◌, List, [], ◌∷◌, ◌++◌, map, length, All, IsUtf8, decimal, unwrap_or, Option, Some, None}
+use Rattle.std.specs.Prelude.{◌≡◌, ℕ, ◌<◌, ◌≤◌, List, [], ◌∷◌, ◌++◌, map, length, All, IsUtf8, decimal, unwrap_or, Some, None}
 use Rattle.http.specs.StatusCode.{reason_phrase}
 use Rattle.httparse.specs.Ascii.{space}
 use Rattle.httparse.specs.Grammar.{crlf, print_request, print_response, is_uri_byte, is_value_byte, IsToken, AllPass, trim_ows}
@@ -13,8 +13,7 @@ use Rattle.sm_http.specs.declared.message.Start.TheVariants.{Request, Response}
 use Rattle.sm_http.specs.declared.message.Side.{Side}
 use Rattle.sm_http.specs.declared.message.Side.TheVariants.{Request as of_requests, Response as of_responses}
 use Rattle.sm_http.specs.declared.message.BodyLeft.TheVariants.{Known}
-use Rattle.sm_http.specs.Limits.{head_limit, most_fields, body_limit}
-use Rattle.sm_http.specs.Heads.{HeadText}
+use Rattle.sm_http.specs.Limits.{head_limit}
 use Rattle.sm_http.specs.BodyFields.{head_refusal, body_begin}
 
 -- name ":" SP value

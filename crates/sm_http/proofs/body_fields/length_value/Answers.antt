@@ -1,4 +1,4 @@
-use Rattle.std.proofs.Common.{◌≡◌, ℕ, ◌*◌, ◌+◌, ◌-◌, ap, sym, ◌∙◌, get_or, arith}
+use Rattle.std.proofs.Common.{◌*◌, ◌+◌, ◌-◌, ap, sym, ◌∙◌, get_or, arith}
 use Rattle.sm_http.proofs.Numbers.{value_more, value_past}
 use Rattle.sm_http.proofs.body_fields.length_value.Goals as goal
 

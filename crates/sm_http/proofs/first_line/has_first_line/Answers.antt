@@ -1,6 +1,5 @@
 use Rattle.std.proofs.Common.{ap, ◌∙◌, drop}
-use Rattle.std.specs.List.{prefix_len}
-use Rattle.sm_http.specs.Heads.{has_line_feed, is_line_byte}
+use Rattle.sm_http.specs.Heads.{has_line_feed}
 use Rattle.sm_http.proofs.Cuts.{rest_of}
 use Rattle.sm_http.proofs.FirstLine.{behind_blank}
 use Rattle.sm_http.proofs.first_line.has_first_line.Goals as goal

@@ -1,7 +1,6 @@
-use Rattle.std.proofs.Common.{sym, ap, subst, ◌∙◌, [], Ok, Err}
+use Rattle.std.proofs.Common.{sym, ap, subst, ◌∙◌, Ok, Err}
 use Rattle.std.specs.Io.KnownBytes.{prepend_known}
 use Rattle.sm_http.specs.declared.place.SeenPlace.TheVariants.{Next, Part}
-use Rattle.sm_http.specs.Bodies.{BodyFramed, body_refused}
 use Rattle.sm_http.specs.steps.Passing.{PassesTo}
 use Rattle.sm_http.proofs.ReadingHeads.{fills_at}
 use Rattle.sm_http.proofs.ReadingPieces.{sees_at, next_ahead, refused_ahead, ended_ahead, never_fault}

@@ -1,4 +1,4 @@
-use Rattle.std.proofs.Common.{ℕ, ◌<◌, ◌≤◌, length, sym, ap, subst, ◌∙◌, arith, Ok, Err, Some, None}
+use Rattle.std.proofs.Common.{◌<◌, length, sym, ap, subst, ◌∙◌, arith, Ok, Err, Some, None}
 use Rattle.std.specs.Io.KnownBytes.{prepend_known, Keeps}
 use Rattle.sm_http.specs.declared.see.Seen.TheVariants.{Part}
 use Rattle.sm_http.specs.Limits.{head_limit}

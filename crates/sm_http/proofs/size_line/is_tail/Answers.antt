@@ -1,4 +1,4 @@
-use Rattle.std.proofs.Common.{arith, ◌∙◌, sym, ap}
+use Rattle.std.proofs.Common.{arith, ◌∙◌, sym}
 use Rattle.std.proofs.Common.{eq-eqb}
 use Rattle.sm_http.proofs.SizeTails.{tail_all, tail_stop}
 use Rattle.sm_http.proofs.size_line.is_tail.Goals as goal

@@ -1,4 +1,4 @@
-use Rattle.std.proofs.Common.{subst, drop, arith}
+use Rattle.std.proofs.Common.{subst, arith}
 use Rattle.std.proofs.lemmas.List.{length-drop}
 use Rattle.sm_http.specs.declared.trailers.SeenTrailer.TheVariants.{Last, Line, Part, Never}
 use Rattle.sm_http.specs.steps.Trailers.{SeesTrailer}
