@@ -1,11 +1,12 @@
 -- What the reader does where something ends: whole items, strings, and arguments. The answers of those steps cite these.
-use Rattle.std.proofs.Common.{◌≡◌, ℕ, pos, negsuc, ◌%◌, ◌≤◌, ◌<◌, inl, inr, true, false, List, [], ◌∷◌, ◌++◌, None, refl, sym, ap, subst, ◌∙◌, arith, length, reverse, append-nil, append_assoc, IsUtf8}
+use Rattle.std.proofs.Common.{◌≡◌, ℕ, pos, negsuc, ◌%◌, ◌≤◌, ◌<◌, inl, inr, true, false, List, [], ◌∷◌, ◌++◌, None, Some, refl, sym, ap, subst, ◌∙◌, arith, length, reverse, append-nil, append_assoc, IsUtf8}
 use Rattle.std.proofs.Common.{Global}
 use Rattle.std.specs.Prelude.{Vec}
 use Rattle.std.proofs.lemmas.Str.{IsUtf8-append}
 use Rattle.sm_tree.specs.Limits.{most_levels}
 use Rattle.sm_tree.specs.Node.{Node, text, bytes, opaque}
 use Rattle.sm_tree.specs.Events.{NodeEvent, events, key_event, text_event, bytes_event, tag_event, opaque_event, start_list, start_object}
+use Rattle.sm_tree.specs.Streams.{unnumbered}
 use Rattle.sm_tree.specs.Building.{so_far, kinds, awaits_value, awaits_content, goes_on, IsIn}
 use Rattle.sm_tree.specs.BuilderView.{building_of}
 use Rattle.sm_tree.specs.declared.build.OpenKind.TheVariants.{Object as an_object}
@@ -13,7 +14,7 @@ use Rattle.sm_tree.specs.declared.build.TreeBuilder.{TreeBuilder}
 use Rattle.sm_bytes.specs.declared.utf8.Utf8.TheVariants.{Between}
 use Rattle.sm_cbor.specs.CborItem.{IsOpaque}
 use Rattle.sm_cbor.specs.steps.Marks.{Keys}
-use Rattle.sm_cbor.specs.steps.Reading.{IsOf, integer_node}
+use Rattle.sm_cbor.specs.steps.Reading.{IsOf, integer_node, integer_event}
 use Rattle.sm_cbor.specs.steps.Rest.{CborLeads, before_span}
 use Rattle.sm_cbor.specs.steps.Machine.{kinds_of, levels_of, cbor_state_at, cbor_handed_on, ArgumentLives, InMap, StringAwaits, CborHolds, Begun, IsAt, CborGoes, OpensLevel}
 use Rattle.sm_cbor.specs.declared.place.StringKind.{StringKind}
@@ -26,10 +27,10 @@ use Rattle.sm_cbor.specs.declared.place.Level.{Level}
 use Rattle.sm_cbor.specs.declared.place.Level.TheVariants.{Tag, List as AList, ListToBreak as AListToBreak, Map as AMap, MapToBreak as AMapToBreak}
 use Rattle.sm_cbor.specs.declared.place.Place.TheVariants.{Item, After, Argument as InArgument, String, Chunks}
 use Rattle.sm_cbor.specs.declared.read.Reader.{Reader}
-use Rattle.sm_cbor.proofs.Items.{at}
+use Rattle.sm_cbor.proofs.Items.{at, integer_untold}
 use Rattle.sm_cbor.proofs.StringSteps.{bytes_prefix, ends_nil, bytes_end, text_end, key_end, chunk_end, ends_are}
 use Rattle.sm_cbor.proofs.ArgumentSteps.{unsigned_ends, negative_ends, string_begins, list_opens, map_opens, tag_opens, opaque_ends}
-use Rattle.sm_cbor.proofs.Readings.{goes_by, goes_with, goes_to}
+use Rattle.sm_cbor.proofs.Readings.{leads_none, goes_by, goes_with, goes_to}
 
 -- behind a tree that the builder took
 pub after_value : (before : Reader) (b : TreeBuilder) → IsAt before Item → kinds (building_of b) ≡ kinds (building_of before.builder)
@@ -48,7 +49,7 @@ pub leaf_goes : (before behind : Reader) (b : TreeBuilder) (es : List NodeEvent)
 leaf_goes before behind b es goes taken = record {
   out = goes.out;
   leads = goes.leads;
-  taken = goes.taken ∙ ap (λ fs. fs ++ goes.out) taken ∙ append_assoc (cbor_handed_on before) es goes.out;
+  taken = goes.taken ∙ ap (λ fs. fs ++ unnumbered goes.out) taken ∙ append_assoc (cbor_handed_on before) es (unnumbered goes.out);
   sound = goes.sound;
 }
 
@@ -225,15 +226,15 @@ opaque_item r b n there = record { kinds_are = there.kinds_are; room = there.roo
 pub unsigned_goes : (r q : Reader) (n : ℕ) (x : Node) → x ≡ integer_node n (pos n) → CborGoes r (events x []) After [] q
     → CborGoes r [] (InArgument Unsigned 0 n) [] q
 unsigned_goes r q n x e goes =
-    goes_with r r q (InArgument Unsigned 0 n) After [] [] (events (integer_node n (pos n)) [])
-    (subst (λ y. CborGoes r (events y []) After [] q) e goes) refl
+    goes_with r r q (InArgument Unsigned 0 n) After [] [] (integer_event n (pos n) ∷ [])
+    (subst (λ fs. CborGoes r fs After [] q) (ap (λ y. events y []) e ∙ integer_untold n (pos n)) goes) refl
     (λ w limit high. unsigned_ends w limit n r.held.items r.held.items (levels_of r))
 
 pub negative_goes : (r q : Reader) (n : ℕ) (x : Node) → x ≡ integer_node n (negsuc n) → CborGoes r (events x []) After [] q
     → CborGoes r [] (InArgument Negative 0 n) [] q
 negative_goes r q n x e goes =
-    goes_with r r q (InArgument Negative 0 n) After [] [] (events (integer_node n (negsuc n)) [])
-    (subst (λ y. CborGoes r (events y []) After [] q) e goes) refl
+    goes_with r r q (InArgument Negative 0 n) After [] [] (integer_event n (negsuc n) ∷ [])
+    (subst (λ fs. CborGoes r fs After [] q) (ap (λ y. events y []) e ∙ integer_untold n (negsuc n)) goes) refl
     (λ w limit high. negative_ends w limit n r.held.items r.held.items (levels_of r))
 
 is_opaque : (b n : ℕ) → ArgumentLives (Opaque b) 0 n → IsOpaque (b % 32) n
@@ -276,16 +277,16 @@ map_room r n there = let room = there.room in omega arith
 pub list_goes : (r mid q : Reader) (n : ℕ) → OpensLevel r (AList n) (start_list None ∷ []) mid → CborGoes mid [] After [] q
     → CborGoes r [] (InArgument ListHead 0 n) [] q
 list_goes r mid q n opens goes =
-    goes_by r mid q (InArgument ListHead 0 n) After [] [] (start_list None ∷ []) goes opens.taken
-    (λ w limit high. subst (λ ks. CborLeads w limit (cbor_state_at r (InArgument ListHead 0 n)) [] (start_list None ∷ [])
+    goes_by r mid q (InArgument ListHead 0 n) After [] [] (start_list (Some n) ∷ []) goes opens.taken
+    (λ w limit high. subst (λ ks. CborLeads w limit (cbor_state_at r (InArgument ListHead 0 n)) [] (start_list (Some n) ∷ [])
     (at After mid.held.items ks)) (sym opens.levels)
     (list_opens w limit n r.held.items mid.held.items (levels_of r)))
 
 pub map_goes : (r mid q : Reader) (n : ℕ) → OpensLevel r (AMap n) (start_object None ∷ []) mid → CborGoes mid [] After [] q
     → CborGoes r [] (InArgument MapHead 0 n) [] q
 map_goes r mid q n opens goes =
-    goes_by r mid q (InArgument MapHead 0 n) After [] [] (start_object None ∷ []) goes opens.taken
-    (λ w limit high. subst (λ ks. CborLeads w limit (cbor_state_at r (InArgument MapHead 0 n)) [] (start_object None ∷ [])
+    goes_by r mid q (InArgument MapHead 0 n) After [] [] (start_object (Some n) ∷ []) goes opens.taken
+    (λ w limit high. subst (λ ks. CborLeads w limit (cbor_state_at r (InArgument MapHead 0 n)) [] (start_object (Some n) ∷ [])
     (at After mid.held.items ks)) (sym opens.levels)
     (map_opens w limit n r.held.items mid.held.items (levels_of r)))
 
@@ -317,7 +318,7 @@ argument_begins r j k v there some =
     goes_to r (record r { place = InArgument j k v }) (InArgument j k v) [] []
     (record { there = record { kinds_are = there.kinds_are; room = there.room; keeps = there.keeps; settled = tt }; begun = some })
     (sym (append-nil (cbor_handed_on r)))
-    (λ w limit high. record { onward = λ s es h. (es, refl, h); back = λ s es h. h })
+    (λ w limit high. leads_none w limit (cbor_state_at r (InArgument j k v)))
 
 pub argument_whole : (r : Reader) (j : Subject) (k v : ℕ) → k ≡ 0 → IsAt r (InArgument j k v) → IsAt r (InArgument j 0 v)
 argument_whole r j k v e there = subst (λ x. IsAt r (InArgument j x v)) e there

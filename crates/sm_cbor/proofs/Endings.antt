@@ -4,12 +4,13 @@ use Rattle.std.proofs.lemmas.Str.{IsUtf8-nil}
 use Rattle.sm_tree.specs.Json.{AreBytes}
 use Rattle.sm_tree.specs.Node.{Nodes, Members, null, no_nodes, node, no_members, member}
 use Rattle.sm_tree.specs.Levels.{nodes_levels, members_levels}
-use Rattle.sm_tree.specs.Events.{NodeEvent, events, entries_events, pairs_events, key_event, text_event, bytes_event, tag_event, opaque_event, start_list, start_object}
+use Rattle.sm_tree.specs.Events.{null_event, key_event, text_event, bytes_event, tag_event, opaque_event, start_list, end_list, start_object, end_object}
+use Rattle.sm_tree.specs.Timing.{TimedEvent, by_byte}
 use Rattle.sm_bytes.specs.declared.utf8.Utf8.{Utf8}
 use Rattle.sm_bytes.specs.declared.utf8.Utf8.TheVariants.{Between}
 use Rattle.sm_bytes.specs.Utf8 as utf8
 use Rattle.sm_bytes.proofs.Characters.{rest_goes_on}
-use Rattle.std.proofs.Common.{None}
+use Rattle.std.proofs.Common.{Some}
 use Rattle.sm_cbor.specs.Heads.{Number}
 use Rattle.sm_cbor.specs.CborItem.{CountedEntries, CountedPairs, IsOpaque}
 use Rattle.sm_cbor.specs.steps.Marks.{Keys, plain, marked, key_of}
@@ -26,6 +27,7 @@ use Rattle.sm_cbor.specs.declared.place.Level.TheVariants.{Tag, List as AList, L
 use Rattle.sm_cbor.specs.declared.place.Place.{Place}
 use Rattle.sm_cbor.specs.declared.place.Place.TheVariants.{Item, Key, After, Argument as InArgument, String, Chunks}
 use Rattle.sm_cbor.specs.steps.Machine.{opens, ArgumentLives, Lives}
+use Rattle.sm_cbor.proofs.Timings.{counted_timed, counted_pairs_timed}
 
 -- as many nulls as are counted, and as many pairs of an empty text and null
 nulls : ℕ → Nodes
@@ -78,8 +80,8 @@ pairs_flat zero = refl
 pairs_flat (suc n) = let f = pairs_flat n in omega arith
 
 -- the rest of all that is open
-abbrev Can : (List ℕ → List NodeEvent → Type 0) → Type 0
-Can P = (s : List ℕ) × (es : List NodeEvent) × P s es
+abbrev Can : (List ℕ → List TimedEvent → Type 0) → Type 0
+Can P = (s : List ℕ) × (es : List TimedEvent) × P s es
 
 pub ends_can : (w : Keys) (limit : ℕ) (ls : List Level) → length ls ≤ limit → Can (CborEnds w limit ls)
 ends_can w limit [] room = ([], [], (refl, refl))
@@ -87,32 +89,36 @@ ends_can w limit (Tag ∷ ls) room = ends_can w limit ls (omega arith)
 ends_can w limit (AList n ∷ ls) room =
     let (s, es, en) = ends_can w limit ls (omega arith) in
     let flat = nulls_flat n in
-    (null_bytes n s, entries_events (nulls n) es, (nulls n, s, es, nulls_come w n s, omega arith, en, refl))
+    let (ts, come) = counted_timed (key_of w) n (nulls n) (null_bytes n s) s es (nulls_come w n s) in
+    (null_bytes n s, ts, (nulls n, s, es, come, omega arith, en))
 ends_can w limit (AListToBreak ∷ ls) room =
     let (s, es, en) = ends_can w limit ls (omega arith) in
-    (0xFF ∷ s, entries_events no_nodes es, (no_nodes, s, es, (refl, refl), omega arith, en, refl))
+    (0xFF ∷ s, by_byte end_list (length s) ∷ es, (no_nodes, s, es, ((refl, refl), refl), omega arith, en))
 ends_can w limit (AMap n ∷ ls) room =
     let (s, es, en) = ends_can w limit ls (omega arith) in
     let flat = pairs_flat n in
-    (pair_bytes n s, pairs_events (pairs n) es, (pairs n, s, es, pairs_come w n s, omega arith, en, refl))
+    let (ts, come) = counted_pairs_timed (key_of w) n (pairs n) (pair_bytes n s) s es (pairs_come w n s) in
+    (pair_bytes n s, ts, (pairs n, s, es, come, omega arith, en))
 ends_can w limit (AMapToBreak ∷ ls) room =
     let (s, es, en) = ends_can w limit ls (omega arith) in
-    (0xFF ∷ s, pairs_events no_members es, (no_members, s, es, (refl, refl), omega arith, en, refl))
+    (0xFF ∷ s, by_byte end_object (length s) ∷ es, (no_members, s, es, ((refl, refl), refl), omega arith, en))
 
 pub item_can : (w : Keys) (limit : ℕ) (ls : List Level) → length ls ≤ limit → Can (ItemComes w limit ls)
 item_can w limit ls room =
-    let (s, es, en) = ends_can w limit ls room in (0xF6 ∷ s, events null es, (null, s, es, inl (refl, refl), omega arith, en, refl))
+    let (s, es, en) = ends_can w limit ls room in
+    (0xF6 ∷ s, by_byte null_event (length s) ∷ es, (null, s, es, (inl (refl, refl), refl), omega arith, en))
 
 key_can : (w : Keys) (limit : ℕ) (ls : List Level) → length ls ≤ limit → Can (CborKeyComes w limit ls)
 key_can w limit ls room =
-    let (s, es, item) = item_can w limit ls room in (0x60 ∷ s, key_event [] ∷ es, ([], s, es, empty_key w s, item, refl))
+    let (s, es, item) = item_can w limit ls room in
+    (0x60 ∷ s, by_byte (key_event []) (length s) ∷ es, ([], s, es, empty_key w s, item, refl))
 
 -- the rest of a string
 string_ended_can : (w : Keys) (limit : ℕ) (kind : StringKind) (t : List ℕ) (ls : List Level) → length ls ≤ limit
     → Can (StringEnded w limit kind t ls)
-string_ended_can w limit Bytes t ls room = let (s, es, en) = ends_can w limit ls room in (s, bytes_event t ∷ es, (es, en, refl))
-string_ended_can w limit Text t ls room = let (s, es, en) = ends_can w limit ls room in (s, text_event t ∷ es, (es, en, refl))
-string_ended_can w limit KeyText t ls room = let (s, es, item) = item_can w limit ls room in (s, key_event t ∷ es, (es, item, refl))
+string_ended_can w limit Bytes t ls room = let (s, es, en) = ends_can w limit ls room in (s, by_byte (bytes_event t) (length s) ∷ es, (es, en, refl))
+string_ended_can w limit Text t ls room = let (s, es, en) = ends_can w limit ls room in (s, by_byte (text_event t) (length s) ∷ es, (es, en, refl))
+string_ended_can w limit KeyText t ls room = let (s, es, item) = item_can w limit ls room in (s, by_byte (key_event t) (length s) ∷ es, (es, item, refl))
 
 chunks_can : (w : Keys) (limit : ℕ) (kind : StringKind) (t : List ℕ) (ls : List Level) → length ls ≤ limit
     → Can (ChunksCome w limit kind t ls)
@@ -157,13 +163,13 @@ ended_can w limit Negative n t ls room opq = let (s, es, en) = ends_can w limit 
 ended_can w limit (StringHead kind span) n t ls room opq =
     string_can w limit kind span n Between (before_span span t) ls (omega arith) (omega arith)
 ended_can w limit ListHead n t ls room opq = let (s, es, en) = ends_can w limit (AList n ∷ ls) (omega arith) in
-    (s, start_list None ∷ es, (es, en, refl))
+    (s, by_byte (start_list (Some n)) (length s) ∷ es, (es, en, refl))
 ended_can w limit MapHead n t ls room opq = let (s, es, en) = ends_can w limit (AMap n ∷ ls) (omega arith) in
-    (s, start_object None ∷ es, (es, en, refl))
+    (s, by_byte (start_object (Some n)) (length s) ∷ es, (es, en, refl))
 ended_can w limit TagHead n t ls room opq = let (s, es, item) = item_can w limit (Tag ∷ ls) (omega arith) in
-    (s, tag_event n ∷ es, (es, item, refl))
+    (s, by_byte (tag_event n) (length s) ∷ es, (es, item, refl))
 ended_can w limit (Opaque b) n t ls room opq = let (s, es, en) = ends_can w limit ls (omega arith) in
-    (s, opaque_event b ∷ es, (es, opq b refl, en, refl))
+    (s, by_byte (opaque_event b) (length s) ∷ es, (es, opq b refl, en, refl))
 
 from_number : (w : Keys) (limit : ℕ) (j : Subject) (k v n : ℕ) (t : List ℕ) (ls : List Level) → SomeNumber k v n
     → Can (ArgumentEnded w limit j n t ls) → Can (ArgumentComes w limit j k v t ls)
@@ -178,11 +184,11 @@ opaque_can : (w : Keys) (limit b k v : ℕ) (t : List ℕ) (ls : List Level) →
     → Can (ArgumentComes w limit (Opaque b) k v t ls)
 opaque_can w limit b k v t ls room (inl (e, is)) =
     let (s, es, en) = ends_can w limit ls (omega arith) in
-    (s, opaque_event b ∷ es, (v, s, subst (λ x. Number x v v s s) (sym e) (refl, refl), (es, is, en, refl)))
+    (s, by_byte (opaque_event b) (length s) ∷ es, (v, s, subst (λ x. Number x v v s s) (sym e) (refl, refl), (es, is, en, refl)))
 opaque_can w limit b k v t ls room (inr (inl (info, e, f))) =
     let (s, es, en) = ends_can w limit ls (omega arith) in (
       32 ∷ s,
-      opaque_event b ∷ es,
+      by_byte (opaque_event b) (length s) ∷ es,
       (
         32,
         s,
@@ -194,7 +200,7 @@ opaque_can w limit b k v t ls room (inr (inl (info, e, f))) =
 opaque_can w limit b k v t ls room (inr (inr high)) =
     let (n, number) = number_on k v in
     let (s, es, en) = ends_can w limit ls (omega arith) in
-    from_number w limit (Opaque b) k v n t ls number (s, opaque_event b ∷ es, (es, inr (inr high), en, refl))
+    from_number w limit (Opaque b) k v n t ls number (s, by_byte (opaque_event b) (length s) ∷ es, (es, inr (inr high), en, refl))
 
 argument_can : (w : Keys) (limit : ℕ) (j : Subject) (k v : ℕ) (t : List ℕ) (ls : List Level) → length ls + opens (InArgument j k v) ≤ limit
     → ArgumentLives j k v → Can (ArgumentComes w limit j k v t ls)

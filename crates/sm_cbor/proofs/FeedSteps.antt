@@ -1,9 +1,9 @@
 -- One turn of the reader behind another, and where it ends.
-use Rattle.std.proofs.Common.{Ok, Err, ◌≡◌, ℕ, ◌+◌, ◌-◌, ◌≤◌, ◌<◌, inl, inr, true, false, List, [], ◌∷◌, ◌++◌, refl, sym, ap, subst, ◌∙◌, arith, length, take, drop, get_or, append-nil, append_assoc, length-drop}
+use Rattle.std.proofs.Common.{Ok, Err, ◌≡◌, ℕ, ◌+◌, ◌-◌, ◌≤◌, ◌<◌, inl, inr, true, false, List, [], ◌∷◌, ◌++◌, refl, sym, ap, subst, ◌∙◌, arith, length, take, drop, get_or, append-nil, length-drop}
 use Rattle.std.proofs.Math.Seq.{take-add}
 use Rattle.std.proofs.lemmas.List.{take_more, drop_more, take_all}
 use Rattle.sm_tree.specs.Node.{Node, null, bool, int, number, text, bytes, tag, opaque, list, object, no_nodes, node, no_members, member}
-use Rattle.sm_tree.specs.Events.{NodeEvent}
+use Rattle.sm_tree.specs.Timing.{TimedEvent}
 use Rattle.sm_tree.specs.declared.refusal.SyntaxRefusal.{SyntaxRefusal}
 use Rattle.sm_tree.specs.declared.refusal.SyntaxRefusal.TheVariants.{Bad, Ended, TooDeep, KeyKind, NoMemory}
 use Rattle.sm_cbor.specs.CborItem.{Item as ItemBytes}
@@ -19,7 +19,8 @@ use Rattle.sm_cbor.specs.declared.read.Reader.{Reader}
 use Rattle.sm_cbor.proofs.ArgumentSteps.{argument_owed}
 use Rattle.sm_cbor.proofs.StringSteps.{string_owed, chunks_owed}
 use Rattle.sm_cbor.proofs.KeySteps.{key_owed}
-use Rattle.sm_cbor.proofs.Readings.{leads_none, leads_joined}
+use Rattle.sm_cbor.proofs.Readings.{leads_none, leads_joined, more_taken}
+use Rattle.sm_cbor.proofs.Timings.{timed_item}
 
 -- no bytes, and some behind others
 pub goes_nowhere : (r : Reader) → IsSoundReader r → CborGoes r [] r.place [] r
@@ -36,7 +37,7 @@ goes_joined r q x u v h g = record {
   out = h.out ++ g.out;
   leads = λ w limit high. leads_joined w limit (cbor_state_of r) (cbor_state_of q) (cbor_state_of x) u v h.out g.out (h.leads w limit high)
       (g.leads w limit high);
-  taken = g.taken ∙ ap (λ es. es ++ g.out) h.taken ∙ append_assoc (cbor_handed_on r) h.out g.out;
+  taken = more_taken (cbor_handed_on r) (cbor_handed_on q) h.out g.out (cbor_handed_on x) g.taken h.taken;
   sound = g.sound;
 }
 
@@ -111,23 +112,16 @@ item_owed w (list ns) r (inr (s1, h, more)) = h
 item_owed w (object ms) r (inl (n, s1, h, more)) = h
 item_owed w (object ms) r (inr (s1, h, more)) = h
 
-entry_owed : (w : Keys) (limit : ℕ) (ls : List Level) (es : List NodeEvent) → CborEnds w limit (AListToBreak ∷ ls) [] es → ⊥
-entry_owed w limit ls es (no_nodes, r, fs, h, room, en, e) = h
-entry_owed w limit ls es (node x xs, r, fs, (s1, item, more), room, en, e) = item_owed w x s1 item
+entry_owed : (w : Keys) (limit : ℕ) (ls : List Level) (es : List TimedEvent) → CborEnds w limit (AListToBreak ∷ ls) [] es → ⊥
+entry_owed w limit ls es (no_nodes, r, fs, h, room, en) = h.0
+entry_owed w limit ls es (node x xs, r, fs, (s1, vs, item, more), room, en) = item_owed w x s1 (timed_item (key_of w) x [] s1 es vs item)
 
-pair_owed : (w : Keys) (limit : ℕ) (ls : List Level) (es : List NodeEvent) → CborEnds w limit (AMapToBreak ∷ ls) [] es → ⊥
-pair_owed w limit ls es (no_members, r, fs, h, room, en, e) = h
-pair_owed w limit ls es (member k x xs, r, fs, (s1, s2, key, item, more), room, en, e) =
-    key_owed w limit (AMapToBreak ∷ ls) _ (
-      k,
-      s1,
-      _,
-      key,
-      (x, s2, _, item, omega arith, (xs, r, fs, more, omega arith, en, refl), refl),
-      refl,
-    )
+pair_owed : (w : Keys) (limit : ℕ) (ls : List Level) (es : List TimedEvent) → CborEnds w limit (AMapToBreak ∷ ls) [] es → ⊥
+pair_owed w limit ls es (no_members, r, fs, h, room, en) = h.0
+pair_owed w limit ls es (member k x xs, r, fs, (s1, s2, vs, ws, key, e, item, more), room, en) =
+    key_owed w limit (AMapToBreak ∷ ls) es (k, s1, vs, key, (x, s2, ws, item, omega arith, (xs, r, fs, more, omega arith, en)), e)
 
-after_owed : (w : Keys) (limit : ℕ) (ls : List Level) (es : List NodeEvent) → BehindItem ls → (ls ≡ [] → ⊥) → CborEnds w limit ls [] es → ⊥
+after_owed : (w : Keys) (limit : ℕ) (ls : List Level) (es : List TimedEvent) → BehindItem ls → (ls ≡ [] → ⊥) → CborEnds w limit ls [] es → ⊥
 after_owed w limit [] es open_to some h = some refl
 after_owed w limit (Tag ∷ ls) es open_to some h = open_to
 after_owed w limit (AList n ∷ ls) es open_to some h = open_to
@@ -135,15 +129,15 @@ after_owed w limit (AListToBreak ∷ ls) es open_to some h = entry_owed w limit 
 after_owed w limit (AMap n ∷ ls) es open_to some h = open_to
 after_owed w limit (AMapToBreak ∷ ls) es open_to some h = pair_owed w limit ls es h
 
-owed_at : (w : Keys) (limit : ℕ) (p : Place) (t : List ℕ) (ls : List Level) (es : List NodeEvent) → Begun p ls → (p ≡ After → ls ≡ [] → ⊥)
+owed_at : (w : Keys) (limit : ℕ) (p : Place) (t : List ℕ) (ls : List Level) (es : List TimedEvent) → Begun p ls → (p ≡ After → ls ≡ [] → ⊥)
     → CborRestAt w limit p t ls [] es → ⊥
-owed_at w limit Item t ls es begun some (n, r, fs, h, room, en, e) = item_owed w n r h
+owed_at w limit Item t ls es begun some (n, r, fs, h, room, en) = item_owed w n r (timed_item (key_of w) n [] r es fs h)
 owed_at w limit Key t ls es begun some h = key_owed w limit ls es h
 owed_at w limit After t ls es begun some h = after_owed w limit ls es begun (some refl) h
 owed_at w limit (InArgument j k v) t ls es begun some h = argument_owed w limit j k v t ls es begun h
 owed_at w limit (String kind span n place) t ls es begun some h = string_owed w limit kind span n place t ls es begun h
 owed_at w limit (Chunks kind) t ls es begun some h = chunks_owed w limit kind t ls es h
 
-pub cut_short : (r : Reader) → IsSoundReader r → (r.place ≡ After → levels_of r ≡ [] → ⊥) → (w : Keys) (limit : ℕ) (es : List NodeEvent)
+pub cut_short : (r : Reader) → IsSoundReader r → (r.place ≡ After → levels_of r ≡ [] → ⊥) → (w : Keys) (limit : ℕ) (es : List TimedEvent)
     → CborRest w limit (cbor_state_of r) [] es → ⊥
 cut_short r sound some w limit es h = owed_at w limit r.place r.held.items (levels_of r) es sound.begun some h

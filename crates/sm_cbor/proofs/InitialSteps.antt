@@ -6,7 +6,8 @@ use Rattle.std.proofs.lemmas.Str.{IsUtf8-nil}
 use Rattle.sm_tree.specs.Limits.{most_levels}
 use Rattle.sm_tree.specs.Levels.{levels}
 use Rattle.sm_tree.specs.Node.{Node, null, bool, int, number, text, bytes, tag, opaque, list, object}
-use Rattle.sm_tree.specs.Events.{NodeEvent, events, null_event, bool_event, start_list, start_object}
+use Rattle.sm_tree.specs.Events.{events, null_event, bool_event, start_list, start_object}
+use Rattle.sm_tree.specs.Timing.{TimedEvent, by_byte}
 use Rattle.sm_tree.specs.Building.{awaits_value}
 use Rattle.sm_tree.specs.BuilderView.{building_of}
 use Rattle.sm_cbor.specs.CborItem.{TextString, Item as ItemBytes}
@@ -33,6 +34,7 @@ use Rattle.sm_cbor.proofs.KeySteps.{key_leads, key_chunks_lead, key_stops, key_m
 use Rattle.sm_cbor.proofs.ArgumentSteps.{no_room}
 use Rattle.sm_cbor.proofs.Endings.{goes_on as something_comes, ends_can, item_can}
 use Rattle.sm_cbor.proofs.Readings.{goes_by, goes_with, goes_to}
+use Rattle.sm_cbor.proofs.Timings.{item_timed, timed_item}
 
 -- an argument that begins lives
 pub head_lives : (c k v : ℕ) (j : Subject) → HeadIs c (ArgumentHead j k v) → ArgumentLives j k v
@@ -174,15 +176,15 @@ list_deep r c is full =
     let (s, es, en) = ends_can plain (n + 1) (AListToBreak ∷ levels_of r) (omega arith) in
     record {
       stops = λ s es h.
-          let (fs, (ns, q, gs, more, room, en, e1), e) = item_onward plain most_levels c EntriesHead r.held.items (levels_of r) s es is h in
+          let (fs, (ns, q, gs, more, room, en), e) = item_onward plain most_levels c EntriesHead r.held.items (levels_of r) s es is h in
           omega arith;
       goes_on = (
         n + 1,
         omega arith,
         s,
-        start_list None ∷ es,
+        by_byte (start_list None) (length s) ∷ es,
         item_back plain (n + 1) c EntriesHead r.held.items (levels_of r) s
-            (start_list None ∷ es) (omega arith) is (es, en, refl),
+            (by_byte (start_list None) (length s) ∷ es) (omega arith) is (es, en, refl),
       );
     }
 
@@ -192,15 +194,15 @@ map_deep r c is full =
     let (s, es, en) = ends_can plain (n + 1) (AMapToBreak ∷ levels_of r) (omega arith) in
     record {
       stops = λ s es h.
-          let (fs, (ms, q, gs, more, room, en, e1), e) = item_onward plain most_levels c PairsHead r.held.items (levels_of r) s es is h in
+          let (fs, (ms, q, gs, more, room, en), e) = item_onward plain most_levels c PairsHead r.held.items (levels_of r) s es is h in
           omega arith;
       goes_on = (
         n + 1,
         omega arith,
         s,
-        start_object None ∷ es,
+        by_byte (start_object None) (length s) ∷ es,
         item_back plain (n + 1) c PairsHead r.held.items (levels_of r) s
-            (start_object None ∷ es) (omega arith) is (es, en, refl),
+            (by_byte (start_object None) (length s) ∷ es) (omega arith) is (es, en, refl),
       );
     }
 
@@ -289,7 +291,8 @@ bool_goes r q c b x there is e goes =
 -- no item begins with the byte
 pub none_begins : (c : ℕ) → HeadIs c NoItem → BeginsOther c → ⊥
 none_begins c is (more, n, no_text, item) =
-    item_stops plain (levels n) c [] [] is more (events n []) (n, [], [], item, omega arith, (refl, refl), refl)
+    let (ts, timed) = item_timed TextString n (c ∷ more) [] [] item in
+    item_stops plain (levels n) c [] [] is more ts (n, [], [], timed, omega arith, (refl, refl))
 
 pub item_bad : (r : Reader) (c : ℕ) → HeadIs c NoItem → IsBadByte (cbor_state_at r Item) c
 item_bad r c is = record { stops = λ limit. item_stops plain limit c r.held.items (levels_of r) is; no_key = inr (none_begins c is) }
@@ -323,19 +326,19 @@ key_bad r c other is = record {
 }
 
 -- and another item where a key stands
-abbrev Can : (List ℕ → List NodeEvent → Type 0) → Type 0
-Can P = (s : List ℕ) × (es : List NodeEvent) × P s es
+abbrev Can : (List ℕ → List TimedEvent → Type 0) → Type 0
+Can P = (s : List ℕ) × (es : List TimedEvent) × P s es
 
 head_can : (c : ℕ) (h : Head) → HeadIs c h → (h ≡ NoItem → ⊥) → Can (HeadComes plain 1 h [] [])
 head_can c (ArgumentHead j k v) is some = let small = opens_small j in
     something_comes plain 1 (InArgument j k v) [] [] (omega arith) (head_lives c k v j is)
 head_can c (ChunksHead kind) is some = something_comes plain 1 (Chunks kind) [] [] (omega arith) tt
 head_can c EntriesHead is some = let (s, es, en) = ends_can plain 1 (AListToBreak ∷ []) (omega arith) in
-    (s, start_list None ∷ es, (es, en, refl))
+    (s, by_byte (start_list None) (length s) ∷ es, (es, en, refl))
 head_can c PairsHead is some = let (s, es, en) = ends_can plain 1 (AMapToBreak ∷ []) (omega arith) in
-    (s, start_object None ∷ es, (es, en, refl))
-head_can c NullHead is some = ([], null_event ∷ [], ([], (refl, refl), refl))
-head_can c (BoolHead b) is some = ([], bool_event b ∷ [], ([], (refl, refl), refl))
+    (s, by_byte (start_object None) (length s) ∷ es, (es, en, refl))
+head_can c NullHead is some = ([], by_byte null_event 0 ∷ [], ([], (refl, refl), refl))
+head_can c (BoolHead b) is some = ([], by_byte (bool_event b) 0 ∷ [], ([], (refl, refl), refl))
 head_can c NoItem is some = absurd (some refl)
 
 no_text_node : (n : Node) (c : ℕ) (s r : List ℕ) → c / 32 ≢ 3 → ItemBytes TextString n (c ∷ s) r → IsNoText n
@@ -354,7 +357,8 @@ no_text_node (object ms) c s r other h = tt
 begins_other : (c : ℕ) (h : Head) → HeadIs c h → (h ≡ NoItem → ⊥) → c / 32 ≢ 3 → BeginsOther c
 begins_other c h is some other =
     let (s, es, comes) = head_can c h is some in
-    let (n, r, fs, item, room, (none, nothing), e) = item_back plain 1 c h [] [] s es (omega arith) is comes in
+    let (n, r, fs, timed, room, (none, nothing)) = item_back plain 1 c h [] [] s es (omega arith) is comes in
+    let item = timed_item TextString n (c ∷ s) r es fs timed in
     (s, n, no_text_node n c s r other item, subst (λ x. ItemBytes TextString n (c ∷ s) x) none item)
 
 pub other_key : (r : Reader) (c : ℕ) (h : Head) → IsAt r Key → HeadIs c h → (h ≡ NoItem → ⊥) → c / 32 ≢ 3

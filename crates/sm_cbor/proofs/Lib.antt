@@ -1,4 +1,12 @@
 mod Arguments
+mod Timings
+mod Shorter
+mod FewEvents
+mod Starting
+mod LaterEvents
+mod Completing
+mod Advancing
+mod Reaching
 mod Items
 mod StringSteps
 mod KeySteps

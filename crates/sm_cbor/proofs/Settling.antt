@@ -1,9 +1,10 @@
 -- What ends with an item, level by level: the loop of the reader that settles.
-use Rattle.std.proofs.Common.{◌≡◌, ℕ, ◌-◌, ◌≤◌, ◌<◌, false, List, [], ◌∷◌, ◌++◌, refl, sym, ap, subst, ◌∙◌, arith, length, reverse, append-nil, append_assoc}
+use Rattle.std.proofs.Common.{◌≡◌, ℕ, ◌-◌, ◌≤◌, ◌<◌, false, List, [], ◌∷◌, ◌++◌, refl, sym, ap, subst, ◌∙◌, arith, length, reverse, append-nil}
 use Rattle.std.proofs.Common.{◌==◌}
 use Rattle.std.proofs.lemmas.Bool.Decides.{nat_tests}
 use Rattle.sm_tree.specs.Limits.{most_levels}
 use Rattle.sm_tree.specs.Events.{NodeEvent, end_list, end_object}
+use Rattle.sm_tree.specs.Streams.{unnumbered}
 use Rattle.sm_tree.specs.Building.{so_far, kinds, awaits_value, awaits_content, goes_on, IsIn}
 use Rattle.sm_tree.specs.BuilderView.{building_of}
 use Rattle.sm_tree.specs.declared.build.OpenKind.{OpenKind}
@@ -18,13 +19,13 @@ use Rattle.sm_cbor.specs.declared.place.Place.TheVariants.{Item, Key, After}
 use Rattle.sm_cbor.specs.declared.read.Reader.{Reader}
 use Rattle.sm_cbor.proofs.Items.{at}
 use Rattle.sm_cbor.proofs.LevelSteps.{tag_ends, list_ends, map_ends, entry_leads, pair_leads}
-use Rattle.sm_cbor.proofs.Readings.{leads_none, leads_joined, one_more}
+use Rattle.sm_cbor.proofs.Readings.{leads_silent, leads_none, leads_joined, more_taken, one_more}
 
 -- what has ended so far: the same may come, and the events of the ends were handed on
 pub record Settles (before now : Reader) : Type 0 where
   pub out : List NodeEvent
   pub leads : (w : Keys) (limit : ℕ) → most_levels ≤ limit → CborLeads w limit (cbor_state_at before After) [] out (cbor_state_at now After)
-  pub taken : cbor_handed_on now ≡ cbor_handed_on before ++ out
+  pub taken : cbor_handed_on now ≡ cbor_handed_on before ++ unnumbered out
   pub there : IsAt now After
 
 pub settles_first : (r : Reader) → IsAt r After → Settles r r
@@ -38,23 +39,23 @@ settles_first r there = record {
 
 settles_more : (before now next : Reader) (out : List NodeEvent) → Settles before now
     → ((w : Keys) (limit : ℕ) → most_levels ≤ limit → CborLeads w limit (cbor_state_at now After) [] out (cbor_state_at next After))
-    → cbor_handed_on next ≡ cbor_handed_on now ++ out → IsAt next After → Settles before next
+    → cbor_handed_on next ≡ cbor_handed_on now ++ unnumbered out → IsAt next After → Settles before next
 settles_more before now next out h leads taken there = record {
   out = h.out ++ out;
   leads = λ w limit high. leads_joined w limit (cbor_state_at before After) (cbor_state_at now After) (cbor_state_at next After) [] [] h.out
       out (h.leads w limit high) (leads w limit high);
-  taken = taken ∙ ap (λ es. es ++ out) h.taken ∙ append_assoc (cbor_handed_on before) h.out out;
+  taken = more_taken (cbor_handed_on before) (cbor_handed_on now) h.out out (cbor_handed_on next) taken h.taken;
   there = there;
 }
 
 settles_to : (before now behind : Reader) (out : List NodeEvent) → Settles before now
     → ((w : Keys) (limit : ℕ) → most_levels ≤ limit → CborLeads w limit (cbor_state_at now After) [] out (cbor_state_of behind))
-    → cbor_handed_on behind ≡ cbor_handed_on now ++ out → IsSoundReader behind → CborGoes before [] After [] behind
+    → cbor_handed_on behind ≡ cbor_handed_on now ++ unnumbered out → IsSoundReader behind → CborGoes before [] After [] behind
 settles_to before now behind out h leads taken sound = record {
   out = h.out ++ out;
   leads = λ w limit high. leads_joined w limit (cbor_state_at before After) (cbor_state_at now After) (cbor_state_of behind) [] [] h.out out
       (h.leads w limit high) (leads w limit high);
-  taken = taken ∙ ap (λ es. es ++ out) h.taken ∙ append_assoc (cbor_handed_on before) h.out out;
+  taken = more_taken (cbor_handed_on before) (cbor_handed_on now) h.out out (cbor_handed_on behind) taken h.taken;
   sound = sound;
 }
 
@@ -188,7 +189,7 @@ rests_there before now behind h place same f begun =
     settles_to before now behind [] h
     (λ w limit high. subst (λ p. CborLeads w limit (cbor_state_at now After) [] [] (cbor_state_at behind p)) (sym place)
     (subst (λ ks. CborLeads w limit (cbor_state_at now After) [] [] (at After behind.held.items ks)) (sym f)
-    (record { onward = λ s es x. (es, refl, x); back = λ s es x. x })))
+    (leads_silent (λ s es x. x) (λ s es x. x))))
     (ap (λ b. so_far (building_of b)) same ∙ sym (append-nil (cbor_handed_on now)))
     (record {
       there = subst (IsAt behind) (sym place) (record {

@@ -2,7 +2,8 @@
 use Rattle.std.proofs.Common.{◌≡◌, ◌≢◌, ℕ, ◌+◌, ◌-◌, ◌/◌, ◌%◌, ◌≤◌, ◌<◌, Option, None, Some, List, [], ◌∷◌, ◌++◌, refl, sym, ap, subst, ◌∙◌, arith, length, length-append, append-nil, append_assoc, IsUtf8}
 use Rattle.std.specs.List.{concat}
 use Rattle.sm_tree.specs.Json.{AreBytes}
-use Rattle.sm_tree.specs.Events.{NodeEvent, key_event, text_event, bytes_event}
+use Rattle.sm_tree.specs.Events.{key_event, text_event, bytes_event}
+use Rattle.sm_tree.specs.Timing.{TimedEvent, by_byte}
 use Rattle.sm_bytes.specs.declared.utf8.Utf8.{Utf8}
 use Rattle.sm_bytes.specs.declared.utf8.Utf8.TheVariants.{Between}
 use Rattle.sm_bytes.specs.Utf8 as utf8
@@ -20,6 +21,7 @@ use Rattle.sm_cbor.specs.declared.place.Level.{Level}
 use Rattle.sm_cbor.specs.declared.place.Place.TheVariants.{Item, After, Argument as InArgument, String, Chunks}
 use Rattle.sm_cbor.proofs.Arguments.{argument_onward, argument_back, no_argument}
 use Rattle.sm_cbor.proofs.Items.{at}
+use Rattle.sm_cbor.proofs.Readings.{leads_silent, leads_one}
 
 -- a run that is no longer than what comes is its prefix
 tails : (c d : ℕ) (s t : List ℕ) → c ∷ s ≡ d ∷ t → s ≡ t
@@ -38,32 +40,27 @@ pub string_runs : (w : Keys) (limit : ℕ) (kind : StringKind) (span : Span) (n 
     → length v ≤ n
     → ((u : List ℕ) → EndsAs kind place (v ++ u) → EndsAs kind q u) → ((u : List ℕ) → EndsAs kind q u → EndsAs kind place (v ++ u))
     → CborLeads w limit (at (String kind span n place) t ls) v [] (at (String kind span (n - length v) q) (t ++ v) ls)
-string_runs w limit kind span n place q t v ls few to from = record {
-  onward = λ s es h.
-      let (u, r, e, len, ends, more) = h in
-      let (p, f, g) = split v s u r e (omega arith) in
-      let ends1 = subst (EndsAs kind place) f ends in (
-        es,
-        refl,
-        (
-          p,
-          r,
-          g,
-          omega (arith, len, ap length f, length-append v p),
-          to p ends1,
-          subst (λ x. SpanEnded w limit kind span x ls r es) (ap (λ x. t ++ x) f ∙ sym (append_assoc t v p)) more,
-        ),
-      );
-  back = λ s fs h.
-      let (p, r, g, len, ends, more) = h in (
-        v ++ p,
-        r,
-        ap (λ x. v ++ x) g ∙ sym (append_assoc v p r),
-        omega (arith, len, length-append v p),
-        from p ends,
-        subst (λ x. SpanEnded w limit kind span x ls r fs) (append_assoc t v p) more,
-      );
-}
+string_runs w limit kind span n place q t v ls few to from = leads_silent
+    (λ s es h.
+    let (u, r, e, len, ends, more) = h in
+    let (p, f, g) = split v s u r e (omega arith) in
+    let ends1 = subst (EndsAs kind place) f ends in (
+      p,
+      r,
+      g,
+      omega (arith, len, ap length f, length-append v p),
+      to p ends1,
+      subst (λ x. SpanEnded w limit kind span x ls r es) (ap (λ x. t ++ x) f ∙ sym (append_assoc t v p)) more,
+    ))
+    (λ s fs h.
+    let (p, r, g, len, ends, more) = h in (
+      v ++ p,
+      r,
+      ap (λ x. v ++ x) g ∙ sym (append_assoc v p r),
+      omega (arith, len, length-append v p),
+      from p ends,
+      subst (λ x. SpanEnded w limit kind span x ls r fs) (append_assoc t v p) more,
+    ))
 
 -- bytes, and whole characters, before the rest
 pub bytes_prefix : (v u : List ℕ) → AreBytes v → AreBytes u → AreBytes (v ++ u)
@@ -153,7 +150,7 @@ string_no_mark w limit kind span n place t ls some =
 
 -- the bytes don't end within it
 pub string_owed : (w : Keys) (limit : ℕ) (kind : StringKind) (span : Span) (n : ℕ) (place : Utf8) (t : List ℕ) (ls : List Level)
-    (es : List NodeEvent) → 0 < n → CborStringComes w limit kind span n place t ls [] es → ⊥
+    (es : List TimedEvent) → 0 < n → CborStringComes w limit kind span n place t ls [] es → ⊥
 string_owed w limit kind span n place t ls es some ([], r, e, len, ends, more) = omega arith
 string_owed w limit kind span n place t ls es some (d ∷ u, r, e, len, ends, more) = let f : [] ≡ d ∷ (u ++ r) = e in cc
 
@@ -163,44 +160,36 @@ ends_nil Bytes = tt
 ends_nil Text = refl
 ends_nil KeyText = refl
 
-pub span_onward : (w : Keys) (limit : ℕ) (kind : StringKind) (span : Span) (t : List ℕ) (ls : List Level) (s : List ℕ) (es : List NodeEvent)
+pub span_onward : (w : Keys) (limit : ℕ) (kind : StringKind) (span : Span) (t : List ℕ) (ls : List Level) (s : List ℕ) (es : List TimedEvent)
     → CborStringComes w limit kind span 0 Between t ls s es → SpanEnded w limit kind span t ls s es
 span_onward w limit kind span t ls s es ([], r, e, len, ends, more) =
     subst (λ x. SpanEnded w limit kind span t ls x es) (sym e) (subst (λ x. SpanEnded w limit kind span x ls r es) (append-nil t) more)
 span_onward w limit kind span t ls s es (d ∷ u, r, e, len, ends, more) = absurd (omega arith)
 
-pub span_back : (w : Keys) (limit : ℕ) (kind : StringKind) (span : Span) (t : List ℕ) (ls : List Level) (s : List ℕ) (es : List NodeEvent)
+pub span_back : (w : Keys) (limit : ℕ) (kind : StringKind) (span : Span) (t : List ℕ) (ls : List Level) (s : List ℕ) (es : List TimedEvent)
     → SpanEnded w limit kind span t ls s es → CborStringComes w limit kind span 0 Between t ls s es
 span_back w limit kind span t ls s es more =
     ([], s, refl, refl, ends_nil kind, subst (λ x. SpanEnded w limit kind span x ls s es) (sym (append-nil t)) more)
 
 pub bytes_end : (w : Keys) (limit : ℕ) (t u : List ℕ) (ls : List Level)
     → CborLeads w limit (at (String Bytes Whole 0 Between) t ls) [] (bytes_event t ∷ []) (at After u ls)
-bytes_end w limit t u ls = record {
-  onward = λ s es h. let (fs, en, e) = span_onward w limit Bytes Whole t ls s es h in (fs, e, en);
-  back = λ s fs h. span_back w limit Bytes Whole t ls s (bytes_event t ∷ fs) (fs, h, refl);
-}
+bytes_end w limit t u ls = leads_one (bytes_event t) (λ s es h. span_onward w limit Bytes Whole t ls s es h)
+    (λ s fs h. span_back w limit Bytes Whole t ls s (by_byte (bytes_event t) (length s) ∷ fs) (fs, h, refl))
 
 pub text_end : (w : Keys) (limit : ℕ) (t u : List ℕ) (ls : List Level)
     → CborLeads w limit (at (String Text Whole 0 Between) t ls) [] (text_event t ∷ []) (at After u ls)
-text_end w limit t u ls = record {
-  onward = λ s es h. let (fs, en, e) = span_onward w limit Text Whole t ls s es h in (fs, e, en);
-  back = λ s fs h. span_back w limit Text Whole t ls s (text_event t ∷ fs) (fs, h, refl);
-}
+text_end w limit t u ls = leads_one (text_event t) (λ s es h. span_onward w limit Text Whole t ls s es h)
+    (λ s fs h. span_back w limit Text Whole t ls s (by_byte (text_event t) (length s) ∷ fs) (fs, h, refl))
 
 pub key_end : (w : Keys) (limit : ℕ) (t u : List ℕ) (ls : List Level)
     → CborLeads w limit (at (String KeyText Whole 0 Between) t ls) [] (key_event t ∷ []) (at Item u ls)
-key_end w limit t u ls = record {
-  onward = λ s es h. let (fs, en, e) = span_onward w limit KeyText Whole t ls s es h in (fs, e, en);
-  back = λ s fs h. span_back w limit KeyText Whole t ls s (key_event t ∷ fs) (fs, h, refl);
-}
+key_end w limit t u ls = leads_one (key_event t) (λ s es h. span_onward w limit KeyText Whole t ls s es h)
+    (λ s fs h. span_back w limit KeyText Whole t ls s (by_byte (key_event t) (length s) ∷ fs) (fs, h, refl))
 
 pub chunk_end : (w : Keys) (limit : ℕ) (kind : StringKind) (t : List ℕ) (ls : List Level)
     → CborLeads w limit (at (String kind Chunk 0 Between) t ls) [] [] (at (Chunks kind) t ls)
-chunk_end w limit kind t ls = record {
-  onward = λ s es h. (es, refl, span_onward w limit kind Chunk t ls s es h);
-  back = λ s fs h. span_back w limit kind Chunk t ls s fs h;
-}
+chunk_end w limit kind t ls = leads_silent (λ s es h. span_onward w limit kind Chunk t ls s es h)
+    (λ s fs h. span_back w limit kind Chunk t ls s fs h)
 
 -- a break, and the head of a chunk
 string_type : (kind : StringKind) → (2 ≤ major_of kind) × (major_of kind ≤ 3)
@@ -218,7 +207,7 @@ ends_are Bytes u h = h
 ends_are Text u h = rest_utf8 u h
 ends_are KeyText u h = rest_utf8 u h
 
-break_onward : (w : Keys) (limit c : ℕ) (kind : StringKind) (t : List ℕ) (ls : List Level) (s : List ℕ) (es : List NodeEvent) → c ≡ 0xFF
+break_onward : (w : Keys) (limit c : ℕ) (kind : StringKind) (t : List ℕ) (ls : List Level) (s : List ℕ) (es : List TimedEvent) → c ≡ 0xFF
     → ChunksCome w limit kind t ls (c ∷ s) es → StringEnded w limit kind t ls s es
 break_onward w limit c kind t ls s es is ([], r, h, more) =
     subst (λ x. StringEnded w limit kind t ls x es) (sym h.1) (subst (λ x. StringEnded w limit kind x ls r es) (append-nil t) more)
@@ -227,18 +216,16 @@ break_onward w limit c kind t ls s es is (u ∷ us, r, (s2, (s1, head, e, are), 
 
 pub break_leads : (w : Keys) (limit c : ℕ) (kind : StringKind) (t : List ℕ) (ls : List Level) → c ≡ 0xFF
     → CborLeads w limit (at (Chunks kind) t ls) (c ∷ []) [] (at (String kind Whole 0 Between) t ls)
-break_leads w limit c kind t ls is = record {
-  onward = λ s es h. (es, refl, span_back w limit kind Whole t ls s es (break_onward w limit c kind t ls s es is h));
-  back = λ s fs h. (
-    [],
-    s,
-    (is, refl),
-    subst (λ x. StringEnded w limit kind x ls s fs) (sym (append-nil t))
-        (span_onward w limit kind Whole t ls s fs h),
-  );
-}
+break_leads w limit c kind t ls is = leads_silent
+    (λ s es h. span_back w limit kind Whole t ls s es (break_onward w limit c kind t ls s es is h))
+    (λ s fs h. (
+      [],
+      s,
+      (is, refl),
+      subst (λ x. StringEnded w limit kind x ls s fs) (sym (append-nil t)) (span_onward w limit kind Whole t ls s fs h),
+    ))
 
-chunk_onward : (w : Keys) (limit c k v : ℕ) (kind : StringKind) (t : List ℕ) (ls : List Level) (s : List ℕ) (es : List NodeEvent)
+chunk_onward : (w : Keys) (limit c k v : ℕ) (kind : StringKind) (t : List ℕ) (ls : List Level) (s : List ℕ) (es : List TimedEvent)
     → c / 32 ≡ major_of kind → StartsNumber (c % 32) k v
     → ChunksCome w limit kind t ls (c ∷ s) es → ArgumentComes w limit (StringHead kind Chunk) k v t ls s es
 chunk_onward w limit c k v kind t ls s es is starts ([], r, h, more) = let (low, high) = string_type kind in let first = h.0 in
@@ -263,7 +250,7 @@ chunk_onward w limit c k v kind t ls s es is starts (u ∷ us, r, (s2, (s1, head
   ),
 )
 
-chunk_back : (w : Keys) (limit c k v : ℕ) (kind : StringKind) (t : List ℕ) (ls : List Level) (s : List ℕ) (es : List NodeEvent)
+chunk_back : (w : Keys) (limit c k v : ℕ) (kind : StringKind) (t : List ℕ) (ls : List Level) (s : List ℕ) (es : List TimedEvent)
     → c / 32 ≡ major_of kind → StartsNumber (c % 32) k v
     → ArgumentComes w limit (StringHead kind Chunk) k v t ls s es → ChunksCome w limit kind t ls (c ∷ s) es
 chunk_back w limit c k v kind t ls s es is starts (n, s1, more, (u, s2, e, len, ends, (us, r, chunks, ended))) = (
@@ -280,10 +267,8 @@ chunk_back w limit c k v kind t ls s es is starts (n, s1, more, (u, s2, e, len, 
 pub chunk_leads : (w : Keys) (limit c k v : ℕ) (kind : StringKind) (t : List ℕ) (ls : List Level) → c / 32 ≡ major_of kind
     → StartsNumber (c % 32) k v
     → CborLeads w limit (at (Chunks kind) t ls) (c ∷ []) [] (at (InArgument (StringHead kind Chunk) k v) t ls)
-chunk_leads w limit c k v kind t ls is starts = record {
-  onward = λ s es h. (es, refl, chunk_onward w limit c k v kind t ls s es is starts h);
-  back = λ s fs h. chunk_back w limit c k v kind t ls s fs is starts h;
-}
+chunk_leads w limit c k v kind t ls is starts = leads_silent (λ s es h. chunk_onward w limit c k v kind t ls s es is starts h)
+    (λ s fs h. chunk_back w limit c k v kind t ls s fs is starts h)
 
 pub chunks_stop : (w : Keys) (limit c : ℕ) (kind : StringKind) (t : List ℕ) (ls : List Level) → c ≢ 0xFF
     → (c / 32 ≡ major_of kind → 28 ≤ c % 32) → CborStops w limit (at (Chunks kind) t ls) c
@@ -291,7 +276,7 @@ chunks_stop w limit c kind t ls no_break no_head s es ([], r, h, more) = no_brea
 chunks_stop w limit c kind t ls no_break no_head s es (u ∷ us, r, (s2, (s1, head, e, are), chunks), more) =
     no_argument (c % 32) (length u) s s1 (no_head head.0) head.1
 
-pub chunks_owed : (w : Keys) (limit : ℕ) (kind : StringKind) (t : List ℕ) (ls : List Level) (es : List NodeEvent)
+pub chunks_owed : (w : Keys) (limit : ℕ) (kind : StringKind) (t : List ℕ) (ls : List Level) (es : List TimedEvent)
     → ChunksCome w limit kind t ls [] es → ⊥
 chunks_owed w limit kind t ls es ([], r, h, more) = h
 chunks_owed w limit kind t ls es (u ∷ us, r, (s2, (s1, head, e, are), chunks), more) = head

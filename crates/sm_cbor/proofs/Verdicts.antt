@@ -7,10 +7,14 @@ use Rattle.sm_tree.specs.View.{node_of}
 use Rattle.sm_tree.specs.Limits.{most_levels}
 use Rattle.sm_tree.specs.Syntax.{Begins, BeginsRead, IsBadAt, IsKeyKindAt, IsBadByteAt, IsTooDeepAt, Reads}
 use Rattle.sm_tree.specs.Events.{NodeEvent, events}
+use Rattle.sm_tree.specs.Streams.{unnumbered}
+use Rattle.sm_tree.specs.Timing.{TimedEvent, untimed}
 use Rattle.sm_tree.specs.declared.tree.Tree.{Tree}
 use Rattle.sm_tree.specs.declared.refusal.SyntaxRefusal.{SyntaxRefusal}
 use Rattle.sm_tree.specs.declared.refusal.SyntaxRefusal.TheVariants.{Bad, Ended, TooDeep, KeyKind, NoMemory}
 use Rattle.sm_tree.proofs.Events.{events_injective}
+use Rattle.sm_tree.proofs.Streams.{stream_events}
+use Rattle.sm_tree.proofs.Handing.{hands_untimed}
 use Rattle.sm_cbor.specs.CborItem.{TextString, Item as ItemBytes, CborItem}
 use Rattle.sm_cbor.specs.steps.Marks.{Keys, plain, marked, key_of}
 use Rattle.sm_cbor.specs.Refusals.{mark, cbor_syntax}
@@ -20,16 +24,8 @@ use Rattle.sm_cbor.specs.declared.place.Place.{Place}
 use Rattle.sm_cbor.specs.declared.place.Place.TheVariants.{Item, Key, After, Argument as InArgument, String, Chunks}
 use Rattle.sm_cbor.specs.declared.read.Reader.{Reader}
 use Rattle.sm_cbor.proofs.Endings.{goes_on}
-
--- what the first state says of whole bytes
-item_start : (w : Keys) (limit : ℕ) (bs : List ℕ) (n : Node) → ItemBytes (key_of w) n bs [] → levels n ≤ limit
-    → CborRest w limit first_state bs (events n [])
-item_start w limit bs n h room = (n, [], [], h, omega arith, (refl, refl), refl)
-
-start_item : (w : Keys) (limit : ℕ) (bs : List ℕ) (es : List NodeEvent) → CborRest w limit first_state bs es
-    → (n : Node) × ItemBytes (key_of w) n bs [] × (levels n ≤ limit) × (es ≡ events n [])
-start_item w limit bs es (n, r, fs, h, room, (e, f), g) =
-    (n, subst (λ x. ItemBytes (key_of w) n bs x) e h, omega arith, g ∙ ap (events n) f)
+use Rattle.sm_cbor.proofs.Starting.{item_start, start_item}
+use Rattle.sm_cbor.proofs.Timings.{timed_item, timed_stream}
 
 -- a run of the reader from the first state
 pub record Runs (bs : List ℕ) (out : List NodeEvent) (q : Reader) : Type 0 where
@@ -57,9 +53,9 @@ begun : (bs : List ℕ) (out : List NodeEvent) (q : Reader) → Runs bs out q �
 begun bs out q run =
     let (s, es, rest) = goes_on plain most_levels q.place q.held.items (levels_of q) run.sound.there.room
     (lives q q.place run.sound.there) in
-    let (n, item, room, e) = start_item plain most_levels (bs ++ s) (out ++ es)
-    ((run.leads plain most_levels (omega arith)).back s es rest) in
-    (s, n, (item, room))
+    let (os, hands, first) = (run.leads plain most_levels (omega arith)).back s es rest in
+    let (n, item, room) = start_item plain most_levels (bs ++ s) (os ++ es) first in
+    (s, n, (timed_item TextString n (bs ++ s) [] (os ++ es) [] item, room))
 
 -- no bytes begin one
 pub nothing_begins : BeginsRead CborItem []
@@ -70,10 +66,10 @@ abbrev limit_of : Node → ℕ
 limit_of n = max (levels n) most_levels
 
 onward_of : (w : Keys) (bs s : List ℕ) (out : List NodeEvent) (q : Reader) (n : Node) → Runs bs out q → ItemBytes (key_of w) n (bs ++ s) []
-    → (es : List NodeEvent) × CborRest w (limit_of n) (cbor_state_of q) s es
+    → (es : List TimedEvent) × CborRest w (limit_of n) (cbor_state_of q) s es
 onward_of w bs s out q n run item =
-    let (fs, e, rest) = (run.leads w (limit_of n) (omega arith)).onward s (events n [])
-    (item_start w (limit_of n) (bs ++ s) n item (omega arith)) in (fs, rest)
+    let (es, first) = item_start w (limit_of n) (bs ++ s) n item (omega arith) in
+    let (os, fs, e, hands, rest) = (run.leads w (limit_of n) (omega arith)).onward s es first in (fs, rest)
 
 with_byte : (bs more : List ℕ) (at : ℕ) → at < length bs → take (at + 1) bs ++ more ≡ take at bs ++ (get_or bs at 0 ∷ more)
 with_byte bs more at inside = ap (λ x. x ++ more) (take_more bs at 0 inside) ∙ append_assoc (take at bs) (get_or bs at 0 ∷ []) more
@@ -91,10 +87,11 @@ bad_at : (bs : List ℕ) (at : ℕ) (out : List NodeEvent) (q : Reader) → at <
 bad_at bs at out q inside run stops = record
     { inside = inside; before = begun (take at bs) out q run; behind = never bs at out q inside run stops }
 
-back_of : (w : Keys) (bs s : List ℕ) (out es : List NodeEvent) (limit : ℕ) (q : Reader) → most_levels ≤ limit → Runs bs out q
+back_of : (w : Keys) (bs s : List ℕ) (out : List NodeEvent) (es : List TimedEvent) (limit : ℕ) (q : Reader) → most_levels ≤ limit → Runs bs out q
     → CborRest w limit (cbor_state_of q) s es → (n : Node) × ItemBytes (key_of w) n (bs ++ s) []
 back_of w bs s out es limit q high run rest =
-    let (n, item, room, e) = start_item w limit (bs ++ s) (out ++ es) ((run.leads w limit high).back s es rest) in (n, item)
+    let (os, hands, first) = (run.leads w limit high).back s es rest in
+    let (n, item, room) = start_item w limit (bs ++ s) (os ++ es) first in (n, timed_item (key_of w) n (bs ++ s) [] (os ++ es) [] item)
 
 -- each refusal is what the bytes are
 pub refused_is : (bs : List ℕ) (at : ℕ) (out : List NodeEvent) (q : Reader) (refusal : SyntaxRefusal) → at < length bs
@@ -122,9 +119,9 @@ refused_is bs at out q (TooDeep place) inside run refuses is =
       goes_on = (s, n, subst (λ x. ItemBytes TextString n x []) (sym (with_byte bs s at inside)) item);
       too_deep = λ h.
           let (more, m, (item1, room)) = h in
-          let (fs, e, rest1) = (run.leads plain most_levels (omega arith)).onward (get_or bs at 0 ∷ more) (events m [])
-          (item_start plain most_levels (take at bs ++ (get_or bs at 0 ∷ more)) m
-          (subst (λ x. ItemBytes TextString m x []) (with_byte bs more at inside) item1) room) in
+          let (ts, first) = item_start plain most_levels (take at bs ++ (get_or bs at 0 ∷ more)) m
+          (subst (λ x. ItemBytes TextString m x []) (with_byte bs more at inside) item1) room in
+          let (os, fs, e, hands, rest1) = (run.leads plain most_levels (omega arith)).onward (get_or bs at 0 ∷ more) ts first in
           refuses.stops more fs rest1;
     })
 refused_is bs at out q (KeyKind place) inside run refuses is =
@@ -149,21 +146,24 @@ tree_read r q bs (Ok tree) first nothing goes (place, none_open, events_are) =
     subst (λ p. CborRest plain most_levels (cbor_state_at q p) [] []) (sym place)
     (subst (λ ls. CborRest plain most_levels (record { place = After; held = q.held.items; levels = ls }) [] []) (sym none_open)
     (refl, refl)) in
-    let (n, item, room, e) = start_item plain most_levels (bs ++ []) (goes.out ++ [])
-    ((run.leads plain most_levels (omega arith)).back [] [] done) in
+    let (os, hands, start) = (run.leads plain most_levels (omega arith)).back [] [] done in
+    let (n, timed, room) = start_item plain most_levels (bs ++ []) (os ++ []) start in
+    let stream : unnumbered goes.out ≡ events n [] =
+    ap unnumbered (sym (hands_untimed 0 os goes.out hands) ∙ sym (ap untimed (append-nil os)))
+    ∙ stream_events n (untimed (os ++ [])) [] (timed_stream TextString n (bs ++ []) [] (os ++ []) [] timed) in
     let same : events (node_of tree) [] ≡ events n [] =
-    sym events_are ∙ goes.taken ∙ ap (λ es. es ++ goes.out) nothing ∙ sym (append-nil goes.out) ∙ e in
+    sym events_are ∙ goes.taken ∙ ap (λ es. es ++ unnumbered goes.out) nothing ∙ stream in
     let tree_is : node_of tree ≡ n = (events_injective (node_of tree) n [] [] same).0 in (
-      subst (λ m. ItemBytes TextString m bs []) (sym tree_is) (subst (λ x. ItemBytes TextString n x []) (append-nil bs) item),
-      subst
-          (λ m. levels m ≤ most_levels) (sym tree_is) room,
+      subst (λ m. ItemBytes TextString m bs []) (sym tree_is)
+          (subst (λ x. ItemBytes TextString n x []) (append-nil bs) (timed_item TextString n (bs ++ []) [] (os ++ []) [] timed)),
+      subst (λ m. levels m ≤ most_levels) (sym tree_is) room,
     )
 tree_read r q bs (Err Ended) first nothing goes owed =
     let run = runs_from r q bs first goes in record {
       begun = begun bs goes.out q run;
       no_text = λ n h.
-          let (fs, e, rest) = (run.leads plain most_levels (omega arith)).onward [] (events n [])
-          (item_start plain most_levels (bs ++ []) n (subst (λ x. ItemBytes TextString n x []) (sym (append-nil bs)) h.0) h.1) in
+          let (es, start) = item_start plain most_levels (bs ++ []) n (subst (λ x. ItemBytes TextString n x []) (sym (append-nil bs)) h.0) h.1 in
+          let (os, fs, e, hands, rest) = (run.leads plain most_levels (omega arith)).onward [] es start in
           owed plain most_levels fs rest;
     }
 tree_read r q bs (Err NoMemory) first nothing goes h = absurd h

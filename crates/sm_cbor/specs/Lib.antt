@@ -1,5 +1,6 @@
 pub mod Heads
 pub mod CborItem
+pub mod Timing
 pub mod Refusals
 pub mod Written
 pub mod WrittenEvents

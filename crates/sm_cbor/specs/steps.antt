@@ -3,3 +3,4 @@ pub mod Reading
 pub mod Rest
 pub mod Machine
 pub mod Descent
+pub mod Sinks

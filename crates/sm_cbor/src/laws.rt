@@ -1,6 +1,9 @@
 // Laws of items and of what is written, each the contract of a function whose body is empty.
 ghost use Rattle.sm_tree.specs.SyntaxLaws.{HasOneReading, HasOneAnswer, HasSomeAnswer};
 ghost use Rattle.sm_cbor.specs.Refusals.{cbor_syntax};
+ghost use Rattle.sm_tree.specs.TimingLaws.{TimesTexts, HasOneCompletion, GoesFurther, HasFewEvents};
+ghost use Rattle.sm_cbor.specs.CborItem.{CborItem};
+ghost use Rattle.sm_cbor.specs.Timing.{cbor_timing};
 ghost use Rattle.sm_cbor.specs.Laws.{WrittenIsItem, WrittenItemIsRead};
 ghost use Rattle.sm_cbor.specs.WrittenEvents.{WrittenEventsAreItem, WrittenEventsBeginItem, CborEventsStand, CborStreamsAreTaken};
 
@@ -53,4 +56,20 @@ pub fn events_stand()
 #[tactic(auto, using(crate::proofs::TakenEvents::streams_taken))]
 pub fn streams_are_taken()
     ensures { CborStreamsAreTaken }
+{}
+
+/// Each item has events with their times, what has them is an item, and they are a stream of its tree.
+pub fn timing()
+    ensures { TimesTexts CborItem cbor_timing }
+{}
+
+/// Bytes complete two events each at most.
+pub fn few_events()
+    ensures { HasFewEvents cbor_timing }
+{}
+
+/// Bytes complete one list of events at most, and more bytes complete the same events, and perhaps more.
+pub fn one_completion()
+    ensures one { HasOneCompletion cbor_timing }
+    ensures further { GoesFurther cbor_timing }
 {}

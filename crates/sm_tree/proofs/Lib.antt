@@ -9,6 +9,7 @@ pub mod Building
 pub mod Streams
 pub mod Awaited
 pub mod Counted
+pub mod Handing
 pub mod NumberParts
 pub mod NumberRuns
 pub mod NumberSteps

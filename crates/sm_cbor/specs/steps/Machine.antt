@@ -3,6 +3,8 @@
 use Rattle.std.specs.Prelude.{◌≡◌, ℕ, ◌+◌, ◌-◌, ◌%◌, ◌≤◌, ◌<◌, ◌⊎◌, ◌↔◌, ◌≢◌, Option, None, Some, Bool, true, false, List, [], ◌∷◌, ◌++◌, take, reverse, length, slice_index, Result, Ok, Err}
 use Rattle.sm_tree.specs.Limits.{most_levels}
 use Rattle.sm_tree.specs.Events.{NodeEvent, events}
+use Rattle.sm_tree.specs.Streams.{unnumbered}
+use Rattle.sm_tree.specs.Timing.{TimedEvent}
 use Rattle.sm_tree.specs.View.{node_of}
 use Rattle.sm_tree.specs.declared.tree.Tree.{Tree}
 use Rattle.sm_tree.specs.Building.{so_far, kinds, awaits_value, awaits_content, goes_on}
@@ -178,11 +180,12 @@ pub record IsSoundReader (r : Reader) : Type 0 where
   pub there : IsAt r r.place
   pub begun : Begun r.place (levels_of r)
 
--- the events es were handed on; and from the place p the bytes v lead the reader on, and their events are handed on too
+-- the events es were handed on; and from the place p the bytes v lead the reader on, and their events are handed on too. The
+-- builder forgets the numbers of openers
 pub record CborGoes (before : Reader) (es : List NodeEvent) (p : Place) (v : List ℕ) (behind : Reader) : Type 0 where
   pub out : List NodeEvent
   pub leads : (w : Keys) (limit : ℕ) → most_levels ≤ limit → CborLeads w limit (cbor_state_at before p) v out (cbor_state_of behind)
-  pub taken : cbor_handed_on behind ≡ cbor_handed_on before ++ (es ++ out)
+  pub taken : cbor_handed_on behind ≡ cbor_handed_on before ++ (es ++ unnumbered out)
   pub sound : IsSoundReader behind
 
 -- a level stands round what comes
@@ -239,7 +242,7 @@ IsSomePrefix run bs n =
 
 -- something completes an item from the state with this byte, at some limit
 abbrev pub CborGoesOn : Keys → CborState → ℕ → Type 0
-CborGoesOn w x c = (limit : ℕ) × (most_levels ≤ limit) × (s : List ℕ) × (es : List NodeEvent) × CborRest w limit x (c ∷ s) es
+CborGoesOn w x c = (limit : ℕ) × (most_levels ≤ limit) × (s : List ℕ) × (es : List TimedEvent) × CborRest w limit x (c ∷ s) es
 
 -- no item goes on with the byte: no key stands here, or no item at all begins with it
 pub record IsBadByte (x : CborState) (c : ℕ) : Type 0 where
@@ -300,7 +303,7 @@ CborTakesAll before bs behind (Err refusal) =
 -- the bytes end where the reader stands
 abbrev pub CborFinishes : Reader → Result Tree SyntaxRefusal → Type 0
 CborFinishes r (Ok tree) = (r.place ≡ After) × (levels_of r ≡ []) × (cbor_handed_on r ≡ events (node_of tree) [])
-CborFinishes r (Err Ended) = (w : Keys) (limit : ℕ) (es : List NodeEvent) → CborRest w limit (cbor_state_of r) [] es → ⊥
+CborFinishes r (Err Ended) = (w : Keys) (limit : ℕ) (es : List TimedEvent) → CborRest w limit (cbor_state_of r) [] es → ⊥
 CborFinishes r (Err NoMemory) = ⊥
 CborFinishes r (Err (Bad at)) = ⊥
 CborFinishes r (Err (TooDeep at)) = ⊥

@@ -3,6 +3,7 @@ use Rattle.std.specs.Prelude.{◌≡◌, ◌≢◌, ℕ, zero, suc, ◌+◌, ◌
 use Rattle.std.specs.Fmt.{signed_decimal}
 use Rattle.sm_tree.specs.Json.{AreBytes}
 use Rattle.sm_tree.specs.Node.{Node, int, number}
+use Rattle.sm_tree.specs.Events.{NodeEvent, int_event, number_event}
 use Rattle.sm_bytes.specs.declared.utf8.Utf8.{Utf8}
 use Rattle.sm_bytes.specs.Utf8 as utf8
 use Rattle.sm_cbor.specs.Heads.{Number, HasWidth, unsigned_type, negative_type, bytes_type, text_type, array_type, map_type, tag_type, simple_type}
@@ -113,3 +114,7 @@ pub record HasHead (bs : List ℕ) (j : Subject) (n len : ℕ) : Type 0 where
 -- the tree of an integer that n more than nothing, or n more than -1, tells
 abbrev pub integer_node : ℕ → ℤ → Node
 integer_node n z = if nat_lt n (2 ^ 63) then int z else number (signed_decimal z)
+
+-- and its one event
+abbrev pub integer_event : ℕ → ℤ → NodeEvent
+integer_event n z = if nat_lt n (2 ^ 63) then int_event z else number_event (signed_decimal z)
