@@ -4,7 +4,6 @@ use Rattle.std.proofs.Common.{Result, Ok, Err, ◌≡◌, ℕ, ◌+◌, ◌≤�
 use Rattle.sm_tree.specs.Node.{Node}
 use Rattle.sm_tree.specs.Levels.{levels}
 use Rattle.sm_tree.specs.Json.{IsJson}
-use Rattle.sm_tree.specs.Events.{events}
 use Rattle.sm_tree.specs.Syntax.{most_levels, IsRead, Begins, BeginsRead, Reads}
 use Rattle.sm_tree.specs.View.{node_of}
 use Rattle.sm_tree.specs.declared.tree.Tree.{Tree}
@@ -22,10 +21,10 @@ use Rattle.sm_json.proofs.Onward.{reader_goes_on, on_back}
 -- what goes on from the first state is what begins a text, at each limit
 begun_text : (limit : ℕ) (bs : List ℕ) → JsonGoesOn limit json_start bs
     → (more : List ℕ) × (n : Node) × JsonText n (bs ++ more) × (levels n ≤ limit)
-begun_text limit bs (s, es, rest) = let (n, text, room, e) = start_text limit (bs ++ s) es rest in (s, n, text, room)
+begun_text limit bs (s, ts, rest) = let (n, text, room, e) = start_text limit (bs ++ s) ts rest in (s, n, text, room)
 
 text_begun : (limit : ℕ) (bs more : List ℕ) (n : Node) → JsonText n (bs ++ more) → levels n ≤ limit → JsonGoesOn limit json_start bs
-text_begun limit bs more n text room = (more, events n [], text_start limit (bs ++ more) n text room)
+text_begun limit bs more n text room = let (ts, rest) = text_start limit (bs ++ more) n text room in (more, ts, rest)
 
 begins_read : (bs : List ℕ) → JsonGoesOn most_levels json_start bs → BeginsRead JsonText bs
 begins_read bs h = let (more, n, text, room) = begun_text most_levels bs h in (more, n, (text, room))

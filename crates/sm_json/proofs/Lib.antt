@@ -1,4 +1,6 @@
 pub mod Starts
+pub mod Timed
+pub mod EventCounts
 pub mod White
 pub mod Opening
 pub mod Leaves
@@ -19,6 +21,7 @@ pub mod Readers
 pub mod Onward
 pub mod ReaderTurns
 pub mod Owed
+pub mod Later
 pub mod Turns
 pub mod WrittenStrings
 pub mod WrittenNumbers
@@ -33,3 +36,4 @@ pub mod OneString
 pub mod OneTree
 pub mod SpeltTrees
 pub mod Answered
+pub mod Completed

@@ -52,18 +52,15 @@ reader_goes_on r sound = goes_on_at r r.place refl sound
 -- what goes on from a reader goes on from an earlier one, and the other way round
 pub on_back : (r q : Reader) (w v : List ℕ) (limit : ℕ) → JsonGoes r w q → most_levels ≤ limit → JsonGoesOn limit (json_state q) v
     → JsonGoesOn limit (json_state r) (w ++ v)
-on_back r q w v limit goes up (s, es, rest) = (
-  s,
-  goes.out ++ es,
-  subst (λ u. JsonRest limit (json_state r) u (goes.out ++ es)) (sym (append_assoc w v s))
-      ((goes.leads limit up).back (v ++ s) es rest),
-)
+on_back r q w v limit goes up (s, ts, rest) =
+    let (os, hands, rest1) = (goes.leads limit up).back (v ++ s) ts rest in
+    (s, os ++ ts, subst (λ u. JsonRest limit (json_state r) u (os ++ ts)) (sym (append_assoc w v s)) rest1)
 
 pub on_onward : (r q : Reader) (w v : List ℕ) (limit : ℕ) → JsonGoes r w q → most_levels ≤ limit → JsonGoesOn limit (json_state r) (w ++ v)
     → JsonGoesOn limit (json_state q) v
-on_onward r q w v limit goes up (s, es, rest) =
-    let (fs, e, rest1) = (goes.leads limit up).onward (v ++ s) es
-    (subst (λ u. JsonRest limit (json_state r) u es) (append_assoc w v s) rest) in (s, fs, rest1)
+on_onward r q w v limit goes up (s, ts, rest) =
+    let (os, us, e, hands, rest1) = (goes.leads limit up).onward (v ++ s) ts
+    (subst (λ u. JsonRest limit (json_state r) u ts) (append_assoc w v s) rest) in (s, us, rest1)
 
 -- a refusal of some bytes, behind those that led there
 front_add : (i p : ℕ) (bs : List ℕ) → take (i + p + 1) bs ≡ take i bs ++ take (p + 1) (drop i bs)

@@ -3,8 +3,11 @@
 use Rattle.std.proofs.Common.{Result, Ok, Err, ◌≡◌, ◌≢◌, ℕ, ◌+◌, ◌-◌, ◌≤◌, ◌<◌, ◌⊎◌, inl, inr, true, List, [], ◌∷◌, ◌++◌, refl, sym, ap, subst, ◌∙◌, arith, length, take, drop, get_or, append-nil, append_assoc, length-drop}
 use Rattle.std.proofs.Math.Seq.{take-add}
 use Rattle.std.proofs.lemmas.List.{take_more, drop_more, take-take, take_all, drop_all}
+use Rattle.sm_tree.specs.Node.{Node}
+use Rattle.sm_tree.specs.declared.build.OpenKind.{OpenKind}
 use Rattle.sm_tree.specs.Numbers.{IsNumber, NumberText}
-use Rattle.sm_tree.specs.Events.{NodeEvent, events, key_event, text_event}
+use Rattle.sm_tree.specs.Events.{events, key_event, text_event}
+use Rattle.sm_tree.specs.Timing.{TimedEvent, by_byte, untimed}
 use Rattle.sm_tree.specs.Building.{so_far, kinds, awaits_value, awaits_content}
 use Rattle.sm_tree.specs.BuilderView.{building_of}
 use Rattle.sm_tree.specs.declared.refusal.SyntaxRefusal.{SyntaxRefusal}
@@ -18,7 +21,7 @@ use Rattle.sm_json.specs.declared.text.TextRefusal.{TextRefusal}
 use Rattle.sm_json.specs.declared.text.TextRefusal.TheVariants.{Bad as BadString, NoMemory as NoRoom}
 use Rattle.sm_json.specs.declared.place.Role.{Role}
 use Rattle.sm_json.specs.declared.place.Role.TheVariants.{Key, Value as Whole}
-use Rattle.sm_json.specs.steps.Rest.{after, colon, letters, literal_node, numeral, JsonRest, JsonLeads, JsonGoesOn, JsonStops}
+use Rattle.sm_json.specs.steps.Rest.{after, colon, letters, literal_node, literal_event, numeral, JsonRest, JsonLeads, JsonGoesOn, JsonStops}
 use Rattle.sm_tree.specs.Syntax.{most_levels}
 use Rattle.sm_json.specs.steps.Machine.{where_of, lists_of, json_state, json_handed_on, PlaceKeeps, JsonIsSound, LeadsTo, JsonGoes, Halts, Deepens, HaltsAt, DeepensAt, JsonTakesByte, JsonTakesPrefix, JsonTakesAll, TakesWhitespace, AllWhitespace, Grows, HandsNumber, HandsText, behind_text, text_event_of, as_syntax}
 use Rattle.sm_tree.specs.Refusal.{moved_by, IsWithin}
@@ -32,9 +35,9 @@ use Rattle.sm_json.specs.declared.read.Reader.{Reader}
 use Rattle.sm_tree.proofs.Numbers.{one_node, number_from_whole, whole_from_number}
 use Rattle.sm_tree.proofs.NumberRuns.{prefix_grows, leads_joined as numbers_joined}
 use Rattle.sm_json.proofs.Opening.{at}
-use Rattle.sm_json.proofs.Leaves.{number_is}
+use Rattle.sm_json.proofs.Leaves.{number_is, number_one}
 use Rattle.sm_json.proofs.White.{white_leads, whites_lead}
-use Rattle.sm_json.proofs.Within.{number_over, number_bytes_lead, number_ends, number_stops, number_last_is, number_event, nothing_ends, string_goes, key_closes, text_closes, letter_leads, word_ends, word_stops, string_no_rest, token_owed, word_owed, IsOwed}
+use Rattle.sm_json.proofs.Within.{number_over, number_bytes_lead, number_ends, number_stops, number_last, number_last_is, nothing_ends, string_goes, key_closes, text_closes, letter_leads, word_ends, word_stops, string_no_rest, token_owed, word_owed, IsOwed}
 use Rattle.sm_json.proofs.Owed.{string_owed}
 use Rattle.sm_json.proofs.Whole.{leads_none, leads_joined}
 use Rattle.sm_json.proofs.Readers.{place_at, leads_from, stops_from, deepens_from, kept_at}
@@ -160,10 +163,10 @@ state_behind r h hands =
 behind_number : (r h : Reader) (phase : Phase) (c limit : ℕ) → JsonIsSound r → r.place ≡ Number phase → NumberStops phase c
     → HandsNumber r h → JsonStops limit (json_state h) c
     → JsonStops limit (place_at r (Number phase)) c
-behind_number r h phase c limit sound place stops hands halts s es g =
-    let (fs, e, en) = number_over limit r.number.items hands.tree c (lists_of r) s es (stops_number r phase c sound place stops)
+behind_number r h phase c limit sound place stops hands halts s ts g =
+    let (us, timed, en) = number_over limit r.number.items hands.tree c (lists_of r) s ts (stops_number r phase c sound place stops)
     (λ n x. one_node n hands.tree r.number.items x hands.is) g in
-    halts s fs (subst (λ x. JsonRest limit x (c ∷ s) fs) (sym (state_behind r h hands)) en)
+    halts s us (subst (λ x. JsonRest limit x (c ∷ s) us) (sym (state_behind r h hands)) en)
 
 number_then_halts : (r h : Reader) (phase : Phase) (c : ℕ) → JsonIsSound r → r.place ≡ Number phase → NumberStops phase c → HandsNumber r h
     → Halts (json_state h) c → Halts (json_state r) c
@@ -175,19 +178,20 @@ number_then_deepens : (r h : Reader) (phase : Phase) (c : ℕ) → JsonIsSound r
 number_then_deepens r h phase c sound place stops hands deep = deepens_from r (Number phase) c place (record {
   stops = behind_number r h phase c most_levels sound place stops hands deep.stops;
   deeper =
-      let (s, es, rest) = deep.deeper in
-      let behind = subst (λ x. JsonRest (most_levels + 1) x (c ∷ s) es) (state_behind r h hands) rest in (
+      let (s, ts, rest) = deep.deeper in
+      let behind = subst (λ x. JsonRest (most_levels + 1) x (c ∷ s) ts) (state_behind r h hands) rest in
+      let (e, one) = number_one hands.tree r.number.items hands.is in (
         s,
-        events hands.tree es,
+        by_byte e (length s) ∷ ts,
         (
           hands.tree,
           [],
           c ∷ s,
-          es,
+          ts,
           refl,
           subst (NumberText hands.tree) (sym (append-nil r.number.items)) hands.is,
           behind,
-          refl,
+          (e, one, refl),
         ),
       );
 })
@@ -200,7 +204,7 @@ number_then r h q phase c (Ok x) sound place stops hands g = record {
   leads = leads_from r (Number phase) (c ∷ []) (events hands.tree [] ++ g.out) (json_state q) place
       (λ limit up. number_ends limit r.number.items hands.tree c (lists_of r) g.out (json_state q)
       (stops_number r phase c sound place stops)
-      (λ n x. one_node n hands.tree r.number.items x hands.is) hands.is (λ fs. number_event hands.tree r.number.items fs hands.is)
+      (λ n x. one_node n hands.tree r.number.items x hands.is) hands.is
       (subst (λ x. JsonLeads limit x (c ∷ []) g.out (json_state q)) (state_behind r h hands) (g.leads limit up)));
   taken = g.taken ∙ ap (λ es. es ++ g.out) hands.taken ∙ append_assoc (json_handed_on r) (events hands.tree []) g.out;
   sound = g.sound;
@@ -295,54 +299,71 @@ string_halts r role t bs i sound place inside on stops =
       before = subst (JsonGoesOn most_levels (json_state r)) (append-nil (take i bs))
           (on_back r (record r { text = t }) (take i bs) [] most_levels goes (omega arith)
           (reader_goes_on (record r { text = t }) goes.sound));
-      behind = λ limit up (s, es, rest).
-          string_no_rest limit role r.text.spot (string_so_far r.text) (lists_of r) (take (i + 1) bs ++ s) es (λ u v x. stops s u v x)
-          (subst (λ p. JsonRest limit (place_at r p) (take (i + 1) bs ++ s) es) place rest);
+      behind = λ limit up (s, ts, rest).
+          string_no_rest limit role r.text.spot (string_so_far r.text) (lists_of r) (take (i + 1) bs ++ s) ts (λ u v x. stops s u v x)
+          (subst (λ p. JsonRest limit (place_at r p) (take (i + 1) bs ++ s) ts) place rest);
     }
 
 -- the end of the bytes
 pub number_cut_short : (r : Reader) (phase : Phase) → JsonIsSound r → r.place ≡ Number phase → (0 < r.depth) ⊎ (NumberTail phase [] → ⊥)
-    → (es : List NodeEvent) → JsonRest most_levels (json_state r) [] es → ⊥
-number_cut_short r phase sound place (inl deep) es h =
-    let (n, x, none, e) = number_last_is most_levels r.number.items (lists_of r) es
-    (subst (λ p. JsonRest most_levels (place_at r p) [] es) place h) in
+    → (ts : List TimedEvent) → JsonRest most_levels (json_state r) [] ts → ⊥
+number_cut_short r phase sound place (inl deep) ts h =
+    let (n, x, none) = number_last_is most_levels r.number.items (lists_of r) ts
+    (subst (λ p. JsonRest most_levels (place_at r p) [] ts) place h) in
     omega (arith, sound.depth, ap length none)
-number_cut_short r phase sound place (inr not_whole) es h =
-    let (n, x, none, e) = number_last_is most_levels r.number.items (lists_of r) es
-    (subst (λ p. JsonRest most_levels (place_at r p) [] es) place h) in
+number_cut_short r phase sound place (inr not_whole) ts h =
+    let (n, x, none) = number_last_is most_levels r.number.items (lists_of r) ts
+    (subst (λ p. JsonRest most_levels (place_at r p) [] ts) place h) in
     not_whole (whole_from_number r.number.items phase (phase_of r phase sound place) (number_is n r.number.items x))
 
-pub owed_at : (r : Reader) (p : Place) → r.place ≡ p → IsOwed (where_of p r.number.items r.text.spot (string_so_far r.text))
-    → (es : List NodeEvent) → JsonRest most_levels (json_state r) [] es → ⊥
-owed_at r p place owed es h =
-    token_owed most_levels (where_of p r.number.items r.text.spot (string_so_far r.text)) (lists_of r) es owed
-    (subst (λ q. JsonRest most_levels (place_at r q) [] es) place h)
+none_open : (ls : List OpenKind) → length ls ≡ 0 → ls ≡ []
+none_open [] e = refl
+none_open (k ∷ ls) e = let none : ⊥ = omega (arith, e) in absurd none
 
-text_owed : (r : Reader) (role : Role) → r.place ≡ Text role → (es : List NodeEvent) → JsonRest most_levels (json_state r) [] es → ⊥
-text_owed r role place es h =
-    string_no_rest most_levels role r.text.spot (string_so_far r.text) (lists_of r) [] es
+-- the text ends with a number that has been handed on, and nothing is open
+pub number_finishes : (r h : Reader) (phase : Phase) (n : Node) → JsonIsSound r → r.place ≡ Number phase → r.depth ≡ 0 → HandsNumber r h
+    → json_handed_on h ≡ events n []
+    → (last : List TimedEvent) × JsonRest most_levels (json_state r) [] last × (json_handed_on r ++ untimed last ≡ events n [])
+number_finishes r h phase n sound place none hands same =
+    let closed : lists_of r ≡ [] = none_open (lists_of r) (sym sound.depth ∙ none) in
+    let (last, rest, is) = number_last most_levels r.number.items hands.tree hands.is in (
+      last,
+      subst (λ p. JsonRest most_levels (place_at r p) [] last) (sym place)
+          (subst (λ ls. JsonRest most_levels (at (numeral r.number.items) ls) [] last) (sym closed) rest),
+      ap (λ es. json_handed_on r ++ es) is ∙ sym hands.taken ∙ same,
+    )
+
+pub owed_at : (r : Reader) (p : Place) → r.place ≡ p → IsOwed (where_of p r.number.items r.text.spot (string_so_far r.text))
+    → (ts : List TimedEvent) → JsonRest most_levels (json_state r) [] ts → ⊥
+owed_at r p place owed ts h =
+    token_owed most_levels (where_of p r.number.items r.text.spot (string_so_far r.text)) (lists_of r) ts owed
+    (subst (λ q. JsonRest most_levels (place_at r q) [] ts) place h)
+
+text_owed : (r : Reader) (role : Role) → r.place ≡ Text role → (ts : List TimedEvent) → JsonRest most_levels (json_state r) [] ts → ⊥
+text_owed r role place ts h =
+    string_no_rest most_levels role r.text.spot (string_so_far r.text) (lists_of r) [] ts
     (λ t v x. string_owed r.text.spot (string_so_far r.text) t v r.text.live x)
-    (subst (λ q. JsonRest most_levels (place_at r q) [] es) place h)
+    (subst (λ q. JsonRest most_levels (place_at r q) [] ts) place h)
 
 cut_at_place : (r : Reader) (p : Place) → r.place ≡ p → JsonIsSound r → ((phase : Phase) → p ≡ Number phase → ⊥) → (p ≡ After → 0 < r.depth)
-    → (es : List NodeEvent) → JsonRest most_levels (json_state r) [] es → ⊥
-cut_at_place r Value place sound n d es h = owed_at r Value place tt es h
-cut_at_place r FirstEntry place sound n d es h = owed_at r FirstEntry place tt es h
-cut_at_place r FirstKey place sound n d es h = owed_at r FirstKey place tt es h
-cut_at_place r NextKey place sound n d es h = owed_at r NextKey place tt es h
-cut_at_place r Colon place sound n d es h = owed_at r Colon place tt es h
-cut_at_place r After place sound n d es h =
-    let (none, e) = nothing_ends most_levels (lists_of r) es (subst (λ q. JsonRest most_levels (place_at r q) [] es) place h) in
+    → (ts : List TimedEvent) → JsonRest most_levels (json_state r) [] ts → ⊥
+cut_at_place r Value place sound n d ts h = owed_at r Value place tt ts h
+cut_at_place r FirstEntry place sound n d ts h = owed_at r FirstEntry place tt ts h
+cut_at_place r FirstKey place sound n d ts h = owed_at r FirstKey place tt ts h
+cut_at_place r NextKey place sound n d ts h = owed_at r NextKey place tt ts h
+cut_at_place r Colon place sound n d ts h = owed_at r Colon place tt ts h
+cut_at_place r After place sound n d ts h =
+    let (none, e) = nothing_ends most_levels (lists_of r) ts (subst (λ q. JsonRest most_levels (place_at r q) [] ts) place h) in
     let deep = d refl in omega (arith, sound.depth, ap length none)
-cut_at_place r (Word w taken) place sound n d es h =
-    word_owed most_levels w taken (lists_of r) es (kept_at r (Word w taken) place sound).1
-    (subst (λ q. JsonRest most_levels (place_at r q) [] es) place h)
-cut_at_place r (Number phase) place sound n d es h = absurd (n phase refl)
-cut_at_place r (Text role) place sound n d es h = text_owed r role place es h
+cut_at_place r (Word w taken) place sound n d ts h =
+    word_owed most_levels w taken (lists_of r) ts (kept_at r (Word w taken) place sound).1
+    (subst (λ q. JsonRest most_levels (place_at r q) [] ts) place h)
+cut_at_place r (Number phase) place sound n d ts h = absurd (n phase refl)
+cut_at_place r (Text role) place sound n d ts h = text_owed r role place ts h
 
 -- at every place but in a number, and behind a value only while something is open
 pub cut_short : (r : Reader) → JsonIsSound r → ((phase : Phase) → r.place ≡ Number phase → ⊥) → (r.place ≡ After → 0 < r.depth)
-    → (es : List NodeEvent) → JsonRest most_levels (json_state r) [] es → ⊥
+    → (ts : List TimedEvent) → JsonRest most_levels (json_state r) [] ts → ⊥
 cut_short r sound no_number deep = cut_at_place r r.place refl sound no_number deep
 
 -- another byte than the next letter of a literal name
@@ -386,6 +407,11 @@ letter_goes r w taken c sound place inside same =
       };
     }
 
+literal_events : (w : Literal) → events (literal_node w) [] ≡ literal_event w ∷ []
+literal_events Literal.Null = refl
+literal_events Literal.True = refl
+literal_events Literal.False = refl
+
 -- the last letter of a literal name
 pub word_over : (r q : Reader) (w : Literal) (taken c : ℕ) → r.place ≡ Word w taken → taken < length (letters w)
     → length (letters w) ≤ taken + 1 → get_or (letters w) taken 0 ≡ c
@@ -396,12 +422,12 @@ word_over r q w taken c place inside last same there lists spoken sound =
     drop_more (letters w) taken 0 inside ∙ ap (λ x. get_or (letters w) taken 0 ∷ x) (drop_all (taken + 1) (letters w) last)
     ∙ ap (λ x. x ∷ []) same in
     record {
-      out = events (literal_node w) [];
-      leads = leads_from r (Word w taken) (c ∷ []) (events (literal_node w) []) (json_state q) place
-          (subst (λ p. LeadsTo (place_at r (Word w taken)) (c ∷ []) (events (literal_node w) []) (place_at q p)) (sym there)
-          (subst (λ ls. LeadsTo (place_at r (Word w taken)) (c ∷ []) (events (literal_node w) []) (at after ls)) (sym lists)
+      out = literal_event w ∷ [];
+      leads = leads_from r (Word w taken) (c ∷ []) (literal_event w ∷ []) (json_state q) place
+          (subst (λ p. LeadsTo (place_at r (Word w taken)) (c ∷ []) (literal_event w ∷ []) (place_at q p)) (sym there)
+          (subst (λ ls. LeadsTo (place_at r (Word w taken)) (c ∷ []) (literal_event w ∷ []) (at after ls)) (sym lists)
           (λ limit up. word_ends limit w taken c (lists_of r) cut)));
-      taken = spoken;
+      taken = spoken ∙ ap (λ es. json_handed_on r ++ es) (literal_events w);
       sound = sound;
     }
 

@@ -1,14 +1,17 @@
 -- What the written text and its definition are worth, as statements that the functions of src/laws.rt prove.
-use Rattle.std.specs.Prelude.{◌≡◌, ◌≤◌, ℕ, List, [], ◌∷◌, ◌++◌, codes, IsUtf8, Result, Ok}
+use Rattle.std.specs.Prelude.{◌≡◌, ◌≤◌, ℕ, List, [], ◌∷◌, ◌++◌, length, codes, IsUtf8, Result, Ok}
 use Rattle.sm_bytes.specs.Ascii.{backspace, tab, line_feed, form_feed, carriage_return, quote, delete}
 use Rattle.sm_tree.specs.Node.{Node}
 use Rattle.sm_tree.specs.Json.{IsJson}
 use Rattle.sm_tree.specs.Levels.{levels}
+use Rattle.sm_tree.specs.Events.{events}
+use Rattle.sm_tree.specs.Timing.{TimedEvent, untimed}
 use Rattle.sm_tree.specs.Syntax.{ComesTo, most_levels}
 use Rattle.sm_tree.specs.SyntaxLaws.{HasOneReading, HasOneAnswer, HasSomeAnswer}
 use Rattle.sm_tree.specs.declared.refusal.SyntaxRefusal.{SyntaxRefusal}
 use Rattle.sm_json.specs.Strings.{SpellsText}
 use Rattle.sm_json.specs.JsonText.{SpellsValue, JsonText, json_syntax}
+use Rattle.sm_json.specs.Timing.{json_timing}
 use Rattle.sm_json.specs.Written.{written, written_text}
 
 -- what is written for a tree is a JSON text of that tree
@@ -38,6 +41,15 @@ pub record EscapesAreMeant : Type 0 where
   pub last_control : written_text (0x1F ∷ []) ≡ codes "\"\\u001f\""
   pub other : written_text (delete ∷ []) ≡ quote ∷ delete ∷ quote ∷ []
   pub solidus : written_text (codes "/") ≡ codes "\"/\""
+
+-- each text has its times, and a text with times is a text, whose events are those of its tree
+pub record TextsAreTimed : Type 0 where
+  pub timed : (n : Node) (bs : List ℕ) → JsonText n bs → (ts : List TimedEvent) × json_timing n bs ts
+  pub spelt : (n : Node) (bs : List ℕ) (ts : List TimedEvent) → json_timing n bs ts → JsonText n bs × (untimed ts ≡ events n [])
+
+-- a text has at most one event a byte
+abbrev pub FewEvents : Type 0
+FewEvents = (n : Node) (bs : List ℕ) (ts : List TimedEvent) → json_timing n bs ts → length ts ≤ length bs
 
 -- bytes are a text of at most one tree
 abbrev pub OneReading : Type 0

@@ -1,5 +1,6 @@
 pub mod Strings
 pub mod JsonText
+pub mod Timing
 pub mod Written
 pub mod WrittenEvents
 pub mod Laws

@@ -1,5 +1,5 @@
 // Laws of texts and of what is written, each the contract of a function whose body is empty.
-ghost use Rattle.sm_json.specs.Laws.{WrittenIsText, WrittenSpells, WrittenIsRead, WrittenTextSpells, EscapesAreMeant, OneReading, OneAnswer, SomeAnswer};
+ghost use Rattle.sm_json.specs.Laws.{WrittenIsText, WrittenSpells, WrittenIsRead, WrittenTextSpells, EscapesAreMeant, TextsAreTimed, FewEvents, OneReading, OneAnswer, SomeAnswer};
 ghost use Rattle.sm_json.specs.WrittenEvents.{WrittenEventsAreTree, WrittenEventsBegin, JsonEventsStand, JsonStreamsAreTaken};
 
 /// What is written for a tree is a JSON text of that tree (RFC 8259).
@@ -25,6 +25,16 @@ pub fn written_text_spells()
 /// The escapes that are written, each by an example.
 pub fn escapes_are_meant()
     ensures { EscapesAreMeant }
+{}
+
+/// Each JSON text has its times: its tree's events, each with the byte that completes it.
+pub fn texts_are_timed()
+    ensures { TextsAreTimed }
+{}
+
+/// A JSON text has at most one event a byte.
+pub fn few_events()
+    ensures { FewEvents }
 {}
 
 /// Bytes are a JSON text of at most one tree.

@@ -6,6 +6,7 @@ use Rattle.sm_tree.specs.Node.{Node}
 use Rattle.sm_tree.specs.Syntax.{most_levels}
 use Rattle.sm_tree.specs.Numbers.{NumberText}
 use Rattle.sm_tree.specs.Events.{NodeEvent, events, key_event, text_event}
+use Rattle.sm_tree.specs.Timing.{TimedEvent, untimed}
 use Rattle.sm_tree.specs.View.{node_of}
 use Rattle.sm_tree.specs.declared.tree.Tree.{Tree}
 use Rattle.sm_tree.specs.Building.{so_far, kinds, awaits_value, awaits_content, goes_on, IsIn}
@@ -161,10 +162,11 @@ JsonTakesAll before bs behind (Err (KeyKind at)) = ⊥
 -- the bytes end here: the events are those of the tree, or no text ends so
 abbrev pub JsonFinishes : Reader → Result Tree SyntaxRefusal → Type 0
 JsonFinishes reader (Ok tree) =
-    (last : List NodeEvent) × JsonRest most_levels (json_state reader) [] last × (json_handed_on reader ++ last ≡ events (node_of tree) [])
+    (last : List TimedEvent) × JsonRest most_levels (json_state reader) [] last
+    × (json_handed_on reader ++ untimed last ≡ events (node_of tree) [])
 JsonFinishes reader (Err NoMemory) = Unit {0}
 JsonFinishes reader (Err (Bad at)) = ⊥
-JsonFinishes reader (Err Ended) = (es : List NodeEvent) → JsonRest most_levels (json_state reader) [] es → ⊥
+JsonFinishes reader (Err Ended) = (ts : List TimedEvent) → JsonRest most_levels (json_state reader) [] ts → ⊥
 JsonFinishes reader (Err (TooDeep at)) = ⊥
 JsonFinishes reader (Err (KeyKind at)) = ⊥
 

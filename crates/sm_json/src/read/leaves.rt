@@ -38,6 +38,7 @@ impl Reader {
     ghost use Rattle.sm_json.specs.steps.Machine.{JsonIsSound, JsonTakesByte, Grows, HandsNumber, HandsText, JsonTakesPrefix};
 
     // One more byte of a literal name.
+    #[tactic(auto, using(crate::proofs::Turns::word_over))]
     pub(super) fn letter(&mut self, word: Literal, taken: u8, byte: u8) -> Result<(), SyntaxRefusal>
         requires sound { JsonIsSound self.old }
         requires place { self.old.place ≡ Place.Word word taken }
