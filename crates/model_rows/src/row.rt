@@ -1,0 +1,33 @@
+// What a line of text says.
+
+/// A row.
+#[derive(Debug, Clone, Copy)]
+pub enum Row<'a> {
+    /// An empty line, or a title (`# ..`).
+    Title,
+    /// `ast TEXT`: to read the text as a model.
+    Ast(&'a str),
+    /// `part TEXT`: the text goes behind those of the rows `part` before.
+    Part(&'a str),
+    /// `parts`: to read what these rows make as a model. The next such row begins anew.
+    Parts,
+    /// Any other line.
+    Unknown,
+}
+
+impl<'a> Row<'a> {
+    /// What a line says.
+    pub fn of(line: &'a str) -> Self {
+        if line.is_empty() || line.starts_with('#') {
+            return Row::Title;
+        }
+        if line == "parts" {
+            return Row::Parts;
+        }
+        match line.split_once(' ') {
+            Some(("ast", text)) => Row::Ast(text),
+            Some(("part", text)) => Row::Part(text),
+            _ => Row::Unknown,
+        }
+    }
+}
