@@ -14,7 +14,8 @@ abbrev pub decreases-show_pairs : goal.decreases-show_pairs
 decreases-show_pairs l = raw_members_weight (raw_members_of (raw_members_view l.pairs.now))
 
 abbrev pub invariant-show_entries-loop-item : goal.invariant-show_entries-loop-item
-invariant-show_entries-loop-item l = raws_weight (raws_of (raws_view (drop l.item-index l.items))) ≤ raws_weight (raws_of (raws_view l.items))
+invariant-show_entries-loop-item l = raws_weight (raws_of (raws_view (drop l.item-index l.items)))
+    ≤ raws_weight (raws_of (raws_view l.items))
 
 abbrev pub invariant-show_pairs-loop-pair : goal.invariant-show_pairs-loop-pair
 invariant-show_pairs-loop-pair l = raw_members_weight (raw_members_of (raw_members_view (drop l.pair-index l.pairs)))
