@@ -194,31 +194,36 @@ fn a_reader_of_std_is_a_source(rt: HostRuntime) -> Result<(), Fail> {
     Ok(())
 }
 
+// Puts two pieces to a writer that fails in one of its calls, and gives the answer and what was written.
+fn put_to_narrow(
+    alloc: Global,
+    failing: usize,
+) -> Result<(Result<(), PutRefusal>, Vec<u8>), AllocError> {
+    let mut writer = Narrow::new(Vec::new(alloc), failing);
+    let result = put_twice(&mut StdSink::new(&mut writer), b"abc", b"de");
+    Ok((result, writer.bytes))
+}
+
+// Each piece is flushed in its own call, so that a fault of the flush (here the third call) isn't answered later.
 #[test]
 fn a_writer_of_std_is_a_sink(rt: HostRuntime) -> Result<(), Fail> {
-    let alloc = rt.alloc();
-    let mut writer = Narrow::new(Vec::new(alloc), 0);
-    assert_eq!(rt;
-        put_twice(&mut StdSink::new(&mut writer), b"abc", b"de"),
-        Ok(())
-    );
-    assert_eq!(rt; writer.bytes.as_slice(), b"abcde".as_slice());
+    for (failing, answer, bytes) in [
+        (0, Ok(()), b"abcde".as_slice()),
+        (2, Err(PutRefusal::Failed), b"ab"),
+        (3, Err(PutRefusal::Failed), b"abc"),
+    ] {
+        let (result, written) = put_to_narrow(rt.alloc(), failing)?;
+        assert_eq!(rt; result, answer, "at {failing}");
+        assert_eq!(rt; written.as_slice(), bytes, "at {failing}");
+    }
+    Ok(())
+}
 
-    let mut failing = Narrow::new(Vec::new(alloc), 2);
-    let result = put_twice(&mut StdSink::new(&mut failing), b"abc", b"de");
-    assert_eq!(rt; result, Err(PutRefusal::Failed));
-    assert_eq!(rt; failing.bytes.as_slice(), b"ab".as_slice());
-
-    // Each piece is flushed in its own call, so that a fault of the flush isn't answered later.
-    let mut unflushed = Narrow::new(Vec::new(alloc), 3);
-    let result = put_twice(&mut StdSink::new(&mut unflushed), b"abc", b"de");
-    assert_eq!(rt; result, Err(PutRefusal::Failed));
-    assert_eq!(rt; unflushed.bytes.as_slice(), b"abc".as_slice());
-
-    // A writer with no room left takes nothing, and that is a fault too.
+// A writer with no room left takes nothing, and that is a fault too.
+#[test]
+fn a_full_writer_is_a_fault(rt: HostRuntime) {
     let result = put_twice(&mut StdSink::new(Full), b"", b"d");
     assert_eq!(rt; result, Err(PutRefusal::Failed));
-    Ok(())
 }
 
 #[test]

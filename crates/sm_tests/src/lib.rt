@@ -3,10 +3,6 @@
 #![tactic(auto)]
 
 #[cfg(test)]
-mod cbor;
-#[cfg(test)]
-mod ids;
-#[cfg(test)]
 mod io;
 #[cfg(test)]
 mod shapes;

@@ -1,15 +1,15 @@
 // What only tests say of the commands: faults of the outside in mid-run, an input in pieces of any size, and the codec over
 // structures within structures, which no model that is read today has. All else is rows of command_rows.
-ghost use Rattle.std.specs.Prelude.{◌≡◌, ◌<◌, None, IfOk, IsUtf8, unwrap_or};
+ghost use Rattle.std.specs.Prelude.{◌≡◌, ◌<◌, Some, IfOk, IsUtf8, unwrap_or};
 ghost use Rattle.sm_shapes.specs.Tables.{shape_count, Shaped};
 
-use crate::shapes::shape;
 use sm_commands::codec::{Refusal, decode, encode};
 use sm_commands::run;
 use sm_io::{MemFiles, MemSink, MemSource, StdSource, read_all};
 use sm_json::read_tree;
 use sm_shapes::{
-    Fault, Fields, LiteralPatterns, ShapeKind, Table, TableMember, TableMembers, TableShapes, Value,
+    Fault, Fields, LiteralPatterns, ShapeKind, Table, TableMember, TableMembers, TableShape,
+    TableShapes, Value,
 };
 use sm_tree::{NoMemory, Text, Tree};
 use std::alloc::Global;
@@ -43,11 +43,6 @@ fn one_file(alloc: Global, name: &str, text: &[u8], failing: Vec<u64>) -> Result
     Ok(MemFiles::new(alloc, files, failing))
 }
 
-// An input of these bytes, given whole, that doesn't fail.
-fn calm_input(alloc: Global, bytes: &[u8]) -> Result<MemSource, Fail> {
-    Ok(MemSource::new(bytes.to_vec(alloc)?, Vec::new(alloc), Vec::new(alloc)))
-}
-
 // Runs the words over these objects, and gives the status.
 fn status_of(
     alloc: Global,
@@ -61,37 +56,61 @@ fn status_of(
     Ok(run(alloc, words.as_slice(), files, input, out, &mut patterns))
 }
 
-// Runs the words on a model file and an input where nothing fails, and gives the status and what was printed.
-fn calm(
-    alloc: Global,
-    line: &[&str],
-    name: &str,
-    model: &[u8],
-    body: &[u8],
-) -> Result<(u8, Vec<u8>), Fail> {
-    let mut files = one_file(alloc, name, model, Vec::new(alloc))?;
-    let mut input = calm_input(alloc, body)?;
-    let mut out = MemSink::new(alloc, Vec::new(alloc));
-    let status = status_of(alloc, line, &mut files, &mut input, &mut out)?;
-    Ok((status, out.bytes().to_vec(alloc)?))
+// Which of the reads of files, of the takes and of the puts fails; 0 is none.
+#[derive(Clone, Copy)]
+struct Failing {
+    read: u64,
+    take: u64,
+    put: u64,
 }
-// One call that fails.
-fn only(alloc: Global, call: u64) -> Result<Vec<u64>, Fail> {
-    Ok(vec![in alloc; call]?)
+
+// What a run comes to: the status, what was put, and what the input still has, or `None` where its next take fails.
+#[derive(Drop)]
+struct Ended {
+    status: u8,
+    put: Vec<u8>,
+    left: Option<Vec<u8>>,
+}
+
+// Runs the words on a file of this name, which has the model, and on an input in three pieces.
+fn run_failing(alloc: Global, line: &[&str], body: &[u8], failing: Failing) -> Result<Ended, Fail> {
+    let name = line.get(1).copied().unwrap_or("");
+    let mut files = one_file(alloc, name, SHOP.as_bytes(), vec![in alloc; failing.read]?)?;
+    let cuts = vec![in alloc; 1u64, 20]?;
+    let mut input = MemSource::new(body.to_vec(alloc)?, cuts, vec![in alloc; failing.take]?);
+    let mut out = MemSink::new(alloc, vec![in alloc; failing.put]?);
+    let status = status_of(alloc, line, &mut files, &mut input, &mut out)?;
+    Ok(Ended {
+        status,
+        put: out.bytes().to_vec(alloc)?,
+        left: read_all(alloc, &mut input, 100).ok(),
+    })
+}
+
+// Whether the input still has this text.
+fn leaves(run: &Ended, text: &str) -> bool {
+    match &run.left {
+        Some(left) => left.as_slice() == text.as_bytes(),
+        None => false,
+    }
 }
 
 #[test]
 fn a_read_that_fails_ends_the_run(rt: HostRuntime) -> Result<(), Fail> {
-    let alloc = rt.alloc();
-    for (call, ends, left) in [(1, 3, BODY), (2, 0, "")] {
-        let mut files = one_file(alloc, "shop.json", SHOP.as_bytes(), only(alloc, call)?)?;
-        let mut input = calm_input(alloc, BODY.as_bytes())?;
-        let mut out = MemSink::new(alloc, Vec::new(alloc));
-        let status = status_of(alloc, &ITEM, &mut files, &mut input, &mut out)?;
-        assert_eq!(rt; status, ends, "at read {call}");
-        assert_eq!(rt; out.bytes().is_empty(), ends == 3, "at read {call}");
-        let rest = read_all(alloc, &mut input, 100)?;
-        assert_eq!(rt; rest.as_slice(), left.as_bytes(), "at read {call}");
+    for (read, ends) in [(1, 3), (2, 0)] {
+        let failing = Failing {
+            read,
+            take: 0,
+            put: 0,
+        };
+        let run = run_failing(rt.alloc(), &ITEM, BODY.as_bytes(), failing)?;
+        assert_eq!(rt; run.status, ends, "at read {read}");
+        assert_eq!(rt; run.put.is_empty(), ends == 3, "at read {read}");
+        let is_left = match ends {
+            3 => leaves(&run, BODY),
+            _ => leaves(&run, ""),
+        };
+        assert!(rt; is_left, "at read {read}");
     }
     Ok(())
 }
@@ -99,15 +118,15 @@ fn a_read_that_fails_ends_the_run(rt: HostRuntime) -> Result<(), Fail> {
 // The input comes in three pieces and an end, so the fifth take isn't made.
 #[test]
 fn a_take_that_fails_ends_the_run(rt: HostRuntime) -> Result<(), Fail> {
-    let alloc = rt.alloc();
-    for (call, ends) in [(1, 3), (2, 3), (3, 3), (4, 3), (5, 0)] {
-        let mut files = one_file(alloc, "shop.json", SHOP.as_bytes(), Vec::new(alloc))?;
-        let cuts = vec![in alloc; 1u64, 20]?;
-        let mut input = MemSource::new(BODY.as_bytes().to_vec(alloc)?, cuts, only(alloc, call)?);
-        let mut out = MemSink::new(alloc, Vec::new(alloc));
-        let status = status_of(alloc, &ITEM, &mut files, &mut input, &mut out)?;
-        assert_eq!(rt; status, ends, "at take {call}");
-        assert_eq!(rt; out.bytes().is_empty(), ends == 3, "at take {call}");
+    for (take, ends) in [(1, 3), (2, 3), (3, 3), (4, 3), (5, 0)] {
+        let failing = Failing {
+            read: 0,
+            take,
+            put: 0,
+        };
+        let run = run_failing(rt.alloc(), &ITEM, BODY.as_bytes(), failing)?;
+        assert_eq!(rt; run.status, ends, "at take {take}");
+        assert_eq!(rt; run.put.is_empty(), ends == 3, "at take {take}");
     }
     Ok(())
 }
@@ -115,40 +134,46 @@ fn a_take_that_fails_ends_the_run(rt: HostRuntime) -> Result<(), Fail> {
 // A body, a refusal and a limit are each put once: after a put that fails nothing more is put.
 #[test]
 fn a_put_that_fails_ends_the_run(rt: HostRuntime) -> Result<(), Fail> {
-    let alloc = rt.alloc();
-    for (body, ends) in [(BODY, 0), ("[]", 1), ("", 1)] {
-        for call in 1..3u64 {
-            let mut files = one_file(alloc, "shop.json", SHOP.as_bytes(), Vec::new(alloc))?;
-            let mut input = calm_input(alloc, body.as_bytes())?;
-            let mut out = MemSink::new(alloc, only(alloc, call)?);
-            let status = status_of(alloc, &ITEM, &mut files, &mut input, &mut out)?;
-            let wanted = if call == 1 { 4 } else { ends };
-            assert_eq!(rt; status, wanted, "at put {call} of {body}");
-            assert_eq!(rt;
-                out.bytes().is_empty(),
-                call == 1,
-                "at put {call} of {body}"
-            );
-        }
+    for (body, put, ends) in [
+        (BODY, 1, 4),
+        (BODY, 2, 0),
+        ("[]", 1, 4),
+        ("[]", 2, 1),
+        ("", 1, 4),
+        ("", 2, 1),
+    ] {
+        let failing = Failing {
+            read: 0,
+            take: 0,
+            put,
+        };
+        let run = run_failing(rt.alloc(), &ITEM, body.as_bytes(), failing)?;
+        assert_eq!(rt; run.status, ends, "at put {put} of {body}");
+        assert_eq!(rt; run.put.is_empty(), put == 1, "at put {put} of {body}");
     }
     Ok(())
 }
 
-// Each take of the input fails, and none is made.
+// The first take of the input fails, and where it isn't made the status is another.
 #[test]
 fn a_refusal_before_the_input_leaves_it_unread(rt: HostRuntime) -> Result<(), Fail> {
-    let alloc = rt.alloc();
+    let failing = Failing {
+        read: 0,
+        take: 1,
+        put: 0,
+    };
     for (name, shape, ends) in [
         ("shop.json", "shop#Itm", 1),
         ("m.smithy", "shop#Item", 1),
         ("shop.json", "shop#Item", 3),
     ] {
-        let words = ["body", name, shape, "json", "json"];
-        let mut files = one_file(alloc, name, SHOP.as_bytes(), Vec::new(alloc))?;
-        let mut input = MemSource::new(Vec::new(alloc), Vec::new(alloc), only(alloc, 1)?);
-        let mut out = MemSink::new(alloc, Vec::new(alloc));
-        let status = status_of(alloc, &words, &mut files, &mut input, &mut out)?;
-        assert_eq!(rt; status, ends, "at {name} {shape}");
+        let run = run_failing(
+            rt.alloc(),
+            &["body", name, shape, "json", "json"],
+            b"",
+            failing,
+        )?;
+        assert_eq!(rt; run.status, ends, "at {name} {shape}");
     }
     Ok(())
 }
@@ -185,7 +210,16 @@ fn pieces_of_any_size_give_the_same_output(rt: HostRuntime) -> Result<(), Fail> 
     let alloc = rt.alloc();
     let body = long_body(alloc)?;
     assert_eq!(rt; body.len(), 10_002);
-    let (status, whole) = calm(alloc, &ITEM, "shop.json", SHOP.as_bytes(), body.as_slice())?;
+    let failing = Failing {
+        read: 0,
+        take: 0,
+        put: 0,
+    };
+    let Ended {
+        status,
+        put: whole,
+        ..
+    } = run_failing(alloc, &ITEM, body.as_slice(), failing)?;
     assert_eq!(rt; status, 0);
     assert!(rt; whole.starts_with(br#"{"id":"xxx"#));
     assert!(rt; whole.ends_with(br#"xxx","sold":false}"#));
@@ -215,34 +249,42 @@ fn pieces_of_any_size_give_the_same_output(rt: HostRuntime) -> Result<(), Fail> 
 }
 
 // A member of the shape 0.
-fn member(alloc: Global, name: &str, target: u32, required: bool) -> Result<TableMember, NoMemory>
+fn member(
+    alloc: Global,
+    name: &str,
+    json_name: &str,
+    target: u32,
+    required: bool,
+) -> Result<TableMember, NoMemory>
     ensures home { IfOk result (λ member. member.shape ≡ 0) }
     ensures name { IfOk result (λ member. member.name ≡ name.now) }
-    ensures json_name { IfOk result (λ member. member.json_name ≡ None) }
+    ensures json_name { IfOk result (λ member. member.json_name ≡ Some json_name.now) }
     ensures target { IfOk result (λ member. member.target ≡ target) }
     ensures utf8 { IfOk result (λ member. IsUtf8 member.name × IsUtf8 (unwrap_or member.json_name member.name)) }
 {
     let name = Text::copy(alloc, name)?;
+    let json_name = Text::copy(alloc, json_name)?;
     Ok(TableMember {
         shape: 0,
         name,
-        json_name: None,
+        json_name: Some(json_name),
         target,
         required,
     })
 }
 
-// A link has a required text `id`, a link `next` and an integer `count`.
+// A link has a required text `id`, a link `next` and an integer `count`. Two of them have each other's names as their JSON names,
+// which a table in order may have.
 fn links(alloc: Global) -> Result<Table, NoMemory>
     ensures shaped { IfOk result Shaped }
     ensures count { IfOk result (λ table. shape_count table ≡ 3) }
 {
-    let id = member(alloc, "id", 1, true)?;
-    let next = member(alloc, "next", 0, false)?;
-    let count = member(alloc, "count", 2, false)?;
-    let link = shape(ShapeKind::Structure, vec![in alloc; 0, 1, 2]?);
-    let text = shape(ShapeKind::Text, Vec::new(alloc));
-    let integer = shape(ShapeKind::Integer, Vec::new(alloc));
+    let id = member(alloc, "id", "count", 1, true)?;
+    let next = member(alloc, "next", "next", 0, false)?;
+    let count = member(alloc, "count", "id", 2, false)?;
+    let link = TableShape::plain(ShapeKind::Structure, vec![in alloc; 0, 1, 2]?);
+    let text = TableShape::plain(ShapeKind::Text, Vec::new(alloc));
+    let integer = TableShape::plain(ShapeKind::Integer, Vec::new(alloc));
     let members = vec![in alloc; id, next, count]?;
     let shapes = vec![in alloc; link, text, integer]?;
     Ok(Table {
@@ -328,13 +370,19 @@ fn large_value(alloc: Global) -> Result<Value, NoMemory> {
     Ok(Value::Structure(Fields::new(outer)))
 }
 
+// Whether the link in a large object has that value, and is written so.
+fn is_crossed(alloc: Global, table: &Table) -> Result<bool, Fail>
+    requires shaped { Shaped table.now }
+    requires link { 0 < shape_count table.now }
+{
+    let tree = read_tree(alloc, LARGE.as_bytes())?;
+    let (value, written) = crossed(alloc, table, &tree)?;
+    Ok(value == large_value(alloc)? && written == read_tree(alloc, LARGE_WRITTEN.as_bytes())?)
+}
+
 #[test]
 fn a_link_in_a_large_object_is_decoded_and_written(rt: HostRuntime) -> Result<(), Fail> {
-    let alloc = rt.alloc();
-    let table = links(alloc)?;
-    let tree = read_tree(alloc, LARGE.as_bytes())?;
-    let (value, written) = crossed(alloc, &table, &tree)?;
-    assert!(rt; value == large_value(alloc)?);
-    assert!(rt; written == read_tree(alloc, LARGE_WRITTEN.as_bytes())?);
+    let table = links(rt.alloc())?;
+    assert!(rt; is_crossed(rt.alloc(), &table)?);
     Ok(())
 }
