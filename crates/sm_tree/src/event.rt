@@ -13,7 +13,7 @@ use crate::text::{Bytes, Text};
 use crate::tree::Tree;
 
 /// One event of a tree's stream. A leaf is one event; a list, an object and a tag have an opener before what they hold.
-#[derive(PartialEq, Eq, Debug, Drop)]
+#[derive(Debug, Drop)]
 pub enum Event {
     /// `null`.
     Null,
