@@ -30,45 +30,23 @@ use Rattle.sm_commands.specs.ReadModel.{ReadsModel}
 use Rattle.sm_commands.specs.Lines.{unbuilt_line, no_shape_line, fault_line, syntax_line, file_limit_line, body_limit_line}
 use Rattle.sm_io.specs.Seen.{FilesSeen, Stream}
 use Rattle.sm_commands.specs.Limits.{file_limit, body_limit}
-use Rattle.sm_commands.specs.Body.{Answer, done, refused, past, EndsInJson, IsUnbuilt, TextAnswers, FileHasShape}
-use Rattle.sm_commands.specs.Body.FileAnswers.{long_file, unbuilt, no_shape}
+use Rattle.sm_commands.specs.Tabled.{table_of}
+use Rattle.sm_commands.specs.Commands.{body_command}
+use Rattle.sm_commands.specs.Answer.{Answer, done, refused, past, came}
+use Rattle.sm_commands.specs.Answer.InputUse.{untouched, to_its_end, past_its_limit}
+use Rattle.sm_commands.specs.Stages.{IsInput, EndsInJson, IsUnbuilt, ShapeChosen}
+use Rattle.sm_commands.specs.Body.{ModelAnswers, TextAnswers}
+use Rattle.sm_commands.specs.Body.ModelAnswers.{long_file, unbuilt, no_shape}
 use Rattle.sm_commands.specs.Body.TextAnswers.{no_text, fault, value}
-use Rattle.sm_commands.specs.Body.InputAnswers.{long_input, whole}
-use Rattle.sm_commands.specs.Run.{BodyAnswers, ReachesInput, ReadFails, StopsShort}
-use Rattle.sm_commands.specs.Run.BodyAnswers.{by_file, by_input}
-use Rattle.sm_commands.specs.steps.BodySteps.{StepStops, StepComesTo, EndsWithLine, EndsWithLimit, TreeAnswers, ReadsModelFile, HoldsModel, RefusesFile, OpensModel, InputSays, InputComesTo, BodyComesTo}
+use Rattle.sm_commands.specs.Body.BodySays.{by_model, long_input, by_text}
+use Rattle.sm_commands.specs.Run.{Answers, ReadFails, StopsShort}
+use Rattle.sm_commands.specs.steps.CommandSteps.{StepStops, StepComesTo, EndsWithLine, EndsWithLimit, ComesTo}
+use Rattle.sm_commands.specs.steps.BodySteps.{TreeAnswers, ReadsModelFile, HoldsModel, RefusesFile, OpensModel, InputSays, InputComesTo}
+use Rattle.sm_commands.specs.steps.BodySteps.InputSays.{beyond, whole}
 use Rattle.sm_commands.specs.declared.model.structures.FirstModel.{FirstModel}
-use Rattle.sm_commands.specs.declared.body.Stop.{Stop}
-use Rattle.sm_commands.specs.declared.body.Stop.TheVariants.{Refused, Limit, ReadFault, NoMemory}
+use Rattle.sm_commands.specs.declared.stop.Stop.{Stop}
+use Rattle.sm_commands.proofs.Stops.{line_stops, limit_stops, stops_map, comes_map}
 use Rattle.sm_commands.proofs.Shaped.{shape_count_is}
-
--- a step that ends with a line has the answer of that line
-pub line_stops : (Says : Answer → Type 0) (Failed Short : Type 0) (line : List ℕ) (stop : Stop) → Says (refused line) → Short
-    → EndsWithLine line stop → StepStops Says Failed Short stop
-line_stops Says Failed Short line (Refused printed) says short ends = subst (λ x. Says (refused x)) (sym ends) says
-line_stops Says Failed Short line (Limit printed) says short ends = absurd ends
-line_stops Says Failed Short line ReadFault says short ends = absurd ends
-line_stops Says Failed Short line NoMemory says short ends = short
-
-pub limit_stops : (Says : Answer → Type 0) (Failed Short : Type 0) (line : List ℕ) (stop : Stop) → Says (past line) → Short
-    → EndsWithLimit line stop → StepStops Says Failed Short stop
-limit_stops Says Failed Short line (Refused printed) says short ends = absurd ends
-limit_stops Says Failed Short line (Limit printed) says short ends = subst (λ x. Says (past x)) (sym ends) says
-limit_stops Says Failed Short line ReadFault says short ends = absurd ends
-limit_stops Says Failed Short line NoMemory says short ends = short
-
--- what holds of a step's answer, failed read and `NoMemory`, holds where more is known
-stops_map : (Says Tells : Answer → Type 0) (F G S T : Type 0) (stop : Stop) → ((a : Answer) → Says a → Tells a) → (F → G) → (S → T)
-    → StepStops Says F S stop → StepStops Tells G T stop
-stops_map Says Tells F G S T (Refused line) says failed short h = says (refused line.items) h
-stops_map Says Tells F G S T (Limit line) says failed short h = says (past line.items) h
-stops_map Says Tells F G S T ReadFault says failed short h = failed h
-stops_map Says Tells F G S T NoMemory says failed short h = short h
-
-comes_map : (Says Tells : Answer → Type 0) (F G S T : Type 0) (result : Result (Vec ℕ) Stop) → ((a : Answer) → Says a → Tells a) → (F → G)
-    → (S → T) → StepComesTo Says F S result → StepComesTo Tells G T result
-comes_map Says Tells F G S T (Ok far) says failed short h = says (done far.items) h
-comes_map Says Tells F G S T (Err stop) says failed short h = stops_map Says Tells F G S T stop says failed short h
 
 -- a tree that spells a value, and one that has a fault
 pub value_answers : (t : Table) (s : ℕ) (n : Node) (v : Val) (far : List ℕ) → Spells t json_leaf s v n
@@ -134,11 +112,11 @@ longer_input (Some bytes) limit h = (bytes, refl, h)
 pub file_opens : (files files1 : FilesSeen) (name file : List ℕ) (read : FirstModel) → Holds files.held name (Some file)
     → length file ≤ file_limit → ReadsModelFile name file (Ok (Some read)) → OpensModel files files1 name (Ok read)
 file_opens files files1 name file read held within (json, (n, is_read, model)) = record {
-  file = file;
-  m = model.model;
-  held = held;
-  within = within;
-  model = record { is_json = json; tree = n; read = is_read; form = model.form };
+  read = record {
+    file = record { bytes = file; held = held; within = within };
+    m = model.model;
+    model = record { is_json = json; tree = n; read = is_read; form = model.form };
+  };
   tabled = model.tabled;
   shaped = model.shaped;
   names = model.names;
@@ -147,14 +125,14 @@ file_opens files files1 name file read held within (json, (n, is_read, model)) =
 pub file_unbuilt : (files files1 : FilesSeen) (name file : List ℕ) (stop : Stop) → Holds files.held name (Some file)
     → length file ≤ file_limit → IsUnbuilt name file → EndsWithLine (unbuilt_line name) stop → OpensModel files files1 name (Err stop)
 file_unbuilt files files1 name file stop held within none ends =
-    line_stops (RefusesFile files name) (Rose files.faults files1.faults) (Unit {0}) (unbuilt_line name) stop
-    (file, held, λ shape. unbuilt within none refl) tt ends
+    line_stops (RefusesFile files.held name) (Rose files.faults files1.faults) (Unit {0}) (unbuilt_line name) stop
+    (λ shape. unbuilt (record { bytes = file; held = held; within = within }) none refl) tt ends
 
 pub file_past : (files files1 : FilesSeen) (name : List ℕ) (stop : Stop) → HoldsLonger files.held name file_limit
     → EndsWithLimit file_limit_line stop → OpensModel files files1 name (Err stop)
 file_past files files1 name stop long ends = let w = longer_file files.held name file_limit long in
-    limit_stops (RefusesFile files name) (Rose files.faults files1.faults) (Unit {0}) file_limit_line stop
-    (w.0, w.1, λ shape. long_file w.2 refl) tt ends
+    limit_stops (RefusesFile files.held name) (Rose files.faults files1.faults) (Unit {0}) file_limit_line stop
+    (λ shape. long_file w.0 w.1 w.2 refl) tt ends
 
 -- the whole input was read: a text that answers, and one that is too long
 emptied : (left rest : Option (List ℕ)) (body : List ℕ) → Empties left rest body → IfSome left (λ bytes. bytes ≡ body)
@@ -167,54 +145,68 @@ pub input_comes : (input rest : Stream) (t : Table) (s : ℕ) (body : List ℕ) 
     → InputComesTo input rest t s result
 input_comes input rest t s body result empties within h =
     comes_map (TextAnswers t s body) (InputSays input rest t s) ⊥ (Rose input.faults rest.faults) (Unit {0}) (Unit {0}) result
-    (λ a says. (body, record { told = emptied input.bytes rest.bytes body empties; read = λ _. empties.1 }, whole within says))
+    (λ a says. whole body (emptied input.bytes rest.bytes body empties) within empties.1 says)
     (λ x. absurd x) (λ x. x) h
 
 pub input_past : (input rest : Stream) (t : Table) (s : ℕ) (stop : Stop) → IfSome input.bytes (λ body. body_limit < length body)
     → EndsWithLimit body_limit_line stop → InputComesTo input rest t s (Err stop)
 input_past input rest t s stop long ends = let w = longer_input input.bytes body_limit long in
     limit_stops (InputSays input rest t s) (Rose input.faults rest.faults) (Unit {0}) body_limit_line stop
-    (w.0, record { told = w.1; read = λ within. absurd (omega (arith, w.2, within)) }, long_input w.2 refl) tt ends
+    (beyond w.0 w.1 w.2 refl) tt ends
+
+-- an answer that stands before the input, and one that stands behind it
+model_comes : (files : FilesSeen) (input : Stream) (name shape : List ℕ) (a : Answer) → ModelAnswers files.held name shape a
+    → Answers files input input (body_command name shape) a
+model_comes files input name shape a h = record { taken = untouched; says = by_model a h refl; left = refl }
+
+input_answers : (files : FilesSeen) (input rest : Stream) (name shape : List ℕ) (chosen : ShapeChosen files.held name shape) (t : Table)
+    (a : Answer) → t ≡ table_of chosen.read.m → InputSays input rest t chosen.s a → Answers files input rest (body_command name shape) a
+input_answers files input rest name shape chosen t a tabled (beyond body is long e) =
+    record { taken = past_its_limit; says = long_input chosen body is long (ap (came past_its_limit) e); left = tt }
+input_answers files input rest name shape chosen t a tabled (whole body is within at_end says) = record {
+  taken = to_its_end;
+  says =
+      by_text (record { chosen = chosen; bytes = body; is_input = is; within = within }) a
+      (subst (λ x. TextAnswers x chosen.s body a) tabled says) refl;
+  left = at_end;
+}
 
 -- the whole command: a refused file, a missing shape, and the input
 pub body_stops : (files files1 : FilesSeen) (input : Stream) (name shape : List ℕ) (stop : Stop) → OpensModel files files1 name (Err stop)
-    → BodyComesTo files files1 input input name shape (Err stop)
+    → ComesTo files files1 input input (body_command name shape) (Err stop)
 body_stops files files1 input name shape stop h =
-    stops_map (RefusesFile files name) (BodyAnswers files input input name shape) (Rose files.faults files1.faults)
-    (ReadFails files files1 input input name shape)
-    (Unit {0}) (StopsShort files input input name shape) stop (λ a says. by_file says.0 says.1 (says.2 shape) refl)
-    (λ rose. inl (rose, refl)) (λ short. inl refl) h
+    stops_map (RefusesFile files.held name) (Answers files input input (body_command name shape)) (Rose files.faults files1.faults)
+    (ReadFails files files1 input input (body_command name shape))
+    (Unit {0}) (StopsShort files input input (body_command name shape)) stop
+    (λ a says. model_comes files input name shape a (says shape)) (λ rose. inl (rose, refl)) (λ short. inl refl) h
 
-pub shape_there : (files : FilesSeen) (name shape : List ℕ) (read : FirstModel) (s : ℕ) → (h : HoldsModel files name read)
-    → slice_get read.names.items s ≡ Some shape → FileHasShape name h.file shape read.table s
-shape_there files name shape read s h found =
-    record { within = h.within; m = h.m; model = h.model; tabled = h.tabled; named = ap (λ xs. slice_get xs s) (sym h.names) ∙ found }
+pub body_crosses : (files files1 : FilesSeen) (input rest : Stream) (name shape : List ℕ) (model : FirstModel) (s : ℕ)
+    (result : Result (Vec ℕ) Stop) → HoldsModel files.held name model → slice_get model.names.items s ≡ Some shape
+    → InputComesTo input rest model.table s result → ComesTo files files1 input rest (body_command name shape) result
+body_crosses files files1 input rest name shape model s result h found comes =
+    let chosen : ShapeChosen files.held name shape =
+    record { read = h.read; s = s; named = ap (λ xs. slice_get xs s) (sym h.names) ∙ found } in
+    comes_map (InputSays input rest model.table s) (Answers files input rest (body_command name shape)) (Rose input.faults rest.faults)
+    (ReadFails files files1 input rest (body_command name shape))
+    (Unit {0}) (StopsShort files input rest (body_command name shape)) result
+    (λ a says. input_answers files input rest name shape chosen model.table a h.tabled says) (λ rose. inr (rose, chosen))
+    (λ short. inr chosen) comes
 
-pub body_crosses : (files files1 : FilesSeen) (input rest : Stream) (name shape : List ℕ) (read : FirstModel) (s : ℕ)
-    (result : Result (Vec ℕ) Stop) → HoldsModel files name read → slice_get read.names.items s ≡ Some shape
-    → InputComesTo input rest read.table s result → BodyComesTo files files1 input rest name shape result
-body_crosses files files1 input rest name shape read s result h found comes =
-    let there = shape_there files name shape read s h found in
-    let served : ReachesInput files name shape = record { file = h.file; t = read.table; s = s; held = h.held; there = there } in
-    comes_map (InputSays input rest read.table s) (BodyAnswers files input rest name shape) (Rose input.faults rest.faults)
-    (ReadFails files files1 input rest name shape)
-    (Unit {0}) (StopsShort files input rest name shape) result
-    (λ a says. by_input says.0 served says.1 says.2) (λ rose. inr (rose, served)) (λ short. inr served) comes
-
-pub body_lacks : (files files1 : FilesSeen) (input : Stream) (name shape : List ℕ) (read : FirstModel) (stop : Stop)
-    → HoldsModel files name read → ((s : ℕ) → slice_get read.names.items s ≡ Some shape → ⊥)
-    → EndsWithLine (no_shape_line shape) stop → BodyComesTo files files1 input input name shape (Err stop)
-body_lacks files files1 input name shape read stop h none ends =
-    line_stops (BodyAnswers files input input name shape) (ReadFails files files1 input input name shape)
-    (StopsShort files input input name shape) (no_shape_line shape) stop
-    (by_file h.file h.held (no_shape h.m h.within h.model (λ s is. none s (ap (λ xs. slice_get xs s) h.names ∙ is)) refl) refl) (inl refl)
-    ends
+pub body_lacks : (files files1 : FilesSeen) (input : Stream) (name shape : List ℕ) (model : FirstModel) (stop : Stop)
+    → HoldsModel files.held name model → ((s : ℕ) → slice_get model.names.items s ≡ Some shape → ⊥)
+    → EndsWithLine (no_shape_line shape) stop → ComesTo files files1 input input (body_command name shape) (Err stop)
+body_lacks files files1 input name shape model stop h none ends =
+    line_stops (Answers files input input (body_command name shape)) (ReadFails files files1 input input (body_command name shape))
+    (StopsShort files input input (body_command name shape)) (no_shape_line shape) stop
+    (model_comes files input name shape (refused (no_shape_line shape))
+    (no_shape h.read (λ s is. none s (ap (λ xs. slice_get xs s) h.names ∙ is)) refl))
+    (inl refl) ends
 
 -- a structure that is named is a shape of the table
-pub shape_within : (files : FilesSeen) (name shape : List ℕ) (read : FirstModel) (s : ℕ) → HoldsModel files name read
-    → slice_get read.names.items s ≡ Some shape → s < shape_count read.table
-shape_within files name shape read s h found =
-    let among : s < length read.names.items = slice_get_within read.names.items s shape found in
-    let count : length read.names.items ≡ length h.m = ap (λ xs. length xs) h.names ∙ length-map h.m (λ l. l.name) in
-    let size : shape_count read.table ≡ length h.m + 4 = ap shape_count h.tabled ∙ shape_count_is h.m in
+pub shape_within : (files : FilesSeen) (name shape : List ℕ) (model : FirstModel) (s : ℕ) → HoldsModel files.held name model
+    → slice_get model.names.items s ≡ Some shape → s < shape_count model.table
+shape_within files name shape model s h found =
+    let among : s < length model.names.items = slice_get_within model.names.items s shape found in
+    let count : length model.names.items ≡ length h.read.m = ap (λ xs. length xs) h.names ∙ length-map h.read.m (λ l. l.name) in
+    let size : shape_count model.table ≡ length h.read.m + 4 = ap shape_count h.tabled ∙ shape_count_is h.read.m in
     omega (arith, among, count, size)

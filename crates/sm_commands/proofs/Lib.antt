@@ -19,8 +19,12 @@ pub mod Shaped
 pub mod SaysModel
 pub mod Forms
 pub mod OneModel
+pub mod Stops
 pub mod Bodies
+pub mod OneForm
+pub mod OneBody
+pub mod SomeBody
+pub mod Commanded
 pub mod Runs
 pub mod OneRun
-pub mod SomeRun
 pub mod QuietRun

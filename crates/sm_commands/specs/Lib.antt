@@ -1,4 +1,4 @@
-pub mod CommandWords
+pub mod Commands
 pub mod Limits
 pub mod Lines
 pub mod Outside
@@ -12,7 +12,10 @@ pub mod Faults
 pub mod Decoded
 pub mod Encoded
 pub mod CodecLaws
+pub mod Answer
+pub mod Stages
 pub mod Body
+pub mod Says
 pub mod Run
 pub mod RunLaws
 pub mod steps

@@ -1,14 +1,11 @@
--- That the program has one answer, and that it has one at all, where the outside tells its bytes; and that the answer is put
--- where nothing failed.
-use Rattle.std.specs.Prelude.{◌≡◌, ◌⊎◌, ℕ, List, Some}
+-- That two runs over one outside end alike, and that the answer is put where nothing failed.
+use Rattle.std.specs.Prelude.{◌≡◌, ◌⊎◌, ℕ, false, List, Some}
 use Rattle.std.specs.Io.KnownBytes.{Appends}
 use Rattle.sm_io.specs.Causes.{Quiet}
-use Rattle.sm_io.specs.Files.{Folder, file_at}
-use Rattle.sm_io.specs.Seen.{Stream, files_seen, stream}
+use Rattle.sm_io.specs.Files.{Folder}
 use Rattle.sm_commands.specs.Outside.{Outside}
-use Rattle.sm_commands.specs.CommandWords.{IsBody}
-use Rattle.sm_commands.specs.Body.{Answer}
-use Rattle.sm_commands.specs.Run.{BodyAnswers, Prints, RunEnds}
+use Rattle.sm_commands.specs.Commands.{Command, IsForm, touches_input}
+use Rattle.sm_commands.specs.Run.{Prints, RunEnds}
 use Rattle.sm_commands.specs.declared.command.Status.{Status}
 use Rattle.sm_commands.specs.declared.command.Status.TheVariants.{Done, Refused, Usage, ReadFault, WriteFault, NoMemory, Limit}
 
@@ -38,21 +35,20 @@ OneRunAnswer = (words : List (List ℕ)) (folder : Folder) (input : List ℕ) (b
     → (status ≡ status1)
     × ((text : List ℕ) × Appends before.output.bytes after.output.bytes text × Appends before1.output.bytes after1.output.bytes text)
 
--- a law: where the model file is there, every input comes to some answer, said by two denials. So no gap in what
--- is said is left to `NoMemory`
-abbrev pub SomeRunAnswer : Type 0
-SomeRunAnswer = (folder : Folder) (model shape file input : List ℕ) (reads takes : ℕ) → file_at folder model ≡ Some file
-    → ((rest : Stream) (a : Answer) → BodyAnswers (files_seen (Some folder) reads) (stream (Some input) takes) rest model shape a → ⊥) → ⊥
-
 -- no count of faults rose in between: neither that of reads of files, nor those of the input and of the output
 pub record IsQuiet (before after : Outside) : Type 0 where
   pub files : Quiet before.files.faults after.files.faults
   pub input : Quiet before.input.faults after.input.faults
   pub output : Quiet before.output.faults after.output.faults
 
--- a law: where the words have the form and no count rose, the answer is put, or memory ran out. That the model file is
+-- a law: where the words have a form and no count rose, the answer is put, or memory ran out. That the files are
 -- there needn't be said: to read one that isn't raises the count
 abbrev pub QuietRunAnswers : Type 0
-QuietRunAnswers = (words : List (List ℕ)) (model shape : List ℕ) (before after : Outside) (status : Status)
-    → IsBody words model shape → IsQuiet before after → RunEnds words before after status
+QuietRunAnswers = (words : List (List ℕ)) (command : Command) (before after : Outside) (status : Status)
+    → IsForm words command → IsQuiet before after → RunEnds words before after status
     → Prints words before after status ⊎ (status ≡ NoMemory)
+
+-- a law: a run of a command that doesn't touch the input leaves it as it was
+abbrev pub KeepsInput : Type 0
+KeepsInput = (words : List (List ℕ)) (command : Command) (before after : Outside) (status : Status)
+    → IsForm words command → touches_input command ≡ false → RunEnds words before after status → after.input ≡ before.input

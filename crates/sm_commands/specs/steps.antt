@@ -3,4 +3,6 @@ pub mod Indexed
 pub mod FieldsFit
 pub mod ModelSteps
 pub mod RowsSoFar
+pub mod CommandSteps
 pub mod BodySteps
+pub mod Asked

@@ -1,5 +1,5 @@
 // The command `body`: a body of one shape, read and written again in its canonical form.
-ghost use Rattle.std.specs.Prelude.{◌≡◌, ◌<◌, ◌≤◌, ◌↔◌, List, ℕ, IsTrue, IfOk};
+ghost use Rattle.std.specs.Prelude.{◌≡◌, ◌<◌, ◌≤◌, ◌↔◌, IsTrue, IfOk};
 ghost use Rattle.sm_io.specs.Files.{LetsSame};
 ghost use Rattle.sm_io.specs.Reading.{LosesPrefix};
 ghost use Rattle.sm_tree.specs.View.{node_of};
@@ -11,12 +11,16 @@ ghost use Rattle.sm_shapes.specs.View.{val_of};
 ghost use Rattle.sm_commands.specs.Encoded.{encoded_tree, json_written};
 ghost use Rattle.sm_commands.specs.Lines.{syntax_line as the_syntax_line};
 ghost use Rattle.sm_io.specs.Seen.{files_seen, stream};
-ghost use Rattle.sm_commands.specs.Body.{EndsInJson, TextAnswers};
-ghost use Rattle.sm_commands.specs.steps.BodySteps.{StepComesTo, TreeAnswers, EndsWithLine, EndsWithLimit, ReadsModelFile, OpensModel, InputComesTo, BodyComesTo};
+ghost use Rattle.sm_commands.specs.Commands.{body_command};
+ghost use Rattle.sm_commands.specs.Stages.{EndsInJson};
+ghost use Rattle.sm_commands.specs.Body.{TextAnswers};
+ghost use Rattle.sm_commands.specs.steps.CommandSteps.{StepComesTo, EndsWithLine, ComesTo};
+ghost use Rattle.sm_commands.specs.steps.BodySteps.{TreeAnswers, ReadsModelFile, OpensModel, InputComesTo};
 
 use crate::codec::{Refusal, decode, encode};
 use crate::lines::{fault_line, limit_line, line, syntax_line};
 use crate::model::{FirstModel, read_model};
+use crate::stop::{Stop, past, refused};
 use crate::words::BodyWords;
 use sm_io::{FileRefusal, Files, ReadRefusal, Source, read_all};
 use sm_json::{read_tree, write_tree};
@@ -29,50 +33,6 @@ const FILE_LIMIT: u64 = 4_194_304;
 
 /// The greatest length of a body, in bytes.
 const BODY_LIMIT: u64 = 1_048_576;
-
-/// Why a command ends before its work is done.
-#[derive(Drop)]
-pub enum Stop {
-    /// The model, the shape or the body is refused; this line says why.
-    Refused(Vec<u8>),
-    /// A limit is passed; this line says which.
-    Limit(Vec<u8>),
-    /// A file or the input could not be read.
-    ReadFault,
-    /// The allocator refused the memory that is needed.
-    NoMemory,
-}
-
-impl From<NoMemory> for Stop {
-    ghost use Rattle.std.specs.Prelude.{◌≡◌};
-    ghost use Rattle.sm_commands.specs.declared.body.Stop.TheVariants.{NoMemory as no_memory};
-
-    ghost from_gives = { λ _ stop. stop ≡ no_memory };
-
-    fn from(_refusal: NoMemory) -> Self {
-        Stop::NoMemory
-    }
-}
-
-// The command ends with this line, if there is memory for it.
-fn refused(line: Result<Vec<u8>, NoMemory>) -> Stop
-    ensures { (wanted : List ℕ) → IfOk line (λ printed. printed.items ≡ wanted) → EndsWithLine wanted result }
-{
-    match line {
-        Ok(line) => Stop::Refused(line),
-        Err(NoMemory) => Stop::NoMemory,
-    }
-}
-
-// The command ends at a limit.
-fn past(line: Result<Vec<u8>, NoMemory>) -> Stop
-    ensures { (wanted : List ℕ) → IfOk line (λ printed. printed.items ≡ wanted) → EndsWithLimit wanted result }
-{
-    match line {
-        Ok(line) => Stop::Limit(line),
-        Err(NoMemory) => Stop::NoMemory,
-    }
-}
 
 // The text that is written for a tree.
 fn written_text(alloc: Global, tree: &Tree) -> Result<Vec<u8>, NoMemory>
@@ -232,12 +192,12 @@ pub(crate) fn body<F: Files, S: Source>(
     input: &mut S,
 ) -> Result<Vec<u8>, Stop>
     requires { F.lets_read files.old words.model.now }
-    ensures comes { BodyComesTo
+    ensures comes { ComesTo
         (files_seen (F.held files.old) (F.read_faults files.old))
         (files_seen (F.held files.new) (F.read_faults files.new))
         (stream (S.left input.old) (S.faults input.old))
         (stream (S.left input.new) (S.faults input.new))
-        words.entry.model.now words.entry.shape.now result }
+        (body_command words.entry.model.now words.entry.shape.now) result }
     ensures held { F.held files.new ≡ F.held files.old }
     ensures read_faults { F.read_faults files.old ≤ F.read_faults files.new }
     ensures write_faults { F.write_faults files.new ≡ F.write_faults files.old }

@@ -1,15 +1,17 @@
 // The commands: what the program does for its words, over any files, input and output.
-ghost use Rattle.std.specs.Prelude.{◌≡◌, ◌≤◌};
+ghost use Rattle.std.specs.Prelude.{◌≡◌, ◌≤◌, List, ℕ, Contains};
 ghost use Rattle.sm_io.specs.Files.{LetsSame};
 ghost use Rattle.sm_io.specs.Reading.{LosesPrefix};
 ghost use Rattle.sm_io.specs.Seen.{files_seen, stream};
 ghost use Rattle.sm_commands.specs.Outside.{outside};
-ghost use Rattle.sm_commands.specs.CommandWords.{LetsModel};
+ghost use Rattle.sm_commands.specs.Commands.{LetsRead, reads};
 ghost use Rattle.sm_commands.specs.Run.{code_of, RunAnswers};
-ghost use Rattle.sm_commands.specs.steps.BodySteps.{PutEnds, PrintsResult};
+ghost use Rattle.sm_commands.specs.steps.Asked.{command_of};
+ghost use Rattle.sm_commands.specs.steps.CommandSteps.{ComesTo, PutEnds, PrintsResult};
 
-use crate::body::{Stop, body};
-use crate::words::form_of;
+use crate::body::body;
+use crate::stop::Stop;
+use crate::words::{Form, form_of};
 use sm_io::{Files, PutRefusal, Sink, Source};
 use sm_shapes::Patterns;
 use sm_tree::Text;
@@ -48,6 +50,33 @@ impl Status {
             Status::NoMemory => 5,
             Status::Limit => 7,
         }
+    }
+}
+
+// What a command comes to: what it prints, or why it ends before.
+fn come_to<F: Files, S: Source>(
+    alloc: Global,
+    form: Form<'_>,
+    files: &mut F,
+    input: &mut S,
+) -> Result<Vec<u8>, Stop>
+    requires { (name : List ℕ) → Contains (reads (command_of form)) name → F.lets_read files.old name }
+    ensures comes { ComesTo
+        (files_seen (F.held files.old) (F.read_faults files.old))
+        (files_seen (F.held files.new) (F.read_faults files.new))
+        (stream (S.left input.old) (S.faults input.old))
+        (stream (S.left input.new) (S.faults input.new))
+        (command_of form.entry) result }
+    ensures held { F.held files.new ≡ F.held files.old }
+    ensures read_faults { F.read_faults files.old ≤ F.read_faults files.new }
+    ensures write_faults { F.write_faults files.new ≡ F.write_faults files.old }
+    ensures same_reads { LetsSame (F.lets_read files.old) (F.lets_read files.new) }
+    ensures same_writes { LetsSame (F.lets_write files.old) (F.lets_write files.new) }
+    ensures prefix { LosesPrefix (S.left input.old) (S.left input.new) }
+    ensures input_faults { S.faults input.old ≤ S.faults input.new }
+{
+    match form {
+        Form::Body(words) => body(alloc, words, files, input),
     }
 }
 
@@ -102,7 +131,7 @@ pub fn run<F: Files, S: Source, K: Sink, P: Patterns>(
     out: &mut K,
     patterns: &mut P,
 ) -> u8
-    requires { LetsModel (F.lets_read files.old) words.now }
+    requires { LetsRead (F.lets_read files.old) words.now }
     ensures answers { let before = outside (files_seen (F.held files.old) (F.read_faults files.old)) (stream (S.left input.old) (S.faults input.old)) (stream (K.written out.old) (K.faults out.old)) in
         let after = outside (files_seen (F.held files.new) (F.read_faults files.new)) (stream (S.left input.new) (S.faults input.new)) (stream (K.written out.new) (K.faults out.new)) in
         RunAnswers words.now before after result }
@@ -117,8 +146,8 @@ pub fn run<F: Files, S: Source, K: Sink, P: Patterns>(
     ensures patterns { patterns.new ≡ patterns.old }
 {
     match form_of(words) {
-        Some(words) => {
-            let came = body(alloc, words, files, input);
+        Some(form) => {
+            let came = come_to(alloc, form, files, input);
             print(out, came).code()
         }
         None => Status::Usage.code(),

@@ -1,18 +1,34 @@
-// What holds of all runs of the program. These calls do nothing.
-ghost use Rattle.sm_commands.specs.RunLaws.{OneRunAnswer, SomeRunAnswer, QuietRunAnswers};
+// What holds of all commands and of all runs of the program. These calls do nothing.
+ghost use Rattle.sm_commands.specs.Commands.{OneForm};
+ghost use Rattle.sm_commands.specs.Says.{OneAnswer, SomeAnswer, InputReached};
+ghost use Rattle.sm_commands.specs.RunLaws.{OneRunAnswer, QuietRunAnswers, KeepsInput};
 
-/// The words, the files and the input determine the status and what is put, but for faults of the outside and
-/// where memory runs out: so each status comes exactly where `run` says why.
+/// Words have the form of one command at most.
+pub fn one_form()
+    ensures { OneForm }
+{}
+
+/// The files and the input determine what a command comes to. So they and the words determine the status and what is
+/// put, but for faults of the outside and where memory runs out: each status comes exactly where `run` says why.
 pub fn one_answer()
-    ensures { OneRunAnswer }
+    ensures said { OneAnswer }
+    ensures runs { OneRunAnswer }
 {}
 
-/// Where the model file is there, every input comes to an answer: what `run` says leaves no case to `NoMemory`.
+/// Where its files are there, a command comes to an answer, whatever they and the input hold: what `run` says leaves no
+/// case to `NoMemory`.
 pub fn some_answer()
-    ensures { SomeRunAnswer }
+    ensures { SomeAnswer }
 {}
 
-/// Where the words have the form and no count of faults rose, the answer is put, or memory ran out.
+/// Where the words have a form and no count of faults rose, the answer is put, or memory ran out.
 pub fn quiet_answers()
     ensures { QuietRunAnswers }
+{}
+
+/// The input is read only where nothing that stands before it is refused, and only by a command that touches it; a run
+/// of any other leaves it as it was.
+pub fn untouched_input()
+    ensures said { InputReached }
+    ensures runs { KeepsInput }
 {}

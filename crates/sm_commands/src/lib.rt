@@ -8,6 +8,7 @@ mod command;
 pub mod laws;
 mod lines;
 pub mod model;
+mod stop;
 mod words;
 
 pub use command::{Status, run};

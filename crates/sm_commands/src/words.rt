@@ -1,6 +1,7 @@
 // The words of a command, and the forms that they may have.
 ghost use Rattle.std.specs.Prelude.{◌≡◌, ◌↔◌, List, ℕ, IsTrue, MatchOption};
-ghost use Rattle.sm_commands.specs.CommandWords.{IsBody};
+ghost use Rattle.sm_commands.specs.Commands.{IsForm, IsNoForm, body_command};
+ghost use Rattle.sm_commands.specs.steps.Asked.{command_of};
 
 use sm_tree::Text;
 
@@ -13,11 +14,28 @@ pub struct BodyWords<'a> {
     pub shape: &'a str,
 }
 
+/// The forms that words may have.
+#[derive(Debug, Clone, Copy)]
+pub enum Form<'a> {
+    /// `body MODELFILE SHAPE json json`.
+    Body(BodyWords<'a>),
+}
+
 /// What the words ask for; `None` where they have none of the forms.
-pub(crate) fn form_of(words: &[Text]) -> Option<BodyWords<'_>>
+pub(crate) fn form_of(words: &[Text]) -> Option<Form<'_>>
+    ensures { MatchOption result (IsNoForm words.now) (λ form. IsForm words.now (command_of form)) }
+{
+    match body_words(words) {
+        Some(words) => Some(Form::Body(words)),
+        None => None,
+    }
+}
+
+// The words of `body`, where they have its form.
+fn body_words(words: &[Text]) -> Option<BodyWords<'_>>
     ensures { MatchOption result
-        ((model shape : List ℕ) → IsBody words.now model shape → ⊥)
-        (λ form. IsBody words.now form.model.now form.shape.now) }
+        ((model shape : List ℕ) → IsForm words.now (body_command model shape) → ⊥)
+        (λ form. IsForm words.now (body_command form.model.now form.shape.now)) }
 {
     if words.len() != 5 {
         return None;

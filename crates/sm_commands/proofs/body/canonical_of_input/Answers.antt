@@ -2,7 +2,7 @@ use Rattle.std.proofs.Common.{subst}
 use Rattle.sm_commands.specs.Body.{TextAnswers}
 use Rattle.sm_commands.specs.Lines.{body_limit_line}
 use Rattle.sm_io.specs.Seen.{stream}
-use Rattle.sm_commands.specs.steps.BodySteps.{StepComesTo}
+use Rattle.sm_commands.specs.steps.CommandSteps.{StepComesTo}
 use Rattle.sm_commands.proofs.Bodies.{input_past, input_comes}
 use Rattle.sm_commands.proofs.body.canonical_of_input.Goals as goal
 

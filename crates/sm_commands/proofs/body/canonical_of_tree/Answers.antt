@@ -5,7 +5,8 @@ use Rattle.sm_commands.specs.Lines.{fault_line}
 use Rattle.sm_commands.specs.steps.BodySteps.{TreeAnswers}
 use Rattle.sm_commands.proofs.Conventions.{json_convention}
 use Rattle.sm_commands.proofs.Fitting.{fits_where_spelled}
-use Rattle.sm_commands.proofs.Bodies.{line_stops, value_answers, fault_answers}
+use Rattle.sm_commands.proofs.Stops.{line_stops}
+use Rattle.sm_commands.proofs.Bodies.{value_answers, fault_answers}
 use Rattle.sm_commands.proofs.body.canonical_of_tree.Goals as goal
 
 pub far_text-requires-clause-fits : goal.far_text-requires-clause-fits

@@ -1,5 +1,9 @@
-use Rattle.sm_commands.proofs.OneRun as proof
+use Rattle.sm_commands.proofs.Commanded.{one_answer}
+use Rattle.sm_commands.proofs.OneRun.{one_run_answer}
 use Rattle.sm_commands.proofs.laws.one_answer.Goals as goal
 
-pub returns : goal.returns
-returns c = proof.one_answer
+pub returns-clause-said : goal.returns-clause-said
+returns-clause-said c = one_answer
+
+pub returns-clause-runs : goal.returns-clause-runs
+returns-clause-runs c = one_run_answer

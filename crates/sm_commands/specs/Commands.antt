@@ -1,0 +1,34 @@
+-- The commands as data: the form of each one's words, and what it may touch of the outside.
+use Rattle.std.specs.Prelude.{◌≡◌, ℕ, Bool, true, List, [], ◌∷◌, codes, Contains}
+
+pub data Command : Type 0 where
+  -- body MODELFILE SHAPE json json
+  body_command : (model shape : List ℕ) → Command
+
+-- the words have the form of the command
+abbrev pub IsForm : List (List ℕ) → Command → Type 0
+IsForm words (body_command model shape) = words ≡ codes "body" ∷ model ∷ shape ∷ codes "json" ∷ codes "json" ∷ []
+
+-- they have the form of none
+abbrev pub IsNoForm : List (List ℕ) → Type 0
+IsNoForm words = (command : Command) → IsForm words command → ⊥
+
+-- a law: words have the form of one command at most
+abbrev pub OneForm : Type 0
+OneForm = (words : List (List ℕ)) (command command1 : Command) → IsForm words command → IsForm words command1 → command ≡ command1
+
+-- the names of the files that a command may read
+abbrev pub reads : Command → List (List ℕ)
+reads (body_command model shape) = model ∷ []
+
+-- the names of the files that it may write
+abbrev pub writes : Command → List (List ℕ)
+writes (body_command model shape) = []
+
+-- whether it may read the input
+abbrev pub touches_input : Command → Bool
+touches_input (body_command model shape) = true
+
+-- the files that such words name to be read may be read
+abbrev pub LetsRead : (List ℕ → Type 0) → List (List ℕ) → Type 0
+LetsRead lets words = (command : Command) (name : List ℕ) → IsForm words command → Contains (reads command) name → lets name

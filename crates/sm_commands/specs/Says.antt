@@ -1,0 +1,35 @@
+-- What each command comes to, over bytes alone: that it comes to one thing, to some, and for which it reads the input.
+use Rattle.std.specs.Prelude.{◌≡◌, ◌⊎◌, ℕ, true, List, Some, Contains}
+use Rattle.sm_io.specs.Files.{Folder, file_at}
+use Rattle.sm_commands.specs.Commands.{Command, body_command, reads, touches_input}
+use Rattle.sm_commands.specs.Answer.{Came}
+use Rattle.sm_commands.specs.Answer.InputUse.{untouched}
+use Rattle.sm_commands.specs.Stages.{Told, told, ShapeChosen}
+use Rattle.sm_commands.specs.Body.{BodySays}
+
+abbrev pub Says : Told → Command → Came → Type 0
+Says t (body_command model shape) c = BodySays t model shape c
+
+-- the stage from which the command reads the input: nothing that stands before it is refused
+abbrev pub ReachesInput : Told → Command → Type 0
+ReachesInput t (body_command model shape) = ShapeChosen t.files model shape
+
+-- a law: files and an input that are told determine what a command comes to
+abbrev pub OneAnswer : Type 0
+OneAnswer = (folder : Folder) (input : List ℕ) (command : Command) (c d : Came) → Says (told (Some folder) (Some input)) command c
+    → Says (told (Some folder) (Some input)) command d → c ≡ d
+
+-- there is a file of each of these names
+abbrev pub AreThere : Folder → List (List ℕ) → Type 0
+AreThere folder names = (name : List ℕ) → Contains names name → (file : List ℕ) × (file_at folder name ≡ Some file)
+
+-- a law: where the files are there that a command may read, it comes to something, said by two denials. So no gap in
+-- what is said is left to `NoMemory`
+abbrev pub SomeAnswer : Type 0
+SomeAnswer = (folder : Folder) (input : List ℕ) (command : Command) → AreThere folder (reads command)
+    → ((c : Came) → Says (told (Some folder) (Some input)) command c → ⊥) → ⊥
+
+-- a law: the input is read only from its stage on, and that is reached only by a command that touches the input
+abbrev pub InputReached : Type 0
+InputReached = (t : Told) (command : Command)
+    → ((c : Came) → Says t command c → (c.input ≡ untouched) ⊎ ReachesInput t command) × (ReachesInput t command → touches_input command ≡ true)

@@ -1,0 +1,69 @@
+-- How far a command has come, over bytes alone. Each stage holds the one before it, so no condition is said twice: a
+-- refusal takes the last stage that was reached, and its own cause.
+use Rattle.std.specs.Prelude.{◌≡◌, ℕ, ◌≤◌, List, ◌++◌, codes, Option, Some, IfSome, slice_get, length}
+use Rattle.sm_io.specs.Files.{Folder, Holds}
+use Rattle.sm_tree.specs.Node.{Node}
+use Rattle.sm_tree.specs.Syntax.{IsRead}
+use Rattle.sm_json.specs.JsonText.{JsonText}
+use Rattle.sm_commands.specs.FirstForm.{ModelStructure, FirstForm, shape_names}
+use Rattle.sm_commands.specs.Limits.{file_limit, body_limit}
+
+-- what a run is told where it begins: its files, and the bytes of its input
+pub record Told : Type 0 where
+  pub files : Option Folder
+  pub input : Option (List ℕ)
+
+abbrev pub told : Option Folder → Option (List ℕ) → Told
+told files input = record { files = files; input = input }
+
+-- where told, these are the bytes of the input
+abbrev pub IsInput : Option (List ℕ) → List ℕ → Type 0
+IsInput input bytes = IfSome input (λ all. all ≡ bytes)
+
+-- a file of this name is there, and is within its limit
+pub record FileRead (files : Option Folder) (name : List ℕ) : Type 0 where
+  pub bytes : List ℕ
+  pub held : Holds files name (Some bytes)
+  pub within : length bytes ≤ file_limit
+
+-- the name of a file in the JSON AST
+abbrev pub EndsInJson : List ℕ → Type 0
+EndsInJson name = (stem : List ℕ) × (name ≡ stem ++ codes ".json")
+
+-- the file of this name holds this model: its bytes are a JSON text of at most 100 levels in the first form
+pub record IsModelFile (name file : List ℕ) (m : List ModelStructure) : Type 0 where
+  pub is_json : EndsInJson name
+  pub tree : Node
+  pub read : IsRead JsonText tree file
+  pub form : FirstForm tree m
+
+-- the file is none that is read: by its name, its text, or the form of its tree
+abbrev pub IsUnbuilt : List ℕ → List ℕ → Type 0
+IsUnbuilt name file = (m : List ModelStructure) → IsModelFile name file m → ⊥
+
+-- it holds a model
+pub record ModelRead (files : Option Folder) (name : List ℕ) : Type 0 where
+  pub file : FileRead files name
+  pub m : List ModelStructure
+  pub model : IsModelFile name file.bytes m
+
+-- the structure of this name has the number s
+abbrev pub IsShape : List ModelStructure → List ℕ → ℕ → Type 0
+IsShape m name s = slice_get (shape_names m) s ≡ Some name
+
+-- no structure of the model has this name
+abbrev pub IsNoShape : List ModelStructure → List ℕ → Type 0
+IsNoShape m name = (s : ℕ) → IsShape m name s → ⊥
+
+-- the shape of this name is there, with the number s in the model's table
+pub record ShapeChosen (files : Option Folder) (name shape : List ℕ) : Type 0 where
+  pub read : ModelRead files name
+  pub s : ℕ
+  pub named : IsShape read.m shape s
+
+-- the input is within its limit
+pub record InputRead (t : Told) (name shape : List ℕ) : Type 0 where
+  pub chosen : ShapeChosen t.files name shape
+  pub bytes : List ℕ
+  pub is_input : IsInput t.input bytes
+  pub within : length bytes ≤ body_limit
