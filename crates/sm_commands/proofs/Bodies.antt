@@ -35,6 +35,7 @@ use Rattle.sm_commands.specs.Commands.{body_command}
 use Rattle.sm_commands.specs.Answer.{Answer, done, refused, past, came}
 use Rattle.sm_commands.specs.Answer.InputUse.{untouched, to_its_end, past_its_limit}
 use Rattle.sm_commands.specs.Stages.{IsInput, EndsInJson, IsUnbuilt, ShapeChosen}
+use Rattle.sm_commands.specs.Convention.{json}
 use Rattle.sm_commands.specs.Body.{ModelAnswers, TextAnswers}
 use Rattle.sm_commands.specs.Body.ModelAnswers.{long_file, unbuilt, no_shape}
 use Rattle.sm_commands.specs.Body.TextAnswers.{no_text, fault, value}
@@ -59,8 +60,8 @@ fault_answers t s n path kind later first = λ body read. fault n path kind late
 
 -- a tree that was read from the bytes, and bytes that are no text
 pub tree_comes : (t : Table) (s : ℕ) (n : Node) (body : List ℕ) (result : Result (Vec ℕ) Stop) → IsRead JsonText n body
-    → StepComesTo (TreeAnswers t s n) ⊥ (Unit {0}) result → StepComesTo (TextAnswers t s body) ⊥ (Unit {0}) result
-tree_comes t s n body result read h = comes_map (TreeAnswers t s n) (TextAnswers t s body) ⊥ ⊥ (Unit {0}) (Unit {0}) result
+    → StepComesTo (TreeAnswers t s n) ⊥ (Unit {0}) result → StepComesTo (TextAnswers json json t s body) ⊥ (Unit {0}) result
+tree_comes t s n body result read h = comes_map (TreeAnswers t s n) (TextAnswers json json t s body) ⊥ ⊥ (Unit {0}) (Unit {0}) result
     (λ a says. says body read) (λ x. x) (λ x. x) h
 
 pub refused_so : (body : List ℕ) (refusal : SyntaxRefusal) → Reads json_syntax body (Err refusal) → (refusal ≡ no_room → ⊥)
@@ -72,21 +73,21 @@ refused_so body (KeyKind at) h other = h
 refused_so body no_room h other = other refl
 
 pub text_stops : (t : Table) (s : ℕ) (body : List ℕ) (refusal : SyntaxRefusal) (stop : Stop) → IsRefused json_syntax body refusal
-    → EndsWithLine (syntax_line refusal) stop → StepStops (TextAnswers t s body) ⊥ (Unit {0}) stop
+    → EndsWithLine (syntax_line refusal) stop → StepStops (TextAnswers json json t s body) ⊥ (Unit {0}) stop
 text_stops t s body refusal stop is ends =
-    line_stops (TextAnswers t s body) ⊥ (Unit {0}) (syntax_line refusal) stop (no_text refusal is refl) tt ends
+    line_stops (TextAnswers json json t s body) ⊥ (Unit {0}) (syntax_line refusal) stop (no_text refusal is refl) tt ends
 
 -- the model that the tree of a file says
 pub model_read : (name file : List ℕ) (n : Node) (result : Result (Option FirstModel) OutOfMemory) → EndsInJson name
     → IsRead JsonText n file → ReadsModel n result → ReadsModelFile name file result
-model_read name file n (Ok (Some m)) json read h = (json, (n, read, h))
-model_read name file n (Ok None) json read h =
-    λ m is. h m (subst (λ x. FirstForm x m) (one_tree is.tree n file is.read.0 read.0) is.form)
-model_read name file n (Err e) json read h = tt
+model_read name file n (Ok (Some m)) named read h = (named, (n, read, h))
+model_read name file n (Ok None) named read h =
+    λ named o m text form. h m (subst (λ x. FirstForm x m) (one_tree o n file text.0 read.0) form)
+model_read name file n (Err e) named read h = tt
 
 -- a file that is no text
 pub no_model_text : (name file : List ℕ) (refusal : SyntaxRefusal) → IsRefused json_syntax file refusal → IsUnbuilt name file
-no_model_text name file refusal is m model = refused_no_text json_syntax file refusal is model.tree model.read
+no_model_text name file refusal is named n m text form = refused_no_text json_syntax file refusal is n text
 
 -- a list of any length
 long_list : (n : ℕ) → (xs : List ℕ) × (length xs ≡ n)
@@ -111,11 +112,11 @@ longer_input (Some bytes) limit h = (bytes, refl, h)
 -- the file's model, or its refusal
 pub file_opens : (files files1 : FilesSeen) (name file : List ℕ) (read : FirstModel) → Holds files.held name (Some file)
     → length file ≤ file_limit → ReadsModelFile name file (Ok (Some read)) → OpensModel files files1 name (Ok read)
-file_opens files files1 name file read held within (json, (n, is_read, model)) = record {
+file_opens files files1 name file read held within (named, (n, is_read, model)) = record {
   read = record {
-    file = record { bytes = file; held = held; within = within };
+    text = record { file = record { bytes = file; held = held; within = within }; is_json = named; tree = n; is_text = is_read };
     m = model.model;
-    model = record { is_json = json; tree = n; read = is_read; form = model.form };
+    form = model.form;
   };
   tabled = model.tabled;
   shaped = model.shaped;
@@ -141,10 +142,10 @@ emptied (Some xs) None body h = absurd h.0
 emptied (Some xs) (Some ys) body h = h.0 ∙ ap (λ r. body ++ r) h.1 ∙ append-nil body
 
 pub input_comes : (input rest : Stream) (t : Table) (s : ℕ) (body : List ℕ) (result : Result (Vec ℕ) Stop)
-    → Empties input.bytes rest.bytes body → length body ≤ body_limit → StepComesTo (TextAnswers t s body) ⊥ (Unit {0}) result
+    → Empties input.bytes rest.bytes body → length body ≤ body_limit → StepComesTo (TextAnswers json json t s body) ⊥ (Unit {0}) result
     → InputComesTo input rest t s result
 input_comes input rest t s body result empties within h =
-    comes_map (TextAnswers t s body) (InputSays input rest t s) ⊥ (Rose input.faults rest.faults) (Unit {0}) (Unit {0}) result
+    comes_map (TextAnswers json json t s body) (InputSays input rest t s) ⊥ (Rose input.faults rest.faults) (Unit {0}) (Unit {0}) result
     (λ a says. whole body (emptied input.bytes rest.bytes body empties) within empties.1 says)
     (λ x. absurd x) (λ x. x) h
 
@@ -167,7 +168,7 @@ input_answers files input rest name shape chosen t a tabled (whole body is withi
   taken = to_its_end;
   says =
       by_text (record { chosen = chosen; bytes = body; is_input = is; within = within }) a
-      (subst (λ x. TextAnswers x chosen.s body a) tabled says) refl;
+      (subst (λ x. TextAnswers json json x chosen.s body a) tabled says) refl;
   left = at_end;
 }
 

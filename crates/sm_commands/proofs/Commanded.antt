@@ -6,15 +6,17 @@ use Rattle.sm_commands.specs.Answer.InputUse.{untouched}
 use Rattle.sm_commands.specs.Stages.{Told}
 use Rattle.sm_commands.specs.Body.BodySays.{by_model, long_input, by_text}
 use Rattle.sm_commands.specs.Says.{Says, ReachesInput, OneAnswer, SomeAnswer, InputReached}
+use Rattle.sm_commands.specs.Convention.{json}
+use Rattle.sm_commands.proofs.Readable.{json_readable}
 use Rattle.sm_commands.proofs.OneBody.{body_same}
 use Rattle.sm_commands.proofs.SomeBody.{body_answered}
 
 pub one_answer : OneAnswer
-one_answer folder input (body_command model shape) c d h i = body_same folder input model shape c d h i
+one_answer folder input (body_command model shape) c d h i = body_same json json json_readable folder input model shape c d h i
 
 pub some_answer : SomeAnswer
 some_answer folder input (body_command model shape) there none =
-    let file = there model (0, omega arith, refl) in body_answered folder model shape input file.0 file.1 none
+    let file = there model (0, omega arith, refl) in body_answered json json json_readable folder model shape input file.0 file.1 none
 
 -- the input is untouched, or its stage is reached
 pub says_reaches : (t : Told) (command : Command) (c : Came) → Says t command c → (c.input ≡ untouched) ⊎ ReachesInput t command

@@ -22,6 +22,7 @@ pub mod OneModel
 pub mod Stops
 pub mod Bodies
 pub mod OneForm
+pub mod Readable
 pub mod OneBody
 pub mod SomeBody
 pub mod Commanded

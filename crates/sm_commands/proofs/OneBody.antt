@@ -6,28 +6,27 @@ use Rattle.sm_tree.specs.Node.{Node}
 use Rattle.sm_tree.specs.Syntax.{IsRead, IsRefused}
 use Rattle.sm_tree.proofs.OneAnswer as syntax
 use Rattle.sm_tree.specs.declared.refusal.SyntaxRefusal.{SyntaxRefusal}
-use Rattle.sm_json.specs.JsonText.{JsonText, json_syntax}
-use Rattle.sm_json.specs.Written.{written}
+use Rattle.sm_json.specs.JsonText.{JsonText}
 use Rattle.sm_json.proofs.OneTree.{one_tree}
 use Rattle.sm_shapes.specs.Val.{Val}
 use Rattle.sm_shapes.specs.declared.table.Table.{Table}
-use Rattle.sm_commands.specs.Leaves.{json_leaf}
 use Rattle.sm_commands.specs.Spelling.{Spells}
 use Rattle.sm_commands.specs.Faults.{FaultAt, faults}
-use Rattle.sm_commands.specs.Encoded.{encoded_tree, json_written}
+use Rattle.sm_commands.specs.Encoded.{encoded_tree}
 use Rattle.sm_shapes.specs.Names.{NoneIs, AllDiffer}
 use Rattle.sm_commands.specs.FirstForm.{ModelStructure, FirstForm, shape_names}
+use Rattle.sm_commands.specs.Convention.{Convention}
 use Rattle.sm_commands.specs.Tabled.{table_of}
 use Rattle.sm_commands.specs.Limits.{file_limit, body_limit}
 use Rattle.sm_commands.specs.Lines.{fault_line, syntax_line}
 use Rattle.sm_commands.specs.Answer.{Answer, Came, done, refused, came}
 use Rattle.sm_commands.specs.Answer.InputUse.{untouched, to_its_end}
-use Rattle.sm_commands.specs.Stages.{told, FileRead, IsModelFile, ModelRead, IsShape, ShapeChosen, InputRead}
+use Rattle.sm_commands.specs.Stages.{told, FileRead, IsUnbuilt, TreeRead, ModelRead, IsShape, ShapeChosen, InputRead}
 use Rattle.sm_commands.specs.Body.{ModelAnswers, TextAnswers, BodySays}
 use Rattle.sm_commands.specs.Body.ModelAnswers.{long_file, unbuilt, no_shape}
 use Rattle.sm_commands.specs.Body.TextAnswers.{no_text, fault, value}
 use Rattle.sm_commands.specs.Body.BodySays.{by_model, long_input, by_text}
-use Rattle.sm_commands.proofs.Conventions.{json_convention}
+use Rattle.sm_commands.proofs.Readable.{IsReadable}
 use Rattle.sm_commands.proofs.Clear.{clear_where_spelled}
 use Rattle.sm_commands.proofs.Unique.{one_value}
 use Rattle.sm_commands.proofs.OneModel.{one_model}
@@ -51,20 +50,20 @@ one_place (k ∷ ks) name (suc i) (suc j) differ a b = ap suc (one_place ks name
 bytes_same : (folder : Folder) (name f g : List ℕ) → file_at folder name ≡ Some f → file_at folder name ≡ Some g → f ≡ g
 bytes_same folder name f g h i = cc
 
-model_same : (name file : List ℕ) (m o : List ModelStructure) → IsModelFile name file m → IsModelFile name file o → m ≡ o
-model_same name file m o h i = one_model i.tree m o (subst (λ n. FirstForm n m) (one_tree h.tree i.tree file h.read.0 i.read.0) h.form)
-    i.form
+tree_same : (folder : Folder) (name : List ℕ) (h i : TreeRead (Some folder) name) → h.tree ≡ i.tree
+tree_same folder name h i = let one : h.file.bytes ≡ i.file.bytes = bytes_same folder name h.file.bytes i.file.bytes h.file.held i.file.held in
+    one_tree h.tree i.tree i.file.bytes (subst (λ x. JsonText h.tree x) one h.is_text.0) i.is_text.0
 
 read_same : (folder : Folder) (name : List ℕ) (h i : ModelRead (Some folder) name) → h.m ≡ i.m
-read_same folder name h i = let one : h.file.bytes ≡ i.file.bytes = bytes_same folder name h.file.bytes i.file.bytes h.file.held i.file.held in
-    model_same name i.file.bytes h.m i.m (subst (λ x. IsModelFile name x h.m) one h.model) i.model
+read_same folder name h i =
+    one_model i.text.tree h.m i.m (subst (λ x. FirstForm x h.m) (tree_same folder name h.text i.text) h.form) i.form
 
 -- one shape of it has the name
 shape_same : (folder : Folder) (name shape : List ℕ) (h i : ShapeChosen (Some folder) name shape) → (h.read.m ≡ i.read.m) × (h.s ≡ i.s)
 shape_same folder name shape h i =
     let same : h.read.m ≡ i.read.m = read_same folder name h.read i.read in (
       same,
-      one_place (shape_names i.read.m) shape h.s i.s i.read.model.form.differ (subst (λ x. IsShape x shape h.s) same h.named) i.named,
+      one_place (shape_names i.read.m) shape h.s i.s i.read.form.differ (subst (λ x. IsShape x shape h.s) same h.named) i.named,
     )
 
 -- a file within its limit isn't longer, and one that holds a model is not unbuilt
@@ -75,72 +74,76 @@ not_long folder name file h held long =
     omega (arith, subst (λ x. file_limit < length x) one long, h.within)
 
 not_unbuilt : (folder : Folder) (name : List ℕ) (file : FileRead (Some folder) name) (h : ModelRead (Some folder) name)
-    → ((m : List ModelStructure) → IsModelFile name file.bytes m → ⊥) → ⊥
+    → IsUnbuilt name file.bytes → ⊥
 not_unbuilt folder name file h none =
-    none h.m (subst (λ x. IsModelFile name x h.m) (bytes_same folder name h.file.bytes file.bytes h.file.held file.held) h.model)
+    none h.text.is_json h.text.tree h.m (subst (λ x. IsRead JsonText h.text.tree x)
+    (bytes_same folder name h.text.file.bytes file.bytes h.text.file.held file.held) h.text.is_text) h.form
 
 -- one answer stands before the input
 before_same : (folder : Folder) (name shape : List ℕ) (a b : Answer) → ModelAnswers (Some folder) name shape a
     → ModelAnswers (Some folder) name shape b → a ≡ b
 before_same folder name shape a b (long_file file held long is) (long_file file1 held1 long1 is1) = is ∙ sym is1
 before_same folder name shape a b (long_file file held long is) (unbuilt h none is1) = absurd (not_long folder name file h held long)
-before_same folder name shape a b (long_file file held long is) (no_shape h none is1) = absurd (not_long folder name file h.file held long)
+before_same folder name shape a b (long_file file held long is) (no_shape h none is1) = absurd (not_long folder name file h.text.file held long)
 before_same folder name shape a b (unbuilt h none is) (long_file file held long is1) = absurd (not_long folder name file h held long)
 before_same folder name shape a b (unbuilt h none is) (unbuilt i none1 is1) = is ∙ sym is1
 before_same folder name shape a b (unbuilt h none is) (no_shape i none1 is1) = absurd (not_unbuilt folder name h i none)
-before_same folder name shape a b (no_shape h none is) (long_file file held long is1) = absurd (not_long folder name file h.file held long)
+before_same folder name shape a b (no_shape h none is) (long_file file held long is1) = absurd (not_long folder name file h.text.file held long)
 before_same folder name shape a b (no_shape h none is) (unbuilt i none1 is1) = absurd (not_unbuilt folder name i h none1)
 before_same folder name shape a b (no_shape h none is) (no_shape i none1 is1) = is ∙ sym is1
 
 -- or the shape is there
 before_apart : (folder : Folder) (name shape : List ℕ) (a : Answer) → ModelAnswers (Some folder) name shape a
     → ShapeChosen (Some folder) name shape → ⊥
-before_apart folder name shape a (long_file file held long is) h = not_long folder name file h.read.file held long
+before_apart folder name shape a (long_file file held long is) h = not_long folder name file h.read.text.file held long
 before_apart folder name shape a (unbuilt file none is) h = not_unbuilt folder name file h.read none
 before_apart folder name shape a (no_shape read none is) h =
     none h.s (subst (λ x. IsShape x shape h.s) (read_same folder name h.read read) h.named)
 
 -- no text has a tree
-no_tree : (body : List ℕ) (refusal : SyntaxRefusal) (n : Node) → IsRefused json_syntax body refusal → IsRead JsonText n body → ⊥
-no_tree body refusal n is read = syntax.refused_no_text json_syntax body refusal is n read
+no_tree : (near : Convention) (body : List ℕ) (refusal : SyntaxRefusal) (n : Node) → IsRefused near.syntax body refusal
+    → IsRead near.syntax.text n body → ⊥
+no_tree near body refusal n is read = syntax.refused_no_text near.syntax body refusal is n read
 
-refusal_same : (body : List ℕ) (r q : SyntaxRefusal) → IsRefused json_syntax body r → IsRefused json_syntax body q → r ≡ q
-refusal_same body r q h i = let same : Err r ≡ Err q = syntax.one_answer json_syntax one_tree body (Err r) (Err q) h i in cc
+refusal_same : (near : Convention) → IsReadable near → (body : List ℕ) (r q : SyntaxRefusal) → IsRefused near.syntax body r
+    → IsRefused near.syntax body q → r ≡ q
+refusal_same near one body r q h i = let same : Err r ≡ Err q = syntax.one_answer near.syntax one.reading body (Err r) (Err q) h i in cc
 
 -- a tree with a fault spells no value
-fault_apart : (t : Table) (s : ℕ) (n m : Node) (v : Val) (x : FaultAt) (later : List FaultAt) (body : List ℕ) → IsRead JsonText n body
-    → IsRead JsonText m body
-    → faults t json_leaf n s ≡ x ∷ later → Spells t json_leaf s v m → ⊥
-fault_apart t s n m v x later body read read1 first spells =
-    let same : n ≡ m = one_tree n m body read.0 read1.0 in
-    let clear : faults t json_leaf m s ≡ [] = clear_where_spelled t json_leaf json_convention s v m spells in
-    let faulty : faults t json_leaf m s ≡ x ∷ later = sym (ap (λ y. faults t json_leaf y s) same) ∙ first in
+fault_apart : (near : Convention) → IsReadable near → (t : Table) (s : ℕ) (n m : Node) (v : Val) (x : FaultAt) (later : List FaultAt)
+    (body : List ℕ) → IsRead near.syntax.text n body → IsRead near.syntax.text m body
+    → faults t near.leaf n s ≡ x ∷ later → Spells t near.leaf s v m → ⊥
+fault_apart near one t s n m v x later body read read1 first spells =
+    let same : n ≡ m = one.reading n m body read.0 read1.0 in
+    let clear : faults t near.leaf m s ≡ [] = clear_where_spelled t near.leaf one.leaf s v m spells in
+    let faulty : faults t near.leaf m s ≡ x ∷ later = sym (ap (λ y. faults t near.leaf y s) same) ∙ first in
     cc
 
 first_same : (x y : FaultAt) (xs ys : List FaultAt) → x ∷ xs ≡ y ∷ ys → x ≡ y
 first_same x y xs ys e = cc
 
 -- a body has one answer
-text_same : (t : Table) (s : ℕ) (body : List ℕ) (a b : Answer) → TextAnswers t s body a → TextAnswers t s body b → a ≡ b
-text_same t s body a b (no_text r h is) (no_text q i is1) = is ∙ ap (λ x. refused (syntax_line x)) (refusal_same body r q h i) ∙ sym is1
-text_same t s body a b (no_text r h is) (fault n path kind later read first is1) = absurd (no_tree body r n h read)
-text_same t s body a b (no_text r h is) (value n v read spells is1) = absurd (no_tree body r n h read)
-text_same t s body a b (fault n path kind later read first is) (no_text r h is1) = absurd (no_tree body r n h read)
-text_same t s body a b (fault n path kind later read first is) (fault m path1 kind1 later1 read1 first1 is1) =
-    let trees : n ≡ m = one_tree n m body read.0 read1.0 in
+text_same : (near far : Convention) → IsReadable near → (t : Table) (s : ℕ) (body : List ℕ) (a b : Answer) → TextAnswers near far t s body a
+    → TextAnswers near far t s body b → a ≡ b
+text_same near far one t s body a b (no_text r h is) (no_text q i is1) = is ∙ ap (λ x. refused (syntax_line x)) (refusal_same near one body r q h i) ∙ sym is1
+text_same near far one t s body a b (no_text r h is) (fault n path kind later read first is1) = absurd (no_tree near body r n h read)
+text_same near far one t s body a b (no_text r h is) (value n v read spells is1) = absurd (no_tree near body r n h read)
+text_same near far one t s body a b (fault n path kind later read first is) (no_text r h is1) = absurd (no_tree near body r n h read)
+text_same near far one t s body a b (fault n path kind later read first is) (fault m path1 kind1 later1 read1 first1 is1) =
+    let trees : n ≡ m = one.reading n m body read.0 read1.0 in
     let head : FaultAt = (path, kind) in
     let head1 : FaultAt = (path1, kind1) in
     is ∙ ap (λ (f : FaultAt). refused (fault_line f.0 f.1))
-    (first_same head head1 later later1 (sym first ∙ ap (λ y. faults t json_leaf y s) trees ∙ first1)) ∙ sym is1
-text_same t s body a b (fault n path kind later read first is) (value m v read1 spells is1) =
-    absurd (fault_apart t s n m v (path, kind) later body read read1 first spells)
-text_same t s body a b (value n v read spells is) (no_text r h is1) = absurd (no_tree body r n h read)
-text_same t s body a b (value m v read1 spells is) (fault n path kind later read first is1) =
-    absurd (fault_apart t s n m v (path, kind) later body read read1 first spells)
-text_same t s body a b (value n v read spells is) (value m w read1 spells1 is1) =
-    let trees : n ≡ m = one_tree n m body read.0 read1.0 in
-    let values : v ≡ w = one_value t json_leaf json_convention s v w m (subst (λ x. Spells t json_leaf s v x) trees spells) spells1 in
-    is ∙ ap (λ x. done (written (encoded_tree t json_written s x))) values ∙ sym is1
+    (first_same head head1 later later1 (sym first ∙ ap (λ y. faults t near.leaf y s) trees ∙ first1)) ∙ sym is1
+text_same near far one t s body a b (fault n path kind later read first is) (value m v read1 spells is1) =
+    absurd (fault_apart near one t s n m v (path, kind) later body read read1 first spells)
+text_same near far one t s body a b (value n v read spells is) (no_text r h is1) = absurd (no_tree near body r n h read)
+text_same near far one t s body a b (value m v read1 spells is) (fault n path kind later read first is1) =
+    absurd (fault_apart near one t s n m v (path, kind) later body read read1 first spells)
+text_same near far one t s body a b (value n v read spells is) (value m w read1 spells1 is1) =
+    let trees : n ≡ m = one.reading n m body read.0 read1.0 in
+    let values : v ≡ w = one_value t near.leaf one.leaf s v w m (subst (λ x. Spells t near.leaf s v x) trees spells) spells1 in
+    is ∙ ap (λ x. done (far.text (encoded_tree t far.leaf_tree s x))) values ∙ sym is1
 
 -- an input within its limit isn't longer
 not_beyond : (folder : Folder) (name shape bytes input : List ℕ) (h : InputRead (told (Some folder) (Some bytes)) name shape)
@@ -149,28 +152,30 @@ not_beyond folder name shape bytes input h is long =
     omega (arith, subst (λ x. body_limit < length x) (sym is ∙ h.is_input) long, h.within)
 
 -- two whole inputs have one answer
-whole_same : (folder : Folder) (name shape bytes : List ℕ) (h i : InputRead (told (Some folder) (Some bytes)) name shape) (a b : Answer)
-    → TextAnswers (table_of h.chosen.read.m) h.chosen.s h.bytes a → TextAnswers (table_of i.chosen.read.m) i.chosen.s i.bytes b → a ≡ b
-whole_same folder name shape bytes h i a b says says1 =
+whole_same : (near far : Convention) → IsReadable near → (folder : Folder) (name shape bytes : List ℕ) (h i : InputRead (told (Some folder) (Some bytes)) name shape) (a b : Answer)
+    → TextAnswers near far (table_of h.chosen.read.m) h.chosen.s h.bytes a
+    → TextAnswers near far (table_of i.chosen.read.m) i.chosen.s i.bytes b → a ≡ b
+whole_same near far one folder name shape bytes h i a b says says1 =
     let chosen : (h.chosen.read.m ≡ i.chosen.read.m) × (h.chosen.s ≡ i.chosen.s) = shape_same folder name shape h.chosen i.chosen in
     let inputs : h.bytes ≡ i.bytes = sym h.is_input ∙ i.is_input in
-    text_same (table_of i.chosen.read.m) i.chosen.s i.bytes a b
-    (subst (λ x. TextAnswers (table_of x) i.chosen.s i.bytes a) chosen.0
-    (subst (λ x. TextAnswers (table_of h.chosen.read.m) x i.bytes a) chosen.1
-    (subst (λ x. TextAnswers (table_of h.chosen.read.m) h.chosen.s x a) inputs says))) says1
+    text_same near far one (table_of i.chosen.read.m) i.chosen.s i.bytes a b
+    (subst (λ x. TextAnswers near far (table_of x) i.chosen.s i.bytes a) chosen.0
+    (subst (λ x. TextAnswers near far (table_of h.chosen.read.m) x i.bytes a) chosen.1
+    (subst (λ x. TextAnswers near far (table_of h.chosen.read.m) h.chosen.s x a) inputs says))) says1
 
-pub body_same : (folder : Folder) (bytes name shape : List ℕ) (c d : Came) → BodySays (told (Some folder) (Some bytes)) name shape c
-    → BodySays (told (Some folder) (Some bytes)) name shape d → c ≡ d
-body_same folder bytes name shape c d (by_model a h e) (by_model b i e1) =
+pub body_same : (near far : Convention) → IsReadable near → (folder : Folder) (bytes name shape : List ℕ) (c d : Came)
+    → BodySays near far (told (Some folder) (Some bytes)) name shape c
+    → BodySays near far (told (Some folder) (Some bytes)) name shape d → c ≡ d
+body_same near far one folder bytes name shape c d (by_model a h e) (by_model b i e1) =
     e ∙ ap (came untouched) (before_same folder name shape a b h i) ∙ sym e1
-body_same folder bytes name shape c d (by_model a h e) (long_input i input is long e1) = absurd (before_apart folder name shape a h i)
-body_same folder bytes name shape c d (by_model a h e) (by_text i b says e1) = absurd (before_apart folder name shape a h i.chosen)
-body_same folder bytes name shape c d (long_input h input is long e) (by_model b i e1) = absurd (before_apart folder name shape b i h)
-body_same folder bytes name shape c d (long_input h input is long e) (long_input i input1 is1 long1 e1) = e ∙ sym e1
-body_same folder bytes name shape c d (long_input h input is long e) (by_text i b says e1) =
+body_same near far one folder bytes name shape c d (by_model a h e) (long_input i input is long e1) = absurd (before_apart folder name shape a h i)
+body_same near far one folder bytes name shape c d (by_model a h e) (by_text i b says e1) = absurd (before_apart folder name shape a h i.chosen)
+body_same near far one folder bytes name shape c d (long_input h input is long e) (by_model b i e1) = absurd (before_apart folder name shape b i h)
+body_same near far one folder bytes name shape c d (long_input h input is long e) (long_input i input1 is1 long1 e1) = e ∙ sym e1
+body_same near far one folder bytes name shape c d (long_input h input is long e) (by_text i b says e1) =
     absurd (not_beyond folder name shape bytes input i is long)
-body_same folder bytes name shape c d (by_text h a says e) (by_model b i e1) = absurd (before_apart folder name shape b i h.chosen)
-body_same folder bytes name shape c d (by_text h a says e) (long_input i input is long e1) =
+body_same near far one folder bytes name shape c d (by_text h a says e) (by_model b i e1) = absurd (before_apart folder name shape b i h.chosen)
+body_same near far one folder bytes name shape c d (by_text h a says e) (long_input i input is long e1) =
     absurd (not_beyond folder name shape bytes input h is long)
-body_same folder bytes name shape c d (by_text h a says e) (by_text i b says1 e1) =
-    e ∙ ap (came to_its_end) (whole_same folder name shape bytes h i a b says says1) ∙ sym e1
+body_same near far one folder bytes name shape c d (by_text h a says e) (by_text i b says1 e1) =
+    e ∙ ap (came to_its_end) (whole_same near far one folder name shape bytes h i a b says says1) ∙ sym e1

@@ -8,66 +8,74 @@ use Rattle.sm_tree.specs.Node.{Node}
 use Rattle.sm_tree.specs.Syntax.{IsRead, ComesTo}
 use Rattle.sm_tree.proofs.SomeAnswer as syntax
 use Rattle.sm_tree.specs.declared.refusal.SyntaxRefusal.{SyntaxRefusal}
-use Rattle.sm_json.specs.JsonText.{JsonText, json_syntax}
-use Rattle.sm_json.specs.Written.{written}
-use Rattle.sm_json.proofs.WrittenTrees.{null_begins}
+use Rattle.sm_json.specs.JsonText.{JsonText}
 use Rattle.sm_shapes.specs.declared.table.Table.{Table}
-use Rattle.sm_commands.specs.Leaves.{json_leaf}
 use Rattle.sm_commands.specs.Faults.{FaultAt, faults}
-use Rattle.sm_commands.specs.Encoded.{encoded_tree, json_written}
+use Rattle.sm_commands.specs.Encoded.{encoded_tree}
+use Rattle.sm_commands.specs.Convention.{Convention}
+use Rattle.sm_commands.specs.FirstForm.{ModelStructure, FirstForm}
 use Rattle.sm_commands.specs.Tabled.{table_of}
 use Rattle.sm_commands.specs.Lines.{unbuilt_line, no_shape_line, fault_line, syntax_line, file_limit_line, body_limit_line}
 use Rattle.sm_commands.specs.Limits.{file_limit, body_limit}
 use Rattle.sm_commands.specs.Answer.{Answer, Came, done, refused, past, came}
 use Rattle.sm_commands.specs.Answer.InputUse.{untouched, to_its_end, past_its_limit}
-use Rattle.sm_commands.specs.Stages.{told, FileRead, ShapeChosen}
+use Rattle.sm_commands.specs.Stages.{told, EndsInJson, FileRead, ModelRead, ShapeChosen}
 use Rattle.sm_commands.specs.Body.{TextAnswers, BodySays}
 use Rattle.sm_commands.specs.Body.ModelAnswers.{long_file, unbuilt, no_shape}
 use Rattle.sm_commands.specs.Body.TextAnswers.{no_text, fault, value}
 use Rattle.sm_commands.specs.Body.BodySays.{by_model, long_input, by_text}
-use Rattle.sm_commands.proofs.Conventions.{json_convention}
+use Rattle.sm_commands.proofs.Readable.{IsReadable}
 use Rattle.sm_commands.proofs.Clear.{spelled_where_clear}
 
 -- a tree has a fault or spells a value
-tree_answered : (t : Table) (s : ℕ) (body : List ℕ) (n : Node) → ((a : Answer) → TextAnswers t s body a → ⊥) → IsRead JsonText n body
-    → (fs : List FaultAt) → faults t json_leaf n s ≡ fs → ⊥
-tree_answered t s body n none read [] clear =
-    let w = spelled_where_clear t json_leaf json_convention n s clear in
-    none (done (written (encoded_tree t json_written s w.0))) (value n w.0 read w.1 refl)
-tree_answered t s body n none read (f ∷ fs) first = none (refused (fault_line f.0 f.1)) (fault n f.0 f.1 fs read first refl)
+tree_answered : (near far : Convention) → IsReadable near → (t : Table) (s : ℕ) (body : List ℕ) (n : Node)
+    → ((a : Answer) → TextAnswers near far t s body a → ⊥) → IsRead near.syntax.text n body
+    → (fs : List FaultAt) → faults t near.leaf n s ≡ fs → ⊥
+tree_answered near far one t s body n none read [] clear =
+    let w = spelled_where_clear t near.leaf one.leaf n s clear in
+    none (done (far.text (encoded_tree t far.leaf_tree s w.0))) (value n w.0 read w.1 refl)
+tree_answered near far one t s body n none read (f ∷ fs) first = none (refused (fault_line f.0 f.1)) (fault n f.0 f.1 fs read first refl)
 
--- what bytes come to as JSON is an answer
-come_to_answer : (t : Table) (s : ℕ) (body : List ℕ) → ((a : Answer) → TextAnswers t s body a → ⊥) → (r : Result Node SyntaxRefusal)
-    → ComesTo json_syntax body r → ⊥
-come_to_answer t s body none (Ok n) read = tree_answered t s body n none read (faults t json_leaf n s) refl
-come_to_answer t s body none (Err refusal) is = none (refused (syntax_line refusal)) (no_text refusal is refl)
+-- what bytes come to is an answer
+come_to_answer : (near far : Convention) → IsReadable near → (t : Table) (s : ℕ) (body : List ℕ)
+    → ((a : Answer) → TextAnswers near far t s body a → ⊥) → (r : Result Node SyntaxRefusal) → ComesTo near.syntax body r → ⊥
+come_to_answer near far one t s body none (Ok n) read = tree_answered near far one t s body n none read (faults t near.leaf n s) refl
+come_to_answer near far one t s body none (Err refusal) is = none (refused (syntax_line refusal)) (no_text refusal is refl)
 
-text_answered : (t : Table) (s : ℕ) (body : List ℕ) → ((a : Answer) → TextAnswers t s body a → ⊥) → ⊥
-text_answered t s body none = syntax.some_answer json_syntax null_begins body (come_to_answer t s body none)
+text_answered : (near far : Convention) → IsReadable near → (t : Table) (s : ℕ) (body : List ℕ)
+    → ((a : Answer) → TextAnswers near far t s body a → ⊥) → ⊥
+text_answered near far one t s body none =
+    syntax.some_answer near.syntax one.begins body (come_to_answer near far one t s body none)
 
 -- an input of the shape that is there
-input_answered : (folder : Folder) (name shape input : List ℕ) → ShapeChosen (Some folder) name shape
-    → ((c : Came) → BodySays (told (Some folder) (Some input)) name shape c → ⊥) → ⊥
-input_answered folder name shape input chosen none = elim (cases_lt body_limit (length input)) [
+input_answered : (near far : Convention) → IsReadable near → (folder : Folder) (name shape input : List ℕ) → ShapeChosen (Some folder) name shape
+    → ((c : Came) → BodySays near far (told (Some folder) (Some input)) name shape c → ⊥) → ⊥
+input_answered near far one folder name shape input chosen none = elim (cases_lt body_limit (length input)) [
   | inl long ↦ none (came past_its_limit (past body_limit_line)) (long_input chosen input refl long refl)
-  | inr within ↦ text_answered (table_of chosen.read.m) chosen.s input
+  | inr within ↦ text_answered near far one (table_of chosen.read.m) chosen.s input
       (λ a says. none (came to_its_end a)
       (by_text (record { chosen = chosen; bytes = input; is_input = refl; within = within }) a says refl))
 ]
 
 -- a file within the limit
-within_answered : (folder : Folder) (name shape input : List ℕ) → FileRead (Some folder) name
-    → ((c : Came) → BodySays (told (Some folder) (Some input)) name shape c → ⊥) → ⊥
-within_answered folder name shape input file none =
-    none (came untouched (refused (unbuilt_line name))) (by_model (refused (unbuilt_line name)) (unbuilt file (λ m is.
+within_answered : (near far : Convention) → IsReadable near → (folder : Folder) (name shape input : List ℕ) → FileRead (Some folder) name
+    → ((c : Came) → BodySays near far (told (Some folder) (Some input)) name shape c → ⊥) → ⊥
+within_answered near far one folder name shape input file none =
+    none (came untouched (refused (unbuilt_line name))) (by_model (refused (unbuilt_line name))
+    (unbuilt file (λ named n m text form.
     none (came untouched (refused (no_shape_line shape))) (by_model (refused (no_shape_line shape))
-    (no_shape (record { file = file; m = m; model = is }) (λ s named.
-    input_answered folder name shape input (record { read = record { file = file; m = m; model = is }; s = s; named = named }) none)
+    (no_shape (model_of n m named text form) (λ s is.
+    input_answered near far one folder name shape input (record { read = model_of n m named text form; s = s; named = is }) none)
     refl) refl)) refl) refl)
+  where
+    model_of : (n : Node) (m : List ModelStructure) → EndsInJson name → IsRead JsonText n file.bytes → FirstForm n m
+        → ModelRead (Some folder) name
+    model_of n m named text form =
+        record { text = record { file = file; is_json = named; tree = n; is_text = text }; m = m; form = form }
 
-pub body_answered : (folder : Folder) (name shape input file : List ℕ) → file_at folder name ≡ Some file
-    → ((c : Came) → BodySays (told (Some folder) (Some input)) name shape c → ⊥) → ⊥
-body_answered folder name shape input file held none = elim (cases_lt file_limit (length file)) [
+pub body_answered : (near far : Convention) → IsReadable near → (folder : Folder) (name shape input file : List ℕ) → file_at folder name ≡ Some file
+    → ((c : Came) → BodySays near far (told (Some folder) (Some input)) name shape c → ⊥) → ⊥
+body_answered near far one folder name shape input file held none = elim (cases_lt file_limit (length file)) [
   | inl long ↦ none (came untouched (past file_limit_line)) (by_model (past file_limit_line) (long_file file held long refl) refl)
-  | inr within ↦ within_answered folder name shape input (record { bytes = file; held = held; within = within }) none
+  | inr within ↦ within_answered near far one folder name shape input (record { bytes = file; held = held; within = within }) none
 ]

@@ -12,6 +12,7 @@ pub mod Faults
 pub mod Decoded
 pub mod Encoded
 pub mod CodecLaws
+pub mod Convention
 pub mod Answer
 pub mod Stages
 pub mod Body

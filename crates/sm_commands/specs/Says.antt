@@ -5,10 +5,11 @@ use Rattle.sm_commands.specs.Commands.{Command, body_command, reads, touches_inp
 use Rattle.sm_commands.specs.Answer.{Came}
 use Rattle.sm_commands.specs.Answer.InputUse.{untouched}
 use Rattle.sm_commands.specs.Stages.{Told, told, ShapeChosen}
+use Rattle.sm_commands.specs.Convention.{json}
 use Rattle.sm_commands.specs.Body.{BodySays}
 
 abbrev pub Says : Told → Command → Came → Type 0
-Says t (body_command model shape) c = BodySays t model shape c
+Says t (body_command model shape) c = BodySays json json t model shape c
 
 -- the stage from which the command reads the input: nothing that stands before it is refused
 abbrev pub ReachesInput : Told → Command → Type 0

@@ -30,22 +30,22 @@ pub record FileRead (files : Option Folder) (name : List ℕ) : Type 0 where
 abbrev pub EndsInJson : List ℕ → Type 0
 EndsInJson name = (stem : List ℕ) × (name ≡ stem ++ codes ".json")
 
--- the file of this name holds this model: its bytes are a JSON text of at most 100 levels in the first form
-pub record IsModelFile (name file : List ℕ) (m : List ModelStructure) : Type 0 where
+-- it is named as one in the JSON AST, and its bytes are a JSON text of this tree, which nests at most 100 levels
+pub record TreeRead (files : Option Folder) (name : List ℕ) : Type 0 where
+  pub file : FileRead files name
   pub is_json : EndsInJson name
   pub tree : Node
-  pub read : IsRead JsonText tree file
-  pub form : FirstForm tree m
+  pub is_text : IsRead JsonText tree file.bytes
 
--- the file is none that is read: by its name, its text, or the form of its tree
-abbrev pub IsUnbuilt : List ℕ → List ℕ → Type 0
-IsUnbuilt name file = (m : List ModelStructure) → IsModelFile name file m → ⊥
-
--- it holds a model
+-- the tree says this model, in the first form
 pub record ModelRead (files : Option Folder) (name : List ℕ) : Type 0 where
-  pub file : FileRead files name
+  pub text : TreeRead files name
   pub m : List ModelStructure
-  pub model : IsModelFile name file.bytes m
+  pub form : FirstForm text.tree m
+
+-- a file of this name and these bytes holds no model that is read: by its name, its text, or the form of its tree
+abbrev pub IsUnbuilt : List ℕ → List ℕ → Type 0
+IsUnbuilt name bytes = EndsInJson name → (n : Node) (m : List ModelStructure) → IsRead JsonText n bytes → FirstForm n m → ⊥
 
 -- the structure of this name has the number s
 abbrev pub IsShape : List ModelStructure → List ℕ → ℕ → Type 0

@@ -13,6 +13,7 @@ ghost use Rattle.sm_commands.specs.Lines.{syntax_line as the_syntax_line};
 ghost use Rattle.sm_io.specs.Seen.{files_seen, stream};
 ghost use Rattle.sm_commands.specs.Commands.{body_command};
 ghost use Rattle.sm_commands.specs.Stages.{EndsInJson};
+ghost use Rattle.sm_commands.specs.Convention.{json};
 ghost use Rattle.sm_commands.specs.Body.{TextAnswers};
 ghost use Rattle.sm_commands.specs.steps.CommandSteps.{StepComesTo, EndsWithLine, ComesTo};
 ghost use Rattle.sm_commands.specs.steps.BodySteps.{TreeAnswers, ReadsModelFile, OpensModel, InputComesTo};
@@ -95,7 +96,7 @@ pub(crate) fn canonical_body(
 ) -> Result<Vec<u8>, Stop>
     requires shaped { Shaped table.now }
     requires shape { shape < shape_count table.now }
-    ensures { StepComesTo (TextAnswers table.now shape body.now) ⊥ (Unit {0}) result }
+    ensures { StepComesTo (TextAnswers json json table.now shape body.now) ⊥ (Unit {0}) result }
 {
     match read_tree(alloc, body) {
         Ok(tree) => canonical_of_tree(alloc, table, shape, &tree),

@@ -18,6 +18,7 @@ use Rattle.sm_commands.specs.Limits.{body_limit}
 use Rattle.sm_commands.specs.Lines.{body_limit_line}
 use Rattle.sm_commands.specs.Answer.{Answer, past}
 use Rattle.sm_commands.specs.Stages.{IsInput, EndsInJson, IsUnbuilt, ModelRead}
+use Rattle.sm_commands.specs.Convention.{json}
 use Rattle.sm_commands.specs.Body.{ModelAnswers, TextAnswers}
 use Rattle.sm_commands.specs.steps.CommandSteps.{StepStops, StepComesTo}
 use Rattle.sm_commands.specs.declared.model.structures.FirstModel.{FirstModel}
@@ -25,7 +26,7 @@ use Rattle.sm_commands.specs.declared.stop.Stop.{Stop}
 
 -- what every text of this tree comes to
 abbrev pub TreeAnswers : Table → ℕ → Node → Answer → Type 0
-TreeAnswers t s n a = (body : List ℕ) → IsRead JsonText n body → TextAnswers t s body a
+TreeAnswers t s n a = (body : List ℕ) → IsRead JsonText n body → TextAnswers json json t s body a
 
 -- the bytes of a file are this model, or none
 abbrev pub ReadsModelFile : List ℕ → List ℕ → Result (Option FirstModel) OutOfMemory → Type 0
@@ -52,7 +53,7 @@ OpensModel files files1 name (Err stop) = StepStops (RefusesFile files.held name
 -- what the input comes to for the shape s of a table, and what is left of it
 pub data InputSays (input rest : Stream) (t : Table) (s : ℕ) (a : Answer) : Type 0 where
   beyond : (body : List ℕ) → IsInput input.bytes body → body_limit < length body → a ≡ past body_limit_line → InputSays input rest t s a
-  whole : (body : List ℕ) → IsInput input.bytes body → length body ≤ body_limit → IsAtEnd rest.bytes → TextAnswers t s body a
+  whole : (body : List ℕ) → IsInput input.bytes body → length body ≤ body_limit → IsAtEnd rest.bytes → TextAnswers json json t s body a
       → InputSays input rest t s a
 
 abbrev pub InputComesTo : Stream → Stream → Table → ℕ → Result (Vec ℕ) Stop → Type 0

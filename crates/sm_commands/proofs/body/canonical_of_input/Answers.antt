@@ -1,4 +1,5 @@
 use Rattle.std.proofs.Common.{subst}
+use Rattle.sm_commands.specs.Convention.{json}
 use Rattle.sm_commands.specs.Body.{TextAnswers}
 use Rattle.sm_commands.specs.Lines.{body_limit_line}
 use Rattle.sm_io.specs.Seen.{stream}
@@ -11,7 +12,7 @@ returns-in-Ok-clause-comes g c =
     input_comes (stream (g.S.Source.left c.args.input.now) (g.S.Source.faults c.args.input.now))
     (stream (g.S.Source.left c.read_all.new.source) (g.S.Source.faults c.read_all.new.source))
     c.args.table.now c.args.shape c.in-Ok.body.items c.canonical_body.result c.in-Ok.ensures.bytes.0 c.in-Ok.ensures.bytes.1
-    (subst (λ body. StepComesTo (TextAnswers c.args.table.now c.args.shape body) ⊥ (Unit {0}) c.canonical_body.result) c.deref.ensures.value
+    (subst (λ body. StepComesTo (TextAnswers json json c.args.table.now c.args.shape body) ⊥ (Unit {0}) c.canonical_body.result) c.deref.ensures.value
     c.canonical_body.ensures)
 
 pub returns-in-Err-TooLong-clause-comes : goal.returns-in-Err-TooLong-clause-comes
