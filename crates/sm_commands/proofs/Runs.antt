@@ -2,11 +2,12 @@
 use Rattle.std.proofs.Common.{◌≡◌, ℕ, inl, inr, List, Option, Some, None, Result, Ok, Err, sym, subst, refl}
 use Rattle.std.specs.Global.{Vec}
 use Rattle.std.specs.Io.KnownBytes.{Keeps}
+use Rattle.sm_io.specs.Files.{Folder}
 use Rattle.sm_io.specs.Seen.{FilesSeen, Stream}
 use Rattle.sm_commands.specs.Outside.{Outside}
 use Rattle.sm_commands.specs.Commands.{Command, IsForm}
 use Rattle.sm_commands.specs.Answer.{Answer, came}
-use Rattle.sm_commands.specs.Run.{code_of, told_by, LeavesInput, Answers, StopsShort, Prints, RunEnds, RunAnswers}
+use Rattle.sm_commands.specs.Run.{code_of, told_by, LeavesInput, Answers, StopsShort, StandsAsBefore, KeepsFiles, Prints, RunEnds, RunAnswers}
 use Rattle.sm_commands.specs.steps.CommandSteps.{ComesTo, PutEnds, PrintsResult}
 use Rattle.sm_commands.specs.declared.stop.Stop.{Stop}
 use Rattle.sm_commands.specs.declared.stop.Stop.TheVariants.{Refused as is_refused, Limit as is_past, ReadFault as is_fault, NoMemory as is_short}
@@ -45,6 +46,14 @@ keeps_all before after e = subst (λ x. Keeps before.bytes x.bytes) (sym e) (kep
     kept : (bytes : Option (List ℕ)) → Keeps bytes bytes
     kept None = tt
     kept (Some xs) = refl
+
+-- files that are as they were keep what isn't written
+pub files_kept : (words : List (List ℕ)) (before after : Option Folder) → after ≡ before → KeepsFiles words before after
+files_kept words before after e command name is unwritten = subst (λ x. StandsAsBefore before x name) (sym e) (kept before)
+  where
+    kept : (folder : Option Folder) → StandsAsBefore folder folder name
+    kept None = tt
+    kept (Some folder) = refl
 
 -- at the status that the print answered
 at_status : (words : List (List ℕ)) (before after : Outside) (command : Command) (result : Result (Vec ℕ) Stop) (status : Status)

@@ -1,12 +1,13 @@
 -- How a run of the program ends: what of what its command comes to was printed, and what it leaves of its files, its input
 -- and its output. Clauses on bytes hold where the outside tells them.
-use Rattle.std.specs.Prelude.{◌≡◌, ℕ, ◌⊎◌, List}
+use Rattle.std.specs.Prelude.{◌≡◌, ℕ, ◌⊎◌, List, Option, Contains, IfSome, IsSomeAnd}
 use Rattle.std.specs.Io.KnownBytes.{Keeps, Appends, IsAtEnd}
 use Rattle.sm_io.specs.Causes.{Rose}
+use Rattle.sm_io.specs.Files.{Folder, file_at}
 use Rattle.sm_io.specs.Writing.{AppendsPrefix}
 use Rattle.sm_io.specs.Seen.{Stream, FilesSeen}
 use Rattle.sm_commands.specs.Outside.{Outside}
-use Rattle.sm_commands.specs.Commands.{Command, IsForm, IsNoForm}
+use Rattle.sm_commands.specs.Commands.{Command, IsForm, IsNoForm, writes}
 use Rattle.sm_commands.specs.Answer.{Answer, InputUse, came}
 use Rattle.sm_commands.specs.Answer.InputUse.{untouched, to_its_end, past_its_limit}
 use Rattle.sm_commands.specs.Stages.{Told, told}
@@ -48,6 +49,15 @@ ReadFails files files1 input rest command =
 -- the input is as it was, unless no answer stands before it
 abbrev pub StopsShort : FilesSeen → Stream → Stream → Command → Type 0
 StopsShort files input rest command = (rest ≡ input) ⊎ ReachesInput (told_by files input) command
+
+-- where told, the name stands for what it stood for
+abbrev pub StandsAsBefore : Option Folder → Option Folder → List ℕ → Type 0
+StandsAsBefore before after name = IfSome before (λ folder. IsSomeAnd after (λ later. file_at later name ≡ file_at folder name))
+
+-- a file that the words don't name to be written is as it was
+abbrev pub KeepsFiles : List (List ℕ) → Option Folder → Option Folder → Type 0
+KeepsFiles words before after = (command : Command) (name : List ℕ) → IsForm words command → (Contains (writes command) name → ⊥)
+    → StandsAsBefore before after name
 
 -- the words have the form of a command, and this holds of it
 abbrev pub ForCommand : List (List ℕ) → (Command → Type 0) → Type 0

@@ -5,7 +5,7 @@ ghost use Rattle.sm_io.specs.Reading.{LosesPrefix};
 ghost use Rattle.sm_io.specs.Seen.{files_seen, stream};
 ghost use Rattle.sm_commands.specs.Outside.{outside};
 ghost use Rattle.sm_commands.specs.Commands.{LetsRead, reads};
-ghost use Rattle.sm_commands.specs.Run.{code_of, RunAnswers};
+ghost use Rattle.sm_commands.specs.Run.{code_of, RunAnswers, KeepsFiles};
 ghost use Rattle.sm_commands.specs.steps.Asked.{command_of};
 ghost use Rattle.sm_commands.specs.steps.CommandSteps.{ComesTo, PutEnds, PrintsResult};
 
@@ -135,6 +135,7 @@ pub fn run<F: Files, S: Source, K: Sink, P: Patterns>(
     ensures answers { let before = outside (files_seen (F.held files.old) (F.read_faults files.old)) (stream (S.left input.old) (S.faults input.old)) (stream (K.written out.old) (K.faults out.old)) in
         let after = outside (files_seen (F.held files.new) (F.read_faults files.new)) (stream (S.left input.new) (S.faults input.new)) (stream (K.written out.new) (K.faults out.new)) in
         RunAnswers words.now before after result }
+    ensures files { KeepsFiles words.now (F.held files.old) (F.held files.new) }
     ensures held { F.held files.new ≡ F.held files.old }
     ensures write_faults { F.write_faults files.new ≡ F.write_faults files.old }
     ensures read_faults { F.read_faults files.old ≤ F.read_faults files.new }

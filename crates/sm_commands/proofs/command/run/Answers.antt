@@ -1,7 +1,7 @@
 use Rattle.sm_io.specs.Seen.{files_seen, stream}
 use Rattle.sm_commands.specs.Outside.{Outside}
 use Rattle.sm_commands.specs.steps.Asked.{command_of}
-use Rattle.sm_commands.proofs.Runs.{command_runs}
+use Rattle.sm_commands.proofs.Runs.{command_runs, files_kept}
 use Rattle.sm_commands.proofs.command.run.Goals as goal
 
 pub come_to-came-requires : goal.come_to-came-requires
@@ -21,3 +21,7 @@ returns-in-Some-clause-answers g c =
     } in
     command_runs c.args.words.now before after (command_of c.in-Some.form) c.come_to-came.result c.print.result c.code.result
     c.in-Some.ensures c.come_to-came.ensures.comes c.print.ensures.prints c.code.ensures
+
+pub returns-in-Some-clause-files : goal.returns-in-Some-clause-files
+returns-in-Some-clause-files g c =
+    files_kept c.args.words.now (g.F.Files.held c.args.files.now) (g.F.Files.held c.come_to-came.new.files) c.come_to-came.ensures.held
