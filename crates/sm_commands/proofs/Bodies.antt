@@ -1,4 +1,4 @@
--- What the steps of the command `body` come to, joined: the answers of src/body.rt cite it.
+-- What the steps of the command `body` come to, joined: the answers of src/body.rt and src/opening.rt cite it.
 use Rattle.std.proofs.Common.{◌≡◌, ℕ, ◌<◌, ◌≤◌, inl, inr, List, ◌∷◌, ◌++◌, Option, Some, None, Result, Ok, Err, IfSome, length, sym, ap, subst, ◌∙◌, ◌+◌, refl, arith, append-nil}
 use Rattle.std.specs.Prelude.{slice_get, IsSomeAnd, replicate}
 use Rattle.std.proofs.lemmas.Option.{slice_get_within}

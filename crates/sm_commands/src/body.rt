@@ -1,5 +1,5 @@
 // The command `body`: a body of one shape, read and written again in its canonical form.
-ghost use Rattle.std.specs.Prelude.{◌≡◌, ◌<◌, ◌≤◌, ◌↔◌, IsTrue, IfOk};
+ghost use Rattle.std.specs.Prelude.{◌≡◌, ◌<◌, ◌≤◌, IfOk};
 ghost use Rattle.sm_io.specs.Files.{LetsSame};
 ghost use Rattle.sm_io.specs.Reading.{LosesPrefix};
 ghost use Rattle.sm_tree.specs.View.{node_of};
@@ -12,25 +12,21 @@ ghost use Rattle.sm_commands.specs.Encoded.{encoded_tree, json_written};
 ghost use Rattle.sm_commands.specs.Lines.{syntax_line as the_syntax_line};
 ghost use Rattle.sm_io.specs.Seen.{files_seen, stream};
 ghost use Rattle.sm_commands.specs.Commands.{body_command};
-ghost use Rattle.sm_commands.specs.Stages.{EndsInJson};
 ghost use Rattle.sm_commands.specs.Convention.{json};
 ghost use Rattle.sm_commands.specs.Body.{TextAnswers};
 ghost use Rattle.sm_commands.specs.steps.CommandSteps.{StepComesTo, EndsWithLine, ComesTo};
-ghost use Rattle.sm_commands.specs.steps.BodySteps.{TreeAnswers, ReadsModelFile, OpensModel, InputComesTo};
+ghost use Rattle.sm_commands.specs.steps.BodySteps.{TreeAnswers, InputComesTo};
 
 use crate::codec::{Refusal, decode, encode};
 use crate::lines::{fault_line, limit_line, line, syntax_line};
-use crate::model::{FirstModel, read_model};
+use crate::opening::open_model;
 use crate::stop::{Stop, past, refused};
 use crate::words::BodyWords;
-use sm_io::{FileRefusal, Files, ReadRefusal, Source, read_all};
+use sm_io::{Files, ReadRefusal, Source, read_all};
 use sm_json::{read_tree, write_tree};
 use sm_shapes::{Table, Value};
 use sm_tree::{NoMemory, SyntaxRefusal, Tree};
 use std::alloc::Global;
-
-/// The greatest length of a model file, in bytes.
-const FILE_LIMIT: u64 = 4_194_304;
 
 /// The greatest length of a body, in bytes.
 const BODY_LIMIT: u64 = 1_048_576;
@@ -104,54 +100,6 @@ pub(crate) fn canonical_body(
             SyntaxRefusal::NoMemory => Err(Stop::NoMemory),
             _ => Err(no_text(alloc, refusal)),
         },
-    }
-}
-
-// Whether the name is that of a file in the JSON AST.
-fn ends_in_json(name: &str) -> bool
-    ensures { IsTrue result ↔ EndsInJson name.now }
-{
-    name.as_bytes().ends_with(b".json")
-}
-
-// The model that the bytes of a file say.
-fn model_in(alloc: Global, name: &str, file: &[u8]) -> Result<Option<FirstModel>, NoMemory>
-    ensures { ReadsModelFile name.now file.now result }
-{
-    if !ends_in_json(name) {
-        return Ok(None);
-    }
-    match read_tree(alloc, file) {
-        Ok(tree) => read_model(alloc, &tree),
-        Err(refusal) => match refusal {
-            SyntaxRefusal::NoMemory => Err(NoMemory),
-            _ => Ok(None),
-        },
-    }
-}
-
-// The model of a file.
-fn open_model<F: Files>(alloc: Global, files: &mut F, name: &str) -> Result<FirstModel, Stop>
-    requires { F.lets_read files.old name.now }
-    ensures opens { OpensModel
-        (files_seen (F.held files.old) (F.read_faults files.old))
-        (files_seen (F.held files.new) (F.read_faults files.new))
-        name.now result }
-    ensures held { F.held files.new ≡ F.held files.old }
-    ensures read_faults { F.read_faults files.old ≤ F.read_faults files.new }
-    ensures write_faults { F.write_faults files.new ≡ F.write_faults files.old }
-    ensures same_reads { LetsSame (F.lets_read files.old) (F.lets_read files.new) }
-    ensures same_writes { LetsSame (F.lets_write files.old) (F.lets_write files.new) }
-{
-    match files.read(name, FILE_LIMIT) {
-        Ok(file) => match model_in(alloc, name, &file) {
-            Ok(Some(model)) => Ok(model),
-            Ok(None) => Err(refused(line(alloc, "Unbuilt", name))),
-            Err(NoMemory) => Err(Stop::NoMemory),
-        },
-        Err(FileRefusal::Failed) => Err(Stop::ReadFault),
-        Err(FileRefusal::TooLong) => Err(past(limit_line(alloc, "file", FILE_LIMIT))),
-        Err(FileRefusal::NoMemory) => Err(Stop::NoMemory),
     }
 }
 

@@ -8,6 +8,7 @@ mod command;
 pub mod laws;
 mod lines;
 pub mod model;
+mod opening;
 mod stop;
 mod words;
 

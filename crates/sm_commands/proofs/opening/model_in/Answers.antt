@@ -1,7 +1,7 @@
 use Rattle.std.proofs.Common.{refl}
 use Rattle.sm_tree.specs.View.{node_of}
 use Rattle.sm_commands.proofs.Bodies.{model_read, no_model_text, refused_so}
-use Rattle.sm_commands.proofs.body.model_in.Goals as goal
+use Rattle.sm_commands.proofs.opening.model_in.Goals as goal
 
 pub returns-in-Ok : goal.returns-in-Ok
 returns-in-Ok c =

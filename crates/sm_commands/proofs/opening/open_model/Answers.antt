@@ -4,7 +4,7 @@ use Rattle.sm_commands.specs.Lines.{unbuilt_line, file_limit_line}
 use Rattle.sm_io.specs.Seen.{files_seen}
 use Rattle.sm_commands.specs.steps.BodySteps.{ReadsModelFile}
 use Rattle.sm_commands.proofs.Bodies.{file_opens, file_unbuilt, file_past}
-use Rattle.sm_commands.proofs.body.open_model.Goals as goal
+use Rattle.sm_commands.proofs.opening.open_model.Goals as goal
 
 pub returns-in-Ok-Some-clause-opens : goal.returns-in-Ok-Some-clause-opens
 returns-in-Ok-Some-clause-opens g c =
