@@ -32,9 +32,9 @@ use Rattle.sm_io.specs.Seen.{FilesSeen, Stream}
 use Rattle.sm_commands.specs.Limits.{file_limit, body_limit}
 use Rattle.sm_commands.specs.Tabled.{table_of}
 use Rattle.sm_commands.specs.Commands.{body_command}
-use Rattle.sm_commands.specs.Answer.{Answer, done, refused, past, came}
+use Rattle.sm_commands.specs.Answer.{Answer, done, refused, came}
 use Rattle.sm_commands.specs.Answer.InputUse.{untouched, to_its_end, past_its_limit}
-use Rattle.sm_commands.specs.Stages.{IsInput, EndsInJson, IsUnbuilt, ShapeChosen}
+use Rattle.sm_commands.specs.Stages.{EndsInJson, IsUnbuilt, ShapeChosen}
 use Rattle.sm_commands.specs.Convention.{json}
 use Rattle.sm_commands.specs.Body.{ModelAnswers, TextAnswers}
 use Rattle.sm_commands.specs.Body.ModelAnswers.{long_file, unbuilt, no_shape}

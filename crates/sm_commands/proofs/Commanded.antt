@@ -1,7 +1,7 @@
 -- What holds of what each command comes to: a clause for each command.
-use Rattle.std.proofs.Common.{◌≡◌, ℕ, ◌⊎◌, inl, inr, true, List, ap, refl, arith}
+use Rattle.std.proofs.Common.{◌≡◌, ◌⊎◌, inl, inr, true, ap, refl, arith}
 use Rattle.sm_commands.specs.Commands.{Command, body_command, touches_input}
-use Rattle.sm_commands.specs.Answer.{Came, InputUse}
+use Rattle.sm_commands.specs.Answer.{Came}
 use Rattle.sm_commands.specs.Answer.InputUse.{untouched}
 use Rattle.sm_commands.specs.Stages.{Told}
 use Rattle.sm_commands.specs.Body.BodySays.{by_model, long_input, by_text}

@@ -1,5 +1,5 @@
 -- The tree that is written for a value of a shape is one of JSON.
-use Rattle.std.proofs.Common.{◌≡◌, ℕ, ℤ, ◌<◌, arith, inl, inr, List, [], ◌∷◌, subst}
+use Rattle.std.proofs.Common.{ℕ, ℤ, ◌<◌, arith, inl, inr, List, subst}
 use Rattle.std.specs.Prelude.{pos, negsuc, ◌^◌}
 use mir.Syntax.{w32, w64}
 use mir.Val.{SFits}

@@ -14,7 +14,7 @@ use Rattle.sm_commands.specs.Spelling.{Spells}
 use Rattle.sm_commands.specs.Faults.{FaultAt, faults}
 use Rattle.sm_commands.specs.Encoded.{encoded_tree}
 use Rattle.sm_shapes.specs.Names.{NoneIs, AllDiffer}
-use Rattle.sm_commands.specs.FirstForm.{ModelStructure, FirstForm, shape_names}
+use Rattle.sm_commands.specs.FirstForm.{FirstForm, shape_names}
 use Rattle.sm_commands.specs.Convention.{Convention}
 use Rattle.sm_commands.specs.Tabled.{table_of}
 use Rattle.sm_commands.specs.Limits.{file_limit, body_limit}

@@ -1,6 +1,6 @@
 -- Words have the form of one command at most.
-use Rattle.std.proofs.Common.{◌≡◌, ℕ, List}
-use Rattle.sm_commands.specs.Commands.{Command, body_command, IsForm, IsNoForm, OneForm}
+use Rattle.std.proofs.Common.{ℕ, List}
+use Rattle.sm_commands.specs.Commands.{body_command, IsForm, IsNoForm, OneForm}
 
 pub one_form : OneForm
 one_form words (body_command model shape) (body_command model1 shape1) h i = cc

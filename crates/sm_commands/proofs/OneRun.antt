@@ -5,7 +5,7 @@ use Rattle.sm_io.specs.Files.{Folder}
 use Rattle.sm_io.specs.Seen.{FilesSeen, Stream}
 use Rattle.sm_commands.specs.Outside.{Outside}
 use Rattle.sm_commands.specs.Commands.{Command, IsNoForm}
-use Rattle.sm_commands.specs.Answer.{Answer, Came, InputUse, came}
+use Rattle.sm_commands.specs.Answer.{Answer, Came, came}
 use Rattle.sm_commands.specs.Stages.{told}
 use Rattle.sm_commands.specs.Says.{Says}
 use Rattle.sm_commands.specs.Run.{Answers, Prints, RunEnds}

@@ -1,16 +1,15 @@
 -- Where no count of faults rose, a run of words of a form puts its answer, or memory ran out; and a command that doesn't touch
 -- the input leaves it as it was.
-use Rattle.std.proofs.Common.{◌≡◌, ◌⊎◌, ℕ, List, inl, inr, sym, ap, subst, ◌∙◌, refl}
+use Rattle.std.proofs.Common.{◌≡◌, ℕ, List, inl, inr, subst, refl}
 use Rattle.std.specs.Prelude.{true, false}
 use Rattle.sm_io.specs.Seen.{FilesSeen, Stream}
 use Rattle.sm_io.proofs.Counts.{quiet_not_rose}
 use Rattle.sm_commands.specs.Commands.{Command, IsForm, touches_input}
 use Rattle.sm_commands.specs.Outside.{Outside}
 use Rattle.sm_commands.specs.Answer.{Answer}
-use Rattle.sm_commands.specs.Run.{Answers, ReadFails, StopsShort, told_by, RunEnds}
+use Rattle.sm_commands.specs.Run.{Answers, ReadFails, StopsShort, told_by}
 use Rattle.sm_commands.specs.RunLaws.{IsQuiet, QuietRunAnswers, KeepsInput}
 use Rattle.sm_commands.specs.Says.{ReachesInput}
-use Rattle.sm_commands.specs.declared.command.Status.{Status}
 use Rattle.sm_commands.specs.declared.command.Status.TheVariants.{Done, Refused, Usage, ReadFault, WriteFault, NoMemory, Limit}
 use Rattle.sm_commands.proofs.OneForm.{one_form}
 use Rattle.sm_commands.proofs.Commanded.{input_reached}

@@ -1,6 +1,6 @@
 -- A file that is there and an input come to some answer of the command `body`. Where a case can't be decided, each of its
 -- two sides is denied in turn; that some bytes come to an answer at all is what sm_tree says of any syntax.
-use Rattle.std.proofs.Common.{◌≡◌, ℕ, ◌≤◌, inl, inr, List, [], ◌∷◌, Some, length, refl}
+use Rattle.std.proofs.Common.{◌≡◌, ℕ, inl, inr, List, [], ◌∷◌, Some, length, refl}
 use Rattle.std.specs.Prelude.{Result, Ok, Err}
 use Rattle.std.proofs.lemmas.Bool.{cases_lt}
 use Rattle.sm_io.specs.Files.{Folder, file_at}

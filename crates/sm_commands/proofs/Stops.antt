@@ -1,5 +1,5 @@
 -- What a step of a command comes to, carried on to where more is known.
-use Rattle.std.proofs.Common.{◌≡◌, ℕ, List, Result, Ok, Err, sym, subst}
+use Rattle.std.proofs.Common.{ℕ, List, Result, Ok, Err, sym, subst}
 use Rattle.std.specs.Global.{Vec}
 use Rattle.sm_commands.specs.Answer.{Answer, done, refused, past}
 use Rattle.sm_commands.specs.steps.CommandSteps.{StepStops, StepComesTo, EndsWithLine, EndsWithLimit}

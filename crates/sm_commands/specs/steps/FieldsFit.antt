@@ -1,5 +1,5 @@
 -- Which fields can be written by themselves, in any order.
-use Rattle.std.specs.Prelude.{ℕ, ◌<◌}
+use Rattle.std.specs.Prelude.{◌<◌}
 use Rattle.sm_shapes.specs.Val.{FieldVals, no_fields, field}
 use Rattle.sm_shapes.specs.Tables.{target_at, member_count}
 use Rattle.sm_shapes.specs.Fits.{Fits}
