@@ -21,7 +21,7 @@ past line = record { status = Limit; text = line }
 pub data InputUse : Type 0 where
   untouched to_its_end past_its_limit : InputUse
 
--- what a command comes to
+-- what a command comes to: its answer, and what it reads of the input for it
 pub record Came : Type 0 where
   pub answer : Answer
   pub input : InputUse

@@ -1,5 +1,5 @@
--- How a run of the program ends: what of what its command comes to was printed, and what it leaves of its files, its input
--- and its output. Clauses on bytes hold where the outside tells them.
+-- How a run of the program ends: how much is printed of what its command comes to, which counts of faults rose, and what is
+-- left of its files and its input. It knows no command. Clauses on bytes hold where the outside tells them.
 use Rattle.std.specs.Prelude.{◌≡◌, ℕ, ◌⊎◌, List, Option, Contains, IfSome, IsSomeAnd}
 use Rattle.std.specs.Io.KnownBytes.{Keeps, Appends, IsAtEnd}
 use Rattle.sm_io.specs.Causes.{Rose}

@@ -1,4 +1,5 @@
--- What each command comes to, over bytes alone: that it comes to one thing, to some, and for which it reads the input.
+-- What each command comes to, over bytes alone; and the laws that it comes to one thing, that it comes to some, and that it
+-- reads the input for none but those behind its stage.
 use Rattle.std.specs.Prelude.{◌≡◌, ◌⊎◌, ℕ, true, List, Some, Contains}
 use Rattle.sm_io.specs.Files.{Folder, file_at}
 use Rattle.sm_commands.specs.Commands.{Command, body_command, reads, touches_input}
@@ -30,7 +31,8 @@ abbrev pub SomeAnswer : Type 0
 SomeAnswer = (folder : Folder) (input : List ℕ) (command : Command) → AreThere folder (reads command)
     → ((c : Came) → Says (told (Some folder) (Some input)) command c → ⊥) → ⊥
 
--- a law: the input is read only from its stage on, and that is reached only by a command that touches the input
+-- a law: a command comes to what it says with the input untouched, or reaches the input; and it reaches it only where it is one
+-- that touches it
 abbrev pub InputReached : Type 0
 InputReached = (t : Told) (command : Command)
     → ((c : Came) → Says t command c → (c.input ≡ untouched) ⊎ ReachesInput t command) × (ReachesInput t command → touches_input command ≡ true)

@@ -30,14 +30,14 @@ pub record FileRead (files : Option Folder) (name : List ℕ) : Type 0 where
 abbrev pub EndsInJson : List ℕ → Type 0
 EndsInJson name = (stem : List ℕ) × (name ≡ stem ++ codes ".json")
 
--- it is named as one in the JSON AST, and its bytes are a JSON text of this tree, which nests at most 100 levels
+-- a file was read that is named as one in the JSON AST, and its bytes are a JSON text of this tree, which nests at most 100 levels
 pub record TreeRead (files : Option Folder) (name : List ℕ) : Type 0 where
   pub file : FileRead files name
   pub is_json : EndsInJson name
   pub tree : Node
   pub is_text : IsRead JsonText tree file.bytes
 
--- the tree says this model, in the first form
+-- a file's tree says this model, in the first form
 pub record ModelRead (files : Option Folder) (name : List ℕ) : Type 0 where
   pub text : TreeRead files name
   pub m : List ModelStructure
@@ -55,13 +55,13 @@ IsShape m name s = slice_get (shape_names m) s ≡ Some name
 abbrev pub IsNoShape : List ModelStructure → List ℕ → Type 0
 IsNoShape m name = (s : ℕ) → IsShape m name s → ⊥
 
--- the shape of this name is there, with the number s in the model's table
+-- the model has the shape of this name, with the number s in its table
 pub record ShapeChosen (files : Option Folder) (name shape : List ℕ) : Type 0 where
   pub read : ModelRead files name
   pub s : ℕ
   pub named : IsShape read.m shape s
 
--- the input is within its limit
+-- the shape is there, and the input is within its limit
 pub record InputRead (t : Told) (name shape : List ℕ) : Type 0 where
   pub chosen : ShapeChosen t.files name shape
   pub bytes : List ℕ
