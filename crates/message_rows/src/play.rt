@@ -1,0 +1,147 @@
+// The answer to each case.
+ghost use Rattle.std.specs.Prelude.{◌<◌, All};
+
+use crate::cuts::{cut_in_two, random_cuts, single_bytes};
+use crate::given::given;
+use crate::many::show_many;
+use crate::pieces::Way;
+use crate::prefixes::show_prefixes;
+use crate::question::{Asked, question_of};
+use crate::stream::read_stream;
+use crate::written::show_written;
+use sm_http::Side;
+use sm_io::MemSource;
+use sm_tree::NoMemory;
+use std::alloc::Global;
+
+/// The most takes of one byte, before all that is left comes at once.
+const SINGLES: usize = 20_000;
+
+/// The most bytes of a case that is also cut in two at each place, and failed at each take.
+const SHORT: usize = 600;
+
+// What is asked of the bytes of a stream.
+#[derive(Clone, Copy, Drop)]
+struct Asking<'a> {
+    bytes: &'a [u8],
+    side: Side,
+    // how many messages are read at most
+    most: u32,
+}
+
+// What is read in one way from a source of these cuts, whose takes of these numbers fail.
+fn read_so(
+    alloc: Global,
+    asking: Asking<'_>,
+    way: Way,
+    cuts: Vec<u64>,
+    failing: Vec<u64>,
+) -> Result<String, NoMemory>
+    requires { All (λ cut. 0 < cut) cuts.items }
+{
+    let mut source = MemSource::new(asking.bytes.to_vec(alloc)?, cuts, failing);
+    read_stream(alloc, &mut source, asking.side, way, asking.most)
+}
+
+// Whether a stream is read so in both ways, over these cuts.
+fn is_read_over(
+    alloc: Global,
+    asking: Asking<'_>,
+    said: &str,
+    cuts: Vec<u64>,
+) -> Result<bool, NoMemory>
+    requires { All (λ cut. 0 < cut) cuts.items }
+{
+    let none = Vec::new(alloc);
+    let whole = read_so(alloc, asking, Way::Whole, cuts.clone()?, none)?;
+    let pieces = read_so(alloc, asking, Way::Pieces, cuts, Vec::new(alloc))?;
+    Ok(whole.as_str() == said && pieces.as_str() == said)
+}
+
+// Whether a short stream is read so where it is cut in two, at whichever place.
+fn is_read_in_two(alloc: Global, asking: Asking<'_>, said: &str) -> Result<bool, NoMemory> {
+    for at in 1..asking.bytes.len() {
+        if !is_read_over(alloc, asking, said, cut_in_two(alloc, at)?)? {
+            return Ok(false);
+        }
+    }
+    Ok(true)
+}
+
+// Whether what is said of a stream that failed is what is said of the whole, up to the message that failed.
+fn is_part(part: &str, said: &str) -> bool {
+    match part.strip_suffix("ReadFault") {
+        Some(part) => said.starts_with(part),
+        None => part == said,
+    }
+}
+
+// Whether a short stream whose k-th take fails is read so up to there, for each k, one byte a take.
+fn is_read_in_part(alloc: Global, asking: Asking<'_>, said: &str) -> Result<bool, NoMemory> {
+    for call in 1..=asking.bytes.len() {
+        let cuts = single_bytes(alloc, asking.bytes.len())?;
+        let failing = vec![in alloc; call as u64]?;
+        let part = read_so(alloc, asking, Way::Whole, cuts, failing)?;
+        if !is_part(&part, said) {
+            return Ok(false);
+        }
+    }
+    Ok(true)
+}
+
+// Appends what is read from a stream, if all ways of reading it agree.
+fn show_stream(alloc: Global, asking: Asking<'_>, out: &mut String) -> Result<(), NoMemory> {
+    let said = read_so(alloc, asking, Way::Whole, Vec::new(alloc), Vec::new(alloc))?;
+    let len = asking.bytes.len();
+    let mut agrees = is_read_over(alloc, asking, &said, Vec::new(alloc))?
+        && is_read_over(alloc, asking, &said, single_bytes(alloc, len.min(SINGLES))?)?
+        && is_read_over(
+            alloc,
+            asking,
+            &said,
+            random_cuts(alloc, 1, len.min(SINGLES), 40)?,
+        )?;
+    if agrees && len <= SHORT {
+        agrees = is_read_in_two(alloc, asking, &said)? && is_read_in_part(alloc, asking, &said)?;
+    }
+    out.push_str(if agrees { &said } else { "ways differ" })?;
+    Ok(())
+}
+
+/// Appends the answer to a case.
+///
+/// # Errors
+///
+/// `NoMemory`.
+pub fn answer_to(alloc: Global, row: &str, out: &mut String) -> Result<(), NoMemory> {
+    let Some((question, text)) = question_of(row) else {
+        return Ok(out.push_str("no case")?);
+    };
+    let Some(bytes) = given(alloc, text)? else {
+        return Ok(out.push_str("no bytes")?);
+    };
+    let side = question.side;
+    match question.asked {
+        Asked::One => show_stream(
+            alloc,
+            Asking {
+                bytes: &bytes,
+                side,
+                most: 1,
+            },
+            out,
+        ),
+        Asked::All => show_stream(
+            alloc,
+            Asking {
+                bytes: &bytes,
+                side,
+                most: u32::MAX,
+            },
+            out,
+        ),
+        Asked::Prefixes => show_prefixes(alloc, side, &bytes, out),
+        Asked::Written => show_written(alloc, side, &bytes, out),
+        Asked::Many { seed, count } => show_many(alloc, side, &bytes, seed, count, out),
+    }
+}
