@@ -15,7 +15,7 @@ use sm_tree::NoMemory;
 use std::alloc::Global;
 
 /// The most takes of one byte, before all that is left comes at once.
-const SINGLES: usize = 20_000;
+const SINGLES: usize = 5_000;
 
 /// The most bytes of a case that is also cut in two at each place, and failed at each take.
 const SHORT: usize = 600;
