@@ -1,6 +1,6 @@
-mod Cutting
-mod Identifiers
-mod Namespaces
+pub mod Cutting
+pub mod Identifiers
+pub mod Namespaces
 pub mod Spellings
 mod Aheads
 mod Breaking
