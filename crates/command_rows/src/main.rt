@@ -2,6 +2,7 @@
 // README.md has the notation, which a person writes by hand.
 #![tactic(auto)]
 
+mod given;
 mod row;
 mod shelf;
 
@@ -22,6 +23,7 @@ fn play_line(
     match Row::of(line) {
         Row::Title => {}
         Row::Pad(length) => shelf.pad(length),
+        Row::Next(asked) => shelf.ask(asked),
         Row::File(name, text) => shelf.keep(alloc, name, text)?,
         Row::Run(words, input) => shelf.run(alloc, words, input, out)?,
         Row::Unknown => out.push_str(" => no row")?,

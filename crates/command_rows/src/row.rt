@@ -1,4 +1,5 @@
 // What a line of text says.
+use crate::given::{Asked, asked_by};
 
 /// A row.
 #[derive(Debug, Clone, Copy)]
@@ -7,6 +8,8 @@ pub enum Row<'a> {
     Title,
     /// `pad N`: what the next row gives, a file's text or an input, is padded with blanks up to so many bytes.
     Pad(usize),
+    /// `cut N`, `fail take N`, `fail put N`: something is asked of the next run.
+    Next(Asked),
     /// `file NAME TEXT`: from now on the name stands for a file of this text.
     File(&'a str, &'a str),
     /// `run WORDS < INPUT`: a run of these words, and its input. `run < INPUT` has no words.
@@ -30,7 +33,18 @@ impl<'a> Row<'a> {
                 Ok(length) => Row::Pad(length),
                 Err(_) => Row::Unknown,
             },
-            _ => Row::Unknown,
+            _ => Row::asking(line),
+        }
+    }
+
+    // A row that asks something of the next run.
+    fn asking(line: &'a str) -> Self {
+        match line.rsplit_once(' ') {
+            Some((words, number)) => match asked_by(words, number) {
+                Some(asked) => Row::Next(asked),
+                None => Row::Unknown,
+            },
+            None => Row::Unknown,
         }
     }
 

@@ -1,17 +1,19 @@
 // The files of the rows so far, over which commands run.
 ghost use Rattle.std.specs.Prelude.{◌≡◌, ◌≤◌, IfOk, length, take};
 
+use crate::given::{Asked, Given};
 use sm_commands::run;
-use sm_io::{CalmSink, CalmSource, Files, MemFiles};
+use sm_io::{Files, MemFiles};
 use sm_shapes::LiteralPatterns;
 use sm_tree::{NoMemory, Text};
 use std::alloc::Global;
 
-/// Files in memory, and the length up to which the next text is padded.
+/// Files in memory, the length up to which the next text is padded, and what is asked of the next run.
 #[derive(Drop)]
 pub struct Shelf {
     files: MemFiles,
     padded: usize,
+    given: Given,
 }
 
 impl Shelf {
@@ -20,12 +22,18 @@ impl Shelf {
         Shelf {
             files: MemFiles::new(alloc, Vec::new(alloc), Vec::new(alloc)),
             padded: 0,
+            given: Given::nothing(),
         }
     }
 
     /// The next text is padded up to so many bytes.
     pub fn pad(&mut self, length: usize) {
         self.padded = length;
+    }
+
+    /// This is asked of the next run.
+    pub fn ask(&mut self, asked: Asked) {
+        self.given.and(asked);
     }
 
     // The bytes of a text, and blanks behind it where the row before asks for them.
@@ -59,8 +67,9 @@ impl Shelf {
         out: &mut String,
     ) -> Result<(), NoMemory> {
         let words = words_of(alloc, words)?;
-        let mut input = CalmSource::new(self.bytes_of(alloc, input)?, Vec::new(alloc));
-        let mut put = CalmSink::new(alloc);
+        let given = std::mem::replace(&mut self.given, Given::nothing());
+        let mut input = given.input(alloc, self.bytes_of(alloc, input)?)?;
+        let mut put = given.output(alloc)?;
         let mut patterns = LiteralPatterns::new(alloc, Vec::new(alloc));
         let status = run(
             alloc,
