@@ -86,23 +86,18 @@ fn a_failed_take_is_not_tried_again(rt: HostRuntime) -> Result<(), Fail> {
     Ok(())
 }
 
-// One file `a` of four bytes.
-fn one_file(alloc: Global) -> Result<Vec<(String, Vec<u8>)>, AllocError> {
-    let mut files = Vec::new(alloc);
-    files.push((String::from_str(alloc, "a")?, b"four".to_vec(alloc)?))?;
-    Ok(files)
-}
-
 #[test]
 fn ample_memory_suffices_for_files(rt: HostRuntime) -> Result<(), Fail> {
     let alloc = rt.alloc();
-    let mut files = MemFiles::new(alloc, one_file(alloc)?, Vec::new(alloc));
+    let mut files = MemFiles::new(alloc, Vec::new(alloc), Vec::new(alloc));
+    assert_eq!(rt; files.write("a", b"four"), Ok(()));
     assert_eq!(rt; copy_file(&mut files, "a", "b"), Ok(()));
     assert_eq!(rt; files.write("a", b"other"), Ok(()));
     assert_eq!(rt; files.file("a"), Some(b"other".as_slice()));
     assert_eq!(rt; files.file("b"), Some(b"four".as_slice()));
 
-    let mut calm = CalmFiles::new(alloc, one_file(alloc)?);
+    let mut calm = CalmFiles::new(alloc, Vec::new(alloc));
+    assert_eq!(rt; calm.write("a", b"four"), Ok(()));
     assert_eq!(rt; copy_file(&mut calm, "a", "b"), Ok(()));
     assert_eq!(rt; calm.write("c", b""), Ok(()));
     assert_eq!(rt; calm.file("c"), Some(b"".as_slice()));

@@ -1,12 +1,12 @@
-// Tests of what neither a clause says nor a line of text can: sources and sinks that fail, cuts, and memory. Cases that a line
-// of text can say are played by format_rows and command_rows.
+// Tests of what neither a clause says nor a line of text can: readers and writers of std that fail, memory, the disk, and the codec.
+// Cases that a line of text can say are played by format_rows and command_rows.
 #![tactic(auto)]
 
+#[cfg(test)]
+mod codec;
 #[cfg(test)]
 mod io;
 #[cfg(test)]
 mod shapes;
-#[cfg(test)]
-mod tool;
 #[cfg(test)]
 mod tree;

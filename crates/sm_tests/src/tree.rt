@@ -1,5 +1,5 @@
-// What only tests say of trees: that their builder comes to an end, and which room it makes.
-use sm_tree::{NoMemory, Pairs, Text, Tree, TreeBuilder};
+// What only tests say of trees: which room their builder makes.
+use sm_tree::{NoMemory, Tree, TreeBuilder};
 use std::alloc::Global;
 use std::test::Fail;
 
@@ -20,21 +20,5 @@ fn the_first_room_is_what_is_expected(rt: HostRuntime) -> Result<(), Fail> {
     for (expected, room) in [(0, 1), (1, 1), (3, 3), (4, 4), (1000, 4)] {
         assert_eq!(rt; room_of(rt.alloc(), expected)?, room);
     }
-    Ok(())
-}
-
-// 7({"a": null})
-#[test]
-fn a_tag_goes_round_what_follows(rt: HostRuntime) -> Result<(), Fail> {
-    let alloc = rt.alloc();
-    let mut builder = TreeBuilder::new(alloc);
-    builder.tag(7)?;
-    builder.start_object(1)?;
-    builder.key(Text::copy(alloc, "a")?);
-    builder.value(Tree::Null)?;
-    builder.end_object()?;
-    let pairs = vec![in alloc; (Text::copy(alloc, "a")?, Tree::Null)]?;
-    let object = Tree::Object(Pairs::new(pairs));
-    assert!(rt; builder.finish() == Tree::Tag(7, Box::new(alloc, object)?));
     Ok(())
 }

@@ -3,7 +3,7 @@ use Rattle.sm_shapes.specs.View.{val_of}
 use Rattle.sm_commands.specs.Leaves.{json_leaf}
 use Rattle.sm_commands.proofs.Conventions.{json_convention}
 use Rattle.sm_commands.proofs.Fitting.{fits_where_spelled}
-use Rattle.sm_tests.proofs.tool.crossed.Goals as goal
+use Rattle.sm_tests.proofs.codec.crossed.Goals as goal
 
 pub encode-requires-clause-fits : goal.encode-requires-clause-fits
 encode-requires-clause-fits c =

@@ -1,7 +1,7 @@
 use Rattle.std.proofs.Common.{rules, ◌∙◌, sym, subst, [], ◌∷◌}
 use Rattle.sm_shapes.specs.Tables.{Shaped}
 use Rattle.sm_tests.proofs.Tables.{AllUtf8, names_in_utf8, all_more}
-use Rattle.sm_tests.proofs.tool.links.Goals as goal
+use Rattle.sm_tests.proofs.codec.links.Goals as goal
 
 pub returns-clause-shaped : goal.returns-clause-shaped
 returns-clause-shaped c =
