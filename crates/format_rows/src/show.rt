@@ -3,13 +3,18 @@ use sm_tree::{Bytes, NoMemory, SyntaxRefusal, Text, Tree};
 use std::alloc::Global;
 use std::cmp::Ordering;
 
+// Appends a byte as two hexadecimal digits.
+fn show_byte(byte: u8, out: &mut String) -> Result<(), NoMemory> {
+    Ok(write!(out, "{byte:02x}")?)
+}
+
 /// Appends pairs of hexadecimal digits, with a blank between two.
 pub fn show_bytes(bytes: &[u8], out: &mut String) -> Result<(), NoMemory> {
     for (at, byte) in bytes.iter().enumerate() {
         if at > 0 {
             out.push(' ')?;
         }
-        write!(out, "{byte:02x}")?;
+        show_byte(*byte, out)?;
     }
     Ok(())
 }
@@ -19,9 +24,10 @@ fn show_range(first: u8, last: u8, out: &mut String) -> Result<(), NoMemory> {
     if !out.ends_with(' ') {
         out.push(' ')?;
     }
-    write!(out, "{first:02x}")?;
+    show_byte(first, out)?;
     if first != last {
-        write!(out, "-{last:02x}")?;
+        out.push('-')?;
+        show_byte(last, out)?;
     }
     Ok(())
 }
