@@ -3,6 +3,7 @@
 #![tactic(auto)]
 
 mod build;
+mod copy;
 mod event;
 pub mod laws;
 pub mod number;
@@ -13,6 +14,7 @@ mod text;
 mod tree;
 
 pub use build::{FIRST_ROOM, OpenKind, TreeBuilder};
+pub use copy::{copy_pairs, copy_tree};
 pub use event::{Event, EventSink};
 pub use path::{Path, Step};
 pub use refusal::{MOST_LEVELS, SyntaxRefusal};
