@@ -1,25 +1,31 @@
 -- What a row stands for, by what it is.
-use Rattle.std.proofs.Common.{◌≡◌, ℕ, ◌<◌, zero, suc, Bool, true, List, [], ◌∷◌, length, map, get_or, Some, None, Option, sym, ap, ◌∙◌, subst, refl}
+use Rattle.std.proofs.Common.{arith, ◌≡◌, ℕ, ◌<◌, nat_lt, zero, suc, Bool, true, List, [], ◌∷◌, length, map, get_or, Some, None, Option, sym, ap, ◌∙◌, subst, refl}
 use Rattle.std.specs.Prelude.{IsSomeAnd, MatchOption, slice_get}
 use Rattle.std.specs.Bool.{passes}
 use Rattle.std.specs.Option.{option_map}
 use Rattle.std.specs.FinMap as fin
-use Rattle.std.specs.FinMap.{get-from_sorted, find, is_sorted}
+use Rattle.std.specs.FinMap.{entries-from_sorted, get-from_sorted, find, is_sorted}
 use Rattle.std.specs.List.{HoldsAt, list_all}
 use Rattle.std.specs.List.Sorted.{IsNonDecreasingBy, IsPartitionPoint}
 use Rattle.std.specs.Ordering.{ordering_index}
 use Rattle.std.specs.declared.cmp.Ordering.TheVariants.{Less, Equal, Greater}
+use Rattle.std.proofs.lemmas.List.{length-map}
 use Rattle.std.proofs.lemmas.Option.{slice_get-map}
 use Rattle.sm_tree.specs.Node.{Node}
 use Rattle.sm_tree.specs.View.{pairs_view}
 use Rattle.sm_model.specs.Graphs.{text_cmp, NodeMap, traits_in, Entry, shape_entry, member_entry}
-use Rattle.sm_model.specs.GraphRows.{entry_view, is_sound_row, members_kept, row_entry}
-use Rattle.sm_model.specs.GraphView.{At, HasMembers, Stands, Targets, entries_of, ids, maps_of, target_of}
+use Rattle.sm_model.specs.GraphRows.{are_below, entry_view, is_member_row, is_sound_row, members_are_below, members_kept, row_entry}
+use Rattle.sm_model.specs.GraphView.{AreShapeNumbers, At, HasMembers, is_member_entry, Stands, Targets, entries_of, ids, maps_of, target_of}
 use Rattle.sm_model.specs.declared.graph.Graph.{Graph}
 use Rattle.sm_model.specs.declared.graph.rows.Row.{Row}
 use Rattle.sm_model.specs.declared.graph.rows.RowEntry.{RowEntry}
 use Rattle.sm_model.specs.declared.graph.rows.RowEntry.TheVariants.{Shape, Member}
+use Rattle.sm_model.proofs.MoreRows.{is_less}
 use Rattle.sm_model.proofs.Searching.{and_left, and_right, rises, found_at, found_nowhere}
+
+pub member_viewed : (ids : List (List ℕ)) (traits : NodeMap) (e : RowEntry) → is_member_entry (entry_view ids traits e) ≡ is_member_row e
+member_viewed ids traits (Shape s) = refl
+member_viewed ids traits (Member target) = refl
 
 pub members_viewed : (ids : List (List ℕ)) (traits : NodeMap) (e : RowEntry)
     → HasMembers (map (λ k. get_or ids k []) (members_kept e)) (entry_view ids traits e)
@@ -105,3 +111,34 @@ trait_found node g s r at ps same q found h =
     (subst (λ v. MatchOption found (v ≡ None) (λ t. v ≡ Some (node t)))
     (ap (find text_cmp q) same ∙ sym (get-from_sorted text_cmp (pairs_view r.traits) q (passes _ (traits_sorted g s r at)))
     ∙ ap (λ m. fin.get m q) (sym (traits_viewed (ids g) _ r.entry))) h)
+
+-- the traits of what stands at a number, in order
+pub traits_at : (g : Graph) (s : ℕ) (r : Row) → IsSomeAnd (slice_get g.rows.items s) (λ x. r ≡ x) → (ps : List (List ℕ × Node))
+    → ps ≡ pairs_view r.traits → At g s (λ id e. fin.entries (traits_in e) ≡ ps)
+traits_at g s r at ps same =
+    at_row g s r at (λ id e. fin.entries (traits_in e) ≡ ps)
+    (ap fin.entries (traits_viewed (ids g) _ r.entry)
+    ∙ entries-from_sorted text_cmp (pairs_view r.traits) (passes _ (traits_sorted g s r at)) ∙ sym same)
+
+-- the metadata, in order
+pub metadata_in_order : (g : Graph) → fin.entries (maps_of g).metadata ≡ pairs_view g.metadata
+metadata_in_order g = entries-from_sorted text_cmp (pairs_view g.metadata) (passes _ g.sorted)
+
+-- the members of a shape are rows
+each_number : (g : Graph) (ks : List ℕ) → are_below (length g.rows.items) ks ≡ true → AreShapeNumbers g ks
+each_number g [] h = tt
+each_number g (k ∷ ks) h = (
+  subst (λ n. k < n) (sym (length-map g.rows.items (row_entry (ids g)))) (is_less k (length g.rows.items) (and_left _ _ h)),
+  each_number g ks (and_right (nat_lt k (length g.rows.items)) _ h),
+)
+
+kept_below : (n : ℕ) (e : RowEntry) → members_are_below n e ≡ true → are_below n (members_kept e) ≡ true
+kept_below n (Shape s) h = h
+kept_below n (Member target) h = refl
+
+pub members_numbered : (g : Graph) (s : ℕ) (r : Row) → IsSomeAnd (slice_get g.rows.items s) (λ x. r ≡ x) → AreShapeNumbers g (members_kept r.entry)
+members_numbered g s r at =
+    let rows = g.rows.items in
+    let each = and_right (is_sorted text_cmp (entries_of g)) (list_all (is_sound_row (length rows)) rows) g.sound in
+    each_number g (members_kept r.entry) (kept_below (length rows) r.entry
+    (and_right (is_sorted text_cmp (pairs_view r.traits)) _ (all_at (is_sound_row (length rows)) rows each s r at)))

@@ -1,4 +1,6 @@
 pub mod RawViews
+pub mod GraphFacts
+pub mod MapFacts
 mod Searching
 mod Entries
 mod Moved

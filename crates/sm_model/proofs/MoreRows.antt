@@ -19,7 +19,7 @@ use Rattle.sm_model.specs.declared.graph.rows.RowEntry.TheVariants.{Shape, Membe
 use Rattle.sm_model.proofs.BlockOrder.{rise_with_members}
 use Rattle.sm_model.proofs.Searching.{and_left, and_right}
 
-is_less : (k n : ℕ) → nat_lt k n ≡ true → k < n
+pub is_less : (k n : ℕ) → nat_lt k n ≡ true → k < n
 is_less k n h = grind (arith, nat_tests)
 
 still_less : (k n m : ℕ) → n ≤ m → nat_lt k n ≡ true → nat_lt k m ≡ true

@@ -23,7 +23,7 @@ pub and_right : (a b : Bool) → (a && b) ≡ true → b ≡ true
 and_right true b h = h
 and_right false b h = absurd (subst (λ c. cond c ⊥ (Unit {0})) h tt)
 
-less_from : (r : Ordering) → is_lt r ≡ true → r ≡ Less
+pub less_from : (r : Ordering) → is_lt r ≡ true → r ≡ Less
 less_from Less h = refl
 less_from Equal h = absurd (subst (λ c. cond c ⊥ (Unit {0})) h tt)
 less_from Greater h = absurd (subst (λ c. cond c ⊥ (Unit {0})) h tt)
@@ -82,7 +82,7 @@ module _ {X : Type 0} where
   keys_rise (e ∷ es) h d (suc i) (suc j) less lt =
       keys_rise es (and_right (below_all text_cmp e.0 es) _ h) d i j (omega (arith, less)) (omega (arith, lt))
 
-  equal_to : (es : List (List ℕ × X)) → is_sorted text_cmp es ≡ true → (d : List ℕ × X) (i : ℕ) → i < length es → (q : List ℕ)
+  pub equal_to : (es : List (List ℕ × X)) → is_sorted text_cmp es ≡ true → (d : List ℕ × X) (i : ℕ) → i < length es → (q : List ℕ)
       → text_cmp (key_at es i d) q ≡ Equal → find text_cmp q es ≡ Some (get_or es i d).1
   equal_to [] h d i lt q tied = absurd (omega (arith, lt))
   equal_to (e ∷ es) h d zero lt q tied = ap (λ r. cond (is_eq r) (Some e.1) (find text_cmp q es)) (turned_equal e.0 q tied)

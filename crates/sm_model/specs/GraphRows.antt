@@ -1,5 +1,5 @@
 -- What is kept of a graph: rows in the order of ids, each with its traits in order.
-use Rattle.std.specs.Prelude.{◌&&◌, ℕ, Bool, true, List, [], map, length, IsTrue, get_or, nat_lt}
+use Rattle.std.specs.Prelude.{◌&&◌, ℕ, Bool, true, false, List, [], map, length, IsTrue, get_or, nat_lt}
 use Rattle.std.specs.FinMap as fin
 use Rattle.std.specs.List.{list_all}
 use Rattle.sm_tree.specs.View.{node_of, pairs_view}
@@ -31,6 +31,11 @@ entries_of_rows rows = map (row_entry (ids_of rows)) rows
 abbrev pub members_kept : RowEntry → List ℕ
 members_kept (Shape s) = s.members
 members_kept (Member target) = []
+
+-- whether a row is a member's
+abbrev pub is_member_row : RowEntry → Bool
+is_member_row (Shape s) = false
+is_member_row (Member target) = true
 
 -- numbers below a bound
 abbrev pub are_below : ℕ → List ℕ → Bool

@@ -1,5 +1,5 @@
 -- What a graph of the code stands for: its two maps, and what stands at a number.
-use Rattle.std.specs.Prelude.{◌≡◌, ◌<◌, ℕ, List, [], length, slice_get, IsSomeAnd, Some}
+use Rattle.std.specs.Prelude.{◌≡◌, ◌<◌, ℕ, Bool, true, false, List, [], ◌∷◌, length, slice_get, IsSomeAnd, Some}
 use Rattle.std.specs.FinMap as fin
 use Rattle.sm_tree.specs.Node.{Node}
 use Rattle.sm_tree.specs.View.{pairs_view}
@@ -24,6 +24,10 @@ maps_of g = record { shapes = fin.from_sorted (entries_of g); metadata = fin.fro
 abbrev pub IsShapeNumber : Graph → ℕ → Type 0
 IsShapeNumber g s = s < length (entries_of g)
 
+abbrev pub AreShapeNumbers : Graph → List ℕ → Type 0
+AreShapeNumbers g [] = Unit {0}
+AreShapeNumbers g (s ∷ ss) = IsShapeNumber g s × AreShapeNumbers g ss
+
 -- what stands at a number, with its id
 abbrev pub At : Graph → ℕ → (List ℕ → Entry → Type 0) → Type 0
 At g s Is = IsSomeAnd (slice_get (entries_of g) s) (λ e. Is e.0 e.1)
@@ -39,6 +43,10 @@ IsShapeEntry (member_entry m) = ⊥
 
 abbrev pub IsShapeAt : Graph → ℕ → Type 0
 IsShapeAt g s = At g s (λ id e. IsShapeEntry e)
+
+abbrev pub is_member_entry : Entry → Bool
+is_member_entry (shape_entry s) = false
+is_member_entry (member_entry m) = true
 
 abbrev pub HasKind : Kind → Entry → Type 0
 HasKind kind (shape_entry s) = s.kind ≡ kind

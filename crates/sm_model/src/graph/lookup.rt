@@ -5,7 +5,7 @@ ghost use Rattle.sm_ids.specs.IdText.{printed};
 ghost use Rattle.sm_ids.specs.View.{id_of};
 ghost use Rattle.sm_tree.specs.View.{node_of, members_view};
 ghost use Rattle.sm_model.specs.Graphs.{traits_in};
-ghost use Rattle.sm_model.specs.GraphView.{At, HasBodyNode, HasKind, HasMembers, ids, IsShapeNumber, IsShapeAt, IsMemberAt, Stands, Targets, entries_of, maps_of, target_of};
+ghost use Rattle.sm_model.specs.GraphView.{AreShapeNumbers, At, HasBodyNode, HasKind, HasMembers, ids, is_member_entry, IsShapeNumber, IsShapeAt, IsMemberAt, Stands, Targets, entries_of, maps_of, target_of};
 
 use super::ordered::value_under;
 use super::{Graph, Row, RowEntry};
@@ -47,6 +47,15 @@ impl Graph {
         ensures { At self.now shape (λ id e. result.now ≡ id) }
     {
         &self.row(shape).id
+    }
+
+    /// Whether the number is that of a member. No memory.
+    #[tactic(auto, using(crate::proofs::Entries::member_viewed))]
+    pub fn is_member(&self, shape: u32) -> bool
+        requires { IsShapeNumber self.now shape }
+        ensures { At self.now shape (λ id e. is_member_entry e ≡ result) }
+    {
+        self.row(shape).entry.is_member()
     }
 
     /// The type of a shape. No memory.
@@ -96,11 +105,12 @@ impl Graph {
         self.shape(&self.target_id(member).as_ref())
     }
 
-    /// The members of a shape, in model order; a member has none. No memory.
+    /// The numbers of the members of a shape, in model order; a member has none. No memory.
     #[tactic(auto, using(crate::proofs::Entries::members_viewed))]
     pub fn members(&self, shape: u32) -> &[u32]
         requires { IsShapeNumber self.now shape }
-        ensures { At self.now shape (λ id e. HasMembers (map (λ k. get_or (ids self.now) k []) result.now) e) }
+        ensures ids { At self.now shape (λ id e. HasMembers (map (λ k. get_or (ids self.now) k []) result.now) e) }
+        ensures numbers { AreShapeNumbers self.now result.now }
     {
         self.row(shape).entry.members()
     }
@@ -108,7 +118,7 @@ impl Graph {
     /// The traits of a shape or member, in the order of their ids. No memory.
     pub fn traits(&self, shape: u32) -> &[(Text, Tree)]
         requires { IsShapeNumber self.now shape }
-        ensures { At self.now shape (λ id e. traits_in e ≡ fin.from_sorted (members_view result.now)) }
+        ensures { At self.now shape (λ id e. fin.entries (traits_in e) ≡ members_view result.now) }
     {
         self.row(shape).traits.as_slice()
     }
@@ -125,7 +135,7 @@ impl Graph {
 
     /// The metadata, in the order of its keys. No memory.
     pub fn metadata(&self) -> &[(Text, Tree)]
-        ensures { (maps_of self.now).metadata ≡ fin.from_sorted (members_view result.now) }
+        ensures { fin.entries (maps_of self.now).metadata ≡ members_view result.now }
     {
         self.metadata.as_slice()
     }

@@ -1,6 +1,6 @@
 // The rows of a graph: what is kept of each shape and of each member.
 ghost use Rattle.std.specs.Prelude.{◌≡◌};
-ghost use Rattle.sm_model.specs.GraphRows.{members_kept};
+ghost use Rattle.sm_model.specs.GraphRows.{is_member_row, members_kept};
 
 use crate::kind::Kind;
 use sm_ids::ShapeId;
@@ -58,6 +58,16 @@ pub enum RowEntry {
 }
 
 impl RowEntry {
+    /// Whether it is a member. No memory.
+    pub fn is_member(&self) -> bool
+        ensures { result ≡ is_member_row self.now }
+    {
+        match self {
+            RowEntry::Shape(_) => false,
+            RowEntry::Member(_) => true,
+        }
+    }
+
     /// The rows of a shape's members, in model order; a member has none. No memory.
     pub fn members(&self) -> &[u32]
         ensures { result.now ≡ members_kept self.now }
