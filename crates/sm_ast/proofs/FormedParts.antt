@@ -1,5 +1,5 @@
 -- What the relation says of a tree is formed as merging asks: nodes, references, traits, members and properties.
-use Rattle.std.proofs.Common.{ℕ, inl, inr, Bool, true, false, List, ◌∷◌, refl, sym, subst}
+use Rattle.std.proofs.Common.{ℕ, inl, inr, Bool, true, false, IsUtf8, List, ◌∷◌, refl, sym, subst}
 use Rattle.sm_ids.specs.IdText.{IsIdText}
 use Rattle.sm_tree.specs.Node.{Node, Nodes, Members, null, bool, int, number, text, bytes, tag, opaque, list, object, no_nodes, node}
 use Rattle.sm_tree.specs.Node.{no_members, member}
@@ -48,7 +48,7 @@ mutual
 
   members_formed : (ms : Members) → AreJsonMembers ms → AreDistinct ms → AreRawMembers (raw_members_of (member_raws ms))
   members_formed no_members json d = tt
-  members_formed (member k n ms) json d = (node_formed n json.1 d.1, members_formed ms json.2 d.2)
+  members_formed (member k n ms) json d = (json.0, node_formed n json.1 d.1, members_formed ms json.2 d.2)
 
 pub json_at : (k : List ℕ) (n : Node) (ms : Members) → AreJsonMembers ms → HasPair k n ms → IsJson n
 json_at k n no_members json has = absurd has
@@ -122,12 +122,12 @@ pub record AreFormedPairs (ms : Members) (AreSuch : RawMembers → Type 0) (said
 pub no_pairs_formed : (ms : Members) (AreSuch : RawMembers → Type 0) → AreSuch no_raw_members → AreFormedPairs ms AreSuch no_raw_members
 no_pairs_formed ms AreSuch such = record { such = such; raws = tt; differ = tt; stand = λ k among. absurd among }
 
-pub pair_formed : (k : List ℕ) (n : Node) (ms : Members) (AreSuch : RawMembers → Type 0) (r : Raw) (more : RawMembers) → (HasName k ms → ⊥)
+pub pair_formed : (k : List ℕ) (n : Node) (ms : Members) (AreSuch : RawMembers → Type 0) (r : Raw) (more : RawMembers) → IsUtf8 k → (HasName k ms → ⊥)
     → AreSuch (raw_member k r more) → IsRaw r → AreFormedPairs ms AreSuch more
     → AreFormedPairs (member k n ms) AreSuch (raw_member k r more)
-pair_formed k n ms AreSuch r more once such is_raw rest = record {
+pair_formed k n ms AreSuch r more utf8 once such is_raw rest = record {
   such = such;
-  raws = (is_raw, rest.raws);
+  raws = (utf8, is_raw, rest.raws);
   differ = ((λ among. once (rest.stand k among)), rest.differ);
   stand = λ j among. by_place j among;
 }
@@ -136,14 +136,14 @@ pair_formed k n ms AreSuch r more once such is_raw rest = record {
     by_place j (inl same) = inl same
     by_place j (inr among) = inr (rest.stand j among)
 
-named_references_formed : (ms : Members) (said : RawMembers) → AreDistinct ms → NamedReferencesSay ms said
+named_references_formed : (ms : Members) (said : RawMembers) → AreJsonMembers ms → AreDistinct ms → NamedReferencesSay ms said
     → AreFormedPairs ms AreNamedReferences said
-named_references_formed no_members said d says = subst (AreFormedPairs no_members AreNamedReferences) (sym says)
+named_references_formed no_members said json d says = subst (AreFormedPairs no_members AreNamedReferences) (sym says)
     (no_pairs_formed no_members AreNamedReferences tt)
-named_references_formed (member k n ms) said d (r, more, is, says, rest) =
-    let later = named_references_formed ms more d.2 rest in
+named_references_formed (member k n ms) said json d (r, more, is, says, rest) =
+    let later = named_references_formed ms more json.2 d.2 rest in
     subst (AreFormedPairs (member k n ms) AreNamedReferences) (sym is)
-    (pair_formed k n ms AreNamedReferences r more d.0 (raw_reference_formed n r says, later.such) (raw_reference_raw n r says) later)
+    (pair_formed k n ms AreNamedReferences r more json.0 d.0 (raw_reference_formed n r says, later.such) (raw_reference_raw n r says) later)
 
 new_names_formed : (ms : Members) (said : RawMembers) → AreJsonMembers ms → AreDistinct ms → NewNamesSay ms said
     → AreFormedPairs ms AreNewNames said
@@ -152,7 +152,7 @@ new_names_formed no_members said json d says = subst (AreFormedPairs no_members 
 new_names_formed (member k n ms) said json d (name, more, id, is_text, identifier, is, rest) =
     let later = new_names_formed ms more json.2 d.2 rest in
     subst (AreFormedPairs (member k n ms) AreNewNames) (sym is)
-    (pair_formed k n ms AreNewNames (raw_leaf (text name)) more d.0 (id, (name, refl, identifier), later.such)
+    (pair_formed k n ms AreNewNames (raw_leaf (text name)) more json.0 d.0 (id, (name, refl, identifier), later.such)
     (subst IsJson is_text json.1) later)
 
 pub property_formed : (form : PropertyForm) (n : Node) (r : Raw) → IsJson n → HasDistinctNames n → PropertySays form n r
@@ -162,7 +162,7 @@ property_formed Reference n r json d (id, says, is) =
 property_formed References n r json d (ns, entries, is, said, says) =
     let parts = raw_references_formed ns entries says in ((entries, said, parts.0), subst IsRaw (sym said) parts.1)
 property_formed NamedReferences n r json d (ms, pairs, is, said, says) =
-    let parts = named_references_formed ms pairs (subst HasDistinctNames is d) says in
+    let parts = named_references_formed ms pairs (subst IsJson is json) (subst HasDistinctNames is d) says in
     ((pairs, said, parts.such), subst IsRaw (sym said) (parts.differ, parts.raws))
 property_formed Text n r json d (t, is, said) = (
   subst (HasPropertyForm Text) (sym said) (t, refl),

@@ -128,7 +128,7 @@ fields_formed fs (member k n ms) said json d (inr (form, r, more, is, says, same
     let later = fields_formed fs ms more json.2 d.2 rest in
     let parts = property_formed form n r json.1 d.1 says in
     subst (AreFormedPairs (member k n ms) (AreFields fs)) (sym same)
-    (pair_formed k n ms (AreFields fs) r more d.0 ((form, is, parts.0), later.such) parts.1 later)
+    (pair_formed k n ms (AreFields fs) r more json.0 d.0 ((form, is, parts.0), later.such) parts.1 later)
 
 properties_formed : (fs : TypeFields) (ms : Members) (said : Raw) → AreJsonMembers ms → AreDistinct ms → PropertiesSay fs ms said
     → AreProperties fs said
@@ -171,7 +171,7 @@ shapes_formed (member k n ms) said json d (s, more, is, says, rest) =
 metadata_formed : (ms : Members) (said : List Said) → AreJsonMembers ms → AreDistinct ms → MetadataPairsSay ms said → AreFormed said
 metadata_formed no_members said json d says = subst AreFormed (sym says) tt
 metadata_formed (member k n ms) said json d (more, is, rest) =
-    subst AreFormed (sym is) (node_formed n json.1 d.1, metadata_formed ms more json.2 d.2 rest)
+    subst AreFormed (sym is) ((json.0, node_formed n json.1 d.1), metadata_formed ms more json.2 d.2 rest)
 
 -- a whole tree
 top_pair_formed : (k : List ℕ) (n : Node) (said : List Said) → IsJson n → HasDistinctNames n → TopPairSays k n said → AreFormed said

@@ -43,7 +43,7 @@ name_is_no_sign : (c : ℕ) → is_name_byte c ≡ true → is_number_sign c ≡
 unfolding is_name_byte
 name_is_no_sign c h = grind (arith, nat_tests)
 
-identifier_is_no_dollar : (c : ℕ) → is_identifier_byte c ≡ true → is_dollar c ≡ false
+pub identifier_is_no_dollar : (c : ℕ) → is_identifier_byte c ≡ true → is_dollar c ≡ false
 identifier_is_no_dollar c h = grind (arith, nat_tests)
 
 no_dollars : (t : List ℕ) → IsIdentifier t → All (λ c. is_dollar c ≡ false) t
@@ -126,7 +126,7 @@ no_id_fails t Empty e = sym (ap is_id e)
 no_id_fails t (BadIdentifier at) h = refused_fails (is_id t) (λ p. h.1.none (passed_is_id t p))
 
 -- the id of a shape passes, and has no `$`
-namespace_is_no_dollar : (c : ℕ) → is_namespace_byte c ≡ true → is_dollar c ≡ false
+pub namespace_is_no_dollar : (c : ℕ) → is_namespace_byte c ≡ true → is_dollar c ≡ false
 namespace_is_no_dollar c h = grind (arith, nat_tests)
 
 none_is_dollar : (q : ℕ → Bool) → ((c : ℕ) → q c ≡ true → is_dollar c ≡ false) → (xs : List ℕ) → list_all q xs ≡ true

@@ -19,3 +19,16 @@ mod FormedParts
 mod FormedShapes
 mod OneParts
 mod OneReading
+mod Filled
+mod IdNames
+mod OfTree
+mod OfTreeTop
+mod WrittenAt
+mod JsonWritten
+mod JsonGiven
+mod WrittenNames
+mod WrittenMembers
+mod WrittenFields
+mod WrittenShape
+mod GivenGraph
+mod WrittenTop

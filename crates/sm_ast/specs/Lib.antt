@@ -3,6 +3,10 @@ pub mod Layout
 pub mod Ast
 pub mod Faults
 pub mod Answers
-pub mod Laws
+pub mod Distinct
+pub mod PreludeIds
 pub mod Written
+pub mod Named
+pub mod GraphSaid
+pub mod Laws
 pub mod steps

@@ -1,2 +1,3 @@
 pub mod Checks
 pub mod Saying
+pub mod Writing

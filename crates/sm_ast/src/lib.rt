@@ -1,4 +1,5 @@
-// Models in the JSON AST (Smithy 2.0, "JSON AST"): the statements that a tree says, and why a tree says none.
+// Models in the JSON AST (Smithy 2.0, "JSON AST"): the statements that a tree says, why a tree says none, and the one tree
+// that is written for a graph.
 #![tactic(auto)]
 
 mod check;
@@ -7,9 +8,12 @@ pub mod laws;
 mod layout;
 mod names;
 mod part;
+mod prelude;
 mod read;
 mod refusal;
 mod statements;
+mod write;
 
 pub use read::read_ast;
 pub use refusal::AstRefusal;
+pub use write::write_ast;

@@ -5,6 +5,7 @@ ghost use Rattle.sm_tree.specs.View.{node_of};
 ghost use Rattle.sm_model.specs.Formed.{AreFormed};
 ghost use Rattle.sm_model.specs.SaidView.{statements_view};
 ghost use Rattle.sm_ast.specs.Answers.{ReadsAst};
+ghost use Rattle.sm_ast.specs.Distinct.{AreOfTree};
 
 use crate::check::check_model;
 use crate::refusal::AstRefusal;
@@ -20,6 +21,7 @@ pub fn read_ast(alloc: Global, tree: &Tree) -> Result<Vec<Statement>, AstRefusal
     requires { IsJson (node_of tree.now) }
     ensures statements { ReadsAst (node_of tree.now) result }
     ensures formed { IfOk result (λ ss. AreFormed (statements_view ss.items)) }
+    ensures of_tree { IfOk result (λ ss. AreOfTree (statements_view ss.items)) }
 {
     match check_model(alloc, tree) {
         Ok(()) => Ok(statements_of(alloc, tree)?),

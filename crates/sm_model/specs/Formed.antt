@@ -1,7 +1,7 @@
 -- What every reader of models promises of its statements, and what merging may build on: ids, names and nodes are what they
 -- stand for, and a shape has the members and the fields of its type. Whether a reference means a shape, and whether traits
 -- and values are right, is judged later.
-use Rattle.std.specs.Prelude.{◌≡◌, ◌⊎◌, ℕ, List, [], ◌∷◌, map, Some}
+use Rattle.std.specs.Prelude.{◌≡◌, ◌⊎◌, ℕ, IsUtf8, List, [], ◌∷◌, map, Some}
 use Rattle.sm_ids.specs.Identifier.{IsIdentifier}
 use Rattle.sm_ids.specs.IdText.{IsIdText}
 use Rattle.sm_tree.specs.Node.{Node, null, bool, int, number, text, bytes, tag, opaque, list, object}
@@ -42,7 +42,7 @@ IsLeaf (tag k n) = ⊥
 IsLeaf (opaque b) = ⊥
 
 abbrev mutual
-  -- leaves are leaves of JSON, ids are references, and the names of an object differ
+  -- leaves are leaves of JSON, ids are references, and the names of an object are UTF-8 and differ
   pub IsRaw : Raw → Type 0
   IsRaw (raw_leaf n) = IsLeaf n
   IsRaw (raw_id r) = IsReference r
@@ -55,7 +55,7 @@ abbrev mutual
 
   pub AreRawMembers : RawMembers → Type 0
   AreRawMembers no_raw_members = Unit {0}
-  AreRawMembers (raw_member k n ms) = IsRaw n × AreRawMembers ms
+  AreRawMembers (raw_member k n ms) = IsUtf8 k × IsRaw n × AreRawMembers ms
 
 -- a reference in a field
 abbrev pub IsRawReference : Raw → Type 0
@@ -137,7 +137,7 @@ pub record IsFormedShape (s : ShapeSaid) : Type 0 where
 
 -- a statement as readers give it
 abbrev pub IsFormed : Said → Type 0
-IsFormed (metadata_said key value) = IsRaw value
+IsFormed (metadata_said key value) = IsUtf8 key × IsRaw value
 IsFormed (shape_said s) = IsFormedShape s
 IsFormed (apply_said id traits) = IsReference id × AreTraits traits
 

@@ -2,8 +2,10 @@ use Rattle.std.proofs.Common.{sym, subst}
 use Rattle.sm_tree.specs.View.{node_of}
 use Rattle.sm_model.specs.Formed.{AreFormed}
 use Rattle.sm_ast.specs.Ast.{Ast}
+use Rattle.sm_ast.specs.Distinct.{AreOfTree}
 use Rattle.sm_ast.specs.steps.Saying.{ast_said}
 use Rattle.sm_ast.proofs.FormedShapes.{ast_formed}
+use Rattle.sm_ast.proofs.OfTreeTop.{ast_of_tree}
 use Rattle.sm_ast.proofs.SaidTop.{ast_holds}
 use Rattle.sm_ast.proofs.read.read_ast.Goals as goal
 
@@ -15,4 +17,5 @@ returns-in_ok-statements_of-in-Ok c =
     record {
       statements = (c.in-Ok.ensures, subst (λ said. Ast said n) same says);
       formed = subst AreFormed same (ast_formed (ast_said n) n c.requires says);
+      of_tree = subst AreOfTree same (ast_of_tree (ast_said n) n says);
     }

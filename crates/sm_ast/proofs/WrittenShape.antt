@@ -1,0 +1,353 @@
+-- What is written for a shape says it.
+use Rattle.std.proofs.Common.{◌≡◌, inl, inr, ℕ, not, Bool, true, false, List, [], ◌∷◌, ◌++◌, Option, Some, None, refl, sym, ap, subst, ◌∙◌, append_assoc, is_some}
+use Rattle.std.specs.List.{list_all}
+use Rattle.sm_tree.specs.Node.{Members, text, members_of}
+use Rattle.sm_tree.specs.Same.{HasName, HasDistinctNames, AreDistinct}
+use Rattle.sm_model.specs.Formed.{StandsAmong, HaveForm}
+use Rattle.sm_model.specs.Given.{AreNodeFields, are_under}
+use Rattle.sm_model.specs.Kinds.{member_form, kind_name}
+use Rattle.sm_model.specs.Properties.{TypeFields, form_named, property_forms}
+use Rattle.sm_model.specs.Raw.{raw_object, raw_members_of}
+use Rattle.sm_model.specs.References.{IsShapeId}
+use Rattle.sm_model.specs.Said.{ShapeSaid, shape_said}
+use Rattle.sm_model.specs.declared.kind.Kind.{Kind}
+use Rattle.sm_model.specs.declared.kind.Kind.TheVariants.{Blob, Boolean, Text as text_kind, Enum, Byte, Short, Integer, IntEnum, Long}
+use Rattle.sm_model.specs.declared.kind.Kind.TheVariants.{Float, Double, BigInteger}
+use Rattle.sm_model.specs.declared.kind.Kind.TheVariants.{BigDecimal, Timestamp, Document, List as list_kind, Map, Structure, Union}
+use Rattle.sm_model.specs.declared.kind.Kind.TheVariants.{Service, Operation, Resource}
+use Rattle.sm_model.specs.declared.property.PropertyForm.{PropertyForm}
+use Rattle.sm_ast.specs.declared.layout.ShapeType.TheVariants.{Defined}
+use Rattle.sm_ast.specs.declared.layout.FieldForm.{FieldForm}
+use Rattle.sm_ast.specs.Layout.{FieldForms, field_named, layout_of, mixins_name, traits_name, type_name}
+use Rattle.sm_ast.specs.Ast.{AreFieldsOf, PropertyPairsSay, ShapeParts, AstShape}
+use Rattle.sm_ast.specs.Faults.{stands_in}
+use Rattle.sm_ast.specs.GraphSaid.{body_said, traits_of_pairs}
+use Rattle.sm_ast.specs.Written.{WrittenPairs, shape_object, written_in_form, written_properties, written_traits}
+use Rattle.sm_ast.proofs.Judged.{both_true, true_is_false}
+use Rattle.sm_ast.proofs.WrittenFields.{AreAmong, AreUnnamed, all_passed_over, fields_distinct, fields_say, passed_over}
+use Rattle.sm_ast.proofs.WrittenMembers.{AreFoundMembers, AreSoundTraits, FoundMember, form_distinct, form_names, form_says, form_under}
+use Rattle.sm_ast.proofs.WrittenMembers.{found_names, found_pairs, found_said, traits_behind, written_traits_distinct}
+use Rattle.sm_ast.proofs.WrittenNames.{PairsWithin, all_differ, apart_by_test, differ_by_test, differ_within, distinct_joined}
+use Rattle.sm_ast.proofs.WrittenNames.{distinct_pairs, field_names, has_under, pair_before, pair_behind, pairs_joined}
+use Rattle.sm_ast.proofs.WrittenNames.{properties_within, within_itself, within_stands}
+
+-- the names of a shape's pairs, and those before its traits
+abbrev names_before : Kind → List (List ℕ)
+names_before kind = (type_name ∷ []) ++ form_names (member_form kind) ++ field_names (property_forms kind)
+
+abbrev shape_names : Kind → List (List ℕ)
+shape_names kind = names_before kind ++ traits_name ∷ []
+
+-- what is asked of them: they differ, each is a field of the type, `mixins` is none, `traits` isn't among those before, and the
+-- others are no fields of a body
+abbrev are_known : FieldForms → List (List ℕ) → Bool
+are_known fs names = list_all (λ k. is_some (field_named k fs)) names
+
+abbrev are_unnamed : TypeFields → List (List ℕ) → Bool
+are_unnamed fs names = list_all (λ k. not (is_some (form_named k fs))) names
+
+names_are_known : (kind : Kind) → are_known (layout_of (Defined kind)) (shape_names kind) ≡ true
+names_are_known Operation = refl
+names_are_known Service = refl
+names_are_known Resource = refl
+names_are_known list_kind = refl
+names_are_known Map = refl
+names_are_known Structure = refl
+names_are_known Union = refl
+names_are_known Enum = refl
+names_are_known IntEnum = refl
+names_are_known Blob = refl
+names_are_known Boolean = refl
+names_are_known text_kind = refl
+names_are_known Byte = refl
+names_are_known Short = refl
+names_are_known Integer = refl
+names_are_known Long = refl
+names_are_known Float = refl
+names_are_known Double = refl
+names_are_known BigInteger = refl
+names_are_known BigDecimal = refl
+names_are_known Timestamp = refl
+names_are_known Document = refl
+
+names_all_differ : (kind : Kind) → all_differ (shape_names kind) ≡ true
+names_all_differ Operation = refl
+names_all_differ Service = refl
+names_all_differ Resource = refl
+names_all_differ list_kind = refl
+names_all_differ Map = refl
+names_all_differ Structure = refl
+names_all_differ Union = refl
+names_all_differ Enum = refl
+names_all_differ IntEnum = refl
+names_all_differ Blob = refl
+names_all_differ Boolean = refl
+names_all_differ text_kind = refl
+names_all_differ Byte = refl
+names_all_differ Short = refl
+names_all_differ Integer = refl
+names_all_differ Long = refl
+names_all_differ Float = refl
+names_all_differ Double = refl
+names_all_differ BigInteger = refl
+names_all_differ BigDecimal = refl
+names_all_differ Timestamp = refl
+names_all_differ Document = refl
+
+no_mixins : (kind : Kind) → stands_in mixins_name (shape_names kind) ≡ false
+no_mixins Operation = refl
+no_mixins Service = refl
+no_mixins Resource = refl
+no_mixins list_kind = refl
+no_mixins Map = refl
+no_mixins Structure = refl
+no_mixins Union = refl
+no_mixins Enum = refl
+no_mixins IntEnum = refl
+no_mixins Blob = refl
+no_mixins Boolean = refl
+no_mixins text_kind = refl
+no_mixins Byte = refl
+no_mixins Short = refl
+no_mixins Integer = refl
+no_mixins Long = refl
+no_mixins Float = refl
+no_mixins Double = refl
+no_mixins BigInteger = refl
+no_mixins BigDecimal = refl
+no_mixins Timestamp = refl
+no_mixins Document = refl
+
+no_traits : (kind : Kind) → stands_in traits_name (names_before kind) ≡ false
+no_traits Operation = refl
+no_traits Service = refl
+no_traits Resource = refl
+no_traits list_kind = refl
+no_traits Map = refl
+no_traits Structure = refl
+no_traits Union = refl
+no_traits Enum = refl
+no_traits IntEnum = refl
+no_traits Blob = refl
+no_traits Boolean = refl
+no_traits text_kind = refl
+no_traits Byte = refl
+no_traits Short = refl
+no_traits Integer = refl
+no_traits Long = refl
+no_traits Float = refl
+no_traits Double = refl
+no_traits BigInteger = refl
+no_traits BigDecimal = refl
+no_traits Timestamp = refl
+no_traits Document = refl
+
+no_fields_first : (kind : Kind) → are_unnamed (property_forms kind) ((type_name ∷ []) ++ form_names (member_form kind)) ≡ true
+no_fields_first Operation = refl
+no_fields_first Service = refl
+no_fields_first Resource = refl
+no_fields_first list_kind = refl
+no_fields_first Map = refl
+no_fields_first Structure = refl
+no_fields_first Union = refl
+no_fields_first Enum = refl
+no_fields_first IntEnum = refl
+no_fields_first Blob = refl
+no_fields_first Boolean = refl
+no_fields_first text_kind = refl
+no_fields_first Byte = refl
+no_fields_first Short = refl
+no_fields_first Integer = refl
+no_fields_first Long = refl
+no_fields_first Float = refl
+no_fields_first Double = refl
+no_fields_first BigInteger = refl
+no_fields_first BigDecimal = refl
+no_fields_first Timestamp = refl
+no_fields_first Document = refl
+
+no_fields_last : (kind : Kind) → are_unnamed (property_forms kind) (traits_name ∷ []) ≡ true
+no_fields_last Operation = refl
+no_fields_last Service = refl
+no_fields_last Resource = refl
+no_fields_last list_kind = refl
+no_fields_last Map = refl
+no_fields_last Structure = refl
+no_fields_last Union = refl
+no_fields_last Enum = refl
+no_fields_last IntEnum = refl
+no_fields_last Blob = refl
+no_fields_last Boolean = refl
+no_fields_last text_kind = refl
+no_fields_last Byte = refl
+no_fields_last Short = refl
+no_fields_last Integer = refl
+no_fields_last Long = refl
+no_fields_last Float = refl
+no_fields_last Double = refl
+no_fields_last BigInteger = refl
+no_fields_last BigDecimal = refl
+no_fields_last Timestamp = refl
+no_fields_last Document = refl
+
+fields_among : (kind : Kind) → AreAmong (property_forms kind) (property_forms kind)
+fields_among Operation = (refl, (refl, (refl, tt)))
+fields_among Service = (refl, (refl, (refl, (refl, (refl, tt)))))
+fields_among Resource = (refl, (refl, (refl, (refl, (refl, (refl, (refl, (refl, (refl, (refl, (refl, tt)))))))))))
+fields_among list_kind = tt
+fields_among Map = tt
+fields_among Structure = tt
+fields_among Union = tt
+fields_among Enum = tt
+fields_among IntEnum = tt
+fields_among Blob = tt
+fields_among Boolean = tt
+fields_among text_kind = tt
+fields_among Byte = tt
+fields_among Short = tt
+fields_among Integer = tt
+fields_among Long = tt
+fields_among Float = tt
+fields_among Double = tt
+fields_among BigInteger = tt
+fields_among BigDecimal = tt
+fields_among Timestamp = tt
+fields_among Document = tt
+
+-- a shape of a graph
+pub record IsFoundShape (id : List ℕ) (kind : Kind) (ms : List FoundMember) (body : Members) (ts : WrittenPairs) : Type 0 where
+  pub is_shape : IsShapeId id
+  pub form : HaveForm (member_form kind) (found_names ms)
+  pub members : AreFoundMembers ms
+  pub fields : AreNodeFields (property_forms kind) body
+  pub distinct : AreDistinct body
+  pub traits : AreSoundTraits ts
+
+abbrev pub shape_said_of : List ℕ → Kind → List FoundMember → Members → WrittenPairs → ShapeSaid
+shape_said_of id kind ms body ts = record {
+  id = id;
+  kind = kind;
+  members = found_said ms;
+  mixins = [];
+  properties = raw_object (raw_members_of (body_said (property_forms kind) body));
+  traits = traits_of_pairs ts;
+}
+
+-- what a test of names says of pairs
+some_known : (o : Option FieldForm) → is_some o ≡ true → (form : FieldForm) × (o ≡ Some form)
+some_known None h = true_is_false (sym h)
+some_known (Some form) h = (form, refl)
+
+none_named : (o : Option PropertyForm) → not (is_some o) ≡ true → o ≡ None
+none_named None h = refl
+none_named (Some form) h = true_is_false (sym h)
+
+known_name : (fs : FieldForms) (names : List (List ℕ)) → are_known fs names ≡ true → (k : List ℕ) → StandsAmong k names
+    → (form : FieldForm) × (field_named k fs ≡ Some form)
+known_name fs [] h k among = absurd among
+known_name fs (j ∷ js) h k (inl same) =
+    subst (λ x. (form : FieldForm) × (field_named x fs ≡ Some form)) (sym same) (some_known (field_named j fs) (both_true _ (are_known fs js) h).0)
+known_name fs (j ∷ js) h k (inr among) = known_name fs js (both_true (is_some (field_named j fs)) (are_known fs js) h).1 k among
+
+are_fields : (fs : FieldForms) (ps : WrittenPairs)
+    → ((k : List ℕ) → StandsAmong k (are_under ps) → (form : FieldForm) × (field_named k fs ≡ Some form)) → AreFieldsOf fs (members_of ps)
+are_fields fs [] h = tt
+are_fields fs (p ∷ ps) h = (h p.0 (inl refl), are_fields fs ps (λ k among. h k (inr among)))
+
+unnamed_name : (fs : TypeFields) (names : List (List ℕ)) → are_unnamed fs names ≡ true → (k : List ℕ) → StandsAmong k names
+    → form_named k fs ≡ None
+unnamed_name fs [] h k among = absurd among
+unnamed_name fs (j ∷ js) h k (inl same) =
+    ap (λ x. form_named x fs) same ∙ none_named (form_named j fs) (both_true _ (are_unnamed fs js) h).0
+unnamed_name fs (j ∷ js) h k (inr among) = unnamed_name fs js (both_true (not (is_some (form_named j fs))) (are_unnamed fs js) h).1 k among
+
+unnamed_pairs : (fs : TypeFields) (ps : WrittenPairs) → ((k : List ℕ) → StandsAmong k (are_under ps) → form_named k fs ≡ None)
+    → AreUnnamed fs ps
+unnamed_pairs fs [] h = tt
+unnamed_pairs fs (p ∷ ps) h = (h p.0 (inl refl), unnamed_pairs fs ps (λ k among. h k (inr among)))
+
+unnamed_within : (fs : TypeFields) (ps : WrittenPairs) (names : List (List ℕ)) → PairsWithin ps names → are_unnamed fs names ≡ true
+    → AreUnnamed fs ps
+unnamed_within fs ps names w h =
+    unnamed_pairs fs ps (λ k among. unnamed_name fs names h k (within_stands (are_under ps) names w k among))
+
+traits_within : (ts : WrittenPairs) → PairsWithin (written_traits ts) (traits_name ∷ [])
+traits_within [] = tt
+traits_within (t ∷ ts) = inl (refl, tt)
+
+module _ (id : List ℕ) (kind : Kind) (ms : List FoundMember) (body : Members) (ts : WrittenPairs) (h : IsFoundShape id kind ms body ts) where
+  abbrev head : WrittenPairs
+  head = (type_name, text (kind_name kind)) ∷ []
+
+  abbrev in_form : WrittenPairs
+  in_form = written_in_form (member_form kind) (found_pairs ms)
+
+  abbrev fields_written : WrittenPairs
+  fields_written = written_properties (property_forms kind) body
+
+  abbrev before : WrittenPairs
+  before = head ++ in_form ++ fields_written
+
+  abbrev pairs : WrittenPairs
+  pairs = before ++ written_traits ts
+
+  first_within : PairsWithin (head ++ in_form) ((type_name ∷ []) ++ form_names (member_form kind))
+  first_within =
+      pairs_joined head in_form (type_name ∷ []) (form_names (member_form kind)) (within_itself (type_name ∷ []))
+      (subst (λ ks. PairsWithin in_form ks) (form_under (member_form kind) ms h.form) (within_itself (are_under in_form)))
+
+  before_within : PairsWithin before (names_before kind)
+  before_within =
+      pairs_joined (head ++ in_form) fields_written ((type_name ∷ []) ++ form_names (member_form kind)) (field_names (property_forms kind))
+      first_within (properties_within (property_forms kind) body)
+
+  all_within : PairsWithin pairs (shape_names kind)
+  all_within = pairs_joined before (written_traits ts) (names_before kind) (traits_name ∷ []) before_within (traits_within ts)
+
+  named_nowhere : HasName mixins_name (members_of pairs) → ⊥
+  named_nowhere has =
+      apart_by_test mixins_name (shape_names kind) (no_mixins kind)
+      (within_stands (are_under pairs) (shape_names kind) all_within mixins_name (has_under mixins_name pairs has))
+
+  traits_later : HasName traits_name (members_of before) → ⊥
+  traits_later has =
+      apart_by_test traits_name (names_before kind) (no_traits kind)
+      (within_stands (are_under before) (names_before kind) before_within traits_name (has_under traits_name before has))
+
+  shape_parts : ShapeParts id (members_of pairs) (shape_said_of id kind ms body ts)
+  shape_parts = record {
+    type = inl (refl, refl);
+    fields = are_fields (layout_of (Defined kind)) pairs
+        (λ k among. known_name (layout_of (Defined kind)) (shape_names kind) (names_are_known kind) k
+        (within_stands (are_under pairs) (shape_names kind) all_within k among));
+    id = refl;
+    is_shape = h.is_shape;
+    members = form_says (member_form kind) ms (members_of pairs) h.form h.members
+        (λ k n has. pair_before before (written_traits ts) k n
+        (pair_before (head ++ in_form) fields_written k n (pair_behind head in_form k n has)));
+    mixins = inr (named_nowhere, refl);
+    properties = (
+      raw_members_of (body_said (property_forms kind) body),
+      refl,
+      subst (λ ps. PropertyPairsSay (property_forms kind) (members_of ps) (raw_members_of (body_said (property_forms kind) body)))
+          (sym (append_assoc (head ++ in_form) fields_written (written_traits ts)))
+          (passed_over (property_forms kind) (head ++ in_form) (fields_written ++ written_traits ts) _
+          (unnamed_within (property_forms kind) (head ++ in_form) ((type_name ∷ []) ++ form_names (member_form kind)) first_within (no_fields_first kind))
+          (fields_say (property_forms kind) (property_forms kind) (fields_among kind) body h.fields (written_traits ts)
+          (all_passed_over (property_forms kind) (written_traits ts)
+          (unnamed_within (property_forms kind) (written_traits ts) (traits_name ∷ []) (traits_within ts) (no_fields_last kind))))),
+    );
+    traits = traits_behind before ts traits_later h.traits.ids;
+  }
+
+  pub shape_says : AstShape id (shape_object kind (found_pairs ms) body ts) (shape_said (shape_said_of id kind ms body ts))
+  shape_says = (members_of pairs, refl, shape_parts)
+
+  pub shape_distinct : HasDistinctNames (shape_object kind (found_pairs ms) body ts)
+  shape_distinct =
+      distinct_pairs pairs (differ_within (are_under pairs) (shape_names kind) all_within (differ_by_test (shape_names kind) (names_all_differ kind)))
+      (distinct_joined before (written_traits ts)
+      (distinct_joined (head ++ in_form) fields_written
+      (distinct_joined head in_form (tt, tt) (form_distinct (member_form kind) ms h.form h.members))
+      (fields_distinct (property_forms kind) body h.distinct))
+      (written_traits_distinct ts h.traits))
