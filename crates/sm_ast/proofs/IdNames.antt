@@ -8,14 +8,14 @@ use Rattle.sm_ids.specs.Identifier.{is_identifier_byte}
 use Rattle.sm_ids.specs.IdText.{IdText, member_text}
 use Rattle.sm_ids.specs.View.{id_of}
 use Rattle.sm_ids.specs.declared.id.ShapeIdRef.{ShapeIdRef}
+use Rattle.sm_ids.proofs.Cutting.{both}
+use Rattle.sm_ids.proofs.Identifiers.{made_of_bytes}
+use Rattle.sm_ids.proofs.Namespaces.{is_namespace_byte, namespace_bytes}
 use Rattle.sm_model.specs.Graphs.{member_id}
 use Rattle.sm_model.specs.References.{IsShapeId}
 use Rattle.sm_ast.specs.Ids.{is_dollar}
 use Rattle.sm_ast.specs.Written.{name_in_id}
 use Rattle.sm_ast.specs.steps.Saying.{text_or_empty}
-use Rattle.sm_ids.proofs.Cutting.{both}
-use Rattle.sm_ids.proofs.Identifiers.{made_of_bytes}
-use Rattle.sm_ids.proofs.Namespaces.{is_namespace_byte, namespace_bytes}
 use Rattle.sm_ast.proofs.IdTests.{namespace_is_no_dollar, identifier_is_no_dollar, plain_id}
 
 neither : (a b : Bool) → (a || b) ≡ false → (a ≡ false) × (b ≡ false)

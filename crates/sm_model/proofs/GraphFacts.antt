@@ -1,5 +1,5 @@
 -- What look-ups by number and by id have in common, for code over graphs: other crates cite these.
-use Rattle.std.proofs.Common.{◌≡◌, ℕ, ◌<◌, List, [], length, map, get_or, Some, Option, sym, ap, ◌∙◌}
+use Rattle.std.proofs.Common.{◌≡◌, ℕ, List, [], get_or, Some, sym, ap, ◌∙◌}
 use Rattle.std.specs.Prelude.{slice_get}
 use Rattle.std.specs.Bool.{passes}
 use Rattle.std.specs.Cmp.{tied_itself as tied_order}
@@ -9,7 +9,7 @@ use Rattle.std.specs.FinMap.{entries-from_sorted, get-from_sorted, is_sorted}
 use Rattle.std.specs.Option.{option_map}
 use Rattle.std.proofs.lemmas.Option.{slice_get-map, get_or_from_slice_get, slice_get_within}
 use Rattle.sm_model.specs.Graphs.{text_cmp, Entry}
-use Rattle.sm_model.specs.GraphRows.{id_of_row, row_entry}
+use Rattle.sm_model.specs.GraphRows.{row_entry}
 use Rattle.sm_model.specs.GraphView.{entries_of, ids, maps_of}
 use Rattle.sm_model.specs.declared.graph.Graph.{Graph}
 use Rattle.sm_model.proofs.Searching.{and_left, equal_to}
