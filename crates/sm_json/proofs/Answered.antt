@@ -4,6 +4,15 @@ use Rattle.std.proofs.Common.{Result, Ok, Err, ◌≡◌, ℕ, ◌+◌, ◌≤�
 use Rattle.sm_tree.specs.Node.{Node}
 use Rattle.sm_tree.specs.Levels.{levels}
 use Rattle.sm_tree.specs.Json.{IsJson}
+use Rattle.std.specs.Prelude.{false}
+use Rattle.sm_tree.specs.Events.{NodeEvent, events}
+use Rattle.sm_tree.specs.Streams.{Streams, StandsFor, Takes, TakesEvery, BeginsStream, unnumbered}
+use Rattle.sm_tree.specs.Timing.{untimed}
+use Rattle.sm_tree.specs.Building.{Building, so_far, kinds, awaits_value}
+use Rattle.sm_tree.proofs.Awaited.{whole_closed}
+use Rattle.sm_tree.proofs.Handing.{begins_before}
+use Rattle.sm_tree.proofs.Streams.{stream_events, events_stream}
+use Rattle.sm_json.proofs.Feeding.{run_placed}
 use Rattle.sm_tree.specs.Syntax.{most_levels, IsRead, Begins, BeginsRead, Reads}
 use Rattle.sm_tree.specs.View.{node_of}
 use Rattle.sm_tree.specs.declared.tree.Tree.{Tree}
@@ -12,10 +21,11 @@ use Rattle.sm_tree.specs.declared.refusal.SyntaxRefusal.TheVariants.{Bad, Ended,
 use Rattle.sm_tree.proofs.Events.{events_injective}
 use Rattle.sm_json.specs.JsonText.{JsonText, json_syntax}
 use Rattle.sm_json.specs.steps.Rest.{json_start, JsonLeads, JsonGoesOn}
-use Rattle.sm_json.specs.steps.Machine.{json_state, json_handed_on, JsonGoes, HaltsAt, DeepensAt, JsonTakesAll, JsonFinishes}
+use Rattle.sm_json.specs.steps.Feeding.{IsPlaced}
+use Rattle.sm_json.specs.steps.Machine.{json_state, JsonIsPlaced, JsonGoes, JsonFeeds, HaltsAt, DeepensAt, JsonTakesAll, JsonEndsText}
 use Rattle.sm_json.specs.declared.read.Reader.{Reader}
 use Rattle.sm_json.proofs.SpeltTrees.{text_json}
-use Rattle.sm_json.proofs.Whole.{start_text, text_start, run_is_text, run_is_cut}
+use Rattle.sm_json.proofs.Whole.{leads_none, start_text, text_start, run_is_text, run_is_cut}
 use Rattle.sm_json.proofs.Onward.{reader_goes_on, on_back}
 
 -- what goes on from the first state is what begins a text, at each limit
@@ -55,43 +65,76 @@ deep_from_start bs i h = record {
   too_deep = λ g. h.stops (read_begins (take (i + 1) bs) g);
 }
 
-pub feed_refused : (r q : Reader) (bs : List ℕ) (refusal : SyntaxRefusal) → json_state r ≡ json_start → JsonTakesAll r bs q (Err refusal)
+pub feed_refused : (r q : Reader) (S T : StandsFor) (takes : Takes) (bs : List ℕ) (refusal : SyntaxRefusal)
+    → json_state r ≡ json_start → JsonTakesAll r S bs q T takes (Err refusal)
     → Reads json_syntax bs (Err refusal)
-feed_refused r q bs (Bad p) begins h = bad_from_start bs p (subst (λ x. HaltsAt x bs p) begins h)
-feed_refused r q bs Ended begins h = absurd h
-feed_refused r q bs (TooDeep p) begins h = deep_from_start bs p (subst (λ x. DeepensAt x bs p) begins h)
-feed_refused r q bs (KeyKind p) begins h = absurd h
-feed_refused r q bs NoMemory begins h = tt
+feed_refused r q S T takes bs (Bad p) begins h = bad_from_start bs p (subst (λ x. HaltsAt x bs p) begins h)
+feed_refused r q S T takes bs Ended begins h = absurd h
+feed_refused r q S T takes bs (TooDeep p) begins h = deep_from_start bs p (subst (λ x. DeepensAt x bs p) begins h)
+feed_refused r q S T takes bs (KeyKind p) begins h = absurd h
+feed_refused r q S T takes bs NoMemory begins h = tt
 
--- the end of the bytes, behind such a reader
-begun_leads : (r q : Reader) (bs : List ℕ) (goes : JsonGoes r bs q) → json_state r ≡ json_start → json_handed_on r ≡ []
-    → JsonLeads most_levels json_start bs (json_handed_on q) (json_state q)
-begun_leads r q bs goes begins nothing =
-    subst (λ out. JsonLeads most_levels json_start bs out (json_state q)) (sym (goes.taken ∙ ap (λ es. es ++ goes.out) nothing))
-    (subst (λ x. JsonLeads most_levels x bs goes.out (json_state q)) begins (goes.leads most_levels (omega arith)))
+-- the builder stands for the streams that are what it took
+abbrev pub took : Building → StandsFor
+took b es = unnumbered es ≡ so_far b
 
-begun_whole : (r q : Reader) (bs : List ℕ) → json_state r ≡ json_start → JsonGoes r bs q → BeginsRead JsonText bs
-begun_whole r q bs begins goes =
+pub first_placed : (r : Reader) (b : Building) (takes : Takes) → json_state r ≡ json_start → so_far b ≡ []
+    → TakesEvery takes → JsonIsPlaced r (took b) takes
+first_placed r b takes begins nothing all = record {
+  takes_all = all;
+  placed = subst (λ x. IsPlaced x (took b)) (sym begins)
+      (run_placed [] [] json_start (took b) (leads_none most_levels json_start) (sym nothing));
+}
+
+begun_leads : (r q : Reader) (bs : List ℕ) (out : List NodeEvent) → JsonGoes r bs out q → json_state r ≡ json_start
+    → JsonLeads most_levels json_start bs out (json_state q)
+begun_leads r q bs out goes begins = subst (λ x. JsonLeads most_levels x bs out (json_state q)) begins (goes.leads most_levels (omega arith))
+
+-- the bytes end: the builder has taken the events of the one tree of the text, or they are no text
+pub text_built : (r q : Reader) (bs : List ℕ) (first behind_bytes last : Building) (before behind : Takes) → json_state r ≡ json_start
+    → so_far first ≡ [] → JsonFeeds r (took first) bs q (took behind_bytes) before → JsonEndsText q (took behind_bytes) (took last) behind (Ok tt)
+    → (n : Node) × IsRead JsonText n bs × (so_far last ≡ events n [])
+text_built r q bs first behind_bytes last before behind begins nothing feeds (ts, rest, hands, all) =
+    let (n, text, room, same) = run_is_text most_levels bs feeds.out ts (json_state q) (begun_leads r q bs feeds.out feeds.goes begins) rest in
+    let whole : BeginsStream (feeds.out ++ untimed ts) = (n, [], subst (λ es. Streams n es []) (sym (append-nil (feeds.out ++ untimed ts) ∙ same)) (events_stream n [])) in
+    let some = feeds.hands [] (sym nothing) (begins_before feeds.out (untimed ts) whole) in
+    let built = hands feeds.out some whole in
+    (n, (text, room), sym built ∙ ap unnumbered same ∙ stream_events n (events n []) [] (events_stream n []))
+
+begun_whole : (r q : Reader) (bs : List ℕ) (out : List NodeEvent) → json_state r ≡ json_start → JsonGoes r bs out q → BeginsRead JsonText bs
+begun_whole r q bs out begins goes =
     begins_read bs (subst (λ x. JsonGoesOn most_levels x bs) begins
     (subst (JsonGoesOn most_levels (json_state r)) (append-nil bs)
     (on_back r q bs [] most_levels goes (omega arith) (reader_goes_on q goes.sound))))
 
-pub tree_read : (r q : Reader) (bs : List ℕ) (result : Result Tree SyntaxRefusal) → json_state r ≡ json_start → json_handed_on r ≡ []
-    → JsonGoes r bs q → JsonFinishes q result → Reads json_syntax bs result
-tree_read r q bs (Ok tree) begins nothing goes (last, rest, e) =
-    let (n, text, room, same) = run_is_text most_levels bs (json_handed_on q) last (json_state q) (begun_leads r q bs goes begins nothing)
-    rest in
-    let is = (events_injective n (node_of tree) [] [] (sym same ∙ e)).0 in
-    subst (λ m. IsRead JsonText m bs) is (text, room)
-tree_read r q bs (Err NoMemory) begins nothing goes h = tt
-tree_read r q bs (Err (Bad p)) begins nothing goes h = absurd h
-tree_read r q bs (Err Ended) begins nothing goes h = record {
-  begun = begun_whole r q bs begins goes;
-  no_text = λ n (text, room). run_is_cut most_levels bs (json_handed_on q) (json_state q) (begun_leads r q bs goes begins nothing) h n text
+pub tree_read : (n : Node) (bs : List ℕ) (tree : Tree) → IsRead JsonText n bs → events n [] ≡ events (node_of tree) []
+    → Reads json_syntax bs (Ok tree)
+tree_read n bs tree h same = subst (λ m. IsRead JsonText m bs) (events_injective n (node_of tree) [] [] same).0 h
+
+pub builder_closed : (r q : Reader) (bs : List ℕ) (first middle last : Building) (before behind : Takes) → json_state r ≡ json_start
+    → so_far first ≡ [] → JsonFeeds r (took first) bs q (took middle) before → JsonEndsText q (took middle) (took last) behind (Ok tt)
+    → (kinds last ≡ []) × (awaits_value last ≡ false)
+builder_closed r q bs first middle last before behind begins nothing feeds ends =
+    let (n, read, is) = text_built r q bs first middle last before behind begins nothing feeds ends in whole_closed last n is
+
+pub tree_built : (r q : Reader) (bs : List ℕ) (first middle last : Building) (before behind : Takes) (tree : Tree)
+    → json_state r ≡ json_start → so_far first ≡ [] → JsonFeeds r (took first) bs q (took middle) before
+    → JsonEndsText q (took middle) (took last) behind (Ok tt) → so_far last ≡ events (node_of tree) [] → Reads json_syntax bs (Ok tree)
+tree_built r q bs first middle last before behind tree begins nothing feeds ends same =
+    let (n, read, is) = text_built r q bs first middle last before behind begins nothing feeds ends in
+    tree_read n bs tree read (sym is ∙ same)
+
+pub end_refused : (r q : Reader) (S T U : StandsFor) (before behind : Takes) (bs : List ℕ) (refusal : SyntaxRefusal)
+    → json_state r ≡ json_start → JsonFeeds r S bs q T before → JsonEndsText q T U behind (Err refusal) → Reads json_syntax bs (Err refusal)
+end_refused r q S T U before behind bs NoMemory begins feeds h = tt
+end_refused r q S T U before behind bs (Bad p) begins feeds h = absurd h
+end_refused r q S T U before behind bs Ended begins feeds h = record {
+  begun = begun_whole r q bs feeds.out begins feeds.goes;
+  no_text = λ n (text, room). run_is_cut most_levels bs feeds.out (json_state q) (begun_leads r q bs feeds.out feeds.goes begins) h n text
       room;
 }
-tree_read r q bs (Err (TooDeep p)) begins nothing goes h = absurd h
-tree_read r q bs (Err (KeyKind p)) begins nothing goes h = absurd h
+end_refused r q S T U before behind bs (TooDeep p) begins feeds h = absurd h
+end_refused r q S T U before behind bs (KeyKind p) begins feeds h = absurd h
 
 -- what is read can be written
 pub read_json : (bs : List ℕ) (result : Result Tree SyntaxRefusal) → Reads json_syntax bs result

@@ -22,20 +22,20 @@ going_at r FirstKey e sound = tt
 going_at r NextKey e sound = tt
 going_at r Colon e sound = tt
 going_at r After e sound = tt
-going_at r (Word w taken) e sound = (kept_at r (Word w taken) e sound).1
+going_at r (Word w taken) e sound = kept_at r (Word w taken) e sound
 going_at r (Number phase) e sound = tt
 going_at r (Text role) e sound = r.text.live
 
-begun : (r q : Reader) (bs : List ℕ) (goes : JsonGoes r bs q) → json_state r ≡ json_start
-    → JsonLeads most_levels json_start bs goes.out (json_state q)
-begun r q bs goes begins = subst (λ x. JsonLeads most_levels x bs goes.out (json_state q)) begins (goes.leads most_levels (omega arith))
+begun : (r q : Reader) (bs : List ℕ) (out : List NodeEvent) → JsonGoes r bs out q → json_state r ≡ json_start
+    → JsonLeads most_levels json_start bs out (json_state q)
+begun r q bs out goes begins = subst (λ x. JsonLeads most_levels x bs out (json_state q)) begins (goes.leads most_levels (omega arith))
 
-pub bytes_complete : (r q : Reader) (bs : List ℕ) (goes : JsonGoes r bs q) → json_state r ≡ json_start
-    → Completes json_timing bs goes.out
-bytes_complete r q bs goes begins =
-    run_completes bs goes.out (json_state q) (begun r q bs goes begins) (reader_goes_on q goes.sound) (going_at q q.place refl goes.sound)
+pub bytes_complete : (r q : Reader) (bs : List ℕ) (out : List NodeEvent) → JsonGoes r bs out q → json_state r ≡ json_start
+    → Completes json_timing bs out
+bytes_complete r q bs out goes begins =
+    run_completes bs out (json_state q) (begun r q bs out goes begins) (reader_goes_on q goes.sound) (going_at q q.place refl goes.sound)
 
-pub bytes_complete_one : (r q : Reader) (bs : List ℕ) (goes : JsonGoes r bs q) (es : List NodeEvent) → json_state r ≡ json_start
-    → Completes json_timing bs es → es ≡ goes.out
-bytes_complete_one r q bs goes es begins h =
-    one_completed bs goes.out es (json_state q) (begun r q bs goes begins) (going_at q q.place refl goes.sound) h
+pub bytes_complete_one : (r q : Reader) (bs : List ℕ) (out es : List NodeEvent) → JsonGoes r bs out q → json_state r ≡ json_start
+    → Completes json_timing bs es → es ≡ out
+bytes_complete_one r q bs out es goes begins h =
+    one_completed bs out es (json_state q) (begun r q bs out goes begins) (going_at q q.place refl goes.sound) h

@@ -23,6 +23,7 @@ pub mod ReaderTurns
 pub mod Owed
 pub mod Later
 pub mod Turns
+pub mod MayCome
 pub mod WrittenStrings
 pub mod WrittenNumbers
 pub mod WrittenTrees
@@ -37,3 +38,4 @@ pub mod OneTree
 pub mod SpeltTrees
 pub mod Answered
 pub mod Completed
+pub mod Feeding

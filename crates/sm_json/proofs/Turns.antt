@@ -1,15 +1,19 @@
 -- What runs of bytes do to a reader: whitespace, numbers and strings, one run behind another, and the end of
 -- the bytes. The answers of the reader's turns cite these.
-use Rattle.std.proofs.Common.{Result, Ok, Err, ◌≡◌, ◌≢◌, ℕ, ◌+◌, ◌-◌, ◌≤◌, ◌<◌, ◌⊎◌, inl, inr, true, List, [], ◌∷◌, ◌++◌, refl, sym, ap, subst, ◌∙◌, arith, length, take, drop, get_or, append-nil, append_assoc, length-drop}
+use Rattle.std.proofs.Common.{Result, Ok, Err, ◌≡◌, ◌≢◌, ℕ, ◌+◌, ◌-◌, ◌≤◌, ◌<◌, ◌⊎◌, inl, inr, true, List, [], ◌∷◌, ◌++◌, refl, sym, ap, subst, ◌∙◌, arith, length, take, drop, get_or, append-nil, length-drop}
 use Rattle.std.proofs.Math.Seq.{take-add}
 use Rattle.std.proofs.lemmas.List.{take_more, drop_more, take-take, take_all, drop_all}
 use Rattle.sm_tree.specs.Node.{Node}
 use Rattle.sm_tree.specs.declared.build.OpenKind.{OpenKind}
+use Rattle.sm_json.specs.steps.Nesting.{nesting_of}
+use Rattle.sm_tree.specs.steps.Handing.{TakesAll}
+use Rattle.sm_tree.proofs.Handing.{takes_none, takes_both}
+use Rattle.sm_json.specs.steps.Feeding.{IsPlaced}
+use Rattle.sm_json.proofs.Feeding.{placed_on, event_placed}
 use Rattle.sm_tree.specs.Numbers.{IsNumber, NumberText}
-use Rattle.sm_tree.specs.Events.{events, key_event, text_event}
-use Rattle.sm_tree.specs.Timing.{TimedEvent, by_byte, untimed}
-use Rattle.sm_tree.specs.Building.{so_far, kinds, awaits_value, awaits_content}
-use Rattle.sm_tree.specs.BuilderView.{building_of}
+use Rattle.sm_tree.specs.Events.{NodeEvent, events, key_event, text_event}
+use Rattle.sm_tree.specs.Timing.{TimedEvent, by_byte}
+use Rattle.sm_tree.specs.Streams.{StandsFor, Takes, TakesEvery, TakesSame, TakesOn, MayTake}
 use Rattle.sm_tree.specs.declared.refusal.SyntaxRefusal.{SyntaxRefusal}
 use Rattle.sm_tree.specs.declared.refusal.SyntaxRefusal.TheVariants.{Bad, Ended, TooDeep, KeyKind, NoMemory}
 use Rattle.sm_json.specs.Strings.{is_whitespace}
@@ -21,9 +25,9 @@ use Rattle.sm_json.specs.declared.text.TextRefusal.{TextRefusal}
 use Rattle.sm_json.specs.declared.text.TextRefusal.TheVariants.{Bad as BadString, NoMemory as NoRoom}
 use Rattle.sm_json.specs.declared.place.Role.{Role}
 use Rattle.sm_json.specs.declared.place.Role.TheVariants.{Key, Value as Whole}
-use Rattle.sm_json.specs.steps.Rest.{after, colon, letters, literal_node, literal_event, numeral, JsonRest, JsonLeads, JsonGoesOn, JsonStops}
+use Rattle.sm_json.specs.steps.Rest.{Where, after, colon, letters, literal_event, numeral, JsonRest, JsonGoesOn, JsonStops}
 use Rattle.sm_tree.specs.Syntax.{most_levels}
-use Rattle.sm_json.specs.steps.Machine.{where_of, lists_of, json_state, json_handed_on, PlaceKeeps, JsonIsSound, LeadsTo, JsonGoes, Halts, Deepens, HaltsAt, DeepensAt, JsonTakesByte, JsonTakesPrefix, JsonTakesAll, TakesWhitespace, AllWhitespace, Grows, HandsNumber, HandsText, behind_text, text_event_of, as_syntax}
+use Rattle.sm_json.specs.steps.Machine.{where_of, lists_of, json_state, PlaceKeeps, JsonIsSound, LeadsTo, JsonIsPlaced, JsonGoes, JsonFeeds, JsonStepsByte, JsonEndsText, Halts, Deepens, HaltsAt, DeepensAt, JsonTakesByte, JsonTakesPrefix, JsonTakesAll, TakesWhitespace, AllWhitespace, Grows, HandsNumber, HandsText, behind_text, text_event_of, as_syntax}
 use Rattle.sm_tree.specs.Refusal.{moved_by, IsWithin}
 use Rattle.sm_tree.specs.declared.number.Phase.{Phase}
 use Rattle.sm_tree.specs.declared.number.Phase.TheVariants.{Start}
@@ -35,100 +39,129 @@ use Rattle.sm_json.specs.declared.read.Reader.{Reader}
 use Rattle.sm_tree.proofs.Numbers.{one_node, number_from_whole, whole_from_number}
 use Rattle.sm_tree.proofs.NumberRuns.{prefix_grows, leads_joined as numbers_joined}
 use Rattle.sm_json.proofs.Opening.{at}
+use Rattle.sm_json.proofs.Closing.{after_goes_on, colon_goes_on}
 use Rattle.sm_json.proofs.Leaves.{number_is, number_one}
 use Rattle.sm_json.proofs.White.{white_leads, whites_lead}
 use Rattle.sm_json.proofs.Within.{number_over, number_bytes_lead, number_ends, number_stops, number_last, number_last_is, nothing_ends, string_goes, key_closes, text_closes, letter_leads, word_ends, word_stops, string_no_rest, token_owed, word_owed, IsOwed}
 use Rattle.sm_json.proofs.Owed.{string_owed}
 use Rattle.sm_json.proofs.Whole.{leads_none, leads_joined}
-use Rattle.sm_json.proofs.Readers.{place_at, leads_from, stops_from, deepens_from, kept_at}
+use Rattle.sm_json.proofs.Readers.{place_at, leads_from, stops_from, deepens_from, kept_at, room_in, inside}
 use Rattle.sm_json.proofs.Onward.{reader_goes_on, on_back, halts_then, deepens_then, halts_at, deepens_at}
 
 -- one step behind another
-pub goes_joined : (r q x : Reader) (v w : List ℕ) → JsonGoes r v q → JsonGoes q w x → JsonGoes r (v ++ w) x
-goes_joined r q x v w h g = record {
-  out = h.out ++ g.out;
-  leads = λ limit up. leads_joined limit (json_state r) (json_state q) (json_state x) v w h.out g.out (h.leads limit up) (g.leads limit up);
-  taken = g.taken ∙ ap (λ es. es ++ g.out) h.taken ∙ append_assoc (json_handed_on r) h.out g.out;
+pub goes_joined : {out more : List NodeEvent} (r q x : Reader) (v w : List ℕ) → JsonGoes r v out q → JsonGoes q w more x
+    → JsonGoes r (v ++ w) (out ++ more) x
+goes_joined {out} {more} r q x v w h g = record {
+  leads = λ limit up. leads_joined limit (json_state r) (json_state q) (json_state x) v w out more (h.leads limit up) (g.leads limit up);
   sound = g.sound;
 }
 
-pub goes_nowhere : (r : Reader) → JsonIsSound r → JsonGoes r [] r
-goes_nowhere r sound =
-    record { out = []; leads = λ limit up. leads_none limit (json_state r); taken = sym (append-nil (json_handed_on r)); sound = sound }
+pub feeds_joined : (r q x : Reader) (S T U : StandsFor) (before behind : Takes) (v w : List ℕ) → JsonFeeds r S v q T before
+    → JsonFeeds q T w x U behind → JsonFeeds r S (v ++ w) x U behind
+feeds_joined r q x S T U before behind v w h g = record {
+  out = h.out ++ g.out;
+  goes = goes_joined r q x v w h.goes g.goes;
+  hands = takes_both S T U h.out g.out h.hands g.hands;
+  takes_all = g.takes_all;
+}
+
+pub goes_nowhere : (r : Reader) → JsonIsSound r → JsonGoes r [] [] r
+goes_nowhere r sound = record { leads = λ limit up. leads_none limit (json_state r); sound = sound }
+
+pub feeds_nowhere : (r : Reader) (S : StandsFor) (takes : Takes) → JsonIsSound r → JsonIsPlaced r S takes
+    → JsonFeeds r S [] r S takes
+feeds_nowhere r S takes sound placed =
+    record { out = []; goes = goes_nowhere r sound; hands = takes_none S; takes_all = placed.takes_all }
+
+-- a step that hands nothing on, and one that hands an event on
+pub feeds_nothing : (r q : Reader) (S : StandsFor) (takes : Takes) (w : List ℕ) → JsonIsPlaced r S takes → JsonGoes r w [] q
+    → JsonFeeds r S w q S takes
+feeds_nothing r q S takes w placed goes = record { out = []; goes = goes; hands = takes_none S; takes_all = placed.takes_all }
+
+pub feeds_byte : (r q : Reader) (S : StandsFor) (takes : Takes) (c : ℕ) (result : Result (Unit {0}) SyntaxRefusal)
+    → TakesEvery takes → JsonStepsByte r c q result → JsonTakesByte r S c q S takes result
+feeds_byte r q S takes c (Ok x) all h = record { out = []; goes = h; hands = takes_none S; takes_all = all }
+feeds_byte r q S takes c (Err NoMemory) all h = tt
+feeds_byte r q S takes c (Err (Bad p)) all h = h
+feeds_byte r q S takes c (Err Ended) all h = h
+feeds_byte r q S takes c (Err (TooDeep p)) all h = absurd h
+feeds_byte r q S takes c (Err (KeyKind p)) all h = h
+
+pub feeds_event : (r q : Reader) (S T : StandsFor) (takes before : Takes) (w : List ℕ) (e : NodeEvent) → JsonIsPlaced r S before
+    → JsonGoes r w (e ∷ []) q → TakesOn S e T → TakesSame before takes → JsonFeeds r S w q T takes
+feeds_event r q S T takes before w e placed goes taken same =
+    record { out = e ∷ []; goes = goes; hands = taken; takes_all = λ d. same d (placed.takes_all d) }
+
+-- the sink is placed behind a step, and may be brought the event that a step completes
+pub fed_placed : (r q : Reader) (S T : StandsFor) (before behind : Takes) (w : List ℕ) → JsonIsPlaced r S before
+    → JsonFeeds r S w q T behind → JsonIsPlaced q T behind
+fed_placed r q S T before behind w placed feeds = record {
+  takes_all = feeds.takes_all;
+  placed = placed_on (json_state r) (json_state q) w S T feeds.out placed.placed (feeds.goes.leads most_levels (omega arith))
+      (reader_goes_on q feeds.goes.sound) feeds.hands;
+}
+
+pub event_may_come : (r q : Reader) (S : StandsFor) (takes : Takes) (w : List ℕ) (e : NodeEvent) (out : List NodeEvent)
+    → JsonIsPlaced r S takes → JsonGoes r w (e ∷ out) q → MayTake S e
+event_may_come r q S takes w e out placed goes =
+    event_placed (json_state r) (json_state q) w S e out placed.placed (goes.leads most_levels (omega arith)) (reader_goes_on q goes.sound)
 
 -- whitespace
 pub takes_white_after : (r : Reader) → r.place ≡ After → TakesWhitespace (json_state r).place
 takes_white_after r e = subst (λ p. TakesWhitespace (where_of p r.number.items r.text.spot (string_so_far r.text))) (sym e) tt
 
 pub white_goes : (r : Reader) (c : ℕ) → JsonIsSound r → TakesWhitespace (json_state r).place → is_whitespace c ≡ true
-    → JsonGoes r (c ∷ []) r
-white_goes r c sound p w = record {
-  out = [];
-  leads = λ limit up. white_leads limit (json_state r) c p w;
-  taken =
-      sym (append-nil (json_handed_on r));
-  sound = sound;
-}
+    → JsonGoes r (c ∷ []) [] r
+white_goes r c sound p w = record { leads = λ limit up. white_leads limit (json_state r) c p w; sound = sound }
 
 pub white_run_goes : (r : Reader) (bs : List ℕ) (k : ℕ) → JsonIsSound r → TakesWhitespace (json_state r).place → 0 < length bs
     → k ≤ length bs - 1
-    → is_whitespace (get_or bs 0 0) ≡ true → AllWhitespace (take k (take (length bs - 1) (drop 1 bs))) → JsonGoes r (take (1 + k) bs) r
+    → is_whitespace (get_or bs 0 0) ≡ true → AllWhitespace (take k (take (length bs - 1) (drop 1 bs))) → JsonGoes r (take (1 + k) bs) [] r
 white_run_goes r bs k sound p some few here more =
-    subst (λ ws. JsonGoes r ws r) (sym (prefix_grows bs 0 k some few)) (record {
-      out = [];
+    subst (λ ws. JsonGoes r ws [] r) (sym (prefix_grows bs 0 k some few)) (record {
       leads = λ limit up. whites_lead limit (json_state r) (get_or bs 0 0 ∷ take k (take (length bs - 1) (drop 1 bs))) p (here, more);
-      taken = sym (append-nil (json_handed_on r));
       sound = sound;
     })
 
 -- a byte that is refused behind those that led there, and the first byte
-pub refused_later : (r q x : Reader) (bs : List ℕ) (i : ℕ) (refusal : SyntaxRefusal) → i < length bs → JsonGoes r (take i bs) q
-    → JsonTakesByte q (get_or bs i 0) x (Err refusal)
-    → JsonTakesPrefix r bs x (Err (moved_by i refusal))
-refused_later r q x bs i (Bad p) inside goes h =
+pub refused_later : {out : List NodeEvent} (r q x : Reader) (S T : StandsFor) (takes : Takes) (bs : List ℕ) (i : ℕ)
+    (refusal : SyntaxRefusal) → i < length bs → JsonGoes r (take i bs) out q → JsonTakesByte q S (get_or bs i 0) x T takes (Err refusal)
+    → JsonTakesPrefix r S bs x T takes (Err (moved_by i refusal))
+refused_later r q x S T takes bs i (Bad p) inside goes h =
     subst (λ n. HaltsAt (json_state r) bs (i + n)) (sym h.0) (halts_at r q bs i inside goes h.1)
-refused_later r q x bs i Ended inside goes h = h
-refused_later r q x bs i (TooDeep p) inside goes h =
+refused_later r q x S T takes bs i Ended inside goes h = h
+refused_later r q x S T takes bs i (TooDeep p) inside goes h =
     subst (λ n. DeepensAt (json_state r) bs (i + n)) (sym h.0) (deepens_at r q bs i inside goes h.1)
-refused_later r q x bs i (KeyKind p) inside goes h = h
-refused_later r q x bs i NoMemory inside goes h = tt
+refused_later r q x S T takes bs i (KeyKind p) inside goes h = h
+refused_later r q x S T takes bs i NoMemory inside goes h = tt
 
-pub refused_first : (r x : Reader) (bs : List ℕ) (refusal : SyntaxRefusal) → JsonIsSound r → 0 < length bs
-    → JsonTakesByte r (get_or bs 0 0) x (Err refusal) → JsonTakesPrefix r bs x (Err refusal)
-refused_first r x bs (Bad p) sound some h = subst (HaltsAt (json_state r) bs) (sym h.0) (halts_at r r bs 0 some (goes_nowhere r sound) h.1)
-refused_first r x bs Ended sound some h = h
-refused_first r x bs (TooDeep p) sound some h =
+pub refused_first : (r x : Reader) (S T : StandsFor) (takes : Takes) (bs : List ℕ) (refusal : SyntaxRefusal) → JsonIsSound r
+    → 0 < length bs → JsonTakesByte r S (get_or bs 0 0) x T takes (Err refusal) → JsonTakesPrefix r S bs x T takes (Err refusal)
+refused_first r x S T takes bs (Bad p) sound some h = subst (HaltsAt (json_state r) bs) (sym h.0) (halts_at r r bs 0 some (goes_nowhere r sound) h.1)
+refused_first r x S T takes bs Ended sound some h = h
+refused_first r x S T takes bs (TooDeep p) sound some h =
     subst (DeepensAt (json_state r) bs) (sym h.0) (deepens_at r r bs 0 some (goes_nowhere r sound) h.1)
-refused_first r x bs (KeyKind p) sound some h = h
-refused_first r x bs NoMemory sound some h = tt
+refused_first r x S T takes bs (KeyKind p) sound some h = h
+refused_first r x S T takes bs NoMemory sound some h = tt
 
 -- a number grows by a run
 pub number_grows : (r q : Reader) (bs : List ℕ) (phase : Phase) (run : Run) → JsonIsSound r → r.place ≡ Number phase → run.count ≤ length bs
     → NumberLeads phase (take run.count bs) run.phase → AreNumberBytes (take run.count bs)
     → (run.count < length bs → NumberStops run.phase (get_or bs run.count 0))
-    → q.place ≡ Number run.phase → q.number.items ≡ r.number.items ++ take run.count bs → q.builder ≡ r.builder → q.depth ≡ r.depth
+    → q.place ≡ Number run.phase → q.number.items ≡ r.number.items ++ take run.count bs → q.lists ≡ r.lists
     → Grows r bs run q
-number_grows r q bs phase run sound place inside leads bytes stops there kept same depth = record {
+number_grows r q bs phase run sound place inside leads bytes stops there kept lists = record {
   inside = inside;
   goes = record {
-    out = [];
     leads = leads_from r (Number phase) (take run.count bs) [] (json_state q) place
         (subst (λ p. LeadsTo (place_at r (Number phase)) (take run.count bs) [] (place_at q p)) (sym there)
         (subst (λ b. LeadsTo (place_at r (Number phase)) (take run.count bs) [] (at (numeral b) (lists_of q))) (sym kept)
-        (subst (λ b. LeadsTo (place_at r (Number phase)) (take run.count bs) []
-        (at (numeral (r.number.items ++ take run.count bs)) (kinds (building_of b)))) (sym same)
+        (subst (λ n. LeadsTo (place_at r (Number phase)) (take run.count bs) []
+        (at (numeral (r.number.items ++ take run.count bs)) (nesting_of n))) (sym lists)
         (λ limit up. number_bytes_lead limit r.number.items (take run.count bs) (lists_of r) bytes))));
-    taken = ap (λ b. so_far (building_of b)) same ∙ sym (append-nil (json_handed_on r));
-    sound = record {
-      depth = depth ∙ sound.depth ∙ ap (λ b. length (kinds (building_of b))) (sym same);
-      room = subst (λ n. n ≤ most_levels) (sym depth) sound.room;
-      keeps = subst (λ p. PlaceKeeps p q.number.items (lists_of q) (awaits_value (building_of q.builder))) (sym there) (
-        ap (λ b. awaits_value (building_of b)) same ∙ (kept_at r (Number phase) place sound).0,
-        subst (λ b. NumberLeads Start b run.phase) (sym kept)
-            (numbers_joined Start phase run.phase r.number.items (take run.count bs) (kept_at r (Number phase) place sound).1 leads),
-      );
-      content = ap (λ b. awaits_content (building_of b)) same ∙ sound.content;
-    };
+    sound = subst (λ p. PlaceKeeps p q.number.items (lists_of q)) (sym there)
+        (subst (λ b. NumberLeads Start b run.phase) (sym kept)
+        (numbers_joined Start phase run.phase r.number.items (take run.count bs) (kept_at r (Number phase) place sound) leads));
   };
   place = there;
   stops = stops;
@@ -136,7 +169,7 @@ number_grows r q bs phase run sound place inside leads bytes stops there kept sa
 
 -- what a number and its phase say of the bytes behind it
 phase_of : (r : Reader) (phase : Phase) → JsonIsSound r → r.place ≡ Number phase → NumberLeads Start r.number.items phase
-phase_of r phase sound place = (kept_at r (Number phase) place sound).1
+phase_of r phase sound place = kept_at r (Number phase) place sound
 
 stops_number : (r : Reader) (phase : Phase) (c : ℕ) → JsonIsSound r → r.place ≡ Number phase → NumberStops phase c → (u : List ℕ)
     → IsNumber (r.number.items ++ c ∷ u) → ⊥
@@ -154,138 +187,159 @@ number_halts r phase c sound place stops not_whole =
     (λ n. not_whole (whole_from_number r.number.items phase (phase_of r phase sound place) n))
     (stops_number r phase c sound place stops))
 
--- the state behind a number that was handed on
-state_behind : (r h : Reader) → HandsNumber r h → json_state h ≡ at after (lists_of r)
-state_behind r h hands =
-    ap (λ p. place_at h p) hands.place ∙ ap (λ ls. at after ls) hands.lists
-
 -- a number is handed on, and then a byte comes that it doesn't go on with
-behind_number : (r h : Reader) (phase : Phase) (c limit : ℕ) → JsonIsSound r → r.place ≡ Number phase → NumberStops phase c
-    → HandsNumber r h → JsonStops limit (json_state h) c
+behind_number : (r : Reader) (m : Node) (phase : Phase) (c limit : ℕ) → JsonIsSound r → r.place ≡ Number phase → NumberStops phase c
+    → NumberText m r.number.items → JsonStops limit (at after (lists_of r)) c
     → JsonStops limit (place_at r (Number phase)) c
-behind_number r h phase c limit sound place stops hands halts s ts g =
-    let (us, timed, en) = number_over limit r.number.items hands.tree c (lists_of r) s ts (stops_number r phase c sound place stops)
-    (λ n x. one_node n hands.tree r.number.items x hands.is) g in
-    halts s us (subst (λ x. JsonRest limit x (c ∷ s) us) (sym (state_behind r h hands)) en)
+behind_number r m phase c limit sound place stops is halts s ts g =
+    let (us, timed, en) = number_over limit r.number.items m c (lists_of r) s ts (stops_number r phase c sound place stops)
+    (λ n x. one_node n m r.number.items x is) g in
+    halts s us en
 
-number_then_halts : (r h : Reader) (phase : Phase) (c : ℕ) → JsonIsSound r → r.place ≡ Number phase → NumberStops phase c → HandsNumber r h
-    → Halts (json_state h) c → Halts (json_state r) c
-number_then_halts r h phase c sound place stops hands halts =
-    stops_from r (Number phase) c place (λ limit. behind_number r h phase c limit sound place stops hands (halts limit))
-
-number_then_deepens : (r h : Reader) (phase : Phase) (c : ℕ) → JsonIsSound r → r.place ≡ Number phase → NumberStops phase c
-    → HandsNumber r h → Deepens (json_state h) c → Deepens (json_state r) c
-number_then_deepens r h phase c sound place stops hands deep = deepens_from r (Number phase) c place (record {
-  stops = behind_number r h phase c most_levels sound place stops hands deep.stops;
+number_then_deepens : (r : Reader) (m : Node) (phase : Phase) (c : ℕ) → JsonIsSound r → r.place ≡ Number phase → NumberStops phase c
+    → NumberText m r.number.items → Deepens (at after (lists_of r)) c → Deepens (json_state r) c
+number_then_deepens r m phase c sound place stops is deep = deepens_from r (Number phase) c place (record {
+  stops = behind_number r m phase c most_levels sound place stops is deep.stops;
   deeper =
       let (s, ts, rest) = deep.deeper in
-      let behind = subst (λ x. JsonRest (most_levels + 1) x (c ∷ s) ts) (state_behind r h hands) rest in
-      let (e, one) = number_one hands.tree r.number.items hands.is in (
+      let (e, one) = number_one m r.number.items is in (
         s,
         by_byte e (length s) ∷ ts,
-        (
-          hands.tree,
-          [],
-          c ∷ s,
-          ts,
-          refl,
-          subst (NumberText hands.tree) (sym (append-nil r.number.items)) hands.is,
-          behind,
-          (e, one, refl),
-        ),
+        (m, [], c ∷ s, ts, refl, subst (NumberText m) (sym (append-nil r.number.items)) is, rest, (e, one, refl)),
       );
 })
 
-pub number_then : (r h q : Reader) (phase : Phase) (c : ℕ) (result : Result (Unit {0}) SyntaxRefusal) → JsonIsSound r
-    → r.place ≡ Number phase → NumberStops phase c → HandsNumber r h
-    → JsonTakesByte h c q result → JsonTakesByte r c q result
-number_then r h q phase c (Ok x) sound place stops hands g = record {
+pub number_then : (r q : Reader) (S T U : StandsFor) (before behind : Takes) (phase : Phase) (c : ℕ)
+    (result : Result (Unit {0}) SyntaxRefusal) → JsonIsSound r → r.place ≡ Number phase → NumberStops phase c → HandsNumber r S T before
+    → JsonTakesByte (record r { place = After }) T c q U behind result → JsonTakesByte r S c q U behind result
+number_then r q S T U before behind phase c (Ok x) sound place stops hands g = record {
   out = events hands.tree [] ++ g.out;
-  leads = leads_from r (Number phase) (c ∷ []) (events hands.tree [] ++ g.out) (json_state q) place
-      (λ limit up. number_ends limit r.number.items hands.tree c (lists_of r) g.out (json_state q)
-      (stops_number r phase c sound place stops)
-      (λ n x. one_node n hands.tree r.number.items x hands.is) hands.is
-      (subst (λ x. JsonLeads limit x (c ∷ []) g.out (json_state q)) (state_behind r h hands) (g.leads limit up)));
-  taken = g.taken ∙ ap (λ es. es ++ g.out) hands.taken ∙ append_assoc (json_handed_on r) (events hands.tree []) g.out;
-  sound = g.sound;
+  goes = record {
+    leads = leads_from r (Number phase) (c ∷ []) (events hands.tree [] ++ g.out) (json_state q) place
+        (λ limit up. number_ends limit r.number.items hands.tree c (lists_of r) g.out (json_state q)
+        (stops_number r phase c sound place stops) (λ n x. one_node n hands.tree r.number.items x hands.is) hands.is
+        (g.goes.leads limit up));
+    sound = g.goes.sound;
+  };
+  hands = takes_both S T U (events hands.tree []) g.out hands.hands g.hands;
+  takes_all = g.takes_all;
 }
-number_then r h q phase c (Err NoMemory) sound place stops hands g = tt
-number_then r h q phase c (Err (Bad p)) sound place stops hands g = (g.0, number_then_halts r h phase c sound place stops hands g.1)
-number_then r h q phase c (Err Ended) sound place stops hands g = g
-number_then r h q phase c (Err (TooDeep p)) sound place stops hands g = (g.0, number_then_deepens r h phase c sound place stops hands g.1)
-number_then r h q phase c (Err (KeyKind p)) sound place stops hands g = g
+number_then r q S T U before behind phase c (Err NoMemory) sound place stops hands g = tt
+number_then r q S T U before behind phase c (Err (Bad p)) sound place stops hands g = (
+  g.0,
+  stops_from r (Number phase) c place (λ limit. behind_number r hands.tree phase c limit sound place stops hands.is (g.1 limit)),
+)
+number_then r q S T U before behind phase c (Err Ended) sound place stops hands g = g
+number_then r q S T U before behind phase c (Err (TooDeep p)) sound place stops hands g =
+    (g.0, number_then_deepens r hands.tree phase c sound place stops hands.is g.1)
+number_then r q S T U before behind phase c (Err (KeyKind p)) sound place stops hands g = g
 
 -- one run behind another, by places
-pub then_byte_goes : (r q x : Reader) (bs : List ℕ) (i : ℕ) → i < length bs → JsonGoes r (take i bs) q → JsonGoes q (get_or bs i 0 ∷ []) x
-    → JsonGoes r (take (i + 1) bs) x
-then_byte_goes r q x bs i inside h g =
-    subst (λ ws. JsonGoes r ws x) (sym (take_more bs i 0 inside)) (goes_joined r q x (take i bs) (get_or bs i 0 ∷ []) h g)
+pub then_byte_goes : (r q x : Reader) (S T : StandsFor) (takes : Takes) (bs : List ℕ) (i : ℕ) → i < length bs
+    → JsonGoes r (take i bs) [] q → JsonFeeds q S (get_or bs i 0 ∷ []) x T takes → JsonFeeds r S (take (i + 1) bs) x T takes
+then_byte_goes r q x S T takes bs i inside h g =
+    subst (λ ws. JsonFeeds r S ws x T takes) (sym (take_more bs i 0 inside)) (record {
+      out = g.out;
+      goes = goes_joined r q x (take i bs) (get_or bs i 0 ∷ []) h g.goes;
+      hands = g.hands;
+      takes_all = g.takes_all;
+    })
 
-pub then_front_goes : (r q x : Reader) (bs : List ℕ) (i n : ℕ) → i ≤ length bs → n ≤ length bs - i → JsonGoes r (take i bs) q
-    → JsonGoes q (take n (take (length bs - i) (drop i bs))) x → JsonGoes r (take (i + n) bs) x
-then_front_goes r q x bs i n inside few h g =
-    subst (λ ws. JsonGoes r ws x) (sym (take-add i n bs))
-    (goes_joined r q x (take i bs) (take n (drop i bs)) h
-    (subst (λ ws. JsonGoes q ws x) (take-take n (length bs - i) (drop i bs) few) g))
+pub then_front_goes : (r q x : Reader) (S T U : StandsFor) (before behind : Takes) (bs : List ℕ) (i n : ℕ) → i ≤ length bs
+    → n ≤ length bs - i → JsonFeeds r S (take i bs) q T before → JsonFeeds q T (take n (take (length bs - i) (drop i bs))) x U behind
+    → JsonFeeds r S (take (i + n) bs) x U behind
+then_front_goes r q x S T U before behind bs i n inside few h g =
+    subst (λ ws. JsonFeeds r S ws x U behind) (sym (take-add i n bs))
+    (feeds_joined r q x S T U before behind (take i bs) (take n (drop i bs)) h
+    (subst (λ ws. JsonFeeds q T ws x U behind) (take-take n (length bs - i) (drop i bs) few) g))
 
-pub whole_goes : (r q : Reader) (bs : List ℕ) (i : ℕ) → length bs ≤ i → JsonGoes r (take i bs) q → JsonGoes r bs q
-whole_goes r q bs i all h = subst (λ ws. JsonGoes r ws q) (take_all i bs all) h
+pub whole_goes : (r q : Reader) (S T : StandsFor) (takes : Takes) (bs : List ℕ) (i : ℕ) → length bs ≤ i
+    → JsonFeeds r S (take i bs) q T takes → JsonFeeds r S bs q T takes
+whole_goes r q S T takes bs i all h = subst (λ ws. JsonFeeds r S ws q T takes) (take_all i bs all) h
 
 rest_of : (bs : List ℕ) (i : ℕ) → take (length bs - i) (drop i bs) ≡ drop i bs
 rest_of bs i = take_all (length bs - i) (drop i bs) (omega (arith, length-drop i bs))
 
 -- a refusal of a turn, carried to all the bytes
-pub refused_in_turn : (r q x : Reader) (bs : List ℕ) (i : ℕ) (refusal : SyntaxRefusal) → i < length bs → JsonGoes r (take i bs) q
-    → JsonTakesPrefix q (take (length bs - i) (drop i bs)) x (Err refusal) → JsonTakesAll r bs x (Err (moved_by i refusal))
-refused_in_turn r q x bs i (Bad p) inside goes h = halts_then r q bs i p goes (subst (λ ws. HaltsAt (json_state q) ws p) (rest_of bs i) h)
-refused_in_turn r q x bs i Ended inside goes h = h
-refused_in_turn r q x bs i (TooDeep p) inside goes h =
+pub refused_in_turn : {out : List NodeEvent} (r q x : Reader) (S T U : StandsFor) (takes : Takes) (bs : List ℕ) (i : ℕ)
+    (refusal : SyntaxRefusal) → i < length bs → JsonGoes r (take i bs) out q
+    → JsonTakesPrefix q T (take (length bs - i) (drop i bs)) x U takes (Err refusal) → JsonTakesAll r S bs x U takes (Err (moved_by i refusal))
+refused_in_turn r q x S T U takes bs i (Bad p) inside goes h = halts_then r q bs i p goes (subst (λ ws. HaltsAt (json_state q) ws p) (rest_of bs i) h)
+refused_in_turn r q x S T U takes bs i Ended inside goes h = h
+refused_in_turn r q x S T U takes bs i (TooDeep p) inside goes h =
     deepens_then r q bs i p goes (subst (λ ws. DeepensAt (json_state q) ws p) (rest_of bs i) h)
-refused_in_turn r q x bs i (KeyKind p) inside goes h = h
-refused_in_turn r q x bs i NoMemory inside goes h = tt
+refused_in_turn r q x S T U takes bs i (KeyKind p) inside goes h = h
+refused_in_turn r q x S T U takes bs i NoMemory inside goes h = tt
 
-pub refusal_within : (q x : Reader) (bs : List ℕ) (refusal : SyntaxRefusal) (n : ℕ) → length bs ≤ n → JsonTakesPrefix q bs x (Err refusal)
+pub refusal_within : (q x : Reader) (S T : StandsFor) (takes : Takes) (bs : List ℕ) (refusal : SyntaxRefusal) (n : ℕ)
+    → length bs ≤ n → JsonTakesPrefix q S bs x T takes (Err refusal)
     → IsWithin n refusal
-refusal_within q x bs (Bad p) n small h = omega (arith, h.inside)
-refusal_within q x bs Ended n small h = tt
-refusal_within q x bs (TooDeep p) n small h = omega (arith, h.inside)
-refusal_within q x bs (KeyKind p) n small h = absurd h
-refusal_within q x bs NoMemory n small h = tt
+refusal_within q x S T takes bs (Bad p) n small h = omega (arith, h.inside)
+refusal_within q x S T takes bs Ended n small h = tt
+refusal_within q x S T takes bs (TooDeep p) n small h = omega (arith, h.inside)
+refusal_within q x S T takes bs (KeyKind p) n small h = absurd h
+refusal_within q x S T takes bs NoMemory n small h = tt
 
 -- strings
 pub string_on : (r : Reader) (role : Role) (t : TextReader) (bs : List ℕ) → JsonIsSound r → r.place ≡ Text role → ReadsOn r.text t bs
-    → JsonGoes r bs (record r { text = t })
+    → JsonGoes r bs [] (record r { text = t })
 string_on r role t bs sound place on = record {
-  out = [];
   leads = leads_from r (Text role) bs [] (json_state (record r { text = t })) place
       (subst (λ p. LeadsTo (place_at r (Text role)) bs [] (place_at (record r { text = t }) p)) (sym place)
       (λ limit up. string_goes limit role r.text.spot t.spot (string_so_far r.text) (string_so_far t) bs (lists_of r)
       (λ s u v. (on s u v).0) (λ s u v. (on s u v).1)));
-  taken = sym (append-nil (json_handed_on r));
-  sound = record { depth = sound.depth; room = sound.room; keeps = sound.keeps; content = sound.content };
+  sound = sound;
 }
 
-string_closes : (r h : Reader) (role : Role) (t : TextReader) (bs : List ℕ) → ReadsWhole r.text t bs
-    → HandsText role (record r { text = t }) h
-    → LeadsTo (place_at r (Text role)) bs (text_event_of role (string_so_far t) ∷ []) (place_at h (behind_text role))
-string_closes r h Key t bs whole hands =
-    subst (λ ls. LeadsTo (place_at r (Text Key)) bs (key_event (string_so_far t) ∷ []) (at colon ls)) (sym hands.lists)
-    (λ limit up. key_closes limit r.text.spot (string_so_far r.text) bs (string_so_far t) (lists_of r)
-    (λ s u v x. let (a, b) = (whole s u v).0 x in (a, b)) (λ s. (whole s (string_so_far t) s).1 (refl, refl)))
-string_closes r h Whole t bs whole hands =
-    subst (λ ls. LeadsTo (place_at r (Text Whole)) bs (text_event (string_so_far t) ∷ []) (at after ls)) (sym hands.lists)
-    (λ limit up. text_closes limit r.text.spot (string_so_far r.text) bs (string_so_far t) (lists_of r)
-    (λ s u v x. let (a, b) = (whole s u v).0 x in (a, b)) (λ s. (whole s (string_so_far t) s).1 (refl, refl)))
+-- where a reader stands behind a string of this role
+abbrev string_end : Role → Where
+string_end Key = colon
+string_end Whole = after
 
-pub string_over : (r h : Reader) (role : Role) (t : TextReader) (bs : List ℕ) → r.place ≡ Text role → ReadsWhole r.text t bs
-    → HandsText role (record r { text = t }) h → JsonGoes r bs h
-string_over r h role t bs place whole hands = record {
+string_closes : (r : Reader) (role : Role) (t : TextReader) (bs : List ℕ) → ReadsWhole r.text t bs
+    → LeadsTo (place_at r (Text role)) bs (text_event_of role (string_so_far t) ∷ []) (at (string_end role) (lists_of r))
+string_closes r Key t bs whole limit up =
+    key_closes limit r.text.spot (string_so_far r.text) bs (string_so_far t) (lists_of r)
+    (λ s u v x. let (a, b) = (whole s u v).0 x in (a, b)) (λ s. (whole s (string_so_far t) s).1 (refl, refl))
+string_closes r Whole t bs whole limit up =
+    text_closes limit r.text.spot (string_so_far r.text) bs (string_so_far t) (lists_of r)
+    (λ s u v x. let (a, b) = (whole s u v).0 x in (a, b)) (λ s. (whole s (string_so_far t) s).1 (refl, refl))
+
+string_end_goes_on : (role : Role) (ks : List OpenKind) → length ks ≤ most_levels → JsonGoesOn most_levels (at (string_end role) ks) []
+string_end_goes_on Key ks room = colon_goes_on most_levels ks room
+string_end_goes_on Whole ks room = after_goes_on most_levels ks room
+
+pub text_may_come : (r : Reader) (role : Role) (t : TextReader) (bs : List ℕ) (S : StandsFor) (takes : Takes)
+    → JsonIsPlaced r S takes → r.place ≡ Text role → ReadsWhole r.text t bs → MayTake S (text_event_of role (string_so_far t))
+text_may_come r role t bs S takes placed place whole =
+    event_placed (place_at r (Text role)) (at (string_end role) (lists_of r)) bs S (text_event_of role (string_so_far t)) []
+    (subst (λ p. IsPlaced (place_at r p) S) place placed.placed) (string_closes r role t bs whole most_levels (omega arith))
+    (string_end_goes_on role (lists_of r) (room_in r most_levels (omega arith)))
+
+string_ended : (r h : Reader) (role : Role) (t : TextReader) (bs : List ℕ) → r.place ≡ Text role → lists_of h ≡ lists_of r
+    → h.place ≡ behind_text role
+    → LeadsTo (place_at r (Text role)) bs (text_event_of role (string_so_far t) ∷ []) (at (string_end role) (lists_of r))
+    → JsonGoes r bs (text_event_of role (string_so_far t) ∷ []) h
+string_ended r h Key t bs begun lists place leads = record {
+  leads = leads_from r (Text Key) bs (key_event (string_so_far t) ∷ []) (json_state h) begun
+      (subst (λ p. LeadsTo (place_at r (Text Key)) bs (key_event (string_so_far t) ∷ []) (place_at h p)) (sym place)
+      (subst (λ ls. LeadsTo (place_at r (Text Key)) bs (key_event (string_so_far t) ∷ []) (at colon ls)) (sym lists) leads));
+  sound = subst (λ p. PlaceKeeps p h.number.items (lists_of h)) (sym place) tt;
+}
+string_ended r h Whole t bs begun lists place leads = record {
+  leads = leads_from r (Text Whole) bs (text_event (string_so_far t) ∷ []) (json_state h) begun
+      (subst (λ p. LeadsTo (place_at r (Text Whole)) bs (text_event (string_so_far t) ∷ []) (place_at h p)) (sym place)
+      (subst (λ ls. LeadsTo (place_at r (Text Whole)) bs (text_event (string_so_far t) ∷ []) (at after ls)) (sym lists) leads));
+  sound = subst (λ p. PlaceKeeps p h.number.items (lists_of h)) (sym place) tt;
+}
+
+pub string_over : (r h : Reader) (S T : StandsFor) (takes : Takes) (role : Role) (t : TextReader) (bs : List ℕ)
+    → r.place ≡ Text role → ReadsWhole r.text t bs → HandsText role (record r { text = t }) S h T takes → JsonFeeds r S bs h T takes
+string_over r h S T takes role t bs place whole hands = record {
   out = text_event_of role (string_so_far t) ∷ [];
-  leads = leads_from r (Text role) bs (text_event_of role (string_so_far t) ∷ []) (json_state h) place
-      (subst (λ p. LeadsTo (place_at r (Text role)) bs (text_event_of role (string_so_far t) ∷ []) (place_at h p)) (sym hands.place)
-      (string_closes r h role t bs whole hands));
-  taken = hands.taken;
-  sound = hands.sound;
+  goes = string_ended r h role t bs place hands.lists hands.place (string_closes r role t bs whole);
+  hands = hands.hands;
+  takes_all = hands.takes_all;
 }
 
 -- a byte that no string goes on with, behind those that one goes on with
@@ -305,12 +359,12 @@ string_halts r role t bs i sound place inside on stops =
     }
 
 -- the end of the bytes
-pub number_cut_short : (r : Reader) (phase : Phase) → JsonIsSound r → r.place ≡ Number phase → (0 < r.depth) ⊎ (NumberTail phase [] → ⊥)
+pub number_cut_short : (r : Reader) (phase : Phase) → JsonIsSound r → r.place ≡ Number phase → (0 < length (lists_of r)) ⊎ (NumberTail phase [] → ⊥)
     → (ts : List TimedEvent) → JsonRest most_levels (json_state r) [] ts → ⊥
 number_cut_short r phase sound place (inl deep) ts h =
     let (n, x, none) = number_last_is most_levels r.number.items (lists_of r) ts
     (subst (λ p. JsonRest most_levels (place_at r p) [] ts) place h) in
-    omega (arith, sound.depth, ap length none)
+    omega (arith, ap length none)
 number_cut_short r phase sound place (inr not_whole) ts h =
     let (n, x, none) = number_last_is most_levels r.number.items (lists_of r) ts
     (subst (λ p. JsonRest most_levels (place_at r p) [] ts) place h) in
@@ -320,17 +374,17 @@ none_open : (ls : List OpenKind) → length ls ≡ 0 → ls ≡ []
 none_open [] e = refl
 none_open (k ∷ ls) e = let none : ⊥ = omega (arith, e) in absurd none
 
--- the text ends with a number that has been handed on, and nothing is open
-pub number_finishes : (r h : Reader) (phase : Phase) (n : Node) → JsonIsSound r → r.place ≡ Number phase → r.depth ≡ 0 → HandsNumber r h
-    → json_handed_on h ≡ events n []
-    → (last : List TimedEvent) × JsonRest most_levels (json_state r) [] last × (json_handed_on r ++ untimed last ≡ events n [])
-number_finishes r h phase n sound place none hands same =
-    let closed : lists_of r ≡ [] = none_open (lists_of r) (sym sound.depth ∙ none) in
+-- the text ends with a number that is handed on, and nothing is open
+pub number_finishes : (r : Reader) (S T : StandsFor) (takes : Takes) (phase : Phase) → r.place ≡ Number phase
+    → length (lists_of r) ≡ 0 → HandsNumber r S T takes → JsonEndsText r S T takes (Ok tt)
+number_finishes r S T takes phase place none hands =
+    let closed : lists_of r ≡ [] = none_open (lists_of r) none in
     let (last, rest, is) = number_last most_levels r.number.items hands.tree hands.is in (
       last,
       subst (λ p. JsonRest most_levels (place_at r p) [] last) (sym place)
           (subst (λ ls. JsonRest most_levels (at (numeral r.number.items) ls) [] last) (sym closed) rest),
-      ap (λ es. json_handed_on r ++ es) is ∙ sym hands.taken ∙ same,
+      subst (λ es. TakesAll S es T) (sym is) hands.hands,
+      hands.takes_all,
     )
 
 pub owed_at : (r : Reader) (p : Place) → r.place ≡ p → IsOwed (where_of p r.number.items r.text.spot (string_so_far r.text))
@@ -345,7 +399,7 @@ text_owed r role place ts h =
     (λ t v x. string_owed r.text.spot (string_so_far r.text) t v r.text.live x)
     (subst (λ q. JsonRest most_levels (place_at r q) [] ts) place h)
 
-cut_at_place : (r : Reader) (p : Place) → r.place ≡ p → JsonIsSound r → ((phase : Phase) → p ≡ Number phase → ⊥) → (p ≡ After → 0 < r.depth)
+cut_at_place : (r : Reader) (p : Place) → r.place ≡ p → JsonIsSound r → ((phase : Phase) → p ≡ Number phase → ⊥) → (p ≡ After → 0 < length (lists_of r))
     → (ts : List TimedEvent) → JsonRest most_levels (json_state r) [] ts → ⊥
 cut_at_place r Value place sound n d ts h = owed_at r Value place tt ts h
 cut_at_place r FirstEntry place sound n d ts h = owed_at r FirstEntry place tt ts h
@@ -354,17 +408,21 @@ cut_at_place r NextKey place sound n d ts h = owed_at r NextKey place tt ts h
 cut_at_place r Colon place sound n d ts h = owed_at r Colon place tt ts h
 cut_at_place r After place sound n d ts h =
     let (none, e) = nothing_ends most_levels (lists_of r) ts (subst (λ q. JsonRest most_levels (place_at r q) [] ts) place h) in
-    let deep = d refl in omega (arith, sound.depth, ap length none)
+    let deep = d refl in omega (arith, ap length none)
 cut_at_place r (Word w taken) place sound n d ts h =
-    word_owed most_levels w taken (lists_of r) ts (kept_at r (Word w taken) place sound).1
+    word_owed most_levels w taken (lists_of r) ts (kept_at r (Word w taken) place sound)
     (subst (λ q. JsonRest most_levels (place_at r q) [] ts) place h)
 cut_at_place r (Number phase) place sound n d ts h = absurd (n phase refl)
 cut_at_place r (Text role) place sound n d ts h = text_owed r role place ts h
 
 -- at every place but in a number, and behind a value only while something is open
-pub cut_short : (r : Reader) → JsonIsSound r → ((phase : Phase) → r.place ≡ Number phase → ⊥) → (r.place ≡ After → 0 < r.depth)
+pub cut_short : (r : Reader) → JsonIsSound r → ((phase : Phase) → r.place ≡ Number phase → ⊥) → (r.place ≡ After → 0 < length (lists_of r))
     → (ts : List TimedEvent) → JsonRest most_levels (json_state r) [] ts → ⊥
 cut_short r sound no_number deep = cut_at_place r r.place refl sound no_number deep
+
+pub after_cut : (r : Reader) → r.place ≡ After → JsonIsSound r → 0 < length (lists_of r)
+    → (ts : List TimedEvent) → JsonRest most_levels (json_state r) [] ts → ⊥
+after_cut r e sound deep = cut_at_place r After e sound (λ phase x. cc) (λ x. deep)
 
 -- another byte than the next letter of a literal name
 pub letter_halts : (r : Reader) (w : Literal) (taken c : ℕ) → r.place ≡ Word w taken → taken < length (letters w)
@@ -373,71 +431,54 @@ letter_halts r w taken c place inside other =
     stops_from r (Word w taken) c place (λ limit. word_stops limit w taken c (get_or (letters w) taken 0) (lists_of r)
     (drop_more (letters w) taken 0 inside) (λ e. other (sym e)))
 
-pub white_run_takes : (r : Reader) (bs : List ℕ) (k : ℕ) → JsonIsSound r → TakesWhitespace (json_state r).place → 0 < length bs
+pub white_run_takes : (r : Reader) (S : StandsFor) (takes : Takes) (bs : List ℕ) (k : ℕ) → JsonIsSound r → JsonIsPlaced r S takes → TakesWhitespace (json_state r).place → 0 < length bs
     → k ≤ length (take (length bs - 1) (drop 1 bs))
-    → is_whitespace (get_or bs 0 0) ≡ true → AllWhitespace (take k (take (length bs - 1) (drop 1 bs))) → JsonTakesPrefix r bs r (Ok (1 + k))
-white_run_takes r bs k sound p some few here more =
+    → is_whitespace (get_or bs 0 0) ≡ true → AllWhitespace (take k (take (length bs - 1) (drop 1 bs))) → JsonTakesPrefix r S bs r S takes (Ok (1 + k))
+white_run_takes r S takes bs k sound placed p some few here more =
     let within : k ≤ length bs - 1 = omega (arith, ap length (rest_of bs 1), length-drop 1 bs) in
-    (omega arith, omega arith, white_run_goes r bs k sound p some within here more)
+    (omega arith, omega arith, feeds_nothing r r S takes (take (1 + k) bs) placed (white_run_goes r bs k sound p some within here more))
 
-pub string_refused : (r : Reader) (role : Role) (t : TextReader) (q : Reader) (bs : List ℕ) (refusal : TextRefusal) → JsonIsSound r
+pub string_refused : (r : Reader) (S T : StandsFor) (takes : Takes) (role : Role) (t : TextReader) (q : Reader) (bs : List ℕ) (refusal : TextRefusal) → JsonIsSound r
     → r.place ≡ Text role → ReadsString r.text t bs (Err refusal)
-    → JsonTakesPrefix r bs q (Err (as_syntax refusal))
-string_refused r role t q bs (BadString i) sound place (inside, stops, on) = string_halts r role t bs i sound place inside on stops
-string_refused r role t q bs NoRoom sound place h = tt
+    → JsonTakesPrefix r S bs q T takes (Err (as_syntax refusal))
+string_refused r S T takes role t q bs (BadString i) sound place (inside, stops, on) = string_halts r role t bs i sound place inside on stops
+string_refused r S T takes role t q bs NoRoom sound place h = tt
 
 -- one more letter of a literal name
-pub letter_goes : (r : Reader) (w : Literal) (taken c : ℕ) → JsonIsSound r → r.place ≡ Word w taken → taken + 1 < length (letters w)
+pub letter_goes : (r : Reader) (w : Literal) (taken c : ℕ) → r.place ≡ Word w taken → taken + 1 < length (letters w)
     → get_or (letters w) taken 0 ≡ c
-    → JsonGoes r (c ∷ []) (record r { place = Word w (taken + 1) })
-letter_goes r w taken c sound place inside same =
+    → JsonGoes r (c ∷ []) [] (record r { place = Word w (taken + 1) })
+letter_goes r w taken c place inside same =
     let cut : drop taken (letters w) ≡ c ∷ drop (taken + 1) (letters w) = drop_more (letters w) taken 0 (omega arith)
     ∙ ap (λ x. x ∷ drop (taken + 1) (letters w)) same in
     record {
-      out = [];
       leads = leads_from r (Word w taken) (c ∷ []) [] (place_at r (Word w (taken + 1))) place
           (λ limit up. letter_leads limit w taken c (lists_of r) cut);
-      taken = sym (append-nil (json_handed_on r));
-      sound = record {
-        depth = sound.depth;
-        room = sound.room;
-        keeps = ((kept_at r (Word w taken) place sound).0, inside);
-        content =
-            sound.content;
-      };
+      sound = inside;
     }
 
-literal_events : (w : Literal) → events (literal_node w) [] ≡ literal_event w ∷ []
-literal_events Literal.Null = refl
-literal_events Literal.True = refl
-literal_events Literal.False = refl
-
 -- the last letter of a literal name
-pub word_over : (r q : Reader) (w : Literal) (taken c : ℕ) → r.place ≡ Word w taken → taken < length (letters w)
+pub word_over : (r : Reader) (w : Literal) (taken c : ℕ) → r.place ≡ Word w taken → taken < length (letters w)
     → length (letters w) ≤ taken + 1 → get_or (letters w) taken 0 ≡ c
-    → q.place ≡ After → lists_of q ≡ lists_of r → json_handed_on q ≡ json_handed_on r ++ events (literal_node w) [] → JsonIsSound q
-    → JsonGoes r (c ∷ []) q
-word_over r q w taken c place inside last same there lists spoken sound =
+    → JsonGoes r (c ∷ []) (literal_event w ∷ []) (record r { place = After })
+word_over r w taken c place inside last same =
     let cut : drop taken (letters w) ≡ c ∷ [] =
     drop_more (letters w) taken 0 inside ∙ ap (λ x. get_or (letters w) taken 0 ∷ x) (drop_all (taken + 1) (letters w) last)
     ∙ ap (λ x. x ∷ []) same in
     record {
-      out = literal_event w ∷ [];
-      leads = leads_from r (Word w taken) (c ∷ []) (literal_event w ∷ []) (json_state q) place
-          (subst (λ p. LeadsTo (place_at r (Word w taken)) (c ∷ []) (literal_event w ∷ []) (place_at q p)) (sym there)
-          (subst (λ ls. LeadsTo (place_at r (Word w taken)) (c ∷ []) (literal_event w ∷ []) (at after ls)) (sym lists)
-          (λ limit up. word_ends limit w taken c (lists_of r) cut)));
-      taken = spoken ∙ ap (λ es. json_handed_on r ++ es) (literal_events w);
-      sound = sound;
+      leads = leads_from r (Word w taken) (c ∷ []) (literal_event w ∷ []) (at after (lists_of r)) place
+          (λ limit up. word_ends limit w taken c (lists_of r) cut);
+      sound = tt;
     }
 
 -- a turn behind the bytes before it
-pub turn_goes : (r q x : Reader) (bs : List ℕ) (i n : ℕ) → i < length bs → JsonGoes r (take i bs) q
-    → JsonTakesPrefix q (take (length bs - i) (drop i bs)) x (Ok n)
-    → (i + n ≤ length bs) × JsonGoes r (take (i + n) bs) x
-turn_goes r q x bs i n inside h (some, few, g) =
+pub turn_goes : (r q x : Reader) (S T U : StandsFor) (before behind : Takes) (bs : List ℕ) (i n : ℕ) → i < length bs
+    → JsonFeeds r S (take i bs) q T before → JsonTakesPrefix q T (take (length bs - i) (drop i bs)) x U behind (Ok n)
+    → (i + n ≤ length bs) × JsonFeeds r S (take (i + n) bs) x U behind
+turn_goes r q x S T U before behind bs i n inside h (some, few, g) =
     let within : n ≤ length bs - i = omega (arith, ap length (rest_of bs i), length-drop i bs) in
-    (omega arith, then_front_goes r q x bs i n (omega arith) within h g)
+    (omega arith, then_front_goes r q x S T U before behind bs i n (omega arith) within h g)
 
-pub turn_grows : (q x : Reader) (bs : List ℕ) (n : ℕ) → JsonTakesPrefix q bs x (Ok n) → 0 < n
-turn_grows q x bs n h = h.0
+pub turn_grows : (q x : Reader) (S T : StandsFor) (takes : Takes) (bs : List ℕ) (n : ℕ) → JsonTakesPrefix q S bs x T takes (Ok n)
+    → 0 < n
+turn_grows q x S T takes bs n h = h.0

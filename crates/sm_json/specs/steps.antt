@@ -4,6 +4,8 @@ pub mod Live
 pub mod Placing
 pub mod StringRuns
 pub mod StringReading
+pub mod Nesting
 pub mod Rest
+pub mod Feeding
 pub mod Machine
 pub mod Writing

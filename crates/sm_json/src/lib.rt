@@ -5,6 +5,7 @@ mod byte_form;
 mod escape;
 pub mod laws;
 mod length;
+mod nesting;
 mod place;
 mod plain;
 mod put;

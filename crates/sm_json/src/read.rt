@@ -11,10 +11,11 @@ ghost use Rattle.sm_json.specs.steps.Rest.{json_start};
 mod leaves;
 mod tokens;
 
+use crate::nesting::Nesting;
 use crate::place::Place;
 use crate::text::TextReader;
 use sm_tree::number::Phase;
-use sm_tree::{SyntaxRefusal, Tree, TreeBuilder};
+use sm_tree::{EventSink, SyntaxRefusal, Tree, TreeBuilder};
 use std::alloc::Global;
 
 /// Reads one JSON text.
@@ -22,10 +23,8 @@ use std::alloc::Global;
 pub struct Reader {
     /// Where the reader stands.
     place: Place,
-    /// Takes the events. What is open around the place is what is open in it.
-    builder: TreeBuilder,
-    /// How many lists and objects are open.
-    depth: usize,
+    /// What is open around the place.
+    lists: Nesting,
     /// The number that has begun, if the place is in one.
     number: Vec<u8>,
     /// The string that has begun, if the place is in one.
@@ -34,17 +33,15 @@ pub struct Reader {
 }
 
 impl Reader {
-    ghost use Rattle.sm_json.specs.steps.Machine.{JsonIsSound, JsonTakesPrefix, JsonTakesAll, JsonFinishes, json_state, json_handed_on};
+    ghost use Rattle.sm_json.specs.steps.Machine.{JsonIsSound, JsonIsPlaced, JsonTakesPrefix, JsonTakesAll, JsonEndsText, json_state};
 
     fn new(alloc: Global) -> Self
         ensures state { json_state result ≡ json_start }
-        ensures nothing { json_handed_on result ≡ [] }
         ensures sound { JsonIsSound result }
     {
         Reader {
             place: Place::Value,
-            builder: TreeBuilder::new(alloc),
-            depth: 0,
+            lists: Nesting::new(),
             number: Vec::new(alloc),
             text: TextReader::new(alloc),
             alloc,
@@ -53,30 +50,35 @@ impl Reader {
 
     // Takes some bytes, from the first one on, and says how many.
     #[tactic(auto, using(crate::proofs::Turns::refused_first))]
-    fn turn(&mut self, bytes: &[u8]) -> Result<usize, SyntaxRefusal>
+    fn turn<E: EventSink>(&mut self, bytes: &[u8], to: &mut E) -> Result<usize, SyntaxRefusal>
         requires sound { JsonIsSound self.old }
+        requires placed { JsonIsPlaced self.old (E.stands_for to.old) (E.takes to.old) }
         requires some { 0 < length bytes.now }
-        ensures { JsonTakesPrefix self.old bytes.now self.new result }
+        ensures goes { JsonTakesPrefix self.old (E.stands_for to.old) bytes.now self.new (E.stands_for to.new) (E.takes to.new) result }
+        ensures alike { E.alike to.old to.new }
     {
         match self.place {
-            Place::Text(role) => self.string(role, bytes),
-            Place::Number(phase) => self.number(phase, bytes),
-            Place::Word(word, taken) => match self.letter(word, taken, bytes[0]) {
+            Place::Text(role) => self.string(role, bytes, to),
+            Place::Number(phase) => self.number(phase, bytes, to),
+            Place::Word(word, taken) => match self.letter(word, taken, bytes[0], to) {
                 Ok(()) => Ok(1),
                 Err(refusal) => Err(refusal),
             },
-            _ => self.between(bytes),
+            _ => self.between(bytes, to),
         }
     }
 
     // Takes all the bytes.
-    fn feed(&mut self, bytes: &[u8]) -> Result<(), SyntaxRefusal>
+    #[tactic(auto, using(crate::proofs::Turns::feeds_nowhere))]
+    fn feed<E: EventSink>(&mut self, bytes: &[u8], to: &mut E) -> Result<(), SyntaxRefusal>
         requires sound { JsonIsSound self.old }
-        ensures { JsonTakesAll self.old bytes.now self.new result }
+        requires placed { JsonIsPlaced self.old (E.stands_for to.old) (E.takes to.old) }
+        ensures goes { JsonTakesAll self.old (E.stands_for to.old) bytes.now self.new (E.stands_for to.new) (E.takes to.new) result }
+        ensures alike { E.alike to.old to.new }
     {
         let mut at = 0;
         while at < bytes.len() {
-            match self.turn(&bytes[at..]) {
+            match self.turn(&bytes[at..], to) {
                 Ok(count) => at += count,
                 Err(refusal) => return Err(refusal.moved_by(at)),
             }
@@ -84,42 +86,39 @@ impl Reader {
         Ok(())
     }
 
-    // The tree, where the text ends with this number.
-    fn finish_number(mut self, phase: Phase) -> Result<Tree, SyntaxRefusal>
-        requires sound { JsonIsSound self }
-        requires place { self.place ≡ Place.Number phase }
-        ensures { JsonFinishes self result }
+    // Hands on the number with which the text ends.
+    fn finish_number<E: EventSink>(&self, phase: Phase, to: &mut E) -> Result<(), SyntaxRefusal>
+        requires sound { JsonIsSound self.now }
+        requires placed { JsonIsPlaced self.now (E.stands_for to.old) (E.takes to.old) }
+        requires place { self.now.place ≡ Place.Number phase }
+        ensures goes { JsonEndsText self.now (E.stands_for to.old) (E.stands_for to.new) (E.takes to.new) result }
+        ensures alike { E.alike to.old to.new }
     {
-        if self.depth > 0 {
+        if self.lists.depth() > 0 {
             return Err(SyntaxRefusal::Ended);
         }
         if !phase.is_whole() {
             return Err(SyntaxRefusal::Ended);
         }
-        self.hand_number(phase)?;
-        Ok(self.builder.finish())
+        self.hand_number(phase, to)?;
+        Ok(())
     }
 
-    // The tree, where the text ends behind this value.
-    fn finish_value(self) -> Result<Tree, SyntaxRefusal>
-        requires sound { JsonIsSound self }
-        requires place { self.place ≡ Place.After }
-        ensures { JsonFinishes self result }
-    {
-        if self.depth > 0 {
-            return Err(SyntaxRefusal::Ended);
-        }
-        Ok(self.builder.finish())
-    }
-
-    // The tree, where the text ends here.
-    fn finish(self) -> Result<Tree, SyntaxRefusal>
-        requires { JsonIsSound self }
-        ensures { JsonFinishes self result }
+    // The bytes end here: hands on what the end completes.
+    fn finish<E: EventSink>(&self, to: &mut E) -> Result<(), SyntaxRefusal>
+        requires sound { JsonIsSound self.now }
+        requires placed { JsonIsPlaced self.now (E.stands_for to.old) (E.takes to.old) }
+        ensures goes { JsonEndsText self.now (E.stands_for to.old) (E.stands_for to.new) (E.takes to.new) result }
+        ensures alike { E.alike to.old to.new }
     {
         match self.place {
-            Place::Number(phase) => self.finish_number(phase),
-            Place::After => self.finish_value(),
+            Place::Number(phase) => self.finish_number(phase, to),
+            Place::After => {
+                if self.lists.depth() > 0 {
+                    return Err(SyntaxRefusal::Ended);
+                }
+                Ok(())
+            }
             _ => Err(SyntaxRefusal::Ended),
         }
     }
@@ -141,8 +140,12 @@ pub fn read_tree(alloc: Global, bytes: &[u8]) -> Result<Tree, SyntaxRefusal>
     ensures json { IfOk result (λ tree. IsJson (node_of tree)) }
 {
     let mut reader = Reader::new(alloc);
-    match reader.feed(bytes) {
-        Ok(()) => reader.finish(),
+    let mut builder = TreeBuilder::new(alloc);
+    match reader.feed(bytes, &mut builder) {
+        Ok(()) => match reader.finish(&mut builder) {
+            Ok(()) => Ok(builder.finish()),
+            Err(refusal) => Err(refusal),
+        },
         Err(refusal) => Err(refusal),
     }
 }

@@ -1,8 +1,8 @@
 -- What comes next in a stream is what a builder that took the events before awaits.
-use Rattle.std.proofs.Common.{◌≡◌, ◌⊎◌, inl, inr, ℕ, true, List, [], ◌∷◌, ◌++◌, refl, ap, sym, ◌∙◌, append_assoc, subst, None}
+use Rattle.std.proofs.Common.{◌≡◌, ◌⊎◌, inl, inr, ℕ, true, List, [], ◌∷◌, ◌++◌, refl, ap, sym, ◌∙◌, append_assoc, subst, None, append-nil, false}
 use Rattle.sm_tree.specs.Node.{Node, Nodes, Members, null, bool, int, number, text, bytes, tag, opaque, list, object, no_nodes, node, no_members, member}
 use Rattle.sm_tree.specs.Events.{NodeEvent, null_event, bool_event, int_event, number_event, text_event, bytes_event, tag_event, opaque_event, start_list, end_list, start_object, key_event, end_object, events, entries_events, pairs_events}
-use Rattle.sm_tree.specs.Building.{Inner, in_list, in_object, in_pair, Around, around_list, around_object, Building, nothing, whole, within, tag_events, each_events, each_pair_events, inner_events, around_events, outer_events, so_far, awaits_value, is_tagged}
+use Rattle.sm_tree.specs.Building.{Inner, in_list, in_object, in_pair, Around, around_list, around_object, Building, nothing, whole, within, tag_events, each_events, each_pair_events, inner_events, around_events, outer_events, so_far, kinds, awaits_value, is_tagged}
 use Rattle.sm_tree.specs.steps.BuilderSteps.{Awaits}
 use Rattle.sm_tree.specs.Streams.{Streams, MayTake, TakesOn, unnumbered_event, unnumbered}
 use Rattle.sm_tree.proofs.Streams.{unnumbered_append, stream_events}
@@ -261,3 +261,43 @@ placed_awaited b e (es, stands, begins) =
 pub taken_on : (b c : Building) (e : NodeEvent) → so_far c ≡ so_far b ++ unnumbered_event e ∷ []
     → TakesOn (λ es. unnumbered es ≡ so_far b) e (λ es. unnumbered es ≡ so_far c)
 taken_on b c e taken es stands begins = unnumbered_append es (e ∷ []) ∙ ap (λ fs. fs ++ unnumbered_event e ∷ []) stands ∙ sym taken
+
+-- where a builder took the events of a whole tree, nothing is open in it and it awaits none
+no_tree : (n : Node) (gs : List NodeEvent) → [] ≡ events n gs → ⊥
+no_tree null gs h = cc
+no_tree (bool b) gs h = cc
+no_tree (int z) gs h = cc
+no_tree (number t) gs h = cc
+no_tree (text t) gs h = cc
+no_tree (bytes t) gs h = cc
+no_tree (tag k n) gs h = cc
+no_tree (opaque b) gs h = cc
+no_tree (list ns) gs h = cc
+no_tree (object ms) gs h = cc
+
+no_pairs_end : (ms : Members) (gs : List NodeEvent) → [] ≡ pairs_events ms gs → ⊥
+no_pairs_end no_members gs h = cc
+no_pairs_end (member k n ms) gs h = cc
+
+inner_open : (i : Inner) (n : Node) (gs : List NodeEvent) → inner_events i ≡ events n gs → ⊥
+inner_open (in_list ns us) n gs h =
+    ended (in_a_list ns us n [] gs (ap (λ es. start_list None ∷ es) (append-nil (each_events ns ++ tag_events us)) ∙ h))
+  where
+    ended : {ts : List ℕ} → ListGoesOn ts [] → ⊥
+    ended (inl tree) = no_tree tree.0 tree.1 tree.2
+    ended (inr end) = let is : [] ≡ end_list ∷ end.1.0 = end.1.1 in cc
+inner_open (in_object ms) n gs h =
+    let inside = object_opened n (each_pair_events ms) gs h in
+    let rest = behind_pairs ms inside.0 [] gs (append-nil (each_pair_events ms) ∙ inside.1) in no_pairs_end rest.0 gs rest.1
+inner_open (in_pair ms k us) n gs h =
+    let tree = in_a_pair ms k us n [] gs (ap (λ es. start_object None ∷ es) (append-nil (each_pair_events ms ++ key_event k ∷ tag_events us)) ∙ h) in
+    no_tree tree.0 tree.1 tree.2
+
+pub whole_closed : (b : Building) (n : Node) → so_far b ≡ events n [] → (kinds b ≡ []) × (awaits_value b ≡ false)
+whole_closed (nothing ts) n h =
+    let tree = behind_tags ts n [] [] (append-nil (tag_events ts) ∙ h) in absurd (no_tree tree.0 [] tree.1)
+whole_closed (whole m) n h = (refl, refl)
+whole_closed (within ts i outer) n h =
+    let inside = behind_tags ts n (outer_events outer ++ inner_events i) [] h in
+    let tree = behind_outer outer inside.0 (inner_events i) [] (subst Opens (append-nil (inner_events i)) (opened_inner i [])) inside.1 in
+    absurd (inner_open i tree.0 tree.1 tree.2)

@@ -1,16 +1,14 @@
 -- What a reader stands for, what it keeps, and what its steps do. The contracts of the reader's methods cite
 -- it; that of `read_tree` doesn't.
-use Rattle.std.specs.Prelude.{◌≡◌, ℕ, ◌+◌, ◌≤◌, ◌<◌, Bool, true, false, List, [], ◌∷◌, ◌++◌, take, length, Result, Ok, Err, slice_index}
+use Rattle.std.specs.Prelude.{◌≡◌, ℕ, ◌+◌, ◌≤◌, ◌<◌, true, List, [], ◌∷◌, take, drop, length, ◌⊎◌, Result, Ok, Err, slice_index}
 use Rattle.sm_bytes.specs.Ascii.{small_f, small_n, small_t}
 use Rattle.sm_tree.specs.Node.{Node}
 use Rattle.sm_tree.specs.Syntax.{most_levels}
 use Rattle.sm_tree.specs.Numbers.{NumberText}
 use Rattle.sm_tree.specs.Events.{NodeEvent, events, key_event, text_event}
+use Rattle.sm_tree.specs.Streams.{StandsFor, Takes, TakesEvery}
 use Rattle.sm_tree.specs.Timing.{TimedEvent, untimed}
-use Rattle.sm_tree.specs.View.{node_of}
-use Rattle.sm_tree.specs.declared.tree.Tree.{Tree}
-use Rattle.sm_tree.specs.Building.{so_far, kinds, awaits_value, awaits_content, goes_on, IsIn}
-use Rattle.sm_tree.specs.BuilderView.{building_of}
+use Rattle.sm_tree.specs.Building.{IsIn}
 use Rattle.sm_tree.specs.declared.build.OpenKind.{OpenKind}
 use Rattle.sm_tree.specs.declared.build.OpenKind.TheVariants.{List as a_list, Object as an_object}
 use Rattle.sm_tree.specs.declared.refusal.SyntaxRefusal.{SyntaxRefusal}
@@ -20,6 +18,9 @@ use Rattle.sm_json.specs.declared.text.TextRefusal.{TextRefusal}
 use Rattle.sm_json.specs.declared.text.TextRefusal.TheVariants.{Bad as BadString, NoMemory as NoRoom}
 use Rattle.sm_tree.specs.NumberTail.{NumberLeads, NumberStops}
 use Rattle.sm_tree.specs.declared.number.Run.{Run}
+use Rattle.sm_json.specs.steps.Nesting.{nesting_of}
+use Rattle.sm_tree.specs.steps.Handing.{TakesAll}
+use Rattle.sm_json.specs.steps.Feeding.{IsPlaced}
 use Rattle.sm_json.specs.steps.StringReading.{string_so_far}
 use Rattle.sm_json.specs.steps.Rest.{Where, value, first_entry, first_key, next_key, colon, after, word, numeral, in_text, JsonState, letters, JsonRest, JsonLeads, JsonGoesOn, JsonStops}
 use Rattle.sm_tree.specs.declared.number.Phase.TheVariants.{Start}
@@ -51,45 +52,47 @@ where_of (Text role) b spot t = in_text role spot t
 
 -- what is open around the reader's place
 abbrev pub lists_of : Reader → List OpenKind
-lists_of r = kinds (building_of r.builder)
+lists_of r = nesting_of r.lists
 
 abbrev pub json_state : Reader → JsonState
 json_state r = record { place = where_of r.place r.number.items r.text.spot (string_so_far r.text); lists = lists_of r }
 
--- the events that a reader has handed on
-abbrev pub json_handed_on : Reader → List NodeEvent
-json_handed_on r = so_far (building_of r.builder)
-
--- what the builder awaits at each place, and what the place itself keeps
-abbrev pub PlaceKeeps : Place → List ℕ → List OpenKind → Bool → Type 0
-PlaceKeeps Value b ks awaits = awaits ≡ true
-PlaceKeeps FirstEntry b ks awaits = IsIn a_list ks × (awaits ≡ true)
-PlaceKeeps FirstKey b ks awaits = IsIn an_object ks × (awaits ≡ false)
-PlaceKeeps NextKey b ks awaits = IsIn an_object ks × (awaits ≡ false)
-PlaceKeeps Colon b ks awaits = awaits ≡ true
-PlaceKeeps After b ks awaits = awaits ≡ goes_on ks
-PlaceKeeps (Word w taken) b ks awaits = (awaits ≡ true) × (taken < length (letters w))
-PlaceKeeps (Number phase) b ks awaits = (awaits ≡ true) × NumberLeads Start b phase
-PlaceKeeps (Text Key) b ks awaits = IsIn an_object ks × (awaits ≡ false)
-PlaceKeeps (Text Whole) b ks awaits = awaits ≡ true
+-- what each place keeps
+abbrev pub PlaceKeeps : Place → List ℕ → List OpenKind → Type 0
+PlaceKeeps Value b ks = Unit {0}
+PlaceKeeps FirstEntry b ks = IsIn a_list ks
+PlaceKeeps FirstKey b ks = IsIn an_object ks
+PlaceKeeps NextKey b ks = Unit {0}
+PlaceKeeps Colon b ks = Unit {0}
+PlaceKeeps After b ks = Unit {0}
+PlaceKeeps (Word w taken) b ks = taken < length (letters w)
+PlaceKeeps (Number phase) b ks = NumberLeads Start b phase
+PlaceKeeps (Text role) b ks = Unit {0}
 
 -- what holds of a reader between two bytes
-pub record JsonIsSound (r : Reader) : Type 0 where
-  pub depth : r.depth ≡ length (lists_of r)
-  pub room : r.depth ≤ most_levels
-  pub keeps : PlaceKeeps r.place r.number.items (lists_of r) (awaits_value (building_of r.builder))
-  pub content : awaits_content (building_of r.builder) ≡ false
+abbrev pub JsonIsSound : Reader → Type 0
+JsonIsSound r = PlaceKeeps r.place r.number.items (lists_of r)
+
+-- the sink takes every event, and stands for what came before this reader's place
+pub record JsonIsPlaced (r : Reader) (S : StandsFor) (takes : Takes) : Type 0 where
+  pub takes_all : TakesEvery takes
+  pub placed : IsPlaced (json_state r) S
 
 -- the bytes w lead from one state to another, and complete the events `out`: at each limit from the reader's on
 abbrev pub LeadsTo : JsonState → List ℕ → List NodeEvent → JsonState → Type 0
 LeadsTo before w out behind = (limit : ℕ) → most_levels ≤ limit → JsonLeads limit before w out behind
 
--- the bytes w lead the reader on, and the events that they complete are handed on
-pub record JsonGoes (before : Reader) (w : List ℕ) (behind : Reader) : Type 0 where
-  pub out : List NodeEvent
+-- the bytes w lead the reader on, and complete the events `out`
+pub record JsonGoes (before : Reader) (w : List ℕ) (out : List NodeEvent) (behind : Reader) : Type 0 where
   pub leads : LeadsTo (json_state before) w out (json_state behind)
-  pub taken : json_handed_on behind ≡ json_handed_on before ++ out
   pub sound : JsonIsSound behind
+
+-- and the sink was handed them
+pub record JsonFeeds (before : Reader) (S : StandsFor) (w : List ℕ) (behind : Reader) (T : StandsFor) (takes : Takes) : Type 0 where
+  pub out : List NodeEvent
+  pub goes : JsonGoes before w out behind
+  pub hands : TakesAll S out T
+  pub takes_all : TakesEvery takes
 
 -- with the byte c no text goes on from this state, however deep texts may nest
 abbrev pub Halts : JsonState → ℕ → Type 0
@@ -100,21 +103,33 @@ pub record Deepens (x : JsonState) (c : ℕ) : Type 0 where
   pub stops : JsonStops most_levels x c
   pub deeper : JsonGoesOn (most_levels + 1) x (c ∷ [])
 
--- what a byte does to the reader
-abbrev pub JsonTakesByte : Reader → ℕ → Reader → Result (Unit {0}) SyntaxRefusal → Type 0
-JsonTakesByte before c behind (Ok x) = JsonGoes before (c ∷ []) behind
-JsonTakesByte before c behind (Err NoMemory) = Unit {0}
-JsonTakesByte before c behind (Err (Bad at)) = (at ≡ 0) × Halts (json_state before) c
-JsonTakesByte before c behind (Err Ended) = ⊥
-JsonTakesByte before c behind (Err (TooDeep at)) = (at ≡ 0) × Deepens (json_state before) c
-JsonTakesByte before c behind (Err (KeyKind at)) = ⊥
+-- what a byte does to the reader and the sink
+abbrev pub JsonTakesByte : Reader → StandsFor → ℕ → Reader → StandsFor → Takes → Result (Unit {0}) SyntaxRefusal → Type 0
+JsonTakesByte before S c behind T takes (Ok x) = JsonFeeds before S (c ∷ []) behind T takes
+JsonTakesByte before S c behind T takes (Err NoMemory) = Unit {0}
+JsonTakesByte before S c behind T takes (Err (Bad at)) = (at ≡ 0) × Halts (json_state before) c
+JsonTakesByte before S c behind T takes (Err Ended) = ⊥
+JsonTakesByte before S c behind T takes (Err (TooDeep at)) = (at ≡ 0) × Deepens (json_state before) c
+JsonTakesByte before S c behind T takes (Err (KeyKind at)) = ⊥
 
--- a list or an object has ended with the event e, and the reader stands behind it
-pub record HasClosed (before : Reader) (k : OpenKind) (e : NodeEvent) (behind : Reader) : Type 0 where
-  pub lists : lists_of before ≡ k ∷ lists_of behind
-  pub taken : json_handed_on behind ≡ json_handed_on before ++ e ∷ []
+-- what it does where it completes no event and opens nothing
+abbrev pub JsonStepsByte : Reader → ℕ → Reader → Result (Unit {0}) SyntaxRefusal → Type 0
+JsonStepsByte before c behind (Ok x) = JsonGoes before (c ∷ []) [] behind
+JsonStepsByte before c behind (Err NoMemory) = Unit {0}
+JsonStepsByte before c behind (Err (Bad at)) = (at ≡ 0) × Halts (json_state before) c
+JsonStepsByte before c behind (Err Ended) = ⊥
+JsonStepsByte before c behind (Err (TooDeep at)) = ⊥
+JsonStepsByte before c behind (Err (KeyKind at)) = ⊥
+
+-- the places where a list and an object may end
+abbrev pub ClosesAt : OpenKind → Place → Type 0
+ClosesAt a_list p = (p ≡ FirstEntry) ⊎ (p ≡ After)
+ClosesAt an_object p = (p ≡ FirstKey) ⊎ (p ≡ After)
+
+-- what was open innermost has ended, and the reader stands behind it
+pub record HasClosed (before behind : Reader) : Type 0 where
+  pub lists : lists_of behind ≡ drop 1 (lists_of before)
   pub place : behind.place ≡ After
-  pub sound : JsonIsSound behind
 
 -- the first letter of a literal name
 abbrev pub first_letter : Literal → ℕ
@@ -142,33 +157,32 @@ pub record DeepensAt (x : JsonState) (bs : List ℕ) (at : ℕ) : Type 0 where
   pub stops : JsonGoesOn most_levels x (take (at + 1) bs) → ⊥
 
 -- what the reader makes of some bytes, from the first one on: it takes so many of them, or refuses one of them
-abbrev pub JsonTakesPrefix : Reader → List ℕ → Reader → Result ℕ SyntaxRefusal → Type 0
-JsonTakesPrefix before bs behind (Ok n) = (0 < n) × (n ≤ length bs) × JsonGoes before (take n bs) behind
-JsonTakesPrefix before bs behind (Err NoMemory) = Unit {0}
-JsonTakesPrefix before bs behind (Err (Bad at)) = HaltsAt (json_state before) bs at
-JsonTakesPrefix before bs behind (Err Ended) = ⊥
-JsonTakesPrefix before bs behind (Err (TooDeep at)) = DeepensAt (json_state before) bs at
-JsonTakesPrefix before bs behind (Err (KeyKind at)) = ⊥
+abbrev pub JsonTakesPrefix : Reader → StandsFor → List ℕ → Reader → StandsFor → Takes → Result ℕ SyntaxRefusal → Type 0
+JsonTakesPrefix before S bs behind T takes (Ok n) = (0 < n) × (n ≤ length bs) × JsonFeeds before S (take n bs) behind T takes
+JsonTakesPrefix before S bs behind T takes (Err NoMemory) = Unit {0}
+JsonTakesPrefix before S bs behind T takes (Err (Bad at)) = HaltsAt (json_state before) bs at
+JsonTakesPrefix before S bs behind T takes (Err Ended) = ⊥
+JsonTakesPrefix before S bs behind T takes (Err (TooDeep at)) = DeepensAt (json_state before) bs at
+JsonTakesPrefix before S bs behind T takes (Err (KeyKind at)) = ⊥
 
 -- what it makes of all of them
-abbrev pub JsonTakesAll : Reader → List ℕ → Reader → Result (Unit {0}) SyntaxRefusal → Type 0
-JsonTakesAll before bs behind (Ok x) = JsonGoes before bs behind
-JsonTakesAll before bs behind (Err NoMemory) = Unit {0}
-JsonTakesAll before bs behind (Err (Bad at)) = HaltsAt (json_state before) bs at
-JsonTakesAll before bs behind (Err Ended) = ⊥
-JsonTakesAll before bs behind (Err (TooDeep at)) = DeepensAt (json_state before) bs at
-JsonTakesAll before bs behind (Err (KeyKind at)) = ⊥
+abbrev pub JsonTakesAll : Reader → StandsFor → List ℕ → Reader → StandsFor → Takes → Result (Unit {0}) SyntaxRefusal → Type 0
+JsonTakesAll before S bs behind T takes (Ok x) = JsonFeeds before S bs behind T takes
+JsonTakesAll before S bs behind T takes (Err NoMemory) = Unit {0}
+JsonTakesAll before S bs behind T takes (Err (Bad at)) = HaltsAt (json_state before) bs at
+JsonTakesAll before S bs behind T takes (Err Ended) = ⊥
+JsonTakesAll before S bs behind T takes (Err (TooDeep at)) = DeepensAt (json_state before) bs at
+JsonTakesAll before S bs behind T takes (Err (KeyKind at)) = ⊥
 
--- the bytes end here: the events are those of the tree, or no text ends so
-abbrev pub JsonFinishes : Reader → Result Tree SyntaxRefusal → Type 0
-JsonFinishes reader (Ok tree) =
-    (last : List TimedEvent) × JsonRest most_levels (json_state reader) [] last
-    × (json_handed_on reader ++ untimed last ≡ events (node_of tree) [])
-JsonFinishes reader (Err NoMemory) = Unit {0}
-JsonFinishes reader (Err (Bad at)) = ⊥
-JsonFinishes reader (Err Ended) = (ts : List TimedEvent) → JsonRest most_levels (json_state reader) [] ts → ⊥
-JsonFinishes reader (Err (TooDeep at)) = ⊥
-JsonFinishes reader (Err (KeyKind at)) = ⊥
+-- the bytes end here: the sink was handed the events that the end completes, or no text ends so
+abbrev pub JsonEndsText : Reader → StandsFor → StandsFor → Takes → Result (Unit {0}) SyntaxRefusal → Type 0
+JsonEndsText reader S T takes (Ok x) =
+    (last : List TimedEvent) × JsonRest most_levels (json_state reader) [] last × TakesAll S (untimed last) T × TakesEvery takes
+JsonEndsText reader S T takes (Err NoMemory) = Unit {0}
+JsonEndsText reader S T takes (Err (Bad at)) = ⊥
+JsonEndsText reader S T takes (Err Ended) = (ts : List TimedEvent) → JsonRest most_levels (json_state reader) [] ts → ⊥
+JsonEndsText reader S T takes (Err (TooDeep at)) = ⊥
+JsonEndsText reader S T takes (Err (KeyKind at)) = ⊥
 
 -- whitespace may stand before the token that comes next
 abbrev pub TakesWhitespace : Where → Type 0
@@ -185,18 +199,20 @@ TakesWhitespace (in_text role spot b) = ⊥
 -- the bytes of the run have been taken by the number, and the next one, if there is one, doesn't go on with it
 pub record Grows (before : Reader) (bs : List ℕ) (run : Run) (behind : Reader) : Type 0 where
   pub inside : run.count ≤ length bs
-  pub goes : JsonGoes before (take run.count bs) behind
+  pub goes : JsonGoes before (take run.count bs) [] behind
   pub place : behind.place ≡ Number run.phase
   pub stops : run.count < length bs → NumberStops run.phase (slice_index bs run.count)
 
--- the number has been handed on as the one tree of its text, and the reader stands behind it
-pub record HandsNumber (before behind : Reader) : Type 0 where
+-- this is the event of the number with this text
+abbrev pub IsNumberEvent : List ℕ → NodeEvent → Type 0
+IsNumberEvent b e = (n : Node) × NumberText n b × (events n [] ≡ e ∷ [])
+
+-- the number has been handed on as the one tree of its text
+pub record HandsNumber (reader : Reader) (S T : StandsFor) (takes : Takes) : Type 0 where
   pub tree : Node
-  pub is : NumberText tree before.number.items
-  pub taken : json_handed_on behind ≡ json_handed_on before ++ events tree []
-  pub lists : lists_of behind ≡ lists_of before
-  pub place : behind.place ≡ After
-  pub sound : JsonIsSound behind
+  pub is : NumberText tree reader.number.items
+  pub hands : TakesAll S (events tree []) T
+  pub takes_all : TakesEvery takes
 
 -- where a reader stands behind a string of this role, and the event of the string
 abbrev pub behind_text : Role → Place
@@ -208,11 +224,11 @@ text_event_of Key t = key_event t
 text_event_of Whole t = text_event t
 
 -- the string has been handed on, and the reader stands behind it
-pub record HandsText (role : Role) (before behind : Reader) : Type 0 where
-  pub taken : json_handed_on behind ≡ json_handed_on before ++ text_event_of role (string_so_far before.text) ∷ []
+pub record HandsText (role : Role) (before : Reader) (S : StandsFor) (behind : Reader) (T : StandsFor) (takes : Takes) : Type 0 where
+  pub hands : TakesAll S (text_event_of role (string_so_far before.text) ∷ []) T
+  pub takes_all : TakesEvery takes
   pub lists : lists_of behind ≡ lists_of before
   pub place : behind.place ≡ behind_text role
-  pub sound : JsonIsSound behind
 
 -- the refusal of a string as that of a text
 abbrev pub as_syntax : TextRefusal → SyntaxRefusal

@@ -1,15 +1,17 @@
 // The steps of the reader within a literal name, a number and a string, and where these end.
 ghost use Rattle.std.specs.Prelude.{◌≡◌, ◌<◌, length, IfOk, OnOk, []};
-ghost use Rattle.sm_tree.specs.View.{node_of};
+ghost use Rattle.sm_tree.specs.EventView.{event_of};
+ghost use Rattle.sm_tree.specs.Numbers.{IsNumber};
+ghost use Rattle.sm_tree.specs.Streams.{MayTake, TakesEvery};
 ghost use Rattle.sm_tree.specs.NumberTail.{NumberStops, NumberTail};
-ghost use Rattle.sm_json.specs.steps.Rest.{letters, literal_node};
+ghost use Rattle.sm_json.specs.steps.Rest.{letters, literal_event};
 ghost use Rattle.sm_json.specs.steps.Machine.{as_syntax};
 
 use super::Reader;
 use crate::place::{Literal, Place, Role};
 use crate::text::{Reading, TextRefusal};
 use sm_tree::number::{Phase, Run, number_run, number_tree};
-use sm_tree::{NoMemory, SyntaxRefusal, Tree};
+use sm_tree::{Event, EventSink, NoMemory, SyntaxRefusal, Tree};
 
 impl Literal {
     // The letters of the name.
@@ -23,27 +25,36 @@ impl Literal {
         }
     }
 
-    fn tree(self) -> Tree
-        ensures { node_of result ≡ literal_node self }
+    // Its event.
+    fn leaf(self) -> Event
+        ensures { event_of result ≡ literal_event self }
     {
         match self {
-            Literal::Null => Tree::Null,
-            Literal::True => Tree::Bool(true),
-            Literal::False => Tree::Bool(false),
+            Literal::Null => Event::Null,
+            Literal::True => Event::Bool(true),
+            Literal::False => Event::Bool(false),
         }
     }
 }
 
 impl Reader {
-    ghost use Rattle.sm_json.specs.steps.Machine.{JsonIsSound, JsonTakesByte, Grows, HandsNumber, HandsText, JsonTakesPrefix};
+    ghost use Rattle.sm_json.specs.steps.Machine.{JsonIsSound, JsonIsPlaced, JsonTakesByte, Grows, HandsNumber, HandsText, IsNumberEvent, JsonTakesPrefix, text_event_of};
+    ghost use Rattle.sm_json.specs.steps.StringReading.{string_so_far};
 
     // One more byte of a literal name.
-    #[tactic(auto, using(crate::proofs::Turns::word_over))]
-    pub(super) fn letter(&mut self, word: Literal, taken: u8, byte: u8) -> Result<(), SyntaxRefusal>
+    pub(super) fn letter<E: EventSink>(
+        &mut self,
+        word: Literal,
+        taken: u8,
+        byte: u8,
+        to: &mut E,
+    ) -> Result<(), SyntaxRefusal>
         requires sound { JsonIsSound self.old }
+        requires placed { JsonIsPlaced self.old (E.stands_for to.old) (E.takes to.old) }
         requires place { self.old.place ≡ Place.Word word taken }
         requires begun { taken < length (letters word) }
-        ensures { JsonTakesByte self.old byte self.new result }
+        ensures goes { JsonTakesByte self.old (E.stands_for to.old) byte self.new (E.stands_for to.new) (E.takes to.new) result }
+        ensures alike { E.alike to.old to.new }
     {
         let name = word.letters();
         let at = taken as usize;
@@ -53,7 +64,7 @@ impl Reader {
         if at + 1 < name.len() {
             self.place = Place::Word(word, taken + 1);
         } else {
-            self.builder.value(word.tree())?;
+            to.event(word.leaf())?;
             self.place = Place::After;
         }
         Ok(())
@@ -71,64 +82,92 @@ impl Reader {
         Ok(run)
     }
 
-    // Hands on the number, which is whole.
-    pub(super) fn hand_number(&mut self, phase: Phase) -> Result<(), NoMemory>
-        requires sound { JsonIsSound self.old }
-        requires place { self.old.place ≡ Place.Number phase }
-        requires whole { NumberTail phase [] }
-        ensures { OnOk result (HandsNumber self.old self.new) }
+    // The event of the number, which is whole.
+    fn number_event(&self) -> Result<Event, NoMemory>
+        requires { IsNumber self.now.number.items }
+        ensures { IfOk result (λ event. IsNumberEvent self.now.number.items (event_of event)) }
     {
-        let tree = number_tree(self.alloc, self.number.as_slice())?;
-        self.builder.value(tree)?;
-        self.place = Place::After;
-        Ok(())
+        match number_tree(self.alloc, self.number.as_slice())? {
+            Tree::Int(integer) => Ok(Event::Int(integer)),
+            Tree::Number(text) => Ok(Event::Number(text)),
+            _ => unreachable!(),
+        }
+    }
+
+    // Hands on the number, which is whole. The reader stays where it is.
+    pub(super) fn hand_number<E: EventSink>(&self, phase: Phase, to: &mut E) -> Result<(), NoMemory>
+        requires sound { JsonIsSound self.now }
+        requires placed { JsonIsPlaced self.now (E.stands_for to.old) (E.takes to.old) }
+        requires place { self.now.place ≡ Place.Number phase }
+        requires whole { NumberTail phase [] }
+        ensures goes { OnOk result (HandsNumber self.now (E.stands_for to.old) (E.stands_for to.new) (E.takes to.new)) }
+        ensures alike { E.alike to.old to.new }
+    {
+        let event = self.number_event()?;
+        to.event(event)
     }
 
     // A byte that the number doesn't go on with.
-    fn end_number(&mut self, phase: Phase, byte: u8) -> Result<(), SyntaxRefusal>
+    fn end_number<E: EventSink>(
+        &mut self,
+        phase: Phase,
+        byte: u8,
+        to: &mut E,
+    ) -> Result<(), SyntaxRefusal>
         requires sound { JsonIsSound self.old }
+        requires placed { JsonIsPlaced self.old (E.stands_for to.old) (E.takes to.old) }
         requires place { self.old.place ≡ Place.Number phase }
         requires stops { NumberStops phase byte }
-        ensures { JsonTakesByte self.old byte self.new result }
+        ensures goes { JsonTakesByte self.old (E.stands_for to.old) byte self.new (E.stands_for to.new) (E.takes to.new) result }
+        ensures alike { E.alike to.old to.new }
     {
         if !phase.is_whole() {
             return Err(SyntaxRefusal::Bad(0));
         }
-        self.hand_number(phase)?;
-        self.behind(byte)
+        self.hand_number(phase, to)?;
+        self.place = Place::After;
+        self.behind(byte, to)
     }
 
     // Bytes in a number.
-    pub(super) fn number(&mut self, phase: Phase, bytes: &[u8]) -> Result<usize, SyntaxRefusal>
+    pub(super) fn number<E: EventSink>(
+        &mut self,
+        phase: Phase,
+        bytes: &[u8],
+        to: &mut E,
+    ) -> Result<usize, SyntaxRefusal>
         requires sound { JsonIsSound self.old }
+        requires placed { JsonIsPlaced self.old (E.stands_for to.old) (E.takes to.old) }
         requires place { self.old.place ≡ Place.Number phase }
         requires some { 0 < length bytes.now }
-        ensures { JsonTakesPrefix self.old bytes.now self.new result }
+        ensures goes { JsonTakesPrefix self.old (E.stands_for to.old) bytes.now self.new (E.stands_for to.new) (E.takes to.new) result }
+        ensures alike { E.alike to.old to.new }
     {
         let run = self.grow_number(phase, bytes)?;
         if run.count == bytes.len() {
             return Ok(run.count);
         }
-        match self.end_number(run.phase, bytes[run.count]) {
+        match self.end_number(run.phase, bytes[run.count], to) {
             Ok(()) => Ok(run.count + 1),
             Err(refusal) => Err(refusal.moved_by(run.count)),
         }
     }
 
     // Hands on the string, which has closed.
-    fn hand_text(&mut self, role: Role) -> Result<(), NoMemory>
-        requires sound { JsonIsSound self.old }
-        requires place { self.old.place ≡ Place.Text role }
-        ensures { OnOk result (HandsText role self.old self.new) }
+    fn hand_text<E: EventSink>(&mut self, role: Role, to: &mut E) -> Result<(), NoMemory>
+        requires taken { TakesEvery (E.takes to.old) }
+        requires placed { MayTake (E.stands_for to.old) (text_event_of role (string_so_far self.old.text)) }
+        ensures goes { OnOk result (HandsText role self.old (E.stands_for to.old) self.new (E.stands_for to.new) (E.takes to.new)) }
+        ensures alike { E.alike to.old to.new }
     {
         let text = self.text.text(self.alloc)?;
         match role {
             Role::Key => {
-                self.builder.key(text);
+                to.event(Event::Key(text))?;
                 self.place = Place::Colon;
             }
             Role::Value => {
-                self.builder.value(Tree::Text(text))?;
+                to.event(Event::Text(text))?;
                 self.place = Place::After;
             }
         }
@@ -136,15 +175,22 @@ impl Reader {
     }
 
     // Bytes in a string.
-    pub(super) fn string(&mut self, role: Role, bytes: &[u8]) -> Result<usize, SyntaxRefusal>
+    pub(super) fn string<E: EventSink>(
+        &mut self,
+        role: Role,
+        bytes: &[u8],
+        to: &mut E,
+    ) -> Result<usize, SyntaxRefusal>
         requires sound { JsonIsSound self.old }
+        requires placed { JsonIsPlaced self.old (E.stands_for to.old) (E.takes to.old) }
         requires place { self.old.place ≡ Place.Text role }
         requires some { 0 < length bytes.now }
-        ensures { JsonTakesPrefix self.old bytes.now self.new result }
+        ensures goes { JsonTakesPrefix self.old (E.stands_for to.old) bytes.now self.new (E.stands_for to.new) (E.takes to.new) result }
+        ensures alike { E.alike to.old to.new }
     {
         match self.text.read(bytes) {
             Ok(Reading::Closed(count)) => {
-                self.hand_text(role)?;
+                self.hand_text(role, to)?;
                 Ok(count)
             }
             Ok(Reading::Open) => Ok(bytes.len()),

@@ -1,12 +1,14 @@
 use Rattle.std.proofs.Common.{◌≤◌, ◌-◌, length, take}
-use Rattle.sm_json.specs.steps.Machine.{JsonGoes}
+use Rattle.sm_json.specs.steps.Machine.{JsonFeeds}
 use Rattle.sm_json.proofs.read.Reader.feed.Given as goal
 
 abbrev pub invariant-loop-at : goal.invariant-loop-at
-invariant-loop-at l = record {
+invariant-loop-at g l = record {
   inside : l.at ≤ length l.bytes;
-  goes : JsonGoes l.fn.self (take l.at l.bytes) l.self;
+  fed : JsonFeeds l.fn.self (g.E.EventSink.stands_for l.fn.to) (take l.at l.bytes) l.self (g.E.EventSink.stands_for l.to)
+      (g.E.EventSink.takes l.to);
+  alike : g.E.EventSink.alike l.fn.to l.to;
 }
 
 abbrev pub decreases-loop-at : goal.decreases-loop-at
-decreases-loop-at l = length l.bytes - l.at
+decreases-loop-at g l = length l.bytes - l.at

@@ -1,10 +1,16 @@
 use Rattle.std.proofs.Common.{refl, arith}
 use Rattle.sm_json.proofs.Readers.{list_goes, list_deepens}
+use Rattle.sm_json.proofs.Turns.{feeds_event}
+use Rattle.sm_json.proofs.MayCome.{list_may_open}
 use Rattle.sm_json.proofs.read.Reader.open_list.Goals as goal
 
-pub returns-then-self-ge-MOST_LEVELS : goal.returns-then-self-ge-MOST_LEVELS
-returns-then-self-ge-MOST_LEVELS c = (refl, list_deepens c.args.self.now c.requires.sound c.requires.place (omega arith))
+pub returns-then-depth-ge-MOST_LEVELS-clause-goes : goal.returns-then-depth-ge-MOST_LEVELS-clause-goes
+returns-then-depth-ge-MOST_LEVELS-clause-goes g c = (refl, list_deepens c.args.self.now c.requires.place (omega (arith, c.depth.ensures, c.if-depth-ge-MOST_LEVELS.true)))
 
-pub returns : goal.returns
-returns c = list_goes c.args.self.now _ c.requires.sound c.requires.place (omega arith) refl refl c.in_ok-start_list.ensures.kinds
-    c.in_ok-start_list.ensures.awaits c.in_ok-start_list.ensures.content c.in_ok-start_list.ensures.taken
+pub returns-clause-goes : goal.returns-clause-goes
+returns-clause-goes g c = feeds_event c.args.self.now _ _ _ _ _ _ _ c.requires.placed (list_goes c.args.self.now _ c.requires.place refl c.enter.ensures)
+    c.in_ok-event.ensures.stands c.in_ok-event.ensures.takes_same
+
+pub event-requires-clause-placed : goal.event-requires-clause-placed
+event-requires-clause-placed g c = list_may_open c.args.self.now _ _ c.requires.place
+    (omega (arith, c.depth.ensures, c.if-depth-ge-MOST_LEVELS.false)) c.requires.placed
