@@ -22,7 +22,7 @@ use Rattle.sm_tree.proofs.Events.{events_injective}
 use Rattle.sm_json.specs.JsonText.{JsonText, json_syntax}
 use Rattle.sm_json.specs.steps.Rest.{json_start, JsonLeads, JsonGoesOn}
 use Rattle.sm_json.specs.steps.Feeding.{IsPlaced}
-use Rattle.sm_json.specs.steps.Machine.{json_state, JsonIsPlaced, JsonGoes, JsonFeeds, HaltsAt, DeepensAt, JsonTakesAll, JsonEndsText}
+use Rattle.sm_json.specs.steps.Machine.{json_state, JsonIsPlaced, JsonGoes, JsonBrings, HaltsAt, DeepensAt, JsonTakesAll, JsonEndsText}
 use Rattle.sm_json.specs.declared.read.Reader.{Reader}
 use Rattle.sm_json.proofs.SpeltTrees.{text_json}
 use Rattle.sm_json.proofs.Whole.{leads_none, start_text, text_start, run_is_text, run_is_cut}
@@ -51,13 +51,13 @@ begins_none bs none (more, n, text) =
     none (most_levels + levels n) (omega arith) (text_begun (most_levels + levels n) bs more n text (omega arith))
 
 -- the refusals of a reader that began with these bytes
-bad_from_start : (bs : List ℕ) (i : ℕ) → HaltsAt json_start bs i → Reads json_syntax bs (Err (Bad i))
+pub bad_from_start : (bs : List ℕ) (i : ℕ) → HaltsAt json_start bs i → Reads json_syntax bs (Err (Bad i))
 bad_from_start bs i h = record {
   bad = record { inside = h.inside; before = begins_read (take i bs) h.before; behind = begins_none (take (i + 1) bs) h.behind };
   no_key_kind = λ key. key.key;
 }
 
-deep_from_start : (bs : List ℕ) (i : ℕ) → DeepensAt json_start bs i → Reads json_syntax bs (Err (TooDeep i))
+pub deep_from_start : (bs : List ℕ) (i : ℕ) → DeepensAt json_start bs i → Reads json_syntax bs (Err (TooDeep i))
 deep_from_start bs i h = record {
   inside = h.inside;
   before = begins_read (take i bs) h.before;
@@ -68,9 +68,9 @@ deep_from_start bs i h = record {
 pub feed_refused : (r q : Reader) (S T : StandsFor) (takes : Takes) (bs : List ℕ) (refusal : SyntaxRefusal)
     → json_state r ≡ json_start → JsonTakesAll r S bs q T takes (Err refusal)
     → Reads json_syntax bs (Err refusal)
-feed_refused r q S T takes bs (Bad p) begins h = bad_from_start bs p (subst (λ x. HaltsAt x bs p) begins h)
+feed_refused r q S T takes bs (Bad p) begins h = bad_from_start bs p (subst (λ x. HaltsAt x bs p) begins h.0)
 feed_refused r q S T takes bs Ended begins h = absurd h
-feed_refused r q S T takes bs (TooDeep p) begins h = deep_from_start bs p (subst (λ x. DeepensAt x bs p) begins h)
+feed_refused r q S T takes bs (TooDeep p) begins h = deep_from_start bs p (subst (λ x. DeepensAt x bs p) begins h.0)
 feed_refused r q S T takes bs (KeyKind p) begins h = absurd h
 feed_refused r q S T takes bs NoMemory begins h = tt
 
@@ -92,7 +92,7 @@ begun_leads r q bs out goes begins = subst (λ x. JsonLeads most_levels x bs out
 
 -- the bytes end: the builder has taken the events of the one tree of the text, or they are no text
 pub text_built : (r q : Reader) (bs : List ℕ) (first behind_bytes last : Building) (before behind : Takes) → json_state r ≡ json_start
-    → so_far first ≡ [] → JsonFeeds r (took first) bs q (took behind_bytes) before → JsonEndsText q (took behind_bytes) (took last) behind (Ok tt)
+    → so_far first ≡ [] → JsonBrings r (took first) bs q (took behind_bytes) before → JsonEndsText q (took behind_bytes) (took last) behind (Ok tt)
     → (n : Node) × IsRead JsonText n bs × (so_far last ≡ events n [])
 text_built r q bs first behind_bytes last before behind begins nothing feeds (ts, rest, hands, all) =
     let (n, text, room, same) = run_is_text most_levels bs feeds.out ts (json_state q) (begun_leads r q bs feeds.out feeds.goes begins) rest in
@@ -101,7 +101,7 @@ text_built r q bs first behind_bytes last before behind begins nothing feeds (ts
     let built = hands feeds.out some whole in
     (n, (text, room), sym built ∙ ap unnumbered same ∙ stream_events n (events n []) [] (events_stream n []))
 
-begun_whole : (r q : Reader) (bs : List ℕ) (out : List NodeEvent) → json_state r ≡ json_start → JsonGoes r bs out q → BeginsRead JsonText bs
+pub begun_whole : (r q : Reader) (bs : List ℕ) (out : List NodeEvent) → json_state r ≡ json_start → JsonGoes r bs out q → BeginsRead JsonText bs
 begun_whole r q bs out begins goes =
     begins_read bs (subst (λ x. JsonGoesOn most_levels x bs) begins
     (subst (JsonGoesOn most_levels (json_state r)) (append-nil bs)
@@ -112,20 +112,20 @@ pub tree_read : (n : Node) (bs : List ℕ) (tree : Tree) → IsRead JsonText n b
 tree_read n bs tree h same = subst (λ m. IsRead JsonText m bs) (events_injective n (node_of tree) [] [] same).0 h
 
 pub builder_closed : (r q : Reader) (bs : List ℕ) (first middle last : Building) (before behind : Takes) → json_state r ≡ json_start
-    → so_far first ≡ [] → JsonFeeds r (took first) bs q (took middle) before → JsonEndsText q (took middle) (took last) behind (Ok tt)
+    → so_far first ≡ [] → JsonBrings r (took first) bs q (took middle) before → JsonEndsText q (took middle) (took last) behind (Ok tt)
     → (kinds last ≡ []) × (awaits_value last ≡ false)
 builder_closed r q bs first middle last before behind begins nothing feeds ends =
     let (n, read, is) = text_built r q bs first middle last before behind begins nothing feeds ends in whole_closed last n is
 
 pub tree_built : (r q : Reader) (bs : List ℕ) (first middle last : Building) (before behind : Takes) (tree : Tree)
-    → json_state r ≡ json_start → so_far first ≡ [] → JsonFeeds r (took first) bs q (took middle) before
+    → json_state r ≡ json_start → so_far first ≡ [] → JsonBrings r (took first) bs q (took middle) before
     → JsonEndsText q (took middle) (took last) behind (Ok tt) → so_far last ≡ events (node_of tree) [] → Reads json_syntax bs (Ok tree)
 tree_built r q bs first middle last before behind tree begins nothing feeds ends same =
     let (n, read, is) = text_built r q bs first middle last before behind begins nothing feeds ends in
     tree_read n bs tree read (sym is ∙ same)
 
 pub end_refused : (r q : Reader) (S T U : StandsFor) (before behind : Takes) (bs : List ℕ) (refusal : SyntaxRefusal)
-    → json_state r ≡ json_start → JsonFeeds r S bs q T before → JsonEndsText q T U behind (Err refusal) → Reads json_syntax bs (Err refusal)
+    → json_state r ≡ json_start → JsonBrings r S bs q T before → JsonEndsText q T U behind (Err refusal) → Reads json_syntax bs (Err refusal)
 end_refused r q S T U before behind bs NoMemory begins feeds h = tt
 end_refused r q S T U before behind bs (Bad p) begins feeds h = absurd h
 end_refused r q S T U before behind bs Ended begins feeds h = record {

@@ -1,5 +1,5 @@
 -- What a reader has handed on since its first byte is what the bytes complete, no more and no less.
-use Rattle.std.proofs.Common.{◌≡◌, ℕ, List, refl, subst, arith}
+use Rattle.std.proofs.Common.{◌≡◌, ℕ, List, [], refl, subst, arith}
 use Rattle.sm_tree.specs.Events.{NodeEvent}
 use Rattle.sm_tree.specs.Timing.{Completes}
 use Rattle.sm_tree.specs.Syntax.{most_levels}
@@ -10,6 +10,8 @@ use Rattle.sm_json.specs.steps.Machine.{where_of, json_state, JsonIsSound, JsonG
 use Rattle.sm_json.specs.declared.place.Place.{Place}
 use Rattle.sm_json.specs.declared.place.Place.TheVariants.{Value, FirstEntry, FirstKey, NextKey, Colon, After, Word, Number, Text}
 use Rattle.sm_json.specs.declared.read.Reader.{Reader}
+use Rattle.sm_json.specs.Laws.{NoEventYet}
+use Rattle.sm_json.proofs.Whole.{leads_none}
 use Rattle.sm_json.proofs.Readers.{kept_at}
 use Rattle.sm_json.proofs.Onward.{reader_goes_on}
 use Rattle.sm_json.proofs.Later.{IsGoingOn, run_completes, one_completed}
@@ -26,7 +28,7 @@ going_at r (Word w taken) e sound = kept_at r (Word w taken) e sound
 going_at r (Number phase) e sound = tt
 going_at r (Text role) e sound = r.text.live
 
-begun : (r q : Reader) (bs : List ℕ) (out : List NodeEvent) → JsonGoes r bs out q → json_state r ≡ json_start
+pub begun : (r q : Reader) (bs : List ℕ) (out : List NodeEvent) → JsonGoes r bs out q → json_state r ≡ json_start
     → JsonLeads most_levels json_start bs out (json_state q)
 begun r q bs out goes begins = subst (λ x. JsonLeads most_levels x bs out (json_state q)) begins (goes.leads most_levels (omega arith))
 
@@ -39,3 +41,7 @@ pub bytes_complete_one : (r q : Reader) (bs : List ℕ) (out es : List NodeEvent
     → Completes json_timing bs es → es ≡ out
 bytes_complete_one r q bs out es goes begins h =
     one_completed bs out es (json_state q) (begun r q bs out goes begins) (going_at q q.place refl goes.sound) h
+
+-- before the first byte
+pub none_yet : NoEventYet
+none_yet es done = one_completed [] [] es json_start (leads_none most_levels json_start) tt done

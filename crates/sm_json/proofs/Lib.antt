@@ -24,6 +24,7 @@ pub mod Owed
 pub mod Later
 pub mod Turns
 pub mod MayCome
+pub mod Following
 pub mod WrittenStrings
 pub mod WrittenNumbers
 pub mod WrittenTrees
@@ -39,3 +40,5 @@ pub mod SpeltTrees
 pub mod Answered
 pub mod Completed
 pub mod Feeding
+pub mod NullTexts
+pub mod ReadPieces

@@ -193,7 +193,7 @@ pair_halts r c place h w f g =
     let (ks, e) = inside (lists_of r) an_object h in
     stops_from r After c place (subst (λ ls. Halts (at after ls) c) (sym e) (λ limit. object_stops limit c ks w f g))
 
-nothing_open : (ls : List OpenKind) → first_kind ls ≡ None → ls ≡ []
+pub nothing_open : (ls : List OpenKind) → first_kind ls ≡ None → ls ≡ []
 nothing_open [] e = refl
 nothing_open (j ∷ ls) e = absurd (cc e)
 
@@ -243,9 +243,9 @@ first_entry_takes r q S T takes c (Ok x) sound place w f h =
       takes_all = h.takes_all;
     }
 first_entry_takes r q S T takes c (Err NoMemory) sound place w f h = tt
-first_entry_takes r q S T takes c (Err (Bad at_)) sound place w f h = (h.0, first_entry_halts r c sound place w f h.1)
+first_entry_takes r q S T takes c (Err (Bad at_)) sound place w f h = (h.0, first_entry_halts r c sound place w f h.1, h.2)
 first_entry_takes r q S T takes c (Err Ended) sound place w f h = h
-first_entry_takes r q S T takes c (Err (TooDeep at_)) sound place w f h = (h.0, first_entry_deepens r c sound place w f h.1)
+first_entry_takes r q S T takes c (Err (TooDeep at_)) sound place w f h = (h.0, first_entry_deepens r c sound place w f h.1, h.2)
 first_entry_takes r q S T takes c (Err (KeyKind at_)) sound place w f h = h
 
 first_key_halts : (r : Reader) (c : ℕ) → JsonIsSound r → r.place ≡ FirstKey → is_whitespace c ≡ false → c ≢ 125
@@ -288,9 +288,9 @@ first_key_takes r q S T takes c (Ok x) sound place w f h =
       takes_all = h.takes_all;
     }
 first_key_takes r q S T takes c (Err NoMemory) sound place w f h = tt
-first_key_takes r q S T takes c (Err (Bad at_)) sound place w f h = (h.0, first_key_halts r c sound place w f h.1)
+first_key_takes r q S T takes c (Err (Bad at_)) sound place w f h = (h.0, first_key_halts r c sound place w f h.1, h.2)
 first_key_takes r q S T takes c (Err Ended) sound place w f h = h
-first_key_takes r q S T takes c (Err (TooDeep at_)) sound place w f h = (h.0, first_key_deepens r c sound place w f h.1)
+first_key_takes r q S T takes c (Err (TooDeep at_)) sound place w f h = (h.0, first_key_deepens r c sound place w f h.1, h.2)
 first_key_takes r q S T takes c (Err (KeyKind at_)) sound place w f h = h
 
 -- a number begins

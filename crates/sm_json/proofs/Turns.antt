@@ -1,6 +1,7 @@
 -- What runs of bytes do to a reader: whitespace, numbers and strings, one run behind another, and the end of
 -- the bytes. The answers of the reader's turns cite these.
-use Rattle.std.proofs.Common.{Result, Ok, Err, ◌≡◌, ◌≢◌, ℕ, ◌+◌, ◌-◌, ◌≤◌, ◌<◌, ◌⊎◌, inl, inr, true, List, [], ◌∷◌, ◌++◌, refl, sym, ap, subst, ◌∙◌, arith, length, take, drop, get_or, append-nil, length-drop}
+use Rattle.std.specs.Prelude.{Bool, IsTrue, ◌↔◌}
+use Rattle.std.proofs.Common.{Result, Ok, Err, false, ◌≡◌, ◌≢◌, ℕ, ◌+◌, ◌-◌, ◌≤◌, ◌<◌, ◌⊎◌, inl, inr, true, List, [], ◌∷◌, ◌++◌, refl, sym, ap, subst, ◌∙◌, arith, length, take, drop, get_or, append-nil, length-drop}
 use Rattle.std.proofs.Math.Seq.{take-add}
 use Rattle.std.proofs.lemmas.List.{take_more, drop_more, take-take, take_all, drop_all}
 use Rattle.sm_tree.specs.Node.{Node}
@@ -27,7 +28,7 @@ use Rattle.sm_json.specs.declared.place.Role.{Role}
 use Rattle.sm_json.specs.declared.place.Role.TheVariants.{Key, Value as Whole}
 use Rattle.sm_json.specs.steps.Rest.{Where, after, colon, letters, literal_event, numeral, JsonRest, JsonGoesOn, JsonStops}
 use Rattle.sm_tree.specs.Syntax.{most_levels}
-use Rattle.sm_json.specs.steps.Machine.{where_of, lists_of, json_state, PlaceKeeps, JsonIsSound, LeadsTo, JsonIsPlaced, JsonGoes, JsonFeeds, JsonStepsByte, JsonEndsText, Halts, Deepens, HaltsAt, DeepensAt, JsonTakesByte, JsonTakesPrefix, JsonTakesAll, TakesWhitespace, AllWhitespace, Grows, HandsNumber, HandsText, behind_text, text_event_of, as_syntax}
+use Rattle.sm_json.specs.steps.Machine.{where_of, lists_of, json_state, PlaceKeeps, JsonIsSound, LeadsTo, JsonIsPlaced, JsonGoes, JsonBrings, JsonKeeps, JsonBringsTo, JsonStepsByte, JsonEndsText, JsonMayEnd, Halts, Deepens, HaltsAt, DeepensAt, JsonTakesByte, JsonTakesPrefix, JsonTakesAll, TakesWhitespace, AllWhitespace, Grows, HandsNumber, HandsText, behind_text, text_event_of, as_syntax}
 use Rattle.sm_tree.specs.Refusal.{moved_by, IsWithin}
 use Rattle.sm_tree.specs.declared.number.Phase.{Phase}
 use Rattle.sm_tree.specs.declared.number.Phase.TheVariants.{Start}
@@ -36,7 +37,7 @@ use Rattle.sm_json.specs.declared.place.Literal.{Literal}
 use Rattle.sm_json.specs.declared.place.Place.{Place}
 use Rattle.sm_json.specs.declared.place.Place.TheVariants.{Value, FirstEntry, FirstKey, NextKey, Colon, After, Word, Number, Text}
 use Rattle.sm_json.specs.declared.read.Reader.{Reader}
-use Rattle.sm_tree.proofs.Numbers.{one_node, number_from_whole, whole_from_number}
+use Rattle.sm_tree.proofs.Numbers.{one_node, number_exists, number_from_whole, whole_from_number}
 use Rattle.sm_tree.proofs.NumberRuns.{prefix_grows, leads_joined as numbers_joined}
 use Rattle.sm_json.proofs.Opening.{at}
 use Rattle.sm_json.proofs.Closing.{after_goes_on, colon_goes_on}
@@ -56,8 +57,8 @@ goes_joined {out} {more} r q x v w h g = record {
   sound = g.sound;
 }
 
-pub feeds_joined : (r q x : Reader) (S T U : StandsFor) (before behind : Takes) (v w : List ℕ) → JsonFeeds r S v q T before
-    → JsonFeeds q T w x U behind → JsonFeeds r S (v ++ w) x U behind
+pub feeds_joined : (r q x : Reader) (S T U : StandsFor) (before behind : Takes) (v w : List ℕ) → JsonBrings r S v q T before
+    → JsonBrings q T w x U behind → JsonBrings r S (v ++ w) x U behind
 feeds_joined r q x S T U before behind v w h g = record {
   out = h.out ++ g.out;
   goes = goes_joined r q x v w h.goes g.goes;
@@ -69,32 +70,36 @@ pub goes_nowhere : (r : Reader) → JsonIsSound r → JsonGoes r [] [] r
 goes_nowhere r sound = record { leads = λ limit up. leads_none limit (json_state r); sound = sound }
 
 pub feeds_nowhere : (r : Reader) (S : StandsFor) (takes : Takes) → JsonIsSound r → JsonIsPlaced r S takes
-    → JsonFeeds r S [] r S takes
+    → JsonBrings r S [] r S takes
 feeds_nowhere r S takes sound placed =
     record { out = []; goes = goes_nowhere r sound; hands = takes_none S; takes_all = placed.takes_all }
 
 -- a step that hands nothing on, and one that hands an event on
 pub feeds_nothing : (r q : Reader) (S : StandsFor) (takes : Takes) (w : List ℕ) → JsonIsPlaced r S takes → JsonGoes r w [] q
-    → JsonFeeds r S w q S takes
+    → JsonBrings r S w q S takes
 feeds_nothing r q S takes w placed goes = record { out = []; goes = goes; hands = takes_none S; takes_all = placed.takes_all }
 
 pub feeds_byte : (r q : Reader) (S : StandsFor) (takes : Takes) (c : ℕ) (result : Result (Unit {0}) SyntaxRefusal)
     → TakesEvery takes → JsonStepsByte r c q result → JsonTakesByte r S c q S takes result
 feeds_byte r q S takes c (Ok x) all h = record { out = []; goes = h; hands = takes_none S; takes_all = all }
 feeds_byte r q S takes c (Err NoMemory) all h = tt
-feeds_byte r q S takes c (Err (Bad p)) all h = h
+feeds_byte r q S takes c (Err (Bad p)) all h = (h.0, h.1, record { stands = takes_none S; takes_all = all })
 feeds_byte r q S takes c (Err Ended) all h = h
 feeds_byte r q S takes c (Err (TooDeep p)) all h = absurd h
 feeds_byte r q S takes c (Err (KeyKind p)) all h = h
 
 pub feeds_event : (r q : Reader) (S T : StandsFor) (takes before : Takes) (w : List ℕ) (e : NodeEvent) → JsonIsPlaced r S before
-    → JsonGoes r w (e ∷ []) q → TakesOn S e T → TakesSame before takes → JsonFeeds r S w q T takes
+    → JsonGoes r w (e ∷ []) q → TakesOn S e T → TakesSame before takes → JsonBrings r S w q T takes
 feeds_event r q S T takes before w e placed goes taken same =
     record { out = e ∷ []; goes = goes; hands = taken; takes_all = λ d. same d (placed.takes_all d) }
 
+-- a step that was refused leaves the sink as it was
+pub keeps : (r : Reader) (S : StandsFor) (takes : Takes) → JsonIsPlaced r S takes → JsonKeeps S S takes
+keeps r S takes placed = record { stands = takes_none S; takes_all = placed.takes_all }
+
 -- the sink is placed behind a step, and may be brought the event that a step completes
 pub fed_placed : (r q : Reader) (S T : StandsFor) (before behind : Takes) (w : List ℕ) → JsonIsPlaced r S before
-    → JsonFeeds r S w q T behind → JsonIsPlaced q T behind
+    → JsonBrings r S w q T behind → JsonIsPlaced q T behind
 fed_placed r q S T before behind w placed feeds = record {
   takes_all = feeds.takes_all;
   placed = placed_on (json_state r) (json_state q) w S T feeds.out placed.placed (feeds.goes.leads most_levels (omega arith))
@@ -124,23 +129,45 @@ white_run_goes r bs k sound p some few here more =
     })
 
 -- a byte that is refused behind those that led there, and the first byte
-pub refused_later : {out : List NodeEvent} (r q x : Reader) (S T : StandsFor) (takes : Takes) (bs : List ℕ) (i : ℕ)
-    (refusal : SyntaxRefusal) → i < length bs → JsonGoes r (take i bs) out q → JsonTakesByte q S (get_or bs i 0) x T takes (Err refusal)
+fed_to : (r q : Reader) (S T : StandsFor) (takes : Takes) (bs : List ℕ) (i p : ℕ) → p ≡ 0 → JsonGoes r (take i bs) [] q → JsonKeeps S T takes
+    → JsonBringsTo r S bs (i + p) T takes
+fed_to r q S T takes bs i p none goes kept =
+    let same : i ≡ i + p = omega (arith, none) in record {
+      there = q;
+      fed = record {
+        out = [];
+        goes = subst (λ n. JsonGoes r (take n bs) [] q) same goes;
+        hands = kept.stands;
+        takes_all = kept.takes_all;
+      };
+    }
+
+pub refused_later : (r q x : Reader) (S T : StandsFor) (takes : Takes) (bs : List ℕ) (i : ℕ)
+    (refusal : SyntaxRefusal) → i < length bs → JsonGoes r (take i bs) [] q → JsonTakesByte q S (get_or bs i 0) x T takes (Err refusal)
     → JsonTakesPrefix r S bs x T takes (Err (moved_by i refusal))
-refused_later r q x S T takes bs i (Bad p) inside goes h =
-    subst (λ n. HaltsAt (json_state r) bs (i + n)) (sym h.0) (halts_at r q bs i inside goes h.1)
+refused_later r q x S T takes bs i (Bad p) inside goes h = (
+  subst (λ n. HaltsAt (json_state r) bs (i + n)) (sym h.0) (halts_at r q bs i inside goes h.1),
+  fed_to r q S T takes bs i p h.0 goes h.2,
+)
 refused_later r q x S T takes bs i Ended inside goes h = h
-refused_later r q x S T takes bs i (TooDeep p) inside goes h =
-    subst (λ n. DeepensAt (json_state r) bs (i + n)) (sym h.0) (deepens_at r q bs i inside goes h.1)
+refused_later r q x S T takes bs i (TooDeep p) inside goes h = (
+  subst (λ n. DeepensAt (json_state r) bs (i + n)) (sym h.0) (deepens_at r q bs i inside goes h.1),
+  fed_to r q S T takes bs i p h.0 goes h.2,
+)
 refused_later r q x S T takes bs i (KeyKind p) inside goes h = h
 refused_later r q x S T takes bs i NoMemory inside goes h = tt
 
 pub refused_first : (r x : Reader) (S T : StandsFor) (takes : Takes) (bs : List ℕ) (refusal : SyntaxRefusal) → JsonIsSound r
     → 0 < length bs → JsonTakesByte r S (get_or bs 0 0) x T takes (Err refusal) → JsonTakesPrefix r S bs x T takes (Err refusal)
-refused_first r x S T takes bs (Bad p) sound some h = subst (HaltsAt (json_state r) bs) (sym h.0) (halts_at r r bs 0 some (goes_nowhere r sound) h.1)
+refused_first r x S T takes bs (Bad p) sound some h =
+    let same : 0 + p ≡ p = omega arith in
+    subst (λ n. JsonTakesPrefix r S bs x T takes (Err (Bad n))) same
+    (refused_later r r x S T takes bs 0 (Bad p) some (goes_nowhere r sound) h)
 refused_first r x S T takes bs Ended sound some h = h
 refused_first r x S T takes bs (TooDeep p) sound some h =
-    subst (DeepensAt (json_state r) bs) (sym h.0) (deepens_at r r bs 0 some (goes_nowhere r sound) h.1)
+    let same : 0 + p ≡ p = omega arith in
+    subst (λ n. JsonTakesPrefix r S bs x T takes (Err (TooDeep n))) same
+    (refused_later r r x S T takes bs 0 (TooDeep p) some (goes_nowhere r sound) h)
 refused_first r x S T takes bs (KeyKind p) sound some h = h
 refused_first r x S T takes bs NoMemory sound some h = tt
 
@@ -196,23 +223,19 @@ behind_number r m phase c limit sound place stops is halts s ts g =
     (λ n x. one_node n m r.number.items x is) g in
     halts s us en
 
-number_then_deepens : (r : Reader) (m : Node) (phase : Phase) (c : ℕ) → JsonIsSound r → r.place ≡ Number phase → NumberStops phase c
-    → NumberText m r.number.items → Deepens (at after (lists_of r)) c → Deepens (json_state r) c
-number_then_deepens r m phase c sound place stops is deep = deepens_from r (Number phase) c place (record {
-  stops = behind_number r m phase c most_levels sound place stops is deep.stops;
-  deeper =
-      let (s, ts, rest) = deep.deeper in
-      let (e, one) = number_one m r.number.items is in (
-        s,
-        by_byte e (length s) ∷ ts,
-        (m, [], c ∷ s, ts, refl, subst (NumberText m) (sym (append-nil r.number.items)) is, rest, (e, one, refl)),
-      );
-})
+-- with a byte that may not come behind a value no text goes on from the number
+pub number_and_halts : (r : Reader) (phase : Phase) (c : ℕ) → JsonIsSound r → r.place ≡ Number phase → NumberStops phase c
+    → NumberTail phase [] → Halts (at after (lists_of r)) c → Halts (json_state r) c
+number_and_halts r phase c sound place stops whole halts =
+    let (m, is) = number_exists r.number.items (number_of_phase r phase sound place whole) in
+    stops_from r (Number phase) c place (λ limit. behind_number r m phase c limit sound place stops is (halts limit))
 
+-- and with one that may come the reader goes on behind the value
 pub number_then : (r q : Reader) (S T U : StandsFor) (before behind : Takes) (phase : Phase) (c : ℕ)
     (result : Result (Unit {0}) SyntaxRefusal) → JsonIsSound r → r.place ≡ Number phase → NumberStops phase c → HandsNumber r S T before
+    → JsonGoesOn most_levels (at after (lists_of r)) (c ∷ [])
     → JsonTakesByte (record r { place = After }) T c q U behind result → JsonTakesByte r S c q U behind result
-number_then r q S T U before behind phase c (Ok x) sound place stops hands g = record {
+number_then r q S T U before behind phase c (Ok x) sound place stops hands goes_on g = record {
   out = events hands.tree [] ++ g.out;
   goes = record {
     leads = leads_from r (Number phase) (c ∷ []) (events hands.tree [] ++ g.out) (json_state q) place
@@ -224,21 +247,17 @@ number_then r q S T U before behind phase c (Ok x) sound place stops hands g = r
   hands = takes_both S T U (events hands.tree []) g.out hands.hands g.hands;
   takes_all = g.takes_all;
 }
-number_then r q S T U before behind phase c (Err NoMemory) sound place stops hands g = tt
-number_then r q S T U before behind phase c (Err (Bad p)) sound place stops hands g = (
-  g.0,
-  stops_from r (Number phase) c place (λ limit. behind_number r hands.tree phase c limit sound place stops hands.is (g.1 limit)),
-)
-number_then r q S T U before behind phase c (Err Ended) sound place stops hands g = g
-number_then r q S T U before behind phase c (Err (TooDeep p)) sound place stops hands g =
-    (g.0, number_then_deepens r hands.tree phase c sound place stops hands.is g.1)
-number_then r q S T U before behind phase c (Err (KeyKind p)) sound place stops hands g = g
+number_then r q S T U before behind phase c (Err NoMemory) sound place stops hands goes_on g = tt
+number_then r q S T U before behind phase c (Err (Bad p)) sound place stops hands (s, ts, rest) g = absurd (g.1 most_levels s ts rest)
+number_then r q S T U before behind phase c (Err Ended) sound place stops hands goes_on g = g
+number_then r q S T U before behind phase c (Err (TooDeep p)) sound place stops hands (s, ts, rest) g = absurd (g.1.stops s ts rest)
+number_then r q S T U before behind phase c (Err (KeyKind p)) sound place stops hands goes_on g = g
 
 -- one run behind another, by places
 pub then_byte_goes : (r q x : Reader) (S T : StandsFor) (takes : Takes) (bs : List ℕ) (i : ℕ) → i < length bs
-    → JsonGoes r (take i bs) [] q → JsonFeeds q S (get_or bs i 0 ∷ []) x T takes → JsonFeeds r S (take (i + 1) bs) x T takes
+    → JsonGoes r (take i bs) [] q → JsonBrings q S (get_or bs i 0 ∷ []) x T takes → JsonBrings r S (take (i + 1) bs) x T takes
 then_byte_goes r q x S T takes bs i inside h g =
-    subst (λ ws. JsonFeeds r S ws x T takes) (sym (take_more bs i 0 inside)) (record {
+    subst (λ ws. JsonBrings r S ws x T takes) (sym (take_more bs i 0 inside)) (record {
       out = g.out;
       goes = goes_joined r q x (take i bs) (get_or bs i 0 ∷ []) h g.goes;
       hands = g.hands;
@@ -246,37 +265,50 @@ then_byte_goes r q x S T takes bs i inside h g =
     })
 
 pub then_front_goes : (r q x : Reader) (S T U : StandsFor) (before behind : Takes) (bs : List ℕ) (i n : ℕ) → i ≤ length bs
-    → n ≤ length bs - i → JsonFeeds r S (take i bs) q T before → JsonFeeds q T (take n (take (length bs - i) (drop i bs))) x U behind
-    → JsonFeeds r S (take (i + n) bs) x U behind
+    → n ≤ length bs - i → JsonBrings r S (take i bs) q T before → JsonBrings q T (take n (take (length bs - i) (drop i bs))) x U behind
+    → JsonBrings r S (take (i + n) bs) x U behind
 then_front_goes r q x S T U before behind bs i n inside few h g =
-    subst (λ ws. JsonFeeds r S ws x U behind) (sym (take-add i n bs))
+    subst (λ ws. JsonBrings r S ws x U behind) (sym (take-add i n bs))
     (feeds_joined r q x S T U before behind (take i bs) (take n (drop i bs)) h
-    (subst (λ ws. JsonFeeds q T ws x U behind) (take-take n (length bs - i) (drop i bs) few) g))
+    (subst (λ ws. JsonBrings q T ws x U behind) (take-take n (length bs - i) (drop i bs) few) g))
 
 pub whole_goes : (r q : Reader) (S T : StandsFor) (takes : Takes) (bs : List ℕ) (i : ℕ) → length bs ≤ i
-    → JsonFeeds r S (take i bs) q T takes → JsonFeeds r S bs q T takes
-whole_goes r q S T takes bs i all h = subst (λ ws. JsonFeeds r S ws q T takes) (take_all i bs all) h
+    → JsonBrings r S (take i bs) q T takes → JsonBrings r S bs q T takes
+whole_goes r q S T takes bs i all h = subst (λ ws. JsonBrings r S ws q T takes) (take_all i bs all) h
 
 rest_of : (bs : List ℕ) (i : ℕ) → take (length bs - i) (drop i bs) ≡ drop i bs
 rest_of bs i = take_all (length bs - i) (drop i bs) (omega (arith, length-drop i bs))
 
 -- a refusal of a turn, carried to all the bytes
-pub refused_in_turn : {out : List NodeEvent} (r q x : Reader) (S T U : StandsFor) (takes : Takes) (bs : List ℕ) (i : ℕ)
-    (refusal : SyntaxRefusal) → i < length bs → JsonGoes r (take i bs) out q
+fed_to_then : (r q : Reader) (S T U : StandsFor) (before takes : Takes) (bs : List ℕ) (i p : ℕ) → JsonBrings r S (take i bs) q T before
+    → JsonBringsTo q T (drop i bs) p U takes → JsonBringsTo r S bs (i + p) U takes
+fed_to_then r q S T U before takes bs i p h g = record {
+  there = g.there;
+  fed = subst (λ ws. JsonBrings r S ws g.there U takes) (sym (take-add i p bs))
+      (feeds_joined r q g.there S T U before takes (take i bs) (take p (drop i bs)) h g.fed);
+}
+
+pub refused_in_turn : (r q x : Reader) (S T U : StandsFor) (before takes : Takes) (bs : List ℕ) (i : ℕ)
+    (refusal : SyntaxRefusal) → i < length bs → JsonBrings r S (take i bs) q T before
     → JsonTakesPrefix q T (take (length bs - i) (drop i bs)) x U takes (Err refusal) → JsonTakesAll r S bs x U takes (Err (moved_by i refusal))
-refused_in_turn r q x S T U takes bs i (Bad p) inside goes h = halts_then r q bs i p goes (subst (λ ws. HaltsAt (json_state q) ws p) (rest_of bs i) h)
-refused_in_turn r q x S T U takes bs i Ended inside goes h = h
-refused_in_turn r q x S T U takes bs i (TooDeep p) inside goes h =
-    deepens_then r q bs i p goes (subst (λ ws. DeepensAt (json_state q) ws p) (rest_of bs i) h)
-refused_in_turn r q x S T U takes bs i (KeyKind p) inside goes h = h
-refused_in_turn r q x S T U takes bs i NoMemory inside goes h = tt
+refused_in_turn r q x S T U before takes bs i (Bad p) inside fed h = (
+  halts_then r q bs i p fed.goes (subst (λ ws. HaltsAt (json_state q) ws p) (rest_of bs i) h.0),
+  fed_to_then r q S T U before takes bs i p fed (subst (λ ws. JsonBringsTo q T ws p U takes) (rest_of bs i) h.1),
+)
+refused_in_turn r q x S T U before takes bs i Ended inside fed h = h
+refused_in_turn r q x S T U before takes bs i (TooDeep p) inside fed h = (
+  deepens_then r q bs i p fed.goes (subst (λ ws. DeepensAt (json_state q) ws p) (rest_of bs i) h.0),
+  fed_to_then r q S T U before takes bs i p fed (subst (λ ws. JsonBringsTo q T ws p U takes) (rest_of bs i) h.1),
+)
+refused_in_turn r q x S T U before takes bs i (KeyKind p) inside fed h = h
+refused_in_turn r q x S T U before takes bs i NoMemory inside fed h = tt
 
 pub refusal_within : (q x : Reader) (S T : StandsFor) (takes : Takes) (bs : List ℕ) (refusal : SyntaxRefusal) (n : ℕ)
     → length bs ≤ n → JsonTakesPrefix q S bs x T takes (Err refusal)
     → IsWithin n refusal
-refusal_within q x S T takes bs (Bad p) n small h = omega (arith, h.inside)
+refusal_within q x S T takes bs (Bad p) n small h = omega (arith, h.0.inside)
 refusal_within q x S T takes bs Ended n small h = tt
-refusal_within q x S T takes bs (TooDeep p) n small h = omega (arith, h.inside)
+refusal_within q x S T takes bs (TooDeep p) n small h = omega (arith, h.0.inside)
 refusal_within q x S T takes bs (KeyKind p) n small h = absurd h
 refusal_within q x S T takes bs NoMemory n small h = tt
 
@@ -334,7 +366,7 @@ string_ended r h Whole t bs begun lists place leads = record {
 }
 
 pub string_over : (r h : Reader) (S T : StandsFor) (takes : Takes) (role : Role) (t : TextReader) (bs : List ℕ)
-    → r.place ≡ Text role → ReadsWhole r.text t bs → HandsText role (record r { text = t }) S h T takes → JsonFeeds r S bs h T takes
+    → r.place ≡ Text role → ReadsWhole r.text t bs → HandsText role (record r { text = t }) S h T takes → JsonBrings r S bs h T takes
 string_over r h S T takes role t bs place whole hands = record {
   out = text_event_of role (string_so_far t) ∷ [];
   goes = string_ended r h role t bs place hands.lists hands.place (string_closes r role t bs whole);
@@ -438,11 +470,17 @@ white_run_takes r S takes bs k sound placed p some few here more =
     let within : k ≤ length bs - 1 = omega (arith, ap length (rest_of bs 1), length-drop 1 bs) in
     (omega arith, omega arith, feeds_nothing r r S takes (take (1 + k) bs) placed (white_run_goes r bs k sound p some within here more))
 
-pub string_refused : (r : Reader) (S T : StandsFor) (takes : Takes) (role : Role) (t : TextReader) (q : Reader) (bs : List ℕ) (refusal : TextRefusal) → JsonIsSound r
-    → r.place ≡ Text role → ReadsString r.text t bs (Err refusal)
-    → JsonTakesPrefix r S bs q T takes (Err (as_syntax refusal))
-string_refused r S T takes role t q bs (BadString i) sound place (inside, stops, on) = string_halts r role t bs i sound place inside on stops
-string_refused r S T takes role t q bs NoRoom sound place h = tt
+pub string_refused : (r : Reader) (S : StandsFor) (takes : Takes) (role : Role) (t : TextReader) (q : Reader) (bs : List ℕ)
+    (refusal : TextRefusal) → JsonIsSound r → JsonIsPlaced r S takes → r.place ≡ Text role → ReadsString r.text t bs (Err refusal)
+    → JsonTakesPrefix r S bs q S takes (Err (as_syntax refusal))
+string_refused r S takes role t q bs (BadString i) sound placed place (inside, stops, on) = (
+  string_halts r role t bs i sound place inside on stops,
+  record {
+    there = record r { text = t };
+    fed = feeds_nothing r (record r { text = t }) S takes (take i bs) placed (string_on r role t (take i bs) sound place on);
+  },
+)
+string_refused r S takes role t q bs NoRoom sound placed place h = tt
 
 -- one more letter of a literal name
 pub letter_goes : (r : Reader) (w : Literal) (taken c : ℕ) → r.place ≡ Word w taken → taken + 1 < length (letters w)
@@ -473,8 +511,8 @@ word_over r w taken c place inside last same =
 
 -- a turn behind the bytes before it
 pub turn_goes : (r q x : Reader) (S T U : StandsFor) (before behind : Takes) (bs : List ℕ) (i n : ℕ) → i < length bs
-    → JsonFeeds r S (take i bs) q T before → JsonTakesPrefix q T (take (length bs - i) (drop i bs)) x U behind (Ok n)
-    → (i + n ≤ length bs) × JsonFeeds r S (take (i + n) bs) x U behind
+    → JsonBrings r S (take i bs) q T before → JsonTakesPrefix q T (take (length bs - i) (drop i bs)) x U behind (Ok n)
+    → (i + n ≤ length bs) × JsonBrings r S (take (i + n) bs) x U behind
 turn_goes r q x S T U before behind bs i n inside h (some, few, g) =
     let within : n ≤ length bs - i = omega (arith, ap length (rest_of bs i), length-drop i bs) in
     (omega arith, then_front_goes r q x S T U before behind bs i n (omega arith) within h g)
@@ -482,3 +520,37 @@ turn_goes r q x S T U before behind bs i n inside h (some, few, g) =
 pub turn_grows : (q x : Reader) (S T : StandsFor) (takes : Takes) (bs : List ℕ) (n : ℕ) → JsonTakesPrefix q S bs x T takes (Ok n)
     → 0 < n
 turn_grows q x S T takes bs n h = h.0
+
+-- whether the bytes may end here: never while something is open, behind a value always, and in a number where that is whole
+pub number_may_end : (r : Reader) (phase : Phase) (result : Bool) → JsonIsSound r → r.place ≡ Number phase → length (lists_of r) ≡ 0
+    → (IsTrue result ↔ NumberTail phase []) → JsonMayEnd r result
+number_may_end r phase true sound place none is =
+    let (m, text) = number_exists r.number.items (number_of_phase r phase sound place (is.0 refl)) in
+    let (last, rest, same) = number_last most_levels r.number.items m text in (
+      last,
+      subst (λ p. JsonRest most_levels (place_at r p) [] last) (sym place)
+          (subst (λ ls. JsonRest most_levels (at (numeral r.number.items) ls) [] last) (sym (none_open (lists_of r) none)) rest),
+    )
+number_may_end r phase false sound place none is =
+    number_cut_short r phase sound place (inr (λ whole. let clash : false ≡ true = is.1 whole in cc))
+
+pub after_may_end : (r : Reader) → r.place ≡ After → length (lists_of r) ≡ 0 → JsonMayEnd r true
+after_may_end r place none = (
+  [],
+  subst (λ p. JsonRest most_levels (place_at r p) [] []) (sym place)
+      (subst (λ ls. JsonRest most_levels (at after ls) [] []) (sym (none_open (lists_of r) none)) (refl, refl)),
+)
+
+deep_at : (r : Reader) (p : Place) → r.place ≡ p → JsonIsSound r → 0 < length (lists_of r) → JsonMayEnd r false
+deep_at r Value place sound deep = cut_at_place r Value place sound (λ phase e. cc) (λ e. deep)
+deep_at r FirstEntry place sound deep = cut_at_place r FirstEntry place sound (λ phase e. cc) (λ e. deep)
+deep_at r FirstKey place sound deep = cut_at_place r FirstKey place sound (λ phase e. cc) (λ e. deep)
+deep_at r NextKey place sound deep = cut_at_place r NextKey place sound (λ phase e. cc) (λ e. deep)
+deep_at r Colon place sound deep = cut_at_place r Colon place sound (λ phase e. cc) (λ e. deep)
+deep_at r After place sound deep = cut_at_place r After place sound (λ phase e. cc) (λ e. deep)
+deep_at r (Word w taken) place sound deep = cut_at_place r (Word w taken) place sound (λ phase e. cc) (λ e. deep)
+deep_at r (Number phase) place sound deep = number_cut_short r phase sound place (inl deep)
+deep_at r (Text role) place sound deep = cut_at_place r (Text role) place sound (λ phase e. cc) (λ e. deep)
+
+pub deep_cut : (r : Reader) → JsonIsSound r → 0 < length (lists_of r) → JsonMayEnd r false
+deep_cut r sound deep = deep_at r r.place refl sound deep

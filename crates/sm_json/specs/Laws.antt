@@ -4,8 +4,8 @@ use Rattle.sm_bytes.specs.Ascii.{backspace, tab, line_feed, form_feed, carriage_
 use Rattle.sm_tree.specs.Node.{Node}
 use Rattle.sm_tree.specs.Json.{IsJson}
 use Rattle.sm_tree.specs.Levels.{levels}
-use Rattle.sm_tree.specs.Events.{events}
-use Rattle.sm_tree.specs.Timing.{TimedEvent, untimed}
+use Rattle.sm_tree.specs.Events.{NodeEvent, events}
+use Rattle.sm_tree.specs.Timing.{TimedEvent, untimed, Completes}
 use Rattle.sm_tree.specs.Syntax.{ComesTo, most_levels}
 use Rattle.sm_tree.specs.SyntaxLaws.{HasOneReading, HasOneAnswer, HasSomeAnswer}
 use Rattle.sm_tree.specs.declared.refusal.SyntaxRefusal.{SyntaxRefusal}
@@ -50,6 +50,10 @@ pub record TextsAreTimed : Type 0 where
 -- a text has at most one event a byte
 abbrev pub FewEvents : Type 0
 FewEvents = (n : Node) (bs : List ℕ) (ts : List TimedEvent) → json_timing n bs ts → length ts ≤ length bs
+
+-- before the first byte no event is complete
+abbrev pub NoEventYet : Type 0
+NoEventYet = (es : List NodeEvent) → Completes json_timing [] es → es ≡ []
 
 -- bytes are a text of at most one tree
 abbrev pub OneReading : Type 0

@@ -1,5 +1,6 @@
 // Laws of texts and of what is written, each the contract of a function whose body is empty.
-ghost use Rattle.sm_json.specs.Laws.{WrittenIsText, WrittenSpells, WrittenIsRead, WrittenTextSpells, EscapesAreMeant, TextsAreTimed, FewEvents, OneReading, OneAnswer, SomeAnswer};
+ghost use Rattle.sm_json.specs.Laws.{WrittenIsText, WrittenSpells, WrittenIsRead, WrittenTextSpells, EscapesAreMeant, TextsAreTimed, FewEvents, NoEventYet, OneReading, OneAnswer, SomeAnswer};
+ghost use Rattle.sm_json.specs.Stands.{StandingCompletes};
 ghost use Rattle.sm_json.specs.WrittenEvents.{WrittenEventsAreTree, WrittenEventsBegin, JsonEventsStand, JsonStreamsAreTaken};
 
 /// What is written for a tree is a JSON text of that tree (RFC 8259).
@@ -35,6 +36,16 @@ pub fn texts_are_timed()
 /// A JSON text has at most one event a byte.
 pub fn few_events()
     ensures { FewEvents }
+{}
+
+/// Before the first byte of a JSON text no event is complete.
+pub fn no_event_yet()
+    ensures { NoEventYet }
+{}
+
+/// The bytes that have come to a `JsonReader`, and weren't refused, complete some events.
+pub fn standing_completes()
+    ensures { StandingCompletes }
 {}
 
 /// Bytes are a JSON text of at most one tree.

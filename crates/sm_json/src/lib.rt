@@ -6,6 +6,7 @@ mod escape;
 pub mod laws;
 mod length;
 mod nesting;
+mod pieces;
 mod place;
 mod plain;
 mod put;
@@ -18,6 +19,7 @@ mod write;
 mod writer;
 
 pub use length::encoded_len;
+pub use pieces::JsonReader;
 pub use read::read_tree;
 pub use sm_tree::{NoMemory, SyntaxRefusal};
 pub use write::write_tree;

@@ -33,9 +33,9 @@ pub struct Reader {
 }
 
 impl Reader {
-    ghost use Rattle.sm_json.specs.steps.Machine.{JsonIsSound, JsonIsPlaced, JsonTakesPrefix, JsonTakesAll, JsonEndsText, json_state};
+    ghost use Rattle.sm_json.specs.steps.Machine.{JsonIsSound, JsonIsPlaced, JsonTakesPrefix, JsonTakesAll, JsonEndsText, JsonMayEnd, json_state};
 
-    fn new(alloc: Global) -> Self
+    pub(crate) fn new(alloc: Global) -> Self
         ensures state { json_state result ≡ json_start }
         ensures sound { JsonIsSound result }
     {
@@ -70,7 +70,11 @@ impl Reader {
 
     // Takes all the bytes.
     #[tactic(auto, using(crate::proofs::Turns::feeds_nowhere))]
-    fn feed<E: EventSink>(&mut self, bytes: &[u8], to: &mut E) -> Result<(), SyntaxRefusal>
+    pub(crate) fn feed<E: EventSink>(
+        &mut self,
+        bytes: &[u8],
+        to: &mut E,
+    ) -> Result<(), SyntaxRefusal>
         requires sound { JsonIsSound self.old }
         requires placed { JsonIsPlaced self.old (E.stands_for to.old) (E.takes to.old) }
         ensures goes { JsonTakesAll self.old (E.stands_for to.old) bytes.now self.new (E.stands_for to.new) (E.takes to.new) result }
@@ -104,8 +108,22 @@ impl Reader {
         Ok(())
     }
 
+    // Whether the bytes may end here.
+    pub(crate) fn is_over(&self) -> bool
+        ensures { JsonIsSound self.now → JsonMayEnd self.now result }
+    {
+        if self.lists.depth() > 0 {
+            return false;
+        }
+        match self.place {
+            Place::Number(phase) => phase.is_whole(),
+            Place::After => true,
+            _ => false,
+        }
+    }
+
     // The bytes end here: hands on what the end completes.
-    fn finish<E: EventSink>(&self, to: &mut E) -> Result<(), SyntaxRefusal>
+    pub(crate) fn finish<E: EventSink>(&self, to: &mut E) -> Result<(), SyntaxRefusal>
         requires sound { JsonIsSound self.now }
         requires placed { JsonIsPlaced self.now (E.stands_for to.old) (E.takes to.old) }
         ensures goes { JsonEndsText self.now (E.stands_for to.old) (E.stands_for to.new) (E.takes to.new) result }

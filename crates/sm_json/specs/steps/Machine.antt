@@ -1,6 +1,6 @@
 -- What a reader stands for, what it keeps, and what its steps do. The contracts of the reader's methods cite
 -- it; that of `read_tree` doesn't.
-use Rattle.std.specs.Prelude.{◌≡◌, ℕ, ◌+◌, ◌≤◌, ◌<◌, true, List, [], ◌∷◌, take, drop, length, ◌⊎◌, Result, Ok, Err, slice_index}
+use Rattle.std.specs.Prelude.{◌≡◌, ℕ, ◌+◌, ◌≤◌, ◌<◌, Bool, true, false, List, [], ◌∷◌, take, drop, length, ◌⊎◌, Result, Ok, Err, slice_index}
 use Rattle.sm_bytes.specs.Ascii.{small_f, small_n, small_t}
 use Rattle.sm_tree.specs.Node.{Node}
 use Rattle.sm_tree.specs.Syntax.{most_levels}
@@ -88,15 +88,29 @@ pub record JsonGoes (before : Reader) (w : List ℕ) (out : List NodeEvent) (beh
   pub sound : JsonIsSound behind
 
 -- and the sink was handed them
-pub record JsonFeeds (before : Reader) (S : StandsFor) (w : List ℕ) (behind : Reader) (T : StandsFor) (takes : Takes) : Type 0 where
+pub record JsonBrings (before : Reader) (S : StandsFor) (w : List ℕ) (behind : Reader) (T : StandsFor) (takes : Takes) : Type 0 where
   pub out : List NodeEvent
   pub goes : JsonGoes before w out behind
   pub hands : TakesAll S out T
   pub takes_all : TakesEvery takes
 
+-- a step that was refused: the sink stands for what it stood for
+pub record JsonKeeps (S T : StandsFor) (takes : Takes) : Type 0 where
+  pub stands : TakesAll S [] T
+  pub takes_all : TakesEvery takes
+
+-- the reader's state once its value has ended
+abbrev pub behind_value : Reader → JsonState
+behind_value r = record { place = after; lists = lists_of r }
+
 -- with the byte c no text goes on from this state, however deep texts may nest
 abbrev pub Halts : JsonState → ℕ → Type 0
 Halts x c = (limit : ℕ) → JsonStops limit x c
+
+-- a byte behind a value: some text goes on with it, or none does
+abbrev pub MayFollow : Reader → ℕ → Bool → Type 0
+MayFollow r c true = JsonGoesOn most_levels (behind_value r) (c ∷ [])
+MayFollow r c false = Halts (behind_value r) c
 
 -- the byte c opens one level too many: none of the texts that are read goes on with it, and a deeper one does
 pub record Deepens (x : JsonState) (c : ℕ) : Type 0 where
@@ -105,11 +119,11 @@ pub record Deepens (x : JsonState) (c : ℕ) : Type 0 where
 
 -- what a byte does to the reader and the sink
 abbrev pub JsonTakesByte : Reader → StandsFor → ℕ → Reader → StandsFor → Takes → Result (Unit {0}) SyntaxRefusal → Type 0
-JsonTakesByte before S c behind T takes (Ok x) = JsonFeeds before S (c ∷ []) behind T takes
+JsonTakesByte before S c behind T takes (Ok x) = JsonBrings before S (c ∷ []) behind T takes
 JsonTakesByte before S c behind T takes (Err NoMemory) = Unit {0}
-JsonTakesByte before S c behind T takes (Err (Bad at)) = (at ≡ 0) × Halts (json_state before) c
+JsonTakesByte before S c behind T takes (Err (Bad at)) = (at ≡ 0) × Halts (json_state before) c × JsonKeeps S T takes
 JsonTakesByte before S c behind T takes (Err Ended) = ⊥
-JsonTakesByte before S c behind T takes (Err (TooDeep at)) = (at ≡ 0) × Deepens (json_state before) c
+JsonTakesByte before S c behind T takes (Err (TooDeep at)) = (at ≡ 0) × Deepens (json_state before) c × JsonKeeps S T takes
 JsonTakesByte before S c behind T takes (Err (KeyKind at)) = ⊥
 
 -- what it does where it completes no event and opens nothing
@@ -156,22 +170,27 @@ pub record DeepensAt (x : JsonState) (bs : List ℕ) (at : ℕ) : Type 0 where
   pub deeper : JsonGoesOn (most_levels + 1) x (take (at + 1) bs)
   pub stops : JsonGoesOn most_levels x (take (at + 1) bs) → ⊥
 
+-- the sink was handed what the bytes before a place complete, and nothing more
+pub record JsonBringsTo (before : Reader) (S : StandsFor) (bs : List ℕ) (at : ℕ) (T : StandsFor) (takes : Takes) : Type 0 where
+  pub there : Reader
+  pub fed : JsonBrings before S (take at bs) there T takes
+
 -- what the reader makes of some bytes, from the first one on: it takes so many of them, or refuses one of them
 abbrev pub JsonTakesPrefix : Reader → StandsFor → List ℕ → Reader → StandsFor → Takes → Result ℕ SyntaxRefusal → Type 0
-JsonTakesPrefix before S bs behind T takes (Ok n) = (0 < n) × (n ≤ length bs) × JsonFeeds before S (take n bs) behind T takes
+JsonTakesPrefix before S bs behind T takes (Ok n) = (0 < n) × (n ≤ length bs) × JsonBrings before S (take n bs) behind T takes
 JsonTakesPrefix before S bs behind T takes (Err NoMemory) = Unit {0}
-JsonTakesPrefix before S bs behind T takes (Err (Bad at)) = HaltsAt (json_state before) bs at
+JsonTakesPrefix before S bs behind T takes (Err (Bad at)) = HaltsAt (json_state before) bs at × JsonBringsTo before S bs at T takes
 JsonTakesPrefix before S bs behind T takes (Err Ended) = ⊥
-JsonTakesPrefix before S bs behind T takes (Err (TooDeep at)) = DeepensAt (json_state before) bs at
+JsonTakesPrefix before S bs behind T takes (Err (TooDeep at)) = DeepensAt (json_state before) bs at × JsonBringsTo before S bs at T takes
 JsonTakesPrefix before S bs behind T takes (Err (KeyKind at)) = ⊥
 
 -- what it makes of all of them
 abbrev pub JsonTakesAll : Reader → StandsFor → List ℕ → Reader → StandsFor → Takes → Result (Unit {0}) SyntaxRefusal → Type 0
-JsonTakesAll before S bs behind T takes (Ok x) = JsonFeeds before S bs behind T takes
+JsonTakesAll before S bs behind T takes (Ok x) = JsonBrings before S bs behind T takes
 JsonTakesAll before S bs behind T takes (Err NoMemory) = Unit {0}
-JsonTakesAll before S bs behind T takes (Err (Bad at)) = HaltsAt (json_state before) bs at
+JsonTakesAll before S bs behind T takes (Err (Bad at)) = HaltsAt (json_state before) bs at × JsonBringsTo before S bs at T takes
 JsonTakesAll before S bs behind T takes (Err Ended) = ⊥
-JsonTakesAll before S bs behind T takes (Err (TooDeep at)) = DeepensAt (json_state before) bs at
+JsonTakesAll before S bs behind T takes (Err (TooDeep at)) = DeepensAt (json_state before) bs at × JsonBringsTo before S bs at T takes
 JsonTakesAll before S bs behind T takes (Err (KeyKind at)) = ⊥
 
 -- the bytes end here: the sink was handed the events that the end completes, or no text ends so
@@ -183,6 +202,11 @@ JsonEndsText reader S T takes (Err (Bad at)) = ⊥
 JsonEndsText reader S T takes (Err Ended) = (ts : List TimedEvent) → JsonRest most_levels (json_state reader) [] ts → ⊥
 JsonEndsText reader S T takes (Err (TooDeep at)) = ⊥
 JsonEndsText reader S T takes (Err (KeyKind at)) = ⊥
+
+-- the bytes may end here: they are a text, or they are none
+abbrev pub JsonMayEnd : Reader → Bool → Type 0
+JsonMayEnd reader true = (last : List TimedEvent) × JsonRest most_levels (json_state reader) [] last
+JsonMayEnd reader false = (ts : List TimedEvent) → JsonRest most_levels (json_state reader) [] ts → ⊥
 
 -- whitespace may stand before the token that comes next
 abbrev pub TakesWhitespace : Where → Type 0

@@ -124,6 +124,9 @@ impl Reader {
         if !phase.is_whole() {
             return Err(SyntaxRefusal::Bad(0));
         }
+        if !self.may_follow(byte) {
+            return Err(SyntaxRefusal::Bad(0));
+        }
         self.hand_number(phase, to)?;
         self.place = Place::After;
         self.behind(byte, to)

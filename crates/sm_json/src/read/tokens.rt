@@ -1,7 +1,7 @@
 // The steps of the reader from one token to the next: brackets, braces, commas, colons and whitespace, and
 // the first byte of each value and each name.
-ghost use Rattle.std.specs.Prelude.{◌≡◌, ◌<◌, length, OnOk, false, [], ◌∷◌};
-ghost use Rattle.sm_bytes.specs.Ascii.{quote, left_bracket, right_bracket, left_brace, right_brace};
+ghost use Rattle.std.specs.Prelude.{◌≡◌, ◌<◌, ◌↔◌, ◌⊎◌, IsTrue, length, OnOk, false, [], ◌∷◌};
+ghost use Rattle.sm_bytes.specs.Ascii.{quote, comma, left_bracket, right_bracket, left_brace, right_brace};
 ghost use Rattle.sm_tree.specs.Building.{IsIn};
 ghost use Rattle.sm_json.specs.Strings.{is_whitespace};
 ghost use Rattle.sm_tree.specs.NumberTail.{NumberLeads};
@@ -13,8 +13,22 @@ use sm_bytes::{ByteClass, run_len};
 use sm_tree::number::Phase;
 use sm_tree::{Event, EventSink, MOST_LEVELS, NoMemory, OpenKind, SyntaxRefusal};
 
+// A comma or the end of a list.
+fn follows_entry(byte: u8) -> bool
+    ensures { IsTrue result ↔ (byte ≡ comma) ⊎ (byte ≡ right_bracket) }
+{
+    byte == b',' || byte == b']'
+}
+
+// A comma or the end of an object.
+fn follows_pair(byte: u8) -> bool
+    ensures { IsTrue result ↔ (byte ≡ comma) ⊎ (byte ≡ right_brace) }
+{
+    byte == b',' || byte == b'}'
+}
+
 impl Reader {
-    ghost use Rattle.sm_json.specs.steps.Machine.{JsonIsSound, JsonIsPlaced, JsonTakesByte, JsonStepsByte, JsonGoes, JsonFeeds, HasClosed, ClosesAt, BeginsString, TakesWhitespace, JsonTakesPrefix, json_state, lists_of, first_letter};
+    ghost use Rattle.sm_json.specs.steps.Machine.{JsonIsSound, JsonIsPlaced, JsonTakesByte, JsonStepsByte, JsonGoes, JsonBrings, HasClosed, ClosesAt, BeginsString, TakesWhitespace, JsonTakesPrefix, MayFollow, json_state, lists_of, first_letter};
 
     // A bracket where a value may come.
     fn open_list<E: EventSink>(&mut self, to: &mut E) -> Result<(), SyntaxRefusal>
@@ -62,7 +76,7 @@ impl Reader {
         requires placed { JsonIsPlaced self.old (E.stands_for to.old) (E.takes to.old) }
         requires place { ClosesAt OpenKind.List self.old.place }
         requires inside { IsIn OpenKind.List (lists_of self.old) }
-        ensures goes { OnOk result (JsonFeeds self.old (E.stands_for to.old) (right_bracket ∷ []) self.new (E.stands_for to.new) (E.takes to.new)) }
+        ensures goes { OnOk result (JsonBrings self.old (E.stands_for to.old) (right_bracket ∷ []) self.new (E.stands_for to.new) (E.takes to.new)) }
         ensures alike { E.alike to.old to.new }
     {
         to.event(Event::EndList)?;
@@ -74,7 +88,7 @@ impl Reader {
         requires placed { JsonIsPlaced self.old (E.stands_for to.old) (E.takes to.old) }
         requires place { ClosesAt OpenKind.Object self.old.place }
         requires inside { IsIn OpenKind.Object (lists_of self.old) }
-        ensures goes { OnOk result (JsonFeeds self.old (E.stands_for to.old) (right_brace ∷ []) self.new (E.stands_for to.new) (E.takes to.new)) }
+        ensures goes { OnOk result (JsonBrings self.old (E.stands_for to.old) (right_brace ∷ []) self.new (E.stands_for to.new) (E.takes to.new)) }
         ensures alike { E.alike to.old to.new }
     {
         to.event(Event::EndObject)?;
@@ -278,6 +292,20 @@ impl Reader {
             Ok(())
         } else {
             self.after(byte, to)
+        }
+    }
+
+    // Whether the byte may come behind a value here. It is asked before a number is handed on.
+    pub(super) fn may_follow(&self, byte: u8) -> bool
+        ensures { MayFollow self.now byte result }
+    {
+        if Whitespace::has(byte) {
+            return true;
+        }
+        match self.lists.innermost() {
+            Some(OpenKind::List) => follows_entry(byte),
+            Some(OpenKind::Object) => follows_pair(byte),
+            None => false,
         }
     }
 

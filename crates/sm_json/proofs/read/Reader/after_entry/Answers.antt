@@ -1,6 +1,6 @@
 use Rattle.std.proofs.Common.{refl}
 use Rattle.sm_json.proofs.Readers.{entry_goes, entry_halts}
-use Rattle.sm_json.proofs.Turns.{feeds_nothing}
+use Rattle.sm_json.proofs.Turns.{feeds_nothing, keeps}
 use Rattle.sm_json.proofs.read.Reader.after_entry.Goals as goal
 
 pub returns-then-byte-eq44-clause-goes : goal.returns-then-byte-eq44-clause-goes
@@ -15,4 +15,5 @@ returns-else-byte-eq93-clause-goes g c = (
   refl,
   entry_halts c.args.self.now c.args.byte c.requires.place c.requires.inside c.requires.black
       c.if-byte-eq44.false c.if-byte-eq93.false,
+  keeps c.args.self.now _ _ c.requires.placed,
 )

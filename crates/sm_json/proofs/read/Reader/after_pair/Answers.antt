@@ -1,6 +1,6 @@
 use Rattle.std.proofs.Common.{refl}
 use Rattle.sm_json.proofs.Readers.{pair_goes, pair_halts}
-use Rattle.sm_json.proofs.Turns.{feeds_nothing}
+use Rattle.sm_json.proofs.Turns.{feeds_nothing, keeps}
 use Rattle.sm_json.proofs.read.Reader.after_pair.Goals as goal
 
 pub returns-then-byte-eq44-clause-goes : goal.returns-then-byte-eq44-clause-goes
@@ -15,4 +15,5 @@ returns-else-byte-eq125-clause-goes g c = (
   refl,
   pair_halts c.args.self.now c.args.byte c.requires.place c.requires.inside c.requires.black
       c.if-byte-eq44.false c.if-byte-eq125.false,
+  keeps c.args.self.now _ _ c.requires.placed,
 )

@@ -23,8 +23,8 @@ pub returns-in-Err-clause-goes : goal.returns-in-Err-clause-goes
 returns-in-Err-clause-goes g c =
     rw c.moved_by.ensures (refused_in_turn c.args.self.now c.loop-at.self c.turn.new.self
     (g.E.EventSink.stands_for c.args.to.now) (g.E.EventSink.stands_for c.loop-at.to) (g.E.EventSink.stands_for c.turn.new.to)
-    (g.E.EventSink.takes c.turn.new.to) c.args.bytes.now c.loop-at.at
-    c.in-Err.refusal c.loop-at-test.true c.loop-at.invariant.fed.goes c.in-Err.ensures.goes)
+    (g.E.EventSink.takes c.loop-at.to) (g.E.EventSink.takes c.turn.new.to) c.args.bytes.now c.loop-at.at
+    c.in-Err.refusal c.loop-at-test.true c.loop-at.invariant.fed c.in-Err.ensures.goes)
 
 pub turn-requires-clause-placed : goal.turn-requires-clause-placed
 turn-requires-clause-placed g c = fed_placed c.args.self.now c.loop-at.self _ _ _ _ _ c.requires.placed c.loop-at.invariant.fed

@@ -1,9 +1,17 @@
-use Rattle.std.proofs.Common.{ap, sym, subst, ◌∙◌, arith, length, get_or, [], ◌∷◌}
+use Rattle.std.proofs.Common.{refl, ap, sym, subst, ◌∙◌, arith, length, get_or, [], ◌∷◌}
 use Rattle.sm_tree.specs.Streams.{MayTake, TakesOn}
 use Rattle.sm_json.specs.steps.Rest.{literal_event}
 use Rattle.sm_json.specs.declared.place.Place.TheVariants.{After}
-use Rattle.sm_json.proofs.Turns.{letter_goes, word_over, event_may_come, feeds_event, feeds_nothing}
+use Rattle.sm_json.proofs.Turns.{letter_halts, keeps, letter_goes, word_over, event_may_come, feeds_event, feeds_nothing}
 use Rattle.sm_json.proofs.read.Reader.letter.Goals as goal
+
+pub returns-then-name-at-clause-goes : goal.returns-then-name-at-clause-goes
+returns-then-name-at-clause-goes g c = (
+  refl,
+  letter_halts c.args.self.now c.args.word c.args.taken c.args.byte c.requires.place c.requires.begun
+      (λ e. c.if-name-at.true (ap (λ name. get_or name c.args.taken 0) c.letters-name.ensures ∙ e)),
+  keeps c.args.self.now _ _ c.requires.placed,
+)
 
 pub returns-then-at-name-clause-goes : goal.returns-then-at-name-clause-goes
 returns-then-at-name-clause-goes g c = feeds_nothing c.args.self.now _ _ _ _ c.requires.placed

@@ -31,6 +31,6 @@ returns-in-Ok-Open-clause-goes g c =
 
 pub returns-in-Err-clause-goes : goal.returns-in-Err-clause-goes
 returns-in-Err-clause-goes g c =
-    rw c.refused.ensures (string_refused c.args.self.now (g.E.EventSink.stands_for c.args.to.now) (g.E.EventSink.stands_for c.args.to.now)
-    (g.E.EventSink.takes c.args.to.now) c.args.role c.read.new.self
-    (record c.args.self.now { text = c.read.new.self }) c.args.bytes.now c.in-Err.refusal c.requires.sound c.requires.place c.in-Err.ensures)
+    rw c.refused.ensures (string_refused c.args.self.now (g.E.EventSink.stands_for c.args.to.now) (g.E.EventSink.takes c.args.to.now)
+    c.args.role c.read.new.self (record c.args.self.now { text = c.read.new.self }) c.args.bytes.now c.in-Err.refusal
+    c.requires.sound c.requires.placed c.requires.place c.in-Err.ensures)
