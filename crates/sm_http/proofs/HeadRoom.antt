@@ -1,5 +1,5 @@
 -- A head of 16,384 bytes has no more than 5,500 fields.
-use Rattle.std.proofs.Common.{ℕ, ◌*◌, ◌≤◌, List, [], ◌∷◌, ◌++◌, length, sym, ap, subst, arith}
+use Rattle.std.proofs.Common.{ℕ, ◌*◌, ◌≤◌, List, [], ◌∷◌, ◌++◌, ◌≡◌, ◌<◌, length, sym, ap, subst, arith}
 use Rattle.std.specs.Prelude.{All}
 use Rattle.std.proofs.lemmas.List.{length-append}
 use Rattle.std.proofs.lemmas.List.Elements.{All-head, All-tail}
@@ -63,20 +63,18 @@ response_some h rest all =
     let in_blank = behind (print_blank h.blank) _ n in_version in
     subst (λ bs. n ≤ length bs) (sym (print_response-append h rest)) in_blank
 
+-- a head of more fields than the limit of a head has room for
+too_many : (bytes front rest text : List ℕ) (count : ℕ) → length bytes ≤ head_limit → bytes ≡ front ++ rest → 3 * count ≤ length (text ++ [])
+    → front ++ print_end lf ≡ text ++ [] → 5500 < count → ⊥
+too_many bytes front rest text count short cut long is many =
+    let same = ap length is in
+    let whole = ap length cut in
+    let parts = length-append front rest in
+    let line = length-append front (print_end lf) in
+    omega arith
+
 pub never_exceeds : (side : Side) (bytes : List ℕ) → length bytes ≤ head_limit → HeadExceeds side 5500 bytes → ⊥
 never_exceeds of_requests bytes short x =
-    let long = request_some x.3 [] x.4.0.fields in
-    let same = ap length x.4.1 in
-    let whole = ap length x.2 in
-    let cut = length-append x.0 x.1 in
-    let line = length-append x.0 (print_end lf) in
-    let many = x.5 in
-    omega arith
+    too_many bytes x.0 x.1 (print_request x.3) (length x.3.fields) short x.2 (request_some x.3 [] x.4.0.fields) x.4.1 x.5
 never_exceeds of_responses bytes short x =
-    let long = response_some x.3 [] x.4.0.fields in
-    let same = ap length x.4.1 in
-    let whole = ap length x.2 in
-    let cut = length-append x.0 x.1 in
-    let line = length-append x.0 (print_end lf) in
-    let many = x.5 in
-    omega arith
+    too_many bytes x.0 x.1 (print_response x.3) (length x.3.fields) short x.2 (response_some x.3 [] x.4.0.fields) x.4.1 x.5

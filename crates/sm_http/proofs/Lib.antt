@@ -1,4 +1,5 @@
 mod FirstLine
+mod Rooms
 mod Cuts
 mod Numbers
 mod Found

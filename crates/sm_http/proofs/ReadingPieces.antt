@@ -13,7 +13,7 @@ use Rattle.sm_http.specs.declared.place.SeenPlace.{SeenPlace}
 use Rattle.sm_http.specs.declared.place.SeenPlace.TheVariants.{Next, Part}
 use Rattle.sm_http.specs.Limits.{piece_limit}
 use Rattle.sm_http.specs.Bodies.{HasBody, IsPastLimit, BodyFraming, body, body_refused, BodyFramed, behind_data}
-use Rattle.sm_http.specs.Calls.{IfAhead, IsWithinLimit, ReadsAPiece}
+use Rattle.sm_http.specs.Calls.{IfAhead, IsWithinLimit, data_room, ReadsAPiece}
 use Rattle.sm_http.specs.steps.Holding.{Fills}
 use Rattle.sm_http.specs.steps.Places.{Steps}
 use Rattle.sm_http.specs.steps.Passing.{SeesPlace, RefusesBody, Gives, GoesTo, PassesTo, GivesPiece}
@@ -136,46 +136,48 @@ gives_refused before most x y left buffer TooLong opened said = absurd said
 gives_refused before most x y left buffer Chunk opened said = absurd said
 gives_refused before most x y left buffer NoMemory opened said = absurd said
 
-pub gives_known : (most count : ℕ) (x y left : Option (List ℕ)) (buffer : List ℕ) → IsWithinLimit (Known most) → length buffer ≡ piece_limit
-    → Gives most x y left buffer (Ok count) → GivesPiece (Known most) (Known (most - count)) x y buffer count
-gives_known most count x y left buffer within room said =
+gives_step : (before now : BodyLeft) (most count : ℕ) (x y left : Option (List ℕ)) (buffer : List ℕ) → Gives most x y left buffer (Ok count)
+    → length buffer ≡ piece_limit → IsWithinLimit now → data_room now + count ≤ data_room before
+    → ((piece : List ℕ) → length piece + (most - count) ≡ most → Steps before piece piece now) → GivesPiece before now x y buffer count
+gives_step before now most count x y left buffer said long within room step =
     let len = length-take-le count buffer (omega (arith, said.2)) in
     let all : length (take count buffer) + (most - count) ≡ most = omega (arith, said.1) in
     record {
       few = said.2;
-      goes = record {
-        used = take count buffer;
-        consumes = said.3;
-        steps = subst (λ n. Steps (Known n) (take count buffer) (take count buffer) (Known (most - count))) all
-            (known_step (most - count) (take count buffer));
-        within = omega arith;
-      };
+      goes = record { used = take count buffer; consumes = said.3; steps = step (take count buffer) all; within = within };
       ends = λ none. absurd (omega (arith, said.0));
-      room = omega (arith, said.1);
+      room = room;
     }
+
+pub gives_known : (most count : ℕ) (x y left : Option (List ℕ)) (buffer : List ℕ) → IsWithinLimit (Known most) → length buffer ≡ piece_limit
+    → Gives most x y left buffer (Ok count) → GivesPiece (Known most) (Known (most - count)) x y buffer count
+gives_known most count x y left buffer within long said =
+    gives_step (Known most) (Known (most - count)) most count x y left buffer said long (omega arith) (omega (arith, said.1))
+    (λ piece all. subst (λ n. Steps (Known n) piece piece (Known (most - count))) all (known_step (most - count) piece))
 
 pub gives_data : (most total count : ℕ) (x y left : Option (List ℕ)) (buffer : List ℕ) → IsWithinLimit (Data most total)
     → length buffer ≡ piece_limit → Gives most x y left buffer (Ok count)
     → GivesPiece (Data most total) (Data (most - count) total) x y buffer count
-gives_data most total count x y left buffer within room said =
-    let len = length-take-le count buffer (omega (arith, said.2)) in
-    let all : length (take count buffer) + (most - count) ≡ most = omega (arith, said.1) in
-    record {
-      few = said.2;
-      goes = record {
-        used = take count buffer;
-        consumes = said.3;
-        steps = subst (λ n. Steps (Data n total) (take count buffer) (take count buffer) (Data (most - count) total)) all
-            (data_step (most - count) total (take count buffer));
-        within = (omega (arith, within.0), within.1);
-      };
-      ends = λ none. absurd (omega (arith, said.0));
-      room = omega (arith, said.1);
-    }
+gives_data most total count x y left buffer within long said =
+    gives_step (Data most total) (Data (most - count) total) most count x y left buffer said long (omega (arith, within.0), within.1) (omega (arith, said.1))
+    (λ piece all. subst (λ n. Steps (Data n total) piece piece (Data (most - count) total)) all (data_step (most - count) total piece))
 
 pub same_ahead : (x : Option (List ℕ)) → Consumes x x []
 same_ahead None = tt
 same_ahead (Some x) = refl
+
+pub begins_empty : (a : BodyLeft) (x : Option (List ℕ)) → IsWithinLimit a → GoesTo a a x x []
+begins_empty a x within = record {
+  used = [];
+  consumes = same_ahead x;
+  steps = record {
+    on = λ rest content behind y. y;
+    back = λ rest content behind y none. none content behind y;
+    past_on = λ rest p. p;
+    past_back = λ rest p. p;
+  };
+  within = within;
+}
 
 pub gives_none : (x : Option (List ℕ)) (buffer : List ℕ) → GivesPiece (Known 0) Done x x buffer 0
 gives_none x buffer = record {
@@ -188,17 +190,7 @@ gives_none x buffer = record {
 pub gives_done : (x : Option (List ℕ)) (buffer : List ℕ) → GivesPiece Done Done x x buffer 0
 gives_done x buffer = record {
   few = omega arith;
-  goes = record {
-    used = [];
-    consumes = same_ahead x;
-    steps = record {
-      on = λ rest content behind y. y;
-      back = λ rest content behind y none. none content behind y;
-      past_on = λ rest p. p;
-      past_back = λ rest p. p;
-    };
-    within = tt;
-  };
+  goes = begins_empty Done x tt;
   ends = λ none. refl;
   room = omega arith;
 }
@@ -239,19 +231,6 @@ piece_ahead a d x v left buffer count gives = (
 
 -- ---- pieces one after the other
 
-pub begins_empty : (a : BodyLeft) (x : Option (List ℕ)) → IsWithinLimit a → GoesTo a a x x []
-begins_empty a x within = record {
-  used = [];
-  consumes = same_ahead x;
-  steps = record {
-    on = λ rest content behind y. y;
-    back = λ rest content behind y none. none content behind y;
-    past_on = λ rest p. p;
-    past_back = λ rest p. p;
-  };
-  within = within;
-}
-
 pub whole_body : (a b d : BodyLeft) (x y z : Option (List ℕ)) (before buffer : List ℕ) (count : ℕ) → count ≡ 0 → GoesTo a b x y before
     → GivesPiece b d y z buffer count → GoesTo a Done x z before
 whole_body a b d x y z before buffer count none goes gives =
@@ -281,3 +260,20 @@ held_gives most n l h k xs ys some within few inside e f =
       subst (λ t. Consumes (prepend_known h l) (prepend_known k l) t) front
           (subst (λ d. Consumes (prepend_known h l) (prepend_known d l) (take n h)) (sym e) (consumed (prepend_known h l) l h n (ahead_same l h))),
     )
+
+-- all that was left of a body, from the bytes held
+pub held_whole : (n : ℕ) (l : Option (List ℕ)) (h k xs : List ℕ) → n ≤ length h → k ≡ drop n h → xs ≡ take n h
+    → GoesTo (Known n) Done (prepend_known h l) (prepend_known k l) xs
+held_whole n l h k xs inside e f =
+    let long = length-take-le n h inside in
+    let all : length (take n h) + 0 ≡ n = omega arith in
+    subst (λ b. GoesTo (Known n) Done (prepend_known h l) (prepend_known b l) xs) (sym e)
+    (subst (λ b. GoesTo (Known n) Done (prepend_known h l) (prepend_known (drop n h) l) b) (append-nil (take n h) ∙ sym f)
+    (goes_joined (Known n) (Known 0) Done (prepend_known h l) (prepend_known (drop n h) l) (prepend_known (drop n h) l) (take n h) []
+    (record {
+      used = take n h;
+      consumes = consumed (prepend_known h l) l h n (ahead_same l h);
+      steps = subst (λ m. Steps (Known m) (take n h) (take n h) (Known 0)) all (known_step 0 (take n h));
+      within = omega arith;
+    })
+    (record { used = []; consumes = same_ahead (prepend_known (drop n h) l); steps = known_end; within = tt })))

@@ -21,7 +21,7 @@ use Rattle.sm_http.specs.Bodies.{BodyFramed, body}
 use Rattle.sm_http.specs.Laws.{WrittenIsRead}
 use Rattle.sm_http.proofs.Numbers.{and_left, and_right}
 use Rattle.sm_http.specs.Heads.{HeadText, ReadsHead, field_of}
-use Rattle.sm_http.specs.Written.{line_of, phrase, written_from, written_head, IsWritableField, IsWritableStart}
+use Rattle.sm_http.specs.Written.{request_head_of, response_head_of, line_of, phrase, written_from, written_head, IsWritableField, IsWritableStart}
 
 -- a written field is read as itself
 field_again : (field : Field) → IsWritableField field → field_of (line_of field) ≡ field
@@ -80,7 +80,7 @@ head_again : (side : Side) (start : Start) (fields : List Field) (rest : List �
     → All IsWritableField fields → ReadsHead side (written_from start fields ++ rest) (said_text start fields) rest
 unfolding said_text
 head_again of_requests (Request method target) fields rest good_start good_fields = (
-  record { blank = []; method = method; target = target; minor = 1; line_end = crlf; fields = map line_of fields; last = crlf },
+  request_head_of method target fields,
   (
     record {
       method = good_start.0;
@@ -107,15 +107,7 @@ head_again of_responses (Response status) fields rest good_start good_fields =
     (digits_value 10 (decimal status) == status && list_all is_value_byte (phrase status)) behind in
     let value = and_left (digits_value 10 (decimal status) == status) (list_all is_value_byte (phrase status)) last in
     let reason = and_right (digits_value 10 (decimal status) == status) (list_all is_value_byte (phrase status)) last in (
-      record {
-        blank = [];
-        minor = 1;
-        digits = decimal status;
-        reason = Some (phrase status);
-        line_end = crlf;
-        fields = map line_of fields;
-        last = crlf;
-      },
+      response_head_of status fields,
       (
         record {
           minor = omega arith;

@@ -3,7 +3,7 @@
 use Rattle.std.specs.Prelude.{◌≡◌, ℕ, ◌<◌, ◌≤◌, List, [], ◌∷◌, ◌++◌, map, length, All, IsUtf8, decimal, unwrap_or, Some, None}
 use Rattle.http.specs.StatusCode.{reason_phrase}
 use Rattle.httparse.specs.Ascii.{space}
-use Rattle.httparse.specs.Grammar.{crlf, print_request, print_response, is_uri_byte, is_value_byte, IsToken, AllPass, trim_ows}
+use Rattle.httparse.specs.Grammar.{crlf, RequestHead, ResponseHead, print_request, print_response, is_uri_byte, is_value_byte, IsToken, AllPass, trim_ows}
 use Rattle.httparse.specs.Grammar.{Field as FieldLine}
 use Rattle.sm_http.specs.declared.message.Field.{Field}
 use Rattle.sm_http.specs.declared.message.Head.{Head}
@@ -24,19 +24,13 @@ line_of field = record { name = field.name; raw = space ∷ field.value; end = c
 abbrev pub phrase : ℕ → List ℕ
 phrase status = unwrap_or (reason_phrase status) []
 
-abbrev pub written_from : Start → List Field → List ℕ
-written_from (Request method target) fields =
-    print_request (record {
-      blank = [];
-      method = method;
-      target = target;
-      minor = 1;
-      line_end = crlf;
-      fields = map line_of fields;
-      last = crlf;
-    })
-written_from (Response status) fields =
-    print_response (record {
+abbrev pub request_head_of : List ℕ → List ℕ → List Field → RequestHead
+request_head_of method target fields =
+    record { blank = []; method = method; target = target; minor = 1; line_end = crlf; fields = map line_of fields; last = crlf }
+
+abbrev pub response_head_of : ℕ → List Field → ResponseHead
+response_head_of status fields =
+    record {
       blank = [];
       minor = 1;
       digits = decimal status;
@@ -44,7 +38,11 @@ written_from (Response status) fields =
       line_end = crlf;
       fields = map line_of fields;
       last = crlf;
-    })
+    }
+
+abbrev pub written_from : Start → List Field → List ℕ
+written_from (Request method target) fields = print_request (request_head_of method target fields)
+written_from (Response status) fields = print_response (response_head_of status fields)
 
 abbrev pub written_head : Head → List ℕ
 written_head head = written_from head.start head.fields

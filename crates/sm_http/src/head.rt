@@ -68,11 +68,8 @@ pub fn request_head<'b>(
             let minor = request.version.unwrap();
             let fields = fields_of(alloc, &*request.headers)?;
             let start = Start::Request { method, target };
-            Ok(HeadFound {
-                head: Head { start, fields },
-                minor,
-                len,
-            })
+            let head = Head { start, fields };
+            Ok(HeadFound { head, minor, len })
         }
         Ok(Status::Partial) => Err(Unfound::Part),
         Err(Error::TooManyHeaders) => Err(Unfound::TooMany),
@@ -95,11 +92,8 @@ pub fn response_head<'b>(
             let minor = response.version.unwrap();
             let fields = fields_of(alloc, &*response.headers)?;
             let start = Start::Response { status };
-            Ok(HeadFound {
-                head: Head { start, fields },
-                minor,
-                len,
-            })
+            let head = Head { start, fields };
+            Ok(HeadFound { head, minor, len })
         }
         Ok(Status::Partial) => Err(Unfound::Part),
         Err(Error::TooManyHeaders) => Err(Unfound::TooMany),

@@ -1,8 +1,8 @@
 // Bytes that were read and not used yet.
-ghost use Rattle.std.specs.Prelude.{◌≡◌, ◌<◌, ◌≤◌, [], length, drop, IsErrOf};
+ghost use Rattle.std.specs.Prelude.{◌≡◌, ◌<◌, ◌≤◌, ◌+◌, ◌-◌, [], length, take, drop, slice_range, IfOk, IsErr, IsErrOf, OnOk};
 ghost use Rattle.sm_io.specs.Causes.{HasCause};
 ghost use Rattle.sm_http.specs.Limits.{head_limit};
-ghost use Rattle.sm_http.specs.steps.Holding.{Fills};
+ghost use Rattle.sm_http.specs.steps.Holding.{Fills, FillsRoom};
 
 use crate::limits::{HEAD_LIMIT, PIECE_LIMIT};
 use sm_io::{Failed, Source};
@@ -12,30 +12,62 @@ use std::marker::Model;
 /// Bytes that were read and not used yet: at most 16,384. Contracts see them as a list.
 #[derive(Drop)]
 pub struct Held {
-    // Bytes that were used, and then those held.
-    bytes: Vec<u8>,
-    // How many of them were used.
+    // Room that is filled once, and then read into again and again.
+    room: Vec<u8>,
+    // The bytes held are those of the room from here ..
     at: usize,
-    pub ghost within: { at ≤ length bytes.items },
-    pub ghost few: { length bytes.items ≤ head_limit },
+    // .. to here.
+    end: usize,
+    pub ghost ordered: { at ≤ end },
+    pub ghost inside: { end ≤ length room.items },
+    pub ghost few: { length room.items ≤ head_limit },
 }
 
 impl Model for Held {
-    ghost use Rattle.std.specs.Prelude.{List, ℕ, drop};
+    ghost use Rattle.std.specs.Prelude.{List, ℕ, slice_range};
 
     ghost Value = { List ℕ };
 
-    ghost view = { λ a. drop a.at a.bytes.items };
+    ghost view = { λ a. slice_range a.room.items a.at a.end };
 }
 
-// Drops the first bytes of a vector.
-fn drop_prefix(bytes: &mut Vec<u8>, count: usize)
-    requires { count ≤ length bytes.old.items }
-    ensures { bytes.new.items ≡ drop count bytes.old.items }
+// Moves some of the bytes to the start.
+fn move_to_start(bytes: &mut [u8], at: usize, end: usize)
+    requires ordered { at ≤ end }
+    requires inside { end ≤ length bytes.old }
+    ensures bytes { take (end - at) bytes.new ≡ slice_range bytes.old at end }
+    ensures len { length bytes.new ≡ length bytes.old }
 {
-    let len = bytes.len() - count;
-    bytes.rotate_left(count);
-    bytes.truncate(len);
+    bytes.copy_within(at..end, 0);
+}
+
+// Makes the room longer where all of it is used.
+fn widen(room: &mut Vec<u8>, used: usize) -> Result<(), AllocError>
+    requires used { used ≤ length room.old.items }
+    requires less { used < head_limit }
+    requires few { length room.old.items ≤ head_limit }
+    ensures kept { take used room.new.items ≡ take used room.old.items }
+    ensures room { OnOk result (used < length room.new.items) }
+    ensures inside { used ≤ length room.new.items }
+    ensures still_few { length room.new.items ≤ head_limit }
+{
+    if used < room.len() {
+        return Ok(());
+    }
+    room.resize((used + PIECE_LIMIT).min(HEAD_LIMIT), 0)
+}
+
+// Takes bytes from the source to the room behind those that are used; none only at the end.
+fn take_behind<S: Source>(source: &mut S, room: &mut [u8], used: usize) -> Result<usize, Failed>
+    requires { used < length room.old }
+    ensures bytes { FillsRoom (S.left source.old) (S.left source.new) used room.old room.new result }
+    ensures bound { IfOk result (λ count. used + count ≤ length room.new) }
+    ensures len { length room.new ≡ length room.old }
+    ensures later { S.faults source.old ≤ S.faults source.new }
+    ensures cause { HasCause (IsErr result) (S.faults source.old) (S.faults source.new) }
+{
+    let end = room.len().min(used + PIECE_LIMIT);
+    source.take(&mut room[used..end])
 }
 
 /// Why no bytes came.
@@ -52,8 +84,9 @@ impl Held {
         ensures { result ≡ [] }
     {
         Held {
-            bytes: Vec::new(alloc),
+            room: Vec::new(alloc),
             at: 0,
+            end: 0,
         }
     }
 
@@ -62,7 +95,7 @@ impl Held {
         ensures count { result ≡ length self.now }
         ensures few { result ≤ head_limit }
     {
-        (self.bytes.len() - self.at) as u64
+        (self.end - self.at) as u64
     }
 
     /// The bytes.
@@ -70,7 +103,7 @@ impl Held {
         ensures bytes { result.now ≡ self.now }
         ensures few { length self.now ≤ head_limit }
     {
-        &self.bytes[self.at..]
+        &self.room[self.at..self.end]
     }
 
     /// Uses so many of the bytes.
@@ -89,18 +122,19 @@ impl Held {
         ensures later { S.faults source.old ≤ S.faults source.new }
         ensures cause { HasCause (IsErrOf result Unfilled.Failed) (S.faults source.old) (S.faults source.new) }
     {
-        let at = self.at;
+        move_to_start(self.room.as_mut_slice(), self.at, self.end);
+        self.end -= self.at;
         self.at = 0;
-        drop_prefix(&mut self.bytes, at);
-        let mut buffer = [0; PIECE_LIMIT];
-        let room = (HEAD_LIMIT - self.bytes.len()).min(PIECE_LIMIT);
-        let count = match source.take(&mut buffer[..room]) {
-            Ok(count) => count,
-            Err(Failed) => return Err(Unfilled::Failed),
-        };
-        match self.bytes.extend_from_slice(&buffer[..count]) {
-            Ok(()) => Ok(count),
-            Err(AllocError) => Err(Unfilled::NoMemory),
+        match widen(&mut self.room, self.end) {
+            Ok(()) => {}
+            Err(AllocError) => return Err(Unfilled::NoMemory),
+        }
+        match take_behind(source, self.room.as_mut_slice(), self.end) {
+            Ok(count) => {
+                self.end += count;
+                Ok(count)
+            }
+            Err(Failed) => Err(Unfilled::Failed),
         }
     }
 }

@@ -1,7 +1,8 @@
 // Messages read from a source, by pieces and by the whole.
-ghost use Rattle.std.specs.Prelude.{◌≤◌, length, IsErrOf};
+ghost use Rattle.std.specs.Prelude.{◌≡◌, ◌≤◌, length, take, drop, OnOk, IfOk, IfSome, IsErrOf};
 ghost use Rattle.std.specs.Io.KnownBytes.{prepend_known};
 ghost use Rattle.sm_io.specs.Causes.{HasCause};
+ghost use Rattle.sm_http.specs.declared.message.BodyLeft.TheVariants.{Known};
 ghost use Rattle.sm_http.specs.Limits.{head_limit};
 ghost use Rattle.sm_http.specs.Calls.{ReadsAHead, BeginsWithin, IsWithinLimit, ReadsAMessage};
 ghost use Rattle.sm_http.specs.steps.Passing.{TakesBody};
@@ -91,7 +92,34 @@ fn read_body<S: Source>(
     }
 }
 
-/// The next message. None exactly where no byte is left.
+// How many bytes a body has, where all of them are held.
+fn come_whole(left: BodyLeft, held: &Held) -> Option<usize>
+    ensures { IfSome result (λ count. (left ≡ Known count) × (count ≤ length held.now)) }
+{
+    match left {
+        BodyLeft::Known(count) => {
+            if count > held.len() {
+                return None;
+            }
+            Some(count as usize)
+        }
+        _ => None,
+    }
+}
+
+// The first bytes held, so many, which are then used.
+fn take_held(alloc: Global, held: &mut Held, count: usize) -> Result<Vec<u8>, AllocError>
+    requires { count ≤ length held.old }
+    ensures bytes { IfOk result (λ bytes. bytes.items ≡ take count held.old) }
+    ensures used { OnOk result (held.new ≡ drop count held.old) }
+    ensures few { length held.new ≤ head_limit }
+{
+    let bytes = held.as_slice()[..count].to_vec(alloc)?;
+    held.advance(count);
+    Ok(bytes)
+}
+
+/// The next message. None exactly where no byte is left. A body that has come with its head is copied once.
 /// After `ReadFault` the bytes that were held and taken are nothing or a message that hasn't ended.
 pub fn read_message<S: Source>(
     alloc: Global,
@@ -111,6 +139,15 @@ pub fn read_message<S: Source>(
     let Some((head, left)) = found else {
         return Ok(None);
     };
+    if let Some(count) = come_whole(left, held) {
+        return match take_held(alloc, held, count) {
+            Ok(body) => Ok(Some(Message {
+                head,
+                body: Bytes::new(body),
+            })),
+            Err(AllocError) => Err(HttpRefusal::NoMemory),
+        };
+    }
     match read_body(alloc, source, held, left) {
         Ok(body) => Ok(Some(Message {
             head,
