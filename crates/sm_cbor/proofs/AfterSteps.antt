@@ -1,15 +1,17 @@
 -- What the reader does with a byte behind an item: where nothing is open, or what ends with a break.
-use Rattle.std.proofs.Common.{◌≡◌, ◌≢◌, ℕ, inl, inr, List, [], ◌∷◌, None, refl, sym, ap, subst, ◌∙◌, arith}
+use Rattle.std.proofs.Common.{◌≡◌, ◌≢◌, ℕ, inl, inr, List, [], ◌∷◌, None, refl, sym, ap, subst, arith}
 use Rattle.std.proofs.Common.{Result, Ok, Err}
 use Rattle.sm_tree.specs.declared.refusal.SyntaxRefusal.{SyntaxRefusal}
 use Rattle.sm_tree.specs.declared.refusal.SyntaxRefusal.TheVariants.{Bad, Ended, TooDeep, KeyKind, NoMemory}
 use Rattle.sm_tree.specs.Limits.{most_levels}
 use Rattle.sm_tree.specs.Events.{NodeEvent}
-use Rattle.sm_tree.specs.Building.{goes_on}
+use Rattle.sm_tree.specs.Streams.{StandsFor}
+use Rattle.sm_cbor.specs.steps.Sinks.{Reached}
 use Rattle.sm_cbor.specs.Refusals.{mark}
 use Rattle.sm_cbor.specs.steps.Marks.{Keys, plain, marked}
-use Rattle.sm_cbor.specs.steps.Rest.{CborState, CborLeads, CborStops}
-use Rattle.sm_cbor.specs.steps.Machine.{kinds_of, levels_of, cbor_state_at, cbor_state_of, InMap, IsAt, IsBadByte, IsOtherKey, OpensTooDeep, CborTakesByte, IsFirstLevel, first_level}
+use Rattle.sm_cbor.specs.steps.Rest.{CborState, CborLeads, LeadsBack, CborStops, first_state}
+use Rattle.sm_cbor.specs.steps.Machine.{levels_of, cbor_state_at, cbor_state_of, IsAt, IsBadByte, IsOtherKey, OpensTooDeep, CborTakesByte, IsFirstLevel}
+use Rattle.sm_cbor.specs.steps.Levels.{first_level}
 use Rattle.sm_cbor.specs.declared.place.Level.{Level}
 use Rattle.sm_cbor.specs.declared.place.Level.TheVariants.{ListToBreak as AListToBreak, MapToBreak as AMapToBreak}
 use Rattle.sm_cbor.specs.declared.place.Place.{Place}
@@ -34,20 +36,35 @@ done_bad r c none = subst (λ ls. IsBadByte (at After r.held.items ls) c) (sym (
 })
 
 pub entry_there : (r : Reader) → IsAt r After → IsFirstLevel AListToBreak (levels_of r) → IsAt r Item
-entry_there r there first =
-    let (ls, e) = first_is (levels_of r) AListToBreak first in
-    record { kinds_are = there.kinds_are; room = there.room; keeps = there.keeps ∙ ap (λ ks. goes_on (kinds_of ks)) e; settled = tt }
+entry_there r there first = record { room = there.room; keeps = tt }
 
 pub pair_there : (r : Reader) → IsAt r After → IsFirstLevel AMapToBreak (levels_of r) → IsAt r Key
-pair_there r there first =
-    let (ls, e) = first_is (levels_of r) AMapToBreak first in
-    record {
-      kinds_are = there.kinds_are;
-      room = there.room;
-      keeps =
-          (subst InMap (sym e) tt, there.keeps ∙ ap (λ ks. goes_on (kinds_of ks)) e);
-      settled = tt;
-    }
+pair_there r there first = record { room = there.room; keeps = tt }
+
+-- behind an entry that a break may follow, a sink has also reached the place where the next must come; and a key behind a pair
+pub entry_reached : (S : StandsFor) (r : Reader) → IsFirstLevel AListToBreak (levels_of r) → Reached S (cbor_state_at r After)
+    → Reached S (cbor_state_at r Item)
+entry_reached S r first (bs, es, back, stands) =
+    let (ls, e) = first_is (levels_of r) AListToBreak first in (
+      bs,
+      es,
+      subst (λ ks. LeadsBack plain most_levels first_state bs es (at After r.held.items ks)
+          → LeadsBack plain most_levels first_state bs es (at Item r.held.items ks)) (sym e)
+          (λ b s fs rest. b s fs (entry_comes plain most_levels ls s fs rest)) back,
+      stands,
+    )
+
+pub pair_reached : (S : StandsFor) (r : Reader) → IsFirstLevel AMapToBreak (levels_of r) → Reached S (cbor_state_at r After)
+    → Reached S (cbor_state_at r Key)
+pair_reached S r first (bs, es, back, stands) =
+    let (ls, e) = first_is (levels_of r) AMapToBreak first in (
+      bs,
+      es,
+      subst (λ ks. LeadsBack plain most_levels first_state bs es (at After r.held.items ks)
+          → LeadsBack plain most_levels first_state bs es (at Key r.held.items ks)) (sym e)
+          (λ b s fs rest. b s fs (pair_comes plain most_levels ls s fs rest)) back,
+      stands,
+    )
 
 -- what a byte that is no break does behind an entry is what it does where an item must come
 entry_stops : (w : Keys) (limit c : ℕ) (t : List ℕ) (ls : List Level) → c ≢ 0xFF → CborStops w limit (at Item t (AListToBreak ∷ ls)) c
@@ -130,9 +147,10 @@ leads_after w limit c r p l ls out x e to h =
     subst (λ ks. CborLeads w limit (at p r.held.items ks) (c ∷ []) out x → CborLeads w limit (at After r.held.items ks) (c ∷ []) out x)
     (sym e) to h
 
-pub entry_takes : (r q : Reader) (c : ℕ) (result : Result (Unit {0}) SyntaxRefusal) → IsFirstLevel AListToBreak (levels_of r) → c ≢ 0xFF
-    → CborTakesByte r Item c q result → CborTakesByte r After c q result
-entry_takes r q c (Ok x) first other h =
+pub entry_takes : (S T : StandsFor) (r q : Reader) (c : ℕ) (result : Result (Unit {0}) SyntaxRefusal) → IsFirstLevel AListToBreak
+    (levels_of r) → c ≢ 0xFF
+    → CborTakesByte S r Item c T q result → CborTakesByte S r After c T q result
+entry_takes S T r q c (Ok x) first other h =
     let (ls, e) = first_is (levels_of r) AListToBreak first in record {
       out = h.out;
       leads = λ w limit high. leads_after w limit c r Item AListToBreak ls h.out (cbor_state_of q) e
@@ -140,18 +158,19 @@ entry_takes r q c (Ok x) first other h =
       taken = h.taken;
       sound = h.sound;
     }
-entry_takes r q c (Err NoMemory) first other h = tt
-entry_takes r q c (Err (Bad n)) first other h = let (ls, e) = first_is (levels_of r) AListToBreak first in
-    (h.0, as_after IsBadByte r Item AListToBreak ls c e (λ t d ks o x. entry_bad t d ks o x) other h.1)
-entry_takes r q c (Err Ended) first other h = h
-entry_takes r q c (Err (TooDeep n)) first other h = let (ls, e) = first_is (levels_of r) AListToBreak first in
-    (h.0, as_after OpensTooDeep r Item AListToBreak ls c e (λ t d ks o x. entry_deep t d ks o x) other h.1)
-entry_takes r q c (Err (KeyKind n)) first other h = let (ls, e) = first_is (levels_of r) AListToBreak first in
-    (h.0, as_after IsOtherKey r Item AListToBreak ls c e (λ t d ks o x. entry_other t d ks o x) other h.1)
+entry_takes S T r q c (Err NoMemory) first other h = tt
+entry_takes S T r q c (Err (Bad n)) first other h = let (ls, e) = first_is (levels_of r) AListToBreak first in
+    (h.0, as_after IsBadByte r Item AListToBreak ls c e (λ t d ks o x. entry_bad t d ks o x) other h.1, h.2)
+entry_takes S T r q c (Err Ended) first other h = h
+entry_takes S T r q c (Err (TooDeep n)) first other h = let (ls, e) = first_is (levels_of r) AListToBreak first in
+    (h.0, as_after OpensTooDeep r Item AListToBreak ls c e (λ t d ks o x. entry_deep t d ks o x) other h.1, h.2)
+entry_takes S T r q c (Err (KeyKind n)) first other h = let (ls, e) = first_is (levels_of r) AListToBreak first in
+    (h.0, as_after IsOtherKey r Item AListToBreak ls c e (λ t d ks o x. entry_other t d ks o x) other h.1, h.2)
 
-pub pair_takes : (r q : Reader) (c : ℕ) (result : Result (Unit {0}) SyntaxRefusal) → IsFirstLevel AMapToBreak (levels_of r) → c ≢ 0xFF
-    → CborTakesByte r Key c q result → CborTakesByte r After c q result
-pair_takes r q c (Ok x) first other h =
+pub pair_takes : (S T : StandsFor) (r q : Reader) (c : ℕ) (result : Result (Unit {0}) SyntaxRefusal) → IsFirstLevel AMapToBreak
+    (levels_of r) → c ≢ 0xFF
+    → CborTakesByte S r Key c T q result → CborTakesByte S r After c T q result
+pair_takes S T r q c (Ok x) first other h =
     let (ls, e) = first_is (levels_of r) AMapToBreak first in record {
       out = h.out;
       leads = λ w limit high. leads_after w limit c r Key AMapToBreak ls h.out (cbor_state_of q) e
@@ -159,11 +178,11 @@ pair_takes r q c (Ok x) first other h =
       taken = h.taken;
       sound = h.sound;
     }
-pair_takes r q c (Err NoMemory) first other h = tt
-pair_takes r q c (Err (Bad n)) first other h = let (ls, e) = first_is (levels_of r) AMapToBreak first in
-    (h.0, as_after IsBadByte r Key AMapToBreak ls c e (λ t d ks o x. pair_bad t d ks o x) other h.1)
-pair_takes r q c (Err Ended) first other h = h
-pair_takes r q c (Err (TooDeep n)) first other h = let (ls, e) = first_is (levels_of r) AMapToBreak first in
-    (h.0, as_after OpensTooDeep r Key AMapToBreak ls c e (λ t d ks o x. pair_deep t d ks o x) other h.1)
-pair_takes r q c (Err (KeyKind n)) first other h = let (ls, e) = first_is (levels_of r) AMapToBreak first in
-    (h.0, as_after IsOtherKey r Key AMapToBreak ls c e (λ t d ks o x. pair_other t d ks o x) other h.1)
+pair_takes S T r q c (Err NoMemory) first other h = tt
+pair_takes S T r q c (Err (Bad n)) first other h = let (ls, e) = first_is (levels_of r) AMapToBreak first in
+    (h.0, as_after IsBadByte r Key AMapToBreak ls c e (λ t d ks o x. pair_bad t d ks o x) other h.1, h.2)
+pair_takes S T r q c (Err Ended) first other h = h
+pair_takes S T r q c (Err (TooDeep n)) first other h = let (ls, e) = first_is (levels_of r) AMapToBreak first in
+    (h.0, as_after OpensTooDeep r Key AMapToBreak ls c e (λ t d ks o x. pair_deep t d ks o x) other h.1, h.2)
+pair_takes S T r q c (Err (KeyKind n)) first other h = let (ls, e) = first_is (levels_of r) AMapToBreak first in
+    (h.0, as_after IsOtherKey r Key AMapToBreak ls c e (λ t d ks o x. pair_other t d ks o x) other h.1, h.2)

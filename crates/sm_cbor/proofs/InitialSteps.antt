@@ -1,22 +1,24 @@
 -- What the reader does with a byte outside of strings. The answers of those steps cite these.
-use Rattle.std.proofs.Common.{◌≡◌, ◌≢◌, ℕ, zero, suc, ◌+◌, ◌-◌, ◌*◌, ◌/◌, ◌%◌, ◌^◌, ◌≤◌, ◌<◌, ◌⊎◌, inl, inr, Bool, true, List, [], ◌∷◌, None, refl, sym, subst, arith, length, append-nil}
+use Rattle.std.proofs.Common.{◌≡◌, ◌≢◌, ℕ, zero, suc, ◌+◌, ◌-◌, ◌*◌, ◌/◌, ◌%◌, ◌^◌, ◌≤◌, ◌<◌, ◌⊎◌, inl, inr, Bool, List, [], ◌∷◌, None, refl, sym, subst, arith, length}
 use Rattle.std.proofs.Common.{Global}
 use Rattle.std.specs.Prelude.{Vec}
 use Rattle.std.proofs.lemmas.Str.{IsUtf8-nil}
 use Rattle.sm_tree.specs.Limits.{most_levels}
 use Rattle.sm_tree.specs.Levels.{levels}
 use Rattle.sm_tree.specs.Node.{Node, null, bool, int, number, text, bytes, tag, opaque, list, object}
-use Rattle.sm_tree.specs.Events.{events, null_event, bool_event, start_list, start_object}
+use Rattle.sm_tree.specs.Events.{null_event, bool_event, start_list, start_object}
 use Rattle.sm_tree.specs.Timing.{TimedEvent, by_byte}
-use Rattle.sm_tree.specs.Building.{awaits_value}
-use Rattle.sm_tree.specs.BuilderView.{building_of}
+use Rattle.sm_tree.specs.Streams.{StandsFor}
+use Rattle.sm_tree.proofs.Handing.{takes_none}
+use Rattle.sm_cbor.specs.steps.Sinks.{Reached, Owed}
+use Rattle.sm_cbor.proofs.Reaching.{reached_by, owed_by}
 use Rattle.sm_cbor.specs.CborItem.{TextString, Item as ItemBytes}
 use Rattle.sm_cbor.specs.steps.Marks.{plain, marked}
 use Rattle.sm_cbor.specs.Heads.{HasWidth}
 use Rattle.sm_cbor.specs.Refusals.{IsNoText, BeginsOther}
 use Rattle.sm_cbor.specs.steps.Reading.{StartsNumber, HeadIs, SubjectIs, IsOf, bound}
 use Rattle.sm_cbor.specs.steps.Rest.{CborLeads}
-use Rattle.sm_cbor.specs.steps.Machine.{levels_of, cbor_state_at, cbor_handed_on, opens_of, ArgumentLives, ArgumentAwaits, ChunksHeld, StringAwaits, BehindItem, IsAt, IsSoundReader, CborGoes, OpensLevel, IsBadByte, IsOtherKey, OpensTooDeep}
+use Rattle.sm_cbor.specs.steps.Machine.{levels_of, cbor_state_at, opened, opens_of, ArgumentLives, ChunksHeld, BehindItem, IsAt, IsSoundReader, CborGoes, OpensLevel, IsBadByte, IsOtherKey, OpensTooDeep}
 use Rattle.sm_cbor.specs.declared.head.Head.{Head}
 use Rattle.sm_cbor.specs.declared.head.Head.TheVariants.{Argument as ArgumentHead, Chunks as ChunksHead, List as EntriesHead, Map as PairsHead, Null as NullHead, Bool as BoolHead, NoItem}
 use Rattle.sm_cbor.specs.declared.place.StringKind.{StringKind}
@@ -77,21 +79,7 @@ pub bound_word : (k : ℕ) → bound k ≤ 2 ^ 64
 bound_word zero = omega arith
 bound_word (suc k) = let h = bound_word k in omega arith
 
--- what is awaited where an item's argument begins
-head_awaits : (c : ℕ) (j : Subject) (ls : List Level) (awaits : Bool) → SubjectIs c j → awaits ≡ true → ArgumentAwaits j ls awaits
-head_awaits c Unsigned ls awaits is e = e
-head_awaits c Negative ls awaits is e = e
-head_awaits c (StringHead Bytes Whole) ls awaits is e = e
-head_awaits c (StringHead Text Whole) ls awaits is e = e
-head_awaits c (StringHead KeyText Whole) ls awaits is e = absurd is
-head_awaits c (StringHead Bytes Chunk) ls awaits is e = absurd is
-head_awaits c (StringHead Text Chunk) ls awaits is e = absurd is
-head_awaits c (StringHead KeyText Chunk) ls awaits is e = absurd is
-head_awaits c ListHead ls awaits is e = e
-head_awaits c MapHead ls awaits is e = e
-head_awaits c TagHead ls awaits is e = e
-head_awaits c (Opaque b) ls awaits is e = e
-
+-- nothing is held before it
 head_held : (c : ℕ) (j : Subject) (t : List ℕ) → SubjectIs c j → ChunksHeld j t
 head_held c Unsigned t is = tt
 head_held c Negative t is = tt
@@ -120,26 +108,24 @@ room_for n (suc o) small room more = let e : suc o ≡ 1 = omega arith in let le
 pub argument_there : (r : Reader) (c k v : ℕ) (j : Subject) → IsAt r Item → HeadIs c (ArgumentHead j k v)
     → (opens_of j ≡ 1 → length (levels_of r) < most_levels) → IsAt r (InArgument j k v)
 argument_there r c k v j there is more = record {
-  kinds_are = there.kinds_are;
   room = room_for (length (levels_of r)) (opens_of j) (opens_small j) there.room more;
-  keeps = (
-    head_lives c k v j is,
-    start_bound (c % 32) k v is.1,
-    head_awaits c j (levels_of r) (awaits_value (building_of r.builder)) is.0
-        there.keeps,
-    head_held c j r.held.items is.0,
-  );
-  settled = tt;
+  keeps = (head_lives c k v j is, start_bound (c % 32) k v is.1, head_held c j r.held.items is.0);
 }
 
 pub in_room : (r : Reader) (p : Place) (limit : ℕ) → IsAt r p → most_levels ≤ limit → length (levels_of r) ≤ limit
 in_room r p limit there high = let room = there.room in omega arith
 
-pub argument_goes : (r q : Reader) (c k v : ℕ) (j : Subject) → IsAt r Item → HeadIs c (ArgumentHead j k v)
-    → CborGoes r [] (InArgument j k v) [] q → CborGoes r [] Item (c ∷ []) q
-argument_goes r q c k v j there is goes =
-    goes_by r r q Item (InArgument j k v) (c ∷ []) [] [] goes (sym (append-nil (cbor_handed_on r)))
+pub argument_goes : (S T : StandsFor) (r q : Reader) (c k v : ℕ) (j : Subject) → IsAt r Item → HeadIs c (ArgumentHead j k v)
+    → CborGoes S r [] (InArgument j k v) [] T q → CborGoes S r [] Item (c ∷ []) T q
+argument_goes S T r q c k v j there is goes =
+    goes_by S S T r r q Item (InArgument j k v) (c ∷ []) [] [] goes (takes_none S)
     (λ w limit high. argument_leads w limit c k v j r.held.items (levels_of r) (in_room r Item limit there high) is)
+
+pub argument_reached : (S : StandsFor) (r : Reader) (c k v : ℕ) (j : Subject) → IsAt r Item → HeadIs c (ArgumentHead j k v)
+    → Reached S (cbor_state_at r Item) → Reached S (cbor_state_at r (InArgument j k v))
+argument_reached S r c k v j there is reached =
+    reached_by S (cbor_state_at r Item) (cbor_state_at r (InArgument j k v)) (c ∷ []) reached
+    (argument_leads plain most_levels c k v j r.held.items (levels_of r) (in_room r Item most_levels there (omega arith)) is)
 
 -- an opener where no more levels may open
 level_is : (j : Subject) → opens_of j ≡ 1 → (j ≡ ListHead) ⊎ ((j ≡ MapHead) ⊎ (j ≡ TagHead))
@@ -209,28 +195,40 @@ map_deep r c is full =
 -- an array or a map of indefinite length opens
 after_sound : (r : Reader) (l : Level) (ls : List Level) → levels_of r ≡ l ∷ ls → BehindItem (l ∷ ls) → IsAt r After
     → IsSoundReader (record r { place = After })
-after_sound r l ls e behind there = record {
-  there = record { kinds_are = there.kinds_are; room = there.room; keeps = there.keeps; settled = there.settled };
-  begun = subst BehindItem (sym e) behind;
-}
+after_sound r l ls e behind there =
+    record { there = record { room = there.room; keeps = there.keeps }; begun = subst BehindItem (sym e) behind }
 
-pub list_begins : (r mid : Reader) (c : ℕ) → IsAt r Item → HeadIs c EntriesHead → OpensLevel r AListToBreak (start_list None ∷ []) mid
-    → CborGoes r [] Item (c ∷ []) (record mid { place = After })
-list_begins r mid c there is opens =
-    goes_to r (record mid { place = After }) Item (c ∷ []) (start_list None ∷ [])
+pub list_begins : (S T : StandsFor) (r mid : Reader) (c : ℕ) → IsAt r Item → HeadIs c EntriesHead → OpensLevel S r AListToBreak
+    (start_list None) T mid
+    → CborGoes S r [] Item (c ∷ []) T (record mid { place = After })
+list_begins S T r mid c there is opens =
+    goes_to S T r (record mid { place = After }) Item (c ∷ []) (start_list None ∷ [])
     (after_sound mid AListToBreak (levels_of r) opens.levels tt opens.there) opens.taken
     (λ w limit high. subst (λ ks. CborLeads w limit (cbor_state_at r Item) (c ∷ []) (start_list None ∷ []) (at After mid.held.items ks))
     (sym opens.levels)
     (list_leads w limit c r.held.items mid.held.items (levels_of r) (in_room r Item limit there high) is))
 
-pub map_begins : (r mid : Reader) (c : ℕ) → IsAt r Item → HeadIs c PairsHead → OpensLevel r AMapToBreak (start_object None ∷ []) mid
-    → CborGoes r [] Item (c ∷ []) (record mid { place = After })
-map_begins r mid c there is opens =
-    goes_to r (record mid { place = After }) Item (c ∷ []) (start_object None ∷ [])
+pub list_begins_owed : (S : StandsFor) (r : Reader) (c : ℕ) → IsAt r Item → HeadIs c EntriesHead → Reached S (cbor_state_at r Item)
+    → Owed S (start_list None) (opened r AListToBreak)
+list_begins_owed S r c there is reached =
+    owed_by S (cbor_state_at r Item) (opened r AListToBreak) (c ∷ []) (start_list None) reached
+    (list_leads plain most_levels c r.held.items r.held.items (levels_of r) (in_room r Item most_levels there (omega arith)) is)
+
+pub map_begins : (S T : StandsFor) (r mid : Reader) (c : ℕ) → IsAt r Item → HeadIs c PairsHead → OpensLevel S r AMapToBreak
+    (start_object None) T mid
+    → CborGoes S r [] Item (c ∷ []) T (record mid { place = After })
+map_begins S T r mid c there is opens =
+    goes_to S T r (record mid { place = After }) Item (c ∷ []) (start_object None ∷ [])
     (after_sound mid AMapToBreak (levels_of r) opens.levels tt opens.there) opens.taken
     (λ w limit high. subst (λ ks. CborLeads w limit (cbor_state_at r Item) (c ∷ []) (start_object None ∷ []) (at After mid.held.items ks))
     (sym opens.levels)
     (map_leads w limit c r.held.items mid.held.items (levels_of r) (in_room r Item limit there high) is))
+
+pub map_begins_owed : (S : StandsFor) (r : Reader) (c : ℕ) → IsAt r Item → HeadIs c PairsHead → Reached S (cbor_state_at r Item)
+    → Owed S (start_object None) (opened r AMapToBreak)
+map_begins_owed S r c there is reached =
+    owed_by S (cbor_state_at r Item) (opened r AMapToBreak) (c ∷ []) (start_object None) reached
+    (map_leads plain most_levels c r.held.items r.held.items (levels_of r) (in_room r Item most_levels there (omega arith)) is)
 
 -- the chunks of a string begin
 kind_nil : (kind : StringKind) → IsOf kind []
@@ -239,54 +237,50 @@ kind_nil Text = IsUtf8-nil
 kind_nil KeyText = IsUtf8-nil
 
 chunks_sound : (r : Reader) (p : Place) (kind : StringKind) (h : Vec ℕ Global) → h.items ≡ [] → IsAt r p
-    → StringAwaits kind (levels_of r) (awaits_value (building_of r.builder)) → IsSoundReader (record r { place = Chunks kind; held = h })
-chunks_sound r p kind h empty there awaits = record {
-  there = record {
-    kinds_are = there.kinds_are;
-    room = let room = there.room in omega arith;
-    keeps =
-        (awaits, subst (IsOf kind) (sym empty) (kind_nil kind));
-    settled = tt;
-  };
+    → IsSoundReader (record r { place = Chunks kind; held = h })
+chunks_sound r p kind h empty there = record {
+  there = record { room = let room = there.room in omega arith; keeps = subst (IsOf kind) (sym empty) (kind_nil kind) };
   begun = tt;
 }
 
-head_string : (c : ℕ) (kind : StringKind) (ls : List Level) (awaits : Bool) → HeadIs c (ChunksHead kind) → awaits ≡ true
-    → StringAwaits kind ls awaits
-head_string c Bytes ls awaits is e = e
-head_string c Text ls awaits is e = e
-head_string c KeyText ls awaits is e = absurd is
-
-pub chunks_begin : (r : Reader) (c : ℕ) (kind : StringKind) (h : Vec ℕ Global) → h.items ≡ [] → IsAt r Item → HeadIs c (ChunksHead kind)
-    → CborGoes r [] Item (c ∷ []) (record r { place = Chunks kind; held = h })
-chunks_begin r c kind h empty there is =
-    goes_to r (record r { place = Chunks kind; held = h }) Item (c ∷ []) []
-    (chunks_sound r Item kind h empty there (head_string c kind (levels_of r) (awaits_value (building_of r.builder)) is there.keeps))
-    (sym (append-nil (cbor_handed_on r)))
+pub chunks_begin : (S : StandsFor) (r : Reader) (c : ℕ) (kind : StringKind) (h : Vec ℕ Global) → h.items ≡ [] → IsAt r Item
+    → HeadIs c (ChunksHead kind) → CborGoes S r [] Item (c ∷ []) S (record r { place = Chunks kind; held = h })
+chunks_begin S r c kind h empty there is =
+    goes_to S S r (record r { place = Chunks kind; held = h }) Item (c ∷ []) [] (chunks_sound r Item kind h empty there) (takes_none S)
     (λ w limit high. subst (λ t. CborLeads w limit (cbor_state_at r Item) (c ∷ []) [] (at (Chunks kind) t (levels_of r))) (sym empty)
     (chunks_lead w limit c kind r.held.items (levels_of r) (in_room r Item limit there high) is))
 
-pub key_chunks_begin : (r : Reader) (c : ℕ) (h : Vec ℕ Global) → h.items ≡ [] → IsAt r Key → c ≡ 0x7F
-    → CborGoes r [] Key (c ∷ []) (record r { place = Chunks KeyText; held = h })
-key_chunks_begin r c h empty there is =
-    goes_to r (record r { place = Chunks KeyText; held = h }) Key (c ∷ []) []
-    (chunks_sound r Key KeyText h empty there there.keeps)
-    (sym (append-nil (cbor_handed_on r)))
+pub key_chunks_begin : (S : StandsFor) (r : Reader) (c : ℕ) (h : Vec ℕ Global) → h.items ≡ [] → IsAt r Key → c ≡ 0x7F
+    → CborGoes S r [] Key (c ∷ []) S (record r { place = Chunks KeyText; held = h })
+key_chunks_begin S r c h empty there is =
+    goes_to S S r (record r { place = Chunks KeyText; held = h }) Key (c ∷ []) [] (chunks_sound r Key KeyText h empty there) (takes_none S)
     (λ w limit high. subst (λ t. CborLeads w limit (cbor_state_at r Key) (c ∷ []) [] (at (Chunks KeyText) t (levels_of r))) (sym empty)
     (key_chunks_lead w limit c r.held.items (levels_of r) is))
 
 -- null, false and true
-pub null_goes : (r q : Reader) (c : ℕ) (x : Node) → IsAt r Item → HeadIs c NullHead → x ≡ null → CborGoes r (events x []) After [] q
-    → CborGoes r [] Item (c ∷ []) q
-null_goes r q c x there is e goes =
-    goes_with r r q Item After (c ∷ []) [] (null_event ∷ []) (subst (λ y. CborGoes r (events y []) After [] q) e goes) refl
+pub null_goes : (S T : StandsFor) (r q : Reader) (c : ℕ) → IsAt r Item → HeadIs c NullHead
+    → CborGoes S r (null_event ∷ []) After [] T q → CborGoes S r [] Item (c ∷ []) T q
+null_goes S T r q c there is goes =
+    goes_with S T r r q Item After (c ∷ []) [] (null_event ∷ []) goes
     (λ w limit high. null_leads w limit c r.held.items r.held.items (levels_of r) (in_room r Item limit there high) is)
 
-pub bool_goes : (r q : Reader) (c : ℕ) (b : Bool) (x : Node) → IsAt r Item → HeadIs c (BoolHead b) → x ≡ bool b
-    → CborGoes r (events x []) After [] q → CborGoes r [] Item (c ∷ []) q
-bool_goes r q c b x there is e goes =
-    goes_with r r q Item After (c ∷ []) [] (bool_event b ∷ []) (subst (λ y. CborGoes r (events y []) After [] q) e goes) refl
+pub null_owed : (S : StandsFor) (r : Reader) (c : ℕ) → IsAt r Item → HeadIs c NullHead → Reached S (cbor_state_at r Item)
+    → Owed S null_event (cbor_state_at r After)
+null_owed S r c there is reached =
+    owed_by S (cbor_state_at r Item) (cbor_state_at r After) (c ∷ []) null_event reached
+    (null_leads plain most_levels c r.held.items r.held.items (levels_of r) (in_room r Item most_levels there (omega arith)) is)
+
+pub bool_goes : (S T : StandsFor) (r q : Reader) (c : ℕ) (b : Bool) → IsAt r Item → HeadIs c (BoolHead b)
+    → CborGoes S r (bool_event b ∷ []) After [] T q → CborGoes S r [] Item (c ∷ []) T q
+bool_goes S T r q c b there is goes =
+    goes_with S T r r q Item After (c ∷ []) [] (bool_event b ∷ []) goes
     (λ w limit high. bool_leads w limit c b r.held.items r.held.items (levels_of r) (in_room r Item limit there high) is)
+
+pub bool_owed : (S : StandsFor) (r : Reader) (c : ℕ) (b : Bool) → IsAt r Item → HeadIs c (BoolHead b) → Reached S (cbor_state_at r Item)
+    → Owed S (bool_event b) (cbor_state_at r After)
+bool_owed S r c b there is reached =
+    owed_by S (cbor_state_at r Item) (cbor_state_at r After) (c ∷ []) (bool_event b) reached
+    (bool_leads plain most_levels c b r.held.items r.held.items (levels_of r) (in_room r Item most_levels there (omega arith)) is)
 
 -- no item begins with the byte
 pub none_begins : (c : ℕ) → HeadIs c NoItem → BeginsOther c → ⊥
@@ -299,19 +293,19 @@ item_bad r c is = record { stops = λ limit. item_stops plain limit c r.held.ite
 
 -- a key that is a text
 pub key_there : (r : Reader) (c k v : ℕ) → IsAt r Key → StartsNumber (c % 32) k v → IsAt r (InArgument (StringHead KeyText Whole) k v)
-key_there r c k v there starts = record {
-  kinds_are = there.kinds_are;
-  room = there.room;
-  keeps =
-      (tt, start_bound (c % 32) k v starts, there.keeps, tt);
-  settled = tt;
-}
+key_there r c k v there starts = record { room = there.room; keeps = (tt, start_bound (c % 32) k v starts, tt) }
 
-pub key_begins : (r q : Reader) (c k v : ℕ) → c / 32 ≡ 3 → StartsNumber (c % 32) k v
-    → CborGoes r [] (InArgument (StringHead KeyText Whole) k v) [] q → CborGoes r [] Key (c ∷ []) q
-key_begins r q c k v is starts goes =
-    goes_by r r q Key (InArgument (StringHead KeyText Whole) k v) (c ∷ []) [] [] goes (sym (append-nil (cbor_handed_on r)))
+pub key_begins : (S T : StandsFor) (r q : Reader) (c k v : ℕ) → c / 32 ≡ 3 → StartsNumber (c % 32) k v
+    → CborGoes S r [] (InArgument (StringHead KeyText Whole) k v) [] T q → CborGoes S r [] Key (c ∷ []) T q
+key_begins S T r q c k v is starts goes =
+    goes_by S S T r r q Key (InArgument (StringHead KeyText Whole) k v) (c ∷ []) [] [] goes (takes_none S)
     (λ w limit high. key_leads w limit c k v r.held.items (levels_of r) is starts)
+
+pub key_reached : (S : StandsFor) (r : Reader) (c k v : ℕ) → c / 32 ≡ 3 → StartsNumber (c % 32) k v → Reached S (cbor_state_at r Key)
+    → Reached S (cbor_state_at r (InArgument (StringHead KeyText Whole) k v))
+key_reached S r c k v is starts reached =
+    reached_by S (cbor_state_at r Key) (cbor_state_at r (InArgument (StringHead KeyText Whole) k v)) (c ∷ []) reached
+    (key_leads plain most_levels c k v r.held.items (levels_of r) is starts)
 
 pub text_bad : (r : Reader) (c : ℕ) → c / 32 ≡ 3 → 28 ≤ c % 32 → c ≢ 0x7F → IsBadByte (cbor_state_at r Key) c
 text_bad r c is none no_chunks = record {

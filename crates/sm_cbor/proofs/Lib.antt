@@ -24,6 +24,7 @@ mod ByteSteps
 mod RunSteps
 mod PrefixSteps
 mod FeedSteps
+mod Feeding
 mod WrittenItems
 pub mod EventItems
 pub mod TakenEvents

@@ -1,21 +1,20 @@
 -- What the reader does with a head whose bytes are all at hand, and with a text behind it.
-use Rattle.std.proofs.Common.{◌≡◌, ℕ, zero, suc, ◌+◌, ◌-◌, ◌*◌, ◌/◌, ◌%◌, ◌^◌, ◌≤◌, ◌<◌, true, false, List, [], ◌∷◌, ◌++◌, refl, sym, ap, subst, ◌∙◌, arith, length, take, drop, get_or, append-nil, IsUtf8}
+use Rattle.std.proofs.Common.{◌≡◌, ℕ, zero, suc, ◌+◌, ◌-◌, ◌*◌, ◌/◌, ◌%◌, ◌^◌, ◌≤◌, ◌<◌, List, [], ◌∷◌, ◌++◌, refl, sym, ap, subst, ◌∙◌, arith, length, take, drop, get_or, append-nil, IsUtf8}
 use Rattle.std.specs.Prelude.{slice_index, Ok}
 use Rattle.std.proofs.Math.Seq.{take-add}
 use Rattle.std.proofs.lemmas.List.{drop_more}
 use Rattle.sm_tree.specs.Limits.{most_levels}
-use Rattle.sm_tree.specs.Node.{Node, text}
-use Rattle.sm_tree.specs.Events.{NodeEvent, events, key_event, text_event}
-use Rattle.sm_tree.specs.Building.{so_far, kinds, awaits_value, IsIn}
-use Rattle.sm_tree.specs.BuilderView.{building_of}
-use Rattle.sm_tree.specs.declared.build.TreeBuilder.{TreeBuilder}
-use Rattle.sm_tree.specs.declared.build.OpenKind.TheVariants.{Object as an_object}
+use Rattle.sm_tree.specs.Events.{NodeEvent, key_event, text_event}
 use Rattle.sm_bytes.specs.declared.utf8.Utf8.TheVariants.{Between}
+use Rattle.sm_tree.specs.Streams.{StandsFor, MayTake, TakesOn}
+use Rattle.sm_tree.proofs.Handing.{takes_none}
+use Rattle.sm_cbor.specs.steps.Sinks.{Reached, Owed}
+use Rattle.sm_cbor.proofs.Reaching.{may_take, reached_by, owed_by}
 use Rattle.sm_cbor.specs.Heads.{Number}
-use Rattle.sm_cbor.specs.steps.Marks.{Keys}
+use Rattle.sm_cbor.specs.steps.Marks.{Keys, plain}
 use Rattle.sm_cbor.specs.steps.Reading.{StartsNumber, HeadIs, IsBits, IsText, HasHead, IsBehind, bound}
 use Rattle.sm_cbor.specs.steps.Rest.{CborState, CborLeads}
-use Rattle.sm_cbor.specs.steps.Machine.{levels_of, cbor_state_at, cbor_handed_on, opens_of, IsAt, CborGoes, OpensTooDeep, CborTakesPrefixAt}
+use Rattle.sm_cbor.specs.steps.Machine.{levels_of, cbor_state_at, opens_of, IsAt, CborGoes, OpensTooDeep, CborTakesPrefixAt}
 use Rattle.sm_cbor.specs.declared.head.Head.TheVariants.{Argument as ArgumentHead}
 use Rattle.sm_cbor.specs.declared.place.StringKind.TheVariants.{Bytes, Text, Key as KeyText}
 use Rattle.sm_cbor.specs.declared.place.Span.TheVariants.{Whole, Chunk}
@@ -33,7 +32,6 @@ use Rattle.sm_cbor.proofs.Readings.{leads_none, leads_joined, goes_by, goes_with
 use Rattle.sm_cbor.proofs.Arguments.{number_more}
 use Rattle.sm_cbor.proofs.InitialSteps.{in_room, argument_there, argument_deep, byte_bound, bound_word}
 use Rattle.sm_cbor.proofs.ByteSteps.{argument_more}
-use Rattle.sm_cbor.proofs.EndSteps.{in_map}
 
 less_one : (k : ℕ) → suc k - 1 ≡ k
 less_one k = omega arith
@@ -163,77 +161,102 @@ head_there r bs j n len there head more =
     number_there r head.left head.value n j (drop 1 (take len bs)) head.no_bits head.argument
     (argument_there r (slice_index bs 0) head.left head.value j there head.initial more)
 
-pub head_goes : (r q : Reader) (bs : List ℕ) (j : Subject) (n len : ℕ) → IsAt r Item → HasHead bs j n len
-    → CborGoes r [] (InArgument j 0 n) [] q → CborGoes r [] Item (take len bs) q
-head_goes r q bs j n len there head goes =
-    subst (λ v. CborGoes r [] Item v q) (append-nil (take len bs))
-    (goes_by r r q Item (InArgument j 0 n) (take len bs) [] [] goes (sym (append-nil (cbor_handed_on r)))
+pub head_goes : (S T : StandsFor) (r q : Reader) (bs : List ℕ) (j : Subject) (n len : ℕ) → IsAt r Item → HasHead bs j n len
+    → CborGoes S r [] (InArgument j 0 n) [] T q → CborGoes S r [] Item (take len bs) T q
+head_goes S T r q bs j n len there head goes =
+    subst (λ v. CborGoes S r [] Item v T q) (append-nil (take len bs))
+    (goes_by S S T r r q Item (InArgument j 0 n) (take len bs) [] [] goes (takes_none S)
     (λ w limit high. item_head_leads w limit bs j n len r.held.items (levels_of r) head (in_room r Item limit there high)))
+
+pub head_reached : (S : StandsFor) (r : Reader) (bs : List ℕ) (j : Subject) (n len : ℕ) → IsAt r Item → HasHead bs j n len
+    → Reached S (cbor_state_at r Item) → Reached S (cbor_state_at r (InArgument j 0 n))
+head_reached S r bs j n len there head reached =
+    reached_by S (cbor_state_at r Item) (cbor_state_at r (InArgument j 0 n)) (take len bs) reached
+    (item_head_leads plain most_levels bs j n len r.held.items (levels_of r) head (in_room r Item most_levels there (omega arith)))
 
 pub head_deep : (r : Reader) (bs : List ℕ) (j : Subject) (n len : ℕ) → HasHead bs j n len → opens_of j ≡ 1
     → most_levels ≤ length (levels_of r) → OpensTooDeep (cbor_state_at r Item) (slice_index bs 0)
 head_deep r bs j n len head level full = argument_deep r (slice_index bs 0) head.left head.value j head.initial level full
 
 -- a text
-pub text_goes : (r q : Reader) (bs run : List ℕ) (j : Subject) (n len : ℕ) (x : Node) → IsAt r Item → HasHead bs j n len → IsText j
-    → IsBehind bs len n run → IsUtf8 run → x ≡ text run
-    → CborGoes r (events x []) After [] q → CborGoes r [] Item (take (len + n) bs) q
-text_goes r q bs run j n len x there head is behind utf8 e goes =
+text_all : (w : Keys) (limit : ℕ) (r : Reader) (bs run : List ℕ) (j : Subject) (n len : ℕ) → IsAt r Item → HasHead bs j n len → IsText j
+    → IsBehind bs len n run → IsUtf8 run → most_levels ≤ limit
+    → CborLeads w limit (cbor_state_at r Item) (take (len + n) bs) (text_event run ∷ []) (cbor_state_at r After)
+text_all w limit r bs run j n len there head is behind utf8 high =
     let head1 = subst (λ y. HasHead bs y n len) (text_head_is (slice_index bs 0) head.left head.value j is head.initial) head in
-    subst (λ v. CborGoes r [] Item v q) (append-nil (take (len + n) bs))
-    (goes_with r r q Item After (take (len + n) bs) [] (text_event run ∷ []) (subst (λ y. CborGoes r (events y []) After [] q) e goes) refl
-    (λ w limit high. both_leads w limit bs run n len (cbor_state_at r Item) (cbor_state_at r (InArgument (StringHead Text Whole) 0 n))
+    both_leads w limit bs run n len (cbor_state_at r Item) (cbor_state_at r (InArgument (StringHead Text Whole) 0 n))
     (cbor_state_at r After) (text_event run) behind
     (item_head_leads w limit bs (StringHead Text Whole) n len r.held.items (levels_of r) head1 (in_room r Item limit there high))
-    (text_leads w limit n run r.held.items r.held.items (levels_of r) behind.1 utf8)))
+    (text_leads w limit n run r.held.items r.held.items (levels_of r) behind.1 utf8)
+
+pub text_goes : (S T : StandsFor) (r q : Reader) (bs run : List ℕ) (j : Subject) (n len : ℕ) (e : NodeEvent) → IsAt r Item
+    → HasHead bs j n len → IsText j → IsBehind bs len n run → IsUtf8 run → e ≡ text_event run
+    → CborGoes S r (e ∷ []) After [] T q → CborGoes S r [] Item (take (len + n) bs) T q
+text_goes S T r q bs run j n len e there head is behind utf8 same goes =
+    subst (λ v. CborGoes S r [] Item v T q) (append-nil (take (len + n) bs))
+    (goes_with S T r r q Item After (take (len + n) bs) [] (text_event run ∷ [])
+    (subst (λ x. CborGoes S r (x ∷ []) After [] T q) same goes)
+    (λ w limit high. text_all w limit r bs run j n len there head is behind utf8 high))
+
+pub text_owed : (S : StandsFor) (r : Reader) (bs run : List ℕ) (j : Subject) (n len : ℕ) → IsAt r Item → HasHead bs j n len → IsText j
+    → IsBehind bs len n run → IsUtf8 run → Reached S (cbor_state_at r Item) → Owed S (text_event run) (cbor_state_at r After)
+text_owed S r bs run j n len there head is behind utf8 reached =
+    owed_by S (cbor_state_at r Item) (cbor_state_at r After) (take (len + n) bs) (text_event run) reached
+    (text_all plain most_levels r bs run j n len there head is behind utf8 (omega arith))
 
 -- and a key
-pub key_may : (r : Reader) → IsAt r Key → IsIn an_object (kinds (building_of r.builder)) × (awaits_value (building_of r.builder) ≡ false)
-key_may r there = (subst (IsIn an_object) (sym there.kinds_are) (in_map (levels_of r) there.keeps.0), there.keeps.1)
-
-pub key_goes : (r : Reader) (b : TreeBuilder) (bs run : List ℕ) (j : Subject) (n len : ℕ) → IsAt r Key → HasHead bs j n len → IsText j
+key_all : (w : Keys) (limit : ℕ) (r : Reader) (bs run : List ℕ) (j : Subject) (n len : ℕ) → HasHead bs j n len → IsText j
     → IsBehind bs len n run → IsUtf8 run
-    → so_far (building_of b) ≡ so_far (building_of r.builder) ++ (key_event run ∷ [])
-    → kinds (building_of b) ≡ kinds (building_of r.builder) → awaits_value (building_of b) ≡ true
-    → CborGoes r [] Key (take (len + n) bs) (record r { builder = b; place = Item })
-key_goes r b bs run j n len there head is behind utf8 taken same awaits =
-    goes_to r (record r { builder = b; place = Item }) Key (take (len + n) bs) (key_event run ∷ [])
-    (record { there = record { kinds_are = same ∙ there.kinds_are; room = there.room; keeps = awaits; settled = tt }; begun = tt })
-    taken
-    (λ w limit high. both_leads w limit bs run n len (cbor_state_at r Key) (cbor_state_at r (InArgument (StringHead KeyText Whole) 0 n))
+    → CborLeads w limit (cbor_state_at r Key) (take (len + n) bs) (key_event run ∷ []) (cbor_state_at r Item)
+key_all w limit r bs run j n len head is behind utf8 =
+    both_leads w limit bs run n len (cbor_state_at r Key) (cbor_state_at r (InArgument (StringHead KeyText Whole) 0 n))
     (cbor_state_at r Item) (key_event run) behind
     (key_head_leads w limit bs j n len r.held.items (levels_of r) head is)
-    (key_text_leads w limit n run r.held.items r.held.items (levels_of r) behind.1 utf8))
+    (key_text_leads w limit n run r.held.items r.held.items (levels_of r) behind.1 utf8)
+
+pub key_may : (S : StandsFor) (r : Reader) (bs run : List ℕ) (j : Subject) (n len : ℕ) → IsAt r Key → HasHead bs j n len → IsText j
+    → IsBehind bs len n run → IsUtf8 run → Reached S (cbor_state_at r Key) → MayTake S (key_event run)
+key_may S r bs run j n len there head is behind utf8 reached =
+    may_take S (cbor_state_at r Key) (cbor_state_at r Item) (take (len + n) bs) (key_event run) reached
+    (key_all plain most_levels r bs run j n len head is behind utf8) (tt, there.room)
+
+pub key_goes : (S T : StandsFor) (r : Reader) (bs run : List ℕ) (j : Subject) (n len : ℕ) → IsAt r Key → HasHead bs j n len → IsText j
+    → IsBehind bs len n run → IsUtf8 run → TakesOn S (key_event run) T
+    → CborGoes S r [] Key (take (len + n) bs) T (record r { place = Item })
+key_goes S T r bs run j n len there head is behind utf8 taken =
+    goes_to S T r (record r { place = Item }) Key (take (len + n) bs) (key_event run ∷ [])
+    (record { there = record { room = there.room; keeps = tt }; begun = tt })
+    taken
+    (λ w limit high. key_all w limit r bs run j n len head is behind utf8)
 
 -- some bytes are taken
 pub some_taken : (bs : List ℕ) (j : Subject) (n len : ℕ) → HasHead bs j n len → 0 < len
 some_taken bs j n len head = let e = head.all in omega arith
 
 -- what the reader makes of a prefix of its bytes
-pub head_prefix : (r q : Reader) (bs : List ℕ) (j : Subject) (n len : ℕ) → IsAt r Item → HasHead bs j n len
-    → CborGoes r [] (InArgument j 0 n) [] q → CborTakesPrefixAt r Item bs q (Ok len)
-head_prefix r q bs j n len there head goes = (some_taken bs j n len head, head.inside, head_goes r q bs j n len there head goes)
+pub head_prefix : (S T : StandsFor) (r q : Reader) (bs : List ℕ) (j : Subject) (n len : ℕ) → IsAt r Item → HasHead bs j n len
+    → CborGoes S r [] (InArgument j 0 n) [] T q → CborTakesPrefixAt S r Item bs T q (Ok len)
+head_prefix S T r q bs j n len there head goes =
+    (some_taken bs j n len head, head.inside, head_goes S T r q bs j n len there head goes)
 
-prefix_of : (r q : Reader) (p : Place) (bs run : List ℕ) (j : Subject) (n len : ℕ) → HasHead bs j n len → IsBehind bs len n run
-    → CborGoes r [] p (take (len + n) bs) q → CborTakesPrefixAt r p bs q (Ok (len + length run))
-prefix_of r q p bs run j n len head behind goes =
+prefix_of : (S T : StandsFor) (r q : Reader) (p : Place) (bs run : List ℕ) (j : Subject) (n len : ℕ) → HasHead bs j n len
+    → IsBehind bs len n run → CborGoes S r [] p (take (len + n) bs) T q → CborTakesPrefixAt S r p bs T q (Ok (len + length run))
+prefix_of S T r q p bs run j n len head behind goes =
     let some = some_taken bs j n len head in
-    (omega arith, omega (arith, behind.1, behind.2), subst (λ m. CborGoes r [] p (take (len + m) bs) q) (sym behind.1) goes)
+    (omega arith, omega (arith, behind.1, behind.2), subst (λ m. CborGoes S r [] p (take (len + m) bs) T q) (sym behind.1) goes)
 
-pub text_prefix : (r q : Reader) (bs run : List ℕ) (j : Subject) (n len : ℕ) (x : Node) → IsAt r Item → HasHead bs j n len → IsText j
-    → IsBehind bs len n run → IsUtf8 run → x ≡ text run
-    → CborGoes r (events x []) After [] q → CborTakesPrefixAt r Item bs q (Ok (len + length run))
-text_prefix r q bs run j n len x there head is behind utf8 e goes =
-    prefix_of r q Item bs run j n len head behind (text_goes r q bs run j n len x there head is behind utf8 e goes)
+pub text_prefix : (S T : StandsFor) (r q : Reader) (bs run : List ℕ) (j : Subject) (n len : ℕ) (e : NodeEvent) → IsAt r Item
+    → HasHead bs j n len → IsText j → IsBehind bs len n run → IsUtf8 run → e ≡ text_event run
+    → CborGoes S r (e ∷ []) After [] T q → CborTakesPrefixAt S r Item bs T q (Ok (len + length run))
+text_prefix S T r q bs run j n len e there head is behind utf8 same goes =
+    prefix_of S T r q Item bs run j n len head behind (text_goes S T r q bs run j n len e there head is behind utf8 same goes)
 
-pub key_prefix : (r : Reader) (b : TreeBuilder) (bs run : List ℕ) (j : Subject) (n len : ℕ) → IsAt r Key → HasHead bs j n len → IsText j
-    → IsBehind bs len n run → IsUtf8 run
-    → so_far (building_of b) ≡ so_far (building_of r.builder) ++ (key_event run ∷ [])
-    → kinds (building_of b) ≡ kinds (building_of r.builder) → awaits_value (building_of b) ≡ true
-    → CborTakesPrefixAt r Key bs (record r { builder = b; place = Item }) (Ok (len + length run))
-key_prefix r b bs run j n len there head is behind utf8 taken same awaits =
-    prefix_of r (record r { builder = b; place = Item }) Key bs run j n len head behind
-    (key_goes r b bs run j n len there head is behind utf8 taken same awaits)
+pub key_prefix : (S T : StandsFor) (r : Reader) (bs run : List ℕ) (j : Subject) (n len : ℕ) → IsAt r Key → HasHead bs j n len → IsText j
+    → IsBehind bs len n run → IsUtf8 run → TakesOn S (key_event run) T
+    → CborTakesPrefixAt S r Key bs T (record r { place = Item }) (Ok (len + length run))
+key_prefix S T r bs run j n len there head is behind utf8 taken =
+    prefix_of S T r (record r { place = Item }) Key bs run j n len head behind
+    (key_goes S T r bs run j n len there head is behind utf8 taken)
 
 -- a number grows by one byte more
 one_left : (m i : ℕ) → (m - i) - 1 ≡ m - (i + 1)

@@ -1,17 +1,14 @@
--- Steps of the reader, from the laws of `CborLeads`: those that hand on nothing or one event, how they join, and what the
--- levels of a vector are.
-use Rattle.std.proofs.Common.{◌≡◌, ℕ, ◌≤◌, List, [], ◌∷◌, ◌++◌, refl, sym, ap, subst, ◌∙◌, arith, length, length-append, reverse, append_assoc}
-use Rattle.std.proofs.lemmas.List.{reverse-append}
+-- Steps of the reader, from the laws of `CborLeads`: those that hand on nothing or one event, how they join.
+use Rattle.std.proofs.Common.{◌≡◌, ℕ, ◌≤◌, List, [], ◌∷◌, ◌++◌, refl, sym, ap, subst, ◌∙◌, arith, length, length-append, append_assoc}
 use Rattle.sm_tree.specs.Limits.{most_levels}
 use Rattle.sm_tree.specs.Events.{NodeEvent}
-use Rattle.sm_tree.specs.Streams.{unnumbered}
+use Rattle.sm_tree.specs.Streams.{StandsFor}
 use Rattle.sm_tree.specs.Timing.{TimedEvent, by_byte, HandsOn}
-use Rattle.sm_tree.proofs.Streams.{unnumbered_append}
-use Rattle.sm_tree.proofs.Handing.{hands_sooner, hands_joined}
+use Rattle.sm_tree.proofs.Handing.{hands_sooner, hands_joined, takes_both}
 use Rattle.sm_cbor.specs.steps.Marks.{Keys}
-use Rattle.sm_cbor.specs.steps.Rest.{CborState, CborRest, CborLeads}
-use Rattle.sm_cbor.specs.steps.Machine.{cbor_state_at, cbor_state_of, cbor_handed_on, IsSoundReader, CborGoes}
-use Rattle.sm_cbor.specs.declared.place.Level.{Level}
+use Rattle.sm_cbor.specs.steps.Rest.{CborState, CborRest, CborLeads, LeadsBack}
+use Rattle.sm_tree.specs.steps.Handing.{TakesAll}
+use Rattle.sm_cbor.specs.steps.Machine.{cbor_state_at, cbor_state_of, IsSoundReader, CborGoes}
 use Rattle.sm_cbor.specs.declared.place.Place.{Place}
 use Rattle.sm_cbor.specs.declared.read.Reader.{Reader}
 
@@ -40,6 +37,17 @@ leads_none w limit x = leads_silent (λ s es h. h) (λ s es h. h)
 sooner : (v s : List ℕ) (os : List TimedEvent) (out : List NodeEvent) → HandsOn (length (v ++ s)) os out → HandsOn (length s) os out
 sooner v s os out h = hands_sooner (length (v ++ s)) (length s) os out (let all = length-append v s in omega arith) h
 
+pub back_joined : (w : Keys) (limit : ℕ) (x y z : CborState) (u v : List ℕ) (out more : List NodeEvent) → LeadsBack w limit x u out y
+    → LeadsBack w limit y v more z → LeadsBack w limit x (u ++ v) (out ++ more) z
+back_joined w limit x y z u v out more h g s gs rest =
+    let (ps, hands1, rest1) = g s gs rest in
+    let (os, hands, rest2) = h (v ++ s) (ps ++ gs) rest1 in (
+      os ++ ps,
+      hands_joined (length s) os ps out more (sooner v s os out hands) hands1,
+      subst (λ q. CborRest w limit x q ((os ++ ps) ++ gs)) (sym (append_assoc u v s))
+          (subst (λ q. CborRest w limit x (u ++ (v ++ s)) q) (sym (append_assoc os ps gs)) rest2),
+    )
+
 pub leads_joined : (w : Keys) (limit : ℕ) (x y z : CborState) (u v : List ℕ) (out more : List NodeEvent) → CborLeads w limit x u out y
     → CborLeads w limit y v more z → CborLeads w limit x (u ++ v) (out ++ more) z
 leads_joined w limit x y z u v out more h g = record {
@@ -52,57 +60,38 @@ leads_joined w limit x y z u v out more h g = record {
         hands_joined (length s) os ps out more (sooner v s os out hands) hands1,
         rest2,
       );
-  back = λ s gs rest.
-      let (ps, hands1, rest1) = g.back s gs rest in
-      let (os, hands, rest2) = h.back (v ++ s) (ps ++ gs) rest1 in (
-        os ++ ps,
-        hands_joined (length s) os ps out more (sooner v s os out hands) hands1,
-        subst (λ q. CborRest w limit x q ((os ++ ps) ++ gs)) (sym (append_assoc u v s))
-            (subst (λ q. CborRest w limit x (u ++ (v ++ s)) q) (sym (append_assoc os ps gs)) rest2),
-      );
+  back = back_joined w limit x y z u v out more h.back g.back;
 }
 
--- the levels of a vector that grows or falls by one
-pub one_more : (xs : List Level) (l : Level) → reverse (xs ++ l ∷ []) ≡ l ∷ reverse xs
-one_more xs l = reverse-append xs (l ∷ [])
-
--- what was handed on, and then more
-pub more_taken : (before mid es out behind : List NodeEvent) → behind ≡ mid ++ unnumbered out → mid ≡ before ++ unnumbered es
-    → behind ≡ before ++ unnumbered (es ++ out)
-more_taken before mid es out behind h g =
-    h ∙ ap (λ fs. fs ++ unnumbered out) g ∙ append_assoc before (unnumbered es) (unnumbered out)
-    ∙ ap (λ fs. before ++ fs) (sym (unnumbered_append es out))
-
 -- a step of a state before a step of the reader
-pub goes_by : (before mid behind : Reader) (p q : Place) (u v : List ℕ) (es : List NodeEvent) → CborGoes mid [] q v behind
-    → cbor_handed_on mid ≡ cbor_handed_on before ++ unnumbered es
+pub goes_by : (S M T : StandsFor) (before mid behind : Reader) (p q : Place) (u v : List ℕ) (es : List NodeEvent)
+    → CborGoes M mid [] q v T behind → TakesAll S es M
     → ((w : Keys) (limit : ℕ) → most_levels ≤ limit → CborLeads w limit (cbor_state_at before p) u es (cbor_state_at mid q))
-    → CborGoes before [] p (u ++ v) behind
-goes_by before mid behind p q u v es goes taken leads = record {
+    → CborGoes S before [] p (u ++ v) T behind
+goes_by S M T before mid behind p q u v es goes taken leads = record {
   out = es ++ goes.out;
   leads = λ w limit high. leads_joined w limit (cbor_state_at before p) (cbor_state_at mid q) (cbor_state_of behind) u v es goes.out
       (leads w limit high) (goes.leads w limit high);
-  taken = more_taken (cbor_handed_on before) (cbor_handed_on mid) es goes.out (cbor_handed_on behind) goes.taken taken;
+  taken = takes_both S M T es goes.out taken goes.taken;
   sound = goes.sound;
 }
 
 -- a step of a state whose events were handed on with those of the reader's step
-pub goes_with : (before mid behind : Reader) (p q : Place) (u v : List ℕ) (es : List NodeEvent) → CborGoes mid (unnumbered es) q v behind
-    → cbor_handed_on mid ≡ cbor_handed_on before
+pub goes_with : (S T : StandsFor) (before mid behind : Reader) (p q : Place) (u v : List ℕ) (es : List NodeEvent)
+    → CborGoes S mid es q v T behind
     → ((w : Keys) (limit : ℕ) → most_levels ≤ limit → CborLeads w limit (cbor_state_at before p) u es (cbor_state_at mid q))
-    → CborGoes before [] p (u ++ v) behind
-goes_with before mid behind p q u v es goes taken leads = record {
+    → CborGoes S before [] p (u ++ v) T behind
+goes_with S T before mid behind p q u v es goes leads = record {
   out = es ++ goes.out;
   leads = λ w limit high. leads_joined w limit (cbor_state_at before p) (cbor_state_at mid q) (cbor_state_of behind) u v es goes.out
       (leads w limit high) (goes.leads w limit high);
-  taken = goes.taken ∙ ap (λ fs. fs ++ (unnumbered es ++ unnumbered goes.out)) taken
-      ∙ ap (λ fs. cbor_handed_on before ++ fs) (sym (unnumbered_append es goes.out));
+  taken = goes.taken;
   sound = goes.sound;
 }
 
 -- the reader stands where it has come to
-pub goes_to : (before behind : Reader) (p : Place) (u : List ℕ) (es : List NodeEvent) → IsSoundReader behind
-    → cbor_handed_on behind ≡ cbor_handed_on before ++ unnumbered es
+pub goes_to : (S T : StandsFor) (before behind : Reader) (p : Place) (u : List ℕ) (es : List NodeEvent) → IsSoundReader behind
+    → TakesAll S es T
     → ((w : Keys) (limit : ℕ) → most_levels ≤ limit → CborLeads w limit (cbor_state_at before p) u es (cbor_state_of behind))
-    → CborGoes before [] p u behind
-goes_to before behind p u es sound taken leads = record { out = es; leads = leads; taken = taken; sound = sound }
+    → CborGoes S before [] p u T behind
+goes_to S T before behind p u es sound taken leads = record { out = es; leads = leads; taken = taken; sound = sound }

@@ -11,10 +11,14 @@ use Rattle.sm_bytes.specs.Utf8 as utf8
 use Rattle.sm_bytes.proofs.Characters.{utf8_runs, over, whole_then}
 use Rattle.std.proofs.lemmas.Bool.{cases_lt}
 use Rattle.std.proofs.lemmas.Bool.Decides.{nat_tests}
+use Rattle.sm_tree.specs.Streams.{StandsFor}
+use Rattle.sm_tree.proofs.Handing.{takes_none}
+use Rattle.sm_cbor.specs.steps.Sinks.{Reached}
+use Rattle.sm_cbor.proofs.Reaching.{reached_by}
 use Rattle.sm_cbor.specs.steps.Marks.{Keys, plain, marked}
 use Rattle.sm_cbor.specs.steps.Reading.{IsOf, EndsAs}
 use Rattle.sm_cbor.specs.steps.Rest.{CborLeads}
-use Rattle.sm_cbor.specs.steps.Machine.{levels_of, cbor_state_at, cbor_handed_on, CborHolds, Begun, IsAt, IsSoundReader, CborGoes, IsBadByte, RunFits, IsSomePrefix, IsTextPlace, IsBytesPlace}
+use Rattle.sm_cbor.specs.steps.Machine.{levels_of, cbor_state_at, CborHolds, Begun, IsAt, IsSoundReader, CborGoes, IsBadByte, RunFits, IsSomePrefix, IsTextPlace, IsBytesPlace}
 use Rattle.sm_cbor.specs.declared.place.StringKind.{StringKind}
 use Rattle.sm_cbor.specs.declared.place.StringKind.TheVariants.{Bytes, Text, Key as KeyText}
 use Rattle.sm_cbor.specs.declared.place.Span.{Span}
@@ -57,27 +61,25 @@ run_there : (r : Reader) (h : Vec ℕ Global) (kind : StringKind) (span : Span) 
     → IsAt r (String kind span n place) → RunFits (String kind span n place) next run → h.items ≡ r.held.items ++ run
     → IsAt (record r { held = h }) (String kind span (n - length run) next)
 run_there r h kind span n place next run there fits held = record {
-  kinds_are = there.kinds_are;
   room = there.room;
-  keeps = (fits.1, there.keeps.1, subst (CborHolds kind next) (sym held) (holds_run kind place next r.held.items run fits.2 there.keeps.2));
-  settled = tt;
+  keeps = (fits.1, subst (CborHolds kind next) (sym held) (holds_run kind place next r.held.items run fits.2 there.keeps.1));
 }
 
-pub run_goes : (r : Reader) (h : Vec ℕ Global) (kind : StringKind) (span : Span) (n : ℕ) (place next : Utf8) (run : List ℕ)
+pub run_goes : (S : StandsFor) (r : Reader) (h : Vec ℕ Global) (kind : StringKind) (span : Span) (n : ℕ) (place next : Utf8) (run : List ℕ)
     → r.place ≡ String kind span n place → IsAt r r.place → RunFits r.place next run
     → h.items ≡ r.held.items ++ run → 0 < n - length run
-    → CborGoes r [] r.place run (record r { held = h; place = String kind span (n - length run) next })
-run_goes r h kind span n place next run e there fits held some =
+    → CborGoes S r [] r.place run S (record r { held = h; place = String kind span (n - length run) next })
+run_goes S r h kind span n place next run e there fits held some =
     let fits1 = subst (λ p. RunFits p next run) e fits in
-    subst (λ p. CborGoes r [] p run (record r { held = h; place = String kind span (n - length run) next })) (sym e)
-    (goes_to r (record r { held = h; place = String kind span (n - length run) next }) (String kind span n place) run []
+    subst (λ p. CborGoes S r [] p run S (record r { held = h; place = String kind span (n - length run) next })) (sym e)
+    (goes_to S S r (record r { held = h; place = String kind span (n - length run) next }) (String kind span n place) run []
     (record {
       there =
           let q = run_there r h kind span n place next run (subst (IsAt r) e there) fits1 held in
-          record { kinds_are = q.kinds_are; room = q.room; keeps = q.keeps; settled = tt };
+          record { room = q.room; keeps = q.keeps };
       begun = some;
     })
-    (sym (append-nil (cbor_handed_on r)))
+    (takes_none S)
     (run_leads r h kind span n place next run fits1 held))
 
 pub run_end_there : (r : Reader) (h : Vec ℕ Global) (kind : StringKind) (span : Span) (n : ℕ) (place next : Utf8) (run : List ℕ)
@@ -89,19 +91,34 @@ run_end_there r h kind span n place next run e there fits held none =
     subst (λ u. IsAt (record r { held = h }) (String kind span 0 u)) (none_owed next (n - length run) none fits1.1)
     (subst (λ m. IsAt (record r { held = h }) (String kind span m next)) none q)
 
-pub run_ends : (r q : Reader) (h : Vec ℕ Global) (kind : StringKind) (span : Span) (n : ℕ) (place next : Utf8) (run : List ℕ)
+pub run_ends : (S T : StandsFor) (r q : Reader) (h : Vec ℕ Global) (kind : StringKind) (span : Span) (n : ℕ) (place next : Utf8)
+    (run : List ℕ)
     → r.place ≡ String kind span n place → RunFits r.place next run
-    → h.items ≡ r.held.items ++ run → n - length run ≡ 0 → CborGoes (record r { held = h }) [] (String kind span 0 Between) [] q
-    → CborGoes r [] r.place run q
-run_ends r q h kind span n place next run e fits held none goes =
+    → h.items ≡ r.held.items ++ run → n - length run ≡ 0
+    → CborGoes S (record r { held = h }) [] (String kind span 0 Between) [] T q → CborGoes S r [] r.place run T q
+run_ends S T r q h kind span n place next run e fits held none goes =
     let fits1 = subst (λ p. RunFits p next run) e fits in
-    let there = subst (λ m. CborGoes (record r { held = h }) [] (String kind span m Between) [] q) (sym none) goes in
-    let whole = subst (λ u. CborGoes (record r { held = h }) [] (String kind span (n - length run) u) [] q)
+    let there = subst (λ m. CborGoes S (record r { held = h }) [] (String kind span m Between) [] T q) (sym none) goes in
+    let whole = subst (λ u. CborGoes S (record r { held = h }) [] (String kind span (n - length run) u) [] T q)
     (sym (none_owed next (n - length run) none fits1.1)) there in
-    subst (λ p. CborGoes r [] p run q) (sym e) (subst (λ v. CborGoes r [] (String kind span n place) v q) (append-nil run)
-    (goes_by r (record r { held = h }) q (String kind span n place) (String kind span (n - length run) next) run [] [] whole
-    (sym (append-nil (cbor_handed_on r)))
+    subst (λ p. CborGoes S r [] p run T q) (sym e) (subst (λ v. CborGoes S r [] (String kind span n place) v T q) (append-nil run)
+    (goes_by S S T r (record r { held = h }) q (String kind span n place) (String kind span (n - length run) next) run [] [] whole
+    (takes_none S)
     (run_leads r h kind span n place next run fits1 held)))
+
+pub run_reached : (S : StandsFor) (r : Reader) (h : Vec ℕ Global) (kind : StringKind) (span : Span) (n : ℕ) (place next : Utf8)
+    (run : List ℕ)
+    → r.place ≡ String kind span n place → RunFits r.place next run
+    → h.items ≡ r.held.items ++ run → n - length run ≡ 0 → Reached S (cbor_state_at r r.place)
+    → Reached S (cbor_state_at (record r { held = h }) (String kind span 0 Between))
+run_reached S r h kind span n place next run e fits held none reached =
+    let fits1 = subst (λ p. RunFits p next run) e fits in
+    subst (λ u. Reached S (cbor_state_at (record r { held = h }) (String kind span 0 u))) (none_owed next (n - length run) none fits1.1)
+    (subst (λ m. Reached S (cbor_state_at (record r { held = h }) (String kind span m next))) none
+    (reached_by S (cbor_state_at r (String kind span n place)) (cbor_state_at (record r { held = h }) (String kind span
+    (n - length run) next))
+    run (subst (λ p. Reached S (cbor_state_at r p)) e reached)
+    (run_leads r h kind span n place next run fits1 held plain most_levels (omega arith))))
 
 -- which runs go on
 pub bytes_fit : (p : Place) (n : ℕ) (place : Utf8) (run : List ℕ) → IsBytesPlace p n place → length run ≤ n → AreBytes run

@@ -6,4 +6,5 @@ pub mod Written
 pub mod WrittenEvents
 pub mod Laws
 pub mod WriterView
+pub mod Stands
 pub mod steps

@@ -7,6 +7,8 @@ mod head;
 mod integer;
 pub mod laws;
 mod length;
+mod levels;
+mod pieces;
 mod place;
 mod put;
 mod read;
@@ -17,6 +19,7 @@ mod write;
 mod writer;
 
 pub use length::encoded_len;
+pub use pieces::CborReader;
 pub use read::read_tree;
 pub use sm_tree::{NoMemory, SyntaxRefusal};
 pub use writable::is_writable;

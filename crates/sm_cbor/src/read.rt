@@ -2,7 +2,7 @@
 // read by a machine over bytes, which says what the bytes are and where they stop being an item. It stands at one place of
 // the item, hands each event on as soon as its bytes are complete, and never looks back. It makes trees too, since no
 // clause says that recursive descent gives up no item.
-ghost use Rattle.std.specs.Prelude.{◌≡◌, ◌<◌, ◌-◌, ◌^◌, ◌↔◌, IsTrue, length, []};
+ghost use Rattle.std.specs.Prelude.{◌≡◌, ◌<◌, ◌↔◌, IsTrue, OnOk, length, []};
 ghost use Rattle.sm_tree.specs.Syntax.{Reads};
 ghost use Rattle.sm_cbor.specs.Refusals.{cbor_syntax};
 ghost use Rattle.sm_cbor.specs.steps.Rest.{first_state};
@@ -13,8 +13,10 @@ mod strings;
 mod whole;
 
 use crate::descent::{Unread, read_item};
-use crate::place::{Level, Place, StringKind};
-use sm_tree::{SyntaxRefusal, Tree, TreeBuilder};
+use crate::levels::Levels;
+use crate::pieces::read_by_bytes;
+use crate::place::{Place, StringKind};
+use sm_tree::{EventSink, SyntaxRefusal, Tree};
 use std::alloc::Global;
 
 /// Reads one item, from bytes that may come in pieces.
@@ -22,72 +24,86 @@ use std::alloc::Global;
 pub struct Reader {
     /// Where the reader stands.
     place: Place,
-    /// Takes the events.
-    builder: TreeBuilder,
-    /// What is open, the outermost first.
-    levels: Vec<Level>,
+    /// What is open.
+    levels: Levels,
     /// The bytes so far of the string that has begun, if the place is in one.
     held: Vec<u8>,
     alloc: Global,
 }
 
 impl Reader {
-    ghost use Rattle.sm_cbor.specs.steps.Machine.{IsSoundReader, CborTakesByte, CborTakesPrefix, CborTakesAll, CborFinishes, IsBytewise, cbor_state_of, levels_of, cbor_handed_on};
+    ghost use Rattle.sm_cbor.specs.steps.Machine.{IsSoundReader, CborTakesByte, CborTakesPrefix, CborTakesAll, IsBytewise, cbor_state_of, levels_of};
+    ghost use Rattle.sm_cbor.specs.steps.Sinks.{Reached};
+    ghost use Rattle.sm_tree.specs.Streams.{TakesEvery};
+    ghost use Rattle.sm_tree.specs.ReaderClauses.{TakesStill};
 
-    fn new(alloc: Global) -> Self
+    /// A reader before the first byte.
+    pub fn new(alloc: Global) -> Self
         ensures state { cbor_state_of result ≡ first_state }
-        ensures nothing { cbor_handed_on result ≡ [] }
         ensures sound { IsSoundReader result }
     {
         Reader {
             place: Place::Item,
-            builder: TreeBuilder::new(alloc),
-            levels: Vec::new(alloc),
+            levels: Levels::new(),
             held: Vec::new(alloc),
             alloc,
         }
     }
 
     // One byte where bytes are taken one at a time.
-    fn byte(&mut self, byte: u8) -> Result<(), SyntaxRefusal>
+    fn byte<E: EventSink>(&mut self, byte: u8, to: &mut E) -> Result<(), SyntaxRefusal>
         requires sound { IsSoundReader self.old }
         requires bytewise { IsBytewise self.old.place }
-        ensures { CborTakesByte self.old self.old.place byte self.new result }
+        requires reached { Reached (E.stands_for to.old) (cbor_state_of self.old) }
+        requires takes { TakesEvery (E.takes to.old) }
+        ensures goes { CborTakesByte (E.stands_for to.old) self.old self.old.place byte (E.stands_for to.new) self.new result }
+        ensures takes { TakesStill (E.takes to.old) (E.takes to.new) result }
+        ensures alike { E.alike to.old to.new }
     {
         match self.place {
-            Place::After => self.after(byte),
-            Place::Argument(subject, left, value) => self.argument(subject, left, value, byte),
-            Place::Chunks(kind) => self.chunk(kind, byte),
+            Place::After => self.after(byte, to),
+            Place::Argument(subject, left, value) => self.argument(subject, left, value, byte, to),
+            Place::Chunks(kind) => self.chunk(kind, byte, to),
             Place::Item | Place::Key | Place::String(_, _, _, _) => unreachable!(),
         }
     }
 
     // Takes a prefix of the bytes.
-    fn turn(&mut self, bytes: &[u8]) -> Result<usize, SyntaxRefusal>
+    fn turn<E: EventSink>(&mut self, bytes: &[u8], to: &mut E) -> Result<usize, SyntaxRefusal>
         requires sound { IsSoundReader self.old }
         requires some { 0 < length bytes.now }
-        ensures { CborTakesPrefix self.old bytes.now self.new result }
+        requires reached { Reached (E.stands_for to.old) (cbor_state_of self.old) }
+        requires takes { TakesEvery (E.takes to.old) }
+        ensures goes { CborTakesPrefix (E.stands_for to.old) self.old bytes.now (E.stands_for to.new) self.new result }
+        ensures takes { TakesStill (E.takes to.old) (E.takes to.new) result }
+        ensures alike { E.alike to.old to.new }
     {
         match self.place {
-            Place::String(StringKind::Bytes, _, left, utf8) => self.string_bytes(left, utf8, bytes),
-            Place::String(_, _, left, utf8) => self.text_bytes(left, utf8, bytes),
-            Place::Item => self.item_prefix(bytes),
-            Place::Key => self.key_prefix(bytes),
+            Place::String(StringKind::Bytes, _, left, utf8) => self.string_bytes(
+                left, utf8, bytes, to,
+            ),
+            Place::String(_, _, left, utf8) => self.text_bytes(left, utf8, bytes, to),
+            Place::Item => self.item_prefix(bytes, to),
+            Place::Key => self.key_prefix(bytes, to),
             _ => {
-                self.byte(bytes[0])?;
+                self.byte(bytes[0], to)?;
                 Ok(1)
             }
         }
     }
 
-    // Takes all the bytes.
-    fn feed(&mut self, bytes: &[u8]) -> Result<(), SyntaxRefusal>
-        requires { IsSoundReader self.old }
-        ensures { CborTakesAll self.old bytes.now self.new result }
+    /// Takes all the bytes, and hands on the events that they complete.
+    pub fn feed<E: EventSink>(&mut self, bytes: &[u8], to: &mut E) -> Result<(), SyntaxRefusal>
+        requires sound { IsSoundReader self.old }
+        requires reached { Reached (E.stands_for to.old) (cbor_state_of self.old) }
+        requires takes { TakesEvery (E.takes to.old) }
+        ensures goes { CborTakesAll (E.stands_for to.old) self.old bytes.now (E.stands_for to.new) self.new result }
+        ensures takes { TakesStill (E.takes to.old) (E.takes to.new) result }
+        ensures alike { E.alike to.old to.new }
     {
         let mut at = 0;
         while at < bytes.len() {
-            match self.turn(&bytes[at..]) {
+            match self.turn(&bytes[at..], to) {
                 Ok(count) => at += count,
                 Err(refusal) => return Err(refusal.moved_by(at)),
             }
@@ -95,37 +111,14 @@ impl Reader {
         Ok(())
     }
 
-    // Whether an item is whole, and nothing is open.
-    fn is_whole(&self) -> bool
+    /// Whether an item is whole, and nothing is open.
+    pub fn is_whole(&self) -> bool
         ensures { IsTrue result ↔ ((self.now.place ≡ Place.After) × (levels_of self.now ≡ [])) }
     {
         match self.place {
-            Place::After => self.levels.is_empty(),
+            Place::After => self.levels.depth() == 0,
             _ => false,
         }
-    }
-
-    // The tree, where the bytes end here.
-    fn finish(self) -> Result<Tree, SyntaxRefusal>
-        requires { IsSoundReader self }
-        ensures { CborFinishes self result }
-    {
-        if self.is_whole() {
-            Ok(self.builder.finish())
-        } else {
-            Err(SyntaxRefusal::Ended)
-        }
-    }
-}
-
-/// The answer of `read_tree`, from the machine alone: the tree, or the refusal with its place.
-pub fn read_by_bytes(alloc: Global, bytes: &[u8]) -> Result<Tree, SyntaxRefusal>
-    ensures { Reads cbor_syntax bytes.now result }
-{
-    let mut reader = Reader::new(alloc);
-    match reader.feed(bytes) {
-        Ok(()) => reader.finish(),
-        Err(refusal) => Err(refusal),
     }
 }
 

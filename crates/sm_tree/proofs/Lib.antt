@@ -19,4 +19,5 @@ mod Tokens
 mod Sameness
 pub mod OneAnswer
 pub mod SomeAnswer
+pub mod LongerBytes
 mod ShortTexts

@@ -16,6 +16,7 @@ pub mod Streams
 pub mod EventView
 pub mod Timing
 pub mod TimingLaws
+pub mod ReaderClauses
 pub mod EventLaws
 pub mod Building
 pub mod BuilderView

@@ -1,16 +1,11 @@
 -- What a reader stands for, what it keeps, and what its steps do. The contracts of the reader's methods cite it; that
 -- of `read_tree` doesn't.
-use Rattle.std.specs.Prelude.{◌≡◌, ℕ, ◌+◌, ◌-◌, ◌%◌, ◌≤◌, ◌<◌, ◌⊎◌, ◌↔◌, ◌≢◌, Option, None, Some, Bool, true, false, List, [], ◌∷◌, ◌++◌, take, reverse, length, slice_index, Result, Ok, Err}
+use Rattle.std.specs.Prelude.{◌≡◌, ℕ, ◌+◌, ◌-◌, ◌%◌, ◌≤◌, ◌<◌, ◌⊎◌, ◌↔◌, ◌≢◌, Some, Bool, true, false, List, [], ◌∷◌, ◌++◌, take, length, slice_index, Result, Ok, Err}
 use Rattle.sm_tree.specs.Limits.{most_levels}
-use Rattle.sm_tree.specs.Events.{NodeEvent, events}
-use Rattle.sm_tree.specs.Streams.{unnumbered}
+use Rattle.sm_tree.specs.Events.{NodeEvent}
 use Rattle.sm_tree.specs.Timing.{TimedEvent}
-use Rattle.sm_tree.specs.View.{node_of}
-use Rattle.sm_tree.specs.declared.tree.Tree.{Tree}
-use Rattle.sm_tree.specs.Building.{so_far, kinds, awaits_value, awaits_content, goes_on}
-use Rattle.sm_tree.specs.BuilderView.{building_of}
-use Rattle.sm_tree.specs.declared.build.OpenKind.{OpenKind}
-use Rattle.sm_tree.specs.declared.build.OpenKind.TheVariants.{List as a_list, Object as an_object}
+use Rattle.sm_tree.specs.Streams.{StandsFor}
+use Rattle.sm_tree.specs.steps.Handing.{TakesAll}
 use Rattle.sm_tree.specs.declared.refusal.SyntaxRefusal.{SyntaxRefusal}
 use Rattle.sm_tree.specs.declared.refusal.SyntaxRefusal.TheVariants.{Bad, Ended, TooDeep, KeyKind, NoMemory}
 use Rattle.sm_bytes.specs.declared.utf8.Utf8.{Utf8}
@@ -20,9 +15,10 @@ use Rattle.sm_cbor.specs.Refusals.{mark}
 use Rattle.sm_cbor.specs.steps.Marks.{Keys, plain, marked}
 use Rattle.sm_cbor.specs.Refusals.{BeginsOther}
 use Rattle.sm_cbor.specs.steps.Reading.{IsOf, EndsAs, bound}
+use Rattle.sm_cbor.specs.steps.Levels.{levels_in, first_level}
 use Rattle.sm_cbor.specs.steps.Rest.{CborState, CborRest, CborLeads, CborStops}
 use Rattle.sm_cbor.specs.declared.place.StringKind.{StringKind}
-use Rattle.sm_cbor.specs.declared.place.StringKind.TheVariants.{Bytes, Text, Key as KeyText}
+use Rattle.sm_cbor.specs.declared.place.StringKind.TheVariants.{Bytes}
 use Rattle.sm_cbor.specs.declared.place.Span.{Span}
 use Rattle.sm_cbor.specs.declared.place.Span.TheVariants.{Whole, Chunk}
 use Rattle.sm_cbor.specs.declared.place.Subject.{Subject}
@@ -70,17 +66,8 @@ Lives (Argument j k v) = ArgumentLives j k v
 Lives (String kind span n place) = utf8.owed place ≤ n
 Lives (Chunks kind) = Unit {0}
 
--- what is open, as the builder of trees sees it
-abbrev pub kinds_of : List Level → List OpenKind
-kinds_of [] = []
-kinds_of (Tag ∷ ls) = kinds_of ls
-kinds_of (AList n ∷ ls) = a_list ∷ kinds_of ls
-kinds_of (AListToBreak ∷ ls) = a_list ∷ kinds_of ls
-kinds_of (AMap n ∷ ls) = an_object ∷ kinds_of ls
-kinds_of (AMapToBreak ∷ ls) = an_object ∷ kinds_of ls
-
 abbrev pub levels_of : Reader → List Level
-levels_of r = reverse r.levels.items
+levels_of r = levels_in r.levels
 
 -- the reader's state, if it stood at this place; and its state
 abbrev pub cbor_state_at : Reader → Place → CborState
@@ -89,18 +76,9 @@ cbor_state_at r p = record { place = p; held = r.held.items; levels = levels_of 
 abbrev pub cbor_state_of : Reader → CborState
 cbor_state_of r = cbor_state_at r r.place
 
--- the events that a reader has handed on
-abbrev pub cbor_handed_on : Reader → List NodeEvent
-cbor_handed_on r = so_far (building_of r.builder)
-
--- the innermost of what is open is a map
-abbrev pub InMap : List Level → Type 0
-InMap [] = ⊥
-InMap (Tag ∷ ls) = ⊥
-InMap (AList n ∷ ls) = ⊥
-InMap (AListToBreak ∷ ls) = ⊥
-InMap (AMap n ∷ ls) = Unit {0}
-InMap (AMapToBreak ∷ ls) = Unit {0}
+-- its state, where an array or a map has opened
+abbrev pub opened : Reader → Level → CborState
+opened r l = record { place = After; held = r.held.items; levels = l ∷ levels_of r }
 
 -- nothing is open, or what ends with a break
 abbrev pub BehindItem : List Level → Type 0
@@ -110,21 +88,6 @@ BehindItem (AList n ∷ ls) = ⊥
 BehindItem (AListToBreak ∷ ls) = Unit {0}
 BehindItem (AMap n ∷ ls) = ⊥
 BehindItem (AMapToBreak ∷ ls) = Unit {0}
-
--- the builder awaits what the string stands for
-abbrev pub StringAwaits : StringKind → List Level → Bool → Type 0
-StringAwaits Bytes ls awaits = awaits ≡ true
-StringAwaits Text ls awaits = awaits ≡ true
-StringAwaits KeyText ls awaits = InMap ls × (awaits ≡ false)
-
-abbrev pub ArgumentAwaits : Subject → List Level → Bool → Type 0
-ArgumentAwaits Unsigned ls awaits = awaits ≡ true
-ArgumentAwaits Negative ls awaits = awaits ≡ true
-ArgumentAwaits (StringHead kind span) ls awaits = StringAwaits kind ls awaits
-ArgumentAwaits ListHead ls awaits = awaits ≡ true
-ArgumentAwaits MapHead ls awaits = awaits ≡ true
-ArgumentAwaits TagHead ls awaits = awaits ≡ true
-ArgumentAwaits (Opaque b) ls awaits = awaits ≡ true
 
 -- with any end that may come, these bytes are a string of the kind
 abbrev pub CborHolds : StringKind → Utf8 → List ℕ → Type 0
@@ -141,30 +104,19 @@ ChunksHeld MapHead t = Unit {0}
 ChunksHeld TagHead t = Unit {0}
 ChunksHeld (Opaque b) t = Unit {0}
 
--- what the builder awaits at each place, and what the place itself keeps
-abbrev pub Keeps : Place → List ℕ → List Level → Bool → Type 0
-Keeps Item t ls awaits = awaits ≡ true
-Keeps Key t ls awaits = InMap ls × (awaits ≡ false)
-Keeps After t ls awaits = awaits ≡ goes_on (kinds_of ls)
-Keeps (Argument j k v) t ls awaits = ArgumentLives j k v × (v < bound k) × ArgumentAwaits j ls awaits × ChunksHeld j t
-Keeps (String kind span n place) t ls awaits = (utf8.owed place ≤ n) × StringAwaits kind ls awaits × CborHolds kind place t
-Keeps (Chunks kind) t ls awaits = StringAwaits kind ls awaits × IsOf kind t
-
--- behind an item no tag awaits its content
-abbrev pub Settled : Place → Bool → Type 0
-Settled Item content = Unit {0}
-Settled Key content = Unit {0}
-Settled After content = content ≡ false
-Settled (Argument j k v) content = Unit {0}
-Settled (String kind span n place) content = Unit {0}
-Settled (Chunks kind) content = Unit {0}
+-- what the place itself keeps
+abbrev pub Keeps : Place → List ℕ → Type 0
+Keeps Item t = Unit {0}
+Keeps Key t = Unit {0}
+Keeps After t = Unit {0}
+Keeps (Argument j k v) t = ArgumentLives j k v × (v < bound k) × ChunksHeld j t
+Keeps (String kind span n place) t = (utf8.owed place ≤ n) × CborHolds kind place t
+Keeps (Chunks kind) t = IsOf kind t
 
 -- what holds of a reader that stands at this place
 pub record IsAt (r : Reader) (p : Place) : Type 0 where
-  pub kinds_are : kinds (building_of r.builder) ≡ kinds_of (levels_of r)
   pub room : length (levels_of r) + opens p ≤ most_levels
-  pub keeps : Keeps p r.held.items (levels_of r) (awaits_value (building_of r.builder))
-  pub settled : Settled p (awaits_content (building_of r.builder))
+  pub keeps : Keeps p r.held.items
 
 -- bytes are owed at the place, or what may come is open
 abbrev pub Begun : Place → List Level → Type 0
@@ -180,32 +132,23 @@ pub record IsSoundReader (r : Reader) : Type 0 where
   pub there : IsAt r r.place
   pub begun : Begun r.place (levels_of r)
 
--- the events es were handed on; and from the place p the bytes v lead the reader on, and their events are handed on too. The
--- builder forgets the numbers of openers
-pub record CborGoes (before : Reader) (es : List NodeEvent) (p : Place) (v : List ℕ) (behind : Reader) : Type 0 where
+-- the events es were handed on; and from the place p the bytes v lead the reader on, and their events are handed on too: a sink
+-- that stood for S stands for T
+pub record CborGoes (S : StandsFor) (before : Reader) (es : List NodeEvent) (p : Place) (v : List ℕ) (T : StandsFor)
+    (behind : Reader) : Type 0 where
   pub out : List NodeEvent
   pub leads : (w : Keys) (limit : ℕ) → most_levels ≤ limit → CborLeads w limit (cbor_state_at before p) v out (cbor_state_of behind)
-  pub taken : cbor_handed_on behind ≡ cbor_handed_on before ++ (es ++ unnumbered out)
+  pub taken : TakesAll S (es ++ out) T
   pub sound : IsSoundReader behind
 
--- a level stands round what comes
-pub record Enters (before : Reader) (level : Level) (behind : Reader) : Type 0 where
+-- a level has opened with this event, and no item of it has come
+pub record OpensLevel (S : StandsFor) (before : Reader) (level : Level) (e : NodeEvent) (T : StandsFor) (behind : Reader) : Type 0 where
   pub levels : levels_of behind ≡ level ∷ levels_of before
-  pub place : behind.place ≡ before.place
-  pub builder : behind.builder ≡ before.builder
   pub held : behind.held ≡ before.held
-
--- a level has opened with the events es, and no item of it has come
-pub record OpensLevel (before : Reader) (level : Level) (es : List NodeEvent) (behind : Reader) : Type 0 where
-  pub levels : levels_of behind ≡ level ∷ levels_of before
-  pub taken : cbor_handed_on behind ≡ cbor_handed_on before ++ es
+  pub taken : TakesAll S (e ∷ []) T
   pub there : IsAt behind After
 
--- the innermost of what is open
-abbrev pub first_level : List Level → Option Level
-first_level [] = None
-first_level (l ∷ ls) = Some l
-
+-- the innermost of what is open is this level
 abbrev pub IsFirstLevel : Level → List Level → Type 0
 IsFirstLevel l ls = first_level ls ≡ Some l
 
@@ -260,22 +203,26 @@ pub record OpensTooDeep (x : CborState) (c : ℕ) : Type 0 where
   pub stops : CborStops plain most_levels x c
   pub goes_on : CborGoesOn plain x c
 
--- what a byte does to the reader that stands at a place
-abbrev pub CborTakesByte : Reader → Place → ℕ → Reader → Result (Unit {0}) SyntaxRefusal → Type 0
-CborTakesByte before p c behind (Ok x) = CborGoes before [] p (c ∷ []) behind
-CborTakesByte before p c behind (Err NoMemory) = Unit {0}
-CborTakesByte before p c behind (Err (Bad at)) = (at ≡ 0) × IsBadByte (cbor_state_at before p) c
-CborTakesByte before p c behind (Err Ended) = ⊥
-CborTakesByte before p c behind (Err (TooDeep at)) = (at ≡ 0) × OpensTooDeep (cbor_state_at before p) c
-CborTakesByte before p c behind (Err (KeyKind at)) = (at ≡ 0) × IsOtherKey (cbor_state_at before p) c
+-- what stood for some events stands for them still
+abbrev pub StandsStill : StandsFor → StandsFor → Type 0
+StandsStill S T = (es : List NodeEvent) → S es → T es
+
+-- what a byte does to the reader that stands at a place; where it is refused, nothing was handed on
+abbrev pub CborTakesByte : StandsFor → Reader → Place → ℕ → StandsFor → Reader → Result (Unit {0}) SyntaxRefusal → Type 0
+CborTakesByte S before p c T behind (Ok x) = CborGoes S before [] p (c ∷ []) T behind
+CborTakesByte S before p c T behind (Err NoMemory) = Unit {0}
+CborTakesByte S before p c T behind (Err (Bad at)) = (at ≡ 0) × IsBadByte (cbor_state_at before p) c × StandsStill S T
+CborTakesByte S before p c T behind (Err Ended) = ⊥
+CborTakesByte S before p c T behind (Err (TooDeep at)) = (at ≡ 0) × OpensTooDeep (cbor_state_at before p) c × StandsStill S T
+CborTakesByte S before p c T behind (Err (KeyKind at)) = (at ≡ 0) × IsOtherKey (cbor_state_at before p) c × StandsStill S T
 
 -- what a reader that stands at a place makes of a prefix of some bytes: it takes so many of them, or refuses the first
-abbrev pub CborTakesPrefixAt : Reader → Place → List ℕ → Reader → Result ℕ SyntaxRefusal → Type 0
-CborTakesPrefixAt before p bs behind (Ok n) = (0 < n) × (n ≤ length bs) × CborGoes before [] p (take n bs) behind
-CborTakesPrefixAt before p bs behind (Err refusal) = CborTakesByte before p (slice_index bs 0) behind (Err refusal)
+abbrev pub CborTakesPrefixAt : StandsFor → Reader → Place → List ℕ → StandsFor → Reader → Result ℕ SyntaxRefusal → Type 0
+CborTakesPrefixAt S before p bs T behind (Ok n) = (0 < n) × (n ≤ length bs) × CborGoes S before [] p (take n bs) T behind
+CborTakesPrefixAt S before p bs T behind (Err refusal) = CborTakesByte S before p (slice_index bs 0) T behind (Err refusal)
 
-abbrev pub CborTakesPrefix : Reader → List ℕ → Reader → Result ℕ SyntaxRefusal → Type 0
-CborTakesPrefix before bs behind result = CborTakesPrefixAt before before.place bs behind result
+abbrev pub CborTakesPrefix : StandsFor → Reader → List ℕ → StandsFor → Reader → Result ℕ SyntaxRefusal → Type 0
+CborTakesPrefix S before bs T behind result = CborTakesPrefixAt S before before.place bs T behind result
 
 -- a refusal of the byte c, at which the reader stands
 abbrev pub RefusesAt : CborState → ℕ → SyntaxRefusal → Type 0
@@ -293,18 +240,22 @@ IsPlaceOf at (TooDeep n) = n ≡ at
 IsPlaceOf at (KeyKind n) = n ≡ at
 IsPlaceOf at NoMemory = Unit {0}
 
--- what it makes of all of them
-abbrev pub CborTakesAll : Reader → List ℕ → Reader → Result (Unit {0}) SyntaxRefusal → Type 0
-CborTakesAll before bs behind (Ok x) = CborGoes before [] before.place bs behind
-CborTakesAll before bs behind (Err refusal) =
-    (at : ℕ) × (q : Reader) × (at < length bs) × CborGoes before [] before.place (take at bs) q
+-- one of some bytes is refused so, and the events of those before it were handed on
+abbrev pub RefusesOneOf : StandsFor → Reader → List ℕ → StandsFor → SyntaxRefusal → Type 0
+RefusesOneOf S before bs T refusal =
+    (at : ℕ) × (q : Reader) × (at < length bs) × CborGoes S before [] before.place (take at bs) T q
     × RefusesAt (cbor_state_of q) (slice_index bs at) refusal × IsPlaceOf at refusal
 
--- the bytes end where the reader stands
-abbrev pub CborFinishes : Reader → Result Tree SyntaxRefusal → Type 0
-CborFinishes r (Ok tree) = (r.place ≡ After) × (levels_of r ≡ []) × (cbor_handed_on r ≡ events (node_of tree) [])
-CborFinishes r (Err Ended) = (w : Keys) (limit : ℕ) (es : List TimedEvent) → CborRest w limit (cbor_state_of r) [] es → ⊥
-CborFinishes r (Err NoMemory) = ⊥
-CborFinishes r (Err (Bad at)) = ⊥
-CborFinishes r (Err (TooDeep at)) = ⊥
-CborFinishes r (Err (KeyKind at)) = ⊥
+-- what it makes of all of them
+abbrev pub CborTakesAll : StandsFor → Reader → List ℕ → StandsFor → Reader → Result (Unit {0}) SyntaxRefusal → Type 0
+CborTakesAll S before bs T behind (Ok x) = CborGoes S before [] before.place bs T behind
+CborTakesAll S before bs T behind (Err NoMemory) = Unit {0}
+CborTakesAll S before bs T behind (Err (Bad at)) = RefusesOneOf S before bs T (Bad at)
+CborTakesAll S before bs T behind (Err Ended) = ⊥
+CborTakesAll S before bs T behind (Err (TooDeep at)) = RefusesOneOf S before bs T (TooDeep at)
+CborTakesAll S before bs T behind (Err (KeyKind at)) = RefusesOneOf S before bs T (KeyKind at)
+
+-- the bytes end where the reader stands: an item is whole, or one is cut short
+abbrev pub CborEndsHere : Reader → Bool → Type 0
+CborEndsHere r true = (r.place ≡ After) × (levels_of r ≡ [])
+CborEndsHere r false = (w : Keys) (limit : ℕ) (es : List TimedEvent) → CborRest w limit (cbor_state_of r) [] es → ⊥

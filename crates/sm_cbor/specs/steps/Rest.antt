@@ -36,16 +36,20 @@ abbrev pub CborEnds : Keys → ℕ → List Level → List ℕ → List TimedEve
 CborEnds w limit [] s es = (s ≡ []) × (es ≡ [])
 CborEnds w limit (Tag ∷ ls) s es = CborEnds w limit ls s es
 CborEnds w limit (AList n ∷ ls) s es =
-    (ns : Nodes) × (r : List ℕ) × (fs : List TimedEvent) × CountedEntriesTimed (key_of w) n ns s r es fs × (nodes_levels ns + suc (length ls) ≤ limit)
+    (ns : Nodes) × (r : List ℕ) × (fs : List TimedEvent) × CountedEntriesTimed (key_of w) n ns s r es fs × (nodes_levels ns + suc
+    (length ls) ≤ limit)
     × CborEnds w limit ls r fs
 CborEnds w limit (AListToBreak ∷ ls) s es =
-    (ns : Nodes) × (r : List ℕ) × (fs : List TimedEvent) × EntriesToBreakTimed (key_of w) ns s r es fs × (nodes_levels ns + suc (length ls) ≤ limit)
+    (ns : Nodes) × (r : List ℕ) × (fs : List TimedEvent) × EntriesToBreakTimed (key_of w) ns s r es fs × (nodes_levels ns + suc
+    (length ls) ≤ limit)
     × CborEnds w limit ls r fs
 CborEnds w limit (AMap n ∷ ls) s es =
-    (ms : Members) × (r : List ℕ) × (fs : List TimedEvent) × CountedPairsTimed (key_of w) n ms s r es fs × (members_levels ms + suc (length ls) ≤ limit)
+    (ms : Members) × (r : List ℕ) × (fs : List TimedEvent) × CountedPairsTimed (key_of w) n ms s r es fs × (members_levels ms + suc
+    (length ls) ≤ limit)
     × CborEnds w limit ls r fs
 CborEnds w limit (AMapToBreak ∷ ls) s es =
-    (ms : Members) × (r : List ℕ) × (fs : List TimedEvent) × PairsToBreakTimed (key_of w) ms s r es fs × (members_levels ms + suc (length ls) ≤ limit)
+    (ms : Members) × (r : List ℕ) × (fs : List TimedEvent) × PairsToBreakTimed (key_of w) ms s r es fs × (members_levels ms + suc
+    (length ls) ≤ limit)
     × CborEnds w limit ls r fs
 
 -- an item, and what is behind it
@@ -90,8 +94,10 @@ abbrev pub ArgumentEnded : Keys → ℕ → Subject → ℕ → List ℕ → Lis
 ArgumentEnded w limit Unsigned n t ls s es = (fs : List TimedEvent) × CborEnds w limit ls s fs × Told (integer_event n (pos n)) s es fs
 ArgumentEnded w limit Negative n t ls s es = (fs : List TimedEvent) × CborEnds w limit ls s fs × Told (integer_event n (negsuc n)) s es fs
 ArgumentEnded w limit (StringHead kind span) n t ls s es = CborStringComes w limit kind span n Between (before_span span t) ls s es
-ArgumentEnded w limit ListHead n t ls s es = (fs : List TimedEvent) × CborEnds w limit (AList n ∷ ls) s fs × Told (start_list (Some n)) s es fs
-ArgumentEnded w limit MapHead n t ls s es = (fs : List TimedEvent) × CborEnds w limit (AMap n ∷ ls) s fs × Told (start_object (Some n)) s es fs
+ArgumentEnded w limit ListHead n t ls s es = (fs : List TimedEvent) × CborEnds w limit (AList n ∷ ls) s fs × Told (start_list
+    (Some n)) s es fs
+ArgumentEnded w limit MapHead n t ls s es = (fs : List TimedEvent) × CborEnds w limit (AMap n ∷ ls) s fs × Told (start_object
+    (Some n)) s es fs
 ArgumentEnded w limit TagHead n t ls s es = (fs : List TimedEvent) × ItemComes w limit (Tag ∷ ls) s fs × Told (tag_event n) s es fs
 ArgumentEnded w limit (Opaque b) n t ls s es =
     (fs : List TimedEvent) × IsOpaque (b % 32) n × CborEnds w limit ls s fs × Told (opaque_event b) s es fs
@@ -115,12 +121,17 @@ CborRest w limit x s es = CborRestAt w limit x.place x.held x.levels s es
 abbrev pub first_state : CborState
 first_state = record { place = Item; held = []; levels = [] }
 
+-- what may come at a state may come at the one before, behind the bytes v, which then complete the events `out`
+abbrev pub LeadsBack : Keys → ℕ → CborState → List ℕ → List NodeEvent → CborState → Type 0
+LeadsBack w limit before v out behind =
+    (s : List ℕ) (fs : List TimedEvent) → CborRest w limit behind s fs
+    → (os : List TimedEvent) × HandsOn (length s) os out × CborRest w limit before (v ++ s) (os ++ fs)
+
 -- the bytes v lead from one state to another, and hand on the events `out`: those that are complete with these bytes
 pub record CborLeads (w : Keys) (limit : ℕ) (before : CborState) (v : List ℕ) (out : List NodeEvent) (behind : CborState) : Type 0 where
   pub onward : (s : List ℕ) (es : List TimedEvent) → CborRest w limit before (v ++ s) es
       → (os fs : List TimedEvent) × (es ≡ os ++ fs) × HandsOn (length s) os out × CborRest w limit behind s fs
-  pub back : (s : List ℕ) (fs : List TimedEvent) → CborRest w limit behind s fs
-      → (os : List TimedEvent) × HandsOn (length s) os out × CborRest w limit before (v ++ s) (os ++ fs)
+  pub back : LeadsBack w limit before v out behind
 
 -- no item goes on from this state with the byte c
 abbrev pub CborStops : Keys → ℕ → CborState → ℕ → Type 0

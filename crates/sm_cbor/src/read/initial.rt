@@ -7,7 +7,7 @@ ghost use Rattle.sm_cbor.specs.steps.Machine.{opens_of};
 use super::Reader;
 use crate::head::{BREAK, Head, INDEFINITE_TEXT, TEXT, chunk_head, head_of, width};
 use crate::place::{Level, Place, Span, StringKind, Subject};
-use sm_tree::{MOST_LEVELS, NoMemory, SyntaxRefusal, Tree};
+use sm_tree::{Event, EventSink, MOST_LEVELS, NoMemory, SyntaxRefusal};
 
 impl Subject {
     // Whether what the argument is of is a level.
@@ -29,37 +29,45 @@ fn is_no_simple(subject: Subject, byte: u8) -> bool
 }
 
 impl Reader {
-    ghost use Rattle.sm_cbor.specs.steps.Machine.{IsAt, CborGoes, CborTakesByte, BehindItem, IsFirstLevel, first_level, levels_of};
+    ghost use Rattle.sm_cbor.specs.steps.Levels.{first_level};
+    ghost use Rattle.sm_cbor.specs.steps.Machine.{IsAt, CborGoes, CborTakesByte, BehindItem, IsFirstLevel, levels_of, cbor_state_at};
+    ghost use Rattle.sm_cbor.specs.steps.Sinks.{Reached};
+    ghost use Rattle.sm_tree.specs.Streams.{TakesEvery, TakesSame};
+    ghost use Rattle.sm_tree.specs.ReaderClauses.{TakesStill};
 
     // The initial byte of an item.
-    pub(super) fn item(&mut self, byte: u8) -> Result<(), SyntaxRefusal>
-        requires { IsAt self.old Place.Item }
-        ensures { CborTakesByte self.old Place.Item byte self.new result }
+    pub(super) fn item<E: EventSink>(&mut self, byte: u8, to: &mut E) -> Result<(), SyntaxRefusal>
+        requires sound { IsAt self.old Place.Item }
+        requires reached { Reached (E.stands_for to.old) (cbor_state_at self.old Place.Item) }
+        requires takes { TakesEvery (E.takes to.old) }
+        ensures goes { CborTakesByte (E.stands_for to.old) self.old Place.Item byte (E.stands_for to.new) self.new result }
+        ensures takes { TakesStill (E.takes to.old) (E.takes to.new) result }
+        ensures alike { E.alike to.old to.new }
     {
         match head_of(byte) {
             Head::Argument(subject, left, value) => {
                 if subject.is_level() && self.is_full() {
                     return Err(SyntaxRefusal::TooDeep(0));
                 }
-                self.begin_argument(subject, left, value)?;
+                self.begin_argument(subject, left, value, to)?;
             }
             Head::List => {
                 if self.is_full() {
                     return Err(SyntaxRefusal::TooDeep(0));
                 }
-                self.open_list_to_break()?;
+                self.open_list_to_break(to)?;
                 self.place = Place::After;
             }
             Head::Map => {
                 if self.is_full() {
                     return Err(SyntaxRefusal::TooDeep(0));
                 }
-                self.open_map_to_break()?;
+                self.open_map_to_break(to)?;
                 self.place = Place::After;
             }
             Head::Chunks(kind) => self.begin_chunks(kind),
-            Head::Null => self.leaf(Tree::Null)?,
-            Head::Bool(value) => self.leaf(Tree::Bool(value))?,
+            Head::Null => self.leaf(Event::Null, to)?,
+            Head::Bool(value) => self.leaf(Event::Bool(value), to)?,
             Head::NoItem => return Err(SyntaxRefusal::Bad(0)),
         }
         Ok(())
@@ -69,14 +77,22 @@ impl Reader {
     pub(super) fn is_full(&self) -> bool
         ensures { IsTrue result ↔ (most_levels ≤ length (levels_of self.now)) }
     {
-        self.levels.len() >= MOST_LEVELS
+        self.levels.depth() >= MOST_LEVELS
     }
 
     // The initial byte of a text that is a map's key.
-    pub(super) fn text_key(&mut self, byte: u8) -> Result<(), SyntaxRefusal>
+    pub(super) fn text_key<E: EventSink>(
+        &mut self,
+        byte: u8,
+        to: &mut E,
+    ) -> Result<(), SyntaxRefusal>
         requires sound { IsAt self.old Place.Key }
         requires text { byte / 32 ≡ text_type }
-        ensures { CborTakesByte self.old Place.Key byte self.new result }
+        requires reached { Reached (E.stands_for to.old) (cbor_state_at self.old Place.Key) }
+        requires takes { TakesEvery (E.takes to.old) }
+        ensures goes { CborTakesByte (E.stands_for to.old) self.old Place.Key byte (E.stands_for to.new) self.new result }
+        ensures takes { TakesStill (E.takes to.old) (E.takes to.new) result }
+        ensures alike { E.alike to.old to.new }
     {
         if byte == INDEFINITE_TEXT {
             self.begin_chunks(StringKind::Key);
@@ -85,7 +101,7 @@ impl Reader {
         match width(byte % 32) {
             Some((left, value)) => {
                 let subject = Subject::String(StringKind::Key, Span::Whole);
-                self.begin_argument(subject, left, value)?;
+                self.begin_argument(subject, left, value, to)?;
                 Ok(())
             }
             None => Err(SyntaxRefusal::Bad(0)),
@@ -93,12 +109,16 @@ impl Reader {
     }
 
     // The initial byte of a map's key.
-    pub(super) fn key(&mut self, byte: u8) -> Result<(), SyntaxRefusal>
-        requires { IsAt self.old Place.Key }
-        ensures { CborTakesByte self.old Place.Key byte self.new result }
+    pub(super) fn key<E: EventSink>(&mut self, byte: u8, to: &mut E) -> Result<(), SyntaxRefusal>
+        requires sound { IsAt self.old Place.Key }
+        requires reached { Reached (E.stands_for to.old) (cbor_state_at self.old Place.Key) }
+        requires takes { TakesEvery (E.takes to.old) }
+        ensures goes { CborTakesByte (E.stands_for to.old) self.old Place.Key byte (E.stands_for to.new) self.new result }
+        ensures takes { TakesStill (E.takes to.old) (E.takes to.new) result }
+        ensures alike { E.alike to.old to.new }
     {
         if byte / 32 == TEXT {
-            return self.text_key(byte);
+            return self.text_key(byte, to);
         }
         match head_of(byte) {
             Head::NoItem => Err(SyntaxRefusal::Bad(0)),
@@ -107,105 +127,147 @@ impl Reader {
     }
 
     // A break ends the innermost array.
-    pub(super) fn break_list(&mut self) -> Result<(), NoMemory>
+    pub(super) fn break_list<E: EventSink>(&mut self, to: &mut E) -> Result<(), NoMemory>
         requires sound { IsAt self.old Place.After }
         requires innermost { IsFirstLevel Level.ListToBreak (levels_of self.old) }
-        ensures { OnOk result (CborGoes self.old [] Place.After (255 ∷ []) self.new) }
+        requires reached { Reached (E.stands_for to.old) (cbor_state_at self.old Place.After) }
+        requires takes { TakesEvery (E.takes to.old) }
+        ensures goes { OnOk result (CborGoes (E.stands_for to.old) self.old [] Place.After (255 ∷ []) (E.stands_for to.new) self.new) }
+        ensures takes { OnOk result (TakesSame (E.takes to.old) (E.takes to.new)) }
+        ensures alike { E.alike to.old to.new }
     {
-        self.levels.pop();
-        self.builder.end_list()?;
-        self.settle()
+        self.levels.leave();
+        to.event(Event::EndList)?;
+        self.settle(to)
     }
 
     // A break ends the innermost map.
-    pub(super) fn break_map(&mut self) -> Result<(), NoMemory>
+    pub(super) fn break_map<E: EventSink>(&mut self, to: &mut E) -> Result<(), NoMemory>
         requires sound { IsAt self.old Place.After }
         requires innermost { IsFirstLevel Level.MapToBreak (levels_of self.old) }
-        ensures { OnOk result (CborGoes self.old [] Place.After (255 ∷ []) self.new) }
+        requires reached { Reached (E.stands_for to.old) (cbor_state_at self.old Place.After) }
+        requires takes { TakesEvery (E.takes to.old) }
+        ensures goes { OnOk result (CborGoes (E.stands_for to.old) self.old [] Place.After (255 ∷ []) (E.stands_for to.new) self.new) }
+        ensures takes { OnOk result (TakesSame (E.takes to.old) (E.takes to.new)) }
+        ensures alike { E.alike to.old to.new }
     {
-        self.levels.pop();
-        self.builder.end_object()?;
-        self.settle()
+        self.levels.leave();
+        to.event(Event::EndObject)?;
+        self.settle(to)
     }
 
     // A byte behind an entry of an array that ends with a break.
-    pub(super) fn after_entry(&mut self, byte: u8) -> Result<(), SyntaxRefusal>
+    pub(super) fn after_entry<E: EventSink>(
+        &mut self,
+        byte: u8,
+        to: &mut E,
+    ) -> Result<(), SyntaxRefusal>
         requires sound { IsAt self.old Place.After }
         requires innermost { IsFirstLevel Level.ListToBreak (levels_of self.old) }
-        ensures { CborTakesByte self.old Place.After byte self.new result }
+        requires reached { Reached (E.stands_for to.old) (cbor_state_at self.old Place.After) }
+        requires takes { TakesEvery (E.takes to.old) }
+        ensures goes { CborTakesByte (E.stands_for to.old) self.old Place.After byte (E.stands_for to.new) self.new result }
+        ensures takes { TakesStill (E.takes to.old) (E.takes to.new) result }
+        ensures alike { E.alike to.old to.new }
     {
         if byte == BREAK {
-            self.break_list()?;
+            self.break_list(to)?;
             return Ok(());
         }
-        self.item(byte)
+        self.item(byte, to)
     }
 
     // A byte behind a pair of a map that ends with a break.
-    pub(super) fn after_pair(&mut self, byte: u8) -> Result<(), SyntaxRefusal>
+    pub(super) fn after_pair<E: EventSink>(
+        &mut self,
+        byte: u8,
+        to: &mut E,
+    ) -> Result<(), SyntaxRefusal>
         requires sound { IsAt self.old Place.After }
         requires innermost { IsFirstLevel Level.MapToBreak (levels_of self.old) }
-        ensures { CborTakesByte self.old Place.After byte self.new result }
+        requires reached { Reached (E.stands_for to.old) (cbor_state_at self.old Place.After) }
+        requires takes { TakesEvery (E.takes to.old) }
+        ensures goes { CborTakesByte (E.stands_for to.old) self.old Place.After byte (E.stands_for to.new) self.new result }
+        ensures takes { TakesStill (E.takes to.old) (E.takes to.new) result }
+        ensures alike { E.alike to.old to.new }
     {
         if byte == BREAK {
-            self.break_map()?;
+            self.break_map(to)?;
             return Ok(());
         }
-        self.key(byte)
+        self.key(byte, to)
     }
 
     // The innermost of what is open.
     pub(super) fn innermost(&self) -> Option<Level>
         ensures { result ≡ first_level (levels_of self.now) }
     {
-        self.levels.last().copied()
+        self.levels.innermost()
     }
 
     // A byte behind an item.
-    pub(super) fn after(&mut self, byte: u8) -> Result<(), SyntaxRefusal>
+    pub(super) fn after<E: EventSink>(&mut self, byte: u8, to: &mut E) -> Result<(), SyntaxRefusal>
         requires sound { IsAt self.old Place.After }
         requires open_to { BehindItem (levels_of self.old) }
-        ensures { CborTakesByte self.old Place.After byte self.new result }
+        requires reached { Reached (E.stands_for to.old) (cbor_state_at self.old Place.After) }
+        requires takes { TakesEvery (E.takes to.old) }
+        ensures goes { CborTakesByte (E.stands_for to.old) self.old Place.After byte (E.stands_for to.new) self.new result }
+        ensures takes { TakesStill (E.takes to.old) (E.takes to.new) result }
+        ensures alike { E.alike to.old to.new }
     {
         match self.innermost() {
-            Some(Level::ListToBreak) => self.after_entry(byte),
-            Some(Level::MapToBreak) => self.after_pair(byte),
+            Some(Level::ListToBreak) => self.after_entry(byte, to),
+            Some(Level::MapToBreak) => self.after_pair(byte, to),
             None => Err(SyntaxRefusal::Bad(0)),
             Some(_) => unreachable!(),
         }
     }
 
     // A byte of an argument.
-    pub(super) fn argument(
+    pub(super) fn argument<E: EventSink>(
         &mut self,
         subject: Subject,
         left: u8,
         value: u64,
         byte: u8,
+        to: &mut E,
     ) -> Result<(), SyntaxRefusal>
         requires sound { IsAt self.old (Place.Argument subject left value) }
         requires some { 0 < left }
-        ensures { CborTakesByte self.old (Place.Argument subject left value) byte self.new result }
+        requires reached { Reached (E.stands_for to.old) (cbor_state_at self.old (Place.Argument subject left value)) }
+        requires takes { TakesEvery (E.takes to.old) }
+        ensures goes { CborTakesByte (E.stands_for to.old) self.old (Place.Argument subject left value) byte (E.stands_for to.new) self.new result }
+        ensures takes { TakesStill (E.takes to.old) (E.takes to.new) result }
+        ensures alike { E.alike to.old to.new }
     {
         if is_no_simple(subject, byte) {
             return Err(SyntaxRefusal::Bad(0));
         }
-        self.begin_argument(subject, left - 1, value * 256 + byte as u64)?;
+        self.begin_argument(subject, left - 1, value * 256 + byte as u64, to)?;
         Ok(())
     }
 
     // The initial byte of a chunk, or a break.
-    pub(super) fn chunk(&mut self, kind: StringKind, byte: u8) -> Result<(), SyntaxRefusal>
-        requires { IsAt self.old (Place.Chunks kind) }
-        ensures { CborTakesByte self.old (Place.Chunks kind) byte self.new result }
+    pub(super) fn chunk<E: EventSink>(
+        &mut self,
+        kind: StringKind,
+        byte: u8,
+        to: &mut E,
+    ) -> Result<(), SyntaxRefusal>
+        requires sound { IsAt self.old (Place.Chunks kind) }
+        requires reached { Reached (E.stands_for to.old) (cbor_state_at self.old (Place.Chunks kind)) }
+        requires takes { TakesEvery (E.takes to.old) }
+        ensures goes { CborTakesByte (E.stands_for to.old) self.old (Place.Chunks kind) byte (E.stands_for to.new) self.new result }
+        ensures takes { TakesStill (E.takes to.old) (E.takes to.new) result }
+        ensures alike { E.alike to.old to.new }
     {
         if byte == BREAK {
-            self.end_string(kind)?;
+            self.end_string(kind, to)?;
             return Ok(());
         }
         match chunk_head(kind, byte) {
             Some((left, value)) => {
-                self.begin_argument(Subject::String(kind, Span::Chunk), left, value)?;
+                self.begin_argument(Subject::String(kind, Span::Chunk), left, value, to)?;
                 Ok(())
             }
             None => Err(SyntaxRefusal::Bad(0)),

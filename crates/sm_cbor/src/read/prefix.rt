@@ -1,12 +1,12 @@
 // Items and keys that are whole in the bytes at hand are taken at once: a head in one step, and a text behind it with
 // one copy. What is cut is taken byte by byte.
-ghost use Rattle.std.specs.Prelude.{◌≡◌, ◌<◌, ◌≤◌, length, IfSome, IsUtf8};
+ghost use Rattle.std.specs.Prelude.{◌≡◌, ◌<◌, ◌≤◌, length, IfSome, IsUtf8, OnOk};
 ghost use Rattle.sm_cbor.specs.steps.Reading.{IsBehind};
 
 use super::Reader;
 use crate::head::{WholeHead, whole_head};
 use crate::place::Place;
-use sm_tree::{SyntaxRefusal, Text, Tree};
+use sm_tree::{Event, EventSink, SyntaxRefusal, Text};
 use std::str;
 
 // The bytes of the string with this head, where they are all at hand.
@@ -36,108 +36,162 @@ fn text_behind<'a>(bytes: &'a [u8], head: &WholeHead) -> Option<&'a str>
 }
 
 impl Reader {
-    ghost use Rattle.sm_cbor.specs.steps.Machine.{IsAt, CborTakesPrefixAt};
+    ghost use Rattle.sm_cbor.specs.steps.Machine.{IsAt, CborTakesPrefixAt, cbor_state_at};
+    ghost use Rattle.sm_cbor.specs.steps.Sinks.{Reached};
+    ghost use Rattle.sm_tree.specs.Streams.{TakesEvery};
+    ghost use Rattle.sm_tree.specs.ReaderClauses.{TakesStill};
     ghost use Rattle.sm_cbor.specs.steps.Reading.{HasHead, IsText};
 
     // The initial byte of an item.
-    fn item_byte(&mut self, bytes: &[u8]) -> Result<usize, SyntaxRefusal>
+    fn item_byte<E: EventSink>(&mut self, bytes: &[u8], to: &mut E) -> Result<usize, SyntaxRefusal>
         requires sound { IsAt self.old Place.Item }
         requires some { 0 < length bytes.now }
-        ensures { CborTakesPrefixAt self.old Place.Item bytes.now self.new result }
+        requires reached { Reached (E.stands_for to.old) (cbor_state_at self.old Place.Item) }
+        requires takes { TakesEvery (E.takes to.old) }
+        ensures goes { CborTakesPrefixAt (E.stands_for to.old) self.old Place.Item bytes.now (E.stands_for to.new) self.new result }
+        ensures takes { TakesStill (E.takes to.old) (E.takes to.new) result }
+        ensures alike { E.alike to.old to.new }
     {
-        self.item(bytes[0])?;
+        self.item(bytes[0], to)?;
         Ok(1)
     }
 
     // The initial byte of a key.
-    fn key_byte(&mut self, bytes: &[u8]) -> Result<usize, SyntaxRefusal>
+    fn key_byte<E: EventSink>(&mut self, bytes: &[u8], to: &mut E) -> Result<usize, SyntaxRefusal>
         requires sound { IsAt self.old Place.Key }
         requires some { 0 < length bytes.now }
-        ensures { CborTakesPrefixAt self.old Place.Key bytes.now self.new result }
+        requires reached { Reached (E.stands_for to.old) (cbor_state_at self.old Place.Key) }
+        requires takes { TakesEvery (E.takes to.old) }
+        ensures goes { CborTakesPrefixAt (E.stands_for to.old) self.old Place.Key bytes.now (E.stands_for to.new) self.new result }
+        ensures takes { TakesStill (E.takes to.old) (E.takes to.new) result }
+        ensures alike { E.alike to.old to.new }
     {
-        self.key(bytes[0])?;
+        self.key(bytes[0], to)?;
         Ok(1)
     }
 
     // A head whose bytes are all at hand.
-    fn take_head(&mut self, head: &WholeHead, bytes: &[u8]) -> Result<usize, SyntaxRefusal>
+    fn take_head<E: EventSink>(
+        &mut self,
+        head: &WholeHead,
+        bytes: &[u8],
+        to: &mut E,
+    ) -> Result<usize, SyntaxRefusal>
         requires sound { IsAt self.old Place.Item }
         requires head { HasHead bytes.now head.now.subject head.now.value head.now.len }
-        ensures { CborTakesPrefixAt self.old Place.Item bytes.now self.new result }
+        requires reached { Reached (E.stands_for to.old) (cbor_state_at self.old Place.Item) }
+        requires takes { TakesEvery (E.takes to.old) }
+        ensures goes { CborTakesPrefixAt (E.stands_for to.old) self.old Place.Item bytes.now (E.stands_for to.new) self.new result }
+        ensures takes { TakesStill (E.takes to.old) (E.takes to.new) result }
+        ensures alike { E.alike to.old to.new }
     {
         if head.subject.is_level() && self.is_full() {
             return Err(SyntaxRefusal::TooDeep(0));
         }
-        self.end_argument(head.subject, head.value)?;
+        self.end_argument(head.subject, head.value, to)?;
         Ok(head.len)
     }
 
     // A text with its head, or the head alone where the text isn't all at hand or isn't UTF-8.
-    fn take_text(&mut self, head: &WholeHead, bytes: &[u8]) -> Result<usize, SyntaxRefusal>
+    fn take_text<E: EventSink>(
+        &mut self,
+        head: &WholeHead,
+        bytes: &[u8],
+        to: &mut E,
+    ) -> Result<usize, SyntaxRefusal>
         requires sound { IsAt self.old Place.Item }
         requires head { HasHead bytes.now head.now.subject head.now.value head.now.len }
         requires text { IsText head.now.subject }
-        ensures { CborTakesPrefixAt self.old Place.Item bytes.now self.new result }
+        requires reached { Reached (E.stands_for to.old) (cbor_state_at self.old Place.Item) }
+        requires takes { TakesEvery (E.takes to.old) }
+        ensures goes { CborTakesPrefixAt (E.stands_for to.old) self.old Place.Item bytes.now (E.stands_for to.new) self.new result }
+        ensures takes { TakesStill (E.takes to.old) (E.takes to.new) result }
+        ensures alike { E.alike to.old to.new }
     {
         match text_behind(bytes, head) {
             Some(text) => {
                 let copy = Text::copy(self.alloc, text)?;
-                self.leaf(Tree::Text(copy))?;
+                self.leaf(Event::Text(copy), to)?;
                 Ok(head.len + text.len())
             }
-            None => self.take_head(head, bytes),
+            None => self.take_head(head, bytes, to),
         }
     }
 
     // A key with its head, or one byte where it isn't all at hand or isn't UTF-8.
-    fn take_key(&mut self, head: &WholeHead, bytes: &[u8]) -> Result<usize, SyntaxRefusal>
+    fn take_key<E: EventSink>(
+        &mut self,
+        head: &WholeHead,
+        bytes: &[u8],
+        to: &mut E,
+    ) -> Result<usize, SyntaxRefusal>
         requires sound { IsAt self.old Place.Key }
         requires head { HasHead bytes.now head.now.subject head.now.value head.now.len }
         requires text { IsText head.now.subject }
-        ensures { CborTakesPrefixAt self.old Place.Key bytes.now self.new result }
+        requires reached { Reached (E.stands_for to.old) (cbor_state_at self.old Place.Key) }
+        requires takes { TakesEvery (E.takes to.old) }
+        ensures goes { CborTakesPrefixAt (E.stands_for to.old) self.old Place.Key bytes.now (E.stands_for to.new) self.new result }
+        ensures takes { TakesStill (E.takes to.old) (E.takes to.new) result }
+        ensures alike { E.alike to.old to.new }
     {
         match text_behind(bytes, head) {
             Some(text) => {
                 let copy = Text::copy(self.alloc, text)?;
-                self.builder.key(copy);
+                to.event(Event::Key(copy))?;
                 self.place = Place::Item;
                 Ok(head.len + text.len())
             }
-            None => self.key_byte(bytes),
+            None => self.key_byte(bytes, to),
         }
     }
 
     // A prefix of an item: a text with its head, another head, or one byte.
-    pub(super) fn item_prefix(&mut self, bytes: &[u8]) -> Result<usize, SyntaxRefusal>
+    pub(super) fn item_prefix<E: EventSink>(
+        &mut self,
+        bytes: &[u8],
+        to: &mut E,
+    ) -> Result<usize, SyntaxRefusal>
         requires sound { IsAt self.old Place.Item }
         requires some { 0 < length bytes.now }
-        ensures { CborTakesPrefixAt self.old Place.Item bytes.now self.new result }
+        requires reached { Reached (E.stands_for to.old) (cbor_state_at self.old Place.Item) }
+        requires takes { TakesEvery (E.takes to.old) }
+        ensures goes { CborTakesPrefixAt (E.stands_for to.old) self.old Place.Item bytes.now (E.stands_for to.new) self.new result }
+        ensures takes { TakesStill (E.takes to.old) (E.takes to.new) result }
+        ensures alike { E.alike to.old to.new }
     {
         match whole_head(bytes) {
             Some(head) => {
                 if head.subject.is_text() {
-                    return self.take_text(&head, bytes);
+                    return self.take_text(&head, bytes, to);
                 }
-                self.take_head(&head, bytes)
+                self.take_head(&head, bytes, to)
             }
-            None => self.item_byte(bytes),
+            None => self.item_byte(bytes, to),
         }
     }
 
     // A prefix of a key: all of it with its head, or one byte.
-    pub(super) fn key_prefix(&mut self, bytes: &[u8]) -> Result<usize, SyntaxRefusal>
+    pub(super) fn key_prefix<E: EventSink>(
+        &mut self,
+        bytes: &[u8],
+        to: &mut E,
+    ) -> Result<usize, SyntaxRefusal>
         requires sound { IsAt self.old Place.Key }
         requires some { 0 < length bytes.now }
-        ensures { CborTakesPrefixAt self.old Place.Key bytes.now self.new result }
+        requires reached { Reached (E.stands_for to.old) (cbor_state_at self.old Place.Key) }
+        requires takes { TakesEvery (E.takes to.old) }
+        ensures goes { CborTakesPrefixAt (E.stands_for to.old) self.old Place.Key bytes.now (E.stands_for to.new) self.new result }
+        ensures takes { TakesStill (E.takes to.old) (E.takes to.new) result }
+        ensures alike { E.alike to.old to.new }
     {
         match whole_head(bytes) {
             Some(head) => {
                 if head.subject.is_text() {
-                    return self.take_key(&head, bytes);
+                    return self.take_key(&head, bytes, to);
                 }
-                self.key_byte(bytes)
+                self.key_byte(bytes, to)
             }
-            None => self.key_byte(bytes),
+            None => self.key_byte(bytes, to),
         }
     }
 }

@@ -1,61 +1,60 @@
 // What ends where its last byte has come: arguments, strings, whole items and what is round them.
-ghost use Rattle.std.specs.Prelude.{◌≡◌, ◌<◌, length, OnOk, IsUtf8, None, [], ◌∷◌};
+ghost use Rattle.std.specs.Prelude.{◌≡◌, ◌<◌, length, OnOk, IsUtf8, Some, None, [], ◌∷◌};
 ghost use Rattle.sm_tree.specs.Limits.{most_levels};
-ghost use Rattle.sm_tree.specs.View.{node_of};
-ghost use Rattle.sm_tree.specs.Events.{events, start_list, start_object};
+ghost use Rattle.sm_tree.specs.Events.{start_list, start_object};
+ghost use Rattle.sm_tree.specs.EventView.{event_of};
 ghost use Rattle.sm_bytes.specs.declared.utf8.Utf8.TheVariants.{Between};
 ghost use Rattle.sm_cbor.specs.steps.Rest.{before_span};
 
 use super::Reader;
-use crate::claim::expected;
-use crate::integer::{negative_tree, unsigned_tree};
+use crate::integer::{negative_event, unsigned_event};
 use crate::place::{Level, Place, Span, StringKind, Subject};
 use sm_bytes::Utf8;
-use sm_tree::{Bytes, FIRST_ROOM, NoMemory, Text, Tree};
+use sm_tree::{Bytes, Event, EventSink, NoMemory, Text};
 use std::mem;
 
 impl Reader {
-    ghost use Rattle.sm_cbor.specs.steps.Machine.{IsAt, CborGoes, Enters, OpensLevel, levels_of};
-
-    // Puts a level round what comes.
-    pub(super) fn enter(&mut self, level: Level) -> Result<(), NoMemory>
-        ensures { OnOk result (Enters self.old level self.new) }
-    {
-        match self.levels.push(level) {
-            Ok(()) => Ok(()),
-            Err(_) => Err(NoMemory),
-        }
-    }
+    ghost use Rattle.sm_cbor.specs.steps.Machine.{IsAt, CborGoes, OpensLevel, levels_of, cbor_state_at, opened};
+    ghost use Rattle.sm_cbor.specs.steps.Sinks.{Reached, Owed};
+    ghost use Rattle.sm_tree.specs.Streams.{TakesEvery, TakesSame};
 
     // An item has ended: ends what ends with it, and stands where the next may come.
-    pub(super) fn settle(&mut self) -> Result<(), NoMemory>
-        requires { IsAt self.old Place.After }
-        ensures { OnOk result (CborGoes self.old [] Place.After [] self.new) }
+    pub(super) fn settle<E: EventSink>(&mut self, to: &mut E) -> Result<(), NoMemory>
+        requires sound { IsAt self.old Place.After }
+        requires reached { Reached (E.stands_for to.old) (cbor_state_at self.old Place.After) }
+        requires takes { TakesEvery (E.takes to.old) }
+        ensures goes { OnOk result (CborGoes (E.stands_for to.old) self.old [] Place.After [] (E.stands_for to.new) self.new) }
+        ensures takes { OnOk result (TakesSame (E.takes to.old) (E.takes to.new)) }
+        ensures alike { E.alike to.old to.new }
     {
-        while let Some(level) = self.levels.pop() {
+        while let Some(level) = self.levels.leave() {
             match level {
                 Level::Tag => {}
                 Level::List(left) => {
                     if left > 0 {
+                        self.levels.enter(Level::List(left - 1));
                         self.place = Place::Item;
-                        return self.enter(Level::List(left - 1));
+                        return Ok(());
                     }
-                    self.builder.end_list()?;
+                    to.event(Event::EndList)?;
                 }
                 Level::Map(left) => {
                     if left > 0 {
+                        self.levels.enter(Level::Map(left - 1));
                         self.place = Place::Key;
-                        return self.enter(Level::Map(left - 1));
+                        return Ok(());
                     }
-                    self.builder.end_object()?;
+                    to.event(Event::EndObject)?;
                 }
                 Level::ListToBreak => {
+                    self.levels.enter(Level::ListToBreak);
                     self.place = Place::After;
-                    return self.enter(Level::ListToBreak);
+                    return Ok(());
                 }
                 Level::MapToBreak => {
+                    self.levels.enter(Level::MapToBreak);
                     self.place = Place::After;
-                    return self.enter(Level::MapToBreak);
+                    return Ok(());
                 }
             }
         }
@@ -65,52 +64,76 @@ impl Reader {
 
     // A whole item.
     #[inline(always)]
-    pub(super) fn leaf(&mut self, tree: Tree) -> Result<(), NoMemory>
-        requires { IsAt self.old Place.Item }
-        ensures { OnOk result (CborGoes self.old (events (node_of tree) []) Place.After [] self.new) }
+    pub(super) fn leaf<E: EventSink>(&mut self, event: Event, to: &mut E) -> Result<(), NoMemory>
+        requires sound { IsAt self.old Place.After }
+        requires reached { Owed (E.stands_for to.old) (event_of event) (cbor_state_at self.old Place.After) }
+        requires takes { TakesEvery (E.takes to.old) }
+        ensures goes { OnOk result (CborGoes (E.stands_for to.old) self.old (event_of event ∷ []) Place.After [] (E.stands_for to.new) self.new) }
+        ensures takes { OnOk result (TakesSame (E.takes to.old) (E.takes to.new)) }
+        ensures alike { E.alike to.old to.new }
     {
-        self.builder.value(tree)?;
-        self.settle()
+        to.event(event)?;
+        self.settle(to)
     }
 
     // An array of so many entries opens.
-    pub(super) fn open_list(&mut self, count: u64) -> Result<(), NoMemory>
+    pub(super) fn open_list<E: EventSink>(&mut self, count: u64, to: &mut E) -> Result<(), NoMemory>
         requires sound { IsAt self.old Place.Item }
         requires room { length (levels_of self.old) < most_levels }
-        ensures { OnOk result (OpensLevel self.old (Level.List count) (start_list None ∷ []) self.new) }
+        requires reached { Owed (E.stands_for to.old) (start_list (Some count)) (opened self.old (Level.List count)) }
+        requires takes { TakesEvery (E.takes to.old) }
+        ensures goes { OnOk result (OpensLevel (E.stands_for to.old) self.old (Level.List count) (start_list (Some count)) (E.stands_for to.new) self.new) }
+        ensures takes { OnOk result (TakesSame (E.takes to.old) (E.takes to.new)) }
+        ensures alike { E.alike to.old to.new }
     {
-        self.builder.start_list(expected(count))?;
-        self.enter(Level::List(count))
+        to.event(Event::StartList(Some(count)))?;
+        self.levels.enter(Level::List(count));
+        Ok(())
     }
 
     // An array of indefinite length opens.
-    pub(super) fn open_list_to_break(&mut self) -> Result<(), NoMemory>
+    pub(super) fn open_list_to_break<E: EventSink>(&mut self, to: &mut E) -> Result<(), NoMemory>
         requires sound { IsAt self.old Place.Item }
         requires room { length (levels_of self.old) < most_levels }
-        ensures { OnOk result (OpensLevel self.old Level.ListToBreak (start_list None ∷ []) self.new) }
+        requires reached { Owed (E.stands_for to.old) (start_list None) (opened self.old Level.ListToBreak) }
+        requires takes { TakesEvery (E.takes to.old) }
+        ensures goes { OnOk result (OpensLevel (E.stands_for to.old) self.old Level.ListToBreak (start_list None) (E.stands_for to.new) self.new) }
+        ensures takes { OnOk result (TakesSame (E.takes to.old) (E.takes to.new)) }
+        ensures alike { E.alike to.old to.new }
     {
-        self.builder.start_list(FIRST_ROOM)?;
-        self.enter(Level::ListToBreak)
+        to.event(Event::StartList(None))?;
+        self.levels.enter(Level::ListToBreak);
+        Ok(())
     }
 
     // A map of so many pairs opens.
-    pub(super) fn open_map(&mut self, count: u64) -> Result<(), NoMemory>
+    pub(super) fn open_map<E: EventSink>(&mut self, count: u64, to: &mut E) -> Result<(), NoMemory>
         requires sound { IsAt self.old Place.Item }
         requires room { length (levels_of self.old) < most_levels }
-        ensures { OnOk result (OpensLevel self.old (Level.Map count) (start_object None ∷ []) self.new) }
+        requires reached { Owed (E.stands_for to.old) (start_object (Some count)) (opened self.old (Level.Map count)) }
+        requires takes { TakesEvery (E.takes to.old) }
+        ensures goes { OnOk result (OpensLevel (E.stands_for to.old) self.old (Level.Map count) (start_object (Some count)) (E.stands_for to.new) self.new) }
+        ensures takes { OnOk result (TakesSame (E.takes to.old) (E.takes to.new)) }
+        ensures alike { E.alike to.old to.new }
     {
-        self.builder.start_object(expected(count))?;
-        self.enter(Level::Map(count))
+        to.event(Event::StartObject(Some(count)))?;
+        self.levels.enter(Level::Map(count));
+        Ok(())
     }
 
     // A map of indefinite length opens.
-    pub(super) fn open_map_to_break(&mut self) -> Result<(), NoMemory>
+    pub(super) fn open_map_to_break<E: EventSink>(&mut self, to: &mut E) -> Result<(), NoMemory>
         requires sound { IsAt self.old Place.Item }
         requires room { length (levels_of self.old) < most_levels }
-        ensures { OnOk result (OpensLevel self.old Level.MapToBreak (start_object None ∷ []) self.new) }
+        requires reached { Owed (E.stands_for to.old) (start_object None) (opened self.old Level.MapToBreak) }
+        requires takes { TakesEvery (E.takes to.old) }
+        ensures goes { OnOk result (OpensLevel (E.stands_for to.old) self.old Level.MapToBreak (start_object None) (E.stands_for to.new) self.new) }
+        ensures takes { OnOk result (TakesSame (E.takes to.old) (E.takes to.new)) }
+        ensures alike { E.alike to.old to.new }
     {
-        self.builder.start_object(FIRST_ROOM)?;
-        self.enter(Level::MapToBreak)
+        to.event(Event::StartObject(None))?;
+        self.levels.enter(Level::MapToBreak);
+        Ok(())
     }
 
     // The text that is held. What is held is used up.
@@ -124,22 +147,30 @@ impl Reader {
     }
 
     // The last byte of a string has come.
-    pub(super) fn end_string(&mut self, kind: StringKind) -> Result<(), NoMemory>
-        requires { IsAt self.old (Place.String kind Span.Whole 0 Between) }
-        ensures { OnOk result (CborGoes self.old [] (Place.String kind Span.Whole 0 Between) [] self.new) }
+    pub(super) fn end_string<E: EventSink>(
+        &mut self,
+        kind: StringKind,
+        to: &mut E,
+    ) -> Result<(), NoMemory>
+        requires sound { IsAt self.old (Place.String kind Span.Whole 0 Between) }
+        requires reached { Reached (E.stands_for to.old) (cbor_state_at self.old (Place.String kind Span.Whole 0 Between)) }
+        requires takes { TakesEvery (E.takes to.old) }
+        ensures goes { OnOk result (CborGoes (E.stands_for to.old) self.old [] (Place.String kind Span.Whole 0 Between) [] (E.stands_for to.new) self.new) }
+        ensures takes { OnOk result (TakesSame (E.takes to.old) (E.takes to.new)) }
+        ensures alike { E.alike to.old to.new }
     {
         match kind {
             StringKind::Bytes => {
                 let held = mem::replace(&mut self.held, Vec::new(self.alloc));
-                self.leaf(Tree::Bytes(Bytes::new(held)))
+                self.leaf(Event::Bytes(Bytes::new(held)), to)
             }
             StringKind::Text => {
                 let text = self.text();
-                self.leaf(Tree::Text(text))
+                self.leaf(Event::Text(text), to)
             }
             StringKind::Key => {
                 let text = self.text();
-                self.builder.key(text);
+                to.event(Event::Key(text))?;
                 self.place = Place::Item;
                 Ok(())
             }
@@ -147,12 +178,21 @@ impl Reader {
     }
 
     // The last byte of what a head has begun has come.
-    pub(super) fn end_span(&mut self, kind: StringKind, span: Span) -> Result<(), NoMemory>
-        requires { IsAt self.old (Place.String kind span 0 Between) }
-        ensures { OnOk result (CborGoes self.old [] (Place.String kind span 0 Between) [] self.new) }
+    pub(super) fn end_span<E: EventSink>(
+        &mut self,
+        kind: StringKind,
+        span: Span,
+        to: &mut E,
+    ) -> Result<(), NoMemory>
+        requires sound { IsAt self.old (Place.String kind span 0 Between) }
+        requires reached { Reached (E.stands_for to.old) (cbor_state_at self.old (Place.String kind span 0 Between)) }
+        requires takes { TakesEvery (E.takes to.old) }
+        ensures goes { OnOk result (CborGoes (E.stands_for to.old) self.old [] (Place.String kind span 0 Between) [] (E.stands_for to.new) self.new) }
+        ensures takes { OnOk result (TakesSame (E.takes to.old) (E.takes to.new)) }
+        ensures alike { E.alike to.old to.new }
     {
         match span {
-            Span::Whole => self.end_string(kind),
+            Span::Whole => self.end_string(kind, to),
             Span::Chunk => {
                 self.place = Place::Chunks(kind);
                 Ok(())
@@ -172,74 +212,97 @@ impl Reader {
     }
 
     // A string or a chunk of this length begins.
-    pub(super) fn begin_string(
+    pub(super) fn begin_string<E: EventSink>(
         &mut self,
         kind: StringKind,
         span: Span,
         len: u64,
+        to: &mut E,
     ) -> Result<(), NoMemory>
-        requires { IsAt self.old (Place.Argument (Subject.String kind span) 0 len) }
-        ensures { OnOk result (CborGoes self.old [] (Place.Argument (Subject.String kind span) 0 len) [] self.new) }
+        requires sound { IsAt self.old (Place.Argument (Subject.String kind span) 0 len) }
+        requires reached { Reached (E.stands_for to.old) (cbor_state_at self.old (Place.Argument (Subject.String kind span) 0 len)) }
+        requires takes { TakesEvery (E.takes to.old) }
+        ensures goes { OnOk result (CborGoes (E.stands_for to.old) self.old [] (Place.Argument (Subject.String kind span) 0 len) [] (E.stands_for to.new) self.new) }
+        ensures takes { OnOk result (TakesSame (E.takes to.old) (E.takes to.new)) }
+        ensures alike { E.alike to.old to.new }
     {
         self.forget_before(span);
         if len == 0 {
-            return self.end_span(kind, span);
+            return self.end_span(kind, span, to);
         }
         self.place = Place::String(kind, span, len, Utf8::Between);
         Ok(())
     }
 
     // A tag opens.
-    pub(super) fn open_tag(&mut self, number: u64) -> Result<(), NoMemory>
-        requires { IsAt self.old (Place.Argument Subject.Tag 0 number) }
-        ensures { OnOk result (CborGoes self.old [] (Place.Argument Subject.Tag 0 number) [] self.new) }
+    pub(super) fn open_tag<E: EventSink>(&mut self, number: u64, to: &mut E) -> Result<(), NoMemory>
+        requires sound { IsAt self.old (Place.Argument Subject.Tag 0 number) }
+        requires reached { Reached (E.stands_for to.old) (cbor_state_at self.old (Place.Argument Subject.Tag 0 number)) }
+        requires takes { TakesEvery (E.takes to.old) }
+        ensures goes { OnOk result (CborGoes (E.stands_for to.old) self.old [] (Place.Argument Subject.Tag 0 number) [] (E.stands_for to.new) self.new) }
+        ensures takes { OnOk result (TakesSame (E.takes to.old) (E.takes to.new)) }
+        ensures alike { E.alike to.old to.new }
     {
-        self.builder.tag(number)?;
-        self.enter(Level::Tag)?;
+        to.event(Event::Tag(number))?;
+        self.levels.enter(Level::Tag);
         self.place = Place::Item;
         Ok(())
     }
 
     // The argument has come: what it is the argument of begins, or is whole.
-    pub(super) fn end_argument(&mut self, subject: Subject, value: u64) -> Result<(), NoMemory>
-        requires { IsAt self.old (Place.Argument subject 0 value) }
-        ensures { OnOk result (CborGoes self.old [] (Place.Argument subject 0 value) [] self.new) }
+    pub(super) fn end_argument<E: EventSink>(
+        &mut self,
+        subject: Subject,
+        value: u64,
+        to: &mut E,
+    ) -> Result<(), NoMemory>
+        requires sound { IsAt self.old (Place.Argument subject 0 value) }
+        requires reached { Reached (E.stands_for to.old) (cbor_state_at self.old (Place.Argument subject 0 value)) }
+        requires takes { TakesEvery (E.takes to.old) }
+        ensures goes { OnOk result (CborGoes (E.stands_for to.old) self.old [] (Place.Argument subject 0 value) [] (E.stands_for to.new) self.new) }
+        ensures takes { OnOk result (TakesSame (E.takes to.old) (E.takes to.new)) }
+        ensures alike { E.alike to.old to.new }
     {
         match subject {
             Subject::Unsigned => {
-                let tree = unsigned_tree(self.alloc, value)?;
-                self.leaf(tree)
+                let event = unsigned_event(self.alloc, value)?;
+                self.leaf(event, to)
             }
             Subject::Negative => {
-                let tree = negative_tree(self.alloc, value)?;
-                self.leaf(tree)
+                let event = negative_event(self.alloc, value)?;
+                self.leaf(event, to)
             }
-            Subject::Opaque(byte) => self.leaf(Tree::Opaque(byte)),
-            Subject::String(kind, span) => self.begin_string(kind, span, value),
+            Subject::Opaque(byte) => self.leaf(Event::Opaque(byte), to),
+            Subject::String(kind, span) => self.begin_string(kind, span, value, to),
             Subject::List => {
-                self.open_list(value)?;
-                self.settle()
+                self.open_list(value, to)?;
+                self.settle(to)
             }
             Subject::Map => {
-                self.open_map(value)?;
-                self.settle()
+                self.open_map(value, to)?;
+                self.settle(to)
             }
-            Subject::Tag => self.open_tag(value),
+            Subject::Tag => self.open_tag(value, to),
         }
     }
 
     // An argument of which so many bytes are to come.
-    pub(super) fn begin_argument(
+    pub(super) fn begin_argument<E: EventSink>(
         &mut self,
         subject: Subject,
         left: u8,
         value: u64,
+        to: &mut E,
     ) -> Result<(), NoMemory>
-        requires { IsAt self.old (Place.Argument subject left value) }
-        ensures { OnOk result (CborGoes self.old [] (Place.Argument subject left value) [] self.new) }
+        requires sound { IsAt self.old (Place.Argument subject left value) }
+        requires reached { Reached (E.stands_for to.old) (cbor_state_at self.old (Place.Argument subject left value)) }
+        requires takes { TakesEvery (E.takes to.old) }
+        ensures goes { OnOk result (CborGoes (E.stands_for to.old) self.old [] (Place.Argument subject left value) [] (E.stands_for to.new) self.new) }
+        ensures takes { OnOk result (TakesSame (E.takes to.old) (E.takes to.new)) }
+        ensures alike { E.alike to.old to.new }
     {
         if left == 0 {
-            return self.end_argument(subject, value);
+            return self.end_argument(subject, value, to);
         }
         self.place = Place::Argument(subject, left, value);
         Ok(())

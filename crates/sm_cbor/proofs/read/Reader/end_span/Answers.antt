@@ -5,8 +5,9 @@ use Rattle.sm_cbor.specs.declared.place.Place.TheVariants.{String, Chunks}
 use Rattle.sm_cbor.proofs.EndSteps.{chunk_goes}
 use Rattle.sm_cbor.proofs.read.Reader.end_span.Goals as goal
 
-pub returns-in-Chunk : goal.returns-in-Chunk
-returns-in-Chunk c =
-    subst (λ s. CborGoes c.args.self.now [] (String c.args.kind s 0 Between) [] (record c.args.self.now { place = Chunks c.args.kind }))
-    (sym c.in-Chunk.is)
-    (chunk_goes c.args.self.now c.args.kind (subst (λ s. IsAt c.args.self.now (String c.args.kind s 0 Between)) c.in-Chunk.is c.requires))
+pub returns-in-Chunk-clause-goes : goal.returns-in-Chunk-clause-goes
+returns-in-Chunk-clause-goes g c =
+    subst (λ s. CborGoes (g.E.EventSink.stands_for c.args.to.now) c.args.self.now [] (String c.args.kind s 0 Between) []
+    (g.E.EventSink.stands_for c.args.to.now) (record c.args.self.now { place = Chunks c.args.kind })) (sym c.in-Chunk.is)
+    (chunk_goes (g.E.EventSink.stands_for c.args.to.now) c.args.self.now c.args.kind (subst (λ s. IsAt c.args.self.now (String
+    c.args.kind s 0 Between)) c.in-Chunk.is c.requires.sound))
