@@ -4,7 +4,17 @@ pub mod Names
 pub mod Tables
 pub mod Fits
 pub mod FaultWords
+pub mod Values
+pub mod ValueView
+pub mod TableData
+pub mod ConstraintView
+pub mod TableView
+pub mod Places
+pub mod Broken
+pub mod Fitting
+pub mod InOrder
 pub mod Patterns
 pub mod Literals
 pub mod LiteralStore
+pub mod AnyStore
 pub mod steps

@@ -9,12 +9,32 @@ use sm_tree::Path;
 pub enum FaultKind {
     /// The tree is of another type than the shape's values. Prints as `Type`.
     WrongType,
-    /// A member's name stands twice or more.
+    /// Null in a list or a map that isn't sparse.
+    Null,
+    /// A member's name, or a map's key, stands twice or more.
     Repeated,
-    /// A required member is absent or null.
+    /// A required member without a default is absent or null.
     Missing,
     /// A whole number that the shape's width doesn't hold.
     Width,
+    /// A text that is no base64 of bytes.
+    Base64,
+    /// A leaf of the right type that is no stamp's.
+    Time,
+    /// A length outside the bounds of the trait `length`.
+    Length,
+    /// A text that the trait `pattern` doesn't find.
+    Pattern,
+    /// None of an enum's values.
+    Enum,
+    /// A number outside the bounds of the trait `range`.
+    Range,
+    /// Two entries of a list with the trait `uniqueItems` are equal.
+    Unique,
+    /// A union of which no member is there, or more than one.
+    UnionCount,
+    /// A value that the protocol on the other side can't spell.
+    NotCarried,
 }
 
 impl FaultKind {
@@ -24,9 +44,19 @@ impl FaultKind {
     {
         match self {
             FaultKind::WrongType => "Type",
+            FaultKind::Null => "Null",
             FaultKind::Repeated => "Repeated",
             FaultKind::Missing => "Missing",
             FaultKind::Width => "Width",
+            FaultKind::Base64 => "Base64",
+            FaultKind::Time => "Time",
+            FaultKind::Length => "Length",
+            FaultKind::Pattern => "Pattern",
+            FaultKind::Enum => "Enum",
+            FaultKind::Range => "Range",
+            FaultKind::Unique => "Unique",
+            FaultKind::UnionCount => "UnionCount",
+            FaultKind::NotCarried => "NotCarried",
         }
     }
 }

@@ -2,13 +2,19 @@
 // model's shapes come to once names are numbers.
 #![tactic(auto)]
 
+mod any_patterns;
+pub mod constraints;
 mod fault;
+pub mod kinds;
 mod literal_patterns;
 mod patterns;
 mod rows;
 mod table;
+pub mod tables;
 mod value;
+pub mod values;
 
+pub use any_patterns::AnyPatterns;
 pub use fault::{Fault, FaultKind};
 pub use literal_patterns::LiteralPatterns;
 pub use patterns::{PatternRefusal, Patterns};

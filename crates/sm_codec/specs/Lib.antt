@@ -1,0 +1,17 @@
+pub mod Named
+pub mod Convention
+pub mod Sorts
+pub mod Codec
+pub mod Spelling
+pub mod FaultLists
+pub mod Readings
+pub mod Answers
+pub mod Written
+pub mod CodecLaws
+pub mod StampTexts
+pub mod Conventions
+pub mod Defaults
+pub mod Decoding
+pub mod Walk
+pub mod Kept
+pub mod Bound

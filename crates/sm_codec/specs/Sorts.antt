@@ -1,0 +1,37 @@
+-- Five sorts of places for fifteen kinds of shapes: to the codec all simple types are one, whose spelling a convention knows.
+use Rattle.std.specs.Prelude.{ℕ, Option, unwrap_or}
+use Rattle.sm_time.specs.declared.format.Format.{Format}
+use Rattle.sm_time.specs.declared.format.Format.TheVariants.{EpochSeconds}
+use Rattle.sm_shapes.specs.TableData.{TableData}
+use Rattle.sm_shapes.specs.Places.{Place, kind_of, format_of}
+use Rattle.sm_shapes.specs.declared.kinds.ShapeKind.{ShapeKind}
+use Rattle.sm_shapes.specs.declared.kinds.ShapeKind.TheVariants.{Blob, Boolean, Text, Enum, Byte, Short, Integer, IntEnum, Long, Timestamp, List, Map, Structure, Union, LeftOut}
+use Rattle.sm_codec.specs.declared.simple.Simple.{Simple}
+use Rattle.sm_codec.specs.declared.simple.Simple.TheVariants as the
+
+pub data Sort : Type 0 where
+  simple : Simple → Sort
+  a_list a_map a_structure a_union : Sort
+  -- of a type that has no values
+  left_out : Sort
+
+-- a timestamp without a format is in epoch-seconds (Smithy 2.0, "timestampFormat trait")
+abbrev pub sort_by : ShapeKind → Option Format → Sort
+sort_by Blob format = simple the.Blob
+sort_by Boolean format = simple the.Boolean
+sort_by Text format = simple the.Text
+sort_by Enum format = simple the.Text
+sort_by Byte format = simple (the.Number 8)
+sort_by Short format = simple (the.Number 16)
+sort_by Integer format = simple (the.Number 32)
+sort_by IntEnum format = simple (the.Number 32)
+sort_by Long format = simple (the.Number 64)
+sort_by Timestamp format = simple (the.Time (unwrap_or format EpochSeconds))
+sort_by List format = a_list
+sort_by Map format = a_map
+sort_by Structure format = a_structure
+sort_by Union format = a_union
+sort_by LeftOut format = left_out
+
+abbrev pub sort_of : TableData → Place → Sort
+sort_of t p = sort_by (kind_of t p) (format_of t p)

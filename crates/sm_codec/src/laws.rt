@@ -1,0 +1,41 @@
+// What the codec's definitions have to do with each other. These calls do nothing.
+ghost use Rattle.std.specs.Prelude.{Bool};
+ghost use Rattle.sm_codec.specs.CodecLaws.{OneValue, ValueOrFault, WrittenSpells};
+ghost use Rattle.sm_codec.specs.Convention.{IsConvention};
+ghost use Rattle.sm_codec.specs.Conventions.{cbor_convention, json_convention, node_convention};
+ghost use Rattle.sm_codec.specs.StampTexts.{StampOfText};
+
+/// The convention of CBOR meets the laws of conventions: what it writes is read again, among others.
+pub fn cbor_leaves()
+    ensures { IsConvention cbor_convention }
+{}
+
+/// So do those of JSON, by the members' names and by their JSON names.
+pub fn json_leaves()
+    ensures { (json_names : Bool) → IsConvention (json_convention json_names) }
+{}
+
+/// And those of the nodes of models, with blobs as texts of their bytes and in base64.
+pub fn node_leaves()
+    ensures { (raw_blobs : Bool) → IsConvention (node_convention raw_blobs) }
+{}
+
+/// The stamp that is told of a text is the text's, and where none is told the text is no stamp's.
+pub fn stamp_of_text()
+    ensures { StampOfText }
+{}
+
+/// In every table that is in order, by every convention: a tree has no fault at a place exactly where it spells some value of the place.
+pub fn value_or_fault()
+    ensures { ValueOrFault }
+{}
+
+/// And then it spells one value, which is what it comes to.
+pub fn one_value()
+    ensures { OneValue }
+{}
+
+/// The tree that is written for a value of a place, whose leaves are all carried, spells the value.
+pub fn written_spells()
+    ensures { WrittenSpells }
+{}
