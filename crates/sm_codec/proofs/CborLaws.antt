@@ -102,7 +102,6 @@ written_reads x v h = absurd cc
 pub cbor_laws : IsConvention cbor_convention
 cbor_laws = record {
   names = λ t shaped s in_range. shaped.names s in_range;
-  utf8 = λ t shaped s k in_range. (shaped.utf8 k in_range).0;
   of_type = of_type;
   carried_of_type = λ x v h. and_first (is_of x v) (cbor_carries_leaf v) h;
   written_reads = written_reads;

@@ -6,7 +6,7 @@ use Rattle.sm_tree.specs.declared.path.Step.TheVariants.{Member}
 use Rattle.sm_shapes.specs.Values.{Val, union_val}
 use Rattle.sm_shapes.specs.TableData.{TableData, member_count, name_at}
 use Rattle.sm_shapes.specs.Places.{Place, member_place, members_of_place, shape_of}
-use Rattle.sm_shapes.specs.InOrder.{StandIn}
+use Rattle.sm_shapes.specs.InOrder.{AreMembersOf}
 use Rattle.sm_shapes.specs.declared.fault.FaultKind.TheVariants.{UnionCount}
 use Rattle.sm_codec.specs.Sorts.{a_union}
 use Rattle.sm_codec.specs.Codec.{Codec, sort_at, wire_name, InTable}
@@ -14,7 +14,7 @@ use Rattle.sm_codec.specs.CodecLaws.{IsCodec}
 use Rattle.sm_codec.specs.Named.{named, is_null}
 use Rattle.sm_codec.specs.Spelling.{StandNot, NoneOrNull, Stands, Spells}
 use Rattle.sm_codec.specs.FaultLists.{FaultAt, under, Reading, faults_in}
-use Rattle.sm_codec.specs.Readings.{Child, child_of, children_of, named_children_of, one_here, present_reading, member_fields, repeated_faults, repeats, standing, all_standing, standing_faults, union_faults, standing_fields, union_reading_of, union_reading, object_by, reading, named_children}
+use Rattle.sm_codec.specs.Readings.{Child, child_of, children_of, named_children_of, one_here, present_reading, member_fields, repeated_faults, repeats, under_names, standing, all_standing, standing_faults, union_faults, standing_fields, union_reading_of, union_reading, object_by, reading, named_children}
 use Rattle.sm_codec.proofs.NoFaults.{none_first, none_behind, none_under, IsReading, reading_is, clean_reading, same_reading, ok_reading}
 use Rattle.sm_codec.proofs.ChildLists.{pairs_are, pairs_each, named_are}
 use Rattle.sm_codec.proofs.PlacesIn.{kind_of_sort, members_stand, stand_at}
@@ -29,10 +29,10 @@ module _ (c : Codec) (p : Place) (ps : List (List ℕ × Node)) where
   repeat_at k ns = under (Member (name_at c.table k)) (repeated_faults (children_of c ns))
 
   abbrev all_repeats : List ℕ → List FaultAt
-  all_repeats ks = repeats c p (named_children_of c ps) ks
+  all_repeats ks = repeats c.table (under_names c p (named_children_of c ps)) ks
 
   abbrev all_there : List ℕ → List (ℕ × Child)
-  all_there ks = all_standing c p (named_children_of c ps) ks
+  all_there ks = all_standing (under_names c p (named_children_of c ps)) ks
 
   repeats_more : (k : ℕ) (ks : List ℕ) → all_repeats (k ∷ ks) ≡ repeat_at k (trees k) ++ all_repeats ks
   repeats_more k ks =
@@ -147,7 +147,7 @@ module _ (c : Codec) (p : Place) (ps : List (List ℕ × Node)) where
       let value : union_val k w ≡ v = same_reading (union_val k w) v
       (sym (union_value (all_repeats ks) (all_there ks) k n w clean.0 (clean.1.1 ∙ ap (λ x. x ∷ []) is) found.1) ∙ h) in
       let place = stand_at c.table (shape_of c.table p) one.0 k one.1
-      (subst (StandIn c.table (shape_of c.table p)) one.3 (members_stand c.table p laws.table inside)) in
+      (subst (AreMembersOf c.table (shape_of c.table p)) one.3 (members_stand c.table p laws.table inside)) in
       let spells = one.8 (member_place k) w place.0 found.1 in
       subst (λ x. Spells c p x (object (members_of ps))) value (
         (kind_of_sort c.table p a_union sort, (one.0, one.1, one.3), spells.0),
@@ -203,7 +203,7 @@ union_spelled c p k v n laws inside is h =
     let faults : all_repeats c p ps ks ≡ [] = ap (all_repeats c p ps) split ∙ quiet.0 ∙ here.0 in
     let there : all_there c p ps ks ≡ (k, child_of c m) ∷ [] = ap (all_there c p ps) split ∙ quiet.1 ∙ here.1 in
     let place = stand_at c.table (shape_of c.table p) before k behind
-    (subst (StandIn c.table (shape_of c.table p)) split (members_stand c.table p laws.table inside)) in
+    (subst (AreMembersOf c.table (shape_of c.table p)) split (members_stand c.table p laws.table inside)) in
     let value = is (member_place k) m place.0 (h.0.2, h.1.1.9) in
     ap (λ m. reading c m p) h.1.1.4
     ∙ ap (λ s. object_by s c p (object (members_of ps)) (named_children c (members_of ps))) h.1.0

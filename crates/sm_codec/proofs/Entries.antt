@@ -7,7 +7,7 @@ use Rattle.sm_tree.specs.declared.path.Step.TheVariants.{Index}
 use Rattle.sm_shapes.specs.Values.{Val, Vals, null_val, bool_val, int_val, text_val, blob_val, time_val, list_val, map_val, structure_val, union_val, no_vals, val, vals_of, each_val}
 use Rattle.sm_shapes.specs.Places.{Place, constraints_of, unique_of, sparse_of, entry_place}
 use Rattle.sm_shapes.specs.Broken.{length_broken, has_twice}
-use Rattle.sm_shapes.specs.Fitting.{Fits, FitEntries, NullOr, AllUnlike}
+use Rattle.sm_shapes.specs.Fitting.{Fits, FitEntries, FitsOrNull, AllUnlike}
 use Rattle.sm_shapes.specs.declared.fault.FaultKind.TheVariants.{WrongType, Null, Unique}
 use Rattle.sm_codec.specs.declared.simple.Simple.{Simple}
 use Rattle.sm_shapes.proofs.SameVals.{unlike_where, where_unlike}
@@ -16,7 +16,7 @@ use Rattle.sm_codec.specs.Sorts.{Sort, simple, a_list, a_map, a_structure, a_uni
 use Rattle.sm_codec.specs.Codec.{Codec, sort_at, InTable}
 use Rattle.sm_codec.specs.CodecLaws.{IsCodec}
 use Rattle.sm_codec.specs.Named.{is_null}
-use Rattle.sm_codec.specs.Spelling.{Spelled, SpelledEntries, NullFor, Spells}
+use Rattle.sm_codec.specs.Spelling.{Spelled, SpelledEntries, SpelledOrNull, Spells}
 use Rattle.sm_codec.specs.FaultLists.{FaultAt, here, under, Reading, faults_in, values_in, settled}
 use Rattle.sm_codec.specs.Readings.{Child, child_of, children_of, one_here, entry_reading, entries_faults, entries_values, unique_faults, list_faults, list_reading, list_by, leaf_by, leaf_reading, reading, children}
 use Rattle.sm_codec.proofs.NoFaults.{none_first, none_behind, none_under, none_here, IsReading, reading_is, settled_ok, ok_reading}
@@ -41,7 +41,7 @@ AreSpelled c (val v vs) = IsSpelled c v × AreSpelled c vs
 
 -- an entry of a list, or a value of a map
 abbrev pub EntrySays : Codec → Place → Bool → Node → Reading → Type 0
-EntrySays c q sparse n (Ok v) = NullFor (Spelled c q v n) v n × NullOr sparse (Fits c.table c.test q v) v
+EntrySays c q sparse n (Ok v) = SpelledOrNull (Spelled c q v n) v n × FitsOrNull sparse (Fits c.table c.test q v) v
 EntrySays c q sparse n (Err []) = ⊥
 EntrySays c q sparse n (Err (f ∷ fs)) = Unit {0}
 
@@ -103,7 +103,7 @@ sparse_null c q sparse n e s =
 
 -- what an entry spells, it comes to
 pub entry_spelled : (c : Codec) (q : Place) (sparse : Bool) (n : Node) (v : Val) → IsConvention c.convention → InTable c.table q
-    → IsSpelled c v → NullFor (Spelled c q v n) v n → NullOr sparse (Fits c.table c.test q v) v
+    → IsSpelled c v → SpelledOrNull (Spelled c q v n) v n → FitsOrNull sparse (Fits c.table c.test q v) v
     → entry_reading sparse q (child_of c n) ≡ Ok v
 entry_spelled c q sparse n null_val laws i is h g = sparse_null c q sparse n h g
 entry_spelled c q sparse n (bool_val b) laws i is h g = entry_is c q sparse n (bool_val b) laws (is q n i (g, h)) (is_null n) refl

@@ -81,7 +81,6 @@ written_reads x v h = absurd cc
 pub json_laws : (b : Bool) → IsConvention (json_convention b)
 json_laws false = record {
   names = λ t shaped s in_range. shaped.names s in_range;
-  utf8 = λ t shaped s k in_range. (shaped.utf8 k in_range).0;
   of_type = of_type;
   carried_of_type = λ x v h. and_first (is_of x v) (json_carries_leaf x v) h;
   written_reads = written_reads;
@@ -92,7 +91,6 @@ json_laws false = record {
 }
 json_laws true = record {
   names = λ t shaped s in_range. shaped.json_names s in_range;
-  utf8 = λ t shaped s k in_range. (shaped.utf8 k in_range).1;
   of_type = of_type;
   carried_of_type = λ x v h. and_first (is_of x v) (json_carries_leaf x v) h;
   written_reads = written_reads;

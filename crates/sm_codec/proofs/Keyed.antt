@@ -8,7 +8,7 @@ use Rattle.sm_tree.specs.declared.path.Step.TheVariants.{Key}
 use Rattle.sm_shapes.specs.Values.{Val, EntryVals, text_val, map_val, no_entries, entry, entries_of, keys_of}
 use Rattle.sm_shapes.specs.Places.{Place, kind_of, constraints_of, sparse_of, key_place, value_place}
 use Rattle.sm_shapes.specs.Broken.{length_broken}
-use Rattle.sm_shapes.specs.Fitting.{Fits, FitPairs, NullOr, Keeps, IsOfKind}
+use Rattle.sm_shapes.specs.Fitting.{Fits, FitPairs, FitsOrNull, MeetsConstraints, IsOfKind}
 use Rattle.sm_shapes.specs.InOrder.{IsTextKind}
 use Rattle.sm_shapes.specs.declared.kinds.ShapeKind.{ShapeKind}
 use Rattle.sm_shapes.specs.declared.kinds.ShapeKind.TheVariants as kind
@@ -18,7 +18,7 @@ use Rattle.sm_codec.specs.Sorts.{a_map}
 use Rattle.sm_codec.specs.Codec.{Codec, sort_at, broken_at, InTable}
 use Rattle.sm_codec.specs.CodecLaws.{IsCodec}
 use Rattle.sm_codec.specs.Named.{named, names_of, in_byte_order}
-use Rattle.sm_codec.specs.Spelling.{Spelled, SpelledPairs, NullFor, AreKeys, Spells}
+use Rattle.sm_codec.specs.Spelling.{Spelled, SpelledPairs, SpelledOrNull, AreKeys, Spells}
 use Rattle.sm_codec.specs.FaultLists.{FaultAt, here, under, Reading, faults_in, settled}
 use Rattle.sm_codec.specs.Readings.{Child, child_of, children_of, named_children_of, one_here, entry_reading, key_faults, pair_faults, keyed, pair_values, keys_faults, keys_values, pairs_faults, pairs_values, map_faults, map_reading, object_by, reading, named_children}
 use Rattle.sm_codec.proofs.NoFaults.{none_first, none_behind, none_under, none_here, settled_ok, ok_reading}
@@ -63,18 +63,18 @@ kind_text k key (inr e) h = subst (λ x. IsOfKind x (text_val key)) e h
 module _ (c : Codec) (p : Place) where
   -- a key that has no fault
   key_if : (key : List ℕ) (b : Bool) → cond b (here (broken_at c (key_place c.table p) (text_val key))) (one_here WrongType) ≡ []
-      → (b ≡ true) × Keeps c.table c.test (key_place c.table p) (text_val key)
+      → (b ≡ true) × MeetsConstraints c.table c.test (key_place c.table p) (text_val key)
   key_if key true h = (refl, none_here (broken_at c (key_place c.table p) (text_val key)) h)
   key_if key false h = absurd cc
 
   key_fits : (key : List ℕ) → IsTextKind (kind_of c.table (key_place c.table p)) → key_faults c p key ≡ []
-      → IsOfKind (kind_of c.table (key_place c.table p)) (text_val key) × Keeps c.table c.test (key_place c.table p) (text_val key)
+      → IsOfKind (kind_of c.table (key_place c.table p)) (text_val key) × MeetsConstraints c.table c.test (key_place c.table p) (text_val key)
   key_fits key texts h =
       let found = key_if key (is_utf8 key) h in
       (text_kind (kind_of c.table (key_place c.table p)) key texts (IsUtf8-from_is_utf8 key found.0), found.1)
 
   key_clear : (key : List ℕ) → IsTextKind (kind_of c.table (key_place c.table p))
-      → IsOfKind (kind_of c.table (key_place c.table p)) (text_val key) → Keeps c.table c.test (key_place c.table p) (text_val key)
+      → IsOfKind (kind_of c.table (key_place c.table p)) (text_val key) → MeetsConstraints c.table c.test (key_place c.table p) (text_val key)
       → key_faults c p key ≡ []
   key_clear key texts of kept =
       ap (λ b. cond b (here (broken_at c (key_place c.table p) (text_val key))) (one_here WrongType))

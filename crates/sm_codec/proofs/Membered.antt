@@ -8,15 +8,15 @@ use Rattle.sm_shapes.specs.Values.{Val, FieldVals, structure_val, no_fields, fie
 use Rattle.sm_shapes.specs.TableData.{TableData, member_count, name_at, required_at, default_at}
 use Rattle.sm_shapes.specs.Places.{Place, member_place, members_of_place, shape_of}
 use Rattle.sm_shapes.specs.Fitting.{Fits, FitFields, MayBeAbsent}
-use Rattle.sm_shapes.specs.InOrder.{StandIn}
+use Rattle.sm_shapes.specs.InOrder.{AreMembersOf}
 use Rattle.sm_shapes.specs.declared.fault.FaultKind.TheVariants.{Missing, Repeated}
 use Rattle.sm_codec.specs.Sorts.{a_structure}
 use Rattle.sm_codec.specs.Codec.{Codec, sort_at, wire_name, InTable}
 use Rattle.sm_codec.specs.CodecLaws.{IsCodec}
 use Rattle.sm_codec.specs.Named.{named, is_null}
-use Rattle.sm_codec.specs.Spelling.{Spelled, SpelledFields, NoneOrNull, AreLeftOut, Spells}
+use Rattle.sm_codec.specs.Spelling.{Spelled, SpelledFields, NoneOrNull, AreAbsent, Spells}
 use Rattle.sm_codec.specs.FaultLists.{FaultAt, under, Reading, settled}
-use Rattle.sm_codec.specs.Readings.{Child, child_of, children_of, named_children_of, absent_with, when_closed, absent_reading, present_reading, member_reading, member_faults, member_fields, members_faults, members_fields, structure_reading, object_by, reading, named_children}
+use Rattle.sm_codec.specs.Readings.{Child, child_of, children_of, named_children_of, absent_with, when_closed, absent_reading, present_reading, member_reading, member_faults, member_fields, members_faults, members_fields, under_names, structure_reading, object_by, reading, named_children}
 use Rattle.sm_codec.proofs.NoFaults.{none_first, none_behind, none_under, IsReading, reading_is, settled_ok, ok_reading}
 use Rattle.sm_codec.proofs.ChildLists.{pairs_are, pairs_each, named_are}
 use Rattle.sm_codec.proofs.PlacesIn.{kind_of_sort, shape_in, members_stand, stand_at}
@@ -106,10 +106,10 @@ module _ (c : Codec) (p : Place) (ps : List (List ℕ × Node)) where
   member_read k = member_reading (when_closed c.table) k (children_of c (trees k))
 
   abbrev all_faults : List ℕ → List FaultAt
-  all_faults ks = members_faults c p (when_closed c.table) (named_children_of c ps) ks
+  all_faults ks = members_faults c.table (when_closed c.table) (under_names c p (named_children_of c ps)) ks
 
   abbrev all_fields : List ℕ → List (ℕ × Val)
-  all_fields ks = members_fields c p (when_closed c.table) (named_children_of c ps) ks
+  all_fields ks = members_fields (when_closed c.table) (under_names c p (named_children_of c ps)) ks
 
   faults_more : (k : ℕ) (ks : List ℕ) → all_faults (k ∷ ks) ≡ under (Member (name_at c.table k)) (member_faults (member_read k)) ++ all_faults ks
   faults_more k ks =
@@ -141,7 +141,7 @@ module _ (c : Codec) (p : Place) (ps : List (List ℕ × Node)) where
   member_more k ks (Err []) more says clean rest = absurd says
   member_more k ks (Err (f ∷ fs)) more says clean rest = absurd cc
 
-  fields_read : (s : ℕ) (ks : List ℕ) → IsCodec c → StandIn c.table s ks → PairsAreRead c ps → all_faults ks ≡ [] → ReadFields ks (all_fields ks)
+  fields_read : (s : ℕ) (ks : List ℕ) → IsCodec c → AreMembersOf c.table s ks → PairsAreRead c ps → all_faults ks ≡ [] → ReadFields ks (all_fields ks)
   fields_read s [] laws stand read h = (tt, tt)
   fields_read s (k ∷ ks) laws stand read h =
       let parts = sym (faults_more k ks) ∙ h in
@@ -208,19 +208,19 @@ module _ (c : Codec) (p : Place) (ps : List (List ℕ × Node)) where
     fields_more k ks ∙ ap (λ r. member_fields k r ++ all_fields ks) e ∙ ap (λ xs. (k, v) ∷ xs) h.1,
   )
 
-  skipped_spelled : (skipped ks : List ℕ) (fs : List (ℕ × Val)) → AreLeftOut c p ps skipped → MayBeAbsent c.table skipped
+  skipped_spelled : (skipped ks : List ℕ) (fs : List (ℕ × Val)) → AreAbsent c p ps skipped → MayBeAbsent c.table skipped
       → SpelledAll ks fs → SpelledAll (skipped ++ ks) fs
   skipped_spelled [] ks fs h g more = more
   skipped_spelled (k ∷ skipped) ks fs h g more =
       absent_more k (skipped ++ ks) fs (left_out_is k h.0 h.1 g.0) (skipped_spelled skipped ks fs h.2 g.2 more)
 
-  fields_spelled : (s : ℕ) (ks : List ℕ) (fs : FieldVals) → AllDiffer (map (wire_name c p) ks) → StandIn c.table s ks
+  fields_spelled : (s : ℕ) (ks : List ℕ) (fs : FieldVals) → AllDiffer (map (wire_name c p) ks) → AreMembersOf c.table s ks
       → FieldsAreSpelled c fs → SpelledFields c p ks fs ps → FitFields c.table c.test ks fs → SpelledAll ks (fields_in fs)
   fields_spelled s ks no_fields differ stand is h g =
       subst (λ xs. SpelledAll xs []) (append-nil ks) (skipped_spelled ks [] [] h g (refl, refl))
   fields_spelled s ks (field k v fs) differ stand is h g =
       let names = subst (λ xs. AllDiffer (map (wire_name c p) xs)) h.2 differ in
-      let places = stand_at c.table s h.0 k h.1 (subst (StandIn c.table s) h.2 stand) in
+      let places = stand_at c.table s h.0 k h.1 (subst (AreMembersOf c.table s) h.2 stand) in
       let same = one_split (wire_name c p) h.0 h.1 g.0 g.1 k names (sym h.2 ∙ g.2) in
       let absent = subst (MayBeAbsent c.table) (sym same.0) g.3 in
       let rest = fields_spelled s h.1 fs (differ_behind (wire_name c p) h.0 k h.1 names) places.1 is.1 h.5

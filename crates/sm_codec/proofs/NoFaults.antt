@@ -10,7 +10,7 @@ use Rattle.sm_shapes.specs.declared.fault.FaultKind.TheVariants.{UnionCount}
 use Rattle.sm_codec.specs.Sorts.{Sort, simple, a_list, a_map, a_structure, a_union, left_out}
 use Rattle.sm_codec.specs.Codec.{Codec, sort_at, broken_at}
 use Rattle.sm_codec.specs.FaultLists.{FaultAt, here, under, Reading, faults_in, settled}
-use Rattle.sm_codec.specs.Readings.{Child, leaf_reading, leaf_by, list_by, object_by, reading, children, named_children, map_faults, pairs_values, list_faults, entries_values, union_faults, one_here, repeats, all_standing, standing_fields, union_reading_of, members_faults, members_fields, when_closed}
+use Rattle.sm_codec.specs.Readings.{Child, leaf_reading, leaf_by, list_by, object_by, reading, children, named_children, map_faults, pairs_values, list_faults, entries_values, union_faults, one_here, repeats, all_standing, standing_fields, union_reading_of, members_faults, members_fields, under_names, when_closed}
 
 pub none_first : {A : Type 0} (xs ys : List A) → xs ++ ys ≡ [] → xs ≡ []
 none_first [] ys h = refl
@@ -74,11 +74,12 @@ object_by_is (simple x) c p n ps = leaf_by_is (simple x) c p n
 object_by_is a_list c p n ps = tt
 object_by_is a_map c p n ps = settled_is (map_faults c p ps) (map_val (entries_of (pairs_values c p ps)))
 object_by_is a_structure c p n ps =
-    settled_is (members_faults c p (when_closed c.table) ps (members_of_place c.table p))
-    (structure_val (fields_of (members_fields c p (when_closed c.table) ps (members_of_place c.table p))))
+    settled_is (members_faults c.table (when_closed c.table) (under_names c p ps) (members_of_place c.table p))
+    (structure_val (fields_of (members_fields (when_closed c.table) (under_names c p ps) (members_of_place c.table p))))
 object_by_is a_union c p n ps =
-    let ms = all_standing c p ps (members_of_place c.table p) in
-    union_is (union_faults c.table (one_here UnionCount) (repeats c p ps (members_of_place c.table p)) ms) (standing_fields ms)
+    let ms = all_standing (under_names c p ps) (members_of_place c.table p) in
+    union_is (union_faults c.table (one_here UnionCount) (repeats c.table (under_names c p ps) (members_of_place c.table p)) ms)
+    (standing_fields ms)
 object_by_is left_out c p n ps = tt
 
 pub reading_is : (c : Codec) (n : Node) (p : Place) → IsReading (reading c n p)

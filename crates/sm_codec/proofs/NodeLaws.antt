@@ -85,7 +85,6 @@ written_reads raw x v h = absurd cc
 pub node_laws : (raw : Bool) → IsConvention (node_convention raw)
 node_laws raw = record {
   names = λ t shaped s in_range. shaped.names s in_range;
-  utf8 = λ t shaped s k in_range. (shaped.utf8 k in_range).0;
   of_type = of_type raw;
   carried_of_type = λ x v h. and_first (is_of x v) (node_carries_leaf raw v) h;
   written_reads = written_reads raw;

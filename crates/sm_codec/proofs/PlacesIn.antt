@@ -4,7 +4,7 @@ use Rattle.std.specs.Prelude.{Option, slice_index_or}
 use Rattle.sm_time.specs.declared.format.Format.{Format}
 use Rattle.sm_shapes.specs.TableData.{TableData, shape_count, member_count, target_at, kind_at}
 use Rattle.sm_shapes.specs.Places.{Place, root_place, member_place, shape_of, kind_of, format_of, members_of_place, entry_place, key_place, value_place}
-use Rattle.sm_shapes.specs.InOrder.{Shaped, StandIn, HasItsMembers, IsTextKind}
+use Rattle.sm_shapes.specs.InOrder.{Shaped, AreMembersOf, HasItsMembers, IsTextKind}
 use Rattle.sm_shapes.specs.declared.kinds.ShapeKind.{ShapeKind}
 use Rattle.sm_shapes.specs.declared.kinds.ShapeKind.TheVariants as kind
 use Rattle.sm_codec.specs.Sorts.{Sort, simple, a_list, a_map, a_structure, a_union, left_out, sort_by, sort_of}
@@ -47,22 +47,22 @@ pub shape_in : (t : TableData) (p : Place) → Shaped t → InTable t p → shap
 shape_in t (root_place s) h i = i
 shape_in t (member_place k) h i = h.targets k i
 
-pub members_stand : (t : TableData) (p : Place) → Shaped t → InTable t p → StandIn t (shape_of t p) (members_of_place t p)
+pub members_stand : (t : TableData) (p : Place) → Shaped t → InTable t p → AreMembersOf t (shape_of t p) (members_of_place t p)
 members_stand t p h i = h.members (shape_of t p) (shape_in t p h i)
 
 -- of members that are split, the one in the middle and those behind it stand in the shape
-pub stand_at : (t : TableData) (s : ℕ) (before : List ℕ) (k : ℕ) (behind : List ℕ) → StandIn t s (before ++ k ∷ behind)
-    → (k < member_count t) × StandIn t s behind
+pub stand_at : (t : TableData) (s : ℕ) (before : List ℕ) (k : ℕ) (behind : List ℕ) → AreMembersOf t s (before ++ k ∷ behind)
+    → (k < member_count t) × AreMembersOf t s behind
 stand_at t s [] k behind h = (h.0, h.2)
 stand_at t s (j ∷ before) k behind h = stand_at t s before k behind h.2
 
-first_stands : (t : TableData) (s : ℕ) (ks : List ℕ) → HasItsMembers t kind.List ks → StandIn t s ks
+first_stands : (t : TableData) (s : ℕ) (ks : List ℕ) → HasItsMembers t kind.List ks → AreMembersOf t s ks
     → slice_index_or ks 0 0 < member_count t
 first_stands t s [] h i = absurd h
 first_stands t s (k ∷ []) h i = i.0
 first_stands t s (k ∷ j ∷ ks) h i = absurd h
 
-both_stand : (t : TableData) (s : ℕ) (ks : List ℕ) → HasItsMembers t kind.Map ks → StandIn t s ks
+both_stand : (t : TableData) (s : ℕ) (ks : List ℕ) → HasItsMembers t kind.Map ks → AreMembersOf t s ks
     → (slice_index_or ks 0 0 < member_count t) × (slice_index_or ks 1 0 < member_count t)
     × IsTextKind (kind_at t (target_at t (slice_index_or ks 0 0)))
 both_stand t s [] h i = absurd h

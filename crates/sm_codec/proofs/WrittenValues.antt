@@ -16,8 +16,8 @@ use Rattle.sm_shapes.specs.Names.{NoneIs, AllDiffer}
 use Rattle.sm_shapes.specs.Values.{Val, Vals, EntryVals, FieldVals, null_val, bool_val, int_val, text_val, blob_val, time_val, list_val, map_val, structure_val, union_val, no_vals, val, no_entries, entry, no_fields, field, keys_of}
 use Rattle.sm_shapes.specs.TableData.{TableData, member_count, name_at, default_at}
 use Rattle.sm_shapes.specs.Places.{Place, member_place, members_of_place, shape_of, kind_of, format_of, sparse_of, entry_place, value_place}
-use Rattle.sm_shapes.specs.Fitting.{Fits, FitEntries, FitPairs, FitFields, MayBeAbsent, NullOr, IsOfKind}
-use Rattle.sm_shapes.specs.InOrder.{Shaped, StandIn}
+use Rattle.sm_shapes.specs.Fitting.{Fits, FitEntries, FitPairs, FitFields, MayBeAbsent, FitsOrNull, IsOfKind}
+use Rattle.sm_shapes.specs.InOrder.{Shaped, AreMembersOf}
 use Rattle.sm_shapes.specs.declared.kinds.ShapeKind.{ShapeKind}
 use Rattle.sm_shapes.specs.declared.kinds.ShapeKind.TheVariants as kind
 use Rattle.sm_shapes.specs.declared.fault.FaultKind.{FaultKind}
@@ -29,7 +29,7 @@ use Rattle.sm_codec.specs.Sorts.{Sort, simple, sort_by, sort_of}
 use Rattle.sm_codec.specs.Codec.{Codec, sort_at, wire_name, InTable}
 use Rattle.sm_codec.specs.CodecLaws.{WrittenSpells}
 use Rattle.sm_codec.specs.Named.{named, names_of, is_null}
-use Rattle.sm_codec.specs.Spelling.{IsLeaf, Spelled, SpelledEntries, SpelledPairs, SpelledFields, NullFor, NoneOrNull, StandNot, AreLeftOut, AreKeys}
+use Rattle.sm_codec.specs.Spelling.{IsLeaf, Spelled, SpelledEntries, SpelledPairs, SpelledFields, SpelledOrNull, NoneOrNull, StandNot, AreAbsent, AreKeys}
 use Rattle.sm_codec.specs.Written.{written, written_leaf, written_entries, written_pairs, written_fields, uncarried, uncarried_leaf, uncarried_entries, uncarried_pairs, uncarried_fields, paths_under}
 use Rattle.sm_codec.proofs.NoFaults.{none_first, none_behind}
 use Rattle.sm_codec.proofs.ChildLists.{each_node, each_pair, nodes_back, members_back, null_is}
@@ -114,8 +114,8 @@ spelled_stands c p (union_val k v) n laws h = ap is_null h.1.4
 abbrev WritesWhere : Codec → Place → Val → Type 0
 WritesWhere c q v = Fits c.table c.test q v → Spelled c q v (written c.table c.convention q v)
 
-entry_written : (c : Codec) (q : Place) (sparse : Bool) (v : Val) → NullOr sparse (Fits c.table c.test q v) v → WritesWhere c q v
-    → NullFor (Spelled c q v (written c.table c.convention q v)) v (written c.table c.convention q v)
+entry_written : (c : Codec) (q : Place) (sparse : Bool) (v : Val) → FitsOrNull sparse (Fits c.table c.test q v) v → WritesWhere c q v
+    → SpelledOrNull (Spelled c q v (written c.table c.convention q v)) v (written c.table c.convention q v)
 entry_written c q sparse null_val h is = refl
 entry_written c q sparse (bool_val b) h is = is h
 entry_written c q sparse (int_val z) h is = is h
@@ -181,13 +181,13 @@ module _ (c : Codec) (p : Place) where
       named_other x (wire_name c p k) (written c.table c.convention (member_place k) v) (fields_put fs) (none_at (wire_name c p) x h.0 k h.1 parts)
       ∙ none_written x h.1 fs (none_in_last x h.0 k h.1 parts) h.5
 
-  absent_none : (ks : List ℕ) → MayBeAbsent c.table ks → AreLeftOut c p [] ks
+  absent_none : (ks : List ℕ) → MayBeAbsent c.table ks → AreAbsent c p [] ks
   absent_none [] h = tt
   absent_none (k ∷ ks) h = (tt, h.1, absent_none ks h.2)
 
   -- a pair of a name that none of the members has changes nothing
   absent_beside : (x : List ℕ) (n : Node) (ps : List (List ℕ × Node)) (ks : List ℕ) → NoneIs x (map (wire_name c p) ks)
-      → AreLeftOut c p ps ks → AreLeftOut c p ((x, n) ∷ ps) ks
+      → AreAbsent c p ps ks → AreAbsent c p ((x, n) ∷ ps) ks
   absent_beside x n ps [] none h = tt
   absent_beside x n ps (k ∷ ks) none h =
       (subst NoneOrNull (sym (named_other (wire_name c p k) x n ps (λ e. none.0 (sym e)))) h.0, h.1, absent_beside x n ps ks none.1 h.2)
@@ -213,7 +213,7 @@ module _ (c : Codec) (p : Place) where
   -- members that are left out before a field
   skipped_absent : (before : List ℕ) (k : ℕ) (behind : List ℕ) (n : Node) (fs : FieldVals)
       → AllDiffer (map (wire_name c p) (before ++ k ∷ behind)) → MayBeAbsent c.table before → FitFields c.table c.test behind fs
-      → AreLeftOut c p ((wire_name c p k, n) ∷ fields_put fs) before
+      → AreAbsent c p ((wire_name c p k, n) ∷ fields_put fs) before
   skipped_absent [] k behind n fs differ may fits = tt
   skipped_absent (j ∷ before) k behind n fs differ may fits =
       let none = named_other (wire_name c p j) (wire_name c p k) n (fields_put fs) (none_at (wire_name c p) (wire_name c p j) before k behind differ.0)
@@ -273,7 +273,7 @@ mutual
       let differ = subst (λ xs. AllDiffer (map (wire_name c p) xs)) h.1.2
       (laws.names c.table shaped (shape_of c.table p) (shape_in c.table p shaped inside)) in
       let place = stand_at c.table (shape_of c.table p) before k behind
-      (subst (StandIn c.table (shape_of c.table p)) h.1.2 (members_stand c.table p shaped inside)) in
+      (subst (AreMembersOf c.table (shape_of c.table p)) h.1.2 (members_stand c.table p shaped inside)) in
       let n = written c.table c.convention (member_place k) v in
       let one = spelled_written c laws shaped v (member_place k) place.0 h.2
       (none_of_paths (Member (name_at c.table k)) (uncarried c.table c.convention (member_place k) v) g) in (
@@ -324,13 +324,13 @@ mutual
       )
 
   fields_written : (c : Codec) → IsConvention c.convention → Shaped c.table → (fs : FieldVals) (p : Place) (s : ℕ) (ks : List ℕ)
-      → StandIn c.table s ks → AllDiffer (map (wire_name c p) ks) → FitFields c.table c.test ks fs
+      → AreMembersOf c.table s ks → AllDiffer (map (wire_name c p) ks) → FitFields c.table c.test ks fs
       → uncarried_fields c.table c.convention fs ≡ [] → SpelledFields c p ks fs (fields_put c p fs)
   fields_written c laws shaped no_fields p s ks stand differ h g = absent_none c p ks h
   fields_written c laws shaped (field k v fs) p s ks stand differ h g =
       let q = member_place k in
       let n = written c.table c.convention q v in
-      let place = stand_at c.table s h.0 k h.1 (subst (StandIn c.table s) h.2 stand) in
+      let place = stand_at c.table s h.0 k h.1 (subst (AreMembersOf c.table s) h.2 stand) in
       let names = subst (λ xs. AllDiffer (map (wire_name c p) xs)) h.2 differ in
       let apart = differ_here c p h.0 k h.1 names in
       let first = paths_under (Member (name_at c.table k)) (uncarried c.table c.convention q v) in

@@ -3,8 +3,7 @@
 use Rattle.std.specs.Prelude.{◌≡◌, ℕ, ◌+◌, ◌*◌, ◌≤◌, List, [], ◌∷◌, length, Option, Some, None}
 use Rattle.sm_tree.specs.Node.{Node, Nodes, Members, null, bool, int, number, text, bytes, tag, opaque, list, object, no_nodes, node, no_members, member}
 use Rattle.sm_tree.specs.Events.{NodeEvent}
-use Rattle.sm_tree.specs.Streams.{unnumbered}
-use Rattle.sm_tree.specs.Building.{Building, nothing, whole, within, so_far}
+use Rattle.sm_tree.specs.Building.{Building, nothing, whole, within}
 use Rattle.sm_shapes.specs.Values.{Val, val_nodes}
 use Rattle.sm_shapes.specs.InOrder.{most_defaults}
 use Rattle.sm_shapes.specs.Places.{Place, root_place, member_place, entry_place, value_place}
@@ -119,12 +118,14 @@ outcome_nodes (Some (bad f)) = 0
 abbrev pub decoding_nodes : Decoding → ℕ
 decoding_nodes d = frames_nodes d.frames + outcome_nodes d.result
 
--- the bound of what is kept, and that the trees it counts are no more than the events
+-- The bound of what is kept. Each tree that is counted has an event of its own at a known place, the root's among them. And a frame for
+-- each level that isn't passed over, and one more at most.
 pub record IsBounded (c : Codec) (es : List NodeEvent) (b : Building) (d : Decoding) : Type 0 where
   pub nodes : decoding_nodes d ≤ (1 + most_defaults c.table) * known_trees c d.shape b
   pub trees : known_trees c d.shape b ≤ length es
   pub frames : length d.frames ≤ length (kept_levels c d.shape (tags_outside b) (levels_open b)) + 1
+  pub levels : length (kept_levels c d.shape (tags_outside b) (levels_open b)) ≤ length d.frames
 
 abbrev pub KeptIsBounded : Type 0
 KeptIsBounded =
-    (c : Codec) (es : List NodeEvent) (b : Building) (d : Decoding) → IsCodec c → Kept c es d → unnumbered es ≡ so_far b → IsBounded c es b d
+    (c : Codec) (es : List NodeEvent) (d : Decoding) → IsCodec c → (kept : Kept c es d) → IsBounded c es kept.building d

@@ -2,9 +2,9 @@
 use Rattle.std.specs.Prelude.{◌≡◌, ℕ, ◌<◌, List, Some}
 use Rattle.sm_shapes.specs.Values.{Val}
 use Rattle.sm_shapes.specs.TableData.{TableData, ConstraintData, shape_count, member_count, name_at, default_at}
-use Rattle.sm_shapes.specs.Places.{Place, root_place, member_place, shape_of, constraints_of}
+use Rattle.sm_shapes.specs.Places.{Place, root_place, member_place, shape_of, kind_of, constraints_of}
 use Rattle.sm_shapes.specs.Broken.{broken}
-use Rattle.sm_shapes.specs.Fitting.{Test, finder, Keeps}
+use Rattle.sm_shapes.specs.Fitting.{Test, finder, MeetsConstraints}
 use Rattle.sm_shapes.specs.declared.fault.FaultKind.{FaultKind}
 use Rattle.sm_codec.specs.Convention.{Convention}
 use Rattle.sm_codec.specs.Sorts.{Sort, sort_of}
@@ -26,13 +26,9 @@ wire_name c p k = wire_name_in c.table c.convention p k
 
 -- the constraints that a value at a place breaks
 abbrev pub broken_at : Codec → Place → Val → List FaultKind
-broken_at c p v = broken (finder c.table c.test) (constraints_of c.table p) v
+broken_at c p v = broken (finder c.table c.test) (kind_of c.table p) (constraints_of c.table p) v
 
 -- the place is one of the table
 abbrev pub InTable : TableData → Place → Type 0
 InTable t (root_place s) = s < shape_count t
 InTable t (member_place k) = k < member_count t
-
--- each default passes its member's pattern, as a store with which the table was built has it
-abbrev pub DefaultsPass : TableData → Test → Type 0
-DefaultsPass t test = (k : ℕ) (v : Val) → default_at t k ≡ Some v → Keeps t test (member_place k) v

@@ -2,11 +2,11 @@
 use Rattle.std.specs.Prelude.{◌≡◌, ◌↔◌, ℕ, [], Ok}
 use Rattle.sm_tree.specs.Node.{Node}
 use Rattle.sm_shapes.specs.Values.{Val}
-use Rattle.sm_shapes.specs.InOrder.{Shaped}
+use Rattle.sm_shapes.specs.InOrder.{Shaped, DefaultsPass}
 use Rattle.sm_shapes.specs.Places.{Place}
 use Rattle.sm_shapes.specs.Fitting.{Fits}
 use Rattle.sm_codec.specs.Convention.{IsConvention}
-use Rattle.sm_codec.specs.Codec.{Codec, InTable, DefaultsPass}
+use Rattle.sm_codec.specs.Codec.{Codec, InTable}
 use Rattle.sm_codec.specs.Spelling.{Spells}
 use Rattle.sm_codec.specs.Readings.{reading, faults}
 use Rattle.sm_codec.specs.Written.{written, uncarried}

@@ -1,12 +1,12 @@
 -- Conventions: how a format spells simple values, and under which names members stand. The codec is over any convention that
 -- meets the laws here.
-use Rattle.std.specs.Prelude.{◌≡◌, ℕ, ◌<◌, ◌≤◌, ◌-◌, ◌^◌, nat_lt, ℤ, pos, negsuc, neg_ℤ, int_le, Bool, true, false, ◌&&◌, List, [], map, Result, Ok, Err, IsUtf8}
+use Rattle.std.specs.Prelude.{◌≡◌, ℕ, ◌<◌, ◌≤◌, ◌-◌, ◌^◌, nat_lt, ℤ, pos, negsuc, neg_ℤ, int_le, Bool, true, false, ◌&&◌, List, [], map, Result, Ok, Err}
 use Rattle.std.specs.List.{list_all}
 use Rattle.std.specs.Str.{is_utf8}
 use Rattle.sm_tree.specs.Node.{Node, Nodes, Members, null, tag, list, object, no_nodes}
 use Rattle.sm_shapes.specs.Names.{AllDiffer}
 use Rattle.sm_shapes.specs.Values.{Val, bool_val, int_val, text_val, blob_val, time_val}
-use Rattle.sm_shapes.specs.TableData.{TableData, shape_count, member_count, members_at}
+use Rattle.sm_shapes.specs.TableData.{TableData, shape_count, members_at}
 use Rattle.sm_shapes.specs.InOrder.{Shaped}
 use Rattle.sm_shapes.specs.declared.fault.FaultKind.{FaultKind}
 use Rattle.sm_shapes.specs.declared.fault.FaultKind.TheVariants.{WrongType}
@@ -60,15 +60,22 @@ fault_in (Err kind) = kind
 abbrev pub nested_fault : Convention → Simple → ℕ → FaultKind
 nested_fault c x k = fault_in (c.read x (tag k (list no_nodes)))
 
--- The laws. The members of one shape stand under different names, which are texts in UTF-8. A leaf spells only values of its simple
+-- the tree spells the value of the simple type
+abbrev pub Leaf : Convention → Simple → Val → Node → Type 0
+Leaf c x v n = c.read x n ≡ Ok v
+
+-- what is written for a value that is carried spells it
+abbrev pub WrittenLeafReads : Convention → Type 0
+WrittenLeafReads c = (x : Simple) (v : Val) → c.carries x v ≡ true → Leaf c x v (c.write x v)
+
+-- The laws. The members of one shape stand under different names. A leaf spells only values of its simple
 -- type (and one at most, since `read` is a function). What is written is read again. A list, an object and null spell nothing, and
 -- what is nested under a tag doesn't change the tag's fault.
 pub record IsConvention (c : Convention) : Type 0 where
   pub names : (t : TableData) → Shaped t → (s : ℕ) → s < shape_count t → AllDiffer (map (c.name t s) (members_at t s))
-  pub utf8 : (t : TableData) → Shaped t → (s k : ℕ) → k < member_count t → IsUtf8 (c.name t s k)
   pub of_type : (x : Simple) (n : Node) (v : Val) → c.read x n ≡ Ok v → is_of x v ≡ true
   pub carried_of_type : (x : Simple) (v : Val) → c.carries x v ≡ true → is_of x v ≡ true
-  pub written_reads : (x : Simple) (v : Val) → c.carries x v ≡ true → c.read x (c.write x v) ≡ Ok v
+  pub written_reads : WrittenLeafReads c
   pub no_list : (x : Simple) (ns : Nodes) → c.read x (list ns) ≡ Err WrongType
   pub no_object : (x : Simple) (ms : Members) → c.read x (object ms) ≡ Err WrongType
   pub no_null : (x : Simple) → c.read x null ≡ Err WrongType

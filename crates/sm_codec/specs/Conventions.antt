@@ -104,9 +104,9 @@ json_written_time EpochSeconds ms = written_seconds ms
 json_written_time DateTime ms = text (written_stamp DateTime ms)
 json_written_time HttpDate ms = text (written_stamp HttpDate ms)
 
-abbrev pub format_in : Simple → Format
-format_in (the.Time format) = format
-format_in x = EpochSeconds
+abbrev pub format_of_simple : Simple → Format
+format_of_simple (the.Time format) = format
+format_of_simple x = EpochSeconds
 
 -- of a value of the simple type
 abbrev pub json_written : Simple → Val → Node
@@ -114,7 +114,7 @@ json_written x (bool_val b) = bool b
 json_written x (int_val z) = int z
 json_written x (text_val u) = text u
 json_written x (blob_val u) = base64_text u
-json_written x (time_val ms) = json_written_time (format_in x) ms
+json_written x (time_val ms) = json_written_time (format_of_simple x) ms
 json_written x v = null
 
 -- the format has a text of the stamp

@@ -47,5 +47,6 @@ pub data Frame : Type 0 where
 pub record Decoding : Type 0 where
   -- the root's shape
   pub shape : ℕ
+  -- the innermost first; a vector of the code has the root's first
   pub frames : List Frame
   pub result : Option Outcome

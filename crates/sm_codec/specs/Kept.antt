@@ -8,12 +8,13 @@ use Rattle.sm_tree.specs.Events.{NodeEvent}
 use Rattle.sm_tree.specs.Streams.{BeginsStream, unnumbered}
 use Rattle.sm_tree.specs.Building.{Building, nothing, whole, within, so_far}
 use Rattle.sm_shapes.specs.Values.{Val}
+use Rattle.sm_shapes.specs.TableData.{TableData}
 use Rattle.sm_shapes.specs.Places.{Place, root_place, member_place, shape_of, members_of_place, sparse_of, value_place}
 use Rattle.sm_codec.specs.Sorts.{a_list, a_map, a_structure, a_union}
-use Rattle.sm_codec.specs.Codec.{Codec, sort_at, wire_name, InTable}
+use Rattle.sm_codec.specs.Codec.{Codec, sort_at, InTable}
 use Rattle.sm_codec.specs.Named.{named, names_of, in_byte_order}
 use Rattle.sm_codec.specs.FaultLists.{FaultAt, first_fault, Reading}
-use Rattle.sm_codec.specs.Readings.{Child, children_of, named_children_of, entry_reading, entries_faults, entries_values, keyed, pairs_faults, present_reading, member_fields, members_faults, so_far_absent, repeats, all_standing, union_faults, reading}
+use Rattle.sm_codec.specs.Readings.{Child, ByMember, under_names, children_of, named_children_of, entry_reading, entries_faults, entries_values, keyed, pairs_faults, present_reading, member_fields, members_faults, so_far_absent, repeats, all_standing, union_faults, reading}
 use Rattle.sm_codec.specs.Decoding.{Outcome, good, bad, MemberFrame, EntryFrame, KeyFrame, Frame, structure_frame, union_frame, list_frame, map_frame, tagged_frame, skip_frame, Decoding}
 use Rattle.sm_codec.specs.Walk.{Level, list_level, object_level, pair_level, Due, due_at, due_tagged, due_passed, due_nowhere, levels_open, tags_outside, due_in, kept_levels, member_at}
 
@@ -23,9 +24,9 @@ each_field k [] = []
 each_field k (child ∷ children) =
     cond child.null [] (member_fields k (present_reading (child.reading (member_place k)))) ++ each_field k children
 
-abbrev pub spelled_fields : Codec → Place → List (List ℕ × Child) → List ℕ → List (ℕ × Val)
-spelled_fields c p ps [] = []
-spelled_fields c p ps (k ∷ ks) = each_field k (named (wire_name c p k) ps) ++ spelled_fields c p ps ks
+abbrev pub spelled_fields : ByMember → List ℕ → List (ℕ × Val)
+spelled_fields stands [] = []
+spelled_fields stands (k ∷ ks) = each_field k (stands k) ++ spelled_fields stands ks
 
 -- the same of the keys of a map
 abbrev pub each_entry : Codec → Place → List ℕ → List Child → List (List ℕ × Val)
@@ -42,8 +43,8 @@ abbrev pub has_one : List Child → Bool
 has_one [] = false
 has_one (child ∷ children) = true
 
-abbrev pub closed_members : Codec → Place → List (List ℕ × Child) → List ℕ
-closed_members c p ps = filter (λ k. has_one (named (wire_name c p k) ps)) (members_of_place c.table p)
+abbrev pub closed_members : ByMember → List ℕ → List ℕ
+closed_members stands ks = filter (λ k. has_one (stands k)) ks
 
 -- some of these, in their order
 abbrev pub AreOf : {A : Type 0} → List A → List A → Type 0
@@ -65,26 +66,25 @@ pub record HoldsEntries (c : Codec) (p : Place) (ns : List Node) (f : EntryFrame
   pub items : AreKept (entries_faults c p 0 (children_of c ns)) f.items (entries_values c p (children_of c ns))
 
 -- the faults of the closed members of a structure, and of a union: in a union that none stands is no fault yet
-abbrev pub closed_faults : Codec → Place → List (List ℕ × Child) → List FaultAt
-closed_faults c p ps = members_faults c p so_far_absent ps (members_of_place c.table p)
+abbrev pub closed_faults : TableData → ByMember → List ℕ → List FaultAt
+closed_faults t stands ks = members_faults t so_far_absent stands ks
 
-abbrev pub closed_union_faults : Codec → Place → List (List ℕ × Child) → List FaultAt
-closed_union_faults c p ps =
-    union_faults c.table [] (repeats c p ps (members_of_place c.table p)) (all_standing c p ps (members_of_place c.table p))
+abbrev pub closed_union_faults : TableData → ByMember → List ℕ → List FaultAt
+closed_union_faults t stands ks = union_faults t [] (repeats t stands ks) (all_standing stands ks)
 
--- what is kept of members, whose closed places have these faults
-pub record HoldsMembers (c : Codec) (p : Place) (ps : List (List ℕ × Child)) (pending : Option ℕ) (faults : List FaultAt) (f : MemberFrame) : Type 0 where
-  pub shape : f.shape ≡ shape_of c.table p
-  pub seen : IsPermutation f.seen (closed_members c p ps)
+-- what is kept of the members of a place, by what stands for them: their closed places have these faults
+pub record HoldsMembers (t : TableData) (p : Place) (stands : ByMember) (pending : Option ℕ) (faults : List FaultAt) (f : MemberFrame) : Type 0 where
+  pub shape : f.shape ≡ shape_of t p
+  pub seen : IsPermutation f.seen (closed_members stands (members_of_place t p))
   pub current : f.current ≡ pending
   pub fault : f.fault ≡ first_fault faults
-  pub fields : AreKept faults f.fields (spelled_fields c p ps (members_of_place c.table p))
+  pub fields : AreKept faults f.fields (spelled_fields stands (members_of_place t p))
 
 -- the values of all members that stand in model order before the first with a fault are kept
-abbrev pub KeepsPrefix : Codec → Place → List (List ℕ × Child) → MemberFrame → Type 0
-KeepsPrefix c p ps f =
-    (before behind : List ℕ) → members_of_place c.table p ≡ before ++ behind → members_faults c p so_far_absent ps before ≡ []
-    → (rest : List (ℕ × Val)) × (f.fields ≡ spelled_fields c p ps before ++ rest)
+abbrev pub KeepsPrefix : TableData → Place → ByMember → MemberFrame → Type 0
+KeepsPrefix t p stands f =
+    (before behind : List ℕ) → members_of_place t p ≡ before ++ behind → closed_faults t stands before ≡ []
+    → (rest : List (ℕ × Val)) × (f.fields ≡ spelled_fields stands before ++ rest)
 
 -- a map at a place, with these closed pairs
 pub record HoldsKeys (c : Codec) (p : Place) (ps : List (List ℕ × Child)) (pending : Option (List ℕ)) (f : KeyFrame) : Type 0 where
@@ -102,9 +102,14 @@ current_member c p (Some name) = member_at c p name
 -- an object at a place, with these closed pairs, and the name whose tree isn't closed
 abbrev pub HoldsPairs : Codec → Place → List (List ℕ × Child) → Option (List ℕ) → Frame → Type 0
 HoldsPairs c p ps name (structure_frame f) =
-    (sort_at c p ≡ a_structure) × HoldsMembers c p ps (current_member c p name) (closed_faults c p ps) f × KeepsPrefix c p ps f
+    (sort_at c p ≡ a_structure)
+    × HoldsMembers c.table p (under_names c p ps) (current_member c p name)
+    (closed_faults c.table (under_names c p ps) (members_of_place c.table p)) f
+    × KeepsPrefix c.table p (under_names c p ps) f
 HoldsPairs c p ps name (union_frame f) =
-    (sort_at c p ≡ a_union) × HoldsMembers c p ps (current_member c p name) (closed_union_faults c p ps) f
+    (sort_at c p ≡ a_union)
+    × HoldsMembers c.table p (under_names c p ps) (current_member c p name)
+    (closed_union_faults c.table (under_names c p ps) (members_of_place c.table p)) f
 HoldsPairs c p ps name (map_frame f) = (sort_at c p ≡ a_map) × HoldsKeys c p ps name f
 HoldsPairs c p ps name (list_frame f) = ⊥
 HoldsPairs c p ps name (tagged_frame s k) = ⊥

@@ -141,22 +141,27 @@ member_fields k (Ok None) = []
 member_fields k (Ok (Some v)) = (k, v) ∷ []
 member_fields k (Err fs) = []
 
--- the faults of these members of a place, in model order, and the fields of those without
-abbrev pub members_faults : Codec → Place → Absence → List (List ℕ × Child) → List ℕ → List FaultAt
-members_faults c p absent ps [] = []
-members_faults c p absent ps (k ∷ ks) =
-    under (Member (name_at c.table k)) (member_faults (member_reading absent k (named (wire_name c p k) ps)))
-    ++ members_faults c p absent ps ks
+-- what stands for each member: in an object, what stands under its name
+abbrev pub ByMember : Type 0
+ByMember = ℕ → List Child
 
-abbrev pub members_fields : Codec → Place → Absence → List (List ℕ × Child) → List ℕ → List (ℕ × Val)
-members_fields c p absent ps [] = []
-members_fields c p absent ps (k ∷ ks) =
-    member_fields k (member_reading absent k (named (wire_name c p k) ps)) ++ members_fields c p absent ps ks
+abbrev pub under_names : Codec → Place → List (List ℕ × Child) → ByMember
+under_names c p ps k = named (wire_name c p k) ps
+
+-- the faults of these members, in model order, and the fields of those without
+abbrev pub members_faults : TableData → Absence → ByMember → List ℕ → List FaultAt
+members_faults t absent stands [] = []
+members_faults t absent stands (k ∷ ks) =
+    under (Member (name_at t k)) (member_faults (member_reading absent k (stands k))) ++ members_faults t absent stands ks
+
+abbrev pub members_fields : Absence → ByMember → List ℕ → List (ℕ × Val)
+members_fields absent stands [] = []
+members_fields absent stands (k ∷ ks) = member_fields k (member_reading absent k (stands k)) ++ members_fields absent stands ks
 
 abbrev pub structure_reading : Codec → Place → List (List ℕ × Child) → Reading
 structure_reading c p ps =
-    settled (members_faults c p (when_closed c.table) ps (members_of_place c.table p))
-    (structure_val (fields_of (members_fields c p (when_closed c.table) ps (members_of_place c.table p))))
+    settled (members_faults c.table (when_closed c.table) (under_names c p ps) (members_of_place c.table p))
+    (structure_val (fields_of (members_fields (when_closed c.table) (under_names c p ps) (members_of_place c.table p))))
 
 -- the members of a union that stand twice or more
 abbrev pub repeated_faults : List Child → List FaultAt
@@ -164,9 +169,9 @@ repeated_faults [] = []
 repeated_faults (child ∷ []) = []
 repeated_faults (child ∷ more ∷ children) = one_here Repeated
 
-abbrev pub repeats : Codec → Place → List (List ℕ × Child) → List ℕ → List FaultAt
-repeats c p ps [] = []
-repeats c p ps (k ∷ ks) = under (Member (name_at c.table k)) (repeated_faults (named (wire_name c p k) ps)) ++ repeats c p ps ks
+abbrev pub repeats : TableData → ByMember → List ℕ → List FaultAt
+repeats t stands [] = []
+repeats t stands (k ∷ ks) = under (Member (name_at t k)) (repeated_faults (stands k)) ++ repeats t stands ks
 
 -- those that stand once with a tree that isn't null
 abbrev pub standing : ℕ → List Child → List (ℕ × Child)
@@ -174,9 +179,9 @@ standing k [] = []
 standing k (child ∷ []) = cond child.null [] ((k, child) ∷ [])
 standing k (child ∷ more ∷ children) = []
 
-abbrev pub all_standing : Codec → Place → List (List ℕ × Child) → List ℕ → List (ℕ × Child)
-all_standing c p ps [] = []
-all_standing c p ps (k ∷ ks) = standing k (named (wire_name c p k) ps) ++ all_standing c p ps ks
+abbrev pub all_standing : ByMember → List ℕ → List (ℕ × Child)
+all_standing stands [] = []
+all_standing stands (k ∷ ks) = standing k (stands k) ++ all_standing stands ks
 
 -- the faults of the one that stands
 abbrev pub standing_faults : TableData → ℕ × Child → List FaultAt
@@ -194,6 +199,7 @@ abbrev pub standing_fields : List (ℕ × Child) → List (ℕ × Val)
 standing_fields [] = []
 standing_fields (m ∷ ms) = member_fields m.0 (present_reading (m.1.reading (member_place m.0))) ++ standing_fields ms
 
+-- without a fault one stands, so the second case never comes
 abbrev pub union_reading_of : List FaultAt → List (ℕ × Val) → Reading
 union_reading_of (f ∷ fs) vs = Err (f ∷ fs)
 union_reading_of [] [] = Err (one_here UnionCount)
@@ -201,8 +207,9 @@ union_reading_of [] (f ∷ fs) = Ok (union_val f.0 f.1)
 
 abbrev pub union_reading : Codec → Place → List (List ℕ × Child) → Reading
 union_reading c p ps =
-    let ms = all_standing c p ps (members_of_place c.table p) in
-    union_reading_of (union_faults c.table (one_here UnionCount) (repeats c p ps (members_of_place c.table p)) ms) (standing_fields ms)
+    let ms = all_standing (under_names c p ps) (members_of_place c.table p) in
+    union_reading_of (union_faults c.table (one_here UnionCount) (repeats c.table (under_names c p ps) (members_of_place c.table p)) ms)
+    (standing_fields ms)
 
 -- by the sort of the place: a tree that is no list and no object; a list; an object
 abbrev pub leaf_by : Sort → Codec → Place → Node → Reading

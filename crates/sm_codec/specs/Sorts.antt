@@ -15,23 +15,27 @@ pub data Sort : Type 0 where
   -- of a type that has no values
   left_out : Sort
 
--- a timestamp without a format is in epoch-seconds (Smithy 2.0, "timestampFormat trait")
+-- by the format of timestamps that have none of their own
+abbrev pub sort_with : Format → ShapeKind → Option Format → Sort
+sort_with usual Blob format = simple the.Blob
+sort_with usual Boolean format = simple the.Boolean
+sort_with usual Text format = simple the.Text
+sort_with usual Enum format = simple the.Text
+sort_with usual Byte format = simple (the.Number 8)
+sort_with usual Short format = simple (the.Number 16)
+sort_with usual Integer format = simple (the.Number 32)
+sort_with usual IntEnum format = simple (the.Number 32)
+sort_with usual Long format = simple (the.Number 64)
+sort_with usual Timestamp format = simple (the.Time (unwrap_or format usual))
+sort_with usual List format = a_list
+sort_with usual Map format = a_map
+sort_with usual Structure format = a_structure
+sort_with usual Union format = a_union
+sort_with usual LeftOut format = left_out
+
+-- in a document that is epoch-seconds (Smithy 2.0, "timestampFormat trait")
 abbrev pub sort_by : ShapeKind → Option Format → Sort
-sort_by Blob format = simple the.Blob
-sort_by Boolean format = simple the.Boolean
-sort_by Text format = simple the.Text
-sort_by Enum format = simple the.Text
-sort_by Byte format = simple (the.Number 8)
-sort_by Short format = simple (the.Number 16)
-sort_by Integer format = simple (the.Number 32)
-sort_by IntEnum format = simple (the.Number 32)
-sort_by Long format = simple (the.Number 64)
-sort_by Timestamp format = simple (the.Time (unwrap_or format EpochSeconds))
-sort_by List format = a_list
-sort_by Map format = a_map
-sort_by Structure format = a_structure
-sort_by Union format = a_union
-sort_by LeftOut format = left_out
+sort_by kind format = sort_with EpochSeconds kind format
 
 abbrev pub sort_of : TableData → Place → Sort
 sort_of t p = sort_by (kind_of t p) (format_of t p)

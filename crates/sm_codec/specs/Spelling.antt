@@ -6,13 +6,14 @@ use Rattle.sm_shapes.specs.TableData.{default_at}
 use Rattle.sm_shapes.specs.Places.{Place, member_place, members_of_place, entry_place, value_place}
 use Rattle.sm_shapes.specs.Fitting.{Fits}
 use Rattle.sm_codec.specs.declared.simple.Simple.{Simple}
+use Rattle.sm_codec.specs.Convention.{Leaf}
 use Rattle.sm_codec.specs.Sorts.{simple, a_list, a_map, a_structure, a_union}
 use Rattle.sm_codec.specs.Codec.{Codec, sort_at, wire_name}
 use Rattle.sm_codec.specs.Named.{named, is_null}
 
 -- a tree that spells a simple value by the convention
 abbrev pub IsLeaf : Codec → Place → Val → Node → Type 0
-IsLeaf c p v n = (x : Simple) × (sort_at c p ≡ simple x) × (c.convention.read x n ≡ Ok v)
+IsLeaf c p v n = (x : Simple) × (sort_at c p ≡ simple x) × Leaf c.convention x v n
 
 -- nothing, or null alone
 abbrev pub NoneOrNull : List Node → Type 0
@@ -26,14 +27,14 @@ StandNot c p ps [] = Unit {0}
 StandNot c p ps (k ∷ ks) = NoneOrNull (named (wire_name c p k) ps) × StandNot c p ps ks
 
 -- and none of them has a default
-abbrev pub AreLeftOut : Codec → Place → List (List ℕ × Node) → List ℕ → Type 0
-AreLeftOut c p ps [] = Unit {0}
-AreLeftOut c p ps (k ∷ ks) = NoneOrNull (named (wire_name c p k) ps) × (default_at c.table k ≡ None) × AreLeftOut c p ps ks
+abbrev pub AreAbsent : Codec → Place → List (List ℕ × Node) → List ℕ → Type 0
+AreAbsent c p ps [] = Unit {0}
+AreAbsent c p ps (k ∷ ks) = NoneOrNull (named (wire_name c p k) ps) × (default_at c.table k ≡ None) × AreAbsent c p ps ks
 
 -- null stands for Null, and else what holds of the tree
-abbrev pub NullFor : Type 0 → Val → Node → Type 0
-NullFor holds null_val n = n ≡ null
-NullFor holds v n = holds
+abbrev pub SpelledOrNull : Type 0 → Val → Node → Type 0
+SpelledOrNull holds null_val n = n ≡ null
+SpelledOrNull holds v n = holds
 
 -- the one tree under a name, which isn't null
 abbrev pub Stands : List ℕ → List (List ℕ × Node) → Node → Type 0
@@ -72,20 +73,20 @@ abbrev mutual
   SpelledEntries c p no_vals [] = Unit {0}
   SpelledEntries c p no_vals (n ∷ ns) = ⊥
   SpelledEntries c p (val v vs) [] = ⊥
-  SpelledEntries c p (val v vs) (n ∷ ns) = NullFor (Spelled c (entry_place c.table p) v n) v n × SpelledEntries c p vs ns
+  SpelledEntries c p (val v vs) (n ∷ ns) = SpelledOrNull (Spelled c (entry_place c.table p) v n) v n × SpelledEntries c p vs ns
 
   -- under each key stands one tree, which spells its value
   pub SpelledPairs : Codec → Place → EntryVals → List (List ℕ × Node) → Type 0
   SpelledPairs c p no_entries ps = Unit {0}
   SpelledPairs c p (entry key v es) ps =
-      (n : Node) × (named key ps ≡ n ∷ []) × NullFor (Spelled c (value_place c.table p) v n) v n × SpelledPairs c p es ps
+      (n : Node) × (named key ps ≡ n ∷ []) × SpelledOrNull (Spelled c (value_place c.table p) v n) v n × SpelledPairs c p es ps
 
   -- No name of a member stands twice. A member whose name stands with a tree that isn't null is present, and that tree spells its
   -- value; another is present exactly where it has a default, with that default.
   pub SpelledFields : Codec → Place → List ℕ → FieldVals → List (List ℕ × Node) → Type 0
-  SpelledFields c p ks no_fields ps = AreLeftOut c p ps ks
+  SpelledFields c p ks no_fields ps = AreAbsent c p ps ks
   SpelledFields c p ks (field k v fs) ps =
-      (skipped rest : List ℕ) × (ks ≡ skipped ++ k ∷ rest) × AreLeftOut c p ps skipped
+      (skipped rest : List ℕ) × (ks ≡ skipped ++ k ∷ rest) × AreAbsent c p ps skipped
       × (((n : Node) × Stands (wire_name c p k) ps n × Spelled c (member_place k) v n)
       ⊎ (NoneOrNull (named (wire_name c p k) ps) × (default_at c.table k ≡ Some v)))
       × SpelledFields c p rest fs ps

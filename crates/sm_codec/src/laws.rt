@@ -1,7 +1,7 @@
 // What the codec's definitions have to do with each other. These calls do nothing.
 ghost use Rattle.std.specs.Prelude.{Bool};
 ghost use Rattle.sm_codec.specs.CodecLaws.{OneValue, ValueOrFault, WrittenSpells};
-ghost use Rattle.sm_codec.specs.Convention.{IsConvention};
+ghost use Rattle.sm_codec.specs.Convention.{IsConvention, WrittenLeafReads};
 ghost use Rattle.sm_codec.specs.Conventions.{cbor_convention, json_convention, node_convention};
 ghost use Rattle.sm_codec.specs.StampTexts.{StampOfText};
 
@@ -18,6 +18,13 @@ pub fn json_leaves()
 /// And those of the nodes of models, with blobs as texts of their bytes and in base64.
 pub fn node_leaves()
     ensures { (raw_blobs : Bool) → IsConvention (node_convention raw_blobs) }
+{}
+
+/// What is written for a value that a convention carries is read again as that value.
+pub fn written_leaf_reads()
+    ensures json { (json_names : Bool) → WrittenLeafReads (json_convention json_names) }
+    ensures cbor { WrittenLeafReads cbor_convention }
+    ensures nodes { (raw_blobs : Bool) → WrittenLeafReads (node_convention raw_blobs) }
 {}
 
 /// The stamp that is told of a text is the text's, and where none is told the text is no stamp's.

@@ -7,6 +7,8 @@ use Rattle.std.specs.List.{list_any}
 use Rattle.std.specs.Str.{bytes_eq, chars}
 use Rattle.sm_shapes.specs.Values.{Val, Vals, EntryVals, null_val, bool_val, int_val, text_val, blob_val, time_val, list_val, map_val, structure_val, union_val, each_val, keys_of, same_val}
 use Rattle.sm_shapes.specs.TableData.{ConstraintData}
+use Rattle.sm_shapes.specs.declared.kinds.ShapeKind.{ShapeKind}
+use Rattle.sm_shapes.specs.declared.kinds.ShapeKind.TheVariants as kinds
 use Rattle.sm_shapes.specs.declared.fault.FaultKind.{FaultKind}
 use Rattle.sm_shapes.specs.declared.fault.FaultKind.TheVariants.{Length, Range, Pattern, Enum}
 
@@ -40,26 +42,27 @@ abbrev pub pattern_broken : Finder → Option ℕ → List ℕ → List FaultKin
 pattern_broken finds None u = []
 pattern_broken finds (Some n) u = unless (finds n u) Pattern
 
-abbrev pub text_broken : List (List ℕ) → List ℕ → List FaultKind
-text_broken [] u = []
-text_broken (t ∷ ts) u = unless (list_any (λ w. bytes_eq w u) (t ∷ ts)) Enum
+-- a text, or a number, that is none of the values of its enum
+abbrev pub text_broken : ShapeKind → List (List ℕ) → List ℕ → List FaultKind
+text_broken kinds.Enum texts u = unless (list_any (λ w. bytes_eq w u) texts) Enum
+text_broken kind texts u = []
 
-abbrev pub number_broken : List ℤ → ℤ → List FaultKind
-number_broken [] z = []
-number_broken (n ∷ ns) z = unless (list_any (λ w. int_eq w z) (n ∷ ns)) Enum
+abbrev pub number_broken : ShapeKind → List ℤ → ℤ → List FaultKind
+number_broken kinds.IntEnum numbers z = unless (list_any (λ w. int_eq w z) numbers) Enum
+number_broken kind numbers z = []
 
--- all that a value breaks
-abbrev pub broken : Finder → ConstraintData → Val → List FaultKind
-broken finds c null_val = []
-broken finds c (bool_val b) = []
-broken finds c (int_val z) = range_broken c z ++ number_broken c.numbers z
-broken finds c (text_val u) = length_broken c (length (chars u)) ++ pattern_broken finds c.pattern u ++ text_broken c.texts u
-broken finds c (blob_val u) = length_broken c (length u)
-broken finds c (time_val ms) = []
-broken finds c (list_val vs) = length_broken c (length (each_val vs))
-broken finds c (map_val es) = length_broken c (length (keys_of es))
-broken finds c (structure_val fs) = []
-broken finds c (union_val k v) = []
+-- all that a value of a shape of this kind breaks
+abbrev pub broken : Finder → ShapeKind → ConstraintData → Val → List FaultKind
+broken finds kind c null_val = []
+broken finds kind c (bool_val b) = []
+broken finds kind c (int_val z) = range_broken c z ++ number_broken kind c.numbers z
+broken finds kind c (text_val u) = length_broken c (length (chars u)) ++ pattern_broken finds c.pattern u ++ text_broken kind c.texts u
+broken finds kind c (blob_val u) = length_broken c (length u)
+broken finds kind c (time_val ms) = []
+broken finds kind c (list_val vs) = length_broken c (length (each_val vs))
+broken finds kind c (map_val es) = length_broken c (length (keys_of es))
+broken finds kind c (structure_val fs) = []
+broken finds kind c (union_val k v) = []
 
 -- some value stands twice or more
 abbrev pub has_twice : List Val → Bool

@@ -55,27 +55,27 @@ MayBeAbsent t [] = Unit {0}
 MayBeAbsent t (k ∷ ks) = (required_at t k ≡ false) × (default_at t k ≡ None) × MayBeAbsent t ks
 
 -- the value at a place breaks no constraint
-abbrev pub Keeps : TableData → Test → Place → Val → Type 0
-Keeps t test p v = broken (finder t test) (constraints_of t p) v ≡ []
+abbrev pub MeetsConstraints : TableData → Test → Place → Val → Type 0
+MeetsConstraints t test p v = broken (finder t test) (kind_of t p) (constraints_of t p) v ≡ []
 
 -- what holds of an entry's value holds, or it is null in a sparse list or map
-abbrev pub NullOr : Bool → Type 0 → Val → Type 0
-NullOr sparse holds null_val = sparse ≡ true
-NullOr sparse holds v = holds
+abbrev pub FitsOrNull : Bool → Type 0 → Val → Type 0
+FitsOrNull sparse holds null_val = sparse ≡ true
+FitsOrNull sparse holds v = holds
 
 abbrev mutual
   -- the value is one of the place
   pub Fits : TableData → Test → Place → Val → Type 0
   Fits t test p null_val = ⊥
-  Fits t test p (bool_val b) = IsOfKind (kind_of t p) (bool_val b) × Keeps t test p (bool_val b)
-  Fits t test p (int_val z) = IsOfKind (kind_of t p) (int_val z) × Keeps t test p (int_val z)
-  Fits t test p (text_val u) = IsOfKind (kind_of t p) (text_val u) × Keeps t test p (text_val u)
-  Fits t test p (blob_val u) = IsOfKind (kind_of t p) (blob_val u) × Keeps t test p (blob_val u)
-  Fits t test p (time_val ms) = IsOfKind (kind_of t p) (time_val ms) × Keeps t test p (time_val ms)
+  Fits t test p (bool_val b) = IsOfKind (kind_of t p) (bool_val b) × MeetsConstraints t test p (bool_val b)
+  Fits t test p (int_val z) = IsOfKind (kind_of t p) (int_val z) × MeetsConstraints t test p (int_val z)
+  Fits t test p (text_val u) = IsOfKind (kind_of t p) (text_val u) × MeetsConstraints t test p (text_val u)
+  Fits t test p (blob_val u) = IsOfKind (kind_of t p) (blob_val u) × MeetsConstraints t test p (blob_val u)
+  Fits t test p (time_val ms) = IsOfKind (kind_of t p) (time_val ms) × MeetsConstraints t test p (time_val ms)
   Fits t test p (list_val vs) =
-      (kind_of t p ≡ a_list) × Keeps t test p (list_val vs) × (unique_of t p ≡ true → AllUnlike (each_val vs)) × FitEntries t test p vs
+      (kind_of t p ≡ a_list) × MeetsConstraints t test p (list_val vs) × (unique_of t p ≡ true → AllUnlike (each_val vs)) × FitEntries t test p vs
   Fits t test p (map_val es) =
-      (kind_of t p ≡ a_map) × Keeps t test p (map_val es) × IsStrictlySortedBy (slice_cmp nat_cmp) (keys_of es) × FitPairs t test p es
+      (kind_of t p ≡ a_map) × MeetsConstraints t test p (map_val es) × IsStrictlySortedBy (slice_cmp nat_cmp) (keys_of es) × FitPairs t test p es
   Fits t test p (structure_val fs) = (kind_of t p ≡ Structure) × FitFields t test (members_of_place t p) fs
   Fits t test p (union_val k v) =
       (kind_of t p ≡ Union) × ((before behind : List ℕ) × (members_of_place t p ≡ before ++ k ∷ behind)) × Fits t test (member_place k) v
@@ -83,14 +83,14 @@ abbrev mutual
   -- the entries are of the list at this place
   pub FitEntries : TableData → Test → Place → Vals → Type 0
   FitEntries t test p no_vals = Unit {0}
-  FitEntries t test p (val v vs) = NullOr (sparse_of t p) (Fits t test (entry_place t p) v) v × FitEntries t test p vs
+  FitEntries t test p (val v vs) = FitsOrNull (sparse_of t p) (Fits t test (entry_place t p) v) v × FitEntries t test p vs
 
   -- the keys and values are of the map at this place
   pub FitPairs : TableData → Test → Place → EntryVals → Type 0
   FitPairs t test p no_entries = Unit {0}
   FitPairs t test p (entry key v es) =
-      IsOfKind (kind_of t (key_place t p)) (text_val key) × Keeps t test (key_place t p) (text_val key)
-      × NullOr (sparse_of t p) (Fits t test (value_place t p) v) v × FitPairs t test p es
+      IsOfKind (kind_of t (key_place t p)) (text_val key) × MeetsConstraints t test (key_place t p) (text_val key)
+      × FitsOrNull (sparse_of t p) (Fits t test (value_place t p) v) v × FitPairs t test p es
 
   -- the fields are of these members, in their order, and each member that is left out may be
   pub FitFields : TableData → Test → List ℕ → FieldVals → Type 0

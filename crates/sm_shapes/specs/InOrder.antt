@@ -7,14 +7,14 @@ use Rattle.sm_shapes.specs.Values.{Val, list_val, map_val, no_vals, no_entries, 
 use Rattle.sm_shapes.specs.TableData.{TableData, ShapeData, shape_count, member_count, kind_at, members_at, shape_constraints_at, home_at, name_at, json_name_at, target_at, constraints_at, binding_at, default_node_at, default_at, texts_numbered, count_of_default}
 use Rattle.sm_shapes.specs.Places.{member_place}
 use Rattle.sm_shapes.specs.Broken.{broken}
-use Rattle.sm_shapes.specs.Fitting.{Test, finder, any_text, Fits, Keeps}
+use Rattle.sm_shapes.specs.Fitting.{Test, finder, any_text, Fits, MeetsConstraints}
 use Rattle.sm_shapes.specs.declared.kinds.ShapeKind.{ShapeKind}
 use Rattle.sm_shapes.specs.declared.kinds.ShapeKind.TheVariants.{Blob, Boolean, Text, Enum, Byte, Short, Integer, IntEnum, Long, Timestamp, List as a_list, Map as a_map, Structure, Union, LeftOut}
 
 -- each is the number of a member that stands in the shape s
-abbrev pub StandIn : TableData → ℕ → List ℕ → Type 0
-StandIn t s [] = Unit {0}
-StandIn t s (k ∷ ks) = (k < member_count t) × (home_at t k ≡ s) × StandIn t s ks
+abbrev pub AreMembersOf : TableData → ℕ → List ℕ → Type 0
+AreMembersOf t s [] = Unit {0}
+AreMembersOf t s (k ∷ ks) = (k < member_count t) × (home_at t k ≡ s) × AreMembersOf t s ks
 
 -- the number k is one of these
 abbrev pub IsAmong : ℕ → List ℕ → Type 0
@@ -71,7 +71,7 @@ MayDefault t k = (kind_at t (home_at t k) ≡ Structure) × (binding_at t k ≡ 
 pub record Shaped (t : TableData) : Type 0 where
   pub targets : (k : ℕ) → k < member_count t → target_at t k < shape_count t
   pub homes : (k : ℕ) → k < member_count t → (home_at t k < shape_count t) × IsAmong k (members_at t (home_at t k))
-  pub members : (s : ℕ) → s < shape_count t → StandIn t s (members_at t s)
+  pub members : (s : ℕ) → s < shape_count t → AreMembersOf t s (members_at t s)
   pub own : (s : ℕ) → s < shape_count t → HasItsMembers t (kind_at t s) (members_at t s)
   pub names : (s : ℕ) → s < shape_count t → AllDiffer (map (name_at t) (members_at t s))
   pub json_names : (s : ℕ) → s < shape_count t → AllDiffer (map (json_name_at t) (members_at t s))
@@ -87,10 +87,14 @@ abbrev pub AreStored : List (ℕ × List ℕ) → List (List ℕ) → Type 0
 AreStored [] added = Unit {0}
 AreStored (p ∷ ps) added = (p.0 < length added) × (pattern_text added p.0 ≡ p.1) × AreStored ps added
 
+-- each default passes its member's pattern
+abbrev pub DefaultsPass : TableData → Test → Type 0
+DefaultsPass t test = (k : ℕ) (v : Val) → default_at t k ≡ Some v → MeetsConstraints t test (member_place k) v
+
 -- the store has the table's patterns, and each default passes its member's pattern by the store's test
 pub record Built (t : TableData) (added : List (List ℕ)) (test : Test) : Type 0 where
   pub stored : AreStored t.patterns added
-  pub defaults : (k : ℕ) (v : Val) → default_at t k ≡ Some v → Keeps t test (member_place k) v
+  pub defaults : DefaultsPass t test
 
 -- how many of these members have a default
 abbrev pub defaults_among : TableData → List ℕ → ℕ

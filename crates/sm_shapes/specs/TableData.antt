@@ -6,8 +6,7 @@ use Rattle.sm_shapes.specs.Values.{Val}
 use Rattle.sm_shapes.specs.declared.kinds.ShapeKind.{ShapeKind}
 use Rattle.sm_shapes.specs.declared.kinds.ShapeKind.TheVariants.{LeftOut}
 
--- The bounds of `length` or `range`, the number of a pattern, and the values of an enum or an intEnum. An enum has at least one
--- value, so no texts, or no numbers, say that the values aren't listed.
+-- the bounds of `length` or `range`, the number of a pattern, and the values of an enum or an intEnum
 pub record ConstraintData : Type 0 where
   pub min : Option ℤ
   pub max : Option ℤ

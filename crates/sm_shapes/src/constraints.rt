@@ -90,9 +90,9 @@ pub struct Constraints {
     pub max: Option<i64>,
     /// The number of a pattern in a store.
     pub pattern: Option<u32>,
-    /// The values of an enum; none where they aren't listed.
+    /// The values of an enum.
     pub texts: Texts,
-    /// The values of an intEnum; none where they aren't listed.
+    /// The values of an intEnum.
     pub numbers: Numbers,
 }
 
