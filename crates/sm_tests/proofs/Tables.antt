@@ -1,5 +1,5 @@
 -- The names of a table's members are texts in UTF-8 where those of each member in its list are.
-use Rattle.std.proofs.Common.{◌≡◌, ℕ, zero, suc, ◌<◌, List, [], ◌∷◌, length, arith}
+use Rattle.std.proofs.Common.{ℕ, zero, suc, ◌<◌, List, [], ◌∷◌, length, arith}
 use Rattle.std.specs.Prelude.{IsUtf8, slice_get, unwrap_or}
 use Rattle.sm_shapes.specs.Tables.{name_in, json_name_in, name_at, json_name_at, member_count}
 use Rattle.sm_shapes.specs.declared.table.Table.{Table}

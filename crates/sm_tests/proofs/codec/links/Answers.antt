@@ -1,5 +1,4 @@
 use Rattle.std.proofs.Common.{rules, ◌∙◌, sym, subst, [], ◌∷◌}
-use Rattle.sm_shapes.specs.Tables.{Shaped}
 use Rattle.sm_tests.proofs.Tables.{AllUtf8, names_in_utf8, all_more}
 use Rattle.sm_tests.proofs.codec.links.Goals as goal
 
