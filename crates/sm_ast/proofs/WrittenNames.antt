@@ -108,7 +108,7 @@ abbrev pub all_differ : List (List ℕ) → Bool
 all_differ [] = true
 all_differ (k ∷ ks) = not (stands_in k ks) && all_differ ks
 
-not_true : (b : Bool) → not b ≡ true → b ≡ false
+pub not_true : (b : Bool) → not b ≡ true → b ≡ false
 not_true false h = refl
 not_true true h = true_is_false (sym h)
 

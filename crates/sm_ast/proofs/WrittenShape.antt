@@ -1,5 +1,5 @@
 -- What is written for a shape says it.
-use Rattle.std.proofs.Common.{◌≡◌, inl, inr, ℕ, not, Bool, true, false, List, [], ◌∷◌, ◌++◌, Option, Some, None, refl, sym, ap, subst, ◌∙◌, append_assoc, is_some}
+use Rattle.std.proofs.Common.{◌≡◌, inl, inr, ℕ, not, ◌&&◌, Bool, true, false, List, [], ◌∷◌, ◌++◌, Option, Some, None, refl, sym, ap, subst, ◌∙◌, append_assoc, is_some}
 use Rattle.std.specs.List.{list_all}
 use Rattle.sm_tree.specs.Node.{Members, text, members_of}
 use Rattle.sm_tree.specs.Same.{HasName, HasDistinctNames, AreDistinct}
@@ -29,7 +29,7 @@ use Rattle.sm_ast.proofs.WrittenMembers.{AreFoundMembers, AreSoundTraits, FoundM
 use Rattle.sm_ast.proofs.WrittenMembers.{found_names, found_pairs, found_said, traits_behind, written_traits_distinct}
 use Rattle.sm_ast.proofs.WrittenNames.{PairsWithin, all_differ, apart_by_test, differ_by_test, differ_within, distinct_joined}
 use Rattle.sm_ast.proofs.WrittenNames.{distinct_pairs, field_names, has_under, pair_before, pair_behind, pairs_joined}
-use Rattle.sm_ast.proofs.WrittenNames.{properties_within, within_itself, within_stands}
+use Rattle.sm_ast.proofs.WrittenNames.{not_true, properties_within, within_itself, within_stands}
 
 -- the names of a shape's pairs, and those before its traits
 abbrev names_before : Kind → List (List ℕ)
@@ -46,149 +46,72 @@ are_known fs names = list_all (λ k. is_some (field_named k fs)) names
 abbrev are_unnamed : TypeFields → List (List ℕ) → Bool
 are_unnamed fs names = list_all (λ k. not (is_some (form_named k fs))) names
 
-names_are_known : (kind : Kind) → are_known (layout_of (Defined kind)) (shape_names kind) ≡ true
-names_are_known Operation = refl
-names_are_known Service = refl
-names_are_known Resource = refl
-names_are_known list_kind = refl
-names_are_known Map = refl
-names_are_known Structure = refl
-names_are_known Union = refl
-names_are_known Enum = refl
-names_are_known IntEnum = refl
-names_are_known Blob = refl
-names_are_known Boolean = refl
-names_are_known text_kind = refl
-names_are_known Byte = refl
-names_are_known Short = refl
-names_are_known Integer = refl
-names_are_known Long = refl
-names_are_known Float = refl
-names_are_known Double = refl
-names_are_known BigInteger = refl
-names_are_known BigDecimal = refl
-names_are_known Timestamp = refl
-names_are_known Document = refl
+abbrev are_apart : Kind → Bool
+are_apart kind = not (stands_in mixins_name (shape_names kind)) && not (stands_in traits_name (names_before kind))
 
-names_all_differ : (kind : Kind) → all_differ (shape_names kind) ≡ true
-names_all_differ Operation = refl
-names_all_differ Service = refl
-names_all_differ Resource = refl
-names_all_differ list_kind = refl
-names_all_differ Map = refl
-names_all_differ Structure = refl
-names_all_differ Union = refl
-names_all_differ Enum = refl
-names_all_differ IntEnum = refl
-names_all_differ Blob = refl
-names_all_differ Boolean = refl
-names_all_differ text_kind = refl
-names_all_differ Byte = refl
-names_all_differ Short = refl
-names_all_differ Integer = refl
-names_all_differ Long = refl
-names_all_differ Float = refl
-names_all_differ Double = refl
-names_all_differ BigInteger = refl
-names_all_differ BigDecimal = refl
-names_all_differ Timestamp = refl
-names_all_differ Document = refl
+abbrev are_other : Kind → Bool
+are_other kind =
+    are_unnamed (property_forms kind) ((type_name ∷ []) ++ form_names (member_form kind))
+    && are_unnamed (property_forms kind) (traits_name ∷ [])
 
-no_mixins : (kind : Kind) → stands_in mixins_name (shape_names kind) ≡ false
-no_mixins Operation = refl
-no_mixins Service = refl
-no_mixins Resource = refl
-no_mixins list_kind = refl
-no_mixins Map = refl
-no_mixins Structure = refl
-no_mixins Union = refl
-no_mixins Enum = refl
-no_mixins IntEnum = refl
-no_mixins Blob = refl
-no_mixins Boolean = refl
-no_mixins text_kind = refl
-no_mixins Byte = refl
-no_mixins Short = refl
-no_mixins Integer = refl
-no_mixins Long = refl
-no_mixins Float = refl
-no_mixins Double = refl
-no_mixins BigInteger = refl
-no_mixins BigDecimal = refl
-no_mixins Timestamp = refl
-no_mixins Document = refl
+abbrev names_fit : Kind → Bool
+names_fit kind = (are_known (layout_of (Defined kind)) (shape_names kind) && all_differ (shape_names kind)) && (are_apart kind && are_other kind)
 
-no_traits : (kind : Kind) → stands_in traits_name (names_before kind) ≡ false
-no_traits Operation = refl
-no_traits Service = refl
-no_traits Resource = refl
-no_traits list_kind = refl
-no_traits Map = refl
-no_traits Structure = refl
-no_traits Union = refl
-no_traits Enum = refl
-no_traits IntEnum = refl
-no_traits Blob = refl
-no_traits Boolean = refl
-no_traits text_kind = refl
-no_traits Byte = refl
-no_traits Short = refl
-no_traits Integer = refl
-no_traits Long = refl
-no_traits Float = refl
-no_traits Double = refl
-no_traits BigInteger = refl
-no_traits BigDecimal = refl
-no_traits Timestamp = refl
-no_traits Document = refl
+they_fit : (kind : Kind) → names_fit kind ≡ true
+they_fit Operation = refl
+they_fit Service = refl
+they_fit Resource = refl
+they_fit list_kind = refl
+they_fit Map = refl
+they_fit Structure = refl
+they_fit Union = refl
+they_fit Enum = refl
+they_fit IntEnum = refl
+they_fit Blob = refl
+they_fit Boolean = refl
+they_fit text_kind = refl
+they_fit Byte = refl
+they_fit Short = refl
+they_fit Integer = refl
+they_fit Long = refl
+they_fit Float = refl
+they_fit Double = refl
+they_fit BigInteger = refl
+they_fit BigDecimal = refl
+they_fit Timestamp = refl
+they_fit Document = refl
 
-no_fields_first : (kind : Kind) → are_unnamed (property_forms kind) ((type_name ∷ []) ++ form_names (member_form kind)) ≡ true
-no_fields_first Operation = refl
-no_fields_first Service = refl
-no_fields_first Resource = refl
-no_fields_first list_kind = refl
-no_fields_first Map = refl
-no_fields_first Structure = refl
-no_fields_first Union = refl
-no_fields_first Enum = refl
-no_fields_first IntEnum = refl
-no_fields_first Blob = refl
-no_fields_first Boolean = refl
-no_fields_first text_kind = refl
-no_fields_first Byte = refl
-no_fields_first Short = refl
-no_fields_first Integer = refl
-no_fields_first Long = refl
-no_fields_first Float = refl
-no_fields_first Double = refl
-no_fields_first BigInteger = refl
-no_fields_first BigDecimal = refl
-no_fields_first Timestamp = refl
-no_fields_first Document = refl
+module _ (kind : Kind) where
+  first_fit : (are_known (layout_of (Defined kind)) (shape_names kind) && all_differ (shape_names kind)) ≡ true
+  first_fit = (both_true (are_known (layout_of (Defined kind)) (shape_names kind) && all_differ (shape_names kind))
+      (are_apart kind && are_other kind) (they_fit kind)).0
 
-no_fields_last : (kind : Kind) → are_unnamed (property_forms kind) (traits_name ∷ []) ≡ true
-no_fields_last Operation = refl
-no_fields_last Service = refl
-no_fields_last Resource = refl
-no_fields_last list_kind = refl
-no_fields_last Map = refl
-no_fields_last Structure = refl
-no_fields_last Union = refl
-no_fields_last Enum = refl
-no_fields_last IntEnum = refl
-no_fields_last Blob = refl
-no_fields_last Boolean = refl
-no_fields_last text_kind = refl
-no_fields_last Byte = refl
-no_fields_last Short = refl
-no_fields_last Integer = refl
-no_fields_last Long = refl
-no_fields_last Float = refl
-no_fields_last Double = refl
-no_fields_last BigInteger = refl
-no_fields_last BigDecimal = refl
-no_fields_last Timestamp = refl
-no_fields_last Document = refl
+  last_fit : (are_apart kind && are_other kind) ≡ true
+  last_fit = (both_true (are_known (layout_of (Defined kind)) (shape_names kind) && all_differ (shape_names kind))
+      (are_apart kind && are_other kind) (they_fit kind)).1
+
+  names_are_known : are_known (layout_of (Defined kind)) (shape_names kind) ≡ true
+  names_are_known = (both_true (are_known (layout_of (Defined kind)) (shape_names kind)) (all_differ (shape_names kind)) first_fit).0
+
+  names_all_differ : all_differ (shape_names kind) ≡ true
+  names_all_differ = (both_true (are_known (layout_of (Defined kind)) (shape_names kind)) (all_differ (shape_names kind)) first_fit).1
+
+  names_apart : (not (stands_in mixins_name (shape_names kind)) ≡ true) × (not (stands_in traits_name (names_before kind)) ≡ true)
+  names_apart =
+      both_true (not (stands_in mixins_name (shape_names kind))) (not (stands_in traits_name (names_before kind)))
+      (both_true (are_apart kind) (are_other kind) last_fit).0
+
+  no_mixins : stands_in mixins_name (shape_names kind) ≡ false
+  no_mixins = not_true (stands_in mixins_name (shape_names kind)) names_apart.0
+
+  no_traits : stands_in traits_name (names_before kind) ≡ false
+  no_traits = not_true (stands_in traits_name (names_before kind)) names_apart.1
+
+  names_other : (are_unnamed (property_forms kind) ((type_name ∷ []) ++ form_names (member_form kind)) ≡ true)
+      × (are_unnamed (property_forms kind) (traits_name ∷ []) ≡ true)
+  names_other =
+      both_true (are_unnamed (property_forms kind) ((type_name ∷ []) ++ form_names (member_form kind)))
+      (are_unnamed (property_forms kind) (traits_name ∷ [])) (both_true (are_apart kind) (are_other kind) last_fit).1
 
 fields_among : (kind : Kind) → AreAmong (property_forms kind) (property_forms kind)
 fields_among Operation = (refl, (refl, (refl, tt)))
@@ -332,10 +255,10 @@ module _ (id : List ℕ) (kind : Kind) (ms : List FoundMember) (body : Members) 
       subst (λ ps. PropertyPairsSay (property_forms kind) (members_of ps) (raw_members_of (body_said (property_forms kind) body)))
           (sym (append_assoc (head ++ in_form) fields_written (written_traits ts)))
           (passed_over (property_forms kind) (head ++ in_form) (fields_written ++ written_traits ts) _
-          (unnamed_within (property_forms kind) (head ++ in_form) ((type_name ∷ []) ++ form_names (member_form kind)) first_within (no_fields_first kind))
+          (unnamed_within (property_forms kind) (head ++ in_form) ((type_name ∷ []) ++ form_names (member_form kind)) first_within (names_other kind).0)
           (fields_say (property_forms kind) (property_forms kind) (fields_among kind) body h.fields (written_traits ts)
           (all_passed_over (property_forms kind) (written_traits ts)
-          (unnamed_within (property_forms kind) (written_traits ts) (traits_name ∷ []) (traits_within ts) (no_fields_last kind))))),
+          (unnamed_within (property_forms kind) (written_traits ts) (traits_name ∷ []) (traits_within ts) (names_other kind).1)))),
     );
     traits = traits_behind before ts traits_later h.traits.ids;
   }
