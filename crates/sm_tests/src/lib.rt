@@ -7,6 +7,8 @@ mod codec;
 #[cfg(test)]
 mod io;
 #[cfg(test)]
+mod models;
+#[cfg(test)]
 mod shapes;
 #[cfg(test)]
 mod tree;
