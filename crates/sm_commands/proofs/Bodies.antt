@@ -1,22 +1,20 @@
 -- What the steps of the command `body` come to, joined: the answers of src/body.rt and src/opening.rt cite it.
 use Rattle.std.proofs.Common.{◌≡◌, ℕ, ◌<◌, ◌≤◌, inl, inr, List, ◌∷◌, ◌++◌, Option, Some, None, Result, Ok, Err, IfSome, length, sym, ap, subst, ◌∙◌, ◌+◌, refl, arith, append-nil}
-use Rattle.std.specs.Prelude.{slice_get, IsSomeAnd, replicate}
+use Rattle.std.specs.Prelude.{slice_get}
 use Rattle.std.proofs.lemmas.Option.{slice_get_within}
-use Rattle.std.proofs.lemmas.List.{length-map, length-replicate}
+use Rattle.std.proofs.lemmas.List.{length-map}
 use Rattle.std.specs.Global.{Vec}
 use Rattle.sm_io.specs.Causes.{Rose}
-use Rattle.sm_io.specs.Files.{Folder, Holds, HoldsLonger, file_at}
+use Rattle.sm_io.specs.Files.{Holds}
 use Rattle.sm_io.specs.Reading.{Empties}
 use Rattle.sm_tree.specs.Node.{Node}
 use Rattle.sm_tree.specs.declared.path.Step.{Step}
-use Rattle.sm_tree.specs.declared.NoMemory.{NoMemory as OutOfMemory}
+use Rattle.sm_tree.specs.View.{node_of}
+use Rattle.sm_tree.specs.declared.tree.Tree.{Tree}
 use Rattle.sm_tree.specs.declared.refusal.SyntaxRefusal.{SyntaxRefusal}
-use Rattle.sm_tree.specs.declared.refusal.SyntaxRefusal.TheVariants.{Bad, Ended, TooDeep, KeyKind, NoMemory as no_room}
-use Rattle.sm_tree.specs.Syntax.{IsRead, IsRefused, Reads}
-use Rattle.sm_tree.proofs.OneAnswer.{refused_no_text}
+use Rattle.sm_tree.specs.Syntax.{IsRead, IsRefused}
 use Rattle.sm_json.specs.JsonText.{JsonText, json_syntax}
 use Rattle.sm_json.specs.Written.{written}
-use Rattle.sm_json.proofs.OneTree.{one_tree}
 use Rattle.sm_shapes.specs.Val.{Val}
 use Rattle.sm_shapes.specs.Tables.{shape_count}
 use Rattle.sm_shapes.specs.declared.table.Table.{Table}
@@ -25,27 +23,30 @@ use Rattle.sm_commands.specs.Leaves.{json_leaf}
 use Rattle.sm_commands.specs.Spelling.{Spells}
 use Rattle.sm_commands.specs.Faults.{FaultAt, faults}
 use Rattle.sm_commands.specs.Encoded.{encoded_tree, json_written}
-use Rattle.sm_commands.specs.FirstForm.{FirstForm}
 use Rattle.sm_commands.specs.ReadModel.{ReadsModel}
-use Rattle.sm_commands.specs.Lines.{unbuilt_line, no_shape_line, fault_line, syntax_line, file_limit_line, body_limit_line}
+use Rattle.sm_commands.specs.Lines.{unbuilt_line, no_shape_line, fault_line, syntax_line, body_limit_line}
 use Rattle.sm_io.specs.Seen.{FilesSeen, Stream}
 use Rattle.sm_commands.specs.Limits.{file_limit, body_limit}
 use Rattle.sm_commands.specs.Tabled.{table_of}
 use Rattle.sm_commands.specs.Commands.{body_command}
 use Rattle.sm_commands.specs.Answer.{Answer, done, refused, came}
 use Rattle.sm_commands.specs.Answer.InputUse.{untouched, to_its_end, past_its_limit}
-use Rattle.sm_commands.specs.Stages.{EndsInJson, IsUnbuilt, ShapeChosen}
+use Rattle.sm_commands.specs.Stages.{ShapeChosen}
+use Rattle.sm_commands.specs.NoTree.{NoTree}
 use Rattle.sm_commands.specs.Convention.{json}
 use Rattle.sm_commands.specs.Body.{ModelAnswers, TextAnswers}
-use Rattle.sm_commands.specs.Body.ModelAnswers.{long_file, unbuilt, no_shape}
+use Rattle.sm_commands.specs.Body.ModelAnswers.{long_file, no_tree, unbuilt, no_shape}
 use Rattle.sm_commands.specs.Body.TextAnswers.{no_text, fault, value}
 use Rattle.sm_commands.specs.Body.BodySays.{by_model, long_input, by_text}
 use Rattle.sm_commands.specs.Run.{Answers, ReadFails, StopsShort}
 use Rattle.sm_commands.specs.steps.CommandSteps.{StepStops, StepComesTo, EndsWithLine, EndsWithLimit, ComesTo}
-use Rattle.sm_commands.specs.steps.BodySteps.{TreeAnswers, ReadsModelFile, HoldsModel, RefusesFile, OpensModel, InputSays, InputComesTo}
+use Rattle.sm_commands.specs.steps.FileSteps.{PassesLimit, OpensFile, OpensTree}
+use Rattle.sm_commands.specs.steps.BodySteps.{TreeAnswers, TextStops, ReadsModelFile, HoldsModel, RefusesFile, OpensModel, InputSays, InputComesTo}
+use Rattle.sm_commands.specs.steps.BodySteps.TextStops.{without_tree, without_model}
 use Rattle.sm_commands.specs.steps.BodySteps.InputSays.{beyond, whole}
 use Rattle.sm_commands.specs.declared.model.structures.FirstModel.{FirstModel}
 use Rattle.sm_commands.specs.declared.stop.Stop.{Stop}
+use Rattle.sm_commands.proofs.LongFiles.{long_list}
 use Rattle.sm_commands.proofs.Stops.{line_stops, limit_stops, stops_map, comes_map}
 use Rattle.sm_commands.proofs.Shaped.{shape_count_is}
 
@@ -64,55 +65,42 @@ pub tree_comes : (t : Table) (s : ℕ) (n : Node) (body : List ℕ) (result : Re
 tree_comes t s n body result read h = comes_map (TreeAnswers t s n) (TextAnswers json json t s body) ⊥ ⊥ (Unit {0}) (Unit {0}) result
     (λ a says. says body read) (λ x. x) (λ x. x) h
 
-pub refused_so : (body : List ℕ) (refusal : SyntaxRefusal) → Reads json_syntax body (Err refusal) → (refusal ≡ no_room → ⊥)
-    → IsRefused json_syntax body refusal
-refused_so body (Bad at) h other = h
-refused_so body Ended h other = h
-refused_so body (TooDeep at) h other = h
-refused_so body (KeyKind at) h other = h
-refused_so body no_room h other = other refl
-
 pub text_stops : (t : Table) (s : ℕ) (body : List ℕ) (refusal : SyntaxRefusal) (stop : Stop) → IsRefused json_syntax body refusal
     → EndsWithLine (syntax_line refusal) stop → StepStops (TextAnswers json json t s body) ⊥ (Unit {0}) stop
 text_stops t s body refusal stop is ends =
     line_stops (TextAnswers json json t s body) ⊥ (Unit {0}) (syntax_line refusal) stop (no_text refusal is refl) tt ends
 
--- the model that the tree of a file says
-pub model_read : (name file : List ℕ) (n : Node) (result : Result (Option FirstModel) OutOfMemory) → EndsInJson name
-    → IsRead JsonText n file → ReadsModel n result → ReadsModelFile name file result
-model_read name file n (Ok (Some m)) named read h = (named, (n, read, h))
-model_read name file n (Ok None) named read h =
-    λ named o m text form. h m (subst (λ x. FirstForm x m) (one_tree o n file text.0 read.0) form)
-model_read name file n (Err e) named read h = tt
+-- the model that the tree of a file says, or that it says none
+pub model_found : (name file : List ℕ) (tree : Tree) (m : FirstModel) → OpensTree name file (Ok tree) → ReadsModel (node_of tree) (Ok (Some m))
+    → ReadsModelFile name file (Ok m)
+model_found name file tree m opens read = (opens.0, (node_of tree, opens.1, read))
 
--- a file that is no text
-pub no_model_text : (name file : List ℕ) (refusal : SyntaxRefusal) → IsRefused json_syntax file refusal → IsUnbuilt name file
-no_model_text name file refusal is named n m text form = refused_no_text json_syntax file refusal is n text
+pub model_missing : (name file : List ℕ) (tree : Tree) (stop : Stop) → OpensTree name file (Ok tree) → ReadsModel (node_of tree) (Ok None)
+    → EndsWithLine (unbuilt_line name) stop → ReadsModelFile name file (Err stop)
+model_missing name file tree stop opens none ends =
+    line_stops (TextStops name file) ⊥ (Unit {0}) (unbuilt_line name) stop (without_model opens.0 (node_of tree) opens.1 none refl) tt ends
 
--- a list of any length
-long_list : (n : ℕ) → (xs : List ℕ) × (length xs ≡ n)
-long_list n = (replicate n 0, length-replicate n 0)
+-- a file that gives no tree
+pub tree_missing : (name file : List ℕ) (stop : Stop) → OpensTree name file (Err stop) → ReadsModelFile name file (Err stop)
+tree_missing name file stop h =
+    stops_map (NoTree name file) (TextStops name file) ⊥ ⊥ (Unit {0}) (Unit {0}) stop (λ a says. without_tree says) (λ x. x) (λ x. x) h
 
--- a file that is longer than the limit, where told or not; and such an input
-pub longer_file : (told : Option Folder) (name : List ℕ) (limit : ℕ) → HoldsLonger told name limit
-    → (file : List ℕ) × Holds told name (Some file) × (limit < length file)
-longer_file None name limit h = let w = long_list (limit + 1) in (w.0, tt, omega (arith, w.1))
-longer_file (Some folder) name limit h = at_file (file_at folder name) h
-  where
-    at_file : (content : Option (List ℕ)) → IsSomeAnd content (λ bytes. limit < length bytes)
-        → (file : List ℕ) × (content ≡ Some file) × (limit < length file)
-    at_file None h = absurd h
-    at_file (Some bytes) h = (bytes, refl, h)
-
+-- an input that is longer than the limit, where told or not
 longer_input : (left : Option (List ℕ)) (limit : ℕ) → IfSome left (λ bytes. limit < length bytes)
     → (input : List ℕ) × IfSome left (λ bytes. bytes ≡ input) × (limit < length input)
 longer_input None limit h = let w = long_list (limit + 1) in (w.0, tt, omega (arith, w.1))
 longer_input (Some bytes) limit h = (bytes, refl, h)
 
--- the file's model, or its refusal
-pub file_opens : (files files1 : FilesSeen) (name file : List ℕ) (read : FirstModel) → Holds files.held name (Some file)
-    → length file ≤ file_limit → ReadsModelFile name file (Ok (Some read)) → OpensModel files files1 name (Ok read)
-file_opens files files1 name file read held within (named, (n, is_read, model)) = record {
+-- the model of a file that was read, or its answer
+text_answers : (files : FilesSeen) (name shape file : List ℕ) (a : Answer) → Holds files.held name (Some file) → length file ≤ file_limit
+    → TextStops name file a → ModelAnswers files.held name shape a
+text_answers files name shape file a held within (without_tree says) = no_tree (record { bytes = file; held = held; within = within }) says
+text_answers files name shape file a held within (without_model named n read none is) =
+    unbuilt (record { file = record { bytes = file; held = held; within = within }; is_json = named; tree = n; is_text = read }) none is
+
+pub model_opens : (files files1 : FilesSeen) (name file : List ℕ) (result : Result FirstModel Stop) → Holds files.held name (Some file)
+    → length file ≤ file_limit → ReadsModelFile name file result → OpensModel files files1 name result
+model_opens files files1 name file (Ok read) held within (named, (n, is_read, model)) = record {
   read = record {
     text = record { file = record { bytes = file; held = held; within = within }; is_json = named; tree = n; is_text = is_read };
     m = model.model;
@@ -122,18 +110,15 @@ file_opens files files1 name file read held within (named, (n, is_read, model)) 
   shaped = model.shaped;
   names = model.names;
 }
+model_opens files files1 name file (Err stop) held within h =
+    stops_map (TextStops name file) (RefusesFile files.held name) ⊥ (Rose files.faults files1.faults) (Unit {0}) (Unit {0}) stop
+    (λ a says shape. text_answers files name shape file a held within says) (λ x. absurd x) (λ x. x) h
 
-pub file_unbuilt : (files files1 : FilesSeen) (name file : List ℕ) (stop : Stop) → Holds files.held name (Some file)
-    → length file ≤ file_limit → IsUnbuilt name file → EndsWithLine (unbuilt_line name) stop → OpensModel files files1 name (Err stop)
-file_unbuilt files files1 name file stop held within none ends =
-    line_stops (RefusesFile files.held name) (Rose files.faults files1.faults) (Unit {0}) (unbuilt_line name) stop
-    (λ shape. unbuilt (record { bytes = file; held = held; within = within }) none refl) tt ends
-
-pub file_past : (files files1 : FilesSeen) (name : List ℕ) (stop : Stop) → HoldsLonger files.held name file_limit
-    → EndsWithLimit file_limit_line stop → OpensModel files files1 name (Err stop)
-file_past files files1 name stop long ends = let w = longer_file files.held name file_limit long in
-    limit_stops (RefusesFile files.held name) (Rose files.faults files1.faults) (Unit {0}) file_limit_line stop
-    (λ shape. long_file w.0 w.1 w.2 refl) tt ends
+pub file_stops : (files files1 : FilesSeen) (name : List ℕ) (stop : Stop) → OpensFile files files1 name (Err stop)
+    → OpensModel files files1 name (Err stop)
+file_stops files files1 name stop h =
+    stops_map (PassesLimit files.held name) (RefusesFile files.held name) (Rose files.faults files1.faults) (Rose files.faults files1.faults)
+    (Unit {0}) (Unit {0}) stop (λ a says shape. long_file says.0 says.1) (λ rose. rose) (λ short. short) h
 
 -- the whole input was read: a text that answers, and one that is too long
 emptied : (left rest : Option (List ℕ)) (body : List ℕ) → Empties left rest body → IfSome left (λ bytes. bytes ≡ body)

@@ -20,6 +20,9 @@ pub mod SaysModel
 pub mod Forms
 pub mod OneModel
 pub mod Stops
+pub mod LongFiles
+pub mod FilesRead
+pub mod NoTrees
 pub mod Bodies
 pub mod OneForm
 pub mod Readable

@@ -1,13 +1,12 @@
 -- Files and an input come to one answer of the command `body`: at each decision two answers go the same way.
-use Rattle.std.proofs.Common.{◌≡◌, ℕ, ◌<◌, zero, suc, List, [], ◌∷◌, Some, Err, length, sym, ap, subst, ◌∙◌, refl, arith}
+use Rattle.std.proofs.Common.{◌≡◌, ℕ, ◌<◌, zero, suc, List, [], ◌∷◌, Some, length, sym, ap, subst, ◌∙◌, refl, arith}
 use Rattle.std.specs.Prelude.{slice_get}
-use Rattle.sm_io.specs.Files.{Folder, file_at}
+use Rattle.sm_io.specs.Files.{Folder}
 use Rattle.sm_tree.specs.Node.{Node}
 use Rattle.sm_tree.specs.Syntax.{IsRead, IsRefused}
 use Rattle.sm_tree.proofs.OneAnswer as syntax
 use Rattle.sm_tree.specs.declared.refusal.SyntaxRefusal.{SyntaxRefusal}
 use Rattle.sm_json.specs.JsonText.{JsonText}
-use Rattle.sm_json.proofs.OneTree.{one_tree}
 use Rattle.sm_shapes.specs.Val.{Val}
 use Rattle.sm_shapes.specs.declared.table.Table.{Table}
 use Rattle.sm_commands.specs.Spelling.{Spells}
@@ -17,15 +16,18 @@ use Rattle.sm_shapes.specs.Names.{NoneIs, AllDiffer}
 use Rattle.sm_commands.specs.FirstForm.{FirstForm, shape_names}
 use Rattle.sm_commands.specs.Convention.{Convention}
 use Rattle.sm_commands.specs.Tabled.{table_of}
-use Rattle.sm_commands.specs.Limits.{file_limit, body_limit}
+use Rattle.sm_commands.specs.Limits.{body_limit}
 use Rattle.sm_commands.specs.Lines.{fault_line, syntax_line}
 use Rattle.sm_commands.specs.Answer.{Answer, Came, done, refused, came}
 use Rattle.sm_commands.specs.Answer.InputUse.{untouched, to_its_end}
 use Rattle.sm_commands.specs.Stages.{told, FileRead, IsUnbuilt, TreeRead, ModelRead, IsShape, ShapeChosen, InputRead}
+use Rattle.sm_commands.specs.NoTree.{NoTree}
 use Rattle.sm_commands.specs.Body.{ModelAnswers, TextAnswers, BodySays}
-use Rattle.sm_commands.specs.Body.ModelAnswers.{long_file, unbuilt, no_shape}
+use Rattle.sm_commands.specs.Body.ModelAnswers.{long_file, no_tree, unbuilt, no_shape}
 use Rattle.sm_commands.specs.Body.TextAnswers.{no_text, fault, value}
 use Rattle.sm_commands.specs.Body.BodySays.{by_model, long_input, by_text}
+use Rattle.sm_commands.proofs.FilesRead.{bytes_same, tree_same, not_long}
+use Rattle.sm_commands.proofs.NoTrees.{refusal_same, no_tree_same, tree_denied}
 use Rattle.sm_commands.proofs.Readable.{IsReadable}
 use Rattle.sm_commands.proofs.Clear.{clear_where_spelled}
 use Rattle.sm_commands.proofs.Unique.{one_value}
@@ -46,14 +48,7 @@ one_place (k ∷ ks) name (suc i) zero differ a b = let is : k ≡ name = cc in
     absurd (none_at ks name i (subst (λ x. NoneIs x ks) is differ.0) a)
 one_place (k ∷ ks) name (suc i) (suc j) differ a b = ap suc (one_place ks name i j differ.1 a b)
 
--- a file that is there has one list of bytes, and holds one model
-bytes_same : (folder : Folder) (name f g : List ℕ) → file_at folder name ≡ Some f → file_at folder name ≡ Some g → f ≡ g
-bytes_same folder name f g h i = cc
-
-tree_same : (folder : Folder) (name : List ℕ) (h i : TreeRead (Some folder) name) → h.tree ≡ i.tree
-tree_same folder name h i = let one : h.file.bytes ≡ i.file.bytes = bytes_same folder name h.file.bytes i.file.bytes h.file.held i.file.held in
-    one_tree h.tree i.tree i.file.bytes (subst (λ x. JsonText h.tree x) one h.is_text.0) i.is_text.0
-
+-- a file holds one model
 read_same : (folder : Folder) (name : List ℕ) (h i : ModelRead (Some folder) name) → h.m ≡ i.m
 read_same folder name h i =
     one_model i.text.tree h.m i.m (subst (λ x. FirstForm x h.m) (tree_same folder name h.text i.text) h.form) i.form
@@ -66,48 +61,51 @@ shape_same folder name shape h i =
       one_place (shape_names i.read.m) shape h.s i.s i.read.form.differ (subst (λ x. IsShape x shape h.s) same h.named) i.named,
     )
 
--- a file within its limit isn't longer, and one that holds a model is not unbuilt
-not_long : (folder : Folder) (name file : List ℕ) (h : FileRead (Some folder) name) → file_at folder name ≡ Some file
-    → file_limit < length file → ⊥
-not_long folder name file h held long =
-    let one : file ≡ h.bytes = bytes_same folder name file h.bytes held h.held in
-    omega (arith, subst (λ x. file_limit < length x) one long, h.within)
+-- a file that holds a model gives a tree, which is not unbuilt
+not_treeless : (folder : Folder) (name : List ℕ) (a : Answer) (file : FileRead (Some folder) name) → NoTree name file.bytes a
+    → TreeRead (Some folder) name → ⊥
+not_treeless folder name a file none text =
+    tree_denied name file.bytes a none text.is_json text.tree (subst (λ x. IsRead JsonText text.tree x)
+    (bytes_same folder name text.file.bytes file.bytes text.file.held file.held) text.is_text)
 
-not_unbuilt : (folder : Folder) (name : List ℕ) (file : FileRead (Some folder) name) (h : ModelRead (Some folder) name)
-    → IsUnbuilt name file.bytes → ⊥
-not_unbuilt folder name file h none =
-    none h.text.is_json h.text.tree h.m (subst (λ x. IsRead JsonText h.text.tree x)
-    (bytes_same folder name h.text.file.bytes file.bytes h.text.file.held file.held) h.text.is_text) h.form
+not_unbuilt : (folder : Folder) (name : List ℕ) (text : TreeRead (Some folder) name) (h : ModelRead (Some folder) name)
+    → IsUnbuilt text.tree → ⊥
+not_unbuilt folder name text h none = none h.m (subst (λ n. FirstForm n h.m) (tree_same folder name h.text text) h.form)
 
 -- one answer stands before the input
 before_same : (folder : Folder) (name shape : List ℕ) (a b : Answer) → ModelAnswers (Some folder) name shape a
     → ModelAnswers (Some folder) name shape b → a ≡ b
-before_same folder name shape a b (long_file file held long is) (long_file file1 held1 long1 is1) = is ∙ sym is1
-before_same folder name shape a b (long_file file held long is) (unbuilt h none is1) = absurd (not_long folder name file h held long)
-before_same folder name shape a b (long_file file held long is) (no_shape h none is1) = absurd (not_long folder name file h.text.file held long)
-before_same folder name shape a b (unbuilt h none is) (long_file file held long is1) = absurd (not_long folder name file h held long)
-before_same folder name shape a b (unbuilt h none is) (unbuilt i none1 is1) = is ∙ sym is1
-before_same folder name shape a b (unbuilt h none is) (no_shape i none1 is1) = absurd (not_unbuilt folder name h i none)
-before_same folder name shape a b (no_shape h none is) (long_file file held long is1) = absurd (not_long folder name file h.text.file held long)
-before_same folder name shape a b (no_shape h none is) (unbuilt i none1 is1) = absurd (not_unbuilt folder name i h none1)
+before_same folder name shape a b (long_file w is) (long_file w1 is1) = is ∙ sym is1
+before_same folder name shape a b (long_file w is) (no_tree file says) = absurd (not_long folder name w file)
+before_same folder name shape a b (long_file w is) (unbuilt text none is1) = absurd (not_long folder name w text.file)
+before_same folder name shape a b (long_file w is) (no_shape h none is1) = absurd (not_long folder name w h.text.file)
+before_same folder name shape a b (no_tree file says) (long_file w is1) = absurd (not_long folder name w file)
+before_same folder name shape a b (no_tree file says) (no_tree file1 says1) =
+    no_tree_same name file1.bytes a b (subst (λ x. NoTree name x a) (bytes_same folder name file.bytes file1.bytes file.held file1.held) says) says1
+before_same folder name shape a b (no_tree file says) (unbuilt text none is1) = absurd (not_treeless folder name a file says text)
+before_same folder name shape a b (no_tree file says) (no_shape h none is1) = absurd (not_treeless folder name a file says h.text)
+before_same folder name shape a b (unbuilt text none is) (long_file w is1) = absurd (not_long folder name w text.file)
+before_same folder name shape a b (unbuilt text none is) (no_tree file says) = absurd (not_treeless folder name b file says text)
+before_same folder name shape a b (unbuilt text none is) (unbuilt text1 none1 is1) = is ∙ sym is1
+before_same folder name shape a b (unbuilt text none is) (no_shape h none1 is1) = absurd (not_unbuilt folder name text h none)
+before_same folder name shape a b (no_shape h none is) (long_file w is1) = absurd (not_long folder name w h.text.file)
+before_same folder name shape a b (no_shape h none is) (no_tree file says) = absurd (not_treeless folder name b file says h.text)
+before_same folder name shape a b (no_shape h none is) (unbuilt text none1 is1) = absurd (not_unbuilt folder name text h none1)
 before_same folder name shape a b (no_shape h none is) (no_shape i none1 is1) = is ∙ sym is1
 
 -- or the shape is there
 before_apart : (folder : Folder) (name shape : List ℕ) (a : Answer) → ModelAnswers (Some folder) name shape a
     → ShapeChosen (Some folder) name shape → ⊥
-before_apart folder name shape a (long_file file held long is) h = not_long folder name file h.read.text.file held long
-before_apart folder name shape a (unbuilt file none is) h = not_unbuilt folder name file h.read none
+before_apart folder name shape a (long_file w is) h = not_long folder name w h.read.text.file
+before_apart folder name shape a (no_tree file says) h = not_treeless folder name a file says h.read.text
+before_apart folder name shape a (unbuilt text none is) h = not_unbuilt folder name text h.read none
 before_apart folder name shape a (no_shape read none is) h =
     none h.s (subst (λ x. IsShape x shape h.s) (read_same folder name h.read read) h.named)
 
 -- no text has a tree
-no_tree : (near : Convention) (body : List ℕ) (refusal : SyntaxRefusal) (n : Node) → IsRefused near.syntax body refusal
+no_body : (near : Convention) (body : List ℕ) (refusal : SyntaxRefusal) (n : Node) → IsRefused near.syntax body refusal
     → IsRead near.syntax.text n body → ⊥
-no_tree near body refusal n is read = syntax.refused_no_text near.syntax body refusal is n read
-
-refusal_same : (near : Convention) → IsReadable near → (body : List ℕ) (r q : SyntaxRefusal) → IsRefused near.syntax body r
-    → IsRefused near.syntax body q → r ≡ q
-refusal_same near one body r q h i = let same : Err r ≡ Err q = syntax.one_answer near.syntax one.reading body (Err r) (Err q) h i in cc
+no_body near body refusal n is read = syntax.refused_no_text near.syntax body refusal is n read
 
 -- a tree with a fault spells no value
 fault_apart : (near : Convention) → IsReadable near → (t : Table) (s : ℕ) (n m : Node) (v : Val) (x : FaultAt) (later : List FaultAt)
@@ -125,10 +123,10 @@ first_same x y xs ys e = cc
 -- a body has one answer
 text_same : (near far : Convention) → IsReadable near → (t : Table) (s : ℕ) (body : List ℕ) (a b : Answer) → TextAnswers near far t s body a
     → TextAnswers near far t s body b → a ≡ b
-text_same near far one t s body a b (no_text r h is) (no_text q i is1) = is ∙ ap (λ x. refused (syntax_line x)) (refusal_same near one body r q h i) ∙ sym is1
-text_same near far one t s body a b (no_text r h is) (fault n path kind later read first is1) = absurd (no_tree near body r n h read)
-text_same near far one t s body a b (no_text r h is) (value n v read spells is1) = absurd (no_tree near body r n h read)
-text_same near far one t s body a b (fault n path kind later read first is) (no_text r h is1) = absurd (no_tree near body r n h read)
+text_same near far one t s body a b (no_text r h is) (no_text q i is1) = is ∙ ap (λ x. refused (syntax_line x)) (refusal_same near.syntax one.reading body r q h i) ∙ sym is1
+text_same near far one t s body a b (no_text r h is) (fault n path kind later read first is1) = absurd (no_body near body r n h read)
+text_same near far one t s body a b (no_text r h is) (value n v read spells is1) = absurd (no_body near body r n h read)
+text_same near far one t s body a b (fault n path kind later read first is) (no_text r h is1) = absurd (no_body near body r n h read)
 text_same near far one t s body a b (fault n path kind later read first is) (fault m path1 kind1 later1 read1 first1 is1) =
     let trees : n ≡ m = one.reading n m body read.0 read1.0 in
     let head : FaultAt = (path, kind) in
@@ -137,7 +135,7 @@ text_same near far one t s body a b (fault n path kind later read first is) (fau
     (first_same head head1 later later1 (sym first ∙ ap (λ y. faults t near.leaf y s) trees ∙ first1)) ∙ sym is1
 text_same near far one t s body a b (fault n path kind later read first is) (value m v read1 spells is1) =
     absurd (fault_apart near one t s n m v (path, kind) later body read read1 first spells)
-text_same near far one t s body a b (value n v read spells is) (no_text r h is1) = absurd (no_tree near body r n h read)
+text_same near far one t s body a b (value n v read spells is) (no_text r h is1) = absurd (no_body near body r n h read)
 text_same near far one t s body a b (value m v read1 spells is) (fault n path kind later read first is1) =
     absurd (fault_apart near one t s n m v (path, kind) later body read read1 first spells)
 text_same near far one t s body a b (value n v read spells is) (value m w read1 spells1 is1) =

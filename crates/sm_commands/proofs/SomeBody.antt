@@ -8,22 +8,21 @@ use Rattle.sm_tree.specs.Node.{Node}
 use Rattle.sm_tree.specs.Syntax.{IsRead, ComesTo}
 use Rattle.sm_tree.proofs.SomeAnswer as syntax
 use Rattle.sm_tree.specs.declared.refusal.SyntaxRefusal.{SyntaxRefusal}
-use Rattle.sm_json.specs.JsonText.{JsonText}
 use Rattle.sm_shapes.specs.declared.table.Table.{Table}
 use Rattle.sm_commands.specs.Faults.{FaultAt, faults}
 use Rattle.sm_commands.specs.Encoded.{encoded_tree}
 use Rattle.sm_commands.specs.Convention.{Convention}
-use Rattle.sm_commands.specs.FirstForm.{ModelStructure, FirstForm}
 use Rattle.sm_commands.specs.Tabled.{table_of}
 use Rattle.sm_commands.specs.Lines.{unbuilt_line, no_shape_line, fault_line, syntax_line, file_limit_line, body_limit_line}
 use Rattle.sm_commands.specs.Limits.{file_limit, body_limit}
 use Rattle.sm_commands.specs.Answer.{Answer, Came, done, refused, past, came}
 use Rattle.sm_commands.specs.Answer.InputUse.{untouched, to_its_end, past_its_limit}
-use Rattle.sm_commands.specs.Stages.{told, EndsInJson, FileRead, ModelRead, ShapeChosen}
+use Rattle.sm_commands.specs.Stages.{told, FileRead, TreeRead, ShapeChosen}
 use Rattle.sm_commands.specs.Body.{TextAnswers, BodySays}
-use Rattle.sm_commands.specs.Body.ModelAnswers.{long_file, unbuilt, no_shape}
+use Rattle.sm_commands.specs.Body.ModelAnswers.{long_file, no_tree, unbuilt, no_shape}
 use Rattle.sm_commands.specs.Body.TextAnswers.{no_text, fault, value}
 use Rattle.sm_commands.specs.Body.BodySays.{by_model, long_input, by_text}
+use Rattle.sm_commands.proofs.NoTrees.{tree_or_none}
 use Rattle.sm_commands.proofs.Readable.{IsReadable}
 use Rattle.sm_commands.proofs.Clear.{spelled_where_clear}
 
@@ -57,25 +56,26 @@ input_answered near far one folder name shape input chosen none = elim (cases_lt
       (by_text (record { chosen = chosen; bytes = input; is_input = refl; within = within }) a says refl))
 ]
 
+-- a tree that says no model, and a model without the shape
+tree_answered_by : (near far : Convention) → IsReadable near → (folder : Folder) (name shape input : List ℕ) → TreeRead (Some folder) name
+    → ((c : Came) → BodySays near far (told (Some folder) (Some input)) name shape c → ⊥) → ⊥
+tree_answered_by near far one folder name shape input text none =
+    none (came untouched (refused (unbuilt_line name))) (by_model (refused (unbuilt_line name)) (unbuilt text (λ m form.
+    none (came untouched (refused (no_shape_line shape))) (by_model (refused (no_shape_line shape))
+    (no_shape (record { text = text; m = m; form = form }) (λ s is. input_answered near far one folder name shape input
+    (record { read = record { text = text; m = m; form = form }; s = s; named = is }) none) refl) refl)) refl) refl)
+
 -- a file within the limit
 within_answered : (near far : Convention) → IsReadable near → (folder : Folder) (name shape input : List ℕ) → FileRead (Some folder) name
     → ((c : Came) → BodySays near far (told (Some folder) (Some input)) name shape c → ⊥) → ⊥
 within_answered near far one folder name shape input file none =
-    none (came untouched (refused (unbuilt_line name))) (by_model (refused (unbuilt_line name))
-    (unbuilt file (λ named n m text form.
-    none (came untouched (refused (no_shape_line shape))) (by_model (refused (no_shape_line shape))
-    (no_shape (model_of n m named text form) (λ s is.
-    input_answered near far one folder name shape input (record { read = model_of n m named text form; s = s; named = is }) none)
-    refl) refl)) refl) refl)
-  where
-    model_of : (n : Node) (m : List ModelStructure) → EndsInJson name → IsRead JsonText n file.bytes → FirstForm n m
-        → ModelRead (Some folder) name
-    model_of n m named text form =
-        record { text = record { file = file; is_json = named; tree = n; is_text = text }; m = m; form = form }
+    tree_or_none name file.bytes (λ a says. none (came untouched a) (by_model a (no_tree file says) refl))
+    (λ named n read. tree_answered_by near far one folder name shape input
+    (record { file = file; is_json = named; tree = n; is_text = read }) none)
 
 pub body_answered : (near far : Convention) → IsReadable near → (folder : Folder) (name shape input file : List ℕ) → file_at folder name ≡ Some file
     → ((c : Came) → BodySays near far (told (Some folder) (Some input)) name shape c → ⊥) → ⊥
 body_answered near far one folder name shape input file held none = elim (cases_lt file_limit (length file)) [
-  | inl long ↦ none (came untouched (past file_limit_line)) (by_model (past file_limit_line) (long_file file held long refl) refl)
+  | inl long ↦ none (came untouched (past file_limit_line)) (by_model (past file_limit_line) (long_file (record { bytes = file; held = held; long = long }) refl) refl)
   | inr within ↦ within_answered near far one folder name shape input (record { bytes = file; held = held; within = within }) none
 ]

@@ -1,7 +1,7 @@
--- What the command `body` comes to, over bytes alone. The decisions stand in their order: the file's length, the model, the
--- shape; the input's length, its syntax, its faults.
-use Rattle.std.specs.Prelude.{◌≡◌, ℕ, ◌<◌, List, ◌∷◌, Option, Some, length}
-use Rattle.sm_io.specs.Files.{Folder, Holds}
+-- What the command `body` comes to, over bytes alone. The decisions stand in their order: the file's length, its name and
+-- text, the model, the shape; the input's length, its syntax, its faults.
+use Rattle.std.specs.Prelude.{◌≡◌, ℕ, ◌<◌, List, ◌∷◌, Option, length}
+use Rattle.sm_io.specs.Files.{Folder}
 use Rattle.sm_tree.specs.Node.{Node}
 use Rattle.sm_tree.specs.Syntax.{IsRead, IsRefused}
 use Rattle.sm_tree.specs.declared.path.Step.{Step}
@@ -14,17 +14,18 @@ use Rattle.sm_commands.specs.Faults.{FaultAt, faults}
 use Rattle.sm_commands.specs.Encoded.{encoded_tree}
 use Rattle.sm_commands.specs.Convention.{Convention}
 use Rattle.sm_commands.specs.Tabled.{table_of}
-use Rattle.sm_commands.specs.Limits.{file_limit, body_limit}
+use Rattle.sm_commands.specs.Limits.{body_limit}
 use Rattle.sm_commands.specs.Lines.{unbuilt_line, no_shape_line, fault_line, syntax_line, file_limit_line, body_limit_line}
 use Rattle.sm_commands.specs.Answer.{Answer, Came, done, refused, past, came}
 use Rattle.sm_commands.specs.Answer.InputUse.{untouched, to_its_end, past_its_limit}
-use Rattle.sm_commands.specs.Stages.{Told, IsInput, FileRead, IsUnbuilt, ModelRead, IsNoShape, ShapeChosen, InputRead}
+use Rattle.sm_commands.specs.NoTree.{NoTree}
+use Rattle.sm_commands.specs.Stages.{Told, IsInput, FileTooLong, FileRead, TreeRead, IsUnbuilt, ModelRead, IsNoShape, ShapeChosen, InputRead}
 
 -- the answers that stand before the input, in this order
 pub data ModelAnswers (files : Option Folder) (name shape : List ℕ) (a : Answer) : Type 0 where
-  long_file : (file : List ℕ) → Holds files name (Some file) → file_limit < length file → a ≡ past file_limit_line
-      → ModelAnswers files name shape a
-  unbuilt : (file : FileRead files name) → IsUnbuilt name file.bytes → a ≡ refused (unbuilt_line name) → ModelAnswers files name shape a
+  long_file : FileTooLong files name → a ≡ past file_limit_line → ModelAnswers files name shape a
+  no_tree : (file : FileRead files name) → NoTree name file.bytes a → ModelAnswers files name shape a
+  unbuilt : (text : TreeRead files name) → IsUnbuilt text.tree → a ≡ refused (unbuilt_line name) → ModelAnswers files name shape a
   no_shape : (read : ModelRead files name) → IsNoShape read.m shape → a ≡ refused (no_shape_line shape) → ModelAnswers files name shape a
 
 -- the answer to a body of the near side for the shape s of the table t: the word and the place by which it is no text of

@@ -15,6 +15,7 @@ pub mod CodecLaws
 pub mod Convention
 pub mod Answer
 pub mod Stages
+pub mod NoTree
 pub mod Body
 pub mod Says
 pub mod Run

@@ -26,13 +26,17 @@ no_shape_line shape = line (codes "NoShape") shape
 abbrev pub fault_line : List Step → FaultKind → List ℕ
 fault_line path kind = line (codes "Fault") (pointer path ++ (space ∷ fault_word kind))
 
--- a body that is no text; of JSON no `KeyKind` comes, and `NoMemory` is no refusal of a body
+-- why bytes are no text; of JSON no `KeyKind` comes, and `NoMemory` is no refusal of a body
 abbrev pub syntax_text : SyntaxRefusal → List ℕ
 syntax_text (Bad at) = codes "Bad " ++ decimal at
 syntax_text Ended = codes "Ended"
 syntax_text (TooDeep at) = codes "TooDeep " ++ decimal at
 syntax_text (KeyKind at) = codes "KeyKind " ++ decimal at
 syntax_text NoMemory = codes "NoMemory"
+
+-- a model file that is no JSON text: the file's name, the word and the place
+abbrev pub json_line : List ℕ → SyntaxRefusal → List ℕ
+json_line file refusal = line file (codes "Json " ++ syntax_text refusal)
 
 abbrev pub syntax_line : SyntaxRefusal → List ℕ
 syntax_line refusal = line (codes "Syntax") (syntax_text refusal)

@@ -1,6 +1,6 @@
 -- How far a command has come, over bytes alone. Each stage holds the one before it, so no condition is said twice: a
 -- refusal takes the last stage that was reached, and its own cause.
-use Rattle.std.specs.Prelude.{◌≡◌, ℕ, ◌≤◌, List, ◌++◌, codes, Option, Some, IfSome, slice_get, length}
+use Rattle.std.specs.Prelude.{◌≡◌, ℕ, ◌<◌, ◌≤◌, List, ◌++◌, codes, Option, Some, IfSome, slice_get, length}
 use Rattle.sm_io.specs.Files.{Folder, Holds}
 use Rattle.sm_tree.specs.Node.{Node}
 use Rattle.sm_tree.specs.Syntax.{IsRead}
@@ -26,6 +26,12 @@ pub record FileRead (files : Option Folder) (name : List ℕ) : Type 0 where
   pub held : Holds files name (Some bytes)
   pub within : length bytes ≤ file_limit
 
+-- or is there, and is longer
+pub record FileTooLong (files : Option Folder) (name : List ℕ) : Type 0 where
+  pub bytes : List ℕ
+  pub held : Holds files name (Some bytes)
+  pub long : file_limit < length bytes
+
 -- the name of a file in the JSON AST
 abbrev pub EndsInJson : List ℕ → Type 0
 EndsInJson name = (stem : List ℕ) × (name ≡ stem ++ codes ".json")
@@ -43,9 +49,9 @@ pub record ModelRead (files : Option Folder) (name : List ℕ) : Type 0 where
   pub m : List ModelStructure
   pub form : FirstForm text.tree m
 
--- a file of this name and these bytes holds no model that is read: by its name, its text, or the form of its tree
-abbrev pub IsUnbuilt : List ℕ → List ℕ → Type 0
-IsUnbuilt name bytes = EndsInJson name → (n : Node) (m : List ModelStructure) → IsRead JsonText n bytes → FirstForm n m → ⊥
+-- a tree says no model that is read: it isn't in the first form
+abbrev pub IsUnbuilt : Node → Type 0
+IsUnbuilt n = (m : List ModelStructure) → FirstForm n m → ⊥
 
 -- the structure of this name has the number s
 abbrev pub IsShape : List ModelStructure → List ℕ → ℕ → Type 0

@@ -4,5 +4,6 @@ pub mod FieldsFit
 pub mod ModelSteps
 pub mod RowsSoFar
 pub mod CommandSteps
+pub mod FileSteps
 pub mod BodySteps
 pub mod Asked

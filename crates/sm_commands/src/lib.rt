@@ -5,6 +5,7 @@
 mod body;
 pub mod codec;
 mod command;
+mod file;
 pub mod laws;
 mod lines;
 pub mod model;

@@ -1,6 +1,6 @@
 // The lines that are printed for what is refused.
 ghost use Rattle.std.specs.Prelude.{◌≡◌, IfOk, string_bytes};
-ghost use Rattle.sm_commands.specs.Lines.{line as the_line, fault_line as the_fault_line, limit_line as the_limit_line, syntax_line as the_syntax_line, syntax_text as the_syntax_text};
+ghost use Rattle.sm_commands.specs.Lines.{line as the_line, fault_line as the_fault_line, limit_line as the_limit_line, syntax_line as the_syntax_line, syntax_text as the_syntax_text, json_line as the_json_line};
 
 use sm_shapes::Fault;
 use sm_tree::{NoMemory, SyntaxRefusal};
@@ -58,4 +58,17 @@ fn syntax_text(alloc: Global, refusal: SyntaxRefusal) -> Result<String, NoMemory
         SyntaxRefusal::KeyKind(at) => Ok(format!(in alloc; "KeyKind {at}")?),
         SyntaxRefusal::NoMemory => Ok(String::from_str(alloc, "NoMemory")?),
     }
+}
+
+/// The line of a model file that is no JSON text.
+pub(crate) fn json_line(
+    alloc: Global,
+    file: &str,
+    refusal: SyntaxRefusal,
+) -> Result<Vec<u8>, NoMemory>
+    ensures { IfOk result (λ line. line.items ≡ the_json_line file.now refusal) }
+{
+    let mut text = String::from_str(alloc, "Json ")?;
+    text.push_str(syntax_text(alloc, refusal)?.as_str())?;
+    line(alloc, file, text.as_str())
 }

@@ -1,41 +1,28 @@
 // The model that a file holds. The reader of models of simple structures stands behind `open_model` alone.
-ghost use Rattle.std.specs.Prelude.{◌≡◌, ◌≤◌, ◌↔◌, IsTrue};
+ghost use Rattle.std.specs.Prelude.{◌≡◌, ◌≤◌};
 ghost use Rattle.sm_io.specs.Files.{LetsSame};
 ghost use Rattle.sm_io.specs.Seen.{files_seen};
-ghost use Rattle.sm_commands.specs.Stages.{EndsInJson};
 ghost use Rattle.sm_commands.specs.steps.BodySteps.{ReadsModelFile, OpensModel};
 
-use crate::lines::{limit_line, line};
+use crate::file::{open_file, tree_in};
+use crate::lines::line;
 use crate::model::{FirstModel, read_model};
-use crate::stop::{Stop, past, refused};
-use sm_io::{FileRefusal, Files};
-use sm_json::read_tree;
-use sm_tree::{NoMemory, SyntaxRefusal};
+use crate::stop::{Stop, refused};
+use sm_io::Files;
+use sm_tree::NoMemory;
 use std::alloc::Global;
 
-/// The greatest length of a model file, in bytes.
-const FILE_LIMIT: u64 = 4_194_304;
-
-// Whether the name is that of a file in the JSON AST.
-fn ends_in_json(name: &str) -> bool
-    ensures { IsTrue result ↔ EndsInJson name.now }
-{
-    name.as_bytes().ends_with(b".json")
-}
-
-// The model that the bytes of a file say.
-fn model_in(alloc: Global, name: &str, file: &[u8]) -> Result<Option<FirstModel>, NoMemory>
+// The model that the bytes of a file say, or the answer to them.
+fn model_in(alloc: Global, name: &str, file: &[u8]) -> Result<FirstModel, Stop>
     ensures { ReadsModelFile name.now file.now result }
 {
-    if !ends_in_json(name) {
-        return Ok(None);
-    }
-    match read_tree(alloc, file) {
-        Ok(tree) => read_model(alloc, &tree),
-        Err(refusal) => match refusal {
-            SyntaxRefusal::NoMemory => Err(NoMemory),
-            _ => Ok(None),
+    match tree_in(alloc, name, file) {
+        Ok(tree) => match read_model(alloc, &tree) {
+            Ok(Some(model)) => Ok(model),
+            Ok(None) => Err(refused(line(alloc, "Unbuilt", name))),
+            Err(NoMemory) => Err(Stop::NoMemory),
         },
+        Err(stop) => Err(stop),
     }
 }
 
@@ -56,14 +43,8 @@ pub(crate) fn open_model<F: Files>(
     ensures same_reads { LetsSame (F.lets_read files.old) (F.lets_read files.new) }
     ensures same_writes { LetsSame (F.lets_write files.old) (F.lets_write files.new) }
 {
-    match files.read(name, FILE_LIMIT) {
-        Ok(file) => match model_in(alloc, name, &file) {
-            Ok(Some(model)) => Ok(model),
-            Ok(None) => Err(refused(line(alloc, "Unbuilt", name))),
-            Err(NoMemory) => Err(Stop::NoMemory),
-        },
-        Err(FileRefusal::Failed) => Err(Stop::ReadFault),
-        Err(FileRefusal::TooLong) => Err(past(limit_line(alloc, "file", FILE_LIMIT))),
-        Err(FileRefusal::NoMemory) => Err(Stop::NoMemory),
+    match open_file(alloc, files, name) {
+        Ok(file) => model_in(alloc, name, &file),
+        Err(stop) => Err(stop),
     }
 }

@@ -1,12 +1,11 @@
 -- What the steps of the command `body` come to.
-use Rattle.std.specs.Prelude.{◌≡◌, ℕ, ◌<◌, ◌≤◌, List, Option, Some, None, Result, Ok, Err, length}
+use Rattle.std.specs.Prelude.{◌≡◌, ℕ, ◌<◌, ◌≤◌, List, Option, Result, Ok, Err, length}
 use Rattle.std.specs.Global.{Vec}
 use Rattle.std.specs.Io.KnownBytes.{IsAtEnd}
 use Rattle.sm_io.specs.Causes.{Rose}
 use Rattle.sm_io.specs.Files.{Folder}
 use Rattle.sm_io.specs.Seen.{Stream, FilesSeen}
 use Rattle.sm_tree.specs.Node.{Node}
-use Rattle.sm_tree.specs.declared.NoMemory.{NoMemory as OutOfMemory}
 use Rattle.sm_tree.specs.Syntax.{IsRead}
 use Rattle.sm_json.specs.JsonText.{JsonText}
 use Rattle.sm_shapes.specs.Tables.{Shaped}
@@ -15,9 +14,10 @@ use Rattle.sm_commands.specs.FirstForm.{shape_names}
 use Rattle.sm_commands.specs.Tabled.{table_of}
 use Rattle.sm_commands.specs.ReadModel.{IsModel}
 use Rattle.sm_commands.specs.Limits.{body_limit}
-use Rattle.sm_commands.specs.Lines.{body_limit_line}
-use Rattle.sm_commands.specs.Answer.{Answer, past}
+use Rattle.sm_commands.specs.Lines.{unbuilt_line, body_limit_line}
+use Rattle.sm_commands.specs.Answer.{Answer, refused, past}
 use Rattle.sm_commands.specs.Stages.{IsInput, EndsInJson, IsUnbuilt, ModelRead}
+use Rattle.sm_commands.specs.NoTree.{NoTree}
 use Rattle.sm_commands.specs.Convention.{json}
 use Rattle.sm_commands.specs.Body.{ModelAnswers, TextAnswers}
 use Rattle.sm_commands.specs.steps.CommandSteps.{StepStops, StepComesTo}
@@ -28,11 +28,16 @@ use Rattle.sm_commands.specs.declared.stop.Stop.{Stop}
 abbrev pub TreeAnswers : Table → ℕ → Node → Answer → Type 0
 TreeAnswers t s n a = (body : List ℕ) → IsRead JsonText n body → TextAnswers json json t s body a
 
--- the bytes of a file are this model, or none
-abbrev pub ReadsModelFile : List ℕ → List ℕ → Result (Option FirstModel) OutOfMemory → Type 0
-ReadsModelFile name file (Ok (Some m)) = EndsInJson name × ((n : Node) × IsRead JsonText n file × IsModel n m)
-ReadsModelFile name file (Ok None) = IsUnbuilt name file
-ReadsModelFile name file (Err e) = Unit {0}
+-- what the bytes of a file come to where they hold no model
+pub data TextStops (name file : List ℕ) (a : Answer) : Type 0 where
+  without_tree : NoTree name file a → TextStops name file a
+  without_model : EndsInJson name → (n : Node) → IsRead JsonText n file → IsUnbuilt n → a ≡ refused (unbuilt_line name)
+      → TextStops name file a
+
+-- the bytes of a file are this model, or come to an answer
+abbrev pub ReadsModelFile : List ℕ → List ℕ → Result FirstModel Stop → Type 0
+ReadsModelFile name file (Ok m) = EndsInJson name × ((n : Node) × IsRead JsonText n file × IsModel n m)
+ReadsModelFile name file (Err stop) = StepStops (TextStops name file) ⊥ (Unit {0}) stop
 
 -- a file of the name holds this model, with its table and its names
 pub record HoldsModel (files : Option Folder) (name : List ℕ) (model : FirstModel) : Type 0 where

@@ -1,5 +1,6 @@
 use Rattle.sm_tree.specs.View.{node_of}
-use Rattle.sm_commands.proofs.Bodies.{tree_comes, text_stops, refused_so}
+use Rattle.sm_commands.proofs.Bodies.{tree_comes, text_stops}
+use Rattle.sm_commands.proofs.NoTrees.{refused_so}
 use Rattle.sm_commands.proofs.body.canonical_body.Goals as goal
 
 pub returns-in-Ok : goal.returns-in-Ok

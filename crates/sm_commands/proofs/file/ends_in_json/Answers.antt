@@ -1,7 +1,7 @@
 use Rattle.std.proofs.Common.{sym, ◌∙◌, ◌-◌, take, length, codes}
 use Rattle.std.proofs.lemmas.Slice.Eq.{ends_is}
 use Rattle.std.proofs.lemmas.Bool.Decides.{Decides-eqb}
-use Rattle.sm_commands.proofs.opening.ends_in_json.Goals as goal
+use Rattle.sm_commands.proofs.file.ends_in_json.Goals as goal
 
 pub returns : goal.returns
 returns c =
