@@ -4,8 +4,6 @@ use crate::given::{Asked, asked_by};
 /// A row.
 #[derive(Debug, Clone, Copy)]
 pub enum Row<'a> {
-    /// An empty line, or a title (`# ..`).
-    Title,
     /// `pad N`: what the next row gives, a file's text or an input, is padded with blanks up to so many bytes.
     Pad(usize),
     /// `cut N`, `fail take N`, `fail put N`: something is asked of the next run.
@@ -21,9 +19,6 @@ pub enum Row<'a> {
 impl<'a> Row<'a> {
     /// What a line says.
     pub fn of(line: &'a str) -> Self {
-        if line.is_empty() || line.starts_with('#') {
-            return Row::Title;
-        }
         if let Some(rest) = line.strip_prefix("run") {
             return Row::run(rest);
         }

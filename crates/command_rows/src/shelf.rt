@@ -2,6 +2,8 @@
 ghost use Rattle.std.specs.Prelude.{◌≡◌, ◌≤◌, IfOk, length, take};
 
 use crate::given::{Asked, Given};
+use crate::row::Row;
+use rows::Player;
 use sm_commands::run;
 use sm_io::{Files, MemFiles};
 use sm_shapes::LiteralPatterns;
@@ -108,4 +110,17 @@ fn show(alloc: Global, put: &[u8], out: &mut String) -> Result<(), NoMemory> {
         Err(_) => out.push_str(" no text")?,
     }
     Ok(())
+}
+
+impl Player for Shelf {
+    fn play(&mut self, alloc: Global, case: &str, out: &mut String) -> Result<(), NoMemory> {
+        match Row::of(case) {
+            Row::Pad(length) => self.pad(length),
+            Row::Next(asked) => self.ask(asked),
+            Row::File(name, text) => self.keep(alloc, name, text)?,
+            Row::Run(words, input) => self.run(alloc, words, input, out)?,
+            Row::Unknown => out.push_str(" => no row")?,
+        }
+        Ok(())
+    }
 }

@@ -20,12 +20,12 @@ fn read_pieces<S: Source>(
     alloc: Global,
     source: &mut S,
     held: &mut Held,
-    begun: BodyLeft,
+    first: BodyLeft,
 ) -> Result<Vec<u8>, HttpRefusal>
-    requires { IsWithinLimit begun }
+    requires { IsWithinLimit first }
 {
     let mut body = Vec::new(alloc);
-    let mut left = begun;
+    let mut left = first;
     let mut buf = [0; 4096];
     loop {
         let count = read_piece(source, held, &mut left, &mut buf)?;

@@ -8,18 +8,16 @@ mod refusal;
 mod row;
 mod statement;
 
-use play::play_line;
+use play::Models;
+use rows::played;
+use sm_tree::NoMemory;
 use std::io;
 
 fn main(rt: HostRuntime) -> anyhow::Result<()> {
     let rows = io::read_to_string(rt.alloc(), rt.stdin())?;
-    let mut parts = String::new(rt.alloc());
-    let mut out = String::new(rt.alloc());
-    for line in rows.lines() {
-        if play_line(rt.alloc(), &mut parts, line, &mut out).is_err() {
-            anyhow::bail!("out of memory");
-        }
+    match played(rt.alloc(), &mut Models::new(rt.alloc()), &rows) {
+        Ok(out) => print!(rt; "{out}")?,
+        Err(NoMemory) => anyhow::bail!("out of memory"),
     }
-    print!(rt; "{out}")?;
     Ok(())
 }

@@ -1,4 +1,5 @@
 // Nodes of statements as a person reads them: JSON with blanks, in which an id stands without quotes.
+use rows::push_comma;
 use sm_model::RawNode;
 use sm_tree::{NoMemory, Text, Tree};
 use std::alloc::Global;
@@ -30,10 +31,7 @@ fn show_leaf(alloc: Global, leaf: &Tree, out: &mut String) -> Result<(), NoMemor
 fn show_entries(alloc: Global, items: &[RawNode], out: &mut String) -> Result<(), NoMemory> {
     let mut is_first = true;
     for item in items {
-        if !is_first {
-            out.push_str(", ")?;
-        }
-        is_first = false;
+        push_comma(&mut is_first, out)?;
         show_node(alloc, item, out)?;
     }
     Ok(())
@@ -43,10 +41,7 @@ fn show_entries(alloc: Global, items: &[RawNode], out: &mut String) -> Result<()
 fn show_pairs(alloc: Global, pairs: &[(Text, RawNode)], out: &mut String) -> Result<(), NoMemory> {
     let mut is_first = true;
     for pair in pairs {
-        if !is_first {
-            out.push_str(", ")?;
-        }
-        is_first = false;
+        push_comma(&mut is_first, out)?;
         show_text(alloc, pair.0.as_str(), out)?;
         out.push_str(": ")?;
         show_node(alloc, &pair.1, out)?;

@@ -1,7 +1,8 @@
-// What comes out for a line: the line, and behind a case its answer.
+// What stands behind a case: its answer, but for a part of a text.
 use crate::refusal::show_refusal;
 use crate::row::Row;
 use crate::statement::show_statements;
+use rows::Player;
 use sm_ast::read_ast;
 use sm_json::read_tree;
 use sm_tree::NoMemory;
@@ -19,24 +20,33 @@ fn show_model(alloc: Global, text: &str, out: &mut String) -> Result<(), NoMemor
     }
 }
 
-/// Appends what comes out for a line. `parts` is the text of the rows `part` so far.
-pub fn play_line(
-    alloc: Global,
-    parts: &mut String,
-    line: &str,
-    out: &mut String,
-) -> Result<(), NoMemory> {
-    out.push_str(line)?;
-    match Row::of(line) {
-        Row::Title => {}
-        Row::Ast(text) => show_model(alloc, text, out)?,
-        Row::Part(text) => parts.push_str(text)?,
-        Row::Parts => {
-            show_model(alloc, parts, out)?;
-            parts.clear();
+/// The models of rows.
+#[derive(Drop)]
+pub struct Models {
+    // The text of the rows `part` so far.
+    parts: String,
+}
+
+impl Models {
+    /// No part so far. No memory.
+    pub fn new(alloc: Global) -> Self {
+        Models {
+            parts: String::new(alloc),
         }
-        Row::Unknown => out.push_str(" => no row")?,
     }
-    out.push('\n')?;
-    Ok(())
+}
+
+impl Player for Models {
+    fn play(&mut self, alloc: Global, case: &str, out: &mut String) -> Result<(), NoMemory> {
+        match Row::of(case) {
+            Row::Ast(text) => show_model(alloc, text, out)?,
+            Row::Part(text) => self.parts.push_str(text)?,
+            Row::Parts => {
+                show_model(alloc, &self.parts, out)?;
+                self.parts.clear();
+            }
+            Row::Unknown => out.push_str(" => no row")?,
+        }
+        Ok(())
+    }
 }

@@ -3,8 +3,6 @@
 /// A row.
 #[derive(Debug, Clone, Copy)]
 pub enum Row<'a> {
-    /// An empty line, or a title (`# ..`).
-    Title,
     /// `ast TEXT`: to read the text as a model.
     Ast(&'a str),
     /// `part TEXT`: the text goes behind those of the rows `part` before.
@@ -18,9 +16,6 @@ pub enum Row<'a> {
 impl<'a> Row<'a> {
     /// What a line says.
     pub fn of(line: &'a str) -> Self {
-        if line.is_empty() || line.starts_with('#') {
-            return Row::Title;
-        }
         if line == "parts" {
             return Row::Parts;
         }
