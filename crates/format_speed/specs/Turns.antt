@@ -3,7 +3,11 @@ use Rattle.std.specs.Prelude.{ℕ, zero, suc, List, [], Result, Ok, Err, ◌≡�
 use Rattle.sm_tree.specs.Node.{Node}
 use Rattle.sm_tree.specs.Syntax.{Syntax}
 use Rattle.sm_tree.specs.Json.{IsJson, IsCbor}
+use Rattle.sm_tree.specs.Events.{NodeEvent}
+use Rattle.sm_tree.specs.Timing.{CompletesAll}
+use Rattle.sm_tree.specs.declared.refusal.SyntaxRefusal.{SyntaxRefusal}
 use Rattle.sm_json.specs.JsonText.{json_syntax}
+use Rattle.sm_json.specs.Timing.{json_timing}
 use Rattle.sm_json.specs.Written.{written as json_written}
 use Rattle.sm_cbor.specs.Refusals.{cbor_syntax}
 use Rattle.sm_cbor.specs.Written.{written_item as cbor_written}
@@ -30,3 +34,8 @@ text_of Cbor (suc k) n = cbor_written n
 abbrev pub Counts : List ℕ → Result ℕ LexRefusal → Type 0
 Counts text (Ok n) = (xs : List Lexeme) × TokensSpell xs text × (length xs ≡ n)
 Counts text (Err refusal) = Unit {0}
+
+-- the text has so many events
+abbrev pub CountsEvents : List ℕ → Result ℕ SyntaxRefusal → Type 0
+CountsEvents text (Ok n) = (es : List NodeEvent) × CompletesAll json_timing text es × (length es ≡ n)
+CountsEvents text (Err refusal) = Unit {0}

@@ -64,6 +64,10 @@ pub enum Command {
     Tree(MeasuredFormat, Work),
     /// `tokens read N`: the text is cut into tokens N times.
     Tokens(u32),
+    /// `events read N`: a JSON text is read N times, by events.
+    Events(u32),
+    /// `pieces read N`: the same, the text in pieces of 4,096 bytes.
+    Pieces(u32),
 }
 
 impl Command {
@@ -77,6 +81,8 @@ impl Command {
         }
         match (format, work) {
             ("tokens", Work::Read(count)) => Some(Command::Tokens(count)),
+            ("events", Work::Read(count)) => Some(Command::Events(count)),
+            ("pieces", Work::Read(count)) => Some(Command::Pieces(count)),
             _ => None,
         }
     }

@@ -2,11 +2,12 @@
 // time itself. docs/PERFORMANCE.md says how it is used.
 #![tactic(auto)]
 
-ghost use Rattle.std.specs.Prelude.{◌≡◌, IfOk};
+ghost use Rattle.std.specs.Prelude.{◌≡◌, ◌<◌, IfOk};
 ghost use Rattle.sm_tree.specs.Json.{IsJson};
 ghost use Rattle.sm_tree.specs.View.{node_of};
 
 mod command;
+mod events;
 mod turns;
 
 use command::{Command, MeasuredFormat, Work};
@@ -18,6 +19,9 @@ use std::{env, io};
 
 /// The most bytes that are read.
 const TEXT_LIMIT: u64 = 1 << 30;
+
+/// The length of a piece.
+const PIECE: usize = 4096;
 
 // What the arguments ask for. The first of them is the program's name.
 fn asked(rt: &HostRuntime) -> io::Result<Option<Command>> {
@@ -96,6 +100,16 @@ fn measured(
     Ok(())
 }
 
+// The events of a JSON text, counted many times over.
+fn counted(alloc: Global, text: &[u8], piece: usize, turns: u32) -> anyhow::Result<u64>
+    requires { 0 < piece }
+{
+    match events::count_times(alloc, text, piece, turns) {
+        Ok(count) => Ok(count),
+        Err(_) => anyhow::bail!("the input is no JSON text that can be read"),
+    }
+}
+
 fn main(rt: HostRuntime) -> anyhow::Result<ExitCode> {
     let alloc = rt.alloc();
     let Some(command) = asked(&rt)? else {
@@ -114,6 +128,8 @@ fn main(rt: HostRuntime) -> anyhow::Result<ExitCode> {
             };
             println!(rt; "{count}")?;
         }
+        Command::Events(turns) => println!(rt; "{}", counted(alloc, &text, usize::MAX, turns)?)?,
+        Command::Pieces(turns) => println!(rt; "{}", counted(alloc, &text, PIECE, turns)?)?,
     }
     Ok(ExitCode::SUCCESS)
 }
