@@ -1,15 +1,15 @@
 -- A reader that takes a text in pieces: what it stands for, what its sink stands for, and what it has refused, one piece behind
 -- another. The answers of `JsonReader` cite these.
 use Rattle.std.specs.Prelude.{Bool, IsTrue, ◌↔◌}
-use Rattle.std.proofs.Common.{true, false, Option, Result, Ok, Err, ◌≡◌, ℕ, ◌+◌, ◌≤◌, ◌<◌, List, [], ◌∷◌, ◌++◌, Some, None, refl, sym, ap, subst, ◌∙◌, arith, length, take, drop, append-nil, length-append}
+use Rattle.std.proofs.Common.{true, false, Option, Ok, Err, ◌≡◌, ℕ, ◌+◌, ◌≤◌, List, [], ◌∷◌, ◌++◌, Some, None, refl, sym, ap, subst, ◌∙◌, arith, length, take, append-nil, length-append}
 use Rattle.std.proofs.Math.Seq.{take-append_seam, take-append-add, drop-append_seam}
 use Rattle.std.proofs.lemmas.List.{take-append-le}
 use Rattle.sm_tree.specs.Node.{Node, null}
 use Rattle.sm_tree.specs.Levels.{levels}
 use Rattle.sm_tree.specs.Events.{NodeEvent, null_event, events}
-use Rattle.sm_tree.specs.Streams.{Streams, StandsFor, Takes, TakesEvery, TakesSame, BeginsStream}
+use Rattle.sm_tree.specs.Streams.{Streams, StandsFor, Takes, TakesEvery, BeginsStream}
 use Rattle.sm_tree.specs.Timing.{TimedEvent, by_byte, by_end, untimed, HandsOn, Follows, Completes, CompletesAll}
-use Rattle.sm_tree.specs.Syntax.{most_levels, IsRead, IsRefused, IsUnread, Begins, BeginsRead}
+use Rattle.sm_tree.specs.Syntax.{most_levels, IsRefused, Begins, BeginsRead}
 use Rattle.sm_tree.specs.Refusal.{moved_by, IsWithin}
 use Rattle.sm_tree.specs.declared.refusal.SyntaxRefusal.{SyntaxRefusal}
 use Rattle.sm_tree.specs.declared.refusal.SyntaxRefusal.TheVariants.{Bad, Ended, TooDeep, KeyKind, NoMemory}
@@ -19,7 +19,7 @@ use Rattle.sm_json.specs.JsonText.{JsonText, json_syntax}
 use Rattle.sm_json.specs.Timing.{json_timing}
 use Rattle.sm_json.specs.steps.Rest.{JsonState, json_start, JsonLeads, JsonGoesOn}
 use Rattle.sm_json.specs.steps.Machine.{json_state, JsonIsSound, JsonIsPlaced, JsonGoes, JsonBrings, JsonBringsTo, HaltsAt, DeepensAt, JsonTakesAll, JsonEndsText, JsonMayEnd}
-use Rattle.sm_json.specs.Stands.{first_of, JsonHasRead, HasCome, JsonHasCome, JsonStands, JsonFlushed, refusal_of, RefusesWith, JsonFeeds, StaysRefused, FollowsAll, JsonFlushes, JsonEndsWith, TakesStill, StandingCompletes}
+use Rattle.sm_json.specs.Stands.{first_of, JsonHasRead, HasCome, JsonHasCome, JsonStands, refusal_of, JsonFeeds, StaysRefused, FollowsAll, JsonFlushes, JsonEndsWith, TakesStill, StandingCompletes}
 use Rattle.sm_json.specs.declared.read.Reader.{Reader}
 use Rattle.sm_json.specs.declared.pieces.JsonReader.{JsonReader}
 use Rattle.sm_json.proofs.Onward.{reader_goes_on, halts_then, deepens_then}

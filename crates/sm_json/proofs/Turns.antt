@@ -13,7 +13,7 @@ use Rattle.sm_json.specs.steps.Feeding.{IsPlaced}
 use Rattle.sm_json.proofs.Feeding.{placed_on, event_placed}
 use Rattle.sm_tree.specs.Numbers.{IsNumber, NumberText}
 use Rattle.sm_tree.specs.Events.{NodeEvent, events, key_event, text_event}
-use Rattle.sm_tree.specs.Timing.{TimedEvent, by_byte}
+use Rattle.sm_tree.specs.Timing.{TimedEvent}
 use Rattle.sm_tree.specs.Streams.{StandsFor, Takes, TakesEvery, TakesSame, TakesOn, MayTake}
 use Rattle.sm_tree.specs.declared.refusal.SyntaxRefusal.{SyntaxRefusal}
 use Rattle.sm_tree.specs.declared.refusal.SyntaxRefusal.TheVariants.{Bad, Ended, TooDeep, KeyKind, NoMemory}
@@ -28,7 +28,7 @@ use Rattle.sm_json.specs.declared.place.Role.{Role}
 use Rattle.sm_json.specs.declared.place.Role.TheVariants.{Key, Value as Whole}
 use Rattle.sm_json.specs.steps.Rest.{Where, after, colon, letters, literal_event, numeral, JsonRest, JsonGoesOn, JsonStops}
 use Rattle.sm_tree.specs.Syntax.{most_levels}
-use Rattle.sm_json.specs.steps.Machine.{where_of, lists_of, json_state, PlaceKeeps, JsonIsSound, LeadsTo, JsonIsPlaced, JsonGoes, JsonBrings, JsonKeeps, JsonBringsTo, JsonStepsByte, JsonEndsText, JsonMayEnd, Halts, Deepens, HaltsAt, DeepensAt, JsonTakesByte, JsonTakesPrefix, JsonTakesAll, TakesWhitespace, AllWhitespace, Grows, HandsNumber, HandsText, behind_text, text_event_of, as_syntax}
+use Rattle.sm_json.specs.steps.Machine.{where_of, lists_of, json_state, PlaceKeeps, JsonIsSound, LeadsTo, JsonIsPlaced, JsonGoes, JsonBrings, JsonKeeps, JsonBringsTo, JsonStepsByte, JsonEndsText, JsonMayEnd, Halts, HaltsAt, DeepensAt, JsonTakesByte, JsonTakesPrefix, JsonTakesAll, TakesWhitespace, AllWhitespace, Grows, HandsNumber, HandsText, behind_text, text_event_of, as_syntax}
 use Rattle.sm_tree.specs.Refusal.{moved_by, IsWithin}
 use Rattle.sm_tree.specs.declared.number.Phase.{Phase}
 use Rattle.sm_tree.specs.declared.number.Phase.TheVariants.{Start}
@@ -41,12 +41,12 @@ use Rattle.sm_tree.proofs.Numbers.{one_node, number_exists, number_from_whole, w
 use Rattle.sm_tree.proofs.NumberRuns.{prefix_grows, leads_joined as numbers_joined}
 use Rattle.sm_json.proofs.Opening.{at}
 use Rattle.sm_json.proofs.Closing.{after_goes_on, colon_goes_on}
-use Rattle.sm_json.proofs.Leaves.{number_is, number_one}
+use Rattle.sm_json.proofs.Leaves.{number_is}
 use Rattle.sm_json.proofs.White.{white_leads, whites_lead}
 use Rattle.sm_json.proofs.Within.{number_over, number_bytes_lead, number_ends, number_stops, number_last, number_last_is, nothing_ends, string_goes, key_closes, text_closes, letter_leads, word_ends, word_stops, string_no_rest, token_owed, word_owed, IsOwed}
 use Rattle.sm_json.proofs.Owed.{string_owed}
 use Rattle.sm_json.proofs.Whole.{leads_none, leads_joined}
-use Rattle.sm_json.proofs.Readers.{place_at, leads_from, stops_from, deepens_from, kept_at, room_in, inside}
+use Rattle.sm_json.proofs.Readers.{place_at, leads_from, stops_from, kept_at, room_in, inside}
 use Rattle.sm_json.proofs.Onward.{reader_goes_on, on_back, halts_then, deepens_then, halts_at, deepens_at}
 
 -- one step behind another

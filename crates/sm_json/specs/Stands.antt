@@ -1,5 +1,5 @@
 -- What a `JsonReader` stands for: the bytes of all its pieces. And what it makes of a piece, of the last number, and of the end.
-use Rattle.std.specs.Prelude.{cond, ◌≡◌, ℕ, Bool, true, false, List, [], ◌∷◌, ◌++◌, length, take, Option, None, Some, Result, Ok, Err}
+use Rattle.std.specs.Prelude.{cond, ◌≡◌, ℕ, true, false, List, [], ◌∷◌, ◌++◌, length, take, Option, None, Some, Result, Ok, Err}
 use Rattle.sm_tree.specs.Node.{Node}
 use Rattle.sm_tree.specs.Events.{NodeEvent}
 use Rattle.sm_tree.specs.Streams.{StandsFor, Streams, Takes, TakesSame}

@@ -1,4 +1,3 @@
-use Rattle.std.proofs.Common.{refl}
 use Rattle.sm_json.proofs.ReadPieces.{has_read, piece_placed, flush_none, flush_last}
 use Rattle.sm_json.proofs.pieces.JsonReader.hand_last.Goals as goal
 

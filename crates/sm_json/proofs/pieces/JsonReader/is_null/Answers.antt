@@ -1,4 +1,3 @@
-use Rattle.std.proofs.Common.{sym, ◌∙◌}
 use Rattle.sm_json.proofs.ReadPieces.{no_refusal}
 use Rattle.sm_json.proofs.pieces.JsonReader.is_null.Goals as goal
 

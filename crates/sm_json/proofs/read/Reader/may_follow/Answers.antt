@@ -1,7 +1,7 @@
 use Rattle.std.proofs.Common.{sym, ap, ◌∙◌, Some}
 use Rattle.sm_json.specs.steps.Machine.{lists_of}
 use Rattle.sm_json.proofs.Readers.{first_is}
-use Rattle.sm_json.proofs.Following.{white_follows, entry_may_follow, pair_may_follow, none_follows}
+use Rattle.sm_json.proofs.Following.{white_follows, entry_may_follow, pair_may_follow}
 use Rattle.sm_json.proofs.read.Reader.may_follow.Goals as goal
 
 pub returns-then-has : goal.returns-then-has
