@@ -122,7 +122,8 @@ pub record AreFormedPairs (ms : Members) (AreSuch : RawMembers → Type 0) (said
 pub no_pairs_formed : (ms : Members) (AreSuch : RawMembers → Type 0) → AreSuch no_raw_members → AreFormedPairs ms AreSuch no_raw_members
 no_pairs_formed ms AreSuch such = record { such = such; raws = tt; differ = tt; stand = λ k among. absurd among }
 
-pub pair_formed : (k : List ℕ) (n : Node) (ms : Members) (AreSuch : RawMembers → Type 0) (r : Raw) (more : RawMembers) → IsUtf8 k → (HasName k ms → ⊥)
+pub pair_formed : (k : List ℕ) (n : Node) (ms : Members) (AreSuch : RawMembers → Type 0) (r : Raw) (more : RawMembers) → IsUtf8 k
+    → (HasName k ms → ⊥)
     → AreSuch (raw_member k r more) → IsRaw r → AreFormedPairs ms AreSuch more
     → AreFormedPairs (member k n ms) AreSuch (raw_member k r more)
 pair_formed k n ms AreSuch r more utf8 once such is_raw rest = record {

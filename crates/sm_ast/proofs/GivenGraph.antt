@@ -50,7 +50,8 @@ nodes_each (t ∷ ts) h = (h.0, nodes_each ts h.1)
 pub nodes_in_map : (ts : List (List ℕ × Node)) → AreNodes ts → AreNodes (fin.entries (fin.from_entries {R = text_cmp} ts))
 nodes_in_map ts h = nodes_each _ (each_entry (λ k n. IsNode n) ts (each_node ts h))
 
-traits_in_map : (ts : List (List ℕ × Node)) → AreUnderIds ts → AreNodes ts → AreSoundTraits (fin.entries (fin.from_entries {R = text_cmp} ts))
+traits_in_map : (ts : List (List ℕ × Node)) → AreUnderIds ts → AreNodes ts
+    → AreSoundTraits (fin.entries (fin.from_entries {R = text_cmp} ts))
 traits_in_map ts ids nodes = record {
   ids = ids_each _ (each_entry (λ k n. IsIdText k) ts (each_id ts ids));
   differ = keys_differ (fin.from_entries ts);

@@ -28,7 +28,8 @@ ascii_byte c h = grind (arith, nat_tests)
 
 identifier_utf8 : (t : List ℕ) → IsIdentifier t → IsUtf8 t
 identifier_utf8 t h =
-    IsUtf8-from_ascii t (IsAscii-from_all t (λ k d lt. ascii_byte _ (AllPass-from_list_all is_identifier_byte t (made_of_bytes t h) k d lt)))
+    IsUtf8-from_ascii t (IsAscii-from_all t
+    (λ k d lt. ascii_byte _ (AllPass-from_list_all is_identifier_byte t (made_of_bytes t h) k d lt)))
 
 -- pairs of a name and a value
 record IsJsonPair (k : List ℕ) (n : Node) : Type 0 where

@@ -105,8 +105,10 @@ json_entries_said (object ms) json = tt
 -- fields of operations, services and resources
 json_property : (form : PropertyForm) (n : Node) → IsJson n → JsonThere (written_property form n)
 json_property Reference n h = json_reference n h
-json_property References n h = json_list (nodes_of (written_entries (entries_said n))) (json_entries (entries_said n) (json_entries_said n h))
-json_property NamedReferences n h = json_object (members_of (written_pairs (pairs_said n))) (json_references (pairs_said n) (json_pairs n h))
+json_property References n h =
+    json_list (nodes_of (written_entries (entries_said n))) (json_entries (entries_said n) (json_entries_said n h))
+json_property NamedReferences n h =
+    json_object (members_of (written_pairs (pairs_said n))) (json_references (pairs_said n) (json_pairs n h))
 json_property Text n h = h
 json_property Rename n h = json_object (pairs_said n) (json_pairs n h)
 
@@ -229,7 +231,8 @@ json_in_form any ps h = (utf8 (codes "members") refl, h, tt)
 json_shape : (kind : Kind) (members : WrittenPairs) (body : Members) (traits : WrittenPairs) → AreJsonPairs members → AreJsonMembers body
     → AreJsonPairs traits → IsJson (shape_object kind members body traits)
 json_shape kind members body traits a b c =
-    let head : AreJsonPairs ((codes "type", text (kind_name kind)) ∷ []) = (utf8 (codes "type") refl, utf8 (kind_name kind) (utf8_kind kind), tt) in
+    let head : AreJsonPairs ((codes "type", text (kind_name kind)) ∷ []) =
+    (utf8 (codes "type") refl, utf8 (kind_name kind) (utf8_kind kind), tt) in
     let named = json_joined ((codes "type", text (kind_name kind)) ∷ []) (written_in_form (member_form kind) members) head
     (json_in_form (member_form kind) members a) in
     let with_body = json_joined (((codes "type", text (kind_name kind)) ∷ []) ++ written_in_form (member_form kind) members)
@@ -267,6 +270,7 @@ written_json g h =
     json_joined (((codes "smithy", text (codes "2.0")) ∷ []) ++ field_there (codes "metadata") (filled_object (members_of metadata)))
     (field_there (codes "shapes") (filled_object (members_of shapes)))
     (json_joined ((codes "smithy", text (codes "2.0")) ∷ []) (field_there (codes "metadata") (filled_object (members_of metadata))) version
-    (json_field (codes "metadata") (filled_object (members_of metadata)) (utf8 (codes "metadata") refl) (json_object (members_of metadata) h.metadata)))
+    (json_field (codes "metadata") (filled_object (members_of metadata)) (utf8 (codes "metadata") refl)
+    (json_object (members_of metadata) h.metadata)))
     (json_field (codes "shapes") (filled_object (members_of shapes)) (utf8 (codes "shapes") refl)
     (json_object (members_of shapes) (json_shapes g.shapes h.shapes (fin.entries g.shapes) h.shapes)))

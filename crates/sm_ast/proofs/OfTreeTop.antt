@@ -38,7 +38,8 @@ module _ (name : Said → List (List ℕ)) (field : List ℕ)
     | inr apart ↦
         let other : k ≡ field → ⊥ = λ e. true_is_false (sym (test_same k field e) ∙ apart) in
         subst DifferInNames
-        (sym (ap (names_among name) is ∙ names_joined name first more ∙ ap (λ ks. ks ++ names_among name more) (elsewhere k n first other says)))
+        (sym (ap (names_among name) is ∙ names_joined name first more
+        ∙ ap (λ ks. ks ++ names_among name more) (elsewhere k n first other says)))
         (names_differ ms more d.2 rest)
   ]
 
@@ -94,7 +95,8 @@ ids_elsewhere k n said other (inr (inr (is, ms, is_object, says))) = absurd (oth
 metadata_keys : (ms : Members) (said : List Said) → AreDistinct ms → MetadataPairsSay ms said
     → AreShapeIds ms (names_among key_of_metadata said)
 metadata_keys no_members said d says =
-    subst (λ xs. AreShapeIds no_members (names_among key_of_metadata xs)) (sym says) (record { differ = tt; stand = λ k among. absurd among })
+    subst (λ xs. AreShapeIds no_members (names_among key_of_metadata xs)) (sym says)
+    (record { differ = tt; stand = λ k among. absurd among })
 metadata_keys (member k n ms) said d (more, is, rest) =
     subst (λ xs. AreShapeIds (member k n ms) (names_among key_of_metadata xs)) (sym is)
     (one_id k k n ms (names_among key_of_metadata more) refl d.0 (metadata_keys ms more d.2 rest))

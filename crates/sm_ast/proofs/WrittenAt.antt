@@ -45,7 +45,8 @@ member_written (Some e) target traits n h k is = by e.1 h k
   where
     by : (x : Entry) → Targets target x → fin.entries (traits_in x) ≡ traits → written_member x ≡ Some n
     by (shape_entry s) h k = absurd h
-    by (member_entry m) h k = ap (λ t. Some (member_object t (fin.entries m.traits))) h ∙ ap (λ ts. Some (member_object target ts)) k ∙ ap Some (sym is)
+    by (member_entry m) h k =
+        ap (λ t. Some (member_object t (fin.entries m.traits))) h ∙ ap (λ ts. Some (member_object target ts)) k ∙ ap Some (sym is)
 
 -- a member that is put
 pub member_put : (g : Graph) (k : ℕ) (id : List ℕ) (n : Node) → At g k (λ i e. id ≡ i) → At g k (λ i e. written_member e ≡ Some n)
@@ -85,7 +86,8 @@ pub shape_written : (shapes : ShapeMap) (o : Found) (kind : Kind) (members : Lis
 shape_written shapes None kind members body traits n a b c d is = a
 shape_written shapes (Some e) kind members body traits n a b c d is = by e.1 a b c d
   where
-    by : (x : Entry) → HasKind kind x → HasMembers members x → HasBodyNode body x → fin.entries (traits_in x) ≡ traits → IsWrittenShape shapes n x
+    by : (x : Entry) → HasKind kind x → HasMembers members x → HasBodyNode body x → fin.entries (traits_in x) ≡ traits
+        → IsWrittenShape shapes n x
     by (member_entry m) a b c d = a
     by (shape_entry s) a b c d =
         ap (λ k. shape_object k (written_members shapes s.members) (pairs_said s.properties) (fin.entries s.traits)) a
@@ -97,7 +99,8 @@ shape_written shapes (Some e) kind members body traits n a b c d is = by e.1 a b
 abbrev pub Put : ShapeMap → Found → WrittenPairs → WrittenPairs → Type 0
 Put shapes o now before = IsSomeAnd o (λ e. now ≡ before ++ field_there e.0 (written_statement shapes e.0 e.1))
 
-pub member_skipped : (shapes : ShapeMap) (o : Found) (ps : WrittenPairs) → IsSomeAnd o (λ e. is_member_entry e.1 ≡ true) → Put shapes o ps ps
+pub member_skipped : (shapes : ShapeMap) (o : Found) (ps : WrittenPairs) → IsSomeAnd o (λ e. is_member_entry e.1 ≡ true)
+    → Put shapes o ps ps
 member_skipped shapes None ps h = h
 member_skipped shapes (Some e) ps h = by e.1 h
   where
@@ -112,7 +115,8 @@ prelude_skipped shapes (Some e) ps id h known = by e.1
   where
     by : (x : Entry) → ps ≡ ps ++ field_there e.0 (written_statement shapes e.0 x)
     by (shape_entry s) =
-        sym (append-nil ps) ∙ ap (λ b. ps ++ field_there e.0 (if b then None else Some (written_shape shapes s))) (sym known ∙ ap is_prelude_id h)
+        sym (append-nil ps) ∙ ap (λ b. ps ++ field_there e.0 (if b then None else Some (written_shape shapes s)))
+        (sym known ∙ ap is_prelude_id h)
     by (member_entry m) = sym (append-nil ps)
 
 pub shape_put : (shapes : ShapeMap) (o : Found) (now before : WrittenPairs) (id : List ℕ) (n : Node) → IsSomeAnd o (λ e. id ≡ e.0)
@@ -131,11 +135,13 @@ pub put_then : (shapes : ShapeMap) (es : List (List ℕ × Entry)) (k : ℕ) (no
     → now ++ written_shapes shapes (drop (suc k) es) ≡ before ++ written_shapes shapes (drop k es)
 put_then shapes [] k now before h = absurd h
 put_then shapes (e ∷ es) zero now before h =
-    ap (λ ps. ps ++ written_shapes shapes es) h ∙ append_assoc before (field_there e.0 (written_statement shapes e.0 e.1)) (written_shapes shapes es)
+    ap (λ ps. ps ++ written_shapes shapes es) h ∙ append_assoc before (field_there e.0 (written_statement shapes e.0 e.1))
+    (written_shapes shapes es)
 put_then shapes (e ∷ es) (suc k) now before h = put_then shapes es k now before h
 
 -- fields in three parts
-properties_joined : (fs gs : TypeFields) (body : Members) → written_properties (fs ++ gs) body ≡ written_properties fs body ++ written_properties gs body
+properties_joined : (fs gs : TypeFields) (body : Members)
+    → written_properties (fs ++ gs) body ≡ written_properties fs body ++ written_properties gs body
 properties_joined [] gs body = refl
 properties_joined (f ∷ fs) gs body =
     let here = field_there f.0 (property_there f.1 (tree_named f.0 body)) in
@@ -149,4 +155,5 @@ three_put fs gs hs body before one two three a b c =
     let qs = written_properties gs body in
     let rs = written_properties hs body in
     c ∙ ap (λ xs. xs ++ rs) b ∙ ap (λ xs. (xs ++ qs) ++ rs) a ∙ append_assoc (before ++ ps) qs rs ∙ append_assoc before ps (qs ++ rs)
-    ∙ ap (λ xs. before ++ (ps ++ xs)) (sym (properties_joined gs hs body)) ∙ ap (λ xs. before ++ xs) (sym (properties_joined fs (gs ++ hs) body))
+    ∙ ap (λ xs. before ++ (ps ++ xs)) (sym (properties_joined gs hs body))
+    ∙ ap (λ xs. before ++ xs) (sym (properties_joined fs (gs ++ hs) body))

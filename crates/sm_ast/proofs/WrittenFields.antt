@@ -126,7 +126,8 @@ fields_say all (f ∷ fs) among body fields after rest =
     let o = tree_named f.0 body in
     subst (λ ps. PropertyPairsSay all (members_of ps) (raw_members_of (body_said (f ∷ fs) body)))
     (sym (append_assoc (field_there f.0 (property_there f.1 o)) (written_properties fs body) after))
-    (there_put all f.0 (written_properties fs body ++ after) (body_said fs body) (fields_say all fs among.1 body fields after rest) f.1 among.0 o
+    (there_put all f.0 (written_properties fs body ++ after) (body_said fs body)
+    (fields_say all fs among.1 body fields after rest) f.1 among.0 o
     (form_under all body fields f.0 f.1 among.0))
 
 -- pairs that are no such fields are passed over
@@ -189,7 +190,8 @@ pub object_distinct : (k : List ℕ) (ms : Members) → AreDistinct ms → EachD
 object_distinct k no_members d = tt
 object_distinct k (member l n ms) d = (d, tt)
 
-property_distinct : (k : List ℕ) (form : PropertyForm) (n : Node) → HasDistinctNames n → EachDistinct (field_there k (written_property form n))
+property_distinct : (k : List ℕ) (form : PropertyForm) (n : Node) → HasDistinctNames n
+    → EachDistinct (field_there k (written_property form n))
 property_distinct k Reference n d = (((λ has. has), d, tt), tt)
 property_distinct k References n d =
     list_distinct k (nodes_of (written_entries (entries_said n))) (entries_distinct (entries_said n) (entries_said_distinct n d))

@@ -41,7 +41,8 @@ pub traits_behind : (before ts : WrittenPairs) → (HasName traits_name (members
     → OrNothing traits_name (members_of (before ++ written_traits ts)) TraitsSay (traits_of_pairs ts)
 traits_behind before [] gone h = inr ((λ has. gone (name_before traits_name before has)), refl)
 traits_behind before (t ∷ ts) gone h =
-    inl (object_of (t ∷ ts), pair_behind before (written_traits (t ∷ ts)) traits_name (object_of (t ∷ ts)) (inl (refl, refl)), traits_say (t ∷ ts) h)
+    let found = pair_behind before (written_traits (t ∷ ts)) traits_name (object_of (t ∷ ts)) (inl (refl, refl)) in
+    inl (object_of (t ∷ ts), found, traits_say (t ∷ ts) h)
 
 pub nodes_distinct : (ts : WrittenPairs) → AreNodes ts → EachDistinct ts
 nodes_distinct [] h = tt

@@ -49,9 +49,11 @@ within_itself (k ∷ ks) = inl (refl, within_itself ks)
 abbrev pub PairsWithin : WrittenPairs → List (List ℕ) → Type 0
 PairsWithin ps names = Within (are_under ps) names
 
-pub pairs_joined : (ps qs : WrittenPairs) (js ks : List (List ℕ)) → PairsWithin ps js → PairsWithin qs ks → PairsWithin (ps ++ qs) (js ++ ks)
+pub pairs_joined : (ps qs : WrittenPairs) (js ks : List (List ℕ)) → PairsWithin ps js → PairsWithin qs ks
+    → PairsWithin (ps ++ qs) (js ++ ks)
 pairs_joined ps qs js ks w v =
-    subst (λ xs. Within xs (js ++ ks)) (sym (map-append (λ (p : List ℕ × Node). p.0) ps qs)) (within_joined (are_under ps) js (are_under qs) ks w v)
+    subst (λ xs. Within xs (js ++ ks)) (sym (map-append (λ (p : List ℕ × Node). p.0) ps qs))
+    (within_joined (are_under ps) js (are_under qs) ks w v)
 
 pub field_within : (name : List ℕ) (o : Option Node) → PairsWithin (field_there name o) (name ∷ [])
 field_within name None = tt
@@ -64,7 +66,8 @@ pub properties_within : (fs : TypeFields) (body : Members) → PairsWithin (writ
 properties_within [] body = tt
 properties_within (f ∷ fs) body =
     let o = property_there f.1 (tree_named f.0 body) in
-    pairs_joined (field_there f.0 o) (written_properties fs body) (f.0 ∷ []) (field_names fs) (field_within f.0 o) (properties_within fs body)
+    pairs_joined (field_there f.0 o) (written_properties fs body) (f.0 ∷ []) (field_names fs) (field_within f.0 o)
+    (properties_within fs body)
 
 -- a name of a pair stands among the names
 pub has_under : (k : List ℕ) (ps : WrittenPairs) → HasName k (members_of ps) → StandsAmong k (are_under ps)

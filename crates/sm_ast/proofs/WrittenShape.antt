@@ -55,7 +55,8 @@ are_other kind =
     && are_unnamed (property_forms kind) (traits_name ∷ [])
 
 abbrev names_fit : Kind → Bool
-names_fit kind = (are_known (layout_of (Defined kind)) (shape_names kind) && all_differ (shape_names kind)) && (are_apart kind && are_other kind)
+names_fit kind =
+    (are_known (layout_of (Defined kind)) (shape_names kind) && all_differ (shape_names kind)) && (are_apart kind && are_other kind)
 
 they_fit : (kind : Kind) → names_fit kind ≡ true
 they_fit Operation = refl
@@ -169,7 +170,8 @@ known_name : (fs : FieldForms) (names : List (List ℕ)) → are_known fs names 
     → (form : FieldForm) × (field_named k fs ≡ Some form)
 known_name fs [] h k among = absurd among
 known_name fs (j ∷ js) h k (inl same) =
-    subst (λ x. (form : FieldForm) × (field_named x fs ≡ Some form)) (sym same) (some_known (field_named j fs) (both_true _ (are_known fs js) h).0)
+    subst (λ x. (form : FieldForm) × (field_named x fs ≡ Some form)) (sym same)
+    (some_known (field_named j fs) (both_true _ (are_known fs js) h).0)
 known_name fs (j ∷ js) h k (inr among) = known_name fs js (both_true (is_some (field_named j fs)) (are_known fs js) h).1 k among
 
 are_fields : (fs : FieldForms) (ps : WrittenPairs)
@@ -198,7 +200,8 @@ traits_within : (ts : WrittenPairs) → PairsWithin (written_traits ts) (traits_
 traits_within [] = tt
 traits_within (t ∷ ts) = inl (refl, tt)
 
-module _ (id : List ℕ) (kind : Kind) (ms : List FoundMember) (body : Members) (ts : WrittenPairs) (h : IsFoundShape id kind ms body ts) where
+module _ (id : List ℕ) (kind : Kind) (ms : List FoundMember) (body : Members) (ts : WrittenPairs)
+    (h : IsFoundShape id kind ms body ts) where
   abbrev head : WrittenPairs
   head = (type_name, text (kind_name kind)) ∷ []
 
@@ -255,7 +258,8 @@ module _ (id : List ℕ) (kind : Kind) (ms : List FoundMember) (body : Members) 
       subst (λ ps. PropertyPairsSay (property_forms kind) (members_of ps) (raw_members_of (body_said (property_forms kind) body)))
           (sym (append_assoc (head ++ in_form) fields_written (written_traits ts)))
           (passed_over (property_forms kind) (head ++ in_form) (fields_written ++ written_traits ts) _
-          (unnamed_within (property_forms kind) (head ++ in_form) ((type_name ∷ []) ++ form_names (member_form kind)) first_within (names_other kind).0)
+          (unnamed_within (property_forms kind) (head ++ in_form) ((type_name ∷ []) ++ form_names (member_form kind)) first_within
+          (names_other kind).0)
           (fields_say (property_forms kind) (property_forms kind) (fields_among kind) body h.fields (written_traits ts)
           (all_passed_over (property_forms kind) (written_traits ts)
           (unnamed_within (property_forms kind) (written_traits ts) (traits_name ∷ []) (traits_within ts) (names_other kind).1)))),
@@ -268,7 +272,8 @@ module _ (id : List ℕ) (kind : Kind) (ms : List FoundMember) (body : Members) 
 
   pub shape_distinct : HasDistinctNames (shape_object kind (found_pairs ms) body ts)
   shape_distinct =
-      distinct_pairs pairs (differ_within (are_under pairs) (shape_names kind) all_within (differ_by_test (shape_names kind) (names_all_differ kind)))
+      distinct_pairs pairs (differ_within (are_under pairs) (shape_names kind) all_within
+      (differ_by_test (shape_names kind) (names_all_differ kind)))
       (distinct_joined before (written_traits ts)
       (distinct_joined (head ++ in_form) fields_written
       (distinct_joined head in_form (tt, tt) (form_distinct (member_form kind) ms h.form h.members))

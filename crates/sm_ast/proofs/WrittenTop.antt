@@ -57,7 +57,8 @@ put_shape known shapes s = if known then None else Some (written_shape shapes s)
 abbrev said_shape : Bool → ShapeMap → List ℕ → ShapeEntry → List Said
 said_shape known shapes id s = if known then [] else shape_said (entry_said shapes id s) ∷ []
 
-put_says : (shapes : ShapeMap) (id : List ℕ) (s : ShapeEntry) → IsSoundShape shapes id s → (known : Bool) (ps : WrittenPairs) (said : List Said)
+put_says : (shapes : ShapeMap) (id : List ℕ) (s : ShapeEntry) → IsSoundShape shapes id s
+    → (known : Bool) (ps : WrittenPairs) (said : List Said)
     → ShapePairsSay (members_of ps) said
     → ShapePairsSay (members_of (field_there id (put_shape known shapes s) ++ ps)) (said_shape known shapes id s ++ said)
 put_says shapes id s h true ps said rest = rest
@@ -120,7 +121,8 @@ shapes_part ps = field_there shapes_name (filled_object (members_of ps))
 abbrev metadata_part : WrittenPairs → WrittenPairs
 metadata_part ps = field_there metadata_name (filled_object (members_of ps))
 
-shapes_part_says : (ps : WrittenPairs) (said : List Said) → ShapePairsSay (members_of ps) said → TopPairsSay (members_of (shapes_part ps)) said
+shapes_part_says : (ps : WrittenPairs) (said : List Said) → ShapePairsSay (members_of ps) said
+    → TopPairsSay (members_of (shapes_part ps)) said
 shapes_part_says [] said h = h
 shapes_part_says (p ∷ ps) said h = (said, [], sym (append-nil said), inr (inr (refl, members_of (p ∷ ps), refl, h)), refl)
 

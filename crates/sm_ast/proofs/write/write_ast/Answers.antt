@@ -15,4 +15,5 @@ returns c =
     let shapes = members_view c.in_ok-shapes.shapes.items in
     let put = c.in_ok-shapes.ensures ∙ ap (written_shapes maps.shapes) (sym (entries_are g)) in
     IfOk-weaker c.written.result (λ tree. node_of tree ≡ ast_object metadata shapes) (λ tree. node_of tree ≡ written_ast maps)
-    (λ tree is. is ∙ ap (λ ms. ast_object ms shapes) (sym c.metadata.ensures) ∙ ap (ast_object (fin.entries maps.metadata)) put) c.written.ensures
+    (λ tree is. is ∙ ap (λ ms. ast_object ms shapes) (sym c.metadata.ensures)
+    ∙ ap (ast_object (fin.entries maps.metadata)) put) c.written.ensures

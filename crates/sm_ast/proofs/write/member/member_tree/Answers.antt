@@ -13,6 +13,7 @@ returns c =
     let k = c.args.member in
     let target = c.as_str-target.result.now in
     let traits = members_view c.traits.result.now in
-    IfOk-weaker c.written.result (λ tree. node_of tree ≡ member_object target traits) (λ tree. At g k (λ id e. written_member e ≡ Some (node_of tree)))
+    IfOk-weaker c.written.result (λ tree. node_of tree ≡ member_object target traits)
+    (λ tree. At g k (λ id e. written_member e ≡ Some (node_of tree)))
     (λ tree is. member_written (slice_get (entries_of g) k) target traits (node_of tree)
     (subst (λ t. At g k (λ id e. Targets t e)) (sym c.as_str-target.ensures) c.target_id.ensures) c.traits.ensures is) c.written.ensures

@@ -14,8 +14,10 @@ returns-then-is_member c =
 pub returns-then-is_in_prelude : goal.returns-then-is_in_prelude
 returns-then-is_in_prelude c =
     let g = c.args.graph.now in
-    prelude_skipped (maps_of g).shapes (slice_get (entries_of g) c.args.number) (members_view c.args.shapes.now.items) c.as_str-id.result.now
-    (subst (λ t. At g c.args.number (λ id e. t ≡ id)) (sym c.as_str-id.ensures) c.id.ensures) (sym c.is_in_prelude.ensures ∙ c.if-is_in_prelude.true)
+    prelude_skipped (maps_of g).shapes (slice_get (entries_of g) c.args.number)
+    (members_view c.args.shapes.now.items) c.as_str-id.result.now
+    (subst (λ t. At g c.args.number (λ id e. t ≡ id)) (sym c.as_str-id.ensures) c.id.ensures)
+    (sym c.is_in_prelude.ensures ∙ c.if-is_in_prelude.true)
 
 pub shape_tree-requires-clause-is_shape : goal.shape_tree-requires-clause-is_shape
 shape_tree-requires-clause-is_shape c =

@@ -15,7 +15,8 @@ loop-number-preserved c =
     let next : suc k ≡ k + 1 = omega arith in
     record {
       written = subst (λ n. members_view c.put_shape.new.shapes.items ++ written_shapes shapes (drop n es) ≡ written_shapes shapes es) next
-          (put_then shapes es k (members_view c.put_shape.new.shapes.items) (members_view c.loop-number.shapes.items) c.in_ok-put_shape.ensures ∙ c.loop-number.invariant.written);
+          (put_then shapes es k (members_view c.put_shape.new.shapes.items)
+          (members_view c.loop-number.shapes.items) c.in_ok-put_shape.ensures ∙ c.loop-number.invariant.written);
     }
 
 pub returns : goal.returns

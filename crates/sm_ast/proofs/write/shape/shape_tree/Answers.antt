@@ -17,7 +17,8 @@ returns c =
     let members = map (λ m. get_or (ids g) m []) c.members-members.result.now in
     let body = node_of c.properties-body.result.now in
     let traits = members_view c.traits.result.now in
-    IfOk-weaker c.written.result (λ tree. node_of tree ≡ shape_object c.kind-kind.result (written_members shapes members) (pairs_said body) traits)
+    IfOk-weaker c.written.result
+    (λ tree. node_of tree ≡ shape_object c.kind-kind.result (written_members shapes members) (pairs_said body) traits)
     (λ tree. At g k (λ id e. IsWrittenShape shapes (node_of tree) e))
     (λ tree is. shape_written shapes (slice_get (entries_of g) k) c.kind-kind.result members body traits (node_of tree)
     c.kind-kind.ensures c.members-members.ensures.ids c.properties-body.ensures c.traits.ensures is) c.written.ensures
