@@ -2,30 +2,30 @@ mod SeenNames
 mod Telling
 mod IdTests
 mod Fields
-mod Judged
+pub mod Judged
 mod JsonParts
 mod SaidReferences
 mod SaidFields
 mod SaidTypes
 mod SaidShapes
-mod SaidTop
+pub mod SaidTop
 mod DistinctNames
 mod DistinctTop
-mod FaultlessParts
+pub mod FaultlessParts
 mod FaultlessShapes
-mod FaultlessTop
+pub mod FaultlessTop
 mod Agreeing
-mod FormedParts
-mod FormedShapes
+pub mod FormedParts
+pub mod FormedShapes
 mod OneParts
-mod OneReading
+pub mod OneReading
 mod Filled
 mod IdNames
 mod OfTree
 mod OfTreeTop
 mod WrittenAt
-mod JsonWritten
-mod JsonGiven
+pub mod JsonWritten
+pub mod JsonGiven
 mod WrittenNames
 mod WrittenMembers
 mod WrittenFields

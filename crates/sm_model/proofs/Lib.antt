@@ -1,6 +1,7 @@
 pub mod RawViews
 pub mod GraphFacts
 pub mod MapFacts
+pub mod RawWeight
 mod Searching
 mod Entries
 mod Moved

@@ -1,7 +1,7 @@
 use Rattle.std.proofs.Common.{◌≤◌, drop}
 use Rattle.sm_model.specs.Raw.{raws_of, raw_members_of}
 use Rattle.sm_model.specs.RawView.{raw_view, raws_view, raw_members_view}
-use Rattle.model_rows.proofs.RawWeight.{raw_weight, raws_weight, raw_members_weight}
+use Rattle.sm_model.proofs.RawWeight.{raw_weight, raws_weight, raw_members_weight}
 use Rattle.model_rows.proofs.node.+show.Given as goal
 
 abbrev pub decreases-show_node : goal.decreases-show_node

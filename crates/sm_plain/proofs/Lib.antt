@@ -1,0 +1,6 @@
+mod GivenParts
+mod GivenFields
+mod GivenShapes
+mod GivenTop
+mod NamedGiven
+mod SaidWritten
