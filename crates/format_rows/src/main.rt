@@ -14,27 +14,25 @@ mod stamps;
 mod trees;
 
 use play::answer_to;
+use rows::{Player, played};
 use sm_tree::NoMemory;
 use std::alloc::Global;
 use std::io;
 
-// What comes out for rows: an empty row and a title (`# ..`) as they are, a case with its answer.
-fn played(alloc: Global, rows: &str) -> Result<String, NoMemory> {
-    let mut out = String::new(alloc);
-    for row in rows.lines() {
-        out.push_str(row)?;
-        if !row.is_empty() && !row.starts_with('#') {
-            out.push_str(" => ")?;
-            answer_to(alloc, row, &mut out)?;
-        }
-        out.push('\n')?;
+// The answers of formats.
+#[derive(Drop)]
+struct Formats;
+
+impl Player for Formats {
+    fn play(&mut self, alloc: Global, case: &str, out: &mut String) -> Result<(), NoMemory> {
+        out.push_str(" => ")?;
+        answer_to(alloc, case, out)
     }
-    Ok(out)
 }
 
 fn main(rt: HostRuntime) -> anyhow::Result<()> {
     let rows = io::read_to_string(rt.alloc(), rt.stdin())?;
-    match played(rt.alloc(), &rows) {
+    match played(rt.alloc(), &mut Formats, &rows) {
         Ok(out) => print!(rt; "{out}")?,
         Err(NoMemory) => anyhow::bail!("out of memory"),
     }

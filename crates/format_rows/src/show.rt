@@ -1,4 +1,5 @@
 // Trees, bytes and refusals as a person reads them. A tree is shown in the diagnostic notation of CBOR (RFC 8949, section 8).
+use rows::push_comma;
 use sm_tree::{Bytes, NoMemory, SyntaxRefusal, Text, Tree};
 use std::alloc::Global;
 use std::cmp::Ordering;
@@ -98,10 +99,7 @@ fn show_string(bytes: &Bytes, out: &mut String) -> Result<(), NoMemory> {
 fn show_entries(alloc: Global, items: &[Tree], out: &mut String) -> Result<(), NoMemory> {
     let mut is_first = true;
     for item in items {
-        if !is_first {
-            out.push_str(", ")?;
-        }
-        is_first = false;
+        push_comma(&mut is_first, out)?;
         show_tree(alloc, item, out)?;
     }
     Ok(())
@@ -111,10 +109,7 @@ fn show_entries(alloc: Global, items: &[Tree], out: &mut String) -> Result<(), N
 fn show_pairs(alloc: Global, pairs: &[(Text, Tree)], out: &mut String) -> Result<(), NoMemory> {
     let mut is_first = true;
     for pair in pairs {
-        if !is_first {
-            out.push_str(", ")?;
-        }
-        is_first = false;
+        push_comma(&mut is_first, out)?;
         show_text(alloc, pair.0.as_str(), out)?;
         out.push_str(": ")?;
         show_tree(alloc, &pair.1, out)?;

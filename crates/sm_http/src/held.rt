@@ -9,14 +9,14 @@ use sm_io::{Failed, Source};
 use std::alloc::{AllocError, Global};
 use std::marker::Model;
 
-/// Bytes that were read and not used yet: at most 16,384. Contracts see them as a list.
+/// Bytes that were read and not used yet: at most 16,384. Contracts see them as a list. Their room grows by 4,096 bytes where a
+/// read finds it full, and is kept.
 #[derive(Drop)]
 pub struct Held {
-    // Room that is filled once, and then read into again and again.
     room: Vec<u8>,
-    // The bytes held are those of the room from here ..
+    // The bytes held stand in the room from here ..
     at: usize,
-    // .. to here.
+    // .. up to here.
     end: usize,
     pub ghost ordered: { at ≤ end },
     pub ghost inside: { end ≤ length room.items },
@@ -31,14 +31,16 @@ impl Model for Held {
     ghost view = { λ a. slice_range a.room.items a.at a.end };
 }
 
-// Moves some of the bytes to the start.
+// Moves some of the bytes to the start, where they don't stand there.
 fn move_to_start(bytes: &mut [u8], at: usize, end: usize)
     requires ordered { at ≤ end }
     requires inside { end ≤ length bytes.old }
     ensures bytes { take (end - at) bytes.new ≡ slice_range bytes.old at end }
     ensures len { length bytes.new ≡ length bytes.old }
 {
-    bytes.copy_within(at..end, 0);
+    if at > 0 {
+        bytes.copy_within(at..end, 0);
+    }
 }
 
 // Makes the room longer where all of it is used.
