@@ -5,7 +5,7 @@ use Rattle.format_speed.specs.declared.command.MeasuredFormat.TheVariants.{Json,
 use Rattle.format_speed.specs.declared.command.Work.{Work}
 use Rattle.format_speed.specs.declared.command.Work.TheVariants.{Read, Write, Copy}
 use Rattle.format_speed.specs.declared.command.Command.{Command}
-use Rattle.format_speed.specs.declared.command.Command.TheVariants.{Tree, Tokens, Events, Pieces}
+use Rattle.format_speed.specs.declared.command.Command.TheVariants.{Tree, Tokens, Events, Pieces, ItemEvents, ItemPieces}
 
 -- json or cbor
 abbrev pub AsksFormat : List ℕ → Option MeasuredFormat → Type 0
@@ -20,12 +20,14 @@ AsksWork word count (Some (Write n)) = (word ≡ codes "write") × (count ≡ So
 AsksWork word count (Some Copy) = (word ≡ codes "copy") × (count ≡ None)
 AsksWork word count None = Unit {0}
 
--- a format and what is done with it; or tokens, events or pieces read N
+-- a format and what is done with it; or tokens, events or pieces of a text, or those of an item, read N
 abbrev pub AsksCommand : List ℕ → List ℕ → Option ℕ → Option Command → Type 0
 AsksCommand format work count (Some (Tree f w)) = AsksFormat format (Some f) × AsksWork work count (Some w)
 AsksCommand format work count (Some (Tokens n)) = (format ≡ codes "tokens") × (work ≡ codes "read") × (count ≡ Some n)
 AsksCommand format work count (Some (Events n)) = (format ≡ codes "events") × (work ≡ codes "read") × (count ≡ Some n)
 AsksCommand format work count (Some (Pieces n)) = (format ≡ codes "pieces") × (work ≡ codes "read") × (count ≡ Some n)
+AsksCommand format work count (Some (ItemEvents n)) = (format ≡ codes "item-events") × (work ≡ codes "read") × (count ≡ Some n)
+AsksCommand format work count (Some (ItemPieces n)) = (format ≡ codes "item-pieces") × (work ≡ codes "read") × (count ≡ Some n)
 AsksCommand format work count None = Unit {0}
 
 -- the text is read so many times

@@ -68,6 +68,10 @@ pub enum Command {
     Events(u32),
     /// `pieces read N`: the same, the text in pieces of 4,096 bytes.
     Pieces(u32),
+    /// `item-events read N`: the item of CBOR is read N times by events, in one piece.
+    ItemEvents(u32),
+    /// `item-pieces read N`: the same, in pieces of 4,096 bytes.
+    ItemPieces(u32),
 }
 
 impl Command {
@@ -83,6 +87,8 @@ impl Command {
             ("tokens", Work::Read(count)) => Some(Command::Tokens(count)),
             ("events", Work::Read(count)) => Some(Command::Events(count)),
             ("pieces", Work::Read(count)) => Some(Command::Pieces(count)),
+            ("item-events", Work::Read(count)) => Some(Command::ItemEvents(count)),
+            ("item-pieces", Work::Read(count)) => Some(Command::ItemPieces(count)),
             _ => None,
         }
     }

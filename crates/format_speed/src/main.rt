@@ -8,6 +8,7 @@ ghost use Rattle.sm_tree.specs.View.{node_of};
 
 mod command;
 mod events;
+mod item_events;
 mod turns;
 
 use command::{Command, MeasuredFormat, Work};
@@ -20,7 +21,7 @@ use std::{env, io};
 /// The most bytes that are read.
 const TEXT_LIMIT: u64 = 1 << 30;
 
-/// The length of a piece.
+/// How many bytes of a text or an item come at a time, where it comes in pieces.
 const PIECE: usize = 4096;
 
 // What the arguments ask for. The first of them is the program's name.
@@ -40,6 +41,17 @@ fn asked(rt: &HostRuntime) -> io::Result<Option<Command>> {
     match count.as_str().parse::<u32>() {
         Ok(count) => Ok(Command::of(format.as_str(), work.as_str(), Some(count))),
         Err(_) => Ok(None),
+    }
+}
+
+// How many events come of the item of a JSON text that is read many times over, in pieces of so many bytes.
+fn events_of(alloc: Global, text: Vec<u8>, size: usize, turns: u32) -> anyhow::Result<u64>
+    requires { 0 < size }
+{
+    let item = in_format(alloc, MeasuredFormat::Cbor, text)?;
+    match item_events::item_events(alloc, &item, size, turns) {
+        Ok(count) => Ok(count),
+        Err(_) => anyhow::bail!("the item can't be read"),
     }
 }
 
@@ -130,6 +142,14 @@ fn main(rt: HostRuntime) -> anyhow::Result<ExitCode> {
         }
         Command::Events(turns) => println!(rt; "{}", counted(alloc, &text, usize::MAX, turns)?)?,
         Command::Pieces(turns) => println!(rt; "{}", counted(alloc, &text, PIECE, turns)?)?,
+        Command::ItemEvents(turns) => println!(rt;
+            "{}",
+            events_of(alloc, text, usize::MAX, turns)?
+        )?,
+        Command::ItemPieces(turns) => println!(rt;
+            "{}",
+            events_of(alloc, text, PIECE, turns)?
+        )?,
     }
     Ok(ExitCode::SUCCESS)
 }
