@@ -1,5 +1,6 @@
 // Answers on texts of JSON and items of CBOR. What is written for a tree goes behind bytes that are there, into room that is just
 // enough.
+use crate::cbor_events::is_read_in_pieces;
 use crate::show::{push_utf8, show_bytes, show_ranges, show_refusal, show_tree};
 use sm_cbor::readers::{read_by_bytes, read_item};
 use sm_tree::number::{Phase, number_run as run_of};
@@ -91,7 +92,11 @@ pub fn number_run(phase: Phase, bytes: &[u8], out: &mut String) -> Result<(), No
 }
 
 pub fn cbor(alloc: Global, bytes: &[u8], out: &mut String) -> Result<(), NoMemory> {
-    match sm_cbor::read_tree(alloc, bytes) {
+    let answer = sm_cbor::read_tree(alloc, bytes);
+    if !is_read_in_pieces(alloc, bytes, &answer) {
+        out.push_str("otherwise in pieces ")?;
+    }
+    match answer {
         Ok(tree) => {
             show_tree(alloc, &tree, out)?;
             if !is_read_by_both(alloc, bytes, &tree) {

@@ -3,6 +3,7 @@
 #![tactic(auto)]
 
 mod both_readers;
+mod cbor_events;
 mod formats;
 mod given;
 mod idl;
@@ -10,6 +11,7 @@ mod ids;
 mod play;
 mod question;
 mod show;
+mod shown;
 mod stamps;
 mod trees;
 

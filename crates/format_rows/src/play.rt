@@ -1,5 +1,6 @@
 // The answer to each case.
 use crate::both_readers::cbor_two;
+use crate::cbor_events::cbor_events;
 use crate::formats::{cbor, json, json_next, number_run};
 use crate::given::given;
 use crate::idl::{docs, lexed};
@@ -36,6 +37,7 @@ fn answer(
     match question {
         Question::Json => return json(alloc, bytes, out),
         Question::Cbor => return cbor(alloc, bytes, out),
+        Question::CborEvents => return cbor_events(alloc, bytes, out),
         Question::JsonNext => return json_next(alloc, bytes, out),
         Question::NumberRun(phase) => return number_run(phase, bytes, out),
         Question::Stamp(format) => return stamp(format, bytes, out),
@@ -59,6 +61,7 @@ fn answer(
         Question::Order => order(alloc, text, out),
         Question::Json
         | Question::Cbor
+        | Question::CborEvents
         | Question::JsonNext
         | Question::NumberRun(_)
         | Question::Stamp(_) => Ok(()),

@@ -10,6 +10,8 @@ pub enum Question {
     Json,
     /// To read them as a CBOR item; the answer is its tree, and the item that is written for it.
     Cbor,
+    /// The events of a CBOR item, as its bytes come one after the other.
+    CborEvents,
     /// How many items all two bytes make that stand between these.
     CborTwo,
     /// To read them as a shape id.
@@ -71,6 +73,7 @@ pub fn question_of<'a>(word: &str, rest: &'a str) -> Option<(Question, &'a str)>
     let plain = match word {
         "json" => Question::Json,
         "cbor" => Question::Cbor,
+        "cbor-events" => Question::CborEvents,
         "cbor-two" => Question::CborTwo,
         "id" => Question::Id,
         "id-lengths" => Question::IdLengths,
@@ -108,7 +111,7 @@ pub fn notation_of(word: &str) -> (Notation, &str) {
     if let Some(word) = word.strip_suffix("-bytes") {
         return (Notation::Pairs, word);
     }
-    if word == "cbor" {
+    if word == "cbor" || word == "cbor-events" {
         return (Notation::Pairs, word);
     }
     (Notation::Plain, word)
