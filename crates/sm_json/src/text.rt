@@ -151,6 +151,7 @@ impl TextReader {
     /// # Errors
     ///
     /// `Bad` with the first place whose byte no string goes on with, `NoMemory`.
+    #[inline(always)]
     pub fn read(&mut self, bytes: &[u8]) -> Result<Reading, TextRefusal>
         ensures { ReadsString self.old self.new bytes.now result }
     {

@@ -81,7 +81,20 @@ fn room_for(expected: usize) -> u8
     expected.clamp(1, FIRST_ROOM) as u8
 }
 
-// A tree in tags, the outermost first, which are used up.
+// A tree in tags, the outermost first, which are used up. It isn't inlined, since few trees have any.
+#[inline(never)]
+fn put_tags(alloc: Global, tags: &mut Vec<u64>, tree: Tree) -> Result<Tree, NoMemory>
+    ensures tree { IfOk result (λ whole. node_of whole ≡ tagged tags.old.items (node_of tree)) }
+    ensures none { OnOk result (tags.new.items ≡ []) }
+{
+    let mut tree = tree;
+    while let Some(number) = tags.pop() {
+        tree = Tree::Tag(number, Box::new(alloc, tree)?);
+    }
+    Ok(tree)
+}
+
+// A tree in its tags.
 #[inline(always)]
 fn in_tags(alloc: Global, tags: &mut Vec<u64>, tree: Tree) -> Result<Tree, NoMemory>
     ensures tree { IfOk result (λ whole. node_of whole ≡ tagged tags.old.items (node_of tree)) }
@@ -90,11 +103,7 @@ fn in_tags(alloc: Global, tags: &mut Vec<u64>, tree: Tree) -> Result<Tree, NoMem
     if tags.is_empty() {
         return Ok(tree);
     }
-    let mut tree = tree;
-    while let Some(number) = tags.pop() {
-        tree = Tree::Tag(number, Box::new(alloc, tree)?);
-    }
-    Ok(tree)
+    put_tags(alloc, tags, tree)
 }
 
 impl Inner {
@@ -303,6 +312,15 @@ impl TreeBuilder {
             State::Within(open) => open.inner.put(self.alloc, tree),
             State::Whole(_) => unreachable!(),
         }
+    }
+
+    // The same by a call: a function into which `value` is inlined for each kind of leaf grows too large to be inlined itself.
+    #[inline(never)]
+    pub(crate) fn value_by_call(&mut self, tree: Tree) -> Result<(), NoMemory>
+        requires { awaits_value (building_of self.old) ≡ true }
+        ensures { OnOk result (so_far (building_of self.new) ≡ so_far (building_of self.old) ++ events (node_of tree) []) }
+    {
+        self.value(tree)
     }
 
     /// Takes the name of the next pair of the innermost object. No memory.

@@ -84,14 +84,14 @@ impl EventSink for TreeBuilder {
     #[inline(always)]
     fn event(&mut self, event: Event) -> Result<(), NoMemory> {
         match event {
-            Event::Null => self.value(Tree::Null),
-            Event::Bool(truth) => self.value(Tree::Bool(truth)),
+            Event::Null => self.value_by_call(Tree::Null),
+            Event::Bool(truth) => self.value_by_call(Tree::Bool(truth)),
             Event::Int(integer) => self.value(Tree::Int(integer)),
-            Event::Number(number) => self.value(Tree::Number(number)),
+            Event::Number(number) => self.value_by_call(Tree::Number(number)),
             Event::Text(text) => self.value(Tree::Text(text)),
-            Event::Bytes(bytes) => self.value(Tree::Bytes(bytes)),
+            Event::Bytes(bytes) => self.value_by_call(Tree::Bytes(bytes)),
             Event::Tag(number) => self.tag(number),
-            Event::Opaque(byte) => self.value(Tree::Opaque(byte)),
+            Event::Opaque(byte) => self.value_by_call(Tree::Opaque(byte)),
             Event::StartList(count) => self.start_list(expected(count)),
             Event::EndList => self.end_list(),
             Event::StartObject(count) => self.start_object(expected(count)),

@@ -83,6 +83,7 @@ impl Reader {
     }
 
     // The event of the number, which is whole.
+    #[inline(always)]
     fn number_event(&self) -> Result<Event, NoMemory>
         requires { IsNumber self.now.number.items }
         ensures { IfOk result (λ event. IsNumberEvent self.now.number.items (event_of event)) }

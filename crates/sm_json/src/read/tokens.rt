@@ -296,6 +296,7 @@ impl Reader {
     }
 
     // Whether the byte may come behind a value here. It is asked before a number is handed on.
+    #[inline(always)]
     pub(super) fn may_follow(&self, byte: u8) -> bool
         ensures { MayFollow self.now byte result }
     {

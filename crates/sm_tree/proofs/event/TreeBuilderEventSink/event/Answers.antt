@@ -13,29 +13,29 @@ use Rattle.sm_tree.specs.BuilderView.{building_of}
 use Rattle.sm_tree.proofs.Awaited.{placed_awaited, taken_on}
 use Rattle.sm_tree.proofs.event.TreeBuilderEventSink.event.Goals as goal
 
+pub value_by_call-requires : goal.value_by_call-requires
+value_by_call-requires c = subst (λ e. Awaits (building_of c.args.self.now) (unnumbered_event (event_of e))) c.in-Null.is (placed_awaited (building_of c.args.self.now) (event_of c.args.event) c.requires.placed)
+
+pub value_by_call-requires-in-Bool : goal.value_by_call-requires-in-Bool
+value_by_call-requires-in-Bool c = subst (λ e. Awaits (building_of c.args.self.now) (unnumbered_event (event_of e))) c.in-Bool.is (placed_awaited (building_of c.args.self.now) (event_of c.args.event) c.requires.placed)
+
 pub value-requires : goal.value-requires
-value-requires c = subst (λ e. Awaits (building_of c.args.self.now) (unnumbered_event (event_of e))) c.in-Null.is (placed_awaited (building_of c.args.self.now) (event_of c.args.event) c.requires.placed)
+value-requires c = subst (λ e. Awaits (building_of c.args.self.now) (unnumbered_event (event_of e))) c.in-Int.is (placed_awaited (building_of c.args.self.now) (event_of c.args.event) c.requires.placed)
 
-pub value-requires-in-Bool : goal.value-requires-in-Bool
-value-requires-in-Bool c = subst (λ e. Awaits (building_of c.args.self.now) (unnumbered_event (event_of e))) c.in-Bool.is (placed_awaited (building_of c.args.self.now) (event_of c.args.event) c.requires.placed)
-
-pub value-requires-in-Int : goal.value-requires-in-Int
-value-requires-in-Int c = subst (λ e. Awaits (building_of c.args.self.now) (unnumbered_event (event_of e))) c.in-Int.is (placed_awaited (building_of c.args.self.now) (event_of c.args.event) c.requires.placed)
-
-pub value-requires-in-Number : goal.value-requires-in-Number
-value-requires-in-Number c = subst (λ e. Awaits (building_of c.args.self.now) (unnumbered_event (event_of e))) c.in-Number.is (placed_awaited (building_of c.args.self.now) (event_of c.args.event) c.requires.placed)
+pub value_by_call-requires-in-Number : goal.value_by_call-requires-in-Number
+value_by_call-requires-in-Number c = subst (λ e. Awaits (building_of c.args.self.now) (unnumbered_event (event_of e))) c.in-Number.is (placed_awaited (building_of c.args.self.now) (event_of c.args.event) c.requires.placed)
 
 pub value-requires-in-Text : goal.value-requires-in-Text
 value-requires-in-Text c = subst (λ e. Awaits (building_of c.args.self.now) (unnumbered_event (event_of e))) c.in-Text.is (placed_awaited (building_of c.args.self.now) (event_of c.args.event) c.requires.placed)
 
-pub value-requires-in-Bytes : goal.value-requires-in-Bytes
-value-requires-in-Bytes c = subst (λ e. Awaits (building_of c.args.self.now) (unnumbered_event (event_of e))) c.in-Bytes.is (placed_awaited (building_of c.args.self.now) (event_of c.args.event) c.requires.placed)
+pub value_by_call-requires-in-Bytes : goal.value_by_call-requires-in-Bytes
+value_by_call-requires-in-Bytes c = subst (λ e. Awaits (building_of c.args.self.now) (unnumbered_event (event_of e))) c.in-Bytes.is (placed_awaited (building_of c.args.self.now) (event_of c.args.event) c.requires.placed)
 
 pub tag-requires : goal.tag-requires
 tag-requires c = subst (λ e. Awaits (building_of c.args.self.now) (unnumbered_event (event_of e))) c.in-Tag.is (placed_awaited (building_of c.args.self.now) (event_of c.args.event) c.requires.placed)
 
-pub value-requires-in-Opaque : goal.value-requires-in-Opaque
-value-requires-in-Opaque c = subst (λ e. Awaits (building_of c.args.self.now) (unnumbered_event (event_of e))) c.in-Opaque.is (placed_awaited (building_of c.args.self.now) (event_of c.args.event) c.requires.placed)
+pub value_by_call-requires-in-Opaque : goal.value_by_call-requires-in-Opaque
+value_by_call-requires-in-Opaque c = subst (λ e. Awaits (building_of c.args.self.now) (unnumbered_event (event_of e))) c.in-Opaque.is (placed_awaited (building_of c.args.self.now) (event_of c.args.event) c.requires.placed)
 
 pub start_list-requires : goal.start_list-requires
 start_list-requires c = subst (λ e. Awaits (building_of c.args.self.now) (unnumbered_event (event_of e))) c.in-StartList.is (placed_awaited (building_of c.args.self.now) (event_of c.args.event) c.requires.placed)
@@ -62,30 +62,30 @@ pub end_object-requires-clause-unnamed : goal.end_object-requires-clause-unnamed
 end_object-requires-clause-unnamed c = (subst (λ e. Awaits (building_of c.args.self.now) (unnumbered_event (event_of e))) c.in-EndObject.is (placed_awaited (building_of c.args.self.now) (event_of c.args.event) c.requires.placed)).1
 
 pub returns-in-Null-clause-stands : goal.returns-in-Null-clause-stands
-returns-in-Null-clause-stands c = on_ok_weaker c.value.result (λ taken. taken_on (building_of c.args.self.now) (building_of c.value.new.self) (event_of c.args.event) (subst (λ e. so_far (building_of c.value.new.self) ≡ so_far (building_of c.args.self.now) ++ unnumbered_event (event_of e) ∷ []) (sym c.in-Null.is) (taken ∙ ap (λ n. so_far (building_of c.args.self.now) ++ events n []) node_null))) c.value.ensures.taken
+returns-in-Null-clause-stands c = on_ok_weaker c.value_by_call.result (λ taken. taken_on (building_of c.args.self.now) (building_of c.value_by_call.new.self) (event_of c.args.event) (subst (λ e. so_far (building_of c.value_by_call.new.self) ≡ so_far (building_of c.args.self.now) ++ unnumbered_event (event_of e) ∷ []) (sym c.in-Null.is) (taken ∙ ap (λ n. so_far (building_of c.args.self.now) ++ events n []) node_null))) c.value_by_call.ensures
 
 pub returns-in-Bool-clause-stands : goal.returns-in-Bool-clause-stands
-returns-in-Bool-clause-stands c = on_ok_weaker c.value-in-Bool.result (λ taken. taken_on (building_of c.args.self.now) (building_of c.value-in-Bool.new.self) (event_of c.args.event) (subst (λ e. so_far (building_of c.value-in-Bool.new.self) ≡ so_far (building_of c.args.self.now) ++ unnumbered_event (event_of e) ∷ []) (sym c.in-Bool.is) (taken ∙ ap (λ n. so_far (building_of c.args.self.now) ++ events n []) (node_bool c.in-Bool.truth)))) c.value-in-Bool.ensures.taken
+returns-in-Bool-clause-stands c = on_ok_weaker c.value_by_call-in-Bool.result (λ taken. taken_on (building_of c.args.self.now) (building_of c.value_by_call-in-Bool.new.self) (event_of c.args.event) (subst (λ e. so_far (building_of c.value_by_call-in-Bool.new.self) ≡ so_far (building_of c.args.self.now) ++ unnumbered_event (event_of e) ∷ []) (sym c.in-Bool.is) (taken ∙ ap (λ n. so_far (building_of c.args.self.now) ++ events n []) (node_bool c.in-Bool.truth)))) c.value_by_call-in-Bool.ensures
 
 pub returns-in-Int-clause-stands : goal.returns-in-Int-clause-stands
 returns-in-Int-clause-stands c =
     let fits : FitsSigned w64 c.in-Int.integer = search rules in
-    on_ok_weaker c.value-in-Int.result (λ taken. taken_on (building_of c.args.self.now) (building_of c.value-in-Int.new.self) (event_of c.args.event) (subst (λ e. so_far (building_of c.value-in-Int.new.self) ≡ so_far (building_of c.args.self.now) ++ unnumbered_event (event_of e) ∷ []) (sym c.in-Int.is) (taken ∙ ap (λ z. so_far (building_of c.args.self.now) ++ events (node_of (Int z)) []) (to_z-of_z fits) ∙ ap (λ n. so_far (building_of c.args.self.now) ++ events n []) (node_int c.in-Int.integer)))) c.value-in-Int.ensures.taken
+    on_ok_weaker c.value.result (λ taken. taken_on (building_of c.args.self.now) (building_of c.value.new.self) (event_of c.args.event) (subst (λ e. so_far (building_of c.value.new.self) ≡ so_far (building_of c.args.self.now) ++ unnumbered_event (event_of e) ∷ []) (sym c.in-Int.is) (taken ∙ ap (λ z. so_far (building_of c.args.self.now) ++ events (node_of (Int z)) []) (to_z-of_z fits) ∙ ap (λ n. so_far (building_of c.args.self.now) ++ events n []) (node_int c.in-Int.integer)))) c.value.ensures.taken
 
 pub returns-in-Number-clause-stands : goal.returns-in-Number-clause-stands
-returns-in-Number-clause-stands c = on_ok_weaker c.value-in-Number.result (λ taken. taken_on (building_of c.args.self.now) (building_of c.value-in-Number.new.self) (event_of c.args.event) (subst (λ e. so_far (building_of c.value-in-Number.new.self) ≡ so_far (building_of c.args.self.now) ++ unnumbered_event (event_of e) ∷ []) (sym c.in-Number.is) (taken ∙ ap (λ n. so_far (building_of c.args.self.now) ++ events n []) (node_number c.in-Number.number)))) c.value-in-Number.ensures.taken
+returns-in-Number-clause-stands c = on_ok_weaker c.value_by_call-in-Number.result (λ taken. taken_on (building_of c.args.self.now) (building_of c.value_by_call-in-Number.new.self) (event_of c.args.event) (subst (λ e. so_far (building_of c.value_by_call-in-Number.new.self) ≡ so_far (building_of c.args.self.now) ++ unnumbered_event (event_of e) ∷ []) (sym c.in-Number.is) (taken ∙ ap (λ n. so_far (building_of c.args.self.now) ++ events n []) (node_number c.in-Number.number)))) c.value_by_call-in-Number.ensures
 
 pub returns-in-Text-clause-stands : goal.returns-in-Text-clause-stands
 returns-in-Text-clause-stands c = on_ok_weaker c.value-in-Text.result (λ taken. taken_on (building_of c.args.self.now) (building_of c.value-in-Text.new.self) (event_of c.args.event) (subst (λ e. so_far (building_of c.value-in-Text.new.self) ≡ so_far (building_of c.args.self.now) ++ unnumbered_event (event_of e) ∷ []) (sym c.in-Text.is) (taken ∙ ap (λ n. so_far (building_of c.args.self.now) ++ events n []) (node_text c.in-Text.text)))) c.value-in-Text.ensures.taken
 
 pub returns-in-Bytes-clause-stands : goal.returns-in-Bytes-clause-stands
-returns-in-Bytes-clause-stands c = on_ok_weaker c.value-in-Bytes.result (λ taken. taken_on (building_of c.args.self.now) (building_of c.value-in-Bytes.new.self) (event_of c.args.event) (subst (λ e. so_far (building_of c.value-in-Bytes.new.self) ≡ so_far (building_of c.args.self.now) ++ unnumbered_event (event_of e) ∷ []) (sym c.in-Bytes.is) (taken ∙ ap (λ n. so_far (building_of c.args.self.now) ++ events n []) (node_bytes c.in-Bytes.bytes)))) c.value-in-Bytes.ensures.taken
+returns-in-Bytes-clause-stands c = on_ok_weaker c.value_by_call-in-Bytes.result (λ taken. taken_on (building_of c.args.self.now) (building_of c.value_by_call-in-Bytes.new.self) (event_of c.args.event) (subst (λ e. so_far (building_of c.value_by_call-in-Bytes.new.self) ≡ so_far (building_of c.args.self.now) ++ unnumbered_event (event_of e) ∷ []) (sym c.in-Bytes.is) (taken ∙ ap (λ n. so_far (building_of c.args.self.now) ++ events n []) (node_bytes c.in-Bytes.bytes)))) c.value_by_call-in-Bytes.ensures
 
 pub returns-in-Tag-clause-stands : goal.returns-in-Tag-clause-stands
 returns-in-Tag-clause-stands c = on_ok_weaker c.tag.result (λ taken. taken_on (building_of c.args.self.now) (building_of c.tag.new.self) (event_of c.args.event) (subst (λ e. so_far (building_of c.tag.new.self) ≡ so_far (building_of c.args.self.now) ++ unnumbered_event (event_of e) ∷ []) (sym c.in-Tag.is) taken)) c.tag.ensures.taken
 
 pub returns-in-Opaque-clause-stands : goal.returns-in-Opaque-clause-stands
-returns-in-Opaque-clause-stands c = on_ok_weaker c.value-in-Opaque.result (λ taken. taken_on (building_of c.args.self.now) (building_of c.value-in-Opaque.new.self) (event_of c.args.event) (subst (λ e. so_far (building_of c.value-in-Opaque.new.self) ≡ so_far (building_of c.args.self.now) ++ unnumbered_event (event_of e) ∷ []) (sym c.in-Opaque.is) (taken ∙ ap (λ n. so_far (building_of c.args.self.now) ++ events n []) (node_opaque c.in-Opaque.byte)))) c.value-in-Opaque.ensures.taken
+returns-in-Opaque-clause-stands c = on_ok_weaker c.value_by_call-in-Opaque.result (λ taken. taken_on (building_of c.args.self.now) (building_of c.value_by_call-in-Opaque.new.self) (event_of c.args.event) (subst (λ e. so_far (building_of c.value_by_call-in-Opaque.new.self) ≡ so_far (building_of c.args.self.now) ++ unnumbered_event (event_of e) ∷ []) (sym c.in-Opaque.is) (taken ∙ ap (λ n. so_far (building_of c.args.self.now) ++ events n []) (node_opaque c.in-Opaque.byte)))) c.value_by_call-in-Opaque.ensures
 
 pub returns-in-StartList-clause-stands : goal.returns-in-StartList-clause-stands
 returns-in-StartList-clause-stands c = on_ok_weaker c.start_list.result (λ taken. taken_on (building_of c.args.self.now) (building_of c.start_list.new.self) (event_of c.args.event) (subst (λ e. so_far (building_of c.start_list.new.self) ≡ so_far (building_of c.args.self.now) ++ unnumbered_event (event_of e) ∷ []) (sym c.in-StartList.is) taken)) c.start_list.ensures.taken
