@@ -1,6 +1,7 @@
 -- A union: what its pairs come to is what they spell, of the one member that stands.
 use Rattle.std.proofs.Common.{◌≡◌, ℕ, ◌<◌, Bool, true, false, cond, List, [], ◌∷◌, ◌++◌, refl, sym, ap, ◌∙◌, subst}
 use Rattle.std.specs.Prelude.{Result, Ok, Err}
+use Rattle.std.specs.List.{Contains}
 use Rattle.sm_tree.specs.Node.{Node, object, members_of}
 use Rattle.sm_tree.specs.declared.path.Step.TheVariants.{Member}
 use Rattle.sm_shapes.specs.Values.{Val, union_val}
@@ -17,7 +18,7 @@ use Rattle.sm_codec.specs.FaultLists.{FaultAt, under, Reading, faults_in}
 use Rattle.sm_codec.specs.Readings.{Child, child_of, children_of, named_children_of, one_here, present_reading, member_fields, repeated_faults, repeats, under_names, standing, all_standing, standing_faults, union_faults, standing_fields, union_reading_of, union_reading, object_by, reading, named_children}
 use Rattle.sm_codec.proofs.NoFaults.{none_first, none_behind, none_under, IsReading, reading_is, clean_reading, same_reading, ok_reading}
 use Rattle.sm_codec.proofs.ChildLists.{pairs_are, pairs_each, named_are}
-use Rattle.sm_codec.proofs.PlacesIn.{kind_of_sort, members_stand, stand_at}
+use Rattle.sm_codec.proofs.PlacesIn.{kind_of_sort, members_stand, stand_at, split_member}
 use Rattle.sm_codec.proofs.Entries.{IsRead, AreRead, IsSpelled}
 use Rattle.sm_codec.proofs.Keyed.{PairsAreRead, named_read}
 
@@ -150,7 +151,7 @@ module _ (c : Codec) (p : Place) (ps : List (List ℕ × Node)) where
       (subst (AreMembersOf c.table (shape_of c.table p)) one.3 (members_stand c.table p laws.table inside)) in
       let spells = one.8 (member_place k) w place.0 found.1 in
       subst (λ x. Spells c p x (object (members_of ps))) value (
-        (kind_of_sort c.table p a_union sort, (one.0, one.1, one.3), spells.0),
+        (kind_of_sort c.table p a_union sort, subst (λ xs. Contains xs k) (sym one.3) (split_member k one.0 one.1), spells.0),
         (sort, (ps, one.0, one.1, n, refl, one.3, one.4, one.5, one.6, spells.1)),
       )
 

@@ -1,13 +1,15 @@
 -- Names in byte order, each once: which names they are, and that a list of names in that order is one list.
-use Rattle.std.proofs.Common.{◌≡◌, ◌⊎◌, inl, inr, ℕ, Bool, true, false, cond, List, [], ◌∷◌, ◌++◌, map, refl, sym, ap, ◌∙◌, subst}
+use Rattle.std.proofs.Common.{◌≡◌, ◌⊎◌, inl, inr, ℕ, zero, suc, ◌<◌, Bool, true, false, cond, List, [], ◌∷◌, ◌++◌, length, map, refl, sym, ap, ◌∙◌, subst, arith}
+use Rattle.std.specs.Prelude.{slice_index_or}
 use Rattle.std.specs.Ordering.{nat_cmp, match_ordering, is_eq, ordering_reverse}
 use Rattle.std.specs.declared.cmp.Ordering.{Ordering}
 use Rattle.std.specs.declared.cmp.Ordering.TheVariants.{Less, Equal, Greater}
 use Rattle.std.specs.Cmp.Lexicographic.{slice_cmp}
-use Rattle.std.specs.List.{AllByRecursion}
+use Rattle.std.specs.List.{AllByRecursion, Contains}
 use Rattle.std.specs.List.Sorted.{IsStrictlySortedBy}
 use Rattle.std.specs.Str.{bytes_eq}
 use Rattle.std.proofs.lemmas.Cmp.{nat_list_cmp_total}
+use Rattle.std.proofs.lemmas.List.Elements.{Contains-append_right}
 use Rattle.std.proofs.lemmas.Map.Text.{is_eq-slice_cmp}
 use Rattle.std.proofs.lemmas.Slice.Eq.{bytes_eq-Decides}
 use Rattle.sm_tree.specs.Node.{Node}
@@ -146,15 +148,22 @@ same_order (x ∷ xs) (y ∷ ys) h g there back =
     ∙ ap (λ ks. y ∷ ks) (same_order xs ys h.1 g.1 (λ z i. in_tail x y z xs ys e h.0 i (there z (inr i)))
     (λ z i. in_tail y x z ys xs (sym e) g.0 i (back z (inr i))))
 
--- a name that stands in the middle of a list, and the other way
-pub in_middle : (x : List ℕ) (before behind : List (List ℕ)) → IsIn x (before ++ x ∷ behind)
-in_middle x [] behind = inl refl
-in_middle x (k ∷ before) behind = inr (in_middle x before behind)
+-- the same as std says it
+contains_more : (x k : List ℕ) (ks : List (List ℕ)) → Contains ks x → Contains (k ∷ ks) x
+contains_more x k ks h = Contains-append_right (k ∷ []) ks x h
 
-pub middle_in : (x : List ℕ) (ks : List (List ℕ)) → IsIn x ks → (before behind : List (List ℕ)) × (ks ≡ before ++ x ∷ behind)
-middle_in x [] i = absurd i
-middle_in x (k ∷ ks) (inl e) = ([], ks, ap (λ y. y ∷ ks) (sym e))
-middle_in x (k ∷ ks) (inr i) = let rest = middle_in x ks i in (k ∷ rest.0, rest.1, ap (λ ys. k ∷ ys) rest.2)
+pub contains_in : (x : List ℕ) (ks : List (List ℕ)) → IsIn x ks → Contains ks x
+contains_in x [] i = absurd i
+contains_in x (k ∷ ks) (inl e) = (0, omega arith, sym e)
+contains_in x (k ∷ ks) (inr i) = contains_more x k ks (contains_in x ks i)
+
+in_at : (x : List ℕ) (ks : List (List ℕ)) (i : ℕ) → i < length ks → slice_index_or ks i x ≡ x → IsIn x ks
+in_at x [] i h e = absurd (omega (arith, h))
+in_at x (k ∷ ks) zero h e = inl (sym e)
+in_at x (k ∷ ks) (suc i) h e = inr (in_at x ks i (omega (arith, h)) e)
+
+pub in_contains : (x : List ℕ) (ks : List (List ℕ)) → Contains ks x → IsIn x ks
+in_contains x ks h = in_at x ks h.0 h.1 h.2
 
 -- the names of pairs are those under which something stands
 stands_if : (b : Bool) (n : Node) (ns : List Node) (k x : List ℕ) (ks : List (List ℕ)) → bytes_eq k x ≡ b → cond b (n ∷ ns) ns ≡ []

@@ -1,6 +1,7 @@
 -- A map: what its pairs come to is what they spell, and the map with them.
 use Rattle.std.proofs.Common.{◌≡◌, inl, inr, ℕ, Bool, true, false, cond, List, [], ◌∷◌, ◌++◌, length, refl, sym, ap, ◌∙◌, subst}
 use Rattle.std.specs.Prelude.{Result, Ok, Err, IsUtf8}
+use Rattle.std.specs.List.{Contains}
 use Rattle.std.specs.Str.{bytes_eq, is_utf8}
 use Rattle.std.proofs.lemmas.Str.{IsUtf8-from_is_utf8, is_utf8-from_IsUtf8}
 use Rattle.sm_tree.specs.Node.{Node, object, members_of}
@@ -24,7 +25,7 @@ use Rattle.sm_codec.specs.Readings.{Child, child_of, children_of, named_children
 use Rattle.sm_codec.proofs.NoFaults.{none_first, none_behind, none_under, none_here, settled_ok, ok_reading}
 use Rattle.sm_codec.proofs.ChildLists.{each_pair, pairs_are, pairs_each, named_are, names_are}
 use Rattle.sm_codec.proofs.PlacesIn.{kind_of_sort, value_in, key_text}
-use Rattle.sm_codec.proofs.KeyOrder.{IsIn, InOrder, ordered, ordered_is, is_ordered, same_order, in_middle, middle_in, stands_in, named_in}
+use Rattle.sm_codec.proofs.KeyOrder.{IsIn, InOrder, ordered, ordered_is, is_ordered, same_order, contains_in, in_contains, stands_in, named_in}
 use Rattle.sm_codec.proofs.Entries.{IsRead, AreRead, IsSpelled, EntrySays, entry_says, entry_spelled}
 
 -- each pair's tree spells what it comes to
@@ -124,7 +125,7 @@ module _ (c : Codec) (p : Place) where
 
   each_is_key : (qs : List (List ℕ × Node)) (keys : List (List ℕ)) → ((x : List ℕ) → IsIn x (names_of qs) → IsIn x keys) → AreKeys qs keys
   each_is_key [] keys h = tt
-  each_is_key (q ∷ qs) keys h = (middle_in q.0 keys (h q.0 (inl refl)), each_is_key qs keys (λ x i. h x (inr i)))
+  each_is_key (q ∷ qs) keys h = (contains_in q.0 keys (h q.0 (inl refl)), each_is_key qs keys (λ x i. h x (inr i)))
 
   -- a map that has no fault
   pub map_read : (ps : List (List ℕ × Node)) (v : Val) → IsCodec c → InTable c.table p → sort_at c p ≡ a_map → PairsAreRead c ps
@@ -173,8 +174,7 @@ module _ (c : Codec) (p : Place) where
 
   keys_in : (ps qs : List (List ℕ × Node)) (keys : List (List ℕ)) (x : List ℕ) → AreKeys qs keys → IsIn x (names_of qs) → IsIn x keys
   keys_in ps [] keys x h i = absurd i
-  keys_in ps (q ∷ qs) keys x h (inl e) =
-      subst (IsIn x) (sym h.0.2) (subst (λ y. IsIn x (h.0.0 ++ y ∷ h.0.1)) e (in_middle x h.0.0 h.0.1))
+  keys_in ps (q ∷ qs) keys x h (inl e) = in_contains x keys (subst (Contains keys) (sym e) h.0)
   keys_in ps (q ∷ qs) keys x h (inr i) = keys_in ps qs keys x h.1 i
 
   in_keys : (ps : List (List ℕ × Node)) (es : EntryVals) (x : List ℕ) → SpelledPairs c p es ps → IsIn x (keys_of es) → IsIn x (names_of ps)

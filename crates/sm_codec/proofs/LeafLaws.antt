@@ -5,14 +5,15 @@ use Rattle.std.specs.Str.{is_utf8, bytes_eq}
 use Rattle.sm_time.specs.declared.format.Format.{Format}
 use Rattle.sm_time.specs.declared.format.Format.TheVariants.{EpochSeconds}
 use Rattle.sm_time.specs.TimeText.{Form, form_text, digits_of, moment}
+use Rattle.sm_time.proofs.StampForms.{and_first, and_second}
 use Rattle.sm_tree.specs.Node.{Node, null, bool, int, number, text, bytes, tag, opaque, list, object}
 use Rattle.sm_shapes.specs.Values.{Val, bool_val, int_val, text_val, blob_val, time_val}
 use Rattle.sm_shapes.specs.declared.fault.FaultKind.{FaultKind}
 use Rattle.sm_shapes.specs.declared.fault.FaultKind.TheVariants.{WrongType, Width, Time}
 use Rattle.sm_codec.specs.declared.simple.Simple.{Simple}
 use Rattle.sm_codec.specs.declared.simple.Simple.TheVariants as the
-use Rattle.sm_codec.specs.Convention.{is_of, is_stamp, fits_bits}
-use Rattle.sm_codec.specs.StampTexts.{stamp_of, stamp_of_form, supposed, is_form, is_whole_millis}
+use Rattle.sm_time.specs.StampTexts.{is_stamp, stamp_of, stamp_of_form, supposed, is_form, is_whole_millis}
+use Rattle.sm_codec.specs.Convention.{is_of, fits_bits}
 use Rattle.sm_codec.specs.Conventions.{read_boolean, read_text, read_number, read_seconds, read_time_text, or_fault, stamp_val, stamp_of_seconds}
 
 abbrev pub ok_val : Val → Result Val FaultKind
@@ -20,14 +21,6 @@ ok_val v = Ok v
 
 pub ok_same : (x y : Val) → ok_val x ≡ Ok y → x ≡ y
 ok_same x y h = cc
-
-pub and_first : (a b : Bool) → (a && b) ≡ true → a ≡ true
-and_first true b h = refl
-and_first false b h = h
-
-pub and_second : (a b : Bool) → (a && b) ≡ true → b ≡ true
-and_second true b h = h
-and_second false b h = absurd cc
 
 -- what is read behind a test is of the type that the test says
 pub guarded : (x : Simple) (w v : Val) (kind : FaultKind) (b : Bool) → is_of x w ≡ b → cond b (Ok w) (Err kind) ≡ Ok v → is_of x v ≡ true

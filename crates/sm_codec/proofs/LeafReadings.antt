@@ -16,14 +16,15 @@ use Rattle.sm_shapes.specs.declared.kinds.ShapeKind.TheVariants as kind
 use Rattle.sm_shapes.specs.declared.fault.FaultKind.{FaultKind}
 use Rattle.sm_codec.specs.declared.simple.Simple.{Simple}
 use Rattle.sm_codec.specs.declared.simple.Simple.TheVariants as the
-use Rattle.sm_codec.specs.Convention.{IsConvention, is_of, fits_bits, are_bytes, is_stamp}
+use Rattle.sm_time.specs.StampTexts.{is_stamp}
+use Rattle.sm_codec.specs.Convention.{IsConvention, is_of, fits_bits, are_bytes}
 use Rattle.sm_codec.specs.Sorts.{Sort, simple, a_list, a_map, a_structure, a_union, left_out, sort_by}
 use Rattle.sm_codec.specs.Codec.{Codec, sort_at, broken_at}
 use Rattle.sm_codec.specs.FaultLists.{FaultAt, here, Reading, settled}
 use Rattle.sm_codec.specs.Spelling.{Spelled, Spells}
 use Rattle.sm_codec.specs.Readings.{reading, leaf_reading, leaf_by, list_by, object_by, children, named_children}
-use Rattle.sm_codec.proofs.LeafLaws.{ok_same, and_first, and_second}
-use Rattle.sm_codec.proofs.StampForms.{stamp_decides}
+use Rattle.sm_time.proofs.StampForms.{and_first, and_second, stamp_decides}
+use Rattle.sm_codec.proofs.LeafLaws.{ok_same}
 
 same_simple : (x y : Simple) → simple x ≡ simple y → x ≡ y
 same_simple x y h = cc

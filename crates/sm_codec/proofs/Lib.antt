@@ -1,8 +1,4 @@
 pub mod LeafLaws
-pub mod StampForms
-pub mod StampClocks
-pub mod StampDates
-pub mod StampTold
 pub mod CborLaws
 pub mod TextLeaves
 pub mod JsonLaws
@@ -19,3 +15,4 @@ pub mod Membered
 pub mod Chosen
 pub mod ReadValues
 pub mod WrittenValues
+pub mod PlainLeaves

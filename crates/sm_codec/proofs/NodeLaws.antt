@@ -10,9 +10,11 @@ use Rattle.sm_shapes.specs.Values.{Val, bool_val, int_val, text_val, blob_val, t
 use Rattle.sm_shapes.specs.declared.fault.FaultKind.TheVariants.{WrongType, Width}
 use Rattle.sm_codec.specs.declared.simple.Simple.{Simple}
 use Rattle.sm_codec.specs.declared.simple.Simple.TheVariants as the
-use Rattle.sm_codec.specs.Convention.{IsConvention, IsNested, nested_fault, is_of, is_stamp, fits_bits, are_bytes}
+use Rattle.sm_time.specs.StampTexts.{is_stamp}
+use Rattle.sm_codec.specs.Convention.{IsConvention, IsNested, nested_fault, is_of, fits_bits, are_bytes}
 use Rattle.sm_codec.specs.Conventions.{node_read, node_blob, node_time, node_written, node_carries, node_carries_leaf, node_convention, written_seconds, is_whole_second}
-use Rattle.sm_codec.proofs.LeafLaws.{and_first, guarded, boolean_of, text_of, number_of, seconds_of, time_text_of}
+use Rattle.sm_time.proofs.StampForms.{and_first}
+use Rattle.sm_codec.proofs.LeafLaws.{guarded, boolean_of, text_of, number_of, seconds_of, time_text_of}
 use Rattle.sm_codec.proofs.TextLeaves.{blob_reads, base64_of, seconds_by}
 
 blob_of : (raw : Bool) (n : Node) (v : Val) → node_blob raw n ≡ Ok v → is_of the.Blob v ≡ true

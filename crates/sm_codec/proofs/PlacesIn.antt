@@ -1,6 +1,8 @@
 -- In a table that is in order the places within a place are places of the table.
-use Rattle.std.proofs.Common.{◌≡◌, ℕ, ◌<◌, List, [], ◌∷◌, ◌++◌, refl, sym, ap, subst}
+use Rattle.std.proofs.Common.{◌≡◌, ℕ, zero, suc, ◌<◌, List, [], ◌∷◌, ◌++◌, length, refl, sym, ap, subst, arith}
 use Rattle.std.specs.Prelude.{Option, slice_index_or}
+use Rattle.std.specs.List.{Contains}
+use Rattle.std.proofs.lemmas.List.Elements.{Contains-append_right}
 use Rattle.sm_time.specs.declared.format.Format.{Format}
 use Rattle.sm_shapes.specs.TableData.{TableData, shape_count, member_count, target_at, kind_at}
 use Rattle.sm_shapes.specs.Places.{Place, root_place, member_place, shape_of, kind_of, format_of, members_of_place, entry_place, key_place, value_place}
@@ -55,6 +57,18 @@ pub stand_at : (t : TableData) (s : ℕ) (before : List ℕ) (k : ℕ) (behind :
     → (k < member_count t) × AreMembersOf t s behind
 stand_at t s [] k behind h = (h.0, h.2)
 stand_at t s (j ∷ before) k behind h = stand_at t s before k behind h.2
+
+-- a member of a list stands in the middle of it, and the other way
+split_at : (k : ℕ) (ks : List ℕ) (i : ℕ) → i < length ks → slice_index_or ks i k ≡ k → (before behind : List ℕ) × (ks ≡ before ++ k ∷ behind)
+split_at k [] i h e = absurd (omega (arith, h))
+split_at k (j ∷ ks) zero h e = ([], ks, ap (λ x. x ∷ ks) e)
+split_at k (j ∷ ks) (suc i) h e = let rest = split_at k ks i (omega (arith, h)) e in (j ∷ rest.0, rest.1, ap (λ xs. j ∷ xs) rest.2)
+
+pub member_splits : (k : ℕ) (ks : List ℕ) → Contains ks k → (before behind : List ℕ) × (ks ≡ before ++ k ∷ behind)
+member_splits k ks h = split_at k ks h.0 h.1 h.2
+
+pub split_member : (k : ℕ) (before behind : List ℕ) → Contains (before ++ k ∷ behind) k
+split_member k before behind = Contains-append_right before (k ∷ behind) k (0, omega arith, refl)
 
 first_stands : (t : TableData) (s : ℕ) (ks : List ℕ) → HasItsMembers t kind.List ks → AreMembersOf t s ks
     → slice_index_or ks 0 0 < member_count t

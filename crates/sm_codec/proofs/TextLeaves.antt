@@ -14,12 +14,13 @@ use Rattle.sm_shapes.specs.Values.{Val, blob_val, time_val}
 use Rattle.sm_shapes.specs.declared.fault.FaultKind.{FaultKind}
 use Rattle.sm_shapes.specs.declared.fault.FaultKind.TheVariants.{Base64, Time}
 use Rattle.sm_codec.specs.declared.simple.Simple.TheVariants as the
-use Rattle.sm_codec.specs.Convention.{is_of, is_stamp, are_bytes}
+use Rattle.sm_time.specs.StampTexts.{is_stamp}
+use Rattle.sm_codec.specs.Convention.{is_of, are_bytes}
 use Rattle.sm_codec.specs.Conventions.{read_base64, base64_text, decoded_blob, read_seconds, written_seconds, read_time_text, is_whole_second, has_text, or_fault, stamp_val}
-use Rattle.sm_codec.proofs.LeafLaws.{and_first, and_second, guarded}
+use Rattle.sm_time.proofs.StampForms.{and_first, and_second, stamp_decides, at_most_int}
+use Rattle.sm_codec.proofs.LeafLaws.{guarded}
 use Rattle.sm_codec.proofs.CborLaws.{whole_seconds, at_seconds}
-use Rattle.sm_codec.proofs.StampForms.{stamp_decides, at_most_int}
-use Rattle.sm_codec.proofs.StampTold.{written_told}
+use Rattle.sm_time.proofs.StampTold.{written_told}
 
 bytes_small : (u : List ℕ) → are_bytes u ≡ true → IsBytes u
 bytes_small [] h i = omega arith

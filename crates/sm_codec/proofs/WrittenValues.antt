@@ -33,8 +33,8 @@ use Rattle.sm_codec.specs.Spelling.{IsLeaf, Spelled, SpelledEntries, SpelledPair
 use Rattle.sm_codec.specs.Written.{written, written_leaf, written_entries, written_pairs, written_fields, uncarried, uncarried_leaf, uncarried_entries, uncarried_pairs, uncarried_fields, paths_under}
 use Rattle.sm_codec.proofs.NoFaults.{none_first, none_behind}
 use Rattle.sm_codec.proofs.ChildLists.{each_node, each_pair, nodes_back, members_back, null_is}
-use Rattle.sm_codec.proofs.PlacesIn.{sort_of_kind, shape_in, members_stand, stand_at, entry_in, value_in}
-use Rattle.sm_codec.proofs.KeyOrder.{IsIn, IsBefore, InOrder, before_one, never_before_itself, middle_in}
+use Rattle.sm_codec.proofs.PlacesIn.{sort_of_kind, shape_in, members_stand, stand_at, member_splits, entry_in, value_in}
+use Rattle.sm_codec.proofs.KeyOrder.{IsIn, IsBefore, InOrder, before_one, never_before_itself, contains_in}
 use Rattle.sm_codec.proofs.Membered.{none_at, differ_behind}
 
 none_of_paths : (step : Step) (paths : List (List Step)) → paths_under step paths ≡ [] → paths ≡ []
@@ -154,7 +154,7 @@ module _ (c : Codec) (p : Place) where
 
   each_key : (qs : List (List ℕ × Node)) (keys : List (List ℕ)) → ((x : List ℕ) → IsIn x (names_of qs) → IsIn x keys) → AreKeys qs keys
   each_key [] keys h = tt
-  each_key (q ∷ qs) keys h = (middle_in q.0 keys (h q.0 (inl refl)), each_key qs keys (λ x i. h x (inr i)))
+  each_key (q ∷ qs) keys h = (contains_in q.0 keys (h q.0 (inl refl)), each_key qs keys (λ x i. h x (inr i)))
 
   -- of a structure
   none_in_first : (x : List ℕ) (before : List ℕ) (k : ℕ) (behind : List ℕ) → NoneIs x (map (wire_name c p) (before ++ k ∷ behind))
@@ -268,12 +268,13 @@ mutual
     ),
   )
   spelled_written c laws shaped (union_val k v) p inside h g =
-      let before = h.1.0 in
-      let behind = h.1.1 in
-      let differ = subst (λ xs. AllDiffer (map (wire_name c p) xs)) h.1.2
+      let split = member_splits k (members_of_place c.table p) h.1 in
+      let before = split.0 in
+      let behind = split.1 in
+      let differ = subst (λ xs. AllDiffer (map (wire_name c p) xs)) split.2
       (laws.names c.table shaped (shape_of c.table p) (shape_in c.table p shaped inside)) in
       let place = stand_at c.table (shape_of c.table p) before k behind
-      (subst (AreMembersOf c.table (shape_of c.table p)) h.1.2 (members_stand c.table p shaped inside)) in
+      (subst (AreMembersOf c.table (shape_of c.table p)) split.2 (members_stand c.table p shaped inside)) in
       let n = written c.table c.convention (member_place k) v in
       let one = spelled_written c laws shaped v (member_place k) place.0 h.2
       (none_of_paths (Member (name_at c.table k)) (uncarried c.table c.convention (member_place k) v) g) in (
@@ -284,7 +285,7 @@ mutual
           behind,
           n,
           refl,
-          h.1.2,
+          split.2,
           stand_not c p (wire_name c p k) n before (differ_first c p before k behind differ),
           stand_not c p (wire_name c p k) n behind (differ_here c p before k behind differ),
           (named_here (wire_name c p k) n [], spelled_stands c (member_place k) v n laws one),

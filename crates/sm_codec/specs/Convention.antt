@@ -1,9 +1,10 @@
 -- Conventions: how a format spells simple values, and under which names members stand. The codec is over any convention that
 -- meets the laws here.
-use Rattle.std.specs.Prelude.{◌≡◌, ℕ, ◌<◌, ◌≤◌, ◌-◌, ◌^◌, nat_lt, ℤ, pos, negsuc, neg_ℤ, int_le, Bool, true, false, ◌&&◌, List, [], map, Result, Ok, Err}
+use Rattle.std.specs.Prelude.{◌≡◌, ℕ, ◌<◌, ◌≤◌, ◌-◌, ◌^◌, nat_lt, ℤ, pos, negsuc, Bool, true, false, List, [], map, Result, Ok, Err}
 use Rattle.std.specs.List.{list_all}
 use Rattle.std.specs.Str.{is_utf8}
 use Rattle.sm_tree.specs.Node.{Node, Nodes, Members, null, tag, list, object, no_nodes}
+use Rattle.sm_time.specs.StampTexts.{is_stamp}
 use Rattle.sm_shapes.specs.Names.{AllDiffer}
 use Rattle.sm_shapes.specs.Values.{Val, bool_val, int_val, text_val, blob_val, time_val}
 use Rattle.sm_shapes.specs.TableData.{TableData, shape_count, members_at}
@@ -28,10 +29,6 @@ pub record Convention : Type 0 where
 abbrev pub fits_bits : ℕ → ℤ → Bool
 fits_bits bits (pos n) = nat_lt n (2 ^ (bits - 1))
 fits_bits bits (negsuc n) = nat_lt n (2 ^ (bits - 1))
-
--- the milliseconds of a stamp: of the years 0000 to 9999
-abbrev pub is_stamp : ℤ → Bool
-is_stamp ms = int_le (neg_ℤ (pos 62_167_219_200_000)) ms && int_le ms (pos 253_402_300_799_999)
 
 abbrev pub are_bytes : List ℕ → Bool
 are_bytes u = list_all (λ b. nat_lt b 256) u

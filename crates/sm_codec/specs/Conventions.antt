@@ -19,8 +19,8 @@ use Rattle.sm_shapes.specs.declared.fault.FaultKind.{FaultKind}
 use Rattle.sm_shapes.specs.declared.fault.FaultKind.TheVariants.{WrongType, Width, Base64, Time}
 use Rattle.sm_codec.specs.declared.simple.Simple.{Simple}
 use Rattle.sm_codec.specs.declared.simple.Simple.TheVariants as the
-use Rattle.sm_codec.specs.Convention.{Convention, is_of, is_stamp, fits_bits, are_bytes}
-use Rattle.sm_codec.specs.StampTexts.{stamp_of}
+use Rattle.sm_time.specs.StampTexts.{is_stamp, stamp_of}
+use Rattle.sm_codec.specs.Convention.{Convention, is_of, fits_bits, are_bytes}
 
 -- `.`, `E` or `e` stands in a number that is kept as its text: it has a fraction or an exponent, else it is out of 64 bits
 abbrev pub is_fraction_mark : ℕ → Bool

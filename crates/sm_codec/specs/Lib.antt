@@ -8,8 +8,8 @@ pub mod Readings
 pub mod Answers
 pub mod Written
 pub mod CodecLaws
-pub mod StampTexts
 pub mod Conventions
+pub mod LeafAnswers
 pub mod Defaults
 pub mod Decoding
 pub mod Walk

@@ -1,5 +1,6 @@
 -- Which value of a place a tree spells: one that fits, and whose parts the tree spells, by cases on the value.
 use Rattle.std.specs.Prelude.{◌≡◌, ◌⊎◌, ℕ, true, false, List, [], ◌∷◌, ◌++◌, Option, Some, None, Ok}
+use Rattle.std.specs.List.{Contains}
 use Rattle.sm_tree.specs.Node.{Node, null, list, object, nodes_of, members_of}
 use Rattle.sm_shapes.specs.Values.{Val, Vals, EntryVals, FieldVals, null_val, bool_val, int_val, text_val, blob_val, time_val, list_val, map_val, structure_val, union_val, no_vals, val, no_entries, entry, no_fields, field, keys_of}
 use Rattle.sm_shapes.specs.TableData.{default_at}
@@ -43,7 +44,7 @@ Stands name ps n = (named name ps ≡ n ∷ []) × (is_null n ≡ false)
 -- each name is one of these keys
 abbrev pub AreKeys : List (List ℕ × Node) → List (List ℕ) → Type 0
 AreKeys [] keys = Unit {0}
-AreKeys (p ∷ ps) keys = ((before behind : List (List ℕ)) × (keys ≡ before ++ p.0 ∷ behind)) × AreKeys ps keys
+AreKeys (p ∷ ps) keys = Contains keys p.0 × AreKeys ps keys
 
 abbrev mutual
   -- the tree spells the parts of the value

@@ -3,7 +3,6 @@ ghost use Rattle.std.specs.Prelude.{Bool};
 ghost use Rattle.sm_codec.specs.CodecLaws.{OneValue, ValueOrFault, WrittenSpells};
 ghost use Rattle.sm_codec.specs.Convention.{IsConvention, WrittenLeafReads};
 ghost use Rattle.sm_codec.specs.Conventions.{cbor_convention, json_convention, node_convention};
-ghost use Rattle.sm_codec.specs.StampTexts.{StampOfText};
 
 /// The convention of CBOR meets the laws of conventions: what it writes is read again, among others.
 pub fn cbor_leaves()
@@ -25,11 +24,6 @@ pub fn written_leaf_reads()
     ensures json { (json_names : Bool) → WrittenLeafReads (json_convention json_names) }
     ensures cbor { WrittenLeafReads cbor_convention }
     ensures nodes { (raw_blobs : Bool) → WrittenLeafReads (node_convention raw_blobs) }
-{}
-
-/// The stamp that is told of a text is the text's, and where none is told the text is no stamp's.
-pub fn stamp_of_text()
-    ensures { StampOfText }
 {}
 
 /// In every table that is in order, by every convention: a tree has no fault at a place exactly where it spells some value of the place.

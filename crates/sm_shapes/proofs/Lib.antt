@@ -1,3 +1,5 @@
 pub mod Views
 pub mod Literals
 pub mod SameVals
+pub mod ValueViews
+pub mod ValueOrders

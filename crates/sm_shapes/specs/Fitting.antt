@@ -4,6 +4,7 @@ use Rattle.std.specs.Prelude.{◌≡◌, ℕ, ◌<◌, ℤ, Bool, true, false, L
 use Rattle.std.specs.Int.{w8, w16, w32, w64}
 use Rattle.std.specs.Ordering.{nat_cmp}
 use Rattle.std.specs.Cmp.Lexicographic.{slice_cmp}
+use Rattle.std.specs.List.{Contains}
 use Rattle.std.specs.List.Sorted.{IsStrictlySortedBy}
 use Rattle.sm_tree.specs.Json.{AreBytes}
 use Rattle.sm_time.specs.TimeText.{IsStamp}
@@ -78,7 +79,7 @@ abbrev mutual
       (kind_of t p ≡ a_map) × MeetsConstraints t test p (map_val es) × IsStrictlySortedBy (slice_cmp nat_cmp) (keys_of es) × FitPairs t test p es
   Fits t test p (structure_val fs) = (kind_of t p ≡ Structure) × FitFields t test (members_of_place t p) fs
   Fits t test p (union_val k v) =
-      (kind_of t p ≡ Union) × ((before behind : List ℕ) × (members_of_place t p ≡ before ++ k ∷ behind)) × Fits t test (member_place k) v
+      (kind_of t p ≡ Union) × Contains (members_of_place t p) k × Fits t test (member_place k) v
 
   -- the entries are of the list at this place
   pub FitEntries : TableData → Test → Place → Vals → Type 0

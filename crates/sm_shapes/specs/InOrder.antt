@@ -1,10 +1,14 @@
 -- When a table is in order, and when a store of patterns is the one that it was built with.
-use Rattle.std.specs.Prelude.{◌≡◌, ◌⊎◌, ℕ, ◌<◌, List, [], ◌∷◌, map, length, Option, Some, None, IsUtf8, ◌+◌, max}
+use Rattle.std.specs.Prelude.{◌≡◌, ◌⊎◌, ℕ, ◌<◌, Bool, ◌||◌, List, [], ◌∷◌, map, length, Option, Some, None, is_some, IsUtf8, ◌+◌, max}
+use Rattle.std.specs.List.{Contains, filter}
+use Rattle.std.specs.List.Sorted.{IsPermutation, IsStrictlySortedBy}
+use Rattle.std.specs.Ordering.{nat_cmp}
+use Rattle.std.specs.Cmp.Lexicographic.{slice_cmp}
 use Rattle.sm_tree.specs.Node.{Node, list, object, no_nodes, no_members}
 use Rattle.sm_shapes.specs.Names.{AllDiffer}
 use Rattle.sm_shapes.specs.Patterns.{pattern_text}
 use Rattle.sm_shapes.specs.Values.{Val, list_val, map_val, no_vals, no_entries, text_val}
-use Rattle.sm_shapes.specs.TableData.{TableData, ShapeData, shape_count, member_count, kind_at, members_at, shape_constraints_at, home_at, name_at, json_name_at, target_at, constraints_at, binding_at, default_node_at, default_at, texts_numbered, count_of_default}
+use Rattle.sm_shapes.specs.TableData.{TableData, ShapeData, shape_count, member_count, kind_at, members_at, by_name_at, by_json_name_at, needed_at, required_at, shape_constraints_at, home_at, name_at, json_name_at, target_at, constraints_at, binding_at, default_node_at, default_at, texts_numbered, count_of_default}
 use Rattle.sm_shapes.specs.Places.{member_place}
 use Rattle.sm_shapes.specs.Broken.{broken}
 use Rattle.sm_shapes.specs.Fitting.{Test, finder, any_text, Fits, MeetsConstraints}
@@ -15,11 +19,6 @@ use Rattle.sm_shapes.specs.declared.kinds.ShapeKind.TheVariants.{Blob, Boolean, 
 abbrev pub AreMembersOf : TableData → ℕ → List ℕ → Type 0
 AreMembersOf t s [] = Unit {0}
 AreMembersOf t s (k ∷ ks) = (k < member_count t) × (home_at t k ≡ s) × AreMembersOf t s ks
-
--- the number k is one of these
-abbrev pub IsAmong : ℕ → List ℕ → Type 0
-IsAmong k [] = ⊥
-IsAmong k (j ∷ js) = (k ≡ j) ⊎ IsAmong k js
 
 -- a shape of this kind is one whose values are texts
 abbrev pub IsTextKind : ShapeKind → Type 0
@@ -32,6 +31,14 @@ HasItsMembers t a_list ks = ⊥
 HasItsMembers t a_map (j ∷ k ∷ []) = IsTextKind (kind_at t (target_at t j))
 HasItsMembers t a_map ks = ⊥
 HasItsMembers t kind ks = Unit {0}
+
+-- these are the members in the byte order of their names
+abbrev pub AreByName : (ℕ → List ℕ) → List ℕ → List ℕ → Type 0
+AreByName name ks ordered = IsPermutation ordered ks × IsStrictlySortedBy (slice_cmp nat_cmp) (map name ordered)
+
+-- a member that an object without its name doesn't just leave out: it is required, or it has a default or the node of one
+abbrev pub is_needed : TableData → ℕ → Bool
+is_needed t k = required_at t k || (is_some (default_node_at t k) || is_some (default_at t k))
 
 -- the constraints name a pattern of the table, or none
 abbrev pub NamesPattern : TableData → Option ℕ → Type 0
@@ -63,15 +70,20 @@ MayHaveDefault kind v = Unit {0}
 abbrev pub MayDefault : TableData → ℕ → Type 0
 MayDefault t k = (kind_at t (home_at t k) ≡ Structure) × (binding_at t k ≡ None)
 
--- Each number is in range. A member stands in one shape, the one that it names, and once. A list has one member, a map its key and its
+-- Each number is in range. A member stands in one shape, the one that it names, and once; the numbers of one shape's members rise, so that
+-- model order is their order, and they are kept in the order of their names too, and those apart that are needed. A list has one member, a map its key and its
 -- value, and the key's target is a string or an enum. The names of one shape's members differ, and so do their names where JSON
 -- names are looked at. A pattern's number stands once among the patterns. A default stands only on a structure's member that has no
 -- binding and whose target is a simple type, a list or a map; a list's or a map's is empty. Each default fits its member, but for
 -- its pattern. All names are texts in UTF-8.
 pub record Shaped (t : TableData) : Type 0 where
   pub targets : (k : ℕ) → k < member_count t → target_at t k < shape_count t
-  pub homes : (k : ℕ) → k < member_count t → (home_at t k < shape_count t) × IsAmong k (members_at t (home_at t k))
+  pub homes : (k : ℕ) → k < member_count t → (home_at t k < shape_count t) × Contains (members_at t (home_at t k)) k
   pub members : (s : ℕ) → s < shape_count t → AreMembersOf t s (members_at t s)
+  pub rises : (s : ℕ) → s < shape_count t → IsStrictlySortedBy nat_cmp (members_at t s)
+  pub by_name : (s : ℕ) → s < shape_count t → AreByName (name_at t) (members_at t s) (by_name_at t s)
+  pub by_json_name : (s : ℕ) → s < shape_count t → AreByName (json_name_at t) (members_at t s) (by_json_name_at t s)
+  pub needed : (s : ℕ) → s < shape_count t → needed_at t s ≡ filter (is_needed t) (members_at t s)
   pub own : (s : ℕ) → s < shape_count t → HasItsMembers t (kind_at t s) (members_at t s)
   pub names : (s : ℕ) → s < shape_count t → AllDiffer (map (name_at t) (members_at t s))
   pub json_names : (s : ℕ) → s < shape_count t → AllDiffer (map (json_name_at t) (members_at t s))

@@ -6,6 +6,7 @@ pub mod Fits
 pub mod FaultWords
 pub mod Values
 pub mod ValueView
+pub mod ValueOrder
 pub mod TableData
 pub mod ConstraintView
 pub mod TableView

@@ -27,7 +27,13 @@ pub data BindingData : Type 0 where
 -- a shape: a list has one member, a map its key and its value, and an enum none
 pub record ShapeData : Type 0 where
   pub kind : ShapeKind
+  -- in model order
   pub members : List ℕ
+  -- in the byte order of their names, and of the names that they have where JSON names are looked at
+  pub by_name : List ℕ
+  pub by_json_name : List ℕ
+  -- those that are required or may have a default, in model order
+  pub needed : List ℕ
   pub constraints : ConstraintData
   pub unique : Bool
   pub sparse : Bool
@@ -76,6 +82,18 @@ kind_in (Some s) = s.kind
 abbrev pub members_in : Option ShapeData → List ℕ
 members_in None = []
 members_in (Some s) = s.members
+
+abbrev pub by_name_in : Option ShapeData → List ℕ
+by_name_in None = []
+by_name_in (Some s) = s.by_name
+
+abbrev pub by_json_name_in : Option ShapeData → List ℕ
+by_json_name_in None = []
+by_json_name_in (Some s) = s.by_json_name
+
+abbrev pub needed_in : Option ShapeData → List ℕ
+needed_in None = []
+needed_in (Some s) = s.needed
 
 abbrev pub shape_constraints_in : Option ShapeData → ConstraintData
 shape_constraints_in None = no_constraints
@@ -141,6 +159,15 @@ kind_at t s = kind_in (slice_get t.shapes s)
 
 abbrev pub members_at : TableData → ℕ → List ℕ
 members_at t s = members_in (slice_get t.shapes s)
+
+abbrev pub by_name_at : TableData → ℕ → List ℕ
+by_name_at t s = by_name_in (slice_get t.shapes s)
+
+abbrev pub by_json_name_at : TableData → ℕ → List ℕ
+by_json_name_at t s = by_json_name_in (slice_get t.shapes s)
+
+abbrev pub needed_at : TableData → ℕ → List ℕ
+needed_at t s = needed_in (slice_get t.shapes s)
 
 abbrev pub shape_constraints_at : TableData → ℕ → ConstraintData
 shape_constraints_at t s = shape_constraints_in (slice_get t.shapes s)

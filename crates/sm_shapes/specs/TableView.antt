@@ -26,6 +26,9 @@ abbrev pub shape_data : TableShape → ShapeData
 shape_data s = record {
   kind = s.kind;
   members = s.members;
+  by_name = s.by_name;
+  by_json_name = s.by_json_name;
+  needed = s.needed;
   constraints = constraint_data s.constraints;
   unique = s.unique;
   sparse = s.sparse;

@@ -6,6 +6,7 @@ mod any_patterns;
 pub mod constraints;
 mod fault;
 pub mod kinds;
+pub mod laws;
 mod literal_patterns;
 mod patterns;
 mod rows;

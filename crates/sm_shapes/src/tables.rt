@@ -1,7 +1,8 @@
 // Tables of all kinds of shapes: shapes and members by number. Contracts see a table as the TableData of specs/TableData.antt. The `Table`
 // at the crate's top is the first one, which knows a few kinds alone.
-ghost use Rattle.std.specs.Prelude.{◌≡◌, ◌<◌, Some, map, slice_get};
-ghost use Rattle.sm_shapes.specs.TableData.{shape_count, member_count};
+ghost use Rattle.std.specs.Prelude.{◌≡◌, ◌<◌, Some, map, slice_get, if◌then◌else◌};
+ghost use Rattle.sm_shapes.specs.InOrder.{most_defaults, defaults_among};
+ghost use Rattle.sm_shapes.specs.TableData.{shape_count, member_count, kind_at, members_at, by_name_at, by_json_name_at, needed_at, name_at, json_name_at, target_at, required_at, default_at, count_of_default};
 ghost use Rattle.sm_shapes.specs.TableView.{shape_data, member_data, shape_rows, member_rows, table_data};
 
 use crate::MemberNumbers;
@@ -37,6 +38,12 @@ pub struct TableShape {
     pub kind: ShapeKind,
     /// The numbers of its members, in model order: a list has one, a map its key and its value.
     pub members: MemberNumbers,
+    /// The same numbers, in the byte order of the members' names.
+    pub by_name: MemberNumbers,
+    /// The same, in the byte order of the names that they have where JSON names are looked at.
+    pub by_json_name: MemberNumbers,
+    /// The numbers of the members that are required, or have a default or the node of one, in model order.
+    pub needed: MemberNumbers,
     /// What its values must keep.
     pub constraints: Constraints,
     /// Whether the entries of a list differ from each other.
@@ -192,5 +199,118 @@ impl Table {
         ensures { slice_get (table_data self.now).members member ≡ Some (member_data result.now) }
     {
         &self.members.rows[member as usize]
+    }
+
+    /// What kind of values a shape has. No memory.
+    pub fn kind(&self, shape: u32) -> ShapeKind
+        requires { shape < shape_count (table_data self.now) }
+        ensures { result ≡ kind_at (table_data self.now) shape }
+    {
+        self.shape(shape).kind
+    }
+
+    /// The numbers of a shape's members, in model order. No memory.
+    pub fn members(&self, shape: u32) -> &[u32]
+        requires { shape < shape_count (table_data self.now) }
+        ensures { result.now ≡ members_at (table_data self.now) shape }
+    {
+        self.shape(shape).members.as_slice()
+    }
+
+    /// The numbers of a shape's members, in the byte order of their names. No memory.
+    pub fn by_name(&self, shape: u32) -> &[u32]
+        requires { shape < shape_count (table_data self.now) }
+        ensures { result.now ≡ by_name_at (table_data self.now) shape }
+    {
+        self.shape(shape).by_name.as_slice()
+    }
+
+    /// The same, in the byte order of the names that they have where JSON names are looked at. No memory.
+    pub fn by_json_name(&self, shape: u32) -> &[u32]
+        requires { shape < shape_count (table_data self.now) }
+        ensures { result.now ≡ by_json_name_at (table_data self.now) shape }
+    {
+        self.shape(shape).by_json_name.as_slice()
+    }
+
+    /// The numbers of the members of a shape that are required, or have a default or the node of one, in model order. No memory.
+    pub fn needed(&self, shape: u32) -> &[u32]
+        requires { shape < shape_count (table_data self.now) }
+        ensures { result.now ≡ needed_at (table_data self.now) shape }
+    {
+        self.shape(shape).needed.as_slice()
+    }
+
+    /// The name of a member. No memory.
+    pub fn name(&self, member: u32) -> &str
+        requires { member < member_count (table_data self.now) }
+        ensures { result.now ≡ name_at (table_data self.now) member }
+    {
+        self.member(member).name.as_str()
+    }
+
+    /// The name of a member where JSON names are looked at: its JSON name, else its name. No memory.
+    pub fn json_name(&self, member: u32) -> &str
+        requires { member < member_count (table_data self.now) }
+        ensures { result.now ≡ json_name_at (table_data self.now) member }
+    {
+        let row = self.member(member);
+        match &row.json_name {
+            Some(name) => name.as_str(),
+            None => row.name.as_str(),
+        }
+    }
+
+    /// The number of the shape of a member's values. No memory.
+    pub fn target(&self, member: u32) -> u32
+        requires { member < member_count (table_data self.now) }
+        ensures { result ≡ target_at (table_data self.now) member }
+    {
+        self.member(member).target
+    }
+
+    /// Whether a value of its shape must have the member. No memory.
+    pub fn required(&self, member: u32) -> bool
+        requires { member < member_count (table_data self.now) }
+        ensures { result ≡ required_at (table_data self.now) member }
+    {
+        self.member(member).required
+    }
+
+    /// The greatest number of members of one shape that have a default. Time as the members of all shapes. No memory.
+    pub fn most_defaults(&self) -> u64
+        ensures { result ≡ most_defaults (table_data self.now) }
+    {
+        let mut most = 0;
+        for shape in &self.shapes.rows {
+            let count = self.defaults_among(shape.members.as_slice());
+            if most < count {
+                most = count;
+            }
+        }
+        most
+    }
+
+    // How many of these members have a default; one that isn't in the table has none.
+    fn defaults_among(&self, members: &[u32]) -> u64
+        ensures count { result ≡ defaults_among (table_data self.now) members.now }
+    {
+        let mut count: u64 = 0;
+        for member in members {
+            if self.has_default(*member) {
+                count += 1;
+            }
+        }
+        count
+    }
+
+    // Whether the member has a default.
+    fn has_default(&self, member: u32) -> bool
+        ensures { (if result then 1 else 0) ≡ count_of_default (default_at (table_data self.now) member) }
+    {
+        match self.members.rows.get(member as usize) {
+            Some(row) => row.default.is_some(),
+            None => false,
+        }
     }
 }

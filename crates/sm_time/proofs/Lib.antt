@@ -12,3 +12,8 @@ pub mod HttpForms
 pub mod OneReading
 pub mod WrittenTexts
 pub mod OneAnswer
+pub mod StampForms
+pub mod StampClocks
+pub mod StampDates
+pub mod StampTold
+pub mod AsciiTexts

@@ -1,4 +1,5 @@
 // Laws of the definitions, each the contract of a function whose body is empty.
+ghost use Rattle.sm_time.specs.StampTexts.{StampOfText};
 ghost use Rattle.sm_time.specs.Laws.{CountOfDate, DateOfCount, OneForm, OneReading, OneAnswer, WrittenIsText, WrittenReadsBack};
 
 /// The date that comes so many days after 0000-01-01 has that count of days: counting day by day agrees with
@@ -36,4 +37,9 @@ pub fn written_is_text()
 /// Whatever `Stamp::read` answers at a written text is the stamp that it was written for.
 pub fn written_reads_back()
     ensures { WrittenReadsBack }
+{}
+
+/// The stamp that is told of a text is the text's, and where none is told the text is no stamp's.
+pub fn stamp_of_text()
+    ensures { StampOfText }
 {}

@@ -15,7 +15,7 @@ use Rattle.sm_time.specs.TimeText.{Form, clock_form, seconds_form, IsForm, IsZon
 use Rattle.sm_time.specs.steps.Parts.{NoDigitFirst}
 use Rattle.sm_time.proofs.DigitFacts.{run_digits, run_ends, one_run, no_digit}
 use Rattle.sm_time.proofs.ClockForms.{zone_ends}
-use Rattle.sm_codec.specs.StampTexts.{digit_in, two_in, four_in, digits_first, behind_digits, fraction_first, behind_fraction, zone_in, clock_in, is_negative_in, supposed}
+use Rattle.sm_time.specs.StampTexts.{digit_in, two_in, four_in, digits_first, behind_digits, fraction_first, behind_fraction, zone_in, clock_in, is_negative_in, supposed}
 
 -- digits and what is behind them are told by a run
 run_back : (ds r : List ℕ) → AllDigits 10 ds → NoDigitFirst r → (digits_first (ds ++ r) ≡ ds) × (behind_digits (ds ++ r) ≡ r)

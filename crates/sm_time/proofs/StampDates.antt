@@ -6,8 +6,8 @@ use Rattle.sm_time.specs.declared.format.Format.TheVariants.{HttpDate}
 use Rattle.sm_time.specs.Calendar.{weekday, day_count}
 use Rattle.sm_time.specs.Civil.{IsCivil, date_in, day_name, month_name, two_digits, four_digits, time_of_day, imf_fixdate}
 use Rattle.sm_time.specs.TimeText.{Form, clock_form, gmt_form, seconds_form, IsForm, form_text}
-use Rattle.sm_codec.specs.StampTexts.{month_of, gmt_in, supposed}
-use Rattle.sm_codec.proofs.StampClocks.{two_back, four_back, month_days}
+use Rattle.sm_time.specs.StampTexts.{month_of, gmt_in, supposed}
+use Rattle.sm_time.proofs.StampClocks.{two_back, four_back, month_days}
 
 -- three bytes of a text
 abbrev ThreeBytes : List ℕ → Type 0

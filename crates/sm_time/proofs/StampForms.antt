@@ -14,8 +14,15 @@ use Rattle.sm_time.specs.Calendar.{Date, IsDate, days_in_month}
 use Rattle.sm_time.specs.Civil.{IsCivil, date_in}
 use Rattle.sm_time.specs.TimeText.{Form, clock_form, gmt_form, seconds_form, IsForm, IsInt, IsLetter, IsZone, IsWholeMillis, IsStamp, Zone, zulu, small_zulu, ahead, behind}
 use Rattle.sm_time.proofs.DigitFacts.{digit_small}
-use Rattle.sm_codec.specs.Convention.{is_stamp}
-use Rattle.sm_codec.specs.StampTexts.{is_date, is_civil, is_zone, are_digits, is_int, is_form, is_whole_millis}
+use Rattle.sm_time.specs.StampTexts.{is_stamp, is_date, is_civil, is_zone, are_digits, is_int, is_form, is_whole_millis}
+
+pub and_first : (a b : Bool) → (a && b) ≡ true → a ≡ true
+and_first true b h = refl
+and_first false b h = h
+
+pub and_second : (a b : Bool) → (a && b) ≡ true → b ≡ true
+and_second true b h = h
+and_second false b h = absurd cc
 
 at_most : (a b : ℕ) → Decides (nat_le a b) (a ≤ b)
 at_most a b = (λ h. grind (arith, nat_tests), λ h. grind (arith, nat_tests))

@@ -1,6 +1,6 @@
 -- The stamp of a text in each format, as a function: the form that a text shows, if it shows any, is told by its bytes, so a form is
 -- supposed and its text compared. A law ties it to the texts of stamps.
-use Rattle.std.specs.Prelude.{◌≡◌, ℕ, ◌+◌, ◌-◌, ◌*◌, ◌/◌, ◌%◌, nat_lt, nat_le, ◌==◌, ℤ, pos, Bool, true, false, not, ◌&&◌, ◌||◌, cond, List, [], ◌∷◌, ◌++◌, take, drop, length, slice_index_or, codes, Option, Some, None, if◌then◌else◌}
+use Rattle.std.specs.Prelude.{◌≡◌, ℕ, ◌+◌, ◌-◌, ◌*◌, ◌/◌, ◌%◌, nat_lt, nat_le, ◌==◌, ℤ, pos, neg_ℤ, int_le, Bool, true, false, not, ◌&&◌, ◌||◌, cond, List, [], ◌∷◌, ◌++◌, take, drop, length, slice_index_or, codes, Option, Some, None, if◌then◌else◌}
 use Rattle.std.specs.Char.{is_ascii_digit}
 use Rattle.std.specs.List.{list_all, position_or_len, prefix_len}
 use Rattle.std.specs.Str.{bytes_eq}
@@ -11,7 +11,10 @@ use Rattle.sm_time.specs.declared.civil.Civil.{Civil}
 use Rattle.sm_time.specs.Calendar.{Date, days_in_month}
 use Rattle.sm_time.specs.Civil.{date_in, month_name}
 use Rattle.sm_time.specs.TimeText.{Form, clock_form, gmt_form, seconds_form, form_text, digits_of, moment, Zone, zulu, small_zulu, ahead, behind, TimeText}
-use Rattle.sm_codec.specs.Convention.{is_stamp}
+
+-- the milliseconds of a stamp: of the years 0000 to 9999
+abbrev pub is_stamp : ℤ → Bool
+is_stamp ms = int_le (neg_ℤ (pos 62_167_219_200_000)) ms && int_le ms (pos 253_402_300_799_999)
 
 -- the digit that a byte shows, and the numbers that two and four bytes from the i-th on show, if they are digits
 abbrev pub digit_in : List ℕ → ℕ → ℕ
