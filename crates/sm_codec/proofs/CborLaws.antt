@@ -1,15 +1,12 @@
 -- The convention of CBOR meets the laws.
-use Rattle.std.proofs.Common.{◌≡◌, ℕ, ◌<◌, ℤ, Bool, true, false, ◌&&◌, cond, List, map, refl, sym, ap, ◌∙◌, subst, arith}
-use Rattle.std.specs.Prelude.{pos, ◌*ℤ◌, ◌+ℤ◌, ◌==◌, int_div, int_rem, Option, Some, None, Result, Ok, Err, IsUtf8}
+use Rattle.std.proofs.Common.{◌≡◌, ℕ, ℤ, Bool, true, false, cond, refl, sym, ap, subst, arith}
+use Rattle.std.specs.Prelude.{pos, ◌*ℤ◌, ◌+ℤ◌, ◌==◌, int_div, int_rem, Some, None, Ok, Err}
 use Rattle.std.specs.Ordering.{int_eq}
 use Rattle.std.proofs.lemmas.Int.{quot-rem}
 use Rattle.std.specs.Str.{is_utf8}
 use Rattle.sm_time.specs.declared.format.Format.{Format}
-use Rattle.sm_tree.specs.Node.{Node, Nodes, Members, null, bool, int, number, text, bytes, tag, opaque, list, object, no_nodes}
+use Rattle.sm_tree.specs.Node.{Node, Nodes, Members, null, int, bytes, tag, list, object, no_nodes}
 use Rattle.sm_shapes.specs.Values.{Val, bool_val, int_val, text_val, blob_val, time_val}
-use Rattle.sm_shapes.specs.TableData.{TableData, shape_count, member_count}
-use Rattle.sm_shapes.specs.InOrder.{Shaped}
-use Rattle.sm_shapes.specs.declared.fault.FaultKind.{FaultKind}
 use Rattle.sm_shapes.specs.declared.fault.FaultKind.TheVariants.{WrongType, Width, Time}
 use Rattle.sm_codec.specs.declared.simple.Simple.{Simple}
 use Rattle.sm_codec.specs.declared.simple.Simple.TheVariants as the
@@ -17,7 +14,7 @@ use Rattle.sm_time.specs.StampTexts.{is_stamp}
 use Rattle.sm_codec.specs.Convention.{IsConvention, IsNested, nested_fault, fault_in, is_of, fits_bits, are_bytes}
 use Rattle.sm_codec.specs.Conventions.{cbor_read, cbor_blob, cbor_time, cbor_seconds, cbor_written, cbor_carries, cbor_carries_leaf, cbor_convention, is_whole_second, stamp_of_seconds, or_fault, stamp_val}
 use Rattle.sm_time.proofs.StampForms.{and_first, and_second}
-use Rattle.sm_codec.proofs.LeafLaws.{ok_val, guarded, boolean_of, text_of, number_of, stamped, seconds_stamp}
+use Rattle.sm_codec.proofs.LeafLaws.{guarded, boolean_of, text_of, number_of, stamped, seconds_stamp}
 
 blob_of : (n : Node) (v : Val) → cbor_blob n ≡ Ok v → is_of the.Blob v ≡ true
 blob_of (bytes u) v h = guarded the.Blob (blob_val u) v WrongType (are_bytes u) refl h

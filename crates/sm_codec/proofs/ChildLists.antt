@@ -1,5 +1,5 @@
 -- The entries of a list and the pairs of an object as lists of trees, and what stands under a name among them.
-use Rattle.std.proofs.Common.{◌≡◌, ℕ, Bool, true, false, cond, List, [], ◌∷◌, map, refl, sym, ap, ◌∙◌}
+use Rattle.std.proofs.Common.{◌≡◌, ℕ, Bool, true, false, cond, List, [], ◌∷◌, refl, ap}
 use Rattle.std.specs.Str.{bytes_eq}
 use Rattle.sm_tree.specs.Node.{Node, Nodes, Members, null, bool, int, number, text, bytes, tag, opaque, list, object, no_nodes, node, no_members, member, nodes_of, members_of}
 use Rattle.sm_codec.specs.Codec.{Codec}

@@ -1,11 +1,11 @@
 -- A union: what its pairs come to is what they spell, of the one member that stands.
-use Rattle.std.proofs.Common.{◌≡◌, ℕ, ◌<◌, Bool, true, false, cond, List, [], ◌∷◌, ◌++◌, refl, sym, ap, ◌∙◌, subst}
-use Rattle.std.specs.Prelude.{Result, Ok, Err}
+use Rattle.std.proofs.Common.{◌≡◌, ℕ, Bool, true, false, cond, List, [], ◌∷◌, ◌++◌, refl, sym, ap, ◌∙◌, subst}
+use Rattle.std.specs.Prelude.{Ok}
 use Rattle.std.specs.List.{Contains}
 use Rattle.sm_tree.specs.Node.{Node, object, members_of}
 use Rattle.sm_tree.specs.declared.path.Step.TheVariants.{Member}
 use Rattle.sm_shapes.specs.Values.{Val, union_val}
-use Rattle.sm_shapes.specs.TableData.{TableData, member_count, name_at}
+use Rattle.sm_shapes.specs.TableData.{name_at}
 use Rattle.sm_shapes.specs.Places.{Place, member_place, members_of_place, shape_of}
 use Rattle.sm_shapes.specs.InOrder.{AreMembersOf}
 use Rattle.sm_shapes.specs.declared.fault.FaultKind.TheVariants.{UnionCount}
@@ -14,9 +14,9 @@ use Rattle.sm_codec.specs.Codec.{Codec, sort_at, wire_name, InTable}
 use Rattle.sm_codec.specs.CodecLaws.{IsCodec}
 use Rattle.sm_codec.specs.Named.{named, is_null}
 use Rattle.sm_codec.specs.Spelling.{StandNot, NoneOrNull, Stands, Spells}
-use Rattle.sm_codec.specs.FaultLists.{FaultAt, under, Reading, faults_in}
+use Rattle.sm_codec.specs.FaultLists.{FaultAt, under, faults_in}
 use Rattle.sm_codec.specs.Readings.{Child, child_of, children_of, named_children_of, one_here, present_reading, member_fields, repeated_faults, repeats, under_names, standing, all_standing, standing_faults, union_faults, standing_fields, union_reading_of, union_reading, object_by, reading, named_children}
-use Rattle.sm_codec.proofs.NoFaults.{none_first, none_behind, none_under, IsReading, reading_is, clean_reading, same_reading, ok_reading}
+use Rattle.sm_codec.proofs.NoFaults.{none_first, none_behind, none_under, reading_is, clean_reading, same_reading}
 use Rattle.sm_codec.proofs.ChildLists.{pairs_are, pairs_each, named_are}
 use Rattle.sm_codec.proofs.PlacesIn.{kind_of_sort, members_stand, stand_at, split_member}
 use Rattle.sm_codec.proofs.Entries.{IsRead, AreRead, IsSpelled}

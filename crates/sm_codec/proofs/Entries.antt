@@ -1,6 +1,6 @@
 -- A list: what its entries come to is what they spell, and the list with them.
-use Rattle.std.proofs.Common.{◌≡◌, ℕ, suc, Bool, true, false, ◌&&◌, cond, List, [], ◌∷◌, ◌++◌, map, length, refl, sym, ap, ◌∙◌, subst}
-use Rattle.std.specs.Prelude.{Result, Ok, Err}
+use Rattle.std.proofs.Common.{◌≡◌, ℕ, suc, Bool, true, false, ◌&&◌, cond, List, [], ◌∷◌, ◌++◌, length, refl, sym, ap, ◌∙◌, subst}
+use Rattle.std.specs.Prelude.{Ok, Err}
 use Rattle.std.proofs.lemmas.List.{length-map}
 use Rattle.sm_tree.specs.Node.{Node, null, list, nodes_of}
 use Rattle.sm_tree.specs.declared.path.Step.TheVariants.{Index}
@@ -17,10 +17,10 @@ use Rattle.sm_codec.specs.Codec.{Codec, sort_at, InTable}
 use Rattle.sm_codec.specs.CodecLaws.{IsCodec}
 use Rattle.sm_codec.specs.Named.{is_null}
 use Rattle.sm_codec.specs.Spelling.{Spelled, SpelledEntries, SpelledOrNull, Spells}
-use Rattle.sm_codec.specs.FaultLists.{FaultAt, here, under, Reading, faults_in, values_in, settled}
-use Rattle.sm_codec.specs.Readings.{Child, child_of, children_of, one_here, entry_reading, entries_faults, entries_values, unique_faults, list_faults, list_reading, list_by, leaf_by, leaf_reading, reading, children}
+use Rattle.sm_codec.specs.FaultLists.{here, under, Reading, faults_in, values_in, settled}
+use Rattle.sm_codec.specs.Readings.{child_of, children_of, one_here, entry_reading, entries_faults, entries_values, unique_faults, list_faults, list_reading, list_by, leaf_by, leaf_reading, reading, children}
 use Rattle.sm_codec.proofs.NoFaults.{none_first, none_behind, none_under, none_here, IsReading, reading_is, settled_ok, ok_reading}
-use Rattle.sm_codec.proofs.ChildLists.{null_is, each_node, entries_are, nodes_each}
+use Rattle.sm_codec.proofs.ChildLists.{null_is, entries_are, nodes_each}
 use Rattle.sm_codec.proofs.PlacesIn.{kind_of_sort, entry_in}
 
 -- what the tree comes to at a place, it spells

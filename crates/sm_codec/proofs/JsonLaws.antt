@@ -1,6 +1,6 @@
 -- The conventions of JSON meet the laws.
-use Rattle.std.proofs.Common.{◌≡◌, ℕ, ℤ, Bool, true, false, ◌&&◌, cond, List, refl, ap}
-use Rattle.std.specs.Prelude.{Result, Ok, Err}
+use Rattle.std.proofs.Common.{◌≡◌, ℕ, ℤ, Bool, true, false, cond, refl, ap}
+use Rattle.std.specs.Prelude.{Ok, Err}
 use Rattle.std.specs.Str.{is_utf8}
 use Rattle.sm_time.specs.declared.format.Format.{Format}
 use Rattle.sm_time.specs.declared.format.Format.TheVariants.{DateTime, HttpDate, EpochSeconds}

@@ -1,6 +1,6 @@
 -- A map: what its pairs come to is what they spell, and the map with them.
 use Rattle.std.proofs.Common.{◌≡◌, inl, inr, ℕ, Bool, true, false, cond, List, [], ◌∷◌, ◌++◌, length, refl, sym, ap, ◌∙◌, subst}
-use Rattle.std.specs.Prelude.{Result, Ok, Err, IsUtf8}
+use Rattle.std.specs.Prelude.{Ok, Err, IsUtf8}
 use Rattle.std.specs.List.{Contains}
 use Rattle.std.specs.Str.{bytes_eq, is_utf8}
 use Rattle.std.proofs.lemmas.Str.{IsUtf8-from_is_utf8, is_utf8-from_IsUtf8}
@@ -9,21 +9,20 @@ use Rattle.sm_tree.specs.declared.path.Step.TheVariants.{Key}
 use Rattle.sm_shapes.specs.Values.{Val, EntryVals, text_val, map_val, no_entries, entry, entries_of, keys_of}
 use Rattle.sm_shapes.specs.Places.{Place, kind_of, constraints_of, sparse_of, key_place, value_place}
 use Rattle.sm_shapes.specs.Broken.{length_broken}
-use Rattle.sm_shapes.specs.Fitting.{Fits, FitPairs, FitsOrNull, MeetsConstraints, IsOfKind}
+use Rattle.sm_shapes.specs.Fitting.{FitPairs, MeetsConstraints, IsOfKind}
 use Rattle.sm_shapes.specs.InOrder.{IsTextKind}
 use Rattle.sm_shapes.specs.declared.kinds.ShapeKind.{ShapeKind}
-use Rattle.sm_shapes.specs.declared.kinds.ShapeKind.TheVariants as kind
-use Rattle.sm_shapes.specs.declared.fault.FaultKind.TheVariants.{WrongType, Repeated}
+use Rattle.sm_shapes.specs.declared.fault.FaultKind.TheVariants.{WrongType}
 use Rattle.sm_codec.specs.Convention.{IsConvention}
 use Rattle.sm_codec.specs.Sorts.{a_map}
 use Rattle.sm_codec.specs.Codec.{Codec, sort_at, broken_at, InTable}
 use Rattle.sm_codec.specs.CodecLaws.{IsCodec}
 use Rattle.sm_codec.specs.Named.{named, names_of, in_byte_order}
-use Rattle.sm_codec.specs.Spelling.{Spelled, SpelledPairs, SpelledOrNull, AreKeys, Spells}
-use Rattle.sm_codec.specs.FaultLists.{FaultAt, here, under, Reading, faults_in, settled}
-use Rattle.sm_codec.specs.Readings.{Child, child_of, children_of, named_children_of, one_here, entry_reading, key_faults, pair_faults, keyed, pair_values, keys_faults, keys_values, pairs_faults, pairs_values, map_faults, map_reading, object_by, reading, named_children}
+use Rattle.sm_codec.specs.Spelling.{SpelledPairs, AreKeys, Spells}
+use Rattle.sm_codec.specs.FaultLists.{here, under, Reading, faults_in, settled}
+use Rattle.sm_codec.specs.Readings.{child_of, children_of, named_children_of, one_here, entry_reading, key_faults, pair_faults, keyed, pair_values, keys_faults, keys_values, pairs_faults, pairs_values, map_faults, map_reading, object_by, reading, named_children}
 use Rattle.sm_codec.proofs.NoFaults.{none_first, none_behind, none_under, none_here, settled_ok, ok_reading}
-use Rattle.sm_codec.proofs.ChildLists.{each_pair, pairs_are, pairs_each, named_are, names_are}
+use Rattle.sm_codec.proofs.ChildLists.{pairs_are, pairs_each, named_are, names_are}
 use Rattle.sm_codec.proofs.PlacesIn.{kind_of_sort, value_in, key_text}
 use Rattle.sm_codec.proofs.KeyOrder.{IsIn, InOrder, ordered, ordered_is, is_ordered, same_order, contains_in, in_contains, stands_in, named_in}
 use Rattle.sm_codec.proofs.Entries.{IsRead, AreRead, IsSpelled, EntrySays, entry_says, entry_spelled}

@@ -1,13 +1,13 @@
 -- What all conventions read alike: each leaf that is read is of its simple type.
-use Rattle.std.proofs.Common.{◌≡◌, ℕ, ℤ, Bool, true, false, ◌&&◌, cond, List, refl, sym, ap, subst}
+use Rattle.std.proofs.Common.{◌≡◌, ℕ, ℤ, Bool, true, false, ◌&&◌, cond, List, refl, subst}
 use Rattle.std.specs.Prelude.{pos, ◌*ℤ◌, Option, Some, None, Result, Ok, Err}
 use Rattle.std.specs.Str.{is_utf8, bytes_eq}
 use Rattle.sm_time.specs.declared.format.Format.{Format}
 use Rattle.sm_time.specs.declared.format.Format.TheVariants.{EpochSeconds}
 use Rattle.sm_time.specs.TimeText.{Form, form_text, digits_of, moment}
-use Rattle.sm_time.proofs.StampForms.{and_first, and_second}
-use Rattle.sm_tree.specs.Node.{Node, null, bool, int, number, text, bytes, tag, opaque, list, object}
-use Rattle.sm_shapes.specs.Values.{Val, bool_val, int_val, text_val, blob_val, time_val}
+use Rattle.sm_time.proofs.StampForms.{and_second}
+use Rattle.sm_tree.specs.Node.{Node, bool, int, number, text}
+use Rattle.sm_shapes.specs.Values.{Val, bool_val, int_val, text_val, time_val}
 use Rattle.sm_shapes.specs.declared.fault.FaultKind.{FaultKind}
 use Rattle.sm_shapes.specs.declared.fault.FaultKind.TheVariants.{WrongType, Width, Time}
 use Rattle.sm_codec.specs.declared.simple.Simple.{Simple}

@@ -1,6 +1,6 @@
 -- At a place of a simple type a tree comes to a value exactly where it spells that value.
-use Rattle.std.proofs.Common.{◌≡◌, ℕ, ◌<◌, ◌^◌, ◌-◌, ℤ, Bool, true, false, ◌&&◌, List, [], ◌∷◌, refl, sym, ap, ◌∙◌, subst, arith}
-use Rattle.std.specs.Prelude.{pos, negsuc, nat_lt, Option, unwrap_or, Result, Ok, Err, IsUtf8, FitsSigned}
+use Rattle.std.proofs.Common.{◌≡◌, ℕ, ℤ, true, List, [], ◌∷◌, refl, sym, ap, ◌∙◌, subst, arith}
+use Rattle.std.specs.Prelude.{pos, negsuc, nat_lt, Option, unwrap_or, Result, Ok, Err, FitsSigned}
 use Rattle.std.specs.Int.{w8, w16, w32, w64}
 use Rattle.std.proofs.lemmas.Bool.Decides.{nat_tests, Decides-ltb}
 use Rattle.std.proofs.lemmas.Str.{IsUtf8-from_is_utf8}
@@ -8,7 +8,7 @@ use Rattle.sm_time.specs.declared.format.Format.{Format}
 use Rattle.sm_time.specs.declared.format.Format.TheVariants.{EpochSeconds}
 use Rattle.sm_tree.specs.Json.{AreBytes}
 use Rattle.sm_tree.specs.Node.{Node, null, bool, int, number, text, bytes, tag, opaque, list, object}
-use Rattle.sm_shapes.specs.Values.{Val, null_val, bool_val, int_val, text_val, blob_val, time_val, list_val, map_val, structure_val, union_val}
+use Rattle.sm_shapes.specs.Values.{Val, bool_val, int_val, text_val, blob_val, time_val}
 use Rattle.sm_shapes.specs.Places.{Place, kind_of, format_of}
 use Rattle.sm_shapes.specs.Fitting.{IsOfKind}
 use Rattle.sm_shapes.specs.declared.kinds.ShapeKind.{ShapeKind}
@@ -16,15 +16,13 @@ use Rattle.sm_shapes.specs.declared.kinds.ShapeKind.TheVariants as kind
 use Rattle.sm_shapes.specs.declared.fault.FaultKind.{FaultKind}
 use Rattle.sm_codec.specs.declared.simple.Simple.{Simple}
 use Rattle.sm_codec.specs.declared.simple.Simple.TheVariants as the
-use Rattle.sm_time.specs.StampTexts.{is_stamp}
 use Rattle.sm_codec.specs.Convention.{IsConvention, is_of, fits_bits, are_bytes}
-use Rattle.sm_codec.specs.Sorts.{Sort, simple, a_list, a_map, a_structure, a_union, left_out, sort_by}
+use Rattle.sm_codec.specs.Sorts.{simple, sort_by}
 use Rattle.sm_codec.specs.Codec.{Codec, sort_at, broken_at}
-use Rattle.sm_codec.specs.FaultLists.{FaultAt, here, Reading, settled}
-use Rattle.sm_codec.specs.Spelling.{Spelled, Spells}
+use Rattle.sm_codec.specs.FaultLists.{here, Reading, settled}
+use Rattle.sm_codec.specs.Spelling.{Spells}
 use Rattle.sm_codec.specs.Readings.{reading, leaf_reading, leaf_by, list_by, object_by, children, named_children}
 use Rattle.sm_time.proofs.StampForms.{and_first, and_second, stamp_decides}
-use Rattle.sm_codec.proofs.LeafLaws.{ok_same}
 
 same_simple : (x y : Simple) → simple x ≡ simple y → x ≡ y
 same_simple x y h = cc

@@ -5,18 +5,17 @@ use Rattle.sm_tree.specs.Node.{Node, object, members_of}
 use Rattle.sm_tree.specs.declared.path.Step.TheVariants.{Member}
 use Rattle.sm_shapes.specs.Names.{NoneIs, AllDiffer}
 use Rattle.sm_shapes.specs.Values.{Val, FieldVals, structure_val, no_fields, field, fields_of}
-use Rattle.sm_shapes.specs.TableData.{TableData, member_count, name_at, required_at, default_at}
+use Rattle.sm_shapes.specs.TableData.{member_count, name_at, required_at, default_at}
 use Rattle.sm_shapes.specs.Places.{Place, member_place, members_of_place, shape_of}
 use Rattle.sm_shapes.specs.Fitting.{Fits, FitFields, MayBeAbsent}
 use Rattle.sm_shapes.specs.InOrder.{AreMembersOf}
-use Rattle.sm_shapes.specs.declared.fault.FaultKind.TheVariants.{Missing, Repeated}
 use Rattle.sm_codec.specs.Sorts.{a_structure}
 use Rattle.sm_codec.specs.Codec.{Codec, sort_at, wire_name, InTable}
 use Rattle.sm_codec.specs.CodecLaws.{IsCodec}
 use Rattle.sm_codec.specs.Named.{named, is_null}
 use Rattle.sm_codec.specs.Spelling.{Spelled, SpelledFields, NoneOrNull, AreAbsent, Spells}
 use Rattle.sm_codec.specs.FaultLists.{FaultAt, under, Reading, settled}
-use Rattle.sm_codec.specs.Readings.{Child, child_of, children_of, named_children_of, absent_with, when_closed, absent_reading, present_reading, member_reading, member_faults, member_fields, members_faults, members_fields, under_names, structure_reading, object_by, reading, named_children}
+use Rattle.sm_codec.specs.Readings.{children_of, named_children_of, absent_with, when_closed, absent_reading, present_reading, member_reading, member_faults, member_fields, members_faults, members_fields, under_names, structure_reading, object_by, reading, named_children}
 use Rattle.sm_codec.proofs.NoFaults.{none_first, none_behind, none_under, IsReading, reading_is, settled_ok, ok_reading}
 use Rattle.sm_codec.proofs.ChildLists.{pairs_are, pairs_each, named_are}
 use Rattle.sm_codec.proofs.PlacesIn.{kind_of_sort, shape_in, members_stand, stand_at}

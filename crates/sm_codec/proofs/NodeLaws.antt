@@ -1,18 +1,18 @@
 -- The conventions of the nodes of models meet the laws.
-use Rattle.std.proofs.Common.{◌≡◌, ℕ, ℤ, Bool, true, false, ◌&&◌, cond, List, refl, ap}
-use Rattle.std.specs.Prelude.{pos, ◌*ℤ◌, int_div, Result, Ok, Err}
+use Rattle.std.proofs.Common.{◌≡◌, ℕ, ℤ, Bool, true, false, cond, refl, ap}
+use Rattle.std.specs.Prelude.{pos, int_div, Ok, Err}
 use Rattle.std.specs.Str.{is_utf8}
 use Rattle.sm_time.specs.declared.format.Format.{Format}
 use Rattle.sm_time.specs.declared.format.Format.TheVariants.{DateTime, EpochSeconds}
 use Rattle.sm_time.specs.Written.{written_stamp}
-use Rattle.sm_tree.specs.Node.{Node, Nodes, Members, null, bool, int, number, text, bytes, tag, opaque, list, object}
+use Rattle.sm_tree.specs.Node.{Node, Nodes, Members, null, int, number, text, tag, list, object}
 use Rattle.sm_shapes.specs.Values.{Val, bool_val, int_val, text_val, blob_val, time_val}
 use Rattle.sm_shapes.specs.declared.fault.FaultKind.TheVariants.{WrongType, Width}
 use Rattle.sm_codec.specs.declared.simple.Simple.{Simple}
 use Rattle.sm_codec.specs.declared.simple.Simple.TheVariants as the
 use Rattle.sm_time.specs.StampTexts.{is_stamp}
 use Rattle.sm_codec.specs.Convention.{IsConvention, IsNested, nested_fault, is_of, fits_bits, are_bytes}
-use Rattle.sm_codec.specs.Conventions.{node_read, node_blob, node_time, node_written, node_carries, node_carries_leaf, node_convention, written_seconds, is_whole_second}
+use Rattle.sm_codec.specs.Conventions.{node_read, node_blob, node_time, node_written, node_carries, node_carries_leaf, node_convention, is_whole_second}
 use Rattle.sm_time.proofs.StampForms.{and_first}
 use Rattle.sm_codec.proofs.LeafLaws.{guarded, boolean_of, text_of, number_of, seconds_of, time_text_of}
 use Rattle.sm_codec.proofs.TextLeaves.{blob_reads, base64_of, seconds_by}

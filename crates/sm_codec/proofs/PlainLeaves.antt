@@ -1,6 +1,6 @@
 -- What the calls that read and write leaves come to, beside the conventions' words.
-use Rattle.std.proofs.Common.{◌≡◌, ℕ, zero, suc, ◌<◌, ◌≤◌, ◌^◌, ◌-◌, ◌/◌, ◌*◌, ℤ, Bool, true, false, ◌&&◌, cond, List, [], ◌∷◌, refl, sym, ap, ◌∙◌, subst, arith}
-use Rattle.std.specs.Prelude.{pos, negsuc, ◌*ℤ◌, ◌<ℤ◌, ◌≤ℤ◌, nat_lt, nat_eq, Option, Some, None, Result, Ok, Err, IsUtf8, slice_index}
+use Rattle.std.proofs.Common.{◌≡◌, ℕ, zero, suc, ◌<◌, ◌≤◌, ◌^◌, ◌-◌, ◌/◌, ℤ, Bool, true, false, ◌&&◌, cond, List, [], ◌∷◌, refl, sym, ap, ◌∙◌, subst, arith}
+use Rattle.std.specs.Prelude.{nat_lt, nat_eq, Option, Some, None, Result, Ok, Err, IsUtf8, slice_index}
 use Rattle.std.specs.Str.{is_utf8}
 use Rattle.std.proofs.lemmas.Bool.{false_from_ne_true}
 use Rattle.std.proofs.lemmas.Bool.Decides.{Decides-ltb, Decides-eqb}
@@ -11,24 +11,23 @@ use Rattle.std.proofs.lemmas.Str.{is_utf8-from_IsUtf8, IsUtf8-from_is_utf8}
 use Rattle.base64.specs.Engines.{standard}
 use Rattle.base64.specs.GeneralPurpose.{IsBytes, decode_of}
 use Rattle.base64.specs.declared.decode.DecodeError.{DecodeError}
-use Rattle.sm_tree.specs.Node.{Node, text}
+use Rattle.sm_tree.specs.Node.{text}
 use Rattle.sm_time.specs.declared.format.Format.{Format}
 use Rattle.sm_time.specs.declared.format.TimeRefusal.{TimeRefusal}
-use Rattle.sm_time.specs.TimeText.{TimeText, IsStamp}
+use Rattle.sm_time.specs.TimeText.{TimeText}
 use Rattle.sm_time.specs.Answers.{ReadsStamp}
 use Rattle.sm_time.specs.StampTexts.{stamp_of, TellsStamp, is_stamp}
 use Rattle.sm_time.proofs.OneAnswer.{one_answer}
 use Rattle.sm_time.specs.declared.format.Format.TheVariants.{DateTime, HttpDate, EpochSeconds}
 use Rattle.sm_time.specs.Written.{IsWritable}
-use Rattle.sm_time.proofs.StampForms.{stamp_decides, and_second}
+use Rattle.sm_time.proofs.StampForms.{and_second}
 use Rattle.sm_time.proofs.StampTold.{stamp_told}
-use Rattle.sm_shapes.specs.Values.{Val, text_val, blob_val, time_val}
-use Rattle.sm_shapes.specs.declared.fault.FaultKind.{FaultKind}
+use Rattle.sm_shapes.specs.Values.{text_val, blob_val, time_val}
 use Rattle.sm_shapes.specs.declared.fault.FaultKind.TheVariants.{WrongType, Base64}
 use Rattle.sm_codec.specs.declared.simple.Simple.{Simple}
 use Rattle.sm_codec.specs.declared.simple.Simple.TheVariants as the
-use Rattle.sm_codec.specs.Convention.{are_bytes, fits_bits, is_of}
-use Rattle.sm_codec.specs.Conventions.{read_text, read_base64, decoded_blob, stamp_of_seconds, json_carries, node_carries, has_text, format_of_simple}
+use Rattle.sm_codec.specs.Convention.{are_bytes, is_of}
+use Rattle.sm_codec.specs.Conventions.{read_text, read_base64, decoded_blob, json_carries, node_carries, has_text, format_of_simple}
 use Rattle.sm_codec.proofs.TextLeaves.{date_writable}
 
 -- the stamp that is read is the one that is told, and where none is read none is told

@@ -1,5 +1,5 @@
 -- The tree that is written for a value spells it.
-use Rattle.std.proofs.Common.{◌≡◌, inl, inr, ℕ, suc, ◌<◌, Bool, true, false, cond, List, [], ◌∷◌, ◌++◌, map, refl, sym, ap, ◌∙◌, subst}
+use Rattle.std.proofs.Common.{◌≡◌, inl, inr, ℕ, suc, Bool, true, false, cond, List, [], ◌∷◌, ◌++◌, map, refl, sym, ap, ◌∙◌, subst}
 use Rattle.std.specs.Prelude.{Option, unwrap_or, Result, Ok, Err}
 use Rattle.std.specs.Ordering.{nat_cmp}
 use Rattle.std.specs.Cmp.Lexicographic.{slice_cmp}
@@ -7,14 +7,14 @@ use Rattle.std.specs.Str.{bytes_eq}
 use Rattle.std.proofs.lemmas.Bool.{false_from_ne_true}
 use Rattle.std.proofs.lemmas.Map.Keys.{sorted_head, sorted_tail}
 use Rattle.std.proofs.lemmas.Slice.Eq.{bytes_eq-Decides}
-use Rattle.sm_tree.specs.Node.{Node, Nodes, Members, null, list, object, no_nodes, node, no_members, member, members_of}
+use Rattle.sm_tree.specs.Node.{Node, null, list, object}
 use Rattle.sm_tree.specs.declared.path.Step.{Step}
 use Rattle.sm_tree.specs.declared.path.Step.TheVariants.{Member, Index, Key}
 use Rattle.sm_time.specs.declared.format.Format.{Format}
 use Rattle.sm_time.specs.declared.format.Format.TheVariants.{EpochSeconds}
 use Rattle.sm_shapes.specs.Names.{NoneIs, AllDiffer}
 use Rattle.sm_shapes.specs.Values.{Val, Vals, EntryVals, FieldVals, null_val, bool_val, int_val, text_val, blob_val, time_val, list_val, map_val, structure_val, union_val, no_vals, val, no_entries, entry, no_fields, field, keys_of}
-use Rattle.sm_shapes.specs.TableData.{TableData, member_count, name_at, default_at}
+use Rattle.sm_shapes.specs.TableData.{name_at}
 use Rattle.sm_shapes.specs.Places.{Place, member_place, members_of_place, shape_of, kind_of, format_of, sparse_of, entry_place, value_place}
 use Rattle.sm_shapes.specs.Fitting.{Fits, FitEntries, FitPairs, FitFields, MayBeAbsent, FitsOrNull, IsOfKind}
 use Rattle.sm_shapes.specs.InOrder.{Shaped, AreMembersOf}
@@ -26,7 +26,7 @@ use Rattle.sm_codec.specs.declared.simple.Simple.{Simple}
 use Rattle.sm_codec.specs.declared.simple.Simple.TheVariants as the
 use Rattle.sm_codec.specs.Convention.{Convention, IsConvention}
 use Rattle.sm_codec.specs.Sorts.{Sort, simple, sort_by, sort_of}
-use Rattle.sm_codec.specs.Codec.{Codec, sort_at, wire_name, InTable}
+use Rattle.sm_codec.specs.Codec.{Codec, wire_name, InTable}
 use Rattle.sm_codec.specs.CodecLaws.{WrittenSpells}
 use Rattle.sm_codec.specs.Named.{named, names_of, is_null}
 use Rattle.sm_codec.specs.Spelling.{IsLeaf, Spelled, SpelledEntries, SpelledPairs, SpelledFields, SpelledOrNull, NoneOrNull, StandNot, AreAbsent, AreKeys}
@@ -34,7 +34,7 @@ use Rattle.sm_codec.specs.Written.{written, written_leaf, written_entries, writt
 use Rattle.sm_codec.proofs.NoFaults.{none_first, none_behind}
 use Rattle.sm_codec.proofs.ChildLists.{each_node, each_pair, nodes_back, members_back, null_is}
 use Rattle.sm_codec.proofs.PlacesIn.{sort_of_kind, shape_in, members_stand, stand_at, member_splits, entry_in, value_in}
-use Rattle.sm_codec.proofs.KeyOrder.{IsIn, IsBefore, InOrder, before_one, never_before_itself, contains_in}
+use Rattle.sm_codec.proofs.KeyOrder.{IsIn, IsBefore, InOrder, never_before_itself, contains_in}
 use Rattle.sm_codec.proofs.Membered.{none_at, differ_behind}
 
 none_of_paths : (step : Step) (paths : List (List Step)) → paths_under step paths ≡ [] → paths ≡ []

@@ -1,13 +1,13 @@
 -- How much a decoder holds: at most a value for each tree that stands at a known place and isn't passed over, and the defaults of
 -- structures. What is passed over adds nothing.
-use Rattle.std.specs.Prelude.{◌≡◌, ℕ, ◌+◌, ◌*◌, ◌≤◌, List, [], ◌∷◌, length, Option, Some, None}
-use Rattle.sm_tree.specs.Node.{Node, Nodes, Members, null, bool, int, number, text, bytes, tag, opaque, list, object, no_nodes, node, no_members, member}
+use Rattle.std.specs.Prelude.{ℕ, ◌+◌, ◌*◌, ◌≤◌, List, [], ◌∷◌, length, Option, Some, None}
+use Rattle.sm_tree.specs.Node.{Node, Nodes, Members, tag, list, object, no_nodes, node, no_members, member}
 use Rattle.sm_tree.specs.Events.{NodeEvent}
 use Rattle.sm_tree.specs.Building.{Building, nothing, whole, within}
 use Rattle.sm_shapes.specs.Values.{Val, val_nodes}
 use Rattle.sm_shapes.specs.InOrder.{most_defaults}
 use Rattle.sm_shapes.specs.Places.{Place, root_place, member_place, entry_place, value_place}
-use Rattle.sm_codec.specs.Sorts.{Sort, simple, a_list, a_map, a_structure, a_union, left_out}
+use Rattle.sm_codec.specs.Sorts.{Sort, simple, a_list, a_map, a_structure, a_union}
 use Rattle.sm_codec.specs.Codec.{Codec, sort_at}
 use Rattle.sm_codec.specs.CodecLaws.{IsCodec}
 use Rattle.sm_codec.specs.Decoding.{Outcome, good, bad, Frame, structure_frame, union_frame, list_frame, map_frame, tagged_frame, skip_frame, Decoding}

@@ -1,10 +1,10 @@
 -- What all definitions of the codec are over: a table, a convention of leaves, and the test of patterns.
-use Rattle.std.specs.Prelude.{◌≡◌, ℕ, ◌<◌, List, Some}
+use Rattle.std.specs.Prelude.{ℕ, ◌<◌, List}
 use Rattle.sm_shapes.specs.Values.{Val}
-use Rattle.sm_shapes.specs.TableData.{TableData, ConstraintData, shape_count, member_count, name_at, default_at}
+use Rattle.sm_shapes.specs.TableData.{TableData, shape_count, member_count}
 use Rattle.sm_shapes.specs.Places.{Place, root_place, member_place, shape_of, kind_of, constraints_of}
 use Rattle.sm_shapes.specs.Broken.{broken}
-use Rattle.sm_shapes.specs.Fitting.{Test, finder, MeetsConstraints}
+use Rattle.sm_shapes.specs.Fitting.{Test, finder}
 use Rattle.sm_shapes.specs.declared.fault.FaultKind.{FaultKind}
 use Rattle.sm_codec.specs.Convention.{Convention}
 use Rattle.sm_codec.specs.Sorts.{Sort, sort_of}

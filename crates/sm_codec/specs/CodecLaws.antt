@@ -1,5 +1,5 @@
 -- The codec's laws, over the definitions alone: for every convention, every table in order and every test that its defaults pass.
-use Rattle.std.specs.Prelude.{◌≡◌, ◌↔◌, ℕ, [], Ok}
+use Rattle.std.specs.Prelude.{◌≡◌, ◌↔◌, [], Ok}
 use Rattle.sm_tree.specs.Node.{Node}
 use Rattle.sm_shapes.specs.Values.{Val}
 use Rattle.sm_shapes.specs.InOrder.{Shaped, DefaultsPass}

@@ -1,6 +1,6 @@
 -- Conventions: how a format spells simple values, and under which names members stand. The codec is over any convention that
 -- meets the laws here.
-use Rattle.std.specs.Prelude.{◌≡◌, ℕ, ◌<◌, ◌≤◌, ◌-◌, ◌^◌, nat_lt, ℤ, pos, negsuc, Bool, true, false, List, [], map, Result, Ok, Err}
+use Rattle.std.specs.Prelude.{◌≡◌, ℕ, ◌<◌, ◌-◌, ◌^◌, nat_lt, ℤ, pos, negsuc, Bool, true, false, List, map, Result, Ok, Err}
 use Rattle.std.specs.List.{list_all}
 use Rattle.std.specs.Str.{is_utf8}
 use Rattle.sm_tree.specs.Node.{Node, Nodes, Members, null, tag, list, object, no_nodes}

@@ -1,7 +1,7 @@
 -- The conventions of JSON (RFC 8259), of CBOR (RFC 8949), and of the nodes of models: names, and how simple values are spelled
 -- (Smithy 2.0, "Simple types", "timestampFormat trait", "jsonName trait", and the pages of the AWS JSON protocols and of Smithy
 -- RPC v2 CBOR).
-use Rattle.std.specs.Prelude.{ℕ, ◌==◌, ℤ, pos, ◌*ℤ◌, int_le, int_div, int_rem, Bool, true, false, not, ◌&&◌, ◌||◌, cond, List, [], ◌∷◌, Option, Some, None, Result, Ok, Err}
+use Rattle.std.specs.Prelude.{ℕ, ◌==◌, ℤ, pos, ◌*ℤ◌, int_le, int_div, int_rem, Bool, true, false, ◌&&◌, ◌||◌, cond, List, Option, Some, None, Result, Ok, Err}
 use Rattle.std.specs.Ordering.{int_eq}
 use Rattle.std.specs.List.{list_any}
 use Rattle.std.specs.Str.{is_utf8}
@@ -9,11 +9,11 @@ use Rattle.base64.specs.Engines.{standard}
 use Rattle.base64.specs.GeneralPurpose.{encode_of, decode_of}
 use Rattle.base64.specs.declared.decode.DecodeError.{DecodeError}
 use Rattle.sm_bytes.specs.Ascii.{full_stop, capital_e, small_e}
-use Rattle.sm_tree.specs.Node.{Node, null, bool, int, number, text, bytes, tag, opaque, list, object}
+use Rattle.sm_tree.specs.Node.{Node, null, bool, int, number, text, bytes, tag}
 use Rattle.sm_time.specs.declared.format.Format.{Format}
 use Rattle.sm_time.specs.declared.format.Format.TheVariants.{DateTime, HttpDate, EpochSeconds}
 use Rattle.sm_time.specs.Written.{written_stamp}
-use Rattle.sm_shapes.specs.Values.{Val, null_val, bool_val, int_val, text_val, blob_val, time_val, list_val, map_val, structure_val, union_val}
+use Rattle.sm_shapes.specs.Values.{Val, bool_val, int_val, text_val, blob_val, time_val}
 use Rattle.sm_shapes.specs.TableData.{TableData, name_at, json_name_at}
 use Rattle.sm_shapes.specs.declared.fault.FaultKind.{FaultKind}
 use Rattle.sm_shapes.specs.declared.fault.FaultKind.TheVariants.{WrongType, Width, Base64, Time}

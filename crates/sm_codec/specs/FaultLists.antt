@@ -1,5 +1,5 @@
 -- Faults as data: a path and a kind, and lists of them in order.
-use Rattle.std.specs.Prelude.{ℕ, List, [], ◌∷◌, map, Option, Some, None, Result, Ok, Err}
+use Rattle.std.specs.Prelude.{List, [], ◌∷◌, map, Option, Some, None, Result, Ok, Err}
 use Rattle.sm_tree.specs.declared.path.Step.{Step}
 use Rattle.sm_shapes.specs.Values.{Val}
 use Rattle.sm_shapes.specs.declared.fault.FaultKind.{FaultKind}

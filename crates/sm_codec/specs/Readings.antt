@@ -2,8 +2,7 @@
 -- part of a tree is read for each place at which it may stand, so that members find their trees by name.
 use Rattle.std.specs.Prelude.{ℕ, suc, Bool, true, false, ◌&&◌, cond, List, [], ◌∷◌, ◌++◌, map, length, Option, Some, None, Result, Ok, Err}
 use Rattle.std.specs.Str.{is_utf8}
-use Rattle.sm_tree.specs.Node.{Node, Nodes, Members, null, bool, int, number, text, bytes, tag, opaque, list, object, no_nodes, node, no_members, member}
-use Rattle.sm_tree.specs.declared.path.Step.{Step}
+use Rattle.sm_tree.specs.Node.{Node, Nodes, Members, list, object, no_nodes, node, no_members, member}
 use Rattle.sm_tree.specs.declared.path.Step.TheVariants.{Member, Index, Key}
 use Rattle.sm_shapes.specs.Values.{Val, null_val, text_val, list_val, map_val, structure_val, union_val, vals_of, entries_of, fields_of}
 use Rattle.sm_shapes.specs.TableData.{TableData, name_at, required_at, default_at}
@@ -11,7 +10,7 @@ use Rattle.sm_shapes.specs.Places.{Place, member_place, members_of_place, constr
 use Rattle.sm_shapes.specs.Broken.{length_broken, has_twice}
 use Rattle.sm_shapes.specs.declared.fault.FaultKind.{FaultKind}
 use Rattle.sm_shapes.specs.declared.fault.FaultKind.TheVariants.{WrongType, Null, Repeated, Missing, Unique, UnionCount}
-use Rattle.sm_codec.specs.Sorts.{Sort, simple, a_list, a_map, a_structure, a_union, left_out}
+use Rattle.sm_codec.specs.Sorts.{Sort, simple, a_list, a_map, a_structure, a_union}
 use Rattle.sm_codec.specs.Codec.{Codec, sort_at, wire_name, broken_at}
 use Rattle.sm_codec.specs.Named.{named, names_of, is_null, in_byte_order}
 use Rattle.sm_codec.specs.FaultLists.{FaultAt, here, under, Reading, faults_in, values_in, settled}

@@ -1,5 +1,5 @@
 -- Five sorts of places for fifteen kinds of shapes: to the codec all simple types are one, whose spelling a convention knows.
-use Rattle.std.specs.Prelude.{ℕ, Option, unwrap_or}
+use Rattle.std.specs.Prelude.{Option, unwrap_or}
 use Rattle.sm_time.specs.declared.format.Format.{Format}
 use Rattle.sm_time.specs.declared.format.Format.TheVariants.{EpochSeconds}
 use Rattle.sm_shapes.specs.TableData.{TableData}

@@ -1,5 +1,5 @@
 -- Which value of a place a tree spells: one that fits, and whose parts the tree spells, by cases on the value.
-use Rattle.std.specs.Prelude.{◌≡◌, ◌⊎◌, ℕ, true, false, List, [], ◌∷◌, ◌++◌, Option, Some, None, Ok}
+use Rattle.std.specs.Prelude.{◌≡◌, ◌⊎◌, ℕ, true, false, List, [], ◌∷◌, ◌++◌, Some, None}
 use Rattle.std.specs.List.{Contains}
 use Rattle.sm_tree.specs.Node.{Node, null, list, object, nodes_of, members_of}
 use Rattle.sm_shapes.specs.Values.{Val, Vals, EntryVals, FieldVals, null_val, bool_val, int_val, text_val, blob_val, time_val, list_val, map_val, structure_val, union_val, no_vals, val, no_entries, entry, no_fields, field, keys_of}

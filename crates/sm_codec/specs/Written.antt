@@ -1,6 +1,6 @@
 -- The one tree that is written for a value, and the leaves of a value that a convention doesn't carry: by a table and a convention,
 -- whatever the patterns find.
-use Rattle.std.specs.Prelude.{ℕ, suc, Bool, cond, List, [], ◌∷◌, ◌++◌, map}
+use Rattle.std.specs.Prelude.{ℕ, suc, cond, List, [], ◌∷◌, ◌++◌, map}
 use Rattle.sm_tree.specs.Node.{Node, Nodes, Members, null, list, object, no_nodes, node, no_members, member}
 use Rattle.sm_tree.specs.declared.path.Step.{Step}
 use Rattle.sm_tree.specs.declared.path.Step.TheVariants.{Member, Index, Key}

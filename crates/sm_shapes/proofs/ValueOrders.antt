@@ -1,6 +1,6 @@
 -- The order of values is that of their words, one list for each value, so it is total; and it tells apart all values but equal ones.
 use Rattle.std.proofs.Common.{◌≡◌, ℕ, ℤ, Bool, true, false, ◌&&◌, List, [], ◌∷◌, refl, sym, ap, ◌∙◌, subst}
-use Rattle.std.specs.Prelude.{pos, ◌↔◌, ◌==◌}
+use Rattle.std.specs.Prelude.{pos, ◌==◌}
 use Rattle.std.specs.Cmp.{IsTotalOrder}
 use Rattle.std.specs.Cmp.Lexicographic.{slice_cmp}
 use Rattle.std.specs.Ordering.{nat_cmp, int_cmp, bool_cmp, ordering_then, ordering_reverse, is_eq, then_cmp, on}

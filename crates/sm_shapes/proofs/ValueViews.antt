@@ -6,7 +6,7 @@ use Rattle.sm_shapes.specs.declared.values.Value.{Value, the_lemmas}
 use Rattle.sm_shapes.specs.declared.values.Items.{Items}
 use Rattle.sm_shapes.specs.declared.values.Entries.{Entries}
 use Rattle.sm_shapes.specs.declared.values.Fields.{Fields}
-use Rattle.sm_shapes.specs.declared.values.Value.TheVariants.{Null, Bool as Boolean, Int, Text, Blob, Time, List as Listed, rolls-List, Map, rolls-Map, Structure, rolls-Structure, Union}
+use Rattle.sm_shapes.specs.declared.values.Value.TheVariants.{Null, Bool as Boolean, Int, Text, Blob, Time, List as Listed, Map, rolls-Map, Structure, rolls-Structure, Union}
 use Rattle.sm_shapes.specs.declared.values.Value.TheFolds.{fold-roll-Value, fold-roll-Items, fold-roll-Entries, fold-roll-Fields}
 
 pub view_items : (v : Items) → items_view v ≡ vals_view v.items.items

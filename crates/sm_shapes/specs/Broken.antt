@@ -1,11 +1,11 @@
 -- Which constraints a value breaks (Smithy 2.0, "Constraint traits"), in the order in which they are told: `Length`, `Range`,
 -- `Pattern`, `Enum`. `length` counts the Unicode scalar values of a text, the bytes of a blob, and the entries of a list or a
 -- map; `range` holds of whole numbers, with both ends; a pattern finds a text anywhere in it.
-use Rattle.std.specs.Prelude.{ℕ, ℤ, pos, Bool, true, false, not, ◌&&◌, ◌||◌, cond, List, [], ◌∷◌, ◌++◌, length, Option, Some, None, int_le}
+use Rattle.std.specs.Prelude.{ℕ, ℤ, pos, Bool, true, false, ◌&&◌, ◌||◌, cond, List, [], ◌∷◌, ◌++◌, length, Option, Some, None, int_le}
 use Rattle.std.specs.Ordering.{int_eq}
 use Rattle.std.specs.List.{list_any}
 use Rattle.std.specs.Str.{bytes_eq, chars}
-use Rattle.sm_shapes.specs.Values.{Val, Vals, EntryVals, null_val, bool_val, int_val, text_val, blob_val, time_val, list_val, map_val, structure_val, union_val, each_val, keys_of, same_val}
+use Rattle.sm_shapes.specs.Values.{Val, null_val, bool_val, int_val, text_val, blob_val, time_val, list_val, map_val, structure_val, union_val, each_val, keys_of, same_val}
 use Rattle.sm_shapes.specs.TableData.{ConstraintData}
 use Rattle.sm_shapes.specs.declared.kinds.ShapeKind.{ShapeKind}
 use Rattle.sm_shapes.specs.declared.kinds.ShapeKind.TheVariants as kinds

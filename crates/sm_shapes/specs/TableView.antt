@@ -1,5 +1,5 @@
 -- A table of the code as data. Every contract that speaks of a table cites it.
-use Rattle.std.specs.Prelude.{List, map, Option}
+use Rattle.std.specs.Prelude.{List, map}
 use Rattle.std.specs.Option.{option_map}
 use Rattle.sm_tree.specs.View.{node_of}
 use Rattle.sm_shapes.specs.ValueView.{val_of}

@@ -1,7 +1,7 @@
 -- A value as data, without memory, of every kind of shape. Texts and byte strings are lists of bytes. Values are canonical:
 -- fields stand in model order and entries in the byte order of their keys, so two values are the same value exactly where they
 -- are equal.
-use Rattle.std.specs.Prelude.{ℕ, suc, ◌+◌, ℤ, Bool, true, false, ◌&&◌, ◌==◌, List, [], ◌∷◌}
+use Rattle.std.specs.Prelude.{ℕ, ◌+◌, ℤ, Bool, true, false, ◌&&◌, ◌==◌, List, [], ◌∷◌}
 use Rattle.std.specs.Ordering.{int_eq}
 use Rattle.std.specs.Str.{bytes_eq}
 

@@ -1,9 +1,9 @@
 -- The tests of a stamp's form decide what they are tests of.
-use Rattle.std.proofs.Common.{◌≡◌, ◌≢◌, ℕ, ◌<◌, ◌≤◌, ℤ, Bool, true, false, not, ◌&&◌, ◌||◌, cond, List, [], ◌∷◌, length, drop, refl, sym, ap, ◌∙◌, subst, arith}
-use Rattle.std.specs.Prelude.{pos, neg_ℤ, ◌≤ℤ◌, nat_le, nat_lt, ◌==◌, int_le, slice_index, T}
+use Rattle.std.proofs.Common.{◌≡◌, ℕ, ◌<◌, ◌≤◌, ℤ, Bool, true, false, not, ◌&&◌, ◌||◌, List, [], ◌∷◌, length, drop, refl, sym, ap, ◌∙◌, subst, arith}
+use Rattle.std.specs.Prelude.{pos, neg_ℤ, ◌≤ℤ◌, nat_le, nat_lt, ◌==◌, int_le, T}
 use Rattle.std.specs.Bool.{Decides}
 use Rattle.std.specs.Char.{is_ascii_digit, digit_value}
-use Rattle.std.specs.List.{list_all, All}
+use Rattle.std.specs.List.{list_all}
 use Rattle.std.specs.Str.Parse.{AllDigits}
 use Rattle.std.proofs.lemmas.Bool.Decides.{nat_tests, Decides-and, Decides-or, Decides-eqb, Decides-ltb, Decides-by_and, Decides-like}
 use Rattle.sm_bytes.specs.Ascii.{digit_zero, capital_t, small_t}

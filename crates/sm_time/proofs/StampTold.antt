@@ -9,7 +9,7 @@ use Rattle.sm_time.specs.TimeText.{Form, clock_form, gmt_form, seconds_form, for
 use Rattle.sm_time.specs.Written.{written_stamp, IsWritable}
 use Rattle.sm_time.proofs.OneReading.{one_reading}
 use Rattle.sm_time.proofs.WrittenTexts.{written_is_text}
-use Rattle.sm_time.specs.StampTexts.{is_stamp, supposed, is_form, is_whole_millis, stamp_of, stamp_of_form, TellsStamp}
+use Rattle.sm_time.specs.StampTexts.{is_stamp, supposed, is_form, is_whole_millis, stamp_of, TellsStamp}
 use Rattle.sm_time.proofs.StampForms.{and_first, and_second, form_decides, millis_decide, stamp_decides}
 use Rattle.sm_time.proofs.StampClocks.{date_time_back, number_back}
 use Rattle.sm_time.proofs.StampDates.{date_forms}

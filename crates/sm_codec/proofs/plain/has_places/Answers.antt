@@ -1,4 +1,4 @@
-use Rattle.std.proofs.Common.{sym, ap, ◌∙◌}
+use Rattle.std.proofs.Common.{ap, ◌∙◌}
 use Rattle.std.specs.Prelude.{nat_lt, ◌^◌}
 use Rattle.sm_codec.proofs.PlainLeaves.{far_places, few_places}
 use Rattle.sm_codec.proofs.plain.has_places.Goals as goal

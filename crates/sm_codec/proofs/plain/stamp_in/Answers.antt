@@ -1,5 +1,4 @@
-use Rattle.std.proofs.Common.{◌≡◌, sym, ap, ◌∙◌, subst}
-use Rattle.std.specs.Prelude.{Some, None}
+use Rattle.std.proofs.Common.{sym, ap, ◌∙◌}
 use Rattle.sm_time.specs.StampTexts.{stamp_of}
 use Rattle.sm_codec.proofs.PlainLeaves.{read_is_told, none_is_told}
 use Rattle.sm_codec.proofs.plain.stamp_in.Goals as goal
