@@ -7,7 +7,7 @@ use Rattle.sm_tree.specs.Events.{NodeEvent, null_event, bool_event, int_event, n
 use Rattle.sm_tree.specs.Timing.{TimedEvent, by_byte, complete_with}
 use Rattle.sm_tree.specs.TimingLaws.{HasFewEvents}
 use Rattle.sm_cbor.specs.CborItem.{KeyForm, TextString}
-use Rattle.sm_cbor.specs.Timing.{Told, ItemTimed, CountedEntriesTimed, EntriesToBreakTimed, CountedPairsTimed, PairsToBreakTimed, cbor_timing}
+use Rattle.sm_cbor.specs.Timing.{CompleteAt, ItemTimed, CountedEntriesTimed, EntriesToBreakTimed, CountedPairsTimed, PairsToBreakTimed, cbor_timing}
 use Rattle.sm_cbor.proofs.Shorter.{HasByte, text_has_byte, head_short, byte_short, string_short, integer_short, simple_short, item_short}
 
 -- how many are complete where so many of the text's bytes are still to come
@@ -21,11 +21,11 @@ one_more left e r us = elim (cases_lt (length r) left) [
   | inr soon ↦ let is = ap (λ b. length (cond b (e ∷ complete_with left us) (complete_with left us))) (le-leb left (length r) soon) in omega arith
 ]
 
-told_done : (left : ℕ) (e : NodeEvent) (r : List ℕ) (ts us : List TimedEvent) → Told e r ts us
+told_done : (left : ℕ) (e : NodeEvent) (r : List ℕ) (ts us : List TimedEvent) → CompleteAt e r ts us
     → done left ts + (length r - left) ≤ done left us + (length r + 1 - left)
 told_done left e r ts us is = subst (λ x. done left x + (length r - left) ≤ done left us + (length r + 1 - left)) (sym is) (one_more left e r us)
 
-one_event : (left : ℕ) (e : NodeEvent) (s r : List ℕ) (ts us : List TimedEvent) → Told e r ts us → length r < length s
+one_event : (left : ℕ) (e : NodeEvent) (s r : List ℕ) (ts us : List TimedEvent) → CompleteAt e r ts us → length r < length s
     → done left ts + 2 * (length r - left) ≤ done left us + 2 * (length s - left)
 one_event left e s r ts us is less = let count = told_done left e r ts us is in omega arith
 

@@ -13,7 +13,7 @@ use Rattle.sm_tree.specs.Timing.{TimedEvent, by_byte}
 use Rattle.sm_bytes.proofs.Characters.{utf8_runs, rest_utf8}
 use Rattle.sm_cbor.specs.Heads.{Argument}
 use Rattle.sm_cbor.specs.CborItem.{Item as ItemBytes, Integer, Chunks as ChunkBytes, IsOpaque}
-use Rattle.sm_cbor.specs.Timing.{Told, ItemTimed}
+use Rattle.sm_cbor.specs.Timing.{CompleteAt, ItemTimed}
 use Rattle.sm_cbor.specs.steps.Marks.{Keys, key_of}
 use Rattle.sm_cbor.specs.steps.Reading.{SubjectIs, HeadIs, integer_node, integer_event}
 use Rattle.sm_cbor.specs.steps.Rest.{CborState, CborEnds, ItemComes, ChunksCome, ArgumentEnded, ArgumentComes, CborLeads, CborStops}
@@ -75,7 +75,7 @@ integer_untold n z = elim (cases_lt n (2 ^ 63)) [
 ]
 
 integer_timed : (w : Keys) (n : ℕ) (z : ℤ) (s r : List ℕ) (es fs : List TimedEvent) → (n < 2 ^ 63 → FitsSigned w64 z)
-    → (FitsSigned w64 z → n < 2 ^ 63) → Integer z s r → Told (integer_event n z) r es fs → ItemTimed (key_of w) (integer_node n z) s r es fs
+    → (FitsSigned w64 z → n < 2 ^ 63) → Integer z s r → CompleteAt (integer_event n z) r es fs → ItemTimed (key_of w) (integer_node n z) s r es fs
 integer_timed w n z s r es fs fits small h e = elim (cases_lt n (2 ^ 63)) [
   | inl below ↦ subst (λ x. ItemTimed (key_of w) x s r es fs) (sym (node_small n z below))
       ((fits below, h), e ∙ ap (λ x. by_byte x (length r) ∷ fs) (event_small n z below))
@@ -89,7 +89,7 @@ integer_levels n z = elim (cases_lt n (2 ^ 63))
 
 -- what may come behind an initial byte that says this
 abbrev pub Leaf : Keys → ℕ → NodeEvent → List Level → List ℕ → List TimedEvent → Type 0
-Leaf w limit e ls s es = (fs : List TimedEvent) × CborEnds w limit ls s fs × Told e s es fs
+Leaf w limit e ls s es = (fs : List TimedEvent) × CborEnds w limit ls s fs × CompleteAt e s es fs
 
 abbrev pub HeadComes : Keys → ℕ → Head → List ℕ → List Level → List ℕ → List TimedEvent → Type 0
 HeadComes w limit (ArgumentHead j k v) t ls s es = ArgumentComes w limit j k v t ls s es
@@ -104,7 +104,7 @@ abbrev pub InitialByte : Keys → ℕ → ℕ → List ℕ → List Level → Li
 InitialByte w limit c t ls s es = (h : Head) × HeadIs c h × HeadComes w limit h t ls s es
 
 leaf_at : (w : Keys) (limit : ℕ) (e : NodeEvent) (ls : List Level) (s r : List ℕ) (es fs : List TimedEvent) → s ≡ r
-    → CborEnds w limit ls r fs → Told e r es fs → Leaf w limit e ls s es
+    → CborEnds w limit ls r fs → CompleteAt e r es fs → Leaf w limit e ls s es
 leaf_at w limit e ls s r es fs same en is =
     (fs, subst (λ x. CborEnds w limit ls x fs) (sym same) en, is ∙ ap (λ x. by_byte e (length x) ∷ fs) (sym same))
 

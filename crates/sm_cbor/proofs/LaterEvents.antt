@@ -9,7 +9,7 @@ use Rattle.sm_bytes.specs.declared.utf8.Utf8.{Utf8}
 use Rattle.sm_bytes.specs.declared.utf8.Utf8.TheVariants.{Between}
 use Rattle.sm_cbor.specs.Heads.{Number}
 use Rattle.sm_cbor.specs.CborItem.{KeyForm}
-use Rattle.sm_cbor.specs.Timing.{Told, ItemTimed, CountedEntriesTimed, EntriesToBreakTimed, CountedPairsTimed, PairsToBreakTimed}
+use Rattle.sm_cbor.specs.Timing.{CompleteAt, ItemTimed, CountedEntriesTimed, EntriesToBreakTimed, CountedPairsTimed, PairsToBreakTimed}
 use Rattle.sm_cbor.specs.steps.Marks.{Keys, plain, marked, key_of}
 use Rattle.sm_cbor.specs.steps.Reading.{major_of, IsOf, integer_event}
 use Rattle.sm_cbor.specs.steps.Rest.{CborEnds, ItemComes, CborKeyComes, StringEnded, ChunksCome, SpanEnded, CborStringComes, before_span, ArgumentEnded, ArgumentComes, CborRestAt}
@@ -31,7 +31,7 @@ key_has_byte plain k s r h = text_has_byte k s r h
 key_has_byte marked k s r (inl h) = text_has_byte k s r h
 key_has_byte marked k s r (inr h) = byte_short 256 s r h.0
 
-told_later : (left : ℕ) (e : NodeEvent) (r : List ℕ) (ts us : List TimedEvent) → Told e r ts us → length r < left → AreLater left us
+told_later : (left : ℕ) (e : NodeEvent) (r : List ℕ) (ts us : List TimedEvent) → CompleteAt e r ts us → length r < left → AreLater left us
     → AreLater left ts
 told_later left e r ts us is less later = subst (AreLater left) (sym is) (less, later)
 

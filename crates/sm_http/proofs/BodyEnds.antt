@@ -10,7 +10,7 @@ use Rattle.sm_http.specs.declared.message.BodyLeft.{BodyLeft}
 use Rattle.sm_http.specs.declared.message.BodyLeft.TheVariants.{Known, Size, Data, Done}
 use Rattle.sm_http.specs.declared.refusal.HttpRefusal.TheVariants.{Ended, TooLong}
 use Rattle.sm_http.specs.declared.refusal.HttpRefusal.TheVariants.{Chunk as BadChunk}
-use Rattle.sm_http.specs.Limits.{body_limit}
+use Rattle.sm_http.specs.Limits.{message_body_limit}
 use Rattle.sm_http.specs.Chunks.{IsSizeLine, Chunk, IsChunk, IsTrailer, ChunkedText, print_chunks, print_trailers, print_chunked, IsChunkedText, chunks_data, PassesLimit}
 use Rattle.sm_http.specs.Bodies.{HasBody, NeverHasBody, body_refused, BodyFramed}
 use Rattle.sm_http.specs.steps.SizeLines.{HasNoSize, NeverHasSize, MayBecomeSize}
@@ -142,7 +142,7 @@ size_refused sum bytes never = (
 )
 
 pub too_long : (sum : ℕ) (l : ChunkLine) (bytes rest : List ℕ) → IsSizeLine l → bytes ≡ print_chunk_line l ++ rest
-    → body_limit < sum + chunk_size l → BodyFramed (Size sum) bytes (body_refused TooLong)
+    → message_body_limit < sum + chunk_size l → BodyFramed (Size sum) bytes (body_refused TooLong)
 too_long sum l bytes rest line e past = record {
   chunks = [];
   line = l;
@@ -184,8 +184,8 @@ body_last sum l bytes content behind line none x =
     let t = x.1.0 in last_back l bytes behind t.chunks t.last t.trailers line none x.1.1 (x.2 ∙ ap (λ b. b ++ behind) x.1.2)
 
 last_within : (sum : ℕ) (l : ChunkLine) (bytes : List ℕ) (cs : List Chunk) (k : ChunkLine) (r : List ℕ) → IsSizeLine l → chunk_size l ≡ 0
-    → sum ≤ body_limit → All IsChunk cs → IsSizeLine k → print_chunk_line l ++ bytes ≡ print_chunks cs ++ print_chunk_line k ++ r
-    → body_limit < sum + length (chunks_data cs) + chunk_size k → ⊥
+    → sum ≤ message_body_limit → All IsChunk cs → IsSizeLine k → print_chunk_line l ++ bytes ≡ print_chunks cs ++ print_chunk_line k ++ r
+    → message_body_limit < sum + length (chunks_data cs) + chunk_size k → ⊥
 last_within sum l bytes [] k r line none within all is e past =
     let same = chunk_line_unique _ l k bytes r (line.form, refl) (is.form, e) in
     let size : chunk_size k ≡ 0 = ap chunk_size (sym same.0) ∙ none in
@@ -195,13 +195,13 @@ last_within sum l bytes (c ∷ cs) k r line none within all is e past =
     (e ∙ append_assoc (print_chunks (c ∷ cs)) (print_chunk_line k) r
     ∙ behind_chunk (print_chunk_line c.line) c.content (print_chunks cs) (print_chunk_line k ++ r))
 
-last_not_past : (sum : ℕ) (l : ChunkLine) (bytes : List ℕ) → IsSizeLine l → chunk_size l ≡ 0 → sum ≤ body_limit
+last_not_past : (sum : ℕ) (l : ChunkLine) (bytes : List ℕ) → IsSizeLine l → chunk_size l ≡ 0 → sum ≤ message_body_limit
     → PassesLimit sum (print_chunk_line l ++ bytes) → ⊥
 last_not_past sum l bytes line none within p =
     last_within sum l bytes p.chunks p.line p.rest line none within p.are_chunks p.is_line p.reads p.past
 
 -- the last line, with its trailers
-pub last_step : (sum : ℕ) (l : ChunkLine) (bytes : List ℕ) → IsSizeLine l → chunk_size l ≡ 0 → sum ≤ body_limit
+pub last_step : (sum : ℕ) (l : ChunkLine) (bytes : List ℕ) → IsSizeLine l → chunk_size l ≡ 0 → sum ≤ message_body_limit
     → ReadsTrailers 0 bytes [] → Steps (Size sum) (print_chunk_line l ++ bytes) [] Done
 last_step sum l bytes line none within x =
     let followed : (rest : List ℕ) → HasBody (Size sum) ((print_chunk_line l ++ bytes) ++ rest) [] rest =
@@ -223,7 +223,7 @@ last_step sum l bytes line none within x =
           last_not_past sum l (bytes ++ rest) line none within (subst (PassesLimit sum) (append_assoc (print_chunk_line l) bytes rest) p);
     }
 
-pub last_refused : (sum : ℕ) (l : ChunkLine) (bytes : List ℕ) → IsSizeLine l → chunk_size l ≡ 0 → sum ≤ body_limit
+pub last_refused : (sum : ℕ) (l : ChunkLine) (bytes : List ℕ) → IsSizeLine l → chunk_size l ≡ 0 → sum ≤ message_body_limit
     → NeverHasTrailers 0 bytes → BodyFramed (Size sum) (print_chunk_line l ++ bytes) (body_refused BadChunk)
 last_refused sum l bytes line none within never = (
   λ more content behind x. never more behind (body_last sum l (bytes ++ more) content behind line none
@@ -231,7 +231,7 @@ last_refused sum l bytes line none within never = (
   last_not_past sum l bytes line none within,
 )
 
-pub last_open : (sum : ℕ) (l : ChunkLine) (bytes : List ℕ) → IsSizeLine l → chunk_size l ≡ 0 → sum ≤ body_limit
+pub last_open : (sum : ℕ) (l : ChunkLine) (bytes : List ℕ) → IsSizeLine l → chunk_size l ≡ 0 → sum ≤ message_body_limit
     → HasNoTrailers 0 bytes → MayBecomeTrailers 0 bytes → BodyFramed (Size sum) (print_chunk_line l ++ bytes) (body_refused Ended)
 last_open sum l bytes line none within lacks may = (
   λ content behind x. lacks behind (body_last sum l bytes content behind line none x),

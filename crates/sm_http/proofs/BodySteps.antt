@@ -10,7 +10,7 @@ use Rattle.sm_http.specs.declared.message.BodyLeft.{BodyLeft}
 use Rattle.sm_http.specs.declared.message.BodyLeft.TheVariants.{Known, Size, Data}
 use Rattle.sm_http.specs.declared.refusal.HttpRefusal.TheVariants.{ReadFault, Ended, HeadTooLarge, Coding, Length, TooLong, NoMemory}
 use Rattle.sm_http.specs.declared.refusal.HttpRefusal.TheVariants.{Head as BadHead, Chunk as BadChunk}
-use Rattle.sm_http.specs.Limits.{body_limit}
+use Rattle.sm_http.specs.Limits.{message_body_limit}
 use Rattle.sm_http.specs.Chunks.{IsSizeLine, Chunk, print_chunk, IsChunk, ChunkedText, print_chunks, print_trailers, print_chunked, IsChunkedText, chunks_data, PassesLimit}
 use Rattle.sm_http.specs.Bodies.{HasBody, HasNoBody, IsPastLimit, BodyFraming, body, body_refused, BodyFramed, behind_data}
 use Rattle.sm_http.specs.steps.Places.{Steps}
@@ -240,8 +240,8 @@ size_past_on sum n l rest line size some p =
     }
 
 size_past_back : (sum n : ℕ) (l : ChunkLine) (rest : List ℕ) (cs : List Chunk) (k : ChunkLine) (r : List ℕ) → IsSizeLine l → chunk_size l ≡ n
-    → sum + n ≤ body_limit → All IsChunk cs → IsSizeLine k → print_chunk_line l ++ rest ≡ print_chunks cs ++ print_chunk_line k ++ r
-    → body_limit < sum + length (chunks_data cs) + chunk_size k → IsPastLimit (Data n (sum + n)) rest
+    → sum + n ≤ message_body_limit → All IsChunk cs → IsSizeLine k → print_chunk_line l ++ rest ≡ print_chunks cs ++ print_chunk_line k ++ r
+    → message_body_limit < sum + length (chunks_data cs) + chunk_size k → IsPastLimit (Data n (sum + n)) rest
 size_past_back sum n l rest [] k r line size within all is e past =
     let same = chunk_line_unique _ l k rest r (line.form, refl) (is.form, e) in
     let long : chunk_size k ≡ n = ap chunk_size (sym same.0) ∙ size in
@@ -261,7 +261,7 @@ size_past_back sum n l rest (c ∷ cs) k r line size within all is e past =
       record { chunks = cs; line = k; rest = r; are_chunks = All-tail IsChunk c cs all; is_line = is; reads = refl; past = omega arith },
     )
 
-pub size_step : (sum n : ℕ) (l : ChunkLine) → IsSizeLine l → chunk_size l ≡ n → 0 < n → sum + n ≤ body_limit
+pub size_step : (sum n : ℕ) (l : ChunkLine) → IsSizeLine l → chunk_size l ≡ n → 0 < n → sum + n ≤ message_body_limit
     → Steps (Size sum) (print_chunk_line l) [] (Data n (sum + n))
 size_step sum n l line size some within = record {
   on = size_on sum n (sum + n) l line size some;

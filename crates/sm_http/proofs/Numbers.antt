@@ -13,7 +13,7 @@ use Rattle.std.proofs.lemmas.Str.Parse.{digits_value-take-le}
 use Rattle.std.specs.Char.{digit_value, is_ascii_digit}
 use Rattle.std.specs.List.{list_all, prefix_len}
 use Rattle.std.specs.Str.Parse.{digits_value, digits_value_after}
-use Rattle.sm_http.specs.Limits.{body_limit}
+use Rattle.sm_http.specs.Limits.{message_body_limit}
 use Rattle.sm_http.specs.BodyFields.{is_length, is_same_length}
 use Rattle.sm_http.specs.steps.Digits.{is_zero_digit, significant}
 
@@ -54,7 +54,7 @@ value_more bs i e inside =
     digits_value_more 10 bs i inside ∙ ap (λ d. digits_value 10 (take i bs) * 10 + d) (digit_is (get_or bs i 0) digit)
 
 pub value_past : (bs : List ℕ) (i number : ℕ) → is_length bs ≡ true → i < length bs → number ≡ digits_value 10 (take i bs)
-    → body_limit < number * 10 + (get_or bs i 0 - 48) → body_limit < digits_value 10 bs
+    → message_body_limit < number * 10 + (get_or bs i 0 - 48) → message_body_limit < digits_value 10 bs
 value_past bs i number e inside is past =
     let whole = digits_value-take-le 10 bs (i + 1) (omega arith) in
     let more = value_more bs i e inside in

@@ -9,7 +9,7 @@ use Rattle.sm_http.specs.declared.refusal.HttpRefusal.TheVariants.{Ended, TooLon
 use Rattle.sm_http.specs.declared.refusal.HttpRefusal.TheVariants.{Chunk as BadChunk}
 use Rattle.sm_http.specs.declared.place.SeenPlace.TheVariants.{Next, Part}
 use Rattle.sm_http.specs.declared.trailers.SeenTrailers.TheVariants as trailers
-use Rattle.sm_http.specs.Limits.{body_limit}
+use Rattle.sm_http.specs.Limits.{message_body_limit}
 use Rattle.sm_http.specs.Chunks.{print_trailers}
 use Rattle.sm_http.specs.Bodies.{body_refused, BodyFramed}
 use Rattle.sm_http.specs.Calls.{IsWithinLimit}
@@ -73,7 +73,7 @@ end_no_feed total (b ∷ c ∷ bytes) some other more =
     end_refused total (b ∷ c ∷ (bytes ++ more)) (λ m rest e.
     other (same_first c 10 ((bytes ++ more) ++ m) rest (same_rest b 13 (c ∷ ((bytes ++ more) ++ m)) (10 ∷ rest) e)))
 
-pub end_whole : (total : ℕ) (bytes : List ℕ) → total ≤ body_limit → 1 < length bytes → get_or bytes 0 0 ≡ 13 → get_or bytes 1 0 ≡ 10
+pub end_whole : (total : ℕ) (bytes : List ℕ) → total ≤ message_body_limit → 1 < length bytes → get_or bytes 0 0 ≡ 13 → get_or bytes 1 0 ≡ 10
     → SeesPlace (Data 0 total) bytes (Ok (Next 2 (Size total)))
 end_whole total [] within some first second = absurd (omega arith)
 end_whole total (b ∷ []) within some first second = absurd (omega arith)
@@ -87,7 +87,7 @@ end_whole total (b ∷ c ∷ bytes) within some first second = record {
 
 -- ---- size lines
 
-pub size_chunk : (sum : ℕ) (bytes : List ℕ) (size len : ℕ) → ReadsSize bytes size len → 0 < size → sum + size ≤ body_limit
+pub size_chunk : (sum : ℕ) (bytes : List ℕ) (size len : ℕ) → ReadsSize bytes size len → 0 < size → sum + size ≤ message_body_limit
     → SeesPlace (Size sum) bytes (Ok (Next len (Data size (sum + size))))
 size_chunk sum bytes size len x some within = record {
   inside = x.within;
@@ -98,12 +98,12 @@ size_chunk sum bytes size len x some within = record {
   room = omega arith;
 }
 
-pub size_past : (sum : ℕ) (bytes : List ℕ) (size len : ℕ) → ReadsSize bytes size len → body_limit < sum + size
+pub size_past : (sum : ℕ) (bytes : List ℕ) (size len : ℕ) → ReadsSize bytes size len → message_body_limit < sum + size
     → SeesPlace (Size sum) bytes (Err TooLong)
 size_past sum bytes size len x past more =
     too_long sum x.line (bytes ++ more) (drop len bytes ++ more) x.is_line
     (ap (λ b. b ++ more) x.reads ∙ append_assoc (print_chunk_line x.line) (drop len bytes) more)
-    (subst (λ n. body_limit < sum + n) x.number past)
+    (subst (λ n. message_body_limit < sum + n) x.number past)
 
 pub size_part : (sum : ℕ) (bytes : List ℕ) → HasNoSize bytes → MayBecomeSize bytes → SeesPlace (Size sum) bytes (Ok Part)
 size_part sum bytes lacks may =
@@ -117,7 +117,7 @@ size_never sum bytes never more =
 
 -- ---- the last line and the trailers
 
-pub last_whole : (sum : ℕ) (bytes : List ℕ) (len more : ℕ) → sum ≤ body_limit → ReadsSize bytes 0 len
+pub last_whole : (sum : ℕ) (bytes : List ℕ) (len more : ℕ) → sum ≤ message_body_limit → ReadsSize bytes 0 len
     → SeesTrailers (drop len bytes) (trailers.Whole more) → SeesPlace (Size sum) bytes (Ok (Next (len + more) Done))
 last_whole sum bytes len more within x sees =
     let behind = drop len bytes in
@@ -137,7 +137,7 @@ last_whole sum bytes len more within x sees =
       room = omega arith;
     }
 
-pub last_part : (sum : ℕ) (bytes : List ℕ) (len : ℕ) → sum ≤ body_limit → ReadsSize bytes 0 len → SeesTrailers (drop len bytes) trailers.Part
+pub last_part : (sum : ℕ) (bytes : List ℕ) (len : ℕ) → sum ≤ message_body_limit → ReadsSize bytes 0 len → SeesTrailers (drop len bytes) trailers.Part
     → SeesPlace (Size sum) bytes (Ok Part)
 last_part sum bytes len within x sees =
     let behind = drop len bytes in
@@ -152,7 +152,7 @@ last_part sum bytes len within x sees =
           (last_open sum x.line behind x.is_line (sym x.number) within sees.0 sees.1),
     )
 
-pub last_never : (sum : ℕ) (bytes : List ℕ) (len : ℕ) → sum ≤ body_limit → ReadsSize bytes 0 len → SeesTrailers (drop len bytes) trailers.Never
+pub last_never : (sum : ℕ) (bytes : List ℕ) (len : ℕ) → sum ≤ message_body_limit → ReadsSize bytes 0 len → SeesTrailers (drop len bytes) trailers.Never
     → SeesPlace (Size sum) bytes (Err BadChunk)
 last_never sum bytes len within x sees more =
     let behind = drop len bytes in

@@ -13,7 +13,7 @@ use Rattle.sm_http.specs.declared.message.BodyLeft.TheVariants.{Known, Done}
 use Rattle.sm_http.specs.declared.refusal.HttpRefusal.{HttpRefusal}
 use Rattle.sm_http.specs.declared.refusal.HttpRefusal.TheVariants.{ReadFault, Ended, HeadTooLarge, Coding, Length, TooLong, Chunk, NoMemory}
 use Rattle.sm_http.specs.declared.refusal.HttpRefusal.TheVariants.{Head as BadHead}
-use Rattle.sm_http.specs.Limits.{head_limit, body_limit}
+use Rattle.sm_http.specs.Limits.{head_limit, message_body_limit}
 use Rattle.sm_http.specs.Heads.{HeadText, ReadsHead, HeadStands}
 use Rattle.sm_http.specs.BodyFields.{head_refusal, body_begin, told_body, is_past_limit, has_no_body, codings, lengths}
 use Rattle.sm_http.specs.Bodies.{body, body_refused, BodyFramed}
@@ -35,7 +35,7 @@ last_of false false false false false x = refl
 
 told_within : (cs vs : List (List ℕ)) → is_past_limit (told_body cs vs) ≡ false → IsWithinLimit (told_body cs vs)
 told_within (c ∷ cs) vs e = omega arith
-told_within [] (v ∷ vs) e = ltb-false body_limit (digits_value 10 v) e
+told_within [] (v ∷ vs) e = ltb-false message_body_limit (digits_value 10 v) e
 told_within [] [] e = omega arith
 
 begun_within : (t : Bool) (cs vs : List (List ℕ)) → is_past_limit (if t then Known 0 else told_body cs vs) ≡ false

@@ -6,7 +6,7 @@ use Rattle.std.specs.Io.{ReadsAtMost}
 use borrow.Rule.Slice.PartMut.{put_mid, post_of}
 use lib.Seq.{take-add}
 use Rattle.sm_io.specs.declared.source.Failed.{Failed as Fault}
-use Rattle.sm_io.specs.Reading.{Takes}
+use Rattle.sm_io.specs.Reading.{TakesBytes}
 use Rattle.sm_http.specs.steps.Holding.{FillsRoom}
 
 -- a part without its first bytes
@@ -26,7 +26,7 @@ put_behind used k n room buffer within fits =
     take-add used n (put_mid used k room buffer) ∙ ap (λ l. l ++ take n (drop used (put_mid used k room buffer))) front ∙ ap (λ l. take used room ++ l) back
 
 pub room_filled : (left rest : Option (List ℕ)) (used k : ℕ) (room buffer : List ℕ) (result : Result ℕ Fault) → used ≤ length room
-    → ReadsAtMost result buffer → Takes left rest buffer result → FillsRoom left rest used room (put_mid used k room buffer) result
+    → ReadsAtMost result buffer → TakesBytes left rest buffer result → FillsRoom left rest used room (put_mid used k room buffer) result
 room_filled left rest used k room buffer (Ok count) within few takes =
     (take count buffer, takes.0, put_behind used k count room buffer within few.0, length-take-le count buffer few.0, takes.1)
 room_filled left rest used k room buffer (Err fault) within few takes =

@@ -14,7 +14,7 @@ use Rattle.sm_http.specs.declared.message.BodyLeft.TheVariants.{Known, Size, Dat
 use Rattle.sm_http.specs.declared.refusal.HttpRefusal.{HttpRefusal}
 use Rattle.sm_http.specs.declared.refusal.HttpRefusal.TheVariants.{HeadTooLarge, Coding, Length, TooLong}
 use Rattle.sm_http.specs.declared.refusal.HttpRefusal.TheVariants.{Head as BadHead}
-use Rattle.sm_http.specs.Limits.{most_fields, body_limit}
+use Rattle.sm_http.specs.Limits.{most_fields, message_body_limit}
 use Rattle.sm_http.specs.Heads.{HeadText}
 
 -- the values of the fields with that name, in their order
@@ -88,7 +88,7 @@ abbrev pub body_begin : Head → BodyLeft
 body_begin head = if has_no_body head.start then Known 0 else told_body (codings head) (lengths head)
 
 abbrev pub is_past_limit : BodyLeft → Bool
-is_past_limit (Known count) = nat_lt body_limit count
+is_past_limit (Known count) = nat_lt message_body_limit count
 is_past_limit (Size sum) = false
 is_past_limit (Data left total) = false
 is_past_limit Done = false

@@ -10,7 +10,7 @@ use Rattle.sm_http.specs.declared.message.BodyLeft.TheVariants.{Known, Size, Dat
 use Rattle.sm_http.specs.declared.refusal.HttpRefusal.{HttpRefusal}
 use Rattle.sm_http.specs.declared.refusal.HttpRefusal.TheVariants.{ReadFault, Ended, HeadTooLarge, Coding, Length, TooLong, Chunk, NoMemory}
 use Rattle.sm_http.specs.declared.refusal.HttpRefusal.TheVariants.{Head as BadHead}
-use Rattle.sm_http.specs.Limits.{body_limit, piece_limit}
+use Rattle.sm_http.specs.Limits.{message_body_limit, piece_limit}
 use Rattle.sm_http.specs.BodyFields.{body_begin}
 use Rattle.sm_http.specs.Bodies.{BodyFraming, BodyFramed, body, body_refused, behind_data}
 use Rattle.sm_http.specs.Framed.{no_head, head, head_refused, HeadFramed, no_message, message, message_refused, Framed}
@@ -54,9 +54,9 @@ ReadsAHead side ahead now left (Err refusal) =
 
 -- a body within the limit, as a head begins it and pieces leave it
 abbrev pub IsWithinLimit : BodyLeft → Type 0
-IsWithinLimit (Known count) = count ≤ body_limit
-IsWithinLimit (Size sum) = sum ≤ body_limit
-IsWithinLimit (Data left total) = (left ≤ total) × (total ≤ body_limit)
+IsWithinLimit (Known count) = count ≤ message_body_limit
+IsWithinLimit (Size sum) = sum ≤ message_body_limit
+IsWithinLimit (Data left total) = (left ≤ total) × (total ≤ message_body_limit)
 IsWithinLimit Done = Unit {0}
 
 -- a head begins no body past the limit
@@ -68,8 +68,8 @@ BeginsWithin (Err refusal) = Unit {0}
 -- the data that may still come, within the limit
 abbrev pub data_room : BodyLeft → ℕ
 data_room (Known count) = count
-data_room (Size sum) = body_limit - sum
-data_room (Data left total) = left + (body_limit - total)
+data_room (Size sum) = message_body_limit - sum
+data_room (Data left total) = left + (message_body_limit - total)
 data_room Done = 0
 
 -- `read_piece`: none is exactly the end; else what comes behind the piece, with the piece in front, is what was to come

@@ -4,7 +4,7 @@ use Rattle.std.specs.Prelude.{◌≡◌, ℕ, ◌+◌, ◌<◌, ◌≤◌, List,
 use Rattle.std.specs.List.{flat_map}
 use Rattle.httparse.specs.Ascii.{crlf_bytes}
 use Rattle.httparse.specs.Grammar.{AllPass, is_extension_byte, ChunkLine, IsChunkLine, print_chunk_line, chunk_size}
-use Rattle.sm_http.specs.Limits.{body_limit, most_size_digits, size_line_limit, trailer_limit}
+use Rattle.sm_http.specs.Limits.{message_body_limit, most_size_digits, size_line_limit, trailer_limit}
 
 -- chunk-size [ chunk-ext ] CRLF
 pub record IsSizeLine (line : ChunkLine) : Type 0 where
@@ -68,4 +68,4 @@ pub record PassesLimit (sum : ℕ) (bytes : List ℕ) : Type 0 where
   pub are_chunks : All IsChunk chunks
   pub is_line : IsSizeLine line
   pub reads : bytes ≡ print_chunks chunks ++ print_chunk_line line ++ rest
-  pub past : body_limit < sum + length (chunks_data chunks) + chunk_size line
+  pub past : message_body_limit < sum + length (chunks_data chunks) + chunk_size line

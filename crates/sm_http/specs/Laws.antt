@@ -5,7 +5,7 @@ use Rattle.sm_http.specs.declared.message.Side.{Side}
 use Rattle.sm_http.specs.declared.message.BodyLeft.{BodyLeft}
 use Rattle.sm_http.specs.Bodies.{BodyFraming, BodyFramed}
 use Rattle.sm_http.specs.Framed.{HeadFraming, HeadFramed, Framing, Framed, message}
-use Rattle.sm_http.specs.Written.{IsWritable, written}
+use Rattle.sm_http.specs.Written.{IsWritableMessage, written}
 
 -- bytes come to one answer at most
 abbrev pub HasOneHead : Side → Type 0
@@ -23,4 +23,4 @@ HasSomeFraming side = (bytes : List ℕ) → ((a : Framing) → Framed side byte
 
 -- a written message is read again as itself, whatever follows it
 abbrev pub WrittenIsRead : Side → Type 0
-WrittenIsRead side = (said : Message) (rest : List ℕ) → IsWritable side said → Framed side (written said ++ rest) (message said rest)
+WrittenIsRead side = (said : Message) (rest : List ℕ) → IsWritableMessage side said → Framed side (written said ++ rest) (message said rest)

@@ -9,8 +9,8 @@ abbrev pub most_fields : ℕ
 most_fields = 64
 
 -- a body's data
-abbrev pub body_limit : ℕ
-body_limit = 8388608
+abbrev pub message_body_limit : ℕ
+message_body_limit = 8388608
 
 -- the data that one call gives
 abbrev pub piece_limit : ℕ

@@ -64,7 +64,7 @@ IsWritableStart of_responses (Request method target) = ⊥
 IsWritableStart of_responses (Response status) = (100 ≤ status) × (status < 1000)
 
 -- a message that is read again as itself
-pub record IsWritable (side : Side) (message : Message) : Type 0 where
+pub record IsWritableMessage (side : Side) (message : Message) : Type 0 where
   pub start : IsWritableStart side message.head.start
   pub fields : All IsWritableField message.head.fields
   pub short : length (written_head message.head) ≤ head_limit

@@ -5,7 +5,7 @@ ghost use Rattle.std.specs.Char.{is_ascii_digit};
 ghost use Rattle.std.specs.List.{list_all};
 ghost use Rattle.std.specs.Str.{str_eq_ignore_ascii_case};
 ghost use Rattle.std.specs.Str.Parse.{digits_value};
-ghost use Rattle.sm_http.specs.Limits.{body_limit};
+ghost use Rattle.sm_http.specs.Limits.{message_body_limit};
 ghost use Rattle.sm_http.specs.BodyFields.{values_named, is_length, is_same_length, agrees, is_other_coding, is_other_length, told_body, tells_none, is_below_100, is_interim, must_tell, has_no_body};
 ghost use Rattle.sm_http.specs.steps.Digits.{significant, first_value};
 ghost use Rattle.sm_http.specs.steps.Judging.{Tells, Judges};
@@ -55,8 +55,8 @@ fn is_length(value: &[u8]) -> bool
 fn length_value(value: &[u8]) -> Option<u64>
     requires digits { is_length value.now ≡ true }
     ensures some { IfSome result (λ number. number ≡ digits_value 10 value.now) }
-    ensures within { IfSome result (λ number. number ≤ body_limit) }
-    ensures none { IsNone result → body_limit < digits_value 10 value.now }
+    ensures within { IfSome result (λ number. number ≤ message_body_limit) }
+    ensures none { IsNone result → message_body_limit < digits_value 10 value.now }
 {
     let mut number: u64 = 0;
     for byte in value {

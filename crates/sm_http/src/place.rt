@@ -1,7 +1,7 @@
 // The next place in a body: behind the line end of a chunk, a size line, or the last line and the trailers.
 ghost use Rattle.std.specs.Prelude.{◌≡◌, ◌≤◌};
 ghost use Rattle.sm_http.specs.declared.message.BodyLeft.TheVariants.{Size, Data};
-ghost use Rattle.sm_http.specs.Limits.{body_limit};
+ghost use Rattle.sm_http.specs.Limits.{message_body_limit};
 ghost use Rattle.sm_http.specs.Calls.{IsWithinLimit};
 ghost use Rattle.sm_http.specs.steps.SizeLines.{ReadsSize};
 ghost use Rattle.sm_http.specs.steps.Passing.{SeesPlace};
@@ -22,7 +22,7 @@ pub enum SeenPlace {
 
 // The line end behind a chunk's data.
 fn see_end(total: u64, bytes: &[u8]) -> Result<SeenPlace, HttpRefusal>
-    requires { total ≤ body_limit }
+    requires { total ≤ message_body_limit }
     ensures { SeesPlace (Data 0 total) bytes.now result }
 {
     if bytes.len() == 0 {
@@ -42,7 +42,7 @@ fn see_end(total: u64, bytes: &[u8]) -> Result<SeenPlace, HttpRefusal>
 
 // The trailers behind the last line, which has so many bytes.
 fn see_last(sum: u64, len: usize, bytes: &[u8]) -> Result<SeenPlace, HttpRefusal>
-    requires within { sum ≤ body_limit }
+    requires within { sum ≤ message_body_limit }
     requires line { ReadsSize bytes.now 0 len }
     ensures { SeesPlace (Size sum) bytes.now result }
 {
@@ -55,7 +55,7 @@ fn see_last(sum: u64, len: usize, bytes: &[u8]) -> Result<SeenPlace, HttpRefusal
 
 // The size line before a chunk, or the last line and the trailers.
 fn see_chunk(sum: u64, bytes: &[u8]) -> Result<SeenPlace, HttpRefusal>
-    requires { sum ≤ body_limit }
+    requires { sum ≤ message_body_limit }
     ensures { SeesPlace (Size sum) bytes.now result }
 {
     match see_size(bytes) {

@@ -6,9 +6,9 @@ use Rattle.sm_io.specs.declared.reading.ReadRefusal.{ReadRefusal}
 use Rattle.sm_io.specs.declared.reading.ReadRefusal.TheVariants.{Failed, TooLong, NoMemory}
 
 -- the next bytes were moved to the start of the buffer, and none only at the end; a fault moved nothing
-abbrev pub Takes : {E : Type 0} → Option (List ℕ) → Option (List ℕ) → List ℕ → Result ℕ E → Type 0
-Takes left rest buffer (Ok count) = Consumes left rest (take count buffer) × (count ≡ 0 → IsAtEnd rest)
-Takes left rest buffer (Err fault) = Keeps left rest
+abbrev pub TakesBytes : {E : Type 0} → Option (List ℕ) → Option (List ℕ) → List ℕ → Result ℕ E → Type 0
+TakesBytes left rest buffer (Ok count) = Consumes left rest (take count buffer) × (count ≡ 0 → IsAtEnd rest)
+TakesBytes left rest buffer (Err fault) = Keeps left rest
 
 -- the bytes left were these, and now none is left
 abbrev pub Empties : Option (List ℕ) → Option (List ℕ) → List ℕ → Type 0

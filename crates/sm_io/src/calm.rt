@@ -1,7 +1,7 @@
 // Objects over memory that never fail: their counts of faults are the constant 0.
 ghost use Rattle.std.specs.Prelude.{◌≡◌, ◌<◌, ℕ, [], All, length, min, Ok, Some};
 ghost use Rattle.std.specs.Io.{ReadsAtMost};
-ghost use Rattle.sm_io.specs.Reading.{Takes};
+ghost use Rattle.sm_io.specs.Reading.{TakesBytes};
 ghost use Rattle.sm_io.specs.Script.{script_after, most_given};
 
 use crate::script::CutBytes;
@@ -41,7 +41,7 @@ impl Source for CalmSource {
     fn take(&mut self, buf: &mut [u8]) -> Result<usize, Failed>
         requires room { 0 < length buf.old }
         ensures bound { ReadsAtMost result buf.new }
-        ensures bytes { Takes (Some (calm_left self.old)) (Some (calm_left self.new)) buf.new result }
+        ensures bytes { TakesBytes (Some (calm_left self.old)) (Some (calm_left self.new)) buf.new result }
         ensures script { calm_script self.new ≡ script_after (calm_script self.old) }
         ensures count { result ≡ Ok (min (most_given (calm_script self.new) (length buf.old)) (length (calm_left self.old))) }
     {

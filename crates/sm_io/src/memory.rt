@@ -2,7 +2,7 @@
 ghost use Rattle.std.specs.Prelude.{◌≡◌, ◌<◌, ◌≤◌, ◌↔◌, ℕ, [], All, length, min, IfOk, OnErr, is_err, IsErr, IsErrOf, IsTrue, Some};
 ghost use Rattle.std.specs.Io.{ReadsAtMost};
 ghost use Rattle.sm_io.specs.Causes.{HasCause, count_after};
-ghost use Rattle.sm_io.specs.Reading.{Takes};
+ghost use Rattle.sm_io.specs.Reading.{TakesBytes};
 ghost use Rattle.sm_io.specs.Writing.{Puts, put_failed};
 ghost use Rattle.sm_io.specs.Script.{script_after, is_failing, most_given};
 
@@ -48,7 +48,7 @@ impl Source for MemSource {
     fn take(&mut self, buf: &mut [u8]) -> Result<usize, Failed>
         requires room { 0 < length buf.old }
         ensures bound { ReadsAtMost result buf.new }
-        ensures bytes { Takes (Some (source_left self.old)) (Some (source_left self.new)) buf.new result }
+        ensures bytes { TakesBytes (Some (source_left self.old)) (Some (source_left self.new)) buf.new result }
         ensures later { ⟦<MemSource as Source>⟧.faults self.old ≤ ⟦<MemSource as Source>⟧.faults self.new }
         ensures cause { HasCause (IsErr result) (⟦<MemSource as Source>⟧.faults self.old) (⟦<MemSource as Source>⟧.faults self.new) }
         ensures faults { ⟦<MemSource as Source>⟧.faults self.new ≡ count_after (is_err result) (⟦<MemSource as Source>⟧.faults self.old) }

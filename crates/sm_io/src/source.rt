@@ -2,7 +2,7 @@
 ghost use Rattle.std.specs.Prelude.{◌<◌, ◌≤◌, List, ℕ, length, IsErr, Option};
 ghost use Rattle.std.specs.Io.{ReadsAtMost};
 ghost use Rattle.sm_io.specs.Causes.{HasCause};
-ghost use Rattle.sm_io.specs.Reading.{Takes};
+ghost use Rattle.sm_io.specs.Reading.{TakesBytes};
 
 use thiserror::Error;
 
@@ -24,7 +24,7 @@ pub trait Source {
     fn take(&mut self, buf: &mut [u8]) -> Result<usize, Failed>
         requires room { 0 < length buf.old }
         ensures bound { ReadsAtMost result buf.new }
-        ensures bytes { Takes (left self.old) (left self.new) buf.new result }
+        ensures bytes { TakesBytes (left self.old) (left self.new) buf.new result }
         ensures later { faults self.old ≤ faults self.new }
         ensures cause { HasCause (IsErr result) (faults self.old) (faults self.new) };
 }

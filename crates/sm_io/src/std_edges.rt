@@ -3,7 +3,7 @@ ghost use Rattle.std.specs.Prelude.{◌≡◌, ◌<◌, ◌≤◌, length, OnOk,
 ghost use Rattle.std.specs.Io.{ReadsAtMost};
 ghost use Rattle.std.specs.Io.KnownBytes.{Appends};
 ghost use Rattle.sm_io.specs.Causes.{HasCause, count_after};
-ghost use Rattle.sm_io.specs.Reading.{Takes};
+ghost use Rattle.sm_io.specs.Reading.{TakesBytes};
 ghost use Rattle.sm_io.specs.Writing.{AppendsPrefix, Puts, put_failed};
 
 use crate::{Failed, PutRefusal, Sink, Source};
@@ -34,7 +34,7 @@ impl<R: Read> Source for StdSource<R> {
     fn take(&mut self, buf: &mut [u8]) -> Result<usize, Failed>
         requires room { 0 < length buf.old }
         ensures bound { ReadsAtMost result buf.new }
-        ensures bytes { Takes (⟦<StdSource<R> as Source>⟧.left self.old) (⟦<StdSource<R> as Source>⟧.left self.new) buf.new result }
+        ensures bytes { TakesBytes (⟦<StdSource<R> as Source>⟧.left self.old) (⟦<StdSource<R> as Source>⟧.left self.new) buf.new result }
         ensures later { ⟦<StdSource<R> as Source>⟧.faults self.old ≤ ⟦<StdSource<R> as Source>⟧.faults self.new }
         ensures cause { HasCause (IsErr result) (⟦<StdSource<R> as Source>⟧.faults self.old) (⟦<StdSource<R> as Source>⟧.faults self.new) }
         ensures faults { ⟦<StdSource<R> as Source>⟧.faults self.new ≡ count_after (is_err result) (⟦<StdSource<R> as Source>⟧.faults self.old) }

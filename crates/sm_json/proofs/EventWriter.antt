@@ -4,7 +4,7 @@ use Rattle.sm_tree.specs.Events.{NodeEvent}
 use Rattle.sm_tree.specs.Streams.{TakesOn}
 use Rattle.sm_json.specs.WrittenEvents.{comma_before, event_text, written_events}
 use Rattle.sm_json.specs.WriterView.{has_comma, JsonWritten}
-use Rattle.sm_json.specs.steps.Writing.{WritesEvent, Keeps}
+use Rattle.sm_json.specs.steps.Writing.{WritesEvent, KeepsWriter}
 use Rattle.sm_json.specs.declared.writer.JsonWriter.{JsonWriter}
 use Rattle.sm_json.proofs.EventTexts.{events_more, last_ends}
 
@@ -18,7 +18,7 @@ written_on w v e writes es stands begins = record {
 }
 
 -- one that is as before stands for what it stood for
-pub written_still : (w v : JsonWriter) → Keeps w v → (es : List NodeEvent) → JsonWritten w es → JsonWritten v es
+pub written_still : (w v : JsonWriter) → KeepsWriter w v → (es : List NodeEvent) → JsonWritten w es → JsonWritten v es
 written_still w v keeps es stands = record {
   bytes = keeps.same_bytes ∙ stands.bytes;
   before = ap has_comma keeps.same_next ∙ stands.before;

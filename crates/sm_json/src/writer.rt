@@ -9,7 +9,7 @@ ghost use Rattle.sm_tree.specs.EventView.{event_of};
 ghost use Rattle.sm_json.specs.Written.{written_text};
 ghost use Rattle.sm_json.specs.WrittenEvents.{written_events, IsJsonEvent};
 ghost use Rattle.sm_json.specs.WriterView.{JsonWritten};
-ghost use Rattle.sm_json.specs.steps.Writing.{Writes, WritesEvent, Keeps, comma_of};
+ghost use Rattle.sm_json.specs.steps.Writing.{Writes, WritesEvent, KeepsWriter, comma_of};
 
 use crate::length::{int_len, text_len};
 use crate::put::{place_int, place_name, place_text};
@@ -59,7 +59,7 @@ impl JsonWriter {
         ensures prefix { IfOk result (λ at. take at self.new.bytes.items ≡ self.old.bytes.items ++ comma_of self.old.before) }
         ensures room { IfOk result (λ at. at + len ≡ length self.new.bytes.items) }
         ensures before { self.new.before ≡ self.old.before }
-        ensures unchanged { OnErr result (Keeps self.old self.new) }
+        ensures unchanged { OnErr result (KeepsWriter self.old self.new) }
     {
         match self.before {
             Before::Nothing => {
@@ -78,7 +78,7 @@ impl JsonWriter {
     #[inline(always)]
     fn put_slice(&mut self, text: &[u8]) -> Result<(), NoMemory>
         ensures written { OnOk result (Writes self.old self.new (comma_of self.old.before ++ text.now) true) }
-        ensures unchanged { OnErr result (Keeps self.old self.new) }
+        ensures unchanged { OnErr result (KeepsWriter self.old self.new) }
     {
         let at = self.begin(text.len() as u64)?;
         place_slice(self.bytes.as_mut_slice(), at, text);
@@ -88,7 +88,7 @@ impl JsonWriter {
 
     fn put_int(&mut self, value: i64) -> Result<(), NoMemory>
         ensures written { OnOk result (Writes self.old self.new (comma_of self.old.before ++ signed_decimal value) true) }
-        ensures unchanged { OnErr result (Keeps self.old self.new) }
+        ensures unchanged { OnErr result (KeepsWriter self.old self.new) }
     {
         let at = self.begin(int_len(value))?;
         place_int(self.bytes.as_mut_slice(), at, value);
@@ -98,7 +98,7 @@ impl JsonWriter {
 
     fn put_text(&mut self, text: &Text) -> Result<(), NoMemory>
         ensures written { OnOk result (Writes self.old self.new (comma_of self.old.before ++ written_text text.now) true) }
-        ensures unchanged { OnErr result (Keeps self.old self.new) }
+        ensures unchanged { OnErr result (KeepsWriter self.old self.new) }
     {
         let at = self.begin(text_len(text))?;
         place_text(self.bytes.as_mut_slice(), at, text);
@@ -108,7 +108,7 @@ impl JsonWriter {
 
     fn put_name(&mut self, name: &Text) -> Result<(), NoMemory>
         ensures written { OnOk result (Writes self.old self.new (comma_of self.old.before ++ (written_text name.now ++ colon ∷ [])) false) }
-        ensures unchanged { OnErr result (Keeps self.old self.new) }
+        ensures unchanged { OnErr result (KeepsWriter self.old self.new) }
     {
         let at = self.begin(text_len(name).saturating_add(1))?;
         place_name(self.bytes.as_mut_slice(), at, name);
@@ -120,7 +120,7 @@ impl JsonWriter {
     #[inline(always)]
     fn open(&mut self, bracket: u8) -> Result<(), NoMemory>
         ensures written { OnOk result (Writes self.old self.new (comma_of self.old.before ++ bracket ∷ []) false) }
-        ensures unchanged { OnErr result (Keeps self.old self.new) }
+        ensures unchanged { OnErr result (KeepsWriter self.old self.new) }
     {
         let at = self.begin(1)?;
         place_byte(self.bytes.as_mut_slice(), at, bracket);
@@ -132,7 +132,7 @@ impl JsonWriter {
     #[inline(always)]
     fn close(&mut self, bracket: u8) -> Result<(), NoMemory>
         ensures written { OnOk result (Writes self.old self.new (bracket ∷ []) true) }
-        ensures unchanged { OnErr result (Keeps self.old self.new) }
+        ensures unchanged { OnErr result (KeepsWriter self.old self.new) }
     {
         let at = make_room(self.alloc, &mut self.bytes, 1)?;
         place_byte(self.bytes.as_mut_slice(), at, bracket);
@@ -144,7 +144,7 @@ impl JsonWriter {
     fn write(&mut self, event: &Event) -> Result<(), NoMemory>
         requires { IsJsonEvent (event_of event.now) }
         ensures written { OnOk result (WritesEvent self.old self.new (event_of event.now)) }
-        ensures unchanged { OnErr result (Keeps self.old self.new) }
+        ensures unchanged { OnErr result (KeepsWriter self.old self.new) }
     {
         match event {
             Event::Null => self.put_slice(b"null"),

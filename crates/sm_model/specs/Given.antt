@@ -70,7 +70,7 @@ HasNeeded Timestamp ms = Unit {0}
 HasNeeded Document ms = Unit {0}
 
 -- the body of an operation, service or resource; every other type has an object without pairs
-pub record HasBody (kind : Kind) (n : Node) : Type 0 where
+pub record HasShapeBody (kind : Kind) (n : Node) : Type 0 where
   pub pairs : Members
   pub is_object : n ≡ object pairs
   pub is_node : IsNode n
@@ -100,7 +100,7 @@ pub record IsGivenShape (s : ShapeGiven) : Type 0 where
   pub id : IsShapeId s.id
   pub names : HaveForm (member_form s.kind) (given_names s.members)
   pub members : AreGivenMembers s.members
-  pub body : HasBody s.kind s.properties
+  pub body : HasShapeBody s.kind s.properties
   pub traits : IsNodeMap s.traits
 
 abbrev pub AreGivenShapes : List ShapeGiven → Type 0

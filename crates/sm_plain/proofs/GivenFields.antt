@@ -9,7 +9,7 @@ use Rattle.sm_tree.specs.Json.{IsJson, AreJson, AreJsonMembers}
 use Rattle.sm_model.specs.Properties.{TypeFields, form_named, property_forms, operation_fields}
 use Rattle.sm_model.specs.Raw.{Raw, Raws, RawMembers, no_raws, no_raw_members, raw_members_of}
 use Rattle.sm_model.specs.Formed.{StandsAmong}
-use Rattle.sm_model.specs.Given.{are_under, IsIdNode, AreIdNodes, AreNamedIds, AreRenamed, NodeHasForm, AreNodeFields, HasNeeded, HasBody}
+use Rattle.sm_model.specs.Given.{are_under, IsIdNode, AreIdNodes, AreNamedIds, AreRenamed, NodeHasForm, AreNodeFields, HasNeeded, HasShapeBody}
 use Rattle.sm_model.specs.declared.reference.Ref.{Ref}
 use Rattle.sm_model.specs.declared.kind.Kind.{Kind}
 use Rattle.sm_model.specs.declared.kind.Kind.TheVariants.{Blob, Boolean, Text as text_kind, Enum, Byte, Short, Integer, IntEnum, Long, Float, Double}
@@ -231,7 +231,7 @@ with_unit name ps form named here = elim (either_way (is_there name ps)) [
 ]
 
 operation_body : (ps : List (List ℕ × Node)) → AreFieldsHere operation_fields ps
-    → HasBody Operation (object (members_of (body_pairs Operation ps)))
+    → HasShapeBody Operation (object (members_of (body_pairs Operation ps)))
 operation_body ps here =
     let first = with_unit (codes "input") ps refl (utf8 (codes "input") refl) here in
     let second = with_unit (codes "output") (with_text (codes "input") unit_id ps) refl (utf8 (codes "output") refl) first.here in
@@ -245,12 +245,12 @@ operation_body ps here =
 
 -- by the type of the shape
 other_body : (kind : Kind) (ps : List (List ℕ × Node)) → AreFieldsHere (property_forms kind) ps → HasNeeded kind (members_of ps)
-    → HasBody kind (object (members_of ps))
+    → HasShapeBody kind (object (members_of ps))
 other_body kind ps here needed =
     record { pairs = members_of ps; is_object = refl; is_node = (here.json, here.distinct); fields = here.such; needed = needed }
 
 body_of : (kind : Kind) (ps : List (List ℕ × Node)) → AreFieldsHere (property_forms kind) ps
-    → HasBody kind (object (members_of (body_pairs kind ps)))
+    → HasShapeBody kind (object (members_of (body_pairs kind ps)))
 body_of Operation ps here = operation_body ps here
 body_of Service ps here = other_body Service ps here tt
 body_of Resource ps here = other_body Resource ps here tt
@@ -275,8 +275,8 @@ body_of Timestamp ps here = other_body Timestamp ps here tt
 body_of Document ps here = other_body Document ps here tt
 
 pub body_given : (kind : Kind) (ms : Members) (said : Raw) → AreJsonMembers ms → AreDistinct ms → PropertiesSay (property_forms kind) ms said
-    → HasBody kind (settled_body kind said)
+    → HasShapeBody kind (settled_body kind said)
 body_given kind ms said json d (pairs, is, says) =
     let given = fields_given (property_forms kind) ms pairs json d says in
-    subst (λ x. HasBody kind (settled_body kind x)) (sym is)
+    subst (λ x. HasShapeBody kind (settled_body kind x)) (sym is)
     (body_of kind (settled_members pairs) (record { such = given.such; json = given.json; distinct = given.distinct }))

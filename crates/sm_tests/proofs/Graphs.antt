@@ -3,7 +3,7 @@ use Rattle.std.proofs.Common.{◌≡◌, ◌+◌, ◌<◌, ◌^◌, ◌∷◌, [
 use Rattle.std.proofs.lemmas.List.{length-map, length-append}
 use Rattle.sm_tree.specs.Node.{Node, Members, no_members, object}
 use Rattle.sm_model.specs.Formed.{DifferInNames, HaveForm}
-use Rattle.sm_model.specs.Given.{AreGiven, AreGivenMembers, AreNodes, HasBody, are_under, given_names}
+use Rattle.sm_model.specs.Given.{AreGiven, AreGivenMembers, AreNodes, HasShapeBody, are_under, given_names}
 use Rattle.sm_model.specs.Graphs.{MemberGiven, ShapeGiven, given_member}
 use Rattle.sm_model.specs.Kinds.{member_form}
 use Rattle.sm_tree.specs.Same.{IsNode}
@@ -24,7 +24,7 @@ given_one s id kind members names body traits = record {
       id = id;
       names = subst (λ k. HaveForm (member_form k) (given_names s.members)) (sym kind) (subst DifferInNames (sym names) two_names);
       members = members;
-      body = subst (λ k. HasBody k s.properties) (sym kind)
+      body = subst (λ k. HasShapeBody k s.properties) (sym kind)
           (record { pairs = no_members; is_object = body; is_node = subst IsNode (sym body) (tt, tt); fields = tt; needed = tt });
       traits = record { differ = subst (λ ts. DifferInNames (are_under ts)) (sym traits) tt; nodes = subst AreNodes (sym traits) tt };
     },

@@ -13,7 +13,7 @@ use Rattle.sm_time.specs.declared.format.Format.TheVariants.{DateTime, HttpDate,
 use Rattle.sm_time.specs.declared.civil.Civil.{Civil}
 use Rattle.sm_time.specs.Calendar.{weekday, day_count, days_in_month}
 use Rattle.sm_time.specs.Civil.{IsCivil, date_in, two_digits, four_digits, full_date, time_of_day, clock_text, day_name, month_name, imf_fixdate}
-use Rattle.sm_time.specs.TimeText.{Form, clock_form, gmt_form, seconds_form, IsForm, IsLetter, IsZone, IsStamp, form_text, fraction_text, zone_text, Zone, zulu, small_zulu, ahead, behind}
+use Rattle.sm_time.specs.TimeText.{Form, clock_form, gmt_form, seconds_form, IsStampForm, IsLetter, IsZone, IsStamp, form_text, fraction_text, zone_text, Zone, zulu, small_zulu, ahead, behind}
 use Rattle.sm_time.specs.Written.{written_stamp, IsWritable}
 use Rattle.sm_time.proofs.StampForms.{and_first, and_second}
 use Rattle.sm_time.proofs.StampClocks.{month_days}
@@ -117,7 +117,7 @@ minus_ascii : (b : Bool) → IsAscii (if b then codes "-" else [])
 minus_ascii true = ascii_where (codes "-") refl
 minus_ascii false = IsAscii-nil
 
-form_ascii : (format : Format) (f : Form) → IsForm format f → IsAscii (form_text f)
+form_ascii : (format : Format) (f : Form) → IsStampForm format f → IsAscii (form_text f)
 form_ascii DateTime (clock_form b c ds z) h =
     IsAscii-append (clock_text b c ++ fraction_text ds) (zone_text z)
     (IsAscii-append (clock_text b c) (fraction_text ds)

@@ -4,7 +4,7 @@ use Rattle.std.specs.Prelude.{slice_index, codes, if◌then◌else◌}
 use Rattle.std.specs.Char.{digit_value}
 use Rattle.std.specs.Str.Parse.{AllDigits}
 use Rattle.sm_time.specs.declared.format.Format.TheVariants.{EpochSeconds}
-use Rattle.sm_time.specs.TimeText.{Form, clock_form, gmt_form, seconds_form, Shows, IsInt, fraction_text}
+use Rattle.sm_time.specs.TimeText.{Form, clock_form, gmt_form, seconds_form, Shows, IsIntDigits, fraction_text}
 use Rattle.sm_time.specs.steps.Parts.{NoDigitFirst, SplitsFraction}
 use Rattle.sm_time.proofs.DigitFacts.{same_rest, one_run}
 
@@ -18,7 +18,7 @@ fraction_ends [] = tt
 fraction_ends (d ∷ ds) = omega arith
 
 -- digits don't begin with a minus
-no_minus : (int s : List ℕ) → IsInt int → slice_index (int ++ s) 0 ≢ 45
+no_minus : (int s : List ℕ) → IsIntDigits int → slice_index (int ++ s) 0 ≢ 45
 no_minus [] s h e = omega (arith, h.0)
 no_minus (d ∷ int) s h e = omega (arith, h.0.1.0, ap digit_value e)
 
@@ -43,13 +43,13 @@ one_number text rest int tail negative e f g digits ends n i ds h =
 
 -- where the digits are no whole number's, no form is shown
 pub no_int : (text rest int tail : List ℕ) (negative : Bool) → text ≡ sign_text negative ++ rest
-    → (negative ≡ false → slice_index rest 0 ≢ 45) → rest ≡ int ++ tail → AllDigits 10 int → NoDigitFirst tail → (IsInt int → ⊥)
+    → (negative ≡ false → slice_index rest 0 ≢ 45) → rest ≡ int ++ tail → AllDigits 10 int → NoDigitFirst tail → (IsIntDigits int → ⊥)
     → (form : Form) → Shows EpochSeconds text form → ⊥
 no_int text rest int tail negative e f g digits ends none (clock_form letter c ds z) h = h.0
 no_int text rest int tail negative e f g digits ends none (gmt_form c) h = h.0
 no_int text rest int tail negative e f g digits ends none (seconds_form n i ds) h =
     let one = one_number text rest int tail negative e f g digits ends n i ds h in
-    let P : List ℕ → Type 0 = λ l. IsInt l in
+    let P : List ℕ → Type 0 = λ l. IsIntDigits l in
     none (subst P one.1 h.0.0)
 
 -- nor where the tail is no fraction

@@ -11,7 +11,7 @@ use Rattle.sm_time.specs.declared.civil.Civil.{Civil}
 use Rattle.sm_time.specs.declared.format.Format.TheVariants.{DateTime, EpochSeconds}
 use Rattle.sm_time.specs.Calendar.{days_in_month, is_leap_year}
 use Rattle.sm_time.specs.Civil.{IsCivil, clock_text}
-use Rattle.sm_time.specs.TimeText.{clock_form, seconds_form, IsForm, IsZone, IsInt, form_text, Zone, zulu, small_zulu, ahead, behind, zone_text, fraction_text}
+use Rattle.sm_time.specs.TimeText.{clock_form, seconds_form, IsStampForm, IsZone, IsIntDigits, form_text, Zone, zulu, small_zulu, ahead, behind, zone_text, fraction_text}
 use Rattle.sm_time.specs.steps.Parts.{NoDigitFirst}
 use Rattle.sm_time.proofs.DigitFacts.{run_digits, run_ends, one_run, no_digit}
 use Rattle.sm_time.proofs.ClockForms.{zone_ends}
@@ -74,7 +74,7 @@ clock_back letter c rest h =
 same_clock : (letter : ℕ) (c d : Civil) (ds es : List ℕ) (z y : Zone) → c ≡ d → ds ≡ es → z ≡ y → clock_form letter c ds z ≡ clock_form letter d es y
 same_clock letter c d ds es z y a b e = λ i. clock_form letter (a i) (b i) (e i)
 
-pub date_time_back : (letter : ℕ) (c : Civil) (ds : List ℕ) (z : Zone) → IsForm DateTime (clock_form letter c ds z)
+pub date_time_back : (letter : ℕ) (c : Civil) (ds : List ℕ) (z : Zone) → IsStampForm DateTime (clock_form letter c ds z)
     → supposed DateTime (form_text (clock_form letter c ds z)) ≡ clock_form letter c ds z
 date_time_back letter c ds z h =
     let rest = fraction_text ds ++ zone_text z in
@@ -99,7 +99,7 @@ same_number : (n : Bool) (i j ds es : List ℕ) → i ≡ j → ds ≡ es → se
 same_number n i j ds es a b = λ k. seconds_form n (a k) (b k)
 
 -- what follows the sign
-behind_sign : (n : Bool) (i ds : List ℕ) → IsForm EpochSeconds (seconds_form n i ds)
+behind_sign : (n : Bool) (i ds : List ℕ) → IsStampForm EpochSeconds (seconds_form n i ds)
     → seconds_form n (digits_first (i ++ fraction_text ds)) (fraction_first (behind_digits (i ++ fraction_text ds))) ≡ seconds_form n i ds
 behind_sign n i ds h =
     let parts = run_back i (fraction_text ds) h.0.0.1 (tail_ends ds) in
@@ -110,7 +110,7 @@ not_minus : (b : Bool) (d : ℕ) → (d == minus) ≡ b → digit_value d < 10 �
 not_minus true d e h = let same : d ≡ 45 = (Decides-eqb d 45).0 e in absurd (omega (arith, ap digit_value same, h))
 not_minus false d e h = refl
 
-no_sign : (i s : List ℕ) → IsInt i → is_negative_in (i ++ s) ≡ false
+no_sign : (i s : List ℕ) → IsIntDigits i → is_negative_in (i ++ s) ≡ false
 no_sign [] s h = absurd (omega (arith, h.0.0))
 no_sign (d ∷ i) s h = not_minus (d == minus) d refl h.0.1.0
 
@@ -119,7 +119,7 @@ unsigned : (t : List ℕ) → is_negative_in t ≡ false
 unsigned t e =
     ap (λ b. seconds_form b (digits_first (if b then drop 1 t else t)) (fraction_first (behind_digits (if b then drop 1 t else t)))) e
 
-pub number_back : (n : Bool) (i ds : List ℕ) → IsForm EpochSeconds (seconds_form n i ds)
+pub number_back : (n : Bool) (i ds : List ℕ) → IsStampForm EpochSeconds (seconds_form n i ds)
     → supposed EpochSeconds (form_text (seconds_form n i ds)) ≡ seconds_form n i ds
 number_back true i ds h = behind_sign true i ds h
 number_back false i ds h = unsigned (i ++ fraction_text ds) (no_sign i (fraction_text ds) h.0) ∙ behind_sign false i ds h

@@ -5,7 +5,7 @@ use Rattle.sm_time.specs.declared.civil.Civil.{Civil}
 use Rattle.sm_time.specs.declared.format.Format.TheVariants.{HttpDate}
 use Rattle.sm_time.specs.Calendar.{weekday, day_count}
 use Rattle.sm_time.specs.Civil.{IsCivil, date_in, day_name, month_name, two_digits, four_digits, time_of_day, imf_fixdate}
-use Rattle.sm_time.specs.TimeText.{Form, clock_form, gmt_form, seconds_form, IsForm, form_text}
+use Rattle.sm_time.specs.TimeText.{Form, clock_form, gmt_form, seconds_form, IsStampForm, form_text}
 use Rattle.sm_time.specs.StampTexts.{month_of, gmt_in, supposed}
 use Rattle.sm_time.proofs.StampClocks.{two_back, four_back, month_days}
 
@@ -66,7 +66,7 @@ date_back c h =
     ∙ ap (λ m. gmt_in (shown (day.0 ∷ day.1 ∷ day.2 ∷ []) m c)) month.3
     ∙ parts_back day.0 day.1 day.2 month.0 month.1 month.2 c h month.4
 
-pub date_forms : (f : Form) → IsForm HttpDate f → supposed HttpDate (form_text f) ≡ f
+pub date_forms : (f : Form) → IsStampForm HttpDate f → supposed HttpDate (form_text f) ≡ f
 date_forms (gmt_form c) h = ap gmt_form (date_back c h.0)
 date_forms (clock_form letter c ds z) h = absurd h
 date_forms (seconds_form n i ds) h = absurd h

@@ -12,7 +12,7 @@ use Rattle.sm_time.specs.declared.format.Format.TheVariants.{DateTime, HttpDate,
 use Rattle.sm_time.specs.declared.civil.Civil.{Civil}
 use Rattle.sm_time.specs.Calendar.{Date, IsDate, days_in_month}
 use Rattle.sm_time.specs.Civil.{IsCivil, date_in}
-use Rattle.sm_time.specs.TimeText.{Form, clock_form, gmt_form, seconds_form, IsForm, IsInt, IsLetter, IsZone, IsWholeMillis, IsStamp, Zone, zulu, small_zulu, ahead, behind}
+use Rattle.sm_time.specs.TimeText.{Form, clock_form, gmt_form, seconds_form, IsStampForm, IsIntDigits, IsLetter, IsZone, IsWholeMillis, IsStamp, Zone, zulu, small_zulu, ahead, behind}
 use Rattle.sm_time.proofs.DigitFacts.{digit_small}
 use Rattle.sm_time.specs.StampTexts.{is_stamp, is_date, is_civil, is_zone, are_digits, is_int, is_form, is_whole_millis}
 
@@ -93,7 +93,7 @@ both_parts false b h = absurd cc
 both_true : (a b : Bool) → a ≡ true → b ≡ true → (a && b) ≡ true
 both_true a b h g = ap (λ c. c && b) h ∙ g
 
-int_says : (ds : List ℕ) → is_int ds ≡ true → IsInt ds
+int_says : (ds : List ℕ) → is_int ds ≡ true → IsIntDigits ds
 int_says [] h = absurd cc
 int_says (d ∷ []) h = ((omega arith, (digit_small d h, tt)), λ e. refl)
 int_says (d ∷ e ∷ ds) h =
@@ -105,7 +105,7 @@ int_says (d ∷ e ∷ ds) h =
 longer_than_one : (d e : ℕ) (ds : List ℕ) → length (d ∷ e ∷ ds) ≡ 1 → ⊥
 longer_than_one d e ds h = omega (arith, h)
 
-says_int : (ds : List ℕ) → IsInt ds → is_int ds ≡ true
+says_int : (ds : List ℕ) → IsIntDigits ds → is_int ds ≡ true
 says_int [] h = absurd (omega (arith, h.0.0))
 says_int (d ∷ []) h = (digit_decides d).1 h.0.1.0
 says_int (d ∷ e ∷ ds) h =
@@ -113,7 +113,7 @@ says_int (d ∷ e ∷ ds) h =
     (zero_false (d == digit_zero) (λ zero. longer_than_one d e ds (h.1 ((Decides-eqb d digit_zero).0 zero))))
     ((digits_decide (d ∷ e ∷ ds)).1 h.0.1)
 
-int_decides : (ds : List ℕ) → Decides (is_int ds) (IsInt ds)
+int_decides : (ds : List ℕ) → Decides (is_int ds) (IsIntDigits ds)
 int_decides ds = (int_says ds, says_int ds)
 
 letter_decides : (letter : ℕ) → Decides ((letter == capital_t) || (letter == small_t)) (IsLetter letter)
@@ -123,7 +123,7 @@ letter_decides letter =
 no_form : {P : Type 0} → (P → ⊥) → Decides false P
 no_form none = (λ h. absurd cc, λ h. absurd (none h))
 
-pub form_decides : (format : Format) (form : Form) → Decides (is_form format form) (IsForm format form)
+pub form_decides : (format : Format) (form : Form) → Decides (is_form format form) (IsStampForm format form)
 form_decides DateTime (clock_form letter d digits zone) =
     let tail = Decides-and (are_digits digits) (is_zone zone) (digits_decide digits) (zone_decides zone) in
     let rest = Decides-and (is_civil d) (are_digits digits && is_zone zone) (civil_decides d) tail in

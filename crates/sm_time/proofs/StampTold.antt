@@ -5,7 +5,7 @@ use Rattle.std.specs.Str.{bytes_eq}
 use Rattle.std.proofs.lemmas.Slice.Eq.{bytes_eq-Decides}
 use Rattle.sm_time.specs.declared.format.Format.{Format}
 use Rattle.sm_time.specs.declared.format.Format.TheVariants.{DateTime, HttpDate, EpochSeconds}
-use Rattle.sm_time.specs.TimeText.{Form, clock_form, gmt_form, seconds_form, form_text, digits_of, moment, IsForm, Shows, TimeText, IsWholeMillis, IsStamp}
+use Rattle.sm_time.specs.TimeText.{Form, clock_form, gmt_form, seconds_form, form_text, digits_of, moment, IsStampForm, Shows, TimeText, IsWholeMillis, IsStamp}
 use Rattle.sm_time.specs.Written.{written_stamp, IsWritable}
 use Rattle.sm_time.proofs.OneReading.{one_reading}
 use Rattle.sm_time.proofs.WrittenTexts.{written_is_text}
@@ -57,17 +57,17 @@ told format t form only false e =
     let range : IsStamp (moment w.0) = subst IsStamp (sym w.3) w.4 in
     true_not_false (tests format t w.0) (all_pass format t w.0 w.1 w.2 range) (subst (λ f. tests format t f ≡ false) same e)
 
-pub tells : (format : Format) → ((f : Form) → IsForm format f → supposed format (form_text f) ≡ f) → (t : List ℕ)
+pub tells : (format : Format) → ((f : Form) → IsStampForm format f → supposed format (form_text f) ≡ f) → (t : List ℕ)
     → TellsStamp format t (stamp_of format t)
 tells format back t =
     told format t (supposed format t) (λ f shown. ap (supposed format) shown.1 ∙ back f shown.0) (tests format t (supposed format t)) refl
 
-clock_forms : (f : Form) → IsForm DateTime f → supposed DateTime (form_text f) ≡ f
+clock_forms : (f : Form) → IsStampForm DateTime f → supposed DateTime (form_text f) ≡ f
 clock_forms (clock_form letter c ds z) h = date_time_back letter c ds z h
 clock_forms (gmt_form c) h = absurd h
 clock_forms (seconds_form n i ds) h = absurd h
 
-number_forms : (f : Form) → IsForm EpochSeconds f → supposed EpochSeconds (form_text f) ≡ f
+number_forms : (f : Form) → IsStampForm EpochSeconds f → supposed EpochSeconds (form_text f) ≡ f
 number_forms (seconds_form n i ds) h = number_back n i ds h
 number_forms (clock_form letter c ds z) h = absurd h
 number_forms (gmt_form c) h = absurd h

@@ -13,7 +13,7 @@ use Rattle.sm_time.specs.declared.format.Format.{Format}
 use Rattle.sm_time.specs.declared.format.Format.TheVariants.{DateTime, HttpDate, EpochSeconds}
 use Rattle.sm_time.specs.Calendar.{date_of}
 use Rattle.sm_time.specs.Civil.{civil_of}
-use Rattle.sm_time.specs.TimeText.{zulu, clock_form, gmt_form, seconds_form, TimeText, IsWholeMillis, IsStamp, IsInt, thousandths, from_1970}
+use Rattle.sm_time.specs.TimeText.{zulu, clock_form, gmt_form, seconds_form, TimeText, IsWholeMillis, IsStamp, IsIntDigits, thousandths, from_1970}
 use Rattle.sm_time.specs.Written.{since_year_0, three_digits, fixed_digits, short_digits, written_stamp, IsWritable}
 use Rattle.sm_time.proofs.CalendarFacts.{before_year, days_of_date}
 use Rattle.sm_time.proofs.CalendarLinks.{days_before_1970}
@@ -90,7 +90,7 @@ short_are : (n : ℕ) → n < 1000 → AreMillis n (short_digits n)
 short_are n h = by_short (n == 0) (n % 100 == 0) (n % 10 == 0) n refl refl refl h
 
 -- a written number of seconds is a number of JSON
-decimal_int : (n : ℕ) → n < 2 ^ 64 → IsInt (decimal n)
+decimal_int : (n : ℕ) → n < 2 ^ 64 → IsIntDigits (decimal n)
 decimal_int zero h = ((decimal_is_IsNumeral 0 h).0, λ e. ap length (decimal_digit 0 (omega arith)))
 decimal_int (suc n) h = ((decimal_is_IsNumeral (suc n) h).0, λ e. absurd (omega (arith, e, first_decimal (suc n) (omega arith) h)))
 

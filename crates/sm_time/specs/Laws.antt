@@ -17,8 +17,8 @@ abbrev pub DateOfCount : Type 0
 DateOfCount = (d : Date) → IsDate d → date_of (day_count d) ≡ d
 
 -- a text shows at most one form of a format
-abbrev pub OneForm : Type 0
-OneForm = (format : Format) (text : List ℕ) (a b : Form) → Shows format text a → Shows format text b → a ≡ b
+abbrev pub OneStampForm : Type 0
+OneStampForm = (format : Format) (text : List ℕ) (a b : Form) → Shows format text a → Shows format text b → a ≡ b
 
 -- it is of at most one stamp
 abbrev pub OneReading : Type 0

@@ -53,8 +53,8 @@ abbrev pub IsWholeMillis : List ℕ → Type 0
 IsWholeMillis digits = All (λ d. d ≡ digit_zero) (drop 3 digits)
 
 -- int = zero / ( digit1-9 *DIGIT ): digits, of which a first 0 stands alone
-abbrev pub IsInt : List ℕ → Type 0
-IsInt digits = IsNumeral 10 digits × (slice_index digits 0 ≡ digit_zero → length digits ≡ 1)
+abbrev pub IsIntDigits : List ℕ → Type 0
+IsIntDigits digits = IsNumeral 10 digits × (slice_index digits 0 ≡ digit_zero → length digits ≡ 1)
 
 -- what a text shows: a clock, with its letter, the digits of its fraction and its zone; a clock of GMT; or a
 -- number, negative or not, with the digits before and after its point
@@ -74,17 +74,17 @@ abbrev pub IsLetter : ℕ → Type 0
 IsLetter letter = (letter ≡ capital_t) ⊎ (letter ≡ small_t)
 
 -- the forms of each format
-abbrev pub IsForm : Format → Form → Type 0
-IsForm DateTime (clock_form letter c digits zone) =
+abbrev pub IsStampForm : Format → Form → Type 0
+IsStampForm DateTime (clock_form letter c digits zone) =
     IsLetter letter × IsCivil c × AllDigits 10 digits × IsZone zone
-IsForm DateTime (gmt_form c) = ⊥
-IsForm DateTime (seconds_form negative int digits) = ⊥
-IsForm HttpDate (clock_form letter c digits zone) = ⊥
-IsForm HttpDate (gmt_form c) = IsCivil c × (1970 ≤ c.year)
-IsForm HttpDate (seconds_form negative int digits) = ⊥
-IsForm EpochSeconds (clock_form letter c digits zone) = ⊥
-IsForm EpochSeconds (gmt_form c) = ⊥
-IsForm EpochSeconds (seconds_form negative int digits) = IsInt int × AllDigits 10 digits
+IsStampForm DateTime (gmt_form c) = ⊥
+IsStampForm DateTime (seconds_form negative int digits) = ⊥
+IsStampForm HttpDate (clock_form letter c digits zone) = ⊥
+IsStampForm HttpDate (gmt_form c) = IsCivil c × (1970 ≤ c.year)
+IsStampForm HttpDate (seconds_form negative int digits) = ⊥
+IsStampForm EpochSeconds (clock_form letter c digits zone) = ⊥
+IsStampForm EpochSeconds (gmt_form c) = ⊥
+IsStampForm EpochSeconds (seconds_form negative int digits) = IsIntDigits int × AllDigits 10 digits
 
 -- the digits of its fraction
 abbrev pub digits_of : Form → List ℕ
@@ -105,7 +105,7 @@ moment (seconds_form negative int digits) =
 
 -- the text shows this form of the format
 abbrev pub Shows : Format → List ℕ → Form → Type 0
-Shows format text form = IsForm format form × (text ≡ form_text form)
+Shows format text form = IsStampForm format form × (text ≡ form_text form)
 
 -- the text is one of the format, and the stamp is its moment
 abbrev pub TimeText : Format → ℤ → List ℕ → Type 0

@@ -2,7 +2,7 @@
 ghost use Rattle.std.specs.Prelude.{◌≡◌, ◌≢◌, ℕ, ◌^◌, ◌-◌, ◌/◌, ◌%◌, ◌<◌, ◌++◌, [], min, take, drop, length, slice_index, false, IsTrue, ◌↔◌, ◌+◌, ◌≤◌, pos, neg_ℤ, MatchOption, if◌then◌else◌, codes};
 ghost use Rattle.std.specs.Str.Parse.{AllDigits, digits_value};
 ghost use Rattle.sm_time.specs.declared.format.Format.TheVariants.{EpochSeconds};
-ghost use Rattle.sm_time.specs.TimeText.{Form, seconds_form, Shows, IsInt, fraction_text};
+ghost use Rattle.sm_time.specs.TimeText.{Form, seconds_form, Shows, IsIntDigits, fraction_text};
 ghost use Rattle.sm_time.specs.Answers.{ReadsStamp};
 ghost use Rattle.sm_time.specs.Written.{written_stamp, three_digits, short_digits};
 
@@ -61,7 +61,7 @@ fn split_minus(text: &[u8]) -> (bool, &[u8])
 // Whether digits are those of a number: there are some, and a first 0 stands alone.
 fn is_int(digits: &[u8]) -> bool
     requires { AllDigits 10 digits.now }
-    ensures { IsTrue result ↔ IsInt digits.now }
+    ensures { IsTrue result ↔ IsIntDigits digits.now }
 {
     match digits {
         [] | [b'0', _, ..] => false,

@@ -1,6 +1,6 @@
 // Laws of the definitions, each the contract of a function whose body is empty.
 ghost use Rattle.sm_time.specs.StampTexts.{StampOfText};
-ghost use Rattle.sm_time.specs.Laws.{CountOfDate, DateOfCount, OneForm, OneReading, OneAnswer, WrittenIsText, WrittenReadsBack};
+ghost use Rattle.sm_time.specs.Laws.{CountOfDate, DateOfCount, OneStampForm, OneReading, OneAnswer, WrittenIsText, WrittenReadsBack};
 
 /// The date that comes so many days after 0000-01-01 has that count of days: counting day by day agrees with
 /// counting years and months.
@@ -15,7 +15,7 @@ pub fn date_of_count()
 
 /// A text shows at most one form of a format.
 pub fn one_form()
-    ensures { OneForm }
+    ensures { OneStampForm }
 {}
 
 /// A text is of at most one stamp in a format.

@@ -105,18 +105,18 @@ ChunksHeld TagHead t = Unit {0}
 ChunksHeld (Opaque b) t = Unit {0}
 
 -- what the place itself keeps
-abbrev pub Keeps : Place → List ℕ → Type 0
-Keeps Item t = Unit {0}
-Keeps Key t = Unit {0}
-Keeps After t = Unit {0}
-Keeps (Argument j k v) t = ArgumentLives j k v × (v < bound k) × ChunksHeld j t
-Keeps (String kind span n place) t = (utf8.owed place ≤ n) × CborHolds kind place t
-Keeps (Chunks kind) t = IsOf kind t
+abbrev pub KeepsPlace : Place → List ℕ → Type 0
+KeepsPlace Item t = Unit {0}
+KeepsPlace Key t = Unit {0}
+KeepsPlace After t = Unit {0}
+KeepsPlace (Argument j k v) t = ArgumentLives j k v × (v < bound k) × ChunksHeld j t
+KeepsPlace (String kind span n place) t = (utf8.owed place ≤ n) × CborHolds kind place t
+KeepsPlace (Chunks kind) t = IsOf kind t
 
 -- what holds of a reader that stands at this place
 pub record IsAt (r : Reader) (p : Place) : Type 0 where
   pub room : length (levels_of r) + opens p ≤ most_levels
-  pub keeps : Keeps p r.held.items
+  pub keeps : KeepsPlace p r.held.items
 
 -- bytes are owed at the place, or what may come is open
 abbrev pub Begun : Place → List Level → Type 0

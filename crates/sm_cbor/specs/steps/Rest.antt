@@ -11,7 +11,7 @@ use Rattle.sm_bytes.specs.declared.utf8.Utf8.{Utf8}
 use Rattle.sm_bytes.specs.declared.utf8.Utf8.TheVariants.{Between}
 use Rattle.sm_cbor.specs.Heads.{Number}
 use Rattle.sm_cbor.specs.CborItem.{Chunks as ChunkBytes, IsOpaque}
-use Rattle.sm_cbor.specs.Timing.{Told, ItemTimed, CountedEntriesTimed, EntriesToBreakTimed, CountedPairsTimed, PairsToBreakTimed}
+use Rattle.sm_cbor.specs.Timing.{CompleteAt, ItemTimed, CountedEntriesTimed, EntriesToBreakTimed, CountedPairsTimed, PairsToBreakTimed}
 use Rattle.sm_cbor.specs.steps.Marks.{Keys, key_of}
 use Rattle.sm_cbor.specs.steps.Reading.{major_of, IsOf, EndsAs, integer_event}
 use Rattle.sm_cbor.specs.declared.place.StringKind.{StringKind}
@@ -61,13 +61,13 @@ ItemComes w limit ls s es =
 -- a key, its value, and what is behind it
 abbrev pub CborKeyComes : Keys → ℕ → List Level → List ℕ → List TimedEvent → Type 0
 CborKeyComes w limit ls s es =
-    (k s1 : List ℕ) × (fs : List TimedEvent) × key_of w k s s1 × ItemComes w limit ls s1 fs × Told (key_event k) s1 es fs
+    (k s1 : List ℕ) × (fs : List TimedEvent) × key_of w k s s1 × ItemComes w limit ls s1 fs × CompleteAt (key_event k) s1 es fs
 
 -- behind the last byte of the string t
 abbrev pub StringEnded : Keys → ℕ → StringKind → List ℕ → List Level → List ℕ → List TimedEvent → Type 0
-StringEnded w limit Bytes t ls s es = (fs : List TimedEvent) × CborEnds w limit ls s fs × Told (bytes_event t) s es fs
-StringEnded w limit Text t ls s es = (fs : List TimedEvent) × CborEnds w limit ls s fs × Told (text_event t) s es fs
-StringEnded w limit KeyText t ls s es = (fs : List TimedEvent) × ItemComes w limit ls s fs × Told (key_event t) s es fs
+StringEnded w limit Bytes t ls s es = (fs : List TimedEvent) × CborEnds w limit ls s fs × CompleteAt (bytes_event t) s es fs
+StringEnded w limit Text t ls s es = (fs : List TimedEvent) × CborEnds w limit ls s fs × CompleteAt (text_event t) s es fs
+StringEnded w limit KeyText t ls s es = (fs : List TimedEvent) × ItemComes w limit ls s fs × CompleteAt (key_event t) s es fs
 
 -- more chunks of a string that is t so far
 abbrev pub ChunksCome : Keys → ℕ → StringKind → List ℕ → List Level → List ℕ → List TimedEvent → Type 0
@@ -91,16 +91,16 @@ before_span Chunk t = t
 
 -- behind an argument of value n
 abbrev pub ArgumentEnded : Keys → ℕ → Subject → ℕ → List ℕ → List Level → List ℕ → List TimedEvent → Type 0
-ArgumentEnded w limit Unsigned n t ls s es = (fs : List TimedEvent) × CborEnds w limit ls s fs × Told (integer_event n (pos n)) s es fs
-ArgumentEnded w limit Negative n t ls s es = (fs : List TimedEvent) × CborEnds w limit ls s fs × Told (integer_event n (negsuc n)) s es fs
+ArgumentEnded w limit Unsigned n t ls s es = (fs : List TimedEvent) × CborEnds w limit ls s fs × CompleteAt (integer_event n (pos n)) s es fs
+ArgumentEnded w limit Negative n t ls s es = (fs : List TimedEvent) × CborEnds w limit ls s fs × CompleteAt (integer_event n (negsuc n)) s es fs
 ArgumentEnded w limit (StringHead kind span) n t ls s es = CborStringComes w limit kind span n Between (before_span span t) ls s es
-ArgumentEnded w limit ListHead n t ls s es = (fs : List TimedEvent) × CborEnds w limit (AList n ∷ ls) s fs × Told (start_list
+ArgumentEnded w limit ListHead n t ls s es = (fs : List TimedEvent) × CborEnds w limit (AList n ∷ ls) s fs × CompleteAt (start_list
     (Some n)) s es fs
-ArgumentEnded w limit MapHead n t ls s es = (fs : List TimedEvent) × CborEnds w limit (AMap n ∷ ls) s fs × Told (start_object
+ArgumentEnded w limit MapHead n t ls s es = (fs : List TimedEvent) × CborEnds w limit (AMap n ∷ ls) s fs × CompleteAt (start_object
     (Some n)) s es fs
-ArgumentEnded w limit TagHead n t ls s es = (fs : List TimedEvent) × ItemComes w limit (Tag ∷ ls) s fs × Told (tag_event n) s es fs
+ArgumentEnded w limit TagHead n t ls s es = (fs : List TimedEvent) × ItemComes w limit (Tag ∷ ls) s fs × CompleteAt (tag_event n) s es fs
 ArgumentEnded w limit (Opaque b) n t ls s es =
-    (fs : List TimedEvent) × IsOpaque (b % 32) n × CborEnds w limit ls s fs × Told (opaque_event b) s es fs
+    (fs : List TimedEvent) × IsOpaque (b % 32) n × CborEnds w limit ls s fs × CompleteAt (opaque_event b) s es fs
 
 abbrev pub ArgumentComes : Keys → ℕ → Subject → ℕ → ℕ → List ℕ → List Level → List ℕ → List TimedEvent → Type 0
 ArgumentComes w limit j k v t ls s es = (n : ℕ) × (r : List ℕ) × Number k v n s r × ArgumentEnded w limit j n t ls r es

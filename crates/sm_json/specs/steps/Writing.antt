@@ -17,7 +17,7 @@ pub record Writes (old new : JsonWriter) (bytes : List ℕ) (ended : Bool) : Typ
   pub next : has_comma new.before ≡ ended
 
 -- the bytes are as before, and so is what stands before the next ones
-pub record Keeps (old new : JsonWriter) : Type 0 where
+pub record KeepsWriter (old new : JsonWriter) : Type 0 where
   pub same_bytes : new.bytes.items ≡ old.bytes.items
   pub same_next : new.before ≡ old.before
 
