@@ -81,20 +81,7 @@ fn room_for(expected: usize) -> u8
     expected.clamp(1, FIRST_ROOM) as u8
 }
 
-// A tree in tags, the outermost first, which are used up. It isn't inlined, since few trees have any.
-#[inline(never)]
-fn put_tags(alloc: Global, tags: &mut Vec<u64>, tree: Tree) -> Result<Tree, NoMemory>
-    ensures tree { IfOk result (λ whole. node_of whole ≡ tagged tags.old.items (node_of tree)) }
-    ensures none { OnOk result (tags.new.items ≡ []) }
-{
-    let mut tree = tree;
-    while let Some(number) = tags.pop() {
-        tree = Tree::Tag(number, Box::new(alloc, tree)?);
-    }
-    Ok(tree)
-}
-
-// A tree in its tags.
+// A tree in tags, the outermost first, which are used up.
 #[inline(always)]
 fn in_tags(alloc: Global, tags: &mut Vec<u64>, tree: Tree) -> Result<Tree, NoMemory>
     ensures tree { IfOk result (λ whole. node_of whole ≡ tagged tags.old.items (node_of tree)) }
@@ -103,7 +90,11 @@ fn in_tags(alloc: Global, tags: &mut Vec<u64>, tree: Tree) -> Result<Tree, NoMem
     if tags.is_empty() {
         return Ok(tree);
     }
-    put_tags(alloc, tags, tree)
+    let mut tree = tree;
+    while let Some(number) = tags.pop() {
+        tree = Tree::Tag(number, Box::new(alloc, tree)?);
+    }
+    Ok(tree)
 }
 
 impl Inner {

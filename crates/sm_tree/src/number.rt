@@ -142,6 +142,7 @@ fn number_text(number: &[u8]) -> &str
 
 /// The tree that the text of a number stands for: an integer that an `i64` holds, else a copy of the text.
 #[tactic(auto, using(crate::proofs::Numbers::number_bytes))]
+#[inline(always)]
 pub fn number_tree(alloc: Global, number: &[u8]) -> Result<Tree, NoMemory>
     requires { IsNumber number.now }
     ensures { IfOk result (λ tree. NumberText (node_of tree) number.now) }

@@ -4,7 +4,7 @@ use Rattle.sm_tree.specs.Node.{tag}
 use Rattle.sm_tree.specs.Building.{tagged}
 use Rattle.sm_tree.proofs.Building.{tagged_more}
 use Rattle.sm_tree.proofs.Views.{node_tag}
-use Rattle.sm_tree.proofs.build.put_tags.Goals as goal
+use Rattle.sm_tree.proofs.build.in_tags.Goals as goal
 
 pub loop-number-preserved : goal.loop-number-preserved
 loop-number-preserved c =
