@@ -24,10 +24,13 @@ pub mod LongFiles
 pub mod FilesRead
 pub mod NoTrees
 pub mod Bodies
+pub mod Converts
 pub mod OneForm
 pub mod Readable
 pub mod OneBody
 pub mod SomeBody
+pub mod OneConvert
+pub mod SomeConvert
 pub mod Commanded
 pub mod Runs
 pub mod OneRun

@@ -1,13 +1,16 @@
 -- The commands as data: the form of each one's words, and what it may touch of the outside.
-use Rattle.std.specs.Prelude.{◌≡◌, ℕ, Bool, true, List, [], ◌∷◌, codes, Contains}
+use Rattle.std.specs.Prelude.{◌≡◌, ℕ, Bool, true, false, List, [], ◌∷◌, ◌++◌, codes, Contains}
 
 pub data Command : Type 0 where
   -- body MODELFILE SHAPE json json
   body_command : (model shape : List ℕ) → Command
+  -- convert MODEL+ ast
+  convert_command : (first : List ℕ) → (others : List (List ℕ)) → Command
 
 -- the words have the form of the command
 abbrev pub IsForm : List (List ℕ) → Command → Type 0
 IsForm words (body_command model shape) = words ≡ codes "body" ∷ model ∷ shape ∷ codes "json" ∷ codes "json" ∷ []
+IsForm words (convert_command first others) = words ≡ codes "convert" ∷ first ∷ (others ++ codes "ast" ∷ [])
 
 -- they have the form of none
 abbrev pub IsNoForm : List (List ℕ) → Type 0
@@ -20,14 +23,17 @@ OneForm = (words : List (List ℕ)) (command command1 : Command) → IsForm word
 -- the names of the files that a command may read
 abbrev pub reads : Command → List (List ℕ)
 reads (body_command model shape) = model ∷ []
+reads (convert_command first others) = first ∷ others
 
 -- the names of the files that it may write
 abbrev pub writes : Command → List (List ℕ)
 writes (body_command model shape) = []
+writes (convert_command first others) = []
 
 -- whether it may read the input
 abbrev pub touches_input : Command → Bool
 touches_input (body_command model shape) = true
+touches_input (convert_command first others) = false
 
 -- the files that such words name to be read may be read
 abbrev pub LetsRead : (List ℕ → Type 0) → List (List ℕ) → Type 0

@@ -17,6 +17,8 @@ pub mod Answer
 pub mod Stages
 pub mod NoTree
 pub mod Body
+pub mod ModelFiles
+pub mod Convert
 pub mod Says
 pub mod Run
 pub mod RunLaws

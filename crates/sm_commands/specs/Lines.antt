@@ -8,7 +8,8 @@ use Rattle.sm_tree.specs.declared.refusal.SyntaxRefusal.{SyntaxRefusal}
 use Rattle.sm_tree.specs.declared.refusal.SyntaxRefusal.TheVariants.{Bad, Ended, TooDeep, KeyKind, NoMemory}
 use Rattle.sm_shapes.specs.FaultWords.{fault_word}
 use Rattle.sm_shapes.specs.declared.fault.FaultKind.{FaultKind}
-use Rattle.sm_commands.specs.Limits.{file_limit, body_limit}
+use Rattle.sm_ast.specs.Faults.{AstFault, version, field, wrong_type, bad_id}
+use Rattle.sm_commands.specs.Limits.{files_limit, file_limit, bytes_limit, body_limit}
 
 -- a word, a blank and a text
 abbrev pub line : List ℕ → List ℕ → List ℕ
@@ -38,12 +39,28 @@ syntax_text NoMemory = codes "NoMemory"
 abbrev pub json_line : List ℕ → SyntaxRefusal → List ℕ
 json_line file refusal = line file (codes "Json " ++ syntax_text refusal)
 
+-- a model file that is no model: the file's name, the word, and the path as a JSON Pointer
+abbrev pub ast_text : AstFault → List ℕ
+ast_text version = codes "Version"
+ast_text (field path) = codes "Field " ++ pointer path
+ast_text (wrong_type path) = codes "Type " ++ pointer path
+ast_text (bad_id path) = codes "BadId " ++ pointer path
+
+abbrev pub ast_line : List ℕ → AstFault → List ℕ
+ast_line file fault = line file (codes "Ast " ++ ast_text fault)
+
 abbrev pub syntax_line : SyntaxRefusal → List ℕ
 syntax_line refusal = line (codes "Syntax") (syntax_text refusal)
 
 -- a limit that was passed: its word and its number
 abbrev pub limit_line : List ℕ → ℕ → List ℕ
 limit_line word number = line (codes "Limit") (word ++ (space ∷ decimal number))
+
+abbrev pub files_limit_line : List ℕ
+files_limit_line = limit_line (codes "files") files_limit
+
+abbrev pub bytes_limit_line : List ℕ
+bytes_limit_line = limit_line (codes "bytes") bytes_limit
 
 abbrev pub file_limit_line : List ℕ
 file_limit_line = limit_line (codes "file") file_limit

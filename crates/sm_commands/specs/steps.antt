@@ -6,4 +6,5 @@ pub mod RowsSoFar
 pub mod CommandSteps
 pub mod FileSteps
 pub mod BodySteps
+pub mod ConvertSteps
 pub mod Asked

@@ -10,6 +10,7 @@ ghost use Rattle.sm_commands.specs.steps.Asked.{command_of};
 ghost use Rattle.sm_commands.specs.steps.CommandSteps.{ComesTo, PutEnds, PrintsResult};
 
 use crate::body::body;
+use crate::convert::convert;
 use crate::stop::Stop;
 use crate::words::{Form, form_of};
 use sm_io::{Files, PutRefusal, Sink, Source};
@@ -77,6 +78,7 @@ fn come_to<F: Files, S: Source>(
 {
     match form {
         Form::Body(words) => body(alloc, words, files, input),
+        Form::Convert(words) => convert(alloc, words, files),
     }
 }
 
@@ -117,7 +119,9 @@ fn print<K: Sink>(out: &mut K, came: Result<Vec<u8>, Stop>) -> Status
 /// Does what the words ask for, and answers the status of the process. `body MODELFILE SHAPE json json` prints
 /// the canonical body of the value that the input spells (0), or the line of the first thing that is refused:
 /// the model file's length (7), the model, the shape (1); the input's length (7), its syntax, its faults (1).
-/// The input is touched only where nothing that stands before it is refused.
+/// The input is touched only where nothing that stands before it is refused. `convert MODEL+ ast` prints the graph of the model
+/// as one text of the JSON AST (0), or the line of the first thing that is refused: the number of its files, their lengths (7),
+/// the first file's text, its model, and what isn't merged yet (1); it doesn't touch the input.
 ///
 /// 2: the words have no form, and nothing is touched. 3: a read of the file or of the input failed, and nothing
 /// is put. 4: the output failed, and holds a prefix of what was to be put. 5: memory ran out, and nothing is put.

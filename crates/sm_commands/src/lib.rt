@@ -5,7 +5,9 @@
 mod body;
 pub mod codec;
 mod command;
+mod convert;
 mod file;
+mod files;
 pub mod laws;
 mod lines;
 pub mod model;

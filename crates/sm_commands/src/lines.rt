@@ -1,9 +1,13 @@
 // The lines that are printed for what is refused.
-ghost use Rattle.std.specs.Prelude.{◌≡◌, IfOk, string_bytes};
-ghost use Rattle.sm_commands.specs.Lines.{line as the_line, fault_line as the_fault_line, limit_line as the_limit_line, syntax_line as the_syntax_line, syntax_text as the_syntax_text, json_line as the_json_line};
+ghost use Rattle.std.specs.Prelude.{◌≡◌, ◌++◌, Some, IfOk, string_bytes};
+ghost use Rattle.sm_tree.specs.Pointer.{pointer};
+ghost use Rattle.sm_ast.specs.Answers.{Tells};
+ghost use Rattle.sm_ast.specs.Faults.{AstFault};
+ghost use Rattle.sm_commands.specs.Lines.{line as the_line, fault_line as the_fault_line, limit_line as the_limit_line, syntax_line as the_syntax_line, syntax_text as the_syntax_text, json_line as the_json_line, ast_line as the_ast_line, ast_text as the_ast_text};
 
+use sm_ast::AstRefusal;
 use sm_shapes::Fault;
-use sm_tree::{NoMemory, SyntaxRefusal};
+use sm_tree::{NoMemory, Path, SyntaxRefusal};
 use std::alloc::Global;
 
 /// A word, a blank and a text, with a line feed.
@@ -71,4 +75,35 @@ pub(crate) fn json_line(
     let mut text = String::from_str(alloc, "Json ")?;
     text.push_str(syntax_text(alloc, refusal)?.as_str())?;
     line(alloc, file, text.as_str())
+}
+
+/// The line of a model file whose text is no model.
+pub(crate) fn ast_line(alloc: Global, file: &str, refusal: &AstRefusal) -> Result<Vec<u8>, NoMemory>
+    ensures { (fault : AstFault) → Tells (Some fault) refusal.now → IfOk result (λ line. line.items ≡ the_ast_line file.now fault) }
+{
+    let mut text = String::from_str(alloc, "Ast ")?;
+    text.push_str(ast_text(alloc, refusal)?.as_str())?;
+    line(alloc, file, text.as_str())
+}
+
+// The word of a refusal, and its path.
+fn ast_text(alloc: Global, refusal: &AstRefusal) -> Result<String, NoMemory>
+    ensures { (fault : AstFault) → Tells (Some fault) refusal.now → IfOk result (λ text. string_bytes text ≡ the_ast_text fault) }
+{
+    match refusal {
+        AstRefusal::Version => Ok(String::from_str(alloc, "Version")?),
+        AstRefusal::Field(path) => placed(alloc, "Field ", path),
+        AstRefusal::WrongType(path) => placed(alloc, "Type ", path),
+        AstRefusal::BadId(path) => placed(alloc, "BadId ", path),
+        AstRefusal::NoMemory => Err(NoMemory),
+    }
+}
+
+// A word with a blank, and a path as a JSON Pointer.
+fn placed(alloc: Global, word: &str, path: &Path) -> Result<String, NoMemory>
+    ensures { IfOk result (λ text. string_bytes text ≡ word.now ++ pointer path.now) }
+{
+    let mut text = String::from_str(alloc, word)?;
+    text.push_str(path.print(alloc)?.as_str())?;
+    Ok(text)
 }

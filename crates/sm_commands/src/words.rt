@@ -1,6 +1,6 @@
 // The words of a command, and the forms that they may have.
-ghost use Rattle.std.specs.Prelude.{◌≡◌, ◌↔◌, List, ℕ, IsTrue, MatchOption};
-ghost use Rattle.sm_commands.specs.Commands.{IsForm, IsNoForm, body_command};
+ghost use Rattle.std.specs.Prelude.{◌≡◌, ◌↔◌, List, ℕ, [], ◌∷◌, ◌++◌, IsTrue, MatchOption};
+ghost use Rattle.sm_commands.specs.Commands.{IsForm, IsNoForm, body_command, convert_command};
 ghost use Rattle.sm_commands.specs.steps.Asked.{command_of};
 
 use sm_tree::Text;
@@ -14,11 +14,22 @@ pub struct BodyWords<'a> {
     pub shape: &'a str,
 }
 
+/// The words of `convert MODEL+ ast`.
+#[derive(Debug, Clone, Copy)]
+pub struct ConvertWords<'a> {
+    /// The name of the first model file.
+    pub first: &'a str,
+    /// The names of the others, in their order.
+    pub others: &'a [Text],
+}
+
 /// The forms that words may have.
 #[derive(Debug, Clone, Copy)]
 pub enum Form<'a> {
     /// `body MODELFILE SHAPE json json`.
     Body(BodyWords<'a>),
+    /// `convert MODEL+ ast`.
+    Convert(ConvertWords<'a>),
 }
 
 /// What the words ask for; `None` where they have none of the forms.
@@ -27,7 +38,10 @@ pub(crate) fn form_of(words: &[Text]) -> Option<Form<'_>>
 {
     match body_words(words) {
         Some(words) => Some(Form::Body(words)),
-        None => None,
+        None => match convert_words(words) {
+            Some(words) => Some(Form::Convert(words)),
+            None => None,
+        },
     }
 }
 
@@ -53,6 +67,47 @@ fn body_words(words: &[Text]) -> Option<BodyWords<'_>>
         model: words[1].as_str(),
         shape: words[2].as_str(),
     })
+}
+
+// The words of `convert`, where they have its form.
+fn convert_words(words: &[Text]) -> Option<ConvertWords<'_>>
+    ensures { MatchOption result
+        ((first : List ℕ) (others : List (List ℕ)) → IsForm words.now (convert_command first others) → ⊥)
+        (λ form. IsForm words.now (convert_command form.first.now form.others.now)) }
+{
+    let Some((command, rest)) = first_and_rest(words) else {
+        return None;
+    };
+    if !is_word(command, "convert") {
+        return None;
+    }
+    let Some((form, models)) = last_and_rest(rest) else {
+        return None;
+    };
+    if !is_word(form, "ast") {
+        return None;
+    }
+    match first_and_rest(models) {
+        Some((first, others)) => Some(ConvertWords {
+            first: first.as_str(),
+            others,
+        }),
+        None => None,
+    }
+}
+
+/// The first word, and those behind it.
+pub(crate) fn first_and_rest(words: &[Text]) -> Option<(&Text, &[Text])>
+    ensures { MatchOption result (words.now ≡ []) (λ p. words.now ≡ p.0.now ∷ p.1.now) }
+{
+    words.split_first()
+}
+
+// The last word, and those before it.
+fn last_and_rest(words: &[Text]) -> Option<(&Text, &[Text])>
+    ensures { MatchOption result (words.now ≡ []) (λ p. words.now ≡ p.1.now ++ p.0.now ∷ []) }
+{
+    words.split_last()
 }
 
 // Whether the word is this text.

@@ -1,7 +1,8 @@
 -- The command that words ask for, as the code holds it.
-use Rattle.sm_commands.specs.Commands.{Command, body_command}
+use Rattle.sm_commands.specs.Commands.{Command, body_command, convert_command}
 use Rattle.sm_commands.specs.declared.words.Form.{Form}
-use Rattle.sm_commands.specs.declared.words.Form.TheVariants.{Body}
+use Rattle.sm_commands.specs.declared.words.Form.TheVariants.{Body, Convert}
 
 abbrev pub command_of : Form → Command
 command_of (Body words) = body_command words.model.now words.shape.now
+command_of (Convert words) = convert_command words.first.now words.others.now
