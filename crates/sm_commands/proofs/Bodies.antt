@@ -39,7 +39,7 @@ use Rattle.sm_commands.specs.Body.ModelAnswers.{long_file, no_tree, unbuilt, no_
 use Rattle.sm_commands.specs.Body.TextAnswers.{no_text, fault, value}
 use Rattle.sm_commands.specs.Body.BodySays.{by_model, long_input, by_text}
 use Rattle.sm_commands.specs.Run.{Answers, ReadFails, StopsShort}
-use Rattle.sm_commands.specs.steps.CommandSteps.{StepStops, StepComesTo, EndsWithLine, EndsWithLimit, ComesTo}
+use Rattle.sm_commands.specs.steps.CommandSteps.{StepStops, StepComesTo, EndsWithLine, EndsWithLimit, CommandComesTo}
 use Rattle.sm_commands.specs.steps.FileSteps.{PassesLimit, OpensFile, OpensTree}
 use Rattle.sm_commands.specs.steps.BodySteps.{TreeAnswers, TextStops, ReadsModelFile, HoldsModel, RefusesFile, OpensModel, InputSays, InputComesTo}
 use Rattle.sm_commands.specs.steps.BodySteps.TextStops.{without_tree, without_model}
@@ -159,7 +159,7 @@ input_answers files input rest name shape chosen t a tabled (whole body is withi
 
 -- the whole command: a refused file, a missing shape, and the input
 pub body_stops : (files files1 : FilesSeen) (input : Stream) (name shape : List ℕ) (stop : Stop) → OpensModel files files1 name (Err stop)
-    → ComesTo files files1 input input (body_command name shape) (Err stop)
+    → CommandComesTo files files1 input input (body_command name shape) (Err stop)
 body_stops files files1 input name shape stop h =
     stops_map (RefusesFile files.held name) (Answers files input input (body_command name shape)) (Rose files.faults files1.faults)
     (ReadFails files files1 input input (body_command name shape))
@@ -168,7 +168,7 @@ body_stops files files1 input name shape stop h =
 
 pub body_crosses : (files files1 : FilesSeen) (input rest : Stream) (name shape : List ℕ) (model : FirstModel) (s : ℕ)
     (result : Result (Vec ℕ) Stop) → HoldsModel files.held name model → slice_get model.names.items s ≡ Some shape
-    → InputComesTo input rest model.table s result → ComesTo files files1 input rest (body_command name shape) result
+    → InputComesTo input rest model.table s result → CommandComesTo files files1 input rest (body_command name shape) result
 body_crosses files files1 input rest name shape model s result h found comes =
     let chosen : ShapeChosen files.held name shape =
     record { read = h.read; s = s; named = ap (λ xs. slice_get xs s) (sym h.names) ∙ found } in
@@ -180,7 +180,7 @@ body_crosses files files1 input rest name shape model s result h found comes =
 
 pub body_lacks : (files files1 : FilesSeen) (input : Stream) (name shape : List ℕ) (model : FirstModel) (stop : Stop)
     → HoldsModel files.held name model → ((s : ℕ) → slice_get model.names.items s ≡ Some shape → ⊥)
-    → EndsWithLine (no_shape_line shape) stop → ComesTo files files1 input input (body_command name shape) (Err stop)
+    → EndsWithLine (no_shape_line shape) stop → CommandComesTo files files1 input input (body_command name shape) (Err stop)
 body_lacks files files1 input name shape model stop h none ends =
     line_stops (Answers files input input (body_command name shape)) (ReadFails files files1 input input (body_command name shape))
     (StopsShort files input input (body_command name shape)) (no_shape_line shape) stop

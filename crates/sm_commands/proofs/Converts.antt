@@ -28,7 +28,7 @@ use Rattle.sm_commands.specs.Convert.TreeSays.{no_model, model}
 use Rattle.sm_commands.specs.Convert.FileSays.{no_tree, tree}
 use Rattle.sm_commands.specs.Convert.ConvertSays.{many_files, long_files, by_first}
 use Rattle.sm_commands.specs.Run.{Answers, ReadFails, StopsShort}
-use Rattle.sm_commands.specs.steps.CommandSteps.{StepStops, StepComesTo, EndsWithLine, EndsWithLimit, ComesTo}
+use Rattle.sm_commands.specs.steps.CommandSteps.{StepStops, StepComesTo, EndsWithLine, EndsWithLimit, CommandComesTo}
 use Rattle.sm_commands.specs.steps.FileSteps.{PassesLimit, OpensFile, OpensTree}
 use Rattle.sm_commands.specs.steps.ConvertSteps.{ReadsFiles, Converts}
 use Rattle.sm_commands.specs.declared.stop.Stop.{Stop}
@@ -157,7 +157,7 @@ plain_stops name others said stop other ends =
 
 -- the command leaves the input as it is
 pub convert_comes : (files files1 : FilesSeen) (input : Stream) (first : List ℕ) (others : List (List ℕ)) (result : Result (Vec ℕ) Stop)
-    → Converts files files1 first others result → ComesTo files files1 input input (convert_command first others) result
+    → Converts files files1 first others result → CommandComesTo files files1 input input (convert_command first others) result
 convert_comes files files1 input first others result h =
     comes_map (ConvertSays files.held first others) (Answers files input input (convert_command first others))
     (Rose files.faults files1.faults) (ReadFails files files1 input input (convert_command first others)) (Unit {0})

@@ -4,7 +4,7 @@ use Rattle.std.proofs.Common.{◌≡◌, ℕ, List, inl, inr, subst, refl}
 use Rattle.std.specs.Prelude.{true, false}
 use Rattle.sm_io.specs.Seen.{FilesSeen, Stream}
 use Rattle.sm_io.proofs.Counts.{quiet_not_rose}
-use Rattle.sm_commands.specs.Commands.{Command, IsForm, touches_input}
+use Rattle.sm_commands.specs.Commands.{Command, IsCommandForm, touches_input}
 use Rattle.sm_commands.specs.Outside.{Outside}
 use Rattle.sm_commands.specs.Answer.{Answer}
 use Rattle.sm_commands.specs.Run.{Answers, ReadFails, StopsShort, told_by}
@@ -47,12 +47,12 @@ fails_keeps files files1 input rest command untouching (inl (rose, same)) = same
 fails_keeps files files1 input rest command untouching (inr (rose, reached)) = absurd (never_reached files input command untouching reached)
 
 -- the command that the words ask for is the one that ran
-same_untouching : (words : List (List ℕ)) (command ran : Command) → IsForm words command → IsForm words ran
+same_untouching : (words : List (List ℕ)) (command ran : Command) → IsCommandForm words command → IsCommandForm words ran
     → touches_input command ≡ false → touches_input ran ≡ false
 same_untouching words command ran is is1 untouching = subst (λ x. touches_input x ≡ false) (one_form words command ran is is1) untouching
 
-answer_keeps : (words : List (List ℕ)) (command ran : Command) (before after : Outside) (a : Answer) → IsForm words command
-    → IsForm words ran → touches_input command ≡ false
+answer_keeps : (words : List (List ℕ)) (command ran : Command) (before after : Outside) (a : Answer) → IsCommandForm words command
+    → IsCommandForm words ran → touches_input command ≡ false
     → Answers before.files before.input after.input ran a → after.input ≡ before.input
 answer_keeps words command ran before after a is is1 untouching comes =
     short_keeps before.files before.input after.input ran (same_untouching words command ran is is1 untouching)

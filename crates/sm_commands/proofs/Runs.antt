@@ -5,10 +5,10 @@ use Rattle.std.specs.Io.KnownBytes.{Keeps}
 use Rattle.sm_io.specs.Files.{Folder}
 use Rattle.sm_io.specs.Seen.{FilesSeen, Stream}
 use Rattle.sm_commands.specs.Outside.{Outside}
-use Rattle.sm_commands.specs.Commands.{Command, IsForm}
+use Rattle.sm_commands.specs.Commands.{Command, IsCommandForm}
 use Rattle.sm_commands.specs.Answer.{Answer, came}
 use Rattle.sm_commands.specs.Run.{code_of, told_by, LeavesInput, Answers, StopsShort, StandsAsBefore, KeepsFiles, Prints, RunEnds, RunAnswers}
-use Rattle.sm_commands.specs.steps.CommandSteps.{ComesTo, PutEnds, PrintsResult}
+use Rattle.sm_commands.specs.steps.CommandSteps.{CommandComesTo, PutEnds, PrintsResult}
 use Rattle.sm_commands.specs.declared.stop.Stop.{Stop}
 use Rattle.sm_commands.specs.declared.stop.Stop.TheVariants.{Refused as is_refused, Limit as is_past, ReadFault as is_fault, NoMemory as is_short}
 use Rattle.sm_commands.specs.declared.command.Status.{Status}
@@ -25,7 +25,7 @@ comes_short files input rest command a h = elim (says_reaches (told_by files inp
 
 -- an answer that is printed, by what the put came to
 put_ends : (words : List (List ℕ)) (before after : Outside) (command : Command) (wanted : Status) (text : List ℕ) (status : Status)
-    → IsForm words command
+    → IsCommandForm words command
     → Answers before.files before.input after.input command (record { status = wanted; text = text })
     → (Prints words before after wanted → RunEnds words before after wanted) → PutEnds before.output after.output text wanted status
     → RunEnds words before after status
@@ -57,8 +57,8 @@ files_kept words before after e command name is unwritten = subst (λ x. StandsA
 
 -- at the status that the print answered
 at_status : (words : List (List ℕ)) (before after : Outside) (command : Command) (result : Result (Vec ℕ) Stop) (status : Status)
-    → IsForm words command
-    → ComesTo before.files after.files before.input after.input command result → PrintsResult before.output after.output result status
+    → IsCommandForm words command
+    → CommandComesTo before.files after.files before.input after.input command result → PrintsResult before.output after.output result status
     → RunEnds words before after status
 at_status words before after command (Ok text) status is comes prints =
     put_ends words before after command Done text.items status is comes (λ x. x) prints
@@ -72,8 +72,8 @@ at_status words before after command (Err is_short) status is comes (e, same) =
     subst (λ x. RunEnds words before after x) (sym e) ((command, is, comes), keeps_all before.output after.output same)
 
 pub command_runs : (words : List (List ℕ)) (before after : Outside) (command : Command) (result : Result (Vec ℕ) Stop) (status : Status)
-    (code : ℕ) → IsForm words command
-    → ComesTo before.files after.files before.input after.input command result → PrintsResult before.output after.output result status
+    (code : ℕ) → IsCommandForm words command
+    → CommandComesTo before.files after.files before.input after.input command result → PrintsResult before.output after.output result status
     → code ≡ code_of status
     → RunAnswers words before after code
 command_runs words before after command result status code is comes prints number =

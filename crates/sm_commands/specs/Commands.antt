@@ -8,17 +8,17 @@ pub data Command : Type 0 where
   convert_command : (first : List ℕ) → (others : List (List ℕ)) → Command
 
 -- the words have the form of the command
-abbrev pub IsForm : List (List ℕ) → Command → Type 0
-IsForm words (body_command model shape) = words ≡ codes "body" ∷ model ∷ shape ∷ codes "json" ∷ codes "json" ∷ []
-IsForm words (convert_command first others) = words ≡ codes "convert" ∷ first ∷ (others ++ codes "ast" ∷ [])
+abbrev pub IsCommandForm : List (List ℕ) → Command → Type 0
+IsCommandForm words (body_command model shape) = words ≡ codes "body" ∷ model ∷ shape ∷ codes "json" ∷ codes "json" ∷ []
+IsCommandForm words (convert_command first others) = words ≡ codes "convert" ∷ first ∷ (others ++ codes "ast" ∷ [])
 
 -- they have the form of none
 abbrev pub IsNoForm : List (List ℕ) → Type 0
-IsNoForm words = (command : Command) → IsForm words command → ⊥
+IsNoForm words = (command : Command) → IsCommandForm words command → ⊥
 
 -- a law: words have the form of one command at most
-abbrev pub OneForm : Type 0
-OneForm = (words : List (List ℕ)) (command command1 : Command) → IsForm words command → IsForm words command1 → command ≡ command1
+abbrev pub OneCommandForm : Type 0
+OneCommandForm = (words : List (List ℕ)) (command command1 : Command) → IsCommandForm words command → IsCommandForm words command1 → command ≡ command1
 
 -- the names of the files that a command may read
 abbrev pub reads : Command → List (List ℕ)
@@ -37,4 +37,4 @@ touches_input (convert_command first others) = false
 
 -- the files that such words name to be read may be read
 abbrev pub LetsRead : (List ℕ → Type 0) → List (List ℕ) → Type 0
-LetsRead lets words = (command : Command) (name : List ℕ) → IsForm words command → Contains (reads command) name → lets name
+LetsRead lets words = (command : Command) (name : List ℕ) → IsCommandForm words command → Contains (reads command) name → lets name

@@ -7,7 +7,7 @@ use Rattle.sm_io.specs.Files.{Folder, file_at}
 use Rattle.sm_io.specs.Writing.{AppendsPrefix}
 use Rattle.sm_io.specs.Seen.{Stream, FilesSeen}
 use Rattle.sm_commands.specs.Outside.{Outside}
-use Rattle.sm_commands.specs.Commands.{Command, IsForm, IsNoForm, writes}
+use Rattle.sm_commands.specs.Commands.{Command, IsCommandForm, IsNoForm, writes}
 use Rattle.sm_commands.specs.Answer.{Answer, InputUse, came}
 use Rattle.sm_commands.specs.Answer.InputUse.{untouched, to_its_end, past_its_limit}
 use Rattle.sm_commands.specs.Stages.{Told, told}
@@ -56,12 +56,12 @@ StandsAsBefore before after name = IfSome before (λ folder. IsSomeAnd after (λ
 
 -- a file that the words don't name to be written is as it was
 abbrev pub KeepsFiles : List (List ℕ) → Option Folder → Option Folder → Type 0
-KeepsFiles words before after = (command : Command) (name : List ℕ) → IsForm words command → (Contains (writes command) name → ⊥)
+KeepsFiles words before after = (command : Command) (name : List ℕ) → IsCommandForm words command → (Contains (writes command) name → ⊥)
     → StandsAsBefore before after name
 
 -- the words have the form of a command, and this holds of it
 abbrev pub ForCommand : List (List ℕ) → (Command → Type 0) → Type 0
-ForCommand words P = (command : Command) × IsForm words command × P command
+ForCommand words P = (command : Command) × IsCommandForm words command × P command
 
 -- the answer has this status, and its text was put
 abbrev pub Prints : List (List ℕ) → Outside → Outside → Status → Type 0

@@ -4,7 +4,7 @@ use Rattle.std.specs.Io.KnownBytes.{Appends}
 use Rattle.sm_io.specs.Causes.{Quiet}
 use Rattle.sm_io.specs.Files.{Folder}
 use Rattle.sm_commands.specs.Outside.{Outside}
-use Rattle.sm_commands.specs.Commands.{Command, IsForm, touches_input}
+use Rattle.sm_commands.specs.Commands.{Command, IsCommandForm, touches_input}
 use Rattle.sm_commands.specs.Run.{Prints, RunEnds}
 use Rattle.sm_commands.specs.declared.command.Status.{Status}
 use Rattle.sm_commands.specs.declared.command.Status.TheVariants.{Done, Refused, Usage, ReadFault, WriteFault, NoMemory, Limit}
@@ -45,10 +45,10 @@ pub record IsQuiet (before after : Outside) : Type 0 where
 -- there needn't be said: to read one that isn't raises the count
 abbrev pub QuietRunAnswers : Type 0
 QuietRunAnswers = (words : List (List ℕ)) (command : Command) (before after : Outside) (status : Status)
-    → IsForm words command → IsQuiet before after → RunEnds words before after status
+    → IsCommandForm words command → IsQuiet before after → RunEnds words before after status
     → Prints words before after status ⊎ (status ≡ NoMemory)
 
 -- a law: a run of a command that doesn't touch the input leaves it as it was
 abbrev pub KeepsInput : Type 0
 KeepsInput = (words : List (List ℕ)) (command : Command) (before after : Outside) (status : Status)
-    → IsForm words command → touches_input command ≡ false → RunEnds words before after status → after.input ≡ before.input
+    → IsCommandForm words command → touches_input command ≡ false → RunEnds words before after status → after.input ≡ before.input

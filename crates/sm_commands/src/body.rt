@@ -14,7 +14,7 @@ ghost use Rattle.sm_io.specs.Seen.{files_seen, stream};
 ghost use Rattle.sm_commands.specs.Commands.{body_command};
 ghost use Rattle.sm_commands.specs.Convention.{json};
 ghost use Rattle.sm_commands.specs.Body.{TextAnswers};
-ghost use Rattle.sm_commands.specs.steps.CommandSteps.{StepComesTo, EndsWithLine, ComesTo};
+ghost use Rattle.sm_commands.specs.steps.CommandSteps.{StepComesTo, EndsWithLine, CommandComesTo};
 ghost use Rattle.sm_commands.specs.steps.BodySteps.{TreeAnswers, InputComesTo};
 
 use crate::codec::{Refusal, decode, encode};
@@ -141,7 +141,7 @@ pub(crate) fn body<F: Files, S: Source>(
     input: &mut S,
 ) -> Result<Vec<u8>, Stop>
     requires { F.lets_read files.old words.model.now }
-    ensures comes { ComesTo
+    ensures comes { CommandComesTo
         (files_seen (F.held files.old) (F.read_faults files.old))
         (files_seen (F.held files.new) (F.read_faults files.new))
         (stream (S.left input.old) (S.faults input.old))

@@ -7,7 +7,7 @@ ghost use Rattle.sm_commands.specs.Outside.{outside};
 ghost use Rattle.sm_commands.specs.Commands.{LetsRead, reads};
 ghost use Rattle.sm_commands.specs.Run.{code_of, RunAnswers, KeepsFiles};
 ghost use Rattle.sm_commands.specs.steps.Asked.{command_of};
-ghost use Rattle.sm_commands.specs.steps.CommandSteps.{ComesTo, PutEnds, PrintsResult};
+ghost use Rattle.sm_commands.specs.steps.CommandSteps.{CommandComesTo, PutEnds, PrintsResult};
 
 use crate::body::body;
 use crate::convert::convert;
@@ -62,7 +62,7 @@ fn come_to<F: Files, S: Source>(
     input: &mut S,
 ) -> Result<Vec<u8>, Stop>
     requires { (name : List ℕ) → Contains (reads (command_of form)) name → F.lets_read files.old name }
-    ensures comes { ComesTo
+    ensures comes { CommandComesTo
         (files_seen (F.held files.old) (F.read_faults files.old))
         (files_seen (F.held files.new) (F.read_faults files.new))
         (stream (S.left input.old) (S.faults input.old))

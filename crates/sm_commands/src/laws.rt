@@ -1,11 +1,11 @@
 // What holds of all commands and of all runs of the program. These calls do nothing.
-ghost use Rattle.sm_commands.specs.Commands.{OneForm};
+ghost use Rattle.sm_commands.specs.Commands.{OneCommandForm};
 ghost use Rattle.sm_commands.specs.Says.{OneAnswer, SomeAnswer, InputReached};
 ghost use Rattle.sm_commands.specs.RunLaws.{OneRunAnswer, QuietRunAnswers, KeepsInput};
 
 /// Words have the form of one command at most.
 pub fn one_form()
-    ensures { OneForm }
+    ensures { OneCommandForm }
 {}
 
 /// The files and the input determine what a command comes to. So they and the words determine the status and what is

@@ -1,6 +1,6 @@
 // The words of a command, and the forms that they may have.
 ghost use Rattle.std.specs.Prelude.{◌≡◌, ◌↔◌, List, ℕ, [], ◌∷◌, ◌++◌, IsTrue, MatchOption};
-ghost use Rattle.sm_commands.specs.Commands.{IsForm, IsNoForm, body_command, convert_command};
+ghost use Rattle.sm_commands.specs.Commands.{IsCommandForm, IsNoForm, body_command, convert_command};
 ghost use Rattle.sm_commands.specs.steps.Asked.{command_of};
 
 use sm_tree::Text;
@@ -34,7 +34,7 @@ pub enum Form<'a> {
 
 /// What the words ask for; `None` where they have none of the forms.
 pub(crate) fn form_of(words: &[Text]) -> Option<Form<'_>>
-    ensures { MatchOption result (IsNoForm words.now) (λ form. IsForm words.now (command_of form)) }
+    ensures { MatchOption result (IsNoForm words.now) (λ form. IsCommandForm words.now (command_of form)) }
 {
     match body_words(words) {
         Some(words) => Some(Form::Body(words)),
@@ -48,8 +48,8 @@ pub(crate) fn form_of(words: &[Text]) -> Option<Form<'_>>
 // The words of `body`, where they have its form.
 fn body_words(words: &[Text]) -> Option<BodyWords<'_>>
     ensures { MatchOption result
-        ((model shape : List ℕ) → IsForm words.now (body_command model shape) → ⊥)
-        (λ form. IsForm words.now (body_command form.model.now form.shape.now)) }
+        ((model shape : List ℕ) → IsCommandForm words.now (body_command model shape) → ⊥)
+        (λ form. IsCommandForm words.now (body_command form.model.now form.shape.now)) }
 {
     if words.len() != 5 {
         return None;
@@ -72,8 +72,8 @@ fn body_words(words: &[Text]) -> Option<BodyWords<'_>>
 // The words of `convert`, where they have its form.
 fn convert_words(words: &[Text]) -> Option<ConvertWords<'_>>
     ensures { MatchOption result
-        ((first : List ℕ) (others : List (List ℕ)) → IsForm words.now (convert_command first others) → ⊥)
-        (λ form. IsForm words.now (convert_command form.first.now form.others.now)) }
+        ((first : List ℕ) (others : List (List ℕ)) → IsCommandForm words.now (convert_command first others) → ⊥)
+        (λ form. IsCommandForm words.now (convert_command form.first.now form.others.now)) }
 {
     let Some((command, rest)) = first_and_rest(words) else {
         return None;

@@ -40,8 +40,8 @@ EndsWithLimit line ReadFault = ⊥
 EndsWithLimit line NoMemory = Unit {0}
 
 -- what a whole command comes to
-abbrev pub ComesTo : FilesSeen → FilesSeen → Stream → Stream → Command → Result (Vec ℕ) Stop → Type 0
-ComesTo files files1 input rest command result =
+abbrev pub CommandComesTo : FilesSeen → FilesSeen → Stream → Stream → Command → Result (Vec ℕ) Stop → Type 0
+CommandComesTo files files1 input rest command result =
     StepComesTo (Answers files input rest command) (ReadFails files files1 input rest command) (StopsShort files input rest command) result
 
 -- the text was put, and the status is this one; or the output failed, or memory ran out
