@@ -146,10 +146,7 @@ fn main(rt: HostRuntime) -> anyhow::Result<ExitCode> {
             "{}",
             events_of(alloc, text, usize::MAX, turns)?
         )?,
-        Command::ItemPieces(turns) => println!(rt;
-            "{}",
-            events_of(alloc, text, PIECE, turns)?
-        )?,
+        Command::ItemPieces(turns) => println!(rt; "{}", events_of(alloc, text, PIECE, turns)?)?,
     }
     Ok(ExitCode::SUCCESS)
 }
