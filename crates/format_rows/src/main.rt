@@ -23,9 +23,9 @@ use std::io;
 
 // The answers of formats.
 #[derive(Drop)]
-struct Formats;
+struct FormatPlayer;
 
-impl Player for Formats {
+impl Player for FormatPlayer {
     fn play(&mut self, alloc: Global, case: &str, out: &mut String) -> Result<(), NoMemory> {
         out.push_str(" => ")?;
         answer_to(alloc, case, out)
@@ -34,7 +34,7 @@ impl Player for Formats {
 
 fn main(rt: HostRuntime) -> anyhow::Result<()> {
     let rows = io::read_to_string(rt.alloc(), rt.stdin())?;
-    match played(rt.alloc(), &mut Formats, &rows) {
+    match played(rt.alloc(), &mut FormatPlayer, &rows) {
         Ok(out) => print!(rt; "{out}")?,
         Err(NoMemory) => anyhow::bail!("out of memory"),
     }
