@@ -1,7 +1,7 @@
 -- From the mask of a vector's lanes to bytes that need no escape.
 use Rattle.std.proofs.Common.{◌≡◌, ℕ, zero, suc, ◌+◌, ◌-◌, ◌%◌, ◌^◌, ◌≤◌, ltb, eqb, Bool, true, false, cond, ◌==◌, List, [], ◌∷◌, ◌++◌, length, drop, get_or, map, replicate, bit_or, Fits, w8, refl, sym, ap, ap₂, ◌∙◌, arith, get_or-take, get_or-drop}
-use Rattle.std.proofs.lemmas.Bool.{agree_below_at, not-true, eqb-true}
-use Rattle.std.proofs.lemmas.Simd.{length-chunk, leading_from_mask_l, chunk-fits, zip2_splat, mask_l-mod}
+use Rattle.std.proofs.lemmas.Bool.{agree_below, agree_below_at, not-true, eqb-true}
+use Rattle.std.proofs.lemmas.Simd.{length-chunk, leading_from_mask_l, chunk-fits, zip2_splat, zip2_of_maps, mask_l-mod}
 use Rattle.std.proofs.lemmas.List.{length-map}
 use Rattle.std.proofs.lemmas.List.Sums.{prefix_len-le-length}
 use Rattle.std.specs.Bool.{OnTrue}
@@ -12,7 +12,7 @@ use Rattle.sm_json.specs.Written.{written_bytes}
 use Rattle.sm_json.proofs.PlainRuns.{unescaped_byte}
 
 -- what a comparison of two lanes leaves in the mask's lane
-abbrev equal_lane : ℕ → ℕ → ℕ
+abbrev pub equal_lane : ℕ → ℕ → ℕ
 equal_lane a b = cond (eqb a b) 255 0
 
 abbrev below_lane : ℕ → ℕ → ℕ
@@ -21,24 +21,22 @@ below_lane a b = cond (ltb a b) 255 0
 abbrev escape_lane : ℕ → ℕ
 escape_lane x = bit_or (below_lane x 32) (bit_or (equal_lane x 34) (equal_lane x 92))
 
-zip2-map : (f g : ℕ → ℕ) (xs : List ℕ) → zip2 bit_or (map f xs) (map g xs) ≡ map (λ x. bit_or (f x) (g x)) xs
-zip2-map f g [] = refl
-zip2-map f g (x ∷ xs) = ap (λ r. bit_or (f x) (g x) ∷ r) (zip2-map f g xs)
+-- two vectors that were computed lane by lane from v, joined by `|`
+pub either_lane : (f g : ℕ → ℕ) (v : List ℕ) {a b : List ℕ} → a ≡ map f v → b ≡ map g v → zip2 bit_or a b ≡ map (λ x. bit_or (f x) (g x)) v
+either_lane f g v p q = zip2_of_maps bit_or f g v p q
 
-either_lane : (f g : ℕ → ℕ) (v : List ℕ) {a b : List ℕ} → a ≡ map f v → b ≡ map g v → zip2 bit_or a b ≡ map (λ x. bit_or (f x) (g x)) v
-either_lane f g v p q = ap₂ (zip2 bit_or) p q ∙ zip2-map f g v
+each_lane : (lane : ℕ → ℕ) (p : ℕ → Bool) → agree_below (λ x. top 7 (lane x)) p 256 ≡ true → (v : List ℕ) → Each1 (Fits w8) v
+    → map (top 7) (map lane v) ≡ map p v
+each_lane lane p all [] fits = refl
+each_lane lane p all (x ∷ xs) fits = ap₂ (λ (a : Bool) (b : List Bool). a ∷ b)
+    (agree_below_at (λ y. top 7 (lane y)) p 256 x all fits.0.fits) (each_lane lane p all xs fits.1)
 
-each_lane : (v : List ℕ) → Each1 (Fits w8) v → map (top 7) (map escape_lane v) ≡ map is_escaped v
-each_lane [] fits = refl
-each_lane (x ∷ xs) fits = ap₂ (λ (a : Bool) (b : List Bool). a ∷ b)
-    (agree_below_at (λ y. top 7 (escape_lane y)) is_escaped 256 x refl fits.0.fits) (each_lane xs fits.1)
-
--- the mask has the bits of the bytes that are escaped
-escape_mask : (v z : List ℕ) → length v ≤ 64 → Each1 (Fits w8) v → z ≡ map escape_lane v
-    → mask_l (map (top 7) z) % 2 ^ 64 ≡ mask_l (map is_escaped v)
-escape_mask v z short fits e =
-    ap (λ l. mask_l l % 2 ^ 64) (ap (map (top 7)) e ∙ each_lane v fits)
-    ∙ mask_l-mod (map is_escaped v) 64 (omega (arith, length-map v is_escaped))
+-- the mask has the bits of the bytes that pass the test
+pub lanes_mask : (lane : ℕ → ℕ) (p : ℕ → Bool) → agree_below (λ x. top 7 (lane x)) p 256 ≡ true → (v z : List ℕ) → length v ≤ 64
+    → Each1 (Fits w8) v → z ≡ map lane v → mask_l (map (top 7) z) % 2 ^ 64 ≡ mask_l (map p v)
+lanes_mask lane p all v z short fits e =
+    ap (λ l. mask_l l % 2 ^ 64) (ap (map (top 7)) e ∙ each_lane lane p all v fits)
+    ∙ mask_l-mod (map p v) 64 (omega (arith, length-map v p))
 
 all_of_run : (p : Bool) (n l : ℕ) → n ≤ l → cond p (1 + n) 0 ≡ suc l → (p ≡ true) × (n ≡ l)
 all_of_run true n l h e = (refl, omega arith)
@@ -70,7 +68,7 @@ pub plain_from_lanes : (bs : List ℕ) (i n : ℕ) → i + n ≤ length bs → n
 plain_from_lanes bs i n room few fits =
     let v = chunk i n bs in
     let long = length-chunk i n bs room in
-    let mask = escape_mask v _ (omega arith) (chunk-fits w8 i n bs fits)
+    let mask = lanes_mask escape_lane is_escaped refl v _ (omega arith) (chunk-fits w8 i n bs fits)
     (either_lane _ _ v (zip2_splat below_lane v n 32 long)
     (either_lane _ _ v (zip2_splat equal_lane v n 34 long) (zip2_splat equal_lane v n 92 long))) in
     on_true _ _ (λ e. plain_from_mask bs i n room (sym mask ∙ eqb-true _ 0 e))

@@ -34,6 +34,7 @@ pub mod EventWriter
 pub mod PlainRuns
 pub mod Placed
 pub mod Lanes
+pub mod LaneRuns
 pub mod OneString
 pub mod OneTree
 pub mod SpeltTrees

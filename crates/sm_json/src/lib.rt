@@ -1,6 +1,7 @@
 // JSON (RFC 8259): a reader from bytes to trees, and a writer from trees to bytes.
 #![tactic(auto)]
 
+mod ascii_run;
 mod byte_form;
 mod escape;
 pub mod laws;

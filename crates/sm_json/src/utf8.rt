@@ -7,23 +7,9 @@ ghost use Rattle.sm_bytes.specs.Utf8.{IsTail};
 ghost use Rattle.sm_json.specs.steps.TextSteps.{CodeEnd, IsPartLive, StepsTo, PartSteps, StringSteps};
 ghost use Rattle.sm_json.specs.steps.StringRuns.{IsPlainRun};
 
-use crate::byte_form::Unescaped;
+use crate::ascii_run::{UnescapedAscii, ascii_run_len};
 use crate::spot::{Part, Step};
-use sm_bytes::{ByteClass, is_lead, is_second, is_tail, run_len};
-
-// The characters of one byte that stand for themselves in a string.
-struct UnescapedAscii;
-
-impl ByteClass for UnescapedAscii {
-    ghost use Rattle.sm_json.specs.steps.StringRuns.{is_unescaped_ascii};
-
-    ghost holds = { is_unescaped_ascii };
-
-    #[inline(always)]
-    fn has(byte: u8) -> bool {
-        byte < 0x80 && Unescaped::has(byte)
-    }
-}
+use sm_bytes::{ByteClass, is_lead, is_second, is_tail};
 
 /// Whether two bytes may stand behind the first two.
 fn are_tails(z: u8, w: u8) -> bool
@@ -124,7 +110,7 @@ fn ascii_len(bytes: &[u8]) -> usize
     ensures within { result ≤ length bytes.now }
     ensures run { IsPlainRun (take result bytes.now) }
 {
-    run_len::<UnescapedAscii>(bytes)
+    ascii_run_len(bytes)
 }
 
 /// Whether two bytes are a character.

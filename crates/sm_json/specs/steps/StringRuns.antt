@@ -1,5 +1,5 @@
 -- Runs of a string that are taken at once, and what the text reader answers.
-use Rattle.std.specs.Prelude.{◌≡◌, ◌↔◌, ℕ, Bool, nat_lt, ◌&&◌, List, [], ◌∷◌, ◌++◌, encode_utf8_all}
+use Rattle.std.specs.Prelude.{◌≡◌, ◌↔◌, ℕ, Bool, nat_lt, not, ◌&&◌, List, [], ◌∷◌, ◌++◌, encode_utf8_all}
 use Rattle.std.specs.Char.{IsScalar}
 use Rattle.sm_json.specs.declared.spot.Spot.{Spot}
 use Rattle.sm_json.specs.Strings.{IsUnescaped}
@@ -17,6 +17,10 @@ IsPlainRun bs = (cs : List ℕ) × AreUnescaped cs × (encode_utf8_all cs ≡ bs
 -- a character of one byte that stands for itself
 abbrev pub is_unescaped_ascii : ℕ → Bool
 is_unescaped_ascii b = nat_lt b 0x80 && is_unescaped b
+
+-- a byte at which a run of such characters ends
+abbrev pub ends_ascii_run : ℕ → Bool
+ends_ascii_run b = not (is_unescaped_ascii b)
 
 -- from one spot and text to another over these bytes: what may still come is the same
 abbrev pub StringTakes : Spot → List ℕ → Spot → List ℕ → List ℕ → Type 0
