@@ -3,23 +3,24 @@
 use Rattle.std.specs.Prelude.{Bool, IsTrue, ◌↔◌}
 use Rattle.std.proofs.Common.{true, false, Option, Ok, Err, ◌≡◌, ℕ, ◌+◌, ◌≤◌, List, [], ◌∷◌, ◌++◌, Some, None, refl, sym, ap, subst, ◌∙◌, arith, length, take, append-nil, length-append}
 use Rattle.std.proofs.Math.Seq.{take-append_seam, take-append-add, drop-append_seam}
-use Rattle.std.proofs.lemmas.List.{take-append-le}
 use Rattle.sm_tree.specs.Node.{Node, null}
 use Rattle.sm_tree.specs.Levels.{levels}
 use Rattle.sm_tree.specs.Events.{NodeEvent, null_event, events}
 use Rattle.sm_tree.specs.Streams.{Streams, StandsFor, Takes, TakesEvery, BeginsStream}
 use Rattle.sm_tree.specs.Timing.{TimedEvent, by_byte, by_end, untimed, HandsOn, Follows, Completes, CompletesAll}
-use Rattle.sm_tree.specs.Syntax.{most_levels, IsRefused, Begins, BeginsRead}
+use Rattle.sm_tree.specs.Syntax.{most_levels, IsRefused}
+use Rattle.sm_tree.specs.ReaderClauses.{TakesBeside, StaysRefused}
 use Rattle.sm_tree.specs.Refusal.{moved_by, IsWithin}
 use Rattle.sm_tree.specs.declared.refusal.SyntaxRefusal.{SyntaxRefusal}
 use Rattle.sm_tree.specs.declared.refusal.SyntaxRefusal.TheVariants.{Bad, Ended, TooDeep, KeyKind, NoMemory}
 use Rattle.sm_tree.proofs.Handing.{begins_before}
+use Rattle.sm_tree.proofs.LongerBytes.{refused_longer}
 use Rattle.sm_tree.proofs.Streams.{events_stream}
 use Rattle.sm_json.specs.JsonText.{JsonText, json_syntax}
 use Rattle.sm_json.specs.Timing.{json_timing}
 use Rattle.sm_json.specs.steps.Rest.{JsonState, json_start, JsonLeads, JsonGoesOn}
 use Rattle.sm_json.specs.steps.Machine.{json_state, JsonIsSound, JsonIsPlaced, JsonGoes, JsonBrings, JsonBringsTo, HaltsAt, DeepensAt, JsonTakesAll, JsonEndsText, JsonMayEnd}
-use Rattle.sm_json.specs.Stands.{first_of, JsonHasRead, HasCome, JsonHasCome, JsonStands, refusal_of, JsonFeeds, StaysRefused, FollowsAll, JsonFlushes, JsonEndsWith, TakesStill, StandingCompletes}
+use Rattle.sm_json.specs.Stands.{first_of, JsonHasRead, HasCome, JsonHasCome, JsonStands, refusal_of, JsonFeeds, FollowsAll, JsonFlushes, JsonEndsWith, StandingCompletes}
 use Rattle.sm_json.specs.declared.read.Reader.{Reader}
 use Rattle.sm_json.specs.declared.pieces.JsonReader.{JsonReader}
 use Rattle.sm_json.proofs.Onward.{reader_goes_on, halts_then, deepens_then}
@@ -179,49 +180,26 @@ piece_refused j k q piece S T takes (KeyKind p) fresh refused same h = absurd h
 piece_refused j k q piece S T takes NoMemory fresh refused same h = refused
 
 pub takes_refused : (r q : Reader) (piece : List ℕ) (S T : StandsFor) (before takes : Takes) (by : ℕ) (refusal : SyntaxRefusal)
-    → JsonTakesAll r S piece q T takes (Err refusal) → TakesStill before takes (Err (moved_by by refusal))
+    → JsonTakesAll r S piece q T takes (Err refusal) → TakesBeside before takes (moved_by by refusal)
 takes_refused r q piece S T before takes by (Bad p) h = λ e g. h.1.fed.takes_all e
 takes_refused r q piece S T before takes by Ended h = absurd h
 takes_refused r q piece S T before takes by (TooDeep p) h = λ e g. h.1.fed.takes_all e
 takes_refused r q piece S T before takes by (KeyKind p) h = absurd h
 takes_refused r q piece S T before takes by NoMemory h = tt
 
--- what is refused at a place is refused in longer bytes
-begins_longer : (bs more : List ℕ) (n : ℕ) → n ≤ length bs → take n bs ≡ take n (bs ++ more)
-begins_longer bs more n inside = sym (take-append-le n bs more inside)
-
-bad_longer : (bs more : List ℕ) (p : ℕ) → IsRefused json_syntax bs (Bad p) → IsRefused json_syntax (bs ++ more) (Bad p)
-bad_longer bs more p h =
-    let inside = h.bad.inside in record {
-      bad = record {
-        inside = omega (arith, inside, length-append bs more);
-        before = subst (BeginsRead JsonText) (begins_longer bs more p (omega (arith, inside))) h.bad.before;
-        behind = λ g. h.bad.behind (subst (Begins JsonText) (sym (begins_longer bs more (p + 1) (omega (arith, inside)))) g);
-      };
-      no_key_kind = λ key. key.key;
-    }
-
-deep_longer : (bs more : List ℕ) (p : ℕ) → IsRefused json_syntax bs (TooDeep p) → IsRefused json_syntax (bs ++ more) (TooDeep p)
-deep_longer bs more p h =
-    let inside = h.inside in record {
-      inside = omega (arith, inside, length-append bs more);
-      before = subst (BeginsRead JsonText) (begins_longer bs more p (omega (arith, inside))) h.before;
-      goes_on = subst (Begins JsonText) (begins_longer bs more (p + 1) (omega (arith, inside))) h.goes_on;
-      too_deep = λ g. h.too_deep (subst (BeginsRead JsonText) (sym (begins_longer bs more (p + 1) (omega (arith, inside)))) g);
-    }
-
-stays_at : (o : Option SyntaxRefusal) (j : JsonReader) (piece : List ℕ) → j.refused ≡ o → StaysRefused o j piece
+-- what was refused at a place is refused so in longer bytes
+stays_at : (o : Option SyntaxRefusal) (j : JsonReader) (piece : List ℕ) → j.refused ≡ o → StaysRefused JsonStands o j piece
 stays_at None j piece is = tt
 stays_at (Some NoMemory) j piece is = tt
 stays_at (Some Ended) j piece is = tt
 stays_at (Some (Bad p)) j piece is = λ bytes (open_still, come).
-    (open_still, refused_come j (bytes ++ piece) (Bad p) is (bad_longer bytes piece p (subst (λ r. HasCome r j bytes) is come)))
+    (open_still, refused_come j (bytes ++ piece) (Bad p) is (refused_longer json_syntax bytes piece (Bad p) (λ e. cc) (subst (λ r. HasCome r j bytes) is come)))
 stays_at (Some (TooDeep p)) j piece is = λ bytes (open_still, come).
-    (open_still, refused_come j (bytes ++ piece) (TooDeep p) is (deep_longer bytes piece p (subst (λ r. HasCome r j bytes) is come)))
+    (open_still, refused_come j (bytes ++ piece) (TooDeep p) is (refused_longer json_syntax bytes piece (TooDeep p) (λ e. cc) (subst (λ r. HasCome r j bytes) is come)))
 stays_at (Some (KeyKind p)) j piece is = λ bytes (open_still, come).
     let refused : IsRefused json_syntax bytes (KeyKind p) = subst (λ r. HasCome r j bytes) is come in absurd refused.key
 
-pub stays_refused : (j : JsonReader) (piece : List ℕ) → StaysRefused (refusal_of j) j piece
+pub stays_refused : (j : JsonReader) (piece : List ℕ) → StaysRefused JsonStands (refusal_of j) j piece
 stays_refused j piece = stays_at j.refused j piece refl
 
 -- the end of the bytes
@@ -255,7 +233,7 @@ ends_again j bytes (TooDeep p) is come = subst (λ r. HasCome r j bytes) is come
 ends_again j bytes (KeyKind p) is come = subst (λ r. HasCome r j bytes) is come
 ends_again j bytes NoMemory is come = is
 
-pub takes_again : (takes : Takes) (refusal : SyntaxRefusal) → TakesStill takes takes (Err refusal)
+pub takes_again : (takes : Takes) (refusal : SyntaxRefusal) → TakesBeside takes takes refusal
 takes_again takes (Bad p) = λ e g. g
 takes_again takes Ended = λ e g. g
 takes_again takes (TooDeep p) = λ e g. g

@@ -2,7 +2,7 @@
 use Rattle.std.specs.Prelude.{cond, ◌≡◌, ℕ, true, false, List, [], ◌∷◌, ◌++◌, length, take, Option, None, Some, Result, Ok, Err}
 use Rattle.sm_tree.specs.Node.{Node}
 use Rattle.sm_tree.specs.Events.{NodeEvent}
-use Rattle.sm_tree.specs.Streams.{StandsFor, Streams, Takes, TakesSame}
+use Rattle.sm_tree.specs.Streams.{StandsFor, Streams}
 use Rattle.sm_tree.specs.Timing.{Completes, CompletesAll, Follows}
 use Rattle.sm_tree.specs.Syntax.{IsRead, IsUnread, IsRefused}
 use Rattle.sm_tree.specs.declared.refusal.SyntaxRefusal.{SyntaxRefusal}
@@ -81,15 +81,6 @@ JsonFeeds S before piece T behind (Err (Bad at)) = RefusesWith S before piece T 
 JsonFeeds S before piece T behind (Err (TooDeep at)) = RefusesWith S before piece T behind at (TooDeep at)
 JsonFeeds S before piece T behind (Err (KeyKind at)) = ⊥
 
--- bytes that are refused at a place are refused so with any more behind them
-abbrev pub StaysRefused : Option SyntaxRefusal → JsonReader → List ℕ → Type 0
-StaysRefused None r piece = Unit {0}
-StaysRefused (Some NoMemory) r piece = Unit {0}
-StaysRefused (Some Ended) r piece = Unit {0}
-StaysRefused (Some (Bad at)) r piece = (bytes : List ℕ) → JsonStands r bytes → JsonStands r (bytes ++ piece)
-StaysRefused (Some (TooDeep at)) r piece = (bytes : List ℕ) → JsonStands r bytes → JsonStands r (bytes ++ piece)
-StaysRefused (Some (KeyKind at)) r piece = (bytes : List ℕ) → JsonStands r bytes → JsonStands r (bytes ++ piece)
-
 -- what stands for all the events of the text that the bytes are, and where they are none, for those that they complete
 abbrev pub FollowsAll : StandsFor → List ℕ → Type 0
 FollowsAll S bytes =
@@ -115,15 +106,6 @@ JsonEndsWith r bytes (Err Ended) = IsRefused json_syntax bytes Ended
 JsonEndsWith r bytes (Err (Bad at)) = IsRefused json_syntax bytes (Bad at)
 JsonEndsWith r bytes (Err (TooDeep at)) = IsRefused json_syntax bytes (TooDeep at)
 JsonEndsWith r bytes (Err (KeyKind at)) = IsRefused json_syntax bytes (KeyKind at)
-
--- the sink takes what it took, unless memory ran out
-abbrev pub TakesStill : Takes → Takes → Result (Unit {0}) SyntaxRefusal → Type 0
-TakesStill T U (Ok x) = TakesSame T U
-TakesStill T U (Err NoMemory) = Unit {0}
-TakesStill T U (Err Ended) = TakesSame T U
-TakesStill T U (Err (Bad at)) = TakesSame T U
-TakesStill T U (Err (TooDeep at)) = TakesSame T U
-TakesStill T U (Err (KeyKind at)) = TakesSame T U
 
 -- whatever has come and wasn't refused completes some events
 abbrev pub StandingCompletes : Type 0

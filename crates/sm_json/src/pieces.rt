@@ -4,8 +4,9 @@ ghost use Rattle.std.specs.Prelude.{◌≡◌, ◌∷◌, ◌↔◌, IsTrue, IfS
 ghost use Rattle.sm_tree.specs.Streams.{TakesEvery};
 ghost use Rattle.sm_tree.specs.Events.{null_event};
 ghost use Rattle.sm_tree.specs.Timing.{Follows, Completes};
+ghost use Rattle.sm_tree.specs.ReaderClauses.{TakesStill, StaysRefused};
 ghost use Rattle.sm_json.specs.Timing.{json_timing};
-ghost use Rattle.sm_json.specs.Stands.{first_black, first_of, refusal_of, JsonHasCome, JsonStands, MayFeed, JsonFeeds, StaysRefused, JsonFlushes, JsonEndsWith, TakesStill};
+ghost use Rattle.sm_json.specs.Stands.{first_black, first_of, refusal_of, JsonHasCome, JsonStands, MayFeed, JsonFeeds, JsonFlushes, JsonEndsWith};
 
 use crate::read::Reader;
 use crate::whitespace::Whitespace;
@@ -105,7 +106,7 @@ impl JsonReader {
         requires takes { TakesEvery (E.takes to.old) }
         ensures feeds { refusal_of self.old ≡ None → JsonFeeds (E.stands_for to.old) self.old piece.now (E.stands_for to.new) self.new result }
         ensures again { IfSome (refusal_of self.old) (λ refusal. (result ≡ Err refusal) × (self.new ≡ self.old) × (to.new ≡ to.old)) }
-        ensures longer { StaysRefused (refusal_of self.old) self.old piece.now }
+        ensures longer { StaysRefused JsonStands (refusal_of self.old) self.old piece.now }
         ensures takes { TakesStill (E.takes to.old) (E.takes to.new) result }
         ensures alike { E.alike to.old to.new }
     {
