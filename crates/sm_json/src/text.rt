@@ -123,6 +123,7 @@ impl TextReader {
         }
     }
 
+    #[inline(always)]
     fn take_byte(&mut self, byte: u8) -> Result<Taken, NoMemory>
         ensures { StringTakesByte self.old self.new byte result }
     {

@@ -124,6 +124,7 @@ impl Reader {
     }
 
     // A byte where a value must come.
+    #[inline(always)]
     fn value<E: EventSink>(&mut self, byte: u8, to: &mut E) -> Result<(), SyntaxRefusal>
         requires sound { JsonIsSound self.old }
         requires placed { JsonIsPlaced self.old (E.stands_for to.old) (E.takes to.old) }
