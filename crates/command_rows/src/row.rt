@@ -1,5 +1,6 @@
 // What a line of text says.
 use crate::given::{Asked, asked_by};
+use crate::large::Size;
 
 /// A row.
 #[derive(Debug, Clone, Copy)]
@@ -10,6 +11,8 @@ pub enum Row<'a> {
     Next(Asked),
     /// `file NAME TEXT`: from now on the name stands for a file of this text.
     File(&'a str, &'a str),
+    /// `model NAME SHAPES MEMBERS`: from now on the name stands for a file of a model of this size.
+    Model(&'a str, Size),
     /// `run WORDS < INPUT`: a run of these words, and its input. `run < INPUT` has no words.
     Run(Option<&'a str>, &'a str),
     /// Any other line.
@@ -24,6 +27,7 @@ impl<'a> Row<'a> {
         }
         match line.split_once(' ') {
             Some(("file", rest)) => Row::file(rest),
+            Some(("model", rest)) => Row::model(rest),
             Some(("pad", length)) => match length.parse::<usize>() {
                 Ok(length) => Row::Pad(length),
                 Err(_) => Row::Unknown,
@@ -55,6 +59,17 @@ impl<'a> Row<'a> {
     fn file(rest: &'a str) -> Self {
         match rest.split_once(' ') {
             Some((name, text)) => Row::File(name, text),
+            None => Row::Unknown,
+        }
+    }
+
+    // A row `model`, without this word.
+    fn model(rest: &'a str) -> Self {
+        match rest.split_once(' ') {
+            Some((name, size)) => match Size::of(size) {
+                Some(size) => Row::Model(name, size),
+                None => Row::Unknown,
+            },
             None => Row::Unknown,
         }
     }

@@ -97,9 +97,17 @@ fn words_of(alloc: Global, row: Option<&str>) -> Result<Vec<Text>, NoMemory> {
     Ok(words)
 }
 
-// Appends a blank and what was put, if anything.
+/// The greatest length of what was put that comes out as it is, in bytes.
+const SHOWN: usize = 2_000;
+
+// Appends a blank and what was put, if anything; of a long text its length.
 fn show(alloc: Global, put: &[u8], out: &mut String) -> Result<(), NoMemory> {
     if put.is_empty() {
+        return Ok(());
+    }
+    if put.len() > SHOWN {
+        let length = put.len();
+        out.push_str(format!(in alloc; " {length} bytes")?.as_str())?;
         return Ok(());
     }
     match std::str::from_utf8(put) {
@@ -118,6 +126,7 @@ impl Player for Shelf {
             Row::Pad(length) => self.pad(length),
             Row::Next(asked) => self.ask(asked),
             Row::File(name, text) => self.keep(alloc, name, text)?,
+            Row::Model(name, size) => self.keep(alloc, name, size.model(alloc)?.as_str())?,
             Row::Run(words, input) => self.run(alloc, words, input, out)?,
             Row::Unknown => out.push_str(" => no row")?,
         }

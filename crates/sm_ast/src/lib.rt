@@ -14,6 +14,7 @@ mod refusal;
 mod statements;
 mod write;
 
+pub use prelude::is_in_prelude;
 pub use read::read_ast;
 pub use refusal::AstRefusal;
 pub use write::write_ast;

@@ -3,7 +3,7 @@ ghost use Rattle.std.specs.Prelude.{◌≡◌};
 ghost use Rattle.sm_ast.specs.PreludeIds.{is_one_of, is_prelude_id, number_prelude_ids, other_prelude_ids, simple_prelude_ids};
 
 /// Whether the id is that of a shape of the prelude. No memory.
-pub(crate) fn is_in_prelude(id: &str) -> bool
+pub fn is_in_prelude(id: &str) -> bool
     ensures { result ≡ is_prelude_id id.now }
 {
     is_simple(id) || is_number(id) || is_primitive_or_unit(id)

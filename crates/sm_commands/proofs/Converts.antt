@@ -1,5 +1,5 @@
 -- What the steps of the command `convert` come to, joined: the answers of src/convert.rt and src/files.rt cite it.
-use Rattle.std.proofs.Common.{◌≡◌, ◌<◌, ◌≤◌, ◌+◌, ℕ, inl, inr, List, ◌∷◌, Option, Some, None, Result, Ok, Err, length, sym, subst, refl, arith}
+use Rattle.std.proofs.Common.{◌≡◌, ◌<◌, ◌≤◌, ◌+◌, ℕ, inl, inr, List, [], ◌∷◌, Option, Some, None, Result, Ok, Err, length, sym, subst, refl, arith}
 use Rattle.std.specs.Global.{Vec}
 use Rattle.sm_io.specs.Causes.{Rose}
 use Rattle.sm_io.specs.Files.{Folder, Holds}
@@ -7,6 +7,7 @@ use Rattle.sm_io.specs.Seen.{FilesSeen, Stream}
 use Rattle.sm_tree.specs.Node.{Node}
 use Rattle.sm_tree.specs.View.{node_of}
 use Rattle.sm_tree.specs.declared.tree.Tree.{Tree}
+use Rattle.sm_model.specs.Graphs.{GraphMaps}
 use Rattle.sm_model.specs.Said.{Said}
 use Rattle.sm_ast.specs.Answers.{Tells}
 use Rattle.sm_ast.specs.Ast.{Ast}
@@ -14,16 +15,19 @@ use Rattle.sm_ast.specs.Faults.{AstFault, ast_fault}
 use Rattle.sm_ast.proofs.Judged.{some_is_none}
 use Rattle.sm_ast.specs.declared.refusal.AstRefusal.{AstRefusal}
 use Rattle.sm_ast.specs.declared.refusal.AstRefusal.TheVariants.{Version, Field, WrongType, BadId, NoMemory as no_room}
-use Rattle.sm_plain.specs.Plain.{ArePlain}
+use Rattle.sm_plain.specs.Plain.{ArePlain, plain_maps}
+use Rattle.sm_plain.specs.Limits.{IsFirstPast}
+use Rattle.sm_plain.specs.declared.limit.LimitKind.{LimitKind}
 use Rattle.sm_commands.specs.Answer.{Answer, past}
 use Rattle.sm_commands.specs.Answer.InputUse.{untouched}
 use Rattle.sm_commands.specs.Commands.{convert_command}
 use Rattle.sm_commands.specs.Limits.{files_limit, file_limit, bytes_limit}
-use Rattle.sm_commands.specs.Lines.{unbuilt_line, ast_line, files_limit_line, bytes_limit_line}
+use Rattle.sm_commands.specs.Lines.{unbuilt_line, ast_line, files_limit_line, bytes_limit_line, size_limit_line}
 use Rattle.sm_commands.specs.ModelFiles.{AllRead, PassesOne}
 use Rattle.sm_commands.specs.NoTree.{NoTree}
-use Rattle.sm_commands.specs.Convert.{StatementsSay, TreeSays, FileSays, ConvertSays}
-use Rattle.sm_commands.specs.Convert.StatementsSay.{not_plain, second_file}
+use Rattle.sm_commands.specs.Convert.{GraphSays, StatementsSay, TreeSays, FileSays, ConvertSays}
+use Rattle.sm_commands.specs.Convert.GraphSays.{too_large}
+use Rattle.sm_commands.specs.Convert.StatementsSay.{not_plain, second_file, graph}
 use Rattle.sm_commands.specs.Convert.TreeSays.{no_model, model}
 use Rattle.sm_commands.specs.Convert.FileSays.{no_tree, tree}
 use Rattle.sm_commands.specs.Convert.ConvertSays.{many_files, long_files, by_first}
@@ -142,6 +146,18 @@ first_comes files files1 files2 first file others result few held within same re
     comes_map (FileSays first others file) (ConvertSays files.held first others) ⊥ (Rose files.faults files2.faults) (Unit {0}) (Unit {0}) result
     (λ a says. by_first (omega (arith, few)) (record { bytes = file; held = held; within = within }, omega (arith, within), all) says)
     (λ x. absurd x) (λ x. x) h
+
+-- what the graph comes to
+pub limit_passed : (g : GraphMaps) (kind : LimitKind) (stop : Stop) → IsFirstPast kind g → EndsWithLimit (size_limit_line kind) stop
+    → StepStops (GraphSays g) ⊥ (Unit {0}) stop
+limit_passed g kind stop h ends = limit_stops (GraphSays g) ⊥ (Unit {0}) (size_limit_line kind) stop (too_large kind h refl) tt ends
+
+pub graph_comes : (name : List ℕ) (others : List (List ℕ)) (said : List Said) (g : GraphMaps) (result : Result (Vec ℕ) Stop)
+    → ArePlain said → others ≡ [] → g ≡ plain_maps said → StepComesTo (GraphSays g) ⊥ (Unit {0}) result
+    → StepComesTo (StatementsSay name others said) ⊥ (Unit {0}) result
+graph_comes name others said g result plain one is h =
+    comes_map (GraphSays g) (StatementsSay name others said) ⊥ ⊥ (Unit {0}) (Unit {0}) result
+    (λ a says. graph plain one (subst (λ m. GraphSays m a) is says)) (λ x. x) (λ x. x) h
 
 -- what the statements come to
 pub second_stops : (name : List ℕ) (others : List (List ℕ)) (said : List Said) (second : List ℕ) (more : List (List ℕ)) (stop : Stop)

@@ -1,21 +1,27 @@
 -- Files come to one answer of the command `convert`: at each decision two answers go the same way.
-use Rattle.std.proofs.Common.{◌≡◌, ◌<◌, ◌≤◌, ◌+◌, ℕ, inl, inr, List, [], ◌∷◌, Some, length, sym, ap, subst, ◌∙◌, arith}
+use Rattle.std.proofs.Common.{◌≡◌, ◌<◌, ◌≤◌, ◌+◌, ℕ, inl, inr, List, [], ◌∷◌, Some, length, refl, sym, ap, subst, ◌∙◌, arith}
 use Rattle.sm_io.specs.Files.{Folder}
 use Rattle.sm_tree.specs.Node.{Node}
 use Rattle.sm_json.proofs.OneTree.{one_tree}
+use Rattle.sm_model.specs.Graphs.{GraphMaps}
 use Rattle.sm_model.specs.Said.{Said}
 use Rattle.sm_ast.specs.Ast.{Ast}
 use Rattle.sm_ast.specs.Faults.{AstFault, ast_fault}
 use Rattle.sm_ast.proofs.FaultlessTop.{ast_passes}
 use Rattle.sm_ast.proofs.Judged.{some_is_none}
 use Rattle.sm_ast.proofs.OneReading.{one_reading}
+use Rattle.sm_plain.specs.Plain.{plain_maps}
+use Rattle.sm_plain.specs.Limits.{IsFirstPast, IsPastNone}
+use Rattle.sm_plain.specs.declared.limit.LimitKind.{LimitKind}
+use Rattle.sm_plain.specs.declared.limit.LimitKind.TheVariants.{Shapes, Members}
 use Rattle.sm_commands.specs.Limits.{bytes_limit}
-use Rattle.sm_commands.specs.Lines.{unbuilt_line, ast_line}
-use Rattle.sm_commands.specs.Answer.{Answer, Came, refused, came}
+use Rattle.sm_commands.specs.Lines.{unbuilt_line, ast_line, size_limit_line}
+use Rattle.sm_commands.specs.Answer.{Answer, Came, refused, past, came}
 use Rattle.sm_commands.specs.Answer.InputUse.{untouched}
 use Rattle.sm_commands.specs.Stages.{FileRead}
 use Rattle.sm_commands.specs.ModelFiles.{AllRead, PassesOne}
-use Rattle.sm_commands.specs.Convert.{StatementsSay, TreeSays, FileSays, ConvertSays}
+use Rattle.sm_commands.specs.Convert.{GraphSays, StatementsSay, TreeSays, FileSays, ConvertSays}
+use Rattle.sm_commands.specs.Convert.GraphSays.{too_large, not_too_large}
 use Rattle.sm_commands.specs.Convert.StatementsSay.{not_plain, second_file, graph}
 use Rattle.sm_commands.specs.Convert.TreeSays.{no_model, model}
 use Rattle.sm_commands.specs.Convert.FileSays.{no_tree, tree}
@@ -60,6 +66,23 @@ pass_apart folder before (name ∷ names) a (inr (inr (file1, within1, later1)))
     pass_apart folder (before + length file.bytes) names a
     (subst (λ x. PassesOne (Some folder) (before + length x) names a) (file_same folder name file1 file) later1) later
 
+-- a graph is past one limit first, and has one answer
+past_same : (g : GraphMaps) (j k : LimitKind) → IsFirstPast j g → IsFirstPast k g → j ≡ k
+past_same g Shapes Shapes h i = refl
+past_same g Shapes Members h i = absurd (i.0 h)
+past_same g Members Shapes h i = absurd (h.0 i)
+past_same g Members Members h i = refl
+
+past_apart : (g : GraphMaps) (kind : LimitKind) → IsFirstPast kind g → IsPastNone g → ⊥
+past_apart g Shapes h within = within.0 h
+past_apart g Members h within = within.1 h.1
+
+graph_same : (g : GraphMaps) (a b : Answer) → GraphSays g a → GraphSays g b → a ≡ b
+graph_same g a b (too_large j h is) (too_large k i is1) = is ∙ ap (λ x. past (size_limit_line x)) (past_same g j k h i) ∙ sym is1
+graph_same g a b (too_large j h is) (not_too_large within is1) = absurd (past_apart g j h within)
+graph_same g a b (not_too_large within is) (too_large k i is1) = absurd (past_apart g k i within)
+graph_same g a b (not_too_large within is) (not_too_large within1 is1) = is ∙ sym is1
+
 -- statements have one answer
 statements_same : (name : List ℕ) (others : List (List ℕ)) (said : List Said) (a b : Answer) → StatementsSay name others said a
     → StatementsSay name others said b → a ≡ b
@@ -73,7 +96,7 @@ statements_same name others said a b (second_file plain second more e is) (secon
 statements_same name others said a b (second_file plain second more e is) (graph plain1 e1 is1) = cc
 statements_same name others said a b (graph plain e is) (not_plain other is1) = absurd (other plain)
 statements_same name others said a b (graph plain e is) (second_file plain1 second more e1 is1) = cc
-statements_same name others said a b (graph plain e is) (graph plain1 e1 is1) = is ∙ sym is1
+statements_same name others said a b (graph plain e says) (graph plain1 e1 says1) = graph_same (plain_maps said) a b says says1
 
 -- a tree with a fault says nothing
 fault_apart : (n : Node) (fault : AstFault) (said : List Said) → ast_fault n ≡ Some fault → Ast said n → ⊥

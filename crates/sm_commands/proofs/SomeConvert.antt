@@ -6,18 +6,22 @@ use Rattle.sm_io.specs.Files.{Folder}
 use Rattle.sm_tree.specs.Node.{Node}
 use Rattle.sm_json.specs.JsonText.{JsonText}
 use Rattle.sm_json.proofs.SpeltTrees.{text_json}
+use Rattle.sm_model.specs.Graphs.{GraphMaps}
 use Rattle.sm_model.specs.Said.{Said}
 use Rattle.sm_ast.specs.Faults.{AstFault, ast_fault}
 use Rattle.sm_ast.specs.steps.Saying.{ast_said}
 use Rattle.sm_ast.proofs.SaidTop.{ast_holds}
 use Rattle.sm_plain.specs.Plain.{ArePlain, plain_maps}
+use Rattle.sm_plain.specs.Limits.{IsPast}
+use Rattle.sm_plain.specs.declared.limit.LimitKind.TheVariants.{Shapes, Members}
 use Rattle.sm_commands.specs.Limits.{files_limit, file_limit, bytes_limit}
-use Rattle.sm_commands.specs.Lines.{unbuilt_line, ast_line, files_limit_line, file_limit_line, bytes_limit_line}
+use Rattle.sm_commands.specs.Lines.{unbuilt_line, ast_line, files_limit_line, file_limit_line, bytes_limit_line, size_limit_line}
 use Rattle.sm_commands.specs.Answer.{Answer, Came, done, refused, past, came}
 use Rattle.sm_commands.specs.Answer.InputUse.{untouched}
 use Rattle.sm_commands.specs.Stages.{FileRead}
 use Rattle.sm_commands.specs.ModelFiles.{AllRead, PassesOne}
-use Rattle.sm_commands.specs.Convert.{StatementsSay, TreeSays, FileSays, ConvertSays, converted}
+use Rattle.sm_commands.specs.Convert.{GraphSays, StatementsSay, TreeSays, FileSays, ConvertSays, converted}
+use Rattle.sm_commands.specs.Convert.GraphSays.{too_large, not_too_large}
 use Rattle.sm_commands.specs.Convert.StatementsSay.{not_plain, second_file, graph}
 use Rattle.sm_commands.specs.Convert.TreeSays.{no_model, model}
 use Rattle.sm_commands.specs.Convert.FileSays.{no_tree, tree}
@@ -53,10 +57,15 @@ passed_or_read folder before (name ∷ names) there =
           (passed_or_read folder (before + length found.0) names (there_later folder name names there))
     ]
 
--- statements, a tree and bytes come to an answer
+-- a graph, statements, a tree and bytes come to an answer
+graph_answered : (g : GraphMaps) → ((a : Answer) → GraphSays g a → ⊥) → ⊥
+graph_answered g none =
+    let few : IsPast Shapes g → ⊥ = λ shapes. none (past (size_limit_line Shapes)) (too_large Shapes shapes refl) in
+    none (done (converted g)) (not_too_large (few, λ crowded. none (past (size_limit_line Members)) (too_large Members (few, crowded) refl)) refl)
+
 plain_answered : (name : List ℕ) (others : List (List ℕ)) (said : List Said) → ((a : Answer) → StatementsSay name others said a → ⊥)
     → ArePlain said → (rest : List (List ℕ)) → others ≡ rest → ⊥
-plain_answered name others said none plain [] e = none (done (converted (plain_maps said))) (graph plain e refl)
+plain_answered name others said none plain [] e = graph_answered (plain_maps said) (λ a says. none a (graph plain e says))
 plain_answered name others said none plain (second ∷ more) e = none (refused (unbuilt_line second)) (second_file plain second more e refl)
 
 statements_answered : (name : List ℕ) (others : List (List ℕ)) (said : List Said) → ((a : Answer) → StatementsSay name others said a → ⊥) → ⊥

@@ -1,5 +1,6 @@
 -- What the command `convert` comes to, over bytes alone. The decisions stand in their order: the number of files, their
--- lengths; then of the first file its text, its model, whether its statements are plain; whether there is another file.
+-- lengths; then of the first file its text, its model, whether its statements are plain; whether there is another file; the
+-- limits on the size of the graph.
 use Rattle.std.specs.Prelude.{◌≡◌, ◌<◌, ◌≤◌, ℕ, List, [], ◌∷◌, ◌++◌, Option, Some, length}
 use Rattle.sm_bytes.specs.Ascii.{line_feed}
 use Rattle.sm_io.specs.Files.{Folder}
@@ -13,9 +14,11 @@ use Rattle.sm_ast.specs.Ast.{Ast}
 use Rattle.sm_ast.specs.Faults.{AstFault, ast_fault}
 use Rattle.sm_ast.specs.Written.{written_ast}
 use Rattle.sm_plain.specs.Plain.{ArePlain, plain_maps}
+use Rattle.sm_plain.specs.Limits.{IsFirstPast, IsPastNone}
+use Rattle.sm_plain.specs.declared.limit.LimitKind.{LimitKind}
 use Rattle.sm_commands.specs.Answer.{Answer, done, refused, past}
 use Rattle.sm_commands.specs.Limits.{files_limit}
-use Rattle.sm_commands.specs.Lines.{unbuilt_line, ast_line, files_limit_line}
+use Rattle.sm_commands.specs.Lines.{unbuilt_line, ast_line, files_limit_line, size_limit_line}
 use Rattle.sm_commands.specs.ModelFiles.{AllRead, PassesOne}
 use Rattle.sm_commands.specs.NoTree.{NoTree}
 use Rattle.sm_commands.specs.Stages.{EndsInJson}
@@ -24,13 +27,18 @@ use Rattle.sm_commands.specs.Stages.{EndsInJson}
 abbrev pub converted : GraphMaps → List ℕ
 converted g = written (written_ast g) ++ line_feed ∷ []
 
+-- what a graph comes to: the first limit on its size that it is past, or its text
+pub data GraphSays (g : GraphMaps) (a : Answer) : Type 0 where
+  too_large : (kind : LimitKind) → IsFirstPast kind g → a ≡ past (size_limit_line kind) → GraphSays g a
+  not_too_large : IsPastNone g → a ≡ done (converted g) → GraphSays g a
+
 -- what statements come to that the file of this name says, with these files behind it. Files aren't merged yet: traits that are
 -- applied from outside, mixins and a second file are unbuilt
 pub data StatementsSay (name : List ℕ) (others : List (List ℕ)) (said : List Said) (a : Answer) : Type 0 where
   not_plain : (ArePlain said → ⊥) → a ≡ refused (unbuilt_line name) → StatementsSay name others said a
   second_file : ArePlain said → (second : List ℕ) → (more : List (List ℕ)) → others ≡ second ∷ more → a ≡ refused (unbuilt_line second)
       → StatementsSay name others said a
-  graph : ArePlain said → others ≡ [] → a ≡ done (converted (plain_maps said)) → StatementsSay name others said a
+  graph : ArePlain said → others ≡ [] → GraphSays (plain_maps said) a → StatementsSay name others said a
 
 -- what its tree comes to: its first fault as a model, or what its statements come to
 pub data TreeSays (name : List ℕ) (others : List (List ℕ)) (n : Node) (a : Answer) : Type 0 where

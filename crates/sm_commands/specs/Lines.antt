@@ -9,6 +9,8 @@ use Rattle.sm_tree.specs.declared.refusal.SyntaxRefusal.TheVariants.{Bad, Ended,
 use Rattle.sm_shapes.specs.FaultWords.{fault_word}
 use Rattle.sm_shapes.specs.declared.fault.FaultKind.{FaultKind}
 use Rattle.sm_ast.specs.Faults.{AstFault, version, field, wrong_type, bad_id}
+use Rattle.sm_plain.specs.Limits.{size_limit, size_limit_word}
+use Rattle.sm_plain.specs.declared.limit.LimitKind.{LimitKind}
 use Rattle.sm_commands.specs.Limits.{files_limit, file_limit, bytes_limit, body_limit}
 
 -- a word, a blank and a text
@@ -61,6 +63,10 @@ files_limit_line = limit_line (codes "files") files_limit
 
 abbrev pub bytes_limit_line : List ℕ
 bytes_limit_line = limit_line (codes "bytes") bytes_limit
+
+-- that of a limit on the size of a graph
+abbrev pub size_limit_line : LimitKind → List ℕ
+size_limit_line kind = limit_line (size_limit_word kind) (size_limit kind)
 
 abbrev pub file_limit_line : List ℕ
 file_limit_line = limit_line (codes "file") file_limit

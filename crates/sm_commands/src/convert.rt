@@ -11,20 +11,20 @@ ghost use Rattle.sm_ast.specs.Faults.{AstFault};
 ghost use Rattle.sm_ast.specs.Written.{written_ast};
 ghost use Rattle.sm_plain.specs.Plain.{AreSaid};
 ghost use Rattle.sm_commands.specs.Lines.{ast_line as the_ast_line};
-ghost use Rattle.sm_commands.specs.Convert.{StatementsSay, TreeSays, FileSays, converted};
+ghost use Rattle.sm_commands.specs.Convert.{GraphSays, StatementsSay, TreeSays, FileSays, converted};
 ghost use Rattle.sm_commands.specs.steps.CommandSteps.{StepComesTo, EndsWithLine};
 ghost use Rattle.sm_commands.specs.steps.ConvertSteps.{Converts};
 
 use crate::file::{open_file, tree_in};
 use crate::files::read_others;
-use crate::lines::{ast_line, limit_line, line};
+use crate::lines::{ast_line, limit_line, line, size_limit_line};
 use crate::stop::{Stop, past, refused};
 use crate::words::{ConvertWords, first_and_rest};
 use sm_ast::{AstRefusal, read_ast, write_ast};
 use sm_io::Files;
 use sm_json::write_tree;
 use sm_model::{Graph, Statement};
-use sm_plain::plain_graph;
+use sm_plain::{LimitKind, plain_graph};
 use sm_tree::{NoMemory, Text, Tree};
 use std::alloc::Global;
 
@@ -44,6 +44,20 @@ fn graph_text(alloc: Global, graph: &Graph) -> Result<Vec<u8>, NoMemory>
             Ok(text)
         }
         Err(NoMemory) => Err(NoMemory),
+    }
+}
+
+// What the graph of a model comes to.
+fn of_graph(alloc: Global, graph: &Graph) -> Result<Vec<u8>, Stop>
+    requires { IsJson (written_ast (maps_of graph.now)) }
+    ensures { StepComesTo (GraphSays (maps_of graph.now)) ⊥ (Unit {0}) result }
+{
+    match LimitKind::first_past(graph) {
+        Some(kind) => Err(past(size_limit_line(alloc, kind))),
+        None => match graph_text(alloc, graph) {
+            Ok(text) => Ok(text),
+            Err(NoMemory) => Err(Stop::NoMemory),
+        },
     }
 }
 
@@ -70,10 +84,7 @@ fn of_statements(
     match plain_graph(alloc, statements) {
         Ok(Some(graph)) => match second_of(others) {
             Some(second) => Err(refused(line(alloc, "Unbuilt", second.as_str()))),
-            None => match graph_text(alloc, &graph) {
-                Ok(text) => Ok(text),
-                Err(NoMemory) => Err(Stop::NoMemory),
-            },
+            None => of_graph(alloc, &graph),
         },
         Ok(None) => Err(refused(line(alloc, "Unbuilt", name))),
         Err(NoMemory) => Err(Stop::NoMemory),
@@ -117,7 +128,7 @@ fn of_file(alloc: Global, name: &str, others: &[Text], file: &[u8]) -> Result<Ve
 ///
 /// In this order: more than 64 files; file by file one that can't be read, is too long, or with which all are too long; of the
 /// first file a name of another form, a text that isn't JSON, a tree that is no model, statements that aren't plain; a second
-/// file. At any step memory may run out.
+/// file; a graph past a limit on its size. At any step memory may run out.
 pub(crate) fn convert<F: Files>(
     alloc: Global,
     words: ConvertWords<'_>,

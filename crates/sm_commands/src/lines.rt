@@ -3,9 +3,10 @@ ghost use Rattle.std.specs.Prelude.{◌≡◌, ◌++◌, Some, IfOk, string_byte
 ghost use Rattle.sm_tree.specs.Pointer.{pointer};
 ghost use Rattle.sm_ast.specs.Answers.{Tells};
 ghost use Rattle.sm_ast.specs.Faults.{AstFault};
-ghost use Rattle.sm_commands.specs.Lines.{line as the_line, fault_line as the_fault_line, limit_line as the_limit_line, syntax_line as the_syntax_line, syntax_text as the_syntax_text, json_line as the_json_line, ast_line as the_ast_line, ast_text as the_ast_text};
+ghost use Rattle.sm_commands.specs.Lines.{line as the_line, fault_line as the_fault_line, limit_line as the_limit_line, size_limit_line as the_size_limit_line, syntax_line as the_syntax_line, syntax_text as the_syntax_text, json_line as the_json_line, ast_line as the_ast_line, ast_text as the_ast_text};
 
 use sm_ast::AstRefusal;
+use sm_plain::LimitKind;
 use sm_shapes::Fault;
 use sm_tree::{NoMemory, Path, SyntaxRefusal};
 use std::alloc::Global;
@@ -41,6 +42,13 @@ pub(crate) fn limit_line(alloc: Global, word: &str, number: u64) -> Result<Vec<u
 {
     let text = format!(in alloc; "{word} {number}")?;
     line(alloc, "Limit", text.as_str())
+}
+
+/// The line of a limit on the size of a graph.
+pub(crate) fn size_limit_line(alloc: Global, kind: LimitKind) -> Result<Vec<u8>, NoMemory>
+    ensures { IfOk result (λ line. line.items ≡ the_size_limit_line kind) }
+{
+    limit_line(alloc, kind.word(), kind.limit())
 }
 
 /// The line of a body that is no text.

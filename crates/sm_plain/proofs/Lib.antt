@@ -1,3 +1,4 @@
+mod Counting
 mod GivenParts
 mod GivenFields
 mod GivenShapes

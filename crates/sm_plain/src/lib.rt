@@ -3,9 +3,11 @@
 #![tactic(auto)]
 
 mod given;
+mod limit;
 mod member;
 mod node;
 mod plain;
 mod shape;
 
+pub use limit::LimitKind;
 pub use plain::plain_graph;
