@@ -61,7 +61,8 @@ passed_or_read folder before (name ∷ names) there =
 graph_answered : (g : GraphMaps) → ((a : Answer) → GraphSays g a → ⊥) → ⊥
 graph_answered g none =
     let few : IsPast Shapes g → ⊥ = λ shapes. none (past (size_limit_line Shapes)) (too_large Shapes shapes refl) in
-    none (done (converted g)) (not_too_large (few, λ crowded. none (past (size_limit_line Members)) (too_large Members (few, crowded) refl)) refl)
+    none (done (converted g)) (not_too_large
+    (few, λ crowded. none (past (size_limit_line Members)) (too_large Members (few, crowded) refl)) refl)
 
 plain_answered : (name : List ℕ) (others : List (List ℕ)) (said : List Said) → ((a : Answer) → StatementsSay name others said a → ⊥)
     → ArePlain said → (rest : List (List ℕ)) → others ≡ rest → ⊥

@@ -31,12 +31,13 @@ use std::alloc::Global;
 /// The greatest number of model files.
 const FILES_LIMIT: usize = 64;
 
-// The text that is printed for a graph.
-fn graph_text(alloc: Global, graph: &Graph) -> Result<Vec<u8>, NoMemory>
-    requires { IsJson (written_ast (maps_of graph.now)) }
-    ensures { IfOk result (λ text. text.items ≡ converted (maps_of graph.now)) }
+// The text that is printed for a graph, which is dropped before there is any of it.
+fn graph_text(alloc: Global, graph: Graph) -> Result<Vec<u8>, NoMemory>
+    requires { IsJson (written_ast (maps_of graph)) }
+    ensures { IfOk result (λ text. text.items ≡ converted (maps_of graph)) }
 {
-    let tree = write_ast(alloc, graph)?;
+    let tree = write_ast(alloc, &graph)?;
+    drop(graph);
     let mut text = Vec::new(alloc);
     match write_tree(alloc, &tree, &mut text) {
         Ok(()) => {
@@ -48,11 +49,11 @@ fn graph_text(alloc: Global, graph: &Graph) -> Result<Vec<u8>, NoMemory>
 }
 
 // What the graph of a model comes to.
-fn of_graph(alloc: Global, graph: &Graph) -> Result<Vec<u8>, Stop>
-    requires { IsJson (written_ast (maps_of graph.now)) }
-    ensures { StepComesTo (GraphSays (maps_of graph.now)) ⊥ (Unit {0}) result }
+fn of_graph(alloc: Global, graph: Graph) -> Result<Vec<u8>, Stop>
+    requires { IsJson (written_ast (maps_of graph)) }
+    ensures { StepComesTo (GraphSays (maps_of graph)) ⊥ (Unit {0}) result }
 {
-    match LimitKind::first_past(graph) {
+    match LimitKind::first_past(&graph) {
         Some(kind) => Err(past(size_limit_line(alloc, kind))),
         None => match graph_text(alloc, graph) {
             Ok(text) => Ok(text),
@@ -84,7 +85,7 @@ fn of_statements(
     match plain_graph(alloc, statements) {
         Ok(Some(graph)) => match second_of(others) {
             Some(second) => Err(refused(line(alloc, "Unbuilt", second.as_str()))),
-            None => of_graph(alloc, &graph),
+            None => of_graph(alloc, graph),
         },
         Ok(None) => Err(refused(line(alloc, "Unbuilt", name))),
         Err(NoMemory) => Err(Stop::NoMemory),
@@ -98,13 +99,16 @@ fn no_model(alloc: Global, name: &str, refusal: &AstRefusal) -> Stop
     refused(ast_line(alloc, name, refusal))
 }
 
-// What its tree comes to.
-fn of_tree(alloc: Global, name: &str, others: &[Text], tree: &Tree) -> Result<Vec<u8>, Stop>
-    requires { IsJson (node_of tree.now) }
-    ensures { StepComesTo (TreeSays name.now others.now (node_of tree.now)) ⊥ (Unit {0}) result }
+// What its tree comes to, which is dropped before there is a graph.
+fn of_tree(alloc: Global, name: &str, others: &[Text], tree: Tree) -> Result<Vec<u8>, Stop>
+    requires { IsJson (node_of tree) }
+    ensures { StepComesTo (TreeSays name.now others.now (node_of tree)) ⊥ (Unit {0}) result }
 {
-    match read_ast(alloc, tree) {
-        Ok(statements) => of_statements(alloc, name, others, statements),
+    match read_ast(alloc, &tree) {
+        Ok(statements) => {
+            drop(tree);
+            of_statements(alloc, name, others, statements)
+        }
         Err(refusal) => match refusal {
             AstRefusal::NoMemory => Err(Stop::NoMemory),
             _ => Err(no_model(alloc, name, &refusal)),
@@ -117,7 +121,7 @@ fn of_file(alloc: Global, name: &str, others: &[Text], file: &[u8]) -> Result<Ve
     ensures { StepComesTo (FileSays name.now others.now file.now) ⊥ (Unit {0}) result }
 {
     match tree_in(alloc, name, file) {
-        Ok(tree) => of_tree(alloc, name, others, &tree),
+        Ok(tree) => of_tree(alloc, name, others, tree),
         Err(stop) => Err(stop),
     }
 }

@@ -17,8 +17,8 @@ returns-in-Ok-None c =
     plain_stops c.args.name.now c.args.others.now (statements_view c.args.statements.items) c.refused-in-Ok-None.result other
     (c.refused-in-Ok-None.ensures (unbuilt_line c.args.name.now) c.line-in-Ok-None.ensures)
 
-pub returns-in-Ok-Some : goal.returns-in-Ok-Some
-returns-in-Ok-Some c =
+pub returns-in-None : goal.returns-in-None
+returns-in-None c =
     let made = rw c.in-Ok-Some.field-0-is at c.in-Ok-Some.ensures in
     graph_comes c.args.name.now c.args.others.now (statements_view c.args.statements.items) (maps_of c.in-Ok-Some.graph) c.of_graph.result
     made.0 c.in-None.ensures made.1 c.of_graph.ensures

@@ -16,14 +16,16 @@ loop-number-preserved c =
     let next : suc k ≡ k + 1 = omega arith in
     elim c.if-is_own.branch [
       | then-is_own w ↦
-          let one = count_one is_own_shape es k (subst (λ b. At g k (λ id e. is_own_shape (id, e) ≡ b)) w.if-is_own.true c.is_own.ensures) in
+          let one = count_one is_own_shape es k (subst (λ b. At g k (λ id e. is_own_shape (id, e) ≡ b)) w.if-is_own.true
+          c.is_own.ensures) in
           record {
             counted = subst (λ n. c.if-is_own.count + length (filter is_own_shape (drop n es)) ≡ length (filter is_own_shape es)) next
                 (omega (arith, one, w.count-is, c.loop-number.invariant.counted));
             few = omega (arith, w.count-is, c.loop-number.invariant.few);
           }
       | else-is_own w ↦
-          let none = count_none is_own_shape es k (subst (λ b. At g k (λ id e. is_own_shape (id, e) ≡ b)) w.if-is_own.false c.is_own.ensures) in
+          let none = count_none is_own_shape es k (subst (λ b. At g k (λ id e. is_own_shape (id, e) ≡ b)) w.if-is_own.false
+          c.is_own.ensures) in
           record {
             counted = subst (λ n. c.if-is_own.count + length (filter is_own_shape (drop n es)) ≡ length (filter is_own_shape es)) next
                 (omega (arith, none, w.count-is, c.loop-number.invariant.counted));
