@@ -4,6 +4,7 @@ ghost use Rattle.sm_cbor.specs.Stands.{CborStands};
 
 use crate::show::show_refusal;
 use crate::shown::Shown;
+use crate::trees::is_same_reading;
 use sm_cbor::CborReader;
 use sm_cbor::readers::read_in_pieces;
 use sm_tree::{NoMemory, SyntaxRefusal, Tree};
@@ -50,12 +51,7 @@ pub fn is_read_in_pieces(
     answer: &Result<Tree, SyntaxRefusal>,
 ) -> bool {
     for cut in 0..bytes.len() {
-        let is_same = match (read_in_pieces(alloc, bytes, cut), answer) {
-            (Ok(tree), Ok(whole)) => tree == *whole,
-            (Err(refusal), Err(other)) => refusal == *other,
-            _ => false,
-        };
-        if !is_same {
+        if !is_same_reading(&read_in_pieces(alloc, bytes, cut), answer) {
             return false;
         }
     }

@@ -1,7 +1,7 @@
 // Answers on texts of JSON and items of CBOR. What is written for a tree goes behind bytes that are there, into room that is just
 // enough.
-use crate::cbor_events::is_read_in_pieces;
 use crate::show::{push_utf8, show_bytes, show_ranges, show_refusal, show_tree};
+use crate::{cbor_events, json_events};
 use sm_cbor::readers::{read_by_bytes, read_item};
 use sm_tree::number::{Phase, number_run as run_of};
 use sm_tree::{NoMemory, SyntaxRefusal, Tree};
@@ -31,7 +31,11 @@ fn show_room(before: usize, after: usize, out: &mut String) -> Result<(), NoMemo
 }
 
 pub fn json(alloc: Global, bytes: &[u8], out: &mut String) -> Result<(), NoMemory> {
-    match sm_json::read_tree(alloc, bytes) {
+    let answer = sm_json::read_tree(alloc, bytes);
+    if !json_events::is_read_in_pieces(alloc, bytes, &answer) {
+        out.push_str("otherwise in pieces ")?;
+    }
+    match answer {
         Ok(tree) => {
             let mut written = just_enough(alloc, sm_json::encoded_len(&tree))?;
             let room = written.capacity();
@@ -93,7 +97,7 @@ pub fn number_run(phase: Phase, bytes: &[u8], out: &mut String) -> Result<(), No
 
 pub fn cbor(alloc: Global, bytes: &[u8], out: &mut String) -> Result<(), NoMemory> {
     let answer = sm_cbor::read_tree(alloc, bytes);
-    if !is_read_in_pieces(alloc, bytes, &answer) {
+    if !cbor_events::is_read_in_pieces(alloc, bytes, &answer) {
         out.push_str("otherwise in pieces ")?;
     }
     match answer {

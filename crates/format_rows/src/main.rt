@@ -8,6 +8,7 @@ mod formats;
 mod given;
 mod idl;
 mod ids;
+mod json_events;
 mod play;
 mod question;
 mod show;

@@ -5,6 +5,7 @@ use crate::formats::{cbor, json, json_next, number_run};
 use crate::given::given;
 use crate::idl::{docs, lexed};
 use crate::ids::{fold, id, id_lengths, order, part};
+use crate::json_events::json_events;
 use crate::question::{Question, notation_of, question_of};
 use crate::stamps::{stamp, stamp_order, write_stamp};
 use crate::trees::{pointer, same};
@@ -38,6 +39,7 @@ fn answer(
         Question::Json => return json(alloc, bytes, out),
         Question::Cbor => return cbor(alloc, bytes, out),
         Question::CborEvents => return cbor_events(alloc, bytes, out),
+        Question::JsonEvents => return json_events(alloc, bytes, out),
         Question::JsonNext => return json_next(alloc, bytes, out),
         Question::NumberRun(phase) => return number_run(phase, bytes, out),
         Question::Stamp(format) => return stamp(format, bytes, out),
@@ -62,6 +64,7 @@ fn answer(
         Question::Json
         | Question::Cbor
         | Question::CborEvents
+        | Question::JsonEvents
         | Question::JsonNext
         | Question::NumberRun(_)
         | Question::Stamp(_) => Ok(()),

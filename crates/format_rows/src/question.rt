@@ -8,6 +8,8 @@ use sm_tree::number::Phase;
 pub enum Question {
     /// To read them as a JSON text; the answer is the text that is written for its tree.
     Json,
+    /// The events of a JSON text, as its bytes come one after the other.
+    JsonEvents,
     /// To read them as a CBOR item; the answer is its tree, and the item that is written for it.
     Cbor,
     /// The events of a CBOR item, as its bytes come one after the other.
@@ -72,6 +74,7 @@ fn phase_of(word: &str) -> Option<Phase> {
 pub fn question_of<'a>(word: &str, rest: &'a str) -> Option<(Question, &'a str)> {
     let plain = match word {
         "json" => Question::Json,
+        "json-events" => Question::JsonEvents,
         "cbor" => Question::Cbor,
         "cbor-events" => Question::CborEvents,
         "cbor-two" => Question::CborTwo,

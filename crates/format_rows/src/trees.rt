@@ -1,7 +1,7 @@
 // Answers on trees: how two compare, and the pointer of a path.
 use crate::given::list_of;
 use crate::show::show_text;
-use sm_tree::{NoMemory, Path, Step, Text, Tree, is_same};
+use sm_tree::{NoMemory, Path, Step, SyntaxRefusal, Text, Tree, is_same};
 use std::alloc::Global;
 
 pub fn same(alloc: Global, text: &str, out: &mut String) -> Result<(), NoMemory> {
@@ -34,4 +34,16 @@ pub fn pointer(alloc: Global, text: &str, out: &mut String) -> Result<(), NoMemo
     }
     let pointer = Path::new(steps).print(alloc)?;
     show_text(alloc, pointer.as_str(), out)
+}
+
+/// Whether two readings of the same bytes have one outcome: equal trees, or the same refusal.
+pub fn is_same_reading(
+    first: &Result<Tree, SyntaxRefusal>,
+    second: &Result<Tree, SyntaxRefusal>,
+) -> bool {
+    match (first, second) {
+        (Ok(tree), Ok(other)) => *tree == *other,
+        (Err(refusal), Err(other)) => *refusal == *other,
+        _ => false,
+    }
 }
