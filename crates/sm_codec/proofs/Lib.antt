@@ -16,3 +16,7 @@ pub mod Chosen
 pub mod ReadValues
 pub mod WrittenValues
 pub mod PlainLeaves
+pub mod Arriving
+pub mod MembersKept
+pub mod MemberParts
+pub mod MemberArrives

@@ -15,3 +15,4 @@ pub mod Decoding
 pub mod Walk
 pub mod Kept
 pub mod Bound
+pub mod steps
