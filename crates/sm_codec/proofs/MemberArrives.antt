@@ -113,7 +113,7 @@ module _ (t : TableData) (before : List ℕ) (k : ℕ) (s r : ByMember) where
       → HasPrefix t (before ++ k ∷ behind) s fields → HasPrefix t (before ++ k ∷ behind) r fields
   prefix_stays behind fields front back quiet old pre post e h =
       elim (two_splits pre post before k behind (sym e)) [
-        inl b ↦ before_it pre b.0 fields front b.1 h (old pre post e)
+        | inl b ↦ before_it pre b.0 fields front b.1 h (old pre post e)
         | inr m ↦ with_it pre m.0 fields front (agree_front r s m.0 post (subst (λ ks. Agree r s ks) m.2 back)) m.1 h quiet (old pre post e)
       ]
 
@@ -147,11 +147,10 @@ module _ (t : TableData) (before : List ℕ) (k : ℕ) (s r : ByMember) where
       → (closed_faults t s pre ≡ [] → (rest : List (ℕ × Val)) × (fields ≡ spelled_fields s pre ++ rest))
       → (rest : List (ℕ × Val)) × (put_field k v fields ≡ spelled_fields r pre ++ rest)
   put_before_it pre more v fields below same h old =
-      let kept = old (sym (faults_agree t r s pre same) ∙ h) in
-      (
+      let kept = old (sym (faults_agree t r s pre same) ∙ h) in (
         put_field k v kept.0,
         ap (put_field k v) kept.1 ∙ put_behind k v (spelled_fields s pre) kept.0 (spelled_below s k pre below)
-        ∙ ap (λ fs. fs ++ put_field k v kept.0) (sym (spelled_agree t r s pre same)),
+            ∙ ap (λ fs. fs ++ put_field k v kept.0) (sym (spelled_agree t r s pre same)),
       )
 
   below_front : (ks js : List ℕ) → AllBelow k (ks ++ js) → AllBelow k ks
@@ -164,10 +163,10 @@ module _ (t : TableData) (before : List ℕ) (k : ℕ) (s r : ByMember) where
       → HasPrefix t (before ++ k ∷ behind) s fields → HasPrefix t (before ++ k ∷ behind) r (put_field k v fields)
   prefix_put behind v fields below above front back quiet empty one some old pre post e h =
       elim (two_splits pre post before k behind (sym e)) [
-        inl b ↦ put_before_it pre b.0 v fields (below_front pre b.0 (subst (AllBelow k) b.1 below))
-        (agree_front r s pre b.0 (subst (λ ks. Agree r s ks) b.1 front)) h (old pre post e)
+        | inl b ↦ put_before_it pre b.0 v fields (below_front pre b.0 (subst (AllBelow k) b.1 below))
+            (agree_front r s pre b.0 (subst (λ ks. Agree r s ks) b.1 front)) h (old pre post e)
         | inr m ↦ put_with_it behind pre m.0 v fields below above front (agree_front r s m.0 post (subst (λ ks. Agree r s ks) m.2 back)) m.1 h
-        quiet empty one some (old pre post e)
+            quiet empty one some (old pre post e)
       ]
 
 -- what a tree that is closed comes to
@@ -289,7 +288,7 @@ module _ (t : TableData) (before : List ℕ) (k : ℕ) (behind : List ℕ) (s r 
         seen_first t before k behind s r child seen now a.front a.back none one put h.0,
         h.1 ∙ ap first_fault (sym faults),
         subst (λ fs. AreKept fs fields (spelled_fields r ms)) (sym faults)
-        (subst (λ xs. AreKept (closed_faults t s ms) fields xs) (sym (same_fields a none each)) h.2),
+            (subst (λ xs. AreKept (closed_faults t s ms) fields xs) (sym (same_fields a none each)) h.2),
         prefix_stays t before k s r behind fields a.front a.back (λ e. (own_before none, each ∙ sym (each_before none))) h.3,
       )
 

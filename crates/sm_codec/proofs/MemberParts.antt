@@ -189,7 +189,7 @@ pub first_names : (t : TableData) (s : ByMember) (ks : List ℕ) (f : FaultAt) (
 first_names t s [] f fs h = absurd cc
 first_names t s (k ∷ ks) f fs h =
     elim (first_in (name_at t k) (member_faults (member_reading so_far_absent k (s k))) (closed_faults t s ks) f fs h) [
-      inl e ↦ (k, inl refl, e)
+      | inl e ↦ (k, inl refl, e)
       | inr g ↦ let more = first_names t s ks f fs g in (more.0, inr more.1, more.2)
     ]
 

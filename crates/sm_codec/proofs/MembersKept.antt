@@ -73,7 +73,7 @@ module _ {A : Type 0} where
       let first : x ≡ y = cc in
       let rest : pre ++ post ≡ before ++ k ∷ behind = cc in
       elim (two_splits pre post before k behind rest) [
-        inl h ↦ inl (h.0, ap (λ z. z ∷ before) (sym first) ∙ ap (λ zs. x ∷ zs) h.1)
+        | inl h ↦ inl (h.0, ap (λ z. z ∷ before) (sym first) ∙ ap (λ zs. x ∷ zs) h.1)
         | inr h ↦ inr (h.0, ap (λ z. z ∷ pre) first ∙ ap (λ zs. y ∷ zs) h.1, h.2)
       ]
 
