@@ -16,7 +16,8 @@ use Rattle.sm_ast.specs.Layout.{field_named, layout_of, target_name, traits_name
 use Rattle.sm_ast.specs.Faults.{AstFault, field, bad_id, unless, earlier_of, seen_from, of_object, pair_fault, pairs_fault, entries_fault}
 use Rattle.sm_ast.specs.Faults.{object_fault, node_fault, nodes_fault, members_fault, identifier_fault, target_fault, reference_fault}
 use Rattle.sm_ast.specs.Faults.{references_fault, new_name_fault, trait_fault, traits_fault, part_of_member_fault, member_fault}
-use Rattle.sm_ast.specs.Faults.{named_member_fault, property_fault, form_fault, tree_named, typed_fault}
+use Rattle.sm_tree.specs.Parts.{tree_named}
+use Rattle.sm_ast.specs.Faults.{named_member_fault, property_fault, form_fault, typed_fault}
 use Rattle.sm_ast.proofs.Judged.{either_way, same_text, one_value, some_is_none, none_first, none_inside, none_either, none_at_pair}
 use Rattle.sm_ast.proofs.Judged.{none_of_pairs, none_of_entries, not_before, stands_last}
 use Rattle.sm_ast.proofs.SaidFields.{only_type}

@@ -7,7 +7,8 @@ use Rattle.sm_model.specs.Kinds.{kind_name}
 use Rattle.sm_ast.specs.declared.layout.ShapeType.{ShapeType}
 use Rattle.sm_ast.specs.declared.layout.ShapeType.TheVariants.{Defined, Applied}
 use Rattle.sm_ast.specs.Layout.{type_name, smithy_name, metadata_name, shapes_name}
-use Rattle.sm_ast.specs.Faults.{field, wrong_type, bad_id, version, unless, is_version, of_object, pairs_fault, members_fault, tree_named}
+use Rattle.sm_tree.specs.Parts.{tree_named}
+use Rattle.sm_ast.specs.Faults.{field, wrong_type, bad_id, version, unless, is_version, of_object, pairs_fault, members_fault}
 use Rattle.sm_ast.specs.Faults.{type_said, typed_fault, shape_pairs_fault, shape_value_fault, is_shape_key, shape_fault, top_fault}
 use Rattle.sm_ast.specs.Faults.{ast_fault}
 use Rattle.sm_ast.proofs.Judged.{some_is_none, none_first, none_unless, none_if, none_either}

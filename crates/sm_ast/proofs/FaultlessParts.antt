@@ -19,7 +19,8 @@ use Rattle.sm_ast.specs.Ast.{MembersObjectSays, RawReferencesSay, NamedReference
 use Rattle.sm_ast.specs.Faults.{AstFault, field, bad_id, unless, earlier_of, seen_from, stands_in, names_of, are_there, pairs_fault}
 use Rattle.sm_ast.specs.Faults.{entries_fault, object_fault, node_fault, nodes_fault, members_fault, identifier_fault, reference_fault}
 use Rattle.sm_ast.specs.Faults.{references_fault, new_name_fault, trait_fault, traits_fault, part_of_member_fault, member_fault}
-use Rattle.sm_ast.specs.Faults.{named_member_fault, named_members_fault, property_fault, tree_named}
+use Rattle.sm_tree.specs.Parts.{tree_named}
+use Rattle.sm_ast.specs.Faults.{named_member_fault, named_members_fault, property_fault}
 use Rattle.sm_ast.proofs.IdTests.{id_passes}
 use Rattle.sm_ast.proofs.Judged.{either_way, same_text, test_same, some_same, pair_name, stands_named}
 use Rattle.sm_ast.proofs.Telling.{passed}

@@ -22,7 +22,8 @@ use Rattle.sm_ast.specs.Layout.{FieldForms, field_named, layout_of, shape_fields
 use Rattle.sm_ast.specs.Layout.{needed_members, type_name, members_name, mixins_name, traits_name}
 use Rattle.sm_ast.specs.Ast.{AreFieldsOf, OrNothing, ReferencesSay, TraitsSay, MembersObjectSays, NamedMembersSay, AstMembers}
 use Rattle.sm_ast.specs.Ast.{PropertyPairsSay, ShapeParts, ApplyParts, AstShape}
-use Rattle.sm_ast.specs.Faults.{AstFault, bad_id, unless, earlier_of, names_of, are_there, form_fault, property_fault, tree_named}
+use Rattle.sm_tree.specs.Parts.{tree_named}
+use Rattle.sm_ast.specs.Faults.{AstFault, bad_id, unless, earlier_of, names_of, are_there, form_fault, property_fault}
 use Rattle.sm_ast.specs.Faults.{type_said, typed_fault, shape_pairs_fault, shape_value_fault, says_apply, shape_fault}
 use Rattle.sm_ast.proofs.IdTests.{id_passes, plain_id}
 use Rattle.sm_ast.proofs.Fields.{named_kind}

@@ -2,7 +2,7 @@
 use Rattle.std.proofs.Common.{◌≡◌, ℕ, inl, inr, List, Some, sym, ap, subst, ◌∙◌, if◌then◌else◌, bytes_eq}
 use Rattle.sm_tree.specs.Node.{Node, Members, null, bool, int, number, text, bytes, tag, opaque, list, object, no_members, member}
 use Rattle.sm_tree.specs.Json.{IsJson, AreJsonMembers}
-use Rattle.sm_ast.specs.Faults.{tree_named}
+use Rattle.sm_tree.specs.Parts.{tree_named}
 use Rattle.sm_ast.specs.steps.Saying.{pairs_said}
 use Rattle.sm_ast.proofs.Judged.{either_way, some_is_none, some_same}
 

@@ -25,8 +25,8 @@ use Rattle.sm_model.specs.declared.kind.Kind.TheVariants.{BigInteger, BigDecimal
 use Rattle.sm_model.specs.declared.kind.Kind.TheVariants.{Service, Operation, Resource}
 use Rattle.sm_model.specs.declared.property.PropertyForm.{PropertyForm}
 use Rattle.sm_model.specs.declared.property.PropertyForm.TheVariants.{Reference, References, NamedReferences, Text, Rename}
-use Rattle.sm_ast.specs.Faults.{tree_named}
-use Rattle.sm_ast.specs.PreludeIds.{is_prelude_id}
+use Rattle.sm_tree.specs.Parts.{tree_named}
+use Rattle.sm_model.specs.PreludeShapes.{is_prelude_id}
 use Rattle.sm_ast.specs.Written.{WrittenPairs, field_there, filled_list, filled_object, member_there, name_in_id, property_there}
 use Rattle.sm_ast.specs.Written.{shape_object, written_ast, written_entries, written_entry, written_in_form, written_members}
 use Rattle.sm_ast.specs.Written.{written_pairs, written_properties, written_property, written_reference, written_shapes, written_statement, written_traits}

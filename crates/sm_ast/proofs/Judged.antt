@@ -9,7 +9,8 @@ use Rattle.sm_tree.specs.Same.{HasPair, HasName}
 use Rattle.sm_tree.specs.declared.path.Step.{Step}
 use Rattle.sm_tree.specs.declared.path.Step.TheVariants.{Index, Key}
 use Rattle.sm_ast.specs.Faults.{AstFault, field, seen_from, earlier_of, unless, stands_in, names_of, pair_fault, pairs_fault}
-use Rattle.sm_ast.specs.Faults.{entries_fault, judged, tree_named}
+use Rattle.sm_tree.specs.Parts.{tree_named}
+use Rattle.sm_ast.specs.Faults.{entries_fault, judged}
 
 -- a fault is none, true isn't false
 pub some_is_none : {X : Type 0} {A : Type 0} (x : X) → ◌≡◌ {A = Option X} (Some x) None → A

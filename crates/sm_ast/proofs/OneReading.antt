@@ -14,7 +14,8 @@ use Rattle.sm_ast.specs.declared.layout.ShapeType.TheVariants.{Defined, Applied}
 use Rattle.sm_ast.specs.Ids.{is_id}
 use Rattle.sm_ast.specs.Layout.{type_name, mixins_name, traits_name, metadata_name, shapes_name}
 use Rattle.sm_ast.specs.Ast.{ReferencesSay, ShapeParts, AstShape, ShapePairsSay, MetadataPairsSay, TopPairSays, TopPairsSay, Ast}
-use Rattle.sm_ast.specs.Faults.{tree_named, type_said}
+use Rattle.sm_tree.specs.Parts.{tree_named}
+use Rattle.sm_ast.specs.Faults.{type_said}
 use Rattle.sm_ast.specs.steps.Saying.{references_there, traits_there, members_by_form, property_pairs, shape_by_kind, type_there}
 use Rattle.sm_ast.specs.steps.Saying.{applied_said, statement_by_type, statement_by_pairs, statement_said, shape_statements}
 use Rattle.sm_ast.specs.steps.Saying.{metadata_statements, top_said, top_statements, ast_said}

@@ -11,10 +11,11 @@ use Rattle.sm_ast.specs.Ids.{is_id}
 use Rattle.sm_ast.specs.Layout.{target_name, traits_name}
 use Rattle.sm_ast.specs.Ast.{OrNothing, ReferenceSays, EntriesSay, ReferencesSay, TraitPairsSay, TraitsSay, MemberParts, AstMember}
 use Rattle.sm_ast.specs.Ast.{MemberPairsSay, MembersObjectSays}
-use Rattle.sm_ast.specs.Faults.{AstFault, field, bad_id, unless, text_in, entries_in, pairs_in, of_text, of_list, of_object, names_of}
+use Rattle.sm_tree.specs.Parts.{text_in, entries_in, pairs_in, tree_named}
+use Rattle.sm_ast.specs.Faults.{AstFault, field, bad_id, unless, of_text, of_list, of_object, names_of}
 use Rattle.sm_ast.specs.Faults.{stands_in, pairs_fault, entries_fault, object_fault, id_fault, identifier_fault, target_fault}
 use Rattle.sm_ast.specs.Faults.{reference_fault, references_fault, trait_fault, traits_fault, part_of_member_fault, member_fault}
-use Rattle.sm_ast.specs.Faults.{named_member_fault, named_members_fault, node_fault, tree_named}
+use Rattle.sm_ast.specs.Faults.{named_member_fault, named_members_fault, node_fault}
 use Rattle.sm_ast.specs.steps.Saying.{text_there, entries_said, pairs_said, reference_said, references_said, traits_said, traits_there}
 use Rattle.sm_ast.specs.steps.Saying.{member_by_pairs, member_said, members_said}
 use Rattle.sm_ast.proofs.IdTests.{passed_is_id}

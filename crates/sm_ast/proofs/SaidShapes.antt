@@ -21,7 +21,8 @@ use Rattle.sm_ast.specs.Layout.{FieldForms, field_named, layout_of, needed, type
 use Rattle.sm_ast.specs.Ast.{AreFieldsOf, ReferencesSay, TraitsSay, AstMember, MembersObjectSays, NamedMembersSay, AstMembers, ShapeParts}
 use Rattle.sm_ast.specs.Ast.{ApplyParts, AstShape}
 use Rattle.sm_ast.specs.Faults.{AstFault, field, wrong_type, bad_id, unless, names_of, stands_in, are_there, pairs_fault, form_fault}
-use Rattle.sm_ast.specs.Faults.{members_fault, tree_named, type_said, typed_fault, shape_pairs_fault, shape_value_fault, says_apply}
+use Rattle.sm_tree.specs.Parts.{tree_named}
+use Rattle.sm_ast.specs.Faults.{members_fault, type_said, typed_fault, shape_pairs_fault, shape_value_fault, says_apply}
 use Rattle.sm_ast.specs.Faults.{is_shape_key, shape_fault}
 use Rattle.sm_ast.specs.steps.Saying.{references_there, traits_there, member_there, members_there, named_members_said, members_by_form}
 use Rattle.sm_ast.specs.steps.Saying.{property_pairs, shape_by_kind, applied_said, type_there, statement_by_type, statement_said}

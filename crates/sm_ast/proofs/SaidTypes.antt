@@ -12,7 +12,8 @@ use Rattle.sm_ast.specs.declared.layout.ShapeType.{ShapeType}
 use Rattle.sm_ast.specs.declared.layout.ShapeType.TheVariants.{Defined, Applied}
 use Rattle.sm_ast.specs.Ids.{is_id, is_dollar, has_member}
 use Rattle.sm_ast.specs.Layout.{type_named, kind_among, all_kinds}
-use Rattle.sm_ast.specs.Faults.{is_this, is_version, text_in, type_of_text, type_said}
+use Rattle.sm_tree.specs.Parts.{text_in}
+use Rattle.sm_ast.specs.Faults.{is_this, is_version, type_of_text, type_said}
 use Rattle.sm_ast.proofs.IdTests.{passed_is_id}
 use Rattle.sm_ast.proofs.Judged.{either_way, or_right, true_is_false, same_text, some_is_none, some_same}
 use Rattle.sm_ast.proofs.SaidReferences.{text_is}

@@ -8,9 +8,9 @@ use Rattle.sm_model.specs.GraphView.{At, entries_of, ids, is_member_entry, IsMem
 use Rattle.sm_model.specs.declared.graph.Graph.{Graph}
 use Rattle.sm_model.specs.declared.kind.Kind.{Kind}
 use Rattle.sm_model.proofs.GraphFacts.{entry_under, id_at}
-use Rattle.sm_ast.specs.PreludeIds.{is_prelude_id}
+use Rattle.sm_model.specs.PreludeShapes.{is_prelude_id}
 use Rattle.sm_ast.specs.Written.{WrittenPairs, field_there, member_object, member_there, name_in_id, shape_object, written_entry}
-use Rattle.sm_ast.specs.Faults.{tree_named}
+use Rattle.sm_tree.specs.Parts.{tree_named}
 use Rattle.sm_ast.specs.Written.{property_there, written_member, written_members, written_properties, written_shape, written_shapes, written_statement}
 use Rattle.sm_model.specs.Properties.{TypeFields}
 use Rattle.sm_ast.specs.steps.Saying.{pairs_said}

@@ -10,7 +10,7 @@ use Rattle.sm_model.specs.References.{absolute}
 use Rattle.sm_model.specs.declared.property.PropertyForm.{PropertyForm}
 use Rattle.sm_model.specs.declared.property.PropertyForm.TheVariants.{Reference, References, NamedReferences, Text, Rename}
 use Rattle.sm_ast.specs.Ast.{RawReferenceSays, RawReferencesSay, NamedReferencesSay, NewNamesSay, PropertySays, PropertyPairsSay}
-use Rattle.sm_ast.specs.Faults.{tree_named}
+use Rattle.sm_tree.specs.Parts.{tree_named}
 use Rattle.sm_ast.specs.GraphSaid.{body_said, filled_raws, filled_raw_members, form_said, form_there_said, id_said, ids_said, named_ids_said}
 use Rattle.sm_ast.specs.GraphSaid.{names_said, raw_field}
 use Rattle.sm_ast.specs.Written.{WrittenPairs, field_there, filled_list, filled_object, property_there, written_entries, written_pairs}

@@ -6,7 +6,8 @@ use Rattle.sm_tree.specs.Same.{HasPair, HasName, HasDistinctNames, AreDistinct}
 use Rattle.sm_model.specs.Formed.{StandsAmong, DifferInNames}
 use Rattle.sm_model.specs.Given.{are_under}
 use Rattle.sm_model.specs.Properties.{TypeFields}
-use Rattle.sm_ast.specs.Faults.{stands_in, tree_named}
+use Rattle.sm_tree.specs.Parts.{tree_named}
+use Rattle.sm_ast.specs.Faults.{stands_in}
 use Rattle.sm_ast.specs.Written.{WrittenPairs, field_there, property_there, written_properties}
 use Rattle.sm_ast.proofs.Judged.{both_true, or_left, or_right, test_same, true_is_false}
 

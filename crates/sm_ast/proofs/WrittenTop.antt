@@ -13,7 +13,7 @@ use Rattle.sm_ast.specs.Layout.{metadata_name, shapes_name, smithy_name}
 use Rattle.sm_ast.specs.Ast.{AstShape, MetadataPairsSay, ShapePairsSay, TopPairsSay}
 use Rattle.sm_ast.specs.GraphSaid.{body_said, entry_said, entry_statements, graph_statements, map_said, shape_members_said}
 use Rattle.sm_ast.specs.Laws.{WrittenSays}
-use Rattle.sm_ast.specs.PreludeIds.{is_prelude_id}
+use Rattle.sm_model.specs.PreludeShapes.{is_prelude_id}
 use Rattle.sm_ast.specs.Written.{WrittenPairs, field_there, filled_object, shape_object, written_shape, written_shapes}
 use Rattle.sm_ast.specs.Written.{written_statement}
 use Rattle.sm_ast.specs.steps.Saying.{pairs_said}

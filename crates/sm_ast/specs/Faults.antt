@@ -6,6 +6,7 @@ use Rattle.std.specs.Str.{bytes_eq}
 use Rattle.sm_ids.specs.Identifier.{is_identifier}
 use Rattle.sm_tree.specs.Node.{Node, Nodes, Members, null, bool, int, number, text, bytes, tag, opaque, list, object, no_nodes, node}
 use Rattle.sm_tree.specs.Node.{no_members, member}
+use Rattle.sm_tree.specs.Parts.{text_in, entries_in, pairs_in, tree_named}
 use Rattle.sm_tree.specs.declared.path.Step.{Step}
 use Rattle.sm_tree.specs.declared.path.Step.TheVariants.{Index, Key}
 use Rattle.sm_model.specs.declared.property.PropertyForm.{PropertyForm}
@@ -102,43 +103,6 @@ abbrev mutual
   members_fault before no_members = None
   members_fault before (member k n ms) = earlier_of (pair_fault before k (node_fault n)) (members_fault (before ++ k ∷ []) ms)
 
--- the text that a tree is, its entries, its pairs
-abbrev pub text_in : Node → Option (List ℕ)
-text_in (text t) = Some t
-text_in null = None
-text_in (bool b) = None
-text_in (int z) = None
-text_in (number t) = None
-text_in (bytes t) = None
-text_in (tag k n) = None
-text_in (opaque b) = None
-text_in (list ns) = None
-text_in (object ms) = None
-
-abbrev pub entries_in : Node → Option Nodes
-entries_in (list ns) = Some ns
-entries_in null = None
-entries_in (bool b) = None
-entries_in (int z) = None
-entries_in (number t) = None
-entries_in (text t) = None
-entries_in (bytes t) = None
-entries_in (tag k n) = None
-entries_in (opaque b) = None
-entries_in (object ms) = None
-
-abbrev pub pairs_in : Node → Option Members
-pairs_in (object ms) = Some ms
-pairs_in null = None
-pairs_in (bool b) = None
-pairs_in (int z) = None
-pairs_in (number t) = None
-pairs_in (text t) = None
-pairs_in (bytes t) = None
-pairs_in (tag k n) = None
-pairs_in (opaque b) = None
-pairs_in (list ns) = None
-
 -- what is in a tree of the wanted kind is judged, and every other tree is refused
 abbrev pub judged : {X : Type 0} → (X → Option AstFault) → Option X → Option AstFault
 judged judge None = Some (wrong_type [])
@@ -217,11 +181,6 @@ form_fault (Some AllMembers) n = named_members_fault n
 form_fault (Some (Property form)) n = property_fault form n
 form_fault (Some Mixins) n = references_fault n
 form_fault (Some Traits) n = traits_fault n
-
--- the first tree under a name
-abbrev pub tree_named : List ℕ → Members → Option Node
-tree_named name no_members = None
-tree_named name (member k n ms) = if bytes_eq k name then Some n else tree_named name ms
 
 -- the type that a tree says
 abbrev pub type_of_text : Option (List ℕ) → Option ShapeType

@@ -10,8 +10,8 @@ use Rattle.sm_model.specs.Said.{TraitSaid, MemberSaid, ShapeSaid, Said, metadata
 use Rattle.sm_model.specs.Graphs.{NodeMap, ShapeMap, ShapeEntry, Entry, shape_entry, member_entry, GraphMaps}
 use Rattle.sm_model.specs.declared.property.PropertyForm.{PropertyForm}
 use Rattle.sm_model.specs.declared.property.PropertyForm.TheVariants.{Reference, References, NamedReferences, Text, Rename}
-use Rattle.sm_ast.specs.Faults.{tree_named}
-use Rattle.sm_ast.specs.PreludeIds.{is_prelude_id}
+use Rattle.sm_tree.specs.Parts.{tree_named}
+use Rattle.sm_model.specs.PreludeShapes.{is_prelude_id}
 use Rattle.sm_ast.specs.Written.{name_in_id}
 use Rattle.sm_ast.specs.steps.Saying.{text_said, entries_said, pairs_said}
 

@@ -4,7 +4,6 @@ pub mod Ast
 pub mod Faults
 pub mod Answers
 pub mod Distinct
-pub mod PreludeIds
 pub mod Written
 pub mod Named
 pub mod GraphSaid

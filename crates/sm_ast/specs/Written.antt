@@ -13,8 +13,8 @@ use Rattle.sm_model.specs.declared.kind.Kind.{Kind}
 use Rattle.sm_model.specs.declared.property.PropertyForm.{PropertyForm}
 use Rattle.sm_model.specs.declared.property.PropertyForm.TheVariants.{Reference, References, NamedReferences, Text, Rename}
 use Rattle.sm_ast.specs.Layout.{smithy_name, metadata_name, shapes_name, target_name, traits_name, type_name, members_name}
-use Rattle.sm_ast.specs.Faults.{tree_named}
-use Rattle.sm_ast.specs.PreludeIds.{is_prelude_id}
+use Rattle.sm_tree.specs.Parts.{tree_named}
+use Rattle.sm_model.specs.PreludeShapes.{is_prelude_id}
 use Rattle.sm_ast.specs.steps.Saying.{entries_said, pairs_said}
 
 -- the pairs of an object, in order

@@ -8,13 +8,11 @@ pub mod laws;
 mod layout;
 mod names;
 mod part;
-mod prelude;
 mod read;
 mod refusal;
 mod statements;
 mod write;
 
-pub use prelude::is_in_prelude;
 pub use read::read_ast;
 pub use refusal::AstRefusal;
 pub use write::write_ast;

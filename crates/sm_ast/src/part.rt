@@ -3,7 +3,8 @@ ghost use Rattle.std.specs.Prelude.{◌≡◌, MatchOption, None, Some};
 ghost use Rattle.std.specs.Str.{bytes_eq};
 ghost use Rattle.sm_tree.specs.Node.{nodes_of, members_of};
 ghost use Rattle.sm_tree.specs.View.{node_of, nodes_view, members_view};
-ghost use Rattle.sm_ast.specs.Faults.{text_in, entries_in, is_this, pairs_in, tree_named};
+ghost use Rattle.sm_tree.specs.Parts.{text_in, entries_in, pairs_in, tree_named};
+ghost use Rattle.sm_ast.specs.Faults.{is_this};
 ghost use Rattle.sm_ast.specs.steps.Saying.{entries_said, pairs_said, text_said};
 
 use sm_tree::{Text, Tree};

@@ -6,14 +6,11 @@ use Rattle.sm_ids.specs.IdText.{IsIdText}
 use Rattle.sm_tree.specs.Node.{Node, Nodes, Members, text, list, object, no_nodes, node, no_members, member}
 use Rattle.sm_tree.specs.Same.{IsNode, HasName}
 use Rattle.sm_model.specs.Kinds.{member_form}
-use Rattle.sm_model.specs.Properties.{TypeFields, form_named, property_forms}
+use Rattle.sm_model.specs.Properties.{TypeFields, form_named, property_forms, needed_fields}
 use Rattle.sm_model.specs.References.{IsShapeId}
 use Rattle.sm_model.specs.Formed.{DifferInNames, HaveForm}
 use Rattle.sm_model.specs.Graphs.{MemberGiven, ShapeGiven, given_entries}
 use Rattle.sm_model.specs.declared.kind.Kind.{Kind}
-use Rattle.sm_model.specs.declared.kind.Kind.TheVariants.{Blob, Boolean, Text as text_kind, Enum, Byte, Short, Integer, IntEnum, Long, Float, Double}
-use Rattle.sm_model.specs.declared.kind.Kind.TheVariants.{BigInteger, BigDecimal, Timestamp, Document, List as list_kind, Map, Structure, Union}
-use Rattle.sm_model.specs.declared.kind.Kind.TheVariants.{Service, Operation, Resource}
 use Rattle.sm_model.specs.declared.property.PropertyForm.{PropertyForm}
 use Rattle.sm_model.specs.declared.property.PropertyForm.TheVariants.{Reference, References, NamedReferences, Text, Rename}
 
@@ -44,30 +41,10 @@ abbrev pub AreNodeFields : TypeFields → Members → Type 0
 AreNodeFields fs no_members = Unit {0}
 AreNodeFields fs (member k n ms) = ((form : PropertyForm) × (form_named k fs ≡ Some form) × NodeHasForm form n) × AreNodeFields fs ms
 
--- an operation has an input and an output
-abbrev pub HasNeeded : Kind → Members → Type 0
-HasNeeded Operation ms = HasName (codes "input") ms × HasName (codes "output") ms
-HasNeeded Service ms = Unit {0}
-HasNeeded Resource ms = Unit {0}
-HasNeeded list_kind ms = Unit {0}
-HasNeeded Map ms = Unit {0}
-HasNeeded Structure ms = Unit {0}
-HasNeeded Union ms = Unit {0}
-HasNeeded Enum ms = Unit {0}
-HasNeeded IntEnum ms = Unit {0}
-HasNeeded Blob ms = Unit {0}
-HasNeeded Boolean ms = Unit {0}
-HasNeeded text_kind ms = Unit {0}
-HasNeeded Byte ms = Unit {0}
-HasNeeded Short ms = Unit {0}
-HasNeeded Integer ms = Unit {0}
-HasNeeded Long ms = Unit {0}
-HasNeeded Float ms = Unit {0}
-HasNeeded Double ms = Unit {0}
-HasNeeded BigInteger ms = Unit {0}
-HasNeeded BigDecimal ms = Unit {0}
-HasNeeded Timestamp ms = Unit {0}
-HasNeeded Document ms = Unit {0}
+-- a field under each of the names
+abbrev pub HaveNames : List (List ℕ) → Members → Type 0
+HaveNames [] ms = Unit {0}
+HaveNames (k ∷ ks) ms = HasName k ms × HaveNames ks ms
 
 -- the body of an operation, service or resource; every other type has an object without pairs
 pub record HasShapeBody (kind : Kind) (n : Node) : Type 0 where
@@ -75,7 +52,7 @@ pub record HasShapeBody (kind : Kind) (n : Node) : Type 0 where
   pub is_object : n ≡ object pairs
   pub is_node : IsNode n
   pub fields : AreNodeFields (property_forms kind) pairs
-  pub needed : HasNeeded kind pairs
+  pub needed : HaveNames (needed_fields kind) pairs
 
 -- under each name one node
 abbrev pub AreNodes : List (List ℕ × Node) → Type 0

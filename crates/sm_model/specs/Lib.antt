@@ -9,6 +9,8 @@ pub mod Formed
 pub mod Graphs
 pub mod Given
 pub mod GivenView
+pub mod PreludeShapes
+pub mod EventView
 pub mod GraphRows
 pub mod GraphView
 pub mod steps

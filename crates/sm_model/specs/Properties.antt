@@ -49,6 +49,31 @@ property_forms BigDecimal = []
 property_forms Timestamp = []
 property_forms Document = []
 
+-- the fields that each shape of a type has
+abbrev pub needed_fields : Kind → List (List ℕ)
+needed_fields Operation = codes "input" ∷ codes "output" ∷ []
+needed_fields Service = []
+needed_fields Resource = []
+needed_fields list_kind = []
+needed_fields Map = []
+needed_fields Structure = []
+needed_fields Union = []
+needed_fields Enum = []
+needed_fields IntEnum = []
+needed_fields Blob = []
+needed_fields Boolean = []
+needed_fields text_kind = []
+needed_fields Byte = []
+needed_fields Short = []
+needed_fields Integer = []
+needed_fields Long = []
+needed_fields Float = []
+needed_fields Double = []
+needed_fields BigInteger = []
+needed_fields BigDecimal = []
+needed_fields Timestamp = []
+needed_fields Document = []
+
 -- what stands in the field of this name
 abbrev pub form_named : List ℕ → TypeFields → Option PropertyForm
 form_named name [] = None

@@ -2,16 +2,20 @@
 // the graph of shapes that they come to.
 #![tactic(auto)]
 
+mod event;
 mod graph;
 mod kind;
+mod prelude;
 mod property;
 mod raw;
 mod reference;
 mod statement;
 
+pub use event::{ModelEvent, ModelEvents, Severity};
 pub use graph::{Graph, GraphMember, GraphMembers, GraphShape};
 pub use kind::Kind;
-pub use property::PropertyForm;
+pub use prelude::is_in_prelude;
+pub use property::{PropertyForm, field_names};
 pub use raw::{RawItems, RawNode, RawPairs};
 pub use reference::{Ref, Refs, Uses};
 pub use statement::{

@@ -1,5 +1,5 @@
 // The fields of operations, services and resources.
-ghost use Rattle.std.specs.Prelude.{◌≡◌};
+ghost use Rattle.std.specs.Prelude.{◌≡◌, map};
 ghost use Rattle.sm_model.specs.Properties.{form_named, operation_fields, property_forms, resource_fields, service_fields};
 
 use crate::kind::Kind;
@@ -64,5 +64,29 @@ impl PropertyForm {
             "operations" | "collectionOperations" | "resources" => Some(PropertyForm::References),
             _ => None,
         }
+    }
+}
+
+/// The names of the fields of a type, in the order in which they are written. No memory.
+pub fn field_names(kind: Kind) -> &'static [&'static str]
+    ensures { map (λ name. name.now) result.now ≡ map (λ field. field.0) (property_forms kind) }
+{
+    match kind {
+        Kind::Operation => &["input", "output", "errors"],
+        Kind::Service => &["version", "operations", "resources", "errors", "rename"],
+        Kind::Resource => &[
+            "identifiers",
+            "properties",
+            "create",
+            "put",
+            "read",
+            "update",
+            "delete",
+            "list",
+            "operations",
+            "collectionOperations",
+            "resources",
+        ],
+        _ => &[],
     }
 }

@@ -4,7 +4,7 @@ use Rattle.std.specs.FinMap as fin
 use Rattle.std.specs.List.{filter, list_any}
 use Rattle.sm_model.specs.Graphs.{Entry, shape_entry, member_entry, GraphMaps}
 use Rattle.sm_model.specs.GraphView.{is_member_entry}
-use Rattle.sm_ast.specs.PreludeIds.{is_prelude_id}
+use Rattle.sm_model.specs.PreludeShapes.{is_prelude_id}
 use Rattle.sm_plain.specs.declared.limit.LimitKind.{LimitKind}
 use Rattle.sm_plain.specs.declared.limit.LimitKind.TheVariants.{Shapes, Members}
 

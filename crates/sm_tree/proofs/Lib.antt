@@ -17,6 +17,7 @@ pub mod DigitRuns
 pub mod Numbers
 mod Tokens
 mod Sameness
+pub mod SameSizes
 pub mod OneAnswer
 pub mod SomeAnswer
 pub mod LongerBytes

@@ -5,6 +5,8 @@ pub mod View
 pub mod Levels
 pub mod Json
 pub mod Same
+pub mod Parts
+pub mod Size
 pub mod Numbers
 pub mod NumberTail
 pub mod Pointer

@@ -4,6 +4,7 @@ ghost use Rattle.sm_tree.specs.declared.tree.Tree.{Tree};
 ghost use Rattle.sm_tree.specs.View.{node_of};
 ghost use Rattle.sm_tree.specs.Pointer.{TokenReadsBack, TokenHasNoSlash};
 ghost use Rattle.sm_tree.specs.Same.{SameToItself, SameBothWays, SameThrough, OneValueAName};
+ghost use Rattle.sm_tree.specs.Size.{SameCountsTheSame};
 ghost use Rattle.sm_tree.specs.EventLaws.{OneTreeAStream, OneTreeOfStreams, HasStreams};
 
 use crate::text::{Bytes, Text};
@@ -37,6 +38,12 @@ pub fn same_both_ways()
 #[tactic(auto, using(crate::proofs::Sameness::transitive))]
 pub fn same_through()
     ensures { SameThrough }
+{}
+
+/// Trees that are the same, in whose objects no name repeats, count the same.
+#[tactic(auto, using(crate::proofs::SameSizes::same_size))]
+pub fn same_counts_the_same()
+    ensures { SameCountsTheSame }
 {}
 
 /// In an object of a node a name has one value.

@@ -10,6 +10,7 @@ pub mod number;
 mod path;
 mod refusal;
 mod same;
+mod size;
 mod text;
 mod tree;
 
@@ -19,6 +20,7 @@ pub use event::{Event, EventSink};
 pub use path::{Path, Step};
 pub use refusal::{MOST_LEVELS, SyntaxRefusal};
 pub use same::is_same;
+pub use size::tree_size;
 use std::alloc::{AllocError, AllocFailed};
 pub use text::{Bytes, SHORT_LEN, Text};
 pub use tree::{Items, Pairs, Tree};

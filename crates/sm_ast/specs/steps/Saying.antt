@@ -15,7 +15,8 @@ use Rattle.sm_model.specs.declared.property.PropertyForm.TheVariants.{Reference,
 use Rattle.sm_ast.specs.declared.layout.ShapeType.{ShapeType}
 use Rattle.sm_ast.specs.declared.layout.ShapeType.TheVariants.{Defined, Applied}
 use Rattle.sm_ast.specs.Ids.{is_id}
-use Rattle.sm_ast.specs.Faults.{text_in, entries_in, pairs_in, tree_named, type_said}
+use Rattle.sm_tree.specs.Parts.{text_in, entries_in, pairs_in, tree_named}
+use Rattle.sm_ast.specs.Faults.{type_said}
 use Rattle.sm_ast.specs.Layout.{metadata_name, shapes_name, target_name, traits_name, type_name, members_name, mixins_name}
 
 -- the parts of a tree, or none

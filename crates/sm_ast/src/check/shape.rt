@@ -3,7 +3,7 @@ ghost use Rattle.std.specs.Prelude.{◌≡◌, []};
 ghost use Rattle.sm_tree.specs.Node.{members_of};
 ghost use Rattle.sm_tree.specs.View.{node_of, members_view};
 ghost use Rattle.sm_ast.specs.Faults.{is_apply, is_shape_key, pairs_fault, shape_fault, shape_pairs_fault, shape_value_fault};
-ghost use Rattle.sm_ast.specs.Faults.{tree_named};
+ghost use Rattle.sm_tree.specs.Parts.{tree_named};
 ghost use Rattle.sm_ast.specs.Layout.{type_name};
 ghost use Rattle.sm_ast.specs.steps.Checks.{Checks};
 

@@ -6,7 +6,7 @@ ghost use Rattle.sm_tree.specs.View.{members_view};
 ghost use Rattle.sm_model.specs.Kinds.{member_form};
 ghost use Rattle.sm_model.specs.SaidView.{member_statements_of, member_statements_view, member_view};
 ghost use Rattle.sm_ast.specs.Layout.{members_name};
-ghost use Rattle.sm_ast.specs.Faults.{tree_named};
+ghost use Rattle.sm_tree.specs.Parts.{tree_named};
 ghost use Rattle.sm_ast.specs.steps.Saying.{member_by_pairs, member_there, members_by_form, members_said, members_there};
 
 use super::reference::target;

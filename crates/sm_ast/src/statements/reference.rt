@@ -3,7 +3,7 @@ ghost use Rattle.std.specs.Prelude.{◌≡◌, IfOk};
 ghost use Rattle.sm_tree.specs.Node.{members_of, nodes_of};
 ghost use Rattle.sm_tree.specs.View.{node_of, members_view, nodes_view};
 ghost use Rattle.sm_model.specs.References as references;
-ghost use Rattle.sm_ast.specs.Faults.{tree_named};
+ghost use Rattle.sm_tree.specs.Parts.{tree_named};
 ghost use Rattle.sm_ast.specs.steps.Saying.{reference_said, references_said, references_there, target_said};
 
 use crate::part::{entries_or_none, pairs_or_none, text_or_empty, tree_under};

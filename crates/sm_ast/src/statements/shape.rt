@@ -6,7 +6,7 @@ ghost use Rattle.sm_tree.specs.View.{members_view};
 ghost use Rattle.sm_ids.specs.IdText.{printed};
 ghost use Rattle.sm_ids.specs.View.{id_of};
 ghost use Rattle.sm_model.specs.SaidView.{shape_view, statement_view};
-ghost use Rattle.sm_ast.specs.Faults.{tree_named};
+ghost use Rattle.sm_tree.specs.Parts.{tree_named};
 ghost use Rattle.sm_ast.specs.Layout.{type_name};
 ghost use Rattle.sm_ast.specs.steps.Saying.{applied_said, shape_by_kind, statement_by_pairs, statement_by_type, type_there};
 

@@ -5,7 +5,7 @@ ghost use Rattle.sm_tree.specs.Node.{members_of};
 ghost use Rattle.sm_tree.specs.View.{members_view};
 ghost use Rattle.sm_model.specs.SaidView.{traits_of, traits_view};
 ghost use Rattle.sm_ast.specs.Layout.{traits_name};
-ghost use Rattle.sm_ast.specs.Faults.{tree_named};
+ghost use Rattle.sm_tree.specs.Parts.{tree_named};
 ghost use Rattle.sm_ast.specs.steps.Saying.{traits_said, traits_there};
 
 use super::node::raw_node;

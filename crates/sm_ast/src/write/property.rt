@@ -3,7 +3,7 @@ ghost use Rattle.std.specs.Prelude.{◌≡◌, ◌++◌, OnOk};
 ghost use Rattle.sm_tree.specs.Node.{members_of};
 ghost use Rattle.sm_tree.specs.View.{node_of, members_view};
 ghost use Rattle.sm_model.specs.Properties.{operation_fields, property_forms, resource_fields, service_fields};
-ghost use Rattle.sm_ast.specs.Faults.{tree_named};
+ghost use Rattle.sm_tree.specs.Parts.{tree_named};
 ghost use Rattle.sm_ast.specs.Written.{field_there, property_there, written_properties, written_property};
 ghost use Rattle.sm_ast.specs.steps.Saying.{pairs_said};
 ghost use Rattle.sm_ast.specs.steps.Writing.{bound_fields, life_cycle_fields, named_fields};

@@ -10,8 +10,7 @@ ghost use Rattle.sm_ast.specs.steps.Writing.{IsWrittenShape};
 use super::field::{put_field, put_object, put_text, put_traits};
 use super::member::put_members;
 use super::property::put_properties;
-use crate::prelude::is_in_prelude;
-use sm_model::{Graph, Kind};
+use sm_model::{Graph, Kind, is_in_prelude};
 use sm_tree::{NoMemory, Pairs, Text, Tree};
 use std::alloc::Global;
 

@@ -1,7 +1,7 @@
 use Rattle.std.proofs.Common.{◌≡◌, drop}
 use Rattle.sm_tree.specs.Node.{members_of}
 use Rattle.sm_tree.specs.View.{members_view}
-use Rattle.sm_ast.specs.Faults.{tree_named}
+use Rattle.sm_tree.specs.Parts.{tree_named}
 use Rattle.sm_ast.proofs.part.tree_under.Given as goal
 
 abbrev pub invariant-loop-pair : goal.invariant-loop-pair

@@ -2,7 +2,7 @@ use Rattle.std.proofs.Common.{◌≡◌, IfOk, subst, if◌then◌else◌}
 use Rattle.sm_tree.specs.Node.{members_of}
 use Rattle.sm_tree.specs.View.{members_view}
 use Rattle.sm_model.specs.SaidView.{statement_view}
-use Rattle.sm_ast.specs.Faults.{tree_named}
+use Rattle.sm_tree.specs.Parts.{tree_named}
 use Rattle.sm_ast.specs.Layout.{type_name}
 use Rattle.sm_ast.specs.steps.Saying.{applied_said, statement_by_type, type_there}
 use Rattle.sm_ast.proofs.IdTests.{parsed_passes, no_id_fails}

@@ -1,0 +1,6 @@
+mod OneValue
+mod OneEffective
+mod OneMerged
+mod PreludeGiven
+mod PreludeShapes
+mod MeantIds

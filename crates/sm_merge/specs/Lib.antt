@@ -1,0 +1,9 @@
+pub mod Meaning
+pub mod Stated
+pub mod Values
+pub mod Places
+pub mod Mixins
+pub mod Merged
+pub mod Limits
+pub mod Answers
+pub mod Laws

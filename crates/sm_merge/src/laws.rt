@@ -1,0 +1,32 @@
+// Laws over the definitions of merging: public functions with empty bodies, whose contracts are the laws.
+ghost use Rattle.sm_merge.specs.Laws.{NoFiles, OneEffectiveShape, OneFileOrSeveral, OneGraph, OneValue};
+
+/// The values of one trait of one place come to one value.
+#[tactic(auto, using(crate::proofs::OneValue::one_value))]
+pub fn one_value()
+    ensures { OneValue }
+{}
+
+/// What a shape comes to with its mixins is one thing.
+#[tactic(auto, using(crate::proofs::OneEffective::one_effective))]
+pub fn one_effective_shape()
+    ensures { OneEffectiveShape }
+{}
+
+/// Statements have one graph.
+#[tactic(auto, using(crate::proofs::OneMerged::one_graph))]
+pub fn one_graph()
+    ensures { OneGraph }
+{}
+
+/// Statements merge to the same in one file and in several, if they stand in the same order.
+#[tactic(auto, using(crate::proofs::OneMerged::one_file_or_several))]
+pub fn one_file_or_several()
+    ensures { OneFileOrSeveral }
+{}
+
+/// No files merge to the prelude.
+#[tactic(auto, using(crate::proofs::OneMerged::no_files))]
+pub fn no_files()
+    ensures { NoFiles }
+{}

@@ -1,0 +1,12 @@
+// The statements of several model files come to one graph, with the prelude, `apply` and mixins (Smithy 2.0, "Merging models",
+// "Mixins", "apply statement", "Prelude").
+#![tactic(auto)]
+
+pub mod laws;
+mod limit;
+mod prelude_graph;
+mod refusal;
+
+pub use limit::{ALL_MEMBER_LIMIT, LimitKind, MEMBER_LIMIT, SHAPE_LIMIT, TRAIT_LIMIT};
+pub use prelude_graph::prelude;
+pub use refusal::MergeRefusal;
