@@ -4,3 +4,7 @@ mod OneMerged
 mod PreludeGiven
 mod PreludeShapes
 mod MeantIds
+mod NamesKnown
+mod MeantViews
+mod Bodies
+mod Cuts

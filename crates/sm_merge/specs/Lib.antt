@@ -7,3 +7,4 @@ pub mod Merged
 pub mod Limits
 pub mod Answers
 pub mod Laws
+pub mod steps

@@ -2,8 +2,12 @@
 // "Mixins", "apply statement", "Prelude").
 #![tactic(auto)]
 
+mod body;
 pub mod laws;
 mod limit;
+mod meaning;
+mod names;
+mod node;
 mod prelude_graph;
 mod refusal;
 

@@ -1,0 +1,3 @@
+pub mod Known
+pub mod Meant
+pub mod Cut

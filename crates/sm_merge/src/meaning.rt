@@ -1,0 +1,146 @@
+// What references mean, once it is known which shapes there are.
+ghost use Rattle.std.specs.Prelude.{◌≡◌, ◌++◌, ℕ, List, IfOk, MatchOption, None, Some, string_bytes};
+ghost use Rattle.sm_merge.specs.Meaning.{found_in, is_absolute, meaning as meant, member_part, name_part, relative_meaning, shape_part, used_under};
+ghost use Rattle.sm_merge.specs.steps.Known.{known};
+ghost use Rattle.sm_merge.specs.steps.Cut.{HasMember};
+
+use crate::names::Names;
+use sm_ids::ShapeId;
+use sm_model::{Ref, is_in_prelude};
+use sm_tree::{NoMemory, Text};
+use std::alloc::Global;
+
+/// The id that a reference means.
+pub(crate) fn meaning(alloc: Global, names: &Names<'_>, reference: &Ref) -> Result<Text, NoMemory>
+    ensures { IfOk result (λ id. id ≡ meant (known names.now) reference.now) }
+{
+    let text = reference.text.as_str();
+    match &reference.namespace {
+        None => Text::copy(alloc, text),
+        Some(namespace) => {
+            if has_number_sign(text) {
+                return Text::copy(alloc, text);
+            }
+            let id = relative(alloc, names, reference, namespace.as_str())?;
+            Ok(Text::new(id))
+        }
+    }
+}
+
+fn has_number_sign(text: &str) -> bool
+    ensures { result ≡ is_absolute text.now }
+{
+    text.as_bytes().contains(&b'#')
+}
+
+// The id that a relative reference of a file with this namespace means.
+fn relative(
+    alloc: Global,
+    names: &Names<'_>,
+    reference: &Ref,
+    namespace: &str,
+) -> Result<String, NoMemory>
+    ensures { IfOk result (λ id. string_bytes id
+        ≡ relative_meaning (known names.now) reference.now namespace.now (shape_part reference.now.text) ++ member_part reference.now.text) }
+{
+    let text = reference.text.as_str();
+    let name = without_member(text);
+    let mut id = shape(alloc, names, reference, namespace, name)?;
+    match member_of(text) {
+        None => Ok(id),
+        Some(member) => {
+            id.push_str("$")?;
+            id.push_str(member)?;
+            Ok(id)
+        }
+    }
+}
+
+// The member of an id.
+fn member_of(id: &str) -> Option<&str>
+    ensures { HasMember id.now result }
+{
+    match id.split_once('$') {
+        Some((_, member)) => Some(member),
+        None => None,
+    }
+}
+
+// The shape that a name stands for in a file of this namespace.
+fn shape(
+    alloc: Global,
+    names: &Names<'_>,
+    reference: &Ref,
+    namespace: &str,
+    name: &str,
+) -> Result<String, NoMemory>
+    ensures { IfOk result (λ id. string_bytes id ≡ relative_meaning (known names.now) reference.now namespace.now name.now) }
+{
+    match used(name, reference.uses.as_slice()) {
+        Some(id) => Ok(String::from_str(alloc, id)?),
+        None => found(alloc, names, namespace, name, reference.in_trait),
+    }
+}
+
+// An id without its member.
+fn without_member(id: &str) -> &str
+    ensures { result.now ≡ shape_part id.now }
+{
+    match id.split_once('$') {
+        Some((shape, _)) => shape,
+        None => id,
+    }
+}
+
+// The name of an absolute id, without its namespace and its member.
+fn name_of(id: &str) -> &str
+    ensures { result.now ≡ name_part id.now }
+{
+    match id.split_once('#') {
+        Some((_, name)) => without_member(name),
+        None => "",
+    }
+}
+
+// The first of the ids with this name, without its member.
+fn used<'a>(name: &str, ids: &'a [ShapeId]) -> Option<&'a str>
+    ensures { MatchOption result (used_under name.now ids.now ≡ None) (λ id. used_under name.now ids.now ≡ Some id.now) }
+{
+    for id in ids {
+        if name_of(id.as_str()) == name {
+            return Some(without_member(id.as_str()));
+        }
+    }
+    None
+}
+
+// The shape that a name stands for in a file of this namespace that uses no id under it.
+fn found(
+    alloc: Global,
+    names: &Names<'_>,
+    namespace: &str,
+    name: &str,
+    in_trait: bool,
+) -> Result<String, NoMemory>
+    ensures { IfOk result (λ id. string_bytes id ≡ found_in (known names.now) namespace.now name.now in_trait) }
+{
+    let own = joined(alloc, namespace, "#", name)?;
+    if names.has(own.as_str()) {
+        return Ok(own);
+    }
+    let api = joined(alloc, "smithy.api", "#", name)?;
+    if in_trait || is_in_prelude(api.as_str()) {
+        Ok(api)
+    } else {
+        Ok(own)
+    }
+}
+
+fn joined(alloc: Global, first: &str, second: &str, third: &str) -> Result<String, NoMemory>
+    ensures { IfOk result (λ text. string_bytes text ≡ first.now ++ second.now ++ third.now) }
+{
+    let mut text = String::from_str(alloc, first)?;
+    text.push_str(second)?;
+    text.push_str(third)?;
+    Ok(text)
+}
