@@ -8,3 +8,4 @@ mod NamesKnown
 mod MeantViews
 mod Bodies
 mod Cuts
+mod Folds

@@ -1,17 +1,17 @@
 -- What a reference means is an id: what is used under a name, and what a name stands for, are ids of shapes, and a member stays.
-use Rattle.std.proofs.Common.{◌≡◌, ◌⊎◌, inl, inr, ◌+◌, ℕ, not, ◌&&◌, Bool, true, false, cond, List, [], ◌∷◌, ◌++◌, take, drop, length}
+use Rattle.std.proofs.Common.{◌≡◌, inl, inr, ◌+◌, ℕ, not, ◌&&◌, Bool, true, false, cond, List, [], ◌∷◌, ◌++◌, take, drop, length}
 use Rattle.std.proofs.Common.{Option, Some, None, refl, sym, ap, subst, ◌∙◌, arith, append_assoc, append-nil, bytes_eq}
-use Rattle.std.specs.Prelude.{codes, ◌||◌, ◌==◌, if◌then◌else◌}
-use Rattle.std.specs.List.{list_all, list_any, prefix_len, position_or_len, before_first}
+use Rattle.std.specs.Prelude.{◌||◌, if◌then◌else◌}
+use Rattle.std.specs.List.{list_all, list_any, position_or_len}
 use Rattle.std.specs.Option.{ForSome, unwrap_or}
 use Rattle.std.proofs.lemmas.Bool.Decides.{nat_tests}
 use Rattle.std.proofs.lemmas.List.Folds.{list_any-append}
 use Rattle.sm_bytes.specs.Ascii.{dollar, number_sign}
 use Rattle.sm_ids.specs.Identifier.{is_identifier_byte, IsIdentifier, IsNamespace}
-use Rattle.sm_ids.specs.IdText.{Id, IsId, IdText, IsIdText, member_text, printed}
+use Rattle.sm_ids.specs.IdText.{IsIdText, member_text}
 use Rattle.sm_ids.proofs.Identifiers.{made_of_bytes}
 use Rattle.sm_ids.proofs.Namespaces.{is_namespace_byte, namespace_bytes}
-use Rattle.sm_model.specs.References.{IsShapeId, AreIds, IsWritten, IsReference, IsRelativeId}
+use Rattle.sm_model.specs.References.{IsShapeId, AreIds, IsWritten, IsReference}
 use Rattle.sm_model.specs.PreludeShapes.{api_id, is_prelude_id}
 use Rattle.sm_model.specs.declared.reference.Ref.{Ref}
 use Rattle.sm_merge.specs.Meaning.{Defined, is_byte, is_absolute, shape_part, member_part, name_part, used_under, found_in, relative_meaning}

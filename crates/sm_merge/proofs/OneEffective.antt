@@ -1,15 +1,13 @@
 -- What a shape comes to with its mixins is one thing: the statement, the copies of its mixins, and what is made from them.
-use Rattle.std.proofs.Common.{◌≡◌, inl, inr, ℕ, List, [], ◌∷◌, map, Option, Some, None, refl, sym, ap, subst, ◌∙◌}
+use Rattle.std.proofs.Common.{◌≡◌, ℕ, List, [], ◌∷◌, Option, Some, None, refl, sym, ap, subst, ◌∙◌}
 use Rattle.std.specs.Prelude.{◌↔◌}
 use Rattle.std.specs.Option.{unwrap_or}
 use Rattle.std.specs.Cmp.Lexicographic.{nat_list_cmp_total}
 use Rattle.std.specs.FinMap as fin
 use Rattle.std.specs.FinMap.{same_map, slice_cmp-IsAntisymmetric, nat_cmp-IsAntisymmetric}
-use Rattle.sm_tree.specs.Node.{Node}
-use Rattle.sm_model.specs.Graphs.{text_cmp, NodeMap, MemberEntry}
+use Rattle.sm_model.specs.Graphs.{text_cmp, MemberEntry}
 use Rattle.sm_merge.specs.Stated.{ShapeStated, Stated}
-use Rattle.sm_merge.specs.Places.{shape_under}
-use Rattle.sm_merge.specs.Mixins.{EffectiveMembers, EffectiveShape, Contributes, copy_of, all_members, names_of}
+use Rattle.sm_merge.specs.Mixins.{EffectiveMembers, EffectiveShape, copy_of, all_members, names_of}
 use Rattle.sm_merge.specs.Mixins.{IsEffectiveMember, AreEffectiveMembers, IsMadeFrom, IsEffective, effective}
 use Rattle.sm_merge.specs.Mixins.{AreCopied, no_mixins, mixed_in, passed_over}
 use Rattle.sm_merge.proofs.OneValue.{one_value}

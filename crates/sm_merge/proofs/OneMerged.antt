@@ -1,27 +1,22 @@
 -- Statements have one graph, wherever files are cut; and none have the prelude.
-use Rattle.std.proofs.Common.{◌≡◌, ◌<◌, inl, inr, ℕ, Bool, true, false, cond, List, [], ◌∷◌, map, Some, None, refl, sym, ap, subst, ◌∙◌, arith}
+use Rattle.std.proofs.Common.{◌≡◌, ◌<◌, inl, inr, ℕ, true, cond, List, [], ◌∷◌, map, Some, None, refl, sym, ap, subst, ◌∙◌, arith}
 use Rattle.std.specs.Prelude.{not}
 use Rattle.std.specs.List.{Any, Contains, filter, sum_by}
-use Rattle.std.specs.Option.{unwrap_or, is_some}
-use Rattle.std.specs.FinMap as fin
+use Rattle.std.specs.Option.{is_some}
 use Rattle.std.specs.FinMap.{get-empty}
-use Rattle.sm_tree.specs.Node.{Node, null}
-use Rattle.sm_model.specs.Said.{Said}
 use Rattle.sm_model.specs.Graphs.{text_cmp, Entry, given_entries, traits_in}
 use Rattle.sm_model.specs.PreludeShapes.{is_prelude_id, prelude_graph, prelude_shapes}
 use Rattle.sm_model.specs.EventView.{EventTold}
-use Rattle.sm_model.specs.declared.graph.Graph.{Graph}
 use Rattle.sm_model.proofs.MapFacts.{Each, each_entry}
-use Rattle.sm_merge.specs.Stated.{Stated, all_said, stated, stated_by, defined_among}
-use Rattle.sm_merge.specs.Merged.{IsGraphOf, IsWrong, StandsUnder}
+use Rattle.sm_merge.specs.Stated.{stated, stated_by, defined_among}
+use Rattle.sm_merge.specs.Merged.{IsWrong, StandsUnder}
 use Rattle.sm_merge.specs.Merged.{other_shape, stated_again, trait_conflict, metadata_conflict, applied_to_nothing, defined_otherwise, bad_mixin}
 use Rattle.sm_merge.specs.Limits.{IsPast, is_own, own_entries, shapes_in, members_in, traits_size}
-use Rattle.sm_merge.specs.Answers.{StatementsComeTo, MergesTo}
+use Rattle.sm_merge.specs.Answers.{StatementsComeTo}
 use Rattle.sm_merge.specs.Laws.{NoFiles, OneFileOrSeveral, OneGraph}
 use Rattle.sm_merge.specs.declared.limit.TheConstants.{SHAPE_LIMIT, MEMBER_LIMIT, ALL_MEMBER_LIMIT, TRAIT_LIMIT}
 use Rattle.sm_merge.specs.declared.limit.LimitKind.{LimitKind}
 use Rattle.sm_merge.specs.declared.limit.LimitKind.TheVariants.{Shapes, Members, AllMembers, Traits}
-use Rattle.sm_merge.specs.declared.refusal.MergeRefusal.{MergeRefusal}
 use Rattle.sm_merge.proofs.OneEffective.{same_told}
 
 pub one_graph : OneGraph

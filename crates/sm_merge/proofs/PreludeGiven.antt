@@ -1,5 +1,5 @@
 -- A graph may be made of the shapes of the prelude.
-use Rattle.std.proofs.Common.{◌≡◌, ◌⊎◌, inl, inr, ◌<◌, ◌^◌, not, ◌&&◌, Bool, true, false, cond, ℕ, List, [], ◌∷◌, ◌++◌, length, Option, Some, None}
+use Rattle.std.proofs.Common.{◌≡◌, inl, inr, Bool, true, false, cond, ℕ, List, [], ◌∷◌, ◌++◌, Some, None}
 use Rattle.std.proofs.Common.{pos, refl, sym, ap, subst, ◌∙◌, bytes_eq, rules}
 use Rattle.std.proofs.lemmas.List.{append-nil}
 use Rattle.std.proofs.lemmas.Slice.Eq.{bytes_eq-Decides}
@@ -7,7 +7,7 @@ use Rattle.std.specs.Prelude.{codes, ◌||◌}
 use Rattle.std.specs.List.{list_any}
 use Rattle.std.specs.Option.{is_some}
 use Rattle.sm_ids.specs.Identifier.{IsIdentifier}
-use Rattle.sm_ids.specs.IdText.{Id, IdText}
+use Rattle.sm_ids.specs.IdText.{Id}
 use Rattle.sm_tree.specs.Node.{Node, int, no_members}
 use Rattle.sm_tree.specs.Same.{IsNode}
 use Rattle.sm_model.specs.Formed.{StandsAmong, DifferInNames, HaveForm}

@@ -6,7 +6,7 @@ use Rattle.std.specs.List.{list_any, filter, flat_map, cons_option, Contains}
 use Rattle.std.specs.Option.{option_or, unwrap_or}
 use Rattle.std.specs.FinMap as fin
 use Rattle.std.specs.Str.{bytes_eq}
-use Rattle.sm_tree.specs.Node.{Node, Nodes, null, no_nodes, node, no_members}
+use Rattle.sm_tree.specs.Node.{Node, Nodes, no_nodes, node, no_members}
 use Rattle.sm_tree.specs.Parts.{text_in, entries_in, pairs_in, tree_named}
 use Rattle.sm_model.specs.Graphs.{text_cmp, NodeMap, MemberEntry, MemberGiven, member_id}
 use Rattle.sm_model.specs.PreludeShapes.{api_id}

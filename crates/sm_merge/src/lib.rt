@@ -10,6 +10,8 @@ mod names;
 mod node;
 mod prelude_graph;
 mod refusal;
+mod stated;
+mod value;
 
 pub use limit::{ALL_MEMBER_LIMIT, LimitKind, MEMBER_LIMIT, SHAPE_LIMIT, TRAIT_LIMIT};
 pub use prelude_graph::prelude;

@@ -44,7 +44,12 @@ AreNodeFields fs (member k n ms) = ((form : PropertyForm) × (form_named k fs �
 -- a field under each of the names
 abbrev pub HaveNames : List (List ℕ) → Members → Type 0
 HaveNames [] ms = Unit {0}
-HaveNames (k ∷ ks) ms = HasName k ms × HaveNames ks ms
+HaveNames (k ∷ []) ms = HasName k ms
+HaveNames (k ∷ j ∷ ks) ms = HasName k ms × HaveNames (j ∷ ks) ms
+
+-- as an operation has an input and an output
+abbrev pub HasNeeded : Kind → Members → Type 0
+HasNeeded kind ms = HaveNames (needed_fields kind) ms
 
 -- the body of an operation, service or resource; every other type has an object without pairs
 pub record HasShapeBody (kind : Kind) (n : Node) : Type 0 where
@@ -52,7 +57,7 @@ pub record HasShapeBody (kind : Kind) (n : Node) : Type 0 where
   pub is_object : n ≡ object pairs
   pub is_node : IsNode n
   pub fields : AreNodeFields (property_forms kind) pairs
-  pub needed : HaveNames (needed_fields kind) pairs
+  pub needed : HasNeeded kind pairs
 
 -- under each name one node
 abbrev pub AreNodes : List (List ℕ × Node) → Type 0

@@ -2,7 +2,7 @@ use Rattle.std.proofs.Common.{◌≡◌, ◌≤◌, ◌++◌, drop}
 use Rattle.sm_tree.specs.View.{nodes_view, members_view}
 use Rattle.sm_model.specs.Raw.{raws_of, raw_members_of}
 use Rattle.sm_model.specs.RawView.{raw_view, raws_view, raw_members_view}
-use Rattle.sm_model.specs.steps.RawWeight.{raw_weight, raws_weight, raw_members_weight}
+use Rattle.sm_model.proofs.RawWeight.{raw_weight, raws_weight, raw_members_weight}
 use Rattle.sm_merge.specs.steps.Known.{known}
 use Rattle.sm_merge.specs.steps.Meant.{entries_meant, pairs_meant}
 use Rattle.sm_merge.proofs.node.+meant.Given as goal
