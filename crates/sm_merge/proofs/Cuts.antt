@@ -1,5 +1,6 @@
 -- A text before and behind its first dollar sign.
-use Rattle.std.proofs.Common.{◌≡◌, ◌<◌, ◌+◌, ◌⊎◌, inl, inr, ℕ, suc, Bool, true, false, not, cond, List, [], ◌∷◌, take, drop, length, refl, sym, ap, ◌∙◌, arith}
+use Rattle.std.proofs.Common.{◌≡◌, ◌<◌, ◌+◌, ◌⊎◌, inl, inr, ℕ, suc, Bool, true, false, not, cond, List, [], ◌∷◌, take, drop, length, refl}
+use Rattle.std.proofs.Common.{sym, ap, ◌∙◌, arith}
 use Rattle.std.proofs.Math.Seq.{drop-length, take-length}
 use Rattle.std.proofs.lemmas.Bool.Decides.{nat_tests}
 use Rattle.std.specs.List.{position_or_len, after_first}
@@ -21,7 +22,8 @@ is_dollar : (c : ℕ) → is_byte dollar c ≡ true → c ≡ dollar
 is_dollar c h = grind (arith, nat_tests)
 
 -- else it stands there, and then the rest
-pub dollar_behind : (id : List ℕ) → position_or_len (is_byte dollar) id < length id → member_part id ≡ dollar ∷ after_first (is_byte dollar) id
+pub dollar_behind : (id : List ℕ) → position_or_len (is_byte dollar) id < length id → member_part id ≡ dollar
+    ∷ after_first (is_byte dollar) id
 dollar_behind [] h = absurd (omega (arith, h))
 dollar_behind (c ∷ cs) h =
     let n = position_or_len (is_byte dollar) cs in

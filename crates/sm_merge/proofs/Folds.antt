@@ -1,5 +1,6 @@
 -- Values taken one after the other: where the fold begins, one more value, and where it ends.
-use Rattle.std.proofs.Common.{◌≡◌, ◌⊎◌, inl, inr, ℕ, ◌+◌, ◌-◌, ◌^◌, min, Bool, true, false, cond, List, [], ◌∷◌, ◌++◌, None, arith, refl, sym, ap, subst, ◌∙◌}
+use Rattle.std.proofs.Common.{◌≡◌, ◌⊎◌, inl, inr, ℕ, ◌+◌, ◌-◌, ◌^◌, min, Bool, true, false, cond, List, [], ◌∷◌, ◌++◌, None, arith, refl}
+use Rattle.std.proofs.Common.{sym, ap, subst, ◌∙◌}
 use Rattle.std.specs.Prelude.{IsTrue, ◌↔◌}
 use Rattle.sm_bytes.specs.Lengths.{length_word}
 use Rattle.std.specs.Option.{is_some}
@@ -33,7 +34,8 @@ fold_begun first all = record {
 }
 
 pub fold_step : (first : Node) (all : List Node) (value next after : Node) (rest : List Node) (conflict again : Bool)
-    → IsFoldOf first all value (next ∷ rest) conflict → ComeTo value next after → (IsTrue again ↔ (IsTrue conflict ⊎ AreInConflict value next))
+    → IsFoldOf first all value (next ∷ rest) conflict → ComeTo value next after
+    → (IsTrue again ↔ (IsTrue conflict ⊎ AreInConflict value next))
     → IsFoldOf first all after rest again
 fold_step first all value next after rest conflict again h came told = record {
   comes = λ c behind. h.comes c (after, came, behind);

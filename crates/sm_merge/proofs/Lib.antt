@@ -1,6 +1,7 @@
 mod OneValue
 mod OneEffective
 mod OneMerged
+mod OneList
 mod PreludeGiven
 mod PreludeShapes
 mod MeantIds

@@ -14,7 +14,8 @@ use Rattle.sm_ids.proofs.Namespaces.{is_namespace_byte, namespace_bytes}
 use Rattle.sm_model.specs.References.{IsShapeId, AreIds, IsWritten, IsReference}
 use Rattle.sm_model.specs.PreludeShapes.{api_id, is_prelude_id}
 use Rattle.sm_model.specs.declared.reference.Ref.{Ref}
-use Rattle.sm_merge.specs.Meaning.{Defined, is_byte, is_absolute, shape_part, member_part, name_part, used_under, found_in, relative_meaning}
+use Rattle.sm_merge.specs.Meaning.{Defined, is_byte, is_absolute, shape_part, member_part, name_part, used_under, found_in}
+use Rattle.sm_merge.specs.Meaning.{relative_meaning}
 use Rattle.sm_merge.specs.Meaning.{meaning_in, meaning}
 use Rattle.sm_merge.proofs.PreludeGiven.{api_shape_id}
 
@@ -53,8 +54,10 @@ member_begins None = refl
 member_begins (Some m) = refl
 
 -- a name, and what is behind it
-name_ends : (name : List ℕ) (m : Option (List ℕ)) → IsIdentifier name → position_or_len (is_byte dollar) (name ++ member_text m) ≡ length name
-name_ends name m h = runs_through (is_byte dollar) is_identifier_byte no_dollar name (member_text m) (made_of_bytes name h) (member_begins m)
+name_ends : (name : List ℕ) (m : Option (List ℕ)) → IsIdentifier name → position_or_len (is_byte dollar) (name ++ member_text m)
+    ≡ length name
+name_ends name m h =
+    runs_through (is_byte dollar) is_identifier_byte no_dollar name (member_text m) (made_of_bytes name h) (member_begins m)
 
 pub name_cut_off : (name : List ℕ) (m : Option (List ℕ)) → IsIdentifier name → shape_part (name ++ member_text m) ≡ name
 name_cut_off name m h = ap (λ n. take n (name ++ member_text m)) (name_ends name m h) ∙ front name (member_text m)
@@ -80,10 +83,12 @@ member_without : (m : Option (List ℕ)) → ForSome m IsIdentifier → list_any
 member_without None h = refl
 member_without (Some m) h = none_of (is_byte number_sign) is_identifier_byte no_sign m (made_of_bytes m (h m refl))
 
-is_relative : (name : List ℕ) (m : Option (List ℕ)) → IsIdentifier name → ForSome m IsIdentifier → is_absolute (name ++ member_text m) ≡ false
+is_relative : (name : List ℕ) (m : Option (List ℕ)) → IsIdentifier name → ForSome m IsIdentifier → is_absolute (name ++ member_text m)
+    ≡ false
 is_relative name m h k =
     list_any-append (is_byte number_sign) name (member_text m)
-    ∙ ap (λ b. b || list_any (is_byte number_sign) (member_text m)) (none_of (is_byte number_sign) is_identifier_byte no_sign name (made_of_bytes name h))
+    ∙ ap (λ b. b || list_any (is_byte number_sign) (member_text m))
+    (none_of (is_byte number_sign) is_identifier_byte no_sign name (made_of_bytes name h))
     ∙ member_without m k
 
 -- the id of a shape with a member, or without one, is an id
@@ -122,7 +127,9 @@ turned_back b h = ap not h
 
 all_joined : (q : ℕ → Bool) (xs ys : List ℕ) → list_all q xs ≡ true → list_all q ys ≡ true → list_all q (xs ++ ys) ≡ true
 all_joined q [] ys h k = k
-all_joined q (x ∷ xs) ys h k = let l = both_parts (q x) (list_all q xs) h in ap (λ b. b && list_all q (xs ++ ys)) l.0 ∙ all_joined q xs ys l.1 k
+all_joined q (x ∷ xs) ys h k =
+    let l = both_parts (q x) (list_all q xs) h in
+    ap (λ b. b && list_all q (xs ++ ys)) l.0 ∙ all_joined q xs ys l.1 k
 
 space_no_dollar : (c : ℕ) → is_namespace_byte c ≡ true → is_byte dollar c ≡ false
 space_no_dollar c h = grind (arith, nat_tests)
@@ -147,7 +154,8 @@ shape_of_id id (i, is) =
     let spelled : id ≡ whole ++ member_text i.member =
     is.spelled ∙ sym (append_assoc i.namespace (number_sign ∷ i.name) (member_text i.member)) in
     let before : list_all is_before_dollar whole ≡ true =
-    all_joined is_before_dollar i.namespace (number_sign ∷ i.name) (before_dollar is_namespace_byte space_no_dollar i.namespace (namespace_bytes i.namespace is.is_id.namespace))
+    all_joined is_before_dollar i.namespace (number_sign ∷ i.name)
+    (before_dollar is_namespace_byte space_no_dollar i.namespace (namespace_bytes i.namespace is.is_id.namespace))
     (before_dollar is_identifier_byte no_dollar i.name (made_of_bytes i.name is.is_id.name)) in
     let ends : position_or_len (is_byte dollar) (whole ++ member_text i.member) ≡ length whole =
     runs_through (is_byte dollar) is_before_dollar not_dollar whole (member_text i.member) before (member_begins i.member) in
@@ -156,7 +164,8 @@ shape_of_id id (i, is) =
     subst IsShapeId (sym cut) (spelled_shape i.namespace i.name is.is_id.namespace is.is_id.name)
 
 -- what is used under a name is the id of a shape
-first_used : (b : Bool) (id : List ℕ) (o : Option (List ℕ)) → IsShapeId id → ForSome o IsShapeId → ForSome (if b then Some id else o) IsShapeId
+first_used : (b : Bool) (id : List ℕ) (o : Option (List ℕ)) → IsShapeId id → ForSome o IsShapeId
+    → ForSome (if b then Some id else o) IsShapeId
 first_used true id o h k = λ x e. subst IsShapeId (ap (λ p. unwrap_or p id) e) h
 first_used false id o h k = k
 
@@ -176,7 +185,8 @@ found_by false false false own api h k = h
 found_shape : (defined : Defined) (ns name : List ℕ) (in_trait : Bool) → IsNamespace ns → IsIdentifier name
     → IsShapeId (found_in defined ns name in_trait)
 found_shape defined ns name in_trait h k =
-    found_by (defined (ns ++ number_sign ∷ name)) (is_prelude_id (api_id name)) in_trait _ _ (spelled_shape ns name h k) (api_shape_id name k)
+    found_by (defined (ns ++ number_sign ∷ name)) (is_prelude_id (api_id name)) in_trait _ _ (spelled_shape ns name h k)
+    (api_shape_id name k)
 
 or_else : (o : Option (List ℕ)) (id : List ℕ) → ForSome o IsShapeId → IsShapeId id → IsShapeId (unwrap_or o id)
 or_else None id h k = k
@@ -191,18 +201,23 @@ meant_relative defined r ns name m uses h k member is =
     ≡ relative_meaning defined r ns name ++ member_text m =
     λ i. relative_meaning defined r ns ((ap shape_part is ∙ name_cut_off name m k) i) ++ (ap member_part is ∙ member_left name m k) i in
     let relative : is_absolute r.text ≡ false = ap is_absolute is ∙ is_relative name m k member in
-    subst IsIdText (sym (ap (λ b. if b then r.text else relative_meaning defined r ns (shape_part r.text) ++ member_part r.text) relative ∙ parts))
+    let is_meant : meaning_in defined r (Some ns) ≡ relative_meaning defined r ns name ++ member_text m =
+    ap (λ b. if b then r.text else relative_meaning defined r ns (shape_part r.text) ++ member_part r.text) relative ∙ parts in
+    subst IsIdText (sym is_meant)
     (with_member _ m shape member)
 
 meant_absolute : (defined : Defined) (r : Ref) (ns : List ℕ) → IsIdText r.text → IsIdText (meaning_in defined r (Some ns))
 meant_absolute defined r ns (id, is) =
     let absolute : is_absolute r.text ≡ true = ap is_absolute is.spelled ∙ has_sign id.namespace (id.name ++ member_text id.member) in
-    subst IsIdText (sym (ap (λ b. if b then r.text else relative_meaning defined r ns (shape_part r.text) ++ member_part r.text) absolute)) (id, is)
+    let is_text : meaning_in defined r (Some ns) ≡ r.text =
+    ap (λ b. if b then r.text else relative_meaning defined r ns (shape_part r.text) ++ member_part r.text) absolute in
+    subst IsIdText (sym is_text) (id, is)
 
 meant_id : (defined : Defined) (r : Ref) (o : Option (List ℕ)) → IsWritten o r.text → AreIds r.uses → IsIdText (meaning_in defined r o)
 meant_id defined r None h uses = h
 meant_id defined r (Some ns) (h, inl id) uses = meant_absolute defined r ns id
-meant_id defined r (Some ns) (h, inr (name, m, is_name, is_member, is)) uses = meant_relative defined r ns name m uses h is_name is_member is
+meant_id defined r (Some ns) (h, inr (name, m, is_name, is_member, is)) uses =
+    meant_relative defined r ns name m uses h is_name is_member is
 
 -- what a reference means is an id
 pub meaning_is_id : (defined : Defined) (r : Ref) → IsReference r → IsIdText (meaning defined r)

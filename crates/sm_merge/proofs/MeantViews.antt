@@ -17,14 +17,17 @@ entries_listed : (defined : Defined) (ns : List Raw) → nodes_meant defined (ra
 entries_listed defined [] = refl
 entries_listed defined (n ∷ ns) = ap (node (node_meant defined n)) (entries_listed defined ns)
 
-pub pairs_listed : (defined : Defined) (ms : List (List ℕ × Raw)) → members_meant defined (raw_members_of ms) ≡ members_of (pairs_meant defined ms)
+pub pairs_listed : (defined : Defined) (ms : List (List ℕ × Raw)) → members_meant defined (raw_members_of ms)
+    ≡ members_of (pairs_meant defined ms)
 pairs_listed defined [] = refl
 pairs_listed defined (m ∷ ms) = ap (member m.0 (node_meant defined m.1)) (pairs_listed defined ms)
 
-pub list_meant : (defined : Defined) (v : RawItems) → node_meant defined (raw_view (Array v)) ≡ list (nodes_of (entries_meant defined (raw_items_view v)))
+pub list_meant : (defined : Defined) (v : RawItems) → node_meant defined (raw_view (Array v))
+    ≡ list (nodes_of (entries_meant defined (raw_items_view v)))
 list_meant defined v = ap (node_meant defined) (view_list v) ∙ ap list (entries_listed defined (raw_items_view v))
 
-pub object_meant : (defined : Defined) (p : RawPairs) → node_meant defined (raw_view (Object p)) ≡ object (members_of (pairs_meant defined (raw_pairs_view p)))
+pub object_meant : (defined : Defined) (p : RawPairs) → node_meant defined (raw_view (Object p))
+    ≡ object (members_of (pairs_meant defined (raw_pairs_view p)))
 object_meant defined p = ap (node_meant defined) (view_object p) ∙ ap object (pairs_listed defined (raw_pairs_view p))
 
 pairs_back : (ms : List (List ℕ × Raw)) → pair_list (raw_members_of ms) ≡ ms
@@ -44,4 +47,5 @@ pub named_meant : (defined : Defined) (name : List ℕ) (ms : List (List ℕ × 
     → tree_named name (members_of (pairs_meant defined ms)) ≡ option_map (node_meant defined) (raw_named name ms)
 named_meant defined name [] = refl
 named_meant defined name (m ∷ ms) =
-    first_named (bytes_eq m.0 name) defined m.1 (raw_named name ms) (tree_named name (members_of (pairs_meant defined ms))) (named_meant defined name ms)
+    first_named (bytes_eq m.0 name) defined m.1 (raw_named name ms) (tree_named name (members_of (pairs_meant defined ms)))
+    (named_meant defined name ms)

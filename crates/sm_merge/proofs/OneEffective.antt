@@ -61,12 +61,14 @@ one_members ss id copied all (m ∷ ms) (n ∷ ns) e h k =
 one_made : (ss : List Stated) (id : List ℕ) (s : ShapeStated) (copied : List EffectiveShape) (m n : EffectiveShape)
     → IsMadeFrom ss id s copied m → IsMadeFrom ss id s copied n → Path EffectiveShape m n
 one_made ss id s copied m n h k =
-    let members = one_members ss id copied (all_members copied s.shape.members) m.members n.members (h.names ∙ sym k.names) h.members k.members in
+    let members = one_members ss id copied (all_members copied s.shape.members) m.members n.members
+    (h.names ∙ sym k.names) h.members k.members in
     let traits = same_told _ m.traits n.traits h.traits k.traits in
     λ i. record { members = members i; traits = traits i }
 
 mutual
-  pub one_effective : (ss : List Stated) (id : List ℕ) (m n : EffectiveShape) → IsEffective ss id m → IsEffective ss id n → Path EffectiveShape m n
+  pub one_effective : (ss : List Stated) (id : List ℕ) (m n : EffectiveShape) → IsEffective ss id m → IsEffective ss id n
+      → Path EffectiveShape m n
   one_effective ss id m n (effective i a s copied there from made) (effective j b t others at by is) =
       let same : Path ShapeStated t s = same_some t s (sym at ∙ there) in
       let copies : Path (List EffectiveShape) others copied = sym (one_copied ss s s.mixins copied others from

@@ -10,7 +10,8 @@ use Rattle.sm_model.specs.EventView.{EventTold}
 use Rattle.sm_model.proofs.MapFacts.{Each, each_entry}
 use Rattle.sm_merge.specs.Stated.{stated, stated_by, defined_among}
 use Rattle.sm_merge.specs.Merged.{IsWrong, StandsUnder}
-use Rattle.sm_merge.specs.Merged.{other_shape, stated_again, trait_conflict, metadata_conflict, applied_to_nothing, defined_otherwise, bad_mixin}
+use Rattle.sm_merge.specs.Merged.{other_shape, stated_again, trait_conflict, metadata_conflict, applied_to_nothing, defined_otherwise}
+use Rattle.sm_merge.specs.Merged.{bad_mixin}
 use Rattle.sm_merge.specs.Limits.{IsPast, is_own, own_entries, shapes_in, members_in, traits_size}
 use Rattle.sm_merge.specs.Answers.{StatementsComeTo}
 use Rattle.sm_merge.specs.Laws.{NoFiles, OneFileOrSeveral, OneGraph}
@@ -36,7 +37,40 @@ abbrev IsOfPreludeId : List ℕ → Entry → Type 0
 IsOfPreludeId id e = is_prelude_id id ≡ true
 
 prelude_ids : Each IsOfPreludeId (given_entries prelude_shapes)
-prelude_ids = (refl, (refl, (refl, (refl, (refl, (refl, (refl, (refl, (refl, (refl, (refl, (refl, (refl, (refl, (refl, (refl, (refl, (refl, (refl, (refl, (refl, tt)))))))))))))))))))))
+prelude_ids = (
+  refl,
+  (
+    refl,
+    (
+      refl,
+      (
+        refl,
+        (
+          refl,
+          (
+            refl,
+            (
+              refl,
+              (
+                refl,
+                (
+                  refl,
+                  (
+                    refl,
+                    (
+                      refl,
+                      (refl, (refl, (refl, (refl, (refl, (refl, (refl, (refl, (refl, (refl, tt)))))))))),
+                    ),
+                  ),
+                ),
+              ),
+            ),
+          ),
+        ),
+      ),
+    ),
+  ),
+)
 
 none_own : (es : List (List ℕ × Entry)) → Each IsOfPreludeId es → filter is_own es ≡ []
 none_own [] h = refl
@@ -46,7 +80,8 @@ nothing_own : own_entries prelude_graph ≡ []
 nothing_own = none_own _ (each_entry IsOfPreludeId (given_entries prelude_shapes) prelude_ids)
 
 -- nothing is past no limit
-too_few : (limit : ℕ) (count : List (List ℕ × Entry) → ℕ) → own_entries prelude_graph ≡ [] → (count [] ≡ 0) → limit < count (own_entries prelude_graph) → ⊥
+too_few : (limit : ℕ) (count : List (List ℕ × Entry) → ℕ) → own_entries prelude_graph ≡ [] → (count [] ≡ 0)
+    → limit < count (own_entries prelude_graph) → ⊥
 too_few limit count none zero past = let counted = ap count none in omega (arith, zero, counted, past)
 
 none_any : {X : Type 0} {P : X → Type 0} → Any P [] → ⊥

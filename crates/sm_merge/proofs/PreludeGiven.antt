@@ -30,7 +30,10 @@ pub api_shape_id : (name : List ℕ) → IsIdentifier name → IsShapeId (api_id
 api_shape_id name h =
     let id : Id = record { namespace = codes "smithy.api"; name = name; member = None } in (
       id,
-      record { is_id = record { namespace = refl; name = h; member = λ m never. none_some m never }; spelled = ap (λ t. codes "smithy.api#" ++ t) (sym (append-nil name)) },
+      record {
+        is_id = record { namespace = refl; name = h; member = λ m never. none_some m never };
+        spelled = ap (λ t. codes "smithy.api#" ++ t) (sym (append-nil name));
+      },
       refl,
     )
 
@@ -145,4 +148,9 @@ shapes_given = (
 )
 
 pub prelude_given : AreGiven prelude_shapes []
-prelude_given = record { each = shapes_given; differ = differ_by_test (given_ids prelude_shapes) refl; few = search rules; metadata_is = no_traits }
+prelude_given = record {
+  each = shapes_given;
+  differ = differ_by_test (given_ids prelude_shapes) refl;
+  few = search rules;
+  metadata_is = no_traits;
+}

@@ -15,7 +15,8 @@ use Rattle.sm_merge.specs.declared.refusal.MergeRefusal.TheVariants.{Limit, Reje
 abbrev pub StatementsComeTo : List Stated → Result Graph MergeRefusal → Type 0
 StatementsComeTo ss (Ok g) = IsGraphOf ss (maps_of g) × IsWithinLimits (maps_of g) × ((e : EventTold) → IsWrong ss e → ⊥)
 StatementsComeTo ss (Err (Limit kind)) = (g : GraphMaps) → IsGraphOf ss g → IsFirstPast kind g
-StatementsComeTo ss (Err (Rejected es)) = ((g : GraphMaps) → IsGraphOf ss g → IsWithinLimits g) × AreEventsOf ss (events_view es) × AreErrors es × (0 < length es)
+StatementsComeTo ss (Err (Rejected es)) =
+    ((g : GraphMaps) → IsGraphOf ss g → IsWithinLimits g) × AreEventsOf ss (events_view es) × AreErrors es × (0 < length es)
 StatementsComeTo ss (Err NoMemory) = Unit {0}
 
 abbrev pub MergesTo : List (List Said) → Result Graph MergeRefusal → Type 0

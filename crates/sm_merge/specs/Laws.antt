@@ -9,7 +9,7 @@ use Rattle.sm_model.specs.declared.graph.Graph.{Graph}
 use Rattle.sm_merge.specs.Stated.{Stated, all_said, stated_by}
 use Rattle.sm_merge.specs.Values.{IsValueOf}
 use Rattle.sm_merge.specs.Mixins.{EffectiveShape, IsEffective}
-use Rattle.sm_merge.specs.Merged.{IsGraphOf, IsWrong}
+use Rattle.sm_merge.specs.Merged.{IsGraphOf, IsWrong, AreEventsOf}
 use Rattle.sm_merge.specs.Limits.{IsWithinLimits}
 use Rattle.sm_merge.specs.Answers.{MergesTo}
 use Rattle.sm_merge.specs.declared.refusal.MergeRefusal.{MergeRefusal}
@@ -20,11 +20,16 @@ OneValue = (ns : List Node) (a b : Node) → IsValueOf ns a → IsValueOf ns b �
 
 -- what a shape comes to with its mixins is one thing
 abbrev pub OneEffectiveShape : Type 0
-OneEffectiveShape = (ss : List Stated) (id : List ℕ) (m n : EffectiveShape) → IsEffective ss id m → IsEffective ss id n → Path EffectiveShape m n
+OneEffectiveShape = (ss : List Stated) (id : List ℕ) (m n : EffectiveShape) → IsEffective ss id m → IsEffective ss id n
+    → Path EffectiveShape m n
 
 -- statements have one graph
 abbrev pub OneGraph : Type 0
 OneGraph = (ss : List Stated) (g h : GraphMaps) → IsGraphOf ss g → IsGraphOf ss h → Path GraphMaps g h
+
+-- and one list of events
+abbrev pub OneListOfEvents : Type 0
+OneListOfEvents = (ss : List Stated) (es fs : List EventTold) → AreEventsOf ss es → AreEventsOf ss fs → Path (List EventTold) es fs
 
 -- the same statements in the same order, in one file or several, merge to the same
 abbrev pub OneFileOrSeveral : Type 0

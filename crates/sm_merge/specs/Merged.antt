@@ -125,9 +125,11 @@ pub data IsWrong (ss : List Stated) (e : EventTold) : Type 0 where
   other_shape : (id : List ℕ) → HasOtherShape ss id → e ≡ model_event id (codes "Model.Shape") [] → IsWrong ss e
   stated_again : (id : List ℕ) → IsStatedAgain ss id → e ≡ model_event id (codes "Model.Shape") [] → IsWrong ss e
   trait_conflict : (id name : List ℕ) → HasTraitConflict ss id name → e ≡ model_event id (codes "Model.Trait") name → IsWrong ss e
-  metadata_conflict : (key : List ℕ) → HaveConflict (metadata_values ss key) → e ≡ model_event unit_id (codes "Model.Metadata") key → IsWrong ss e
+  metadata_conflict : (key : List ℕ) → HaveConflict (metadata_values ss key) → e ≡ model_event unit_id (codes "Model.Metadata") key
+      → IsWrong ss e
   applied_to_nothing : (id : List ℕ) → IsAppliedToNothing ss id → e ≡ model_event id (codes "Model.Apply") [] → IsWrong ss e
-  defined_otherwise : (id target : List ℕ) → IsDefinedOtherwise ss id target → e ≡ model_event id (codes "Model.Member") target → IsWrong ss e
+  defined_otherwise : (id target : List ℕ) → IsDefinedOtherwise ss id target → e ≡ model_event id (codes "Model.Member") target
+      → IsWrong ss e
   bad_mixin : (id mixin : List ℕ) → HasBadMixin ss id mixin → e ≡ model_event id (codes "Model.Mixin") mixin → IsWrong ss e
 
 -- all events, in their order, each once

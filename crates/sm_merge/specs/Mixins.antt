@@ -106,11 +106,13 @@ IsEffectiveValue ss place copied name n =
     IsValueOf (trait_values ss place name) n ⊎ ((trait_values ss place name ≡ []) × (last_there copied ≡ Some n))
 
 -- a member has the target of the first of its name
-pub record IsEffectiveMember (ss : List Stated) (id : List ℕ) (copied : List EffectiveShape) (all : EffectiveMembers) (name : List ℕ) (e : MemberEntry) : Type 0 where
+pub record IsEffectiveMember (ss : List Stated) (id : List ℕ) (copied : List EffectiveShape) (all : EffectiveMembers) (name : List ℕ)
+    (e : MemberEntry) : Type 0 where
   pub first : MemberEntry
   pub found : fin.find text_cmp name all ≡ Some first
   pub target : e.target ≡ first.target
-  pub traits : (t : List ℕ) (n : Node) → (fin.get e.traits t ≡ Some n) ↔ IsEffectiveValue ss (member_id id name) (member_values copied name t) t n
+  pub traits : (t : List ℕ) (n : Node)
+      → (fin.get e.traits t ≡ Some n) ↔ IsEffectiveValue ss (member_id id name) (member_values copied name t) t n
 
 abbrev pub AreEffectiveMembers : List Stated → List ℕ → List EffectiveShape → EffectiveMembers → EffectiveMembers → Type 0
 AreEffectiveMembers ss id copied all [] = Unit {0}
@@ -131,7 +133,8 @@ mutual
   -- the copies of these mixins of a shape, but for those that don't contribute
   pub data AreCopied (ss : List Stated) : ShapeStated → List (List ℕ) → List EffectiveShape → Type 0 where
     no_mixins : (s : ShapeStated) → AreCopied ss s [] []
-    mixed_in : (s : ShapeStated) (mixin : List ℕ) (mixins : List (List ℕ)) (c : Contributes ss s mixin) (m : EffectiveShape) (copied : List EffectiveShape)
+    mixed_in : (s : ShapeStated) (mixin : List ℕ) (mixins : List (List ℕ)) (c : Contributes ss s mixin) (m : EffectiveShape)
+        (copied : List EffectiveShape)
         → IsEffective ss mixin m → AreCopied ss s mixins copied → AreCopied ss s (mixin ∷ mixins) (copy_of c.mixin_value m ∷ copied)
     passed_over : (s : ShapeStated) (mixin : List ℕ) (mixins : List (List ℕ)) (copied : List EffectiveShape)
         → (Contributes ss s mixin → ⊥) → AreCopied ss s mixins copied → AreCopied ss s (mixin ∷ mixins) copied

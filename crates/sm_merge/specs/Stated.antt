@@ -4,7 +4,8 @@ use Rattle.std.specs.Prelude.{ℕ, Bool, true, false, List, [], ◌∷◌, map, 
 use Rattle.std.specs.List.{list_any, flat_map}
 use Rattle.std.specs.Option.{unwrap_or}
 use Rattle.std.specs.Str.{bytes_eq}
-use Rattle.sm_tree.specs.Node.{Node, Members, null, bool, int, number, text, bytes, tag, opaque, list, object, no_nodes, node, no_members, member, members_of}
+use Rattle.sm_tree.specs.Node.{Node, Members, null, bool, int, number, text, bytes, tag, opaque, list, object, no_nodes, node, no_members}
+use Rattle.sm_tree.specs.Node.{member, members_of}
 use Rattle.sm_tree.specs.Parts.{pairs_in, tree_named}
 use Rattle.sm_model.specs.Properties.{TypeFields, property_forms, needed_fields}
 use Rattle.sm_model.specs.Said.{TraitSaid, MemberSaid, ShapeSaid, Said, metadata_said, shape_said, apply_said}

@@ -1,5 +1,5 @@
 // Laws over the definitions of merging: public functions with empty bodies, whose contracts are the laws.
-ghost use Rattle.sm_merge.specs.Laws.{NoFiles, OneEffectiveShape, OneFileOrSeveral, OneGraph, OneValue};
+ghost use Rattle.sm_merge.specs.Laws.{NoFiles, OneEffectiveShape, OneFileOrSeveral, OneGraph, OneListOfEvents, OneValue};
 
 /// The values of one trait of one place come to one value.
 #[tactic(auto, using(crate::proofs::OneValue::one_value))]
@@ -17,6 +17,11 @@ pub fn one_effective_shape()
 #[tactic(auto, using(crate::proofs::OneMerged::one_graph))]
 pub fn one_graph()
     ensures { OneGraph }
+{}
+
+/// Statements have one list of events: what is wrong with them, in order, each once.
+pub fn one_list_of_events()
+    ensures { OneListOfEvents }
 {}
 
 /// Statements merge to the same in one file and in several, if they stand in the same order.

@@ -1,6 +1,7 @@
 // What references mean, once it is known which shapes there are.
 ghost use Rattle.std.specs.Prelude.{◌≡◌, ◌++◌, ℕ, List, IfOk, MatchOption, None, Some, string_bytes};
-ghost use Rattle.sm_merge.specs.Meaning.{found_in, is_absolute, meaning as meant, member_part, name_part, relative_meaning, shape_part, used_under};
+ghost use Rattle.sm_merge.specs.Meaning.{found_in, is_absolute, meaning as meant, member_part, name_part, relative_meaning, shape_part};
+ghost use Rattle.sm_merge.specs.Meaning.{used_under};
 ghost use Rattle.sm_merge.specs.steps.Known.{known};
 ghost use Rattle.sm_merge.specs.steps.Cut.{HasMember};
 
@@ -41,7 +42,8 @@ fn relative(
     namespace: &str,
 ) -> Result<String, NoMemory>
     ensures { IfOk result (λ id. string_bytes id
-        ≡ relative_meaning (known names.now) reference.now namespace.now (shape_part reference.now.text) ++ member_part reference.now.text) }
+        ≡ relative_meaning (known names.now) reference.now namespace.now (shape_part reference.now.text)
+        ++ member_part reference.now.text) }
 {
     let text = reference.text.as_str();
     let name = without_member(text);

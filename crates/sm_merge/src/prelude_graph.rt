@@ -9,7 +9,8 @@ ghost use Rattle.sm_model.specs.GivenView.{given_view};
 ghost use Rattle.sm_model.specs.GraphView.{maps_of};
 ghost use Rattle.sm_model.specs.declared.kind.Kind.TheVariants.{Boolean as boolean};
 ghost use Rattle.sm_model.specs.PreludeShapes.{api_id, defaulted_shape, fraction_shapes, integer_shapes, no_node_pairs, plain_shapes};
-ghost use Rattle.sm_model.specs.PreludeShapes.{prelude_graph, prelude_shapes as the_shapes, primitive_shapes, shape_of_prelude, simple_shape, unit_shape};
+ghost use Rattle.sm_model.specs.PreludeShapes.{prelude_graph, prelude_shapes as the_shapes, primitive_shapes, shape_of_prelude};
+ghost use Rattle.sm_model.specs.PreludeShapes.{simple_shape, unit_shape};
 
 use sm_ids::{ShapeId, ShapeIdRef};
 use sm_model::{Graph, GraphMembers, GraphShape, Kind};
@@ -134,7 +135,8 @@ fn put_defaulted(
     shapes: &mut Vec<GraphShape>,
 ) -> Result<(), NoMemory>
     requires { IsIdentifier name.now }
-    ensures { OnOk result (given_view shapes.new.items ≡ given_view shapes.old.items ++ defaulted_shape name.now kind (node_of value) ∷ []) }
+    ensures { OnOk result (given_view shapes.new.items
+        ≡ given_view shapes.old.items ++ defaulted_shape name.now kind (node_of value) ∷ []) }
 {
     let traits = one_trait(alloc, "smithy.api#default", value)?;
     put_shape(alloc, name, kind, traits, shapes)

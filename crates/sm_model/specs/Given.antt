@@ -1,6 +1,6 @@
 -- From what shapes a graph is made: ids and names differ, and each shape has the members and the fields of its type. A target
 -- and a reference may name no shape.
-use Rattle.std.specs.Prelude.{◌≡◌, ◌<◌, ◌^◌, ℕ, List, [], ◌∷◌, map, length, Some, codes}
+use Rattle.std.specs.Prelude.{◌≡◌, ◌<◌, ◌^◌, ℕ, List, [], ◌∷◌, map, length, Some}
 use Rattle.sm_ids.specs.Identifier.{IsIdentifier}
 use Rattle.sm_ids.specs.IdText.{IsIdText}
 use Rattle.sm_tree.specs.Node.{Node, Nodes, Members, text, list, object, no_nodes, node, no_members, member}

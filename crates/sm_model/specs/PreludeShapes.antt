@@ -37,10 +37,12 @@ integer_shapes = simple_shape (codes "Byte") Byte ∷ simple_shape (codes "Short
     ∷ simple_shape (codes "Long") Long ∷ simple_shape (codes "BigInteger") BigInteger ∷ []
 
 abbrev pub fraction_shapes : List ShapeGiven
-fraction_shapes = simple_shape (codes "Float") Float ∷ simple_shape (codes "Double") Double ∷ simple_shape (codes "BigDecimal") BigDecimal ∷ []
+fraction_shapes = simple_shape (codes "Float") Float ∷ simple_shape (codes "Double") Double ∷ simple_shape (codes "BigDecimal") BigDecimal
+    ∷ []
 
 abbrev pub primitive_shapes : List ShapeGiven
-primitive_shapes = defaulted_shape (codes "PrimitiveBoolean") Boolean (bool false) ∷ defaulted_shape (codes "PrimitiveByte") Byte (int (pos 0))
+primitive_shapes = defaulted_shape (codes "PrimitiveBoolean") Boolean (bool false)
+    ∷ defaulted_shape (codes "PrimitiveByte") Byte (int (pos 0))
     ∷ defaulted_shape (codes "PrimitiveShort") Short (int (pos 0)) ∷ defaulted_shape (codes "PrimitiveInteger") Integer (int (pos 0))
     ∷ defaulted_shape (codes "PrimitiveLong") Long (int (pos 0)) ∷ defaulted_shape (codes "PrimitiveFloat") Float (int (pos 0))
     ∷ defaulted_shape (codes "PrimitiveDouble") Double (int (pos 0)) ∷ []

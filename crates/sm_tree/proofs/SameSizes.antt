@@ -1,6 +1,7 @@
 -- Nodes that are the same count the same: an object's pairs are taken out of the other's, one by one.
-use Rattle.std.proofs.Common.{◌≡◌, ◌⊎◌, inl, inr, ℕ, ◌+◌, List, length, refl, subst, sym, ap, ◌∙◌, arith}
-use Rattle.sm_tree.specs.Node.{Node, Nodes, Members, null, bool, int, number, text, bytes, tag, opaque, list, object, no_nodes, node, no_members, member}
+use Rattle.std.proofs.Common.{◌≡◌, inl, inr, ℕ, ◌+◌, List, length, refl, subst, sym, ap, ◌∙◌, arith}
+use Rattle.sm_tree.specs.Node.{Node, Nodes, Members, null, bool, int, number, text, bytes, tag, opaque, list, object, no_nodes, node}
+use Rattle.sm_tree.specs.Node.{no_members, member}
 use Rattle.sm_tree.specs.Same.{HasPair, HasName, HasDistinctNames, HaveDistinctNames, AreDistinct, Same, SameEntries, AllIn, HasSamePair}
 use Rattle.sm_tree.specs.Size.{node_size, nodes_size, members_size}
 
@@ -27,7 +28,8 @@ was_named j k q (member l m qs) (inl here) has = inr has
 was_named j k q (member l m qs) (inr later) (inl first) = inl first
 was_named j k q (member l m qs) (inr later) (inr has) = inr (was_named j k q qs later has)
 
-was_pair : (j : List ℕ) (x : Node) (k : List ℕ) (q : Node) (qs : Members) (h : HasPair k q qs) → HasPair j x (without k q qs h) → HasPair j x qs
+was_pair : (j : List ℕ) (x : Node) (k : List ℕ) (q : Node) (qs : Members) (h : HasPair k q qs) → HasPair j x (without k q qs h)
+    → HasPair j x qs
 was_pair j x k q no_members h has = has
 was_pair j x k q (member l m qs) (inl here) has = inr has
 was_pair j x k q (member l m qs) (inr later) (inl first) = inl first

@@ -1,7 +1,8 @@
 -- The parts of a tree that is looked into: the text that it is, its entries, its pairs, and what stands under a name.
 use Rattle.std.specs.Prelude.{ℕ, List, Option, Some, None, if◌then◌else◌}
 use Rattle.std.specs.Str.{bytes_eq}
-use Rattle.sm_tree.specs.Node.{Node, Nodes, Members, null, bool, int, number, text, bytes, tag, opaque, list, object, no_nodes, node, no_members, member}
+use Rattle.sm_tree.specs.Node.{Node, Nodes, Members, null, bool, int, number, text, bytes, tag, opaque, list, object}
+use Rattle.sm_tree.specs.Node.{no_members, member}
 
 -- the text that a tree is, its entries, its pairs
 abbrev pub text_in : Node → Option (List ℕ)

@@ -1,6 +1,7 @@
 -- How much a tree counts: each node is one, and so is each byte of a text, of the text of a number and of a name.
 use Rattle.std.specs.Prelude.{◌≡◌, ◌+◌, ℕ, length}
-use Rattle.sm_tree.specs.Node.{Node, Nodes, Members, null, bool, int, number, text, bytes, tag, opaque, list, object, no_nodes, node, no_members, member}
+use Rattle.sm_tree.specs.Node.{Node, Nodes, Members, null, bool, int, number, text, bytes, tag, opaque, list, object, no_nodes, node}
+use Rattle.sm_tree.specs.Node.{no_members, member}
 use Rattle.sm_tree.specs.Same.{HasDistinctNames, Same}
 
 abbrev mutual

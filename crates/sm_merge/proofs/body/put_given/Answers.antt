@@ -20,5 +20,6 @@ returns c =
     let name = c.args.name.now in
     let n = node_of c.in_ok-tree.tree in
     subst (λ ps. OnOk c.put_pair.result (members_view c.put_pair.new.fields.items ≡ old ++ ps))
-    (ap (λ b. if b then [] else (name, n) ∷ []) (sym (sym c.is_empty.ensures ∙ c.if-is_empty.false)) ∙ ap (filled name) c.in_ok-tree.ensures)
+    (ap (λ b. if b then [] else (name, n) ∷ []) (sym (sym c.is_empty.ensures ∙ c.if-is_empty.false))
+    ∙ ap (filled name) c.in_ok-tree.ensures)
     c.put_pair.ensures

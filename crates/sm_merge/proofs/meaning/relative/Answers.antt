@@ -23,6 +23,7 @@ returns-in_ok-push_str-in-Some-2 c =
     let member = c.in-Some.member.now in
     c.in_ok-push_str-in-Some-2.ensures.bytes ∙ ap (λ bs. bs ++ member) c.in_ok-push_str-in-Some.ensures.bytes
     ∙ append_assoc (string_bytes c.in_ok-id.id) (codes "$") member
-    ∙ ap (λ bs. bs ++ (codes "$" ++ member)) (c.in_ok-id.ensures ∙ ap meant (c.without_member-name.ensures ∙ ap shape_part c.as_str-text.ensures.bytes))
+    ∙ ap (λ bs. bs ++ (codes "$" ++ member))
+    (c.in_ok-id.ensures ∙ ap meant (c.without_member-name.ensures ∙ ap shape_part c.as_str-text.ensures.bytes))
     ∙ ap (λ m. meant (shape_part r.text) ++ (codes "$" ++ m)) c.in-Some.ensures.1
     ∙ ap (λ m. meant (shape_part r.text) ++ m) (sym (dollar_behind text c.in-Some.ensures.0) ∙ ap member_part c.as_str-text.ensures.bytes)

@@ -9,8 +9,13 @@ use Rattle.sm_merge.proofs.prelude_graph.put_fractions.Goals as goal
 pub returns : goal.returns
 returns c =
     let old = given_view c.args.shapes.now.items in
-    let upto_2 = put_more old (given_view c.put_simple.new.shapes.items) (given_view c.put_simple-2.new.shapes.items)
-    (simple_shape (codes "Float") Float ∷ []) (simple_shape (codes "Double") Double ∷ []) c.in_ok-put_simple.ensures c.in_ok-put_simple-2.ensures in
-    let upto_3 = put_more old (given_view c.put_simple-2.new.shapes.items) (given_view c.put_simple-3.new.shapes.items)
-    (simple_shape (codes "Float") Float ∷ simple_shape (codes "Double") Double ∷ []) (simple_shape (codes "BigDecimal") BigDecimal ∷ []) upto_2 c.in_ok-put_simple-3.ensures in
+    let one = simple_shape (codes "Float") Float in
+    let two = simple_shape (codes "Double") Double in
+    let three = simple_shape (codes "BigDecimal") BigDecimal in
+    let upto_2 =
+    put_more old (given_view c.put_simple.new.shapes.items) (given_view c.put_simple-2.new.shapes.items) (one ∷ [])
+    (two ∷ []) c.in_ok-put_simple.ensures c.in_ok-put_simple-2.ensures in
+    let upto_3 =
+    put_more old (given_view c.put_simple-2.new.shapes.items) (given_view c.put_simple-3.new.shapes.items) (one ∷ two ∷ [])
+    (three ∷ []) upto_2 c.in_ok-put_simple-3.ensures in
     upto_3

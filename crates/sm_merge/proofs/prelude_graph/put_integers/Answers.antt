@@ -9,12 +9,21 @@ use Rattle.sm_merge.proofs.prelude_graph.put_integers.Goals as goal
 pub returns : goal.returns
 returns c =
     let old = given_view c.args.shapes.now.items in
-    let upto_2 = put_more old (given_view c.put_simple.new.shapes.items) (given_view c.put_simple-2.new.shapes.items)
-    (simple_shape (codes "Byte") Byte ∷ []) (simple_shape (codes "Short") Short ∷ []) c.in_ok-put_simple.ensures c.in_ok-put_simple-2.ensures in
-    let upto_3 = put_more old (given_view c.put_simple-2.new.shapes.items) (given_view c.put_simple-3.new.shapes.items)
-    (simple_shape (codes "Byte") Byte ∷ simple_shape (codes "Short") Short ∷ []) (simple_shape (codes "Integer") Integer ∷ []) upto_2 c.in_ok-put_simple-3.ensures in
-    let upto_4 = put_more old (given_view c.put_simple-3.new.shapes.items) (given_view c.put_simple-4.new.shapes.items)
-    (simple_shape (codes "Byte") Byte ∷ simple_shape (codes "Short") Short ∷ simple_shape (codes "Integer") Integer ∷ []) (simple_shape (codes "Long") Long ∷ []) upto_3 c.in_ok-put_simple-4.ensures in
-    let upto_5 = put_more old (given_view c.put_simple-4.new.shapes.items) (given_view c.put_simple-5.new.shapes.items)
-    (simple_shape (codes "Byte") Byte ∷ simple_shape (codes "Short") Short ∷ simple_shape (codes "Integer") Integer ∷ simple_shape (codes "Long") Long ∷ []) (simple_shape (codes "BigInteger") BigInteger ∷ []) upto_4 c.in_ok-put_simple-5.ensures in
+    let one = simple_shape (codes "Byte") Byte in
+    let two = simple_shape (codes "Short") Short in
+    let three = simple_shape (codes "Integer") Integer in
+    let four = simple_shape (codes "Long") Long in
+    let five = simple_shape (codes "BigInteger") BigInteger in
+    let upto_2 =
+    put_more old (given_view c.put_simple.new.shapes.items) (given_view c.put_simple-2.new.shapes.items) (one ∷ [])
+    (two ∷ []) c.in_ok-put_simple.ensures c.in_ok-put_simple-2.ensures in
+    let upto_3 =
+    put_more old (given_view c.put_simple-2.new.shapes.items) (given_view c.put_simple-3.new.shapes.items) (one ∷ two ∷ [])
+    (three ∷ []) upto_2 c.in_ok-put_simple-3.ensures in
+    let upto_4 =
+    put_more old (given_view c.put_simple-3.new.shapes.items) (given_view c.put_simple-4.new.shapes.items) (one ∷ two ∷ three ∷ [])
+    (four ∷ []) upto_3 c.in_ok-put_simple-4.ensures in
+    let upto_5 =
+    put_more old (given_view c.put_simple-4.new.shapes.items) (given_view c.put_simple-5.new.shapes.items) (one ∷ two ∷ three ∷ four ∷ [])
+    (five ∷ []) upto_4 c.in_ok-put_simple-5.ensures in
     upto_5

@@ -7,4 +7,5 @@ use Rattle.sm_merge.proofs.stated.meant_traits.Given as goal
 
 abbrev pub invariant-loop-one : goal.invariant-loop-one
 invariant-loop-one l =
-    members_view l.traits.items ++ traits_stated (known l.names) (traits_view (drop l.one-index l.uses)) ≡ traits_stated (known l.names) (traits_view l.uses)
+    members_view l.traits.items ++ traits_stated (known l.names) (traits_view (drop l.one-index l.uses))
+    ≡ traits_stated (known l.names) (traits_view l.uses)

@@ -6,4 +6,5 @@ use Rattle.sm_merge.proofs.names.Names.new.Given as goal
 
 abbrev pub invariant-loop-file : goal.invariant-loop-file
 invariant-loop-file l = (id : List ℕ)
-    → (has_text l.ids id || defined_among (all_said (files_view (drop l.file-index l.files))) id) ≡ defined_among (all_said (files_view l.files)) id
+    → (has_text l.ids id || defined_among (all_said (files_view (drop l.file-index l.files))) id)
+    ≡ defined_among (all_said (files_view l.files)) id
