@@ -16,7 +16,7 @@ pub mod NumberSteps
 pub mod DigitRuns
 pub mod Numbers
 mod Tokens
-mod Sameness
+pub mod Sameness
 pub mod SameSizes
 pub mod OneAnswer
 pub mod SomeAnswer
