@@ -2,10 +2,10 @@ pub mod RawViews
 pub mod GraphFacts
 pub mod MapFacts
 pub mod RawWeight
-mod Searching
+pub mod Searching
 mod Entries
-mod Moved
-mod Rises
+pub mod Moved
+pub mod Rises
 mod Sorting
 mod MemberIds
 mod Appending
@@ -15,3 +15,8 @@ mod ShapeBlocks
 mod BlockOrder
 mod MoreRows
 mod MadeGraphs
+pub mod Linking
+pub mod LinkNumbers
+mod LinkFacts
+mod LinkedEntries
+mod LinkedGraphs

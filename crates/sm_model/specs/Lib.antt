@@ -13,4 +13,6 @@ pub mod PreludeShapes
 pub mod EventView
 pub mod GraphRows
 pub mod GraphView
+pub mod Relations
+pub mod Links
 pub mod steps

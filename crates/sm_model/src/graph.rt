@@ -8,6 +8,7 @@ ghost use Rattle.sm_model.specs.GraphRows.{AreSound};
 mod blocks;
 mod building;
 mod given;
+mod links;
 mod lookup;
 mod members;
 mod numbers;

@@ -5,19 +5,24 @@
 mod event;
 mod graph;
 mod kind;
+mod link;
+mod part;
 mod prelude;
 mod property;
 mod raw;
 mod reference;
+mod relation;
 mod statement;
 
 pub use event::{ModelEvent, ModelEvents, Severity};
 pub use graph::{Graph, GraphMember, GraphMembers, GraphShape};
 pub use kind::Kind;
+pub use link::Link;
 pub use prelude::is_in_prelude;
 pub use property::{PropertyForm, field_names};
 pub use raw::{RawItems, RawNode, RawPairs};
 pub use reference::{Ref, Refs, Uses};
+pub use relation::Relation;
 pub use statement::{
     MemberStatement, MemberStatements, ShapeStatement, Statement, TraitUse, TraitUses,
 };

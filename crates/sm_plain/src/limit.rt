@@ -4,8 +4,7 @@ ghost use Rattle.std.specs.List.{list_any};
 ghost use Rattle.sm_model.specs.GraphView.{At, IsShapeNumber, maps_of};
 ghost use Rattle.sm_plain.specs.Limits.{IsFirstPast, IsPastNone, has_many_members, is_own_shape, size_limit, size_limit_word, own_shapes};
 
-use sm_model::is_in_prelude;
-use sm_model::Graph;
+use sm_model::{Graph, is_in_prelude};
 
 /// A limit on the size of a graph. The prelude doesn't count.
 #[derive(Debug, Clone, Copy, PartialEq, Eq, Drop)]
