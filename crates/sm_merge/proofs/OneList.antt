@@ -1,16 +1,14 @@
 -- Statements have one list of events: lists that rise and have the same entries are one.
 use Rattle.std.proofs.Common.{◌≡◌, ◌⊎◌, inl, inr, ◌<◌, ℕ, zero, suc, cond, List, [], ◌∷◌, length, refl, sym, ap, subst, ◌∙◌, arith}
-use Rattle.std.specs.Prelude.{◌↔◌}
 use Rattle.std.specs.Cmp.{IsTotalOrder, tied_itself}
 use Rattle.std.specs.Cmp.Lexicographic.{nat_list_cmp_total}
-use Rattle.std.specs.List.{Contains, slice_index_or}
+use Rattle.std.specs.List.{Contains}
 use Rattle.std.specs.Ordering.{is_eq}
-use Rattle.std.specs.declared.cmp.Ordering.{Ordering}
-use Rattle.std.specs.declared.cmp.Ordering.TheVariants.{Less, Equal}
+use Rattle.std.specs.declared.cmp.Ordering.TheVariants.{Less}
 use Rattle.std.proofs.lemmas.Cmp.{then_total}
 use Rattle.sm_model.specs.EventView.{EventTold, event_cmp, IsBeforeAll, AreInOrder}
 use Rattle.sm_model.specs.Graphs.{text_cmp}
-use Rattle.sm_merge.specs.Merged.{AreEventsOf, IsWrong}
+use Rattle.sm_merge.specs.Merged.{AreEventsOf}
 use Rattle.sm_merge.specs.Stated.{Stated}
 
 by_text : (text : EventTold → List ℕ) → IsTotalOrder (λ a b. text_cmp (text a) (text b))
@@ -20,22 +18,22 @@ by_text text = record {
   congr = λ x y z. nat_list_cmp_total.congr (text x) (text y) (text z);
 }
 
-event_order : IsTotalOrder event_cmp
+pub event_order : IsTotalOrder event_cmp
 event_order = then_total (by_text (λ e. e.shape)) (then_total (by_text (λ e. e.event)) (by_text (λ e. e.detail)))
 
 not_before_itself : (e : EventTold) → event_cmp e e ≡ Less → ⊥
 not_before_itself e h = subst (λ r. cond (is_eq r) (Unit {0}) ⊥) (sym (tied_itself event_order e) ∙ h) tt
 
-abbrev Has : EventTold → List EventTold → Type 0
+abbrev pub Has : EventTold → List EventTold → Type 0
 Has e [] = ⊥
 Has e (f ∷ fs) = (e ≡ f) ⊎ Has e fs
 
-has_each : (e : EventTold) (fs : List EventTold) → Contains fs e → Has e fs
+pub has_each : (e : EventTold) (fs : List EventTold) → Contains fs e → Has e fs
 has_each e [] (k, inside, at) = absurd (omega (arith, inside))
 has_each e (f ∷ fs) (zero, inside, at) = inl (sym at)
 has_each e (f ∷ fs) (suc k, inside, at) = let less : k < length fs = omega (arith, inside) in inr (has_each e fs (k, less, at))
 
-each_has : (e : EventTold) (fs : List EventTold) → Has e fs → Contains fs e
+pub each_has : (e : EventTold) (fs : List EventTold) → Has e fs → Contains fs e
 each_has e [] h = absurd h
 each_has e (f ∷ fs) (inl same) = let inside : 0 < length (f ∷ fs) = omega arith in (0, inside, sym same)
 each_has e (f ∷ fs) (inr h) =

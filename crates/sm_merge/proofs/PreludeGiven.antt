@@ -55,7 +55,7 @@ first_differs : (b c : Bool) → cond b false c ≡ true → (b ≡ false) × (c
 first_differs true c h = clash false h refl
 first_differs false c h = (refl, h)
 
-differ_by_test : (ks : List (List ℕ)) → names_differ ks ≡ true → DifferInNames ks
+pub differ_by_test : (ks : List (List ℕ)) → names_differ ks ≡ true → DifferInNames ks
 differ_by_test [] h = tt
 differ_by_test (k ∷ ks) h =
     let parts = first_differs (list_any (bytes_eq k) ks) (names_differ ks) h in

@@ -33,7 +33,7 @@ pub record IsMergedShape (ss : List Stated) (id : List ℕ) (e : Entry) : Type 0
   pub s : ShapeStated
   pub there : shape_under id ss ≡ Some s
   pub m : EffectiveShape
-  pub effective : IsEffective ss id m
+  pub is_effective : IsEffective ss id m
   pub is : e ≡ shape_entry (record {
     kind = s.shape.kind;
     members = map (member_id id) (names_of m.members);
@@ -46,7 +46,7 @@ pub record IsMergedMember (ss : List Stated) (id : List ℕ) (e : Entry) : Type 
   pub s : ShapeStated
   pub there : shape_under shape ss ≡ Some s
   pub m : EffectiveShape
-  pub effective : IsEffective ss shape m
+  pub is_effective : IsEffective ss shape m
   pub name : List ℕ
   pub of : MemberEntry
   pub found : fin.find text_cmp name m.members ≡ Some of

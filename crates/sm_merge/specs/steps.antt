@@ -3,3 +3,17 @@ pub mod Meant
 pub mod Cut
 pub mod Folding
 pub mod Rows
+pub mod Groups
+pub mod Placed
+pub mod Tables
+pub mod ShapeTables
+pub mod EventLists
+pub mod AllTables
+pub mod Links
+pub mod Walking
+pub mod Numbered
+pub mod AllEvents
+pub mod Firsts
+pub mod MixinLinks
+pub mod Contributing
+pub mod MixinEvents

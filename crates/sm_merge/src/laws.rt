@@ -1,5 +1,5 @@
 // Laws over the definitions of merging: public functions with empty bodies, whose contracts are the laws.
-ghost use Rattle.sm_merge.specs.Laws.{NoFiles, OneEffectiveShape, OneFileOrSeveral, OneGraph, OneListOfEvents, OneValue};
+ghost use Rattle.sm_merge.specs.Laws.{NoFiles, OneEffectiveShape, OneFileOrSeveral, OneGraph, OneListOfEvents, OneValue, OtherOrder};
 
 /// The values of one trait of one place come to one value.
 #[tactic(auto, using(crate::proofs::OneValue::one_value))]
@@ -28,6 +28,12 @@ pub fn one_list_of_events()
 #[tactic(auto, using(crate::proofs::OneMerged::one_file_or_several))]
 pub fn one_file_or_several()
     ensures { OneFileOrSeveral }
+{}
+
+/// Statements in another order, but not those for one id, the values of one trait of one place, and those of one key, merge to
+/// the same. So the order of files counts there alone.
+pub fn other_order()
+    ensures { OtherOrder }
 {}
 
 /// No files merge to the prelude.

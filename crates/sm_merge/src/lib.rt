@@ -3,15 +3,27 @@
 #![tactic(auto)]
 
 mod body;
+mod events;
+mod firsts;
+mod groups;
 pub mod laws;
 mod limit;
+mod look;
 mod meaning;
+mod mixin_events;
+mod mixins;
 mod names;
 mod node;
+mod parts;
 mod prelude_graph;
 mod refusal;
+mod shapes;
 mod stated;
+mod table;
+mod tables;
+mod told;
 mod value;
+mod walk;
 
 pub use limit::{ALL_MEMBER_LIMIT, LimitKind, MEMBER_LIMIT, SHAPE_LIMIT, TRAIT_LIMIT};
 pub use prelude_graph::prelude;

@@ -138,7 +138,13 @@ fn found(
     }
 }
 
-fn joined(alloc: Global, first: &str, second: &str, third: &str) -> Result<String, NoMemory>
+/// Three texts, one after the other.
+pub(crate) fn joined(
+    alloc: Global,
+    first: &str,
+    second: &str,
+    third: &str,
+) -> Result<String, NoMemory>
     ensures { IfOk result (λ text. string_bytes text ≡ first.now ++ second.now ++ third.now) }
 {
     let mut text = String::from_str(alloc, first)?;

@@ -175,7 +175,7 @@ fn put_shape(
     Ok(())
 }
 
-fn id_of(name: &str) -> ShapeIdRef<'_>
+pub(crate) fn id_of(name: &str) -> ShapeIdRef<'_>
     requires { IsIdentifier name.now }
     ensures { printed (seen_id result) ≡ api_id name.now }
 {

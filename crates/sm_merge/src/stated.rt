@@ -32,7 +32,7 @@ pub(crate) enum StatedRow {
     /// A shape.
     Shape(ShapeRow),
     /// Traits that are applied to a shape or member.
-    Apply(Text, Pairs),
+    Apply(ShapeId, Pairs),
 }
 
 /// A shape, and the ids of what it mixes in.
@@ -85,7 +85,7 @@ fn row(alloc: Global, names: &Names<'_>, statement: &Statement) -> Result<Stated
         Statement::Shape(shape) => Ok(StatedRow::Shape(shape_row(alloc, names, shape)?)),
         Statement::Apply(id, traits) => {
             let traits = meant_traits(alloc, names, traits.as_slice())?;
-            Ok(StatedRow::Apply(meaning(alloc, names, id)?, Pairs::new(traits)))
+            Ok(StatedRow::Apply(meant_id(alloc, names, id)?, Pairs::new(traits)))
         }
     }
 }
@@ -109,7 +109,8 @@ fn shape_row(alloc: Global, names: &Names<'_>, shape: &ShapeStatement) -> Result
     Ok(ShapeRow { shape, mixins })
 }
 
-fn copied_id(alloc: Global, id: &ShapeId) -> Result<ShapeId, NoMemory>
+/// A copy of an id.
+pub(crate) fn copied_id(alloc: Global, id: &ShapeId) -> Result<ShapeId, NoMemory>
     ensures { IfOk result (λ copy. copy ≡ id.now) }
 {
     match ShapeId::new(alloc, &id.as_ref()) {

@@ -108,7 +108,13 @@ fn into_entries(tree: Tree) -> Result<Items, Tree>
 }
 
 // Whether trees of these sizes are the same. Trees that count differently aren't, so a long one isn't gone through for each short one.
-fn are_same(alloc: Global, a: &Tree, a_size: u64, b: &Tree, b_size: u64) -> Result<bool, NoMemory>
+pub(crate) fn are_same(
+    alloc: Global,
+    a: &Tree,
+    a_size: u64,
+    b: &Tree,
+    b_size: u64,
+) -> Result<bool, NoMemory>
     requires a { IsNode (node_of a.now) }
     requires b { IsNode (node_of b.now) }
     requires a_size { a_size ≡ length_word (node_size (node_of a.now)) }

@@ -42,5 +42,6 @@ IsNoArray n tree = (node_of tree ≡ n) × (entries_in n ≡ None)
 
 -- what all came to
 pub record IsFolded (values : List Node) (f : Folded) : Type 0 where
+  pub running : IsRunning f
   pub value : IsValueOf values (node_of f.value)
   pub conflict : IsTrue f.conflict ↔ HaveConflict values
