@@ -1,0 +1,4 @@
+mod StepLists
+mod Worklist
+mod WalkNumbers
+mod FollowedLinks

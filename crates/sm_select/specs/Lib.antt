@@ -1,0 +1,11 @@
+pub mod Selectors
+pub mod View
+pub mod Tokens
+pub mod Grammar
+pub mod SelectorText
+pub mod Picks
+pub mod Answers
+pub mod Neighbors
+pub mod Walked
+pub mod Followed
+pub mod steps
