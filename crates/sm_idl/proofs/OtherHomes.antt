@@ -1,0 +1,130 @@
+-- Where a node, a control or metadata ends is the same whatever its words are relative to.
+use Rattle.std.proofs.Common.{◌≡◌, inl, inr, ℕ, zero, suc, List, [], ◌∷◌, ◌++◌, Option, refl, sym, ap, ◌∙◌, subst}
+use Rattle.std.proofs.lemmas.List.{map-append}
+use Rattle.sm_lex.specs.Tokens.{Lexeme}
+use Rattle.sm_lex.specs.declared.token.TokenKind.{TokenKind}
+use Rattle.sm_lex.specs.declared.token.TokenKind.TheVariants.{Word, Number, Text, Block, Mark}
+use Rattle.sm_tree.specs.Limits.{most_levels}
+use Rattle.sm_model.specs.Raw.{Raw}
+use Rattle.sm_idl.specs.Productions.{Tokens, Production, EachSpells}
+use Rattle.sm_idl.specs.Nodes.{Home, word_meant, WordSays, LeafSaid, Pair, pair_names, pair_of, node}
+use Rattle.sm_idl.specs.Idl.{control, metadata}
+use Rattle.sm_idl.specs.Words.{IsNew}
+
+-- what one spells, the other spells too
+abbrev AreAlike : Production Raw → Production Raw → Type 0
+AreAlike P Q = (n : Raw) (s r : Tokens) → P.whole n s r → (m : Raw) × Q.whole m s r
+
+word_alike : (g h : Option Home) (w : List ℕ) (n : Raw) → WordSays g w n → (m : Raw) × WordSays h w m
+word_alike g h w n (inl e) = (n, inl e)
+word_alike g h w n (inr (inl e)) = (n, inr (inl e))
+word_alike g h w n (inr (inr (inl e))) = (n, inr (inr (inl e)))
+word_alike g h w n (inr (inr (inr e))) = (word_meant h w, inr (inr (inr (e.0, refl))))
+
+leaf_alike : (g h : Option Home) (kind : TokenKind) (t : Lexeme) (n : Raw) → LeafSaid g kind t n → (m : Raw) × LeafSaid h kind t m
+leaf_alike g h Text t n e = (n, e)
+leaf_alike g h Block t n e = (n, e)
+leaf_alike g h Number t n e = (n, e)
+leaf_alike g h Word t n e = word_alike g h t.text n e
+leaf_alike g h Mark t n e = absurd e
+
+names_more : (a b : List Pair) (k : List ℕ) (n m : Raw) → pair_names a ≡ pair_names b
+    → pair_names (a ++ (k, n) ∷ []) ≡ pair_names (b ++ (k, m) ∷ [])
+names_more a b k n m e = map-append (λ p. p.0) a ((k, n) ∷ []) ∙ ap (λ ks. ks ++ k ∷ []) e ∙ sym (map-append (λ p. p.0) b ((k, m) ∷ []))
+
+module _ (P Q : Production Raw) (alike : AreAlike P Q) where
+  pair_alike : (a b : List Pair) (x : Pair) (s r : Tokens) → pair_names a ≡ pair_names b → (pair_of P a).whole x s r
+      → (m : Raw) × (pair_of Q b).whole (x.0, m) s r
+  pair_alike a b x s r e (k, s1, (t, f, (is_key, new)), (_, s2, colon, (n, s3, h, (g, last)))) =
+      let other = alike n s2 s3 h in (
+        other.0,
+        (
+          k,
+          s1,
+          (t, f, (is_key, subst (IsNew k) e new)),
+          (
+            tt,
+            s2,
+            colon,
+            (
+              other.0,
+              s3,
+              other.1,
+              (
+                ap (λ p. (p.0, other.0)) g,
+                last,
+              ),
+            ),
+          ),
+        ),
+      )
+
+  pairs_alike : (a b xs : List Pair) (s r : Tokens) → pair_names a ≡ pair_names b → EachSpells (pair_of P) a xs s r
+      → (ys : List Pair) × EachSpells (pair_of Q) b ys s r
+  pairs_alike a b [] s r e h = ([], h)
+  pairs_alike a b (x ∷ xs) s r e (t, h, k) =
+      let first = pair_alike a b x s t e h in
+      let rest = pairs_alike (a ++ x ∷ []) (b ++ (x.0, first.0) ∷ []) xs t r (names_more a b x.0 x.1 first.0 e) k in
+      ((x.0, first.0) ∷ rest.0, (t, first.1, rest.1))
+
+  nodes_alike : (before other xs : List Raw) (s r : Tokens) → EachSpells (λ _. P) before xs s r
+      → (ys : List Raw) × EachSpells (λ _. Q) other ys s r
+  nodes_alike before other [] s r h = ([], h)
+  nodes_alike before other (x ∷ xs) s r (t, h, k) =
+      let first = alike x s t h in
+      let rest = nodes_alike (before ++ x ∷ []) (other ++ first.0 ∷ []) xs t r k in
+      (first.0 ∷ rest.0, (t, first.1, rest.1))
+
+pub node_alike : (g h : Option Home) (levels : ℕ) → AreAlike (node g levels) (node h levels)
+unfolding node
+node_alike g h zero n s r (t, e, k) = let m = leaf_alike g h t.token.kind t.token n k in (m.0, (t, e, m.1))
+node_alike g h (suc levels) n s r (inl (t, e, k)) = let m = leaf_alike g h t.token.kind t.token n k in (m.0, inl (t, e, m.1))
+node_alike g h (suc levels) n s r (inr (inl (_, s1, open_mark, (ps, s2, k, (_, s3, close, (e, last)))))) =
+    let other = pairs_alike (node g levels) (node h levels) (node_alike g h levels) [] [] ps s1 s2 refl k in
+    (_, inr (inl (tt, s1, open_mark, (other.0, s2, other.1, (tt, s3, close, (refl, last))))))
+node_alike g h (suc levels) n s r (inr (inr (_, s1, open_mark, (ns, s2, k, (_, s3, close, (e, last)))))) =
+    let other = nodes_alike (node g levels) (node h levels) (node_alike g h levels) [] [] ns s1 s2 k in
+    (_, inr (inr (tt, s1, open_mark, (other.0, s2, other.1, (tt, s3, close, (refl, last))))))
+
+pub controls_alike : (g h : Option Home) (a b xs : List Pair) (s r : Tokens) → pair_names a ≡ pair_names b → EachSpells (control g) a xs s r
+    → (ys : List Pair) × EachSpells (control h) b ys s r
+controls_alike g h a b [] s r e k = ([], k)
+controls_alike g h a b (x ∷ xs) s r e (t, (_, s1, dollar, k), more) =
+    let first = pair_alike (node g most_levels) (node h most_levels) (node_alike g h most_levels) a b x s1 t e k in
+    let rest = controls_alike g h (a ++ x ∷ []) (b ++ (x.0, first.0) ∷ []) xs t r (names_more a b x.0 x.1 first.0 e) more in
+    ((x.0, first.0) ∷ rest.0, (t, (tt, s1, dollar, first.1), rest.1))
+
+pub metadata_alike : (g h : Option Home) (a b xs : List Pair) (s r : Tokens) → pair_names a ≡ pair_names b
+    → EachSpells (metadata g) a xs s r
+    → (ys : List Pair) × EachSpells (metadata h) b ys s r
+metadata_alike g h a b [] s r e k = ([], k)
+metadata_alike g h a b (x ∷ xs) s r e (t, (_, s0, word, (k, s1, (u, f, (is_key, new)), (_, s2, equals, (n, s3, m, (g1, last))))), more) =
+    let other = node_alike g h most_levels n s2 s3 m in
+    let rest = metadata_alike g h (a ++ x ∷ []) (b ++ (x.0, other.0) ∷ []) xs t r (names_more a b x.0 x.1 other.0 e) more in (
+      (x.0, other.0) ∷ rest.0,
+      (
+        t,
+        (
+          tt,
+          s0,
+          word,
+          (
+            k,
+            s1,
+            (u, f, (is_key, subst (IsNew k) e new)),
+            (
+              tt,
+              s2,
+              equals,
+              (
+                other.0,
+                s3,
+                other.1,
+                (ap (λ p. (p.0, other.0)) g1, last),
+              ),
+            ),
+          ),
+        ),
+        rest.1,
+      ),
+    )

@@ -1,0 +1,12 @@
+-- The laws of the crate as statements, each the contract of a function in `laws`.
+use Rattle.std.specs.Prelude.{ℕ, List, ◌++◌}
+use Rattle.sm_idl.specs.Productions.{Tokens}
+use Rattle.sm_idl.specs.Idl.{FileSaid, FileSpelled, Begun, Idl}
+
+-- a text is that of one file at most, so it has one list of statements
+abbrev pub OneReading : Type 0
+OneReading = (bytes : List ℕ) (f g : FileSaid) → Idl f bytes → Idl g bytes → Path FileSaid f g
+
+-- what a file's tokens begin with is begun
+abbrev pub PrefixesAreBegun : Type 0
+PrefixesAreBegun = (f : FileSaid) (ts us : Tokens) → FileSpelled f (ts ++ us) → Begun ts

@@ -1,0 +1,11 @@
+pub mod Productions
+pub mod Words
+pub mod Nodes
+pub mod Traits
+pub mod Members
+pub mod Bodies
+pub mod Shapes
+pub mod Idl
+pub mod Answers
+pub mod Laws
+pub mod steps

@@ -1,0 +1,45 @@
+-- What a reader stands for: the tokens that are left; and what its methods answer.
+use Rattle.std.specs.Prelude.{◌≡◌, ℕ, List, [], ◌∷◌, drop, map, Option, Some, None, Result, Ok, Err}
+use Rattle.sm_lex.specs.Tokens.{lexeme_of}
+use Rattle.sm_lex.specs.declared.token.Token.{Token}
+use Rattle.sm_tree.specs.declared.NoMemory.{NoMemory as OutOfMemory}
+use Rattle.sm_model.specs.Raw.{Raw}
+use Rattle.sm_model.specs.RawView.{raw_view}
+use Rattle.sm_model.specs.declared.raw.RawNode.{RawNode}
+use Rattle.sm_idl.specs.Productions.{Tokens, spaced_from, Production}
+use Rattle.sm_idl.specs.declared.reader.Reader.{Reader}
+use Rattle.sm_idl.specs.declared.reader.Stop.{Stop}
+use Rattle.sm_idl.specs.declared.reader.Stop.TheVariants.{Syntax, NoMemory}
+use Rattle.sm_idl.specs.steps.Firm.{Class}
+use Rattle.sm_idl.specs.steps.Reading.{IsStuck}
+
+abbrev pub left : Reader → Tokens
+left r = spaced_from r.text.now r.behind (map lexeme_of (drop r.at r.tokens.now))
+
+-- the next of the tokens, if there is one
+abbrev pub Peeks : Tokens → Option Token → Type 0
+Peeks s None = s ≡ []
+Peeks s (Some t) = (space : List ℕ) × (r : Tokens) × (s ≡ record { space = space; token = lexeme_of t } ∷ r)
+
+-- the next is taken
+abbrev pub TakesToken : Tokens → Tokens → Option Token → Type 0
+TakesToken s r None = (s ≡ []) × (r ≡ s)
+TakesToken s r (Some t) = (space : List ℕ) × (s ≡ record { space = space; token = lexeme_of t } ∷ r)
+
+abbrev pub NoToken : Class
+NoToken t = ⊥
+
+-- a production that ends by itself is read, and r is left; or r begins with the token that goes on with nothing
+abbrev pub ReadsAs : {V X : Type 0} → (V → X) → Production X → Tokens → Tokens → Result V Stop → Type 0
+ReadsAs view P s r (Ok v) = P.whole (view v) s r
+ReadsAs view P s r (Err Syntax) = IsStuck NoToken P s r
+ReadsAs view P s r (Err NoMemory) = Unit {0}
+
+abbrev pub Reads : {X : Type 0} → Production X → Tokens → Tokens → Result X Stop → Type 0
+Reads P s r result = ReadsAs (λ x. x) P s r result
+
+-- the node that a token says, if it says one
+abbrev pub SaysNode : (Raw → Type 0) → Result (Option RawNode) OutOfMemory → Type 0
+SaysNode Says (Ok (Some n)) = Says (raw_view n)
+SaysNode Says (Ok None) = (n : Raw) → Says n → ⊥
+SaysNode Says (Err refusal) = Unit {0}

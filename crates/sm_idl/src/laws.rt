@@ -1,0 +1,12 @@
+// Laws of the definitions, each the contract of a function whose body is empty.
+ghost use Rattle.sm_idl.specs.Laws.{OneReading, PrefixesAreBegun};
+
+/// A text is that of one file at most. So `read_idl` gives *the* statements.
+pub fn one_reading()
+    ensures { OneReading }
+{}
+
+/// What the tokens of a file begin with is begun: no file has a place where its tokens stop.
+pub fn prefixes_are_begun()
+    ensures { PrefixesAreBegun }
+{}

@@ -1,0 +1,10 @@
+// Models in the Smithy IDL 2.0 (Smithy 2.0, "Smithy IDL"): which statements a text says, and where one stops being a model's.
+#![tactic(auto)]
+
+pub mod laws;
+mod leaf;
+mod reader;
+mod refusal;
+mod word;
+
+pub use refusal::IdlRefusal;

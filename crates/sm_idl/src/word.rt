@@ -1,0 +1,92 @@
+// Words by their forms: identifiers, namespaces, ids with or without their namespace, and the names of types.
+ghost use Rattle.std.specs.Prelude.{◌≡◌, ◌↔◌, IsTrue};
+ghost use Rattle.sm_model.specs.References.{IsRelativeId};
+ghost use Rattle.sm_idl.specs.Words.{IsWordId, id, identifier};
+ghost use Rattle.sm_idl.specs.Shapes.{type_word};
+ghost use Rattle.sm_idl.specs.steps.ReaderView.{left, Reads, ReadsAs};
+
+use crate::reader::{Reader, Stop};
+use sm_ids::{ShapeIdRef, is_identifier};
+use sm_lex::TokenKind;
+use sm_model::Kind;
+
+/// Whether a text is an id without its namespace.
+fn is_relative_id(text: &str) -> bool
+    ensures { IsTrue result ↔ IsRelativeId text.now }
+{
+    match text.split_once('$') {
+        Some((name, member)) => is_identifier(name) && is_identifier(member),
+        None => is_identifier(text),
+    }
+}
+
+/// Whether a word is an id, with or without its namespace.
+pub(crate) fn is_word_id(word: &str) -> bool
+    ensures { IsTrue result ↔ IsWordId word.now }
+{
+    match ShapeIdRef::parse(word) {
+        Ok(_) => true,
+        Err(_) => is_relative_id(word),
+    }
+}
+
+impl<'t, 'a> Reader<'t, 'a> {
+    /// Reads an identifier.
+    pub(crate) fn identifier(&mut self) -> Result<&'a str, Stop>
+        ensures { ReadsAs (λ w. w.now) identifier (left self.old) (left self.new) result }
+    {
+        match self.next() {
+            Some(token) => match token.kind {
+                TokenKind::Word => {
+                    if is_identifier(token.text) {
+                        self.take();
+                        Ok(token.text)
+                    } else {
+                        Err(Stop::Syntax)
+                    }
+                }
+                _ => Err(Stop::Syntax),
+            },
+            None => Err(Stop::Syntax),
+        }
+    }
+
+    /// Reads an id.
+    pub(crate) fn id(&mut self) -> Result<&'a str, Stop>
+        ensures { ReadsAs (λ w. w.now) id (left self.old) (left self.new) result }
+    {
+        match self.next() {
+            Some(token) => match token.kind {
+                TokenKind::Word => {
+                    if is_word_id(token.text) {
+                        self.take();
+                        Ok(token.text)
+                    } else {
+                        Err(Stop::Syntax)
+                    }
+                }
+                _ => Err(Stop::Syntax),
+            },
+            None => Err(Stop::Syntax),
+        }
+    }
+
+    /// Reads the name of a type.
+    pub(crate) fn type_word(&mut self) -> Result<Kind, Stop>
+        ensures { Reads type_word (left self.old) (left self.new) result }
+    {
+        match self.next() {
+            Some(token) => match token.kind {
+                TokenKind::Word => match Kind::named(token.text) {
+                    Some(kind) => {
+                        self.take();
+                        Ok(kind)
+                    }
+                    None => Err(Stop::Syntax),
+                },
+                _ => Err(Stop::Syntax),
+            },
+            None => Err(Stop::Syntax),
+        }
+    }
+}
