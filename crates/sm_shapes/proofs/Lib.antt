@@ -3,3 +3,7 @@ pub mod Literals
 pub mod SameVals
 pub mod ValueViews
 pub mod ValueOrders
+pub mod NamedMembers
+pub mod FieldPlaces
+pub mod PatternNumbers
+pub mod FirstBroken

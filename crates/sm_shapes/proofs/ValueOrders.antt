@@ -1,6 +1,6 @@
 -- The order of values is that of their words, one list for each value, so it is total; and it tells apart all values but equal ones.
 use Rattle.std.proofs.Common.{◌≡◌, ℕ, ℤ, Bool, true, false, ◌&&◌, List, [], ◌∷◌, refl, sym, ap, ◌∙◌, subst}
-use Rattle.std.specs.Prelude.{pos, ◌==◌}
+use Rattle.std.specs.Prelude.{pos, ◌==◌, ◌↔◌, IsTrue}
 use Rattle.std.specs.Cmp.{IsTotalOrder}
 use Rattle.std.specs.Cmp.Lexicographic.{slice_cmp}
 use Rattle.std.specs.Ordering.{nat_cmp, int_cmp, bool_cmp, ordering_then, ordering_reverse, is_eq, then_cmp, on}
@@ -210,4 +210,11 @@ pub equal_is_same : EqualIsSame
 equal_is_same v w = (
   λ h. same_is v w (sym (same_by_order v w) ∙ ap is_eq h),
   λ e. equal_where (val_cmp v w) (same_by_order v w ∙ subst (λ x. same_val v x ≡ true) e (same_itself v)),
+)
+
+-- a test of the order tells whether two values are the same
+pub told_same : (v w : Val) (o : Ordering) (b : Bool) → o ≡ val_cmp v w → b ≡ is_eq o → IsTrue b ↔ (v ≡ w)
+told_same v w o b order test = (
+  λ h. (equal_is_same v w).0 (sym order ∙ equal_where o (sym test ∙ h)),
+  λ e. test ∙ ap is_eq (order ∙ (equal_is_same v w).1 e),
 )

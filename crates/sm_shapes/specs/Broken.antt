@@ -68,3 +68,8 @@ broken finds kind c (union_val k v) = []
 abbrev pub has_twice : List Val → Bool
 has_twice [] = false
 has_twice (v ∷ vs) = list_any (λ w. same_val v w) vs || has_twice vs
+
+-- the first of these
+abbrev pub first_broken : List FaultKind → Option FaultKind
+first_broken [] = None
+first_broken (kind ∷ kinds) = Some kind

@@ -7,6 +7,7 @@ pub mod FaultWords
 pub mod Values
 pub mod ValueView
 pub mod ValueOrder
+pub mod FieldPuts
 pub mod TableData
 pub mod ConstraintView
 pub mod TableView

@@ -1,5 +1,6 @@
 -- A table as data, without memory: what it says of its shapes and members, by number. Contracts compare tables by these words.
 use Rattle.std.specs.Prelude.{ℕ, ℤ, Bool, false, ◌==◌, cond, List, [], ◌∷◌, length, Option, Some, None, unwrap_or, slice_get}
+use Rattle.std.specs.Str.{bytes_eq}
 use Rattle.sm_tree.specs.Node.{Node}
 use Rattle.sm_time.specs.declared.format.Format.{Format}
 use Rattle.sm_shapes.specs.Values.{Val}
@@ -229,3 +230,8 @@ pattern_at t n = first_text (texts_numbered n t.patterns)
 abbrev pub count_of_default : Option Val → ℕ
 count_of_default None = 0
 count_of_default (Some v) = 1
+
+-- the first of these members that has the name, by what their names are
+abbrev pub member_with : (ℕ → List ℕ) → List ℕ → List ℕ → Option ℕ
+member_with name w [] = None
+member_with name w (k ∷ ks) = cond (bytes_eq (name k) w) (Some k) (member_with name w ks)

@@ -5,14 +5,17 @@
 mod any_patterns;
 pub mod constraints;
 mod fault;
+mod judging;
 pub mod kinds;
 pub mod laws;
 mod literal_patterns;
+mod order;
 mod patterns;
 mod rows;
 mod table;
 pub mod tables;
 mod value;
+mod value_puts;
 pub mod values;
 
 pub use any_patterns::AnyPatterns;

@@ -1,8 +1,8 @@
 // Tables of all kinds of shapes: shapes and members by number. Contracts see a table as the TableData of specs/TableData.antt. The `Table`
 // at the crate's top is the first one, which knows a few kinds alone.
 ghost use Rattle.std.specs.Prelude.{◌≡◌, ◌<◌, Some, map, slice_get, if◌then◌else◌};
-ghost use Rattle.sm_shapes.specs.InOrder.{most_defaults, defaults_among};
-ghost use Rattle.sm_shapes.specs.TableData.{shape_count, member_count, kind_at, members_at, by_name_at, by_json_name_at, needed_at, name_at, json_name_at, target_at, required_at, default_at, count_of_default};
+ghost use Rattle.sm_shapes.specs.InOrder.{Shaped, most_defaults, defaults_among};
+ghost use Rattle.sm_shapes.specs.TableData.{shape_count, member_count, kind_at, members_at, by_name_at, by_json_name_at, needed_at, name_at, json_name_at, target_at, required_at, default_at, count_of_default, member_with};
 ghost use Rattle.sm_shapes.specs.TableView.{shape_data, member_data, shape_rows, member_rows, table_data};
 
 use crate::MemberNumbers;
@@ -275,6 +275,55 @@ impl Table {
         ensures { result ≡ required_at (table_data self.now) member }
     {
         self.member(member).required
+    }
+
+    // The name of a member; one that isn't in the table has the empty name.
+    fn name_of(&self, member: u32) -> &str
+        ensures { result.now ≡ name_at (table_data self.now) member }
+    {
+        match self.members.rows.get(member as usize) {
+            Some(row) => row.name.as_str(),
+            None => "",
+        }
+    }
+
+    // The same of the name that it has where JSON names are looked at.
+    fn json_name_of(&self, member: u32) -> &str
+        ensures { result.now ≡ json_name_at (table_data self.now) member }
+    {
+        match self.members.rows.get(member as usize) {
+            Some(row) => match &row.json_name {
+                Some(name) => name.as_str(),
+                None => row.name.as_str(),
+            },
+            None => "",
+        }
+    }
+
+    /// The member of a shape that has this name. A binary search. No memory.
+    pub fn member_named(&self, shape: u32, name: &str) -> Option<u32>
+        requires number { shape < shape_count (table_data self.now) }
+        requires shaped { Shaped (table_data self.now) }
+        ensures { result ≡ member_with (name_at (table_data self.now)) name.now (members_at (table_data self.now) shape) }
+    {
+        let numbers = self.by_name(shape);
+        match numbers.binary_search_by(|member| self.name_of(*member).cmp(name)) {
+            Ok(place) => Some(numbers[place]),
+            Err(_) => None,
+        }
+    }
+
+    /// The member of a shape that has this name where JSON names are looked at. A binary search. No memory.
+    pub fn member_json_named(&self, shape: u32, name: &str) -> Option<u32>
+        requires number { shape < shape_count (table_data self.now) }
+        requires shaped { Shaped (table_data self.now) }
+        ensures { result ≡ member_with (json_name_at (table_data self.now)) name.now (members_at (table_data self.now) shape) }
+    {
+        let numbers = self.by_json_name(shape);
+        match numbers.binary_search_by(|member| self.json_name_of(*member).cmp(name)) {
+            Ok(place) => Some(numbers[place]),
+            Err(_) => None,
+        }
     }
 
     /// The greatest number of members of one shape that have a default. Time as the members of all shapes. No memory.

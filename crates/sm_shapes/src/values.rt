@@ -36,7 +36,7 @@ pub enum Value {
 #[cycle(any_value)]
 #[derive(Debug, Drop)]
 pub struct Items {
-    items: Vec<Value>,
+    pub(crate) items: Vec<Value>,
 }
 
 /// The entries of a map: its keys with their values, in byte order of the keys, which differ.
@@ -50,7 +50,7 @@ pub struct Entries {
 #[cycle(any_value)]
 #[derive(Debug, Drop)]
 pub struct Fields {
-    fields: Vec<(u32, Value)>,
+    pub(crate) fields: Vec<(u32, Value)>,
 }
 
 impl Items {

@@ -1,0 +1,36 @@
+-- The first constraint broken of two lists; and what is judged of lists and maps.
+use Rattle.std.proofs.Common.{◌≡◌, ℕ, suc, Bool, List, [], ◌∷◌, ◌++◌, length, append_assoc, refl, sym, ap, ◌∙◌}
+use Rattle.std.specs.Prelude.{Some, None}
+use Rattle.sm_shapes.specs.Values.{Val, vals_of, entries_of, each_val, keys_of}
+use Rattle.sm_shapes.specs.Broken.{first_broken, unless, text_broken}
+use Rattle.std.specs.List.{list_any}
+use Rattle.std.specs.Str.{bytes_eq}
+use Rattle.sm_shapes.specs.declared.kinds.ShapeKind.{ShapeKind}
+use Rattle.sm_shapes.specs.declared.kinds.ShapeKind.TheVariants.{Enum}
+use Rattle.sm_shapes.specs.declared.fault.FaultKind.{FaultKind}
+use Rattle.sm_shapes.specs.declared.fault.FaultKind.TheVariants as fault
+
+pub first_some : (xs ys : List FaultKind) (k : FaultKind) → first_broken xs ≡ Some k → first_broken (xs ++ ys) ≡ Some k
+first_some [] ys k h = absurd cc
+first_some (x ∷ xs) ys k h = h
+
+pub first_none : (xs ys : List FaultKind) → first_broken xs ≡ None → first_broken (xs ++ ys) ≡ first_broken ys
+first_none [] ys h = refl
+first_none (x ∷ xs) ys h = absurd cc
+
+pub first_later : (xs ys zs : List FaultKind) → first_broken xs ≡ None → first_broken ((xs ++ ys) ++ zs) ≡ first_broken (ys ++ zs)
+first_later xs ys zs h = ap first_broken (append_assoc xs ys zs) ∙ first_none xs (ys ++ zs) h
+
+pub each_of : (vs : List Val) → length (each_val (vals_of vs)) ≡ length vs
+each_of [] = refl
+each_of (v ∷ vs) = ap (λ n. suc n) (each_of vs)
+
+pub keys_of_entries : (es : List (List ℕ × Val)) → length (keys_of (entries_of es)) ≡ length es
+keys_of_entries [] = refl
+keys_of_entries (e ∷ es) = ap (λ n. suc n) (keys_of_entries es)
+
+-- a text that is none of an enum's
+pub enum_first : (kind : ShapeKind) (texts : List (List ℕ)) (u : List ℕ) (b : Bool) → kind ≡ Enum
+    → b ≡ list_any (λ w. bytes_eq w u) texts → first_broken (unless b fault.Enum) ≡ first_broken (text_broken kind texts u)
+enum_first kind texts u b e is =
+    ap (λ x. first_broken (unless x fault.Enum)) is ∙ sym (ap (λ k. first_broken (text_broken k texts u)) e)
