@@ -1,7 +1,7 @@
 -- A tree that arrives where one is due: what it comes to in the tags before it, and where what is passed over ends.
-use Rattle.std.proofs.Common.{◌≡◌, ℕ, zero, suc, Bool, true, false, List, [], ◌∷◌, ◌++◌, refl, sym, ap, ◌∙◌, subst}
-use Rattle.std.specs.Prelude.{Option, Some, None, Result, Ok, Err}
-use Rattle.sm_tree.specs.Node.{Node, null, bool, int, number, text, bytes, tag, opaque, list, object}
+use Rattle.std.proofs.Common.{◌≡◌, ℕ, false, List, [], ◌∷◌, ◌++◌, refl, sym, ap, ◌∙◌}
+use Rattle.std.specs.Prelude.{Option, Some, Err}
+use Rattle.sm_tree.specs.Node.{Node, tag}
 use Rattle.sm_tree.specs.Building.{tagged}
 use Rattle.sm_shapes.specs.Places.{Place}
 use Rattle.sm_shapes.specs.declared.fault.FaultKind.{FaultKind}
@@ -11,7 +11,6 @@ use Rattle.sm_codec.specs.Convention.{IsConvention, IsNested, nested_fault}
 use Rattle.sm_codec.specs.Sorts.{Sort, simple, a_list, a_map, a_structure, a_union, left_out}
 use Rattle.sm_codec.specs.Codec.{Codec, sort_at}
 use Rattle.sm_codec.specs.Named.{is_null}
-use Rattle.sm_codec.specs.FaultLists.{Reading}
 use Rattle.sm_codec.specs.Readings.{one_here, leaf_reading, leaf_by, reading}
 use Rattle.sm_codec.specs.Walk.{Due, due_at, due_tagged, due_passed, due_nowhere, tagged_by, behind_tag, behind_tags}
 use Rattle.sm_codec.specs.steps.Arrivals.{null_where, read_where}

@@ -7,14 +7,14 @@ use Rattle.std.specs.Str.{is_utf8}
 use Rattle.sm_time.specs.declared.format.Format.{Format}
 use Rattle.sm_tree.specs.Node.{Node, Nodes, Members, null, int, bytes, tag, list, object, no_nodes}
 use Rattle.sm_shapes.specs.Values.{Val, bool_val, int_val, text_val, blob_val, time_val}
-use Rattle.sm_shapes.specs.declared.fault.FaultKind.TheVariants.{WrongType, Width, Time}
+use Rattle.sm_shapes.specs.declared.fault.FaultKind.TheVariants.{WrongType, Width, Time, Repeated}
 use Rattle.sm_codec.specs.declared.simple.Simple.{Simple}
 use Rattle.sm_codec.specs.declared.simple.Simple.TheVariants as the
 use Rattle.sm_time.specs.StampTexts.{is_stamp}
 use Rattle.sm_codec.specs.Convention.{IsConvention, IsNested, nested_fault, fault_in, is_of, fits_bits, are_bytes}
 use Rattle.sm_codec.specs.Conventions.{cbor_read, cbor_blob, cbor_time, cbor_seconds, cbor_written, cbor_carries, cbor_carries_leaf, cbor_convention, is_whole_second, stamp_of_seconds, or_fault, stamp_val}
 use Rattle.sm_time.proofs.StampForms.{and_first, and_second}
-use Rattle.sm_codec.proofs.LeafLaws.{guarded, boolean_of, text_of, number_of, stamped, seconds_stamp}
+use Rattle.sm_codec.proofs.LeafLaws.{guarded, boolean_of, text_of, number_of, stamped, seconds_stamp, no_fault_where, type_never, boolean_never, text_never, number_never, stamp_never}
 
 blob_of : (n : Node) (v : Val) → cbor_blob n ≡ Ok v → is_of the.Blob v ≡ true
 blob_of (bytes u) v h = guarded the.Blob (blob_val u) v WrongType (are_bytes u) refl h
@@ -24,7 +24,8 @@ under_one : (format : Format) (n : Node) (v : Val) → cbor_seconds n ≡ Ok v �
 under_one format (int z) v h = stamped format (stamp_of_seconds z) v (seconds_stamp z) h
 under_one format n v h = absurd cc
 
-tag_of : (format : Format) (b : Bool) (n : Node) (v : Val) → cond b (cbor_seconds n) (Err WrongType) ≡ Ok v → is_of (the.Time format) v ≡ true
+tag_of : (format : Format) (b : Bool) (n : Node) (v : Val) → cond b (cbor_seconds n) (Err WrongType) ≡ Ok v
+    → is_of (the.Time format) v ≡ true
 tag_of format true n v h = under_one format n v h
 tag_of format false n v h = absurd cc
 
@@ -98,6 +99,29 @@ written_reads (the.Time format) (time_val ms) h =
     (and_first (is_stamp ms) (is_whole_second ms) h)
 written_reads x v h = absurd cc
 
+blob_never : (n : Node) → cbor_blob n ≡ Err Repeated → ⊥
+blob_never (bytes u) h = no_fault_where (blob_val u) WrongType (are_bytes u) type_never h
+blob_never n h = cc
+
+under_never : (n : Node) → cbor_seconds n ≡ Err Repeated → ⊥
+under_never (int z) h = stamp_never (stamp_of_seconds z) h
+under_never n h = cc
+
+tag_never : (b : Bool) (n : Node) → cond b (cbor_seconds n) (Err WrongType) ≡ Err Repeated → ⊥
+tag_never true n h = under_never n h
+tag_never false n h = cc
+
+time_never : (n : Node) → cbor_time n ≡ Err Repeated → ⊥
+time_never (tag k n) h = tag_never (k == 1) n h
+time_never n h = cc
+
+never_repeated : (x : Simple) (n : Node) → cbor_read x n ≡ Err Repeated → ⊥
+never_repeated the.Blob n h = blob_never n h
+never_repeated the.Boolean n h = boolean_never n h
+never_repeated the.Text n h = text_never n h
+never_repeated (the.Number bits) n h = number_never bits n h
+never_repeated (the.Time format) n h = time_never n h
+
 pub cbor_laws : IsConvention cbor_convention
 cbor_laws = record {
   names = λ t shaped s in_range. shaped.names s in_range;
@@ -108,4 +132,5 @@ cbor_laws = record {
   no_object = no_object;
   no_null = no_null;
   nested = nested;
+  never_repeated = never_repeated;
 }

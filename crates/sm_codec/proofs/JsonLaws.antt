@@ -6,15 +6,15 @@ use Rattle.sm_time.specs.declared.format.Format.{Format}
 use Rattle.sm_time.specs.declared.format.Format.TheVariants.{DateTime, HttpDate, EpochSeconds}
 use Rattle.sm_tree.specs.Node.{Node, Nodes, Members, null, tag, list, object}
 use Rattle.sm_shapes.specs.Values.{Val, bool_val, int_val, text_val, blob_val, time_val}
-use Rattle.sm_shapes.specs.declared.fault.FaultKind.TheVariants.{WrongType, Width}
+use Rattle.sm_shapes.specs.declared.fault.FaultKind.TheVariants.{WrongType, Width, Repeated}
 use Rattle.sm_codec.specs.declared.simple.Simple.{Simple}
 use Rattle.sm_codec.specs.declared.simple.Simple.TheVariants as the
 use Rattle.sm_time.specs.StampTexts.{is_stamp}
 use Rattle.sm_codec.specs.Convention.{IsConvention, IsNested, nested_fault, is_of, fits_bits, are_bytes}
 use Rattle.sm_codec.specs.Conventions.{json_read, json_time, json_written, json_written_time, json_carries, json_carries_leaf, json_convention, has_text}
 use Rattle.sm_time.proofs.StampForms.{and_first, and_second}
-use Rattle.sm_codec.proofs.LeafLaws.{boolean_of, text_of, number_of, seconds_of, time_text_of}
-use Rattle.sm_codec.proofs.TextLeaves.{blob_reads, base64_of, seconds_read, time_text_reads, date_writable}
+use Rattle.sm_codec.proofs.LeafLaws.{boolean_of, text_of, number_of, seconds_of, time_text_of, boolean_never, text_never, number_never, seconds_never, time_text_never}
+use Rattle.sm_codec.proofs.TextLeaves.{blob_reads, base64_of, base64_never, seconds_read, time_text_reads, date_writable}
 
 time_of : (format : Format) (n : Node) (v : Val) → json_time format n ≡ Ok v → is_of (the.Time format) v ≡ true
 time_of DateTime n v h = time_text_of DateTime DateTime n v h
@@ -79,6 +79,18 @@ written_reads (the.Time format) (time_val ms) h =
     time_reads format ms (and_first (is_stamp ms) (has_text format ms) h) (and_second (is_stamp ms) (has_text format ms) h)
 written_reads x v h = absurd cc
 
+time_never : (format : Format) (n : Node) → json_time format n ≡ Err Repeated → ⊥
+time_never DateTime n h = time_text_never DateTime n h
+time_never HttpDate n h = time_text_never HttpDate n h
+time_never EpochSeconds n h = seconds_never n h
+
+never_repeated : (x : Simple) (n : Node) → json_read x n ≡ Err Repeated → ⊥
+never_repeated the.Blob n h = base64_never n h
+never_repeated the.Boolean n h = boolean_never n h
+never_repeated the.Text n h = text_never n h
+never_repeated (the.Number bits) n h = number_never bits n h
+never_repeated (the.Time format) n h = time_never format n h
+
 -- by the members' names, and by their JSON names
 pub json_laws : (b : Bool) → IsConvention (json_convention b)
 json_laws false = record {
@@ -90,6 +102,7 @@ json_laws false = record {
   no_object = no_object;
   no_null = no_null;
   nested = nested false;
+  never_repeated = never_repeated;
 }
 json_laws true = record {
   names = λ t shaped s in_range. shaped.json_names s in_range;
@@ -100,4 +113,5 @@ json_laws true = record {
   no_object = no_object;
   no_null = no_null;
   nested = nested true;
+  never_repeated = never_repeated;
 }

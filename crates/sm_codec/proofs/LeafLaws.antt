@@ -9,15 +9,18 @@ use Rattle.sm_time.proofs.StampForms.{and_second}
 use Rattle.sm_tree.specs.Node.{Node, bool, int, number, text}
 use Rattle.sm_shapes.specs.Values.{Val, bool_val, int_val, text_val, time_val}
 use Rattle.sm_shapes.specs.declared.fault.FaultKind.{FaultKind}
-use Rattle.sm_shapes.specs.declared.fault.FaultKind.TheVariants.{WrongType, Width, Time}
+use Rattle.sm_shapes.specs.declared.fault.FaultKind.TheVariants.{WrongType, Width, Time, Repeated}
 use Rattle.sm_codec.specs.declared.simple.Simple.{Simple}
 use Rattle.sm_codec.specs.declared.simple.Simple.TheVariants as the
 use Rattle.sm_time.specs.StampTexts.{is_stamp, stamp_of, stamp_of_form, supposed, is_form, is_whole_millis}
 use Rattle.sm_codec.specs.Convention.{is_of, fits_bits}
-use Rattle.sm_codec.specs.Conventions.{read_boolean, read_text, read_number, read_seconds, read_time_text, or_fault, stamp_val, stamp_of_seconds}
+use Rattle.sm_codec.specs.Conventions.{read_boolean, read_text, read_number, read_seconds, read_time_text, or_fault, stamp_val, stamp_of_seconds, has_fraction_mark}
 
 abbrev pub ok_val : Val → Result Val FaultKind
 ok_val v = Ok v
+
+abbrev wrong : FaultKind → Result Val FaultKind
+wrong kind = Err kind
 
 pub ok_same : (x y : Val) → ok_val x ≡ Ok y → x ≡ y
 ok_same x y h = cc
@@ -77,3 +80,44 @@ seconds_of format n v h = absurd cc
 pub time_text_of : (format like : Format) (n : Node) (v : Val) → read_time_text like n ≡ Ok v → is_of (the.Time format) v ≡ true
 time_text_of format like (text u) v h = stamped format (stamp_of like u) v (text_stamp like u) h
 time_text_of format like n v h = absurd cc
+
+-- no fault of a leaf is that a name is repeated
+pub no_fault_where : (v : Val) (kind : FaultKind) (b : Bool) → (kind ≡ Repeated → ⊥) → cond b (Ok v) (Err kind) ≡ Err Repeated → ⊥
+no_fault_where v kind true never h = cc
+no_fault_where v kind false never h = let same : kind ≡ Repeated = cc in never same
+
+pub type_never : WrongType ≡ Repeated → ⊥
+type_never h = cc
+
+width_never : Width ≡ Repeated → ⊥
+width_never h = cc
+
+pub boolean_never : (n : Node) → read_boolean n ≡ Err Repeated → ⊥
+boolean_never (bool b) h = cc
+boolean_never n h = cc
+
+pub text_never : (n : Node) → read_text n ≡ Err Repeated → ⊥
+text_never (text u) h = no_fault_where (text_val u) WrongType (is_utf8 u) type_never h
+text_never n h = cc
+
+fraction_never : (b : Bool) → wrong (cond b WrongType Width) ≡ Err Repeated → ⊥
+fraction_never true h = cc
+fraction_never false h = cc
+
+pub number_never : (bits : ℕ) (n : Node) → read_number bits n ≡ Err Repeated → ⊥
+number_never bits (int z) h = no_fault_where (int_val z) Width (fits_bits bits z) width_never h
+number_never bits (number u) h = fraction_never (has_fraction_mark u) h
+number_never bits n h = cc
+
+pub stamp_never : (o : Option ℤ) → or_fault Time (stamp_val o) ≡ Err Repeated → ⊥
+stamp_never (Some ms) h = cc
+stamp_never None h = cc
+
+pub seconds_never : (n : Node) → read_seconds n ≡ Err Repeated → ⊥
+seconds_never (int z) h = stamp_never (stamp_of_seconds z) h
+seconds_never (number u) h = stamp_never (stamp_of EpochSeconds u) h
+seconds_never n h = cc
+
+pub time_text_never : (format : Format) (n : Node) → read_time_text format n ≡ Err Repeated → ⊥
+time_text_never format (text u) h = stamp_never (stamp_of format u) h
+time_text_never format n h = cc

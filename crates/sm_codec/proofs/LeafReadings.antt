@@ -27,7 +27,7 @@ use Rattle.sm_time.proofs.StampForms.{and_first, and_second, stamp_decides}
 same_simple : (x y : Simple) → simple x ≡ simple y → x ≡ y
 same_simple x y h = cc
 
-are_of_bytes : (u : List ℕ) → are_bytes u ≡ true → AreBytes u
+pub are_of_bytes : (u : List ℕ) → are_bytes u ≡ true → AreBytes u
 are_of_bytes [] h = tt
 are_of_bytes (b ∷ u) h =
     ((Decides-ltb b 256).0 (and_first (nat_lt b 256) (are_bytes u) h), are_of_bytes u (and_second (nat_lt b 256) (are_bytes u) h))

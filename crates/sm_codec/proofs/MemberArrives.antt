@@ -1,7 +1,7 @@
 -- A tree that is closed for a member of a structure, as the frame takes it: where the member stands for the first time, and where it
 -- stands once more.
-use Rattle.std.proofs.Common.{◌≡◌, ◌⊎◌, inl, inr, ℕ, Bool, true, false, cond, List, [], ◌∷◌, ◌++◌, map, append_assoc, refl, sym, ap, ◌∙◌, subst, subst₂}
-use Rattle.std.specs.Prelude.{Option, Some, None, Result, Ok, Err}
+use Rattle.std.proofs.Common.{◌≡◌, inl, inr, ℕ, Bool, true, false, cond, List, [], ◌∷◌, ◌++◌, map, append_assoc, refl, sym, ap, ◌∙◌, subst, subst₂}
+use Rattle.std.specs.Prelude.{Option, None, Result, Ok, Err}
 use Rattle.std.specs.List.Sorted.{IsPermutation}
 use Rattle.std.proofs.lemmas.List.Sorted.{IsPermutation-middle, IsPermutation-sym, IsPermutation-trans, IsPermutation-cons}
 use Rattle.sm_tree.specs.declared.path.Step.TheVariants.{Member}
@@ -10,12 +10,13 @@ use Rattle.sm_shapes.specs.Values.{Val}
 use Rattle.sm_shapes.specs.TableData.{TableData, name_at}
 use Rattle.sm_shapes.specs.Places.{member_place}
 use Rattle.sm_shapes.specs.declared.fault.FaultKind.TheVariants.{Repeated}
+use Rattle.sm_shapes.specs.FieldPuts.{put_field}
 use Rattle.sm_codec.specs.FaultLists.{FaultAt, Reading, under, first_fault}
 use Rattle.sm_codec.specs.Readings.{Child, ByMember, one_here, present_reading, member_reading, member_faults, member_fields, so_far_absent}
 use Rattle.sm_codec.specs.Kept.{AreOf, AreKept, each_field, spelled_fields, has_one, closed_members, closed_faults}
-use Rattle.sm_codec.specs.steps.MemberSteps.{put_field, least_fault}
+use Rattle.sm_codec.specs.steps.MemberSteps.{least_fault}
 use Rattle.sm_codec.proofs.NoFaults.{none_first, none_behind}
-use Rattle.sm_codec.proofs.MembersKept.{FieldsAbove, kept_of, kept_all, kept_from, of_two, of_joined, of_grown, two_splits, below_of, above_of, put_behind, put_between, prefix_same}
+use Rattle.sm_codec.proofs.MembersKept.{FieldsAbove, kept_of, kept_all, kept_from, of_two, of_joined, of_grown, two_splits, below_of, above_of, put_behind, put_between, from_above, prefix_same}
 use Rattle.sm_codec.proofs.MemberParts.{AllBelow, AllAbove, Agree, agree_front, own_faults, faults_two, spelled_two, closed_two, faults_agree, spelled_agree, closed_agree, spelled_below, spelled_above, least_of_all}
 
 -- the values of all members that stand before the first with a fault are kept
@@ -37,7 +38,7 @@ two_read : (k : ℕ) (a x : Child) (cs : List Child) → member_reading so_far_a
 two_read k a x [] = refl
 two_read k a x (b ∷ bs) = refl
 
-each_two : (k : ℕ) (xs ys : List Child) → each_field k (xs ++ ys) ≡ each_field k xs ++ each_field k ys
+pub each_two : (k : ℕ) (xs ys : List Child) → each_field k (xs ++ ys) ≡ each_field k xs ++ each_field k ys
 each_two k [] ys = refl
 each_two k (x ∷ xs) ys =
     ap (λ fs. cond x.null [] (member_fields k (present_reading (x.reading (member_place k)))) ++ fs) (each_two k xs ys)
@@ -45,7 +46,7 @@ each_two k (x ∷ xs) ys =
 
 -- all faults and fields, where the same stands for all members but k
 module _ (t : TableData) (before : List ℕ) (k : ℕ) (s r : ByMember) where
-  faults_now : (behind : List ℕ) (own : List FaultAt) → Agree r s before → Agree r s behind → own_faults t r k ≡ own
+  pub faults_now : (behind : List ℕ) (own : List FaultAt) → Agree r s before → Agree r s behind → own_faults t r k ≡ own
       → closed_faults t r (before ++ k ∷ behind) ≡ closed_faults t s before ++ (own ++ closed_faults t s behind)
   faults_now behind own front back e =
       faults_two t r before (k ∷ behind)
@@ -58,7 +59,7 @@ module _ (t : TableData) (before : List ℕ) (k : ℕ) (s r : ByMember) where
   faults_then behind own e =
       faults_two t s before (k ∷ behind) ∙ ap (λ fs. closed_faults t s before ++ (fs ++ closed_faults t s behind)) e
 
-  fields_now : (behind : List ℕ) (own : List (ℕ × Val)) → Agree r s before → Agree r s behind → each_field k (r k) ≡ own
+  pub fields_now : (behind : List ℕ) (own : List (ℕ × Val)) → Agree r s before → Agree r s behind → each_field k (r k) ≡ own
       → spelled_fields r (before ++ k ∷ behind) ≡ spelled_fields s before ++ (own ++ spelled_fields s behind)
   fields_now behind own front back e =
       spelled_two t r before (k ∷ behind)
@@ -66,7 +67,7 @@ module _ (t : TableData) (before : List ℕ) (k : ℕ) (s r : ByMember) where
       ∙ ap (λ fs. spelled_fields s before ++ (each_field k (r k) ++ fs)) (spelled_agree t r s behind back)
       ∙ ap (λ fs. spelled_fields s before ++ (fs ++ spelled_fields s behind)) e
 
-  fields_then : (behind : List ℕ) (own : List (ℕ × Val)) → each_field k (s k) ≡ own
+  pub fields_then : (behind : List ℕ) (own : List (ℕ × Val)) → each_field k (s k) ≡ own
       → spelled_fields s (before ++ k ∷ behind) ≡ spelled_fields s before ++ (own ++ spelled_fields s behind)
   fields_then behind own e =
       spelled_two t s before (k ∷ behind) ∙ ap (λ fs. spelled_fields s before ++ (fs ++ spelled_fields s behind)) e
@@ -92,7 +93,8 @@ module _ (t : TableData) (before : List ℕ) (k : ℕ) (s r : ByMember) where
       (kept.0, kept.1 ∙ ap (λ fs. fs ++ kept.0) (sym (spelled_agree t r s pre same)))
 
   -- one in which it does, where nothing is put
-  with_it : (pre mid : List ℕ) (fields : List (ℕ × Val)) → Agree r s before → Agree r s mid → pre ≡ before ++ k ∷ mid → closed_faults t r pre ≡ []
+  with_it : (pre mid : List ℕ) (fields : List (ℕ × Val)) → Agree r s before → Agree r s mid → pre ≡ before ++ k ∷ mid
+      → closed_faults t r pre ≡ []
       → (own_faults t r k ≡ [] → (own_faults t s k ≡ []) × (each_field k (r k) ≡ each_field k (s k)))
       → (closed_faults t s pre ≡ [] → (rest : List (ℕ × Val)) × (fields ≡ spelled_fields s pre ++ rest))
       → (rest : List (ℕ × Val)) × (fields ≡ spelled_fields r pre ++ rest)
@@ -134,7 +136,7 @@ module _ (t : TableData) (before : List ℕ) (k : ℕ) (s r : ByMember) where
       let parts = of_two fields (spelled_fields s before) (spelled_fields s behind) some in
       let high = above_of k parts.1 (spelled_fields s behind) parts.4 (spelled_above s k behind above) in
       let same = prefix_same k parts.0 parts.1 (spelled_fields s before) (spelled_fields s mid ++ kept.0) parts.3
-      (spelled_below s k before below) high (sym parts.2 ∙ was) in
+      (spelled_below s k before below) (from_above k parts.1 high) (sym parts.2 ∙ was) in
       let put : put_field k v fields ≡ spelled_fields s before ++ (k, v) ∷ (spelled_fields s mid ++ kept.0) =
       ap (put_field k v) was
       ∙ put_between k v (spelled_fields s before) (spelled_fields s mid ++ kept.0) (spelled_below s k before below)
@@ -190,7 +192,7 @@ module _ (t : TableData) (k : ℕ) (child : Child) where
       own_of t r k (child ∷ []) e
       ∙ ap (λ b. under (Member (name_at t k)) (member_faults (read_by b (child.reading (member_place k))))) null
 
-  each_null : (r : ByMember) → r k ≡ child ∷ [] → IsNullChild child → each_field k (r k) ≡ []
+  pub each_null : (r : ByMember) → r k ≡ child ∷ [] → IsNullChild child → each_field k (r k) ≡ []
   each_null r e null =
       ap (each_field k) e ∙ ap (λ b. cond b [] (member_fields k (present_reading (child.reading (member_place k)))) ++ []) null
 
@@ -201,7 +203,7 @@ module _ (t : TableData) (k : ℕ) (child : Child) where
       ∙ ap (λ b. under (Member (name_at t k)) (member_faults (read_by b (child.reading (member_place k))))) is.0
       ∙ ap (λ x. under (Member (name_at t k)) (member_faults (present_reading x))) is.1
 
-  each_found : (r : ByMember) (found : Reading) → r k ≡ child ∷ [] → ComesTo k child found
+  pub each_found : (r : ByMember) (found : Reading) → r k ≡ child ∷ [] → ComesTo k child found
       → each_field k (r k) ≡ member_fields k (present_reading found) ++ []
   each_found r found e is =
       ap (each_field k) e
@@ -237,7 +239,7 @@ module _ (t : TableData) (before : List ℕ) (k : ℕ) (behind : List ℕ) (s r 
       ∙ ap (λ xs. closed_members s before ++ cond (has_one (r k)) (k ∷ xs) xs) (closed_agree t r s behind back)
       ∙ ap (λ xs. closed_members s before ++ cond (has_one xs) (k ∷ closed_members s behind) (closed_members s behind)) e
 
-  seen_first : (seen now : List ℕ) → Agree r s before → Agree r s behind → s k ≡ [] → r k ≡ child ∷ [] → IsPermutation (k ∷ seen) now
+  pub seen_first : (seen now : List ℕ) → Agree r s before → Agree r s behind → s k ≡ [] → r k ≡ child ∷ [] → IsPermutation (k ∷ seen) now
       → IsPermutation seen (closed_members s (before ++ k ∷ behind)) → IsPermutation now (closed_members r (before ++ k ∷ behind))
   seen_first seen now front back none one put old =
       let was = subst (λ xs. IsPermutation seen xs) (members_by [] none) old in
@@ -246,7 +248,7 @@ module _ (t : TableData) (before : List ℕ) (k : ℕ) (behind : List ℕ) (s r 
       subst (λ xs. IsPermutation now xs) (sym (members_now (child ∷ []) front back one))
       (IsPermutation-trans _ _ _ (IsPermutation-sym _ _ put) (IsPermutation-trans _ _ _ more middle))
 
-  seen_again : (seen : List ℕ) (a : Child) (cs bs : List Child) → Agree r s before → Agree r s behind → s k ≡ a ∷ cs → r k ≡ a ∷ bs
+  pub seen_again : (seen : List ℕ) (a : Child) (cs bs : List Child) → Agree r s before → Agree r s behind → s k ≡ a ∷ cs → r k ≡ a ∷ bs
       → IsPermutation seen (closed_members s (before ++ k ∷ behind)) → IsPermutation seen (closed_members r (before ++ k ∷ behind))
   seen_again seen a cs bs front back old now h =
       subst (λ xs. IsPermutation seen xs) (members_by (a ∷ cs) old ∙ sym (members_now (a ∷ bs) front back now)) h

@@ -1,30 +1,24 @@
 -- What the closed places of some members come to, by what stands for each: of members in two parts, and where the same stands.
-use Rattle.std.proofs.Common.{◌≡◌, ◌⊎◌, inl, inr, ℕ, ◌<◌, nat_le, Bool, true, false, cond, List, [], ◌∷◌, ◌++◌, map, append_assoc, refl, sym, ap, ◌∙◌, subst, arith}
-use Rattle.std.specs.Prelude.{Option, Some, None, Result, Ok, Err}
-use Rattle.std.specs.Str.{bytes_eq}
-use Rattle.std.specs.List.{filter}
+use Rattle.std.proofs.Common.{◌≡◌, ◌⊎◌, inl, inr, ℕ, ◌<◌, ◌≤◌, nat_le, Bool, true, false, cond, List, [], ◌∷◌, ◌++◌, map, append_assoc, refl, sym, ap, ◌∙◌, subst, arith}
+use Rattle.std.specs.Prelude.{Some, Ok, Err}
 use Rattle.std.specs.List.Sorted.{IsStrictlySortedBy}
 use Rattle.std.specs.Ordering.{nat_cmp}
 use Rattle.std.specs.List.{AllByRecursion}
 use Rattle.std.specs.declared.cmp.Ordering.TheVariants.{Less}
 use Rattle.std.proofs.lemmas.Cmp.{ranked}
 use Rattle.std.proofs.lemmas.List.Elements.{filter-append}
-use Rattle.std.proofs.lemmas.Slice.Eq.{bytes_eq-Decides}
 use Rattle.sm_tree.specs.declared.path.Step.TheVariants.{Member}
-use Rattle.sm_shapes.specs.Names.{NoneIs, AllDiffer}
+use Rattle.sm_shapes.specs.Names.{AllDiffer}
 use Rattle.sm_shapes.specs.Values.{Val}
-use Rattle.sm_shapes.specs.TableData.{TableData, name_at}
+use Rattle.sm_shapes.specs.TableData.{TableData, name_at, member_with}
 use Rattle.sm_shapes.specs.Places.{member_place}
+use Rattle.sm_shapes.proofs.NamedMembers.{IsAmong, found}
+use Rattle.sm_shapes.specs.FieldPuts.{FieldsFrom}
 use Rattle.sm_codec.specs.FaultLists.{FaultAt, Reading, under, first_fault}
 use Rattle.sm_codec.specs.Readings.{Child, ByMember, present_reading, member_reading, member_faults, member_fields, so_far_absent}
 use Rattle.sm_codec.specs.Kept.{each_field, spelled_fields, has_one, closed_members, closed_faults}
-use Rattle.sm_codec.specs.steps.MemberSteps.{member_with, first_name, gives_way, least_fault}
-use Rattle.sm_codec.proofs.MembersKept.{FieldsBelow, FieldsAbove, below_joined, above_joined}
-
--- the number is one of these
-abbrev pub IsAmong : ℕ → List ℕ → Type 0
-IsAmong j [] = ⊥
-IsAmong j (k ∷ ks) = (j ≡ k) ⊎ IsAmong j ks
+use Rattle.sm_codec.specs.steps.MemberSteps.{first_name, gives_way, least_fault}
+use Rattle.sm_codec.proofs.MembersKept.{FieldsBelow, FieldsAbove, from_above, below_joined, above_joined}
 
 abbrev pub AllBelow : ℕ → List ℕ → Type 0
 AllBelow k [] = Unit {0}
@@ -34,27 +28,27 @@ abbrev pub AllAbove : ℕ → List ℕ → Type 0
 AllAbove k [] = Unit {0}
 AllAbove k (j ∷ js) = (k < j) × AllAbove k js
 
-below_one : (k j : ℕ) (ks : List ℕ) → AllBelow k ks → IsAmong j ks → j < k
+pub below_one : (k j : ℕ) (ks : List ℕ) → AllBelow k ks → IsAmong j ks → j < k
 below_one k j [] h i = absurd i
 below_one k j (x ∷ ks) h (inl e) = subst (λ y. y < k) (sym e) h.0
 below_one k j (x ∷ ks) h (inr i) = below_one k j ks h.1 i
 
-above_one : (k j : ℕ) (ks : List ℕ) → AllAbove k ks → IsAmong j ks → k < j
+pub above_one : (k j : ℕ) (ks : List ℕ) → AllAbove k ks → IsAmong j ks → k < j
 above_one k j [] h i = absurd i
 above_one k j (x ∷ ks) h (inl e) = subst (λ y. k < y) (sym e) h.0
 above_one k j (x ∷ ks) h (inr i) = above_one k j ks h.1 i
 
-among_front : (j : ℕ) (ks js : List ℕ) → IsAmong j ks → IsAmong j (ks ++ js)
+pub among_front : (j : ℕ) (ks js : List ℕ) → IsAmong j ks → IsAmong j (ks ++ js)
 among_front j [] js i = absurd i
 among_front j (k ∷ ks) js (inl e) = inl e
 among_front j (k ∷ ks) js (inr i) = inr (among_front j ks js i)
 
-among_behind : (j : ℕ) (ks js : List ℕ) → IsAmong j js → IsAmong j (ks ++ js)
+pub among_behind : (j : ℕ) (ks js : List ℕ) → IsAmong j js → IsAmong j (ks ++ js)
 among_behind j [] js i = i
 among_behind j (k ∷ ks) js i = inr (among_behind j ks js i)
 
 -- in numbers that rise, those before one and those behind it
-above_from : (k : ℕ) (ks : List ℕ) → AllByRecursion (λ y. nat_cmp k y ≡ Less) ks → AllAbove k ks
+pub above_from : (k : ℕ) (ks : List ℕ) → AllByRecursion (λ y. nat_cmp k y ≡ Less) ks → AllAbove k ks
 above_from k [] h = tt
 above_from k (j ∷ ks) h = (ranked k j Less (sym h.0), above_from k ks h.1)
 
@@ -72,25 +66,6 @@ unfolding IsStrictlySortedBy
 rises_before [] k behind h = tt
 rises_before (j ∷ before) k behind h =
     (above_middle j before k behind (above_from j (before ++ k ∷ behind) h.0), rises_before before k behind h.1)
-
--- the member of a name, where names differ
-none_among : (f : ℕ → List ℕ) (w : List ℕ) (j : ℕ) (ks : List ℕ) → NoneIs w (map f ks) → IsAmong j ks → f j ≡ w → ⊥
-none_among f w j [] h i e = i
-none_among f w j (k ∷ ks) h (inl same) e = h.0 (ap f (sym same) ∙ e)
-none_among f w j (k ∷ ks) h (inr i) e = none_among f w j ks h.1 i e
-
-found_if : (f : ℕ → List ℕ) (k j : ℕ) (ks : List ℕ) (b : Bool) → bytes_eq (f k) (f j) ≡ b → NoneIs (f k) (map f ks)
-    → (j ≡ k) ⊎ (IsAmong j ks × (member_with f (f j) ks ≡ Some j)) → cond b (Some k) (member_with f (f j) ks) ≡ Some j
-found_if f k j ks true e none (inl same) = ap (λ x. Some x) (sym same)
-found_if f k j ks true e none (inr i) = absurd (none_among f (f k) j ks none i.0 (sym ((bytes_eq-Decides (f k) (f j)).0 e)))
-found_if f k j ks false e none (inl same) =
-    let equal : bytes_eq (f k) (f j) ≡ true = (bytes_eq-Decides (f k) (f j)).1 (ap f (sym same)) in absurd cc
-found_if f k j ks false e none (inr i) = i.1
-
-pub found : (f : ℕ → List ℕ) (j : ℕ) (ks : List ℕ) → AllDiffer (map f ks) → IsAmong j ks → member_with f (f j) ks ≡ Some j
-found f j [] h i = absurd i
-found f j (k ∷ ks) h (inl e) = found_if f k j ks (bytes_eq (f k) (f j)) refl h.0 (inl e)
-found f j (k ∷ ks) h (inr i) = found_if f k j ks (bytes_eq (f k) (f j)) refl h.0 (inr (i, found f j ks h.1 i))
 
 -- the same stands for each of these
 abbrev pub Agree : ByMember → ByMember → List ℕ → Type 0
@@ -137,7 +112,7 @@ module _ (t : TableData) (s r : ByMember) where
       ∙ ap (λ js. cond (has_one (r k)) (k ∷ js) js) (closed_agree ks h.1)
 
 -- the values of a member stand at its number
-abbrev FieldsOf : ℕ → List (ℕ × Val) → Type 0
+abbrev pub FieldsOf : ℕ → List (ℕ × Val) → Type 0
 FieldsOf k [] = Unit {0}
 FieldsOf k (f ∷ fs) = (f.0 ≡ k) × FieldsOf k fs
 
@@ -161,7 +136,7 @@ of_child : (k : ℕ) (b : Bool) (r : Reading) → FieldsOf k (cond b [] (member_
 of_child k true r = tt
 of_child k false r = of_reading k r
 
-of_each : (k : ℕ) (children : List Child) → FieldsOf k (each_field k children)
+pub of_each : (k : ℕ) (children : List Child) → FieldsOf k (each_field k children)
 of_each k [] = tt
 of_each k (child ∷ children) =
     of_both k (cond child.null [] (member_fields k (present_reading (child.reading (member_place k))))) (each_field k children)
@@ -176,6 +151,22 @@ pub spelled_above : (s : ByMember) (k : ℕ) (ks : List ℕ) → AllAbove k ks �
 spelled_above s k [] h = tt
 spelled_above s k (j ∷ ks) h =
     above_joined k (each_field j (s j)) (spelled_fields s ks) (above_here j k (each_field j (s j)) (of_each j (s j)) h.0) (spelled_above s k ks h.1)
+
+pub each_below : (j k : ℕ) (children : List Child) → j < k → FieldsBelow k (each_field j children)
+each_below j k children lt = below_here j k (each_field j children) (of_each j children) lt
+
+pub from_each : (k : ℕ) (fs : List (ℕ × Val)) → FieldsOf k fs → FieldsFrom k fs
+from_each k [] h = tt
+from_each k (f ∷ fs) h = (subst (λ x. k ≤ x) (sym h.0) (omega arith), from_each k fs h.1)
+
+pub from_both : (k : ℕ) (fs gs : List (ℕ × Val)) → FieldsFrom k fs → FieldsFrom k gs → FieldsFrom k (fs ++ gs)
+from_both k [] gs h g = g
+from_both k (f ∷ fs) gs h g = (h.0, from_both k fs gs h.1 g)
+
+pub spelled_from : (s : ByMember) (k : ℕ) (ks : List ℕ) → AllAbove k ks → FieldsFrom k (spelled_fields s (k ∷ ks))
+spelled_from s k ks h =
+    from_both k (each_field k (s k)) (spelled_fields s ks) (from_each k (each_field k (s k)) (of_each k (s k)))
+    (from_above k (spelled_fields s ks) (spelled_above s k ks h))
 
 -- the first fault of some members names the one that it stands at
 first_in : (name : List ℕ) (own rest : List FaultAt) (f : FaultAt) (fs : List FaultAt) → under (Member name) own ++ rest ≡ f ∷ fs
@@ -194,7 +185,8 @@ first_names t s (k ∷ ks) f fs h =
     ]
 
 -- which of two faults is kept, by the member of the old one
-least_by : (t : TableData) (ms : List ℕ) (k : ℕ) (new old : FaultAt) (j : ℕ) (b : Bool) → member_with (name_at t) (first_name old.0) ms ≡ Some j
+least_by : (t : TableData) (ms : List ℕ) (k : ℕ) (new old : FaultAt) (j : ℕ) (b : Bool)
+    → member_with (name_at t) (first_name old.0) ms ≡ Some j
     → nat_le k j ≡ b → least_fault t ms k new (Some old) ≡ cond b (Some new) (Some old)
 least_by t ms k new old j b e g =
     ap (λ o. cond (gives_way k o) (Some new) (Some old)) e ∙ ap (λ x. cond x (Some new) (Some old)) g
@@ -247,7 +239,8 @@ module _ (t : TableData) (before : List ℕ) (k : ℕ) (behind : List ℕ) where
   least_is s new more own [] differ below above h = sym (own_gives s new own differ above)
   least_is s new more own (f ∷ fs) differ below above h = sym (stays_before s new f fs differ below h)
 
-  pub least_of_all : (s : ByMember) (new : FaultAt) (more : List FaultAt) → AllDiffer (map (name_at t) members) → AllBelow k before → AllAbove k behind
+  pub least_of_all : (s : ByMember) (new : FaultAt) (more : List FaultAt) → AllDiffer (map (name_at t) members) → AllBelow k before
+      → AllAbove k behind
       → first_fault (closed_faults t s before ++ ((new ∷ more) ++ closed_faults t s behind))
       ≡ least_fault t members k new (first_fault (closed_faults t s members))
   least_of_all s new more differ below above =

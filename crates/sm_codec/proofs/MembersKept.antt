@@ -1,11 +1,10 @@
 -- What a frame keeps of a structure's members, as lists: some of the values, in order; the members before one and those behind it; and
 -- the first fault in model order.
-use Rattle.std.proofs.Common.{◌≡◌, ◌⊎◌, inl, inr, ℕ, zero, suc, ◌<◌, ◌≤◌, nat_lt, nat_le, Bool, true, false, cond, List, [], ◌∷◌, ◌++◌, map, length, append_assoc, refl, sym, ap, ◌∙◌, subst, arith}
-use Rattle.std.specs.Prelude.{Option, Some, None}
+use Rattle.std.proofs.Common.{◌≡◌, ◌⊎◌, inl, inr, ℕ, ◌<◌, ◌≤◌, nat_lt, Bool, true, false, cond, List, [], ◌∷◌, ◌++◌, refl, sym, ap, ◌∙◌, subst, arith}
 use Rattle.sm_shapes.specs.Values.{Val}
 use Rattle.sm_codec.specs.FaultLists.{FaultAt}
 use Rattle.sm_codec.specs.Kept.{AreOf, AreKept}
-use Rattle.sm_codec.specs.steps.MemberSteps.{put_field}
+use Rattle.sm_shapes.specs.FieldPuts.{put_field, FieldsFrom}
 
 -- some of a list's elements
 module _ {A : Type 0} where
@@ -130,8 +129,23 @@ pub put_between : (k : ℕ) (v : Val) (fs gs : List (ℕ × Val)) → FieldsBelo
     → put_field k v (fs ++ gs) ≡ fs ++ (k, v) ∷ gs
 put_between k v fs gs h g = put_behind k v fs gs h ∙ ap (λ xs. fs ++ xs) (put_before k v gs g)
 
+-- fields of k and of members behind it
+pub from_above : (k : ℕ) (fs : List (ℕ × Val)) → FieldsAbove k fs → FieldsFrom k fs
+from_above k [] h = tt
+from_above k (f ∷ fs) h = (omega (arith, h.0), from_above k fs h.1)
+
+pub above_before : (j k : ℕ) (fs : List (ℕ × Val)) → j < k → FieldsFrom k fs → FieldsAbove j fs
+above_before j k [] lt h = tt
+above_before j k (f ∷ fs) lt h = (omega (arith, lt, h.0), above_before j k fs lt h.1)
+
+pub from_of : (k : ℕ) (fs gs : List (ℕ × Val)) → AreOf fs gs → FieldsFrom k gs → FieldsFrom k fs
+from_of k [] gs h g = tt
+from_of k (f ∷ fs) [] h g = absurd h
+from_of k (f ∷ fs) (e ∷ gs) (inl h) g = (subst (λ x. k ≤ x.0) (sym h.0) g.0, from_of k fs gs h.1 g.1)
+from_of k (f ∷ fs) (e ∷ gs) (inr h) g = from_of k (f ∷ fs) gs h g.1
+
 -- fields before k that are all there are the first of those kept
-pub prefix_same : (k : ℕ) (cs bs xs ys : List (ℕ × Val)) → AreOf cs xs → FieldsBelow k xs → FieldsAbove k bs → cs ++ bs ≡ xs ++ ys
+pub prefix_same : (k : ℕ) (cs bs xs ys : List (ℕ × Val)) → AreOf cs xs → FieldsBelow k xs → FieldsFrom k bs → cs ++ bs ≡ xs ++ ys
     → (cs ≡ xs) × (bs ≡ ys)
 prefix_same k [] bs [] ys h below above e = (refl, e)
 prefix_same k [] [] (x ∷ xs) ys h below above e = absurd cc

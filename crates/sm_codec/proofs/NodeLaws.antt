@@ -7,15 +7,15 @@ use Rattle.sm_time.specs.declared.format.Format.TheVariants.{DateTime, EpochSeco
 use Rattle.sm_time.specs.Written.{written_stamp}
 use Rattle.sm_tree.specs.Node.{Node, Nodes, Members, null, int, number, text, tag, list, object}
 use Rattle.sm_shapes.specs.Values.{Val, bool_val, int_val, text_val, blob_val, time_val}
-use Rattle.sm_shapes.specs.declared.fault.FaultKind.TheVariants.{WrongType, Width}
+use Rattle.sm_shapes.specs.declared.fault.FaultKind.TheVariants.{WrongType, Width, Repeated}
 use Rattle.sm_codec.specs.declared.simple.Simple.{Simple}
 use Rattle.sm_codec.specs.declared.simple.Simple.TheVariants as the
 use Rattle.sm_time.specs.StampTexts.{is_stamp}
 use Rattle.sm_codec.specs.Convention.{IsConvention, IsNested, nested_fault, is_of, fits_bits, are_bytes}
 use Rattle.sm_codec.specs.Conventions.{node_read, node_blob, node_time, node_written, node_carries, node_carries_leaf, node_convention, is_whole_second}
 use Rattle.sm_time.proofs.StampForms.{and_first}
-use Rattle.sm_codec.proofs.LeafLaws.{guarded, boolean_of, text_of, number_of, seconds_of, time_text_of}
-use Rattle.sm_codec.proofs.TextLeaves.{blob_reads, base64_of, seconds_by}
+use Rattle.sm_codec.proofs.LeafLaws.{guarded, boolean_of, text_of, number_of, seconds_of, time_text_of, no_fault_where, type_never, boolean_never, text_never, number_never, seconds_never, time_text_never}
+use Rattle.sm_codec.proofs.TextLeaves.{blob_reads, base64_of, base64_never, seconds_by}
 
 blob_of : (raw : Bool) (n : Node) (v : Val) → node_blob raw n ≡ Ok v → is_of the.Blob v ≡ true
 blob_of false n v h = base64_of n v h
@@ -57,7 +57,8 @@ no_null raw the.Text = refl
 no_null raw (the.Number bits) = refl
 no_null raw (the.Time format) = refl
 
-nested : (raw : Bool) (x : Simple) (k : ℕ) (n : Node) → IsNested n → node_read raw x (tag k n) ≡ Err (nested_fault (node_convention raw) x k)
+nested : (raw : Bool) (x : Simple) (k : ℕ) (n : Node) → IsNested n
+    → node_read raw x (tag k n) ≡ Err (nested_fault (node_convention raw) x k)
 nested true the.Blob k n h = refl
 nested false the.Blob k n h = refl
 nested raw the.Boolean k n h = refl
@@ -83,6 +84,22 @@ written_reads true (the.Time format) (time_val ms) h = time_by ms (is_whole_seco
 written_reads false (the.Time format) (time_val ms) h = time_by ms (is_whole_second ms) refl (and_first (is_stamp ms) true h)
 written_reads raw x v h = absurd cc
 
+blob_never : (raw : Bool) (n : Node) → node_blob raw n ≡ Err Repeated → ⊥
+blob_never false n h = base64_never n h
+blob_never true (text u) h = no_fault_where (blob_val u) WrongType (are_bytes u) type_never h
+blob_never true n h = cc
+
+time_never : (n : Node) → node_time n ≡ Err Repeated → ⊥
+time_never (text u) h = time_text_never DateTime (text u) h
+time_never n h = seconds_never n h
+
+never_repeated : (raw : Bool) (x : Simple) (n : Node) → node_read raw x n ≡ Err Repeated → ⊥
+never_repeated raw the.Blob n h = blob_never raw n h
+never_repeated raw the.Boolean n h = boolean_never n h
+never_repeated raw the.Text n h = text_never n h
+never_repeated raw (the.Number bits) n h = number_never bits n h
+never_repeated raw (the.Time format) n h = time_never n h
+
 -- with blobs as texts of their bytes, and in base64
 pub node_laws : (raw : Bool) → IsConvention (node_convention raw)
 node_laws raw = record {
@@ -94,4 +111,5 @@ node_laws raw = record {
   no_object = no_object raw;
   no_null = no_null raw;
   nested = nested raw;
+  never_repeated = never_repeated raw;
 }

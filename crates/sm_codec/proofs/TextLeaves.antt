@@ -11,13 +11,13 @@ use Rattle.sm_time.specs.declared.format.Format.TheVariants.{HttpDate, EpochSeco
 use Rattle.sm_time.specs.Written.{written_stamp, IsWritable}
 use Rattle.sm_tree.specs.Node.{Node, int, number, text}
 use Rattle.sm_shapes.specs.Values.{Val, blob_val, time_val}
-use Rattle.sm_shapes.specs.declared.fault.FaultKind.TheVariants.{Base64, Time}
+use Rattle.sm_shapes.specs.declared.fault.FaultKind.TheVariants.{Base64, Time, Repeated}
 use Rattle.sm_codec.specs.declared.simple.Simple.TheVariants as the
 use Rattle.sm_time.specs.StampTexts.{is_stamp}
 use Rattle.sm_codec.specs.Convention.{is_of, are_bytes}
 use Rattle.sm_codec.specs.Conventions.{read_base64, base64_text, decoded_blob, read_seconds, written_seconds, read_time_text, is_whole_second, has_text, or_fault, stamp_val}
 use Rattle.sm_time.proofs.StampForms.{and_first, and_second, stamp_decides, at_most_int}
-use Rattle.sm_codec.proofs.LeafLaws.{guarded}
+use Rattle.sm_codec.proofs.LeafLaws.{guarded, no_fault_where}
 use Rattle.sm_codec.proofs.CborLaws.{whole_seconds, at_seconds}
 use Rattle.sm_time.proofs.StampTold.{written_told}
 
@@ -58,3 +58,15 @@ date_writable (pos n) h =
       ap unsigned_abs ((Decides-int_eq (int_rem (pos n) (pos 1000)) (pos 0)).0 whole),
     )
 date_writable (negsuc n) h = absurd cc
+
+-- no fault of base64 is that a name is repeated
+base64_wrong : Base64 ≡ Repeated → ⊥
+base64_wrong h = cc
+
+decoded_never : (r : Result (List ℕ) DecodeError) → decoded_blob r ≡ Err Repeated → ⊥
+decoded_never (Ok u) h = no_fault_where (blob_val u) Base64 (are_bytes u) base64_wrong h
+decoded_never (Err e) h = cc
+
+pub base64_never : (n : Node) → read_base64 n ≡ Err Repeated → ⊥
+base64_never (text u) h = decoded_never (decode_of standard u) h
+base64_never n h = cc

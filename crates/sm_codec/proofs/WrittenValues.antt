@@ -37,7 +37,7 @@ use Rattle.sm_codec.proofs.PlacesIn.{sort_of_kind, shape_in, members_stand, stan
 use Rattle.sm_codec.proofs.KeyOrder.{IsIn, IsBefore, InOrder, never_before_itself, contains_in}
 use Rattle.sm_codec.proofs.Membered.{none_at, differ_behind}
 
-none_of_paths : (step : Step) (paths : List (List Step)) → paths_under step paths ≡ [] → paths ≡ []
+pub none_of_paths : (step : Step) (paths : List (List Step)) → paths_under step paths ≡ [] → paths ≡ []
 none_of_paths step [] h = refl
 none_of_paths step (path ∷ paths) h = absurd cc
 
@@ -70,7 +70,7 @@ simple_kind kind.LeftOut format v h = absurd h
 abbrev no_steps : List Step
 no_steps = []
 
-carried_if : (b : Bool) → cond b [] (no_steps ∷ []) ≡ [] → b ≡ true
+pub carried_if : (b : Bool) → cond b [] (no_steps ∷ []) ≡ [] → b ≡ true
 carried_if true h = refl
 carried_if false h = absurd cc
 
@@ -87,12 +87,13 @@ leaf_written c p v laws of h =
     (x.0, x.1, leaf_by_sort c.convention x.0 v (sort_of c.table p) laws x.1 h)
 
 -- what spells a value isn't null
-same_result : (v : Val) (kind : FaultKind) (r : Result Val FaultKind) → r ≡ Ok v → r ≡ Err kind → ⊥
-same_result v kind r h g = cc
+pub two_results : (v : Val) (kind : FaultKind) (r : Result Val FaultKind) → r ≡ Ok v → r ≡ Err kind → ⊥
+two_results v kind r h g = cc
 
 leaf_stands_if : (c : Codec) (p : Place) (v : Val) (n : Node) → IsConvention c.convention → IsLeaf c p v n → (b : Bool) → is_null n ≡ b → b ≡ false
 leaf_stands_if c p v n laws h true e =
-    absurd (same_result v WrongType (c.convention.read h.0 null) (subst (λ m. c.convention.read h.0 m ≡ Ok v) (null_is n e) h.2) (laws.no_null h.0))
+    absurd (two_results v WrongType (c.convention.read h.0 null) (subst (λ m. c.convention.read h.0 m ≡ Ok v) (null_is n e) h.2)
+    (laws.no_null h.0))
 leaf_stands_if c p v n laws h false e = refl
 
 leaf_stands : (c : Codec) (p : Place) (v : Val) (n : Node) → IsConvention c.convention → IsLeaf c p v n → is_null n ≡ false

@@ -10,7 +10,7 @@ use Rattle.sm_shapes.specs.Values.{Val, bool_val, int_val, text_val, blob_val, t
 use Rattle.sm_shapes.specs.TableData.{TableData, shape_count, members_at}
 use Rattle.sm_shapes.specs.InOrder.{Shaped}
 use Rattle.sm_shapes.specs.declared.fault.FaultKind.{FaultKind}
-use Rattle.sm_shapes.specs.declared.fault.FaultKind.TheVariants.{WrongType}
+use Rattle.sm_shapes.specs.declared.fault.FaultKind.TheVariants.{WrongType, Repeated}
 use Rattle.sm_codec.specs.declared.simple.Simple.{Simple}
 use Rattle.sm_codec.specs.declared.simple.Simple.TheVariants.{Blob, Boolean, Text, Number, Time}
 
@@ -67,7 +67,7 @@ WrittenLeafReads c = (x : Simple) (v : Val) → c.carries x v ≡ true → Leaf 
 
 -- The laws. The members of one shape stand under different names. A leaf spells only values of its simple
 -- type (and one at most, since `read` is a function). What is written is read again. A list, an object and null spell nothing, and
--- what is nested under a tag doesn't change the tag's fault.
+-- what is nested under a tag doesn't change the tag's fault. No leaf's fault is that a name is repeated.
 pub record IsConvention (c : Convention) : Type 0 where
   pub names : (t : TableData) → Shaped t → (s : ℕ) → s < shape_count t → AllDiffer (map (c.name t s) (members_at t s))
   pub of_type : (x : Simple) (n : Node) (v : Val) → c.read x n ≡ Ok v → is_of x v ≡ true
@@ -77,3 +77,4 @@ pub record IsConvention (c : Convention) : Type 0 where
   pub no_object : (x : Simple) (ms : Members) → c.read x (object ms) ≡ Err WrongType
   pub no_null : (x : Simple) → c.read x null ≡ Err WrongType
   pub nested : (x : Simple) (k : ℕ) (n : Node) → IsNested n → c.read x (tag k n) ≡ Err (nested_fault c x k)
+  pub never_repeated : (x : Simple) (n : Node) → c.read x n ≡ Err Repeated → ⊥

@@ -7,12 +7,17 @@ pub mod FaultLists
 pub mod Readings
 pub mod Answers
 pub mod Written
+pub mod PlaceView
+pub mod Encoded
+pub mod WrittenLaws
 pub mod CodecLaws
 pub mod Conventions
 pub mod LeafAnswers
 pub mod Defaults
+pub mod FilledLaws
 pub mod Decoding
 pub mod Walk
 pub mod Kept
 pub mod Bound
+pub mod FrameView
 pub mod steps

@@ -1,5 +1,5 @@
 -- Five sorts of places for fifteen kinds of shapes: to the codec all simple types are one, whose spelling a convention knows.
-use Rattle.std.specs.Prelude.{Option, unwrap_or}
+use Rattle.std.specs.Prelude.{Option, Some, None, unwrap_or}
 use Rattle.sm_time.specs.declared.format.Format.{Format}
 use Rattle.sm_time.specs.declared.format.Format.TheVariants.{EpochSeconds}
 use Rattle.sm_shapes.specs.TableData.{TableData}
@@ -39,3 +39,8 @@ sort_by kind format = sort_with EpochSeconds kind format
 
 abbrev pub sort_of : TableData → Place → Sort
 sort_of t p = sort_by (kind_of t p) (format_of t p)
+
+-- the simple type of a sort of places, if it is one
+abbrev pub simple_in : Sort → Option Simple
+simple_in (simple x) = Some x
+simple_in s = None

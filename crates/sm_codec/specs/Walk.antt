@@ -2,10 +2,10 @@
 -- due. A place is passed over, with all below it, where no member has the name; where a list stands and the place is no list's; where
 -- an object stands and it is no structure's, union's or map's; where a tag stands and it is no simple shape's; and where a list, an
 -- object or another tag stands under a tag.
-use Rattle.std.specs.Prelude.{ℕ, suc, cond, List, [], ◌∷◌, map, Option, Some, None}
-use Rattle.std.specs.Str.{bytes_eq}
+use Rattle.std.specs.Prelude.{ℕ, suc, List, [], ◌∷◌, map, Option, Some, None}
 use Rattle.sm_tree.specs.Node.{Node}
 use Rattle.sm_tree.specs.Building.{Building, nothing, whole, within, Inner, in_list, in_object, in_pair, Around, around_list, around_object}
+use Rattle.sm_shapes.specs.TableData.{member_with}
 use Rattle.sm_shapes.specs.Places.{Place, root_place, member_place, members_of_place, entry_place, value_place}
 use Rattle.sm_shapes.specs.declared.fault.FaultKind.{FaultKind}
 use Rattle.sm_shapes.specs.declared.fault.FaultKind.TheVariants.{WrongType}
@@ -92,12 +92,8 @@ opened c (object_level ms) due = opened_where c object_by_sort due
 opened c (pair_level ms name ts) due = opened_where c object_by_sort due
 
 -- the member that stands under a name
-abbrev pub member_named : Codec → Place → List ℕ → List ℕ → Option ℕ
-member_named c p name [] = None
-member_named c p name (k ∷ ks) = cond (bytes_eq (wire_name c p k) name) (Some k) (member_named c p name ks)
-
 abbrev pub member_at : Codec → Place → List ℕ → Option ℕ
-member_at c p name = member_named c p name (members_of_place c.table p)
+member_at c p name = member_with (wire_name c p) name (members_of_place c.table p)
 
 abbrev pub due_member : Option ℕ → Due
 due_member None = due_passed 0 None

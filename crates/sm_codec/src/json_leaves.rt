@@ -73,6 +73,13 @@ impl Leaves for JsonLeaves {
         }
     }
 
+    fn member_named(&self, table: &Table, shape: u32, name: &str) -> Option<u32> {
+        match self.json_names {
+            true => table.member_json_named(shape, name),
+            false => table.member_named(shape, name),
+        }
+    }
+
     fn read(&self, alloc: Global, simple: Simple, leaf: &Tree) -> Result<Value, LeafRefusal> {
         match simple {
             Simple::Blob => read_base64(alloc, leaf),

@@ -2,6 +2,8 @@
 ghost use Rattle.std.specs.Prelude.{Bool};
 ghost use Rattle.sm_codec.specs.CodecLaws.{OneValue, ValueOrFault, WrittenSpells};
 ghost use Rattle.sm_codec.specs.Convention.{IsConvention, WrittenLeafReads};
+ghost use Rattle.sm_codec.specs.FilledLaws.{FilledIsShaped};
+ghost use Rattle.sm_codec.specs.WrittenLaws.{WritesJson, WritesCbor, WrittenIsJson, WrittenIsCbor};
 ghost use Rattle.sm_codec.specs.Conventions.{cbor_convention, json_convention, node_convention};
 
 /// The convention of CBOR meets the laws of conventions: what it writes is read again, among others.
@@ -39,4 +41,34 @@ pub fn one_value()
 /// The tree that is written for a value of a place, whose leaves are all carried, spells the value.
 pub fn written_spells()
     ensures { WrittenSpells }
+{}
+
+/// Where the leaves that a convention writes can be written as JSON, so can the tree of every value that it carries.
+pub fn written_is_json()
+    ensures { WrittenIsJson }
+{}
+
+/// And as CBOR, where the leaves can.
+pub fn written_is_cbor()
+    ensures { WrittenIsCbor }
+{}
+
+/// What the conventions of JSON write can be written as JSON.
+pub fn json_leaves_written()
+    ensures { (json_names : Bool) → WritesJson (json_convention json_names) }
+{}
+
+/// So can what those of the nodes of models write.
+pub fn node_leaves_written()
+    ensures { (raw_blobs : Bool) → WritesJson (node_convention raw_blobs) }
+{}
+
+/// What the convention of CBOR writes can be written as CBOR.
+pub fn cbor_leaves_written()
+    ensures { WritesCbor cbor_convention }
+{}
+
+/// A table that is in order and has no default set stays in order where its defaults are filled, and they pass their patterns.
+pub fn filled_is_shaped()
+    ensures { FilledIsShaped }
 {}

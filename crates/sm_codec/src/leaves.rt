@@ -1,7 +1,8 @@
 // How a format spells simple values, and under which names members stand. The codec is over any convention that meets the laws.
 ghost use Rattle.std.specs.Prelude.{◌≡◌, ◌<◌, true, IfOk};
 ghost use Rattle.sm_tree.specs.View.{node_of};
-ghost use Rattle.sm_shapes.specs.TableData.{member_count};
+ghost use Rattle.sm_shapes.specs.TableData.{shape_count, member_count, members_at, member_with};
+ghost use Rattle.sm_shapes.specs.InOrder.{Shaped};
 ghost use Rattle.sm_shapes.specs.TableView.{table_data};
 ghost use Rattle.sm_shapes.specs.ValueView.{val_of};
 ghost use Rattle.sm_codec.specs.Convention.{Convention, IsConvention};
@@ -33,6 +34,12 @@ pub trait Leaves {
     fn wire_name<'t>(&self, table: &'t Table, shape: u32, member: u32) -> &'t str
         requires { member < member_count (table_data table.now) }
         ensures { result.now ≡ (convention self.now).name (table_data table.now) shape member };
+
+    /// The member of a shape that stands under this name. A binary search. No memory.
+    fn member_named(&self, table: &Table, shape: u32, name: &str) -> Option<u32>
+        requires number { shape < shape_count (table_data table.now) }
+        requires shaped { Shaped (table_data table.now) }
+        ensures { result ≡ member_with ((convention self.now).name (table_data table.now) shape) name.now (members_at (table_data table.now) shape) };
 
     /// The value that a tree spells where a simple type is, or the fault. A text or a blob takes as much memory as its length.
     fn read(&self, alloc: Global, simple: Simple, leaf: &Tree) -> Result<Value, LeafRefusal>

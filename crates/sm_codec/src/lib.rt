@@ -1,18 +1,28 @@
 // The codec: values of any shape from trees and streams of events, and back, by any convention of spelling leaves. So far its
-// definitions and the conventions stand here; the decoder comes behind them.
+// definitions, the conventions and encoding stand here; the decoder comes behind them.
 #![tactic(auto)]
 
+mod carried;
 mod cbor_leaves;
+mod encoding;
+mod events;
+mod frames;
 mod json_leaves;
 pub mod laws;
 mod leaves;
 mod node_leaves;
 mod of_type;
+mod places;
 mod plain;
 mod simple;
+mod uncarried;
 
+pub use carried::all_carried;
 pub use cbor_leaves::CborLeaves;
+pub use encoding::encode;
+pub use events::encode_events;
 pub use json_leaves::JsonLeaves;
 pub use leaves::{LeafRefusal, Leaves};
 pub use node_leaves::NodeLeaves;
 pub use simple::Simple;
+pub use uncarried::carry_fault;

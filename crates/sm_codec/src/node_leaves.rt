@@ -115,6 +115,10 @@ impl Leaves for NodeLeaves {
         table.name(member)
     }
 
+    fn member_named(&self, table: &Table, shape: u32, name: &str) -> Option<u32> {
+        table.member_named(shape, name)
+    }
+
     fn read(&self, alloc: Global, simple: Simple, leaf: &Tree) -> Result<Value, LeafRefusal> {
         match simple {
             Simple::Blob => read_blob(alloc, self.raw_blobs, leaf),

@@ -1,10 +1,11 @@
 -- What a tree comes to where it is due: at a place; under a tag; or in what is passed over, which has a fault of its own or none.
-use Rattle.std.specs.Prelude.{ℕ, suc, Bool, false, List, [], ◌∷◌, ◌++◌, Option, Some, None, Result, Ok, Err}
+use Rattle.std.specs.Prelude.{◌≡◌, ℕ, Bool, true, false, List, [], ◌∷◌, ◌++◌, Some, None, Ok, Err}
 use Rattle.sm_tree.specs.Node.{Node, tag}
 use Rattle.sm_tree.specs.Building.{tagged}
 use Rattle.sm_codec.specs.Codec.{Codec}
 use Rattle.sm_codec.specs.Named.{is_null}
-use Rattle.sm_codec.specs.FaultLists.{Reading}
+use Rattle.sm_shapes.specs.Values.{Val}
+use Rattle.sm_codec.specs.FaultLists.{FaultAt, Reading}
 use Rattle.sm_codec.specs.Readings.{one_here, reading}
 use Rattle.sm_codec.specs.Walk.{Level, list_level, object_level, pair_level, Due, due_at, due_tagged, due_passed, due_nowhere}
 
@@ -34,3 +35,14 @@ abbrev pub level_tagged : ℕ → Level → Level
 level_tagged k (list_level ns ts) = list_level ns (ts ++ k ∷ [])
 level_tagged k (object_level ms) = object_level ms
 level_tagged k (pair_level ms name ts) = pair_level ms name (ts ++ k ∷ [])
+
+-- what a tree that is closed comes to, as far as a frame is told: null, a value, or the first fault
+pub data Arrival : Type 0 where
+  null_comes : Arrival
+  value_comes : Val → Arrival
+  fault_comes : FaultAt → Arrival
+
+abbrev pub IsArrival : Bool → Reading → Arrival → Type 0
+IsArrival null found null_comes = null ≡ true
+IsArrival null found (value_comes v) = (null ≡ false) × (found ≡ Ok v)
+IsArrival null found (fault_comes f) = (null ≡ false) × ((fs : List FaultAt) × (found ≡ Err (f ∷ fs)))

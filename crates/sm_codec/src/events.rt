@@ -1,0 +1,361 @@
+// The events of the tree that is written for a value, without the tree.
+ghost use Rattle.std.specs.Prelude.{◌≡◌, ◌<◌, ◌∷◌, [], Some, OnOk};
+ghost use Rattle.sm_tree.specs.Events.{key_event};
+ghost use Rattle.sm_tree.specs.EventView.{event_of};
+ghost use Rattle.sm_tree.specs.Streams.{TakesEach, TakesSame, numbered};
+ghost use Rattle.sm_tree.specs.Node.{tag};
+ghost use Rattle.sm_tree.specs.Node as node;
+ghost use Rattle.sm_tree.specs.View.{node_of};
+ghost use Rattle.sm_shapes.specs.Fitting.{Fits, any_text};
+ghost use Rattle.sm_shapes.specs.InOrder.{Shaped};
+ghost use Rattle.sm_shapes.specs.Places.{root_place, member_place, entry_place, value_place};
+ghost use Rattle.sm_shapes.specs.TableData.{shape_count, member_count};
+ghost use Rattle.sm_shapes.specs.TableView.{table_data};
+ghost use Rattle.sm_shapes.specs.Values.{vals_of, entries_of, fields_of};
+ghost use Rattle.sm_shapes.specs.ValueView.{val_of, vals_view, each_entry_view, each_field_view};
+ghost use Rattle.sm_codec.specs.Codec.{InTable, wire_name_in};
+ghost use Rattle.sm_codec.specs.Convention.{IsConvention};
+ghost use Rattle.sm_codec.specs.PlaceView.{place_of};
+ghost use Rattle.sm_codec.specs.Sorts.{sort_of};
+ghost use Rattle.sm_codec.specs.Written.{written, written_leaf, written_entries, written_pairs, written_fields, uncarried};
+ghost use Rattle.sm_codec.specs.steps.EventsHanded.{IsReady, Came, IsPlain, IsLeafNode, list_stream, object_stream};
+ghost use Rattle.sm_codec.specs.steps.ValueParts.{PartsHold, EntriesHold, PairsHold, FieldsHold, IsCarried, carried_leaf};
+
+use crate::Leaves;
+use crate::places::ValuePlace;
+use sm_shapes::tables::Table;
+use sm_shapes::values::Value;
+use sm_tree::{Event, EventSink, NoMemory, Text, Tree};
+use std::alloc::Global;
+
+/// Hands to a sink the events of the tree that `encode` gives, each opener with its number, without the tree. The sink must stand for no
+/// event yet, and take these. `NoMemory` where the allocator or the sink refuses memory; the sink is then of no use.
+pub fn encode_events<L: Leaves, E: EventSink>(
+    alloc: Global,
+    table: &Table,
+    shape: u32,
+    value: &Value,
+    leaves: &L,
+    to: &mut E,
+) -> Result<(), NoMemory>
+    requires shaped { Shaped (table_data table.now) }
+    requires shape { shape < shape_count (table_data table.now) }
+    requires fits { Fits (table_data table.now) any_text (root_place shape) (val_of value.now) }
+    requires carried { uncarried (table_data table.now) (L.convention leaves.now) (root_place shape) (val_of value.now) ≡ [] }
+    requires takes { TakesEach (E.takes to.old)
+        (numbered (written (table_data table.now) (L.convention leaves.now) (root_place shape) (val_of value.now)) []) }
+    requires empty { E.stands_for to.old [] }
+    ensures stands { OnOk result (E.stands_for to.new
+        (numbered (written (table_data table.now) (L.convention leaves.now) (root_place shape) (val_of value.now)) [])) }
+    ensures takes_same { OnOk result (TakesSame (E.takes to.old) (E.takes to.new)) }
+    ensures alike { E.alike to.old to.new }
+{
+    leaves.laws();
+    hand_value(alloc, table, ValuePlace::Root(shape), value, leaves, to)
+}
+
+// One event.
+fn hand<E: EventSink>(event: Event, to: &mut E) -> Result<(), NoMemory>
+    requires ready { IsReady (E.stands_for to.old) (E.takes to.old) (event_of event ∷ []) }
+    ensures came { OnOk result (Came (E.stands_for to.old) (E.takes to.old) (event_of event ∷ []) (E.stands_for to.new) (E.takes to.new)) }
+    ensures alike { E.alike to.old to.new }
+{
+    to.event(event)
+}
+
+// The name of a pair.
+fn hand_key<E: EventSink>(alloc: Global, name: &str, to: &mut E) -> Result<(), NoMemory>
+    requires ready { IsReady (E.stands_for to.old) (E.takes to.old) (key_event name.now ∷ []) }
+    ensures came { OnOk result (Came (E.stands_for to.old) (E.takes to.old) (key_event name.now ∷ []) (E.stands_for to.new) (E.takes to.new)) }
+    ensures alike { E.alike to.old to.new }
+{
+    match Text::copy(alloc, name) {
+        Ok(copy) => hand(Event::Key(copy), to),
+        Err(refusal) => Err(refusal),
+    }
+}
+
+// A tree that is no list, no object and no tag.
+fn hand_plain<E: EventSink>(tree: Tree, to: &mut E) -> Result<(), NoMemory>
+    requires plain { IsPlain (node_of tree) }
+    requires ready { IsReady (E.stands_for to.old) (E.takes to.old) (numbered (node_of tree) []) }
+    ensures came { OnOk result
+        (Came (E.stands_for to.old) (E.takes to.old) (numbered (node_of tree) []) (E.stands_for to.new) (E.takes to.new)) }
+    ensures alike { E.alike to.old to.new }
+{
+    match tree {
+        Tree::Null => hand(Event::Null, to),
+        Tree::Bool(truth) => hand(Event::Bool(truth), to),
+        Tree::Int(number) => hand(Event::Int(number), to),
+        Tree::Number(number) => hand(Event::Number(number), to),
+        Tree::Text(text) => hand(Event::Text(text), to),
+        Tree::Bytes(bytes) => hand(Event::Bytes(bytes), to),
+        Tree::Opaque(byte) => hand(Event::Opaque(byte), to),
+        Tree::Tag(_, _) => unreachable!(),
+        Tree::List(_) => unreachable!(),
+        Tree::Object(_) => unreachable!(),
+    }
+}
+
+// A tree that is no list and no object, and no tag of one or of a tag.
+fn hand_leaf<E: EventSink>(tree: Tree, to: &mut E) -> Result<(), NoMemory>
+    requires leaf { IsLeafNode (node_of tree) }
+    requires ready { IsReady (E.stands_for to.old) (E.takes to.old) (numbered (node_of tree) []) }
+    ensures came { OnOk result
+        (Came (E.stands_for to.old) (E.takes to.old) (numbered (node_of tree) []) (E.stands_for to.new) (E.takes to.new)) }
+    ensures alike { E.alike to.old to.new }
+{
+    match tree {
+        Tree::Tag(number, content) => hand_tagged(number, Box::into_inner(content), to),
+        Tree::Null => hand(Event::Null, to),
+        Tree::Bool(truth) => hand(Event::Bool(truth), to),
+        Tree::Int(number) => hand(Event::Int(number), to),
+        Tree::Number(number) => hand(Event::Number(number), to),
+        Tree::Text(text) => hand(Event::Text(text), to),
+        Tree::Bytes(bytes) => hand(Event::Bytes(bytes), to),
+        Tree::Opaque(byte) => hand(Event::Opaque(byte), to),
+        Tree::List(_) => unreachable!(),
+        Tree::Object(_) => unreachable!(),
+    }
+}
+
+fn hand_tagged<E: EventSink>(number: u64, content: Tree, to: &mut E) -> Result<(), NoMemory>
+    requires plain { IsPlain (node_of content) }
+    requires ready { IsReady (E.stands_for to.old) (E.takes to.old) (numbered (tag number (node_of content)) []) }
+    ensures came { OnOk result
+        (Came (E.stands_for to.old) (E.takes to.old) (numbered (tag number (node_of content)) []) (E.stands_for to.new) (E.takes to.new)) }
+    ensures alike { E.alike to.old to.new }
+{
+    match hand(Event::Tag(number), to) {
+        Ok(()) => hand_plain(content, to),
+        Err(refusal) => Err(refusal),
+    }
+}
+
+// A leaf; at a place of no simple type it is null.
+fn hand_simple<L: Leaves, E: EventSink>(
+    alloc: Global,
+    table: &Table,
+    place: ValuePlace,
+    value: &Value,
+    leaves: &L,
+    to: &mut E,
+) -> Result<(), NoMemory>
+    requires laws { IsConvention (L.convention leaves.now) }
+    requires shaped { Shaped (table_data table.now) }
+    requires place { InTable (table_data table.now) (place_of place) }
+    requires carried { IsCarried (L.convention leaves.now) (sort_of (table_data table.now) (place_of place)) (val_of value.now) }
+    requires ready { IsReady (E.stands_for to.old) (E.takes to.old)
+        (numbered (written_leaf (L.convention leaves.now) (sort_of (table_data table.now) (place_of place)) (val_of value.now)) []) }
+    ensures came { OnOk result (Came (E.stands_for to.old) (E.takes to.old)
+        (numbered (written_leaf (L.convention leaves.now) (sort_of (table_data table.now) (place_of place)) (val_of value.now)) [])
+        (E.stands_for to.new) (E.takes to.new)) }
+    ensures alike { E.alike to.old to.new }
+{
+    match place.simple(table) {
+        Some(simple) => match leaves.write(alloc, simple, value) {
+            Ok(tree) => hand_leaf(tree, to),
+            Err(refusal) => Err(refusal),
+        },
+        None => hand(Event::Null, to),
+    }
+}
+
+#[cycle(hand)]
+fn hand_value<L: Leaves, E: EventSink>(
+    alloc: Global,
+    table: &Table,
+    place: ValuePlace,
+    value: &Value,
+    leaves: &L,
+    to: &mut E,
+) -> Result<(), NoMemory>
+    requires laws { IsConvention (L.convention leaves.now) }
+    requires shaped { Shaped (table_data table.now) }
+    requires parts { PartsHold (table_data table.now) (carried_leaf (table_data table.now) (L.convention leaves.now)) (place_of place)
+        (val_of value.now) }
+    requires ready { IsReady (E.stands_for to.old) (E.takes to.old)
+        (numbered (written (table_data table.now) (L.convention leaves.now) (place_of place) (val_of value.now)) []) }
+    ensures came { OnOk result (Came (E.stands_for to.old) (E.takes to.old)
+        (numbered (written (table_data table.now) (L.convention leaves.now) (place_of place) (val_of value.now)) [])
+        (E.stands_for to.new) (E.takes to.new)) }
+    ensures alike { E.alike to.old to.new }
+{
+    match value {
+        Value::Null => hand(Event::Null, to),
+        Value::Bool(_) => hand_simple(alloc, table, place, value, leaves, to),
+        Value::Int(_) => hand_simple(alloc, table, place, value, leaves, to),
+        Value::Text(_) => hand_simple(alloc, table, place, value, leaves, to),
+        Value::Blob(_) => hand_simple(alloc, table, place, value, leaves, to),
+        Value::Time(_) => hand_simple(alloc, table, place, value, leaves, to),
+        Value::List(items) => hand_items(alloc, table, place, items.as_slice(), leaves, to),
+        Value::Map(entries) => hand_entries(alloc, table, place, entries.as_slice(), leaves, to),
+        Value::Structure(fields) => hand_fields(alloc, table, place, fields.as_slice(), leaves, to),
+        Value::Union(member, content) => {
+            hand_one(alloc, table, place, *member, content, leaves, to)
+        }
+    }
+}
+
+#[cycle(hand)]
+fn hand_items<L: Leaves, E: EventSink>(
+    alloc: Global,
+    table: &Table,
+    place: ValuePlace,
+    items: &[Value],
+    leaves: &L,
+    to: &mut E,
+) -> Result<(), NoMemory>
+    requires laws { IsConvention (L.convention leaves.now) }
+    requires shaped { Shaped (table_data table.now) }
+    requires place { InTable (table_data table.now) (place_of place) }
+    requires parts { EntriesHold (table_data table.now) (carried_leaf (table_data table.now) (L.convention leaves.now))
+        (entry_place (table_data table.now) (place_of place)) (vals_of (vals_view items.now)) }
+    requires ready { IsReady (E.stands_for to.old) (E.takes to.old) (list_stream
+        (written_entries (table_data table.now) (L.convention leaves.now) (place_of place) (vals_of (vals_view items.now)))) }
+    ensures came { OnOk result (Came (E.stands_for to.old) (E.takes to.old) (list_stream
+        (written_entries (table_data table.now) (L.convention leaves.now) (place_of place) (vals_of (vals_view items.now))))
+        (E.stands_for to.new) (E.takes to.new)) }
+    ensures alike { E.alike to.old to.new }
+{
+    let entry = place.entry(table);
+    match hand(Event::StartList(Some(items.len() as u64)), to) {
+        Ok(()) => {}
+        Err(refusal) => return Err(refusal),
+    }
+    for item in items {
+        match hand_value(alloc, table, entry, item, leaves, to) {
+            Ok(()) => {}
+            Err(refusal) => return Err(refusal),
+        }
+    }
+    hand(Event::EndList, to)
+}
+
+#[cycle(hand)]
+fn hand_entries<L: Leaves, E: EventSink>(
+    alloc: Global,
+    table: &Table,
+    place: ValuePlace,
+    entries: &[(Text, Value)],
+    leaves: &L,
+    to: &mut E,
+) -> Result<(), NoMemory>
+    requires laws { IsConvention (L.convention leaves.now) }
+    requires shaped { Shaped (table_data table.now) }
+    requires place { InTable (table_data table.now) (place_of place) }
+    requires parts { PairsHold (table_data table.now) (carried_leaf (table_data table.now) (L.convention leaves.now))
+        (value_place (table_data table.now) (place_of place)) (entries_of (each_entry_view entries.now)) }
+    requires ready { IsReady (E.stands_for to.old) (E.takes to.old) (object_stream
+        (written_pairs (table_data table.now) (L.convention leaves.now) (place_of place) (entries_of (each_entry_view entries.now)))) }
+    ensures came { OnOk result (Came (E.stands_for to.old) (E.takes to.old) (object_stream
+        (written_pairs (table_data table.now) (L.convention leaves.now) (place_of place) (entries_of (each_entry_view entries.now))))
+        (E.stands_for to.new) (E.takes to.new)) }
+    ensures alike { E.alike to.old to.new }
+{
+    let inner = place.value(table);
+    match hand(Event::StartObject(Some(entries.len() as u64)), to) {
+        Ok(()) => {}
+        Err(refusal) => return Err(refusal),
+    }
+    for pair in entries {
+        match hand_key(alloc, pair.0.as_str(), to) {
+            Ok(()) => {}
+            Err(refusal) => return Err(refusal),
+        }
+        match hand_value(alloc, table, inner, &pair.1, leaves, to) {
+            Ok(()) => {}
+            Err(refusal) => return Err(refusal),
+        }
+    }
+    hand(Event::EndObject, to)
+}
+
+#[cycle(hand)]
+fn hand_fields<L: Leaves, E: EventSink>(
+    alloc: Global,
+    table: &Table,
+    place: ValuePlace,
+    fields: &[(u32, Value)],
+    leaves: &L,
+    to: &mut E,
+) -> Result<(), NoMemory>
+    requires laws { IsConvention (L.convention leaves.now) }
+    requires shaped { Shaped (table_data table.now) }
+    requires place { InTable (table_data table.now) (place_of place) }
+    requires parts { FieldsHold (table_data table.now) (carried_leaf (table_data table.now) (L.convention leaves.now))
+        (fields_of (each_field_view fields.now)) }
+    requires ready { IsReady (E.stands_for to.old) (E.takes to.old) (object_stream
+        (written_fields (table_data table.now) (L.convention leaves.now) (place_of place) (fields_of (each_field_view fields.now)))) }
+    ensures came { OnOk result (Came (E.stands_for to.old) (E.takes to.old) (object_stream
+        (written_fields (table_data table.now) (L.convention leaves.now) (place_of place) (fields_of (each_field_view fields.now))))
+        (E.stands_for to.new) (E.takes to.new)) }
+    ensures alike { E.alike to.old to.new }
+{
+    let shape = place.shape(table);
+    match hand(Event::StartObject(Some(fields.len() as u64)), to) {
+        Ok(()) => {}
+        Err(refusal) => return Err(refusal),
+    }
+    for part in fields {
+        let name = leaves.wire_name(table, shape, part.0);
+        match hand_key(alloc, name, to) {
+            Ok(()) => {}
+            Err(refusal) => return Err(refusal),
+        }
+        match hand_value(
+            alloc,
+            table,
+            ValuePlace::Member(part.0),
+            &part.1,
+            leaves,
+            to,
+        ) {
+            Ok(()) => {}
+            Err(refusal) => return Err(refusal),
+        }
+    }
+    hand(Event::EndObject, to)
+}
+
+// The one member of a union.
+#[cycle(hand)]
+fn hand_one<L: Leaves, E: EventSink>(
+    alloc: Global,
+    table: &Table,
+    place: ValuePlace,
+    member: u32,
+    value: &Value,
+    leaves: &L,
+    to: &mut E,
+) -> Result<(), NoMemory>
+    requires laws { IsConvention (L.convention leaves.now) }
+    requires shaped { Shaped (table_data table.now) }
+    requires place { InTable (table_data table.now) (place_of place) }
+    requires member { member < member_count (table_data table.now) }
+    requires parts { PartsHold (table_data table.now) (carried_leaf (table_data table.now) (L.convention leaves.now)) (member_place member)
+        (val_of value.now) }
+    requires ready { IsReady (E.stands_for to.old) (E.takes to.old) (object_stream (node.member
+        (wire_name_in (table_data table.now) (L.convention leaves.now) (place_of place) member)
+        (written (table_data table.now) (L.convention leaves.now) (member_place member) (val_of value.now)) node.no_members)) }
+    ensures came { OnOk result (Came (E.stands_for to.old) (E.takes to.old) (object_stream (node.member
+        (wire_name_in (table_data table.now) (L.convention leaves.now) (place_of place) member)
+        (written (table_data table.now) (L.convention leaves.now) (member_place member) (val_of value.now)) node.no_members))
+        (E.stands_for to.new) (E.takes to.new)) }
+    ensures alike { E.alike to.old to.new }
+{
+    let name = leaves.wire_name(table, place.shape(table), member);
+    match hand(Event::StartObject(Some(1)), to) {
+        Ok(()) => {}
+        Err(refusal) => return Err(refusal),
+    }
+    match hand_key(alloc, name, to) {
+        Ok(()) => {}
+        Err(refusal) => return Err(refusal),
+    }
+    match hand_value(alloc, table, ValuePlace::Member(member), value, leaves, to) {
+        Ok(()) => {}
+        Err(refusal) => return Err(refusal),
+    }
+    hand(Event::EndObject, to)
+}
