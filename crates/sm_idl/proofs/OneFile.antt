@@ -1,12 +1,12 @@
 -- Tokens are those of one file, and what a file's tokens begin with is begun.
-use Rattle.std.proofs.Common.{◌≡◌, inl, inr, List, [], ◌∷◌, Option, Some, None, codes, append-nil, refl, sym, ap, ◌∙◌, subst}
+use Rattle.std.proofs.Common.{◌≡◌, inl, inr, List, [], ◌∷◌, ◌++◌, Option, Some, None, codes, append-nil, refl, sym, ap, ◌∙◌, subst}
 use Rattle.sm_lex.proofs.OneReading.{one_reading as one_lexing}
 use Rattle.sm_ids.specs.Identifier.{IsNamespace}
 use Rattle.sm_idl.specs.Productions.{Tokens, spaced, Production, OptionSpells, EachSpells, each, many}
 use Rattle.sm_idl.specs.Words.{the_word, word_that}
 use Rattle.sm_idl.specs.Nodes.{Home}
 use Rattle.sm_idl.specs.Bodies.{Controls}
-use Rattle.sm_idl.specs.Idl.{control, metadata, used, home_of, SectionSaid, items, section, section_home, FileSaid, file, FileSpelled}
+use Rattle.sm_idl.specs.Idl.{control, metadata, used, home_of, SectionSaid, items, section, section_home, section_said, metadata_statements, FileSaid, file, FileSpelled}
 use Rattle.sm_idl.specs.Laws.{OneReading, PrefixesAreBegun}
 use Rattle.sm_idl.specs.steps.ReaderView.{NoToken}
 use Rattle.sm_idl.specs.steps.Firm.{Class, HeadIs, AreApart, IsFirm}
@@ -127,10 +127,31 @@ pub one_reading : OneReading
 one_reading bytes a b (xs, spelled, h) (ys, again, k) =
     one_file a b (spaced bytes ys) (subst (λ zs. FileSpelled a (spaced bytes zs)) (one_lexing bytes xs ys spelled again) h) k
 
+some_is_none : (h : Home) → Some h ≡ None → ⊥
+some_is_none h e = cc
+
 -- a whole file is begun, and so is all that it begins with
 whole_begun : (home : Option Home) (f : FileSaid) (ts : Tokens) → (file home).whole f ts [] → (file home).begun ts
 whole_begun home f ts (cs, s1, c, (ms, s2, m, (x, s3, n, (e, last)))) = inr (cs, s1, c, inr (ms, s2, m, inr (x, s3, n, last)))
 
+-- What spells a file spells one whose words are ids: without a namespace only the nodes of its controls and metadata differ
+with_ids : (home : Option Home) (f : FileSaid) (ts : Tokens) → f.home ≡ home → (file home).whole f ts []
+    → (h : Home) × ((g : FileSaid) × (file (Some h)).whole g ts [])
+with_ids (Some h) f ts is k = (h, (f, k))
+with_ids None f ts is (cs, s1, c, (ms, s2, m, (None, s3, n, (e, last)))) =
+    let h : Home = record { namespace = []; uses = [] } in
+    let ds = controls_alike None (Some h) [] [] cs ts s1 refl c in
+    let ns = metadata_alike None (Some h) [] [] ms s1 s2 refl m in (
+      h,
+      (
+        record { home = section_home None; controls = ds.0; said = metadata_statements ns.0 ++ section_said None },
+        (ds.0, s1, ds.1, (ns.0, s2, ns.1, (None, s3, n, (refl, last)))),
+      ),
+    )
+with_ids None f ts is (cs, s1, c, (ms, s2, m, (Some x, s3, n, (e, last)))) = absurd (some_is_none x.home (sym (ap (λ z. z.home) e) ∙ is))
+
 pub prefixes_are_begun : PrefixesAreBegun
-prefixes_are_begun f ts [] h = (f.home, whole_begun f.home f ts (subst (λ z. FileSpelled f z) (append-nil ts) h))
-prefixes_are_begun f ts (u ∷ us) h = (f.home, (file_firm f.home).prefix f ts u us h)
+prefixes_are_begun f ts [] h =
+    let g = with_ids f.home f ts refl (subst (λ z. FileSpelled f z) (append-nil ts) h) in (g.0, whole_begun (Some g.0) g.1.0 ts g.1.1)
+prefixes_are_begun f ts (u ∷ us) h =
+    let g = with_ids f.home f (ts ++ u ∷ us) refl h in (g.0, (file_firm (Some g.0)).prefix g.1.0 ts u us g.1.1)

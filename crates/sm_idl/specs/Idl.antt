@@ -1,4 +1,4 @@
--- A model's text (Smithy 2.0, "Smithy IDL"): which statements its tokens spell, which tokens begin some text's, and which
+-- A model's text (Smithy 2.0, "Smithy IDL"): which statements its tokens spell, which tokens the grammar begins with, and which
 -- versions are read.
 use Rattle.std.specs.Prelude.{◌≡◌, ◌⊎◌, ◌==◌, ℕ, Bool, List, [], ◌∷◌, ◌++◌, map, Option, Some, None, codes}
 use Rattle.std.specs.List.{filter, flat_map, list_any}
@@ -86,9 +86,10 @@ file home = do
 abbrev pub FileSpelled : FileSaid → Tokens → Type 0
 FileSpelled f ts = (file f.home).whole f ts []
 
--- the tokens begin some file's
+-- The tokens are begun by the productions. What stands so far is that of a file with a namespace, whose words are ids: so a suffix
+-- that is a word is none, wherever the namespace stands
 abbrev pub Begun : Tokens → Type 0
-Begun ts = (home : Option Home) × (file home).begun ts
+Begun ts = (home : Home) × (file (Some home)).begun ts
 
 -- the text is that of this file
 abbrev pub Idl : FileSaid → List ℕ → Type 0

@@ -7,7 +7,7 @@ use sm_tree::NoMemory;
 pub enum IdlRefusal {
     /// The text has no tokens, for this reason, which is never `NoMemory`.
     Lex(LexRefusal),
-    /// The token at this place goes on with no model, or the text, which has this length, ends too soon.
+    /// The place of the first token through which the grammar isn't begun, or the text's length, where it ends too soon.
     Syntax(u64),
     /// The control `version` isn't there, or is neither `"2"` nor `"2.0"`.
     Version,
