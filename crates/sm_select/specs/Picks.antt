@@ -8,7 +8,7 @@ use Rattle.std.specs.FinMap as fin
 use Rattle.std.specs.Str.{str_to_ascii_lowercase}
 use Rattle.sm_ids.specs.IdText.{Id, IdText}
 use Rattle.sm_tree.specs.Node.{Node, Members, null, bool, int, number, text, bytes, tag, opaque, list, object}
-use Rattle.sm_tree.specs.Same.{HasPair}
+use Rattle.sm_tree.specs.Parts.{tree_named}
 use Rattle.sm_model.specs.Graphs.{Entry, shape_entry, member_entry, GraphMaps, traits_in}
 use Rattle.sm_model.specs.PreludeShapes.{is_prelude_id}
 use Rattle.sm_model.specs.Relations.{HasEntry, IsInGraph, IsRelated, IsNeighbor, Reaches}
@@ -31,10 +31,10 @@ IsNamed None (shape_entry s) = ⊥
 IsNamed (Some named) (shape_entry s) = IsTaken named s.kind
 IsNamed (Some named) (member_entry m) = ⊥
 
--- the value of an object's field, and of a field within it, and so on
+-- the value of an object's field, and of a field within it, and so on; of two fields of one name the first is meant
 abbrev pub IsWithin : Node → List (List ℕ) → Node → Type 0
 IsWithin n [] m = m ≡ n
-IsWithin n (key ∷ keys) m = (ms : Members) × (n ≡ object ms) × ((next : Node) × HasPair key next ms × IsWithin next keys m)
+IsWithin n (key ∷ keys) m = (ms : Members) × (n ≡ object ms) × ((next : Node) × (tree_named key ms ≡ Some next) × IsWithin next keys m)
 
 -- the value that an attribute has at a shape or member
 abbrev pub HasValue : GraphMaps → List ℕ → Attribute → Node → Type 0
