@@ -1,4 +1,4 @@
-// What only tests say of models: that a graph is made and written where memory is ample.
+// What only tests say of models: that graphs, that of the prelude among them, are made and written where memory is ample.
 ghost use Rattle.std.specs.Prelude.{◌≡◌, [], ◌∷◌, IfOk, codes};
 ghost use Rattle.sm_ids.specs.Identifier.{IsIdentifier};
 ghost use Rattle.sm_tree.specs.Node.{no_members, object};
@@ -10,6 +10,7 @@ ghost use Rattle.sm_model.specs.References.{IsShapeId};
 use sm_ast::write_ast;
 use sm_ids::{ShapeId, ShapeIdRef};
 use sm_json::read_tree;
+use sm_merge::prelude;
 use sm_model::{Graph, GraphMember, GraphMembers, GraphShape, Kind};
 use sm_tree::{NoMemory, Pairs, Text, Tree};
 use std::alloc::Global;
@@ -111,5 +112,17 @@ fn members_are_written_in_model_order(rt: HostRuntime) -> Result<(), Fail> {
     let tree = written(rt.alloc())?;
     let expected = read_tree(rt.alloc(), WRITTEN.as_bytes());
     assert!(rt; expected == Ok(tree));
+    Ok(())
+}
+
+// How many shapes the prelude has.
+fn prelude_count(alloc: Global) -> Result<u32, NoMemory> {
+    Ok(prelude(alloc)?.count())
+}
+
+#[test]
+fn the_prelude_has_all_its_shapes(rt: HostRuntime) -> Result<(), Fail> {
+    let count = prelude_count(rt.alloc())?;
+    assert_eq!(rt; count, 21);
     Ok(())
 }
