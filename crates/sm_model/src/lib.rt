@@ -18,6 +18,7 @@ pub use event::{ModelEvent, ModelEvents, Severity};
 pub use graph::{Graph, GraphMember, GraphMembers, GraphShape};
 pub use kind::Kind;
 pub use link::Link;
+pub use part::{entries_of, pairs_of, text_of};
 pub use prelude::is_in_prelude;
 pub use property::{PropertyForm, field_names};
 pub use raw::{RawItems, RawNode, RawPairs};

@@ -7,7 +7,7 @@ use sm_tree::{Text, Tree};
 
 /// The text that a tree is; `None` for any other tree. No memory.
 #[tactic(auto, using(sm_tree::proofs::Views::node_text))]
-pub(crate) fn text_of(tree: &Tree) -> Option<&str>
+pub fn text_of(tree: &Tree) -> Option<&str>
     ensures { MatchOption result
         ((t : List ℕ) → node_of tree.now ≡ text t → ⊥)
         (λ t. node_of tree.now ≡ text t.now) }
@@ -20,7 +20,7 @@ pub(crate) fn text_of(tree: &Tree) -> Option<&str>
 
 /// The entries of a list; `None` for any other tree. No memory.
 #[tactic(auto, using(sm_tree::proofs::Views::node_list_items))]
-pub(crate) fn entries_of(tree: &Tree) -> Option<&[Tree]>
+pub fn entries_of(tree: &Tree) -> Option<&[Tree]>
     ensures { MatchOption result
         ((ns : Nodes) → node_of tree.now ≡ list ns → ⊥)
         (λ items. node_of tree.now ≡ list (nodes_of (nodes_view items.now))) }
@@ -33,7 +33,7 @@ pub(crate) fn entries_of(tree: &Tree) -> Option<&[Tree]>
 
 /// The pairs of an object; `None` for any other tree. No memory.
 #[tactic(auto, using(sm_tree::proofs::Views::node_object_pairs))]
-pub(crate) fn pairs_of(tree: &Tree) -> Option<&[(Text, Tree)]>
+pub fn pairs_of(tree: &Tree) -> Option<&[(Text, Tree)]>
     ensures { MatchOption result
         ((ms : Members) → node_of tree.now ≡ object ms → ⊥)
         (λ pairs. node_of tree.now ≡ object (members_of (members_view pairs.now))) }

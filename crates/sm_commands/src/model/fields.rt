@@ -4,39 +4,14 @@ ghost use Rattle.sm_tree.specs.Node.{Node, Members, text, object, members_of, no
 ghost use Rattle.sm_tree.specs.View.{node_of, members_view};
 ghost use Rattle.sm_commands.specs.FirstForm.{HasBoth, one_field};
 
+use sm_model::{pairs_of, text_of};
 use sm_tree::{Text, Tree};
-
-/// The bytes of a text; `None` for any other tree.
-#[tactic(auto, using(sm_tree::proofs::Views::node_text))]
-pub(crate) fn text_in(tree: &Tree) -> Option<&str>
-    ensures { MatchOption result
-        ((t : List ℕ) → node_of tree.now ≡ text t → ⊥)
-        (λ t. node_of tree.now ≡ text t.now) }
-{
-    match tree {
-        Tree::Text(text) => Some(text.as_str()),
-        _ => None,
-    }
-}
-
-/// The pairs of an object; `None` for any other tree.
-#[tactic(auto, using(sm_tree::proofs::Views::node_object))]
-pub(crate) fn pairs_of(tree: &Tree) -> Option<&[(Text, Tree)]>
-    ensures { MatchOption result
-        ((ms : Members) → node_of tree.now ≡ object ms → ⊥)
-        (λ pairs. node_of tree.now ≡ object (members_of (members_view pairs.now))) }
-{
-    match tree {
-        Tree::Object(pairs) => Some(pairs.as_slice()),
-        _ => None,
-    }
-}
 
 /// Whether the tree is this text.
 pub(crate) fn is_text(tree: &Tree, wanted: &str) -> bool
     ensures { IsTrue result ↔ (node_of tree.now ≡ text wanted.now) }
 {
-    match text_in(tree) {
+    match text_of(tree) {
         Some(text) => text == wanted,
         None => false,
     }

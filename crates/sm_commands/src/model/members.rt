@@ -5,9 +5,10 @@ ghost use Rattle.sm_tree.specs.View.{node_of, members_view};
 ghost use Rattle.sm_commands.specs.FirstForm.{MemberSays, required_traits, target_id};
 ghost use Rattle.sm_commands.specs.steps.ModelSteps.{ReadsMember, AddsMembers};
 
-use crate::model::fields::{both_fields, is_empty_object, is_named, only_field, text_in};
+use crate::model::fields::{both_fields, is_empty_object, is_named, only_field};
 use crate::model::push;
 use crate::model::target::SimpleTarget;
+use sm_model::text_of;
 use sm_shapes::TableMember;
 use sm_tree::{NoMemory, Text, Tree};
 use std::alloc::Global;
@@ -27,7 +28,7 @@ fn simple_target(tree: &Tree) -> Option<SimpleTarget>
         ((t : SimpleTarget) → node_of tree.now ≡ text (target_id t) → ⊥)
         (λ t. node_of tree.now ≡ text (target_id t)) }
 {
-    match text_in(tree) {
+    match text_of(tree) {
         Some(id) => SimpleTarget::with_id(id),
         None => None,
     }
