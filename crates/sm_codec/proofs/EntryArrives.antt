@@ -19,7 +19,7 @@ use Rattle.sm_codec.proofs.MembersKept.{all_of, of_joined, kept_of, kept_all, ke
 use Rattle.sm_codec.proofs.NoFaults.{none_behind}
 
 -- what comes is what the entry comes to
-abbrev IsEntry : Reading → Arrival → Type 0
+abbrev pub IsEntry : Reading → Arrival → Type 0
 IsEntry found null_comes = ⊥
 IsEntry found (value_comes v) = found ≡ Ok v
 IsEntry found (fault_comes f) = (fs : List FaultAt) × (found ≡ Err (f ∷ fs))

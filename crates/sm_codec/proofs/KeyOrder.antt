@@ -12,7 +12,6 @@ use Rattle.std.proofs.lemmas.Cmp.{nat_list_cmp_total}
 use Rattle.std.proofs.lemmas.List.Elements.{Contains-append_right}
 use Rattle.std.proofs.lemmas.Map.Text.{is_eq-slice_cmp}
 use Rattle.std.proofs.lemmas.Slice.Eq.{bytes_eq-Decides}
-use Rattle.sm_tree.specs.Node.{Node}
 use Rattle.sm_codec.specs.Named.{named, names_of, put_name, in_byte_order}
 
 -- the name is one of these
@@ -30,16 +29,16 @@ IsBefore x ks = AllByRecursion (λ y. order x y ≡ Less) ks
 abbrev pub InOrder : List (List ℕ) → Type 0
 InOrder ks = IsStrictlySortedBy (slice_cmp nat_cmp) ks
 
-same_where_equal : (x y : List ℕ) → order x y ≡ Equal → x ≡ y
+pub same_where_equal : (x y : List ℕ) → order x y ≡ Equal → x ≡ y
 same_where_equal x y h = (bytes_eq-Decides x y).0 (sym (is_eq-slice_cmp x y) ∙ ap is_eq h)
 
-less_where_greater : (x y : List ℕ) → order x y ≡ Greater → order y x ≡ Less
+pub less_where_greater : (x y : List ℕ) → order x y ≡ Greater → order y x ≡ Less
 less_where_greater x y h = nat_list_cmp_total.antisymm y x ∙ ap ordering_reverse h
 
 greater_where_less : (x y : List ℕ) → order x y ≡ Less → order y x ≡ Greater
 greater_where_less x y h = nat_list_cmp_total.antisymm y x ∙ ap ordering_reverse h
 
-not_both : (o : Ordering) → o ≡ Less → o ≡ Greater → ⊥
+pub not_both : (o : Ordering) → o ≡ Less → o ≡ Greater → ⊥
 not_both o h g = cc
 
 not_below : (x y : List ℕ) → order x y ≡ Less → order y x ≡ Less → ⊥
@@ -50,7 +49,7 @@ pub never_before_itself : (x y : List ℕ) → x ≡ y → order x y ≡ Less �
 never_before_itself x y e h =
     let below : order x x ≡ Less = subst (λ w. order x w ≡ Less) (sym e) h in not_below x x below below
 
-before_all : (x k : List ℕ) (ks : List (List ℕ)) → order x k ≡ Less → IsBefore k ks → IsBefore x ks
+pub before_all : (x k : List ℕ) (ks : List (List ℕ)) → order x k ≡ Less → IsBefore k ks → IsBefore x ks
 before_all x k [] h b = b
 before_all x k (j ∷ ks) h b = (nat_list_cmp_total.trans x k j h b.0, before_all x k ks h b.1)
 
@@ -77,7 +76,7 @@ put_in_order_by name k ks Less e h more = ((e, before_all name k ks e h.0), h)
 put_in_order_by name k ks Equal e h more = h
 put_in_order_by name k ks Greater e h more = (before_put k name ks (less_where_greater name k e) h.0, more)
 
-put_in_order : (name : List ℕ) (ks : List (List ℕ)) → InOrder ks → InOrder (put_name name ks)
+pub put_in_order : (name : List ℕ) (ks : List (List ℕ)) → InOrder ks → InOrder (put_name name ks)
 unfolding IsStrictlySortedBy
 put_in_order name [] h = (h, h)
 put_in_order name (k ∷ ks) h = put_in_order_by name k ks (order name k) refl h (put_in_order name ks h.1)
@@ -89,7 +88,7 @@ in_put_by x name k ks Equal more i = inr i
 in_put_by x name k ks Greater more (inl e) = inr (inl e)
 in_put_by x name k ks Greater more (inr i) = elim (more i) [ inl e ↦ inl e | inr j ↦ inr (inr j) ]
 
-in_put : (x name : List ℕ) (ks : List (List ℕ)) → IsIn x (put_name name ks) → (x ≡ name) ⊎ IsIn x ks
+pub in_put : (x name : List ℕ) (ks : List (List ℕ)) → IsIn x (put_name name ks) → (x ≡ name) ⊎ IsIn x ks
 in_put x name [] i = i
 in_put x name (k ∷ ks) i = in_put_by x name k ks (order name k) (in_put x name ks) i
 
@@ -103,7 +102,7 @@ put_in_by x name k ks Greater e more (inl h) = inr (more (inl h))
 put_in_by x name k ks Greater e more (inr (inl h)) = inl h
 put_in_by x name k ks Greater e more (inr (inr i)) = inr (more (inr i))
 
-put_in : (x name : List ℕ) (ks : List (List ℕ)) → (x ≡ name) ⊎ IsIn x ks → IsIn x (put_name name ks)
+pub put_in : (x name : List ℕ) (ks : List (List ℕ)) → (x ≡ name) ⊎ IsIn x ks → IsIn x (put_name name ks)
 put_in x name [] i = i
 put_in x name (k ∷ ks) i = put_in_by x name k ks (order name k) refl (put_in x name ks) i
 
@@ -166,21 +165,21 @@ pub in_contains : (x : List ℕ) (ks : List (List ℕ)) → Contains ks x → Is
 in_contains x ks h = in_at x ks h.0 h.1 h.2
 
 -- the names of pairs are those under which something stands
-stands_if : (b : Bool) (n : Node) (ns : List Node) (k x : List ℕ) (ks : List (List ℕ)) → bytes_eq k x ≡ b → cond b (n ∷ ns) ns ≡ []
+stands_if : {A : Type 0} (b : Bool) (n : A) (ns : List A) (k x : List ℕ) (ks : List (List ℕ)) → bytes_eq k x ≡ b → cond b (n ∷ ns) ns ≡ []
     → IsIn x (k ∷ ks) → (ns ≡ [] → IsIn x ks → ⊥) → ⊥
 stands_if true n ns k x ks e h i more = cc
 stands_if false n ns k x ks e h (inl same) more = let yes_it : bytes_eq k x ≡ true = (bytes_eq-Decides k x).1 (sym same) in cc
 stands_if false n ns k x ks e h (inr i) more = more h i
 
-pub stands_in : (x : List ℕ) (ps : List (List ℕ × Node)) → IsIn x (names_of ps) → named x ps ≡ [] → ⊥
+pub stands_in : {A : Type 0} (x : List ℕ) (ps : List (List ℕ × A)) → IsIn x (names_of ps) → named x ps ≡ [] → ⊥
 stands_in x [] i h = i
 stands_in x (p ∷ ps) i h = stands_if (bytes_eq p.0 x) p.1 (named x ps) p.0 x (names_of ps) refl h i (λ g j. stands_in x ps j g)
 
-named_if : (b : Bool) (n m : Node) (ns ms : List Node) (k x : List ℕ) (ks : List (List ℕ)) → bytes_eq k x ≡ b
+named_if : {A : Type 0} (b : Bool) (n m : A) (ns ms : List A) (k x : List ℕ) (ks : List (List ℕ)) → bytes_eq k x ≡ b
     → cond b (n ∷ ns) ns ≡ m ∷ ms → (ns ≡ m ∷ ms → IsIn x ks) → IsIn x (k ∷ ks)
 named_if true n m ns ms k x ks e h more = inl (sym ((bytes_eq-Decides k x).0 e))
 named_if false n m ns ms k x ks e h more = inr (more h)
 
-pub named_in : (x : List ℕ) (ps : List (List ℕ × Node)) (m : Node) (ms : List Node) → named x ps ≡ m ∷ ms → IsIn x (names_of ps)
+pub named_in : {A : Type 0} (x : List ℕ) (ps : List (List ℕ × A)) (m : A) (ms : List A) → named x ps ≡ m ∷ ms → IsIn x (names_of ps)
 named_in x [] m ms h = absurd cc
 named_in x (p ∷ ps) m ms h = named_if (bytes_eq p.0 x) p.1 m (named x ps) ms p.0 x (names_of ps) refl h (λ g. named_in x ps m ms g)

@@ -25,6 +25,8 @@ pub mod HandedEvents
 pub mod FilledTables
 pub mod Arriving
 pub mod SeenMembers
+pub mod Joined
+pub mod LeastFault
 pub mod MembersKept
 pub mod MemberParts
 pub mod MemberArrives
@@ -45,3 +47,7 @@ pub mod UnionHeld
 pub mod UnionNamed
 pub mod OwnFaults
 pub mod UnionClosing
+pub mod KeyParts
+pub mod PairArrives
+pub mod MapClosing
+pub mod KeptKeys

@@ -16,8 +16,9 @@ use Rattle.sm_codec.specs.Readings.{Child, ByMember, one_here, present_reading, 
 use Rattle.sm_codec.specs.Kept.{AreOf, AreKept, each_field, spelled_fields, has_one, closed_members, closed_faults}
 use Rattle.sm_codec.specs.steps.MemberSteps.{least_fault}
 use Rattle.sm_codec.proofs.NoFaults.{none_first, none_behind}
-use Rattle.sm_codec.proofs.MembersKept.{FieldsAbove, kept_of, kept_all, kept_from, of_two, of_joined, of_grown, two_splits, below_of, above_of, put_behind, put_between, from_above, prefix_same}
-use Rattle.sm_codec.proofs.MemberParts.{AllBelow, AllAbove, Agree, agree_front, own_faults, faults_two, spelled_two, closed_two, faults_agree, spelled_agree, closed_agree, spelled_below, spelled_above, least_of_all}
+use Rattle.sm_codec.proofs.MembersKept.{FieldsAbove, kept_of, kept_from, of_two, two_splits, below_of, above_of, put_behind, put_between, from_above, prefix_same, kept_put, kept_grown}
+use Rattle.sm_codec.proofs.Joined.{Agree, agree_front, joined_two}
+use Rattle.sm_codec.proofs.MemberParts.{AllBelow, AllAbove, own_faults, faults_two, spelled_two, closed_two, faults_agree, spelled_agree, closed_agree, spelled_below, spelled_above, least_of_all}
 
 -- the values of all members that stand before the first with a fault are kept
 abbrev pub HasPrefix : TableData → List ℕ → ByMember → List (ℕ × Val) → Type 0
@@ -39,10 +40,8 @@ two_read k a x [] = refl
 two_read k a x (b ∷ bs) = refl
 
 pub each_two : (k : ℕ) (xs ys : List Child) → each_field k (xs ++ ys) ≡ each_field k xs ++ each_field k ys
-each_two k [] ys = refl
-each_two k (x ∷ xs) ys =
-    ap (λ fs. cond x.null [] (member_fields k (present_reading (x.reading (member_place k)))) ++ fs) (each_two k xs ys)
-    ∙ sym (append_assoc (cond x.null [] (member_fields k (present_reading (x.reading (member_place k))))) (each_field k xs) (each_field k ys))
+each_two k xs ys =
+    joined_two (λ x. cond x.null [] (member_fields k (present_reading (x.reading (member_place k))))) (each_field k) (refl, λ x zs. refl) xs ys
 
 -- all faults and fields, where the same stands for all members but k
 module _ (t : TableData) (before : List ℕ) (k : ℕ) (s r : ByMember) where
@@ -308,21 +307,13 @@ module _ (t : TableData) (before : List ℕ) (k : ℕ) (behind : List ℕ) (s r 
       let was = fields_then t before k s r behind [] (each_before none) in
       let is_now = fields_now t before k s r behind ((k, v) ∷ []) a.front a.back each in
       let some = subst (λ xs. AreOf fields xs) was (kept_of (closed_faults t s ms) fields (spelled_fields s ms) h.2) in
-      let low = spelled_below s k before a.below in
-      let high = spelled_above s k behind a.above in
-      let parts = of_two fields lower upper some in
-      let placed : put_field k v fields ≡ parts.0 ++ (k, v) ∷ parts.1 =
-      ap (put_field k v) parts.2
-      ∙ put_between k v parts.0 parts.1 (below_of k parts.0 lower parts.3 low) (above_of k parts.1 upper parts.4 high) in
-      let some_now : AreOf (put_field k v fields) (spelled_fields r ms) =
-      subst₂ (λ xs ys. AreOf xs ys) (sym placed) (sym is_now)
-      (of_joined parts.0 lower ((k, v) ∷ parts.1) ((k, v) ∷ upper) parts.3 (inl (refl, parts.4))) in
-      let all_now : closed_faults t r ms ≡ [] → put_field k v fields ≡ spelled_fields r ms =
-      λ e. ap (put_field k v) (kept_all (closed_faults t s ms) fields (spelled_fields s ms) h.2 (sym faults ∙ e) ∙ was)
-      ∙ put_between k v lower upper low high ∙ sym is_now in (
+      let kept = kept_put (put_field k v) (k, v) (closed_faults t s ms) fields lower upper
+      (λ es hs b d. put_between k v es hs (below_of k es lower b (spelled_below s k before a.below))
+      (above_of k hs upper d (spelled_above s k behind a.above)))
+      (subst (λ xs. AreKept (closed_faults t s ms) fields xs) was h.2) in (
         seen_first t before k behind s r child seen now a.front a.back none one put h.0,
         h.1 ∙ ap first_fault (sym faults),
-        kept_from (closed_faults t r ms) (put_field k v fields) (spelled_fields r ms) some_now all_now,
+        subst₂ (λ fs xs. AreKept fs (put_field k v fields) xs) (sym faults) (sym is_now) kept,
         prefix_put t before k s r behind v fields a.below a.above a.front a.back (own_before none) (each_before none) each some h.3,
       )
 
@@ -367,14 +358,13 @@ module _ (t : TableData) (before : List ℕ) (k : ℕ) (behind : List ℕ) (s r 
       let own = own_again t k child r b bs two in
       let grown : each_field k (r k) ≡ each_field k (s k) ++ each_field k (child ∷ []) =
       ap (each_field k) a.here ∙ each_two k (s k) (child ∷ []) in
-      let was = subst (λ xs. AreOf fields xs) (fields_then t before k s r behind (each_field k (s k)) refl)
-      (kept_of (closed_faults t s ms) fields (spelled_fields s ms) h.2) in
-      let more = of_grown fields (spelled_fields s before) (each_field k (s k)) (each_field k (child ∷ [])) (spelled_fields s behind) was in
-      let is_now = fields_now t before k s r behind (each_field k (s k) ++ each_field k (child ∷ [])) a.front a.back grown in
-      let some : AreOf fields (spelled_fields r ms) = subst (λ xs. AreOf fields xs) (sym is_now) more in (
+      let kept = kept_grown (closed_faults t s ms) (closed_faults t r ms) fields (spelled_fields s before) (each_field k (s k))
+      (each_field k (child ∷ [])) (spelled_fields s behind) (never_none (repeated t k) [] a own)
+      (subst (λ xs. AreKept (closed_faults t s ms) fields xs) (fields_then t before k s r behind (each_field k (s k)) refl) h.2) in
+      let is_now = fields_now t before k s r behind (each_field k (s k) ++ each_field k (child ∷ [])) a.front a.back grown in (
         seen_again t before k behind s r child seen b bs (bs ++ child ∷ []) a.front a.back some_before two h.0,
         fault_now (repeated t k) [] fault a own h.1,
-        kept_from (closed_faults t r ms) fields (spelled_fields r ms) some (λ e. absurd (never_none (repeated t k) [] a own e)),
+        subst (λ xs. AreKept (closed_faults t r ms) fields xs) (sym is_now) kept,
         prefix_stays t before k s r behind fields a.front a.back (λ e. absurd (clash (repeated t k) (sym own ∙ e))) h.3,
       )
     where

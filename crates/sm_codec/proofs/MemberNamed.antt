@@ -22,11 +22,12 @@ use Rattle.sm_codec.specs.Kept.{AreKept, has_one, closed_members, closed_faults,
 use Rattle.sm_codec.specs.steps.Arrivals.{Arrival, null_comes, value_comes, fault_comes, IsArrival}
 use Rattle.sm_codec.specs.steps.MemberSteps.{is_seen, least_fault, at_member, TakesFirst, TakesAgain, TakesMember}
 use Rattle.sm_codec.proofs.PlacesIn.{shape_in}
-use Rattle.sm_codec.proofs.MemberParts.{Agree, agree_front, rises_before, rises_behind, faults_agree, spelled_agree, closed_agree}
+use Rattle.sm_codec.proofs.Joined.{Agree, agree_front}
+use Rattle.sm_codec.proofs.MemberParts.{rises_before, rises_behind, faults_agree, spelled_agree, closed_agree}
 use Rattle.sm_codec.proofs.MemberArrives.{AreHeld, Arrives, null_held, value_held, fault_held, again_held}
 
 -- one pair more: what stands under its name, and under others
-named_pair : (w name : List ℕ) (x : Child) (ps : List (List ℕ × Child))
+pub named_pair : (w name : List ℕ) (x : Child) (ps : List (List ℕ × Child))
     → named w (ps ++ (name, x) ∷ []) ≡ named w ps ++ cond (bytes_eq name w) (x ∷ []) []
 named_pair w name x [] = refl
 named_pair w name x (p ∷ ps) = by_name (bytes_eq p.0 w) (named_pair w name x ps)

@@ -1,5 +1,5 @@
 -- What the closed places of some members come to, by what stands for each: of members in two parts, and where the same stands.
-use Rattle.std.proofs.Common.{◌≡◌, ◌⊎◌, inl, inr, ℕ, ◌<◌, ◌≤◌, nat_le, Bool, true, false, cond, List, [], ◌∷◌, ◌++◌, map, append_assoc, refl, sym, ap, ◌∙◌, subst, arith}
+use Rattle.std.proofs.Common.{◌≡◌, ◌⊎◌, inl, inr, ℕ, ◌<◌, ◌≤◌, nat_le, Bool, true, false, cond, List, [], ◌∷◌, ◌++◌, map, refl, sym, ap, ◌∙◌, subst, arith}
 use Rattle.std.specs.Prelude.{Some, Ok, Err}
 use Rattle.std.specs.List.Sorted.{IsStrictlySortedBy}
 use Rattle.std.specs.Ordering.{nat_cmp}
@@ -18,6 +18,8 @@ use Rattle.sm_codec.specs.FaultLists.{FaultAt, Reading, under, first_fault}
 use Rattle.sm_codec.specs.Readings.{Child, ByMember, present_reading, member_reading, member_faults, member_fields, so_far_absent}
 use Rattle.sm_codec.specs.Kept.{each_field, spelled_fields, has_one, closed_members, closed_faults}
 use Rattle.sm_codec.specs.steps.MemberSteps.{first_name, gives_way, least_fault}
+use Rattle.sm_codec.proofs.Joined.{Agree, joined_two, joined_agree}
+use Rattle.sm_codec.proofs.LeastFault.{HeadGives, least_of_parts}
 use Rattle.sm_codec.proofs.MembersKept.{FieldsBelow, FieldsAbove, from_above, below_joined, above_joined}
 
 abbrev pub AllBelow : ℕ → List ℕ → Type 0
@@ -67,43 +69,28 @@ rises_before [] k behind h = tt
 rises_before (j ∷ before) k behind h =
     (above_middle j before k behind (above_from j (before ++ k ∷ behind) h.0), rises_before before k behind h.1)
 
--- the same stands for each of these
-abbrev pub Agree : ByMember → ByMember → List ℕ → Type 0
-Agree s r [] = Unit {0}
-Agree s r (k ∷ ks) = (s k ≡ r k) × Agree s r ks
-
-pub agree_front : (s r : ByMember) (ks js : List ℕ) → Agree s r (ks ++ js) → Agree s r ks
-agree_front s r [] js h = tt
-agree_front s r (k ∷ ks) js h = (h.0, agree_front s r ks js h.1)
-
 abbrev pub own_faults : TableData → ByMember → ℕ → List FaultAt
 own_faults t s k = under (Member (name_at t k)) (member_faults (member_reading so_far_absent k (s k)))
 
 module _ (t : TableData) (s : ByMember) where
   pub faults_two : (ks js : List ℕ) → closed_faults t s (ks ++ js) ≡ closed_faults t s ks ++ closed_faults t s js
-  faults_two [] js = refl
-  faults_two (k ∷ ks) js =
-      ap (λ fs. own_faults t s k ++ fs) (faults_two ks js) ∙ sym (append_assoc (own_faults t s k) (closed_faults t s ks) (closed_faults t s js))
+  faults_two ks js = joined_two (own_faults t s) (closed_faults t s) (refl, λ k ms. refl) ks js
 
   pub spelled_two : (ks js : List ℕ) → spelled_fields s (ks ++ js) ≡ spelled_fields s ks ++ spelled_fields s js
-  spelled_two [] js = refl
-  spelled_two (k ∷ ks) js =
-      ap (λ fs. each_field k (s k) ++ fs) (spelled_two ks js) ∙ sym (append_assoc (each_field k (s k)) (spelled_fields s ks) (spelled_fields s js))
+  spelled_two ks js = joined_two (λ k. each_field k (s k)) (spelled_fields s) (refl, λ k ms. refl) ks js
 
   pub closed_two : (ks js : List ℕ) → closed_members s (ks ++ js) ≡ closed_members s ks ++ closed_members s js
   closed_two ks js = filter-append (λ k. has_one (s k)) ks js
 
 module _ (t : TableData) (s r : ByMember) where
   pub faults_agree : (ks : List ℕ) → Agree s r ks → closed_faults t s ks ≡ closed_faults t r ks
-  faults_agree [] h = refl
-  faults_agree (k ∷ ks) h =
-      ap (λ cs. under (Member (name_at t k)) (member_faults (member_reading so_far_absent k cs)) ++ closed_faults t s ks) h.0
-      ∙ ap (λ fs. own_faults t r k ++ fs) (faults_agree ks h.1)
+  faults_agree ks h =
+      joined_agree (λ k cs. under (Member (name_at t k)) (member_faults (member_reading so_far_absent k cs))) s r (closed_faults t s) (closed_faults t r)
+      (refl, λ k ms. refl) (refl, λ k ms. refl) ks h
 
   pub spelled_agree : (ks : List ℕ) → Agree s r ks → spelled_fields s ks ≡ spelled_fields r ks
-  spelled_agree [] h = refl
-  spelled_agree (k ∷ ks) h =
-      ap (λ cs. each_field k cs ++ spelled_fields s ks) h.0 ∙ ap (λ fs. each_field k (r k) ++ fs) (spelled_agree ks h.1)
+  spelled_agree ks h =
+      joined_agree (λ k cs. each_field k cs) s r (spelled_fields s) (spelled_fields r) (refl, λ k ms. refl) (refl, λ k ms. refl) ks h
 
   pub closed_agree : (ks : List ℕ) → Agree s r ks → closed_members s ks ≡ closed_members r ks
   closed_agree [] h = refl
@@ -184,13 +171,7 @@ first_names t s (k ∷ ks) f fs h =
       | inr g ↦ let more = first_names t s ks f fs g in (more.0, inr more.1, more.2)
     ]
 
--- which of two faults is kept, by the member of the old one
-least_by : (t : TableData) (ms : List ℕ) (k : ℕ) (new old : FaultAt) (j : ℕ) (b : Bool)
-    → member_with (name_at t) (first_name old.0) ms ≡ Some j
-    → nat_le k j ≡ b → least_fault t ms k new (Some old) ≡ cond b (Some new) (Some old)
-least_by t ms k new old j b e g =
-    ap (λ o. cond (gives_way k o) (Some new) (Some old)) e ∙ ap (λ x. cond x (Some new) (Some old)) g
-
+-- which faults are kept, where k has one now
 module _ (t : TableData) (before : List ℕ) (k : ℕ) (behind : List ℕ) where
   abbrev members : List ℕ
   members = before ++ k ∷ behind
@@ -200,49 +181,42 @@ module _ (t : TableData) (before : List ℕ) (k : ℕ) (behind : List ℕ) where
   at_name old j differ i e = ap (λ w. member_with (name_at t) w members) e ∙ found (name_at t) j members differ i
 
   -- a fault before k stays, one at k or behind it gives way
-  pub stays_before : (s : ByMember) (new f : FaultAt) (fs : List FaultAt) → AllDiffer (map (name_at t) members) → AllBelow k before
-      → closed_faults t s before ≡ f ∷ fs → least_fault t members k new (Some f) ≡ Some f
-  stays_before s new f fs differ below h =
+  abbrev gives : FaultAt → Bool
+  gives f = gives_way k (member_with (name_at t) (first_name f.0) members)
+
+  gives_by : (f : FaultAt) (j : ℕ) (b : Bool) → AllDiffer (map (name_at t) members) → IsAmong j members → first_name f.0 ≡ name_at t j
+      → nat_le k j ≡ b → gives f ≡ b
+  gives_by f j b differ i e g = ap (gives_way k) (at_name f j differ i e) ∙ g
+
+  stays_before : (s : ByMember) (fs : List FaultAt) → AllDiffer (map (name_at t) members) → AllBelow k before → closed_faults t s before ≡ fs
+      → HeadGives gives false fs
+  stays_before s [] differ below h = tt
+  stays_before s (f ∷ fs) differ below h =
       let named = first_names t s before f fs h in
       let lt : named.0 < k = below_one k named.0 before below named.1 in
-      least_by t members k new f named.0 false (at_name f named.0 differ (among_front named.0 before (k ∷ behind) named.1) named.2)
-      (grind (arith, lt))
+      gives_by f named.0 false differ (among_front named.0 before (k ∷ behind) named.1) named.2 (grind (arith, lt))
 
-  pub gives_here : (new f : FaultAt) → AllDiffer (map (name_at t) members) → first_name f.0 ≡ name_at t k
-      → least_fault t members k new (Some f) ≡ Some new
-  gives_here new f differ e =
-      least_by t members k new f k true (at_name f k differ (among_behind k before (k ∷ behind) (inl refl)) e) (grind (arith))
-
-  pub gives_behind : (s : ByMember) (new f : FaultAt) (fs : List FaultAt) → AllDiffer (map (name_at t) members) → AllAbove k behind
-      → closed_faults t s behind ≡ f ∷ fs → least_fault t members k new (Some f) ≡ Some new
-  gives_behind s new f fs differ above h =
+  gives_behind : (s : ByMember) (fs : List FaultAt) → AllDiffer (map (name_at t) members) → AllAbove k behind → closed_faults t s behind ≡ fs
+      → HeadGives gives true fs
+  gives_behind s [] differ above h = tt
+  gives_behind s (f ∷ fs) differ above h =
       let named = first_names t s behind f fs h in
       let lt : k < named.0 = above_one k named.0 behind above named.1 in
-      least_by t members k new f named.0 true
-      (at_name f named.0 differ (among_behind named.0 before (k ∷ behind) (inr named.1)) named.2) (grind (arith, lt))
+      gives_by f named.0 true differ (among_behind named.0 before (k ∷ behind) (inr named.1)) named.2 (grind (arith, lt))
 
-  -- so the first fault of all is kept, where k has faults now
-  behind_gives : (s : ByMember) (new : FaultAt) (ys : List FaultAt) → AllDiffer (map (name_at t) members) → AllAbove k behind
-      → closed_faults t s behind ≡ ys → least_fault t members k new (first_fault ys) ≡ Some new
-  behind_gives s new [] differ above h = refl
-  behind_gives s new (f ∷ fs) differ above h = gives_behind s new f fs differ above h
+  gives_here : (s : ByMember) (own : List FaultAt) → AllDiffer (map (name_at t) members) → AllAbove k behind
+      → HeadGives gives true (under (Member (name_at t k)) own ++ closed_faults t s behind)
+  gives_here s [] differ above = gives_behind s (closed_faults t s behind) differ above refl
+  gives_here s (g ∷ own) differ above =
+      gives_by (Member (name_at t k) ∷ g.0, g.1) k true differ (among_behind k before (k ∷ behind) (inl refl)) refl (grind (arith))
 
-  own_gives : (s : ByMember) (new : FaultAt) (own : List FaultAt) → AllDiffer (map (name_at t) members) → AllAbove k behind
-      → least_fault t members k new (first_fault (under (Member (name_at t k)) own ++ closed_faults t s behind)) ≡ Some new
-  own_gives s new [] differ above = behind_gives s new (closed_faults t s behind) differ above refl
-  own_gives s new (g ∷ own) differ above = gives_here new (Member (name_at t k) ∷ g.0, g.1) differ refl
-
-  least_is : (s : ByMember) (new : FaultAt) (more own xs : List FaultAt) → AllDiffer (map (name_at t) members) → AllBelow k before
-      → AllAbove k behind → closed_faults t s before ≡ xs
-      → first_fault (xs ++ ((new ∷ more) ++ closed_faults t s behind))
-      ≡ least_fault t members k new (first_fault (xs ++ (under (Member (name_at t k)) own ++ closed_faults t s behind)))
-  least_is s new more own [] differ below above h = sym (own_gives s new own differ above)
-  least_is s new more own (f ∷ fs) differ below above h = sym (stays_before s new f fs differ below h)
-
+  -- so the first fault of all is kept
   pub least_of_all : (s : ByMember) (new : FaultAt) (more : List FaultAt) → AllDiffer (map (name_at t) members) → AllBelow k before
       → AllAbove k behind
       → first_fault (closed_faults t s before ++ ((new ∷ more) ++ closed_faults t s behind))
       ≡ least_fault t members k new (first_fault (closed_faults t s members))
   least_of_all s new more differ below above =
-      least_is s new more (member_faults (member_reading so_far_absent k (s k))) (closed_faults t s before) differ below above refl
+      least_of_parts gives new more (own_faults t s k) (closed_faults t s before) (closed_faults t s behind)
+      (stays_before s (closed_faults t s before) differ below refl)
+      (gives_here s (member_faults (member_reading so_far_absent k (s k))) differ above)
       ∙ ap (λ fs. least_fault t members k new (first_fault fs)) (sym (faults_two t s before (k ∷ behind)))

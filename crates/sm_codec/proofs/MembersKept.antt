@@ -180,3 +180,21 @@ module _ {A : Type 0} where
       let more = of_joined inner.0 (ys ++ ws) inner.1 zs (of_front inner.0 ys ws inner.3) inner.4 in
       let behind = subst (λ bs. AreOf bs ((ys ++ ws) ++ zs)) (sym inner.2) more in
       subst (λ ks. AreOf ks (xs ++ ((ys ++ ws) ++ zs))) (sym outer.2) (of_joined outer.0 xs outer.1 ((ys ++ ws) ++ zs) outer.3 behind)
+
+  -- what is kept of all stays kept where something more stands in the middle, and there is a fault now
+  pub kept_grown : (fs gs : List FaultAt) (kept xs ys ws zs : List A) → (gs ≡ [] → ⊥) → AreKept fs kept (xs ++ (ys ++ zs))
+      → AreKept gs kept (xs ++ ((ys ++ ws) ++ zs))
+  kept_grown fs gs kept xs ys ws zs never h =
+      kept_from gs kept (xs ++ ((ys ++ ws) ++ zs)) (of_grown kept xs ys ws zs (kept_of fs kept (xs ++ (ys ++ zs)) h)) (λ e. absurd (never e))
+
+  -- and where one is put between those before it and those behind it
+  pub kept_put : (put : List A → List A) (new : A) (fs : List FaultAt) (kept xs zs : List A)
+      → ((bs cs : List A) → AreOf bs xs → AreOf cs zs → put (bs ++ cs) ≡ bs ++ new ∷ cs) → AreKept fs kept (xs ++ zs)
+      → AreKept fs (put kept) (xs ++ new ∷ zs)
+  kept_put put new fs kept xs zs between h =
+      let parts = of_two kept xs zs (kept_of fs kept (xs ++ zs) h) in
+      let placed : put kept ≡ parts.0 ++ new ∷ parts.1 = ap put parts.2 ∙ between parts.0 parts.1 parts.3 parts.4 in
+      let some : AreOf (put kept) (xs ++ new ∷ zs) =
+      subst (λ ks. AreOf ks (xs ++ new ∷ zs)) (sym placed) (of_joined parts.0 xs (new ∷ parts.1) (new ∷ zs) parts.3 (inl (refl, parts.4))) in
+      kept_from fs (put kept) (xs ++ new ∷ zs) some
+      (λ e. ap put (kept_all fs kept (xs ++ zs) h e) ∙ between xs zs (all_of xs) (all_of zs))

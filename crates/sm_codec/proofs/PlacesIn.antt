@@ -100,6 +100,9 @@ map_members t p h i e =
 pub value_in : (t : TableData) (p : Place) → Shaped t → InTable t p → kind_of t p ≡ kind.Map → InTable t (value_place t p)
 value_in t p h i e = (map_members t p h i e).1
 
+pub key_in : (t : TableData) (p : Place) → Shaped t → InTable t p → kind_of t p ≡ kind.Map → InTable t (key_place t p)
+key_in t p h i e = (map_members t p h i e).0
+
 -- the keys of a map are texts
 pub key_text : (t : TableData) (p : Place) → Shaped t → InTable t p → kind_of t p ≡ kind.Map → IsTextKind (kind_of t (key_place t p))
 key_text t p h i e = (map_members t p h i e).2

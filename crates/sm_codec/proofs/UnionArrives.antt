@@ -1,5 +1,5 @@
 -- A tree that is closed in a union: what its frame keeps is still what the closed members come to.
-use Rattle.std.proofs.Common.{◌≡◌, ◌⊎◌, inl, inr, ℕ, Bool, true, false, cond, List, [], ◌∷◌, ◌++◌, append_assoc, append-nil, refl, sym, ap, ◌∙◌, subst, subst₂}
+use Rattle.std.proofs.Common.{◌≡◌, ◌⊎◌, inl, inr, ℕ, Bool, true, false, cond, List, [], ◌∷◌, ◌++◌, append-nil, refl, sym, ap, ◌∙◌, subst, subst₂}
 use Rattle.std.specs.Prelude.{Option, Some, None, Ok, Err}
 use Rattle.sm_tree.specs.declared.path.Step.TheVariants.{Member}
 use Rattle.sm_shapes.specs.Values.{Val}
@@ -12,7 +12,8 @@ use Rattle.sm_codec.specs.Kept.{each_field, spelled_fields, closed_faults}
 use Rattle.sm_codec.specs.steps.MemberSteps.{at_member, least_fault}
 use Rattle.sm_codec.specs.steps.UnionSteps.{repeats_here, is_repeat, chosen, first_choice, repeat_fault}
 use Rattle.sm_codec.proofs.NoFaults.{none_first, none_behind}
-use Rattle.sm_codec.proofs.MemberParts.{Agree, own_faults}
+use Rattle.sm_codec.proofs.Joined.{Agree, joined_two, joined_agree}
+use Rattle.sm_codec.proofs.MemberParts.{own_faults}
 
 -- a child comes to a value or to faults, and never to the one that a name is repeated
 abbrev pub IsSound : ℕ → Child → Type 0
@@ -30,15 +31,11 @@ StandSound (m ∷ ms) = IsSound m.0 m.1 × StandSound ms
 
 module _ (t : TableData) (s : ByMember) where
   pub repeats_two : (ks js : List ℕ) → repeats t s (ks ++ js) ≡ repeats t s ks ++ repeats t s js
-  repeats_two [] js = refl
-  repeats_two (k ∷ ks) js =
-      let own = under (Member (name_at t k)) (repeated_faults (s k)) in
-      ap (λ fs. own ++ fs) (repeats_two ks js) ∙ sym (append_assoc own (repeats t s ks) (repeats t s js))
+  repeats_two ks js =
+      joined_two (λ k. under (Member (name_at t k)) (repeated_faults (s k))) (repeats t s) (refl, λ k ms. refl) ks js
 
   pub standing_two : (ks js : List ℕ) → all_standing s (ks ++ js) ≡ all_standing s ks ++ all_standing s js
-  standing_two [] js = refl
-  standing_two (k ∷ ks) js =
-      ap (λ ms. standing k (s k) ++ ms) (standing_two ks js) ∙ sym (append_assoc (standing k (s k)) (all_standing s ks) (all_standing s js))
+  standing_two ks js = joined_two (λ k. standing k (s k)) (all_standing s) (refl, λ k ms. refl) ks js
 
   -- the repeats are the faults of a structure of the members that stand more than once
   abbrev pub only_more : List Child → List Child
@@ -110,15 +107,13 @@ module _ (t : TableData) (s : ByMember) where
 
 module _ (t : TableData) (s r : ByMember) where
   pub repeats_agree : (ks : List ℕ) → Agree s r ks → repeats t s ks ≡ repeats t r ks
-  repeats_agree [] h = refl
-  repeats_agree (k ∷ ks) h =
-      ap (λ cs. under (Member (name_at t k)) (repeated_faults cs) ++ repeats t s ks) h.0
-      ∙ ap (λ fs. under (Member (name_at t k)) (repeated_faults (r k)) ++ fs) (repeats_agree ks h.1)
+  repeats_agree ks h =
+      joined_agree (λ k cs. under (Member (name_at t k)) (repeated_faults cs)) s r (repeats t s) (repeats t r) (refl, λ k ms. refl)
+      (refl, λ k ms. refl) ks h
 
   pub standing_agree : (ks : List ℕ) → Agree s r ks → all_standing s ks ≡ all_standing r ks
-  standing_agree [] h = refl
-  standing_agree (k ∷ ks) h =
-      ap (λ cs. standing k cs ++ all_standing s ks) h.0 ∙ ap (λ ms. standing k (r k) ++ ms) (standing_agree ks h.1)
+  standing_agree ks h =
+      joined_agree (λ k cs. standing k cs) s r (all_standing s) (all_standing r) (refl, λ k ms. refl) (refl, λ k ms. refl) ks h
 
   pub more_agree : (ks : List ℕ) → Agree s r ks → Agree (repeated_ones t s) (repeated_ones t r) ks
   more_agree [] h = tt

@@ -20,4 +20,5 @@ pub mod Walk
 pub mod Kept
 pub mod Bound
 pub mod FrameView
+pub mod MapView
 pub mod steps

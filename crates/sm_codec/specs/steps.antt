@@ -1,4 +1,5 @@
 pub mod Arrivals
+pub mod LeastFaults
 pub mod MemberSteps
 pub mod ValueParts
 pub mod EventsHanded
@@ -6,3 +7,4 @@ pub mod Standing
 pub mod EntrySteps
 pub mod ClosingSteps
 pub mod UnionSteps
+pub mod MapSteps

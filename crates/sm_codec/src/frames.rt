@@ -3,10 +3,13 @@
 mod ending;
 mod entries;
 mod faults;
+mod keys;
+mod maps;
 mod members;
 mod seen;
 mod unions;
 
+pub(crate) use keys::{Key, KeyFrame};
 pub(crate) use seen::Members;
 use sm_shapes::values::{Entries, Fields, Items, Value};
 use sm_shapes::{Fault, FaultKind};

@@ -116,8 +116,8 @@ impl Constraints {
         }
     }
 
-    // `Length`, `Pattern` or `Enum`, the first that a text breaks.
-    fn judge_text<P: Patterns>(
+    /// The first constraint that a text of this kind breaks: `Length`, `Pattern` or `Enum`. The store must have the table's patterns.
+    pub fn judge_text<P: Patterns>(
         &self,
         table: &Table,
         kind: ShapeKind,

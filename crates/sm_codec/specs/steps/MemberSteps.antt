@@ -1,5 +1,5 @@
 -- What a decoder's frame of a structure or a union does where the value of one of its members is closed.
-use Rattle.std.specs.Prelude.{◌≡◌, ℕ, nat_le, nat_eq, Bool, true, false, cond, MatchBool, List, [], ◌∷◌, Option, Some, None}
+use Rattle.std.specs.Prelude.{◌≡◌, ℕ, nat_le, nat_eq, Bool, true, false, MatchBool, List, [], ◌∷◌, Option, Some, None}
 use Rattle.std.specs.List.{list_any}
 use Rattle.std.specs.List.Sorted.{IsPermutation}
 use Rattle.sm_tree.specs.declared.path.Step.{Step}
@@ -10,6 +10,7 @@ use Rattle.sm_shapes.specs.declared.fault.FaultKind.TheVariants.{Repeated}
 use Rattle.sm_shapes.specs.FieldPuts.{put_field}
 use Rattle.sm_codec.specs.FaultLists.{FaultAt}
 use Rattle.sm_codec.specs.Decoding.{MemberFrame}
+use Rattle.sm_codec.specs.steps.LeastFaults.{least_of}
 use Rattle.sm_codec.specs.steps.Arrivals.{Arrival, null_comes, value_comes, fault_comes}
 
 -- the name of the member at which a path begins
@@ -26,8 +27,7 @@ gives_way k (Some j) = nat_le k j
 
 -- the first fault of a structure's closed members in model order, where k has this one now
 abbrev pub least_fault : TableData → List ℕ → ℕ → FaultAt → Option FaultAt → Option FaultAt
-least_fault t ks k new None = Some new
-least_fault t ks k new (Some old) = cond (gives_way k (member_with (name_at t) (first_name old.0) ks)) (Some new) (Some old)
+least_fault t ks k new old = least_of (λ f. gives_way k (member_with (name_at t) (first_name f.0) ks)) new old
 
 -- the member is one of those seen
 abbrev pub is_seen : ℕ → List ℕ → Bool
