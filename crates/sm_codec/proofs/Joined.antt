@@ -15,7 +15,8 @@ module _ {K B : Type 0} (s r : K → B) where
 abbrev pub Joins : {K A : Type 0} → (K → List A) → (List K → List A) → Type 0
 Joins {K} own all = (all [] ≡ []) × ((k : K) (ks : List K) → all (k ∷ ks) ≡ own k ++ all ks)
 
-pub joined_two : {K A : Type 0} (own : K → List A) (all : List K → List A) → Joins own all → (ks js : List K) → all (ks ++ js) ≡ all ks ++ all js
+pub joined_two : {K A : Type 0} (own : K → List A) (all : List K → List A) → Joins own all → (ks js : List K)
+    → all (ks ++ js) ≡ all ks ++ all js
 joined_two own all h [] js = ap (λ xs. xs ++ all js) (sym h.0)
 joined_two own all h (k ∷ ks) js =
     h.1 k (ks ++ js) ∙ ap (λ xs. own k ++ xs) (joined_two own all h ks js) ∙ sym (append_assoc (own k) (all ks) (all js))

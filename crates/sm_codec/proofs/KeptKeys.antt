@@ -1,5 +1,5 @@
 -- Keys of a map in a tree of std's, each with its value or without: a look-up says whether one is seen, and what an insertion does.
-use Rattle.std.proofs.Common.{◌≡◌, ℕ, Bool, true, false, ◌||◌, cond, List, [], ◌∷◌, ◌++◌, append_assoc, refl, sym, ap, ◌∙◌, subst}
+use Rattle.std.proofs.Common.{◌≡◌, ℕ, Bool, true, false, ◌||◌, cond, List, [], ◌∷◌, ◌++◌, refl, sym, ap, ◌∙◌}
 use Rattle.std.specs.Prelude.{Option, Some, None, is_some}
 use Rattle.std.specs.BTreeMap.{insert_entry, is_at}
 use Rattle.std.specs.Cmp.Lexicographic.{slice_cmp}
@@ -34,8 +34,8 @@ found_by false false w more rest e h g = h
 pub found_same : (key : List ℕ) (es : Valued) → is_some (lookup (is_at (slice_cmp nat_cmp key)) es) ≡ has_key key (keys_of es)
 found_same key [] = refl
 found_same key (e ∷ es) =
-    found_by (is_eq (slice_cmp nat_cmp key e.0)) (bytes_eq key e.0) (Some e.1) (lookup (is_at (slice_cmp nat_cmp key)) es) (has_key key (keys_of es))
-    (is_eq-slice_cmp key e.0) (found_same key es) refl
+    found_by (is_eq (slice_cmp nat_cmp key e.0)) (bytes_eq key e.0) (Some e.1) (lookup (is_at (slice_cmp nat_cmp key)) es)
+    (has_key key (keys_of es)) (is_eq-slice_cmp key e.0) (found_same key es) refl
 
 -- a key that isn't there compares to each as less or greater
 never_equal : (key k : List ℕ) (ks : List (List ℕ)) → has_key key (k ∷ ks) ≡ false → order key k ≡ Equal → ⊥
@@ -79,8 +79,8 @@ module _ (key : List ℕ) (w : Option Value) where
       by_value None = refl
       by_value (Some v) = sym (insert_past key (val_of v) es hs h)
 
-  put_by : (e : List ℕ × Option Value) (es : Valued) (o : Ordering) → order key e.0 ≡ o → InOrder (e.0 ∷ keys_of es) → has_key key (e.0 ∷ keys_of es) ≡ false
-      → held_entries (now es) ≡ with_it (held_entries es)
+  put_by : (e : List ℕ × Option Value) (es : Valued) (o : Ordering) → order key e.0 ≡ o → InOrder (e.0 ∷ keys_of es)
+      → has_key key (e.0 ∷ keys_of es) ≡ false → held_entries (now es) ≡ with_it (held_entries es)
       → held_entries (match_ordering o ((key, w) ∷ e ∷ es) ((e.0, w) ∷ es) (e ∷ now es)) ≡ with_it (held_entry e.0 e.1 ++ held_entries es)
   unfolding IsStrictlySortedBy
   put_by e es Less is h absent more =

@@ -1,7 +1,7 @@
 -- The keys of a map, as a frame takes one more: its place among them, what the others come to, and the fault that stands first in byte
 -- order.
 use Rattle.std.proofs.Common.{◌≡◌, ◌⊎◌, inl, inr, ℕ, Bool, true, false, ◌||◌, cond, List, [], ◌∷◌, ◌++◌, append-nil, refl, sym, ap, ◌∙◌, subst}
-use Rattle.std.specs.Prelude.{Option, Some, None, Ok, Err}
+use Rattle.std.specs.Prelude.{Ok, Err}
 use Rattle.std.specs.BTreeMap.{insert_entry}
 use Rattle.std.specs.Cmp.Lexicographic.{slice_cmp}
 use Rattle.std.specs.List.Sorted.{IsStrictlySortedBy}
@@ -21,7 +21,7 @@ use Rattle.sm_codec.specs.Readings.{Child, entry_reading, keyed, pair_faults, ke
 use Rattle.sm_codec.specs.Kept.{AreOf, each_entry, spelled_entries}
 use Rattle.sm_codec.specs.steps.MapSteps.{at_key, goes_first, least_at, has_key}
 use Rattle.sm_codec.proofs.Joined.{Agree, joined_two, joined_agree}
-use Rattle.sm_codec.proofs.KeyOrder.{IsIn, order, IsBefore, InOrder, same_where_equal, less_where_greater, not_both, never_before_itself, before_all, before_one, put_in_order, in_put, put_in, ordered, ordered_is, is_ordered, same_order, stands_in, named_in}
+use Rattle.sm_codec.proofs.KeyOrder.{IsIn, order, IsBefore, InOrder, same_where_equal, less_where_greater, never_before_itself, before_all, put_in_order, in_put, put_in, ordered, ordered_is, is_ordered, same_order, stands_in, named_in}
 use Rattle.sm_codec.proofs.LeastFault.{HeadGives, least_of_parts}
 use Rattle.sm_codec.proofs.MemberNamed.{named_pair}
 
@@ -221,7 +221,8 @@ module _ (c : Codec) (p : Place) where
 
 -- an entry that is put goes behind those before it
 module _ (key : List ℕ) (v : Val) where
-  pub insert_past : (es hs : List (List ℕ × Val)) → EntriesAt key Greater es → insert_entry (slice_cmp nat_cmp) (es ++ hs) key v ≡ es ++ insert_entry (slice_cmp nat_cmp) hs key v
+  pub insert_past : (es hs : List (List ℕ × Val)) → EntriesAt key Greater es
+      → insert_entry (slice_cmp nat_cmp) (es ++ hs) key v ≡ es ++ insert_entry (slice_cmp nat_cmp) hs key v
   insert_past [] hs h = refl
   insert_past (e ∷ es) hs h =
       ap (λ o. match_ordering o ((key, v) ∷ e ∷ (es ++ hs)) ((e.0, v) ∷ (es ++ hs)) (e ∷ insert_entry (slice_cmp nat_cmp) (es ++ hs) key v)) h.0

@@ -1,6 +1,6 @@
 -- A map's frame where the map opens, at a name, where a tree is closed, and where the map ends.
-use Rattle.std.proofs.Common.{◌≡◌, ℕ, ◌<◌, true, List, [], ◌∷◌, ◌++◌, length, map, append-nil, refl, sym, ap, ◌∙◌, subst, subst₂}
-use Rattle.std.specs.Prelude.{Option, Some, None, Ok, Err}
+use Rattle.std.proofs.Common.{◌≡◌, ℕ, ◌<◌, List, [], ◌∷◌, ◌++◌, length, append-nil, refl, sym, ap, ◌∙◌, subst, subst₂}
+use Rattle.std.specs.Prelude.{Option, Some, None, Err}
 use Rattle.std.specs.List.Sorted.{IsPermutation}
 use Rattle.std.specs.Option.{option_map}
 use Rattle.std.proofs.lemmas.List.{map-append}
@@ -11,21 +11,21 @@ use Rattle.sm_tree.specs.Building.{tagged}
 use Rattle.sm_tree.specs.declared.path.Step.TheVariants.{Key}
 use Rattle.sm_shapes.specs.Values.{Val, map_val, entries_of, text_val}
 use Rattle.sm_shapes.specs.Places.{Place, root_place, shape_of, kind_of, constraints_of, sparse_of, key_place, value_place}
-use Rattle.sm_shapes.specs.Broken.{Finder, broken, length_broken, first_broken}
+use Rattle.sm_shapes.specs.Broken.{broken, length_broken, first_broken}
 use Rattle.sm_shapes.specs.Fitting.{finder}
 use Rattle.sm_shapes.specs.InOrder.{Shaped}
-use Rattle.sm_shapes.specs.TableData.{TableData, shape_count, kind_at}
+use Rattle.sm_shapes.specs.TableData.{shape_count, kind_at}
 use Rattle.sm_shapes.specs.declared.fault.FaultKind.{FaultKind}
 use Rattle.sm_shapes.specs.declared.kinds.ShapeKind.TheVariants as kinds
 use Rattle.sm_codec.specs.Convention.{IsConvention}
 use Rattle.sm_codec.specs.Sorts.{a_map}
 use Rattle.sm_codec.specs.Codec.{Codec, sort_at, broken_at, InTable}
 use Rattle.sm_codec.specs.Named.{named, names_of, in_byte_order}
-use Rattle.sm_codec.specs.FaultLists.{FaultAt, here, under, Reading, first_fault, settled}
-use Rattle.sm_codec.specs.Readings.{Child, child_of, named_children_of, key_faults, keyed, entry_reading, pair_faults, pair_values, keys_faults, keys_values, pairs_faults, pairs_values, map_faults, map_reading}
-use Rattle.sm_codec.specs.Decoding.{Outcome, good, bad, KeyFrame, map_frame}
+use Rattle.sm_codec.specs.FaultLists.{FaultAt, here, under, first_fault, settled}
+use Rattle.sm_codec.specs.Readings.{Child, child_of, named_children_of, key_faults, keyed, entry_reading, pair_faults, pair_values, keys_faults, keys_values, pairs_faults, pairs_values, map_reading}
+use Rattle.sm_codec.specs.Decoding.{KeyFrame, map_frame}
 use Rattle.sm_codec.specs.Walk.{pair_level, due_at, opened_at, behind_tags, behind_name, due_within}
-use Rattle.sm_codec.specs.Kept.{AreKept, each_entry, spelled_entries, IsOutcome, HoldsKeys, HoldsPairs, FrameHolds}
+use Rattle.sm_codec.specs.Kept.{AreKept, each_entry, spelled_entries, IsOutcome, HoldsPairs, FrameHolds}
 use Rattle.sm_codec.specs.steps.Arrivals.{Arrival, IsArrival, null_where, read_where, level_with}
 use Rattle.sm_codec.specs.steps.EntrySteps.{entry_comes}
 use Rattle.sm_codec.specs.steps.MapSteps.{JudgesKey, pair_comes, IsKeyed, TakesPair, map_ended, map_end}
@@ -80,7 +80,8 @@ judged c p name shape current first same is judges =
 -- a value's tree
 pub map_takes : (c : Codec) (p : Place) (ms : List (List ℕ × Node)) (name : List ℕ) (us : List ℕ) (n : Node) (first : Option FaultKind)
     → (x : Arrival) (f g : KeyFrame) → IsConvention c.convention
-    → IsArrival (null_where (due_within c (opened_at p) (pair_level ms name us)) n) (read_where c (due_within c (opened_at p) (pair_level ms name us)) n) x
+    → IsArrival (null_where (due_within c (opened_at p) (pair_level ms name us)) n)
+    (read_where c (due_within c (opened_at p) (pair_level ms name us)) n) x
     → JudgesKey (finder c.table c.test) c.table f.shape f.current first
     → TakesPair (sparse_of c.table p) first x f g → FrameHolds c p (pair_level ms name us) (map_frame f)
     → FrameHolds c p (level_with n (pair_level ms name us)) (map_frame g)
@@ -107,7 +108,8 @@ module _ (c : Codec) (p : Place) (ps : List (List ℕ × Child)) where
       let own = pair_faults c p key (named key ps) in
       let first = none_under (Key key) own (none_first (under (Key key) own) (keys_faults c p ps keys) h) in
       let rest = all_entries keys (none_behind (under (Key key) own) (keys_faults c p ps keys) h) in
-      ap (λ es. es ++ spelled_entries c p ps keys) (one_entry key (named key ps) first) ∙ ap (λ es. pair_values c p key (named key ps) ++ es) rest
+      ap (λ es. es ++ spelled_entries c p ps keys) (one_entry key (named key ps) first)
+      ∙ ap (λ es. pair_values c p key (named key ps) ++ es) rest
 
 -- the end of a map by its closed keys
 ends_faulty : (fs : List FaultAt) (g : FaultAt) (more : List FaultAt) (v : Val) → Some g ≡ first_fault fs
@@ -131,8 +133,8 @@ map_outcome c p ps f h = by_fault f.fault refl
     by_fault : (o : Option FaultAt) → f.fault ≡ o → IsOutcome (map_reading c p ps) (map_end (constraints_of c.table p) f)
     by_fault (Some g) e =
         let ks = in_byte_order (names_of ps) in
-        let end = ends_faulty (pairs_faults c p ps) g (here (length_broken (constraints_of c.table p) (length ks))) (map_val (entries_of (pairs_values c p ps)))
-        (sym e ∙ h.1.fault) in
+        let end = ends_faulty (pairs_faults c p ps) g (here (length_broken (constraints_of c.table p) (length ks)))
+        (map_val (entries_of (pairs_values c p ps))) (sym e ∙ h.1.fault) in
         let long = first_broken (length_broken (constraints_of c.table p) (length f.seen)) in
         subst₂ IsOutcome (sym end.1) (sym (ap (λ o. map_ended f.entries o long) e)) (g, end.0, refl, refl)
     by_fault None e =

@@ -1,6 +1,6 @@
 -- A tree that is closed under a key of a map, as the frame takes it: for the first time, or once more.
 use Rattle.std.proofs.Common.{◌≡◌, ◌⊎◌, inl, inr, ℕ, Bool, true, false, cond, MatchBool, List, [], ◌∷◌, ◌++◌, refl, sym, ap, ◌∙◌, subst, subst₂}
-use Rattle.std.specs.Prelude.{Option, Some, None, Ok, Err}
+use Rattle.std.specs.Prelude.{Option, Some, None, Ok}
 use Rattle.std.specs.BTreeMap.{insert_entry}
 use Rattle.std.specs.Cmp.Lexicographic.{slice_cmp}
 use Rattle.std.specs.List.Sorted.{IsPermutation}
@@ -17,16 +17,16 @@ use Rattle.sm_shapes.specs.declared.fault.FaultKind.{FaultKind}
 use Rattle.sm_shapes.specs.declared.fault.FaultKind.TheVariants.{WrongType, Repeated}
 use Rattle.sm_codec.specs.Codec.{Codec, broken_at}
 use Rattle.sm_codec.specs.Named.{named, names_of, in_byte_order}
-use Rattle.sm_codec.specs.FaultLists.{FaultAt, here, under, Reading, first_fault, faults_in}
+use Rattle.sm_codec.specs.FaultLists.{FaultAt, here, under, first_fault, faults_in}
 use Rattle.sm_codec.specs.Readings.{Child, one_here, entry_reading, keyed, key_faults, pair_faults, keys_faults, pairs_faults}
 use Rattle.sm_codec.specs.Decoding.{KeyFrame, map_frame}
-use Rattle.sm_codec.specs.Kept.{AreKept, each_entry, spelled_entries, HoldsKeys, HoldsPairs}
+use Rattle.sm_codec.specs.Kept.{AreKept, each_entry, spelled_entries, HoldsPairs}
 use Rattle.sm_codec.specs.steps.Arrivals.{Arrival, null_comes, value_comes, fault_comes, IsArrival}
 use Rattle.sm_codec.specs.steps.EntrySteps.{entry_comes}
 use Rattle.sm_codec.specs.steps.MapSteps.{at_key, least_at, has_key, pair_comes, TakesKeyFirst, TakesKeyAgain, TakesKey}
 use Rattle.sm_codec.proofs.EntryArrives.{IsEntry, entry_is}
 use Rattle.sm_codec.proofs.KeyOrder.{IsIn, ordered, ordered_is, is_ordered}
-use Rattle.sm_codec.proofs.KeyParts.{KeysAt, placed, not_among, among_these, has_in, in_has, keys_now, nothing_under, something_under, SameUnder, under_key, same_under, faults_joined, entries_joined, faults_same, entries_same, EntriesAt, at_of, at_spelled, each_joined, insert_between, first_at, least_of_keys}
+use Rattle.sm_codec.proofs.KeyParts.{KeysAt, placed, not_among, among_these, has_in, in_has, keys_now, nothing_under, something_under, under_key, same_under, faults_joined, entries_joined, faults_same, entries_same, at_of, at_spelled, each_joined, insert_between, first_at, least_of_keys}
 use Rattle.sm_codec.proofs.MembersKept.{kept_put, kept_grown}
 use Rattle.sm_codec.proofs.NoFaults.{none_first, none_behind}
 
@@ -90,8 +90,18 @@ module _ (c : Codec) (p : Place) (ps : List (List ℕ × Child)) (key : List ℕ
   abbrev qs : List (List ℕ × Child)
   qs = ps ++ (key, child) ∷ []
 
+  abbrev keys : List (List ℕ)
+  keys = in_byte_order (names_of ps)
+
   abbrev all : List (List ℕ)
   all = in_byte_order (names_of qs)
+
+  -- what stands under the key comes to these
+  abbrev own : List Child → List FaultAt
+  own cs = under (Key key) (pair_faults c p key cs)
+
+  abbrev each : List Child → List (List ℕ × Val)
+  each cs = each_entry c p key cs
 
   abbrev low_faults : List FaultAt
   low_faults = keys_faults c p ps before
@@ -108,46 +118,50 @@ module _ (c : Codec) (p : Place) (ps : List (List ℕ × Child)) (key : List ℕ
   abbrev pub Arrived : Type 0
   Arrived = (all ≡ before ++ key ∷ behind) × KeysAt key Greater before × KeysAt key Less behind
 
-  faults_now : (cs : List Child) → Arrived → named key qs ≡ cs
-      → pairs_faults c p qs ≡ low_faults ++ (under (Key key) (pair_faults c p key cs) ++ high_faults)
+  faults_now : (cs : List Child) → Arrived → named key qs ≡ cs → pairs_faults c p qs ≡ low_faults ++ (own cs ++ high_faults)
   faults_now cs a e =
       ap (keys_faults c p qs) a.0 ∙ faults_joined c p qs before (key ∷ behind)
-      ∙ ap (λ fs. fs ++ (under (Key key) (pair_faults c p key (named key qs)) ++ keys_faults c p qs behind)) (faults_same c p ps qs before (same_under key child ps Greater before refl a.1))
-      ∙ ap (λ fs. low_faults ++ (under (Key key) (pair_faults c p key (named key qs)) ++ fs)) (faults_same c p ps qs behind (same_under key child ps Less behind refl a.2))
-      ∙ ap (λ ds. low_faults ++ (under (Key key) (pair_faults c p key ds) ++ high_faults)) e
+      ∙ ap (λ fs. fs ++ (own (named key qs) ++ keys_faults c p qs behind))
+      (faults_same c p ps qs before (same_under key child ps Greater before refl a.1))
+      ∙ ap (λ fs. low_faults ++ (own (named key qs) ++ fs)) (faults_same c p ps qs behind (same_under key child ps Less behind refl a.2))
+      ∙ ap (λ ds. low_faults ++ (own ds ++ high_faults)) e
 
-  entries_now : (cs : List Child) → Arrived → named key qs ≡ cs
-      → spelled_entries c p qs all ≡ low ++ (each_entry c p key cs ++ high)
+  entries_now : (cs : List Child) → Arrived → named key qs ≡ cs → spelled_entries c p qs all ≡ low ++ (each cs ++ high)
   entries_now cs a e =
       ap (spelled_entries c p qs) a.0 ∙ entries_joined c p qs before (key ∷ behind)
-      ∙ ap (λ es. es ++ (each_entry c p key (named key qs) ++ spelled_entries c p qs behind)) (entries_same c p ps qs before (same_under key child ps Greater before refl a.1))
-      ∙ ap (λ es. low ++ (each_entry c p key (named key qs) ++ es)) (entries_same c p ps qs behind (same_under key child ps Less behind refl a.2))
-      ∙ ap (λ ds. low ++ (each_entry c p key ds ++ high)) e
+      ∙ ap (λ es. es ++ (each (named key qs) ++ spelled_entries c p qs behind))
+      (entries_same c p ps qs before (same_under key child ps Greater before refl a.1))
+      ∙ ap (λ es. low ++ (each (named key qs) ++ es)) (entries_same c p ps qs behind (same_under key child ps Less behind refl a.2))
+      ∙ ap (λ ds. low ++ (each ds ++ high)) e
 
   -- what there was, where the key is new, and where it stood
   abbrev pub IsNew : Type 0
-  IsNew = (in_byte_order (names_of ps) ≡ before ++ behind) × (named key ps ≡ [])
+  IsNew = (keys ≡ before ++ behind) × (named key ps ≡ [])
 
   abbrev pub IsOld : Child → List Child → Type 0
-  IsOld b bs = (in_byte_order (names_of ps) ≡ before ++ key ∷ behind) × (named key ps ≡ b ∷ bs)
+  IsOld b bs = (keys ≡ before ++ key ∷ behind) × (named key ps ≡ b ∷ bs)
+
+  abbrev pub IsEither : Type 0
+  IsEither = (keys ≡ before ++ key ∷ behind) ⊎ (keys ≡ before ++ behind)
 
   new_faults : IsNew → pairs_faults c p ps ≡ low_faults ++ high_faults
   new_faults h = ap (keys_faults c p ps) h.0 ∙ faults_joined c p ps before behind
 
-  new_entries : IsNew → spelled_entries c p ps (in_byte_order (names_of ps)) ≡ low ++ high
+  new_entries : IsNew → spelled_entries c p ps keys ≡ low ++ high
   new_entries h = ap (spelled_entries c p ps) h.0 ∙ entries_joined c p ps before behind
 
   one_now : IsNew → named key qs ≡ child ∷ []
   one_now h = under_key key child ps ∙ ap (λ cs. cs ++ child ∷ []) h.1
 
   -- the keys that are seen
-  seen_new : (seen now : List (List ℕ)) → Arrived → IsNew → IsPermutation (key ∷ seen) now
-      → IsPermutation seen (in_byte_order (names_of ps)) → IsPermutation now all
+  seen_new : (seen now : List (List ℕ)) → Arrived → IsNew → IsPermutation (key ∷ seen) now → IsPermutation seen keys
+      → IsPermutation now all
   seen_new seen now a new put old =
       let was = subst (λ ks. IsPermutation seen ks) new.0 old in
       let more = IsPermutation-cons key seen (before ++ behind) was in
       let middle = IsPermutation-sym _ _ (IsPermutation-middle before key behind) in
-      subst (λ ks. IsPermutation now ks) (sym a.0) (IsPermutation-trans _ _ _ (IsPermutation-sym _ _ put) (IsPermutation-trans _ _ _ more middle))
+      subst (λ ks. IsPermutation now ks) (sym a.0)
+      (IsPermutation-trans _ _ _ (IsPermutation-sym _ _ put) (IsPermutation-trans _ _ _ more middle))
 
   -- a value, for the first time
   value_held : (seen now : List (List ℕ)) (v : Val) (fault : Option FaultAt) (entries : List (List ℕ × Val)) → Arrived → IsNew
@@ -172,19 +186,20 @@ module _ (c : Codec) (p : Place) (ps : List (List ℕ × Child)) (key : List ℕ
   never_none : (new : FaultAt) (more : List FaultAt) → pairs_faults c p qs ≡ low_faults ++ ((at_key key new ∷ more) ++ high_faults)
       → pairs_faults c p qs ≡ [] → ⊥
   never_none new more e none =
-      let none_here = none_first (at_key key new ∷ more) high_faults (none_behind low_faults ((at_key key new ∷ more) ++ high_faults) (sym e ∙ none)) in
+      let none_here = none_first (at_key key new ∷ more) high_faults
+      (none_behind low_faults ((at_key key new ∷ more) ++ high_faults) (sym e ∙ none)) in
       clash (at_key key new) more none_here
     where
       clash : (f : FaultAt) (fs : List FaultAt) → f ∷ fs ≡ [] → ⊥
       clash f fs h = cc
 
-  fault_now : (new : FaultAt) (more own : List FaultAt) (fault : Option FaultAt) → Arrived
+  fault_now : (new : FaultAt) (more others : List FaultAt) (fault : Option FaultAt) → Arrived
       → pairs_faults c p qs ≡ low_faults ++ ((at_key key new ∷ more) ++ high_faults)
-      → fault ≡ first_fault (low_faults ++ (under (Key key) own ++ high_faults))
+      → fault ≡ first_fault (low_faults ++ (under (Key key) others ++ high_faults))
       → least_at key new fault ≡ first_fault (pairs_faults c p qs)
-  fault_now new more own fault a e old =
+  fault_now new more others fault a e old =
       ap (least_at key new) old
-      ∙ sym (least_of_keys key new low_faults more own high_faults (first_at c p ps key Greater false before refl a.1)
+      ∙ sym (least_of_keys key new low_faults more others high_faults (first_at c p ps key Greater false before refl a.1)
       (first_at c p ps key Less true behind refl a.2))
       ∙ ap first_fault (sym e)
 
@@ -197,8 +212,8 @@ module _ (c : Codec) (p : Place) (ps : List (List ℕ × Child)) (key : List ℕ
       let more = under (Key key) is.0 in
       let faults : pairs_faults c p qs ≡ low_faults ++ ((at_key key f ∷ more) ++ high_faults) =
       faults_now (child ∷ []) a one ∙ ap (λ fs. low_faults ++ (under (Key key) fs ++ high_faults)) is.1 in
-      let kept = kept_grown (pairs_faults c p ps) (pairs_faults c p qs) entries low [] (each_entry c p key (child ∷ [])) high (never_none f more faults)
-      (subst (λ xs. AreKept (pairs_faults c p ps) entries xs) (new_entries new) h.2) in (
+      let kept = kept_grown (pairs_faults c p ps) (pairs_faults c p qs) entries low [] (each (child ∷ [])) high
+      (never_none f more faults) (subst (λ xs. AreKept (pairs_faults c p ps) entries xs) (new_entries new) h.2) in (
         seen_new seen now a new put h.0,
         fault_now f more [] fault a faults (h.1 ∙ ap first_fault (new_faults new)),
         subst (λ xs. AreKept (pairs_faults c p qs) entries xs) (sym (entries_now (child ∷ []) a one)) kept,
@@ -209,21 +224,20 @@ module _ (c : Codec) (p : Place) (ps : List (List ℕ × Child)) (key : List ℕ
       → IsOld b bs → KeysHeld c p ps seen fault entries → KeysHeld c p qs seen (least_at key ([], Repeated) fault) entries
   again_held seen b bs fault entries a old h =
       let two : named key qs ≡ b ∷ (bs ++ child ∷ []) = under_key key child ps ∙ ap (λ cs. cs ++ child ∷ []) old.1 in
-      let own = pair_faults c p key (b ∷ bs) in
-      let was : pairs_faults c p ps ≡ low_faults ++ (under (Key key) own ++ high_faults) =
+      let was : pairs_faults c p ps ≡ low_faults ++ (own (b ∷ bs) ++ high_faults) =
       ap (keys_faults c p ps) old.0 ∙ faults_joined c p ps before (key ∷ behind)
-      ∙ ap (λ cs. low_faults ++ (under (Key key) (pair_faults c p key cs) ++ high_faults)) old.1 in
+      ∙ ap (λ cs. low_faults ++ (own cs ++ high_faults)) old.1 in
       let faults : pairs_faults c p qs ≡ low_faults ++ ((at_key key ([], Repeated) ∷ []) ++ high_faults) =
       faults_now (b ∷ (bs ++ child ∷ [])) a two ∙ ap (λ fs. low_faults ++ (under (Key key) fs ++ high_faults)) (repeated_by bs) in
-      let stood : spelled_entries c p ps (in_byte_order (names_of ps)) ≡ low ++ (each_entry c p key (b ∷ bs) ++ high) =
+      let stood : spelled_entries c p ps keys ≡ low ++ (each (b ∷ bs) ++ high) =
       ap (spelled_entries c p ps) old.0 ∙ entries_joined c p ps before (key ∷ behind)
-      ∙ ap (λ cs. low ++ (each_entry c p key cs ++ high)) old.1 in
-      let is_now : spelled_entries c p qs all ≡ low ++ ((each_entry c p key (b ∷ bs) ++ each_entry c p key (child ∷ [])) ++ high) =
+      ∙ ap (λ cs. low ++ (each cs ++ high)) old.1 in
+      let is_now : spelled_entries c p qs all ≡ low ++ ((each (b ∷ bs) ++ each (child ∷ [])) ++ high) =
       entries_now (b ∷ (bs ++ child ∷ [])) a two ∙ ap (λ es. low ++ (es ++ high)) (each_joined c p key (b ∷ bs) (child ∷ [])) in
-      let kept = kept_grown (pairs_faults c p ps) (pairs_faults c p qs) entries low (each_entry c p key (b ∷ bs)) (each_entry c p key (child ∷ [])) high
+      let kept = kept_grown (pairs_faults c p ps) (pairs_faults c p qs) entries low (each (b ∷ bs)) (each (child ∷ [])) high
       (never_none ([], Repeated) [] faults) (subst (λ xs. AreKept (pairs_faults c p ps) entries xs) stood h.2) in (
         subst (λ ks. IsPermutation seen ks) (old.0 ∙ sym a.0) h.0,
-        fault_now ([], Repeated) [] own fault a faults (h.1 ∙ ap first_fault was),
+        fault_now ([], Repeated) [] (pair_faults c p key (b ∷ bs)) fault a faults (h.1 ∙ ap first_fault was),
         subst (λ xs. AreKept (pairs_faults c p qs) entries xs) (sym is_now) kept,
       )
     where
@@ -236,9 +250,11 @@ module _ (c : Codec) (p : Place) (ps : List (List ℕ × Child)) (key : List ℕ
       → KeysHeld c p ps f.seen f.fault f.entries → KeysHeld c p qs g.seen g.fault g.entries
   takes_first null_comes f g a new is takes h = absurd is
   takes_first (value_comes v) f g a new is takes h =
-      subst₂ (λ o es. KeysHeld c p qs g.seen o es) (sym takes.2) (sym takes.1) (value_held f.seen g.seen v f.fault f.entries a new is takes.0 h)
+      subst₂ (λ o es. KeysHeld c p qs g.seen o es) (sym takes.2) (sym takes.1)
+      (value_held f.seen g.seen v f.fault f.entries a new is takes.0 h)
   takes_first (fault_comes w) f g a new is takes h =
-      subst₂ (λ o es. KeysHeld c p qs g.seen o es) (sym takes.2) (sym takes.1) (fault_held f.seen g.seen w f.fault f.entries a new is takes.0 h)
+      subst₂ (λ o es. KeysHeld c p qs g.seen o es) (sym takes.2) (sym takes.1)
+      (fault_held f.seen g.seen w f.fault f.entries a new is takes.0 h)
 
   takes_again : (f g : KeyFrame) (b : Child) (bs : List Child) → Arrived → IsOld b bs → TakesKeyAgain key f g
       → KeysHeld c p ps f.seen f.fault f.entries → KeysHeld c p qs g.seen g.fault g.entries
@@ -247,31 +263,28 @@ module _ (c : Codec) (p : Place) (ps : List (List ℕ × Child)) (key : List ℕ
       (subst₂ (λ o es. KeysHeld c p qs f.seen o es) (sym takes.2) (sym takes.1) (again_held f.seen b bs f.fault f.entries a old h))
 
   -- by whether the key is seen
-  seen_is : (seen : List (List ℕ)) → IsPermutation seen (in_byte_order (names_of ps)) → has_key key seen ≡ has_key key (in_byte_order (names_of ps))
-  seen_is seen h = list_any-IsPermutation (λ k. bytes_eq key k) seen (in_byte_order (names_of ps)) h
+  seen_is : (seen : List (List ℕ)) → IsPermutation seen keys → has_key key seen ≡ has_key key keys
+  seen_is seen h = list_any-IsPermutation (λ k. bytes_eq key k) seen keys h
 
-  is_new : Arrived → (IsIn key (in_byte_order (names_of ps)) → ⊥)
-      → ((in_byte_order (names_of ps) ≡ before ++ key ∷ behind) ⊎ (in_byte_order (names_of ps) ≡ before ++ behind)) → IsNew
+  is_new : Arrived → (IsIn key keys → ⊥) → IsEither → IsNew
   is_new a none (inl e) = absurd (none (subst (IsIn key) (sym e) (among_these key before behind)))
   is_new a none (inr e) = (e, nothing_under key ps (λ i. none (is_ordered key (names_of ps) i)))
 
-  is_old : Arrived → IsIn key (in_byte_order (names_of ps))
-      → ((in_byte_order (names_of ps) ≡ before ++ key ∷ behind) ⊎ (in_byte_order (names_of ps) ≡ before ++ behind))
-      → (b : Child) × (bs : List Child) × IsOld b bs
+  is_old : Arrived → IsIn key keys → IsEither → (b : Child) × (bs : List Child) × IsOld b bs
   is_old a there (inl e) =
       let one = something_under key ps (ordered_is key (names_of ps) there) in (one.0, one.1, (e, one.2))
   is_old a there (inr e) = absurd (not_among key before behind a.1 a.2 (subst (IsIn key) e there))
 
-  takes_by : (x : Arrival) (f g : KeyFrame) (b : Bool) → has_key key f.seen ≡ b → Arrived
-      → ((in_byte_order (names_of ps) ≡ before ++ key ∷ behind) ⊎ (in_byte_order (names_of ps) ≡ before ++ behind))
+  takes_by : (x : Arrival) (f g : KeyFrame) (b : Bool) → has_key key f.seen ≡ b → Arrived → IsEither
       → PairIs c p key child x → MatchBool b (TakesKeyAgain key f g) (TakesKeyFirst key x f g)
       → KeysHeld c p ps f.seen f.fault f.entries → KeysHeld c p qs g.seen g.fault g.entries
   takes_by x f g true seen a split is takes h =
-      let there = has_in key (in_byte_order (names_of ps)) (sym (seen_is f.seen h.0) ∙ seen) in
+      let there = has_in key keys (sym (seen_is f.seen h.0) ∙ seen) in
       let old = is_old a there split in
       takes_again f g old.0 old.1 a old.2 takes h
   takes_by x f g false seen a split is takes h =
-      takes_first x f g a (is_new a (λ i. unlike (has_key key f.seen) seen (seen_is f.seen h.0 ∙ in_has key (in_byte_order (names_of ps)) i)) split) is takes h
+      let new = is_new a (λ i. unlike (has_key key f.seen) seen (seen_is f.seen h.0 ∙ in_has key keys i)) split in
+      takes_first x f g a new is takes h
     where
       unlike : (b : Bool) → b ≡ false → b ≡ true → ⊥
       unlike true e g = cc

@@ -8,14 +8,13 @@ ghost use Rattle.sm_shapes.specs.ConstraintView.{constraint_data};
 ghost use Rattle.sm_shapes.specs.Fitting.{finder};
 ghost use Rattle.sm_shapes.specs.InOrder.{Shaped, AreStored};
 ghost use Rattle.sm_shapes.specs.Places.{member_place, kind_of, constraints_of};
-ghost use Rattle.sm_shapes.specs.TableData.{shape_count, member_count, members_at, kind_at};
+ghost use Rattle.sm_shapes.specs.TableData.{shape_count, member_count, kind_at};
 ghost use Rattle.sm_shapes.specs.TableView.{table_data};
 ghost use Rattle.sm_shapes.specs.ValueView.{val_of, entries_view, each_entry_view};
 ghost use Rattle.sm_shapes.specs.Values.{text_val};
 ghost use Rattle.sm_shapes.specs.declared.kinds.ShapeKind.TheVariants.{Map};
 ghost use Rattle.sm_codec.specs.FrameView.{arrival_of, outcome_of, fault_at};
 ghost use Rattle.sm_codec.specs.MapView.{key_frame, held_entry, held_entries};
-ghost use Rattle.sm_codec.specs.steps.EntrySteps.{entry_comes};
 ghost use Rattle.sm_codec.specs.steps.MapSteps.{first_key, at_key, goes_first, has_key, JudgesKey, pair_comes, IsKeyed, KeepsKeyFault, PutsKey, TakesKey, TakesPair, map_end};
 
 use super::entries::as_entry;
