@@ -8,4 +8,5 @@ pub mod Answers
 pub mod Neighbors
 pub mod Walked
 pub mod Followed
+pub mod Laws
 pub mod steps

@@ -1,1 +1,6 @@
 pub mod Reaching
+pub mod Signs
+pub mod Places
+pub mod Resting
+pub mod Standing
+pub mod Reader

@@ -3,10 +3,12 @@
 #![tactic(auto)]
 
 mod follow;
+pub mod laws;
 mod neighbors;
 mod reach;
 mod refusal;
 mod selector;
+mod tokens;
 mod walk;
 
 pub use follow::followed;

@@ -8,7 +8,7 @@ pub enum SelectorRefusal {
     Syntax(u64),
     /// A form of the standard that is not read begins at this place.
     OutOfProfile(u64),
-    /// The allocator refused the memory that the selector needs.
+    /// The allocator refused the memory that the selector needs, or more than 1,000 forms are open in one another.
     NoMemory,
 }
 

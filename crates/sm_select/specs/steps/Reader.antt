@@ -1,0 +1,45 @@
+-- What the parts of the reader of selectors answer.
+use Rattle.std.specs.Prelude.{◌≡◌, ◌⊎◌, ℕ, ◌+◌, false, List, [], ◌∷◌, length, Result, Ok, Err}
+use Rattle.sm_select.specs.Selectors.{Steps}
+use Rattle.sm_select.specs.Tokens.{EndsWhite, begins_run}
+use Rattle.sm_select.specs.SelectorText.{IsRun, IsUnclosed, OtherForm}
+use Rattle.sm_select.specs.declared.refusal.SelectorRefusal.{SelectorRefusal}
+use Rattle.sm_select.specs.declared.refusal.SelectorRefusal.TheVariants.{Syntax, OutOfProfile, NoMemory}
+use Rattle.sm_select.specs.steps.Places.{Place, IsStepping, IsWhole}
+use Rattle.sm_select.specs.steps.Standing.{Passes, StopsAt}
+
+abbrev pub BeginsNoRun : List ℕ → Type 0
+BeginsNoRun [] = Unit {0}
+BeginsNoRun (c ∷ s) = begins_run c ≡ false
+
+-- the run at the start of s, or nothing where none is
+abbrev pub IsRunAt : List ℕ → List ℕ → Type 0
+IsRunAt s run = (BeginsNoRun s × (run ≡ [])) ⊎ ((behind : List ℕ) × IsRun run s behind)
+
+-- the place of what is left, or the length of the text where quoted text has no end there
+abbrev pub IsPlaced : ℕ → List ℕ → SelectorRefusal → Type 0
+IsPlaced len rest (Syntax at) = (IsUnclosed rest × (at ≡ len)) ⊎ ((IsUnclosed rest → ⊥) × (at + length rest ≡ len))
+IsPlaced len rest (OutOfProfile at) = ⊥
+IsPlaced len rest NoMemory = ⊥
+
+-- s leads from a place to one from which nothing leads on, and then this rest stands
+pub record Stuck (p : Place) (s : List ℕ) (q : Place) (rest : List ℕ) : Type 0 where
+  pub passes : Passes p s q rest
+  pub dark : EndsWhite rest
+  pub stops : StopsAt q rest
+
+abbrev pub IsNotWhole : Place → List ℕ → Type 0
+IsNotWhole q rest = rest ≡ [] → (steps : Steps) → IsWhole q steps → ⊥
+
+abbrev pub Refuses : ℕ → Place → List ℕ → SelectorRefusal → Type 0
+Refuses len p s (Syntax at) =
+    (q : Place) × (rest : List ℕ) × Stuck p s q rest × IsNotWhole q rest × (IsStepping q → OtherForm rest → ⊥)
+    × IsPlaced len rest (Syntax at)
+Refuses len p s (OutOfProfile at) =
+    (q : Place) × (rest : List ℕ) × Stuck p s q rest × IsStepping q × OtherForm rest × (at + length rest ≡ len)
+Refuses len p s NoMemory = Unit {0}
+
+-- the text s is read as x from one place to another, and then r is left
+abbrev pub ReadsTo : {A : Type 0} → ℕ → Place → List ℕ → List ℕ → (A → Place) → Result A SelectorRefusal → Type 0
+ReadsTo len p s r next (Ok x) = Passes p s (next x) r
+ReadsTo len p s r next (Err e) = Refuses len p s e
