@@ -17,3 +17,4 @@ pub mod Firsts
 pub mod MixinLinks
 pub mod Contributing
 pub mod MixinEvents
+pub mod EffectiveTables

@@ -3,6 +3,7 @@
 #![tactic(auto)]
 
 mod body;
+mod effective;
 mod events;
 mod firsts;
 mod groups;
