@@ -147,21 +147,30 @@ before_dollar q none (x ∷ xs) h =
     let parts = both_parts (q x) (list_all q xs) h in
     ap (λ b. not b && list_all is_before_dollar xs) (none x parts.0) ∙ before_dollar q none xs parts.1
 
--- the part of an id before its member is the id of a shape
-pub shape_of_id : (id : List ℕ) → IsIdText id → IsShapeId (shape_part id)
-shape_of_id id (i, is) =
+-- what stands before the member of an id is the id of its shape
+pub shape_cut_off : (id : List ℕ) → IsShapeId id → (m : Option (List ℕ)) → shape_part (id ++ member_text m) ≡ id
+shape_cut_off id (i, is, none) m =
     let whole : List ℕ = i.namespace ++ number_sign ∷ i.name in
-    let spelled : id ≡ whole ++ member_text i.member =
-    is.spelled ∙ sym (append_assoc i.namespace (number_sign ∷ i.name) (member_text i.member)) in
+    let spelled : id ≡ whole =
+    is.spelled ∙ ap (λ o. i.namespace ++ number_sign ∷ (i.name ++ member_text o)) none
+    ∙ ap (λ t. i.namespace ++ number_sign ∷ t) (append-nil i.name) in
     let before : list_all is_before_dollar whole ≡ true =
     all_joined is_before_dollar i.namespace (number_sign ∷ i.name)
     (before_dollar is_namespace_byte space_no_dollar i.namespace (namespace_bytes i.namespace is.is_id.namespace))
     (before_dollar is_identifier_byte no_dollar i.name (made_of_bytes i.name is.is_id.name)) in
-    let ends : position_or_len (is_byte dollar) (whole ++ member_text i.member) ≡ length whole =
-    runs_through (is_byte dollar) is_before_dollar not_dollar whole (member_text i.member) before (member_begins i.member) in
-    let cut : shape_part id ≡ whole =
-    ap shape_part spelled ∙ ap (λ n. take n (whole ++ member_text i.member)) ends ∙ front whole (member_text i.member) in
-    subst IsShapeId (sym cut) (spelled_shape i.namespace i.name is.is_id.namespace is.is_id.name)
+    let ends : position_or_len (is_byte dollar) (whole ++ member_text m) ≡ length whole =
+    runs_through (is_byte dollar) is_before_dollar not_dollar whole (member_text m) before (member_begins m) in
+    ap (λ t. shape_part (t ++ member_text m)) spelled ∙ ap (λ n. take n (whole ++ member_text m)) ends ∙ front whole (member_text m)
+    ∙ sym spelled
+
+-- the part of an id before its member is the id of a shape
+pub shape_of_id : (id : List ℕ) → IsIdText id → IsShapeId (shape_part id)
+shape_of_id id (i, is) =
+    let whole : List ℕ = i.namespace ++ number_sign ∷ i.name in
+    let shape : IsShapeId whole = spelled_shape i.namespace i.name is.is_id.namespace is.is_id.name in
+    let spelled : id ≡ whole ++ member_text i.member =
+    is.spelled ∙ sym (append_assoc i.namespace (number_sign ∷ i.name) (member_text i.member)) in
+    subst IsShapeId (sym (ap shape_part spelled ∙ shape_cut_off whole shape i.member)) shape
 
 -- what is used under a name is the id of a shape
 first_used : (b : Bool) (id : List ℕ) (o : Option (List ℕ)) → IsShapeId id → ForSome o IsShapeId

@@ -33,10 +33,10 @@ one_file_or_several files more answer e h = subst (λ said. StatementsComeTo (ma
 some_told : {X : Type 0} (x : X) → None ≡ Some x → ⊥
 some_told x e = subst (λ o. cond (is_some o) ⊥ (Unit {0})) e tt
 
-abbrev IsOfPreludeId : List ℕ → Entry → Type 0
+abbrev pub IsOfPreludeId : List ℕ → Entry → Type 0
 IsOfPreludeId id e = is_prelude_id id ≡ true
 
-prelude_ids : Each IsOfPreludeId (given_entries prelude_shapes)
+pub prelude_ids : Each IsOfPreludeId (given_entries prelude_shapes)
 prelude_ids = (
   refl,
   (
@@ -72,7 +72,7 @@ prelude_ids = (
   ),
 )
 
-none_own : (es : List (List ℕ × Entry)) → Each IsOfPreludeId es → filter is_own es ≡ []
+pub none_own : (es : List (List ℕ × Entry)) → Each IsOfPreludeId es → filter is_own es ≡ []
 none_own [] h = refl
 none_own (e ∷ es) h = ap (λ b. cond (not b) (e ∷ filter is_own es) (filter is_own es)) h.0 ∙ none_own es h.1
 

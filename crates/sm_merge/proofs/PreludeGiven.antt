@@ -42,7 +42,7 @@ or_true true b h = refl
 or_true false b h = h
 
 -- names differ by a test
-stands_by_test : (k : List ℕ) (ks : List (List ℕ)) → StandsAmong k ks → list_any (bytes_eq k) ks ≡ true
+pub stands_by_test : (k : List ℕ) (ks : List (List ℕ)) → StandsAmong k ks → list_any (bytes_eq k) ks ≡ true
 stands_by_test k [] among = absurd among
 stands_by_test k (j ∷ js) (inl same) = ap (λ b. b || list_any (bytes_eq k) js) ((bytes_eq-Decides k j).1 same)
 stands_by_test k (j ∷ js) (inr among) = or_true (bytes_eq k j) (list_any (bytes_eq k) js) (stands_by_test k js among)

@@ -18,3 +18,7 @@ pub mod MixinLinks
 pub mod Contributing
 pub mod MixinEvents
 pub mod EffectiveTables
+pub mod Whole
+pub mod Made
+pub mod SoundStated
+pub mod Verdicts

@@ -105,7 +105,8 @@ fn put_unit(alloc: Global, name: &str, fields: &mut Vec<(Text, Tree)>) -> Result
     put_pair(alloc, name, unit, fields)
 }
 
-fn put_pair(
+/// Puts a copy of the name with its tree behind the pairs that are there.
+pub(crate) fn put_pair(
     alloc: Global,
     name: &str,
     tree: Tree,

@@ -1,0 +1,83 @@
+-- Whether statements are past a limit of shapes or members is told by the names of members alone.
+use Rattle.std.proofs.Common.{◌⊎◌, inl, inr, ℕ, ◌<◌, List, [], ◌∷◌, length, arith}
+use Rattle.std.specs.Global.{Vec}
+use Rattle.std.specs.List.{Any}
+use Rattle.sm_tree.specs.Node.{Node}
+use Rattle.sm_model.specs.Graphs.{Entry, GraphMaps}
+use Rattle.sm_merge.specs.Limits.{IsFirstPast, IsPast, members_in, own_entries}
+use Rattle.sm_merge.specs.Merged.{IsGraphOf}
+use Rattle.sm_merge.specs.Stated.{Stated}
+use Rattle.sm_merge.specs.declared.firsts.NamedTarget.{NamedTarget}
+use Rattle.sm_merge.specs.declared.limit.TheConstants.{SHAPE_LIMIT, MEMBER_LIMIT, ALL_MEMBER_LIMIT}
+use Rattle.sm_merge.specs.declared.limit.LimitKind.{LimitKind}
+use Rattle.sm_merge.specs.declared.limit.LimitKind.TheVariants.{Shapes, Members, AllMembers, Traits}
+use Rattle.sm_merge.specs.declared.parts.BareShape.{BareShape}
+use Rattle.sm_merge.specs.declared.walk.Walk.{Walk}
+use Rattle.sm_merge.specs.steps.EffectiveTables.{AreMembersOf}
+use Rattle.sm_merge.specs.steps.Numbered.{IsMixinWalk}
+use Rattle.sm_merge.specs.steps.ShapeTables.{ids_of}
+use Rattle.sm_merge.proofs.Ats.{sides}
+use Rattle.sm_merge.proofs.GivenCounts.{any_either, any_first, any_later, none_in}
+use Rattle.sm_merge.proofs.SomeEffective.{Must, SomeRows, lengths_of, must, some_effective, thence}
+use Rattle.sm_merge.proofs.WholeCounts.{AreGood, ArePast, IsOfMembers, many_shapes, past_told, told_past}
+
+-- what can be decided, and must be, is
+stable_less : (k n : ℕ) → Must (k < n) → k < n
+stable_less k n h = elim (sides k n) [
+  | inl less ↦ less
+  | inr more ↦ absurd (h (λ less. omega (arith, less, more)))
+]
+
+module _ {X : Type 0} (count : X → ℕ) (limit : ℕ) where
+  abbrev IsAbove : X → Type 0
+  IsAbove x = limit < count x
+
+  known : (xs : List X) → Any IsAbove xs ⊎ (Any IsAbove xs → ⊥)
+  known [] = inr (none_in IsAbove)
+  known (x ∷ xs) = elim (sides limit (count x)) [
+    | inl above ↦ inl (any_first IsAbove x xs above)
+    | inr below ↦ elim (known xs) [
+      | inl later ↦ inl (any_later IsAbove x xs later)
+      | inr none ↦ inr (λ any. elim (any_either IsAbove x xs any) [
+        | inl above ↦ omega (arith, above, below)
+        | inr later ↦ none later
+      ])
+    ]
+  ]
+
+  stable_any : (xs : List X) → Must (Any IsAbove xs) → Any IsAbove xs
+  stable_any xs h = elim (known xs) [
+    | inl any ↦ any
+    | inr none ↦ absurd (h none)
+  ]
+
+stable_past : (kind : LimitKind) → IsOfMembers kind → (g : GraphMaps) → Must (IsPast kind g) → IsPast kind g
+stable_past Shapes of g h = stable_less SHAPE_LIMIT _ h
+stable_past Members of g h = stable_any (λ (e : List ℕ × Entry). members_in e.1) MEMBER_LIMIT (own_entries g) h
+stable_past AllMembers of g h = stable_less ALL_MEMBER_LIMIT _ h
+stable_past Traits of g h = absurd of
+
+module _ (ss : List Stated) (rows : List BareShape) (metadata : List (List ℕ × Node)) (good : AreGood ss rows metadata)
+    (walk : Walk) (walked : IsMixinWalk ss (ids_of rows) walk) (g : GraphMaps) (is : IsGraphOf ss g) where
+  come : Must (SomeRows ss rows)
+  come = some_effective ss rows walk good.shapes walked
+
+  pub shapes_told : SHAPE_LIMIT < length rows → IsFirstPast Shapes g
+  shapes_told past = stable_past Shapes tt g (thence come (λ e. must (many_shapes ss rows metadata good e.0 e.1 past g is)))
+
+  module _ (mss : List (Vec NamedTarget)) (members : AreMembersOf ss rows mss) where
+    is_past : (kind : LimitKind) → IsOfMembers kind → ArePast kind rows mss → IsPast kind g
+    is_past kind of past =
+        stable_past kind of g (thence come (λ e.
+        must (past_told ss rows metadata good e.0 e.1 mss (lengths_of ss rows mss e.0 members e.1) kind past g is)))
+
+    not_past : (kind : LimitKind) → IsOfMembers kind → (ArePast kind rows mss → ⊥) → IsPast kind g → ⊥
+    not_past kind of none past =
+        come (λ e. none (told_past ss rows metadata good e.0 e.1 mss (lengths_of ss rows mss e.0 members e.1) kind of g is past))
+
+    pub members_told : (ArePast Shapes rows mss → ⊥) → ArePast Members rows mss → IsFirstPast Members g
+    members_told few past = (not_past Shapes tt few, is_past Members tt past)
+
+    pub all_members_told : (ArePast Shapes rows mss → ⊥) → (ArePast Members rows mss → ⊥) → ArePast AllMembers rows mss
+        → IsFirstPast AllMembers g
+    all_members_told few short past = (not_past Shapes tt few, not_past Members tt short, is_past AllMembers tt past)
