@@ -19,3 +19,17 @@ mod ReadWords
 mod ReadNames
 mod ReadPaths
 mod Boundaries
+mod MarkedNumbers
+mod ImageNumbers
+mod AlongLinks
+mod NineRelations
+mod LedInGraph
+mod PickedImages
+mod TextsCompared
+mod FilterFacts
+mod PickedIds
+mod SelectorWeight
+mod SelectorViews
+mod Results
+mod StepImages
+mod SelectorLists

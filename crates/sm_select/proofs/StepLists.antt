@@ -51,13 +51,14 @@ no_steps zero a b h = absurd (omega (arith, h.1))
 no_steps (suc n) zero b h = absurd (omega (arith, h.1))
 no_steps (suc n) (suc a) b h = no_steps n a b h
 
--- what holds of one of some links, one link after the other
-cons_cases : (x : Link) (xs : List Link) (y : Link) → Contains (x ∷ xs) y → (x ≡ y) ⊎ Contains xs y
+-- a list's first element, or one of the others
+pub cons_cases : {X : Type 0} (x : X) (xs : List X) (y : X) → Contains (x ∷ xs) y → (x ≡ y) ⊎ Contains xs y
 cons_cases x xs y h = elim (Contains-append_cases (x ∷ []) xs y h) [
   | inl one ↦ elim (Contains-push_cases [] x y one) [ inl none ↦ absurd (omega (arith, none.1)) | inr is ↦ inl is ]
   | inr later ↦ inr later
 ]
 
+-- what holds of one of some links, one link after the other
 pub any_in : (P : Link → Type 0) (ls : List Link) → AnyOf P ls → (l : Link) × Contains ls l × P l
 any_in P [] h = absurd h
 any_in P (l ∷ ls) (inl here) = (l, Contains-append_left (l ∷ []) ls l (Contains-push [] l), here)

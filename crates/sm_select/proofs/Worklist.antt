@@ -165,7 +165,7 @@ spread_begun rows starts n marks found f = record {
   taken = λ i lt b h. absurd (omega (arith, lt));
 }
 
-one_more_step : (rows : List (List ℕ)) (a : ℕ) (between : List ℕ) (k b : ℕ) → StepsBy rows a between k → HasStep rows k b
+pub one_more_step : (rows : List (List ℕ)) (a : ℕ) (between : List ℕ) (k b : ℕ) → StepsBy rows a between k → HasStep rows k b
     → StepsBy rows a (between ++ k ∷ []) b
 one_more_step rows a [] k b h step = (h, step)
 one_more_step rows a (n ∷ more) k b h step = (h.0, one_more_step rows n more k b h.1 step)

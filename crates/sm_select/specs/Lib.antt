@@ -6,7 +6,7 @@ pub mod SelectorText
 pub mod Picks
 pub mod Answers
 pub mod Neighbors
-pub mod Walked
+pub mod Images
 pub mod Followed
 pub mod Laws
 pub mod steps

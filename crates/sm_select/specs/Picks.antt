@@ -1,5 +1,6 @@
 -- Which shapes a selector picks from a start (Smithy 2.0, "Selectors"): its steps lead, one after the other, from a shape to shapes.
-use Rattle.std.specs.Prelude.{◌≡◌, ◌⊎◌, ◌++◌, ◌==◌, ◌||◌, ℕ, Bool, true, false, List, [], ◌∷◌, Option, Some, None, codes}
+use Rattle.std.specs.Prelude.{◌≡◌, ◌⊎◌, ◌++◌, ◌==◌, ◌||◌, ℕ, Bool, true, false, List, [], ◌∷◌, Option, Some, None, codes, cond, map}
+use Rattle.std.specs.Option.{option_and_then}
 use Rattle.std.specs.Fmt.{signed_decimal}
 use Rattle.std.specs.Char.{is_ascii_digit}
 use Rattle.std.specs.List.{Contains, list_all}
@@ -7,8 +8,8 @@ use Rattle.sm_bytes.specs.Ascii.{minus}
 use Rattle.std.specs.FinMap as fin
 use Rattle.std.specs.Str.{str_to_ascii_lowercase}
 use Rattle.sm_ids.specs.IdText.{Id, IdText}
-use Rattle.sm_tree.specs.Node.{Node, Members, null, bool, int, number, text, bytes, tag, opaque, list, object}
-use Rattle.sm_tree.specs.Parts.{tree_named}
+use Rattle.sm_tree.specs.Node.{Node, null, bool, int, number, text, bytes, tag, opaque, list, object}
+use Rattle.sm_tree.specs.Parts.{pairs_in, tree_named}
 use Rattle.sm_model.specs.Graphs.{Entry, shape_entry, member_entry, GraphMaps, traits_in}
 use Rattle.sm_model.specs.PreludeShapes.{is_prelude_id}
 use Rattle.sm_model.specs.Relations.{HasEntry, IsInGraph, IsRelated, IsNeighbor, Reaches}
@@ -32,9 +33,12 @@ IsNamed (Some named) (shape_entry s) = IsTaken named s.kind
 IsNamed (Some named) (member_entry m) = ⊥
 
 -- the value of an object's field, and of a field within it, and so on; of two fields of one name the first is meant
-abbrev pub IsWithin : Node → List (List ℕ) → Node → Type 0
-IsWithin n [] m = m ≡ n
-IsWithin n (key ∷ keys) m = (ms : Members) × (n ≡ object ms) × ((next : Node) × (tree_named key ms ≡ Some next) × IsWithin next keys m)
+abbrev pub value_at_key : List ℕ → Node → Option Node
+value_at_key key n = option_and_then (tree_named key) (pairs_in n)
+
+abbrev pub value_within : List (List ℕ) → Node → Option Node
+value_within [] n = Some n
+value_within (key ∷ keys) n = option_and_then (value_within keys) (value_at_key key n)
 
 -- the value that an attribute has at a shape or member
 abbrev pub HasValue : GraphMaps → List ℕ → Attribute → Node → Type 0
@@ -43,25 +47,25 @@ HasValue g id namespace_of n = (parts : Id) × IdText parts id × (n ≡ text pa
 HasValue g id name_of n = (parts : Id) × IdText parts id × (n ≡ text parts.name)
 HasValue g id member_of n = (parts : Id) × IdText parts id × ((name : List ℕ) × (parts.member ≡ Some name) × (n ≡ text name))
 HasValue g id (trait_of trait keys) n =
-    (e : Entry) × HasEntry g id e × ((value : Node) × (fin.get (traits_in e) trait ≡ Some value) × IsWithin value keys n)
+    (e : Entry) × HasEntry g id e × ((value : Node) × (fin.get (traits_in e) trait ≡ Some value) × (value_within keys value ≡ Some n))
 
 -- the text of a number that is whole has neither a fraction nor an exponent
 abbrev pub is_whole_number : List ℕ → Bool
 is_whole_number t = list_all (λ c. is_ascii_digit c || (c == minus)) t
 
 -- the text of a value that is compared: of a text, a whole number, `true` and `false`
-abbrev pub IsTextOf : List ℕ → Node → Type 0
-IsTextOf t (text u) = t ≡ u
-IsTextOf t (int z) = t ≡ signed_decimal z
-IsTextOf t (bool true) = t ≡ codes "true"
-IsTextOf t (bool false) = t ≡ codes "false"
-IsTextOf t null = ⊥
-IsTextOf t (number u) = (t ≡ u) × (is_whole_number u ≡ true)
-IsTextOf t (bytes u) = ⊥
-IsTextOf t (tag k n) = ⊥
-IsTextOf t (opaque b) = ⊥
-IsTextOf t (list ns) = ⊥
-IsTextOf t (object ms) = ⊥
+abbrev pub compared_text : Node → Option (List ℕ)
+compared_text (text t) = Some t
+compared_text (int z) = Some (signed_decimal z)
+compared_text (bool true) = Some (codes "true")
+compared_text (bool false) = Some (codes "false")
+compared_text (number t) = cond (is_whole_number t) (Some t) None
+compared_text null = None
+compared_text (bytes t) = None
+compared_text (tag k n) = None
+compared_text (opaque b) = None
+compared_text (list ns) = None
+compared_text (object ms) = None
 
 abbrev pub BeginsWith : List ℕ → List ℕ → Type 0
 BeginsWith t value = (more : List ℕ) × (t ≡ value ++ more)
@@ -80,21 +84,22 @@ StandsTo Starts t value = BeginsWith t value
 StandsTo Ends t value = EndsWith t value
 StandsTo HasIn t value = HasWithin t value
 
--- without regard to the case of ASCII, where it doesn't count
+abbrev pub StandsToOne : SelectorOp → List ℕ → List (List ℕ) → Type 0
+StandsToOne op t [] = ⊥
+StandsToOne op t (value ∷ values) = StandsTo op t value ⊎ StandsToOne op t values
+
+-- in lower case, where the case of ASCII doesn't count
 abbrev pub folded : Bool → List ℕ → List ℕ
 folded true t = str_to_ascii_lowercase t
 folded false t = t
 
-abbrev pub StandsToOne : SelectorOp → Bool → List ℕ → List (List ℕ) → Type 0
-StandsToOne op fold t [] = ⊥
-StandsToOne op fold t (value ∷ values) = StandsTo op (folded fold t) (folded fold value) ⊎ StandsToOne op fold t values
-
-pub record Compares (g : GraphMaps) (id : List ℕ) (of : Attribute) (op : SelectorOp) (values : List (List ℕ)) (fold : Bool) : Type 0 where
+-- the text that a path's value shows stands so to one of these values, which are folded
+pub record Compares (g : GraphMaps) (id : List ℕ) (of : Attribute) (op : SelectorOp) (fold : Bool) (values : List (List ℕ)) : Type 0 where
   pub value : Node
   pub has_value : HasValue g id of value
   pub shown : List ℕ
-  pub shows : IsTextOf shown value
-  pub one : StandsToOne op fold shown values
+  pub shows : compared_text value ≡ Some shown
+  pub one : StandsToOne op (folded fold shown) values
 
 abbrev pub LeadsAlong : GraphMaps → List Relation → List ℕ → List ℕ → Type 0
 LeadsAlong g relations from to = (relation : Relation) × Contains relations relation × IsRelated relation g from to
@@ -108,7 +113,7 @@ abbrev mutual
   Goes g any_shape from to = to ≡ from
   Goes g (of_kind named) from to = Keeps ((e : Entry) × HasEntry g from e × IsNamed named e) from to
   Goes g (has attribute) from to = Keeps ((n : Node) × HasValue g from attribute n) from to
-  Goes g (compares attribute op values fold) from to = Keeps (Compares g from attribute op values fold) from to
+  Goes g (compares attribute op values fold) from to = Keeps (Compares g from attribute op fold (map (folded fold) values)) from to
   Goes g forward from to = IsNeighbor g from to
   Goes g back from to = IsNeighbor g to from
   Goes g walk from to = Reaches g from to

@@ -4,3 +4,5 @@ pub mod Places
 pub mod Resting
 pub mod Standing
 pub mod Reader
+pub mod Imaging
+pub mod Filtering

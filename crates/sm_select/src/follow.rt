@@ -19,7 +19,8 @@ pub fn followed(
     starts: &[bool],
 ) -> Result<Vec<bool>, NoMemory>
     requires { AreBelow (length starts.now) links.now }
-    ensures { IfOk result (λ marks. AreFollowed links.now relations.now back starts.now marks.items) }
+    ensures count { IfOk result (λ marks. length marks.items ≡ length starts.now) }
+    ensures marked { IfOk result (λ marks. AreFollowed links.now relations.now back starts.now marks.items) }
 {
     let mut marks = no_marks(alloc, starts.len())?;
     for link in links {

@@ -2,18 +2,26 @@
 // asked of a graph.
 #![tactic(auto)]
 
+mod compare;
+mod filters;
 mod follow;
+mod images;
 pub mod laws;
+mod marks;
 mod neighbors;
 mod reach;
 mod refusal;
+mod selecting;
 mod selector;
 mod tokens;
+mod values;
 mod walk;
+mod ways;
 
 pub use follow::followed;
 pub use neighbors::{Neighbors, Row};
 pub use reach::reached;
 pub use refusal::SelectorRefusal;
+pub use selecting::select;
 pub use selector::{Relations, Selector, SelectorOp, SelectorPath, SelectorStep, Selectors, Texts};
 pub use walk::walked;

@@ -14,7 +14,8 @@ pub fn reached(alloc: Global, neighbors: &Neighbors, starts: &[bool]) -> Result<
     requires count { length starts.now ≡ length neighbors.now }
     requires few { length neighbors.now < 2 ^ 32 }
     requires below { StayBelow (length neighbors.now) neighbors.now }
-    ensures { IfOk result (λ marks. AreReached neighbors.now starts.now marks.items) }
+    ensures count { IfOk result (λ marks. length marks.items ≡ length neighbors.now) }
+    ensures marked { IfOk result (λ marks. AreReached neighbors.now starts.now marks.items) }
 {
     let mut marks = no_marks(alloc, starts.len())?;
     let mut found = Vec::new(alloc);
@@ -134,7 +135,8 @@ fn spread(
     requires below { StayBelow (length neighbors.now) neighbors.now }
     requires are { AreFound marks.old.items found.old.items }
     requires begun { Spreads neighbors.now starts.now 0 found.old.items }
-    ensures { OnOk result (AreReached neighbors.now starts.now marks.new.items) }
+    ensures count { OnOk result (length marks.new.items ≡ length neighbors.now) }
+    ensures marked { OnOk result (AreReached neighbors.now starts.now marks.new.items) }
 {
     for at in 0..marks.len() {
         if at >= found.len() {

@@ -36,8 +36,8 @@ loop-link-preserved c =
           next at.invariant.ends);
     }
 
-pub returns : goal.returns
-returns c =
+pub returns-clause-marked : goal.returns-clause-marked
+returns-clause-marked c =
     let at = c.loop-link in
     let ls = c.args.links.now in
     let rs = c.args.relations.now in

@@ -5,8 +5,8 @@ use Rattle.sm_select.proofs.StepLists.{any_default}
 use Rattle.sm_select.proofs.Worklist.{found_within, spread_ended, spread_more}
 use Rattle.sm_select.proofs.reach.spread.Goals as goal
 
-pub returns-then-at-len : goal.returns-then-at-len
-returns-then-at-len c =
+pub returns-then-at-len-clause-marked : goal.returns-then-at-len-clause-marked
+returns-then-at-len-clause-marked c =
     let at = c.loop-at in
     let all : length at.found.items ≤ at.at = omega (arith, c.len.ensures, c.if-at-len.true) in
     spread_ended c.args.neighbors.now c.args.starts.now at.at at.marks.items at.found.items all at.invariant.are at.invariant.spreads
@@ -33,8 +33,8 @@ loop-at-preserved c =
           at.invariant.spreads finds;
     }
 
-pub returns : goal.returns
-returns c =
+pub returns-clause-marked : goal.returns-clause-marked
+returns-clause-marked c =
     let at = c.loop-at in
     let all : length at.found.items ≤ at.at =
     omega (arith, c.len-at-end.ensures, c.loop-at-test.false, at.invariant.are.few, at.invariant.count, c.requires.marks) in

@@ -1,0 +1,42 @@
+-- What the parts of `select` promise each other: what is looked up once for all steps, and the numbers from which something is picked.
+use Rattle.std.specs.Prelude.{◌≡◌, ◌↔◌, ℕ, Bool, true, false, List, [], ◌∷◌, length}
+use Rattle.sm_model.specs.GraphView.{IsShapeNumber, entries_of, maps_of}
+use Rattle.sm_model.specs.Links.{AreLinks}
+use Rattle.sm_model.specs.Relations.{IsNeighbor}
+use Rattle.sm_model.specs.declared.graph.Graph.{Graph}
+use Rattle.sm_select.specs.Images.{AreImage, AreMarks, IsImage, id_of_number, turned}
+use Rattle.sm_select.specs.Neighbors.{HasStep}
+use Rattle.sm_select.specs.Picks.{Picks}
+use Rattle.sm_select.specs.Selectors.{Steps}
+use Rattle.sm_select.specs.declared.ways.Ways.{Ways}
+
+-- these lists are the steps between the numbers of the graph, or with `back` those against their direction
+pub record AreSteps (g : Graph) (back : Bool) (rows : List (List ℕ)) : Type 0 where
+  pub whole : length rows ≡ length (entries_of g)
+  pub steps : (a b : ℕ) → HasStep rows a b
+      ↔ (IsShapeNumber g a × IsShapeNumber g b × turned back (IsNeighbor (maps_of g)) (id_of_number g a) (id_of_number g b))
+
+-- it leads to the number of a shape from a marked one
+abbrev pub IsInImage : Graph → List Bool → (List ℕ → List ℕ → Type 0) → ℕ → Type 0
+IsInImage g starts Leads k = IsShapeNumber g k × IsImage g starts Leads k
+
+-- whatever the rest of some steps leads to from these marks is what all lead to from the starts
+abbrev pub LeadsOn : Graph → List Bool → List Bool → Steps → Steps → Type 0
+LeadsOn g starts marks rest all =
+    (final : List Bool) → AreImage g marks (Picks (maps_of g) rest) final → AreImage g starts (Picks (maps_of g) all) final
+
+-- exactly the numbers are marked from which it leads somewhere
+abbrev pub ArePicking : Graph → (List ℕ → List ℕ → Type 0) → List Bool → Type 0
+ArePicking g Leads marks = AreMarks (length (entries_of g)) (λ k. (other : List ℕ) × Leads (id_of_number g k) other) marks
+
+-- the ids that are marked
+abbrev pub marked_ids : List Bool → List (List ℕ) → List (List ℕ)
+marked_ids [] ids = []
+marked_ids (m ∷ ms) [] = []
+marked_ids (true ∷ ms) (id ∷ ids) = id ∷ marked_ids ms ids
+marked_ids (false ∷ ms) (id ∷ ids) = marked_ids ms ids
+
+pub record AreWays (g : Graph) (ways : Ways) : Type 0 where
+  pub are_links : AreLinks g ways.links.items
+  pub are_on : AreSteps g false ways.on
+  pub are_back : AreSteps g true ways.back
