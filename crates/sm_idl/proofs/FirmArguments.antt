@@ -7,13 +7,14 @@ use Rattle.sm_idl.specs.Nodes.{Home, pair_of, as_object, object_of, list_of, nod
 use Rattle.sm_idl.specs.Traits.{pairs_or_node, arguments}
 use Rattle.sm_tree.specs.Limits.{most_levels}
 use Rattle.sm_idl.specs.steps.ReaderView.{NoToken}
-use Rattle.sm_idl.specs.steps.Firm.{Class, HeadIs, Takes, IsFirm}
+use Rattle.sm_idl.specs.steps.Classes.{Either, AMark, NoMark, NodeStart, PairGoesOn}
+use Rattle.sm_idl.specs.steps.Firm.{HeadIs, Takes, IsFirm}
 use Rattle.sm_idl.proofs.TokenLists.{no_tokens, tails, head_moved, head_wider}
 use Rattle.sm_idl.proofs.FirmParts.{firm_wider}
-use Rattle.sm_idl.proofs.FirmEach.{Either, head_left, head_right, firm_maybe, starts}
+use Rattle.sm_idl.proofs.FirmEach.{head_left, head_right, firm_maybe, starts}
 use Rattle.sm_idl.proofs.FirmShort.{then_firm, given_firm, tail_firm, front_firm, row_firm}
-use Rattle.sm_idl.proofs.TokenClasses.{AMark, NoMark, marks_unlike, mark_no_leaf, turned, either_apart}
-use Rattle.sm_idl.proofs.FirmNodes.{mark_firm, NodeStart, node_firm, node_apart, pair_firm, object_firm, list_firm}
+use Rattle.sm_idl.proofs.TokenClasses.{marks_unlike, mark_no_leaf, turned, either_apart}
+use Rattle.sm_idl.proofs.FirmNodes.{mark_firm, node_firm, node_apart, pair_firm, object_firm, list_firm}
 
 -- pair+
 abbrev pub some_pairs : Production Raw → Production Raw
@@ -30,7 +31,7 @@ some_pairs_firm value v =
     (row_firm (pair_of value) (first ∷ []) (pair_firm NodeStart value v))) (λ t n a. n))
 
 -- where a word or a string comes first, a node is this token
-one_token_node : (home : Option Home) (levels : ℕ) (n : Raw) (t : Spaced) (s r : Tokens) → NoMark t
+pub one_token_node : (home : Option Home) (levels : ℕ) (n : Raw) (t : Spaced) (s r : Tokens) → NoMark t
     → (node home levels).whole n (t ∷ s) r → s ≡ r
 unfolding node
 one_token_node home zero n t s r plain (u, e, h) = tails t u s r e
@@ -44,7 +45,7 @@ one_token_node home (suc levels) n t s r plain (inr (inr h)) =
     (node_apart (codes "]") (marks_unlike (codes "{") (codes "]") refl) (marks_unlike (codes "[") (codes "]") refl))) n (t ∷ s) r h) plain)
 
 -- and none is begun
-no_node_begun : (home : Option Home) (levels : ℕ) (t : Spaced) (s : Tokens) → NoMark t → (node home levels).begun (t ∷ s) → ⊥
+pub no_node_begun : (home : Option Home) (levels : ℕ) (t : Spaced) (s : Tokens) → NoMark t → (node home levels).begun (t ∷ s) → ⊥
 unfolding node
 no_node_begun home zero t s plain e = no_tokens t s (sym e)
 no_node_begun home (suc levels) t s plain (inl e) = no_tokens t s (sym e)
@@ -61,12 +62,12 @@ no_node_begun home (suc levels) t s plain (inr (inr h)) =
     ]
 
 -- behind the name of a pair comes a colon, if anything
-colon_behind : (value : Production Raw) (n : Raw) (t : Spaced) (s r : Tokens) → (some_pairs value).whole n (t ∷ s) r
+pub colon_behind : (value : Production Raw) (n : Raw) (t : Spaced) (s r : Tokens) → (some_pairs value).whole n (t ∷ s) r
     → HeadIs (AMark (codes ":")) s
 colon_behind value n t s r (first, s1, (k, s2, (u, e, h), (_, s3, (c, f, g), more)), behind) =
     head_moved (AMark (codes ":")) s2 s (sym (tails t u s s2 e)) (subst (HeadIs (AMark (codes ":"))) (sym f) g)
 
-colon_begun : (value : Production Raw) (t : Spaced) (s : Tokens) → (some_pairs value).begun (t ∷ s)
+pub colon_begun : (value : Production Raw) (t : Spaced) (s : Tokens) → (some_pairs value).begun (t ∷ s)
     → (s ≡ []) ⊎ HeadIs (AMark (codes ":")) s
 colon_begun value t s (inl (inl e)) = absurd (no_tokens t s (sym e))
 colon_begun value t s (inl (inr (k, s2, (u, e, h), inl f))) = inl (tails t u s s2 e ∙ f)
@@ -75,31 +76,24 @@ colon_begun value t s (inl (inr (k, s2, (u, e, h), inr (_, s3, (c, f, g), more))
 colon_begun value t s (inr (first, s1, (k, s2, (u, e, h), (_, s3, (c, f, g), more)), behind)) =
     inr (head_moved (AMark (codes ":")) s2 s (sym (tails t u s s2 e)) (subst (HeadIs (AMark (codes ":"))) (sym f) g))
 
--- what comes behind a node that might have been a pair's name
-abbrev pub PairGoesOn : Class
-PairGoesOn = Either (AMark (codes ":")) NoMark
-
 module _ (home : Option Home) (levels : ℕ) where
-  value : Production Raw
+  abbrev value : Production Raw
   value = node home levels
 
   value_firm : IsFirm ⊥ NodeStart NoToken value
-  unfolding value
   value_firm = node_firm home levels
 
   pairs_first : (n : Raw) (s r : Tokens) → (some_pairs value).whole n s r → HeadIs NoMark s
   pairs_first n s r h = starts NoMark NoMark (some_pairs value) (some_pairs_firm value value_firm) n s r h
 
   -- a node and pairs of the same tokens: a colon stands behind the node
-  both_ways : (m n : Raw) (s r w : Tokens) → (some_pairs value).whole m s r → value.whole n s w → HeadIs PairGoesOn w
-  unfolding value
+  pub both_ways : (m n : Raw) (s r w : Tokens) → (some_pairs value).whole m s r → value.whole n s w → HeadIs PairGoesOn w
   both_ways m n [] r w h k = absurd (pairs_first m [] r h)
   both_ways m n (t ∷ s) r w h k =
       head_left (AMark (codes ":")) NoMark w (head_moved (AMark (codes ":")) s w
       (one_token_node home levels n t s w (pairs_first m (t ∷ s) r h) k) (colon_behind value m t s r h))
 
   node_and_cut_pairs : (n : Raw) (s w : Tokens) → value.whole n s w → (some_pairs value).begun s → (w ≡ []) ⊎ HeadIs PairGoesOn w
-  unfolding value
   node_and_cut_pairs n [] w h k = absurd (starts NodeStart NoToken value value_firm n [] w h)
   node_and_cut_pairs n (t ∷ s) w h k = elim ((some_pairs_firm value value_firm).head_cut (t ∷ s) k) [
     | inl e ↦ absurd (no_tokens t s (sym e))
@@ -109,8 +103,7 @@ module _ (home : Option Home) (levels : ℕ) where
     ])
   ]
 
-  pairs_and_cut_node : (n : Raw) (s r : Tokens) → (some_pairs value).whole n s r → value.begun s → ⊥
-  unfolding value
+  pub pairs_and_cut_node : (n : Raw) (s r : Tokens) → (some_pairs value).whole n s r → value.begun s → ⊥
   pairs_and_cut_node n [] r h k = pairs_first n [] r h
   pairs_and_cut_node n (t ∷ s) r h k = no_node_begun home levels t s (pairs_first n (t ∷ s) r h) k
 
@@ -170,8 +163,11 @@ module _ (home : Option Home) (levels : ℕ) where
   pn_prefix x a t b (inl h) = inl ((some_pairs_firm value value_firm).prefix x a t b h)
   pn_prefix x a t b (inr h) = inr (value_firm.prefix x a t b h)
 
+  pn_closed : (a : Tokens) (t : Spaced) (b : Tokens) → (some_pairs value or value).begun (a ++ t ∷ b) → (some_pairs value or value).begun a
+  pn_closed a t b (inl h) = inl ((some_pairs_firm value value_firm).closed a t b h)
+  pn_closed a t b (inr h) = inr (value_firm.closed a t b h)
+
   pub pairs_or_node_firm : IsFirm ⊥ NodeStart PairGoesOn (some_pairs (node home levels) or node home levels)
-  unfolding value
   pairs_or_node_firm = record {
     empty = inr value_firm.empty;
     takes = pn_takes;
@@ -180,6 +176,7 @@ module _ (home : Option Home) (levels : ℕ) where
     single = pn_single;
     cut = pn_cut;
     prefix = pn_prefix;
+    closed = pn_closed;
   }
 
 pub arguments_firm : (home : Home) → IsFirm ⊥ (AMark (codes "(")) NoToken (arguments home)

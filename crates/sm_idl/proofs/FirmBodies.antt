@@ -17,17 +17,18 @@ use Rattle.sm_idl.specs.Bodies.{Controls, input_suffix, output_suffix, PartSaid,
 use Rattle.sm_idl.specs.Bodies.{inline_with, part_inline, part_shape, part_errors, part, reference, references, braced_pairs}
 use Rattle.sm_idl.specs.Bodies.{TextSays, text_node, new_name, renaming, field_value, FieldNamed, property}
 use Rattle.sm_idl.specs.steps.ReaderView.{NoToken}
+use Rattle.sm_idl.specs.steps.Classes.{Either, AMark, AWord, AnyWord, NoMark, At, TraitGoesOn, Brace, With}
 use Rattle.sm_idl.specs.steps.Firm.{Class, AreApart, IsFirm}
 use Rattle.sm_idl.proofs.FirmParts.{firm_wider}
-use Rattle.sm_idl.proofs.FirmEach.{Either, firm_or}
+use Rattle.sm_idl.proofs.FirmEach.{firm_or}
 use Rattle.sm_idl.proofs.FirmShort.{AnyToken, token_firm, then_firm, given_firm, front_firm, row_firm}
-use Rattle.sm_idl.proofs.TokenClasses.{AMark, AWord, AnyWord, NoMark, marks_unlike, words_unlike, mark_no_word, mark_no_leaf}
+use Rattle.sm_idl.proofs.TokenClasses.{marks_unlike, words_unlike, mark_no_word, mark_no_leaf}
 use Rattle.sm_idl.proofs.TokenClasses.{turned, apart_either, either_apart}
 use Rattle.sm_idl.proofs.OneSaying.{one_word, one_string, one_block, one_key, word_no_text, word_no_block, text_no_block}
 use Rattle.sm_idl.proofs.FirmNodes.{mark_firm, pair_firm, key_no_mark}
 use Rattle.sm_idl.proofs.FirmDocumented.{documented_firm}
-use Rattle.sm_idl.proofs.FirmTraits.{word_firm, TraitGoesOn, traits_firm, At}
-use Rattle.sm_idl.proofs.FirmMembers.{Brace, With, members_firm, field_firm, mixins_firm}
+use Rattle.sm_idl.proofs.FirmTraits.{word_firm, traits_firm}
+use Rattle.sm_idl.proofs.FirmMembers.{members_firm, field_firm, mixins_firm}
 
 part_word_firm : (name : List ℕ) (before : List PartSaid) → IsFirm ⊥ (AWord name) NoToken (part_word name before)
 part_word_firm name before = token_firm (λ t _. IsWord name t × IsNew name (part_names before)) (AWord name) (λ t x y h k. refl)

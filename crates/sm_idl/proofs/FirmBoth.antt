@@ -1,6 +1,6 @@
 -- One production behind the other, each read from the front, is read from the front: the first must not go on with a token that
 -- begins the second.
-use Rattle.std.proofs.Common.{◌≡◌, ◌⊎◌, inl, inr, [], ◌∷◌, ◌++◌, refl, sym, ap, subst, ◌∙◌, append_assoc}
+use Rattle.std.proofs.Common.{◌≡◌, ◌⊎◌, inl, inr, [], ◌∷◌, ◌++◌, sym, ap, subst, ◌∙◌, append_assoc, append-nil}
 use Rattle.sm_idl.specs.Productions.{Spaced, Tokens, Production, ◌>>=◌}
 use Rattle.sm_idl.specs.steps.Firm.{Class, HeadIs, AreApart, Takes, IsFirm}
 use Rattle.sm_idl.proofs.TokenLists.{head_apart, head_moved, no_front, both_none, beyond, within, cuts}
@@ -105,7 +105,7 @@ module _ {X Y : Type 0} (E F : Type 0) (A B G H : Class) (P : Production X) (Q :
   both_prefix y a t b (x, v, h, k) =
       let m = p.takes x (a ++ t ∷ b) v h in
       elim (cuts a t b m.taken v m.cut) [
-        | beyond d e f ↦ inl (p.prefix x a t d (subst (λ w. P.whole x w []) (append_nil m.taken ∙ e) (m.spells [])))
+        | beyond d e f ↦ inl (p.prefix x a t d (subst (λ w. P.whole x w []) (append-nil m.taken ∙ e) (m.spells [])))
         | within d e f ↦ inr (
           x,
           d,
@@ -113,10 +113,20 @@ module _ {X Y : Type 0} (E F : Type 0) (A B G H : Class) (P : Production X) (Q :
           (q x).prefix y d t b (subst (λ w. (Q x).whole y w []) f k),
         )
       ]
-    where
-      append_nil : (l : Tokens) → l ++ [] ≡ l
-      append_nil [] = refl
-      append_nil (u ∷ l) = ap (λ w. u ∷ w) (append_nil l)
+
+  both_closed : (a : Tokens) (t : Spaced) (b : Tokens) → (P >>= Q).begun (a ++ t ∷ b) → (P >>= Q).begun a
+  both_closed a t b (inl h) = inl (p.closed a t b h)
+  both_closed a t b (inr (x, v, h, k)) =
+      let m = p.takes x (a ++ t ∷ b) v h in
+      elim (cuts a t b m.taken v m.cut) [
+        | beyond d e f ↦ inl (p.prefix x a t d (subst (λ w. P.whole x w []) (append-nil m.taken ∙ e) (m.spells [])))
+        | within d e f ↦ inr (
+          x,
+          d,
+          subst (λ w. P.whole x w d) (sym e) (m.spells d),
+          (q x).closed d t b (subst (λ w. (Q x).begun w) f k),
+        )
+      ]
 
   pub firm_both : IsFirm (E × F) (StartsBoth E A B) (GoesOnBoth F G H) (P >>= Q)
   firm_both = record {
@@ -127,4 +137,5 @@ module _ {X Y : Type 0} (E F : Type 0) (A B G H : Class) (P : Production X) (Q :
     single = both_single;
     cut = both_cut;
     prefix = both_prefix;
+    closed = both_closed;
   }

@@ -6,11 +6,11 @@ use Rattle.sm_idl.specs.Productions.{Spaced, Tokens, Production}
 use Rattle.sm_idl.specs.Traits.{DocsBefore, docs_trait, documented}
 use Rattle.sm_idl.specs.steps.Firm.{Class, HeadIs, Takes, IsFirm}
 
-same_docs : (s : Tokens) (d e : Option (List ℕ)) → DocsBefore s d → DocsBefore s e → d ≡ e
+pub same_docs : (s : Tokens) (d e : Option (List ℕ)) → DocsBefore s d → DocsBefore s e → d ≡ e
 same_docs [] d e h k = h ∙ sym k
 same_docs (t ∷ s) d e h k = one_documentation t.space d e h k
 
-docs_stay : (d : Option (List ℕ)) (a r q : Tokens) → (a ≡ [] → ⊥) → DocsBefore (a ++ r) d → DocsBefore (a ++ q) d
+pub docs_stay : (d : Option (List ℕ)) (a r q : Tokens) → (a ≡ [] → ⊥) → DocsBefore (a ++ r) d → DocsBefore (a ++ q) d
 docs_stay d [] r q n h = absurd (n refl)
 docs_stay d (t ∷ a) r q n h = h
 
@@ -38,6 +38,10 @@ module _ {X : Type 0} (A G : Class) (P : List TraitSaid → Production X) (p : (
   documented_prefix x [] t b h = (None, refl, (p (docs_trait None)).empty)
   documented_prefix x (u ∷ a) t b (d, h, k) = (d, h, (p (docs_trait d)).prefix x (u ∷ a) t b k)
 
+  documented_closed : (a : Tokens) (t : Spaced) (b : Tokens) → (documented P).begun (a ++ t ∷ b) → (documented P).begun a
+  documented_closed [] t b h = (None, refl, (p (docs_trait None)).empty)
+  documented_closed (u ∷ a) t b (d, h, k) = (d, h, (p (docs_trait d)).closed (u ∷ a) t b k)
+
   pub documented_firm : IsFirm ⊥ A G (documented P)
   documented_firm = record {
     empty = (None, refl, (p (docs_trait None)).empty);
@@ -47,4 +51,5 @@ module _ {X : Type 0} (A G : Class) (P : List TraitSaid → Production X) (p : (
     single = documented_single;
     cut = documented_cut;
     prefix = documented_prefix;
+    closed = documented_closed;
   }

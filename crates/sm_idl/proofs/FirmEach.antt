@@ -1,12 +1,9 @@
 -- Either of two, what may be missing, and any number, each read from the front.
 use Rattle.std.proofs.Common.{◌≡◌, ◌⊎◌, inl, inr, [], ◌∷◌, ◌++◌, Option, Some, None, refl, sym, ap, ◌∙◌}
 use Rattle.sm_idl.specs.Productions.{Spaced, Tokens, Production, ◌or◌, maybe, OptionSpells}
+use Rattle.sm_idl.specs.steps.Classes.{Either}
 use Rattle.sm_idl.specs.steps.Firm.{Class, HeadIs, AreApart, Takes, IsFirm}
 use Rattle.sm_idl.proofs.TokenLists.{head_apart, head_moved, ends}
-
--- tokens of one class or the other
-abbrev pub Either : Class → Class → Class
-Either A B t = A t ⊎ B t
 
 pub head_left : (A B : Class) (s : Tokens) → HeadIs A s → HeadIs (Either A B) s
 head_left A B [] h = h
@@ -71,6 +68,10 @@ module _ {X : Type 0} (A B G H : Class) (P Q : Production X) (p : IsFirm ⊥ A G
   or_prefix x a t b (inl h) = inl (p.prefix x a t b h)
   or_prefix x a t b (inr h) = inr (q.prefix x a t b h)
 
+  or_closed : (a : Tokens) (t : Spaced) (b : Tokens) → (P or Q).begun (a ++ t ∷ b) → (P or Q).begun a
+  or_closed a t b (inl h) = inl (p.closed a t b h)
+  or_closed a t b (inr h) = inr (q.closed a t b h)
+
   pub firm_or : IsFirm ⊥ (Either A B) (Either G H) (P or Q)
   firm_or = record {
     empty = inl p.empty;
@@ -80,6 +81,7 @@ module _ {X : Type 0} (A B G H : Class) (P Q : Production X) (p : IsFirm ⊥ A G
     single = or_single;
     cut = or_cut;
     prefix = or_prefix;
+    closed = or_closed;
   }
 
 module _ {X : Type 0} (A G : Class) (P : Production X) (p : IsFirm ⊥ A G P) where
@@ -115,6 +117,10 @@ module _ {X : Type 0} (A G : Class) (P : Production X) (p : IsFirm ⊥ A G P) wh
   maybe_prefix None a t b e = absurd (ends a t b e)
   maybe_prefix (Some x) a t b h = inr (p.prefix x a t b h)
 
+  maybe_closed : (a : Tokens) (t : Spaced) (b : Tokens) → (maybe P).begun (a ++ t ∷ b) → (maybe P).begun a
+  maybe_closed a t b (inl e) = absurd (ends a t b e)
+  maybe_closed a t b (inr h) = inr (p.closed a t b h)
+
   pub firm_maybe : IsFirm (Unit {0}) A (Either A G) (maybe P)
   firm_maybe = record {
     empty = inl refl;
@@ -124,4 +130,5 @@ module _ {X : Type 0} (A G : Class) (P : Production X) (p : IsFirm ⊥ A G P) wh
     single = maybe_single;
     cut = maybe_cut;
     prefix = maybe_prefix;
+    closed = maybe_closed;
   }

@@ -10,12 +10,13 @@ use Rattle.sm_idl.specs.Shapes.{item}
 use Rattle.sm_idl.specs.Idl.{control, metadata, used, home_of, items, section, FileSaid, section_home, section_said}
 use Rattle.sm_idl.specs.Idl.{metadata_statements, file}
 use Rattle.sm_idl.specs.steps.ReaderView.{NoToken}
+use Rattle.sm_idl.specs.steps.Classes.{Either, AMark, AWord, NodeStart}
 use Rattle.sm_idl.specs.steps.Firm.{Class, AreApart, IsFirm}
-use Rattle.sm_idl.proofs.FirmEach.{Either, firm_maybe}
+use Rattle.sm_idl.proofs.FirmEach.{firm_maybe}
 use Rattle.sm_idl.proofs.FirmMany.{firm_each}
 use Rattle.sm_idl.proofs.FirmShort.{then_firm, given_firm, loose_firm, row_firm}
-use Rattle.sm_idl.proofs.TokenClasses.{AMark, AWord, words_unlike, mark_no_word, apart_either}
-use Rattle.sm_idl.proofs.FirmNodes.{mark_firm, key_firm, NodeStart, node_firm, pair_firm}
+use Rattle.sm_idl.proofs.TokenClasses.{words_unlike, mark_no_word, apart_either}
+use Rattle.sm_idl.proofs.FirmNodes.{mark_firm, key_firm, node_firm, pair_firm}
 use Rattle.sm_idl.proofs.FirmTraits.{word_firm, the_word_firm}
 use Rattle.sm_idl.proofs.FirmShapes.{ItemStart, ItemGoesOn, item_firm, item_apart, no_item}
 

@@ -1,9 +1,10 @@
 -- Any number of one production, each read from the front, is read from the front: none must go on with a token that begins one.
 use Rattle.std.proofs.Common.{◌≡◌, ◌⊎◌, inl, inr, List, [], ◌∷◌, ◌++◌, refl, sym, ap, subst, ◌∙◌, append_assoc, append-nil}
 use Rattle.sm_idl.specs.Productions.{Spaced, Tokens, Production, EachSpells, each_behind}
+use Rattle.sm_idl.specs.steps.Classes.{Either}
 use Rattle.sm_idl.specs.steps.Firm.{Class, HeadIs, AreApart, Takes, IsFirm}
 use Rattle.sm_idl.proofs.TokenLists.{head_apart, head_moved, no_front, ends, beyond, within, cuts}
-use Rattle.sm_idl.proofs.FirmEach.{Either, head_left, head_right, starts}
+use Rattle.sm_idl.proofs.FirmEach.{head_left, head_right, starts}
 
 module _ {X : Type 0} (A G : Class) (P : List X → Production X) (p : (before : List X)
     → IsFirm ⊥ A G (P before)) (apart : AreApart G A) where
@@ -37,7 +38,7 @@ module _ {X : Type 0} (A G : Class) (P : List X → Production X) (p : (before :
   many_head_cut before s (x ∷ xs, t, (u, h, k), m) = inr (starts A G (P before) (p before) x s u h)
 
   -- where one would go on, it is the last, and the token stands behind all
-  last_goes_on : (before xs : List X) (t r : Tokens) → HeadIs G t → EachSpells P before xs t r → HeadIs (Either A G) r
+  pub last_goes_on : (before xs : List X) (t r : Tokens) → HeadIs G t → EachSpells P before xs t r → HeadIs (Either A G) r
   last_goes_on before [] t r g e = head_right A G r (head_moved G t r e g)
   last_goes_on before (x ∷ xs) t r g (u, h, k) = absurd (head_apart G A t apart g (starts A G (P before) (p before) x t u h))
 
@@ -62,6 +63,15 @@ module _ {X : Type 0} (A G : Class) (P : List X → Production X) (p : (before :
 
   none_spelled : (before xs : List X) (r : Tokens) → EachSpells P before xs [] r → r ≡ []
   none_spelled before xs r k = let b = many_takes before xs [] r k in no_front b.taken r b.cut
+
+  -- nor is one begun there
+  pub cut_goes_on : (b zs : List X) (q t : Tokens) → HeadIs G q → EachSpells P b zs q t → (t ≡ []) ⊎ (P (b ++ zs)).begun t → ⊥
+  cut_goes_on b [] q t g e (inl f) = head_moved G q [] (e ∙ f) g
+  cut_goes_on b [] q t g e (inr d) = elim ((p (b ++ [])).head_cut t d) [
+    | inl f ↦ head_moved G q [] (e ∙ f) g
+    | inr a ↦ head_apart G A q apart g (head_moved A t q (sym e) a)
+  ]
+  cut_goes_on b (z ∷ zs) q t g (o, h, k) d = head_apart G A q apart g (starts A G (P b) (p b) z q o h)
 
   many_cut : (before xs ys : List X) (s r t : Tokens) → EachSpells P before xs s r → EachSpells P before ys s t
       → (t ≡ []) ⊎ (P (before ++ ys)).begun t → (r ≡ []) ⊎ HeadIs (Either A G) r
@@ -89,14 +99,6 @@ module _ {X : Type 0} (A G : Class) (P : List X → Production X) (p : (before :
         (subst (λ a. EachSpells P (before ++ a ∷ []) xs v r) e.0 (subst (λ a. EachSpells P (before ++ x ∷ []) xs a r) e.1 k)) n
         (elim c [ inl f ↦ inl f | inr d ↦ inr (subst (λ z. (P z).begun t) (sym (append_assoc before (y ∷ []) ys)) d) ])
   ]
-    where
-      cut_goes_on : (b zs : List X) (q t : Tokens) → HeadIs G q → EachSpells P b zs q t → (t ≡ []) ⊎ (P (b ++ zs)).begun t → ⊥
-      cut_goes_on b [] q t g e (inl f) = head_moved G q [] (e ∙ f) g
-      cut_goes_on b [] q t g e (inr d) = elim ((p (b ++ [])).head_cut t d) [
-        | inl f ↦ head_moved G q [] (e ∙ f) g
-        | inr a ↦ head_apart G A q apart g (head_moved A t q (sym e) a)
-      ]
-      cut_goes_on b (z ∷ zs) q t g (o, h, k) d = head_apart G A q apart g (starts A G (P b) (p b) z q o h)
 
   many_prefix : (before xs : List X) (a : Tokens) (t : Spaced) (b : Tokens) → EachSpells P before xs (a ++ t ∷ b) []
       → (each_behind P before).begun a
@@ -119,6 +121,30 @@ module _ {X : Type 0} (A G : Class) (P : List X → Production X) (p : (before :
         ))
       ]
 
+  many_closed : (before xs : List X) (a : Tokens) (t : Spaced) (b v : Tokens) → EachSpells P before xs (a ++ t ∷ b) v
+      → (v ≡ []) ⊎ (P (before ++ xs)).begun v → (each_behind P before).begun a
+  many_closed before [] a t b v e (inl f) = absurd (ends a t b (e ∙ f))
+  many_closed before [] a t b v e (inr h) =
+      ([], a, refl, inr ((p (before ++ [])).closed a t b (subst (λ z. (P (before ++ [])).begun z) (sym e) h)))
+  many_closed before (x ∷ xs) a t b v (u, h, k) c =
+      let m = (p before).takes x (a ++ t ∷ b) u h in
+      elim (cuts a t b m.taken u m.cut) [
+        | beyond d e f ↦ (
+          [],
+          a,
+          refl,
+          inr (subst (λ z. (P z).begun a) (sym (append-nil before))
+              ((p before).prefix x a t d (subst (λ w. (P before).whole x w []) (append-nil m.taken ∙ e) (m.spells [])))),
+        )
+        | within d e f ↦ (let rest = many_closed (before ++ x ∷ []) xs d t b v (subst (λ w. EachSpells P (before ++ x ∷ []) xs w v) f k)
+            (elim c [ inl g ↦ inl g | inr g ↦ inr (subst (λ z. (P z).begun v) (sym (append_assoc before (x ∷ []) xs)) g) ]) in (
+              x ∷ rest.0,
+              rest.1,
+              (d, subst (λ w. (P before).whole x w d) (sym e) (m.spells d), rest.2),
+              elim rest.3 [ inl g ↦ inl g | inr g ↦ inr (subst (λ z. (P z).begun rest.1) (append_assoc before (x ∷ []) rest.0) g) ],
+            ))
+      ]
+
   pub firm_each : (before : List X) → IsFirm (Unit {0}) A (Either A G) (each_behind P before)
   firm_each before = record {
     empty = ([], [], refl, inl refl);
@@ -128,4 +154,5 @@ module _ {X : Type 0} (A G : Class) (P : List X → Production X) (p : (before :
     single = many_single before;
     cut = λ xs s r h k. many_cut before xs k.0 s r k.1 h k.2 k.3;
     prefix = many_prefix before;
+    closed = λ a t b k. many_closed before k.0 a t b k.1 k.2 k.3;
   }

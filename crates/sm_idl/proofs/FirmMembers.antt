@@ -9,18 +9,15 @@ use Rattle.sm_idl.specs.Traits.{node_in, traits}
 use Rattle.sm_idl.specs.Members.{HasMembers, member_name, given_value, enum_member_with, enum_member, member_with, member, field}
 use Rattle.sm_idl.specs.Members.{members, with_mixins, mixins}
 use Rattle.sm_idl.specs.steps.ReaderView.{NoToken}
-use Rattle.sm_idl.specs.steps.Firm.{Class, AreApart, IsFirm}
+use Rattle.sm_idl.specs.steps.Classes.{AMark, AnyWord, TraitGoesOn, Brace, Equals, MemberStart, With}
+use Rattle.sm_idl.specs.steps.Firm.{AreApart, IsFirm}
 use Rattle.sm_idl.proofs.FirmParts.{firm_wider}
-use Rattle.sm_idl.proofs.FirmEach.{Either}
 use Rattle.sm_idl.proofs.FirmMany.{firm_each}
 use Rattle.sm_idl.proofs.FirmShort.{token_firm, then_firm, given_firm, front_firm, row_firm, option_firm}
-use Rattle.sm_idl.proofs.TokenClasses.{AMark, AWord, AnyWord, marks_unlike, mark_no_word, turned, apart_either, either_apart}
+use Rattle.sm_idl.proofs.TokenClasses.{marks_unlike, mark_no_word, turned, apart_either, either_apart}
 use Rattle.sm_idl.proofs.FirmNodes.{mark_firm}
 use Rattle.sm_idl.proofs.FirmDocumented.{documented_firm}
-use Rattle.sm_idl.proofs.FirmTraits.{word_firm, the_word_firm, node_in_firm, At, TraitGoesOn, traits_firm}
-
-abbrev pub Equals : Class
-Equals = AMark (codes "=")
+use Rattle.sm_idl.proofs.FirmTraits.{word_firm, the_word_firm, node_in_firm, traits_firm}
 
 pub value_firm : (home : Home) → IsFirm (Unit {0}) Equals Equals (given_value home)
 value_firm home = option_firm (mark (codes "=") >> node_in home) (then_firm (mark (codes "=")) _ (mark_firm (codes "="))
@@ -28,10 +25,6 @@ value_firm home = option_firm (mark (codes "=") >> node_in home) (then_firm (mar
 
 name_firm : (form : MemberForm) (before : List MemberSaid) → IsFirm ⊥ AnyWord NoToken (member_name form before)
 name_firm form before = word_firm _
-
--- what begins a member, and what goes on behind its traits
-abbrev pub MemberStart : Class
-MemberStart = Either At AnyWord
 
 pub traits_no_word : AreApart TraitGoesOn AnyWord
 traits_no_word = either_apart _ _ _ (mark_no_word (codes "@")) (mark_no_word (codes "("))
@@ -58,9 +51,6 @@ equals_no_member = apart_either _ _ _ (marks_unlike (codes "=") (codes "@") refl
 closing_firm : (m : List ℕ) (Holds : Type 0) → IsFirm ⊥ (AMark m) NoToken (mark_where m Holds)
 closing_firm m Holds = token_firm (λ t _. IsMark m t × Holds) (AMark m) (λ t x y h k. refl) (λ t x h. h.0)
 
-abbrev pub Brace : Class
-Brace = AMark (codes "{")
-
 pub members_firm : (form : MemberForm) (P : List MemberSaid → Production MemberSaid) → ((before : List MemberSaid)
     → IsFirm ⊥ MemberStart Equals (P before))
     → IsFirm ⊥ Brace NoToken (members form P)
@@ -75,13 +65,12 @@ members_firm form P p =
 pub plain_firm : (home : Home) (form : MemberForm) (before : List MemberSaid) → IsFirm ⊥ MemberStart Equals (member home form before)
 plain_firm home form before = firm_wider (λ e. e) (λ t a. a) (λ t n. absurd n) (member_firm home form before)
 
-abbrev pub With : Class
-With = AWord (codes "with")
-
-pub mixins_firm : (home : Home) → IsFirm (Unit {0}) With With (mixins home)
-mixins_firm home =
-    given_firm (maybe (with_mixins home)) (λ given. _) (option_firm (with_mixins home)
-    (then_firm (the_word (codes "with")) _ (the_word_firm (codes "with")) (λ _.
+pub with_mixins_firm : (home : Home) → IsFirm ⊥ With NoToken (with_mixins home)
+with_mixins_firm home =
+    then_firm (the_word (codes "with")) _ (the_word_firm (codes "with")) (λ _.
     then_firm (mark (codes "[")) _ (mark_firm (codes "[")) (λ _.
     front_firm (many id) _ (row_firm (λ _. id) [] (λ _. word_firm IsWordId)) (λ ws.
-    given_firm (mark (codes "]")) (λ _. _) (mark_firm (codes "]"))) (turned _ _ (mark_no_word (codes "]")))))))
+    given_firm (mark (codes "]")) (λ _. _) (mark_firm (codes "]"))) (turned _ _ (mark_no_word (codes "]")))))
+
+pub mixins_firm : (home : Home) → IsFirm (Unit {0}) With With (mixins home)
+mixins_firm home = given_firm (maybe (with_mixins home)) (λ given. _) (option_firm (with_mixins home) (with_mixins_firm home))

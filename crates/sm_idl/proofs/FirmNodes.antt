@@ -5,11 +5,12 @@ use Rattle.sm_idl.specs.Productions.{Spaced, Production, ◌or◌, each, many}
 use Rattle.sm_idl.specs.Words.{IsMark, IsKey, IsNew, mark, key}
 use Rattle.sm_idl.specs.Nodes.{Home, LeafSays, leaf, Pair, pair_names, pair_of, object_of, list_of, node_over, node}
 use Rattle.sm_idl.specs.steps.ReaderView.{NoToken}
+use Rattle.sm_idl.specs.steps.Classes.{Either, AMark, NoMark, NodeStart}
 use Rattle.sm_idl.specs.steps.Firm.{Class, AreApart, IsFirm}
 use Rattle.sm_idl.proofs.FirmParts.{firm_wider}
-use Rattle.sm_idl.proofs.FirmEach.{Either, firm_or}
+use Rattle.sm_idl.proofs.FirmEach.{firm_or}
 use Rattle.sm_idl.proofs.FirmShort.{token_firm, then_firm, given_firm, front_firm, row_firm}
-use Rattle.sm_idl.proofs.TokenClasses.{AMark, NoMark, marks_unlike, mark_no_leaf, word_no_mark, text_no_mark, turned}
+use Rattle.sm_idl.proofs.TokenClasses.{marks_unlike, mark_no_leaf, word_no_mark, text_no_mark, turned}
 use Rattle.sm_idl.proofs.TokenClasses.{apart_either, either_apart}
 use Rattle.sm_idl.proofs.OneSaying.{one_key, one_leaf, leaf_no_mark}
 
@@ -25,10 +26,6 @@ key_firm before = token_firm (λ t k. IsKey k t × IsNew k before) NoMark (λ t 
 
 pub leaf_firm : (home : Option Home) → IsFirm ⊥ NoMark NoToken (leaf home)
 leaf_firm home = token_firm (LeafSays home) NoMark (one_leaf home) (λ t n h. leaf_no_mark home t.token n h)
-
--- what begins a node
-abbrev pub NodeStart : Class
-NodeStart = Either NoMark (Either (AMark (codes "{")) (AMark (codes "[")))
 
 pub pair_firm : (A : Class) (value : Production Raw) → IsFirm ⊥ A NoToken value → (before : List Pair)
     → IsFirm ⊥ NoMark NoToken (pair_of value before)

@@ -45,6 +45,7 @@ module _ {X : Type 0} (Is : Lexeme → X → Type 0) (same : (t : Lexeme) (x y :
     single = one_single;
     cut = one_cut;
     prefix = one_prefix;
+    closed = λ p t q e. absurd (ends p t q e);
   }
 
 module _ {X : Type 0} (v : X) where
@@ -60,6 +61,7 @@ module _ {X : Type 0} (v : X) where
     single = λ x y s r q h k. inl (h.0 ∙ sym k.0, sym h.1 ∙ k.1);
     cut = λ x s r h e. inl (sym h.1 ∙ e);
     prefix = gives_prefix;
+    closed = λ p t q e. absurd (ends p t q e);
   }
 
 -- the same with wider classes
@@ -79,4 +81,5 @@ firm_wider {E = E} {F = F} {A = A} {B = B} {G = G} {H = H} {P = P} e a g f = rec
   ];
   cut = λ x s r h k. elim (f.cut x s r h k) [ inl m ↦ inl m | inr m ↦ inr (head_wider G H r g m) ];
   prefix = f.prefix;
+  closed = f.closed;
 }

@@ -18,16 +18,17 @@ use Rattle.sm_idl.specs.Bodies.{Controls, part, property, braced_pairs}
 use Rattle.sm_idl.specs.Shapes.{type_word, BodySaid, simple_body, members_body, operation_body, pairs_body, body, shape_with}
 use Rattle.sm_idl.specs.Shapes.{shape, apply_item, item}
 use Rattle.sm_idl.specs.steps.ReaderView.{NoToken}
+use Rattle.sm_idl.specs.steps.Classes.{Either, AWord, At, Paren, TraitGoesOn, Brace, Equals, MemberStart, With}
 use Rattle.sm_idl.specs.steps.Firm.{Class, AreApart, IsFirm}
 use Rattle.sm_idl.proofs.FirmParts.{firm_wider}
-use Rattle.sm_idl.proofs.FirmEach.{Either, firm_or}
+use Rattle.sm_idl.proofs.FirmEach.{firm_or}
 use Rattle.sm_idl.proofs.FirmShort.{token_firm, then_firm, given_firm, front_firm, row_firm}
-use Rattle.sm_idl.proofs.TokenClasses.{AWord, marks_unlike, words_unlike, mark_no_word, turned, apart_either, either_apart, TypeWord}
+use Rattle.sm_idl.proofs.TokenClasses.{marks_unlike, words_unlike, mark_no_word, turned, apart_either, either_apart, TypeWord}
 use Rattle.sm_idl.proofs.KindNames.{kind_named, one_kind, no_type_word}
 use Rattle.sm_idl.proofs.FirmNodes.{mark_firm}
 use Rattle.sm_idl.proofs.FirmDocumented.{documented_firm}
-use Rattle.sm_idl.proofs.FirmTraits.{word_firm, At, Paren, TraitGoesOn, traits_firm, apply_firm}
-use Rattle.sm_idl.proofs.FirmMembers.{Brace, With, Equals, MemberStart, members_firm, enum_member_firm, plain_firm, field_firm, mixins_firm}
+use Rattle.sm_idl.proofs.FirmTraits.{word_firm, traits_firm, apply_firm}
+use Rattle.sm_idl.proofs.FirmMembers.{members_firm, enum_member_firm, plain_firm, field_firm, mixins_firm}
 use Rattle.sm_idl.proofs.FirmBodies.{with_no_brace, part_firm, braced_pairs_firm, property_firm}
 
 type_word_firm : IsFirm ⊥ TypeWord NoToken type_word

@@ -3,10 +3,11 @@ use Rattle.std.proofs.Common.{◌≡◌, inl, inr, List}
 use Rattle.sm_lex.specs.Tokens.{Lexeme}
 use Rattle.sm_idl.specs.Productions.{Spaced, Production, one, gives, ◌>>=◌, maybe, each_behind}
 use Rattle.sm_idl.specs.steps.ReaderView.{NoToken}
+use Rattle.sm_idl.specs.steps.Classes.{Either}
 use Rattle.sm_idl.specs.steps.Firm.{Class, AreApart, IsFirm}
 use Rattle.sm_idl.proofs.FirmParts.{firm_one, firm_gives, firm_wider}
 use Rattle.sm_idl.proofs.FirmBoth.{firm_both}
-use Rattle.sm_idl.proofs.FirmEach.{Either, firm_maybe}
+use Rattle.sm_idl.proofs.FirmEach.{firm_maybe}
 use Rattle.sm_idl.proofs.FirmMany.{firm_each}
 
 abbrev pub AnyToken : Class

@@ -6,14 +6,15 @@ use Rattle.sm_idl.specs.Nodes.{Home}
 use Rattle.sm_idl.specs.Traits.{node_in, arguments, applied, traits, one_trait, braced_traits, apply}
 use Rattle.sm_tree.specs.Limits.{most_levels}
 use Rattle.sm_idl.specs.steps.ReaderView.{NoToken}
-use Rattle.sm_idl.specs.steps.Firm.{Class, AreApart, IsFirm}
+use Rattle.sm_idl.specs.steps.Classes.{AMark, AWord, AnyWord, NodeStart, At, Paren, TraitGoesOn}
+use Rattle.sm_idl.specs.steps.Firm.{AreApart, IsFirm}
 use Rattle.sm_idl.proofs.FirmParts.{firm_wider}
-use Rattle.sm_idl.proofs.FirmEach.{Either, firm_or}
+use Rattle.sm_idl.proofs.FirmEach.{firm_or}
 use Rattle.sm_idl.proofs.FirmMany.{firm_each}
 use Rattle.sm_idl.proofs.FirmShort.{token_firm, then_firm, given_firm, front_firm, option_firm}
-use Rattle.sm_idl.proofs.TokenClasses.{AMark, AWord, AnyWord, marks_unlike, either_apart}
+use Rattle.sm_idl.proofs.TokenClasses.{marks_unlike, either_apart}
 use Rattle.sm_idl.proofs.OneSaying.{one_word}
-use Rattle.sm_idl.proofs.FirmNodes.{mark_firm, NodeStart, node_firm}
+use Rattle.sm_idl.proofs.FirmNodes.{mark_firm, node_firm}
 use Rattle.sm_idl.proofs.FirmArguments.{arguments_firm}
 
 pub word_firm : (Is : List ℕ → Type 0) → IsFirm ⊥ AnyWord NoToken (word_that Is)
@@ -25,12 +26,6 @@ the_word_firm w = token_firm (λ t _. IsWord w t) (AWord w) (λ t x y h k. refl)
 pub node_in_firm : (home : Home) → IsFirm ⊥ NodeStart NoToken (node_in home)
 node_in_firm home = node_firm (Some home) most_levels
 
-abbrev pub At : Class
-At = AMark (codes "@")
-
-abbrev pub Paren : Class
-Paren = AMark (codes "(")
-
 pub applied_firm : (home : Home) → IsFirm ⊥ At Paren (applied home)
 applied_firm home =
     then_firm (mark (codes "@")) _ (mark_firm (codes "@")) (λ _.
@@ -40,14 +35,10 @@ applied_firm home =
 pub paren_no_at : AreApart Paren At
 paren_no_at = marks_unlike (codes "(") (codes "@") refl
 
--- behind traits, more of them or the arguments of the last
-abbrev pub TraitGoesOn : Class
-TraitGoesOn = Either At Paren
-
 pub traits_firm : (home : Home) → IsFirm (Unit {0}) At TraitGoesOn (traits home)
 traits_firm home = firm_each At Paren (λ _. applied home) (λ _. applied_firm home) paren_no_at []
 
-braced_firm : (home : Home) → IsFirm ⊥ (AMark (codes "{")) NoToken (braced_traits home)
+pub braced_firm : (home : Home) → IsFirm ⊥ (AMark (codes "{")) NoToken (braced_traits home)
 braced_firm home =
     then_firm (mark (codes "{")) _ (mark_firm (codes "{")) (λ _.
     front_firm (traits home) _ (traits_firm home) (λ ts. given_firm (mark (codes "}")) (λ _. ts) (mark_firm (codes "}")))

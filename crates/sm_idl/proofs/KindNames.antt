@@ -6,8 +6,9 @@ use Rattle.sm_model.specs.declared.kind.Kind.TheVariants.{Blob, Boolean, Text, E
 use Rattle.sm_model.specs.declared.kind.Kind.TheVariants.{Double, BigInteger}
 use Rattle.sm_model.specs.declared.kind.Kind.TheVariants.{BigDecimal, Timestamp, Document, List as list_kind, Map, Structure, Union}
 use Rattle.sm_model.specs.declared.kind.Kind.TheVariants.{Service, Operation, Resource}
+use Rattle.sm_idl.specs.steps.Classes.{AWord}
 use Rattle.sm_idl.specs.steps.Firm.{AreApart}
-use Rattle.sm_idl.proofs.TokenClasses.{AWord, TypeWord}
+use Rattle.sm_idl.proofs.TokenClasses.{TypeWord}
 
 abbrev named_among : List ℕ → List Kind → Option Kind
 named_among w [] = None

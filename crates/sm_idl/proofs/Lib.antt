@@ -17,6 +17,14 @@ pub mod FirmShapes
 pub mod FirmFiles
 pub mod OtherHomes
 pub mod OneFile
-pub mod Stuck
+pub mod OnePlace
+pub mod Passing
+pub mod Choosing
+pub mod Rows
 pub mod Taken
 pub mod RelativeIds
+pub mod Bracketed
+pub mod NamesSeen
+pub mod ReadNodes
+pub mod NodeRows
+pub mod ReadArguments

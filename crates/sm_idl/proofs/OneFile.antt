@@ -9,9 +9,10 @@ use Rattle.sm_idl.specs.Bodies.{Controls}
 use Rattle.sm_idl.specs.Idl.{control, metadata, used, home_of, SectionSaid, items, section, section_home, section_said, metadata_statements, FileSaid, file, FileSpelled}
 use Rattle.sm_idl.specs.Laws.{OneReading, PrefixesAreBegun}
 use Rattle.sm_idl.specs.steps.ReaderView.{NoToken}
+use Rattle.sm_idl.specs.steps.Classes.{Either}
 use Rattle.sm_idl.specs.steps.Firm.{Class, HeadIs, AreApart, IsFirm}
 use Rattle.sm_idl.proofs.TokenLists.{head_apart, head_moved}
-use Rattle.sm_idl.proofs.FirmEach.{Either, starts}
+use Rattle.sm_idl.proofs.FirmEach.{starts}
 use Rattle.sm_idl.proofs.FirmShort.{row_firm}
 use Rattle.sm_idl.proofs.TokenClasses.{words_unlike}
 use Rattle.sm_idl.proofs.FirmTraits.{word_firm, the_word_firm}

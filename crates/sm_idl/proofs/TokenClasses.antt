@@ -5,21 +5,8 @@ use Rattle.sm_lex.specs.declared.token.TokenKind.TheVariants.{Word, Text, Mark}
 use Rattle.sm_model.specs.Kinds.{kind_name}
 use Rattle.sm_model.specs.declared.kind.Kind.{Kind}
 use Rattle.sm_idl.specs.Productions.{Spaced}
-use Rattle.sm_idl.specs.Words.{IsMark, IsWord}
+use Rattle.sm_idl.specs.steps.Classes.{Either, AMark, AWord, AnyWord, NoMark}
 use Rattle.sm_idl.specs.steps.Firm.{Class, AreApart}
-use Rattle.sm_idl.proofs.FirmEach.{Either}
-
-abbrev pub AMark : List ℕ → Class
-AMark text t = IsMark text t.token
-
-abbrev pub AWord : List ℕ → Class
-AWord text t = IsWord text t.token
-
-abbrev pub AnyWord : Class
-AnyWord t = t.token.kind ≡ Word
-
-abbrev pub NoMark : Class
-NoMark t = t.token.kind ≡ Mark → ⊥
 
 is_true : (b : Bool) → IsTrue b → b ≡ true
 is_true b h = h

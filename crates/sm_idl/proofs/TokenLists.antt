@@ -1,5 +1,5 @@
 -- Lists of tokens: their heads, and two cuts of one list.
-use Rattle.std.proofs.Common.{◌≡◌, [], ◌∷◌, ◌++◌, refl, sym, ap, subst}
+use Rattle.std.proofs.Common.{◌≡◌, [], ◌∷◌, ◌++◌, take, refl, sym, ap, subst}
 use Rattle.sm_idl.specs.Productions.{Spaced, Tokens}
 use Rattle.sm_idl.specs.steps.Firm.{Class, HeadIs, AreApart}
 
@@ -51,3 +51,22 @@ cuts (v ∷ p) t q (u ∷ a) s e =
 pub both_none : (p r : Tokens) → p ++ r ≡ [] → (p ≡ []) × (r ≡ [])
 both_none [] r e = (refl, e)
 both_none (t ∷ p) r e = absurd (no_tokens t (p ++ r) (sym e))
+
+-- the head of a part with one token more is that of the whole, and the other way
+pub head_of_part : (C : Class) (a r : Tokens) → HeadIs C (a ++ take 1 r) → HeadIs C (a ++ r)
+head_of_part C [] [] h = h
+head_of_part C [] (t ∷ r) h = h
+head_of_part C (u ∷ a) r h = h
+
+pub head_of_whole : (C : Class) (a r : Tokens) → HeadIs C (a ++ r) → HeadIs C (a ++ take 1 r)
+head_of_whole C [] [] h = h
+head_of_whole C [] (t ∷ r) h = h
+head_of_whole C (u ∷ a) r h = h
+
+pub head_of_cut : (C : Class) (a : Tokens) (t : Spaced) (q : Tokens) → HeadIs C (a ++ t ∷ []) → HeadIs C (a ++ t ∷ q)
+head_of_cut C [] t q h = h
+head_of_cut C (u ∷ a) t q h = h
+
+pub head_up_to : (C : Class) (a : Tokens) (t : Spaced) (q : Tokens) → HeadIs C (a ++ t ∷ q) → HeadIs C (a ++ t ∷ [])
+head_up_to C [] t q h = h
+head_up_to C (u ∷ a) t q h = h

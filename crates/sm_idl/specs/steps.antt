@@ -1,3 +1,5 @@
 pub mod Firm
+pub mod Classes
+pub mod Names
 pub mod Reading
 pub mod ReaderView

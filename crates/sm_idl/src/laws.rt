@@ -1,5 +1,5 @@
 // Laws of the definitions, each the contract of a function whose body is empty.
-ghost use Rattle.sm_idl.specs.Laws.{OneReading, PrefixesAreBegun};
+ghost use Rattle.sm_idl.specs.Laws.{OneReading, PrefixesAreBegun, BegunIsClosed, OnePlace};
 
 /// A text is that of one file at most. So `read_idl` gives *the* statements.
 pub fn one_reading()
@@ -9,4 +9,14 @@ pub fn one_reading()
 /// What the tokens of a file begin with is begun: no file has a place where its tokens stop.
 pub fn prefixes_are_begun()
     ensures { PrefixesAreBegun }
+{}
+
+/// What is begun is begun cut behind any of its tokens. So a place where tokens stop is the first one.
+pub fn begun_is_closed()
+    ensures { BegunIsClosed }
+{}
+
+/// Tokens stop at one place at most. So a refusal names *the* place.
+pub fn one_place()
+    ensures { OnePlace }
 {}

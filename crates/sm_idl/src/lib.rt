@@ -3,6 +3,8 @@
 
 pub mod laws;
 mod leaf;
+mod names;
+mod node;
 mod reader;
 mod refusal;
 mod word;

@@ -2,6 +2,8 @@
 ghost use Rattle.std.specs.Prelude.{◌≡◌, ◌↔◌, IsTrue};
 ghost use Rattle.sm_lex.specs.Tokens.{lexeme_of};
 ghost use Rattle.sm_idl.specs.Words.{IsMark, IsWord, mark, the_word};
+ghost use Rattle.sm_idl.specs.steps.Firm.{HeadIs};
+ghost use Rattle.sm_idl.specs.steps.Classes.{AMark, AWord, AnyWord, NoMark, NodeStart};
 ghost use Rattle.sm_idl.specs.steps.ReaderView.{left, Peeks, TakesToken, Reads};
 
 use sm_lex::{Token, TokenKind};
@@ -105,5 +107,52 @@ impl<'t, 'a> Reader<'t, 'a> {
             }
             None => Err(Stop::Syntax),
         }
+    }
+
+    /// Whether the next token is this mark.
+    pub(crate) fn is_at_mark(&self, text: &str) -> bool
+        ensures { IsTrue result ↔ HeadIs (AMark text.now) (left self.now) }
+    {
+        match self.next() {
+            Some(token) => is_mark(&token, text),
+            None => false,
+        }
+    }
+
+    /// Whether the next token is this word.
+    pub(crate) fn is_at_word(&self, text: &str) -> bool
+        ensures { IsTrue result ↔ HeadIs (AWord text.now) (left self.now) }
+    {
+        match self.next() {
+            Some(token) => is_word(&token, text),
+            None => false,
+        }
+    }
+
+    /// Whether the next token is no mark.
+    pub(crate) fn is_at_leaf(&self) -> bool
+        ensures { IsTrue result ↔ HeadIs NoMark (left self.now) }
+    {
+        match self.next() {
+            Some(token) => token.kind != TokenKind::Mark,
+            None => false,
+        }
+    }
+
+    /// Whether the next token is a word.
+    pub(crate) fn is_at_any_word(&self) -> bool
+        ensures { IsTrue result ↔ HeadIs AnyWord (left self.now) }
+    {
+        match self.next() {
+            Some(token) => token.kind == TokenKind::Word,
+            None => false,
+        }
+    }
+
+    /// Whether the next token begins a node.
+    pub(crate) fn is_at_node(&self) -> bool
+        ensures { IsTrue result ↔ HeadIs NodeStart (left self.now) }
+    {
+        self.is_at_leaf() || self.is_at_mark("{") || self.is_at_mark("[")
     }
 }

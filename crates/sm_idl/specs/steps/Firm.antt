@@ -32,3 +32,4 @@ pub record IsFirm {X : Type 0} (Empty : Type 0) (Starts GoesOn : Class) (P : Pro
   pub single : (x y : X) (s r q : Tokens) → P.whole x s r → P.whole y s q → (Path X x y × (r ≡ q)) ⊎ (HeadIs GoesOn r ⊎ HeadIs GoesOn q)
   pub cut : (x : X) (s r : Tokens) → P.whole x s r → P.begun s → (r ≡ []) ⊎ HeadIs GoesOn r
   pub prefix : (x : X) (p : Tokens) (t : Spaced) (q : Tokens) → P.whole x (p ++ t ∷ q) [] → P.begun p
+  pub closed : (p : Tokens) (t : Spaced) (q : Tokens) → P.begun (p ++ t ∷ q) → P.begun p
