@@ -28,3 +28,7 @@ pub mod NamesSeen
 pub mod ReadNodes
 pub mod NodeRows
 pub mod ReadArguments
+pub mod PairsAhead
+pub mod ReadTraits
+pub mod ReadIds
+pub mod TraitRows

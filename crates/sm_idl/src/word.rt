@@ -1,7 +1,9 @@
 // Words by their forms: identifiers, namespaces, ids with or without their namespace, and the names of types.
-ghost use Rattle.std.specs.Prelude.{◌≡◌, ◌↔◌, IsTrue};
+ghost use Rattle.std.specs.Prelude.{◌≡◌, ◌↔◌, IsTrue, Option};
+ghost use Rattle.sm_model.specs.Raw.{Raw};
 ghost use Rattle.sm_model.specs.References.{IsRelativeId};
 ghost use Rattle.sm_idl.specs.Words.{IsWordId, id, identifier};
+ghost use Rattle.sm_idl.specs.Nodes.{Home, WordSays};
 ghost use Rattle.sm_idl.specs.Shapes.{type_word};
 ghost use Rattle.sm_idl.specs.steps.ReaderView.{left, Reads, ReadsAs};
 
@@ -28,6 +30,22 @@ pub(crate) fn is_word_id(word: &str) -> bool
         Ok(_) => true,
         Err(_) => is_relative_id(word),
     }
+}
+
+/// Whether a word is a node.
+pub(crate) fn is_node_word(word: &str) -> bool
+    ensures { (home : Option Home) → IsTrue result ↔ ((n : Raw) × WordSays home word.now n) }
+{
+    if word == "true" {
+        return true;
+    }
+    if word == "false" {
+        return true;
+    }
+    if word == "null" {
+        return true;
+    }
+    is_word_id(word)
 }
 
 impl<'t, 'a> Reader<'t, 'a> {
