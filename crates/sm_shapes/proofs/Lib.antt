@@ -7,3 +7,4 @@ pub mod NamedMembers
 pub mod FieldPlaces
 pub mod PatternNumbers
 pub mod FirstBroken
+pub mod DefaultsPut

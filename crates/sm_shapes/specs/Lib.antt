@@ -11,6 +11,7 @@ pub mod FieldPuts
 pub mod TableData
 pub mod ConstraintView
 pub mod TableView
+pub mod DefaultPuts
 pub mod Places
 pub mod Broken
 pub mod Fitting

@@ -28,8 +28,8 @@ impl Constraints {
         }
     }
 
-    // `Range` where a number lies outside the bounds, else `Enum` where it is none of an intEnum's.
-    fn judge_number(&self, kind: ShapeKind, number: i64) -> Option<FaultKind>
+    /// `Range` where a number lies outside the bounds, else `Enum` where it is none of an intEnum's. No memory.
+    pub fn judge_number(&self, kind: ShapeKind, number: i64) -> Option<FaultKind>
         ensures { result ≡ first_broken (range_broken (constraint_data self.now) number ++ number_broken kind (constraint_data self.now).numbers number) }
     {
         if !self.is_between(number) {
@@ -47,8 +47,8 @@ impl Constraints {
         }
     }
 
-    // `Enum` where a text is none of an enum's.
-    fn judge_enum(&self, kind: ShapeKind, text: &str) -> Option<FaultKind>
+    /// `Enum` where a text is none of an enum's. No memory.
+    pub fn judge_enum(&self, kind: ShapeKind, text: &str) -> Option<FaultKind>
         ensures { result ≡ first_broken (text_broken kind (constraint_data self.now).texts text.now) }
     {
         match kind {
@@ -87,8 +87,8 @@ impl Constraints {
         }
     }
 
-    // `Length` of a text: its Unicode scalar values count.
-    fn judge_chars(&self, text: &str) -> Option<FaultKind>
+    /// `Length` of a text: its Unicode scalar values count. No memory.
+    pub fn judge_chars(&self, text: &str) -> Option<FaultKind>
         ensures { result ≡ first_broken (length_broken (constraint_data self.now) (length (chars text.now))) }
     {
         self.judge_length(text.chars().count())

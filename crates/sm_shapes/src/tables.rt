@@ -4,6 +4,7 @@ ghost use Rattle.std.specs.Prelude.{◌≡◌, ◌<◌, Some, map, slice_get, if
 ghost use Rattle.sm_shapes.specs.InOrder.{Shaped, most_defaults, defaults_among};
 ghost use Rattle.sm_shapes.specs.TableData.{shape_count, member_count, kind_at, members_at, by_name_at, by_json_name_at, needed_at, name_at, json_name_at, target_at, required_at, default_at, count_of_default, member_with};
 ghost use Rattle.sm_shapes.specs.TableView.{shape_data, member_data, shape_rows, member_rows, table_data};
+ghost use Rattle.sm_shapes.specs.DefaultPuts.{defaults_view, with_defaults, table_with_defaults};
 
 use crate::MemberNumbers;
 use crate::constraints::Constraints;
@@ -141,6 +142,19 @@ impl MemberRows {
     {
         self.rows.as_slice()
     }
+
+    // Puts each default at the member of its place.
+    fn set_defaults(&mut self, defaults: Vec<Option<Value>>)
+        ensures { member_rows self.new ≡ with_defaults (member_rows self.old) (defaults_view defaults.items) }
+    {
+        let mut others = defaults.into_iter();
+        for row in self.rows.iter_mut() {
+            match others.next() {
+                Some(default) => row.default = default,
+                None => return,
+            }
+        }
+    }
 }
 
 /// Patterns by their numbers in a store.
@@ -170,6 +184,13 @@ impl PatternRows {
         ensures { result.items ≡ self }
     {
         self.rows
+    }
+
+    /// The patterns, in order. No memory.
+    pub fn as_slice(&self) -> &[(u32, Text)]
+        ensures { result.now ≡ self.now }
+    {
+        self.rows.as_slice()
     }
 }
 
@@ -277,8 +298,8 @@ impl Table {
         self.member(member).required
     }
 
-    // The name of a member; one that isn't in the table has the empty name.
-    fn name_of(&self, member: u32) -> &str
+    /// The name of a member; one that isn't in the table has the empty name. No memory.
+    pub fn name_of(&self, member: u32) -> &str
         ensures { result.now ≡ name_at (table_data self.now) member }
     {
         match self.members.rows.get(member as usize) {
@@ -287,8 +308,8 @@ impl Table {
         }
     }
 
-    // The same of the name that it has where JSON names are looked at.
-    fn json_name_of(&self, member: u32) -> &str
+    /// The same of the name that it has where JSON names are looked at. No memory.
+    pub fn json_name_of(&self, member: u32) -> &str
         ensures { result.now ≡ json_name_at (table_data self.now) member }
     {
         match self.members.rows.get(member as usize) {
@@ -324,6 +345,14 @@ impl Table {
             Ok(place) => Some(numbers[place]),
             Err(_) => None,
         }
+    }
+
+    /// Puts defaults into the table, by the numbers of its members. Members behind the last one that is told stay as they are, and nothing
+    /// else is changed. No memory.
+    pub fn set_defaults(&mut self, defaults: Vec<Option<Value>>)
+        ensures { table_data self.new ≡ table_with_defaults (table_data self.old) (defaults_view defaults.items) }
+    {
+        self.members.set_defaults(defaults);
     }
 
     /// The greatest number of members of one shape that have a default. Time as the members of all shapes. No memory.
