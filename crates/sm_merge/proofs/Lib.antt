@@ -54,3 +54,16 @@ mod SomeEffective
 mod LimitsTold
 mod TraitsHeld
 mod PartsTold
+mod FoundRows
+mod Filled
+mod EffectiveMade
+mod OneShapeMade
+mod EffectiveAll
+mod MixedMade
+mod MembersMixed
+mod KeptOnce
+mod FirstRows
+mod MemberListsMade
+mod LocalNames
+mod NamesMixed
+mod RunningRows

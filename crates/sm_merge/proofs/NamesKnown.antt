@@ -28,7 +28,7 @@ pub or_none : (a : Bool) → a ≡ (a || false)
 or_none true = refl
 or_none false = refl
 
-regroup : (a b c : Bool) → ((a || b) || c) ≡ (a || (b || c))
+pub regroup : (a b c : Bool) → ((a || b) || c) ≡ (a || (b || c))
 regroup true b c = refl
 regroup false b c = refl
 

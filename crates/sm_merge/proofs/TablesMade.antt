@@ -179,7 +179,7 @@ all_nodes (ts ∷ tss) h = nodes_joined ts (all_given tss) h.0 (all_nodes tss h.
 
 -- where a loop has put all rows
 module _ {V X T : Type 0} (R : List V → X → Type 0) (f : T → List ℕ × X) where
-  rows_put : (gs left : List (Group V)) (done : List T) → left ≡ []
+  pub rows_put : (gs left : List (Group V)) (done : List T) → left ≡ []
       → ((more : List (List ℕ × X)) → ComeToRows R (groups_view left) more → ComeToRows R (groups_view gs) (map f done ++ more))
       → ComeToRows R (groups_view gs) (map f done)
   rows_put gs left done ended all =

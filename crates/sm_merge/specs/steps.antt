@@ -22,3 +22,6 @@ pub mod Whole
 pub mod Made
 pub mod SoundStated
 pub mod Verdicts
+pub mod MixedIn
+pub mod Filling
+pub mod MemberLists

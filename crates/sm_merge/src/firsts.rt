@@ -33,7 +33,8 @@ pub(crate) fn put_firsts<'a>(
     Ok(())
 }
 
-fn put_first<'a>(
+/// Puts a member, unless its name was seen.
+pub(crate) fn put_first<'a>(
     seen: &mut BTreeSet<&'a str>,
     all: &mut Vec<NamedTarget<'a>>,
     name: &'a str,

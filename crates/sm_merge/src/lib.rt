@@ -4,6 +4,11 @@
 
 mod body;
 mod effective;
+mod effective_local;
+mod effective_members;
+mod effective_mixins;
+mod effective_rows;
+mod effective_traits;
 mod events;
 mod firsts;
 mod graph_made;
@@ -13,6 +18,7 @@ mod limit;
 mod limits;
 mod look;
 mod meaning;
+mod members;
 mod mixin_events;
 mod mixins;
 mod names;

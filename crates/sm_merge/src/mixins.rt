@@ -1,5 +1,5 @@
 // The mixins of shapes, by numbers: a shape's number is its place in the order of all ids.
-ghost use Rattle.std.specs.Prelude.{◌≡◌, ◌<◌, ◌↔◌, List, length, IfOk, OnOk, IsTrue};
+ghost use Rattle.std.specs.Prelude.{◌≡◌, ◌<◌, ◌↔◌, List, length, IfOk, IfSome, OnOk, IsTrue};
 ghost use Rattle.sm_model.specs.steps.Rising.{Rise};
 ghost use Rattle.sm_merge.specs.Stated.{ShapeStated, Stated};
 ghost use Rattle.sm_merge.specs.steps.Contributing.{AreWalkedTables, MayContribute, NamesRise, TellsMixin};
@@ -17,10 +17,10 @@ use sm_tree::{NoMemory, Text, Tree};
 use std::alloc::Global;
 
 /// The trait that marks a mixin.
-const MIXIN: &str = "smithy.api#mixin";
+pub(crate) const MIXIN: &str = "smithy.api#mixin";
 
 /// A mixin that contributes to a shape.
-#[derive(Clone, Copy)]
+#[derive(Clone, Copy, Drop)]
 pub(crate) struct Contributing<'a> {
     /// Its number.
     pub number: usize,
@@ -82,7 +82,8 @@ pub(crate) fn contribution_of<'a>(
     requires places { Rise (places_in traits.now) }
     requires names { NamesRise traits.now }
     requires walked { length walk.now.status.items ≡ length rows.now }
-    ensures { (ss : List Stated) (s : ShapeStated) → AreWalkedTables ss rows.now traits.now walk.now
+    ensures inside { IfSome result (λ c. c.number < length rows.now) }
+    ensures told { (ss : List Stated) (s : ShapeStated) → AreWalkedTables ss rows.now traits.now walk.now
         → s.shape.kind ≡ kind → TellsMixin ss rows.now s mixin.now result }
 {
     match position(rows, mixin) {
@@ -104,7 +105,8 @@ fn contribution_by<'a>(
     requires number { At (ids_of rows.now) number mixin.now }
     requires inside { number < length rows.now }
     requires walked { length walk.now.status.items ≡ length rows.now }
-    ensures { (ss : List Stated) (s : ShapeStated) → AreWalkedTables ss rows.now traits.now walk.now
+    ensures inside { IfSome result (λ c. c.number < length rows.now) }
+    ensures told { (ss : List Stated) (s : ShapeStated) → AreWalkedTables ss rows.now traits.now walk.now
         → s.shape.kind ≡ kind → TellsMixin ss rows.now s mixin.now result }
 {
     if !may_contribute(rows, walk, kind, number) {

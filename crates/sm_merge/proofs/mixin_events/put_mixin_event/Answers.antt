@@ -12,7 +12,7 @@ returns-in-Some c = record {
   errors = λ h. h;
   told = λ ss s t same.
       puts_none (TellsBad ss s c.args.row.now.id c.args.mixin.now) c.args.events.now.items
-      (λ e bad. bad.0 (c.in-Some.ensures ss s t same).contributes);
+      (λ e bad. bad.0 (c.in-Some.ensures.told ss s t same).contributes);
 }
 
 pub returns-in_ok-push-in-None-clause-errors : goal.returns-in_ok-push-in-None-clause-errors
@@ -31,4 +31,4 @@ returns-in_ok-push-in-None-clause-told c = λ ss s t same.
     c.in_ok-push-in-None.ensures.items
     (c.in_ok-event-in-None.ensures.told ∙ (λ i. model_event (c.in_ok-shape-in-None.ensures i) (codes "Model.Mixin") c.args.mixin.now))
     c.in_ok-event-in-None.ensures.severity)
-    (c.in-None.ensures ss s t same, refl) (λ e h. h.1)
+    (c.in-None.ensures.told ss s t same, refl) (λ e h. h.1)

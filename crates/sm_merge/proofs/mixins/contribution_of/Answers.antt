@@ -5,8 +5,8 @@ use Rattle.sm_merge.proofs.MixinsTold.{no_such_mixin}
 use Rattle.sm_merge.proofs.ShapeNumbers.{ids_count, none_listed, number_at}
 use Rattle.sm_merge.proofs.mixins.contribution_of.Goals as goal
 
-pub returns-in-None : goal.returns-in-None
-returns-in-None c = λ ss s t same.
+pub returns-in-None-clause-told : goal.returns-in-None-clause-told
+returns-in-None-clause-told c = λ ss s t same.
     no_such_mixin ss c.args.rows.now c.args.traits.now c.args.walk.now t s c.args.mixin.now
     (none_listed (shapes_view c.args.rows.now) c.args.mixin.now c.in-None.ensures)
 
