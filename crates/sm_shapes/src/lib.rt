@@ -14,6 +14,7 @@ mod patterns;
 mod rows;
 mod table;
 pub mod tables;
+mod twice;
 mod value;
 mod value_puts;
 pub mod values;
