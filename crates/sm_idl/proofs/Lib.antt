@@ -32,3 +32,4 @@ pub mod PairsAhead
 pub mod ReadTraits
 pub mod ReadIds
 pub mod TraitRows
+pub mod ReadValues

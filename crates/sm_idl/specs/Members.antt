@@ -48,9 +48,13 @@ arranged any ms = ms
 abbrev pub member_name : MemberForm → List MemberSaid → Production (List ℕ)
 member_name form before = word_that (λ name. IsIdentifier name × IsNameOf form name × IsNew name (stated_names before))
 
+-- "=" node
+abbrev pub equals_node : Home → Production Raw
+equals_node home = mark (codes "=") >> node_in home
+
 -- [ "=" node ]
 abbrev pub given_value : Home → Production (Option Raw)
-given_value home = maybe (mark (codes "=") >> node_in home)
+given_value home = maybe (equals_node home)
 
 -- enumMember = trait* word [ "=" node ]
 abbrev pub enum_member_with : Home → List MemberSaid → List TraitSaid → Production MemberSaid

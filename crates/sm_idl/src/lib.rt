@@ -10,6 +10,7 @@ mod node;
 mod reader;
 mod refusal;
 mod traits;
+mod values;
 mod word;
 
 pub use refusal::IdlRefusal;
