@@ -28,7 +28,7 @@ mutual
   goes_in m (along relations) a b there h = (related_in h.0 m a b h.2).1
   goes_in m (picked_by ss) a b there h = one_in m ss a b there h
   goes_in m (picks_none steps) a b there h = kept_in m a b there h.0
-  goes_in m (picks_some selectors) a b there h = kept_in m a b there h.0
+  goes_in m (picks_some ss) a b there h = kept_in m a b there h.0
 
   pub picks_in : (m : GraphMaps) (ss : Steps) (a b : List ℕ) → IsInGraph m a → Picks m ss a b → IsInGraph m b
   picks_in m no_steps a b there h = kept_in m a b there h
