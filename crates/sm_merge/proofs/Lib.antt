@@ -67,3 +67,8 @@ mod MemberListsMade
 mod LocalNames
 mod NamesMixed
 mod RunningRows
+mod Amongs
+mod PlacesThere
+mod MembersOther
+mod WholeEvents
+mod OthersPut

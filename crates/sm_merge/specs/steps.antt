@@ -25,3 +25,5 @@ pub mod Verdicts
 pub mod MixedIn
 pub mod Filling
 pub mod MemberLists
+pub mod PlaceEvents
+pub mod ToldEvents
