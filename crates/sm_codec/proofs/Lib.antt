@@ -23,6 +23,7 @@ pub mod CborWrites
 pub mod JsonWrites
 pub mod HandedEvents
 pub mod FilledTables
+pub mod DefaultsCounted
 pub mod Arriving
 pub mod SeenMembers
 pub mod Joined

@@ -3,6 +3,7 @@ use Rattle.std.specs.Prelude.{ℕ, suc, false, List, [], ◌∷◌, Option, Some
 use Rattle.sm_tree.specs.Node.{Node}
 use Rattle.sm_shapes.specs.Values.{Val}
 use Rattle.sm_shapes.specs.TableData.{TableData, MemberData}
+use Rattle.sm_shapes.specs.DefaultPuts.{with_default}
 use Rattle.sm_shapes.specs.Places.{member_place}
 use Rattle.sm_shapes.specs.Fitting.{Test}
 use Rattle.sm_codec.specs.Codec.{Codec}
@@ -21,21 +22,6 @@ read_value (Err fs) = None
 abbrev pub counted_default : Codec → ℕ → Option Node → Option Val
 counted_default c k None = None
 counted_default c k (Some n) = read_value (reading c n (member_place k))
-
-abbrev pub with_default : MemberData → Option Val → MemberData
-with_default m v = record {
-  shape = m.shape;
-  name = m.name;
-  json_name = m.json_name;
-  target = m.target;
-  required = m.required;
-  constraints = m.constraints;
-  format = m.format;
-  media_type = m.media_type;
-  binding = m.binding;
-  default_node = m.default_node;
-  default = v;
-}
 
 -- these members, numbered from k on, with their defaults
 abbrev pub filled_members : Codec → ℕ → List MemberData → List MemberData

@@ -8,3 +8,4 @@ pub mod EntrySteps
 pub mod ClosingSteps
 pub mod UnionSteps
 pub mod MapSteps
+pub mod Filling

@@ -82,8 +82,8 @@ fn member_or_first(members: &[u32], at: usize) -> u32
     }
 }
 
-// The simple type of a kind of shape, if it is one.
-fn simple_of(kind: ShapeKind, format: Option<Format>) -> Option<Simple>
+/// The simple type of a kind of shape, if it is one. No memory.
+pub fn simple_of(kind: ShapeKind, format: Option<Format>) -> Option<Simple>
     ensures { result ≡ simple_in (sort_by kind format) }
 {
     match kind {
