@@ -1,17 +1,21 @@
 -- Runs of ASCII bytes at the start of a text: where they end, and that a character ends there.
-use Rattle.std.proofs.Common.{◌≡◌, ℕ, suc, ◌+◌, ◌<◌, Bool, true, false, cond, List, [], ◌∷◌, ◌++◌, length, take, drop, refl, sym, subst, arith}
+use Rattle.std.proofs.Common.{◌≡◌, inl, inr, ℕ, suc, ◌+◌, ◌<◌, ◌≤◌, Bool, true, false, cond, List, [], ◌∷◌, ◌++◌, length, take, drop, refl, sym, ap, ◌∙◌, subst, arith}
+use Rattle.std.proofs.Common.{arith}
 use Rattle.std.specs.Prelude.{IsUtf8}
 use Rattle.std.specs.Str.{IsCharBoundary}
 use Rattle.std.specs.List.{list_all, prefix_len}
 use Rattle.std.proofs.lemmas.Bool.Decides.{nat_tests}
 use Rattle.std.proofs.lemmas.List.{take-append-drop}
 use Rattle.std.proofs.lemmas.List.Folds.{length-prefix_len}
-use Rattle.std.proofs.lemmas.List.Sums.{AllPass-from_list_all}
+use Rattle.std.proofs.lemmas.List.Sums.{AllPass-from_list_all, list_all-from_AllPass}
 use Rattle.std.proofs.lemmas.Str.{IsCharBoundary-after_ascii, IsCharBoundary-at_seam, IsUtf8-drop}
 use Rattle.sm_bytes.proofs.Runs.{of_run}
 use Rattle.sm_ids.specs.steps.Ahead.{EndsRun}
-use Rattle.sm_ids.proofs.Cutting.{both, and_also}
-use Rattle.sm_select.specs.Tokens.{EndsWhite, SkipsWhite, is_selector_white, is_run_byte}
+use Rattle.sm_ids.proofs.Cutting.{both, and_also, clash}
+use Rattle.sm_select.specs.Tokens.{EndsWhite, SkipsWhite, GoesOnWithRun, begins_run, is_selector_white, is_run_byte}
+use Rattle.sm_select.specs.SelectorText.{IsRun}
+use Rattle.sm_select.specs.steps.Reader.{IsRunAt, begins_white, begins_a_run}
+use Rattle.sm_select.proofs.WordBytes.{begin_is_run}
 
 -- what is left behind ASCII bytes is whole characters
 pub ascii_behind : (p : ℕ → Bool) → ((c : ℕ) → p c ≡ true → c < 128) → (a b : List ℕ) → list_all p a ≡ true → IsUtf8 (a ++ b) → IsUtf8 b
@@ -64,3 +68,61 @@ dark_behind s = dark_of_run (drop (prefix_len is_selector_white s) s) (prefix_en
 pub prefix_boundary : (p : ℕ → Bool) → ((c : ℕ) → p c ≡ true → c < 128) → (s : List ℕ) → IsUtf8 s → IsCharBoundary s (prefix_len p s)
 prefix_boundary p small s u = subst (IsCharBoundary s) (length-prefix_len p s)
     (boundary p small s (take (prefix_len p s) s) (drop (prefix_len p s) s) (prefix_cut p s) (prefix_all p s) u)
+
+-- the same as tests
+pub dark_test : (s : List ℕ) → begins_white (drop (prefix_len is_selector_white s) s) ≡ false
+dark_test s = as_test (drop (prefix_len is_selector_white s) s) (dark_behind s)
+  where
+    as_test : (t : List ℕ) → EndsWhite t → begins_white t ≡ false
+    as_test [] h = refl
+    as_test (c ∷ t) h = h
+
+pub dark_now : (s : List ℕ) → begins_white s ≡ false → EndsWhite s
+dark_now [] h = tt
+dark_now (c ∷ s) h = h
+
+pub white_boundary : (s : List ℕ) → IsUtf8 s → IsCharBoundary s (prefix_len is_selector_white s)
+white_boundary s u = prefix_boundary is_selector_white white_ascii s u
+
+pub run_boundary : (s : List ℕ) → IsUtf8 s → IsCharBoundary s (prefix_len is_run_byte s)
+run_boundary s u = prefix_boundary is_run_byte run_ascii s u
+
+-- a run that stands first
+no_run_goes_on : (s : List ℕ) → EndsRun is_run_byte s → GoesOnWithRun s → ⊥
+no_run_goes_on [] h g = g
+no_run_goes_on (c ∷ s) h g = clash (is_run_byte c) g h
+
+run_of : (c : ℕ) (s : List ℕ) → begins_run c ≡ true → (n : ℕ) → n ≡ prefix_len is_run_byte s + 1
+    → IsRun (take n (c ∷ s)) (c ∷ s) (drop n (c ∷ s))
+run_of c s h n e =
+    let k : n ≡ suc (prefix_len is_run_byte s) = omega arith in
+    subst (λ m. IsRun (take m (c ∷ s)) (c ∷ s) (drop m (c ∷ s))) (sym k)
+    (record {
+      first = c;
+      more = take (prefix_len is_run_byte s) s;
+      is = refl;
+      begins = h;
+      goes_on = AllPass-from_list_all is_run_byte (take (prefix_len is_run_byte s) s) (prefix_all is_run_byte s);
+      spelled = ap (λ x. c ∷ x) (prefix_cut is_run_byte s);
+      ends = no_run_goes_on (drop (prefix_len is_run_byte s) s) (prefix_ends is_run_byte s);
+    })
+
+pub run_found : (s : List ℕ) → begins_a_run s ≡ true → IsRunAt s (take (prefix_len is_run_byte s) s)
+run_found [] h = absurd (let e : false ≡ true = h in cc)
+run_found (c ∷ s) h =
+    let counted : prefix_len is_run_byte (c ∷ s) ≡ 1 + prefix_len is_run_byte s =
+    ap (λ b. cond b (1 + prefix_len is_run_byte s) 0) (begin_is_run c h) in
+    inr (drop (prefix_len is_run_byte (c ∷ s)) (c ∷ s), run_of c s h (prefix_len is_run_byte (c ∷ s)) (counted ∙ omega arith))
+
+pub no_run_found : (s : List ℕ) → begins_a_run s ≡ false → IsRunAt s []
+no_run_found [] h = inl (tt, refl)
+no_run_found (c ∷ s) h = inl (h, refl)
+
+-- the end of a run is the end of a character
+pub word_boundary : (s w : List ℕ) → IsRunAt s w → IsUtf8 s → IsCharBoundary s (length w)
+word_boundary s w (inl (none, e)) u = subst (λ x. IsCharBoundary s (length x)) (sym e) (boundary is_run_byte run_ascii s [] s refl refl u)
+word_boundary s w (inr (behind, r)) u = boundary is_run_byte run_ascii s w behind r.spelled
+    (subst (λ x. list_all is_run_byte x ≡ true) (sym r.is)
+    (and_also (is_run_byte r.first) (list_all is_run_byte r.more) (begin_is_run r.first r.begins)
+    (list_all-from_AllPass is_run_byte r.more r.goes_on)))
+    u

@@ -43,7 +43,8 @@ stepped ss x fs = behind_step ss x fs (closed fs)
 
 path_closed : (ss : List Step) (fs : List Frame) (path : Attribute) → Completed (behind_path ss fs path)
 path_closed ss fs path =
-    first (behind_path ss fs path) (stepping (ss ++ has path ∷ []) fs) (sign ClosePath) (terminal (codes "]")) refl had (stepped ss (has path) fs)
+    first (behind_path ss fs path) (stepping (ss ++ has path ∷ []) fs) (sign ClosePath) (terminal (codes "]")) refl had (stepped ss (has
+    path) fs)
 
 pub completed : (p : Place) → Completed p
 completed (stepping [] fs) =

@@ -33,3 +33,4 @@ mod SelectorViews
 mod Results
 mod StepImages
 mod SelectorLists
+mod SignBoundaries

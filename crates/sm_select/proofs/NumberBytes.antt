@@ -35,7 +35,8 @@ some_all : (ds : List ℕ) → IsDigits ds → list_all is_number_byte ds ≡ tr
 some_all ds (c, cs, e, h, k) = subst (λ x. list_all is_number_byte x ≡ true) (sym e)
     (and_also (is_number_byte c) (list_all is_number_byte cs) (digit_byte c h) (digits_all cs k))
 
-joined : (xs ys : List ℕ) → list_all is_number_byte xs ≡ true → list_all is_number_byte ys ≡ true → list_all is_number_byte (xs ++ ys) ≡ true
+joined : (xs ys : List ℕ) → list_all is_number_byte xs ≡ true → list_all is_number_byte ys ≡ true → list_all is_number_byte (xs ++ ys) ≡
+    true
 joined xs ys h k = list_all-append is_number_byte xs ys ∙ and_also (list_all is_number_byte xs) (list_all is_number_byte ys) h k
 
 minus_all : (t : List ℕ) → IsMinus t → list_all is_number_byte t ≡ true

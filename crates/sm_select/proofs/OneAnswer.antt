@@ -1,5 +1,6 @@
 -- A text has one cut that leads furthest, so it has one selector at most, and one answer.
-use Rattle.std.proofs.Common.{◌≡◌, ◌⊎◌, inl, inr, ℕ, ◌+◌, ◌<◌, ◌≤◌, List, [], ◌∷◌, ◌++◌, length, refl, sym, ap, ◌∙◌, subst, append_assoc, append-nil, arith, length-append}
+use Rattle.std.proofs.Common.{◌≡◌, ◌⊎◌, inl, inr, ℕ, ◌+◌, ◌<◌, ◌≤◌, List, [], ◌∷◌, ◌++◌, length, refl, sym, ap, ◌∙◌, subst, append_assoc}
+use Rattle.std.proofs.Common.{append-nil, arith, length-append}
 use Rattle.sm_select.specs.Selectors.{Steps}
 use Rattle.sm_select.specs.Tokens.{Token, EndsWhite, SkipsWhite, TokenThen, TokensThen}
 use Rattle.sm_select.specs.Grammar.{SpellsSteps}
@@ -28,7 +29,8 @@ goes_shorter p ts s rest g =
     let a = tokens_shorter ts p g.end s g.behind g.cut g.run in let b = white_shorter g.behind rest g.white in omega arith
 
 -- one that has a token more leads further
-further : (p : Place) (t : Token) (ts : List Token) (s rest other : List ℕ) → Goes p [] s rest → Goes p (t ∷ ts) s other → length other < length rest
+further : (p : Place) (t : Token) (ts : List Token) (s rest other : List ℕ) → Goes p [] s rest → Goes p (t ∷ ts) s other → length other <
+    length rest
 further p t ts s rest other g h = by_cut h.cut h.run
   where
     by_cut : TokensThen (t ∷ ts) s h.behind → Runs p (t ∷ ts) h.end → length other < length rest
@@ -37,7 +39,15 @@ further p t ts s rest other g h = by_cut h.cut h.run
         let same = one_white s rest first (subst (λ x. SkipsWhite x rest) (sym g.cut) g.white) to g.dark (begun_dark first b begins) in
         let size = ap length same in
         let shorter = begun_shorter first b begins in
-        let rests = goes_shorter n ts b other (record { end = h.end; behind = h.behind; cut = more; run = run; white = h.white; dark = h.dark }) in
+        let rests = goes_shorter n ts b other (record {
+          end = h.end;
+          behind = h.behind;
+          cut = more;
+          run = run;
+          white = h.white;
+          dark =
+              h.dark;
+        }) in
         omega arith
 
 -- two cuts that lead as far as each other are one
@@ -67,7 +77,8 @@ cut_step : (t u : Token) (ts us : List Token) (p : Place) (s rest other : List �
     → t ∷ ts ≡ u ∷ us
 cut_step t u ts us p s rest other later g h e = by_cuts g.cut g.run h.cut h.run
   where
-    by_cuts : TokensThen (t ∷ ts) s g.behind → Runs p (t ∷ ts) g.end → TokensThen (u ∷ us) s h.behind → Runs p (u ∷ us) h.end → t ∷ ts ≡ u ∷ us
+    by_cuts : TokensThen (t ∷ ts) s g.behind → Runs p (t ∷ ts) g.end → TokensThen (u ∷ us) s h.behind → Runs p (u ∷ us) h.end → t ∷ ts ≡
+        u ∷ us
     by_cuts (first, r, to, stands, more) (q, lead, run) (start, b, white, then, others) (n, leads, goes) =
         let same = one_white s start first white to (begun_dark start b (lead_begins p n u start b leads then))
         (begun_dark first r (lead_begins p q t first r lead stands)) in
@@ -182,7 +193,8 @@ one_answer = record {
     by_selector text at steps t l =
         let less = l.comes.furthest t.tokens [] (selector_comes steps text t) in let some = some_bytes l.rest l.other in omega arith
 
-    by_rest : (text : List ℕ) (at other : ℕ) (r : List ℕ) → (IsUnclosed r × (at ≡ length text)) ⊎ ((IsUnclosed r → ⊥) × (at + length r ≡ length text))
+    by_rest : (text : List ℕ) (at other : ℕ) (r : List ℕ) → (IsUnclosed r × (at ≡ length text)) ⊎ ((IsUnclosed r → ⊥) × (at + length r ≡
+        length text))
         → (IsUnclosed r × (other ≡ length text)) ⊎ ((IsUnclosed r → ⊥) × (other + length r ≡ length text))
         → at ≡ other
     by_rest text at other r (inl (u, e)) (inl (v, f)) = e ∙ sym f

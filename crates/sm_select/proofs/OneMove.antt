@@ -8,7 +8,8 @@ use Rattle.sm_select.specs.Grammar.{MeansTrait, type_word}
 use Rattle.sm_select.specs.steps.Signs.{sign_text}
 use Rattle.sm_select.specs.steps.Places.{Piece, sign, kind, id_word, fold_word, relation, trait, key, value, ReadAs}
 use Rattle.sm_select.specs.steps.Places.{Place, stepping, path_wanted, trait_wanted, key_wanted}
-use Rattle.sm_select.specs.steps.Places.{behind_path, value_wanted, behind_value, behind_fold, name_wanted, behind_name, Moves, star, a_kind}
+use Rattle.sm_select.specs.steps.Places.{behind_path, value_wanted, behind_value, behind_fold, name_wanted, behind_name, Moves, star}
+use Rattle.sm_select.specs.steps.Places.{a_kind}
 use Rattle.sm_select.specs.steps.Places.{greater, smaller, tilde, opens_path, opens_names, opens_is, opens_not, opens_test, closes, another}
 use Rattle.sm_select.specs.steps.Places.{at_id, at_namespace, at_name, at_member, at_trait, of_trait, bar, of_key, had, stands_to, of_value}
 use Rattle.sm_select.specs.steps.Places.{another_value, folds, compared, compared_folded, of_name, another_name, closes_names, Leads, Runs}

@@ -7,7 +7,8 @@ use Rattle.sm_model.specs.declared.kind.Kind.TheVariants.{Double, BigInteger}
 use Rattle.sm_model.specs.declared.kind.Kind.TheVariants.{BigDecimal, Timestamp, Document, List as list_kind, Map, Structure, Union}
 use Rattle.sm_model.specs.declared.kind.Kind.TheVariants.{Service, Operation, Resource}
 use Rattle.sm_model.specs.declared.relation.Relation.{Relation}
-use Rattle.sm_model.specs.declared.relation.Relation.TheVariants.{Member, Container, Target, Input, Output, Error, Operation as an_operation}
+use Rattle.sm_model.specs.declared.relation.Relation.TheVariants.{Member, Container, Target, Input, Output, Error}
+use Rattle.sm_model.specs.declared.relation.Relation.TheVariants.{Operation as an_operation}
 use Rattle.sm_model.specs.declared.relation.Relation.TheVariants.{Resource as a_resource, Identifier, Property}
 use Rattle.sm_select.specs.declared.selector.SelectorOp.TheVariants.{Equal, Unequal, Starts, Ends, Contains}
 use Rattle.sm_select.specs.declared.tokens.Sign.{Sign}

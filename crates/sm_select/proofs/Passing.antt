@@ -1,5 +1,6 @@
 -- What leads from place to place, step by step: white space has one end, a token has bytes, and what stops there stops all cuts.
-use Rattle.std.proofs.Common.{◌≡◌, ◌⊎◌, inl, inr, ℕ, ◌<◌, ◌≤◌, Bool, true, false, List, [], ◌∷◌, ◌++◌, length, refl, sym, ap, ◌∙◌, subst, append_assoc, codes, arith, length-append}
+use Rattle.std.proofs.Common.{◌≡◌, ◌⊎◌, inl, inr, ℕ, ◌<◌, ◌≤◌, Bool, true, false, List, [], ◌∷◌, ◌++◌, length, refl, sym, ap, ◌∙◌, subst}
+use Rattle.std.proofs.Common.{append_assoc, codes, arith, length-append}
 use Rattle.std.specs.List.{list_all}
 use Rattle.std.proofs.lemmas.Bool.Decides.{nat_tests}
 use Rattle.std.proofs.lemmas.List.Sums.{list_all-from_AllPass, AllPass-from_list_all}
@@ -14,7 +15,8 @@ use Rattle.sm_select.specs.declared.tokens.Sign.{Sign}
 use Rattle.sm_select.specs.declared.tokens.Sign.TheVariants.{Star, Greater, Smaller, Tilde, OpenNames, CloseNames, OpenPath, ClosePath}
 use Rattle.sm_select.specs.declared.tokens.Sign.TheVariants.{OpenIs, OpenNot, OpenTest, Close, Comma, Bar, IdNamespace, IdName, IdMember}
 use Rattle.sm_select.specs.declared.tokens.Sign.TheVariants.{TraitBar, Op}
-use Rattle.sm_select.specs.Tokens.{Token, word, quoted, numeral, EndsWhite, SkipsWhite, TokenThen, TokensThen, is_selector_white, begins_run}
+use Rattle.sm_select.specs.Tokens.{Token, word, quoted, numeral, EndsWhite, SkipsWhite, TokenThen, TokensThen, is_selector_white}
+use Rattle.sm_select.specs.Tokens.{begins_run}
 use Rattle.sm_select.specs.steps.Signs.{sign_text}
 use Rattle.sm_select.specs.steps.Places.{Piece, sign, kind, id_word, fold_word, relation, trait, key, value, ReadAs, Place, Leads, Runs}
 use Rattle.sm_select.specs.steps.Standing.{IsDead, Reaches, Passes}
@@ -153,7 +155,12 @@ white_joined a b c (w, e, all) (v, f, other) = (
 )
 
 tokens_joined : (ts us : List Token) (s b r x : List ℕ) → TokensThen ts s b → SkipsWhite b r → Reaches us r x → Reaches (ts ++ us) s x
-tokens_joined [] [] s b r x e gone (c, f, white) = (s, refl, subst (λ y. SkipsWhite y x) (sym e) (white_joined b r x gone (subst (λ y. SkipsWhite y x) (sym f) white)))
+tokens_joined [] [] s b r x e gone (c, f, white) = (
+  s,
+  refl,
+  subst (λ y. SkipsWhite y x) (sym e) (white_joined b r x gone (subst (λ y.
+      SkipsWhite y x) (sym f) white)),
+)
 tokens_joined [] (u ∷ us) s b r x e gone (c, (first, behind, to, then, rest), white) =
     (c, (first, behind, subst (λ y. SkipsWhite y first) (sym e) (white_joined b r first gone to), then, rest), white)
 tokens_joined (t ∷ ts) us s b r x (first, behind, to, then, rest) gone more =
@@ -249,3 +256,15 @@ passes_joined p q m s r x a b = record {
     shorter : (k : ℕ) → length r < k → length x < k
     shorter n l =
         let k = tokens_shorter b.tokens q m r b.cut.0 b.cut.1 b.run in let w = white_shorter b.cut.0 x b.cut.2 in omega arith
+
+-- what leads from one place to another has bytes
+pub passes_shorter : (p q : Place) (s r : List ℕ) → Passes p s q r → (p ≡ q → ⊥) → length r < length s
+passes_shorter p q s r a other = by_tokens a.tokens a.cut.0 a.cut.1 a.cut.2 a.run
+  where
+    by_tokens : (ts : List Token) (b : List ℕ) → TokensThen ts s b → SkipsWhite b r → Runs p ts q → length r < length s
+    by_tokens [] b cut gone run = absurd (other run)
+    by_tokens (t ∷ ts) b (first, behind, to, then, rest) gone (n, lead, run) =
+        let w = white_shorter s first to in
+        let x = begun_shorter first behind (lead_begins p n t first behind lead then) in
+        let y = tokens_shorter ts n q behind b rest run in
+        let z = white_shorter b r gone in omega arith

@@ -1,5 +1,5 @@
 -- The reader of names: a relation's name leads on, and so does what stands behind it.
-use Rattle.std.proofs.Common.{◌≡◌, ◌⊎◌, inl, ℕ, List, [], ◌∷◌, ◌++◌, length, drop, Some, None, refl}
+use Rattle.std.proofs.Common.{◌≡◌, ◌⊎◌, inl, inr, ℕ, true, false, cond, List, [], ◌∷◌, ◌++◌, length, drop, Some, None, refl, ap, ◌∙◌, ◌<◌, arith}
 use Rattle.sm_model.specs.Relations.{relation_name}
 use Rattle.sm_model.specs.declared.relation.Relation.{Relation}
 use Rattle.sm_select.specs.Selectors.{Step, Steps, along}
@@ -8,16 +8,18 @@ use Rattle.sm_select.specs.declared.tokens.Sign.TheVariants.{Comma, CloseNames}
 use Rattle.sm_select.specs.Tokens.{EndsWhite, SkipsWhite}
 use Rattle.sm_select.specs.declared.refusal.SelectorRefusal.{SelectorRefusal}
 use Rattle.sm_select.specs.declared.refusal.SelectorRefusal.TheVariants.{Syntax, OutOfProfile, NoMemory}
-use Rattle.sm_select.specs.steps.Signs.{sign_text, first_sign, behind_name_signs}
-use Rattle.sm_select.specs.steps.Places.{Piece, sign, relation, Frame, Place, stepping, name_wanted, behind_name, Moves, of_name, another_name}
+use Rattle.sm_select.specs.steps.Signs.{sign_text, stands, first_sign, behind_name_signs}
+use Rattle.sm_select.specs.steps.Places.{Piece, sign, relation, Frame, Place, stepping, name_wanted, behind_name, Moves, of_name}
+use Rattle.sm_select.specs.steps.Places.{another_name}
 use Rattle.sm_select.specs.steps.Places.{closes_names, IsStepping, IsWhole}
 use Rattle.sm_select.specs.steps.Standing.{Passes, StopsAt}
 use Rattle.sm_select.specs.steps.Reader.{IsRunAt, IsPlaced, Refuses}
-use Rattle.sm_select.proofs.Passing.{passes_white, no_white}
-use Rattle.sm_select.proofs.ReadWords.{Named, word_passes, sign_passes, first_stands, none_no_sign, named_stops, signs_stop}
+use Rattle.sm_select.proofs.Passing.{passes_white, no_white, passes_shorter}
+use Rattle.sm_select.proofs.ReadWords.{Named, word_passes, sign_passes, none_no_sign, named_stops, signs_stop}
 
 -- a refusal where no step may come
-pub flat_refused : (len : ℕ) (q : Place) (rest : List ℕ) (e : SelectorRefusal) → (IsStepping q → ⊥) → ((steps : Steps) → IsWhole q steps → ⊥)
+pub flat_refused : (len : ℕ) (q : Place) (rest : List ℕ) (e : SelectorRefusal) → (IsStepping q → ⊥) → ((steps : Steps) → IsWhole q steps
+    → ⊥)
     → StopsAt q rest
     → EndsWhite rest
     → IsPlaced len rest e
@@ -44,7 +46,8 @@ none_of_these : {ss : List Step} {fs : List Frame} {ns : List Relation} {x : Pie
     → ⊥
 none_of_these w none (of_name {r = r}) e = none r e
 
-pub name_read : (ss : List Step) (fs : List Frame) (ns : List Relation) (s w behind : List ℕ) (r : Relation) → IsRunAt s w → w ≡ relation_name r
+pub name_read : (ss : List Step) (fs : List Frame) (ns : List Relation) (s w behind : List ℕ) (r : Relation) → IsRunAt s w → w ≡
+    relation_name r
     → SkipsWhite (drop (length w) s) behind
     → EndsWhite behind
     → Passes (name_wanted ss fs ns) s (behind_name ss fs (ns ++ r ∷ [])) behind
@@ -67,26 +70,40 @@ only_signs : {ss : List Step} {fs : List Frame} {ns : List Relation} {x : Piece}
 only_signs another_name = (Comma, refl)
 only_signs closes_names = (CloseNames, refl)
 
-pub comma_read : (ss : List Step) (fs : List Frame) (ns : List Relation) (s behind : List ℕ) → first_sign behind_name_signs s ≡ Some Comma
+pub comma_read : (ss : List Step) (fs : List Frame) (ns : List Relation) (s behind : List ℕ) → stands Comma s ≡ true
     → SkipsWhite (drop (length (sign_text Comma)) s) behind
     → EndsWhite behind
     → Passes (behind_name ss fs ns) s (name_wanted ss fs ns) behind
 comma_read ss fs ns s behind e gone dark =
-    sign_passes (behind_name ss fs ns) (name_wanted ss fs ns) Comma s behind (first_stands behind_name_signs s Comma e) another_name gone dark
+    sign_passes (behind_name ss fs ns) (name_wanted ss fs ns) Comma s behind e another_name gone
+    dark
 
-pub names_closed : (ss : List Step) (fs : List Frame) (ns : List Relation) (s behind : List ℕ) → first_sign behind_name_signs s ≡ Some CloseNames
+pub names_closed : (ss : List Step) (fs : List Frame) (ns : List Relation) (s behind : List ℕ) → stands CloseNames s ≡ true
     → SkipsWhite (drop (length (sign_text CloseNames)) s) behind
     → EndsWhite behind
     → Passes (behind_name ss fs ns) s (stepping (ss ++ along ns ∷ []) fs) behind
 names_closed ss fs ns s behind e gone dark =
-    sign_passes (behind_name ss fs ns) (stepping (ss ++ along ns ∷ []) fs) CloseNames s behind (first_stands behind_name_signs s CloseNames e)
+    sign_passes (behind_name ss fs ns) (stepping (ss ++ along ns ∷ []) fs) CloseNames s behind e
     closes_names gone dark
 
+neither : (s : List ℕ) → stands Comma s ≡ false → stands CloseNames s ≡ false → first_sign behind_name_signs s ≡ None
+neither s h k = ap (λ b. cond b (Some Comma) (first_sign (CloseNames ∷ []) s)) h ∙ ap (λ b. cond b (Some CloseNames) None) k
+
 pub names_refused : (len : ℕ) (ss : List Step) (fs : List Frame) (ns : List Relation) (s : List ℕ) (e : SelectorRefusal)
-    → first_sign behind_name_signs s ≡ None
+    → stands Comma s ≡ false
+    → stands CloseNames s ≡ false
     → EndsWhite s
     → IsPlaced len s e
     → Refuses len (behind_name ss fs ns) s e
-names_refused len ss fs ns s e none dark placed =
+names_refused len ss fs ns s e no_comma no_close dark placed =
     flat_refused len (behind_name ss fs ns) s e (λ x. x) (λ steps x. x)
-    (signs_stop (behind_name ss fs ns) s (none_no_sign (behind_name ss fs ns) s none) (λ x q m. only_signs m)) dark placed
+    (signs_stop (behind_name ss fs ns) s (none_no_sign (behind_name ss fs ns) s (neither s no_comma no_close)) (λ x q m. only_signs m)) dark placed
+
+-- one name more
+pub name_shorter : (ss : List Step) (fs : List Frame) (ns more : List Relation) (s r x : List ℕ)
+    → Passes (name_wanted ss fs ns) s (behind_name ss fs more) r
+    → Passes (behind_name ss fs more) r (name_wanted ss fs more) x
+    → length x < length s
+name_shorter ss fs ns more s r x a b =
+    let first = passes_shorter (name_wanted ss fs ns) (behind_name ss fs more) s r a (λ e. cc) in
+    let second = passes_shorter (behind_name ss fs more) (name_wanted ss fs more) r x b (λ e. cc) in omega arith

@@ -39,7 +39,8 @@ path_kinds at_name = inr (IdName, refl)
 path_kinds at_member = inr (IdMember, refl)
 path_kinds at_trait = inr (TraitBar, refl)
 
-no_id : {ss : List Step} {fs : List Frame} {x : Piece} {q : Place} (w : List ℕ) → (w ≡ codes "id" → ⊥) → Moves (path_wanted ss fs) x q → Named x w
+no_id : {ss : List Step} {fs : List Frame} {x : Piece} {q : Place} (w : List ℕ) → (w ≡ codes "id" → ⊥) → Moves (path_wanted ss fs) x q →
+    Named x w
     → ⊥
 no_id w none at_id n = none n
 no_id w none at_namespace n = n
@@ -55,7 +56,8 @@ pub path_refused : (len : ℕ) (ss : List Step) (fs : List Frame) (s w : List �
     → Refuses len (path_wanted ss fs) s e
 path_refused len ss fs s w e none at other dark placed =
     flat_refused len (path_wanted ss fs) s e (λ x. x) (λ steps x. x)
-    (named_stops (path_wanted ss fs) s w (none_no_sign (path_wanted ss fs) s none) at (λ x q m. path_kinds m) (λ x q m n. no_id w other m n))
+    (named_stops (path_wanted ss fs) s w (none_no_sign (path_wanted ss fs) s none) at (λ x q m. path_kinds m) (λ x q m n. no_id w other m
+    n))
     dark placed
 
 -- behind a path
@@ -120,7 +122,8 @@ no_fold w none another_value n = n
 no_fold w none folds n = none n
 no_fold w none compared n = n
 
-pub behind_value_refused : (len : ℕ) (ss : List Step) (fs : List Frame) (path : Attribute) (op : SelectorOp) (vs : List (List ℕ)) (s w : List ℕ)
+pub behind_value_refused : (len : ℕ) (ss : List Step) (fs : List Frame) (path : Attribute) (op : SelectorOp) (vs : List (List ℕ)) (s w :
+    List ℕ)
     (e : SelectorRefusal) → first_sign behind_value_signs s ≡ None
     → IsRunAt s w
     → (w ≡ codes "i" → ⊥)

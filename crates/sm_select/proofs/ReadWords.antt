@@ -1,5 +1,6 @@
 -- What a sign or a word that stands first leads to, and that nothing leads on where neither does.
-use Rattle.std.proofs.Common.{◌≡◌, ◌⊎◌, inl, inr, ℕ, ◌≤◌, Bool, true, false, cond, List, [], ◌∷◌, ◌++◌, length, drop, Option, Some, None, refl, sym, ap, ◌∙◌, subst, codes, arith}
+use Rattle.std.proofs.Common.{◌≡◌, ◌⊎◌, inl, inr, ℕ, ◌≤◌, Bool, true, false, cond, List, [], ◌∷◌, ◌++◌, length, drop, Option, Some, None}
+use Rattle.std.proofs.Common.{refl, sym, ap, ◌∙◌, subst, codes, arith}
 use Rattle.std.specs.List.{list_all}
 use Rattle.std.proofs.lemmas.List.Sums.{list_all-from_AllPass}
 use Rattle.sm_ids.specs.Identifier.{IsIdentifier}
@@ -11,10 +12,12 @@ use Rattle.sm_model.specs.declared.kind.Kind.TheVariants.{Double, BigInteger}
 use Rattle.sm_model.specs.declared.kind.Kind.TheVariants.{BigDecimal, Timestamp, Document, List as list_kind, Map, Structure, Union}
 use Rattle.sm_model.specs.declared.kind.Kind.TheVariants.{Service, Operation, Resource}
 use Rattle.sm_model.specs.declared.relation.Relation.{Relation}
-use Rattle.sm_model.specs.declared.relation.Relation.TheVariants.{Member, Container, Target, Input, Output, Error, Operation as an_operation}
+use Rattle.sm_model.specs.declared.relation.Relation.TheVariants.{Member, Container, Target, Input, Output, Error}
+use Rattle.sm_model.specs.declared.relation.Relation.TheVariants.{Operation as an_operation}
 use Rattle.sm_model.specs.declared.relation.Relation.TheVariants.{Resource as a_resource, Identifier, Property}
 use Rattle.sm_select.specs.declared.tokens.Sign.{Sign}
-use Rattle.sm_select.specs.Tokens.{Token, terminal, word, TokenThen, BeginsOther, EndsInRun, GoesOnWithRun, EndsWhite, SkipsWhite, begins_run, is_run_byte}
+use Rattle.sm_select.specs.Tokens.{Token, terminal, word, TokenThen, BeginsOther, EndsInRun, GoesOnWithRun, EndsWhite, SkipsWhite}
+use Rattle.sm_select.specs.Tokens.{begins_run, is_run_byte}
 use Rattle.sm_select.specs.Grammar.{type_word}
 use Rattle.sm_select.specs.SelectorText.{IsRun}
 use Rattle.sm_select.specs.steps.Signs.{sign_text, stands, first_sign}
@@ -23,7 +26,8 @@ use Rattle.sm_select.specs.steps.Standing.{StopsAt, Passes}
 use Rattle.sm_select.specs.steps.Reader.{BeginsNoRun, IsRunAt}
 use Rattle.sm_select.proofs.WordBytes.{word_then, run_stops, begin_is_run, IsRunText, identifier_text, identifier_run}
 use Rattle.sm_select.proofs.SignTexts.{sign_token, drop_joined}
-use Rattle.sm_select.proofs.OneMove.{Want, wanted, fits, Fits, step_sign, step_kind, path_sign, path_id, a_trait_id, key_text, only_sign, value_text, fold_sign, the_fold, a_relation, end_sign}
+use Rattle.sm_select.proofs.OneMove.{Want, wanted, fits, Fits, step_sign, step_kind, path_sign, path_id, a_trait_id, key_text, only_sign}
+use Rattle.sm_select.proofs.OneMove.{value_text, fold_sign, the_fold, a_relation, end_sign}
 use Rattle.sm_select.proofs.SignPairs.{signs_at, sign_found, sign_then, sign_no_word, sign_pair_same, some_same}
 use Rattle.sm_select.proofs.TwoTokens.{id_signs, no_step_path, no_fold_path}
 use Rattle.sm_select.proofs.Passing.{passes_token}
@@ -131,12 +135,14 @@ sign_or_named end_sign end_sign v n t e = absurd n
 
 -- the run that stands first is a word's text where an identifier is a token there
 no_bracket : (c : ℕ) (s : List ℕ) → begins_run c ≡ true → BeginsOther (c ∷ s) → ⊥
-no_bracket c s h (inl (more, e)) = absurd (let f : false ≡ true = subst (λ x. begins_run x ≡ true) (heads c 60 s (45 ∷ 91 ∷ more) e) h in cc)
+no_bracket c s h (inl (more, e)) = absurd (let f : false ≡ true = subst (λ x. begins_run x ≡ true) (heads c 60 s (45 ∷ 91 ∷ more) e) h in
+    cc)
 no_bracket c s h (inr (more, e)) = absurd (let f : false ≡ true = subst (λ x. begins_run x ≡ true) (heads c 91 s (64 ∷ more) e) h in cc)
 
 run_all : (run s behind : List ℕ) → IsRun run s behind → list_all is_run_byte run ≡ true
 run_all run s behind r = subst (λ x. list_all is_run_byte x ≡ true) (sym r.is)
-    (and_also (is_run_byte r.first) (list_all is_run_byte r.more) (begin_is_run r.first r.begins) (list_all-from_AllPass is_run_byte r.more r.goes_on))
+    (and_also (is_run_byte r.first) (list_all is_run_byte r.more) (begin_is_run r.first r.begins) (list_all-from_AllPass is_run_byte
+    r.more r.goes_on))
 
 pub identifier_at : (v s b : List ℕ) → IsIdentifier v → TokenThen (word v) s b → (run : List ℕ) → IsRunAt s run
     → (v ≡ run) × (drop (length run) s ≡ b)
@@ -204,7 +210,8 @@ two_signs : (p q n : Place) (a c : Sign) (t u : Token) (s r b : List ℕ) → Mo
 two_signs p q n a c t u s r b m o e f h k =
     let same = sign_pair_same p q n a c t u s r b m o e f h k in let size = ap length same.1 in omega arith
 
-sign_longest : {w : Want} {y : Piece} (a : Sign) → Fits w (sign a) → Fits w y → (p q n : Place) (t u : Token) (s r b : List ℕ) → wanted p ≡ w
+sign_longest : {w : Want} {y : Piece} (a : Sign) → Fits w (sign a) → Fits w y → (p q n : Place) (t u : Token) (s r b : List ℕ) → wanted p
+    ≡ w
     → Moves p (sign a) q
     → Moves p y n
     → ReadAs (sign a) t
@@ -216,7 +223,8 @@ sign_longest a step_sign (step_sign {s = c}) p q n t u s r b at m o e f h k = tw
 sign_longest a step_sign (step_kind {k = j}) p q n t u s r b at m o e f h k =
     absurd (sign_no_word p q a t u s r b (type_word j) m (λ g. no_step_path (sym at ∙ g)) e f h k)
 sign_longest a path_sign (path_sign {s = c}) p q n t u s r b at m o e f h k = two_signs p q n a c t u s r b m o e f h k
-sign_longest a path_sign path_id p q n t u s r b at m o e f h k = let d = id_signs p q n a t u s r b m o e f h k in let l = d.1 in omega arith
+sign_longest a path_sign path_id p q n t u s r b at m o e f h k = let d = id_signs p q n a t u s r b m o e f h k in let l = d.1 in omega
+    arith
 sign_longest a only_sign (only_sign {s = c}) p q n t u s r b at m o e f h k = two_signs p q n a c t u s r b m o e f h k
 sign_longest a fold_sign (fold_sign {s = c}) p q n t u s r b at m o e f h k = two_signs p q n a c t u s r b m o e f h k
 sign_longest a fold_sign the_fold p q n t u s r b at m o e f h k =
@@ -229,7 +237,8 @@ pub sign_passes : (p q : Place) (a : Sign) (s r : List ℕ) → stands a s ≡ t
     → Passes p s q r
 sign_passes p q a s r stands moves gone dark =
     let then = sign_token a s stands in
-    passes_token p q (terminal (sign_text a)) s (drop (length (sign_text a)) s) r (record { piece = sign a; read = refl; moves = moves }) then
+    passes_token p q (terminal (sign_text a)) s (drop (length (sign_text a)) s) r (record { piece = sign a; read = refl; moves = moves })
+    then
     (λ u n b l h. sign_longest a (fits moves) (fits l.moves) p q n (terminal (sign_text a)) u s (drop (length (sign_text a)) s) b refl moves
     l.moves refl l.read then h)
     gone dark
@@ -259,7 +268,8 @@ named_stops p s w no_sign at kinds none t r q h l = elim (kinds l.piece q l.move
 
     by_word : (v : List ℕ) → Named l.piece v → ⊥
     by_word v named = by_same v named
-        (identifier_at v s r (named_identifier l.piece v named) (subst (λ y. TokenThen y s r) (read_named l.piece v t named l.read) h) w at).0
+        (identifier_at v s r (named_identifier l.piece v named) (subst (λ y. TokenThen y s r) (read_named l.piece v t named l.read) h) w
+        at).0
 
 -- where only signs lead on
 pub signs_stop : (p : Place) (s : List ℕ) → NoSign p s → ((x : Piece) (q : Place) → Moves p x q → (a : Sign) × (x ≡ sign a)) → StopsAt p s

@@ -2,14 +2,17 @@
 use Rattle.std.proofs.Common.{◌≡◌, inl, inr, true, false, List, [], ◌∷◌, ◌++◌, refl, sym, ap, ◌∙◌, subst, append_assoc, append-nil, codes}
 use Rattle.std.specs.Prelude.{map}
 use Rattle.sm_select.specs.Selectors.{Attribute, id_of, namespace_of, name_of, member_of, trait_of}
-use Rattle.sm_select.specs.Selectors.{Step, any_shape, of_kind, has, compares, forward, back, walk, along, picked_by, picks_none, picks_some}
+use Rattle.sm_select.specs.Selectors.{Step, any_shape, of_kind, has, compares, forward, back, walk, along, picked_by, picks_none}
+use Rattle.sm_select.specs.Selectors.{picks_some}
 use Rattle.sm_select.specs.Selectors.{Steps, no_steps, then, Alternatives, no_selectors, or_by, steps_of, alternatives_of}
 use Rattle.sm_select.specs.declared.tokens.Form.{Form}
 use Rattle.sm_select.specs.declared.tokens.Form.TheVariants.{Is, Not, Test}
 use Rattle.sm_select.specs.Tokens.{Token, terminal, word}
 use Rattle.sm_select.specs.Grammar.{type_word, SpellsPath, SpellsStep, SpellsSteps, SpellsMoreList}
-use Rattle.sm_select.specs.steps.Places.{Piece, ReadAs, Frame, frame, held, IsListed, Place, stepping, path_wanted, trait_wanted, key_wanted}
-use Rattle.sm_select.specs.steps.Places.{behind_path, value_wanted, behind_value, behind_fold, name_wanted, behind_name, Moves, star, a_kind}
+use Rattle.sm_select.specs.steps.Places.{Piece, ReadAs, Frame, frame, held, IsListed, Place, stepping, path_wanted, trait_wanted}
+use Rattle.sm_select.specs.steps.Places.{key_wanted}
+use Rattle.sm_select.specs.steps.Places.{behind_path, value_wanted, behind_value, behind_fold, name_wanted, behind_name, Moves, star}
+use Rattle.sm_select.specs.steps.Places.{a_kind}
 use Rattle.sm_select.specs.steps.Places.{greater, smaller, tilde, opens_path, opens_names, opens_is, opens_not, opens_test, closes, another}
 use Rattle.sm_select.specs.steps.Places.{at_id, at_namespace, at_name, at_member, at_trait, of_trait, bar, of_key, had, stands_to, of_value}
 use Rattle.sm_select.specs.steps.Places.{another_value, folds, compared, compared_folded, of_name, another_name, closes_names, Runs}
@@ -46,7 +49,8 @@ onward step (s ∷ ss) fs ts steps rest = rest
 single : (step : Step) (ss : List Step) (fs : List Frame) (t u : Token) (ts : List Token) (steps : Steps) → SpellsStep step (u ∷ ts) ts
     → t ≡ u → Rest (stepping (ss ++ step ∷ []) fs) ts steps → Rest (stepping ss fs) (t ∷ ts) steps
 single step ss fs t u ts steps spelled e rest =
-    subst (λ x. Rest (stepping ss fs) (x ∷ ts) steps) (sym e) (step_came step ss fs (u ∷ ts) ts steps spelled (onward step ss fs ts steps rest))
+    subst (λ x. Rest (stepping ss fs) (x ∷ ts) steps) (sym e) (step_came step ss fs (u ∷ ts) ts steps spelled (onward step ss fs ts steps
+    rest))
 
 -- an attribute
 attribute : (ss : List Step) (fs : List Frame) (t : Token) (ts : List Token) (steps : Steps) → t ≡ terminal (codes "[")
@@ -114,7 +118,8 @@ form_closed s ss form outer done fs t ts steps e (on, b, went, closing) = (
   (no_selectors, on, ts, b, ap (λ x. x ∷ ts) e, inl refl, went, moved),
 )
   where
-    same : (outer ++ held form (done ++ (s ∷ ss) ∷ []) ∷ []) ++ step_list on ≡ outer ++ held form (done ++ ((s ∷ ss) ++ []) ∷ []) ∷ step_list on
+    same : (outer ++ held form (done ++ (s ∷ ss) ∷ []) ∷ []) ++ step_list on ≡ outer ++ held form (done ++ ((s ∷ ss) ++ []) ∷ []) ∷
+        step_list on
     same = append_assoc outer (held form (done ++ (s ∷ ss) ∷ []) ∷ []) (step_list on)
         ∙ ap (λ x. outer ++ held form (done ++ x ∷ []) ∷ step_list on) (sym (append-nil (s ∷ ss)))
 
@@ -195,7 +200,15 @@ rest_before t ts steps (of_value {ss} {fs} {path} {op} {vs} {v}) read (more, fol
   ts,
   b,
   r,
-  elim read [ inl e ↦ inl (ap (λ x. x ∷ ts) e) | inr (inl e) ↦ inr (inl (ap (λ x. x ∷ ts) e)) | inr (inr (is, e)) ↦ inr (inr (is, ap (λ x. x ∷ ts) e)) ],
+  elim read [
+    | inl e ↦ inl (ap (λ x. x ∷ ts) e)
+    | inr (inl e) ↦ inr (inl (ap (λ x. x ∷ ts) e))
+    | inr (inr (is, e)) ↦ inr (inr (
+      is,
+      ap (λ
+          x. x ∷ ts) e,
+    ))
+  ],
   values,
   folded,
   subst (λ x. Onward (ss ++ compares path op x fold ∷ []) fs r steps) (append_assoc vs (v ∷ []) more) on,
@@ -258,4 +271,5 @@ pub run_spells : (q : Place) (ts : List Token) (steps : Steps) → Runs (steppin
 run_spells q ts steps run w = by_rest (run_rests (stepping [] []) q ts steps run w)
   where
     by_rest : Rest (stepping [] []) ts steps → SpellsSteps steps ts []
-    by_rest (on, r, spelled, (none, same)) = subst (λ x. SpellsSteps x ts []) (sym (same ∙ steps_back on)) (subst (λ x. SpellsSteps on ts x) none spelled)
+    by_rest (on, r, spelled, (none, same)) = subst (λ x. SpellsSteps x ts []) (sym (same ∙ steps_back on)) (subst (λ x. SpellsSteps on ts
+        x) none spelled)

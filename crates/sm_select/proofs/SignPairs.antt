@@ -1,5 +1,6 @@
 -- Signs and words at one place of a text: which sign leads on, what two tokens may be to each other, and behind which nothing leads on.
-use Rattle.std.proofs.Common.{◌≡◌, ◌⊎◌, inl, inr, ℕ, ◌<◌, Bool, true, false, cond, ◌&&◌, ◌==◌, List, [], ◌∷◌, ◌++◌, length, drop, Option, Some, None, refl, sym, ap, ◌∙◌, subst, codes, arith}
+use Rattle.std.proofs.Common.{◌≡◌, ◌⊎◌, inl, inr, ℕ, ◌<◌, Bool, true, false, cond, ◌&&◌, ◌==◌, List, [], ◌∷◌, ◌++◌, length, drop, Option}
+use Rattle.std.proofs.Common.{Some, None, refl, sym, ap, ◌∙◌, subst, codes, arith}
 use Rattle.std.specs.Prelude.{not}
 use Rattle.std.proofs.lemmas.Bool.Decides.{nat_tests}
 use Rattle.sm_ids.specs.IdText.{member_text}
@@ -14,7 +15,8 @@ use Rattle.sm_select.specs.declared.tokens.Sign.TheVariants.{TraitBar, Op}
 use Rattle.sm_select.specs.Selectors.{Step, Attribute, id_of}
 use Rattle.sm_select.specs.Tokens.{Token, terminal, word, quoted, numeral, TokenThen, is_selector_white, begins_run, is_run_byte}
 use Rattle.sm_select.specs.Grammar.{type_word}
-use Rattle.sm_select.specs.steps.Signs.{sign_text, opens, goes_on_with_run, sign_ends, first_sign, step_signs, path_signs, behind_path_signs}
+use Rattle.sm_select.specs.steps.Signs.{sign_text, opens, goes_on_with_run, sign_ends, first_sign, step_signs, path_signs}
+use Rattle.sm_select.specs.steps.Signs.{behind_path_signs}
 use Rattle.sm_select.specs.steps.Signs.{behind_value_signs, behind_name_signs}
 use Rattle.sm_select.specs.steps.Places.{Piece, sign, kind, id_word, fold_word, relation, trait, key, value, ReadAs, Frame}
 use Rattle.sm_select.specs.steps.Places.{Place}
@@ -56,16 +58,19 @@ pub moved_sign : {p q : Place} {a : Sign} → Moves p (sign a) q → (r : List �
     → first_sign (signs_at (wanted p)) (sign_text a ++ r) ≡ Some a
 moved_sign star r h = refl
 moved_sign greater r h = refl
-moved_sign smaller r h = found_star (not (opens (codes "-[") r)) (first_sign (Tilde ∷ OpenPath ∷ OpenNames ∷ OpenIs ∷ OpenNot ∷ OpenTest ∷ Close ∷ Comma ∷ []) (60 ∷ r)) Smaller h
+moved_sign smaller r h = found_star (not (opens (codes "-[") r)) (first_sign (Tilde ∷ OpenPath ∷ OpenNames ∷ OpenIs ∷ OpenNot ∷ OpenTest
+    ∷ Close ∷ Comma ∷ []) (60 ∷ r)) Smaller h
 moved_sign tilde r h = refl
-moved_sign opens_path r h = found_star (not (opens (codes "@") r)) (first_sign (OpenNames ∷ OpenIs ∷ OpenNot ∷ OpenTest ∷ Close ∷ Comma ∷ []) (91 ∷ r)) OpenPath h
+moved_sign opens_path r h = found_star (not (opens (codes "@") r)) (first_sign (OpenNames ∷ OpenIs ∷ OpenNot ∷ OpenTest ∷ Close ∷ Comma ∷
+    []) (91 ∷ r)) OpenPath h
 moved_sign opens_names r h = refl
 moved_sign opens_is r h = refl
 moved_sign opens_not r h = refl
 moved_sign opens_test r h = refl
 moved_sign closes r h = refl
 moved_sign (another several) r h = refl
-moved_sign at_namespace r h = found_star (not (goes_on_with_run r)) (first_sign (IdMember ∷ TraitBar ∷ IdName ∷ []) (codes "id|namespace" ++ r)) IdNamespace h
+moved_sign at_namespace r h = found_star (not (goes_on_with_run r)) (first_sign (IdMember ∷ TraitBar ∷ IdName ∷ []) (codes "id|namespace"
+    ++ r)) IdNamespace h
 moved_sign at_name r h =
     ap (λ b. cond (b && sign_ends IdNamespace (drop 12 (codes "id|name" ++ r))) (Some IdNamespace)
     (first_sign (IdMember ∷ TraitBar ∷ IdName ∷ []) (codes "id|name" ++ r))) (no_space r h)
@@ -130,7 +135,10 @@ no_dollar_sign TraitBar d s h e = absurd (let f : false ≡ true = e in cc)
 no_dollar_sign (Op Equal) d s h e = absurd (let f : false ≡ true = e in cc)
 no_dollar_sign (Op Unequal) d s h e = absurd (let f : false ≡ true = e in cc)
 no_dollar_sign (Op Starts) d s h e = absurd (let f : false ≡ true = e in cc)
-no_dollar_sign (Op Ends) d s h e = let k : (61 == d) ≡ true = (both (61 == d) true e).0 in let g : begins_run d ≡ false = grind (arith, nat_tests) in clash (begins_run d) h g
+no_dollar_sign (Op Ends) d s h e = let k : (61 == d) ≡ true = (both (61 == d) true e).0 in let g : begins_run d ≡ false = grind (
+  arith,
+  nat_tests,
+) in clash (begins_run d) h g
 no_dollar_sign (Op holding) d s h e = absurd (let f : false ≡ true = e in cc)
 
 pub quoted_head : (v s r : List ℕ) (c : ℕ) (more : List ℕ) → TokenThen (quoted v) s r → s ≡ c ∷ more → (c ≡ 34) ⊎ (c ≡ 39)
@@ -219,7 +227,11 @@ headless p s c more e no_letter no_digit no_quote no_apostrophe no_sign t r q h 
     no_word_here w f = clash (begins_run c) (then_head w s r c more (then_word t w s r f h) e) no_letter
 
     no_quoted_here : (v : List ℕ) → t ≡ quoted v → ⊥
-    no_quoted_here v f = elim (quoted_head v s r c more (subst (λ x. TokenThen x s r) f h) e) [ inl g ↦ no_quote g | inr g ↦ no_apostrophe g ]
+    no_quoted_here v f = elim (quoted_head v s r c more (subst (λ x. TokenThen x s r) f h) e) [
+      | inl g ↦ no_quote g
+      | inr g ↦
+          no_apostrophe g
+    ]
 
     no_numeral_here : (v : List ℕ) → t ≡ numeral v → ⊥
     no_numeral_here v f = clash (begins_number c) (numeral_head v s r c more (subst (λ x. TokenThen x s r) f h) e) no_digit
@@ -250,7 +262,8 @@ dollar_dead p r q d = record {
   more = d.first ∷ d.more;
   is = d.is;
   not_white = refl;
-  stops = headless p r 36 (d.first ∷ d.more) d.is refl refl (unlike 36 34 refl) (unlike 36 39 refl) (λ a n m e. no_dollar_sign a d.first d.more d.begins
+  stops = headless p r 36 (d.first ∷ d.more) d.is refl refl (unlike 36 34 refl) (unlike 36 39 refl) (λ a n m e. no_dollar_sign a d.first
+      d.more d.begins
       (subst (λ x. opens (sign_text a) x ≡ true) d.is e));
 }
 
@@ -322,7 +335,8 @@ word_pair t u q n s r b v w e f h k = by_words (two_words v w s r b (then_word t
 pub some_same : {A : Type 0} (a b : A) → Some a ≡ Some b → a ≡ b
 some_same a b e = cc
 
-pub sign_pair_same : (p q n : Place) (a c : Sign) (t u : Token) (s r b : List ℕ) → Moves p (sign a) q → Moves p (sign c) n → ReadAs (sign a) t
+pub sign_pair_same : (p q n : Place) (a c : Sign) (t u : Token) (s r b : List ℕ) → Moves p (sign a) q → Moves p (sign c) n → ReadAs (sign
+    a) t
     → ReadAs (sign c) u
     → TokenThen t s r
     → TokenThen u s b
@@ -356,7 +370,8 @@ word_head_of w s r t =
     t.spelled ∙ ap (λ x. x ++ r) t.shape.is ∙ ap (λ x. (x ++ member_text t.shape.member) ++ r) t.shape.of_run.is in
     subst (λ x. begins_run (head_of x) ≡ true) (sym whole) t.shape.of_run.begins
 
-pub sign_no_word : (p q : Place) (a : Sign) (t u : Token) (s r b w : List ℕ) → Moves p (sign a) q → (wanted p ≡ a_path → ⊥) → ReadAs (sign a) t
+pub sign_no_word : (p q : Place) (a : Sign) (t u : Token) (s r b w : List ℕ) → Moves p (sign a) q → (wanted p ≡ a_path → ⊥) → ReadAs
+    (sign a) t
     → u ≡ word w
     → TokenThen t s r
     → TokenThen u s b
@@ -368,7 +383,8 @@ sign_no_word p q a t u s r b w m no_path e f h k = elim (moved_head m) [
 ]
 
 -- `id` and a sign that goes on with it
-pub id_pair : {p q n : Place} {a : Sign} → Moves p id_word n → Moves p (sign a) q → (s r b : List ℕ) → s ≡ sign_text a ++ r → s ≡ codes "id" ++ b
+pub id_pair : {p q n : Place} {a : Sign} → Moves p id_word n → Moves p (sign a) q → (s r b : List ℕ) → s ≡ sign_text a ++ r → s ≡ codes
+    "id" ++ b
     → IsDead n b × (length r < length b)
 id_pair (at_id {ss} {fs}) at_namespace s r b e f =
     let g : b ≡ 124 ∷ (codes "namespace" ++ r) = ap (drop 2) (sym f ∙ e) in

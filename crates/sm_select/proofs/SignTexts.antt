@@ -1,7 +1,8 @@
 -- Which sign stands at the start of a text: where a sign's token stands it is found, and what is found is a token.
-use Rattle.std.proofs.Common.{◌≡◌, inl, inr, ℕ, Bool, true, false, ◌==◌, List, [], ◌∷◌, ◌++◌, length, drop, refl, sym, ap, ◌∙◌, subst, codes, arith}
-use Rattle.std.specs.Prelude.{not}
-use Rattle.std.specs.List.{Contains, list_all}
+use Rattle.std.proofs.Common.{◌≡◌, inl, inr, ℕ, Bool, true, false, ◌==◌, ◌&&◌, List, [], ◌∷◌, ◌++◌, length, drop, refl, sym, ap, ◌∙◌, subst}
+use Rattle.std.proofs.Common.{codes, arith}
+use Rattle.std.specs.Prelude.{nat_eq, not}
+use Rattle.std.specs.List.{Contains, list_all, starts_with}
 use Rattle.std.proofs.lemmas.Bool.Decides.{nat_tests}
 use Rattle.std.proofs.lemmas.List.Sums.{list_all-from_AllPass, AllPass-from_list_all}
 use Rattle.sm_ids.proofs.Cutting.{both, and_also, clash}
@@ -35,6 +36,12 @@ opens_cut [] s h = refl
 opens_cut (c ∷ t) [] h = absurd (let e : false ≡ true = h in cc)
 opens_cut (c ∷ t) (d ∷ s) h =
     let k = both (c == d) (opens t s) h in ap (λ x. x ∷ s) (sym (eq_of c d k.0)) ∙ ap (λ x. c ∷ x) (opens_cut t s k.1)
+
+-- as `starts_with` of std says it
+pub opens_is : (t s : List ℕ) → starts_with nat_eq s t ≡ opens t s
+opens_is [] s = refl
+opens_is (c ∷ t) [] = refl
+opens_is (c ∷ t) (d ∷ s) = ap (λ b. (c == d) && b) (opens_is t s)
 
 eq_same : (c : ℕ) → (c == c) ≡ true
 eq_same c = grind (arith, nat_tests)
@@ -198,9 +205,32 @@ sign_may_end OpenTest r o e = refl
 sign_may_end Close r o e = refl
 sign_may_end Comma r o e = refl
 sign_may_end Bar r o e = refl
-sign_may_end IdNamespace r o e = id_ends (codes "id|") (codes "namespace") r e (record { before = codes "id|"; first = 110; run = codes "amespace"; begins = refl; goes_on = AllPass-from_list_all is_run_byte (codes "amespace") refl; whole = refl })
-sign_may_end IdName r o e = id_ends (codes "id|") (codes "name") r e (record { before = codes "id|"; first = 110; run = codes "ame"; begins = refl; goes_on = AllPass-from_list_all is_run_byte (codes "ame") refl; whole = refl })
-sign_may_end IdMember r o e = id_ends (codes "id|") (codes "member") r e (record { before = codes "id|"; first = 109; run = codes "ember"; begins = refl; goes_on = AllPass-from_list_all is_run_byte (codes "ember") refl; whole = refl })
+sign_may_end IdNamespace r o e = id_ends (codes "id|") (codes "namespace") r e (record {
+  before = codes "id|";
+  first = 110;
+  run = codes
+      "amespace";
+  begins = refl;
+  goes_on = AllPass-from_list_all is_run_byte (codes "amespace") refl;
+  whole = refl;
+})
+sign_may_end IdName r o e = id_ends (codes "id|") (codes "name") r e (record {
+  before = codes "id|";
+  first = 110;
+  run = codes "ame";
+  begins = refl;
+  goes_on = AllPass-from_list_all is_run_byte (codes "ame") refl;
+  whole = refl;
+})
+sign_may_end IdMember r o e = id_ends (codes "id|") (codes "member") r e (record {
+  before = codes "id|";
+  first = 109;
+  run = codes
+      "ember";
+  begins = refl;
+  goes_on = AllPass-from_list_all is_run_byte (codes "ember") refl;
+  whole = refl;
+})
 sign_may_end TraitBar r o e = refl
 sign_may_end (Op Equal) r o e = refl
 sign_may_end (Op Unequal) r o e = refl

@@ -1,10 +1,12 @@
 -- The tokens that spell a selector lead from its first place to a place where it is whole.
-use Rattle.std.proofs.Common.{◌≡◌, inl, inr, ℕ, Bool, true, false, List, [], ◌∷◌, ◌++◌, refl, sym, ap, ◌∙◌, subst, append_assoc, append-nil, codes}
+use Rattle.std.proofs.Common.{◌≡◌, inl, inr, ℕ, Bool, true, false, List, [], ◌∷◌, ◌++◌, refl, sym, ap, ◌∙◌, subst, append_assoc}
+use Rattle.std.proofs.Common.{append-nil, codes}
 use Rattle.sm_model.specs.Relations.{relation_name}
 use Rattle.sm_model.specs.declared.relation.Relation.{Relation}
 use Rattle.sm_select.specs.declared.selector.SelectorOp.{SelectorOp}
 use Rattle.sm_select.specs.Selectors.{Attribute, id_of, namespace_of, name_of, member_of, trait_of}
-use Rattle.sm_select.specs.Selectors.{Step, any_shape, of_kind, has, compares, forward, back, walk, along, picked_by, picks_none, picks_some}
+use Rattle.sm_select.specs.Selectors.{Step, any_shape, of_kind, has, compares, forward, back, walk, along, picked_by, picks_none}
+use Rattle.sm_select.specs.Selectors.{picks_some}
 use Rattle.sm_select.specs.Selectors.{Steps, no_steps, then, Alternatives, no_selectors, or_by, steps_of}
 use Rattle.sm_select.specs.declared.tokens.Form.{Form}
 use Rattle.sm_select.specs.declared.tokens.Form.TheVariants.{Is, Not, Test}
@@ -12,11 +14,14 @@ use Rattle.sm_select.specs.declared.tokens.Sign.TheVariants.{Star, Greater, Smal
 use Rattle.sm_select.specs.declared.tokens.Sign.TheVariants.{OpenIs, OpenNot, OpenTest, Close, Comma, Bar, IdNamespace, IdName, IdMember}
 use Rattle.sm_select.specs.declared.tokens.Sign.TheVariants.{TraitBar, Op}
 use Rattle.sm_select.specs.Tokens.{Token, terminal, word, quoted, numeral}
-use Rattle.sm_select.specs.Grammar.{SpellsKey, SpellsKeys, SpellsPath, SpellsValue, SpellsMoreValues, SpellsValues, SpellsFold, SpellsMoreNames}
+use Rattle.sm_select.specs.Grammar.{SpellsKey, SpellsKeys, SpellsPath, SpellsValue, SpellsMoreValues, SpellsValues, SpellsFold}
+use Rattle.sm_select.specs.Grammar.{SpellsMoreNames}
 use Rattle.sm_select.specs.Grammar.{SpellsNames, SpellsStep, SpellsSteps, SpellsMoreSteps, SpellsList, SpellsMoreList, op_sign, type_word}
-use Rattle.sm_select.specs.steps.Places.{Piece, sign, kind, id_word, fold_word, relation, trait, key, value, ReadAs, Frame, frame, held, IsListed}
+use Rattle.sm_select.specs.steps.Places.{Piece, sign, kind, id_word, fold_word, relation, trait, key, value, ReadAs, Frame, frame, held}
+use Rattle.sm_select.specs.steps.Places.{IsListed}
 use Rattle.sm_select.specs.steps.Places.{Place, stepping, path_wanted, trait_wanted, key_wanted}
-use Rattle.sm_select.specs.steps.Places.{behind_path, value_wanted, behind_value, behind_fold, name_wanted, behind_name, Moves, star, a_kind}
+use Rattle.sm_select.specs.steps.Places.{behind_path, value_wanted, behind_value, behind_fold, name_wanted, behind_name, Moves, star}
+use Rattle.sm_select.specs.steps.Places.{a_kind}
 use Rattle.sm_select.specs.steps.Places.{greater, smaller, tilde, opens_path, opens_names, opens_is, opens_not, opens_test, closes, another}
 use Rattle.sm_select.specs.steps.Places.{at_id, at_namespace, at_name, at_member, at_trait, of_trait, bar, of_key, had, stands_to, of_value}
 use Rattle.sm_select.specs.steps.Places.{another_value, folds, compared, compared_folded, of_name, another_name, closes_names, Runs}
@@ -34,9 +39,13 @@ key_run : (k : List ℕ) (done : List (List ℕ)) (u : List ℕ) (ss : List Step
     → Runs (behind_path ss fs (trait_of u (done ++ k ∷ []))) r q
     → Runs (key_wanted ss fs u done) ts q
 key_run k done u ss fs ts r q keyed run = elim keyed [
-  | inl (is, e) ↦ came (key_wanted ss fs u done) (behind_path ss fs (trait_of u (done ++ k ∷ []))) q (key k) (word k) ts r e (inl (is, refl))
+  | inl (is, e) ↦ came (key_wanted ss fs u done) (behind_path ss fs (trait_of u (done ++ k ∷ []))) q (key k) (word k) ts r e (inl (
+    is,
+    refl,
+  ))
       of_key run
-  | inr e ↦ came (key_wanted ss fs u done) (behind_path ss fs (trait_of u (done ++ k ∷ []))) q (key k) (quoted k) ts r e (inr refl) of_key run
+  | inr e ↦ came (key_wanted ss fs u done) (behind_path ss fs (trait_of u (done ++ k ∷ []))) q (key k) (quoted k) ts r e (inr refl)
+      of_key run
 ]
 
 keys_run : (ks done : List (List ℕ)) (u : List ℕ) (ss : List Step) (fs : List Frame) (ts r : List Token) (q : Place) → SpellsKeys ks ts r
@@ -56,14 +65,16 @@ path_run : (path : Attribute) (ss : List Step) (fs : List Frame) (ts r : List To
     → Runs (path_wanted ss fs) ts q
 path_run id_of ss fs ts r q e run = came (path_wanted ss fs) (behind_path ss fs id_of) q id_word (word (codes "id")) ts r e refl at_id run
 path_run namespace_of ss fs ts r q e run =
-    came (path_wanted ss fs) (behind_path ss fs namespace_of) q (sign IdNamespace) (terminal (codes "id|namespace")) ts r e refl at_namespace run
+    came (path_wanted ss fs) (behind_path ss fs namespace_of) q (sign IdNamespace) (terminal (codes "id|namespace")) ts r e refl
+    at_namespace run
 path_run name_of ss fs ts r q e run =
     came (path_wanted ss fs) (behind_path ss fs name_of) q (sign IdName) (terminal (codes "id|name")) ts r e refl at_name run
 path_run member_of ss fs ts r q e run =
     came (path_wanted ss fs) (behind_path ss fs member_of) q (sign IdMember) (terminal (codes "id|member")) ts r e refl at_member run
 path_run (trait_of u ks) ss fs ts r q (w, behind, e, means, keys) run =
     came (path_wanted ss fs) (trait_wanted ss fs) q (sign TraitBar) (terminal (codes "trait|")) ts (word w ∷ behind) e refl at_trait
-    (came (trait_wanted ss fs) (behind_path ss fs (trait_of u [])) q (trait u) (word w) (word w ∷ behind) behind refl (w, refl, means) of_trait
+    (came (trait_wanted ss fs) (behind_path ss fs (trait_of u [])) q (trait u) (word w) (word w ∷ behind) behind refl (w, refl, means)
+    of_trait
     (keys_run ks [] u ss fs behind r q keys run))
 
 value_run : (v : List ℕ) (done : List (List ℕ)) (path : Attribute) (op : SelectorOp) (ss : List Step) (fs : List Frame) (ts r : List Token)
@@ -75,7 +86,8 @@ value_run v done path op ss fs ts r q valued run = elim valued [
       of_value run
   | inr (inl e) ↦ came (value_wanted ss fs path op done) (behind_value ss fs path op (done ++ v ∷ [])) q (value v) (numeral v) ts r e (inr
       (inl refl)) of_value run
-  | inr (inr (is, e)) ↦ came (value_wanted ss fs path op done) (behind_value ss fs path op (done ++ v ∷ [])) q (value v) (word v) ts r e (inr
+  | inr (inr (is, e)) ↦ came (value_wanted ss fs path op done) (behind_value ss fs path op (done ++ v ∷ [])) q (value v) (word v) ts r e
+      (inr
       (inr (is, refl))) of_value run
 ]
 
@@ -87,7 +99,8 @@ more_values_run [] done path op ss fs ts r q e run =
     subst (λ x. Runs (behind_value ss fs path op x) ts q) (append-nil done)
     (subst (λ y. Runs (behind_value ss fs path op (done ++ [])) y q) (sym e) run)
 more_values_run (v ∷ vs) done path op ss fs ts r q (here, behind, e, valued, values) run =
-    came (behind_value ss fs path op done) (value_wanted ss fs path op done) q (sign Comma) (terminal (codes ",")) ts here e refl another_value
+    came (behind_value ss fs path op done) (value_wanted ss fs path op done) q (sign Comma) (terminal (codes ",")) ts here e refl
+    another_value
     (value_run v done path op ss fs here behind q valued
     (more_values_run vs (done ++ v ∷ []) path op ss fs behind r q values
     (subst (λ x. Runs (behind_value ss fs path op x) r q) (sym (append_assoc done (v ∷ []) vs)) run)))
@@ -105,11 +118,13 @@ fold_run : (fold : Bool) (path : Attribute) (op : SelectorOp) (vs : List (List �
     → Runs (stepping (ss ++ compares path op vs fold ∷ []) fs) r q
     → Runs (behind_value ss fs path op vs) ts q
 fold_run true path op vs ss fs ts r q e run =
-    came (behind_value ss fs path op vs) (behind_fold ss fs path op vs) q fold_word (word (codes "i")) ts (terminal (codes "]") ∷ r) e refl folds
+    came (behind_value ss fs path op vs) (behind_fold ss fs path op vs) q fold_word (word (codes "i")) ts (terminal (codes "]") ∷ r) e
+    refl folds
     (came (behind_fold ss fs path op vs) (stepping (ss ++ compares path op vs true ∷ []) fs) q (sign ClosePath) (terminal (codes "]"))
     (terminal (codes "]") ∷ r) r refl refl compared_folded run)
 fold_run false path op vs ss fs ts r q e run =
-    came (behind_value ss fs path op vs) (stepping (ss ++ compares path op vs false ∷ []) fs) q (sign ClosePath) (terminal (codes "]")) ts r e
+    came (behind_value ss fs path op vs) (stepping (ss ++ compares path op vs false ∷ []) fs) q (sign ClosePath) (terminal (codes "]"))
+    ts r e
     refl compared run
 
 name_run : (n : Relation) (done : List Relation) (ss : List Step) (fs : List Frame) (ts r : List Token) (q : Place)
@@ -123,7 +138,8 @@ more_names_run : (ns done : List Relation) (ss : List Step) (fs : List Frame) (t
     → Runs (stepping (ss ++ along (done ++ ns) ∷ []) fs) r q
     → Runs (behind_name ss fs done) ts q
 more_names_run [] done ss fs ts r q e run =
-    came (behind_name ss fs done) (stepping (ss ++ along done ∷ []) fs) q (sign CloseNames) (terminal (codes "]->")) ts r e refl closes_names
+    came (behind_name ss fs done) (stepping (ss ++ along done ∷ []) fs) q (sign CloseNames) (terminal (codes "]->")) ts r e refl
+    closes_names
     (subst (λ x. Runs (stepping (ss ++ along x ∷ []) fs) r q) (append-nil done) run)
 more_names_run (n ∷ ns) done ss fs ts r q (behind, e, names) run =
     came (behind_name ss fs done) (name_wanted ss fs done) q (sign Comma) (terminal (codes ",")) ts (word (relation_name n) ∷ behind) e refl
@@ -215,7 +231,8 @@ mutual
       (more_run on (ss ++ step ∷ []) fs behind r q more
       (subst (λ x. Runs (stepping x fs) r q) (sym (append_assoc ss (step ∷ []) (step_list on))) run))
 
-  list_run : (a : Alternatives) (form : Form) (outer : List Step) (done : List (List Step)) (fs : List Frame) (ts r : List Token) (q : Place)
+  list_run : (a : Alternatives) (form : Form) (outer : List Step) (done : List (List Step)) (fs : List Frame) (ts r : List Token) (q :
+      Place)
       → IsListed form
       → SpellsList a ts r
       → Runs (stepping (outer ++ held form (done ++ selector_list a) ∷ []) fs) r q
@@ -228,7 +245,8 @@ mutual
       (more_list_run a some.0 some.1 form outer done fs behind r q several more
       (subst (λ x. Runs (stepping (outer ++ held form (done ++ x ∷ selector_list a) ∷ []) fs) r q) some.2 run)))
 
-  more_list_run : (a : Alternatives) (s : Step) (ss : List Step) (form : Form) (outer : List Step) (done : List (List Step)) (fs : List Frame)
+  more_list_run : (a : Alternatives) (s : Step) (ss : List Step) (form : Form) (outer : List Step) (done : List (List Step)) (fs : List
+      Frame)
       (ts r : List Token)
       (q : Place) → IsListed form
       → SpellsMoreList a ts r
@@ -240,15 +258,18 @@ mutual
   more_list_run (or_by steps a) s ss form outer done fs ts r q several (here, behind, e, spelled, more) run =
       let some : (s' : Step) × (ss' : List Step) × (step_list steps ≡ s' ∷ ss') = some_step steps here behind spelled in
       let all : List (List Step) = done ++ (s ∷ ss) ∷ [] in
-      came (stepping (s ∷ ss) (frame form outer done ∷ fs)) (stepping [] (frame form outer all ∷ fs)) q (sign Comma) (terminal (codes ",")) ts here e
+      came (stepping (s ∷ ss) (frame form outer done ∷ fs)) (stepping [] (frame form outer all ∷ fs)) q (sign Comma) (terminal (codes
+      ",")) ts here e
       refl (another several)
       (steps_run steps [] (frame form outer all ∷ fs) here behind q spelled
       (subst (λ x. Runs (stepping x (frame form outer all ∷ fs)) behind q) (sym some.2)
       (more_list_run a some.0 some.1 form outer all fs behind r q several more
-      (subst (λ x. Runs (stepping (outer ++ held form x ∷ []) fs) r q) (sym (append_assoc done ((s ∷ ss) ∷ []) (((some.0) ∷ (some.1)) ∷ selector_list a)))
+      (subst (λ x. Runs (stepping (outer ++ held form x ∷ []) fs) r q) (sym (append_assoc done ((s ∷ ss) ∷ []) (((some.0) ∷ (some.1)) ∷
+      selector_list a)))
       (subst (λ x. Runs (stepping (outer ++ held form (done ++ (s ∷ ss) ∷ x ∷ selector_list a) ∷ []) fs) r q) some.2 run)))))
 
-spelled_whole : (steps : Steps) (some : (s : Step) × (ss : List Step) × (step_list steps ≡ s ∷ ss)) → IsWhole (stepping (step_list steps) []) steps
+spelled_whole : (steps : Steps) (some : (s : Step) × (ss : List Step) × (step_list steps ≡ s ∷ ss)) → IsWhole (stepping (step_list steps)
+    []) steps
 spelled_whole steps (s, ss, e) =
     subst (λ x. IsWhole (stepping x []) steps) (sym e) (sym (steps_back steps) ∙ ap steps_of e)
 

@@ -24,7 +24,8 @@ read_whole q text steps p whole = record {
 }
 
 -- where nothing leads on, the others that pass by there end there
-ends_there : (us : List Token) (q n : Place) (s rest : List ℕ) → StopsAt q s → EndsWhite s → EndsWhite rest → Reaches us s rest → Runs q us n
+ends_there : (us : List Token) (q n : Place) (s rest : List ℕ) → StopsAt q s → EndsWhite s → EndsWhite rest → Reaches us s rest → Runs q
+    us n
     → (s ≡ rest) × (q ≡ n)
 ends_there [] q n s rest stops dark ends (c, e, gone) run =
     (one_white s s rest (no_white s) (subst (λ y. SkipsWhite y rest) (sym e) gone) dark ends, run)
@@ -66,7 +67,8 @@ module _ (text : List ℕ) (q : Place) (rest : List ℕ) (stuck : Stuck (steppin
             never same.0 steps (subst (λ x. IsWhole x steps) (sym same.1) whole)
       ]
 
-  pub breaks : (at : ℕ) → IsNotWhole q rest → (IsStepping q → OtherForm rest → ⊥) → IsPlaced (length text) rest (Syntax at) → BreaksBy text at
+  pub breaks : (at : ℕ) → IsNotWhole q rest → (IsStepping q → OtherForm rest → ⊥) → IsPlaced (length text) rest (Syntax at) → BreaksBy
+      text at
   breaks at never profile placed = record {
     tokens = stuck.passes.tokens;
     rest = rest;
@@ -88,8 +90,20 @@ module _ (text : List ℕ) (q : Place) (rest : List ℕ) (stuck : Stuck (steppin
 
 -- a part that is refused behind what was read
 pub refused_behind : (len : ℕ) (p q : Place) (s r : List ℕ) (e : SelectorRefusal) → Passes p s q r → Refuses len q r e → Refuses len p s e
-refused_behind len p q s r (Syntax at) passes (n, rest, stuck, never, profile, placed) =
-    (n, rest, record { passes = passes_joined p q n s r rest passes stuck.passes; dark = stuck.dark; stops = stuck.stops }, never, profile, placed)
-refused_behind len p q s r (OutOfProfile at) passes (n, rest, stuck, steps, other, placed) =
-    (n, rest, record { passes = passes_joined p q n s r rest passes stuck.passes; dark = stuck.dark; stops = stuck.stops }, steps, other, placed)
+refused_behind len p q s r (Syntax at) passes (n, rest, stuck, never, profile, placed) = (
+  n,
+  rest,
+  record { passes = passes_joined p q n s r rest passes stuck.passes; dark = stuck.dark; stops = stuck.stops },
+  never,
+  profile,
+  placed,
+)
+refused_behind len p q s r (OutOfProfile at) passes (n, rest, stuck, steps, other, placed) = (
+  n,
+  rest,
+  record { passes = passes_joined p q n s r rest passes stuck.passes; dark = stuck.dark; stops = stuck.stops },
+  steps,
+  other,
+  placed,
+)
 refused_behind len p q s r NoMemory passes refused = tt

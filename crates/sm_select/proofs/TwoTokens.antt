@@ -1,5 +1,6 @@
 -- Two tokens at one place of a text that both lead on from a place are one; or one of them is shorter, and nothing leads on behind it.
-use Rattle.std.proofs.Common.{◌≡◌, inl, inr, ℕ, suc, ◌<◌, Bool, true, false, ◌==◌, List, [], ◌∷◌, ◌++◌, length, refl, sym, ap, ◌∙◌, subst, append_assoc, codes, arith, length-append}
+use Rattle.std.proofs.Common.{◌≡◌, inl, inr, ℕ, suc, ◌<◌, Bool, true, false, ◌==◌, List, [], ◌∷◌, ◌++◌, length, refl, sym, ap, ◌∙◌, subst}
+use Rattle.std.proofs.Common.{append_assoc, codes, arith, length-append}
 use Rattle.std.specs.Prelude.{not}
 use Rattle.std.specs.List.{list_all}
 use Rattle.std.proofs.lemmas.Bool.Decides.{nat_tests}
@@ -20,8 +21,10 @@ use Rattle.sm_select.specs.steps.Standing.{IsDead}
 use Rattle.sm_select.proofs.WordBytes.{WordThen}
 use Rattle.sm_select.proofs.NumberBytes.{is_number_byte, begins_number, number_bytes, number_head}
 use Rattle.sm_select.proofs.SignTexts.{sign_spelled, not_of, eq_of}
-use Rattle.sm_select.proofs.OneMove.{Want, a_step, a_path, a_sign_or_fold, wanted, fits, Fits, step_sign, step_kind, path_sign, path_id, a_trait_id, key_text, only_sign, value_text, fold_sign, the_fold, a_relation, end_sign}
-use Rattle.sm_select.proofs.SignPairs.{sign_then, then_word, quoted_head, numeral_head, unlike, number_dead, TwoTokens, one_token, first_dead, second_dead, word_pair, sign_pair, sign_no_word, id_pair}
+use Rattle.sm_select.proofs.OneMove.{Want, a_step, a_path, a_sign_or_fold, wanted, fits, Fits, step_sign, step_kind, path_sign, path_id}
+use Rattle.sm_select.proofs.OneMove.{a_trait_id, key_text, only_sign, value_text, fold_sign, the_fold, a_relation, end_sign}
+use Rattle.sm_select.proofs.SignPairs.{sign_then, then_word, quoted_head, numeral_head, unlike, number_dead, TwoTokens, one_token}
+use Rattle.sm_select.proofs.SignPairs.{first_dead, second_dead, word_pair, sign_pair, sign_no_word, id_pair}
 
 -- quoted texts
 free_all : (mark : ℕ) (t : List ℕ) → IsFree mark t → list_all (λ c. not (c == mark)) t ≡ true
@@ -38,7 +41,8 @@ one_quoted : (mark : ℕ) (v w r b : List ℕ) → IsFree mark v → IsFree mark
 one_quoted mark v w r b fv fw e =
     let inner : v ++ mark ∷ r ≡ w ++ mark ∷ b =
     sym (append_assoc v (mark ∷ []) r) ∙ tails mark mark ((v ++ mark ∷ []) ++ r) ((w ++ mark ∷ []) ++ b) e ∙ append_assoc w (mark ∷ []) b in
-    let k = one_cut (λ c. not (c == mark)) v w (mark ∷ r) (mark ∷ b) (free_all mark v fv) (free_all mark w fw) (mark_ends mark r) (mark_ends mark b)
+    let k = one_cut (λ c. not (c == mark)) v w (mark ∷ r) (mark ∷ b) (free_all mark v fv) (free_all mark w fw) (mark_ends mark r)
+    (mark_ends mark b)
     inner in
     (k.0, tails mark mark r b k.1)
 
@@ -87,7 +91,8 @@ word_no_numeral : (t u : Token) (s r b w v : List ℕ) → t ≡ word w → u �
 word_no_numeral t u s r b w v e f h k = by_head (split_head w s r (then_word t w s r e h))
   where
     by_head : (c : ℕ) × (more : List ℕ) × (s ≡ c ∷ more) × (begins_run c ≡ true) → ⊥
-    by_head (c, more, g, l) = clash (begins_number c) (numeral_head v s b c more (subst (λ x. TokenThen x s b) f k) g) (letter_no_number c l)
+    by_head (c, more, g, l) = clash (begins_number c) (numeral_head v s b c more (subst (λ x. TokenThen x s b) f k) g) (letter_no_number
+        c l)
 
 numeral_no_quoted : (t u : Token) (s r b w v : List ℕ) → t ≡ numeral w → u ≡ quoted v → TokenThen t s r → TokenThen u s b → ⊥
 numeral_no_quoted t u s r b w v e f h k = by_token (subst (λ x. TokenThen x s r) e h)
@@ -118,7 +123,8 @@ two_prefixes [] [] r b e = same_prefix refl e
 two_prefixes [] (c ∷ w) r b e = first_shorter c w refl e
 two_prefixes (c ∷ v) [] r b e = second_shorter c v refl (sym e)
 two_prefixes (c ∷ v) (d ∷ w) r b e =
-    subst (λ x. TwoPrefixes (c ∷ v) (x ∷ w) r b) (heads c d (v ++ r) (w ++ b) e) (prefix_more c v w r b (two_prefixes v w r b (tails c d (v ++ r) (w ++ b) e)))
+    subst (λ x. TwoPrefixes (c ∷ v) (x ∷ w) r b) (heads c d (v ++ r) (w ++ b) e) (prefix_more c v w r b (two_prefixes v w r b (tails c d
+    (v ++ r) (w ++ b) e)))
 
 byte_within : (p : ℕ → Bool) (xs ys : List ℕ) (c : ℕ) → list_all p (xs ++ c ∷ ys) ≡ true → p c ≡ true
 byte_within p xs ys c h =
@@ -134,10 +140,12 @@ numeral_pair p q n x y v w t u s r b m o e f h k = by_tokens (subst (λ z. Token
     by_prefixes : IsNumber v → IsNumber w → TwoPrefixes v w r b → TwoTokens t u q n r b
     by_prefixes iv iw (same_prefix g i) = one_token (e ∙ ap numeral g ∙ sym f) i
     by_prefixes iv iw (first_shorter c l g i) = first_dead
-        (number_dead m r c (l ++ b) i (byte_within is_number_byte v l c (subst (λ z. list_all is_number_byte z ≡ true) g (number_bytes w iw))))
+        (number_dead m r c (l ++ b) i (byte_within is_number_byte v l c (subst (λ z. list_all is_number_byte z ≡ true) g (number_bytes w
+        iw))))
         (let size = ap length i in let sum = length-append l b in omega arith)
     by_prefixes iv iw (second_shorter c l g i) = second_dead
-        (number_dead o b c (l ++ r) i (byte_within is_number_byte w l c (subst (λ z. list_all is_number_byte z ≡ true) g (number_bytes v iv))))
+        (number_dead o b c (l ++ r) i (byte_within is_number_byte w l c (subst (λ z. list_all is_number_byte z ≡ true) g (number_bytes v
+        iv))))
         (let size = ap length i in let sum = length-append l r in omega arith)
 
     by_tokens : TokenThen (numeral v) s r → TokenThen (numeral w) s b → TwoTokens t u q n r b
@@ -178,7 +186,8 @@ pub id_signs : (p q n : Place) (a : Sign) (t u : Token) (s r b : List ℕ) → M
     → TokenThen t s r
     → TokenThen u s b
     → IsDead n b × (length r < length b)
-id_signs p q n a t u s r b m o e f h k = id_pair o m s r b (sign_spelled a s r (sign_then a t s r e h)) (then_word u (codes "id") s b f k).spelled
+id_signs p q n a t u s r b m o e f h k = id_pair o m s r b (sign_spelled a s r (sign_then a t s r e h)) (then_word u (codes "id") s b f
+    k).spelled
 
 by_fits : {w : Want} {x y : Piece} → Fits w x → Fits w y → (p q n : Place) (t u : Token) (s r b : List ℕ) → wanted p ≡ w → Moves p x q
     → Moves p y n
@@ -199,7 +208,8 @@ by_fits (path_sign {s = a}) path_id p q n t u s r b at m o e f h k =
 by_fits path_id (path_sign {s = c}) p q n t u s r b at m o e f h k =
     let d = id_signs p n q c u t s b r o m f e k h in first_dead d.0 d.1
 by_fits path_id path_id p q n t u s r b at m o e f h k = word_pair t u q n s r b (codes "id") (codes "id") e f h k
-by_fits (a_trait_id {u = x}) (a_trait_id {u = y}) p q n t u s r b at m o (v, e, means) (w, f, means') h k = word_pair t u q n s r b v w e f h k
+by_fits (a_trait_id {u = x}) (a_trait_id {u = y}) p q n t u s r b at m o (v, e, means) (w, f, means') h k = word_pair t u q n s r b v w e
+    f h k
 by_fits (key_text {k = x}) (key_text {k = y}) p q n t u s r b at m o e f h k = key_pair q n x y t u s r b e f h k
 by_fits (only_sign {s = a}) (only_sign {s = c}) p q n t u s r b at m o e f h k = sign_pair p q n a c t u s r b m o e f h k
 by_fits (value_text {v = x}) (value_text {v = y}) p q n t u s r b at m o e f h k = value_pair p q n x y t u s r b m o e f h k

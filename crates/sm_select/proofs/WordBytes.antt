@@ -1,6 +1,7 @@
 -- Words by their bytes: a word is a run, and perhaps a `$` and an identifier. Two words at one place are one, or a `$` goes on behind
 -- the shorter one.
-use Rattle.std.proofs.Common.{◌≡◌, ◌⊎◌, inl, inr, ℕ, ◌<◌, Bool, true, false, ◌&&◌, ◌==◌, List, [], ◌∷◌, ◌++◌, length, Option, Some, None, refl, sym, ap, ◌∙◌, subst, append_assoc, append-nil, arith, length-append}
+use Rattle.std.proofs.Common.{◌≡◌, ◌⊎◌, inl, inr, ℕ, ◌<◌, Bool, true, false, ◌&&◌, ◌==◌, List, [], ◌∷◌, ◌++◌, length, Option, Some, None}
+use Rattle.std.proofs.Common.{refl, sym, ap, ◌∙◌, subst, append_assoc, append-nil, arith, length-append}
 use Rattle.std.specs.Char.{is_ascii_alphabetic}
 use Rattle.std.specs.List.{list_all}
 use Rattle.std.specs.Option.{ForSome}
@@ -92,7 +93,14 @@ pub record WordShape (w : List ℕ) : Type 0 where
   pub of_member : ForSome member IsIdentifier
 
 pub identifier_shape : (w : List ℕ) → IsIdentifier w → WordShape w
-identifier_shape w h = record { run = w; member = None; is = sym (append-nil w); of_run = identifier_text w h; of_member = λ x e. absurd cc }
+identifier_shape w h = record {
+  run = w;
+  member = None;
+  is = sym (append-nil w);
+  of_run = identifier_text w h;
+  of_member = λ x e. absurd
+      cc;
+}
 
 pub id_shape : (w : List ℕ) → IsIdText w → WordShape w
 id_shape w (id, t) = record {
@@ -196,11 +204,13 @@ by_members a b None None v w r q ev ew e hm hn hr hq same =
 by_members a b None (Some n) v w r q ev ew e hm hn hr hq same = first_cut (dollar_behind n r q (hn n refl) same)
 by_members a b (Some m) None v w r q ev ew e hm hn hr hq same = second_cut (dollar_behind m q r (hm m refl) (sym same))
 by_members a b (Some m) (Some n) v w r q ev ew e hm hn hr hq same =
-    let k = one_cut is_run_byte m n r q (identifier_run m (hm m refl)) (identifier_run n (hn n refl)) hr hq (tails 36 36 (m ++ r) (n ++ q) same) in
+    let k = one_cut is_run_byte m n r q (identifier_run m (hm m refl)) (identifier_run n (hn n refl)) hr hq (tails 36 36 (m ++ r) (n ++
+    q) same) in
     same_word (ev ∙ ap (λ x. x ++ 36 ∷ m) e ∙ ap (λ x. b ++ 36 ∷ x) k.0 ∙ sym ew) k.1
 
 pub two_words : (v w s r q : List ℕ) → WordThen v s r → WordThen w s q → TwoWords v w r q
-two_words v w s r q a b = by_cut (one_cut is_run_byte a.shape.run b.shape.run (member_text a.shape.member ++ r) (member_text b.shape.member ++ q)
+two_words v w s r q a b = by_cut (one_cut is_run_byte a.shape.run b.shape.run (member_text a.shape.member ++ r) (member_text
+    b.shape.member ++ q)
     a.shape.of_run.all b.shape.of_run.all (member_run_ends a.shape.member r a.ends) (member_run_ends b.shape.member q b.ends) whole)
   where
     whole : a.shape.run ++ (member_text a.shape.member ++ r) ≡ b.shape.run ++ (member_text b.shape.member ++ q)

@@ -9,6 +9,8 @@ mod images;
 pub mod laws;
 mod marks;
 mod neighbors;
+mod parser_names;
+mod parser_text;
 mod reach;
 mod refusal;
 mod selecting;

@@ -14,7 +14,8 @@ use Rattle.sm_select.specs.declared.tokens.Sign.TheVariants.{Star, Greater, Smal
 use Rattle.sm_select.specs.declared.tokens.Sign.TheVariants.{OpenIs, OpenNot, OpenTest, Close, Comma, Bar, IdNamespace, IdName, IdMember}
 use Rattle.sm_select.specs.declared.tokens.Sign.TheVariants.{TraitBar, Op}
 use Rattle.sm_select.specs.Selectors.{Attribute, id_of, namespace_of, name_of, member_of, trait_of}
-use Rattle.sm_select.specs.Selectors.{Step, any_shape, of_kind, has, compares, forward, back, walk, along, picked_by, picks_none, picks_some}
+use Rattle.sm_select.specs.Selectors.{Step, any_shape, of_kind, has, compares, forward, back, walk, along, picked_by, picks_none}
+use Rattle.sm_select.specs.Selectors.{picks_some}
 use Rattle.sm_select.specs.Selectors.{Steps, no_steps, steps_of, alternatives_of}
 use Rattle.sm_select.specs.Tokens.{Token, terminal, word, quoted, numeral}
 use Rattle.sm_select.specs.Grammar.{MeansTrait, type_word}
@@ -98,7 +99,8 @@ pub data Moves : Place → Piece → Place → Type 0 where
       → Moves (behind_path ss fs (trait_of u ks)) (sign Bar) (key_wanted ss fs u ks)
   of_key : {ss : List Step} {fs : List Frame} {u : List ℕ} {ks : List (List ℕ)} {k : List ℕ}
       → Moves (key_wanted ss fs u ks) (key k) (behind_path ss fs (trait_of u (ks ++ k ∷ [])))
-  had : {ss : List Step} {fs : List Frame} {path : Attribute} → Moves (behind_path ss fs path) (sign ClosePath) (stepping (ss ++ has path ∷ []) fs)
+  had : {ss : List Step} {fs : List Frame} {path : Attribute} → Moves (behind_path ss fs path) (sign ClosePath) (stepping (ss ++ has path
+      ∷ []) fs)
   stands_to : {ss : List Step} {fs : List Frame} {path : Attribute} {op : SelectorOp}
       → Moves (behind_path ss fs path) (sign (Op op)) (value_wanted ss fs path op [])
   of_value : {ss : List Step} {fs : List Frame} {path : Attribute} {op : SelectorOp} {vs : List (List ℕ)} {v : List ℕ}

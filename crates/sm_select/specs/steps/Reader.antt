@@ -1,12 +1,21 @@
 -- What the parts of the reader of selectors answer.
-use Rattle.std.specs.Prelude.{◌≡◌, ◌⊎◌, ℕ, ◌+◌, false, List, [], ◌∷◌, length, Result, Ok, Err}
+use Rattle.std.specs.Prelude.{◌≡◌, ◌⊎◌, ℕ, ◌+◌, Bool, false, List, [], ◌∷◌, length, Result, Ok, Err}
 use Rattle.sm_select.specs.Selectors.{Steps}
-use Rattle.sm_select.specs.Tokens.{EndsWhite, begins_run}
+use Rattle.sm_select.specs.Tokens.{EndsWhite, begins_run, is_selector_white}
 use Rattle.sm_select.specs.SelectorText.{IsRun, IsUnclosed, OtherForm}
 use Rattle.sm_select.specs.declared.refusal.SelectorRefusal.{SelectorRefusal}
 use Rattle.sm_select.specs.declared.refusal.SelectorRefusal.TheVariants.{Syntax, OutOfProfile, NoMemory}
 use Rattle.sm_select.specs.steps.Places.{Place, IsStepping, IsWhole}
 use Rattle.sm_select.specs.steps.Standing.{Passes, StopsAt}
+
+-- the first byte is white space, or begins a run
+abbrev pub begins_white : List ℕ → Bool
+begins_white [] = false
+begins_white (c ∷ s) = is_selector_white c
+
+abbrev pub begins_a_run : List ℕ → Bool
+begins_a_run [] = false
+begins_a_run (c ∷ s) = begins_run c
 
 abbrev pub BeginsNoRun : List ℕ → Type 0
 BeginsNoRun [] = Unit {0}
