@@ -1,5 +1,5 @@
 -- The reader of names: a relation's name leads on, and so does what stands behind it.
-use Rattle.std.proofs.Common.{◌≡◌, ◌⊎◌, inl, inr, ℕ, true, false, cond, List, [], ◌∷◌, ◌++◌, length, drop, Some, None, refl, ap, ◌∙◌, ◌<◌, arith}
+use Rattle.std.proofs.Common.{◌≡◌, ◌⊎◌, inl, ℕ, true, false, cond, List, [], ◌∷◌, ◌++◌, length, drop, Some, None, refl, ap, ◌∙◌, ◌<◌, arith}
 use Rattle.sm_model.specs.Relations.{relation_name}
 use Rattle.sm_model.specs.declared.relation.Relation.{Relation}
 use Rattle.sm_select.specs.Selectors.{Step, Steps, along}

@@ -1,7 +1,6 @@
-use Rattle.std.proofs.Common.{◌≡◌, ◌++◌, ◌∷◌, [], List, if◌then◌else◌, ℕ, Bool, true, false, sym, subst, ◌∙◌}
-use Rattle.sm_model.specs.declared.relation.Relation.{Relation}
-use Rattle.sm_select.specs.Selectors.{Step, along}
-use Rattle.sm_select.specs.steps.Places.{Frame, behind_name, name_wanted, stepping}
+use Rattle.std.proofs.Common.{◌++◌, ◌∷◌, [], if◌then◌else◌, sym, subst, ◌∙◌}
+use Rattle.sm_select.specs.Selectors.{along}
+use Rattle.sm_select.specs.steps.Places.{behind_name, name_wanted, stepping}
 use Rattle.sm_select.specs.steps.Standing.{Passes}
 use Rattle.sm_select.specs.steps.Reader.{Refuses}
 use Rattle.sm_select.proofs.Passing.{passes_joined}

@@ -1,4 +1,4 @@
-use Rattle.std.proofs.Common.{◌≡◌, List, ℕ, drop, length, sym, ap, subst, ◌∙◌}
+use Rattle.std.proofs.Common.{drop, length, sym, ap, subst, ◌∙◌}
 use Rattle.std.specs.Str.{IsCharBoundary}
 use Rattle.sm_select.specs.Tokens.{SkipsWhite}
 use Rattle.sm_select.proofs.SignBoundaries.{sign_boundary}
