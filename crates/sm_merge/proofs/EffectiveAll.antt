@@ -1,19 +1,19 @@
 -- All shapes come to what stands in the tables, along an order in which each stands behind the mixins that contribute to it.
-use Rattle.std.proofs.Common.{◌≡◌, ◌⊎◌, inl, inr, ℕ, zero, suc, ◌<◌, List, [], ◌∷◌, ◌++◌, length, filter, Option, Some, None, refl, sym, ap, subst}
+use Rattle.std.proofs.Common.{◌≡◌, inl, inr, ℕ, zero, suc, ◌<◌, List, [], ◌∷◌, ◌++◌, length, filter, Option, Some, None, refl, sym, ap, subst}
 use Rattle.std.proofs.Common.{◌∙◌, arith}
-use Rattle.std.specs.Prelude.{MatchOption, slice_get}
+use Rattle.std.specs.Prelude.{MatchOption}
 use Rattle.std.specs.Global.{Vec}
 use Rattle.std.specs.FinMap.Entries.{find}
 use Rattle.sm_tree.specs.Node.{Node}
 use Rattle.sm_tree.specs.View.{node_of}
 use Rattle.sm_model.specs.Graphs.{text_cmp}
-use Rattle.sm_merge.specs.Mixins.{Contributes, IsEffective, effective, is_copied, mixin_trait}
+use Rattle.sm_merge.specs.Mixins.{IsEffective, effective, is_copied, mixin_trait}
 use Rattle.sm_merge.specs.Places.{names_and_targets, shape_under, trait_values}
 use Rattle.sm_merge.specs.Stated.{ShapeStated, Stated}
 use Rattle.sm_merge.specs.Values.{IsValueOf}
 use Rattle.sm_merge.specs.steps.EffectiveTables.{traits_of_member}
 use Rattle.sm_merge.specs.steps.Contributing.{AreWalkedTables, ContributesBy}
-use Rattle.sm_merge.specs.steps.Filling.{AreTraitsFrom, FoldedRows, HasEntry, HasMixedMembers, HasMixedTraits, IsFilled, copied_at, copied_traits}
+use Rattle.sm_merge.specs.steps.Filling.{AreTraitsFrom, FoldedRows, HasEntry, HasMixedMembers, HasMixedTraits, IsFilled, copied_traits}
 use Rattle.sm_merge.specs.steps.Filling.{copies_by, folded_rows, id_at, id_in, member_lists, members_at, mixed_members, mixin_value, own_at, own_in}
 use Rattle.sm_merge.specs.steps.Filling.{is_kept, kept_at, kept_by, kept_of, last_first, own_traits}
 use Rattle.sm_merge.specs.steps.Firsts.{firsts, targets_view}
@@ -21,8 +21,8 @@ use Rattle.sm_merge.specs.steps.Folding.{IsFolded}
 use Rattle.sm_merge.specs.steps.Links.{At, StandsBefore}
 use Rattle.sm_merge.specs.steps.MixedIn.{AreBehind, AreMixedIn, IsMixedOrder, MixIn, items_at, vec_items}
 use Rattle.sm_merge.specs.steps.Placed.{Bare, bare_of, bare_view}
-use Rattle.sm_merge.specs.steps.ShapeTables.{ids_of, shapes_view}
-use Rattle.sm_merge.specs.steps.Tables.{AreTraitsOf, named_view, traits_found}
+use Rattle.sm_merge.specs.steps.ShapeTables.{ids_of}
+use Rattle.sm_merge.specs.steps.Tables.{named_view, traits_found}
 use Rattle.sm_merge.specs.declared.effective.ShapeTraits.{ShapeTraits}
 use Rattle.sm_merge.specs.declared.firsts.NamedTarget.{NamedTarget}
 use Rattle.sm_merge.specs.declared.mixins.Contributing.{Contributing}
@@ -31,7 +31,7 @@ use Rattle.sm_merge.specs.declared.table.PlaceRow.{PlaceRow}
 use Rattle.sm_merge.specs.declared.value.Folded.{Folded}
 use Rattle.sm_merge.specs.declared.walk.Walk.{Walk}
 use Rattle.sm_merge.proofs.Ats.{at_mapped, at_there, at_within}
-use Rattle.sm_merge.proofs.EffectiveMade.{AllCopiedBy, AllEffective, AllHaveNoOther, AreCopiedBy, HasNoOther, copied_by, copies_at, seen_as}
+use Rattle.sm_merge.proofs.EffectiveMade.{AllCopiedBy, AllEffective, AllHaveNoOther, HasNoOther, copied_by, copies_at, seen_as}
 use Rattle.sm_merge.proofs.EffectiveMade.{shape_at_number, value_node}
 use Rattle.sm_merge.proofs.KeptOnce.{kept_once}
 use Rattle.sm_merge.proofs.MixinsTold.{found_given}

@@ -1,31 +1,30 @@
 -- What a shape comes to from the tables, where its mixins have come to what stands at their numbers.
-use Rattle.std.proofs.Common.{◌≡◌, ◌⊎◌, inl, inr, ℕ, suc, ◌<◌, Bool, true, false, cond, List, [], ◌∷◌, ◌++◌, map, filter, length, Option, Some, None}
-use Rattle.std.proofs.Common.{refl, sym, ap, subst, ◌∙◌, arith, bytes_eq}
-use Rattle.std.specs.Prelude.{◌↔◌, MatchOption, slice_get, if◌then◌else◌, not}
+use Rattle.std.proofs.Common.{◌≡◌, ◌⊎◌, inl, inr, ℕ, Bool, true, false, cond, List, [], ◌∷◌, ◌++◌, map, filter, Option, Some, None}
+use Rattle.std.proofs.Common.{refl, sym, ap, subst, ◌∙◌, bytes_eq}
+use Rattle.std.specs.Prelude.{◌↔◌, MatchOption, slice_get, not}
 use Rattle.std.specs.Global.{Vec}
 use Rattle.std.specs.List.{flat_map}
-use Rattle.std.specs.Option.{option_map, option_or, unwrap_or}
+use Rattle.std.specs.Option.{option_map, option_or}
 use Rattle.std.specs.Cmp.Lexicographic.{nat_list_cmp_total}
 use Rattle.std.specs.FinMap as fin
 use Rattle.std.specs.FinMap.{get-from_entries, get-remove, get-retain_keys}
 use Rattle.std.specs.FinMap.Entries.{find}
 use Rattle.std.specs.Ordering.{is_eq}
 use Rattle.std.proofs.lemmas.Bool.{cases_Bool, true≢false}
-use Rattle.std.proofs.lemmas.Option.{none-some, same_Some}
+use Rattle.std.proofs.lemmas.Option.{same_Some}
 use Rattle.std.proofs.lemmas.Slice.Eq.{bytes_eq-Decides}
 use Rattle.sm_tree.specs.Node.{Node}
 use Rattle.sm_tree.specs.View.{node_of}
-use Rattle.sm_model.specs.Graphs.{MemberEntry, MemberGiven, NodeMap, member_id, text_cmp}
-use Rattle.sm_merge.specs.Mixins.{AreCopied, AreEffectiveMembers, EffectiveMembers, EffectiveShape, IsEffective, IsEffectiveMember}
-use Rattle.sm_merge.specs.Mixins.{IsEffectiveValue, IsMadeFrom, all_members, copy_of, each_once, effective, is_copied, last_there, member_copied}
+use Rattle.sm_model.specs.Graphs.{MemberEntry, MemberGiven, text_cmp}
+use Rattle.sm_merge.specs.Mixins.{AreCopied, EffectiveMembers, EffectiveShape, IsEffective}
+use Rattle.sm_merge.specs.Mixins.{all_members, copy_of, is_copied, last_there, member_copied}
 use Rattle.sm_merge.specs.Mixins.{member_value, member_values, mixed_in, mixin_trait, names_of, no_mixins, own_member, passed_over, shape_values}
-use Rattle.sm_merge.specs.Places.{names_and_targets, shape_under, trait_values}
+use Rattle.sm_merge.specs.Places.{names_and_targets}
 use Rattle.sm_merge.specs.Stated.{ShapeStated, Stated}
 use Rattle.sm_merge.specs.Values.{IsValueOf}
-use Rattle.sm_merge.specs.steps.Contributing.{ContributesBy}
 use Rattle.sm_merge.specs.steps.EffectiveTables.{effective_member, named_targets, trait_pairs, traits_map, traits_of_member}
-use Rattle.sm_merge.specs.steps.Filling.{copied_at, folded_rows, is_kept, kept_at, last_first, member_lists, members_at, mixed_members, own_traits}
-use Rattle.sm_merge.specs.steps.Firsts.{NamesAndTargets, firsts}
+use Rattle.sm_merge.specs.steps.Filling.{copied_at, folded_rows, kept_at, last_first, member_lists, members_at, mixed_members, own_traits}
+use Rattle.sm_merge.specs.steps.Firsts.{NamesAndTargets}
 use Rattle.sm_merge.specs.steps.Folding.{IsFolded}
 use Rattle.sm_merge.specs.steps.Links.{At}
 use Rattle.sm_merge.specs.steps.MixedIn.{MixIn}
@@ -37,11 +36,9 @@ use Rattle.sm_merge.specs.declared.firsts.NamedTarget.{NamedTarget}
 use Rattle.sm_merge.specs.declared.mixins.Contributing.{Contributing}
 use Rattle.sm_merge.specs.declared.parts.BareShape.{BareShape}
 use Rattle.sm_merge.specs.declared.value.Folded.{Folded}
-use Rattle.sm_merge.proofs.FirstNames.{names_once}
-use Rattle.sm_merge.proofs.FoundRows.{find_firsts, find_joined, find_kept, find_mapped, find_pairs, find_seen, firsts_found, or_mapped, same_key}
+use Rattle.sm_merge.proofs.FoundRows.{find_joined, find_kept, find_mapped, find_pairs, find_seen, or_mapped, same_key}
 use Rattle.sm_merge.proofs.GroupsMade.{tests}
 use Rattle.sm_merge.proofs.OneValue.{one_value}
-use Rattle.sm_merge.proofs.TablesMade.{AllFound}
 
 abbrev pub value_node : Folded → Node
 value_node f = node_of f.value

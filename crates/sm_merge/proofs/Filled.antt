@@ -1,13 +1,13 @@
 -- A table that is filled in an order in which each number stands behind those that its entry is made from.
-use Rattle.std.proofs.Common.{◌≡◌, ◌⊎◌, inl, inr, ℕ, zero, suc, ◌+◌, ◌<◌, ◌≤◌, List, [], ◌∷◌, ◌++◌, length, set, Option, Some, None, refl, sym, ap, subst, ◌∙◌, arith}
+use Rattle.std.proofs.Common.{◌≡◌, inl, inr, ℕ, zero, suc, ◌+◌, ◌<◌, ◌≤◌, List, [], ◌∷◌, ◌++◌, length, set, Option, refl, sym, ap, subst, ◌∙◌, arith}
 use Rattle.std.specs.Prelude.{slice_get}
 use Rattle.std.specs.Global.{Vec}
 use Rattle.sm_merge.specs.steps.EffectiveTables.{traits_of_member}
-use Rattle.sm_merge.specs.steps.Filling.{AreFirstRows, AreTraitsFrom, FoldedRows, HasEntry, HasMixedMembers, HasMixedTraits, IsFilled}
+use Rattle.sm_merge.specs.steps.Filling.{AreFirstRows, FoldedRows, HasEntry, HasMixedMembers, HasMixedTraits, IsFilled}
 use Rattle.sm_merge.specs.steps.Filling.{copied_traits, folded_rows, given_rows, id_at, kept_of, last_first, member_lists, member_rows}
 use Rattle.sm_merge.specs.steps.Filling.{members_at, mixed_members, own_at, shape_rows}
-use Rattle.sm_merge.specs.steps.Firsts.{NamesAndTargets, firsts, targets_view}
-use Rattle.sm_merge.specs.steps.Links.{At, StandsBefore}
+use Rattle.sm_merge.specs.steps.Firsts.{firsts, targets_view}
+use Rattle.sm_merge.specs.steps.Links.{At}
 use Rattle.sm_merge.specs.steps.MixedIn.{AreBehind, IsMixedOrder, items_at, vec_items}
 use Rattle.sm_merge.specs.steps.Tables.{named_view, traits_found}
 use Rattle.sm_merge.specs.declared.effective.NamedFolded.{NamedFolded}

@@ -1,5 +1,5 @@
 -- Rows that a stable sort has put into the order of their names, each name once: the first of a name stays what it was.
-use Rattle.std.proofs.Common.{◌≡◌, ◌+◌, ℕ, suc, Bool, true, false, cond, List, [], ◌∷◌, map, get_or, filter, Option, Some, None}
+use Rattle.std.proofs.Common.{◌≡◌, ◌+◌, ℕ, suc, Bool, true, false, cond, List, [], ◌∷◌, get_or, filter, Option, Some, None}
 use Rattle.std.proofs.Common.{IsPermutation, IsSortedBy, refl, sym, ap, subst, ◌∙◌, arith, bytes_eq}
 use Rattle.std.specs.Prelude.{◌&&◌, not}
 use Rattle.std.specs.List.{dedup, dedup_from}

@@ -1,18 +1,15 @@
 -- Traits of members that are copied: where each member stands once, those of a name are those of the member of that name.
-use Rattle.std.proofs.Common.{◌≡◌, ℕ, Bool, true, false, cond, List, [], ◌∷◌, ◌++◌, filter, map, None, Some, refl, sym, ap, subst, ◌∙◌, append-nil}
+use Rattle.std.proofs.Common.{◌≡◌, ℕ, Bool, true, false, List, [], ◌∷◌, ◌++◌, filter, map, refl, sym, ap, subst, ◌∙◌, append-nil}
 use Rattle.std.proofs.Common.{bytes_eq}
 use Rattle.std.specs.Prelude.{if◌then◌else◌}
 use Rattle.std.specs.Option.{unwrap_or}
-use Rattle.std.specs.FinMap.Entries.{find}
 use Rattle.std.specs.Ordering.{is_eq}
 use Rattle.std.proofs.lemmas.Slice.Eq.{bytes_eq-Decides}
 use Rattle.std.proofs.lemmas.Bool.{true≢false}
-use Rattle.sm_model.specs.Graphs.{text_cmp}
 use Rattle.sm_model.specs.steps.Rising.{IsBelow, Rise}
 use Rattle.sm_merge.specs.steps.EffectiveTables.{by_members, traits_of_member}
 use Rattle.sm_merge.specs.steps.Filling.{folded_rows, is_kept, kept_of}
 use Rattle.sm_merge.specs.declared.effective.MemberTraits.{MemberTraits}
-use Rattle.sm_merge.specs.declared.effective.NamedFolded.{NamedFolded}
 use Rattle.sm_merge.proofs.FoundRows.{here, passed}
 use Rattle.sm_merge.proofs.GroupsMade.{tests}
 

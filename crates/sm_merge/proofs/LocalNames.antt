@@ -1,5 +1,5 @@
 -- The traits that a mixin keeps for itself, as the code finds them.
-use Rattle.std.proofs.Common.{◌≡◌, ℕ, Bool, true, false, cond, List, [], ◌∷◌, ◌++◌, Option, Some, None, refl, sym, ap, subst, ◌∙◌, bytes_eq}
+use Rattle.std.proofs.Common.{◌≡◌, ℕ, Bool, true, false, List, [], Option, Some, None, refl, sym, ap, ◌∙◌, bytes_eq}
 use Rattle.std.specs.Prelude.{◌||◌}
 use Rattle.std.specs.List.{cons_option, list_any}
 use Rattle.sm_tree.specs.Node.{Members, Node, Nodes, null, bool, int, number, text, bytes, tag, opaque, list, object, no_nodes, node}

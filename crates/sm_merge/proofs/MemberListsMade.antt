@@ -1,18 +1,17 @@
 -- Rows of traits under members' names: what is put, in order or the last mixin first, and the first of each name.
-use Rattle.std.proofs.Common.{◌≡◌, ◌+◌, ◌<◌, ◌≤◌, ◌-◌, ℕ, zero, suc, Bool, true, false, cond, List, [], ◌∷◌, ◌++◌, length, get_or, drop, filter_map, Option, Some, None}
+use Rattle.std.proofs.Common.{◌≡◌, ◌+◌, ◌<◌, ℕ, zero, suc, Bool, true, false, List, [], ◌∷◌, ◌++◌, length, get_or, drop, Option, Some, None}
 use Rattle.std.proofs.Common.{refl, sym, ap, subst, ◌∙◌, append_assoc, append-nil, arith, bytes_eq}
 use Rattle.std.specs.Prelude.{MatchOption, if◌then◌else◌}
 use Rattle.std.specs.Global.{Vec}
-use Rattle.std.specs.List.{cons_option, flat_map}
+use Rattle.std.specs.List.{cons_option}
 use Rattle.std.specs.Option.{unwrap_or}
 use Rattle.std.specs.FinMap.Entries.{find}
 use Rattle.std.proofs.lemmas.List.Elements.{filter_map-append}
 use Rattle.sm_model.specs.Graphs.{text_cmp}
-use Rattle.sm_merge.specs.steps.EffectiveTables.{by_members, traits_of_member}
+use Rattle.sm_merge.specs.steps.EffectiveTables.{by_members}
 use Rattle.sm_merge.specs.steps.Filling.{AreFirstRows, FoldedRows, folded_rows, last_first}
 use Rattle.sm_merge.specs.steps.Groups.{AreGroupsOf, all_under, if_under}
 use Rattle.sm_merge.specs.steps.MemberLists.{AreMemberTraits, ComeToFirsts, joined_rows, rows_under}
-use Rattle.sm_merge.specs.steps.Tables.{IsTableOf}
 use Rattle.sm_merge.specs.declared.effective.MemberTraits.{MemberTraits}
 use Rattle.sm_merge.specs.declared.effective.NamedFolded.{NamedFolded}
 use Rattle.sm_merge.specs.declared.mixins.Contributing.{Contributing}

@@ -1,13 +1,13 @@
 -- Members of mixins one after the other, each name once: two lists, and one entry of a table of members.
-use Rattle.std.proofs.Common.{◌≡◌, ℕ, zero, suc, ◌<◌, Bool, true, false, cond, List, [], ◌∷◌, ◌++◌, filter, length, get_or, drop, refl, sym, ap, subst, ◌∙◌}
+use Rattle.std.proofs.Common.{◌≡◌, ℕ, zero, suc, ◌<◌, Bool, false, cond, List, [], ◌∷◌, ◌++◌, filter, length, get_or, refl, sym, ap, subst, ◌∙◌}
 use Rattle.std.proofs.Common.{append_assoc, arith, bytes_eq}
-use Rattle.std.specs.Prelude.{◌||◌, not, slice_get}
+use Rattle.std.specs.Prelude.{◌||◌, not}
 use Rattle.std.specs.Global.{Vec}
 use Rattle.sm_merge.specs.Meaning.{Defined}
-use Rattle.sm_merge.specs.steps.Filling.{HasMixedMembers, all_targets, members_at, mixed_members, own_at, own_in}
+use Rattle.sm_merge.specs.steps.Filling.{HasMixedMembers, all_targets, own_in}
 use Rattle.sm_merge.specs.steps.Firsts.{NamesAndTargets, firsts, is_name_of, targets_view, unseen}
 use Rattle.sm_merge.specs.steps.Links.{At}
-use Rattle.sm_merge.specs.steps.MixedIn.{AreBelow, items_at, vec_items}
+use Rattle.sm_merge.specs.steps.MixedIn.{AreBelow, vec_items}
 use Rattle.sm_merge.specs.declared.firsts.NamedTarget.{NamedTarget}
 use Rattle.sm_merge.specs.declared.mixins.Contributing.{Contributing}
 use Rattle.sm_merge.specs.declared.parts.BareShape.{BareShape}

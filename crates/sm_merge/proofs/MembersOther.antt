@@ -1,9 +1,9 @@
 -- Events for members that are defined again with another target are those of the definition.
-use Rattle.std.proofs.Common.{◌≡◌, ◌⊎◌, inl, inr, ℕ, zero, suc, ◌<◌, ◌≤◌, Bool, true, false, cond, List, [], ◌∷◌, ◌++◌, map, length, Option, Some, None}
+use Rattle.std.proofs.Common.{◌≡◌, ◌⊎◌, inl, inr, ℕ, zero, suc, ◌<◌, ◌≤◌, Bool, true, false, List, [], ◌∷◌, ◌++◌, length, Option, Some, None}
 use Rattle.std.proofs.Common.{refl, sym, ap, subst, ◌∙◌, arith, bytes_eq}
-use Rattle.std.specs.Prelude.{◌↔◌, if◌then◌else◌, not, slice_get}
+use Rattle.std.specs.Prelude.{◌↔◌, if◌then◌else◌, not}
 use Rattle.std.specs.Global.{Vec}
-use Rattle.std.specs.List.{Contains, flat_map}
+use Rattle.std.specs.List.{Contains}
 use Rattle.std.specs.FinMap.Entries.{find}
 use Rattle.std.specs.Option.{option_map}
 use Rattle.std.proofs.lemmas.Bool.{cases_Bool, true≢false}
@@ -12,14 +12,13 @@ use Rattle.std.proofs.lemmas.Slice.Eq.{bytes_eq-Decides}
 use Rattle.sm_model.specs.EventView.{EventTold}
 use Rattle.sm_model.specs.Graphs.{MemberEntry, member_id, text_cmp}
 use Rattle.sm_merge.specs.Merged.{IsDefinedOtherwise}
-use Rattle.sm_merge.specs.Mixins.{AreCopied, EffectiveMembers, EffectiveShape, IsEffective, IsMadeFrom, all_members, effective}
+use Rattle.sm_merge.specs.Mixins.{AreCopied, EffectiveShape, IsEffective, IsMadeFrom, all_members, effective}
 use Rattle.sm_merge.specs.Places.{names_and_targets, shape_under}
 use Rattle.sm_merge.specs.Stated.{ShapeStated, Stated}
 use Rattle.sm_merge.specs.steps.AllEvents.{member_event}
 use Rattle.sm_merge.specs.steps.Contributing.{AreWalkedTables}
-use Rattle.sm_merge.specs.steps.EffectiveTables.{AreMembersOf, HasMembers, named_targets}
+use Rattle.sm_merge.specs.steps.EffectiveTables.{AreMembersOf, named_targets}
 use Rattle.sm_merge.specs.steps.Filling.{all_targets, id_at, members_at, own_at}
-use Rattle.sm_merge.specs.steps.Firsts.{NamesAndTargets, firsts}
 use Rattle.sm_merge.specs.steps.Links.{At}
 use Rattle.sm_merge.specs.steps.MixedIn.{AreMixedIn, MixIn, items_at, vec_items}
 use Rattle.sm_merge.specs.steps.PlaceEvents.{first_among, if_other, is_other, others_at, others_below}
@@ -31,8 +30,8 @@ use Rattle.sm_merge.specs.declared.parts.BareShape.{BareShape}
 use Rattle.sm_merge.specs.declared.table.PlaceRow.{PlaceRow}
 use Rattle.sm_merge.specs.declared.walk.Walk.{Walk}
 use Rattle.sm_merge.proofs.Amongs.{Among, among_back, among_either, among_flat, among_from, among_front, among_map, among_to, flat_among, map_among}
-use Rattle.sm_merge.proofs.Ats.{at_one, at_there, at_within}
-use Rattle.sm_merge.proofs.EffectiveAll.{HasShapeRow, shape_row}
+use Rattle.sm_merge.proofs.Ats.{at_there, at_within}
+use Rattle.sm_merge.proofs.EffectiveAll.{shape_row}
 use Rattle.sm_merge.proofs.EffectiveMade.{target_found}
 use Rattle.sm_merge.proofs.FoundRows.{find_firsts}
 use Rattle.sm_merge.proofs.NamesMixed.{AllNamed, made_names, whole_targets}

@@ -1,27 +1,26 @@
 -- The mixins that contribute, as loops find them, and the order in which each shape stands behind them.
-use Rattle.std.proofs.Common.{◌≡◌, ◌⊎◌, inl, inr, ℕ, zero, suc, ◌<◌, List, [], ◌∷◌, ◌++◌, length, get_or, Some, None, refl, sym, ap, subst, ◌∙◌}
-use Rattle.std.proofs.Common.{append_assoc, append-nil, arith}
+use Rattle.std.proofs.Common.{◌≡◌, inl, inr, ℕ, zero, suc, ◌<◌, List, [], ◌∷◌, ◌++◌, length, get_or, Some, refl, sym, ap, subst, ◌∙◌}
+use Rattle.std.proofs.Common.{append_assoc, arith}
 use Rattle.std.specs.Prelude.{slice_get}
 use Rattle.std.specs.Global.{Vec}
 use Rattle.std.specs.List.{Contains}
-use Rattle.std.proofs.lemmas.List.Elements.{Contains-push}
 use Rattle.std.proofs.lemmas.Option.{none-some, same_Some, slice_get_read}
-use Rattle.sm_merge.specs.Mixins.{Contributes, IsOnCycle, MixesIn}
+use Rattle.sm_merge.specs.Mixins.{MixesIn}
 use Rattle.sm_merge.specs.Places.{mixins_of, shape_under}
 use Rattle.sm_merge.specs.Stated.{ShapeStated, Stated}
-use Rattle.sm_merge.specs.steps.Contributing.{AreWalkedTables, ContributesBy}
-use Rattle.sm_merge.specs.steps.Links.{At, StandsBefore}
-use Rattle.sm_merge.specs.steps.MixedIn.{AllBelow, AreBehind, AreBelow, AreMixedIn, IsMixedOrder, MixIn, PutsMixin, items_at, vec_items}
+use Rattle.sm_merge.specs.steps.Contributing.{AreWalkedTables}
+use Rattle.sm_merge.specs.steps.Links.{At}
+use Rattle.sm_merge.specs.steps.MixedIn.{AllBelow, AreBehind, AreBelow, AreMixedIn, IsMixedOrder, MixIn, PutsMixin, vec_items}
 use Rattle.sm_merge.specs.steps.Placed.{Bare, bare_view}
 use Rattle.sm_merge.specs.steps.ShapeTables.{ids_of, shapes_view}
 use Rattle.sm_merge.specs.declared.mixins.Contributing.{Contributing}
 use Rattle.sm_merge.specs.declared.parts.BareShape.{BareShape}
 use Rattle.sm_merge.specs.declared.table.PlaceRow.{PlaceRow}
 use Rattle.sm_merge.specs.declared.walk.Walk.{Walk}
-use Rattle.sm_merge.proofs.Ats.{at_either_one, at_map, at_one, at_there, at_within, sides}
-use Rattle.sm_merge.proofs.MixinsPut.{HasRow, row_at}
+use Rattle.sm_merge.proofs.Ats.{at_either_one, at_map, at_one, at_there}
+use Rattle.sm_merge.proofs.MixinsPut.{row_at}
 use Rattle.sm_merge.proofs.ShapeNumbers.{ids_count}
-use Rattle.sm_merge.proofs.EffectiveAll.{HasShapeRow, shape_row}
+use Rattle.sm_merge.proofs.EffectiveAll.{shape_row}
 
 pub below_more : (n : ℕ) (cs : List Contributing) (c : Contributing) → AreBelow n cs → c.number < n → AreBelow n (cs ++ c ∷ [])
 below_more n [] c h small = (small, tt)

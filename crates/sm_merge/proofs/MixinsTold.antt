@@ -1,21 +1,20 @@
 -- Which mixins contribute, told from tables and a walk.
-use Rattle.std.proofs.Common.{◌≡◌, ◌⊎◌, inl, inr, ℕ, ◌<◌, Bool, true, false, cond, List, [], length, get_or, Option, Some, None, refl, sym, ap, subst}
-use Rattle.std.proofs.Common.{◌∙◌, arith, codes}
-use Rattle.std.specs.Prelude.{◌↔◌, IsTrue, MatchOption, IsSomeAnd, slice_get}
-use Rattle.std.specs.Option.{option_map, unwrap_or}
+use Rattle.std.proofs.Common.{◌≡◌, ℕ, Bool, true, false, cond, List, [], get_or, Option, Some, None, refl, sym, ap, subst}
+use Rattle.std.proofs.Common.{◌∙◌}
+use Rattle.std.specs.Prelude.{IsTrue, MatchOption}
+use Rattle.std.specs.Option.{unwrap_or}
 use Rattle.std.specs.FinMap.Entries.{find}
-use Rattle.std.proofs.lemmas.Option.{none-some, same_Some, slice_get-map}
-use Rattle.sm_tree.specs.Node.{Node}
+use Rattle.std.proofs.lemmas.Option.{same_Some}
 use Rattle.sm_tree.specs.View.{node_of}
 use Rattle.sm_model.specs.Graphs.{text_cmp}
 use Rattle.sm_model.specs.declared.kind.Kind.{Kind}
-use Rattle.sm_merge.specs.Mixins.{Contributes, IsOnCycle, mixin_trait}
-use Rattle.sm_merge.specs.Places.{shape_under, trait_values}
+use Rattle.sm_merge.specs.Mixins.{Contributes, mixin_trait}
+use Rattle.sm_merge.specs.Places.{trait_values}
 use Rattle.sm_merge.specs.Stated.{ShapeStated, Stated}
 use Rattle.sm_merge.specs.Values.{IsValueOf}
 use Rattle.sm_merge.specs.steps.Contributing.{AreWalkedTables, ContributesBy, MayContribute}
 use Rattle.sm_merge.specs.steps.Folding.{IsFolded}
-use Rattle.sm_merge.specs.steps.Links.{At, Links, OnRing}
+use Rattle.sm_merge.specs.steps.Links.{At}
 use Rattle.sm_merge.specs.steps.Placed.{Bare, bare_of, bare_view}
 use Rattle.sm_merge.specs.steps.ShapeTables.{ids_of, shapes_view}
 use Rattle.sm_merge.specs.steps.Tables.{folded_at, folded_named, named_view, places_view, traits_found}
@@ -27,8 +26,7 @@ use Rattle.sm_merge.specs.declared.table.PlaceRow.{PlaceRow}
 use Rattle.sm_merge.specs.declared.value.Folded.{Folded}
 use Rattle.sm_merge.specs.declared.walk.Status.TheVariants.{New}
 use Rattle.sm_merge.specs.declared.walk.Walk.{Walk}
-use Rattle.sm_merge.proofs.Ats.{at_map, at_mapped, at_one, at_within}
-use Rattle.sm_merge.proofs.Cycles.{cycle_ring}
+use Rattle.sm_merge.proofs.Ats.{at_map, at_mapped, at_one}
 use Rattle.sm_merge.proofs.ShapeNumbers.{HasShape, shape_at, shape_ids}
 
 -- what is found among what is given at a place

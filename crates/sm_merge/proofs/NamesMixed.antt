@@ -1,18 +1,17 @@
 -- The members of each shape are those of the table, whatever traits they have.
-use Rattle.std.proofs.Common.{◌≡◌, ◌⊎◌, inl, inr, ℕ, zero, suc, ◌<◌, List, [], ◌∷◌, ◌++◌, map, length, Option, Some, None, refl, sym, ap, subst, ◌∙◌}
+use Rattle.std.proofs.Common.{◌≡◌, inl, inr, ℕ, zero, suc, ◌<◌, List, [], ◌∷◌, ◌++◌, map, length, Some, refl, sym, ap, subst, ◌∙◌}
 use Rattle.std.proofs.Common.{arith}
-use Rattle.std.specs.Prelude.{slice_get}
 use Rattle.std.specs.Global.{Vec}
 use Rattle.std.specs.List.{flat_map}
 use Rattle.std.specs.Option.{option_map}
 use Rattle.std.specs.FinMap.Entries.{find}
 use Rattle.std.proofs.lemmas.Option.{same_Some}
-use Rattle.sm_model.specs.Graphs.{MemberEntry, MemberGiven, text_cmp}
-use Rattle.sm_merge.specs.Mixins.{AreCopied, AreEffectiveMembers, Contributes, EffectiveMembers, EffectiveShape, IsEffective, IsMadeFrom}
-use Rattle.sm_merge.specs.Mixins.{all_members, copy_of, each_once, effective, mixed_in, names_of, no_mixins, own_member, passed_over}
-use Rattle.sm_merge.specs.Places.{names_and_targets, shape_under}
+use Rattle.sm_model.specs.Graphs.{MemberEntry, text_cmp}
+use Rattle.sm_merge.specs.Mixins.{AreCopied, AreEffectiveMembers, EffectiveMembers, EffectiveShape, IsMadeFrom}
+use Rattle.sm_merge.specs.Mixins.{all_members, copy_of, each_once, effective, mixed_in, no_mixins, own_member, passed_over}
+use Rattle.sm_merge.specs.Places.{names_and_targets}
 use Rattle.sm_merge.specs.Stated.{ShapeStated, Stated}
-use Rattle.sm_merge.specs.steps.Contributing.{AreWalkedTables, ContributesBy}
+use Rattle.sm_merge.specs.steps.Contributing.{AreWalkedTables}
 use Rattle.sm_merge.specs.steps.EffectiveTables.{AreMembersOf, HasMembers, named_targets}
 use Rattle.sm_merge.specs.steps.Filling.{HasEntry, HasMixedMembers, IsFilled, all_targets, members_at, mixed_members, own_at}
 use Rattle.sm_merge.specs.steps.Firsts.{NamesAndTargets, firsts, targets_view}
@@ -24,8 +23,8 @@ use Rattle.sm_merge.specs.declared.mixins.Contributing.{Contributing}
 use Rattle.sm_merge.specs.declared.parts.BareShape.{BareShape}
 use Rattle.sm_merge.specs.declared.table.PlaceRow.{PlaceRow}
 use Rattle.sm_merge.specs.declared.walk.Walk.{Walk}
-use Rattle.sm_merge.proofs.Ats.{at_one, at_there, at_within}
-use Rattle.sm_merge.proofs.EffectiveAll.{HasShapeRow, shape_row}
+use Rattle.sm_merge.proofs.Ats.{at_there, at_within}
+use Rattle.sm_merge.proofs.EffectiveAll.{shape_row}
 use Rattle.sm_merge.proofs.EffectiveMade.{named_copies, named_joined, named_own, names_named, target_found}
 use Rattle.sm_merge.proofs.FirstNames.{names_once}
 use Rattle.sm_merge.proofs.FoundRows.{firsts_found}

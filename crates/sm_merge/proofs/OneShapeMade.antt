@@ -1,21 +1,20 @@
 -- One shape: made from the copies of its mixins and from what is given.
-use Rattle.std.proofs.Common.{◌≡◌, ◌⊎◌, inl, inr, ℕ, Bool, true, false, cond, List, [], ◌∷◌, ◌++◌, map, Option, Some, None, refl, sym, ap, subst}
+use Rattle.std.proofs.Common.{◌≡◌, ℕ, Bool, true, false, cond, List, [], ◌∷◌, ◌++◌, map, Option, Some, None, refl, sym, ap, subst}
 use Rattle.std.proofs.Common.{◌∙◌, bytes_eq}
 use Rattle.std.specs.Prelude.{◌↔◌, MatchOption, not, slice_get, if◌then◌else◌}
 use Rattle.std.specs.Global.{Vec}
-use Rattle.std.specs.Option.{option_map, option_or, unwrap_or}
+use Rattle.std.specs.Option.{option_map, option_or}
 use Rattle.std.specs.FinMap as fin
 use Rattle.std.specs.FinMap.Entries.{find}
-use Rattle.std.proofs.lemmas.Bool.{cases_Bool}
 use Rattle.std.proofs.lemmas.Option.{none-some, same_Some}
 use Rattle.std.proofs.lemmas.Slice.Eq.{bytes_eq-Decides}
 use Rattle.sm_tree.specs.Node.{Node}
 use Rattle.sm_model.specs.Graphs.{MemberEntry, member_id, text_cmp}
-use Rattle.sm_merge.specs.Mixins.{AreEffectiveMembers, EffectiveMembers, EffectiveShape, IsEffectiveMember, IsEffectiveValue, IsMadeFrom}
-use Rattle.sm_merge.specs.Mixins.{all_members, each_once, last_there, member_values, mixin_trait, names_of, shape_values}
+use Rattle.sm_merge.specs.Mixins.{AreEffectiveMembers, IsEffectiveValue, IsMadeFrom}
+use Rattle.sm_merge.specs.Mixins.{all_members, each_once, member_values, mixin_trait, shape_values}
 use Rattle.sm_merge.specs.Places.{names_and_targets, trait_values}
 use Rattle.sm_merge.specs.Stated.{ShapeStated, Stated}
-use Rattle.sm_merge.specs.steps.EffectiveTables.{effective_member, named_targets, traits_map, traits_of_member}
+use Rattle.sm_merge.specs.steps.EffectiveTables.{effective_member, traits_map, traits_of_member}
 use Rattle.sm_merge.specs.steps.Filling.{AreFirstRows, AreTraitsFrom, copied_at, folded_rows, given_rows, kept_at, kept_by, last_first, member_lists, member_rows}
 use Rattle.sm_merge.specs.steps.Filling.{members_at, mixed_members, shape_rows}
 use Rattle.sm_merge.specs.steps.Firsts.{NamesAndTargets, firsts}

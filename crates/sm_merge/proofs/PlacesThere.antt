@@ -1,18 +1,17 @@
 -- Shapes and members that are there, as the tables list them, and the events that speak of them.
-use Rattle.std.proofs.Common.{◌≡◌, ◌⊎◌, inl, inr, ℕ, zero, suc, ◌<◌, ◌≤◌, Bool, true, false, cond, List, [], ◌∷◌, ◌++◌, map, length, Option, Some, None}
+use Rattle.std.proofs.Common.{◌≡◌, ◌⊎◌, inl, inr, ℕ, zero, suc, ◌<◌, ◌≤◌, Bool, true, false, List, [], ◌∷◌, ◌++◌, map, length, Option, Some, None}
 use Rattle.std.proofs.Common.{refl, sym, ap, subst, ◌∙◌, arith, bytes_eq}
-use Rattle.std.specs.Prelude.{◌↔◌, if◌then◌else◌, slice_get}
+use Rattle.std.specs.Prelude.{◌↔◌, if◌then◌else◌}
 use Rattle.std.specs.Global.{Vec}
 use Rattle.std.specs.List.{Contains, flat_map, list_any}
-use Rattle.std.specs.FinMap as fin
 use Rattle.std.specs.FinMap.Entries.{find}
 use Rattle.std.specs.Option.{option_map}
 use Rattle.std.proofs.lemmas.Bool.{true≢false}
-use Rattle.std.proofs.lemmas.Option.{none-some, same_Some}
+use Rattle.std.proofs.lemmas.Option.{none-some}
 use Rattle.sm_tree.specs.Node.{Node}
 use Rattle.sm_model.specs.EventView.{EventTold}
-use Rattle.sm_model.specs.Graphs.{Entry, MemberEntry, member_entry, member_id, shape_entry, text_cmp}
-use Rattle.sm_merge.specs.Merged.{HasTraitConflict, IsAppliedToNothing, IsMergedMember, IsMergedShape, IsThere, with_enum_value}
+use Rattle.sm_model.specs.Graphs.{MemberEntry, member_entry, member_id, shape_entry, text_cmp}
+use Rattle.sm_merge.specs.Merged.{HasTraitConflict, IsAppliedToNothing, IsThere, with_enum_value}
 use Rattle.sm_merge.specs.Mixins.{EffectiveShape, IsEffective, names_of}
 use Rattle.sm_merge.specs.Places.{shape_under}
 use Rattle.sm_merge.specs.Stated.{ShapeStated, Stated, apply_stated, metadata_stated, shape_stated}
@@ -21,7 +20,7 @@ use Rattle.sm_merge.specs.steps.EventLists.{applied_event, trait_event, trait_ev
 use Rattle.sm_merge.specs.steps.Filling.{id_at, id_in, members_at}
 use Rattle.sm_merge.specs.steps.Firsts.{targets_view}
 use Rattle.sm_merge.specs.steps.Links.{At}
-use Rattle.sm_merge.specs.steps.MixedIn.{items_at, vec_items}
+use Rattle.sm_merge.specs.steps.MixedIn.{vec_items}
 use Rattle.sm_merge.specs.steps.PlaceEvents.{applied_events, place_conflicts, places_at, places_below}
 use Rattle.sm_merge.specs.steps.Placed.{applied_by, bare_view}
 use Rattle.sm_merge.specs.steps.ShapeTables.{AreShapesOf, ids_of, shapes_view}

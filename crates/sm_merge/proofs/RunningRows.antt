@@ -1,11 +1,11 @@
 -- How much each value counts is told in all rows, since it is told where the values stand.
-use Rattle.std.proofs.Common.{◌≡◌, ◌⊎◌, inl, inr, ℕ, zero, suc, ◌<◌, Bool, true, false, cond, List, [], ◌∷◌, ◌++◌, map, filter, length, Option, Some, None}
+use Rattle.std.proofs.Common.{◌≡◌, ℕ, zero, suc, ◌<◌, Bool, true, false, cond, List, [], ◌∷◌, ◌++◌, map, filter, length, Option, Some, None}
 use Rattle.std.proofs.Common.{refl, sym, ap, subst, ◌∙◌, arith, bytes_eq}
 use Rattle.std.specs.Prelude.{MatchOption, if◌then◌else◌, slice_get, not}
 use Rattle.std.specs.Global.{Vec}
 use Rattle.std.specs.Option.{option_or}
 use Rattle.std.specs.FinMap.Entries.{find}
-use Rattle.std.proofs.lemmas.Option.{none-some, same_Some}
+use Rattle.std.proofs.lemmas.Option.{none-some}
 use Rattle.sm_tree.specs.View.{node_of}
 use Rattle.sm_model.specs.Graphs.{member_id, text_cmp}
 use Rattle.sm_model.specs.steps.Rising.{Rise}
@@ -13,10 +13,10 @@ use Rattle.sm_merge.specs.Mixins.{is_copied, mixin_trait}
 use Rattle.sm_merge.specs.Places.{trait_values}
 use Rattle.sm_merge.specs.Stated.{Stated}
 use Rattle.sm_merge.specs.steps.Contributing.{AreWalkedTables}
-use Rattle.sm_merge.specs.steps.EffectiveTables.{AreEffectiveTables, AreRunning, AreSoundTraits, AreTraitRows, effective_view, trait_names}
+use Rattle.sm_merge.specs.steps.EffectiveTables.{AreEffectiveTables, AreRunning, AreSoundTraits, AreTraitRows, trait_names}
 use Rattle.sm_merge.specs.steps.EffectiveTables.{traits_of_member}
-use Rattle.sm_merge.specs.steps.Filling.{AreFirstRows, AreTraitsFrom, FoldedRows, HasEntry, HasMixedMembers, HasMixedTraits, IsFilled, copied_at}
-use Rattle.sm_merge.specs.steps.Filling.{copied_traits, copies_by, folded_rows, given_rows, id_at, is_kept, kept_by, kept_of, last_first, member_lists}
+use Rattle.sm_merge.specs.steps.Filling.{AreFirstRows, FoldedRows, HasEntry, HasMixedMembers, HasMixedTraits, IsFilled, copied_at}
+use Rattle.sm_merge.specs.steps.Filling.{copied_traits, copies_by, folded_rows, given_rows, id_at, kept_by, kept_of, last_first, member_lists}
 use Rattle.sm_merge.specs.steps.Filling.{members_at, mixin_value, own_traits}
 use Rattle.sm_merge.specs.steps.Firsts.{NamesAndTargets, targets_view}
 use Rattle.sm_merge.specs.steps.Folding.{IsFolded, IsRunning}
@@ -34,7 +34,7 @@ use Rattle.sm_merge.specs.declared.table.PlaceRow.{PlaceRow}
 use Rattle.sm_merge.specs.declared.value.Folded.{Folded}
 use Rattle.sm_merge.specs.declared.walk.Walk.{Walk}
 use Rattle.sm_merge.proofs.Ats.{at_one, at_within}
-use Rattle.sm_merge.proofs.EffectiveAll.{IsDone, all_are_done, direct}
+use Rattle.sm_merge.proofs.EffectiveAll.{all_are_done, direct}
 use Rattle.sm_merge.proofs.EffectiveMade.{seen_as}
 use Rattle.sm_merge.proofs.FoundRows.{find_joined, find_kept}
 use Rattle.sm_merge.proofs.KeptOnce.{kept_once}

@@ -1,8 +1,7 @@
 -- Shapes in the order of their ids: what is found under an id, the number of a shape, and the numbers of its mixins.
-use Rattle.std.proofs.Common.{◌≡◌, ◌⊎◌, inl, inr, ℕ, zero, suc, ◌+◌, ◌<◌, ◌≤◌, Bool, true, false, cond, List, [], ◌∷◌, ◌++◌, map, length}
+use Rattle.std.proofs.Common.{◌≡◌, inl, inr, ℕ, zero, suc, ◌+◌, ◌<◌, ◌≤◌, Bool, true, false, cond, List, [], ◌∷◌, ◌++◌, map, length}
 use Rattle.std.proofs.Common.{get_or, Option, Some, None, refl, sym, ap, subst, ◌∙◌, arith, length-append}
 use Rattle.std.specs.Prelude.{slice_get, is_some, IsSomeAnd}
-use Rattle.std.specs.Bool.{passes}
 use Rattle.std.specs.Cmp.{tied_itself as tied_order}
 use Rattle.std.specs.Cmp.Lexicographic.{nat_list_cmp_total}
 use Rattle.std.specs.FinMap.{slice_cmp-IsAntisymmetric, nat_cmp-IsAntisymmetric}
@@ -16,20 +15,19 @@ use Rattle.std.specs.Global.{Vec}
 use Rattle.std.proofs.Math.Seq.{get_or-append_seam}
 use Rattle.std.proofs.lemmas.List.{get_or_append_left}
 use Rattle.std.proofs.lemmas.Map.Keys.{any_passes_from_place}
-use Rattle.std.proofs.lemmas.Option.{get_or_from_slice_get, none-some, same_Some, slice_get_past, unwrap_or-slice_get}
+use Rattle.std.proofs.lemmas.Option.{get_or_from_slice_get, none-some, same_Some}
 use Rattle.sm_model.specs.Graphs.{text_cmp}
 use Rattle.sm_model.specs.steps.Rising.{Rise}
 use Rattle.sm_model.proofs.Rises.{sorted_from_rise}
 use Rattle.sm_model.proofs.Searching.{equal_to, keys_rise}
-use Rattle.sm_merge.specs.Mixins.{MixesIn}
 use Rattle.sm_merge.specs.Places.{mixins_of, shape_under}
 use Rattle.sm_merge.specs.Stated.{ShapeStated, Stated}
-use Rattle.sm_merge.specs.steps.Links.{At, AreLinks, Links, LeadsTo, links_view}
-use Rattle.sm_merge.specs.steps.MixinLinks.{AreLinksOf, HasMixin, LinksTo, PutsNumber, mixins_in}
-use Rattle.sm_merge.specs.steps.Numbered.{AreMixinLinks, AreShapeIds, HasNumber, IsMixinWalk}
+use Rattle.sm_merge.specs.steps.Links.{At, AreLinks, Links, links_view}
+use Rattle.sm_merge.specs.steps.MixinLinks.{AreLinksOf, LinksTo, PutsNumber, mixins_in}
+use Rattle.sm_merge.specs.steps.Numbered.{AreMixinLinks, AreShapeIds, IsMixinWalk}
 use Rattle.sm_merge.specs.steps.Placed.{Bare, bare_of}
 use Rattle.sm_merge.specs.steps.ShapeTables.{AreShapesOf, IsAt, ids_of, shapes_view}
-use Rattle.sm_merge.specs.steps.Walking.{IsWalked, StandsFrom}
+use Rattle.sm_merge.specs.steps.Walking.{IsWalked}
 use Rattle.sm_merge.specs.declared.parts.BareShape.{BareShape}
 use Rattle.sm_merge.specs.declared.walk.Walk.{Walk}
 use Rattle.sm_merge.proofs.Cycles.{cycle_ring}

@@ -1,5 +1,5 @@
 -- Events of each kind behind those of mixins, put into order, are the events of the statements.
-use Rattle.std.proofs.Common.{◌≡◌, ◌⊎◌, inl, inr, ℕ, List, [], ◌∷◌, ◌++◌, map, length, refl, sym, ap, subst, ◌∙◌, append_assoc, bytes_eq}
+use Rattle.std.proofs.Common.{◌≡◌, inl, inr, ℕ, List, ◌++◌, map, length, sym, ap, subst, ◌∙◌, append_assoc, bytes_eq}
 use Rattle.std.specs.Prelude.{◌↔◌}
 use Rattle.std.specs.Global.{Vec}
 use Rattle.std.specs.List.{Contains, list_any}
@@ -8,7 +8,7 @@ use Rattle.sm_model.specs.EventView.{AreInOrder, EventTold, events_view}
 use Rattle.sm_model.specs.declared.event.ModelEvent.{ModelEvent}
 use Rattle.sm_merge.specs.Merged.{AreEventsOf, HasBadMixin}
 use Rattle.sm_merge.specs.Stated.{Stated}
-use Rattle.sm_merge.specs.steps.AllEvents.{Kinds, all_kinds, mixin_event}
+use Rattle.sm_merge.specs.steps.AllEvents.{mixin_event}
 use Rattle.sm_merge.specs.steps.EventLists.{HaveSameEvents, TellsMore, metadata_events, shape_event}
 use Rattle.sm_merge.specs.steps.PlaceEvents.{applied_events, others_below, place_conflicts, places_below}
 use Rattle.sm_merge.specs.steps.ToldEvents.{AreToldFrom}

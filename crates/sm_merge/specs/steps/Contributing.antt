@@ -1,5 +1,5 @@
 -- Which mixins contribute to a shape, from tables of shapes and traits and a walk over the shapes' numbers.
-use Rattle.std.specs.Prelude.{◌≡◌, ℕ, Bool, false, List, [], get_or, Option, Some, None, slice_get, MatchOption}
+use Rattle.std.specs.Prelude.{◌≡◌, ℕ, false, List, get_or, Option, MatchOption}
 use Rattle.sm_tree.specs.View.{node_of}
 use Rattle.sm_model.specs.steps.Rising.{Rise}
 use Rattle.sm_model.specs.declared.kind.Kind.{Kind}

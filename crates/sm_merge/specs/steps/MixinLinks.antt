@@ -1,7 +1,6 @@
 -- The numbers of the shapes that shapes mix in.
 use Rattle.std.specs.Prelude.{◌≡◌, ◌⊎◌, ℕ, List, [], ◌∷◌, ◌++◌, map, get_or, length}
 use Rattle.sm_merge.specs.steps.Links.{Links, At}
-use Rattle.sm_merge.specs.steps.Placed.{Bare}
 use Rattle.sm_merge.specs.steps.ShapeTables.{AreShapesOf, ids_of, shapes_view}
 use Rattle.sm_merge.specs.steps.Numbered.{IsMixinWalk}
 use Rattle.sm_merge.specs.Stated.{Stated}

@@ -14,7 +14,7 @@ use Rattle.sm_merge.specs.Meaning.{Defined}
 use Rattle.sm_merge.specs.steps.AllEvents.{member_event}
 use Rattle.sm_merge.specs.steps.EventLists.{applied_event, trait_events}
 use Rattle.sm_merge.specs.steps.Filling.{all_targets, id_at, members_at, own_at}
-use Rattle.sm_merge.specs.steps.Firsts.{NamesAndTargets, targets_view}
+use Rattle.sm_merge.specs.steps.Firsts.{NamesAndTargets}
 use Rattle.sm_merge.specs.steps.MixedIn.{items_at}
 use Rattle.sm_merge.specs.steps.Tables.{traits_found}
 use Rattle.sm_merge.specs.declared.firsts.NamedTarget.{NamedTarget}

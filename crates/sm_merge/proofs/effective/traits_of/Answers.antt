@@ -1,4 +1,4 @@
-use Rattle.std.proofs.Common.{◌≡◌, ◌++◌, sym, ap, subst, ◌∙◌}
+use Rattle.std.proofs.Common.{◌++◌, sym, subst, ◌∙◌}
 use Rattle.std.specs.FinMap.Entries.{find}
 use Rattle.sm_model.specs.Graphs.{text_cmp}
 use Rattle.sm_model.specs.steps.Rising.{Rise}

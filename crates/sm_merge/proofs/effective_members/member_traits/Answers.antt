@@ -1,4 +1,4 @@
-use Rattle.std.proofs.Common.{◌≡◌, ◌++◌, [], sym, ap, subst, ◌∙◌}
+use Rattle.std.proofs.Common.{◌++◌, ap, ◌∙◌}
 use Rattle.std.proofs.lemmas.Result.{IfOk-weaker}
 use Rattle.sm_merge.specs.steps.Filling.{given_rows, kept_by, last_first, member_rows}
 use Rattle.sm_merge.specs.steps.Firsts.{targets_view}

@@ -1,4 +1,4 @@
-use Rattle.std.proofs.Common.{◌++◌, ◌∷◌, [], ap, ◌∙◌, bytes_eq}
+use Rattle.std.proofs.Common.{◌++◌, [], ap, ◌∙◌, bytes_eq}
 use Rattle.std.specs.Prelude.{if◌then◌else◌}
 use Rattle.sm_merge.specs.steps.Filling.{folded_rows}
 use Rattle.sm_merge.specs.steps.MemberLists.{rows_under}

@@ -1,7 +1,6 @@
-use Rattle.std.proofs.Common.{◌≡◌, ◌<◌, ◌≤◌, ◌+◌, ◌-◌, ◌++◌, [], length, drop, refl, sym, ap, subst, ◌∙◌, arith, append-nil, rules}
-use Rattle.std.proofs.lemmas.List.{drop_all}
+use Rattle.std.proofs.Common.{◌≡◌, ◌<◌, ◌≤◌, ◌+◌, ◌-◌, ◌++◌, length, refl, sym, ap, ◌∙◌, arith, rules}
 use Rattle.std.proofs.lemmas.Option.{slice_get_read}
-use Rattle.sm_merge.specs.steps.Filling.{kept_by, kept_of, member_lists, last_first}
+use Rattle.sm_merge.specs.steps.Filling.{kept_by, kept_of, member_lists}
 use Rattle.sm_merge.specs.steps.MemberLists.{rows_under}
 use Rattle.sm_merge.specs.declared.effective.ShapeTraits.{ShapeTraits}
 use Rattle.sm_merge.proofs.MembersMixed.{below_one}

@@ -1,7 +1,6 @@
-use Rattle.std.proofs.Common.{◌≡◌, ◌<◌, ◌≤◌, ◌+◌, ◌-◌, ◌++◌, [], length, drop, refl, sym, ap, subst, ◌∙◌, arith, append-nil, rules}
-use Rattle.std.proofs.lemmas.List.{drop_all}
+use Rattle.std.proofs.Common.{◌≡◌, ◌<◌, ◌≤◌, ◌+◌, ◌-◌, ◌++◌, length, refl, sym, ap, ◌∙◌, arith, rules}
 use Rattle.std.proofs.lemmas.Option.{slice_get_read}
-use Rattle.sm_merge.specs.steps.Filling.{copied_at, copied_traits, folded_rows, last_first}
+use Rattle.sm_merge.specs.steps.Filling.{copied_at, copied_traits, folded_rows}
 use Rattle.sm_merge.specs.declared.effective.ShapeTraits.{ShapeTraits}
 use Rattle.sm_merge.proofs.MembersMixed.{below_one}
 use Rattle.sm_merge.proofs.MemberListsMade.{last_step, rows_joined}

@@ -1,4 +1,4 @@
-use Rattle.std.proofs.Common.{◌≡◌, ◌++◌, length, map, sym, ap, subst, ◌∙◌, bytes_eq}
+use Rattle.std.proofs.Common.{◌≡◌, length, map, sym, ap, subst, ◌∙◌, bytes_eq}
 use Rattle.std.specs.List.{list_any}
 use Rattle.sm_model.specs.EventView.{events_view}
 use Rattle.sm_merge.specs.steps.Contributing.{AreWalkedTables}

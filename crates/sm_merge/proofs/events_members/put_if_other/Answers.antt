@@ -1,4 +1,4 @@
-use Rattle.std.proofs.Common.{[], ◌∷◌, sym, subst, ◌∙◌}
+use Rattle.std.proofs.Common.{sym, subst, ◌∙◌}
 use Rattle.std.specs.Prelude.{codes}
 use Rattle.sm_model.specs.Graphs.{member_id}
 use Rattle.sm_merge.specs.Merged.{model_event}

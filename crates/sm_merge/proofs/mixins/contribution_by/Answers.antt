@@ -1,4 +1,4 @@
-use Rattle.std.proofs.Common.{true, false, sym, subst, refl, ◌∙◌, cond}
+use Rattle.std.proofs.Common.{sym, refl, ◌∙◌}
 use Rattle.sm_merge.proofs.MixinsTold.{contributes, given_none, given_some, may_not, unmarked}
 use Rattle.sm_merge.proofs.Walked.{true_is_false}
 use Rattle.sm_merge.proofs.mixins.contribution_by.Goals as goal

@@ -1,4 +1,4 @@
-use Rattle.std.proofs.Common.{◌≡◌, length, sym, ap, arith, ◌∙◌}
+use Rattle.std.proofs.Common.{arith}
 use Rattle.sm_merge.specs.steps.ShapeTables.{ids_of, shapes_view}
 use Rattle.sm_merge.proofs.Ats.{at_within}
 use Rattle.sm_merge.proofs.MixinsTold.{no_such_mixin}

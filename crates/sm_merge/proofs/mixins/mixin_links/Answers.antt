@@ -1,4 +1,4 @@
-use Rattle.std.proofs.Common.{◌+◌, ◌++◌, [], ◌∷◌, get_or, take, refl, sym, ap, subst, ◌∙◌}
+use Rattle.std.proofs.Common.{◌+◌, ◌++◌, [], ◌∷◌, take, refl, sym, ap, subst, ◌∙◌}
 use Rattle.sm_merge.specs.steps.Links.{links_view}
 use Rattle.sm_merge.specs.steps.MixinLinks.{AreLinksOf, LinksTo, mixins_in}
 use Rattle.sm_merge.specs.steps.ShapeTables.{ids_of}

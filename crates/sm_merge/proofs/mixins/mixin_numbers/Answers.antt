@@ -1,4 +1,4 @@
-use Rattle.std.proofs.Common.{◌+◌, ◌++◌, [], ◌∷◌, get_or, take, refl, sym, ap, subst, ◌∙◌}
+use Rattle.std.proofs.Common.{◌+◌, ◌++◌, [], ◌∷◌, take, refl, sym, ap, subst, ◌∙◌}
 use Rattle.sm_merge.specs.steps.MixinLinks.{LinksTo, PutsNumber}
 use Rattle.sm_merge.specs.steps.ShapeTables.{ids_of, shapes_view}
 use Rattle.sm_merge.proofs.Ats.{taken_more}
