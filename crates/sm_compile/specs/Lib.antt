@@ -1,0 +1,9 @@
+pub mod TraitIds
+pub mod TraitNodes
+pub mod Kinds
+pub mod Reached
+pub mod Sound
+pub mod Said
+pub mod Compiled
+pub mod Served
+pub mod Answers

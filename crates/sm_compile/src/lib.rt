@@ -1,0 +1,6 @@
+// From a graph to tables: which shapes a table can be made of, and the table of all that a shape reaches.
+#![tactic(auto)]
+
+mod compiled;
+
+pub use compiled::{CompileRefusal, OneShape, Served};
