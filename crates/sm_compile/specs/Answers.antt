@@ -1,14 +1,14 @@
 -- What compiling a shape answers.
-use Rattle.std.specs.Prelude.{◌≡◌, ◌++◌, ◌+◌, ◌-◌, ◌^◌, ℕ, List, [], ◌∷◌, Option, Some, Result, Ok, Err, min, slice_get}
+use Rattle.std.specs.Prelude.{◌≡◌, ◌++◌, ◌+◌, ◌-◌, ◌^◌, ◌∷◌, ℕ, List, Option, Some, Result, Ok, Err, min, slice_get}
 use Rattle.std.specs.List.{join_with_byte}
 use Rattle.sm_bytes.specs.Ascii.{slash}
 use Rattle.sm_model.specs.Graphs.{GraphMaps}
 use Rattle.sm_shapes.specs.Fitting.{Test}
 use Rattle.sm_shapes.specs.InOrder.{Shaped, Built}
-use Rattle.sm_shapes.specs.TableData.{TableData}
 use Rattle.sm_shapes.specs.TableView.{table_data}
-use Rattle.sm_compile.specs.Compiled.{Numbering, IsCompiled, IsFirstCarrier, AllUnbound, NoMediaTypes, pattern_texts}
-use Rattle.sm_compile.specs.Served.{IsFirstWay, IsServed}
+use Rattle.sm_compile.specs.Compiled.{Numbering, IsCompiled, ArePatternsOf, IsFirstCarrier, AllUnbound, NoMediaTypes, texts_of}
+use Rattle.sm_compile.specs.Reached.{IsReached}
+use Rattle.sm_compile.specs.Served.{WayStep, IsFirstWay, IsServed, names_of_way}
 use Rattle.sm_compile.specs.Sound.{IsValueShape}
 use Rattle.sm_compile.specs.declared.compiled.OneShape.{OneShape}
 use Rattle.sm_compile.specs.declared.compiled.Served.{Served}
@@ -25,31 +25,42 @@ pub record StoreSeen : Type 0 where
 -- whether all that a shape reaches is served
 abbrev pub TellsServed : GraphMaps → List ℕ → Served → Type 0
 TellsServed g root Yes = IsServed g root
-TellsServed g root (Unserved path) = (names : List (List ℕ)) × IsFirstWay g root names × (path ≡ join_with_byte slash names)
+TellsServed g root (Unserved path) = (way : List WayStep) × IsFirstWay g root way × (path ≡ join_with_byte slash (names_of_way way))
 
 -- a table of the shape, and the store has the table's patterns behind those that it had
 pub record IsShapeCompiled (g : GraphMaps) (root : List ℕ) (test : Test) (before now : StoreSeen) (one : OneShape) : Type 0 where
   pub numbering : Numbering
-  pub compiled : IsCompiled g root (table_data one.table) numbering
+  pub compiled : IsCompiled g (IsReached g root) (table_data one.table) numbering
   pub shape : slice_get numbering.shapes one.shape ≡ Some root
   pub unbound : AllUnbound (table_data one.table).members
   pub no_media : NoMediaTypes (table_data one.table).shapes
   pub shaped : Shaped (table_data one.table)
   pub built : Built (table_data one.table) now.added test
   pub served : TellsServed g root one.served
-  pub added : now.added ≡ before.added ++ pattern_texts (table_data one.table)
+  pub added : now.added ≡ before.added ++ texts_of (table_data one.table).patterns
   pub refused : now.refused ≡ before.refused
   pub refusals : now.refusals ≡ before.refusals
 
--- a pattern is refused: its text is the one refused last, and the id is the first of those that carry it
+-- a pattern is refused: those before it were added, its text is the one refused last, and the id is the first of those that carry it
 pub record IsPatternRefused (g : GraphMaps) (root : List ℕ) (before now : StoreSeen) (id : List ℕ) : Type 0 where
   pub text : List ℕ
+  pub earlier : List (List ℕ)
+  pub later : List (List ℕ)
+  pub patterns : ArePatternsOf g (IsReached g root) (earlier ++ text ∷ later)
+  pub added : now.added ≡ before.added ++ earlier
   pub refused : now.refused ≡ Some text
   pub refusals : now.refusals ≡ min (before.refusals + 1) (2 ^ 64 - 1)
-  pub carrier : IsFirstCarrier g root text id
+  pub carrier : IsFirstCarrier g (IsReached g root) text id
+
+-- where memory runs out nothing is refused, and what was added stands behind what was there
+pub record IsLeftBehind (before now : StoreSeen) : Type 0 where
+  pub more : List (List ℕ)
+  pub added : now.added ≡ before.added ++ more
+  pub refused : now.refused ≡ before.refused
+  pub refusals : now.refusals ≡ before.refusals
 
 abbrev pub CompilesShape : GraphMaps → List ℕ → Test → StoreSeen → StoreSeen → Result OneShape CompileRefusal → Type 0
 CompilesShape g root test before now (Ok one) = IsValueShape g root × IsShapeCompiled g root test before now one
 CompilesShape g root test before now (Err NoShape) = (IsValueShape g root → ⊥) × Path StoreSeen now before
 CompilesShape g root test before now (Err (Pattern id)) = IsValueShape g root × IsPatternRefused g root before now id
-CompilesShape g root test before now (Err NoMemory) = (now.refused ≡ before.refused) × (now.refusals ≡ before.refusals)
+CompilesShape g root test before now (Err NoMemory) = IsLeftBehind before now

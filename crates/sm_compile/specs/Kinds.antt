@@ -1,5 +1,5 @@
 -- The kinds of shapes in a table, and which kinds of shapes values have (Smithy 2.0, "Simple types", "Aggregate types").
-use Rattle.std.specs.Prelude.{ℕ, Bool, true, false, List, [], ◌||◌}
+use Rattle.std.specs.Prelude.{◌&&◌, ℕ, Bool, not, true, false, List, []}
 use Rattle.sm_model.specs.Graphs.{ShapeEntry}
 use Rattle.sm_model.specs.declared.kind.Kind.{Kind}
 use Rattle.sm_model.specs.declared.kind.Kind.TheVariants as model
@@ -70,3 +70,11 @@ members_of_kind kind ms = []
 
 abbrev pub value_members : ShapeEntry → List (List ℕ)
 value_members s = members_of_kind s.kind s.members
+
+-- what the member of a shape of this kind may target: a shape that has values; the prelude's unit in unions and enums alone, and those of
+-- enums nothing else
+abbrev pub may_target : Kind → Bool → Kind → Bool
+may_target model.Enum is_unit kind = is_unit
+may_target model.IntEnum is_unit kind = is_unit
+may_target model.Union is_unit kind = has_values kind
+may_target any is_unit kind = has_values kind && not is_unit

@@ -1,7 +1,7 @@
 -- What is reached from a shape by members and targets (Smithy 2.0, "Selectors", "Neighbors").
 use Rattle.std.specs.Prelude.{◌≡◌, ◌⊎◌, ℕ, List, [], ◌∷◌}
-use Rattle.sm_model.specs.Graphs.{GraphMaps, ShapeEntry, shape_entry}
-use Rattle.sm_model.specs.Relations.{HasEntry, IsRelated}
+use Rattle.sm_model.specs.Graphs.{GraphMaps}
+use Rattle.sm_model.specs.Relations.{IsRelated}
 use Rattle.sm_model.specs.declared.relation.Relation.TheVariants.{Member, Target}
 
 -- a shape's members, and a member's target
@@ -16,7 +16,3 @@ LeadsBy g from (next ∷ more) to = LeadsTo g from next × LeadsBy g next more t
 -- the shape itself, and all to which steps lead from it
 abbrev pub IsReached : GraphMaps → List ℕ → List ℕ → Type 0
 IsReached g root id = (by : List (List ℕ)) × LeadsBy g root by id
-
--- a shape that is reached
-abbrev pub IsReachedShape : GraphMaps → List ℕ → List ℕ → Type 0
-IsReachedShape g root id = IsReached g root id × ((s : ShapeEntry) × HasEntry g id (shape_entry s))

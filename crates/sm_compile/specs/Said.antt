@@ -1,19 +1,19 @@
 -- What a graph says of a shape's values and of those at a member: constraints, format, default (Smithy 2.0, "Constraint traits",
 -- "timestampFormat trait", "default trait"). A trait of a member takes the place of its target's, as a whole.
-use Rattle.std.specs.Prelude.{ℕ, ℤ, Bool, true, false, not, ◌&&◌, ◌||◌, List, [], ◌∷◌, Option, Some, None, if◌then◌else◌, is_some, cond}
+use Rattle.std.specs.Prelude.{ℕ, ℤ, Bool, true, false, List, [], Option, Some, None, if◌then◌else◌, is_some, cond}
 use Rattle.std.specs.List.{list_any}
 use Rattle.std.specs.FinMap as fin
 use Rattle.sm_tree.specs.Node.{Node, null, bool, int, number, text, bytes, tag, opaque, list, object, no_nodes, node, no_members, member}
 use Rattle.sm_time.specs.declared.format.Format.{Format}
 use Rattle.sm_model.specs.Graphs.{GraphMaps, ShapeEntry, MemberEntry, NodeMap}
 use Rattle.sm_model.specs.declared.kind.Kind.{Kind}
-use Rattle.sm_model.specs.declared.kind.Kind.TheVariants.{Enum, IntEnum, List as a_list, Map, Structure, Union}
+use Rattle.sm_model.specs.declared.kind.Kind.TheVariants.{Enum, IntEnum, Structure}
 use Rattle.sm_shapes.specs.declared.kinds.ShapeKind.{ShapeKind}
 use Rattle.sm_shapes.specs.declared.kinds.ShapeKind.TheVariants as table
 use Rattle.sm_compile.specs.Kinds.{has_length, is_text_kind, is_whole_kind, table_kind}
 use Rattle.sm_compile.specs.Sound.{enum_texts, enum_numbers}
 use Rattle.sm_compile.specs.TraitIds.{length_id, range_id, pattern_id, timestamp_format_id, default_id, binding_ids}
-use Rattle.sm_compile.specs.TraitNodes.{TraitsSeen, own_traits, effective_traits, text_of, least_of, most_of, format_named}
+use Rattle.sm_compile.specs.TraitNodes.{TraitsSeen, text_of, least_of, most_of, format_named}
 
 -- as in a table, with the text of a pattern in place of its number
 pub record ConstraintsSaid : Type 0 where

@@ -1,12 +1,11 @@
 -- Of which shapes a table can be made: all that they reach is there, of a kind that may stand there, and has the members, names,
 -- values and constraints of its kind (Smithy 2.0, "Aggregate types", "Constraint traits"). A graph in which no rule fails is
 -- sound for each of its shapes.
-use Rattle.std.specs.Prelude.{◌≡◌, ℕ, ℤ, true, List, [], ◌∷◌, map, unwrap_or, Option, Some, None, FitsSigned}
+use Rattle.std.specs.Prelude.{◌≡◌, ℕ, ℤ, true, false, List, [], ◌∷◌, map, unwrap_or, Option, Some, None, Bool, IsTrue, FitsSigned}
 use Rattle.std.specs.Int.{w32}
 use Rattle.std.specs.List.{Contains, cons_option}
-use Rattle.std.specs.List.Sorted.{IsPermutation}
 use Rattle.std.specs.FinMap as fin
-use Rattle.std.specs.Option.{ForSome}
+use Rattle.std.specs.Str.{bytes_eq}
 use Rattle.sm_tree.specs.Node.{Node, text, int}
 use Rattle.sm_model.specs.Formed.{HaveForm}
 use Rattle.sm_model.specs.Kinds.{member_form}
@@ -14,12 +13,12 @@ use Rattle.sm_model.specs.Graphs.{Entry, shape_entry, member_entry, ShapeEntry, 
 use Rattle.sm_model.specs.PreludeShapes.{unit_id}
 use Rattle.sm_model.specs.Relations.{HasEntry}
 use Rattle.sm_model.specs.declared.kind.Kind.{Kind}
-use Rattle.sm_model.specs.declared.kind.Kind.TheVariants.{Enum, IntEnum, Map, Union}
+use Rattle.sm_model.specs.declared.kind.Kind.TheVariants.{Enum, IntEnum, Map}
 use Rattle.sm_shapes.specs.Names.{AllDiffer}
-use Rattle.sm_compile.specs.Kinds.{has_values, is_text_kind}
+use Rattle.sm_compile.specs.Kinds.{has_values, is_text_kind, may_target}
 use Rattle.sm_compile.specs.Reached.{IsReached}
 use Rattle.sm_compile.specs.TraitIds.{enum_value_id, json_name_id}
-use Rattle.sm_compile.specs.TraitNodes.{number_of, text_of, AreFormedTraits, IsEnumValue}
+use Rattle.sm_compile.specs.TraitNodes.{number_of, text_of, own_traits, where_there, is_enum_value, AreFormedTraits}
 
 -- the value of a trait of what stands under an id
 abbrev pub trait_in : List ℕ → Option Entry → Option Node
@@ -33,22 +32,15 @@ trait_of g id name = trait_in name (fin.get g.shapes id)
 abbrev pub json_name_of : GraphMaps → List ℕ → List ℕ → List ℕ
 json_name_of g shape name = unwrap_or (text_of (trait_of g (member_id shape name) json_name_id)) name
 
--- what the member of a shape of this kind may target
-abbrev pub MayTarget : Kind → List ℕ → Kind → Type 0
-MayTarget Enum id kind = id ≡ unit_id
-MayTarget IntEnum id kind = id ≡ unit_id
-MayTarget Union id kind = has_values kind ≡ true
-MayTarget any id kind = (has_values kind ≡ true) × (id ≡ unit_id → ⊥)
-
 -- a member of a shape of this kind
 pub record IsSoundMember (g : GraphMaps) (kind : Kind) (id : List ℕ) : Type 0 where
   pub m : MemberEntry
   pub there : HasEntry g id (member_entry m)
   pub target : ShapeEntry
   pub found : HasEntry g m.target (shape_entry target)
-  pub may_target : MayTarget kind m.target target.kind
-  pub traits : AreFormedTraits target.kind m.traits
-  pub value : ForSome (fin.get m.traits enum_value_id) (IsEnumValue kind)
+  pub may_target : IsTrue (may_target kind (bytes_eq m.target unit_id) target.kind)
+  pub traits : AreFormedTraits target.kind (own_traits m.traits)
+  pub value : IsTrue (where_there (is_enum_value kind) (fin.get m.traits enum_value_id))
 
 abbrev pub AreSoundMembers : GraphMaps → Kind → List (List ℕ) → Type 0
 AreSoundMembers g kind [] = Unit {0}
@@ -113,7 +105,7 @@ pub record IsSoundShape (g : GraphMaps) (id : List ℕ) (s : ShapeEntry) : Type 
   pub each : AreSoundMembers g s.kind s.members
   pub key : HasTextKey g s.kind s.members
   pub values : HasItsValues g s.kind s.members
-  pub traits : AreFormedTraits s.kind s.traits
+  pub traits : AreFormedTraits s.kind (own_traits s.traits)
 
 -- a shape that has values
 abbrev pub IsValueShape : GraphMaps → List ℕ → Type 0
@@ -122,3 +114,8 @@ IsValueShape g id = (s : ShapeEntry) × HasEntry g id (shape_entry s) × (has_va
 -- each shape that it reaches is in order; nothing is asked of an id that is none of a shape with values
 abbrev pub Sound : GraphMaps → List ℕ → Type 0
 Sound g root = IsValueShape g root → (id : List ℕ) (s : ShapeEntry) → IsReached g root id → HasEntry g id (shape_entry s) → IsSoundShape g id s
+
+-- whether a shape is
+abbrev pub TellsSound : GraphMaps → List ℕ → Bool → Type 0
+TellsSound g root true = Sound g root
+TellsSound g root false = Sound g root → ⊥

@@ -1,17 +1,17 @@
 -- What the values of the traits say that tables are made from, and which values these traits may have (Smithy 2.0, "Constraint
 -- traits", "timestampFormat trait", "jsonName trait", "enumValue trait").
-use Rattle.std.specs.Prelude.{◌≡◌, ◌⊎◌, ◌≤◌, ℕ, ℤ, pos, List, [], ◌∷◌, Option, Some, None, if◌then◌else◌, codes, IsTrue, int_le}
-use Rattle.std.specs.Option.{ForSome, unwrap_or, option_or}
+use Rattle.std.specs.Prelude.{◌&&◌, ◌||◌, ℕ, ℤ, pos, Bool, true, false, List, Option, Some, None, if◌then◌else◌, codes, IsTrue, int_le, is_some}
+use Rattle.std.specs.Option.{unwrap_or, option_or}
 use Rattle.std.specs.FinMap as fin
 use Rattle.std.specs.Str.{bytes_eq}
-use Rattle.sm_tree.specs.Node.{Node, Members, null, bool, int, number, text, bytes, tag, opaque, list, object, no_members}
+use Rattle.sm_tree.specs.Node.{Node, null, bool, int, number, text, bytes, tag, opaque, list, object, no_members}
 use Rattle.sm_tree.specs.Parts.{text_in, pairs_in, tree_named}
 use Rattle.sm_time.specs.declared.format.Format.{Format}
 use Rattle.sm_time.specs.declared.format.Format.TheVariants.{DateTime, HttpDate, EpochSeconds}
 use Rattle.sm_model.specs.Graphs.{NodeMap}
 use Rattle.sm_model.specs.declared.kind.Kind.{Kind}
 use Rattle.sm_model.specs.declared.kind.Kind.TheVariants.{Float, Double, BigInteger, BigDecimal, Enum, IntEnum}
-use Rattle.sm_compile.specs.TraitIds.{required_id, sparse_id, unique_items_id, length_id, range_id, pattern_id, enum_value_id, timestamp_format_id, json_name_id}
+use Rattle.sm_compile.specs.TraitIds.{required_id, sparse_id, unique_items_id, length_id, range_id, pattern_id, timestamp_format_id, json_name_id}
 
 -- what is under a trait's id: of a shape or member alone, or of a member with its target, whose own traits count first
 abbrev pub TraitsSeen : Type 0
@@ -70,58 +70,84 @@ format_named (Some t) =
     else None
 
 -- which values the traits may have
-abbrev pub IsObject : Node → Type 0
-IsObject n = (ms : Members) × (n ≡ object ms)
+abbrev pub is_object : Node → Bool
+is_object n = is_some (pairs_in n)
 
-abbrev pub IsText : Node → Type 0
-IsText n = (t : List ℕ) × (n ≡ text t)
+abbrev pub is_text : Node → Bool
+is_text n = is_some (text_in n)
 
-abbrev pub IsNumber : Node → Type 0
-IsNumber n = (z : ℤ) × (n ≡ int z)
+abbrev pub is_number : Node → Bool
+is_number n = is_some (number_in n)
 
 -- a whole number of any size, or one with a fraction or an exponent
-abbrev pub IsAnyNumber : Node → Type 0
-IsAnyNumber n = IsNumber n ⊎ ((t : List ℕ) × (n ≡ number t))
+abbrev pub is_any_number : Node → Bool
+is_any_number (number t) = true
+is_any_number (int z) = true
+is_any_number null = false
+is_any_number (bool b) = false
+is_any_number (text t) = false
+is_any_number (bytes t) = false
+is_any_number (tag k n) = false
+is_any_number (opaque b) = false
+is_any_number (list ns) = false
+is_any_number (object ms) = false
+
+-- a test of what may be there
+abbrev pub where_there : (Node → Bool) → Option Node → Bool
+where_there test None = true
+where_there test (Some n) = test n
 
 -- `{min, max}`, each where it is there
-abbrev pub AreBounds : (Node → Type 0) → Node → Type 0
-AreBounds IsBound n = IsObject n × ForSome (field_of (codes "min") n) IsBound × ForSome (field_of (codes "max") n) IsBound
+abbrev pub are_bounds : (Node → Bool) → Node → Bool
+are_bounds is_bound n = is_object n && where_there is_bound (field_of (codes "min") n) && where_there is_bound (field_of (codes "max") n)
+
+abbrev pub are_whole_bounds : Node → Bool
+are_whole_bounds n = are_bounds is_number n
 
 -- `range` of a shape of this kind, or of a member that targets one
-abbrev pub IsRange : Kind → Node → Type 0
-IsRange Float n = AreBounds IsAnyNumber n
-IsRange Double n = AreBounds IsAnyNumber n
-IsRange BigInteger n = AreBounds IsAnyNumber n
-IsRange BigDecimal n = AreBounds IsAnyNumber n
-IsRange kind n = AreBounds IsNumber n
+abbrev pub is_range : Kind → Node → Bool
+is_range Float n = are_bounds is_any_number n
+is_range Double n = are_bounds is_any_number n
+is_range BigInteger n = are_bounds is_any_number n
+is_range BigDecimal n = are_bounds is_any_number n
+is_range kind n = are_whole_bounds n
 
-abbrev pub IsTimestampFormat : Node → Type 0
-IsTimestampFormat n = (f : Format) × (format_named (text_in n) ≡ Some f)
+abbrev pub is_timestamp_format : Node → Bool
+is_timestamp_format n = is_some (format_named (text_in n))
 
 -- `min` isn't more than `max` where both fit a word
-abbrev pub AreOrdered : Node → Type 0
-AreOrdered n = (a b : ℤ) → least_of (Some n) ≡ Some a → most_of (Some n) ≡ Some b → IsTrue (int_le a b)
+abbrev pub is_ordered : Option ℤ → Option ℤ → Bool
+is_ordered (Some a) (Some b) = int_le a b
+is_ordered (Some a) None = true
+is_ordered None b = true
+
+abbrev pub are_ordered : Node → Bool
+are_ordered n = is_ordered (least_of (Some n)) (most_of (Some n))
 
 -- no bound of `length` is negative
-abbrev pub AreLengths : Node → Type 0
-AreLengths n = ForSome (least_of (Some n)) (λ z. IsTrue (int_le (pos 0) z)) × ForSome (most_of (Some n)) (λ z. IsTrue (int_le (pos 0) z))
+abbrev pub is_length_bound : Option ℤ → Bool
+is_length_bound None = true
+is_length_bound (Some z) = int_le (pos 0) z
+
+abbrev pub are_lengths : Node → Bool
+are_lengths n = is_length_bound (least_of (Some n)) && is_length_bound (most_of (Some n))
 
 -- `enumValue` of a member of a shape of this kind
-abbrev pub IsEnumValue : Kind → Node → Type 0
-IsEnumValue Enum n = IsText n
-IsEnumValue IntEnum n = IsNumber n
-IsEnumValue kind n = IsText n ⊎ IsNumber n
+abbrev pub is_enum_value : Kind → Node → Bool
+is_enum_value Enum n = is_text n
+is_enum_value IntEnum n = is_number n
+is_enum_value kind n = is_text n || is_number n
 
 -- the traits that tables are made from have values of their forms; `kind` is that of the shape, or of a member's target
-pub record AreFormedTraits (kind : Kind) (traits : NodeMap) : Type 0 where
-  pub required : ForSome (fin.get traits required_id) IsObject
-  pub sparse : ForSome (fin.get traits sparse_id) IsObject
-  pub unique : ForSome (fin.get traits unique_items_id) IsObject
-  pub length : ForSome (fin.get traits length_id) (AreBounds IsNumber)
-  pub lengths : ForSome (fin.get traits length_id) AreLengths
-  pub length_ordered : ForSome (fin.get traits length_id) AreOrdered
-  pub range : ForSome (fin.get traits range_id) (IsRange kind)
-  pub range_ordered : ForSome (fin.get traits range_id) AreOrdered
-  pub pattern : ForSome (fin.get traits pattern_id) IsText
-  pub format : ForSome (fin.get traits timestamp_format_id) IsTimestampFormat
-  pub json_name : ForSome (fin.get traits json_name_id) IsText
+pub record AreFormedTraits (kind : Kind) (seen : TraitsSeen) : Type 0 where
+  pub required : IsTrue (where_there is_object (seen required_id))
+  pub sparse : IsTrue (where_there is_object (seen sparse_id))
+  pub unique : IsTrue (where_there is_object (seen unique_items_id))
+  pub length : IsTrue (where_there are_whole_bounds (seen length_id))
+  pub lengths : IsTrue (where_there are_lengths (seen length_id))
+  pub length_ordered : IsTrue (where_there are_ordered (seen length_id))
+  pub range : IsTrue (where_there (is_range kind) (seen range_id))
+  pub range_ordered : IsTrue (where_there are_ordered (seen range_id))
+  pub pattern : IsTrue (where_there is_text (seen pattern_id))
+  pub format : IsTrue (where_there is_timestamp_format (seen timestamp_format_id))
+  pub json_name : IsTrue (where_there is_text (seen json_name_id))
