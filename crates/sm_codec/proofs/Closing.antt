@@ -82,7 +82,7 @@ Ends c d ts l outer p =
     × ((e : Decoding) → e.shape ≡ d.shape → e.result ≡ None → e.frames ≡ fs → Holds c (before_opener ts outer) e)
     × (due_next c d.shape (before_opener ts outer) ≡ due_at p)
 
-before_is : (c : Codec) (root : ℕ) (ts : List ℕ) (outer : List Around)
+pub before_is : (c : Codec) (root : ℕ) (ts : List ℕ) (outer : List Around)
     → due_next c root (before_opener ts outer) ≡ due_in c root ts (map around_level outer)
 before_is c root ts [] = refl
 before_is c root ts (a ∷ outer) = ap (λ l. due_in c root ts (l ∷ map around_level outer)) (level_inside a)

@@ -1,5 +1,5 @@
 -- What is kept at the start, behind each event, and at the end of a tree's stream.
-use Rattle.std.proofs.Common.{◌≡◌, ℕ, true, false, List, [], ◌∷◌, ◌++◌, map, refl, sym, ap, ◌∙◌, subst}
+use Rattle.std.proofs.Common.{◌≡◌, ℕ, ◌<◌, true, false, List, [], ◌∷◌, ◌++◌, map, refl, sym, ap, ◌∙◌, subst}
 use Rattle.std.specs.Prelude.{Some, None, Result, Ok, Err}
 use Rattle.sm_tree.specs.Node.{Node, null}
 use Rattle.sm_tree.specs.Events.{NodeEvent, null_event, events}
@@ -9,6 +9,7 @@ use Rattle.sm_tree.specs.steps.BuilderSteps.{Awaits}
 use Rattle.sm_tree.proofs.Streams.{unnumbered_append, stream_events}
 use Rattle.sm_tree.proofs.Awaited.{placed_awaited, whole_closed}
 use Rattle.sm_tree.proofs.Events.{events_injective}
+use Rattle.sm_shapes.specs.TableData.{TableData, shape_count}
 use Rattle.sm_shapes.specs.Values.{Val}
 use Rattle.sm_shapes.specs.Places.{Place, root_place}
 use Rattle.sm_codec.specs.Answers.{Decodes}
@@ -17,6 +18,7 @@ use Rattle.sm_codec.specs.CodecLaws.{IsCodec}
 use Rattle.sm_codec.specs.FaultLists.{FaultAt, Reading, faults_in}
 use Rattle.sm_codec.specs.Readings.{reading}
 use Rattle.sm_codec.specs.Decoding.{Outcome, good, bad, Decoding}
+use Rattle.sm_codec.specs.DecodingView.{StartsEmpty, IsWhole}
 use Rattle.sm_codec.specs.Kept.{IsOutcome, Holds, Kept}
 use Rattle.sm_codec.proofs.ReadValues.{one_value}
 
@@ -90,3 +92,24 @@ pub decodes : (c : Codec) (p : Place) (n : Node) (o : Outcome) → IsCodec c →
     → Decodes c p n (outcome_of o)
 decodes c p n (good v) laws inside h = good_decodes c p n v (reading c n p) laws inside refl h
 decodes c p n (bad f) laws inside h = bad_decodes c p n f (reading c n p) refl h
+
+-- a decoder of the code that has taken nothing
+pub starts_empty : (t : TableData) (d : Decoding) → d.shape < shape_count t → d.frames ≡ [] → d.result ≡ None → StartsEmpty t d
+starts_empty t d inside none unended c e =
+    subst (Kept c []) (λ i. record { shape = d.shape; frames = sym none i; result = sym unended i })
+    (kept_start c d.shape (subst (λ u. InTable u (root_place d.shape)) (sym e) inside))
+
+-- and one that has taken a tree's stream
+pub whole_ends : (d : Decoding) → IsWhole d → d.result ≡ None → ⊥
+whole_ends d (c, es, n, kept, streams) none =
+    let end = kept_end c es n d kept streams in
+    let some : Some end.1.0 ≡ None = sym end.1.1 ∙ none in
+    absurd cc
+
+pub finish_is : (d : Decoding) (o : Outcome) → d.result ≡ Some o → (c : Codec) (es : List NodeEvent) (n : Node) → IsCodec c → Kept c es d
+    → Streams n es [] → Decodes c (root_place d.shape) n (outcome_of o)
+finish_is d o is c es n laws kept streams =
+    let end = kept_end c es n d kept streams in
+    let both : Some o ≡ Some end.1.0 = sym is ∙ end.1.1 in
+    let same : o ≡ end.1.0 = cc in
+    decodes c (root_place d.shape) n o laws kept.in_table (subst (λ x. IsOutcome (reading c n (root_place d.shape)) x) (sym same) end.1.2)

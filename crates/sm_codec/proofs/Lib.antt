@@ -52,3 +52,16 @@ pub mod KeyParts
 pub mod PairArrives
 pub mod MapClosing
 pub mod KeptKeys
+pub mod ListOutcome
+pub mod LeafPlaces
+pub mod PlacesHeld
+pub mod TreeDue
+pub mod TreeComes
+pub mod TreePasses
+pub mod TreeEnds
+pub mod Moves
+pub mod NameMoves
+pub mod KeptMoves
+pub mod StackTop
+pub mod FirstTakes
+pub mod EventMoves

@@ -29,6 +29,7 @@ use Rattle.sm_codec.specs.Kept.{AreKept, each_entry, spelled_entries, IsOutcome,
 use Rattle.sm_codec.specs.steps.Arrivals.{Arrival, IsArrival, null_where, read_where, level_with}
 use Rattle.sm_codec.specs.steps.EntrySteps.{entry_comes}
 use Rattle.sm_codec.specs.steps.MapSteps.{JudgesKey, pair_comes, IsKeyed, TakesPair, map_ended, map_end}
+use Rattle.sm_codec.specs.steps.OpeningSteps.{new_keys}
 use Rattle.sm_codec.proofs.Closing.{arrives_in}
 use Rattle.sm_codec.proofs.MembersKept.{kept_all}
 use Rattle.sm_codec.proofs.NoFaults.{none_first, none_behind, none_under}
@@ -36,9 +37,6 @@ use Rattle.sm_codec.proofs.PairArrives.{key_first, pair_is, pair_held}
 use Rattle.sm_codec.proofs.PlacesIn.{kind_of_sort, shape_in}
 
 -- one that has just opened
-abbrev pub new_keys : ℕ → KeyFrame
-new_keys s = record { shape = s; entries = []; seen = []; current = None; fault = None }
-
 pub map_starts : (c : Codec) (p : Place) → sort_at c p ≡ a_map → HoldsPairs c p [] None (map_frame (new_keys (shape_of c.table p)))
 map_starts c p sort =
     (sort, record { shape = refl; seen = IsPermutation-refl []; current = refl; fault = refl; entries = refl })

@@ -15,6 +15,7 @@ use Rattle.sm_codec.specs.Walk.{Level, list_level, object_level, pair_level, Due
 use Rattle.sm_codec.specs.Kept.{HoldsMembers, AreKept, spelled_fields, closed_members, closed_faults, due_frames, FrameHolds, HoldsPairs, HoldsList, HoldsOpen, Holds}
 use Rattle.sm_codec.specs.steps.Standing.{Stands, StandsIn}
 use Rattle.sm_codec.specs.steps.MemberSteps.{IsNamed}
+use Rattle.sm_codec.specs.steps.OpeningSteps.{new_members, new_entries}
 use Rattle.sm_codec.proofs.Walking.{level_around}
 use Rattle.sm_codec.proofs.Stepping.{due_next}
 
@@ -75,12 +76,6 @@ none_faulty c p (k ∷ ks) = none_faulty c p ks
 pub none_spelled : (c : Codec) (p : Place) (ks : List ℕ) → spelled_fields (under_names c p []) ks ≡ []
 none_spelled c p [] = refl
 none_spelled c p (k ∷ ks) = none_spelled c p ks
-
-abbrev pub new_members : ℕ → MemberFrame
-new_members s = record { shape = s; fields = []; seen = []; current = None; fault = None }
-
-abbrev pub new_entries : ℕ → EntryFrame
-new_entries s = record { shape = s; items = []; count = 0; fault = None }
 
 pub members_start : (c : Codec) (p : Place) (faults : List FaultAt) → faults ≡ []
     → HoldsMembers c.table p (under_names c p []) None faults (new_members (shape_of c.table p))

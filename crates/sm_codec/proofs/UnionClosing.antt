@@ -18,7 +18,8 @@ use Rattle.sm_codec.specs.steps.MemberSteps.{IsNamed}
 use Rattle.sm_codec.specs.steps.UnionSteps.{ChoosesMember}
 use Rattle.sm_codec.proofs.Closing.{arrives_in}
 use Rattle.sm_codec.proofs.OwnFaults.{all_sound}
-use Rattle.sm_codec.proofs.Starting.{new_members, members_start, members_named}
+use Rattle.sm_codec.specs.steps.OpeningSteps.{new_members}
+use Rattle.sm_codec.proofs.Starting.{members_start, members_named}
 use Rattle.sm_codec.proofs.UnionNamed.{choice_held, other_held}
 
 -- one that has just opened

@@ -14,6 +14,9 @@ pub record Codec : Type 0 where
   pub convention : Convention
   pub test : Test
 
+abbrev pub codec_of : TableData → Convention → Test → Codec
+codec_of t l test = record { table = t; convention = l; test = test }
+
 abbrev pub sort_at : Codec → Place → Sort
 sort_at c p = sort_of c.table p
 
@@ -25,8 +28,11 @@ abbrev pub wire_name : Codec → Place → ℕ → List ℕ
 wire_name c p k = wire_name_in c.table c.convention p k
 
 -- the constraints that a value at a place breaks
+abbrev pub broken_in : TableData → Test → Place → Val → List FaultKind
+broken_in t test p v = broken (finder t test) (kind_of t p) (constraints_of t p) v
+
 abbrev pub broken_at : Codec → Place → Val → List FaultKind
-broken_at c p v = broken (finder c.table c.test) (kind_of c.table p) (constraints_of c.table p) v
+broken_at c p v = broken_in c.table c.test p v
 
 -- the place is one of the table
 abbrev pub InTable : TableData → Place → Type 0

@@ -21,4 +21,6 @@ pub mod Kept
 pub mod Bound
 pub mod FrameView
 pub mod MapView
+pub mod StackView
+pub mod DecodingView
 pub mod steps

@@ -8,10 +8,12 @@ use Rattle.sm_shapes.specs.Values.{Val, null_val, text_val, list_val, map_val, s
 use Rattle.sm_shapes.specs.TableData.{TableData, name_at, required_at, default_at}
 use Rattle.sm_shapes.specs.Places.{Place, member_place, members_of_place, constraints_of, unique_of, sparse_of, entry_place, key_place, value_place}
 use Rattle.sm_shapes.specs.Broken.{length_broken, has_twice}
+use Rattle.sm_shapes.specs.Fitting.{Test}
 use Rattle.sm_shapes.specs.declared.fault.FaultKind.{FaultKind}
 use Rattle.sm_shapes.specs.declared.fault.FaultKind.TheVariants.{WrongType, Null, Repeated, Missing, Unique, UnionCount}
-use Rattle.sm_codec.specs.Sorts.{Sort, simple, a_list, a_map, a_structure, a_union}
-use Rattle.sm_codec.specs.Codec.{Codec, sort_at, wire_name, broken_at}
+use Rattle.sm_codec.specs.Convention.{Convention}
+use Rattle.sm_codec.specs.Sorts.{Sort, simple, a_list, a_map, a_structure, a_union, sort_of}
+use Rattle.sm_codec.specs.Codec.{Codec, codec_of, sort_at, wire_name, broken_at}
 use Rattle.sm_codec.specs.Named.{named, names_of, is_null, in_byte_order}
 use Rattle.sm_codec.specs.FaultLists.{FaultAt, here, under, Reading, faults_in, values_in, settled}
 
@@ -214,6 +216,9 @@ union_reading c p ps =
 abbrev pub leaf_by : Sort → Codec → Place → Node → Reading
 leaf_by (simple x) c p n = leaf_reading c p (c.convention.read x n)
 leaf_by s c p n = Err (one_here WrongType)
+
+abbrev pub leaf_in : TableData → Convention → Test → Place → Node → Reading
+leaf_in t l test p n = leaf_by (sort_of t p) (codec_of t l test) p n
 
 abbrev pub list_by : Sort → Codec → Place → Node → List Child → Reading
 list_by a_list c p n children = list_reading c p children

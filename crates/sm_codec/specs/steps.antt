@@ -6,6 +6,8 @@ pub mod EventsHanded
 pub mod Standing
 pub mod EntrySteps
 pub mod ClosingSteps
+pub mod DecoderSteps
+pub mod OpeningSteps
 pub mod UnionSteps
 pub mod MapSteps
 pub mod Filling

@@ -1,9 +1,10 @@
-// The codec: values of any shape from trees and streams of events, and back, by any convention of spelling leaves. So far its
-// definitions, the conventions and encoding stand here; the decoder comes behind them.
+// The codec: values of any shape from the events of trees, and trees and events from values, by any convention of spelling leaves:
+// its definitions, the conventions, the decoder of events, and encoding.
 #![tactic(auto)]
 
 mod carried;
 mod cbor_leaves;
+mod decoder;
 mod encoding;
 mod events;
 mod filling;
@@ -20,6 +21,7 @@ mod uncarried;
 
 pub use carried::all_carried;
 pub use cbor_leaves::CborLeaves;
+pub use decoder::{Decoder, Refusal};
 pub use encoding::encode;
 pub use events::encode_events;
 pub use filling::fill_defaults;

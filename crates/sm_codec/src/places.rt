@@ -1,13 +1,15 @@
 // Places of values in code: what stands there, and the places within. Contracts see one as a Place of sm_shapes.
 ghost use Rattle.std.specs.Prelude.{◌≡◌, slice_index_or};
 ghost use Rattle.sm_shapes.specs.InOrder.{Shaped};
-ghost use Rattle.sm_shapes.specs.Places.{shape_of, format_of, entry_place, value_place};
+ghost use Rattle.sm_shapes.specs.ConstraintView.{constraint_data};
+ghost use Rattle.sm_shapes.specs.Places.{shape_of, kind_of, format_of, constraints_of, entry_place, value_place};
 ghost use Rattle.sm_shapes.specs.TableView.{table_data};
 ghost use Rattle.sm_codec.specs.Codec.{InTable};
 ghost use Rattle.sm_codec.specs.PlaceView.{place_of};
 ghost use Rattle.sm_codec.specs.Sorts.{sort_by, sort_of, simple_in};
 
 use crate::Simple;
+use sm_shapes::constraints::Constraints;
 use sm_shapes::kinds::ShapeKind;
 use sm_shapes::tables::Table;
 use sm_time::Format;
@@ -41,6 +43,26 @@ impl ValuePlace {
         match self {
             ValuePlace::Root(shape) => table.shape(shape).format,
             ValuePlace::Member(member) => table.member(member).format,
+        }
+    }
+
+    /// What kind of values it has. No memory.
+    pub(crate) fn kind(self, table: &Table) -> ShapeKind
+        requires shaped { Shaped (table_data table.now) }
+        requires place { InTable (table_data table.now) (place_of self) }
+        ensures { result ≡ kind_of (table_data table.now) (place_of self) }
+    {
+        table.kind(self.shape(table))
+    }
+
+    /// What its values must keep. No memory.
+    pub(crate) fn constraints(self, table: &Table) -> &Constraints
+        requires { InTable (table_data table.now) (place_of self) }
+        ensures { constraint_data result.now ≡ constraints_of (table_data table.now) (place_of self) }
+    {
+        match self {
+            ValuePlace::Root(shape) => &table.shape(shape).constraints,
+            ValuePlace::Member(member) => &table.member(member).constraints,
         }
     }
 

@@ -6,6 +6,7 @@ use Rattle.sm_codec.specs.Codec.{Codec}
 use Rattle.sm_codec.specs.Named.{is_null}
 use Rattle.sm_shapes.specs.Values.{Val}
 use Rattle.sm_codec.specs.FaultLists.{FaultAt, Reading}
+use Rattle.sm_codec.specs.Decoding.{Outcome, good, bad}
 use Rattle.sm_codec.specs.Readings.{one_here, reading}
 use Rattle.sm_codec.specs.Walk.{Level, list_level, object_level, pair_level, Due, due_at, due_tagged, due_passed, due_nowhere}
 
@@ -46,3 +47,8 @@ abbrev pub IsArrival : Bool → Reading → Arrival → Type 0
 IsArrival null found null_comes = null ≡ true
 IsArrival null found (value_comes v) = (null ≡ false) × (found ≡ Ok v)
 IsArrival null found (fault_comes f) = (null ≡ false) × ((fs : List FaultAt) × (found ≡ Err (f ∷ fs)))
+
+-- the same of a tree that isn't null, by its outcome
+abbrev pub comes : Outcome → Arrival
+comes (good v) = value_comes v
+comes (bad f) = fault_comes f

@@ -1,10 +1,13 @@
--- What a decoder's frame of a list does where an entry is closed.
-use Rattle.std.specs.Prelude.{◌≡◌, ℕ, suc, Bool, cond, List, [], ◌∷◌, ◌++◌, Option, Some, None}
+-- What a decoder's frame of a list does where an entry is closed, and where the list ends.
+use Rattle.std.specs.Prelude.{◌≡◌, ℕ, suc, Bool, true, false, ◌&&◌, cond, List, [], ◌∷◌, ◌++◌, Option, Some, None}
 use Rattle.sm_tree.specs.declared.path.Step.TheVariants.{Index}
-use Rattle.sm_shapes.specs.Values.{Val, null_val}
-use Rattle.sm_shapes.specs.declared.fault.FaultKind.TheVariants.{Null}
+use Rattle.sm_shapes.specs.Values.{Val, null_val, list_val, vals_of}
+use Rattle.sm_shapes.specs.TableData.{ConstraintData}
+use Rattle.sm_shapes.specs.Broken.{length_broken, has_twice}
+use Rattle.sm_shapes.specs.declared.fault.FaultKind.{FaultKind}
+use Rattle.sm_shapes.specs.declared.fault.FaultKind.TheVariants.{Null, Unique}
 use Rattle.sm_codec.specs.FaultLists.{FaultAt}
-use Rattle.sm_codec.specs.Decoding.{EntryFrame}
+use Rattle.sm_codec.specs.Decoding.{Outcome, good, bad, EntryFrame}
 use Rattle.sm_codec.specs.steps.Arrivals.{Arrival, null_comes, value_comes, fault_comes}
 
 -- in a list or a map null is a value in sparse ones alone
@@ -38,3 +41,14 @@ abbrev pub TakesEntry : Bool → Arrival → EntryFrame → EntryFrame → Type 
 TakesEntry sparse x f g =
     (g.shape ≡ f.shape) × (g.count ≡ suc f.count) × (g.items ≡ items_taken (entry_comes sparse x) f.items)
     × (g.fault ≡ entry_fault f.count (entry_comes sparse x) f.fault)
+
+-- what a list comes to where it ends: the first fault of its entries, what their number breaks, that two are equal that must not be, or
+-- its value
+abbrev pub list_ended : Option FaultAt → List FaultKind → Bool → List Val → Outcome
+list_ended (Some f) kinds twice vs = bad f
+list_ended None (kind ∷ kinds) twice vs = bad ([], kind)
+list_ended None [] true vs = bad ([], Unique)
+list_ended None [] false vs = good (list_val (vals_of vs))
+
+abbrev pub list_end : ConstraintData → Bool → EntryFrame → Outcome
+list_end c unique f = list_ended f.fault (length_broken c f.count) (unique && has_twice f.items) f.items

@@ -1,12 +1,14 @@
-// What a frame of a list does where an entry's tree is closed.
-ghost use Rattle.std.specs.Prelude.{◌≡◌, [], None, OnOk};
-ghost use Rattle.sm_shapes.specs.TableData.{sparse_at, shape_count};
-ghost use Rattle.sm_shapes.specs.TableView.{table_data};
-ghost use Rattle.sm_codec.specs.FrameView.{entry_frame, arrival_of, fault_at};
-ghost use Rattle.sm_codec.specs.steps.EntrySteps.{TakesEntry, entry_comes, KeepsEntryFault};
+// What a frame of a list does where an entry's tree is closed, and where the list ends.
+ghost use Rattle.std.specs.Prelude.{◌≡◌, ◌&&◌, [], None, IfOk, OnOk};
+ghost use Rattle.sm_shapes.specs.Broken.{length_broken, has_twice};
+ghost use Rattle.sm_shapes.specs.ConstraintView.{constraint_data};
+ghost use Rattle.sm_shapes.specs.ValueView.{items_view};
+ghost use Rattle.sm_codec.specs.FrameView.{entry_frame, arrival_of, outcome_of, fault_at};
+ghost use Rattle.sm_codec.specs.steps.EntrySteps.{TakesEntry, entry_comes, KeepsEntryFault, list_ended, list_end};
 
 use super::faults::{fault_here, under_step};
-use super::{Arrival, EntryFrame};
+use super::{Arrival, EntryFrame, Outcome};
+use sm_shapes::constraints::Constraints;
 use sm_shapes::values::{Items, Value};
 use sm_shapes::{Fault, FaultKind};
 use sm_tree::{NoMemory, Step};
@@ -71,5 +73,57 @@ impl EntryFrame {
         }
         self.fault = Some(under_step(Step::Index(place), fault)?);
         Ok(())
+    }
+
+    // The list ends: its first fault, or its value.
+    pub(crate) fn finish(
+        self,
+        alloc: Global,
+        constraints: &Constraints,
+        unique: bool,
+    ) -> Result<Outcome, NoMemory>
+        ensures { IfOk result (λ outcome. outcome_of outcome ≡ list_end (constraint_data constraints.now) unique (entry_frame self)) }
+    {
+        let EntryFrame {
+            items,
+            count,
+            fault,
+            ..
+        } = self;
+        match fault {
+            Some(fault) => Ok(Outcome::Bad(fault)),
+            None => without_fault(alloc, constraints, unique, count, items),
+        }
+    }
+}
+
+// What a list comes to whose entries have no fault.
+fn without_fault(
+    alloc: Global,
+    constraints: &Constraints,
+    unique: bool,
+    count: u64,
+    items: Items,
+) -> Result<Outcome, NoMemory>
+    ensures { IfOk result (λ outcome. outcome_of outcome ≡ list_ended None (length_broken (constraint_data constraints.now) count) (unique && has_twice (items_view items)) (items_view items)) }
+{
+    match constraints.judge_length(count as usize) {
+        Some(kind) => Ok(Outcome::Bad(fault_here(alloc, kind))),
+        None => match has_equal(alloc, unique, &items) {
+            Ok(true) => Ok(Outcome::Bad(fault_here(alloc, FaultKind::Unique))),
+            Ok(false) => Ok(Outcome::Good(Value::List(items))),
+            Err(refusal) => Err(refusal),
+        },
+    }
+}
+
+// Whether entries must differ and two are equal.
+fn has_equal(alloc: Global, unique: bool, items: &Items) -> Result<bool, NoMemory>
+    ensures { IfOk result (λ twice. twice ≡ (unique && has_twice (items_view items.now))) }
+{
+    if unique {
+        items.has_twice(alloc)
+    } else {
+        Ok(false)
     }
 }

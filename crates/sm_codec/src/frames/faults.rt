@@ -13,7 +13,7 @@ use sm_tree::{NoMemory, Path, Step, Text};
 use std::alloc::Global;
 
 // A fault of the tree itself. No memory.
-pub(super) fn fault_here(alloc: Global, kind: FaultKind) -> Fault
+pub(crate) fn fault_here(alloc: Global, kind: FaultKind) -> Fault
     ensures { fault_at result ≡ ([], kind) }
 {
     Fault {
