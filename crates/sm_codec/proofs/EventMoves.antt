@@ -20,18 +20,18 @@ pub event_ready : (c : Codec) (d : Decoding) (e v : Event) → ComesAsTree (even
     → MayTake (Stands c d) (event_of e) → TreeReady c d
 event_ready c d e v comes shaped is may = tree_ready c d (event_of v) shaped comes (subst (λ x. MayTake (Stands c d) (event_of x)) is may)
 
--- what two facts say of a decoder that took the event
+-- what is said of a decoder that took the event
 abbrev pub Took : Codec → Decoding → Decoding → Event → Result (Unit {0}) NoMemory → Type 0
 Took c d now e r = OnOk r (TakesOn (Stands c d) (event_of e) (Stands c now))
 
 pub took : (c : Codec) (d now : Decoding) (e v : Event) (r : Result (Unit {0}) NoMemory) (A B : Type 0) → e ≡ v
-    → (A → B → TakesOn (Stands c d) (event_of v) (Stands c now)) → OnOk r A → OnOk r B → Took c d now e r
+    → (A → B → TakesOn (Stands c d) (event_of v) (Stands c now)) → OnOk r A → B → Took c d now e r
 took c d now e v (Ok x) A B is f a b = subst (λ y. TakesOn (Stands c d) (event_of y) (Stands c now)) (sym is) (f a b)
 took c d now e v (Err x) A B is f a b = tt
 
 pub leaf_took : (c : Codec) (d now : Decoding) (e v : Event) (m n : Node) (r : Result (Unit {0}) NoMemory) → IsConvention c.convention
     → Shaped c.table → e ≡ v → m ≡ n → IsPlain n → events n [] ≡ unnumbered_event (event_of v) ∷ [] → ComesAsTree (event_of v)
-    → OnOk r (LeafBy c.table c.convention c.test (due_told c.table d.shape d.frames) m d.frames now) → OnOk r (now.shape ≡ d.shape)
+    → OnOk r (LeafBy c.table c.convention c.test (due_told c.table d.shape d.frames) m d.frames now) → now.shape ≡ d.shape
     → Took c d now e r
 leaf_took c d now e v m n r laws shaped is node plain one comes read root =
     let Read : Node → Type 0 = λ x. LeafBy c.table c.convention c.test (due_told c.table d.shape d.frames) x d.frames now in

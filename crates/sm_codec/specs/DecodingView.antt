@@ -4,6 +4,7 @@ use Rattle.std.specs.Option.{option_map}
 use Rattle.sm_tree.specs.Node.{Node}
 use Rattle.sm_tree.specs.Events.{NodeEvent}
 use Rattle.sm_tree.specs.Streams.{StandsFor, Streams}
+use Rattle.sm_shapes.specs.InOrder.{Shaped, AreStored}
 use Rattle.sm_shapes.specs.Places.{root_place}
 use Rattle.sm_shapes.specs.TableData.{TableData}
 use Rattle.sm_shapes.specs.ValueView.{val_of}
@@ -38,3 +39,7 @@ Finishes c shape n (Err NoMemory) = ⊥
 -- it has taken the whole stream of some tree
 abbrev pub IsWhole : decoding.Decoding → Type 0
 IsWhole d = (c : Codec) × (es : List NodeEvent) × (n : Node) × Kept c es d × Streams n es []
+
+-- what a decoder in a sink stands for: its events, over a table that is in order and whose patterns the store has
+abbrev pub IsFed : Codec → List (List ℕ) → Decoder → StandsFor
+IsFed c added d es = Kept c es (decoding_of d) × Shaped c.table × AreStored c.table.patterns added

@@ -45,7 +45,8 @@ impl Decoder {
     /// A decoder of a value of the shape with this number, which awaits the first event. It takes no memory yet.
     pub fn start(alloc: Global, table: &Table, shape: u32) -> Result<Decoder, NoMemory>
         requires number { shape < shape_count (table_data table.now) }
-        ensures { IfOk result (λ decoder. StartsEmpty (table_data table.now) (decoding_of decoder)) }
+        ensures empty { IfOk result (λ decoder. StartsEmpty (table_data table.now) (decoding_of decoder)) }
+        ensures shape { IfOk result (λ decoder. (decoding_of decoder).shape ≡ shape) }
     {
         let _table = table;
         Ok(Decoder {
@@ -68,6 +69,7 @@ impl Decoder {
         requires stored { AreStored (table_data table.now).patterns (P.added patterns.old) }
         requires placed { MayTake (decodes_so_far (codec_of (table_data table.now) (L.convention leaves.now) P.test) self.old) (event_of event) }
         ensures kept { OnOk result (TakesOn (decodes_so_far (codec_of (table_data table.now) (L.convention leaves.now) P.test) self.old) (event_of event) (decodes_so_far (codec_of (table_data table.now) (L.convention leaves.now) P.test) self.new)) }
+        ensures shape { (decoding_of self.new).shape ≡ (decoding_of self.old).shape }
         ensures added { P.added patterns.new ≡ P.added patterns.old }
         ensures refused { P.refused patterns.new ≡ P.refused patterns.old }
         ensures refusals { P.refusals patterns.new ≡ P.refusals patterns.old }

@@ -39,7 +39,7 @@ impl Decoder {
         requires can { FirstCanTake (table_data table.now) (decoding_of self.old).frames }
         requires none { (decoding_of self.old).result ≡ None }
         ensures taken { OnOk result (TakenBy (table_data table.now) P.test (arrival_of arrival) (decoding_of self.old).frames (decoding_of self.new)) }
-        ensures shape { OnOk result ((decoding_of self.new).shape ≡ (decoding_of self.old).shape) }
+        ensures shape { (decoding_of self.new).shape ≡ (decoding_of self.old).shape }
         ensures added { P.added patterns.new ≡ P.added patterns.old }
         ensures refused { P.refused patterns.new ≡ P.refused patterns.old }
         ensures refusals { P.refusals patterns.new ≡ P.refusals patterns.old }
@@ -67,7 +67,7 @@ impl Decoder {
         requires can { CanPass (table_data table.now) depth report (decoding_of self.old).frames }
         requires none { (decoding_of self.old).result ≡ None }
         ensures passed { OnOk result (PassedBy (table_data table.now) P.test depth report (decoding_of self.old).frames (decoding_of self.new)) }
-        ensures shape { OnOk result ((decoding_of self.new).shape ≡ (decoding_of self.old).shape) }
+        ensures shape { (decoding_of self.new).shape ≡ (decoding_of self.old).shape }
         ensures added { P.added patterns.new ≡ P.added patterns.old }
         ensures refused { P.refused patterns.new ≡ P.refused patterns.old }
         ensures refusals { P.refusals patterns.new ≡ P.refusals patterns.old }
@@ -99,7 +99,7 @@ impl Decoder {
         requires can { FirstCanTake (table_data table.now) (decoding_of self.old).frames }
         requires none { (decoding_of self.old).result ≡ None }
         ensures closed { OnOk result (ClosedBy (table_data table.now) P.test outcome (decoding_of self.old).frames (decoding_of self.new)) }
-        ensures shape { OnOk result ((decoding_of self.new).shape ≡ (decoding_of self.old).shape) }
+        ensures shape { (decoding_of self.new).shape ≡ (decoding_of self.old).shape }
         ensures added { P.added patterns.new ≡ P.added patterns.old }
         ensures refused { P.refused patterns.new ≡ P.refused patterns.old }
         ensures refusals { P.refusals patterns.new ≡ P.refusals patterns.old }
@@ -122,7 +122,7 @@ impl Decoder {
         requires can { FirstCanEnd (table_data table.now) (decoding_of self.old).shape (decoding_of self.old).frames }
         requires none { (decoding_of self.old).result ≡ None }
         ensures ended { OnOk result (EndedBy (table_data table.now) P.test (decoding_of self.old).shape (decoding_of self.old).frames (decoding_of self.new)) }
-        ensures shape { OnOk result ((decoding_of self.new).shape ≡ (decoding_of self.old).shape) }
+        ensures shape { (decoding_of self.new).shape ≡ (decoding_of self.old).shape }
         ensures added { P.added patterns.new ≡ P.added patterns.old }
         ensures refused { P.refused patterns.new ≡ P.refused patterns.old }
         ensures refusals { P.refusals patterns.new ≡ P.refusals patterns.old }

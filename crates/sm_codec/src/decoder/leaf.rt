@@ -35,7 +35,7 @@ impl Decoder {
         requires can { FirstCanTake (table_data table.now) (decoding_of self.old).frames }
         requires none { (decoding_of self.old).result ≡ None }
         ensures taken { OnOk result (LeafTaken (table_data table.now) (L.convention leaves.now) P.test (place_of place) (node_of leaf.now) (decoding_of self.old).frames (decoding_of self.new)) }
-        ensures shape { OnOk result ((decoding_of self.new).shape ≡ (decoding_of self.old).shape) }
+        ensures shape { (decoding_of self.new).shape ≡ (decoding_of self.old).shape }
         ensures added { P.added patterns.new ≡ P.added patterns.old }
         ensures refused { P.refused patterns.new ≡ P.refused patterns.old }
         ensures refusals { P.refusals patterns.new ≡ P.refusals patterns.old }
@@ -61,7 +61,7 @@ impl Decoder {
         requires can { CanRead (table_data table.now) (due_told (table_data table.now) (decoding_of self.old).shape (decoding_of self.old).frames) (decoding_of self.old).frames }
         requires none { (decoding_of self.old).result ≡ None }
         ensures read { OnOk result (LeafBy (table_data table.now) (L.convention leaves.now) P.test (due_told (table_data table.now) (decoding_of self.old).shape (decoding_of self.old).frames) (node_of leaf) (decoding_of self.old).frames (decoding_of self.new)) }
-        ensures shape { OnOk result ((decoding_of self.new).shape ≡ (decoding_of self.old).shape) }
+        ensures shape { (decoding_of self.new).shape ≡ (decoding_of self.old).shape }
         ensures added { P.added patterns.new ≡ P.added patterns.old }
         ensures refused { P.refused patterns.new ≡ P.refused patterns.old }
         ensures refusals { P.refusals patterns.new ≡ P.refusals patterns.old }

@@ -207,7 +207,7 @@ returns-in-Tag-clause-kept g c =
     let e : decoding.Decoding = record { shape = d.shape; frames = frames_of c.tag.new.self; result = d.result } in
     let due = due_told k.table d.shape d.frames in
     let By : Type 0 = TagBy k.table k.convention due c.in-Tag.tag d.frames e.frames in
-    took k d e c.args.event (Tag c.in-Tag.tag) c.tag.result By By c.in-Tag.is (λ by again. tag_kept k d e c.requires.shaped refl refl c.in-Tag.tag by) c.tag.ensures c.tag.ensures
+    took k d e c.args.event (Tag c.in-Tag.tag) c.tag.result By (e.shape ≡ d.shape) c.in-Tag.is (λ by root. tag_kept k d e c.requires.shaped root refl c.in-Tag.tag by) c.tag.ensures refl
 
 pub start_list-requires-clause-due : goal.start_list-requires-clause-due
 start_list-requires-clause-due g c =
@@ -222,7 +222,7 @@ returns-in-StartList-clause-kept g c =
     let e : decoding.Decoding = record { shape = d.shape; frames = frames_of c.start_list.new.self; result = d.result } in
     let due = due_told k.table d.shape d.frames in
     let By : Type 0 = StartBy list_start k.table k.convention due d.frames e.frames in
-    took k d e c.args.event (StartList c.in-StartList.field-0) c.start_list.result By By c.in-StartList.is (λ by again. list_kept k d e c.requires.shaped refl refl c.in-StartList.field-0 by) c.start_list.ensures c.start_list.ensures
+    took k d e c.args.event (StartList c.in-StartList.field-0) c.start_list.result By (e.shape ≡ d.shape) c.in-StartList.is (λ by root. list_kept k d e c.requires.shaped root refl c.in-StartList.field-0 by) c.start_list.ensures refl
 
 pub start_object-requires-clause-due : goal.start_object-requires-clause-due
 start_object-requires-clause-due g c =
@@ -237,7 +237,7 @@ returns-in-StartObject-clause-kept g c =
     let e : decoding.Decoding = record { shape = d.shape; frames = frames_of c.start_object.new.self; result = d.result } in
     let due = due_told k.table d.shape d.frames in
     let By : Type 0 = StartBy object_start k.table k.convention due d.frames e.frames in
-    took k d e c.args.event (StartObject c.in-StartObject.field-0) c.start_object.result By By c.in-StartObject.is (λ by again. object_kept k d e c.requires.shaped refl refl c.in-StartObject.field-0 by) c.start_object.ensures c.start_object.ensures
+    took k d e c.args.event (StartObject c.in-StartObject.field-0) c.start_object.result By (e.shape ≡ d.shape) c.in-StartObject.is (λ by root. object_kept k d e c.requires.shaped root refl c.in-StartObject.field-0 by) c.start_object.ensures refl
 
 pub key-requires-clause-can : goal.key-requires-clause-can
 key-requires-clause-can g c =
@@ -251,9 +251,9 @@ returns-in-Key-clause-kept g c =
     let d = decoding_of c.args.self.now in
     let e : decoding.Decoding = record { shape = d.shape; frames = frames_of c.key.new.self; result = d.result } in
     let By : Type 0 = NameBy k.table k.convention c.as_str.result.now d.frames e.frames in
-    took k d e c.args.event (Key c.in-Key.name) c.key.result By By c.in-Key.is
-    (λ by again. name_kept k d e c.in-Key.name c.requires.shaped refl refl
-    (subst (λ name. NameBy k.table k.convention name d.frames e.frames) c.as_str.ensures.bytes by)) c.key.ensures c.key.ensures
+    took k d e c.args.event (Key c.in-Key.name) c.key.result By (e.shape ≡ d.shape) c.in-Key.is
+    (λ by root. name_kept k d e c.in-Key.name c.requires.shaped root refl
+    (subst (λ name. NameBy k.table k.convention name d.frames e.frames) c.as_str.ensures.bytes by)) c.key.ensures refl
 
 pub end-requires-clause-can : goal.end-requires-clause-can
 end-requires-clause-can g c =

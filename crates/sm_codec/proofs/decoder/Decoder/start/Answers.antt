@@ -5,7 +5,7 @@ use Rattle.sm_codec.specs.StackView.{frames_of}
 use Rattle.sm_codec.proofs.KeptOn.{starts_empty}
 use Rattle.sm_codec.proofs.decoder.Decoder.start.Goals as goal
 
-pub returns : goal.returns
-returns c =
+pub returns-clause-empty : goal.returns-clause-empty
+returns-clause-empty c =
     starts_empty (table_data c.args.table.now) (record { shape = c.args.shape; frames = frames_of c.new.result; result = None })
     c.requires.number c.new.ensures refl
