@@ -4,29 +4,28 @@ use Rattle.std.specs.Prelude.{Option, Some, None, Result, Ok, Err, slice_get}
 use Rattle.std.proofs.lemmas.List.{drop_more}
 use Rattle.std.proofs.lemmas.Option.{slice_get-get_or}
 use Rattle.sm_tree.specs.Node.{Node, list, object, no_nodes, no_members}
-use Rattle.sm_time.specs.declared.format.Format.{Format}
 use Rattle.sm_time.specs.declared.format.Format.TheVariants.{EpochSeconds}
 use Rattle.std.specs.Prelude.{unwrap_or}
 use Rattle.sm_shapes.specs.Values.{Val, list_val, map_val, no_vals, no_entries}
 use Rattle.sm_shapes.specs.TableData.{TableData, MemberData, no_constraints, kind_at, target_in, constraints_in, format_in, default_node_in}
 use Rattle.sm_shapes.specs.DefaultPuts.{with_default, with_defaults, table_with_defaults}
 use Rattle.sm_shapes.specs.Places.{Place, member_place, kind_of, format_of, constraints_of, unique_of}
-use Rattle.sm_shapes.specs.Broken.{broken, first_broken, length_broken, has_twice}
+use Rattle.sm_shapes.specs.Broken.{first_broken, length_broken}
 use Rattle.sm_shapes.specs.Fitting.{Test, finder}
 use Rattle.sm_shapes.specs.InOrder.{Shaped, MayHaveNode, IsEmptyNode}
 use Rattle.sm_shapes.specs.declared.kinds.ShapeKind.{ShapeKind}
 use Rattle.sm_shapes.specs.declared.kinds.ShapeKind.TheVariants as kind
 use Rattle.sm_shapes.specs.declared.fault.FaultKind.{FaultKind}
-use Rattle.sm_shapes.specs.declared.fault.FaultKind.TheVariants.{Unique, WrongType}
+use Rattle.sm_shapes.specs.declared.fault.FaultKind.TheVariants.{Unique}
 use Rattle.sm_codec.specs.declared.simple.Simple.{Simple}
 use Rattle.sm_codec.specs.declared.simple.Simple.TheVariants as the
-use Rattle.sm_codec.specs.Sorts.{Sort, simple, a_list, a_map, sort_by, simple_in}
+use Rattle.sm_codec.specs.Sorts.{simple, a_list, a_map, sort_by}
 use Rattle.sm_codec.specs.Codec.{Codec, sort_at, broken_at}
 use Rattle.sm_codec.specs.Conventions.{node_read}
-use Rattle.sm_codec.specs.FaultLists.{FaultAt, Reading, here, settled}
+use Rattle.sm_codec.specs.FaultLists.{here, settled}
 use Rattle.sm_codec.specs.Readings.{reading, leaf_reading, list_by, object_by, one_here}
 use Rattle.sm_codec.specs.Defaults.{node_codec, read_value, counted_default, filled_members, filled}
-use Rattle.sm_codec.specs.steps.Filling.{empty_default, value_read, unjudged_by, unjudged, unless_broken, judged, counted_defaults}
+use Rattle.sm_codec.specs.steps.Filling.{empty_default, value_read, unjudged, unless_broken, judged, counted_defaults}
 use Rattle.sm_codec.proofs.LeafReadings.{at_simple}
 
 kept_value : (kinds : List FaultKind) (v : Val) → read_value (settled (here kinds) v) ≡ unless_broken kinds v

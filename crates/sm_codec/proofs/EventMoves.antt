@@ -1,8 +1,8 @@
 -- What an event of the code asks of a decoder, and that behind it the decoder stands for the events before it and for the event.
-use Rattle.std.proofs.Common.{◌≡◌, ℕ, List, [], ◌∷◌, sym, subst}
+use Rattle.std.proofs.Common.{◌≡◌, [], ◌∷◌, sym, subst}
 use Rattle.std.specs.Prelude.{Result, Ok, Err, OnOk}
 use Rattle.sm_tree.specs.Node.{Node}
-use Rattle.sm_tree.specs.Events.{events, end_list, end_object}
+use Rattle.sm_tree.specs.Events.{events}
 use Rattle.sm_tree.specs.EventView.{event_of}
 use Rattle.sm_tree.specs.Streams.{MayTake, TakesOn, unnumbered_event}
 use Rattle.sm_tree.specs.declared.NoMemory.{NoMemory}
@@ -11,7 +11,7 @@ use Rattle.sm_shapes.specs.InOrder.{Shaped}
 use Rattle.sm_codec.specs.Convention.{IsConvention}
 use Rattle.sm_codec.specs.Codec.{Codec}
 use Rattle.sm_codec.specs.Decoding.{Decoding}
-use Rattle.sm_codec.specs.steps.DecoderSteps.{due_told, EndedBy}
+use Rattle.sm_codec.specs.steps.DecoderSteps.{due_told}
 use Rattle.sm_codec.specs.steps.EventsHanded.{IsPlain}
 use Rattle.sm_codec.specs.steps.OpeningSteps.{LeafBy}
 use Rattle.sm_codec.proofs.KeptMoves.{ComesAsTree, Stands, TreeReady, tree_ready, leaf_kept}

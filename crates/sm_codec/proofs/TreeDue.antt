@@ -1,5 +1,5 @@
 -- What the frames of a decoder tell where a tree may come: where it is due, and that the innermost of the frames below can take it.
-use Rattle.std.proofs.Common.{◌≡◌, ℕ, zero, suc, ◌<◌, ◌+◌, true, List, [], ◌∷◌, ◌++◌, map, refl, sym, ap, ◌∙◌, subst, arith}
+use Rattle.std.proofs.Common.{◌≡◌, ℕ, zero, suc, ◌<◌, true, List, [], ◌∷◌, ◌++◌, map, refl, sym, ap, ◌∙◌, subst}
 use Rattle.std.specs.Prelude.{Option, Some, None, unwrap_or}
 use Rattle.sm_tree.specs.Node.{Node}
 use Rattle.sm_tree.specs.Building.{Building, nothing, whole, within, awaits_value}

@@ -1,7 +1,6 @@
 use Rattle.std.proofs.Common.{sym, subst}
 use Rattle.sm_shapes.specs.DefaultPuts.{defaults_view}
 use Rattle.sm_shapes.specs.TableView.{table_data}
-use Rattle.sm_codec.specs.Defaults.{filled}
 use Rattle.sm_codec.specs.FilledLaws.{IsFilled}
 use Rattle.sm_codec.proofs.DefaultsCounted.{all_filled}
 use Rattle.sm_codec.proofs.FilledTables.{filled_is_shaped}

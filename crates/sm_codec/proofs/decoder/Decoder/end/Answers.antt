@@ -1,19 +1,15 @@
-use Rattle.std.proofs.Common.{◌≡◌, List, ◌∷◌, sym, ap, ◌∙◌, subst}
-use Rattle.std.specs.Prelude.{Result, IfOk}
-use Rattle.sm_tree.specs.declared.NoMemory.{NoMemory}
+use Rattle.std.proofs.Common.{◌≡◌, ◌∷◌, sym, ap, ◌∙◌, subst}
+use Rattle.std.specs.Prelude.{IfOk}
 use Rattle.sm_shapes.specs.TableView.{table_data}
 use Rattle.sm_codec.specs.Decoding as decoding
 use Rattle.sm_codec.specs.DecodingView.{decoding_of}
 use Rattle.sm_codec.specs.FrameView.{member_frame, entry_frame, outcome_of}
 use Rattle.sm_codec.specs.MapView.{key_frame}
 use Rattle.sm_codec.specs.StackView.{frame_of, frames_of, ClosedBy}
-use Rattle.sm_codec.specs.steps.ClosingSteps.{structure_end}
 use Rattle.sm_codec.specs.steps.DecoderSteps.{place_among, frame_end, EndedBy}
 use Rattle.sm_codec.specs.steps.EntrySteps.{list_end}
 use Rattle.sm_codec.specs.steps.MapSteps.{map_end}
-use Rattle.sm_codec.specs.steps.UnionSteps.{union_end}
 use Rattle.sm_shapes.specs.Places.{constraints_of}
-use Rattle.sm_shapes.specs.TableData.{unique_at}
 use Rattle.sm_codec.proofs.FirstTakes.{closed_takes}
 use Rattle.sm_codec.proofs.StructureOutcome.{known_by}
 use Rattle.sm_codec.proofs.decoder.Decoder.end.Goals as goal
