@@ -94,7 +94,7 @@ abbrev pub CarriesPattern : GraphMaps → List ℕ → List ℕ → Type 0
 CarriesPattern g id u =
     ((s : ShapeEntry) × HasEntry g id (shape_entry s) × (pattern_seen s.kind (own_traits s.traits) ≡ Some u))
     ⊎ ((m : MemberEntry) × (s : ShapeEntry) × HasEntry g id (member_entry m) × HasEntry g m.target (shape_entry s)
-        × (pattern_seen s.kind (own_traits m.traits) ≡ Some u))
+    × (pattern_seen s.kind (own_traits m.traits) ≡ Some u))
 
 abbrev pub IsCarrier : GraphMaps → IdSet → List ℕ → List ℕ → Type 0
 IsCarrier g In u id = In id × CarriesPattern g id u
