@@ -6,7 +6,7 @@ pub mod Searching
 mod Entries
 pub mod Moved
 pub mod Rises
-mod Sorting
+pub mod Sorting
 mod MemberIds
 mod Appending
 mod Places
@@ -18,5 +18,7 @@ mod MadeGraphs
 pub mod Linking
 pub mod LinkNumbers
 mod LinkFacts
-mod LinkedEntries
+pub mod LinkedEntries
 mod LinkedGraphs
+pub mod Worklist
+pub mod NumberedIds

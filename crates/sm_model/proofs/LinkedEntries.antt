@@ -80,17 +80,24 @@ says_not r unsaid s id h =
     let said = said_under h.0 (field_relations s.kind) (all_said s.kind) r h.3 in
     let bad : false ≡ true = sym unsaid ∙ said in absurd (subst (λ c. cond c ⊥ (Unit {0})) bad tt)
 
+-- no field says that a shape has a member, or that a member has a target
+pub says_no_member : (s : ShapeEntry) (id : List ℕ) → SaysInBody Member s id → ⊥
+says_no_member s id h = says_not Member refl s id h
+
+pub says_no_target : (s : ShapeEntry) (id : List ℕ) → SaysInBody Target s id → ⊥
+says_no_target s id h = says_not Target refl s id h
+
 not_back : (r : Relation) → r ≡ Member → r ≡ Container → ⊥
 not_back r e f = let bad : Member ≡ Container = sym e ∙ f in grind arith
 
 -- elements of a list with a head
-cons_cases : {X : Type 0} (x : X) (xs : List X) (y : X) → Contains (x ∷ xs) y → (x ≡ y) ⊎ Contains xs y
+pub cons_cases : {X : Type 0} (x : X) (xs : List X) (y : X) → Contains (x ∷ xs) y → (x ≡ y) ⊎ Contains xs y
 cons_cases x xs y h = elim (Contains-append_cases (x ∷ []) xs y h) [
   | inl one ↦ elim (Contains-push_cases [] x y one) [ inl none ↦ absurd (omega (arith, none.1)) | inr is ↦ inl is ]
   | inr later ↦ inr later
 ]
 
-cons_here : {X : Type 0} (x : X) (xs : List X) → Contains (x ∷ xs) x
+pub cons_here : {X : Type 0} (x : X) (xs : List X) → Contains (x ∷ xs) x
 cons_here x xs = Contains-append_left (x ∷ []) xs x (Contains-push [] x)
 
 -- the numbers of a shape's members are those of their ids

@@ -15,4 +15,5 @@ pub mod GraphRows
 pub mod GraphView
 pub mod Relations
 pub mod Links
+pub mod Reaching
 pub mod steps

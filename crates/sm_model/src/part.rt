@@ -1,6 +1,7 @@
-// What a tree is: its text, its entries, its pairs.
-ghost use Rattle.std.specs.Prelude.{◌≡◌, ℕ, List, MatchOption};
+// What a tree is: its text, its entries, its pairs, and what stands under a name.
+ghost use Rattle.std.specs.Prelude.{◌≡◌, ℕ, List, MatchOption, None, Some};
 ghost use Rattle.sm_tree.specs.Node.{Members, Nodes, list, members_of, nodes_of, object, text};
+ghost use Rattle.sm_tree.specs.Parts.{tree_named};
 ghost use Rattle.sm_tree.specs.View.{members_view, node_of, nodes_view};
 
 use sm_tree::{Text, Tree};
@@ -42,4 +43,18 @@ pub fn pairs_of(tree: &Tree) -> Option<&[(Text, Tree)]>
         Tree::Object(pairs) => Some(pairs.as_slice()),
         _ => None,
     }
+}
+
+/// The first tree under a name; `None` where no pair has the name. No memory.
+pub fn tree_under<'a>(pairs: &'a [(Text, Tree)], name: &str) -> Option<&'a Tree>
+    ensures { MatchOption result
+        (tree_named name.now (members_of (members_view pairs.now)) ≡ None)
+        (λ t. tree_named name.now (members_of (members_view pairs.now)) ≡ Some (node_of t.now)) }
+{
+    for pair in pairs {
+        if pair.0.as_str() == name {
+            return Some(&pair.1);
+        }
+    }
+    None
 }

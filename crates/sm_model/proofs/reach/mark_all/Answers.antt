@@ -1,8 +1,8 @@
 use Rattle.std.proofs.Common.{◌≡◌, ◌+◌, ◌⊎◌, [], arith, get_or, take}
 use Rattle.std.specs.List.{Contains}
 use Rattle.std.proofs.lemmas.List.Elements.{Contains-get_or}
-use Rattle.sm_select.proofs.Worklist.{finds_none, finds_same, finds_then, numbers_more}
-use Rattle.sm_select.proofs.reach.mark_all.Goals as goal
+use Rattle.sm_model.proofs.Worklist.{finds_none, finds_same, finds_then, numbers_more}
+use Rattle.sm_model.proofs.reach.mark_all.Goals as goal
 
 pub mark-requires-clause-within : goal.mark-requires-clause-within
 mark-requires-clause-within c =

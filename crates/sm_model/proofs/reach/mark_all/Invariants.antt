@@ -1,7 +1,7 @@
 use Rattle.std.proofs.Common.{take}
 use Rattle.std.specs.List.{Contains}
-use Rattle.sm_select.specs.steps.Reaching.{Finds}
-use Rattle.sm_select.proofs.reach.mark_all.Given as goal
+use Rattle.sm_model.specs.Reaching.{Finds}
+use Rattle.sm_model.proofs.reach.mark_all.Given as goal
 
 abbrev pub invariant-loop-number : goal.invariant-loop-number
 invariant-loop-number l =
