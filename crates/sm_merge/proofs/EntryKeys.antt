@@ -58,10 +58,10 @@ pub keys_joined : {X : Type 0} (es fs : List (List ℕ × X)) → keys (es ++ fs
 keys_joined es fs = map-append (λ e. e.0) es fs
 
 -- the shape of an id
-of_shape : (shape : List ℕ) → IsShapeId shape → shape_part shape ≡ shape
+pub of_shape : (shape : List ℕ) → IsShapeId shape → shape_part shape ≡ shape
 of_shape shape is = ap shape_part (sym (append-nil shape)) ∙ shape_cut_off shape is None
 
-of_member : (shape : List ℕ) → IsShapeId shape → (name : List ℕ) → shape_part (member_id shape name) ≡ shape
+pub of_member : (shape : List ℕ) → IsShapeId shape → (name : List ℕ) → shape_part (member_id shape name) ≡ shape
 of_member shape is name = shape_cut_off shape is (Some name)
 
 of_members : (shape : List ℕ) → IsShapeId shape → (ms : List MemberGiven) (k : List ℕ) → StandsAmong k (keys (given_members shape ms))
@@ -87,7 +87,7 @@ abbrev behind_first : List ℕ → List ℕ
 behind_first [] = []
 behind_first (c ∷ cs) = cs
 
-one_name : (shape m n : List ℕ) → member_id shape m ≡ member_id shape n → m ≡ n
+pub one_name : (shape m n : List ℕ) → member_id shape m ≡ member_id shape n → m ≡ n
 one_name shape m n e = ap behind_first (append_cancel_left shape (36 ∷ m) (36 ∷ n) e)
 
 name_among : (shape name : List ℕ) (ms : List MemberGiven) → StandsAmong (member_id shape name) (keys (given_members shape ms))
@@ -106,7 +106,7 @@ block_differs s h = (
   members_differ s.id s.members (form_differ (member_form s.kind) (fine_form s.kind) (given_names s.members) h.names),
 )
 
-shapes_of : (ss : List ShapeGiven) → AreGivenShapes ss → (k : List ℕ) → StandsAmong k (keys (given_entries ss))
+pub shapes_of : (ss : List ShapeGiven) → AreGivenShapes ss → (k : List ℕ) → StandsAmong k (keys (given_entries ss))
     → StandsAmong (shape_part k) (given_ids ss)
 shapes_of [] g k h = h
 shapes_of (s ∷ ss) g k h =

@@ -83,7 +83,7 @@ equal_from Greater h = absurd (true≢false (sym h))
 one_text : (a b : List ℕ) → text_cmp a b ≡ Equal → a ≡ b
 one_text a b e = slice_cmp-IsAntisymmetric nat_cmp-IsAntisymmetric a b e
 
-one_event : (a b : EventTold) → same_told a b ≡ true → a ≡ b
+pub one_event : (a b : EventTold) → same_told a b ≡ true → a ≡ b
 one_event a b h =
     let first = parts (text_cmp a.shape b.shape) (ordering_then (text_cmp a.event b.event) (text_cmp a.detail b.detail)) h in
     let second = parts (text_cmp a.event b.event) (text_cmp a.detail b.detail) first.1 in

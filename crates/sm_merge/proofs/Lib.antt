@@ -72,3 +72,5 @@ mod PlacesThere
 mod MembersOther
 mod WholeEvents
 mod OthersPut
+mod SomeGraph
+mod SomeEvents

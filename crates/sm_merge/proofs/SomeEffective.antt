@@ -55,14 +55,15 @@ pub either_way : (X : Type 0) → Must (X ⊎ (X → ⊥))
 either_way X none = none (inr (λ x. none (inl x)))
 
 -- a map that is told by these words
-abbrev Tells : (List ℕ → Node → Type 0) → NodeMap → Type 0
-Tells P m = (k : List ℕ) (n : Node) → (fin.get m k ≡ Some n) ↔ P k n
+module _ {V : Type 0} where
+  abbrev pub Tells : (List ℕ → V → Type 0) → fin.FinMap text_cmp V → Type 0
+  Tells P m = (k : List ℕ) (n : V) → (fin.get m k ≡ Some n) ↔ P k n
 
-abbrev Told : (List ℕ → Node → Type 0) → Type 0
-Told P = (m : NodeMap) × Tells P m
+  abbrev pub Told : (List ℕ → V → Type 0) → Type 0
+  Told P = (m : fin.FinMap text_cmp V) × Tells P m
 
-module _ (P : List ℕ → Node → Type 0) (one : (k : List ℕ) (n m : Node) → P k n → P k m → n ≡ m) where
-  abbrev Within : List (List ℕ) → List ℕ → Node → Type 0
+module _ {V : Type 0} (P : List ℕ → V → Type 0) (one : (k : List ℕ) (n m : V) → P k n → P k m → n ≡ m) where
+  abbrev Within : List (List ℕ) → List ℕ → V → Type 0
   Within names k n = P k n × StandsAmong k names
 
   no_names : Told (Within [])
@@ -80,7 +81,7 @@ module _ (P : List ℕ → Node → Type 0) (one : (k : List ℕ) (n m : Node) �
   same_tied : (k j : List ℕ) → k ≡ j → eq_by_cmp text_cmp k j ≡ true
   same_tied k j h = tests k j ∙ (bytes_eq-Decides j k).1 (sym h)
 
-  with_name : (name : List ℕ) (v : Node) (names : List (List ℕ)) → P name v → Told (Within names) → Told (Within (name ∷ names))
+  with_name : (name : List ℕ) (v : V) (names : List (List ℕ)) → P name v → Told (Within names) → Told (Within (name ∷ names))
   with_name name v names is (m, tells) = (
     fin.insert m name v,
     λ k n. (
@@ -89,20 +90,20 @@ module _ (P : List ℕ → Node → Type 0) (one : (k : List ℕ) (n m : Node) �
     ),
   )
     where
-      forth : (k : List ℕ) (n : Node) (b : Bool) → eq_by_cmp text_cmp k name ≡ b → cond b (Some v) (fin.get m k) ≡ Some n
+      forth : (k : List ℕ) (n : V) (b : Bool) → eq_by_cmp text_cmp k name ≡ b → cond b (Some v) (fin.get m k) ≡ Some n
           → Within (name ∷ names) k n
       forth k n true same found =
           let key : k ≡ name = tied k name same in
           (subst (λ j. P j n) (sym key) (subst (P name) (same_Some v n found) is), inl key)
       forth k n false apart found = let rest = (tells k n).0 found in (rest.0, inr rest.1)
 
-      back : (k : List ℕ) (n : Node) → Within (name ∷ names) k n → (b : Bool) → eq_by_cmp text_cmp k name ≡ b
+      back : (k : List ℕ) (n : V) → Within (name ∷ names) k n → (b : Bool) → eq_by_cmp text_cmp k name ≡ b
           → cond b (Some v) (fin.get m k) ≡ Some n
       back k n h true same = ap (λ x. Some x) (one name v n is (subst (λ j. P j n) (tied k name same) h.0))
       back k n (holds, inl key) false apart = absurd (subst (λ b. cond b (Unit {0}) ⊥) (sym (same_tied k name key) ∙ apart) tt)
       back k n (holds, inr later) false apart = (tells k n).1 (holds, later)
 
-  without_name : (name : List ℕ) (names : List (List ℕ)) → ((n : Node) × P name n → ⊥) → Told (Within names) → Told (Within (name ∷ names))
+  without_name : (name : List ℕ) (names : List (List ℕ)) → ((n : V) × P name n → ⊥) → Told (Within names) → Told (Within (name ∷ names))
   without_name name names none (m, tells) = (
     m,
     λ k n. (
@@ -111,19 +112,19 @@ module _ (P : List ℕ → Node → Type 0) (one : (k : List ℕ) (n m : Node) �
     ),
   )
     where
-      by_place : (k : List ℕ) (n : Node) → Within (name ∷ names) k n → fin.get m k ≡ Some n
+      by_place : (k : List ℕ) (n : V) → Within (name ∷ names) k n → fin.get m k ≡ Some n
       by_place k n (holds, inl key) = absurd (none (n, subst (λ j. P j n) key holds))
       by_place k n (holds, inr later) = (tells k n).1 (holds, later)
 
   some_within : (names : List (List ℕ)) → Must (Told (Within names))
   some_within [] = must no_names
   some_within (name ∷ names) =
-      thence (some_within names) (λ rest. thence (either_way ((n : Node) × P name n)) (λ known. elim known [
+      thence (some_within names) (λ rest. thence (either_way ((n : V) × P name n)) (λ known. elim known [
         | inl some ↦ must (with_name name some.0 names some.1 rest)
         | inr none ↦ must (without_name name names none rest)
       ]))
 
-  pub some_map : (names : List (List ℕ)) → ((k : List ℕ) (n : Node) → P k n → StandsAmong k names) → Must (Told P)
+  pub some_map : (names : List (List ℕ)) → ((k : List ℕ) (n : V) → P k n → StandsAmong k names) → Must (Told P)
   some_map names covers =
       thence (some_within names) (λ told. must (
         told.0,
@@ -134,14 +135,18 @@ module _ (P : List ℕ → Node → Type 0) (one : (k : List ℕ) (n m : Node) �
       ))
 
 -- values of traits have names
-values_named : (name : List ℕ) (ps : List (List ℕ × Node)) (n : Node) → IsValueOf (values_under name ps) n → StandsAmong name (keys ps)
-values_named name [] n h = absurd h
-values_named name (p ∷ ps) n h = by_test (λ rest. values_named name ps n rest) (bytes_eq p.0 name) refl h
+pub filled_named : (Q : List Node → Type 0) → (Q [] → ⊥) → (name : List ℕ) (ps : List (List ℕ × Node)) → Q (values_under name ps)
+    → StandsAmong name (keys ps)
+filled_named Q empty name [] h = absurd (empty h)
+filled_named Q empty name (p ∷ ps) h = by_test (λ rest. filled_named Q empty name ps rest) (bytes_eq p.0 name) refl h
   where
-    by_test : (IsValueOf (values_under name ps) n → StandsAmong name (keys ps)) → (b : Bool) → bytes_eq p.0 name ≡ b
-        → IsValueOf (cons_option (if b then Some p.1 else None) (values_under name ps)) n → StandsAmong name (keys (p ∷ ps))
-    by_test later true same value = inl (sym ((bytes_eq-Decides p.0 name).0 same))
-    by_test later false apart value = inr (later value)
+    by_test : (Q (values_under name ps) → StandsAmong name (keys ps)) → (b : Bool) → bytes_eq p.0 name ≡ b
+        → Q (cons_option (if b then Some p.1 else None) (values_under name ps)) → StandsAmong name (keys (p ∷ ps))
+    by_test later true same filled = inl (sym ((bytes_eq-Decides p.0 name).0 same))
+    by_test later false apart filled = inr (later filled)
+
+pub values_named : (name : List ℕ) (ps : List (List ℕ × Node)) (n : Node) → IsValueOf (values_under name ps) n → StandsAmong name (keys ps)
+values_named name ps n h = filled_named (λ vs. IsValueOf vs n) (λ never. never) name ps h
 
 -- values that copies have, from a list of maps, one a copy
 abbrev map_values : List NodeMap → List ℕ → List (Option Node)

@@ -156,7 +156,7 @@ pub given_joined : (xs ys : List ShapeGiven) → AreGivenShapes xs → AreGivenS
 given_joined [] ys h k = k
 given_joined (x ∷ xs) ys h k = (h.0, given_joined xs ys h.1 k)
 
-clash : (b : Bool) → b ≡ true → b ≡ false → ⊥
+pub clash : (b : Bool) → b ≡ true → b ≡ false → ⊥
 clash b is isnt = subst (λ c. cond c (Unit {0}) ⊥) (sym is ∙ isnt) tt
 
 -- all shapes of a graph

@@ -7,7 +7,7 @@ use Rattle.sm_model.specs.Graphs.{GraphMaps}
 use Rattle.sm_model.specs.PreludeShapes.{prelude_graph}
 use Rattle.sm_model.specs.EventView.{EventTold}
 use Rattle.sm_model.specs.declared.graph.Graph.{Graph}
-use Rattle.sm_merge.specs.Stated.{Stated, all_said, apply_stated, stated_by}
+use Rattle.sm_merge.specs.Stated.{AreFormedFiles, Stated, all_said, apply_stated, stated_by}
 use Rattle.sm_merge.specs.Values.{IsValueOf}
 use Rattle.sm_merge.specs.Places.{metadata_values, shapes_under, trait_values}
 use Rattle.sm_merge.specs.Mixins.{EffectiveShape, IsEffective}
@@ -32,6 +32,13 @@ OneGraph = (ss : List Stated) (g h : GraphMaps) → IsGraphOf ss g → IsGraphOf
 -- and one list of events
 abbrev pub OneListOfEvents : Type 0
 OneListOfEvents = (ss : List Stated) (es fs : List EventTold) → AreEventsOf ss es → AreEventsOf ss fs → Path (List EventTold) es fs
+
+-- the statements of files have a graph, and a list of events: it can't be that they have none
+abbrev pub SomeGraph : Type 0
+SomeGraph = (files : List (List Said)) → AreFormedFiles files → ((g : GraphMaps) → IsGraphOf (stated_by files) g → ⊥) → ⊥
+
+abbrev pub SomeEvents : Type 0
+SomeEvents = (files : List (List Said)) → ((es : List EventTold) → AreEventsOf (stated_by files) es → ⊥) → ⊥
 
 -- the same statements in the same order, in one file or several, merge to the same
 abbrev pub OneFileOrSeveral : Type 0

@@ -1,5 +1,6 @@
 // Laws over the definitions of merging: public functions with empty bodies, whose contracts are the laws.
 ghost use Rattle.sm_merge.specs.Laws.{NoFiles, OneEffectiveShape, OneFileOrSeveral, OneGraph, OneListOfEvents, OneValue, OtherOrder};
+ghost use Rattle.sm_merge.specs.Laws.{SomeEvents, SomeGraph};
 
 /// The values of one trait of one place come to one value.
 #[tactic(auto, using(crate::proofs::OneValue::one_value))]
@@ -22,6 +23,18 @@ pub fn one_graph()
 /// Statements have one list of events: what is wrong with them, in order, each once.
 pub fn one_list_of_events()
     ensures { OneListOfEvents }
+{}
+
+/// The statements of files have a graph: it can't be that they have none.
+#[tactic(auto, using(crate::proofs::SomeGraph::some_graph))]
+pub fn some_graph()
+    ensures { SomeGraph }
+{}
+
+/// Statements have a list of events, which may be empty: it can't be that they have none.
+#[tactic(auto, using(crate::proofs::SomeEvents::some_events))]
+pub fn some_events()
+    ensures { SomeEvents }
 {}
 
 /// Statements merge to the same in one file and in several, if they stand in the same order.
