@@ -13,7 +13,7 @@ mod SignTexts
 mod SignPairs
 mod TwoTokens
 mod Passing
-mod OneAnswer
+pub mod OneAnswer
 mod Stopped
 mod ReadWords
 mod ReadNames
@@ -34,3 +34,5 @@ mod Results
 mod StepImages
 mod SelectorLists
 mod SignBoundaries
+pub mod SomePicked
+pub mod SomeAnswer

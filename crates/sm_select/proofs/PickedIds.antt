@@ -44,7 +44,7 @@ all_above : (k : List ℕ) (es : List (List ℕ × Entry)) → below_all text_cm
 all_above k [] h = tt
 all_above k (e ∷ es) h = (less_from (text_cmp k e.0) (and_left _ _ h), all_above k es (and_right (is_lt (text_cmp k e.0)) _ h))
 
-keys_sorted : (es : List (List ℕ × Entry)) → is_sorted text_cmp es ≡ true
+pub keys_sorted : (es : List (List ℕ × Entry)) → is_sorted text_cmp es ≡ true
     → IsStrictlySortedBy text_cmp (map (λ (e : List ℕ × Entry). e.0) es)
 unfolding IsStrictlySortedBy
 keys_sorted [] h = tt
