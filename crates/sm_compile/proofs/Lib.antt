@@ -1,0 +1,4 @@
+pub mod RowsAlike
+pub mod OnePatterns
+pub mod OneWay
+pub mod OneTable

@@ -1,12 +1,12 @@
 -- What compiling a shape answers.
-use Rattle.std.specs.Prelude.{◌≡◌, ◌++◌, ◌+◌, ◌-◌, ◌^◌, ◌∷◌, ℕ, List, Option, Some, Result, Ok, Err, min, slice_get}
+use Rattle.std.specs.Prelude.{◌≡◌, ◌++◌, ◌+◌, ◌-◌, ◌^◌, ◌∷◌, ℕ, List, length, Option, Some, Result, Ok, Err, min, slice_get}
 use Rattle.std.specs.List.{join_with_byte}
 use Rattle.sm_bytes.specs.Ascii.{slash}
 use Rattle.sm_model.specs.Graphs.{GraphMaps}
 use Rattle.sm_shapes.specs.Fitting.{Test}
 use Rattle.sm_shapes.specs.InOrder.{Shaped, Built}
 use Rattle.sm_shapes.specs.TableView.{table_data}
-use Rattle.sm_compile.specs.Compiled.{Numbering, IsCompiled, ArePatternsOf, IsFirstCarrier, AllUnbound, NoMediaTypes, texts_of}
+use Rattle.sm_compile.specs.Compiled.{AreNumberedFrom, Numbering, IsCompiled, ArePatternsOf, IsFirstCarrier, AllUnbound, NoMediaTypes, texts_of}
 use Rattle.sm_compile.specs.Reached.{IsReached}
 use Rattle.sm_compile.specs.Served.{WayStep, IsFirstWay, IsServed, names_of_way}
 use Rattle.sm_compile.specs.Sound.{IsValueShape}
@@ -32,6 +32,7 @@ pub record IsShapeCompiled (g : GraphMaps) (root : List ℕ) (test : Test) (befo
   pub numbering : Numbering
   pub compiled : IsCompiled g (IsReached g root) (table_data one.table) numbering
   pub shape : slice_get numbering.shapes one.shape ≡ Some root
+  pub numbered : AreNumberedFrom (length before.added) (table_data one.table).patterns
   pub unbound : AllUnbound (table_data one.table).members
   pub no_media : NoMediaTypes (table_data one.table).shapes
   pub shaped : Shaped (table_data one.table)

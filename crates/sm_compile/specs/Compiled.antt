@@ -1,12 +1,12 @@
 -- That a table says what a graph says of a set of shapes and of their members, by numbers. The set is all that is reached from where
 -- a table is made: from one shape, or from a service.
-use Rattle.std.specs.Prelude.{◌≡◌, ◌⊎◌, ◌<◌, ◌↔◌, ℕ, List, [], ◌∷◌, map, length, Option, Some, None, is_some, get_or, slice_get}
+use Rattle.std.specs.Prelude.{◌≡◌, ◌⊎◌, ◌<◌, ◌↔◌, ℕ, ◌+◌, List, [], ◌∷◌, map, length, Option, Some, None, is_some, get_or, slice_get}
 use Rattle.std.specs.FinMap as fin
-use Rattle.std.specs.List.{Contains}
+use Rattle.std.specs.List.{Contains, flat_map}
 use Rattle.std.specs.List.Sorted.{IsStrictlySortedBy}
 use Rattle.std.specs.Str.{bytes_eq}
 use Rattle.std.specs.declared.cmp.Ordering.TheVariants.{Greater}
-use Rattle.sm_model.specs.Graphs.{text_cmp, GraphMaps, ShapeEntry, MemberEntry, shape_entry, member_entry, member_id}
+use Rattle.sm_model.specs.Graphs.{text_cmp, Entry, GraphMaps, ShapeEntry, MemberEntry, shape_entry, member_entry, member_id}
 use Rattle.sm_model.specs.PreludeShapes.{unit_id}
 use Rattle.sm_model.specs.Relations.{HasEntry}
 use Rattle.sm_shapes.specs.Names.{AllDiffer}
@@ -39,6 +39,15 @@ pub record SayConstraints (ps : PatternRows) (c : ConstraintData) (said : Constr
   pub pattern : NamesText ps c.pattern said.pattern
   pub texts : c.texts ≡ said.texts
   pub numbers : c.numbers ≡ said.numbers
+
+-- the members at which values of what stands under an id stand
+abbrev pub members_in : Option Entry → List (List ℕ)
+members_in None = []
+members_in (Some (shape_entry s)) = value_members s
+members_in (Some (member_entry m)) = []
+
+abbrev pub members_under : GraphMaps → List ℕ → List (List ℕ)
+members_under g id = members_in (fin.get g.shapes id)
 
 -- a row of a shape says what the graph says of the shape with this id
 pub record SaysShape (g : GraphMaps) (ps : PatternRows) (n : Numbering) (id : List ℕ) (d : ShapeData) : Type 0 where
@@ -115,10 +124,18 @@ pub record ArePatternsOf (g : GraphMaps) (In : IdSet) (texts : List (List ℕ)) 
 abbrev pub texts_of : PatternRows → List (List ℕ)
 texts_of ps = map (λ p. p.1) ps
 
--- the table has exactly the shapes of the set and their members, each once, and says what the graph says of them
+-- patterns are numbered from here on
+abbrev pub AreNumberedFrom : ℕ → PatternRows → Type 0
+AreNumberedFrom k [] = Unit {0}
+AreNumberedFrom k (p ∷ ps) = (p.0 ≡ k) × AreNumberedFrom (k + 1) ps
+
+-- The table has exactly the shapes of the set and their members, each once, and says what the graph says of them. Shapes are numbered
+-- in the order of their ids, members shape by shape in model order
 pub record IsCompiled (g : GraphMaps) (In : IdSet) (t : TableData) (n : Numbering) : Type 0 where
   pub shapes : (id : List ℕ) → Contains n.shapes id ↔ IsTabled g In id
   pub members : (id : List ℕ) → Contains n.members id ↔ IsTabledMember g In id
+  pub shapes_rise : IsStrictlySortedBy text_cmp n.shapes
+  pub members_follow : n.members ≡ flat_map (members_under g) n.shapes
   pub shapes_once : AllDiffer n.shapes
   pub members_once : AllDiffer n.members
   pub says_shapes : EachSays (SaysShape g t.patterns n) n.shapes t.shapes

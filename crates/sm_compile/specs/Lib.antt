@@ -7,3 +7,4 @@ pub mod Said
 pub mod Compiled
 pub mod Served
 pub mod Answers
+pub mod Laws

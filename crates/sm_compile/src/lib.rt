@@ -2,5 +2,6 @@
 #![tactic(auto)]
 
 mod compiled;
+pub mod laws;
 
 pub use compiled::{CompileRefusal, OneShape, Served};

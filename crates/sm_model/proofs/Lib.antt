@@ -6,6 +6,7 @@ pub mod Searching
 mod Entries
 pub mod Moved
 pub mod Rises
+pub mod OneRising
 pub mod Sorting
 mod MemberIds
 mod Appending

@@ -1,7 +1,6 @@
 -- A selector picks one list of ids, and it can't be that it picks none.
-use Rattle.std.proofs.Common.{◌≡◌, inl, inr, ℕ, ◌<◌, zero, suc, Bool, true, false, cond, List, [], ◌∷◌, length, map, refl, sym, ap, ◌∙◌}
+use Rattle.std.proofs.Common.{◌≡◌, inl, inr, ℕ, ◌<◌, zero, suc, Bool, true, false, cond, List, [], ◌∷◌, length, map, refl, sym, ◌∙◌}
 use Rattle.std.proofs.Common.{subst, arith, Some}
-use Rattle.std.specs.Cmp.{tied_itself}
 use Rattle.std.specs.Cmp.Lexicographic.{nat_list_cmp_total}
 use Rattle.std.specs.FinMap as fin
 use Rattle.std.specs.FinMap.{entries_sorted, get-entries, nat_cmp-IsAntisymmetric, slice_cmp-IsAntisymmetric}
@@ -16,6 +15,7 @@ use Rattle.std.proofs.lemmas.Bool.{true≢false}
 use Rattle.std.proofs.lemmas.Option.{none-some}
 use Rattle.sm_model.specs.Formed.{StandsAmong}
 use Rattle.sm_model.specs.Graphs.{Entry, text_cmp}
+use Rattle.sm_model.proofs.OneRising.{one_rising}
 use Rattle.sm_select.specs.Laws.{OnePicked, SomePicked}
 use Rattle.sm_select.specs.Picks.{IsPicked}
 use Rattle.sm_select.proofs.LedInGraph.{picks_in}
@@ -33,46 +33,16 @@ from_stands k (j ∷ ks) (inr h) =
     let later = from_stands k ks h in
     let inside : suc later.0 < length (j ∷ ks) = omega (arith, later.1) in (suc later.0, inside, later.2)
 
--- lists that rise and have the same entries are one
+-- ids that these come before
 abbrev IsBefore : List ℕ → List (List ℕ) → Type 0
 IsBefore k ks = AllByRecursion (λ j. text_cmp k j ≡ Less) ks
 
-before_one : (k j : List ℕ) (ks : List (List ℕ)) → IsBefore k ks → StandsAmong j ks → text_cmp k j ≡ Less
-before_one k j [] h there = absurd there
-before_one k j (i ∷ ks) h (inl same) = ap (text_cmp k) same ∙ h.0
-before_one k j (i ∷ ks) h (inr there) = before_one k j ks h.1 there
-
-not_before_itself : (k : List ℕ) → text_cmp k k ≡ Less → ⊥
-not_before_itself k h = subst (λ r. cond (is_eq r) (Unit {0}) ⊥) (sym (tied_itself nat_list_cmp_total k) ∙ h) tt
-
-heads : (x y : List ℕ) (xs ys : List (List ℕ)) → IsBefore x xs → IsBefore y ys → StandsAmong x (y ∷ ys) → StandsAmong y (x ∷ xs) → x ≡ y
-heads x y xs ys h k (inl same) there = same
-heads x y xs ys h k (inr here) (inl same) = sym same
-heads x y xs ys h k (inr here) (inr there) =
-    absurd (not_before_itself x (nat_list_cmp_total.trans x y x (before_one x y xs h there) (before_one y x ys k here)))
-
-rest_stands : (x y k : List ℕ) (xs ys : List (List ℕ)) → x ≡ y → IsBefore x xs → StandsAmong k xs → StandsAmong k (y ∷ ys) → StandsAmong k ys
-rest_stands x y k xs ys same h there (inl is) =
-    absurd (not_before_itself x (ap (text_cmp x) (same ∙ sym is) ∙ before_one x k xs h there))
-rest_stands x y k xs ys same h there (inr later) = later
-
-one_rising : (xs ys : List (List ℕ)) → IsStrictlySortedBy text_cmp xs → IsStrictlySortedBy text_cmp ys
-    → ((k : List ℕ) → StandsAmong k xs → StandsAmong k ys) → ((k : List ℕ) → StandsAmong k ys → StandsAmong k xs) → xs ≡ ys
-unfolding IsStrictlySortedBy
-one_rising [] [] h k forth back = refl
-one_rising [] (y ∷ ys) h k forth back = absurd (back y (inl refl))
-one_rising (x ∷ xs) [] h k forth back = absurd (forth x (inl refl))
-one_rising (x ∷ xs) (y ∷ ys) h k forth back =
-    let same : x ≡ y = heads x y xs ys h.0 k.0 (forth x (inl refl)) (back y (inl refl)) in
-    let rest = one_rising xs ys h.1 k.1 (λ e there. rest_stands x y e xs ys same h.0 there (forth e (inr there)))
-    (λ e there. rest_stands y x e ys xs (sym same) k.0 there (back e (inr there))) in
-    λ i. same i ∷ rest i
-
 pub one_picked : OnePicked
 one_picked g steps ids others h k =
-    one_rising ids others h.in_order k.in_order
-    (λ id there. stands_from id others ((k.picked id).1 ((h.picked id).0 (from_stands id ids there))))
-    (λ id there. stands_from id ids ((h.picked id).1 ((k.picked id).0 (from_stands id others there))))
+    one_rising nat_list_cmp_total ids others h.in_order k.in_order (λ id. (
+      λ there. (k.picked id).1 ((h.picked id).0 there),
+      λ there. (h.picked id).1 ((k.picked id).0 there),
+    ))
 
 -- what holds of some ids, in their order
 record AreSome (P : List ℕ → Type 0) (xs : List (List ℕ)) : Type 0 where
