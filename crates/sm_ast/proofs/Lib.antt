@@ -20,7 +20,7 @@ pub mod FormedShapes
 mod OneParts
 pub mod OneReading
 mod Filled
-mod IdNames
+pub mod IdNames
 mod OfTree
 mod OfTreeTop
 mod WrittenAt

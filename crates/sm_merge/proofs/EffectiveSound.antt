@@ -52,11 +52,11 @@ AreSoundCopies kind [] = Unit {0}
 AreSoundCopies kind (m ∷ ms) = IsSoundEffective kind m × AreSoundCopies kind ms
 
 -- what is copied
-some_of : (b : Bool) (o : Option Node) (n : Node) → cond b o None ≡ Some n → o ≡ Some n
+pub some_of : (b : Bool) (o : Option Node) (n : Node) → cond b o None ≡ Some n → o ≡ Some n
 some_of true o n h = h
 some_of false o n h = absurd (none-some n h)
 
-some_left : (b : Bool) (o : Option Node) (n : Node) → cond b None o ≡ Some n → o ≡ Some n
+pub some_left : (b : Bool) (o : Option Node) (n : Node) → cond b None o ≡ Some n → o ≡ Some n
 some_left true o n h = absurd (none-some n h)
 some_left false o n h = h
 

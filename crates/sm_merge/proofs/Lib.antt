@@ -1,7 +1,7 @@
 mod OneValue
 mod OneEffective
-mod OneMerged
-mod OneList
+pub mod OneMerged
+pub mod OneList
 mod OtherOrder
 mod PreludeGiven
 mod PreludeShapes
@@ -37,7 +37,7 @@ mod ShapeNumbers
 mod MixinsTold
 mod MixinsPut
 mod FormsMeant
-mod EntriesFound
+pub mod EntriesFound
 mod EntriesMoved
 mod EntryKeys
 mod NamesOnce
@@ -72,5 +72,6 @@ mod PlacesThere
 mod MembersOther
 mod WholeEvents
 mod OthersPut
-mod SomeGraph
-mod SomeEvents
+pub mod SomeGraph
+pub mod SomeEvents
+pub mod GraphSound

@@ -38,10 +38,10 @@ use Rattle.sm_merge.specs.steps.SoundStated.{AreSoundStated, IsSoundShape}
 use Rattle.sm_merge.proofs.StatedSound.{sound_under}
 
 -- a member with its value
-abbrev valued_if : List ℕ → MemberEntry → Bool → MemberEntry
+abbrev pub valued_if : List ℕ → MemberEntry → Bool → MemberEntry
 valued_if name e b = if b then record { target = e.target; traits = fin.insert e.traits enum_value (text name) } else e
 
-abbrev lacks : Kind → MemberEntry → Bool
+abbrev pub lacks : Kind → MemberEntry → Bool
 lacks kind e = is_enum kind && not (is_some (fin.get e.traits enum_value))
 
 pub target_kept : (kind : Kind) (name : List ℕ) (e : MemberEntry) → (with_enum_value kind name e).target ≡ e.target
