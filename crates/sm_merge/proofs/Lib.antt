@@ -54,6 +54,7 @@ mod SomeEffective
 mod LimitsTold
 mod TraitsHeld
 mod PartsTold
+mod MergeTold
 mod FoundRows
 mod Filled
 mod EffectiveMade
@@ -66,6 +67,7 @@ mod FirstRows
 mod MemberListsMade
 mod LocalNames
 mod NamesMixed
+mod Stopped
 mod RunningRows
 mod Amongs
 mod PlacesThere

@@ -1,11 +1,14 @@
 -- Whether statements are past a limit of shapes or members is told by the names of members alone.
-use Rattle.std.proofs.Common.{◌⊎◌, inl, inr, ℕ, ◌<◌, List, [], ◌∷◌, length, arith}
+use Rattle.std.proofs.Common.{◌⊎◌, inl, inr, ℕ, zero, suc, ◌<◌, List, [], ◌∷◌, length, sym, subst, arith}
 use Rattle.std.specs.Global.{Vec}
 use Rattle.std.specs.List.{Any}
+use Rattle.std.proofs.lemmas.List.{length-map}
+use Rattle.std.proofs.lemmas.Option.{none-some, same_Some}
 use Rattle.sm_tree.specs.Node.{Node}
 use Rattle.sm_model.specs.Graphs.{Entry, GraphMaps}
 use Rattle.sm_merge.specs.Limits.{IsFirstPast, IsPast, members_in, own_entries}
 use Rattle.sm_merge.specs.Merged.{IsGraphOf}
+use Rattle.sm_merge.specs.Mixins.{EffectiveShape, IsEffective}
 use Rattle.sm_merge.specs.Stated.{Stated}
 use Rattle.sm_merge.specs.declared.firsts.NamedTarget.{NamedTarget}
 use Rattle.sm_merge.specs.declared.limit.TheConstants.{SHAPE_LIMIT, MEMBER_LIMIT, ALL_MEMBER_LIMIT}
@@ -14,12 +17,14 @@ use Rattle.sm_merge.specs.declared.limit.LimitKind.TheVariants.{Shapes, Members,
 use Rattle.sm_merge.specs.declared.parts.BareShape.{BareShape}
 use Rattle.sm_merge.specs.declared.walk.Walk.{Walk}
 use Rattle.sm_merge.specs.steps.EffectiveTables.{AreMembersOf}
+use Rattle.sm_merge.specs.steps.Links.{At}
 use Rattle.sm_merge.specs.steps.Numbered.{IsMixinWalk}
 use Rattle.sm_merge.specs.steps.ShapeTables.{ids_of}
+use Rattle.sm_merge.specs.steps.Whole.{AreEffective, whole_member, whole_shapes}
 use Rattle.sm_merge.proofs.Ats.{sides}
-use Rattle.sm_merge.proofs.GivenCounts.{any_either, any_first, any_later, none_in}
+use Rattle.sm_merge.proofs.GivenCounts.{SomeHaveMany, any_either, any_first, any_later, none_in}
 use Rattle.sm_merge.proofs.SomeEffective.{Must, SomeRows, lengths_of, must, some_effective, thence}
-use Rattle.sm_merge.proofs.WholeCounts.{AreGood, ArePast, IsOfMembers, many_shapes, past_told, told_past}
+use Rattle.sm_merge.proofs.WholeCounts.{AreGood, ArePast, IsOfMembers, long_told, many_shapes, past_shapes, past_told, told_past}
 
 -- what can be decided, and must be, is
 stable_less : (k n : ℕ) → Must (k < n) → k < n
@@ -57,6 +62,17 @@ stable_past Members of g h = stable_any (λ (e : List ℕ × Entry). members_in 
 stable_past AllMembers of g h = stable_less ALL_MEMBER_LIMIT _ h
 stable_past Traits of g h = absurd of
 
+-- a shape of the table has many members, whatever it comes to
+some_long : (ss : List Stated) (rows : List BareShape) (es : List EffectiveShape) → AreEffective ss rows es → (v : ℕ) (id : List ℕ)
+    → At (ids_of rows) v id → ((m : EffectiveShape) → IsEffective ss id m → MEMBER_LIMIT < length m.members)
+    → SomeHaveMany (whole_shapes rows es)
+some_long ss [] es are v id there long = absurd (none-some id there)
+some_long ss (r ∷ rows) [] are v id there long = absurd are
+some_long ss (r ∷ rows) (e ∷ es) are zero id there long =
+    inl (subst (λ n. MEMBER_LIMIT < n) (sym (length-map e.members (whole_member r.kind)))
+    (long e (subst (λ k. IsEffective ss k e) (same_Some r.id id there) are.0)))
+some_long ss (r ∷ rows) (e ∷ es) are (suc v) id there long = inr (some_long ss rows es are.1 v id there long)
+
 module _ (ss : List Stated) (rows : List BareShape) (metadata : List (List ℕ × Node)) (good : AreGood ss rows metadata)
     (walk : Walk) (walked : IsMixinWalk ss (ids_of rows) walk) (g : GraphMaps) (is : IsGraphOf ss g) where
   come : Must (SomeRows ss rows)
@@ -64,6 +80,14 @@ module _ (ss : List Stated) (rows : List BareShape) (metadata : List (List ℕ �
 
   pub shapes_told : SHAPE_LIMIT < length rows → IsFirstPast Shapes g
   shapes_told past = stable_past Shapes tt g (thence come (λ e. must (many_shapes ss rows metadata good e.0 e.1 past g is)))
+
+  pub long_shape_told : (SHAPE_LIMIT < length rows → ⊥) → (v : ℕ) (id : List ℕ) → At (ids_of rows) v id
+      → ((m : EffectiveShape) → IsEffective ss id m → MEMBER_LIMIT < length m.members) → IsFirstPast Members g
+  long_shape_told few v id there long = (
+    λ past. come (λ e. few (past_shapes ss rows metadata good e.0 e.1 g is past)),
+    stable_past Members tt g (thence come (λ e.
+        must (long_told ss rows metadata good e.0 e.1 (some_long ss rows e.0 e.1 v id there long) g is))),
+  )
 
   module _ (mss : List (Vec NamedTarget)) (members : AreMembersOf ss rows mss) where
     is_past : (kind : LimitKind) → IsOfMembers kind → ArePast kind rows mss → IsPast kind g
@@ -74,9 +98,6 @@ module _ (ss : List Stated) (rows : List BareShape) (metadata : List (List ℕ �
     not_past : (kind : LimitKind) → IsOfMembers kind → (ArePast kind rows mss → ⊥) → IsPast kind g → ⊥
     not_past kind of none past =
         come (λ e. none (told_past ss rows metadata good e.0 e.1 mss (lengths_of ss rows mss e.0 members e.1) kind of g is past))
-
-    pub members_told : (ArePast Shapes rows mss → ⊥) → ArePast Members rows mss → IsFirstPast Members g
-    members_told few past = (not_past Shapes tt few, is_past Members tt past)
 
     pub all_members_told : (ArePast Shapes rows mss → ⊥) → (ArePast Members rows mss → ⊥) → ArePast AllMembers rows mss
         → IsFirstPast AllMembers g

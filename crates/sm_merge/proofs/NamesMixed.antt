@@ -105,7 +105,7 @@ module _ (ss : List Stated) (rows : List BareShape) (members : List (Vec NamedTa
 
 module _ (ss : List Stated) (rows : List BareShape) (traits : List PlaceRow) (walk : Walk) (t : AreWalkedTables ss rows traits walk)
     (mixed : List (Vec Contributing)) (are : AreMixedIn ss rows mixed) (o : IsMixedOrder walk.order.items mixed)
-    (members : List (Vec NamedTarget)) (filled : IsFilled (HasMixedMembers rows mixed) walk.order.items (length walk.order.items) members) where
+    (members : List (Vec NamedTarget)) (n : ℕ) (filled : IsFilled (HasMixedMembers rows mixed) walk.order.items n members) where
   abbrev IsNamed : ℕ → Type 0
   IsNamed v = (id : List ℕ) → At (ids_of rows) v id → HasMembers ss id (members_at members v)
 
@@ -120,9 +120,8 @@ module _ (ss : List Stated) (rows : List BareShape) (traits : List PlaceRow) (wa
       (before b.0.place c.number b.0.before b.0.there, all_named k s mixins rest before more b.1)
 
   -- one shape, when those before it are told
-  named_at : (k v : ℕ) → At walk.order.items k v → ((i w : ℕ) → i < k → At walk.order.items i w → IsNamed w) → IsNamed v
-  named_at k v at_k before id at_v m (effective i n s copied there from made) =
-      let low : k < length walk.order.items = at_within walk.order.items k v at_k in
+  named_at : (k v : ℕ) → k < n → At walk.order.items k v → ((i w : ℕ) → i < k → At walk.order.items i w → IsNamed w) → IsNamed v
+  named_at k v low at_k before id at_v m (effective i x s copied there from made) =
       let e : HasEntry (HasMixedMembers rows mixed) members v = filled k v low at_k in
       let row = shape_row ss rows traits walk t v id at_v in
       let shape : row.s ≡ s = same_Some row.s s (sym row.there ∙ there) in
@@ -139,11 +138,18 @@ module _ (ss : List Stated) (rows : List BareShape) (traits : List PlaceRow) (wa
       (row.own ∙ ap (λ x. names_and_targets x.shape.members) shape))
       ∙ sym (ap (λ x. targets_view (vec_items x)) e.there ∙ e.is)
 
-  named_before : (k i v : ℕ) → i < k → At walk.order.items i v → IsNamed v
-  named_before zero i v low at_i = absurd (omega (arith, low))
-  named_before (suc k) i v low at_i = named_at i v at_i (λ j w early at_j.
-      let earlier : j < k = omega (arith, early, low) in named_before k j w earlier at_j)
+  named_before : (k i v : ℕ) → i < k → i < n → At walk.order.items i v → IsNamed v
+  named_before zero i v low early at_i = absurd (omega (arith, low))
+  named_before (suc k) i v low early at_i = named_at i v early at_i (λ j w before at_j.
+      let earlier : j < k = omega (arith, before, low) in
+      let sooner : j < n = omega (arith, before, early) in named_before k j w earlier sooner at_j)
 
+  pub named_by : (i v : ℕ) → i < n → At walk.order.items i v → IsNamed v
+  named_by i v early at_i = named_before n i v early early at_i
+
+module _ (ss : List Stated) (rows : List BareShape) (traits : List PlaceRow) (walk : Walk) (t : AreWalkedTables ss rows traits walk)
+    (mixed : List (Vec Contributing)) (are : AreMixedIn ss rows mixed) (o : IsMixedOrder walk.order.items mixed)
+    (members : List (Vec NamedTarget)) (filled : IsFilled (HasMixedMembers rows mixed) walk.order.items (length walk.order.items) members) where
   pub members_are : length members ≡ length rows → AreMembersOf ss rows members
   members_are size = record {
     size = size;
@@ -151,5 +157,5 @@ module _ (ss : List Stated) (rows : List BareShape) (traits : List PlaceRow) (wa
         let inside : v < length (ids_of rows) = at_within (ids_of rows) v id at_v in
         let stands : StandsBefore walk.order.items (length walk.order.items) v = t.walked.all v inside in
         subst (HasMembers ss id) (ap (λ x. targets_view (vec_items x)) at_ms)
-        (named_before (length walk.order.items) stands.place v stands.before stands.there id at_v);
+        (named_by ss rows traits walk t mixed are o members (length walk.order.items) filled stands.place v stands.before stands.there id at_v);
   }

@@ -116,6 +116,14 @@ module _ (ss : List Stated) (rows : List BareShape) (metadata : List (List ℕ �
   pub many_shapes : SHAPE_LIMIT < length rows → (g : GraphMaps) → IsGraphOf ss g → IsPast Shapes g
   many_shapes past g is = subst (IsPast Shapes) (one_whole g is) (subst (λ n. SHAPE_LIMIT < n) (sym shape_sum) past)
 
+  pub past_shapes : (g : GraphMaps) → IsGraphOf ss g → IsPast Shapes g → SHAPE_LIMIT < length rows
+  past_shapes g is past = subst (λ n. SHAPE_LIMIT < n) shape_sum (subst (IsPast Shapes) (sym (one_whole g is)) past)
+
+  pub long_told : SomeHaveMany (whole_shapes rows es) → (g : GraphMaps) → IsGraphOf ss g → IsPast Members g
+  long_told some g is =
+      subst (IsPast Members) (one_whole g is)
+      (any_moved (λ e. MEMBER_LIMIT < members_in e.1) _ _ whole_moved (many_any (whole_shapes rows es) some))
+
   module _ (mss : List (Vec NamedTarget)) (long : HaveLengths es mss) where
     member_sum : sum_by (λ e. members_in e.1) (own_entries whole) ≡ members_count mss
     member_sum =

@@ -5,6 +5,7 @@ pub mod Places
 pub mod Mixins
 pub mod Merged
 pub mod Limits
+pub mod Files
 pub mod Answers
 pub mod Laws
 pub mod steps

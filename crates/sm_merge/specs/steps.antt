@@ -24,6 +24,7 @@ pub mod SoundStated
 pub mod Verdicts
 pub mod MixedIn
 pub mod Filling
+pub mod Stopping
 pub mod MemberLists
 pub mod PlaceEvents
 pub mod ToldEvents

@@ -22,6 +22,7 @@ mod limits;
 mod look;
 mod meaning;
 mod members;
+mod merging;
 mod mixin_events;
 mod mixins;
 mod names;
@@ -39,5 +40,6 @@ mod value;
 mod walk;
 
 pub use limit::{ALL_MEMBER_LIMIT, LimitKind, MEMBER_LIMIT, SHAPE_LIMIT, TRAIT_LIMIT};
+pub use merging::merge;
 pub use prelude_graph::prelude;
 pub use refusal::MergeRefusal;

@@ -5,14 +5,14 @@ ghost use Rattle.sm_model.specs.steps.Rising.{Rise};
 ghost use Rattle.sm_merge.specs.declared.limit.TheConstants.{ALL_MEMBER_LIMIT, SHAPE_LIMIT, TRAIT_LIMIT};
 ghost use Rattle.sm_merge.specs.steps.EffectiveTables.{AreRunning, AreSoundTraits, trait_pairs};
 ghost use Rattle.sm_merge.specs.steps.Firsts.{target_view, targets_view};
-ghost use Rattle.sm_merge.specs.steps.Made.{AreAllSound, HaveManyMembers, made_member, made_members, made_shape, made_shapes};
+ghost use Rattle.sm_merge.specs.steps.Made.{AreAllSound, made_member, made_members, made_shape, made_shapes};
 ghost use Rattle.sm_merge.specs.steps.Made.{members_count, members_size as all_members_size, pairs_size, shape_size as size_of_shape};
 ghost use Rattle.sm_merge.specs.steps.Made.{shapes_size as all_shapes_size};
 ghost use Rattle.sm_merge.specs.steps.Placed.{bare_view};
 
 use crate::effective::{MemberTraits, NamedFolded, ShapeTraits};
 use crate::firsts::NamedTarget;
-use crate::limit::{ALL_MEMBER_LIMIT, MEMBER_LIMIT, SHAPE_LIMIT, TRAIT_LIMIT};
+use crate::limit::{ALL_MEMBER_LIMIT, SHAPE_LIMIT, TRAIT_LIMIT};
 use crate::parts::BareShape;
 use crate::shape_parts::{lacks_value, traits_of};
 use sm_model::Kind;
@@ -22,18 +22,6 @@ pub(crate) fn are_many_shapes(rows: &[BareShape]) -> bool
     ensures { IsTrue result ↔ (SHAPE_LIMIT < length rows.now) }
 {
     rows.len() as u64 > SHAPE_LIMIT
-}
-
-/// A shape with more members than one may have.
-pub(crate) fn have_many_members(members: &[Vec<NamedTarget>]) -> bool
-    ensures { IsTrue result ↔ HaveManyMembers members.now }
-{
-    for one in members {
-        if one.len() as u64 > MEMBER_LIMIT {
-            return true;
-        }
-    }
-    false
 }
 
 /// More members in all than a model may have.

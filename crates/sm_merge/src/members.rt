@@ -1,74 +1,58 @@
 // The members of shapes with those of their mixins: each name once, where it stands first, with the target that stands there.
-ghost use Rattle.std.specs.Prelude.{◌≡◌, ◌<◌, ◌++◌, [], ℕ, List, length, IfOk, OnOk};
-ghost use Rattle.sm_merge.specs.Stated.{Stated};
-ghost use Rattle.sm_merge.specs.steps.Contributing.{AreWalkedTables};
-ghost use Rattle.sm_merge.specs.steps.EffectiveTables.{AreMembersOf};
-ghost use Rattle.sm_merge.specs.steps.Filling.{all_targets, HasMixedMembers, IsFilled};
+ghost use Rattle.std.specs.Prelude.{◌≡◌, ◌<◌, ◌++◌, ◌↔◌, ℕ, length, IfOk, IsTrue, OnOk};
+ghost use Rattle.sm_merge.specs.steps.Filling.{all_targets, HasMixedMembers};
 ghost use Rattle.sm_merge.specs.steps.Firsts.{firsts, targets_view, unseen};
 ghost use Rattle.sm_merge.specs.steps.Known.{has_text};
 ghost use Rattle.sm_merge.specs.steps.Links.{At};
-ghost use Rattle.sm_merge.specs.steps.MixedIn.{AllBelow, AreBelow, AreMixedIn, IsMixedOrder};
-ghost use Rattle.sm_merge.specs.declared.table.PlaceRow.{PlaceRow};
+ghost use Rattle.sm_merge.specs.steps.Made.{HaveManyMembers};
+ghost use Rattle.sm_merge.specs.steps.MixedIn.{AllBelow, AreBelow};
+ghost use Rattle.sm_merge.specs.steps.Stopping.{ListsMembers};
+ghost use Rattle.sm_merge.specs.declared.limit.TheConstants.{MEMBER_LIMIT};
 
 use crate::firsts::{NamedTarget, put_first, put_firsts};
+use crate::limit::MEMBER_LIMIT;
 use crate::mixins::Contributing;
 use crate::parts::BareShape;
-use crate::walk::Walk;
 use sm_ids::ShapeId;
 use sm_tree::{NoMemory, Text};
 use std::alloc::Global;
 use std::collections::BTreeSet;
 
-/// The members of each shape, by the shapes' numbers.
+/// The members of each shape, by the shapes' numbers, along an order; none as soon as a shape has more than one may have.
 pub(crate) fn all_members<'a>(
     alloc: Global,
     rows: &'a [BareShape],
     mixed: &[Vec<Contributing<'_>>],
-    walk: &Walk,
-) -> Result<Vec<Vec<NamedTarget<'a>>>, NoMemory>
-    requires size { length mixed.now ≡ length rows.now }
-    requires below { AllBelow (length rows.now) mixed.now }
-    requires within { (k v : ℕ) → At walk.now.order.items k v → v < length rows.now }
-    ensures size { IfOk result (λ all. length all.items ≡ length rows.now) }
-    ensures filled { IfOk result (λ all. IsMixedOrder walk.now.order.items mixed.now
-        → IsFilled (HasMixedMembers rows.now mixed.now) walk.now.order.items (length walk.now.order.items) all.items) }
-    ensures members { IfOk result (λ all. (ss : List Stated) (traits : List PlaceRow) → AreWalkedTables ss rows.now traits walk.now
-        → AreMixedIn ss rows.now mixed.now → AreMembersOf ss rows.now all.items) }
-{
-    let all = filled_members(alloc, rows, mixed, walk.order.as_slice())?;
-    Ok(all)
-}
-
-// The same along an order.
-fn filled_members<'a>(
-    alloc: Global,
-    rows: &'a [BareShape],
-    mixed: &[Vec<Contributing<'_>>],
     order: &[usize],
-) -> Result<Vec<Vec<NamedTarget<'a>>>, NoMemory>
+) -> Result<Option<Vec<Vec<NamedTarget<'a>>>>, NoMemory>
     requires size { length mixed.now ≡ length rows.now }
     requires below { AllBelow (length rows.now) mixed.now }
     requires within { (k v : ℕ) → At order.now k v → v < length rows.now }
-    ensures size { IfOk result (λ all. length all.items ≡ length rows.now) }
-    ensures filled { IfOk result (λ all. IsMixedOrder order.now mixed.now
-        → IsFilled (HasMixedMembers rows.now mixed.now) order.now (length order.now) all.items) }
+    ensures { IfOk result (ListsMembers rows.now mixed.now order.now) }
 {
     let mut all = no_members(alloc, rows.len())?;
     for number in order {
-        let members = members_of(
-            alloc,
-            &rows[*number],
-            mixed[*number].as_slice(),
-            all.as_slice(),
-        )?;
+        let members = members_at(alloc, rows, mixed, *number, all.as_slice())?;
+        let long = is_long(members.as_slice());
         all[*number] = members;
+        if long {
+            return Ok(None);
+        }
     }
-    Ok(all)
+    Ok(Some(all))
+}
+
+// More members than one shape may have.
+fn is_long(members: &[NamedTarget<'_>]) -> bool
+    ensures { IsTrue result ↔ (MEMBER_LIMIT < length members.now) }
+{
+    members.len() as u64 > MEMBER_LIMIT
 }
 
 // No members, for each shape.
 fn no_members<'a>(alloc: Global, count: usize) -> Result<Vec<Vec<NamedTarget<'a>>>, NoMemory>
-    ensures { IfOk result (λ all. length all.items ≡ count) }
+    ensures size { IfOk result (λ all. length all.items ≡ count) }
+    ensures short { IfOk result (λ all. HaveManyMembers all.items → ⊥) }
 {
     let mut all = Vec::new(alloc);
     for _ in 0..count {
@@ -76,6 +60,23 @@ fn no_members<'a>(alloc: Global, count: usize) -> Result<Vec<Vec<NamedTarget<'a>
         all.push(none)?;
     }
     Ok(all)
+}
+
+// The members of the shape of a number.
+fn members_at<'a>(
+    alloc: Global,
+    rows: &'a [BareShape],
+    mixed: &[Vec<Contributing<'_>>],
+    number: usize,
+    all: &[Vec<NamedTarget<'a>>],
+) -> Result<Vec<NamedTarget<'a>>, NoMemory>
+    requires inside { number < length rows.now }
+    requires size { length mixed.now ≡ length rows.now }
+    requires many { length all.now ≡ length rows.now }
+    requires below { AllBelow (length rows.now) mixed.now }
+    ensures { IfOk result (HasMixedMembers rows.now mixed.now number all.now) }
+{
+    members_of(alloc, &rows[number], mixed[number].as_slice(), all)
 }
 
 // The members of one shape: those of its mixins one after the other, then its own.

@@ -1,8 +1,9 @@
 // The ids of all shapes that the files define.
 ghost use Rattle.std.specs.Prelude.{◌≡◌, ◌||◌, ℕ, List, IfOk, OnOk};
 ghost use Rattle.sm_model.specs.SaidView.{statement_view, statements_view};
+ghost use Rattle.sm_merge.specs.Files.{files_view};
 ghost use Rattle.sm_merge.specs.Stated.{all_said, defined_among, defines};
-ghost use Rattle.sm_merge.specs.steps.Known.{files_view, has_text, known};
+ghost use Rattle.sm_merge.specs.steps.Known.{has_text, known};
 
 use sm_model::Statement;
 use sm_tree::NoMemory;

@@ -1,8 +1,8 @@
 // The tables that a graph is made from.
 ghost use Rattle.std.specs.Prelude.{IfOk};
+ghost use Rattle.sm_merge.specs.Files.{files_view};
 ghost use Rattle.sm_merge.specs.Stated.{AreFormedFiles, stated_by};
 ghost use Rattle.sm_merge.specs.steps.AllTables.{AreTablesOf};
-ghost use Rattle.sm_merge.specs.steps.Known.{files_view};
 
 use crate::parts::{Parts, taken_apart};
 use crate::shapes::{Shapes, shape_table};

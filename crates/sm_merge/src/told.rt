@@ -1,17 +1,13 @@
 // What tables tell of what is wrong.
 ghost use Rattle.std.specs.Prelude.{◌≡◌, [], ◌∷◌, IfOk, OnOk, map};
 ghost use Rattle.sm_model.specs.PreludeShapes.{unit_id};
-ghost use Rattle.sm_model.specs.steps.Rising.{Rise};
-ghost use Rattle.sm_merge.specs.steps.EventLists.{applied_event, if_conflict, metadata_event, metadata_events, shape_conflicts};
+ghost use Rattle.sm_merge.specs.steps.EventLists.{applied_event, if_conflict, metadata_event, metadata_events};
 ghost use Rattle.sm_merge.specs.steps.EventLists.{shape_event, TellsMore, trait_event, trait_events};
-ghost use Rattle.sm_merge.specs.steps.Tables.{places_in};
 
 use crate::events::event;
-use crate::look::traits_at;
-use crate::parts::BareShape;
 use crate::prelude_graph::id_of;
 use crate::stated::copied_id;
-use crate::table::{NamedValue, PlaceRow};
+use crate::table::NamedValue;
 use sm_ids::ShapeId;
 use sm_model::ModelEvent;
 use sm_tree::NoMemory;
@@ -110,23 +106,6 @@ fn put_trait_event(
     }
     let shape = copied_id(alloc, id)?;
     events.push(event(alloc, shape, "Model.Trait", value.name.as_str())?)?;
-    Ok(())
-}
-
-/// Puts those events for all shapes; their members' are no part of it.
-pub(crate) fn put_shape_conflicts(
-    alloc: Global,
-    shapes: &[BareShape],
-    rows: &[PlaceRow],
-    events: &mut Vec<ModelEvent>,
-) -> Result<(), NoMemory>
-    requires { Rise (places_in rows.now) }
-    ensures { OnOk result (TellsMore events.old.items events.new.items (shape_conflicts rows.now shapes.now)) }
-{
-    for shape in shapes {
-        let values = traits_at(rows, shape.id.as_str());
-        put_trait_events(alloc, &shape.id, values, events)?;
-    }
     Ok(())
 }
 

@@ -5,10 +5,7 @@ use Rattle.sm_model.specs.EventView.{AreErrors, EventTold, events_view}
 use Rattle.sm_model.specs.PreludeShapes.{unit_id}
 use Rattle.sm_model.specs.declared.event.ModelEvent.{ModelEvent}
 use Rattle.sm_merge.specs.Merged.{model_event}
-use Rattle.sm_merge.specs.steps.Tables.{traits_found}
-use Rattle.sm_merge.specs.declared.parts.BareShape.{BareShape}
 use Rattle.sm_merge.specs.declared.table.NamedValue.{NamedValue}
-use Rattle.sm_merge.specs.declared.table.PlaceRow.{PlaceRow}
 
 -- the same events, in any order, and any number of times
 abbrev pub HaveSameEvents : List EventTold → List EventTold → Type 0
@@ -29,21 +26,17 @@ metadata_event key = model_event unit_id (codes "Model.Metadata") key
 abbrev pub trait_event : List ℕ → List ℕ → EventTold
 trait_event place name = model_event place (codes "Model.Trait") name
 
--- what is told of keys of metadata, of one shape or member, and of shapes that are stated
+-- what is told of keys of metadata, and of one shape or member
 abbrev pub metadata_events : List NamedValue → List EventTold
 metadata_events rows = flat_map (if_conflict metadata_event) rows
 
 abbrev pub trait_events : List ℕ → List NamedValue → List EventTold
 trait_events place values = flat_map (if_conflict (trait_event place)) values
 
-abbrev pub shape_conflicts : List PlaceRow → List BareShape → List EventTold
-shape_conflicts rows shapes = flat_map (λ s. trait_events s.id (traits_found s.id rows)) shapes
-
 -- what traits are applied to, where it isn't there
 abbrev pub applied_event : List ℕ → EventTold
 applied_event id = model_event id (codes "Model.Apply") []
 
 -- a shape that is stated again otherwise
-
 abbrev pub shape_event : List ℕ → EventTold
 shape_event id = model_event id (codes "Model.Shape") []

@@ -1,14 +1,10 @@
 -- Which ids a set of texts holds.
-use Rattle.std.specs.Prelude.{ℕ, List, map}
-use Rattle.std.specs.Global.{Vec}
+use Rattle.std.specs.Prelude.{ℕ, List}
 use Rattle.std.specs.BTreeSet as sorted
 use Rattle.std.specs.BTreeSet.{BTreeSet}
 use Rattle.std.specs.Cmp.Lexicographic.{slice_cmp}
 use Rattle.std.specs.Ordering.{nat_cmp}
 use denote.Ref.{Bor}
-use Rattle.sm_model.specs.Said.{Said}
-use Rattle.sm_model.specs.SaidView.{statements_view}
-use Rattle.sm_model.specs.declared.statement.Statement.{Statement}
 use Rattle.sm_merge.specs.Meaning.{Defined}
 use Rattle.sm_merge.specs.declared.names.Names.{Names}
 
@@ -17,7 +13,3 @@ has_text set id = sorted.contains_by (λ k. slice_cmp nat_cmp id k.now) set
 
 abbrev pub known : Names → Defined
 known names id = has_text names.ids id
-
--- the statements of files
-abbrev pub files_view : List (Vec Statement) → List (List Said)
-files_view files = map (λ file. statements_view file.items) files

@@ -1,6 +1,7 @@
 use Rattle.std.proofs.Common.{◌≡◌, ◌++◌, drop, map}
 use Rattle.sm_merge.specs.Stated.{AreFormedFiles, all_said, stated}
-use Rattle.sm_merge.specs.steps.Known.{files_view, known}
+use Rattle.sm_merge.specs.Files.{files_view}
+use Rattle.sm_merge.specs.steps.Known.{known}
 use Rattle.sm_merge.specs.steps.Rows.{rows_view}
 use Rattle.sm_merge.proofs.stated.stated.Given as goal
 

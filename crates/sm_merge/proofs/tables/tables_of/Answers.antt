@@ -1,7 +1,7 @@
 use Rattle.std.proofs.Common.{sym, subst}
 use Rattle.sm_model.specs.Given.{AreNodes}
 use Rattle.sm_merge.specs.Stated.{stated_by}
-use Rattle.sm_merge.specs.steps.Known.{files_view}
+use Rattle.sm_merge.specs.Files.{files_view}
 use Rattle.sm_merge.specs.steps.Placed.{ArePartsOf}
 use Rattle.sm_merge.specs.steps.ShapeTables.{AreSoundBares}
 use Rattle.sm_merge.specs.steps.Tables.{ArePlacedNodes, ArePlacesOf, AreValuesOf}
