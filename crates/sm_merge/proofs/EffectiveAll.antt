@@ -82,8 +82,8 @@ module _ (ss : List Stated) (rows : List BareShape) (traits : List PlaceRow) (wa
 
   module _ (mixed : List (Vec Contributing)) (are : AreMixedIn ss rows mixed) (o : IsMixedOrder walk.order.items mixed)
       (members : List (Vec NamedTarget)) (all : List ShapeTraits)
-      (filled : IsFilled (HasMixedMembers rows mixed) walk.order.items (length walk.order.items) members)
-      (with_traits : IsFilled (HasMixedTraits traits rows members mixed) walk.order.items (length walk.order.items) all) where
+      (filled : IsFilled (HasMixedMembers rows mixed) walk.order.items (length walk.order.items) members) (n : ℕ)
+      (with_traits : IsFilled (HasMixedTraits traits rows members mixed) walk.order.items n all) where
     pub record IsDone (v : ℕ) : Type 0 where
       pub comes : (id : List ℕ) → At (ids_of rows) v id → IsEffective ss id (shape_at_number members all v)
       pub other : HasNoOther members all v
@@ -96,7 +96,7 @@ module _ (ss : List Stated) (rows : List BareShape) (traits : List PlaceRow) (wa
         × IsDone c.number × AllDone s cs
 
     all_done : (k : ℕ) (s : ShapeStated) (mixins : List (List ℕ)) (cs : List Contributing)
-        → ((i w : ℕ) → i < k → At walk.order.items i w → IsDone w) → k < length walk.order.items → MixIn ss rows s mixins cs
+        → ((i w : ℕ) → i < k → At walk.order.items i w → IsDone w) → k < n → MixIn ss rows s mixins cs
         → AreBehind walk.order.items k cs → AllDone s cs
     all_done k s [] cs before low none behind = subst (AllDone s) (sym none) tt
     all_done k s (mixin ∷ mixins) cs before low (inl (never, rest)) behind = all_done k s mixins cs before low rest behind
@@ -104,7 +104,7 @@ module _ (ss : List Stated) (rows : List BareShape) (traits : List PlaceRow) (wa
         let b : AreBehind walk.order.items k (c ∷ rest) = subst (AreBehind walk.order.items k) is behind in
         let stands : StandsBefore walk.order.items k c.number = b.0 in
         let early : stands.place < k = stands.before in
-        let inside : stands.place < length walk.order.items = omega (arith, early, low) in
+        let inside : stands.place < n = omega (arith, early, low) in
         subst (AllDone s) (sym is) (
           (mixin, told),
           with_traits stands.place c.number inside stands.there,
@@ -151,10 +151,9 @@ module _ (ss : List Stated) (rows : List BareShape) (traits : List PlaceRow) (wa
         subst (MixIn ss rows s s.mixins) (sym (ap vec_items here.1)) (are.each v id s here.0 at_v there here.1)
 
     -- a shape, when those before it are done
-    done_at : (k v : ℕ) → At walk.order.items k v → ((i w : ℕ) → i < k → At walk.order.items i w → IsDone w) → IsDone v
-    done_at k v at_k before =
-        let low : k < length walk.order.items = at_within walk.order.items k v at_k in
-        let m : HasEntry (HasMixedMembers rows mixed) members v = filled k v low at_k in
+    done_at : (k v : ℕ) → k < n → At walk.order.items k v → ((i w : ℕ) → i < k → At walk.order.items i w → IsDone w) → IsDone v
+    done_at k v low at_k before =
+        let m : HasEntry (HasMixedMembers rows mixed) members v = filled k v (at_within walk.order.items k v at_k) at_k in
         let e : HasEntry (HasMixedTraits traits rows members mixed) all v = with_traits k v low at_k in
         let size : length mixed ≡ length rows = are.size in
         let inside : v < length (ids_of rows) = t.walked.within k v at_k in
@@ -187,17 +186,16 @@ module _ (ss : List Stated) (rows : List BareShape) (traits : List PlaceRow) (wa
               let row = shape_row v any.0 any.1 in
               ap (λ x. find text_cmp k (folded_rows (traits_of_member name (member_lists x)))) e.there
               ∙ no_other ss traits t.traits_of any.0 row.s members all (items_at mixed v)
-              (λ n. kept_so n row.s (items_at mixed v) (done row.s any.0 any.1 row.there)) (members_at members v) e.entry (are_ms any) (from any)
+              (λ k. kept_so k row.s (items_at mixed v) (done row.s any.0 any.1 row.there)) (members_at members v) e.entry (are_ms any) (from any)
               (others_so row.s (items_at mixed v) (done row.s any.0 any.1 row.there)) name k none;
         }
 
-    done_before : (k i v : ℕ) → i < k → At walk.order.items i v → IsDone v
-    done_before zero i v low at_i = absurd (omega (arith, low))
-    done_before (suc k) i v low at_i =
-        done_at i v at_i (λ j w early at_j.
-        let earlier : j < k = omega (arith, early, low) in done_before k j w earlier at_j)
+    done_before : (k i v : ℕ) → i < k → i < n → At walk.order.items i v → IsDone v
+    done_before zero i v low early at_i = absurd (omega (arith, low))
+    done_before (suc k) i v low early at_i =
+        done_at i v early at_i (λ j w before at_j.
+        let earlier : j < k = omega (arith, before, low) in
+        let sooner : j < n = omega (arith, before, early) in done_before k j w earlier sooner at_j)
 
-    pub all_are_done : (v : ℕ) → v < length (ids_of rows) → IsDone v
-    all_are_done v small =
-        let stands : StandsBefore walk.order.items (length walk.order.items) v = t.walked.all v small in
-        done_before (length walk.order.items) stands.place v stands.before stands.there
+    pub done_by : (i v : ℕ) → i < n → At walk.order.items i v → IsDone v
+    done_by i v early at_i = done_before n i v early early at_i

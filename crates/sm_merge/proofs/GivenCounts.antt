@@ -38,7 +38,7 @@ one_shape e = shapes_in e.1
 abbrev its_members : List ℕ × Entry → ℕ
 its_members e = members_in e.1
 
-abbrev its_size : List ℕ × Entry → ℕ
+abbrev pub its_size : List ℕ × Entry → ℕ
 its_size e = traits_size (traits_in e.1)
 
 none_counted : (f : List ℕ × Entry → ℕ) → ((shape : List ℕ) (m : MemberGiven) → f (given_member shape m) ≡ 0) → (shape : List ℕ)

@@ -68,7 +68,9 @@ mod MemberListsMade
 mod LocalNames
 mod NamesMixed
 mod Stopped
-mod RunningRows
+mod SoundEntries
+mod Counted
+mod TraitsListed
 mod Amongs
 mod PlacesThere
 mod MembersOther

@@ -1,17 +1,17 @@
 -- Whether statements are past a limit of shapes or members is told by the names of members alone.
 use Rattle.std.proofs.Common.{◌⊎◌, inl, inr, ℕ, zero, suc, ◌<◌, List, [], ◌∷◌, length, sym, subst, arith}
 use Rattle.std.specs.Global.{Vec}
-use Rattle.std.specs.List.{Any}
+use Rattle.std.specs.List.{Any, sum_by}
 use Rattle.std.proofs.lemmas.List.{length-map}
 use Rattle.std.proofs.lemmas.Option.{none-some, same_Some}
 use Rattle.sm_tree.specs.Node.{Node}
-use Rattle.sm_model.specs.Graphs.{Entry, GraphMaps}
-use Rattle.sm_merge.specs.Limits.{IsFirstPast, IsPast, members_in, own_entries}
+use Rattle.sm_model.specs.Graphs.{Entry, GraphMaps, given_entries, traits_in}
+use Rattle.sm_merge.specs.Limits.{IsFirstPast, IsPast, members_in, own_entries, traits_size}
 use Rattle.sm_merge.specs.Merged.{IsGraphOf}
 use Rattle.sm_merge.specs.Mixins.{EffectiveShape, IsEffective}
 use Rattle.sm_merge.specs.Stated.{Stated}
 use Rattle.sm_merge.specs.declared.firsts.NamedTarget.{NamedTarget}
-use Rattle.sm_merge.specs.declared.limit.TheConstants.{SHAPE_LIMIT, MEMBER_LIMIT, ALL_MEMBER_LIMIT}
+use Rattle.sm_merge.specs.declared.limit.TheConstants.{SHAPE_LIMIT, MEMBER_LIMIT, ALL_MEMBER_LIMIT, TRAIT_LIMIT}
 use Rattle.sm_merge.specs.declared.limit.LimitKind.{LimitKind}
 use Rattle.sm_merge.specs.declared.limit.LimitKind.TheVariants.{Shapes, Members, AllMembers, Traits}
 use Rattle.sm_merge.specs.declared.parts.BareShape.{BareShape}
@@ -24,7 +24,7 @@ use Rattle.sm_merge.specs.steps.Whole.{AreEffective, whole_member, whole_shapes}
 use Rattle.sm_merge.proofs.Ats.{sides}
 use Rattle.sm_merge.proofs.GivenCounts.{SomeHaveMany, any_either, any_first, any_later, none_in}
 use Rattle.sm_merge.proofs.SomeEffective.{Must, SomeRows, lengths_of, must, some_effective, thence}
-use Rattle.sm_merge.proofs.WholeCounts.{AreGood, ArePast, IsOfMembers, long_told, many_shapes, past_shapes, past_told, told_past}
+use Rattle.sm_merge.proofs.WholeCounts.{AreGood, ArePast, IsOfMembers, large_told, long_told, many_shapes, past_shapes, past_told, told_past}
 
 -- what can be decided, and must be, is
 stable_less : (k n : ℕ) → Must (k < n) → k < n
@@ -102,3 +102,14 @@ module _ (ss : List Stated) (rows : List BareShape) (metadata : List (List ℕ �
     pub all_members_told : (ArePast Shapes rows mss → ⊥) → (ArePast Members rows mss → ⊥) → ArePast AllMembers rows mss
         → IsFirstPast AllMembers g
     all_members_told few short past = (not_past Shapes tt few, not_past Members tt short, is_past AllMembers tt past)
+
+    pub large_traits_told : ((kind : LimitKind) → IsOfMembers kind → ArePast kind rows mss → ⊥)
+        → ((es : List EffectiveShape) → AreEffective ss rows es
+        → TRAIT_LIMIT < sum_by (λ e. traits_size (traits_in e.1)) (given_entries (whole_shapes rows es)))
+        → IsFirstPast Traits g
+    large_traits_told none past = (
+      not_past Shapes tt (none Shapes tt),
+      not_past Members tt (none Members tt),
+      not_past AllMembers tt (none AllMembers tt),
+      stable_less TRAIT_LIMIT _ (thence come (λ e. must (large_told ss rows metadata good e.0 e.1 (past e.0 e.1) g is))),
+    )

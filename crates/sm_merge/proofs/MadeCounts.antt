@@ -12,7 +12,7 @@ use Rattle.sm_model.specs.Formed.{DifferInNames}
 use Rattle.sm_model.specs.Given.{AreGiven, AreGivenShapes, IsNodeMap, given_ids}
 use Rattle.sm_model.specs.Graphs.{GraphMaps, ShapeGiven, given_entries, graph_of, traits_in}
 use Rattle.sm_model.specs.PreludeShapes.{prelude_shapes}
-use Rattle.sm_merge.specs.Limits.{IsFirstPast, IsPast, IsWithinLimits, own_entries, traits_size}
+use Rattle.sm_merge.specs.Limits.{IsPast, IsWithinLimits, own_entries, traits_size}
 use Rattle.sm_merge.specs.Merged.{IsGraphOf}
 use Rattle.sm_merge.specs.Mixins.{IsEffective}
 use Rattle.sm_merge.specs.Stated.{Stated}
@@ -137,14 +137,6 @@ module _ (ss : List Stated) (rows : List BareShape) (metadata : List (List ℕ �
 
     few : (kind : LimitKind) → (ArePast kind rows mss → ⊥) → IsOfMembers kind → IsPast kind g → ⊥
     few kind none of past = none (told_past ss rows metadata good (effective_views mss ts) are mss long kind of g is past)
-
-    pub traits_told : ((kind : LimitKind) → ArePast kind rows mss → ⊥) → TRAIT_LIMIT < shapes_size made → IsFirstPast Traits g
-    traits_told none past = (
-      few Shapes (none Shapes) tt,
-      few Members (none Members) tt,
-      few AllMembers (none AllMembers) tt,
-      subst (IsPast Traits) same (subst (λ n. TRAIT_LIMIT < n) (sym trait_sum) past),
-    )
 
     pub none_told : ((kind : LimitKind) → ArePast kind rows mss → ⊥) → (TRAIT_LIMIT < shapes_size made → ⊥) → IsWithinLimits g
     none_told none small Shapes = few Shapes (none Shapes) tt

@@ -1,5 +1,5 @@
 -- The answer of merging, stage by stage: what tables tell once their members, and then their traits, are known.
-use Rattle.std.proofs.Common.{◌≡◌, ℕ, ◌<◌, List, [], ◌∷◌, length, Option, None, Some, refl, sym, ap, subst, ◌∙◌, arith}
+use Rattle.std.proofs.Common.{◌≡◌, ℕ, ◌<◌, List, [], ◌∷◌, length, Option, None, Some, refl, sym, subst, arith}
 use Rattle.std.specs.Prelude.{Ok, Err, Result}
 use Rattle.std.specs.Global.{Vec}
 use Rattle.sm_model.specs.EventView.{AreErrors, events_view}
@@ -7,10 +7,10 @@ use Rattle.sm_model.specs.declared.event.ModelEvent.{ModelEvent}
 use Rattle.sm_model.specs.declared.graph.Graph.{Graph}
 use Rattle.sm_merge.specs.Answers.{StatementsComeTo}
 use Rattle.sm_merge.specs.Merged.{AreEventsOf}
-use Rattle.sm_merge.specs.Stated.{ShapeStated, Stated}
+use Rattle.sm_merge.specs.Stated.{Stated}
 use Rattle.sm_merge.specs.declared.effective.ShapeTraits.{ShapeTraits}
 use Rattle.sm_merge.specs.declared.firsts.NamedTarget.{NamedTarget}
-use Rattle.sm_merge.specs.declared.limit.TheConstants.{SHAPE_LIMIT, ALL_MEMBER_LIMIT, TRAIT_LIMIT}
+use Rattle.sm_merge.specs.declared.limit.TheConstants.{SHAPE_LIMIT, ALL_MEMBER_LIMIT}
 use Rattle.sm_merge.specs.declared.limit.LimitKind.{LimitKind}
 use Rattle.sm_merge.specs.declared.limit.LimitKind.TheVariants.{Shapes, Members, AllMembers, Traits}
 use Rattle.sm_merge.specs.declared.mixins.Contributing.{Contributing}
@@ -22,9 +22,9 @@ use Rattle.sm_merge.specs.declared.table.PlaceRow.{PlaceRow}
 use Rattle.sm_merge.specs.declared.tables.Tables.{Tables}
 use Rattle.sm_merge.specs.declared.walk.Walk.{Walk}
 use Rattle.sm_merge.specs.steps.Contributing.{AreWalkedTables}
-use Rattle.sm_merge.specs.steps.EffectiveTables.{AreEffectiveTables, AreMembersOf, effective_view}
-use Rattle.sm_merge.specs.steps.Filling.{HasMixedMembers, IsFilled}
-use Rattle.sm_merge.specs.steps.Made.{made_shapes, metadata_pairs, members_count, parted_shapes, shapes_size}
+use Rattle.sm_merge.specs.steps.Counting.{AreListedTraits, HasLargeTraits, ListsTraits}
+use Rattle.sm_merge.specs.steps.EffectiveTables.{effective_view}
+use Rattle.sm_merge.specs.steps.Made.{made_shapes, metadata_pairs, members_count, parted_shapes}
 use Rattle.sm_merge.specs.steps.MixedIn.{AreMixedIn}
 use Rattle.sm_merge.specs.steps.MixinLinks.{WalksMixins}
 use Rattle.sm_merge.specs.steps.ShapeTables.{ids_of}
@@ -32,14 +32,15 @@ use Rattle.sm_merge.specs.steps.Stopping.{AreListed, HasLongShape, ListsMembers}
 use Rattle.sm_merge.specs.steps.ToldEvents.{AllMade, AreToldFrom}
 use Rattle.sm_merge.specs.steps.Verdicts.{AreNamedTables, AreSoundTables, AreWholeTables, Builds, PartsTell}
 use Rattle.sm_merge.proofs.Ats.{at_there, at_within}
-use Rattle.sm_merge.proofs.LimitsTold.{all_members_told, long_shape_told, shapes_told}
-use Rattle.sm_merge.proofs.MadeCounts.{traits_told}
+use Rattle.sm_merge.proofs.LimitsTold.{all_members_told, large_traits_told, long_shape_told, shapes_told}
 use Rattle.sm_merge.proofs.MixedMade.{mixed_order}
 use Rattle.sm_merge.proofs.NamesMixed.{members_are}
 use Rattle.sm_merge.proofs.ShapeNumbers.{ids_count, shape_ids}
-use Rattle.sm_merge.proofs.PartsTold.{effective, good_tables, many, parts_tell, rejected, sound}
+use Rattle.sm_merge.proofs.PartsTold.{good_tables, parts_tell, rejected}
 use Rattle.sm_merge.proofs.Stopped.{long_shape}
-use Rattle.sm_merge.proofs.WholeCounts.{ArePast}
+use Rattle.sm_merge.proofs.TraitsListed.{traits_are, traits_large, traits_small}
+use Rattle.sm_merge.proofs.WholeGiven.{rows_stated, shapes_given}
+use Rattle.sm_merge.proofs.WholeCounts.{ArePast, IsOfMembers}
 
 walked_tables : (ss : List Stated) (t : Tables) (walk : Walk) → AreSoundTables ss t → WalksMixins t.shapes.rows.items walk
     → AreWalkedTables ss t.shapes.rows.items t.traits.items walk
@@ -84,7 +85,7 @@ module _ (ss : List Stated) (t : Tables) (walk : Walk) (h : AreSoundTables ss t)
 
 -- the same of slices of these
 module _ (ss : List Stated) (t : Tables) (walk : Walk) (h : AreSoundTables ss t) (rows : List BareShape) (traits : List PlaceRow)
-    (mixed slice : List (Vec Contributing)) (order : List ℕ) (rows_are : rows ≡ t.shapes.rows.items) (traits_are : traits ≡ t.traits.items)
+    (mixed slice : List (Vec Contributing)) (order : List ℕ) (rows_are : rows ≡ t.shapes.rows.items) (given_are : traits ≡ t.traits.items)
     (mixed_are : slice ≡ mixed) (order_is : order ≡ walk.order.items) (walks : WalksMixins rows walk) (few : SHAPE_LIMIT < length rows → ⊥)
     (mixed_in : AreWalkedTables ss rows traits walk → AreMixedIn ss rows mixed) where
   walks_of : WalksMixins t.shapes.rows.items walk
@@ -95,7 +96,7 @@ module _ (ss : List Stated) (t : Tables) (walk : Walk) (h : AreSoundTables ss t)
 
   mixed_of : AreWalkedTables ss t.shapes.rows.items t.traits.items walk → AreMixedIn ss t.shapes.rows.items mixed
   mixed_of = subst (λ rs. AreWalkedTables ss rs t.traits.items walk → AreMixedIn ss rs mixed) rows_are
-      (subst (λ ts. AreWalkedTables ss rows ts walk → AreMixedIn ss rows mixed) traits_are mixed_in)
+      (subst (λ ts. AreWalkedTables ss rows ts walk → AreMixedIn ss rows mixed) given_are mixed_in)
 
   listed_of : (o : Option (Vec (Vec NamedTarget))) → ListsMembers rows slice order o → ListsMembers t.shapes.rows.items mixed walk.order.items o
   listed_of o lists =
@@ -118,27 +119,49 @@ module _ (ss : List Stated) (t : Tables) (walk : Walk) (mixed : List (Vec Contri
       all_members_told ss t.shapes.rows.items (metadata_pairs t.metadata.items) (good_tables ss t h.sound) walk h.walked.walked g is
       members h.named h.few h.short past
 
-  -- and traits
-  pub whole_tables : (all : List ShapeTraits) → (ALL_MEMBER_LIMIT < members_count members → ⊥)
-      → (AreWalkedTables ss t.shapes.rows.items t.traits.items walk → AreMixedIn ss t.shapes.rows.items mixed
-      → IsFilled (HasMixedMembers t.shapes.rows.items mixed) walk.order.items (length walk.order.items) members
-      → AreEffectiveTables ss t.shapes.rows.items members all)
-      → AreWholeTables ss t walk mixed members all
-  whole_tables all fewer effective = record { names = h; effective = effective h.walked h.mixed_in h.filled; fewer = fewer }
+  module _ (fewer : ALL_MEMBER_LIMIT < members_count members → ⊥) where
+    not_past_before : (kind : LimitKind) → IsOfMembers kind → ArePast kind t.shapes.rows.items members → ⊥
+    not_past_before Shapes of = h.few
+    not_past_before Members of = h.short
+    not_past_before AllMembers of = fewer
+    not_past_before Traits of = λ never. never
 
-  pub slices_whole : (ALL_MEMBER_LIMIT < members_count members → ⊥) → (rows : List BareShape) (traits : List PlaceRow)
-      → rows ≡ t.shapes.rows.items → traits ≡ t.traits.items → (all : List ShapeTraits)
-      → (AreWalkedTables ss rows traits walk → AreMixedIn ss rows mixed
-      → IsFilled (HasMixedMembers rows mixed) walk.order.items (length walk.order.items) members → AreEffectiveTables ss rows members all)
-      → (now : List ShapeTraits) → now ≡ all → AreWholeTables ss t walk mixed members now
-  slices_whole fewer rows traits rows_are traits_are all effective now now_is =
-      subst (AreWholeTables ss t walk mixed members) (sym now_is)
-      (whole_tables all fewer
-      (subst (λ rs. AreWalkedTables ss rs t.traits.items walk → AreMixedIn ss rs mixed
-      → IsFilled (HasMixedMembers rs mixed) walk.order.items (length walk.order.items) members → AreEffectiveTables ss rs members all) rows_are
-      (subst (λ ts. AreWalkedTables ss rows ts walk → AreMixedIn ss rows mixed
-      → IsFilled (HasMixedMembers rows mixed) walk.order.items (length walk.order.items) members → AreEffectiveTables ss rows members all)
-      traits_are effective)))
+    -- too large traits
+    pub large_told : HasLargeTraits t.shapes.rows.items t.traits.items members mixed walk.order.items → StatementsComeTo ss (Err (Limit Traits))
+    large_told large = λ g is.
+        let good = good_tables ss t h.sound in
+        large_traits_told ss t.shapes.rows.items (metadata_pairs t.metadata.items) good walk h.walked.walked g is members h.named
+        not_past_before (λ es are.
+        traits_large ss t.shapes.rows.items t.traits.items walk h.walked mixed h.mixed_in members h.filled large es
+        (shapes_given ss good.gives good.sound t.shapes.rows.items es (rows_stated ss t.shapes.rows.items good.shapes) are) are)
+
+    -- and traits
+    pub whole_tables : (all : List ShapeTraits) → AreListedTraits t.shapes.rows.items t.traits.items members mixed walk.order.items all
+        → AreWholeTables ss t walk mixed members all
+    whole_tables all listed = record {
+      names = h;
+      effective = traits_are ss t.shapes.rows.items t.traits.items walk h.walked mixed h.mixed_in members h.filled all listed;
+      fewer = fewer;
+      small = traits_small ss t.shapes.rows.items t.traits.items walk h.walked mixed h.mixed_in members h.filled all listed h.named.size;
+    }
+
+    -- the same of slices
+    module _ (rows : List BareShape) (traits : List PlaceRow) (order : List ℕ) (rows_are : rows ≡ t.shapes.rows.items)
+        (given_are : traits ≡ t.traits.items) (order_is : order ≡ walk.order.items) where
+      lists_of : (o : Option (Vec ShapeTraits)) → ListsTraits rows traits members mixed order o
+          → ListsTraits t.shapes.rows.items t.traits.items members mixed walk.order.items o
+      lists_of o lists =
+          subst (λ rs. ListsTraits rs t.traits.items members mixed walk.order.items o) rows_are
+          (subst (λ ts. ListsTraits rows ts members mixed walk.order.items o) given_are
+          (subst (λ k. ListsTraits rows traits members mixed k o) order_is lists))
+
+      pub slices_large : ListsTraits rows traits members mixed order None → StatementsComeTo ss (Err (Limit Traits))
+      slices_large lists = large_told (lists_of None lists)
+
+      pub slices_whole : (all : Vec ShapeTraits) → ListsTraits rows traits members mixed order (Some all) → (now : List ShapeTraits)
+          → now ≡ all.items → AreWholeTables ss t walk mixed members now
+      slices_whole all lists now now_is =
+          subst (AreWholeTables ss t walk mixed members) (sym now_is) (whole_tables all.items (lists_of (Some all) lists))
 
 module _ (ss : List Stated) (t : Tables) (walk : Walk) (mixed : List (Vec Contributing)) (members : List (Vec NamedTarget))
     (all : List ShapeTraits) (h : AreWholeTables ss t walk mixed members all) where
@@ -147,13 +170,6 @@ module _ (ss : List Stated) (t : Tables) (walk : Walk) (mixed : List (Vec Contri
   not_past Members = h.names.short
   not_past AllMembers = h.fewer
   not_past Traits = λ never. never
-
-  pub large_traits_told : TRAIT_LIMIT < shapes_size (made_shapes t.shapes.rows.items members all) → StatementsComeTo ss (Err (Limit Traits))
-  large_traits_told past = λ g is.
-      let s = h.names.sound in
-      traits_told ss t.shapes.rows.items (metadata_pairs t.metadata.items) (good_tables ss t s) members all
-      (many ss t s members all h.names.named h.effective) (effective ss t s members all h.names.named h.effective)
-      (sound ss t s members all h.names.named h.effective) g is not_past past
 
   all_made : AllMade ss
   all_made id s there =
@@ -175,16 +191,15 @@ module _ (ss : List Stated) (t : Tables) (walk : Walk) (mixed : List (Vec Contri
     made = all_made;
   }
 
-  module _ (small : TRAIT_LIMIT < shapes_size (made_shapes t.shapes.rows.items members all) → ⊥) where
-    -- something is wrong
-    pub whole_rejected : (es : List ModelEvent) → AreEventsOf ss (events_view es) → AreErrors es → 0 < length es
-        → StatementsComeTo ss (Err (Rejected es))
-    whole_rejected = rejected ss t h.names.sound members all h.names.named h.effective not_past small
+  -- something is wrong
+  pub whole_rejected : (es : List ModelEvent) → AreEventsOf ss (events_view es) → AreErrors es → 0 < length es
+      → StatementsComeTo ss (Err (Rejected es))
+  whole_rejected = rejected ss t h.names.sound members all h.names.named h.effective not_past h.small
 
-    -- or nothing
-    pub whole_tell : (parts : Vec ShapePart) → parted_shapes t.shapes.rows.items parts.items ≡ made_shapes t.shapes.rows.items members all
-        → AreEventsOf ss [] → PartsTell ss t (Ok parts)
-    whole_tell = parts_tell ss t h.names.sound members all h.names.named h.effective not_past small
+  -- or nothing
+  pub whole_tell : (parts : Vec ShapePart) → parted_shapes t.shapes.rows.items parts.items ≡ made_shapes t.shapes.rows.items members all
+      → AreEventsOf ss [] → PartsTell ss t (Ok parts)
+  whole_tell = parts_tell ss t h.names.sound members all h.names.named h.effective not_past h.small
 
 pub none_of : {A : Type 0} (xs : List A) → (0 < length xs → ⊥) → xs ≡ []
 none_of [] h = refl

@@ -7,13 +7,13 @@ use Rattle.std.proofs.lemmas.List.{length-map}
 use Rattle.std.proofs.lemmas.List.Sorted.{IsPermutation-sym, sum_by-IsPermutation}
 use Rattle.std.proofs.lemmas.List.Sums.{sum_by-cons}
 use Rattle.sm_tree.specs.Node.{Node}
-use Rattle.sm_model.specs.Graphs.{GraphMaps, given_entries}
-use Rattle.sm_merge.specs.Limits.{IsPast, members_in, own_entries, shapes_in}
+use Rattle.sm_model.specs.Graphs.{GraphMaps, given_entries, traits_in}
+use Rattle.sm_merge.specs.Limits.{IsPast, members_in, own_entries, shapes_in, traits_size}
 use Rattle.sm_merge.specs.Merged.{IsGraphOf}
 use Rattle.sm_merge.specs.Mixins.{EffectiveShape}
 use Rattle.sm_merge.specs.Stated.{Stated}
 use Rattle.sm_merge.specs.declared.firsts.NamedTarget.{NamedTarget}
-use Rattle.sm_merge.specs.declared.limit.TheConstants.{SHAPE_LIMIT, MEMBER_LIMIT, ALL_MEMBER_LIMIT}
+use Rattle.sm_merge.specs.declared.limit.TheConstants.{SHAPE_LIMIT, MEMBER_LIMIT, ALL_MEMBER_LIMIT, TRAIT_LIMIT}
 use Rattle.sm_merge.specs.declared.limit.LimitKind.{LimitKind}
 use Rattle.sm_merge.specs.declared.limit.LimitKind.TheVariants.{Shapes, Members, AllMembers, Traits}
 use Rattle.sm_merge.specs.declared.parts.BareShape.{BareShape}
@@ -123,6 +123,12 @@ module _ (ss : List Stated) (rows : List BareShape) (metadata : List (List ℕ �
   long_told some g is =
       subst (IsPast Members) (one_whole g is)
       (any_moved (λ e. MEMBER_LIMIT < members_in e.1) _ _ whole_moved (many_any (whole_shapes rows es) some))
+
+  pub large_told : TRAIT_LIMIT < sum_by (λ e. traits_size (traits_in e.1)) (given_entries (whole_shapes rows es)) → (g : GraphMaps)
+      → IsGraphOf ss g → IsPast Traits g
+  large_told past g is =
+      subst (IsPast Traits) (one_whole g is)
+      (subst (λ n. TRAIT_LIMIT < n) (sym (sum_by-IsPermutation (λ e. traits_size (traits_in e.1)) _ _ whole_moved)) past)
 
   module _ (mss : List (Vec NamedTarget)) (long : HaveLengths es mss) where
     member_sum : sum_by (λ e. members_in e.1) (own_entries whole) ≡ members_count mss

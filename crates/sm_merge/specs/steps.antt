@@ -25,6 +25,7 @@ pub mod Verdicts
 pub mod MixedIn
 pub mod Filling
 pub mod Stopping
+pub mod Counting
 pub mod MemberLists
 pub mod PlaceEvents
 pub mod ToldEvents

@@ -1,24 +1,25 @@
 // What shapes come to with their mixins. Values stay where they are.
-ghost use Rattle.std.specs.Prelude.{◌≡◌, ◌<◌, ℕ, List, length, IfOk};
+ghost use Rattle.std.specs.Prelude.{◌≡◌, ◌<◌, ℕ, length, IfOk};
 ghost use Rattle.sm_model.specs.steps.Rising.{Rise};
-ghost use Rattle.sm_merge.specs.Stated.{Stated};
-ghost use Rattle.sm_merge.specs.steps.Contributing.{AreWalkedTables, NamesRise};
-ghost use Rattle.sm_merge.specs.steps.EffectiveTables.{AreEffectiveTables};
-ghost use Rattle.sm_merge.specs.steps.Filling.{AreTraitsFrom, HasMixedMembers, HasMixedTraits, IsFilled};
+ghost use Rattle.sm_merge.specs.steps.Contributing.{NamesRise};
+ghost use Rattle.sm_merge.specs.steps.Counting.{AllTold, AreSoundEntries, ListsTraits, TellsSize};
+ghost use Rattle.sm_merge.specs.steps.EffectiveTables.{AreSoundTraits};
+ghost use Rattle.sm_merge.specs.steps.Filling.{AreTraitsFrom, HasMixedTraits};
 ghost use Rattle.sm_merge.specs.steps.Firsts.{targets_view};
 ghost use Rattle.sm_merge.specs.steps.Links.{At};
-ghost use Rattle.sm_merge.specs.steps.MixedIn.{AllBelow, AreBelow, AreMixedIn, IsMixedOrder};
+ghost use Rattle.sm_merge.specs.steps.MixedIn.{AllBelow, AreBelow};
 ghost use Rattle.sm_merge.specs.steps.Tables.{places_in};
 
 use crate::effective_members::member_traits;
 use crate::effective_traits::{copied_traits, own_traits};
 use crate::firsts::NamedTarget;
+use crate::limit::TRAIT_LIMIT;
+use crate::limits::shape_size;
 use crate::look::traits_at;
 use crate::mixins::Contributing;
 use crate::parts::BareShape;
 use crate::table::PlaceRow;
 use crate::value::Folded;
-use crate::walk::Walk;
 use sm_tree::{NoMemory, Text};
 use std::alloc::Global;
 
@@ -51,69 +52,82 @@ pub(crate) struct ShapeTraits<'a> {
     pub members: Vec<MemberTraits<'a>>,
 }
 
-/// The traits of all shapes and of their members, by the shapes' numbers.
+/// The traits of all shapes and of their members, by the shapes' numbers, along an order; none as soon as they count more than those of
+/// a model may.
 pub(crate) fn all_traits<'a>(
     alloc: Global,
     rows: &[BareShape],
     traits: &'a [PlaceRow],
     members: &[Vec<NamedTarget<'_>>],
     mixed: &[Vec<Contributing<'_>>],
-    walk: &Walk,
-) -> Result<Vec<ShapeTraits<'a>>, NoMemory>
+    order: &[usize],
+) -> Result<Option<Vec<ShapeTraits<'a>>>, NoMemory>
     requires places { Rise (places_in traits.now) }
     requires names { NamesRise traits.now }
+    requires told { AllTold traits.now }
     requires members { length members.now ≡ length rows.now }
     requires size { length mixed.now ≡ length rows.now }
     requires below { AllBelow (length rows.now) mixed.now }
-    requires within { (k v : ℕ) → At walk.now.order.items k v → v < length rows.now }
-    ensures size { IfOk result (λ all. length all.items ≡ length rows.now) }
-    ensures effective { IfOk result (λ all. (ss : List Stated) → AreWalkedTables ss rows.now traits.now walk.now
-        → AreMixedIn ss rows.now mixed.now
-        → IsFilled (HasMixedMembers rows.now mixed.now) walk.now.order.items (length walk.now.order.items) members.now
-        → AreEffectiveTables ss rows.now members.now all.items) }
+    requires within { (k v : ℕ) → At order.now k v → v < length rows.now }
+    ensures { IfOk result (ListsTraits rows.now traits.now members.now mixed.now order.now) }
 {
-    let all = filled_traits(alloc, rows, traits, members, mixed, walk.order.as_slice())?;
-    Ok(all)
+    let mut all = no_traits(alloc, rows.len())?;
+    let mut total: u64 = 0;
+    for number in order {
+        let entry = entry_at(alloc, rows, traits, members, mixed, *number, all.as_slice())?;
+        let size = size_at(rows, members, *number, &entry);
+        total = total.saturating_add(size);
+        all[*number] = entry;
+        if total > TRAIT_LIMIT {
+            return Ok(None);
+        }
+    }
+    Ok(Some(all))
 }
 
-// The same along an order.
-fn filled_traits<'a>(
+// The traits of the shape of a number and of its members.
+fn entry_at<'a>(
     alloc: Global,
     rows: &[BareShape],
     traits: &'a [PlaceRow],
     members: &[Vec<NamedTarget<'_>>],
     mixed: &[Vec<Contributing<'_>>],
-    order: &[usize],
-) -> Result<Vec<ShapeTraits<'a>>, NoMemory>
+    number: usize,
+    all: &[ShapeTraits<'a>],
+) -> Result<ShapeTraits<'a>, NoMemory>
     requires places { Rise (places_in traits.now) }
     requires names { NamesRise traits.now }
     requires members { length members.now ≡ length rows.now }
     requires size { length mixed.now ≡ length rows.now }
+    requires many { length all.now ≡ length rows.now }
     requires below { AllBelow (length rows.now) mixed.now }
-    requires within { (k v : ℕ) → At order.now k v → v < length rows.now }
-    ensures size { IfOk result (λ all. length all.items ≡ length rows.now) }
-    ensures filled { IfOk result (λ all. IsMixedOrder order.now mixed.now
-        → IsFilled (HasMixedTraits traits.now rows.now members.now mixed.now) order.now (length order.now) all.items) }
+    requires inside { number < length rows.now }
+    ensures { IfOk result (HasMixedTraits traits.now rows.now members.now mixed.now number all.now) }
 {
-    let mut all = no_traits(alloc, rows.len())?;
-    for number in order {
-        let id = rows[*number].id.as_str();
-        let entry = traits_of(
-            alloc,
-            traits,
-            id,
-            members[*number].as_slice(),
-            mixed[*number].as_slice(),
-            all.as_slice(),
-        )?;
-        all[*number] = entry;
-    }
-    Ok(all)
+    let id = rows[number].id.as_str();
+    let given = members[number].as_slice();
+    traits_of(alloc, traits, id, given, mixed[number].as_slice(), all)
+}
+
+// How much the shape of a number counts with these traits.
+fn size_at(
+    rows: &[BareShape],
+    members: &[Vec<NamedTarget<'_>>],
+    number: usize,
+    traits: &ShapeTraits<'_>,
+) -> u64
+    requires inside { number < length rows.now }
+    requires members { length members.now ≡ length rows.now }
+    requires sound { AreSoundTraits traits.now }
+    ensures { TellsSize rows.now members.now number traits.now result }
+{
+    shape_size(&rows[number], members[number].as_slice(), traits)
 }
 
 // No traits, for each shape.
 fn no_traits<'a>(alloc: Global, count: usize) -> Result<Vec<ShapeTraits<'a>>, NoMemory>
-    ensures { IfOk result (λ all. length all.items ≡ count) }
+    ensures size { IfOk result (λ all. length all.items ≡ count) }
+    ensures sound { IfOk result (λ all. AreSoundEntries all.items) }
 {
     let mut all = Vec::new(alloc);
     for _ in 0..count {

@@ -12,7 +12,7 @@ ghost use Rattle.sm_merge.specs.steps.Placed.{bare_view};
 
 use crate::effective::{MemberTraits, NamedFolded, ShapeTraits};
 use crate::firsts::NamedTarget;
-use crate::limit::{ALL_MEMBER_LIMIT, SHAPE_LIMIT, TRAIT_LIMIT};
+use crate::limit::{ALL_MEMBER_LIMIT, SHAPE_LIMIT};
 use crate::parts::BareShape;
 use crate::shape_parts::{lacks_value, traits_of};
 use sm_model::Kind;
@@ -41,38 +41,8 @@ fn member_count(members: &[Vec<NamedTarget>]) -> u64
     count
 }
 
-/// Values of traits that count more than those of a model may.
-pub(crate) fn are_large_traits(
-    rows: &[BareShape],
-    members: &[Vec<NamedTarget>],
-    traits: &[ShapeTraits],
-) -> bool
-    requires { AreAllSound traits.now }
-    ensures { IsTrue result ↔ (TRAIT_LIMIT < all_shapes_size (made_shapes rows.now members.now traits.now)) }
-{
-    shapes_size(rows, members, traits) > TRAIT_LIMIT
-}
-
-fn shapes_size(rows: &[BareShape], members: &[Vec<NamedTarget>], traits: &[ShapeTraits]) -> u64
-    requires { AreAllSound traits.now }
-    ensures { result ≡ length_word (all_shapes_size (made_shapes rows.now members.now traits.now)) }
-{
-    let mut size: u64 = 0;
-    let mut lists = members.iter();
-    let mut tables = traits.iter();
-    for row in rows {
-        match lists.next() {
-            None => return size,
-            Some(list) => match tables.next() {
-                None => return size,
-                Some(table) => size = size.saturating_add(shape_size(row, list.as_slice(), table)),
-            },
-        }
-    }
-    size
-}
-
-fn shape_size(row: &BareShape, members: &[NamedTarget], traits: &ShapeTraits) -> u64
+/// How much the traits of a shape and of its members count.
+pub(crate) fn shape_size(row: &BareShape, members: &[NamedTarget], traits: &ShapeTraits) -> u64
     requires { AreSoundTraits traits.now }
     ensures { result ≡ length_word (size_of_shape (made_shape (bare_view row.now) members.now traits.now)) }
 {

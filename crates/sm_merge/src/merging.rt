@@ -15,7 +15,7 @@ use crate::events_all::all_events;
 use crate::firsts::NamedTarget;
 use crate::graph_made::made_graph;
 use crate::limit::LimitKind;
-use crate::limits::{are_large_traits, are_many_members, are_many_shapes};
+use crate::limits::{are_many_members, are_many_shapes};
 use crate::members::all_members;
 use crate::mixins::{Contributing, mixin_walk};
 use crate::refusal::MergeRefusal;
@@ -109,13 +109,14 @@ fn named_parts(
     }
     let rows = tables.shapes.rows.as_slice();
     let traits = tables.traits.as_slice();
-    let Ok(all) = all_traits(alloc, rows, traits, members, mixed, walk) else {
-        return Err(MergeRefusal::NoMemory);
-    };
-    whole_parts(alloc, tables, walk, mixed, members, all.as_slice())
+    match all_traits(alloc, rows, traits, members, mixed, walk.order.as_slice()) {
+        Err(_) => Err(MergeRefusal::NoMemory),
+        Ok(None) => Err(MergeRefusal::Limit(LimitKind::Traits)),
+        Ok(Some(all)) => whole_parts(alloc, tables, walk, mixed, members, all.as_slice()),
+    }
 }
 
-// Traits are counted, and events are told, before anything is copied.
+// Events are told before anything is copied.
 fn whole_parts(
     alloc: Global,
     tables: &Tables,
@@ -132,9 +133,6 @@ fn whole_parts(
     ensures { (ss : List Stated) → AreWholeTables ss tables.now walk.now mixed.now members.now all.now → PartsTell ss tables.now result }
 {
     let rows = tables.shapes.rows.as_slice();
-    if are_large_traits(rows, members, all) {
-        return Err(MergeRefusal::Limit(LimitKind::Traits));
-    }
     let Ok(events) = all_events(alloc, tables, walk, mixed, members) else {
         return Err(MergeRefusal::NoMemory);
     };

@@ -10,7 +10,7 @@ use Rattle.sm_merge.specs.Answers.{StatementsComeTo}
 use Rattle.sm_merge.specs.Stated.{Stated}
 use Rattle.sm_merge.specs.declared.effective.ShapeTraits.{ShapeTraits}
 use Rattle.sm_merge.specs.declared.firsts.NamedTarget.{NamedTarget}
-use Rattle.sm_merge.specs.declared.limit.TheConstants.{ALL_MEMBER_LIMIT, SHAPE_LIMIT}
+use Rattle.sm_merge.specs.declared.limit.TheConstants.{ALL_MEMBER_LIMIT, SHAPE_LIMIT, TRAIT_LIMIT}
 use Rattle.sm_merge.specs.declared.mixins.Contributing.{Contributing}
 use Rattle.sm_merge.specs.declared.refusal.MergeRefusal.{MergeRefusal}
 use Rattle.sm_merge.specs.declared.refusal.MergeRefusal.TheVariants.{Limit, NoMemory, Rejected}
@@ -22,7 +22,7 @@ use Rattle.sm_merge.specs.steps.Contributing.{AreWalkedTables}
 use Rattle.sm_merge.specs.steps.EffectiveTables.{AreEffectiveTables, AreMembersOf}
 use Rattle.sm_merge.specs.steps.Filling.{HasMixedMembers, IsFilled}
 use Rattle.sm_merge.specs.steps.Links.{At}
-use Rattle.sm_merge.specs.steps.Made.{HaveManyMembers, members_count, metadata_pairs, parted_shapes}
+use Rattle.sm_merge.specs.steps.Made.{HaveManyMembers, made_shapes, members_count, metadata_pairs, parted_shapes, shapes_size}
 use Rattle.sm_merge.specs.steps.MixedIn.{AreMixedIn}
 use Rattle.sm_merge.specs.steps.SoundStated.{AreSoundStated}
 
@@ -62,12 +62,13 @@ pub record AreNamedTables (ss : List Stated) (t : Tables) (walk : Walk) (mixed :
   pub few : SHAPE_LIMIT < length t.shapes.rows.items → ⊥
   pub short : HaveManyMembers members → ⊥
 
--- and with traits; nor are all members too many
+-- and with traits; nor are all members too many, nor traits too large
 pub record AreWholeTables (ss : List Stated) (t : Tables) (walk : Walk) (mixed : List (Vec Contributing)) (members : List (Vec NamedTarget))
     (all : List ShapeTraits) : Type 0 where
   pub names : AreNamedTables ss t walk mixed members
   pub effective : AreEffectiveTables ss t.shapes.rows.items members all
   pub fewer : ALL_MEMBER_LIMIT < members_count members → ⊥
+  pub small : TRAIT_LIMIT < shapes_size (made_shapes t.shapes.rows.items members all) → ⊥
 
 abbrev pub IsWithin : Walk → Tables → Type 0
 IsWithin walk t = (k v : ℕ) → At walk.order.items k v → v < length t.shapes.rows.items

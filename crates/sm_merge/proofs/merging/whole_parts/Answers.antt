@@ -1,23 +1,10 @@
-use Rattle.std.proofs.Common.{◌≡◌, ◌<◌, sym, subst, ◌∙◌, rules}
-use Rattle.std.proofs.lemmas.Bool.{true≢false}
+use Rattle.std.proofs.Common.{◌≡◌, subst, rules}
 use Rattle.sm_model.specs.EventView.{events_view}
 use Rattle.sm_merge.specs.Merged.{AreEventsOf}
-use Rattle.sm_merge.specs.declared.limit.TheConstants.{TRAIT_LIMIT}
-use Rattle.sm_merge.specs.steps.Made.{made_shapes, parted_shapes, shapes_size}
-use Rattle.sm_merge.proofs.MergeTold.{large_traits_told, none_of, told_from, whole_rejected, whole_tell}
+use Rattle.sm_merge.specs.steps.Made.{made_shapes, parted_shapes}
+use Rattle.sm_merge.proofs.MergeTold.{none_of, told_from, whole_rejected, whole_tell}
 use Rattle.sm_merge.proofs.PartsTold.{sound_traits}
 use Rattle.sm_merge.proofs.merging.whole_parts.Goals as goal
-
-pub are_large_traits-requires : goal.are_large_traits-requires
-are_large_traits-requires c =
-    let some = c.requires.some in
-    sound_traits some.0 c.args.tables.now c.args.members.now c.args.all.now some.1.effective
-
-pub returns-then-are_large_traits : goal.returns-then-are_large_traits
-returns-then-are_large_traits c = λ ss w.
-    large_traits_told ss c.args.tables.now c.args.walk.now c.args.mixed.now c.args.members.now c.args.all.now w
-    (subst (λ rows. TRAIT_LIMIT < shapes_size (made_shapes rows c.args.members.now c.args.all.now)) c.as_slice-rows.ensures.value
-    (c.are_large_traits.ensures.0 c.if-are_large_traits.true))
 
 pub all_events-requires-clause-ids : goal.all_events-requires-clause-ids
 all_events-requires-clause-ids c = c.requires.some.1.names.sound.tables.shapes.rows.rise
@@ -31,9 +18,6 @@ all_events-requires-clause-names c = c.requires.some.1.names.sound.tables.traits
 pub returns-then-not-is_empty : goal.returns-then-not-is_empty
 returns-then-not-is_empty c = λ ss w.
     whole_rejected ss c.args.tables.now c.args.walk.now c.args.mixed.now c.args.members.now c.args.all.now w
-    (λ past. true≢false (sym (c.are_large_traits.ensures.1
-    (subst (λ rows. TRAIT_LIMIT < shapes_size (made_shapes rows c.args.members.now c.args.all.now)) (sym c.as_slice-rows.ensures.value) past))
-    ∙ c.if-are_large_traits.false))
     c.in-Ok.events (c.in-Ok.ensures.told ss (told_from ss c.args.tables.now c.args.walk.now c.args.mixed.now c.args.members.now c.args.all.now w))
     c.in-Ok.ensures.errors (search rules)
 
@@ -45,9 +29,6 @@ shape_parts-requires c =
 pub returns-in-Ok-shape_parts : goal.returns-in-Ok-shape_parts
 returns-in-Ok-shape_parts c = λ ss w.
     whole_tell ss c.args.tables.now c.args.walk.now c.args.mixed.now c.args.members.now c.args.all.now w
-    (λ past. true≢false (sym (c.are_large_traits.ensures.1
-    (subst (λ rows. TRAIT_LIMIT < shapes_size (made_shapes rows c.args.members.now c.args.all.now)) (sym c.as_slice-rows.ensures.value) past))
-    ∙ c.if-are_large_traits.false))
     c.in-Ok-shape_parts.parts
     (subst (λ rows. parted_shapes rows c.in-Ok-shape_parts.parts.items ≡ made_shapes rows c.args.members.now c.args.all.now)
     c.as_slice-rows.ensures.value c.in-Ok-shape_parts.ensures)
