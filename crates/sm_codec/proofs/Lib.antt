@@ -65,3 +65,9 @@ pub mod KeptMoves
 pub mod StackTop
 pub mod FirstTakes
 pub mod EventMoves
+pub mod Sums
+pub mod ReadingNodes
+pub mod TreeCounts
+pub mod FrameCounts
+pub mod EventCounts
+pub mod Bounded

@@ -4,7 +4,7 @@ use Rattle.std.specs.Prelude.{ℕ, ◌+◌, ◌*◌, ◌≤◌, List, [], ◌∷
 use Rattle.sm_tree.specs.Node.{Node, Nodes, Members, tag, list, object, no_nodes, node, no_members, member}
 use Rattle.sm_tree.specs.Events.{NodeEvent}
 use Rattle.sm_tree.specs.Building.{Building, nothing, whole, within}
-use Rattle.sm_shapes.specs.Values.{Val, val_nodes}
+use Rattle.sm_shapes.specs.Values.{val_nodes, vals_nodes, entries_nodes, fields_nodes, vals_of, entries_of, fields_of}
 use Rattle.sm_shapes.specs.InOrder.{most_defaults}
 use Rattle.sm_shapes.specs.Places.{Place, root_place, member_place, entry_place, value_place}
 use Rattle.sm_codec.specs.Sorts.{Sort, simple, a_list, a_map, a_structure, a_union}
@@ -60,18 +60,21 @@ abbrev mutual
   members_count c no_members p = 0
   members_count c (member name n ms) p = member_count_by (member_at c p name) (λ q. tree_count c n q) + members_count c ms p
 
+-- the sum of what is counted of each
+abbrev pub total : {A : Type 0} → (A → ℕ) → List A → ℕ
+total count [] = 0
+total count (x ∷ xs) = count x + total count xs
+
 -- the same of the closed entries and pairs of a level
 abbrev pub each_count : Codec → List Node → Place → ℕ
-each_count c [] p = 0
-each_count c (n ∷ ns) p = tree_count c n p + each_count c ns p
+each_count c ns p = total (λ n. tree_count c n p) ns
 
 abbrev pub pair_count : Sort → Codec → Place → List ℕ × Node → ℕ
 pair_count a_map c p m = tree_count c m.1 (value_place c.table p)
 pair_count s c p m = member_count_by (member_at c p m.0) (λ q. tree_count c m.1 q)
 
 abbrev pub pairs_count : Codec → List (List ℕ × Node) → Place → ℕ
-pairs_count c [] p = 0
-pairs_count c (m ∷ ms) p = pair_count (sort_at c p) c p m + pairs_count c ms p
+pairs_count c ms p = total (pair_count (sort_at c p) c p) ms
 
 -- a level's closed trees, and the level itself
 abbrev pub level_count : Codec → Place × Level → ℕ
@@ -80,8 +83,7 @@ level_count c (p, object_level ms) = 1 + pairs_count c ms p
 level_count c (p, pair_level ms name ts) = 1 + pairs_count c ms p
 
 abbrev pub levels_count : Codec → List (Place × Level) → ℕ
-levels_count c [] = 0
-levels_count c (l ∷ ls) = level_count c l + levels_count c ls
+levels_count c ls = total (level_count c) ls
 
 -- the trees that have begun so far at a known place, the root among them, and aren't passed over
 abbrev pub known_trees : Codec → ℕ → Building → ℕ
@@ -90,25 +92,16 @@ known_trees c root (whole n) = tree_count c n (root_place root)
 known_trees c root (within ts inner outer) = levels_count c (kept_levels c root ts (levels_open (within ts inner outer)))
 
 -- the value nodes of a decoder
-abbrev pub items_nodes : List Val → ℕ
-items_nodes [] = 0
-items_nodes (v ∷ vs) = val_nodes v + items_nodes vs
-
-abbrev pub keyed_nodes : {A : Type 0} → List (A × Val) → ℕ
-keyed_nodes [] = 0
-keyed_nodes (e ∷ es) = val_nodes e.1 + keyed_nodes es
-
 abbrev pub frame_nodes : Frame → ℕ
-frame_nodes (structure_frame f) = keyed_nodes f.fields
-frame_nodes (union_frame f) = keyed_nodes f.fields
-frame_nodes (list_frame f) = items_nodes f.items
-frame_nodes (map_frame f) = keyed_nodes f.entries
+frame_nodes (structure_frame f) = fields_nodes (fields_of f.fields)
+frame_nodes (union_frame f) = fields_nodes (fields_of f.fields)
+frame_nodes (list_frame f) = vals_nodes (vals_of f.items)
+frame_nodes (map_frame f) = entries_nodes (entries_of f.entries)
 frame_nodes (tagged_frame s k) = 0
 frame_nodes (skip_frame depth report) = 0
 
 abbrev pub frames_nodes : List Frame → ℕ
-frames_nodes [] = 0
-frames_nodes (f ∷ fs) = frame_nodes f + frames_nodes fs
+frames_nodes fs = total frame_nodes fs
 
 abbrev pub outcome_nodes : Option Outcome → ℕ
 outcome_nodes None = 0
@@ -119,13 +112,17 @@ abbrev pub decoding_nodes : Decoding → ℕ
 decoding_nodes d = frames_nodes d.frames + outcome_nodes d.result
 
 -- The bound of what is kept. Each tree that is counted has an event of its own at a known place, the root's among them. And a frame for
--- each level that isn't passed over, and one more at most.
+-- each level that isn't passed over, and one more at most. A frame has one fault at most.
 pub record IsBounded (c : Codec) (es : List NodeEvent) (b : Building) (d : Decoding) : Type 0 where
   pub nodes : decoding_nodes d ≤ (1 + most_defaults c.table) * known_trees c d.shape b
   pub trees : known_trees c d.shape b ≤ length es
   pub frames : length d.frames ≤ length (kept_levels c d.shape (tags_outside b) (levels_open b)) + 1
   pub levels : length (kept_levels c d.shape (tags_outside b) (levels_open b)) ≤ length d.frames
+  pub around : length (kept_levels c d.shape (tags_outside b) (levels_open b)) ≤ length (levels_open b)
+
+-- whatever events a decoder stands for, by a codec in order
+abbrev pub StaysBounded : Decoding → Type 0
+StaysBounded d = (c : Codec) (es : List NodeEvent) → IsCodec c → (kept : Kept c es d) → IsBounded c es kept.building d
 
 abbrev pub KeptIsBounded : Type 0
-KeptIsBounded =
-    (c : Codec) (es : List NodeEvent) (d : Decoding) → IsCodec c → (kept : Kept c es d) → IsBounded c es kept.building d
+KeptIsBounded = (d : Decoding) → StaysBounded d

@@ -8,16 +8,18 @@ ghost use Rattle.sm_tree.specs.Streams.{Streams, MayTake, TakesOn};
 ghost use Rattle.sm_shapes.specs.InOrder.{Shaped, AreStored};
 ghost use Rattle.sm_shapes.specs.TableData.{shape_count};
 ghost use Rattle.sm_shapes.specs.TableView.{table_data};
+ghost use Rattle.sm_codec.specs.Bound.{StaysBounded};
 ghost use Rattle.sm_codec.specs.Codec.{Codec, codec_of};
 ghost use Rattle.sm_codec.specs.CodecLaws.{IsCodec};
 ghost use Rattle.sm_codec.specs.Kept.{Kept};
 ghost use Rattle.sm_codec.specs.DecodingView.{decoding_of, decodes_so_far, StartsEmpty, Finishes, IsWhole};
 
 mod closing;
+mod holding;
 mod leaf;
 
-use crate::Leaves;
 use crate::frames::{Frames, Outcome};
+use crate::{Leaves, laws};
 use sm_shapes::tables::Table;
 use sm_shapes::values::Value;
 use sm_shapes::{Fault, Patterns};
@@ -69,12 +71,14 @@ impl Decoder {
         requires stored { AreStored (table_data table.now).patterns (P.added patterns.old) }
         requires placed { MayTake (decodes_so_far (codec_of (table_data table.now) (L.convention leaves.now) P.test) self.old) (event_of event) }
         ensures kept { OnOk result (TakesOn (decodes_so_far (codec_of (table_data table.now) (L.convention leaves.now) P.test) self.old) (event_of event) (decodes_so_far (codec_of (table_data table.now) (L.convention leaves.now) P.test) self.new)) }
+        ensures bounded { StaysBounded (decoding_of self.new) }
         ensures shape { (decoding_of self.new).shape ≡ (decoding_of self.old).shape }
         ensures added { P.added patterns.new ≡ P.added patterns.old }
         ensures refused { P.refused patterns.new ≡ P.refused patterns.old }
         ensures refusals { P.refusals patterns.new ≡ P.refusals patterns.old }
     {
         leaves.laws();
+        laws::kept_is_bounded();
         match event {
             Event::Null => self.leaf(alloc, table, Tree::Null, leaves, patterns),
             Event::Bool(truth) => self.leaf(alloc, table, Tree::Bool(truth), leaves, patterns),

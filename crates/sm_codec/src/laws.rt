@@ -1,5 +1,6 @@
 // What the codec's definitions have to do with each other. These calls do nothing.
 ghost use Rattle.std.specs.Prelude.{Bool};
+ghost use Rattle.sm_codec.specs.Bound.{KeptIsBounded};
 ghost use Rattle.sm_codec.specs.CodecLaws.{OneValue, ValueOrFault, WrittenSpells};
 ghost use Rattle.sm_codec.specs.Convention.{IsConvention, WrittenLeafReads};
 ghost use Rattle.sm_codec.specs.FilledLaws.{FilledIsShaped};
@@ -71,4 +72,11 @@ pub fn cbor_leaves_written()
 /// A table that is in order and has no default set stays in order where its defaults are filled, and they pass their patterns.
 pub fn filled_is_shaped()
     ensures { FilledIsShaped }
+{}
+
+/// Whatever events a decoder stands for, by a codec in order: the values that it holds have at most one node for each tree that has begun at a
+/// place that isn't passed over, and the defaults of one structure with each; each such tree has an event of its own. It has a frame for each
+/// list and object that is open and isn't passed over, and one more at most; a frame has one fault at most.
+pub fn kept_is_bounded()
+    ensures { KeptIsBounded }
 {}

@@ -4,6 +4,7 @@
 
 mod carried;
 mod cbor_leaves;
+mod counting;
 mod decoder;
 mod encoding;
 mod events;

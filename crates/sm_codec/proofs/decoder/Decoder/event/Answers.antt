@@ -294,3 +294,42 @@ returns-in-EndObject-clause-kept g c =
     let e = decoding_of c.end-in-EndObject.new.self in
     took k d e c.args.event EndObject c.end-in-EndObject.result (EndedBy k.table k.test d.shape d.frames e) (e.shape ≡ d.shape) c.in-EndObject.is
     (λ by root. object_end_kept k d e c.laws.ensures c.requires.shaped root by) c.end-in-EndObject.ensures.ended c.end-in-EndObject.ensures.shape
+
+pub returns-in-Null-clause-bounded : goal.returns-in-Null-clause-bounded
+returns-in-Null-clause-bounded g c = c.kept_is_bounded.ensures _
+
+pub returns-in-Bool-clause-bounded : goal.returns-in-Bool-clause-bounded
+returns-in-Bool-clause-bounded g c = c.kept_is_bounded.ensures _
+
+pub returns-in-Int-clause-bounded : goal.returns-in-Int-clause-bounded
+returns-in-Int-clause-bounded g c = c.kept_is_bounded.ensures _
+
+pub returns-in-Number-clause-bounded : goal.returns-in-Number-clause-bounded
+returns-in-Number-clause-bounded g c = c.kept_is_bounded.ensures _
+
+pub returns-in-Text-clause-bounded : goal.returns-in-Text-clause-bounded
+returns-in-Text-clause-bounded g c = c.kept_is_bounded.ensures _
+
+pub returns-in-Bytes-clause-bounded : goal.returns-in-Bytes-clause-bounded
+returns-in-Bytes-clause-bounded g c = c.kept_is_bounded.ensures _
+
+pub returns-in-Opaque-clause-bounded : goal.returns-in-Opaque-clause-bounded
+returns-in-Opaque-clause-bounded g c = c.kept_is_bounded.ensures _
+
+pub returns-in-Tag-clause-bounded : goal.returns-in-Tag-clause-bounded
+returns-in-Tag-clause-bounded g c = c.kept_is_bounded.ensures _
+
+pub returns-in-StartList-clause-bounded : goal.returns-in-StartList-clause-bounded
+returns-in-StartList-clause-bounded g c = c.kept_is_bounded.ensures _
+
+pub returns-in-StartObject-clause-bounded : goal.returns-in-StartObject-clause-bounded
+returns-in-StartObject-clause-bounded g c = c.kept_is_bounded.ensures _
+
+pub returns-in-Key-clause-bounded : goal.returns-in-Key-clause-bounded
+returns-in-Key-clause-bounded g c = c.kept_is_bounded.ensures _
+
+pub returns-in-EndList-clause-bounded : goal.returns-in-EndList-clause-bounded
+returns-in-EndList-clause-bounded g c = c.kept_is_bounded.ensures _
+
+pub returns-in-EndObject-clause-bounded : goal.returns-in-EndObject-clause-bounded
+returns-in-EndObject-clause-bounded g c = c.kept_is_bounded.ensures _
