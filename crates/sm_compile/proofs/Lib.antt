@@ -2,3 +2,12 @@ pub mod RowsAlike
 pub mod OnePatterns
 pub mod OneWay
 pub mod OneTable
+mod LookedUp
+mod ReachedNumbers
+mod Differing
+mod NamesBehind
+mod SoundTests
+mod SoundShapes
+mod EmptyNodes
+mod TabledNumbers
+mod TabledShapes

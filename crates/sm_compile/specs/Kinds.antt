@@ -1,5 +1,5 @@
 -- The kinds of shapes in a table, and which kinds of shapes values have (Smithy 2.0, "Simple types", "Aggregate types").
-use Rattle.std.specs.Prelude.{◌&&◌, ℕ, Bool, not, true, false, List, []}
+use Rattle.std.specs.Prelude.{◌&&◌, ℕ, Bool, not, true, false, List, [], cond}
 use Rattle.sm_model.specs.Graphs.{ShapeEntry}
 use Rattle.sm_model.specs.declared.kind.Kind.{Kind}
 use Rattle.sm_model.specs.declared.kind.Kind.TheVariants as model
@@ -60,13 +60,16 @@ has_length model.List = true
 has_length model.Map = true
 has_length kind = false
 
--- the members at which values stand; those of enums name values
+-- at whose members values stand; the members of enums name values
+abbrev pub has_value_members : Kind → Bool
+has_value_members model.List = true
+has_value_members model.Map = true
+has_value_members model.Structure = true
+has_value_members model.Union = true
+has_value_members kind = false
+
 abbrev pub members_of_kind : Kind → List (List ℕ) → List (List ℕ)
-members_of_kind model.List ms = ms
-members_of_kind model.Map ms = ms
-members_of_kind model.Structure ms = ms
-members_of_kind model.Union ms = ms
-members_of_kind kind ms = []
+members_of_kind kind ms = cond (has_value_members kind) ms []
 
 abbrev pub value_members : ShapeEntry → List (List ℕ)
 value_members s = members_of_kind s.kind s.members

@@ -8,3 +8,4 @@ pub mod Compiled
 pub mod Served
 pub mod Answers
 pub mod Laws
+pub mod steps

@@ -2,6 +2,19 @@
 #![tactic(auto)]
 
 mod compiled;
+mod defaults;
+mod differ;
+mod enums;
+mod formed;
+mod kinds;
 pub mod laws;
+mod look;
+mod names;
+mod numbering;
+mod reach;
+mod seen;
+mod soundness;
+mod traits;
 
 pub use compiled::{CompileRefusal, OneShape, Served};
+pub use soundness::sound;
