@@ -1,5 +1,5 @@
 -- Texts and numbers of which none stands twice.
-use Rattle.std.proofs.Common.{◌≡◌, ◌⊎◌, inl, inr, ℕ, ℤ, Bool, true, false, ◌||◌, not, List, [], ◌∷◌, map, refl, sym, ap, ◌∙◌, subst}
+use Rattle.std.proofs.Common.{◌≡◌, inl, inr, ℕ, ℤ, Bool, true, false, not, List, [], ◌∷◌, map, refl, sym, ap, ◌∙◌}
 use Rattle.std.specs.Prelude.{◌↔◌}
 use denote.Ref.{Bor}
 use Rattle.sm_model.specs.Formed.{DifferInNames, StandsAmong}
@@ -7,7 +7,7 @@ use Rattle.sm_model.proofs.Sorting.{map_twice}
 use Rattle.sm_shapes.specs.Broken.{has_twice}
 use Rattle.sm_shapes.specs.Fitting.{AllUnlike, NoneIsLike}
 use Rattle.sm_shapes.specs.Names.{AllDiffer, NoneIs}
-use Rattle.sm_shapes.specs.Values.{Val, text_val, int_val}
+use Rattle.sm_shapes.specs.Values.{text_val, int_val}
 use Rattle.sm_shapes.proofs.SameVals.{unlike_where, where_unlike}
 use Rattle.sm_compile.specs.Sound.{AllNumbersDiffer, NoneIsNumber}
 use Rattle.sm_compile.specs.steps.Naming.{all_differ, all_numbers_differ, texts_of_all}

@@ -1,7 +1,7 @@
 -- Nodes without entries and without pairs.
-use Rattle.std.proofs.Common.{◌≡◌, ℕ, Bool, true, false, List, [], ◌∷◌, length, refl, sym, ap, ◌∙◌, subst, arith}
-use Rattle.std.specs.Prelude.{◌↔◌, cond}
-use Rattle.sm_tree.specs.Node.{Members, Nodes, list, members_of, nodes_of, object}
+use Rattle.std.proofs.Common.{◌≡◌, ℕ, Bool, true, false, List, [], ◌∷◌, length, refl, sym, ap, ◌∙◌, arith}
+use Rattle.std.specs.Prelude.{◌↔◌}
+use Rattle.sm_tree.specs.Node.{list, members_of, nodes_of, object}
 use Rattle.sm_tree.specs.View.{items_view, members_view, node_of, nodes_view, pairs_view}
 use Rattle.sm_tree.specs.declared.Items.{Items}
 use Rattle.sm_tree.specs.declared.Pairs.{Pairs}

@@ -1,16 +1,14 @@
 -- What look-ups tell of a number, told of its id.
-use Rattle.std.proofs.Common.{◌≡◌, ℕ, ◌<◌, Bool, true, false, List, [], ◌∷◌, map, Option, Some, None, refl, sym, ap, ◌∙◌, subst}
-use Rattle.std.specs.Prelude.{MatchOption, cond}
+use Rattle.std.proofs.Common.{◌≡◌, ℕ, true, false, List, [], Option, Some, None, refl, sym, ap, ◌∙◌, subst}
+use Rattle.std.specs.Prelude.{MatchOption}
 use Rattle.std.specs.FinMap as fin
 use Rattle.std.specs.Option.{option_map}
-use Rattle.std.specs.declared.alloc.Global.{Global}
 use Rattle.std.proofs.lemmas.Option.{none-some, same_Some}
 use denote.Ref.{Bor}
-use Rattle.sm_tree.specs.Node.{Node}
 use Rattle.sm_tree.specs.View.{node_of}
 use Rattle.sm_tree.specs.declared.Tree.{Tree}
 use Rattle.sm_model.specs.Graphs.{Entry, shape_entry, member_entry, GraphMaps, traits_in}
-use Rattle.sm_model.specs.GraphView.{At, HasKind, HasMembers, IsMemberAt, IsMemberEntry, IsShapeAt, IsShapeEntry, IsShapeNumber, Stands, Targets, entries_of, ids, is_member_entry, maps_of, target_of}
+use Rattle.sm_model.specs.GraphView.{At, HasKind, HasMembers, IsMemberAt, IsMemberEntry, IsShapeAt, IsShapeEntry, IsShapeNumber, Stands, Targets, is_member_entry, maps_of, target_of}
 use Rattle.sm_model.specs.Reaching.{id_of_number}
 use Rattle.sm_model.specs.declared.graph.Graph.{Graph}
 use Rattle.sm_model.specs.declared.kind.Kind.{Kind}
@@ -21,7 +19,7 @@ use Rattle.sm_model.proofs.Worklist.{apart}
 use Rattle.sm_compile.specs.Compiled.{members_in, members_under}
 use Rattle.sm_compile.specs.Kinds.{members_of_kind}
 use Rattle.sm_compile.specs.Sound.{trait_in, trait_of}
-use Rattle.sm_compile.specs.steps.Looked.{kind_in, kind_under, listed_in, listed_under, target_in, target_kind, target_under, kind_where}
+use Rattle.sm_compile.specs.steps.Looked.{kind_in, kind_under, listed_in, listed_under, target_in, target_under, kind_where}
 
 module _ (g : Graph) (k : ℕ) where
   -- what holds of each entry that may stand there holds of what the map has under the id

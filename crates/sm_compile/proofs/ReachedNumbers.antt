@@ -4,10 +4,10 @@ use Rattle.std.specs.Prelude.{◌↔◌, slice_get}
 use Rattle.std.specs.FinMap as fin
 use Rattle.std.specs.List.{Contains}
 use Rattle.std.proofs.lemmas.Option.{none-some, same_Some}
-use Rattle.sm_model.specs.Graphs.{Entry, shape_entry, member_entry, GraphMaps, ShapeEntry}
-use Rattle.sm_model.specs.GraphView.{AreShapeNumbers, IsShapeNumber, entries_of, ids, maps_of}
-use Rattle.sm_model.specs.Reaching.{AreFound, AreLedTo, AreMarks, Finds, IsLedTo, IsMarked, LeadsOn, id_of_number}
-use Rattle.sm_model.specs.Relations.{HasEntry, IsInGraph, IsRelated, SaysRelated}
+use Rattle.sm_model.specs.Graphs.{Entry, shape_entry, member_entry, GraphMaps}
+use Rattle.sm_model.specs.GraphView.{AreShapeNumbers, IsShapeNumber, entries_of, maps_of}
+use Rattle.sm_model.specs.Reaching.{AreLedTo, AreMarks, Finds, LeadsOn, id_of_number}
+use Rattle.sm_model.specs.Relations.{HasEntry, IsInGraph, SaysRelated}
 use Rattle.sm_model.specs.declared.graph.Graph.{Graph}
 use Rattle.sm_model.specs.declared.relation.Relation.TheVariants.{Member, Target}
 use Rattle.sm_model.proofs.GraphFacts.{entry_under, id_at}

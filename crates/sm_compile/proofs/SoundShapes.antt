@@ -1,5 +1,5 @@
 -- What the parts of `sound` tell of a shape by its number, put together.
-use Rattle.std.proofs.Common.{◌≡◌, ◌⊎◌, inl, inr, ℕ, ◌+◌, ◌<◌, Bool, true, false, ◌&&◌, List, [], ◌∷◌, ◌++◌, map, length, Option, Some, None, refl, sym, ap, ◌∙◌, subst, arith, IsTrue, append_assoc}
+use Rattle.std.proofs.Common.{◌≡◌, inl, inr, ℕ, ◌+◌, ◌<◌, Bool, true, false, List, [], ◌∷◌, ◌++◌, map, length, Option, Some, None, refl, sym, ap, ◌∙◌, subst, arith}
 use Rattle.std.specs.Prelude.{◌↔◌}
 use Rattle.std.specs.List.{Contains, list_all}
 use Rattle.std.specs.FinMap as fin
@@ -26,7 +26,7 @@ use Rattle.sm_compile.specs.steps.Looked.{IsReachedFrom, kind_in, kind_under, li
 use Rattle.sm_compile.specs.declared.names.Names.{Names}
 use Rattle.sm_compile.specs.steps.Naming.{AreNames, texts_of_all}
 use Rattle.sm_compile.specs.steps.Soundness.{AreSoundBelow, AreSoundNames, IsSoundAt}
-use Rattle.sm_compile.specs.steps.Tests.{are_formed, has_its_values, has_parts, has_plain_parts, has_text_key, is_sound_member}
+use Rattle.sm_compile.specs.steps.Tests.{are_formed, has_parts, has_plain_parts, is_sound_member}
 use Rattle.sm_compile.proofs.SoundTests.{both_of, first_of, formed_along, formed_told, members_told, second_of, text_key_told, values_told}
 
 -- names by their ids
@@ -185,8 +185,8 @@ module _ (g : Graph) where
       subst (λ j. IsSoundShape (maps_of g) j s) x.2 (here s (subst (λ j. HasEntry (maps_of g) j (shape_entry s)) (sym x.2) has))
   sound_told root marks false lt are told value = λ sound.
       apart (told.1 (λ k less marked s has.
-          let r = ((are.marked k).0 marked).1 in
-          sound value (id_of_number g k) s (subst (λ j. IsReached (maps_of g) (id_of_number g j) (id_of_number g k)) (only r.0 r.1) r.2) has))
+      let r = ((are.marked k).0 marked).1 in
+      sound value (id_of_number g k) s (subst (λ j. IsReached (maps_of g) (id_of_number g j) (id_of_number g k)) (only r.0 r.1) r.2) has))
     where
       only : (r : ℕ) → Contains (root ∷ []) r → r ≡ root
       only r h = elim (cons_cases root [] r h) [ inl is ↦ sym is | inr none ↦ absurd (omega (arith, none.1)) ]

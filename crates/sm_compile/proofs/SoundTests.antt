@@ -1,34 +1,25 @@
 -- A shape is in order exactly where the tests pass and its members' names are in order.
-use Rattle.std.proofs.Common.{◌≡◌, ◌⊎◌, inl, inr, ℕ, suc, ℤ, ◌<◌, ◌-◌, ◌^◌, Bool, true, false, ◌&&◌, not, List, [], ◌∷◌, ◌++◌, map, length, Option, Some, None, refl, sym, ap, ◌∙◌, subst, arith, IsTrue}
-use Rattle.std.specs.Prelude.{◌↔◌, FitsSigned, cond, pos, negsuc, int_le}
+use Rattle.std.proofs.Common.{◌≡◌, inl, inr, ℕ, suc, ℤ, Bool, true, false, ◌&&◌, List, [], ◌∷◌, length, Option, Some, None, refl, sym, ap, ◌∙◌, subst, arith}
+use Rattle.std.specs.Prelude.{◌↔◌, FitsSigned, pos, negsuc}
 use Rattle.std.specs.Int.{w32}
 use Rattle.std.specs.List.{Contains, list_all}
 use Rattle.std.specs.FinMap as fin
 use Rattle.std.specs.Str.{bytes_eq}
-use Rattle.std.proofs.lemmas.Bool.Decides.{nat_tests, Decides-ltb}
-use Rattle.std.proofs.lemmas.Option.{none-some, same_Some}
+use Rattle.std.proofs.lemmas.Bool.Decides.{nat_tests}
 use Rattle.sm_tree.specs.Node.{Node, null, bool, int, number, text, bytes, tag, opaque, list, object}
-use Rattle.sm_tree.specs.Parts.{text_in}
-use Rattle.sm_model.specs.Formed.{HaveForm}
-use Rattle.sm_model.specs.Graphs.{Entry, shape_entry, member_entry, GraphMaps, ShapeEntry, MemberEntry, member_id, NodeMap}
-use Rattle.sm_model.specs.GraphView.{maps_of}
-use Rattle.sm_model.specs.Kinds.{member_form}
+use Rattle.sm_model.specs.Graphs.{Entry, shape_entry, member_entry, GraphMaps, MemberEntry}
 use Rattle.sm_model.specs.PreludeShapes.{unit_id}
-use Rattle.sm_model.specs.Reaching.{id_of_number}
-use Rattle.sm_model.specs.Relations.{HasEntry}
-use Rattle.sm_model.specs.declared.graph.Graph.{Graph}
 use Rattle.sm_model.specs.declared.kind.Kind.{Kind}
 use Rattle.sm_model.specs.declared.kind.Kind.TheVariants.{Blob, Boolean, Text, Enum, Byte, Short, Integer, IntEnum, Long, Float, Double, BigInteger, BigDecimal, Timestamp, Document, List as list_kind, Map, Structure, Union, Service, Operation, Resource}
 use Rattle.sm_model.proofs.LinkedEntries.{cons_cases, cons_here}
 use Rattle.sm_model.proofs.Worklist.{apart}
-use Rattle.sm_shapes.specs.Names.{AllDiffer}
-use Rattle.sm_compile.specs.Kinds.{is_text_kind, may_target}
-use Rattle.sm_compile.specs.Sound.{AreSoundMembers, HasEnumNumbers, HasEnumTexts, HasItsValues, HasNumber, HasText, HasTextKey, IsSoundMember, IsSoundShape, TargetsText, enum_numbers, enum_texts, json_name_of, trait_in, trait_of}
+use Rattle.sm_compile.specs.Kinds.{may_target}
+use Rattle.sm_compile.specs.Sound.{AreSoundMembers, HasEnumNumbers, HasEnumTexts, HasItsValues, HasNumber, HasText, HasTextKey, IsSoundMember, TargetsText, enum_numbers, enum_texts, trait_in, trait_of}
 use Rattle.sm_compile.specs.TraitIds.{required_id, sparse_id, unique_items_id, length_id, range_id, pattern_id, timestamp_format_id, json_name_id, enum_value_id}
-use Rattle.sm_compile.specs.TraitNodes.{AreFormedTraits, TraitsSeen, are_lengths, are_ordered, are_whole_bounds, is_enum_value, is_object, is_range, is_text, is_timestamp_format, number_in, number_of, own_traits, text_of, where_there}
-use Rattle.sm_compile.specs.steps.Looked.{is_unit, kind_in, kind_under, kind_where, listed_in, listed_under, target_in, target_kind, target_under, targets_unit}
+use Rattle.sm_compile.specs.TraitNodes.{AreFormedTraits, TraitsSeen, are_lengths, are_ordered, are_whole_bounds, is_object, is_range, is_text, is_timestamp_format, number_of, own_traits, text_of, where_there}
+use Rattle.sm_compile.specs.steps.Looked.{is_unit, kind_in, kind_where, target_in, target_kind}
 use Rattle.sm_compile.specs.steps.Naming.{all_differ, all_numbers_differ}
-use Rattle.sm_compile.specs.steps.Tests.{are_annotations, are_formed, are_texts, enum_number, enum_text, fits_word, has_enum_numbers, has_enum_texts, has_its_values, has_parts, has_plain_parts, has_text_key, is_length, is_range_seen, is_some_member, is_some_number, is_some_text, is_sound_member, is_sound_target, is_text_where}
+use Rattle.sm_compile.specs.steps.Tests.{are_annotations, are_formed, are_texts, enum_number, enum_text, fits_word, has_enum_numbers, has_enum_texts, has_its_values, has_text_key, is_length, is_range_seen, is_some_member, is_some_number, is_some_text, is_sound_member, is_sound_target, is_text_where}
 use Rattle.sm_compile.proofs.Differing.{differ_told, numbers_told}
 
 pub first_of : (a b : Bool) → (a && b) ≡ true → a ≡ true

@@ -1,5 +1,5 @@
 -- The shapes of a table are exactly those of its set that have values, each once, in the order of their ids.
-use Rattle.std.proofs.Common.{◌≡◌, ◌⊎◌, inl, inr, ℕ, zero, suc, ◌<◌, ◌≤◌, Bool, true, false, ◌&&◌, cond, List, [], ◌∷◌, ◌++◌, map, length, get_or, Option, Some, None, refl, sym, ap, ◌∙◌, subst, arith}
+use Rattle.std.proofs.Common.{◌≡◌, inl, inr, ℕ, zero, suc, ◌<◌, ◌≤◌, Bool, true, false, List, [], ◌∷◌, ◌++◌, map, length, get_or, Option, Some, None, refl, sym, ap, ◌∙◌, subst, arith}
 use Rattle.std.specs.Prelude.{◌↔◌}
 use Rattle.std.specs.List.{AllByRecursion, Contains}
 use Rattle.std.specs.List.Sorted.{IsStrictlySortedBy}
@@ -19,7 +19,7 @@ use Rattle.sm_model.proofs.LinkNumbers.{stands_at}
 use Rattle.sm_model.proofs.NumberedIds.{number_of}
 use Rattle.sm_model.proofs.OneRising.{contains_either, contains_head, contains_behind, contains_none}
 use Rattle.sm_model.proofs.Searching.{and_left, keys_rise}
-use Rattle.sm_model.proofs.Worklist.{apart, marked_within}
+use Rattle.sm_model.proofs.Worklist.{apart}
 use Rattle.sm_compile.specs.Compiled.{IsTabled}
 use Rattle.sm_compile.specs.Sound.{IsValueShape}
 use Rattle.sm_compile.specs.steps.Looked.{IsReachedFrom, kind_in, kind_under}

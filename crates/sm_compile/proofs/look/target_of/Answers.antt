@@ -1,9 +1,6 @@
-use Rattle.std.proofs.Common.{◌≡◌, ℕ, None, Some, Option, ap, subst, sym, ◌∙◌}
+use Rattle.std.proofs.Common.{◌≡◌, subst, sym, ◌∙◌}
 use Rattle.std.proofs.lemmas.Option.{none-some}
-use Rattle.std.specs.Prelude.{MatchOption}
-use Rattle.std.specs.FinMap as fin
-use Rattle.sm_model.specs.GraphView.{At, IsShapeNumber, is_member_entry, maps_of, target_of, Stands}
-use Rattle.sm_model.specs.Reaching.{id_of_number}
+use Rattle.sm_model.specs.GraphView.{At, is_member_entry}
 use Rattle.sm_compile.proofs.LookedUp.{is_member, no_target, target_told}
 use Rattle.sm_compile.proofs.look.target_of.Goals as goal
 

@@ -1,5 +1,4 @@
-use Rattle.std.proofs.Common.{◌≡◌, Some, sym, subst, ◌∙◌}
-use Rattle.std.specs.Prelude.{◌↔◌}
+use Rattle.std.proofs.Common.{sym, ◌∙◌}
 use Rattle.sm_model.proofs.Worklist.{apart}
 use Rattle.sm_compile.proofs.SoundShapes.{no_value, value_told}
 use Rattle.sm_compile.proofs.soundness.is_value_shape.Goals as goal

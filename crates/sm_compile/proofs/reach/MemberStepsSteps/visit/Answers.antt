@@ -1,4 +1,4 @@
-use Rattle.std.proofs.Common.{◌≡◌, ℕ, ◌<◌, subst, sym}
+use Rattle.std.proofs.Common.{◌≡◌, ◌<◌, subst, sym}
 use Rattle.std.specs.List.{Contains}
 use Rattle.std.proofs.lemmas.Result.{on_ok_weaker}
 use Rattle.sm_model.proofs.Worklist.{finds_same}
