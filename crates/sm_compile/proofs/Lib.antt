@@ -11,3 +11,4 @@ mod SoundShapes
 mod EmptyNodes
 mod TabledNumbers
 mod TabledShapes
+mod TabledMembers
