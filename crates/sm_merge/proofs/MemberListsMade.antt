@@ -7,14 +7,17 @@ use Rattle.std.specs.List.{cons_option}
 use Rattle.std.specs.Option.{unwrap_or}
 use Rattle.std.specs.FinMap.Entries.{find}
 use Rattle.std.proofs.lemmas.List.Elements.{filter_map-append}
+use Rattle.std.proofs.lemmas.Option.{get_or_from_slice_get}
 use Rattle.sm_model.specs.Graphs.{text_cmp}
 use Rattle.sm_merge.specs.steps.EffectiveTables.{by_members}
 use Rattle.sm_merge.specs.steps.Filling.{AreFirstRows, FoldedRows, folded_rows, last_first}
 use Rattle.sm_merge.specs.steps.Groups.{AreGroupsOf, all_under, if_under}
+use Rattle.sm_merge.specs.steps.Links.{At}
 use Rattle.sm_merge.specs.steps.MemberLists.{AreMemberTraits, ComeToFirsts, joined_rows, rows_under}
 use Rattle.sm_merge.specs.declared.effective.MemberTraits.{MemberTraits}
 use Rattle.sm_merge.specs.declared.effective.NamedFolded.{NamedFolded}
 use Rattle.sm_merge.specs.declared.mixins.Contributing.{Contributing}
+use Rattle.sm_merge.proofs.Ats.{at_within}
 use Rattle.sm_merge.proofs.TablesMade.{table_of}
 
 -- a piece is put, and then the rest
@@ -25,11 +28,11 @@ piece_step before after piece rest whole put step =
 
 -- the mixin before the others is put behind them
 pub last_step : (f : Contributing → FoldedRows) (start before after : FoldedRows) (mixed : List Contributing) (i j : ℕ) (c : Contributing)
-    → j ≡ i + 1 → i < length mixed → c ≡ get_or mixed i c → before ≡ start ++ last_first f (drop j mixed) → after ≡ before ++ f c
+    → j ≡ i + 1 → At mixed i c → before ≡ start ++ last_first f (drop j mixed) → after ≡ before ++ f c
     → after ≡ start ++ last_first f (drop i mixed)
-last_step f start before after mixed i j c next small is was put =
+last_step f start before after mixed i j c next there was put =
     put ∙ ap (λ l. l ++ f c) was ∙ append_assoc start (last_first f (drop j mixed)) (f c)
-    ∙ ap (λ l. start ++ l) (sym (parts mixed i j next small is))
+    ∙ ap (λ l. start ++ l) (sym (parts mixed i j next (at_within mixed i c there) (sym (get_or_from_slice_get mixed i c c there))))
   where
     parts : (mixed : List Contributing) (i j : ℕ) → j ≡ i + 1 → i < length mixed → c ≡ get_or mixed i c
         → last_first f (drop i mixed) ≡ last_first f (drop j mixed) ++ f c

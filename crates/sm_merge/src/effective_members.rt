@@ -11,6 +11,7 @@ ghost use Rattle.sm_merge.specs.steps.Tables.{places_in};
 
 use crate::effective::{MemberTraits, NamedFolded, ShapeTraits};
 use crate::effective_rows::{first_rows, given_rows, kept_rows};
+use crate::effective_traits::mixin_entry;
 use crate::firsts::NamedTarget;
 use crate::groups::{Group, by_key};
 use crate::look::traits_at;
@@ -72,8 +73,8 @@ fn put_mixed<'a>(
     let mut left = mixed.len();
     while left > 0 {
         left -= 1;
-        let mixin = mixed[left];
-        put_copies(alloc, all[mixin.number].members.as_slice(), lists)?;
+        let entry = mixin_entry(mixed, all, left);
+        put_copies(alloc, entry.members.as_slice(), lists)?;
     }
     Ok(())
 }

@@ -1,5 +1,5 @@
 // The traits of a shape: what is given directly, else what the last mixin has that has it.
-ghost use Rattle.std.specs.Prelude.{◌≡◌, ◌∷◌, ◌++◌, ◌||◌, [], length, not, IfOk, OnOk};
+ghost use Rattle.std.specs.Prelude.{◌≡◌, ◌<◌, ◌∷◌, ◌++◌, ◌||◌, [], length, not, IfOk, OnOk};
 ghost use Rattle.std.specs.List.{filter};
 ghost use Rattle.std.specs.FinMap as fin;
 ghost use Rattle.std.specs.Str.{bytes_eq};
@@ -9,6 +9,7 @@ ghost use Rattle.sm_model.specs.steps.Rising.{Rise};
 ghost use Rattle.sm_merge.specs.Mixins.{is_copied, mixin_trait};
 ghost use Rattle.sm_merge.specs.steps.Filling.{AreFirstRows, copied_at, copies_by, folded_rows, last_first};
 ghost use Rattle.sm_merge.specs.steps.Known.{has_text};
+ghost use Rattle.sm_merge.specs.steps.MemberLists.{IsEntryOf};
 ghost use Rattle.sm_merge.specs.steps.MixedIn.{AreBelow};
 ghost use Rattle.sm_merge.specs.steps.Tables.{named_view, names_in};
 
@@ -49,10 +50,24 @@ fn put_copied<'a>(
     let mut left = mixed.len();
     while left > 0 {
         left -= 1;
-        let mixin = mixed[left];
-        rows.extend_from_slice(all[mixin.number].copied.as_slice())?;
+        let entry = mixin_entry(mixed, all, left);
+        rows.extend_from_slice(entry.copied.as_slice())?;
     }
     Ok(())
+}
+
+/// The traits of the mixin at a place.
+pub(crate) fn mixin_entry<'t, 'a>(
+    mixed: &[Contributing<'_>],
+    all: &'t [ShapeTraits<'a>],
+    place: usize,
+) -> &'t ShapeTraits<'a>
+    requires below { AreBelow (length all.now) mixed.now }
+    requires inside { place < length mixed.now }
+    ensures { IsEntryOf mixed.now all.now place result.now }
+{
+    let mixin = mixed[place];
+    &all[mixin.number]
 }
 
 /// Those of a shape's traits that shapes get which mix it in, by what is given at it; none of a shape that is no mixin.

@@ -6,9 +6,18 @@ use Rattle.sm_model.specs.steps.Rising.{Rise}
 use Rattle.sm_merge.specs.steps.EffectiveTables.{by_members, traits_of_member}
 use Rattle.sm_merge.specs.steps.Filling.{AreFirstRows, FoldedRows, folded_rows}
 use Rattle.sm_merge.specs.steps.Groups.{all_under}
+use Rattle.sm_merge.specs.steps.Links.{At}
 use Rattle.sm_merge.specs.steps.Tables.{ComeToRows}
 use Rattle.sm_merge.specs.declared.effective.MemberTraits.{MemberTraits}
 use Rattle.sm_merge.specs.declared.effective.NamedFolded.{NamedFolded}
+use Rattle.sm_merge.specs.declared.effective.ShapeTraits.{ShapeTraits}
+use Rattle.sm_merge.specs.declared.mixins.Contributing.{Contributing}
+
+-- the traits of the mixin at a place
+pub record IsEntryOf (mixed : List Contributing) (all : List ShapeTraits) (place : ℕ) (t : ShapeTraits) : Type 0 where
+  pub mixin : Contributing
+  pub there : At mixed place mixin
+  pub entry : At all mixin.number t
 
 abbrev pub joined_rows : List (Vec NamedFolded) → FoldedRows
 joined_rows lists = flat_map (λ rows. folded_rows rows.items) lists
