@@ -71,3 +71,5 @@ pub mod TreeCounts
 pub mod FrameCounts
 pub mod EventCounts
 pub mod Bounded
+pub mod Walked
+pub mod WalkedWhole

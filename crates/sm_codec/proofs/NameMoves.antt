@@ -28,7 +28,7 @@ silence_is c None fs = refl
 silence_is c (Some k) fs = refl
 
 module _ (c : Codec) (p : Place) (ms : List (List ℕ × Node)) (name : List ℕ) where
-  abbrev Named : Bool → Frame → Type 0
+  abbrev pub Named : Bool → Frame → Type 0
   Named known g =
       FrameHolds c p (pair_level ms name []) g
       × ((fs : List Frame) → with_silence known fs ≡ due_frames c (behind_name (sort_at c p) c p name) ++ fs)
@@ -39,7 +39,7 @@ module _ (c : Codec) (p : Place) (ms : List (List ℕ × Node)) (name : List ℕ
       ap (λ b. with_silence b fs) is ∙ silence_is c o fs ∙ ap (λ due. due_frames c due ++ fs) (sym at)
       ∙ ap (λ x. due_frames c (behind_name x c p name) ++ fs) (sym sort)
 
-  named_by : (known : Bool) (f g : Frame) → FrameHolds c p (object_level ms) f → FrameNames c.table c.convention name known f g → Named known g
+  pub named_by : (known : Bool) (f g : Frame) → FrameHolds c p (object_level ms) f → FrameNames c.table c.convention name known f g → Named known g
   named_by known (structure_frame f) g h is =
       let named : IsNamed (member_at c p name) f is.0 = subst (λ s. IsNamed (member_named c.table c.convention s name) f is.0) h.1.shape is.2 in (
         subst (FrameHolds c p (pair_level ms name [])) (sym is.1) (name_held c p (named_children_of c ms) name f is.0 named h),
@@ -58,7 +58,7 @@ module _ (c : Codec) (p : Place) (ms : List (List ℕ × Node)) (name : List ℕ
   named_by known (tagged_frame s k) g h is = absurd is
   named_by known (skip_frame depth report) g h is = absurd h
 
-  can_name : (f : Frame) → Shaped c.table → InTable c.table p → FrameHolds c p (object_level ms) f → CanName c.table f
+  pub can_name : (f : Frame) → Shaped c.table → InTable c.table p → FrameHolds c p (object_level ms) f → CanName c.table f
   can_name (structure_frame f) shaped inside h = subst (λ n. n < shape_count c.table) (sym h.1.shape) (shape_in c.table p shaped inside)
   can_name (union_frame f) shaped inside h = subst (λ n. n < shape_count c.table) (sym h.1.shape) (shape_in c.table p shaped inside)
   can_name (map_frame f) shaped inside h = tt

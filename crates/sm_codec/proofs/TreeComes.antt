@@ -102,7 +102,7 @@ null_due c (due_tagged p x k) n laws h = absurd cc
 null_due c (due_passed depth report) n laws h = absurd cc
 null_due c due_nowhere n laws h = absurd cc
 
-root_is : (c : Codec) (due : Due) (n : Node) (x : Arrival) → IsConvention c.convention
+pub root_is : (c : Codec) (due : Due) (n : Node) (x : Arrival) → IsConvention c.convention
     → IsArrival (null_where due n) (read_where c due n) x → IsOutcome (read_where c due n) (root_outcome x)
 root_is c due n null_comes laws h = null_due c due n laws h
 root_is c due n (value_comes v) laws h = subst (λ r. IsOutcome r (good v)) (sym h.1) refl

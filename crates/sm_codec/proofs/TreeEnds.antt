@@ -56,7 +56,7 @@ none_due c p (in_list ns (t ∷ ts)) h = let no : t ∷ ts ≡ [] = h in absurd 
 none_due c p (in_object ms) h = refl
 none_due c p (in_pair ms name ts) h = absurd h
 
-not_null : (i : Inner) → is_null (ended i) ≡ false
+pub not_null : (i : Inner) → is_null (ended i) ≡ false
 not_null (in_list ns ts) = refl
 not_null (in_object ms) = refl
 not_null (in_pair ms name ts) = refl
@@ -95,7 +95,7 @@ module _ (c : Codec) (p : Place) (shaped : Shaped c.table) (inside : InTable c.t
   abbrev OutcomeOf : Inner → Frame → Type 0
   OutcomeOf i f = IsOutcome (reading c (ended i) p) (frame_end c.table p f)
 
-  outcome_by : (i : Inner) (f : Frame) → MayEnd i → FrameHolds c p (inner_level i) f → OutcomeOf i f
+  pub outcome_by : (i : Inner) (f : Frame) → MayEnd i → FrameHolds c p (inner_level i) f → OutcomeOf i f
   outcome_by (in_list ns ts) (list_frame f) may h =
       let read : reading c (ended (in_list ns ts)) p ≡ list_by a_list c p (list (nodes_of ns)) (children_of c ns) =
       ap (λ s. list_by s c p (list (nodes_of ns)) (children c (nodes_of ns))) h.sort
@@ -127,7 +127,7 @@ module _ (c : Codec) (p : Place) (shaped : Shaped c.table) (inside : InTable c.t
   outcome_by (in_object ms) (skip_frame depth report) may h = absurd h
   outcome_by (in_pair ms name ts) f may h = absurd may
 
-  end_able : (i : Inner) (f : Frame) → MayEnd i → FrameHolds c p (inner_level i) f → CanEnd c.table f
+  pub end_able : (i : Inner) (f : Frame) → MayEnd i → FrameHolds c p (inner_level i) f → CanEnd c.table f
   end_able (in_list ns ts) (list_frame f) may h = subst (λ n. n < shape_count c.table) (sym h.shape) (shape_in c.table p shaped inside)
   end_able (in_list ns ts) (structure_frame f) may h = absurd h
   end_able (in_list ns ts) (union_frame f) may h = absurd h
@@ -146,7 +146,7 @@ module _ (c : Codec) (p : Place) (shaped : Shaped c.table) (inside : InTable c.t
   end_able (in_pair ms name ts) f may h = absurd may
 
 -- by the frame that stands first
-first_ends : (c : Codec) (s : ℕ) (f : Frame) (fs : List Frame) → CanEnd c.table f → InTable c.table (place_among c.table s fs)
+pub first_ends : (c : Codec) (s : ℕ) (f : Frame) (fs : List Frame) → CanEnd c.table f → InTable c.table (place_among c.table s fs)
     → FirstCanTake c.table fs → FirstCanEnd c.table s (f ∷ fs)
 first_ends c s (structure_frame f) fs can inside below = (can, inside, below)
 first_ends c s (union_frame f) fs can inside below = (can, inside, below)
@@ -155,7 +155,7 @@ first_ends c s (map_frame f) fs can inside below = (can, inside, below)
 first_ends c s (tagged_frame n k) fs can inside below = absurd can
 first_ends c s (skip_frame depth report) fs can inside below = absurd can
 
-taken_end : (c : Codec) (s : ℕ) (f : Frame) (fs : List Frame) (e : Decoding) → CanEnd c.table f → EndedBy c.table c.test s (f ∷ fs) e
+pub taken_end : (c : Codec) (s : ℕ) (f : Frame) (fs : List Frame) (e : Decoding) → CanEnd c.table f → EndedBy c.table c.test s (f ∷ fs) e
     → TakenBy c.table c.test (comes (frame_end c.table (place_among c.table s fs) f)) fs e
 taken_end c s (structure_frame f) fs e can h = h
 taken_end c s (union_frame f) fs e can h = h

@@ -67,7 +67,7 @@ map_tells c p name ts s e =
     subst (λ x. Tells (behind_tags c (behind_name x c p name) ts)) (sym e) (tells_tags c (due_at (value_place c.table p)) ts tt)
 
 -- the frame of the level stays as it is
-frame_passes : (c : Codec) (p : Place) (l : Level) (n : Node) (f : Frame) → AwaitsTree l → (Tells (due_within c (opened_at p) l) → ⊥)
+pub frame_passes : (c : Codec) (p : Place) (l : Level) (n : Node) (f : Frame) → AwaitsTree l → (Tells (due_within c (opened_at p) l) → ⊥)
     → FrameHolds c p l f → FrameHolds c p (level_with n l) f
 frame_passes c p (list_level ns us) n f awaits quiet h = absurd (quiet (tells_tags c (due_at (entry_place c.table p)) us tt))
 frame_passes c p (object_level ms) n f awaits quiet h = absurd awaits
@@ -80,7 +80,7 @@ frame_passes c p (pair_level ms name us) n (list_frame f) awaits quiet h = absur
 frame_passes c p (pair_level ms name us) n (tagged_frame s k) awaits quiet h = absurd h
 frame_passes c p (pair_level ms name us) n (skip_frame depth report) awaits quiet h = absurd h
 
-quiet_due : (due : Due) (depth : ℕ) → due ≡ due_passed depth None → Tells due → ⊥
+pub quiet_due : (due : Due) (depth : ℕ) → due ≡ due_passed depth None → Tells due → ⊥
 quiet_due due depth e h = subst Tells e h
 
 shallow_due : (due : Due) (depth : ℕ) (report : Option FaultKind) → due ≡ due_passed (suc depth) report → IsShallow due → ⊥

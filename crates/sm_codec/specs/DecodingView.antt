@@ -5,7 +5,7 @@ use Rattle.sm_tree.specs.Node.{Node}
 use Rattle.sm_tree.specs.Events.{NodeEvent}
 use Rattle.sm_tree.specs.Streams.{StandsFor, Streams}
 use Rattle.sm_shapes.specs.InOrder.{Shaped, AreStored}
-use Rattle.sm_shapes.specs.Places.{root_place}
+use Rattle.sm_shapes.specs.Places.{Place, root_place}
 use Rattle.sm_shapes.specs.TableData.{TableData}
 use Rattle.sm_shapes.specs.ValueView.{val_of}
 use Rattle.sm_shapes.specs.declared.values.Value.{Value}
@@ -35,6 +35,12 @@ abbrev pub Finishes : Codec → ℕ → Node → Result Value Refusal → Type 0
 Finishes c shape n (Ok v) = Decodes c (root_place shape) n (Ok (val_of v))
 Finishes c shape n (Err (refused f)) = Decodes c (root_place shape) n (Err (fault_at f))
 Finishes c shape n (Err NoMemory) = ⊥
+
+-- what decoding a whole tree answers: where memory is refused, nothing is said
+abbrev pub DecodesTree : Codec → Place → Node → Result Value Refusal → Type 0
+DecodesTree c p n (Ok v) = Decodes c p n (Ok (val_of v))
+DecodesTree c p n (Err (refused f)) = Decodes c p n (Err (fault_at f))
+DecodesTree c p n (Err NoMemory) = Unit {0}
 
 -- it has taken the whole stream of some tree
 abbrev pub IsWhole : decoding.Decoding → Type 0

@@ -23,4 +23,5 @@ pub mod FrameView
 pub mod MapView
 pub mod StackView
 pub mod DecodingView
+pub mod OpeningView
 pub mod steps

@@ -11,3 +11,4 @@ pub mod OpeningSteps
 pub mod UnionSteps
 pub mod MapSteps
 pub mod Filling
+pub mod WalkSteps

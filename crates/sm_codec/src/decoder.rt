@@ -1,6 +1,6 @@
 // Values from the events of a tree, as they come. The decoder holds a frame for each list and object that is open and isn't passed over,
 // and no tree.
-ghost use Rattle.std.specs.Prelude.{◌≡◌, ◌<◌, [], List, IfOk, OnOk};
+ghost use Rattle.std.specs.Prelude.{◌≡◌, ◌<◌, [], List, None, IfOk, OnOk};
 ghost use Rattle.sm_tree.specs.Events.{NodeEvent};
 ghost use Rattle.sm_tree.specs.EventView.{event_of};
 ghost use Rattle.sm_tree.specs.Node.{Node};
@@ -17,6 +17,7 @@ ghost use Rattle.sm_codec.specs.DecodingView.{decoding_of, decodes_so_far, Start
 mod closing;
 mod holding;
 mod leaf;
+mod walking;
 
 use crate::frames::{Frames, Outcome};
 use crate::{Leaves, laws};
@@ -51,11 +52,18 @@ impl Decoder {
         ensures shape { IfOk result (λ decoder. (decoding_of decoder).shape ≡ shape) }
     {
         let _table = table;
-        Ok(Decoder {
+        Ok(Decoder::new(alloc, shape))
+    }
+
+    // One that has taken nothing. No memory.
+    pub(crate) fn new(alloc: Global, shape: u32) -> Decoder
+        ensures { decoding_of result ≡ record { shape = shape; frames = []; result = None } }
+    {
+        Decoder {
             shape,
             frames: Frames::new(alloc),
             result: None,
-        })
+        }
     }
 
     /// Takes the next event of the tree. With it, the events so far must begin a tree's. The store isn't changed.

@@ -15,6 +15,7 @@ mod unions;
 pub(crate) use faults::fault_here;
 pub(crate) use keys::{Key, KeyFrame};
 pub(crate) use leaf::leaf_arrives;
+pub(crate) use opening::{list_at, object_at};
 pub(crate) use seen::Members;
 use sm_shapes::values::{Entries, Fields, Items, Value};
 use sm_shapes::{Fault, FaultKind};

@@ -25,8 +25,8 @@ impl Decoder {
         self.frames.nodes().saturating_add(result)
     }
 
-    /// How many frames it has, or the greatest `u32` where these are more: as many as lists and objects are open that aren't passed over, and
-    /// one more at most. No memory.
+    /// How many frames it has, or the greatest `u32` where these are more: as many as lists and objects are open that aren't passed
+    /// over, and one more at most. No memory.
     pub fn depth(&self) -> u32
         ensures exact { result ≡ min (length (decoding_of self.now).frames) (2 ^ 32 - 1) }
         ensures bounded { StaysBounded (decoding_of self.now) }

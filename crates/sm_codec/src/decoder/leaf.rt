@@ -20,7 +20,7 @@ use std::alloc::Global;
 
 impl Decoder {
     // A leaf is read at a place and taken there. The store isn't changed.
-    fn take_leaf<L: Leaves, P: Patterns>(
+    pub(super) fn take_leaf<L: Leaves, P: Patterns>(
         &mut self,
         alloc: Global,
         table: &Table,

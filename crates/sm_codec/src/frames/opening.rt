@@ -57,7 +57,7 @@ fn tagged(table: &Table, place: ValuePlace, tag: u64) -> Frame
 }
 
 // The frame of a list that opens at a place.
-fn list_at(alloc: Global, table: &Table, place: ValuePlace) -> Frame
+pub(crate) fn list_at(alloc: Global, table: &Table, place: ValuePlace) -> Frame
     requires shaped { Shaped (table_data table.now) }
     requires place { InTable (table_data table.now) (place_of place) }
     ensures { frame_of result ≡ list_start (sort_of (table_data table.now) (place_of place)) (shape_of (table_data table.now) (place_of place)) }
@@ -69,7 +69,7 @@ fn list_at(alloc: Global, table: &Table, place: ValuePlace) -> Frame
 }
 
 // That of an object.
-fn object_at(alloc: Global, table: &Table, place: ValuePlace) -> Frame
+pub(crate) fn object_at(alloc: Global, table: &Table, place: ValuePlace) -> Frame
     requires shaped { Shaped (table_data table.now) }
     requires place { InTable (table_data table.now) (place_of place) }
     ensures { frame_of result ≡ object_start (sort_of (table_data table.now) (place_of place)) (shape_of (table_data table.now) (place_of place)) }
@@ -203,7 +203,7 @@ impl Frames {
     }
 
     // The innermost frame is told the name, and says whether what stands under it is looked at there.
-    fn name_first<L: Leaves>(
+    pub(crate) fn name_first<L: Leaves>(
         &mut self,
         alloc: Global,
         table: &Table,
