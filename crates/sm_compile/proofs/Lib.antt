@@ -12,3 +12,4 @@ mod EmptyNodes
 mod TabledNumbers
 mod TabledShapes
 mod TabledMembers
+mod RowsSay

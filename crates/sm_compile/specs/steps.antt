@@ -2,5 +2,6 @@ pub mod Looked
 pub mod Naming
 pub mod Soundness
 pub mod Seeing
+pub mod Rows
 pub mod Tabling
 pub mod Tests

@@ -12,6 +12,7 @@ mod look;
 mod names;
 mod numbering;
 mod reach;
+mod rows;
 mod seen;
 mod soundness;
 mod traits;
