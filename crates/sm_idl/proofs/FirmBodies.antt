@@ -6,6 +6,7 @@ use Rattle.sm_ids.specs.IdText.{IsIdText}
 use Rattle.sm_model.specs.Kinds.{any}
 use Rattle.sm_model.specs.Properties.{TypeFields, form_named}
 use Rattle.sm_model.specs.Raw.{Raw, raw_leaf, raw_id}
+use Rattle.sm_model.specs.Said.{TraitSaid}
 use Rattle.sm_model.specs.declared.property.PropertyForm.{PropertyForm}
 use Rattle.sm_model.specs.declared.property.PropertyForm.TheVariants.{Reference, References, NamedReferences, Text, Rename}
 use Rattle.sm_idl.specs.Productions.{Production, one, each, many}
@@ -13,7 +14,7 @@ use Rattle.sm_idl.specs.Words.{IsWord, IsString, IsBlock, IsKey, IsNew, IsWordId
 use Rattle.sm_idl.specs.Nodes.{Home, written, IsNodeId, Pair, pair_names, pair_of}
 use Rattle.sm_idl.specs.Traits.{traits}
 use Rattle.sm_idl.specs.Members.{field, members, mixins}
-use Rattle.sm_idl.specs.Bodies.{Controls, input_suffix, output_suffix, PartSaid, part_names, part_word, part_target, inline_name}
+use Rattle.sm_idl.specs.Bodies.{Suffixes, PartSaid, part_names, part_word, part_target, inline_name}
 use Rattle.sm_idl.specs.Bodies.{inline_with, part_inline, part_shape, part_errors, part, reference, references, braced_pairs}
 use Rattle.sm_idl.specs.Bodies.{TextSays, text_node, new_name, renaming, field_value, FieldNamed, property}
 use Rattle.sm_idl.specs.steps.ReaderView.{NoToken}
@@ -30,11 +31,11 @@ use Rattle.sm_idl.proofs.FirmDocumented.{documented_firm}
 use Rattle.sm_idl.proofs.FirmTraits.{word_firm, traits_firm}
 use Rattle.sm_idl.proofs.FirmMembers.{members_firm, field_firm, mixins_firm}
 
-part_word_firm : (name : List ℕ) (before : List PartSaid) → IsFirm ⊥ (AWord name) NoToken (part_word name before)
+pub part_word_firm : (name : List ℕ) (before : List PartSaid) → IsFirm ⊥ (AWord name) NoToken (part_word name before)
 part_word_firm name before = token_firm (λ t _. IsWord name t × IsNew name (part_names before)) (AWord name) (λ t x y h k. refl)
     (λ t x h. h.0)
 
-target_firm : (home : Home) (name : List ℕ) → IsFirm ⊥ (AMark (codes ":")) NoToken (part_target home name)
+pub target_firm : (home : Home) (name : List ℕ) → IsFirm ⊥ (AMark (codes ":")) NoToken (part_target home name)
 target_firm home name = then_firm (mark (codes ":")) _ (mark_firm (codes ":")) (λ _. given_firm id (λ w. _) (word_firm IsWordId))
 
 suffix_of : Option (List ℕ) → List ℕ
@@ -45,28 +46,32 @@ one_suffix : (suffix : Option (List ℕ)) (a b : List ℕ) → suffix ≡ Some a
 unfolding suffix_of
 one_suffix suffix a b e f = ap suffix_of (sym e ∙ f)
 
-inline_name_firm : (operation : List ℕ) (suffix : Option (List ℕ)) → IsFirm ⊥ (AMark (codes ":=")) NoToken (inline_name operation suffix)
+pub inline_name_firm : (operation : List ℕ) (suffix : Option (List ℕ)) → IsFirm ⊥ (AMark (codes ":=")) NoToken (inline_name operation suffix)
 inline_name_firm operation suffix = token_firm _ (AMark (codes ":="))
     (λ t x y h k. h.1.2 ∙ ap (λ end. operation ++ end) (one_suffix suffix h.1.0 k.1.0 h.1.1 k.1.1) ∙ sym k.1.2) (λ t x h. h.0)
 
 pub with_no_brace : AreApart With Brace
 with_no_brace = turned _ _ (λ t h k. mark_no_word (codes "{") t h k.0)
 
-traits_no_body : AreApart TraitGoesOn (Either With Brace)
+pub traits_no_body : AreApart TraitGoesOn (Either With Brace)
 traits_no_body = either_apart _ _ _
     (apart_either _ _ _ (λ t h k. mark_no_word (codes "@") t h k.0) (marks_unlike (codes "@") (codes "{") refl))
     (apart_either _ _ _ (λ t h k. mark_no_word (codes "(") t h k.0) (marks_unlike (codes "(") (codes "{") refl))
 
-inline_firm : (home : Home) (operation : List ℕ) (suffix : Option (List ℕ)) (name : List ℕ)
+pub inline_with_firm : (home : Home) (structure name : List ℕ) (docs : List TraitSaid)
+    → IsFirm ⊥ (Either At (Either With Brace)) NoToken (inline_with home structure name docs)
+inline_with_firm home structure name docs =
+    front_firm (traits home) _ (traits_firm home) (λ ts.
+    front_firm (mixins home) _ (mixins_firm home) (λ mixed.
+    given_firm (members any (field home)) (λ ms. _) (members_firm any (field home) (field_firm home))) with_no_brace) traits_no_body
+
+pub inline_firm : (home : Home) (operation : List ℕ) (suffix : Option (List ℕ)) (name : List ℕ)
     → IsFirm ⊥ (AMark (codes ":=")) NoToken (part_inline home operation suffix name)
 inline_firm home operation suffix name =
     then_firm (inline_name operation suffix) _ (inline_name_firm operation suffix) (λ structure.
-    documented_firm (Either At (Either With Brace)) NoToken (inline_with home structure name) (λ docs.
-    front_firm (traits home) _ (traits_firm home) (λ ts.
-    front_firm (mixins home) _ (mixins_firm home) (λ mixed.
-    given_firm (members any (field home)) (λ ms. _) (members_firm any (field home) (field_firm home))) with_no_brace) traits_no_body))
+    documented_firm (Either At (Either With Brace)) NoToken (inline_with home structure name) (inline_with_firm home structure name))
 
-shape_part_firm : (home : Home) (operation : List ℕ) (suffix : Option (List ℕ)) (name : List ℕ) (before : List PartSaid)
+pub shape_part_firm : (home : Home) (operation : List ℕ) (suffix : Option (List ℕ)) (name : List ℕ) (before : List PartSaid)
     → IsFirm ⊥ (AWord name) NoToken (part_shape home operation suffix name before)
 shape_part_firm home operation suffix name before =
     then_firm (part_word name before) _ (part_word_firm name before) (λ _.
@@ -74,7 +79,7 @@ shape_part_firm home operation suffix name before =
     (firm_or (AMark (codes ":")) (AMark (codes ":=")) NoToken NoToken (part_target home name) (part_inline home operation suffix name)
     (target_firm home name) (inline_firm home operation suffix name) (marks_unlike (codes ":") (codes ":=") refl)))
 
-errors_firm : (home : Home) (before : List PartSaid) → IsFirm ⊥ (AWord (codes "errors")) NoToken (part_errors home before)
+pub errors_firm : (home : Home) (before : List PartSaid) → IsFirm ⊥ (AWord (codes "errors")) NoToken (part_errors home before)
 errors_firm home before =
     then_firm (part_word (codes "errors") before) _ (part_word_firm (codes "errors") before) (λ _.
     then_firm (mark (codes ":")) _ (mark_firm (codes ":")) (λ _.
@@ -82,15 +87,15 @@ errors_firm home before =
     front_firm (many id) _ (row_firm (λ _. id) [] (λ _. word_firm IsWordId)) (λ ws.
     given_firm (mark (codes "]")) (λ _. _) (mark_firm (codes "]"))) (turned _ _ (mark_no_word (codes "]"))))))
 
-pub part_firm : (home : Home) (controls : Controls) (operation : List ℕ) (before : List PartSaid)
-    → IsFirm ⊥ AnyWord NoToken (part home controls operation before)
-part_firm home controls operation before =
+pub part_firm : (home : Home) (endings : Suffixes) (operation : List ℕ) (before : List PartSaid)
+    → IsFirm ⊥ AnyWord NoToken (part home endings operation before)
+part_firm home endings operation before =
     firm_wider (λ e. e) (λ t a. elim a [ inl w ↦ w.0 | inr w ↦ elim w [ inl v ↦ v.0 | inr v ↦ v.0 ] ])
     (λ t g. elim g [ inl n ↦ n | inr n ↦ elim n [ inl o ↦ o | inr o ↦ o ] ])
     (firm_or (AWord (codes "input")) (Either (AWord (codes "output")) (AWord (codes "errors"))) NoToken (Either NoToken NoToken) _ _
-    (shape_part_firm home operation (input_suffix controls) (codes "input") before)
+    (shape_part_firm home operation endings.input (codes "input") before)
     (firm_or (AWord (codes "output")) (AWord (codes "errors")) NoToken NoToken _ _
-    (shape_part_firm home operation (output_suffix controls) (codes "output") before)
+    (shape_part_firm home operation endings.output (codes "output") before)
     (errors_firm home before) (words_unlike (codes "output") (codes "errors") refl))
     (apart_either _ _ _ (words_unlike (codes "input") (codes "output") refl) (words_unlike (codes "input") (codes "errors") refl)))
 
@@ -99,7 +104,7 @@ part_firm home controls operation before =
 pub reference_firm : (home : Home) → IsFirm ⊥ AnyWord NoToken (reference home)
 reference_firm home = given_firm _ (λ w. _) (word_firm IsNodeId)
 
-references_firm : (home : Home) → IsFirm ⊥ (AMark (codes "[")) NoToken (references home)
+pub references_firm : (home : Home) → IsFirm ⊥ (AMark (codes "[")) NoToken (references home)
 references_firm home =
     then_firm (mark (codes "[")) _ (mark_firm (codes "[")) (λ _.
     front_firm (many (reference home)) _ (row_firm (λ _. reference home) [] (λ _. reference_firm home)) (λ ws.
@@ -135,7 +140,7 @@ text_firm home = token_firm (TextSays home) AnyToken (one_text_node home) (λ t 
 new_name_firm : IsFirm ⊥ AnyToken NoToken new_name
 new_name_firm = token_firm _ AnyToken (λ t m n h k. h.3 ∙ ap (λ v. raw_leaf (text v)) (one_text t h.0 k.0 h.1 k.1) ∙ sym k.3) (λ t n h. tt)
 
-renaming_firm : (before : List Pair) → IsFirm ⊥ NoMark NoToken (renaming before)
+pub renaming_firm : (before : List Pair) → IsFirm ⊥ NoMark NoToken (renaming before)
 renaming_firm before =
     then_firm _ _ (token_firm (λ t k. IsKey k t × IsIdText k × IsNew k (pair_names before)) NoMark (λ t j k h m. one_key t j k h.0 m.0)
     (λ t k h. key_no_mark t k h.0)) (λ k.
@@ -156,7 +161,7 @@ form_of : Option PropertyForm → PropertyForm
 form_of None = Text
 form_of (Some f) = f
 
-one_field : (fields : TypeFields) (before : List Pair) (t : Lexeme) (f g : List ℕ × PropertyForm)
+pub one_field : (fields : TypeFields) (before : List Pair) (t : Lexeme) (f g : List ℕ × PropertyForm)
     → FieldNamed fields before t f → FieldNamed fields before t g → f ≡ g
 unfolding form_of
 one_field fields before t f g h k =

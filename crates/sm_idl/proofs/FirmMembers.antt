@@ -1,7 +1,7 @@
 -- Members and mixins can be read from the front.
 use Rattle.std.proofs.Common.{ℕ, List, [], codes, refl}
 use Rattle.sm_model.specs.Kinds.{MemberForm, any}
-use Rattle.sm_model.specs.Said.{MemberSaid}
+use Rattle.sm_model.specs.Said.{TraitSaid, MemberSaid}
 use Rattle.sm_idl.specs.Productions.{Production, ◌>>◌, maybe, each, many}
 use Rattle.sm_idl.specs.Words.{IsMark, IsWordId, mark, mark_where, the_word, id}
 use Rattle.sm_idl.specs.Nodes.{Home}
@@ -23,32 +23,40 @@ pub value_firm : (home : Home) → IsFirm (Unit {0}) Equals Equals (given_value 
 value_firm home = option_firm (mark (codes "=") >> node_in home) (then_firm (mark (codes "=")) _ (mark_firm (codes "="))
     (λ _. node_in_firm home))
 
-name_firm : (form : MemberForm) (before : List MemberSaid) → IsFirm ⊥ AnyWord NoToken (member_name form before)
+pub name_firm : (form : MemberForm) (before : List MemberSaid) → IsFirm ⊥ AnyWord NoToken (member_name form before)
 name_firm form before = word_firm _
 
 pub traits_no_word : AreApart TraitGoesOn AnyWord
 traits_no_word = either_apart _ _ _ (mark_no_word (codes "@")) (mark_no_word (codes "("))
 
-pub enum_member_firm : (home : Home) (before : List MemberSaid) → IsFirm ⊥ MemberStart Equals (enum_member home before)
-enum_member_firm home before = documented_firm MemberStart Equals (enum_member_with home before) (λ docs.
+pub enum_member_with_firm : (home : Home) (before : List MemberSaid) (docs : List TraitSaid)
+    → IsFirm ⊥ MemberStart Equals (enum_member_with home before docs)
+enum_member_with_firm home before docs =
     front_firm (traits home) _ (traits_firm home) (λ ts.
     then_firm (member_name any before) _ (name_firm any before) (λ name.
-    given_firm (given_value home) (λ value. _) (value_firm home))) traits_no_word)
+    given_firm (given_value home) (λ value. _) (value_firm home))) traits_no_word
 
-pub member_firm : (home : Home) (form : MemberForm) (before : List MemberSaid) → IsFirm ⊥ MemberStart NoToken (member home form before)
-member_firm home form before = documented_firm MemberStart NoToken (member_with home form before) (λ docs.
+pub enum_member_firm : (home : Home) (before : List MemberSaid) → IsFirm ⊥ MemberStart Equals (enum_member home before)
+enum_member_firm home before = documented_firm MemberStart Equals (enum_member_with home before) (enum_member_with_firm home before)
+
+pub member_with_firm : (home : Home) (form : MemberForm) (before : List MemberSaid) (docs : List TraitSaid)
+    → IsFirm ⊥ MemberStart NoToken (member_with home form before docs)
+member_with_firm home form before docs =
     front_firm (traits home) _ (traits_firm home) (λ ts.
     then_firm (member_name form before) _ (name_firm form before) (λ name.
-    then_firm (mark (codes ":")) _ (mark_firm (codes ":")) (λ _. given_firm id (λ target. _) (word_firm IsWordId)))) traits_no_word)
+    then_firm (mark (codes ":")) _ (mark_firm (codes ":")) (λ _. given_firm id (λ target. _) (word_firm IsWordId)))) traits_no_word
+
+pub member_firm : (home : Home) (form : MemberForm) (before : List MemberSaid) → IsFirm ⊥ MemberStart NoToken (member home form before)
+member_firm home form before = documented_firm MemberStart NoToken (member_with home form before) (member_with_firm home form before)
 
 pub field_firm : (home : Home) (before : List MemberSaid) → IsFirm ⊥ MemberStart Equals (field home before)
 field_firm home before =
     then_firm (member home any before) _ (member_firm home any before) (λ m. given_firm (given_value home) (λ value. _) (value_firm home))
 
-equals_no_member : AreApart Equals MemberStart
+pub equals_no_member : AreApart Equals MemberStart
 equals_no_member = apart_either _ _ _ (marks_unlike (codes "=") (codes "@") refl) (mark_no_word (codes "="))
 
-closing_firm : (m : List ℕ) (Holds : Type 0) → IsFirm ⊥ (AMark m) NoToken (mark_where m Holds)
+pub closing_firm : (m : List ℕ) (Holds : Type 0) → IsFirm ⊥ (AMark m) NoToken (mark_where m Holds)
 closing_firm m Holds = token_firm (λ t _. IsMark m t × Holds) (AMark m) (λ t x y h k. refl) (λ t x h. h.0)
 
 pub members_firm : (form : MemberForm) (P : List MemberSaid → Production MemberSaid) → ((before : List MemberSaid)

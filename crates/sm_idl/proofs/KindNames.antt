@@ -8,7 +8,7 @@ use Rattle.sm_model.specs.declared.kind.Kind.TheVariants.{BigDecimal, Timestamp,
 use Rattle.sm_model.specs.declared.kind.Kind.TheVariants.{Service, Operation, Resource}
 use Rattle.sm_idl.specs.steps.Classes.{AWord}
 use Rattle.sm_idl.specs.steps.Firm.{AreApart}
-use Rattle.sm_idl.proofs.TokenClasses.{TypeWord}
+use Rattle.sm_idl.specs.steps.FileClasses.{TypeWord}
 
 abbrev named_among : List ℕ → List Kind → Option Kind
 named_among w [] = None

@@ -16,6 +16,7 @@ pub mod KindNames
 pub mod FirmShapes
 pub mod FirmFiles
 pub mod OtherHomes
+pub mod OtherBeginnings
 pub mod OneFile
 pub mod OnePlace
 pub mod Passing
@@ -33,3 +34,18 @@ pub mod ReadTraits
 pub mod ReadIds
 pub mod TraitRows
 pub mod ReadValues
+pub mod ReadDocs
+pub mod ReadMembers
+pub mod MemberRows
+pub mod ArrangedMembers
+pub mod Answered
+pub mod ViewedRows
+pub mod ReadFields
+pub mod ReadParts
+pub mod ReadShapes
+pub mod UsedWords
+pub mod ReadBeginning
+pub mod ReadFile
+pub mod Stopped
+pub mod TokenCuts
+pub mod ReadControls

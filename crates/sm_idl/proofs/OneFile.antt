@@ -5,20 +5,21 @@ use Rattle.sm_ids.specs.Identifier.{IsNamespace}
 use Rattle.sm_idl.specs.Productions.{Tokens, spaced, Production, OptionSpells, EachSpells, each, many}
 use Rattle.sm_idl.specs.Words.{the_word, word_that}
 use Rattle.sm_idl.specs.Nodes.{Home}
-use Rattle.sm_idl.specs.Bodies.{Controls}
+use Rattle.sm_idl.specs.Bodies.{Suffixes, suffixes}
 use Rattle.sm_idl.specs.Idl.{control, metadata, used, home_of, SectionSaid, items, section, section_home, section_said, metadata_statements, FileSaid, file, FileSpelled}
 use Rattle.sm_idl.specs.Laws.{OneReading, PrefixesAreBegun}
 use Rattle.sm_idl.specs.steps.ReaderView.{NoToken}
 use Rattle.sm_idl.specs.steps.Classes.{Either}
+use Rattle.sm_idl.specs.steps.FileClasses.{ItemStart, Dollar, Metadata, Namespace, Use, ItemsGoOn, AfterControls}
 use Rattle.sm_idl.specs.steps.Firm.{Class, HeadIs, AreApart, IsFirm}
 use Rattle.sm_idl.proofs.TokenLists.{head_apart, head_moved}
 use Rattle.sm_idl.proofs.FirmEach.{starts}
 use Rattle.sm_idl.proofs.FirmShort.{row_firm}
 use Rattle.sm_idl.proofs.TokenClasses.{words_unlike}
 use Rattle.sm_idl.proofs.FirmTraits.{word_firm, the_word_firm}
-use Rattle.sm_idl.proofs.FirmShapes.{ItemStart, no_item}
-use Rattle.sm_idl.proofs.FirmFiles.{Dollar, Metadata, Namespace, Use, ItemsGoOn, control_firm, metadata_firm, used_firm}
-use Rattle.sm_idl.proofs.FirmFiles.{items_firm, section_firm, last_part, last_firm, behind_controls, behind_firm, AfterControls}
+use Rattle.sm_idl.proofs.FirmShapes.{no_item}
+use Rattle.sm_idl.proofs.FirmFiles.{control_firm, metadata_firm, used_firm}
+use Rattle.sm_idl.proofs.FirmFiles.{items_firm, section_firm, last_part, last_firm, behind_controls, behind_firm}
 use Rattle.sm_idl.proofs.FirmFiles.{dollar_apart, file_firm}
 use Rattle.sm_idl.proofs.OtherHomes.{controls_alike, metadata_alike}
 
@@ -31,7 +32,7 @@ not_here A B G P p apart x s h b = elim (p.head x s [] h) [
 ]
 
 -- the two ends of rows of one production are one, where no more of them stand behind
-one_end : {X : Type 0} (A : Class) (P : List X → Production X) → IsFirm (Unit {0}) A A (each P) → (xs ys : List X) (s r q : Tokens)
+pub one_end : {X : Type 0} (A : Class) (P : List X → Production X) → IsFirm (Unit {0}) A A (each P) → (xs ys : List X) (s r q : Tokens)
     → EachSpells P [] xs s r → EachSpells P [] ys s q → (HeadIs A r → ⊥) → (HeadIs A q → ⊥) → (xs ≡ ys) × (r ≡ q)
 one_end A P p xs ys s r q h k here there = elim (p.single xs ys s r q h k) [
   | inl e ↦ e
@@ -53,7 +54,7 @@ use_row : IsFirm (Unit {0}) Use Use (many used)
 use_row = row_firm (λ _. used) [] (λ _. used_firm)
 
 -- the namespace and the ids that are used are the same, whatever the controls say
-section_home_same : (cs ds : Controls) (a b : SectionSaid) (s : Tokens) → (section cs).whole a s [] → (section ds).whole b s []
+section_home_same : (cs ds : Suffixes) (a b : SectionSaid) (s : Tokens) → (section cs).whole a s [] → (section ds).whole b s []
     → a.home ≡ b.home
 section_home_same cs ds a b s (_, s1, w, (n, s2, h, (ws, s3, k, (is, s4, m, (e, last))))) (
   _,
@@ -86,7 +87,7 @@ section_home_same cs ds a b s (_, s1, w, (n, s2, h, (ws, s3, k, (is, s4, m, (e, 
     (js, t4, p, (f, end))) in
     ap (λ z. z.home) e ∙ ap (λ x. home_of x ws) name.0 ∙ ap (λ x. home_of o x) uses.0 ∙ sym (ap (λ z. z.home) f)
 
-sections_home_same : (cs ds : Controls) (a b : Option SectionSaid) (s : Tokens) → OptionSpells (section cs) a s []
+sections_home_same : (cs ds : Suffixes) (a b : Option SectionSaid) (s : Tokens) → OptionSpells (section cs) a s []
     → OptionSpells (section ds) b s []
     → section_home a ≡ section_home b
 sections_home_same cs ds None None s h k = refl
@@ -111,9 +112,9 @@ home_same g h a b s (cs, s1, c, (ms, s2, m, (x, s3, n, (e, last)))) (ds, t1, d, 
     (not_here Namespace Metadata _ (last_part ds ns) (last_firm ds ns) (words_unlike (codes "metadata") (codes "namespace") refl) b t2
     (y, t3, o, (f, end))) in
     ap (λ z. z.home) e
-    ∙ sections_home_same cs ds x y t2 (subst (λ z. OptionSpells (section cs) x z []) data_end.1 (subst (λ z. OptionSpells
-    (section cs) x s2 z) last n))
-    (subst (λ z. OptionSpells (section ds) y t2 z) end o)
+    ∙ sections_home_same (suffixes cs) (suffixes ds) x y t2 (subst (λ z. OptionSpells (section (suffixes cs)) x z []) data_end.1 (subst (λ z. OptionSpells
+    (section (suffixes cs)) x s2 z) last n))
+    (subst (λ z. OptionSpells (section (suffixes ds)) y t2 z) end o)
     ∙ sym (ap (λ z. z.home) f)
 
 one_file : (a b : FileSaid) (ts : Tokens) → FileSpelled a ts → FileSpelled b ts → Path FileSaid a b
@@ -132,11 +133,11 @@ some_is_none : (h : Home) → Some h ≡ None → ⊥
 some_is_none h e = cc
 
 -- a whole file is begun, and so is all that it begins with
-whole_begun : (home : Option Home) (f : FileSaid) (ts : Tokens) → (file home).whole f ts [] → (file home).begun ts
+pub whole_begun : (home : Option Home) (f : FileSaid) (ts : Tokens) → (file home).whole f ts [] → (file home).begun ts
 whole_begun home f ts (cs, s1, c, (ms, s2, m, (x, s3, n, (e, last)))) = inr (cs, s1, c, inr (ms, s2, m, inr (x, s3, n, last)))
 
 -- What spells a file spells one whose words are ids: without a namespace only the nodes of its controls and metadata differ
-with_ids : (home : Option Home) (f : FileSaid) (ts : Tokens) → f.home ≡ home → (file home).whole f ts []
+pub with_ids : (home : Option Home) (f : FileSaid) (ts : Tokens) → f.home ≡ home → (file home).whole f ts []
     → (h : Home) × ((g : FileSaid) × (file (Some h)).whole g ts [])
 with_ids (Some h) f ts is k = (h, (f, k))
 with_ids None f ts is (cs, s1, c, (ms, s2, m, (None, s3, n, (e, last)))) =

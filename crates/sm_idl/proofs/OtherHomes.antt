@@ -12,7 +12,7 @@ use Rattle.sm_idl.specs.Idl.{control, metadata}
 use Rattle.sm_idl.specs.Words.{IsNew}
 
 -- what one spells, the other spells too
-abbrev AreAlike : Production Raw → Production Raw → Type 0
+abbrev pub AreAlike : Production Raw → Production Raw → Type 0
 AreAlike P Q = (n : Raw) (s r : Tokens) → P.whole n s r → (m : Raw) × Q.whole m s r
 
 word_alike : (g h : Option Home) (w : List ℕ) (n : Raw) → WordSays g w n → (m : Raw) × WordSays h w m
@@ -28,12 +28,12 @@ leaf_alike g h Number t n e = (n, e)
 leaf_alike g h Word t n e = word_alike g h t.text n e
 leaf_alike g h Mark t n e = absurd e
 
-names_more : (a b : List Pair) (k : List ℕ) (n m : Raw) → pair_names a ≡ pair_names b
+pub names_more : (a b : List Pair) (k : List ℕ) (n m : Raw) → pair_names a ≡ pair_names b
     → pair_names (a ++ (k, n) ∷ []) ≡ pair_names (b ++ (k, m) ∷ [])
 names_more a b k n m e = map-append (λ p. p.0) a ((k, n) ∷ []) ∙ ap (λ ks. ks ++ k ∷ []) e ∙ sym (map-append (λ p. p.0) b ((k, m) ∷ []))
 
 module _ (P Q : Production Raw) (alike : AreAlike P Q) where
-  pair_alike : (a b : List Pair) (x : Pair) (s r : Tokens) → pair_names a ≡ pair_names b → (pair_of P a).whole x s r
+  pub pair_alike : (a b : List Pair) (x : Pair) (s r : Tokens) → pair_names a ≡ pair_names b → (pair_of P a).whole x s r
       → (m : Raw) × (pair_of Q b).whole (x.0, m) s r
   pair_alike a b x s r e (k, s1, (t, f, (is_key, new)), (_, s2, colon, (n, s3, h, (g, last)))) =
       let other = alike n s2 s3 h in (
@@ -59,7 +59,7 @@ module _ (P Q : Production Raw) (alike : AreAlike P Q) where
         ),
       )
 
-  pairs_alike : (a b xs : List Pair) (s r : Tokens) → pair_names a ≡ pair_names b → EachSpells (pair_of P) a xs s r
+  pub pairs_alike : (a b xs : List Pair) (s r : Tokens) → pair_names a ≡ pair_names b → EachSpells (pair_of P) a xs s r
       → (ys : List Pair) × EachSpells (pair_of Q) b ys s r
   pairs_alike a b [] s r e h = ([], h)
   pairs_alike a b (x ∷ xs) s r e (t, h, k) =
@@ -67,7 +67,7 @@ module _ (P Q : Production Raw) (alike : AreAlike P Q) where
       let rest = pairs_alike (a ++ x ∷ []) (b ++ (x.0, first.0) ∷ []) xs t r (names_more a b x.0 x.1 first.0 e) k in
       ((x.0, first.0) ∷ rest.0, (t, first.1, rest.1))
 
-  nodes_alike : (before other xs : List Raw) (s r : Tokens) → EachSpells (λ _. P) before xs s r
+  pub nodes_alike : (before other xs : List Raw) (s r : Tokens) → EachSpells (λ _. P) before xs s r
       → (ys : List Raw) × EachSpells (λ _. Q) other ys s r
   nodes_alike before other [] s r h = ([], h)
   nodes_alike before other (x ∷ xs) s r (t, h, k) =

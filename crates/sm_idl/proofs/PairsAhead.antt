@@ -79,7 +79,7 @@ module _ (home : Option Home) (x : Spaced) (r : Tokens) where
   no_pair w t (k, inr h, m) = t h.0
 
 -- a word is a node where it is a literal or an id
-differ : (a b : List ℕ) → (a ≡ b → ⊥) → bytes_eq a b ≡ false
+pub differ : (a b : List ℕ) → (a ≡ b → ⊥) → bytes_eq a b ≡ false
 differ a b n = of_test (bytes_eq a b) refl
   where
     of_test : (c : Bool) → bytes_eq a b ≡ c → bytes_eq a b ≡ false

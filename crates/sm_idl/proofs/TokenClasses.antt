@@ -2,8 +2,6 @@
 use Rattle.std.proofs.Common.{◌≡◌, inl, inr, ℕ, Bool, true, false, List, sym, ◌∙◌, bytes_eq, IsTrue, true≢false}
 use Rattle.sm_tree.proofs.Equal.{bytes_equal_is}
 use Rattle.sm_lex.specs.declared.token.TokenKind.TheVariants.{Word, Text, Mark}
-use Rattle.sm_model.specs.Kinds.{kind_name}
-use Rattle.sm_model.specs.declared.kind.Kind.{Kind}
 use Rattle.sm_idl.specs.Productions.{Spaced}
 use Rattle.sm_idl.specs.steps.Classes.{Either, AMark, AWord, AnyWord, NoMark}
 use Rattle.sm_idl.specs.steps.Firm.{Class, AreApart}
@@ -53,6 +51,3 @@ marks_unlike a b f = marks_apart a b (unlike a b f)
 
 pub words_unlike : (a b : List ℕ) → bytes_eq a b ≡ false → AreApart (AWord a) (AWord b)
 words_unlike a b f = words_apart a b (unlike a b f)
-
-abbrev pub TypeWord : Class
-TypeWord t = (k : Kind) × AWord (kind_name k) t

@@ -10,7 +10,7 @@ use Rattle.sm_model.specs.Kinds.{any}
 use Rattle.sm_model.specs.Properties.{TypeFields, form_named}
 use Rattle.sm_model.specs.Raw.{Raw, raw_leaf, raw_id, raw_list, raw_object, raws_of, empty_raw}
 use Rattle.sm_model.specs.References.{absolute}
-use Rattle.sm_model.specs.Said.{TraitSaid, MemberSaid, ShapeSaid}
+use Rattle.sm_model.specs.Said.{TraitSaid, MemberSaid, Said, shape_said}
 use Rattle.sm_model.specs.declared.kind.Kind.TheVariants.{Structure}
 use Rattle.sm_model.specs.declared.reference.Ref.{Ref}
 use Rattle.sm_model.specs.declared.property.PropertyForm.{PropertyForm}
@@ -49,18 +49,23 @@ abbrev pub suffix_under : List ℕ → List ℕ → Controls → Option (List �
 suffix_under name otherwise [] = Some otherwise
 suffix_under name otherwise (c ∷ cs) = if bytes_eq c.0 name then suffix_said otherwise c.1 else suffix_under name otherwise cs
 
--- what the names of inline inputs and outputs end with: `Input` and `Output`, or what a control says
-abbrev pub input_suffix : Controls → Option (List ℕ)
-input_suffix cs = suffix_under (codes "operationInputSuffix") (codes "Input") cs
+-- what the names of inline inputs and outputs end with, where a control says no word
+pub record Suffixes : Type 0 where
+  pub input : Option (List ℕ)
+  pub output : Option (List ℕ)
 
-abbrev pub output_suffix : Controls → Option (List ℕ)
-output_suffix cs = suffix_under (codes "operationOutputSuffix") (codes "Output") cs
+-- `Input` and `Output`, or what a control says
+abbrev pub suffixes : Controls → Suffixes
+suffixes cs = record {
+  input = suffix_under (codes "operationInputSuffix") (codes "Input") cs;
+  output = suffix_under (codes "operationOutputSuffix") (codes "Output") cs;
+}
 
--- a part of an operation: its name, its node, and the structure that it defines in its place
+-- a part of an operation: its name, its node, and the statement of the structure that it defines in its place
 pub record PartSaid : Type 0 where
   pub name : List ℕ
   pub value : Raw
-  pub defined : List ShapeSaid
+  pub defined : List Said
 
 abbrev pub part_names : List PartSaid → List (List ℕ)
 part_names ps = map (λ p. p.name) ps
@@ -86,14 +91,14 @@ abbrev pub inline_said : Home → List ℕ → List ℕ → List TraitSaid → L
 inline_said home structure name ts mixed ms = record {
   name = name;
   value = raw_id (absolute (defined_id home structure) false);
-  defined = record {
+  defined = shape_said (record {
     id = defined_id home structure;
     kind = Structure;
     members = ms;
     mixins = mixed;
     properties = empty_raw;
     traits = standing_for name empty_raw ∷ ts;
-  } ∷ [];
+  }) ∷ [];
 }
 
 -- trait* [ with ] "{" field* "}"
@@ -129,9 +134,9 @@ part_errors home before = do
   })
 
 -- part = ( "input" | "output" ) ( .. ) | "errors" ":" "[" word* "]"
-abbrev pub part : Home → Controls → List ℕ → List PartSaid → Production PartSaid
-part home controls operation before = part_shape home operation (input_suffix controls) (codes "input") before
-    or (part_shape home operation (output_suffix controls) (codes "output") before or part_errors home before)
+abbrev pub part : Home → Suffixes → List ℕ → List PartSaid → Production PartSaid
+part home endings operation before = part_shape home operation endings.input (codes "input") before
+    or (part_shape home operation endings.output (codes "output") before or part_errors home before)
 
 -- the pairs of services and resources, whose nodes have the forms of their fields
 

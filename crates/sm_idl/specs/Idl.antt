@@ -12,7 +12,7 @@ use Rattle.sm_model.specs.Said.{Said, metadata_said}
 use Rattle.sm_idl.specs.Productions.{Tokens, spaced, Production, gives, ◌>>=◌, ◌>>◌, maybe, each, many}
 use Rattle.sm_idl.specs.Words.{mark, the_word, word_that, id, key}
 use Rattle.sm_idl.specs.Nodes.{Home, Pair, pair_names, pair_of, node}
-use Rattle.sm_idl.specs.Bodies.{Controls}
+use Rattle.sm_idl.specs.Bodies.{Controls, Suffixes, suffixes}
 use Rattle.sm_idl.specs.Shapes.{item}
 
 -- control = "$" key ":" node
@@ -44,18 +44,18 @@ pub record SectionSaid : Type 0 where
   pub home : Home
   pub said : List Said
 
-abbrev pub items : Home → Controls → Production SectionSaid
-items home controls = do
-  said ← many (item home controls)
+abbrev pub items : Home → Suffixes → Production SectionSaid
+items home endings = do
+  said ← many (item home endings)
   gives (record { home = home; said = flat_map (λ ss. ss) said })
 
 -- "namespace" word use* item*
-abbrev pub section : Controls → Production SectionSaid
-section controls = do
+abbrev pub section : Suffixes → Production SectionSaid
+section endings = do
   the_word (codes "namespace")
   namespace ← word_that IsNamespace
   ws ← many used
-  items (home_of namespace ws) controls
+  items (home_of namespace ws) endings
 
 -- a file: what its words are relative to, its controls, and its statements
 pub record FileSaid : Type 0 where
@@ -79,7 +79,7 @@ abbrev pub file : Option Home → Production FileSaid
 file home = do
   controls ← each (control home)
   ms ← each (metadata home)
-  s ← maybe (section controls)
+  s ← maybe (section (suffixes controls))
   gives (record { home = section_home s; controls = controls; said = metadata_statements ms ++ section_said s })
 
 -- the tokens spell this file

@@ -16,18 +16,18 @@ use Rattle.sm_idl.specs.Words.{IsWord, mark, identifier}
 use Rattle.sm_idl.specs.Nodes.{Home, Pair, as_object}
 use Rattle.sm_idl.specs.Traits.{traits, documented, apply}
 use Rattle.sm_idl.specs.Members.{enum_member, member, field, members, mixins}
-use Rattle.sm_idl.specs.Bodies.{Controls, defined_id, PartSaid, part, property, braced_pairs}
+use Rattle.sm_idl.specs.Bodies.{Suffixes, defined_id, PartSaid, part, property, braced_pairs}
 
 -- the name of a type
 abbrev pub type_word : Production Kind
 type_word = one (λ t k. IsWord (kind_name k) t)
 
--- what a shape has beside its id, its type and its traits, and the structures that it defines in place
+-- what a shape has beside its id, its type and its traits, and the statements of the structures that it defines in place
 pub record BodySaid : Type 0 where
   pub members : List MemberSaid
   pub mixins : List Ref
   pub properties : Raw
-  pub defined : List ShapeSaid
+  pub defined : List Said
 
 -- simple word [ with ]
 abbrev pub simple_body : Home → Production BodySaid
@@ -46,10 +46,10 @@ abbrev pub part_pairs : List PartSaid → List Pair
 part_pairs ps = map (λ p. (p.name, p.value)) ps
 
 -- "operation" word "{" part* "}"
-abbrev pub operation_body : Home → Controls → List ℕ → Production BodySaid
-operation_body home controls name = do
+abbrev pub operation_body : Home → Suffixes → List ℕ → Production BodySaid
+operation_body home endings name = do
   mark (codes "{")
-  ps ← each (part home controls name)
+  ps ← each (part home endings name)
   mark (codes "}")
   gives (record { members = []; mixins = []; properties = as_object (part_pairs ps); defined = flat_map (λ p. p.defined) ps })
 
@@ -60,29 +60,29 @@ pairs_body home kind = do
   gives (record { members = []; mixins = []; properties = properties; defined = [] })
 
 -- what stands behind the type and the name
-abbrev pub body : Home → Controls → Kind → List ℕ → Production BodySaid
-body home controls Blob name = simple_body home
-body home controls Boolean name = simple_body home
-body home controls Text name = simple_body home
-body home controls Byte name = simple_body home
-body home controls Short name = simple_body home
-body home controls Integer name = simple_body home
-body home controls Long name = simple_body home
-body home controls Float name = simple_body home
-body home controls Double name = simple_body home
-body home controls BigInteger name = simple_body home
-body home controls BigDecimal name = simple_body home
-body home controls Timestamp name = simple_body home
-body home controls Document name = simple_body home
-body home controls Enum name = members_body home any (enum_member home)
-body home controls IntEnum name = members_body home any (enum_member home)
-body home controls list_kind name = members_body home (member_form list_kind) (member home (member_form list_kind))
-body home controls Map name = members_body home (member_form Map) (member home (member_form Map))
-body home controls Union name = members_body home any (member home any)
-body home controls Structure name = members_body home any (field home)
-body home controls Operation name = operation_body home controls name
-body home controls Service name = pairs_body home Service
-body home controls Resource name = pairs_body home Resource
+abbrev pub body : Home → Suffixes → Kind → List ℕ → Production BodySaid
+body home endings Blob name = simple_body home
+body home endings Boolean name = simple_body home
+body home endings Text name = simple_body home
+body home endings Byte name = simple_body home
+body home endings Short name = simple_body home
+body home endings Integer name = simple_body home
+body home endings Long name = simple_body home
+body home endings Float name = simple_body home
+body home endings Double name = simple_body home
+body home endings BigInteger name = simple_body home
+body home endings BigDecimal name = simple_body home
+body home endings Timestamp name = simple_body home
+body home endings Document name = simple_body home
+body home endings Enum name = members_body home any (enum_member home)
+body home endings IntEnum name = members_body home any (enum_member home)
+body home endings list_kind name = members_body home (member_form list_kind) (member home (member_form list_kind))
+body home endings Map name = members_body home (member_form Map) (member home (member_form Map))
+body home endings Union name = members_body home any (member home any)
+body home endings Structure name = members_body home any (field home)
+body home endings Operation name = operation_body home endings name
+body home endings Service name = pairs_body home Service
+body home endings Resource name = pairs_body home Resource
 
 abbrev pub stated_shape : Home → Kind → List ℕ → BodySaid → List TraitSaid → ShapeSaid
 stated_shape home kind name b ts = record {
@@ -95,16 +95,16 @@ stated_shape home kind name b ts = record {
 }
 
 -- trait* shape. A structure that an operation defines in place comes behind it
-abbrev pub shape_with : Home → Controls → List TraitSaid → Production (List Said)
-shape_with home controls docs = do
+abbrev pub shape_with : Home → Suffixes → List TraitSaid → Production (List Said)
+shape_with home endings docs = do
   ts ← traits home
   kind ← type_word
   name ← identifier
-  b ← body home controls kind name
-  gives (shape_said (stated_shape home kind name b (docs ++ ts)) ∷ map shape_said b.defined)
+  b ← body home endings kind name
+  gives (shape_said (stated_shape home kind name b (docs ++ ts)) ∷ b.defined)
 
-abbrev pub shape : Home → Controls → Production (List Said)
-shape home controls = documented (shape_with home controls)
+abbrev pub shape : Home → Suffixes → Production (List Said)
+shape home endings = documented (shape_with home endings)
 
 abbrev pub apply_item : Home → Production (List Said)
 apply_item home = do
@@ -112,5 +112,5 @@ apply_item home = do
   gives (said ∷ [])
 
 -- item = trait* shape | apply
-abbrev pub item : Home → Controls → Production (List Said)
-item home controls = shape home controls or apply_item home
+abbrev pub item : Home → Suffixes → Production (List Said)
+item home endings = shape home endings or apply_item home

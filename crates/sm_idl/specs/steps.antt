@@ -1,8 +1,16 @@
+pub mod Cuts
 pub mod Firm
 pub mod Classes
+pub mod FileClasses
 pub mod Names
 pub mod Reading
 pub mod ReaderView
 pub mod HomeView
 pub mod TraitSteps
 pub mod IdSteps
+pub mod DocSteps
+pub mod MemberSteps
+pub mod FieldSteps
+pub mod PartSteps
+pub mod ShapeSteps
+pub mod FileSteps

@@ -49,7 +49,7 @@ fn word_node<W: Words>(alloc: Global, words: &W, word: &str) -> Result<Option<Ra
 }
 
 /// A text as a node.
-fn text_node(string: String) -> RawNode
+pub(crate) fn text_node(string: String) -> RawNode
     ensures { raw_view result ≡ raw_leaf (text (string_bytes string)) }
 {
     RawNode::Leaf(Tree::Text(Text::new(string)))

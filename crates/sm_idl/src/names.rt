@@ -29,8 +29,20 @@ pub(crate) fn is_new(
     }
 }
 
+/// Remembers a text. Whether it didn't come before.
+pub(crate) fn is_new_text(
+    alloc: Global,
+    seen: &mut BTreeSet<String>,
+    text: &Text,
+) -> Result<bool, NoMemory>
+    ensures { (before : List (List ℕ)) → Remembers seen.old before →
+        IfOk result (λ new. (IsTrue new ↔ IsNew text.now before) × Remembers seen.new (before ++ text.now ∷ [])) }
+{
+    is_new(alloc, seen, text.as_str())
+}
+
 /// The key that a token is, if it is one.
-fn key_text(alloc: Global, token: &Token<'_>) -> Result<Option<Text>, NoMemory>
+pub(crate) fn key_text(alloc: Global, token: &Token<'_>) -> Result<Option<Text>, NoMemory>
     ensures { SaysKey (lexeme_of token.now) result }
 {
     match token.kind {

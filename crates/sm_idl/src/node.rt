@@ -83,7 +83,7 @@ impl<'t, 'a> Reader<'t, 'a> {
 
     /// Reads a pair whose key didn't come before.
     #[cycle(node)]
-    fn pair<W: Words>(
+    pub(crate) fn pair<W: Words>(
         &mut self,
         alloc: Global,
         words: &W,

@@ -1,10 +1,10 @@
 // Traits, and the apply statement (Smithy 2.0, "Smithy IDL", "Applying traits", "apply statement").
 ghost use Rattle.std.specs.Prelude.{◌≡◌, ◌∷◌, ◌↔◌, IsTrue, Option, codes};
 ghost use Rattle.std.specs.Option.{option_map};
-ghost use Rattle.sm_model.specs.RawView.{raw_view, raw_members_view};
+ghost use Rattle.sm_model.specs.RawView.{raw_view};
 ghost use Rattle.sm_model.specs.SaidView.{trait_view, traits_view, statement_view};
 ghost use Rattle.sm_idl.specs.Productions.{Spaced, Tokens, maybe, ◌or◌};
-ghost use Rattle.sm_idl.specs.Nodes.{Home, as_object};
+ghost use Rattle.sm_idl.specs.Nodes.{Home};
 ghost use Rattle.sm_idl.specs.Traits.{pairs_or_node, arguments, argument_value, applied, one_trait, braced_traits, apply};
 ghost use Rattle.sm_idl.specs.steps.Firm.{HeadIs};
 ghost use Rattle.sm_idl.specs.steps.Classes.{AMark, Paren, ArgumentGoesOn, PairAhead};
@@ -13,11 +13,12 @@ ghost use Rattle.sm_idl.specs.steps.ReaderView.{left, maybe_raw, ReadsAs, ReadsO
 ghost use Rattle.sm_idl.specs.steps.TraitSteps.{AddsTraits};
 
 use crate::home::FileHome;
+use crate::made::{empty_node, object_node};
 use crate::reader::{Reader, Stop};
 use crate::word::is_node_word;
 use sm_lex::TokenKind;
-use sm_model::{RawNode, RawPairs, Statement, TraitUse, TraitUses};
-use sm_tree::{MOST_LEVELS, Text};
+use sm_model::{RawNode, Statement, TraitUse, TraitUses};
+use sm_tree::MOST_LEVELS;
 use std::alloc::Global;
 
 /// The value of a trait with these arguments: without any it is an object without pairs.
@@ -27,17 +28,10 @@ fn argument_value(alloc: Global, given: Option<Option<RawNode>>) -> RawNode
     match given {
         Some(given) => match given {
             Some(value) => value,
-            None => RawNode::Object(RawPairs::new(Vec::new(alloc))),
+            None => empty_node(alloc),
         },
-        None => RawNode::Object(RawPairs::new(Vec::new(alloc))),
+        None => empty_node(alloc),
     }
-}
-
-/// An object of these pairs.
-fn object_node(pairs: Vec<(Text, RawNode)>) -> RawNode
-    ensures { raw_view result ≡ as_object (raw_members_view pairs.items) }
-{
-    RawNode::Object(RawPairs::new(pairs))
 }
 
 impl<'t, 'a> Reader<'t, 'a> {

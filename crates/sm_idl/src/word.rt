@@ -2,13 +2,14 @@
 ghost use Rattle.std.specs.Prelude.{◌≡◌, ◌↔◌, IsTrue, Option};
 ghost use Rattle.sm_model.specs.Raw.{Raw};
 ghost use Rattle.sm_model.specs.References.{IsRelativeId};
-ghost use Rattle.sm_idl.specs.Words.{IsWordId, id, identifier};
-ghost use Rattle.sm_idl.specs.Nodes.{Home, WordSays};
+ghost use Rattle.sm_ids.specs.Identifier.{IsNamespace};
+ghost use Rattle.sm_idl.specs.Words.{IsWordId, id, identifier, word_that};
+ghost use Rattle.sm_idl.specs.Nodes.{Home, IsNodeId, WordSays};
 ghost use Rattle.sm_idl.specs.Shapes.{type_word};
 ghost use Rattle.sm_idl.specs.steps.ReaderView.{left, Reads, ReadsAs};
 
 use crate::reader::{Reader, Stop};
-use sm_ids::{ShapeIdRef, is_identifier};
+use sm_ids::{ShapeIdRef, is_identifier, is_namespace};
 use sm_lex::TokenKind;
 use sm_model::Kind;
 
@@ -44,6 +45,22 @@ pub(crate) fn is_node_word(word: &str) -> bool
     }
     if word == "null" {
         return true;
+    }
+    is_word_id(word)
+}
+
+/// Whether a word of a node is an id.
+pub(crate) fn is_node_id(word: &str) -> bool
+    ensures { IsTrue result ↔ IsNodeId word.now }
+{
+    if word == "true" {
+        return false;
+    }
+    if word == "false" {
+        return false;
+    }
+    if word == "null" {
+        return false;
     }
     is_word_id(word)
 }
@@ -102,6 +119,46 @@ impl<'t, 'a> Reader<'t, 'a> {
                     }
                     None => Err(Stop::Syntax),
                 },
+                _ => Err(Stop::Syntax),
+            },
+            None => Err(Stop::Syntax),
+        }
+    }
+
+    /// Reads an id of a node.
+    pub(crate) fn node_id(&mut self) -> Result<&'a str, Stop>
+        ensures { ReadsAs (λ w. w.now) (word_that IsNodeId) (left self.old) (left self.new) result }
+    {
+        match self.next() {
+            Some(token) => match token.kind {
+                TokenKind::Word => {
+                    if is_node_id(token.text) {
+                        self.take();
+                        Ok(token.text)
+                    } else {
+                        Err(Stop::Syntax)
+                    }
+                }
+                _ => Err(Stop::Syntax),
+            },
+            None => Err(Stop::Syntax),
+        }
+    }
+
+    /// Reads a namespace.
+    pub(crate) fn namespace(&mut self) -> Result<&'a str, Stop>
+        ensures { ReadsAs (λ w. w.now) (word_that IsNamespace) (left self.old) (left self.new) result }
+    {
+        match self.next() {
+            Some(token) => match token.kind {
+                TokenKind::Word => {
+                    if is_namespace(token.text) {
+                        self.take();
+                        Ok(token.text)
+                    } else {
+                        Err(Stop::Syntax)
+                    }
+                }
                 _ => Err(Stop::Syntax),
             },
             None => Err(Stop::Syntax),
