@@ -31,6 +31,15 @@ mod PickedIds
 mod SelectorWeight
 mod SelectorViews
 mod Results
+mod LongestNumbers
+mod TakenTokens
+mod TakenWords
+mod TakenQuotes
+mod ReadTexts
+mod ReadAttributes
+mod ReadSteps
+mod OtherForms
+mod StackPlaces
 mod StepImages
 mod SelectorLists
 mod SignBoundaries

@@ -44,7 +44,7 @@ Named (key k) w = ⊥
 Named (value v) w = ⊥
 
 -- these words are identifiers
-type_identifier : (k : Option Kind) → IsIdentifier (type_word k)
+pub type_identifier : (k : Option Kind) → IsIdentifier (type_word k)
 type_identifier None = refl
 type_identifier (Some Blob) = refl
 type_identifier (Some Boolean) = refl
@@ -134,12 +134,12 @@ sign_or_named a_relation (a_relation {r = r}) v n t e = inr (relation_name r, re
 sign_or_named end_sign end_sign v n t e = absurd n
 
 -- the run that stands first is a word's text where an identifier is a token there
-no_bracket : (c : ℕ) (s : List ℕ) → begins_run c ≡ true → BeginsOther (c ∷ s) → ⊥
+pub no_bracket : (c : ℕ) (s : List ℕ) → begins_run c ≡ true → BeginsOther (c ∷ s) → ⊥
 no_bracket c s h (inl (more, e)) = absurd (let f : false ≡ true = subst (λ x. begins_run x ≡ true) (heads c 60 s (45 ∷ 91 ∷ more) e) h in
     cc)
 no_bracket c s h (inr (more, e)) = absurd (let f : false ≡ true = subst (λ x. begins_run x ≡ true) (heads c 91 s (64 ∷ more) e) h in cc)
 
-run_all : (run s behind : List ℕ) → IsRun run s behind → list_all is_run_byte run ≡ true
+pub run_all : (run s behind : List ℕ) → IsRun run s behind → list_all is_run_byte run ≡ true
 run_all run s behind r = subst (λ x. list_all is_run_byte x ≡ true) (sym r.is)
     (and_also (is_run_byte r.first) (list_all is_run_byte r.more) (begin_is_run r.first r.begins) (list_all-from_AllPass is_run_byte
     r.more r.goes_on))

@@ -1,5 +1,5 @@
 -- What a text's end, or a place where nothing leads on, says of the whole text.
-use Rattle.std.proofs.Common.{◌≡◌, inl, inr, ℕ, ◌+◌, ◌≤◌, List, [], ◌∷◌, length, sym, ap, subst, arith}
+use Rattle.std.proofs.Common.{◌≡◌, inl, inr, ℕ, ◌+◌, ◌≤◌, List, [], ◌∷◌, length, sym, ap, subst, arith, Result, Ok, Err}
 use Rattle.sm_select.specs.Selectors.{Steps}
 use Rattle.sm_select.specs.Tokens.{Token, EndsWhite, SkipsWhite, TokenThen}
 use Rattle.sm_select.specs.SelectorText.{SelectorText, IsSelectorText, Comes, Furthest, BreaksBy, LeavesProfile, OtherForm}
@@ -7,7 +7,7 @@ use Rattle.sm_select.specs.declared.refusal.SelectorRefusal.{SelectorRefusal}
 use Rattle.sm_select.specs.declared.refusal.SelectorRefusal.TheVariants.{Syntax, OutOfProfile, NoMemory}
 use Rattle.sm_select.specs.steps.Places.{Place, stepping, Runs, IsWhole, IsStepping}
 use Rattle.sm_select.specs.steps.Standing.{Passes, Reaches, StopsAt}
-use Rattle.sm_select.specs.steps.Reader.{Stuck, IsNotWhole, IsPlaced, Refuses}
+use Rattle.sm_select.specs.steps.Reader.{Stuck, IsNotWhole, IsPlaced, ReadsTo, Refuses}
 use Rattle.sm_select.proofs.RestsBefore.{run_spells}
 use Rattle.sm_select.proofs.SpelledRuns.{spelled_runs}
 use Rattle.sm_select.proofs.Closings.{run_begun, begun_run, step_comes, comes_step}
@@ -107,3 +107,12 @@ refused_behind len p q s r (OutOfProfile at) passes (n, rest, stuck, steps, othe
   placed,
 )
 refused_behind len p q s r NoMemory passes refused = tt
+
+-- a part that is read behind what was read, or refused there
+pub read_behind : {A : Type 0} (len n : ℕ) (p q : Place) (s r x : List ℕ) (next : A → Place) (result : Result A SelectorRefusal) → n ≡ len
+    → Passes p s q r
+    → ReadsTo n q r x next result
+    → ReadsTo len p s x next result
+read_behind len n p q s r x next (Ok v) e passes read = passes_joined p q (next v) s r x passes read
+read_behind len n p q s r x next (Err refusal) e passes refused =
+    refused_behind len p q s r refusal passes (subst (λ k. Refuses k q r refusal) e refused)

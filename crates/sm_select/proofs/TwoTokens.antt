@@ -27,7 +27,7 @@ use Rattle.sm_select.proofs.SignPairs.{sign_then, then_word, quoted_head, numera
 use Rattle.sm_select.proofs.SignPairs.{first_dead, second_dead, word_pair, sign_pair, sign_no_word, id_pair}
 
 -- quoted texts
-free_all : (mark : ℕ) (t : List ℕ) → IsFree mark t → list_all (λ c. not (c == mark)) t ≡ true
+pub free_all : (mark : ℕ) (t : List ℕ) → IsFree mark t → list_all (λ c. not (c == mark)) t ≡ true
 free_all mark [] free = refl
 free_all mark (c ∷ t) free =
     and_also (not (c == mark)) (list_all (λ x. not (x == mark)) t) (not_of (c == mark) (λ e. free (0, omega arith, eq_of c mark e)))
@@ -46,7 +46,7 @@ one_quoted mark v w r b fv fw e =
     inner in
     (k.0, tails mark mark r b k.1)
 
-quoted_same : (v w s r b : List ℕ) → TokenThen (quoted v) s r → TokenThen (quoted w) s b → (v ≡ w) × (r ≡ b)
+pub quoted_same : (v w s r b : List ℕ) → TokenThen (quoted v) s r → TokenThen (quoted w) s b → (v ≡ w) × (r ≡ b)
 quoted_same v w s r b h k = by_marks h.is_token k.is_token
   where
     whole : h.bytes ++ r ≡ k.bytes ++ b
@@ -75,7 +75,7 @@ split_head w s r t = (
   t.shape.of_run.begins,
 )
 
-word_no_quoted : (t u : Token) (s r b w v : List ℕ) → t ≡ word w → u ≡ quoted v → TokenThen t s r → TokenThen u s b → ⊥
+pub word_no_quoted : (t u : Token) (s r b w v : List ℕ) → t ≡ word w → u ≡ quoted v → TokenThen t s r → TokenThen u s b → ⊥
 word_no_quoted t u s r b w v e f h k = by_head (split_head w s r (then_word t w s r e h))
   where
     by_head : (c : ℕ) × (more : List ℕ) × (s ≡ c ∷ more) × (begins_run c ≡ true) → ⊥
@@ -87,14 +87,14 @@ word_no_quoted t u s r b w v e f h k = by_head (split_head w s r (then_word t w 
 letter_no_number : (c : ℕ) → begins_run c ≡ true → begins_number c ≡ false
 letter_no_number c h = grind (arith, nat_tests)
 
-word_no_numeral : (t u : Token) (s r b w v : List ℕ) → t ≡ word w → u ≡ numeral v → TokenThen t s r → TokenThen u s b → ⊥
+pub word_no_numeral : (t u : Token) (s r b w v : List ℕ) → t ≡ word w → u ≡ numeral v → TokenThen t s r → TokenThen u s b → ⊥
 word_no_numeral t u s r b w v e f h k = by_head (split_head w s r (then_word t w s r e h))
   where
     by_head : (c : ℕ) × (more : List ℕ) × (s ≡ c ∷ more) × (begins_run c ≡ true) → ⊥
     by_head (c, more, g, l) = clash (begins_number c) (numeral_head v s b c more (subst (λ x. TokenThen x s b) f k) g) (letter_no_number
         c l)
 
-numeral_no_quoted : (t u : Token) (s r b w v : List ℕ) → t ≡ numeral w → u ≡ quoted v → TokenThen t s r → TokenThen u s b → ⊥
+pub numeral_no_quoted : (t u : Token) (s r b w v : List ℕ) → t ≡ numeral w → u ≡ quoted v → TokenThen t s r → TokenThen u s b → ⊥
 numeral_no_quoted t u s r b w v e f h k = by_token (subst (λ x. TokenThen x s r) e h)
   where
     by_token : TokenThen (numeral w) s r → ⊥
@@ -126,7 +126,7 @@ two_prefixes (c ∷ v) (d ∷ w) r b e =
     subst (λ x. TwoPrefixes (c ∷ v) (x ∷ w) r b) (heads c d (v ++ r) (w ++ b) e) (prefix_more c v w r b (two_prefixes v w r b (tails c d
     (v ++ r) (w ++ b) e)))
 
-byte_within : (p : ℕ → Bool) (xs ys : List ℕ) (c : ℕ) → list_all p (xs ++ c ∷ ys) ≡ true → p c ≡ true
+pub byte_within : (p : ℕ → Bool) (xs ys : List ℕ) (c : ℕ) → list_all p (xs ++ c ∷ ys) ≡ true → p c ≡ true
 byte_within p xs ys c h =
     (both (p c) (list_all p ys) (both (list_all p xs) (list_all p (c ∷ ys)) (sym (list_all-append p xs (c ∷ ys)) ∙ h)).1).0
 

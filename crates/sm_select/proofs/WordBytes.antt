@@ -188,7 +188,7 @@ dollar_behind m r q h e = by_text (identifier_text m h)
       shorter = let l : length r ≡ length (36 ∷ (m ++ q)) = ap length e in let k = length-append m q in omega arith;
     }
 
-member_run_ends : (m : Option (List ℕ)) (r : List ℕ) → EndsRun is_run_byte r → EndsRun is_run_byte (member_text m ++ r)
+pub member_run_ends : (m : Option (List ℕ)) (r : List ℕ) → EndsRun is_run_byte r → EndsRun is_run_byte (member_text m ++ r)
 member_run_ends None r h = h
 member_run_ends (Some m) r h = refl
 

@@ -6,3 +6,5 @@ pub mod Standing
 pub mod Reader
 pub mod Imaging
 pub mod Filtering
+pub mod Taking
+pub mod Stack

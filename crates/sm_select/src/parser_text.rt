@@ -1,7 +1,7 @@
 // What is left of a selector's text, and what stands at its start.
 ghost use Rattle.std.specs.Prelude.{◌≡◌, ◌≤◌, MatchBool, true, false, drop, length};
 ghost use Rattle.sm_select.specs.Tokens.{SkipsWhite};
-ghost use Rattle.sm_select.specs.steps.Signs.{first_sign, sign_text, stands};
+ghost use Rattle.sm_select.specs.steps.Signs.{sign_text, stands};
 ghost use Rattle.sm_select.specs.SelectorText.{IsUnclosed};
 ghost use Rattle.sm_select.specs.steps.Reader.{IsPlaced, IsRunAt, begins_a_run, begins_white};
 
@@ -36,6 +36,7 @@ impl ByteClass for RunBytes {
 }
 
 /// What is left of a text that is read. White space never stands first.
+#[derive(Drop)]
 pub struct Reading<'a> {
     /// What isn't read yet.
     pub rest: &'a str,
@@ -95,18 +96,6 @@ impl<'a> Reading<'a> {
         self.rest = without_word(self.rest, word);
     }
 
-    /// The sign of these that stands first, the first of them where there are several.
-    pub fn sign(&self, signs: &[Sign]) -> Option<Sign>
-        ensures { result ≡ first_sign signs.now self.now.rest.now }
-    {
-        for sign in signs {
-            if stands(*sign, self.rest.as_bytes()) {
-                return Some(*sign);
-            }
-        }
-        None
-    }
-
     /// Whether this sign stands first.
     pub fn starts(&self, sign: Sign) -> bool
         ensures { result ≡ stands sign self.now.rest.now }
@@ -127,12 +116,16 @@ impl<'a> Reading<'a> {
     pub fn word(&self) -> &'a str
         ensures { IsRunAt self.now.rest.now result.now }
     {
-        let bytes = self.rest.as_bytes();
-        if begins_a_run(bytes) {
-            self.rest.split_at(run_len::<RunBytes>(bytes)).0
-        } else {
-            ""
-        }
+        run_at(self.rest)
+    }
+
+    /// What stands behind a token that stands first is left, but for white space.
+    pub fn pass_to(&mut self, behind: &'a str)
+        requires { length behind.now ≤ length self.old.rest.now }
+        ensures rest { SkipsWhite behind.now self.new.rest.now }
+        ensures len { self.new.len ≡ self.old.len }
+    {
+        self.rest = without_white(behind);
     }
 
     /// The refusal of what stands first: its place, or the text's length where it is quoted text without an end.
@@ -144,6 +137,18 @@ impl<'a> Reading<'a> {
         } else {
             SelectorRefusal::Syntax((self.len - self.rest.len()) as u64)
         }
+    }
+}
+
+/// The run that stands first; nothing where none does.
+pub fn run_at(rest: &str) -> &str
+    ensures { IsRunAt rest.now result.now }
+{
+    let bytes = rest.as_bytes();
+    if begins_a_run(bytes) {
+        rest.split_at(run_len::<RunBytes>(bytes)).0
+    } else {
+        ""
     }
 }
 

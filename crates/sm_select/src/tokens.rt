@@ -110,8 +110,8 @@ fn may_end(sign: Sign, behind: &[u8]) -> bool
     }
 }
 
-// Whether a run goes on with these bytes.
-fn goes_on(behind: &[u8]) -> bool
+/// Whether a run goes on with these bytes.
+pub fn goes_on(behind: &[u8]) -> bool
     ensures { result ≡ goes_on_with_run behind.now }
 {
     match behind {

@@ -1,11 +1,15 @@
 -- What the parts of the reader of selectors answer.
-use Rattle.std.specs.Prelude.{◌≡◌, ◌⊎◌, ℕ, ◌+◌, Bool, false, List, [], ◌∷◌, length, Result, Ok, Err}
-use Rattle.sm_select.specs.Selectors.{Steps}
+use Rattle.std.specs.Prelude.{◌≡◌, ◌⊎◌, ℕ, ◌+◌, Bool, false, List, [], ◌∷◌, ◌++◌, length, Option, Some, None, Result, Ok}
+use Rattle.std.specs.Prelude.{Err}
+use Rattle.sm_select.specs.Selectors.{Attribute, id_of, namespace_of, name_of, member_of, trait_of, Step, compares, Steps}
 use Rattle.sm_select.specs.Tokens.{EndsWhite, begins_run, is_selector_white}
 use Rattle.sm_select.specs.SelectorText.{IsRun, IsUnclosed, OtherForm}
 use Rattle.sm_select.specs.declared.refusal.SelectorRefusal.{SelectorRefusal}
 use Rattle.sm_select.specs.declared.refusal.SelectorRefusal.TheVariants.{Syntax, OutOfProfile, NoMemory}
-use Rattle.sm_select.specs.steps.Places.{Place, IsStepping, IsWhole}
+use Rattle.sm_select.specs.declared.selector.SelectorOp.{SelectorOp}
+use Rattle.sm_select.specs.declared.tokens.Sign.TheVariants.{Bar}
+use Rattle.sm_select.specs.steps.Signs.{stands}
+use Rattle.sm_select.specs.steps.Places.{Frame, Place, stepping, value_wanted, IsStepping, IsWhole}
 use Rattle.sm_select.specs.steps.Standing.{Passes, StopsAt}
 
 -- the first byte is white space, or begins a run
@@ -47,6 +51,19 @@ Refuses len p s (Syntax at) =
 Refuses len p s (OutOfProfile at) =
     (q : Place) × (rest : List ℕ) × Stuck p s q rest × IsStepping q × OtherForm rest × (at + length rest ≡ len)
 Refuses len p s NoMemory = Unit {0}
+
+-- where a path may go on with a key, none follows
+abbrev pub NoKeyFollows : Attribute → List ℕ → Type 0
+NoKeyFollows id_of s = Unit {0}
+NoKeyFollows namespace_of s = Unit {0}
+NoKeyFollows name_of s = Unit {0}
+NoKeyFollows member_of s = Unit {0}
+NoKeyFollows (trait_of u ks) s = stands Bar s ≡ false
+
+-- behind a value another is to come, or the attribute ends
+abbrev pub behind_a_value : List Step → List Frame → Attribute → SelectorOp → List (List ℕ) → Option Bool → Place
+behind_a_value ss fs path op vs None = value_wanted ss fs path op vs
+behind_a_value ss fs path op vs (Some fold) = stepping (ss ++ compares path op vs fold ∷ []) fs
 
 -- the text s is read as x from one place to another, and then r is left
 abbrev pub ReadsTo : {A : Type 0} → ℕ → Place → List ℕ → List ℕ → (A → Place) → Result A SelectorRefusal → Type 0
