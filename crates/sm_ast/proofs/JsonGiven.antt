@@ -26,7 +26,7 @@ id_utf8 t (id, is) = IsUtf8-from_ascii t (id_ascii id t is)
 ascii_byte : (c : ℕ) → is_identifier_byte c ≡ true → c < 128
 ascii_byte c h = grind (arith, nat_tests)
 
-identifier_utf8 : (t : List ℕ) → IsIdentifier t → IsUtf8 t
+pub identifier_utf8 : (t : List ℕ) → IsIdentifier t → IsUtf8 t
 identifier_utf8 t h =
     IsUtf8-from_ascii t (IsAscii-from_all t
     (λ k d lt. ascii_byte _ (AllPass-from_list_all is_identifier_byte t (made_of_bytes t h) k d lt)))

@@ -15,23 +15,23 @@ use Rattle.sm_commands.proofs.SomeConvert.{convert_answered}
 
 pub one_answer : OneAnswer
 one_answer folder input (body_command model shape) c d h i = body_same json json json_readable folder input model shape c d h i
-one_answer folder input (convert_command first others) c d h i = convert_same folder first others c d h i
+one_answer folder input (convert_command models) c d h i = convert_same folder models c d h i
 
 pub some_answer : SomeAnswer
 some_answer folder input (body_command model shape) there none =
     let file = there model (0, omega arith, refl) in body_answered json json json_readable folder model shape input file.0 file.1 none
-some_answer folder input (convert_command first others) there none = convert_answered folder input first others there none
+some_answer folder input (convert_command models) there none = convert_answered folder models there none
 
 -- the input is untouched, or its stage is reached
 pub says_reaches : (t : Told) (command : Command) (c : Came) → Says t command c → (c.input ≡ untouched) ⊎ ReachesInput t command
 says_reaches t (body_command model shape) c (by_model a h e) = inl (ap (λ (x : Came). x.input) e)
 says_reaches t (body_command model shape) c (long_input chosen input is long e) = inr chosen
 says_reaches t (body_command model shape) c (by_text input a says e) = inr input.chosen
-says_reaches t (convert_command first others) c (a, says, e) = inl (ap (λ (x : Came). x.input) e)
+says_reaches t (convert_command models) c (a, says, e) = inl (ap (λ (x : Came). x.input) e)
 
 reaches_touches : (t : Told) (command : Command) → ReachesInput t command → touches_input command ≡ true
 reaches_touches t (body_command model shape) h = refl
-reaches_touches t (convert_command first others) h = absurd h
+reaches_touches t (convert_command models) h = absurd h
 
 pub input_reached : InputReached
 input_reached t command = (says_reaches t command, reaches_touches t command)

@@ -24,11 +24,15 @@ pub mod LongFiles
 pub mod FilesRead
 pub mod NoTrees
 pub mod Bodies
+pub mod Loads
 pub mod Converts
 pub mod OneForm
 pub mod Readable
 pub mod OneBody
 pub mod SomeBody
+pub mod OneLoad
+pub mod SomeLoad
+pub mod MergedJson
 pub mod OneConvert
 pub mod SomeConvert
 pub mod Commanded

@@ -1,16 +1,21 @@
 -- The commands as data: the form of each one's words, and what it may touch of the outside.
-use Rattle.std.specs.Prelude.{◌≡◌, ℕ, Bool, true, false, List, [], ◌∷◌, ◌++◌, codes, Contains}
+use Rattle.std.specs.Prelude.{◌≡◌, ◌<◌, ℕ, Bool, true, false, List, [], ◌∷◌, ◌++◌, codes, Contains, length}
 
 pub data Command : Type 0 where
   -- body MODELFILE SHAPE json json
   body_command : (model shape : List ℕ) → Command
   -- convert MODEL+ ast
-  convert_command : (first : List ℕ) → (others : List (List ℕ)) → Command
+  convert_command : (models : List (List ℕ)) → Command
+
+-- the words are a command's name, one model file or more, and a last word
+pub record AreOverModels (words : List (List ℕ)) (name : List ℕ) (models : List (List ℕ)) (last : List ℕ) : Type 0 where
+  pub some : 0 < length models
+  pub are : words ≡ name ∷ (models ++ last ∷ [])
 
 -- the words have the form of the command
 abbrev pub IsCommandForm : List (List ℕ) → Command → Type 0
 IsCommandForm words (body_command model shape) = words ≡ codes "body" ∷ model ∷ shape ∷ codes "json" ∷ codes "json" ∷ []
-IsCommandForm words (convert_command first others) = words ≡ codes "convert" ∷ first ∷ (others ++ codes "ast" ∷ [])
+IsCommandForm words (convert_command models) = AreOverModels words (codes "convert") models (codes "ast")
 
 -- they have the form of none
 abbrev pub IsNoForm : List (List ℕ) → Type 0
@@ -23,17 +28,17 @@ OneCommandForm = (words : List (List ℕ)) (command command1 : Command) → IsCo
 -- the names of the files that a command may read
 abbrev pub reads : Command → List (List ℕ)
 reads (body_command model shape) = model ∷ []
-reads (convert_command first others) = first ∷ others
+reads (convert_command models) = models
 
 -- the names of the files that it may write
 abbrev pub writes : Command → List (List ℕ)
 writes (body_command model shape) = []
-writes (convert_command first others) = []
+writes (convert_command models) = []
 
 -- whether it may read the input
 abbrev pub touches_input : Command → Bool
 touches_input (body_command model shape) = true
-touches_input (convert_command first others) = false
+touches_input (convert_command models) = false
 
 -- the files that such words name to be read may be read
 abbrev pub LetsRead : (List ℕ → Type 0) → List (List ℕ) → Type 0

@@ -18,6 +18,8 @@ pub mod Stages
 pub mod NoTree
 pub mod Body
 pub mod ModelFiles
+pub mod FileStatements
+pub mod Loading
 pub mod Convert
 pub mod Says
 pub mod Run

@@ -1,6 +1,7 @@
--- The lines that are printed for what is refused. Each ends with a line feed.
+-- The lines that are printed for what is refused, and for what is told. Each ends with a line feed.
 use Rattle.std.specs.Prelude.{ℕ, List, [], ◌∷◌, ◌++◌, codes}
 use Rattle.std.specs.Fmt.{decimal}
+use Rattle.std.specs.List.{flat_map}
 use Rattle.sm_bytes.specs.Ascii.{space, line_feed}
 use Rattle.sm_tree.specs.Pointer.{pointer}
 use Rattle.sm_tree.specs.declared.path.Step.{Step}
@@ -9,8 +10,12 @@ use Rattle.sm_tree.specs.declared.refusal.SyntaxRefusal.TheVariants.{Bad, Ended,
 use Rattle.sm_shapes.specs.FaultWords.{fault_word}
 use Rattle.sm_shapes.specs.declared.fault.FaultKind.{FaultKind}
 use Rattle.sm_ast.specs.Faults.{AstFault, version, field, wrong_type, bad_id}
-use Rattle.sm_plain.specs.Limits.{size_limit, size_limit_word}
-use Rattle.sm_plain.specs.declared.limit.LimitKind.{LimitKind}
+use Rattle.sm_model.specs.EventView.{EventTold}
+use Rattle.sm_model.specs.declared.event.Severity.{Severity}
+use Rattle.sm_model.specs.declared.event.Severity.TheVariants.{Note, Warning, Danger, Error}
+use Rattle.sm_merge.specs.declared.limit.LimitKind.{LimitKind}
+use Rattle.sm_merge.specs.declared.limit.LimitKind.TheVariants.{Shapes, Members, AllMembers, Traits}
+use Rattle.sm_merge.specs.declared.limit.TheConstants.{SHAPE_LIMIT, MEMBER_LIMIT, ALL_MEMBER_LIMIT, TRAIT_LIMIT}
 use Rattle.sm_commands.specs.Limits.{files_limit, file_limit, bytes_limit, body_limit}
 
 -- a word, a blank and a text
@@ -65,6 +70,18 @@ abbrev pub bytes_limit_line : List ℕ
 bytes_limit_line = limit_line (codes "bytes") bytes_limit
 
 -- that of a limit on the size of a graph
+abbrev pub size_limit : LimitKind → ℕ
+size_limit Shapes = SHAPE_LIMIT
+size_limit Members = MEMBER_LIMIT
+size_limit AllMembers = ALL_MEMBER_LIMIT
+size_limit Traits = TRAIT_LIMIT
+
+abbrev pub size_limit_word : LimitKind → List ℕ
+size_limit_word Shapes = codes "shapes"
+size_limit_word Members = codes "members"
+size_limit_word AllMembers = codes "allmembers"
+size_limit_word Traits = codes "traits"
+
 abbrev pub size_limit_line : LimitKind → List ℕ
 size_limit_line kind = limit_line (size_limit_word kind) (size_limit kind)
 
@@ -73,3 +90,21 @@ file_limit_line = limit_line (codes "file") file_limit
 
 abbrev pub body_limit_line : List ℕ
 body_limit_line = limit_line (codes "body") body_limit
+
+-- an event of a model: its severity, its id, the shape or member that it speaks of, and its detail where it has one
+abbrev pub severity_word : Severity → List ℕ
+severity_word Note = codes "NOTE"
+severity_word Warning = codes "WARNING"
+severity_word Danger = codes "DANGER"
+severity_word Error = codes "ERROR"
+
+abbrev pub detail_part : List ℕ → List ℕ
+detail_part [] = []
+detail_part (c ∷ cs) = space ∷ c ∷ cs
+
+abbrev pub event_line : Severity → EventTold → List ℕ
+event_line severity e = line (severity_word severity) (e.event ++ (space ∷ (e.shape ++ detail_part e.detail)))
+
+-- events for which a model is rejected
+abbrev pub error_lines : List EventTold → List ℕ
+error_lines es = flat_map (event_line Error) es

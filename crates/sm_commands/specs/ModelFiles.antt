@@ -6,11 +6,17 @@ use Rattle.sm_commands.specs.Limits.{bytes_limit}
 use Rattle.sm_commands.specs.Lines.{file_limit_line, bytes_limit_line}
 use Rattle.sm_commands.specs.Stages.{FileRead, FileTooLong}
 
--- each of these files is there within its limit, and with so many bytes before them they are within that of all
-abbrev pub AllRead : Option Folder → ℕ → List (List ℕ) → Type 0
-AllRead files before [] = Unit {0}
-AllRead files before (name ∷ names) =
-    (file : FileRead files name) × (before + length file.bytes ≤ bytes_limit) × AllRead files (before + length file.bytes) names
+-- a model file that was read
+pub record ModelFile : Type 0 where
+  pub name : List ℕ
+  pub bytes : List ℕ
+
+-- each of these files is there within its limit, and with so many bytes before them they are within that of all; and these are they
+abbrev pub AreRead : Option Folder → ℕ → List (List ℕ) → List ModelFile → Type 0
+AreRead files before [] read = read ≡ []
+AreRead files before (name ∷ names) read =
+    (file : FileRead files name) × (more : List ModelFile) × (read ≡ record { name = name; bytes = file.bytes } ∷ more)
+    × (before + length file.bytes ≤ bytes_limit) × AreRead files (before + length file.bytes) names more
 
 -- the answer to the first limit that is passed: a file is too long, or with it all are
 abbrev pub PassesOne : Option Folder → ℕ → List (List ℕ) → Answer → Type 0

@@ -12,12 +12,12 @@ use Rattle.sm_commands.specs.Convert.{ConvertSays}
 
 abbrev pub Says : Told → Command → Came → Type 0
 Says t (body_command model shape) c = BodySays json json t model shape c
-Says t (convert_command first others) c = (a : Answer) × ConvertSays t.files first others a × (c ≡ came untouched a)
+Says t (convert_command models) c = (a : Answer) × ConvertSays t.files models a × (c ≡ came untouched a)
 
 -- the stage from which the command reads the input: nothing that stands before it is refused
 abbrev pub ReachesInput : Told → Command → Type 0
 ReachesInput t (body_command model shape) = ShapeChosen t.files model shape
-ReachesInput t (convert_command first others) = ⊥
+ReachesInput t (convert_command models) = ⊥
 
 -- a law: files and an input that are told determine what a command comes to
 abbrev pub OneAnswer : Type 0

@@ -6,5 +6,6 @@ pub mod RowsSoFar
 pub mod CommandSteps
 pub mod FileSteps
 pub mod BodySteps
+pub mod LoadSteps
 pub mod ConvertSteps
 pub mod Asked

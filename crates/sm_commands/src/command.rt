@@ -23,7 +23,7 @@ use std::alloc::Global;
 pub enum Status {
     /// Its work is done.
     Done,
-    /// The model, the shape or the body is refused; a line was printed.
+    /// The model, the shape or the body is refused; a line or more were printed.
     Refused,
     /// The words have none of the forms; nothing was printed.
     Usage,
@@ -119,9 +119,10 @@ fn print<K: Sink>(out: &mut K, came: Result<Vec<u8>, Stop>) -> Status
 /// Does what the words ask for, and answers the status of the process. `body MODELFILE SHAPE json json` prints
 /// the canonical body of the value that the input spells (0), or the line of the first thing that is refused:
 /// the model file's length (7), the model, the shape (1); the input's length (7), its syntax, its faults (1).
-/// The input is touched only where nothing that stands before it is refused. `convert MODEL+ ast` prints the graph of the model
-/// as one text of the JSON AST (0), or the line of the first thing that is refused: the number of its files, their lengths (7),
-/// the first file's text, its model, and what isn't merged yet (1); it doesn't touch the input.
+/// The input is touched only where nothing that stands before it is refused. `convert MODEL+ ast` prints the graph that model
+/// files merge to as one text of the JSON AST (0), or the lines of the first that is refused: the number of its files, their
+/// lengths (7), their texts and models, file by file (1), the size of the graph (7), all that is wrong with it (1); it doesn't
+/// touch the input.
 ///
 /// 2: the words have no form, and nothing is touched. 3: a read of the file or of the input failed, and nothing
 /// is put. 4: the output failed, and holds a prefix of what was to be put. 5: memory ran out, and nothing is put.

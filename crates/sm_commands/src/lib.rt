@@ -10,6 +10,7 @@ mod file;
 mod files;
 pub mod laws;
 mod lines;
+mod loading;
 pub mod model;
 mod opening;
 mod stop;

@@ -1,12 +1,16 @@
-// The lines that are printed for what is refused.
-ghost use Rattle.std.specs.Prelude.{◌≡◌, ◌++◌, Some, IfOk, string_bytes};
+// The lines that are printed for what is refused, and for what is told.
+ghost use Rattle.std.specs.Prelude.{◌≡◌, ◌++◌, Some, IfOk, OnOk, string_bytes};
+ghost use Rattle.std.specs.List.{flat_map};
 ghost use Rattle.sm_tree.specs.Pointer.{pointer};
+ghost use Rattle.sm_model.specs.EventView.{AreErrors, event_view, events_view};
 ghost use Rattle.sm_ast.specs.Answers.{Tells};
 ghost use Rattle.sm_ast.specs.Faults.{AstFault};
+ghost use Rattle.sm_commands.specs.Lines.{detail_part, event_line, error_lines as the_error_lines, severity_word as the_severity_word, size_limit, size_limit_word};
 ghost use Rattle.sm_commands.specs.Lines.{line as the_line, fault_line as the_fault_line, limit_line as the_limit_line, size_limit_line as the_size_limit_line, syntax_line as the_syntax_line, syntax_text as the_syntax_text, json_line as the_json_line, ast_line as the_ast_line, ast_text as the_ast_text};
 
 use sm_ast::AstRefusal;
-use sm_plain::LimitKind;
+use sm_merge::{ALL_MEMBER_LIMIT, LimitKind, MEMBER_LIMIT, SHAPE_LIMIT, TRAIT_LIMIT};
+use sm_model::{ModelEvent, Severity};
 use sm_shapes::Fault;
 use sm_tree::{NoMemory, Path, SyntaxRefusal};
 use std::alloc::Global;
@@ -48,7 +52,30 @@ pub(crate) fn limit_line(alloc: Global, word: &str, number: u64) -> Result<Vec<u
 pub(crate) fn size_limit_line(alloc: Global, kind: LimitKind) -> Result<Vec<u8>, NoMemory>
     ensures { IfOk result (λ line. line.items ≡ the_size_limit_line kind) }
 {
-    limit_line(alloc, kind.word(), kind.limit())
+    limit_line(alloc, word_of(kind), limit_of(kind))
+}
+
+// The word of a limit on the size of a graph, and the greatest number within it.
+fn word_of(kind: LimitKind) -> &'static str
+    ensures { result.now ≡ size_limit_word kind }
+{
+    match kind {
+        LimitKind::Shapes => "shapes",
+        LimitKind::Members => "members",
+        LimitKind::AllMembers => "allmembers",
+        LimitKind::Traits => "traits",
+    }
+}
+
+fn limit_of(kind: LimitKind) -> u64
+    ensures { result ≡ size_limit kind }
+{
+    match kind {
+        LimitKind::Shapes => SHAPE_LIMIT,
+        LimitKind::Members => MEMBER_LIMIT,
+        LimitKind::AllMembers => ALL_MEMBER_LIMIT,
+        LimitKind::Traits => TRAIT_LIMIT,
+    }
 }
 
 /// The line of a body that is no text.
@@ -114,4 +141,52 @@ fn placed(alloc: Global, word: &str, path: &Path) -> Result<String, NoMemory>
     let mut text = String::from_str(alloc, word)?;
     text.push_str(path.print(alloc)?.as_str())?;
     Ok(text)
+}
+
+// The word of a severity.
+fn severity_word(severity: Severity) -> &'static str
+    ensures { result.now ≡ the_severity_word severity }
+{
+    match severity {
+        Severity::Note => "NOTE",
+        Severity::Warning => "WARNING",
+        Severity::Danger => "DANGER",
+        Severity::Error => "ERROR",
+    }
+}
+
+/// The lines of events for which a model is rejected.
+pub(crate) fn error_lines(alloc: Global, events: &[ModelEvent]) -> Result<Vec<u8>, NoMemory>
+    ensures { AreErrors events.now → IfOk result (λ lines. lines.items ≡ the_error_lines (events_view events.now)) }
+{
+    let mut lines = Vec::new(alloc);
+    for event in events {
+        put_event(event, &mut lines)?;
+    }
+    Ok(lines)
+}
+
+// Appends the line of an event.
+fn put_event(event: &ModelEvent, lines: &mut Vec<u8>) -> Result<(), NoMemory>
+    ensures { OnOk result (lines.new.items ≡ lines.old.items ++ event_line event.now.severity (event_view event.now)) }
+{
+    lines.extend_from_slice(severity_word(event.severity).as_bytes())?;
+    lines.push(b' ')?;
+    lines.extend_from_slice(event.id.as_str().as_bytes())?;
+    lines.push(b' ')?;
+    lines.extend_from_slice(event.shape.as_str().as_bytes())?;
+    put_detail(event.detail.as_str(), lines)?;
+    lines.push(b'\n')?;
+    Ok(())
+}
+
+// Appends a detail behind a blank, where there is any.
+fn put_detail(detail: &str, lines: &mut Vec<u8>) -> Result<(), NoMemory>
+    ensures { OnOk result (lines.new.items ≡ lines.old.items ++ detail_part detail.now) }
+{
+    if !detail.is_empty() {
+        lines.push(b' ')?;
+        lines.extend_from_slice(detail.as_bytes())?;
+    }
+    Ok(())
 }

@@ -1,6 +1,6 @@
 // The words of a command, and the forms that they may have.
 ghost use Rattle.std.specs.Prelude.{◌≡◌, ◌↔◌, List, ℕ, [], ◌∷◌, ◌++◌, IsTrue, MatchOption};
-ghost use Rattle.sm_commands.specs.Commands.{IsCommandForm, IsNoForm, body_command, convert_command};
+ghost use Rattle.sm_commands.specs.Commands.{AreOverModels, IsCommandForm, IsNoForm, body_command, convert_command};
 ghost use Rattle.sm_commands.specs.steps.Asked.{command_of};
 
 use sm_tree::Text;
@@ -17,10 +17,8 @@ pub struct BodyWords<'a> {
 /// The words of `convert MODEL+ ast`.
 #[derive(Debug, Clone, Copy)]
 pub struct ConvertWords<'a> {
-    /// The name of the first model file.
-    pub first: &'a str,
-    /// The names of the others, in their order.
-    pub others: &'a [Text],
+    /// The names of the model files, in their order.
+    pub models: &'a [Text],
 }
 
 /// The forms that words may have.
@@ -72,32 +70,41 @@ fn body_words(words: &[Text]) -> Option<BodyWords<'_>>
 // The words of `convert`, where they have its form.
 fn convert_words(words: &[Text]) -> Option<ConvertWords<'_>>
     ensures { MatchOption result
-        ((first : List ℕ) (others : List (List ℕ)) → IsCommandForm words.now (convert_command first others) → ⊥)
-        (λ form. IsCommandForm words.now (convert_command form.first.now form.others.now)) }
+        ((models : List (List ℕ)) → IsCommandForm words.now (convert_command models) → ⊥)
+        (λ form. IsCommandForm words.now (convert_command form.models.now)) }
+{
+    let Some((models, last)) = model_words(words, "convert") else {
+        return None;
+    };
+    if !is_word(last, "ast") {
+        return None;
+    }
+    Some(ConvertWords { models })
+}
+
+// The model files and the last word, where the words are this command's name, one file or more, and a last word.
+fn model_words<'a>(words: &'a [Text], name: &str) -> Option<(&'a [Text], &'a Text)>
+    ensures { MatchOption result
+        ((models : List (List ℕ)) (last : List ℕ) → AreOverModels words.now name.now models last → ⊥)
+        (λ p. AreOverModels words.now name.now p.0.now p.1.now) }
 {
     let Some((command, rest)) = first_and_rest(words) else {
         return None;
     };
-    if !is_word(command, "convert") {
+    if !is_word(command, name) {
         return None;
     }
-    let Some((form, models)) = last_and_rest(rest) else {
+    let Some((last, models)) = last_and_rest(rest) else {
         return None;
     };
-    if !is_word(form, "ast") {
+    if models.is_empty() {
         return None;
     }
-    match first_and_rest(models) {
-        Some((first, others)) => Some(ConvertWords {
-            first: first.as_str(),
-            others,
-        }),
-        None => None,
-    }
+    Some((models, last))
 }
 
-/// The first word, and those behind it.
-pub(crate) fn first_and_rest(words: &[Text]) -> Option<(&Text, &[Text])>
+// The first word, and those behind it.
+fn first_and_rest(words: &[Text]) -> Option<(&Text, &[Text])>
     ensures { MatchOption result (words.now ≡ []) (λ p. words.now ≡ p.0.now ∷ p.1.now) }
 {
     words.split_first()

@@ -15,7 +15,7 @@ const HELP: &str = "\
 sm_tool body MODELFILE SHAPE json json
     Reads a JSON body of the shape from standard input, and prints its canonical form.
 sm_tool convert MODEL.. ast
-    Prints the graph of a model as one text of the JSON AST.
+    Merges model files, and prints their graph as one text of the JSON AST.
 sm_tool --help
 sm_tool --version
 ";

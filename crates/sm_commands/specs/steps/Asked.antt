@@ -5,4 +5,4 @@ use Rattle.sm_commands.specs.declared.words.Form.TheVariants.{Body, Convert}
 
 abbrev pub command_of : Form → Command
 command_of (Body words) = body_command words.model.now words.shape.now
-command_of (Convert words) = convert_command words.first.now words.others.now
+command_of (Convert words) = convert_command words.models.now

@@ -1,0 +1,17 @@
+use Rattle.std.proofs.Common.{rules}
+use Rattle.sm_io.specs.Seen.{files_seen}
+use Rattle.sm_commands.specs.Lines.{files_limit_line}
+use Rattle.sm_commands.specs.steps.LoadSteps.{texts_view}
+use Rattle.sm_commands.proofs.Loads.{files_many, graph_loads}
+use Rattle.sm_commands.proofs.loading.load.Goals as goal
+
+pub returns-then-models-gt-FILES_LIMIT-clause-loads : goal.returns-then-models-gt-FILES_LIMIT-clause-loads
+returns-then-models-gt-FILES_LIMIT-clause-loads g c =
+    let seen = files_seen (g.F.Files.held c.args.files.now) (g.F.Files.read_faults c.args.files.now) in
+    files_many seen seen c.args.models.now c.past.result (search rules) (c.past.ensures files_limit_line c.limit_line.ensures)
+
+pub returns-in-Ok-clause-loads : goal.returns-in-Ok-clause-loads
+returns-in-Ok-clause-loads g c =
+    graph_loads (files_seen (g.F.Files.held c.args.files.now) (g.F.Files.read_faults c.args.files.now))
+    (files_seen (g.F.Files.held c.read_models.new.files) (g.F.Files.read_faults c.read_models.new.files))
+    c.args.models.now (texts_view c.in-Ok.read.items) c.graph_of.result (search rules) c.in-Ok.ensures.reads c.graph_of.ensures

@@ -1,0 +1,131 @@
+// The graph of the model files of a command: they are read, each says statements, and these are merged.
+ghost use Rattle.std.specs.Prelude.{◌≡◌, ◌≤◌, List, ℕ, Contains, Some, Err};
+ghost use Rattle.sm_io.specs.Files.{LetsSame};
+ghost use Rattle.sm_io.specs.Seen.{files_seen};
+ghost use Rattle.sm_model.specs.Said.{Said};
+ghost use Rattle.sm_ast.specs.Answers.{Tells};
+ghost use Rattle.sm_ast.specs.Faults.{AstFault};
+ghost use Rattle.sm_merge.specs.Stated.{AreFormedFiles};
+ghost use Rattle.sm_merge.specs.Answers.{MergesTo};
+ghost use Rattle.sm_merge.specs.Files.{files_view};
+ghost use Rattle.sm_commands.specs.Lines.{ast_line as the_ast_line};
+ghost use Rattle.sm_commands.specs.steps.CommandSteps.{EndsWithLine, StepStops};
+ghost use Rattle.sm_commands.specs.Loading.{MergeAnswers};
+ghost use Rattle.sm_commands.specs.steps.LoadSteps.{ReadsStatements, ReadsAllStatements, Merges, TextsMerge, Loads, text_view, texts_view};
+
+use crate::file::tree_in;
+use crate::files::{ModelText, read_models};
+use crate::lines::{ast_line, error_lines, limit_line, size_limit_line};
+use crate::stop::{Stop, past, refused};
+use sm_ast::{AstRefusal, read_ast};
+use sm_io::Files;
+use sm_merge::{MergeRefusal, merge};
+use sm_model::{Graph, Statement};
+use sm_tree::Text;
+use std::alloc::Global;
+
+/// The greatest number of model files.
+const FILES_LIMIT: usize = 64;
+
+// The command ends with the line of a file whose text is no model.
+fn no_model(alloc: Global, name: &str, refusal: &AstRefusal) -> Stop
+    ensures { (fault : AstFault) → Tells (Some fault) refusal.now → EndsWithLine (the_ast_line name.now fault) result }
+{
+    refused(ast_line(alloc, name, refusal))
+}
+
+// The statements of a file, whose text is dropped before there is any, and its tree behind them; or the line of one that says none.
+fn statements_in(alloc: Global, file: ModelText<'_>) -> Result<Vec<Statement>, Stop>
+    ensures { ReadsStatements (text_view file.entry) result }
+{
+    let ModelText { name, bytes } = file;
+    let tree = match tree_in(alloc, name, &bytes) {
+        Ok(tree) => tree,
+        Err(stop) => return Err(stop),
+    };
+    drop(bytes);
+    match read_ast(alloc, &tree) {
+        Ok(statements) => Ok(statements),
+        Err(refusal) => match refusal {
+            AstRefusal::NoMemory => Err(Stop::NoMemory),
+            _ => Err(no_model(alloc, name, &refusal)),
+        },
+    }
+}
+
+// The statements of all files, or the line of the first that says none.
+fn all_statements(alloc: Global, files: Vec<ModelText<'_>>) -> Result<Vec<Vec<Statement>>, Stop>
+    ensures { ReadsAllStatements (texts_view files.entry.items) result }
+{
+    let mut said = Vec::new(alloc);
+    for file in files {
+        match statements_in(alloc, file) {
+            Ok(statements) => match said.push(statements) {
+                Ok(()) => {}
+                Err(_) => return Err(Stop::NoMemory),
+            },
+            Err(stop) => return Err(stop),
+        }
+    }
+    Ok(said)
+}
+
+// Why statements come to no graph: a limit, or the events of all that is wrong.
+fn not_merged(alloc: Global, refusal: MergeRefusal) -> Stop
+    ensures { (said : List (List Said)) → MergesTo said (Err refusal) → StepStops (MergeAnswers said) ⊥ (Unit {0}) result }
+{
+    match refusal {
+        MergeRefusal::Limit(kind) => past(size_limit_line(alloc, kind)),
+        MergeRefusal::Rejected(events) => refused(error_lines(alloc, events.as_slice())),
+        MergeRefusal::NoMemory => Stop::NoMemory,
+    }
+}
+
+// The graph of statements, which are dropped behind it.
+fn merged(alloc: Global, said: Vec<Vec<Statement>>) -> Result<Graph, Stop>
+    requires { AreFormedFiles (files_view said.items) }
+    ensures { Merges (files_view said.items) result }
+{
+    match merge(alloc, said.as_slice()) {
+        Ok(graph) => Ok(graph),
+        Err(refusal) => Err(not_merged(alloc, refusal)),
+    }
+}
+
+// The graph of files that were read.
+fn graph_of(alloc: Global, files: Vec<ModelText<'_>>) -> Result<Graph, Stop>
+    ensures { TextsMerge (texts_view files.entry.items) result }
+{
+    match all_statements(alloc, files) {
+        Ok(said) => merged(alloc, said),
+        Err(stop) => Err(stop),
+    }
+}
+
+/// The graph of these model files.
+///
+/// # Errors
+///
+/// In this order: more than 64 files; file by file one that can't be read, is too long, or with which all are too long; file by
+/// file a name of another form, a text that isn't JSON, a tree that is no model; a graph past a limit on its size; all that is
+/// wrong with it. At any step memory may run out.
+pub(crate) fn load<F: Files>(alloc: Global, files: &mut F, models: &[Text]) -> Result<Graph, Stop>
+    requires { (name : List ℕ) → Contains models.now name → F.lets_read files.old name }
+    ensures loads { Loads
+        (files_seen (F.held files.old) (F.read_faults files.old))
+        (files_seen (F.held files.new) (F.read_faults files.new))
+        models.now result }
+    ensures held { F.held files.new ≡ F.held files.old }
+    ensures read_faults { F.read_faults files.old ≤ F.read_faults files.new }
+    ensures write_faults { F.write_faults files.new ≡ F.write_faults files.old }
+    ensures same_reads { LetsSame (F.lets_read files.old) (F.lets_read files.new) }
+    ensures same_writes { LetsSame (F.lets_write files.old) (F.lets_write files.new) }
+{
+    if models.len() > FILES_LIMIT {
+        return Err(past(limit_line(alloc, "files", FILES_LIMIT as u64)));
+    }
+    match read_models(alloc, files, models) {
+        Ok(read) => graph_of(alloc, read),
+        Err(stop) => Err(stop),
+    }
+}

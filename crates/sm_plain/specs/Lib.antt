@@ -1,3 +1,0 @@
-pub mod Settled
-pub mod Plain
-pub mod Limits
