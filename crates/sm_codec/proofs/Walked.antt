@@ -1,9 +1,9 @@
 -- A tree that is walked where it is due comes to what it is read as there: its entries and pairs one after another, and what stands under a
 -- name of no member is skipped.
-use Rattle.std.proofs.Common.{◌≡◌, ◌⊎◌, inl, inr, append_assoc, append-nil, ℕ, zero, suc, Bool, true, false, List, [], ◌∷◌, ◌++◌, refl, sym, ap, ◌∙◌, subst, subst₂}
+use Rattle.std.proofs.Common.{◌≡◌, ◌⊎◌, inl, inr, append_assoc, append-nil, ℕ, Bool, true, false, List, [], ◌∷◌, ◌++◌, refl, sym, ap, ◌∙◌, subst}
 use Rattle.std.specs.Prelude.{Option, Some, None, unwrap_or}
-use Rattle.sm_tree.specs.Node.{Node, null, bool, int, number, text, bytes, tag, opaque, list, object, nodes_of, members_of}
-use Rattle.sm_tree.specs.Building.{Inner, in_list, in_object, in_pair}
+use Rattle.sm_tree.specs.Node.{Node, null, bool, int, number, text, bytes, tag, opaque, list, object}
+use Rattle.sm_tree.specs.Building.{Inner}
 use Rattle.sm_tree.specs.steps.BuilderSteps.{ended}
 use Rattle.sm_tree.proofs.Building.{MayEnd}
 use Rattle.sm_shapes.specs.InOrder.{Shaped}
@@ -12,10 +12,10 @@ use Rattle.sm_codec.specs.Convention.{IsConvention}
 use Rattle.sm_codec.specs.Sorts.{Sort, simple, a_list, a_map, a_structure, a_union, left_out}
 use Rattle.sm_codec.specs.Codec.{Codec, sort_at, InTable}
 use Rattle.sm_codec.specs.Decoding.{Frame, skip_frame, Decoding}
-use Rattle.sm_codec.specs.Kept.{IsOutcome, due_frames, FrameHolds}
+use Rattle.sm_codec.specs.Kept.{due_frames, FrameHolds}
 use Rattle.sm_codec.specs.Named.{is_null}
 use Rattle.sm_codec.specs.Readings.{Child, leaf_by, list_by, object_by, reading, children, named_children}
-use Rattle.sm_codec.specs.Walk.{Level, list_level, object_level, pair_level, Due, due_at, due_tagged, due_passed, due_nowhere, opened_at, inner_level, behind_name, due_member, due_within, member_at}
+use Rattle.sm_codec.specs.Walk.{Level, list_level, object_level, pair_level, Due, due_at, due_passed, opened_at, inner_level, behind_name, due_member, due_within, member_at}
 use Rattle.sm_codec.specs.steps.Arrivals.{Arrival, comes, IsArrival, null_where, read_where, level_with}
 use Rattle.sm_codec.specs.steps.DecoderSteps.{place_among, FirstCanTake, TakenBy, frame_end, FirstCanEnd, EndedBy}
 use Rattle.sm_codec.specs.steps.OpeningSteps.{FirstCanName, FirstNames, LeafTaken, with_silence, list_start, object_start}
@@ -24,7 +24,7 @@ use Rattle.sm_codec.specs.steps.WalkSteps.{is_list, is_object, IsLeafAt, next_pl
 use Rattle.sm_codec.proofs.DuePlaces.{place_known}
 use Rattle.sm_codec.proofs.LeafPlaces.{outcome_arrives}
 use Rattle.sm_codec.proofs.MapClosing.{map_starts}
-use Rattle.sm_codec.proofs.NameMoves.{Named, named_by, can_name}
+use Rattle.sm_codec.proofs.NameMoves.{named_by, can_name}
 use Rattle.sm_codec.proofs.PlacesHeld.{member_in}
 use Rattle.sm_codec.proofs.PlacesIn.{kind_of_sort, entry_in, value_in}
 use Rattle.sm_codec.proofs.Starting.{structure_starts, list_starts}

@@ -1,6 +1,6 @@
 -- A decoder that walked a whole tree from its start stands for the tree's events.
-use Rattle.std.proofs.Common.{◌≡◌, append-nil, ℕ, ◌<◌, List, [], refl, sym, ap, ◌∙◌, subst}
-use Rattle.std.specs.Prelude.{Some, None, Result, Ok, Err}
+use Rattle.std.proofs.Common.{◌≡◌, append-nil, ℕ, List, [], refl, sym, ap, ◌∙◌, subst}
+use Rattle.std.specs.Prelude.{Result, Ok, Err}
 use Rattle.sm_tree.specs.Node.{Node}
 use Rattle.sm_tree.specs.Events.{NodeEvent, events}
 use Rattle.sm_tree.specs.Streams.{Streams}
@@ -18,7 +18,7 @@ use Rattle.sm_codec.specs.Readings.{reading}
 use Rattle.sm_codec.specs.Walk.{due_at}
 use Rattle.sm_codec.specs.declared.decoder.Refusal.{Refusal}
 use Rattle.sm_codec.specs.declared.decoder.Refusal.TheVariants.{Fault as refused, NoMemory}
-use Rattle.sm_codec.specs.steps.DecoderSteps.{root_outcome, TakenBy}
+use Rattle.sm_codec.specs.steps.DecoderSteps.{root_outcome}
 use Rattle.sm_codec.specs.steps.WalkSteps.{WalkReady, TreeTaken}
 use Rattle.sm_codec.proofs.KeptOn.{started}
 use Rattle.sm_codec.proofs.TreeComes.{root_is}

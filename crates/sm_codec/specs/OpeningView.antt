@@ -1,5 +1,5 @@
 -- Whether a tree opens at a place of a sort, or is read as a leaf there. Contracts of the code that walks trees cite it.
-use Rattle.std.specs.Prelude.{◌≡◌, true, false}
+use Rattle.std.specs.Prelude.{◌≡◌, true}
 use Rattle.sm_tree.specs.Node.{Node, list, object, nodes_of, members_of}
 use Rattle.sm_tree.specs.View.{nodes_view, members_view}
 use Rattle.sm_codec.specs.Sorts.{Sort}

@@ -1,9 +1,9 @@
-use Rattle.std.proofs.Common.{◌≡◌, ◌+◌, ◌*◌, ◌∷◌, [], true, false, drop, refl, ap, sym, ◌∙◌, subst, arith}
+use Rattle.std.proofs.Common.{◌≡◌, ◌+◌, ◌∷◌, [], drop, refl, ap, sym, ◌∙◌, subst, arith}
 use Rattle.std.proofs.lemmas.List.{drop_more, drop_all}
 use Rattle.sm_tree.specs.Building.{in_list, in_object}
 use Rattle.sm_tree.specs.Node.{list, object, nodes_of, members_of}
 use Rattle.sm_tree.specs.View.{node_of, nodes_view, members_view}
-use Rattle.sm_tree.specs.steps.Weight.{weight, nodes_weight, members_weight}
+use Rattle.sm_tree.specs.steps.Weight.{nodes_weight, members_weight}
 use Rattle.sm_shapes.specs.TableView.{table_data}
 use Rattle.sm_codec.specs.Codec.{codec_of}
 use Rattle.sm_codec.specs.Decoding as decoding
@@ -14,9 +14,9 @@ use Rattle.sm_codec.specs.Sorts.{sort_of}
 use Rattle.sm_codec.specs.StackView.{frames_of}
 use Rattle.sm_codec.specs.steps.DecoderSteps.{EndedBy}
 use Rattle.sm_codec.specs.steps.OpeningSteps.{LeafTaken, FirstNames}
-use Rattle.sm_codec.specs.steps.WalkSteps.{is_list, is_object, IsLeafAt, next_place, WalkReady, TreeTaken, PairTaken}
+use Rattle.sm_codec.specs.steps.WalkSteps.{IsLeafAt, next_place, TreeTaken, PairTaken}
 use Rattle.sm_codec.proofs.StructureOutcome.{known_by}
-use Rattle.sm_codec.proofs.Walked.{leaf_walked, level_can_end, level_ended, list_opens, entry_ready, entry_took, all_entries, object_opens, pair_ready, pair_took, all_pairs, can_be_named, known_ready, known_took, unknown_took}
+use Rattle.sm_codec.proofs.Walked.{leaf_walked, level_can_end, level_ended, list_opens, entry_took, all_entries, object_opens, pair_took, all_pairs, known_ready, known_took, unknown_took}
 use Rattle.sm_codec.proofs.decoder.Decoder.+walk.Goals as goal
 
 pub walk-returns-in-Leaf-clause-taken : goal.walk-returns-in-Leaf-clause-taken
