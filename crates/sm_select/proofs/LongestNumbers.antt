@@ -1,16 +1,14 @@
 -- Numbers at the start of a text: whether bytes end in a run, and the longest number that may end, byte by byte.
 use Rattle.std.proofs.Common.{◌≡◌, ◌⊎◌, inl, inr, ℕ, zero, suc, ◌+◌, ◌≤◌, ◌<◌, ◌-◌, Bool, true, false, ◌&&◌, ◌||◌, List, [], ◌∷◌, ◌++◌, length, take, drop}
-use Rattle.std.proofs.Common.{get_or, refl, sym, ap, ◌∙◌, subst, codes, arith, length-append}
-use Rattle.std.specs.List.{AllPass, list_all}
-use Rattle.std.proofs.Math.Nat.{le-suc_iff}
+use Rattle.std.proofs.Common.{get_or, refl, sym, ap, ◌∙◌, subst, arith, length-append}
+use Rattle.std.specs.List.{list_all}
 use Rattle.std.proofs.Math.Seq.{take-length, take-suc}
 use Rattle.std.proofs.lemmas.Bool.{cases_lt}
-use Rattle.std.proofs.lemmas.List.{take-append-drop, length-drop, length-take}
+use Rattle.std.proofs.lemmas.List.{take-append-drop, length-drop}
 use Rattle.std.proofs.lemmas.List.Sums.{AllPass-from_list_all, list_all-from_AllPass}
 use Rattle.sm_ids.proofs.Cutting.{both, and_also, clash, heads}
-use Rattle.sm_ids.proofs.Namespaces.{bool_cases}
 use Rattle.sm_tree.specs.Numbers.{IsNumber}
-use Rattle.sm_tree.specs.NumberTail.{NumberLeads, NumberStops, NumberTail}
+use Rattle.sm_tree.specs.NumberTail.{NumberLeads, NumberStops}
 use Rattle.sm_tree.specs.declared.number.Phase.{Phase}
 use Rattle.sm_tree.specs.declared.number.Phase.TheVariants.{Start}
 use Rattle.sm_tree.proofs.Numbers.{number_from_whole, whole_from_number}

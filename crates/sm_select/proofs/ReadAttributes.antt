@@ -1,6 +1,6 @@
 -- The reader of attributes: each sign by itself, and where none of those that are asked for leads on.
-use Rattle.std.proofs.Common.{◌≡◌, ◌⊎◌, inr, ℕ, ◌<◌, true, false, cond, List, [], ◌∷◌, ◌++◌, length, drop, Option, Some, None, refl, sym, ap, ◌∙◌}
-use Rattle.std.proofs.Common.{subst, arith}
+use Rattle.std.proofs.Common.{◌≡◌, ℕ, ◌<◌, true, false, cond, List, [], ◌∷◌, ◌++◌, length, drop, Some, None, refl, ap, ◌∙◌}
+use Rattle.std.proofs.Common.{arith}
 use Rattle.sm_ids.proofs.Cutting.{clash}
 use Rattle.sm_select.specs.Selectors.{Step, Attribute, trait_of, namespace_of, name_of, member_of, has, compares}
 use Rattle.sm_select.specs.declared.selector.SelectorOp.{SelectorOp}
@@ -13,9 +13,9 @@ use Rattle.sm_select.specs.steps.Places.{Piece, sign, Frame, Place, stepping, pa
 use Rattle.sm_select.specs.steps.Places.{at_namespace, at_name, at_member, at_trait}
 use Rattle.sm_select.specs.steps.Places.{behind_value, behind_fold, Moves, bar, had, stands_to, another_value, compared, compared_folded}
 use Rattle.sm_select.specs.steps.Standing.{Passes}
-use Rattle.sm_select.specs.steps.Reader.{IsPlaced, NoKeyFollows, Refuses, behind_a_value}
-use Rattle.sm_select.proofs.Passing.{passes_joined, passes_shorter}
-use Rattle.sm_select.proofs.ReadWords.{NoSign, sign_passes, first_stands, signs_stop}
+use Rattle.sm_select.specs.steps.Reader.{IsPlaced, NoKeyFollows, Refuses}
+use Rattle.sm_select.proofs.Passing.{passes_shorter}
+use Rattle.sm_select.proofs.ReadWords.{sign_passes, first_stands, signs_stop}
 use Rattle.sm_select.proofs.ReadNames.{flat_refused}
 use Rattle.sm_select.proofs.ReadPaths.{behind_path_refused}
 

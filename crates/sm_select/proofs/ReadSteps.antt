@@ -1,5 +1,5 @@
 -- The reader of steps: what each sign, or a type's name, leads to where a step may come, and what is refused there.
-use Rattle.std.proofs.Common.{◌≡◌, ◌⊎◌, inl, inr, ℕ, suc, ◌==◌, ◌+◌, ◌<◌, ◌≤◌, Bool, true, false, cond, List, [], ◌∷◌, ◌++◌, length, drop, Option, Some, None, refl, sym, ap}
+use Rattle.std.proofs.Common.{◌≡◌, ◌⊎◌, inl, inr, ℕ, suc, ◌==◌, ◌<◌, ◌≤◌, Bool, true, false, cond, List, [], ◌∷◌, ◌++◌, length, drop, Option, Some, None, refl, sym, ap}
 use Rattle.std.proofs.Common.{◌∙◌, subst, codes, arith, Result, Ok, Err}
 use Rattle.sm_model.specs.declared.kind.Kind.{Kind}
 use Rattle.sm_select.specs.Grammar.{type_word}
@@ -7,20 +7,18 @@ use Rattle.sm_select.specs.Selectors.{Step, Steps, of_kind, steps_of}
 use Rattle.sm_select.specs.View.{step_view}
 use Rattle.sm_select.specs.declared.selector.SelectorStep.TheVariants.{Any, Forward, Back, Walk}
 use Rattle.sm_select.specs.declared.tokens.Form.TheVariants.{Is, Not, Test}
-use Rattle.sm_select.specs.SelectorText.{OtherForm}
 use Rattle.sm_select.specs.Answers.{ParsesSelector}
 use Rattle.sm_select.specs.declared.refusal.SelectorRefusal.{SelectorRefusal}
 use Rattle.sm_select.specs.declared.refusal.SelectorRefusal.TheVariants.{Syntax, OutOfProfile, NoMemory}
-use Rattle.sm_select.specs.declared.selector.Selector.{Selector}
 use Rattle.sm_select.specs.declared.tokens.Sign.{Sign}
 use Rattle.sm_select.specs.declared.tokens.Sign.TheVariants.{Star, Greater, Smaller, Tilde, OpenNames, OpenPath, OpenIs, OpenNot, OpenTest, Close}
 use Rattle.sm_select.specs.declared.tokens.Sign.TheVariants.{Comma}
-use Rattle.sm_select.specs.Tokens.{Token, terminal, word, EndsWhite, SkipsWhite, TokenThen, TokensThen}
+use Rattle.sm_select.specs.Tokens.{Token, terminal, word, EndsWhite, SkipsWhite, TokensThen}
 use Rattle.sm_select.specs.steps.Signs.{sign_text, sign_ends, opens, stands, first_sign, step_signs}
 use Rattle.sm_select.specs.steps.Places.{Piece, sign, kind, Frame, frame, Place, stepping, Moves, star, a_kind, greater, smaller, tilde, opens_path}
-use Rattle.sm_select.specs.steps.Places.{opens_names, opens_is, opens_not, opens_test, closes, another, IsStepping, IsWhole, Runs}
+use Rattle.sm_select.specs.steps.Places.{opens_names, opens_is, opens_not, opens_test, closes, another, IsWhole, Runs}
 use Rattle.sm_select.specs.steps.Standing.{Passes, StopsAt}
-use Rattle.sm_select.specs.steps.Reader.{BeginsNoRun, IsNotWhole, IsPlaced, IsRunAt, Refuses}
+use Rattle.sm_select.specs.steps.Reader.{BeginsNoRun, IsNotWhole, IsRunAt, Refuses}
 use Rattle.sm_select.specs.steps.Stack.{IsMoved, IsNow, IsOnlySelector, IsRefusedStep, NoPlainSign, StepsTo}
 use Rattle.std.proofs.lemmas.Bool.Decides.{nat_tests}
 use Rattle.sm_ids.specs.Identifier.{IsIdentifier}

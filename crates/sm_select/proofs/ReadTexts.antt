@@ -1,5 +1,5 @@
 -- The reader of values, keys and ids of traits: the places where they are wanted, and where each leads.
-use Rattle.std.proofs.Common.{◌≡◌, ℕ, List, [], ◌∷◌, ◌++◌}
+use Rattle.std.proofs.Common.{ℕ, List, [], ◌∷◌, ◌++◌}
 use Rattle.sm_select.specs.Selectors.{Step, Attribute, trait_of}
 use Rattle.sm_select.specs.declared.selector.SelectorOp.{SelectorOp}
 use Rattle.sm_select.specs.Tokens.{Token}

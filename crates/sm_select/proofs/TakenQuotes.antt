@@ -1,22 +1,20 @@
 -- Quoted text at the start of a text, and numbers: what stands there, or that none does.
-use Rattle.std.proofs.Common.{◌≡◌, ◌≢◌, ◌⊎◌, inl, inr, ℕ, zero, suc, get_or, ◌+◌, ◌-◌, ◌≤◌, ◌<◌, ◌==◌, cond, Bool, true, false, not, List, [], ◌∷◌, ◌++◌, length, take, drop}
+use Rattle.std.proofs.Common.{◌≡◌, ◌≢◌, ◌⊎◌, inl, inr, ℕ, zero, suc, get_or, ◌<◌, true, List, [], ◌∷◌, ◌++◌, length, take, drop}
 use Rattle.std.proofs.Common.{Option, Some, None, refl, sym, ap, ◌∙◌, subst, append_assoc, arith, length-append}
 use Rattle.std.specs.Prelude.{IsUtf8}
-use Rattle.std.specs.List.{Contains, list_all}
 use Rattle.std.specs.Str.{IsCharBoundary}
 use Rattle.std.proofs.Math.Seq.{get_or-append_seam}
 use Rattle.std.proofs.lemmas.Bool.Decides.{nat_tests}
 use Rattle.std.proofs.lemmas.List.{length-drop, take-append-drop}
 use Rattle.sm_ids.proofs.Cutting.{heads}
-use Rattle.sm_tree.specs.Numbers.{IsNumber}
-use Rattle.sm_select.specs.Tokens.{Token, quoted, numeral, BeginsOther, IsFree, IsQuotedBy, TokenThen}
+use Rattle.sm_select.specs.Tokens.{quoted, numeral, BeginsOther, IsFree, TokenThen}
 use Rattle.sm_select.specs.declared.parser_taken.Taken.{Taken}
 use Rattle.sm_select.specs.steps.Taking.{IsQuotedAt, IsQuotedToken, IsNumeralToken, IsTaken, NoneAs, TakenAs, IsLongestNumber}
 use Rattle.sm_select.proofs.NumberBytes.{begins_number, is_number_byte, number_bytes, number_head}
 use Rattle.sm_select.proofs.SignPairs.{unlike}
 use Rattle.sm_select.proofs.TwoTokens.{quoted_same}
 use Rattle.sm_select.proofs.Boundaries.{boundary}
-use Rattle.sm_select.proofs.LongestNumbers.{number_cut, number_within}
+use Rattle.sm_select.proofs.LongestNumbers.{number_within}
 
 -- where a byte is nowhere among others, these are free of it
 pub free_from : (mark : ℕ) (t : List ℕ) → ((i : ℕ) → i < length t → get_or t i 0 ≢ mark) → IsFree mark t

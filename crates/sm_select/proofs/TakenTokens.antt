@@ -1,13 +1,13 @@
 -- What is said of the token that stands first: two kinds together, and what a place says then.
-use Rattle.std.proofs.Common.{◌≡◌, ◌⊎◌, inl, inr, ℕ, ◌≤◌, List, [], ◌∷◌, ◌++◌, length, refl, sym, ap, ◌∙◌, subst, Option, Some, None}
+use Rattle.std.proofs.Common.{◌⊎◌, inl, inr, ℕ, ◌≤◌, List, length, sym, ap, subst, Option, Some, None}
 use Rattle.std.proofs.Common.{arith, length-append, Result, Ok, Err}
 use Rattle.sm_select.specs.Selectors.{Steps}
-use Rattle.sm_select.specs.Tokens.{Token, word, quoted, numeral, EndsWhite, SkipsWhite, TokenThen}
+use Rattle.sm_select.specs.Tokens.{Token, EndsWhite, SkipsWhite, TokenThen}
 use Rattle.sm_select.specs.declared.parser_taken.Taken.{Taken}
 use Rattle.sm_select.specs.declared.refusal.SelectorRefusal.{SelectorRefusal}
 use Rattle.sm_select.specs.declared.refusal.SelectorRefusal.TheVariants.{Syntax, OutOfProfile, NoMemory}
 use Rattle.sm_select.specs.steps.Places.{Place, stepping, path_wanted, trait_wanted, key_wanted, behind_path, value_wanted, behind_value}
-use Rattle.sm_select.specs.steps.Places.{behind_fold, name_wanted, behind_name, IsStepping, IsWhole, Leads}
+use Rattle.sm_select.specs.steps.Places.{behind_fold, name_wanted, behind_name, IsStepping, IsWhole}
 use Rattle.sm_select.specs.steps.Standing.{Passes, StopsAt}
 use Rattle.sm_select.specs.steps.Reader.{IsPlaced, ReadsTo, Refuses}
 use Rattle.sm_select.specs.steps.Taking.{IsCopy, IsIdToken, IsIdentifierToken, IsKeyToken, IsNumeralToken, IsQuotedToken, IsTaken, IsValueToken}

@@ -1,5 +1,5 @@
 -- Words at the start of a text: the run that stands there, or that run, a `$` and another.
-use Rattle.std.proofs.Common.{◌≡◌, ◌≢◌, ◌==◌, ◌<◌, ◌⊎◌, inl, inr, ℕ, suc, ◌+◌, ◌≤◌, Bool, List, [], ◌∷◌, ◌++◌, length, drop, take, Option, Some, None}
+use Rattle.std.proofs.Common.{◌≡◌, ◌≢◌, ◌==◌, ◌<◌, inl, inr, ℕ, ◌+◌, ◌≤◌, Bool, List, [], ◌∷◌, ◌++◌, length, drop, take, Option, Some, None}
 use Rattle.std.proofs.Common.{true, false}
 use Rattle.std.proofs.Common.{refl, sym, ap, ◌∙◌, subst, append_assoc, append-nil, arith, length-append}
 use Rattle.std.specs.Prelude.{IsUtf8}
@@ -13,13 +13,13 @@ use Rattle.sm_ids.specs.IdText.{IsIdText, member_text}
 use Rattle.sm_ids.specs.steps.Ahead.{EndsRun}
 use Rattle.sm_ids.proofs.Cutting.{clash, one_cut, tails}
 use Rattle.sm_model.specs.PreludeShapes.{api_id}
-use Rattle.sm_select.specs.Tokens.{Token, word, BeginsOther, EndsInRun, GoesOnWithRun, TokenThen, begins_run, is_run_byte}
+use Rattle.sm_select.specs.Tokens.{Token, word, BeginsOther, GoesOnWithRun, TokenThen, begins_run, is_run_byte}
 use Rattle.sm_select.specs.SelectorText.{IsRun}
 use Rattle.sm_select.specs.steps.Reader.{BeginsNoRun, IsRunAt, begins_a_run}
 use Rattle.sm_select.specs.steps.Taking.{IsIdToken, IsIdentifierToken, IsTraitToken, NoneAs, TakenAs, IsTaken, IsMemberRun, IsLongerWord, IsRunId}
 use Rattle.sm_select.specs.declared.parser_taken.Taken.{Taken}
 use Rattle.sm_select.specs.Grammar.{MeansTrait}
-use Rattle.sm_select.proofs.WordBytes.{WordThen, WordShape, word_then, word_shape, id_shape, id_or_identifier, identifier_run, member_run_ends}
+use Rattle.sm_select.proofs.WordBytes.{WordThen, WordShape, word_then, id_shape, identifier_run, member_run_ends}
 use Rattle.sm_select.proofs.WordBytes.{IsRunText, identifier_text, run_stops}
 use Rattle.sm_select.proofs.LongestNumbers.{take_joined}
 use Rattle.sm_select.proofs.SignTexts.{drop_joined}

@@ -1,4 +1,4 @@
-use Rattle.std.proofs.Common.{◌≡◌, ◌∷◌, Some, None, Bool, true, false, sym, ap, ◌∙◌, lit<}
+use Rattle.std.proofs.Common.{Some, None, sym, ap, ◌∙◌, lit<}
 use Rattle.std.proofs.lemmas.Str.Pattern.{strip_prefix_char}
 use Rattle.sm_select.proofs.OtherForms.{by_category, by_name, opens_form, opens_other}
 use Rattle.sm_select.proofs.other_forms.is_other_form.Goals as goal

@@ -1,7 +1,6 @@
-use Rattle.std.proofs.Common.{[], false, true, sym, subst, Ok}
+use Rattle.std.proofs.Common.{[], subst, Ok}
 use Rattle.sm_select.specs.View.{step_views}
 use Rattle.sm_select.specs.declared.tokens.Sign.TheVariants.{Comma}
-use Rattle.sm_select.specs.steps.Places.{stepping}
 use Rattle.sm_select.specs.steps.Stack.{IsMoved, frames_onto, place_of}
 use Rattle.sm_select.proofs.Boundaries.{dark_now}
 use Rattle.sm_select.proofs.ReadSteps.{comma_refused, moved_memory, sign_read}

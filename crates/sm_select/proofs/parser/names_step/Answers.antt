@@ -1,6 +1,6 @@
-use Rattle.std.proofs.Common.{[], ◌∷◌, ◌++◌, sym, subst}
+use Rattle.std.proofs.Common.{[], ◌∷◌, ◌++◌, subst}
 use Rattle.sm_select.specs.Selectors.{along}
-use Rattle.sm_select.specs.View.{step_view, step_views}
+use Rattle.sm_select.specs.View.{step_views}
 use Rattle.sm_select.specs.declared.tokens.Sign.TheVariants.{OpenNames}
 use Rattle.sm_select.specs.steps.Places.{opens_names, name_wanted, stepping}
 use Rattle.sm_select.specs.steps.Stack.{IsNow, frames_onto, place_of}

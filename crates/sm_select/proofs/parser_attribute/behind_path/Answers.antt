@@ -1,5 +1,5 @@
 use Rattle.std.proofs.Common.{[], ◌∷◌, ◌++◌, sym, subst, ◌∙◌}
-use Rattle.sm_select.specs.Selectors.{compares, has}
+use Rattle.sm_select.specs.Selectors.{compares}
 use Rattle.sm_select.specs.View.{path_view}
 use Rattle.sm_select.specs.steps.Places.{behind_path, stepping, value_wanted}
 use Rattle.sm_select.specs.steps.Reader.{Refuses}

@@ -1,5 +1,4 @@
-use Rattle.std.proofs.Common.{◌≡◌, ◌+◌, ◌≤◌, ◌<◌, length, take, false, get_or, sym, ap, ◌∙◌, subst, arith}
-use Rattle.sm_select.specs.steps.Signs.{goes_on_with_run}
+use Rattle.std.proofs.Common.{◌≡◌, ◌+◌, ◌<◌, length, take, false, get_or, sym, ap, ◌∙◌, arith}
 use Rattle.sm_select.specs.steps.Taking.{run_after, run_open}
 use Rattle.sm_select.proofs.LongestNumbers.{leads_more, longest_all, longest_next, longest_stopped, open_next}
 use Rattle.sm_select.proofs.parser_number.number_len.Goals as goal

@@ -1,4 +1,4 @@
-use Rattle.std.proofs.Common.{drop, length, sym, subst, ◌∙◌, true≢false}
+use Rattle.std.proofs.Common.{sym, subst, ◌∙◌, true≢false}
 use Rattle.sm_select.specs.steps.Taking.{IsIdentifierToken, TakenAs}
 use Rattle.sm_select.proofs.TakenWords.{identifier_taken, no_identifier}
 use Rattle.sm_select.proofs.parser_taken.identifier_at.Goals as goal

@@ -1,4 +1,4 @@
-use Rattle.std.proofs.Common.{◌≡◌, ◌∷◌, [], drop, length, Some, None, sym, lit<, ◌∙◌}
+use Rattle.std.proofs.Common.{Some, None, sym, lit<, ◌∙◌}
 use Rattle.std.proofs.lemmas.Str.Pattern.{strip_prefix_char}
 use Rattle.sm_select.proofs.Boundaries.{word_boundary}
 use Rattle.sm_select.proofs.TakenWords.{longer_boundary, longer_found, no_dollar_behind, some_text}

@@ -1,4 +1,4 @@
-use Rattle.std.proofs.Common.{◌≡◌, take, drop, sym, ap, subst, ◌∙◌, arith}
+use Rattle.std.proofs.Common.{take, sym, subst}
 use Rattle.sm_select.specs.steps.Taking.{IsLongestNumber, IsNumeralToken, TakenAs}
 use Rattle.sm_select.proofs.TakenQuotes.{no_number, number_boundary, number_taken}
 use Rattle.sm_select.proofs.parser_taken.number_at.Goals as goal

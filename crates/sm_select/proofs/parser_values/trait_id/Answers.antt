@@ -1,4 +1,4 @@
-use Rattle.std.proofs.Common.{[], ℕ, List}
+use Rattle.std.proofs.Common.{[]}
 use Rattle.sm_select.specs.Selectors.{trait_of}
 use Rattle.sm_select.specs.steps.Places.{behind_path, trait_wanted}
 use Rattle.sm_select.specs.steps.Taking.{IsIdToken, IsIdentifierToken, IsTraitToken}

@@ -1,5 +1,5 @@
-use Rattle.std.proofs.Common.{◌==◌, [], ◌∷◌, ◌++◌, refl, sym, ap, ◌∙◌}
-use Rattle.sm_select.specs.View.{selector_view, selector_views, step_view, step_views}
+use Rattle.std.proofs.Common.{◌==◌, [], ◌∷◌, ◌++◌, refl, ap, ◌∙◌}
+use Rattle.sm_select.specs.View.{selector_views, step_view, step_views}
 use Rattle.sm_select.specs.declared.parser_stack.OpenForm.TheVariants.{Is as an_is, Not as a_not, Test as a_test}
 use Rattle.sm_select.specs.declared.selector.SelectorStep.TheVariants.{Is as is_step, Not as not_step, Test as test_step}
 use Rattle.sm_select.specs.declared.tokens.Form.TheVariants.{Is, Not, Test}

@@ -1,7 +1,7 @@
-use Rattle.std.proofs.Common.{[], ◌∷◌, refl, sym, ap, subst, ◌∙◌}
+use Rattle.std.proofs.Common.{[], ◌∷◌, sym, ap, subst, ◌∙◌}
 use Rattle.sm_select.specs.View.{step_views}
 use Rattle.sm_select.specs.steps.Places.{frame, stepping}
-use Rattle.sm_select.specs.steps.Stack.{IsNow, frame_of, frames_onto, place_of}
+use Rattle.sm_select.specs.steps.Stack.{IsNow, frames_onto}
 use Rattle.sm_select.proofs.StackPlaces.{form_entered}
 use Rattle.sm_select.proofs.parser_stack.Open.enter.Goals.{in-Ok, in-Err}
 use Rattle.sm_select.proofs.parser_stack.Open.enter.Goals as goal

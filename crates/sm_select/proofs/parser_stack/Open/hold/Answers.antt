@@ -1,8 +1,7 @@
 use Rattle.std.proofs.Common.{[], ◌∷◌, refl, sym, subst}
 use Rattle.sm_select.specs.View.{step_views}
 use Rattle.sm_select.specs.steps.Places.{stepping}
-use Rattle.sm_select.specs.steps.Stack.{IsThen, frame_of, frames_onto, place_of}
-use Rattle.sm_select.specs.declared.parser_stack.Open.{Open}
+use Rattle.sm_select.specs.steps.Stack.{IsThen, frame_of, frames_onto}
 use Rattle.sm_select.proofs.StackPlaces.{form_held}
 use Rattle.sm_select.proofs.parser_stack.Open.hold.Goals.{in-Ok, in-Err}
 use Rattle.sm_select.proofs.parser_stack.Open.hold.Goals as goal
