@@ -1,4 +1,4 @@
-// Models and texts as large as a row asks for.
+// Models as large as a row asks for.
 use sm_tree::NoMemory;
 use std::alloc::Global;
 
@@ -49,45 +49,6 @@ fn put_members(alloc: Global, members: u32, text: &mut String) -> Result<(), NoM
     for member in 0..members {
         put_name(alloc, "m", member, text)?;
         text.push_str(":{\"target\":\"smithy.api#String\"}")?;
-    }
-    Ok(())
-}
-
-/// A text with its parts repeated: `<`, a part and `>` stand for the part as often as the number at its place says, where `%` in
-/// a part stands for how often it stood before. Numbers that no part is left for count for nothing.
-pub fn repeated(alloc: Global, text: &str, counts: &str) -> Result<String, NoMemory> {
-    let mut out = String::new(alloc);
-    let mut rest = text;
-    for count in counts.split(' ') {
-        let Ok(count) = count.parse::<u32>() else {
-            continue;
-        };
-        let Some((before, part, behind)) = first_part(rest) else {
-            continue;
-        };
-        out.push_str(before)?;
-        put_part(alloc, part, count, &mut out)?;
-        rest = behind;
-    }
-    out.push_str(rest)?;
-    Ok(out)
-}
-
-// What stands before the first part, the part, and what stands behind it.
-fn first_part(text: &str) -> Option<(&str, &str, &str)> {
-    let (before, more) = text.split_once('<')?;
-    let (part, behind) = more.split_once('>')?;
-    Some((before, part, behind))
-}
-
-fn put_part(alloc: Global, part: &str, count: u32, out: &mut String) -> Result<(), NoMemory> {
-    for number in 0..count {
-        match part.split_once('%') {
-            Some((before, behind)) => {
-                out.push_str(format!(in alloc; "{before}{number}{behind}")?.as_str())?;
-            }
-            None => out.push_str(part)?,
-        }
     }
     Ok(())
 }

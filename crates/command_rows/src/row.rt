@@ -7,8 +7,6 @@ use crate::large::Size;
 pub enum Row<'a> {
     /// `pad N`: what the next row gives, a file's text or an input, is padded with blanks up to so many bytes.
     Pad(usize),
-    /// `repeat N ..`: parts of the next file's text are repeated so often, `repeat` being followed by a number for each.
-    Repeat(&'a str),
     /// `cut N`, `fail take N`, `fail put N`: something is asked of the next run.
     Next(Asked),
     /// `file NAME TEXT`: from now on the name stands for a file of this text.
@@ -30,7 +28,6 @@ impl<'a> Row<'a> {
         match line.split_once(' ') {
             Some(("file", rest)) => Row::file(rest),
             Some(("model", rest)) => Row::model(rest),
-            Some(("repeat", counts)) => Row::Repeat(counts),
             Some(("pad", length)) => match length.parse::<usize>() {
                 Ok(length) => Row::Pad(length),
                 Err(_) => Row::Unknown,

@@ -2,7 +2,6 @@
 ghost use Rattle.std.specs.Prelude.{◌≡◌, ◌≤◌, IfOk, length, take};
 
 use crate::given::{Asked, Given};
-use crate::large::repeated;
 use crate::row::Row;
 use rows::Player;
 use sm_commands::run;
@@ -11,13 +10,11 @@ use sm_shapes::LiteralPatterns;
 use sm_tree::{NoMemory, Text};
 use std::alloc::Global;
 
-/// Files in memory, the length up to which the next text is padded, how often parts of the next file's text stand in it, and what is
-/// asked of the next run.
+/// Files in memory, the length up to which the next text is padded, and what is asked of the next run.
 #[derive(Drop)]
 pub struct Shelf {
     files: MemFiles,
     padded: usize,
-    counts: String,
     given: Given,
 }
 
@@ -27,7 +24,6 @@ impl Shelf {
         Shelf {
             files: MemFiles::new(alloc, Vec::new(alloc), Vec::new(alloc)),
             padded: 0,
-            counts: String::new(alloc),
             given: Given::nothing(),
         }
     }
@@ -35,12 +31,6 @@ impl Shelf {
     /// The next text is padded up to so many bytes.
     pub fn pad(&mut self, length: usize) {
         self.padded = length;
-    }
-
-    /// Parts of the next file's text stand so often in it.
-    pub fn repeat(&mut self, alloc: Global, counts: &str) -> Result<(), NoMemory> {
-        self.counts = String::from_str(alloc, counts)?;
-        Ok(())
     }
 
     /// This is asked of the next run.
@@ -63,9 +53,7 @@ impl Shelf {
 
     /// From now on the name stands for a file of this text.
     pub fn keep(&mut self, alloc: Global, name: &str, text: &str) -> Result<(), NoMemory> {
-        let counts = std::mem::replace(&mut self.counts, String::new(alloc));
-        let text = repeated(alloc, text, counts.as_str())?;
-        let bytes = self.bytes_of(alloc, text.as_str())?;
+        let bytes = self.bytes_of(alloc, text)?;
         match self.files.write(name, bytes.as_slice()) {
             Ok(()) => Ok(()),
             Err(_) => Err(NoMemory),
@@ -136,7 +124,6 @@ impl Player for Shelf {
     fn play(&mut self, alloc: Global, case: &str, out: &mut String) -> Result<(), NoMemory> {
         match Row::of(case) {
             Row::Pad(length) => self.pad(length),
-            Row::Repeat(counts) => self.repeat(alloc, counts)?,
             Row::Next(asked) => self.ask(asked),
             Row::File(name, text) => self.keep(alloc, name, text)?,
             Row::Model(name, size) => self.keep(alloc, name, size.model(alloc)?.as_str())?,
