@@ -13,3 +13,5 @@ mod TabledNumbers
 mod TabledShapes
 mod TabledMembers
 mod RowsSay
+mod MembersSay
+mod CarriedPatterns

@@ -11,6 +11,7 @@ pub mod laws;
 mod look;
 mod names;
 mod numbering;
+mod patterns;
 mod reach;
 mod rows;
 mod seen;
