@@ -1,13 +1,11 @@
 -- What a method answers of a part, as an answer of what the part stands in, whichever the answer is.
-use Rattle.std.proofs.Common.{◌≡◌, inl, inr, List, sym, subst, refl, Result, Ok, Err}
-use Rattle.sm_idl.specs.Productions.{Tokens, Production, gives, ◌>>=◌, ◌or◌}
+use Rattle.std.proofs.Common.{inl, inr, Result, Ok, Err}
+use Rattle.sm_idl.specs.Productions.{Tokens, Production, ◌>>=◌, ◌or◌}
 use Rattle.sm_idl.specs.declared.reader.Stop.{Stop}
-use Rattle.sm_idl.specs.steps.Classes.{Either}
 use Rattle.sm_idl.specs.steps.Firm.{Class, HeadIs, AreApart, IsFirm}
-use Rattle.sm_idl.specs.steps.ReaderView.{NoToken, StopsIn, ReadsAs, ReadsOn}
-use Rattle.sm_idl.specs.steps.Reading.{IsRead}
-use Rattle.sm_idl.proofs.Passing.{read_wider, stop_wider, whole_read, stops_behind, behind_read}
-use Rattle.sm_idl.proofs.Choosing.{left_read, left_stop, right_read, right_stop}
+use Rattle.sm_idl.specs.steps.ReaderView.{NoToken, ReadsAs, ReadsOn}
+use Rattle.sm_idl.proofs.Passing.{read_wider, stop_wider, whole_read, stops_behind}
+use Rattle.sm_idl.proofs.Choosing.{left_stop, right_stop}
 
 -- what ends by itself, as what may go on
 pub as_on : {V X : Type 0} {A : Class} (H : Class) (view : V → X) (P : Production X) → IsFirm ⊥ A NoToken P → (s r : Tokens)

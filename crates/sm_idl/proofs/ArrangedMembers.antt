@@ -1,9 +1,8 @@
 -- The members of a list and of a map, by their names.
-use Rattle.std.proofs.Common.{◌≡◌, ◌⊎◌, inl, inr, ℕ, Bool, true, false, if◌then◌else◌, List, [], ◌∷◌, ◌++◌, codes, Some, None, Vec, refl, sym, ap, subst, ◌∙◌, length, arith, slice_index_or}
+use Rattle.std.proofs.Common.{◌≡◌, ◌⊎◌, inl, inr, ℕ, if◌then◌else◌, List, [], ◌∷◌, ◌++◌, codes, Some, None, Vec, refl, sym, ap, subst, ◌∙◌, length, arith, slice_index_or}
 use Rattle.std.specs.List.{swap}
 use Rattle.std.specs.declared.alloc.Global.{Global}
 use Rattle.std.proofs.lemmas.List.{length-map}
-use Rattle.sm_model.specs.Formed.{StandsAmong}
 use Rattle.sm_model.specs.Said.{MemberSaid}
 use Rattle.sm_model.specs.SaidView.{member_view, member_statements_view}
 use Rattle.sm_model.specs.declared.statement.MemberStatement.{MemberStatement}

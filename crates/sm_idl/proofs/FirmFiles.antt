@@ -10,9 +10,9 @@ use Rattle.sm_idl.specs.Shapes.{item}
 use Rattle.sm_idl.specs.Idl.{control, metadata, used, home_of, items, section, FileSaid, section_home, section_said}
 use Rattle.sm_idl.specs.Idl.{metadata_statements, file}
 use Rattle.sm_idl.specs.steps.ReaderView.{NoToken}
-use Rattle.sm_idl.specs.steps.Classes.{Either, AMark, AWord, NodeStart}
+use Rattle.sm_idl.specs.steps.Classes.{Either, NodeStart}
 use Rattle.sm_idl.specs.steps.FileClasses.{ItemStart, ItemGoesOn, Dollar, Metadata, Namespace, Use, ItemsGoOn, SectionGoesOn, AfterControls, FileGoesOn}
-use Rattle.sm_idl.specs.steps.Firm.{Class, AreApart, IsFirm}
+use Rattle.sm_idl.specs.steps.Firm.{AreApart, IsFirm}
 use Rattle.sm_idl.proofs.FirmEach.{firm_maybe}
 use Rattle.sm_idl.proofs.FirmMany.{firm_each}
 use Rattle.sm_idl.proofs.FirmShort.{then_firm, given_firm, loose_firm, row_firm}

@@ -18,7 +18,7 @@ use Rattle.sm_idl.specs.Bodies.{Suffixes, part, property, braced_pairs}
 use Rattle.sm_idl.specs.Shapes.{type_word, BodySaid, simple_body, members_body, operation_body, pairs_body, body, stated_shape, shape_with}
 use Rattle.sm_idl.specs.Shapes.{shape, apply_item, item}
 use Rattle.sm_idl.specs.steps.ReaderView.{NoToken}
-use Rattle.sm_idl.specs.steps.Classes.{Either, AWord, At, Paren, TraitGoesOn, Brace, Equals, MemberStart, With}
+use Rattle.sm_idl.specs.steps.Classes.{Either, AWord, Paren, TraitGoesOn, Brace, Equals, MemberStart, With}
 use Rattle.sm_idl.specs.steps.FileClasses.{TypeWord, ShapeStart, Apply, ItemStart, ItemGoesOn}
 use Rattle.sm_idl.specs.steps.Firm.{Class, AreApart, IsFirm}
 use Rattle.sm_idl.proofs.FirmParts.{firm_wider}

@@ -18,12 +18,12 @@ use Rattle.sm_idl.specs.declared.members.MemberKind.{MemberKind}
 use Rattle.sm_idl.specs.declared.members.MemberKind.TheVariants.{Value, Item, Pair, Choice, Field}
 use Rattle.sm_idl.specs.declared.reader.Stop.{Stop}
 use Rattle.sm_idl.specs.declared.reader.Stop.TheVariants.{Syntax, NoMemory}
-use Rattle.sm_idl.specs.steps.Classes.{Either, AMark, Equals, MemberStart, Brace}
+use Rattle.sm_idl.specs.steps.Classes.{Either, AMark, Equals, MemberStart}
 use Rattle.sm_idl.specs.steps.Firm.{HeadIs, AreApart, IsFirm}
 use Rattle.sm_idl.specs.steps.MemberSteps.{form_of, entry, AreNamed}
 use Rattle.sm_idl.specs.steps.Names.{Remembers}
 use Rattle.sm_idl.specs.steps.ReaderView.{NoToken, StopsIn}
-use Rattle.sm_idl.specs.steps.Reading.{IsRead, IsStuck}
+use Rattle.sm_idl.specs.steps.Reading.{IsRead}
 use Rattle.sm_idl.proofs.TokenLists.{no_tokens}
 use Rattle.sm_idl.proofs.TokenClasses.{marks_unlike, mark_no_word, turned, either_apart}
 use Rattle.sm_idl.proofs.FirmShort.{given_firm}

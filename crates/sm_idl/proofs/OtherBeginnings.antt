@@ -8,7 +8,7 @@ use Rattle.sm_tree.specs.Limits.{most_levels}
 use Rattle.sm_model.specs.Raw.{Raw}
 use Rattle.sm_idl.specs.Productions.{Tokens, Production, EachSpells, each_behind, each, maybe, OptionSpells}
 use Rattle.sm_idl.specs.Words.{IsNew}
-use Rattle.sm_idl.specs.Nodes.{Home, word_meant, WordSays, LeafSaid, Pair, pair_names, pair_of, as_object, node}
+use Rattle.sm_idl.specs.Nodes.{Home, word_meant, WordSays, LeafSaid, Pair, pair_names, pair_of, node}
 use Rattle.sm_idl.specs.Bodies.{Controls, suffix_said, suffix_under, Suffixes, suffixes}
 use Rattle.sm_idl.specs.Idl.{control, metadata, section, section_home, section_said, metadata_statements, FileSaid, file}
 use Rattle.sm_idl.proofs.OtherHomes.{AreAlike, names_more, pair_alike, pairs_alike, nodes_alike, node_alike, metadata_alike}

@@ -1,5 +1,5 @@
 -- Controls one after the other: whether one says a version, and what one says of a suffix.
-use Rattle.std.proofs.Common.{◌≡◌, ◌↔◌, ◌<◌, ◌+◌, inl, inr, ℕ, Bool, true, if◌then◌else◌, List, ◌∷◌, drop, length, IsTrue, slice_index_or, refl, sym, ap, subst, ◌∙◌, bytes_eq}
+use Rattle.std.proofs.Common.{◌≡◌, ◌↔◌, ◌<◌, ◌+◌, inl, inr, ℕ, Bool, true, if◌then◌else◌, List, ◌∷◌, drop, length, IsTrue, slice_index_or, sym, ap, subst, ◌∙◌}
 use Rattle.std.proofs.lemmas.List.{drop_more}
 use Rattle.sm_tree.proofs.Equal.{bytes_equal_is}
 use Rattle.sm_model.specs.RawView.{raw_view, raw_members_view}

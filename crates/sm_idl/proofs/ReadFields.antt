@@ -1,14 +1,13 @@
 -- What the parts of a field's reading say of it: a key, a colon and a node, for each kind of key.
 use Rattle.std.proofs.Common.{◌≡◌, ℕ, Bool, true, false, List, codes, refl, sym, ap, subst, ◌∙◌}
-use Rattle.sm_lex.specs.Tokens.{Lexeme}
-use Rattle.sm_model.specs.Properties.{TypeFields, form_named}
+use Rattle.sm_model.specs.Properties.{TypeFields}
 use Rattle.sm_model.specs.Raw.{Raw, raw_list, raws_of, raw_id}
 use Rattle.sm_model.specs.declared.property.PropertyForm.{PropertyForm}
 use Rattle.sm_model.specs.declared.reference.Ref.{Ref}
 use Rattle.sm_idl.specs.Productions.{Tokens, Production, one, gives, ◌>>=◌, ◌>>◌, each, many}
-use Rattle.sm_idl.specs.Words.{IsKey, IsNew, mark, key, word_that}
-use Rattle.sm_idl.specs.Nodes.{Home, written, IsNodeId, Pair, pair_names, pair_of, as_object}
-use Rattle.sm_idl.specs.Bodies.{reference, references, new_name, renaming, field_value, FieldNamed, property, braced_pairs}
+use Rattle.sm_idl.specs.Words.{mark, word_that}
+use Rattle.sm_idl.specs.Nodes.{Home, written, IsNodeId, Pair, as_object}
+use Rattle.sm_idl.specs.Bodies.{reference, references, FieldNamed, braced_pairs}
 use Rattle.sm_idl.specs.declared.reader.Stop.{Stop}
 use Rattle.sm_idl.specs.steps.Classes.{AMark, AnyWord, NoMark}
 use Rattle.sm_idl.specs.steps.FieldSteps.{IsIdKey, id_key, under}
@@ -17,8 +16,7 @@ use Rattle.sm_idl.specs.steps.ReaderView.{NoToken, StopsIn}
 use Rattle.sm_idl.specs.steps.Reading.{IsRead}
 use Rattle.sm_idl.proofs.TokenClasses.{mark_no_word, mark_no_leaf, turned}
 use Rattle.sm_idl.proofs.FirmShort.{token_firm}
-use Rattle.sm_idl.proofs.FirmNodes.{mark_firm, key_firm, key_no_mark, pair_firm}
-use Rattle.sm_idl.proofs.FirmTraits.{word_firm}
+use Rattle.sm_idl.proofs.FirmNodes.{mark_firm, key_no_mark, pair_firm}
 use Rattle.sm_idl.proofs.FirmBodies.{reference_firm, renaming_firm, one_field}
 use Rattle.sm_idl.proofs.OneSaying.{one_key}
 use Rattle.sm_idl.proofs.Passing.{stops_first, stops_behind}

@@ -1,29 +1,29 @@
 -- What the parts of a file's reading say of it.
-use Rattle.std.proofs.Common.{◌≡◌, ◌⊎◌, inl, inr, ℕ, List, [], ◌∷◌, ◌++◌, take, Option, Some, None, codes, refl, sym, ap, subst, ◌∙◌, append-nil}
+use Rattle.std.proofs.Common.{◌≡◌, inl, inr, ℕ, List, [], ◌∷◌, ◌++◌, take, Option, Some, None, codes, refl, sym, ap, subst, ◌∙◌, append-nil}
 use Rattle.std.specs.List.{flat_map, filter}
 use Rattle.sm_ids.specs.Identifier.{IsNamespace}
 use Rattle.sm_model.specs.Said.{Said}
-use Rattle.sm_idl.specs.Productions.{Spaced, Tokens, Production, EachSpells, gives, ◌>>=◌, each, many, maybe, OptionSpells}
+use Rattle.sm_idl.specs.Productions.{Tokens, Production, EachSpells, ◌>>=◌, each, many, maybe}
 use Rattle.sm_idl.specs.Words.{the_word, word_that}
 use Rattle.sm_idl.specs.Nodes.{Home, Pair}
-use Rattle.sm_idl.specs.Bodies.{Controls, Suffixes, suffixes}
+use Rattle.sm_idl.specs.Bodies.{Suffixes, suffixes}
 use Rattle.sm_idl.specs.Shapes.{item}
 use Rattle.sm_idl.specs.Idl.{control, metadata, used, is_absolute, home_of, SectionSaid, items, section, section_home, section_said}
 use Rattle.sm_idl.specs.Idl.{metadata_statements, FileSaid, file, FileSpelled}
 use Rattle.sm_idl.specs.declared.reader.Stop.{Stop}
 use Rattle.sm_idl.specs.declared.reader.Stop.TheVariants.{Syntax, NoMemory}
 use Rattle.sm_idl.specs.steps.Classes.{Either}
-use Rattle.sm_idl.specs.steps.FileClasses.{Dollar, Metadata, Namespace, Use, ItemStart, ItemsGoOn, SectionGoesOn, FileGoesOn}
+use Rattle.sm_idl.specs.steps.FileClasses.{Dollar, Metadata, Namespace, Use, ItemsGoOn, SectionGoesOn, FileGoesOn}
 use Rattle.sm_idl.specs.steps.Firm.{Class, HeadIs, AreApart, IsFirm}
 use Rattle.sm_idl.specs.steps.FileSteps.{no_namespace, BeginSaid, BeginStops, FileStops, FileStopped, InSection}
 use Rattle.sm_idl.specs.steps.ReaderView.{NoToken, StopsIn}
 use Rattle.sm_idl.specs.steps.Reading.{IsRead, IsStuck}
-use Rattle.sm_idl.proofs.TokenLists.{no_tokens, head_apart, head_moved}
+use Rattle.sm_idl.proofs.TokenLists.{no_tokens}
 use Rattle.sm_idl.proofs.TokenClasses.{words_unlike}
 use Rattle.sm_idl.proofs.FirmShort.{row_firm}
 use Rattle.sm_idl.proofs.FirmTraits.{word_firm, the_word_firm}
 use Rattle.sm_idl.proofs.FirmShapes.{no_item}
-use Rattle.sm_idl.proofs.FirmFiles.{control_firm, metadata_firm, used_firm, items_firm, section_firm, last_part, last_firm}
+use Rattle.sm_idl.proofs.FirmFiles.{control_firm, metadata_firm, items_firm, section_firm, last_part, last_firm}
 use Rattle.sm_idl.proofs.FirmFiles.{behind_controls, behind_firm, dollar_apart}
 use Rattle.sm_idl.proofs.OtherHomes.{controls_alike, metadata_alike}
 use Rattle.sm_idl.proofs.OtherBeginnings.{controls_begun, metadata_begun}

@@ -1,6 +1,6 @@
 -- What the parts of an operation's reading say of it.
 use Rattle.std.proofs.Common.{◌≡◌, ◌<◌, ℕ, false, inl, inr, List, [], ◌∷◌, ◌++◌, map, Option, codes, Result, Ok, Err, IfOk, refl, sym, ap, subst, ◌∙◌, length}
-use Rattle.std.proofs.Common.{append_assoc, append-nil}
+use Rattle.std.proofs.Common.{append-nil}
 use Rattle.std.specs.List.{flat_map}
 use Rattle.std.proofs.lemmas.List.{map_push}
 use Rattle.std.proofs.lemmas.Grind.{flat_map-append}
@@ -8,24 +8,24 @@ use Rattle.std.specs.BTreeSet.{BTreeSet}
 use Rattle.std.specs.declared.alloc.Global.{Global}
 use Rattle.std.specs.declared.string.String.{String}
 use Rattle.sm_model.specs.Kinds.{any}
-use Rattle.sm_model.specs.Raw.{Raw, raw_id, raw_list, raws_of, empty_raw}
+use Rattle.sm_model.specs.Raw.{raw_id, raw_list, raws_of}
 use Rattle.sm_model.specs.RawView.{raw_view, raw_members_view}
-use Rattle.sm_model.specs.Said.{TraitSaid, MemberSaid, Said}
+use Rattle.sm_model.specs.Said.{TraitSaid, MemberSaid}
 use Rattle.sm_model.specs.SaidView.{statements_view}
 use Rattle.sm_model.specs.declared.raw.RawNode.{RawNode}
 use Rattle.sm_model.specs.declared.reference.Ref.{Ref}
 use Rattle.sm_model.specs.declared.statement.Statement.{Statement}
-use Rattle.sm_idl.specs.Productions.{Tokens, Production, gives, ◌>>=◌, ◌>>◌, ◌or◌, each, many}
-use Rattle.sm_idl.specs.Words.{IsWordId, mark, id}
+use Rattle.sm_idl.specs.Productions.{Tokens, Production, gives, ◌>>=◌, ◌or◌, each, many}
+use Rattle.sm_idl.specs.Words.{mark, id}
 use Rattle.sm_idl.specs.Nodes.{Home, written}
-use Rattle.sm_idl.specs.Traits.{traits, standing_for}
+use Rattle.sm_idl.specs.Traits.{traits}
 use Rattle.sm_idl.specs.Members.{field, members, mixins}
 use Rattle.sm_idl.specs.Bodies.{Suffixes, PartSaid, part_names, part_word, part_target, inline_name, inline_said, inline_with, part_inline}
 use Rattle.sm_idl.specs.Bodies.{part_shape, part_errors, part}
 use Rattle.sm_idl.specs.Shapes.{part_pairs}
 use Rattle.sm_idl.specs.declared.operations.Part.{Part}
 use Rattle.sm_idl.specs.declared.reader.Stop.{Stop}
-use Rattle.sm_idl.specs.steps.Classes.{Either, AMark, AWord, AnyWord, TraitGoesOn, Brace, With, At}
+use Rattle.sm_idl.specs.steps.Classes.{Either, AMark, AWord, AnyWord, TraitGoesOn, Brace, With}
 use Rattle.sm_idl.specs.steps.Firm.{Class, HeadIs, AreApart, IsFirm}
 use Rattle.sm_idl.specs.steps.Names.{Remembers}
 use Rattle.sm_idl.specs.steps.PartSteps.{part_view, target_said, errors_said}
@@ -35,11 +35,10 @@ use Rattle.sm_idl.proofs.TokenLists.{head_apart}
 use Rattle.sm_idl.proofs.TokenClasses.{marks_unlike, words_unlike, mark_no_word, turned, apart_either}
 use Rattle.sm_idl.proofs.FirmParts.{firm_wider}
 use Rattle.sm_idl.proofs.FirmEach.{firm_or}
-use Rattle.sm_idl.proofs.FirmShort.{then_firm, given_firm, front_firm}
+use Rattle.sm_idl.proofs.FirmShort.{given_firm, front_firm}
 use Rattle.sm_idl.proofs.FirmNodes.{mark_firm}
-use Rattle.sm_idl.proofs.FirmTraits.{word_firm, traits_firm}
 use Rattle.sm_idl.proofs.FirmMembers.{mixins_firm, members_firm, field_firm}
-use Rattle.sm_idl.proofs.FirmBodies.{part_word_firm, target_firm, inline_name_firm, inline_firm, inline_with_firm, shape_part_firm, errors_firm}
+use Rattle.sm_idl.proofs.FirmBodies.{part_word_firm, target_firm, inline_firm, shape_part_firm, errors_firm}
 use Rattle.sm_idl.proofs.FirmBodies.{part_firm, traits_no_body, with_no_brace}
 use Rattle.sm_idl.proofs.Passing.{read_whole, shorter, stops_first, stops_behind, stops_in_row, stops_past_row}
 use Rattle.sm_idl.proofs.Answered.{as_behind, as_left, as_right}

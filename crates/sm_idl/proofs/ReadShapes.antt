@@ -3,7 +3,6 @@ use Rattle.std.proofs.Common.{◌≡◌, ◌<◌, inl, inr, ℕ, List, [], ◌�
 use Rattle.std.specs.List.{flat_map}
 use Rattle.std.proofs.lemmas.Grind.{flat_map-append}
 use Rattle.sm_ids.specs.Identifier.{IsIdentifier}
-use Rattle.sm_model.specs.Kinds.{MemberForm}
 use Rattle.sm_model.specs.Properties.{property_forms}
 use Rattle.sm_model.specs.Raw.{Raw, empty_raw}
 use Rattle.sm_model.specs.Said.{TraitSaid, MemberSaid, Said, shape_said}
@@ -13,7 +12,7 @@ use Rattle.sm_model.specs.declared.kind.Kind.TheVariants.{Double, BigInteger}
 use Rattle.sm_model.specs.declared.kind.Kind.TheVariants.{BigDecimal, Timestamp, Document, List as list_kind, Map, Structure, Union}
 use Rattle.sm_model.specs.declared.kind.Kind.TheVariants.{Service, Operation, Resource}
 use Rattle.sm_model.specs.declared.reference.Ref.{Ref}
-use Rattle.sm_idl.specs.Productions.{Tokens, Production, gives, ◌>>=◌, ◌>>◌, ◌or◌, each, many}
+use Rattle.sm_idl.specs.Productions.{Tokens, Production, gives, ◌>>=◌, each, many}
 use Rattle.sm_idl.specs.Words.{mark, identifier}
 use Rattle.sm_idl.specs.Nodes.{Home, Pair, as_object}
 use Rattle.sm_idl.specs.Traits.{traits, DocsBefore, docs_trait, apply}
@@ -21,24 +20,23 @@ use Rattle.sm_idl.specs.Members.{members, mixins}
 use Rattle.sm_idl.specs.Bodies.{Suffixes, PartSaid, part, property, braced_pairs}
 use Rattle.sm_idl.specs.Shapes.{type_word, BodySaid, simple_body, members_body, part_pairs, operation_body, pairs_body, body, stated_shape}
 use Rattle.sm_idl.specs.Shapes.{shape_with, shape, apply_item, item}
-use Rattle.sm_idl.specs.Idl.{items, SectionSaid}
 use Rattle.sm_idl.specs.declared.members.MemberKind.{MemberKind}
 use Rattle.sm_idl.specs.declared.reader.Stop.{Stop}
-use Rattle.sm_idl.specs.steps.Classes.{Either, AMark, AWord, AnyWord, TraitGoesOn, Brace, With, Paren}
+use Rattle.sm_idl.specs.steps.Classes.{Either, AMark, AnyWord, TraitGoesOn, Brace, With, Paren}
 use Rattle.sm_idl.specs.steps.FileClasses.{TypeWord, ShapeStart, Apply, ItemStart, ItemGoesOn, ItemsGoOn}
-use Rattle.sm_idl.specs.steps.Firm.{Class, HeadIs, AreApart, IsFirm}
+use Rattle.sm_idl.specs.steps.Firm.{HeadIs, AreApart, IsFirm}
 use Rattle.sm_idl.specs.steps.MemberSteps.{form_of, entry}
 use Rattle.sm_idl.specs.steps.ReaderView.{NoToken, StopsIn, ReadsOn}
 use Rattle.sm_idl.specs.steps.Reading.{IsRead}
 use Rattle.sm_idl.specs.steps.ShapeSteps.{body_form, body_by, AddsSaid}
 use Rattle.sm_idl.proofs.TokenLists.{head_apart}
-use Rattle.sm_idl.proofs.TokenClasses.{marks_unlike, mark_no_word, turned, either_apart}
+use Rattle.sm_idl.proofs.TokenClasses.{mark_no_word, turned}
 use Rattle.sm_idl.proofs.FirmShort.{then_firm, given_firm, front_firm, row_firm}
 use Rattle.sm_idl.proofs.FirmNodes.{mark_firm}
-use Rattle.sm_idl.proofs.FirmTraits.{word_firm, traits_firm}
+use Rattle.sm_idl.proofs.FirmTraits.{word_firm}
 use Rattle.sm_idl.proofs.FirmMembers.{mixins_firm, members_firm}
 use Rattle.sm_idl.proofs.FirmBodies.{part_firm, with_no_brace, braced_pairs_firm, property_firm}
-use Rattle.sm_idl.proofs.FirmShapes.{type_word_firm, body_firm, behind_type_firm, type_no_trait, shape_with_firm, shape_firm, apply_item_firm, item_firm}
+use Rattle.sm_idl.proofs.FirmShapes.{type_word_firm, behind_type_firm, type_no_trait, shape_with_firm, shape_firm, apply_item_firm, item_firm}
 use Rattle.sm_idl.proofs.FirmShapes.{item_apart, shape_no_apply}
 use Rattle.sm_idl.proofs.MemberRows.{entry_firm}
 use Rattle.sm_idl.proofs.Passing.{read_whole, read_wider, stop_wider, shorter, stops_first, stops_behind, stops_in_row, stops_past_row}

@@ -1,5 +1,5 @@
 -- Where reading stops, as the answer for the text says it.
-use Rattle.std.proofs.Common.{◌≡◌, ◌⊎◌, inl, inr, ℕ, List, [], ◌∷◌, ◌++◌, length, Some, Err, refl, sym, subst, ◌∙◌, append_assoc, append-nil}
+use Rattle.std.proofs.Common.{◌≡◌, inl, inr, ℕ, List, [], ◌∷◌, ◌++◌, length, Some, Err, refl, sym, subst, ◌∙◌, append_assoc, append-nil}
 use Rattle.sm_lex.specs.Answers.{Lexes}
 use Rattle.sm_lex.specs.Tokens.{Lexeme, TokensSpell}
 use Rattle.sm_lex.specs.declared.token.LexRefusal.{LexRefusal}
@@ -7,8 +7,8 @@ use Rattle.sm_lex.specs.declared.token.LexRefusal.TheVariants.{Bad, UnclosedStri
 use Rattle.sm_model.specs.Said.{Said}
 use Rattle.sm_idl.specs.Productions.{Tokens, spaced}
 use Rattle.sm_idl.specs.Bodies.{Controls}
-use Rattle.sm_idl.specs.Idl.{FileSaid, file, FileSpelled, Begun, Idl, HaveVersion}
-use Rattle.sm_idl.specs.Answers.{StopsAt, IsStopped, ReadsIdl}
+use Rattle.sm_idl.specs.Idl.{FileSaid, file, FileSpelled, Idl, HaveVersion}
+use Rattle.sm_idl.specs.Answers.{IsStopped, ReadsIdl}
 use Rattle.sm_idl.specs.declared.reader.Stop.{Stop}
 use Rattle.sm_idl.specs.declared.reader.Stop.TheVariants.{Syntax, NoMemory}
 use Rattle.sm_idl.specs.declared.refusal.IdlRefusal.{IdlRefusal}

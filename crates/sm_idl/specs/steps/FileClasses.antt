@@ -1,5 +1,5 @@
 -- Classes of tokens in a file: what begins its parts, and what goes on with them.
-use Rattle.std.specs.Prelude.{ℕ, codes}
+use Rattle.std.specs.Prelude.{codes}
 use Rattle.sm_model.specs.Kinds.{kind_name}
 use Rattle.sm_model.specs.declared.kind.Kind.{Kind}
 use Rattle.sm_idl.specs.steps.Firm.{Class}

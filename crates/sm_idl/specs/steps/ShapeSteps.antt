@@ -1,5 +1,5 @@
 -- Shapes and statements, as the reader holds them, and what its methods answer for them.
-use Rattle.std.specs.Prelude.{◌≡◌, ℕ, List, [], ◌++◌, Result, Ok, Err}
+use Rattle.std.specs.Prelude.{◌≡◌, ℕ, List, ◌++◌, Result, Ok, Err}
 use Rattle.std.specs.List.{flat_map}
 use Rattle.sm_model.specs.RawView.{raw_view}
 use Rattle.sm_model.specs.Said.{Said}
@@ -13,7 +13,6 @@ use Rattle.sm_idl.specs.Productions.{Tokens, Production, many}
 use Rattle.sm_idl.specs.Nodes.{Home}
 use Rattle.sm_idl.specs.Bodies.{Suffixes}
 use Rattle.sm_idl.specs.Shapes.{BodySaid, simple_body, members_body, operation_body, pairs_body, item}
-use Rattle.sm_idl.specs.declared.members.MemberKind.{MemberKind}
 use Rattle.sm_idl.specs.declared.members.MemberKind.TheVariants.{Value, Item, Pair, Choice, Field}
 use Rattle.sm_idl.specs.declared.reader.Stop.{Stop}
 use Rattle.sm_idl.specs.declared.shapes.Body.{Body}

@@ -1,4 +1,4 @@
-use Rattle.std.proofs.Common.{Some, codes, refl, rules}
+use Rattle.std.proofs.Common.{Some, codes, refl}
 use Rattle.std.specs.Prelude.{string_bytes}
 use Rattle.sm_model.specs.RawView.{raw_view}
 use Rattle.sm_idl.proofs.ReadDocs.{docs_put}

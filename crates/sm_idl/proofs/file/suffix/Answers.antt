@@ -1,6 +1,4 @@
 use Rattle.std.proofs.Common.{sym, subst, ◌∙◌, arith, IfOk, ◌≡◌}
-use Rattle.sm_idl.specs.Bodies.{suffix_under}
-use Rattle.sm_model.specs.RawView.{raw_members_view}
 use Rattle.sm_idl.proofs.PairsAhead.{same_word, other_word}
 use Rattle.sm_idl.proofs.ReadControls.{suffix_here, suffix_next}
 use Rattle.sm_idl.proofs.file.suffix.Goals as goal

@@ -1,4 +1,4 @@
-use Rattle.std.proofs.Common.{◌≡◌, codes, length, arith, rules, slice_index_or, sym, ◌∙◌}
+use Rattle.std.proofs.Common.{◌≡◌, codes, length, rules, slice_index_or, ◌∙◌}
 use Rattle.sm_idl.proofs.PairsAhead.{other_word}
 use Rattle.sm_idl.proofs.ArrangedMembers.{pair_not_there, pair_kept}
 use Rattle.sm_idl.proofs.members.pair_arranged.Goals as goal

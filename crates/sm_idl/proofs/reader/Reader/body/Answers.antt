@@ -2,9 +2,8 @@ use Rattle.sm_idl.specs.steps.ReaderView.{left}
 use Rattle.sm_idl.specs.steps.HomeView.{home_of_file}
 use Rattle.sm_idl.specs.steps.PartSteps.{suffixes_view}
 use Rattle.std.proofs.Common.{sym, subst, ◌∙◌}
-use Rattle.sm_model.specs.Properties.{property_forms}
 use Rattle.sm_idl.specs.Shapes.{members_body, operation_body, pairs_body}
-use Rattle.sm_idl.specs.steps.Classes.{With, Brace, Either}
+use Rattle.sm_idl.specs.steps.Classes.{With}
 use Rattle.sm_idl.specs.steps.MemberSteps.{form_of, entry}
 use Rattle.sm_idl.specs.steps.ReaderView.{ReadsOn}
 use Rattle.sm_idl.specs.steps.ShapeSteps.{body_by, body_view}

@@ -1,4 +1,4 @@
-use Rattle.std.proofs.Common.{◌≡◌, ◌≤◌, ◌<◌, length, arith, rules, slice_index_or, slice_range, subst}
+use Rattle.std.proofs.Common.{◌≡◌, ◌<◌, length, arith, rules, slice_index_or, slice_range, subst}
 use Rattle.sm_idl.specs.steps.DocSteps.{DocumentsTrait}
 use Rattle.sm_idl.proofs.Taken.{taken}
 use Rattle.sm_idl.proofs.ReadDocs.{docs_moved, docs_none}

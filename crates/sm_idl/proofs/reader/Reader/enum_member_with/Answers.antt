@@ -1,6 +1,6 @@
 use Rattle.sm_idl.specs.steps.ReaderView.{left}
 use Rattle.sm_idl.specs.steps.HomeView.{home_of_file}
-use Rattle.std.proofs.Common.{◌∙◌, sym, ap, refl}
+use Rattle.std.proofs.Common.{ap}
 use Rattle.sm_model.specs.SaidView.{traits_view, member_view}
 use Rattle.sm_idl.specs.steps.ReaderView.{maybe_raw}
 use Rattle.sm_idl.proofs.ReadMembers.{seen_member, enum_traits_stop, enum_name_stop, enum_value_stop, enum_made}

@@ -1,11 +1,8 @@
 use Rattle.sm_idl.specs.steps.ReaderView.{left}
 use Rattle.sm_idl.specs.steps.HomeView.{home_of_file}
-use Rattle.std.proofs.Common.{◌++◌, ◌∷◌, [], sym, ap, subst, refl}
-use Rattle.std.proofs.lemmas.List.{map_push}
-use Rattle.sm_model.specs.Formed.{stated_names}
+use Rattle.std.proofs.Common.{ap}
 use Rattle.sm_model.specs.SaidView.{member_view}
 use Rattle.sm_idl.specs.steps.ReaderView.{maybe_raw}
-use Rattle.sm_idl.specs.steps.Names.{Remembers}
 use Rattle.sm_idl.proofs.ReadMembers.{field_member_stop, field_value_stop, field_made, field_seen}
 use Rattle.sm_idl.proofs.reader.Reader.field.Goals as goal
 

@@ -1,10 +1,8 @@
 use Rattle.sm_idl.specs.steps.ReaderView.{left}
 use Rattle.sm_idl.specs.steps.HomeView.{home_of_file}
-use Rattle.std.proofs.Common.{◌++◌, ◌∷◌, ap, ◌∙◌}
+use Rattle.std.proofs.Common.{◌++◌, ap, ◌∙◌}
 use Rattle.sm_model.specs.SaidView.{member_statements_view}
 use Rattle.sm_idl.specs.steps.PartSteps.{side_word, part_view}
-use Rattle.sm_idl.specs.Traits.{standing_for}
-use Rattle.sm_model.specs.Raw.{empty_raw}
 use Rattle.sm_idl.proofs.ReadParts.{inline_traits_stop, inline_mixins_stop, inline_members_stop, inline_made}
 use Rattle.sm_idl.proofs.reader.Reader.inline_with.Goals as goal
 

@@ -1,7 +1,7 @@
 use Rattle.sm_idl.specs.steps.ReaderView.{left}
 use Rattle.sm_idl.specs.steps.HomeView.{home_of_file}
-use Rattle.std.proofs.Common.{◌∙◌, sym, refl}
-use Rattle.sm_model.specs.SaidView.{traits_view, traits_of, member_view}
+use Rattle.std.proofs.Common.{◌∙◌, refl}
+use Rattle.sm_model.specs.SaidView.{traits_view, traits_of}
 use Rattle.sm_idl.specs.steps.MemberSteps.{form_of}
 use Rattle.sm_idl.proofs.ReadMembers.{seen_member, member_traits_stop, member_name_stop, member_colon_stop, member_target_stop, member_made}
 use Rattle.sm_idl.proofs.reader.Reader.member_with.Goals as goal

@@ -1,5 +1,4 @@
 use Rattle.std.proofs.Common.{[], refl, ap}
-use Rattle.sm_model.specs.Raw.{empty_raw}
 use Rattle.sm_model.specs.SaidView.{member_statements_view, statements_view}
 use Rattle.sm_idl.specs.steps.ReaderView.{left}
 use Rattle.sm_idl.specs.steps.HomeView.{home_of_file}

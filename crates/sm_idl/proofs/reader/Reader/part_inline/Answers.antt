@@ -1,10 +1,10 @@
 use Rattle.sm_idl.specs.steps.ReaderView.{left}
 use Rattle.sm_idl.specs.steps.HomeView.{home_of_file}
-use Rattle.std.proofs.Common.{◌∷◌, ap, sym, subst, ◌∙◌}
+use Rattle.std.proofs.Common.{subst}
 use Rattle.sm_model.specs.SaidView.{traits_view}
 use Rattle.sm_idl.specs.steps.PartSteps.{side_word, part_view}
 use Rattle.sm_idl.specs.Bodies.{inline_name, inline_with}
-use Rattle.sm_idl.specs.Traits.{documented, docs_trait}
+use Rattle.sm_idl.specs.Traits.{documented}
 use Rattle.sm_idl.specs.steps.Classes.{Either, At, With, Brace}
 use Rattle.sm_idl.proofs.FirmBodies.{inline_name_firm, inline_with_firm}
 use Rattle.sm_idl.proofs.Answered.{as_behind}

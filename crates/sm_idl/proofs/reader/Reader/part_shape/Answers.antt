@@ -2,7 +2,7 @@ use Rattle.sm_idl.specs.steps.ReaderView.{left}
 use Rattle.sm_idl.specs.steps.HomeView.{home_of_file}
 use Rattle.sm_idl.specs.steps.Firm.{HeadIs}
 use Rattle.sm_idl.proofs.NodeRows.{refused}
-use Rattle.std.proofs.Common.{◌++◌, ◌∷◌, [], codes, refl, subst}
+use Rattle.std.proofs.Common.{◌++◌, ◌∷◌, [], codes, subst}
 use Rattle.sm_idl.specs.steps.PartSteps.{side_word, part_view}
 use Rattle.sm_idl.specs.Bodies.{part_names, part_word, part_target, part_inline, part_shape}
 use Rattle.sm_idl.specs.steps.Classes.{AMark}

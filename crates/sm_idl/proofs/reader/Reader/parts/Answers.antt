@@ -2,9 +2,8 @@ use Rattle.sm_idl.specs.steps.ReaderView.{left}
 use Rattle.sm_idl.specs.steps.HomeView.{home_of_file}
 use Rattle.sm_idl.specs.steps.Firm.{HeadIs}
 use Rattle.sm_idl.proofs.NodeRows.{refused}
-use Rattle.std.proofs.Common.{[], sym, subst, rules}
+use Rattle.std.proofs.Common.{[], rules}
 use Rattle.sm_idl.specs.steps.PartSteps.{part_view, suffixes_view}
-use Rattle.sm_idl.specs.Bodies.{part_names}
 use Rattle.sm_idl.specs.steps.Classes.{AnyWord}
 use Rattle.sm_idl.proofs.NodeRows.{none_seen}
 use Rattle.sm_idl.proofs.ReadParts.{parts_none, parts_more, parts_fewer, parts_read, parts_stop}

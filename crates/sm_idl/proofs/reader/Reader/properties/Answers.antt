@@ -1,7 +1,6 @@
 use Rattle.sm_idl.specs.steps.ReaderView.{left}
 use Rattle.sm_idl.specs.steps.HomeView.{home_of_file}
 use Rattle.sm_model.specs.RawView.{raw_members_view}
-use Rattle.std.proofs.Common.{rules}
 use Rattle.sm_idl.proofs.ReadFields.{object_open, object_within, object_close, object_read}
 use Rattle.sm_model.specs.Properties.{property_forms}
 use Rattle.sm_idl.specs.Bodies.{property}

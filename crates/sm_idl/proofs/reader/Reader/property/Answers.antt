@@ -1,8 +1,7 @@
 use Rattle.sm_idl.specs.steps.ReaderView.{left}
 use Rattle.sm_idl.specs.steps.HomeView.{home_of_file}
 use Rattle.sm_model.specs.RawView.{raw_view}
-use Rattle.sm_idl.specs.Nodes.{pair_names}
-use Rattle.sm_idl.proofs.ReadFields.{keyed_key_stop, keyed_colon_stop, keyed_value_stop, keyed_read, paired}
+use Rattle.sm_idl.proofs.ReadFields.{keyed_key_stop, keyed_colon_stop, keyed_value_stop, keyed_read}
 use Rattle.sm_model.specs.Properties.{property_forms}
 use Rattle.sm_idl.specs.Productions.{one}
 use Rattle.sm_idl.specs.Bodies.{FieldNamed, field_value}

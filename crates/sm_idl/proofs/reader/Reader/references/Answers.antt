@@ -1,7 +1,6 @@
 use Rattle.sm_idl.specs.steps.ReaderView.{left}
 use Rattle.sm_idl.specs.steps.HomeView.{home_of_file}
 use Rattle.sm_model.specs.RawView.{raws_view}
-use Rattle.std.proofs.Common.{rules}
 use Rattle.sm_idl.proofs.ReadFields.{list_open, list_within, list_close, list_read}
 use Rattle.sm_idl.proofs.reader.Reader.references.Goals as goal
 

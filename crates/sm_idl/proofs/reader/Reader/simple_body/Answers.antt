@@ -3,7 +3,6 @@ use Rattle.sm_model.specs.Raw.{empty_raw}
 use Rattle.sm_model.specs.SaidView.{member_statements_view, statements_view}
 use Rattle.sm_idl.specs.steps.ReaderView.{left}
 use Rattle.sm_idl.specs.steps.HomeView.{home_of_file}
-use Rattle.sm_idl.specs.steps.ShapeSteps.{body_view}
 use Rattle.sm_idl.proofs.ReadShapes.{simple_stop, simple_read, same_body}
 use Rattle.sm_idl.proofs.reader.Reader.simple_body.Goals as goal
 

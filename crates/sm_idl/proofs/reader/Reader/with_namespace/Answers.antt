@@ -1,5 +1,4 @@
 use Rattle.sm_idl.specs.steps.ReaderView.{left}
-use Rattle.sm_idl.specs.steps.HomeView.{home_of_file}
 use Rattle.std.proofs.Common.{◌∙◌}
 use Rattle.sm_idl.proofs.ReadFile.{word_stop, name_stop, use_stop, in_section_at}
 use Rattle.sm_idl.proofs.reader.Reader.with_namespace.Goals as goal

@@ -1,7 +1,6 @@
 use Rattle.sm_idl.specs.steps.ReaderView.{left}
-use Rattle.std.proofs.Common.{◌++◌, [], None, Some, ap, ◌∙◌, sym, refl, append-nil, subst}
+use Rattle.std.proofs.Common.{[], None, Some, ◌∙◌, sym, refl, append-nil, subst}
 use Rattle.sm_model.specs.RawView.{raw_members_view}
-use Rattle.sm_model.specs.SaidView.{statements_view}
 use Rattle.sm_idl.specs.steps.FileSteps.{no_namespace, BeginSaid}
 use Rattle.sm_idl.specs.Idl.{metadata_statements}
 use Rattle.sm_idl.proofs.ReadFile.{beginning_stop, one_beginning, plain_file, without_namespace}
