@@ -103,7 +103,8 @@ module _ (rows : List BareShape) (members : List (Vec NamedTarget)) (order : Lis
         many = length-set h.sizes v s ∙ h.many;
         each = λ w n there. elim (at_was h.sizes v s w n there) [
           | inl (same, is) ↦ inr (
-            subst (IsPlaced order (k + 1)) (sym same) (let low : k < k + 1 = omega arith in record { place = k; before = low; there = at_k }),
+            subst (IsPlaced order (k + 1)) (sym same)
+                (let low : k < k + 1 = omega arith in record { place = k; before = low; there = at_k }),
             subst (λ u. HasSize rows members (set all v t) u n) (sym same) (record {
               row = row;
               list = list;

@@ -1,5 +1,6 @@
 -- All shapes come to what stands in the tables, along an order in which each stands behind the mixins that contribute to it.
-use Rattle.std.proofs.Common.{◌≡◌, inl, inr, ℕ, zero, suc, ◌<◌, List, [], ◌∷◌, ◌++◌, length, filter, Option, Some, None, refl, sym, ap, subst}
+use Rattle.std.proofs.Common.{◌≡◌, inl, inr, ℕ, zero, suc, ◌<◌, List, [], ◌∷◌}
+use Rattle.std.proofs.Common.{◌++◌, length, filter, Option, Some, None, refl, sym, ap, subst}
 use Rattle.std.proofs.Common.{◌∙◌, arith}
 use Rattle.std.specs.Prelude.{MatchOption}
 use Rattle.std.specs.Global.{Vec}
@@ -14,7 +15,8 @@ use Rattle.sm_merge.specs.Values.{IsValueOf}
 use Rattle.sm_merge.specs.steps.EffectiveTables.{traits_of_member}
 use Rattle.sm_merge.specs.steps.Contributing.{AreWalkedTables, ContributesBy}
 use Rattle.sm_merge.specs.steps.Filling.{AreTraitsFrom, FoldedRows, HasEntry, HasMixedMembers, HasMixedTraits, IsFilled, copied_traits}
-use Rattle.sm_merge.specs.steps.Filling.{copies_by, folded_rows, id_at, id_in, member_lists, members_at, mixed_members, mixin_value, own_at, own_in}
+use Rattle.sm_merge.specs.steps.Filling.{copies_by, folded_rows, id_at, id_in, member_lists}
+use Rattle.sm_merge.specs.steps.Filling.{members_at, mixed_members, mixin_value, own_at, own_in}
 use Rattle.sm_merge.specs.steps.Filling.{is_kept, kept_at, kept_by, kept_of, last_first, own_traits}
 use Rattle.sm_merge.specs.steps.Firsts.{firsts, targets_view}
 use Rattle.sm_merge.specs.steps.Folding.{IsFolded}
@@ -186,7 +188,8 @@ module _ (ss : List Stated) (rows : List BareShape) (traits : List PlaceRow) (wa
               let row = shape_row v any.0 any.1 in
               ap (λ x. find text_cmp k (folded_rows (traits_of_member name (member_lists x)))) e.there
               ∙ no_other ss traits t.traits_of any.0 row.s members all (items_at mixed v)
-              (λ k. kept_so k row.s (items_at mixed v) (done row.s any.0 any.1 row.there)) (members_at members v) e.entry (are_ms any) (from any)
+              (λ k. kept_so k row.s (items_at mixed v) (done row.s any.0 any.1 row.there)) (members_at members v) e.entry
+              (are_ms any) (from any)
               (others_so row.s (items_at mixed v) (done row.s any.0 any.1 row.there)) name k none;
         }
 

@@ -24,7 +24,8 @@ use Rattle.sm_merge.specs.steps.Whole.{AreEffective, whole_member, whole_shapes}
 use Rattle.sm_merge.proofs.Ats.{sides}
 use Rattle.sm_merge.proofs.GivenCounts.{SomeHaveMany, any_either, any_first, any_later, none_in}
 use Rattle.sm_merge.proofs.SomeEffective.{Must, SomeRows, lengths_of, must, some_effective, thence}
-use Rattle.sm_merge.proofs.WholeCounts.{AreGood, ArePast, IsOfMembers, large_told, long_told, many_shapes, past_shapes, past_told, told_past}
+use Rattle.sm_merge.proofs.WholeCounts.{AreGood, ArePast, IsOfMembers, large_told}
+use Rattle.sm_merge.proofs.WholeCounts.{long_told, many_shapes, past_shapes, past_told, told_past}
 
 -- what can be decided, and must be, is
 stable_less : (k n : ℕ) → Must (k < n) → k < n

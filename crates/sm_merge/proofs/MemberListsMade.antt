@@ -50,7 +50,8 @@ last_step f start before after mixed i j c next there was put =
 joined_more : (xs ys : List (Vec NamedFolded)) → joined_rows (xs ++ ys) ≡ joined_rows xs ++ joined_rows ys
 joined_more [] ys = refl
 joined_more (x ∷ xs) ys =
-    ap (λ rest. folded_rows x.items ++ rest) (joined_more xs ys) ∙ sym (append_assoc (folded_rows x.items) (joined_rows xs) (joined_rows ys))
+    ap (λ rest. folded_rows x.items ++ rest) (joined_more xs ys) ∙ sym (append_assoc (folded_rows x.items) (joined_rows xs)
+    (joined_rows ys))
 
 pub put_one : (name m : List ℕ) (lists : List (List ℕ × Vec NamedFolded)) (v : Vec NamedFolded)
     → rows_under name (lists ++ (m, v) ∷ []) ≡ rows_under name lists ++ (if bytes_eq m name then folded_rows v.items else [])

@@ -54,7 +54,8 @@ module _ (ss : List Stated) (t : Tables) (walk : Walk) (h : AreSoundTables ss t)
   -- too many shapes
   pub many_shapes_told : SHAPE_LIMIT < length t.shapes.rows.items → StatementsComeTo ss (Err (Limit Shapes))
   many_shapes_told past = λ g is.
-      shapes_told ss t.shapes.rows.items (metadata_pairs t.metadata.items) (good_tables ss t h) walk (walks ss h.tables.shapes.rows) g is past
+      shapes_told ss t.shapes.rows.items (metadata_pairs t.metadata.items) (good_tables ss t h) walk (walks ss h.tables.shapes.rows)
+      g is past
 
   module _ (few : SHAPE_LIMIT < length t.shapes.rows.items → ⊥) (mixed : List (Vec Contributing))
       (mixed_in : AreWalkedTables ss t.shapes.rows.items t.traits.items walk → AreMixedIn ss t.shapes.rows.items mixed) where
@@ -98,7 +99,8 @@ module _ (ss : List Stated) (t : Tables) (walk : Walk) (h : AreSoundTables ss t)
   mixed_of = subst (λ rs. AreWalkedTables ss rs t.traits.items walk → AreMixedIn ss rs mixed) rows_are
       (subst (λ ts. AreWalkedTables ss rows ts walk → AreMixedIn ss rows mixed) given_are mixed_in)
 
-  listed_of : (o : Option (Vec (Vec NamedTarget))) → ListsMembers rows slice order o → ListsMembers t.shapes.rows.items mixed walk.order.items o
+  listed_of : (o : Option (Vec (Vec NamedTarget))) → ListsMembers rows slice order o → ListsMembers t.shapes.rows.items mixed
+      walk.order.items o
   listed_of o lists =
       subst (λ rs. ListsMembers rs mixed walk.order.items o) rows_are
       (subst (λ m. ListsMembers rows m walk.order.items o) mixed_are (subst (λ k. ListsMembers rows slice k o) order_is lists))
@@ -127,7 +129,8 @@ module _ (ss : List Stated) (t : Tables) (walk : Walk) (mixed : List (Vec Contri
     not_past_before Traits of = λ never. never
 
     -- too large traits
-    pub large_told : HasLargeTraits t.shapes.rows.items t.traits.items members mixed walk.order.items → StatementsComeTo ss (Err (Limit Traits))
+    pub large_told : HasLargeTraits t.shapes.rows.items t.traits.items members mixed walk.order.items → StatementsComeTo ss
+        (Err (Limit Traits))
     large_told large = λ g is.
         let good = good_tables ss t h.sound in
         large_traits_told ss t.shapes.rows.items (metadata_pairs t.metadata.items) good walk h.walked.walked g is members h.named

@@ -149,7 +149,8 @@ module _ (ss : List Stated) (rows : List BareShape) (traits : List PlaceRow) (wa
 
 module _ (ss : List Stated) (rows : List BareShape) (traits : List PlaceRow) (walk : Walk) (t : AreWalkedTables ss rows traits walk)
     (mixed : List (Vec Contributing)) (are : AreMixedIn ss rows mixed) (o : IsMixedOrder walk.order.items mixed)
-    (members : List (Vec NamedTarget)) (filled : IsFilled (HasMixedMembers rows mixed) walk.order.items (length walk.order.items) members) where
+    (members : List (Vec NamedTarget)) (filled : IsFilled (HasMixedMembers rows mixed) walk.order.items (length walk.order.items)
+    members) where
   pub members_are : length members ≡ length rows → AreMembersOf ss rows members
   members_are size = record {
     size = size;
@@ -157,5 +158,6 @@ module _ (ss : List Stated) (rows : List BareShape) (traits : List PlaceRow) (wa
         let inside : v < length (ids_of rows) = at_within (ids_of rows) v id at_v in
         let stands : StandsBefore walk.order.items (length walk.order.items) v = t.walked.all v inside in
         subst (HasMembers ss id) (ap (λ x. targets_view (vec_items x)) at_ms)
-        (named_by ss rows traits walk t mixed are o members (length walk.order.items) filled stands.place v stands.before stands.there id at_v);
+        (named_by ss rows traits walk t mixed are o members (length walk.order.items) filled stands.place v stands.before
+        stands.there id at_v);
   }

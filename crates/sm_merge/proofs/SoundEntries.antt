@@ -16,7 +16,8 @@ use Rattle.sm_merge.specs.Stated.{Stated}
 use Rattle.sm_merge.specs.steps.Contributing.{AreWalkedTables}
 use Rattle.sm_merge.specs.steps.Counting.{AllTold, AreSoundEntries, AreTold, IsSoundEntry}
 use Rattle.sm_merge.specs.steps.EffectiveTables.{AreRunning, AreTraitRows, by_members, trait_names, traits_of_member}
-use Rattle.sm_merge.specs.steps.Filling.{AreFirstRows, AreTraitsFrom, FoldedRows, copied_at, copied_traits, copies_by, folded_rows, given_rows}
+use Rattle.sm_merge.specs.steps.Filling.{AreFirstRows, AreTraitsFrom, FoldedRows, copied_at}
+use Rattle.sm_merge.specs.steps.Filling.{copied_traits, copies_by, folded_rows, given_rows}
 use Rattle.sm_merge.specs.steps.Filling.{kept_by, kept_of, last_first, member_lists, mixin_value}
 use Rattle.sm_merge.specs.steps.Firsts.{NamesAndTargets}
 use Rattle.sm_merge.specs.steps.Folding.{IsFolded, IsRunning}
@@ -136,7 +137,8 @@ module _ (traits : List PlaceRow) (told : AllTold traits) where
             members = λ name.
                 rows_told (traits_of_member name t.members.items) (from.members name).rise
                 (told_first _ (traits_of_member name t.members.items) (from.members name)
-                (told_joined (given_rows traits id ms name) (last_first (kept_by name all) cs) (told_members id ms name) (told_mixed name cs)));
+                (told_joined (given_rows traits id ms name) (last_first (kept_by name all) cs) (told_members id ms name)
+                (told_mixed name cs)));
           };
           copied = subst AreTold (sym from.copied) (told_copies id (folded_rows t.own.items) own);
         }

@@ -18,7 +18,8 @@ use Rattle.sm_merge.specs.declared.parts.BareShape.{BareShape}
 use Rattle.sm_merge.specs.declared.table.PlaceRow.{PlaceRow}
 use Rattle.sm_merge.specs.declared.walk.Walk.{Walk}
 use Rattle.sm_merge.specs.steps.Contributing.{AreWalkedTables}
-use Rattle.sm_merge.specs.steps.Counting.{AllTold, AreListedTo, AreListedTraits, AreSoundEntries, HasLargeTraits, IsPlaced, IsSoundEntry, TellsSize}
+use Rattle.sm_merge.specs.steps.Counting.{AllTold, AreListedTo, AreListedTraits, AreSoundEntries}
+use Rattle.sm_merge.specs.steps.Counting.{HasLargeTraits, IsPlaced, IsSoundEntry, TellsSize}
 use Rattle.sm_merge.specs.steps.EffectiveTables.{AreEffectiveTables, effective_view}
 use Rattle.sm_merge.specs.steps.Filling.{HasMixedMembers, HasMixedTraits, IsFilled, id_at, member_lists, members_at, own_traits}
 use Rattle.sm_merge.specs.steps.Firsts.{targets_view}
@@ -76,7 +77,8 @@ module _ (ss : List Stated) (rows : List BareShape) (traits : List PlaceRow) (wa
     each = λ v id ms ts at_v at_ms at_ts.
         let inside : v < length (ids_of rows) = at_within (ids_of rows) v id at_v in
         let count : length (ids_of rows) ≡ length rows = ids_count rows in
-        come all (length walk.order.items) (h.listed.filled order_is) v id ms ts (all_placed v (omega (arith, inside, count))) at_v at_ms at_ts;
+        come all (length walk.order.items) (h.listed.filled order_is) v id ms ts (all_placed v (omega (arith, inside, count))) at_v
+        at_ms at_ts;
     sound = λ v ts at_ts. (sound_at all h.listed.sound v ts at_ts).sound;
   }
 
@@ -91,7 +93,8 @@ module _ (ss : List Stated) (rows : List BareShape) (traits : List PlaceRow) (wa
 
   -- or are, whatever the shapes come to
   pub traits_large : HasLargeTraits rows traits members mixed walk.order.items → (es : List EffectiveShape)
-      → AreGivenShapes (whole_shapes rows es) → AreEffective ss rows es → TRAIT_LIMIT < sum_by its_size (given_entries (whole_shapes rows es))
+      → AreGivenShapes (whole_shapes rows es) → AreEffective ss rows es → TRAIT_LIMIT < sum_by its_size
+      (given_entries (whole_shapes rows es))
   traits_large h es given are_es =
       let c = h.listed.counted order_is in
       let most = at_most_whole ss rows es given are_es c.sizes c.many (λ v n there. elim (c.each v n there) [
@@ -102,7 +105,8 @@ module _ (ss : List Stated) (rows : List BareShape) (traits : List PlaceRow) (wa
           entry = s.entry;
           at_row = s.at_row;
           sound = (sound_at h.all h.listed.sound v s.entry s.at_entry).sound;
-          comes = come h.all h.place (h.listed.filled order_is) v s.row.id s.list s.entry p (id_of_row rows v s.row s.at_row) s.at_list s.at_entry;
+          comes = come h.all h.place (h.listed.filled order_is) v s.row.id s.list s.entry p (id_of_row rows v s.row s.at_row)
+              s.at_list s.at_entry;
           size = s.size;
         })
       ]) in

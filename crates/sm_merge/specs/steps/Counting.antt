@@ -52,7 +52,8 @@ pub record HasSize (rows : List BareShape) (members : List (Vec NamedTarget)) (a
   pub size : n ≡ shape_size (made_shape (bare_view row) list.items entry)
 
 -- the sizes of those that stand before a place
-pub record IsCounted (rows : List BareShape) (members : List (Vec NamedTarget)) (order : List ℕ) (k : ℕ) (all : List ShapeTraits) (total : ℕ)
+pub record IsCounted (rows : List BareShape) (members : List (Vec NamedTarget)) (order : List ℕ) (k : ℕ) (all : List ShapeTraits)
+    (total : ℕ)
     : Type 0 where
   pub sizes : List ℕ
   pub many : length sizes ≡ length rows

@@ -11,7 +11,8 @@ use Rattle.sm_merge.specs.declared.mixins.Contributing.{Contributing}
 use Rattle.sm_merge.specs.declared.parts.BareShape.{BareShape}
 
 -- the members of all shapes, of which none has too many
-pub record AreListed (rows : List BareShape) (mixed : List (Vec Contributing)) (order : List ℕ) (all : List (Vec NamedTarget)) : Type 0 where
+pub record AreListed (rows : List BareShape) (mixed : List (Vec Contributing)) (order : List ℕ) (all : List (Vec NamedTarget)) : Type
+    0 where
   pub size : length all ≡ length rows
   pub filled : IsMixedOrder order mixed → IsFilled (HasMixedMembers rows mixed) order (length order) all
   pub short : HaveManyMembers all → ⊥

@@ -30,7 +30,8 @@ entry_at-requires-clause-many c = ap length c.as_slice.ensures.value ∙ c.loop-
 pub size_at-size-requires : goal.size_at-size-requires
 size_at-size-requires c =
     let number = get_or c.args.order.now c.loop-number.number-index 0 in
-    let made = subst (λ all. HasMixedTraits c.args.traits.now c.args.rows.now c.args.members.now c.args.mixed.now number all c.in_ok-entry.entry)
+    let made = subst (λ all. HasMixedTraits c.args.traits.now c.args.rows.now c.args.members.now c.args.mixed.now number all
+    c.in_ok-entry.entry)
     c.as_slice.ensures.value c.in_ok-entry.ensures in
     record {
       inside = c.requires.within c.loop-number.number-index number
@@ -45,7 +46,8 @@ pub index_mut-requires : goal.index_mut-requires
 index_mut-requires c =
     let number = get_or c.args.order.now c.loop-number.number-index 0 in
     let low : number < length c.args.rows.now =
-    c.requires.within c.loop-number.number-index number (slice_get-get_or c.args.order.now c.loop-number.number-index 0 c.loop-number-test.true) in
+    c.requires.within c.loop-number.number-index number (slice_get-get_or c.args.order.now c.loop-number.number-index 0
+    c.loop-number-test.true) in
     let size : length c.loop-number.all.items ≡ length c.args.rows.now = c.loop-number.invariant.listed.size in
     omega (arith, low, size, c.loop-number.all.ok.0)
 
@@ -57,9 +59,12 @@ loop-number-preserved c =
     record {
       small = c.if-total-gt-TRAIT_LIMIT.false;
       listed =
-          listed_more c.args.rows.now c.args.traits.now c.args.members.now c.args.mixed.now c.args.order.now c.loop-number.number-index number
-          c.loop-number.all.items c.in_ok-entry.entry c.loop-number.total c.size_at-size.result c.saturating_add-total.result c.requires.told at_k low
-          (subst (λ all. HasMixedTraits c.args.traits.now c.args.rows.now c.args.members.now c.args.mixed.now number all c.in_ok-entry.entry)
+          listed_more c.args.rows.now c.args.traits.now c.args.members.now c.args.mixed.now c.args.order.now
+          c.loop-number.number-index number
+          c.loop-number.all.items c.in_ok-entry.entry c.loop-number.total c.size_at-size.result c.saturating_add-total.result
+          c.requires.told at_k low
+          (subst (λ all. HasMixedTraits c.args.traits.now c.args.rows.now c.args.members.now c.args.mixed.now number all
+          c.in_ok-entry.entry)
           c.as_slice.ensures.value c.in_ok-entry.ensures)
           c.size_at-size.ensures c.saturating_add-total.ensures c.loop-number.invariant.listed;
     }
@@ -75,9 +80,12 @@ returns-then-total-gt-TRAIT_LIMIT c =
       total = c.saturating_add-total.result;
       large = c.if-total-gt-TRAIT_LIMIT.true;
       listed =
-          listed_more c.args.rows.now c.args.traits.now c.args.members.now c.args.mixed.now c.args.order.now c.loop-number.number-index number
-          c.loop-number.all.items c.in_ok-entry.entry c.loop-number.total c.size_at-size.result c.saturating_add-total.result c.requires.told at_k low
-          (subst (λ all. HasMixedTraits c.args.traits.now c.args.rows.now c.args.members.now c.args.mixed.now number all c.in_ok-entry.entry)
+          listed_more c.args.rows.now c.args.traits.now c.args.members.now c.args.mixed.now c.args.order.now
+          c.loop-number.number-index number
+          c.loop-number.all.items c.in_ok-entry.entry c.loop-number.total c.size_at-size.result c.saturating_add-total.result
+          c.requires.told at_k low
+          (subst (λ all. HasMixedTraits c.args.traits.now c.args.rows.now c.args.members.now c.args.mixed.now number all
+          c.in_ok-entry.entry)
           c.as_slice.ensures.value c.in_ok-entry.ensures)
           c.size_at-size.ensures c.saturating_add-total.ensures c.loop-number.invariant.listed;
     }

@@ -15,7 +15,8 @@ traits_of-requires-clause-below c =
     let size : length c.args.mixed.now ≡ length c.args.rows.now = c.requires.size in
     let small : c.args.number < length c.args.mixed.now = omega (arith, low, size) in
     let below = below_at (length c.args.rows.now) c.args.mixed.now c.args.number c.index-mixed-number.result c.requires.below
-    (slice_get_read c.args.mixed.now (length c.args.mixed.now) c.args.number c.index-mixed-number.result refl small c.index-mixed-number.is) in
+    (slice_get_read c.args.mixed.now (length c.args.mixed.now) c.args.number c.index-mixed-number.result refl small
+    c.index-mixed-number.is) in
     subst (AreBelow (length c.args.all.now)) (sym c.as_slice.ensures.value)
     (subst (λ (n : ℕ). AreBelow n c.index-mixed-number.result.items) (sym c.requires.many) below)
 
@@ -31,7 +32,8 @@ returns c =
     c.index-mixed-number.is in
     let at_members = slice_get_read c.args.members.now (length c.args.members.now) number c.index-members-number.result refl few
     c.index-members-number.is in
-    let at_row = slice_get_read c.args.rows.now (length c.args.rows.now) number c.index-rows-number.result refl low c.index-rows-number.is in
+    let at_row = slice_get_read c.args.rows.now (length c.args.rows.now) number c.index-rows-number.result refl low
+    c.index-rows-number.is in
     IfOk-weaker c.traits_of.result
     (AreTraitsFrom c.args.traits.now c.as_str-id.result.now (targets_view c.as_slice-given.result.now) c.as_slice.result.now c.args.all.now)
     (HasMixedTraits c.args.traits.now c.args.rows.now c.args.members.now c.args.mixed.now number c.args.all.now)

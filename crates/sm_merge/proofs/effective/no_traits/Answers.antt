@@ -12,5 +12,6 @@ loop-preserved c =
       sound =
           subst AreSoundEntries (sym c.in_ok-push.ensures.items)
           (put_sound c.loop.all.items none c.loop.invariant.sound
-          (none_sound c.new.result c.new-in-loop.result c.new-in-loop-2.result c.new.ensures.items c.new-in-loop.ensures.items c.new-in-loop-2.ensures.items));
+          (none_sound c.new.result c.new-in-loop.result c.new-in-loop-2.result c.new.ensures.items c.new-in-loop.ensures.items
+          c.new-in-loop-2.ensures.items));
     }

@@ -18,5 +18,6 @@ returns c =
       at_list = slice_get_read c.args.members.now (length c.args.members.now) number c.index-members-number.result refl few
           c.index-members-number.is;
       size = c.shape_size.ensures
-          ∙ ap (λ ms. length_word (shape_size (made_shape (bare_view c.index-rows-number.result) ms c.args.traits.now))) c.as_slice.ensures.value;
+          ∙ ap (λ ms. length_word (shape_size (made_shape (bare_view c.index-rows-number.result) ms c.args.traits.now)))
+          c.as_slice.ensures.value;
     }

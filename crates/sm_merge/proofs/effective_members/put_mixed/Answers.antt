@@ -23,5 +23,6 @@ loop-left-preserved c =
           (rows_under name c.put_copies.new.lists.items) c.args.mixed.now (c.loop-left.left - 1) c.loop-left.left one.mixin next
           one.there (c.loop-left.invariant.rows name)
           (c.in_ok-put_copies.ensures name
-          ∙ ap (λ ms. rows_under name c.loop-left.lists.items ++ kept_of ms name) (c.as_slice.ensures.value ∙ sym (ap member_lists one.entry)));
+          ∙ ap (λ ms. rows_under name c.loop-left.lists.items ++ kept_of ms name)
+          (c.as_slice.ensures.value ∙ sym (ap member_lists one.entry)));
     }

@@ -17,7 +17,8 @@ offset_bounds-all-mixin c =
 
 pub returns : goal.returns
 returns c =
-    let small = below_one (length c.args.all.now) c.args.mixed.now c.args.place c.index-mixed-place.result c.requires.below c.requires.inside
+    let small = below_one (length c.args.all.now) c.args.mixed.now c.args.place c.index-mixed-place.result c.requires.below
+    c.requires.inside
     c.index-mixed-place.is in
     record {
       mixin = c.index-mixed-place.result;

@@ -21,7 +21,8 @@ pub index_mut-requires : goal.index_mut-requires
 index_mut-requires c =
     let number = get_or c.args.order.now c.loop-number.number-index 0 in
     let low : number < length c.args.rows.now =
-    c.requires.within c.loop-number.number-index number (slice_get-get_or c.args.order.now c.loop-number.number-index 0 c.loop-number-test.true) in
+    c.requires.within c.loop-number.number-index number (slice_get-get_or c.args.order.now c.loop-number.number-index 0
+    c.loop-number-test.true) in
     let size : length c.loop-number.all.items ≡ length c.args.rows.now = c.loop-number.invariant.size in
     omega (arith, low, size, c.loop-number.all.ok.0)
 
@@ -41,7 +42,8 @@ loop-number-preserved c =
           c.in_ok-members.ensures)
           (c.loop-number.invariant.filled o);
       short = set_short c.loop-number.all.items number c.in_ok-members.members c.loop-number.invariant.short
-          (λ many. true≢false (sym (c.is_long-long.ensures.1 (subst (λ ms. MEMBER_LIMIT < length ms) (sym c.as_slice-in-loop-number.ensures.value) many))
+          (λ many. true≢false (sym (c.is_long-long.ensures.1 (subst (λ ms. MEMBER_LIMIT < length ms)
+          (sym c.as_slice-in-loop-number.ensures.value) many))
           ∙ c.if-long.false));
     }
 

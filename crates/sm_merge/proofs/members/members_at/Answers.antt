@@ -14,7 +14,8 @@ members_of-requires c =
     let size : length c.args.mixed.now ≡ length c.args.rows.now = c.requires.size in
     let small : c.args.number < length c.args.mixed.now = omega (arith, low, size) in
     let below = below_at (length c.args.rows.now) c.args.mixed.now c.args.number c.index-mixed-number.result c.requires.below
-    (slice_get_read c.args.mixed.now (length c.args.mixed.now) c.args.number c.index-mixed-number.result refl small c.index-mixed-number.is) in
+    (slice_get_read c.args.mixed.now (length c.args.mixed.now) c.args.number c.index-mixed-number.result refl small
+    c.index-mixed-number.is) in
     subst (AreBelow (length c.args.all.now)) (sym c.as_slice.ensures.value)
     (subst (λ (n : ℕ). AreBelow n c.index-mixed-number.result.items) (sym c.requires.many) below)
 
@@ -25,11 +26,13 @@ returns c =
     let small : c.args.number < length c.args.mixed.now = omega (arith, low, size) in
     let at_mixed = slice_get_read c.args.mixed.now (length c.args.mixed.now) c.args.number c.index-mixed-number.result refl small
     c.index-mixed-number.is in
-    let at_row = slice_get_read c.args.rows.now (length c.args.rows.now) c.args.number c.index-rows-number.result refl low c.index-rows-number.is in
+    let at_row = slice_get_read c.args.rows.now (length c.args.rows.now) c.args.number c.index-rows-number.result refl low
+    c.index-rows-number.is in
     IfOk-weaker c.members_of.result
     (λ ms. targets_view ms.items ≡ firsts (all_targets c.args.all.now c.as_slice.result.now c.index-rows-number.result.members.items))
     (HasMixedMembers c.args.rows.now c.args.mixed.now c.args.number c.args.all.now)
     (λ ms made.
-    entry_made c.args.rows.now c.args.mixed.now c.args.number c.args.all.now ms c.index-rows-number.result c.index-mixed-number.result at_row
+    entry_made c.args.rows.now c.args.mixed.now c.args.number c.args.all.now ms c.index-rows-number.result
+    c.index-mixed-number.result at_row
     at_mixed (made ∙ (λ i. firsts (all_targets c.args.all.now (c.as_slice.ensures.value i) c.index-rows-number.result.members.items))))
     c.members_of.ensures

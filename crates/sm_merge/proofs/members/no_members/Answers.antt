@@ -6,7 +6,8 @@ use Rattle.sm_merge.proofs.members.no_members.Goals as goal
 
 pub loop-preserved : goal.loop-preserved
 loop-preserved c = record {
-  size = ap length c.in_ok-push.ensures.items ∙ length-append c.loop.all.items (c.new-none.result ∷ []) ∙ ap (λ n. n + 1) c.loop.invariant.size;
+  size = ap length c.in_ok-push.ensures.items ∙ length-append c.loop.all.items (c.new-none.result ∷ []) ∙ ap (λ n. n + 1)
+      c.loop.invariant.size;
   short =
       subst (λ all. HaveManyMembers all → ⊥) (sym c.in_ok-push.ensures.items)
       (put_short c.loop.all.items c.new-none.result c.loop.invariant.short (λ many.

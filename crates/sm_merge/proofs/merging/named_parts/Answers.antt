@@ -37,7 +37,8 @@ pub returns-in-Ok-None : goal.returns-in-Ok-None
 returns-in-Ok-None c = λ ss h.
     slices_large ss c.args.tables.now c.args.walk.now c.args.mixed.now c.args.members.now h
     (λ past. true≢false (sym (c.are_many_members.ensures.1 past) ∙ c.if-are_many_members.false)) c.as_slice-rows.result.now
-    c.as_slice-traits.result.now c.as_slice.result.now c.as_slice-rows.ensures.value c.as_slice-traits.ensures.value c.as_slice.ensures.value
+    c.as_slice-traits.result.now c.as_slice.result.now c.as_slice-rows.ensures.value c.as_slice-traits.ensures.value
+    c.as_slice.ensures.value
     (subst (ListsTraits c.as_slice-rows.result.now c.as_slice-traits.result.now c.args.members.now c.args.mixed.now c.as_slice.result.now)
     c.in-Ok-None.field-0-is c.in-Ok-None.ensures)
 

@@ -35,7 +35,8 @@ all_mixed_in-requires c =
 
 pub all_members-requires-clause-within : goal.all_members-requires-clause-within
 all_members-requires-clause-within c = λ k v there.
-    let w = c.in-Ok.ensures c.requires.0 (subst (AreShapesOf c.requires.0) (sym c.as_slice-rows.ensures.value) c.requires.1.tables.shapes.rows) in
+    let w = c.in-Ok.ensures c.requires.0 (subst (AreShapesOf c.requires.0) (sym c.as_slice-rows.ensures.value)
+    c.requires.1.tables.shapes.rows) in
     let inside : v < length (ids_of c.as_slice-rows.result.now) = w.within k v (subst (λ o. At o k v) c.as_slice-3.ensures.value there) in
     let count : length (ids_of c.as_slice-rows.result.now) ≡ length c.as_slice-rows.result.now = ids_count c.as_slice-rows.result.now in
     omega (arith, inside, count)
@@ -54,7 +55,8 @@ pub named_parts-requires-clause-some : goal.named_parts-requires-clause-some
 named_parts-requires-clause-some c = (
   c.requires.0,
   slices_named c.requires.0 c.args.tables.now c.in-Ok.walk c.requires.1 c.as_slice-rows.result.now c.as_slice.result.now
-      c.in-Ok-all_mixed_in.mixed.items c.as_slice-2.result.now c.as_slice-3.result.now c.as_slice-rows.ensures.value c.as_slice.ensures.value
+      c.in-Ok-all_mixed_in.mixed.items c.as_slice-2.result.now c.as_slice-3.result.now c.as_slice-rows.ensures.value
+      c.as_slice.ensures.value
       c.as_slice-2.ensures.value c.as_slice-3.ensures.value c.in-Ok.ensures
       (λ past. true≢false (sym (c.are_many_shapes.ensures.1 past) ∙ c.if-are_many_shapes.false))
       (c.in-Ok-all_mixed_in.ensures.mixed c.requires.0) c.in-Ok-Some.members

@@ -18,7 +18,8 @@ all_events-requires-clause-names c = c.requires.some.1.names.sound.tables.traits
 pub returns-then-not-is_empty : goal.returns-then-not-is_empty
 returns-then-not-is_empty c = λ ss w.
     whole_rejected ss c.args.tables.now c.args.walk.now c.args.mixed.now c.args.members.now c.args.all.now w
-    c.in-Ok.events (c.in-Ok.ensures.told ss (told_from ss c.args.tables.now c.args.walk.now c.args.mixed.now c.args.members.now c.args.all.now w))
+    c.in-Ok.events (c.in-Ok.ensures.told ss (told_from ss c.args.tables.now c.args.walk.now c.args.mixed.now c.args.members.now
+    c.args.all.now w))
     c.in-Ok.ensures.errors (search rules)
 
 pub shape_parts-requires : goal.shape_parts-requires
