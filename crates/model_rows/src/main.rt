@@ -6,6 +6,7 @@ mod node;
 mod play;
 mod refusal;
 mod row;
+mod selector;
 mod statement;
 
 use play::Models;

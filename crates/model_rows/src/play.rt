@@ -1,6 +1,7 @@
 // What stands behind a case: its answer, but for a part of a text.
 use crate::refusal::show_refusal;
 use crate::row::Row;
+use crate::selector::show_selector;
 use crate::statement::show_statements;
 use rows::Player;
 use sm_ast::read_ast;
@@ -45,6 +46,7 @@ impl Player for Models {
                 show_model(alloc, &self.parts, out)?;
                 self.parts.clear();
             }
+            Row::Selector(text) => show_selector(alloc, text, out)?,
             Row::Unknown => out.push_str(" => no row")?,
         }
         Ok(())

@@ -9,6 +9,8 @@ pub enum Row<'a> {
     Part(&'a str),
     /// `parts`: to read what these rows make as a model. The next such row begins anew.
     Parts,
+    /// `selector TEXT`: to read the text as a selector.
+    Selector(&'a str),
     /// Any other line.
     Unknown,
 }
@@ -22,6 +24,7 @@ impl<'a> Row<'a> {
         match line.split_once(' ') {
             Some(("ast", text)) => Row::Ast(text),
             Some(("part", text)) => Row::Part(text),
+            Some(("selector", text)) => Row::Selector(text),
             _ => Row::Unknown,
         }
     }
