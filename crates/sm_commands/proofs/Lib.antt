@@ -26,6 +26,7 @@ pub mod NoTrees
 pub mod Bodies
 pub mod Loads
 pub mod Converts
+pub mod Selects
 pub mod OneForm
 pub mod Readable
 pub mod OneBody
@@ -35,6 +36,7 @@ pub mod SomeLoad
 pub mod MergedJson
 pub mod OneConvert
 pub mod SomeConvert
+pub mod OneSelect
 pub mod Commanded
 pub mod Runs
 pub mod OneRun

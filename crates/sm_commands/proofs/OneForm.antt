@@ -1,16 +1,24 @@
 -- Words have the form of one command at most.
 use Rattle.std.proofs.Common.{◌≡◌, ◌<◌, ℕ, Bool, false, cond, List, [], ◌∷◌, ◌++◌, length, sym, ap, subst, ◌∙◌, refl}
 use Rattle.std.proofs.Common.{codes, bytes_eq, arith}
-use Rattle.sm_commands.specs.Commands.{AreOverModels, body_command, convert_command, IsCommandForm, IsNoForm, OneCommandForm}
+use Rattle.sm_commands.specs.Commands.{AreOverModels, body_command, convert_command, select_command, IsCommandForm, IsNoForm, OneCommandForm}
 
 -- whether the first word is that of `body`
 abbrev pub says_body : List (List ℕ) → Bool
 says_body [] = false
 says_body (w ∷ ws) = bytes_eq w (codes "body")
 
-no_body : (models : List (List ℕ)) (model shape : List ℕ)
-    → codes "body" ∷ model ∷ shape ∷ codes "json" ∷ codes "json" ∷ [] ≡ codes "convert" ∷ (models ++ codes "ast" ∷ []) → ⊥
-no_body models model shape e = subst (λ b. cond b (Unit {0}) ⊥) (ap says_body e) tt
+no_body : (ws : List (List ℕ)) (model shape name : List ℕ) → bytes_eq name (codes "body") ≡ false
+    → codes "body" ∷ model ∷ shape ∷ codes "json" ∷ codes "json" ∷ [] ≡ name ∷ ws → ⊥
+no_body ws model shape name other e = subst (λ b. cond b (Unit {0}) ⊥) (ap says_body e ∙ other) tt
+
+-- and that of `convert` isn't that of `select`
+abbrev says_convert : List (List ℕ) → Bool
+says_convert [] = false
+says_convert (w ∷ ws) = bytes_eq w (codes "convert")
+
+no_convert : (ws vs : List (List ℕ)) → codes "convert" ∷ ws ≡ codes "select" ∷ vs → ⊥
+no_convert ws vs e = subst (λ b. cond b (Unit {0}) ⊥) (ap says_convert e) tt
 
 -- what stands before a last word, and that word
 none_is_last : (xs : List (List ℕ)) (x : List ℕ) → xs ++ x ∷ [] ≡ [] → ⊥
@@ -24,20 +32,33 @@ last_same (z ∷ xs) [] x y e = absurd (none_is_last xs x (cc))
 last_same (z ∷ xs) (w ∷ ys) x y e = let later = last_same xs ys x y (cc) in let first : z ≡ w = cc in
     (ap (λ k. k ∷ xs) first ∙ ap (λ ks. w ∷ ks) later.0, later.1)
 
+over_same : (words : List (List ℕ)) (name : List ℕ) (models models1 : List (List ℕ)) (last last1 : List ℕ)
+    → AreOverModels words name models last → AreOverModels words name models1 last1 → (models ≡ models1) × (last ≡ last1)
+over_same words name models models1 last last1 h i =
+    let e = sym h.are ∙ i.are in
+    let rest : models ++ last ∷ [] ≡ models1 ++ last1 ∷ [] = cc in last_same models models1 last last1 rest
+
 pub one_form : OneCommandForm
 one_form words (body_command model shape) (body_command model1 shape1) h i = cc
-one_form words (body_command model shape) (convert_command models) h i = absurd (no_body models model shape (sym h ∙ i.are))
-one_form words (convert_command models) (body_command model shape) h i = absurd (no_body models model shape (sym i ∙ h.are))
+one_form words (body_command model shape) (convert_command models) h i = absurd (no_body _ model shape (codes "convert") refl (sym h ∙ i.are))
+one_form words (body_command model shape) (select_command models s) h i = absurd (no_body _ model shape (codes "select") refl (sym h ∙ i.are))
+one_form words (convert_command models) (body_command model shape) h i = absurd (no_body _ model shape (codes "convert") refl (sym i ∙ h.are))
 one_form words (convert_command models) (convert_command models1) h i =
-    let e = sym h.are ∙ i.are in
-    let rest : models ++ codes "ast" ∷ [] ≡ models1 ++ codes "ast" ∷ [] = cc in
-    ap convert_command (last_same models models1 (codes "ast") (codes "ast") rest).0
+    ap convert_command (over_same words (codes "convert") models models1 (codes "ast") (codes "ast") h i).0
+one_form words (convert_command models) (select_command models1 s) h i = absurd (no_convert _ _ (sym h.are ∙ i.are))
+one_form words (select_command models s) (body_command model shape) h i = absurd (no_body _ model shape (codes "select") refl (sym i ∙ h.are))
+one_form words (select_command models s) (convert_command models1) h i = absurd (no_convert _ _ (sym i.are ∙ h.are))
+one_form words (select_command models s) (select_command models1 s1) h i =
+    let both = over_same words (codes "select") models models1 s s1 h i in
+    ap (λ ms. select_command ms s) both.0 ∙ ap (λ x. select_command models1 x) both.1
 
 -- words of no command's form
 pub no_form : (words : List (List ℕ)) → ((model shape : List ℕ) → IsCommandForm words (body_command model shape) → ⊥)
-    → ((models : List (List ℕ)) → IsCommandForm words (convert_command models) → ⊥) → IsNoForm words
-no_form words no_body no_convert (body_command model shape) h = no_body model shape h
-no_form words no_body no_convert (convert_command models) h = no_convert models h
+    → ((models : List (List ℕ)) → IsCommandForm words (convert_command models) → ⊥)
+    → ((models : List (List ℕ)) (selector : List ℕ) → IsCommandForm words (select_command models selector) → ⊥) → IsNoForm words
+no_form words no_body no_convert no_select (body_command model shape) h = no_body model shape h
+no_form words no_body no_convert no_select (convert_command models) h = no_convert models h
+no_form words no_body no_convert no_select (select_command models selector) h = no_select models selector h
 
 -- words that aren't over model files: no words, another name, no last word, no model
 pub no_words : (words : List (List ℕ)) (name : List ℕ) (models : List (List ℕ)) (last : List ℕ) → words ≡ []

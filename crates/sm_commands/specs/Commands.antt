@@ -6,6 +6,8 @@ pub data Command : Type 0 where
   body_command : (model shape : List ℕ) → Command
   -- convert MODEL+ ast
   convert_command : (models : List (List ℕ)) → Command
+  -- select MODEL+ SELECTOR
+  select_command : (models : List (List ℕ)) → (selector : List ℕ) → Command
 
 -- the words are a command's name, one model file or more, and a last word
 pub record AreOverModels (words : List (List ℕ)) (name : List ℕ) (models : List (List ℕ)) (last : List ℕ) : Type 0 where
@@ -16,6 +18,7 @@ pub record AreOverModels (words : List (List ℕ)) (name : List ℕ) (models : L
 abbrev pub IsCommandForm : List (List ℕ) → Command → Type 0
 IsCommandForm words (body_command model shape) = words ≡ codes "body" ∷ model ∷ shape ∷ codes "json" ∷ codes "json" ∷ []
 IsCommandForm words (convert_command models) = AreOverModels words (codes "convert") models (codes "ast")
+IsCommandForm words (select_command models selector) = AreOverModels words (codes "select") models selector
 
 -- they have the form of none
 abbrev pub IsNoForm : List (List ℕ) → Type 0
@@ -29,16 +32,19 @@ OneCommandForm = (words : List (List ℕ)) (command command1 : Command) → IsCo
 abbrev pub reads : Command → List (List ℕ)
 reads (body_command model shape) = model ∷ []
 reads (convert_command models) = models
+reads (select_command models selector) = models
 
 -- the names of the files that it may write
 abbrev pub writes : Command → List (List ℕ)
 writes (body_command model shape) = []
 writes (convert_command models) = []
+writes (select_command models selector) = []
 
 -- whether it may read the input
 abbrev pub touches_input : Command → Bool
 touches_input (body_command model shape) = true
 touches_input (convert_command models) = false
+touches_input (select_command models selector) = false
 
 -- the files that such words name to be read may be read
 abbrev pub LetsRead : (List ℕ → Type 0) → List (List ℕ) → Type 0

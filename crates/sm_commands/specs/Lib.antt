@@ -21,6 +21,7 @@ pub mod ModelFiles
 pub mod FileStatements
 pub mod Loading
 pub mod Convert
+pub mod Select
 pub mod Says
 pub mod Run
 pub mod RunLaws

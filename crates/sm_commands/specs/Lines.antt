@@ -108,3 +108,17 @@ event_line severity e = line (severity_word severity) (e.event ++ (space ∷ (e.
 -- events for which a model is rejected
 abbrev pub error_lines : List EventTold → List ℕ
 error_lines es = flat_map (event_line Error) es
+
+-- a text that is no selector: what stands at the place can't go on there, or is a form that isn't read
+abbrev pub broken_selector_line : ℕ → List ℕ
+broken_selector_line at = line (codes "Selector") (codes "Syntax " ++ decimal at)
+
+abbrev pub other_selector_line : ℕ → List ℕ
+other_selector_line at = line (codes "Selector") (codes "OutOfProfile " ++ decimal at)
+
+-- ids of shapes and members, one a line
+abbrev pub id_line : List ℕ → List ℕ
+id_line id = id ++ line_feed ∷ []
+
+abbrev pub id_lines : List (List ℕ) → List ℕ
+id_lines ids = flat_map id_line ids

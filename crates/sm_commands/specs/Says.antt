@@ -2,22 +2,25 @@
 -- reads the input for none but those behind its stage.
 use Rattle.std.specs.Prelude.{◌≡◌, ◌⊎◌, ℕ, true, List, Some, Contains}
 use Rattle.sm_io.specs.Files.{Folder, file_at}
-use Rattle.sm_commands.specs.Commands.{Command, body_command, convert_command, reads, touches_input}
+use Rattle.sm_commands.specs.Commands.{Command, body_command, convert_command, select_command, reads, touches_input}
 use Rattle.sm_commands.specs.Answer.{Answer, Came, came}
 use Rattle.sm_commands.specs.Answer.InputUse.{untouched}
 use Rattle.sm_commands.specs.Stages.{Told, told, ShapeChosen}
 use Rattle.sm_commands.specs.Convention.{json}
 use Rattle.sm_commands.specs.Body.{BodySays}
 use Rattle.sm_commands.specs.Convert.{ConvertSays}
+use Rattle.sm_commands.specs.Select.{SelectSays}
 
 abbrev pub Says : Told → Command → Came → Type 0
 Says t (body_command model shape) c = BodySays json json t model shape c
 Says t (convert_command models) c = (a : Answer) × ConvertSays t.files models a × (c ≡ came untouched a)
+Says t (select_command models selector) c = (a : Answer) × SelectSays t.files models selector a × (c ≡ came untouched a)
 
 -- the stage from which the command reads the input: nothing that stands before it is refused
 abbrev pub ReachesInput : Told → Command → Type 0
 ReachesInput t (body_command model shape) = ShapeChosen t.files model shape
 ReachesInput t (convert_command models) = ⊥
+ReachesInput t (select_command models selector) = ⊥
 
 -- a law: files and an input that are told determine what a command comes to
 abbrev pub OneAnswer : Type 0

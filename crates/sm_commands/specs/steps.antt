@@ -8,4 +8,5 @@ pub mod FileSteps
 pub mod BodySteps
 pub mod LoadSteps
 pub mod ConvertSteps
+pub mod SelectSteps
 pub mod Asked

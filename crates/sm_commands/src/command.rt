@@ -11,6 +11,7 @@ ghost use Rattle.sm_commands.specs.steps.CommandSteps.{CommandComesTo, PutEnds, 
 
 use crate::body::body;
 use crate::convert::convert;
+use crate::select::select;
 use crate::stop::Stop;
 use crate::words::{Form, form_of};
 use sm_io::{Files, PutRefusal, Sink, Source};
@@ -79,6 +80,7 @@ fn come_to<F: Files, S: Source>(
     match form {
         Form::Body(words) => body(alloc, words, files, input),
         Form::Convert(words) => convert(alloc, words, files),
+        Form::Select(words) => select(alloc, words, files),
     }
 }
 
@@ -122,7 +124,8 @@ fn print<K: Sink>(out: &mut K, came: Result<Vec<u8>, Stop>) -> Status
 /// The input is touched only where nothing that stands before it is refused. `convert MODEL+ ast` prints the graph that model
 /// files merge to as one text of the JSON AST (0), or the lines of the first that is refused: the number of its files, their
 /// lengths (7), their texts and models, file by file (1), the size of the graph (7), all that is wrong with it (1); it doesn't
-/// touch the input.
+/// touch the input. `select MODEL+ SELECTOR` prints the ids that the selector picks in their graph, one a line (0); what `convert`
+/// refuses is refused here too, and then a text that is no selector (1).
 ///
 /// 2: the words have no form, and nothing is touched. 3: a read of the file or of the input failed, and nothing
 /// is put. 4: the output failed, and holds a prefix of what was to be put. 5: memory ran out, and nothing is put.

@@ -13,6 +13,7 @@ mod lines;
 mod loading;
 pub mod model;
 mod opening;
+mod select;
 mod stop;
 mod words;
 

@@ -5,10 +5,12 @@ ghost use Rattle.sm_tree.specs.Pointer.{pointer};
 ghost use Rattle.sm_model.specs.EventView.{AreErrors, event_view, events_view};
 ghost use Rattle.sm_ast.specs.Answers.{Tells};
 ghost use Rattle.sm_ast.specs.Faults.{AstFault};
+ghost use Rattle.sm_commands.specs.Lines.{broken_selector_line as the_broken_line, other_selector_line as the_other_line, id_lines as the_id_lines};
 ghost use Rattle.sm_commands.specs.Lines.{detail_part, event_line, error_lines as the_error_lines, severity_word as the_severity_word, size_limit, size_limit_word};
 ghost use Rattle.sm_commands.specs.Lines.{line as the_line, fault_line as the_fault_line, limit_line as the_limit_line, size_limit_line as the_size_limit_line, syntax_line as the_syntax_line, syntax_text as the_syntax_text, json_line as the_json_line, ast_line as the_ast_line, ast_text as the_ast_text};
 
 use sm_ast::AstRefusal;
+use sm_ids::ShapeId;
 use sm_merge::{ALL_MEMBER_LIMIT, LimitKind, MEMBER_LIMIT, SHAPE_LIMIT, TRAIT_LIMIT};
 use sm_model::{ModelEvent, Severity};
 use sm_shapes::Fault;
@@ -189,4 +191,32 @@ fn put_detail(detail: &str, lines: &mut Vec<u8>) -> Result<(), NoMemory>
         lines.extend_from_slice(detail.as_bytes())?;
     }
     Ok(())
+}
+
+/// The line of a text that is no selector: what stands at this place can't go on there.
+pub(crate) fn broken_selector_line(alloc: Global, at: u64) -> Result<Vec<u8>, NoMemory>
+    ensures { IfOk result (λ line. line.items ≡ the_broken_line at) }
+{
+    let text = format!(in alloc; "Syntax {at}")?;
+    line(alloc, "Selector", text.as_str())
+}
+
+/// The line of a text that is no selector: at this place begins a form that isn't read.
+pub(crate) fn other_selector_line(alloc: Global, at: u64) -> Result<Vec<u8>, NoMemory>
+    ensures { IfOk result (λ line. line.items ≡ the_other_line at) }
+{
+    let text = format!(in alloc; "OutOfProfile {at}")?;
+    line(alloc, "Selector", text.as_str())
+}
+
+/// Ids, one a line.
+pub(crate) fn id_lines(alloc: Global, ids: &[ShapeId]) -> Result<Vec<u8>, NoMemory>
+    ensures { IfOk result (λ lines. lines.items ≡ the_id_lines ids.now) }
+{
+    let mut lines = Vec::new(alloc);
+    for id in ids {
+        lines.extend_from_slice(id.as_str().as_bytes())?;
+        lines.push(b'\n')?;
+    }
+    Ok(lines)
 }

@@ -1,6 +1,6 @@
 // The words of a command, and the forms that they may have.
 ghost use Rattle.std.specs.Prelude.{◌≡◌, ◌↔◌, List, ℕ, [], ◌∷◌, ◌++◌, IsTrue, MatchOption};
-ghost use Rattle.sm_commands.specs.Commands.{AreOverModels, IsCommandForm, IsNoForm, body_command, convert_command};
+ghost use Rattle.sm_commands.specs.Commands.{AreOverModels, IsCommandForm, IsNoForm, body_command, convert_command, select_command};
 ghost use Rattle.sm_commands.specs.steps.Asked.{command_of};
 
 use sm_tree::Text;
@@ -21,6 +21,15 @@ pub struct ConvertWords<'a> {
     pub models: &'a [Text],
 }
 
+/// The words of `select MODEL+ SELECTOR`.
+#[derive(Debug, Clone, Copy)]
+pub struct SelectWords<'a> {
+    /// The names of the model files, in their order.
+    pub models: &'a [Text],
+    /// The word for the selector: any text, which may be none.
+    pub selector: &'a str,
+}
+
 /// The forms that words may have.
 #[derive(Debug, Clone, Copy)]
 pub enum Form<'a> {
@@ -28,6 +37,8 @@ pub enum Form<'a> {
     Body(BodyWords<'a>),
     /// `convert MODEL+ ast`.
     Convert(ConvertWords<'a>),
+    /// `select MODEL+ SELECTOR`.
+    Select(SelectWords<'a>),
 }
 
 /// What the words ask for; `None` where they have none of the forms.
@@ -38,7 +49,10 @@ pub(crate) fn form_of(words: &[Text]) -> Option<Form<'_>>
         Some(words) => Some(Form::Body(words)),
         None => match convert_words(words) {
             Some(words) => Some(Form::Convert(words)),
-            None => None,
+            None => match select_words(words) {
+                Some(words) => Some(Form::Select(words)),
+                None => None,
+            },
         },
     }
 }
@@ -80,6 +94,21 @@ fn convert_words(words: &[Text]) -> Option<ConvertWords<'_>>
         return None;
     }
     Some(ConvertWords { models })
+}
+
+// The words of `select`, where they have its form.
+fn select_words(words: &[Text]) -> Option<SelectWords<'_>>
+    ensures { MatchOption result
+        ((models : List (List ℕ)) (selector : List ℕ) → IsCommandForm words.now (select_command models selector) → ⊥)
+        (λ form. IsCommandForm words.now (select_command form.models.now form.selector.now)) }
+{
+    match model_words(words, "select") {
+        Some((models, last)) => Some(SelectWords {
+            models,
+            selector: last.as_str(),
+        }),
+        None => None,
+    }
 }
 
 // The model files and the last word, where the words are this command's name, one file or more, and a last word.

@@ -16,6 +16,8 @@ sm_tool body MODELFILE SHAPE json json
     Reads a JSON body of the shape from standard input, and prints its canonical form.
 sm_tool convert MODEL.. ast
     Merges model files, and prints their graph as one text of the JSON AST.
+sm_tool select MODEL.. SELECTOR
+    Prints the ids of the shapes and members that a selector picks in their graph.
 sm_tool --help
 sm_tool --version
 ";

@@ -1,8 +1,9 @@
 -- The command that words ask for, as the code holds it.
-use Rattle.sm_commands.specs.Commands.{Command, body_command, convert_command}
+use Rattle.sm_commands.specs.Commands.{Command, body_command, convert_command, select_command}
 use Rattle.sm_commands.specs.declared.words.Form.{Form}
-use Rattle.sm_commands.specs.declared.words.Form.TheVariants.{Body, Convert}
+use Rattle.sm_commands.specs.declared.words.Form.TheVariants.{Body, Convert, Select}
 
 abbrev pub command_of : Form → Command
 command_of (Body words) = body_command words.model.now words.shape.now
 command_of (Convert words) = convert_command words.models.now
+command_of (Select words) = select_command words.models.now words.selector.now

@@ -3,6 +3,7 @@ use Rattle.sm_io.specs.Seen.{files_seen, stream}
 use Rattle.sm_commands.specs.steps.Asked.{command_of}
 use Rattle.sm_commands.specs.steps.CommandSteps.{CommandComesTo}
 use Rattle.sm_commands.proofs.Converts.{convert_comes}
+use Rattle.sm_commands.proofs.Selects.{select_comes}
 use Rattle.sm_commands.proofs.command.come_to.Goals as goal
 
 pub returns-in-Convert-clause-comes : goal.returns-in-Convert-clause-comes
@@ -12,3 +13,11 @@ returns-in-Convert-clause-comes g c =
     let input = stream (g.S.Source.left c.args.input.now) (g.S.Source.faults c.args.input.now) in
     subst (λ f. CommandComesTo files files1 input input (command_of f) c.convert.result) (sym c.in-Convert.is)
     (convert_comes files files1 input c.in-Convert.words.models.now c.convert.result c.convert.ensures.comes)
+
+pub returns-in-Select-clause-comes : goal.returns-in-Select-clause-comes
+returns-in-Select-clause-comes g c =
+    let files = files_seen (g.F.Files.held c.args.files.now) (g.F.Files.read_faults c.args.files.now) in
+    let files1 = files_seen (g.F.Files.held c.select.new.files) (g.F.Files.read_faults c.select.new.files) in
+    let input = stream (g.S.Source.left c.args.input.now) (g.S.Source.faults c.args.input.now) in
+    subst (λ f. CommandComesTo files files1 input input (command_of f) c.select.result) (sym c.in-Select.is)
+    (select_comes files files1 input c.in-Select.words.models.now c.in-Select.words.selector.now c.select.result c.select.ensures.comes)
