@@ -11,7 +11,7 @@ use Rattle.sm_tree.specs.Node.{Node, list, object, nodes_of, members_of}
 use Rattle.sm_shapes.specs.Names.{AllDiffer}
 use Rattle.sm_shapes.specs.Values.{Val, Vals, EntryVals, null_val, bool_val, int_val, text_val, blob_val, time_val, list_val, map_val, structure_val, union_val, no_vals, no_entries, val, entry}
 use Rattle.sm_shapes.specs.TableData.{TableData, MemberData, ConstraintData, shape_constraints_at, member_count, shape_count, kind_at, members_at, by_name_at, by_json_name_at, home_at, name_at, json_name_at, target_at, required_at, constraints_at, default_node_at, default_at, home_in, name_in, json_name_in, target_in, required_in, constraints_in, binding_in, default_node_in, default_in}
-use Rattle.sm_shapes.specs.DefaultPuts.{with_default}
+use Rattle.sm_shapes.specs.DefaultPuts.{HasNoDefault, with_default}
 use Rattle.sm_shapes.specs.Places.{Place, member_place, kind_of}
 use Rattle.sm_shapes.specs.Broken.{Finder, broken, unless, length_broken, pattern_broken, text_broken}
 use Rattle.sm_shapes.specs.Fitting.{Test, any_text, finder, Fits, IsOfKind, MeetsConstraints}
@@ -25,7 +25,7 @@ use Rattle.sm_codec.specs.FaultLists.{Reading}
 use Rattle.sm_codec.specs.Readings.{reading}
 use Rattle.sm_codec.specs.Spelling.{Spelled, SpelledEntries, SpelledPairs}
 use Rattle.sm_codec.specs.Defaults.{node_codec, read_value, counted_default, filled_members, filled}
-use Rattle.sm_codec.specs.FilledLaws.{HasNoDefault, FilledIsShaped}
+use Rattle.sm_codec.specs.FilledLaws.{FilledIsShaped}
 use Rattle.sm_codec.proofs.NodeLaws.{node_laws}
 use Rattle.sm_codec.proofs.NoFaults.{none_first, none_behind, none_joined}
 use Rattle.sm_codec.proofs.KeyOrder.{none_in_order}

@@ -4,7 +4,7 @@ ghost use Rattle.std.specs.Option.{option_map};
 ghost use Rattle.sm_tree.specs.View.{node_of};
 ghost use Rattle.sm_shapes.specs.Broken.{first_broken};
 ghost use Rattle.sm_shapes.specs.ConstraintView.{constraint_data};
-ghost use Rattle.sm_shapes.specs.DefaultPuts.{defaults_view};
+ghost use Rattle.sm_shapes.specs.DefaultPuts.{HasNoDefault, defaults_view};
 ghost use Rattle.sm_shapes.specs.Fitting.{finder};
 ghost use Rattle.sm_shapes.specs.InOrder.{Shaped, AreStored, NamesPattern};
 ghost use Rattle.sm_shapes.specs.TableData.{shape_count, member_count, kind_at, default_node_at};
@@ -12,7 +12,7 @@ ghost use Rattle.sm_shapes.specs.TableView.{member_data, table_data};
 ghost use Rattle.sm_shapes.specs.ValueView.{val_of};
 ghost use Rattle.sm_codec.specs.Conventions.{node_read};
 ghost use Rattle.sm_codec.specs.Defaults.{node_codec, counted_default, filled};
-ghost use Rattle.sm_codec.specs.FilledLaws.{HasNoDefault, IsFilled};
+ghost use Rattle.sm_codec.specs.FilledLaws.{IsFilled};
 ghost use Rattle.sm_codec.specs.steps.Filling.{counted_defaults, empty_default, value_read, unjudged, unless_broken, judged};
 
 use crate::places::simple_of;

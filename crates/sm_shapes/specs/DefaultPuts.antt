@@ -1,10 +1,14 @@
 -- Defaults put into a table, each at the member of its place.
-use Rattle.std.specs.Prelude.{List, [], ◌∷◌, Option, map}
+use Rattle.std.specs.Prelude.{◌≡◌, ℕ, List, [], ◌∷◌, Option, None, map}
 use Rattle.std.specs.Option.{option_map}
 use Rattle.sm_shapes.specs.Values.{Val}
 use Rattle.sm_shapes.specs.ValueView.{val_of}
-use Rattle.sm_shapes.specs.TableData.{TableData, MemberData}
+use Rattle.sm_shapes.specs.TableData.{TableData, MemberData, default_at}
 use Rattle.sm_shapes.specs.declared.values.Value.{Value}
+
+-- no member has a default yet
+abbrev pub HasNoDefault : TableData → Type 0
+HasNoDefault t = (k : ℕ) → default_at t k ≡ None
 
 -- what defaults stand for
 abbrev pub defaults_view : List (Option Value) → List (Option Val)
