@@ -1,0 +1,122 @@
+// Bodies by the name of a convention.
+ghost use Rattle.std.specs.Prelude.{◌≡◌, ◌<◌, IfOk};
+ghost use Rattle.sm_shapes.specs.Fitting.{Fits, any_text};
+ghost use Rattle.sm_shapes.specs.InOrder.{Shaped, AreStored, DefaultsPass};
+ghost use Rattle.sm_shapes.specs.Places.{root_place};
+ghost use Rattle.sm_shapes.specs.TableData.{shape_count};
+ghost use Rattle.sm_shapes.specs.TableView.{table_data};
+ghost use Rattle.sm_shapes.specs.ValueView.{val_of};
+
+use crate::reading::{BodyRefusal, item_value, text_value};
+use crate::writing::{Maker, Written, write_item, write_text};
+use sm_codec::{CborLeaves, JsonLeaves, NodeLeaves};
+use sm_shapes::Patterns;
+use sm_shapes::tables::Table;
+use sm_shapes::values::Value;
+use sm_tree::NoMemory;
+use std::alloc::Global;
+
+/// A convention of leaves, and with it a format of bodies.
+#[derive(Debug, Clone, Copy, Drop)]
+pub enum Way {
+    /// JSON, by the members' names or by their JSON names.
+    Json(bool),
+    /// CBOR.
+    Cbor,
+    /// The nodes of models as JSON, with raw blobs or with base64.
+    Node(bool),
+}
+
+impl Way {
+    /// The convention that a word names: `json`, `json-names`, `cbor`, `node`, `node-raw`. No memory.
+    pub fn named(word: &str) -> Option<Way> {
+        match word {
+            "json" => Some(Way::Json(false)),
+            "json-names" => Some(Way::Json(true)),
+            "cbor" => Some(Way::Cbor),
+            "node" => Some(Way::Node(false)),
+            "node-raw" => Some(Way::Node(true)),
+            _ => None,
+        }
+    }
+
+    /// The value of a body, whose bytes come in pieces of at most so many. The store must have the table's patterns.
+    ///
+    /// # Errors
+    ///
+    /// Those of `text_value` and `item_value`.
+    #[tactic(auto, using(crate::proofs::BodiesRead::body_fits))]
+    pub fn value<P: Patterns>(
+        self,
+        alloc: Global,
+        table: &Table,
+        shape: u32,
+        patterns: &mut P,
+        bytes: &[u8],
+        piece: usize,
+    ) -> Result<Value, BodyRefusal>
+        requires piece { 0 < piece }
+        requires number { shape < shape_count (table_data table.now) }
+        requires shaped { Shaped (table_data table.now) }
+        requires stored { AreStored (table_data table.now).patterns (P.added patterns.old) }
+        requires pass { DefaultsPass (table_data table.now) P.test }
+        ensures { IfOk result (λ value. Fits (table_data table.now) any_text (root_place shape) (val_of value)) }
+    {
+        match self {
+            Way::Json(json_names) => text_value(
+                alloc,
+                table,
+                shape,
+                &JsonLeaves { json_names },
+                patterns,
+                bytes,
+                piece,
+            ),
+            Way::Node(raw_blobs) => text_value(
+                alloc,
+                table,
+                shape,
+                &NodeLeaves { raw_blobs },
+                patterns,
+                bytes,
+                piece,
+            ),
+            Way::Cbor => item_value(alloc, table, shape, &CborLeaves, patterns, bytes, piece),
+        }
+    }
+
+    /// The body of a value of the shape.
+    #[tactic(auto, using(crate::proofs::BodiesWritten::text_leaves, crate::proofs::BodiesWritten::node_leaves))]
+    pub fn body(
+        self,
+        alloc: Global,
+        table: &Table,
+        shape: u32,
+        value: &Value,
+        maker: Maker,
+    ) -> Result<Written, NoMemory>
+        requires shaped { Shaped (table_data table.now) }
+        requires shape { shape < shape_count (table_data table.now) }
+        requires fits { Fits (table_data table.now) any_text (root_place shape) (val_of value.now) }
+    {
+        match self {
+            Way::Json(json_names) => write_text(
+                alloc,
+                table,
+                shape,
+                value,
+                &JsonLeaves { json_names },
+                maker,
+            ),
+            Way::Node(raw_blobs) => write_text(
+                alloc,
+                table,
+                shape,
+                value,
+                &NodeLeaves { raw_blobs },
+                maker,
+            ),
+            Way::Cbor => write_item(alloc, table, shape, value, maker),
+        }
+    }
+}
