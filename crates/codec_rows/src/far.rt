@@ -1,0 +1,136 @@
+// What is shown of a value: it, how its entries stand, or the text or the item that is written for it, or the way to the first leaf that
+// isn't carried.
+ghost use Rattle.std.specs.Prelude.{◌≡◌, ◌<◌};
+ghost use Rattle.sm_shapes.specs.Fitting.{Fits, any_text};
+ghost use Rattle.sm_shapes.specs.InOrder.{Shaped};
+ghost use Rattle.sm_shapes.specs.Places.{root_place};
+ghost use Rattle.sm_shapes.specs.TableData.{shape_count};
+ghost use Rattle.sm_shapes.specs.TableView.{table_data};
+ghost use Rattle.sm_shapes.specs.ValueView.{val_of};
+
+use crate::row::Far;
+use crate::shown::show_value;
+use codec_bodies::{Maker, Way, Written};
+use sm_shapes::tables::Table;
+use sm_shapes::values::Value;
+use sm_tree::{NoMemory, Path};
+use std::alloc::Global;
+use std::cmp::Ordering;
+
+fn show_byte(byte: u8, out: &mut String) -> Result<(), NoMemory> {
+    Ok(write!(out, "{byte:02x}")?)
+}
+
+// Appends pairs of hexadecimal digits, with a blank between two.
+fn show_bytes(bytes: &[u8], out: &mut String) -> Result<(), NoMemory> {
+    for (at, byte) in bytes.iter().enumerate() {
+        if at > 0 {
+            out.push(' ')?;
+        }
+        show_byte(*byte, out)?;
+    }
+    Ok(())
+}
+
+// Appends a text, or its pairs of digits where it is none.
+fn show_text(bytes: &[u8], out: &mut String) -> Result<(), NoMemory> {
+    match std::str::from_utf8(bytes) {
+        Ok(text) => Ok(out.push_str(text)?),
+        Err(_) => show_bytes(bytes, out),
+    }
+}
+
+// Appends the way to a leaf that isn't carried, as a JSON Pointer (RFC 6901).
+fn show_path(alloc: Global, path: &Path, out: &mut String) -> Result<(), NoMemory> {
+    let pointer = path.print(alloc)?;
+    Ok(write!(out, "Fault {pointer} NotCarried")?)
+}
+
+fn show_written(
+    alloc: Global,
+    way: Way,
+    written: &Written,
+    out: &mut String,
+) -> Result<(), NoMemory> {
+    match written {
+        Written::Bytes(bytes) => match way {
+            Way::Cbor => show_bytes(bytes, out),
+            _ => show_text(bytes, out),
+        },
+        Written::NotCarried(path) => show_path(alloc, path, out),
+    }
+}
+
+fn is_same(first: &Written, second: &Written) -> bool {
+    match (first, second) {
+        (Written::Bytes(first), Written::Bytes(second)) => first == second,
+        (Written::NotCarried(first), Written::NotCarried(second)) => first == second,
+        _ => false,
+    }
+}
+
+// What is written for a value, by events, and whether it is the same by a tree.
+fn show_body(
+    alloc: Global,
+    table: &Table,
+    shape: u32,
+    way: Way,
+    value: &Value,
+    out: &mut String,
+) -> Result<(), NoMemory>
+    requires shaped { Shaped (table_data table.now) }
+    requires shape { shape < shape_count (table_data table.now) }
+    requires fits { Fits (table_data table.now) any_text (root_place shape) (val_of value.now) }
+{
+    let written = way.body(alloc, table, shape, value, Maker::Events)?;
+    show_written(alloc, way, &written, out)?;
+    let other = way.body(alloc, table, shape, value, Maker::Tree)?;
+    if !is_same(&written, &other) {
+        out.push_str(" otherwise by a tree")?;
+    }
+    Ok(())
+}
+
+fn order_word(order: Ordering) -> &'static str {
+    match order {
+        Ordering::Less => "less",
+        Ordering::Equal => "equal",
+        Ordering::Greater => "greater",
+    }
+}
+
+// How the two entries of a list stand, and where `is_same` says another thing.
+fn show_order(value: &Value, out: &mut String) -> Result<(), NoMemory> {
+    let Value::List(items) = value else {
+        return Ok(out.push_str("no list")?);
+    };
+    let [first, second] = items.as_slice() else {
+        return Ok(out.push_str("no two entries")?);
+    };
+    let order = first.compare(second);
+    out.push_str(order_word(order))?;
+    if first.is_same(second) != order.is_eq() {
+        out.push_str(" but not by is_same")?;
+    }
+    Ok(())
+}
+
+/// Appends what is asked of a value of the shape.
+pub fn show_far(
+    alloc: Global,
+    table: &Table,
+    shape: u32,
+    far: Far,
+    value: &Value,
+    out: &mut String,
+) -> Result<(), NoMemory>
+    requires shaped { Shaped (table_data table.now) }
+    requires shape { shape < shape_count (table_data table.now) }
+    requires fits { Fits (table_data table.now) any_text (root_place shape) (val_of value.now) }
+{
+    match far {
+        Far::Value => show_value(table, value, out),
+        Far::Body(way) => show_body(alloc, table, shape, way, value, out),
+        Far::Order => show_order(value, out),
+    }
+}
