@@ -6,7 +6,7 @@ use Rattle.sm_tree.specs.Node.{Node}
 use Rattle.sm_shapes.specs.Values.{Val}
 use Rattle.sm_shapes.specs.TableData.{TableData, MemberData, shape_count, member_count, kind_at, target_at, default_node_at, default_at, default_node_in, default_in, texts_numbered}
 use Rattle.sm_shapes.specs.InOrder.{Shaped, HasItsMembers, IsTextKind, NamesPattern}
-use Rattle.sm_codec.specs.FilledLaws.{HasNoDefault}
+use Rattle.sm_shapes.specs.DefaultPuts.{HasNoDefault}
 use Rattle.codec_bodies.specs.Checked.{ShapeInOrder, MemberInOrder}
 
 node_there : (ms : List MemberData) (k : ℕ) (n : Node) (o : Option MemberData) → slice_get ms k ≡ o → default_node_in o ≡ Some n → k <

@@ -13,7 +13,7 @@ ghost use Rattle.sm_shapes.specs.InOrder.{Shaped, AreMembersOf, AreByName, HasIt
 ghost use Rattle.sm_shapes.specs.TableData.{shape_count, member_count, kind_at, name_at, json_name_at, texts_numbered};
 ghost use Rattle.sm_shapes.specs.TableView.{table_data, binding_data};
 ghost use Rattle.sm_shapes.specs.declared.kinds.ShapeKind.TheVariants.{Structure};
-ghost use Rattle.sm_codec.specs.FilledLaws.{HasNoDefault};
+ghost use Rattle.sm_shapes.specs.DefaultPuts.{HasNoDefault};
 ghost use Rattle.codec_bodies.specs.Checked.{name_by, ShapeInOrder, MemberInOrder};
 
 use crate::lookups::{kind_at, members_at, row_at, shape_at, target_at};

@@ -4,6 +4,7 @@ use Rattle.std.specs.List.{join_with_byte}
 use Rattle.sm_bytes.specs.Ascii.{slash}
 use Rattle.sm_model.specs.Graphs.{GraphMaps}
 use Rattle.sm_shapes.specs.Fitting.{Test}
+use Rattle.sm_shapes.specs.DefaultPuts.{HasNoDefault}
 use Rattle.sm_shapes.specs.InOrder.{Shaped, Built}
 use Rattle.sm_shapes.specs.TableView.{table_data}
 use Rattle.sm_compile.specs.Compiled.{AreNumberedFrom, Numbering, IsCompiled, ArePatternsOf, IsFirstCarrier, AllUnbound, NoMediaTypes, texts_of}
@@ -37,6 +38,7 @@ pub record IsShapeCompiled (g : GraphMaps) (root : List ℕ) (test : Test) (befo
   pub no_media : NoMediaTypes (table_data one.table).shapes
   pub shaped : Shaped (table_data one.table)
   pub built : Built (table_data one.table) now.added test
+  pub no_default : HasNoDefault (table_data one.table)
   pub served : TellsServed g root one.served
   pub added : now.added ≡ before.added ++ texts_of (table_data one.table).patterns
   pub refused : now.refused ≡ before.refused

@@ -3,7 +3,7 @@ use Rattle.std.specs.Prelude.{IsTrue}
 use Rattle.sm_shapes.specs.InOrder.{Shaped}
 use Rattle.sm_shapes.specs.TableData.{shape_count}
 use Rattle.sm_shapes.specs.TableView.{table_data}
-use Rattle.sm_codec.specs.FilledLaws.{HasNoDefault}
+use Rattle.sm_shapes.specs.DefaultPuts.{HasNoDefault}
 use Rattle.codec_bodies.specs.Checked.{ShapeInOrder}
 use Rattle.codec_bodies.proofs.InOrderParts.{shaped_by, none_set}
 use Rattle.codec_bodies.proofs.Onward.{if_ok_so}
