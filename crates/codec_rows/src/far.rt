@@ -11,34 +11,11 @@ ghost use Rattle.sm_shapes.specs.ValueView.{val_of};
 use crate::row::Far;
 use crate::shown::show_value;
 use codec_bodies::{Maker, Way, Written};
+use rows::{push_utf8, show_bytes, show_order};
 use sm_shapes::tables::Table;
 use sm_shapes::values::Value;
 use sm_tree::{NoMemory, Path};
 use std::alloc::Global;
-use std::cmp::Ordering;
-
-fn show_byte(byte: u8, out: &mut String) -> Result<(), NoMemory> {
-    Ok(write!(out, "{byte:02x}")?)
-}
-
-// Appends pairs of hexadecimal digits, with a blank between two.
-fn show_bytes(bytes: &[u8], out: &mut String) -> Result<(), NoMemory> {
-    for (at, byte) in bytes.iter().enumerate() {
-        if at > 0 {
-            out.push(' ')?;
-        }
-        show_byte(*byte, out)?;
-    }
-    Ok(())
-}
-
-// Appends a text, or its pairs of digits where it is none.
-fn show_text(bytes: &[u8], out: &mut String) -> Result<(), NoMemory> {
-    match std::str::from_utf8(bytes) {
-        Ok(text) => Ok(out.push_str(text)?),
-        Err(_) => show_bytes(bytes, out),
-    }
-}
 
 // Appends the way to a leaf that isn't carried, as a JSON Pointer (RFC 6901).
 fn show_path(alloc: Global, path: &Path, out: &mut String) -> Result<(), NoMemory> {
@@ -55,7 +32,7 @@ fn show_written(
     match written {
         Written::Bytes(bytes) => match way {
             Way::Cbor => show_bytes(bytes, out),
-            _ => show_text(bytes, out),
+            _ => push_utf8(bytes, out),
         },
         Written::NotCarried(path) => show_path(alloc, path, out),
     }
@@ -91,14 +68,6 @@ fn show_body(
     Ok(())
 }
 
-fn order_word(order: Ordering) -> &'static str {
-    match order {
-        Ordering::Less => "less",
-        Ordering::Equal => "equal",
-        Ordering::Greater => "greater",
-    }
-}
-
 // How the two entries of a list stand, and where `is_same` says another thing.
 fn show_order(value: &Value, out: &mut String) -> Result<(), NoMemory> {
     let Value::List(items) = value else {
@@ -108,7 +77,7 @@ fn show_order(value: &Value, out: &mut String) -> Result<(), NoMemory> {
         return Ok(out.push_str("no two entries")?);
     };
     let order = first.compare(second);
-    out.push_str(order_word(order))?;
+    show_order(order, out)?;
     if first.is_same(second) != order.is_eq() {
         out.push_str(" but not by is_same")?;
     }

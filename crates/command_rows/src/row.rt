@@ -2,6 +2,15 @@
 use crate::given::{Asked, asked_by};
 use crate::large::Size;
 
+/// How an input is written down.
+#[derive(Debug, Clone, Copy)]
+pub enum Input<'a> {
+    /// `< TEXT`: the rest of the row, as it stands.
+    Plain(&'a str),
+    /// `<x PAIRS`: pairs of hexadecimal digits, as `bytes_shown` reads them.
+    Pairs(&'a str),
+}
+
 /// A row.
 #[derive(Debug, Clone, Copy)]
 pub enum Row<'a> {
@@ -14,7 +23,7 @@ pub enum Row<'a> {
     /// `model NAME SHAPES MEMBERS`: from now on the name stands for a file of a model of this size.
     Model(&'a str, Size),
     /// `run WORDS < INPUT`: a run of these words, and its input. `run < INPUT` has no words.
-    Run(Option<&'a str>, &'a str),
+    Run(Option<&'a str>, Input<'a>),
     /// Any other line.
     Unknown,
 }
@@ -49,10 +58,12 @@ impl<'a> Row<'a> {
 
     // A row `run`, without this word.
     fn run(rest: &'a str) -> Self {
-        match rest.split_once(" < ") {
-            Some((words, input)) => Row::Run(words.strip_prefix(' '), input),
-            None => Row::Unknown,
-        }
+        let (words, input) = match (rest.split_once(" < "), rest.split_once(" <x ")) {
+            (Some((words, text)), _) => (words, Input::Plain(text)),
+            (None, Some((words, pairs))) => (words, Input::Pairs(pairs)),
+            (None, None) => return Row::Unknown,
+        };
+        Row::Run(words.strip_prefix(' '), input)
     }
 
     // A row `file`, without this word.

@@ -2,8 +2,8 @@
 ghost use Rattle.std.specs.Prelude.{◌≡◌, ◌≤◌, IfOk, length, take};
 
 use crate::given::{Asked, Given};
-use crate::row::Row;
-use rows::Player;
+use crate::row::{Input, Row};
+use rows::{Player, bytes_shown, show_bytes};
 use sm_commands::run;
 use sm_io::{Files, MemFiles};
 use sm_shapes::LiteralPatterns;
@@ -51,6 +51,14 @@ impl Shelf {
         Ok(bytes)
     }
 
+    // The bytes of an input, or `None` where they are written down in no way.
+    fn input_of(&mut self, alloc: Global, input: Input<'_>) -> Result<Option<Vec<u8>>, NoMemory> {
+        match input {
+            Input::Plain(text) => Ok(Some(self.bytes_of(alloc, text)?)),
+            Input::Pairs(pairs) => bytes_shown(alloc, pairs),
+        }
+    }
+
     /// From now on the name stands for a file of this text.
     pub fn keep(&mut self, alloc: Global, name: &str, text: &str) -> Result<(), NoMemory> {
         let bytes = self.bytes_of(alloc, text)?;
@@ -60,17 +68,22 @@ impl Shelf {
         }
     }
 
-    /// Runs these words on an input, and appends its answer: the status and what was put, where `\n` is a line feed.
+    /// Runs these words on an input, and appends its answer: the status and what was put, where `\n` is a line feed. What was put
+    /// for a body in CBOR is shown as pairs of hexadecimal digits.
     pub fn run(
         &mut self,
         alloc: Global,
         words: Option<&str>,
-        input: &str,
+        input: Input<'_>,
         out: &mut String,
     ) -> Result<(), NoMemory> {
+        let Some(bytes) = self.input_of(alloc, input)? else {
+            return Ok(out.push_str(" => no row")?);
+        };
+        let is_item = words.is_some_and(|words| words.ends_with(" cbor"));
         let words = words_of(alloc, words)?;
         let given = std::mem::replace(&mut self.given, Given::nothing());
-        let mut input = given.input(alloc, self.bytes_of(alloc, input)?)?;
+        let mut input = given.input(alloc, bytes)?;
         let mut put = given.output(alloc)?;
         let mut patterns = LiteralPatterns::new(alloc, Vec::new(alloc));
         let status = run(
@@ -82,6 +95,9 @@ impl Shelf {
             &mut patterns,
         );
         out.push_str(format!(in alloc; " => {status}")?.as_str())?;
+        if is_item && status == 0 {
+            return show_pairs(put.bytes(), out);
+        }
         show(alloc, put.bytes(), out)
     }
 }
@@ -118,6 +134,12 @@ fn show(alloc: Global, put: &[u8], out: &mut String) -> Result<(), NoMemory> {
         Err(_) => out.push_str(" no text")?,
     }
     Ok(())
+}
+
+// Appends a blank and pairs of hexadecimal digits.
+fn show_pairs(put: &[u8], out: &mut String) -> Result<(), NoMemory> {
+    out.push(' ')?;
+    show_bytes(put, out)
 }
 
 impl Player for Shelf {

@@ -1,7 +1,8 @@
 // Answers on texts of JSON and items of CBOR. What is written for a tree goes behind bytes that are there, into room that is just
 // enough.
-use crate::show::{push_utf8, show_bytes, show_ranges, show_refusal, show_tree};
+use crate::show::{show_ranges, show_refusal, show_tree};
 use crate::{cbor_events, json_events};
+use rows::{push_utf8, show_bytes};
 use sm_cbor::readers::{read_by_bytes, read_item};
 use sm_tree::number::{Phase, number_run as run_of};
 use sm_tree::{NoMemory, SyntaxRefusal, Tree};

@@ -1,6 +1,6 @@
 // Answers on shape ids: their parts, their order, and which texts fold to each other.
 use crate::given::list_of;
-use crate::show::show_order;
+use rows::show_order;
 use sm_ids::{IdRefusal, ShapeId, ShapeIdRef, folds_to, is_identifier, is_namespace};
 use sm_tree::{NoMemory, Tree};
 use std::alloc::Global;

@@ -1,24 +1,7 @@
 // Trees, bytes and refusals as a person reads them. A tree is shown in the diagnostic notation of CBOR (RFC 8949, section 8).
-use rows::push_comma;
+use rows::{push_comma, push_utf8, show_byte, show_bytes};
 use sm_tree::{Bytes, NoMemory, SyntaxRefusal, Text, Tree};
 use std::alloc::Global;
-use std::cmp::Ordering;
-
-// Appends a byte as two hexadecimal digits.
-fn show_byte(byte: u8, out: &mut String) -> Result<(), NoMemory> {
-    Ok(write!(out, "{byte:02x}")?)
-}
-
-/// Appends pairs of hexadecimal digits, with a blank between two.
-pub fn show_bytes(bytes: &[u8], out: &mut String) -> Result<(), NoMemory> {
-    for (at, byte) in bytes.iter().enumerate() {
-        if at > 0 {
-            out.push(' ')?;
-        }
-        show_byte(*byte, out)?;
-    }
-    Ok(())
-}
 
 // Appends a range of bytes.
 fn show_range(first: u8, last: u8, out: &mut String) -> Result<(), NoMemory> {
@@ -52,28 +35,11 @@ pub fn show_ranges(bytes: &[u8], out: &mut String) -> Result<(), NoMemory> {
     }
 }
 
-/// Appends the word of an order.
-pub fn show_order(order: Ordering, out: &mut String) -> Result<(), NoMemory> {
-    Ok(out.push_str(match order {
-        Ordering::Less => "less",
-        Ordering::Equal => "equal",
-        Ordering::Greater => "greater",
-    })?)
-}
-
 /// Appends the text as a JSON string.
 pub fn show_text(alloc: Global, text: &str, out: &mut String) -> Result<(), NoMemory> {
     let mut written = Vec::new(alloc);
     sm_json::write_tree(alloc, &Tree::Text(Text::copy(alloc, text)?), &mut written)?;
     push_utf8(&written, out)
-}
-
-/// Appends bytes that are a text, or their pairs of digits where they are none.
-pub fn push_utf8(bytes: &[u8], out: &mut String) -> Result<(), NoMemory> {
-    match std::str::from_utf8(bytes) {
-        Ok(text) => Ok(out.push_str(text)?),
-        Err(_) => show_bytes(bytes, out),
-    }
 }
 
 /// Appends why bytes are refused.

@@ -1,6 +1,6 @@
 // Answers on stamps: the moment of a text, the text of a moment, and their order.
 use crate::given::list_of;
-use crate::show::{push_utf8, show_order};
+use rows::{push_utf8, show_order};
 use sm_time::{Format, Stamp, TimeRefusal};
 use sm_tree::{NoMemory, Tree};
 use std::alloc::Global;

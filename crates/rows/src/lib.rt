@@ -1,6 +1,9 @@
 // Rows of text as cases: a row comes out with what a player appends behind it. The programs that play rows stand on it.
 #![tactic(auto)]
 
+mod pairs;
+
+pub use pairs::{bytes_shown, push_utf8, show_byte, show_bytes, show_order};
 use sm_tree::NoMemory;
 use std::alloc::Global;
 
