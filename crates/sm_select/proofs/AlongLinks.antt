@@ -6,9 +6,9 @@ use Rattle.sm_model.specs.Relations.{IsRelated}
 use Rattle.sm_model.specs.declared.graph.Graph.{Graph}
 use Rattle.sm_model.specs.declared.link.Link.{Link}
 use Rattle.sm_model.specs.declared.relation.Relation.{Relation}
+use Rattle.sm_model.specs.Reaching.{id_of_number, IsMarked}
 use Rattle.sm_select.specs.Followed.{AreFollowed, Follows}
-use Rattle.sm_select.specs.Images.{AreImage, IsImage, id_of_number, turned}
-use Rattle.sm_select.specs.Neighbors.{IsMarked}
+use Rattle.sm_select.specs.Images.{AreImage, IsImage, turned}
 use Rattle.sm_select.specs.Picks.{LeadsAlong}
 use Rattle.sm_select.proofs.ImageNumbers.{marked_number}
 

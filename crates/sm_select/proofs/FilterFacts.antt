@@ -14,34 +14,14 @@ use Rattle.sm_model.specs.declared.graph.Graph.{Graph}
 use Rattle.sm_model.specs.declared.kind.Kind.{Kind}
 use Rattle.sm_model.proofs.GraphFacts.{entry_under, id_at}
 use Rattle.sm_model.proofs.LinkNumbers.{at_opened, at_from}
-use Rattle.sm_select.specs.Images.{id_of_number}
+use Rattle.sm_model.proofs.NumberedIds.{entry_here, of_entry, one_entry}
+use Rattle.sm_model.specs.Reaching.{id_of_number}
+use Rattle.sm_model.proofs.Worklist.{apart}
 use Rattle.sm_select.specs.Picks.{Compares, HasValue, IsNamed, IsTaken, StandsToOne, folded, value_within}
 use Rattle.sm_select.specs.Selectors.{Attribute, id_of, namespace_of, name_of, member_of, trait_of}
 use Rattle.sm_select.specs.declared.selector.SelectorOp.{SelectorOp}
 use Rattle.sm_select.specs.declared.values.Found.{Found}
 use Rattle.sm_select.specs.steps.Filtering.{HoldsOfOnly, IsNamedAt, Shows, found_node}
-use Rattle.sm_select.proofs.Worklist.{apart}
-
--- what is held of an entry is held of the one under the id
-pub entry_here : (g : Graph) (k : ℕ) (Is : List ℕ → Entry → Type 0) → At g k Is
-    → (e : Entry) × HasEntry (maps_of g) (id_of_number g k) e × Is (id_of_number g k) e
-entry_here g k Is h =
-    let o = at_opened g k Is h in
-    let same : o.id ≡ id_of_number g k = sym (id_at g k o.id o.entry o.there) in (
-      o.entry,
-      subst (λ i. HasEntry (maps_of g) i o.entry) same (entry_under g k o.id o.entry o.there),
-      subst (λ i. Is i o.entry) same o.is,
-    )
-
-one_entry : (m : GraphMaps) (id : List ℕ) (e f : Entry) → HasEntry m id e → HasEntry m id f → e ≡ f
-one_entry m id e f h k = same_Some e f (sym h ∙ k)
-
--- an id has the entry that stands at its number
-pub of_entry : (g : Graph) (k : ℕ) (Is : List ℕ → Entry → Type 0) → At g k Is → (e : Entry) → HasEntry (maps_of g) (id_of_number g k) e
-    → Is (id_of_number g k) e
-of_entry g k Is h e has =
-    let x = entry_here g k Is h in
-    subst (Is (id_of_number g k)) (one_entry (maps_of g) (id_of_number g k) x.0 e x.1 has) x.2
 
 -- the id that is told of a number
 pub id_told : (g : Graph) (k : ℕ) (r : List ℕ) → At g k (λ id e. r ≡ id) → r ≡ id_of_number g k

@@ -5,11 +5,12 @@ use Rattle.std.specs.List.{Contains}
 use Rattle.std.proofs.lemmas.List.{get_or-set_other, get_or-set_same}
 use Rattle.sm_model.specs.declared.link.Link.{Link}
 use Rattle.sm_model.specs.declared.relation.Relation.{Relation}
+use Rattle.sm_model.specs.Reaching.{IsMarked}
+use Rattle.sm_model.proofs.Worklist.{none_marked}
 use Rattle.sm_select.specs.Followed.{AreFollowed, Follows, end_of, start_of}
-use Rattle.sm_select.specs.Neighbors.{IsBelow, IsMarked}
+use Rattle.sm_select.specs.Neighbors.{IsBelow}
 use Rattle.sm_select.specs.steps.Reaching.{AnyOf}
 use Rattle.sm_select.proofs.StepLists.{any_in, in_any, same_or_not}
-use Rattle.sm_select.proofs.Worklist.{none_marked}
 
 pub marked_more : (marks : List Bool) (e : ℕ) → e < length marks → (b : ℕ) → IsMarked (set marks e true) b ↔ (IsMarked marks b ⊎ (e ≡ b))
 marked_more marks e lt b = elim (same_or_not b e) [

@@ -8,11 +8,11 @@ use Rattle.sm_model.specs.Relations.{HasEntry, IsInGraph}
 use Rattle.sm_model.specs.declared.graph.Graph.{Graph}
 use Rattle.sm_model.proofs.GraphFacts.{entry_under, id_at}
 use Rattle.sm_model.proofs.LinkNumbers.{one_number, stands_at}
-use Rattle.sm_select.specs.Images.{AreImage, id_of_number, turned}
-use Rattle.sm_select.specs.Neighbors.{IsMarked}
+use Rattle.sm_model.specs.Reaching.{id_of_number, IsMarked}
+use Rattle.sm_model.proofs.NumberedIds.{number_of}
+use Rattle.sm_model.proofs.Worklist.{marked_within}
+use Rattle.sm_select.specs.Images.{AreImage, turned}
 use Rattle.sm_select.specs.steps.Filtering.{AreKept}
-use Rattle.sm_select.proofs.WalkNumbers.{number_of}
-use Rattle.sm_select.proofs.Worklist.{marked_within}
 
 pub in_graph : (g : Graph) (k : ℕ) → IsShapeNumber g k → IsInGraph (maps_of g) (id_of_number g k)
 in_graph g k lt =

@@ -2,10 +2,9 @@
 use Rattle.std.proofs.Common.{◌≡◌, ◌≢◌, ◌⊎◌, inl, inr, ℕ, ◌+◌, ◌<◌, ◌≤◌, zero, suc, Bool, true, false, List, [], ◌∷◌, ◌++◌, length, get_or, refl, sym, ◌∙◌, subst, arith, length-append}
 use Rattle.std.specs.Prelude.{◌↔◌, not}
 use Rattle.std.proofs.lemmas.Bool.{cases_lt}
-use Rattle.sm_select.specs.Images.{AreMarks}
-use Rattle.sm_select.specs.Neighbors.{IsMarked}
+use Rattle.sm_model.specs.Reaching.{AreMarks, IsMarked}
+use Rattle.sm_model.proofs.Worklist.{apart, marked_within}
 use Rattle.sm_select.proofs.StepLists.{same_or_not}
-use Rattle.sm_select.proofs.Worklist.{apart, marked_within}
 
 at_push : (marks : List Bool) (m : Bool) (k : ℕ) → k ≡ length marks → get_or (marks ++ m ∷ []) k false ≡ m
 at_push [] m zero e = refl

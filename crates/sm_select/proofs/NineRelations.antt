@@ -8,11 +8,11 @@ use Rattle.sm_model.specs.Relations.{IsNeighbor}
 use Rattle.sm_model.specs.declared.graph.Graph.{Graph}
 use Rattle.sm_model.specs.declared.relation.Relation.{Relation}
 use Rattle.sm_model.specs.declared.relation.Relation.TheVariants.{Member, Container, Target, Input, Output, Error, Operation, Resource, Identifier, Property}
+use Rattle.sm_model.proofs.Worklist.{apart}
 use Rattle.sm_select.specs.Images.{AreImage, turned}
 use Rattle.sm_select.specs.Picks.{LeadsAlong}
 use Rattle.sm_select.proofs.ImageNumbers.{image_as}
 use Rattle.sm_select.proofs.StepLists.{cons_cases}
-use Rattle.sm_select.proofs.Worklist.{apart}
 
 abbrev pub followed_relations : List Relation
 followed_relations = Member ∷ Target ∷ Input ∷ Output ∷ Error ∷ Operation ∷ Resource ∷ Identifier ∷ Property ∷ []

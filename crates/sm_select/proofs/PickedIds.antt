@@ -13,17 +13,17 @@ use Rattle.sm_model.specs.PreludeShapes.{is_prelude_id}
 use Rattle.sm_model.specs.declared.graph.Graph.{Graph}
 use Rattle.sm_model.specs.declared.graph.rows.Row.{Row}
 use Rattle.sm_model.proofs.Searching.{and_left, and_right, less_from}
+use Rattle.sm_model.specs.Reaching.{AreMarks, id_of_number, IsMarked}
+use Rattle.sm_model.proofs.NumberedIds.{number_of}
+use Rattle.sm_model.proofs.Worklist.{apart}
 use Rattle.sm_select.specs.Answers.{ArePicked}
-use Rattle.sm_select.specs.Images.{AreImage, AreMarks, id_of_number}
-use Rattle.sm_select.specs.Neighbors.{IsMarked}
+use Rattle.sm_select.specs.Images.{AreImage}
 use Rattle.sm_select.specs.Picks.{Picks}
 use Rattle.sm_select.specs.Selectors.{Steps}
 use Rattle.sm_select.specs.steps.Imaging.{marked_ids}
 use Rattle.sm_select.proofs.ImageNumbers.{in_graph}
 use Rattle.sm_select.proofs.LedInGraph.{picks_in}
 use Rattle.sm_select.proofs.StepLists.{cons_cases}
-use Rattle.sm_select.proofs.WalkNumbers.{number_of}
-use Rattle.sm_select.proofs.Worklist.{apart}
 
 -- ids of marked numbers rise as all do
 kept_above : (P : List ℕ → Type 0) (ms : List Bool) (xs : List (List ℕ)) → AllByRecursion P xs → AllByRecursion P (marked_ids ms xs)

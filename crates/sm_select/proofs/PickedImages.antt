@@ -4,8 +4,10 @@ use Rattle.std.specs.Prelude.{◌↔◌, replicate}
 use Rattle.sm_model.specs.GraphView.{entries_of, maps_of}
 use Rattle.sm_model.specs.Relations.{IsInGraph}
 use Rattle.sm_model.specs.declared.graph.Graph.{Graph}
-use Rattle.sm_select.specs.Images.{AreImage, AreMarks, id_of_number, turned}
-use Rattle.sm_select.specs.Neighbors.{IsMarked}
+use Rattle.sm_model.specs.Reaching.{AreMarks, id_of_number, IsMarked}
+use Rattle.sm_model.proofs.NumberedIds.{number_of}
+use Rattle.sm_model.proofs.Worklist.{apart, none_marked}
+use Rattle.sm_select.specs.Images.{AreImage, turned}
 use Rattle.sm_select.specs.Picks.{Goes, PickedByOne, Picks}
 use Rattle.sm_select.specs.Selectors.{Step, Steps, no_steps, then, Alternatives, no_selectors, or_by}
 use Rattle.sm_select.specs.steps.Filtering.{AreKept}
@@ -13,8 +15,6 @@ use Rattle.sm_select.specs.steps.Imaging.{ArePicking, IsInImage, LeadsOn}
 use Rattle.sm_select.proofs.ImageNumbers.{composed, image_as, in_graph, same_image}
 use Rattle.sm_select.proofs.MarkedNumbers.{marks_same, unset}
 use Rattle.sm_select.proofs.LedInGraph.{goes_in}
-use Rattle.sm_select.proofs.WalkNumbers.{number_of}
-use Rattle.sm_select.proofs.Worklist.{apart, none_marked}
 
 module _ (g : Graph) where
   -- steps one after the other: whatever the rest leads to is what all lead to

@@ -4,8 +4,8 @@ use Rattle.std.specs.Prelude.{◌↔◌}
 use Rattle.std.proofs.lemmas.List.{drop_all, drop_more}
 use Rattle.sm_model.specs.GraphView.{entries_of, maps_of}
 use Rattle.sm_model.specs.declared.graph.Graph.{Graph}
+use Rattle.sm_model.specs.Reaching.{IsMarked}
 use Rattle.sm_select.specs.Images.{AreImage, turned}
-use Rattle.sm_select.specs.Neighbors.{IsMarked}
 use Rattle.sm_select.specs.Picks.{Goes, PickedByOne, Picks}
 use Rattle.sm_select.specs.Selectors.{Steps, Alternatives, alternatives_of, steps_of}
 use Rattle.sm_select.specs.View.{selector_view, selector_views, step_view, step_views}

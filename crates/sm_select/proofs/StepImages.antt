@@ -7,8 +7,8 @@ use Rattle.sm_model.specs.Relations.{IsNeighbor, Reaches}
 use Rattle.sm_model.specs.declared.graph.Graph.{Graph}
 use Rattle.sm_model.specs.declared.kind.Kind.{Kind}
 use Rattle.sm_model.specs.declared.relation.Relation.{Relation}
-use Rattle.sm_select.specs.Images.{AreImage, AreMarks, turned}
-use Rattle.sm_select.specs.Neighbors.{IsMarked}
+use Rattle.sm_model.specs.Reaching.{AreMarks, IsMarked}
+use Rattle.sm_select.specs.Images.{AreImage, turned}
 use Rattle.sm_select.specs.Picks.{Compares, Goes, LeadsAlong, PickedByOne, Picks, folded}
 use Rattle.sm_select.specs.Selectors.{Step, any_shape, of_kind, has, compares, forward, back, walk, along, picked_by, picks_none, picks_some}
 use Rattle.sm_select.specs.Selectors.{alternatives_of, steps_of}

@@ -7,9 +7,9 @@ use Rattle.std.proofs.Math.Seq.{drop-append_seam, take-append_seam}
 use Rattle.std.proofs.lemmas.Slice.Eq.{ends_is, starts_is}
 use Rattle.memchr.specs.Find.{FindsNeedle, OccursAt}
 use Rattle.memchr.proofs.lemmas.MatchLemmas.{OccursAt-from_part, OccursAt-split}
+use Rattle.sm_model.proofs.Worklist.{apart}
 use Rattle.sm_select.specs.Picks.{BeginsWith, EndsWith, HasWithin, StandsTo, StandsToOne}
 use Rattle.sm_select.specs.declared.selector.SelectorOp.{SelectorOp}
-use Rattle.sm_select.proofs.Worklist.{apart}
 
 numbers_decide : (a b : ℕ) → Decides (nat_eq a b) (a ≡ b)
 numbers_decide a b = (eqb-true a b, eq-eqb a b)

@@ -18,51 +18,13 @@ use Rattle.sm_model.specs.declared.relation.Relation.{Relation}
 use Rattle.sm_model.specs.declared.relation.Relation.TheVariants.{Member, Container, Target, Input, Output, Error, Operation, Resource, Identifier, Property}
 use Rattle.sm_model.proofs.GraphFacts.{id_at}
 use Rattle.sm_model.proofs.LinkNumbers.{within}
-use Rattle.sm_select.specs.Images.{AreImage, id_of_number, turned}
+use Rattle.sm_model.specs.Reaching.{id_of_number}
+use Rattle.sm_model.proofs.NumberedIds.{number_of, related_in}
+use Rattle.sm_model.proofs.Worklist.{marked_within}
+use Rattle.sm_select.specs.Images.{AreImage, turned}
 use Rattle.sm_select.specs.Neighbors.{AreBelow, AreNeighbors, AreReached, IsStepOf, StayBelow, StepsBy}
 use Rattle.sm_select.specs.steps.Imaging.{AreSteps}
-use Rattle.sm_select.proofs.Worklist.{marked_within, one_more_step}
-
-left_true : (a b : Bool) → (a && b) ≡ true → a ≡ true
-left_true true b h = refl
-left_true false b h = h
-
--- an id that the graph has stands at a number
-tied : (r : Ordering) → is_eq r ≡ true → r ≡ Equal
-tied Less h = absurd (subst (λ c. cond c ⊥ (Unit {0})) h tt)
-tied Equal h = refl
-tied Greater h = absurd (subst (λ c. cond c ⊥ (Unit {0})) h tt)
-
-found_at : (es : List (List ℕ × Entry)) (q : List ℕ) (e : Entry) → find text_cmp q es ≡ Some e → (k : ℕ) × (slice_get es k ≡ Some (q, e))
-found_at [] q e h = absurd (none-some e h)
-found_at (x ∷ es) q e h = by (is_eq (text_cmp q x.0)) refl (found_at es q e) h
-  where
-    by : (b : Bool) → is_eq (text_cmp q x.0) ≡ b → (find text_cmp q es ≡ Some e → (k : ℕ) × (slice_get es k ≡ Some (q, e)))
-        → cond b (Some x.1) (find text_cmp q es) ≡ Some e → (k : ℕ) × (slice_get (x ∷ es) k ≡ Some (q, e))
-    by true is later h =
-        let same : q ≡ x.0 = slice_cmp-IsAntisymmetric nat_cmp-IsAntisymmetric q x.0 (tied (text_cmp q x.0) is) in
-        (0, ap (λ (i : List ℕ). Some (i, x.1)) (sym same) ∙ ap (λ (y : Entry). Some (q, y)) (same_Some x.1 e h))
-    by false is later h = let r = later h in (suc r.0, r.1)
-
-pub number_of : (g : Graph) (q : List ℕ) → IsInGraph (maps_of g) q → (k : ℕ) × IsShapeNumber g k × (id_of_number g k ≡ q)
-number_of g q has =
-    let es = entries_of g in
-    let sorted = left_true (is_sorted text_cmp es) _ g.sound in
-    let r = found_at es q has.0 (sym (get-from_sorted text_cmp es q (passes _ sorted)) ∙ has.1) in
-    (r.0, within g r.0 q has.0 r.1, id_at g r.0 q has.0 r.1)
-
--- what is related is in the graph, at both ends
-pub related_in : (r : Relation) (m : GraphMaps) (a b : List ℕ) → IsRelated r m a b → IsInGraph m a × IsInGraph m b
-related_in Container m a b h = (h.3, (h.0, h.1))
-related_in Member m a b h = ((h.0, h.1), h.3)
-related_in Target m a b h = ((h.0, h.1), h.3)
-related_in Input m a b h = ((h.0, h.1), h.3)
-related_in Output m a b h = ((h.0, h.1), h.3)
-related_in Error m a b h = ((h.0, h.1), h.3)
-related_in Operation m a b h = ((h.0, h.1), h.3)
-related_in Resource m a b h = ((h.0, h.1), h.3)
-related_in Identifier m a b h = ((h.0, h.1), h.3)
-related_in Property m a b h = ((h.0, h.1), h.3)
+use Rattle.sm_select.proofs.Worklist.{one_more_step}
 
 pub neighbor_in : (m : GraphMaps) (a b : List ℕ) → IsNeighbor m a b → IsInGraph m a × IsInGraph m b
 neighbor_in m a b h = related_in h.0 m a b h.2

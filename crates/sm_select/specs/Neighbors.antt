@@ -1,6 +1,7 @@
 -- Steps between the numbers of a graph, by any relation but that from a member to its shape, and where one or more of them lead.
 use Rattle.std.specs.Prelude.{◌≡◌, ◌↔◌, ◌<◌, ℕ, Bool, true, false, List, [], ◌∷◌, get_or, length}
 use Rattle.std.specs.List.{Contains}
+use Rattle.sm_model.specs.Reaching.{IsMarked}
 use Rattle.sm_model.specs.declared.link.Link.{Link}
 use Rattle.sm_model.specs.declared.relation.Relation.TheVariants.{Container}
 
@@ -33,10 +34,6 @@ StepsBy rows a (next ∷ more) b = HasStep rows a next × StepsBy rows next more
 -- the numbers of a list stay below a bound
 abbrev pub StayBelow : ℕ → List (List ℕ) → Type 0
 StayBelow count rows = (a b : ℕ) → HasStep rows a b → b < count
-
--- a number is marked
-abbrev pub IsMarked : List Bool → ℕ → Type 0
-IsMarked marks k = get_or marks k false ≡ true
 
 -- one step or more lead to a number from a start
 abbrev pub IsReached : List (List ℕ) → List Bool → ℕ → Type 0

@@ -2,8 +2,7 @@
 ghost use Rattle.std.specs.Prelude.{◌≡◌, ◌↔◌, ℕ, IfOk, IsTrue, List, Some, length, map};
 ghost use Rattle.sm_model.specs.Graphs.{GraphMaps};
 ghost use Rattle.sm_model.specs.GraphView.{IsShapeNumber, entries_of, maps_of};
-ghost use Rattle.sm_select.specs.Images.{id_of_number};
-ghost use Rattle.sm_select.specs.Neighbors.{IsMarked};
+ghost use Rattle.sm_model.specs.Reaching.{id_of_number, IsMarked};
 ghost use Rattle.sm_select.specs.Picks.{Compares, IsTaken, folded};
 ghost use Rattle.sm_select.specs.View.{path_view};
 ghost use Rattle.sm_select.specs.steps.Filtering.{AreKept, HasSomeValue, IsNamedAt};

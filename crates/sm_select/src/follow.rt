@@ -1,11 +1,11 @@
 // Where one step along links leads.
 ghost use Rattle.std.specs.Prelude.{◌≡◌, ◌⊎◌, ◌↔◌, ℕ, IfOk, MatchBool, length};
 ghost use Rattle.std.specs.List.{Contains};
+ghost use Rattle.sm_model.specs.Reaching.{IsMarked};
 ghost use Rattle.sm_select.specs.Followed.{AreFollowed, Follows, end_of, start_of};
-ghost use Rattle.sm_select.specs.Neighbors.{AreBelow, IsBelow, IsMarked};
+ghost use Rattle.sm_select.specs.Neighbors.{AreBelow, IsBelow};
 
-use crate::reach::no_marks;
-use sm_model::{Link, Relation};
+use sm_model::{no_marks, Link, Relation};
 use sm_tree::NoMemory;
 use std::alloc::Global;
 

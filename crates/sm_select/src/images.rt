@@ -10,10 +10,9 @@ ghost use Rattle.sm_select.specs.steps.Imaging.{ArePicking, AreWays};
 
 use crate::filters::{kept_by_kind, kept_by_path, kept_by_text};
 use crate::marks::{all_marked, kept_where, mark_too, same_marks};
-use crate::reach::no_marks;
 use crate::selector::{Selector, SelectorStep};
 use crate::ways::{Ways, image_along, image_of_one, image_of_walk};
-use sm_model::Graph;
+use sm_model::{Graph, no_marks};
 use sm_tree::NoMemory;
 use std::alloc::Global;
 

@@ -1,7 +1,6 @@
 // Sets of the numbers of a graph, as marks.
 ghost use Rattle.std.specs.Prelude.{◌≡◌, ◌<◌, ◌⊎◌, ◌↔◌, ℕ, IfOk, IsTrue, false, get_or, length, true};
-ghost use Rattle.sm_select.specs.Images.{AreMarks};
-ghost use Rattle.sm_select.specs.Neighbors.{IsMarked};
+ghost use Rattle.sm_model.specs.Reaching.{AreMarks, IsMarked};
 
 use sm_tree::NoMemory;
 use std::alloc::Global;

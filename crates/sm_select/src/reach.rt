@@ -1,10 +1,12 @@
-// Where one step or more lead to: a worklist over numbers.
+// Where one step or more lead to from a set of numbers.
 ghost use Rattle.std.specs.Prelude.{◌≡◌, ◌<◌, ◌^◌, ℕ, IfOk, OnOk, false, length, replicate};
 ghost use Rattle.std.specs.List.{Contains};
+ghost use Rattle.sm_model.specs.Reaching.{AreFound, Finds, Spreads};
 ghost use Rattle.sm_select.specs.Neighbors.{AreReached, HasStep, StayBelow};
-ghost use Rattle.sm_select.specs.steps.Reaching.{AreFound, Finds, Spreads, StepsFrom, StepsFromStart};
+ghost use Rattle.sm_select.specs.steps.Reaching.{StepsFrom, StepsFromStart};
 
 use crate::neighbors::Neighbors;
+use sm_model::{Steps, mark_all, no_marks, spread};
 use sm_tree::NoMemory;
 use std::alloc::Global;
 
@@ -20,18 +22,7 @@ pub fn reached(alloc: Global, neighbors: &Neighbors, starts: &[bool]) -> Result<
     let mut marks = no_marks(alloc, starts.len())?;
     let mut found = Vec::new(alloc);
     visit_starts(neighbors, starts, &mut marks, &mut found)?;
-    spread(neighbors, starts, &mut marks, &mut found)?;
-    Ok(marks)
-}
-
-// So many numbers without marks.
-pub(crate) fn no_marks(alloc: Global, count: usize) -> Result<Vec<bool>, NoMemory>
-    ensures { IfOk result (λ marks. marks.items ≡ replicate count false) }
-{
-    let mut marks = Vec::with_capacity(alloc, count)?;
-    for _ in 0..count {
-        marks.push(false)?;
-    }
+    spread(neighbors, &mut marks, &mut found)?;
     Ok(marks)
 }
 
@@ -73,76 +64,25 @@ fn visit_start(
         (Finds (StepsFromStart neighbors.now starts.now number) marks.old.items found.old.items marks.new.items found.new.items) }
 {
     if starts[number as usize] {
-        visit(neighbors, number, marks, found)
+        neighbors.visit(number, marks, found)
     } else {
         Ok(())
     }
 }
 
-// Finds what a step leads to from a number.
-fn visit(
-    neighbors: &Neighbors,
-    number: u32,
-    marks: &mut Vec<bool>,
-    found: &mut Vec<u32>,
-) -> Result<(), NoMemory>
-    requires within { number < length neighbors.now }
-    requires marks { length marks.old.items ≡ length neighbors.now }
-    requires below { StayBelow (length neighbors.now) neighbors.now }
-    requires are { AreFound marks.old.items found.old.items }
-    ensures { OnOk result
-        (Finds (HasStep neighbors.now number) marks.old.items found.old.items marks.new.items found.new.items) }
-{
-    mark_all(neighbors.row(number), marks, found)
-}
+impl Steps for Neighbors {
+    ghost leads = { λ rows. HasStep rows };
 
-// Marks these numbers.
-fn mark_all(numbers: &[u32], marks: &mut Vec<bool>, found: &mut Vec<u32>) -> Result<(), NoMemory>
-    requires within { (k : ℕ) → Contains numbers.now k → k < length marks.old.items }
-    requires are { AreFound marks.old.items found.old.items }
-    ensures { OnOk result
-        (Finds (Contains numbers.now) marks.old.items found.old.items marks.new.items found.new.items) }
-{
-    for number in numbers {
-        mark(*number, marks, found)?;
-    }
-    Ok(())
-}
+    ghost bound = { λ rows. length rows };
 
-// Marks a number, and appends it where it was not found before.
-fn mark(number: u32, marks: &mut Vec<bool>, found: &mut Vec<u32>) -> Result<(), NoMemory>
-    requires within { number < length marks.old.items }
-    requires are { AreFound marks.old.items found.old.items }
-    ensures { OnOk result
-        (Finds (λ k. number ≡ k) marks.old.items found.old.items marks.new.items found.new.items) }
-{
-    if marks[number as usize] {
-        return Ok(());
-    }
-    marks[number as usize] = true;
-    found.push(number)?;
-    Ok(())
-}
+    ghost keeps = { λ rows. StayBelow (length rows) rows };
 
-// Takes the steps from each number that was found, the later ones too.
-fn spread(
-    neighbors: &Neighbors,
-    starts: &[bool],
-    marks: &mut Vec<bool>,
-    found: &mut Vec<u32>,
-) -> Result<(), NoMemory>
-    requires marks { length marks.old.items ≡ length neighbors.now }
-    requires below { StayBelow (length neighbors.now) neighbors.now }
-    requires are { AreFound marks.old.items found.old.items }
-    requires begun { Spreads neighbors.now starts.now 0 found.old.items }
-    ensures count { OnOk result (length marks.new.items ≡ length neighbors.now) }
-    ensures marked { OnOk result (AreReached neighbors.now starts.now marks.new.items) }
-{
-    for at in 0..marks.len() {
-        if at >= found.len() {
-            return Ok(());
-        }
-        visit(neighbors, found[at], marks, found)?;
+    fn visit(
+        &self,
+        number: u32,
+        marks: &mut Vec<bool>,
+        found: &mut Vec<u32>,
+    ) -> Result<(), NoMemory> {
+        mark_all(self.row(number), marks, found)
     }
-    Ok(())
 }

@@ -2,8 +2,8 @@
 ghost use Rattle.std.specs.Prelude.{◌≡◌, ◌++◌, ◌∷◌, [], IfOk, OnOk, false, get_or, length, not};
 ghost use Rattle.sm_model.specs.GraphView.{IsShapeNumber, entries_of, ids, maps_of};
 ghost use Rattle.sm_model.specs.PreludeShapes.{is_prelude_id};
+ghost use Rattle.sm_model.specs.Reaching.{AreMarks, id_of_number};
 ghost use Rattle.sm_select.specs.Answers.{ArePicked};
-ghost use Rattle.sm_select.specs.Images.{AreMarks, id_of_number};
 ghost use Rattle.sm_select.specs.Selectors.{steps_of};
 ghost use Rattle.sm_select.specs.View.{selector_view};
 ghost use Rattle.sm_select.specs.steps.Imaging.{marked_ids};

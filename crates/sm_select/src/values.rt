@@ -5,13 +5,13 @@ ghost use Rattle.sm_tree.specs.Node.{members_of, text};
 ghost use Rattle.sm_tree.specs.Parts.{tree_named};
 ghost use Rattle.sm_tree.specs.View.{members_view, node_of};
 ghost use Rattle.sm_model.specs.GraphView.{IsShapeNumber, maps_of};
-ghost use Rattle.sm_select.specs.Images.{id_of_number};
+ghost use Rattle.sm_model.specs.Reaching.{id_of_number};
 ghost use Rattle.sm_select.specs.Picks.{HasValue, value_at_key, value_within};
 ghost use Rattle.sm_select.specs.View.{path_view};
 ghost use Rattle.sm_select.specs.steps.Filtering.{HoldsOfOnly, found_node};
 
 use crate::selector::SelectorPath;
-use sm_model::Graph;
+use sm_model::{Graph, tree_under};
 use sm_tree::{Text, Tree};
 
 /// The value that a path has: part of an id, or in a trait's value.
@@ -82,20 +82,7 @@ fn tree_at_key<'a>(tree: &'a Tree, name: &str) -> Option<&'a Tree>
         (λ t. value_at_key name.now (node_of tree.now) ≡ Some (node_of t.now)) }
 {
     match tree {
-        Tree::Object(pairs) => first_named(pairs.as_slice(), name),
+        Tree::Object(pairs) => tree_under(pairs.as_slice(), name),
         _ => None,
     }
-}
-
-fn first_named<'a>(pairs: &'a [(Text, Tree)], name: &str) -> Option<&'a Tree>
-    ensures { MatchOption result
-        (tree_named name.now (members_of (members_view pairs.now)) ≡ None)
-        (λ t. tree_named name.now (members_of (members_view pairs.now)) ≡ Some (node_of t.now)) }
-{
-    for pair in pairs {
-        if pair.0.as_str() == name {
-            return Some(&pair.1);
-        }
-    }
-    None
 }

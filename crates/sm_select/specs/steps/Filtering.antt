@@ -7,8 +7,7 @@ use Rattle.sm_model.specs.GraphView.{entries_of}
 use Rattle.sm_model.specs.Relations.{HasEntry}
 use Rattle.sm_model.specs.declared.graph.Graph.{Graph}
 use Rattle.sm_model.specs.declared.kind.Kind.{Kind}
-use Rattle.sm_select.specs.Images.{AreMarks, id_of_number}
-use Rattle.sm_select.specs.Neighbors.{IsMarked}
+use Rattle.sm_model.specs.Reaching.{AreMarks, id_of_number, IsMarked}
 use Rattle.sm_select.specs.Picks.{HasValue, IsNamed, StandsToOne, compared_text, folded}
 use Rattle.sm_select.specs.Selectors.{Attribute}
 use Rattle.sm_select.specs.declared.selector.SelectorOp.{SelectorOp}

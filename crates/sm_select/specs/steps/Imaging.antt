@@ -4,7 +4,8 @@ use Rattle.sm_model.specs.GraphView.{IsShapeNumber, entries_of, maps_of}
 use Rattle.sm_model.specs.Links.{AreLinks}
 use Rattle.sm_model.specs.Relations.{IsNeighbor}
 use Rattle.sm_model.specs.declared.graph.Graph.{Graph}
-use Rattle.sm_select.specs.Images.{AreImage, AreMarks, IsImage, id_of_number, turned}
+use Rattle.sm_model.specs.Reaching.{AreMarks, id_of_number}
+use Rattle.sm_select.specs.Images.{AreImage, IsImage, turned}
 use Rattle.sm_select.specs.Neighbors.{HasStep}
 use Rattle.sm_select.specs.Picks.{Picks}
 use Rattle.sm_select.specs.Selectors.{Steps}

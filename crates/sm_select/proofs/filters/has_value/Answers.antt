@@ -1,6 +1,6 @@
 use Rattle.std.proofs.Common.{None, Some}
 use Rattle.sm_model.specs.GraphView.{maps_of}
-use Rattle.sm_select.specs.Images.{id_of_number}
+use Rattle.sm_model.specs.Reaching.{id_of_number}
 use Rattle.sm_select.specs.Picks.{HasValue}
 use Rattle.sm_select.specs.View.{path_view}
 use Rattle.sm_select.proofs.FilterFacts.{some_value}

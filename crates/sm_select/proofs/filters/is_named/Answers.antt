@@ -1,6 +1,6 @@
 use Rattle.std.proofs.Common.{◌↔◌, IsTrue, subst, sym}
 use Rattle.sm_model.specs.GraphView.{maps_of}
-use Rattle.sm_select.specs.Images.{id_of_number}
+use Rattle.sm_model.specs.Reaching.{id_of_number}
 use Rattle.sm_select.specs.steps.Filtering.{IsNamedAt}
 use Rattle.sm_select.proofs.FilterFacts.{members_named}
 use Rattle.sm_select.proofs.filters.is_named.Goals as goal

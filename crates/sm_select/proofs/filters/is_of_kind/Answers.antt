@@ -1,7 +1,7 @@
 use Rattle.std.proofs.Common.{◌≡◌, subst}
 use Rattle.sm_model.specs.GraphView.{At, is_member_entry}
+use Rattle.sm_model.proofs.Worklist.{apart}
 use Rattle.sm_select.proofs.FilterFacts.{member_of_no_kind, shape_named}
-use Rattle.sm_select.proofs.Worklist.{apart}
 use Rattle.sm_select.proofs.filters.is_of_kind.Goals as goal
 
 pub returns-then-is_member : goal.returns-then-is_member

@@ -1,7 +1,6 @@
 use Rattle.std.proofs.Common.{◌+◌, ℕ, subst, sym}
 use Rattle.sm_model.specs.GraphView.{maps_of}
-use Rattle.sm_select.specs.Images.{AreMarks, id_of_number}
-use Rattle.sm_select.specs.Neighbors.{IsMarked}
+use Rattle.sm_model.specs.Reaching.{AreMarks, id_of_number, IsMarked}
 use Rattle.sm_select.proofs.MarkedNumbers.{marks_more, marks_none}
 use Rattle.sm_select.proofs.filters.kept.Goals as goal
 

@@ -1,6 +1,5 @@
 use Rattle.sm_model.specs.GraphView.{maps_of}
-use Rattle.sm_select.specs.Images.{AreMarks, id_of_number}
-use Rattle.sm_select.specs.Neighbors.{IsMarked}
+use Rattle.sm_model.specs.Reaching.{AreMarks, id_of_number, IsMarked}
 use Rattle.sm_select.proofs.filters.kept.Given as goal
 
 abbrev pub invariant-loop-number : goal.invariant-loop-number

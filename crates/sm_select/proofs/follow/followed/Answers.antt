@@ -4,8 +4,8 @@ use Rattle.std.proofs.lemmas.List.{drop_all, drop_more}
 use Rattle.std.proofs.lemmas.List.Elements.{Contains-get_or}
 use Rattle.sm_model.specs.declared.link.Link.{Link}
 use Rattle.sm_model.specs.declared.relation.Relation.TheVariants.{Member}
+use Rattle.sm_model.specs.Reaching.{IsMarked}
 use Rattle.sm_select.specs.Followed.{Follows}
-use Rattle.sm_select.specs.Neighbors.{IsMarked}
 use Rattle.sm_select.specs.steps.Reaching.{AnyOf}
 use Rattle.sm_select.proofs.FollowedLinks.{follows_ended, follows_more}
 use Rattle.sm_select.proofs.follow.followed.Goals as goal

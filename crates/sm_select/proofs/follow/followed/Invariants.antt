@@ -1,7 +1,7 @@
 use Rattle.std.proofs.Common.{◌≡◌, ◌⊎◌, ℕ, drop, length}
 use Rattle.std.specs.Prelude.{◌↔◌}
+use Rattle.sm_model.specs.Reaching.{IsMarked}
 use Rattle.sm_select.specs.Followed.{Follows}
-use Rattle.sm_select.specs.Neighbors.{IsMarked}
 use Rattle.sm_select.specs.steps.Reaching.{AnyOf}
 use Rattle.sm_select.proofs.follow.followed.Given as goal
 

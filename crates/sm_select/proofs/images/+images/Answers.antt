@@ -1,8 +1,8 @@
 use Rattle.std.proofs.Common.{◌≡◌, ◌⊎◌, ◌↔◌, ℕ, ◌+◌, ◌-◌, ◌*◌, ◌<◌, List, IfOk, ap, arith, false, get_or, length, map, subst, sym, true, ◌∙◌}
 use Rattle.std.proofs.lemmas.Result.{IfOk-weaker}
 use Rattle.sm_model.specs.GraphView.{maps_of}
-use Rattle.sm_select.specs.Images.{AreImage, AreMarks, turned}
-use Rattle.sm_select.specs.Neighbors.{IsMarked}
+use Rattle.sm_model.specs.Reaching.{AreMarks, IsMarked}
+use Rattle.sm_select.specs.Images.{AreImage, turned}
 use Rattle.sm_select.specs.Picks.{Goes, LeadsAlong, PickedByOne, Picks}
 use Rattle.sm_select.specs.Selectors.{alternatives_of, steps_of}
 use Rattle.sm_select.specs.View.{selector_view, selector_views, step_view, step_views}

@@ -1,7 +1,7 @@
 use Rattle.std.proofs.Common.{◌≡◌, ◌⊎◌, ◌↔◌, ◌+◌, ◌-◌, ◌*◌, ℕ, true, drop, length, map}
 use Rattle.sm_model.specs.GraphView.{entries_of, maps_of}
+use Rattle.sm_model.specs.Reaching.{IsMarked}
 use Rattle.sm_select.specs.Images.{AreImage, turned}
-use Rattle.sm_select.specs.Neighbors.{IsMarked}
 use Rattle.sm_select.specs.Picks.{PickedByOne, Picks}
 use Rattle.sm_select.specs.Selectors.{alternatives_of, steps_of}
 use Rattle.sm_select.specs.View.{selector_views, step_view, step_views}

@@ -1,5 +1,5 @@
 use Rattle.std.proofs.Common.{◌+◌, refl, subst, sym, true}
-use Rattle.sm_select.specs.Images.{AreMarks}
+use Rattle.sm_model.specs.Reaching.{AreMarks}
 use Rattle.sm_select.proofs.MarkedNumbers.{marks_more, marks_none}
 use Rattle.sm_select.proofs.marks.all_marked.Goals as goal
 

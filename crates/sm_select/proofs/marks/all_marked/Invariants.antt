@@ -1,4 +1,4 @@
-use Rattle.sm_select.specs.Images.{AreMarks}
+use Rattle.sm_model.specs.Reaching.{AreMarks}
 use Rattle.sm_select.proofs.marks.all_marked.Given as goal
 
 abbrev pub invariant-loop : goal.invariant-loop

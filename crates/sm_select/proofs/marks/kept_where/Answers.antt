@@ -1,6 +1,5 @@
 use Rattle.std.proofs.Common.{◌≡◌, ◌+◌, ℕ, false, get_or, subst, sym}
-use Rattle.sm_select.specs.Images.{AreMarks}
-use Rattle.sm_select.specs.Neighbors.{IsMarked}
+use Rattle.sm_model.specs.Reaching.{AreMarks, IsMarked}
 use Rattle.sm_select.proofs.MarkedNumbers.{marks_more, marks_none}
 use Rattle.sm_select.proofs.marks.kept_where.Goals as goal
 

@@ -1,6 +1,5 @@
 use Rattle.std.proofs.Common.{◌≡◌, false, get_or}
-use Rattle.sm_select.specs.Images.{AreMarks}
-use Rattle.sm_select.specs.Neighbors.{IsMarked}
+use Rattle.sm_model.specs.Reaching.{AreMarks, IsMarked}
 use Rattle.sm_select.proofs.marks.kept_where.Given as goal
 
 abbrev pub invariant-loop-number : goal.invariant-loop-number

@@ -1,5 +1,5 @@
 use Rattle.std.proofs.Common.{◌≡◌, ◌⊎◌, ◌<◌, ◌↔◌, ℕ, length}
-use Rattle.sm_select.specs.Neighbors.{IsMarked}
+use Rattle.sm_model.specs.Reaching.{IsMarked}
 use Rattle.sm_select.proofs.marks.mark_too.Given as goal
 
 abbrev pub invariant-loop-number : goal.invariant-loop-number

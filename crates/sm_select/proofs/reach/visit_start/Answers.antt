@@ -1,8 +1,8 @@
 use Rattle.std.proofs.Common.{sym, ◌∙◌}
 use Rattle.std.proofs.lemmas.Result.{on_ok_weaker}
+use Rattle.sm_model.proofs.Worklist.{apart, finds_none, finds_same}
 use Rattle.sm_select.specs.Neighbors.{HasStep}
 use Rattle.sm_select.specs.steps.Reaching.{StepsFromStart}
-use Rattle.sm_select.proofs.Worklist.{apart, finds_none, finds_same}
 use Rattle.sm_select.proofs.reach.visit_start.Goals as goal
 
 pub returns-then-starts-number : goal.returns-then-starts-number

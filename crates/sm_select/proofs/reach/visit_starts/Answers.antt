@@ -1,6 +1,7 @@
 use Rattle.std.proofs.Common.{◌+◌, ◌⊎◌, arith}
+use Rattle.sm_model.proofs.Worklist.{finds_none, finds_same, finds_then}
 use Rattle.sm_select.specs.steps.Reaching.{StepsFrom, StepsFromStart}
-use Rattle.sm_select.proofs.Worklist.{finds_none, finds_same, finds_then, starts_more}
+use Rattle.sm_select.proofs.Worklist.{starts_more}
 use Rattle.sm_select.proofs.reach.visit_starts.Goals as goal
 
 pub loop-number-preserved : goal.loop-number-preserved

@@ -1,4 +1,5 @@
-use Rattle.sm_select.specs.steps.Reaching.{Finds, StepsFrom}
+use Rattle.sm_model.specs.Reaching.{Finds}
+use Rattle.sm_select.specs.steps.Reaching.{StepsFrom}
 use Rattle.sm_select.proofs.reach.visit_starts.Given as goal
 
 abbrev pub invariant-loop-number : goal.invariant-loop-number

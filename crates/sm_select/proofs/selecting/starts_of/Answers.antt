@@ -1,6 +1,6 @@
 use Rattle.std.proofs.Common.{◌≡◌, ◌+◌, ℕ, false, subst, sym}
 use Rattle.sm_model.specs.PreludeShapes.{is_prelude_id}
-use Rattle.sm_select.specs.Images.{AreMarks, id_of_number}
+use Rattle.sm_model.specs.Reaching.{AreMarks, id_of_number}
 use Rattle.sm_select.proofs.MarkedNumbers.{marks_more, marks_none, not_told}
 use Rattle.sm_select.proofs.selecting.starts_of.Goals as goal
 

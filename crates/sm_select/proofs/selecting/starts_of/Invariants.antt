@@ -1,6 +1,6 @@
 use Rattle.std.proofs.Common.{◌≡◌, false}
 use Rattle.sm_model.specs.PreludeShapes.{is_prelude_id}
-use Rattle.sm_select.specs.Images.{AreMarks, id_of_number}
+use Rattle.sm_model.specs.Reaching.{AreMarks, id_of_number}
 use Rattle.sm_select.proofs.selecting.starts_of.Given as goal
 
 abbrev pub invariant-loop-number : goal.invariant-loop-number

@@ -7,7 +7,7 @@ use Rattle.sm_tree.specs.Node.{text}
 use Rattle.sm_tree.specs.View.{node_of}
 use Rattle.sm_model.specs.Graphs.{traits_in}
 use Rattle.sm_model.specs.GraphView.{At, maps_of}
-use Rattle.sm_select.specs.Images.{id_of_number}
+use Rattle.sm_model.specs.Reaching.{id_of_number}
 use Rattle.sm_select.specs.Picks.{HasValue, value_within}
 use Rattle.sm_select.specs.Selectors.{id_of, namespace_of, name_of, member_of, trait_of}
 use Rattle.sm_select.specs.View.{path_view}

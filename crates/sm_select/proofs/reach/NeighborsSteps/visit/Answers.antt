@@ -1,12 +1,12 @@
 use Rattle.std.proofs.Common.{◌<◌, subst, sym}
 use Rattle.std.specs.List.{Contains}
 use Rattle.std.proofs.lemmas.Result.{on_ok_weaker}
-use Rattle.sm_select.specs.steps.Reaching.{Finds}
-use Rattle.sm_select.proofs.reach.visit.Goals as goal
+use Rattle.sm_model.specs.Reaching.{Finds}
+use Rattle.sm_select.proofs.reach.NeighborsSteps.visit.Goals as goal
 
 pub mark_all-requires-clause-within : goal.mark_all-requires-clause-within
 mark_all-requires-clause-within c k h =
-    subst (λ n. k < n) (sym c.requires.marks) (c.requires.below c.args.number k (subst (λ xs. Contains xs k) c.row.ensures h))
+    subst (λ n. k < n) (sym c.requires.marks) (c.requires.steps c.args.number k (subst (λ xs. Contains xs k) c.row.ensures h))
 
 pub returns : goal.returns
 returns c =
