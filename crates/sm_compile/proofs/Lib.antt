@@ -15,3 +15,6 @@ mod TabledMembers
 mod RowsSay
 mod MembersSay
 mod CarriedPatterns
+mod PatternsPut
+mod TextsPlaced
+mod TextsStored

@@ -23,6 +23,9 @@ pub record StoreSeen : Type 0 where
   pub refused : Option (List ℕ)
   pub refusals : ℕ
 
+abbrev pub seen_store : List (List ℕ) → Option (List ℕ) → ℕ → StoreSeen
+seen_store added refused refusals = record { added = added; refused = refused; refusals = refusals }
+
 -- whether all that a shape reaches is served
 abbrev pub TellsServed : GraphMaps → List ℕ → Served → Type 0
 TellsServed g root Yes = IsServed g root

@@ -3,6 +3,7 @@ pub mod Naming
 pub mod Soundness
 pub mod Seeing
 pub mod Carrying
+pub mod Storing
 pub mod Rows
 pub mod Tabling
 pub mod Tests

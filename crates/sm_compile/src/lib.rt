@@ -16,6 +16,7 @@ mod reach;
 mod rows;
 mod seen;
 mod soundness;
+mod storing;
 mod traits;
 
 pub use compiled::{CompileRefusal, OneShape, Served};
