@@ -18,3 +18,8 @@ mod CarriedPatterns
 mod PatternsPut
 mod TextsPlaced
 mod TextsStored
+mod FirstWays
+mod WalkSteps
+mod WalkTurns
+mod StepsFound
+mod UnservedTold

@@ -29,7 +29,7 @@ one_name shape m n e = ap behind_first (append_cancel_left shape (36 ∷ m) (36 
 
 module _ (g : GraphMaps) where
   -- by one number from one shape there is one step
-  same_step : (id : List ℕ) (a b : WayStep) → IsStep g id a → IsStep g id b → a.at ≡ b.at → (a.name ≡ b.name) × (a.to ≡ b.to)
+  pub same_step : (id : List ℕ) (a b : WayStep) → IsStep g id a → IsStep g id b → a.at ≡ b.at → (a.name ≡ b.name) × (a.to ≡ b.to)
   same_step id a b h k at =
       let shape = same_shape g id h.s k.s h.there k.there in
       let member : member_id id a.name ≡ member_id id b.name =

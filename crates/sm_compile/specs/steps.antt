@@ -4,6 +4,8 @@ pub mod Soundness
 pub mod Seeing
 pub mod Carrying
 pub mod Storing
+pub mod Unserved
+pub mod Walking
 pub mod Rows
 pub mod Tabling
 pub mod Tests

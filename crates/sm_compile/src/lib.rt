@@ -18,6 +18,8 @@ mod seen;
 mod soundness;
 mod storing;
 mod traits;
+mod unserved;
+mod way;
 
 pub use compiled::{CompileRefusal, OneShape, Served};
 pub use soundness::sound;

@@ -1,0 +1,146 @@
+-- The turns of a walk that enters each shape once, as the code takes them.
+use Rattle.std.proofs.Common.{◌≡◌, ◌⊎◌, inl, inr, ℕ, zero, suc, ◌+◌, ◌*◌, ◌<◌, ◌≤◌, Bool, true, false, not, cond, List, [], ◌∷◌, ◌++◌, map, length, get_or, reverse, Option, Some, None, refl, sym, ap, ◌∙◌, subst, arith, length-append}
+use Rattle.std.specs.Prelude.{replicate, set}
+use Rattle.std.specs.Global.{Vec}
+use Rattle.std.specs.Cmp.Lexicographic.{slice_cmp}
+use Rattle.std.specs.List.{Contains, count_by, join_with_byte}
+use Rattle.std.specs.Ordering.{nat_cmp}
+use Rattle.std.specs.declared.cmp.Ordering.{Ordering}
+use Rattle.std.specs.declared.cmp.Ordering.TheVariants.{Less, Equal, Greater}
+use Rattle.std.proofs.lemmas.List.{length-replicate, length-set, map-append, reverse-append, reverse-reverse}
+use Rattle.std.proofs.lemmas.List.Sums.{sum_by-set}
+use Rattle.sm_bytes.specs.Ascii.{slash}
+use Rattle.sm_model.specs.GraphView.{AreShapeNumbers, IsShapeNumber, entries_of, maps_of}
+use Rattle.sm_model.specs.Reaching.{id_of_number}
+use Rattle.sm_model.specs.declared.graph.Graph.{Graph}
+use Rattle.sm_compile.specs.Answers.{TellsServed}
+use Rattle.sm_compile.specs.Served.{IsFirstWay, IsSimpleWay, IsUnserved, WayStep, names_of_way, numbers_of_way}
+use Rattle.sm_compile.specs.declared.compiled.Served.TheVariants.{Yes, Unserved}
+use Rattle.sm_compile.specs.declared.way.Above.{Above}
+use Rattle.sm_compile.specs.declared.way.NextStep.{NextStep}
+use Rattle.sm_compile.specs.declared.way.Turn.TheVariants.{On, Ended}
+use Rattle.sm_compile.specs.declared.way.Walk.{Walk}
+use Rattle.sm_compile.specs.steps.Walking.{IsNext, IsWalk, NoneIsNext, StandsAt, Turns, path_by}
+use Rattle.sm_compile.proofs.FirstWays.{first_way, none_found}
+use Rattle.sm_compile.proofs.ReachedNumbers.{numbers_joined}
+use Rattle.sm_compile.proofs.WalkSteps.{all_taken, fresh_id, stands_more, walk_begun, walk_enters, walk_leaves}
+
+abbrev is_less : Ordering → Type 0
+is_less Less = Unit {0}
+is_less Equal = ⊥
+is_less Greater = ⊥
+
+-- the last of some numbers, and those before it
+numbers_parted : (g : Graph) (ns : List ℕ) (n : ℕ) → AreShapeNumbers g (ns ++ n ∷ []) → AreShapeNumbers g ns × IsShapeNumber g n
+numbers_parted g [] n h = (tt, h.0)
+numbers_parted g (m ∷ ns) n h = let rest = numbers_parted g ns n h.1 in ((h.0, rest.0), rest.1)
+
+-- one mark more is one less to set
+fewer : (marks : List Bool) (k : ℕ) → k < length marks → get_or marks k false ≡ false
+    → count_by not (set marks k true) + 1 ≡ count_by not marks
+fewer marks k lt fresh =
+    let counted = sum_by-set (λ m. cond (not m) 1 0) marks k true false lt in
+    let was : ◌≡◌ {A = ℕ} (cond (not (get_or marks k false)) 1 0) 1 = ap (λ (m : Bool). cond {A = ℕ} (not m) 1 0) fresh in
+    omega (arith, counted, was)
+
+nil_of : (xs : List Above) → length xs ≡ 0 → xs ≡ []
+nil_of [] h = refl
+nil_of (x ∷ xs) h = absurd (omega (arith, h))
+
+module _ (g : Graph) where
+  -- at the root
+  pub begins : (root count : ℕ) (marks : Vec Bool) (above : Vec Above) → marks.items ≡ set (replicate count false) root true
+      → above.items ≡ [] → count ≡ length (entries_of g) → IsShapeNumber g root → (IsUnserved (maps_of g) (id_of_number g root) → ⊥)
+      → IsWalk g (id_of_number g root) (record { marks = marks; above = above; shape = root; at = 0 })
+  begins root count marks above set_now none is lt served = record {
+    count = ap (λ ms. length ms) set_now ∙ length-set (replicate count false) root true ∙ length-replicate count false ∙ is;
+    shape = lt;
+    above = subst (λ xs. AreShapeNumbers g (map (λ (b : Above). b.shape) xs)) (sym none) tt;
+    stands = subst (λ xs. StandsAt g (id_of_number g root) marks.items (id_of_number g root) 0 (reverse xs)) (sym none)
+        (subst (λ ms. StandsAt g (id_of_number g root) ms (id_of_number g root) 0 []) (sym set_now)
+        (walk_begun g root count is (length-replicate count false) lt served));
+  }
+
+  -- into the next shape
+  pub enters : (w : Walk) (next : NextStep) (marks : Vec Bool) (above : Vec Above) → IsNext g w.marks.items w.shape w.at next
+      → (IsUnserved (maps_of g) (id_of_number g next.to) → ⊥) → marks.items ≡ set w.marks.items next.to true
+      → above.items ≡ w.above.items ++ (record { shape = w.shape; at = next.at; name = next.name }) ∷ []
+      → Turns g w (record { marks = marks; above = above; shape = next.to; at = 0 }) On
+  enters w next marks above is served set_now put root h =
+      let a : Above = record { shape = w.shape; at = next.at; name = next.name } in
+      let turned : reverse above.items ≡ a ∷ reverse w.above.items = ap (λ xs. reverse xs) put ∙ reverse-append w.above.items (a ∷ []) in
+      let numbers : map (λ (b : Above). b.shape) above.items ≡ map (λ (b : Above). b.shape) w.above.items ++ w.shape ∷ [] =
+      ap (λ xs. map (λ (b : Above). b.shape) xs) put ∙ map-append (λ (b : Above). b.shape) w.above.items (a ∷ []) in
+      let within : next.to < length w.marks.items = omega (arith, h.count, is.target) in
+      let less = fewer w.marks.items next.to within is.fresh in
+      let now : count_by not marks.items ≡ count_by not (set w.marks.items next.to true) = ap (λ ms. count_by not ms) set_now in
+      let long : length above.items ≡ length w.above.items + 1 = ap (λ xs. length xs) put ∙ length-append w.above.items (a ∷ []) in (
+        record {
+          count = ap (λ ms. length ms) set_now ∙ length-set w.marks.items next.to true ∙ h.count;
+          shape = is.target;
+          above = subst (AreShapeNumbers g) (sym numbers)
+              (numbers_joined g (map (λ (b : Above). b.shape) w.above.items) (w.shape ∷ []) h.above (h.shape, tt));
+          stands = subst (λ xs. StandsAt g root marks.items (id_of_number g next.to) 0 xs) (sym turned)
+              (subst (λ ms. StandsAt g root ms (id_of_number g next.to) 0 (a ∷ reverse w.above.items)) (sym set_now)
+              (walk_enters g root w.marks.items a (reverse w.above.items) next.to h.count is.target
+              (stands_more g root w.marks.items (id_of_number g w.shape) w.at next.at (reverse w.above.items) h.stands is.before) is.step
+              is.fresh served));
+        },
+        omega (arith, less, now, long),
+      )
+
+  -- back to the one before
+  pub leaves : (w : Walk) (a : Above) (above : Vec Above) → w.above.items ≡ above.items ++ a ∷ []
+      → NoneIsNext g w.marks.items w.shape w.at
+      → Turns g w (record { marks = w.marks; above = above; shape = a.shape; at = a.at }) On
+  leaves w a above parts none root h =
+      let turned : reverse w.above.items ≡ a ∷ reverse above.items = ap (λ xs. reverse xs) parts ∙ reverse-append above.items (a ∷ []) in
+      let numbers : map (λ (b : Above). b.shape) w.above.items ≡ map (λ (b : Above). b.shape) above.items ++ a.shape ∷ [] =
+      ap (λ xs. map (λ (b : Above). b.shape) xs) parts ∙ map-append (λ (b : Above). b.shape) above.items (a ∷ []) in
+      let parted = numbers_parted g (map (λ (b : Above). b.shape) above.items) a.shape (subst (AreShapeNumbers g) numbers h.above) in
+      let long : length w.above.items ≡ length above.items + 1 = ap (λ xs. length xs) parts ∙ length-append above.items (a ∷ []) in (
+        record {
+          count = h.count;
+          shape = parted.1;
+          above = parted.0;
+          stands = walk_leaves g root w.marks.items (id_of_number g w.shape) w.at a (reverse above.items)
+              (subst (λ xs. StandsAt g root w.marks.items (id_of_number g w.shape) w.at xs) turned h.stands)
+              (all_taken g root w.marks.items (id_of_number g w.shape) w.at (reverse w.above.items) h.stands none);
+        },
+        omega (arith, long),
+      )
+
+  -- the end, where there is none before
+  pub ends : (w now : Walk) → length w.above.items ≡ 0 → NoneIsNext g w.marks.items w.shape w.at → Turns g w now (Ended Yes)
+  ends w now nothing none root h =
+      none_found g root w.marks.items (id_of_number g w.shape) w.at
+      (subst (λ xs. StandsAt g root w.marks.items (id_of_number g w.shape) w.at xs) (ap (λ xs. reverse xs) (nil_of w.above.items nothing)) h.stands)
+      (all_taken g root w.marks.items (id_of_number g w.shape) w.at (reverse w.above.items) h.stands none)
+
+  -- the end, where the next shape isn't served
+  pub finds : (w now : Walk) (next : NextStep) (path : List ℕ) → IsNext g w.marks.items w.shape w.at next
+      → IsUnserved (maps_of g) (id_of_number g next.to) → path ≡ path_by w.above.items next.name.now
+      → Turns g w now (Ended (Unserved path))
+  finds w now next path is unserved told root h =
+      let step : WayStep = record { at = next.at; name = next.name.now; to = id_of_number g next.to } in
+      let found =
+      first_way g root w.marks.items (id_of_number g w.shape) (reverse w.above.items) step
+      (stands_more g root w.marks.items (id_of_number g w.shape) w.at next.at (reverse w.above.items) h.stands is.before) is.step unserved
+      (fresh_id g w.marks.items next.to is.target is.fresh) in (
+        found.0,
+        found.1,
+        told ∙ sym (ap (join_with_byte slash) (found.2
+            ∙ ap (λ xs. map (λ (b : Above). b.name.now) xs ++ next.name.now ∷ []) (reverse-reverse w.above.items))),
+      )
+
+  -- the root itself isn't served
+  pub finds_root : (root : List ℕ) (path : List ℕ) → IsUnserved (maps_of g) root → path ≡ [] → TellsServed (maps_of g) root (Unserved path)
+  finds_root root path unserved is = (
+    [],
+    record { simple = (unserved, (tt, tt)); first = none_before },
+    is,
+  )
+    where
+      none_before : (other : List WayStep) → IsSimpleWay (maps_of g) root other → slice_cmp nat_cmp (numbers_of_way other) [] ≡ Less → ⊥
+      none_before [] simple less = subst is_less (sym less) tt
+      none_before (s ∷ other) simple less = subst is_less (sym less) tt
