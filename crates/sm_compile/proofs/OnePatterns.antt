@@ -60,7 +60,7 @@ least_one Less x y is h k = absurd (k (nat_list_cmp_total.antisymm y x ∙ ap or
 least_one Equal x y is h k = slice_cmp-IsAntisymmetric nat_cmp-IsAntisymmetric x y is
 least_one Greater x y is h k = absurd (h is)
 
-one_first : (g : GraphMaps) (In : IdSet) (u x y : List ℕ) → IsFirstCarrier g In u x → IsFirstCarrier g In u y → x ≡ y
+pub one_first : (g : GraphMaps) (In : IdSet) (u x y : List ℕ) → IsFirstCarrier g In u x → IsFirstCarrier g In u y → x ≡ y
 one_first g In u x y h k = least_one (text_cmp x y) x y refl (h.least y k.carries) (k.least x h.carries)
 
 -- rows and columns of what is said row by row
@@ -74,7 +74,7 @@ module _ (F : List ℕ → List ℕ → Type 0) where
     | inr later ↦ let rest = row_of ts fs h.1 x later in (rest.0, contains_behind t rest.0 ts rest.1, rest.2)
   ]
 
-  column_of : (ts fs : List (List ℕ)) → EachSays F ts fs → (u : List ℕ) → Contains ts u → (x : List ℕ) × Contains fs x × F u x
+  pub column_of : (ts fs : List (List ℕ)) → EachSays F ts fs → (u : List ℕ) → Contains ts u → (x : List ℕ) × Contains fs x × F u x
   column_of [] [] h u there = absurd (contains_none u there)
   column_of [] (f ∷ fs) h u there = absurd h
   column_of (t ∷ ts) [] h u there = absurd h

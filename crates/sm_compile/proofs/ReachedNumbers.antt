@@ -79,7 +79,7 @@ module _ (g : Graph) where
     | inr later ↦ let r = among_ids ns are.1 b lt later in (suc r.0, omega (arith, r.1), r.2)
   ]
 
-  to_member : (a b : ℕ) → IsShapeNumber g a → IsShapeNumber g b
+  pub to_member : (a b : ℕ) → IsShapeNumber g a → IsShapeNumber g b
       → Contains (listed_under (maps_of g) (id_of_number g a)) (id_of_number g b) → LeadsTo (maps_of g) (id_of_number g a) (id_of_number g b)
   to_member a b lt gt h = let e = in_graph a lt in by e.0 e.1
     where
@@ -90,7 +90,7 @@ module _ (g : Graph) where
           let none : Contains [] (id_of_number g b) = subst (λ xs. Contains xs (id_of_number g b)) (ap listed_in has) h in
           absurd (omega (arith, none.1))
 
-  to_target : (a b : ℕ) → IsShapeNumber g a → IsShapeNumber g b
+  pub to_target : (a b : ℕ) → IsShapeNumber g a → IsShapeNumber g b
       → target_under (maps_of g) (id_of_number g a) ≡ Some (id_of_number g b) → LeadsTo (maps_of g) (id_of_number g a) (id_of_number g b)
   to_target a b lt gt h = let e = in_graph a lt in by e.0 e.1
     where

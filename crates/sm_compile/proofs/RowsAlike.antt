@@ -89,7 +89,7 @@ differ_behind : (xs ys : List (List ℕ)) → AllDiffer (xs ++ ys) → AllDiffer
 differ_behind [] ys d = d
 differ_behind (x ∷ xs) ys d = differ_behind xs ys d.1
 
-none_among : (x : List ℕ) (xs : List (List ℕ)) → NoneIs x xs → Contains xs x → ⊥
+pub none_among : (x : List ℕ) (xs : List (List ℕ)) → NoneIs x xs → Contains xs x → ⊥
 none_among x [] h there = contains_none x there
 none_among x (y ∷ xs) h there = elim (contains_either y x xs there) [ inl same ↦ h.0 same | inr later ↦ none_among x xs h.1 later ]
 

@@ -56,7 +56,7 @@ shape_under m id kind h = by (fin.get m.shapes id) refl h
     by (Some (shape_entry s)) has is = (s, has, same_Some s.kind kind is)
     by (Some (member_entry n)) has is = absurd (none-some kind is)
 
-one_shape : (m : GraphMaps) (id : List ℕ) (s t : ShapeEntry) → HasEntry m id (shape_entry s) → HasEntry m id (shape_entry t) → s ≡ t
+pub one_shape : (m : GraphMaps) (id : List ℕ) (s t : ShapeEntry) → HasEntry m id (shape_entry s) → HasEntry m id (shape_entry t) → s ≡ t
 one_shape m id s t h k = let e = same_Some (shape_entry s) (shape_entry t) (sym h ∙ k) in cc
 
 module _ (g : Graph) (k : ℕ) where

@@ -3,11 +3,14 @@ use Rattle.std.proofs.Common.{◌≡◌, inl, inr, ℕ, zero, suc, ◌<◌, ◌�
 use Rattle.std.specs.Prelude.{◌↔◌}
 use Rattle.std.specs.List.{AllByRecursion, Contains}
 use Rattle.std.specs.List.Sorted.{IsStrictlySortedBy}
+use Rattle.std.specs.Cmp.{nat_cmp_is}
+use Rattle.std.specs.Ordering.{nat_cmp}
 use Rattle.std.specs.FinMap as fin
 use Rattle.std.specs.FinMap.{is_sorted}
+use Rattle.std.specs.declared.cmp.Ordering.{Ordering}
 use Rattle.std.specs.declared.cmp.Ordering.TheVariants.{Less}
 use Rattle.std.proofs.lemmas.Bool.{cases_eq, cases_lt}
-use Rattle.std.proofs.lemmas.List.{append-nil, map-append}
+use Rattle.std.proofs.lemmas.List.{append-nil, length-append, map-append}
 use Rattle.std.proofs.lemmas.List.Elements.{Contains-append_cases, Contains-append_left, Contains-push}
 use Rattle.std.proofs.lemmas.Option.{get_or_from_slice_get}
 use Rattle.sm_model.specs.Graphs.{text_cmp, Entry, GraphMaps, shape_entry, member_entry}
@@ -22,7 +25,7 @@ use Rattle.sm_model.proofs.Searching.{and_left, keys_rise}
 use Rattle.sm_model.proofs.Worklist.{apart}
 use Rattle.sm_compile.specs.Compiled.{IsTabled}
 use Rattle.sm_compile.specs.Sound.{IsValueShape}
-use Rattle.sm_compile.specs.steps.Looked.{IsReachedFrom, kind_in, kind_under}
+use Rattle.sm_compile.specs.steps.Looked.{kind_in, kind_under}
 use Rattle.sm_compile.specs.steps.Tabling.{has_values_where, is_tabled, tabled_below}
 use Rattle.sm_compile.proofs.SoundTests.{both_of, first_of, second_of}
 use Rattle.sm_compile.proofs.TabledNumbers.{put}
@@ -43,23 +46,32 @@ mapped_to f (y ∷ xs) x h = elim (contains_either y x xs h) [
 ]
 
 -- one more behind a list that rises
-before_all : (k : List ℕ) (ks : List (List ℕ)) (j : List ℕ) → AllByRecursion (λ y. text_cmp k y ≡ Less) ks → text_cmp k j ≡ Less
-    → AllByRecursion (λ y. text_cmp k y ≡ Less) (ks ++ j ∷ [])
-before_all k [] j h less = (less, tt)
-before_all k (i ∷ ks) j h less = (h.0, before_all k ks j h.1 less)
+module _ {K : Type 0} (R : K → K → Ordering) where
+  before_all : (k : K) (ks : List K) (j : K) → AllByRecursion (λ y. R k y ≡ Less) ks → R k j ≡ Less
+      → AllByRecursion (λ y. R k y ≡ Less) (ks ++ j ∷ [])
+  before_all k [] j h less = (less, tt)
+  before_all k (i ∷ ks) j h less = (h.0, before_all k ks j h.1 less)
+
+  pub more_rises : (ks : List K) (j : K) → IsStrictlySortedBy R ks → ((k : K) → Contains ks k → R k j ≡ Less)
+      → IsStrictlySortedBy R (ks ++ j ∷ [])
+  unfolding IsStrictlySortedBy
+  more_rises [] j h all = (tt, tt)
+  more_rises (k ∷ ks) j h all = (
+    before_all k ks j h.0 (all k (contains_head k ks)),
+    more_rises ks j h.1 (λ i there. all i (contains_behind k i ks there)),
+  )
 
 pub rise_more : (ks : List (List ℕ)) (j : List ℕ) → IsStrictlySortedBy text_cmp ks → ((k : List ℕ) → Contains ks k → text_cmp k j ≡ Less)
     → IsStrictlySortedBy text_cmp (ks ++ j ∷ [])
-unfolding IsStrictlySortedBy
-rise_more [] j h all = (tt, tt)
-rise_more (k ∷ ks) j h all = (
-  before_all k ks j h.0 (all k (contains_head k ks)),
-  rise_more ks j h.1 (λ i there. all i (contains_behind k i ks there)),
-)
+rise_more = more_rises text_cmp
 
 pub nothing_rises : IsStrictlySortedBy text_cmp []
 unfolding IsStrictlySortedBy
 nothing_rises = tt
+
+no_numbers_rise : IsStrictlySortedBy nat_cmp []
+unfolding IsStrictlySortedBy
+no_numbers_rise = tt
 
 -- a shape that has values
 pub value_where : (m : GraphMaps) (id : List ℕ) → (has_values_where (kind_under m id) ≡ true) ↔ IsValueShape m id
@@ -129,23 +141,44 @@ module _ (g : Graph) where
     tabled_rise zero le = nothing_rises
     tabled_rise (suc n) le = joined_more (is_tabled g marks n) n (omega (arith, le)) (tabled_rise n (omega (arith, le)))
 
+    -- and so do the numbers
+    put_rises : (b : Bool) (n : ℕ) → IsStrictlySortedBy nat_cmp (tabled_below g marks n)
+        → IsStrictlySortedBy nat_cmp (tabled_below g marks n ++ put b n)
+    put_rises true n h = more_rises nat_cmp (tabled_below g marks n) n h (λ k there. sym (nat_cmp_is k n Less (tabled_in n k there).0))
+    put_rises false n h = subst (IsStrictlySortedBy nat_cmp) (sym (append-nil (tabled_below g marks n))) h
+
+    pub tabled_numbers_rise : (n : ℕ) → IsStrictlySortedBy nat_cmp (tabled_below g marks n)
+    tabled_numbers_rise zero = no_numbers_rise
+    tabled_numbers_rise (suc n) = put_rises (is_tabled g marks n) n (tabled_numbers_rise n)
+
+    -- there are no more of them than numbers
+    put_few : (b : Bool) (n : ℕ) → length (tabled_below g marks n) ≤ n → length (tabled_below g marks n ++ put b n) ≤ suc n
+    put_few b n le = let both = length-append (tabled_below g marks n) (put b n) in let one = few b in omega (arith, both, one, le)
+      where
+        few : (b : Bool) → length (put b n) ≤ 1
+        few true = omega arith
+        few false = omega arith
+
+    pub tabled_few : (n : ℕ) → length (tabled_below g marks n) ≤ n
+    tabled_few zero = omega arith
+    tabled_few (suc n) = put_few (is_tabled g marks n) n (tabled_few n)
+
     -- they are the shapes of the set
-    pub tabled_told : (roots : List ℕ) → AreMarks (length (entries_of g)) (λ k. IsReachedFrom g roots (id_of_number g k)) marks
-        → (id : List ℕ) → Contains (map (id_of_number g) (tabled_below g marks (length (entries_of g)))) id
-        ↔ IsTabled (maps_of g) (IsReachedFrom g roots) id
-    tabled_told roots are id = (
+    pub tabled_told : (In : List ℕ → Type 0) → AreMarks (length (entries_of g)) (λ k. In (id_of_number g k)) marks
+        → (id : List ℕ) → Contains (map (id_of_number g) (tabled_below g marks (length (entries_of g)))) id ↔ IsTabled (maps_of g) In id
+    tabled_told In are id = (
       λ h.
           let n = length (entries_of g) in
           let r = mapped_from (id_of_number g) (tabled_below g marks n) id h in
           let is = (tabled_in n r.0 r.1).1 in
           let marked = first_of (get_or marks r.0 false) (has_values_where (kind_under (maps_of g) (id_of_number g r.0))) is in
           let value = second_of (get_or marks r.0 false) (has_values_where (kind_under (maps_of g) (id_of_number g r.0))) is in (
-            subst (IsReachedFrom g roots) r.2 ((are.marked r.0).0 marked).1,
+            subst In r.2 ((are.marked r.0).0 marked).1,
             subst (IsValueShape (maps_of g)) r.2 ((value_where (maps_of g) (id_of_number g r.0)).0 value),
           ),
       λ h.
           let x = number_of g id (shape_entry h.1.0, h.1.1) in
-          let marked = (are.marked x.0).1 (x.1, subst (IsReachedFrom g roots) (sym x.2) h.0) in
+          let marked = (are.marked x.0).1 (x.1, subst In (sym x.2) h.0) in
           let value = (value_where (maps_of g) (id_of_number g x.0)).1 (subst (IsValueShape (maps_of g)) (sym x.2) h.1) in
           subst (Contains (map (id_of_number g) (tabled_below g marks (length (entries_of g))))) x.2
           (mapped_to (id_of_number g) (tabled_below g marks (length (entries_of g))) x.0

@@ -8,4 +8,7 @@ pub mod Unserved
 pub mod Walking
 pub mod Rows
 pub mod Tabling
+pub mod Numbered
+pub mod Placing
+pub mod Making
 pub mod Tests

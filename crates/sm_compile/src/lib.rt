@@ -1,6 +1,7 @@
 // From a graph to tables: which shapes a table can be made of, and the table of all that a shape reaches.
 #![tactic(auto)]
 
+mod compile;
 mod compiled;
 mod defaults;
 mod differ;
@@ -9,17 +10,23 @@ mod formed;
 mod kinds;
 pub mod laws;
 mod look;
+mod members;
 mod names;
 mod numbering;
+mod orders;
+mod parts;
 mod patterns;
 mod reach;
 mod rows;
 mod seen;
+mod shapes;
 mod soundness;
 mod storing;
+mod tabled;
 mod traits;
 mod unserved;
 mod way;
 
+pub use compile::compile_shape;
 pub use compiled::{CompileRefusal, OneShape, Served};
 pub use soundness::sound;

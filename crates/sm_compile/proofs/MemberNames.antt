@@ -1,0 +1,246 @@
+-- The names of a shape's members, in the graph and in the rows of a table.
+use Rattle.std.proofs.Common.{◌≡◌, inl, inr, ℕ, zero, suc, ◌+◌, ◌<◌, ◌≤◌, Bool, true, false, cond, List, [], ◌∷◌, ◌++◌, map, length, get_or, Option, Some, None, refl, sym, ap, ◌∙◌, subst, arith}
+use Rattle.std.specs.Prelude.{slice_get, codes, unwrap_or}
+use Rattle.std.specs.FinMap as fin
+use Rattle.std.specs.List.{Contains, flat_map}
+use Rattle.std.proofs.lemmas.List.{get_or-map, length-map, take_all}
+use Rattle.std.proofs.lemmas.List.Concat.{get_or-flat_map}
+use Rattle.std.proofs.lemmas.List.Elements.{Contains-get_or}
+use Rattle.sm_model.specs.Formed.{HaveForm}
+use Rattle.sm_model.specs.Graphs.{GraphMaps, ShapeEntry, member_id}
+use Rattle.sm_model.specs.GraphView.{maps_of}
+use Rattle.sm_model.specs.Kinds.{member_form}
+use Rattle.sm_model.specs.Reaching.{id_of_number}
+use Rattle.sm_model.specs.declared.graph.Graph.{Graph}
+use Rattle.sm_model.specs.declared.kind.Kind.{Kind}
+use Rattle.sm_model.specs.declared.kind.Kind.TheVariants.{Blob, Boolean, Text, Enum, Byte, Short, Integer, IntEnum, Long, Float, Double, BigInteger, BigDecimal, Timestamp, Document, List as list_kind, Map, Structure, Union, Service, Operation, Resource}
+use Rattle.sm_model.proofs.OneRising.{contains_behind, contains_head}
+use Rattle.sm_shapes.specs.Names.{AllDiffer, NoneIs}
+use Rattle.sm_shapes.specs.TableData.{MemberData, json_name_at, json_name_in, name_at, name_in}
+use Rattle.sm_compile.specs.Compiled.{PatternRows, members_in, members_under}
+use Rattle.sm_compile.specs.Kinds.{has_value_members, value_members}
+use Rattle.sm_compile.specs.Sound.{IsSoundShape, json_name_of, trait_in}
+use Rattle.sm_compile.specs.TraitIds.{json_name_id}
+use Rattle.sm_compile.specs.TraitNodes.{text_of}
+use Rattle.sm_compile.specs.steps.Numbered.{AreMemberRows, AreReady, EachAt, IsMemberRow, IsReadyShape, count_of_shape, first_of_shape, numbering, only_members, run}
+use Rattle.sm_compile.proofs.Blocks.{first_next, first_rises, mapped_run, one_block}
+use Rattle.sm_compile.proofs.Differing.{differ_in_names}
+use Rattle.sm_compile.proofs.NamesBehind.{behind_one}
+use Rattle.sm_compile.proofs.ReadyRows.{members_are, ready_shape, row_id}
+
+tails : (c d : ℕ) (s r : List ℕ) → c ∷ s ≡ d ∷ r → s ≡ r
+tails c d s r e = cc
+
+-- a member's id has one name behind its shape's
+pub one_name : (s n m : List ℕ) → member_id s n ≡ member_id s m → n ≡ m
+one_name s n m h = tails 36 36 n m (behind_one s (36 ∷ n) (36 ∷ m) h)
+
+none_named : (s n : List ℕ) (ns : List (List ℕ)) → NoneIs n ns → NoneIs (member_id s n) (map (member_id s) ns)
+none_named s n [] h = tt
+none_named s n (m ∷ ns) h = ((λ e. h.0 (one_name s m n e)), none_named s n ns h.1)
+
+pub ids_differ : (s : List ℕ) (ns : List (List ℕ)) → AllDiffer ns → AllDiffer (map (member_id s) ns)
+ids_differ s [] d = tt
+ids_differ s (n ∷ ns) d = (none_named s n ns d.0, ids_differ s ns d.1)
+
+-- the names of a shape of a type differ
+two_differ : codes "value" ≡ codes "key" → ⊥
+two_differ e = omega (arith, ap length e)
+
+listed : (names : List (List ℕ)) → names ≡ codes "member" ∷ [] → AllDiffer names
+listed names h = subst AllDiffer (sym h) (tt, tt)
+
+mapped : (names : List (List ℕ)) → names ≡ codes "key" ∷ codes "value" ∷ [] → AllDiffer names
+mapped names h = subst AllDiffer (sym h) ((two_differ, tt), (tt, tt))
+
+empty : (names : List (List ℕ)) → names ≡ [] → AllDiffer names
+empty names h = subst AllDiffer (sym h) tt
+
+pub names_differ : (kind : Kind) (names : List (List ℕ)) → HaveForm (member_form kind) names → AllDiffer names
+names_differ list_kind names h = listed names h
+names_differ Map names h = mapped names h
+names_differ Structure names h = (differ_in_names names).1 h
+names_differ Union names h = (differ_in_names names).1 h
+names_differ Enum names h = (differ_in_names names).1 h
+names_differ IntEnum names h = (differ_in_names names).1 h
+names_differ Blob names h = empty names h
+names_differ Boolean names h = empty names h
+names_differ Text names h = empty names h
+names_differ Byte names h = empty names h
+names_differ Short names h = empty names h
+names_differ Integer names h = empty names h
+names_differ Long names h = empty names h
+names_differ Float names h = empty names h
+names_differ Double names h = empty names h
+names_differ BigInteger names h = empty names h
+names_differ BigDecimal names h = empty names h
+names_differ Timestamp names h = empty names h
+names_differ Document names h = empty names h
+names_differ Service names h = empty names h
+names_differ Operation names h = empty names h
+names_differ Resource names h = empty names h
+
+-- the names of the members at which values stand
+module _ (g : GraphMaps) (id : List ℕ) (s : ShapeEntry) (sound : IsSoundShape g id s) where
+  abbrev pub value_names : List (List ℕ)
+  value_names = cond (has_value_members s.kind) sound.names []
+
+  pub value_ids : value_members s ≡ map (member_id id) value_names
+  value_ids = by (has_value_members s.kind)
+    where
+      by : (b : Bool) → cond b s.members [] ≡ map (member_id id) (cond b sound.names [])
+      by true = sound.members
+      by false = refl
+
+  pub value_names_differ : AllDiffer value_names
+  value_names_differ = by (has_value_members s.kind)
+    where
+      by : (b : Bool) → AllDiffer (cond b sound.names [])
+      by true = names_differ s.kind sound.names sound.form
+      by false = tt
+
+  pub value_json_differ : AllDiffer (map (json_name_of g id) value_names)
+  value_json_differ = by (has_value_members s.kind)
+    where
+      by : (b : Bool) → AllDiffer (map (json_name_of g id) (cond b sound.names []))
+      by true = sound.json_names
+      by false = tt
+
+-- what stands at a place of a list
+pub there_at : {D : Type 0} (ds : List D) (k : ℕ) → k < length ds → (d : D) × (slice_get ds k ≡ Some d)
+there_at [] k lt = absurd (omega (arith, lt))
+there_at (d ∷ ds) zero lt = (d, refl)
+there_at (d ∷ ds) (suc k) lt = there_at ds k (omega (arith, lt))
+
+-- the rows of all members
+module _ (g : Graph) (shapes : List ℕ) (texts : List (List ℕ)) (ready : AreReady g shapes texts) (ps : PatternRows) (rows : List MemberData)
+    (are : AreMemberRows (maps_of g) ps (numbering g shapes) (length shapes) rows) where
+  pub all_long : length rows ≡ length (numbering g shapes).members
+  all_long =
+      let long = length-map shapes (id_of_number g) in
+      are.long ∙ ap (λ ids. length (flat_map (members_under (maps_of g)) ids)) (take_all (length shapes) (map (id_of_number g) shapes) (omega (arith, long)))
+
+  module _ (s : ℕ) (lt : s < length shapes) where
+    pub row_members : members_under (maps_of g) (get_or (numbering g shapes).shapes s [])
+        ≡ map (member_id (id_of_number g (get_or shapes s 0)))
+        (value_names (maps_of g) (id_of_number g (get_or shapes s 0)) (ready_shape g shapes texts ready s lt).s (ready_shape g shapes texts ready s lt).sound)
+    row_members =
+        let home = ready_shape g shapes texts ready s lt in
+        ap (members_under (maps_of g)) (row_id g shapes texts s lt) ∙ members_are g shapes texts (get_or shapes s 0) home
+        ∙ value_ids (maps_of g) (id_of_number g (get_or shapes s 0)) home.s home.sound
+
+    pub within_rows : first_of_shape (maps_of g) (numbering g shapes).shapes s + count_of_shape (maps_of g) (numbering g shapes).shapes s
+        ≤ length rows
+    within_rows =
+        let ids = (numbering g shapes).shapes in
+        let long = length-map shapes (id_of_number g) in
+        let less : s < length ids = omega (arith, long, lt) in
+        let le : s + 1 ≤ length shapes = omega (arith, lt) in
+        let le2 : length shapes ≤ length ids = omega (arith, long) in
+        let next = first_next (members_under (maps_of g)) [] ids s less in
+        let rise = first_rises (members_under (maps_of g)) [] ids (s + 1) (length shapes) le le2 in
+        omega (arith, next, rise, are.long)
+
+    -- a row of the shape
+    pub row_here : (j : ℕ) → j < count_of_shape (maps_of g) (numbering g shapes).shapes s
+        → (d : MemberData) × (slice_get rows (first_of_shape (maps_of g) (numbering g shapes).shapes s + j) ≡ Some d)
+        × IsMemberRow (maps_of g) ps (numbering g shapes) (first_of_shape (maps_of g) (numbering g shapes).shapes s + j) d × (d.shape ≡ s)
+    row_here j less =
+        let ids = (numbering g shapes).shapes in
+        let first = first_of_shape (maps_of g) ids s in
+        let within = within_rows in
+        let inside : first + j < length rows = omega (arith, within, less) in
+        let x = there_at rows (first + j) inside in
+        let r = are.each (first + j) x.0 x.1 in
+        let long = length-map shapes (id_of_number g) in
+        let home : x.0.shape < length ids = r.says.shape_number in
+        let here : s < length ids = omega (arith, long, lt) in
+        let behind : first ≤ first + j = omega arith in
+        let before : first + j < first + count_of_shape (maps_of g) ids s = omega (arith, less) in
+        (x.0, x.1, r, one_block (members_under (maps_of g)) [] ids x.0.shape s (first + j) home here r.behind r.before behind before)
+
+    pub id_here : (j : ℕ) → j < count_of_shape (maps_of g) (numbering g shapes).shapes s
+        → get_or (numbering g shapes).members (first_of_shape (maps_of g) (numbering g shapes).shapes s + j) []
+        ≡ get_or (members_under (maps_of g) (get_or (numbering g shapes).shapes s [])) j []
+    id_here j less =
+        let long = length-map shapes (id_of_number g) in
+        get_or-flat_map (members_under (maps_of g)) (numbering g shapes).shapes s j [] [] (omega (arith, long, lt)) less
+
+    module _ (j : ℕ) (less : j < count_of_shape (maps_of g) (numbering g shapes).shapes s) where
+      abbrev home_id : List ℕ
+      home_id = id_of_number g (get_or shapes s 0)
+
+      abbrev names_there : List (List ℕ)
+      names_there = value_names (maps_of g) (id_of_number g (get_or shapes s 0)) (ready_shape g shapes texts ready s lt).s
+          (ready_shape g shapes texts ready s lt).sound
+
+      name_count : j < length names_there
+      name_count =
+          let long = ap length row_members in
+          let same = length-map names_there (member_id home_id) in omega (arith, long, same, less)
+
+      member_is : get_or (numbering g shapes).members (first_of_shape (maps_of g) (numbering g shapes).shapes s + j) []
+          ≡ member_id home_id (get_or names_there j [])
+      member_is =
+          id_here j less ∙ ap (λ ids. get_or ids j []) row_members ∙ get_or-map (member_id home_id) names_there j [] [] name_count
+
+      -- its name, and the one that it has where JSON names are looked at
+      pub name_here : (row_here j less).0.name ≡ get_or names_there j []
+      name_here =
+          let x = row_here j less in
+          one_name home_id x.0.name (get_or names_there j [])
+          (ap (λ i. member_id i x.0.name) (sym (ap (λ k. get_or (numbering g shapes).shapes k []) x.3 ∙ row_id g shapes texts s lt))
+          ∙ sym x.2.says.name ∙ member_is)
+
+      pub json_name_here : unwrap_or (row_here j less).0.json_name (row_here j less).0.name
+          ≡ json_name_of (maps_of g) home_id (get_or names_there j [])
+      json_name_here =
+          let x = row_here j less in
+          let says = x.2.says in
+          let told : x.0.json_name ≡ text_of (trait_in json_name_id (fin.get (maps_of g).shapes (member_id home_id (get_or names_there j [])))) =
+          says.json_name ∙ sym (ap (λ o. text_of (trait_in json_name_id o)) says.there)
+          ∙ ap (λ i. text_of (trait_in json_name_id (fin.get (maps_of g).shapes i))) member_is in
+          ap (λ o. unwrap_or o x.0.name) told
+          ∙ ap (unwrap_or (text_of (trait_in json_name_id (fin.get (maps_of g).shapes (member_id home_id (get_or names_there j [])))))) name_here
+
+    -- the names in the rows are those of the shape
+    pub names_are : map (name_at (only_members rows))
+        (run (first_of_shape (maps_of g) (numbering g shapes).shapes s) (count_of_shape (maps_of g) (numbering g shapes).shapes s))
+        ≡ value_names (maps_of g) (id_of_number g (get_or shapes s 0)) (ready_shape g shapes texts ready s lt).s (ready_shape g shapes texts ready s lt).sound
+    names_are =
+        let first = first_of_shape (maps_of g) (numbering g shapes).shapes s in
+        let count = count_of_shape (maps_of g) (numbering g shapes).shapes s in
+        let ys = value_names (maps_of g) (id_of_number g (get_or shapes s 0)) (ready_shape g shapes texts ready s lt).s
+        (ready_shape g shapes texts ready s lt).sound in
+        mapped_run (name_at (only_members rows)) ys [] first count
+        (sym (ap length row_members ∙ length-map ys (member_id (id_of_number g (get_or shapes s 0)))))
+        (λ j less. ap name_in (row_here j less).1 ∙ name_here j less)
+
+    pub names_there_differ : AllDiffer (map (name_at (only_members rows))
+        (run (first_of_shape (maps_of g) (numbering g shapes).shapes s) (count_of_shape (maps_of g) (numbering g shapes).shapes s)))
+    names_there_differ =
+        let home = ready_shape g shapes texts ready s lt in
+        subst AllDiffer (sym names_are) (value_names_differ (maps_of g) (id_of_number g (get_or shapes s 0)) home.s home.sound)
+
+    pub json_names_are : map (json_name_at (only_members rows))
+        (run (first_of_shape (maps_of g) (numbering g shapes).shapes s) (count_of_shape (maps_of g) (numbering g shapes).shapes s))
+        ≡ map (json_name_of (maps_of g) (id_of_number g (get_or shapes s 0)))
+        (value_names (maps_of g) (id_of_number g (get_or shapes s 0)) (ready_shape g shapes texts ready s lt).s (ready_shape g shapes texts ready s lt).sound)
+    json_names_are =
+        let first = first_of_shape (maps_of g) (numbering g shapes).shapes s in
+        let count = count_of_shape (maps_of g) (numbering g shapes).shapes s in
+        let id = id_of_number g (get_or shapes s 0) in
+        let ys = value_names (maps_of g) (id_of_number g (get_or shapes s 0)) (ready_shape g shapes texts ready s lt).s
+        (ready_shape g shapes texts ready s lt).sound in
+        let long : length ys ≡ count = sym (ap length row_members ∙ length-map ys (member_id id)) in
+        mapped_run (json_name_at (only_members rows)) (map (json_name_of (maps_of g) id) ys) [] first count
+        (length-map ys (json_name_of (maps_of g) id) ∙ long)
+        (λ j less.
+        ap json_name_in (row_here j less).1 ∙ json_name_here j less
+        ∙ sym (get_or-map (json_name_of (maps_of g) id) ys j [] [] (omega (arith, long, less))))
+
+    pub json_names_there_differ : AllDiffer (map (json_name_at (only_members rows))
+        (run (first_of_shape (maps_of g) (numbering g shapes).shapes s) (count_of_shape (maps_of g) (numbering g shapes).shapes s)))
+    json_names_there_differ =
+        let home = ready_shape g shapes texts ready s lt in
+        subst AllDiffer (sym json_names_are) (value_json_differ (maps_of g) (id_of_number g (get_or shapes s 0)) home.s home.sound)
