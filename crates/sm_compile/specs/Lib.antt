@@ -8,4 +8,7 @@ pub mod Compiled
 pub mod Served
 pub mod Answers
 pub mod Laws
+pub mod TraitRows
+pub mod rules
+pub mod Looked
 pub mod steps

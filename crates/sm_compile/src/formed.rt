@@ -137,7 +137,8 @@ fn are_any_bounds(tree: &Tree) -> bool
         && is_any_number_where(field_of(tree, "max"))
 }
 
-fn are_whole_bounds_where(tree: Option<&Tree>) -> bool
+/// Whether `length`, where it is there, has whole numbers for bounds. No memory.
+pub fn are_whole_bounds_where(tree: Option<&Tree>) -> bool
     ensures { result ≡ where_there nodes.are_whole_bounds (option_map (λ t. node_of t.now) tree.entry) }
 {
     match tree {
@@ -146,7 +147,8 @@ fn are_whole_bounds_where(tree: Option<&Tree>) -> bool
     }
 }
 
-fn is_range_where(kind: Kind, tree: Option<&Tree>) -> bool
+/// Whether `range` of a shape of this type, where it is there, has numbers for bounds. No memory.
+pub fn is_range_where(kind: Kind, tree: Option<&Tree>) -> bool
     ensures { result ≡ where_there (nodes.is_range kind) (option_map (λ t. node_of t.now) tree.entry) }
 {
     match tree {
@@ -176,7 +178,8 @@ fn is_ordered(least: Option<i64>, most: Option<i64>) -> bool
     }
 }
 
-fn are_ordered_where(tree: Option<&Tree>) -> bool
+/// Whether the least bound isn't more than the most, where both are there and fit a word. No memory.
+pub fn are_ordered_where(tree: Option<&Tree>) -> bool
     ensures { result ≡ where_there nodes.are_ordered (option_map (λ t. node_of t.now) tree.entry) }
 {
     match tree {
@@ -194,7 +197,8 @@ fn is_length_bound(bound: Option<i64>) -> bool
     }
 }
 
-fn are_lengths_where(tree: Option<&Tree>) -> bool
+/// Whether no bound is negative. No memory.
+pub fn are_lengths_where(tree: Option<&Tree>) -> bool
     ensures { result ≡ where_there nodes.are_lengths (option_map (λ t. node_of t.now) tree.entry) }
 {
     match tree {

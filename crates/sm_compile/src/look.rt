@@ -8,13 +8,13 @@ ghost use Rattle.sm_model.specs.GraphView.{AreShapeNumbers, IsShapeNumber, maps_
 ghost use Rattle.sm_model.specs.PreludeShapes.{unit_id};
 ghost use Rattle.sm_model.specs.Reaching.{id_of_number};
 ghost use Rattle.sm_compile.specs.Sound.{trait_of};
-ghost use Rattle.sm_compile.specs.steps.Looked.{kind_under, listed_under, target_kind, target_under, targets_unit};
+ghost use Rattle.sm_compile.specs.Looked.{kind_under, listed_under, target_kind, target_under, targets_unit};
 
 use sm_model::{Graph, Kind};
 use sm_tree::Tree;
 
 /// The type of a shape; a member has none.
-pub(crate) fn kind_of(graph: &Graph, number: u32) -> Option<Kind>
+pub fn kind_of(graph: &Graph, number: u32) -> Option<Kind>
     requires { IsShapeNumber graph.now number }
     ensures { result ≡ kind_under (maps_of graph.now) (id_of_number graph.now number) }
 {
@@ -26,7 +26,7 @@ pub(crate) fn kind_of(graph: &Graph, number: u32) -> Option<Kind>
 }
 
 /// The numbers of a shape's members, in model order; a member has none.
-pub(crate) fn members_of(graph: &Graph, number: u32) -> &[u32]
+pub fn members_of(graph: &Graph, number: u32) -> &[u32]
     requires { IsShapeNumber graph.now number }
     ensures ids { map (id_of_number graph.now) result.now ≡ listed_under (maps_of graph.now) (id_of_number graph.now number) }
     ensures numbers { AreShapeNumbers graph.now result.now }
@@ -35,7 +35,7 @@ pub(crate) fn members_of(graph: &Graph, number: u32) -> &[u32]
 }
 
 /// The value of a trait; `None` where what stands there doesn't have it.
-pub(crate) fn trait_node<'a>(graph: &'a Graph, number: u32, name: &str) -> Option<&'a Tree>
+pub fn trait_node<'a>(graph: &'a Graph, number: u32, name: &str) -> Option<&'a Tree>
     requires { IsShapeNumber graph.now number }
     ensures { option_map (λ t. node_of t.now) result ≡ trait_of (maps_of graph.now) (id_of_number graph.now number) name.now }
 {
@@ -43,7 +43,7 @@ pub(crate) fn trait_node<'a>(graph: &'a Graph, number: u32, name: &str) -> Optio
 }
 
 /// The number of what a member targets; `None` where the graph has none of the id that it targets, and at a shape.
-pub(crate) fn target_of(graph: &Graph, number: u32) -> Option<u32>
+pub fn target_of(graph: &Graph, number: u32) -> Option<u32>
     requires { IsShapeNumber graph.now number }
     ensures { MatchOption result
         ((id : List ℕ) → target_under (maps_of graph.now) (id_of_number graph.now number) ≡ Some id
@@ -59,7 +59,7 @@ pub(crate) fn target_of(graph: &Graph, number: u32) -> Option<u32>
 }
 
 /// The type of the shape that a member targets, where the graph has it.
-pub(crate) fn target_kind(graph: &Graph, member: u32) -> Option<Kind>
+pub fn target_kind(graph: &Graph, member: u32) -> Option<Kind>
     requires { IsShapeNumber graph.now member }
     ensures { result ≡ target_kind (maps_of graph.now) (id_of_number graph.now member) }
 {
@@ -70,7 +70,7 @@ pub(crate) fn target_kind(graph: &Graph, member: u32) -> Option<Kind>
 }
 
 /// Whether a member targets the prelude's unit.
-pub(crate) fn targets_unit(graph: &Graph, member: u32) -> bool
+pub fn targets_unit(graph: &Graph, member: u32) -> bool
     requires { IsShapeNumber graph.now member }
     ensures { result ≡ targets_unit (maps_of graph.now) (id_of_number graph.now member) }
 {
@@ -88,7 +88,7 @@ fn is_unit(id: &str) -> bool
 }
 
 /// The text of an id.
-pub(crate) fn id_text(graph: &Graph, number: u32) -> &str
+pub fn id_text(graph: &Graph, number: u32) -> &str
     requires { IsShapeNumber graph.now number }
     ensures { result.now ≡ id_of_number graph.now number }
 {

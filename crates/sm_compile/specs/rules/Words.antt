@@ -1,0 +1,26 @@
+-- What the rules of models speak of: shapes and members outside of the prelude, and their traits (Smithy 2.0, "The Smithy model"). A rule
+-- that needs what isn't there, or a trait's value that doesn't read, doesn't fail.
+use Rattle.std.specs.Prelude.{◌≡◌, ℕ, false, List, ◌∷◌, ◌++◌, Option}
+use Rattle.sm_tree.specs.Node.{Node}
+use Rattle.sm_model.specs.Graphs.{Entry, shape_entry, ShapeEntry, GraphMaps}
+use Rattle.sm_model.specs.PreludeShapes.{is_prelude_id}
+use Rattle.sm_model.specs.Relations.{HasEntry}
+use Rattle.sm_compile.specs.Sound.{trait_of}
+use Rattle.sm_compile.specs.TraitRows.{that_reads}
+
+-- what a rule looks at: a shape or member outside of the prelude
+abbrev pub IsOwn : GraphMaps → List ℕ → Entry → Type 0
+IsOwn g id e = HasEntry g id e × (is_prelude_id id ≡ false)
+
+abbrev pub IsOwnShape : GraphMaps → List ℕ → ShapeEntry → Type 0
+IsOwnShape g id s = IsOwn g id (shape_entry s)
+
+-- an id that a shape lists, with those that it lists before it, in model order
+pub record IsListedBehind (g : GraphMaps) (shape : List ℕ) (s : ShapeEntry) (before : List (List ℕ)) (id : List ℕ) : Type 0 where
+  pub home : IsOwnShape g shape s
+  pub later : List (List ℕ)
+  pub members : s.members ≡ before ++ id ∷ later
+
+-- the value of a trait where it reads
+abbrev pub read_trait : GraphMaps → List ℕ → List ℕ → Option Node
+read_trait g id trait = that_reads trait (trait_of g id trait)

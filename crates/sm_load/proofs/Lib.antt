@@ -1,0 +1,5 @@
+mod EventsPut
+mod Numbered
+mod OwnShapes
+mod Singles
+mod WrongBounds

@@ -1,0 +1,3 @@
+pub mod RuleIds
+pub mod RuleEvents
+pub mod steps

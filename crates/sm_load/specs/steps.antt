@@ -1,0 +1,4 @@
+pub mod Bounding
+pub mod Carrying
+pub mod Owned
+pub mod Putting
