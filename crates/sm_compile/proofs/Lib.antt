@@ -38,3 +38,13 @@ mod CompiledShapes
 mod MarkedTables
 mod CarriedSets
 mod CompiledRoots
+mod UriStops
+mod UriBytes
+mod UriNames
+mod UriSegments
+mod UriParts
+mod UriCuts
+mod UriPaths
+mod UriQueries
+mod UriHeld
+pub mod UriOnce

@@ -7,6 +7,7 @@ pub mod Said
 pub mod Compiled
 pub mod Served
 pub mod Answers
+pub mod UriPattern
 pub mod Laws
 pub mod TraitRows
 pub mod rules

@@ -12,3 +12,4 @@ pub mod Numbered
 pub mod Placing
 pub mod Making
 pub mod Tests
+pub mod UriReading

@@ -25,6 +25,7 @@ mod storing;
 mod tabled;
 mod traits;
 mod unserved;
+mod uri;
 mod way;
 
 pub use compile::compile_shape;
@@ -32,3 +33,4 @@ pub use compiled::{CompileRefusal, OneShape, Served};
 pub use formed::{are_lengths_where, are_ordered_where, are_whole_bounds_where, is_range_where};
 pub use look::{id_text, kind_of, members_of, target_kind, target_of, targets_unit, trait_node};
 pub use soundness::sound;
+pub use uri::{Segment, UriPattern, UriRefusal};

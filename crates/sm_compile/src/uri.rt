@@ -1,0 +1,9 @@
+// Patterns of URIs (Smithy 2.0, "http trait"): what they are, and how a text is read as one.
+mod bytes;
+mod label;
+mod path;
+mod pattern;
+mod query;
+mod stop;
+
+pub use pattern::{Segment, UriPattern, UriRefusal};
