@@ -42,7 +42,8 @@ fn escaped_len(text: &[u8]) -> u64
     }
 }
 
-pub(crate) fn text_len(text: &Text) -> u64
+/// How many bytes `place_text` places for a text, or `u64::MAX` where they are more. No memory.
+pub fn text_len(text: &Text) -> u64
     ensures { result ≡ length_word (length (written_text text.now)) }
 {
     escaped_len(text.as_str().as_bytes()).saturating_add(2)

@@ -19,9 +19,10 @@ mod whitespace;
 mod write;
 mod writer;
 
-pub use length::encoded_len;
+pub use length::{encoded_len, text_len};
 pub use pieces::JsonReader;
+pub use put::place_text;
 pub use read::read_tree;
 pub use sm_tree::{NoMemory, SyntaxRefusal};
-pub use write::write_tree;
+pub use write::{place_tree, write_tree};
 pub use writer::JsonWriter;

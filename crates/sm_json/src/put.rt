@@ -47,7 +47,8 @@ fn place_escaped(buf: &mut [u8], at: usize, text: &[u8]) -> usize
     }
 }
 
-pub(crate) fn place_text(buf: &mut [u8], at: usize, text: &Text) -> usize
+/// Places a text as a string of JSON (RFC 8259, section 7), as `write_tree` writes it, and gives the place behind it. No memory.
+pub fn place_text(buf: &mut [u8], at: usize, text: &Text) -> usize
     requires room { at + length (written_text text.now) ≤ length buf.old }
     ensures bytes { take result buf.new ≡ take at buf.old ++ written_text text.now }
     ensures next { result ≡ at + length (written_text text.now) }

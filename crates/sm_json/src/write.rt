@@ -71,8 +71,10 @@ fn place_more_pairs(buf: &mut [u8], at: usize, pairs: &[(Text, Tree)]) -> usize
     place_byte(buf, at, b'}')
 }
 
+/// Places a tree as JSON text, as `write_tree` writes it, and gives the place behind it. A byte string, a tag or an opaque
+/// leaf, which JSON doesn't have, is left out. No memory.
 #[cycle(placing)]
-fn place_tree(buf: &mut [u8], at: usize, tree: &Tree) -> usize
+pub fn place_tree(buf: &mut [u8], at: usize, tree: &Tree) -> usize
     requires room { at + length (written (node_of tree.now)) ≤ length buf.old }
     ensures bytes { take result buf.new ≡ take at buf.old ++ written (node_of tree.now) }
     ensures next { result ≡ at + length (written (node_of tree.now)) }
