@@ -49,3 +49,5 @@ pub mod ReadFile
 pub mod Stopped
 pub mod TokenCuts
 pub mod ReadControls
+pub mod WrittenIdl
+pub mod WrittenLengths

@@ -8,4 +8,6 @@ pub mod Shapes
 pub mod Idl
 pub mod Answers
 pub mod Laws
+pub mod WrittenForms
+pub mod Written
 pub mod steps

@@ -14,3 +14,4 @@ pub mod FieldSteps
 pub mod PartSteps
 pub mod ShapeSteps
 pub mod FileSteps
+pub mod Writing

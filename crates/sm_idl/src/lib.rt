@@ -8,6 +8,7 @@ mod home;
 mod ids;
 pub mod laws;
 mod leaf;
+mod length;
 mod made;
 mod members;
 mod names;
@@ -23,6 +24,8 @@ mod traits;
 mod unknown;
 mod values;
 mod word;
+mod write;
 
 pub use read::read_idl;
 pub use refusal::IdlRefusal;
+pub use write::write_idl;
