@@ -1,27 +1,19 @@
 -- The patterns of marked numbers, one number after the other.
-use Rattle.std.proofs.Common.{◌≡◌, ◌⊎◌, inl, inr, ℕ, ◌+◌, ◌<◌, ◌≤◌, Bool, true, false, List, [], ◌∷◌, ◌++◌, map, length, Option, Some, None, refl, sym, ap, ◌∙◌, subst, arith, cond}
-use Rattle.std.specs.Prelude.{◌↔◌, MatchOption, slice_get}
+use Rattle.std.proofs.Common.{◌≡◌, inl, inr, ℕ, ◌+◌, Bool, List, [], ◌∷◌, ◌++◌, map, sym, ap, ◌∙◌, subst, arith}
 use Rattle.std.specs.List.{Contains}
 use Rattle.std.specs.List.Sorted.{IsStrictlySortedBy}
-use Rattle.std.specs.Str.{bytes_eq}
-use Rattle.std.specs.declared.cmp.Ordering.{Ordering}
-use Rattle.std.specs.declared.cmp.Ordering.TheVariants.{Less, Equal, Greater}
-use Rattle.std.specs.Cmp.{tied_itself}
-use Rattle.std.specs.Cmp.Lexicographic.{nat_list_cmp_total}
-use Rattle.std.proofs.lemmas.Bool.{cases_eq, cases_lt}
+use Rattle.std.specs.declared.cmp.Ordering.TheVariants.{Less}
+use Rattle.std.proofs.lemmas.Bool.{cases_lt}
 use Rattle.std.proofs.lemmas.List.{map-append}
 use Rattle.std.proofs.lemmas.List.Elements.{Contains-append_left, Contains-push, Contains-push_cases}
 use Rattle.std.proofs.lemmas.Option.{same_Some}
-use Rattle.sm_model.specs.Graphs.{member_entry, shape_entry, text_cmp}
-use Rattle.sm_model.specs.GraphView.{AreShapeNumbers, IsShapeNumber, entries_of, maps_of}
-use Rattle.sm_model.specs.Reaching.{AreMarks, IsMarked, id_of_number}
-use Rattle.sm_model.specs.Relations.{IsInGraph}
+use Rattle.sm_model.specs.Graphs.{text_cmp}
+use Rattle.sm_model.specs.GraphView.{AreShapeNumbers, IsShapeNumber, maps_of}
+use Rattle.sm_model.specs.Reaching.{id_of_number}
 use Rattle.sm_model.specs.declared.graph.Graph.{Graph}
-use Rattle.sm_model.proofs.NumberedIds.{number_of}
 use Rattle.sm_model.proofs.OneRising.{contains_none}
-use Rattle.sm_compile.specs.Compiled.{ArePatternsOf, CarriesPattern, EachSays, IdSet, IsCarrier, IsFirstCarrier, PatternRows, texts_of}
-use Rattle.sm_compile.specs.steps.Carrying.{AreCarriedBelow, AreFirstAt, IsCarriedAt, IsFirstAt, IsMarkedId, carried, carriers_of}
-use Rattle.sm_compile.proofs.CarriedPatterns.{carries_told}
+use Rattle.sm_compile.specs.Compiled.{PatternRows, texts_of}
+use Rattle.sm_compile.specs.steps.Carrying.{AreCarriedBelow, AreFirstAt, IsCarriedAt, IsFirstAt, carried, carriers_of}
 use Rattle.sm_compile.proofs.TabledShapes.{ids_rise, mapped_from, nothing_rises, rise_more}
 
 module _ (g : Graph) (marks : List Bool) where

@@ -1,6 +1,6 @@
 -- Texts with their places, as one more is put behind them.
-use Rattle.std.proofs.Common.{◌≡◌, inl, inr, ℕ, zero, suc, ◌+◌, ◌<◌, Bool, true, false, cond, List, [], ◌∷◌, ◌++◌, map, length, Option, Some, None, refl, sym, ap, ◌∙◌, subst, arith}
-use Rattle.std.specs.Prelude.{MatchOption, slice_get}
+use Rattle.std.proofs.Common.{◌≡◌, inl, inr, ℕ, zero, suc, ◌+◌, Bool, true, false, cond, List, [], ◌∷◌, ◌++◌, map, length, Option, Some, None, refl, sym, ap, ◌∙◌, subst}
+use Rattle.std.specs.Prelude.{slice_get}
 use Rattle.std.specs.Cmp.Lexicographic.{bytes_decides, nat_list_eq_equiv, slice_cmp}
 use Rattle.std.specs.List.{Contains}
 use Rattle.std.specs.BTreeMap.{is_at}
@@ -18,7 +18,7 @@ use Rattle.sm_model.proofs.OneRising.{contains_behind, contains_head, contains_n
 use Rattle.sm_compile.specs.Compiled.{PatternRows, texts_of}
 use Rattle.sm_compile.specs.declared.patterns.CarriedTexts.{CarriedTexts}
 use Rattle.sm_compile.specs.declared.patterns.FirstCarrier.{FirstCarrier}
-use Rattle.sm_compile.specs.steps.Carrying.{AreCarriedBelow, AreCarriedUpTo, ArePlaced, IsCarriedAt, IsPlaced, place_in, rows_in, texts_in}
+use Rattle.sm_compile.specs.steps.Carrying.{AreCarriedBelow, AreCarriedUpTo, IsCarriedAt, IsPlaced, place_in, rows_in, texts_in}
 use Rattle.sm_compile.proofs.PatternsPut.{none_carried, one_more}
 
 abbrev row_of : FirstCarrier → ℕ × List ℕ

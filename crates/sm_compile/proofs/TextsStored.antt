@@ -1,23 +1,20 @@
 -- Texts that are added to a store one after the other: their numbers, their rows, and where one is refused.
-use Rattle.std.proofs.Common.{◌≡◌, ◌⊎◌, inl, inr, ℕ, zero, suc, ◌+◌, ◌-◌, ◌^◌, ◌<◌, ◌≤◌, Bool, true, false, cond, List, [], ◌∷◌, ◌++◌, map, length, take, drop, get_or, Option, Some, None, refl, sym, ap, ◌∙◌, subst, arith, append_assoc, append-nil, length-append}
-use Rattle.std.specs.Prelude.{◌==◌, MatchOption, min, slice_get}
-use Rattle.std.specs.List.{Contains}
+use Rattle.std.proofs.Common.{◌≡◌, ℕ, zero, suc, ◌+◌, ◌-◌, ◌^◌, ◌<◌, ◌≤◌, cond, List, [], ◌∷◌, ◌++◌, map, length, take, drop, get_or, Some, refl, sym, ap, ◌∙◌, subst, arith, append_assoc, append-nil, length-append}
+use Rattle.std.specs.Prelude.{min, slice_get}
 use Rattle.std.proofs.lemmas.Bool.{eq-eqb, ne_eqb}
 use Rattle.std.proofs.lemmas.List.{drop_more, length-map, map-append, take-append-drop, take_more}
 use Rattle.std.proofs.lemmas.Option.{none-some, same_Some, slice_get_within}
 use Rattle.sm_model.specs.GraphView.{AreShapeNumbers, IsShapeNumber}
 use Rattle.sm_model.specs.Reaching.{id_of_number}
 use Rattle.sm_model.specs.declared.graph.Graph.{Graph}
-use Rattle.sm_shapes.specs.InOrder.{AreStored}
-use Rattle.sm_shapes.specs.Patterns.{pattern_text}
 use Rattle.sm_shapes.specs.TableData.{texts_numbered}
-use Rattle.sm_compile.specs.Answers.{IsLeftBehind, StoreSeen}
+use Rattle.sm_compile.specs.Answers.{StoreSeen}
 use Rattle.sm_compile.specs.Compiled.{AreNumberedFrom, PatternRows, texts_of}
 use Rattle.sm_compile.specs.declared.compiled.CompileRefusal.{CompileRefusal}
 use Rattle.sm_compile.specs.declared.compiled.CompileRefusal.TheVariants.{NoShape, Pattern, NoMemory}
 use Rattle.sm_compile.specs.declared.patterns.FirstCarrier.{FirstCarrier}
 use Rattle.sm_compile.specs.steps.Carrying.{carriers_of}
-use Rattle.sm_compile.specs.steps.Storing.{AreTextsStored, IsRefusedAmong, IsTextRefused, IsTextStored, StopsAmong, StopsAt}
+use Rattle.sm_compile.specs.steps.Storing.{AreTextsStored, IsTextStored, StopsAmong, StopsAt}
 
 abbrev pub row_of : FirstCarrier → ℕ × List ℕ
 row_of f = (f.number, f.text.now)

@@ -1,5 +1,5 @@
 -- A shape isn't served by itself exactly where the code's tests say so.
-use Rattle.std.proofs.Common.{◌≡◌, ◌⊎◌, inl, inr, ℕ, Bool, true, false, List, [], ◌∷◌, Option, Some, None, refl, sym, ap, ◌∙◌, subst}
+use Rattle.std.proofs.Common.{◌≡◌, ◌⊎◌, inl, inr, ℕ, Bool, true, List, [], ◌∷◌, Option, Some, None, refl, sym, ap, ◌∙◌, subst}
 use Rattle.std.specs.Prelude.{◌↔◌, IsTrue, is_some, unwrap_or}
 use Rattle.std.specs.FinMap as fin
 use Rattle.std.specs.List.{Contains}
@@ -13,7 +13,7 @@ use Rattle.sm_model.proofs.Worklist.{apart}
 use Rattle.sm_shapes.specs.declared.kinds.ShapeKind.{ShapeKind}
 use Rattle.sm_shapes.specs.declared.kinds.ShapeKind.TheVariants as table
 use Rattle.sm_compile.specs.Kinds.{table_kind}
-use Rattle.sm_compile.specs.Served.{HasTypeMember, IsLeftOut, IsSpecial, IsUnserved, type_name}
+use Rattle.sm_compile.specs.Served.{IsUnserved, type_name}
 use Rattle.sm_compile.specs.Sound.{json_name_of, trait_in, trait_of}
 use Rattle.sm_compile.specs.TraitIds.{json_name_id, streaming_id}
 use Rattle.sm_compile.specs.TraitNodes.{text_of}

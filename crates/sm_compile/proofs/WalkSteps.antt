@@ -1,20 +1,18 @@
 -- The steps of a walk that enters each shape once: into a shape, and back from one.
-use Rattle.std.proofs.Common.{◌≡◌, ◌⊎◌, inl, inr, ℕ, ◌+◌, ◌<◌, ◌≤◌, Bool, true, false, List, [], ◌∷◌, ◌++◌, map, length, get_or, replicate, refl, sym, ap, ◌∙◌, subst, arith}
+use Rattle.std.proofs.Common.{◌≡◌, ◌⊎◌, inl, inr, ℕ, ◌<◌, ◌≤◌, Bool, true, false, List, [], ◌∷◌, length, get_or, replicate, refl, sym, ap, ◌∙◌, subst, arith}
 use Rattle.std.specs.Prelude.{set}
 use Rattle.std.specs.List.{Contains}
 use Rattle.std.proofs.lemmas.Bool.{cases_eq, cases_lt}
 use Rattle.std.proofs.lemmas.List.{get_or-set_other, get_or-set_same}
 use Rattle.sm_model.specs.GraphView.{IsShapeNumber, entries_of, maps_of}
-use Rattle.sm_model.specs.Reaching.{IsMarked, id_of_number}
-use Rattle.sm_model.specs.Relations.{IsInGraph}
+use Rattle.sm_model.specs.Reaching.{id_of_number}
 use Rattle.sm_model.specs.declared.graph.Graph.{Graph}
-use Rattle.sm_model.proofs.OneRising.{contains_behind, contains_either, contains_head, contains_none}
+use Rattle.sm_model.proofs.OneRising.{contains_behind, contains_either, contains_head}
 use Rattle.sm_model.proofs.Worklist.{apart, none_marked}
 use Rattle.sm_compile.specs.Served.{IsStep, IsUnserved, WayStep}
 use Rattle.sm_compile.specs.declared.way.Above.{Above}
 use Rattle.sm_compile.specs.steps.Carrying.{IsMarkedId}
 use Rattle.sm_compile.specs.steps.Walking.{IsEntered, IsOpen, StandsAt, ids_above, step_of}
-use Rattle.sm_compile.proofs.OneWay.{same_step}
 use Rattle.sm_compile.proofs.ReachedNumbers.{same_number}
 
 module _ (g : Graph) where

@@ -1,9 +1,9 @@
 -- The turns of a walk that enters each shape once, as the code takes them.
-use Rattle.std.proofs.Common.{◌≡◌, ◌⊎◌, inl, inr, ℕ, zero, suc, ◌+◌, ◌*◌, ◌<◌, ◌≤◌, Bool, true, false, not, cond, List, [], ◌∷◌, ◌++◌, map, length, get_or, reverse, Option, Some, None, refl, sym, ap, ◌∙◌, subst, arith, length-append}
+use Rattle.std.proofs.Common.{◌≡◌, ℕ, ◌+◌, ◌<◌, Bool, true, false, not, cond, List, [], ◌∷◌, ◌++◌, map, length, get_or, reverse, refl, sym, ap, ◌∙◌, subst, arith, length-append}
 use Rattle.std.specs.Prelude.{replicate, set}
 use Rattle.std.specs.Global.{Vec}
 use Rattle.std.specs.Cmp.Lexicographic.{slice_cmp}
-use Rattle.std.specs.List.{Contains, count_by, join_with_byte}
+use Rattle.std.specs.List.{count_by, join_with_byte}
 use Rattle.std.specs.Ordering.{nat_cmp}
 use Rattle.std.specs.declared.cmp.Ordering.{Ordering}
 use Rattle.std.specs.declared.cmp.Ordering.TheVariants.{Less, Equal, Greater}
@@ -14,7 +14,7 @@ use Rattle.sm_model.specs.GraphView.{AreShapeNumbers, IsShapeNumber, entries_of,
 use Rattle.sm_model.specs.Reaching.{id_of_number}
 use Rattle.sm_model.specs.declared.graph.Graph.{Graph}
 use Rattle.sm_compile.specs.Answers.{TellsServed}
-use Rattle.sm_compile.specs.Served.{IsFirstWay, IsSimpleWay, IsUnserved, WayStep, names_of_way, numbers_of_way}
+use Rattle.sm_compile.specs.Served.{IsSimpleWay, IsUnserved, WayStep, numbers_of_way}
 use Rattle.sm_compile.specs.declared.compiled.Served.TheVariants.{Yes, Unserved}
 use Rattle.sm_compile.specs.declared.way.Above.{Above}
 use Rattle.sm_compile.specs.declared.way.NextStep.{NextStep}

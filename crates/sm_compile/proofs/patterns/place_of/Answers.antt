@@ -1,4 +1,4 @@
-use Rattle.std.proofs.Common.{◌≡◌, subst, sym}
+use Rattle.std.proofs.Common.{subst, sym}
 use Rattle.sm_compile.specs.steps.Carrying.{IsPlaced, texts_in}
 use Rattle.sm_compile.proofs.patterns.place_of.Goals as goal
 
