@@ -39,7 +39,7 @@ numbered_more k [] n t h is = (omega (arith, is), tt)
 numbered_more k (r ∷ rows) n t h is =
     let next : n ≡ (k + 1) + length rows = omega (arith, is) in (h.0, numbered_more (k + 1) rows n t h.1 next)
 
-pub one_stored : (t : List ℕ) (ts : List (List ℕ)) (before mid now : StoreSeen) (rows rows_now : PatternRows)
+one_stored : (t : List ℕ) (ts : List (List ℕ)) (before mid now : StoreSeen) (rows rows_now : PatternRows)
     → AreTextsStored ts before mid rows → IsTextStored t mid now rows rows_now → AreTextsStored (ts ++ t ∷ []) before now rows_now
 one_stored t ts before mid now rows rows_now h is =
     let long : length mid.added ≡ length before.added + length ts = ap length h.added ∙ length-append before.added ts in
@@ -56,7 +56,7 @@ one_stored t ts before mid now rows rows_now h is =
     }
 
 -- a stop, behind those that were stored
-pub stopped : (g : Graph) (all : PatternRows) (earlier later : PatternRows) (number : ℕ) (text : List ℕ) (before mid now : StoreSeen)
+stopped : (g : Graph) (all : PatternRows) (earlier later : PatternRows) (number : ℕ) (text : List ℕ) (before mid now : StoreSeen)
     (rows : PatternRows) (refusal : CompileRefusal) → AreTextsStored (texts_of earlier) before mid rows
     → all ≡ earlier ++ (number, text) ∷ later → StopsAt (id_of_number g number) text mid now refusal → StopsAmong g all before now refusal
 stopped g all earlier later number text before mid now rows NoShape h parts is = is
@@ -122,7 +122,7 @@ row_at [] i d lt = absurd (omega (arith, lt))
 row_at (f ∷ fs) zero d lt = refl
 row_at (f ∷ fs) (suc i) d lt = row_at fs i d (omega (arith, lt))
 
-pub row_parts : (fs : List FirstCarrier) (i : ℕ) (d : FirstCarrier) → i < length fs
+row_parts : (fs : List FirstCarrier) (i : ℕ) (d : FirstCarrier) → i < length fs
     → rows_of fs ≡ take i (rows_of fs) ++ ((get_or fs i d).number, (get_or fs i d).text.now) ∷ drop (i + 1) (rows_of fs)
 row_parts fs i d lt =
     let within : i < length (rows_of fs) = omega (arith, lt, length-map {B = ℕ × List ℕ} fs row_of) in
@@ -130,10 +130,31 @@ row_parts fs i d lt =
     ∙ ap (λ rs. take i (rows_of fs) ++ rs)
     (drop_more (rows_of fs) i (d.number, d.text.now) within ∙ ap (λ r. r ∷ drop (i + 1) (rows_of fs)) (row_at fs i d lt))
 
-pub texts_more : (fs : List FirstCarrier) (i : ℕ) (d : FirstCarrier) → i < length fs
+texts_more : (fs : List FirstCarrier) (i : ℕ) (d : FirstCarrier) → i < length fs
     → texts_of (take (i + 1) (rows_of fs)) ≡ texts_of (take i (rows_of fs)) ++ (get_or fs i d).text.now ∷ []
 texts_more fs i d lt =
     let within : i < length (rows_of fs) = omega (arith, lt, length-map {B = ℕ × List ℕ} fs row_of) in
     let row : ℕ × List ℕ = ((get_or fs i d).number, (get_or fs i d).text.now) in
     ap texts_of (take_more (rows_of fs) i (d.number, d.text.now) within ∙ ap (λ r. take i (rows_of fs) ++ r ∷ []) (row_at fs i d lt))
     ∙ map-append (λ (r : ℕ × List ℕ). r.1) (take i (rows_of fs)) (row ∷ [])
+
+-- the next text that is stored, and the next that stops; the first carriers come as a slice of them all
+module _ (fs all : List FirstCarrier) (same : fs ≡ all) (i : ℕ) (d : FirstCarrier) (lt : i < length fs) (before mid now : StoreSeen)
+    (rows : PatternRows) (stored : AreTextsStored (texts_of (take i (rows_of all))) before mid rows) where
+  stored_here : AreTextsStored (texts_of (take i (rows_of fs))) before mid rows
+  stored_here = subst (λ xs. AreTextsStored (texts_of (take i (rows_of xs))) before mid rows) (sym same) stored
+
+  pub stores_next : (rows_now : PatternRows) → IsTextStored (get_or fs i d).text.now mid now rows rows_now
+      → AreTextsStored (texts_of (take (i + 1) (rows_of all))) before now rows_now
+  stores_next rows_now is =
+      subst (λ xs. AreTextsStored (texts_of (take (i + 1) (rows_of xs))) before now rows_now) same
+      (subst (λ ts. AreTextsStored ts before now rows_now) (sym (texts_more fs i d lt))
+      (one_stored (get_or fs i d).text.now (texts_of (take i (rows_of fs))) before mid now rows rows_now stored_here is))
+
+  pub stops_next : (g : Graph) (refusal : CompileRefusal)
+      → StopsAt (id_of_number g (get_or fs i d).number) (get_or fs i d).text.now mid now refusal
+      → StopsAmong g (rows_of all) before now refusal
+  stops_next g refusal is =
+      subst (λ xs. StopsAmong g (rows_of xs) before now refusal) same
+      (stopped g (rows_of fs) (take i (rows_of fs)) (drop (i + 1) (rows_of fs)) (get_or fs i d).number (get_or fs i d).text.now before mid
+      now rows refusal stored_here (row_parts fs i d lt) is)

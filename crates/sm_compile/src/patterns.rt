@@ -100,7 +100,7 @@ fn put_text<'a>(
 {
     match place_of(carried, text) {
         Some(_) => Ok(()),
-        None => put_first(graph, marks, number, text, carried),
+        None => put_first(graph, marks, FirstCarrier { number, text }, carried),
     }
 }
 
@@ -108,18 +108,17 @@ fn put_text<'a>(
 fn put_first<'a>(
     graph: &'a Graph,
     marks: &[bool],
-    number: u32,
-    text: &'a str,
+    first: FirstCarrier<'a>,
     carried: &mut CarriedTexts<'a>,
 ) -> Result<(), NoMemory>
-    requires number { IsShapeNumber graph.now number }
-    requires carries { IsCarriedAt graph.now marks.now text.now number }
-    requires before { AreCarriedUpTo graph.now marks.now number carried.old }
-    requires fresh { Contains (texts_in carried.old) text.now → ⊥ }
-    ensures { OnOk result (AreCarriedUpTo graph.now marks.now (number + 1) carried.new) }
+    requires number { IsShapeNumber graph.now first.number }
+    requires carries { IsCarriedAt graph.now marks.now first.text.now first.number }
+    requires before { AreCarriedUpTo graph.now marks.now first.number carried.old }
+    requires fresh { Contains (texts_in carried.old) first.text.now → ⊥ }
+    ensures { OnOk result (AreCarriedUpTo graph.now marks.now (first.entry.number + 1) carried.new) }
 {
-    carried.places.insert(text, carried.firsts.len())?;
-    carried.firsts.push(FirstCarrier { number, text })?;
+    carried.places.insert(first.text, carried.firsts.len())?;
+    carried.firsts.push(first)?;
     Ok(())
 }
 
