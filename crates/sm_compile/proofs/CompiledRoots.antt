@@ -1,12 +1,11 @@
 -- What compiling a shape answers, from what compiling the marked shapes answers.
-use Rattle.std.proofs.Common.{◌≡◌, ℕ, Bool, List, [], ◌∷◌, length, Some, refl, sym, ap, ◌∙◌, subst}
+use Rattle.std.proofs.Common.{◌≡◌, ℕ, Bool, List, [], ◌∷◌, length, Some, sym, subst}
 use Rattle.std.specs.Prelude.{Err, Ok, slice_get}
 use Rattle.std.specs.List.{Contains}
 use Rattle.sm_model.specs.GraphView.{IsShapeNumber, entries_of, maps_of}
 use Rattle.sm_model.specs.Reaching.{AreMarks, id_of_number}
 use Rattle.sm_model.specs.declared.graph.Graph.{Graph}
 use Rattle.sm_shapes.specs.Fitting.{Test}
-use Rattle.sm_shapes.specs.TableView.{table_data}
 use Rattle.sm_compile.specs.Answers.{CompilesShape, StoreSeen, TellsServed}
 use Rattle.sm_compile.specs.Compiled.{ArePatternsOf}
 use Rattle.sm_compile.specs.Reached.{IsReached}

@@ -1,25 +1,24 @@
 -- The table of what one shape reaches is its table.
-use Rattle.std.proofs.Common.{◌≡◌, inl, inr, ℕ, ◌+◌, ◌<◌, ◌≤◌, Bool, List, [], ◌∷◌, ◌++◌, map, length, get_or, Option, Some, None, refl, sym, ap, ◌∙◌, subst, arith, append_assoc}
+use Rattle.std.proofs.Common.{◌≡◌, ℕ, ◌+◌, ◌<◌, ◌≤◌, Bool, List, [], ◌∷◌, ◌++◌, map, length, get_or, Some, refl, sym, ap, ◌∙◌, subst, arith, append_assoc}
 use Rattle.std.specs.Prelude.{◌↔◌, slice_get}
-use Rattle.std.specs.List.{Contains, flat_map}
+use Rattle.std.specs.List.{Contains}
 use Rattle.std.specs.List.Sorted.{IsStrictlySortedBy}
 use Rattle.std.specs.Option.{option_map}
 use Rattle.std.proofs.Math.Seq.{get_or-append_seam}
 use Rattle.std.proofs.lemmas.List.{get_or_default, length-append}
 use Rattle.std.proofs.lemmas.Option.{none-some, slice_get-map}
 use Rattle.sm_ids.specs.IdText.{IsIdText}
-use Rattle.sm_model.specs.Graphs.{GraphMaps, member_id, text_cmp}
+use Rattle.sm_model.specs.Graphs.{member_id, text_cmp}
 use Rattle.sm_model.specs.GraphView.{entries_of, maps_of}
 use Rattle.sm_model.specs.Reaching.{AreMarks, id_of_number}
 use Rattle.sm_model.specs.declared.graph.Graph.{Graph}
 use Rattle.sm_shapes.specs.Fitting.{Test}
-use Rattle.sm_shapes.specs.InOrder.{AreStored, Built}
+use Rattle.sm_shapes.specs.InOrder.{AreStored}
 use Rattle.sm_shapes.specs.Names.{AllDiffer}
 use Rattle.sm_shapes.specs.TableData.{TableData}
 use Rattle.sm_shapes.specs.TableView.{table_data}
 use Rattle.sm_compile.specs.Answers.{IsShapeCompiled, StoreSeen, TellsServed}
 use Rattle.sm_compile.specs.Compiled.{AreNumberedFrom, ArePatternsOf, CarriesPattern, IsCompiled, IsTabled, PatternRows, members_under, texts_of}
-use Rattle.sm_compile.specs.Kinds.{value_members}
 use Rattle.sm_compile.specs.Reached.{IsReached}
 use Rattle.sm_compile.specs.declared.compiled.Served.{Served}
 use Rattle.sm_compile.specs.declared.patterns.CarriedTexts.{CarriedTexts}

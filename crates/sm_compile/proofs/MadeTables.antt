@@ -1,11 +1,11 @@
 -- A table that is made of shapes that are ready is in order, and says what the graph says.
-use Rattle.std.proofs.Common.{◌≡◌, inl, inr, ℕ, zero, suc, ◌+◌, ◌<◌, ◌≤◌, Bool, true, false, cond, List, [], ◌∷◌, map, length, get_or, Option, Some, None, refl, sym, ap, ◌∙◌, subst, arith}
+use Rattle.std.proofs.Common.{◌≡◌, ℕ, ◌+◌, ◌<◌, true, cond, List, [], ◌∷◌, map, length, get_or, Option, Some, None, refl, sym, ap, ◌∙◌, subst, arith}
 use Rattle.std.specs.Prelude.{IsUtf8, slice_get}
 use Rattle.std.specs.List.{Contains, filter}
 use Rattle.std.specs.Ordering.{nat_cmp}
 use Rattle.std.specs.List.Sorted.{IsStrictlySortedBy}
 use Rattle.std.proofs.lemmas.List.{length-map}
-use Rattle.std.proofs.lemmas.Option.{none-some, slice_get_within}
+use Rattle.std.proofs.lemmas.Option.{none-some}
 use Rattle.sm_tree.specs.Node.{Node}
 use Rattle.sm_model.specs.Formed.{HaveForm}
 use Rattle.sm_model.specs.Graphs.{GraphMaps, ShapeEntry, shape_entry, member_entry, member_id}
@@ -19,12 +19,12 @@ use Rattle.sm_model.specs.declared.kind.Kind.TheVariants as model
 use Rattle.sm_shapes.specs.DefaultPuts.{HasNoDefault}
 use Rattle.sm_shapes.specs.InOrder.{AreByName, AreMembersOf, HasItsMembers, IsTextKind, MayDefault, MayHaveNode, NamesPattern, Shaped, is_needed}
 use Rattle.sm_shapes.specs.Names.{AllDiffer}
-use Rattle.sm_shapes.specs.TableData.{MemberData, ShapeData, TableData, binding_in, by_json_name_in, by_name_in, constraints_at, constraints_in, default_at, default_in, default_node_at, default_node_in, home_at, home_in, json_name_at, json_name_in, kind_at, kind_in, member_count, members_at, members_in, name_at, name_in, needed_in, shape_constraints_at, shape_constraints_in, shape_count, target_at, target_in}
+use Rattle.sm_shapes.specs.TableData.{MemberData, ShapeData, TableData, binding_in, by_json_name_in, by_name_in, constraints_in, default_at, default_in, default_node_at, default_node_in, home_at, home_in, json_name_at, json_name_in, kind_at, kind_in, member_count, members_at, members_in, name_at, name_in, needed_in, shape_constraints_in, shape_count, target_at, target_in}
 use Rattle.sm_compile.specs.Compiled.{AllUnbound, EachSays, NoMediaTypes, SaysMember, SaysShape, members_under}
 use Rattle.sm_compile.specs.Kinds.{has_value_members, table_kind}
 use Rattle.sm_compile.specs.Sound.{HasTextKey, TargetsText}
 use Rattle.sm_compile.specs.steps.Making.{IsMade}
-use Rattle.sm_compile.specs.steps.Numbered.{AreReady, IsMemberRow, IsReadyShape, IsShapeRow, count_of_shape, first_of_shape, numbering, run}
+use Rattle.sm_compile.specs.steps.Numbered.{AreReady, IsMemberRow, IsShapeRow, count_of_shape, first_of_shape, numbering, run}
 use Rattle.sm_compile.proofs.Blocks.{one_block, run_long, run_within, within_run}
 use Rattle.sm_compile.proofs.MemberNames.{all_long, id_here, json_names_there_differ, names_there_differ, row_here, row_members, there_at, value_names, within_rows}
 use Rattle.sm_compile.proofs.ReadyRows.{members_are, ready_shape, row_id}

@@ -1,5 +1,5 @@
 -- The table of marked shapes, put together from what its parts tell.
-use Rattle.std.proofs.Common.{◌≡◌, ℕ, ◌<◌, Bool, List, [], ◌∷◌, ◌++◌, length, refl, sym, ap, ◌∙◌, subst, arith, append-nil}
+use Rattle.std.proofs.Common.{◌≡◌, ℕ, ◌<◌, Bool, List, length, sym, ap, ◌∙◌, subst, arith}
 use Rattle.std.specs.Prelude.{◌^◌, Err}
 use Rattle.std.proofs.lemmas.List.{length-map}
 use Rattle.sm_model.specs.GraphRows.{ids_of, row_entry}
@@ -7,9 +7,8 @@ use Rattle.sm_model.specs.GraphView.{entries_of, maps_of}
 use Rattle.sm_model.specs.declared.graph.Graph.{Graph}
 use Rattle.sm_shapes.specs.TableData.{MemberData, ShapeData, TableData}
 use Rattle.sm_shapes.specs.TableView.{table_data}
-use Rattle.sm_shapes.specs.declared.tables.Table.{Table}
 use Rattle.sm_compile.specs.Answers.{StoreSeen}
-use Rattle.sm_compile.specs.Compiled.{PatternRows, texts_of}
+use Rattle.sm_compile.specs.Compiled.{PatternRows}
 use Rattle.sm_compile.specs.declared.compiled.CompileRefusal.{CompileRefusal}
 use Rattle.sm_compile.specs.declared.compiled.CompileRefusal.TheVariants.{NoShape, Pattern, NoMemory}
 use Rattle.sm_compile.specs.declared.patterns.CarriedTexts.{CarriedTexts}

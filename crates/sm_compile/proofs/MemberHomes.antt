@@ -1,14 +1,14 @@
 -- The id of a member names the shape in which it stands, so that no member stands in two shapes.
-use Rattle.std.proofs.Common.{◌≡◌, inl, inr, ℕ, Bool, true, false, not, ◌==◌, List, [], ◌∷◌, ◌++◌, map, Option, Some, None, refl, sym, ap, ◌∙◌, subst, arith, append_assoc, append-nil}
+use Rattle.std.proofs.Common.{◌≡◌, ℕ, Bool, true, not, ◌==◌, List, [], ◌∷◌, ◌++◌, Option, Some, None, refl, sym, ap, ◌∙◌, subst, arith, append_assoc, append-nil}
 use Rattle.std.specs.List.{Contains, flat_map, list_all}
 use Rattle.std.proofs.lemmas.Bool.Decides.{nat_tests}
 use Rattle.sm_ids.specs.Identifier.{is_identifier_byte, IsIdentifier}
-use Rattle.sm_ids.specs.IdText.{Id, IsId, IdText, IsIdText, member_text, printed}
+use Rattle.sm_ids.specs.IdText.{Id, IsId, IsIdText, member_text, printed}
 use Rattle.sm_ids.proofs.Cutting.{and_also, both, heads, list_all_weaker, tails}
 use Rattle.sm_ids.proofs.Identifiers.{made_of_bytes}
 use Rattle.sm_ids.proofs.Namespaces.{is_namespace_byte, namespace_bytes}
 use Rattle.sm_model.specs.Graphs.{member_id}
-use Rattle.sm_model.proofs.OneRising.{contains_behind, contains_either, contains_head, contains_none}
+use Rattle.sm_model.proofs.OneRising.{contains_behind, contains_head}
 use Rattle.sm_shapes.specs.Names.{AllDiffer, NoneIs}
 use Rattle.sm_compile.proofs.RowsAlike.{none_among}
 use Rattle.sm_compile.proofs.TabledMembers.{joined_from}

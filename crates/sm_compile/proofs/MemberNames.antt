@@ -1,11 +1,10 @@
 -- The names of a shape's members, in the graph and in the rows of a table.
-use Rattle.std.proofs.Common.{◌≡◌, inl, inr, ℕ, zero, suc, ◌+◌, ◌<◌, ◌≤◌, Bool, true, false, cond, List, [], ◌∷◌, ◌++◌, map, length, get_or, Option, Some, None, refl, sym, ap, ◌∙◌, subst, arith}
+use Rattle.std.proofs.Common.{◌≡◌, ℕ, zero, suc, ◌+◌, ◌<◌, ◌≤◌, Bool, true, false, cond, List, [], ◌∷◌, map, length, get_or, Some, refl, sym, ap, ◌∙◌, subst, arith}
 use Rattle.std.specs.Prelude.{slice_get, codes, unwrap_or}
 use Rattle.std.specs.FinMap as fin
-use Rattle.std.specs.List.{Contains, flat_map}
+use Rattle.std.specs.List.{flat_map}
 use Rattle.std.proofs.lemmas.List.{get_or-map, length-map, take_all}
 use Rattle.std.proofs.lemmas.List.Concat.{get_or-flat_map}
-use Rattle.std.proofs.lemmas.List.Elements.{Contains-get_or}
 use Rattle.sm_model.specs.Formed.{HaveForm}
 use Rattle.sm_model.specs.Graphs.{GraphMaps, ShapeEntry, member_id}
 use Rattle.sm_model.specs.GraphView.{maps_of}
@@ -14,15 +13,14 @@ use Rattle.sm_model.specs.Reaching.{id_of_number}
 use Rattle.sm_model.specs.declared.graph.Graph.{Graph}
 use Rattle.sm_model.specs.declared.kind.Kind.{Kind}
 use Rattle.sm_model.specs.declared.kind.Kind.TheVariants.{Blob, Boolean, Text, Enum, Byte, Short, Integer, IntEnum, Long, Float, Double, BigInteger, BigDecimal, Timestamp, Document, List as list_kind, Map, Structure, Union, Service, Operation, Resource}
-use Rattle.sm_model.proofs.OneRising.{contains_behind, contains_head}
 use Rattle.sm_shapes.specs.Names.{AllDiffer, NoneIs}
 use Rattle.sm_shapes.specs.TableData.{MemberData, json_name_at, json_name_in, name_at, name_in}
-use Rattle.sm_compile.specs.Compiled.{PatternRows, members_in, members_under}
+use Rattle.sm_compile.specs.Compiled.{PatternRows, members_under}
 use Rattle.sm_compile.specs.Kinds.{has_value_members, value_members}
 use Rattle.sm_compile.specs.Sound.{IsSoundShape, json_name_of, trait_in}
 use Rattle.sm_compile.specs.TraitIds.{json_name_id}
 use Rattle.sm_compile.specs.TraitNodes.{text_of}
-use Rattle.sm_compile.specs.steps.Numbered.{AreMemberRows, AreReady, EachAt, IsMemberRow, IsReadyShape, count_of_shape, first_of_shape, numbering, only_members, run}
+use Rattle.sm_compile.specs.steps.Numbered.{AreMemberRows, AreReady, IsMemberRow, count_of_shape, first_of_shape, numbering, only_members, run}
 use Rattle.sm_compile.proofs.Blocks.{first_next, first_rises, mapped_run, one_block}
 use Rattle.sm_compile.proofs.Differing.{differ_in_names}
 use Rattle.sm_compile.proofs.NamesBehind.{behind_one}

@@ -1,9 +1,9 @@
 -- Marked shapes of a graph that are in order, and are closed under steps, are ready to have rows.
-use Rattle.std.proofs.Common.{◌≡◌, inl, inr, ℕ, ◌<◌, ◌≤◌, Bool, true, false, ◌&&◌, not, cond, List, [], ◌∷◌, map, length, get_or, Option, Some, None, refl, sym, ap, ◌∙◌, subst, arith}
-use Rattle.std.specs.Prelude.{◌↔◌, ◌^◌}
+use Rattle.std.proofs.Common.{◌≡◌, inl, inr, ℕ, ◌<◌, Bool, true, false, not, cond, List, [], ◌∷◌, length, get_or, Some, refl, sym, ap, ◌∙◌, subst, arith}
+use Rattle.std.specs.Prelude.{◌^◌}
 use Rattle.std.specs.List.{Contains}
 use Rattle.std.proofs.lemmas.Option.{same_Some}
-use Rattle.sm_model.specs.Graphs.{Entry, shape_entry, member_entry, GraphMaps, ShapeEntry}
+use Rattle.sm_model.specs.Graphs.{shape_entry, member_entry, GraphMaps, ShapeEntry}
 use Rattle.sm_model.specs.GraphView.{IsShapeNumber, entries_of, maps_of}
 use Rattle.sm_model.specs.Reaching.{AreMarks, IsMarked, id_of_number}
 use Rattle.sm_model.specs.Relations.{HasEntry}
@@ -19,10 +19,10 @@ use Rattle.sm_compile.specs.Kinds.{has_value_members, has_values, may_target, me
 use Rattle.sm_compile.specs.Reached.{IsReached, LeadsBy, LeadsTo}
 use Rattle.sm_compile.specs.Sound.{IsSoundShape, IsValueShape, Sound}
 use Rattle.sm_compile.specs.steps.Carrying.{IsMarkedId}
-use Rattle.sm_compile.specs.steps.Looked.{IsReachedFrom, LeadsByNumber, kind_in, kind_under, listed_in, target_in, target_under}
-use Rattle.sm_compile.specs.steps.Numbered.{AreClosed, AreReady, IsReadyMember, IsReadyShape}
+use Rattle.sm_compile.specs.steps.Looked.{IsReachedFrom, kind_under, listed_in, target_in, target_under}
+use Rattle.sm_compile.specs.steps.Numbered.{AreClosed, AreReady, IsReadyMember}
 use Rattle.sm_compile.specs.steps.Soundness.{AreSoundBelow}
-use Rattle.sm_compile.specs.steps.Tabling.{has_values_where, is_tabled, tabled_below}
+use Rattle.sm_compile.specs.steps.Tabling.{has_values_where, tabled_below}
 use Rattle.sm_compile.proofs.ReachedNumbers.{to_member, to_target}
 use Rattle.sm_compile.proofs.ReadyRows.{sound_among, value_among}
 use Rattle.sm_compile.proofs.SoundTests.{both_of, first_of, second_of}

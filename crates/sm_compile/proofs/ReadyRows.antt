@@ -1,6 +1,5 @@
 -- What a table that can be made has at its shapes and members: what is looked up for a row is there, and the row says what the graph says.
-use Rattle.std.proofs.Common.{◌≡◌, inl, inr, ℕ, ◌<◌, Bool, true, false, cond, List, [], ◌∷◌, map, length, get_or, Option, Some, None, refl, sym, ap, ◌∙◌, subst, arith}
-use Rattle.std.specs.Prelude.{slice_get}
+use Rattle.std.proofs.Common.{◌≡◌, inl, inr, ℕ, ◌<◌, Bool, true, false, cond, List, [], ◌∷◌, map, length, get_or, Option, Some, None, refl, sym, ap, ◌∙◌, subst}
 use Rattle.std.specs.FinMap as fin
 use Rattle.std.specs.List.{Contains}
 use Rattle.std.specs.Option.{option_map, option_or}
@@ -8,7 +7,7 @@ use Rattle.std.proofs.lemmas.List.{get_or-map, length-map}
 use Rattle.std.proofs.lemmas.List.Elements.{Contains-get_or}
 use Rattle.std.proofs.lemmas.Option.{none-some, same_Some, slice_get-map}
 use Rattle.sm_tree.specs.Node.{Node}
-use Rattle.sm_model.specs.Graphs.{shape_entry, member_entry, GraphMaps, ShapeEntry, MemberEntry, member_id}
+use Rattle.sm_model.specs.Graphs.{shape_entry, member_entry, GraphMaps, member_id}
 use Rattle.sm_model.specs.GraphView.{IsShapeNumber, maps_of}
 use Rattle.sm_model.specs.Reaching.{id_of_number}
 use Rattle.sm_model.specs.Relations.{HasEntry}
@@ -17,12 +16,12 @@ use Rattle.sm_model.specs.declared.kind.Kind.{Kind}
 use Rattle.sm_model.proofs.OneRising.{contains_either, contains_none}
 use Rattle.sm_shapes.specs.TableView.{member_data}
 use Rattle.sm_shapes.specs.declared.tables.TableMember.{TableMember}
-use Rattle.sm_compile.specs.Compiled.{CarriesPattern, NamesText, Numbering, PatternRows, SaysMember, members_in, members_under}
+use Rattle.sm_compile.specs.Compiled.{NamesText, PatternRows, SaysMember, members_in, members_under}
 use Rattle.sm_compile.specs.Kinds.{has_value_members, is_text_kind, members_of_kind, value_members}
 use Rattle.sm_compile.specs.Said.{pattern_seen}
 use Rattle.sm_compile.specs.Sound.{AreSoundMembers, IsSoundMember, trait_in, trait_of}
 use Rattle.sm_compile.specs.TraitIds.{pattern_id}
-use Rattle.sm_compile.specs.TraitNodes.{effective_traits, own_traits, text_of}
+use Rattle.sm_compile.specs.TraitNodes.{effective_traits, text_of}
 use Rattle.sm_compile.specs.declared.rows.MemberPlace.{MemberPlace}
 use Rattle.sm_compile.specs.steps.Looked.{kind_in, kind_under, target_in, target_under}
 use Rattle.sm_compile.specs.steps.Numbered.{AreReady, IsReadyMember, IsReadyShape, numbering}

@@ -1,18 +1,16 @@
 -- A row more behind the rows of a table.
-use Rattle.std.proofs.Common.{◌≡◌, ℕ, ◌+◌, ◌<◌, ◌≤◌, List, [], ◌∷◌, ◌++◌, map, length, get_or, take, Option, None, refl, sym, ap, ◌∙◌, subst, arith}
+use Rattle.std.proofs.Common.{◌≡◌, ℕ, ◌+◌, ◌<◌, ◌≤◌, List, [], ◌∷◌, ◌++◌, map, length, get_or, sym, ap, ◌∙◌, subst, arith}
 use Rattle.std.specs.Prelude.{IsUtf8, unwrap_or}
-use Rattle.std.specs.List.{Contains, flat_map}
 use Rattle.std.proofs.lemmas.List.{get_or-map, length-append, length-map, map-append}
 use Rattle.std.proofs.lemmas.List.Concat.{get_or-flat_map}
 use Rattle.sm_ids.specs.IdText.{IsIdText}
 use Rattle.sm_model.specs.GraphView.{maps_of}
 use Rattle.sm_model.specs.Reaching.{id_of_number}
 use Rattle.sm_model.specs.declared.graph.Graph.{Graph}
-use Rattle.sm_shapes.specs.TableData.{MemberData}
 use Rattle.sm_shapes.specs.TableView.{member_data}
 use Rattle.sm_shapes.specs.declared.tables.TableMember.{TableMember}
 use Rattle.sm_compile.specs.Compiled.{IsUnboundMember, PatternRows, SaysMember, members_under}
-use Rattle.sm_compile.specs.steps.Numbered.{AreMemberRows, EachAt, IsMemberRow, count_of_shape, first_of_shape, numbering}
+use Rattle.sm_compile.specs.steps.Numbered.{EachAt, IsMemberRow, count_of_shape, first_of_shape, numbering}
 use Rattle.sm_compile.proofs.Blocks.{each_more, first_next}
 
 pub each_put : {A D : Type 0} (f : A → D) (Says : ℕ → D → Type 0) (old new : List A) (a : A) → new ≡ old ++ a ∷ [] → EachAt Says (map f old)

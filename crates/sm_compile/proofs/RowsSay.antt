@@ -1,9 +1,9 @@
 -- What a row of a table tells by numbers of a graph it says of the shape or member with that number's id.
-use Rattle.std.proofs.Common.{◌≡◌, ℕ, Bool, List, [], map, get_or, Option, Some, None, cond, refl, sym, ap, ◌∙◌, subst}
+use Rattle.std.proofs.Common.{◌≡◌, ℕ, List, [], map, get_or, Some, None, cond, sym, ap, ◌∙◌, subst}
 use Rattle.std.specs.Prelude.{is_some}
 use Rattle.std.specs.FinMap as fin
 use Rattle.std.proofs.lemmas.Option.{same_Some}
-use Rattle.sm_model.specs.Graphs.{Entry, shape_entry, member_entry, GraphMaps, ShapeEntry, MemberEntry}
+use Rattle.sm_model.specs.Graphs.{shape_entry, GraphMaps, ShapeEntry}
 use Rattle.sm_model.specs.GraphView.{maps_of}
 use Rattle.sm_model.specs.Reaching.{id_of_number}
 use Rattle.sm_model.specs.Relations.{HasEntry}

@@ -1,41 +1,28 @@
 -- A table that is made of shapes that are ready is in order.
-use Rattle.std.proofs.Common.{◌≡◌, ◌⊎◌, inl, inr, ℕ, zero, suc, ◌+◌, ◌<◌, ◌≤◌, Bool, true, false, cond, List, [], ◌∷◌, ◌++◌, map, length, get_or, Option, Some, None, refl, sym, ap, ◌∙◌, subst, arith}
+use Rattle.std.proofs.Common.{◌≡◌, inl, inr, ℕ, zero, suc, ◌+◌, ◌<◌, Bool, true, false, cond, List, [], ◌∷◌, length, get_or, Option, Some, None, refl, sym, subst, arith}
 use Rattle.std.specs.Prelude.{slice_get}
 use Rattle.std.specs.FinMap as fin
-use Rattle.std.specs.List.{AllByRecursion, Contains, filter}
+use Rattle.std.specs.List.{AllByRecursion, Contains}
 use Rattle.std.specs.List.Sorted.{IsStrictlySortedBy}
 use Rattle.std.specs.Cmp.{nat_cmp_is}
 use Rattle.std.specs.Ordering.{nat_cmp}
 use Rattle.std.specs.declared.cmp.Ordering.TheVariants.{Less}
-use Rattle.std.proofs.lemmas.List.{get_or-map, length-map}
-use Rattle.std.proofs.lemmas.List.Elements.{Contains-get_or}
-use Rattle.std.proofs.lemmas.Option.{none-some, same_Some, slice_get_within}
+use Rattle.std.proofs.lemmas.Option.{none-some, same_Some}
 use Rattle.sm_tree.specs.Node.{Node, null, bool, int, number, text, bytes, tag, opaque, list, object, no_nodes, node, no_members, member}
-use Rattle.sm_model.specs.Graphs.{GraphMaps, MemberEntry, ShapeEntry, shape_entry, member_entry, member_id}
-use Rattle.sm_model.specs.GraphView.{maps_of}
-use Rattle.sm_model.specs.Reaching.{id_of_number}
-use Rattle.sm_model.specs.Relations.{HasEntry}
-use Rattle.sm_model.specs.declared.graph.Graph.{Graph}
+use Rattle.sm_model.specs.Graphs.{MemberEntry}
 use Rattle.sm_model.specs.declared.kind.Kind.{Kind}
 use Rattle.sm_model.specs.declared.kind.Kind.TheVariants as model
-use Rattle.sm_model.proofs.OneRising.{contains_behind, contains_head, contains_none}
+use Rattle.sm_model.proofs.OneRising.{contains_behind, contains_head}
 use Rattle.sm_model.proofs.Worklist.{apart}
-use Rattle.sm_shapes.specs.DefaultPuts.{HasNoDefault}
-use Rattle.sm_shapes.specs.InOrder.{AreMembersOf, HasItsMembers, IsEmptyNode, IsTextKind, MayHaveNode, NamesPattern, Shaped, Built}
-use Rattle.sm_shapes.specs.Fitting.{Test}
-use Rattle.sm_shapes.specs.TableData.{MemberData, ShapeData, TableData, by_json_name_in, by_name_in, constraints_in, default_in, default_node_in, home_at, home_in, json_name_in, kind_at, kind_in, member_count, members_at, members_in, name_in, needed_in, shape_constraints_in, shape_count, target_at, target_in, texts_numbered, binding_in}
+use Rattle.sm_shapes.specs.InOrder.{AreMembersOf, IsEmptyNode, IsTextKind, MayHaveNode, NamesPattern}
+use Rattle.sm_shapes.specs.TableData.{MemberData, ShapeData, TableData, home_at, member_count}
 use Rattle.sm_shapes.specs.declared.kinds.ShapeKind.{ShapeKind}
 use Rattle.sm_shapes.specs.declared.kinds.ShapeKind.TheVariants as table
-use Rattle.sm_compile.specs.Compiled.{AllUnbound, EachSays, IsUnboundMember, NamesText, NoMediaTypes, PatternRows, SaysMember, SaysShape, members_under}
-use Rattle.sm_compile.specs.Kinds.{is_text_kind, table_kind, value_members}
+use Rattle.sm_compile.specs.Compiled.{AllUnbound, EachSays, IsUnboundMember, NamesText, NoMediaTypes}
+use Rattle.sm_compile.specs.Kinds.{is_text_kind, table_kind}
 use Rattle.sm_compile.specs.Said.{default_said, is_bound, is_empty_node, may_have_node, node_where}
-use Rattle.sm_compile.specs.Sound.{HasTextKey, TargetsText}
 use Rattle.sm_compile.specs.TraitIds.{default_id}
-use Rattle.sm_compile.specs.steps.Making.{IsMade}
-use Rattle.sm_compile.specs.steps.Numbered.{AreReady, EachAt, IsMemberRow, IsReadyShape, IsShapeRow, count_of_shape, first_of_shape, numbering, only_members, run}
-use Rattle.sm_compile.proofs.Blocks.{one_block, run_within, within_run}
-use Rattle.sm_compile.proofs.MemberNames.{all_long, json_names_there_differ, names_there_differ, row_here, row_members, there_at, value_names, within_rows}
-use Rattle.sm_compile.proofs.ReadyRows.{ready_shape, row_id}
+use Rattle.sm_compile.specs.steps.Numbered.{run}
 
 -- rows by their places are rows of ids
 pub each_says : {D : Type 0} (Says : List ℕ → D → Type 0) (ids : List (List ℕ)) (ds : List D) → length ids ≡ length ds

@@ -1,16 +1,15 @@
 -- The members of a table are exactly those at which values of its shapes stand, and its shapes differ.
-use Rattle.std.proofs.Common.{◌≡◌, ◌⊎◌, inl, inr, ℕ, List, [], ◌∷◌, ◌++◌, map, refl, sym, ap, ◌∙◌, subst}
+use Rattle.std.proofs.Common.{◌≡◌, inl, inr, ℕ, List, [], ◌∷◌, ◌++◌, sym, ap, subst}
 use Rattle.std.specs.Prelude.{◌↔◌}
 use Rattle.std.specs.Cmp.Lexicographic.{nat_list_cmp_total}
 use Rattle.std.specs.List.{AllByRecursion, Contains, flat_map}
 use Rattle.std.specs.List.Sorted.{IsStrictlySortedBy}
 use Rattle.std.specs.declared.cmp.Ordering.TheVariants.{Less}
 use Rattle.std.proofs.lemmas.List.Elements.{Contains-append_cases, Contains-append_left}
-use Rattle.sm_model.specs.Graphs.{text_cmp, GraphMaps, ShapeEntry, shape_entry}
+use Rattle.sm_model.specs.Graphs.{text_cmp, GraphMaps}
 use Rattle.sm_model.proofs.OneRising.{contains_behind, contains_either, contains_head, contains_none, not_before_itself}
 use Rattle.sm_shapes.specs.Names.{AllDiffer, NoneIs}
 use Rattle.sm_compile.specs.Compiled.{IsTabled, IsTabledMember, members_in, members_under}
-use Rattle.sm_compile.specs.Sound.{IsValueShape}
 
 -- what a function gives for a list, joined
 pub joined_from : {X Y : Type 0} (f : X → List Y) (xs : List X) (y : Y) → Contains (flat_map f xs) y

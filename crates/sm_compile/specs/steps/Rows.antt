@@ -1,5 +1,5 @@
 -- What the rows of a table tell of a shape and of a member, by their numbers in the graph.
-use Rattle.std.specs.Prelude.{◌≡◌, ℕ, List, None, Some, is_some}
+use Rattle.std.specs.Prelude.{◌≡◌, ℕ, None, Some, is_some}
 use Rattle.std.specs.Option.{option_map}
 use Rattle.std.specs.Str.{bytes_eq}
 use Rattle.sm_tree.specs.View.{node_of}

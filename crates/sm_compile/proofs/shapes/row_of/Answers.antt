@@ -1,4 +1,4 @@
-use Rattle.std.proofs.Common.{◌≡◌, ◌+◌, ◌<◌, length, map, subst, sym, ◌∙◌, arith}
+use Rattle.std.proofs.Common.{map, subst, sym, arith}
 use Rattle.std.proofs.lemmas.List.{length-map}
 use Rattle.sm_model.specs.GraphView.{maps_of}
 use Rattle.sm_shapes.specs.Names.{AllDiffer}

@@ -1,8 +1,8 @@
-use Rattle.std.proofs.Common.{◌≡◌, ◌+◌, length, map, subst, sym, ap, ◌∙◌, arith}
+use Rattle.std.proofs.Common.{◌≡◌, length, map, subst, sym, ◌∙◌, arith}
 use Rattle.std.proofs.lemmas.List.{length-map}
 use Rattle.sm_model.specs.GraphView.{maps_of}
 use Rattle.sm_shapes.specs.TableView.{member_data, shape_data}
-use Rattle.sm_compile.specs.steps.Numbered.{IsShapeRow, count_of_shape, first_of_shape, numbering}
+use Rattle.sm_compile.specs.steps.Numbered.{IsShapeRow, numbering}
 use Rattle.sm_compile.proofs.RowsPut.{each_put, first_more, one_longer}
 use Rattle.sm_compile.proofs.shapes.shape_rows.Goals as goal
 

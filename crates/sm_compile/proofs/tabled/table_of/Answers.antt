@@ -1,4 +1,4 @@
-use Rattle.std.proofs.Common.{length, map, subst, sym, ◌∙◌}
+use Rattle.std.proofs.Common.{length, map, subst, ◌∙◌}
 use Rattle.std.proofs.lemmas.List.{length-map}
 use Rattle.sm_model.specs.GraphView.{maps_of}
 use Rattle.sm_shapes.specs.TableView.{member_data, shape_data, table_data}
