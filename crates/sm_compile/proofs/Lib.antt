@@ -48,3 +48,4 @@ mod UriPaths
 mod UriQueries
 mod UriHeld
 pub mod UriOnce
+pub mod UriRouted

@@ -130,7 +130,8 @@ behind_greedy [] going = let f : true ≡ false = going in cc
 behind_greedy (c ∷ v) going = λ more (g, rest, e, ends). by_mark g more rest e ends
   where
     by_mark : (g : Bool) (more rest : List ℕ) → 43 ∷ 125 ∷ c ∷ more ≡ closing_text g ++ rest → ends_segment rest ≡ true → ⊥
-    by_mark true more rest e ends = goes_on c more rest (tails 125 125 (c ∷ more) rest (tails 43 43 (125 ∷ c ∷ more) (125 ∷ rest) e)) ends going
+    by_mark true more rest e ends = goes_on c more rest (tails 125 125 (c ∷ more) rest (tails 43 43 (125 ∷ c ∷ more) (125 ∷ rest) e))
+        ends going
     by_mark false more rest e ends = plus_is_no_brace 43 125 refl refl (heads 43 125 (125 ∷ c ∷ more) rest e)
 
 behind_plain : (behind : List ℕ) → ends_segment behind ≡ false → NoneGoesOn BeginsWithClosing (125 ∷ []) behind
@@ -187,7 +188,8 @@ no_closing (c ∷ v) plus none = λ more (g, rest, e, ends). by_mark g more rest
     by_mark false more rest e = none v (ap (λ d. d ∷ v) (heads c 125 more rest e))
 
 -- none is closed
-pub closing_none : (text closing : List ℕ) → IsMarked text closing → ((more : List ℕ) → closing ≡ 125 ∷ more → ⊥) → HasNoClosing text closing
+pub closing_none : (text closing : List ℕ) → IsMarked text closing → ((more : List ℕ) → closing ≡ 125 ∷ more → ⊥)
+    → HasNoClosing text closing
 closing_none text closing (inl e) none = record {
   taken = 43 ∷ [];
   cut = e;

@@ -105,10 +105,12 @@ greedy_last_label greedy name (Literal t ∷ xs) h = greedy_last_label greedy na
 greedy_last_label greedy name (Label n ∷ xs) h = greedy_last_label greedy name xs h
 greedy_last_label greedy name (Greedy n ∷ xs) h = cc
 
-no_names : (xs : List Segment) (greedy : Bool) (name : List ℕ) (more : List Segment) → label_names (xs ++ labelled greedy name ∷ more) ≡ [] → ⊥
+no_names : (xs : List Segment) (greedy : Bool) (name : List ℕ) (more : List Segment)
+    → label_names (xs ++ labelled greedy name ∷ more) ≡ [] → ⊥
 no_names xs greedy name more h =
     empty (label_names xs) (label_names more)
-    (sym (names_of_both xs (labelled greedy name ∷ more) ∙ ap (λ ns. label_names xs ++ (ns ++ label_names more)) (name_of_label greedy name)) ∙ h)
+    (sym (names_of_both xs (labelled greedy name ∷ more) ∙ ap (λ ns. label_names xs ++ (ns ++ label_names more))
+    (name_of_label greedy name)) ∙ h)
   where
     empty : (a b : List (List ℕ)) → a ++ name ∷ b ≡ [] → ⊥
     empty [] b e = cc

@@ -29,7 +29,7 @@ same_tail (s ∷ ss) (t ∷ ts) ls ks h k e =
     (λ i. one.0 i ∷ rest.0 i, rest.1)
 
 -- a path and the query behind it
-same_path : (ss ts : List Segment) (ls ks : List QueryLiteral) → list_all is_segment ss ≡ true → list_all is_segment ts ≡ true
+pub same_path : (ss ts : List Segment) (ls ks : List QueryLiteral) → list_all is_segment ss ≡ true → list_all is_segment ts ≡ true
     → path_text ss ++ query_text ls ≡ path_text ts ++ query_text ks → (ss ≡ ts) × (query_text ls ≡ query_text ks)
 same_path [] [] ls ks h k e = (refl, tails 47 47 (query_text ls) (query_text ks) e)
 same_path [] (t ∷ ts) ls ks h k e =
@@ -67,18 +67,20 @@ same_more (l ∷ ls) [] h k e = cc
 same_more (l ∷ ls) (m ∷ ks) h k e =
     let a = both (is_query_literal l) (list_all is_query_literal ls) h in
     let b = both (is_query_literal m) (list_all is_query_literal ks) k in
-    let c = one_cut is_value_byte (literal_text l) (literal_text m) (more_text ls) (more_text ks) (literal_passes l a.0) (literal_passes m b.0)
+    let c = one_cut is_value_byte (literal_text l) (literal_text m) (more_text ls) (more_text ks) (literal_passes l a.0)
+    (literal_passes m b.0)
     (more_ends ls) (more_ends ks) (tails 38 38 (literal_text l ++ more_text ls) (literal_text m ++ more_text ks) e) in
     let first = same_literal l m a.0 b.0 c.0 in
     let rest = same_more ls ks a.1 b.1 c.1 in
     λ i. first i ∷ rest i
 
-same_query : (ls ks : List QueryLiteral) → list_all is_query_literal ls ≡ true → list_all is_query_literal ks ≡ true
+pub same_query : (ls ks : List QueryLiteral) → list_all is_query_literal ls ≡ true → list_all is_query_literal ks ≡ true
     → query_text ls ≡ query_text ks → ls ≡ ks
 same_query [] [] h k e = refl
 same_query [] (m ∷ ks) h k e = cc
 same_query (l ∷ ls) [] h k e = cc
-same_query (l ∷ ls) (m ∷ ks) h k e = same_more (l ∷ ls) (m ∷ ks) h k (ap (λ x. 38 ∷ x) (tails 63 63 (literal_text l ++ more_text ls) (literal_text m ++ more_text ks) e))
+same_query (l ∷ ls) (m ∷ ks) h k e = same_more (l ∷ ls) (m ∷ ks) h k
+    (ap (λ x. 38 ∷ x) (tails 63 63 (literal_text l ++ more_text ls) (literal_text m ++ more_text ks) e))
 
 pub one_uri : OneUri
 one_uri u v text h k =

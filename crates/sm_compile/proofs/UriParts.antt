@@ -37,7 +37,8 @@ pub label_more : (before : List Segment) (greedy : Bool) (name : List ℕ) → A
     → AreSegments (before ++ labelled greedy name ∷ [])
 label_more before greedy name u h new first = record {
   segments = all_both is_segment before (labelled greedy name ∷ []) u.segments (ap (λ b. b && true) (label_is_segment greedy name h));
-  names = subst AllDiffer (sym (names_of_both before (labelled greedy name ∷ []) ∙ ap (λ ns. label_names before ++ (ns ++ [])) (name_of_label greedy name)))
+  names = subst AllDiffer (sym (names_of_both before (labelled greedy name ∷ [])
+      ∙ ap (λ ns. label_names before ++ (ns ++ [])) (name_of_label greedy name)))
       (differ_more name (label_names before) u.names new);
   greedy = greedy_last_label greedy name before first;
   literals = refl;
@@ -96,9 +97,11 @@ ends_literal (c ∷ x) h = end_is_no_literal c h
 text_cut : (s : Segment) (t x y : List ℕ) → is_segment s ≡ true → is_text_of is_literal_byte t ≡ true → EndsRun is_literal_byte x
     → ends_segment y ≡ true → t ++ x ≡ body_text s ++ y → ends_segment x ≡ true
 text_cut (Literal u) t x y hs ht ox ey e =
-    let c = one_cut is_literal_byte t u x y (text_passes is_literal_byte t ht) (text_passes is_literal_byte u hs) ox (ends_literal y ey) e in
+    let c = one_cut is_literal_byte t u x y (text_passes is_literal_byte t ht) (text_passes is_literal_byte u hs) ox
+    (ends_literal y ey) e in
     subst (λ z. ends_segment z ≡ true) (sym c.1) ey
-text_cut (Label n) t x y hs ht ox ey e = absurd (let f : false ≡ true = text_first is_literal_byte t x ((n ++ 125 ∷ []) ++ y) 123 ht e in cc)
+text_cut (Label n) t x y hs ht ox ey e = absurd (let f : false ≡ true = text_first is_literal_byte t x
+    ((n ++ 125 ∷ []) ++ y) 123 ht e in cc)
 text_cut (Greedy n) t x y hs ht ox ey e =
     absurd (let f : false ≡ true = text_first is_literal_byte t x ((n ++ 43 ∷ 125 ∷ []) ++ y) 123 ht e in cc)
 
@@ -157,7 +160,8 @@ by_brace before rest (Greedy n) more literals h e u = record {
   more = more;
   literals = literals;
   is_name = h;
-  spelled = tails 123 123 rest ((n ++ 43 ∷ 125 ∷ []) ++ tail_text more literals) e ∙ append_assoc n (43 ∷ 125 ∷ []) (tail_text more literals);
+  spelled = tails 123 123 rest ((n ++ 43 ∷ 125 ∷ []) ++ tail_text more literals) e
+      ∙ append_assoc n (43 ∷ 125 ∷ []) (tail_text more literals);
   is_uri = u;
 }
 
@@ -198,7 +202,12 @@ name_stops before inside rest u first h =
           (new_name (h.low_lines ++ 65 ∷ []) (label_names before)));
       none =
           none_behind (λ c. Bool.false) (AfterSlash before) BeginsWithName (123 ∷ []) inside h.low_lines rest
-          (λ x ends l. let a = after_brace before x l in (a.name, closing_text a.greedy ++ tail_text a.more a.literals, a.is_name, a.spelled))
+          (λ x ends l. let a = after_brace before x l in (
+            a.name,
+            closing_text a.greedy ++ tail_text a.more a.literals,
+            a.is_name,
+            a.spelled,
+          ))
           (ends_none inside) h.cut h.none;
     }
 
@@ -250,7 +259,8 @@ behind_name before name rest h ends l =
       is_uri = subst (λ n. IsUri (record { segments = before ++ labelled a.greedy n ∷ a.more; literals = a.literals })) (sym c.0) a.is_uri;
     }
 
-name_twice : (before : List Segment) (name rest : List ℕ) → is_among_names name (label_names before) ≡ true → NamedAhead before name rest → ⊥
+name_twice : (before : List Segment) (name rest : List ℕ) → is_among_names name (label_names before) ≡ true
+    → NamedAhead before name rest → ⊥
 name_twice before name rest twice a =
     not_twice name (label_names before) (label_names a.more) twice
     (subst AllDiffer (names_of_both before (labelled a.greedy name ∷ a.more)

@@ -88,7 +88,8 @@ pub path_end : (text : List ℕ) (before : List Segment) (s : Segment) (rest beh
 path_end text before s rest behind t u e ends none = record {
   is_uri = u;
   spelled =
-      t.spelled ∙ ap (λ x. slashed before ++ 47 ∷ x) e ∙ sym (flat_more before s behind) ∙ ap (λ x. x ++ behind) (sym (path_some before s []));
+      t.spelled ∙ ap (λ x. slashed before ++ 47 ∷ x) e ∙ sym (flat_more before s behind)
+      ∙ ap (λ x. x ++ behind) (sym (path_some before s []));
   ends = ends_there behind ends none;
   leads = λ x l.
       tail_question (before ++ s ∷ []) x
@@ -136,7 +137,8 @@ path_stops text before rest left t b =
     (stops_behind (λ c. Bool.false) IsUriText (AfterSlash before) w rest left (λ x o l. t.leads x (subst IsUriText (joined x) l))
     (λ x a. subst IsUriText (sym (joined x)) (ahead_whole before x a)) (ends_none rest) b)
 
-uri_head : (segments : List Segment) (literals : List QueryLiteral) (x : List ℕ) (c : ℕ) → c ∷ x ≡ path_text segments ++ query_text literals → c ≡ 47
+uri_head : (segments : List Segment) (literals : List QueryLiteral) (x : List ℕ) (c : ℕ)
+    → c ∷ x ≡ path_text segments ++ query_text literals → c ≡ 47
 uri_head [] literals x c e = heads c 47 x _ e
 uri_head (s ∷ ss) literals x c e = heads c 47 x _ e
 
@@ -200,11 +202,13 @@ among_more p [] y = or_false (p y)
     or_false false = refl
 among_more p (x ∷ xs) y = by_first (p x) (among_more p xs y)
   where
-    by_first : (b : Bool) → list_any p (xs ++ y ∷ []) ≡ (list_any p xs || p y) → (b || list_any p (xs ++ y ∷ [])) ≡ ((b || list_any p xs) || p y)
+    by_first : (b : Bool) → list_any p (xs ++ y ∷ []) ≡ (list_any p xs || p y)
+        → (b || list_any p (xs ++ y ∷ [])) ≡ ((b || list_any p xs) || p y)
     by_first true e = refl
     by_first false e = e
 
-names_more : (before : List Segment) (greedy : Bool) (name : List ℕ) → label_names (before ++ labelled greedy name ∷ []) ≡ label_names before ++ name ∷ []
+names_more : (before : List Segment) (greedy : Bool) (name : List ℕ)
+    → label_names (before ++ labelled greedy name ∷ []) ≡ label_names before ++ name ∷ []
 names_more before greedy name =
     names_of_both before (labelled greedy name ∷ []) ∙ ap (λ ns. label_names before ++ (ns ++ [])) (name_of_label greedy name)
 
@@ -242,7 +246,8 @@ literal_read old new rest text behind r is names greedy e h ends = record {
 
 -- a label was read
 pub label_read : (old new : reader.Path) (greedy : Bool) (name inside closing behind : List ℕ) → IsPathRead old → old.greedy ≡ false
-    → IsNameCut inside name closing → holds_text old.names name ≡ false → closing ≡ closing_text greedy ++ behind → ends_segment behind ≡ true
+    → IsNameCut inside name closing → holds_text old.names name ≡ false → closing ≡ closing_text greedy ++ behind
+    → ends_segment behind ≡ true
     → new.segments.items ≡ old.segments.items ++ labelled greedy name ∷ []
     → ((id : List ℕ) → holds_text new.names id ≡ (holds_text old.names id || bytes_eq name id)) → new.greedy ≡ greedy
     → IsSegmentRead old new (123 ∷ inside) behind
@@ -267,10 +272,12 @@ label_read old new greedy name inside closing behind r first n absent e ends is 
 -- literal text stops
 pub text_stops : (before : List Segment) (rest taken behind : List ℕ) → AreSegments before → IsNotRoot before rest
     → ((more : List ℕ) → rest ≡ 123 ∷ more → ⊥) → rest ≡ taken ++ behind → EndsRun is_literal_byte behind
-    → (taken ≡ []) ⊎ ((is_text_of is_literal_byte taken ≡ true) × (ends_segment behind ≡ false)) → StopsBefore (AfterSlash before) rest behind
+    → (taken ≡ []) ⊎ ((is_text_of is_literal_byte taken ≡ true) × (ends_segment behind ≡ false))
+    → StopsBefore (AfterSlash before) rest behind
 text_stops before rest taken behind u root brace e ends (inl none) =
     let same : rest ≡ behind = e ∙ ap (λ x. x ++ behind) none in
-    subst (λ x. StopsBefore (AfterSlash before) rest x) same (empty_stops before rest u root (subst (EndsRun is_literal_byte) (sym same) ends) brace)
+    subst (λ x. StopsBefore (AfterSlash before) rest x) same (empty_stops before rest u root
+    (subst (EndsRun is_literal_byte) (sym same) ends) brace)
 text_stops before rest taken behind u root brace e ends (inr k) =
     subst (λ x. StopsBefore (AfterSlash before) x behind) (sym e) (literal_stops before taken behind u k.0 ends k.1)
 
@@ -304,7 +311,8 @@ query_refused text segments behind query (At left) p e r = query_stops text segm
 query_refused text segments behind query NoMemory p e r = tt
 
 -- nothing was read yet
-pub path_none : (p : reader.Path) → p.segments.items ≡ [] → ((id : List ℕ) → holds_text p.names id ≡ false) → p.greedy ≡ false → IsPathRead p
+pub path_none : (p : reader.Path) → p.segments.items ≡ [] → ((id : List ℕ) → holds_text p.names id ≡ false) → p.greedy ≡ false
+    → IsPathRead p
 path_none p none empty first = record {
   is_uri = subst AreSegments (sym none) no_segments;
   names = λ id. empty id ∙ sym (ap (λ ss. list_any (λ k. bytes_eq k id) (label_names ss)) none);

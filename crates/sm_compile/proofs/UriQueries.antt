@@ -31,7 +31,8 @@ more_ends (l ∷ ls) = refl
 behind_literal : (l m : QueryLiteral) (ms : List QueryLiteral) (x : List ℕ) → is_query_literal l ≡ true → is_query_literal m ≡ true
     → EndsRun is_value_byte x → literal_text l ++ x ≡ literal_text m ++ more_text ms → x ≡ more_text ms
 behind_literal l m ms x h k ends e =
-    (one_cut is_value_byte (literal_text l) (literal_text m) x (more_text ms) (literal_passes l h) (literal_passes m k) ends (more_ends ms) e).1
+    (one_cut is_value_byte (literal_text l) (literal_text m) x (more_text ms) (literal_passes l h) (literal_passes m k) ends
+    (more_ends ms) e).1
 
 -- behind a literal of a query come no more, or an `&` and more
 after_literal : (l : QueryLiteral) (x : List ℕ) → is_query_literal l ≡ true → EndsRun is_value_byte x → QueryAhead (literal_text l ++ x)

@@ -33,8 +33,10 @@ pub label_is_segment : (greedy : Bool) (name : List ℕ) → IsIdentifier name �
 label_is_segment true name h = h
 label_is_segment false name h = h
 
-inner_name : (name tail : List ℕ) → is_identifier name ≡ true → list_all is_inner_byte tail ≡ true → list_all is_inner_byte (name ++ tail) ≡ true
-inner_name name tail h k = all_both is_inner_byte name tail (list_all_weaker is_identifier_byte is_inner_byte name_inner name (made_of_bytes name h)) k
+inner_name : (name tail : List ℕ) → is_identifier name ≡ true → list_all is_inner_byte tail ≡ true
+    → list_all is_inner_byte (name ++ tail) ≡ true
+inner_name name tail h k = all_both is_inner_byte name tail (list_all_weaker is_identifier_byte is_inner_byte name_inner name
+    (made_of_bytes name h)) k
 
 inner_body : (s : Segment) → is_segment s ≡ true → list_all is_inner_byte (body_text s) ≡ true
 inner_body (Literal t) h = list_all_weaker is_literal_byte is_inner_byte literal_inner t (text_passes is_literal_byte t h)
@@ -42,7 +44,8 @@ inner_body (Label name) h = inner_name name (125 ∷ []) h refl
 inner_body (Greedy name) h = inner_name name (43 ∷ 125 ∷ []) h refl
 
 -- what a body begins with
-pub body_first : (s : Segment) (x more : List ℕ) (c : ℕ) → is_segment s ≡ true → body_text s ++ x ≡ c ∷ more → (is_literal_byte c ≡ true) ⊎ (c ≡ 123)
+pub body_first : (s : Segment) (x more : List ℕ) (c : ℕ) → is_segment s ≡ true → body_text s ++ x ≡ c ∷ more
+    → (is_literal_byte c ≡ true) ⊎ (c ≡ 123)
 body_first (Literal t) x more c h e = inl (text_first is_literal_byte t x more c h e)
 body_first (Label name) x more c h e = inr (sym (heads 123 c ((name ++ 125 ∷ []) ++ x) more e))
 body_first (Greedy name) x more c h e = inr (sym (heads 123 c ((name ++ 43 ∷ 125 ∷ []) ++ x) more e))
@@ -54,7 +57,8 @@ body_some (Label name) x h e = cc
 body_some (Greedy name) x h e = cc
 
 -- a name in a label's text, cut from what closes the label
-pub one_name : (name other x y : List ℕ) → IsIdentifier name → IsIdentifier other → EndsRun is_identifier_byte x → EndsRun is_identifier_byte y
+pub one_name : (name other x y : List ℕ) → IsIdentifier name → IsIdentifier other → EndsRun is_identifier_byte x
+    → EndsRun is_identifier_byte y
     → name ++ x ≡ other ++ y → (name ≡ other) × (x ≡ y)
 one_name name other x y h k ox oy e = one_cut is_identifier_byte name other x y (made_of_bytes name h) (made_of_bytes other k) ox oy e
 
@@ -66,7 +70,8 @@ one_body (Literal t) (Literal u) h k e = ap Literal e
 one_body (Literal t) (Label n) h k e = absurd (no_brace t (n ++ 125 ∷ []) h e)
 one_body (Literal t) (Greedy n) h k e = absurd (no_brace t (n ++ 43 ∷ 125 ∷ []) h e)
 one_body (Label n) (Literal u) h k e = absurd (no_brace u (n ++ 125 ∷ []) k (sym e))
-one_body (Label n) (Label m) h k e = ap Label (one_name n m (125 ∷ []) (125 ∷ []) h k refl refl (tails 123 123 (n ++ 125 ∷ []) (m ++ 125 ∷ []) e)).0
+one_body (Label n) (Label m) h k e = ap Label (one_name n m (125 ∷ []) (125 ∷ []) h k refl refl
+    (tails 123 123 (n ++ 125 ∷ []) (m ++ 125 ∷ []) e)).0
 one_body (Label n) (Greedy m) h k e =
     let c = (one_name n m (125 ∷ []) (43 ∷ 125 ∷ []) h k refl refl (tails 123 123 (n ++ 125 ∷ []) (m ++ 43 ∷ 125 ∷ []) e)).1 in
     absurd (let f : 125 ≡ 43 = heads 125 43 [] (125 ∷ []) c in omega (arith, f))
@@ -89,7 +94,8 @@ tail_ends [] [] = refl
 tail_ends [] (l ∷ ls) = refl
 tail_ends (s ∷ ss) ls = refl
 
-pub middle_is : (before : List Segment) (s : Segment) (more : List Segment) → list_all is_segment (before ++ s ∷ more) ≡ true → is_segment s ≡ true
+pub middle_is : (before : List Segment) (s : Segment) (more : List Segment) → list_all is_segment (before ++ s ∷ more) ≡ true
+    → is_segment s ≡ true
 middle_is before s more h =
     (both (is_segment s) (list_all is_segment more)
     (both (list_all is_segment before) (list_all is_segment (s ∷ more)) (sym (list_all-append is_segment before (s ∷ more)) ∙ h)).1).0
@@ -147,8 +153,9 @@ tail_question segments x t = by_more t.more t.literals t.spelled t.is_uri
     by_more (s ∷ ss) ls e u = absurd (let f : 63 ≡ 47 = heads 63 47 x _ e in omega (arith, f))
 
 pub root_question : (x : List ℕ) → AfterSlash [] (63 ∷ x) → QueryAhead x
-root_question x (inl a) = absurd (elim (body_first a.segment (tail_text a.more a.literals) x 63 (middle_is [] a.segment a.more a.is_uri.segments) (sym a.spelled)) [
-  | inl k ↦ let f : false ≡ true = k in cc
-  | inr k ↦ let f : 63 ≡ 123 = k in omega (arith, f)
-])
+root_question x (inl a) = absurd (elim (body_first a.segment (tail_text a.more a.literals) x 63
+    (middle_is [] a.segment a.more a.is_uri.segments) (sym a.spelled)) [
+      | inl k ↦ let f : false ≡ true = k in cc
+      | inr k ↦ let f : 63 ≡ 123 = k in omega (arith, f)
+    ])
 root_question x (inr r) = (r.literals, record { spelled = r.spelled; are = r.are })

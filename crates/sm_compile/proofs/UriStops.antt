@@ -15,7 +15,8 @@ pub none_behind : (p : ℕ → Bool) (L M : List ℕ → Type 0) (w s taken r : 
     → EndsRun p s → s ≡ taken ++ r → NoneGoesOn M taken r → NoneGoesOn L (w ++ taken) r
 none_behind p L M w s taken [] onward ends e none = λ l. none (onward taken (subst (EndsRun p) (e ∙ append-nil taken) ends) l)
 none_behind p L M w s taken (c ∷ v) onward ends e none = λ more l.
-    none more (onward (taken ++ c ∷ more) (same_end p taken c v more (subst (EndsRun p) e ends)) (subst L (append_assoc w taken (c ∷ more)) l))
+    none more (onward (taken ++ c ∷ more) (same_end p taken c v more (subst (EndsRun p) e ends))
+    (subst L (append_assoc w taken (c ∷ more)) l))
 
 -- where the rest stops, the whole does
 pub stops_behind : (p : ℕ → Bool) (L M : List ℕ → Type 0) (w s r : List ℕ) → ((x : List ℕ) → EndsRun p x → L (w ++ x) → M x)
@@ -48,7 +49,8 @@ longer taken (c ∷ v) n above within = let e : length taken + suc (n - length t
   ap (λ k. take k (taken ++ c ∷ v)) (sym e) ∙ take-append-add taken (c ∷ v) (suc (n - length taken - 1)),
 )
 
-none_longer : (L : List ℕ → Type 0) (taken r : List ℕ) → NoneGoesOn L taken r → (c : ℕ) (v rest : List ℕ) → r ≡ c ∷ v → L (taken ++ c ∷ rest) → ⊥
+none_longer : (L : List ℕ → Type 0) (taken r : List ℕ) → NoneGoesOn L taken r → (c : ℕ) (v rest : List ℕ) → r ≡ c ∷ v
+    → L (taken ++ c ∷ rest) → ⊥
 none_longer L taken [] none c v rest e l = cc
 none_longer L taken (d ∷ r) none c v rest e l = none rest (subst (λ y. L (taken ++ y ∷ rest)) (let f : c ≡ d = cc in f) l)
 

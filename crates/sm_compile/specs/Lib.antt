@@ -8,6 +8,7 @@ pub mod Compiled
 pub mod Served
 pub mod Answers
 pub mod UriPattern
+pub mod UriRoutes
 pub mod Laws
 pub mod TraitRows
 pub mod rules

@@ -4,6 +4,8 @@ mod label;
 mod path;
 mod pattern;
 mod query;
+mod route;
 mod stop;
 
 pub use pattern::{Segment, UriPattern, UriRefusal};
+pub use route::route_text;

@@ -126,7 +126,8 @@ impl<'a> Path<'a> {
     // Puts a label behind what was read.
     fn labelled(&mut self, alloc: Global, name: &'a str, greedy: bool) -> Result<(), NoMemory>
         ensures segments { OnOk result (self.new.segments.items ≡ self.old.segments.items ++ labelled greedy name.now ∷ []) }
-        ensures names { OnOk result ((id : List ℕ) → holds_text self.new.names id ≡ (holds_text self.old.names id || bytes_eq name.now id)) }
+        ensures names { OnOk result ((id : List ℕ) →
+            holds_text self.new.names id ≡ (holds_text self.old.names id || bytes_eq name.now id)) }
         ensures greedy { OnOk result (self.new.greedy ≡ greedy) }
     {
         match self.names.insert(name) {

@@ -10,7 +10,8 @@ segment-requires-text-rest c = λ u. c.segments.invariant.utf8
 
 pub returns-in-Err : goal.returns-in-Err
 returns-in-Err c =
-    path_failed c.args.text.now c.segments.path c.segment.new.self c.segments.rest.now c.in-Err.stop c.segments.invariant.taken c.in-Err.ensures
+    path_failed c.args.text.now c.segments.path c.segment.new.self c.segments.rest.now c.in-Err.stop c.segments.invariant.taken
+    c.in-Err.ensures
 
 pub returns-in-None-strip : goal.returns-in-None-strip
 returns-in-None-strip c =

@@ -30,5 +30,6 @@ pub returns-in_ok-labelled-in-Ok-label_end : goal.returns-in_ok-labelled-in-Ok-l
 returns-in_ok-labelled-in-Ok-label_end c =
     label_read c.args.self.now c.labelled.new.self c.in-Ok-label_end.end.greedy c.in-Ok.name.taken.now c.args.inside.now
     c.in-Ok.name.behind.now c.in-Ok-label_end.end.behind.now c.requires.read c.requires.first c.in-Ok.ensures
-    (sym c.contains.ensures ∙ c.if-contains.false) c.in-Ok-label_end.ensures.0 c.in-Ok-label_end.ensures.1 c.in_ok-labelled-in-Ok-label_end.ensures.segments
+    (sym c.contains.ensures ∙ c.if-contains.false) c.in-Ok-label_end.ensures.0 c.in-Ok-label_end.ensures.1
+    c.in_ok-labelled-in-Ok-label_end.ensures.segments
     c.in_ok-labelled-in-Ok-label_end.ensures.names c.in_ok-labelled-in-Ok-label_end.ensures.greedy
