@@ -3,3 +3,6 @@ mod Numbered
 mod OwnShapes
 mod Singles
 mod WrongBounds
+mod FirstRows
+mod Twins
+mod CaseTwins

@@ -7,7 +7,8 @@ use Rattle.sm_model.specs.Graphs.{GraphMaps}
 use Rattle.sm_model.specs.declared.event.ModelEvent.{ModelEvent}
 use Rattle.sm_model.proofs.OneRising.{contains_behind, contains_either, contains_head, contains_none}
 use Rattle.sm_model.proofs.Worklist.{apart}
-use Rattle.sm_compile.specs.TraitIds.{idempotency_token_id, http_payload_id, http_prefix_headers_id, http_query_params_id, http_response_code_id}
+use Rattle.sm_compile.specs.TraitIds.{idempotency_token_id, http_payload_id, http_prefix_headers_id, http_query_params_id}
+use Rattle.sm_compile.specs.TraitIds.{http_response_code_id}
 use Rattle.sm_compile.specs.rules.Traits.{CarriesTwice, single_traits}
 use Rattle.sm_compile.specs.Looked.{listed_in, listed_under}
 use Rattle.sm_load.specs.RuleEvents.{IsEventAt, Puts}
@@ -102,6 +103,19 @@ module _ (g : GraphMaps) (trait : List ℕ) where
       ap (λ o. carried_twice g trait (listed_in o)) h.behind.home.0 ∙ ap (carried_twice g trait) h.behind.members
       ∙ twice_back h.before h.second h.behind.later h.first h.earlier h.first_carries h.second_carries
 
+-- the traits behind each of them
+abbrev behind_params : List (List ℕ)
+behind_params = http_response_code_id ∷ []
+
+abbrev behind_prefix : List (List ℕ)
+behind_prefix = http_query_params_id ∷ behind_params
+
+abbrev behind_payload : List (List ℕ)
+behind_payload = http_prefix_headers_id ∷ behind_prefix
+
+abbrev behind_token : List (List ℕ)
+behind_token = http_payload_id ∷ behind_payload
+
 module _ (g : GraphMaps) (id : List ℕ) where
   abbrev pub AnyToldTwice : EventTold → Type 0
   AnyToldTwice e =
@@ -115,13 +129,13 @@ module _ (g : GraphMaps) (id : List ℕ) where
   one_told : (e : EventTold) (trait : List ℕ) → Contains single_traits trait → ToldTwice g id trait e → AnyToldTwice e
   one_told e trait c h =
       let at : (t : List ℕ) → t ≡ trait → ToldTwice g id t e = λ t is. subst (λ u. ToldTwice g id u e) (sym is) h in
-      elim (contains_either idempotency_token_id trait (http_payload_id ∷ http_prefix_headers_id ∷ http_query_params_id ∷ http_response_code_id ∷ []) c) [
+      elim (contains_either idempotency_token_id trait behind_token c) [
         | inl is ↦ inl (at _ is)
-        | inr c2 ↦ elim (contains_either http_payload_id trait (http_prefix_headers_id ∷ http_query_params_id ∷ http_response_code_id ∷ []) c2) [
+        | inr c2 ↦ elim (contains_either http_payload_id trait behind_payload c2) [
           | inl is ↦ inr (inl (at _ is))
-          | inr c3 ↦ elim (contains_either http_prefix_headers_id trait (http_query_params_id ∷ http_response_code_id ∷ []) c3) [
+          | inr c3 ↦ elim (contains_either http_prefix_headers_id trait behind_prefix c3) [
             | inl is ↦ inr (inr (inl (at _ is)))
-            | inr c4 ↦ elim (contains_either http_query_params_id trait (http_response_code_id ∷ []) c4) [
+            | inr c4 ↦ elim (contains_either http_query_params_id trait behind_params c4) [
               | inl is ↦ inr (inr (inr (inl (at _ is))))
               | inr c5 ↦ elim (contains_either http_response_code_id trait [] c5) [
                 | inl is ↦ inr (inr (inr (inr (at _ is))))
@@ -133,19 +147,33 @@ module _ (g : GraphMaps) (id : List ℕ) where
       ]
 
   among_first : Contains single_traits idempotency_token_id
-  among_first = contains_head idempotency_token_id (http_payload_id ∷ http_prefix_headers_id ∷ http_query_params_id ∷ http_response_code_id ∷ [])
+  among_first =
+      contains_head idempotency_token_id behind_token
 
   among_second : Contains single_traits http_payload_id
-  among_second = contains_behind idempotency_token_id http_payload_id (http_payload_id ∷ http_prefix_headers_id ∷ http_query_params_id ∷ http_response_code_id ∷ []) (contains_head http_payload_id (http_prefix_headers_id ∷ http_query_params_id ∷ http_response_code_id ∷ []))
+  among_second =
+      contains_behind idempotency_token_id http_payload_id behind_token (contains_head http_payload_id behind_payload)
 
   among_third : Contains single_traits http_prefix_headers_id
-  among_third = contains_behind idempotency_token_id http_prefix_headers_id (http_payload_id ∷ http_prefix_headers_id ∷ http_query_params_id ∷ http_response_code_id ∷ []) (contains_behind http_payload_id http_prefix_headers_id (http_prefix_headers_id ∷ http_query_params_id ∷ http_response_code_id ∷ []) (contains_head http_prefix_headers_id (http_query_params_id ∷ http_response_code_id ∷ [])))
+  among_third =
+      contains_behind idempotency_token_id http_prefix_headers_id behind_token
+      (contains_behind http_payload_id http_prefix_headers_id behind_payload
+      (contains_head http_prefix_headers_id behind_prefix))
 
   among_fourth : Contains single_traits http_query_params_id
-  among_fourth = contains_behind idempotency_token_id http_query_params_id (http_payload_id ∷ http_prefix_headers_id ∷ http_query_params_id ∷ http_response_code_id ∷ []) (contains_behind http_payload_id http_query_params_id (http_prefix_headers_id ∷ http_query_params_id ∷ http_response_code_id ∷ []) (contains_behind http_prefix_headers_id http_query_params_id (http_query_params_id ∷ http_response_code_id ∷ []) (contains_head http_query_params_id (http_response_code_id ∷ []))))
+  among_fourth =
+      contains_behind idempotency_token_id http_query_params_id behind_token
+      (contains_behind http_payload_id http_query_params_id behind_payload
+      (contains_behind http_prefix_headers_id http_query_params_id behind_prefix
+      (contains_head http_query_params_id behind_params)))
 
   among_fifth : Contains single_traits http_response_code_id
-  among_fifth = contains_behind idempotency_token_id http_response_code_id (http_payload_id ∷ http_prefix_headers_id ∷ http_query_params_id ∷ http_response_code_id ∷ []) (contains_behind http_payload_id http_response_code_id (http_prefix_headers_id ∷ http_query_params_id ∷ http_response_code_id ∷ []) (contains_behind http_prefix_headers_id http_response_code_id (http_query_params_id ∷ http_response_code_id ∷ []) (contains_behind http_query_params_id http_response_code_id (http_response_code_id ∷ []) (contains_head http_response_code_id []))))
+  among_fifth =
+      contains_behind idempotency_token_id http_response_code_id behind_token
+      (contains_behind http_payload_id http_response_code_id behind_payload
+      (contains_behind http_prefix_headers_id http_response_code_id behind_prefix
+      (contains_behind http_query_params_id http_response_code_id behind_params
+      (contains_head http_response_code_id []))))
 
   any_told : OwnStructure g id → (e : EventTold) → AnyToldTwice e ↔ IsEventAt TraitSingle (CarriesTwice g) id e
   any_told own e = (forth, λ h. one_told e h.0 h.1.among (told_twice g h.0 id h.1, h.2))

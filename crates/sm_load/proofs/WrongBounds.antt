@@ -59,11 +59,13 @@ module _ (trait : List ℕ) (reads wrong : Node → Bool) (rows : (n : Node) →
       ap (λ b. b && not (wrong m)) (sym (rows m) ∙ is.0) ∙ ap not (subst (λ x. wrong x ≡ false) (sym is.1) bad)
 
 -- the test of `length` is one of whether it reads, and of one thing
-length_test : (o : Option Node) → is_wrong_length o ≡ (where_there are_whole_bounds o && not (where_there (λ n. are_ordered n && are_lengths n) o))
+length_test : (o : Option Node)
+    → is_wrong_length o ≡ (where_there are_whole_bounds o && not (where_there (λ n. are_ordered n && are_lengths n) o))
 length_test None = refl
 length_test (Some n) = refl
 
-range_test : (o : Option Node) → is_wrong_range o ≡ (where_there (λ n. is_range Integer n || is_range Float n) o && not (where_there are_ordered o))
+range_test : (o : Option Node)
+    → is_wrong_range o ≡ (where_there (λ n. is_range Integer n || is_range Float n) o && not (where_there are_ordered o))
 range_test None = refl
 range_test (Some n) = refl
 
@@ -76,7 +78,8 @@ module _ (g : GraphMaps) (id : List ℕ) (own : is_prelude_id id ≡ false) wher
   bounds_forth : (e : EventTold) → AnyBound e → IsEventAt ConstraintBounds (HasWrongBounds g) id e
   bounds_forth e (inl h) =
       let o = trait_of g id length_id in
-      let w = seen_wrong length_id are_whole_bounds (λ n. are_ordered n && are_lengths n) (λ n. length_rows n ∙ or_false (are_whole_bounds n)) o
+      let w = seen_wrong length_id are_whole_bounds (λ n. are_ordered n && are_lengths n)
+      (λ n. length_rows n ∙ or_false (are_whole_bounds n)) o
       (sym (length_test o) ∙ h.0) in
       (codes "length", wrong_length w.0 own w.1 w.2 refl, h.1)
   bounds_forth e (inr h) =

@@ -1,3 +1,4 @@
 pub mod RuleIds
 pub mod RuleEvents
+pub mod rules
 pub mod steps

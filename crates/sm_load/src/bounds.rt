@@ -43,7 +43,8 @@ fn put_bounds_at(
 ) -> Result<(), NoMemory>
     requires { IsShapeNumber graph.now number }
     ensures { OnOk result
-        (Puts (IsEventAt ConstraintBounds (HasWrongBounds (maps_of graph.now)) (id_of_number graph.now number)) events.old.items events.new.items) }
+        (Puts (IsEventAt ConstraintBounds (HasWrongBounds (maps_of graph.now)) (id_of_number graph.now number))
+        events.old.items events.new.items) }
 {
     if is_in_prelude(id_text(graph, number)) {
         Ok(())
@@ -62,7 +63,8 @@ fn put_both_bounds(
     requires number { IsShapeNumber graph.now number }
     requires own { is_prelude_id (id_of_number graph.now number) ≡ false }
     ensures { OnOk result
-        (Puts (IsEventAt ConstraintBounds (HasWrongBounds (maps_of graph.now)) (id_of_number graph.now number)) events.old.items events.new.items) }
+        (Puts (IsEventAt ConstraintBounds (HasWrongBounds (maps_of graph.now)) (id_of_number graph.now number))
+        events.old.items events.new.items) }
 {
     let length = is_wrong_length(trait_node(graph, number, "smithy.api#length"));
     put_if(

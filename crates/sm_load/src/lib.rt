@@ -2,6 +2,8 @@
 #![tactic(auto)]
 
 mod bounds;
+mod case;
+mod firsts;
 mod owned;
 mod putting;
 mod rule;

@@ -39,7 +39,8 @@ fn put_single_at(
 ) -> Result<(), NoMemory>
     requires { IsShapeNumber graph.now number }
     ensures { OnOk result
-        (Puts (IsEventAt TraitSingle (CarriesTwice (maps_of graph.now)) (id_of_number graph.now number)) events.old.items events.new.items) }
+        (Puts (IsEventAt TraitSingle (CarriesTwice (maps_of graph.now)) (id_of_number graph.now number))
+        events.old.items events.new.items) }
 {
     if is_own_structure(graph, number) {
         put_single_of(alloc, graph, number, events)
@@ -57,7 +58,8 @@ fn put_single_of(
     requires number { IsShapeNumber graph.now number }
     requires own { is_own_structure (maps_of graph.now) (id_of_number graph.now number) ≡ true }
     ensures { OnOk result
-        (Puts (IsEventAt TraitSingle (CarriesTwice (maps_of graph.now)) (id_of_number graph.now number)) events.old.items events.new.items) }
+        (Puts (IsEventAt TraitSingle (CarriesTwice (maps_of graph.now)) (id_of_number graph.now number))
+        events.old.items events.new.items) }
 {
     put_if_twice(alloc, graph, number, "smithy.api#idempotencyToken", events)?;
     put_if_twice(alloc, graph, number, "smithy.api#httpPayload", events)?;

@@ -4,7 +4,8 @@ use Rattle.std.specs.List.{Contains}
 use Rattle.sm_model.specs.Graphs.{ShapeEntry, GraphMaps}
 use Rattle.sm_model.specs.declared.kind.Kind.TheVariants.{Structure}
 use Rattle.sm_compile.specs.Sound.{trait_of}
-use Rattle.sm_compile.specs.TraitIds.{idempotency_token_id, http_payload_id, http_prefix_headers_id, http_query_params_id, http_response_code_id}
+use Rattle.sm_compile.specs.TraitIds.{idempotency_token_id, http_payload_id, http_prefix_headers_id, http_query_params_id}
+use Rattle.sm_compile.specs.TraitIds.{http_response_code_id}
 use Rattle.sm_compile.specs.rules.Words.{IsListedBehind}
 
 -- traits that one member of a structure may carry

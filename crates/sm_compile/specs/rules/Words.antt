@@ -1,8 +1,9 @@
 -- What the rules of models speak of: shapes and members outside of the prelude, and their traits (Smithy 2.0, "The Smithy model"). A rule
 -- that needs what isn't there, or a trait's value that doesn't read, doesn't fail.
 use Rattle.std.specs.Prelude.{◌≡◌, ℕ, false, List, ◌∷◌, ◌++◌, Option}
+use Rattle.std.specs.declared.cmp.Ordering.TheVariants.{Greater}
 use Rattle.sm_tree.specs.Node.{Node}
-use Rattle.sm_model.specs.Graphs.{Entry, shape_entry, ShapeEntry, GraphMaps}
+use Rattle.sm_model.specs.Graphs.{text_cmp, Entry, shape_entry, ShapeEntry, GraphMaps}
 use Rattle.sm_model.specs.PreludeShapes.{is_prelude_id}
 use Rattle.sm_model.specs.Relations.{HasEntry}
 use Rattle.sm_compile.specs.Sound.{trait_of}
@@ -24,3 +25,8 @@ pub record IsListedBehind (g : GraphMaps) (shape : List ℕ) (s : ShapeEntry) (b
 -- the value of a trait where it reads
 abbrev pub read_trait : GraphMaps → List ℕ → List ℕ → Option Node
 read_trait g id trait = that_reads trait (trait_of g id trait)
+
+-- the least of the ids of which it holds
+pub record IsLeast (Holds : List ℕ → Type 0) (id : List ℕ) : Type 0 where
+  pub holds : Holds id
+  pub least : (other : List ℕ) → Holds other → text_cmp id other ≡ Greater → ⊥

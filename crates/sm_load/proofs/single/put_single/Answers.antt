@@ -8,11 +8,14 @@ use Rattle.sm_load.proofs.single.put_single.Goals as goal
 
 pub loop-number-preserved : goal.loop-number-preserved
 loop-number-preserved c =
-    puts_next (at_number c.args.graph.now TraitSingle (CarriesTwice (maps_of c.args.graph.now))) c.loop-number.number c.args.events.now.items
+    puts_next (at_number c.args.graph.now TraitSingle (CarriesTwice (maps_of c.args.graph.now))) c.loop-number.number
+    c.args.events.now.items
     c.loop-number.events.items c.put_single_at.new.events.items c.loop-number.invariant c.in_ok-put_single_at.ensures
 
 pub returns : goal.returns
 returns c =
-    let all : length (entries_of c.args.graph.now) ≤ c.loop-number.number = omega (arith, c.loop-number-test.false, c.count-number-end.ensures) in
-    puts_numbers c.args.graph.now TraitSingle (CarriesTwice (maps_of c.args.graph.now)) (λ id detail h. (_, h.behind.home.0)) c.loop-number.number all
+    let all : length (entries_of c.args.graph.now) ≤ c.loop-number.number =
+    omega (arith, c.loop-number-test.false, c.count-number-end.ensures) in
+    puts_numbers c.args.graph.now TraitSingle (CarriesTwice (maps_of c.args.graph.now)) (λ id detail h. (_, h.behind.home.0))
+    c.loop-number.number all
     c.args.events.now.items c.loop-number.events.items c.loop-number.invariant
