@@ -14,10 +14,10 @@ use Rattle.sm_idl.specs.steps.MemberSteps.{form_of, AreNamed, Arranges}
 use Rattle.sm_idl.proofs.TokenClasses.{unlike}
 use Rattle.sm_idl.proofs.PairsAhead.{differ}
 
-under_first : (k : List ℕ) (m : MemberSaid) (ms : List MemberSaid) → m.name ≡ k → member_under k (m ∷ ms) ≡ m ∷ []
+pub under_first : (k : List ℕ) (m : MemberSaid) (ms : List MemberSaid) → m.name ≡ k → member_under k (m ∷ ms) ≡ m ∷ []
 under_first k m ms e = ap (λ b. if b then m ∷ [] else member_under k ms) ((bytes_equal_is m.name k).1 e)
 
-under_later : (k : List ℕ) (m : MemberSaid) (ms : List MemberSaid) → (m.name ≡ k → ⊥) → member_under k (m ∷ ms) ≡ member_under k ms
+pub under_later : (k : List ℕ) (m : MemberSaid) (ms : List MemberSaid) → (m.name ≡ k → ⊥) → member_under k (m ∷ ms) ≡ member_under k ms
 under_later k m ms n = ap (λ b. if b then m ∷ [] else member_under k ms) (differ m.name k n)
 
 key_no_value : codes "key" ≡ codes "value" → ⊥

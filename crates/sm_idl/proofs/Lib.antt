@@ -51,3 +51,13 @@ pub mod TokenCuts
 pub mod ReadControls
 pub mod WrittenIdl
 pub mod WrittenLengths
+pub mod EscapesRead
+pub mod TextsRead
+pub mod Yields
+pub mod YieldNodes
+pub mod YieldMembers
+pub mod YieldBodies
+pub mod YieldFiles
+pub mod ReadFormed
+pub mod SomeLexing
+pub mod IdlAnswers

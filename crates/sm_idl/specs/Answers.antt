@@ -25,9 +25,16 @@ pub record IsStopped (bytes : List ℕ) (ts : Tokens) (at : ℕ) : Type 0 where
   pub none : (f : FileSaid) → FileSpelled f ts → ⊥
   pub place : StopsAt ts at ⊎ (Begun ts × (at ≡ length bytes))
 
+-- the text says no statements, for this reason
+abbrev pub IdlRefused : IdlRefusal → List ℕ → Type 0
+IdlRefused (Lex refusal) bytes = LexRefused refusal bytes
+IdlRefused (Syntax at) bytes = (xs : List Lexeme) × TokensSpell xs bytes × IsStopped bytes (spaced bytes xs) at
+IdlRefused Version bytes = (f : FileSaid) × (HaveVersion f.controls → ⊥) × Idl f bytes
+IdlRefused NoMemory bytes = ⊥
+
 abbrev pub ReadsIdl : List ℕ → Result (Vec Statement Global) IdlRefusal → Type 0
 ReadsIdl bytes (Ok statements) = (f : FileSaid) × (f.said ≡ statements_view statements.items) × HaveVersion f.controls × Idl f bytes
-ReadsIdl bytes (Err (Lex refusal)) = LexRefused refusal bytes
-ReadsIdl bytes (Err (Syntax at)) = (xs : List Lexeme) × TokensSpell xs bytes × IsStopped bytes (spaced bytes xs) at
-ReadsIdl bytes (Err Version) = (f : FileSaid) × (HaveVersion f.controls → ⊥) × Idl f bytes
+ReadsIdl bytes (Err (Lex refusal)) = IdlRefused (Lex refusal) bytes
+ReadsIdl bytes (Err (Syntax at)) = IdlRefused (Syntax at) bytes
+ReadsIdl bytes (Err Version) = IdlRefused Version bytes
 ReadsIdl bytes (Err NoMemory) = Unit {0}

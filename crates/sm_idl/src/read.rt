@@ -1,7 +1,9 @@
 // A model's text: its statements, or why it has none.
-ghost use Rattle.std.specs.Prelude.{◌≡◌, ◌↔◌, [], IsTrue, All, List, length, map, Some};
+ghost use Rattle.std.specs.Prelude.{◌≡◌, ◌↔◌, [], IsTrue, IfOk, All, List, length, map, Some};
 ghost use Rattle.sm_lex.specs.Answers.{IsWhole};
 ghost use Rattle.sm_lex.specs.Tokens.{lexeme_of, TokensSpell};
+ghost use Rattle.sm_model.specs.Formed.{AreFormed};
+ghost use Rattle.sm_model.specs.SaidView.{statements_view};
 ghost use Rattle.sm_idl.specs.Answers.{ReadsIdl};
 ghost use Rattle.sm_idl.specs.Productions.{spaced};
 ghost use Rattle.sm_idl.specs.Nodes.{Pair};
@@ -200,7 +202,8 @@ fn statements_of<'a>(
 /// isn't begun, or the text's length. `Version`, where the file has no control `version`, or another than `"2"` and `"2.0"`.
 /// `NoMemory`, where the allocator refuses.
 pub fn read_idl(alloc: Global, text: &str) -> Result<Vec<Statement>, IdlRefusal>
-    ensures { ReadsIdl text.now result }
+    ensures reads { ReadsIdl text.now result }
+    ensures formed { IfOk result (λ ss. AreFormed (statements_view ss.items)) }
 {
     match tokens(alloc, text) {
         Ok(tokens) => statements_of(alloc, text, tokens.as_slice()),
