@@ -26,6 +26,11 @@ is_less Less = Unit {0}
 is_less Equal = ⊥
 is_less Greater = ⊥
 
+-- no way goes before one without steps
+pub nothing_before : (other : List WayStep) → slice_cmp nat_cmp (numbers_of_way other) [] ≡ Less → ⊥
+nothing_before [] less = subst is_less (sym less) tt
+nothing_before (s ∷ other) less = subst is_less (sym less) tt
+
 -- none of some ids stands among others
 abbrev KeepsOff : List (List ℕ) → List (List ℕ) → Type 0
 KeepsOff open_ids ids = (x : List ℕ) → Contains ids x → Contains open_ids x → ⊥
@@ -89,13 +94,8 @@ module _ (g : Graph) where
       | inl same ↦ fresh (subst (IsMarkedId g marks) (sym same) marked)
       | inr none ↦ contains_none x none
     ];
-    least = none_before;
+    least = λ other h differ off less. nothing_before other less;
   }
-    where
-      none_before : (other : List WayStep) → IsWay (maps_of g) id other → AllDiffer (entered id other) → KeepsOff open_ids (entered id other)
-          → slice_cmp nat_cmp (numbers_of_way other) [] ≡ Less → ⊥
-      none_before [] h differ off less = subst is_less (sym less) tt
-      none_before (s ∷ other) h differ off less = subst is_less (sym less) tt
 
   least_above : (marks : List Bool) (open_ids : List (List ℕ)) (id : List ℕ) (step : WayStep) (way : List WayStep)
       → IsOpen g marks (id ∷ open_ids) id step.at → IsStep (maps_of g) id step → IsLeast (id ∷ open_ids) step.to way

@@ -2,11 +2,7 @@
 use Rattle.std.proofs.Common.{◌≡◌, ℕ, ◌+◌, ◌<◌, Bool, true, false, not, cond, List, [], ◌∷◌, ◌++◌, map, length, get_or, reverse, refl, sym, ap, ◌∙◌, subst, arith, length-append}
 use Rattle.std.specs.Prelude.{replicate, set}
 use Rattle.std.specs.Global.{Vec}
-use Rattle.std.specs.Cmp.Lexicographic.{slice_cmp}
 use Rattle.std.specs.List.{count_by, join_with_byte}
-use Rattle.std.specs.Ordering.{nat_cmp}
-use Rattle.std.specs.declared.cmp.Ordering.{Ordering}
-use Rattle.std.specs.declared.cmp.Ordering.TheVariants.{Less, Equal, Greater}
 use Rattle.std.proofs.lemmas.List.{length-replicate, length-set, map-append, reverse-append, reverse-reverse}
 use Rattle.std.proofs.lemmas.List.Sums.{sum_by-set}
 use Rattle.sm_bytes.specs.Ascii.{slash}
@@ -14,21 +10,16 @@ use Rattle.sm_model.specs.GraphView.{AreShapeNumbers, IsShapeNumber, entries_of,
 use Rattle.sm_model.specs.Reaching.{id_of_number}
 use Rattle.sm_model.specs.declared.graph.Graph.{Graph}
 use Rattle.sm_compile.specs.Answers.{TellsServed}
-use Rattle.sm_compile.specs.Served.{IsSimpleWay, IsUnserved, WayStep, numbers_of_way}
+use Rattle.sm_compile.specs.Served.{IsUnserved, WayStep}
 use Rattle.sm_compile.specs.declared.compiled.Served.TheVariants.{Yes, Unserved}
 use Rattle.sm_compile.specs.declared.way.Above.{Above}
 use Rattle.sm_compile.specs.declared.way.NextStep.{NextStep}
 use Rattle.sm_compile.specs.declared.way.Turn.TheVariants.{On, Ended}
 use Rattle.sm_compile.specs.declared.way.Walk.{Walk}
 use Rattle.sm_compile.specs.steps.Walking.{IsNext, IsWalk, NoneIsNext, StandsAt, Turns, path_by}
-use Rattle.sm_compile.proofs.FirstWays.{first_way, none_found}
+use Rattle.sm_compile.proofs.FirstWays.{first_way, none_found, nothing_before}
 use Rattle.sm_compile.proofs.ReachedNumbers.{numbers_joined}
 use Rattle.sm_compile.proofs.WalkSteps.{all_taken, fresh_id, stands_more, walk_begun, walk_enters, walk_leaves}
-
-abbrev is_less : Ordering → Type 0
-is_less Less = Unit {0}
-is_less Equal = ⊥
-is_less Greater = ⊥
 
 -- the last of some numbers, and those before it
 numbers_parted : (g : Graph) (ns : List ℕ) (n : ℕ) → AreShapeNumbers g (ns ++ n ∷ []) → AreShapeNumbers g ns × IsShapeNumber g n
@@ -137,10 +128,6 @@ module _ (g : Graph) where
   pub finds_root : (root : List ℕ) (path : List ℕ) → IsUnserved (maps_of g) root → path ≡ [] → TellsServed (maps_of g) root (Unserved path)
   finds_root root path unserved is = (
     [],
-    record { simple = (unserved, (tt, tt)); first = none_before },
+    record { simple = (unserved, (tt, tt)); first = λ other simple less. nothing_before other less },
     is,
   )
-    where
-      none_before : (other : List WayStep) → IsSimpleWay (maps_of g) root other → slice_cmp nat_cmp (numbers_of_way other) [] ≡ Less → ⊥
-      none_before [] simple less = subst is_less (sym less) tt
-      none_before (s ∷ other) simple less = subst is_less (sym less) tt
