@@ -8,6 +8,7 @@ mod refusal;
 mod row;
 mod selector;
 mod statement;
+mod uri;
 
 use play::Models;
 use rows::played;

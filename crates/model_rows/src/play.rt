@@ -3,6 +3,7 @@ use crate::refusal::show_refusal;
 use crate::row::Row;
 use crate::selector::show_selector;
 use crate::statement::show_statements;
+use crate::uri::show_uri;
 use rows::Player;
 use sm_ast::read_ast;
 use sm_json::read_tree;
@@ -47,6 +48,7 @@ impl Player for Models {
                 self.parts.clear();
             }
             Row::Selector(text) => show_selector(alloc, text, out)?,
+            Row::Uri(text) => show_uri(alloc, text, out)?,
             Row::Unknown => out.push_str(" => no row")?,
         }
         Ok(())

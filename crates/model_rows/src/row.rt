@@ -11,6 +11,8 @@ pub enum Row<'a> {
     Parts,
     /// `selector TEXT`: to read the text as a selector.
     Selector(&'a str),
+    /// `uri TEXT`: to read the text as a pattern of URIs.
+    Uri(&'a str),
     /// Any other line.
     Unknown,
 }
@@ -25,6 +27,7 @@ impl<'a> Row<'a> {
             Some(("ast", text)) => Row::Ast(text),
             Some(("part", text)) => Row::Part(text),
             Some(("selector", text)) => Row::Selector(text),
+            Some(("uri", text)) => Row::Uri(text),
             _ => Row::Unknown,
         }
     }
