@@ -1,8 +1,7 @@
-// The shapes and members of a table, as numbers of a graph.
+// The shapes of a table and their members, as numbers of a graph.
 ghost use Rattle.std.specs.Prelude.{◌≡◌, ◌++◌, ◌∷◌, [], IfOk, OnOk, cond, length, map};
 ghost use Rattle.sm_model.specs.GraphView.{AreShapeNumbers, IsShapeNumber, entries_of, maps_of};
 ghost use Rattle.sm_model.specs.Reaching.{id_of_number};
-ghost use Rattle.std.specs.List.{flat_map};
 ghost use Rattle.sm_compile.specs.Compiled.{members_under};
 ghost use Rattle.sm_compile.specs.Kinds as kinds;
 ghost use Rattle.sm_compile.specs.steps.Looked.{listed_under};
@@ -66,32 +65,6 @@ fn has_values_where(kind: Option<Kind>) -> bool
         Some(kind) => has_values(kind),
         None => false,
     }
-}
-
-/// The numbers of the members at which values of these shapes stand: shape by shape, in model order.
-pub(crate) fn tabled_members(
-    alloc: Global,
-    graph: &Graph,
-    shapes: &[u32],
-) -> Result<Vec<u32>, NoMemory>
-    requires { AreShapeNumbers graph.now shapes.now }
-    ensures numbers { IfOk result (λ members. AreShapeNumbers graph.now members.items) }
-    ensures members { IfOk result (λ members. map (id_of_number graph.now) members.items
-        ≡ flat_map (members_under (maps_of graph.now)) (map (id_of_number graph.now) shapes.now)) }
-{
-    let mut members = Vec::new(alloc);
-    for shape in shapes {
-        put_members(value_members(graph, *shape), &mut members)?;
-    }
-    Ok(members)
-}
-
-// Appends numbers.
-fn put_members(more: &[u32], members: &mut Vec<u32>) -> Result<(), NoMemory>
-    ensures { OnOk result (members.new.items ≡ members.old.items ++ more.now) }
-{
-    members.extend_from_slice(more)?;
-    Ok(())
 }
 
 /// The numbers of the members at which values of a shape stand, in model order.
