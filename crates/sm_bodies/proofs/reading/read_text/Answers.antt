@@ -1,0 +1,65 @@
+use Rattle.std.proofs.Common.{refl, sym, ap, subst, ◌∙◌, ◌≡◌, ◌++◌, ◌-◌, ◌+◌, List, ℕ, [], arith, length, take, drop, None}
+use Rattle.std.proofs.Math.Seq.{take-add}
+use Rattle.std.proofs.lemmas.List.{take_all}
+use Rattle.sm_tree.specs.Timing.{Follows}
+use Rattle.sm_json.specs.Timing.{json_timing}
+use Rattle.sm_json.specs.Stands.{JsonStands}
+use Rattle.sm_json.proofs.Completed.{none_yet}
+use Rattle.sm_bodies.proofs.BytesRefused.{text_refused, flush_refused, text_cut, pieces_joined}
+use Rattle.sm_bodies.proofs.reading.read_text.Goals as goal
+
+pub loop-at-init : goal.loop-at-init
+loop-at-init g c = record {
+  inside = omega arith;
+  fresh = c.new-reader.ensures.fresh;
+  stands = c.new-reader.ensures.stands;
+  follows = λ es done. subst (g.E.EventSink.stands_for c.args.to.now) (sym (none_yet es done)) c.requires.empty;
+  takes = c.requires.takes;
+  alike = g.met.E.EventSink.alike_itself c.args.to.now;
+}
+
+pub feed-requires-clause-stands : goal.feed-requires-clause-stands
+feed-requires-clause-stands g c fresh =
+    (take c.loop-at.at c.args.text.now, c.loop-at.invariant.stands, c.loop-at.invariant.follows)
+
+pub flush-requires-clause-stands : goal.flush-requires-clause-stands
+flush-requires-clause-stands g c fresh =
+    (take c.loop-at.at c.args.text.now, c.loop-at.invariant.stands, c.loop-at.invariant.follows)
+
+pub returns-in-Ok-end-clause-read : goal.returns-in-Ok-end-clause-read
+returns-in-Ok-end-clause-read g c =
+    let whole : take c.loop-at.at c.args.text.now ≡ c.args.text.now =
+    take_all c.loop-at.at c.args.text.now (omega (arith, c.loop-at-test.false)) in
+    let stands = subst (JsonStands c.loop-at.reader) whole c.loop-at.invariant.stands in
+    let follows = subst (Follows json_timing (g.E.EventSink.stands_for c.loop-at.to)) whole c.loop-at.invariant.follows in
+    let (fresh, flushed) = c.in-Ok-flush.ensures.flushes c.loop-at.invariant.fresh in
+    let (come, all) = flushed c.args.text.now stands in
+    let (n, es, read, complete, stream) = c.in-Ok-end.ensures.ends c.args.text.now come.1 in
+    (n, es, read, stream, (all follows).0 es complete)
+
+pub loop-at-preserved : goal.loop-at-preserved
+loop-at-preserved g c =
+    let (fresh, longer) = c.in-Ok.ensures.feeds c.loop-at.invariant.fresh in
+    let (still, on) = longer (take c.loop-at.at c.args.text.now) c.loop-at.invariant.stands in
+    let step : c.loop-at.at + c.min.result - c.loop-at.at ≡ c.min.result = omega arith in
+    let whole : take c.loop-at.at c.args.text.now ++ take (c.loop-at.at + c.min.result - c.loop-at.at) (drop c.loop-at.at c.args.text.now)
+    ≡ take (c.loop-at.at + c.min.result) c.args.text.now =
+    ap (λ n. take c.loop-at.at c.args.text.now ++ take n (drop c.loop-at.at c.args.text.now)) step
+    ∙ sym (take-add c.loop-at.at c.min.result c.args.text.now) in
+    record {
+      inside = omega (arith, c.min.ensures, c.loop-at-test.true);
+      fresh = fresh;
+      stands = subst (JsonStands c.feed.new.self) whole still;
+      follows = subst (Follows json_timing (g.E.EventSink.stands_for c.feed.new.to)) whole (on c.loop-at.invariant.follows);
+      takes = λ e. c.in-Ok.ensures.takes e (c.loop-at.invariant.takes e);
+      alike = g.met.E.EventSink.alike_then c.args.to.now c.loop-at.to c.feed.new.to c.loop-at.invariant.alike c.in-Ok.ensures.alike;
+    }
+
+pub returns-in-Err-clause-read : goal.returns-in-Err-clause-read
+returns-in-Err-clause-read g c =
+    let step : c.loop-at.at + c.min.result - c.loop-at.at ≡ c.min.result = omega arith in
+    text_refused (g.E.EventSink.stands_for c.loop-at.to) (g.E.EventSink.stands_for c.feed.new.to) c.loop-at.reader c.feed.new.self
+    (take c.loop-at.at c.args.text.now) (take (c.loop-at.at + c.min.result - c.loop-at.at) (drop c.loop-at.at c.args.text.now))
+    (drop (c.loop-at.at + c.min.result) c.args.text.now) c.args.text.now c.in-Err.refusal
+    (pieces_joined c.loop-at.at c.min.result (c.loop-at.at + c.min.result - c.loop-at.at) c.args.text.now step) c.loop-at.invariant.stands
+    (c.in-Err.ensures.feeds c.loop-at.invariant.fresh)

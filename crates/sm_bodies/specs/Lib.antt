@@ -1,0 +1,7 @@
+pub mod Sides
+pub mod Bodies
+pub mod TextAnswers
+pub mod AnswerView
+pub mod TextLaws
+pub mod EncodedTexts
+pub mod steps

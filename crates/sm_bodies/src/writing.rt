@@ -1,0 +1,149 @@
+// The bytes that are written for a value: the events of its tree go into a writer of the format, and no tree is made.
+ghost use Rattle.std.specs.Prelude.{◌≡◌, ◌<◌, [], Some, IfOk};
+ghost use Rattle.sm_json.specs.Written as json;
+ghost use Rattle.sm_cbor.specs.Written.{written_item};
+ghost use Rattle.sm_shapes.specs.Fitting.{Fits, any_text};
+ghost use Rattle.sm_shapes.specs.InOrder.{Shaped};
+ghost use Rattle.sm_shapes.specs.Places.{root_place};
+ghost use Rattle.sm_shapes.specs.TableData.{shape_count};
+ghost use Rattle.sm_shapes.specs.TableView.{table_data};
+ghost use Rattle.sm_shapes.specs.ValueView.{val_of};
+ghost use Rattle.sm_codec.specs.Encoded.{first_path};
+ghost use Rattle.sm_codec.specs.Written.{written, uncarried};
+ghost use Rattle.sm_codec.specs.WrittenLaws.{WritesJson, WritesCbor};
+ghost use Rattle.sm_bodies.specs.Sides.{side_of, WritesForm};
+ghost use Rattle.sm_bodies.specs.Bodies.{WritesBody};
+
+use crate::form::BodyForm;
+use sm_cbor::CborWriter;
+use sm_codec::{Leaves, all_carried, carry_fault, encode_events};
+use sm_json::JsonWriter;
+use sm_shapes::tables::Table;
+use sm_shapes::values::Value;
+use sm_tree::{NoMemory, Path};
+use std::alloc::Global;
+
+/// What is written for a value.
+#[derive(Debug, Drop)]
+pub enum Written {
+    /// Its text or its item.
+    Bytes(Vec<u8>),
+    /// Nothing: the way to its first leaf, in model order, that the convention doesn't carry.
+    NotCarried(Path),
+}
+
+// The JSON text of a value whose leaves are carried.
+fn made_text<L: Leaves>(
+    alloc: Global,
+    table: &Table,
+    shape: u32,
+    value: &Value,
+    leaves: &L,
+) -> Result<Vec<u8>, NoMemory>
+    requires shaped { Shaped (table_data table.now) }
+    requires shape { shape < shape_count (table_data table.now) }
+    requires fits { Fits (table_data table.now) any_text (root_place shape) (val_of value.now) }
+    requires carried { uncarried (table_data table.now) (L.convention leaves.now) (root_place shape) (val_of value.now) ≡ [] }
+    requires writes { WritesJson (L.convention leaves.now) }
+    ensures { IfOk result (λ text.
+        text.items ≡ json.written (written (table_data table.now) (L.convention leaves.now) (root_place shape) (val_of value.now))) }
+{
+    let mut writer = JsonWriter::new(alloc);
+    encode_events(alloc, table, shape, value, leaves, &mut writer)?;
+    Ok(writer.into_bytes())
+}
+
+// The item of CBOR of such a value.
+fn made_item<L: Leaves>(
+    alloc: Global,
+    table: &Table,
+    shape: u32,
+    value: &Value,
+    leaves: &L,
+) -> Result<Vec<u8>, NoMemory>
+    requires shaped { Shaped (table_data table.now) }
+    requires shape { shape < shape_count (table_data table.now) }
+    requires fits { Fits (table_data table.now) any_text (root_place shape) (val_of value.now) }
+    requires carried { uncarried (table_data table.now) (L.convention leaves.now) (root_place shape) (val_of value.now) ≡ [] }
+    requires writes { WritesCbor (L.convention leaves.now) }
+    ensures { IfOk result (λ item.
+        item.items ≡ written_item (written (table_data table.now) (L.convention leaves.now) (root_place shape) (val_of value.now))) }
+{
+    let mut writer = CborWriter::new(alloc);
+    encode_events(alloc, table, shape, value, leaves, &mut writer)?;
+    Ok(writer.into_bytes())
+}
+
+// The text or the item of such a value.
+fn made<L: Leaves>(
+    alloc: Global,
+    form: BodyForm,
+    table: &Table,
+    shape: u32,
+    value: &Value,
+    leaves: &L,
+) -> Result<Vec<u8>, NoMemory>
+    requires shaped { Shaped (table_data table.now) }
+    requires shape { shape < shape_count (table_data table.now) }
+    requires fits { Fits (table_data table.now) any_text (root_place shape) (val_of value.now) }
+    requires carried { uncarried (table_data table.now) (L.convention leaves.now) (root_place shape) (val_of value.now) ≡ [] }
+    requires writes { WritesForm form (L.convention leaves.now) }
+    ensures { IfOk result (λ bytes.
+        bytes.items ≡ (side_of form).text (written (table_data table.now) (L.convention leaves.now) (root_place shape) (val_of value.now))) }
+{
+    match form {
+        BodyForm::Json => made_text(alloc, table, shape, value, leaves),
+        BodyForm::Cbor => made_item(alloc, table, shape, value, leaves),
+    }
+}
+
+// The way to the first leaf of a value that isn't carried.
+fn way_to_leaf<L: Leaves>(
+    alloc: Global,
+    table: &Table,
+    shape: u32,
+    value: &Value,
+    leaves: &L,
+) -> Result<Path, NoMemory>
+    requires shaped { Shaped (table_data table.now) }
+    requires shape { shape < shape_count (table_data table.now) }
+    requires fits { Fits (table_data table.now) any_text (root_place shape) (val_of value.now) }
+    requires some { uncarried (table_data table.now) (L.convention leaves.now) (root_place shape) (val_of value.now) ≡ [] → ⊥ }
+    ensures { IfOk result (λ path.
+        first_path (uncarried (table_data table.now) (L.convention leaves.now) (root_place shape) (val_of value.now)) ≡ Some path) }
+{
+    match carry_fault(alloc, table, shape, value, leaves) {
+        Ok(Some(path)) => Ok(path),
+        Ok(None) => unreachable!(),
+        Err(refusal) => Err(refusal),
+    }
+}
+
+/// The body of a value in this form.
+pub fn write_body<L: Leaves>(
+    alloc: Global,
+    form: BodyForm,
+    table: &Table,
+    shape: u32,
+    value: &Value,
+    leaves: &L,
+) -> Result<Written, NoMemory>
+    requires shaped { Shaped (table_data table.now) }
+    requires shape { shape < shape_count (table_data table.now) }
+    requires fits { Fits (table_data table.now) any_text (root_place shape) (val_of value.now) }
+    requires writes { WritesForm form (L.convention leaves.now) }
+    ensures { IfOk result (λ made.
+        WritesBody (side_of form).text (table_data table.now) (L.convention leaves.now) (root_place shape) (val_of value.now) made) }
+{
+    if all_carried(table, shape, value, leaves) {
+        match made(alloc, form, table, shape, value, leaves) {
+            Ok(bytes) => Ok(Written::Bytes(bytes)),
+            Err(refusal) => Err(refusal),
+        }
+    } else {
+        match way_to_leaf(alloc, table, shape, value, leaves) {
+            Ok(path) => Ok(Written::NotCarried(path)),
+            Err(refusal) => Err(refusal),
+        }
+    }
+}
