@@ -28,20 +28,20 @@ pub struct Feed<'a, L: Leaves, P: Patterns> {
 }
 
 /// It stands for the events for which its decoder does, over a table that is in order and whose patterns the store has. It takes every
-/// event, and none changes the table, the leaves, the store, or the decoder's shape.
+/// event, and none changes the table, the leaves, the store and which one it is, or the decoder's shape.
 impl<'a, L: Leaves, P: Patterns> EventSink for Feed<'a, L, P> {
     ghost stands_for = { λ f es. IsFed (codec_of (table_data f.table.now) (L.convention f.leaves.now) P.test) (P.added f.patterns.now) f.decoder es };
 
     ghost takes = { λ f e. Unit {0} };
 
-    ghost alike = { λ f g. (f.table.now ≡ g.table.now) × (f.leaves.now ≡ g.leaves.now) × (P.added f.patterns.now ≡ P.added g.patterns.now) × (P.refused f.patterns.now ≡ P.refused g.patterns.now) × (P.refusals f.patterns.now ≡ P.refusals g.patterns.now) × ((decoding_of f.decoder).shape ≡ (decoding_of g.decoder).shape) };
+    ghost alike = { λ f g. (f.table.now ≡ g.table.now) × (f.leaves.now ≡ g.leaves.now) × (P.added f.patterns.now ≡ P.added g.patterns.now) × (P.refused f.patterns.now ≡ P.refused g.patterns.now) × (P.refusals f.patterns.now ≡ P.refusals g.patterns.now) × ((decoding_of f.decoder).shape ≡ (decoding_of g.decoder).shape) × (f.patterns.ghost_name ≡ g.patterns.ghost_name) };
 
     fn event(&mut self, event: Event) -> Result<(), NoMemory> {
         self.decoder
             .event(self.alloc, self.table, event, self.leaves, self.patterns)
     }
 
-    ghost alike_itself = { λ f. (refl, refl, refl, refl, refl, refl) };
+    ghost alike_itself = { λ f. (refl, refl, refl, refl, refl, refl, refl) };
 
-    ghost alike_then = { λ f g h fg gh. (fg.0 ∙ gh.0, fg.1 ∙ gh.1, fg.2 ∙ gh.2, fg.3 ∙ gh.3, fg.4 ∙ gh.4, fg.5 ∙ gh.5) };
+    ghost alike_then = { λ f g h fg gh. (fg.0 ∙ gh.0, fg.1 ∙ gh.1, fg.2 ∙ gh.2, fg.3 ∙ gh.3, fg.4 ∙ gh.4, fg.5 ∙ gh.5, fg.6 ∙ gh.6) };
 }
