@@ -1,9 +1,7 @@
 -- A text says one list of statements or is refused for one reason, and it can't be that there is neither.
-use Rattle.std.proofs.Common.{◌≡◌, ◌⊎◌, inl, inr, ℕ, List, [], ◌∷◌, ◌++◌, length, refl, sym, ap, subst, ◌∙◌, append-nil, append_assoc}
+use Rattle.std.proofs.Common.{◌≡◌, inl, inr, ℕ, List, [], ◌∷◌, ◌++◌, length, refl, sym, ap, subst, ◌∙◌, append-nil, append_assoc}
 use Rattle.std.proofs.Common.{Some, Err}
-use Rattle.std.specs.Prelude.{IsUtf8}
-use Rattle.sm_lex.specs.Tokens.{Lexeme, TokensSpell, LexRefused}
-use Rattle.sm_lex.specs.declared.token.LexRefusal.{LexRefusal}
+use Rattle.sm_lex.specs.Tokens.{Lexeme, TokensSpell}
 use Rattle.sm_lex.proofs.OneReading.{one_reading as one_lexing, one_refusal as one_lex_refusal, spelled_or_refused}
 use Rattle.sm_idl.specs.Productions.{Tokens, spaced}
 use Rattle.sm_idl.specs.Idl.{FileSaid, FileSpelled, Begun, Idl, HaveVersion}

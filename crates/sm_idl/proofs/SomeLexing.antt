@@ -1,7 +1,7 @@
 -- A text that is UTF-8 has tokens, or a reason why it has none: it can't be that there is neither.
 use Rattle.std.proofs.Common.{◌≡◌, ℕ, zero, suc, ◌+◌, ◌-◌, ◌≤◌, ◌<◌, inl, inr, Bool, true, false, cond, List, [], ◌∷◌, length, take, drop}
 use Rattle.std.proofs.Common.{refl, sym}
-use Rattle.std.proofs.Common.{ap, subst, ◌∙◌, ◌&&◌, arith, length-drop, eqb, nat_eq, true≢false, All}
+use Rattle.std.proofs.Common.{ap, subst, ◌∙◌, ◌&&◌, arith, length-drop, eqb, nat_eq, true≢false}
 use Rattle.std.specs.Prelude.{Option, Some, None, Result, Ok, Err, IsOk, IsUtf8, codes, slice_range}
 use Rattle.std.specs.List.{before_first, position_or_len, prefix_len}
 use Rattle.std.specs.Option.{option_map}
@@ -12,7 +12,6 @@ use Rattle.std.proofs.lemmas.List.Elements.{All-head}
 use Rattle.std.proofs.lemmas.List.Folds.{length-prefix_len}
 use Rattle.std.proofs.lemmas.List.Sums.{prefix_len-le-length}
 use Rattle.std.proofs.lemmas.Str.{IsUtf8-drop, IsCharBoundary-start}
-use Rattle.sm_tree.specs.Numbers.{IsNumber}
 use Rattle.sm_lex.specs.declared.byte.First.{First}
 use Rattle.sm_lex.specs.declared.byte.First.TheVariants.{White, Slash, Word as a_word, Number as a_number, Quote as a_quote, Mark as a_mark}
 use Rattle.sm_lex.specs.declared.byte.First.TheVariants.{Stray as a_stray}
@@ -23,7 +22,7 @@ use Rattle.sm_lex.specs.declared.token.LexRefusal.TheVariants.{Bad, UnclosedStri
 use Rattle.sm_lex.specs.Answers.{IsWhole}
 use Rattle.sm_lex.specs.Bytes.{first_of, FirstIs, is_idl_white, begins_word, begins_number, begins_mark, is_word_byte, opens_with}
 use Rattle.sm_lex.specs.Lines.{line_end_len}
-use Rattle.sm_lex.specs.Space.{Piece, white, comment, SpacePieces, SkipsSpace, EndsSpace, is_line_feed}
+use Rattle.sm_lex.specs.Space.{white, comment, SpacePieces, SkipsSpace, EndsSpace, is_line_feed}
 use Rattle.sm_lex.specs.Tokens.{BeginsNumber, LongestNumber, three_quotes, string_len, block_len, OpensString, OpensBlock, TokenAt}
 use Rattle.sm_lex.specs.Tokens.{LexRefusedAt}
 use Rattle.sm_lex.specs.Tokens.{Lexeme, IsNextToken, TokensLead, TokensSpell, LexRefused, first_end, one_quote}
@@ -87,8 +86,12 @@ behind (suc fuel) (c ∷ s) few =
     by_slashes [] true e le w rec = absurd (true≢false (sym e ∙ and_nothing (nat_eq 47 c)))
     by_slashes (d ∷ s) true e le w rec =
         subst Behind (sym (slashes c d s e))
-        (comment_behind s (rec (drop (length (before_first is_line_feed s)) s) (omega (arith, le, length-drop (length
-        (before_first is_line_feed s)) s))))
+        (comment_behind s (rec (drop (length (before_first is_line_feed s)) s) (omega (
+          arith,
+          le,
+          length-drop (length
+              (before_first is_line_feed s)) s,
+        ))))
 
     by_white : (b : Bool) → is_idl_white c ≡ b → ((r : List ℕ) → length r ≤ fuel → Behind r) → Behind (c ∷ s)
     by_white true w rec = white_behind c s w (rec s (omega (arith, few)))
@@ -96,17 +99,20 @@ behind (suc fuel) (c ∷ s) few =
 
 -- one number is the longest
 some_number : BeginsNumber []
-some_number = (48 ∷ [], record {
-  minus = [];
-  whole = 48 ∷ [];
-  fraction = [];
-  exponent = [];
-  parts = refl;
-  is_minus = inl refl;
-  is_int = inl refl;
-  is_fraction = inl refl;
-  is_exponent = inl refl;
-})
+some_number = (
+  48 ∷ [],
+  record {
+    minus = [];
+    whole = 48 ∷ [];
+    fraction = [];
+    exponent = [];
+    parts = refl;
+    is_minus = inl refl;
+    is_int = inl refl;
+    is_fraction = inl refl;
+    is_exponent = inl refl;
+  },
+)
 
 longest_from : (s : List ℕ) → ((n : ℕ) → LongestNumber s n → ⊥) → (k n : ℕ) → n + k ≡ length s → BeginsNumber (take n s) → ⊥
 longest_from s none zero n same begins =
@@ -161,8 +167,12 @@ module _ (start : ℕ) (s : List ℕ) (u : IsUtf8 s) (found : (k : TokenKind) (n
 
   by_number : FirstIs a_number s → (n : ℕ) → LongestNumber s n → ⊥
   by_number first n longest =
-      refused (Bad (start + n)) (inr (inl (n, broken_number n s first longest (λ number.
-      found Number n (found_number start n s u first longest number)), refl)))
+      refused (Bad (start + n)) (inr (inl (
+        n,
+        broken_number n s first longest (λ number.
+            found Number n (found_number start n s u first longest number)),
+        refl,
+      )))
 
   by_class : (f : First) → FirstIs f s → (FirstIs White s → ⊥) → (FirstIs Slash s → opens_with s (codes "//") ≡ false) → ⊥
   by_class White first no_white slash = no_white first

@@ -4,7 +4,7 @@ use Rattle.std.proofs.Common.{get_or, take}
 use Rattle.std.proofs.Common.{drop, Option, Some, None, Result, Ok, Err, refl, sym, ap, subst, ◌∙◌, arith, length-drop, map}
 use Rattle.std.specs.Prelude.{IsUtf8}
 use Rattle.std.specs.Char.{encode_utf8}
-use Rattle.std.specs.List.{position_or_len, before_first, suffix_len}
+use Rattle.std.specs.List.{position_or_len, suffix_len}
 use Rattle.std.specs.Str.{IsCharBoundary}
 use Rattle.std.proofs.Math.Seq.{take-length}
 use Rattle.std.proofs.lemmas.Bool.Decides.{nat_tests}

@@ -1,34 +1,31 @@
 -- Operations, services and resources of a text that is UTF-8 are as merging asks for them.
-use Rattle.std.proofs.Common.{◌≡◌, ◌⊎◌, ℕ, inl, inr, List, [], ◌∷◌, ◌++◌, map, Option, Some, None, codes, refl, sym, ap, subst, ◌∙◌}
-use Rattle.std.proofs.Common.{true, false}
+use Rattle.std.proofs.Common.{◌≡◌, ℕ, inl, inr, List, [], ◌∷◌, ◌++◌, map, Option, Some, codes, refl, sym, subst}
+use Rattle.std.proofs.Common.{false}
 use Rattle.std.specs.Prelude.{IsUtf8}
 use Rattle.std.proofs.lemmas.List.{map_push}
 use Rattle.sm_ids.specs.Identifier.{IsIdentifier}
 use Rattle.sm_ids.specs.IdText.{IsIdText}
-use Rattle.sm_lex.specs.Tokens.{Lexeme}
-use Rattle.sm_tree.specs.Node.{text}
-use Rattle.sm_model.specs.Formed.{DifferInNames, IsRaw, IsRawReference, AreRawReferences, AreNamedReferences, IsNewName, AreNewNames}
-use Rattle.sm_model.specs.Formed.{IsRawText}
-use Rattle.sm_model.specs.Formed.{HasPropertyForm, AreFields, AreProperties, AreTraits, IsFormedShape, AreFormed}
+use Rattle.sm_model.specs.Formed.{DifferInNames, IsRaw, AreRawReferences, AreNamedReferences, IsNewName, AreNewNames}
+use Rattle.sm_model.specs.Formed.{HasPropertyForm, AreFields, AreProperties, AreTraits, AreFormed}
 use Rattle.sm_model.specs.Kinds.{any}
 use Rattle.sm_model.specs.Properties.{TypeFields, form_named, operation_fields}
-use Rattle.sm_model.specs.Raw.{Raw, raw_leaf, raw_id, raw_list, raws_of, raw_members_of, empty_raw}
-use Rattle.sm_model.specs.References.{AreReferences, absolute}
+use Rattle.sm_model.specs.Raw.{Raw, raw_id, raw_list, raws_of, raw_members_of, empty_raw}
+use Rattle.sm_model.specs.References.{AreReferences}
 use Rattle.sm_model.specs.Said.{TraitSaid, MemberSaid}
 use Rattle.sm_model.specs.declared.property.PropertyForm.{PropertyForm}
 use Rattle.sm_model.specs.declared.property.PropertyForm.TheVariants.{Reference, References, NamedReferences, Text, Rename}
 use Rattle.sm_model.specs.declared.reference.Ref.{Ref}
-use Rattle.sm_idl.specs.Productions.{Spaced, Production, one, gives, ◌>>=◌, ◌or◌, each, many}
-use Rattle.sm_idl.specs.Words.{IsNew, IsWordId, mark, word_that, id}
+use Rattle.sm_idl.specs.Productions.{Spaced, one, ◌or◌, many}
+use Rattle.sm_idl.specs.Words.{IsNew, IsWordId, word_that, id}
 use Rattle.sm_idl.specs.Nodes.{Home, written, IsNodeId, Pair, pair_names, as_object, pair_of}
-use Rattle.sm_idl.specs.Traits.{standing_for, traits}
+use Rattle.sm_idl.specs.Traits.{traits}
 use Rattle.sm_idl.specs.Members.{field, members, mixins}
-use Rattle.sm_idl.specs.Bodies.{defined_id, Suffixes, PartSaid, part_names, part_word, part_target, inline_name, inline_said, inline_with}
+use Rattle.sm_idl.specs.Bodies.{Suffixes, PartSaid, part_names, part_word, part_target, inline_name, inline_said, inline_with}
 use Rattle.sm_idl.specs.Bodies.{part_inline}
 use Rattle.sm_idl.specs.Bodies.{part_shape, part_errors, part, reference, references, braced_pairs, TextSays, text_node, new_name, renaming}
 use Rattle.sm_idl.specs.Bodies.{field_value, FieldNamed, property}
 use Rattle.sm_idl.proofs.Yields.{IsFine, Yields, Each, each_more, yields_one, yields_gives, yields_both, yields_or, yields_as}
-use Rattle.sm_idl.proofs.Yields.{yields_each, yields_many}
+use Rattle.sm_idl.proofs.Yields.{yields_many}
 use Rattle.sm_idl.proofs.Yields.{yields_word, yields_marked, yields_given}
 use Rattle.sm_idl.proofs.YieldNodes.{IsHome, word_fine, key_fine, text_fine, shape_id, defined_reference, written_reference, differ_more}
 use Rattle.sm_idl.proofs.YieldNodes.{PairsAre}

@@ -1,15 +1,13 @@
 -- Shapes, sections and files of a text that is UTF-8 are as merging asks for them.
-use Rattle.std.proofs.Common.{◌≡◌, ℕ, inl, inr, Bool, true, false, cond, true≢false, List, [], ◌∷◌, ◌++◌, map, Option, Some, None, codes}
+use Rattle.std.proofs.Common.{◌≡◌, ℕ, inl, inr, Bool, true, false, cond, true≢false, List, [], ◌∷◌, ◌++◌, Option, Some, None, codes}
 use Rattle.std.proofs.Common.{refl, sym}
 use Rattle.std.proofs.Common.{ap, subst, ◌∙◌}
 use Rattle.std.specs.Prelude.{IsUtf8}
 use Rattle.std.specs.List.{filter, flat_map}
 use Rattle.sm_ids.specs.Identifier.{IsIdentifier, IsNamespace}
-use Rattle.sm_lex.specs.Tokens.{Lexeme}
 use Rattle.sm_tree.specs.Limits.{most_levels}
-use Rattle.sm_model.specs.Formed.{DifferInNames, HaveForm, AreProperties, AreTraits, IsFormed, AreFormed, IsRaw, AreStatedMembers}
-use Rattle.sm_model.specs.Formed.{stated_names}
-use Rattle.sm_model.specs.Kinds.{MemberForm, any, member_form}
+use Rattle.sm_model.specs.Formed.{DifferInNames, HaveForm, AreProperties, AreTraits, IsFormed, AreFormed, IsRaw}
+use Rattle.sm_model.specs.Kinds.{any, member_form}
 use Rattle.sm_model.specs.Properties.{operation_fields, property_forms}
 use Rattle.sm_model.specs.References.{AreReferences, AreIds}
 use Rattle.sm_model.specs.Said.{TraitSaid, MemberSaid, Said}
@@ -18,14 +16,14 @@ use Rattle.sm_model.specs.declared.kind.Kind.TheVariants.{Blob, Boolean, Text, E
 use Rattle.sm_model.specs.declared.kind.Kind.TheVariants.{Double, BigInteger}
 use Rattle.sm_model.specs.declared.kind.Kind.TheVariants.{BigDecimal, Timestamp, Document, List as list_kind, Map, Structure, Union}
 use Rattle.sm_model.specs.declared.kind.Kind.TheVariants.{Service, Operation, Resource}
-use Rattle.sm_idl.specs.Productions.{Tokens, spaced, Production, gives, ◌>>=◌, ◌>>◌, ◌or◌, maybe, each, many}
-use Rattle.sm_idl.specs.Words.{IsNew, IsWordId, mark, the_word, word_that, id, identifier, key}
-use Rattle.sm_idl.specs.Nodes.{Home, Pair, pair_names, as_object, node}
+use Rattle.sm_idl.specs.Productions.{Tokens, spaced, Production, each, many}
+use Rattle.sm_idl.specs.Words.{IsNew, IsWordId, word_that, identifier, key}
+use Rattle.sm_idl.specs.Nodes.{Home, Pair, pair_names, node}
 use Rattle.sm_idl.specs.Traits.{traits, apply}
 use Rattle.sm_idl.specs.Members.{enum_member, member, field, members, mixins}
-use Rattle.sm_idl.specs.Bodies.{Suffixes, suffixes, defined_id, PartSaid, part_names, part, property}
+use Rattle.sm_idl.specs.Bodies.{Suffixes, suffixes, PartSaid, part_names, part, property}
 use Rattle.sm_idl.specs.Shapes.{type_word, BodySaid, simple_body, members_body, part_pairs, operation_body, pairs_body, body}
-use Rattle.sm_idl.specs.Shapes.{stated_shape, shape_with}
+use Rattle.sm_idl.specs.Shapes.{shape_with}
 use Rattle.sm_idl.specs.Shapes.{shape, apply_item, item}
 use Rattle.sm_idl.specs.Idl.{control, metadata, used, is_absolute, home_of, SectionSaid, items, section, FileSaid, section_home}
 use Rattle.sm_idl.specs.Idl.{section_said}
@@ -36,9 +34,9 @@ use Rattle.sm_idl.proofs.FirmShort.{row_firm}
 use Rattle.sm_idl.proofs.UsedWords.{relative_not_absolute}
 use Rattle.sm_idl.proofs.Yields.{AreFine, fine_behind, tokens_fine, Yields, IfThere, Each, each_more, yields_one, yields_gives}
 use Rattle.sm_idl.proofs.Yields.{yields_both, yields_or}
-use Rattle.sm_idl.proofs.Yields.{yields_as, yields_maybe, yields_each, yields_many, yields_word, yields_marked, yields_worded, yields_given}
+use Rattle.sm_idl.proofs.Yields.{yields_maybe, yields_each, yields_many, yields_word, yields_marked, yields_worded, yields_given}
 use Rattle.sm_idl.proofs.YieldNodes.{IsHome, shape_id, IsRawPair, key_yields, node_yields, traits_yields, traits_joined, documented_yields}
-use Rattle.sm_idl.proofs.YieldNodes.{PairsAre, braced_yields, apply_yields}
+use Rattle.sm_idl.proofs.YieldNodes.{braced_yields, apply_yields}
 use Rattle.sm_idl.proofs.YieldMembers.{IsNext, HasForm, MayHave, enum_yields, plain_yields, field_yields, members_yields, mixins_yields}
 use Rattle.sm_idl.proofs.YieldBodies.{IsField, property_yields, are_properties, no_properties, AreParts, no_parts, part_yields}
 
@@ -139,15 +137,17 @@ shape_with_yields home endings docs h d =
     yields_both (traits home) _ AreTraits AreFormed (traits_yields home h) (λ ts are.
     yields_both type_word _ (λ _. Unit {0}) AreFormed type_yields (λ kind _.
     yields_both identifier _ IsIdentifier AreFormed (yields_word IsIdentifier) (λ name is.
-    yields_given (body home endings kind name) _ (IsBody kind) AreFormed (body_yields home endings kind name h) (λ b has.
-    (record {
-      id = shape_id home.namespace name h.0 is;
-      names = has.members.1;
-      members = has.members.0;
-      mixins = has.mixins;
-      properties = has.properties;
-      traits = traits_joined docs ts d are;
-    }, has.defined)))))
+    yields_given (body home endings kind name) _ (IsBody kind) AreFormed (body_yields home endings kind name h) (λ b has. (
+      record {
+        id = shape_id home.namespace name h.0 is;
+        names = has.members.1;
+        members = has.members.0;
+        mixins = has.mixins;
+        properties = has.properties;
+        traits = traits_joined docs ts d are;
+      },
+      has.defined,
+    )))))
 
 item_yields : (home : Home) (endings : Suffixes) → IsHome home → Yields (item home endings) AreFormed
 item_yields home endings h =

@@ -6,19 +6,17 @@ use Rattle.std.proofs.lemmas.List.{map_push, map-append}
 use Rattle.sm_ids.specs.Identifier.{IsIdentifier}
 use Rattle.sm_model.specs.Formed.{StandsAmong, DifferInNames, IsRaw, AreTraits, AreStatedMembers, stated_names, HaveForm}
 use Rattle.sm_model.specs.Kinds.{MemberForm, none, exactly, any}
-use Rattle.sm_model.specs.PreludeShapes.{unit_id}
-use Rattle.sm_model.specs.References.{IsReference, AreReferences, absolute}
+use Rattle.sm_model.specs.References.{IsReference, AreReferences}
 use Rattle.sm_model.specs.Said.{TraitSaid, MemberSaid}
 use Rattle.sm_model.specs.declared.reference.Ref.{Ref}
-use Rattle.sm_idl.specs.Productions.{Production, gives, ◌>>=◌, maybe, each, many}
-use Rattle.sm_idl.specs.Words.{IsNew, IsWordId, mark, mark_where, the_word, id}
+use Rattle.sm_idl.specs.Productions.{Production, maybe, each, many}
+use Rattle.sm_idl.specs.Words.{IsNew, IsWordId, mark_where, id}
 use Rattle.sm_idl.specs.Nodes.{Home, written}
-use Rattle.sm_idl.specs.Traits.{node_in, traits, value_trait}
-use Rattle.sm_idl.specs.Members.{IsNameOf, StandAmong, HasMembers, member_under, members_under, arranged, member_name, equals_node}
+use Rattle.sm_idl.specs.Traits.{traits, value_trait}
+use Rattle.sm_idl.specs.Members.{StandAmong, HasMembers, member_under, members_under, arranged, member_name, equals_node}
 use Rattle.sm_idl.specs.Members.{given_value}
 use Rattle.sm_idl.specs.Members.{enum_member_with, enum_member, member_with, member, field, members, with_mixins, or_none, mixins}
 use Rattle.sm_idl.proofs.ArrangedMembers.{under_first, under_later}
-use Rattle.sm_idl.proofs.PairsAhead.{differ}
 use Rattle.sm_idl.proofs.Yields.{Yields, IfThere, Each, yields_one, yields_as, yields_gives, yields_both, yields_maybe, yields_each}
 use Rattle.sm_idl.proofs.Yields.{yields_many, yields_word}
 use Rattle.sm_idl.proofs.Yields.{yields_marked, yields_worded, yields_given}
@@ -59,10 +57,13 @@ enum_with : (home : Home) (before : List MemberSaid) (docs : List TraitSaid) →
 enum_with home before docs h d =
     yields_both (traits home) _ AreTraits (IsNext before) (traits_yields home h) (λ ts are.
     yields_both (member_name any before) _ _ (IsNext before) (name_yields any before) (λ name is.
-    yields_given (given_value home) _ (IfThere IsRaw) (IsNext before) (value_yields home h) (λ value raw.
-    (is.0, is.1, api_reference (codes "Unit") false refl,
-    traits_joined (docs ++ ts) (value_trait (codes "enumValue") value) (traits_joined docs ts d are) (value_traits
-    (codes "enumValue") value refl raw)))))
+    yields_given (given_value home) _ (IfThere IsRaw) (IsNext before) (value_yields home h) (λ value raw. (
+      is.0,
+      is.1,
+      api_reference (codes "Unit") false refl,
+      traits_joined (docs ++ ts) (value_trait (codes "enumValue") value) (traits_joined docs ts d are) (value_traits
+          (codes "enumValue") value refl raw),
+    ))))
 
 pub enum_yields : (home : Home) → IsHome home → (before : List MemberSaid) → Yields (enum_member home before) (IsNext before)
 enum_yields home h before = documented_yields (enum_member_with home before) (IsNext before) (λ docs d. enum_with home before docs h d)
@@ -84,9 +85,13 @@ plain_yields home form h before =
 pub field_yields : (home : Home) → IsHome home → (before : List MemberSaid) → Yields (field home before) (IsNext before)
 field_yields home h before =
     yields_both (member home any before) _ (IsNext before) (IsNext before) (plain_yields home any h before) (λ m next.
-    yields_given (given_value home) _ (IfThere IsRaw) (IsNext before) (value_yields home h) (λ value raw.
-    (next.0, next.1, next.2, traits_joined m.traits (value_trait (codes "default") value) next.3 (value_traits
-    (codes "default") value refl raw))))
+    yields_given (given_value home) _ (IfThere IsRaw) (IsNext before) (value_yields home h) (λ value raw. (
+      next.0,
+      next.1,
+      next.2,
+      traits_joined m.traits (value_trait (codes "default") value) next.3 (value_traits
+          (codes "default") value refl raw),
+    )))
 
 -- the members of a type, in its order
 chosen_stated : (b : Bool) (m : MemberSaid) (ms : List MemberSaid) → AreStatedMembers (m ∷ []) → AreStatedMembers ms

@@ -1,7 +1,7 @@
 -- Nodes, traits and documentation of a text that is UTF-8 are as merging asks for them.
-use Rattle.std.proofs.Common.{◌≡◌, ◌<◌, ◌⊎◌, ℕ, zero, suc, inl, inr, Bool, true, false, if◌then◌else◌, List, [], ◌∷◌, ◌++◌, map, Option}
+use Rattle.std.proofs.Common.{◌≡◌, ◌<◌, ◌⊎◌, ℕ, zero, suc, inl, inr, Bool, true, false, if◌then◌else◌, List, [], ◌∷◌, ◌++◌, Option}
 use Rattle.std.proofs.Common.{Some, None}
-use Rattle.std.proofs.Common.{arith, Ok, Err, codes, refl, sym, ap, subst, ◌∙◌, append-nil}
+use Rattle.std.proofs.Common.{arith, codes, refl, sym, ap, subst, append-nil}
 use Rattle.std.specs.Prelude.{IsUtf8, FitsSigned}
 use Rattle.std.specs.Int.{w64}
 use Rattle.std.proofs.lemmas.List.{map_push}
@@ -12,7 +12,6 @@ use Rattle.std.proofs.lemmas.List.Sums.{AllPass-from_list_all}
 use Rattle.std.proofs.lemmas.Str.{IsUtf8-append, IsUtf8-from_ascii}
 use Rattle.std.proofs.lemmas.Str.Ascii.{IsAscii-from_all}
 use Rattle.sm_ids.specs.Identifier.{IsIdentifier, IsNamespace}
-use Rattle.sm_ids.specs.IdText.{Id, IdText, IsIdText}
 use Rattle.sm_lex.specs.Shapes.{HasShape}
 use Rattle.sm_lex.specs.Tokens.{Lexeme}
 use Rattle.sm_lex.specs.declared.token.TokenKind.{TokenKind}
@@ -22,12 +21,12 @@ use Rattle.sm_tree.specs.Limits.{most_levels}
 use Rattle.sm_tree.specs.Node.{Node, null, bool, int, number, text, bytes, tag, opaque, list, object}
 use Rattle.sm_tree.specs.Numbers.{NumberText, IsNumber, IsInt64}
 use Rattle.sm_model.specs.Formed.{StandsAmong, DifferInNames, raw_names, IsLeaf, IsRaw, AreRaw, AreRawMembers, AreTraits, IsFormed}
-use Rattle.sm_model.specs.PreludeShapes.{api_id, is_prelude_id}
+use Rattle.sm_model.specs.PreludeShapes.{api_id}
 use Rattle.sm_model.specs.Raw.{Raw, raw_leaf, raw_list, raws_of, raw_members_of, empty_raw}
 use Rattle.sm_model.specs.References.{IsReference, IsShapeId, AreIds, absolute}
 use Rattle.sm_model.specs.Said.{TraitSaid, apply_said}
-use Rattle.sm_idl.specs.Productions.{Spaced, Tokens, Production, one, gives, ◌>>=◌, ◌>>◌, maybe, each, each_behind, many}
-use Rattle.sm_idl.specs.Words.{IsWord, IsString, IsBlock, IsKey, IsNew, IsWordId, mark, the_word, id, key}
+use Rattle.sm_idl.specs.Productions.{Spaced, Tokens, Production, gives, ◌>>=◌, maybe, each, each_behind, many}
+use Rattle.sm_idl.specs.Words.{IsWord, IsString, IsBlock, IsKey, IsNew, IsWordId, mark, id, key}
 use Rattle.sm_idl.specs.Nodes.{Home, written, word_meant, WordSays, LeafSaid, leaf, Pair, pair_names, as_object, pair_of, object_of}
 use Rattle.sm_idl.specs.Nodes.{list_of, node}
 use Rattle.sm_idl.specs.Traits.{node_in, pairs_or_node, arguments, argument_value, applied, traits, standing_for, value_trait, DocsBefore}

@@ -1,5 +1,5 @@
 -- What is said by whatever tokens of UTF-8 a production takes, put together as productions are.
-use Rattle.std.proofs.Common.{◌≡◌, ◌≤◌, ℕ, inl, inr, List, [], ◌∷◌, ◌++◌, Option, Some, None, Result, Ok, Err, append-nil, append_assoc}
+use Rattle.std.proofs.Common.{◌≤◌, ℕ, inl, inr, List, [], ◌∷◌, ◌++◌, Option, Some, None, append-nil, append_assoc}
 use Rattle.std.proofs.Common.{sym, subst}
 use Rattle.std.proofs.Common.{All, arith}
 use Rattle.std.specs.Prelude.{IsUtf8}
