@@ -1,12 +1,11 @@
 -- From what decoding and writing answer to what a body comes to on the other side.
-use Rattle.std.proofs.Common.{◌≡◌, ℕ, List, [], ◌∷◌, refl, ap, ◌∙◌}
+use Rattle.std.proofs.Common.{◌≡◌, ℕ, List, [], ◌∷◌, ap}
 use Rattle.std.specs.Prelude.{Result, Ok, Err, IfOk, Some}
 use Rattle.sm_tree.specs.declared.path.Step.{Step}
 use Rattle.sm_shapes.specs.Fitting.{Test}
-use Rattle.sm_shapes.specs.Places.{Place, root_place}
+use Rattle.sm_shapes.specs.Places.{root_place}
 use Rattle.sm_shapes.specs.TableData.{TableData}
 use Rattle.sm_shapes.specs.ValueView.{val_of}
-use Rattle.sm_shapes.specs.declared.fault.FaultKind.TheVariants.{NotCarried}
 use Rattle.sm_shapes.specs.declared.values.Value.{Value}
 use Rattle.sm_codec.specs.Encoded.{first_path}
 use Rattle.sm_bodies.specs.Sides.{side_of}

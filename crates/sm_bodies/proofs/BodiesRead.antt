@@ -3,7 +3,6 @@ use Rattle.std.proofs.Common.{◌≡◌, ◌≤◌, ℕ, List, [], ◌∷◌, le
 use Rattle.std.specs.Prelude.{Result, Ok, Err, IfOk, OnOk}
 use Rattle.sm_tree.specs.Events.{NodeEvent}
 use Rattle.sm_tree.specs.Node.{Node}
-use Rattle.sm_tree.specs.Streams.{Streams}
 use Rattle.sm_tree.specs.Syntax.{Syntax, IsRead}
 use Rattle.sm_tree.specs.declared.refusal.SyntaxRefusal.{SyntaxRefusal}
 use Rattle.sm_tree.specs.declared.refusal.SyntaxRefusal.TheVariants.{Bad, Ended, TooDeep, KeyKind, NoMemory}
@@ -21,7 +20,7 @@ use Rattle.sm_codec.specs.DecodingView.{decoding_of, IsWhole, IsFed}
 use Rattle.sm_codec.specs.Spelling.{Spells}
 use Rattle.sm_codec.specs.declared.decoder.Decoder.{Decoder}
 use Rattle.sm_bodies.specs.Bodies.{DecodesAs}
-use Rattle.sm_bodies.specs.steps.Reading.{HasRead, RefusedSo, ReadsInto, body_refusal, TreeGives, FinishesAs, AnswersRead}
+use Rattle.sm_bodies.specs.steps.Reading.{RefusedSo, ReadsInto, body_refusal, TreeGives, AnswersRead}
 use Rattle.sm_bodies.specs.declared.reading.BodyRefusal.{BodyRefusal}
 use Rattle.sm_bodies.specs.declared.reading.BodyRefusal.TheVariants as body
 use Rattle.sm_bodies.proofs.FitsAny.{fits_any}

@@ -6,7 +6,6 @@ use Rattle.sm_tree.specs.Syntax.{ComesTo}
 use Rattle.sm_tree.specs.SyntaxLaws.{HasOneAnswer, HasSomeAnswer}
 use Rattle.sm_tree.specs.declared.path.Step.{Step}
 use Rattle.sm_tree.specs.declared.refusal.SyntaxRefusal.{SyntaxRefusal}
-use Rattle.sm_tree.specs.declared.refusal.SyntaxRefusal.TheVariants.{Bad, Ended, TooDeep, KeyKind, NoMemory}
 use Rattle.sm_tree.proofs.OneAnswer.{one_answer}
 use Rattle.sm_tree.proofs.SomeAnswer.{some_answer}
 use Rattle.sm_json.specs.JsonText.{json_syntax}

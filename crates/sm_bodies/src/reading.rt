@@ -7,14 +7,15 @@ ghost use Rattle.sm_shapes.specs.InOrder.{Shaped, AreStored, DefaultsPass};
 ghost use Rattle.sm_shapes.specs.TableData.{shape_count};
 ghost use Rattle.sm_shapes.specs.TableView.{table_data};
 ghost use Rattle.sm_codec.specs.Codec.{codec_of};
-ghost use Rattle.sm_codec.specs.DecodingView.{decoding_of, IsWhole};
+ghost use Rattle.sm_codec.specs.DecodingView.{decoding_of, IsFed, IsWhole};
 ghost use Rattle.sm_bodies.specs.Sides.{side_of};
 ghost use Rattle.sm_bodies.specs.Bodies.{DecodesAs};
 ghost use Rattle.sm_bodies.specs.steps.Reading.{ReadsInto, AnswersRead, FinishesAs, body_refusal};
 
+use crate::course::Course;
 use crate::form::BodyForm;
 use sm_cbor::CborReader;
-use sm_codec::{Decoder, Feed, Leaves, Refusal};
+use sm_codec::{Decoder, Leaves, Refusal};
 use sm_json::JsonReader;
 use sm_shapes::tables::Table;
 use sm_shapes::values::Value;
@@ -114,6 +115,38 @@ fn read_body<E: EventSink>(
     }
 }
 
+// The same into a decoder that has taken none. The store isn't changed.
+fn read_into<L: Leaves, P: Patterns>(
+    alloc: Global,
+    form: BodyForm,
+    table: &Table,
+    leaves: &L,
+    patterns: &mut P,
+    bytes: &[u8],
+    piece: usize,
+    decoder: &mut Decoder,
+) -> Result<(), SyntaxRefusal>
+    requires piece { 0 < piece }
+    requires empty { IsFed (codec_of (table_data table.now) (L.convention leaves.now) P.test)
+        (P.added patterns.old) decoder.old [] }
+    ensures read { ReadsInto (side_of form).syntax
+        (IsFed (codec_of (table_data table.now) (L.convention leaves.now) P.test) (P.added patterns.old) decoder.new)
+        bytes.now result }
+    ensures shape { (decoding_of decoder.new).shape ≡ (decoding_of decoder.old).shape }
+    ensures added { P.added patterns.new ≡ P.added patterns.old }
+    ensures refused { P.refused patterns.new ≡ P.refused patterns.old }
+    ensures refusals { P.refusals patterns.new ≡ P.refusals patterns.old }
+{
+    let mut to = Course {
+        alloc,
+        table,
+        leaves,
+        patterns,
+        decoder,
+    };
+    read_body(alloc, form, bytes, piece, &mut to)
+}
+
 // Why a body has no value of which a reader says this.
 fn refused(refusal: SyntaxRefusal) -> BodyRefusal
     ensures { result ≡ body_refusal refusal }
@@ -150,7 +183,8 @@ fn answered(decoder: Decoder, read: Result<(), SyntaxRefusal>) -> Result<Value, 
     }
 }
 
-/// The value of a body of this form, whose bytes come in pieces of at most so many. The store must have the table's patterns.
+/// The value of a body of this form, whose bytes come in pieces of at most so many. The store must have the table's patterns, and
+/// isn't changed.
 ///
 /// # Errors
 ///
@@ -170,20 +204,25 @@ pub fn body_value<L: Leaves, P: Patterns>(
     requires shaped { Shaped (table_data table.now) }
     requires stored { AreStored (table_data table.now).patterns (P.added patterns.old) }
     requires pass { DefaultsPass (table_data table.now) P.test }
-    ensures { DecodesAs (side_of form).syntax (codec_of (table_data table.now) (L.convention leaves.now) P.test) shape bytes.now result }
+    ensures value { DecodesAs (side_of form).syntax (codec_of (table_data table.now) (L.convention leaves.now) P.test) shape bytes.now result }
+    ensures added { P.added patterns.new ≡ P.added patterns.old }
+    ensures refused { P.refused patterns.new ≡ P.refused patterns.old }
+    ensures refusals { P.refusals patterns.new ≡ P.refusals patterns.old }
 {
     leaves.laws();
-    let decoder = match Decoder::start(alloc, table, shape) {
+    let mut decoder = match Decoder::start(alloc, table, shape) {
         Ok(decoder) => decoder,
         Err(_) => return Err(BodyRefusal::NoMemory),
     };
-    let mut feed = Feed {
+    let read = read_into(
         alloc,
+        form,
         table,
         leaves,
         patterns,
-        decoder,
-    };
-    let read = read_body(alloc, form, bytes, piece, &mut feed);
-    answered(feed.decoder, read)
+        bytes,
+        piece,
+        &mut decoder,
+    );
+    answered(decoder, read)
 }

@@ -1,6 +1,6 @@
 // From a body of one side to a body of the other: the bytes of the near side to the value that they spell, and the value to the bytes of
 // the far side.
-ghost use Rattle.std.specs.Prelude.{◌<◌, IfOk};
+ghost use Rattle.std.specs.Prelude.{◌≡◌, ◌<◌, IfOk};
 ghost use Rattle.sm_shapes.specs.Fitting.{Fits, any_text};
 ghost use Rattle.sm_shapes.specs.InOrder.{Shaped, AreStored, DefaultsPass};
 ghost use Rattle.sm_shapes.specs.Places.{root_place};
@@ -48,7 +48,10 @@ fn near_value<P: Patterns>(
     requires shaped { Shaped (table_data table.now) }
     requires stored { AreStored (table_data table.now).patterns (P.added patterns.old) }
     requires pass { DefaultsPass (table_data table.now) P.test }
-    ensures { DecodesAs (side_of near).syntax (codec_of (table_data table.now) (side_of near).leaves P.test) shape body.now result }
+    ensures value { DecodesAs (side_of near).syntax (codec_of (table_data table.now) (side_of near).leaves P.test) shape body.now result }
+    ensures added { P.added patterns.new ≡ P.added patterns.old }
+    ensures refused { P.refused patterns.new ≡ P.refused patterns.old }
+    ensures refusals { P.refusals patterns.new ≡ P.refusals patterns.old }
 {
     match near {
         BodyForm::Json => body_value(
@@ -137,7 +140,8 @@ fn refused_answer(refusal: BodyRefusal) -> Result<BodyAnswer, NoMemory>
     }
 }
 
-/// What a body of the near side comes to on the far side, for the shape with this number. The store must have the table's patterns. Its syntax is told before any fault, and the first fault before a leaf that the far side can't spell.
+/// What a body of the near side comes to on the far side, for the shape with this number. The store must have the table's patterns, and isn't
+/// changed. Its syntax is told before any fault, and the first fault before a leaf that the far side can't spell.
 pub fn translated<P: Patterns>(
     alloc: Global,
     near: BodyForm,
@@ -151,7 +155,10 @@ pub fn translated<P: Patterns>(
     requires shaped { Shaped (table_data table.now) }
     requires stored { AreStored (table_data table.now).patterns (P.added patterns.old) }
     requires pass { DefaultsPass (table_data table.now) P.test }
-    ensures { IfOk result (λ answer. TextAnswers near far (table_data table.now) P.test (root_place shape) body.now (text_answer answer)) }
+    ensures answers { IfOk result (λ answer. TextAnswers near far (table_data table.now) P.test (root_place shape) body.now (text_answer answer)) }
+    ensures added { P.added patterns.new ≡ P.added patterns.old }
+    ensures refused { P.refused patterns.new ≡ P.refused patterns.old }
+    ensures refusals { P.refusals patterns.new ≡ P.refusals patterns.old }
 {
     match near_value(alloc, near, table, shape, patterns, body) {
         Ok(value) => far_answer(alloc, far, table, shape, &value),

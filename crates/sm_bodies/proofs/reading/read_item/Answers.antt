@@ -1,11 +1,11 @@
-use Rattle.std.proofs.Common.{refl, sym, ap, subst, ◌∙◌, ◌≡◌, ◌++◌, ◌-◌, ◌+◌, List, ℕ, [], arith, length, take, drop, None}
+use Rattle.std.proofs.Common.{sym, ap, subst, ◌∙◌, ◌≡◌, ◌++◌, ◌-◌, ◌+◌, [], arith, take, drop}
 use Rattle.std.proofs.Math.Seq.{take-add}
 use Rattle.std.proofs.lemmas.List.{take_all}
 use Rattle.sm_tree.specs.Timing.{Follows}
 use Rattle.sm_cbor.specs.Timing.{cbor_timing}
 use Rattle.sm_cbor.specs.Stands.{CborStands}
 use Rattle.sm_bodies.proofs.BodiesRead.{no_events}
-use Rattle.sm_bodies.proofs.BytesRefused.{item_refused, item_cut, pieces_joined}
+use Rattle.sm_bodies.proofs.BytesRefused.{item_refused, pieces_joined}
 use Rattle.sm_bodies.proofs.reading.read_item.Goals as goal
 
 pub loop-at-init : goal.loop-at-init

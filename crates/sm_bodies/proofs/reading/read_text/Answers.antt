@@ -1,11 +1,11 @@
-use Rattle.std.proofs.Common.{refl, sym, ap, subst, ◌∙◌, ◌≡◌, ◌++◌, ◌-◌, ◌+◌, List, ℕ, [], arith, length, take, drop, None}
+use Rattle.std.proofs.Common.{sym, ap, subst, ◌∙◌, ◌≡◌, ◌++◌, ◌-◌, ◌+◌, arith, take, drop}
 use Rattle.std.proofs.Math.Seq.{take-add}
 use Rattle.std.proofs.lemmas.List.{take_all}
 use Rattle.sm_tree.specs.Timing.{Follows}
 use Rattle.sm_json.specs.Timing.{json_timing}
 use Rattle.sm_json.specs.Stands.{JsonStands}
 use Rattle.sm_json.proofs.Completed.{none_yet}
-use Rattle.sm_bodies.proofs.BytesRefused.{text_refused, flush_refused, text_cut, pieces_joined}
+use Rattle.sm_bodies.proofs.BytesRefused.{text_refused, pieces_joined}
 use Rattle.sm_bodies.proofs.reading.read_text.Goals as goal
 
 pub loop-at-init : goal.loop-at-init
