@@ -1,6 +1,6 @@
 -- What loops over the members of a shape, and over patterns, check one by one.
-use Rattle.std.proofs.Common.{◌≡◌, ℕ, ◌+◌, ◌<◌, List, [], ◌∷◌, ◌++◌, map, length, drop, take, get_or, zero, suc, refl, sym, ap, ◌∙◌, subst, arith}
-use Rattle.std.specs.Prelude.{IsTrue, nat_eq, Option, Some, None, slice_get, slice_index_or, IsUtf8}
+use Rattle.std.proofs.Common.{◌≡◌, ℕ, ◌+◌, ◌<◌, List, [], ◌∷◌, ◌++◌, map, length, take, get_or, zero, suc, refl, sym, ap, ◌∙◌, subst, arith}
+use Rattle.std.specs.Prelude.{IsTrue, nat_eq, Some, None, slice_get, IsUtf8}
 use Rattle.std.specs.List.{Contains}
 use Rattle.std.proofs.lemmas.Option.{slice_get_within}
 use Rattle.std.proofs.Math.Seq.{get_or-append_seam}
@@ -11,7 +11,6 @@ use Rattle.std.specs.Ordering.{nat_cmp}
 use Rattle.std.specs.Cmp.Lexicographic.{slice_cmp}
 use Rattle.sm_tree.specs.Node.{Node}
 use Rattle.sm_shapes.specs.Names.{NoneIs}
-use Rattle.sm_shapes.specs.Patterns.{pattern_text}
 use Rattle.sm_shapes.specs.TableData.{TableData, MemberData, shape_count, kind_at, members_at, home_in, target_in, constraints_in, default_node_in, default_in, binding_in, name_at, json_name_at}
 use Rattle.sm_shapes.specs.InOrder.{AreMembersOf, AreByName, AreStored, NamesPattern, MayHaveNode}
 use Rattle.sm_shapes.specs.declared.kinds.ShapeKind.TheVariants.{Structure}

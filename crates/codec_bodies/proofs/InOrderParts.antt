@@ -1,11 +1,11 @@
 -- A table is in order by its shapes and its members, one by one.
-use Rattle.std.proofs.Common.{◌≡◌, ℕ, ◌+◌, ◌<◌, Bool, true, false, List, [], ◌∷◌, ◌++◌, length, refl, sym, ap, ◌∙◌, subst, arith}
+use Rattle.std.proofs.Common.{◌≡◌, ℕ, ◌<◌, List, [], ◌∷◌, length, refl, sym, ap, ◌∙◌}
 use Rattle.std.specs.Prelude.{Option, Some, None, slice_get}
 use Rattle.std.proofs.lemmas.Option.{slice_get_within}
 use Rattle.sm_tree.specs.Node.{Node}
 use Rattle.sm_shapes.specs.Values.{Val}
-use Rattle.sm_shapes.specs.TableData.{TableData, MemberData, shape_count, member_count, kind_at, target_at, default_node_at, default_at, default_node_in, default_in, texts_numbered}
-use Rattle.sm_shapes.specs.InOrder.{Shaped, HasItsMembers, IsTextKind, NamesPattern}
+use Rattle.sm_shapes.specs.TableData.{TableData, MemberData, shape_count, member_count, default_at, default_node_in, default_in, texts_numbered}
+use Rattle.sm_shapes.specs.InOrder.{Shaped, NamesPattern}
 use Rattle.sm_shapes.specs.DefaultPuts.{HasNoDefault}
 use Rattle.codec_bodies.specs.Checked.{ShapeInOrder, MemberInOrder}
 

@@ -1,8 +1,5 @@
 pub mod Rising
 pub mod InOrderParts
-pub mod Handed
-pub mod FitsAny
-pub mod BodiesRead
-pub mod BodiesWritten
 pub mod Onward
 pub mod CheckedParts
+pub mod TreesWritten

@@ -7,8 +7,8 @@ ghost use Rattle.sm_shapes.specs.TableData.{shape_count};
 ghost use Rattle.sm_shapes.specs.TableView.{table_data};
 ghost use Rattle.sm_shapes.specs.ValueView.{val_of};
 
-use crate::reading::{BodyRefusal, item_value, text_value};
-use crate::writing::{Maker, Written, write_item, write_text};
+use crate::by_tree::{item_by_tree, text_by_tree};
+use sm_bodies::{BodyForm, BodyRefusal, Written, body_value, write_body};
 use sm_codec::{CborLeaves, JsonLeaves, NodeLeaves};
 use sm_shapes::Patterns;
 use sm_shapes::tables::Table;
@@ -44,8 +44,8 @@ impl Way {
     ///
     /// # Errors
     ///
-    /// Those of `text_value` and `item_value`.
-    #[tactic(auto, using(crate::proofs::BodiesRead::body_fits))]
+    /// Those of `body_value`.
+    #[tactic(auto, using(sm_bodies::proofs::BodiesRead::body_fits))]
     pub fn value<P: Patterns>(
         self,
         alloc: Global,
@@ -63,8 +63,9 @@ impl Way {
         ensures { IfOk result (λ value. Fits (table_data table.now) any_text (root_place shape) (val_of value)) }
     {
         match self {
-            Way::Json(json_names) => text_value(
+            Way::Json(json_names) => body_value(
                 alloc,
+                BodyForm::Json,
                 table,
                 shape,
                 &JsonLeaves { json_names },
@@ -72,8 +73,9 @@ impl Way {
                 bytes,
                 piece,
             ),
-            Way::Node(raw_blobs) => text_value(
+            Way::Node(raw_blobs) => body_value(
                 alloc,
+                BodyForm::Json,
                 table,
                 shape,
                 &NodeLeaves { raw_blobs },
@@ -81,42 +83,77 @@ impl Way {
                 bytes,
                 piece,
             ),
-            Way::Cbor => item_value(alloc, table, shape, &CborLeaves, patterns, bytes, piece),
+            Way::Cbor => body_value(
+                alloc,
+                BodyForm::Cbor,
+                table,
+                shape,
+                &CborLeaves,
+                patterns,
+                bytes,
+                piece,
+            ),
         }
     }
 
     /// The body of a value of the shape.
-    #[tactic(auto, using(crate::proofs::BodiesWritten::text_leaves, crate::proofs::BodiesWritten::node_leaves))]
     pub fn body(
         self,
         alloc: Global,
         table: &Table,
         shape: u32,
         value: &Value,
-        maker: Maker,
     ) -> Result<Written, NoMemory>
         requires shaped { Shaped (table_data table.now) }
         requires shape { shape < shape_count (table_data table.now) }
         requires fits { Fits (table_data table.now) any_text (root_place shape) (val_of value.now) }
     {
+        sm_codec::laws::json_leaves_written();
+        sm_codec::laws::node_leaves_written();
+        sm_codec::laws::cbor_leaves_written();
         match self {
-            Way::Json(json_names) => write_text(
+            Way::Json(json_names) => write_body(
                 alloc,
+                BodyForm::Json,
                 table,
                 shape,
                 value,
                 &JsonLeaves { json_names },
-                maker,
             ),
-            Way::Node(raw_blobs) => write_text(
+            Way::Node(raw_blobs) => write_body(
                 alloc,
+                BodyForm::Json,
                 table,
                 shape,
                 value,
                 &NodeLeaves { raw_blobs },
-                maker,
             ),
-            Way::Cbor => write_item(alloc, table, shape, value, maker),
+            Way::Cbor => write_body(alloc, BodyForm::Cbor, table, shape, value, &CborLeaves),
+        }
+    }
+
+    /// The same, by a tree that is made first; none where a leaf isn't carried.
+    pub fn body_by_tree(
+        self,
+        alloc: Global,
+        table: &Table,
+        shape: u32,
+        value: &Value,
+    ) -> Result<Option<Vec<u8>>, NoMemory>
+        requires shaped { Shaped (table_data table.now) }
+        requires shape { shape < shape_count (table_data table.now) }
+        requires fits { Fits (table_data table.now) any_text (root_place shape) (val_of value.now) }
+    {
+        sm_codec::laws::json_leaves_written();
+        sm_codec::laws::node_leaves_written();
+        match self {
+            Way::Json(json_names) => {
+                text_by_tree(alloc, table, shape, value, &JsonLeaves { json_names })
+            }
+            Way::Node(raw_blobs) => {
+                text_by_tree(alloc, table, shape, value, &NodeLeaves { raw_blobs })
+            }
+            Way::Cbor => item_by_tree(alloc, table, shape, value),
         }
     }
 }

@@ -7,7 +7,8 @@ ghost use Rattle.sm_shapes.specs.TableView.{table_data};
 
 use crate::far::show_far;
 use crate::row::Far;
-use codec_bodies::{BodyRefusal, Way, store};
+use codec_bodies::{Way, store};
+use sm_bodies::BodyRefusal;
 use sm_shapes::tables::Table;
 use sm_shapes::{Fault, LiteralPatterns};
 use sm_tree::{NoMemory, SyntaxRefusal};

@@ -10,8 +10,9 @@ ghost use Rattle.sm_shapes.specs.ValueView.{val_of};
 
 use crate::row::Far;
 use crate::shown::show_value;
-use codec_bodies::{Maker, Way, Written};
+use codec_bodies::Way;
 use rows::{push_utf8, show_bytes, show_order};
+use sm_bodies::Written;
 use sm_shapes::tables::Table;
 use sm_shapes::values::Value;
 use sm_tree::{NoMemory, Path};
@@ -38,10 +39,11 @@ fn show_written(
     }
 }
 
-fn is_same(first: &Written, second: &Written) -> bool {
-    match (first, second) {
-        (Written::Bytes(first), Written::Bytes(second)) => first == second,
-        (Written::NotCarried(first), Written::NotCarried(second)) => first == second,
+// Whether it is the same by a tree, where it can be written at all.
+fn is_same(written: &Written, by_tree: &Option<Vec<u8>>) -> bool {
+    match (written, by_tree) {
+        (Written::Bytes(bytes), Some(other)) => bytes == other,
+        (Written::NotCarried(_), None) => true,
         _ => false,
     }
 }
@@ -59,17 +61,17 @@ fn show_body(
     requires shape { shape < shape_count (table_data table.now) }
     requires fits { Fits (table_data table.now) any_text (root_place shape) (val_of value.now) }
 {
-    let written = way.body(alloc, table, shape, value, Maker::Events)?;
+    let written = way.body(alloc, table, shape, value)?;
     show_written(alloc, way, &written, out)?;
-    let other = way.body(alloc, table, shape, value, Maker::Tree)?;
-    if !is_same(&written, &other) {
+    let by_tree = way.body_by_tree(alloc, table, shape, value)?;
+    if !is_same(&written, &by_tree) {
         out.push_str(" otherwise by a tree")?;
     }
     Ok(())
 }
 
 // How the two entries of a list stand, and where `is_same` says another thing.
-fn show_order(value: &Value, out: &mut String) -> Result<(), NoMemory> {
+fn show_entries(value: &Value, out: &mut String) -> Result<(), NoMemory> {
     let Value::List(items) = value else {
         return Ok(out.push_str("no list")?);
     };
@@ -100,6 +102,6 @@ pub fn show_far(
     match far {
         Far::Value => show_value(table, value, out),
         Far::Body(way) => show_body(alloc, table, shape, way, value, out),
-        Far::Order => show_order(value, out),
+        Far::Order => show_entries(value, out),
     }
 }

@@ -6,9 +6,8 @@ ghost use Rattle.sm_shapes.specs.Literals.{is_part};
 ghost use Rattle.sm_shapes.specs.TableData.{shape_count};
 ghost use Rattle.sm_shapes.specs.TableView.{table_data};
 
-use codec_bodies::{
-    BodyRefusal, Maker, Said, Way, Written, is_in_order, is_shape, number_named, store, table_of,
-};
+use codec_bodies::{Said, Way, is_in_order, is_shape, number_named, store, table_of};
+use sm_bodies::{BodyRefusal, Written};
 use sm_codec::fill_defaults;
 use sm_shapes::LiteralPatterns;
 use sm_shapes::tables::Table;
@@ -89,7 +88,7 @@ fn carry_once(
         .value(alloc, table, shape, &mut patterns, body, usize::MAX)
     {
         Ok(value) => match carriage.far {
-            Some(far) => match far.body(alloc, table, shape, &value, Maker::Events) {
+            Some(far) => match far.body(alloc, table, shape, &value) {
                 Ok(Written::Bytes(bytes)) => Ok(bytes.len()),
                 Ok(Written::NotCarried(_)) => Err(CarryRefusal::NotCarried),
                 Err(NoMemory) => Err(CarryRefusal::NoMemory),

@@ -5,7 +5,7 @@ ghost use Rattle.sm_model.specs.Reaching.{IsMarked};
 ghost use Rattle.sm_select.specs.Followed.{AreFollowed, Follows, end_of, start_of};
 ghost use Rattle.sm_select.specs.Neighbors.{AreBelow, IsBelow};
 
-use sm_model::{no_marks, Link, Relation};
+use sm_model::{Link, Relation, no_marks};
 use sm_tree::NoMemory;
 use std::alloc::Global;
 

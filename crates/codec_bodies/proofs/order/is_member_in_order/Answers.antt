@@ -1,5 +1,4 @@
-use Rattle.std.proofs.Common.{◌≡◌, ◌+◌, ◌<◌, ℕ, List, [], ◌∷◌, map, length, drop, refl, sym, ap, ◌∙◌, subst, arith, rules}
-use Rattle.std.specs.Prelude.{None}
+use Rattle.std.proofs.Common.{refl, subst, rules}
 use Rattle.std.specs.List.{Contains}
 use Rattle.sm_shapes.specs.TableView.{table_data, member_data}
 use Rattle.codec_bodies.proofs.CheckedParts.{member_checked}

@@ -1,4 +1,4 @@
-use Rattle.std.proofs.Common.{◌≡◌, ◌+◌, ◌<◌, ℕ, List, [], ◌∷◌, map, length, drop, refl, sym, ap, ◌∙◌, subst, arith, rules}
+use Rattle.std.proofs.Common.{◌≡◌, length, refl, sym, ap, ◌∙◌, subst}
 use Rattle.sm_shapes.specs.TableData.{texts_numbered}
 use Rattle.sm_shapes.specs.InOrder.{NamesPattern}
 use Rattle.sm_shapes.specs.TableView.{table_data}

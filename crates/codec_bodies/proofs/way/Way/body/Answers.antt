@@ -1,5 +1,4 @@
-use Rattle.codec_bodies.proofs.BodiesWritten.{node_leaves}
 use Rattle.codec_bodies.proofs.way.Way.body.Goals as goal
 
-pub write_text-requires-in-Node-clause-writes : goal.write_text-requires-in-Node-clause-writes
-write_text-requires-in-Node-clause-writes c = node_leaves c.in-Node.raw_blobs
+pub write_body-requires-in-Node-clause-writes : goal.write_body-requires-in-Node-clause-writes
+write_body-requires-in-Node-clause-writes c = c.node_leaves_written.ensures c.in-Node.raw_blobs

@@ -1,5 +1,5 @@
 -- Of a value whose leaves are carried: the tree that is written for it can be written in its format.
-use Rattle.std.proofs.Common.{◌≡◌, ◌<◌, ℕ, Bool, []}
+use Rattle.std.proofs.Common.{◌≡◌, ◌<◌, ℕ, []}
 use Rattle.sm_tree.specs.Json.{IsJson, IsCbor}
 use Rattle.sm_shapes.specs.Fitting.{Fits, any_text}
 use Rattle.sm_shapes.specs.InOrder.{Shaped}
@@ -7,11 +7,10 @@ use Rattle.sm_shapes.specs.Places.{root_place}
 use Rattle.sm_shapes.specs.TableData.{TableData, shape_count}
 use Rattle.sm_shapes.specs.Values.{Val}
 use Rattle.sm_codec.specs.Convention.{Convention}
-use Rattle.sm_codec.specs.Conventions.{json_convention, cbor_convention, node_convention}
+use Rattle.sm_codec.specs.Conventions.{cbor_convention}
 use Rattle.sm_codec.specs.Written.{written, uncarried}
 use Rattle.sm_codec.specs.WrittenLaws.{WritesJson}
 use Rattle.sm_codec.proofs.CborWrites.{cbor_writes}
-use Rattle.sm_codec.proofs.JsonWrites.{json_writes, node_writes}
 use Rattle.sm_codec.proofs.WrittenForms.{written_is_json, written_is_cbor}
 
 pub text_there : (t : TableData) (l : Convention) (s : ℕ) (v : Val) → Shaped t → s < shape_count t → Fits t any_text (root_place s) v
@@ -21,9 +20,3 @@ text_there t l s v shaped inside fits carried writes = written_is_json t l any_t
 pub item_there : (t : TableData) (s : ℕ) (v : Val) → Shaped t → s < shape_count t → Fits t any_text (root_place s) v
     → uncarried t cbor_convention (root_place s) v ≡ [] → IsCbor (written t cbor_convention (root_place s) v)
 item_there t s v shaped inside fits carried = written_is_cbor t cbor_convention any_text (root_place s) v shaped cbor_writes inside fits carried
-
-pub text_leaves : (json_names : Bool) → WritesJson (json_convention json_names)
-text_leaves json_names = json_writes json_names
-
-pub node_leaves : (raw_blobs : Bool) → WritesJson (node_convention raw_blobs)
-node_leaves raw_blobs = node_writes raw_blobs
