@@ -1,198 +1,251 @@
--- What the steps of the command `body` come to, joined: the answers of src/body.rt and src/opening.rt cite it.
-use Rattle.std.proofs.Common.{◌≡◌, ℕ, ◌<◌, ◌≤◌, inl, inr, List, ◌∷◌, ◌++◌, Option, Some, None, Result, Ok, Err, IfSome, length, sym, ap, subst, ◌∙◌, ◌+◌, refl, arith, append-nil}
-use Rattle.std.specs.Prelude.{slice_get}
-use Rattle.std.proofs.lemmas.Option.{slice_get_within}
-use Rattle.std.proofs.lemmas.List.{length-map}
+-- What the command `body` comes to, from what its model file, its table and its input do.
+use Rattle.std.proofs.Common.{◌≡◌, ◌⊎◌, ◌<◌, ◌≤◌, ◌+◌, ◌++◌, ℕ, List, [], ◌∷◌, Option, Some, None, Ok, Err, inl, inr, sym, ap, subst, ◌∙◌, refl, arith, append-nil}
+use Rattle.std.specs.Prelude.{IfSome, length, Result}
 use Rattle.std.specs.Global.{Vec}
 use Rattle.sm_io.specs.Causes.{Rose}
-use Rattle.sm_io.specs.Files.{Holds}
 use Rattle.sm_io.specs.Reading.{Empties}
-use Rattle.sm_tree.specs.Node.{Node}
-use Rattle.sm_tree.specs.declared.path.Step.{Step}
-use Rattle.sm_tree.specs.View.{node_of}
-use Rattle.sm_tree.specs.declared.tree.Tree.{Tree}
-use Rattle.sm_tree.specs.declared.refusal.SyntaxRefusal.{SyntaxRefusal}
-use Rattle.sm_tree.specs.Syntax.{IsRead, IsRefused}
-use Rattle.sm_json.specs.JsonText.{JsonText, json_syntax}
-use Rattle.sm_json.specs.Written.{written}
-use Rattle.sm_shapes.specs.Val.{Val}
-use Rattle.sm_shapes.specs.Tables.{shape_count}
-use Rattle.sm_shapes.specs.declared.table.Table.{Table}
-use Rattle.sm_shapes.specs.declared.fault.FaultKind.{FaultKind}
-use Rattle.sm_commands.specs.Leaves.{json_leaf}
-use Rattle.sm_commands.specs.Spelling.{Spells}
-use Rattle.sm_commands.specs.Faults.{FaultAt, faults}
-use Rattle.sm_commands.specs.Encoded.{encoded_tree, json_written}
-use Rattle.sm_commands.specs.ReadModel.{ReadsModel}
-use Rattle.sm_commands.specs.Lines.{unbuilt_line, no_shape_line, fault_line, syntax_line, body_limit_line}
 use Rattle.sm_io.specs.Seen.{FilesSeen, Stream}
-use Rattle.sm_commands.specs.Limits.{file_limit, body_limit}
-use Rattle.sm_commands.specs.Tabled.{table_of}
-use Rattle.sm_commands.specs.Commands.{body_command}
-use Rattle.sm_commands.specs.Answer.{Answer, done, refused, came}
+use Rattle.sm_model.specs.GraphView.{maps_of}
+use Rattle.sm_model.specs.Graphs.{GraphMaps}
+use Rattle.sm_model.specs.declared.graph.Graph.{Graph}
+use Rattle.sm_shapes.specs.Fitting.{Test}
+use Rattle.sm_shapes.specs.Places.{root_place}
+use Rattle.sm_shapes.specs.TableData.{TableData}
+use Rattle.sm_shapes.specs.TableView.{table_data}
+use Rattle.sm_codec.specs.Defaults.{filled}
+use Rattle.sm_bodies.specs.TextAnswers.{TextAnswer, TextAnswers}
+use Rattle.sm_bodies.specs.declared.form.BodyForm.{BodyForm}
+use Rattle.sm_compile.specs.Answers.{StoreSeen, CompilesShape, IsPatternRefused, IsShapeCompiled}
+use Rattle.sm_compile.specs.Compiled.{texts_of}
+use Rattle.sm_compile.specs.Sound.{IsValueShape, Sound}
+use Rattle.sm_compile.specs.declared.compiled.CompileRefusal.{CompileRefusal}
+use Rattle.sm_compile.specs.declared.compiled.CompileRefusal.TheVariants.{NoShape, Pattern as is_pattern, NoMemory as no_room}
+use Rattle.sm_compile.specs.declared.compiled.OneShape.{OneShape}
+use Rattle.sm_compile.specs.declared.compiled.Served.{Served}
+use Rattle.sm_compile.specs.declared.compiled.Served.TheVariants.{Yes, Unserved}
+use Rattle.sm_commands.specs.Answer.{Answer, came, refused, pattern_refused, past}
 use Rattle.sm_commands.specs.Answer.InputUse.{untouched, to_its_end, past_its_limit}
-use Rattle.sm_commands.specs.Stages.{ShapeChosen}
-use Rattle.sm_commands.specs.NoTree.{NoTree}
-use Rattle.sm_commands.specs.Convention.{json}
-use Rattle.sm_commands.specs.Body.{ModelAnswers, TextAnswers}
-use Rattle.sm_commands.specs.Body.ModelAnswers.{long_file, no_tree, unbuilt, no_shape}
-use Rattle.sm_commands.specs.Body.TextAnswers.{no_text, fault, value}
-use Rattle.sm_commands.specs.Body.BodySays.{by_model, long_input, by_text}
-use Rattle.sm_commands.specs.Run.{Answers, ReadFails, StopsShort}
-use Rattle.sm_commands.specs.steps.CommandSteps.{StepStops, StepComesTo, EndsWithLine, EndsWithLimit, CommandComesTo}
-use Rattle.sm_commands.specs.steps.FileSteps.{PassesLimit, OpensFile, OpensTree}
-use Rattle.sm_commands.specs.steps.BodySteps.{TreeAnswers, TextStops, ReadsModelFile, HoldsModel, RefusesFile, OpensModel, InputSays, InputComesTo}
-use Rattle.sm_commands.specs.steps.BodySteps.TextStops.{without_tree, without_model}
+use Rattle.sm_commands.specs.Body.{printed}
+use Rattle.sm_commands.specs.Body.BodySays.{not_loaded, no_shape, unbuilt, pattern, unserved, long_input, by_text}
+use Rattle.sm_commands.specs.BodyStages.{ShapeThere, ShapeSound, TableMade, ShapeServed}
+use Rattle.sm_commands.specs.Commands.{Command, body_command}
+use Rattle.sm_commands.specs.Limits.{body_limit}
+use Rattle.sm_commands.specs.Lines.{no_shape_line, unbuilt_line, pattern_line, unserved_line, body_limit_line}
+use Rattle.sm_commands.specs.Loading.{Loaded, LoadAnswers}
+use Rattle.sm_commands.specs.Outside.{InputsSeen, inputs_seen}
+use Rattle.sm_commands.specs.Run.{Answers, OnlyAdds, ReadFails, StopsShort, told_by}
+use Rattle.sm_commands.specs.Stages.{Told, IsInput}
+use Rattle.sm_commands.specs.declared.command.Status.TheVariants.{Pattern}
+use Rattle.sm_commands.specs.steps.BodySteps.{ShapeSays, HasTableOf, MakesTable, IsReady, PrintsText, InputSays, InputComesTo, TableSays, TableComesTo}
+use Rattle.sm_commands.specs.steps.BodySteps.ShapeSays.{lacks, not_sound, refuses}
 use Rattle.sm_commands.specs.steps.BodySteps.InputSays.{beyond, whole}
-use Rattle.sm_commands.specs.declared.model.structures.FirstModel.{FirstModel}
+use Rattle.sm_commands.specs.steps.BodySteps.TableSays.{left_out, by_input}
+use Rattle.sm_commands.specs.steps.CommandSteps.{StepStops, StepComesTo, EndsWithLine, EndsWithLimit, EndsWithPattern, CommandComesTo}
+use Rattle.sm_commands.specs.steps.LoadSteps.{Loads}
 use Rattle.sm_commands.specs.declared.stop.Stop.{Stop}
+use Rattle.sm_commands.proofs.Answered.{answer_before, none_is_some}
 use Rattle.sm_commands.proofs.LongFiles.{long_list}
-use Rattle.sm_commands.proofs.Stops.{line_stops, limit_stops, stops_map, comes_map}
-use Rattle.sm_commands.proofs.Shaped.{shape_count_is}
+use Rattle.sm_commands.proofs.Stops.{line_stops, limit_stops, pattern_stops, stops_map, comes_map}
+use Rattle.sm_commands.proofs.TablesMade.{number_within}
 
--- a tree that spells a value, and one that has a fault
-pub value_answers : (t : Table) (s : ℕ) (n : Node) (v : Val) (far : List ℕ) → Spells t json_leaf s v n
-    → far ≡ written (encoded_tree t json_written s v) → TreeAnswers t s n (done far)
-value_answers t s n v far spells is = λ body read. value n v read spells (ap done is)
+-- a shape that has no table: it isn't there, isn't sound, or a pattern is refused
+pub shape_lacks : (g : GraphMaps) (name shape : List ℕ) (test : Test) (before now : StoreSeen) (stop : Stop) → (IsValueShape g shape → ⊥)
+    → now.refusals ≡ before.refusals → EndsWithLine (no_shape_line shape) stop → MakesTable g name shape test before now (Err stop)
+shape_lacks g name shape test before now stop none count ends =
+    line_stops (ShapeSays g name shape before now) ⊥ (Unit {0}) (no_shape_line shape) stop (lacks none count refl) tt ends
 
-pub fault_answers : (t : Table) (s : ℕ) (n : Node) (path : List Step) (kind : FaultKind) (later : List FaultAt)
-    → faults t json_leaf n s ≡ (path, kind) ∷ later → TreeAnswers t s n (refused (fault_line path kind))
-fault_answers t s n path kind later first = λ body read. fault n path kind later read first refl
+pub shape_unsound : (g : GraphMaps) (name shape : List ℕ) (test : Test) (before now : StoreSeen) (stop : Stop) → IsValueShape g shape
+    → (Sound g shape → ⊥) → now.refusals ≡ before.refusals → EndsWithLine (unbuilt_line name) stop
+    → MakesTable g name shape test before now (Err stop)
+shape_unsound g name shape test before now stop there none count ends =
+    line_stops (ShapeSays g name shape before now) ⊥ (Unit {0}) (unbuilt_line name) stop (not_sound there none count refl) tt ends
 
--- a tree that was read from the bytes, and bytes that are no text
-pub tree_comes : (t : Table) (s : ℕ) (n : Node) (body : List ℕ) (result : Result (Vec ℕ) Stop) → IsRead JsonText n body
-    → StepComesTo (TreeAnswers t s n) ⊥ (Unit {0}) result → StepComesTo (TextAnswers json json t s body) ⊥ (Unit {0}) result
-tree_comes t s n body result read h = comes_map (TreeAnswers t s n) (TextAnswers json json t s body) ⊥ ⊥ (Unit {0}) (Unit {0}) result
-    (λ a says. says body read) (λ x. x) (λ x. x) h
+-- by what compiling answers for the id as it is borrowed
+module _ (g : GraphMaps) (id shape : List ℕ) (test : Test) (before now : StoreSeen) (e : id ≡ shape) where
+  pub compiled_table : (one : OneShape) → Sound g id → CompilesShape g shape test before now (Ok one) → HasTableOf g id test before now one
+  compiled_table one sound h =
+      record { is = subst (IsValueShape g) (sym e) h.0; sound = sound; compiled = subst (λ x. IsShapeCompiled g x test before now one) (sym e) h.1 }
 
-pub text_stops : (t : Table) (s : ℕ) (body : List ℕ) (refusal : SyntaxRefusal) (stop : Stop) → IsRefused json_syntax body refusal
-    → EndsWithLine (syntax_line refusal) stop → StepStops (TextAnswers json json t s body) ⊥ (Unit {0}) stop
-text_stops t s body refusal stop is ends =
-    line_stops (TextAnswers json json t s body) ⊥ (Unit {0}) (syntax_line refusal) stop (no_text refusal is refl) tt ends
+  pub compiled_lacks : (name : List ℕ) (stop : Stop) → CompilesShape g shape test before now (Err NoShape) → EndsWithLine (no_shape_line id) stop
+      → MakesTable g name id test before now (Err stop)
+  compiled_lacks name stop h ends =
+      shape_lacks g name id test before now stop (λ there. h.0 (subst (IsValueShape g) e there)) (ap (λ (x : StoreSeen). x.refusals) h.1) ends
 
--- the model that the tree of a file says, or that it says none
-pub model_found : (name file : List ℕ) (tree : Tree) (m : FirstModel) → OpensTree name file (Ok tree) → ReadsModel (node_of tree) (Ok (Some m))
-    → ReadsModelFile name file (Ok m)
-model_found name file tree m opens read = (opens.0, (node_of tree, opens.1, read))
+  pub compiled_refused : (name carrier : List ℕ) (stop : Stop) → Sound g id → CompilesShape g shape test before now (Err (is_pattern carrier))
+      → EndsWithPattern (pattern_line carrier) stop → MakesTable g name id test before now (Err stop)
+  compiled_refused name carrier stop sound h ends =
+      pattern_stops (ShapeSays g name id before now) ⊥ (Unit {0}) (pattern_line carrier) stop
+      (refuses (subst (IsValueShape g) (sym e) h.0) sound carrier (subst (λ x. IsPatternRefused g x before now carrier) (sym e) h.1) refl) tt ends
 
-pub model_missing : (name file : List ℕ) (tree : Tree) (stop : Stop) → OpensTree name file (Ok tree) → ReadsModel (node_of tree) (Ok None)
-    → EndsWithLine (unbuilt_line name) stop → ReadsModelFile name file (Err stop)
-model_missing name file tree stop opens none ends =
-    line_stops (TextStops name file) ⊥ (Unit {0}) (unbuilt_line name) stop (without_model opens.0 (node_of tree) opens.1 none refl) tt ends
+-- a table that was made is one to read by
+pub table_ready : (g : GraphMaps) (shape : List ℕ) (test : Test) (before now : StoreSeen) (one : OneShape)
+    → HasTableOf g shape test before now one → IsReady (table_data one.table) one.shape now.added
+table_ready g shape test before now one h = record {
+  shaped = h.compiled.shaped;
+  none = h.compiled.no_default;
+  stored = h.compiled.built.stored;
+  number = number_within g shape test before now one h.compiled;
+}
 
--- a file that gives no tree
-pub tree_missing : (name file : List ℕ) (stop : Stop) → OpensTree name file (Err stop) → ReadsModelFile name file (Err stop)
-tree_missing name file stop h =
-    stops_map (NoTree name file) (TextStops name file) ⊥ ⊥ (Unit {0}) (Unit {0}) stop (λ a says. without_tree says) (λ x. x) (λ x. x) h
-
--- an input that is longer than the limit, where told or not
+-- the whole input was read: a text that answers, and one that is too long
 longer_input : (left : Option (List ℕ)) (limit : ℕ) → IfSome left (λ bytes. limit < length bytes)
     → (input : List ℕ) × IfSome left (λ bytes. bytes ≡ input) × (limit < length input)
 longer_input None limit h = let w = long_list (limit + 1) in (w.0, tt, omega (arith, w.1))
 longer_input (Some bytes) limit h = (bytes, refl, h)
 
--- the model of a file that was read, or its answer
-text_answers : (files : FilesSeen) (name shape file : List ℕ) (a : Answer) → Holds files.held name (Some file) → length file ≤ file_limit
-    → TextStops name file a → ModelAnswers files.held name shape a
-text_answers files name shape file a held within (without_tree says) = no_tree (record { bytes = file; held = held; within = within }) says
-text_answers files name shape file a held within (without_model named n read none is) =
-    unbuilt (record { file = record { bytes = file; held = held; within = within }; is_json = named; tree = n; is_text = read }) none is
-
-pub model_opens : (files files1 : FilesSeen) (name file : List ℕ) (result : Result FirstModel Stop) → Holds files.held name (Some file)
-    → length file ≤ file_limit → ReadsModelFile name file result → OpensModel files files1 name result
-model_opens files files1 name file (Ok read) held within (named, (n, is_read, model)) = record {
-  read = record {
-    text = record { file = record { bytes = file; held = held; within = within }; is_json = named; tree = n; is_text = is_read };
-    m = model.model;
-    form = model.form;
-  };
-  tabled = model.tabled;
-  shaped = model.shaped;
-  names = model.names;
-}
-model_opens files files1 name file (Err stop) held within h =
-    stops_map (TextStops name file) (RefusesFile files.held name) ⊥ (Rose files.faults files1.faults) (Unit {0}) (Unit {0}) stop
-    (λ a says shape. text_answers files name shape file a held within says) (λ x. absurd x) (λ x. x) h
-
-pub file_stops : (files files1 : FilesSeen) (name : List ℕ) (stop : Stop) → OpensFile files files1 name (Err stop)
-    → OpensModel files files1 name (Err stop)
-file_stops files files1 name stop h =
-    stops_map (PassesLimit files.held name) (RefusesFile files.held name) (Rose files.faults files1.faults) (Rose files.faults files1.faults)
-    (Unit {0}) (Unit {0}) stop (λ a says shape. long_file says.0 says.1) (λ rose. rose) (λ short. short) h
-
--- the whole input was read: a text that answers, and one that is too long
 emptied : (left rest : Option (List ℕ)) (body : List ℕ) → Empties left rest body → IfSome left (λ bytes. bytes ≡ body)
 emptied None rest body h = tt
 emptied (Some xs) None body h = absurd h.0
 emptied (Some xs) (Some ys) body h = h.0 ∙ ap (λ r. body ++ r) h.1 ∙ append-nil body
 
-pub input_comes : (input rest : Stream) (t : Table) (s : ℕ) (body : List ℕ) (result : Result (Vec ℕ) Stop)
-    → Empties input.bytes rest.bytes body → length body ≤ body_limit → StepComesTo (TextAnswers json json t s body) ⊥ (Unit {0}) result
-    → InputComesTo input rest t s result
-input_comes input rest t s body result empties within h =
-    comes_map (TextAnswers json json t s body) (InputSays input rest t s) ⊥ (Rose input.faults rest.faults) (Unit {0}) (Unit {0}) result
-    (λ a says. whole body (emptied input.bytes rest.bytes body empties) within empties.1 says)
-    (λ x. absurd x) (λ x. x) h
+pub input_comes : (near far : BodyForm) (t : TableData) (test : Test) (s : ℕ) (input rest : Stream) (body : List ℕ) (result : Result (Vec ℕ) Stop)
+    → Empties input.bytes rest.bytes body → length body ≤ body_limit → StepComesTo (PrintsText near far t test s body) ⊥ (Unit {0}) result
+    → InputComesTo near far t test s input rest result
+input_comes near far t test s input rest body result empties within h =
+    comes_map (PrintsText near far t test s body) (InputSays near far t test s input rest) ⊥ (Rose input.faults rest.faults) (Unit {0}) (Unit {0})
+    result (λ a says. whole body (emptied input.bytes rest.bytes body empties) within empties.1 says) (λ x. absurd x) (λ x. x) h
 
-pub input_past : (input rest : Stream) (t : Table) (s : ℕ) (stop : Stop) → IfSome input.bytes (λ body. body_limit < length body)
-    → EndsWithLimit body_limit_line stop → InputComesTo input rest t s (Err stop)
-input_past input rest t s stop long ends = let w = longer_input input.bytes body_limit long in
-    limit_stops (InputSays input rest t s) (Rose input.faults rest.faults) (Unit {0}) body_limit_line stop
+pub input_past : (near far : BodyForm) (t : TableData) (test : Test) (s : ℕ) (input rest : Stream) (stop : Stop)
+    → IfSome input.bytes (λ body. body_limit < length body) → EndsWithLimit body_limit_line stop
+    → InputComesTo near far t test s input rest (Err stop)
+input_past near far t test s input rest stop long ends = let w = longer_input input.bytes body_limit long in
+    limit_stops (InputSays near far t test s input rest) (Rose input.faults rest.faults) (Unit {0}) body_limit_line stop
     (beyond w.0 w.1 w.2 refl) tt ends
 
--- an answer that stands before the input, and one that stands behind it
-model_comes : (files : FilesSeen) (input : Stream) (name shape : List ℕ) (a : Answer) → ModelAnswers files.held name shape a
-    → Answers files input input (body_command name shape) a
-model_comes files input name shape a h = record { taken = untouched; says = by_model a h refl; left = refl }
+-- a body, by its answer
+pub text_comes : (near far : BodyForm) (t : TableData) (test : Test) (s : ℕ) (body : List ℕ) (said : TextAnswer) (result : Result (Vec ℕ) Stop)
+    → TextAnswers near far t test (root_place s) body said → StepComesTo (λ a. a ≡ printed said) ⊥ (Unit {0}) result
+    → StepComesTo (PrintsText near far t test s body) ⊥ (Unit {0}) result
+text_comes near far t test s body said result answers h =
+    comes_map (λ a. a ≡ printed said) (PrintsText near far t test s body) ⊥ ⊥ (Unit {0}) (Unit {0}) result (λ a is. (said, answers, is)) (λ x. x)
+    (λ x. x) h
 
-input_answers : (files : FilesSeen) (input rest : Stream) (name shape : List ℕ) (chosen : ShapeChosen files.held name shape) (t : Table)
-    (a : Answer) → t ≡ table_of chosen.read.m → InputSays input rest t chosen.s a → Answers files input rest (body_command name shape) a
-input_answers files input rest name shape chosen t a tabled (beyond body is long e) =
-    record { taken = past_its_limit; says = long_input chosen body is long (ap (came past_its_limit) e); left = tt }
-input_answers files input rest name shape chosen t a tabled (whole body is within at_end says) = record {
-  taken = to_its_end;
-  says =
-      by_text (record { chosen = chosen; bytes = body; is_input = is; within = within }) a
-      (subst (λ x. TextAnswers json json x chosen.s body a) tabled says) refl;
-  left = at_end;
-}
+-- the input of a shape that is served
+pub served_comes : (near far : BodyForm) (one : OneShape) (test : Test) (input rest : Stream) (result : Result (Vec ℕ) Stop)
+    → Path Served one.served Yes → InputComesTo near far (filled (table_data one.table) test) test one.shape input rest result
+    → TableComesTo near far one test input rest result
+served_comes near far one test input rest result served h =
+    comes_map (InputSays near far (filled (table_data one.table) test) test one.shape input rest) (TableSays near far one test input rest)
+    (Rose input.faults rest.faults) (Path Served one.served Yes × Rose input.faults rest.faults) (Unit {0})
+    ((rest ≡ input) ⊎ Path Served one.served Yes) result (λ a says. by_input served says) (λ rose. (served, rose)) (λ short. inr served) h
 
--- the whole command: a refused file, a missing shape, and the input
-pub body_stops : (files files1 : FilesSeen) (input : Stream) (name shape : List ℕ) (stop : Stop) → OpensModel files files1 name (Err stop)
-    → CommandComesTo files files1 input input (body_command name shape) (Err stop)
-body_stops files files1 input name shape stop h =
-    stops_map (RefusesFile files.held name) (Answers files input input (body_command name shape)) (Rose files.faults files1.faults)
-    (ReadFails files files1 input input (body_command name shape))
-    (Unit {0}) (StopsShort files input input (body_command name shape)) stop
-    (λ a says. model_comes files input name shape a (says shape)) (λ rose. inl (rose, refl)) (λ short. inl refl) h
+-- the whole command, by its model file
+pub body_stops : (files files1 : FilesSeen) (input : Stream) (test : Test) (store : StoreSeen) (name shape : List ℕ) (near far : BodyForm) (stop : Stop)
+    → Loads files files1 (name ∷ []) (Err stop)
+    → CommandComesTo (inputs_seen files input test store) (inputs_seen files1 input test store) (body_command name shape near far) (Err stop)
+body_stops files files1 input test store name shape near far stop h =
+    let before = inputs_seen files input test store in
+    let after = inputs_seen files1 input test store in
+    let command = body_command name shape near far in
+    stops_map (LoadAnswers files.held (name ∷ [])) (Answers before after command) (Rose files.faults files1.faults) (ReadFails before after command)
+    (Unit {0}) (StopsShort before after command) stop (λ a says. answer_before before after command a (not_loaded a says refl) refl refl)
+    (λ rose. inl (record { rose = rose; input = refl; refusals = refl })) (λ short. inl refl) h
 
-pub body_crosses : (files files1 : FilesSeen) (input rest : Stream) (name shape : List ℕ) (model : FirstModel) (s : ℕ)
-    (result : Result (Vec ℕ) Stop) → HoldsModel files.held name model → slice_get model.names.items s ≡ Some shape
-    → InputComesTo input rest model.table s result → CommandComesTo files files1 input rest (body_command name shape) result
-body_crosses files files1 input rest name shape model s result h found comes =
-    let chosen : ShapeChosen files.held name shape =
-    record { read = h.read; s = s; named = ap (λ xs. slice_get xs s) (sym h.names) ∙ found } in
-    comes_map (InputSays input rest model.table s) (Answers files input rest (body_command name shape)) (Rose input.faults rest.faults)
-    (ReadFails files files1 input rest (body_command name shape))
-    (Unit {0}) (StopsShort files input rest (body_command name shape)) result
-    (λ a says. input_answers files input rest name shape chosen model.table a h.tabled says) (λ rose. inr (rose, chosen))
-    (λ short. inr chosen) comes
+module _ (files files1 : FilesSeen) (test : Test) (store store1 : StoreSeen) (name shape : List ℕ) (near far : BodyForm) where
+  abbrev before : Stream → InputsSeen
+  before input = inputs_seen files input test store
 
-pub body_lacks : (files files1 : FilesSeen) (input : Stream) (name shape : List ℕ) (model : FirstModel) (stop : Stop)
-    → HoldsModel files.held name model → ((s : ℕ) → slice_get model.names.items s ≡ Some shape → ⊥)
-    → EndsWithLine (no_shape_line shape) stop → CommandComesTo files files1 input input (body_command name shape) (Err stop)
-body_lacks files files1 input name shape model stop h none ends =
-    line_stops (Answers files input input (body_command name shape)) (ReadFails files files1 input input (body_command name shape))
-    (StopsShort files input input (body_command name shape)) (no_shape_line shape) stop
-    (model_comes files input name shape (refused (no_shape_line shape))
-    (no_shape h.read (λ s is. none s (ap (λ xs. slice_get xs s) h.names ∙ is)) refl))
-    (inl refl) ends
+  abbrev after : Stream → InputsSeen
+  after rest = inputs_seen files1 rest test store1
 
--- a structure that is named is a shape of the table
-pub shape_within : (files : FilesSeen) (name shape : List ℕ) (model : FirstModel) (s : ℕ) → HoldsModel files.held name model
-    → slice_get model.names.items s ≡ Some shape → s < shape_count model.table
-shape_within files name shape model s h found =
-    let among : s < length model.names.items = slice_get_within model.names.items s shape found in
-    let count : length model.names.items ≡ length h.read.m = ap (λ xs. length xs) h.names ∙ length-map h.read.m (λ l. l.name) in
-    let size : shape_count model.table ≡ length h.read.m + 4 = ap shape_count h.tabled ∙ shape_count_is h.read.m in
-    omega (arith, among, count, size)
+  abbrev command : Command
+  command = body_command name shape near far
+
+  -- by what a shape without a table comes to
+  shape_answers : (input : Stream) (loaded : Loaded files.held (name ∷ [])) (a : Answer) → ShapeSays loaded.graph name shape store store1 a
+      → Answers (before input) (after input) command a
+  shape_answers input loaded a (lacks none count is) =
+      answer_before (before input) (after input) command a (no_shape loaded none (ap (came untouched) is)) refl count
+  shape_answers input loaded a (not_sound there none count is) =
+      answer_before (before input) (after input) command a
+      (unbuilt (record { loaded = loaded; is = there }) none (ap (came untouched) is)) refl count
+  shape_answers input loaded a (refuses there sound id h is) = record {
+    taken = untouched;
+    pattern = Some h.text;
+    by = (rose, h.refused);
+    only = λ u e. ap (λ (x : Answer). x.status) is;
+    says =
+        pattern (record { there = record { loaded = loaded; is = there }; sound = sound }) h.text id refl h.carrier (ap (came untouched) is);
+    left = refl;
+  }
+    where
+      rose : Rose store.refusals store1.refusals
+      rose = omega (arith, h.refusals)
+
+  pub body_refuses : (input : Stream) (graph : Graph) (stop : Stop) → Loads files files1 (name ∷ []) (Ok graph)
+      → MakesTable (maps_of graph) name shape test store store1 (Err stop) → CommandComesTo (before input) (after input) command (Err stop)
+  body_refuses input graph stop loads h =
+      stops_map (ShapeSays (maps_of graph) name shape store store1) (Answers (before input) (after input) command) ⊥
+      (ReadFails (before input) (after input) command) (Unit {0}) (StopsShort (before input) (after input) command) stop
+      (λ a says. shape_answers input loads.0 a (subst (λ g. ShapeSays g name shape store store1 a) loads.1 says)) (λ never. absurd never)
+      (λ short. inl refl) h
+
+  -- by a table
+  abbrev told_now : Stream → Told
+  told_now input = told_by (before input) None
+
+  abbrev made_of : (input : Stream) (loaded : Loaded files.held (name ∷ [])) (now : StoreSeen) (one : OneShape)
+      → HasTableOf loaded.graph shape test store now one → TableMade (told_now input) name shape
+  made_of input loaded now one h = record {
+    sound = record { there = record { loaded = loaded; is = h.is }; sound = h.sound };
+    now = now;
+    one = one;
+    compiled = h.compiled;
+    free = λ u e among. none_is_some u e;
+  }
+
+  by_answer : (input rest : Stream) (made : TableMade (told_now input) name shape) (a : Answer) → store1.refusals ≡ store.refusals
+      → TableSays near far made.one test input rest a → Answers (before input) (after rest) command a
+  by_answer input rest made a count (left_out path served same is) =
+      answer_before (before input) (after rest) command a (unserved made path served (ap (came untouched) is)) same count
+  by_answer input rest made a count (by_input served (beyond body is long e)) = record {
+    taken = past_its_limit;
+    pattern = None;
+    by = count;
+    only = λ u e1. none_is_some u e1;
+    says = long_input (record { table = made; served = served }) body is long (ap (came past_its_limit) e);
+    left = tt;
+  }
+  by_answer input rest made a count (by_input served (whole body is within at_end (said, says, e))) = record {
+    taken = to_its_end;
+    pattern = None;
+    by = count;
+    only = λ u e1. none_is_some u e1;
+    says =
+        by_text (record { served = record { table = made; served = served }; bytes = body; is_input = is; within = within }) said says
+        (ap (came to_its_end) e);
+    left = at_end;
+  }
+
+  pub body_by : (input rest : Stream) (graph : Graph) (now : StoreSeen) (one : OneShape) (result : Result (Vec ℕ) Stop)
+      → Loads files files1 (name ∷ []) (Ok graph) → HasTableOf (maps_of graph) shape test store now one → store1.refusals ≡ now.refusals
+      → TableComesTo near far one test input rest result → CommandComesTo (before input) (after rest) command result
+  body_by input rest graph now one result loads h same comes =
+      let table : HasTableOf loads.0.graph shape test store now one = subst (λ g. HasTableOf g shape test store now one) loads.1 h in
+      let made = made_of input loads.0 now one table in
+      let count : store1.refusals ≡ store.refusals = same ∙ h.compiled.refusals in
+      comes_map (TableSays near far one test input rest) (Answers (before input) (after rest) command)
+      (Path Served one.served Yes × Rose input.faults rest.faults) (ReadFails (before input) (after rest) command)
+      ((rest ≡ input) ⊎ Path Served one.served Yes) (StopsShort (before input) (after rest) command) result
+      (λ a says. by_answer input rest made a count says)
+      (λ p. inr (record { rose = p.1; reached = record { table = made; served = p.0 }; refusals = count }))
+      (λ short. elim short [
+        | inl same ↦ inl same
+        | inr served ↦ inr (None, count, record { table = made; served = served })
+      ])
+      comes
+
+-- compiling only adds texts to a store
+pub compiling_adds : (g : GraphMaps) (shape : List ℕ) (test : Test) (before now : StoreSeen) (result : Result OneShape CompileRefusal)
+    → CompilesShape g shape test before now result → OnlyAdds before.added now.added
+compiling_adds g shape test before now (Ok one) h = (texts_of (table_data one.table).patterns, h.1.added)
+compiling_adds g shape test before now (Err NoShape) h = ([], ap (λ (x : StoreSeen). x.added) h.1 ∙ sym (append-nil before.added))
+compiling_adds g shape test before now (Err (is_pattern id)) h = (h.1.earlier, h.1.added)
+compiling_adds g shape test before now (Err no_room) h = (h.more, h.added)
+
+-- a shape that isn't served
+pub unserved_stops : (near far : BodyForm) (one : OneShape) (test : Test) (input : Stream) (path : List ℕ) (stop : Stop)
+    → Path Served one.served (Unserved path) → EndsWithLine (unserved_line path) stop → TableComesTo near far one test input input (Err stop)
+unserved_stops near far one test input path stop served ends =
+    line_stops (TableSays near far one test input input) (Path Served one.served Yes × Rose input.faults input.faults)
+    ((input ≡ input) ⊎ Path Served one.served Yes) (unserved_line path) stop (left_out path served refl refl) (inl refl) ends

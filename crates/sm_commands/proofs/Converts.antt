@@ -13,6 +13,10 @@ use Rattle.sm_commands.specs.Convert.{ConvertSays, converted}
 use Rattle.sm_commands.specs.Convert.ConvertSays.{not_loaded, graph}
 use Rattle.sm_commands.specs.Loading.{LoadAnswers}
 use Rattle.sm_commands.specs.Run.{Answers, ReadFails, StopsShort}
+use Rattle.sm_commands.specs.Outside.{InputsSeen, inputs_seen}
+use Rattle.sm_shapes.specs.Fitting.{Test}
+use Rattle.sm_compile.specs.Answers.{StoreSeen}
+use Rattle.sm_commands.proofs.Answered.{answer_before}
 use Rattle.sm_commands.specs.steps.CommandSteps.{CommandComesTo}
 use Rattle.sm_commands.specs.steps.ConvertSteps.{Converts}
 use Rattle.sm_commands.specs.steps.LoadSteps.{Loads}
@@ -31,10 +35,12 @@ stop_comes files files1 models stop h =
     (Unit {0}) (Unit {0}) stop (λ a says. not_loaded says) (λ rose. rose) (λ short. short) h
 
 -- the command leaves the input as it is
-pub convert_comes : (files files1 : FilesSeen) (input : Stream) (models : List (List ℕ)) (result : Result (Vec ℕ) Stop)
-    → Converts files files1 models result → CommandComesTo files files1 input input (convert_command models) result
-convert_comes files files1 input models result h =
-    comes_map (ConvertSays files.held models) (Answers files input input (convert_command models))
-    (Rose files.faults files1.faults) (ReadFails files files1 input input (convert_command models)) (Unit {0})
-    (StopsShort files input input (convert_command models)) result
-    (λ a says. record { taken = untouched; says = (a, says, refl); left = refl }) (λ rose. inl (rose, refl)) (λ short. inl refl) h
+pub convert_comes : (files files1 : FilesSeen) (input : Stream) (test : Test) (store : StoreSeen) (models : List (List ℕ)) (result : Result (Vec ℕ) Stop)
+    → Converts files files1 models result → CommandComesTo (inputs_seen files input test store) (inputs_seen files1 input test store) (convert_command models) result
+convert_comes files files1 input test store models result h =
+    let before : InputsSeen = inputs_seen files input test store in
+    let after : InputsSeen = inputs_seen files1 input test store in
+    comes_map (ConvertSays files.held models) (Answers before after (convert_command models))
+    (Rose files.faults files1.faults) (ReadFails before after (convert_command models)) (Unit {0}) (StopsShort before after (convert_command models)) result
+    (λ a says. answer_before before after (convert_command models) a (a, says, refl) refl refl)
+    (λ rose. inl (record { rose = rose; input = refl; refusals = refl })) (λ short. inl refl) h

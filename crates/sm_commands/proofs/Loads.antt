@@ -7,16 +7,22 @@ use Rattle.sm_io.specs.Files.{Folder, Holds}
 use Rattle.sm_io.specs.Seen.{FilesSeen}
 use Rattle.sm_tree.specs.Node.{Node}
 use Rattle.sm_tree.specs.Syntax.{IsRead}
+use Rattle.sm_tree.specs.View.{node_of}
+use Rattle.sm_tree.specs.declared.tree.Tree.{Tree}
 use Rattle.sm_json.specs.JsonText.{JsonText}
 use Rattle.sm_model.specs.EventView.{AreErrors, EventTold, event_view, events_view}
 use Rattle.sm_model.specs.Formed.{AreFormed}
 use Rattle.sm_model.specs.Graphs.{GraphMaps}
 use Rattle.sm_model.specs.GraphView.{maps_of}
 use Rattle.sm_model.specs.Said.{Said}
+use Rattle.std.specs.Global.{Vec}
 use Rattle.sm_model.specs.declared.graph.Graph.{Graph}
+use Rattle.sm_model.specs.declared.statement.Statement.{Statement}
 use Rattle.sm_model.specs.declared.event.ModelEvent.{ModelEvent}
 use Rattle.sm_model.specs.declared.event.Severity.TheVariants.{Error}
+use Rattle.sm_model.specs.SaidView.{statements_view}
 use Rattle.sm_ast.specs.Answers.{Tells}
+use Rattle.sm_ast.specs.Ast.{Ast}
 use Rattle.sm_ast.specs.Faults.{AstFault, ast_fault}
 use Rattle.sm_ast.proofs.Judged.{some_is_none}
 use Rattle.sm_ast.specs.declared.refusal.AstRefusal.{AstRefusal}
@@ -27,18 +33,19 @@ use Rattle.sm_merge.specs.declared.limit.LimitKind.{LimitKind}
 use Rattle.sm_merge.specs.declared.refusal.MergeRefusal.TheVariants.{Limit as is_past, Rejected}
 use Rattle.sm_commands.specs.Answer.{Answer, past, refused}
 use Rattle.sm_commands.specs.FileStatements.{StatementsIn, NoStatements, AllSay, OneSaysNone}
-use Rattle.sm_commands.specs.FileStatements.NoStatements.{no_tree, no_model}
+use Rattle.sm_commands.specs.FileStatements.NoStatements.{no_tree, no_model, no_text}
 use Rattle.sm_commands.specs.Limits.{files_limit, file_limit, bytes_limit}
 use Rattle.sm_commands.specs.Lines.{ast_line, bytes_limit_line, error_lines, event_line, files_limit_line, size_limit_line}
 use Rattle.sm_commands.specs.Loading.{IsMerged, MergeAnswers, FilesRead, Loaded, LoadAnswers}
 use Rattle.sm_commands.specs.Loading.MergeAnswers.{too_large, rejected}
 use Rattle.sm_commands.specs.Loading.LoadAnswers.{many_files, long_files, no_statements, not_merged}
 use Rattle.sm_commands.specs.ModelFiles.{ModelFile, AreRead, PassesOne}
+use Rattle.sm_commands.specs.NoText.{NoText}
 use Rattle.sm_commands.specs.NoTree.{NoTree}
 use Rattle.sm_commands.specs.Stages.{EndsInJson}
 use Rattle.sm_commands.specs.steps.CommandSteps.{StepStops, EndsWithLine, EndsWithLimit}
 use Rattle.sm_commands.specs.steps.FileSteps.{PassesLimit, OpensFile, OpensTree}
-use Rattle.sm_commands.specs.steps.LoadSteps.{Loads, Merges, ReadsModels, ReadsStatements, TextsAnswer, TextsMerge, texts_view}
+use Rattle.sm_commands.specs.steps.LoadSteps.{Loads, Merges, ReadsModels, ReadsStatements, ReadsText, TextsAnswer, TextsMerge, texts_view}
 use Rattle.sm_commands.specs.declared.files.ModelText.{ModelText}
 use Rattle.sm_commands.specs.declared.stop.Stop.{Stop}
 use Rattle.sm_commands.proofs.Stops.{line_stops, limit_stops, stops_map}
@@ -62,9 +69,24 @@ model_refused f n refusal stop named read tells other ends =
     line_stops (NoStatements f) ⊥ (Unit {0}) (ast_line f.name told.0) stop (no_model named n read told.0 told.1 refl) tt
     (ends told.0 told.2)
 
-pub tree_stops : (f : ModelFile) (stop : Stop) → OpensTree f.name f.bytes (Err stop) → ReadsStatements f (Err stop)
-tree_stops f stop h =
-    stops_map (NoTree f.name f.bytes) (NoStatements f) ⊥ ⊥ (Unit {0}) (Unit {0}) stop (λ a says. no_tree says) (λ x. x) (λ x. x) h
+pub tree_stops : (f : ModelFile) (stop : Stop) → EndsInJson f.name → OpensTree f.name f.bytes (Err stop) → ReadsStatements f (Err stop)
+tree_stops f stop named h =
+    stops_map (NoTree f.name f.bytes) (NoStatements f) ⊥ ⊥ (Unit {0}) (Unit {0}) stop (λ a says. no_tree named says) (λ x. x) (λ x. x) h
+
+pub tree_says : (f : ModelFile) (tree : Tree) (ss : Vec Statement) → EndsInJson f.name → OpensTree f.name f.bytes (Ok tree)
+    → Ast (statements_view ss.items) (node_of tree) → AreFormed (statements_view ss.items) → ReadsStatements f (Ok ss)
+tree_says f tree ss named opened says formed =
+    (inl (record { is_json = named; tree = node_of tree; is_text = opened.1; says = says }), formed)
+
+-- a file that is an IDL text
+pub text_reads : (f : ModelFile) (result : Result (Vec Statement) Stop) → (EndsInJson f.name → ⊥) → ReadsText f.name f.bytes result
+    → ReadsStatements f result
+text_reads f (Ok ss) other (u, (file, e, version, idl), formed) = (
+  inr (record { other_name = other; is_utf8 = u; file = file; is_text = idl; version = version; says = sym e }),
+  formed,
+)
+text_reads f (Err stop) other h =
+    stops_map (NoText f.name f.bytes) (NoStatements f) ⊥ ⊥ (Unit {0}) (Unit {0}) stop (λ a says. no_text other says) (λ x. x) (λ x. x) h
 
 -- one more file of several says statements
 pub says_more : (all here rest : List ModelFile) (f : ModelFile) (before after : List (List Said)) (s : List Said) → here ≡ f ∷ rest
@@ -215,3 +237,22 @@ events_more all here rest e before after parts put was =
           ∙ ap (λ s. before ++ (event_line s (event_view e) ++ error_lines (events_view rest))) errors.0
           ∙ ap (λ xs. before ++ xs) lines ∙ ap (λ es. before ++ error_lines (events_view es)) (sym parts) ∙ was.1,
     )
+
+-- one file by itself
+pub one_read : (held : Option Folder) (name file : List ℕ) → Holds held name (Some file) → length file ≤ file_limit
+    → AreRead held 0 (name ∷ []) (record { name = name; bytes = file } ∷ [])
+one_read held name file holds within =
+    (record { bytes = file; held = holds; within = within }, [], refl, omega (arith, within), refl)
+
+pub file_loads : (files files1 : FilesSeen) (name file : List ℕ) (result : Result Graph Stop) → Holds files.held name (Some file)
+    → length file ≤ file_limit → TextsMerge (record { name = name; bytes = file } ∷ []) result → Loads files files1 (name ∷ []) result
+file_loads files files1 name file result holds within h =
+    graph_loads files files1 (name ∷ []) (record { name = name; bytes = file } ∷ []) result (omega arith)
+    (one_read files.held name file holds within) h
+
+pub file_stops : (files files1 : FilesSeen) (name : List ℕ) (stop : Stop) → OpensFile files files1 name (Err stop)
+    → Loads files files1 (name ∷ []) (Err stop)
+file_stops files files1 name stop h =
+    stops_map (PassesLimit files.held name) (LoadAnswers files.held (name ∷ [])) (Rose files.faults files1.faults)
+    (Rose files.faults files1.faults) (Unit {0}) (Unit {0}) stop (λ a says. long_files (omega arith) (inl says)) (λ rose. rose)
+    (λ short. short) h

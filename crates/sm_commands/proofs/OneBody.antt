@@ -1,179 +1,177 @@
--- Files and an input come to one answer of the command `body`: at each decision two answers go the same way.
-use Rattle.std.proofs.Common.{◌≡◌, ℕ, ◌<◌, zero, suc, List, [], ◌∷◌, Some, length, sym, ap, subst, ◌∙◌, refl, arith}
-use Rattle.std.specs.Prelude.{slice_get}
-use Rattle.sm_io.specs.Files.{Folder}
-use Rattle.sm_tree.specs.Node.{Node}
-use Rattle.sm_tree.specs.Syntax.{IsRead, IsRefused}
-use Rattle.sm_tree.proofs.OneAnswer as syntax
-use Rattle.sm_tree.specs.declared.refusal.SyntaxRefusal.{SyntaxRefusal}
-use Rattle.sm_json.specs.JsonText.{JsonText}
-use Rattle.sm_shapes.specs.Val.{Val}
-use Rattle.sm_shapes.specs.declared.table.Table.{Table}
-use Rattle.sm_commands.specs.Spelling.{Spells}
-use Rattle.sm_commands.specs.Faults.{FaultAt, faults}
-use Rattle.sm_commands.specs.Encoded.{encoded_tree}
-use Rattle.sm_shapes.specs.Names.{NoneIs, AllDiffer}
-use Rattle.sm_commands.specs.FirstForm.{FirstForm, shape_names}
-use Rattle.sm_commands.specs.Convention.{Convention}
-use Rattle.sm_commands.specs.Tabled.{table_of}
-use Rattle.sm_commands.specs.Limits.{body_limit}
-use Rattle.sm_commands.specs.Lines.{fault_line, syntax_line}
-use Rattle.sm_commands.specs.Answer.{Answer, Came, done, refused, came}
+-- Files, an input and a store come to one answer of the command `body`: at each decision two answers go the same way.
+use Rattle.std.proofs.Common.{◌≡◌, ◌<◌, ◌≤◌, ℕ, List, [], ◌∷◌, Option, Some, length, sym, ap, subst, ◌∙◌, arith}
+use Rattle.std.specs.Prelude.{Contains}
+use Rattle.sm_model.specs.Graphs.{GraphMaps}
+use Rattle.sm_shapes.specs.Places.{root_place}
+use Rattle.sm_shapes.specs.TableData.{TableData}
+use Rattle.sm_shapes.specs.TableView.{table_data}
+use Rattle.sm_codec.specs.Codec.{InTable}
+use Rattle.sm_codec.specs.Defaults.{filled}
+use Rattle.sm_codec.specs.FilledLaws.{IsFilled}
+use Rattle.sm_bodies.specs.TextAnswers.{TextAnswer, TextAnswers}
+use Rattle.sm_bodies.specs.declared.form.BodyForm.{BodyForm}
+use Rattle.sm_bodies.specs.TextLaws.{OneTextAnswer}
+use Rattle.sm_compile.specs.Answers.{IsShapeCompiled}
+use Rattle.sm_compile.specs.Compiled.{IsFirstCarrier}
+use Rattle.sm_compile.specs.Reached.{IsReached}
+use Rattle.sm_compile.specs.Sound.{IsValueShape, Sound}
+use Rattle.sm_compile.specs.declared.compiled.OneShape.{OneShape}
+use Rattle.sm_compile.specs.declared.compiled.Served.{Served}
+use Rattle.sm_compile.specs.declared.compiled.Served.TheVariants.{Yes, Unserved}
+use Rattle.sm_compile.proofs.OneTable.{one_table}
+use Rattle.sm_commands.specs.Answer.{Answer, Came, came, refused, pattern_refused}
 use Rattle.sm_commands.specs.Answer.InputUse.{untouched, to_its_end}
-use Rattle.sm_commands.specs.Stages.{told, FileRead, IsUnbuilt, TreeRead, ModelRead, IsShape, ShapeChosen, InputRead}
-use Rattle.sm_commands.specs.NoTree.{NoTree}
-use Rattle.sm_commands.specs.Body.{ModelAnswers, TextAnswers, BodySays}
-use Rattle.sm_commands.specs.Body.ModelAnswers.{long_file, no_tree, unbuilt, no_shape}
-use Rattle.sm_commands.specs.Body.TextAnswers.{no_text, fault, value}
-use Rattle.sm_commands.specs.Body.BodySays.{by_model, long_input, by_text}
-use Rattle.sm_commands.proofs.FilesRead.{bytes_same, tree_same, not_long}
-use Rattle.sm_commands.proofs.NoTrees.{refusal_same, no_tree_same, tree_denied}
-use Rattle.sm_commands.proofs.Readable.{IsReadable}
-use Rattle.sm_commands.proofs.Clear.{clear_where_spelled}
-use Rattle.sm_commands.proofs.Unique.{one_value}
-use Rattle.sm_commands.proofs.OneModel.{one_model}
+use Rattle.sm_commands.specs.Body.{BodySays, printed}
+use Rattle.sm_commands.specs.Body.BodySays.{not_loaded, no_shape, unbuilt, pattern, unserved, long_input, by_text}
+use Rattle.sm_commands.specs.BodyStages.{ShapeThere, ShapeSound, TableMade, ShapeServed, InputRead, table_of}
+use Rattle.sm_commands.specs.Limits.{body_limit}
+use Rattle.sm_commands.specs.Lines.{pattern_line, unserved_line}
+use Rattle.sm_commands.specs.Loading.{Loaded, LoadAnswers}
+use Rattle.sm_commands.specs.Stages.{Told, IsInput}
+use Rattle.sm_compile.proofs.OnePatterns.{one_first}
+use Rattle.sm_commands.proofs.TablesMade.{number_within, is_filled, carried_within}
+use Rattle.sm_commands.proofs.ToldAll.{IsToldWhole}
 
--- a name stands at one place of names that differ
-none_at : (ks : List (List ℕ)) (name : List ℕ) (j : ℕ) → NoneIs name ks → slice_get ks j ≡ Some name → ⊥
-none_at [] name j none at = cc
-none_at (k ∷ ks) name zero none at = none.0 (cc)
-none_at (k ∷ ks) name (suc j) none at = none_at ks name j none.1 at
+-- whether a shape is served, and the path of one that isn't
+abbrev is_yes : Served → Type 0
+is_yes Yes = Unit {0}
+is_yes (Unserved path) = ⊥
 
-one_place : (ks : List (List ℕ)) (name : List ℕ) (i j : ℕ) → AllDiffer ks → slice_get ks i ≡ Some name → slice_get ks j ≡ Some name → i ≡ j
-one_place [] name i j differ a b = cc
-one_place (k ∷ ks) name zero zero differ a b = refl
-one_place (k ∷ ks) name zero (suc j) differ a b = let is : k ≡ name = cc in
-    absurd (none_at ks name j (subst (λ x. NoneIs x ks) is differ.0) b)
-one_place (k ∷ ks) name (suc i) zero differ a b = let is : k ≡ name = cc in
-    absurd (none_at ks name i (subst (λ x. NoneIs x ks) is differ.0) a)
-one_place (k ∷ ks) name (suc i) (suc j) differ a b = ap suc (one_place ks name i j differ.1 a b)
+abbrev path_in : Served → List ℕ
+path_in Yes = []
+path_in (Unserved path) = path
 
--- a file holds one model
-read_same : (folder : Folder) (name : List ℕ) (h i : ModelRead (Some folder) name) → h.m ≡ i.m
-read_same folder name h i =
-    one_model i.text.tree h.m i.m (subst (λ x. FirstForm x h.m) (tree_same folder name h.text i.text) h.form) i.form
+module _ (texts : OneTextAnswer) (t : Told) (whole : IsToldWhole t) (name shape : List ℕ) where
+  -- one graph: it has the shape, and the shape is sound, or not
+  graphs : (k l : Loaded t.files (name ∷ [])) → Path GraphMaps k.graph l.graph
+  graphs = whole.graphs (name ∷ [])
 
--- one shape of it has the name
-shape_same : (folder : Folder) (name shape : List ℕ) (h i : ShapeChosen (Some folder) name shape) → (h.read.m ≡ i.read.m) × (h.s ≡ i.s)
-shape_same folder name shape h i =
-    let same : h.read.m ≡ i.read.m = read_same folder name h.read i.read in (
-      same,
-      one_place (shape_names i.read.m) shape h.s i.s i.read.form.differ (subst (λ x. IsShape x shape h.s) same h.named) i.named,
-    )
+  not_there : (loaded : Loaded t.files (name ∷ [])) → (IsValueShape loaded.graph shape → ⊥) → ShapeThere t name shape → ⊥
+  not_there loaded none h = none (subst (λ g. IsValueShape g shape) (graphs h.loaded loaded) h.is)
 
--- a file that holds a model gives a tree, which is not unbuilt
-not_treeless : (folder : Folder) (name : List ℕ) (a : Answer) (file : FileRead (Some folder) name) → NoTree name file.bytes a
-    → TreeRead (Some folder) name → ⊥
-not_treeless folder name a file none text =
-    tree_denied name file.bytes a none text.is_json text.tree (subst (λ x. IsRead JsonText text.tree x)
-    (bytes_same folder name text.file.bytes file.bytes text.file.held file.held) text.is_text)
+  not_sound : (there : ShapeThere t name shape) → (Sound there.loaded.graph shape → ⊥) → ShapeSound t name shape → ⊥
+  not_sound there none h = none (subst (λ g. Sound g shape) (graphs h.there.loaded there.loaded) h.sound)
 
-not_unbuilt : (folder : Folder) (name : List ℕ) (text : TreeRead (Some folder) name) (h : ModelRead (Some folder) name)
-    → IsUnbuilt text.tree → ⊥
-not_unbuilt folder name text h none = none h.m (subst (λ n. FirstForm n h.m) (tree_same folder name h.text text) h.form)
+  -- the store refuses a pattern of the shape, or there is a table of it
+  not_made : (sound : ShapeSound t name shape) (u id : List ℕ) → t.refused ≡ Some u
+      → IsFirstCarrier sound.there.loaded.graph (IsReached sound.there.loaded.graph shape) u id → TableMade t name shape → ⊥
+  not_made sound u id is first h = h.free u is (carried_within h.sound.there.loaded.graph shape t.test t.store h.now h.one u id h.compiled
+      (subst (λ g. IsFirstCarrier g (IsReached g shape) u id) (graphs sound.there.loaded h.sound.there.loaded) first))
 
--- one answer stands before the input
-before_same : (folder : Folder) (name shape : List ℕ) (a b : Answer) → ModelAnswers (Some folder) name shape a
-    → ModelAnswers (Some folder) name shape b → a ≡ b
-before_same folder name shape a b (long_file w is) (long_file w1 is1) = is ∙ sym is1
-before_same folder name shape a b (long_file w is) (no_tree file says) = absurd (not_long folder name w file)
-before_same folder name shape a b (long_file w is) (unbuilt text none is1) = absurd (not_long folder name w text.file)
-before_same folder name shape a b (long_file w is) (no_shape h none is1) = absurd (not_long folder name w h.text.file)
-before_same folder name shape a b (no_tree file says) (long_file w is1) = absurd (not_long folder name w file)
-before_same folder name shape a b (no_tree file says) (no_tree file1 says1) =
-    no_tree_same name file1.bytes a b (subst (λ x. NoTree name x a) (bytes_same folder name file.bytes file1.bytes file.held file1.held) says) says1
-before_same folder name shape a b (no_tree file says) (unbuilt text none is1) = absurd (not_treeless folder name a file says text)
-before_same folder name shape a b (no_tree file says) (no_shape h none is1) = absurd (not_treeless folder name a file says h.text)
-before_same folder name shape a b (unbuilt text none is) (long_file w is1) = absurd (not_long folder name w text.file)
-before_same folder name shape a b (unbuilt text none is) (no_tree file says) = absurd (not_treeless folder name b file says text)
-before_same folder name shape a b (unbuilt text none is) (unbuilt text1 none1 is1) = is ∙ sym is1
-before_same folder name shape a b (unbuilt text none is) (no_shape h none1 is1) = absurd (not_unbuilt folder name text h none)
-before_same folder name shape a b (no_shape h none is) (long_file w is1) = absurd (not_long folder name w h.text.file)
-before_same folder name shape a b (no_shape h none is) (no_tree file says) = absurd (not_treeless folder name b file says h.text)
-before_same folder name shape a b (no_shape h none is) (unbuilt text none1 is1) = absurd (not_unbuilt folder name text h none1)
-before_same folder name shape a b (no_shape h none is) (no_shape i none1 is1) = is ∙ sym is1
+  id_same : (h i : ShapeSound t name shape) (u v id id1 : List ℕ) → t.refused ≡ Some u → t.refused ≡ Some v
+      → IsFirstCarrier h.there.loaded.graph (IsReached h.there.loaded.graph shape) u id
+      → IsFirstCarrier i.there.loaded.graph (IsReached i.there.loaded.graph shape) v id1 → id ≡ id1
+  id_same h i u v id id1 is is1 first first1 =
+      let g = i.there.loaded.graph in
+      let texts : u ≡ v = cc in
+      one_first g (IsReached g shape) v id id1 (subst (λ x. IsFirstCarrier g (IsReached g shape) x id) texts
+      (subst (λ x. IsFirstCarrier x (IsReached x shape) u id) (graphs h.there.loaded i.there.loaded) first)) first1
 
--- or the shape is there
-before_apart : (folder : Folder) (name shape : List ℕ) (a : Answer) → ModelAnswers (Some folder) name shape a
-    → ShapeChosen (Some folder) name shape → ⊥
-before_apart folder name shape a (long_file w is) h = not_long folder name w h.read.text.file
-before_apart folder name shape a (no_tree file says) h = not_treeless folder name a file says h.read.text
-before_apart folder name shape a (unbuilt text none is) h = not_unbuilt folder name text h.read none
-before_apart folder name shape a (no_shape read none is) h =
-    none h.s (subst (λ x. IsShape x shape h.s) (read_same folder name h.read read) h.named)
+  -- there is one table, which is served or not
+  tables : (h i : TableMade t name shape)
+      → Path TableData (table_data h.one.table) (table_data i.one.table) × (h.one.shape ≡ i.one.shape) × Path Served h.one.served i.one.served
+  tables h i =
+      one_table i.sound.there.loaded.graph shape t.test t.store h.now i.now h.one i.one
+      (subst (λ g. IsShapeCompiled g shape t.test t.store h.now h.one) (graphs h.sound.there.loaded i.sound.there.loaded) h.compiled)
+      i.compiled
 
--- no text has a tree
-no_body : (near : Convention) (body : List ℕ) (refusal : SyntaxRefusal) (n : Node) → IsRefused near.syntax body refusal
-    → IsRead near.syntax.text n body → ⊥
-no_body near body refusal n is read = syntax.refused_no_text near.syntax body refusal is n read
+  not_served : (h : TableMade t name shape) (path : List ℕ) → Path Served h.one.served (Unserved path) → ShapeServed t name shape → ⊥
+  not_served h path is i =
+      let same : Path Served (Unserved path) Yes = sym is ∙ (tables h i.table).2 ∙ i.served in subst is_yes (sym same) tt
 
--- a tree with a fault spells no value
-fault_apart : (near : Convention) → IsReadable near → (t : Table) (s : ℕ) (n m : Node) (v : Val) (x : FaultAt) (later : List FaultAt)
-    (body : List ℕ) → IsRead near.syntax.text n body → IsRead near.syntax.text m body
-    → faults t near.leaf n s ≡ x ∷ later → Spells t near.leaf s v m → ⊥
-fault_apart near one t s n m v x later body read read1 first spells =
-    let same : n ≡ m = one.reading n m body read.0 read1.0 in
-    let clear : faults t near.leaf m s ≡ [] = clear_where_spelled t near.leaf one.leaf s v m spells in
-    let faulty : faults t near.leaf m s ≡ x ∷ later = sym (ap (λ y. faults t near.leaf y s) same) ∙ first in
-    cc
+  path_same : (h i : TableMade t name shape) (path path1 : List ℕ) → Path Served h.one.served (Unserved path)
+      → Path Served i.one.served (Unserved path1) → path ≡ path1
+  path_same h i path path1 is is1 = ap path_in (sym is ∙ (tables h i).2 ∙ is1)
 
-first_same : (x y : FaultAt) (xs ys : List FaultAt) → x ∷ xs ≡ y ∷ ys → x ≡ y
-first_same x y xs ys e = cc
+  -- an input within its limit isn't longer
+  not_beyond : (h : InputRead t name shape) (input : List ℕ) → IsInput t.input input → body_limit < length input → ⊥
+  not_beyond h input is long =
+      omega (arith, subst (λ x. body_limit < length x) (whole.inputs input h.bytes is h.is_input) long, h.within)
 
--- a body has one answer
-text_same : (near far : Convention) → IsReadable near → (t : Table) (s : ℕ) (body : List ℕ) (a b : Answer) → TextAnswers near far t s body a
-    → TextAnswers near far t s body b → a ≡ b
-text_same near far one t s body a b (no_text r h is) (no_text q i is1) = is ∙ ap (λ x. refused (syntax_line x)) (refusal_same near.syntax one.reading body r q h i) ∙ sym is1
-text_same near far one t s body a b (no_text r h is) (fault n path kind later read first is1) = absurd (no_body near body r n h read)
-text_same near far one t s body a b (no_text r h is) (value n v read spells is1) = absurd (no_body near body r n h read)
-text_same near far one t s body a b (fault n path kind later read first is) (no_text r h is1) = absurd (no_body near body r n h read)
-text_same near far one t s body a b (fault n path kind later read first is) (fault m path1 kind1 later1 read1 first1 is1) =
-    let trees : n ≡ m = one.reading n m body read.0 read1.0 in
-    let head : FaultAt = (path, kind) in
-    let head1 : FaultAt = (path1, kind1) in
-    is ∙ ap (λ (f : FaultAt). refused (fault_line f.0 f.1))
-    (first_same head head1 later later1 (sym first ∙ ap (λ y. faults t near.leaf y s) trees ∙ first1)) ∙ sym is1
-text_same near far one t s body a b (fault n path kind later read first is) (value m v read1 spells is1) =
-    absurd (fault_apart near one t s n m v (path, kind) later body read read1 first spells)
-text_same near far one t s body a b (value n v read spells is) (no_text r h is1) = absurd (no_body near body r n h read)
-text_same near far one t s body a b (value m v read1 spells is) (fault n path kind later read first is1) =
-    absurd (fault_apart near one t s n m v (path, kind) later body read read1 first spells)
-text_same near far one t s body a b (value n v read spells is) (value m w read1 spells1 is1) =
-    let trees : n ≡ m = one.reading n m body read.0 read1.0 in
-    let values : v ≡ w = one_value t near.leaf one.leaf s v w m (subst (λ x. Spells t near.leaf s v x) trees spells) spells1 in
-    is ∙ ap (λ x. done (far.text (encoded_tree t far.leaf_tree s x))) values ∙ sym is1
+  -- a body has one answer
+  text_same : (near far : BodyForm) (h i : InputRead t name shape) (a b : TextAnswer)
+      → TextAnswers near far (table_of t name shape h.served.table) t.test (root_place h.served.table.one.shape) h.bytes a
+      → TextAnswers near far (table_of t name shape i.served.table) t.test (root_place i.served.table.one.shape) i.bytes b → a ≡ b
+  text_same near far h i a b says says1 =
+      let k = i.served.table in
+      let same = tables h.served.table k in
+      let ready : IsFilled (filled (table_data k.one.table) t.test) t.test =
+      is_filled k.sound.there.loaded.graph shape t.test t.store k.now k.one k.compiled in
+      texts near far (filled (table_data k.one.table) t.test) t.test (root_place k.one.shape) i.bytes a b ready.shaped ready.pass
+      (within k)
+      (subst (λ x. TextAnswers near far (filled (table_data k.one.table) t.test) t.test (root_place k.one.shape) x a)
+      (whole.inputs h.bytes i.bytes h.is_input i.is_input)
+      (subst (λ x. TextAnswers near far (filled (table_data k.one.table) t.test) t.test (root_place x) h.bytes a) same.1
+      (subst (λ x. TextAnswers near far (filled x t.test) t.test (root_place h.served.table.one.shape) h.bytes a) same.0 says))) says1
+    where
+      within : (k : TableMade t name shape) → InTable (filled (table_data k.one.table) t.test) (root_place k.one.shape)
+      within k = number_within k.sound.there.loaded.graph shape t.test t.store k.now k.one k.compiled
 
--- an input within its limit isn't longer
-not_beyond : (folder : Folder) (name shape bytes input : List ℕ) (h : InputRead (told (Some folder) (Some bytes)) name shape)
-    → bytes ≡ input → body_limit < length input → ⊥
-not_beyond folder name shape bytes input h is long =
-    omega (arith, subst (λ x. body_limit < length x) (sym is ∙ h.is_input) long, h.within)
-
--- two whole inputs have one answer
-whole_same : (near far : Convention) → IsReadable near → (folder : Folder) (name shape bytes : List ℕ) (h i : InputRead (told (Some folder) (Some bytes)) name shape) (a b : Answer)
-    → TextAnswers near far (table_of h.chosen.read.m) h.chosen.s h.bytes a
-    → TextAnswers near far (table_of i.chosen.read.m) i.chosen.s i.bytes b → a ≡ b
-whole_same near far one folder name shape bytes h i a b says says1 =
-    let chosen : (h.chosen.read.m ≡ i.chosen.read.m) × (h.chosen.s ≡ i.chosen.s) = shape_same folder name shape h.chosen i.chosen in
-    let inputs : h.bytes ≡ i.bytes = sym h.is_input ∙ i.is_input in
-    text_same near far one (table_of i.chosen.read.m) i.chosen.s i.bytes a b
-    (subst (λ x. TextAnswers near far (table_of x) i.chosen.s i.bytes a) chosen.0
-    (subst (λ x. TextAnswers near far (table_of h.chosen.read.m) x i.bytes a) chosen.1
-    (subst (λ x. TextAnswers near far (table_of h.chosen.read.m) h.chosen.s x a) inputs says))) says1
-
-pub body_same : (near far : Convention) → IsReadable near → (folder : Folder) (bytes name shape : List ℕ) (c d : Came)
-    → BodySays near far (told (Some folder) (Some bytes)) name shape c
-    → BodySays near far (told (Some folder) (Some bytes)) name shape d → c ≡ d
-body_same near far one folder bytes name shape c d (by_model a h e) (by_model b i e1) =
-    e ∙ ap (came untouched) (before_same folder name shape a b h i) ∙ sym e1
-body_same near far one folder bytes name shape c d (by_model a h e) (long_input i input is long e1) = absurd (before_apart folder name shape a h i)
-body_same near far one folder bytes name shape c d (by_model a h e) (by_text i b says e1) = absurd (before_apart folder name shape a h i.chosen)
-body_same near far one folder bytes name shape c d (long_input h input is long e) (by_model b i e1) = absurd (before_apart folder name shape b i h)
-body_same near far one folder bytes name shape c d (long_input h input is long e) (long_input i input1 is1 long1 e1) = e ∙ sym e1
-body_same near far one folder bytes name shape c d (long_input h input is long e) (by_text i b says e1) =
-    absurd (not_beyond folder name shape bytes input i is long)
-body_same near far one folder bytes name shape c d (by_text h a says e) (by_model b i e1) = absurd (before_apart folder name shape b i h.chosen)
-body_same near far one folder bytes name shape c d (by_text h a says e) (long_input i input is long e1) =
-    absurd (not_beyond folder name shape bytes input h is long)
-body_same near far one folder bytes name shape c d (by_text h a says e) (by_text i b says1 e1) =
-    e ∙ ap (came to_its_end) (whole_same near far one folder name shape bytes h i a b says says1) ∙ sym e1
+  pub body_same : (near far : BodyForm) (c d : Came) → BodySays t name shape near far c → BodySays t name shape near far d → c ≡ d
+  body_same near far c d (not_loaded a h e) (not_loaded a1 h1 e1) = e ∙ ap (came untouched) (whole.answers (name ∷ []) a a1 h h1) ∙ sym e1
+  body_same near far c d (not_loaded a h e) (no_shape l1 none1 e1) = absurd (whole.apart (name ∷ []) a h l1)
+  body_same near far c d (not_loaded a h e) (unbuilt there1 none1 e1) = absurd (whole.apart (name ∷ []) a h there1.loaded)
+  body_same near far c d (not_loaded a h e) (pattern sound1 u1 id1 is1 first1 e1) =
+      absurd (whole.apart (name ∷ []) a h sound1.there.loaded)
+  body_same near far c d (not_loaded a h e) (unserved table1 path1 is1 e1) =
+      absurd (whole.apart (name ∷ []) a h table1.sound.there.loaded)
+  body_same near far c d (not_loaded a h e) (long_input served1 input1 is1 long1 e1) =
+      absurd (whole.apart (name ∷ []) a h served1.table.sound.there.loaded)
+  body_same near far c d (not_loaded a h e) (by_text input1 a1 says1 e1) =
+      absurd (whole.apart (name ∷ []) a h input1.served.table.sound.there.loaded)
+  body_same near far c d (no_shape l none e) (not_loaded a1 h1 e1) = absurd (whole.apart (name ∷ []) a1 h1 l)
+  body_same near far c d (no_shape l none e) (no_shape l1 none1 e1) = e ∙ sym e1
+  body_same near far c d (no_shape l none e) (unbuilt there1 none1 e1) = absurd (not_there l none there1)
+  body_same near far c d (no_shape l none e) (pattern sound1 u1 id1 is1 first1 e1) = absurd (not_there l none sound1.there)
+  body_same near far c d (no_shape l none e) (unserved table1 path1 is1 e1) = absurd (not_there l none table1.sound.there)
+  body_same near far c d (no_shape l none e) (long_input served1 input1 is1 long1 e1) =
+      absurd (not_there l none served1.table.sound.there)
+  body_same near far c d (no_shape l none e) (by_text input1 a1 says1 e1) = absurd (not_there l none input1.served.table.sound.there)
+  body_same near far c d (unbuilt there none e) (not_loaded a1 h1 e1) = absurd (whole.apart (name ∷ []) a1 h1 there.loaded)
+  body_same near far c d (unbuilt there none e) (no_shape l1 none1 e1) = absurd (not_there l1 none1 there)
+  body_same near far c d (unbuilt there none e) (unbuilt there1 none1 e1) = e ∙ sym e1
+  body_same near far c d (unbuilt there none e) (pattern sound1 u1 id1 is1 first1 e1) = absurd (not_sound there none sound1)
+  body_same near far c d (unbuilt there none e) (unserved table1 path1 is1 e1) = absurd (not_sound there none table1.sound)
+  body_same near far c d (unbuilt there none e) (long_input served1 input1 is1 long1 e1) =
+      absurd (not_sound there none served1.table.sound)
+  body_same near far c d (unbuilt there none e) (by_text input1 a1 says1 e1) = absurd (not_sound there none input1.served.table.sound)
+  body_same near far c d (pattern sound u id is first e) (not_loaded a1 h1 e1) = absurd (whole.apart (name ∷ []) a1 h1 sound.there.loaded)
+  body_same near far c d (pattern sound u id is first e) (no_shape l1 none1 e1) = absurd (not_there l1 none1 sound.there)
+  body_same near far c d (pattern sound u id is first e) (unbuilt there1 none1 e1) = absurd (not_sound there1 none1 sound)
+  body_same near far c d (pattern sound u id is first e) (pattern sound1 u1 id1 is1 first1 e1) =
+      e ∙ ap (λ x. came untouched (pattern_refused (pattern_line x))) (id_same sound sound1 u u1 id id1 is is1 first first1) ∙ sym e1
+  body_same near far c d (pattern sound u id is first e) (unserved table1 path1 is1 e1) = absurd (not_made sound u id is first table1)
+  body_same near far c d (pattern sound u id is first e) (long_input served1 input1 is1 long1 e1) =
+      absurd (not_made sound u id is first served1.table)
+  body_same near far c d (pattern sound u id is first e) (by_text input1 a1 says1 e1) =
+      absurd (not_made sound u id is first input1.served.table)
+  body_same near far c d (unserved table path is e) (not_loaded a1 h1 e1) =
+      absurd (whole.apart (name ∷ []) a1 h1 table.sound.there.loaded)
+  body_same near far c d (unserved table path is e) (no_shape l1 none1 e1) = absurd (not_there l1 none1 table.sound.there)
+  body_same near far c d (unserved table path is e) (unbuilt there1 none1 e1) = absurd (not_sound there1 none1 table.sound)
+  body_same near far c d (unserved table path is e) (pattern sound1 u1 id1 is1 first1 e1) =
+      absurd (not_made sound1 u1 id1 is1 first1 table)
+  body_same near far c d (unserved table path is e) (unserved table1 path1 is1 e1) =
+      e ∙ ap (λ x. came untouched (refused (unserved_line x))) (path_same table table1 path path1 is is1) ∙ sym e1
+  body_same near far c d (unserved table path is e) (long_input served1 input1 is1 long1 e1) = absurd (not_served table path is served1)
+  body_same near far c d (unserved table path is e) (by_text input1 a1 says1 e1) = absurd (not_served table path is input1.served)
+  body_same near far c d (long_input served input is long e) (not_loaded a1 h1 e1) =
+      absurd (whole.apart (name ∷ []) a1 h1 served.table.sound.there.loaded)
+  body_same near far c d (long_input served input is long e) (no_shape l1 none1 e1) = absurd (not_there l1 none1 served.table.sound.there)
+  body_same near far c d (long_input served input is long e) (unbuilt there1 none1 e1) =
+      absurd (not_sound there1 none1 served.table.sound)
+  body_same near far c d (long_input served input is long e) (pattern sound1 u1 id1 is1 first1 e1) =
+      absurd (not_made sound1 u1 id1 is1 first1 served.table)
+  body_same near far c d (long_input served input is long e) (unserved table1 path1 is1 e1) = absurd (not_served table1 path1 is1 served)
+  body_same near far c d (long_input served input is long e) (long_input served1 input1 is1 long1 e1) = e ∙ sym e1
+  body_same near far c d (long_input served input is long e) (by_text input1 a1 says1 e1) = absurd (not_beyond input1 input is long)
+  body_same near far c d (by_text input a says e) (not_loaded a1 h1 e1) =
+      absurd (whole.apart (name ∷ []) a1 h1 input.served.table.sound.there.loaded)
+  body_same near far c d (by_text input a says e) (no_shape l1 none1 e1) = absurd (not_there l1 none1 input.served.table.sound.there)
+  body_same near far c d (by_text input a says e) (unbuilt there1 none1 e1) = absurd (not_sound there1 none1 input.served.table.sound)
+  body_same near far c d (by_text input a says e) (pattern sound1 u1 id1 is1 first1 e1) =
+      absurd (not_made sound1 u1 id1 is1 first1 input.served.table)
+  body_same near far c d (by_text input a says e) (unserved table1 path1 is1 e1) = absurd (not_served table1 path1 is1 input.served)
+  body_same near far c d (by_text input a says e) (long_input served1 input1 is1 long1 e1) = absurd (not_beyond input input1 is1 long1)
+  body_same near far c d (by_text input a says e) (by_text input1 a1 says1 e1) =
+      e ∙ ap (λ x. came to_its_end (printed x)) (text_same near far input input1 a a1 says says1) ∙ sym e1

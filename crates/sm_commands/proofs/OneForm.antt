@@ -1,16 +1,27 @@
 -- Words have the form of one command at most.
 use Rattle.std.proofs.Common.{◌≡◌, ◌<◌, ℕ, Bool, false, cond, List, [], ◌∷◌, ◌++◌, length, sym, ap, subst, ◌∙◌, refl}
 use Rattle.std.proofs.Common.{codes, bytes_eq, arith}
-use Rattle.sm_commands.specs.Commands.{AreOverModels, body_command, convert_command, select_command, IsCommandForm, IsNoForm, OneCommandForm}
+use Rattle.sm_bodies.specs.declared.form.BodyForm.{BodyForm}
+use Rattle.sm_bodies.specs.declared.form.BodyForm.TheVariants.{Json, Cbor}
+use Rattle.sm_commands.specs.Commands.{AreOverModels, body_command, convert_command, select_command, form_word, IsCommandForm, IsNoForm, OneCommandForm}
 
 -- whether the first word is that of `body`
 abbrev pub says_body : List (List ℕ) → Bool
 says_body [] = false
 says_body (w ∷ ws) = bytes_eq w (codes "body")
 
-no_body : (ws : List (List ℕ)) (model shape name : List ℕ) → bytes_eq name (codes "body") ≡ false
-    → codes "body" ∷ model ∷ shape ∷ codes "json" ∷ codes "json" ∷ [] ≡ name ∷ ws → ⊥
-no_body ws model shape name other e = subst (λ b. cond b (Unit {0}) ⊥) (ap says_body e ∙ other) tt
+no_body : (ws vs : List (List ℕ)) (name : List ℕ) → bytes_eq name (codes "body") ≡ false → codes "body" ∷ vs ≡ name ∷ ws → ⊥
+no_body ws vs name other e = subst (λ b. cond b (Unit {0}) ⊥) (ap says_body e ∙ other) tt
+
+-- the words of two forms differ
+abbrev says_json : List ℕ → Bool
+says_json w = bytes_eq w (codes "json")
+
+side_same : (a b : BodyForm) → form_word a ≡ form_word b → a ≡ b
+side_same Json Json e = refl
+side_same Json Cbor e = absurd (subst (λ b. cond b ⊥ (Unit {0})) (sym (ap says_json e)) tt)
+side_same Cbor Json e = absurd (subst (λ b. cond b ⊥ (Unit {0})) (ap says_json e) tt)
+side_same Cbor Cbor e = refl
 
 -- and that of `convert` isn't that of `select`
 abbrev says_convert : List (List ℕ) → Bool
@@ -39,24 +50,32 @@ over_same words name models models1 last last1 h i =
     let rest : models ++ last ∷ [] ≡ models1 ++ last1 ∷ [] = cc in last_same models models1 last last1 rest
 
 pub one_form : OneCommandForm
-one_form words (body_command model shape) (body_command model1 shape1) h i = cc
-one_form words (body_command model shape) (convert_command models) h i = absurd (no_body _ model shape (codes "convert") refl (sym h ∙ i.are))
-one_form words (body_command model shape) (select_command models s) h i = absurd (no_body _ model shape (codes "select") refl (sym h ∙ i.are))
-one_form words (convert_command models) (body_command model shape) h i = absurd (no_body _ model shape (codes "convert") refl (sym i ∙ h.are))
+one_form words (body_command model shape near far) (body_command model1 shape1 near1 far1) h i =
+    let e = sym h ∙ i in
+    let models : model ≡ model1 = cc in
+    let shapes : shape ≡ shape1 = cc in
+    let nears : near ≡ near1 = side_same near near1 (cc) in
+    let fars : far ≡ far1 = side_same far far1 (cc) in
+    ap (λ x. body_command x shape near far) models ∙ ap (λ x. body_command model1 x near far) shapes
+    ∙ ap (λ x. body_command model1 shape1 x far) nears ∙ ap (λ x. body_command model1 shape1 near1 x) fars
+one_form words (body_command model shape near far) (convert_command models) h i = absurd (no_body _ _ (codes "convert") refl (sym h ∙ i.are))
+one_form words (body_command model shape near far) (select_command models s) h i = absurd (no_body _ _ (codes "select") refl (sym h ∙ i.are))
+one_form words (convert_command models) (body_command model shape near far) h i = absurd (no_body _ _ (codes "convert") refl (sym i ∙ h.are))
 one_form words (convert_command models) (convert_command models1) h i =
     ap convert_command (over_same words (codes "convert") models models1 (codes "ast") (codes "ast") h i).0
 one_form words (convert_command models) (select_command models1 s) h i = absurd (no_convert _ _ (sym h.are ∙ i.are))
-one_form words (select_command models s) (body_command model shape) h i = absurd (no_body _ model shape (codes "select") refl (sym i ∙ h.are))
+one_form words (select_command models s) (body_command model shape near far) h i = absurd (no_body _ _ (codes "select") refl (sym i ∙ h.are))
 one_form words (select_command models s) (convert_command models1) h i = absurd (no_convert _ _ (sym i.are ∙ h.are))
 one_form words (select_command models s) (select_command models1 s1) h i =
     let both = over_same words (codes "select") models models1 s s1 h i in
     ap (λ ms. select_command ms s) both.0 ∙ ap (λ x. select_command models1 x) both.1
 
 -- words of no command's form
-pub no_form : (words : List (List ℕ)) → ((model shape : List ℕ) → IsCommandForm words (body_command model shape) → ⊥)
+pub no_form : (words : List (List ℕ))
+    → ((model shape : List ℕ) (near far : BodyForm) → IsCommandForm words (body_command model shape near far) → ⊥)
     → ((models : List (List ℕ)) → IsCommandForm words (convert_command models) → ⊥)
     → ((models : List (List ℕ)) (selector : List ℕ) → IsCommandForm words (select_command models selector) → ⊥) → IsNoForm words
-no_form words no_body no_convert no_select (body_command model shape) h = no_body model shape h
+no_form words no_body no_convert no_select (body_command model shape near far) h = no_body model shape near far h
 no_form words no_body no_convert no_select (convert_command models) h = no_convert models h
 no_form words no_body no_convert no_select (select_command models selector) h = no_select models selector h
 

@@ -6,6 +6,7 @@ use Rattle.sm_json.proofs.OneTree.{one_tree}
 use Rattle.sm_json.proofs.SpeltTrees.{text_json}
 use Rattle.sm_model.specs.EventView.{EventTold}
 use Rattle.sm_model.specs.Graphs.{GraphMaps}
+use Rattle.sm_model.specs.Formed.{AreFormed}
 use Rattle.sm_model.specs.Said.{Said}
 use Rattle.sm_ast.specs.Ast.{Ast}
 use Rattle.sm_ast.specs.Faults.{AstFault, ast_fault}
@@ -13,6 +14,8 @@ use Rattle.sm_ast.proofs.FaultlessTop.{ast_passes}
 use Rattle.sm_ast.proofs.FormedShapes.{ast_formed}
 use Rattle.sm_ast.proofs.Judged.{some_is_none}
 use Rattle.sm_ast.proofs.OneReading.{one_reading}
+use Rattle.sm_idl.proofs.OneFile.{one_reading as one_file}
+use Rattle.sm_idl.proofs.YieldFiles.{formed_statements}
 use Rattle.sm_merge.specs.Limits.{IsFirstPast, IsPast, IsWithinLimits}
 use Rattle.sm_merge.specs.Merged.{AreEventsOf, IsGraphOf}
 use Rattle.sm_merge.specs.Stated.{AreFormedFiles, stated_by}
@@ -26,12 +29,13 @@ use Rattle.sm_commands.specs.Lines.{ast_line, error_lines, size_limit_line}
 use Rattle.sm_commands.specs.Answer.{Answer, refused, past}
 use Rattle.sm_commands.specs.Stages.{FileRead}
 use Rattle.sm_commands.specs.FileStatements.{StatementsIn, NoStatements, AllSay, OneSaysNone}
-use Rattle.sm_commands.specs.FileStatements.NoStatements.{no_tree, no_model}
+use Rattle.sm_commands.specs.FileStatements.NoStatements.{no_tree, no_model, no_text}
 use Rattle.sm_commands.specs.Loading.{IsMerged, MergeAnswers, FilesRead, FilesSaid, Loaded, LoadAnswers}
 use Rattle.sm_commands.specs.Loading.MergeAnswers.{too_large, rejected}
 use Rattle.sm_commands.specs.Loading.LoadAnswers.{many_files, long_files, no_statements, not_merged}
 use Rattle.sm_commands.specs.ModelFiles.{ModelFile, AreRead, PassesOne}
 use Rattle.sm_commands.proofs.FilesRead.{bytes_same, not_long}
+use Rattle.sm_commands.proofs.NoTexts.{no_text_same, text_denied}
 use Rattle.sm_commands.proofs.NoTrees.{no_tree_same, tree_denied}
 
 -- a file that is read twice has one length
@@ -89,21 +93,34 @@ fault_apart : (n : Node) (fault : AstFault) (said : List Said) → ast_fault n �
 fault_apart n fault said e ast = some_is_none fault (sym e ∙ ast_passes said n ast)
 
 said_same : (f : ModelFile) (s t : List Said) → StatementsIn f s → StatementsIn f t → s ≡ t
-said_same f s t h i = one_reading s t i.tree (subst (Ast s) (one_tree h.tree i.tree f.bytes h.is_text.0 i.is_text.0) h.says) i.says
+said_same f s t (inl h) (inl i) =
+    one_reading s t i.tree (subst (Ast s) (one_tree h.tree i.tree f.bytes h.is_text.0 i.is_text.0) h.says) i.says
+said_same f s t (inl h) (inr i) = absurd (i.other_name h.is_json)
+said_same f s t (inr h) (inl i) = absurd (h.other_name i.is_json)
+said_same f s t (inr h) (inr i) = h.says ∙ ap (λ x. x.said) (one_file f.bytes h.file i.file h.is_text i.is_text) ∙ sym i.says
 
 none_apart : (f : ModelFile) (a : Answer) (s : List Said) → NoStatements f a → StatementsIn f s → ⊥
-none_apart f a s (no_tree says) h = tree_denied f.name f.bytes a says h.is_json h.tree h.is_text
-none_apart f a s (no_model named n read fault e is) h =
+none_apart f a s (no_tree named says) (inl h) = tree_denied f.name f.bytes a says h.is_json h.tree h.is_text
+none_apart f a s (no_tree named says) (inr h) = h.other_name named
+none_apart f a s (no_model named n read fault e is) (inl h) =
     fault_apart n fault s e (subst (Ast s) (one_tree h.tree n f.bytes h.is_text.0 read.0) h.says)
+none_apart f a s (no_model named n read fault e is) (inr h) = h.other_name named
+none_apart f a s (no_text other says) (inl h) = other h.is_json
+none_apart f a s (no_text other says) (inr h) = text_denied f.name f.bytes a says h.is_utf8 h.file h.is_text h.version
 
 none_same : (f : ModelFile) (a b : Answer) → NoStatements f a → NoStatements f b → a ≡ b
-none_same f a b (no_tree says) (no_tree says1) = no_tree_same f.name f.bytes a b says says1
-none_same f a b (no_tree says) (no_model named n read fault e is) = absurd (tree_denied f.name f.bytes a says named n read)
-none_same f a b (no_model named n read fault e is) (no_tree says) = absurd (tree_denied f.name f.bytes b says named n read)
+none_same f a b (no_tree named says) (no_tree named1 says1) = no_tree_same f.name f.bytes a b says says1
+none_same f a b (no_tree named says) (no_model named1 n read fault e is) = absurd (tree_denied f.name f.bytes a says named1 n read)
+none_same f a b (no_tree named says) (no_text other says1) = absurd (other named)
+none_same f a b (no_model named n read fault e is) (no_tree named1 says) = absurd (tree_denied f.name f.bytes b says named n read)
 none_same f a b (no_model named n read fault e is) (no_model named1 m read1 fault1 e1 is1) =
     let one : n ≡ m = one_tree n m f.bytes read.0 read1.0 in
     let e2 : ast_fault m ≡ Some fault = subst (λ x. ast_fault x ≡ Some fault) one e in
     let faults : fault ≡ fault1 = cc in is ∙ ap (λ x. refused (ast_line f.name x)) faults ∙ sym is1
+none_same f a b (no_model named n read fault e is) (no_text other says) = absurd (other named)
+none_same f a b (no_text other says) (no_tree named says1) = absurd (other named)
+none_same f a b (no_text other says) (no_model named n read fault e is) = absurd (other named)
+none_same f a b (no_text other says) (no_text other1 says1) = no_text_same f.name f.bytes a b says says1
 
 -- and so all files
 all_same : (fs : List ModelFile) (ss ts : List (List Said)) → AllSay fs ss → AllSay fs ts → ss ≡ ts
@@ -124,10 +141,14 @@ one_none (f ∷ fs) a b (inr (before, none)) (inl none1) = absurd (none_apart f 
 one_none (f ∷ fs) a b (inr (before, none)) (inr (before1, none1)) = one_none fs a b none none1
 
 -- their statements are formed
+said_formed : (f : ModelFile) (s : List Said) → StatementsIn f s → AreFormed s
+said_formed f s (inl h) = ast_formed s h.tree (text_json h.tree f.bytes h.is_text.0) h.says
+said_formed f s (inr h) = subst AreFormed (sym h.says) (formed_statements f.bytes h.file h.is_utf8 h.is_text)
+
 pub files_formed : (fs : List ModelFile) (ss : List (List Said)) → AllSay fs ss → AreFormedFiles ss
 files_formed [] ss h = subst AreFormedFiles (sym h) tt
 files_formed (f ∷ fs) ss (s, more, e, is, later) =
-    subst AreFormedFiles (sym e) (ast_formed s is.tree (text_json is.tree f.bytes is.is_text.0) is.says, files_formed fs more later)
+    subst AreFormedFiles (sym e) (said_formed f s is, files_formed fs more later)
 
 -- a graph is past one limit first
 past_is : (kind : LimitKind) (g : GraphMaps) → IsFirstPast kind g → IsPast kind g

@@ -1,48 +1,62 @@
 -- Two runs of the same words over files and an input that tell the same bytes end alike.
-use Rattle.std.proofs.Common.{◌≡◌, ℕ, ◌⊎◌, inl, inr, List, [], Option, Some, None, sym, ap, subst, ◌∙◌, refl, append-nil}
+use Rattle.std.proofs.Common.{◌≡◌, ◌<◌, ℕ, ◌⊎◌, inl, inr, List, [], Option, Some, None, sym, ap, subst, ◌∙◌, refl, append-nil}
 use Rattle.std.specs.Io.KnownBytes.{Appends}
 use Rattle.sm_io.specs.Files.{Folder}
-use Rattle.sm_io.specs.Seen.{FilesSeen, Stream}
-use Rattle.sm_commands.specs.Outside.{Outside}
+use Rattle.sm_io.specs.Causes.{last_count}
+use Rattle.sm_io.proofs.Counts.{quiet_not_rose}
+use Rattle.sm_compile.specs.Answers.{StoreSeen}
+use Rattle.sm_bodies.specs.TextLaws.{OneTextAnswer}
+use Rattle.sm_commands.specs.Outside.{InputsSeen, Outside}
 use Rattle.sm_commands.specs.Commands.{Command, IsNoForm}
 use Rattle.sm_commands.specs.Answer.{Answer, Came, came}
-use Rattle.sm_commands.specs.Stages.{told}
-use Rattle.sm_commands.specs.Says.{Says}
-use Rattle.sm_commands.specs.Run.{Answers, Prints, RunEnds}
+use Rattle.sm_commands.specs.Stages.{Told}
+use Rattle.sm_commands.specs.Says.{Says, TellsAll}
+use Rattle.sm_commands.specs.Run.{Answers, Prints, RefusedBy, RunEnds, told_by}
 use Rattle.sm_commands.specs.RunLaws.{IsAnswered, IsAnsweredRun, OneRunAnswer}
 use Rattle.sm_commands.specs.declared.command.Status.{Status}
-use Rattle.sm_commands.specs.declared.command.Status.TheVariants.{Done, Refused, Usage, ReadFault, WriteFault, NoMemory, Limit}
+use Rattle.sm_commands.specs.declared.command.Status.TheVariants.{Done, Refused, Usage, ReadFault, WriteFault, NoMemory, Pattern, Limit}
 use Rattle.sm_commands.proofs.OneForm.{one_form}
 use Rattle.sm_commands.proofs.Commanded.{one_answer}
 
--- what a command comes to, over the bytes that are told
-says_told : (folder : Folder) (bytes : List ℕ) (held : Option Folder) (left : Option (List ℕ)) (command : Command) (c : Came)
-    → held ≡ Some folder → left ≡ Some bytes → Says (told held left) command c → Says (told (Some folder) (Some bytes)) command c
-says_told folder bytes held left command c e e1 h =
-    subst (λ x. Says (told (Some folder) x) command c) e1 (subst (λ x. Says (told x left) command c) e h)
+-- a store that isn't at its last count refused one pattern at most
+pattern_same : (before after : StoreSeen) (p q : Option (List ℕ)) → before.refusals < last_count → RefusedBy before after p
+    → RefusedBy before after q → p ≡ q
+pattern_same before after None None below h i = refl
+pattern_same before after None (Some v) below h i = absurd (quiet_not_rose before.refusals after.refusals (record { same = h; below = below }) i.0)
+pattern_same before after (Some u) None below h i = absurd (quiet_not_rose before.refusals after.refusals (record { same = i; below = below }) h.0)
+pattern_same before after (Some u) (Some v) below h i = sym h.1 ∙ i.1
+
+-- what a command comes to, over what is told
+says_told : (t : Told) (seen : InputsSeen) (pattern : Option (List ℕ)) (command : Command) (c : Came) → pattern ≡ t.refused
+    → Path Told (told_by seen t.refused) t → Says (told_by seen pattern) command c → Says t command c
+says_told t seen pattern command c e tells h =
+    subst (λ x. Says x command c) tells (subst (λ x. Says (told_by seen x) command c) e h)
 
 -- two runs for one command come to one answer
-answers_same : (folder : Folder) (bytes : List ℕ) (files files1 : FilesSeen) (input rest input1 rest1 : Stream) (command : Command)
-    (a b : Answer)
-    → files.held ≡ Some folder → files1.held ≡ Some folder → input.bytes ≡ Some bytes → input1.bytes ≡ Some bytes
-    → Answers files input rest command a → Answers files1 input1 rest1 command b → a ≡ b
-answers_same folder bytes files files1 input rest input1 rest1 command a b held held1 left left1 h i =
-    ap (λ (x : Came). x.answer) (one_answer folder bytes command (came h.taken a) (came i.taken b)
-    (says_told folder bytes files.held input.bytes command (came h.taken a) held left h.says)
-    (says_told folder bytes files1.held input1.bytes command (came i.taken b) held1 left1 i.says))
+answers_same : OneTextAnswer → (words : List (List ℕ)) (t : Told) (folder : Folder) (input : List ℕ) (before after before1 after1 : Outside)
+    (status status1 : Status) (command : Command) (a b : Answer) → TellsAll t folder input
+    → IsAnsweredRun words t before after status → IsAnsweredRun words t before1 after1 status1
+    → Answers before.inputs after.inputs command a → Answers before1.inputs after1.inputs command b → a ≡ b
+answers_same texts words t folder input before after before1 after1 status status1 command a b all h i ha ib =
+    ap (λ (x : Came). x.answer) (one_answer texts t folder input command (came ha.taken a) (came ib.taken b) all
+    (says_told t before.inputs ha.pattern command (came ha.taken a)
+    (pattern_same before.inputs.store after.inputs.store ha.pattern t.refused h.below ha.by h.by) h.tells ha.says)
+    (says_told t before1.inputs ib.pattern command (came ib.taken b)
+    (pattern_same before1.inputs.store after1.inputs.store ib.pattern t.refused i.below ib.by i.by) i.tells ib.says))
 
 -- an answer is printed, or the words have no form
 answered : (words : List (List ℕ)) (before after : Outside) (status : Status) → RunEnds words before after status → IsAnswered status
-    → Prints words before after status ⊎ ((status ≡ Usage) × IsNoForm words × (after ≡ before))
+    → Prints words before after status ⊎ ((status ≡ Usage) × IsNoForm words × Path Outside after before)
 answered words before after Done h t = inl h
 answered words before after Refused h t = inl h
+answered words before after Pattern h t = inl h
 answered words before after Limit h t = inl h
 answered words before after Usage h t = inr (refl, h.0, h.1)
 answered words before after ReadFault h t = absurd t
 answered words before after WriteFault h t = absurd t
 answered words before after NoMemory h t = absurd t
 
-appends_nothing : (before after : Outside) → after ≡ before → Appends before.output.bytes after.output.bytes []
+appends_nothing : (before after : Outside) → Path Outside after before → Appends before.output.bytes after.output.bytes []
 appends_nothing before after e = subst (λ (x : Outside). Appends before.output.bytes x.output.bytes []) (sym e) (kept before.output.bytes)
   where
     kept : (bytes : Option (List ℕ)) → Appends bytes bytes []
@@ -50,32 +64,30 @@ appends_nothing before after e = subst (λ (x : Outside). Appends before.output.
     kept (Some xs) = sym (append-nil xs)
 
 -- two runs that end with answers end so alike
-ends_same : (words : List (List ℕ)) (folder : Folder) (input : List ℕ) (before after before1 after1 : Outside) (status status1 : Status)
-    → IsAnsweredRun words folder input before after status → IsAnsweredRun words folder input before1 after1 status1
-    → Prints words before after status ⊎ ((status ≡ Usage) × IsNoForm words × (after ≡ before))
-    → Prints words before1 after1 status1 ⊎ ((status1 ≡ Usage) × IsNoForm words
-    × (after1 ≡ before1))
+ends_same : OneTextAnswer → (words : List (List ℕ)) (t : Told) (folder : Folder) (input : List ℕ) (before after before1 after1 : Outside) (status status1 : Status)
+    → TellsAll t folder input → IsAnsweredRun words t before after status → IsAnsweredRun words t before1 after1 status1
+    → Prints words before after status ⊎ ((status ≡ Usage) × IsNoForm words × Path Outside after before)
+    → Prints words before1 after1 status1 ⊎ ((status1 ≡ Usage) × IsNoForm words × Path Outside after1 before1)
     → (status ≡ status1) × ((text : List ℕ) × Appends before.output.bytes after.output.bytes text × Appends before1.output.bytes
     after1.output.bytes text)
-ends_same words folder input before after before1 after1 status status1 h i (inl (command, is, (text, comes, put)))
+ends_same texts words t folder input before after before1 after1 status status1 all h i (inl (command, is, (text, comes, put)))
     (inl (command1, is1, (text1, comes1, put1))) =
     let named : command ≡ command1 = one_form words command command1 is is1 in
     let a : Answer = record { status = status; text = text } in
     let b : Answer = record { status = status1; text = text1 } in
-    let same : a ≡ b = answers_same folder input before.files before1.files before.input after.input before1.input after1.input command1
-    a b h.files i.files h.left i.left
-    (subst (λ x. Answers before.files before.input after.input x a) named comes) comes1 in (
+    let same : a ≡ b = answers_same texts words t folder input before after before1 after1 status status1 command1 a b all h i
+    (subst (λ x. Answers before.inputs after.inputs x a) named comes) comes1 in (
       ap (λ (x : Answer). x.status) same,
       (text1, subst (λ x. Appends before.output.bytes after.output.bytes x) (ap (λ (x : Answer). x.text) same) put, put1),
     )
-ends_same words folder input before after before1 after1 status status1 h i (inl (command, is, p)) (inr (e, none, same)) =
+ends_same texts words t folder input before after before1 after1 status status1 all h i (inl (command, is, p)) (inr (e, none, same)) =
     absurd (none command is)
-ends_same words folder input before after before1 after1 status status1 h i (inr (e, none, same)) (inl (command, is, p)) =
+ends_same texts words t folder input before after before1 after1 status status1 all h i (inr (e, none, same)) (inl (command, is, p)) =
     absurd (none command is)
-ends_same words folder input before after before1 after1 status status1 h i (inr (e, none, same)) (inr (e1, none1, same1)) =
+ends_same texts words t folder input before after before1 after1 status status1 all h i (inr (e, none, same)) (inr (e1, none1, same1)) =
     (e ∙ sym e1, ([], appends_nothing before after same, appends_nothing before1 after1 same1))
 
-pub one_run_answer : OneRunAnswer
-one_run_answer words folder input before after before1 after1 status status1 h i =
-    ends_same words folder input before after before1 after1 status status1 h i
+pub one_run_answer : OneTextAnswer → OneRunAnswer
+one_run_answer texts words t folder input before after before1 after1 status status1 all h i =
+    ends_same texts words t folder input before after before1 after1 status status1 all h i
     (answered words before after status h.ends h.answered) (answered words before1 after1 status1 i.ends i.answered)

@@ -20,6 +20,10 @@ use Rattle.sm_commands.specs.Commands.{select_command}
 use Rattle.sm_commands.specs.Lines.{broken_selector_line, id_lines, other_selector_line}
 use Rattle.sm_commands.specs.Loading.{LoadAnswers}
 use Rattle.sm_commands.specs.Run.{Answers, ReadFails, StopsShort}
+use Rattle.sm_commands.specs.Outside.{InputsSeen, inputs_seen}
+use Rattle.sm_shapes.specs.Fitting.{Test}
+use Rattle.sm_compile.specs.Answers.{StoreSeen}
+use Rattle.sm_commands.proofs.Answered.{answer_before}
 use Rattle.sm_commands.specs.Select.{SelectorSays, SelectSays}
 use Rattle.sm_commands.specs.Select.SelectorSays.{breaks, leaves, picks}
 use Rattle.sm_commands.specs.Select.SelectSays.{not_loaded, selected}
@@ -61,13 +65,15 @@ select_stops files files1 models selector stop h =
     (Rose files.faults files1.faults) (Unit {0}) (Unit {0}) stop (λ a says. not_loaded says) (λ rose. rose) (λ short. short) h
 
 -- it leaves the input as it is
-pub select_comes : (files files1 : FilesSeen) (input : Stream) (models : List (List ℕ)) (selector : List ℕ) (result : Result (Vec ℕ) Stop)
-    → Selects files files1 models selector result → CommandComesTo files files1 input input (select_command models selector) result
-select_comes files files1 input models selector result h =
-    comes_map (SelectSays files.held models selector) (Answers files input input (select_command models selector))
-    (Rose files.faults files1.faults) (ReadFails files files1 input input (select_command models selector)) (Unit {0})
-    (StopsShort files input input (select_command models selector)) result
-    (λ a says. record { taken = untouched; says = (a, says, refl); left = refl }) (λ rose. inl (rose, refl)) (λ short. inl refl) h
+pub select_comes : (files files1 : FilesSeen) (input : Stream) (test : Test) (store : StoreSeen) (models : List (List ℕ)) (selector : List ℕ) (result : Result (Vec ℕ) Stop)
+    → Selects files files1 models selector result → CommandComesTo (inputs_seen files input test store) (inputs_seen files1 input test store) (select_command models selector) result
+select_comes files files1 input test store models selector result h =
+    let before : InputsSeen = inputs_seen files input test store in
+    let after : InputsSeen = inputs_seen files1 input test store in
+    comes_map (SelectSays files.held models selector) (Answers before after (select_command models selector))
+    (Rose files.faults files1.faults) (ReadFails before after (select_command models selector)) (Unit {0}) (StopsShort before after (select_command models selector)) result
+    (λ a says. answer_before before after (select_command models selector) a (a, says, refl) refl refl)
+    (λ rose. inl (record { rose = rose; input = refl; refusals = refl })) (λ short. inl refl) h
 
 -- the lines of ids that are picked
 pub lines_picked : (g : GraphMaps) (steps : Steps) (ids : List (List ℕ)) (result : Result (Vec ℕ) NoMemory) → ArePicked g steps ids

@@ -1,81 +1,96 @@
--- A file that is there and an input come to some answer of the command `body`. Where a case can't be decided, each of its
--- two sides is denied in turn; that some bytes come to an answer at all is what sm_tree says of any syntax.
-use Rattle.std.proofs.Common.{◌≡◌, ℕ, inl, inr, List, [], ◌∷◌, Some, length, refl}
-use Rattle.std.specs.Prelude.{Result, Ok, Err}
+-- A file that is there, an input and a store come to some answer of the command `body`, where a sound shape has a table. Where a case can't be
+-- decided, each of its two sides is denied in turn.
+use Rattle.std.proofs.Common.{◌≡◌, ◌<◌, ℕ, inl, inr, List, [], ◌∷◌, Option, Some, length, sym, subst, refl, ◌∙◌}
+use Rattle.std.specs.Prelude.{Contains, IfSome}
 use Rattle.std.proofs.lemmas.Bool.{cases_lt}
-use Rattle.sm_io.specs.Files.{Folder, file_at}
-use Rattle.sm_tree.specs.Node.{Node}
-use Rattle.sm_tree.specs.Syntax.{IsRead, ComesTo}
-use Rattle.sm_tree.proofs.SomeAnswer as syntax
-use Rattle.sm_tree.specs.declared.refusal.SyntaxRefusal.{SyntaxRefusal}
-use Rattle.sm_shapes.specs.declared.table.Table.{Table}
-use Rattle.sm_commands.specs.Faults.{FaultAt, faults}
-use Rattle.sm_commands.specs.Encoded.{encoded_tree}
-use Rattle.sm_commands.specs.Convention.{Convention}
-use Rattle.sm_commands.specs.Tabled.{table_of}
-use Rattle.sm_commands.specs.Lines.{unbuilt_line, no_shape_line, fault_line, syntax_line, file_limit_line, body_limit_line}
-use Rattle.sm_commands.specs.Limits.{file_limit, body_limit}
-use Rattle.sm_commands.specs.Answer.{Answer, Came, done, refused, past, came}
+use Rattle.sm_io.specs.Files.{Folder}
+use Rattle.sm_shapes.specs.Places.{root_place}
+use Rattle.sm_shapes.specs.TableView.{table_data}
+use Rattle.sm_codec.specs.Codec.{InTable}
+use Rattle.sm_codec.specs.FilledLaws.{IsFilled}
+use Rattle.sm_bodies.specs.declared.form.BodyForm.{BodyForm}
+use Rattle.sm_bodies.specs.TextLaws.{SomeTextAnswer}
+use Rattle.sm_compile.specs.Answers.{StoreSeen, IsShapeCompiled}
+use Rattle.sm_compile.specs.Compiled.{IsFirstCarrier, texts_of}
+use Rattle.sm_compile.specs.Reached.{IsReached}
+use Rattle.sm_compile.specs.Sound.{IsValueShape, Sound}
+use Rattle.sm_compile.specs.declared.compiled.OneShape.{OneShape}
+use Rattle.sm_compile.specs.declared.compiled.Served.{Served}
+use Rattle.sm_compile.specs.declared.compiled.Served.TheVariants.{Yes, Unserved}
+use Rattle.sm_compile.proofs.OnePatterns.{column_of}
+use Rattle.sm_commands.specs.Answer.{Answer, Came, came, refused, pattern_refused, past}
 use Rattle.sm_commands.specs.Answer.InputUse.{untouched, to_its_end, past_its_limit}
-use Rattle.sm_commands.specs.Stages.{told, FileRead, TreeRead, ShapeChosen}
-use Rattle.sm_commands.specs.Body.{TextAnswers, BodySays}
-use Rattle.sm_commands.specs.Body.ModelAnswers.{long_file, no_tree, unbuilt, no_shape}
-use Rattle.sm_commands.specs.Body.TextAnswers.{no_text, fault, value}
-use Rattle.sm_commands.specs.Body.BodySays.{by_model, long_input, by_text}
-use Rattle.sm_commands.proofs.NoTrees.{tree_or_none}
-use Rattle.sm_commands.proofs.Readable.{IsReadable}
-use Rattle.sm_commands.proofs.Clear.{spelled_where_clear}
+use Rattle.sm_commands.specs.Body.{BodySays, printed}
+use Rattle.sm_commands.specs.Body.BodySays.{not_loaded, no_shape, unbuilt, pattern, unserved, long_input, by_text}
+use Rattle.sm_commands.specs.BodyStages.{ShapeThere, ShapeSound, TableMade, ShapeServed, table_of}
+use Rattle.sm_commands.specs.Commands.{body_command}
+use Rattle.sm_commands.specs.Limits.{body_limit}
+use Rattle.sm_commands.specs.Lines.{no_shape_line, unbuilt_line, pattern_line, unserved_line, body_limit_line}
+use Rattle.sm_commands.specs.Loading.{Loaded, LoadAnswers}
+use Rattle.sm_commands.specs.Says.{AreThere, HasTable, TellsAll}
+use Rattle.sm_commands.specs.Stages.{Told, IsInput}
+use Rattle.sm_commands.proofs.SomeLoad.{load_answered}
+use Rattle.sm_commands.proofs.TablesMade.{number_within, is_filled}
 
--- a tree has a fault or spells a value
-tree_answered : (near far : Convention) → IsReadable near → (t : Table) (s : ℕ) (body : List ℕ) (n : Node)
-    → ((a : Answer) → TextAnswers near far t s body a → ⊥) → IsRead near.syntax.text n body
-    → (fs : List FaultAt) → faults t near.leaf n s ≡ fs → ⊥
-tree_answered near far one t s body n none read [] clear =
-    let w = spelled_where_clear t near.leaf one.leaf n s clear in
-    none (done (far.text (encoded_tree t far.leaf_tree s w.0))) (value n w.0 read w.1 refl)
-tree_answered near far one t s body n none read (f ∷ fs) first = none (refused (fault_line f.0 f.1)) (fault n f.0 f.1 fs read first refl)
+module _ (texts : SomeTextAnswer) (t : Told) (name shape : List ℕ) (near far : BodyForm) (none : (c : Came) → BodySays t name shape near far c → ⊥) where
+  -- the input of a shape that is served
+  input_answered : (input : List ℕ) → IsInput t.input input → ShapeServed t name shape → ⊥
+  input_answered input is h = elim (cases_lt body_limit (length input)) [
+    | inl long ↦ none (came past_its_limit (past body_limit_line)) (long_input h input is long refl)
+    | inr within ↦ texts near far (table_of t name shape h.table) t.test (root_place h.table.one.shape) input ready.shaped ready.pass inside
+        (λ a says. none (came to_its_end (printed a))
+        (by_text (record { served = h; bytes = input; is_input = is; within = within }) a says refl))
+  ]
+    where
+      ready : IsFilled (table_of t name shape h.table) t.test
+      ready = is_filled h.table.sound.there.loaded.graph shape t.test t.store h.table.now h.table.one h.table.compiled
 
--- what bytes come to is an answer
-come_to_answer : (near far : Convention) → IsReadable near → (t : Table) (s : ℕ) (body : List ℕ)
-    → ((a : Answer) → TextAnswers near far t s body a → ⊥) → (r : Result Node SyntaxRefusal) → ComesTo near.syntax body r → ⊥
-come_to_answer near far one t s body none (Ok n) read = tree_answered near far one t s body n none read (faults t near.leaf n s) refl
-come_to_answer near far one t s body none (Err refusal) is = none (refused (syntax_line refusal)) (no_text refusal is refl)
+      inside : InTable (table_of t name shape h.table) (root_place h.table.one.shape)
+      inside = number_within h.table.sound.there.loaded.graph shape t.test t.store h.table.now h.table.one h.table.compiled
 
-text_answered : (near far : Convention) → IsReadable near → (t : Table) (s : ℕ) (body : List ℕ)
-    → ((a : Answer) → TextAnswers near far t s body a → ⊥) → ⊥
-text_answered near far one t s body none =
-    syntax.some_answer near.syntax one.begins body (come_to_answer near far one t s body none)
+  -- a table, by whether it is served
+  table_answered : (input : List ℕ) → IsInput t.input input → (h : TableMade t name shape) → (served : Served) → Path Served h.one.served served → ⊥
+  table_answered input is h Yes e = input_answered input is (record { table = h; served = e })
+  table_answered input is h (Unserved path) e = none (came untouched (refused (unserved_line path))) (unserved h path e refl)
 
--- an input of the shape that is there
-input_answered : (near far : Convention) → IsReadable near → (folder : Folder) (name shape input : List ℕ) → ShapeChosen (Some folder) name shape
-    → ((c : Came) → BodySays near far (told (Some folder) (Some input)) name shape c → ⊥) → ⊥
-input_answered near far one folder name shape input chosen none = elim (cases_lt body_limit (length input)) [
-  | inl long ↦ none (came past_its_limit (past body_limit_line)) (long_input chosen input refl long refl)
-  | inr within ↦ text_answered near far one (table_of chosen.read.m) chosen.s input
-      (λ a says. none (came to_its_end a)
-      (by_text (record { chosen = chosen; bytes = input; is_input = refl; within = within }) a says refl))
-]
+  -- a sound shape: a pattern of its table is the one that is refused, or none is
+  sound_answered : (input : List ℕ) → IsInput t.input input → (h : ShapeSound t name shape) (now : StoreSeen) (one : OneShape)
+      → IsShapeCompiled h.there.loaded.graph shape t.test t.store now one → ⊥
+  sound_answered input is h now one compiled = table_answered input is made one.served (λ i. one.served)
+    where
+      free : (u : List ℕ) → t.refused ≡ Some u → Contains (texts_of (table_data one.table).patterns) u → ⊥
+      free u is among =
+          let g = h.there.loaded.graph in
+          let patterns = compiled.compiled.patterns in
+          let first = column_of (λ v id. IsFirstCarrier g (IsReached g shape) v id) (texts_of (table_data one.table).patterns) patterns.firsts
+          patterns.each u among in
+          none (came untouched (pattern_refused (pattern_line first.0))) (pattern h u first.0 is first.2 refl)
 
--- a tree that says no model, and a model without the shape
-tree_answered_by : (near far : Convention) → IsReadable near → (folder : Folder) (name shape input : List ℕ) → TreeRead (Some folder) name
-    → ((c : Came) → BodySays near far (told (Some folder) (Some input)) name shape c → ⊥) → ⊥
-tree_answered_by near far one folder name shape input text none =
-    none (came untouched (refused (unbuilt_line name))) (by_model (refused (unbuilt_line name)) (unbuilt text (λ m form.
-    none (came untouched (refused (no_shape_line shape))) (by_model (refused (no_shape_line shape))
-    (no_shape (record { text = text; m = m; form = form }) (λ s is. input_answered near far one folder name shape input
-    (record { read = record { text = text; m = m; form = form }; s = s; named = is }) none) refl) refl)) refl) refl)
+      made : TableMade t name shape
+      made = record { sound = h; now = now; one = one; compiled = compiled; free = free }
 
--- a file within the limit
-within_answered : (near far : Convention) → IsReadable near → (folder : Folder) (name shape input : List ℕ) → FileRead (Some folder) name
-    → ((c : Came) → BodySays near far (told (Some folder) (Some input)) name shape c → ⊥) → ⊥
-within_answered near far one folder name shape input file none =
-    tree_or_none name file.bytes (λ a says. none (came untouched a) (by_model a (no_tree file says) refl))
-    (λ named n read. tree_answered_by near far one folder name shape input
-    (record { file = file; is_json = named; tree = n; is_text = read }) none)
+  -- a graph without the shape, and a shape that isn't sound
+  graph_answered : (input : List ℕ) → IsInput t.input input → HasTable t (body_command name shape near far) → Loaded t.files (name ∷ []) → ⊥
+  graph_answered input is table loaded =
+      none (came untouched (refused (no_shape_line shape))) (no_shape loaded (λ there. shape_answered there) refl)
+    where
+      sounded : (there : IsValueShape loaded.graph shape) → Sound loaded.graph shape → ⊥
+      sounded there sound =
+          let h : ShapeSound t name shape = record { there = record { loaded = loaded; is = there }; sound = sound } in
+          table h (λ now one compiled. sound_answered input is h now one compiled)
 
-pub body_answered : (near far : Convention) → IsReadable near → (folder : Folder) (name shape input file : List ℕ) → file_at folder name ≡ Some file
-    → ((c : Came) → BodySays near far (told (Some folder) (Some input)) name shape c → ⊥) → ⊥
-body_answered near far one folder name shape input file held none = elim (cases_lt file_limit (length file)) [
-  | inl long ↦ none (came untouched (past file_limit_line)) (by_model (past file_limit_line) (long_file (record { bytes = file; held = held; long = long }) refl) refl)
-  | inr within ↦ within_answered near far one folder name shape input (record { bytes = file; held = held; within = within }) none
-]
+      shape_answered : IsValueShape loaded.graph shape → ⊥
+      shape_answered there =
+          none (came untouched (refused (unbuilt_line name))) (unbuilt (record { loaded = loaded; is = there }) (sounded there) refl)
+
+-- what files that are told come to
+abbrev FilesCome : Option Folder → List ℕ → Type 0
+FilesCome files name = ((a : Answer) → LoadAnswers files (name ∷ []) a → ⊥) → (Loaded files (name ∷ []) → ⊥) → ⊥
+
+pub body_answered : SomeTextAnswer → (t : Told) (folder : Folder) (input : List ℕ) → TellsAll t folder input → (name shape : List ℕ) (near far : BodyForm)
+    → AreThere folder (name ∷ []) → HasTable t (body_command name shape near far)
+    → ((c : Came) → BodySays t name shape near far c → ⊥) → ⊥
+body_answered texts t folder input all name shape near far there table none =
+    let come : FilesCome t.files name = subst (λ x. FilesCome x name) (sym all.files) (load_answered folder (name ∷ []) there) in
+    come (λ a says. none (came untouched a) (not_loaded a says refl))
+    (λ loaded. graph_answered texts t name shape near far none input (subst (λ x. IsInput x input) (sym all.input) refl) table loaded)

@@ -24,13 +24,14 @@ use Rattle.sm_commands.specs.Limits.{files_limit, file_limit, bytes_limit}
 use Rattle.sm_commands.specs.Lines.{ast_line, files_limit_line, file_limit_line, bytes_limit_line, size_limit_line, error_lines}
 use Rattle.sm_commands.specs.Answer.{Answer, refused, past}
 use Rattle.sm_commands.specs.FileStatements.{StatementsIn, NoStatements, AllSay, OneSaysNone}
-use Rattle.sm_commands.specs.FileStatements.NoStatements.{no_tree, no_model}
+use Rattle.sm_commands.specs.FileStatements.NoStatements.{no_tree, no_model, no_text}
 use Rattle.sm_commands.specs.Loading.{IsMerged, MergeAnswers, FilesRead, FilesSaid, Loaded, LoadAnswers}
 use Rattle.sm_commands.specs.Loading.MergeAnswers.{too_large, rejected}
 use Rattle.sm_commands.specs.Loading.LoadAnswers.{many_files, long_files, no_statements, not_merged}
 use Rattle.sm_commands.specs.ModelFiles.{ModelFile, AreRead, PassesOne}
 use Rattle.sm_commands.specs.Says.{AreThere}
 use Rattle.sm_commands.specs.Stages.{EndsInJson, FileRead}
+use Rattle.sm_commands.proofs.NoTexts.{text_or_none}
 use Rattle.sm_commands.proofs.NoTrees.{tree_or_none}
 use Rattle.sm_commands.proofs.OneLoad.{files_formed}
 
@@ -67,15 +68,27 @@ passed_or_read folder before (name ∷ names) there =
 module _ (f : ModelFile) (none : (a : Answer) → NoStatements f a → ⊥) (some : (said : List Said) → StatementsIn f said → ⊥) where
   with_fault : EndsInJson f.name → (n : Node) → IsRead JsonText n f.bytes → (found : Option AstFault) → ast_fault n ≡ found → ⊥
   with_fault named n read (Some fault) e = none (refused (ast_line f.name fault)) (no_model named n read fault e refl)
-  with_fault named n read None e = some (ast_said n) (record {
+  with_fault named n read None e = some (ast_said n) (inl (record {
     is_json = named;
     tree = n;
     is_text = read;
     says = ast_holds n (text_json n f.bytes read.0) e;
-  })
+  }))
+
+  other_name : EndsInJson f.name → ⊥
+  other_name named =
+      tree_or_none f.name f.bytes (λ a says. none a (no_tree named says)) (λ json n read. with_fault json n read (ast_fault n) refl)
 
   pub file_answered : ⊥
-  file_answered = tree_or_none f.name f.bytes (λ a says. none a (no_tree says)) (λ named n read. with_fault named n read (ast_fault n) refl)
+  file_answered = text_or_none f.name f.bytes (λ a says. none a (no_text other_name says)) (λ u file idl version.
+      some file.said (inr (record {
+        other_name = other_name;
+        is_utf8 = u;
+        file = file;
+        is_text = idl;
+        version = version;
+        says = refl;
+      })))
 
 -- and so all files
 files_answered : (fs : List ModelFile) → ((a : Answer) → OneSaysNone fs a → ⊥) → ((said : List (List Said)) → AllSay fs said → ⊥) → ⊥

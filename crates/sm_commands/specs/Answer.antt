@@ -1,7 +1,7 @@
 -- What a command comes to: what is printed, the status, and how much of the input is read for it.
 use Rattle.std.specs.Prelude.{ℕ, List}
 use Rattle.sm_commands.specs.declared.command.Status.{Status}
-use Rattle.sm_commands.specs.declared.command.Status.TheVariants.{Done, Refused, Limit}
+use Rattle.sm_commands.specs.declared.command.Status.TheVariants.{Done, Refused, Pattern, Limit}
 
 -- what is printed, and the status by which the program then ends
 pub record Answer : Type 0 where
@@ -13,6 +13,9 @@ done text = record { status = Done; text = text }
 
 abbrev pub refused : List ℕ → Answer
 refused line = record { status = Refused; text = line }
+
+abbrev pub pattern_refused : List ℕ → Answer
+pattern_refused line = record { status = Pattern; text = line }
 
 abbrev pub past : List ℕ → Answer
 past line = record { status = Limit; text = line }

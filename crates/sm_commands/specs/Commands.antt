@@ -1,13 +1,20 @@
 -- The commands as data: the form of each one's words, and what it may touch of the outside.
 use Rattle.std.specs.Prelude.{◌≡◌, ◌<◌, ℕ, Bool, true, false, List, [], ◌∷◌, ◌++◌, codes, Contains, length}
+use Rattle.sm_bodies.specs.declared.form.BodyForm.{BodyForm}
+use Rattle.sm_bodies.specs.declared.form.BodyForm.TheVariants.{Json, Cbor}
 
 pub data Command : Type 0 where
-  -- body MODELFILE SHAPE json json
-  body_command : (model shape : List ℕ) → Command
+  -- body MODELFILE SHAPE NEAR FAR
+  body_command : (model shape : List ℕ) → (near far : BodyForm) → Command
   -- convert MODEL+ ast
   convert_command : (models : List (List ℕ)) → Command
   -- select MODEL+ SELECTOR
   select_command : (models : List (List ℕ)) → (selector : List ℕ) → Command
+
+-- the word for the form of a side of a body
+abbrev pub form_word : BodyForm → List ℕ
+form_word Json = codes "json"
+form_word Cbor = codes "cbor"
 
 -- the words are a command's name, one model file or more, and a last word
 pub record AreOverModels (words : List (List ℕ)) (name : List ℕ) (models : List (List ℕ)) (last : List ℕ) : Type 0 where
@@ -16,7 +23,7 @@ pub record AreOverModels (words : List (List ℕ)) (name : List ℕ) (models : L
 
 -- the words have the form of the command
 abbrev pub IsCommandForm : List (List ℕ) → Command → Type 0
-IsCommandForm words (body_command model shape) = words ≡ codes "body" ∷ model ∷ shape ∷ codes "json" ∷ codes "json" ∷ []
+IsCommandForm words (body_command model shape near far) = words ≡ codes "body" ∷ model ∷ shape ∷ form_word near ∷ form_word far ∷ []
 IsCommandForm words (convert_command models) = AreOverModels words (codes "convert") models (codes "ast")
 IsCommandForm words (select_command models selector) = AreOverModels words (codes "select") models selector
 
@@ -30,19 +37,19 @@ OneCommandForm = (words : List (List ℕ)) (command command1 : Command) → IsCo
 
 -- the names of the files that a command may read
 abbrev pub reads : Command → List (List ℕ)
-reads (body_command model shape) = model ∷ []
+reads (body_command model shape near far) = model ∷ []
 reads (convert_command models) = models
 reads (select_command models selector) = models
 
 -- the names of the files that it may write
 abbrev pub writes : Command → List (List ℕ)
-writes (body_command model shape) = []
+writes (body_command model shape near far) = []
 writes (convert_command models) = []
 writes (select_command models selector) = []
 
 -- whether it may read the input
 abbrev pub touches_input : Command → Bool
-touches_input (body_command model shape) = true
+touches_input (body_command model shape near far) = true
 touches_input (convert_command models) = false
 touches_input (select_command models selector) = false
 

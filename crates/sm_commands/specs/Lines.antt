@@ -22,13 +22,21 @@ use Rattle.sm_commands.specs.Limits.{files_limit, file_limit, bytes_limit, body_
 abbrev pub line : List ℕ → List ℕ → List ℕ
 line word text = word ++ (space ∷ (text ++ line_feed ∷ []))
 
--- the model file isn't of the form that is read
+-- the model file isn't of the form that is read, or no table can be made of its shape
 abbrev pub unbuilt_line : List ℕ → List ℕ
 unbuilt_line model = line (codes "Unbuilt") model
 
 -- the model has no shape of this name
 abbrev pub no_shape_line : List ℕ → List ℕ
 no_shape_line shape = line (codes "NoShape") shape
+
+-- the store refused a pattern: the first id that carries it
+abbrev pub pattern_line : List ℕ → List ℕ
+pattern_line id = line (codes "Pattern") id
+
+-- values of the shape can't be carried: the member path to one that can't
+abbrev pub unserved_line : List ℕ → List ℕ
+unserved_line path = line (codes "Unserved") path
 
 -- a fault of the body: its path as a JSON Pointer, and its kind
 abbrev pub fault_line : List Step → FaultKind → List ℕ

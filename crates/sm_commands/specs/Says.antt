@@ -2,40 +2,54 @@
 -- reads the input for none but those behind its stage.
 use Rattle.std.specs.Prelude.{◌≡◌, ◌⊎◌, ℕ, true, List, Some, Contains}
 use Rattle.sm_io.specs.Files.{Folder, file_at}
+use Rattle.sm_compile.specs.Answers.{StoreSeen, IsShapeCompiled}
+use Rattle.sm_compile.specs.declared.compiled.OneShape.{OneShape}
 use Rattle.sm_commands.specs.Commands.{Command, body_command, convert_command, select_command, reads, touches_input}
 use Rattle.sm_commands.specs.Answer.{Answer, Came, came}
 use Rattle.sm_commands.specs.Answer.InputUse.{untouched}
-use Rattle.sm_commands.specs.Stages.{Told, told, ShapeChosen}
-use Rattle.sm_commands.specs.Convention.{json}
+use Rattle.sm_commands.specs.Stages.{Told}
+use Rattle.sm_commands.specs.BodyStages.{ShapeSound, ShapeServed}
 use Rattle.sm_commands.specs.Body.{BodySays}
 use Rattle.sm_commands.specs.Convert.{ConvertSays}
 use Rattle.sm_commands.specs.Select.{SelectSays}
 
 abbrev pub Says : Told → Command → Came → Type 0
-Says t (body_command model shape) c = BodySays json json t model shape c
+Says t (body_command model shape near far) c = BodySays t model shape near far c
 Says t (convert_command models) c = (a : Answer) × ConvertSays t.files models a × (c ≡ came untouched a)
 Says t (select_command models selector) c = (a : Answer) × SelectSays t.files models selector a × (c ≡ came untouched a)
 
 -- the stage from which the command reads the input: nothing that stands before it is refused
 abbrev pub ReachesInput : Told → Command → Type 0
-ReachesInput t (body_command model shape) = ShapeChosen t.files model shape
+ReachesInput t (body_command model shape near far) = ShapeServed t model shape
 ReachesInput t (convert_command models) = ⊥
 ReachesInput t (select_command models selector) = ⊥
 
--- a law: files and an input that are told determine what a command comes to
+-- the files and the input are told, by all their bytes
+pub record TellsAll (t : Told) (folder : Folder) (bytes : List ℕ) : Type 0 where
+  pub files : t.files ≡ Some folder
+  pub input : t.input ≡ Some bytes
+
+-- a law: what is told so determines what a command comes to
 abbrev pub OneAnswer : Type 0
-OneAnswer = (folder : Folder) (input : List ℕ) (command : Command) (c d : Came) → Says (told (Some folder) (Some input)) command c
-    → Says (told (Some folder) (Some input)) command d → c ≡ d
+OneAnswer = (t : Told) (folder : Folder) (input : List ℕ) (command : Command) (c d : Came) → TellsAll t folder input → Says t command c
+    → Says t command d → c ≡ d
 
 -- there is a file of each of these names
 abbrev pub AreThere : Folder → List (List ℕ) → Type 0
 AreThere folder names = (name : List ℕ) → Contains names name → (file : List ℕ) × (file_at folder name ≡ Some file)
 
--- a law: where the files are there that a command may read, it comes to something, said by two denials. So no gap in
--- what is said is left to `NoMemory`
+-- each table that the command asks for can be made, said by two denials
+abbrev pub HasTable : Told → Command → Type 0
+HasTable t (body_command model shape near far) = (h : ShapeSound t model shape)
+    → ((now : StoreSeen) (one : OneShape) → IsShapeCompiled h.there.loaded.graph shape t.test t.store now one → ⊥) → ⊥
+HasTable t (convert_command models) = Unit {0}
+HasTable t (select_command models selector) = Unit {0}
+
+-- a law: where the files are there that a command may read, and a sound shape has a table, it comes to something, said by two denials.
+-- So no gap in what is said is left to `NoMemory`
 abbrev pub SomeAnswer : Type 0
-SomeAnswer = (folder : Folder) (input : List ℕ) (command : Command) → AreThere folder (reads command)
-    → ((c : Came) → Says (told (Some folder) (Some input)) command c → ⊥) → ⊥
+SomeAnswer = (t : Told) (folder : Folder) (input : List ℕ) (command : Command) → TellsAll t folder input → AreThere folder (reads command)
+    → HasTable t command → ((c : Came) → Says t command c → ⊥) → ⊥
 
 -- a law: a command comes to what it says with the input untouched, or reaches the input; and it reaches it only where it is one
 -- that touches it

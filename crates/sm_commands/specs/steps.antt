@@ -1,8 +1,3 @@
-pub mod DecodeSteps
-pub mod Indexed
-pub mod FieldsFit
-pub mod ModelSteps
-pub mod RowsSoFar
 pub mod CommandSteps
 pub mod FileSteps
 pub mod BodySteps

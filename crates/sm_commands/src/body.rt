@@ -1,152 +1,248 @@
-// The command `body`: a body of one shape, read and written again in its canonical form.
-ghost use Rattle.std.specs.Prelude.{◌≡◌, ◌<◌, ◌≤◌, IfOk};
+// The command `body`: a body of one shape, read in the form of one side and written in that of the other.
+ghost use Rattle.std.specs.Prelude.{◌≡◌, ◌≤◌, ◌<◌, ℕ, List};
 ghost use Rattle.sm_io.specs.Files.{LetsSame};
 ghost use Rattle.sm_io.specs.Reading.{LosesPrefix};
-ghost use Rattle.sm_tree.specs.View.{node_of};
-ghost use Rattle.sm_tree.specs.Json.{IsJson};
-ghost use Rattle.sm_json.specs.Written.{written};
-ghost use Rattle.sm_shapes.specs.Tables.{shape_count, Shaped};
-ghost use Rattle.sm_shapes.specs.Fits.{Fits};
-ghost use Rattle.sm_shapes.specs.View.{val_of};
-ghost use Rattle.sm_commands.specs.Encoded.{encoded_tree, json_written};
-ghost use Rattle.sm_commands.specs.Lines.{syntax_line as the_syntax_line};
 ghost use Rattle.sm_io.specs.Seen.{files_seen, stream};
+ghost use Rattle.sm_model.specs.GraphView.{IsShapeNumber, maps_of};
+ghost use Rattle.sm_model.specs.Reaching.{id_of_number};
+ghost use Rattle.sm_shapes.specs.InOrder.{Shaped, AreStored, DefaultsPass};
+ghost use Rattle.sm_shapes.specs.TableData.{shape_count};
+ghost use Rattle.sm_shapes.specs.TableView.{table_data};
+ghost use Rattle.sm_codec.specs.Defaults.{filled};
+ghost use Rattle.sm_bodies.specs.AnswerView.{text_answer};
+ghost use Rattle.sm_compile.specs.Answers.{seen_store};
+ghost use Rattle.sm_compile.specs.Sound.{Sound};
+ghost use Rattle.sm_commands.specs.Body.{printed};
 ghost use Rattle.sm_commands.specs.Commands.{body_command};
-ghost use Rattle.sm_commands.specs.Convention.{json};
-ghost use Rattle.sm_commands.specs.Body.{TextAnswers};
-ghost use Rattle.sm_commands.specs.steps.CommandSteps.{StepComesTo, EndsWithLine, CommandComesTo};
-ghost use Rattle.sm_commands.specs.steps.BodySteps.{TreeAnswers, InputComesTo};
+ghost use Rattle.sm_commands.specs.Outside.{inputs_seen};
+ghost use Rattle.sm_commands.specs.Run.{OnlyAdds};
+ghost use Rattle.sm_commands.specs.steps.CommandSteps.{CommandComesTo, StepComesTo};
+ghost use Rattle.sm_commands.specs.steps.BodySteps.{InputComesTo, IsReady, MakesTable, PrintsText, TableComesTo};
 
-use crate::codec::{Refusal, decode, encode};
 use crate::lines::{fault_line, limit_line, line, syntax_line};
-use crate::opening::open_model;
-use crate::stop::{Stop, past, refused};
+use crate::loading::load_file;
+use crate::stop::{Stop, past, refused, refused_pattern};
 use crate::words::BodyWords;
+use sm_bodies::{BodyAnswer, translated};
+use sm_codec::fill_defaults;
+use sm_compile::{CompileRefusal, OneShape, Served, compile_shape, sound};
+use sm_ids::ShapeId;
 use sm_io::{Files, ReadRefusal, Source, read_all};
-use sm_json::{read_tree, write_tree};
-use sm_shapes::{Table, Value};
-use sm_tree::{NoMemory, SyntaxRefusal, Tree};
+use sm_model::Graph;
+use sm_shapes::Patterns;
+use sm_shapes::tables::Table;
+use sm_tree::NoMemory;
 use std::alloc::Global;
 
 /// The greatest length of a body, in bytes.
 const BODY_LIMIT: u64 = 1_048_576;
 
-// The text that is written for a tree.
-fn written_text(alloc: Global, tree: &Tree) -> Result<Vec<u8>, NoMemory>
-    requires { IsJson (node_of tree.now) }
-    ensures { IfOk result (λ text. text.items ≡ written (node_of tree.now)) }
-{
-    let mut text = Vec::new(alloc);
-    match write_tree(alloc, tree, &mut text) {
-        Ok(()) => Ok(text),
-        Err(NoMemory) => Err(NoMemory),
-    }
-}
-
-// The text that is written for a value of a shape.
-fn far_text(alloc: Global, table: &Table, shape: u32, value: &Value) -> Result<Vec<u8>, NoMemory>
-    requires shaped { Shaped table.now }
-    requires shape { shape < shape_count table.now }
-    requires fits { Fits table.now shape (val_of value.now) }
-    ensures { IfOk result
-        (λ text. text.items ≡ written (encoded_tree table.now json_written shape (val_of value.now))) }
-{
-    match encode(alloc, table, shape, value) {
-        Ok(tree) => written_text(alloc, &tree),
-        Err(NoMemory) => Err(NoMemory),
-    }
-}
-
-// The canonical body of the value that a tree spells.
-fn canonical_of_tree(alloc: Global, table: &Table, shape: u32, tree: &Tree) -> Result<Vec<u8>, Stop>
-    requires shaped { Shaped table.now }
-    requires shape { shape < shape_count table.now }
-    ensures { StepComesTo (TreeAnswers table.now shape (node_of tree.now)) ⊥ (Unit {0}) result }
-{
-    match decode(alloc, table, shape, tree) {
-        Ok(value) => match far_text(alloc, table, shape, &value) {
-            Ok(text) => Ok(text),
-            Err(NoMemory) => Err(Stop::NoMemory),
-        },
-        Err(refusal) => match refusal {
-            Refusal::Fault(fault) => Err(refused(fault_line(alloc, &fault))),
-            Refusal::NoMemory => Err(Stop::NoMemory),
-        },
-    }
-}
-
-// The command ends with the line of a body that is no text.
-fn no_text(alloc: Global, refusal: SyntaxRefusal) -> Stop
-    ensures { EndsWithLine (the_syntax_line refusal) result }
-{
-    refused(syntax_line(alloc, refusal))
-}
-
-/// The canonical body of the value that the bytes spell for a shape of the table. Else the line of its syntax, or
-/// of its first fault.
-pub(crate) fn canonical_body(
+// The table of the shape with this id, of which one can be made; or why there is none.
+fn compiled<P: Patterns>(
     alloc: Global,
+    graph: &Graph,
+    id: &ShapeId,
+    patterns: &mut P,
+) -> Result<OneShape, Stop>
+    requires { Sound (maps_of graph.now) id.now }
+    ensures makes { let before = seen_store (P.added patterns.old) (P.refused patterns.old) (P.refusals patterns.old) in
+        let after = seen_store (P.added patterns.new) (P.refused patterns.new) (P.refusals patterns.new) in
+        (name : List ℕ) → MakesTable (maps_of graph.now) name id.now P.test before after result }
+    ensures added { OnlyAdds (P.added patterns.old) (P.added patterns.new) }
+{
+    let shape = id.as_ref();
+    match compile_shape(alloc, graph, &shape, patterns) {
+        Ok(one) => Ok(one),
+        Err(CompileRefusal::NoShape) => Err(refused(line(alloc, "NoShape", id.as_str()))),
+        Err(CompileRefusal::Pattern(carrier)) => {
+            Err(refused_pattern(line(alloc, "Pattern", carrier.as_str())))
+        }
+        Err(CompileRefusal::NoMemory) => Err(Stop::NoMemory),
+    }
+}
+
+// The table of the shape at a number of the graph, or why there is none. `name` is the name of the model file.
+fn table_at<P: Patterns>(
+    alloc: Global,
+    graph: &Graph,
+    number: u32,
+    name: &str,
+    patterns: &mut P,
+) -> Result<OneShape, Stop>
+    requires { IsShapeNumber graph.now number }
+    ensures makes { let before = seen_store (P.added patterns.old) (P.refused patterns.old) (P.refusals patterns.old) in
+        let after = seen_store (P.added patterns.new) (P.refused patterns.new) (P.refusals patterns.new) in
+        MakesTable (maps_of graph.now) name.now (id_of_number graph.now number) P.test before after result }
+    ensures added { OnlyAdds (P.added patterns.old) (P.added patterns.new) }
+{
+    match sound(alloc, graph, number) {
+        Ok(true) => compiled(alloc, graph, graph.id(number), patterns),
+        Ok(false) => Err(refused(line(alloc, "Unbuilt", name))),
+        Err(NoMemory) => Err(Stop::NoMemory),
+    }
+}
+
+// The table of the shape with this id in the graph, or why there is none.
+fn table_named<P: Patterns>(
+    alloc: Global,
+    graph: &Graph,
+    words: BodyWords<'_>,
+    patterns: &mut P,
+) -> Result<OneShape, Stop>
+    ensures makes { let before = seen_store (P.added patterns.old) (P.refused patterns.old) (P.refusals patterns.old) in
+        let after = seen_store (P.added patterns.new) (P.refused patterns.new) (P.refusals patterns.new) in
+        MakesTable (maps_of graph.now) words.entry.model.now words.entry.shape.now P.test before after result }
+    ensures added { OnlyAdds (P.added patterns.old) (P.added patterns.new) }
+{
+    match graph.number(words.shape) {
+        Some(number) => table_at(alloc, graph, number, words.model, patterns),
+        None => Err(refused(line(alloc, "NoShape", words.shape))),
+    }
+}
+
+// What is printed for what a body comes to.
+fn printed_answer(alloc: Global, answer: BodyAnswer) -> Result<Vec<u8>, Stop>
+    ensures { StepComesTo (λ a. a ≡ printed (text_answer answer)) ⊥ (Unit {0}) result }
+{
+    match answer {
+        BodyAnswer::Text(text) => Ok(text),
+        BodyAnswer::Syntax(refusal) => Err(refused(syntax_line(alloc, refusal))),
+        BodyAnswer::Fault(fault) => Err(refused(fault_line(alloc, &fault))),
+    }
+}
+
+// What the bytes of a body come to.
+fn far_body<P: Patterns>(
+    alloc: Global,
+    words: BodyWords<'_>,
     table: &Table,
     shape: u32,
+    patterns: &mut P,
     body: &[u8],
 ) -> Result<Vec<u8>, Stop>
-    requires shaped { Shaped table.now }
-    requires shape { shape < shape_count table.now }
-    ensures { StepComesTo (TextAnswers json json table.now shape body.now) ⊥ (Unit {0}) result }
+    requires number { shape < shape_count (table_data table.now) }
+    requires shaped { Shaped (table_data table.now) }
+    requires stored { AreStored (table_data table.now).patterns (P.added patterns.old) }
+    requires pass { DefaultsPass (table_data table.now) P.test }
+    ensures comes { StepComesTo
+        (PrintsText words.entry.near words.entry.far (table_data table.now) P.test shape body.now) ⊥ (Unit {0}) result }
+    ensures added { P.added patterns.new ≡ P.added patterns.old }
+    ensures refused { P.refused patterns.new ≡ P.refused patterns.old }
+    ensures refusals { P.refusals patterns.new ≡ P.refusals patterns.old }
 {
-    match read_tree(alloc, body) {
-        Ok(tree) => canonical_of_tree(alloc, table, shape, &tree),
-        Err(refusal) => match refusal {
-            SyntaxRefusal::NoMemory => Err(Stop::NoMemory),
-            _ => Err(no_text(alloc, refusal)),
-        },
+    match translated(alloc, words.near, words.far, table, shape, patterns, body) {
+        Ok(answer) => printed_answer(alloc, answer),
+        Err(NoMemory) => Err(Stop::NoMemory),
     }
 }
 
-// The canonical body of the whole input.
-fn canonical_of_input<S: Source>(
+// What the whole input comes to.
+fn far_input<S: Source, P: Patterns>(
     alloc: Global,
+    words: BodyWords<'_>,
     table: &Table,
     shape: u32,
+    patterns: &mut P,
     input: &mut S,
 ) -> Result<Vec<u8>, Stop>
-    requires shaped { Shaped table.now }
-    requires shape { shape < shape_count table.now }
-    ensures comes { InputComesTo
+    requires number { shape < shape_count (table_data table.now) }
+    requires shaped { Shaped (table_data table.now) }
+    requires stored { AreStored (table_data table.now).patterns (P.added patterns.old) }
+    requires pass { DefaultsPass (table_data table.now) P.test }
+    ensures comes { InputComesTo words.entry.near words.entry.far (table_data table.now) P.test shape
         (stream (S.left input.old) (S.faults input.old))
-        (stream (S.left input.new) (S.faults input.new))
-        table.now shape result }
+        (stream (S.left input.new) (S.faults input.new)) result }
+    ensures added { P.added patterns.new ≡ P.added patterns.old }
+    ensures refused { P.refused patterns.new ≡ P.refused patterns.old }
+    ensures refusals { P.refusals patterns.new ≡ P.refusals patterns.old }
     ensures prefix { LosesPrefix (S.left input.old) (S.left input.new) }
     ensures input_faults { S.faults input.old ≤ S.faults input.new }
 {
     match read_all(alloc, input, BODY_LIMIT) {
-        Ok(body) => canonical_body(alloc, table, shape, &body),
+        Ok(body) => far_body(alloc, words, table, shape, patterns, &body),
         Err(ReadRefusal::Failed) => Err(Stop::ReadFault),
         Err(ReadRefusal::TooLong) => Err(past(limit_line(alloc, "body", BODY_LIMIT))),
         Err(ReadRefusal::NoMemory) => Err(Stop::NoMemory),
     }
 }
 
-/// The canonical body of the input, which spells a value of this shape of the model in this file.
+// What the input comes to for a shape whose values are served, once the defaults of its table are filled.
+fn far_of_served<S: Source, P: Patterns>(
+    alloc: Global,
+    words: BodyWords<'_>,
+    mut table: Table,
+    shape: u32,
+    patterns: &mut P,
+    input: &mut S,
+) -> Result<Vec<u8>, Stop>
+    requires { IsReady (table_data table) shape (P.added patterns.old) }
+    ensures comes { InputComesTo words.entry.near words.entry.far (filled (table_data table) P.test) P.test shape
+        (stream (S.left input.old) (S.faults input.old))
+        (stream (S.left input.new) (S.faults input.new)) result }
+    ensures added { P.added patterns.new ≡ P.added patterns.old }
+    ensures refused { P.refused patterns.new ≡ P.refused patterns.old }
+    ensures refusals { P.refusals patterns.new ≡ P.refusals patterns.old }
+    ensures prefix { LosesPrefix (S.left input.old) (S.left input.new) }
+    ensures input_faults { S.faults input.old ≤ S.faults input.new }
+{
+    match fill_defaults(alloc, &mut table, patterns) {
+        Ok(()) => far_input(alloc, words, &table, shape, patterns, input),
+        Err(NoMemory) => Err(Stop::NoMemory),
+    }
+}
+
+// What the input comes to for a shape with its table.
+fn far_of_shape<S: Source, P: Patterns>(
+    alloc: Global,
+    words: BodyWords<'_>,
+    one: OneShape,
+    patterns: &mut P,
+    input: &mut S,
+) -> Result<Vec<u8>, Stop>
+    requires { IsReady (table_data one.table) one.shape (P.added patterns.old) }
+    ensures comes { TableComesTo words.entry.near words.entry.far one P.test
+        (stream (S.left input.old) (S.faults input.old))
+        (stream (S.left input.new) (S.faults input.new)) result }
+    ensures added { P.added patterns.new ≡ P.added patterns.old }
+    ensures refused { P.refused patterns.new ≡ P.refused patterns.old }
+    ensures refusals { P.refusals patterns.new ≡ P.refusals patterns.old }
+    ensures prefix { LosesPrefix (S.left input.old) (S.left input.new) }
+    ensures input_faults { S.faults input.old ≤ S.faults input.new }
+{
+    let OneShape {
+        table,
+        shape,
+        served,
+    } = one;
+    match served {
+        Served::Yes => far_of_served(alloc, words, table, shape, patterns, input),
+        Served::Unserved(path) => Err(refused(line(alloc, "Unserved", path.as_str()))),
+    }
+}
+
+/// The far body of the input, which spells a value of this shape of the model in this file. The graph of the model is dropped before the
+/// input is read.
 ///
 /// # Errors
 ///
-/// In this order: a file that can't be read or is too long, a file that holds no model, a model without
-/// the shape, an input that can't be read or is too long, a body that is no text or has a fault. At any
-/// step memory may run out.
-pub(crate) fn body<F: Files, S: Source>(
+/// In this order: those of `load_file`; an id of no shape that has values; a shape of which no table can be made; a pattern that the store
+/// refuses; a shape whose values can't be carried; an input that can't be read or is too long; a body that is no text or has a fault, or
+/// whose value the far side doesn't carry. At any step memory may run out.
+pub(crate) fn body<F: Files, S: Source, P: Patterns>(
     alloc: Global,
     words: BodyWords<'_>,
     files: &mut F,
     input: &mut S,
+    patterns: &mut P,
 ) -> Result<Vec<u8>, Stop>
     requires { F.lets_read files.old words.model.now }
-    ensures comes { CommandComesTo
-        (files_seen (F.held files.old) (F.read_faults files.old))
-        (files_seen (F.held files.new) (F.read_faults files.new))
+    ensures comes { let before = inputs_seen (files_seen (F.held files.old) (F.read_faults files.old))
         (stream (S.left input.old) (S.faults input.old))
+        P.test (seen_store (P.added patterns.old) (P.refused patterns.old) (P.refusals patterns.old)) in
+        let after = inputs_seen (files_seen (F.held files.new) (F.read_faults files.new))
         (stream (S.left input.new) (S.faults input.new))
-        (body_command words.entry.model.now words.entry.shape.now) result }
+        P.test (seen_store (P.added patterns.new) (P.refused patterns.new) (P.refusals patterns.new)) in
+        CommandComesTo before after (body_command words.entry.model.now words.entry.shape.now words.entry.near words.entry.far) result }
     ensures held { F.held files.new ≡ F.held files.old }
     ensures read_faults { F.read_faults files.old ≤ F.read_faults files.new }
     ensures write_faults { F.write_faults files.new ≡ F.write_faults files.old }
@@ -154,13 +250,16 @@ pub(crate) fn body<F: Files, S: Source>(
     ensures same_writes { LetsSame (F.lets_write files.old) (F.lets_write files.new) }
     ensures prefix { LosesPrefix (S.left input.old) (S.left input.new) }
     ensures input_faults { S.faults input.old ≤ S.faults input.new }
+    ensures added { OnlyAdds (P.added patterns.old) (P.added patterns.new) }
 {
-    let model = match open_model(alloc, files, words.model) {
-        Ok(model) => model,
+    let graph = match load_file(alloc, files, words.model) {
+        Ok(graph) => graph,
         Err(stop) => return Err(stop),
     };
-    match model.shape_named(words.shape) {
-        Some(shape) => canonical_of_input(alloc, &model.table, shape, input),
-        None => Err(refused(line(alloc, "NoShape", words.shape))),
+    let made = table_named(alloc, &graph, words, patterns);
+    drop(graph);
+    match made {
+        Ok(one) => far_of_shape(alloc, words, one, patterns, input),
+        Err(stop) => Err(stop),
     }
 }

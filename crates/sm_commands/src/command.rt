@@ -3,9 +3,10 @@ ghost use Rattle.std.specs.Prelude.{◌≡◌, ◌≤◌, List, ℕ, Contains};
 ghost use Rattle.sm_io.specs.Files.{LetsSame};
 ghost use Rattle.sm_io.specs.Reading.{LosesPrefix};
 ghost use Rattle.sm_io.specs.Seen.{files_seen, stream};
-ghost use Rattle.sm_commands.specs.Outside.{outside};
+ghost use Rattle.sm_compile.specs.Answers.{seen_store};
+ghost use Rattle.sm_commands.specs.Outside.{inputs_seen, outside};
 ghost use Rattle.sm_commands.specs.Commands.{LetsRead, reads};
-ghost use Rattle.sm_commands.specs.Run.{code_of, RunAnswers, KeepsFiles};
+ghost use Rattle.sm_commands.specs.Run.{code_of, RunAnswers, KeepsFiles, OnlyAdds};
 ghost use Rattle.sm_commands.specs.steps.Asked.{command_of};
 ghost use Rattle.sm_commands.specs.steps.CommandSteps.{CommandComesTo, PutEnds, PrintsResult};
 
@@ -34,6 +35,8 @@ pub enum Status {
     WriteFault,
     /// The allocator refused the memory that is needed.
     NoMemory,
+    /// The store refused a pattern that the shape reaches; a line was printed.
+    Pattern,
     /// A limit is passed; a line was printed.
     Limit,
 }
@@ -50,25 +53,28 @@ impl Status {
             Status::ReadFault => 3,
             Status::WriteFault => 4,
             Status::NoMemory => 5,
+            Status::Pattern => 6,
             Status::Limit => 7,
         }
     }
 }
 
 // What a command comes to: what it prints, or why it ends before.
-fn come_to<F: Files, S: Source>(
+fn come_to<F: Files, S: Source, P: Patterns>(
     alloc: Global,
     form: Form<'_>,
     files: &mut F,
     input: &mut S,
+    patterns: &mut P,
 ) -> Result<Vec<u8>, Stop>
     requires { (name : List ℕ) → Contains (reads (command_of form)) name → F.lets_read files.old name }
-    ensures comes { CommandComesTo
-        (files_seen (F.held files.old) (F.read_faults files.old))
-        (files_seen (F.held files.new) (F.read_faults files.new))
+    ensures comes { let before = inputs_seen (files_seen (F.held files.old) (F.read_faults files.old))
         (stream (S.left input.old) (S.faults input.old))
+        P.test (seen_store (P.added patterns.old) (P.refused patterns.old) (P.refusals patterns.old)) in
+        let after = inputs_seen (files_seen (F.held files.new) (F.read_faults files.new))
         (stream (S.left input.new) (S.faults input.new))
-        (command_of form.entry) result }
+        P.test (seen_store (P.added patterns.new) (P.refused patterns.new) (P.refusals patterns.new)) in
+        CommandComesTo before after (command_of form.entry) result }
     ensures held { F.held files.new ≡ F.held files.old }
     ensures read_faults { F.read_faults files.old ≤ F.read_faults files.new }
     ensures write_faults { F.write_faults files.new ≡ F.write_faults files.old }
@@ -76,9 +82,10 @@ fn come_to<F: Files, S: Source>(
     ensures same_writes { LetsSame (F.lets_write files.old) (F.lets_write files.new) }
     ensures prefix { LosesPrefix (S.left input.old) (S.left input.new) }
     ensures input_faults { S.faults input.old ≤ S.faults input.new }
+    ensures added { OnlyAdds (P.added patterns.old) (P.added patterns.new) }
 {
     match form {
-        Form::Body(words) => body(alloc, words, files, input),
+        Form::Body(words) => body(alloc, words, files, input, patterns),
         Form::Convert(words) => convert(alloc, words, files),
         Form::Select(words) => select(alloc, words, files),
     }
@@ -111,6 +118,7 @@ fn print<K: Sink>(out: &mut K, came: Result<Vec<u8>, Stop>) -> Status
         Ok(text) => put(out, &text, Status::Done),
         Err(stop) => match stop {
             Stop::Refused(line) => put(out, &line, Status::Refused),
+            Stop::Pattern(line) => put(out, &line, Status::Pattern),
             Stop::Limit(line) => put(out, &line, Status::Limit),
             Stop::ReadFault => Status::ReadFault,
             Stop::NoMemory => Status::NoMemory,
@@ -118,9 +126,10 @@ fn print<K: Sink>(out: &mut K, came: Result<Vec<u8>, Stop>) -> Status
     }
 }
 
-/// Does what the words ask for, and answers the status of the process. `body MODELFILE SHAPE json json` prints
-/// the canonical body of the value that the input spells (0), or the line of the first thing that is refused:
-/// the model file's length (7), the model, the shape (1); the input's length (7), its syntax, its faults (1).
+/// Does what the words ask for, and answers the status of the process. `body MODELFILE SHAPE NEAR FAR` prints the far body of the value that the
+/// input spells (0), or the line of the first thing that is refused: the model file (7 or 1, as for `convert`), the shape (1), a pattern
+/// that it reaches (6), a shape whose values can't be carried (1); the input's length (7), its syntax, its faults, a leaf that the far
+/// side doesn't carry (1). NEAR and FAR are `json` or `cbor`.
 /// The input is touched only where nothing that stands before it is refused. `convert MODEL+ ast` prints the graph that model
 /// files merge to as one text of the JSON AST (0), or the lines of the first that is refused: the number of its files, their
 /// lengths (7), their texts and models, file by file (1), the size of the graph (7), all that is wrong with it (1); it doesn't
@@ -129,8 +138,8 @@ fn print<K: Sink>(out: &mut K, came: Result<Vec<u8>, Stop>) -> Status
 ///
 /// 2: the words have no form, and nothing is touched. 3: a read of the file or of the input failed, and nothing
 /// is put. 4: the output failed, and holds a prefix of what was to be put. 5: memory ran out, and nothing is put.
-/// 3 and 4 come only where that object's count of faults rose. No model that is read today has patterns, so the
-/// store stays as it is.
+/// 3 and 4 come only where that object's count of faults rose, and 6 only where the store's count of refusals did. To the store patterns
+/// are only added.
 pub fn run<F: Files, S: Source, K: Sink, P: Patterns>(
     alloc: Global,
     words: &[Text],
@@ -140,9 +149,14 @@ pub fn run<F: Files, S: Source, K: Sink, P: Patterns>(
     patterns: &mut P,
 ) -> u8
     requires { LetsRead (F.lets_read files.old) words.now }
-    ensures answers { let before = outside (files_seen (F.held files.old) (F.read_faults files.old)) (stream (S.left input.old) (S.faults input.old)) (stream (K.written out.old) (K.faults out.old)) in
-        let after = outside (files_seen (F.held files.new) (F.read_faults files.new)) (stream (S.left input.new) (S.faults input.new)) (stream (K.written out.new) (K.faults out.new)) in
-        RunAnswers words.now before after result }
+    ensures answers { let before = inputs_seen (files_seen (F.held files.old) (F.read_faults files.old))
+        (stream (S.left input.old) (S.faults input.old))
+        P.test (seen_store (P.added patterns.old) (P.refused patterns.old) (P.refusals patterns.old)) in
+        let after = inputs_seen (files_seen (F.held files.new) (F.read_faults files.new))
+        (stream (S.left input.new) (S.faults input.new))
+        P.test (seen_store (P.added patterns.new) (P.refused patterns.new) (P.refusals patterns.new)) in
+        RunAnswers words.now (outside before (stream (K.written out.old) (K.faults out.old)))
+        (outside after (stream (K.written out.new) (K.faults out.new))) result }
     ensures files { KeepsFiles words.now (F.held files.old) (F.held files.new) }
     ensures held { F.held files.new ≡ F.held files.old }
     ensures write_faults { F.write_faults files.new ≡ F.write_faults files.old }
@@ -152,11 +166,11 @@ pub fn run<F: Files, S: Source, K: Sink, P: Patterns>(
     ensures prefix { LosesPrefix (S.left input.old) (S.left input.new) }
     ensures input_faults { S.faults input.old ≤ S.faults input.new }
     ensures output_faults { K.faults out.old ≤ K.faults out.new }
-    ensures patterns { patterns.new ≡ patterns.old }
+    ensures added { OnlyAdds (P.added patterns.old) (P.added patterns.new) }
 {
     match form_of(words) {
         Some(form) => {
-            let came = come_to(alloc, form, files, input);
+            let came = come_to(alloc, form, files, input, patterns);
             print(out, came).code()
         }
         None => Status::Usage.code(),

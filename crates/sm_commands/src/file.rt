@@ -38,8 +38,8 @@ pub(crate) fn open_file<F: Files>(alloc: Global, files: &mut F, name: &str) -> R
     }
 }
 
-// Whether the name is that of a file in the JSON AST.
-fn ends_in_json(name: &str) -> bool
+/// Whether the name is that of a file in the JSON AST.
+pub(crate) fn ends_in_json(name: &str) -> bool
     ensures { IsTrue result ↔ EndsInJson name.now }
 {
     name.as_bytes().ends_with(b".json")

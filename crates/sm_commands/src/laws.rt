@@ -1,25 +1,29 @@
 // What holds of all commands and of all runs of the program. These calls do nothing.
 ghost use Rattle.sm_commands.specs.Commands.{OneCommandForm};
 ghost use Rattle.sm_commands.specs.Says.{OneAnswer, SomeAnswer, InputReached};
-ghost use Rattle.sm_commands.specs.RunLaws.{OneRunAnswer, QuietRunAnswers, KeepsInput};
+ghost use Rattle.sm_commands.specs.RunLaws.{OneRunAnswer, QuietRunAnswers, KeepsInput, KeepsRefusals};
 
 /// Words have the form of one command at most.
 pub fn one_form()
     ensures { OneCommandForm }
 {}
 
-/// The files and the input determine what a command comes to. So they and the words determine the status and what is
+/// The files, the input and the store of patterns determine what a command comes to. So they and the words determine the status and what is
 /// put, but for faults of the outside and where memory runs out: each status comes exactly where `run` says why.
 pub fn one_answer()
     ensures said { OneAnswer }
     ensures runs { OneRunAnswer }
-{}
+{
+    sm_bodies::laws::one_text_answer();
+}
 
-/// Where its files are there, a command comes to an answer, whatever they and the input hold: what `run` says leaves no
-/// case to `NoMemory`.
+/// Where its files are there, and a shape of which a table can be made has one, a command comes to an answer, whatever they and the input
+/// hold: what `run` says leaves no case to `NoMemory`.
 pub fn some_answer()
     ensures { SomeAnswer }
-{}
+{
+    sm_bodies::laws::some_text_answer();
+}
 
 /// Where the words have a form and no count of faults rose, the answer is put, or memory ran out.
 pub fn quiet_answers()
@@ -31,4 +35,9 @@ pub fn quiet_answers()
 pub fn untouched_input()
     ensures said { InputReached }
     ensures runs { KeepsInput }
+{}
+
+/// A run that ends with status 0, 1, 2, 3 or 7 leaves the store's count of refusals.
+pub fn kept_refusals()
+    ensures { KeepsRefusals }
 {}

@@ -1,18 +1,15 @@
-// The commands: what the program does for its words, over any files, input and output. Until they have crates of their
-// own, the codec and the reader of models stand here too.
+// The commands: what the program does for its words, over any files, input, output and store of patterns.
 #![tactic(auto)]
 
 mod body;
-pub mod codec;
 mod command;
 mod convert;
 mod file;
 mod files;
+mod idl;
 pub mod laws;
 mod lines;
 mod loading;
-pub mod model;
-mod opening;
 mod select;
 mod stop;
 mod words;

@@ -1,5 +1,5 @@
 // The graph of the model files of a command: they are read, each says statements, and these are merged.
-ghost use Rattle.std.specs.Prelude.{◌≡◌, ◌≤◌, List, ℕ, Contains, Some, Err};
+ghost use Rattle.std.specs.Prelude.{◌≡◌, ◌≤◌, List, [], ◌∷◌, ℕ, Contains, Some, Err};
 ghost use Rattle.sm_io.specs.Files.{LetsSame};
 ghost use Rattle.sm_io.specs.Seen.{files_seen};
 ghost use Rattle.sm_model.specs.Said.{Said};
@@ -11,10 +11,13 @@ ghost use Rattle.sm_merge.specs.Files.{files_view};
 ghost use Rattle.sm_commands.specs.Lines.{ast_line as the_ast_line};
 ghost use Rattle.sm_commands.specs.steps.CommandSteps.{EndsWithLine, StepStops};
 ghost use Rattle.sm_commands.specs.Loading.{MergeAnswers};
-ghost use Rattle.sm_commands.specs.steps.LoadSteps.{ReadsStatements, ReadsAllStatements, Merges, TextsMerge, Loads, text_view, texts_view};
+ghost use Rattle.sm_commands.specs.Stages.{EndsInJson};
+ghost use Rattle.sm_commands.specs.steps.LoadSteps.{file_of, text_view, texts_view};
+ghost use Rattle.sm_commands.specs.steps.LoadSteps.{ReadsStatements, ReadsAllStatements, Merges, TextsMerge, Loads};
 
-use crate::file::tree_in;
+use crate::file::{ends_in_json, open_file, tree_in};
 use crate::files::{ModelText, read_models};
+use crate::idl::text_statements;
 use crate::lines::{ast_line, error_lines, limit_line, size_limit_line};
 use crate::stop::{Stop, past, refused};
 use sm_ast::{AstRefusal, read_ast};
@@ -34,11 +37,10 @@ fn no_model(alloc: Global, name: &str, refusal: &AstRefusal) -> Stop
     refused(ast_line(alloc, name, refusal))
 }
 
-// The statements of a file, whose text is dropped before there is any, and its tree behind them; or the line of one that says none.
-fn statements_in(alloc: Global, file: ModelText<'_>) -> Result<Vec<Statement>, Stop>
-    ensures { ReadsStatements (text_view file.entry) result }
+// The statements of a file in the JSON AST, whose text is dropped before there is any, and its tree behind them.
+fn tree_statements(alloc: Global, name: &str, bytes: Vec<u8>) -> Result<Vec<Statement>, Stop>
+    ensures { EndsInJson name.now → ReadsStatements (file_of name.now bytes.items) result }
 {
-    let ModelText { name, bytes } = file;
     let tree = match tree_in(alloc, name, &bytes) {
         Ok(tree) => tree,
         Err(stop) => return Err(stop),
@@ -51,6 +53,17 @@ fn statements_in(alloc: Global, file: ModelText<'_>) -> Result<Vec<Statement>, S
             _ => Err(no_model(alloc, name, &refusal)),
         },
     }
+}
+
+// The statements of a file, or the line of one that says none.
+fn statements_in(alloc: Global, file: ModelText<'_>) -> Result<Vec<Statement>, Stop>
+    ensures { ReadsStatements (text_view file.entry) result }
+{
+    let ModelText { name, bytes } = file;
+    if ends_in_json(name) {
+        return tree_statements(alloc, name, bytes);
+    }
+    text_statements(alloc, name, &bytes)
 }
 
 // The statements of all files, or the line of the first that says none.
@@ -107,8 +120,8 @@ fn graph_of(alloc: Global, files: Vec<ModelText<'_>>) -> Result<Graph, Stop>
 /// # Errors
 ///
 /// In this order: more than 64 files; file by file one that can't be read, is too long, or with which all are too long; file by
-/// file a name of another form, a text that isn't JSON, a tree that is no model; a graph past a limit on its size; all that is
-/// wrong with it. At any step memory may run out.
+/// file a text that isn't JSON, a tree that is no model, or an IDL text that isn't UTF-8 or no model; a graph past a limit on its size;
+/// all that is wrong with it. At any step memory may run out.
 pub(crate) fn load<F: Files>(alloc: Global, files: &mut F, models: &[Text]) -> Result<Graph, Stop>
     requires { (name : List ℕ) → Contains models.now name → F.lets_read files.old name }
     ensures loads { Loads
@@ -127,5 +140,39 @@ pub(crate) fn load<F: Files>(alloc: Global, files: &mut F, models: &[Text]) -> R
     match read_models(alloc, files, models) {
         Ok(read) => graph_of(alloc, read),
         Err(stop) => Err(stop),
+    }
+}
+
+/// The graph of one model file.
+///
+/// # Errors
+///
+/// Those of `load` for the one name.
+pub(crate) fn load_file<F: Files>(alloc: Global, files: &mut F, name: &str) -> Result<Graph, Stop>
+    requires { F.lets_read files.old name.now }
+    ensures loads { Loads
+        (files_seen (F.held files.old) (F.read_faults files.old))
+        (files_seen (F.held files.new) (F.read_faults files.new))
+        (name.now ∷ []) result }
+    ensures held { F.held files.new ≡ F.held files.old }
+    ensures read_faults { F.read_faults files.old ≤ F.read_faults files.new }
+    ensures write_faults { F.write_faults files.new ≡ F.write_faults files.old }
+    ensures same_reads { LetsSame (F.lets_read files.old) (F.lets_read files.new) }
+    ensures same_writes { LetsSame (F.lets_write files.old) (F.lets_write files.new) }
+{
+    match open_file(alloc, files, name) {
+        Ok(bytes) => graph_of_one(alloc, ModelText { name, bytes }),
+        Err(stop) => Err(stop),
+    }
+}
+
+// The graph of one file that was read.
+fn graph_of_one(alloc: Global, file: ModelText<'_>) -> Result<Graph, Stop>
+    ensures { TextsMerge (text_view file.entry ∷ []) result }
+{
+    let mut files = Vec::new(alloc);
+    match files.push(file) {
+        Ok(()) => graph_of(alloc, files),
+        Err(_) => Err(Stop::NoMemory),
     }
 }

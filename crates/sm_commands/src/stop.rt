@@ -1,6 +1,6 @@
 // Why a command ends before its work is done.
 ghost use Rattle.std.specs.Prelude.{◌≡◌, List, ℕ, IfOk};
-ghost use Rattle.sm_commands.specs.steps.CommandSteps.{EndsWithLine, EndsWithLimit};
+ghost use Rattle.sm_commands.specs.steps.CommandSteps.{EndsWithLine, EndsWithLimit, EndsWithPattern};
 
 use sm_tree::NoMemory;
 
@@ -9,6 +9,8 @@ use sm_tree::NoMemory;
 pub enum Stop {
     /// The model, the shape or the body is refused; this line says why.
     Refused(Vec<u8>),
+    /// The store refused a pattern; this line says which shape or member carries it.
+    Pattern(Vec<u8>),
     /// A limit is passed; this line says which.
     Limit(Vec<u8>),
     /// A file or the input could not be read.
@@ -34,6 +36,16 @@ pub(crate) fn refused(line: Result<Vec<u8>, NoMemory>) -> Stop
 {
     match line {
         Ok(line) => Stop::Refused(line),
+        Err(NoMemory) => Stop::NoMemory,
+    }
+}
+
+/// The command ends at a pattern with this line, if there is memory for it.
+pub(crate) fn refused_pattern(line: Result<Vec<u8>, NoMemory>) -> Stop
+    ensures { (wanted : List ℕ) → IfOk line (λ printed. printed.items ≡ wanted) → EndsWithPattern wanted result }
+{
+    match line {
+        Ok(line) => Stop::Pattern(line),
         Err(NoMemory) => Stop::NoMemory,
     }
 }

@@ -1,17 +1,22 @@
 // The words of a command, and the forms that they may have.
 ghost use Rattle.std.specs.Prelude.{◌≡◌, ◌↔◌, List, ℕ, [], ◌∷◌, ◌++◌, IsTrue, MatchOption};
-ghost use Rattle.sm_commands.specs.Commands.{AreOverModels, IsCommandForm, IsNoForm, body_command, convert_command, select_command};
+ghost use Rattle.sm_commands.specs.Commands.{AreOverModels, IsCommandForm, IsNoForm, body_command, convert_command, form_word, select_command};
 ghost use Rattle.sm_commands.specs.steps.Asked.{command_of};
 
+use sm_bodies::BodyForm;
 use sm_tree::Text;
 
-/// The words of `body MODELFILE SHAPE json json`.
+/// The words of `body MODELFILE SHAPE NEAR FAR`.
 #[derive(Debug, Clone, Copy)]
 pub struct BodyWords<'a> {
     /// The name of the model file.
     pub model: &'a str,
     /// The word for the shape: any text, which may be the name of no shape.
     pub shape: &'a str,
+    /// The form of the body that is read.
+    pub near: BodyForm,
+    /// The form of the body that is written.
+    pub far: BodyForm,
 }
 
 /// The words of `convert MODEL+ ast`.
@@ -33,7 +38,7 @@ pub struct SelectWords<'a> {
 /// The forms that words may have.
 #[derive(Debug, Clone, Copy)]
 pub enum Form<'a> {
-    /// `body MODELFILE SHAPE json json`.
+    /// `body MODELFILE SHAPE NEAR FAR`.
     Body(BodyWords<'a>),
     /// `convert MODEL+ ast`.
     Convert(ConvertWords<'a>),
@@ -60,8 +65,8 @@ pub(crate) fn form_of(words: &[Text]) -> Option<Form<'_>>
 // The words of `body`, where they have its form.
 fn body_words(words: &[Text]) -> Option<BodyWords<'_>>
     ensures { MatchOption result
-        ((model shape : List ℕ) → IsCommandForm words.now (body_command model shape) → ⊥)
-        (λ form. IsCommandForm words.now (body_command form.model.now form.shape.now)) }
+        ((model shape : List ℕ) (near far : BodyForm) → IsCommandForm words.now (body_command model shape near far) → ⊥)
+        (λ form. IsCommandForm words.now (body_command form.model.now form.shape.now form.near form.far)) }
 {
     if words.len() != 5 {
         return None;
@@ -69,16 +74,31 @@ fn body_words(words: &[Text]) -> Option<BodyWords<'_>>
     if !is_word(&words[0], "body") {
         return None;
     }
-    if !is_word(&words[3], "json") {
+    let Some(near) = side_named(&words[3]) else {
         return None;
-    }
-    if !is_word(&words[4], "json") {
+    };
+    let Some(far) = side_named(&words[4]) else {
         return None;
-    }
+    };
     Some(BodyWords {
         model: words[1].as_str(),
         shape: words[2].as_str(),
+        near,
+        far,
     })
+}
+
+// The form of a side that a word names.
+fn side_named(word: &Text) -> Option<BodyForm>
+    ensures { MatchOption result
+        ((form : BodyForm) → word.now ≡ form_word form → ⊥)
+        (λ form. word.now ≡ form_word form) }
+{
+    match word.as_str() {
+        "json" => Some(BodyForm::Json),
+        "cbor" => Some(BodyForm::Cbor),
+        _ => None,
+    }
 }
 
 // The words of `convert`, where they have its form.

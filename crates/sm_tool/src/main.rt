@@ -12,8 +12,8 @@ use std::process::ExitCode;
 
 /// What `--help` prints.
 const HELP: &str = "\
-sm_tool body MODELFILE SHAPE json json
-    Reads a JSON body of the shape from standard input, and prints its canonical form.
+sm_tool body MODELFILE SHAPE NEAR FAR
+    Reads a body of the shape from standard input in the form NEAR, and prints it in the form FAR: json or cbor.
 sm_tool convert MODEL.. ast
     Merges model files, and prints their graph as one text of the JSON AST.
 sm_tool select MODEL.. SELECTOR

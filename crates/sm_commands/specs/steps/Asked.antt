@@ -4,6 +4,6 @@ use Rattle.sm_commands.specs.declared.words.Form.{Form}
 use Rattle.sm_commands.specs.declared.words.Form.TheVariants.{Body, Convert, Select}
 
 abbrev pub command_of : Form → Command
-command_of (Body words) = body_command words.model.now words.shape.now
+command_of (Body words) = body_command words.model.now words.shape.now words.near words.far
 command_of (Convert words) = convert_command words.models.now
 command_of (Select words) = select_command words.models.now words.selector.now

@@ -1,65 +1,81 @@
 -- What the steps of the command `body` come to.
-use Rattle.std.specs.Prelude.{◌≡◌, ℕ, ◌<◌, ◌≤◌, List, Option, Result, Ok, Err, length}
+use Rattle.std.specs.Prelude.{◌≡◌, ◌⊎◌, ℕ, ◌<◌, ◌≤◌, List, Result, Ok, Err, length}
 use Rattle.std.specs.Global.{Vec}
 use Rattle.std.specs.Io.KnownBytes.{IsAtEnd}
 use Rattle.sm_io.specs.Causes.{Rose}
-use Rattle.sm_io.specs.Files.{Folder}
-use Rattle.sm_io.specs.Seen.{Stream, FilesSeen}
-use Rattle.sm_tree.specs.Node.{Node}
-use Rattle.sm_tree.specs.Syntax.{IsRead}
-use Rattle.sm_json.specs.JsonText.{JsonText}
-use Rattle.sm_shapes.specs.Tables.{Shaped}
-use Rattle.sm_shapes.specs.declared.table.Table.{Table}
-use Rattle.sm_commands.specs.FirstForm.{shape_names}
-use Rattle.sm_commands.specs.Tabled.{table_of}
-use Rattle.sm_commands.specs.ReadModel.{IsModel}
+use Rattle.sm_io.specs.Seen.{Stream}
+use Rattle.sm_model.specs.Graphs.{GraphMaps}
+use Rattle.sm_shapes.specs.DefaultPuts.{HasNoDefault}
+use Rattle.sm_shapes.specs.Fitting.{Test}
+use Rattle.sm_shapes.specs.InOrder.{Shaped, AreStored}
+use Rattle.sm_shapes.specs.Places.{root_place}
+use Rattle.sm_shapes.specs.TableData.{TableData, shape_count}
+use Rattle.sm_shapes.specs.TableView.{table_data}
+use Rattle.sm_codec.specs.Defaults.{filled}
+use Rattle.sm_bodies.specs.TextAnswers.{TextAnswer, TextAnswers}
+use Rattle.sm_bodies.specs.declared.form.BodyForm.{BodyForm}
+use Rattle.sm_compile.specs.Answers.{StoreSeen, IsShapeCompiled, IsPatternRefused}
+use Rattle.sm_compile.specs.Sound.{IsValueShape, Sound}
+use Rattle.sm_compile.specs.declared.compiled.OneShape.{OneShape}
+use Rattle.sm_compile.specs.declared.compiled.Served.{Served}
+use Rattle.sm_compile.specs.declared.compiled.Served.TheVariants.{Yes, Unserved}
+use Rattle.sm_commands.specs.Answer.{Answer, refused, pattern_refused, past}
+use Rattle.sm_commands.specs.Body.{printed}
 use Rattle.sm_commands.specs.Limits.{body_limit}
-use Rattle.sm_commands.specs.Lines.{unbuilt_line, body_limit_line}
-use Rattle.sm_commands.specs.Answer.{Answer, refused, past}
-use Rattle.sm_commands.specs.Stages.{IsInput, EndsInJson, IsUnbuilt, ModelRead}
-use Rattle.sm_commands.specs.NoTree.{NoTree}
-use Rattle.sm_commands.specs.Convention.{json}
-use Rattle.sm_commands.specs.Body.{ModelAnswers, TextAnswers}
+use Rattle.sm_commands.specs.Lines.{unbuilt_line, no_shape_line, pattern_line, unserved_line, body_limit_line}
+use Rattle.sm_commands.specs.Stages.{IsInput}
 use Rattle.sm_commands.specs.steps.CommandSteps.{StepStops, StepComesTo}
-use Rattle.sm_commands.specs.declared.model.structures.FirstModel.{FirstModel}
 use Rattle.sm_commands.specs.declared.stop.Stop.{Stop}
 
--- what every text of this tree comes to
-abbrev pub TreeAnswers : Table → ℕ → Node → Answer → Type 0
-TreeAnswers t s n a = (body : List ℕ) → IsRead JsonText n body → TextAnswers json json t s body a
+-- what a graph comes to for a shape that has no table, with what the store did
+pub data ShapeSays (g : GraphMaps) (name shape : List ℕ) (before now : StoreSeen) (a : Answer) : Type 0 where
+  lacks : (IsValueShape g shape → ⊥) → now.refusals ≡ before.refusals → a ≡ refused (no_shape_line shape)
+      → ShapeSays g name shape before now a
+  not_sound : IsValueShape g shape → (Sound g shape → ⊥) → now.refusals ≡ before.refusals → a ≡ refused (unbuilt_line name)
+      → ShapeSays g name shape before now a
+  refuses : IsValueShape g shape → Sound g shape → (id : List ℕ) → IsPatternRefused g shape before now id
+      → a ≡ pattern_refused (pattern_line id) → ShapeSays g name shape before now a
 
--- what the bytes of a file come to where they hold no model
-pub data TextStops (name file : List ℕ) (a : Answer) : Type 0 where
-  without_tree : NoTree name file a → TextStops name file a
-  without_model : EndsInJson name → (n : Node) → IsRead JsonText n file → IsUnbuilt n → a ≡ refused (unbuilt_line name)
-      → TextStops name file a
+-- a table of a shape
+pub record HasTableOf (g : GraphMaps) (shape : List ℕ) (test : Test) (before now : StoreSeen) (one : OneShape) : Type 0 where
+  pub is : IsValueShape g shape
+  pub sound : Sound g shape
+  pub compiled : IsShapeCompiled g shape test before now one
 
--- the bytes of a file are this model, or come to an answer
-abbrev pub ReadsModelFile : List ℕ → List ℕ → Result FirstModel Stop → Type 0
-ReadsModelFile name file (Ok m) = EndsInJson name × ((n : Node) × IsRead JsonText n file × IsModel n m)
-ReadsModelFile name file (Err stop) = StepStops (TextStops name file) ⊥ (Unit {0}) stop
+abbrev pub MakesTable : GraphMaps → List ℕ → List ℕ → Test → StoreSeen → StoreSeen → Result OneShape Stop → Type 0
+MakesTable g name shape test before now (Ok one) = HasTableOf g shape test before now one
+MakesTable g name shape test before now (Err stop) = StepStops (ShapeSays g name shape before now) ⊥ (Unit {0}) stop
 
--- a file of the name holds this model, with its table and its names
-pub record HoldsModel (files : Option Folder) (name : List ℕ) (model : FirstModel) : Type 0 where
-  pub read : ModelRead files name
-  pub tabled : model.table ≡ table_of read.m
-  pub shaped : Shaped model.table
-  pub names : model.names.items ≡ shape_names read.m
+-- a table by which bodies can be read, once its defaults are filled
+pub record IsReady (t : TableData) (s : ℕ) (added : List (List ℕ)) : Type 0 where
+  pub shaped : Shaped t
+  pub none : HasNoDefault t
+  pub stored : AreStored t.patterns added
+  pub number : s < shape_count t
 
--- a file of the name comes to this answer, whatever the shape
-abbrev pub RefusesFile : Option Folder → List ℕ → Answer → Type 0
-RefusesFile files name a = (shape : List ℕ) → ModelAnswers files name shape a
-
--- the model that a file holds, or the answer that stands before it
-abbrev pub OpensModel : FilesSeen → FilesSeen → List ℕ → Result FirstModel Stop → Type 0
-OpensModel files files1 name (Ok model) = HoldsModel files.held name model
-OpensModel files files1 name (Err stop) = StepStops (RefusesFile files.held name) (Rose files.faults files1.faults) (Unit {0}) stop
+-- what a body comes to, as it is printed
+abbrev pub PrintsText : BodyForm → BodyForm → TableData → Test → ℕ → List ℕ → Answer → Type 0
+PrintsText near far t test s body a = (said : TextAnswer) × TextAnswers near far t test (root_place s) body said × (a ≡ printed said)
 
 -- what the input comes to for the shape s of a table, and what is left of it
-pub data InputSays (input rest : Stream) (t : Table) (s : ℕ) (a : Answer) : Type 0 where
-  beyond : (body : List ℕ) → IsInput input.bytes body → body_limit < length body → a ≡ past body_limit_line → InputSays input rest t s a
-  whole : (body : List ℕ) → IsInput input.bytes body → length body ≤ body_limit → IsAtEnd rest.bytes → TextAnswers json json t s body a
-      → InputSays input rest t s a
+pub data InputSays (near far : BodyForm) (t : TableData) (test : Test) (s : ℕ) (input rest : Stream) (a : Answer) : Type 0 where
+  beyond : (body : List ℕ) → IsInput input.bytes body → body_limit < length body → a ≡ past body_limit_line
+      → InputSays near far t test s input rest a
+  whole : (body : List ℕ) → IsInput input.bytes body → length body ≤ body_limit → IsAtEnd rest.bytes → PrintsText near far t test s body a
+      → InputSays near far t test s input rest a
 
-abbrev pub InputComesTo : Stream → Stream → Table → ℕ → Result (Vec ℕ) Stop → Type 0
-InputComesTo input rest t s result = StepComesTo (InputSays input rest t s) (Rose input.faults rest.faults) (Unit {0}) result
+abbrev pub InputComesTo : BodyForm → BodyForm → TableData → Test → ℕ → Stream → Stream → Result (Vec ℕ) Stop → Type 0
+InputComesTo near far t test s input rest result =
+    StepComesTo (InputSays near far t test s input rest) (Rose input.faults rest.faults) (Unit {0}) result
+
+-- what it comes to for a shape with its table, where the shape is served
+pub data TableSays (near far : BodyForm) (one : OneShape) (test : Test) (input rest : Stream) (a : Answer) : Type 0 where
+  left_out : (path : List ℕ) → Path Served one.served (Unserved path) → rest ≡ input → a ≡ refused (unserved_line path)
+      → TableSays near far one test input rest a
+  by_input : Path Served one.served Yes → InputSays near far (filled (table_data one.table) test) test one.shape input rest a
+      → TableSays near far one test input rest a
+
+abbrev pub TableComesTo : BodyForm → BodyForm → OneShape → Test → Stream → Stream → Result (Vec ℕ) Stop → Type 0
+TableComesTo near far one test input rest result =
+    StepComesTo (TableSays near far one test input rest) (Path Served one.served Yes × Rose input.faults rest.faults)
+    ((rest ≡ input) ⊎ Path Served one.served Yes) result

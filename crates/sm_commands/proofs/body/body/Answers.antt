@@ -1,34 +1,40 @@
-use Rattle.sm_commands.specs.Lines.{no_shape_line}
 use Rattle.sm_io.specs.Seen.{files_seen, stream}
-use Rattle.sm_commands.proofs.Bodies.{shape_within, body_crosses, body_lacks, body_stops}
+use Rattle.sm_compile.specs.Answers.{seen_store}
+use Rattle.sm_model.specs.GraphView.{maps_of}
+use Rattle.sm_commands.proofs.Bodies.{body_by, body_refuses, body_stops, table_ready}
 use Rattle.sm_commands.proofs.body.body.Goals as goal
 
 pub returns-in-Err-clause-comes : goal.returns-in-Err-clause-comes
 returns-in-Err-clause-comes g c =
     body_stops (files_seen (g.F.Files.held c.args.files.now) (g.F.Files.read_faults c.args.files.now))
-    (files_seen (g.F.Files.held c.open_model.new.files) (g.F.Files.read_faults c.open_model.new.files))
-    (stream (g.S.Source.left c.args.input.now) (g.S.Source.faults c.args.input.now)) c.args.words.model.now c.args.words.shape.now
-    c.in-Err.stop c.in-Err.ensures.opens
+    (files_seen (g.F.Files.held c.load_file.new.files) (g.F.Files.read_faults c.load_file.new.files))
+    (stream (g.S.Source.left c.args.input.now) (g.S.Source.faults c.args.input.now)) g.P.Patterns.test
+    (seen_store (g.P.Patterns.added c.args.patterns.now) (g.P.Patterns.refused c.args.patterns.now) (g.P.Patterns.refusals c.args.patterns.now))
+    c.args.words.model.now c.args.words.shape.now c.args.words.near c.args.words.far c.in-Err.stop c.in-Err.ensures.loads
 
-pub canonical_of_input-requires-clause-shape : goal.canonical_of_input-requires-clause-shape
-canonical_of_input-requires-clause-shape g c =
-    shape_within (files_seen (g.F.Files.held c.args.files.now) (g.F.Files.read_faults c.args.files.now)) c.args.words.model.now
-    c.args.words.shape.now
-    c.in-Ok.model c.in-Some.shape c.in-Ok.ensures.opens c.in-Some.ensures.0
+pub far_of_shape-requires : goal.far_of_shape-requires
+far_of_shape-requires g c =
+    table_ready (maps_of c.in-Ok.graph) c.args.words.shape.now g.P.Patterns.test
+    (seen_store (g.P.Patterns.added c.args.patterns.now) (g.P.Patterns.refused c.args.patterns.now) (g.P.Patterns.refusals c.args.patterns.now))
+    (seen_store (g.P.Patterns.added c.table_named-made.new.patterns) (g.P.Patterns.refused c.table_named-made.new.patterns) (g.P.Patterns.refusals c.table_named-made.new.patterns))
+    c.in-Ok-made.one c.in-Ok-made.ensures.makes
 
-pub returns-in-Some-clause-comes : goal.returns-in-Some-clause-comes
-returns-in-Some-clause-comes g c =
-    body_crosses (files_seen (g.F.Files.held c.args.files.now) (g.F.Files.read_faults c.args.files.now))
-    (files_seen (g.F.Files.held c.open_model.new.files) (g.F.Files.read_faults c.open_model.new.files))
-    (stream (g.S.Source.left c.args.input.now) (g.S.Source.faults c.args.input.now))
-    (stream (g.S.Source.left c.canonical_of_input.new.input) (g.S.Source.faults c.canonical_of_input.new.input))
-    c.args.words.model.now c.args.words.shape.now c.in-Ok.model c.in-Some.shape c.canonical_of_input.result c.in-Ok.ensures.opens
-    c.in-Some.ensures.0 c.canonical_of_input.ensures.comes
+pub returns-in-Ok-made-clause-comes : goal.returns-in-Ok-made-clause-comes
+returns-in-Ok-made-clause-comes g c =
+    body_by (files_seen (g.F.Files.held c.args.files.now) (g.F.Files.read_faults c.args.files.now))
+    (files_seen (g.F.Files.held c.load_file.new.files) (g.F.Files.read_faults c.load_file.new.files)) g.P.Patterns.test
+    (seen_store (g.P.Patterns.added c.args.patterns.now) (g.P.Patterns.refused c.args.patterns.now) (g.P.Patterns.refusals c.args.patterns.now))
+    (seen_store (g.P.Patterns.added c.far_of_shape.new.patterns) (g.P.Patterns.refused c.far_of_shape.new.patterns) (g.P.Patterns.refusals c.far_of_shape.new.patterns))
+    c.args.words.model.now c.args.words.shape.now c.args.words.near c.args.words.far (stream (g.S.Source.left c.args.input.now) (g.S.Source.faults c.args.input.now))
+    (stream (g.S.Source.left c.far_of_shape.new.input) (g.S.Source.faults c.far_of_shape.new.input)) c.in-Ok.graph
+    (seen_store (g.P.Patterns.added c.table_named-made.new.patterns) (g.P.Patterns.refused c.table_named-made.new.patterns) (g.P.Patterns.refusals c.table_named-made.new.patterns))
+    c.in-Ok-made.one c.far_of_shape.result c.in-Ok.ensures.loads c.in-Ok-made.ensures.makes c.far_of_shape.ensures.refusals
+    c.far_of_shape.ensures.comes
 
-pub returns-clause-comes : goal.returns-clause-comes
-returns-clause-comes g c =
-    body_lacks (files_seen (g.F.Files.held c.args.files.now) (g.F.Files.read_faults c.args.files.now))
-    (files_seen (g.F.Files.held c.open_model.new.files) (g.F.Files.read_faults c.open_model.new.files))
-    (stream (g.S.Source.left c.args.input.now) (g.S.Source.faults c.args.input.now)) c.args.words.model.now c.args.words.shape.now
-    c.in-Ok.model c.refused.result
-    c.in-Ok.ensures.opens c.in-None.ensures (c.refused.ensures (no_shape_line c.args.words.shape.now) c.line.ensures)
+pub returns-in-Err-made-clause-comes : goal.returns-in-Err-made-clause-comes
+returns-in-Err-made-clause-comes g c =
+    body_refuses (files_seen (g.F.Files.held c.args.files.now) (g.F.Files.read_faults c.args.files.now))
+    (files_seen (g.F.Files.held c.load_file.new.files) (g.F.Files.read_faults c.load_file.new.files)) g.P.Patterns.test
+    (seen_store (g.P.Patterns.added c.args.patterns.now) (g.P.Patterns.refused c.args.patterns.now) (g.P.Patterns.refusals c.args.patterns.now))
+    (seen_store (g.P.Patterns.added c.table_named-made.new.patterns) (g.P.Patterns.refused c.table_named-made.new.patterns) (g.P.Patterns.refusals c.table_named-made.new.patterns))
+    c.args.words.model.now c.args.words.shape.now c.args.words.near c.args.words.far (stream (g.S.Source.left c.args.input.now) (g.S.Source.faults c.args.input.now)) c.in-Ok.graph c.in-Err-made.stop c.in-Ok.ensures.loads c.in-Err-made.ensures.makes

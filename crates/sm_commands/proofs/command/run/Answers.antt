@@ -1,5 +1,6 @@
 use Rattle.sm_io.specs.Seen.{files_seen, stream}
-use Rattle.sm_commands.specs.Outside.{Outside}
+use Rattle.sm_compile.specs.Answers.{seen_store}
+use Rattle.sm_commands.specs.Outside.{Outside, inputs_seen}
 use Rattle.sm_commands.specs.steps.Asked.{command_of}
 use Rattle.sm_commands.proofs.Runs.{command_runs, files_kept}
 use Rattle.sm_commands.proofs.command.run.Goals as goal
@@ -10,13 +11,18 @@ come_to-came-requires g c = λ name among. c.requires (command_of c.in-Some.form
 pub returns-in-Some-clause-answers : goal.returns-in-Some-clause-answers
 returns-in-Some-clause-answers g c =
     let before : Outside = record {
-      files = files_seen (g.F.Files.held c.args.files.now) (g.F.Files.read_faults c.args.files.now);
-      input = stream (g.S.Source.left c.args.input.now) (g.S.Source.faults c.args.input.now);
+      inputs =
+          inputs_seen (files_seen (g.F.Files.held c.args.files.now) (g.F.Files.read_faults c.args.files.now))
+          (stream (g.S.Source.left c.args.input.now) (g.S.Source.faults c.args.input.now)) g.P.Patterns.test
+          (seen_store (g.P.Patterns.added c.args.patterns.now) (g.P.Patterns.refused c.args.patterns.now) (g.P.Patterns.refusals c.args.patterns.now));
       output = stream (g.K.Sink.written c.args.out.now) (g.K.Sink.faults c.args.out.now);
     } in
     let after : Outside = record {
-      files = files_seen (g.F.Files.held c.come_to-came.new.files) (g.F.Files.read_faults c.come_to-came.new.files);
-      input = stream (g.S.Source.left c.come_to-came.new.input) (g.S.Source.faults c.come_to-came.new.input);
+      inputs =
+          inputs_seen (files_seen (g.F.Files.held c.come_to-came.new.files) (g.F.Files.read_faults c.come_to-came.new.files))
+          (stream (g.S.Source.left c.come_to-came.new.input) (g.S.Source.faults c.come_to-came.new.input)) g.P.Patterns.test
+          (seen_store (g.P.Patterns.added c.come_to-came.new.patterns) (g.P.Patterns.refused c.come_to-came.new.patterns)
+          (g.P.Patterns.refusals c.come_to-came.new.patterns));
       output = stream (g.K.Sink.written c.print.new.out) (g.K.Sink.faults c.print.new.out);
     } in
     command_runs c.args.words.now before after (command_of c.in-Some.form) c.come_to-came.result c.print.result c.code.result

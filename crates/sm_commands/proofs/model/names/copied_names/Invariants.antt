@@ -1,5 +1,0 @@
-use Rattle.std.proofs.Common.{◌≡◌, map, take}
-use Rattle.sm_commands.proofs.model.names.copied_names.Given as goal
-
-abbrev pub invariant-loop-pair : goal.invariant-loop-pair
-invariant-loop-pair l = l.names.items ≡ map (λ p. p.0) (take l.pair-index l.pairs)
