@@ -1,6 +1,6 @@
 // What only tests say of commands: that a pattern that the store refuses ends a run where memory is ample, with the first id that carries it.
 use sm_commands::run;
-use sm_io::{MemFiles, MemSink, MemSource};
+use sm_io::{Files, MemFiles, MemSink, MemSource};
 use sm_shapes::LiteralPatterns;
 use sm_tree::{NoMemory, Text};
 use std::alloc::Global;
