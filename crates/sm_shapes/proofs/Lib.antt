@@ -9,3 +9,4 @@ pub mod PatternNumbers
 pub mod FirstBroken
 pub mod DefaultsPut
 pub mod SortedTwice
+mod KnownValues

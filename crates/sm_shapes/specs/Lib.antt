@@ -8,6 +8,7 @@ pub mod Values
 pub mod ValueView
 pub mod ValueOrder
 pub mod FieldPuts
+pub mod SharedView
 pub mod TableData
 pub mod ConstraintView
 pub mod TableView

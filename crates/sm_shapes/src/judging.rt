@@ -1,5 +1,5 @@
 // Values judged by constraints: the first that a value breaks.
-ghost use Rattle.std.specs.Prelude.{◌≡◌, ◌++◌, length, pos, IfOk};
+ghost use Rattle.std.specs.Prelude.{◌≡◌, ◌++◌, ◌||◌, is_some, length, pos, IfOk};
 ghost use Rattle.std.specs.List.{list_any};
 ghost use Rattle.std.specs.Str.{bytes_eq, chars};
 ghost use Rattle.sm_shapes.specs.Broken.{is_at_least, is_at_most, first_broken, broken, length_broken, range_broken, pattern_broken, text_broken, number_broken};
@@ -14,7 +14,7 @@ use crate::kinds::ShapeKind;
 use crate::tables::Table;
 use crate::values::Value;
 use crate::{FaultKind, Patterns};
-use sm_tree::{NoMemory, Text};
+use sm_tree::NoMemory;
 
 impl Constraints {
     /// `Length` where a length lies outside the bounds. No memory.
@@ -37,7 +37,7 @@ impl Constraints {
         }
         match kind {
             ShapeKind::IntEnum => {
-                if self.numbers.as_slice().contains(&number) {
+                if self.numbers.has(number) {
                     None
                 } else {
                     Some(FaultKind::Enum)
@@ -53,7 +53,7 @@ impl Constraints {
     {
         match kind {
             ShapeKind::Enum => {
-                if is_one_of(self.texts.as_slice(), text) {
+                if self.texts.has(text) {
                     None
                 } else {
                     Some(FaultKind::Enum)
@@ -87,11 +87,22 @@ impl Constraints {
         }
     }
 
-    /// `Length` of a text: its Unicode scalar values count. No memory.
+    // Whether a bound is there.
+    fn is_bounded(&self) -> bool
+        ensures { result ≡ is_some self.now.min || is_some self.now.max }
+    {
+        self.min.is_some() || self.max.is_some()
+    }
+
+    /// `Length` of a text: its Unicode scalar values count, and are counted where a bound is there. No memory.
     pub fn judge_chars(&self, text: &str) -> Option<FaultKind>
         ensures { result ≡ first_broken (length_broken (constraint_data self.now) (length (chars text.now))) }
     {
-        self.judge_length(text.chars().count())
+        if self.is_bounded() {
+            self.judge_length(text.chars().count())
+        } else {
+            None
+        }
     }
 
     // `Pattern`, else `Enum`.
@@ -162,18 +173,6 @@ impl Constraints {
             _ => Ok(None),
         }
     }
-}
-
-// Whether the text is one of these.
-fn is_one_of(texts: &[Text], text: &str) -> bool
-    ensures { result ≡ list_any (λ w. bytes_eq w text.now) texts.now }
-{
-    for one in texts {
-        if one.as_str() == text {
-            return true;
-        }
-    }
-    false
 }
 
 // Whether a length reaches the least one.

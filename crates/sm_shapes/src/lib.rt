@@ -4,6 +4,7 @@
 
 mod any_patterns;
 pub mod constraints;
+mod enums;
 mod fault;
 mod judging;
 pub mod kinds;
