@@ -46,7 +46,7 @@ fn texts_of(alloc: Global, said: &Tree) -> Result<Texts, NoMemory> {
             texts.push(Text::copy(alloc, text.as_str())?)?;
         }
     }
-    Ok(Texts::new(texts))
+    Texts::new(alloc, texts)
 }
 
 fn numbers_of(alloc: Global, said: &Tree) -> Result<Numbers, NoMemory> {
@@ -56,7 +56,7 @@ fn numbers_of(alloc: Global, said: &Tree) -> Result<Numbers, NoMemory> {
             numbers.push(*number)?;
         }
     }
-    Ok(Numbers::new(numbers))
+    Numbers::new(alloc, numbers)
 }
 
 // The number of the pattern that is said, which is put behind those before.

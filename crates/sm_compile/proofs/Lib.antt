@@ -29,6 +29,7 @@ mod Blocks
 mod ReadyRows
 mod OrderedMembers
 mod RowsPut
+mod ValuesShared
 mod MemberNames
 mod ShapeRows
 mod ShapedTables

@@ -9,6 +9,7 @@ pub mod Walking
 pub mod Rows
 pub mod Tabling
 pub mod Numbered
+pub mod Valued
 pub mod Placing
 pub mod Making
 pub mod Tests

@@ -26,6 +26,7 @@ mod tabled;
 mod traits;
 mod unserved;
 mod uri;
+mod values;
 mod way;
 
 pub use compile::compile_shape;

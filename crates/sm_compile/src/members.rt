@@ -9,10 +9,12 @@ ghost use Rattle.sm_shapes.specs.TableView.{member_data};
 ghost use Rattle.sm_compile.specs.Compiled.{IsUnboundMember, SaysMember, members_under};
 ghost use Rattle.sm_compile.specs.steps.Numbered.{AreMemberRows, numbering};
 ghost use Rattle.sm_compile.specs.steps.Placing.{AreParts};
+ghost use Rattle.sm_compile.specs.steps.Valued.{AreValues};
 
 use crate::numbering::value_members;
 use crate::parts::{Parts, name_at};
 use crate::rows::member_row;
+use crate::values::values_in;
 use sm_ids::ShapeIdRef;
 use sm_model::Graph;
 use sm_shapes::tables::TableMember;
@@ -26,6 +28,7 @@ pub(crate) fn member_rows(
 ) -> Result<Vec<TableMember>, NoMemory>
     requires few { length parts.now.shapes.now < 2 ^ 32 }
     requires parts { AreParts parts.now.graph.now parts.now.shapes.now parts.now.carried.now parts.now.patterns.now }
+    requires values { AreValues parts.now.graph.now parts.now.shapes.now parts.now.values.now }
     ensures rows { IfOk result (λ rows. AreMemberRows (maps_of parts.now.graph.now) parts.now.patterns.now
         (numbering parts.now.graph.now parts.now.shapes.now) (length parts.now.shapes.now) (map member_data rows.items)) }
     ensures few { IfOk result (λ rows. length rows.items < 2 ^ 32) }
@@ -48,6 +51,7 @@ fn put_members(
     rows: &mut Vec<TableMember>,
 ) -> Result<(), NoMemory>
     requires parts { AreParts parts.now.graph.now parts.now.shapes.now parts.now.carried.now parts.now.patterns.now }
+    requires values { AreValues parts.now.graph.now parts.now.shapes.now parts.now.values.now }
     requires home { home_row < length parts.now.shapes.now }
     requires rows { AreMemberRows (maps_of parts.now.graph.now) parts.now.patterns.now
         (numbering parts.now.graph.now parts.now.shapes.now) home_row (map member_data rows.old.items) }
@@ -70,6 +74,7 @@ fn row_of(
     member: u32,
 ) -> Result<TableMember, NoMemory>
     requires parts { AreParts parts.now.graph.now parts.now.shapes.now parts.now.carried.now parts.now.patterns.now }
+    requires values { AreValues parts.now.graph.now parts.now.shapes.now parts.now.values.now }
     requires home { home_row < length parts.now.shapes.now }
     requires member { IsShapeNumber parts.now.graph.now member }
     requires among { Contains
@@ -87,7 +92,8 @@ fn row_of(
     let name = name_at(parts.graph, parts.shapes[home_row as usize], member);
     let pattern = parts.pattern_at(member, Some(place.target), place.target_kind);
     spelled(parts.graph, member);
-    let row = member_row(alloc, parts.graph, place, name, pattern)?;
+    let values = values_in(parts.values, place.target_row as usize);
+    let row = member_row(alloc, parts.graph, place, name, values, pattern)?;
     name_utf8(&row);
     json_name_utf8(&row);
     Ok(row)

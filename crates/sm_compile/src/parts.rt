@@ -22,6 +22,7 @@ use crate::names::member_name;
 use crate::patterns::{CarriedTexts, pattern_number};
 use crate::rows::MemberPlace;
 use crate::seen::Seen;
+use crate::values::EnumValues;
 use sm_model::{Graph, Kind};
 use sm_tree::Text;
 
@@ -36,6 +37,8 @@ pub(crate) struct Parts<'a, 'g> {
     pub carried: &'a CarriedTexts<'g>,
     /// The same with their numbers in the store.
     pub patterns: &'a [(u32, Text)],
+    /// The values of the shapes, in the same order.
+    pub values: &'a [EnumValues],
 }
 
 /// The type of a shape.

@@ -6,13 +6,16 @@ ghost use Rattle.sm_tree.specs.View.{node_of};
 ghost use Rattle.sm_model.specs.GraphView.{IsShapeNumber, maps_of};
 ghost use Rattle.sm_model.specs.PreludeShapes.{unit_id};
 ghost use Rattle.sm_model.specs.Reaching.{id_of_number};
+ghost use Rattle.sm_compile.specs.steps.Looked.{listed_under};
 ghost use Rattle.sm_compile.specs.steps.Rows.{AreNumbers, MemberPlaced, TellsMember, TellsShape};
+ghost use Rattle.sm_compile.specs.steps.Valued.{HasValues};
 
 use crate::defaults::default_node;
 use crate::kinds::table_kind;
-use crate::look::{id_text, members_of, trait_node};
+use crate::look::{id_text, trait_node};
 use crate::seen::{Seen, has_trait};
 use crate::traits::text_in_trait;
+use crate::values::EnumValues;
 use sm_model::{Graph, Kind};
 use sm_shapes::MemberNumbers;
 use sm_shapes::tables::{TableMember, TableShape};
@@ -32,16 +35,18 @@ pub(crate) struct MemberOrders {
     pub needed: Vec<u32>,
 }
 
-/// The row of a shape of this type.
+/// The row of a shape of this type, with its values where it is an enum.
 pub(crate) fn shape_row(
     alloc: Global,
     graph: &Graph,
     shape: u32,
     kind: Kind,
     orders: MemberOrders,
+    values: &EnumValues,
     pattern: Option<u32>,
 ) -> Result<TableShape, NoMemory>
-    requires { IsShapeNumber graph.now shape }
+    requires shape { IsShapeNumber graph.now shape }
+    requires values { HasValues (maps_of graph.now) kind (listed_under (maps_of graph.now) (id_of_number graph.now shape)) values.now }
     ensures told { IfOk result (λ row. TellsShape graph.now shape kind row) }
     ensures numbers { IfOk result (λ row. AreNumbers orders row) }
     ensures pattern { IfOk result (λ row. row.constraints.pattern ≡ pattern) }
@@ -57,7 +62,7 @@ pub(crate) fn shape_row(
         by_json_name,
         needed,
     } = orders;
-    let constraints = seen.constraints(alloc, kind, members_of(graph, shape), pattern)?;
+    let constraints = seen.constraints(kind, values.share()?, pattern);
     Ok(TableShape {
         kind: table_kind(kind),
         members: MemberNumbers::new(members),
@@ -97,16 +102,19 @@ pub(crate) struct MemberPlace {
     pub target_row: u32,
 }
 
-/// The row of a member of this name.
+/// The row of a member of this name, with the values of its target.
 pub(crate) fn member_row(
     alloc: Global,
     graph: &Graph,
     place: MemberPlace,
     name: &str,
+    values: &EnumValues,
     pattern: Option<u32>,
 ) -> Result<TableMember, NoMemory>
     requires member { IsShapeNumber graph.now place.member }
     requires target { IsShapeNumber graph.now place.target }
+    requires values { HasValues (maps_of graph.now) place.target_kind
+        (listed_under (maps_of graph.now) (id_of_number graph.now place.target)) values.now }
     ensures told { IfOk result (λ row. TellsMember graph.now place row) }
     ensures placed { IfOk result (λ row. MemberPlaced place row) }
     ensures name { IfOk result (λ row. row.name ≡ name.now) }
@@ -117,8 +125,7 @@ pub(crate) fn member_row(
         own: place.member,
         target: Some(place.target),
     };
-    let members = members_of(graph, place.target);
-    let constraints = seen.constraints(alloc, place.target_kind, members, pattern)?;
+    let constraints = seen.constraints(place.target_kind, values.share()?, pattern);
     let node = default_node(
         alloc,
         graph,

@@ -1,23 +1,22 @@
 // The traits that are seen at a shape, or at a member with its target, and what they say of values.
-ghost use Rattle.std.specs.Prelude.{◌≡◌, IfOk, is_some, map};
+ghost use Rattle.std.specs.Prelude.{◌≡◌, is_some};
 ghost use Rattle.std.specs.Option.{ForSome, option_copied, option_map};
 ghost use Rattle.sm_tree.specs.View.{node_of};
-ghost use Rattle.sm_model.specs.GraphView.{AreShapeNumbers, IsShapeNumber, maps_of};
+ghost use Rattle.sm_model.specs.GraphView.{IsShapeNumber, maps_of};
 ghost use Rattle.sm_model.specs.Reaching.{id_of_number};
-ghost use Rattle.sm_compile.specs.Said.{bounds_seen, format_seen, numbers_said, pattern_seen, texts_said};
+ghost use Rattle.sm_compile.specs.Said.{bounds_seen, format_seen, pattern_seen};
 ghost use Rattle.sm_compile.specs.Sound.{trait_of};
-ghost use Rattle.sm_compile.specs.steps.Naming.{texts_of_all};
-ghost use Rattle.sm_compile.specs.steps.Seeing.{TellConstraints, is_bound_under, traits_seen};
+ghost use Rattle.sm_compile.specs.TraitNodes.{least_of, most_of};
+ghost use Rattle.sm_compile.specs.steps.Seeing.{is_bound_under, traits_seen};
 
-use crate::enums::{enum_numbers, enum_texts};
 use crate::kinds::{has_length, is_text_kind, is_whole_kind};
 use crate::look::trait_node;
 use crate::traits::{bound_of, format_of, text_in_trait};
+use crate::values::EnumValues;
 use sm_model::{Graph, Kind};
-use sm_shapes::constraints::{Constraints, Numbers, Texts};
+use sm_shapes::constraints::Constraints;
 use sm_time::Format;
-use sm_tree::{NoMemory, Text, Tree};
-use std::alloc::Global;
+use sm_tree::Tree;
 
 /// The traits of what has a number, and behind them those of a member's target.
 #[derive(Clone, Copy, Drop)]
@@ -77,73 +76,28 @@ impl<'a> Seen<'a> {
         format_of(self.value("smithy.api#timestampFormat"))
     }
 
-    /// The constraints of values of a shape of this type, with these members and this pattern.
+    /// The constraints of values of a type, with these values of an enum and this pattern.
     pub(crate) fn constraints(
         &self,
-        alloc: Global,
         kind: Kind,
-        members: &[u32],
+        values: EnumValues,
         pattern: Option<u32>,
-    ) -> Result<Constraints, NoMemory>
-        requires { AreShapeNumbers self.now.graph.now members.now }
-        ensures told { IfOk result (λ c. TellConstraints (maps_of self.now.graph.now) kind
-            (map (id_of_number self.now.graph.now) members.now)
-            (traits_seen self.now.graph.now self.now.own self.now.target) c) }
-        ensures pattern { IfOk result (λ c. c.pattern ≡ pattern) }
+    ) -> Constraints
+        ensures min { result.min ≡ least_of (bounds_seen kind (traits_seen self.now.graph.now self.now.own self.now.target)) }
+        ensures max { result.max ≡ most_of (bounds_seen kind (traits_seen self.now.graph.now self.now.own self.now.target)) }
+        ensures texts { result.texts ≡ values.texts }
+        ensures numbers { result.numbers ≡ values.numbers }
+        ensures pattern { result.pattern ≡ pattern }
     {
         let bounds = self.bounds(kind);
-        let texts = texts_of(alloc, self.graph, kind, members)?;
-        let numbers = numbers_of(alloc, self.graph, kind, members)?;
-        Ok(Constraints {
+        let EnumValues { texts, numbers } = values;
+        Constraints {
             min: bound_of(bounds, "min"),
             max: bound_of(bounds, "max"),
             pattern,
-            texts: Texts::new(texts),
-            numbers: Numbers::new(numbers),
-        })
-    }
-}
-
-// The values of an enum.
-fn texts_of(
-    alloc: Global,
-    graph: &Graph,
-    kind: Kind,
-    members: &[u32],
-) -> Result<Vec<Text>, NoMemory>
-    requires { AreShapeNumbers graph.now members.now }
-    ensures { IfOk result (λ texts. texts.items ≡ texts_said (maps_of graph.now) kind (map (id_of_number graph.now) members.now)) }
-{
-    match kind {
-        Kind::Enum => copies(alloc, enum_texts(alloc, graph, members)?.as_slice()),
-        _ => Ok(Vec::new(alloc)),
-    }
-}
-
-// Copies of texts.
-fn copies(alloc: Global, texts: &[&str]) -> Result<Vec<Text>, NoMemory>
-    ensures { IfOk result (λ all. all.items ≡ texts_of_all texts.now) }
-{
-    let mut all = Vec::with_capacity(alloc, texts.len())?;
-    for text in texts {
-        all.push(Text::copy(alloc, *text)?)?;
-    }
-    Ok(all)
-}
-
-// The values of an intEnum.
-fn numbers_of(
-    alloc: Global,
-    graph: &Graph,
-    kind: Kind,
-    members: &[u32],
-) -> Result<Vec<i64>, NoMemory>
-    requires { AreShapeNumbers graph.now members.now }
-    ensures { IfOk result (λ numbers. numbers.items ≡ numbers_said (maps_of graph.now) kind (map (id_of_number graph.now) members.now)) }
-{
-    match kind {
-        Kind::IntEnum => enum_numbers(alloc, graph, members),
-        _ => Ok(Vec::new(alloc)),
+            texts,
+            numbers,
+        }
     }
 }
 

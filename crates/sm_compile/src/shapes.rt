@@ -5,11 +5,13 @@ ghost use Rattle.sm_model.specs.Reaching.{id_of_number};
 ghost use Rattle.sm_shapes.specs.TableView.{member_data, shape_data};
 ghost use Rattle.sm_compile.specs.steps.Numbered.{AreMemberRows, EachAt, IsShapeRow, count_of_shape, first_of_shape, numbering};
 ghost use Rattle.sm_compile.specs.steps.Placing.{AreParts};
+ghost use Rattle.sm_compile.specs.steps.Valued.{AreValues};
 
 use crate::numbering::value_members;
 use crate::orders::orders;
 use crate::parts::{Parts, kind_at};
 use crate::rows::shape_row;
+use crate::values::values_in;
 use sm_shapes::tables::{TableMember, TableShape};
 use sm_tree::NoMemory;
 use std::alloc::Global;
@@ -21,6 +23,7 @@ pub(crate) fn shape_rows(
     members: &[TableMember],
 ) -> Result<Vec<TableShape>, NoMemory>
     requires parts { AreParts parts.now.graph.now parts.now.shapes.now parts.now.carried.now parts.now.patterns.now }
+    requires values { AreValues parts.now.graph.now parts.now.shapes.now parts.now.values.now }
     requires few { length members.now < 2 ^ 32 }
     requires rows { AreMemberRows (maps_of parts.now.graph.now) parts.now.patterns.now
         (numbering parts.now.graph.now parts.now.shapes.now) (length parts.now.shapes.now) (map member_data members.now) }
@@ -62,6 +65,7 @@ fn row_of(
     count: usize,
 ) -> Result<TableShape, NoMemory>
     requires parts { AreParts parts.now.graph.now parts.now.shapes.now parts.now.carried.now parts.now.patterns.now }
+    requires values { AreValues parts.now.graph.now parts.now.shapes.now parts.now.values.now }
     requires few { length members.now < 2 ^ 32 }
     requires rows { AreMemberRows (maps_of parts.now.graph.now) parts.now.patterns.now
         (numbering parts.now.graph.now parts.now.shapes.now) (length parts.now.shapes.now) (map member_data members.now) }
@@ -75,6 +79,7 @@ fn row_of(
     let kind = kind_at(parts.graph, shape);
     let pattern = parts.pattern_at(shape, None, kind);
     let ordered = orders(alloc, members, first, count)?;
-    let made = shape_row(alloc, parts.graph, shape, kind, ordered, pattern)?;
+    let values = values_in(parts.values, row);
+    let made = shape_row(alloc, parts.graph, shape, kind, ordered, values, pattern)?;
     Ok(made)
 }

@@ -15,6 +15,7 @@ use crate::parts::Parts;
 use crate::patterns::{CarriedTexts, carried_texts};
 use crate::shapes::shape_rows;
 use crate::storing::store_all;
+use crate::values::values_of_shapes;
 use sm_model::Graph;
 use sm_shapes::Patterns;
 use sm_shapes::tables::{MemberRows, PatternRows, ShapeRows, Table, TableMember, TableShape};
@@ -73,11 +74,13 @@ fn table_of(
     requires { AreParts graph.now shapes.now carried.now patterns.items }
     ensures { IfOk result (λ t. IsMade graph.now shapes.now patterns.items (table_data t)) }
 {
+    let values = values_of_shapes(alloc, graph, shapes)?;
     let parts = Parts {
         graph,
         shapes,
         carried,
         patterns: patterns.as_slice(),
+        values: values.as_slice(),
     };
     let members = member_rows(alloc, &parts)?;
     let rows = shape_rows(alloc, &parts, members.as_slice())?;

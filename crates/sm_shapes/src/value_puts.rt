@@ -32,7 +32,23 @@ impl Fields {
     }
 }
 
+impl Fields {
+    /// Gives back the room that no field takes. No memory.
+    pub fn shrink(&mut self)
+        ensures { fields_view self.new ≡ fields_view self.old }
+    {
+        self.fields.shrink_to_fit();
+    }
+}
+
 impl Items {
+    /// Gives back the room that no entry takes. No memory.
+    pub fn shrink(&mut self)
+        ensures { items_view self.new ≡ items_view self.old }
+    {
+        self.items.shrink_to_fit();
+    }
+
     /// Puts an entry behind the others. `NoMemory` where it finds no room.
     pub fn push(&mut self, value: Value) -> Result<(), NoMemory>
         ensures { OnOk result (items_view self.new ≡ items_view self.old ++ val_of value ∷ []) }

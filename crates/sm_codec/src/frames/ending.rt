@@ -162,7 +162,10 @@ fn with_defaults(
 {
     let mut fields = fields;
     match put_defaults(alloc, table, members, &mut fields) {
-        Ok(()) => Ok(Outcome::Good(Value::Structure(fields))),
+        Ok(()) => {
+            fields.shrink();
+            Ok(Outcome::Good(Value::Structure(fields)))
+        }
         Err(refusal) => Err(refusal),
     }
 }

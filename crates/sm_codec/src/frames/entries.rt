@@ -111,7 +111,11 @@ fn without_fault(
         Some(kind) => Ok(Outcome::Bad(fault_here(alloc, kind))),
         None => match has_equal(alloc, unique, &items) {
             Ok(true) => Ok(Outcome::Bad(fault_here(alloc, FaultKind::Unique))),
-            Ok(false) => Ok(Outcome::Good(Value::List(items))),
+            Ok(false) => {
+                let mut items = items;
+                items.shrink();
+                Ok(Outcome::Good(Value::List(items)))
+            }
             Err(refusal) => Err(refusal),
         },
     }

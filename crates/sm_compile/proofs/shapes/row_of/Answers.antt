@@ -1,4 +1,4 @@
-use Rattle.std.proofs.Common.{map, subst, sym, arith}
+use Rattle.std.proofs.Common.{get_or, map, refl, subst, sym, arith}
 use Rattle.std.proofs.lemmas.List.{length-map}
 use Rattle.sm_model.specs.GraphView.{maps_of}
 use Rattle.sm_shapes.specs.Names.{AllDiffer}
@@ -9,6 +9,7 @@ use Rattle.sm_compile.specs.steps.Numbered.{AreOrders, count_of_shape, first_of_
 use Rattle.sm_compile.proofs.MemberNames.{json_names_there_differ, names_there_differ, within_rows}
 use Rattle.sm_compile.proofs.ReadyRows.{ready_shape, shape_kind}
 use Rattle.sm_compile.proofs.ShapeRows.{own_among, shape_row_told}
+use Rattle.sm_compile.proofs.ValuesShared.{in_row}
 use Rattle.sm_compile.proofs.shapes.row_of.Goals as goal
 
 pub kind_at-kind-requires-clause-number : goal.kind_at-kind-requires-clause-number
@@ -59,8 +60,14 @@ orders-requires-clause-json_names c =
     (json_names_there_differ c.args.parts.now.graph.now c.args.parts.now.shapes.now (texts_in c.args.parts.now.carried.now)
     c.requires.parts.ready c.args.parts.now.patterns.now (map member_data c.args.members.now) c.requires.rows c.args.row c.requires.row))
 
-pub shape_row-requires : goal.shape_row-requires
-shape_row-requires c =
+pub shape_row-requires-clause-values : goal.shape_row-requires-clause-values
+shape_row-requires-clause-values c =
+    in_row c.args.parts.now.graph.now c.args.parts.now.shapes.now c.args.parts.now.values.now c.args.row
+    (get_or c.args.parts.now.shapes.now c.args.row 0) c.kind_at-kind.result c.values_in-values.result.now c.requires.values
+    c.values_in-values.ensures refl c.kind_at-kind.ensures
+
+pub shape_row-requires-clause-shape : goal.shape_row-requires-clause-shape
+shape_row-requires-clause-shape c =
     (ready_shape c.args.parts.now.graph.now c.args.parts.now.shapes.now (texts_in c.args.parts.now.carried.now) c.requires.parts.ready c.args.row
     c.requires.row).number
 
