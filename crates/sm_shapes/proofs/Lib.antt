@@ -1,4 +1,3 @@
-pub mod Views
 pub mod Literals
 pub mod SameVals
 pub mod ValueViews

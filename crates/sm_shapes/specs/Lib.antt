@@ -1,8 +1,4 @@
-pub mod Val
-pub mod View
 pub mod Names
-pub mod Tables
-pub mod Fits
 pub mod FaultWords
 pub mod Values
 pub mod ValueView
@@ -20,4 +16,3 @@ pub mod Patterns
 pub mod Literals
 pub mod LiteralStore
 pub mod AnyStore
-pub mod steps

@@ -12,10 +12,8 @@ mod literal_patterns;
 mod order;
 mod patterns;
 mod rows;
-mod table;
 pub mod tables;
 mod twice;
-mod value;
 mod value_puts;
 pub mod values;
 
@@ -23,6 +21,4 @@ pub use any_patterns::AnyPatterns;
 pub use fault::{Fault, FaultKind};
 pub use literal_patterns::LiteralPatterns;
 pub use patterns::{PatternRefusal, Patterns};
-pub use rows::{MemberNumbers, TableMembers, TableShapes};
-pub use table::{ShapeKind, Table, TableMember, TableShape};
-pub use value::{Fields, Value};
+pub use rows::MemberNumbers;
