@@ -8,3 +8,4 @@ pub mod PatternNumbers
 pub mod FirstBroken
 pub mod DefaultsPut
 pub mod SortedTwice
+pub mod Regexes

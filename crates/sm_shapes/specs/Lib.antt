@@ -16,3 +16,5 @@ pub mod Patterns
 pub mod Literals
 pub mod LiteralStore
 pub mod AnyStore
+pub mod Regexes
+pub mod RegexStore
