@@ -1,4 +1,3 @@
-pub mod Views
 pub mod Literals
 pub mod SameVals
 pub mod ValueViews
@@ -10,3 +9,4 @@ pub mod FirstBroken
 pub mod DefaultsPut
 pub mod SortedTwice
 mod KnownValues
+pub mod Regexes

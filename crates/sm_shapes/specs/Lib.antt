@@ -1,8 +1,4 @@
-pub mod Val
-pub mod View
 pub mod Names
-pub mod Tables
-pub mod Fits
 pub mod FaultWords
 pub mod Values
 pub mod ValueView
@@ -21,4 +17,5 @@ pub mod Patterns
 pub mod Literals
 pub mod LiteralStore
 pub mod AnyStore
-pub mod steps
+pub mod Regexes
+pub mod RegexStore
