@@ -21,7 +21,11 @@ HasValuesOf g k v =
     (kind : Kind) → kind_under (maps_of g) (id_of_number g k) ≡ Some kind
     → HasValues (maps_of g) kind (listed_under (maps_of g) (id_of_number g k)) v
 
+-- those of the shape at a place
+abbrev pub HasValuesAt : Graph → List ℕ → ℕ → EnumValues → Type 0
+HasValuesAt g shapes k v = HasValuesOf g (get_or shapes k 0) v
+
 -- those of each of these shapes
 pub record AreValues (g : Graph) (shapes : List ℕ) (values : List EnumValues) : Type 0 where
   pub long : length values ≡ length shapes
-  pub each : EachAt (λ k v. HasValuesOf g (get_or shapes k 0) v) values
+  pub each : EachAt (HasValuesAt g shapes) values

@@ -1,8 +1,7 @@
 use Rattle.std.proofs.Common.{get_or, subst, sym, arith}
 use Rattle.std.proofs.lemmas.List.Elements.{Contains-get_or}
-use Rattle.sm_compile.specs.declared.values.EnumValues.{EnumValues}
 use Rattle.sm_compile.specs.steps.Numbered.{EachAt}
-use Rattle.sm_compile.specs.steps.Valued.{HasValuesOf}
+use Rattle.sm_compile.specs.steps.Valued.{HasValuesAt}
 use Rattle.sm_compile.proofs.Blocks.{each_more}
 use Rattle.sm_compile.proofs.ReachedNumbers.{each_number}
 use Rattle.sm_compile.proofs.RowsPut.{one_longer}
@@ -20,7 +19,7 @@ loop-shape-preserved c =
     let shapes = c.args.shapes.now in
     let at = c.loop-shape in
     let v = c.in_ok-values_at.field-0 in
-    let Says = λ k (d : EnumValues). HasValuesOf g (get_or shapes k 0) d in
+    let Says = HasValuesAt g shapes in
     let put = c.in_ok-push.ensures.items in
     let longer = one_longer at.values.items c.push.new.self.items v put in
     record {
