@@ -1,6 +1,6 @@
 -- Events that are sorted, and of which each is kept once.
 use Rattle.std.proofs.Common.{◌≡◌, ◌<◌, ◌+◌, ℕ, Bool, true, false, cond, List, [], ◌∷◌, length, get_or, IsPermutation, IsSortedBy, refl}
-use Rattle.std.proofs.Common.{sym, ap, subst, ◌∙◌, arith}
+use Rattle.std.proofs.Common.{inl, inr, sym, ap, subst, ◌∙◌, arith}
 use Rattle.std.specs.List.{AllByRecursion, Contains, dedup, dedup_from}
 use Rattle.std.specs.List.Sorted.{IsSorted, IsStrictlySortedBy}
 use Rattle.std.specs.FinMap.{slice_cmp-IsAntisymmetric, nat_cmp-IsAntisymmetric}
@@ -15,7 +15,8 @@ use Rattle.std.proofs.lemmas.List.Sorted.{Contains-permutation, IsPermutation-ma
 use Rattle.sm_model.specs.EventView.{AreErrors, AreInOrder, EventTold, IsBeforeAll, event_cmp, event_view, events_view}
 use Rattle.sm_model.specs.Graphs.{text_cmp}
 use Rattle.sm_model.specs.declared.event.ModelEvent.{ModelEvent}
-use Rattle.sm_model.proofs.Moved.{along_permutation}
+use Rattle.sm_model.specs.declared.event.Severity.TheVariants.{Error}
+use Rattle.sm_model.proofs.OneRising.{contains_behind, contains_either, contains_head, contains_none}
 use Rattle.sm_merge.specs.steps.EventLists.{HaveSameEvents}
 use Rattle.sm_merge.proofs.OneList.{event_order}
 
@@ -102,23 +103,19 @@ same_events es fs gs moved is e =
           (Contains-from_dedup same_told (events_view fs) e (subst (λ l. Contains l e) all has)),
     )
 
--- and each is an error still
-moved_errors : (es fs : List ModelEvent) → IsPermutation es fs → AreErrors es → AreErrors fs
-moved_errors = along_permutation (λ es fs. AreErrors es → AreErrors fs) (λ es h. h) (λ e es fs keep h. (h.0, keep h.1))
-    (λ e f es h. (h.1.0, (h.0, h.1.1))) (λ es fs gs first second h. second (first h))
+-- and each is one of them
+pub kept_events : (es fs gs : List ModelEvent) → IsPermutation es fs → gs ≡ dedup same fs → (e : ModelEvent) → Contains gs e → Contains es e
+kept_events es fs gs moved is e h =
+    Contains-permutation fs es e (IsPermutation-sym es fs moved) (Contains-from_dedup same fs e (subst (λ l. Contains l e) is h))
 
-kept_errors : (e : ModelEvent) (es : List ModelEvent) → AreErrors (e ∷ es) → AreErrors (dedup_from same e es)
-kept_errors e [] h = h
-kept_errors e (f ∷ es) h = by_test (kept_errors e es (h.0, h.1.1)) (kept_errors f es h.1) (same f e)
-  where
-    by_test : AreErrors (dedup_from same e es) → AreErrors (dedup_from same f es) → (b : Bool)
-        → AreErrors (cond b (dedup_from same e es) (e ∷ dedup_from same f es))
-    by_test first second true = first
-    by_test first second false = (h.0, second)
+-- so it is an error where all are
+error_among : (es : List ModelEvent) (e : ModelEvent) → AreErrors es → Contains es e → e.severity ≡ Error
+error_among [] e h c = absurd (contains_none e c)
+error_among (f ∷ es) e h c = elim (contains_either f e es c) [
+  | inl is ↦ subst (λ (x : ModelEvent). x.severity ≡ Error) is h.0
+  | inr more ↦ error_among es e h.1 more
+]
 
-pub errors_still : (es fs gs : List ModelEvent) → IsPermutation es fs → gs ≡ dedup same fs → AreErrors es → AreErrors gs
-errors_still es fs gs moved is h = subst AreErrors (sym is) (each fs (moved_errors es fs moved h))
-  where
-    each : (fs : List ModelEvent) → AreErrors fs → AreErrors (dedup same fs)
-    each [] h = h
-    each (f ∷ fs) h = kept_errors f fs h
+pub errors_among : (es fs : List ModelEvent) → ((e : ModelEvent) → Contains fs e → Contains es e) → AreErrors es → AreErrors fs
+errors_among es [] kept h = tt
+errors_among es (f ∷ fs) kept h = (error_among es f h (kept f (contains_head f fs)), errors_among es fs (λ e c. kept e (contains_behind f e fs c)) h)

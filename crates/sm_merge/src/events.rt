@@ -1,7 +1,9 @@
 // Events in their order, each once.
-ghost use Rattle.std.specs.Prelude.{◌≡◌, IfOk};
+ghost use Rattle.std.specs.Prelude.{◌≡◌, ◌↔◌, IfOk};
+ghost use Rattle.std.specs.List.{Contains};
 ghost use Rattle.std.specs.Ordering.{is_eq};
-ghost use Rattle.sm_model.specs.EventView.{AreErrors, AreInOrder, event_cmp, events_view, event_view};
+ghost use Rattle.sm_model.specs.EventView.{AreErrors, AreInOrder, EventTold, event_cmp, events_view, event_view};
+ghost use Rattle.sm_model.specs.declared.event.ModelEvent.{ModelEvent};
 ghost use Rattle.sm_model.specs.declared.event.Severity.TheVariants.{Error};
 ghost use Rattle.sm_merge.specs.Merged.{model_event};
 ghost use Rattle.sm_merge.specs.steps.EventLists.{HaveSameEvents};
@@ -33,15 +35,24 @@ pub(crate) fn event(
 }
 
 /// Events in their order, each once. No memory.
-pub(crate) fn in_order(mut events: Vec<ModelEvent>) -> ModelEvents
+pub fn sorted_events(mut events: Vec<ModelEvent>) -> ModelEvents
+    ensures order { AreInOrder (events_view result) }
+    ensures same { (e : EventTold) → Contains (events_view events.items) e ↔ Contains (events_view result) e }
+    ensures kept { (e : ModelEvent) → Contains result e → Contains events.items e }
+{
+    events.sort_unstable_by(|a, b| order_of(a, b));
+    events.dedup_by(|a, b| are_one(a, b));
+    ModelEvents::new(events)
+}
+
+/// The same of errors.
+pub(crate) fn in_order(events: Vec<ModelEvent>) -> ModelEvents
     requires { AreErrors events.items }
     ensures order { AreInOrder (events_view result) }
     ensures same { HaveSameEvents (events_view events.items) (events_view result) }
     ensures errors { AreErrors result }
 {
-    events.sort_unstable_by(|a, b| order_of(a, b));
-    events.dedup_by(|a, b| are_one(a, b));
-    ModelEvents::new(events)
+    sorted_events(events)
 }
 
 // By their shapes, then their ids, then their details.

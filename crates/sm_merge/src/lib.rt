@@ -39,7 +39,9 @@ mod told;
 mod value;
 mod walk;
 
+pub use events::sorted_events;
 pub use limit::{ALL_MEMBER_LIMIT, LimitKind, MEMBER_LIMIT, SHAPE_LIMIT, TRAIT_LIMIT};
 pub use merging::merge;
 pub use prelude_graph::prelude;
 pub use refusal::MergeRefusal;
+pub use stated::copied_id;

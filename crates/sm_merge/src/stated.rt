@@ -111,7 +111,7 @@ fn shape_row(alloc: Global, names: &Names<'_>, shape: &ShapeStatement) -> Result
 }
 
 /// A copy of an id.
-pub(crate) fn copied_id(alloc: Global, id: &ShapeId) -> Result<ShapeId, NoMemory>
+pub fn copied_id(alloc: Global, id: &ShapeId) -> Result<ShapeId, NoMemory>
     ensures { IfOk result (λ copy. copy ≡ id.now) }
 {
     match ShapeId::new(alloc, &id.as_ref()) {

@@ -1,6 +1,6 @@
 -- What look-ups by number and by id have in common, for code over graphs: other crates cite these.
-use Rattle.std.proofs.Common.{◌≡◌, ℕ, List, [], get_or, Some, sym, ap, ◌∙◌}
-use Rattle.std.specs.Prelude.{slice_get}
+use Rattle.std.proofs.Common.{◌≡◌, ℕ, true, false, cond, List, [], get_or, Option, Some, None, sym, ap, ◌∙◌, subst}
+use Rattle.std.specs.Prelude.{IsSomeAnd, slice_get}
 use Rattle.std.specs.Bool.{passes}
 use Rattle.std.specs.Cmp.{tied_itself as tied_order}
 use Rattle.std.specs.Cmp.Lexicographic.{nat_list_cmp_total}
@@ -8,9 +8,9 @@ use Rattle.std.specs.FinMap as fin
 use Rattle.std.specs.FinMap.{entries-from_sorted, get-from_sorted, is_sorted}
 use Rattle.std.specs.Option.{option_map}
 use Rattle.std.proofs.lemmas.Option.{slice_get-map, get_or_from_slice_get, slice_get_within}
-use Rattle.sm_model.specs.Graphs.{text_cmp, Entry}
+use Rattle.sm_model.specs.Graphs.{text_cmp, Entry, shape_entry, member_entry}
 use Rattle.sm_model.specs.GraphRows.{row_entry}
-use Rattle.sm_model.specs.GraphView.{entries_of, ids, maps_of}
+use Rattle.sm_model.specs.GraphView.{entries_of, ids, is_member_entry, IsMemberEntry, IsShapeEntry, maps_of}
 use Rattle.sm_model.specs.declared.graph.Graph.{Graph}
 use Rattle.sm_model.proofs.Searching.{and_left, equal_to}
 use Rattle.sm_model.proofs.Sorting.{map_twice}
@@ -36,3 +36,23 @@ entry_under g n id e there =
     ∙ equal_to es sorted (id, e) n (slice_get_within es n (id, e) there) id
     (ap (λ (x : List ℕ × Entry). text_cmp x.0 id) here ∙ tied_order nat_list_cmp_total id)
     ∙ ap (λ (x : List ℕ × Entry). Some x.1) here
+
+-- what stands at a number is a shape or a member
+abbrev pub Found : Type 0
+Found = Option (List ℕ × Entry)
+
+pub member_found : (o : Found) → IsSomeAnd o (λ e. is_member_entry e.1 ≡ true) → IsSomeAnd o (λ e. IsMemberEntry e.1)
+member_found None h = h
+member_found (Some e) h = by e.1 h
+  where
+    by : (x : Entry) → is_member_entry x ≡ true → IsMemberEntry x
+    by (shape_entry s) k = absurd (subst (λ b. cond b ⊥ (Unit {0})) k tt)
+    by (member_entry m) k = tt
+
+pub shape_found : (o : Found) → IsSomeAnd o (λ e. is_member_entry e.1 ≡ false) → IsSomeAnd o (λ e. IsShapeEntry e.1)
+shape_found None h = h
+shape_found (Some e) h = by e.1 h
+  where
+    by : (x : Entry) → is_member_entry x ≡ false → IsShapeEntry x
+    by (shape_entry s) k = tt
+    by (member_entry m) k = absurd (subst (λ b. cond b (Unit {0}) ⊥) k tt)

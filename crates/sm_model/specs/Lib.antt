@@ -10,6 +10,7 @@ pub mod Graphs
 pub mod Given
 pub mod GivenView
 pub mod PreludeShapes
+pub mod FormedGraph
 pub mod EventView
 pub mod GraphRows
 pub mod GraphView
