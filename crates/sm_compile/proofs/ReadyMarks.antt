@@ -29,7 +29,7 @@ use Rattle.sm_compile.proofs.SoundTests.{both_of, first_of, second_of}
 use Rattle.sm_compile.proofs.TabledShapes.{in_tabled, tabled_few, tabled_in, tabled_numbers_rise, value_where}
 
 -- a shape with members at which values stand
-value_some : (kind : Kind) (ms : List (List ℕ)) (id : List ℕ) → Contains (members_of_kind kind ms) id → has_value_members kind ≡ true
+pub value_some : (kind : Kind) (ms : List (List ℕ)) (id : List ℕ) → Contains (members_of_kind kind ms) id → has_value_members kind ≡ true
 value_some kind ms id h = by (has_value_members kind) h
   where
     by : (b : Bool) → Contains (cond b ms []) id → b ≡ true
@@ -37,7 +37,7 @@ value_some kind ms id h = by (has_value_members kind) h
     by false there = absurd (contains_none id there)
 
 -- the target of such a member has values
-target_values : (kind : Kind) (unit : Bool) (target : Kind) → has_value_members kind ≡ true → may_target kind unit target ≡ true
+pub target_values : (kind : Kind) (unit : Bool) (target : Kind) → has_value_members kind ≡ true → may_target kind unit target ≡ true
     → has_values target ≡ true
 target_values model.List unit target h may = first_of (has_values target) (not unit) may
 target_values model.Map unit target h may = first_of (has_values target) (not unit) may
@@ -123,7 +123,7 @@ module _ (g : Graph) (marks : List Bool) (texts : List (List ℕ)) (whole : leng
   }
 
 -- marks of what one shape reaches
-by_more : (g : GraphMaps) (from mid to : List ℕ) (by : List (List ℕ)) → LeadsBy g from by mid → LeadsTo g mid to
+pub by_more : (g : GraphMaps) (from mid to : List ℕ) (by : List (List ℕ)) → LeadsBy g from by mid → LeadsTo g mid to
     → (more : List (List ℕ)) × LeadsBy g from more to
 by_more g from mid to [] h step = (to ∷ [], (subst (λ i. LeadsTo g i to) (sym h) step, refl))
 by_more g from mid to (next ∷ by) h step = let r = by_more g next mid to by h.1 step in (next ∷ r.0, (h.0, r.1))

@@ -14,6 +14,7 @@ use Rattle.sm_model.specs.Relations.{HasEntry}
 use Rattle.sm_model.specs.declared.graph.Graph.{Graph}
 use Rattle.sm_model.specs.declared.kind.Kind.{Kind}
 use Rattle.sm_model.proofs.OneRising.{contains_either, contains_none}
+use Rattle.sm_shapes.specs.TableData.{MemberData}
 use Rattle.sm_shapes.specs.TableView.{member_data}
 use Rattle.sm_shapes.specs.declared.tables.TableMember.{TableMember}
 use Rattle.sm_compile.specs.Compiled.{NamesText, PatternRows, SaysMember, members_in, members_under}
@@ -24,13 +25,14 @@ use Rattle.sm_compile.specs.TraitIds.{pattern_id}
 use Rattle.sm_compile.specs.TraitNodes.{effective_traits, text_of}
 use Rattle.sm_compile.specs.declared.rows.MemberPlace.{MemberPlace}
 use Rattle.sm_compile.specs.steps.Looked.{kind_in, kind_under, target_in, target_under}
-use Rattle.sm_compile.specs.steps.Numbered.{AreReady, IsReadyMember, IsReadyShape, numbering}
+use Rattle.sm_compile.specs.steps.Numbered.{AreMemberRows, AreReady, AreRowShapes, IsReadyMember, IsReadyShape, IsRowShape, numbering}
 use Rattle.sm_compile.specs.steps.Placing.{HasPlace}
 use Rattle.sm_compile.specs.steps.Rows.{MemberPlaced, TellsMember}
 use Rattle.sm_compile.specs.steps.Seeing.{traits_seen}
 use Rattle.sm_compile.proofs.MembersSay.{StandsIn, says_member}
 use Rattle.sm_compile.proofs.NamesBehind.{one_named}
 use Rattle.sm_compile.proofs.RowsSay.{pattern_along}
+use Rattle.sm_compile.proofs.TabledShapes.{mapped_from}
 
 -- a member at which values stand is one that the shape lists
 pub value_among : (kind : Kind) (ms : List (List ℕ)) (id : List ℕ) → Contains (members_of_kind kind ms) id → Contains ms id
@@ -65,11 +67,26 @@ module _ (g : Graph) (shapes : List ℕ) (texts : List (List ℕ)) where
   pub ready_shape : AreReady g shapes texts → (s : ℕ) → s < length shapes → IsReadyShape g shapes texts (get_or shapes s 0)
   ready_shape ready s lt = ready.each (get_or shapes s 0) (Contains-get_or shapes s 0 lt)
 
+  -- shapes that are ready are in order, and their members' rows are told by their ids
+  pub row_shapes : AreReady g shapes texts → AreRowShapes (maps_of g) (map (id_of_number g) shapes)
+  row_shapes ready id there =
+      let r = mapped_from (id_of_number g) shapes id there in
+      let home = ready.each r.0 r.1 in
+      subst (IsRowShape (maps_of g)) r.2 (record { s = home.s; there = home.there; sound = home.sound })
+
+  pub rows_by : (ps : PatternRows) (rows : List MemberData) → AreMemberRows (maps_of g) ps (numbering g shapes) (length shapes) rows
+      → AreMemberRows (maps_of g) ps (numbering g shapes) (length (map (id_of_number g) shapes)) rows
+  rows_by ps rows are =
+      subst (λ n. AreMemberRows (maps_of g) ps (numbering g shapes) n rows) (sym (length-map shapes (id_of_number g))) are
+
+  pub row_within : (s : ℕ) → s < length shapes → s < length (map (id_of_number g) shapes)
+  row_within s lt = subst (λ n. s < n) (sym (length-map shapes (id_of_number g))) lt
+
   pub row_id : (s : ℕ) → s < length shapes → get_or (map (id_of_number g) shapes) s [] ≡ id_of_number g (get_or shapes s 0)
   row_id s lt = get_or-map (id_of_number g) shapes s 0 [] lt
 
-  pub members_are : (k : ℕ) (h : IsReadyShape g shapes texts k) → members_under (maps_of g) (id_of_number g k) ≡ value_members h.s
-  members_are k h = ap members_in h.there
+  pub members_at : (k : ℕ) (h : IsReadyShape g shapes texts k) → members_under (maps_of g) (id_of_number g k) ≡ value_members h.s
+  members_at k h = ap members_in h.there
 
   pub shape_kind : (k : ℕ) → IsReadyShape g shapes texts k → kind_under (maps_of g) (id_of_number g k) ≡ None → ⊥
   shape_kind k h none = none-some h.s.kind (sym none ∙ ap kind_in h.there)
@@ -79,7 +96,7 @@ module _ (g : Graph) (shapes : List ℕ) (texts : List (List ℕ)) where
   stands_ready ready s k lt among =
       let home = ready_shape ready s lt in
       let here : Contains (value_members home.s) (id_of_number g k) =
-      subst (λ ids. Contains ids (id_of_number g k)) (members_are (get_or shapes s 0) home) among in
+      subst (λ ids. Contains ids (id_of_number g k)) (members_at (get_or shapes s 0) home) among in
       let listed = value_among home.s.kind home.s.members (id_of_number g k) here in
       record {
         home = home;

@@ -16,12 +16,21 @@ use Rattle.sm_compile.specs.Kinds.{value_members}
 use Rattle.sm_compile.specs.Sound.{IsSoundShape}
 use Rattle.sm_compile.specs.steps.Looked.{LeadsByNumber, target_under}
 
--- the ids of a table's shapes and members, by the numbers of its shapes in the graph
+-- the ids of a table's shapes and members, by the ids of its shapes, and by their numbers in the graph
+abbrev pub numbered_by : GraphMaps → List (List ℕ) → Numbering
+numbered_by g ids = record { shapes = ids; members = flat_map (members_under g) ids }
+
 abbrev pub numbering : Graph → List ℕ → Numbering
-numbering g shapes = record {
-  shapes = map (id_of_number g) shapes;
-  members = flat_map (members_under (maps_of g)) (map (id_of_number g) shapes);
-}
+numbering g shapes = numbered_by (maps_of g) (map (id_of_number g) shapes)
+
+-- a shape that has a row is there and in order
+pub record IsRowShape (g : GraphMaps) (id : List ℕ) : Type 0 where
+  pub s : ShapeEntry
+  pub there : HasEntry g id (shape_entry s)
+  pub sound : IsSoundShape g id s
+
+abbrev pub AreRowShapes : GraphMaps → List (List ℕ) → Type 0
+AreRowShapes g ids = (id : List ℕ) → Contains ids id → IsRowShape g id
 
 -- steps lead from marked numbers to marked ones
 abbrev pub AreClosed : Graph → List Bool → Type 0

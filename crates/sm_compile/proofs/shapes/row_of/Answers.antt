@@ -6,9 +6,8 @@ use Rattle.sm_shapes.specs.TableData.{json_name_at, name_at}
 use Rattle.sm_shapes.specs.TableView.{member_data}
 use Rattle.sm_compile.specs.steps.Carrying.{texts_in}
 use Rattle.sm_compile.specs.steps.Numbered.{AreOrders, count_of_shape, first_of_shape, numbering, only_members, run}
-use Rattle.sm_compile.proofs.MemberNames.{json_names_there_differ, names_there_differ, within_rows}
 use Rattle.sm_compile.proofs.ReadyRows.{ready_shape, shape_kind}
-use Rattle.sm_compile.proofs.ShapeRows.{own_among, shape_row_told}
+use Rattle.sm_compile.proofs.ShapeRows.{own_among, row_json_names_differ, row_names_differ, rows_within, shape_row_told}
 use Rattle.sm_compile.proofs.shapes.row_of.Goals as goal
 
 pub kind_at-kind-requires-clause-number : goal.kind_at-kind-requires-clause-number
@@ -36,7 +35,7 @@ pattern_at-pattern-requires-clause-among c u seen =
 
 pub orders-requires-clause-few : goal.orders-requires-clause-few
 orders-requires-clause-few c =
-    let within = within_rows c.args.parts.now.graph.now c.args.parts.now.shapes.now (texts_in c.args.parts.now.carried.now) c.requires.parts.ready
+    let within = rows_within c.args.parts.now.graph.now c.args.parts.now.shapes.now (texts_in c.args.parts.now.carried.now) c.requires.parts.ready
     c.args.parts.now.patterns.now (map member_data c.args.members.now) c.requires.rows c.args.row c.requires.row in
     let long = length-map c.args.members.now member_data in
     omega (arith, within, long, c.requires.few, c.requires.first, c.requires.count)
@@ -47,7 +46,7 @@ orders-requires-clause-names c =
     let first = first_of_shape (maps_of c.args.parts.now.graph.now) (numbering c.args.parts.now.graph.now c.args.parts.now.shapes.now).shapes c.args.row in
     subst (λ f. AllDiffer (map name (run f c.args.count))) (sym c.requires.first)
     (subst (λ n. AllDiffer (map name (run first n))) (sym c.requires.count)
-    (names_there_differ c.args.parts.now.graph.now c.args.parts.now.shapes.now (texts_in c.args.parts.now.carried.now) c.requires.parts.ready
+    (row_names_differ c.args.parts.now.graph.now c.args.parts.now.shapes.now (texts_in c.args.parts.now.carried.now) c.requires.parts.ready
     c.args.parts.now.patterns.now (map member_data c.args.members.now) c.requires.rows c.args.row c.requires.row))
 
 pub orders-requires-clause-json_names : goal.orders-requires-clause-json_names
@@ -56,7 +55,7 @@ orders-requires-clause-json_names c =
     let first = first_of_shape (maps_of c.args.parts.now.graph.now) (numbering c.args.parts.now.graph.now c.args.parts.now.shapes.now).shapes c.args.row in
     subst (λ f. AllDiffer (map name (run f c.args.count))) (sym c.requires.first)
     (subst (λ n. AllDiffer (map name (run first n))) (sym c.requires.count)
-    (json_names_there_differ c.args.parts.now.graph.now c.args.parts.now.shapes.now (texts_in c.args.parts.now.carried.now)
+    (row_json_names_differ c.args.parts.now.graph.now c.args.parts.now.shapes.now (texts_in c.args.parts.now.carried.now)
     c.requires.parts.ready c.args.parts.now.patterns.now (map member_data c.args.members.now) c.requires.rows c.args.row c.requires.row))
 
 pub shape_row-requires : goal.shape_row-requires
