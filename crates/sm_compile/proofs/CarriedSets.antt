@@ -34,7 +34,8 @@ not_greater r h k = subst (λ x. cond (is_gt x) ⊥ (Unit {0})) (sym h ∙ k) tt
 pub not_tied : (r : Ordering) → r ≡ Equal → r ≡ Greater → ⊥
 not_tied r h k = subst (λ x. cond (is_gt x) ⊥ (Unit {0})) (sym h ∙ k) tt
 
-module _ (g : Graph) (marks : List Bool) (In : List ℕ → Type 0) (are : AreMarks (length (entries_of g)) (λ k. In (id_of_number g k)) marks) where
+module _ (g : Graph) (marks : List Bool) (In : List ℕ → Type 0)
+    (are : AreMarks (length (entries_of g)) (λ k. In (id_of_number g k)) marks) where
   -- a greater id stands at a greater number
   before_it : (j k : ℕ) → IsShapeNumber g j → text_cmp (id_of_number g k) (id_of_number g j) ≡ Greater → j < k
   before_it j k lt h = elim (cases_lt j k) [

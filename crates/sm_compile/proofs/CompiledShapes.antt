@@ -1,5 +1,6 @@
 -- The table of what one shape reaches is its table.
-use Rattle.std.proofs.Common.{◌≡◌, ℕ, ◌+◌, ◌<◌, ◌≤◌, Bool, List, [], ◌∷◌, ◌++◌, map, length, get_or, Some, refl, sym, ap, ◌∙◌, subst, arith, append_assoc}
+use Rattle.std.proofs.Common.{◌≡◌, ℕ, ◌+◌, ◌<◌, ◌≤◌, Bool, List, [], ◌∷◌, ◌++◌, map, length, get_or, Some, refl, sym, ap, ◌∙◌, subst, arith}
+use Rattle.std.proofs.Common.{append_assoc}
 use Rattle.std.specs.Prelude.{◌↔◌, slice_get}
 use Rattle.std.specs.List.{Contains}
 use Rattle.std.specs.List.Sorted.{IsStrictlySortedBy}
@@ -18,7 +19,8 @@ use Rattle.sm_shapes.specs.Names.{AllDiffer}
 use Rattle.sm_shapes.specs.TableData.{TableData}
 use Rattle.sm_shapes.specs.TableView.{table_data}
 use Rattle.sm_compile.specs.Answers.{IsShapeCompiled, IsTableSeen, StoreSeen, TableSeen, TellsServed}
-use Rattle.sm_compile.specs.Compiled.{AreNumberedFrom, ArePatternsOf, CarriesPattern, IsCompiled, IsTabled, PatternRows, members_under, texts_of}
+use Rattle.sm_compile.specs.Compiled.{AreNumberedFrom, ArePatternsOf, CarriesPattern, IsCompiled, IsTabled, PatternRows, members_under}
+use Rattle.sm_compile.specs.Compiled.{texts_of}
 use Rattle.sm_compile.specs.Reached.{IsReached}
 use Rattle.sm_compile.specs.declared.compiled.Served.{Served}
 use Rattle.sm_compile.specs.declared.patterns.CarriedTexts.{CarriedTexts}
@@ -60,7 +62,8 @@ module _ (g : GraphMaps) (ids : List (List ℕ)) (ready : AreRowShapes g ids) (t
       named : (x k : List ℕ) → Contains ids x → Contains (members_under g x) k → (n : List ℕ) × (k ≡ member_id x n)
       named x k there among =
           let home = ready x there in
-          one_named x (value_names g x home.s home.sound) (members_under g x) k (members_are g x home ∙ value_ids g x home.s home.sound) among
+          one_named x (value_names g x home.s home.sound) (members_under g x) k (members_are g x home ∙ value_ids g x home.s home.sound)
+          among
 
       apart : (x y k : List ℕ) → Contains ids x → Contains ids y → Contains (members_under g x) k → Contains (members_under g y) k → x ≡ y
       apart x y k p q a b =
@@ -87,16 +90,19 @@ made_compiled g In ids ready t made shapes rise patterns =
     }
 
 -- what is made of numbers is made of their ids
-pub made_by : (g : Graph) (shapes : List ℕ) (t : TableData) → IsMade g shapes t.patterns t → IsMadeBy (maps_of g) (map (id_of_number g) shapes) t
+pub made_by : (g : Graph) (shapes : List ℕ) (t : TableData) → IsMade g shapes t.patterns t → IsMadeBy (maps_of g)
+    (map (id_of_number g) shapes) t
 made_by g shapes t made = record {
   long = made.long ∙ sym (length-map shapes (id_of_number g));
   shapes = made.shapes;
-  members = subst (λ n. AreMemberRows (maps_of g) t.patterns (numbering g shapes) n t.members) (sym (length-map shapes (id_of_number g))) made.members;
+  members = subst (λ n. AreMemberRows (maps_of g) t.patterns (numbering g shapes) n t.members) (sym (length-map shapes (id_of_number g)))
+      made.members;
 }
 
 -- the table of marked shapes is that of the set that is marked
 pub table_compiled : (g : Graph) (marks : List Bool) (In : List ℕ → Type 0) (before now : StoreSeen) (made : Tabled)
-    → AreMarks (length (entries_of g)) (λ k. In (id_of_number g k)) marks → ArePatternsOf (maps_of g) In (texts_of (table_data made.table).patterns)
+    → AreMarks (length (entries_of g)) (λ k. In (id_of_number g k)) marks → ArePatternsOf (maps_of g) In
+    (texts_of (table_data made.table).patterns)
     → IsMarkedTable g marks before now made
     → IsCompiled (maps_of g) In (table_data made.table) (numbering g made.shapes.items)
 table_compiled g marks In before now made are patterns is =
@@ -105,8 +111,10 @@ table_compiled g marks In before now made are patterns is =
     let le : length (entries_of g) ≤ length (entries_of g) = omega arith in
     made_compiled (maps_of g) In (map (id_of_number g) made.shapes.items) (row_shapes g made.shapes.items (texts_in is.c) is.ready) t
     (made_by g made.shapes.items t is.table)
-    (subst (λ ks. (id : List ℕ) → Contains (map (id_of_number g) ks) id ↔ IsTabled (maps_of g) In id) (sym rows) (tabled_told g marks In are))
-    (subst (λ ks. IsStrictlySortedBy text_cmp (map (id_of_number g) ks)) (sym rows) (tabled_rise g marks (length (entries_of g)) le)) patterns
+    (subst (λ ks. (id : List ℕ) → Contains (map (id_of_number g) ks) id ↔ IsTabled (maps_of g) In id) (sym rows)
+    (tabled_told g marks In are))
+    (subst (λ ks. IsStrictlySortedBy text_cmp (map (id_of_number g) ks)) (sym rows) (tabled_rise g marks (length (entries_of g)) le))
+    patterns
 
 -- patterns that are numbered from the store's end on are the store's, once they are added
 stored_there : (before added : List (List ℕ)) (rows : PatternRows) → AreNumberedFrom (length before) rows → added ≡ before ++ texts_of rows
@@ -116,7 +124,8 @@ stored_there before added (r ∷ rows) numbered is =
     let long : length added ≡ length before + length (r.1 ∷ texts_of rows) = ap length is ∙ length-append before (r.1 ∷ texts_of rows) in
     let one : length (before ++ r.1 ∷ []) ≡ length before + 1 = length-append before (r.1 ∷ []) in (
       omega (arith, long, numbered.0),
-      ap (λ k. get_or added k []) numbered.0 ∙ ap (λ ts. get_or ts (length before) []) is ∙ get_or-append_seam before r.1 (texts_of rows) [],
+      ap (λ k. get_or added k []) numbered.0 ∙ ap (λ ts. get_or ts (length before) []) is ∙ get_or-append_seam before r.1 (texts_of rows)
+          [],
       stored_there (before ++ r.1 ∷ []) added rows (subst (λ n. AreNumberedFrom n rows) (sym one) numbered.1)
           (is ∙ sym (append_assoc before (r.1 ∷ []) (texts_of rows))),
     )

@@ -1,5 +1,6 @@
 -- A walk that enters each shape once finds the first way to a shape that isn't served, or there is none.
-use Rattle.std.proofs.Common.{◌≡◌, ◌⊎◌, inl, inr, ℕ, ◌<◌, Bool, List, [], ◌∷◌, ◌++◌, map, reverse, refl, sym, ap, ◌∙◌, subst, arith, append_assoc}
+use Rattle.std.proofs.Common.{◌≡◌, ◌⊎◌, inl, inr, ℕ, ◌<◌, Bool, List, [], ◌∷◌, ◌++◌, map, reverse, refl, sym, ap, ◌∙◌, subst, arith}
+use Rattle.std.proofs.Common.{append_assoc}
 use Rattle.std.specs.Cmp.{nat_cmp_is}
 use Rattle.std.specs.Cmp.Lexicographic.{slice_cmp}
 use Rattle.std.specs.List.{Contains}
@@ -104,7 +105,8 @@ module _ (g : Graph) where
   least_above marks open_ids id step way o is least (s ∷ other) h differ off less =
       elim (cases_lt s.at step.at) [
         | inl before ↦
-            stuck marks (id ∷ open_ids) o.served o.closed s.to other (o.taken s h.0 before (way_begins (maps_of g) s.to other h.1)) h.1 off_all
+            stuck marks (id ∷ open_ids) o.served o.closed s.to other (o.taken s h.0 before (way_begins (maps_of g) s.to other h.1)) h.1
+            off_all
         | inr ge ↦ elim (cases_eq s.at step.at) [
           | inl same ↦ at_same same
           | inr apart ↦
@@ -134,7 +136,8 @@ module _ (g : Graph) where
   differ_above marks id xs here fresh = none_is id xs (λ y there same. fresh y there (subst (IsMarkedId g marks) (sym same) here))
 
   names_turned : (a : Above) (above : List Above) (names : List (List ℕ))
-      → map (λ (b : Above). b.name.now) (reverse above) ++ a.name.now ∷ names ≡ map (λ (b : Above). b.name.now) (reverse (a ∷ above)) ++ names
+      → map (λ (b : Above). b.name.now) (reverse above) ++ a.name.now ∷ names ≡ map (λ (b : Above). b.name.now) (reverse (a ∷ above))
+      ++ names
   names_turned a above names =
       sym (ap (λ xs. map (λ (b : Above). b.name.now) xs ++ names) (reverse-append (a ∷ []) above)
       ∙ ap (λ xs. xs ++ names) (map-append (λ (b : Above). b.name.now) (reverse above) (a ∷ []))
@@ -181,7 +184,8 @@ module _ (g : Graph) where
   pub none_found : (root : List ℕ) (marks : List Bool) (id : List ℕ) (at : ℕ) → StandsAt g root marks id at [] → AllTaken marks id
       → IsServed (maps_of g) root
   none_found root marks id at h taken way is =
-      stuck marks [] h.0.served closed id way h.0.here (subst (λ x. IsWay (maps_of g) x way) (sym h.1) is) (λ x there none. contains_none x none)
+      stuck marks [] h.0.served closed id way h.0.here (subst (λ x. IsWay (maps_of g) x way) (sym h.1) is)
+      (λ x there none. contains_none x none)
     where
       closed : AreClosed marks []
       closed x marked = elim (h.0.closed x marked) [

@@ -1,5 +1,6 @@
 -- A table that is made of shapes that are ready is in order, and says what the graph says.
-use Rattle.std.proofs.Common.{◌≡◌, ℕ, ◌+◌, ◌<◌, true, cond, List, [], ◌∷◌, map, length, get_or, Option, Some, None, refl, sym, ap, ◌∙◌, subst, arith}
+use Rattle.std.proofs.Common.{◌≡◌, ℕ, ◌+◌, ◌<◌, true, cond, List, [], ◌∷◌, map, length, get_or, Option, Some, None, refl, sym, ap, ◌∙◌}
+use Rattle.std.proofs.Common.{subst, arith}
 use Rattle.std.specs.Prelude.{IsUtf8, slice_get}
 use Rattle.std.specs.List.{Contains, filter}
 use Rattle.std.specs.Ordering.{nat_cmp}
@@ -14,16 +15,21 @@ use Rattle.sm_model.specs.Relations.{HasEntry}
 use Rattle.sm_model.specs.declared.kind.Kind.{Kind}
 use Rattle.sm_model.specs.declared.kind.Kind.TheVariants as model
 use Rattle.sm_shapes.specs.DefaultPuts.{HasNoDefault}
-use Rattle.sm_shapes.specs.InOrder.{AreByName, AreMembersOf, HasItsMembers, IsTextKind, MayDefault, MayHaveNode, NamesPattern, Shaped, is_needed}
+use Rattle.sm_shapes.specs.InOrder.{AreByName, AreMembersOf, HasItsMembers, IsTextKind, MayDefault, MayHaveNode, NamesPattern, Shaped}
+use Rattle.sm_shapes.specs.InOrder.{is_needed}
 use Rattle.sm_shapes.specs.Names.{AllDiffer}
-use Rattle.sm_shapes.specs.TableData.{MemberData, ShapeData, TableData, binding_in, by_json_name_in, by_name_in, constraints_in, default_at, default_in, default_node_at, default_node_in, home_at, home_in, json_name_at, json_name_in, kind_at, kind_in, member_count, members_at, members_in, name_at, name_in, needed_in, shape_constraints_in, shape_count, target_at, target_in}
+use Rattle.sm_shapes.specs.TableData.{MemberData, ShapeData, TableData, binding_in, by_json_name_in, by_name_in, constraints_in, default_at}
+use Rattle.sm_shapes.specs.TableData.{default_in, default_node_at, default_node_in, home_at, home_in, json_name_at, json_name_in, kind_at}
+use Rattle.sm_shapes.specs.TableData.{kind_in, member_count, members_at, members_in, name_at, name_in, needed_in, shape_constraints_in}
+use Rattle.sm_shapes.specs.TableData.{shape_count, target_at, target_in}
 use Rattle.sm_compile.specs.Compiled.{AllUnbound, EachSays, NoMediaTypes, SaysMember, SaysShape, members_under}
 use Rattle.sm_compile.specs.Kinds.{has_value_members, table_kind}
 use Rattle.sm_compile.specs.Sound.{HasTextKey, TargetsText}
 use Rattle.sm_compile.specs.steps.Making.{IsMadeBy}
 use Rattle.sm_compile.specs.steps.Numbered.{AreRowShapes, IsMemberRow, IsShapeRow, count_of_shape, first_of_shape, numbered_by, run}
 use Rattle.sm_compile.proofs.Blocks.{one_block, run_long, run_within, within_run}
-use Rattle.sm_compile.proofs.MemberNames.{all_long, id_here, json_names_there_differ, members_are, names_there_differ, row_here, row_members, row_shape, there_at, value_names, within_rows}
+use Rattle.sm_compile.proofs.MemberNames.{all_long, id_here, json_names_there_differ, members_are, names_there_differ, row_here}
+use Rattle.sm_compile.proofs.MemberNames.{row_members, row_shape, there_at, value_names, within_rows}
 use Rattle.sm_compile.proofs.RowsAlike.{place_of}
 use Rattle.sm_compile.proofs.ShapedTables.{all_unbound, default_told, each_says, members_all, names_pattern, no_media, run_rises, text_told}
 use Rattle.sm_compile.proofs.SoundShapes.{one_shape}
@@ -181,7 +187,8 @@ module _ (g : GraphMaps) (ids : List (List ℕ)) (ready : AreRowShapes g ids) (t
       let head : get_or (members_at t s) 0 0 ≡ first + 0 =
       ap (λ ks. get_or ks 0 0) (members_run s lt ∙ ap (run first) two) ∙ sym zero_more in
       subst (λ k. IsTextKind (kind_at t (target_at t k))) (sym head)
-      (subst IsTextKind (sym (ap (λ o. kind_at t (target_in o)) x.1 ∙ target_kind (first + 0) x.0 x.2)) (text_told x.2.says.target.kind text))
+      (subst IsTextKind (sym (ap (λ o. kind_at t (target_in o)) x.1 ∙ target_kind (first + 0) x.0 x.2))
+      (text_told x.2.says.target.kind text))
 
   own_there : (s : ℕ) → s < shape_count t → HasItsMembers t (kind_at t s) (members_at t s)
   own_there s lt =

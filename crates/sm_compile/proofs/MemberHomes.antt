@@ -1,5 +1,6 @@
 -- The id of a member names the shape in which it stands, so that no member stands in two shapes.
-use Rattle.std.proofs.Common.{◌≡◌, ℕ, Bool, true, not, ◌==◌, List, [], ◌∷◌, ◌++◌, Option, Some, None, refl, sym, ap, ◌∙◌, subst, arith, append_assoc, append-nil}
+use Rattle.std.proofs.Common.{◌≡◌, ℕ, Bool, true, not, ◌==◌, List, [], ◌∷◌, ◌++◌, Option, Some, None, refl, sym, ap, ◌∙◌, subst, arith}
+use Rattle.std.proofs.Common.{append_assoc, append-nil}
 use Rattle.std.specs.List.{Contains, flat_map, list_all}
 use Rattle.std.specs.Prelude.{◌<◌, IsUtf8}
 use Rattle.std.proofs.lemmas.Bool.Decides.{nat_tests}
@@ -31,7 +32,8 @@ plain_namespace c h = grind (arith, nat_tests)
 plain_joined : (xs ys : List ℕ) → list_all is_plain xs ≡ true → list_all is_plain ys ≡ true → list_all is_plain (xs ++ ys) ≡ true
 plain_joined [] ys h k = k
 plain_joined (x ∷ xs) ys h k =
-    let b = both (is_plain x) (list_all is_plain xs) h in and_also (is_plain x) (list_all is_plain (xs ++ ys)) b.0 (plain_joined xs ys b.1 k)
+    let b = both (is_plain x) (list_all is_plain xs) h in and_also (is_plain x) (list_all is_plain (xs ++ ys)) b.0
+    (plain_joined xs ys b.1 k)
 
 no_plain_dollar : (c : ℕ) → c ≡ 36 → is_plain c ≡ true → ⊥
 no_plain_dollar c e h = let k : is_plain 36 ≡ true = subst (λ x. is_plain x ≡ true) e h in cc

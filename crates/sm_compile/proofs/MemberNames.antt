@@ -1,5 +1,6 @@
 -- The names of a shape's members, in the graph and in the rows of a table.
-use Rattle.std.proofs.Common.{◌≡◌, ℕ, zero, suc, ◌+◌, ◌<◌, ◌≤◌, Bool, true, false, cond, List, [], ◌∷◌, map, length, get_or, Some, refl, sym, ap, ◌∙◌, subst, arith}
+use Rattle.std.proofs.Common.{◌≡◌, ℕ, zero, suc, ◌+◌, ◌<◌, ◌≤◌, Bool, true, false, cond, List, [], ◌∷◌, map, length, get_or, Some, refl}
+use Rattle.std.proofs.Common.{sym, ap, ◌∙◌, subst, arith}
 use Rattle.std.specs.Prelude.{slice_get, codes, unwrap_or}
 use Rattle.std.specs.FinMap as fin
 use Rattle.std.specs.List.{flat_map}
@@ -10,7 +11,9 @@ use Rattle.sm_model.specs.Formed.{HaveForm}
 use Rattle.sm_model.specs.Graphs.{GraphMaps, ShapeEntry, member_id}
 use Rattle.sm_model.specs.Kinds.{member_form}
 use Rattle.sm_model.specs.declared.kind.Kind.{Kind}
-use Rattle.sm_model.specs.declared.kind.Kind.TheVariants.{Blob, Boolean, Text, Enum, Byte, Short, Integer, IntEnum, Long, Float, Double, BigInteger, BigDecimal, Timestamp, Document, List as list_kind, Map, Structure, Union, Service, Operation, Resource}
+use Rattle.sm_model.specs.declared.kind.Kind.TheVariants.{Blob, Boolean, Text, Enum, Byte, Short, Integer, IntEnum, Long, Float, Double}
+use Rattle.sm_model.specs.declared.kind.Kind.TheVariants.{BigInteger, BigDecimal, Timestamp, Document, List as list_kind, Map, Structure}
+use Rattle.sm_model.specs.declared.kind.Kind.TheVariants.{Union, Service, Operation, Resource}
 use Rattle.sm_shapes.specs.Names.{AllDiffer, NoneIs}
 use Rattle.sm_shapes.specs.TableData.{MemberData, json_name_at, json_name_in, name_at, name_in}
 use Rattle.sm_compile.specs.Compiled.{PatternRows, members_in, members_under}
@@ -18,7 +21,8 @@ use Rattle.sm_compile.specs.Kinds.{has_value_members, value_members}
 use Rattle.sm_compile.specs.Sound.{IsSoundShape, json_name_of, trait_in}
 use Rattle.sm_compile.specs.TraitIds.{json_name_id}
 use Rattle.sm_compile.specs.TraitNodes.{text_of}
-use Rattle.sm_compile.specs.steps.Numbered.{AreMemberRows, AreRowShapes, IsMemberRow, IsRowShape, count_of_shape, first_of_shape, numbered_by, only_members, run}
+use Rattle.sm_compile.specs.steps.Numbered.{AreMemberRows, AreRowShapes, IsMemberRow, IsRowShape, count_of_shape, first_of_shape}
+use Rattle.sm_compile.specs.steps.Numbered.{numbered_by, only_members, run}
 use Rattle.sm_compile.proofs.Blocks.{first_next, first_rises, mapped_run, one_block}
 use Rattle.sm_compile.proofs.Differing.{differ_in_names}
 use Rattle.sm_compile.proofs.NamesBehind.{behind_one}
@@ -123,7 +127,8 @@ module _ (g : GraphMaps) (ids : List (List ℕ)) (ready : AreRowShapes g ids) (p
 
   module _ (s : ℕ) (lt : s < length ids) where
     pub row_members : members_under g (get_or ids s [])
-        ≡ map (member_id (get_or ids s [])) (value_names g (get_or ids s []) (row_shape g ids ready s lt).s (row_shape g ids ready s lt).sound)
+        ≡ map (member_id (get_or ids s [])) (value_names g (get_or ids s []) (row_shape g ids ready s lt).s
+        (row_shape g ids ready s lt).sound)
     row_members =
         let home = row_shape g ids ready s lt in
         members_are g (get_or ids s []) home ∙ value_ids g (get_or ids s []) home.s home.sound
@@ -183,7 +188,8 @@ module _ (g : GraphMaps) (ids : List (List ℕ)) (ready : AreRowShapes g ids) (p
           one_name home_id x.0.name (get_or names_there j [])
           (ap (λ i. member_id i x.0.name) (sym (ap (λ k. get_or ids k []) x.3)) ∙ sym x.2.says.name ∙ member_is)
 
-      pub json_name_here : unwrap_or (row_here j less).0.json_name (row_here j less).0.name ≡ json_name_of g home_id (get_or names_there j [])
+      pub json_name_here : unwrap_or (row_here j less).0.json_name (row_here j less).0.name ≡ json_name_of g home_id
+          (get_or names_there j [])
       json_name_here =
           let x = row_here j less in
           let says = x.2.says in

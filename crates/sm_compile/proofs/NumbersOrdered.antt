@@ -61,7 +61,8 @@ module _ (name : ℕ → List ℕ) where
   below_by x Equal k o os ps less h rest = (h.0, rest)
   below_by x Greater k o os ps less h rest = (h.0, rest)
 
-  below_placed : (x : List ℕ) (k : ℕ) (os : List ℕ) → text_cmp x (name k) ≡ Less → IsBelow x (map name os) → IsBelow x (map name (placed k os))
+  below_placed : (x : List ℕ) (k : ℕ) (os : List ℕ) → text_cmp x (name k) ≡ Less → IsBelow x (map name os) → IsBelow x
+      (map name (placed k os))
   below_placed x k [] less h = (less, tt)
   below_placed x k (o ∷ os) less h =
       below_by x (text_cmp (name k) (name o)) k o os (placed k os) less h (below_placed x k os less h.1)

@@ -1,5 +1,6 @@
 -- Marked shapes of a graph that are in order, and are closed under steps, are ready to have rows.
-use Rattle.std.proofs.Common.{◌≡◌, inl, inr, ℕ, ◌<◌, Bool, true, false, not, cond, List, [], ◌∷◌, length, get_or, Some, refl, sym, ap, ◌∙◌, subst, arith}
+use Rattle.std.proofs.Common.{◌≡◌, inl, inr, ℕ, ◌<◌, Bool, true, false, not, cond, List, [], ◌∷◌, length, get_or, Some, refl, sym, ap, ◌∙◌}
+use Rattle.std.proofs.Common.{subst, arith}
 use Rattle.std.specs.Prelude.{◌^◌}
 use Rattle.std.specs.List.{Contains}
 use Rattle.std.proofs.lemmas.Option.{same_Some}
@@ -93,7 +94,8 @@ module _ (g : Graph) (marks : List Bool) (texts : List (List ℕ)) (whole : leng
         target = λ t gt is.
             let is2 : target_under maps (id_of_number g x.0) ≡ Some (id_of_number g t) = ap (target_under maps) x.2 ∙ is in
             let there2 = closed x.0 t here (gt, to_target g x.0 t x.1 gt is2) in
-            let same : member.m.target ≡ id_of_number g t = same_Some member.m.target (id_of_number g t) (sym (ap target_in member.there) ∙ is) in
+            let same : member.m.target ≡ id_of_number g t = same_Some member.m.target (id_of_number g t)
+            (sym (ap target_in member.there) ∙ is) in
             tabled_there t (subst (λ n. t < n) (sym whole) gt) there2 (
               member.target,
               subst (λ i. HasEntry maps i (shape_entry member.target)) same member.found,
@@ -142,7 +144,11 @@ module _ (g : Graph) where
   one_root root marks are = record {
     whole = are.whole;
     marked = λ k. (
-      λ h. let r = (are.marked k).0 h in (r.0, subst (λ j. IsReached (maps_of g) (id_of_number g j) (id_of_number g k)) (only r.1.0 r.1.1) r.1.2),
+      λ h. let r = (are.marked k).0 h in (
+        r.0,
+        subst (λ j. IsReached (maps_of g) (id_of_number g j) (id_of_number g k))
+            (only r.1.0 r.1.1) r.1.2,
+      ),
       λ h. (are.marked k).1 (h.0, (root, cons_here root [], h.1)),
     );
   }
@@ -150,7 +156,8 @@ module _ (g : Graph) where
       only : (r : ℕ) → Contains (root ∷ []) r → r ≡ root
       only r h = elim (cons_cases root [] r h) [ inl is ↦ sym is | inr none ↦ absurd (omega (arith, none.1)) ]
 
-  pub sound_marks : (root : List ℕ) (marks : List Bool) → AreMarks (length (entries_of g)) (λ k. IsReached (maps_of g) root (id_of_number g k)) marks
+  pub sound_marks : (root : List ℕ) (marks : List Bool) → AreMarks (length (entries_of g))
+      (λ k. IsReached (maps_of g) root (id_of_number g k)) marks
       → IsValueShape (maps_of g) root → Sound (maps_of g) root → AreSoundBelow g marks (length marks)
   sound_marks root marks are value sound k less marked s has = sound value (id_of_number g k) s ((are.marked k).0 marked).1 has
 

@@ -1,5 +1,6 @@
 -- What a table that can be made has at its shapes and members: what is looked up for a row is there, and the row says what the graph says.
-use Rattle.std.proofs.Common.{◌≡◌, inl, inr, ℕ, ◌<◌, Bool, true, false, cond, List, [], ◌∷◌, map, length, get_or, Option, Some, None, refl, sym, ap, ◌∙◌, subst}
+use Rattle.std.proofs.Common.{◌≡◌, inl, inr, ℕ, ◌<◌, Bool, true, false, cond, List, [], ◌∷◌, map, length, get_or, Option, Some, None, refl}
+use Rattle.std.proofs.Common.{sym, ap, ◌∙◌, subst}
 use Rattle.std.specs.FinMap as fin
 use Rattle.std.specs.List.{Contains}
 use Rattle.std.specs.Option.{option_map, option_or}
@@ -130,7 +131,8 @@ module _ (g : Graph) (shapes : List ℕ) (texts : List (List ℕ)) where
         same = same_Some st.sound.target.kind kind (sym (ap kind_in (target_here t is)) ∙ kind_is)
 
         at : (o : Option Node) → trait_of (maps_of g) (id_of_number g k) pattern_id ≡ o
-            → cond (is_text_kind st.sound.target.kind) (text_of (option_or o (trait_of (maps_of g) (id_of_number g t) pattern_id))) None ≡ Some u
+            → cond (is_text_kind st.sound.target.kind) (text_of (option_or o (trait_of (maps_of g) (id_of_number g t) pattern_id))) None
+            ≡ Some u
         at o h =
             ap (λ x. cond (is_text_kind x) (text_of (option_or o (trait_of maps (id_of_number g t) pattern_id))) None) same
             ∙ ap (λ x. cond (is_text_kind kind) (text_of (option_or x (trait_of maps (id_of_number g t) pattern_id))) None) (sym h) ∙ seen
@@ -142,13 +144,15 @@ module _ (g : Graph) (shapes : List ℕ) (texts : List (List ℕ)) where
               st.sound.target,
               st.sound.there,
               st.sound.found,
-              ap (λ x. cond (is_text_kind st.sound.target.kind) (text_of x) None) (sym (ap (trait_in pattern_id) st.sound.there) ∙ h) ∙ at (Some n) h,
+              ap (λ x. cond (is_text_kind st.sound.target.kind) (text_of x) None) (sym (ap (trait_in pattern_id) st.sound.there) ∙ h)
+                  ∙ at (Some n) h,
             ))
         by None h =
             (ready.each t (st.member.target t lt is)).carried u (inl (
               st.sound.target,
               target_here t is,
-              ap (λ x. cond (is_text_kind st.sound.target.kind) (text_of x) None) (sym (ap (trait_in pattern_id) (target_here t is))) ∙ at None h,
+              ap (λ x. cond (is_text_kind st.sound.target.kind) (text_of x) None) (sym (ap (trait_in pattern_id) (target_here t is)))
+                  ∙ at None h,
             ))
 
     pub stands_in : (place : MemberPlace) (name : List ℕ) → s < length shapes → HasPlace g shapes s k place
@@ -166,10 +170,13 @@ module _ (g : Graph) (shapes : List ℕ) (texts : List (List ℕ)) where
           home_kind = same_Some st.home.s.kind place.home_kind (sym (ap kind_in st.home.there) ∙ has.home_kind);
           target_there = st.sound.found;
           target_id = sym target;
-          target_kind = same_Some st.sound.target.kind place.target_kind (sym (ap kind_in (target_here place.target has.target)) ∙ has.target_kind);
-          home_row = subst (λ n. place.home_row < n) (sym (length-map shapes (id_of_number g))) (subst (λ i. i < length shapes) (sym has.home) lt);
+          target_kind = same_Some st.sound.target.kind place.target_kind
+              (sym (ap kind_in (target_here place.target has.target)) ∙ has.target_kind);
+          home_row = subst (λ n. place.home_row < n) (sym (length-map shapes (id_of_number g)))
+              (subst (λ i. i < length shapes) (sym has.home) lt);
           named = number ∙ named ∙ ap (λ i. member_id i name) (sym row);
-          target_row = slice_get-map (id_of_number g) shapes place.target_row ∙ ap (option_map (id_of_number g)) has.target_row ∙ ap Some (sym target);
+          target_row = slice_get-map (id_of_number g) shapes place.target_row ∙ ap (option_map (id_of_number g)) has.target_row ∙ ap Some
+              (sym target);
         }
 
     -- the row of the member
@@ -187,9 +194,11 @@ module _ (g : Graph) (shapes : List ℕ) (texts : List (List ℕ)) where
         ∙ ap (λ o. option_or (fin.get st.sound.m.traits x) o) (ap (trait_in x) target) in
         let said : pattern_seen place.target_kind (traits_seen g k (Some place.target))
         ≡ pattern_seen st.sound.target.kind (effective_traits st.sound.m.traits st.sound.target.traits) =
-        pattern_along (traits_seen g k (Some place.target)) (effective_traits st.sound.m.traits st.sound.target.traits) seen place.target_kind
+        pattern_along (traits_seen g k (Some place.target)) (effective_traits st.sound.m.traits st.sound.target.traits) seen
+        place.target_kind
         ∙ ap (λ x. pattern_seen x (effective_traits st.sound.m.traits st.sound.target.traits)) (sym stands.target_kind) in
         subst (λ i. SaysMember maps ps (numbering g shapes) i (member_data row)) (ap (id_of_number g) has.number)
         (says_member g place row ps (numbering g shapes) st.sound.m st.home.s st.sound.target stands told placed
-        (subst (λ o. NamesText ps o (pattern_seen st.sound.target.kind (effective_traits st.sound.m.traits st.sound.target.traits))) (sym pattern)
+        (subst (λ o. NamesText ps o (pattern_seen st.sound.target.kind (effective_traits st.sound.m.traits st.sound.target.traits)))
+        (sym pattern)
         (subst (NamesText ps p) said names)))

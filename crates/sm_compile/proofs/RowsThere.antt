@@ -1,5 +1,6 @@
 -- Rows that are told by their places, from what each of them says; and the list in which a place of lists joined is.
-use Rattle.std.proofs.Common.{◌≡◌, inl, inr, ℕ, zero, suc, ◌+◌, ◌-◌, ◌<◌, ◌≤◌, List, [], ◌∷◌, ◌++◌, length, get_or, take, refl, sym, subst, arith}
+use Rattle.std.proofs.Common.{◌≡◌, inl, inr, ℕ, zero, suc, ◌+◌, ◌-◌, ◌<◌, ◌≤◌, List, [], ◌∷◌, ◌++◌, length, get_or, take, refl, sym, subst}
+use Rattle.std.proofs.Common.{arith}
 use Rattle.std.specs.List.{flat_map}
 use Rattle.std.proofs.lemmas.Bool.{cases_lt}
 use Rattle.std.proofs.lemmas.List.{length-append}
@@ -37,5 +38,6 @@ module _ {X Y : Type 0} (f : X → List Y) (d : X) where
   in_block (x ∷ xs) k lt = elim (cases_lt k (length (f x))) [
     | inl less ↦ record { block = 0; at = k; inside = omega arith; within = less; is = omega arith }
     | inr ge ↦ in_later x xs k ge (in_block xs (k - length (f x))
-        (let long = length-append (f x) (flat_map f xs) in let less : k < length (f x ++ flat_map f xs) = lt in omega (arith, ge, less, long)))
+        (let long = length-append (f x) (flat_map f xs) in let less : k < length (f x ++ flat_map f xs) = lt in omega
+        (arith, ge, less, long)))
   ]

@@ -17,7 +17,8 @@ use Rattle.sm_compile.specs.Sound.{trait_in}
 use Rattle.sm_compile.specs.TraitNodes.{own_traits}
 use Rattle.sm_compile.specs.declared.rows.MemberOrders.{MemberOrders}
 use Rattle.sm_compile.specs.steps.Looked.{kind_in, kind_under}
-use Rattle.sm_compile.specs.steps.Numbered.{AreMemberRows, AreOrders, AreReady, IsShapeRow, count_of_shape, first_of_shape, numbering, only_members, run}
+use Rattle.sm_compile.specs.steps.Numbered.{AreMemberRows, AreOrders, AreReady, IsShapeRow, count_of_shape, first_of_shape, numbering}
+use Rattle.sm_compile.specs.steps.Numbered.{only_members, run}
 use Rattle.sm_compile.specs.steps.Rows.{AreNumbers, TellsShape}
 use Rattle.sm_compile.specs.steps.Seeing.{traits_seen}
 use Rattle.sm_compile.proofs.MemberNames.{json_names_there_differ, names_there_differ, run_says, within_rows}
@@ -95,8 +96,10 @@ module _ (g : Graph) (shapes : List ℕ) (texts : List (List ℕ)) (ready : AreR
         says = subst (λ i. SaysShape (maps_of g) ps (numbering g shapes) i (shape_data row)) (sym (row_id g shapes texts s lt))
             (says_shape g k kind row ps (numbering g shapes) home.s home.there is told
             (ap (map (λ j. get_or (numbering g shapes).members j [])) (numbers.members ∙ ordered.all) ∙ numbers_say)
-            (subst (λ o. NamesText ps o (pattern_seen home.s.kind (own_traits home.s.traits))) (sym pattern) (subst (NamesText ps p) said names)));
-        orders = orders_along rows _ _ orders.members.items orders.by_name.items orders.by_json_name.items orders.needed.items row.members row.by_name
+            (subst (λ o. NamesText ps o (pattern_seen home.s.kind (own_traits home.s.traits))) (sym pattern)
+            (subst (NamesText ps p) said names)));
+        orders = orders_along rows _ _ orders.members.items orders.by_name.items orders.by_json_name.items orders.needed.items
+            row.members row.by_name
             row.by_json_name row.needed numbers.members numbers.by_name numbers.by_json_name numbers.needed ordered;
         media = told.media;
       }

@@ -1,5 +1,6 @@
 -- The patterns of a set of ids that can be listed: each text at the first id that carries it.
-use Rattle.std.proofs.Common.{◌≡◌, ◌⊎◌, inl, inr, ℕ, ◌+◌, Bool, true, false, List, [], ◌∷◌, Option, Some, None, refl, sym, ap, ◌∙◌, subst, bytes_eq, length}
+use Rattle.std.proofs.Common.{◌≡◌, ◌⊎◌, inl, inr, ℕ, ◌+◌, Bool, true, false, List, [], ◌∷◌, Option, Some, None, refl, sym, ap, ◌∙◌, subst}
+use Rattle.std.proofs.Common.{bytes_eq, length}
 use Rattle.std.specs.Prelude.{◌↔◌, slice_get, cond}
 use Rattle.std.specs.Cmp.{tied_itself}
 use Rattle.std.specs.Cmp.Lexicographic.{nat_list_cmp_total}
@@ -13,7 +14,8 @@ use Rattle.std.proofs.lemmas.Slice.Eq.{bytes_eq-Decides}
 use Rattle.sm_model.specs.Graphs.{GraphMaps, text_cmp}
 use Rattle.sm_model.proofs.OneRising.{before_one, contains_behind, contains_either, contains_head, contains_none}
 use Rattle.sm_model.proofs.Worklist.{apart}
-use Rattle.sm_compile.specs.Compiled.{AreNumberedFrom, ArePatternsOf, CarriesPattern, EachSays, IdSet, IsCarrier, IsFirstCarrier, NamesText, PatternRows, texts_of}
+use Rattle.sm_compile.specs.Compiled.{AreNumberedFrom, ArePatternsOf, CarriesPattern, EachSays, IdSet, IsCarrier, IsFirstCarrier, NamesText}
+use Rattle.sm_compile.specs.Compiled.{PatternRows, texts_of}
 use Rattle.sm_compile.specs.steps.Carrying.{carried}
 use Rattle.sm_compile.proofs.CarriedPatterns.{carries_told}
 use Rattle.sm_compile.proofs.CarriedSets.{not_greater, not_tied}

@@ -1,5 +1,6 @@
 -- The rows of a table of all shapes that a sound shape reaches: each is told by its place, from what the graph says there.
-use Rattle.std.proofs.Common.{◌≡◌, inl, inr, ℕ, ◌+◌, ◌<◌, ◌≤◌, Bool, cond, List, [], ◌∷◌, length, get_or, Option, Some, None, refl, sym, ap, ◌∙◌, subst, arith}
+use Rattle.std.proofs.Common.{◌≡◌, inl, inr, ℕ, ◌+◌, ◌<◌, ◌≤◌, Bool, cond, List, [], ◌∷◌, length, get_or, Option, Some, None, refl, sym, ap}
+use Rattle.std.proofs.Common.{◌∙◌, subst, arith}
 use Rattle.std.specs.Prelude.{◌↔◌, IsUtf8, is_some, slice_get, unwrap_or}
 use Rattle.std.specs.FinMap as fin
 use Rattle.std.specs.List.{Contains, filter, flat_map}
@@ -16,7 +17,8 @@ use Rattle.sm_model.specs.Graphs.{shape_entry, member_entry, GraphMaps, ShapeEnt
 use Rattle.sm_model.specs.PreludeShapes.{unit_id}
 use Rattle.sm_shapes.specs.TableData.{MemberData, ShapeData, TableData, json_name_at, name_at}
 use Rattle.sm_shapes.specs.InOrder.{is_needed}
-use Rattle.sm_compile.specs.Compiled.{AreNumberedFrom, IsCarrier, IsTabled, NamesText, PatternRows, SaysMember, SaysShape, members_under, texts_of}
+use Rattle.sm_compile.specs.Compiled.{AreNumberedFrom, IsCarrier, IsTabled, NamesText, PatternRows, SaysMember, SaysShape, members_under}
+use Rattle.sm_compile.specs.Compiled.{texts_of}
 use Rattle.sm_compile.specs.Kinds.{is_text_kind, table_kind, value_members}
 use Rattle.sm_compile.specs.Laws.{IsSpelledGraph}
 use Rattle.sm_compile.specs.Reached.{IsReached}
@@ -25,9 +27,11 @@ use Rattle.sm_compile.specs.Sound.{IsSoundMember, IsValueShape, Sound}
 use Rattle.sm_compile.specs.TraitIds.{json_name_id, pattern_id, required_id, sparse_id, unique_items_id}
 use Rattle.sm_compile.specs.TraitNodes.{effective_traits, own_traits, text_of}
 use Rattle.sm_compile.specs.steps.Making.{IsMadeBy}
-use Rattle.sm_compile.specs.steps.Numbered.{AreMemberRows, AreRowShapes, IsMemberRow, IsRowShape, IsShapeRow, count_of_shape, first_of_shape, numbered_by, only_members, run}
+use Rattle.sm_compile.specs.steps.Numbered.{AreMemberRows, AreRowShapes, IsMemberRow, IsRowShape, IsShapeRow, count_of_shape}
+use Rattle.sm_compile.specs.steps.Numbered.{first_of_shape, numbered_by, only_members, run}
 use Rattle.sm_compile.proofs.MemberHomes.{name_spelled, name_utf8}
-use Rattle.sm_compile.proofs.MemberNames.{json_names_there_differ, members_are, names_there_differ, row_shape, run_says, value_ids, value_names}
+use Rattle.sm_compile.proofs.MemberNames.{json_names_there_differ, members_are, names_there_differ, row_shape, run_says, value_ids}
+use Rattle.sm_compile.proofs.MemberNames.{value_names}
 use Rattle.sm_compile.proofs.NamesBehind.{one_named}
 use Rattle.sm_compile.proofs.NumbersOrdered.{some_order}
 use Rattle.sm_compile.proofs.ReadyMarks.{by_more, target_values, value_some}
@@ -105,7 +109,8 @@ module _ (g : GraphMaps) (root : List ℕ) (ids : List (List ℕ)) (value : IsVa
         at : (o : Option Node) → fin.get r.member.m.traits pattern_id ≡ o
             → cond (is_text_kind r.member.target.kind) (text_of (option_or o (fin.get r.member.target.traits pattern_id))) None ≡ Some u
         at o h =
-            ap (λ x. cond (is_text_kind r.member.target.kind) (text_of (option_or x (fin.get r.member.target.traits pattern_id))) None) (sym h)
+            ap (λ x. cond (is_text_kind r.member.target.kind) (text_of (option_or x (fin.get r.member.target.traits pattern_id))) None)
+            (sym h)
             ∙ seen
 
         by : (o : Option Node) → fin.get r.member.m.traits pattern_id ≡ o → Contains (texts_of ps) u
@@ -189,10 +194,12 @@ module _ (g : GraphMaps) (root : List ℕ) (ids : List (List ℕ)) (value : IsVa
         let home = get_or ids b.block [] in
         let id = get_or (members_under g home) b.at [] in
         let r = member_ready home id (Contains-get_or ids b.block [] b.inside) (Contains-get_or (members_under g home) b.at [] b.within) in
-        let p = number_named first ps numbered (pattern_seen r.member.target.kind (effective_traits r.member.m.traits r.member.target.traits))
+        let p = number_named first ps numbered (pattern_seen r.member.target.kind
+        (effective_traits r.member.m.traits r.member.target.traits))
         (member_pattern home id r) in
         let is : get_or (numbered_by g ids).members k [] ≡ id =
-        ap (λ i. get_or (numbered_by g ids).members i []) b.is ∙ get_or-flat_map (members_under g) ids b.block b.at [] [] b.inside b.within in
+        ap (λ i. get_or (numbered_by g ids).members i []) b.is ∙ get_or-flat_map (members_under g) ids b.block b.at [] [] b.inside
+        b.within in
         let at_is = b.is in
         let within : b.at < count_of_shape g ids b.block = b.within in
         let behind : first_of_shape g ids b.block ≤ k = omega (arith, at_is) in
@@ -209,7 +216,8 @@ module _ (g : GraphMaps) (root : List ℕ) (ids : List (List ℕ)) (value : IsVa
           let members = run (first_of_shape g ids s) (count_of_shape g ids s) in
           let reached = ((told id).0 (Contains-get_or ids s [] lt)).0 in
           let said = constraints_said g home.s (own_traits home.s.traits) in
-          let p = number_named first ps numbered (pattern_seen home.s.kind (own_traits home.s.traits)) (shape_pattern id home.s reached home.there) in
+          let p = number_named first ps numbered (pattern_seen home.s.kind (own_traits home.s.traits))
+          (shape_pattern id home.s reached home.there) in
           let named = some_order (name_at (only_members rows)) members (names_there_differ g ids ready ps rows are s lt) in
           let json_named = some_order (json_name_at (only_members rows)) members (json_names_there_differ g ids ready ps rows are s lt) in (
             record {

@@ -23,7 +23,8 @@ use Rattle.sm_compile.proofs.SomeWay.{some_served}
 module _ (g : GraphMaps) (root : List ℕ) (test : Test) (before : StoreSeen) (spelled : IsSpelledGraph g) (value : IsValueShape g root)
     (sound : Sound g root) where
   -- over the ids that are reached, those of shapes, and those that carry patterns first
-  made_of : (ids us : List (List ℕ)) → IsStrictlySortedBy text_cmp ids → ((id : List ℕ) → Contains ids id ↔ IsTabled g (IsReached g root) id)
+  made_of : (ids us : List (List ℕ)) → IsStrictlySortedBy text_cmp ids
+      → ((id : List ℕ) → Contains ids id ↔ IsTabled g (IsReached g root) id)
       → ArePatternsOf g (IsReached g root) us → (served : Served) → TellsServed g root served
       → (now : StoreSeen) × (one : TableSeen) × IsTableSeen g root test before now one
   made_of ids us rise told patterns served tells =

@@ -8,7 +8,8 @@ use Rattle.sm_shapes.specs.DefaultPuts.{HasNoDefault}
 use Rattle.sm_shapes.specs.InOrder.{Shaped, Built}
 use Rattle.sm_shapes.specs.TableData.{TableData}
 use Rattle.sm_shapes.specs.TableView.{table_data}
-use Rattle.sm_compile.specs.Compiled.{AreNumberedFrom, Numbering, IsCompiled, ArePatternsOf, IsFirstCarrier, AllUnbound, NoMediaTypes, texts_of}
+use Rattle.sm_compile.specs.Compiled.{AreNumberedFrom, Numbering, IsCompiled, ArePatternsOf, IsFirstCarrier, AllUnbound, NoMediaTypes}
+use Rattle.sm_compile.specs.Compiled.{texts_of}
 use Rattle.sm_compile.specs.Reached.{IsReached}
 use Rattle.sm_compile.specs.Served.{WayStep, IsFirstWay, IsServed, names_of_way}
 use Rattle.sm_compile.specs.Sound.{IsValueShape}

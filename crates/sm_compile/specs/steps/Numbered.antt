@@ -1,5 +1,6 @@
 -- A table's shapes and members by number, and what its rows are made from.
-use Rattle.std.specs.Prelude.{◌≡◌, ◌<◌, ◌≤◌, ◌+◌, ◌^◌, ℕ, zero, suc, Bool, List, [], ◌∷◌, map, length, get_or, take, Some, None, slice_get, unwrap_or, IsUtf8}
+use Rattle.std.specs.Prelude.{◌≡◌, ◌<◌, ◌≤◌, ◌+◌, ◌^◌, ℕ, zero, suc, Bool, List, [], ◌∷◌, map, length, get_or, take, Some, None, slice_get}
+use Rattle.std.specs.Prelude.{unwrap_or, IsUtf8}
 use Rattle.std.specs.List.{Contains, filter, flat_map}
 use Rattle.std.specs.List.Sorted.{IsStrictlySortedBy}
 use Rattle.std.specs.Ordering.{nat_cmp}

@@ -11,7 +11,8 @@ use Rattle.sm_compile.proofs.shapes.count_of.Goals as goal
 
 pub value_members-requires : goal.value_members-requires
 value_members-requires c =
-    (ready_shape c.args.parts.now.graph.now c.args.parts.now.shapes.now (texts_in c.args.parts.now.carried.now) c.requires.parts.ready c.args.row
+    (ready_shape c.args.parts.now.graph.now c.args.parts.now.shapes.now (texts_in c.args.parts.now.carried.now) c.requires.parts.ready
+    c.args.row
     c.requires.row).number
 
 pub returns-clause-count : goal.returns-clause-count

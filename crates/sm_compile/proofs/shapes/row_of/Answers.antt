@@ -12,7 +12,8 @@ use Rattle.sm_compile.proofs.shapes.row_of.Goals as goal
 
 pub kind_at-kind-requires-clause-number : goal.kind_at-kind-requires-clause-number
 kind_at-kind-requires-clause-number c =
-    (ready_shape c.args.parts.now.graph.now c.args.parts.now.shapes.now (texts_in c.args.parts.now.carried.now) c.requires.parts.ready c.args.row
+    (ready_shape c.args.parts.now.graph.now c.args.parts.now.shapes.now (texts_in c.args.parts.now.carried.now) c.requires.parts.ready
+    c.args.row
     c.requires.row).number
 
 pub kind_at-kind-requires-clause-shape : goal.kind_at-kind-requires-clause-shape
@@ -24,7 +25,8 @@ kind_at-kind-requires-clause-shape c =
 
 pub pattern_at-pattern-requires-clause-own : goal.pattern_at-pattern-requires-clause-own
 pattern_at-pattern-requires-clause-own c =
-    (ready_shape c.args.parts.now.graph.now c.args.parts.now.shapes.now (texts_in c.args.parts.now.carried.now) c.requires.parts.ready c.args.row
+    (ready_shape c.args.parts.now.graph.now c.args.parts.now.shapes.now (texts_in c.args.parts.now.carried.now) c.requires.parts.ready
+    c.args.row
     c.requires.row).number
 
 pub pattern_at-pattern-requires-clause-among : goal.pattern_at-pattern-requires-clause-among
@@ -35,7 +37,8 @@ pattern_at-pattern-requires-clause-among c u seen =
 
 pub orders-requires-clause-few : goal.orders-requires-clause-few
 orders-requires-clause-few c =
-    let within = rows_within c.args.parts.now.graph.now c.args.parts.now.shapes.now (texts_in c.args.parts.now.carried.now) c.requires.parts.ready
+    let within = rows_within c.args.parts.now.graph.now c.args.parts.now.shapes.now (texts_in c.args.parts.now.carried.now)
+    c.requires.parts.ready
     c.args.parts.now.patterns.now (map member_data c.args.members.now) c.requires.rows c.args.row c.requires.row in
     let long = length-map c.args.members.now member_data in
     omega (arith, within, long, c.requires.few, c.requires.first, c.requires.count)
@@ -43,7 +46,8 @@ orders-requires-clause-few c =
 pub orders-requires-clause-names : goal.orders-requires-clause-names
 orders-requires-clause-names c =
     let name = name_at (only_members (map member_data c.args.members.now)) in
-    let first = first_of_shape (maps_of c.args.parts.now.graph.now) (numbering c.args.parts.now.graph.now c.args.parts.now.shapes.now).shapes c.args.row in
+    let first = first_of_shape (maps_of c.args.parts.now.graph.now) (numbering c.args.parts.now.graph.now
+    c.args.parts.now.shapes.now).shapes c.args.row in
     subst (λ f. AllDiffer (map name (run f c.args.count))) (sym c.requires.first)
     (subst (λ n. AllDiffer (map name (run first n))) (sym c.requires.count)
     (row_names_differ c.args.parts.now.graph.now c.args.parts.now.shapes.now (texts_in c.args.parts.now.carried.now) c.requires.parts.ready
@@ -52,7 +56,8 @@ orders-requires-clause-names c =
 pub orders-requires-clause-json_names : goal.orders-requires-clause-json_names
 orders-requires-clause-json_names c =
     let name = json_name_at (only_members (map member_data c.args.members.now)) in
-    let first = first_of_shape (maps_of c.args.parts.now.graph.now) (numbering c.args.parts.now.graph.now c.args.parts.now.shapes.now).shapes c.args.row in
+    let first = first_of_shape (maps_of c.args.parts.now.graph.now) (numbering c.args.parts.now.graph.now
+    c.args.parts.now.shapes.now).shapes c.args.row in
     subst (λ f. AllDiffer (map name (run f c.args.count))) (sym c.requires.first)
     (subst (λ n. AllDiffer (map name (run first n))) (sym c.requires.count)
     (row_json_names_differ c.args.parts.now.graph.now c.args.parts.now.shapes.now (texts_in c.args.parts.now.carried.now)
@@ -60,7 +65,8 @@ orders-requires-clause-json_names c =
 
 pub shape_row-requires : goal.shape_row-requires
 shape_row-requires c =
-    (ready_shape c.args.parts.now.graph.now c.args.parts.now.shapes.now (texts_in c.args.parts.now.carried.now) c.requires.parts.ready c.args.row
+    (ready_shape c.args.parts.now.graph.now c.args.parts.now.shapes.now (texts_in c.args.parts.now.carried.now) c.requires.parts.ready
+    c.args.row
     c.requires.row).number
 
 pub returns : goal.returns
@@ -69,11 +75,14 @@ returns c =
     let shapes = c.args.parts.now.shapes.now in
     let rows = map member_data c.args.members.now in
     let o = c.in_ok-ordered.ordered in
-    let ordered = subst (λ f. AreOrders rows f (count_of_shape (maps_of g) (numbering g shapes).shapes c.args.row) o.members.items o.by_name.items
+    let ordered = subst (λ f. AreOrders rows f (count_of_shape (maps_of g) (numbering g shapes).shapes c.args.row) o.members.items
+    o.by_name.items
     o.by_json_name.items o.needed.items) c.requires.first
     (subst (λ n. AreOrders rows c.args.first n o.members.items o.by_name.items o.by_json_name.items o.needed.items) c.requires.count
     c.in_ok-ordered.ensures) in
     let made = c.in_ok-made.ensures in
-    shape_row_told g shapes (texts_in c.args.parts.now.carried.now) c.requires.parts.ready c.args.parts.now.patterns.now rows c.requires.rows
-    c.args.row c.requires.row c.kind_at-kind.result c.in_ok-made.made o c.pattern_at-pattern.result c.kind_at-kind.ensures made.told made.numbers
+    shape_row_told g shapes (texts_in c.args.parts.now.carried.now) c.requires.parts.ready c.args.parts.now.patterns.now rows
+    c.requires.rows
+    c.args.row c.requires.row c.kind_at-kind.result c.in_ok-made.made o c.pattern_at-pattern.result c.kind_at-kind.ensures made.told
+    made.numbers
     made.pattern c.pattern_at-pattern.ensures ordered
