@@ -1,5 +1,6 @@
 -- Lists that stand one behind the other, by their places; rows told by their places.
-use Rattle.std.proofs.Common.{◌≡◌, inl, inr, ℕ, zero, suc, ◌+◌, ◌<◌, ◌≤◌, List, [], ◌∷◌, ◌++◌, map, length, get_or, take, Some, refl, sym, ap, ◌∙◌, subst, arith, append-nil}
+use Rattle.std.proofs.Common.{◌≡◌, inl, inr, ℕ, zero, suc, ◌+◌, ◌<◌, ◌≤◌, List, [], ◌∷◌, ◌++◌, map, length, get_or, take, Some, refl, sym}
+use Rattle.std.proofs.Common.{ap, ◌∙◌, subst, arith, append-nil}
 use Rattle.std.specs.Prelude.{slice_get}
 use Rattle.std.specs.List.{Contains, flat_map}
 use Rattle.std.proofs.lemmas.Bool.{cases_lt}
@@ -69,7 +70,8 @@ pub within_run : (first n k : ℕ) → first ≤ k → k < first + n → Contain
 within_run first zero k le lt = absurd (omega (arith, le, lt))
 within_run first (suc n) k le lt = elim (cases_lt first k) [
   | inl less ↦ contains_behind first k (run (first + 1) n) (within_run (first + 1) n k (omega (arith, less)) (omega (arith, lt)))
-  | inr ge ↦ let same : first ≡ k = omega (arith, le, ge) in subst (Contains (run first (suc n))) same (contains_head first (run (first + 1) n))
+  | inr ge ↦ let same : first ≡ k = omega (arith, le, ge) in subst (Contains (run first (suc n))) same
+      (contains_head first (run (first + 1) n))
 ]
 
 pub run_more : (first n : ℕ) → run first (n + 1) ≡ run first n ++ (first + n) ∷ []
@@ -113,7 +115,8 @@ slice_end [] d e (suc k) h le = absurd (none-some e h)
 slice_end (x ∷ ds) d e zero h le = absurd (omega (arith, le))
 slice_end (x ∷ ds) d e (suc k) h le = let r = slice_end ds d e k h (omega (arith, le)) in (ap suc r.0, r.1)
 
-pub each_more : {D : Type 0} (Says : ℕ → D → Type 0) (ds : List D) (d : D) → EachAt Says ds → Says (length ds) d → EachAt Says (ds ++ d ∷ [])
+pub each_more : {D : Type 0} (Says : ℕ → D → Type 0) (ds : List D) (d : D) → EachAt Says ds → Says (length ds) d → EachAt Says
+    (ds ++ d ∷ [])
 each_more Says ds d each here k e h = elim (cases_lt k (length ds)) [
   | inl less ↦ each k e (slice_last ds d e k h less)
   | inr ge ↦ let r = slice_end ds d e k h ge in subst (λ j. Says j e) (sym r.0) (subst (Says (length ds)) r.1 here)

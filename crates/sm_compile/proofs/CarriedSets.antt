@@ -8,7 +8,7 @@ use Rattle.std.specs.declared.cmp.Ordering.{Ordering}
 use Rattle.std.specs.declared.cmp.Ordering.TheVariants.{Equal, Greater, Less}
 use Rattle.std.proofs.lemmas.Bool.{cases_eq, cases_lt}
 use Rattle.std.proofs.lemmas.List.{map-append}
-use Rattle.sm_model.specs.Graphs.{Entry, shape_entry, member_entry, text_cmp}
+use Rattle.sm_model.specs.Graphs.{Entry, GraphMaps, shape_entry, member_entry, text_cmp}
 use Rattle.sm_model.specs.GraphView.{IsShapeNumber, entries_of, maps_of}
 use Rattle.sm_model.specs.Reaching.{AreMarks, id_of_number}
 use Rattle.sm_model.specs.Relations.{HasEntry}
@@ -24,17 +24,18 @@ use Rattle.sm_compile.proofs.CarriedPatterns.{carries_told}
 use Rattle.sm_compile.proofs.TabledShapes.{ids_rise}
 
 -- what carries a pattern is in the graph
-carrier_there : (g : Graph) (id u : List ℕ) → CarriesPattern (maps_of g) id u → (e : Entry) × HasEntry (maps_of g) id e
+pub carrier_there : (g : GraphMaps) (id u : List ℕ) → CarriesPattern g id u → (e : Entry) × HasEntry g id e
 carrier_there g id u (inl s) = (shape_entry s.0, s.1)
 carrier_there g id u (inr m) = (member_entry m.0, m.2)
 
-not_greater : (r : Ordering) → r ≡ Less → r ≡ Greater → ⊥
+pub not_greater : (r : Ordering) → r ≡ Less → r ≡ Greater → ⊥
 not_greater r h k = subst (λ x. cond (is_gt x) ⊥ (Unit {0})) (sym h ∙ k) tt
 
-not_tied : (r : Ordering) → r ≡ Equal → r ≡ Greater → ⊥
+pub not_tied : (r : Ordering) → r ≡ Equal → r ≡ Greater → ⊥
 not_tied r h k = subst (λ x. cond (is_gt x) ⊥ (Unit {0})) (sym h ∙ k) tt
 
-module _ (g : Graph) (marks : List Bool) (In : List ℕ → Type 0) (are : AreMarks (length (entries_of g)) (λ k. In (id_of_number g k)) marks) where
+module _ (g : Graph) (marks : List Bool) (In : List ℕ → Type 0)
+    (are : AreMarks (length (entries_of g)) (λ k. In (id_of_number g k)) marks) where
   -- a greater id stands at a greater number
   before_it : (j k : ℕ) → IsShapeNumber g j → text_cmp (id_of_number g k) (id_of_number g j) ≡ Greater → j < k
   before_it j k lt h = elim (cases_lt j k) [
@@ -54,7 +55,7 @@ module _ (g : Graph) (marks : List Bool) (In : List ℕ → Type 0) (are : AreMa
   first_carrier u k h = record {
     carries = (((are.marked k).0 h.carries.0).1, (carries_told (maps_of g) (id_of_number g k) u).0 h.carries.1);
     least = λ other c greater.
-        let x = number_of g other (carrier_there g other u c.1) in
+        let x = number_of g other (carrier_there (maps_of g) other u c.1) in
         let marked = (are.marked x.0).1 (x.1, subst In (sym x.2) c.0) in
         h.least x.0 (before_it x.0 k x.1 (subst (λ i. text_cmp (id_of_number g k) i ≡ Greater) (sym x.2) greater))
         (marked, (carries_told (maps_of g) (id_of_number g x.0) u).1 (subst (λ i. CarriesPattern (maps_of g) i u) (sym x.2) c.1));
@@ -71,7 +72,7 @@ module _ (g : Graph) (marks : List Bool) (In : List ℕ → Type 0) (are : AreMa
     each = firsts_carry (rows_in c) h.rows.first;
     rise = h.rows.rise;
     all = λ u id k.
-        let x = number_of g id (carrier_there g id u k.1) in
+        let x = number_of g id (carrier_there (maps_of g) id u k.1) in
         h.rows.all x.0 u x.1 (
           (are.marked x.0).1 (x.1, subst In (sym x.2) k.0),
           (carries_told (maps_of g) (id_of_number g x.0) u).1 (subst (λ i. CarriesPattern (maps_of g) i u) (sym x.2) k.1),

@@ -1,5 +1,6 @@
 -- A walk that enters each shape once finds the first way to a shape that isn't served, or there is none.
-use Rattle.std.proofs.Common.{◌≡◌, ◌⊎◌, inl, inr, ℕ, ◌<◌, Bool, List, [], ◌∷◌, ◌++◌, map, reverse, refl, sym, ap, ◌∙◌, subst, arith, append_assoc}
+use Rattle.std.proofs.Common.{◌≡◌, ◌⊎◌, inl, inr, ℕ, ◌<◌, Bool, List, [], ◌∷◌, ◌++◌, map, reverse, refl, sym, ap, ◌∙◌, subst, arith}
+use Rattle.std.proofs.Common.{append_assoc}
 use Rattle.std.specs.Cmp.{nat_cmp_is}
 use Rattle.std.specs.Cmp.Lexicographic.{slice_cmp}
 use Rattle.std.specs.List.{Contains}
@@ -8,7 +9,7 @@ use Rattle.std.specs.declared.cmp.Ordering.{Ordering}
 use Rattle.std.specs.declared.cmp.Ordering.TheVariants.{Less, Equal, Greater}
 use Rattle.std.proofs.lemmas.Bool.{cases_eq, cases_lt}
 use Rattle.std.proofs.lemmas.List.{map-append, reverse-append}
-use Rattle.sm_model.specs.Graphs.{shape_entry}
+use Rattle.sm_model.specs.Graphs.{GraphMaps, shape_entry}
 use Rattle.sm_model.specs.GraphView.{maps_of}
 use Rattle.sm_model.specs.Reaching.{id_of_number}
 use Rattle.sm_model.specs.Relations.{IsInGraph}
@@ -21,7 +22,7 @@ use Rattle.sm_compile.specs.steps.Carrying.{IsMarkedId}
 use Rattle.sm_compile.specs.steps.Walking.{IsEntered, IsOpen, StandsAt, ids_above, step_of}
 use Rattle.sm_compile.proofs.OneWay.{same_step}
 
-abbrev is_less : Ordering → Type 0
+abbrev pub is_less : Ordering → Type 0
 is_less Less = Unit {0}
 is_less Equal = ⊥
 is_less Greater = ⊥
@@ -32,27 +33,27 @@ nothing_before [] less = subst is_less (sym less) tt
 nothing_before (s ∷ other) less = subst is_less (sym less) tt
 
 -- none of some ids stands among others
-abbrev KeepsOff : List (List ℕ) → List (List ℕ) → Type 0
+abbrev pub KeepsOff : List (List ℕ) → List (List ℕ) → Type 0
 KeepsOff open_ids ids = (x : List ℕ) → Contains ids x → Contains open_ids x → ⊥
 
-none_is : (x : List ℕ) (ys : List (List ℕ)) → ((y : List ℕ) → Contains ys y → y ≡ x → ⊥) → NoneIs x ys
+pub none_is : (x : List ℕ) (ys : List (List ℕ)) → ((y : List ℕ) → Contains ys y → y ≡ x → ⊥) → NoneIs x ys
 none_is x [] h = tt
 none_is x (y ∷ ys) h = (h y (contains_head y ys), none_is x ys (λ z there. h z (contains_behind y z ys there)))
 
-is_none : (x : List ℕ) (ys : List (List ℕ)) → NoneIs x ys → (y : List ℕ) → Contains ys y → x ≡ y → ⊥
+pub is_none : (x : List ℕ) (ys : List (List ℕ)) → NoneIs x ys → (y : List ℕ) → Contains ys y → x ≡ y → ⊥
 is_none x [] h y there same = contains_none y there
 is_none x (z ∷ ys) h y there same = elim (contains_either z y ys there) [
   | inl is ↦ h.0 (is ∙ sym same)
   | inr later ↦ is_none x ys h.1 y later same
 ]
 
-module _ (g : Graph) where
-  -- a way begins at a shape of the graph
-  pub way_begins : (id : List ℕ) (way : List WayStep) → IsWay (maps_of g) id way → IsInGraph (maps_of g) id
-  way_begins id [] (inl (s, there, is)) = (shape_entry s, there)
-  way_begins id [] (inr (s, there, is)) = (shape_entry s, there)
-  way_begins id (step ∷ way) h = (shape_entry h.0.s, h.0.there)
+-- a way begins at a shape of the graph
+pub way_begins : (g : GraphMaps) (id : List ℕ) (way : List WayStep) → IsWay g id way → IsInGraph g id
+way_begins g id [] (inl (s, there, is)) = (shape_entry s, there)
+way_begins g id [] (inr (s, there, is)) = (shape_entry s, there)
+way_begins g id (step ∷ way) h = (shape_entry h.0.s, h.0.there)
 
+module _ (g : Graph) where
   abbrev AllServed : List Bool → Type 0
   AllServed marks = (x : List ℕ) → IsMarkedId g marks x → IsUnserved (maps_of g) x → ⊥
 
@@ -69,7 +70,7 @@ module _ (g : Graph) where
   stuck marks open_ids served closed id (step ∷ way) here h off = elim (closed id here) [
     | inl among ↦ off id (contains_head id (entered step.to way)) among
     | inr taken ↦
-        stuck marks open_ids served closed step.to way (taken step h.0 (way_begins step.to way h.1)) h.1
+        stuck marks open_ids served closed step.to way (taken step h.0 (way_begins (maps_of g) step.to way h.1)) h.1
         (λ x there. off x (contains_behind id x (entered step.to way) there))
   ]
 
@@ -104,7 +105,8 @@ module _ (g : Graph) where
   least_above marks open_ids id step way o is least (s ∷ other) h differ off less =
       elim (cases_lt s.at step.at) [
         | inl before ↦
-            stuck marks (id ∷ open_ids) o.served o.closed s.to other (o.taken s h.0 before (way_begins s.to other h.1)) h.1 off_all
+            stuck marks (id ∷ open_ids) o.served o.closed s.to other (o.taken s h.0 before (way_begins (maps_of g) s.to other h.1)) h.1
+            off_all
         | inr ge ↦ elim (cases_eq s.at step.at) [
           | inl same ↦ at_same same
           | inr apart ↦
@@ -134,7 +136,8 @@ module _ (g : Graph) where
   differ_above marks id xs here fresh = none_is id xs (λ y there same. fresh y there (subst (IsMarkedId g marks) (sym same) here))
 
   names_turned : (a : Above) (above : List Above) (names : List (List ℕ))
-      → map (λ (b : Above). b.name.now) (reverse above) ++ a.name.now ∷ names ≡ map (λ (b : Above). b.name.now) (reverse (a ∷ above)) ++ names
+      → map (λ (b : Above). b.name.now) (reverse above) ++ a.name.now ∷ names ≡ map (λ (b : Above). b.name.now) (reverse (a ∷ above))
+      ++ names
   names_turned a above names =
       sym (ap (λ xs. map (λ (b : Above). b.name.now) xs ++ names) (reverse-append (a ∷ []) above)
       ∙ ap (λ xs. xs ++ names) (map-append (λ (b : Above). b.name.now) (reverse above) (a ∷ []))
@@ -181,7 +184,8 @@ module _ (g : Graph) where
   pub none_found : (root : List ℕ) (marks : List Bool) (id : List ℕ) (at : ℕ) → StandsAt g root marks id at [] → AllTaken marks id
       → IsServed (maps_of g) root
   none_found root marks id at h taken way is =
-      stuck marks [] h.0.served closed id way h.0.here (subst (λ x. IsWay (maps_of g) x way) (sym h.1) is) (λ x there none. contains_none x none)
+      stuck marks [] h.0.served closed id way h.0.here (subst (λ x. IsWay (maps_of g) x way) (sym h.1) is)
+      (λ x there none. contains_none x none)
     where
       closed : AreClosed marks []
       closed x marked = elim (h.0.closed x marked) [

@@ -2,7 +2,7 @@ pub mod RowsAlike
 pub mod OnePatterns
 pub mod OneWay
 pub mod OneTable
-mod LookedUp
+pub mod LookedUp
 mod ReachedNumbers
 mod Differing
 mod NamesBehind
@@ -39,6 +39,13 @@ mod CompiledShapes
 mod MarkedTables
 mod CarriedSets
 mod CompiledRoots
+mod NumbersOrdered
+mod RowsThere
+mod KeptIds
+mod SomePatterns
+mod SomeWay
+mod SomeRows
+mod SomeTable
 mod UriStops
 mod UriBytes
 mod UriNames

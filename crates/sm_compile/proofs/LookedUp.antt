@@ -8,7 +8,8 @@ use denote.Ref.{Bor}
 use Rattle.sm_tree.specs.View.{node_of}
 use Rattle.sm_tree.specs.declared.Tree.{Tree}
 use Rattle.sm_model.specs.Graphs.{Entry, shape_entry, member_entry, GraphMaps, traits_in}
-use Rattle.sm_model.specs.GraphView.{At, HasKind, HasMembers, IsMemberAt, IsMemberEntry, IsShapeAt, IsShapeEntry, IsShapeNumber, Stands, Targets, is_member_entry, maps_of, target_of}
+use Rattle.sm_model.specs.GraphView.{At, HasKind, HasMembers, IsMemberAt, IsMemberEntry, IsShapeAt, IsShapeEntry, IsShapeNumber, Stands}
+use Rattle.sm_model.specs.GraphView.{Targets, is_member_entry, maps_of, target_of}
 use Rattle.sm_model.specs.Reaching.{id_of_number}
 use Rattle.sm_model.specs.declared.graph.Graph.{Graph}
 use Rattle.sm_model.specs.declared.kind.Kind.{Kind}

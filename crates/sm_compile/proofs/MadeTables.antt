@@ -1,5 +1,6 @@
 -- A table that is made of shapes that are ready is in order, and says what the graph says.
-use Rattle.std.proofs.Common.{◌≡◌, ℕ, ◌+◌, ◌<◌, true, cond, List, [], ◌∷◌, map, length, get_or, Option, Some, None, refl, sym, ap, ◌∙◌, subst, arith}
+use Rattle.std.proofs.Common.{◌≡◌, ℕ, ◌+◌, ◌<◌, true, cond, List, [], ◌∷◌, map, length, get_or, Option, Some, None, refl, sym, ap, ◌∙◌}
+use Rattle.std.proofs.Common.{subst, arith}
 use Rattle.std.specs.Prelude.{IsUtf8, slice_get}
 use Rattle.std.specs.List.{Contains, filter}
 use Rattle.std.specs.Ordering.{nat_cmp}
@@ -9,25 +10,26 @@ use Rattle.std.proofs.lemmas.Option.{none-some}
 use Rattle.sm_tree.specs.Node.{Node}
 use Rattle.sm_model.specs.Formed.{HaveForm}
 use Rattle.sm_model.specs.Graphs.{GraphMaps, ShapeEntry, shape_entry, member_entry, member_id}
-use Rattle.sm_model.specs.GraphView.{maps_of}
 use Rattle.sm_model.specs.Kinds.{member_form}
-use Rattle.sm_model.specs.Reaching.{id_of_number}
 use Rattle.sm_model.specs.Relations.{HasEntry}
-use Rattle.sm_model.specs.declared.graph.Graph.{Graph}
 use Rattle.sm_model.specs.declared.kind.Kind.{Kind}
 use Rattle.sm_model.specs.declared.kind.Kind.TheVariants as model
 use Rattle.sm_shapes.specs.DefaultPuts.{HasNoDefault}
-use Rattle.sm_shapes.specs.InOrder.{AreByName, AreMembersOf, HasItsMembers, IsTextKind, MayDefault, MayHaveNode, NamesPattern, Shaped, is_needed}
+use Rattle.sm_shapes.specs.InOrder.{AreByName, AreMembersOf, HasItsMembers, IsTextKind, MayDefault, MayHaveNode, NamesPattern, Shaped}
+use Rattle.sm_shapes.specs.InOrder.{is_needed}
 use Rattle.sm_shapes.specs.Names.{AllDiffer}
-use Rattle.sm_shapes.specs.TableData.{MemberData, ShapeData, TableData, binding_in, by_json_name_in, by_name_in, constraints_in, default_at, default_in, default_node_at, default_node_in, home_at, home_in, json_name_at, json_name_in, kind_at, kind_in, member_count, members_at, members_in, name_at, name_in, needed_in, shape_constraints_in, shape_count, target_at, target_in}
+use Rattle.sm_shapes.specs.TableData.{MemberData, ShapeData, TableData, binding_in, by_json_name_in, by_name_in, constraints_in, default_at}
+use Rattle.sm_shapes.specs.TableData.{default_in, default_node_at, default_node_in, home_at, home_in, json_name_at, json_name_in, kind_at}
+use Rattle.sm_shapes.specs.TableData.{kind_in, member_count, members_at, members_in, name_at, name_in, needed_in, shape_constraints_in}
+use Rattle.sm_shapes.specs.TableData.{shape_count, target_at, target_in}
 use Rattle.sm_compile.specs.Compiled.{AllUnbound, EachSays, NoMediaTypes, SaysMember, SaysShape, members_under}
 use Rattle.sm_compile.specs.Kinds.{has_value_members, table_kind}
 use Rattle.sm_compile.specs.Sound.{HasTextKey, TargetsText}
-use Rattle.sm_compile.specs.steps.Making.{IsMade}
-use Rattle.sm_compile.specs.steps.Numbered.{AreReady, IsMemberRow, IsShapeRow, count_of_shape, first_of_shape, numbering, run}
+use Rattle.sm_compile.specs.steps.Making.{IsMadeBy}
+use Rattle.sm_compile.specs.steps.Numbered.{AreRowShapes, IsMemberRow, IsShapeRow, count_of_shape, first_of_shape, numbered_by, run}
 use Rattle.sm_compile.proofs.Blocks.{one_block, run_long, run_within, within_run}
-use Rattle.sm_compile.proofs.MemberNames.{all_long, id_here, json_names_there_differ, names_there_differ, row_here, row_members, there_at, value_names, within_rows}
-use Rattle.sm_compile.proofs.ReadyRows.{members_are, ready_shape, row_id}
+use Rattle.sm_compile.proofs.MemberNames.{all_long, id_here, json_names_there_differ, members_are, names_there_differ, row_here}
+use Rattle.sm_compile.proofs.MemberNames.{row_members, row_shape, there_at, value_names, within_rows}
 use Rattle.sm_compile.proofs.RowsAlike.{place_of}
 use Rattle.sm_compile.proofs.ShapedTables.{all_unbound, default_told, each_says, members_all, names_pattern, no_media, run_rises, text_told}
 use Rattle.sm_compile.proofs.SoundShapes.{one_shape}
@@ -95,66 +97,56 @@ module _ (t : TableData) where
   own_told model.Operation ks a b c = tt
   own_told model.Resource ks a b c = tt
 
-module _ (g : Graph) (shapes : List ℕ) (texts : List (List ℕ)) (ready : AreReady g shapes texts) (t : TableData)
-    (made : IsMade g shapes t.patterns t) where
-  abbrev m : GraphMaps
-  m = maps_of g
-
-  abbrev ids : List (List ℕ)
-  ids = (numbering g shapes).shapes
-
-  long : length ids ≡ length shapes
-  long = length-map shapes (id_of_number g)
-
-  count_is : length t.members ≡ length (numbering g shapes).members
-  count_is = all_long g shapes texts ready t.patterns t.members made.members
+module _ (g : GraphMaps) (ids : List (List ℕ)) (ready : AreRowShapes g ids) (t : TableData) (made : IsMadeBy g ids t) where
+  count_is : length t.members ≡ length (numbered_by g ids).members
+  count_is = all_long g ids ready t.patterns t.members made.members
 
   -- the rows at numbers
   shape_row : (s : ℕ) → s < shape_count t → (d : ShapeData) × (slice_get t.shapes s ≡ Some d)
-      × IsShapeRow (maps_of g) t.patterns (numbering g shapes) t.members s d
+      × IsShapeRow g t.patterns (numbered_by g ids) t.members s d
   shape_row s lt = let x = there_at t.shapes s lt in (x.0, x.1, made.shapes s x.0 x.1)
 
   member_row : (k : ℕ) → k < member_count t → (d : MemberData) × (slice_get t.members k ≡ Some d)
-      × IsMemberRow (maps_of g) t.patterns (numbering g shapes) k d
+      × IsMemberRow g t.patterns (numbered_by g ids) k d
   member_row k lt = let x = there_at t.members k lt in (x.0, x.1, made.members.each k x.0 x.1)
 
-  in_shapes : (s : ℕ) → s < length (numbering g shapes).shapes → s < shape_count t
-  in_shapes s lt = omega (arith, lt, long, made.long)
+  in_shapes : (s : ℕ) → s < length ids → s < shape_count t
+  in_shapes s lt = omega (arith, lt, made.long)
 
-  kind_row : (s : ℕ) → s < length (numbering g shapes).shapes → (x : ShapeEntry)
-      → HasEntry (maps_of g) (get_or (numbering g shapes).shapes s []) (shape_entry x) → kind_at t s ≡ table_kind x.kind
+  kind_row : (s : ℕ) → s < length ids → (x : ShapeEntry)
+      → HasEntry g (get_or ids s []) (shape_entry x) → kind_at t s ≡ table_kind x.kind
   kind_row s lt x there =
       let r = shape_row s (in_shapes s lt) in
       ap kind_in r.1 ∙ r.2.says.kind
-      ∙ ap (λ (y : ShapeEntry). table_kind y.kind) (one_shape (maps_of g) (get_or ids s []) r.2.says.s x r.2.says.there there)
+      ∙ ap (λ (y : ShapeEntry). table_kind y.kind) (one_shape g (get_or ids s []) r.2.says.s x r.2.says.there there)
 
-  target_kind : (k : ℕ) (d : MemberData) (r : IsMemberRow (maps_of g) t.patterns (numbering g shapes) k d)
+  target_kind : (k : ℕ) (d : MemberData) (r : IsMemberRow g t.patterns (numbered_by g ids) k d)
       → kind_at t d.target ≡ table_kind r.says.target.kind
   target_kind k d r =
       let p = place_of ids d.target r.says.m.target r.says.target_number in
       kind_row d.target p.0 r.says.target
-      (subst (λ i. HasEntry (maps_of g) i (shape_entry r.says.target)) (sym p.1) r.says.target_there)
+      (subst (λ i. HasEntry g i (shape_entry r.says.target)) (sym p.1) r.says.target_there)
 
   members_run : (s : ℕ) → s < shape_count t
-      → members_at t s ≡ run (first_of_shape (maps_of g) (numbering g shapes).shapes s) (count_of_shape (maps_of g) (numbering g shapes).shapes s)
+      → members_at t s ≡ run (first_of_shape g ids s) (count_of_shape g ids s)
   members_run s lt = let r = shape_row s lt in ap members_in r.1 ∙ r.2.orders.all
 
-  in_graph_shapes : (s : ℕ) → s < shape_count t → s < length shapes
+  in_graph_shapes : (s : ℕ) → s < shape_count t → s < length ids
   in_graph_shapes s lt = omega (arith, lt, made.long)
 
   run_member : (s : ℕ) → s < shape_count t → (k : ℕ)
-      → Contains (run (first_of_shape (maps_of g) (numbering g shapes).shapes s) (count_of_shape (maps_of g) (numbering g shapes).shapes s)) k
+      → Contains (run (first_of_shape g ids s) (count_of_shape g ids s)) k
       → (k < member_count t) × (home_at t k ≡ s)
   run_member s lt k there =
-      let first = first_of_shape (maps_of g) ids s in
-      let count = count_of_shape (maps_of g) ids s in
+      let first = first_of_shape g ids s in
+      let count = count_of_shape g ids s in
       let within = run_within first count k there in
-      let whole = within_rows g shapes texts ready t.patterns t.members made.members s (in_graph_shapes s lt) in
+      let whole = within_rows g ids ready t.patterns t.members made.members s (in_graph_shapes s lt) in
       let inside : k < member_count t = omega (arith, within.1, whole) in
       let x = member_row k inside in
-      let here : s < length ids = omega (arith, lt, long, made.long) in (
+      let here : s < length ids = omega (arith, lt, made.long) in (
         inside,
-        ap home_in x.1 ∙ one_block (members_under (maps_of g)) [] ids x.0.shape s k x.2.says.shape_number here x.2.behind x.2.before
+        ap home_in x.1 ∙ one_block (members_under g) [] ids x.0.shape s k x.2.says.shape_number here x.2.behind x.2.before
             within.0 within.1,
       )
 
@@ -165,50 +157,51 @@ module _ (g : Graph) (shapes : List ℕ) (texts : List (List ℕ)) (ready : AreR
       let less = in_shapes s x.2.says.shape_number in
       let there : Contains (members_at t s) k =
       subst (λ ks. Contains ks k) (sym (members_run s less))
-      (within_run (first_of_shape (maps_of g) ids s) (count_of_shape (maps_of g) ids s) k x.2.behind x.2.before) in
+      (within_run (first_of_shape g ids s) (count_of_shape g ids s) k x.2.behind x.2.before) in
       subst (λ h. (h < shape_count t) × Contains (members_at t h) k) (sym (ap home_in x.1)) (less, there)
 
   -- the first member of a map is a text
-  key_told : (s : ℕ) (lt : s < shape_count t) → (ready_shape g shapes texts ready s (in_graph_shapes s lt)).s.kind ≡ model.Map
+  key_told : (s : ℕ) (lt : s < shape_count t) → (row_shape g ids ready s (in_graph_shapes s lt)).s.kind ≡ model.Map
       → IsTextKind (kind_at t (target_at t (get_or (members_at t s) 0 0)))
   key_told s lt is =
       let less = in_graph_shapes s lt in
-      let home = ready_shape g shapes texts ready s less in
-      let first = first_of_shape (maps_of g) ids s in
-      let count = count_of_shape (maps_of g) ids s in
-      let names = value_names (maps_of g) (id_of_number g (get_or shapes s 0)) home.s home.sound in
+      let home = row_shape g ids ready s less in
+      let first = first_of_shape g ids s in
+      let count = count_of_shape g ids s in
+      let names = value_names g (get_or ids s []) home.s home.sound in
       let two : count ≡ 2 =
-      ap length (row_members g shapes texts ready t.patterns t.members made.members s less)
-      ∙ length-map names (member_id (id_of_number g (get_or shapes s 0))) ∙ map_count home.s.kind home.sound.names home.sound.form is in
+      ap length (row_members g ids ready t.patterns t.members made.members s less)
+      ∙ length-map names (member_id (get_or ids s [])) ∙ map_count home.s.kind home.sound.names home.sound.form is in
       let some : 0 < count = omega (arith, two) in
-      let x = row_here g shapes texts ready t.patterns t.members made.members s less 0 some in
-      let under : members_under (maps_of g) (get_or ids s []) ≡ home.s.members =
-      ap (members_under (maps_of g)) (row_id g shapes texts s less) ∙ members_are g shapes texts (get_or shapes s 0) home
+      let x = row_here g ids ready t.patterns t.members made.members s less 0 some in
+      let under : members_under g (get_or ids s []) ≡ home.s.members =
+      members_are g (get_or ids s []) home
       ∙ ap (λ b. cond b home.s.members []) (ap has_value_members is) in
       let some_listed : 0 < length home.s.members = subst (λ n. 0 < n) (ap length under) some in
-      let key = text_key (maps_of g) home.s.kind home.s.members is home.sound.key some_listed in
-      let key_is : get_or home.s.members 0 [] ≡ get_or (numbering g shapes).members (first + 0) [] =
-      ap (λ ms. get_or ms 0 []) (sym under) ∙ sym (id_here g shapes texts ready t.patterns t.members made.members s less 0 some) in
+      let key = text_key g home.s.kind home.s.members is home.sound.key some_listed in
+      let key_is : get_or home.s.members 0 [] ≡ get_or (numbered_by g ids).members (first + 0) [] =
+      ap (λ ms. get_or ms 0 []) (sym under) ∙ sym (id_here g ids ready t.patterns t.members made.members s less 0 some) in
       let text = key x.2.says.m x.2.says.target
-      (subst (λ i. HasEntry (maps_of g) i (member_entry x.2.says.m)) (sym key_is) x.2.says.there) x.2.says.target_there in
+      (subst (λ i. HasEntry g i (member_entry x.2.says.m)) (sym key_is) x.2.says.there) x.2.says.target_there in
       let zero_more : first + 0 ≡ first = omega arith in
       let head : get_or (members_at t s) 0 0 ≡ first + 0 =
       ap (λ ks. get_or ks 0 0) (members_run s lt ∙ ap (run first) two) ∙ sym zero_more in
       subst (λ k. IsTextKind (kind_at t (target_at t k))) (sym head)
-      (subst IsTextKind (sym (ap (λ o. kind_at t (target_in o)) x.1 ∙ target_kind (first + 0) x.0 x.2)) (text_told x.2.says.target.kind text))
+      (subst IsTextKind (sym (ap (λ o. kind_at t (target_in o)) x.1 ∙ target_kind (first + 0) x.0 x.2))
+      (text_told x.2.says.target.kind text))
 
   own_there : (s : ℕ) → s < shape_count t → HasItsMembers t (kind_at t s) (members_at t s)
   own_there s lt =
       let less = in_graph_shapes s lt in
-      let home = ready_shape g shapes texts ready s less in
-      let names = value_names (maps_of g) (id_of_number g (get_or shapes s 0)) home.s home.sound in
-      let here : s < length ids = omega (arith, lt, long, made.long) in
+      let home = row_shape g ids ready s less in
+      let names = value_names g (get_or ids s []) home.s home.sound in
+      let here : s < length ids = omega (arith, lt, made.long) in
       let kind : kind_at t s ≡ table_kind home.s.kind =
-      kind_row s here home.s (subst (λ i. HasEntry (maps_of g) i (shape_entry home.s)) (sym (row_id g shapes texts s less)) home.there) in
+      kind_row s here home.s home.there in
       let count : length (members_at t s) ≡ length names =
-      ap length (members_run s lt) ∙ run_long (first_of_shape (maps_of g) ids s) (count_of_shape (maps_of g) ids s)
-      ∙ ap length (row_members g shapes texts ready t.patterns t.members made.members s less)
-      ∙ length-map names (member_id (id_of_number g (get_or shapes s 0))) in
+      ap length (members_run s lt) ∙ run_long (first_of_shape g ids s) (count_of_shape g ids s)
+      ∙ ap length (row_members g ids ready t.patterns t.members made.members s less)
+      ∙ length-map names (member_id (get_or ids s [])) in
       subst (λ k. HasItsMembers t k (members_at t s)) (sym kind)
       (own_told t home.s.kind (members_at t s) (λ e. count ∙ list_count home.s.kind home.sound.names home.sound.form e)
       (λ e. count ∙ map_count home.s.kind home.sound.names home.sound.form e) (key_told s lt))
@@ -253,9 +246,9 @@ module _ (g : Graph) (shapes : List ℕ) (texts : List (List ℕ)) (ready : AreR
         subst (λ o. needed_in o ≡ filter (is_needed t) (members_in o)) (sym r.1) r.2.orders.must;
     own = own_there;
     names = λ s lt. subst (λ ks. AllDiffer (map (name_at t) ks)) (sym (members_run s lt))
-        (names_there_differ g shapes texts ready t.patterns t.members made.members s (in_graph_shapes s lt));
+        (names_there_differ g ids ready t.patterns t.members made.members s (in_graph_shapes s lt));
     json_names = λ s lt. subst (λ ks. AllDiffer (map (json_name_at t) ks)) (sym (members_run s lt))
-        (json_names_there_differ g shapes texts ready t.patterns t.members made.members s (in_graph_shapes s lt));
+        (json_names_there_differ g ids ready t.patterns t.members made.members s (in_graph_shapes s lt));
     utf8 = λ k lt.
         let x = member_row k lt in
         subst (λ o. IsUtf8 (name_in o) × IsUtf8 (json_name_in o)) (sym x.1) (x.2.name, x.2.json_name);
@@ -269,11 +262,11 @@ module _ (g : Graph) (shapes : List ℕ) (texts : List (List ℕ)) (ready : AreR
   }
 
   -- what the rows say
-  pub shapes_told : EachSays (SaysShape (maps_of g) t.patterns (numbering g shapes)) (numbering g shapes).shapes t.shapes
-  shapes_told = each_says _ ids t.shapes (long ∙ sym made.long) (λ k d at. (made.shapes k d at).says)
+  pub shapes_told : EachSays (SaysShape g t.patterns (numbered_by g ids)) ids t.shapes
+  shapes_told = each_says _ ids t.shapes (sym made.long) (λ k d at. (made.shapes k d at).says)
 
-  pub members_told : EachSays (SaysMember (maps_of g) t.patterns (numbering g shapes)) (numbering g shapes).members t.members
-  members_told = each_says _ (numbering g shapes).members t.members (sym count_is) (λ k d at. (made.members.each k d at).says)
+  pub members_told : EachSays (SaysMember g t.patterns (numbered_by g ids)) (numbered_by g ids).members t.members
+  members_told = each_says _ (numbered_by g ids).members t.members (sym count_is) (λ k d at. (made.members.each k d at).says)
 
   pub unbound_told : AllUnbound t.members
   unbound_told = all_unbound t.members (λ k d at. (made.members.each k d at).unbound)

@@ -62,7 +62,8 @@ module _ (g : Graph) (marks : List Bool) (whole : length marks ≡ length (entri
           (subst (λ ps. IsMade g numbers ps (table_data made.table)) (sym table.patterns) table);
     }
 
-pub stopped_marked : (g : Graph) (marks : List Bool) (before now : StoreSeen) (c : CarriedTexts) → AreCarried g marks c → (refusal : CompileRefusal)
+pub stopped_marked : (g : Graph) (marks : List Bool) (before now : StoreSeen) (c : CarriedTexts) → AreCarried g marks c
+    → (refusal : CompileRefusal)
     → StopsAmong g (rows_in c) before now refusal → TablesMarked g marks before now (Err refusal)
 stopped_marked g marks before now c are NoShape h = h
 stopped_marked g marks before now c are (Pattern id) h = (c, are, h)

@@ -1,7 +1,12 @@
 -- The id of a member names the shape in which it stands, so that no member stands in two shapes.
-use Rattle.std.proofs.Common.{◌≡◌, ℕ, Bool, true, not, ◌==◌, List, [], ◌∷◌, ◌++◌, Option, Some, None, refl, sym, ap, ◌∙◌, subst, arith, append_assoc, append-nil}
+use Rattle.std.proofs.Common.{◌≡◌, ℕ, Bool, true, not, ◌==◌, List, [], ◌∷◌, ◌++◌, Option, Some, None, refl, sym, ap, ◌∙◌, subst, arith}
+use Rattle.std.proofs.Common.{append_assoc, append-nil}
 use Rattle.std.specs.List.{Contains, flat_map, list_all}
+use Rattle.std.specs.Prelude.{◌<◌, IsUtf8}
 use Rattle.std.proofs.lemmas.Bool.Decides.{nat_tests}
+use Rattle.std.proofs.lemmas.List.Sums.{AllPass-from_list_all}
+use Rattle.std.proofs.lemmas.Str.{IsUtf8-from_ascii}
+use Rattle.std.proofs.lemmas.Str.Ascii.{IsAscii-from_all}
 use Rattle.sm_ids.specs.Identifier.{is_identifier_byte, IsIdentifier}
 use Rattle.sm_ids.specs.IdText.{Id, IsId, IsIdText, member_text, printed}
 use Rattle.sm_ids.proofs.Cutting.{and_also, both, heads, list_all_weaker, tails}
@@ -10,6 +15,7 @@ use Rattle.sm_ids.proofs.Namespaces.{is_namespace_byte, namespace_bytes}
 use Rattle.sm_model.specs.Graphs.{member_id}
 use Rattle.sm_model.proofs.OneRising.{contains_behind, contains_head}
 use Rattle.sm_shapes.specs.Names.{AllDiffer, NoneIs}
+use Rattle.sm_compile.proofs.NamesBehind.{behind_one}
 use Rattle.sm_compile.proofs.RowsAlike.{none_among}
 use Rattle.sm_compile.proofs.TabledMembers.{joined_from}
 
@@ -26,7 +32,8 @@ plain_namespace c h = grind (arith, nat_tests)
 plain_joined : (xs ys : List ℕ) → list_all is_plain xs ≡ true → list_all is_plain ys ≡ true → list_all is_plain (xs ++ ys) ≡ true
 plain_joined [] ys h k = k
 plain_joined (x ∷ xs) ys h k =
-    let b = both (is_plain x) (list_all is_plain xs) h in and_also (is_plain x) (list_all is_plain (xs ++ ys)) b.0 (plain_joined xs ys b.1 k)
+    let b = both (is_plain x) (list_all is_plain xs) h in and_also (is_plain x) (list_all is_plain (xs ++ ys)) b.0
+    (plain_joined xs ys b.1 k)
 
 no_plain_dollar : (c : ℕ) → c ≡ 36 → is_plain c ≡ true → ⊥
 no_plain_dollar c e h = let k : is_plain 36 ≡ true = subst (λ x. is_plain x ≡ true) e h in cc
@@ -72,6 +79,35 @@ shape_part id h s n e = by id.member refl
 pub same_home : (t s r n m : List ℕ) → IsIdText t → t ≡ member_id s n → t ≡ member_id r m → s ≡ r
 same_home t s r n m is e f =
     shape_part is.0 is.1.is_id s n (sym is.1.spelled ∙ e) ∙ sym (shape_part is.0 is.1.is_id r m (sym is.1.spelled ∙ f))
+
+-- the name in a member's id
+pub name_spelled : (t s n : List ℕ) → IsIdText t → t ≡ member_id s n → IsIdentifier n
+name_spelled t s n is e = by is.0.member refl
+  where
+    whole : printed is.0 ≡ member_id s n
+    whole = sym is.1.spelled ∙ e
+
+    by : (o : Option (List ℕ)) → is.0.member ≡ o → IsIdentifier n
+    by None none =
+        absurd (no_dollar s n (is.0.namespace ++ 35 ∷ is.0.name) (plain_shape is.0 is.1.is_id)
+        (sym whole ∙ ap (λ o. is.0.namespace ++ 35 ∷ (is.0.name ++ member_text o)) none
+        ∙ ap (λ x. is.0.namespace ++ 35 ∷ x) (append-nil is.0.name)))
+    by (Some m) some =
+        let home : List ℕ = is.0.namespace ++ 35 ∷ is.0.name in
+        let parts : home ++ 36 ∷ m ≡ home ++ 36 ∷ n =
+        append_assoc is.0.namespace (35 ∷ is.0.name) (36 ∷ m)
+        ∙ sym (ap (λ o. is.0.namespace ++ 35 ∷ (is.0.name ++ member_text o)) some)
+        ∙ whole ∙ ap (λ x. member_id x n) (shape_part is.0 is.1.is_id s n whole) in
+        subst IsIdentifier (tails 36 36 m n (behind_one home (36 ∷ m) (36 ∷ n) parts)) (is.1.is_id.member m some)
+
+-- and that it is UTF-8
+ascii_byte : (c : ℕ) → is_identifier_byte c ≡ true → c < 128
+ascii_byte c h = grind (arith, nat_tests)
+
+pub name_utf8 : (n : List ℕ) → IsIdentifier n → IsUtf8 n
+name_utf8 n h =
+    IsUtf8-from_ascii n (IsAscii-from_all n
+    (λ k d lt. ascii_byte _ (AllPass-from_list_all is_identifier_byte n (made_of_bytes n h) k d lt)))
 
 -- lists joined, of which none has what another has
 none_from : (x : List ℕ) (ys : List (List ℕ)) → (Contains ys x → ⊥) → NoneIs x ys

@@ -10,7 +10,9 @@ use Rattle.sm_model.specs.Reaching.{id_of_number}
 use Rattle.sm_model.specs.Relations.{HasEntry}
 use Rattle.sm_model.specs.declared.graph.Graph.{Graph}
 use Rattle.sm_model.specs.declared.kind.Kind.{Kind}
-use Rattle.sm_model.specs.declared.kind.Kind.TheVariants.{Blob, Boolean, Text, Enum, Byte, Short, Integer, IntEnum, Long, Float, Double, BigInteger, BigDecimal, Timestamp, Document, List as list_kind, Map, Structure, Union, Service, Operation, Resource}
+use Rattle.sm_model.specs.declared.kind.Kind.TheVariants.{Blob, Boolean, Text, Enum, Byte, Short, Integer, IntEnum, Long, Float, Double}
+use Rattle.sm_model.specs.declared.kind.Kind.TheVariants.{BigInteger, BigDecimal, Timestamp, Document, List as list_kind, Map, Structure}
+use Rattle.sm_model.specs.declared.kind.Kind.TheVariants.{Union, Service, Operation, Resource}
 use Rattle.sm_shapes.specs.TableView.{member_data}
 use Rattle.sm_shapes.specs.ValueView.{val_of}
 use Rattle.sm_shapes.specs.declared.tables.TableMember.{TableMember}
@@ -36,7 +38,9 @@ module _ (g : GraphMaps) (id : List ℕ) (m : MemberEntry) (has : HasEntry g id 
   own name = ap (trait_in name) has
 
   bound_along : is_bound_under g id ≡ is_bound m.traits
-  bound_along = any_along (λ name. is_some (trait_of g id name)) (λ name. is_some (fin.get m.traits name)) (λ name. ap (λ o. is_some o) (own name)) binding_ids
+  bound_along =
+      any_along (λ name. is_some (trait_of g id name)) (λ name. is_some (fin.get m.traits name))
+      (λ name. ap (λ o. is_some o) (own name)) binding_ids
 
   pub default_along : (home target : Kind) → default_under g id home target ≡ default_said home m target
   default_along Structure target =
@@ -65,7 +69,8 @@ module _ (g : GraphMaps) (id : List ℕ) (m : MemberEntry) (has : HasEntry g id 
   default_along Resource target = refl
 
 -- where a member stands, in the graph and in the table
-pub record StandsIn (g : Graph) (n : Numbering) (place : MemberPlace) (name : List ℕ) (m : MemberEntry) (home target : ShapeEntry) : Type 0 where
+pub record StandsIn (g : Graph) (n : Numbering) (place : MemberPlace) (name : List ℕ) (m : MemberEntry) (home target : ShapeEntry) : Type
+    0 where
   pub there : HasEntry (maps_of g) (id_of_number g place.member) (member_entry m)
   pub home_there : HasEntry (maps_of g) (get_or n.shapes place.home_row []) (shape_entry home)
   pub home_kind : home.kind ≡ place.home_kind
@@ -86,7 +91,8 @@ says_member g place row ps n m home target stands told placed names =
     let own_is : (name : List ℕ) → trait_of maps id name ≡ fin.get m.traits name = λ name. ap (trait_in name) stands.there in
     let here : HasEntry maps (id_of_number g place.target) (shape_entry target) =
     subst (λ i. HasEntry maps i (shape_entry target)) (sym stands.target_id) stands.target_there in
-    let seen : (name : List ℕ) → traits_seen g place.member (Some place.target) name ≡ effective_traits m.traits target.traits name = λ name.
+    let seen : (name : List ℕ) → traits_seen g place.member (Some place.target) name ≡ effective_traits m.traits target.traits
+    name = λ name.
     ap (λ o. option_or o (trait_of maps (id_of_number g place.target) name)) (own_is name)
     ∙ ap (λ o. option_or (fin.get m.traits name) o) (ap (trait_in name) here) in
     record {
@@ -101,9 +107,11 @@ says_member g place row ps n m home target stands told placed names =
       target_number = ap (slice_get n.shapes) placed.target ∙ stands.target_row;
       json_name = told.json_name ∙ ap text_of (own_is json_name_id);
       required = told.required ∙ ap (λ o. is_some o) (own_is required_id);
-      constraints = says_constraints (traits_seen g place.member (Some place.target)) (effective_traits m.traits target.traits) seen maps ps target
+      constraints = says_constraints (traits_seen g place.member (Some place.target)) (effective_traits m.traits target.traits) seen maps
+          ps target
           row.constraints
-          (subst (λ ids. TellConstraints maps target.kind ids (traits_seen g place.member (Some place.target)) row.constraints) (ap listed_in here)
+          (subst (λ ids. TellConstraints maps target.kind ids (traits_seen g place.member (Some place.target)) row.constraints)
+          (ap listed_in here)
           (subst (λ k. TellConstraints maps k (listed_in (fin.get maps.shapes (id_of_number g place.target)))
           (traits_seen g place.member (Some place.target)) row.constraints) (sym stands.target_kind) told.constraints)) names;
       format = told.format ∙ format_along (traits_seen g place.member (Some place.target)) (effective_traits m.traits target.traits) seen;

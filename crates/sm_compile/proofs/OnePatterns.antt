@@ -13,7 +13,8 @@ use Rattle.std.proofs.lemmas.Bool.{eqb-true}
 use Rattle.std.proofs.lemmas.Option.{none-some, same_Some}
 use Rattle.sm_model.specs.Graphs.{Entry, GraphMaps, MemberEntry, ShapeEntry, member_entry, shape_entry, text_cmp}
 use Rattle.sm_model.specs.Relations.{HasEntry}
-use Rattle.sm_model.proofs.OneRising.{before_one, contains_behind, contains_either, contains_head, contains_none, not_before_itself, one_rising}
+use Rattle.sm_model.proofs.OneRising.{before_one, contains_behind, contains_either, contains_head, contains_none, not_before_itself}
+use Rattle.sm_model.proofs.OneRising.{one_rising}
 use Rattle.sm_shapes.specs.Names.{AllDiffer, NoneIs}
 use Rattle.sm_shapes.specs.TableData.{ConstraintData, texts_numbered}
 use Rattle.sm_compile.specs.Compiled.{AreNumberedFrom, ArePatternsOf, CarriesPattern, EachSays, IdSet, IsFirstCarrier, NamesText}

@@ -1,5 +1,6 @@
 -- A shape of a graph has one table over a store.
-use Rattle.std.proofs.Common.{◌≡◌, ℕ, ◌<◌, zero, suc, Bool, false, List, [], ◌∷◌, map, filter, length, get_or, Some, None, sym, ap, ◌∙◌, subst, arith}
+use Rattle.std.proofs.Common.{◌≡◌, ℕ, ◌<◌, zero, suc, Bool, false, List, [], ◌∷◌, map, filter, length, get_or, Some, None, sym, ap, ◌∙◌}
+use Rattle.std.proofs.Common.{subst, arith}
 use Rattle.std.specs.Prelude.{◌||◌, slice_get}
 use Rattle.std.specs.Cmp.Lexicographic.{nat_list_cmp_total, slice_cmp}
 use Rattle.std.specs.List.Sorted.{IsPermutation, IsStrictlySortedBy}
@@ -13,12 +14,17 @@ use Rattle.sm_model.specs.Relations.{HasEntry}
 use Rattle.sm_model.proofs.OneRising.{one_rising}
 use Rattle.sm_shapes.specs.InOrder.{AreByName, AreMembersOf, Shaped}
 use Rattle.sm_shapes.specs.Names.{AllDiffer}
-use Rattle.sm_shapes.specs.TableData.{MemberData, ShapeData, TableData, home_at, home_in, json_name_at, member_count, members_at, members_in as listed_in}
-use Rattle.sm_shapes.specs.TableData.{by_json_name_at, by_json_name_in, by_name_at, by_name_in, default_in, default_node_in, json_name_in, name_at, name_in}
+use Rattle.sm_shapes.specs.TableData.{MemberData, ShapeData, TableData, home_at, home_in, json_name_at, member_count, members_at}
+use Rattle.sm_shapes.specs.TableData.{members_in as listed_in}
+use Rattle.sm_shapes.specs.TableData.{by_json_name_at, by_json_name_in, by_name_at, by_name_in, default_in, default_node_in, json_name_in}
+use Rattle.sm_shapes.specs.TableData.{name_at, name_in}
 use Rattle.sm_shapes.specs.TableData.{needed_in, no_constraints, required_in, shape_count}
-use Rattle.sm_shapes.specs.declared.kinds.ShapeKind.TheVariants.{LeftOut}
+use Rattle.sm_shapes.specs.Fitting.{Test}
 use Rattle.sm_shapes.specs.TableView.{table_data}
-use Rattle.sm_compile.specs.Compiled.{AllUnbound, IdSet, IsCompiled, IsUnboundMember, NoMediaTypes, Numbering, SayConstraints, SaysMember, SaysShape}
+use Rattle.sm_shapes.specs.declared.kinds.ShapeKind.TheVariants.{LeftOut}
+use Rattle.sm_compile.specs.Answers.{IsShapeCompiled, StoreSeen, seen_table}
+use Rattle.sm_compile.specs.Compiled.{AllUnbound, IdSet, IsCompiled, IsUnboundMember, NoMediaTypes, Numbering, SayConstraints, SaysMember}
+use Rattle.sm_compile.specs.Compiled.{SaysShape}
 use Rattle.sm_compile.specs.Compiled.{members_in, members_under, texts_of}
 use Rattle.sm_compile.specs.Kinds.{table_kind, value_members}
 use Rattle.sm_compile.specs.Laws.{OneTable}
@@ -26,6 +32,8 @@ use Rattle.sm_compile.specs.Reached.{IsReached}
 use Rattle.sm_compile.specs.Said.{constraints_said, default_said, format_seen}
 use Rattle.sm_compile.specs.TraitIds.{json_name_id, required_id, sparse_id, unique_items_id}
 use Rattle.sm_compile.specs.TraitNodes.{effective_traits, own_traits, text_of}
+use Rattle.sm_compile.specs.declared.compiled.OneShape.{OneShape}
+use Rattle.sm_compile.specs.declared.compiled.Served.{Served}
 use Rattle.std.specs.Option.{is_some}
 use Rattle.sm_compile.proofs.OnePatterns.{one_texts, same_constraints, same_member, same_rows, same_shape, texts_differ}
 use Rattle.sm_compile.proofs.OneWay.{one_name, one_served}
@@ -181,7 +189,8 @@ module _ (g : GraphMaps) (In : IdSet) (n : Numbering) where
     same_members : ShapeData → Path (List MemberData) t.members u.members
     same_members some = same_lists t.members u.members many_members (λ j d less.
         let also : j < member_count u = subst (λ c. j < c) many_members less in
-        member_row (get_or n.members j []) (get_or t.members j d) (get_or u.members j d) (says_member t h j d less) (says_member u k j d also)
+        member_row (get_or n.members j []) (get_or t.members j d) (get_or u.members j d) (says_member t h j d less)
+        (says_member u k j d also)
         (sym (home_here t h j d less) ∙ same_home j less some ∙ home_here u k j d also) (all_unbound t.members h.unbound j d less)
         (all_unbound u.members k.unbound j d also))
 
@@ -263,10 +272,10 @@ module _ (g : GraphMaps) (In : IdSet) (n : Numbering) where
         let shapes = same_shapes members in
         λ i. record { shapes = shapes i; members = members i; patterns = patterns i }
 
-pub one_table : OneTable
-one_table g root test before now later one other p q =
-    let t = table_data one.table in
-    let u = table_data other.table in
+pub one_seen : OneTable
+one_seen g root test before now later one other p q =
+    let t = one.table in
+    let u = other.table in
     let numbering = one_numbering g (IsReached g root) t u p.numbering q.numbering p.compiled q.compiled in
     let texts = one_texts g (IsReached g root) (texts_of t.patterns) (texts_of u.patterns) p.compiled.patterns q.compiled.patterns in
     let patterns = same_rows (length before.added) t.patterns u.patterns p.numbered q.numbered texts in
@@ -287,3 +296,9 @@ one_table g root test before now later one other p q =
       same_place q.numbering.shapes q.compiled.shapes_once one.shape other.shape root shape q.shape,
       one_served g root one.served other.served p.served q.served,
     )
+
+-- and so tables of the code
+pub one_table : (g : GraphMaps) (root : List ℕ) (test : Test) (before now later : StoreSeen) (one other : OneShape)
+    → IsShapeCompiled g root test before now one → IsShapeCompiled g root test before later other
+    → Path TableData (table_data one.table) (table_data other.table) × (one.shape ≡ other.shape) × Path Served one.served other.served
+one_table g root test before now later one other p q = one_seen g root test before now later (seen_table one) (seen_table other) p q

@@ -20,7 +20,7 @@ below_all : (k : List ℕ) (ks : List (List ℕ)) → IsBelow k ks → AllByRecu
 below_all k [] h = tt
 below_all k (j ∷ ks) h = (h.0, below_all k ks h.1)
 
-strictly : (ks : List (List ℕ)) → Rise ks → IsStrictlySortedBy (slice_cmp nat_cmp) ks
+pub strictly : (ks : List (List ℕ)) → Rise ks → IsStrictlySortedBy (slice_cmp nat_cmp) ks
 unfolding IsStrictlySortedBy
 strictly [] h = tt
 strictly (k ∷ ks) h = (below_all k ks h.0, strictly ks h.1)

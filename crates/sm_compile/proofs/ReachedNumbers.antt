@@ -1,5 +1,6 @@
 -- Steps by members and targets between ids are those between their numbers, and so is what they reach.
-use Rattle.std.proofs.Common.{◌≡◌, ◌⊎◌, inl, inr, ℕ, suc, ◌<◌, List, [], ◌∷◌, ◌++◌, map, length, replicate, false, Bool, Option, Some, None, refl, sym, ap, ◌∙◌, subst, arith}
+use Rattle.std.proofs.Common.{◌≡◌, ◌⊎◌, inl, inr, ℕ, suc, ◌<◌, List, [], ◌∷◌, ◌++◌, map, length, replicate, false, Bool, Option, Some, None}
+use Rattle.std.proofs.Common.{refl, sym, ap, ◌∙◌, subst, arith}
 use Rattle.std.specs.Prelude.{◌↔◌, slice_get}
 use Rattle.std.specs.FinMap as fin
 use Rattle.std.specs.List.{Contains}
@@ -80,7 +81,8 @@ module _ (g : Graph) where
   ]
 
   pub to_member : (a b : ℕ) → IsShapeNumber g a → IsShapeNumber g b
-      → Contains (listed_under (maps_of g) (id_of_number g a)) (id_of_number g b) → LeadsTo (maps_of g) (id_of_number g a) (id_of_number g b)
+      → Contains (listed_under (maps_of g) (id_of_number g a)) (id_of_number g b) → LeadsTo (maps_of g) (id_of_number g a)
+      (id_of_number g b)
   to_member a b lt gt h = let e = in_graph a lt in by e.0 e.1
     where
       by : (e : Entry) → HasEntry (maps_of g) (id_of_number g a) e → LeadsTo (maps_of g) (id_of_number g a) (id_of_number g b)
@@ -106,7 +108,8 @@ module _ (g : Graph) where
     λ e. subst (LeadsByNumber g a) e (gt, to_target a t lt gt is),
     λ h. elim (leads_told (maps_of g) (id_of_number g a) (id_of_number g k) h.1) [
       | inl member ↦
-          let none : Contains [] (id_of_number g k) = subst (λ xs. Contains xs (id_of_number g k)) (no_members (fin.get (maps_of g).shapes (id_of_number g a)) (id_of_number g t) is) member in
+          let none : Contains [] (id_of_number g k) = subst (λ xs. Contains xs (id_of_number g k))
+          (no_members (fin.get (maps_of g).shapes (id_of_number g a)) (id_of_number g t) is) member in
           absurd (omega (arith, none.1))
       | inr target ↦ same_number t k gt h.0 (same_Some (id_of_number g t) (id_of_number g k) (sym is ∙ target))
     ],
@@ -141,7 +144,8 @@ module _ (g : Graph) where
   led_in a b (inl h) = (related_in Member (maps_of g) a b h).1
   led_in a b (inr h) = (related_in Target (maps_of g) a b h).1
 
-  led_steps : (a b : ℕ) → IsShapeNumber g a → IsShapeNumber g b → (by : List (List ℕ)) → LeadsBy (maps_of g) (id_of_number g a) by (id_of_number g b)
+  led_steps : (a b : ℕ) → IsShapeNumber g a → IsShapeNumber g b → (by : List (List ℕ)) → LeadsBy (maps_of g) (id_of_number g a) by
+      (id_of_number g b)
       → (steps : List ℕ) × LeadsOn (LeadsByNumber g) a steps b
   led_steps a b lt gt [] h = ([], same_number a b lt gt h)
   led_steps a b lt gt (n ∷ more) h =

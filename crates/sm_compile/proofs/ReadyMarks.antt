@@ -1,5 +1,6 @@
 -- Marked shapes of a graph that are in order, and are closed under steps, are ready to have rows.
-use Rattle.std.proofs.Common.{◌≡◌, inl, inr, ℕ, ◌<◌, Bool, true, false, not, cond, List, [], ◌∷◌, length, get_or, Some, refl, sym, ap, ◌∙◌, subst, arith}
+use Rattle.std.proofs.Common.{◌≡◌, inl, inr, ℕ, ◌<◌, Bool, true, false, not, cond, List, [], ◌∷◌, length, get_or, Some, refl, sym, ap, ◌∙◌}
+use Rattle.std.proofs.Common.{subst, arith}
 use Rattle.std.specs.Prelude.{◌^◌}
 use Rattle.std.specs.List.{Contains}
 use Rattle.std.proofs.lemmas.Option.{same_Some}
@@ -29,7 +30,7 @@ use Rattle.sm_compile.proofs.SoundTests.{both_of, first_of, second_of}
 use Rattle.sm_compile.proofs.TabledShapes.{in_tabled, tabled_few, tabled_in, tabled_numbers_rise, value_where}
 
 -- a shape with members at which values stand
-value_some : (kind : Kind) (ms : List (List ℕ)) (id : List ℕ) → Contains (members_of_kind kind ms) id → has_value_members kind ≡ true
+pub value_some : (kind : Kind) (ms : List (List ℕ)) (id : List ℕ) → Contains (members_of_kind kind ms) id → has_value_members kind ≡ true
 value_some kind ms id h = by (has_value_members kind) h
   where
     by : (b : Bool) → Contains (cond b ms []) id → b ≡ true
@@ -37,7 +38,7 @@ value_some kind ms id h = by (has_value_members kind) h
     by false there = absurd (contains_none id there)
 
 -- the target of such a member has values
-target_values : (kind : Kind) (unit : Bool) (target : Kind) → has_value_members kind ≡ true → may_target kind unit target ≡ true
+pub target_values : (kind : Kind) (unit : Bool) (target : Kind) → has_value_members kind ≡ true → may_target kind unit target ≡ true
     → has_values target ≡ true
 target_values model.List unit target h may = first_of (has_values target) (not unit) may
 target_values model.Map unit target h may = first_of (has_values target) (not unit) may
@@ -93,7 +94,8 @@ module _ (g : Graph) (marks : List Bool) (texts : List (List ℕ)) (whole : leng
         target = λ t gt is.
             let is2 : target_under maps (id_of_number g x.0) ≡ Some (id_of_number g t) = ap (target_under maps) x.2 ∙ is in
             let there2 = closed x.0 t here (gt, to_target g x.0 t x.1 gt is2) in
-            let same : member.m.target ≡ id_of_number g t = same_Some member.m.target (id_of_number g t) (sym (ap target_in member.there) ∙ is) in
+            let same : member.m.target ≡ id_of_number g t = same_Some member.m.target (id_of_number g t)
+            (sym (ap target_in member.there) ∙ is) in
             tabled_there t (subst (λ n. t < n) (sym whole) gt) there2 (
               member.target,
               subst (λ i. HasEntry maps i (shape_entry member.target)) same member.found,
@@ -123,7 +125,7 @@ module _ (g : Graph) (marks : List Bool) (texts : List (List ℕ)) (whole : leng
   }
 
 -- marks of what one shape reaches
-by_more : (g : GraphMaps) (from mid to : List ℕ) (by : List (List ℕ)) → LeadsBy g from by mid → LeadsTo g mid to
+pub by_more : (g : GraphMaps) (from mid to : List ℕ) (by : List (List ℕ)) → LeadsBy g from by mid → LeadsTo g mid to
     → (more : List (List ℕ)) × LeadsBy g from more to
 by_more g from mid to [] h step = (to ∷ [], (subst (λ i. LeadsTo g i to) (sym h) step, refl))
 by_more g from mid to (next ∷ by) h step = let r = by_more g next mid to by h.1 step in (next ∷ r.0, (h.0, r.1))
@@ -142,7 +144,11 @@ module _ (g : Graph) where
   one_root root marks are = record {
     whole = are.whole;
     marked = λ k. (
-      λ h. let r = (are.marked k).0 h in (r.0, subst (λ j. IsReached (maps_of g) (id_of_number g j) (id_of_number g k)) (only r.1.0 r.1.1) r.1.2),
+      λ h. let r = (are.marked k).0 h in (
+        r.0,
+        subst (λ j. IsReached (maps_of g) (id_of_number g j) (id_of_number g k))
+            (only r.1.0 r.1.1) r.1.2,
+      ),
       λ h. (are.marked k).1 (h.0, (root, cons_here root [], h.1)),
     );
   }
@@ -150,7 +156,8 @@ module _ (g : Graph) where
       only : (r : ℕ) → Contains (root ∷ []) r → r ≡ root
       only r h = elim (cons_cases root [] r h) [ inl is ↦ sym is | inr none ↦ absurd (omega (arith, none.1)) ]
 
-  pub sound_marks : (root : List ℕ) (marks : List Bool) → AreMarks (length (entries_of g)) (λ k. IsReached (maps_of g) root (id_of_number g k)) marks
+  pub sound_marks : (root : List ℕ) (marks : List Bool) → AreMarks (length (entries_of g))
+      (λ k. IsReached (maps_of g) root (id_of_number g k)) marks
       → IsValueShape (maps_of g) root → Sound (maps_of g) root → AreSoundBelow g marks (length marks)
   sound_marks root marks are value sound k less marked s has = sound value (id_of_number g k) s ((are.marked k).0 marked).1 has
 

@@ -1,5 +1,6 @@
 -- What a table that can be made has at its shapes and members: what is looked up for a row is there, and the row says what the graph says.
-use Rattle.std.proofs.Common.{◌≡◌, inl, inr, ℕ, ◌<◌, Bool, true, false, cond, List, [], ◌∷◌, map, length, get_or, Option, Some, None, refl, sym, ap, ◌∙◌, subst}
+use Rattle.std.proofs.Common.{◌≡◌, inl, inr, ℕ, ◌<◌, Bool, true, false, cond, List, [], ◌∷◌, map, length, get_or, Option, Some, None, refl}
+use Rattle.std.proofs.Common.{sym, ap, ◌∙◌, subst}
 use Rattle.std.specs.FinMap as fin
 use Rattle.std.specs.List.{Contains}
 use Rattle.std.specs.Option.{option_map, option_or}
@@ -14,6 +15,7 @@ use Rattle.sm_model.specs.Relations.{HasEntry}
 use Rattle.sm_model.specs.declared.graph.Graph.{Graph}
 use Rattle.sm_model.specs.declared.kind.Kind.{Kind}
 use Rattle.sm_model.proofs.OneRising.{contains_either, contains_none}
+use Rattle.sm_shapes.specs.TableData.{MemberData}
 use Rattle.sm_shapes.specs.TableView.{member_data}
 use Rattle.sm_shapes.specs.declared.tables.TableMember.{TableMember}
 use Rattle.sm_compile.specs.Compiled.{NamesText, PatternRows, SaysMember, members_in, members_under}
@@ -24,13 +26,14 @@ use Rattle.sm_compile.specs.TraitIds.{pattern_id}
 use Rattle.sm_compile.specs.TraitNodes.{effective_traits, text_of}
 use Rattle.sm_compile.specs.declared.rows.MemberPlace.{MemberPlace}
 use Rattle.sm_compile.specs.steps.Looked.{kind_in, kind_under, target_in, target_under}
-use Rattle.sm_compile.specs.steps.Numbered.{AreReady, IsReadyMember, IsReadyShape, numbering}
+use Rattle.sm_compile.specs.steps.Numbered.{AreMemberRows, AreReady, AreRowShapes, IsReadyMember, IsReadyShape, IsRowShape, numbering}
 use Rattle.sm_compile.specs.steps.Placing.{HasPlace}
 use Rattle.sm_compile.specs.steps.Rows.{MemberPlaced, TellsMember}
 use Rattle.sm_compile.specs.steps.Seeing.{traits_seen}
 use Rattle.sm_compile.proofs.MembersSay.{StandsIn, says_member}
 use Rattle.sm_compile.proofs.NamesBehind.{one_named}
 use Rattle.sm_compile.proofs.RowsSay.{pattern_along}
+use Rattle.sm_compile.proofs.TabledShapes.{mapped_from}
 
 -- a member at which values stand is one that the shape lists
 pub value_among : (kind : Kind) (ms : List (List ℕ)) (id : List ℕ) → Contains (members_of_kind kind ms) id → Contains ms id
@@ -65,11 +68,26 @@ module _ (g : Graph) (shapes : List ℕ) (texts : List (List ℕ)) where
   pub ready_shape : AreReady g shapes texts → (s : ℕ) → s < length shapes → IsReadyShape g shapes texts (get_or shapes s 0)
   ready_shape ready s lt = ready.each (get_or shapes s 0) (Contains-get_or shapes s 0 lt)
 
+  -- shapes that are ready are in order, and their members' rows are told by their ids
+  pub row_shapes : AreReady g shapes texts → AreRowShapes (maps_of g) (map (id_of_number g) shapes)
+  row_shapes ready id there =
+      let r = mapped_from (id_of_number g) shapes id there in
+      let home = ready.each r.0 r.1 in
+      subst (IsRowShape (maps_of g)) r.2 (record { s = home.s; there = home.there; sound = home.sound })
+
+  pub rows_by : (ps : PatternRows) (rows : List MemberData) → AreMemberRows (maps_of g) ps (numbering g shapes) (length shapes) rows
+      → AreMemberRows (maps_of g) ps (numbering g shapes) (length (map (id_of_number g) shapes)) rows
+  rows_by ps rows are =
+      subst (λ n. AreMemberRows (maps_of g) ps (numbering g shapes) n rows) (sym (length-map shapes (id_of_number g))) are
+
+  pub row_within : (s : ℕ) → s < length shapes → s < length (map (id_of_number g) shapes)
+  row_within s lt = subst (λ n. s < n) (sym (length-map shapes (id_of_number g))) lt
+
   pub row_id : (s : ℕ) → s < length shapes → get_or (map (id_of_number g) shapes) s [] ≡ id_of_number g (get_or shapes s 0)
   row_id s lt = get_or-map (id_of_number g) shapes s 0 [] lt
 
-  pub members_are : (k : ℕ) (h : IsReadyShape g shapes texts k) → members_under (maps_of g) (id_of_number g k) ≡ value_members h.s
-  members_are k h = ap members_in h.there
+  pub members_at : (k : ℕ) (h : IsReadyShape g shapes texts k) → members_under (maps_of g) (id_of_number g k) ≡ value_members h.s
+  members_at k h = ap members_in h.there
 
   pub shape_kind : (k : ℕ) → IsReadyShape g shapes texts k → kind_under (maps_of g) (id_of_number g k) ≡ None → ⊥
   shape_kind k h none = none-some h.s.kind (sym none ∙ ap kind_in h.there)
@@ -79,7 +97,7 @@ module _ (g : Graph) (shapes : List ℕ) (texts : List (List ℕ)) where
   stands_ready ready s k lt among =
       let home = ready_shape ready s lt in
       let here : Contains (value_members home.s) (id_of_number g k) =
-      subst (λ ids. Contains ids (id_of_number g k)) (members_are (get_or shapes s 0) home) among in
+      subst (λ ids. Contains ids (id_of_number g k)) (members_at (get_or shapes s 0) home) among in
       let listed = value_among home.s.kind home.s.members (id_of_number g k) here in
       record {
         home = home;
@@ -113,7 +131,8 @@ module _ (g : Graph) (shapes : List ℕ) (texts : List (List ℕ)) where
         same = same_Some st.sound.target.kind kind (sym (ap kind_in (target_here t is)) ∙ kind_is)
 
         at : (o : Option Node) → trait_of (maps_of g) (id_of_number g k) pattern_id ≡ o
-            → cond (is_text_kind st.sound.target.kind) (text_of (option_or o (trait_of (maps_of g) (id_of_number g t) pattern_id))) None ≡ Some u
+            → cond (is_text_kind st.sound.target.kind) (text_of (option_or o (trait_of (maps_of g) (id_of_number g t) pattern_id))) None
+            ≡ Some u
         at o h =
             ap (λ x. cond (is_text_kind x) (text_of (option_or o (trait_of maps (id_of_number g t) pattern_id))) None) same
             ∙ ap (λ x. cond (is_text_kind kind) (text_of (option_or x (trait_of maps (id_of_number g t) pattern_id))) None) (sym h) ∙ seen
@@ -125,13 +144,15 @@ module _ (g : Graph) (shapes : List ℕ) (texts : List (List ℕ)) where
               st.sound.target,
               st.sound.there,
               st.sound.found,
-              ap (λ x. cond (is_text_kind st.sound.target.kind) (text_of x) None) (sym (ap (trait_in pattern_id) st.sound.there) ∙ h) ∙ at (Some n) h,
+              ap (λ x. cond (is_text_kind st.sound.target.kind) (text_of x) None) (sym (ap (trait_in pattern_id) st.sound.there) ∙ h)
+                  ∙ at (Some n) h,
             ))
         by None h =
             (ready.each t (st.member.target t lt is)).carried u (inl (
               st.sound.target,
               target_here t is,
-              ap (λ x. cond (is_text_kind st.sound.target.kind) (text_of x) None) (sym (ap (trait_in pattern_id) (target_here t is))) ∙ at None h,
+              ap (λ x. cond (is_text_kind st.sound.target.kind) (text_of x) None) (sym (ap (trait_in pattern_id) (target_here t is)))
+                  ∙ at None h,
             ))
 
     pub stands_in : (place : MemberPlace) (name : List ℕ) → s < length shapes → HasPlace g shapes s k place
@@ -149,10 +170,13 @@ module _ (g : Graph) (shapes : List ℕ) (texts : List (List ℕ)) where
           home_kind = same_Some st.home.s.kind place.home_kind (sym (ap kind_in st.home.there) ∙ has.home_kind);
           target_there = st.sound.found;
           target_id = sym target;
-          target_kind = same_Some st.sound.target.kind place.target_kind (sym (ap kind_in (target_here place.target has.target)) ∙ has.target_kind);
-          home_row = subst (λ n. place.home_row < n) (sym (length-map shapes (id_of_number g))) (subst (λ i. i < length shapes) (sym has.home) lt);
+          target_kind = same_Some st.sound.target.kind place.target_kind
+              (sym (ap kind_in (target_here place.target has.target)) ∙ has.target_kind);
+          home_row = subst (λ n. place.home_row < n) (sym (length-map shapes (id_of_number g)))
+              (subst (λ i. i < length shapes) (sym has.home) lt);
           named = number ∙ named ∙ ap (λ i. member_id i name) (sym row);
-          target_row = slice_get-map (id_of_number g) shapes place.target_row ∙ ap (option_map (id_of_number g)) has.target_row ∙ ap Some (sym target);
+          target_row = slice_get-map (id_of_number g) shapes place.target_row ∙ ap (option_map (id_of_number g)) has.target_row ∙ ap Some
+              (sym target);
         }
 
     -- the row of the member
@@ -170,9 +194,11 @@ module _ (g : Graph) (shapes : List ℕ) (texts : List (List ℕ)) where
         ∙ ap (λ o. option_or (fin.get st.sound.m.traits x) o) (ap (trait_in x) target) in
         let said : pattern_seen place.target_kind (traits_seen g k (Some place.target))
         ≡ pattern_seen st.sound.target.kind (effective_traits st.sound.m.traits st.sound.target.traits) =
-        pattern_along (traits_seen g k (Some place.target)) (effective_traits st.sound.m.traits st.sound.target.traits) seen place.target_kind
+        pattern_along (traits_seen g k (Some place.target)) (effective_traits st.sound.m.traits st.sound.target.traits) seen
+        place.target_kind
         ∙ ap (λ x. pattern_seen x (effective_traits st.sound.m.traits st.sound.target.traits)) (sym stands.target_kind) in
         subst (λ i. SaysMember maps ps (numbering g shapes) i (member_data row)) (ap (id_of_number g) has.number)
         (says_member g place row ps (numbering g shapes) st.sound.m st.home.s st.sound.target stands told placed
-        (subst (λ o. NamesText ps o (pattern_seen st.sound.target.kind (effective_traits st.sound.m.traits st.sound.target.traits))) (sym pattern)
+        (subst (λ o. NamesText ps o (pattern_seen st.sound.target.kind (effective_traits st.sound.m.traits st.sound.target.traits)))
+        (sym pattern)
         (subst (NamesText ps p) said names)))

@@ -20,7 +20,8 @@ rises_by xs up i j le lt = elim (cases_eq i j) [
   where
     below : i < j → get_or xs i 0 ≤ get_or xs j 0
     below less =
-        let r : get_or xs i 0 < get_or xs j 0 = ranked (get_or xs i 0) (get_or xs j 0) Less (sym (Less-from_sorted nat_cmp xs i j 0 up less lt)) in
+        let r : get_or xs i 0 < get_or xs j 0 = ranked (get_or xs i 0) (get_or xs j 0) Less
+        (sym (Less-from_sorted nat_cmp xs i j 0 up less lt)) in
         omega (arith, r)
 
 pub found_row : (xs : List ℕ) (x i : ℕ) → i < length xs → nat_cmp (get_or xs i 0) x ≡ Equal → slice_get xs i ≡ Some x

@@ -1,5 +1,6 @@
 -- Lists of names and of numbers that are determined by what they name, and rows beside them.
-use Rattle.std.proofs.Common.{◌≡◌, ◌⊎◌, inl, inr, ℕ, ◌<◌, ◌≤◌, zero, suc, List, [], ◌∷◌, ◌++◌, map, length, get_or, Some, None, refl, sym, ap}
+use Rattle.std.proofs.Common.{◌≡◌, ◌⊎◌, inl, inr, ℕ, ◌<◌, ◌≤◌, zero, suc, List, [], ◌∷◌, ◌++◌, map, length, get_or, Some, None, refl, sym}
+use Rattle.std.proofs.Common.{ap}
 use Rattle.std.proofs.Common.{◌∙◌, subst, arith}
 use Rattle.std.specs.Prelude.{slice_get}
 use Rattle.std.specs.Cmp.Lexicographic.{nat_list_cmp_total, slice_cmp}
@@ -33,7 +34,8 @@ module _ {D : Type 0} (Says : List ℕ → D → Type 0) where
 pub place_of : (xs : List (List ℕ)) (i : ℕ) (x : List ℕ) → slice_get xs i ≡ Some x → (i < length xs) × (get_or xs i [] ≡ x)
 place_of xs i x h = by_case (slice_get_cases xs i).1
   where
-    by_case : ((y : List ℕ) × (i < length xs) × (slice_get xs i ≡ Some y) × (get_or xs i y ≡ y)) ⊎ ((length xs ≤ i) × (slice_get xs i ≡ None))
+    by_case : ((y : List ℕ) × (i < length xs) × (slice_get xs i ≡ Some y) × (get_or xs i y ≡ y))
+        ⊎ ((length xs ≤ i) × (slice_get xs i ≡ None))
         → (i < length xs) × (get_or xs i [] ≡ x)
     by_case (inl (y, inside, at, is)) = (inside, get_or_from_slice_get xs i x [] h)
     by_case (inr (past, none)) = absurd (none-some x (sym none ∙ h))
@@ -101,7 +103,8 @@ apart (x ∷ xs) ys d k front back = elim (contains_either x k xs front) [
 ]
 
 module _ (f : List ℕ → List (List ℕ)) where
-  pub flat_contains : (xs : List (List ℕ)) (j : ℕ) (k : List ℕ) → j < length xs → Contains (f (get_or xs j [])) k → Contains (flat_map f xs) k
+  pub flat_contains : (xs : List (List ℕ)) (j : ℕ) (k : List ℕ) → j < length xs → Contains (f (get_or xs j [])) k → Contains
+      (flat_map f xs) k
   flat_contains [] j k less there = absurd (omega (arith, less))
   flat_contains (x ∷ xs) zero k less there = Contains-append_left (f x) (flat_map f xs) k there
   flat_contains (x ∷ xs) (suc j) k less there =
@@ -154,7 +157,8 @@ same_from_names name ks d [] (y ∷ ys) p q e = absurd (subst is_some_list (sym 
 same_from_names name ks d (x ∷ xs) [] p q e = absurd (subst is_some_list e tt)
 same_from_names name ks d (x ∷ xs) (y ∷ ys) p q e =
     let head = named_once name ks d x y (p x (contains_head x xs)) (q y (contains_head y ys)) (ap first_name e) in
-    let rest = same_from_names name ks d xs ys (λ a there. p a (contains_behind x a xs there)) (λ a there. q a (contains_behind y a ys there))
+    let rest = same_from_names name ks d xs ys (λ a there. p a (contains_behind x a xs there))
+    (λ a there. q a (contains_behind y a ys there))
     (ap other_names e) in
     λ i. head i ∷ rest i
 

@@ -64,7 +64,8 @@ says_shape g k kind row ps n s has is told members names =
       members = members;
       constraints = says_constraints (traits_seen g k None) (own_traits s.traits) own m ps s row.constraints
           (subst (λ ids. TellConstraints m s.kind ids (traits_seen g k None) row.constraints) (ap listed_in has)
-          (subst (λ x. TellConstraints m x (listed_in (fin.get m.shapes id)) (traits_seen g k None) row.constraints) same told.constraints)) names;
+          (subst (λ x. TellConstraints m x (listed_in (fin.get m.shapes id)) (traits_seen g k None) row.constraints) same
+          told.constraints)) names;
       unique = told.unique ∙ ap (λ o. is_some o) (own unique_items_id);
       sparse = told.sparse ∙ ap (λ o. is_some o) (own sparse_id);
       unit = told.unit;

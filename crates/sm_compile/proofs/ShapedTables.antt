@@ -1,5 +1,6 @@
 -- A table that is made of shapes that are ready is in order.
-use Rattle.std.proofs.Common.{◌≡◌, inl, inr, ℕ, zero, suc, ◌+◌, ◌<◌, Bool, true, false, cond, List, [], ◌∷◌, length, get_or, Option, Some, None, refl, sym, subst, arith}
+use Rattle.std.proofs.Common.{◌≡◌, inl, inr, ℕ, zero, suc, ◌+◌, ◌<◌, Bool, true, false, cond, List, [], ◌∷◌, length, get_or, Option, Some}
+use Rattle.std.proofs.Common.{None, refl, sym, subst, arith}
 use Rattle.std.specs.Prelude.{slice_get}
 use Rattle.std.specs.FinMap as fin
 use Rattle.std.specs.List.{AllByRecursion, Contains}
@@ -55,7 +56,8 @@ names_pattern t None u h = tt
 names_pattern t (Some n) (Some u) h = (u, h)
 names_pattern t (Some n) None h = absurd h
 
-pub members_all : (t : TableData) (s : ℕ) (ks : List ℕ) → ((k : ℕ) → Contains ks k → (k < member_count t) × (home_at t k ≡ s)) → AreMembersOf t s ks
+pub members_all : (t : TableData) (s : ℕ) (ks : List ℕ) → ((k : ℕ) → Contains ks k → (k < member_count t) × (home_at t k ≡ s))
+    → AreMembersOf t s ks
 members_all t s [] h = tt
 members_all t s (k ∷ ks) h =
     let here = h k (contains_head k ks) in (here.0, here.1, members_all t s ks (λ j there. h j (contains_behind k j ks there)))

@@ -1,5 +1,6 @@
 -- What the parts of `sound` tell of a shape by its number, put together.
-use Rattle.std.proofs.Common.{◌≡◌, inl, inr, ℕ, ◌+◌, ◌<◌, Bool, true, false, List, [], ◌∷◌, ◌++◌, map, length, Option, Some, None, refl, sym, ap, ◌∙◌, subst, arith}
+use Rattle.std.proofs.Common.{◌≡◌, inl, inr, ℕ, ◌+◌, ◌<◌, Bool, true, false, List, [], ◌∷◌, ◌++◌, map, length, Option, Some, None, refl}
+use Rattle.std.proofs.Common.{sym, ap, ◌∙◌, subst, arith}
 use Rattle.std.specs.Prelude.{◌↔◌}
 use Rattle.std.specs.List.{Contains, list_all}
 use Rattle.std.specs.FinMap as fin
@@ -133,7 +134,8 @@ module _ (g : Graph) (k : ℕ) where
 
     pub sound_with_names : has_parts (maps_of g) (id_of_number g k) kind (listed_under (maps_of g) (id_of_number g k)) ≡ true
         → (ns : List ℕ) (names : Names) (b : Bool) → map (id_of_number g) ns ≡ listed_under (maps_of g) (id_of_number g k)
-        → AreNames (maps_of g) (id_of_number g k) (map (id_of_number g) ns) (texts_of_all names.names.items) (texts_of_all names.json_names.items)
+        → AreNames (maps_of g) (id_of_number g k) (map (id_of_number g) ns) (texts_of_all names.names.items)
+        (texts_of_all names.json_names.items)
         → (b ≡ true) ↔ (HaveForm (member_form kind) (texts_of_all names.names.items) × AllDiffer (texts_of_all names.json_names.items))
         → (b ≡ true) ↔ IsSoundAt g k
     sound_with_names parts ns names b ids are told =
@@ -165,7 +167,8 @@ module _ (g : Graph) (k : ℕ) where
   no_value none v = none-some v.0.kind (sym none ∙ ap kind_in v.1)
 
 module _ (g : Graph) where
-  pub below_more : (marks : List Bool) (n : ℕ) → AreSoundBelow g marks n → (IsMarked marks n → IsSoundAt g n) → AreSoundBelow g marks (n + 1)
+  pub below_more : (marks : List Bool) (n : ℕ) → AreSoundBelow g marks n → (IsMarked marks n → IsSoundAt g n) → AreSoundBelow g marks
+      (n + 1)
   below_more marks n before here j less marked = elim (cases_eq j n) [
     | inl is ↦ subst (IsSoundAt g) (sym is) (here (subst (IsMarked marks) is marked))
     | inr other ↦ before j (below other less) marked
@@ -180,7 +183,15 @@ module _ (g : Graph) where
       → TellsSound (maps_of g) (id_of_number g root) b
   sound_told root marks true lt are told value = λ given i s reached has.
       let x = number_of g i (shape_entry s, has) in
-      let marked = (are.marked x.0).1 (x.1, (root, cons_here root [], subst (IsReached (maps_of g) (id_of_number g root)) (sym x.2) reached)) in
+      let marked = (are.marked x.0).1 (
+        x.1,
+        (
+          root,
+          cons_here root [],
+          subst (IsReached (maps_of g) (id_of_number g root)) (sym x.2)
+              reached,
+        ),
+      ) in
       let here = told.0 refl x.0 (subst (λ n. x.0 < n) (sym are.whole) x.1) marked in
       subst (λ j. IsSoundShape (maps_of g) j s) x.2 (here s (subst (λ j. HasEntry (maps_of g) j (shape_entry s)) (sym x.2) has))
   sound_told root marks false lt are told value = λ sound.

@@ -1,5 +1,6 @@
 -- A shape is in order exactly where the tests pass and its members' names are in order.
-use Rattle.std.proofs.Common.{◌≡◌, inl, inr, ℕ, suc, ℤ, Bool, true, false, ◌&&◌, List, [], ◌∷◌, length, Option, Some, None, refl, sym, ap, ◌∙◌, subst, arith}
+use Rattle.std.proofs.Common.{◌≡◌, inl, inr, ℕ, suc, ℤ, Bool, true, false, ◌&&◌, List, [], ◌∷◌, length, Option, Some, None, refl, sym, ap}
+use Rattle.std.proofs.Common.{◌∙◌, subst, arith}
 use Rattle.std.specs.Prelude.{◌↔◌, FitsSigned, pos, negsuc}
 use Rattle.std.specs.Int.{w32}
 use Rattle.std.specs.List.{Contains, list_all}
@@ -10,16 +11,23 @@ use Rattle.sm_tree.specs.Node.{Node, null, bool, int, number, text, bytes, tag, 
 use Rattle.sm_model.specs.Graphs.{Entry, shape_entry, member_entry, GraphMaps, MemberEntry}
 use Rattle.sm_model.specs.PreludeShapes.{unit_id}
 use Rattle.sm_model.specs.declared.kind.Kind.{Kind}
-use Rattle.sm_model.specs.declared.kind.Kind.TheVariants.{Blob, Boolean, Text, Enum, Byte, Short, Integer, IntEnum, Long, Float, Double, BigInteger, BigDecimal, Timestamp, Document, List as list_kind, Map, Structure, Union, Service, Operation, Resource}
+use Rattle.sm_model.specs.declared.kind.Kind.TheVariants.{Blob, Boolean, Text, Enum, Byte, Short, Integer, IntEnum, Long, Float, Double}
+use Rattle.sm_model.specs.declared.kind.Kind.TheVariants.{BigInteger, BigDecimal, Timestamp, Document, List as list_kind, Map, Structure}
+use Rattle.sm_model.specs.declared.kind.Kind.TheVariants.{Union, Service, Operation, Resource}
 use Rattle.sm_model.proofs.LinkedEntries.{cons_cases, cons_here}
 use Rattle.sm_model.proofs.Worklist.{apart}
 use Rattle.sm_compile.specs.Kinds.{may_target}
-use Rattle.sm_compile.specs.Sound.{AreSoundMembers, HasEnumNumbers, HasEnumTexts, HasItsValues, HasNumber, HasText, HasTextKey, IsSoundMember, TargetsText, enum_numbers, enum_texts, trait_in, trait_of}
-use Rattle.sm_compile.specs.TraitIds.{required_id, sparse_id, unique_items_id, length_id, range_id, pattern_id, timestamp_format_id, json_name_id, enum_value_id}
-use Rattle.sm_compile.specs.TraitNodes.{AreFormedTraits, TraitsSeen, are_lengths, are_ordered, are_whole_bounds, is_object, is_range, is_text, is_timestamp_format, number_of, own_traits, text_of, where_there}
+use Rattle.sm_compile.specs.Sound.{AreSoundMembers, HasEnumNumbers, HasEnumTexts, HasItsValues, HasNumber, HasText, HasTextKey}
+use Rattle.sm_compile.specs.Sound.{IsSoundMember, TargetsText, enum_numbers, enum_texts, trait_in, trait_of}
+use Rattle.sm_compile.specs.TraitIds.{required_id, sparse_id, unique_items_id, length_id, range_id, pattern_id, timestamp_format_id}
+use Rattle.sm_compile.specs.TraitIds.{json_name_id, enum_value_id}
+use Rattle.sm_compile.specs.TraitNodes.{AreFormedTraits, TraitsSeen, are_lengths, are_ordered, are_whole_bounds, is_object, is_range}
+use Rattle.sm_compile.specs.TraitNodes.{is_text, is_timestamp_format, number_of, own_traits, text_of, where_there}
 use Rattle.sm_compile.specs.steps.Looked.{is_unit, kind_in, kind_where, target_in, target_kind}
 use Rattle.sm_compile.specs.steps.Naming.{all_differ, all_numbers_differ}
-use Rattle.sm_compile.specs.steps.Tests.{are_annotations, are_formed, are_texts, enum_number, enum_text, fits_word, has_enum_numbers, has_enum_texts, has_its_values, has_text_key, is_length, is_range_seen, is_some_member, is_some_number, is_some_text, is_sound_member, is_sound_target, is_text_where}
+use Rattle.sm_compile.specs.steps.Tests.{are_annotations, are_formed, are_texts, enum_number, enum_text, fits_word, has_enum_numbers}
+use Rattle.sm_compile.specs.steps.Tests.{has_enum_texts, has_its_values, has_text_key, is_length, is_range_seen, is_some_member}
+use Rattle.sm_compile.specs.steps.Tests.{is_some_number, is_some_text, is_sound_member, is_sound_target, is_text_where}
 use Rattle.sm_compile.proofs.Differing.{differ_told, numbers_told}
 
 pub first_of : (a b : Bool) → (a && b) ≡ true → a ≡ true
@@ -72,7 +80,8 @@ formed_told kind seen = (
       },
   λ f.
       both_of (are_annotations seen) (is_length seen && (is_range_seen kind seen && are_texts seen))
-      (both_of (where_there is_object (seen required_id)) _ f.required (both_of (where_there is_object (seen sparse_id)) _ f.sparse f.unique))
+      (both_of (where_there is_object (seen required_id)) _ f.required
+      (both_of (where_there is_object (seen sparse_id)) _ f.sparse f.unique))
       (both_of (is_length seen) (is_range_seen kind seen && are_texts seen)
       (both_of (where_there are_whole_bounds (seen length_id)) _ f.length
       (both_of (where_there are_lengths (seen length_id)) _ f.lengths f.length_ordered))
@@ -119,17 +128,22 @@ module _ (g : GraphMaps) where
           }
 
       by : (o : Option Entry) → fin.get g.shapes id ≡ o → IsSoundMember g kind id
-      by None has = absurd (apart (subst (λ (o : Option Entry). is_sound_target kind (is_unit (target_in o)) (λ name. trait_in name o) (kind_where g (target_in o)) ≡ true) has h))
-      by (Some (shape_entry s)) has = absurd (apart (subst (λ (o : Option Entry). is_sound_target kind (is_unit (target_in o)) (λ name. trait_in name o) (kind_where g (target_in o)) ≡ true) has h))
+      by None has = absurd (apart (subst (λ (o : Option Entry). is_sound_target kind (is_unit (target_in o)) (λ name. trait_in name o)
+          (kind_where g (target_in o)) ≡ true) has h))
+      by (Some (shape_entry s)) has = absurd (apart (subst (λ (o : Option Entry). is_sound_target kind (is_unit (target_in o))
+          (λ name. trait_in name o) (kind_where g (target_in o)) ≡ true) has h))
       by (Some (member_entry m)) has =
           at_target m has (fin.get g.shapes m.target) refl
-          (subst (λ (o : Option Entry). is_sound_target kind (is_unit (target_in o)) (λ name. trait_in name o) (kind_where g (target_in o)) ≡ true) has h)
+          (subst (λ (o : Option Entry). is_sound_target kind (is_unit (target_in o)) (λ name. trait_in name o)
+          (kind_where g (target_in o)) ≡ true) has h)
 
   member_back : (kind : Kind) (id : List ℕ) → IsSoundMember g kind id → is_sound_member g kind id ≡ true
   member_back kind id s =
-      subst (λ (o : Option Entry). is_sound_target kind (is_unit (target_in o)) (λ name. trait_in name o) (kind_where g (target_in o)) ≡ true)
+      subst (λ (o : Option Entry). is_sound_target kind (is_unit (target_in o)) (λ name. trait_in name o) (kind_where g (target_in o))
+      ≡ true)
       (sym s.there)
-      (subst (λ (o : Option Entry). is_sound_target kind (bytes_eq s.m.target unit_id) (own_traits s.m.traits) (kind_in o) ≡ true) (sym s.found)
+      (subst (λ (o : Option Entry). is_sound_target kind (bytes_eq s.m.target unit_id) (own_traits s.m.traits) (kind_in o) ≡ true)
+      (sym s.found)
       (both_of _ _ s.may_target (both_of _ _ ((formed_told s.target.kind (own_traits s.m.traits)).1 s.traits) s.value)))
 
   pub members_told : (kind : Kind) (ids : List (List ℕ)) → (list_all (is_sound_member g kind) ids ≡ true) ↔ AreSoundMembers g kind ids
@@ -253,7 +267,8 @@ module _ (g : GraphMaps) where
           | inl is ↦ subst P is ((told i).0 (first_of (test i) (list_all test ids) h))
           | inr later ↦ rest.0 (second_of (test i) (list_all test ids) h) id later
         ],
-        λ h. both_of (test i) (list_all test ids) ((told i).1 (h i (cons_here i ids))) (rest.1 (λ id among. h id (suc among.0, omega (arith, among.1), among.2))),
+        λ h. both_of (test i) (list_all test ids) ((told i).1 (h i (cons_here i ids)))
+            (rest.1 (λ id among. h id (suc among.0, omega (arith, among.1), among.2))),
       )
 
   some_told : (ids : List (List ℕ)) → (is_some_member ids ≡ true) ↔ (ids ≡ [] → ⊥)

@@ -1,5 +1,6 @@
 -- The step by the member of one number, from what look-ups tell.
-use Rattle.std.proofs.Common.{◌≡◌, ℕ, zero, suc, ◌<◌, Bool, false, List, [], ◌∷◌, map, length, get_or, Option, Some, None, refl, sym, ap, ◌∙◌, subst, arith}
+use Rattle.std.proofs.Common.{◌≡◌, ℕ, zero, suc, ◌<◌, Bool, false, List, [], ◌∷◌, map, length, get_or, Option, Some, None, refl, sym, ap}
+use Rattle.std.proofs.Common.{◌∙◌, subst, arith}
 use Rattle.std.specs.Prelude.{slice_get}
 use Rattle.std.specs.FinMap as fin
 use Rattle.std.proofs.lemmas.Option.{none-some, same_Some}
@@ -24,7 +25,8 @@ module _ (g : GraphMaps) (id : List ℕ) where
       with_member (Some (shape_entry s)) has is = absurd (none-some step.to is)
       with_member (Some (member_entry m)) has is = (m, has, same_Some m.target step.to is)
 
-      by : (o : Option Entry) → fin.get g.shapes id ≡ o → slice_get (members_in o) step.at ≡ Some (member_id id step.name) → IsStep g id step
+      by : (o : Option Entry) → fin.get g.shapes id ≡ o → slice_get (members_in o) step.at ≡ Some (member_id id step.name) → IsStep g id
+          step
       by None has is = absurd (none-some (member_id id step.name) is)
       by (Some (member_entry n)) has is = absurd (none-some (member_id id step.name) is)
       by (Some (shape_entry s)) has is =

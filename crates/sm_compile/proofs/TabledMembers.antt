@@ -24,7 +24,8 @@ behind_too : {Y : Type 0} (ys zs : List Y) (y : Y) → Contains zs y → Contain
 behind_too [] zs y h = h
 behind_too (x ∷ ys) zs y h = contains_behind x y (ys ++ zs) (behind_too ys zs y h)
 
-pub joined_to : {X Y : Type 0} (f : X → List Y) (xs : List X) (x : X) (y : Y) → Contains xs x → Contains (f x) y → Contains (flat_map f xs) y
+pub joined_to : {X Y : Type 0} (f : X → List Y) (xs : List X) (x : X) (y : Y) → Contains xs x → Contains (f x) y → Contains
+    (flat_map f xs) y
 joined_to f [] x y h k = absurd (contains_none x h)
 joined_to f (z ∷ xs) x y h k = elim (contains_either z x xs h) [
   | inl is ↦ Contains-append_left (f z) (flat_map f xs) y (subst (λ w. Contains (f w) y) (sym is) k)

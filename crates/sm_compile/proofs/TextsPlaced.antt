@@ -1,5 +1,6 @@
 -- Texts with their places, as one more is put behind them.
-use Rattle.std.proofs.Common.{◌≡◌, inl, inr, ℕ, zero, suc, ◌+◌, Bool, true, false, cond, List, [], ◌∷◌, ◌++◌, map, length, Option, Some, None, refl, sym, ap, ◌∙◌, subst}
+use Rattle.std.proofs.Common.{◌≡◌, inl, inr, ℕ, zero, suc, ◌+◌, Bool, true, false, cond, List, [], ◌∷◌, ◌++◌, map, length, Option, Some}
+use Rattle.std.proofs.Common.{None, refl, sym, ap, ◌∙◌, subst}
 use Rattle.std.specs.Prelude.{slice_get}
 use Rattle.std.specs.Cmp.Lexicographic.{bytes_decides, nat_list_eq_equiv, slice_cmp}
 use Rattle.std.specs.List.{Contains}
@@ -77,13 +78,15 @@ pub text_put : (g : Graph) (marks : List Bool) (c d : CarriedTexts) (f : FirstCa
     → AreCarriedUpTo g marks f.number c → IsShapeNumber g f.number → IsCarriedAt g marks f.text.now f.number
     → (Contains (texts_in c) f.text.now → ⊥) → AreCarriedUpTo g marks (f.number + 1) d
 text_put g marks c d f place long items puts h lt is fresh =
-    let rows : rows_in d ≡ rows_in c ++ (f.number, f.text.now) ∷ [] = ap (λ fs. map row_of fs) items ∙ map-append row_of c.firsts.items (f ∷ []) in
+    let rows : rows_in d ≡ rows_in c ++ (f.number, f.text.now) ∷ [] = ap (λ fs. map row_of fs) items ∙ map-append row_of c.firsts.items
+    (f ∷ []) in
     let texts : texts_in d ≡ texts_in c ++ f.text.now ∷ [] =
     ap texts_of rows ∙ map-append (λ (r : ℕ × List ℕ). r.1) (rows_in c) ((f.number, f.text.now) ∷ []) in
     let at : place ≡ length (texts_in c) =
     long ∙ sym (length-map (rows_in c) (λ (r : ℕ × List ℕ). r.1) ∙ length-map c.firsts.items row_of) in
     record {
-      rows = subst (AreCarriedBelow g marks (f.number + 1)) (sym rows) (one_more g marks f.number f.text.now (rows_in c) h.rows lt is fresh);
+      rows = subst (AreCarriedBelow g marks (f.number + 1)) (sym rows)
+          (one_more g marks f.number f.text.now (rows_in c) h.rows lt is fresh);
       placed = λ u.
           subst (λ ts. IsPlaced ts u (place_in d.places u)) (sym texts)
           (subst (IsPlaced (texts_in c ++ f.text.now ∷ []) u)

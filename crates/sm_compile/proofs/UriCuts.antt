@@ -1,19 +1,22 @@
 -- What is cut from the front of a text: runs of bytes, names of labels, and what closes a label.
-use Rattle.std.proofs.Common.{◌≡◌, ◌==◌, ℕ, suc, ◌+◌, ◌<◌, ◌⊎◌, inl, inr, Bool, true, false, cond, List, [], ◌∷◌, ◌++◌, length, take, drop, get_or, append_assoc, append-nil, refl, sym, ap, subst, ◌∙◌, arith, length-append}
+use Rattle.std.proofs.Common.{◌≡◌, ◌==◌, ℕ, suc, ◌+◌, ◌<◌, ◌⊎◌, inl, inr, Bool, true, false, cond, List, [], ◌∷◌, ◌++◌, length, take, drop}
+use Rattle.std.proofs.Common.{get_or, append_assoc, append-nil, refl, sym, ap, subst, ◌∙◌, arith, length-append}
 use Rattle.std.specs.Prelude.{IsUtf8}
 use Rattle.std.specs.List.{list_all, prefix_len}
 use Rattle.std.specs.Str.{IsCharBoundary}
 use Rattle.std.proofs.lemmas.Bool.{eqb-true}
 use Rattle.std.proofs.lemmas.List.{take-append-drop}
 use Rattle.std.proofs.lemmas.List.Folds.{length-prefix_len}
-use Rattle.std.proofs.lemmas.Str.{IsCharBoundary-after_ascii, IsCharBoundary-at_seam, IsCharBoundary-before_ascii, IsCharBoundary-end, IsUtf8-drop}
+use Rattle.std.proofs.lemmas.Str.{IsCharBoundary-after_ascii, IsCharBoundary-at_seam, IsCharBoundary-before_ascii, IsCharBoundary-end}
+use Rattle.std.proofs.lemmas.Str.{IsUtf8-drop}
 use Rattle.sm_bytes.proofs.Runs.{of_run}
 use Rattle.sm_ids.specs.Identifier.{is_identifier_byte, IsIdentifier}
 use Rattle.sm_ids.specs.steps.Ahead.{EndsRun, is_underscore}
 use Rattle.sm_ids.proofs.Cutting.{both, and_also, heads, tails, clash, one_cut}
 use Rattle.sm_ids.proofs.Identifiers.{opener, whole, shut, made_of_bytes}
 use Rattle.sm_compile.specs.UriPattern.{is_text_of}
-use Rattle.sm_compile.specs.steps.UriReading.{NoneGoesOn, CutsText, ends_segment, BeginsWithName, HasNoName, closing_text, BeginsWithClosing, HasNoClosing}
+use Rattle.sm_compile.specs.steps.UriReading.{NoneGoesOn, CutsText, ends_segment, BeginsWithName, HasNoName, closing_text}
+use Rattle.sm_compile.specs.steps.UriReading.{BeginsWithClosing, HasNoClosing}
 
 -- a run that stands first
 run_passes : (p : ℕ → Bool) (s : List ℕ) → list_all p (take (prefix_len p s) s) ≡ true

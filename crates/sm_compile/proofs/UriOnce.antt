@@ -3,7 +3,8 @@ use Rattle.std.proofs.Common.{◌≡◌, ℕ, true, List, [], ◌∷◌, ◌++�
 use Rattle.std.specs.List.{list_all}
 use Rattle.sm_ids.specs.steps.Ahead.{EndsRun}
 use Rattle.sm_ids.proofs.Cutting.{both, heads, tails, one_cut}
-use Rattle.sm_compile.specs.UriPattern.{QueryLiteral, is_value_byte, is_key_byte, is_text_of, is_segment, is_value, is_query_literal, body_text, path_text, value_text, literal_text, more_text, query_text, OneUri}
+use Rattle.sm_compile.specs.UriPattern.{QueryLiteral, is_value_byte, is_key_byte, is_text_of, is_segment, is_value, is_query_literal}
+use Rattle.sm_compile.specs.UriPattern.{body_text, path_text, value_text, literal_text, more_text, query_text, OneUri}
 use Rattle.sm_compile.specs.steps.UriReading.{tail_text}
 use Rattle.sm_compile.proofs.UriSegments.{text_passes, no_root, one_segment, tail_ends}
 use Rattle.sm_compile.proofs.UriQueries.{literal_passes, more_ends}

@@ -1,5 +1,6 @@
 -- Where reading a segment stops: before literal text that is none, within a label, behind either.
-use Rattle.std.proofs.Common.{◌≡◌, ℕ, ◌+◌, ◌⊎◌, inl, inr, Bool, true, false, ◌&&◌, ◌||◌, ◌==◌, List, [], ◌∷◌, ◌++◌, append_assoc, append-nil, refl, sym, ap, subst, ◌∙◌, arith}
+use Rattle.std.proofs.Common.{◌≡◌, ℕ, ◌+◌, ◌⊎◌, inl, inr, Bool, true, false, ◌&&◌, ◌||◌, ◌==◌, List, [], ◌∷◌, ◌++◌, append_assoc}
+use Rattle.std.proofs.Common.{append-nil, refl, sym, ap, subst, ◌∙◌, arith}
 use Rattle.std.specs.List.{list_all}
 use Rattle.std.specs.Char.{is_ascii_alphabetic, is_ascii_alphanumeric}
 use Rattle.std.proofs.lemmas.Bool.Decides.{nat_tests}
@@ -10,11 +11,16 @@ use Rattle.sm_ids.specs.steps.Ahead.{EndsRun}
 use Rattle.sm_ids.proofs.Cutting.{both, and_also, pick, heads, tails, clash, one_cut}
 use Rattle.sm_ids.proofs.Identifiers.{whole, letter_opens}
 use Rattle.sm_shapes.specs.Names.{AllDiffer}
-use Rattle.sm_compile.specs.UriPattern.{QueryLiteral, is_literal_byte, is_text_of, is_segment, label_names, greedy_names, body_text, query_text, IsUri}
-use Rattle.sm_compile.specs.steps.UriReading.{NoneGoesOn, StopsBefore, ends_segment, IsNotRoot, tail_text, SegmentAhead, AfterSlash, BeginsWithName, HasNoName, closing_text, BeginsWithClosing, HasNoClosing, labelled, is_some_name}
+use Rattle.sm_compile.specs.UriPattern.{QueryLiteral, is_literal_byte, is_text_of, is_segment, label_names, greedy_names, body_text}
+use Rattle.sm_compile.specs.UriPattern.{query_text, IsUri}
+use Rattle.sm_compile.specs.steps.UriReading.{NoneGoesOn, StopsBefore, ends_segment, IsNotRoot, tail_text, SegmentAhead, AfterSlash}
+use Rattle.sm_compile.specs.steps.UriReading.{BeginsWithName, HasNoName, closing_text, BeginsWithClosing, HasNoClosing, labelled}
+use Rattle.sm_compile.specs.steps.UriReading.{is_some_name}
 use Rattle.sm_compile.proofs.UriStops.{none_behind, ends_none}
-use Rattle.sm_compile.proofs.UriNames.{is_among_names, differ_more, not_twice, names_of_both, name_of_label, letters, letters_of_names, total, new_name, greedy_last_text, greedy_last_label, no_label_behind}
-use Rattle.sm_compile.proofs.UriSegments.{all_both, text_passes, text_first, label_body, label_is_segment, body_first, body_some, one_name, tail_ends, middle_is}
+use Rattle.sm_compile.proofs.UriNames.{is_among_names, differ_more, not_twice, names_of_both, name_of_label, letters, letters_of_names}
+use Rattle.sm_compile.proofs.UriNames.{total, new_name, greedy_last_text, greedy_last_label, no_label_behind}
+use Rattle.sm_compile.proofs.UriSegments.{all_both, text_passes, text_first, label_body, label_is_segment, body_first, body_some, one_name}
+use Rattle.sm_compile.proofs.UriSegments.{tail_ends, middle_is}
 use Rattle.sm_compile.specs.declared.uri.pattern.Segment.{Segment}
 use Rattle.sm_compile.specs.declared.uri.pattern.Segment.TheVariants.{Literal, Label, Greedy}
 

@@ -1,13 +1,17 @@
 -- Paths of patterns: what was read, and where the whole text stops.
-use Rattle.std.proofs.Common.{◌≡◌, ◌==◌, ℕ, ◌≤◌, ◌+◌, ◌⊎◌, inl, inr, Bool, true, false, ◌||◌, List, [], ◌∷◌, ◌++◌, length, append_assoc, append-nil, Err, refl, sym, ap, subst, ◌∙◌, arith, length-append}
+use Rattle.std.proofs.Common.{◌≡◌, ◌==◌, ℕ, ◌≤◌, ◌+◌, ◌⊎◌, inl, inr, Bool, true, false, ◌||◌, List, [], ◌∷◌, ◌++◌, length, append_assoc}
+use Rattle.std.proofs.Common.{append-nil, Err, refl, sym, ap, subst, ◌∙◌, arith, length-append}
 use Rattle.std.specs.List.{list_any, flat_map}
 use Rattle.std.specs.Str.{bytes_eq}
 use Rattle.std.proofs.lemmas.Grind.{flat_map-append}
 use Rattle.std.proofs.lemmas.Bool.{eqb-true}
 use Rattle.sm_ids.specs.steps.Ahead.{EndsRun}
 use Rattle.sm_ids.proofs.Cutting.{heads, tails}
-use Rattle.sm_compile.specs.UriPattern.{QueryLiteral, is_literal_byte, is_text_of, is_segment, label_names, greedy_name, greedy_names, body_text, segment_text, path_text, query_text, UriText, IsUriText}
-use Rattle.sm_compile.specs.steps.UriReading.{NoneGoesOn, StopsBefore, ends_segment, ends_path, IsNotRoot, AfterSlash, IsQuery, QueryAhead, IsNameCut, closing_text, labelled, holds_text, is_some_name, IsPathRead, IsSegmentRead, IsPathBefore, ReadsSegment, ReadsPath, ReadsQuery, ReadsUri}
+use Rattle.sm_compile.specs.UriPattern.{QueryLiteral, is_literal_byte, is_text_of, is_segment, label_names, greedy_name, greedy_names}
+use Rattle.sm_compile.specs.UriPattern.{body_text, segment_text, path_text, query_text, UriText, IsUriText}
+use Rattle.sm_compile.specs.steps.UriReading.{NoneGoesOn, StopsBefore, ends_segment, ends_path, IsNotRoot, AfterSlash, IsQuery, QueryAhead}
+use Rattle.sm_compile.specs.steps.UriReading.{IsNameCut, closing_text, labelled, holds_text, is_some_name, IsPathRead, IsSegmentRead}
+use Rattle.sm_compile.specs.steps.UriReading.{IsPathBefore, ReadsSegment, ReadsPath, ReadsQuery, ReadsUri}
 use Rattle.sm_compile.proofs.UriStops.{stops_behind, ends_none}
 use Rattle.sm_compile.proofs.UriNames.{names_of_both, name_of_label}
 use Rattle.sm_compile.proofs.UriSegments.{label_body, middle_is, behind_segment, tail_slash, tail_question, root_question}

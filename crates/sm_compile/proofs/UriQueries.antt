@@ -1,10 +1,12 @@
 -- Literals of a pattern's query: each cut from what is behind it in one way, what was read of them, and where reading them stops.
-use Rattle.std.proofs.Common.{◌≡◌, ◌==◌, ℕ, Bool, true, false, not, ◌&&◌, List, [], ◌∷◌, ◌++◌, append_assoc, append-nil, Option, Some, None, Err, refl, sym, ap, subst, ◌∙◌}
+use Rattle.std.proofs.Common.{◌≡◌, ◌==◌, ℕ, Bool, true, false, not, ◌&&◌, List, [], ◌∷◌, ◌++◌, append_assoc, append-nil, Option, Some, None}
+use Rattle.std.proofs.Common.{Err, refl, sym, ap, subst, ◌∙◌}
 use Rattle.std.proofs.lemmas.Bool.{eqb-true}
 use Rattle.std.specs.List.{list_all}
 use Rattle.sm_ids.specs.steps.Ahead.{EndsRun}
 use Rattle.sm_ids.proofs.Cutting.{both, and_also, list_all_weaker, heads, tails, clash, one_cut}
-use Rattle.sm_compile.specs.UriPattern.{QueryLiteral, is_value_byte, is_key_byte, is_text_of, is_value, is_query_literal, value_text, literal_text, more_text, query_text}
+use Rattle.sm_compile.specs.UriPattern.{QueryLiteral, is_value_byte, is_key_byte, is_text_of, is_value, is_query_literal, value_text}
+use Rattle.sm_compile.specs.UriPattern.{literal_text, more_text, query_text}
 use Rattle.sm_compile.specs.steps.UriReading.{NoneGoesOn, StopsBefore, IsQuery, QueryAhead, IsLiteralRead, TakesLiteral, ReadsQuery}
 use Rattle.sm_compile.specs.declared.uri.stop.Stop.{Stop}
 use Rattle.sm_compile.specs.declared.uri.stop.Stop.TheVariants.{At, NoMemory}

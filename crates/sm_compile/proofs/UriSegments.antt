@@ -1,5 +1,6 @@
 -- Segments, each cut from what is behind it in one way.
-use Rattle.std.proofs.Common.{◌≡◌, ℕ, ◌⊎◌, inl, inr, Bool, true, false, List, [], ◌∷◌, ◌++◌, append_assoc, append-nil, refl, sym, ap, subst, ◌∙◌, arith}
+use Rattle.std.proofs.Common.{◌≡◌, ℕ, ◌⊎◌, inl, inr, Bool, true, false, List, [], ◌∷◌, ◌++◌, append_assoc, append-nil, refl, sym, ap, subst}
+use Rattle.std.proofs.Common.{◌∙◌, arith}
 use Rattle.std.specs.List.{list_all}
 use Rattle.std.proofs.lemmas.List.Folds.{list_all-append}
 use Rattle.sm_ids.specs.Identifier.{is_identifier, is_identifier_byte, IsIdentifier}
@@ -7,7 +8,8 @@ use Rattle.sm_ids.specs.steps.Ahead.{EndsRun}
 use Rattle.sm_ids.proofs.Cutting.{both, and_also, list_all_weaker, heads, tails, one_cut}
 use Rattle.sm_ids.proofs.Identifiers.{made_of_bytes}
 use Rattle.sm_compile.specs.UriPattern.{QueryLiteral, is_literal_byte, is_text_of, is_segment, body_text, query_text, IsUri}
-use Rattle.sm_compile.specs.steps.UriReading.{is_inner_byte, ends_segment, tail_text, SegmentAhead, AfterSlash, QueryAhead, closing_text, labelled}
+use Rattle.sm_compile.specs.steps.UriReading.{is_inner_byte, ends_segment, tail_text, SegmentAhead, AfterSlash, QueryAhead, closing_text}
+use Rattle.sm_compile.specs.steps.UriReading.{labelled}
 use Rattle.sm_compile.proofs.UriBytes.{literal_inner, name_inner, ends_inner}
 use Rattle.sm_compile.specs.declared.uri.pattern.Segment.{Segment}
 use Rattle.sm_compile.specs.declared.uri.pattern.Segment.TheVariants.{Literal, Label, Greedy}

@@ -1,5 +1,6 @@
 -- The turns of a walk that enters each shape once, as the code takes them.
-use Rattle.std.proofs.Common.{◌≡◌, ℕ, ◌+◌, ◌<◌, Bool, true, false, not, cond, List, [], ◌∷◌, ◌++◌, map, length, get_or, reverse, refl, sym, ap, ◌∙◌, subst, arith, length-append}
+use Rattle.std.proofs.Common.{◌≡◌, ℕ, ◌+◌, ◌<◌, Bool, true, false, not, cond, List, [], ◌∷◌, ◌++◌, map, length, get_or, reverse, refl, sym}
+use Rattle.std.proofs.Common.{ap, ◌∙◌, subst, arith, length-append}
 use Rattle.std.specs.Prelude.{replicate, set}
 use Rattle.std.specs.Global.{Vec}
 use Rattle.std.specs.List.{count_by, join_with_byte}
@@ -105,7 +106,8 @@ module _ (g : Graph) where
   pub ends : (w now : Walk) → length w.above.items ≡ 0 → NoneIsNext g w.marks.items w.shape w.at → Turns g w now (Ended Yes)
   ends w now nothing none root h =
       none_found g root w.marks.items (id_of_number g w.shape) w.at
-      (subst (λ xs. StandsAt g root w.marks.items (id_of_number g w.shape) w.at xs) (ap (λ xs. reverse xs) (nil_of w.above.items nothing)) h.stands)
+      (subst (λ xs. StandsAt g root w.marks.items (id_of_number g w.shape) w.at xs)
+      (ap (λ xs. reverse xs) (nil_of w.above.items nothing)) h.stands)
       (all_taken g root w.marks.items (id_of_number g w.shape) w.at (reverse w.above.items) h.stands none)
 
   -- the end, where the next shape isn't served

@@ -6,8 +6,10 @@ use Rattle.sm_model.specs.Graphs.{GraphMaps}
 use Rattle.sm_shapes.specs.Fitting.{Test}
 use Rattle.sm_shapes.specs.DefaultPuts.{HasNoDefault}
 use Rattle.sm_shapes.specs.InOrder.{Shaped, Built}
+use Rattle.sm_shapes.specs.TableData.{TableData}
 use Rattle.sm_shapes.specs.TableView.{table_data}
-use Rattle.sm_compile.specs.Compiled.{AreNumberedFrom, Numbering, IsCompiled, ArePatternsOf, IsFirstCarrier, AllUnbound, NoMediaTypes, texts_of}
+use Rattle.sm_compile.specs.Compiled.{AreNumberedFrom, Numbering, IsCompiled, ArePatternsOf, IsFirstCarrier, AllUnbound, NoMediaTypes}
+use Rattle.sm_compile.specs.Compiled.{texts_of}
 use Rattle.sm_compile.specs.Reached.{IsReached}
 use Rattle.sm_compile.specs.Served.{WayStep, IsFirstWay, IsServed, names_of_way}
 use Rattle.sm_compile.specs.Sound.{IsValueShape}
@@ -31,21 +33,33 @@ abbrev pub TellsServed : GraphMaps → List ℕ → Served → Type 0
 TellsServed g root Yes = IsServed g root
 TellsServed g root (Unserved path) = (way : List WayStep) × IsFirstWay g root way × (path ≡ join_with_byte slash (names_of_way way))
 
+-- the table of a shape as data, with the shape's number in it and whether its values are served
+pub record TableSeen : Type 0 where
+  pub table : TableData
+  pub shape : ℕ
+  pub served : Served
+
+abbrev pub seen_table : OneShape → TableSeen
+seen_table one = record { table = table_data one.table; shape = one.shape; served = one.served }
+
 -- a table of the shape, and the store has the table's patterns behind those that it had
-pub record IsShapeCompiled (g : GraphMaps) (root : List ℕ) (test : Test) (before now : StoreSeen) (one : OneShape) : Type 0 where
+pub record IsTableSeen (g : GraphMaps) (root : List ℕ) (test : Test) (before now : StoreSeen) (one : TableSeen) : Type 0 where
   pub numbering : Numbering
-  pub compiled : IsCompiled g (IsReached g root) (table_data one.table) numbering
+  pub compiled : IsCompiled g (IsReached g root) one.table numbering
   pub shape : slice_get numbering.shapes one.shape ≡ Some root
-  pub numbered : AreNumberedFrom (length before.added) (table_data one.table).patterns
-  pub unbound : AllUnbound (table_data one.table).members
-  pub no_media : NoMediaTypes (table_data one.table).shapes
-  pub shaped : Shaped (table_data one.table)
-  pub built : Built (table_data one.table) now.added test
-  pub no_default : HasNoDefault (table_data one.table)
+  pub numbered : AreNumberedFrom (length before.added) one.table.patterns
+  pub unbound : AllUnbound one.table.members
+  pub no_media : NoMediaTypes one.table.shapes
+  pub shaped : Shaped one.table
+  pub built : Built one.table now.added test
+  pub no_default : HasNoDefault one.table
   pub served : TellsServed g root one.served
-  pub added : now.added ≡ before.added ++ texts_of (table_data one.table).patterns
+  pub added : now.added ≡ before.added ++ texts_of one.table.patterns
   pub refused : now.refused ≡ before.refused
   pub refusals : now.refusals ≡ before.refusals
+
+abbrev pub IsShapeCompiled : GraphMaps → List ℕ → Test → StoreSeen → StoreSeen → OneShape → Type 0
+IsShapeCompiled g root test before now one = IsTableSeen g root test before now (seen_table one)
 
 -- a pattern is refused: those before it were added, its text is the one refused last, and the id is the first of those that carry it
 pub record IsPatternRefused (g : GraphMaps) (root : List ℕ) (before now : StoreSeen) (id : List ℕ) : Type 0 where

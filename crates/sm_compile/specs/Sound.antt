@@ -113,7 +113,8 @@ IsValueShape g id = (s : ShapeEntry) × HasEntry g id (shape_entry s) × (has_va
 
 -- each shape that it reaches is in order; nothing is asked of an id that is none of a shape with values
 abbrev pub Sound : GraphMaps → List ℕ → Type 0
-Sound g root = IsValueShape g root → (id : List ℕ) (s : ShapeEntry) → IsReached g root id → HasEntry g id (shape_entry s) → IsSoundShape g id s
+Sound g root = IsValueShape g root → (id : List ℕ) (s : ShapeEntry) → IsReached g root id → HasEntry g id (shape_entry s) → IsSoundShape
+    g id s
 
 -- whether a shape is
 abbrev pub TellsSound : GraphMaps → List ℕ → Bool → Type 0

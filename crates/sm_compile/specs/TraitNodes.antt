@@ -1,6 +1,7 @@
 -- What the values of the traits say that tables are made from, and which values these traits may have (Smithy 2.0, "Constraint
 -- traits", "timestampFormat trait", "jsonName trait", "enumValue trait").
-use Rattle.std.specs.Prelude.{◌&&◌, ◌||◌, ℕ, ℤ, pos, Bool, true, false, List, Option, Some, None, if◌then◌else◌, codes, IsTrue, int_le, is_some}
+use Rattle.std.specs.Prelude.{◌&&◌, ◌||◌, ℕ, ℤ, pos, Bool, true, false, List, Option, Some, None, if◌then◌else◌, codes, IsTrue, int_le}
+use Rattle.std.specs.Prelude.{is_some}
 use Rattle.std.specs.Option.{unwrap_or, option_or}
 use Rattle.std.specs.FinMap as fin
 use Rattle.std.specs.Str.{bytes_eq}
@@ -11,7 +12,8 @@ use Rattle.sm_time.specs.declared.format.Format.TheVariants.{DateTime, HttpDate,
 use Rattle.sm_model.specs.Graphs.{NodeMap}
 use Rattle.sm_model.specs.declared.kind.Kind.{Kind}
 use Rattle.sm_model.specs.declared.kind.Kind.TheVariants.{Float, Double, BigInteger, BigDecimal, Enum, IntEnum}
-use Rattle.sm_compile.specs.TraitIds.{required_id, sparse_id, unique_items_id, length_id, range_id, pattern_id, timestamp_format_id, json_name_id}
+use Rattle.sm_compile.specs.TraitIds.{required_id, sparse_id, unique_items_id, length_id, range_id, pattern_id, timestamp_format_id}
+use Rattle.sm_compile.specs.TraitIds.{json_name_id}
 
 -- what is under a trait's id: of a shape or member alone, or of a member with its target, whose own traits count first
 abbrev pub TraitsSeen : Type 0

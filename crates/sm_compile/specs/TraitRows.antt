@@ -131,7 +131,8 @@ trait_fields = may_have (codes "selector") text_field ∷ may_have (codes "confl
 -- what shapes are and may have
 abbrev pub rows_of_shapes : List TraitRow
 rows_of_shapes =
-    api_row (codes "endpoint" ∷ []) (an_object_of (must_have (codes "hostPrefix") text_field ∷ [])) (of_types (is_kind model.Operation) ∷ [])
+    api_row (codes "endpoint" ∷ []) (an_object_of (must_have (codes "hostPrefix") text_field ∷ []))
+    (of_types (is_kind model.Operation) ∷ [])
     ∷ api_row (codes "mixin" ∷ []) (an_object_of (may_have (codes "localTraits") texts_field ∷ [])) (any_shape ∷ [])
     ∷ api_row (codes "default" ∷ []) any_value (structure_member ∷ of_types (is_among defaulted_kinds) ∷ [])
     ∷ api_row (codes "enumValue" ∷ []) text_or_number (member_of (is_among (model.Enum ∷ model.IntEnum ∷ [])) ∷ [])

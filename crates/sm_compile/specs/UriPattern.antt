@@ -1,6 +1,7 @@
 -- Patterns of URIs, and the texts that spell them (Smithy 2.0, "http trait", sections "uri", "Labels", "Query string literals"): `/`
 -- alone, or segments that each follow a `/`; then, behind `?`, literals of the query.
-use Rattle.std.specs.Prelude.{◌≡◌, ◌==◌, ◌&&◌, ◌||◌, ℕ, Bool, true, false, not, List, [], ◌∷◌, ◌++◌, Option, Some, None, IsTrue, Result, Ok, Err}
+use Rattle.std.specs.Prelude.{◌≡◌, ◌==◌, ◌&&◌, ◌||◌, ℕ, Bool, true, false, not, List, [], ◌∷◌, ◌++◌, Option, Some, None, IsTrue, Result, Ok}
+use Rattle.std.specs.Prelude.{Err}
 use Rattle.std.specs.List.{list_all, flat_map}
 use Rattle.sm_bytes.specs.Ascii.{number_sign, plus, slash, equals, left_brace, right_brace}
 use Rattle.sm_ids.specs.Identifier.{is_identifier}

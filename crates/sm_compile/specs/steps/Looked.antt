@@ -4,7 +4,8 @@ use Rattle.std.specs.List.{Contains}
 use Rattle.sm_model.specs.GraphView.{entries_of, maps_of}
 use Rattle.sm_model.specs.Reaching.{id_of_number}
 use Rattle.sm_model.specs.declared.graph.Graph.{Graph}
-pub use Rattle.sm_compile.specs.Looked.{kind_in, kind_under, listed_in, listed_under, target_in, target_under, kind_where, target_kind, is_unit, targets_unit}
+pub use Rattle.sm_compile.specs.Looked.{kind_in, kind_under, listed_in, listed_under, target_in, target_under, kind_where, target_kind}
+pub use Rattle.sm_compile.specs.Looked.{is_unit, targets_unit}
 use Rattle.sm_compile.specs.Reached.{IsReached, LeadsTo}
 
 -- a step by members and targets, from number to number

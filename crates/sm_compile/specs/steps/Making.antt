@@ -1,5 +1,6 @@
 -- The table that is made of marked shapes.
 use Rattle.std.specs.Prelude.{◌≡◌, ℕ, Bool, List, Result, Ok, Err, length}
+use Rattle.sm_model.specs.Graphs.{GraphMaps}
 use Rattle.sm_model.specs.GraphView.{maps_of}
 use Rattle.sm_model.specs.declared.graph.Graph.{Graph}
 use Rattle.sm_shapes.specs.TableData.{TableData}
@@ -11,7 +12,7 @@ use Rattle.sm_compile.specs.declared.compiled.CompileRefusal.TheVariants.{NoShap
 use Rattle.sm_compile.specs.declared.tabled.Tabled.{Tabled}
 use Rattle.sm_compile.specs.declared.patterns.CarriedTexts.{CarriedTexts}
 use Rattle.sm_compile.specs.steps.Carrying.{AreCarried, rows_in, texts_in}
-use Rattle.sm_compile.specs.steps.Numbered.{AreMemberRows, AreReady, EachAt, IsShapeRow, numbering}
+use Rattle.sm_compile.specs.steps.Numbered.{AreMemberRows, AreReady, EachAt, IsShapeRow, numbered_by, numbering}
 use Rattle.sm_compile.specs.steps.Storing.{AreTextsStored, IsRefusedAmong}
 use Rattle.sm_compile.specs.steps.Tabling.{tabled_below}
 
@@ -21,6 +22,12 @@ pub record IsMade (g : Graph) (numbers : List ℕ) (ps : PatternRows) (t : Table
   pub long : length t.shapes ≡ length numbers
   pub shapes : EachAt (IsShapeRow (maps_of g) ps (numbering g numbers) t.members) t.shapes
   pub members : AreMemberRows (maps_of g) ps (numbering g numbers) (length numbers) t.members
+
+-- the same by ids, over the table's own patterns
+pub record IsMadeBy (g : GraphMaps) (ids : List (List ℕ)) (t : TableData) : Type 0 where
+  pub long : length t.shapes ≡ length ids
+  pub shapes : EachAt (IsShapeRow g t.patterns (numbered_by g ids) t.members) t.shapes
+  pub members : AreMemberRows g t.patterns (numbered_by g ids) (length ids) t.members
 
 -- the table of the marked shapes, the patterns of which the store has
 pub record IsMarkedTable (g : Graph) (marks : List Bool) (before now : StoreSeen) (made : Tabled) : Type 0 where

@@ -1,5 +1,6 @@
 -- A table's shapes and members by number, and what its rows are made from.
-use Rattle.std.specs.Prelude.{◌≡◌, ◌<◌, ◌≤◌, ◌+◌, ◌^◌, ℕ, zero, suc, Bool, List, [], ◌∷◌, map, length, get_or, take, Some, None, slice_get, unwrap_or, IsUtf8}
+use Rattle.std.specs.Prelude.{◌≡◌, ◌<◌, ◌≤◌, ◌+◌, ◌^◌, ℕ, zero, suc, Bool, List, [], ◌∷◌, map, length, get_or, take, Some, None, slice_get}
+use Rattle.std.specs.Prelude.{unwrap_or, IsUtf8}
 use Rattle.std.specs.List.{Contains, filter, flat_map}
 use Rattle.std.specs.List.Sorted.{IsStrictlySortedBy}
 use Rattle.std.specs.Ordering.{nat_cmp}
@@ -16,12 +17,21 @@ use Rattle.sm_compile.specs.Kinds.{value_members}
 use Rattle.sm_compile.specs.Sound.{IsSoundShape}
 use Rattle.sm_compile.specs.steps.Looked.{LeadsByNumber, target_under}
 
--- the ids of a table's shapes and members, by the numbers of its shapes in the graph
+-- the ids of a table's shapes and members, by the ids of its shapes, and by their numbers in the graph
+abbrev pub numbered_by : GraphMaps → List (List ℕ) → Numbering
+numbered_by g ids = record { shapes = ids; members = flat_map (members_under g) ids }
+
 abbrev pub numbering : Graph → List ℕ → Numbering
-numbering g shapes = record {
-  shapes = map (id_of_number g) shapes;
-  members = flat_map (members_under (maps_of g)) (map (id_of_number g) shapes);
-}
+numbering g shapes = numbered_by (maps_of g) (map (id_of_number g) shapes)
+
+-- a shape that has a row is there and in order
+pub record IsRowShape (g : GraphMaps) (id : List ℕ) : Type 0 where
+  pub s : ShapeEntry
+  pub there : HasEntry g id (shape_entry s)
+  pub sound : IsSoundShape g id s
+
+abbrev pub AreRowShapes : GraphMaps → List (List ℕ) → Type 0
+AreRowShapes g ids = (id : List ℕ) → Contains ids id → IsRowShape g id
 
 -- steps lead from marked numbers to marked ones
 abbrev pub AreClosed : Graph → List Bool → Type 0

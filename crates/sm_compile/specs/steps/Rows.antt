@@ -23,7 +23,8 @@ use Rattle.sm_compile.specs.steps.Seeing.{TellConstraints, default_under, traits
 -- all that a row says of a shape but for the numbers in it
 pub record TellsShape (g : Graph) (shape : ℕ) (kind : Kind) (row : TableShape) : Type 0 where
   pub its_kind : row.kind ≡ table_kind kind
-  pub constraints : TellConstraints (maps_of g) kind (listed_under (maps_of g) (id_of_number g shape)) (traits_seen g shape None) row.constraints
+  pub constraints : TellConstraints (maps_of g) kind (listed_under (maps_of g) (id_of_number g shape)) (traits_seen g shape None)
+      row.constraints
   pub unique : row.unique ≡ is_some (trait_of (maps_of g) (id_of_number g shape) unique_items_id)
   pub sparse : row.sparse ≡ is_some (trait_of (maps_of g) (id_of_number g shape) sparse_id)
   pub unit : row.unit ≡ bytes_eq (id_of_number g shape) unit_id

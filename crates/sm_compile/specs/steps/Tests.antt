@@ -6,8 +6,10 @@ use Rattle.sm_model.specs.declared.kind.Kind.{Kind}
 use Rattle.sm_model.specs.declared.kind.Kind.TheVariants.{Enum, IntEnum, Map}
 use Rattle.sm_compile.specs.Kinds.{is_text_kind, may_target}
 use Rattle.sm_compile.specs.Sound.{enum_texts, enum_numbers, trait_of}
-use Rattle.sm_compile.specs.TraitIds.{required_id, sparse_id, unique_items_id, length_id, range_id, pattern_id, timestamp_format_id, json_name_id, enum_value_id}
-use Rattle.sm_compile.specs.TraitNodes.{TraitsSeen, number_of, text_of, where_there, is_object, is_text, are_whole_bounds, are_lengths, are_ordered, is_range, is_timestamp_format, is_enum_value}
+use Rattle.sm_compile.specs.TraitIds.{required_id, sparse_id, unique_items_id, length_id, range_id, pattern_id, timestamp_format_id}
+use Rattle.sm_compile.specs.TraitIds.{json_name_id, enum_value_id}
+use Rattle.sm_compile.specs.TraitNodes.{TraitsSeen, number_of, text_of, where_there, is_object, is_text, are_whole_bounds, are_lengths}
+use Rattle.sm_compile.specs.TraitNodes.{are_ordered, is_range, is_timestamp_format, is_enum_value}
 use Rattle.sm_compile.specs.steps.Looked.{target_kind, targets_unit}
 use Rattle.sm_compile.specs.steps.Naming.{all_differ, all_numbers_differ}
 

@@ -11,7 +11,9 @@ use Rattle.sm_bytes.specs.Ascii.{plus, slash, right_brace}
 use Rattle.sm_ids.specs.Identifier.{is_identifier_byte, IsIdentifier}
 use Rattle.sm_ids.specs.IdText.{BeginsText}
 use Rattle.sm_ids.specs.steps.Ahead.{EndsRun, is_underscore}
-use Rattle.sm_compile.specs.UriPattern.{question_mark, QueryLiteral, is_value_byte, is_key_byte, is_query_literal, label_names, greedy_names, IsUri, body_text, segment_text, path_text, literal_text, query_text, UriText, IsUriText, uri_said}
+use Rattle.sm_compile.specs.UriPattern.{question_mark, QueryLiteral, is_value_byte, is_key_byte, is_query_literal, label_names}
+use Rattle.sm_compile.specs.UriPattern.{greedy_names, IsUri, body_text, segment_text, path_text, literal_text, query_text, UriText}
+use Rattle.sm_compile.specs.UriPattern.{IsUriText, uri_said}
 use Rattle.sm_compile.specs.declared.uri.bytes.Cut.{Cut}
 use Rattle.sm_compile.specs.declared.uri.label.LabelEnd.{LabelEnd}
 use Rattle.sm_compile.specs.declared.uri.path.Path as reader

@@ -1,5 +1,6 @@
 -- Where a walk stands that enters each shape once: deeper ones before later ones, by their members in model order.
-use Rattle.std.specs.Prelude.{◌≡◌, ◌⊎◌, ◌<◌, ◌≤◌, ◌+◌, ◌*◌, ℕ, Bool, false, not, List, [], ◌∷◌, ◌++◌, length, map, get_or, Option, MatchOption, reverse}
+use Rattle.std.specs.Prelude.{◌≡◌, ◌⊎◌, ◌<◌, ◌≤◌, ◌+◌, ◌*◌, ℕ, Bool, false, not, List, [], ◌∷◌, ◌++◌, length, map, get_or, Option}
+use Rattle.std.specs.Prelude.{MatchOption, reverse}
 use Rattle.std.specs.List.{Contains, count_by, join_with_byte}
 use Rattle.sm_bytes.specs.Ascii.{slash}
 use Rattle.sm_model.specs.GraphView.{AreShapeNumbers, IsShapeNumber, entries_of, maps_of}

@@ -36,11 +36,14 @@ loop-member-preserved c =
     let at = c.loop-member in
     let row = c.in_ok-row.ensures in
     record {
-      long = long_put g shapes c.args.parts.now.patterns.now c.args.home_row c.requires.home ms c.value_members-members.ensures.ids at.member-index
+      long = long_put g shapes c.args.parts.now.patterns.now c.args.home_row c.requires.home ms c.value_members-members.ensures.ids
+          at.member-index
           at.rows.items c.push.new.self.items c.in_ok-row.row c.in_ok-push.ensures.items at.invariant.long;
       within = omega (arith, c.loop-member-test.true);
-      each = member_put g shapes c.args.parts.now.patterns.now c.args.home_row c.requires.home ms c.value_members-members.ensures.ids at.member-index
-          at.rows.items c.push.new.self.items c.in_ok-row.row c.loop-member-test.true c.in_ok-push.ensures.items at.invariant.long at.invariant.each
+      each = member_put g shapes c.args.parts.now.patterns.now c.args.home_row c.requires.home ms c.value_members-members.ensures.ids
+          at.member-index
+          at.rows.items c.push.new.self.items c.in_ok-row.row c.loop-member-test.true c.in_ok-push.ensures.items at.invariant.long
+          at.invariant.each
           row.says row.home row.spelled row.name row.json_name row.unbound;
     }
 

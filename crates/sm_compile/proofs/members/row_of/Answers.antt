@@ -21,7 +21,8 @@ pattern_at-pattern-requires-clause-among c u seen =
     let place = c.member_place-place.result in
     let has = c.member_place-place.ensures in
     pattern_among g shapes texts c.args.home_row c.args.member
-    (stands_ready g shapes texts c.requires.parts.ready c.args.home_row c.args.member c.requires.home c.requires.among) c.requires.parts.ready
+    (stands_ready g shapes texts c.requires.parts.ready c.args.home_row c.args.member c.requires.home c.requires.among)
+    c.requires.parts.ready
     place.target place.target_kind u has.target_number has.target has.target_kind seen
 
 pub returns-clause-says : goal.returns-clause-says
@@ -32,7 +33,8 @@ returns-clause-says c =
     let row = c.in_ok-row.ensures in
     says_row g shapes texts c.args.home_row c.args.member
     (stands_ready g shapes texts c.requires.parts.ready c.args.home_row c.args.member c.requires.home c.requires.among)
-    c.args.parts.now.patterns.now c.member_place-place.result c.in_ok-row.row c.name_at-name.result.now c.pattern_at-pattern.result c.requires.home
+    c.args.parts.now.patterns.now c.member_place-place.result c.in_ok-row.row c.name_at-name.result.now c.pattern_at-pattern.result
+    c.requires.home
     c.member_place-place.ensures c.name_at-name.ensures row.told row.placed row.name row.pattern c.pattern_at-pattern.ensures
 
 pub member_row-requires-clause-values : goal.member_row-requires-clause-values

@@ -10,7 +10,8 @@ store_all-requires g c =
 
 pub returns-in-Err-store_all : goal.returns-in-Err-store_all
 returns-in-Err-store_all g c =
-    stopped_marked c.args.graph.now c.args.marks.now _ _ c.in-Ok-carried_texts.carried c.in-Ok-carried_texts.ensures c.in-Err-store_all.refusal
+    stopped_marked c.args.graph.now c.args.marks.now _ _ c.in-Ok-carried_texts.carried c.in-Ok-carried_texts.ensures
+    c.in-Err-store_all.refusal
     c.in-Err-store_all.ensures
 
 pub table_of-requires : goal.table_of-requires

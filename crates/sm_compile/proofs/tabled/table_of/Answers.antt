@@ -22,8 +22,12 @@ returns c =
     let members = c.in_ok-members.members.items in
     let rows = c.in_ok-rows.rows.items in
     made_from g ks c.args.patterns.items (table_data c.table_from.result) (map shape_data rows) (map member_data members)
-    c.table_from.ensures.shapes c.table_from.ensures.members c.table_from.ensures.patterns (length-map rows shape_data ∙ c.in_ok-rows.ensures.long)
-    (subst (λ ms. EachAt (IsShapeRow (maps_of g) c.args.patterns.items n (map member_data ms)) (map shape_data rows)) c.as_slice-3.ensures.value
-    (subst (λ ps. EachAt (IsShapeRow (maps_of g) ps n (map member_data c.as_slice-3.result.now)) (map shape_data rows)) c.as_slice.ensures.value
+    c.table_from.ensures.shapes c.table_from.ensures.members c.table_from.ensures.patterns
+    (length-map rows shape_data ∙ c.in_ok-rows.ensures.long)
+    (subst (λ ms. EachAt (IsShapeRow (maps_of g) c.args.patterns.items n (map member_data ms)) (map shape_data rows))
+    c.as_slice-3.ensures.value
+    (subst (λ ps. EachAt (IsShapeRow (maps_of g) ps n (map member_data c.as_slice-3.result.now)) (map shape_data rows))
+    c.as_slice.ensures.value
     c.in_ok-rows.ensures.rows))
-    (subst (λ ps. AreMemberRows (maps_of g) ps n (length ks) (map member_data members)) c.as_slice.ensures.value c.in_ok-members.ensures.rows)
+    (subst (λ ps. AreMemberRows (maps_of g) ps n (length ks) (map member_data members)) c.as_slice.ensures.value
+    c.in_ok-members.ensures.rows)
