@@ -1,9 +1,11 @@
 -- Numbers that rise, as a set: one is there where a binary search finds it, and goes to the place that it gives.
 use Rattle.std.proofs.Common.{◌≡◌, ℕ, zero, suc, ◌<◌, ◌≤◌, nat_eq, Bool, true, false, ◌||◌, cond, List, [], ◌∷◌, length, get_or, refl, sym, ap, ◌∙◌, subst, arith}
+use Rattle.std.specs.Prelude.{Result, Ok, Err, OnOk, OnErr, is_ok}
 use Rattle.std.specs.List.{insert}
 use Rattle.std.specs.List.Sorted.{IsNonDecreasing}
 use Rattle.std.proofs.lemmas.List.{get_or_default}
 use Rattle.std.proofs.lemmas.List.Sorted.{IsNonDecreasingBy-insert}
+use Rattle.smallvec.specs.SmallVec.{SmallVec}
 use Rattle.sm_codec.specs.steps.MemberSteps.{is_seen}
 
 seen_first : (j k : ℕ) (xs : List ℕ) → j ≡ k → is_seen k (j ∷ xs) ≡ true
@@ -46,3 +48,9 @@ rises_put xs ys i k true e rises le low high =
     (IsNonDecreasingBy-insert (λ x. x) xs i k rises le
     (λ j d lt. let at = get_or_default xs j d 0 (omega (arith, lt, le)) in let less = low j lt in omega (arith, at, less))
     (λ j d from lt. let at = get_or_default xs j d 0 lt in let more = high j from lt in omega (arith, at, more)))
+
+-- a vector with a number put at a place of it, or the same where that is refused
+pub put_or_same : {T E : Type 0} (old new : SmallVec ℕ) (r : Result T E) (i k : ℕ) → OnOk r (new.items ≡ insert old.items i k)
+    → OnErr r (new ≡ old) → new.items ≡ cond (is_ok r) (insert old.items i k) old.items
+put_or_same old new (Ok t) i k ok err = ok
+put_or_same old new (Err e) i k ok err = λ j. (err j).items

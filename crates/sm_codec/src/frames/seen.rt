@@ -4,14 +4,15 @@ ghost use Rattle.std.specs.List.Sorted.{IsNonDecreasing};
 ghost use Rattle.sm_codec.specs.steps.MemberSteps.{IsAdded};
 
 use sm_tree::NoMemory;
+use smallvec::SmallVec;
 use std::alloc::Global;
 use std::marker::Model;
 
 /// The members that are closed, each once. Contracts see their numbers, whose order says nothing.
 #[derive(Debug, Drop)]
 pub struct Members {
-    // They rise, so that one is found by halves.
-    numbers: Vec<u32>,
+    // They rise, so that one is found by halves. A few need no memory of their own.
+    numbers: SmallVec<u32, 8>,
     ghost rises: { IsNonDecreasing numbers.items },
 }
 
@@ -29,7 +30,7 @@ impl Members {
         ensures { result ≡ [] }
     {
         Members {
-            numbers: Vec::new(alloc),
+            numbers: SmallVec::new(alloc),
         }
     }
 
@@ -37,7 +38,7 @@ impl Members {
     pub(crate) fn add(&mut self, member: u32) -> Result<bool, NoMemory>
         ensures { IfOk result (λ new. IsAdded new member self.old self.new) }
     {
-        match self.numbers.binary_search(&member) {
+        match self.numbers.as_slice().binary_search(&member) {
             Ok(_) => Ok(false),
             Err(place) => {
                 self.numbers.insert(place, member)?;
