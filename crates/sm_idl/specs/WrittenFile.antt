@@ -5,7 +5,7 @@ use Rattle.std.specs.Prelude.{ℕ, true, false, List, [], ◌∷◌, ◌++◌, m
 use Rattle.std.specs.FinMap as fin
 use Rattle.sm_tree.specs.Node.{Node, Nodes, Members, text, no_nodes, node, no_members, member}
 use Rattle.sm_tree.specs.Parts.{entries_in, pairs_in, tree_named}
-use Rattle.sm_model.specs.Graphs.{NodeMap, ShapeMap, ShapeEntry, Entry, shape_entry, member_entry, GraphMaps}
+use Rattle.sm_model.specs.Graphs.{ShapeMap, ShapeEntry, Entry, shape_entry, member_entry, GraphMaps}
 use Rattle.sm_model.specs.PreludeShapes.{unit_id}
 use Rattle.sm_model.specs.Properties.{TypeFields, property_forms}
 use Rattle.sm_model.specs.Raw.{Raw, raw_leaf, raw_id, raw_list, raws_of, raw_of}
