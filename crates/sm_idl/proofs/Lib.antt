@@ -61,3 +61,16 @@ pub mod YieldFiles
 pub mod ReadFormed
 pub mod SomeLexing
 pub mod IdlAnswers
+pub mod TextTokens
+pub mod WrittenTokens
+pub mod StringsWritten
+pub mod NodesWritten
+pub mod TraitsWritten
+pub mod MembersWritten
+pub mod ValuesWritten
+pub mod FieldsWritten
+pub mod BodiesWritten
+pub mod ShapesWritten
+pub mod IdsWritten
+pub mod GraphWritten
+pub mod FileWritten

@@ -9,7 +9,7 @@ use Rattle.sm_model.specs.Formed.{StandsAmong}
 use Rattle.sm_idl.specs.Words.{IsNew}
 use Rattle.sm_idl.specs.steps.Names.{Remembers}
 
-among_last : (k name : List ℕ) (before : List (List ℕ)) → StandsAmong k (before ++ name ∷ []) → StandsAmong k before ⊎ (k ≡ name)
+pub among_last : (k name : List ℕ) (before : List (List ℕ)) → StandsAmong k (before ++ name ∷ []) → StandsAmong k before ⊎ (k ≡ name)
 among_last k name [] (inl e) = inr e
 among_last k name [] (inr h) = absurd h
 among_last k name (j ∷ js) (inl e) = inl (inl e)

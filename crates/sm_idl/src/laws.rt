@@ -1,6 +1,7 @@
 // Laws of the definitions, each the contract of a function whose body is empty.
 ghost use Rattle.sm_idl.specs.Laws.{OneReading, PrefixesAreBegun, BegunIsClosed, OnePlace, FormedStatements};
 ghost use Rattle.sm_idl.specs.Laws.{OneRefusal, SaidOrRefused, SomeAnswer};
+ghost use Rattle.sm_idl.specs.WrittenLaws.{WrittenIsFile};
 
 /// A text is that of one file at most. So `read_idl` gives *the* statements.
 pub fn one_reading()
@@ -40,4 +41,10 @@ pub fn said_or_refused()
 /// It can't be that a text that is UTF-8 says nothing and isn't refused.
 pub fn some_answer()
     ensures { SomeAnswer }
+{}
+
+/// What is written for a namespace of a graph is the text of one file: that of the namespace's metadata and shapes. The graph's values
+/// nest no more levels than are read.
+pub fn written_text()
+    ensures { WrittenIsFile }
 {}
