@@ -10,4 +10,7 @@ pub mod Answers
 pub mod Laws
 pub mod WrittenForms
 pub mod Written
+pub mod WrittenFile
+pub mod WrittenNames
+pub mod WrittenLaws
 pub mod steps
