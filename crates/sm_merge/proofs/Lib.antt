@@ -3,7 +3,7 @@ mod OneEffective
 pub mod OneMerged
 pub mod OneList
 mod OtherOrder
-mod PreludeGiven
+pub mod PreludeGiven
 mod PreludeShapes
 mod MeantIds
 mod NamesKnown
@@ -39,7 +39,7 @@ mod MixinsPut
 mod FormsMeant
 pub mod EntriesFound
 mod EntriesMoved
-mod EntryKeys
+pub mod EntryKeys
 mod NamesOnce
 mod StatedSound
 mod EffectiveSound
@@ -79,3 +79,10 @@ mod OthersPut
 pub mod SomeGraph
 pub mod SomeEvents
 pub mod GraphSound
+pub mod RestatedValues
+pub mod RestatedShapes
+pub mod RegularGraphs
+pub mod Restating
+pub mod RestatedEvents
+pub mod BodiesAgain
+pub mod RestatedFiles

@@ -7,5 +7,6 @@ pub mod Merged
 pub mod Limits
 pub mod Files
 pub mod Answers
+pub mod Restated
 pub mod Laws
 pub mod steps

@@ -1,6 +1,7 @@
 // Laws over the definitions of merging: public functions with empty bodies, whose contracts are the laws.
 ghost use Rattle.sm_merge.specs.Laws.{NoFiles, OneEffectiveShape, OneFileOrSeveral, OneGraph, OneListOfEvents, OneValue, OtherOrder};
 ghost use Rattle.sm_merge.specs.Laws.{SomeEvents, SomeGraph};
+ghost use Rattle.sm_merge.specs.Restated.{StatedAgain};
 
 /// The values of one trait of one place come to one value.
 #[tactic(auto, using(crate::proofs::OneValue::one_value))]
@@ -53,4 +54,10 @@ pub fn other_order()
 #[tactic(auto, using(crate::proofs::OneMerged::no_files))]
 pub fn no_files()
     ensures { NoFiles }
+{}
+
+/// Statements that state a part of a merged graph, each shape of it whole and once, and all metadata, merge to this part, and nothing
+/// is wrong with them. So files that are written for a graph merge to it again.
+pub fn stated_again()
+    ensures { StatedAgain }
 {}
