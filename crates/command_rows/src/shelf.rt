@@ -6,7 +6,7 @@ use crate::row::{Input, Row};
 use rows::{Player, bytes_shown, show_bytes};
 use sm_commands::run;
 use sm_io::{Files, MemFiles};
-use sm_shapes::LiteralPatterns;
+use sm_shapes::RegexPatterns;
 use sm_tree::{NoMemory, Text};
 use std::alloc::Global;
 
@@ -85,7 +85,7 @@ impl Shelf {
         let given = std::mem::replace(&mut self.given, Given::nothing());
         let mut input = given.input(alloc, bytes)?;
         let mut put = given.output(alloc)?;
-        let mut patterns = LiteralPatterns::new(alloc, Vec::new(alloc));
+        let mut patterns = RegexPatterns::new(alloc);
         let status = run(
             alloc,
             words.as_slice(),

@@ -3,7 +3,7 @@
 
 use sm_commands::{Status, run};
 use sm_io::{DiskFiles, StdSink, StdSource};
-use sm_shapes::LiteralPatterns;
+use sm_shapes::RegexPatterns;
 use sm_tree::Text;
 use std::alloc::Global;
 use std::env;
@@ -81,7 +81,7 @@ fn answer(rt: &HostRuntime, words: &[Text]) -> u8 {
     let mut files = DiskFiles::new(alloc, *rt);
     let mut input = StdSource::new(rt.stdin());
     let mut out = StdSink::new(rt.stdout());
-    let mut patterns = LiteralPatterns::new(alloc, Vec::new(alloc));
+    let mut patterns = RegexPatterns::new(alloc);
     run(
         alloc,
         words,
