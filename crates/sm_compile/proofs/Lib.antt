@@ -2,7 +2,7 @@ pub mod RowsAlike
 pub mod OnePatterns
 pub mod OneWay
 pub mod OneTable
-mod LookedUp
+pub mod LookedUp
 mod ReachedNumbers
 mod Differing
 mod NamesBehind
@@ -10,7 +10,7 @@ mod SoundTests
 mod SoundShapes
 mod EmptyNodes
 mod TabledNumbers
-mod TabledShapes
+pub mod TabledShapes
 mod TabledMembers
 mod RowsSay
 mod MembersSay

@@ -3,10 +3,15 @@
 
 mod bounds;
 mod case;
+mod each;
+mod earlier;
 mod firsts;
+mod known;
 mod owned;
 mod putting;
+mod repeats;
 mod rule;
 mod single;
+mod unknown;
 
 pub use rule::Rule;

@@ -1,9 +1,10 @@
 -- What the rules of models speak of: shapes and members outside of the prelude, and their traits (Smithy 2.0, "The Smithy model"). A rule
 -- that needs what isn't there, or a trait's value that doesn't read, doesn't fail.
-use Rattle.std.specs.Prelude.{◌≡◌, ℕ, false, List, ◌∷◌, ◌++◌, Option}
+use Rattle.std.specs.Prelude.{◌≡◌, ℕ, Bool, false, List, ◌∷◌, ◌++◌, Option, Some, is_some}
+use Rattle.std.specs.FinMap as fin
 use Rattle.std.specs.declared.cmp.Ordering.TheVariants.{Greater}
 use Rattle.sm_tree.specs.Node.{Node}
-use Rattle.sm_model.specs.Graphs.{text_cmp, Entry, shape_entry, ShapeEntry, GraphMaps}
+use Rattle.sm_model.specs.Graphs.{text_cmp, NodeMap, Entry, shape_entry, ShapeEntry, GraphMaps}
 use Rattle.sm_model.specs.PreludeShapes.{is_prelude_id}
 use Rattle.sm_model.specs.Relations.{HasEntry}
 use Rattle.sm_compile.specs.Sound.{trait_of}
@@ -21,6 +22,13 @@ pub record IsListedBehind (g : GraphMaps) (shape : List ℕ) (s : ShapeEntry) (b
   pub home : IsOwnShape g shape s
   pub later : List (List ℕ)
   pub members : s.members ≡ before ++ id ∷ later
+
+-- a trait stands there, whatever its value
+abbrev pub has_trait : List ℕ → NodeMap → Bool
+has_trait trait traits = is_some (fin.get traits trait)
+
+abbrev pub CarriesTrait : GraphMaps → List ℕ → List ℕ → Node → Type 0
+CarriesTrait g id trait n = (is_prelude_id id ≡ false) × (trait_of g id trait ≡ Some n)
 
 -- the value of a trait where it reads
 abbrev pub read_trait : GraphMaps → List ℕ → List ℕ → Option Node
