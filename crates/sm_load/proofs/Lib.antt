@@ -11,3 +11,4 @@ mod CaseTwins
 mod EarlierRows
 mod RepeatedNames
 mod UnknownTraits
+mod UnusedShapes

@@ -6,3 +6,4 @@ pub mod Folded
 pub mod Knowing
 pub mod Owned
 pub mod Putting
+pub mod Using

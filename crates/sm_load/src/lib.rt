@@ -2,16 +2,19 @@
 #![tactic(auto)]
 
 mod bounds;
+mod carried;
 mod case;
 mod each;
 mod earlier;
 mod firsts;
 mod known;
+mod marked;
 mod owned;
 mod putting;
 mod repeats;
 mod rule;
 mod single;
 mod unknown;
+mod unused;
 
 pub use rule::Rule;
