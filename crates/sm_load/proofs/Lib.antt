@@ -12,3 +12,4 @@ mod EarlierRows
 mod RepeatedNames
 mod UnknownTraits
 mod UnusedShapes
+mod ExclusiveTraits

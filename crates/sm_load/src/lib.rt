@@ -6,6 +6,7 @@ mod carried;
 mod case;
 mod each;
 mod earlier;
+mod exclusive;
 mod firsts;
 mod known;
 mod marked;
