@@ -10,7 +10,7 @@ mod SoundTests
 mod SoundShapes
 mod EmptyNodes
 mod TabledNumbers
-mod TabledShapes
+pub mod TabledShapes
 mod TabledMembers
 mod RowsSay
 mod MembersSay

@@ -252,6 +252,9 @@ has_form text_or_number n = is_text n || is_number n
 abbrev pub rows_of : List ℕ → List TraitRow
 rows_of trait = filter (λ r. list_any (bytes_eq trait) r.traits) trait_rows
 
+abbrev pub has_row : List ℕ → Bool
+has_row trait = not (has_none (rows_of trait))
+
 -- a value is as one of these rows says
 abbrev pub is_as_one : List TraitRow → Node → Bool
 is_as_one rows n = list_any (λ r. has_form r.value n) rows

@@ -33,5 +33,6 @@ pub use compile::compile_shape;
 pub use compiled::{CompileRefusal, OneShape, Served};
 pub use formed::{are_lengths_where, are_ordered_where, are_whole_bounds_where, is_range_where};
 pub use look::{id_text, kind_of, members_of, target_kind, target_of, targets_unit, trait_node};
+pub use names::member_name;
 pub use soundness::sound;
 pub use uri::{Segment, UriPattern, UriRefusal, route_text};

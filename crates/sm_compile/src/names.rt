@@ -28,7 +28,8 @@ pub(crate) struct Names<'a> {
 }
 
 /// The name of a member of a shape: what stands behind the shape's id and `$` in the member's. `None` where it is no member's id.
-pub(crate) fn member_name<'a>(graph: &'a Graph, shape: u32, member: u32) -> Option<&'a str>
+/// No memory.
+pub fn member_name<'a>(graph: &'a Graph, shape: u32, member: u32) -> Option<&'a str>
     requires shape { IsShapeNumber graph.now shape }
     requires member { IsShapeNumber graph.now member }
     ensures { MatchOption result

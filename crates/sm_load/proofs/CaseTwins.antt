@@ -31,7 +31,7 @@ use Rattle.sm_load.specs.rules.Ids.{HasCaseTwin, IsCaseTwin}
 use Rattle.sm_load.specs.steps.Firsts.{ToldAmong, ToldFirst}
 use Rattle.sm_load.specs.steps.Folded.{folded, folded_below, is_own_shape, is_shape}
 use Rattle.sm_load.proofs.EventsPut.{puts_same}
-use Rattle.sm_load.proofs.OwnShapes.{not_so}
+use Rattle.sm_load.proofs.OwnShapes.{own_told, told_own}
 use Rattle.sm_load.proofs.Twins.{TellsFirst, first_told, is_row, row_is}
 
 either_way : (i j : ℕ) → (i < j) ⊎ ((i ≡ j) ⊎ (j < i))
@@ -75,28 +75,14 @@ module _ (g : Graph) where
       ap (λ t. text_cmp t (id_of_number g j)) (sym first) ∙ ap (text_cmp (key_at es i d)) (sym second)
       ∙ keys_rise es (and_left (is_sorted text_cmp es) _ g.sound) d i j less within
 
-  shape_in : (o : Option Entry) → is_shape o ≡ true → (s : ShapeEntry) × (o ≡ Some (shape_entry s))
-  shape_in None h = absurd (apart h)
-  shape_in (Some (shape_entry s)) h = (s, refl)
-  shape_in (Some (member_entry m)) h = absurd (apart h)
-
-  own_told : (id : List ℕ) → is_own_shape (maps_of g) id ≡ true → (s : ShapeEntry) × IsOwnShape (maps_of g) id s
-  own_told id h =
-      let o = fin.get (maps_of g).shapes id in
-      let s = shape_in o (and_left (is_shape o) (not (is_prelude_id id)) h) in
-      (s.0, (s.1, not_so (is_prelude_id id) (and_right (is_shape o) (not (is_prelude_id id)) h)))
-
-  told_own : (id : List ℕ) (s : ShapeEntry) → IsOwnShape (maps_of g) id s → is_own_shape (maps_of g) id ≡ true
-  told_own id s own = ap (λ o. is_shape o && not (is_prelude_id id)) own.0 ∙ ap not own.1
-
   module _ (k : ℕ) (within : k < length (entries_of g)) (mine : is_own_shape (maps_of g) (id_of_number g k) ≡ true) where
     -- the one that stands first is the least that is equal but for case
     twin_told : (j : ℕ) → TellsFirst g (length (entries_of g)) (folded (id_of_number g k)) (Some j) → (j ≡ k → ⊥)
         → HasCaseTwin (maps_of g) (id_of_number g k) (id_of_number g j)
     twin_told j first other =
         let before : j < k = earlier (either_way j k) in
-        let s = own_told (id_of_number g k) mine in
-        let t = own_told (id_of_number g j) first.1 in
+        let s = own_told (maps_of g) (id_of_number g k) mine in
+        let t = own_told (maps_of g) (id_of_number g j) first.1 in
         record {
           s = s.0;
           own = s.1;
@@ -118,7 +104,7 @@ module _ (g : Graph) where
           where
             at : (i : ℕ) → i < length (entries_of g) → id_of_number g i ≡ t → ((i < j) ⊎ ((i ≡ j) ⊎ (j < i))) → ⊥
             at i small is (inl less) =
-                first.3 i less (subst (λ x. is_own_shape (maps_of g) x ≡ true) (sym is) (told_own t twin.s twin.own))
+                first.3 i less (subst (λ x. is_own_shape (maps_of g) x ≡ true) (sym is) (told_own (maps_of g) t twin.s twin.own))
                 (ap folded is ∙ twin.same)
             at i small is (inr (inl same)) =
                 equal_not_greater t (subst (λ x. text_cmp x t ≡ Greater) (ap (id_of_number g) (sym same) ∙ is) greater)
@@ -137,7 +123,7 @@ module _ (g : Graph) where
         at n.0 n.1 n.2 (either_way n.0 j) (either_way n.0 k)
       where
         own_at : (i : ℕ) → id_of_number g i ≡ detail → is_own_shape (maps_of g) (id_of_number g i) ≡ true
-        own_at i is = subst (λ x. is_own_shape (maps_of g) x ≡ true) (sym is) (told_own detail h.least.holds.s h.least.holds.own)
+        own_at i is = subst (λ x. is_own_shape (maps_of g) x ≡ true) (sym is) (told_own (maps_of g) detail h.least.holds.s h.least.holds.own)
 
         -- the twin stands before
         not_behind : (i : ℕ) → i < length (entries_of g) → id_of_number g i ≡ detail → ((i < k) ⊎ ((i ≡ k) ⊎ (k < i))) → i < k
@@ -157,7 +143,7 @@ module _ (g : Graph) where
             (j, refl, (λ e. omega (arith, before, same, e)), ap (id_of_number g) (sym same) ∙ is)
         at i small is (inr (inr more)) o =
             let before = not_behind i small is o in
-            let t = own_told (id_of_number g j) first.1 in
+            let t = own_told (maps_of g) (id_of_number g j) first.1 in
             absurd (h.least.least (id_of_number g j)
             (record { s = t.0; own = t.1; smaller = rising j k (omega (arith, before, more)) within; same = first.2 })
             (turned_less (id_of_number g j) detail (subst (λ x. text_cmp (id_of_number g j) x ≡ Less) is (rising j i more small))))
@@ -193,7 +179,7 @@ module _ (g : Graph) where
           at : (k : ℕ) → k < length (entries_of g) → id_of_number g k ≡ id → HasCaseTwin (maps_of g) (id_of_number g k) detail
               → e ≡ rule_event IdCase id detail → ToldAmong g (λ key. find text_cmp key rows) rows e
           at k within same h is =
-              let mine = told_own (id_of_number g k) h.s h.own in
+              let mine = told_own (maps_of g) (id_of_number g k) h.s h.own in
               let f = found_twin k within mine detail h (find text_cmp (folded (id_of_number g k)) rows)
               (first_told g (length (entries_of g)) (folded (id_of_number g k))) in (
                 (folded (id_of_number g k), k),

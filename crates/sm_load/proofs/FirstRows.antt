@@ -1,29 +1,26 @@
 -- Numbers that stand first under their keys, row by row.
-use Rattle.std.proofs.Common.{◌≡◌, ◌⊎◌, inl, inr, ℕ, cond, List, [], ◌∷◌, ◌++◌, Option, Some, None, refl, sym, ap, ◌∙◌}
-use Rattle.std.proofs.Common.{subst, bytes_eq}
-use Rattle.std.specs.Prelude.{◌↔◌}
+use Rattle.std.proofs.Common.{◌≡◌, ℕ, cond, List, [], ◌∷◌, ◌++◌, Option, Some, None, refl, sym, ap, ◌∙◌, bytes_eq}
 use Rattle.std.specs.Cmp.Lexicographic.{nat_list_cmp_total}
 use Rattle.std.specs.FinMap.Entries.{find}
 use Rattle.std.specs.Ordering.{is_eq, ordering_reverse}
 use Rattle.std.specs.declared.cmp.Ordering.{Ordering}
 use Rattle.std.specs.declared.cmp.Ordering.TheVariants.{Less, Equal, Greater}
-use Rattle.std.proofs.lemmas.List.Elements.{Contains-append_left, Contains-push, Contains-push_cases}
 use Rattle.std.proofs.lemmas.Map.Text.{is_eq-slice_cmp}
 use Rattle.sm_model.specs.EventView.{EventTold}
 use Rattle.sm_model.specs.Graphs.{text_cmp}
 use Rattle.sm_model.specs.declared.event.ModelEvent.{ModelEvent}
 use Rattle.sm_model.specs.declared.graph.Graph.{Graph}
-use Rattle.sm_model.proofs.OneRising.{contains_none}
 use Rattle.sm_load.specs.RuleEvents.{Puts}
 use Rattle.sm_load.specs.steps.Firsts.{ToldAmong, ToldFirst}
-use Rattle.sm_load.proofs.EventsPut.{puts_both, puts_none, puts_same}
+use Rattle.sm_load.proofs.EventsPut.{puts_none}
+use Rattle.sm_load.proofs.ListPut.{none_of, put_behind}
 
 tie_turned : (r : Ordering) → is_eq (ordering_reverse r) ≡ is_eq r
 tie_turned Less = refl
 tie_turned Equal = refl
 tie_turned Greater = refl
 
-tests : (a b : List ℕ) → is_eq (text_cmp a b) ≡ bytes_eq b a
+pub tests : (a b : List ℕ) → is_eq (text_cmp a b) ≡ bytes_eq b a
 tests a b = ap is_eq (nat_list_cmp_total.antisymm a b) ∙ tie_turned (text_cmp b a) ∙ is_eq-slice_cmp b a
 
 -- a row before others is found first
@@ -33,29 +30,16 @@ pub first_more : (old new : List ℕ → Option ℕ) (row : List ℕ × ℕ) (ro
 first_more old new row rows changed h q = changed q ∙ (λ i. cond (sym (tests q row.0) i) (Some row.1) (h q i))
 
 module _ (g : Graph) (first : List ℕ → Option ℕ) where
-  pub none_told : (es : List ModelEvent) → Puts (ToldAmong g first []) es es
-  none_told es = puts_none (ToldAmong g first []) es (λ e h. contains_none h.0 h.1)
+  abbrev OfRow : List ℕ × ℕ → EventTold → Type 0
+  OfRow r e = ToldFirst g (first r.0) r.1 e
 
-  one_more : (rows : List (List ℕ × ℕ)) (r : List ℕ × ℕ) (e : EventTold)
-      → (ToldAmong g first rows e ⊎ ToldFirst g (first r.0) r.1 e) ↔ ToldAmong g first (rows ++ r ∷ []) e
-  one_more rows r e = (
-    λ h. elim h [
-      | inl old ↦ (old.0, Contains-append_left rows (r ∷ []) old.0 old.1, old.2)
-      | inr last ↦ (r, Contains-push rows r, last)
-    ],
-    λ h. elim (Contains-push_cases rows r h.0 h.1) [
-      | inl old ↦ inl (h.0, old, h.2)
-      | inr same ↦ inr (subst (λ (x : List ℕ × ℕ). ToldFirst g (first x.0) x.1 e) (sym same) h.2)
-    ],
-  )
+  pub none_told : (es : List ModelEvent) → Puts (ToldAmong g first []) es es
+  none_told es = none_of OfRow es
 
   -- what is told of a row behind others
   pub told_more : (rows : List (List ℕ × ℕ)) (r : List ℕ × ℕ) (before mid now : List ModelEvent) → Puts (ToldAmong g first rows) before mid
       → Puts (ToldFirst g (first r.0) r.1) mid now → Puts (ToldAmong g first (rows ++ r ∷ [])) before now
-  told_more rows r before mid now h k =
-      puts_same (λ e. ToldAmong g first rows e ⊎ ToldFirst g (first r.0) r.1 e) (ToldAmong g first (rows ++ r ∷ [])) before now
-      (one_more rows r)
-      (puts_both (ToldAmong g first rows) (ToldFirst g (first r.0) r.1) before mid now h k)
+  told_more rows r before mid now h k = put_behind OfRow rows r before mid now h k
 
 -- where nothing stands first nothing is told
 pub not_first : (g : Graph) (k : ℕ) (es : List ModelEvent) → Puts (ToldFirst g None k) es es

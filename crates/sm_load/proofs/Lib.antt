@@ -1,8 +1,15 @@
 mod EventsPut
+mod ListPut
 mod Numbered
 mod OwnShapes
+mod TraitEntries
 mod Singles
 mod WrongBounds
 mod FirstRows
 mod Twins
 mod CaseTwins
+mod EarlierRows
+mod RepeatedNames
+mod UnknownTraits
+mod UnusedShapes
+mod ExclusiveTraits

@@ -10,6 +10,7 @@ use Rattle.sm_model.proofs.Searching.{and_left, and_right}
 use Rattle.sm_model.proofs.Worklist.{apart}
 use Rattle.sm_compile.specs.rules.Words.{IsOwnShape}
 use Rattle.sm_compile.specs.Looked.{kind_in, kind_under}
+use Rattle.sm_load.specs.steps.Folded.{is_own_shape, is_shape}
 use Rattle.sm_load.specs.steps.Owned.{is_own_structure, is_structure}
 
 pub not_so : (b : Bool) → not b ≡ true → b ≡ false
@@ -40,3 +41,18 @@ pub is_own : (g : GraphMaps) (id : List ℕ) → OwnStructure g id → is_own_st
 is_own g id own =
     ap (λ o. is_structure (kind_in o) && not (is_prelude_id id)) own.1.0 ∙ ap (λ k. is_structure (Some k) && not (is_prelude_id id)) own.2
     ∙ ap not own.1.1
+
+-- a shape outside of the prelude
+shape_in : (o : Option Entry) → is_shape o ≡ true → (s : ShapeEntry) × (o ≡ Some (shape_entry s))
+shape_in None h = absurd (apart h)
+shape_in (Some (shape_entry s)) h = (s, refl)
+shape_in (Some (member_entry m)) h = absurd (apart h)
+
+pub own_told : (g : GraphMaps) (id : List ℕ) → is_own_shape g id ≡ true → (s : ShapeEntry) × IsOwnShape g id s
+own_told g id h =
+    let o = fin.get g.shapes id in
+    let s = shape_in o (and_left (is_shape o) (not (is_prelude_id id)) h) in
+    (s.0, (s.1, not_so (is_prelude_id id) (and_right (is_shape o) (not (is_prelude_id id)) h)))
+
+pub told_own : (g : GraphMaps) (id : List ℕ) (s : ShapeEntry) → IsOwnShape g id s → is_own_shape g id ≡ true
+told_own g id s own = ap (λ o. is_shape o && not (is_prelude_id id)) own.0 ∙ ap not own.1

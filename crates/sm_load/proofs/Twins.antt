@@ -21,7 +21,7 @@ use Rattle.sm_model.proofs.Worklist.{apart}
 use Rattle.sm_load.specs.steps.Folded.{folded, folded_at, folded_below, is_own_shape}
 
 -- found behind others
-find_joined : (key : List ℕ) (xs ys : List (List ℕ × ℕ))
+pub find_joined : (key : List ℕ) (xs ys : List (List ℕ × ℕ))
     → find text_cmp key (xs ++ ys) ≡ option_or (find text_cmp key xs) (find text_cmp key ys)
 find_joined key [] ys = refl
 find_joined key (x ∷ xs) ys = by (is_eq (text_cmp key x.0)) (find_joined key xs ys)

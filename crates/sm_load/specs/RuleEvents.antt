@@ -33,3 +33,8 @@ HaveSeverities es = (e : ModelEvent) → Contains es e → HasItsSeverity e
 pub record Puts (Told : EventTold → Type 0) (before now : List ModelEvent) : Type 0 where
   pub told : Joins (Contains (events_view before)) Told (Contains (events_view now))
   pub severities : HaveSeverities before → HaveSeverities now
+
+-- those told of members of one shape: the home of what fails
+abbrev pub IsEventIn : Rule → (Fails : RuleFails) → ((id detail : List ℕ) → Fails id detail → List ℕ) → List ℕ → EventTold → Type 0
+IsEventIn rule Fails home shape e =
+    (id detail : List ℕ) × (h : Fails id detail) × (home id detail h ≡ shape) × (e ≡ rule_event rule id detail)

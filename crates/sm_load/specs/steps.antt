@@ -1,6 +1,10 @@
 pub mod Bounding
 pub mod Carrying
+pub mod Earlier
+pub mod Excluding
 pub mod Firsts
 pub mod Folded
+pub mod Knowing
 pub mod Owned
 pub mod Putting
+pub mod Using

@@ -7,13 +7,14 @@ ghost use Rattle.sm_load.specs.RuleEvents.{IsEventOf, Puts};
 ghost use Rattle.sm_load.specs.declared.rule.Rule.TheVariants.{IdCase};
 ghost use Rattle.sm_load.specs.rules.Ids.{HasCaseTwin};
 ghost use Rattle.sm_load.specs.steps.Firsts.{ToldAmong, ToldFirst, number_in};
-ghost use Rattle.sm_load.specs.steps.Folded.{folded, folded_at, folded_below, is_own_shape};
+ghost use Rattle.sm_load.specs.steps.Folded.{folded, folded_at, folded_below};
 
 use crate::firsts::{first_numbers, first_of};
+use crate::owned::is_own_shape;
 use crate::putting::put_if;
 use crate::rule::Rule;
-use sm_compile::{id_text, kind_of};
-use sm_model::{Graph, ModelEvent, is_in_prelude};
+use sm_compile::id_text;
+use sm_model::{Graph, ModelEvent};
 use sm_tree::{NoMemory, Text};
 use std::alloc::Global;
 use std::collections::BTreeMap;
@@ -79,15 +80,8 @@ fn put_folded(
     Ok(())
 }
 
-fn is_own_shape(graph: &Graph, number: u32) -> bool
-    requires { IsShapeNumber graph.now number }
-    ensures { result ≡ is_own_shape (maps_of graph.now) (id_of_number graph.now number) }
-{
-    kind_of(graph, number).is_some() && !is_in_prelude(id_text(graph, number))
-}
-
-// A text in small letters.
-fn folded(alloc: Global, text: &str) -> Result<Text, NoMemory>
+/// A text in small letters.
+pub(crate) fn folded(alloc: Global, text: &str) -> Result<Text, NoMemory>
     ensures { IfOk result (λ t. t ≡ folded text.now) }
 {
     Ok(Text::new(text.to_ascii_lowercase(alloc)?))

@@ -2,10 +2,19 @@
 ghost use Rattle.std.specs.Prelude.{◌≡◌};
 ghost use Rattle.sm_model.specs.GraphView.{IsShapeNumber, maps_of};
 ghost use Rattle.sm_model.specs.Reaching.{id_of_number};
+ghost use Rattle.sm_load.specs.steps.Folded.{is_own_shape};
 ghost use Rattle.sm_load.specs.steps.Owned.{is_own_structure, is_structure};
 
 use sm_compile::{id_text, kind_of};
 use sm_model::{Graph, Kind, is_in_prelude};
+
+/// Whether this is the number of a shape outside of the prelude, and of no member.
+pub(crate) fn is_own_shape(graph: &Graph, number: u32) -> bool
+    requires { IsShapeNumber graph.now number }
+    ensures { result ≡ is_own_shape (maps_of graph.now) (id_of_number graph.now number) }
+{
+    kind_of(graph, number).is_some() && !is_in_prelude(id_text(graph, number))
+}
 
 /// Whether this is the number of a structure outside of the prelude.
 pub(crate) fn is_own_structure(graph: &Graph, number: u32) -> bool

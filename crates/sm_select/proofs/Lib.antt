@@ -19,7 +19,7 @@ mod ReadWords
 mod ReadNames
 mod ReadPaths
 mod Boundaries
-mod MarkedNumbers
+pub mod MarkedNumbers
 mod ImageNumbers
 mod AlongLinks
 mod NineRelations

@@ -1,12 +1,30 @@
--- Traits that one member of a structure alone may carry (Smithy 2.0, "trait trait", structurally exclusive traits).
+-- Traits of the table: which of them exclude each other, and which one member alone may carry (Smithy 2.0, "Trait index", "trait trait",
+-- sections on conflicts and on structurally exclusive traits).
 use Rattle.std.specs.Prelude.{◌≡◌, ℕ, true, List, [], ◌∷◌, is_some}
 use Rattle.std.specs.List.{Contains}
-use Rattle.sm_model.specs.Graphs.{ShapeEntry, GraphMaps}
+use Rattle.std.specs.declared.cmp.Ordering.TheVariants.{Less}
+use Rattle.sm_model.specs.Graphs.{text_cmp, Entry, ShapeEntry, GraphMaps, traits_in}
 use Rattle.sm_model.specs.declared.kind.Kind.TheVariants.{Structure}
 use Rattle.sm_compile.specs.Sound.{trait_of}
-use Rattle.sm_compile.specs.TraitIds.{idempotency_token_id, http_payload_id, http_prefix_headers_id, http_query_params_id}
-use Rattle.sm_compile.specs.TraitIds.{http_response_code_id}
-use Rattle.sm_compile.specs.rules.Words.{IsListedBehind}
+use Rattle.sm_compile.specs.TraitIds.{binding_ids, readonly_id, idempotent_id, input_id, output_id, error_id, idempotency_token_id}
+use Rattle.sm_compile.specs.TraitIds.{http_payload_id, http_prefix_headers_id, http_query_params_id, http_response_code_id}
+use Rattle.sm_compile.specs.rules.Words.{IsOwn, IsListedBehind, has_trait}
+
+-- traits of which a shape or member carries one at most
+abbrev pub exclusive_traits : List (List (List ℕ))
+exclusive_traits = (readonly_id ∷ idempotent_id ∷ []) ∷ (input_id ∷ output_id ∷ error_id ∷ []) ∷ binding_ids ∷ []
+
+-- Trait.Conflict, by the table: it carries two of them; told is the greater
+pub record HasExclusiveTraits (g : GraphMaps) (id greater : List ℕ) : Type 0 where
+  pub e : Entry
+  pub own : IsOwn g id e
+  pub group : List (List ℕ)
+  pub is_group : Contains exclusive_traits group
+  pub smaller : List ℕ
+  pub both : Contains group smaller × Contains group greater
+  pub smaller_there : has_trait smaller (traits_in e) ≡ true
+  pub greater_there : has_trait greater (traits_in e) ≡ true
+  pub order : text_cmp smaller greater ≡ Less
 
 -- traits that one member of a structure may carry
 abbrev pub single_traits : List (List ℕ)

@@ -1,11 +1,14 @@
--- What the rules of models speak of: shapes and members outside of the prelude, and their traits (Smithy 2.0, "The Smithy model"). A rule
--- that needs what isn't there, or a trait's value that doesn't read, doesn't fail.
-use Rattle.std.specs.Prelude.{◌≡◌, ℕ, false, List, ◌∷◌, ◌++◌, Option}
+-- What the rules of models speak of: shapes and members outside of the prelude, their traits, and services with what they lead to (Smithy
+-- 2.0, "The Smithy model", "Service types"). A rule that needs what isn't there, or a trait's value that doesn't read, doesn't fail.
+use Rattle.std.specs.Prelude.{◌≡◌, ℕ, Bool, false, List, ◌∷◌, ◌++◌, Option, Some, is_some}
+use Rattle.std.specs.FinMap as fin
 use Rattle.std.specs.declared.cmp.Ordering.TheVariants.{Greater}
 use Rattle.sm_tree.specs.Node.{Node}
-use Rattle.sm_model.specs.Graphs.{text_cmp, Entry, shape_entry, ShapeEntry, GraphMaps}
+use Rattle.sm_model.specs.Graphs.{text_cmp, NodeMap, Entry, shape_entry, ShapeEntry, GraphMaps}
 use Rattle.sm_model.specs.PreludeShapes.{is_prelude_id}
-use Rattle.sm_model.specs.Relations.{HasEntry}
+use Rattle.sm_model.specs.Relations.{HasEntry, Reaches}
+use Rattle.sm_model.specs.declared.kind.Kind.{Kind}
+use Rattle.sm_model.specs.declared.kind.Kind.TheVariants.{Service}
 use Rattle.sm_compile.specs.Sound.{trait_of}
 use Rattle.sm_compile.specs.TraitRows.{that_reads}
 
@@ -22,6 +25,13 @@ pub record IsListedBehind (g : GraphMaps) (shape : List ℕ) (s : ShapeEntry) (b
   pub later : List (List ℕ)
   pub members : s.members ≡ before ++ id ∷ later
 
+-- a trait stands there, whatever its value
+abbrev pub has_trait : List ℕ → NodeMap → Bool
+has_trait trait traits = is_some (fin.get traits trait)
+
+abbrev pub CarriesTrait : GraphMaps → List ℕ → List ℕ → Node → Type 0
+CarriesTrait g id trait n = (is_prelude_id id ≡ false) × (trait_of g id trait ≡ Some n)
+
 -- the value of a trait where it reads
 abbrev pub read_trait : GraphMaps → List ℕ → List ℕ → Option Node
 read_trait g id trait = that_reads trait (trait_of g id trait)
@@ -30,3 +40,13 @@ read_trait g id trait = that_reads trait (trait_of g id trait)
 pub record IsLeast (Holds : List ℕ → Type 0) (id : List ℕ) : Type 0 where
   pub holds : Holds id
   pub least : (other : List ℕ) → Holds other → text_cmp id other ≡ Greater → ⊥
+
+abbrev pub IsOwnOfKind : GraphMaps → Kind → List ℕ → Type 0
+IsOwnOfKind g kind id = (s : ShapeEntry) × IsOwnShape g id s × (s.kind ≡ kind)
+
+abbrev pub IsService : GraphMaps → List ℕ → Type 0
+IsService g id = IsOwnOfKind g Service id
+
+-- the closure of a service: all to which references, members and targets lead from it
+abbrev pub IsInClosure : GraphMaps → List ℕ → List ℕ → Type 0
+IsInClosure g service id = IsService g service × Reaches g service id

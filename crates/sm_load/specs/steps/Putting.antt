@@ -1,5 +1,6 @@
 -- Events that are put number by number, and where a test passes.
-use Rattle.std.specs.Prelude.{◌≡◌, ◌<◌, ℕ, Bool, true}
+use Rattle.std.specs.Prelude.{◌≡◌, ◌<◌, ℕ, Bool, true, List}
+use Rattle.std.specs.List.{Contains}
 use Rattle.sm_model.specs.EventView.{EventTold}
 
 -- those of the numbers below this one
@@ -9,3 +10,7 @@ Below Told n e = (k : ℕ) × (k < n) × Told k e
 -- this one, where the test passes
 abbrev pub IsWhere : Bool → EventTold → EventTold → Type 0
 IsWhere test told e = (test ≡ true) × (e ≡ told)
+
+-- what is told of each of these
+abbrev pub ToldOf : {X : Type 0} → (X → EventTold → Type 0) → List X → EventTold → Type 0
+ToldOf Told xs e = (x : _) × Contains xs x × Told x e
