@@ -1,13 +1,13 @@
 -- What is written for what stands at a number of a graph, from what its look-ups say of it.
-use Rattle.std.proofs.Common.{◌≡◌, ℕ, suc, zero, true, false, cond, List, [], ◌∷◌, ◌++◌, drop, get_or, Option, Some, None, refl, sym, ap, ◌∙◌, subst, append_assoc, append-nil}
+use Rattle.std.proofs.Common.{◌≡◌, ℕ, suc, zero, true, false, cond, List, [], ◌∷◌, ◌++◌, drop, get_or, Some, None, refl, sym, ap, ◌∙◌, subst, append_assoc, append-nil}
 use Rattle.std.specs.Prelude.{IsSomeAnd, slice_get, if◌then◌else◌}
 use Rattle.std.specs.FinMap as fin
 use Rattle.sm_tree.specs.Node.{Node, Members}
 use Rattle.sm_model.specs.Graphs.{Entry, shape_entry, member_entry, ShapeMap, traits_in}
-use Rattle.sm_model.specs.GraphView.{At, entries_of, ids, is_member_entry, IsMemberEntry, IsShapeEntry, maps_of, HasKind, HasMembers, HasBodyNode, Targets}
+use Rattle.sm_model.specs.GraphView.{At, entries_of, ids, is_member_entry, maps_of, HasKind, HasMembers, HasBodyNode, Targets}
 use Rattle.sm_model.specs.declared.graph.Graph.{Graph}
 use Rattle.sm_model.specs.declared.kind.Kind.{Kind}
-use Rattle.sm_model.proofs.GraphFacts.{entry_under, id_at}
+use Rattle.sm_model.proofs.GraphFacts.{Found, entry_under, id_at}
 use Rattle.sm_model.specs.PreludeShapes.{is_prelude_id}
 use Rattle.sm_ast.specs.Written.{WrittenPairs, field_there, member_object, member_there, name_in_id, shape_object, written_entry}
 use Rattle.sm_tree.specs.Parts.{tree_named}
@@ -15,26 +15,6 @@ use Rattle.sm_ast.specs.Written.{property_there, written_member, written_members
 use Rattle.sm_model.specs.Properties.{TypeFields}
 use Rattle.sm_ast.specs.steps.Saying.{pairs_said}
 use Rattle.sm_ast.specs.steps.Writing.{IsWrittenShape}
-
--- what stands at a number is a shape or a member
-abbrev pub Found : Type 0
-Found = Option (List ℕ × Entry)
-
-pub member_here : (o : Found) → IsSomeAnd o (λ e. is_member_entry e.1 ≡ true) → IsSomeAnd o (λ e. IsMemberEntry e.1)
-member_here None h = h
-member_here (Some e) h = by e.1 h
-  where
-    by : (x : Entry) → is_member_entry x ≡ true → IsMemberEntry x
-    by (shape_entry s) k = absurd (subst (λ b. cond b ⊥ (Unit {0})) k tt)
-    by (member_entry m) k = tt
-
-pub shape_here : (o : Found) → IsSomeAnd o (λ e. is_member_entry e.1 ≡ false) → IsSomeAnd o (λ e. IsShapeEntry e.1)
-shape_here None h = h
-shape_here (Some e) h = by e.1 h
-  where
-    by : (x : Entry) → is_member_entry x ≡ false → IsShapeEntry x
-    by (shape_entry s) k = tt
-    by (member_entry m) k = absurd (subst (λ b. cond b (Unit {0}) ⊥) k tt)
 
 -- the tree of a member, by its target and its traits
 pub member_written : (o : Found) (target : List ℕ) (traits : WrittenPairs) (n : Node) → IsSomeAnd o (λ e. Targets target e.1)

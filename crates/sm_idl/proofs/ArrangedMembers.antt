@@ -1,5 +1,6 @@
 -- The members of a list and of a map, by their names.
-use Rattle.std.proofs.Common.{◌≡◌, ◌⊎◌, inl, inr, ℕ, if◌then◌else◌, List, [], ◌∷◌, ◌++◌, codes, Some, None, Vec, refl, sym, ap, subst, ◌∙◌, length, arith, slice_index_or}
+use Rattle.std.proofs.Common.{◌≡◌, ◌⊎◌, inl, inr, ℕ, if◌then◌else◌, List, [], ◌∷◌, ◌++◌, codes}
+use Rattle.std.proofs.Common.{Some, None, Vec, refl, sym, ap, subst, ◌∙◌, length, arith, slice_index_or}
 use Rattle.std.specs.List.{swap}
 use Rattle.std.specs.declared.alloc.Global.{Global}
 use Rattle.std.proofs.lemmas.List.{length-map}
@@ -126,7 +127,8 @@ module _ (v : Vec MemberStatement Global) where
 
 pair_first : (xs : List MemberStatement) (d : MemberStatement) → length xs ≡ 2 → AreNamed (form_of Pair) [] (member_statements_view xs)
     → ((slice_index_or xs 0 d).name ≡ codes "value" → ⊥)
-    → HasMembers (form_of Pair) (member_statements_view xs) × (member_statements_view xs ≡ arranged (form_of Pair) (member_statements_view xs))
+    → HasMembers (form_of Pair) (member_statements_view xs) × (member_statements_view xs ≡ arranged (form_of Pair)
+    (member_statements_view xs))
 pair_first [] d e named none = absurd (omega (arith, e))
 pair_first (m ∷ []) d e named none = absurd (omega (arith, e))
 pair_first (m ∷ (o ∷ [])) d e named none = pair_as_it_is (member_view m) (member_view o) named none
@@ -139,7 +141,8 @@ pair_kept v d two named none = pair_first v.items d two named none
 
 pair_second : (xs ys : List MemberStatement) (d : MemberStatement) → length xs ≡ 2 → ys ≡ swap xs 0 1
     → AreNamed (form_of Pair) [] (member_statements_view xs) → (slice_index_or xs 0 d).name ≡ codes "value"
-    → HasMembers (form_of Pair) (member_statements_view xs) × (member_statements_view ys ≡ arranged (form_of Pair) (member_statements_view xs))
+    → HasMembers (form_of Pair) (member_statements_view xs) × (member_statements_view ys ≡ arranged (form_of Pair)
+    (member_statements_view xs))
 pair_second [] ys d e s named v = absurd (omega (arith, e))
 pair_second (m ∷ []) ys d e s named v = absurd (omega (arith, e))
 pair_second (m ∷ (o ∷ [])) ys d e s named v =

@@ -46,7 +46,8 @@ one_suffix : (suffix : Option (List ℕ)) (a b : List ℕ) → suffix ≡ Some a
 unfolding suffix_of
 one_suffix suffix a b e f = ap suffix_of (sym e ∙ f)
 
-pub inline_name_firm : (operation : List ℕ) (suffix : Option (List ℕ)) → IsFirm ⊥ (AMark (codes ":=")) NoToken (inline_name operation suffix)
+pub inline_name_firm : (operation : List ℕ) (suffix : Option (List ℕ))
+    → IsFirm ⊥ (AMark (codes ":=")) NoToken (inline_name operation suffix)
 inline_name_firm operation suffix = token_firm _ (AMark (codes ":="))
     (λ t x y h k. h.1.2 ∙ ap (λ end. operation ++ end) (one_suffix suffix h.1.0 k.1.0 h.1.1 k.1.1) ∙ sym k.1.2) (λ t x h. h.0)
 

@@ -11,7 +11,8 @@ use Rattle.sm_idl.specs.Idl.{control, metadata, used, home_of, items, section, F
 use Rattle.sm_idl.specs.Idl.{metadata_statements, file}
 use Rattle.sm_idl.specs.steps.ReaderView.{NoToken}
 use Rattle.sm_idl.specs.steps.Classes.{Either, NodeStart}
-use Rattle.sm_idl.specs.steps.FileClasses.{ItemStart, ItemGoesOn, Dollar, Metadata, Namespace, Use, ItemsGoOn, SectionGoesOn, AfterControls, FileGoesOn}
+use Rattle.sm_idl.specs.steps.FileClasses.{ItemStart, ItemGoesOn, Dollar, Metadata, Namespace}
+use Rattle.sm_idl.specs.steps.FileClasses.{Use, ItemsGoOn, SectionGoesOn, AfterControls, FileGoesOn}
 use Rattle.sm_idl.specs.steps.Firm.{AreApart, IsFirm}
 use Rattle.sm_idl.proofs.FirmEach.{firm_maybe}
 use Rattle.sm_idl.proofs.FirmMany.{firm_each}

@@ -33,7 +33,8 @@ use Rattle.sm_idl.proofs.Passing.{read_whole, shorter, stops_first, stops_behind
 use Rattle.sm_idl.proofs.Rows.{IsRow, row_none, row_more, row_read, row_stop}
 
 -- a token of which nothing says anything
-pub never_stop : {X : Type 0} (Is : Lexeme → X → Type 0) (s : Tokens) → ((t : Lexeme) (x : X) → Is t x → ⊥) → StopsIn NoToken (one Is) s s Syntax
+pub never_stop : {X : Type 0} (Is : Lexeme → X → Type 0) (s : Tokens) → ((t : Lexeme) (x : X) → Is t x → ⊥)
+    → StopsIn NoToken (one Is) s s Syntax
 never_stop Is s none = record {
   before = [];
   cut = refl;
@@ -105,7 +106,8 @@ module _ (home : Home) (kind : MemberKind) where
       → MembersSoFar have s a → IsRead Equals (entry home kind (member_statements_view have)) (member_view x) a r → MembersSoFar more s r
   members_more have more x s a r e i m =
       subst (λ l. IsRow (Either MemberStart Equals) (entry home kind) [] l s r) (sym (members_grow have more x e))
-      (row_more MemberStart Equals (entry home kind) (entry_firm home kind) equals_no_member [] (member_statements_view have) (member_view x) s
+      (row_more MemberStart Equals (entry home kind) (entry_firm home kind) equals_no_member [] (member_statements_view have)
+      (member_view x) s
       a r i m)
 
   pub members_seen : (set : BTreeSet (String Global)) (have more : List MemberStatement) (x : MemberStatement) → more ≡ have ++ x ∷ []
@@ -127,7 +129,8 @@ module _ (home : Home) (kind : MemberKind) where
       → StopsIn Equals (entry home kind (member_statements_view have)) a r stop
       → StopsIn (Either MemberStart Equals) (each (entry home kind)) s r stop
   members_stop have s a r stop i here k =
-      row_stop MemberStart Equals (entry home kind) (entry_firm home kind) equals_no_member [] (member_statements_view have) s a r stop i here
+      row_stop MemberStart Equals (entry home kind) (entry_firm home kind) equals_no_member [] (member_statements_view have) s a r stop
+      i here
       k
 
   -- their braces

@@ -1,5 +1,6 @@
 -- The rows of nodes and pairs that the reader fills, one entry more at a time.
-use Rattle.std.proofs.Common.{◌≡◌, ◌↔◌, ◌<◌, ℕ, suc, Bool, true, false, List, [], ◌∷◌, ◌++◌, Option, Result, IsTrue, codes, refl, sym, ap, subst}
+use Rattle.std.proofs.Common.{◌≡◌, ◌↔◌, ◌<◌, ℕ, suc, Bool, true, false, List, []}
+use Rattle.std.proofs.Common.{◌∷◌, ◌++◌, Option, Result, IsTrue, codes, refl, sym, ap, subst}
 use Rattle.std.proofs.Common.{◌∙◌, length, true≢false}
 use Rattle.std.proofs.lemmas.List.{map_push}
 use Rattle.std.specs.BTreeSet.{BTreeSet}
@@ -125,7 +126,8 @@ module _ (home : Option Home) (n : ℕ) where
       bracketed.stops_at_close (codes "[") (codes "]") NodeStart (many value) made_list list_apart xs s a b r stop h m k
 
   pub object_open : (s r : Tokens) (stop : Stop) → StopsIn NoToken (mark (codes "{")) s r stop → StopsIn NoToken (object_of value) s r stop
-  object_open s r stop k = bracketed.stops_at_opener (codes "{") (codes "}") NoMark (each (pair_of value)) as_object no_mark_closes s r stop k
+  object_open s r stop k = bracketed.stops_at_opener (codes "{") (codes "}") NoMark (each (pair_of value)) as_object no_mark_closes s r
+      stop k
 
   pub object_within : (s a r : Tokens) (stop : Stop) → (mark (codes "{")).whole tt s a → StopsIn NoMark (each (pair_of value)) a r stop
       → StopsIn NoToken (object_of value) s r stop

@@ -6,7 +6,8 @@ use Rattle.sm_idl.specs.Productions.{Tokens, spaced, Production, OptionSpells, E
 use Rattle.sm_idl.specs.Words.{the_word, word_that}
 use Rattle.sm_idl.specs.Nodes.{Home}
 use Rattle.sm_idl.specs.Bodies.{Suffixes, suffixes}
-use Rattle.sm_idl.specs.Idl.{control, metadata, used, home_of, SectionSaid, items, section, section_home, section_said, metadata_statements, FileSaid, file, FileSpelled}
+use Rattle.sm_idl.specs.Idl.{control, metadata, used, home_of, SectionSaid, items}
+use Rattle.sm_idl.specs.Idl.{section, section_home, section_said, metadata_statements, FileSaid, file, FileSpelled}
 use Rattle.sm_idl.specs.Laws.{OneReading, PrefixesAreBegun}
 use Rattle.sm_idl.specs.steps.ReaderView.{NoToken}
 use Rattle.sm_idl.specs.steps.Classes.{Either}
@@ -112,7 +113,8 @@ home_same g h a b s (cs, s1, c, (ms, s2, m, (x, s3, n, (e, last)))) (ds, t1, d, 
     (not_here Namespace Metadata _ (last_part ds ns) (last_firm ds ns) (words_unlike (codes "metadata") (codes "namespace") refl) b t2
     (y, t3, o, (f, end))) in
     ap (λ z. z.home) e
-    ∙ sections_home_same (suffixes cs) (suffixes ds) x y t2 (subst (λ z. OptionSpells (section (suffixes cs)) x z []) data_end.1 (subst (λ z. OptionSpells
+    ∙ sections_home_same (suffixes cs) (suffixes ds) x y t2 (subst (λ z. OptionSpells (section (suffixes cs)) x z []) data_end.1
+    (subst (λ z. OptionSpells
     (section (suffixes cs)) x s2 z) last n))
     (subst (λ z. OptionSpells (section (suffixes ds)) y t2 z) end o)
     ∙ sym (ap (λ z. z.home) f)

@@ -1,5 +1,6 @@
 -- What begins a file does whatever its words are relative to, and so does what spells one.
-use Rattle.std.proofs.Common.{◌≡◌, ◌⊎◌, inl, inr, ℕ, zero, suc, if◌then◌else◌, List, [], ◌∷◌, ◌++◌, Option, Some, refl, sym, ap, ◌∙◌, subst, bytes_eq}
+use Rattle.std.proofs.Common.{◌≡◌, ◌⊎◌, inl, inr, ℕ, zero, suc, if◌then◌else◌, List, []}
+use Rattle.std.proofs.Common.{◌∷◌, ◌++◌, Option, Some, refl, sym, ap, ◌∙◌, subst, bytes_eq}
 use Rattle.std.proofs.Common.{append_assoc, append-nil}
 use Rattle.sm_lex.specs.Tokens.{Lexeme}
 use Rattle.sm_lex.specs.declared.token.TokenKind.{TokenKind}
@@ -102,7 +103,13 @@ control_alike g h a b x s r e (_, s1, dollar, k) =
 control_begun : (g h : Option Home) → RowsBegin (control g) (control h)
 control_begun g h a b s e (inl f) = inl f
 control_begun g h a b s e (inr (_, s1, dollar, k)) =
-    inr (tt, s1, dollar, pair_begun (node g most_levels) (node h most_levels) (node_alike g h most_levels) (node_begun g h most_levels) a b s1 e k)
+    inr (
+      tt,
+      s1,
+      dollar,
+      pair_begun (node g most_levels) (node h most_levels) (node_alike g h most_levels) (node_begun g h most_levels)
+          a b s1 e k,
+    )
 
 entry_alike : (g h : Option Home) → RowsAlike (metadata g) (metadata h)
 entry_alike g h a b x s r e (_, s0, word, (k, s1, (u, f, (is_key, new)), (_, s2, equals, (n, s3, m, (same, last))))) =
@@ -230,4 +237,20 @@ module _ (g h : Home) where
   file_begun s (inr (cs, s1, c, inr (ms, s2, m, inr (x, s3, n, last)))) =
       let ds = controls_same g h [] [] cs s s1 refl c in
       let ns = metadata_alike (Some g) (Some h) [] [] ms s1 s2 refl m in
-      inr (ds.0, s1, ds.1, inr (ns.0, s2, ns.1, inr (x, s3, subst (λ z. OptionSpells (section z) x s2 s3) (same_suffixes cs ds.0 ds.2) n, last)))
+      inr (
+        ds.0,
+        s1,
+        ds.1,
+        inr (
+          ns.0,
+          s2,
+          ns.1,
+          inr (
+            x,
+            s3,
+            subst (λ z. OptionSpells (section z) x s2 s3) (same_suffixes cs ds.0 ds.2)
+                n,
+            last,
+          ),
+        ),
+      )

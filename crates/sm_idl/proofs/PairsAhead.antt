@@ -1,5 +1,6 @@
 -- Whether a pair stands ahead, by the kind of the next token.
-use Rattle.std.proofs.Common.{◌≡◌, ◌↔◌, inl, inr, ℕ, Bool, true, false, List, [], ◌∷◌, Option, Some, None, Ok, Err, not, IsTrue, codes, refl, sym, ap}
+use Rattle.std.proofs.Common.{◌≡◌, ◌↔◌, inl, inr, ℕ, Bool, true, false, List, [], ◌∷◌}
+use Rattle.std.proofs.Common.{Option, Some, None, Ok, Err, not, IsTrue, codes, refl, sym, ap}
 use Rattle.std.proofs.Common.{subst, ◌∙◌, true≢false, bytes_eq}
 use Rattle.std.specs.Prelude.{◌||◌}
 use Rattle.std.specs.Prelude.{IsOk}

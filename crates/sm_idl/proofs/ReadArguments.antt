@@ -1,6 +1,7 @@
 -- Between a trait's parentheses: pairs, or a node. A word or a string begins both; where a colon stands behind it, or where it is
 -- no node, pairs are read.
-use Rattle.std.proofs.Common.{◌≡◌, inl, inr, ℕ, zero, suc, List, [], ◌∷◌, ◌++◌, take, Option, codes, refl, sym, ap, subst, ◌∙◌, ◌<◌, length, arith}
+use Rattle.std.proofs.Common.{◌≡◌, inl, inr, ℕ, zero, suc, List, [], ◌∷◌, ◌++◌}
+use Rattle.std.proofs.Common.{take, Option, codes, refl, sym, ap, subst, ◌∙◌, ◌<◌, length, arith}
 use Rattle.sm_model.specs.Raw.{Raw}
 use Rattle.sm_idl.specs.Productions.{Spaced, Tokens, Production, EachSpells, each, ◌or◌}
 use Rattle.sm_idl.specs.Words.{IsKey}

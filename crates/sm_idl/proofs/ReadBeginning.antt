@@ -27,7 +27,8 @@ module _ (home : Option Home) (before : List Pair) where
   value = node home most_levels
 
   -- a control
-  pub control_mark_stop : (s r : Tokens) (stop : Stop) → StopsIn NoToken (mark (codes "$")) s r stop → StopsIn NoToken (control home before) s r stop
+  pub control_mark_stop : (s r : Tokens) (stop : Stop) → StopsIn NoToken (mark (codes "$")) s r stop
+      → StopsIn NoToken (control home before) s r stop
   control_mark_stop s r stop k = stops_first NoToken (mark (codes "$")) (λ _. pair_of value before) s r stop k
 
   pub control_behind : {V : Type 0} (view : V → Pair) (s a r : Tokens) (result : Result V Stop) → (mark (codes "$")).whole tt s a

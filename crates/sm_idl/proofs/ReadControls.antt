@@ -1,5 +1,6 @@
 -- Controls one after the other: whether one says a version, and what one says of a suffix.
-use Rattle.std.proofs.Common.{◌≡◌, ◌↔◌, ◌<◌, ◌+◌, inl, inr, ℕ, Bool, true, if◌then◌else◌, List, ◌∷◌, drop, length, IsTrue, slice_index_or, sym, ap, subst, ◌∙◌}
+use Rattle.std.proofs.Common.{◌≡◌, ◌↔◌, ◌<◌, ◌+◌, inl, inr, ℕ, Bool, true, if◌then◌else◌}
+use Rattle.std.proofs.Common.{List, ◌∷◌, drop, length, IsTrue, slice_index_or, sym, ap, subst, ◌∙◌}
 use Rattle.std.proofs.lemmas.List.{drop_more}
 use Rattle.sm_tree.proofs.Equal.{bytes_equal_is}
 use Rattle.sm_model.specs.RawView.{raw_view, raw_members_view}
@@ -27,7 +28,8 @@ module _ (xs : List (List ℕ × RawNode)) (i : ℕ) (x : List ℕ × RawNode) (
   )
 
   module _ (name otherwise : List ℕ) where
-    pub suffix_here : x.0 ≡ name → suffix_under name otherwise (raw_members_view (drop i xs)) ≡ suffix_under name otherwise (raw_members_view xs)
+    pub suffix_here : x.0 ≡ name → suffix_under name otherwise (raw_members_view (drop i xs)) ≡ suffix_under name otherwise
+        (raw_members_view xs)
         → suffix_said otherwise (raw_view x.1) ≡ suffix_under name otherwise (raw_members_view xs)
     suffix_here e told =
         sym (ap (λ b. if b then suffix_said otherwise (raw_view x.1) else suffix_under name otherwise (raw_members_view (drop (i + 1) xs)))

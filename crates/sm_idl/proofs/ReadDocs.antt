@@ -1,5 +1,6 @@
 -- Documentation comments before a token, and what is documented by them.
-use Rattle.std.proofs.Common.{◌≡◌, ◌≤◌, ℕ, List, [], ◌∷◌, ◌++◌, map, drop, length, Option, Some, None, codes, Result, Ok, Err, Vec, refl, sym, ap, subst, ◌∙◌}
+use Rattle.std.proofs.Common.{◌≡◌, ◌≤◌, ℕ, List, [], ◌∷◌, ◌++◌, map, drop, length, Option}
+use Rattle.std.proofs.Common.{Some, None, codes, Result, Ok, Err, Vec, refl, sym, ap, subst, ◌∙◌}
 use Rattle.std.proofs.lemmas.List.{drop_all}
 use Rattle.std.specs.declared.alloc.Global.{Global}
 use Rattle.sm_lex.specs.Tokens.{lexeme_of}
@@ -43,7 +44,8 @@ docs_put d n given old new e f g h =
 -- what is documented is read as what it is behind its documentation
 module _ {V X : Type 0} (A : Class) (view : V → X) (P : List TraitSaid → Production X) where
   pub documented_as : ((docs : List TraitSaid) → IsFirm ⊥ A NoToken (P docs)) → (d : Option (List ℕ)) (ts : List TraitSaid) (s r : Tokens)
-      (result : Result V Stop) → ts ≡ docs_trait d → DocsBefore s d → ReadsAs view (P ts) s r result → ReadsAs view (documented P) s r result
+      (result : Result V Stop) → ts ≡ docs_trait d → DocsBefore s d → ReadsAs view (P ts) s r result
+      → ReadsAs view (documented P) s r result
   documented_as p d ts s r (Ok v) e h k = (d, h, subst (λ z. (P z).whole (view v) s r) e k)
   documented_as p d ts s r (Err stop) e h k =
       documented_stop A NoToken P p d s r stop h (subst (λ z. StopsIn NoToken (P z) s r stop) e k)

@@ -99,7 +99,8 @@ module _ (home : Home) where
   pub list_read : (ns : List Raw) (n : Raw) (s a b r : Tokens) → n ≡ raw_list (raws_of ns) → (mark (codes "[")).whole tt s a
       → IsRead AnyWord (many (reference home)) ns a b → (mark (codes "]")).whole tt b r → (references home).whole n s r
   list_read ns n s a b r e h m k =
-      subst (λ z. (references home).whole z s r) (sym e) (bracketed.read_between (codes "[") (codes "]") AnyWord (many (reference home)) listed word_no_bracket ns s a b r h m k)
+      subst (λ z. (references home).whole z s r) (sym e) (bracketed.read_between (codes "[") (codes "]") AnyWord (many (reference home))
+      listed word_no_bracket ns s a b r h m k)
 
 module _ (P : List Pair → Production Pair) where
   leaf_no_brace : AreApart NoMark (AMark (codes "}"))

@@ -71,7 +71,8 @@ module _ (g h : Option Home) where
       let controls = controls_alike g h [] [] cs s m refl c in
       let middle = one_end Dollar (control h) (controls_row h) controls.0 ds s m n controls.1 e no_dollar no_more in
       let entries = metadata_alike g h [] [] ms m a refl d in
-      (one_end Metadata (metadata h) (metadata_row h) entries.0 ns n a b (subst (λ z. EachSpells (metadata h) [] entries.0 z a) middle.1 entries.1) f none
+      (one_end Metadata (metadata h) (metadata_row h) entries.0 ns n a b
+      (subst (λ z. EachSpells (metadata h) [] entries.0 z a) middle.1 entries.1) f none
       nothing).1
 
 -- what stands behind the metadata
@@ -205,7 +206,8 @@ stuck_stops h s r k = record {
   cut = k.cut;
   begun = k.begun;
   stops = k.stops;
-  none = λ e f w. k.wholes f [] (subst (λ z. (file (Some h)).whole f z []) (sym (ap (λ z. k.before ++ take 1 z) e ∙ append-nil k.before)) w);
+  none = λ e f w. k.wholes f [] (subst (λ z. (file (Some h)).whole f z [])
+      (sym (ap (λ z. k.before ++ take 1 z) e ∙ append-nil k.before)) w);
 }
 
 -- a file is read, and more stands behind it
@@ -256,7 +258,8 @@ module _ (cs ms : List Pair) (s b : Tokens) (begins : BeginSaid (Some no_namespa
       (section_stop no_namespace cs ms s b r stop begins (uses_stop (suffixes cs) n b a c r stop here h i k))
 
   pub in_section_at : (home : Home) (ws : List (List ℕ)) (a c r : Tokens) → HeadIs Namespace b → (the_word (codes "namespace")).whole tt b a
-      → (word_that IsNamespace).whole home.namespace a c → home.uses ≡ filter is_absolute ws → IsRead Use (many used) ws c r → InSection home s r
+      → (word_that IsNamespace).whole home.namespace a c → home.uses ≡ filter is_absolute ws → IsRead Use (many used) ws c r
+      → InSection home s r
   in_section_at home ws a c r here h i e k = record {
     controls = cs;
     metadata = ms;

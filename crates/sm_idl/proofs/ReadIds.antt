@@ -36,7 +36,8 @@ module _ (home : Home) where
   behind_with s a r stop h k =
       stops_behind NoToken (the_word (codes "with")) (λ _. listed) (the_word_firm (codes "with")) tt s a r stop h k
 
-  pub stops_at_bracket : (s a r : Tokens) (stop : Stop) → (the_word (codes "with")).whole tt s a → StopsIn NoToken (mark (codes "[")) a r stop
+  pub stops_at_bracket : (s a r : Tokens) (stop : Stop) → (the_word (codes "with")).whole tt s a
+      → StopsIn NoToken (mark (codes "[")) a r stop
       → StopsIn NoToken (with_mixins home) s r stop
   stops_at_bracket s a r stop h k =
       behind_with s a r stop h (stops_at_opener (codes "[") (codes "]") AnyWord (many id) made word_no_bracket a r stop k)

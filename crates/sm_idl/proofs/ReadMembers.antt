@@ -129,7 +129,8 @@ module _ (home : Home) (before : List MemberSaid) (docs : List TraitSaid) where
   name_behind ts = member_name any before >>= value_behind ts
 
   enum_firm : (ts : List TraitSaid) → IsFirm ⊥ AnyWord Equals (name_behind ts)
-  enum_firm ts = then_firm (member_name any before) _ (name_firm any before) (λ name. given_firm (given_value home) (λ value. _) (value_firm home))
+  enum_firm ts = then_firm (member_name any before) _ (name_firm any before)
+      (λ name. given_firm (given_value home) (λ value. _) (value_firm home))
 
   pub enum_traits_stop : (s r : Tokens) (stop : Stop) → StopsIn TraitGoesOn (traits home) s r stop
       → StopsIn Equals (enum_member_with home before docs) s r stop

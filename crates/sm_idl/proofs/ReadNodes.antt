@@ -27,7 +27,8 @@ stops_at_key value before s r stop k = stops_first NoToken (key (pair_names befo
 pub stops_at_colon : (value : Production Raw) (before : List Pair) (k : List ℕ) (s a r : Tokens) (stop : Stop)
     → (key (pair_names before)).whole k s a → StopsIn NoToken (mark (codes ":")) a r stop → StopsIn NoToken (pair_of value before) s r stop
 stops_at_colon value before k s a r stop h m =
-    stops_behind NoToken (key (pair_names before)) _ (key_firm (pair_names before)) k s a r stop h (stops_first NoToken (mark (codes ":")) _ a r stop m)
+    stops_behind NoToken (key (pair_names before)) _ (key_firm (pair_names before)) k s a r stop h
+    (stops_first NoToken (mark (codes ":")) _ a r stop m)
 
 pub stops_at_value : (value : Production Raw) (before : List Pair) (k : List ℕ) (s a b r : Tokens) (stop : Stop)
     → (key (pair_names before)).whole k s a → (mark (codes ":")).whole tt a b → StopsIn NoToken value b r stop

@@ -1,5 +1,6 @@
 -- What the parts of an operation's reading say of it.
-use Rattle.std.proofs.Common.{◌≡◌, ◌<◌, ℕ, false, inl, inr, List, [], ◌∷◌, ◌++◌, map, Option, codes, Result, Ok, Err, IfOk, refl, sym, ap, subst, ◌∙◌, length}
+use Rattle.std.proofs.Common.{◌≡◌, ◌<◌, ℕ, false, inl, inr, List, [], ◌∷◌, ◌++◌, map}
+use Rattle.std.proofs.Common.{Option, codes, Result, Ok, Err, IfOk, refl, sym, ap, subst, ◌∙◌, length}
 use Rattle.std.proofs.Common.{append-nil}
 use Rattle.std.specs.List.{flat_map}
 use Rattle.std.proofs.lemmas.List.{map_push}
@@ -53,7 +54,8 @@ part_seen set before name p e h =
 
 -- what is read has the part's name, so that is the one that came
 pub read_seen : {V : Type 0} (view : V → PartSaid) (P : Production PartSaid) (name : List ℕ)
-    → ((p : PartSaid) (s r : Tokens) → P.whole p s r → p.name ≡ name) → (set : BTreeSet (String Global)) (before : List PartSaid) (s r : Tokens)
+    → ((p : PartSaid) (s r : Tokens) → P.whole p s r → p.name ≡ name)
+    → (set : BTreeSet (String Global)) (before : List PartSaid) (s r : Tokens)
     (result : Result V Stop) → ReadsAs view P s r result → Remembers set (part_names before ++ name ∷ [])
     → IfOk result (λ part. Remembers set (part_names (before ++ view part ∷ [])))
 read_seen view P name named set before s r (Ok v) h k = part_seen set before name (view v) (named (view v) s r h) k
@@ -64,7 +66,8 @@ target_named home name p s r (_, a, colon, (w, b, h, (e, last))) = ap (λ q. q.n
 
 pub inline_named : (home : Home) (operation : List ℕ) (suffix : Option (List ℕ)) (name : List ℕ) (p : PartSaid) (s r : Tokens)
     → (part_inline home operation suffix name).whole p s r → p.name ≡ name
-inline_named home operation suffix name p s r (structure, a, h, (d, doc, (ts, b, i, (mixed, c, j, (ms, v, k, (e, last)))))) = ap (λ q. q.name) e
+inline_named home operation suffix name p s r (structure, a, h, (d, doc, (ts, b, i, (mixed, c, j, (ms, v, k, (e, last)))))) = ap
+    (λ q. q.name) e
 
 module _ (home : Home) where
   -- a reference
@@ -78,7 +81,8 @@ module _ (home : Home) where
   pub target_id_stop : (name : List ℕ) (s a r : Tokens) (stop : Stop) → (mark (codes ":")).whole tt s a → StopsIn NoToken id a r stop
       → StopsIn NoToken (part_target home name) s r stop
   target_id_stop name s a r stop h k =
-      stops_behind NoToken (mark (codes ":")) _ (mark_firm (codes ":")) tt s a r stop h (stops_first NoToken id (behind_target name) a r stop k)
+      stops_behind NoToken (mark (codes ":")) _ (mark_firm (codes ":")) tt s a r stop h
+      (stops_first NoToken id (behind_target name) a r stop k)
 
   pub target_made : (name w : List ℕ) (p : PartSaid) (s a r : Tokens) → p ≡ target_said home name w → (mark (codes ":")).whole tt s a
       → id.whole w a r → (part_target home name).whole p s r
@@ -112,7 +116,8 @@ module _ (home : Home) where
         past_inline_traits ts s a r stop m (stops_in_row (mixins home) (behind_mixins ts) (mixins_rest ts) with_no_brace a r stop k)
 
     pub inline_members_stop : (ts : List TraitSaid) (mixed : List Ref) (s a b r : Tokens) (stop : Stop)
-        → IsRead TraitGoesOn (traits home) ts s a → IsRead With (mixins home) mixed a b → StopsIn NoToken (members any (field home)) b r stop
+        → IsRead TraitGoesOn (traits home) ts s a → IsRead With (mixins home) mixed a b
+        → StopsIn NoToken (members any (field home)) b r stop
         → StopsIn NoToken (inline_with home structure name docs) s r stop
     inline_members_stop ts mixed s a b r stop m n k =
         past_inline_traits ts s a r stop m
@@ -182,7 +187,8 @@ module _ (home : Home) where
     abbrev errors_word : Production Unit
     errors_word = part_word (codes "errors") before
 
-    pub errors_word_stop : (s r : Tokens) (stop : Stop) → StopsIn NoToken errors_word s r stop → StopsIn NoToken (part_errors home before) s r stop
+    pub errors_word_stop : (s r : Tokens) (stop : Stop) → StopsIn NoToken errors_word s r stop
+        → StopsIn NoToken (part_errors home before) s r stop
     errors_word_stop s r stop k = stops_first NoToken errors_word _ s r stop k
 
     pub errors_colon_stop : (s a r : Tokens) (stop : Stop) → errors_word.whole tt s a → StopsIn NoToken (mark (codes ":")) a r stop
@@ -222,7 +228,8 @@ module _ (home : Home) where
         → (part_errors home before).whole p s r
     errors_read ws refs p s a b c d r e f h colon o m k =
         subst (λ z. (part_errors home before).whole z s r)
-        (sym (e ∙ ap errors_said f ∙ ap (λ l. record { name = codes "errors"; value = raw_list (raws_of l); defined = [] }) (both_maps ws))) (
+        (sym (e ∙ ap errors_said f ∙ ap (λ l. record { name = codes "errors"; value = raw_list (raws_of l); defined = [] })
+        (both_maps ws))) (
           tt,
           a,
           h,
@@ -276,7 +283,8 @@ module _ (home : Home) where
       past_input : (HeadIs (AWord (codes "input")) s → ⊥) → ReadsAs view (outputs or part_errors home before) s r result
           → ReadsAs view (part home endings operation before) s r result
       past_input none k =
-          as_right (AWord (codes "input")) Later view inputs (outputs or part_errors home before) inputs_firm later_firm no_input s r result none
+          as_right (AWord (codes "input")) Later view inputs (outputs or part_errors home before) inputs_firm later_firm no_input s r
+          result none
           k
 
       pub part_output : (HeadIs (AWord (codes "input")) s → ⊥) → HeadIs (AWord (codes "output")) s → ReadsAs view outputs s r result
@@ -310,7 +318,8 @@ module _ (home : Home) where
           (part_firm home endings operation) (λ t n a. n) [] s,
     )
 
-    pub parts_more : (ps : List PartSaid) (p : Part) (pairs more : List (List ℕ × RawNode)) (defined longer : List Statement) (s a r : Tokens)
+    pub parts_more : (ps : List PartSaid) (p : Part) (pairs more : List (List ℕ × RawNode)) (defined longer : List Statement)
+        (s a r : Tokens)
         → raw_members_view more ≡ raw_members_view pairs ++ (p.name, raw_view p.value) ∷ []
         → statements_view longer ≡ statements_view defined ++ (part_view p).defined → PartsSoFar pairs defined ps s a
         → (part home endings operation ps).whole (part_view p) a r → PartsSoFar more longer (ps ++ part_view p ∷ []) s r

@@ -1,5 +1,6 @@
 -- What the parts of a shape's reading say of it, and of the statements of a file.
-use Rattle.std.proofs.Common.{◌≡◌, ◌<◌, inl, inr, ℕ, List, [], ◌∷◌, ◌++◌, codes, Option, Result, Ok, Err, refl, sym, ap, subst, ◌∙◌, length, append_assoc, append-nil}
+use Rattle.std.proofs.Common.{◌≡◌, ◌<◌, inl, inr, ℕ, List, [], ◌∷◌, ◌++◌, codes, Option}
+use Rattle.std.proofs.Common.{Result, Ok, Err, refl, sym, ap, subst, ◌∙◌, length, append_assoc, append-nil}
 use Rattle.std.specs.List.{flat_map}
 use Rattle.std.proofs.lemmas.Grind.{flat_map-append}
 use Rattle.sm_ids.specs.Identifier.{IsIdentifier}
@@ -36,7 +37,8 @@ use Rattle.sm_idl.proofs.FirmNodes.{mark_firm}
 use Rattle.sm_idl.proofs.FirmTraits.{word_firm}
 use Rattle.sm_idl.proofs.FirmMembers.{mixins_firm, members_firm}
 use Rattle.sm_idl.proofs.FirmBodies.{part_firm, with_no_brace, braced_pairs_firm, property_firm}
-use Rattle.sm_idl.proofs.FirmShapes.{type_word_firm, behind_type_firm, type_no_trait, shape_with_firm, shape_firm, apply_item_firm, item_firm}
+use Rattle.sm_idl.proofs.FirmShapes.{type_word_firm, behind_type_firm, type_no_trait}
+use Rattle.sm_idl.proofs.FirmShapes.{shape_with_firm, shape_firm, apply_item_firm, item_firm}
 use Rattle.sm_idl.proofs.FirmShapes.{item_apart, shape_no_apply}
 use Rattle.sm_idl.proofs.MemberRows.{entry_firm}
 use Rattle.sm_idl.proofs.Passing.{read_whole, read_wider, stop_wider, shorter, stops_first, stops_behind, stops_in_row, stops_past_row}
@@ -309,10 +311,16 @@ module _ (home : Home) (endings : Suffixes) where
   joined sss = flat_map (λ ss. ss) sss
 
   abbrev pub ItemsSoFar : List Said → List Said → Tokens → Tokens → Type 0
-  ItemsSoFar old new s a = (sss : List (List Said)) × (new ≡ old ++ joined sss) × IsRow (Either ItemStart ItemGoesOn) (λ _. item home endings) [] sss s a
+  ItemsSoFar old new s a = (sss : List (List Said)) × (new ≡ old ++ joined sss) × IsRow (Either ItemStart ItemGoesOn)
+      (λ _. item home endings) [] sss s a
 
   pub items_none : (old : List Said) (s : Tokens) → ItemsSoFar old old s s
-  items_none old s = ([], sym (append-nil old), row_none ItemStart ItemGoesOn (λ _. item home endings) (λ _. item_firm home endings) item_apart [] s)
+  items_none old s = (
+    [],
+    sym (append-nil old),
+    row_none ItemStart ItemGoesOn (λ _. item home endings) (λ _. item_firm home endings)
+        item_apart [] s,
+  )
 
   pub items_more : (old have new : List Said) (s a r : Tokens) → ItemsSoFar old have s a
       → (ss : List Said) × (new ≡ have ++ ss) × IsRead ItemGoesOn (item home endings) ss a r → ItemsSoFar old new s r

@@ -19,7 +19,8 @@ use Rattle.sm_idl.proofs.TokenClasses.{marks_unlike, mark_no_leaf, turned, eithe
 use Rattle.sm_idl.proofs.FirmNodes.{mark_firm, node_apart}
 use Rattle.sm_idl.proofs.FirmArguments.{pairs_or_node_firm, arguments_firm}
 use Rattle.sm_idl.proofs.FirmTraits.{word_firm, the_word_firm, node_in_firm, applied_firm, braced_firm}
-use Rattle.sm_idl.proofs.Passing.{one_class, read_wider, stop_wider, whole_read, stops_first, stops_behind, behind_read, value_read, value_stop}
+use Rattle.sm_idl.proofs.Passing.{one_class, read_wider, stop_wider, whole_read}
+use Rattle.sm_idl.proofs.Passing.{stops_first, stops_behind, behind_read, value_read, value_stop}
 use Rattle.sm_idl.proofs.Choosing as choosing
 use Rattle.sm_idl.proofs.Bracketed.{stops_at_opener, stops_between, stops_at_close, read_between}
 use Rattle.sm_idl.proofs.PairsAhead.{pair_starts}
@@ -36,12 +37,14 @@ module _ (home : Home) where
   pub argument_pairs : (xs : List Pair) (s r : Tokens) → PairAhead (Some home) s → IsRead NoMark (each (pair_of (node_in home))) xs s r
       → IsRead ArgumentGoesOn (maybe (pairs_or_node home)) (Some (as_object xs)) s r
   argument_pairs xs s r ahead m =
-      choosing.some_read NodeStart PairGoesOn (pairs_or_node home) firm (as_object xs) s r (pairs_read (Some home) most_levels xs s r ahead m)
+      choosing.some_read NodeStart PairGoesOn (pairs_or_node home) firm (as_object xs) s r
+      (pairs_read (Some home) most_levels xs s r ahead m)
 
   pub argument_pairs_stop : (s r : Tokens) (stop : Stop) → PairAhead (Some home) s
       → StopsIn NoMark (each (pair_of (node_in home))) s r stop → StopsIn ArgumentGoesOn (maybe (pairs_or_node home)) s r stop
   argument_pairs_stop s r stop ahead k =
-      choosing.some_stop NodeStart PairGoesOn (pairs_or_node home) firm s r stop (pair_starts (Some home) s ahead) (pairs_stop (Some home) most_levels s r stop ahead k)
+      choosing.some_stop NodeStart PairGoesOn (pairs_or_node home) firm s r stop (pair_starts (Some home) s ahead)
+      (pairs_stop (Some home) most_levels s r stop ahead k)
 
   pub argument_node : (n : Raw) (s r : Tokens) → (PairAhead (Some home) s → ⊥) → (node_in home).whole n s r
       → IsRead ArgumentGoesOn (maybe (pairs_or_node home)) (Some n) s r
@@ -83,7 +86,8 @@ module _ (home : Home) where
   traits_apart : AreApart TraitGoesOn (AMark (codes "}"))
   traits_apart = either_apart _ _ _ (marks_unlike (codes "@") (codes "}") refl) (marks_unlike (codes "(") (codes "}") refl)
 
-  pub braces_open : (s r : Tokens) (stop : Stop) → StopsIn NoToken (mark (codes "{")) s r stop → StopsIn NoToken (braced_traits home) s r stop
+  pub braces_open : (s r : Tokens) (stop : Stop) → StopsIn NoToken (mark (codes "{")) s r stop
+      → StopsIn NoToken (braced_traits home) s r stop
   braces_open s r stop k = stops_at_opener (codes "{") (codes "}") TraitGoesOn (traits home) all traits_apart s r stop k
 
   pub braces_within : (s a r : Tokens) (stop : Stop) → (mark (codes "{")).whole tt s a → StopsIn TraitGoesOn (traits home) a r stop
@@ -91,7 +95,8 @@ module _ (home : Home) where
   braces_within s a r stop h k = stops_between (codes "{") (codes "}") TraitGoesOn (traits home) all traits_apart s a r stop h k
 
   pub braces_close : (ts : List TraitSaid) (s a b r : Tokens) (stop : Stop) → (mark (codes "{")).whole tt s a
-      → IsRead TraitGoesOn (traits home) ts a b → StopsIn NoToken (mark (codes "}")) b r stop → StopsIn NoToken (braced_traits home) s r stop
+      → IsRead TraitGoesOn (traits home) ts a b → StopsIn NoToken (mark (codes "}")) b r stop
+      → StopsIn NoToken (braced_traits home) s r stop
   braces_close ts s a b r stop h m k =
       stops_at_close (codes "{") (codes "}") TraitGoesOn (traits home) all traits_apart ts s a b r stop h m k
 
@@ -132,7 +137,8 @@ module _ (home : Home) where
   pub stops_at_id : (s a r : Tokens) (stop : Stop) → (mark (codes "@")).whole tt s a → StopsIn NoToken id a r stop
       → StopsIn Paren (applied home) s r stop
   stops_at_id s a r stop h k =
-      stops_behind Paren (mark (codes "@")) (λ _. id >>= behind_id) (mark_firm (codes "@")) tt s a r stop h (stops_first Paren id behind_id a r stop k)
+      stops_behind Paren (mark (codes "@")) (λ _. id >>= behind_id) (mark_firm (codes "@")) tt s a r stop h
+      (stops_first Paren id behind_id a r stop k)
 
   pub stops_at_given : (w : List ℕ) (s a b r : Tokens) (stop : Stop) → (mark (codes "@")).whole tt s a → id.whole w a b
       → StopsIn Paren (maybe (arguments home)) b r stop → StopsIn Paren (applied home) s r stop
@@ -155,7 +161,8 @@ module _ (home : Home) where
 
   pub applied_made : (w : List ℕ) (given : Option (Option Raw)) (x : TraitSaid) (s a b r : Tokens) → x.id ≡ written home w true
       → x.value ≡ argument_value given
-      → (mark (codes "@")).whole tt s a → id.whole w a b → IsRead Paren (maybe (arguments home)) given b r → IsRead Paren (applied home) x s r
+      → (mark (codes "@")).whole tt s a → id.whole w a b → IsRead Paren (maybe (arguments home)) given b r
+      → IsRead Paren (applied home) x s r
   unfolding said_of
   applied_made w given x s a b r e f h k m =
       subst (λ z. IsRead Paren (applied home) z s r) (sym (same_said x (written home w true) (argument_value given) e f))
@@ -173,13 +180,15 @@ module _ (home : Home) where
 
   pub one_read : (t : TraitSaid) (s r : Tokens) → IsRead Paren (applied home) t s r → IsRead Paren targets (t ∷ []) s r
   one_read t s r m =
-      choosing.left_read At (AMark (codes "{")) Paren NoToken (one_trait home) (braced_traits home) one_firm (braced_firm home) sign_no_brace
+      choosing.left_read At (AMark (codes "{")) Paren NoToken (one_trait home) (braced_traits home) one_firm (braced_firm home)
+      sign_no_brace
       (t ∷ []) s r (value_read (applied home) (λ v. v ∷ []) t s r m)
 
   pub one_stop : (s r : Tokens) (stop : Stop) → (HeadIs (AMark (codes "{")) s → ⊥) → StopsIn Paren (applied home) s r stop
       → StopsIn Paren targets s r stop
   one_stop s r stop none k =
-      choosing.left_stop At (AMark (codes "{")) Paren NoToken (one_trait home) (braced_traits home) one_firm (braced_firm home) sign_no_brace
+      choosing.left_stop At (AMark (codes "{")) Paren NoToken (one_trait home) (braced_traits home) one_firm (braced_firm home)
+      sign_no_brace
       s r stop none (value_stop Paren (applied home) (λ v. v ∷ []) s r stop k)
 
   pub braced_read : (ts : List TraitSaid) (s r : Tokens) → (braced_traits home).whole ts s r → IsRead Paren targets ts s r
@@ -198,19 +207,23 @@ module _ (home : Home) where
   abbrev said : List ℕ → List TraitSaid → Said
   said w ts = apply_said (written home w false) ts
 
-  pub apply_word_stop : (s r : Tokens) (stop : Stop) → StopsIn NoToken (the_word (codes "apply")) s r stop → StopsIn Paren (apply home) s r stop
-  apply_word_stop s r stop k = stops_first Paren (the_word (codes "apply")) (λ _. id >>= (λ w. targets >>= (λ ts. gives (said w ts)))) s r stop k
+  pub apply_word_stop : (s r : Tokens) (stop : Stop) → StopsIn NoToken (the_word (codes "apply")) s r stop
+      → StopsIn Paren (apply home) s r stop
+  apply_word_stop s r stop k = stops_first Paren (the_word (codes "apply")) (λ _. id >>= (λ w. targets >>= (λ ts. gives (said w ts)))) s
+      r stop k
 
   pub apply_id_stop : (s a r : Tokens) (stop : Stop) → (the_word (codes "apply")).whole tt s a → StopsIn NoToken id a r stop
       → StopsIn Paren (apply home) s r stop
   apply_id_stop s a r stop h k =
-      stops_behind Paren (the_word (codes "apply")) (λ _. id >>= (λ w. targets >>= (λ ts. gives (said w ts)))) (the_word_firm (codes "apply")) tt s a r
+      stops_behind Paren (the_word (codes "apply")) (λ _. id >>= (λ w. targets >>= (λ ts. gives (said w ts))))
+      (the_word_firm (codes "apply")) tt s a r
       stop h (stops_first Paren id (λ w. targets >>= (λ ts. gives (said w ts))) a r stop k)
 
   pub apply_traits_stop : (w : List ℕ) (s a b r : Tokens) (stop : Stop) → (the_word (codes "apply")).whole tt s a → id.whole w a b
       → StopsIn Paren targets b r stop → StopsIn Paren (apply home) s r stop
   apply_traits_stop w s a b r stop h k m =
-      stops_behind Paren (the_word (codes "apply")) (λ _. id >>= (λ w. targets >>= (λ ts. gives (said w ts)))) (the_word_firm (codes "apply")) tt s a r
+      stops_behind Paren (the_word (codes "apply")) (λ _. id >>= (λ w. targets >>= (λ ts. gives (said w ts))))
+      (the_word_firm (codes "apply")) tt s a r
       stop h (stops_behind Paren id (λ w. targets >>= (λ ts. gives (said w ts))) (word_firm IsWordId) w a b r stop k
       (value_stop Paren targets (said w) b r stop m))
 

@@ -32,7 +32,8 @@ module _ (home : Home) where
       → IsRead Paren (applied home) (trait_view x) a r → GrownBy home old new s r
   traits_more old have new x s a r e (ts, f, i) m = (
     ts ++ trait_view x ∷ [],
-    ap traits_view e ∙ map_push trait_view have x ∙ ap (λ l. l ++ trait_view x ∷ []) f ∙ append_assoc (traits_view old) ts (trait_view x ∷ []),
+    ap traits_view e ∙ map_push trait_view have x ∙ ap (λ l. l ++ trait_view x ∷ []) f
+        ∙ append_assoc (traits_view old) ts (trait_view x ∷ []),
     row_more At Paren (λ _. applied home) (λ _. applied_firm home) paren_no_at [] ts (trait_view x) s a r i m,
   )
 

@@ -1,5 +1,5 @@
 -- What is written for what stands at a number of a graph, from what its look-ups say of it.
-use Rattle.std.proofs.Common.{◌≡◌, ℕ, suc, zero, Bool, true, false, cond, List, [], ◌∷◌, ◌++◌, drop, get_or, length, Option, Some, None}
+use Rattle.std.proofs.Common.{◌≡◌, ℕ, suc, zero, Bool, true, false, cond, List, [], ◌∷◌, ◌++◌, drop, get_or, length, Some, None}
 use Rattle.std.proofs.Common.{refl, sym, ap, ◌∙◌, subst, append_assoc, append-nil}
 use Rattle.std.specs.Prelude.{IsSomeAnd, slice_get, if◌then◌else◌, ◌==◌}
 use Rattle.std.specs.FinMap as fin
@@ -10,36 +10,16 @@ use Rattle.sm_tree.specs.Parts.{pairs_in, tree_named}
 use Rattle.sm_tree.specs.View.{members_view}
 use Rattle.sm_tree.specs.declared.tree.Tree.{Tree}
 use Rattle.sm_model.specs.Graphs.{Entry, shape_entry, member_entry, ShapeMap, traits_in}
-use Rattle.sm_model.specs.GraphView.{At, entries_of, ids, is_member_entry, IsMemberAt, IsMemberEntry, IsShapeAt, IsShapeEntry, maps_of}
+use Rattle.sm_model.specs.GraphView.{At, entries_of, ids, is_member_entry, IsMemberAt, IsShapeAt, maps_of}
 use Rattle.sm_model.specs.GraphView.{HasKind, HasMembers, HasBodyNode, Targets}
 use Rattle.sm_model.specs.Properties.{TypeFields}
 use Rattle.sm_model.specs.declared.graph.Graph.{Graph}
 use Rattle.sm_model.specs.declared.kind.Kind.{Kind}
-use Rattle.sm_model.proofs.GraphFacts.{entry_under, id_at}
+use Rattle.sm_model.proofs.GraphFacts.{Found, entry_under, id_at, member_found, shape_found}
 use Rattle.sm_idl.specs.Written.{NodePairs, field_line, field_lines, is_written, member_in, member_text, member_there, name_in}
 use Rattle.sm_idl.specs.Written.{shape_lines, shape_text, stated_text, trait_lines, value_there, written_entry, written_member}
 use Rattle.sm_idl.specs.Written.{written_pairs, written_shape}
 use Rattle.sm_idl.specs.steps.Writing.{IsShapeText, member_at}
-
--- what stands at a number is a shape or a member
-abbrev pub Found : Type 0
-Found = Option (List ℕ × Entry)
-
-member_found : (o : Found) → IsSomeAnd o (λ e. is_member_entry e.1 ≡ true) → IsSomeAnd o (λ e. IsMemberEntry e.1)
-member_found None h = h
-member_found (Some e) h = by e.1 h
-  where
-    by : (x : Entry) → is_member_entry x ≡ true → IsMemberEntry x
-    by (shape_entry s) k = absurd (subst (λ b. cond b ⊥ (Unit {0})) k tt)
-    by (member_entry m) k = tt
-
-shape_found : (o : Found) → IsSomeAnd o (λ e. is_member_entry e.1 ≡ false) → IsSomeAnd o (λ e. IsShapeEntry e.1)
-shape_found None h = h
-shape_found (Some e) h = by e.1 h
-  where
-    by : (x : Entry) → is_member_entry x ≡ false → IsShapeEntry x
-    by (shape_entry s) k = tt
-    by (member_entry m) k = absurd (subst (λ b. cond b (Unit {0}) ⊥) k tt)
 
 -- what the look-ups of a number say, once tests have answered
 pub told_at : (g : Graph) (k : ℕ) (b c : Bool) → At g k (λ id e. is_member_entry e ≡ b) → b ≡ c → At g k (λ id e. is_member_entry e ≡ c)

@@ -13,7 +13,8 @@ use Rattle.sm_model.specs.Properties.{TypeFields}
 use Rattle.sm_model.specs.declared.kind.Kind.{Kind}
 use Rattle.sm_idl.specs.Written.{NodePairs, field_lines, is_written, name_in, shape_lines, stated_text, trait_lines, written_entry}
 use Rattle.sm_idl.specs.steps.Writing.{IsShapeLength, IsShapeText}
-use Rattle.sm_idl.proofs.WrittenIdl.{Found, member_skipped, other_skipped, shape_is, shape_put, fields_joined}
+use Rattle.sm_model.proofs.GraphFacts.{Found}
+use Rattle.sm_idl.proofs.WrittenIdl.{member_skipped, other_skipped, shape_is, shape_put, fields_joined}
 
 some_with : (o : Found) (P Q : List ℕ × Entry → Type 0) → ((e : List ℕ × Entry) → P e → Q e) → IsSomeAnd o P → IsSomeAnd o Q
 some_with None P Q f h = h

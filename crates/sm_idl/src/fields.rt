@@ -5,7 +5,8 @@ ghost use Rattle.sm_model.specs.Properties.{property_forms};
 ghost use Rattle.sm_model.specs.RawView.{raw_view, raws_view, raw_members_view};
 ghost use Rattle.sm_idl.specs.Productions.{one, each, many};
 ghost use Rattle.sm_idl.specs.Nodes.{Pair, pair_names, pair_of};
-ghost use Rattle.sm_idl.specs.Bodies.{reference, references, TextSays, text_node, new_name, renaming, field_value, FieldNamed, property, braced_pairs};
+ghost use Rattle.sm_idl.specs.Bodies.{reference, references, TextSays, text_node, new_name};
+ghost use Rattle.sm_idl.specs.Bodies.{renaming, field_value, FieldNamed, property, braced_pairs};
 ghost use Rattle.sm_idl.specs.steps.Classes.{AnyWord, NoMark};
 ghost use Rattle.sm_idl.specs.steps.FieldSteps.{id_key, NamesText, NewNameSays, under};
 ghost use Rattle.sm_idl.specs.steps.HomeView.{home_of_file};
@@ -427,7 +428,8 @@ impl<'t, 'a> Reader<'t, 'a> {
         home: &FileHome<'_>,
         kind: Kind,
     ) -> Result<RawNode, Stop>
-        ensures { ReadsAs raw_view (braced_pairs (property (home_of_file home.now) (property_forms kind))) (left self.old) (left self.new) result }
+        ensures { ReadsAs raw_view (braced_pairs (property (home_of_file home.now) (property_forms kind))) (left self.old)
+            (left self.new) result }
     {
         match self.mark("{") {
             Ok(()) => {}

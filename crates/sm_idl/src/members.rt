@@ -184,7 +184,8 @@ impl<'t, 'a> Reader<'t, 'a> {
         docs: Vec<TraitUse>,
     ) -> Result<MemberStatement, Stop>
         ensures reads { (before : List MemberSaid) → Remembers seen.old (stated_names before) →
-            ReadsAs member_view (member_with (home_of_file home.now) (form_of kind) before (traits_view docs.items)) (left self.old) (left self.new) result }
+            ReadsAs member_view (member_with (home_of_file home.now) (form_of kind) before (traits_view docs.items)) (left self.old)
+            (left self.new) result }
         ensures seen { (before : List MemberSaid) → Remembers seen.old (stated_names before) →
             IfOk result (λ m. Remembers seen.new (stated_names (before ++ member_view m ∷ []))) }
     {
@@ -243,7 +244,8 @@ impl<'t, 'a> Reader<'t, 'a> {
         docs: Vec<TraitUse>,
     ) -> Result<MemberStatement, Stop>
         ensures reads { (before : List MemberSaid) → Remembers seen.old (stated_names before) →
-            ReadsOn Equals member_view (enum_member_with (home_of_file home.now) before (traits_view docs.items)) (left self.old) (left self.new) result }
+            ReadsOn Equals member_view (enum_member_with (home_of_file home.now) before (traits_view docs.items)) (left self.old)
+            (left self.new) result }
         ensures seen { (before : List MemberSaid) → Remembers seen.old (stated_names before) →
             IfOk result (λ m. Remembers seen.new (stated_names (before ++ member_view m ∷ []))) }
     {

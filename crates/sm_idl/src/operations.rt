@@ -7,7 +7,8 @@ ghost use Rattle.sm_model.specs.PreludeShapes.{api_id};
 ghost use Rattle.sm_model.specs.Said.{TraitSaid};
 ghost use Rattle.sm_model.specs.SaidView.{traits_view, member_statements_view, statements_view};
 ghost use Rattle.sm_idl.specs.Traits.{standing_for};
-ghost use Rattle.sm_idl.specs.Bodies.{PartSaid, part_names, part_word, part_target, inline_name, inline_said, inline_with, part_inline, part_shape, part_errors, part};
+ghost use Rattle.sm_idl.specs.Bodies.{PartSaid, part_names, part_word, part_target, inline_name};
+ghost use Rattle.sm_idl.specs.Bodies.{inline_said, inline_with, part_inline, part_shape, part_errors, part};
 ghost use Rattle.sm_idl.specs.steps.HomeView.{home_of_file};
 ghost use Rattle.sm_idl.specs.steps.Names.{Remembers};
 ghost use Rattle.sm_idl.specs.steps.PartSteps.{side_word, part_view, suffixes_view, target_said, errors_said, ReadsParts};
@@ -111,7 +112,8 @@ fn put_part(
     defined: &mut Vec<Statement>,
     part: Part,
 ) -> Result<(), NoMemory>
-    ensures pairs { IfOk result (λ _. raw_members_view pairs.new.items ≡ raw_members_view pairs.old.items ++ (part.name, raw_view part.value) ∷ []) }
+    ensures pairs { IfOk result (λ _. raw_members_view pairs.new.items ≡ raw_members_view pairs.old.items ++
+        (part.name, raw_view part.value) ∷ []) }
     ensures defined { IfOk result (λ _. statements_view defined.new.items ≡ statements_view defined.old.items ++ (part_view part).defined) }
 {
     match pairs.push((part.name, part.value)) {
@@ -187,7 +189,8 @@ fn inline_part(
 ) -> Result<Part, NoMemory>
     requires { IsIdentifier structure.now }
     ensures { (ts : List TraitSaid) → traits_view traits.items ≡ standing_for (side_word side) empty_raw ∷ ts → IfOk result (λ part.
-        part_view part ≡ inline_said (home_of_file home.now) structure.now (side_word side) ts mixins.items (member_statements_view members.items)) }
+        part_view part ≡ inline_said (home_of_file home.now) structure.now (side_word side) ts mixins.items
+        (member_statements_view members.items)) }
 {
     let name = match Text::copy(alloc, side.word()) {
         Ok(name) => name,
@@ -310,7 +313,8 @@ impl<'t, 'a> Reader<'t, 'a> {
     ) -> Result<Part, Stop>
         requires { IsIdentifier structure.now }
         ensures { (docs : List TraitSaid) → traits_view given.items ≡ standing_for (side_word side) empty_raw ∷ docs →
-            ReadsAs part_view (inline_with (home_of_file home.now) structure.now (side_word side) docs) (left self.old) (left self.new) result }
+            ReadsAs part_view (inline_with (home_of_file home.now) structure.now (side_word side) docs) (left self.old) (left self.new)
+            result }
     {
         let mut traits = given;
         match self.traits(alloc, home, &mut traits) {
@@ -340,7 +344,8 @@ impl<'t, 'a> Reader<'t, 'a> {
         suffix: &Option<Text>,
         side: Side,
     ) -> Result<Part, Stop>
-        ensures { ReadsAs part_view (part_inline (home_of_file home.now) operation.now suffix.now (side_word side)) (left self.old) (left self.new) result }
+        ensures { ReadsAs part_view (part_inline (home_of_file home.now) operation.now suffix.now (side_word side)) (left self.old)
+            (left self.new) result }
     {
         let structure = match self.inline_name(alloc, operation, suffix) {
             Ok(structure) => structure,
@@ -367,7 +372,8 @@ impl<'t, 'a> Reader<'t, 'a> {
         seen: &mut BTreeSet<String>,
     ) -> Result<Part, Stop>
         ensures reads { (before : List PartSaid) → Remembers seen.old (part_names before) →
-            ReadsAs part_view (part_shape (home_of_file home.now) operation.now suffix.now (side_word side) before) (left self.old) (left self.new) result }
+            ReadsAs part_view (part_shape (home_of_file home.now) operation.now suffix.now (side_word side) before) (left self.old)
+            (left self.new) result }
         ensures seen { (before : List PartSaid) → Remembers seen.old (part_names before) →
             IfOk result (λ part. Remembers seen.new (part_names (before ++ part_view part ∷ []))) }
     {
@@ -430,7 +436,8 @@ impl<'t, 'a> Reader<'t, 'a> {
         seen: &mut BTreeSet<String>,
     ) -> Result<Part, Stop>
         ensures reads { (before : List PartSaid) → Remembers seen.old (part_names before) →
-            ReadsAs part_view (part (home_of_file home.now) (suffixes_view endings.now) operation.now before) (left self.old) (left self.new) result }
+            ReadsAs part_view (part (home_of_file home.now) (suffixes_view endings.now) operation.now before) (left self.old)
+            (left self.new) result }
         ensures seen { (before : List PartSaid) → Remembers seen.old (part_names before) →
             IfOk result (λ part. Remembers seen.new (part_names (before ++ part_view part ∷ []))) }
     {

@@ -19,7 +19,7 @@ use crate::reader::{Reader, Stop};
 use crate::refusal::IdlRefusal;
 use crate::unknown::{AnyHome, NoHome};
 use sm_lex::{LexRefusal, Token, tokens};
-use sm_model::Statement;
+use sm_model::{Statement, Uses};
 use std::alloc::Global;
 
 /// A refusal of the lexer.
@@ -59,7 +59,8 @@ impl<'t, 'a> Reader<'t, 'a> {
 
     /// Reads a file without a namespace.
     fn without_namespace(&mut self, alloc: Global) -> Result<File, Stop>
-        ensures { (cs ms : List Pair) → BeginSaid (Some no_namespace) cs ms (left self.old) [] → ReadsFile (left self.old) (left self.new) result }
+        ensures { (cs ms : List Pair) → BeginSaid (Some no_namespace) cs ms (left self.old) []
+            → ReadsFile (left self.old) (left self.new) result }
     {
         let Beginning { controls, metadata } = match self.beginning(alloc, &NoHome) {
             Ok(beginning) => beginning,
@@ -81,7 +82,8 @@ impl<'t, 'a> Reader<'t, 'a> {
         start: Reader<'t, 'a>,
         home: &FileHome<'_>,
     ) -> Result<File, Stop>
-        ensures { InSection (home_of_file home.now) (left start.entry) (left self.old) → ReadsFile (left start.entry) (left self.new) result }
+        ensures { InSection (home_of_file home.now) (left start.entry) (left self.old)
+            → ReadsFile (left start.entry) (left self.new) result }
     {
         let mut again = start;
         let Beginning { controls, metadata } = match again.beginning(alloc, home) {
@@ -114,7 +116,8 @@ impl<'t, 'a> Reader<'t, 'a> {
 
     /// Reads a file from its namespace on.
     fn with_namespace(&mut self, alloc: Global, start: Reader<'t, 'a>) -> Result<File, Stop>
-        ensures { (cs ms : List Pair) → BeginSaid (Some no_namespace) cs ms (left start.entry) (left self.old) → HeadIs Namespace (left self.old)
+        ensures { (cs ms : List Pair) → BeginSaid (Some no_namespace) cs ms (left start.entry) (left self.old)
+            → HeadIs Namespace (left self.old)
             → ReadsFile (left start.entry) (left self.new) result }
     {
         match self.the_word("namespace") {
@@ -129,9 +132,13 @@ impl<'t, 'a> Reader<'t, 'a> {
             Ok(uses) => uses,
             Err(stop) => return Err(stop),
         };
+        let shared = match Uses::new(alloc, uses) {
+            Ok(shared) => shared,
+            Err(_) => return Err(Stop::NoMemory),
+        };
         let home = FileHome {
             namespace,
-            uses: uses.as_slice(),
+            uses: &shared,
         };
         self.rest(alloc, start, &home)
     }

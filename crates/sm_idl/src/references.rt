@@ -23,19 +23,9 @@ pub(crate) fn absolute(alloc: Global, text: &str, in_trait: bool) -> Result<Ref,
     Ok(Ref {
         text,
         namespace: None,
-        uses: Uses::new(Vec::new(alloc)),
+        uses: Uses::none(),
         in_trait,
     })
-}
-
-/// A copy of an id.
-fn copy_of(alloc: Global, id: &ShapeId) -> Result<ShapeId, NoMemory>
-    ensures { IfOk result (λ copy. copy ≡ id.now) }
-{
-    match ShapeId::new(alloc, &id.as_ref()) {
-        Ok(copy) => Ok(copy),
-        Err(_) => Err(NoMemory),
-    }
 }
 
 /// The id of a shape.
@@ -55,23 +45,6 @@ fn shape_id<'x>(alloc: Global, namespace: &'x str, name: &'x str) -> Result<Shap
     }
 }
 
-/// A copy of ids.
-fn copied(alloc: Global, ids: &[ShapeId]) -> Result<Uses, NoMemory>
-    ensures { IfOk result (λ uses. uses ≡ ids.now) }
-{
-    let mut copies: Vec<ShapeId> = Vec::new(alloc);
-    for id in ids {
-        match copy_of(alloc, id) {
-            Ok(copy) => match copies.push(copy) {
-                Ok(()) => {}
-                Err(_) => return Err(NoMemory),
-            },
-            Err(refusal) => return Err(refusal),
-        }
-    }
-    Ok(Uses::new(copies))
-}
-
 impl FileHome<'_> {
     /// The reference that a word is.
     pub(crate) fn reference(
@@ -84,7 +57,7 @@ impl FileHome<'_> {
     {
         let text = Text::copy(alloc, word)?;
         let namespace = Text::copy(alloc, self.namespace)?;
-        match copied(alloc, self.uses) {
+        match self.uses.share() {
             Ok(uses) => Ok(Ref {
                 text,
                 namespace: Some(namespace),

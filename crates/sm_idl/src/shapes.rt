@@ -82,7 +82,8 @@ fn body_form(kind: Kind) -> BodyForm
 
 /// Puts a statement behind others.
 fn put(statements: &mut Vec<Statement>, statement: Statement) -> Result<(), NoMemory>
-    ensures { IfOk result (λ _. statements_view statements.new.items ≡ statements_view statements.old.items ++ statement_view statement ∷ []) }
+    ensures { IfOk result (λ _. statements_view statements.new.items ≡ statements_view statements.old.items ++ statement_view statement
+        ∷ []) }
 {
     match statements.push(statement) {
         Ok(()) => Ok(()),
@@ -102,7 +103,8 @@ fn stated(
 ) -> Result<(), NoMemory>
     requires { IsIdentifier name.now }
     ensures { IfOk result (λ _. statements_view statements.new.items ≡ statements_view statements.old.items
-        ++ (shape_said (stated_shape (home_of_file home.now) kind name.now (body_view body) (traits_view traits.items)) ∷ (body_view body).defined)) }
+        ++ (shape_said (stated_shape (home_of_file home.now) kind name.now (body_view body) (traits_view traits.items)) ∷
+        (body_view body).defined)) }
 {
     let id = match home.defined_id(alloc, name) {
         Ok(id) => id,
@@ -156,7 +158,8 @@ impl<'t, 'a> Reader<'t, 'a> {
         home: &FileHome<'_>,
         kind: MemberKind,
     ) -> Result<Body, Stop>
-        ensures { ReadsAs body_view (members_body (home_of_file home.now) (form_of kind) (entry (home_of_file home.now) kind)) (left self.old) (left self.new) result }
+        ensures { ReadsAs body_view (members_body (home_of_file home.now) (form_of kind) (entry (home_of_file home.now) kind))
+            (left self.old) (left self.new) result }
     {
         let mixins = match self.mixins(alloc, home) {
             Ok(mixins) => mixins,
@@ -181,7 +184,8 @@ impl<'t, 'a> Reader<'t, 'a> {
         endings: &Suffixes,
         name: &str,
     ) -> Result<Body, Stop>
-        ensures { ReadsAs body_view (operation_body (home_of_file home.now) (suffixes_view endings.now) name.now) (left self.old) (left self.new) result }
+        ensures { ReadsAs body_view (operation_body (home_of_file home.now) (suffixes_view endings.now) name.now) (left self.old)
+            (left self.new) result }
     {
         match self.mark("{") {
             Ok(()) => {}
@@ -226,7 +230,8 @@ impl<'t, 'a> Reader<'t, 'a> {
         kind: Kind,
         name: &str,
     ) -> Result<Body, Stop>
-        ensures { ReadsOn With body_view (body (home_of_file home.now) (suffixes_view endings.now) kind name.now) (left self.old) (left self.new) result }
+        ensures { ReadsOn With body_view (body (home_of_file home.now) (suffixes_view endings.now) kind name.now) (left self.old)
+            (left self.new) result }
     {
         match body_form(kind) {
             BodyForm::Simple => self.simple_body(alloc, home),

@@ -177,7 +177,8 @@ impl<'t, 'a> Reader<'t, 'a> {
 
     /// Reads traits between braces.
     fn braced_traits(&mut self, alloc: Global, home: &FileHome<'_>) -> Result<Vec<TraitUse>, Stop>
-        ensures { ReadsAs (λ traits. traits_view traits.items) (braced_traits (home_of_file home.now)) (left self.old) (left self.new) result }
+        ensures { ReadsAs (λ traits. traits_view traits.items) (braced_traits (home_of_file home.now)) (left self.old) (left self.new)
+            result }
     {
         match self.mark("{") {
             Ok(()) => {}

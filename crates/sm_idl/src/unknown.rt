@@ -70,7 +70,7 @@ impl Words for AnyHome {
             Ok(namespace) => Ok(RawNode::Id(Ref {
                 text,
                 namespace: Some(namespace),
-                uses: Uses::new(Vec::new(alloc)),
+                uses: Uses::none(),
                 in_trait: false,
             })),
             Err(refusal) => Err(refusal),

@@ -5,7 +5,8 @@ use Rattle.std.proofs.Math.Seq.{drop-length, take-length}
 use Rattle.std.proofs.lemmas.Bool.Decides.{nat_tests}
 use Rattle.std.specs.List.{position_or_len, after_first}
 use Rattle.sm_bytes.specs.Ascii.{dollar}
-use Rattle.sm_merge.specs.Meaning.{is_byte, shape_part, member_part}
+use Rattle.sm_model.specs.Used.{is_byte, shape_part}
+use Rattle.sm_merge.specs.Meaning.{member_part}
 
 -- where none stands the whole is before it
 pub whole_before : (id : List ℕ) → position_or_len (is_byte dollar) id ≡ length id → shape_part id ≡ id

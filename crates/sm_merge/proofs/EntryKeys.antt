@@ -13,7 +13,7 @@ use Rattle.sm_model.specs.declared.kind.Kind.TheVariants.{Blob, Boolean, Text, E
 use Rattle.sm_model.specs.declared.kind.Kind.TheVariants.{BigInteger, BigDecimal, Timestamp, Document, List as list_kind, Map, Structure}
 use Rattle.sm_model.specs.declared.kind.Kind.TheVariants.{Union, Service, Operation, Resource}
 use Rattle.sm_model.proofs.MapFacts.{keys}
-use Rattle.sm_merge.specs.Meaning.{shape_part}
+use Rattle.sm_model.specs.Used.{shape_part}
 use Rattle.sm_merge.proofs.MeantIds.{shape_cut_off}
 use Rattle.sm_merge.proofs.NamesOnce.{differ_joined, stands_either}
 use Rattle.sm_merge.proofs.PreludeGiven.{differ_by_test}

@@ -14,7 +14,8 @@ use Rattle.sm_ids.proofs.Namespaces.{is_namespace_byte, namespace_bytes}
 use Rattle.sm_model.specs.References.{IsShapeId, AreIds, IsWritten, IsReference}
 use Rattle.sm_model.specs.PreludeShapes.{api_id, is_prelude_id}
 use Rattle.sm_model.specs.declared.reference.Ref.{Ref}
-use Rattle.sm_merge.specs.Meaning.{Defined, is_byte, is_absolute, shape_part, member_part, name_part, used_under, found_in}
+use Rattle.sm_model.specs.Used.{is_byte, shape_part, name_part, used_under}
+use Rattle.sm_merge.specs.Meaning.{Defined, is_absolute, member_part, found_in}
 use Rattle.sm_merge.specs.Meaning.{relative_meaning}
 use Rattle.sm_merge.specs.Meaning.{meaning_in, meaning}
 use Rattle.sm_merge.proofs.PreludeGiven.{api_shape_id}

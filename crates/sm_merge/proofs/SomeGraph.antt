@@ -14,7 +14,7 @@ use Rattle.sm_model.specs.PreludeShapes.{is_prelude_id, prelude_shapes}
 use Rattle.sm_model.specs.References.{IsShapeId}
 use Rattle.sm_model.proofs.MapFacts.{keys}
 use Rattle.sm_merge.specs.Laws.{SomeGraph}
-use Rattle.sm_merge.specs.Meaning.{shape_part}
+use Rattle.sm_model.specs.Used.{shape_part}
 use Rattle.sm_merge.specs.Merged.{IsGraphOf, IsMergedMember, IsMergedShape, IsOfPrelude, StandsUnder, with_enum_value}
 use Rattle.sm_merge.specs.Mixins.{EffectiveShape, IsEffective, names_of}
 use Rattle.sm_merge.specs.Places.{metadata_by, metadata_values, shape_under, shapes_under}

@@ -1,13 +1,12 @@
 // What references mean, once it is known which shapes there are.
-ghost use Rattle.std.specs.Prelude.{◌≡◌, ◌++◌, ℕ, List, IfOk, MatchOption, None, Some, string_bytes};
-ghost use Rattle.sm_merge.specs.Meaning.{found_in, is_absolute, meaning as meant, member_part, name_part, relative_meaning, shape_part};
-ghost use Rattle.sm_merge.specs.Meaning.{used_under};
+ghost use Rattle.std.specs.Prelude.{◌≡◌, ◌++◌, IfOk, string_bytes};
+ghost use Rattle.sm_model.specs.Used.{shape_part};
+ghost use Rattle.sm_merge.specs.Meaning.{found_in, is_absolute, meaning as meant, member_part, relative_meaning};
 ghost use Rattle.sm_merge.specs.steps.Known.{known};
 ghost use Rattle.sm_merge.specs.steps.Cut.{HasMember};
 
 use crate::names::Names;
-use sm_ids::ShapeId;
-use sm_model::{Ref, is_in_prelude};
+use sm_model::{Ref, is_in_prelude, without_member};
 use sm_tree::{NoMemory, Text};
 use std::alloc::Global;
 
@@ -78,42 +77,10 @@ fn shape(
 ) -> Result<String, NoMemory>
     ensures { IfOk result (λ id. string_bytes id ≡ relative_meaning (known names.now) reference.now namespace.now name.now) }
 {
-    match used(name, reference.uses.as_slice()) {
+    match reference.uses.named(name) {
         Some(id) => Ok(String::from_str(alloc, id)?),
         None => found(alloc, names, namespace, name, reference.in_trait),
     }
-}
-
-// An id without its member.
-fn without_member(id: &str) -> &str
-    ensures { result.now ≡ shape_part id.now }
-{
-    match id.split_once('$') {
-        Some((shape, _)) => shape,
-        None => id,
-    }
-}
-
-// The name of an absolute id, without its namespace and its member.
-fn name_of(id: &str) -> &str
-    ensures { result.now ≡ name_part id.now }
-{
-    match id.split_once('#') {
-        Some((_, name)) => without_member(name),
-        None => "",
-    }
-}
-
-// The first of the ids with this name, without its member.
-fn used<'a>(name: &str, ids: &'a [ShapeId]) -> Option<&'a str>
-    ensures { MatchOption result (used_under name.now ids.now ≡ None) (λ id. used_under name.now ids.now ≡ Some id.now) }
-{
-    for id in ids {
-        if name_of(id.as_str()) == name {
-            return Some(without_member(id.as_str()));
-        }
-    }
-    None
 }
 
 // The shape that a name stands for in a file of this namespace that uses no id under it.

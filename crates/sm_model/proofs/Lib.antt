@@ -3,6 +3,7 @@ pub mod GraphFacts
 pub mod MapFacts
 pub mod RawWeight
 pub mod Searching
+mod UsedIds
 mod Entries
 pub mod Moved
 pub mod Rises

@@ -1,6 +1,8 @@
 pub mod Kinds
 pub mod Properties
 pub mod References
+pub mod Used
+pub mod UsesView
 pub mod Raw
 pub mod RawView
 pub mod Said

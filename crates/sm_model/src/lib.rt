@@ -14,6 +14,7 @@ mod reach;
 mod reference;
 mod relation;
 mod statement;
+mod used;
 
 pub use event::{ModelEvent, ModelEvents, Severity};
 pub use graph::{Graph, GraphMember, GraphMembers, GraphShape};
@@ -29,3 +30,4 @@ pub use relation::Relation;
 pub use statement::{
     MemberStatement, MemberStatements, ShapeStatement, Statement, TraitUse, TraitUses,
 };
+pub use used::without_member;

@@ -1,44 +1,75 @@
 // References to shapes as a file writes them, before it is known what shapes there are.
-ghost use Rattle.std.specs.Prelude.{◌≡◌};
+ghost use Rattle.std.specs.Prelude.{◌≡◌, [], IfOk, MatchOption, None, Some};
+ghost use Rattle.sm_model.specs.Used.{used_under};
 
+use crate::used::UsedIds;
 use sm_ids::ShapeId;
-use sm_tree::Text;
+use sm_tree::{NoMemory, Text};
+use std::alloc::Global;
 use std::marker::Model;
+use std::rc::Rc;
 
-/// The ids that a file uses, in order (Smithy 2.0, IDL, "use_section"). Contracts see the list of their texts.
+/// The ids that a file uses, in order (Smithy 2.0, IDL, "use_section"). Contracts see the list of their texts. All references of
+/// a file share them.
 #[derive(Debug, Drop)]
 pub struct Uses {
-    ids: Vec<ShapeId>,
+    // What the references share: nothing, where no ids are used.
+    shared: Option<Rc<UsedIds>>,
 }
 
 impl Model for Uses {
     ghost use Rattle.std.specs.Prelude.{List, ℕ};
+    ghost use Rattle.sm_model.specs.UsesView.{shared_ids};
 
     ghost Value = { List (List ℕ) };
 
-    ghost view = { λ a. a.ids.items };
+    ghost view = { λ a. shared_ids a.shared };
 }
 
 impl Uses {
-    /// The ids that a vector holds. No memory.
-    pub fn new(ids: Vec<ShapeId>) -> Self
-        ensures { result ≡ ids.items }
+    /// No ids. No memory.
+    pub fn none() -> Self
+        ensures { result ≡ [] }
     {
-        Uses { ids }
+        Uses { shared: None }
     }
 
-    /// The vector. No memory.
-    pub fn into_inner(self) -> Vec<ShapeId>
-        ensures { result.items ≡ self }
+    /// The ids that a vector holds, with an index by their names. n log n.
+    pub fn new(alloc: Global, ids: Vec<ShapeId>) -> Result<Self, NoMemory>
+        ensures { IfOk result (λ uses. uses ≡ ids.items) }
     {
-        self.ids
+        let used = UsedIds::new(alloc, ids)?;
+        match Rc::new(alloc, used) {
+            Ok(block) => Ok(Uses {
+                shared: Some(block),
+            }),
+            Err(_) => Err(NoMemory),
+        }
     }
 
-    /// The ids, in order. No memory.
-    pub fn as_slice(&self) -> &[ShapeId]
-        ensures { result.now ≡ self.now }
+    /// The same ids for one reference more. No memory: it is refused only where no more references can be counted.
+    pub fn share(&self) -> Result<Self, NoMemory>
+        ensures { IfOk result (λ uses. uses ≡ self.now) }
     {
-        self.ids.as_slice()
+        match &self.shared {
+            None => Ok(Uses { shared: None }),
+            Some(block) => match block.clone() {
+                Ok(block) => Ok(Uses {
+                    shared: Some(block),
+                }),
+                Err(_) => Err(NoMemory),
+            },
+        }
+    }
+
+    /// The shape of the first id of a name. log n, no memory.
+    pub fn named(&self, name: &str) -> Option<&str>
+        ensures { MatchOption result (used_under name.now self.now ≡ None) (λ id. used_under name.now self.now ≡ Some id.now) }
+    {
+        match &self.shared {
+            None => None,
+            Some(block) => block.as_ref().named(name),
+        }
     }
 }
 

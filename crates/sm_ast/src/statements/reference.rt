@@ -19,7 +19,7 @@ pub(crate) fn absolute(alloc: Global, text: &str, in_trait: bool) -> Result<Ref,
     Ok(Ref {
         text,
         namespace: None,
-        uses: Uses::new(Vec::new(alloc)),
+        uses: Uses::none(),
         in_trait,
     })
 }

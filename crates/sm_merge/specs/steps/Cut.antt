@@ -3,7 +3,7 @@ use Rattle.std.specs.Prelude.{◌≡◌, ◌<◌, ℕ, List, length, Option, Mat
 use Rattle.std.specs.List.{after_first, position_or_len}
 use denote.Ref.{Bor}
 use Rattle.sm_bytes.specs.Ascii.{dollar}
-use Rattle.sm_merge.specs.Meaning.{is_byte}
+use Rattle.sm_model.specs.Used.{is_byte}
 
 abbrev pub HasMember : List ℕ → Option (Bor (List ℕ)) → Type 0
 HasMember id o = MatchOption o (position_or_len (is_byte dollar) id ≡ length id)

@@ -11,4 +11,5 @@ pub returns : goal.returns
 returns c = λ named.
     let two : length c.args.members.items ≡ 2 = search rules in
     let name : c.as_str.result.now ≡ (slice_index_or c.args.members.items 0 c.index.result.now).name = search rules in
-    pair_kept c.args.members c.index.result.now two named (λ e. other_word c.as_str.result.now (codes "value") c.eq.result c.eq.ensures c.if-eq.false (name ∙ e))
+    pair_kept c.args.members c.index.result.now two named (λ e. other_word c.as_str.result.now (codes "value") c.eq.result c.eq.ensures
+    c.if-eq.false (name ∙ e))

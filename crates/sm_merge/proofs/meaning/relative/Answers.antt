@@ -1,7 +1,8 @@
 use Rattle.std.proofs.Common.{◌++◌, sym, ap, ◌∙◌, append_assoc, string_bytes}
 use Rattle.std.proofs.lemmas.List.{append-nil}
 use Rattle.std.specs.Prelude.{codes}
-use Rattle.sm_merge.specs.Meaning.{member_part, relative_meaning, shape_part}
+use Rattle.sm_model.specs.Used.{shape_part}
+use Rattle.sm_merge.specs.Meaning.{member_part, relative_meaning}
 use Rattle.sm_merge.specs.steps.Known.{known}
 use Rattle.sm_merge.proofs.Cuts.{dollar_behind, nothing_behind}
 use Rattle.sm_merge.proofs.meaning.relative.Goals as goal

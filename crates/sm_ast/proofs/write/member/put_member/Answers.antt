@@ -2,13 +2,14 @@ use Rattle.std.proofs.Common.{◌≡◌, [], ◌∷◌, ◌++◌, ap, append-nil
 use Rattle.std.specs.Prelude.{slice_get}
 use Rattle.sm_tree.specs.View.{node_of, members_view}
 use Rattle.sm_model.specs.GraphView.{At, entries_of, is_member_entry}
-use Rattle.sm_ast.proofs.WrittenAt.{member_here, member_left_out, member_put}
+use Rattle.sm_model.proofs.GraphFacts.{member_found}
+use Rattle.sm_ast.proofs.WrittenAt.{member_left_out, member_put}
 use Rattle.sm_ast.proofs.write.member.put_member.Goals as goal
 
 pub member_tree-requires-clause-is_member : goal.member_tree-requires-clause-is_member
 member_tree-requires-clause-is_member c =
     let g = c.args.graph.now in
-    member_here (slice_get (entries_of g) c.args.member)
+    member_found (slice_get (entries_of g) c.args.member)
     (subst (λ b. At g c.args.member (λ id e. is_member_entry e ≡ b)) c.if-is_member.true c.is_member.ensures)
 
 pub returns-in_ok-put_field : goal.returns-in_ok-put_field

@@ -2,7 +2,8 @@ use Rattle.std.proofs.Common.{◌≡◌, subst, sym, ◌∙◌}
 use Rattle.std.specs.Prelude.{slice_get}
 use Rattle.sm_tree.specs.View.{node_of, members_view}
 use Rattle.sm_model.specs.GraphView.{At, entries_of, is_member_entry, maps_of}
-use Rattle.sm_ast.proofs.WrittenAt.{member_skipped, prelude_skipped, shape_here, shape_put}
+use Rattle.sm_model.proofs.GraphFacts.{shape_found}
+use Rattle.sm_ast.proofs.WrittenAt.{member_skipped, prelude_skipped, shape_put}
 use Rattle.sm_ast.proofs.write.shape.put_shape.Goals as goal
 
 pub returns-then-is_member : goal.returns-then-is_member
@@ -22,7 +23,7 @@ returns-then-is_in_prelude c =
 pub shape_tree-requires-clause-is_shape : goal.shape_tree-requires-clause-is_shape
 shape_tree-requires-clause-is_shape c =
     let g = c.args.graph.now in
-    shape_here (slice_get (entries_of g) c.args.number)
+    shape_found (slice_get (entries_of g) c.args.number)
     (subst (λ b. At g c.args.number (λ id e. is_member_entry e ≡ b)) c.if-is_member.false c.is_member.ensures)
 
 pub returns : goal.returns

@@ -12,7 +12,8 @@ use Rattle.sm_idl.proofs.reader.Reader.+node.Goals as goal
 
 pub items-loop-alloc-init : goal.items-loop-alloc-init
 items-loop-alloc-init g t c =
-    rows.nodes_none (g.W.Words.home c.args.words.now) c.args.levels c.new-items.result.items (left c.args.self.now) c.new-items.ensures.items
+    rows.nodes_none (g.W.Words.home c.args.words.now) c.args.levels c.new-items.result.items (left c.args.self.now)
+    c.new-items.ensures.items
 
 pub items-loop-alloc-smaller : goal.items-loop-alloc-smaller
 items-loop-alloc-smaller g t c =
@@ -38,7 +39,8 @@ items-returns g t c =
 
 pub list-returns-in-Err : goal.list-returns-in-Err
 list-returns-in-Err g t c =
-    rows.list_open (g.W.Words.home c.args.words.now) c.args.levels (left c.args.self.now) (left c.mark.new.self) c.in-Err.stop c.in-Err.ensures
+    rows.list_open (g.W.Words.home c.args.words.now) c.args.levels (left c.args.self.now) (left c.mark.new.self) c.in-Err.stop
+    c.in-Err.ensures
 
 pub list-returns-in-Err-items : goal.list-returns-in-Err-items
 list-returns-in-Err-items g t c =
@@ -47,7 +49,8 @@ list-returns-in-Err-items g t c =
 
 pub list-returns-in-Err-mark : goal.list-returns-in-Err-mark
 list-returns-in-Err-mark g t c =
-    rows.list_close (g.W.Words.home c.args.words.now) c.args.levels _ (left c.args.self.now) (left c.mark.new.self) (left c.items.new.self) _
+    rows.list_close (g.W.Words.home c.args.words.now) c.args.levels _ (left c.args.self.now) (left c.mark.new.self)
+    (left c.items.new.self) _
     c.in-Err-mark.stop c.in-Ok.ensures c.in-Ok-items.ensures c.in-Err-mark.ensures
 
 pub node-returns-then-levels-eq0 : goal.node-returns-then-levels-eq0
@@ -77,7 +80,8 @@ node-returns g t c =
 
 pub object-returns-in-Err : goal.object-returns-in-Err
 object-returns-in-Err g t c =
-    rows.object_open (g.W.Words.home c.args.words.now) c.args.levels (left c.args.self.now) (left c.mark.new.self) c.in-Err.stop c.in-Err.ensures
+    rows.object_open (g.W.Words.home c.args.words.now) c.args.levels (left c.args.self.now) (left c.mark.new.self) c.in-Err.stop
+    c.in-Err.ensures
 
 pub object-returns-in-Err-pairs : goal.object-returns-in-Err-pairs
 object-returns-in-Err-pairs g t c =
@@ -86,7 +90,8 @@ object-returns-in-Err-pairs g t c =
 
 pub object-returns-in-Err-mark : goal.object-returns-in-Err-mark
 object-returns-in-Err-mark g t c =
-    rows.object_close (g.W.Words.home c.args.words.now) c.args.levels _ (left c.args.self.now) (left c.mark.new.self) (left c.pairs.new.self) _
+    rows.object_close (g.W.Words.home c.args.words.now) c.args.levels _ (left c.args.self.now) (left c.mark.new.self)
+    (left c.pairs.new.self) _
     c.in-Err-mark.stop c.in-Ok.ensures c.in-Ok-pairs.ensures c.in-Err-mark.ensures
 
 pub pair-returns-in-Err-clause-reads : goal.pair-returns-in-Err-clause-reads

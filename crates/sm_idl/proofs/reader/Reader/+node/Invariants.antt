@@ -41,4 +41,5 @@ invariant-pairs-loop-alloc g l = record {
 
 abbrev pub invariant-items-loop-alloc : goal.invariant-items-loop-alloc
 invariant-items-loop-alloc g l =
-    IsRow (Either NodeStart NoToken) (λ _. node (g.W.Words.home l.words) l.levels) [] (raws_view l.items.items) (left l.fn.self) (left l.self)
+    IsRow (Either NodeStart NoToken) (λ _. node (g.W.Words.home l.words) l.levels) [] (raws_view l.items.items) (left l.fn.self)
+    (left l.self)

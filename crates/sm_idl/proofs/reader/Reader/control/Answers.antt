@@ -9,4 +9,5 @@ returns-in-Err-clause-reads g c = λ before seen.
 
 pub returns-clause-reads : goal.returns-clause-reads
 returns-clause-reads g c = λ before seen.
-    control_behind (g.W.Words.home c.args.words.now) before raw_pair (left c.args.self.now) (left c.mark.new.self) (left c.pair.new.self) c.pair.result c.in-Ok.ensures (c.pair.ensures.reads before seen)
+    control_behind (g.W.Words.home c.args.words.now) before raw_pair (left c.args.self.now) (left c.mark.new.self)
+    (left c.pair.new.self) c.pair.result c.in-Ok.ensures (c.pair.ensures.reads before seen)

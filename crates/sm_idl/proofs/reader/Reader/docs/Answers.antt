@@ -12,5 +12,7 @@ returns-then-self c = let r = c.args.self.now in
 pub returns : goal.returns
 returns c = let r = c.args.self.now in
     let inside : r.at < length r.tokens.now = omega (arith, c.if-self.false) in
-    let space : c.range.result.now ≡ slice_range r.text.now r.behind (slice_index_or r.tokens.now r.at c.index-self-self.result).start = search rules in
-    docs_moved (left r) _ _ c.docs_of.result (taken r.text.now r.behind r.tokens.now r.at c.index-self-self.result inside) (subst (λ z. DocumentsTrait z c.docs_of.result) space c.docs_of.ensures)
+    let space : c.range.result.now ≡ slice_range r.text.now r.behind (slice_index_or r.tokens.now r.at c.index-self-self.result).start =
+    search rules in
+    docs_moved (left r) _ _ c.docs_of.result (taken r.text.now r.behind r.tokens.now r.at c.index-self-self.result inside)
+    (subst (λ z. DocumentsTrait z c.docs_of.result) space c.docs_of.ensures)

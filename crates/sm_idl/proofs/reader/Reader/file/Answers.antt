@@ -12,10 +12,20 @@ pub returns-in-Err : goal.returns-in-Err
 returns-in-Err c = beginning_stop (Some no_namespace) (left c.args.self.now) (left c.beginning.new.self) c.in-Err.stop c.in-Err.ensures
 
 pub returns-then-is_at_end : goal.returns-then-is_at_end
-returns-then-is_at_end c = c.without_namespace.ensures (raw_members_view c.in-Ok.field-0.controls.items) (raw_members_view c.in-Ok.field-0.metadata.items) (subst (λ z. BeginSaid (Some no_namespace) (raw_members_view c.in-Ok.field-0.controls.items) (raw_members_view c.in-Ok.field-0.metadata.items) (left c.args.self.now) z) (c.is_at_end.ensures.0 c.if-is_at_end.true) c.in-Ok.ensures)
+returns-then-is_at_end c =
+    c.without_namespace.ensures (raw_members_view c.in-Ok.field-0.controls.items) (raw_members_view c.in-Ok.field-0.metadata.items)
+    (subst (λ z. BeginSaid (Some no_namespace) (raw_members_view c.in-Ok.field-0.controls.items)
+    (raw_members_view c.in-Ok.field-0.metadata.items) (left c.args.self.now) z) (c.is_at_end.ensures.0 c.if-is_at_end.true)
+    c.in-Ok.ensures)
 
 pub returns-then-is_at_word : goal.returns-then-is_at_word
-returns-then-is_at_word c = c.with_namespace.ensures (raw_members_view c.in-Ok.field-0.controls.items) (raw_members_view c.in-Ok.field-0.metadata.items) c.in-Ok.ensures (c.is_at_word.ensures.0 c.if-is_at_word.true)
+returns-then-is_at_word c =
+    c.with_namespace.ensures (raw_members_view c.in-Ok.field-0.controls.items) (raw_members_view c.in-Ok.field-0.metadata.items)
+    c.in-Ok.ensures (c.is_at_word.ensures.0 c.if-is_at_word.true)
 
 pub returns : goal.returns
-returns c = no_more_stop (raw_members_view c.in-Ok.field-0.controls.items) (raw_members_view c.in-Ok.field-0.metadata.items) (left c.args.self.now) (left c.beginning.new.self) c.in-Ok.ensures (refused c.is_at_word.result (HeadIs Namespace (left c.beginning.new.self)) c.is_at_word.ensures c.if-is_at_word.false) (refused c.is_at_end.result ((left c.beginning.new.self) ≡ []) c.is_at_end.ensures c.if-is_at_end.false)
+returns c =
+    no_more_stop (raw_members_view c.in-Ok.field-0.controls.items) (raw_members_view c.in-Ok.field-0.metadata.items)
+    (left c.args.self.now) (left c.beginning.new.self) c.in-Ok.ensures
+    (refused c.is_at_word.result (HeadIs Namespace (left c.beginning.new.self)) c.is_at_word.ensures c.if-is_at_word.false)
+    (refused c.is_at_end.result ((left c.beginning.new.self) ≡ []) c.is_at_end.ensures c.if-is_at_end.false)

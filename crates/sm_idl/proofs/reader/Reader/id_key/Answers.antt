@@ -15,7 +15,9 @@ returns-then-new-clause-seen c = λ before h.
 pub returns-in-Err-parse-clause-reads : goal.returns-in-Err-parse-clause-reads
 returns-in-Err-parse-clause-reads c = λ before h.
     let is_key = rw c.in-Ok-Some.field-0-is at c.in-Ok-Some.ensures in
-    token_stuck (IsIdKey before) _ _ _ c.in-Some.ensures.2 (λ k m. not_id c.as_str.result.now c.in-Err-parse.field-0 c.in-Err-parse.ensures (subst IsIdText (one_key (lexeme_of c.in-Some.token) k c.in-Ok-Some.text m.0 is_key ∙ sym c.as_str.ensures.bytes) m.1))
+    token_stuck (IsIdKey before) _ _ _ c.in-Some.ensures.2 (λ k m. not_id c.as_str.result.now c.in-Err-parse.field-0
+    c.in-Err-parse.ensures (subst IsIdText (one_key (lexeme_of c.in-Some.token) k c.in-Ok-Some.text m.0 is_key
+    ∙ sym c.as_str.ensures.bytes) m.1))
 
 pub returns-in-Ok-None-clause-reads : goal.returns-in-Ok-None-clause-reads
 returns-in-Ok-None-clause-reads c = λ before h.

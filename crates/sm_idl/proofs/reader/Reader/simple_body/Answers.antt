@@ -10,4 +10,7 @@ pub returns-in-Err : goal.returns-in-Err
 returns-in-Err c = simple_stop (home_of_file c.args.home.now) (left c.args.self.now) (left c.mixins.new.self) c.in-Err.stop c.in-Err.ensures
 
 pub returns-in-Ok : goal.returns-in-Ok
-returns-in-Ok c = simple_read (home_of_file c.args.home.now) c.in-Ok.mixins.items _ (left c.args.self.now) (left c.mixins.new.self) (same_body _ [] _ _ _ empty_raw _ [] (ap member_statements_view c.new.ensures.items) refl c.empty_node.ensures (ap statements_view c.new-in-Ok.ensures.items)) c.in-Ok.ensures
+returns-in-Ok c =
+    simple_read (home_of_file c.args.home.now) c.in-Ok.mixins.items _ (left c.args.self.now) (left c.mixins.new.self)
+    (same_body _ [] _ _ _ empty_raw _ [] (ap member_statements_view c.new.ensures.items) refl c.empty_node.ensures
+    (ap statements_view c.new-in-Ok.ensures.items)) c.in-Ok.ensures

@@ -13,7 +13,8 @@ use Rattle.sm_idl.proofs.reader.Reader.targets.Goals as goal
 
 pub returns-then-is_at_mark : goal.returns-then-is_at_mark
 returns-then-is_at_mark c =
-    braced_targets (home_of_file c.args.home.now) (λ traits. traits_view traits.items) (left c.args.self.now) (left c.braced_traits.new.self)
+    braced_targets (home_of_file c.args.home.now) (λ traits. traits_view traits.items) (left c.args.self.now)
+    (left c.braced_traits.new.self)
     c.braced_traits.result (c.is_at_mark.ensures.0 c.if-is_at_mark.true) c.braced_traits.ensures
 
 pub returns-in-Ok-push : goal.returns-in-Ok-push

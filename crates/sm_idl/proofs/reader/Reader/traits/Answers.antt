@@ -12,12 +12,14 @@ loop-alloc-init c = traits_none (home_of_file c.args.home.now) c.args.traits.now
 
 pub loop-alloc-smaller : goal.loop-alloc-smaller
 loop-alloc-smaller c =
-    traits_fewer (home_of_file c.args.home.now) (trait_view c.in-Ok.applied) (left c.loop-alloc.self) (left c.applied.new.self) c.in-Ok.ensures
+    traits_fewer (home_of_file c.args.home.now) (trait_view c.in-Ok.applied) (left c.loop-alloc.self) (left c.applied.new.self)
+    c.in-Ok.ensures
 
 pub loop-alloc-preserved : goal.loop-alloc-preserved
 loop-alloc-preserved c =
     traits_more (home_of_file c.args.home.now) c.args.traits.now.items c.loop-alloc.traits.items c.push.new.self.items c.in-Ok.applied
-    (left c.args.self.now) (left c.loop-alloc.self) (left c.applied.new.self) c.in-Ok-push.ensures.items c.loop-alloc.invariant c.in-Ok.ensures
+    (left c.args.self.now) (left c.loop-alloc.self) (left c.applied.new.self) c.in-Ok-push.ensures.items c.loop-alloc.invariant
+    c.in-Ok.ensures
 
 pub returns-in-Err : goal.returns-in-Err
 returns-in-Err c =

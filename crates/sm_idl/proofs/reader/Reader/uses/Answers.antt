@@ -12,10 +12,17 @@ pub loop-alloc-smaller : goal.loop-alloc-smaller
 loop-alloc-smaller c = uses_fewer c.in-Ok.word.now (left c.loop-alloc.self) (left c.used.new.self) c.in-Ok.ensures
 
 pub loop-alloc-preserved : goal.loop-alloc-preserved
-loop-alloc-preserved c = uses_more c.loop-alloc.uses.items c.put_used.new.uses.items c.in-Ok.word.now (left c.args.self.now) (left c.loop-alloc.self) (left c.used.new.self) (c.in-Ok-put_used.ensures (used_word c.in-Ok.word.now (left c.loop-alloc.self) (left c.used.new.self) c.in-Ok.ensures)) c.loop-alloc.invariant c.in-Ok.ensures
+loop-alloc-preserved c =
+    uses_more c.loop-alloc.uses.items c.put_used.new.uses.items c.in-Ok.word.now (left c.args.self.now) (left c.loop-alloc.self)
+    (left c.used.new.self) (c.in-Ok-put_used.ensures (used_word c.in-Ok.word.now (left c.loop-alloc.self) (left c.used.new.self)
+    c.in-Ok.ensures)) c.loop-alloc.invariant c.in-Ok.ensures
 
 pub returns-in-Err : goal.returns-in-Err
-returns-in-Err c = uses_stopped c.loop-alloc.uses.items (left c.args.self.now) (left c.loop-alloc.self) (left c.used.new.self) c.in-Err.stop c.loop-alloc.invariant (c.is_at_word.ensures.0 c.loop-alloc-test.true) c.in-Err.ensures
+returns-in-Err c =
+    uses_stopped c.loop-alloc.uses.items (left c.args.self.now) (left c.loop-alloc.self) (left c.used.new.self) c.in-Err.stop
+    c.loop-alloc.invariant (c.is_at_word.ensures.0 c.loop-alloc-test.true) c.in-Err.ensures
 
 pub returns : goal.returns
-returns c = uses_read c.loop-alloc.uses.items (left c.args.self.now) (left c.loop-alloc.self) c.loop-alloc.invariant (refused c.is_at_word.result (HeadIs Use (left c.loop-alloc.self)) c.is_at_word.ensures c.loop-alloc-test.false)
+returns c =
+    uses_read c.loop-alloc.uses.items (left c.args.self.now) (left c.loop-alloc.self) c.loop-alloc.invariant
+    (refused c.is_at_word.result (HeadIs Use (left c.loop-alloc.self)) c.is_at_word.ensures c.loop-alloc-test.false)

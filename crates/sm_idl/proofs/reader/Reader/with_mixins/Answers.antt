@@ -4,7 +4,8 @@ use Rattle.sm_idl.proofs.ReadIds.{stops_at_with, stops_at_bracket, stops_within,
 use Rattle.sm_idl.proofs.reader.Reader.with_mixins.Goals as goal
 
 pub returns-in-Err : goal.returns-in-Err
-returns-in-Err c = stops_at_with (home_of_file c.args.home.now) (left c.args.self.now) (left c.the_word.new.self) c.in-Err.stop c.in-Err.ensures
+returns-in-Err c =
+    stops_at_with (home_of_file c.args.home.now) (left c.args.self.now) (left c.the_word.new.self) c.in-Err.stop c.in-Err.ensures
 
 pub returns-in-Err-mark : goal.returns-in-Err-mark
 returns-in-Err-mark c =

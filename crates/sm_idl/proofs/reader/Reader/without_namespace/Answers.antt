@@ -12,5 +12,15 @@ returns-in-Err c = λ cs ms begins.
 
 pub returns-in-Ok-metadata_statements : goal.returns-in-Ok-metadata_statements
 returns-in-Ok-metadata_statements c = λ cs ms begins.
-    let ends = one_beginning None (Some no_namespace) (raw_members_view c.in-Ok.beginning.controls.items) (raw_members_view c.in-Ok.beginning.metadata.items) cs ms (left c.args.self.now) (left c.beginning.new.self) [] c.in-Ok.ensures begins in
-    (plain_file (raw_members_view c.in-Ok.beginning.controls.items) (raw_members_view c.in-Ok.beginning.metadata.items), refl, append-nil (metadata_statements (raw_members_view c.in-Ok.beginning.metadata.items)) ∙ sym c.in-Ok-metadata_statements.ensures, without_namespace (raw_members_view c.in-Ok.beginning.controls.items) (raw_members_view c.in-Ok.beginning.metadata.items) (left c.args.self.now) (subst (λ z. BeginSaid None (raw_members_view c.in-Ok.beginning.controls.items) (raw_members_view c.in-Ok.beginning.metadata.items) (left c.args.self.now) z) ends c.in-Ok.ensures))
+    let ends = one_beginning None (Some no_namespace) (raw_members_view c.in-Ok.beginning.controls.items)
+    (raw_members_view c.in-Ok.beginning.metadata.items) cs ms (left c.args.self.now) (left c.beginning.new.self) [] c.in-Ok.ensures
+    begins in (
+      plain_file (raw_members_view c.in-Ok.beginning.controls.items) (raw_members_view c.in-Ok.beginning.metadata.items),
+      refl,
+      append-nil (metadata_statements (raw_members_view c.in-Ok.beginning.metadata.items))
+          ∙ sym c.in-Ok-metadata_statements.ensures,
+      without_namespace (raw_members_view c.in-Ok.beginning.controls.items)
+          (raw_members_view c.in-Ok.beginning.metadata.items) (left c.args.self.now)
+          (subst (λ z. BeginSaid None (raw_members_view c.in-Ok.beginning.controls.items) (raw_members_view c.in-Ok.beginning.metadata.items)
+          (left c.args.self.now) z) ends c.in-Ok.ensures),
+    )
