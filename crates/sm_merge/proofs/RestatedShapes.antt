@@ -13,7 +13,7 @@ use Rattle.sm_model.specs.References.{IsShapeId}
 use Rattle.sm_model.proofs.MapFacts.{keys}
 use Rattle.sm_merge.specs.Mixins.{AreCopied, AreEffectiveMembers, EffectiveMembers, EffectiveShape, IsEffective, IsEffectiveValue}
 use Rattle.sm_merge.specs.Mixins.{IsMadeFrom, all_members, each_once, effective, names_of, no_mixins, own_member}
-use Rattle.sm_merge.specs.Meaning.{shape_part}
+use Rattle.sm_model.specs.Used.{shape_part}
 use Rattle.sm_merge.specs.Places.{shape_traits_at, shapes_under, trait_values, traits_at, values_under}
 use Rattle.sm_merge.specs.Stated.{ShapeStated, Stated}
 use Rattle.sm_merge.specs.Values.{IsValueOf}

@@ -14,7 +14,7 @@ use Rattle.sm_model.specs.Graphs.{MemberGiven, NodeMap, ShapeGiven, member_id}
 use Rattle.sm_model.specs.PreludeShapes.{is_prelude_id}
 use Rattle.sm_model.specs.References.{IsShapeId}
 use Rattle.sm_model.proofs.MapFacts.{keys, keys_differ}
-use Rattle.sm_merge.specs.Meaning.{shape_part}
+use Rattle.sm_model.specs.Used.{shape_part}
 use Rattle.sm_merge.specs.Places.{member_traits_at, shape_traits_at, shapes_under, traits_at, value_under, values_under}
 use Rattle.sm_merge.specs.Stated.{ShapeStated, Stated, apply_stated, metadata_stated, shape_stated}
 use Rattle.sm_merge.specs.Values.{HaveConflict, IsValueOf}

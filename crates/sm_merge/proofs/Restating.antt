@@ -14,7 +14,7 @@ use Rattle.sm_model.specs.Graphs.{Entry, GraphMaps, MemberEntry, ShapeEntry, Sha
 use Rattle.sm_model.specs.Graphs.{shape_entry, text_cmp}
 use Rattle.sm_model.specs.PreludeShapes.{is_prelude_id, prelude_shapes}
 use Rattle.sm_model.specs.References.{IsShapeId}
-use Rattle.sm_merge.specs.Meaning.{shape_part}
+use Rattle.sm_model.specs.Used.{shape_part}
 use Rattle.sm_merge.specs.Merged.{IsMergedMember, IsMergedShape, IsOfPrelude, StandsUnder, with_enum_value}
 use Rattle.sm_merge.specs.Mixins.{EffectiveMembers, EffectiveShape, IsEffective, names_of}
 use Rattle.sm_merge.specs.Places.{shape_under, shapes_under}
