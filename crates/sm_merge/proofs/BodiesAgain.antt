@@ -1,6 +1,6 @@
 -- The body of an operation, service or resource, said again field by field: it comes to itself, since its fields stand in the order of
 -- its type, with something in each.
-use Rattle.std.proofs.Common.{◌≡◌, ◌⊎◌, inl, inr, ℕ, Bool, true, false, cond, List, [], ◌∷◌, ◌++◌, map, Option, Some, None, refl, sym}
+use Rattle.std.proofs.Common.{◌≡◌, ◌⊎◌, inl, inr, ℕ, Bool, true, false, List, [], ◌∷◌, ◌++◌, map, Option, Some, None, refl, sym}
 use Rattle.std.proofs.Common.{ap, subst, ◌∙◌}
 use Rattle.std.proofs.Common.{bytes_eq}
 use Rattle.std.specs.Prelude.{◌||◌, if◌then◌else◌}
@@ -9,7 +9,7 @@ use Rattle.std.specs.Option.{unwrap_or}
 use Rattle.std.proofs.lemmas.Bool.{cases_Bool}
 use Rattle.std.proofs.lemmas.Option.{none-some, same_Some}
 use Rattle.std.proofs.lemmas.Slice.Eq.{bytes_eq-Decides}
-use Rattle.sm_tree.specs.Node.{Node, Nodes, Members, text, object, no_members, member, members_of}
+use Rattle.sm_tree.specs.Node.{Node, Members, text, object, no_members, member, members_of}
 use Rattle.sm_tree.specs.Parts.{pairs_in, tree_named}
 use Rattle.sm_tree.specs.Same.{HasName, HasPair}
 use Rattle.sm_model.specs.Formed.{StandsAmong}

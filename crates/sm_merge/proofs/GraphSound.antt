@@ -15,25 +15,24 @@ use Rattle.sm_ids.specs.Identifier.{IsIdentifier}
 use Rattle.sm_ids.specs.IdText.{IsIdText}
 use Rattle.sm_tree.specs.Node.{Node, text}
 use Rattle.sm_tree.specs.Same.{IsNode}
-use Rattle.sm_model.specs.Formed.{AreFormed, AreStatedMembers, AreTraits, IsFormed, StandsAmong}
+use Rattle.sm_model.specs.Formed.{AreFormed, AreStatedMembers, AreTraits, IsFormed}
 use Rattle.sm_model.specs.Given.{AreGivenShapes, AreNodes as AreNodesUnder}
-use Rattle.sm_model.specs.Graphs.{Entry, GraphMaps, MemberEntry, MemberGiven, NodeMap, ShapeGiven, given_entries, given_members}
+use Rattle.sm_model.specs.Graphs.{Entry, MemberEntry, NodeMap, ShapeGiven, given_entries, given_members}
 use Rattle.sm_model.specs.Graphs.{member_entry, member_id, shape_entry, text_cmp}
 use Rattle.sm_model.specs.PreludeShapes.{api_id, prelude_shapes}
 use Rattle.sm_model.specs.References.{IsShapeId}
 use Rattle.sm_model.specs.Said.{MemberSaid, Said, TraitSaid, apply_said, metadata_said, shape_said}
 use Rattle.sm_model.specs.declared.kind.Kind.{Kind}
-use Rattle.sm_model.proofs.MapFacts.{Each, each_joined, keys}
+use Rattle.sm_model.proofs.MapFacts.{Each, each_joined}
 use Rattle.sm_merge.specs.Meaning.{Defined}
-use Rattle.sm_merge.specs.Merged.{IsGraphOf, IsMergedMember, IsMergedShape, IsOfPrelude, StandsUnder, enum_value, with_enum_value}
-use Rattle.sm_merge.specs.Mixins.{AreCopied, AreEffectiveMembers, EffectiveMembers, EffectiveShape, IsEffective, IsEffectiveValue, IsMadeFrom}
+use Rattle.sm_merge.specs.Merged.{IsMergedMember, IsMergedShape, StandsUnder, enum_value, with_enum_value}
+use Rattle.sm_merge.specs.Mixins.{AreCopied, AreEffectiveMembers, EffectiveMembers, EffectiveShape, IsEffective, IsEffectiveValue}
 use Rattle.sm_merge.specs.Mixins.{copy_of, effective, is_copied, last_there, member_copied, member_value, member_values, mixed_in, mixin_trait}
 use Rattle.sm_merge.specs.Mixins.{no_mixins, passed_over, shape_values}
-use Rattle.sm_merge.specs.Places.{member_traits_at, metadata_by, metadata_values, shape_traits_at, trait_values, traits_at, value_under, values_under}
+use Rattle.sm_merge.specs.Places.{member_traits_at, metadata_by, metadata_values, trait_values, traits_at, values_under}
 use Rattle.sm_merge.specs.Stated.{AreFormedFiles, ShapeStated, Stated, all_said, defined_among, member_stated, stated, stated_by, traits_stated}
 use Rattle.sm_merge.specs.Values.{AllComeTo, ComeTo, IsValueOf}
 use Rattle.sm_merge.specs.steps.Folding.{AreNodes}
-use Rattle.sm_merge.proofs.BodyNodes.{identifier_utf8}
 use Rattle.sm_merge.proofs.EffectiveSound.{GivesNodes, effective_sound, some_left, some_of}
 use Rattle.sm_merge.proofs.EntriesFound.{found_has, has_each, key_has, made_has}
 use Rattle.sm_merge.proofs.Folds.{node_joined}

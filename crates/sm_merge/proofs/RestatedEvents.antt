@@ -1,8 +1,8 @@
 -- Nothing is wrong with statements that state a part of a regular graph; and metadata come to what the graph has.
-use Rattle.std.proofs.Common.{◌≡◌, ◌⊎◌, inl, inr, ℕ, Bool, true, false, List, [], ◌∷◌, ◌++◌, map, Option, Some, None, refl, sym, ap}
+use Rattle.std.proofs.Common.{◌≡◌, inl, inr, ℕ, Bool, true, false, List, [], ◌∷◌, map, Option, Some, None, refl, sym, ap}
 use Rattle.std.proofs.Common.{subst, ◌∙◌, bytes_eq}
 use Rattle.std.specs.Prelude.{◌↔◌, cond, if◌then◌else◌}
-use Rattle.std.specs.List.{Contains, cons_option, flat_map}
+use Rattle.std.specs.List.{Contains, cons_option}
 use Rattle.std.specs.FinMap as fin
 use Rattle.std.specs.FinMap.Entries.{find}
 use Rattle.std.specs.FinMap.{get-retain_keys, slice_cmp-IsAntisymmetric, nat_cmp-IsAntisymmetric}
@@ -14,15 +14,14 @@ use Rattle.sm_tree.proofs.Sameness.{reflexive}
 use Rattle.sm_model.specs.EventView.{EventTold}
 use Rattle.sm_model.specs.Graphs.{Entry, GraphMaps, MemberEntry, ShapeMap, member_id, text_cmp}
 use Rattle.sm_model.specs.PreludeShapes.{is_prelude_id}
-use Rattle.sm_model.specs.Said.{Said}
-use Rattle.sm_merge.specs.Merged.{HasTraitConflict, IsDefinedOtherwise, IsGraphOf, IsMergedMember, IsMergedShape, IsThere, IsWrong}
+use Rattle.sm_merge.specs.Merged.{HasTraitConflict, IsDefinedOtherwise, IsMergedMember, IsMergedShape, IsThere, IsWrong}
 use Rattle.sm_merge.specs.Merged.{HasOtherShape, IsStatedAgain, HasBadMixin}
 use Rattle.sm_merge.specs.Merged.{applied_to_nothing, bad_mixin, defined_otherwise, metadata_conflict, other_shape, stated_again}
 use Rattle.sm_merge.specs.Merged.{trait_conflict}
 use Rattle.sm_merge.specs.Mixins.{AreCopied, EffectiveShape, all_members, no_mixins, own_member}
-use Rattle.sm_merge.specs.Places.{Agree, metadata_by, metadata_values, shapes_under, trait_values, value_under, values_under}
-use Rattle.sm_merge.specs.Stated.{AreFormedFiles, ShapeStated, Stated, apply_stated, metadata_stated, shape_stated, stated_by}
-use Rattle.sm_merge.specs.Values.{AllComeTo, AreInConflict, ComeTo, ConflictsAfter, HaveConflict, IsValueOf}
+use Rattle.sm_merge.specs.Places.{Agree, metadata_values, trait_values}
+use Rattle.sm_merge.specs.Stated.{ShapeStated, Stated, apply_stated, metadata_stated, shape_stated}
+use Rattle.sm_merge.specs.Values.{AllComeTo, ConflictsAfter, HaveConflict, IsValueOf}
 use Rattle.sm_merge.proofs.Amongs.{Among, among_from}
 use Rattle.sm_merge.proofs.EntriesFound.{Has, found_has, has_found}
 use Rattle.sm_merge.proofs.OneEffective.{one_copied, one_effective}
@@ -30,7 +29,7 @@ use Rattle.sm_merge.proofs.OneValue.{one_step, one_value}
 use Rattle.sm_merge.proofs.PreludeGiven.{clash}
 use Rattle.sm_merge.specs.Restated.{AllStateOf, ComesTo, StatedAgain, StatesOf, StatesPart, is_kept, part_of}
 use Rattle.sm_merge.proofs.RegularGraphs.{IsRegular, merged_regular}
-use Rattle.sm_merge.proofs.RestatedShapes.{IsGivenMember, member_given, own_differ, values_of_member, values_of_shape}
+use Rattle.sm_merge.proofs.RestatedShapes.{member_given, own_differ, values_of_member, values_of_shape}
 use Rattle.sm_merge.proofs.RestatedValues.{map_calm}
 use Rattle.sm_merge.proofs.Restating.{alone_under, comes, effective_once, once, only_again, stands_again, under_first}
 

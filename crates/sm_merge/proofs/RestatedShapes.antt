@@ -1,19 +1,18 @@
 -- What a shape comes to that is stated once, as a graph has it: the members and traits that it has in the graph.
-use Rattle.std.proofs.Common.{◌≡◌, ◌⊎◌, inl, inr, ℕ, List, [], ◌∷◌, ◌++◌, map, Some, None, refl, sym, ap, subst, ◌∙◌, append-nil}
+use Rattle.std.proofs.Common.{◌≡◌, inl, inr, ℕ, List, [], ◌∷◌, map, Some, refl, sym, ap, subst, ◌∙◌, append-nil}
 use Rattle.std.specs.Prelude.{◌↔◌}
 use Rattle.std.specs.List.{flat_map, slice_get}
 use Rattle.std.specs.FinMap as fin
 use Rattle.std.proofs.lemmas.Option.{none-some}
 use Rattle.sm_tree.specs.Node.{Node}
-use Rattle.sm_model.specs.Formed.{StandsAmong, DifferInNames}
+use Rattle.sm_model.specs.Formed.{DifferInNames}
 use Rattle.sm_model.specs.Given.{given_names}
-use Rattle.sm_model.specs.Graphs.{Entry, MemberEntry, MemberGiven, NodeMap, ShapeEntry, ShapeGiven, ShapeMap, member_entry, member_id}
-use Rattle.sm_model.specs.Graphs.{text_cmp}
+use Rattle.sm_model.specs.Graphs.{MemberEntry, MemberGiven, NodeMap, ShapeEntry, ShapeGiven, ShapeMap, member_entry, member_id}
 use Rattle.sm_model.specs.References.{IsShapeId}
 use Rattle.sm_model.proofs.MapFacts.{keys}
 use Rattle.sm_merge.specs.Mixins.{AreCopied, AreEffectiveMembers, EffectiveMembers, EffectiveShape, IsEffective, IsEffectiveValue}
-use Rattle.sm_merge.specs.Mixins.{IsMadeFrom, all_members, each_once, effective, names_of, no_mixins, own_member}
-use Rattle.sm_merge.specs.Meaning.{shape_part}
+use Rattle.sm_merge.specs.Mixins.{each_once, effective, names_of, no_mixins, own_member}
+use Rattle.sm_model.specs.Used.{shape_part}
 use Rattle.sm_merge.specs.Places.{shape_traits_at, shapes_under, trait_values, traits_at, values_under}
 use Rattle.sm_merge.specs.Stated.{ShapeStated, Stated}
 use Rattle.sm_merge.specs.Values.{IsValueOf}

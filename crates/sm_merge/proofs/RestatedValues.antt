@@ -1,5 +1,5 @@
 -- The values of traits where each shape is stated once: those of a map, of a shape, and of its members.
-use Rattle.std.proofs.Common.{◌≡◌, inl, inr, ℕ, Bool, true, false, List, [], ◌∷◌, ◌++◌, map, Some, None, refl, sym, ap, subst, ◌∙◌}
+use Rattle.std.proofs.Common.{◌≡◌, inl, inr, ℕ, true, false, List, [], ◌∷◌, ◌++◌, Some, None, refl, sym, ap, subst, ◌∙◌}
 use Rattle.std.proofs.Common.{bytes_eq}
 use Rattle.std.proofs.Common.{append-nil, length-append, length, cond, arith, ◌⊎◌}
 use Rattle.std.specs.Prelude.{◌↔◌, ◌&&◌, not, if◌then◌else◌}
@@ -14,8 +14,8 @@ use Rattle.sm_model.specs.Graphs.{MemberGiven, NodeMap, ShapeGiven, member_id}
 use Rattle.sm_model.specs.PreludeShapes.{is_prelude_id}
 use Rattle.sm_model.specs.References.{IsShapeId}
 use Rattle.sm_model.proofs.MapFacts.{keys, keys_differ}
-use Rattle.sm_merge.specs.Meaning.{shape_part}
-use Rattle.sm_merge.specs.Places.{member_traits_at, shape_traits_at, shapes_under, traits_at, value_under, values_under}
+use Rattle.sm_model.specs.Used.{shape_part}
+use Rattle.sm_merge.specs.Places.{member_traits_at, shape_traits_at, shapes_under, traits_at, values_under}
 use Rattle.sm_merge.specs.Stated.{ShapeStated, Stated, apply_stated, metadata_stated, shape_stated}
 use Rattle.sm_merge.specs.Values.{HaveConflict, IsValueOf}
 use Rattle.sm_merge.proofs.EntriesFound.{Has, get_has, has_get, has_key, key_has}

@@ -1,22 +1,21 @@
 -- Statements that state a part of a regular graph: each shape of the part is stated once, and comes to what the graph has.
-use Rattle.std.proofs.Common.{◌≡◌, ◌⊎◌, inl, inr, ℕ, Bool, true, false, cond, List, [], ◌∷◌, map, Some, None, refl, sym, ap, subst, ◌∙◌}
+use Rattle.std.proofs.Common.{◌≡◌, inl, inr, ℕ, Bool, true, false, List, [], ◌∷◌, map, Some, None, refl, sym, ap, subst, ◌∙◌}
 use Rattle.std.proofs.Common.{bytes_eq}
 use Rattle.std.specs.Prelude.{◌||◌, ◌&&◌, not, if◌then◌else◌}
 use Rattle.std.specs.List.{cons_option, slice_get}
 use Rattle.std.specs.FinMap as fin
 use Rattle.std.specs.FinMap.Entries.{find}
-use Rattle.std.proofs.lemmas.Bool.{cases_Bool}
 use Rattle.std.proofs.lemmas.Option.{none-some, same_Some}
 use Rattle.std.proofs.lemmas.Slice.Eq.{bytes_eq-Decides}
 use Rattle.sm_model.specs.Formed.{StandsAmong, DifferInNames}
-use Rattle.sm_model.specs.Given.{given_ids, given_names}
-use Rattle.sm_model.specs.Graphs.{Entry, GraphMaps, MemberEntry, ShapeEntry, ShapeGiven, given_entries, member_entry, member_id}
+use Rattle.sm_model.specs.Given.{given_ids}
+use Rattle.sm_model.specs.Graphs.{Entry, GraphMaps, MemberEntry, ShapeEntry, given_entries, member_entry, member_id}
 use Rattle.sm_model.specs.Graphs.{shape_entry, text_cmp}
 use Rattle.sm_model.specs.PreludeShapes.{is_prelude_id, prelude_shapes}
 use Rattle.sm_model.specs.References.{IsShapeId}
-use Rattle.sm_merge.specs.Meaning.{shape_part}
+use Rattle.sm_model.specs.Used.{shape_part}
 use Rattle.sm_merge.specs.Merged.{IsMergedMember, IsMergedShape, IsOfPrelude, StandsUnder, with_enum_value}
-use Rattle.sm_merge.specs.Mixins.{EffectiveMembers, EffectiveShape, IsEffective, names_of}
+use Rattle.sm_merge.specs.Mixins.{EffectiveShape, IsEffective, names_of}
 use Rattle.sm_merge.specs.Places.{shape_under, shapes_under}
 use Rattle.sm_merge.specs.Stated.{ShapeStated, Stated, apply_stated, metadata_stated, shape_stated}
 use Rattle.sm_merge.proofs.EntriesFound.{Has, found_has, has_each, has_found, has_key, key_has, made_has}
@@ -24,9 +23,9 @@ use Rattle.sm_merge.proofs.EntryKeys.{of_member, of_shape, shapes_of}
 use Rattle.sm_merge.proofs.OneEffective.{one_effective}
 use Rattle.sm_merge.proofs.OneMerged.{IsOfPreludeId, prelude_ids}
 use Rattle.sm_merge.proofs.PreludeGiven.{clash, prelude_given, stands_by_test}
-use Rattle.sm_merge.specs.Restated.{AllStateOf, IsShapeIn, StatesOf, StatesPart, is_kept}
+use Rattle.sm_merge.specs.Restated.{AllStateOf, StatesOf, StatesPart, is_kept}
 use Rattle.sm_merge.proofs.RegularGraphs.{IsRegular, IsRegularEntry, IsRegularMember, IsRegularShape}
-use Rattle.sm_merge.proofs.RestatedShapes.{IsStatedOnce, comes_to, entry_in, ids_from, member_found, members_from, named_alike}
+use Rattle.sm_merge.proofs.RestatedShapes.{IsStatedOnce, comes_to, entry_in, ids_from, member_found, named_alike}
 use Rattle.sm_merge.proofs.RestatedShapes.{names_from, same_names, shape_from}
 use Rattle.sm_merge.proofs.RestatedValues.{AreOwnShapes}
 

@@ -7,7 +7,7 @@ use Rattle.sm_model.specs.Graphs.{GraphMaps, MemberGiven, NodeMap, ShapeEntry, S
 use Rattle.sm_model.specs.PreludeShapes.{is_prelude_id}
 use Rattle.sm_model.specs.EventView.{EventTold}
 use Rattle.sm_model.specs.Said.{Said}
-use Rattle.sm_merge.specs.Meaning.{shape_part}
+use Rattle.sm_model.specs.Used.{shape_part}
 use Rattle.sm_merge.specs.Stated.{AreFormedFiles, ShapeStated, Stated, apply_stated, metadata_stated, shape_stated, stated_by}
 use Rattle.sm_merge.specs.Places.{metadata_values, shapes_under}
 use Rattle.sm_merge.specs.Merged.{IsGraphOf, IsWrong}

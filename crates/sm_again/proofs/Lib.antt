@@ -1,0 +1,5 @@
+mod AstMerges
+mod SaidMeant
+mod NamespaceStates
+mod NamespaceOnce
+mod WrittenMerges

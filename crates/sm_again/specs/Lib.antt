@@ -1,0 +1,2 @@
+pub mod AstMerges
+pub mod WrittenMerges

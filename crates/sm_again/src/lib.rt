@@ -1,0 +1,20 @@
+// What is written for a merged graph, as the tree of the JSON AST or as files of the IDL, merges to the graph again. These calls do
+// nothing: their contracts are the laws.
+#![tactic(auto)]
+ghost use Rattle.sm_again.specs.AstMerges.{AstMerges};
+ghost use Rattle.sm_again.specs.WrittenMerges.{WrittenAgain, WrittenMerges};
+
+/// The statements that the tree of a graph says merge to the graph, where files merge to it.
+pub fn ast_merges()
+    ensures { AstMerges }
+{}
+
+/// The files that are written for namespaces of a merged graph merge to the graph's shapes of these namespaces, with all metadata.
+pub fn written_again()
+    ensures { WrittenAgain }
+{}
+
+/// The files that are written for all namespaces of a graph merge to the graph, where files merge to it.
+pub fn written_merges()
+    ensures { WrittenMerges }
+{}
