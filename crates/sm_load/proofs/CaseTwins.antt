@@ -1,10 +1,9 @@
 -- Shapes whose ids are equal but for case, told from the numbers that stand first.
-use Rattle.std.proofs.Common.{◌≡◌, ◌⊎◌, ◌<◌, ◌&&◌, inl, inr, ℕ, true, List, length, Option, Some}
+use Rattle.std.proofs.Common.{◌≡◌, ◌⊎◌, ◌<◌, inl, inr, ℕ, true, List, length, Option, Some}
 use Rattle.std.proofs.Common.{None, refl, sym, ap, ◌∙◌, subst, arith}
 use Rattle.std.specs.Prelude.{◌↔◌, ◌==◌, not}
 use Rattle.std.specs.Cmp.{tied_itself}
 use Rattle.std.specs.Cmp.Lexicographic.{nat_list_cmp_total}
-use Rattle.std.specs.FinMap as fin
 use Rattle.std.specs.FinMap.Entries.{find, is_sorted}
 use Rattle.std.specs.List.{Contains}
 use Rattle.std.specs.declared.cmp.Ordering.{Ordering}
@@ -13,23 +12,21 @@ use Rattle.std.proofs.lemmas.Bool.{cases_order, eq-eqb, ne_eqb}
 use Rattle.std.proofs.lemmas.Option.{get_or_from_slice_get}
 use Rattle.std.specs.Ordering.{ordering_reverse}
 use Rattle.sm_model.specs.EventView.{EventTold}
-use Rattle.sm_model.specs.Graphs.{text_cmp, Entry, shape_entry, member_entry, ShapeEntry}
+use Rattle.sm_model.specs.Graphs.{text_cmp, Entry, shape_entry}
 use Rattle.sm_model.specs.GraphView.{entries_of, maps_of}
-use Rattle.sm_model.specs.PreludeShapes.{is_prelude_id}
 use Rattle.sm_model.specs.Reaching.{id_of_number}
 use Rattle.sm_model.specs.declared.event.ModelEvent.{ModelEvent}
 use Rattle.sm_model.specs.declared.graph.Graph.{Graph}
 use Rattle.sm_model.proofs.LinkNumbers.{stands_at}
 use Rattle.sm_model.proofs.GraphFacts.{id_at}
 use Rattle.sm_model.proofs.NumberedIds.{number_of}
-use Rattle.sm_model.proofs.Searching.{and_left, and_right, key_at, keys_rise}
+use Rattle.sm_model.proofs.Searching.{and_left, key_at, keys_rise}
 use Rattle.sm_model.proofs.Worklist.{apart}
-use Rattle.sm_compile.specs.rules.Words.{IsOwnShape}
 use Rattle.sm_load.specs.RuleEvents.{IsEventOf, Puts, rule_event}
 use Rattle.sm_load.specs.declared.rule.Rule.TheVariants.{IdCase}
 use Rattle.sm_load.specs.rules.Ids.{HasCaseTwin, IsCaseTwin}
 use Rattle.sm_load.specs.steps.Firsts.{ToldAmong, ToldFirst}
-use Rattle.sm_load.specs.steps.Folded.{folded, folded_below, is_own_shape, is_shape}
+use Rattle.sm_load.specs.steps.Folded.{folded, folded_below, is_own_shape}
 use Rattle.sm_load.proofs.EventsPut.{puts_same}
 use Rattle.sm_load.proofs.OwnShapes.{own_told, told_own}
 use Rattle.sm_load.proofs.Twins.{TellsFirst, first_told, is_row, row_is}

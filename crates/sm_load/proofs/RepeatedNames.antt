@@ -1,19 +1,19 @@
 -- Members whose names earlier members of their shape have but for case, from rows of ids.
-use Rattle.std.proofs.Common.{◌≡◌, ◌⊎◌, ◌<◌, ◌+◌, inl, inr, ℕ, Bool, true, false, cond, List, [], ◌∷◌, ◌++◌, Option, Some, None, get_or, length, map, take}
+use Rattle.std.proofs.Common.{◌≡◌, ◌<◌, ◌+◌, inl, inr, ℕ, Bool, true, false, cond, List, [], ◌∷◌, ◌++◌, Option, Some, None, length, map, take}
 use Rattle.std.proofs.Common.{drop, refl, sym, ap, ◌∙◌, subst, arith}
-use Rattle.std.specs.Prelude.{◌↔◌, IsSomeAnd, slice_get}
+use Rattle.std.specs.Prelude.{IsSomeAnd, slice_get}
 use Rattle.std.specs.FinMap as fin
 use Rattle.std.specs.List.{Contains, find, take-map}
 use Rattle.std.specs.Option.{option_map}
 use Rattle.std.specs.Ordering.{is_eq}
 use Rattle.std.specs.Str.{str_eq_ignore_ascii_case}
 use Rattle.std.proofs.Math.Seq.{get_or-append_seam, take-append_seam}
-use Rattle.std.proofs.lemmas.List.{drop_more, length-append, length-map, take-append-drop}
+use Rattle.std.proofs.lemmas.List.{drop_more, length-append, take-append-drop}
 use Rattle.std.proofs.lemmas.Map.Text.{is_eq-slice_cmp}
 use Rattle.std.proofs.lemmas.Option.{get_or_from_slice_get, none-some, same_Some, slice_get-map, slice_get_read, slice_get_within}
 use Rattle.sm_model.specs.EventView.{EventTold}
-use Rattle.sm_model.specs.Graphs.{text_cmp, GraphMaps, member_id, shape_entry}
-use Rattle.sm_model.specs.GraphView.{AreShapeNumbers, IsShapeNumber, entries_of, maps_of}
+use Rattle.sm_model.specs.Graphs.{text_cmp, member_id}
+use Rattle.sm_model.specs.GraphView.{AreShapeNumbers, IsShapeNumber, maps_of}
 use Rattle.sm_model.specs.Reaching.{id_of_number}
 use Rattle.sm_model.specs.declared.event.ModelEvent.{ModelEvent}
 use Rattle.sm_model.specs.declared.graph.Graph.{Graph}

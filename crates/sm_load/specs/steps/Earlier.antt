@@ -2,7 +2,7 @@
 use Rattle.std.specs.Prelude.{◌≡◌, ℕ, List, Option, Some, None, IsSomeAnd, map, slice_get, take}
 use Rattle.std.specs.FinMap as fin
 use Rattle.sm_model.specs.EventView.{EventTold}
-use Rattle.sm_model.specs.Graphs.{GraphMaps, member_id, text_cmp}
+use Rattle.sm_model.specs.Graphs.{member_id, text_cmp}
 use Rattle.sm_model.specs.Reaching.{id_of_number}
 use Rattle.sm_model.specs.declared.graph.Graph.{Graph}
 use Rattle.sm_load.specs.RuleEvents.{rule_event}

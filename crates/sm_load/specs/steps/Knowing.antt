@@ -1,5 +1,5 @@
 -- Traits that are known, as tests, and what is told of those that aren't.
-use Rattle.std.specs.Prelude.{◌&&◌, ◌≡◌, ℕ, Bool, not, List, is_some}
+use Rattle.std.specs.Prelude.{◌&&◌, ℕ, Bool, not, List, is_some}
 use Rattle.std.specs.List.{list_any}
 use Rattle.std.specs.Str.{bytes_eq}
 use Rattle.sm_tree.specs.declared.tree.Tree.{Tree}

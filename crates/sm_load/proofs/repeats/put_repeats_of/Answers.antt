@@ -1,7 +1,7 @@
-use Rattle.std.proofs.Common.{◌≡◌, length, sym, subst, ◌∙◌}
+use Rattle.std.proofs.Common.{length, subst, ◌∙◌}
 use Rattle.std.specs.List.{Contains}
 use Rattle.sm_load.specs.RuleEvents.{Puts}
-use Rattle.sm_load.specs.steps.Earlier.{ToldAt, ToldRepeat, folded_rows}
+use Rattle.sm_load.specs.steps.Earlier.{ToldAt, ToldRepeat}
 use Rattle.sm_load.specs.steps.Putting.{Below}
 use Rattle.sm_load.proofs.RepeatedNames.{rows_of_members}
 use Rattle.sm_load.proofs.repeats.put_repeats_of.Goals as goal
