@@ -17,16 +17,20 @@ use Rattle.sm_model.specs.declared.property.PropertyForm.TheVariants.{Reference,
 use Rattle.sm_idl.specs.Productions.{Tokens, Production, each, each_behind, many}
 use Rattle.sm_idl.specs.Words.{IsWord, IsNew, IsWordId, id as id_word_of}
 use Rattle.sm_idl.specs.Nodes.{Home, Pair, written, as_object}
-use Rattle.sm_idl.specs.Bodies.{Suffixes, PartSaid, part_names, part_word, part_target, part_shape, part_errors, part, property, braced_pairs}
+use Rattle.sm_idl.specs.Bodies.{Suffixes, PartSaid, part_names, part_word, part_target, part_shape, part_errors, part, property}
+use Rattle.sm_idl.specs.Bodies.{braced_pairs}
 use Rattle.sm_idl.specs.Shapes.{BodySaid, part_pairs, operation_body, pairs_body}
 use Rattle.sm_idl.specs.Written.{indent, written_id, more_ids, written_ids, written_value, value_there, field_lines, braced}
+use Rattle.sm_idl.specs.steps.Writing.{life_cycle_fields, bound_fields}
 use Rattle.sm_idl.specs.WrittenFile.{id_said, ids_said, list_said, value_said, value_there_said, field_said, fields_said}
-use Rattle.sm_idl.proofs.TextTokens.{Goes, Spells, goes_white, goes_whites, goes_gives, goes_both, goes_left, goes_right, goes_none, goes_next}
+use Rattle.sm_idl.proofs.TextTokens.{Goes, Spells, goes_white, goes_whites, goes_gives, goes_both, goes_left, goes_right, goes_none}
+use Rattle.sm_idl.proofs.TextTokens.{goes_next}
 use Rattle.sm_idl.proofs.TextTokens.{goes_joined, goes_flat, goes_value, flat_four}
 use Rattle.sm_idl.proofs.WrittenTokens.{Closed, IsWordText, goes_marked, goes_word, identifier_word, id_word}
 use Rattle.sm_idl.proofs.MembersWritten.{indent_white}
 use Rattle.sm_idl.proofs.ValuesWritten.{ids_closed}
-use Rattle.sm_idl.proofs.FieldsWritten.{FieldCase, ReadsField, put_there, all_put, AllRead, fields_row, differ_by_test, IsFieldNode, field_found}
+use Rattle.sm_idl.proofs.FieldsWritten.{FieldCase, ReadsField, put_there, all_put, AllRead, fields_row, differ_by_test, IsFieldNode}
+use Rattle.sm_idl.proofs.FieldsWritten.{field_found}
 use Rattle.sm_idl.proofs.FieldsWritten.{as_pair, pair_name, AreKnown, properties_read}
 
 -- what stands in braces
@@ -82,47 +86,12 @@ pub resource_goes : (home : Home) (ms : Members) (s : List ℕ) {Q : Tokens → 
     → Goes (Spells (pairs_body home Resource) (body_with (as_object (fields_said home resource_fields ms))) Q)
     (braced (field_lines resource_fields ms) ++ s)
 resource_goes home ms s are apart h =
-    pairs_goes home Resource ms s are apart (differ_by_test (map (λ f. f.0) resource_fields) refl) (
-      refl,
-      refl,
-      (
-        refl,
-        refl,
-        (
-          refl,
-          refl,
-          (
-            refl,
-            refl,
-            (
-              refl,
-              refl,
-              (
-                refl,
-                refl,
-                (
-                  refl,
-                  refl,
-                  (
-                    refl,
-                    refl,
-                    (
-                      refl,
-                      refl,
-                      (
-                        refl,
-                        refl,
-                        (refl, refl, tt),
-                      ),
-                    ),
-                  ),
-                ),
-              ),
-            ),
-          ),
-        ),
-      ),
-    ) h
+    let all : TypeFields = resource_fields in
+    let bound : AreKnown home all bound_fields = (refl, refl, (refl, refl, (refl, refl, tt))) in
+    let last : AreKnown home all ((codes "update", Reference) ∷ (codes "delete", Reference) ∷ (codes "list", Reference) ∷ bound_fields) =
+    (refl, refl, (refl, refl, (refl, refl, bound))) in
+    let cycle : AreKnown home all (life_cycle_fields ++ bound_fields) = (refl, refl, (refl, refl, (refl, refl, last))) in
+    pairs_goes home Resource ms s are apart (differ_by_test (map (λ f. f.0) all) refl) (refl, refl, (refl, refl, cycle)) h
 
 -- parts of operations
 abbrev as_part : List ℕ → Raw → PartSaid
@@ -157,7 +126,8 @@ module _ (home : Home) (endings : Suffixes) (operation : List ℕ) where
   input_node : (n : Node) → IsIdNode n
       → ReadsField parts as_part part_name (codes "input") (written_value Reference n) (value_said home Reference n)
   input_node n (t, e, is) = λ before s Q new h.
-      subst (λ m. FieldCase parts as_part part_name (codes "input") before (written_value Reference m) (value_said home Reference m) s Q) (sym e)
+      subst (λ m. FieldCase parts as_part part_name (codes "input") before (written_value Reference m) (value_said home Reference m) s Q)
+      (sym e)
       (goes_flat (part_line (codes "input") t s)
       (goes_whites indent indent_white
       (goes_left (part_shape home operation endings.input (codes "input") before) _
@@ -238,7 +208,8 @@ module _ (home : Home) (endings : Suffixes) (operation : List ℕ) where
   errors_node : (n : Node) → (ns : Nodes) × (n ≡ list ns) × AreIdNodes ns
       → ReadsField parts as_part part_name (codes "errors") (written_value References n) (value_said home References n)
   errors_node n (ns, e, are) = λ before s Q new h.
-      subst (λ m. FieldCase parts as_part part_name (codes "errors") before (written_ids (entries_in m)) (list_said home (entries_in m)) s Q)
+      subst
+      (λ m. FieldCase parts as_part part_name (codes "errors") before (written_ids (entries_in m)) (list_said home (entries_in m)) s Q)
       (sym e) (errors_case ns are before s Q new h)
 
   -- each may be missing

@@ -27,7 +27,8 @@ use Rattle.sm_idl.specs.Shapes.{item}
 use Rattle.sm_idl.specs.Idl.{control, metadata, used, SectionSaid, items, section, FileSaid, file, FileSpelled, Idl, metadata_statements}
 use Rattle.sm_idl.specs.Written.{NodePairs, metadata_lines, shape_lines, written_entry, written_shape, is_written, namespace_in, name_in}
 use Rattle.sm_idl.specs.Written.{body_in_form, trait_lines, written_idl}
-use Rattle.sm_idl.specs.WrittenFile.{home_alone, traits_said, fields_said, body_said, members_said, entry_said, entry_statements, shapes_said}
+use Rattle.sm_idl.specs.WrittenFile.{home_alone, traits_said, fields_said, body_said, members_said, entry_said, entry_statements}
+use Rattle.sm_idl.specs.WrittenFile.{shapes_said}
 use Rattle.sm_idl.specs.WrittenFile.{metadata_of, version_control, namespace_file}
 use Rattle.sm_idl.specs.WrittenForms.{written_form}
 use Rattle.sm_idl.specs.WrittenLaws.{WrittenIsFile}

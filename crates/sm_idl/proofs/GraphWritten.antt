@@ -9,7 +9,8 @@ use Rattle.sm_tree.specs.Node.{Members, object}
 use Rattle.sm_tree.specs.Same.{HasDistinctNames}
 use Rattle.sm_model.specs.Formed.{StandsAmong, HaveForm}
 use Rattle.sm_model.specs.Given.{AreNodes, AreGiven, AreGivenMembers, AreGivenShapes, IsGivenShape, given_names}
-use Rattle.sm_model.specs.Graphs.{Entry, MemberEntry, MemberGiven, ShapeEntry, ShapeGiven, ShapeMap, given_entries, given_members, given_shape}
+use Rattle.sm_model.specs.Graphs.{Entry, MemberEntry, MemberGiven, ShapeEntry, ShapeGiven, ShapeMap, given_entries, given_members}
+use Rattle.sm_model.specs.Graphs.{given_shape}
 use Rattle.sm_model.specs.Graphs.{graph_of, member_entry, member_id, shape_entry, text_cmp}
 use Rattle.sm_model.specs.Kinds.{member_form}
 use Rattle.sm_model.specs.References.{IsShapeId}
@@ -17,7 +18,8 @@ use Rattle.sm_model.proofs.MapFacts.{Each, each_entry, each_joined, found_among,
 use Rattle.sm_idl.specs.Nodes.{Home}
 use Rattle.sm_idl.specs.Written.{NodePairs, member_text as member_line, member_there, member_lines}
 use Rattle.sm_idl.specs.WrittenFile.{member_said, members_said, target_said, traits_said}
-use Rattle.sm_idl.specs.WrittenNames.{AreUnderIds, MembersAreUnderIds, HaveTraitIds, AreNamed, NestFew, MembersNestFew, ShapesNestFew, AreFew}
+use Rattle.sm_idl.specs.WrittenNames.{AreUnderIds, MembersAreUnderIds, HaveTraitIds, AreNamed, NestFew, MembersNestFew, ShapesNestFew}
+use Rattle.sm_idl.specs.WrittenNames.{AreFew}
 use Rattle.sm_idl.specs.declared.write.form.WrittenForm.{WrittenForm}
 use Rattle.sm_idl.proofs.IdsWritten.{member_cut, member_is_no_shape}
 use Rattle.sm_idl.proofs.TraitsWritten.{IsTraitValue}

@@ -118,8 +118,9 @@ abbrev pub AreNamesOf : MemberForm → List FoundMember → Type 0
 AreNamesOf form [] = Unit {0}
 AreNamesOf form (m ∷ ms) = IsNameOf form m.name × AreNamesOf form ms
 
-pub members_row : (home : Home) (written_as : WrittenForm) (targets : Bool) (form : MemberForm) (p : List MemberSaid → Production MemberSaid)
-    → ReadsMembers home written_as targets form p → (ms : List FoundMember) (before : List MemberSaid) (s : List ℕ) (Q : Tokens → Type 0)
+pub members_row : (home : Home) (written_as : WrittenForm) (targets : Bool) (form : MemberForm)
+    (p : List MemberSaid → Production MemberSaid) → ReadsMembers home written_as targets form p
+    → (ms : List FoundMember) (before : List MemberSaid) (s : List ℕ) (Q : Tokens → Type 0)
     → AreFound ms → AreNamesOf form ms → DifferInNames (found_names ms) → AreNewMembers before ms → Goes Q s
     → Goes (Spells (each_behind p before) (found_said home written_as ms) Q) (found_lines targets ms ++ s)
 members_row home written_as targets form p one [] before s Q are named differ new h = goes_none p before h

@@ -10,7 +10,8 @@ use Rattle.sm_lex.specs.Bytes.{opens_with}
 use Rattle.sm_lex.specs.Tokens.{Lexeme}
 use Rattle.sm_tree.specs.Json.{IsJson, AreJson, AreJsonMembers}
 use Rattle.sm_tree.specs.Levels.{levels, nodes_levels, members_levels}
-use Rattle.sm_tree.specs.Node.{Node, Nodes, Members, null, bool, int, number, text, bytes, tag, opaque, list, object, no_nodes, node, no_members, member}
+use Rattle.sm_tree.specs.Node.{Node, Nodes, Members, null, bool, int, number, text, bytes, tag, opaque, list, object, no_nodes, node}
+use Rattle.sm_tree.specs.Node.{no_members, member}
 use Rattle.sm_tree.specs.Numbers.{IsNumber, NumberText}
 use Rattle.sm_tree.specs.Same.{HasName, HasDistinctNames, HaveDistinctNames, AreDistinct}
 use Rattle.sm_tree.specs.steps.NumberBytes.{IsNumberStart}
@@ -22,7 +23,8 @@ use Rattle.sm_idl.specs.Words.{IsWord, IsKey, IsNew, key}
 use Rattle.sm_idl.specs.Nodes.{Home, LeafSaid, LeafSays, leaf, Pair, pair_names, as_object, pair_of, object_of, list_of}
 use Rattle.sm_idl.specs.Nodes.{node as node_within}
 use Rattle.sm_idl.proofs.NamesSeen.{among_last}
-use Rattle.sm_idl.proofs.TextTokens.{Goes, Spells, goes_as, goes_joined, goes_white, goes_gives, goes_both, goes_left, goes_right, goes_none, goes_next}
+use Rattle.sm_idl.proofs.TextTokens.{Goes, Spells, goes_as, goes_joined, goes_white, goes_gives, goes_both, goes_left, goes_right}
+use Rattle.sm_idl.proofs.TextTokens.{goes_none, goes_next}
 use Rattle.sm_idl.proofs.WrittenTokens.{Closed, IsWordText, goes_marked, goes_word, goes_number, word_text}
 use Rattle.sm_idl.proofs.StringsWritten.{goes_text}
 
@@ -221,4 +223,5 @@ mutual
       (value_no_equals n (more_written_pairs ms ++ s) json.1))
       (goes_joined (written n) (more_written_pairs ms) s
       (node_goes home n k (more_written_pairs ms ++ s) json.1 apart.1 small.0 (pairs_closed ms s)
-      (more_pairs_go home ms k (before ++ (i, raw_of n) ∷ []) s json.2 apart.2 small.1 (new_later before i (raw_of n) n ms new apart.0) h))))))
+      (more_pairs_go home ms k (before ++ (i, raw_of n) ∷ []) s json.2 apart.2 small.1
+      (new_later before i (raw_of n) n ms new apart.0) h))))))

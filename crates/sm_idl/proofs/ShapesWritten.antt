@@ -175,7 +175,8 @@ shape_said_by home kind name found ms ts = stated_shape home kind name (body_sai
 
 pub shape_goes : (home : Home) (endings : Suffixes) (kind : Kind) (name : List ℕ) (found : List FoundMember) (ms : Members)
     (ts : NodePairs) (s : List ℕ) {Q : Tokens → Type 0} → IsIdentifier name → IsFoundBody kind found ms → Each IsTraitValue ts → Goes Q s
-    → Goes (Spells (item home endings) (shape_said (shape_said_by home kind name found ms ts) ∷ []) Q) (found_text kind name found ms ts ++ s)
+    → Goes (Spells (item home endings) (shape_said (shape_said_by home kind name found ms ts) ∷ []) Q)
+    (found_text kind name found ms ts ++ s)
 shape_goes home endings kind name found ms ts s is_name is are h =
     let text : List ℕ = body_text (written_form kind) kind found ms in
     let stated : List ℕ = kind_name kind ++ codes " " ++ name ++ text in

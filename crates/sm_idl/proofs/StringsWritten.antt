@@ -117,46 +117,74 @@ short_good b e low w is fine = subst (λ u. ReadsAs u b) (sym w) (short_reads b 
 
 below_8 : Below Good 8
 below_8 =
-    let b0 : Below Good 1 = one_more Good 0 (none_below Good) (long_good 0 48 48 (omega arith) refl (λ s. refl) (refl, refl, refl) (refl, refl, refl)) in
-    let b1 : Below Good 2 = one_more Good 1 b0 (long_good 1 48 49 (omega arith) refl (λ s. refl) (refl, refl, refl) (refl, refl, refl)) in
-    let b2 : Below Good 3 = one_more Good 2 b1 (long_good 2 48 50 (omega arith) refl (λ s. refl) (refl, refl, refl) (refl, refl, refl)) in
-    let b3 : Below Good 4 = one_more Good 3 b2 (long_good 3 48 51 (omega arith) refl (λ s. refl) (refl, refl, refl) (refl, refl, refl)) in
-    let b4 : Below Good 5 = one_more Good 4 b3 (long_good 4 48 52 (omega arith) refl (λ s. refl) (refl, refl, refl) (refl, refl, refl)) in
-    let b5 : Below Good 6 = one_more Good 5 b4 (long_good 5 48 53 (omega arith) refl (λ s. refl) (refl, refl, refl) (refl, refl, refl)) in
-    let b6 : Below Good 7 = one_more Good 6 b5 (long_good 6 48 54 (omega arith) refl (λ s. refl) (refl, refl, refl) (refl, refl, refl)) in
+    let b0 : Below Good 1 =
+    one_more Good 0 (none_below Good) (long_good 0 48 48 (omega arith) refl (λ s. refl) (refl, refl, refl) (refl, refl, refl)) in
+    let b1 : Below Good 2 =
+    one_more Good 1 b0 (long_good 1 48 49 (omega arith) refl (λ s. refl) (refl, refl, refl) (refl, refl, refl)) in
+    let b2 : Below Good 3 =
+    one_more Good 2 b1 (long_good 2 48 50 (omega arith) refl (λ s. refl) (refl, refl, refl) (refl, refl, refl)) in
+    let b3 : Below Good 4 =
+    one_more Good 3 b2 (long_good 3 48 51 (omega arith) refl (λ s. refl) (refl, refl, refl) (refl, refl, refl)) in
+    let b4 : Below Good 5 =
+    one_more Good 4 b3 (long_good 4 48 52 (omega arith) refl (λ s. refl) (refl, refl, refl) (refl, refl, refl)) in
+    let b5 : Below Good 6 =
+    one_more Good 5 b4 (long_good 5 48 53 (omega arith) refl (λ s. refl) (refl, refl, refl) (refl, refl, refl)) in
+    let b6 : Below Good 7 =
+    one_more Good 6 b5 (long_good 6 48 54 (omega arith) refl (λ s. refl) (refl, refl, refl) (refl, refl, refl)) in
     one_more Good 7 b6 (long_good 7 48 55 (omega arith) refl (λ s. refl) (refl, refl, refl) (refl, refl, refl))
 
 below_16 : Below Good 16
 below_16 =
-    let b8 : Below Good 9 = one_more Good 8 below_8 (short_good 8 98 (omega arith) refl (λ s. refl) refl) in
-    let b9 : Below Good 10 = one_more Good 9 b8 (short_good 9 116 (omega arith) refl (λ s. refl) refl) in
-    let b10 : Below Good 11 = one_more Good 10 b9 (short_good 10 110 (omega arith) refl (λ s. refl) refl) in
-    let b11 : Below Good 12 = one_more Good 11 b10 (long_good 11 48 98 (omega arith) refl (λ s. refl) (refl, refl, refl) (refl, refl, refl)) in
-    let b12 : Below Good 13 = one_more Good 12 b11 (short_good 12 102 (omega arith) refl (λ s. refl) refl) in
-    let b13 : Below Good 14 = one_more Good 13 b12 (short_good 13 114 (omega arith) refl (λ s. refl) refl) in
-    let b14 : Below Good 15 = one_more Good 14 b13 (long_good 14 48 101 (omega arith) refl (λ s. refl) (refl, refl, refl) (refl, refl, refl)) in
+    let b8 : Below Good 9 =
+    one_more Good 8 below_8 (short_good 8 98 (omega arith) refl (λ s. refl) refl) in
+    let b9 : Below Good 10 =
+    one_more Good 9 b8 (short_good 9 116 (omega arith) refl (λ s. refl) refl) in
+    let b10 : Below Good 11 =
+    one_more Good 10 b9 (short_good 10 110 (omega arith) refl (λ s. refl) refl) in
+    let b11 : Below Good 12 =
+    one_more Good 11 b10 (long_good 11 48 98 (omega arith) refl (λ s. refl) (refl, refl, refl) (refl, refl, refl)) in
+    let b12 : Below Good 13 =
+    one_more Good 12 b11 (short_good 12 102 (omega arith) refl (λ s. refl) refl) in
+    let b13 : Below Good 14 =
+    one_more Good 13 b12 (short_good 13 114 (omega arith) refl (λ s. refl) refl) in
+    let b14 : Below Good 15 =
+    one_more Good 14 b13 (long_good 14 48 101 (omega arith) refl (λ s. refl) (refl, refl, refl) (refl, refl, refl)) in
     one_more Good 15 b14 (long_good 15 48 102 (omega arith) refl (λ s. refl) (refl, refl, refl) (refl, refl, refl))
 
 below_24 : Below Good 24
 below_24 =
-    let b16 : Below Good 17 = one_more Good 16 below_16 (long_good 16 49 48 (omega arith) refl (λ s. refl) (refl, refl, refl) (refl, refl, refl)) in
-    let b17 : Below Good 18 = one_more Good 17 b16 (long_good 17 49 49 (omega arith) refl (λ s. refl) (refl, refl, refl) (refl, refl, refl)) in
-    let b18 : Below Good 19 = one_more Good 18 b17 (long_good 18 49 50 (omega arith) refl (λ s. refl) (refl, refl, refl) (refl, refl, refl)) in
-    let b19 : Below Good 20 = one_more Good 19 b18 (long_good 19 49 51 (omega arith) refl (λ s. refl) (refl, refl, refl) (refl, refl, refl)) in
-    let b20 : Below Good 21 = one_more Good 20 b19 (long_good 20 49 52 (omega arith) refl (λ s. refl) (refl, refl, refl) (refl, refl, refl)) in
-    let b21 : Below Good 22 = one_more Good 21 b20 (long_good 21 49 53 (omega arith) refl (λ s. refl) (refl, refl, refl) (refl, refl, refl)) in
-    let b22 : Below Good 23 = one_more Good 22 b21 (long_good 22 49 54 (omega arith) refl (λ s. refl) (refl, refl, refl) (refl, refl, refl)) in
+    let b16 : Below Good 17 =
+    one_more Good 16 below_16 (long_good 16 49 48 (omega arith) refl (λ s. refl) (refl, refl, refl) (refl, refl, refl)) in
+    let b17 : Below Good 18 =
+    one_more Good 17 b16 (long_good 17 49 49 (omega arith) refl (λ s. refl) (refl, refl, refl) (refl, refl, refl)) in
+    let b18 : Below Good 19 =
+    one_more Good 18 b17 (long_good 18 49 50 (omega arith) refl (λ s. refl) (refl, refl, refl) (refl, refl, refl)) in
+    let b19 : Below Good 20 =
+    one_more Good 19 b18 (long_good 19 49 51 (omega arith) refl (λ s. refl) (refl, refl, refl) (refl, refl, refl)) in
+    let b20 : Below Good 21 =
+    one_more Good 20 b19 (long_good 20 49 52 (omega arith) refl (λ s. refl) (refl, refl, refl) (refl, refl, refl)) in
+    let b21 : Below Good 22 =
+    one_more Good 21 b20 (long_good 21 49 53 (omega arith) refl (λ s. refl) (refl, refl, refl) (refl, refl, refl)) in
+    let b22 : Below Good 23 =
+    one_more Good 22 b21 (long_good 22 49 54 (omega arith) refl (λ s. refl) (refl, refl, refl) (refl, refl, refl)) in
     one_more Good 23 b22 (long_good 23 49 55 (omega arith) refl (λ s. refl) (refl, refl, refl) (refl, refl, refl))
 
 below_32 : Below Good 32
 below_32 =
-    let b24 : Below Good 25 = one_more Good 24 below_24 (long_good 24 49 56 (omega arith) refl (λ s. refl) (refl, refl, refl) (refl, refl, refl)) in
-    let b25 : Below Good 26 = one_more Good 25 b24 (long_good 25 49 57 (omega arith) refl (λ s. refl) (refl, refl, refl) (refl, refl, refl)) in
-    let b26 : Below Good 27 = one_more Good 26 b25 (long_good 26 49 97 (omega arith) refl (λ s. refl) (refl, refl, refl) (refl, refl, refl)) in
-    let b27 : Below Good 28 = one_more Good 27 b26 (long_good 27 49 98 (omega arith) refl (λ s. refl) (refl, refl, refl) (refl, refl, refl)) in
-    let b28 : Below Good 29 = one_more Good 28 b27 (long_good 28 49 99 (omega arith) refl (λ s. refl) (refl, refl, refl) (refl, refl, refl)) in
-    let b29 : Below Good 30 = one_more Good 29 b28 (long_good 29 49 100 (omega arith) refl (λ s. refl) (refl, refl, refl) (refl, refl, refl)) in
-    let b30 : Below Good 31 = one_more Good 30 b29 (long_good 30 49 101 (omega arith) refl (λ s. refl) (refl, refl, refl) (refl, refl, refl)) in
+    let b24 : Below Good 25 =
+    one_more Good 24 below_24 (long_good 24 49 56 (omega arith) refl (λ s. refl) (refl, refl, refl) (refl, refl, refl)) in
+    let b25 : Below Good 26 =
+    one_more Good 25 b24 (long_good 25 49 57 (omega arith) refl (λ s. refl) (refl, refl, refl) (refl, refl, refl)) in
+    let b26 : Below Good 27 =
+    one_more Good 26 b25 (long_good 26 49 97 (omega arith) refl (λ s. refl) (refl, refl, refl) (refl, refl, refl)) in
+    let b27 : Below Good 28 =
+    one_more Good 27 b26 (long_good 27 49 98 (omega arith) refl (λ s. refl) (refl, refl, refl) (refl, refl, refl)) in
+    let b28 : Below Good 29 =
+    one_more Good 28 b27 (long_good 28 49 99 (omega arith) refl (λ s. refl) (refl, refl, refl) (refl, refl, refl)) in
+    let b29 : Below Good 30 =
+    one_more Good 29 b28 (long_good 29 49 100 (omega arith) refl (λ s. refl) (refl, refl, refl) (refl, refl, refl)) in
+    let b30 : Below Good 31 =
+    one_more Good 30 b29 (long_good 30 49 101 (omega arith) refl (λ s. refl) (refl, refl, refl) (refl, refl, refl)) in
     one_more Good 31 b30 (long_good 31 49 102 (omega arith) refl (λ s. refl) (refl, refl, refl) (refl, refl, refl))
 
 byte_reads : (b : ℕ) → Good b

@@ -20,7 +20,8 @@ use Rattle.sm_idl.specs.Idl.{metadata}
 use Rattle.sm_idl.specs.Written.{NodePairs, metadata_line, metadata_lines, trait_line, trait_lines}
 use Rattle.sm_idl.specs.WrittenFile.{trait_said, traits_said}
 use Rattle.sm_idl.proofs.NamesSeen.{among_last}
-use Rattle.sm_idl.proofs.TextTokens.{AreWhite, Goes, Spells, goes_joined, goes_white, goes_whites, goes_gives, goes_both, goes_right, goes_there}
+use Rattle.sm_idl.proofs.TextTokens.{AreWhite, Goes, Spells, goes_joined, goes_white, goes_whites, goes_gives, goes_both, goes_right}
+use Rattle.sm_idl.proofs.TextTokens.{goes_there}
 use Rattle.sm_idl.proofs.TextTokens.{goes_none, goes_next, goes_flat, flat_four, flat_five}
 use Rattle.sm_idl.proofs.WrittenTokens.{goes_marked, goes_word, goes_worded, id_word, word_text}
 use Rattle.sm_idl.proofs.StringsWritten.{goes_text}
