@@ -1,9 +1,9 @@
 -- What the tree of a merged graph says of a shape is the shape as the graph has it, so what it says merges to the graph.
-use Rattle.std.proofs.Common.{◌≡◌, ◌⊎◌, inl, inr, ℕ, Bool, true, false, List, [], ◌∷◌, ◌++◌, map, Option, Some, None, refl, sym, ap}
+use Rattle.std.proofs.Common.{◌≡◌, inl, inr, ℕ, Bool, true, false, List, [], ◌∷◌, ◌++◌, map, Option, Some, None, refl, sym, ap}
 use Rattle.std.proofs.Common.{subst, ◌∙◌, append-nil}
 use Rattle.std.specs.Prelude.{◌||◌, cond, not, if◌then◌else◌}
 use Rattle.std.specs.FinMap as fin
-use Rattle.sm_tree.specs.Node.{Node, Nodes, Members, list, object, no_nodes, node, no_members, member, text}
+use Rattle.sm_tree.specs.Node.{Node, Nodes, Members, list, object, no_nodes, node, no_members, member}
 use Rattle.sm_tree.specs.Parts.{tree_named}
 use Rattle.sm_model.specs.Formed.{StandsAmong}
 use Rattle.sm_model.specs.Given.{AreIdNodes, AreNamedIds, IsIdNode, NodeHasForm}
@@ -12,8 +12,8 @@ use Rattle.sm_model.specs.Graphs.{Entry, GraphMaps, MemberEntry, MemberGiven, Sh
 use Rattle.sm_model.specs.PreludeShapes.{is_prelude_id}
 use Rattle.sm_model.specs.Properties.{TypeFields, property_forms}
 use Rattle.sm_model.specs.Raw.{Raw, raw_leaf, raw_list, raw_object, raw_members_of, raw_of}
-use Rattle.sm_model.specs.References.{IsShapeId, absolute}
-use Rattle.sm_model.specs.Said.{Said, metadata_said}
+use Rattle.sm_model.specs.References.{IsShapeId}
+use Rattle.sm_model.specs.Said.{metadata_said}
 use Rattle.sm_model.specs.declared.property.PropertyForm.{PropertyForm}
 use Rattle.sm_model.specs.declared.property.PropertyForm.TheVariants.{Reference, References, NamedReferences, Text, Rename}
 use Rattle.sm_ast.specs.GraphSaid.{body_said, entry_said, entry_statements, form_said, form_there_said, graph_said, graph_statements}
@@ -25,12 +25,12 @@ use Rattle.sm_ast.specs.steps.Saying.{pairs_said}
 use Rattle.sm_ast.proofs.IdNames.{name_of_member}
 use Rattle.sm_merge.specs.Meaning.{Defined, members_meant, node_meant, nodes_meant}
 use Rattle.sm_model.specs.Used.{shape_part}
-use Rattle.sm_merge.specs.Restated.{AreMembersIn, IsMemberIn, IsShapeIn, StatesPart, is_kept}
+use Rattle.sm_merge.specs.Restated.{AreMembersIn, IsMemberIn, IsShapeIn, StatesPart}
 use Rattle.sm_merge.specs.Stated.{all_said, body_of, defined_among, is_empty, member_stated, shape_with_ids, stated_by, traits_stated}
 use Rattle.sm_merge.proofs.BodiesAgain.{SaysForms, body_again, forms_said, one_said, pairs_or_none}
 use Rattle.sm_merge.proofs.RegularGraphs.{IsRegular, IsRegularShape, merged_regular}
 use Rattle.sm_merge.proofs.RestatedEvents.{part_again}
-use Rattle.sm_merge.proofs.RestatedFiles.{AllStated, SaysShape, file_if, file_states, meant_itself, metadata_there, one_in_file}
+use Rattle.sm_merge.proofs.RestatedFiles.{AllStated, file_if, file_states, meant_itself, metadata_there, one_in_file}
 use Rattle.sm_merge.proofs.RestatedFiles.{shape_if, shapes_if, stated_under, stated_values}
 use Rattle.sm_again.specs.AstMerges.{AstMerges}
 

@@ -1,5 +1,5 @@
 -- In the files of namespaces each of their shapes is stated once, and where there is a file all metadata.
-use Rattle.std.proofs.Common.{◌≡◌, ◌⊎◌, inl, inr, ℕ, Bool, true, false, List, [], ◌∷◌, ◌++◌, map, Some, refl, sym, ap, subst, ◌∙◌}
+use Rattle.std.proofs.Common.{◌≡◌, inl, inr, ℕ, true, false, List, [], ◌∷◌, ◌++◌, Some, refl, sym, ap, subst, ◌∙◌}
 use Rattle.std.proofs.Common.{bytes_eq}
 use Rattle.std.specs.Prelude.{◌&&◌, not}
 use Rattle.std.specs.FinMap as fin
@@ -47,7 +47,7 @@ module _ (defined : Defined) (id : List ℕ) (g : GraphMaps) where
   one_stated [] d among s found own = absurd among
   one_stated (n ∷ ns) d (inl same) s found own =
       let written : is_written n id ≡ true =
-          ap (λ b. b && not (is_prelude_id id)) ((bytes_eq-Decides (namespace_in id) n).1 same) ∙ ap not own in
+      ap (λ b. b && not (is_prelude_id id)) ((bytes_eq-Decides (namespace_in id) n).1 same) ∙ ap not own in
       let one = one_in_file defined id (is_written n) (said_for g n) (λ k t. refl) g s found written own in
       let rest = other_files ns (λ among. d.0 (subst (λ j. StandsAmong j ns) same among)) in (
         one.0,

@@ -1,46 +1,42 @@
 -- What the file of a namespace says of a shape is the shape as the graph has it: so it states this part of the graph.
-use Rattle.std.proofs.Common.{◌≡◌, ◌<◌, ◌⊎◌, inl, inr, ℕ, Bool, true, false, List, [], ◌∷◌, ◌++◌, map, length, take, Option, Some, None}
+use Rattle.std.proofs.Common.{◌≡◌, ◌<◌, inl, inr, ℕ, Bool, true, false, List, [], ◌∷◌, ◌++◌, map, length, Option, Some, None}
 use Rattle.std.proofs.Common.{refl, sym, ap, subst, ◌∙◌}
-use Rattle.std.proofs.Common.{append-nil, append_assoc, arith, bytes_eq, length-append, length-take}
-use Rattle.std.specs.Prelude.{◌||◌, ◌&&◌, not, if◌then◌else◌}
-use Rattle.std.specs.List.{cons_option, flat_map, list_any, position_or_len}
+use Rattle.std.proofs.Common.{arith, length-append, length-take}
+use Rattle.std.specs.List.{position_or_len}
 use Rattle.std.specs.FinMap as fin
-use Rattle.std.proofs.lemmas.Bool.{cases_Bool}
-use Rattle.std.proofs.lemmas.Slice.Eq.{bytes_eq-Decides}
 use Rattle.sm_bytes.specs.Ascii.{dollar}
 use Rattle.sm_ids.specs.IdText.{IsIdText}
 use Rattle.sm_tree.specs.Node.{Node, Members, object}
 use Rattle.sm_tree.specs.Parts.{pairs_in, tree_named}
-use Rattle.sm_model.specs.Formed.{DifferInNames, StandsAmong}
-use Rattle.sm_model.specs.GraphView.{IsShapeEntry}
+use Rattle.sm_model.specs.Formed.{StandsAmong}
 use Rattle.sm_model.specs.Graphs.{Entry, GraphMaps, MemberEntry, MemberGiven, NodeMap, ShapeEntry, ShapeMap, member_entry, member_id}
 use Rattle.sm_model.specs.Graphs.{shape_entry}
 use Rattle.sm_model.specs.PreludeShapes.{is_prelude_id, unit_id}
 use Rattle.sm_model.specs.Properties.{TypeFields, property_forms}
 use Rattle.sm_model.specs.Raw.{Raw, raw_object, raw_members_of}
 use Rattle.sm_model.specs.References.{IsShapeId}
-use Rattle.sm_model.specs.Said.{MemberSaid, Said}
-use Rattle.sm_model.proofs.MapFacts.{Each, keys, keys_differ}
+use Rattle.sm_model.specs.Said.{MemberSaid}
+use Rattle.sm_model.proofs.MapFacts.{Each}
 use Rattle.sm_merge.specs.Meaning.{Defined, meaning, node_meant}
-use Rattle.sm_model.specs.Used.{is_byte, shape_part}
-use Rattle.sm_merge.specs.Places.{defined_by, metadata_by, metadata_values, shapes_under, value_under, values_under}
-use Rattle.sm_merge.specs.Stated.{ShapeStated, Stated, all_said, body_of, defined_among, member_stated, shape_with_ids, stated}
-use Rattle.sm_merge.specs.Stated.{stated_by, traits_stated}
-use Rattle.sm_merge.proofs.EntriesFound.{Has, each_has, get_has, has_get, has_key}
+use Rattle.sm_model.specs.Used.{is_byte}
+use Rattle.sm_merge.specs.Stated.{all_said, body_of, member_stated, shape_with_ids}
+use Rattle.sm_merge.specs.Stated.{traits_stated}
+use Rattle.sm_merge.proofs.EntriesFound.{each_has, has_get}
 use Rattle.sm_merge.proofs.EntryKeys.{of_member, one_name}
 use Rattle.sm_merge.proofs.GraphSound.{HoldsNamed, IsNamedNode, IsSoundEntry}
-use Rattle.sm_merge.proofs.PreludeGiven.{clash}
 use Rattle.sm_idl.specs.Nodes.{Home}
-use Rattle.sm_idl.specs.Written.{is_written, member_in, namespace_in}
+use Rattle.sm_idl.specs.Written.{is_written, member_in}
 use Rattle.sm_idl.specs.WrittenForms.{written_form}
-use Rattle.sm_idl.specs.declared.write.form.WrittenForm.{WrittenForm}
-use Rattle.sm_idl.specs.declared.write.form.WrittenForm.TheVariants.{Alone, Names, Targets, Fields}
+use Rattle.sm_model.specs.declared.kind.Kind.{Kind}
+use Rattle.sm_model.specs.declared.kind.Kind.TheVariants.{Blob, Boolean, Text, Enum, Byte, Short, Integer, IntEnum, Long, Float}
+use Rattle.sm_model.specs.declared.kind.Kind.TheVariants.{Double, BigInteger, BigDecimal, Timestamp, Document, List as list_kind}
+use Rattle.sm_model.specs.declared.kind.Kind.TheVariants.{Map, Structure, Union, Service, Operation, Resource}
 use Rattle.sm_idl.proofs.RelativeIds.{cut_at_first}
 use Rattle.sm_merge.specs.Restated.{AreMembersIn, IsMemberIn, IsShapeIn}
 use Rattle.sm_idl.specs.WrittenFile.{body_said, entry_said, entry_statements, field_said, fields_said, home_alone, members_said}
 use Rattle.sm_idl.specs.WrittenFile.{metadata_of, namespace_file}
 use Rattle.sm_idl.specs.WrittenFile.{member_said, shapes_said, target_said, traits_said, value_there_said}
-use Rattle.sm_again.specs.WrittenMerges.{EnumsTargetUnit, HasRoom, is_of, written_files}
+use Rattle.sm_again.specs.WrittenMerges.{EnumsTargetUnit, IsEnum, written_files}
 use Rattle.sm_merge.proofs.BodiesAgain.{body_again, forms_said, one_said, pairs_or_none}
 use Rattle.sm_merge.proofs.RegularGraphs.{IsRegular, IsRegularShape}
 use Rattle.sm_merge.proofs.RestatedFiles.{AllStated, SaysShape, file_if, file_states, shape_if, shapes_if, states_joined}
@@ -76,31 +72,31 @@ module _ (home : Home) where
       subst (λ m. body_said home fs (pairs_in m) ≡ forms_said (value_there_said home) fs (pairs_or_none m)) (sym is) (fields_are fs ms)
 
 -- members
-pub record IsLookedUp (defined : Defined) (home : Home) (form : WrittenForm) (shapes : ShapeMap) (id : List ℕ) : Type 0 where
+pub record IsLookedUp (defined : Defined) (home : Home) (kind : Kind) (shapes : ShapeMap) (id : List ℕ) : Type 0 where
   pub e : MemberEntry
   pub found : fin.get shapes id ≡ Some (member_entry e)
-  pub target : meaning defined (target_said home form e.target) ≡ e.target
+  pub target : meaning defined (target_said home (written_form kind) e.target) ≡ e.target
   pub named : HoldsNamed e.traits
 
 map_named : (m : NodeMap) → HoldsNamed m → Each (IsNamedNode IsIdText) (fin.entries m)
 map_named m h = each_has (IsNamedNode IsIdText) (fin.entries m) (λ t n there. h t n (has_get m t n there))
 
-module _ (defined : Defined) (home : Home) (form : WrittenForm) (shapes : ShapeMap) (id : List ℕ) (is : IsShapeId id) where
+module _ (defined : Defined) (home : Home) (kind : Kind) (shapes : ShapeMap) (id : List ℕ) (is : IsShapeId id) where
   abbrev member_again : List ℕ → MemberEntry → MemberGiven
   member_again q e = record {
     name = member_in q;
-    target = meaning defined (target_said home form e.target);
+    target = meaning defined (target_said home (written_form kind) e.target);
     traits = traits_stated defined (traits_said home (fin.entries e.traits));
   }
 
   abbrev members_stated : List (List ℕ) → List MemberGiven
-  members_stated ids = map (member_stated defined) (members_said home form shapes ids)
+  members_stated ids = map (member_stated defined) (members_said home (written_form kind) shapes ids)
 
   record AreSaidMembers (ids : List (List ℕ)) : Type 0 where
     same : map (λ (m : MemberGiven). member_id id m.name) (members_stated ids) ≡ ids
     are : AreMembersIn shapes id (members_stated ids)
 
-  member_is_in : (name : List ℕ) (l : IsLookedUp defined home form shapes (member_id id name))
+  member_is_in : (name : List ℕ) (l : IsLookedUp defined home kind shapes (member_id id name))
       → IsMemberIn shapes id (member_again (member_id id name) l.e)
   member_is_in name l =
       let named = member_named id is name in record {
@@ -111,17 +107,17 @@ module _ (defined : Defined) (home : Home) (form : WrittenForm) (shapes : ShapeM
       }
 
   members_again : (names : List (List ℕ))
-      → ((name : List ℕ) → StandsAmong name names → IsLookedUp defined home form shapes (member_id id name))
+      → ((name : List ℕ) → StandsAmong name names → IsLookedUp defined home kind shapes (member_id id name))
       → AreSaidMembers (map (member_id id) names)
   members_again [] look = record { same = refl; are = tt }
   members_again (name ∷ names) look =
       let l = look name (inl refl) in
       let q : List ℕ = member_id id name in
       let rest = members_again names (λ k later. look k (inr later)) in
-      let behind : List MemberSaid = members_said home form shapes (map (member_id id) names) in
+      let behind : List MemberSaid = members_said home (written_form kind) shapes (map (member_id id) names) in
       let more : List MemberGiven = members_stated (map (member_id id) names) in
       let here : members_stated (q ∷ map (member_id id) names) ≡ member_again q l.e ∷ more =
-          ap (λ o. map (member_stated defined) (member_said home form q o ++ behind)) l.found in
+      ap (λ o. map (member_stated defined) (member_said home (written_form kind) q o ++ behind)) l.found in
       record {
         same = ap (λ ms. map (λ (m : MemberGiven). member_id id m.name) ms) here
             ∙ (λ i. member_id id (member_named id is name i) ∷ rest.same i);
@@ -135,34 +131,51 @@ pub record IsWhole (g : GraphMaps) : Type 0 where
   pub enums : EnumsTargetUnit g
 
 module _ (g : GraphMaps) (whole : IsWhole g) (defined : Defined) where
-  target_meant : (home : Home) (form : WrittenForm) (t : List ℕ) → IsIdText t → (form ≡ Names → t ≡ unit_id)
-      → meaning defined (target_said home form t) ≡ t
-  target_meant home Alone t is unit = written_meant defined home t false is
-  target_meant home Names t is unit = sym (unit refl)
-  target_meant home Targets t is unit = written_meant defined home t false is
-  target_meant home Fields t is unit = written_meant defined home t false is
+  target_meant : (home : Home) (kind : Kind) (t : List ℕ) → IsIdText t → (IsEnum kind → t ≡ unit_id)
+      → meaning defined (target_said home (written_form kind) t) ≡ t
+  target_meant home Enum t is unit = sym (unit (inl refl))
+  target_meant home IntEnum t is unit = sym (unit (inr refl))
+  target_meant home Blob t is unit = written_meant defined home t false is
+  target_meant home Boolean t is unit = written_meant defined home t false is
+  target_meant home Text t is unit = written_meant defined home t false is
+  target_meant home Byte t is unit = written_meant defined home t false is
+  target_meant home Short t is unit = written_meant defined home t false is
+  target_meant home Integer t is unit = written_meant defined home t false is
+  target_meant home Long t is unit = written_meant defined home t false is
+  target_meant home Float t is unit = written_meant defined home t false is
+  target_meant home Double t is unit = written_meant defined home t false is
+  target_meant home BigInteger t is unit = written_meant defined home t false is
+  target_meant home BigDecimal t is unit = written_meant defined home t false is
+  target_meant home Timestamp t is unit = written_meant defined home t false is
+  target_meant home Document t is unit = written_meant defined home t false is
+  target_meant home list_kind t is unit = written_meant defined home t false is
+  target_meant home Map t is unit = written_meant defined home t false is
+  target_meant home Structure t is unit = written_meant defined home t false is
+  target_meant home Union t is unit = written_meant defined home t false is
+  target_meant home Service t is unit = written_meant defined home t false is
+  target_meant home Operation t is unit = written_meant defined home t false is
+  target_meant home Resource t is unit = written_meant defined home t false is
 
   look_up : (home : Home) (id : List ℕ) (s : ShapeEntry) → fin.get g.shapes id ≡ Some (shape_entry s) → (r : IsRegularShape g id s)
-      → (name : List ℕ) → StandsAmong name r.names → IsLookedUp defined home (written_form s.kind) g.shapes (member_id id name)
+      → (name : List ℕ) → StandsAmong name r.names → IsLookedUp defined home s.kind g.shapes (member_id id name)
   look_up home id s found r name among =
       let held = r.each name among in
       let sound = whole.sound (member_id id name) (member_entry held.0) held.1 in record {
         e = held.0;
         found = held.1;
-        target = target_meant home (written_form s.kind) held.0.target sound.1 (λ form. whole.enums id name s held.0 found form held.1);
+        target = target_meant home s.kind held.0.target sound.1 (λ enum. whole.enums id name s held.0 found enum held.1);
         named = sound.2;
       }
 
   shape_again : (home : Home) (id : List ℕ) (s : ShapeEntry) → fin.get g.shapes id ≡ Some (shape_entry s) → (r : IsRegularShape g id s)
       → IsShapeIn g.shapes (shape_with_ids defined (entry_said home g.shapes id s)).shape
   shape_again home id s found r =
-      let form = written_form s.kind in
-      let members : AreSaidMembers defined home form g.shapes id r.is s.members =
-          subst (AreSaidMembers defined home form g.shapes id r.is) (sym r.members)
-          (members_again defined home form g.shapes id r.is r.names (look_up home id s found r)) in
+      let members : AreSaidMembers defined home s.kind g.shapes id r.is s.members =
+      subst (AreSaidMembers defined home s.kind g.shapes id r.is) (sym r.members)
+      (members_again defined home s.kind g.shapes id r.is r.names (look_up home id s found r)) in
       let sound = whole.sound id (shape_entry s) found in
       let said = ap (λ ps. body_of s.kind (node_meant defined (raw_object (raw_members_of ps))))
-          (body_is home (property_forms s.kind) s.properties r.body.pairs r.body.is_object) in
+      (body_is home (property_forms s.kind) s.properties r.body.pairs r.body.is_object) in
       let body = said ∙ body_again s.kind s.properties r.given r.comes r.body defined (value_there_said home) (says_forms defined home) in
       record {
         traits = s.traits;

@@ -1,20 +1,17 @@
 -- What is said with absolute ids means itself, whatever shapes there are.
-use Rattle.std.proofs.Common.{◌≡◌, ◌<◌, ◌+◌, ◌⊎◌, inl, inr, ℕ, suc, Bool, true, false, cond, List, [], ◌∷◌, ◌++◌, map, length, drop}
-use Rattle.std.proofs.Common.{take, Option, Some, None}
-use Rattle.std.proofs.Common.{refl, sym, ap, subst, ◌∙◌, arith, append-nil}
+use Rattle.std.proofs.Common.{◌≡◌, ◌+◌, ℕ, Bool, true, false, cond, List, [], ◌∷◌, ◌++◌}
+use Rattle.std.proofs.Common.{Option, Some}
+use Rattle.std.proofs.Common.{refl, sym, ap, subst, ◌∙◌}
 use Rattle.std.specs.Prelude.{◌||◌, if◌then◌else◌}
 use Rattle.std.specs.List.{list_any}
 use Rattle.std.specs.FinMap as fin
 use Rattle.std.proofs.lemmas.List.Folds.{list_any-append}
 use Rattle.sm_bytes.specs.Ascii.{number_sign}
 use Rattle.sm_ids.specs.IdText.{IsIdText, member_text}
-use Rattle.sm_tree.specs.Node.{Node, Nodes, Members, null, bool, int, number, text, bytes, tag, opaque, list, object, no_nodes, node}
+use Rattle.sm_tree.specs.Node.{Node, Nodes, Members, text, list, object, no_nodes, node}
 use Rattle.sm_tree.specs.Node.{no_members, member}
-use Rattle.sm_tree.specs.Parts.{entries_in, pairs_in}
 use Rattle.sm_model.specs.Given.{AreIdNodes, AreNamedIds, IsIdNode, NodeHasForm}
-use Rattle.sm_model.specs.Raw.{Raw, raw_of, raws_of, raw_members_of, node_raws, member_raws, raw_leaf, raw_list, raw_object}
-use Rattle.sm_model.specs.References.{absolute}
-use Rattle.sm_model.specs.declared.reference.Ref.{Ref}
+use Rattle.sm_model.specs.Raw.{Raw, raw_of, raws_of, raw_members_of, raw_leaf, raw_list, raw_object}
 use Rattle.sm_model.specs.declared.property.PropertyForm.{PropertyForm}
 use Rattle.sm_model.specs.declared.property.PropertyForm.TheVariants.{Reference, References, NamedReferences, Text, Rename}
 use Rattle.sm_merge.specs.Meaning.{Defined, is_absolute, meaning, member_part, members_meant, node_meant, nodes_meant}
@@ -26,8 +23,8 @@ use Rattle.sm_merge.proofs.GraphSound.{IsNamedNode}
 use Rattle.sm_merge.proofs.RestatedFiles.{meant_itself}
 use Rattle.sm_model.proofs.MapFacts.{Each}
 use Rattle.sm_idl.specs.Nodes.{Home, written}
-use Rattle.sm_idl.specs.Written.{NodePairs, written_id}
-use Rattle.sm_idl.specs.WrittenFile.{filled_list, filled_object, id_said, ids_said, leaves_said, list_said, named_ids_said, named_said}
+use Rattle.sm_idl.specs.Written.{NodePairs}
+use Rattle.sm_idl.specs.WrittenFile.{id_said, ids_said, leaves_said, list_said, named_ids_said, named_said}
 use Rattle.sm_idl.specs.WrittenFile.{renamed_said, traits_said, value_said, value_there_said}
 use Rattle.sm_merge.proofs.BodiesAgain.{SaysForms}
 

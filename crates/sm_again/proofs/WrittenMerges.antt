@@ -1,5 +1,5 @@
 -- The files that are written for namespaces of a merged graph come to their part of it, and those of all namespaces to the graph.
-use Rattle.std.proofs.Common.{◌≡◌, ◌⊎◌, inl, inr, ℕ, Bool, true, false, List, [], ◌∷◌, map, Some, refl, sym, ap, subst, ◌∙◌, bytes_eq}
+use Rattle.std.proofs.Common.{◌≡◌, inl, inr, ℕ, Bool, true, false, List, [], ◌∷◌, Some, refl, sym, ap, subst, ◌∙◌, bytes_eq}
 use Rattle.std.specs.Prelude.{◌||◌, ◌&&◌, cond, not}
 use Rattle.std.specs.List.{list_any}
 use Rattle.std.specs.FinMap as fin
@@ -15,7 +15,7 @@ use Rattle.sm_merge.specs.Stated.{AreFormedFiles, all_said, defined_among, state
 use Rattle.sm_merge.proofs.EntryKeys.{of_member, of_shape}
 use Rattle.sm_merge.proofs.GraphSound.{stands_sound}
 use Rattle.sm_merge.proofs.PreludeGiven.{stands_by_test}
-use Rattle.sm_idl.specs.Written.{is_written, namespace_in}
+use Rattle.sm_idl.specs.Written.{namespace_in}
 use Rattle.sm_merge.specs.Restated.{StatesPart, is_kept}
 use Rattle.sm_again.specs.WrittenMerges.{AreAllNamespaces, EnumsTargetUnit, HasRoom, WrittenAgain, WrittenMerges, is_of, written_files}
 use Rattle.sm_again.proofs.NamespaceOnce.{metadata_in_files, one_stated}
@@ -91,5 +91,5 @@ written_merges files graph namespaces formed merged enums all room =
     let g = maps_of graph in
     let whole = merged_whole files g formed merged.0 enums in
     let comes = part_again g g (is_of namespaces) (stated_by (written_files g namespaces)) whole.regular
-        (files_state_part g whole namespaces all.differ room) (whole_part g whole namespaces all) in
+    (files_state_part g whole namespaces all.differ room) (whole_part g whole namespaces all) in
     (comes.graph, merged.1, comes.nothing_wrong)

@@ -1,30 +1,32 @@
 -- That the files which are written for namespaces of a merged graph come to the graph's shapes of these namespaces again, with all
 -- metadata: each shape, each member, each trait. Files of all namespaces come to the whole graph.
-use Rattle.std.specs.Prelude.{◌≡◌, ◌==◌, ℕ, Bool, false, List, [], ◌∷◌, map, Some, Result, Ok, ◌⊎◌}
+use Rattle.std.specs.Prelude.{◌≡◌, ℕ, Bool, false, List, [], map, Some, Ok, ◌⊎◌}
 use Rattle.std.specs.FinMap as fin
 use Rattle.std.specs.List.{list_any}
 use Rattle.std.specs.Str.{bytes_eq}
 use Rattle.sm_tree.specs.Node.{Node}
 use Rattle.sm_model.specs.Formed.{DifferInNames, StandsAmong}
-use Rattle.sm_model.specs.Graphs.{Entry, GraphMaps, MemberEntry, ShapeEntry, member_entry, member_id, shape_entry}
+use Rattle.sm_model.specs.Graphs.{GraphMaps, MemberEntry, ShapeEntry, member_entry, member_id, shape_entry}
 use Rattle.sm_model.specs.GraphView.{maps_of}
 use Rattle.sm_model.specs.PreludeShapes.{is_prelude_id, unit_id}
 use Rattle.sm_model.specs.Said.{Said}
 use Rattle.sm_model.specs.declared.graph.Graph.{Graph}
+use Rattle.sm_model.specs.declared.kind.Kind.{Kind}
+use Rattle.sm_model.specs.declared.kind.Kind.TheVariants.{Enum, IntEnum}
 use Rattle.sm_merge.specs.Answers.{MergesTo}
 use Rattle.sm_merge.specs.Merged.{IsGraphOf}
 use Rattle.sm_merge.specs.Stated.{AreFormedFiles, stated_by}
-use Rattle.sm_merge.specs.declared.refusal.MergeRefusal.{MergeRefusal}
 use Rattle.sm_idl.specs.Written.{namespace_in}
-use Rattle.sm_idl.specs.WrittenForms.{written_form}
-use Rattle.sm_idl.specs.declared.write.form.WrittenForm.TheVariants.{Names}
 use Rattle.sm_merge.specs.Restated.{ComesTo, part_of}
 use Rattle.sm_idl.specs.WrittenFile.{namespace_file}
+
+abbrev pub IsEnum : Kind → Type 0
+IsEnum kind = (kind ≡ Enum) ⊎ (kind ≡ IntEnum)
 
 -- members of enums and intEnums target `Unit`, which the IDL's syntax gives them: so it is in each model without events of rules
 abbrev pub EnumsTargetUnit : GraphMaps → Type 0
 EnumsTargetUnit g = (id name : List ℕ) (s : ShapeEntry) (m : MemberEntry) → fin.get g.shapes id ≡ Some (shape_entry s)
-    → written_form s.kind ≡ Names → fin.get g.shapes (member_id id name) ≡ Some (member_entry m) → m.target ≡ unit_id
+    → IsEnum s.kind → fin.get g.shapes (member_id id name) ≡ Some (member_entry m) → m.target ≡ unit_id
 
 -- what the files of these namespaces say
 abbrev pub written_files : GraphMaps → List (List ℕ) → List (List Said)

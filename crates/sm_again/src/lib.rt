@@ -1,6 +1,7 @@
 // What is written for a merged graph, as the tree of the JSON AST or as files of the IDL, merges to the graph again. These calls do
 // nothing: their contracts are the laws.
 #![tactic(auto)]
+
 ghost use Rattle.sm_again.specs.AstMerges.{AstMerges};
 ghost use Rattle.sm_again.specs.WrittenMerges.{WrittenAgain, WrittenMerges};
 
