@@ -20,6 +20,8 @@ pub enum Row<'a> {
     Next(Asked),
     /// `file NAME TEXT`: from now on the name stands for a file of this text.
     File(&'a str, &'a str),
+    /// `line NAME TEXT`: this text and a line feed go behind what the name stands for.
+    Line(&'a str, &'a str),
     /// `model NAME SHAPES MEMBERS`: from now on the name stands for a file of a model of this size.
     Model(&'a str, Size),
     /// `run WORDS < INPUT`: a run of these words, and its input. `run < INPUT` has no words.
@@ -36,6 +38,7 @@ impl<'a> Row<'a> {
         }
         match line.split_once(' ') {
             Some(("file", rest)) => Row::file(rest),
+            Some(("line", rest)) => Row::line(rest),
             Some(("model", rest)) => Row::model(rest),
             Some(("pad", length)) => match length.parse::<usize>() {
                 Ok(length) => Row::Pad(length),
@@ -71,6 +74,14 @@ impl<'a> Row<'a> {
         match rest.split_once(' ') {
             Some((name, text)) => Row::File(name, text),
             None => Row::Unknown,
+        }
+    }
+
+    // A row `line`, without this word. The text may be empty.
+    fn line(rest: &'a str) -> Self {
+        match rest.split_once(' ') {
+            Some((name, text)) => Row::Line(name, text),
+            None => Row::Line(rest, ""),
         }
     }
 

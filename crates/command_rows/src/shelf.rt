@@ -62,7 +62,23 @@ impl Shelf {
     /// From now on the name stands for a file of this text.
     pub fn keep(&mut self, alloc: Global, name: &str, text: &str) -> Result<(), NoMemory> {
         let bytes = self.bytes_of(alloc, text)?;
-        match self.files.write(name, bytes.as_slice()) {
+        self.write(name, bytes.as_slice())
+    }
+
+    /// From now on this text and a line feed stand behind what the name stood for.
+    pub fn append(&mut self, alloc: Global, name: &str, text: &str) -> Result<(), NoMemory> {
+        let mut bytes = Vec::new(alloc);
+        if let Some(held) = self.files.file(name) {
+            bytes.extend_from_slice(held)?;
+        }
+        bytes.extend_from_slice(text.as_bytes())?;
+        bytes.push(b'\n')?;
+        self.write(name, bytes.as_slice())
+    }
+
+    // From now on the name stands for these bytes.
+    fn write(&mut self, name: &str, bytes: &[u8]) -> Result<(), NoMemory> {
+        match self.files.write(name, bytes) {
             Ok(()) => Ok(()),
             Err(_) => Err(NoMemory),
         }
@@ -148,6 +164,7 @@ impl Player for Shelf {
             Row::Pad(length) => self.pad(length),
             Row::Next(asked) => self.ask(asked),
             Row::File(name, text) => self.keep(alloc, name, text)?,
+            Row::Line(name, text) => self.append(alloc, name, text)?,
             Row::Model(name, size) => self.keep(alloc, name, size.model(alloc)?.as_str())?,
             Row::Run(words, input) => self.run(alloc, words, input, out)?,
             Row::Unknown => out.push_str(" => no row")?,

@@ -1,4 +1,5 @@
 // What stands behind a case: its answer, but for a part of a text.
+use crate::idl::{show_cuts, show_idl, show_quoted};
 use crate::refusal::show_refusal;
 use crate::row::Row;
 use crate::selector::show_selector;
@@ -25,7 +26,7 @@ fn show_model(alloc: Global, text: &str, out: &mut String) -> Result<(), NoMemor
 /// The models of rows.
 #[derive(Drop)]
 pub struct Models {
-    // The text of the rows `part` so far.
+    // The text of the rows `part` and `line` so far.
     parts: String,
 }
 
@@ -48,6 +49,17 @@ impl Player for Models {
                 self.parts.clear();
             }
             Row::Selector(text) => show_selector(alloc, text, out)?,
+            Row::Idl(text) => show_idl(alloc, text, out)?,
+            Row::Quoted(text) => show_quoted(alloc, text, out)?,
+            Row::Line(text) => {
+                self.parts.push_str(text)?;
+                self.parts.push('\n')?;
+            }
+            Row::Lines => {
+                show_idl(alloc, &self.parts, out)?;
+                self.parts.clear();
+            }
+            Row::Cuts(text) => show_cuts(alloc, text, out)?,
             Row::Uri(text) => show_uri(alloc, text, out)?,
             Row::Unknown => out.push_str(" => no row")?,
         }

@@ -11,6 +11,16 @@ pub enum Row<'a> {
     Parts,
     /// `selector TEXT`: to read the text as a selector.
     Selector(&'a str),
+    /// `idl TEXT`: to read the text as a model in the IDL.
+    Idl(&'a str),
+    /// `quoted "TEXT"`: to read the text that a JSON string holds as a model in the IDL.
+    Quoted(&'a str),
+    /// `line TEXT`: the text and a line feed go behind those of the rows `line` before.
+    Line(&'a str),
+    /// `lines`: to read what these rows make as a model in the IDL. The next such row begins anew.
+    Lines,
+    /// `cuts TEXT`: to read the text as a model in the IDL, cut behind each of its tokens.
+    Cuts(&'a str),
     /// `uri TEXT`: to read the text as a pattern of URIs.
     Uri(&'a str),
     /// Any other line.
@@ -23,10 +33,17 @@ impl<'a> Row<'a> {
         if line == "parts" {
             return Row::Parts;
         }
+        if line == "lines" {
+            return Row::Lines;
+        }
         match line.split_once(' ') {
             Some(("ast", text)) => Row::Ast(text),
             Some(("part", text)) => Row::Part(text),
             Some(("selector", text)) => Row::Selector(text),
+            Some(("idl", text)) => Row::Idl(text),
+            Some(("quoted", text)) => Row::Quoted(text),
+            Some(("line", text)) => Row::Line(text),
+            Some(("cuts", text)) => Row::Cuts(text),
             Some(("uri", text)) => Row::Uri(text),
             _ => Row::Unknown,
         }

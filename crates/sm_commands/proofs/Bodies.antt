@@ -1,5 +1,6 @@
 -- What the command `body` comes to, from what its model file, its table and its input do.
-use Rattle.std.proofs.Common.{◌≡◌, ◌⊎◌, ◌<◌, ◌≤◌, ◌+◌, ◌++◌, ℕ, List, [], ◌∷◌, Option, Some, None, Ok, Err, inl, inr, sym, ap, subst, ◌∙◌, refl, arith, append-nil}
+use Rattle.std.proofs.Common.{◌≡◌, ◌⊎◌, ◌<◌, ◌≤◌, ◌+◌, ◌++◌, ℕ, List, [], ◌∷◌, Option, Some, None, Ok, Err, inl, inr, sym, ap, subst, ◌∙◌}
+use Rattle.std.proofs.Common.{refl, arith, append-nil}
 use Rattle.std.specs.Prelude.{IfSome, length, Result}
 use Rattle.std.specs.Global.{Vec}
 use Rattle.sm_io.specs.Causes.{Rose}
@@ -36,7 +37,8 @@ use Rattle.sm_commands.specs.Outside.{InputsSeen, inputs_seen}
 use Rattle.sm_commands.specs.Run.{Answers, OnlyAdds, ReadFails, StopsShort, told_by}
 use Rattle.sm_commands.specs.Stages.{Told, IsInput}
 use Rattle.sm_commands.specs.declared.command.Status.TheVariants.{Pattern}
-use Rattle.sm_commands.specs.steps.BodySteps.{ShapeSays, HasTableOf, MakesTable, IsReady, PrintsText, InputSays, InputComesTo, TableSays, TableComesTo}
+use Rattle.sm_commands.specs.steps.BodySteps.{ShapeSays, HasTableOf, MakesTable, IsReady, PrintsText, InputSays, InputComesTo, TableSays}
+use Rattle.sm_commands.specs.steps.BodySteps.{TableComesTo}
 use Rattle.sm_commands.specs.steps.BodySteps.ShapeSays.{lacks, not_sound, refuses}
 use Rattle.sm_commands.specs.steps.BodySteps.InputSays.{beyond, whole}
 use Rattle.sm_commands.specs.steps.BodySteps.TableSays.{left_out, by_input}
@@ -64,18 +66,26 @@ shape_unsound g name shape test before now stop there none count ends =
 module _ (g : GraphMaps) (id shape : List ℕ) (test : Test) (before now : StoreSeen) (e : id ≡ shape) where
   pub compiled_table : (one : OneShape) → Sound g id → CompilesShape g shape test before now (Ok one) → HasTableOf g id test before now one
   compiled_table one sound h =
-      record { is = subst (IsValueShape g) (sym e) h.0; sound = sound; compiled = subst (λ x. IsShapeCompiled g x test before now one) (sym e) h.1 }
+      record {
+        is = subst (IsValueShape g) (sym e) h.0;
+        sound = sound;
+        compiled = subst (λ x. IsShapeCompiled g x test before now one) (sym e) h.1;
+      }
 
-  pub compiled_lacks : (name : List ℕ) (stop : Stop) → CompilesShape g shape test before now (Err NoShape) → EndsWithLine (no_shape_line id) stop
+  pub compiled_lacks : (name : List ℕ) (stop : Stop) → CompilesShape g shape test before now (Err NoShape)
+      → EndsWithLine (no_shape_line id) stop
       → MakesTable g name id test before now (Err stop)
   compiled_lacks name stop h ends =
-      shape_lacks g name id test before now stop (λ there. h.0 (subst (IsValueShape g) e there)) (ap (λ (x : StoreSeen). x.refusals) h.1) ends
+      shape_lacks g name id test before now stop (λ there. h.0 (subst (IsValueShape g) e there)) (ap (λ (x : StoreSeen). x.refusals) h.1)
+      ends
 
-  pub compiled_refused : (name carrier : List ℕ) (stop : Stop) → Sound g id → CompilesShape g shape test before now (Err (is_pattern carrier))
+  pub compiled_refused : (name carrier : List ℕ) (stop : Stop) → Sound g id
+      → CompilesShape g shape test before now (Err (is_pattern carrier))
       → EndsWithPattern (pattern_line carrier) stop → MakesTable g name id test before now (Err stop)
   compiled_refused name carrier stop sound h ends =
       pattern_stops (ShapeSays g name id before now) ⊥ (Unit {0}) (pattern_line carrier) stop
-      (refuses (subst (IsValueShape g) (sym e) h.0) sound carrier (subst (λ x. IsPatternRefused g x before now carrier) (sym e) h.1) refl) tt ends
+      (refuses (subst (IsValueShape g) (sym e) h.0) sound carrier (subst (λ x. IsPatternRefused g x before now carrier) (sym e) h.1) refl)
+      tt ends
 
 -- a table that was made is one to read by
 pub table_ready : (g : GraphMaps) (shape : List ℕ) (test : Test) (before now : StoreSeen) (one : OneShape)
@@ -98,12 +108,13 @@ emptied None rest body h = tt
 emptied (Some xs) None body h = absurd h.0
 emptied (Some xs) (Some ys) body h = h.0 ∙ ap (λ r. body ++ r) h.1 ∙ append-nil body
 
-pub input_comes : (near far : BodyForm) (t : TableData) (test : Test) (s : ℕ) (input rest : Stream) (body : List ℕ) (result : Result (Vec ℕ) Stop)
+pub input_comes : (near far : BodyForm) (t : TableData) (test : Test) (s : ℕ) (input rest : Stream) (body : List ℕ)
+    (result : Result (Vec ℕ) Stop)
     → Empties input.bytes rest.bytes body → length body ≤ body_limit → StepComesTo (PrintsText near far t test s body) ⊥ (Unit {0}) result
     → InputComesTo near far t test s input rest result
 input_comes near far t test s input rest body result empties within h =
-    comes_map (PrintsText near far t test s body) (InputSays near far t test s input rest) ⊥ (Rose input.faults rest.faults) (Unit {0}) (Unit {0})
-    result (λ a says. whole body (emptied input.bytes rest.bytes body empties) within empties.1 says) (λ x. absurd x) (λ x. x) h
+    comes_map (PrintsText near far t test s body) (InputSays near far t test s input rest) ⊥ (Rose input.faults rest.faults) (Unit {0})
+    (Unit {0}) result (λ a says. whole body (emptied input.bytes rest.bytes body empties) within empties.1 says) (λ x. absurd x) (λ x. x) h
 
 pub input_past : (near far : BodyForm) (t : TableData) (test : Test) (s : ℕ) (input rest : Stream) (stop : Stop)
     → IfSome input.bytes (λ body. body_limit < length body) → EndsWithLimit body_limit_line stop
@@ -113,12 +124,13 @@ input_past near far t test s input rest stop long ends = let w = longer_input in
     (beyond w.0 w.1 w.2 refl) tt ends
 
 -- a body, by its answer
-pub text_comes : (near far : BodyForm) (t : TableData) (test : Test) (s : ℕ) (body : List ℕ) (said : TextAnswer) (result : Result (Vec ℕ) Stop)
+pub text_comes : (near far : BodyForm) (t : TableData) (test : Test) (s : ℕ) (body : List ℕ) (said : TextAnswer)
+    (result : Result (Vec ℕ) Stop)
     → TextAnswers near far t test (root_place s) body said → StepComesTo (λ a. a ≡ printed said) ⊥ (Unit {0}) result
     → StepComesTo (PrintsText near far t test s body) ⊥ (Unit {0}) result
 text_comes near far t test s body said result answers h =
-    comes_map (λ a. a ≡ printed said) (PrintsText near far t test s body) ⊥ ⊥ (Unit {0}) (Unit {0}) result (λ a is. (said, answers, is)) (λ x. x)
-    (λ x. x) h
+    comes_map (λ a. a ≡ printed said) (PrintsText near far t test s body) ⊥ ⊥ (Unit {0}) (Unit {0}) result (λ a is. (said, answers, is))
+    (λ x. x) (λ x. x) h
 
 -- the input of a shape that is served
 pub served_comes : (near far : BodyForm) (one : OneShape) (test : Test) (input rest : Stream) (result : Result (Vec ℕ) Stop)
@@ -130,15 +142,17 @@ served_comes near far one test input rest result served h =
     ((rest ≡ input) ⊎ Path Served one.served Yes) result (λ a says. by_input served says) (λ rose. (served, rose)) (λ short. inr served) h
 
 -- the whole command, by its model file
-pub body_stops : (files files1 : FilesSeen) (input : Stream) (test : Test) (store : StoreSeen) (name shape : List ℕ) (near far : BodyForm) (stop : Stop)
-    → Loads files files1 (name ∷ []) (Err stop)
-    → CommandComesTo (inputs_seen files input test store) (inputs_seen files1 input test store) (body_command name shape near far) (Err stop)
+pub body_stops : (files files1 : FilesSeen) (input : Stream) (test : Test) (store : StoreSeen) (name shape : List ℕ) (near far : BodyForm)
+    (stop : Stop) → Loads files files1 (name ∷ []) (Err stop)
+    → CommandComesTo (inputs_seen files input test store) (inputs_seen files1 input test store) (body_command name shape near far)
+    (Err stop)
 body_stops files files1 input test store name shape near far stop h =
     let before = inputs_seen files input test store in
     let after = inputs_seen files1 input test store in
     let command = body_command name shape near far in
-    stops_map (LoadAnswers files.held (name ∷ [])) (Answers before after command) (Rose files.faults files1.faults) (ReadFails before after command)
-    (Unit {0}) (StopsShort before after command) stop (λ a says. answer_before before after command a (not_loaded a says refl) refl refl)
+    stops_map (LoadAnswers files.held (name ∷ [])) (Answers before after command) (Rose files.faults files1.faults)
+    (ReadFails before after command) (Unit {0}) (StopsShort before after command) stop
+    (λ a says. answer_before before after command a (not_loaded a says refl) refl refl)
     (λ rose. inl (record { rose = rose; input = refl; refusals = refl })) (λ short. inl refl) h
 
 module _ (files files1 : FilesSeen) (test : Test) (store store1 : StoreSeen) (name shape : List ℕ) (near far : BodyForm) where
@@ -165,7 +179,8 @@ module _ (files files1 : FilesSeen) (test : Test) (store store1 : StoreSeen) (na
     by = (rose, h.refused);
     only = λ u e. ap (λ (x : Answer). x.status) is;
     says =
-        pattern (record { there = record { loaded = loaded; is = there }; sound = sound }) h.text id refl h.carrier (ap (came untouched) is);
+        pattern (record { there = record { loaded = loaded; is = there }; sound = sound }) h.text id refl h.carrier
+        (ap (came untouched) is);
     left = refl;
   }
     where
@@ -245,7 +260,8 @@ compiling_adds g shape test before now (Err no_room) h = (h.more, h.added)
 
 -- a shape that isn't served
 pub unserved_stops : (near far : BodyForm) (one : OneShape) (test : Test) (input : Stream) (path : List ℕ) (stop : Stop)
-    → Path Served one.served (Unserved path) → EndsWithLine (unserved_line path) stop → TableComesTo near far one test input input (Err stop)
+    → Path Served one.served (Unserved path) → EndsWithLine (unserved_line path) stop
+    → TableComesTo near far one test input input (Err stop)
 unserved_stops near far one test input path stop served ends =
     line_stops (TableSays near far one test input input) (Path Served one.served Yes × Rose input.faults input.faults)
     ((input ≡ input) ⊎ Path Served one.served Yes) (unserved_line path) stop (left_out path served refl refl) (inl refl) ends

@@ -2,7 +2,7 @@
 use Rattle.std.proofs.Common.{◌≡◌, ◌⊎◌, ◌<◌, ℕ, List, Option, Some, inl, inr, true, ap, sym, subst, refl, arith}
 use Rattle.sm_io.specs.Files.{Folder}
 use Rattle.sm_bodies.specs.TextLaws.{OneTextAnswer, SomeTextAnswer}
-use Rattle.sm_commands.specs.Commands.{Command, body_command, convert_command, select_command, touches_input}
+use Rattle.sm_commands.specs.Commands.{Command, GraphForm, body_command, convert_command, select_command, touches_input}
 use Rattle.sm_commands.specs.Answer.{Answer, Came, came}
 use Rattle.sm_commands.specs.Answer.InputUse.{untouched}
 use Rattle.sm_commands.specs.Stages.{Told}
@@ -18,16 +18,18 @@ use Rattle.sm_commands.proofs.OneSelect.{select_same, select_answered}
 use Rattle.sm_commands.proofs.ToldAll.{all_told}
 
 -- what two commands that read files alone come to
-abbrev ConvertComes : Option Folder → List (List ℕ) → Came → Type 0
-ConvertComes files models c = (a : Answer) × ConvertSays files models a × (c ≡ came untouched a)
+abbrev ConvertComes : Option Folder → List (List ℕ) → GraphForm → Came → Type 0
+ConvertComes files models form c = (a : Answer) × ConvertSays files models form a × (c ≡ came untouched a)
 
 abbrev SelectComes : Option Folder → List (List ℕ) → List ℕ → Came → Type 0
 SelectComes files models selector c = (a : Answer) × SelectSays files models selector a × (c ≡ came untouched a)
 
 pub one_answer : OneTextAnswer → OneAnswer
-one_answer texts t folder input (body_command model shape near far) c d all h i = body_same texts t (all_told t folder input all) model shape near far c d h i
-one_answer texts t folder input (convert_command models) c d all h i =
-    convert_same folder models c d (subst (λ x. ConvertComes x models c) all.files h) (subst (λ x. ConvertComes x models d) all.files i)
+one_answer texts t folder input (body_command model shape near far) c d all h i = body_same texts t (all_told t folder input all) model
+    shape near far c d h i
+one_answer texts t folder input (convert_command models form) c d all h i =
+    convert_same folder models form c d (subst (λ x. ConvertComes x models form c) all.files h)
+    (subst (λ x. ConvertComes x models form d) all.files i)
 one_answer texts t folder input (select_command models selector) c d all h i =
     select_same folder models selector c d (subst (λ x. SelectComes x models selector c) all.files h)
     (subst (λ x. SelectComes x models selector d) all.files i)
@@ -35,8 +37,8 @@ one_answer texts t folder input (select_command models selector) c d all h i =
 pub some_answer : SomeTextAnswer → SomeAnswer
 some_answer texts t folder input (body_command model shape near far) all there table none =
     body_answered texts t folder input all model shape near far there table none
-some_answer texts t folder input (convert_command models) all there table none =
-    convert_answered folder models there (λ c h. none c (subst (λ x. ConvertComes x models c) (sym all.files) h))
+some_answer texts t folder input (convert_command models form) all there table none =
+    convert_answered folder models form there (λ c h. none c (subst (λ x. ConvertComes x models form c) (sym all.files) h))
 some_answer texts t folder input (select_command models selector) all there table none =
     select_answered folder models selector there (λ c h. none c (subst (λ x. SelectComes x models selector c) (sym all.files) h))
 
@@ -49,12 +51,12 @@ says_reaches t (body_command model shape near far) c (pattern sound u id is firs
 says_reaches t (body_command model shape near far) c (unserved table path is e) = inl (ap (λ (x : Came). x.input) e)
 says_reaches t (body_command model shape near far) c (long_input served input is long e) = inr served
 says_reaches t (body_command model shape near far) c (by_text input a says e) = inr input.served
-says_reaches t (convert_command models) c (a, says, e) = inl (ap (λ (x : Came). x.input) e)
+says_reaches t (convert_command models form) c (a, says, e) = inl (ap (λ (x : Came). x.input) e)
 says_reaches t (select_command models selector) c (a, says, e) = inl (ap (λ (x : Came). x.input) e)
 
 reaches_touches : (t : Told) (command : Command) → ReachesInput t command → touches_input command ≡ true
 reaches_touches t (body_command model shape near far) h = refl
-reaches_touches t (convert_command models) h = absurd h
+reaches_touches t (convert_command models form) h = absurd h
 reaches_touches t (select_command models selector) h = absurd h
 
 pub input_reached : InputReached

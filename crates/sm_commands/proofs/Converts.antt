@@ -8,7 +8,7 @@ use Rattle.sm_model.specs.GraphView.{maps_of}
 use Rattle.sm_model.specs.declared.graph.Graph.{Graph}
 use Rattle.sm_commands.specs.Answer.{Answer, done}
 use Rattle.sm_commands.specs.Answer.InputUse.{untouched}
-use Rattle.sm_commands.specs.Commands.{convert_command}
+use Rattle.sm_commands.specs.Commands.{GraphForm, convert_command}
 use Rattle.sm_commands.specs.Convert.{ConvertSays, converted}
 use Rattle.sm_commands.specs.Convert.ConvertSays.{not_loaded, graph}
 use Rattle.sm_commands.specs.Loading.{LoadAnswers}
@@ -23,24 +23,27 @@ use Rattle.sm_commands.specs.steps.LoadSteps.{Loads}
 use Rattle.sm_commands.specs.declared.stop.Stop.{Stop}
 use Rattle.sm_commands.proofs.Stops.{stops_map, comes_map}
 
-pub text_comes : (files files1 : FilesSeen) (models : List (List ℕ)) (loaded : Graph) (text : Vec ℕ) → Loads files files1 models (Ok loaded)
-    → text.items ≡ converted (maps_of loaded) → Converts files files1 models (Ok text)
-text_comes files files1 models loaded text h is = graph h.0 (ap done (is ∙ ap converted h.1))
+pub text_comes : (files files1 : FilesSeen) (models : List (List ℕ)) (form : GraphForm) (loaded : Graph) (text : Vec ℕ)
+    → Loads files files1 models (Ok loaded) → text.items ≡ converted form (maps_of loaded) → Converts files files1 models form (Ok text)
+text_comes files files1 models form loaded text h is = graph h.0 (ap done (is ∙ ap (converted form) h.1))
 
-pub stop_comes : (files files1 : FilesSeen) (models : List (List ℕ)) (stop : Stop) → Loads files files1 models (Err stop)
-    → Converts files files1 models (Err stop)
-stop_comes files files1 models stop h =
-    stops_map (LoadAnswers files.held models) (ConvertSays files.held models) (Rose files.faults files1.faults)
+pub stop_comes : (files files1 : FilesSeen) (models : List (List ℕ)) (form : GraphForm) (stop : Stop) → Loads files files1 models (Err stop)
+    → Converts files files1 models form (Err stop)
+stop_comes files files1 models form stop h =
+    stops_map (LoadAnswers files.held models) (ConvertSays files.held models form) (Rose files.faults files1.faults)
     (Rose files.faults files1.faults)
     (Unit {0}) (Unit {0}) stop (λ a says. not_loaded says) (λ rose. rose) (λ short. short) h
 
 -- the command leaves the input as it is
-pub convert_comes : (files files1 : FilesSeen) (input : Stream) (test : Test) (store : StoreSeen) (models : List (List ℕ)) (result : Result (Vec ℕ) Stop)
-    → Converts files files1 models result → CommandComesTo (inputs_seen files input test store) (inputs_seen files1 input test store) (convert_command models) result
-convert_comes files files1 input test store models result h =
+pub convert_comes : (files files1 : FilesSeen) (input : Stream) (test : Test) (store : StoreSeen) (models : List (List ℕ))
+    (form : GraphForm)
+    (result : Result (Vec ℕ) Stop) → Converts files files1 models form result
+    → CommandComesTo (inputs_seen files input test store) (inputs_seen files1 input test store) (convert_command models form) result
+convert_comes files files1 input test store models form result h =
     let before : InputsSeen = inputs_seen files input test store in
     let after : InputsSeen = inputs_seen files1 input test store in
-    comes_map (ConvertSays files.held models) (Answers before after (convert_command models))
-    (Rose files.faults files1.faults) (ReadFails before after (convert_command models)) (Unit {0}) (StopsShort before after (convert_command models)) result
-    (λ a says. answer_before before after (convert_command models) a (a, says, refl) refl refl)
+    comes_map (ConvertSays files.held models form) (Answers before after (convert_command models form))
+    (Rose files.faults files1.faults) (ReadFails before after (convert_command models form)) (Unit {0})
+    (StopsShort before after (convert_command models form)) result
+    (λ a says. answer_before before after (convert_command models form) a (a, says, refl) refl refl)
     (λ rose. inl (record { rose = rose; input = refl; refusals = refl })) (λ short. inl refl) h

@@ -76,7 +76,7 @@ tree_stops f stop named h =
 pub tree_says : (f : ModelFile) (tree : Tree) (ss : Vec Statement) → EndsInJson f.name → OpensTree f.name f.bytes (Ok tree)
     → Ast (statements_view ss.items) (node_of tree) → AreFormed (statements_view ss.items) → ReadsStatements f (Ok ss)
 tree_says f tree ss named opened says formed =
-    (inl (record { is_json = named; tree = node_of tree; is_text = opened.1; says = says }), formed)
+    (inl (record { is_json = named; tree = node_of tree; is_text = opened.0; says = says }), formed)
 
 -- a file that is an IDL text
 pub text_reads : (f : ModelFile) (result : Result (Vec Statement) Stop) → (EndsInJson f.name → ⊥) → ReadsText f.name f.bytes result

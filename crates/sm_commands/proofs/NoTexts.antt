@@ -67,7 +67,8 @@ text_or_none name file none some =
     (λ j le u. no_utf8 (subst IsUtf8 (take_all j file le) u))
   where
     no_utf8 : IsUtf8 file → ⊥
-    no_utf8 u = some_answer file u (λ f idl version. some u f idl version) (λ r why. none (refused (idl_line name r)) (not_said u r why refl))
+    no_utf8 u = some_answer file u (λ f idl version. some u f idl version)
+        (λ r why. none (refused (idl_line name r)) (not_said u r why refl))
 
 -- what the code answers
 pub not_utf8_stops : (name file : List ℕ) (at : ℕ) (stop : Stop) → IsValidUpTo file at → EndsWithLine (utf8_line name at) stop

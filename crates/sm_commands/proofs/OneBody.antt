@@ -69,7 +69,8 @@ module _ (texts : OneTextAnswer) (t : Told) (whole : IsToldWhole t) (name shape 
 
   -- there is one table, which is served or not
   tables : (h i : TableMade t name shape)
-      → Path TableData (table_data h.one.table) (table_data i.one.table) × (h.one.shape ≡ i.one.shape) × Path Served h.one.served i.one.served
+      → Path TableData (table_data h.one.table) (table_data i.one.table) × (h.one.shape ≡ i.one.shape)
+      × Path Served h.one.served i.one.served
   tables h i =
       one_table i.sound.there.loaded.graph shape t.test t.store h.now i.now h.one i.one
       (subst (λ g. IsShapeCompiled g shape t.test t.store h.now h.one) (graphs h.sound.there.loaded i.sound.there.loaded) h.compiled)

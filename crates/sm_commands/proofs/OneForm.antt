@@ -1,9 +1,11 @@
 -- Words have the form of one command at most.
 use Rattle.std.proofs.Common.{◌≡◌, ◌<◌, ℕ, Bool, false, cond, List, [], ◌∷◌, ◌++◌, length, sym, ap, subst, ◌∙◌, refl}
 use Rattle.std.proofs.Common.{codes, bytes_eq, arith}
+use Rattle.std.proofs.lemmas.List.{append_cancel_left}
 use Rattle.sm_bodies.specs.declared.form.BodyForm.{BodyForm}
 use Rattle.sm_bodies.specs.declared.form.BodyForm.TheVariants.{Json, Cbor}
-use Rattle.sm_commands.specs.Commands.{AreOverModels, body_command, convert_command, select_command, form_word, IsCommandForm, IsNoForm, OneCommandForm}
+use Rattle.sm_commands.specs.Commands.{body_command, convert_command, select_command, GraphForm, as_ast, as_idl}
+use Rattle.sm_commands.specs.Commands.{AreOverModels, form_word, graph_word, IsCommandForm, IsNoForm, OneCommandForm}
 
 -- whether the first word is that of `body`
 abbrev pub says_body : List (List ℕ) → Bool
@@ -30,6 +32,19 @@ says_convert (w ∷ ws) = bytes_eq w (codes "convert")
 
 no_convert : (ws vs : List (List ℕ)) → codes "convert" ∷ ws ≡ codes "select" ∷ vs → ⊥
 no_convert ws vs e = subst (λ b. cond b (Unit {0}) ⊥) (ap says_convert e) tt
+
+-- the words for two forms of a graph differ
+abbrev says_ast : List ℕ → Bool
+says_ast w = bytes_eq w (codes "ast")
+
+no_ast : (namespace : List ℕ) → codes "ast" ≡ codes "idl:" ++ namespace → ⊥
+no_ast namespace e = subst (λ b. cond b (Unit {0}) ⊥) (ap says_ast e) tt
+
+graph_form_same : (form form1 : GraphForm) → graph_word form ≡ graph_word form1 → form ≡ form1
+graph_form_same as_ast as_ast e = refl
+graph_form_same as_ast (as_idl namespace) e = absurd (no_ast namespace e)
+graph_form_same (as_idl namespace) as_ast e = absurd (no_ast namespace (sym e))
+graph_form_same (as_idl namespace) (as_idl namespace1) e = ap as_idl (append_cancel_left (codes "idl:") namespace namespace1 e)
 
 -- what stands before a last word, and that word
 none_is_last : (xs : List (List ℕ)) (x : List ℕ) → xs ++ x ∷ [] ≡ [] → ⊥
@@ -58,14 +73,19 @@ one_form words (body_command model shape near far) (body_command model1 shape1 n
     let fars : far ≡ far1 = side_same far far1 (cc) in
     ap (λ x. body_command x shape near far) models ∙ ap (λ x. body_command model1 x near far) shapes
     ∙ ap (λ x. body_command model1 shape1 x far) nears ∙ ap (λ x. body_command model1 shape1 near1 x) fars
-one_form words (body_command model shape near far) (convert_command models) h i = absurd (no_body _ _ (codes "convert") refl (sym h ∙ i.are))
-one_form words (body_command model shape near far) (select_command models s) h i = absurd (no_body _ _ (codes "select") refl (sym h ∙ i.are))
-one_form words (convert_command models) (body_command model shape near far) h i = absurd (no_body _ _ (codes "convert") refl (sym i ∙ h.are))
-one_form words (convert_command models) (convert_command models1) h i =
-    ap convert_command (over_same words (codes "convert") models models1 (codes "ast") (codes "ast") h i).0
-one_form words (convert_command models) (select_command models1 s) h i = absurd (no_convert _ _ (sym h.are ∙ i.are))
-one_form words (select_command models s) (body_command model shape near far) h i = absurd (no_body _ _ (codes "select") refl (sym i ∙ h.are))
-one_form words (select_command models s) (convert_command models1) h i = absurd (no_convert _ _ (sym i.are ∙ h.are))
+one_form words (body_command model shape near far) (convert_command models form) h i = absurd
+    (no_body _ _ (codes "convert") refl (sym h ∙ i.are))
+one_form words (body_command model shape near far) (select_command models s) h i = absurd
+    (no_body _ _ (codes "select") refl (sym h ∙ i.are))
+one_form words (convert_command models form) (body_command model shape near far) h i = absurd
+    (no_body _ _ (codes "convert") refl (sym i ∙ h.are))
+one_form words (convert_command models form) (convert_command models1 form1) h i =
+    let both = over_same words (codes "convert") models models1 (graph_word form) (graph_word form1) h i in
+    ap (λ ms. convert_command ms form) both.0 ∙ ap (convert_command models1) (graph_form_same form form1 both.1)
+one_form words (convert_command models form) (select_command models1 s) h i = absurd (no_convert _ _ (sym h.are ∙ i.are))
+one_form words (select_command models s) (body_command model shape near far) h i = absurd
+    (no_body _ _ (codes "select") refl (sym i ∙ h.are))
+one_form words (select_command models s) (convert_command models1 form1) h i = absurd (no_convert _ _ (sym i.are ∙ h.are))
 one_form words (select_command models s) (select_command models1 s1) h i =
     let both = over_same words (codes "select") models models1 s s1 h i in
     ap (λ ms. select_command ms s) both.0 ∙ ap (λ x. select_command models1 x) both.1
@@ -73,10 +93,10 @@ one_form words (select_command models s) (select_command models1 s1) h i =
 -- words of no command's form
 pub no_form : (words : List (List ℕ))
     → ((model shape : List ℕ) (near far : BodyForm) → IsCommandForm words (body_command model shape near far) → ⊥)
-    → ((models : List (List ℕ)) → IsCommandForm words (convert_command models) → ⊥)
+    → ((models : List (List ℕ)) (form : GraphForm) → IsCommandForm words (convert_command models form) → ⊥)
     → ((models : List (List ℕ)) (selector : List ℕ) → IsCommandForm words (select_command models selector) → ⊥) → IsNoForm words
 no_form words no_body no_convert no_select (body_command model shape near far) h = no_body model shape near far h
-no_form words no_body no_convert no_select (convert_command models) h = no_convert models h
+no_form words no_body no_convert no_select (convert_command models form) h = no_convert models form h
 no_form words no_body no_convert no_select (select_command models selector) h = no_select models selector h
 
 -- words that aren't over model files: no words, another name, no last word, no model
@@ -109,12 +129,18 @@ some_model words rest before command form name is ends named some =
 
 -- words over models that aren't those of `convert`
 pub other_last : (words models others : List (List ℕ)) (name form : List ℕ) → AreOverModels words name models form
-    → (form ≡ codes "ast" → ⊥) → IsCommandForm words (convert_command others) → ⊥
-other_last words models others name form is other h =
+    → ((said : GraphForm) → form ≡ graph_word said → ⊥) → (said : GraphForm) → IsCommandForm words (convert_command others said) → ⊥
+other_last words models others name form is other said h =
     let e = sym is.are ∙ h.are in
-    let rest : models ++ form ∷ [] ≡ others ++ codes "ast" ∷ [] = cc in
-    other (last_same models others form (codes "ast") rest).1
+    let rest : models ++ form ∷ [] ≡ others ++ graph_word said ∷ [] = cc in
+    other said (last_same models others form (graph_word said) rest).1
 
-pub convert_form : (words models : List (List ℕ)) (form : List ℕ) → AreOverModels words (codes "convert") models form → form ≡ codes "ast"
-    → IsCommandForm words (convert_command models)
-convert_form words models form is last = subst (AreOverModels words (codes "convert") models) last is
+pub convert_form : (words models : List (List ℕ)) (form : List ℕ) (said : GraphForm) → AreOverModels words (codes "convert") models form
+    → form ≡ graph_word said → IsCommandForm words (convert_command models said)
+convert_form words models form said is last = subst (AreOverModels words (codes "convert") models) last is
+
+-- a word that is neither `ast` nor begins with `idl:` says no form of a graph
+pub no_graph_word : (word : List ℕ) → (word ≡ codes "ast" → ⊥) → ((rest : List ℕ) → word ≡ codes "idl:" ++ rest → ⊥)
+    → (form : GraphForm) → word ≡ graph_word form → ⊥
+no_graph_word word no_ast no_idl as_ast e = no_ast e
+no_graph_word word no_ast no_idl (as_idl namespace) e = no_idl namespace e

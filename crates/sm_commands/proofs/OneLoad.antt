@@ -100,7 +100,7 @@ said_same f s t (inr h) (inl i) = absurd (h.other_name i.is_json)
 said_same f s t (inr h) (inr i) = h.says ∙ ap (λ x. x.said) (one_file f.bytes h.file i.file h.is_text i.is_text) ∙ sym i.says
 
 none_apart : (f : ModelFile) (a : Answer) (s : List Said) → NoStatements f a → StatementsIn f s → ⊥
-none_apart f a s (no_tree named says) (inl h) = tree_denied f.name f.bytes a says h.is_json h.tree h.is_text
+none_apart f a s (no_tree named says) (inl h) = tree_denied f.name f.bytes a says h.tree h.is_text
 none_apart f a s (no_tree named says) (inr h) = h.other_name named
 none_apart f a s (no_model named n read fault e is) (inl h) =
     fault_apart n fault s e (subst (Ast s) (one_tree h.tree n f.bytes h.is_text.0 read.0) h.says)
@@ -110,9 +110,9 @@ none_apart f a s (no_text other says) (inr h) = text_denied f.name f.bytes a say
 
 none_same : (f : ModelFile) (a b : Answer) → NoStatements f a → NoStatements f b → a ≡ b
 none_same f a b (no_tree named says) (no_tree named1 says1) = no_tree_same f.name f.bytes a b says says1
-none_same f a b (no_tree named says) (no_model named1 n read fault e is) = absurd (tree_denied f.name f.bytes a says named1 n read)
+none_same f a b (no_tree named says) (no_model named1 n read fault e is) = absurd (tree_denied f.name f.bytes a says n read)
 none_same f a b (no_tree named says) (no_text other says1) = absurd (other named)
-none_same f a b (no_model named n read fault e is) (no_tree named1 says) = absurd (tree_denied f.name f.bytes b says named n read)
+none_same f a b (no_model named n read fault e is) (no_tree named1 says) = absurd (tree_denied f.name f.bytes b says n read)
 none_same f a b (no_model named n read fault e is) (no_model named1 m read1 fault1 e1 is1) =
     let one : n ≡ m = one_tree n m f.bytes read.0 read1.0 in
     let e2 : ast_fault m ≡ Some fault = subst (λ x. ast_fault x ≡ Some fault) one e in

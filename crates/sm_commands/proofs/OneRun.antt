@@ -22,8 +22,10 @@ use Rattle.sm_commands.proofs.Commanded.{one_answer}
 pattern_same : (before after : StoreSeen) (p q : Option (List ℕ)) → before.refusals < last_count → RefusedBy before after p
     → RefusedBy before after q → p ≡ q
 pattern_same before after None None below h i = refl
-pattern_same before after None (Some v) below h i = absurd (quiet_not_rose before.refusals after.refusals (record { same = h; below = below }) i.0)
-pattern_same before after (Some u) None below h i = absurd (quiet_not_rose before.refusals after.refusals (record { same = i; below = below }) h.0)
+pattern_same before after None (Some v) below h i = absurd (quiet_not_rose before.refusals after.refusals
+    (record { same = h; below = below }) i.0)
+pattern_same before after (Some u) None below h i = absurd (quiet_not_rose before.refusals after.refusals
+    (record { same = i; below = below }) h.0)
 pattern_same before after (Some u) (Some v) below h i = sym h.1 ∙ i.1
 
 -- what a command comes to, over what is told
@@ -64,7 +66,8 @@ appends_nothing before after e = subst (λ (x : Outside). Appends before.output.
     kept (Some xs) = sym (append-nil xs)
 
 -- two runs that end with answers end so alike
-ends_same : OneTextAnswer → (words : List (List ℕ)) (t : Told) (folder : Folder) (input : List ℕ) (before after before1 after1 : Outside) (status status1 : Status)
+ends_same : OneTextAnswer → (words : List (List ℕ)) (t : Told) (folder : Folder) (input : List ℕ) (before after before1 after1 : Outside)
+    (status status1 : Status)
     → TellsAll t folder input → IsAnsweredRun words t before after status → IsAnsweredRun words t before1 after1 status1
     → Prints words before after status ⊎ ((status ≡ Usage) × IsNoForm words × Path Outside after before)
     → Prints words before1 after1 status1 ⊎ ((status1 ≡ Usage) × IsNoForm words × Path Outside after1 before1)

@@ -7,10 +7,12 @@ use Rattle.sm_io.specs.Seen.{Stream}
 use Rattle.sm_commands.specs.Outside.{InputsSeen, Outside}
 use Rattle.sm_commands.specs.Commands.{Command, IsCommandForm}
 use Rattle.sm_commands.specs.Answer.{Answer, came}
-use Rattle.sm_commands.specs.Run.{code_of, told_by, LeavesInput, Answers, StopsShort, StandsAsBefore, KeepsFiles, Prints, RunEnds, RunAnswers}
+use Rattle.sm_commands.specs.Run.{code_of, told_by, LeavesInput, Answers, StopsShort, StandsAsBefore, KeepsFiles, Prints, RunEnds}
+use Rattle.sm_commands.specs.Run.{RunAnswers}
 use Rattle.sm_commands.specs.steps.CommandSteps.{CommandComesTo, PutEnds, PrintsResult}
 use Rattle.sm_commands.specs.declared.stop.Stop.{Stop}
-use Rattle.sm_commands.specs.declared.stop.Stop.TheVariants.{Refused as is_refused, Pattern as is_pattern, Limit as is_past, ReadFault as is_fault, NoMemory as is_short}
+use Rattle.sm_commands.specs.declared.stop.Stop.TheVariants.{Refused as is_refused, Pattern as is_pattern, Limit as is_past}
+use Rattle.sm_commands.specs.declared.stop.Stop.TheVariants.{ReadFault as is_fault, NoMemory as is_short}
 use Rattle.sm_commands.specs.declared.command.Status.{Status}
 use Rattle.sm_commands.specs.declared.command.Status.TheVariants.{Done, Refused, Pattern, Limit}
 use Rattle.sm_commands.proofs.Commanded.{says_reaches}

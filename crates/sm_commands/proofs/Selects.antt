@@ -58,20 +58,24 @@ graph_selects files files1 models selector graph result h is =
     comes_map (SelectorSays (maps_of graph) selector) (SelectSays files.held models selector) ⊥ (Rose files.faults files1.faults) (Unit {0})
     (Unit {0}) result (λ a says. selected h.0 (subst (λ g. SelectorSays g selector a) h.1 says)) (λ never. absurd never) (λ short. short) is
 
-pub select_stops : (files files1 : FilesSeen) (models : List (List ℕ)) (selector : List ℕ) (stop : Stop) → Loads files files1 models (Err stop)
+pub select_stops : (files files1 : FilesSeen) (models : List (List ℕ)) (selector : List ℕ) (stop : Stop)
+    → Loads files files1 models (Err stop)
     → Selects files files1 models selector (Err stop)
 select_stops files files1 models selector stop h =
     stops_map (LoadAnswers files.held models) (SelectSays files.held models selector) (Rose files.faults files1.faults)
     (Rose files.faults files1.faults) (Unit {0}) (Unit {0}) stop (λ a says. not_loaded says) (λ rose. rose) (λ short. short) h
 
 -- it leaves the input as it is
-pub select_comes : (files files1 : FilesSeen) (input : Stream) (test : Test) (store : StoreSeen) (models : List (List ℕ)) (selector : List ℕ) (result : Result (Vec ℕ) Stop)
-    → Selects files files1 models selector result → CommandComesTo (inputs_seen files input test store) (inputs_seen files1 input test store) (select_command models selector) result
+pub select_comes : (files files1 : FilesSeen) (input : Stream) (test : Test) (store : StoreSeen) (models : List (List ℕ))
+    (selector : List ℕ) (result : Result (Vec ℕ) Stop)
+    → Selects files files1 models selector result → CommandComesTo (inputs_seen files input test store)
+    (inputs_seen files1 input test store) (select_command models selector) result
 select_comes files files1 input test store models selector result h =
     let before : InputsSeen = inputs_seen files input test store in
     let after : InputsSeen = inputs_seen files1 input test store in
     comes_map (SelectSays files.held models selector) (Answers before after (select_command models selector))
-    (Rose files.faults files1.faults) (ReadFails before after (select_command models selector)) (Unit {0}) (StopsShort before after (select_command models selector)) result
+    (Rose files.faults files1.faults) (ReadFails before after (select_command models selector)) (Unit {0})
+    (StopsShort before after (select_command models selector)) result
     (λ a says. answer_before before after (select_command models selector) a (a, says, refl) refl refl)
     (λ rose. inl (record { rose = rose; input = refl; refusals = refl })) (λ short. inl refl) h
 

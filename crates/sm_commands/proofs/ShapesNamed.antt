@@ -45,10 +45,12 @@ value_there g id unsound = by_entry (fin.get g.shapes id) refl
         let kinds : has_values w.0.kind ≡ false = entry_kind s w.0 same has in
         let both : true ≡ false = sym w.2 ∙ kinds in cc))
       where
-        entry_kind : (s r : ShapeEntry) → Some (shape_entry s) ≡ Some (shape_entry r) → has_values s.kind ≡ false → has_values r.kind ≡ false
+        entry_kind : (s r : ShapeEntry) → Some (shape_entry s) ≡ Some (shape_entry r) → has_values s.kind ≡ false
+            → has_values r.kind ≡ false
         entry_kind s r e is = let one : s ≡ r = cc in subst (λ (x : ShapeEntry). has_values x.kind ≡ false) one is
 
     by_entry : (o : Option Entry) → fin.get g.shapes id ≡ o → IsValueShape g id
     by_entry None is = absurd (empty (λ w. none_there g id is w))
     by_entry (Some (shape_entry s)) is = by_kind (has_values s.kind) s is refl
-    by_entry (Some (member_entry m)) is = absurd (empty (λ w. let same : Some (member_entry m) ≡ Some (shape_entry w.0) = sym is ∙ w.1 in cc))
+    by_entry (Some (member_entry m)) is =
+        absurd (empty (λ w. let same : Some (member_entry m) ≡ Some (shape_entry w.0) = sym is ∙ w.1 in cc))

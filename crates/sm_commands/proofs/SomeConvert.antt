@@ -3,13 +3,14 @@ use Rattle.std.proofs.Common.{◌≡◌, ℕ, List, Some, refl}
 use Rattle.sm_io.specs.Files.{Folder}
 use Rattle.sm_commands.specs.Answer.{Answer, Came, came, done}
 use Rattle.sm_commands.specs.Answer.InputUse.{untouched}
+use Rattle.sm_commands.specs.Commands.{GraphForm}
 use Rattle.sm_commands.specs.Convert.{ConvertSays, converted}
 use Rattle.sm_commands.specs.Convert.ConvertSays.{not_loaded, graph}
 use Rattle.sm_commands.specs.Says.{AreThere}
 use Rattle.sm_commands.proofs.SomeLoad.{load_answered}
 
-pub convert_answered : (folder : Folder) (models : List (List ℕ)) → AreThere folder models
-    → ((c : Came) → ((a : Answer) × ConvertSays (Some folder) models a × (c ≡ came untouched a)) → ⊥) → ⊥
-convert_answered folder models there none =
+pub convert_answered : (folder : Folder) (models : List (List ℕ)) (form : GraphForm) → AreThere folder models
+    → ((c : Came) → ((a : Answer) × ConvertSays (Some folder) models form a × (c ≡ came untouched a)) → ⊥) → ⊥
+convert_answered folder models form there none =
     load_answered folder models there (λ a says. none (came untouched a) (a, not_loaded says, refl))
-    (λ l. none (came untouched (done (converted l.graph))) (done (converted l.graph), graph l refl, refl))
+    (λ l. none (came untouched (done (converted form l.graph))) (done (converted form l.graph), graph l refl, refl))

@@ -77,7 +77,7 @@ module _ (f : ModelFile) (none : (a : Answer) → NoStatements f a → ⊥) (som
 
   other_name : EndsInJson f.name → ⊥
   other_name named =
-      tree_or_none f.name f.bytes (λ a says. none a (no_tree named says)) (λ json n read. with_fault json n read (ast_fault n) refl)
+      tree_or_none f.name f.bytes (λ a says. none a (no_tree named says)) (λ n read. with_fault named n read (ast_fault n) refl)
 
   pub file_answered : ⊥
   file_answered = text_or_none f.name f.bytes (λ a says. none a (no_text other_name says)) (λ u file idl version.

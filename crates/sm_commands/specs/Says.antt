@@ -15,13 +15,13 @@ use Rattle.sm_commands.specs.Select.{SelectSays}
 
 abbrev pub Says : Told → Command → Came → Type 0
 Says t (body_command model shape near far) c = BodySays t model shape near far c
-Says t (convert_command models) c = (a : Answer) × ConvertSays t.files models a × (c ≡ came untouched a)
+Says t (convert_command models form) c = (a : Answer) × ConvertSays t.files models form a × (c ≡ came untouched a)
 Says t (select_command models selector) c = (a : Answer) × SelectSays t.files models selector a × (c ≡ came untouched a)
 
 -- the stage from which the command reads the input: nothing that stands before it is refused
 abbrev pub ReachesInput : Told → Command → Type 0
 ReachesInput t (body_command model shape near far) = ShapeServed t model shape
-ReachesInput t (convert_command models) = ⊥
+ReachesInput t (convert_command models form) = ⊥
 ReachesInput t (select_command models selector) = ⊥
 
 -- the files and the input are told, by all their bytes
@@ -42,7 +42,7 @@ AreThere folder names = (name : List ℕ) → Contains names name → (file : Li
 abbrev pub HasTable : Told → Command → Type 0
 HasTable t (body_command model shape near far) = (h : ShapeSound t model shape)
     → ((now : StoreSeen) (one : OneShape) → IsShapeCompiled h.there.loaded.graph shape t.test t.store now one → ⊥) → ⊥
-HasTable t (convert_command models) = Unit {0}
+HasTable t (convert_command models form) = Unit {0}
 HasTable t (select_command models selector) = Unit {0}
 
 -- a law: where the files are there that a command may read, and a sound shape has a table, it comes to something, said by two denials.
@@ -55,4 +55,5 @@ SomeAnswer = (t : Told) (folder : Folder) (input : List ℕ) (command : Command)
 -- that touches it
 abbrev pub InputReached : Type 0
 InputReached = (t : Told) (command : Command)
-    → ((c : Came) → Says t command c → (c.input ≡ untouched) ⊎ ReachesInput t command) × (ReachesInput t command → touches_input command ≡ true)
+    → ((c : Came) → Says t command c → (c.input ≡ untouched) ⊎ ReachesInput t command)
+    × (ReachesInput t command → touches_input command ≡ true)

@@ -126,15 +126,15 @@ fn print<K: Sink>(out: &mut K, came: Result<Vec<u8>, Stop>) -> Status
     }
 }
 
-/// Does what the words ask for, and answers the status of the process. `body MODELFILE SHAPE NEAR FAR` prints the far body of the value that the
-/// input spells (0), or the line of the first thing that is refused: the model file (7 or 1, as for `convert`), the shape (1), a pattern
-/// that it reaches (6), a shape whose values can't be carried (1); the input's length (7), its syntax, its faults, a leaf that the far
-/// side doesn't carry (1). NEAR and FAR are `json` or `cbor`.
-/// The input is touched only where nothing that stands before it is refused. `convert MODEL+ ast` prints the graph that model
-/// files merge to as one text of the JSON AST (0), or the lines of the first that is refused: the number of its files, their
-/// lengths (7), their texts and models, file by file (1), the size of the graph (7), all that is wrong with it (1); it doesn't
-/// touch the input. `select MODEL+ SELECTOR` prints the ids that the selector picks in their graph, one a line (0); what `convert`
-/// refuses is refused here too, and then a text that is no selector (1).
+/// Does what the words ask for, and answers the status of the process. `body MODELFILE SHAPE NEAR FAR` prints the far body of the value
+/// that the input spells (0), or the line of the first thing that is refused: the model file (7 or 1, as for `convert`), the shape (1), a
+/// pattern that it reaches (6), a shape whose values can't be carried (1); the input's length (7), its syntax, its faults, a leaf that
+/// the far side doesn't carry (1). NEAR and FAR are `json` or `cbor`.
+/// The input is touched only where nothing that stands before it is refused. `convert MODEL+ FORM` prints the graph that model files merge
+/// to, as its one text of the JSON AST where FORM is `ast`, and as that of a namespace in the IDL where it is `idl:NAMESPACE` (0); or the
+/// lines of the first that is refused: the number of its files, their lengths (7), their texts and models, file by file (1), the size of
+/// the graph (7), all that is wrong with it (1); it doesn't touch the input. `select MODEL+ SELECTOR` prints the ids that the selector
+/// picks in their graph, one a line (0); what `convert` refuses is refused here too, and then a text that is no selector (1).
 ///
 /// 2: the words have no form, and nothing is touched. 3: a read of the file or of the input failed, and nothing
 /// is put. 4: the output failed, and holds a prefix of what was to be put. 5: memory ran out, and nothing is put.

@@ -7,7 +7,7 @@ ghost use Rattle.sm_commands.specs.Stages.{EndsInJson};
 ghost use Rattle.sm_commands.specs.steps.CommandSteps.{EndsWithLine};
 ghost use Rattle.sm_commands.specs.steps.FileSteps.{OpensFile, OpensTree};
 
-use crate::lines::{json_line, limit_line, line};
+use crate::lines::{json_line, limit_line};
 use crate::stop::{Stop, past, refused};
 use sm_io::{FileRefusal, Files};
 use sm_json::read_tree;
@@ -52,13 +52,10 @@ fn no_text(alloc: Global, name: &str, refusal: SyntaxRefusal) -> Stop
     refused(json_line(alloc, name, refusal))
 }
 
-/// The tree of a file of this name with these bytes. Else the line of a file of another form, or of one that is no JSON text.
+/// The tree of a file in the JSON AST, of this name and with these bytes, or the line of one that is no JSON text.
 pub(crate) fn tree_in(alloc: Global, name: &str, file: &[u8]) -> Result<Tree, Stop>
     ensures { OpensTree name.now file.now result }
 {
-    if !ends_in_json(name) {
-        return Err(refused(line(alloc, "Unbuilt", name)));
-    }
     match read_tree(alloc, file) {
         Ok(tree) => Ok(tree),
         Err(refusal) => match refusal {

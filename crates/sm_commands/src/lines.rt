@@ -5,9 +5,14 @@ ghost use Rattle.sm_tree.specs.Pointer.{pointer};
 ghost use Rattle.sm_model.specs.EventView.{AreErrors, event_view, events_view};
 ghost use Rattle.sm_ast.specs.Answers.{Tells};
 ghost use Rattle.sm_ast.specs.Faults.{AstFault};
-ghost use Rattle.sm_commands.specs.Lines.{broken_selector_line as the_broken_line, other_selector_line as the_other_line, id_lines as the_id_lines};
-ghost use Rattle.sm_commands.specs.Lines.{detail_part, event_line, error_lines as the_error_lines, severity_word as the_severity_word, size_limit, size_limit_word};
-ghost use Rattle.sm_commands.specs.Lines.{line as the_line, fault_line as the_fault_line, limit_line as the_limit_line, size_limit_line as the_size_limit_line, syntax_line as the_syntax_line, syntax_text as the_syntax_text, json_line as the_json_line, ast_line as the_ast_line, ast_text as the_ast_text};
+ghost use Rattle.sm_commands.specs.Lines.{broken_selector_line as the_broken_line, other_selector_line as the_other_line};
+ghost use Rattle.sm_commands.specs.Lines.{id_lines as the_id_lines};
+ghost use Rattle.sm_commands.specs.Lines.{detail_part, event_line, error_lines as the_error_lines, severity_word as the_severity_word};
+ghost use Rattle.sm_commands.specs.Lines.{size_limit, size_limit_word};
+ghost use Rattle.sm_commands.specs.Lines.{line as the_line, fault_line as the_fault_line, limit_line as the_limit_line};
+ghost use Rattle.sm_commands.specs.Lines.{size_limit_line as the_size_limit_line, syntax_line as the_syntax_line};
+ghost use Rattle.sm_commands.specs.Lines.{syntax_text as the_syntax_text, json_line as the_json_line, ast_line as the_ast_line};
+ghost use Rattle.sm_commands.specs.Lines.{ast_text as the_ast_text};
 
 use sm_ast::AstRefusal;
 use sm_ids::ShapeId;

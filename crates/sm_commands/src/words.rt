@@ -1,7 +1,8 @@
 // The words of a command, and the forms that they may have.
 ghost use Rattle.std.specs.Prelude.{◌≡◌, ◌↔◌, List, ℕ, [], ◌∷◌, ◌++◌, IsTrue, MatchOption};
-ghost use Rattle.sm_commands.specs.Commands.{AreOverModels, IsCommandForm, IsNoForm, body_command, convert_command, form_word, select_command};
-ghost use Rattle.sm_commands.specs.steps.Asked.{command_of};
+ghost use Rattle.sm_commands.specs.Commands.{AreOverModels, GraphForm, IsCommandForm, IsNoForm, form_word, graph_word};
+ghost use Rattle.sm_commands.specs.Commands.{body_command, convert_command, select_command};
+ghost use Rattle.sm_commands.specs.steps.Asked.{command_of, graph_form};
 
 use sm_bodies::BodyForm;
 use sm_tree::Text;
@@ -19,11 +20,22 @@ pub struct BodyWords<'a> {
     pub far: BodyForm,
 }
 
-/// The words of `convert MODEL+ ast`.
+/// The forms in which `convert` writes a graph.
+#[derive(Debug, Clone, Copy)]
+pub enum ConvertForm<'a> {
+    /// `ast`: the JSON AST.
+    Ast,
+    /// `idl:NAMESPACE`: a namespace in the IDL. Any text may stand for the namespace.
+    Idl(&'a str),
+}
+
+/// The words of `convert MODEL+ FORM`.
 #[derive(Debug, Clone, Copy)]
 pub struct ConvertWords<'a> {
     /// The names of the model files, in their order.
     pub models: &'a [Text],
+    /// The form in which their graph is written.
+    pub form: ConvertForm<'a>,
 }
 
 /// The words of `select MODEL+ SELECTOR`.
@@ -40,7 +52,7 @@ pub struct SelectWords<'a> {
 pub enum Form<'a> {
     /// `body MODELFILE SHAPE NEAR FAR`.
     Body(BodyWords<'a>),
-    /// `convert MODEL+ ast`.
+    /// `convert MODEL+ FORM`.
     Convert(ConvertWords<'a>),
     /// `select MODEL+ SELECTOR`.
     Select(SelectWords<'a>),
@@ -104,16 +116,31 @@ fn side_named(word: &Text) -> Option<BodyForm>
 // The words of `convert`, where they have its form.
 fn convert_words(words: &[Text]) -> Option<ConvertWords<'_>>
     ensures { MatchOption result
-        ((models : List (List ℕ)) → IsCommandForm words.now (convert_command models) → ⊥)
-        (λ form. IsCommandForm words.now (convert_command form.models.now)) }
+        ((models : List (List ℕ)) (form : GraphForm) → IsCommandForm words.now (convert_command models form) → ⊥)
+        (λ found. IsCommandForm words.now (convert_command found.models.now (graph_form found.form))) }
 {
     let Some((models, last)) = model_words(words, "convert") else {
         return None;
     };
-    if !is_word(last, "ast") {
-        return None;
+    match graph_form_named(last.as_str()) {
+        Some(form) => Some(ConvertWords { models, form }),
+        None => None,
     }
-    Some(ConvertWords { models })
+}
+
+// The form of a graph that a word names.
+fn graph_form_named(word: &str) -> Option<ConvertForm<'_>>
+    ensures { MatchOption result
+        ((form : GraphForm) → word.now ≡ graph_word form → ⊥)
+        (λ form. word.now ≡ graph_word (graph_form form)) }
+{
+    if word == "ast" {
+        return Some(ConvertForm::Ast);
+    }
+    match word.strip_prefix("idl:") {
+        Some(namespace) => Some(ConvertForm::Idl(namespace)),
+        None => None,
+    }
 }
 
 // The words of `select`, where they have its form.

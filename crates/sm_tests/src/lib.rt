@@ -5,6 +5,8 @@
 #[cfg(test)]
 mod commands;
 #[cfg(test)]
+mod idl;
+#[cfg(test)]
 mod io;
 #[cfg(test)]
 mod models;

@@ -14,8 +14,8 @@ use std::process::ExitCode;
 const HELP: &str = "\
 sm_tool body MODELFILE SHAPE NEAR FAR
     Reads a body of the shape from standard input in the form NEAR, and prints it in the form FAR: json or cbor.
-sm_tool convert MODEL.. ast
-    Merges model files, and prints their graph as one text of the JSON AST.
+sm_tool convert MODEL.. FORM
+    Merges model files, and prints their graph: as a text of the JSON AST (ast), or a namespace of it in the IDL (idl:NAMESPACE).
 sm_tool select MODEL.. SELECTOR
     Prints the ids of the shapes and members that a selector picks in their graph.
 sm_tool --help

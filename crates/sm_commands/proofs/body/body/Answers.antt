@@ -9,25 +9,32 @@ returns-in-Err-clause-comes g c =
     body_stops (files_seen (g.F.Files.held c.args.files.now) (g.F.Files.read_faults c.args.files.now))
     (files_seen (g.F.Files.held c.load_file.new.files) (g.F.Files.read_faults c.load_file.new.files))
     (stream (g.S.Source.left c.args.input.now) (g.S.Source.faults c.args.input.now)) g.P.Patterns.test
-    (seen_store (g.P.Patterns.added c.args.patterns.now) (g.P.Patterns.refused c.args.patterns.now) (g.P.Patterns.refusals c.args.patterns.now))
+    (seen_store (g.P.Patterns.added c.args.patterns.now) (g.P.Patterns.refused c.args.patterns.now)
+    (g.P.Patterns.refusals c.args.patterns.now))
     c.args.words.model.now c.args.words.shape.now c.args.words.near c.args.words.far c.in-Err.stop c.in-Err.ensures.loads
 
 pub far_of_shape-requires : goal.far_of_shape-requires
 far_of_shape-requires g c =
     table_ready (maps_of c.in-Ok.graph) c.args.words.shape.now g.P.Patterns.test
-    (seen_store (g.P.Patterns.added c.args.patterns.now) (g.P.Patterns.refused c.args.patterns.now) (g.P.Patterns.refusals c.args.patterns.now))
-    (seen_store (g.P.Patterns.added c.table_named-made.new.patterns) (g.P.Patterns.refused c.table_named-made.new.patterns) (g.P.Patterns.refusals c.table_named-made.new.patterns))
+    (seen_store (g.P.Patterns.added c.args.patterns.now) (g.P.Patterns.refused c.args.patterns.now)
+    (g.P.Patterns.refusals c.args.patterns.now))
+    (seen_store (g.P.Patterns.added c.table_named-made.new.patterns) (g.P.Patterns.refused c.table_named-made.new.patterns)
+    (g.P.Patterns.refusals c.table_named-made.new.patterns))
     c.in-Ok-made.one c.in-Ok-made.ensures.makes
 
 pub returns-in-Ok-made-clause-comes : goal.returns-in-Ok-made-clause-comes
 returns-in-Ok-made-clause-comes g c =
     body_by (files_seen (g.F.Files.held c.args.files.now) (g.F.Files.read_faults c.args.files.now))
     (files_seen (g.F.Files.held c.load_file.new.files) (g.F.Files.read_faults c.load_file.new.files)) g.P.Patterns.test
-    (seen_store (g.P.Patterns.added c.args.patterns.now) (g.P.Patterns.refused c.args.patterns.now) (g.P.Patterns.refusals c.args.patterns.now))
-    (seen_store (g.P.Patterns.added c.far_of_shape.new.patterns) (g.P.Patterns.refused c.far_of_shape.new.patterns) (g.P.Patterns.refusals c.far_of_shape.new.patterns))
-    c.args.words.model.now c.args.words.shape.now c.args.words.near c.args.words.far (stream (g.S.Source.left c.args.input.now) (g.S.Source.faults c.args.input.now))
+    (seen_store (g.P.Patterns.added c.args.patterns.now) (g.P.Patterns.refused c.args.patterns.now)
+    (g.P.Patterns.refusals c.args.patterns.now))
+    (seen_store (g.P.Patterns.added c.far_of_shape.new.patterns) (g.P.Patterns.refused c.far_of_shape.new.patterns)
+    (g.P.Patterns.refusals c.far_of_shape.new.patterns))
+    c.args.words.model.now c.args.words.shape.now c.args.words.near c.args.words.far
+    (stream (g.S.Source.left c.args.input.now) (g.S.Source.faults c.args.input.now))
     (stream (g.S.Source.left c.far_of_shape.new.input) (g.S.Source.faults c.far_of_shape.new.input)) c.in-Ok.graph
-    (seen_store (g.P.Patterns.added c.table_named-made.new.patterns) (g.P.Patterns.refused c.table_named-made.new.patterns) (g.P.Patterns.refusals c.table_named-made.new.patterns))
+    (seen_store (g.P.Patterns.added c.table_named-made.new.patterns) (g.P.Patterns.refused c.table_named-made.new.patterns)
+    (g.P.Patterns.refusals c.table_named-made.new.patterns))
     c.in-Ok-made.one c.far_of_shape.result c.in-Ok.ensures.loads c.in-Ok-made.ensures.makes c.far_of_shape.ensures.refusals
     c.far_of_shape.ensures.comes
 
@@ -35,6 +42,10 @@ pub returns-in-Err-made-clause-comes : goal.returns-in-Err-made-clause-comes
 returns-in-Err-made-clause-comes g c =
     body_refuses (files_seen (g.F.Files.held c.args.files.now) (g.F.Files.read_faults c.args.files.now))
     (files_seen (g.F.Files.held c.load_file.new.files) (g.F.Files.read_faults c.load_file.new.files)) g.P.Patterns.test
-    (seen_store (g.P.Patterns.added c.args.patterns.now) (g.P.Patterns.refused c.args.patterns.now) (g.P.Patterns.refusals c.args.patterns.now))
-    (seen_store (g.P.Patterns.added c.table_named-made.new.patterns) (g.P.Patterns.refused c.table_named-made.new.patterns) (g.P.Patterns.refusals c.table_named-made.new.patterns))
-    c.args.words.model.now c.args.words.shape.now c.args.words.near c.args.words.far (stream (g.S.Source.left c.args.input.now) (g.S.Source.faults c.args.input.now)) c.in-Ok.graph c.in-Err-made.stop c.in-Ok.ensures.loads c.in-Err-made.ensures.makes
+    (seen_store (g.P.Patterns.added c.args.patterns.now) (g.P.Patterns.refused c.args.patterns.now)
+    (g.P.Patterns.refusals c.args.patterns.now))
+    (seen_store (g.P.Patterns.added c.table_named-made.new.patterns) (g.P.Patterns.refused c.table_named-made.new.patterns)
+    (g.P.Patterns.refusals c.table_named-made.new.patterns))
+    c.args.words.model.now c.args.words.shape.now c.args.words.near c.args.words.far
+    (stream (g.S.Source.left c.args.input.now) (g.S.Source.faults c.args.input.now)) c.in-Ok.graph c.in-Err-made.stop
+    c.in-Ok.ensures.loads c.in-Err-made.ensures.makes

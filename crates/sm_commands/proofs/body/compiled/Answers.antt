@@ -13,7 +13,8 @@ compile_shape-requires g c = record { sound = subst (Sound (maps_of c.args.graph
 
 pub returns-in-Ok-clause-makes : goal.returns-in-Ok-clause-makes
 returns-in-Ok-clause-makes g c =
-    let before = seen_store (g.P.Patterns.added c.args.patterns.now) (g.P.Patterns.refused c.args.patterns.now) (g.P.Patterns.refusals c.args.patterns.now) in
+    let before = seen_store (g.P.Patterns.added c.args.patterns.now) (g.P.Patterns.refused c.args.patterns.now)
+    (g.P.Patterns.refusals c.args.patterns.now) in
     let now = seen_store (g.P.Patterns.added c.compile_shape.new.patterns) (g.P.Patterns.refused c.compile_shape.new.patterns)
     (g.P.Patterns.refusals c.compile_shape.new.patterns) in
     λ name. compiled_table (maps_of c.args.graph.now) c.args.id.now (printed (id_of c.as_ref-shape.result)) g.P.Patterns.test before now
@@ -21,7 +22,8 @@ returns-in-Ok-clause-makes g c =
 
 pub returns-in-Err-NoShape-clause-makes : goal.returns-in-Err-NoShape-clause-makes
 returns-in-Err-NoShape-clause-makes g c =
-    let before = seen_store (g.P.Patterns.added c.args.patterns.now) (g.P.Patterns.refused c.args.patterns.now) (g.P.Patterns.refusals c.args.patterns.now) in
+    let before = seen_store (g.P.Patterns.added c.args.patterns.now) (g.P.Patterns.refused c.args.patterns.now)
+    (g.P.Patterns.refusals c.args.patterns.now) in
     let now = seen_store (g.P.Patterns.added c.compile_shape.new.patterns) (g.P.Patterns.refused c.compile_shape.new.patterns)
     (g.P.Patterns.refusals c.compile_shape.new.patterns) in
     let none = rw c.in-Err-NoShape.field-0-is at c.in-Err-NoShape.ensures in
@@ -31,10 +33,12 @@ returns-in-Err-NoShape-clause-makes g c =
 
 pub returns-in-Err-Pattern-clause-makes : goal.returns-in-Err-Pattern-clause-makes
 returns-in-Err-Pattern-clause-makes g c =
-    let before = seen_store (g.P.Patterns.added c.args.patterns.now) (g.P.Patterns.refused c.args.patterns.now) (g.P.Patterns.refusals c.args.patterns.now) in
+    let before = seen_store (g.P.Patterns.added c.args.patterns.now) (g.P.Patterns.refused c.args.patterns.now)
+    (g.P.Patterns.refusals c.args.patterns.now) in
     let now = seen_store (g.P.Patterns.added c.compile_shape.new.patterns) (g.P.Patterns.refused c.compile_shape.new.patterns)
     (g.P.Patterns.refusals c.compile_shape.new.patterns) in
     let one = rw c.in-Err-Pattern.field-0-is at c.in-Err-Pattern.ensures in
     λ name. compiled_refused (maps_of c.args.graph.now) c.args.id.now (printed (id_of c.as_ref-shape.result)) g.P.Patterns.test before now
     c.as_ref-shape.ensures.spelled name c.in-Err-Pattern.carrier c.refused_pattern.result c.requires one
-    (c.refused_pattern.ensures (pattern_line c.in-Err-Pattern.carrier) (rw c.as_str-in-Err-Pattern.ensures at c.line-in-Err-Pattern.ensures))
+    (c.refused_pattern.ensures (pattern_line c.in-Err-Pattern.carrier)
+    (rw c.as_str-in-Err-Pattern.ensures at c.line-in-Err-Pattern.ensures))

@@ -14,7 +14,8 @@ returns-in-Some-clause-answers g c =
       inputs =
           inputs_seen (files_seen (g.F.Files.held c.args.files.now) (g.F.Files.read_faults c.args.files.now))
           (stream (g.S.Source.left c.args.input.now) (g.S.Source.faults c.args.input.now)) g.P.Patterns.test
-          (seen_store (g.P.Patterns.added c.args.patterns.now) (g.P.Patterns.refused c.args.patterns.now) (g.P.Patterns.refusals c.args.patterns.now));
+          (seen_store (g.P.Patterns.added c.args.patterns.now) (g.P.Patterns.refused c.args.patterns.now)
+          (g.P.Patterns.refusals c.args.patterns.now));
       output = stream (g.K.Sink.written c.args.out.now) (g.K.Sink.faults c.args.out.now);
     } in
     let after : Outside = record {

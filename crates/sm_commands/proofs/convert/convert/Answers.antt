@@ -2,6 +2,7 @@ use Rattle.std.proofs.Common.{subst, sym}
 use Rattle.sm_io.specs.Seen.{files_seen}
 use Rattle.sm_tree.specs.Json.{IsJson}
 use Rattle.sm_ast.specs.Written.{written_ast}
+use Rattle.sm_commands.specs.steps.Asked.{graph_form}
 use Rattle.sm_commands.proofs.Converts.{stop_comes, text_comes}
 use Rattle.sm_commands.proofs.MergedJson.{loaded_json}
 use Rattle.sm_commands.proofs.convert.convert.Goals as goal
@@ -15,10 +16,11 @@ pub returns-in-Ok-graph_text-clause-comes : goal.returns-in-Ok-graph_text-clause
 returns-in-Ok-graph_text-clause-comes g c =
     text_comes (files_seen (g.F.Files.held c.args.files.now) (g.F.Files.read_faults c.args.files.now))
     (files_seen (g.F.Files.held c.load.new.files) (g.F.Files.read_faults c.load.new.files))
-    c.args.words.models.now c.in-Ok.graph c.in-Ok-graph_text.text c.in-Ok.ensures.loads c.in-Ok-graph_text.ensures
+    c.args.words.models.now (graph_form c.args.words.form) c.in-Ok.graph c.in-Ok-graph_text.text c.in-Ok.ensures.loads
+    c.in-Ok-graph_text.ensures
 
 pub returns-in-Err-clause-comes : goal.returns-in-Err-clause-comes
 returns-in-Err-clause-comes g c =
     stop_comes (files_seen (g.F.Files.held c.args.files.now) (g.F.Files.read_faults c.args.files.now))
     (files_seen (g.F.Files.held c.load.new.files) (g.F.Files.read_faults c.load.new.files))
-    c.args.words.models.now c.in-Err.stop c.in-Err.ensures.loads
+    c.args.words.models.now (graph_form c.args.words.form) c.in-Err.stop c.in-Err.ensures.loads

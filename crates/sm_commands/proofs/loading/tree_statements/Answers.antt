@@ -20,5 +20,5 @@ pub returns : goal.returns
 returns c = λ named.
     let opened = subst (λ bytes. OpensTree c.args.name.now bytes (Ok c.in-Ok.tree)) c.deref.ensures.value c.in-Ok.ensures in
     model_refused (file_of c.args.name.now c.args.bytes.items)
-    (node_of c.in-Ok.tree) c.in-Err-read_ast.refusal c.no_model.result opened.0 opened.1
+    (node_of c.in-Ok.tree) c.in-Err-read_ast.refusal c.no_model.result named opened.0
     c.in-Err-read_ast.ensures.statements c.in_default.not-NoMemory c.no_model.ensures

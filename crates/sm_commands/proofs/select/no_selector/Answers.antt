@@ -11,5 +11,6 @@ returns-in-Syntax c = λ g text is.
 
 pub returns-in-OutOfProfile : goal.returns-in-OutOfProfile
 returns-in-OutOfProfile c = λ g text is.
-    other_told g text c.in-OutOfProfile.at c.refused-in-OutOfProfile.result (subst (λ r. ParsesSelector text (Err r)) c.in-OutOfProfile.is is)
+    other_told g text c.in-OutOfProfile.at c.refused-in-OutOfProfile.result
+    (subst (λ r. ParsesSelector text (Err r)) c.in-OutOfProfile.is is)
     (c.refused-in-OutOfProfile.ensures (other_selector_line c.in-OutOfProfile.at) c.other_selector_line.ensures)
