@@ -1,4 +1,5 @@
 // What stands behind a case: its answer, but for a part of a text.
+use crate::judged::show_asked;
 use crate::refusal::show_refusal;
 use crate::row::Row;
 use crate::selector::show_selector;
@@ -49,6 +50,7 @@ impl Player for Models {
             }
             Row::Selector(text) => show_selector(alloc, text, out)?,
             Row::Uri(text) => show_uri(alloc, text, out)?,
+            Row::Shape(asked, id, text) => show_asked(alloc, asked, id, text, out)?,
             Row::Unknown => out.push_str(" => no row")?,
         }
         Ok(())
