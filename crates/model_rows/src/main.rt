@@ -1,14 +1,16 @@
-// Plays rows of text on the readers of models: a row is a case, and comes out with its answer. Rows are written by hand
+// Plays rows of text on the readers and the compiler of models: a row is a case, and comes out with its answer. Rows are written by hand
 // (README.md has their notation), so a table of cases is proved by nobody and read by everybody.
 #![tactic(auto)]
 
 mod idl;
+mod judged;
 mod node;
 mod play;
 mod refusal;
 mod row;
 mod selector;
 mod statement;
+mod table;
 mod uri;
 
 use play::Models;

@@ -1,5 +1,6 @@
 // What stands behind a case: its answer, but for a part of a text.
 use crate::idl::{show_cuts, show_idl, show_quoted};
+use crate::judged::show_asked;
 use crate::refusal::show_refusal;
 use crate::row::Row;
 use crate::selector::show_selector;
@@ -61,6 +62,7 @@ impl Player for Models {
             }
             Row::Cuts(text) => show_cuts(alloc, text, out)?,
             Row::Uri(text) => show_uri(alloc, text, out)?,
+            Row::Shape(asked, id, text) => show_asked(alloc, asked, id, text, out)?,
             Row::Unknown => out.push_str(" => no row")?,
         }
         Ok(())

@@ -1,4 +1,5 @@
 // What a line of text says.
+use crate::judged::Asked;
 
 /// A row.
 #[derive(Debug, Clone, Copy)]
@@ -23,6 +24,9 @@ pub enum Row<'a> {
     Cuts(&'a str),
     /// `uri TEXT`: to read the text as a pattern of URIs.
     Uri(&'a str),
+    /// `sound ID TEXT`, `table ID TEXT`, `refusing N ID TEXT`: what is asked of the shape with this id, in the model that the text
+    /// says.
+    Shape(Asked, &'a str, &'a str),
     /// Any other line.
     Unknown,
 }
@@ -45,7 +49,29 @@ impl<'a> Row<'a> {
             Some(("line", text)) => Row::Line(text),
             Some(("cuts", text)) => Row::Cuts(text),
             Some(("uri", text)) => Row::Uri(text),
+            Some(("sound", text)) => Row::asked(Asked::Sound, text),
+            Some(("table", text)) => Row::asked(Asked::Table(None), text),
+            Some(("refusing", text)) => Row::refusing(text),
             _ => Row::Unknown,
+        }
+    }
+
+    // An id and a model.
+    fn asked(asked: Asked, line: &'a str) -> Self {
+        match line.split_once(' ') {
+            Some((id, text)) => Row::Shape(asked, id, text),
+            None => Row::Unknown,
+        }
+    }
+
+    // The number of the call that refuses, and then these.
+    fn refusing(line: &'a str) -> Self {
+        let Some((number, rest)) = line.split_once(' ') else {
+            return Row::Unknown;
+        };
+        match number.parse::<u64>() {
+            Ok(call) => Row::asked(Asked::Table(Some(call)), rest),
+            Err(_) => Row::Unknown,
         }
     }
 }

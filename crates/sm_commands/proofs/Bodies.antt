@@ -16,7 +16,7 @@ use Rattle.sm_shapes.specs.TableView.{table_data}
 use Rattle.sm_codec.specs.Defaults.{filled}
 use Rattle.sm_bodies.specs.TextAnswers.{TextAnswer, TextAnswers}
 use Rattle.sm_bodies.specs.declared.form.BodyForm.{BodyForm}
-use Rattle.sm_compile.specs.Answers.{StoreSeen, CompilesShape, IsPatternRefused, IsShapeCompiled}
+use Rattle.sm_compile.specs.Answers.{StoreSeen, CompilesShape, IsPatternRefused, IsShapeCompiled, seen_table}
 use Rattle.sm_compile.specs.Compiled.{texts_of}
 use Rattle.sm_compile.specs.Sound.{IsValueShape, Sound}
 use Rattle.sm_compile.specs.declared.compiled.CompileRefusal.{CompileRefusal}
@@ -94,7 +94,7 @@ table_ready g shape test before now one h = record {
   shaped = h.compiled.shaped;
   none = h.compiled.no_default;
   stored = h.compiled.built.stored;
-  number = number_within g shape test before now one h.compiled;
+  number = number_within g shape test before now (seen_table one) h.compiled;
 }
 
 -- the whole input was read: a text that answers, and one that is too long
@@ -137,7 +137,7 @@ pub served_comes : (near far : BodyForm) (one : OneShape) (test : Test) (input r
     → Path Served one.served Yes → InputComesTo near far (filled (table_data one.table) test) test one.shape input rest result
     → TableComesTo near far one test input rest result
 served_comes near far one test input rest result served h =
-    comes_map (InputSays near far (filled (table_data one.table) test) test one.shape input rest) (TableSays near far one test input rest)
+    comes_map (InputSays near far (filled (table_data one.table) test) test one.shape input rest) (TableSays near far (seen_table one) test input rest)
     (Rose input.faults rest.faults) (Path Served one.served Yes × Rose input.faults rest.faults) (Unit {0})
     ((rest ≡ input) ⊎ Path Served one.served Yes) result (λ a says. by_input served says) (λ rose. (served, rose)) (λ short. inr served) h
 
@@ -204,7 +204,7 @@ module _ (files files1 : FilesSeen) (test : Test) (store store1 : StoreSeen) (na
   made_of input loaded now one h = record {
     sound = record { there = record { loaded = loaded; is = h.is }; sound = h.sound };
     now = now;
-    one = one;
+    one = seen_table one;
     compiled = h.compiled;
     free = λ u e among. none_is_some u e;
   }
@@ -239,7 +239,7 @@ module _ (files files1 : FilesSeen) (test : Test) (store store1 : StoreSeen) (na
       let table : HasTableOf loads.0.graph shape test store now one = subst (λ g. HasTableOf g shape test store now one) loads.1 h in
       let made = made_of input loads.0 now one table in
       let count : store1.refusals ≡ store.refusals = same ∙ h.compiled.refusals in
-      comes_map (TableSays near far one test input rest) (Answers (before input) (after rest) command)
+      comes_map (TableSays near far (seen_table one) test input rest) (Answers (before input) (after rest) command)
       (Path Served one.served Yes × Rose input.faults rest.faults) (ReadFails (before input) (after rest) command)
       ((rest ≡ input) ⊎ Path Served one.served Yes) (StopsShort (before input) (after rest) command) result
       (λ a says. by_answer input rest made a count says)
@@ -263,5 +263,5 @@ pub unserved_stops : (near far : BodyForm) (one : OneShape) (test : Test) (input
     → Path Served one.served (Unserved path) → EndsWithLine (unserved_line path) stop
     → TableComesTo near far one test input input (Err stop)
 unserved_stops near far one test input path stop served ends =
-    line_stops (TableSays near far one test input input) (Path Served one.served Yes × Rose input.faults input.faults)
+    line_stops (TableSays near far (seen_table one) test input input) (Path Served one.served Yes × Rose input.faults input.faults)
     ((input ≡ input) ⊎ Path Served one.served Yes) (unserved_line path) stop (left_out path served refl refl) (inl refl) ends

@@ -2,6 +2,7 @@
 use Rattle.std.proofs.Common.{◌≡◌, ◌⊎◌, ◌<◌, ℕ, List, Option, Some, inl, inr, true, ap, sym, subst, refl, arith}
 use Rattle.sm_io.specs.Files.{Folder}
 use Rattle.sm_bodies.specs.TextLaws.{OneTextAnswer, SomeTextAnswer}
+use Rattle.sm_compile.specs.Laws.{SomeTable}
 use Rattle.sm_commands.specs.Commands.{Command, GraphForm, body_command, convert_command, select_command, touches_input}
 use Rattle.sm_commands.specs.Answer.{Answer, Came, came}
 use Rattle.sm_commands.specs.Answer.InputUse.{untouched}
@@ -34,12 +35,12 @@ one_answer texts t folder input (select_command models selector) c d all h i =
     select_same folder models selector c d (subst (λ x. SelectComes x models selector c) all.files h)
     (subst (λ x. SelectComes x models selector d) all.files i)
 
-pub some_answer : SomeTextAnswer → SomeAnswer
-some_answer texts t folder input (body_command model shape near far) all there table none =
-    body_answered texts t folder input all model shape near far there table none
-some_answer texts t folder input (convert_command models form) all there table none =
+pub some_answer : SomeTextAnswer → SomeTable → SomeAnswer
+some_answer texts tables t folder input (body_command model shape near far) all there none =
+    body_answered texts tables t folder input all model shape near far there none
+some_answer texts tables t folder input (convert_command models form) all there none =
     convert_answered folder models form there (λ c h. none c (subst (λ x. ConvertComes x models form c) (sym all.files) h))
-some_answer texts t folder input (select_command models selector) all there table none =
+some_answer texts tables t folder input (select_command models selector) all there none =
     select_answered folder models selector there (λ c h. none c (subst (λ x. SelectComes x models selector c) (sym all.files) h))
 
 -- the input is untouched, or its stage is reached

@@ -11,6 +11,7 @@ pub mod ToldAll
 pub mod TablesMade
 pub mod ShapesNamed
 pub mod OneBody
+pub mod LoadedSpelled
 pub mod SomeBody
 pub mod MergedJson
 pub mod OneConvert

@@ -4,21 +4,19 @@ use Rattle.std.specs.Prelude.{Contains}
 use Rattle.sm_model.specs.Graphs.{GraphMaps}
 use Rattle.sm_shapes.specs.Places.{root_place}
 use Rattle.sm_shapes.specs.TableData.{TableData}
-use Rattle.sm_shapes.specs.TableView.{table_data}
 use Rattle.sm_codec.specs.Codec.{InTable}
 use Rattle.sm_codec.specs.Defaults.{filled}
 use Rattle.sm_codec.specs.FilledLaws.{IsFilled}
 use Rattle.sm_bodies.specs.TextAnswers.{TextAnswer, TextAnswers}
 use Rattle.sm_bodies.specs.declared.form.BodyForm.{BodyForm}
 use Rattle.sm_bodies.specs.TextLaws.{OneTextAnswer}
-use Rattle.sm_compile.specs.Answers.{IsShapeCompiled}
+use Rattle.sm_compile.specs.Answers.{IsTableSeen}
 use Rattle.sm_compile.specs.Compiled.{IsFirstCarrier}
 use Rattle.sm_compile.specs.Reached.{IsReached}
 use Rattle.sm_compile.specs.Sound.{IsValueShape, Sound}
-use Rattle.sm_compile.specs.declared.compiled.OneShape.{OneShape}
 use Rattle.sm_compile.specs.declared.compiled.Served.{Served}
 use Rattle.sm_compile.specs.declared.compiled.Served.TheVariants.{Yes, Unserved}
-use Rattle.sm_compile.proofs.OneTable.{one_table}
+use Rattle.sm_compile.proofs.OneTable.{one_seen}
 use Rattle.sm_commands.specs.Answer.{Answer, Came, came, refused, pattern_refused}
 use Rattle.sm_commands.specs.Answer.InputUse.{untouched, to_its_end}
 use Rattle.sm_commands.specs.Body.{BodySays, printed}
@@ -69,11 +67,10 @@ module _ (texts : OneTextAnswer) (t : Told) (whole : IsToldWhole t) (name shape 
 
   -- there is one table, which is served or not
   tables : (h i : TableMade t name shape)
-      → Path TableData (table_data h.one.table) (table_data i.one.table) × (h.one.shape ≡ i.one.shape)
-      × Path Served h.one.served i.one.served
+      → Path TableData h.one.table i.one.table × (h.one.shape ≡ i.one.shape) × Path Served h.one.served i.one.served
   tables h i =
-      one_table i.sound.there.loaded.graph shape t.test t.store h.now i.now h.one i.one
-      (subst (λ g. IsShapeCompiled g shape t.test t.store h.now h.one) (graphs h.sound.there.loaded i.sound.there.loaded) h.compiled)
+      one_seen i.sound.there.loaded.graph shape t.test t.store h.now i.now h.one i.one
+      (subst (λ g. IsTableSeen g shape t.test t.store h.now h.one) (graphs h.sound.there.loaded i.sound.there.loaded) h.compiled)
       i.compiled
 
   not_served : (h : TableMade t name shape) (path : List ℕ) → Path Served h.one.served (Unserved path) → ShapeServed t name shape → ⊥
@@ -96,16 +93,16 @@ module _ (texts : OneTextAnswer) (t : Told) (whole : IsToldWhole t) (name shape 
   text_same near far h i a b says says1 =
       let k = i.served.table in
       let same = tables h.served.table k in
-      let ready : IsFilled (filled (table_data k.one.table) t.test) t.test =
+      let ready : IsFilled (filled k.one.table t.test) t.test =
       is_filled k.sound.there.loaded.graph shape t.test t.store k.now k.one k.compiled in
-      texts near far (filled (table_data k.one.table) t.test) t.test (root_place k.one.shape) i.bytes a b ready.shaped ready.pass
+      texts near far (filled k.one.table t.test) t.test (root_place k.one.shape) i.bytes a b ready.shaped ready.pass
       (within k)
-      (subst (λ x. TextAnswers near far (filled (table_data k.one.table) t.test) t.test (root_place k.one.shape) x a)
+      (subst (λ x. TextAnswers near far (filled k.one.table t.test) t.test (root_place k.one.shape) x a)
       (whole.inputs h.bytes i.bytes h.is_input i.is_input)
-      (subst (λ x. TextAnswers near far (filled (table_data k.one.table) t.test) t.test (root_place x) h.bytes a) same.1
+      (subst (λ x. TextAnswers near far (filled k.one.table t.test) t.test (root_place x) h.bytes a) same.1
       (subst (λ x. TextAnswers near far (filled x t.test) t.test (root_place h.served.table.one.shape) h.bytes a) same.0 says))) says1
     where
-      within : (k : TableMade t name shape) → InTable (filled (table_data k.one.table) t.test) (root_place k.one.shape)
+      within : (k : TableMade t name shape) → InTable (filled k.one.table t.test) (root_place k.one.shape)
       within k = number_within k.sound.there.loaded.graph shape t.test t.store k.now k.one k.compiled
 
   pub body_same : (near far : BodyForm) (c d : Came) → BodySays t name shape near far c → BodySays t name shape near far d → c ≡ d

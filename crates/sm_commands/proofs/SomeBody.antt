@@ -1,20 +1,19 @@
--- A file that is there, an input and a store come to some answer of the command `body`, where a sound shape has a table. Where a case can't be
--- decided, each of its two sides is denied in turn.
+-- A file that is there, an input and a store come to some answer of the command `body`. Where a case can't be decided,
+-- each of its two sides is denied in turn.
 use Rattle.std.proofs.Common.{◌≡◌, ◌<◌, ℕ, inl, inr, List, [], ◌∷◌, Option, Some, length, sym, subst, refl, ◌∙◌}
 use Rattle.std.specs.Prelude.{Contains, IfSome}
 use Rattle.std.proofs.lemmas.Bool.{cases_lt}
 use Rattle.sm_io.specs.Files.{Folder}
 use Rattle.sm_shapes.specs.Places.{root_place}
-use Rattle.sm_shapes.specs.TableView.{table_data}
 use Rattle.sm_codec.specs.Codec.{InTable}
 use Rattle.sm_codec.specs.FilledLaws.{IsFilled}
 use Rattle.sm_bodies.specs.declared.form.BodyForm.{BodyForm}
 use Rattle.sm_bodies.specs.TextLaws.{SomeTextAnswer}
-use Rattle.sm_compile.specs.Answers.{StoreSeen, IsShapeCompiled}
+use Rattle.sm_compile.specs.Answers.{StoreSeen, TableSeen, IsTableSeen}
 use Rattle.sm_compile.specs.Compiled.{IsFirstCarrier, texts_of}
+use Rattle.sm_compile.specs.Laws.{SomeTable}
 use Rattle.sm_compile.specs.Reached.{IsReached}
 use Rattle.sm_compile.specs.Sound.{IsValueShape, Sound}
-use Rattle.sm_compile.specs.declared.compiled.OneShape.{OneShape}
 use Rattle.sm_compile.specs.declared.compiled.Served.{Served}
 use Rattle.sm_compile.specs.declared.compiled.Served.TheVariants.{Yes, Unserved}
 use Rattle.sm_compile.proofs.OnePatterns.{column_of}
@@ -23,16 +22,17 @@ use Rattle.sm_commands.specs.Answer.InputUse.{untouched, to_its_end, past_its_li
 use Rattle.sm_commands.specs.Body.{BodySays, printed}
 use Rattle.sm_commands.specs.Body.BodySays.{not_loaded, no_shape, unbuilt, pattern, unserved, long_input, by_text}
 use Rattle.sm_commands.specs.BodyStages.{ShapeThere, ShapeSound, TableMade, ShapeServed, table_of}
-use Rattle.sm_commands.specs.Commands.{body_command}
 use Rattle.sm_commands.specs.Limits.{body_limit}
 use Rattle.sm_commands.specs.Lines.{no_shape_line, unbuilt_line, pattern_line, unserved_line, body_limit_line}
 use Rattle.sm_commands.specs.Loading.{Loaded, LoadAnswers}
-use Rattle.sm_commands.specs.Says.{AreThere, HasTable, TellsAll}
+use Rattle.sm_commands.specs.Says.{AreThere, TellsAll}
 use Rattle.sm_commands.specs.Stages.{Told, IsInput}
+use Rattle.sm_commands.proofs.LoadedSpelled.{loaded_spelled}
 use Rattle.sm_commands.proofs.SomeLoad.{load_answered}
 use Rattle.sm_commands.proofs.TablesMade.{number_within, is_filled}
 
-module _ (texts : SomeTextAnswer) (t : Told) (name shape : List ℕ) (near far : BodyForm) (none : (c : Came) → BodySays t name shape near far c → ⊥) where
+module _ (texts : SomeTextAnswer) (tables : SomeTable) (t : Told) (name shape : List ℕ) (near far : BodyForm)
+    (none : (c : Came) → BodySays t name shape near far c → ⊥) where
   -- the input of a shape that is served
   input_answered : (input : List ℕ) → IsInput t.input input → ShapeServed t name shape → ⊥
   input_answered input is h = elim (cases_lt body_limit (length input)) [
@@ -54,15 +54,15 @@ module _ (texts : SomeTextAnswer) (t : Told) (name shape : List ℕ) (near far :
   table_answered input is h (Unserved path) e = none (came untouched (refused (unserved_line path))) (unserved h path e refl)
 
   -- a sound shape: a pattern of its table is the one that is refused, or none is
-  sound_answered : (input : List ℕ) → IsInput t.input input → (h : ShapeSound t name shape) (now : StoreSeen) (one : OneShape)
-      → IsShapeCompiled h.there.loaded.graph shape t.test t.store now one → ⊥
+  sound_answered : (input : List ℕ) → IsInput t.input input → (h : ShapeSound t name shape) (now : StoreSeen) (one : TableSeen)
+      → IsTableSeen h.there.loaded.graph shape t.test t.store now one → ⊥
   sound_answered input is h now one compiled = table_answered input is made one.served (λ i. one.served)
     where
-      free : (u : List ℕ) → t.refused ≡ Some u → Contains (texts_of (table_data one.table).patterns) u → ⊥
+      free : (u : List ℕ) → t.refused ≡ Some u → Contains (texts_of one.table.patterns) u → ⊥
       free u is among =
           let g = h.there.loaded.graph in
           let patterns = compiled.compiled.patterns in
-          let first = column_of (λ v id. IsFirstCarrier g (IsReached g shape) v id) (texts_of (table_data one.table).patterns) patterns.firsts
+          let first = column_of (λ v id. IsFirstCarrier g (IsReached g shape) v id) (texts_of one.table.patterns) patterns.firsts
           patterns.each u among in
           none (came untouched (pattern_refused (pattern_line first.0))) (pattern h u first.0 is first.2 refl)
 
@@ -70,14 +70,15 @@ module _ (texts : SomeTextAnswer) (t : Told) (name shape : List ℕ) (near far :
       made = record { sound = h; now = now; one = one; compiled = compiled; free = free }
 
   -- a graph without the shape, and a shape that isn't sound
-  graph_answered : (input : List ℕ) → IsInput t.input input → HasTable t (body_command name shape near far) → Loaded t.files (name ∷ []) → ⊥
-  graph_answered input is table loaded =
+  graph_answered : (input : List ℕ) → IsInput t.input input → Loaded t.files (name ∷ []) → ⊥
+  graph_answered input is loaded =
       none (came untouched (refused (no_shape_line shape))) (no_shape loaded (λ there. shape_answered there) refl)
     where
       sounded : (there : IsValueShape loaded.graph shape) → Sound loaded.graph shape → ⊥
       sounded there sound =
           let h : ShapeSound t name shape = record { there = record { loaded = loaded; is = there }; sound = sound } in
-          table h (λ now one compiled. sound_answered input is h now one compiled)
+          tables loaded.graph shape t.test t.store (loaded_spelled t.files (name ∷ []) loaded) there sound
+          (λ now one compiled. sound_answered input is h now one compiled)
 
       shape_answered : IsValueShape loaded.graph shape → ⊥
       shape_answered there =
@@ -87,10 +88,11 @@ module _ (texts : SomeTextAnswer) (t : Told) (name shape : List ℕ) (near far :
 abbrev FilesCome : Option Folder → List ℕ → Type 0
 FilesCome files name = ((a : Answer) → LoadAnswers files (name ∷ []) a → ⊥) → (Loaded files (name ∷ []) → ⊥) → ⊥
 
-pub body_answered : SomeTextAnswer → (t : Told) (folder : Folder) (input : List ℕ) → TellsAll t folder input → (name shape : List ℕ) (near far : BodyForm)
-    → AreThere folder (name ∷ []) → HasTable t (body_command name shape near far)
+pub body_answered : SomeTextAnswer → SomeTable → (t : Told) (folder : Folder) (input : List ℕ) → TellsAll t folder input
+    → (name shape : List ℕ) (near far : BodyForm)
+    → AreThere folder (name ∷ [])
     → ((c : Came) → BodySays t name shape near far c → ⊥) → ⊥
-body_answered texts t folder input all name shape near far there table none =
+body_answered texts tables t folder input all name shape near far there none =
     let come : FilesCome t.files name = subst (λ x. FilesCome x name) (sym all.files) (load_answered folder (name ∷ []) there) in
     come (λ a says. none (came untouched a) (not_loaded a says refl))
-    (λ loaded. graph_answered texts t name shape near far none input (subst (λ x. IsInput x input) (sym all.input) refl) table loaded)
+    (λ loaded. graph_answered texts tables t name shape near far none input (subst (λ x. IsInput x input) (sym all.input) refl) loaded)

@@ -2,12 +2,10 @@
 -- can be made; the table, with what a store of patterns did for it; that values of the shape are served; and the input.
 use Rattle.std.specs.Prelude.{◌≡◌, ℕ, ◌≤◌, List, [], ◌∷◌, Contains, Some, length}
 use Rattle.sm_shapes.specs.TableData.{TableData}
-use Rattle.sm_shapes.specs.TableView.{table_data}
 use Rattle.sm_codec.specs.Defaults.{filled}
-use Rattle.sm_compile.specs.Answers.{StoreSeen, IsShapeCompiled}
+use Rattle.sm_compile.specs.Answers.{StoreSeen, TableSeen, IsTableSeen}
 use Rattle.sm_compile.specs.Compiled.{texts_of}
 use Rattle.sm_compile.specs.Sound.{IsValueShape, Sound}
-use Rattle.sm_compile.specs.declared.compiled.OneShape.{OneShape}
 use Rattle.sm_compile.specs.declared.compiled.Served.{Served}
 use Rattle.sm_compile.specs.declared.compiled.Served.TheVariants.{Yes}
 use Rattle.sm_commands.specs.Limits.{body_limit}
@@ -28,9 +26,9 @@ pub record ShapeSound (t : Told) (name shape : List ℕ) : Type 0 where
 pub record TableMade (t : Told) (name shape : List ℕ) : Type 0 where
   pub sound : ShapeSound t name shape
   pub now : StoreSeen
-  pub one : OneShape
-  pub compiled : IsShapeCompiled sound.there.loaded.graph shape t.test t.store now one
-  pub free : (u : List ℕ) → t.refused ≡ Some u → Contains (texts_of (table_data one.table).patterns) u → ⊥
+  pub one : TableSeen
+  pub compiled : IsTableSeen sound.there.loaded.graph shape t.test t.store now one
+  pub free : (u : List ℕ) → t.refused ≡ Some u → Contains (texts_of one.table.patterns) u → ⊥
 
 -- its values can be carried
 pub record ShapeServed (t : Told) (name shape : List ℕ) : Type 0 where
@@ -46,4 +44,4 @@ pub record InputRead (t : Told) (name shape : List ℕ) : Type 0 where
 
 -- the table that counts: with the defaults that count
 abbrev pub table_of : (t : Told) (name shape : List ℕ) → TableMade t name shape → TableData
-table_of t name shape h = filled (table_data h.one.table) t.test
+table_of t name shape h = filled h.one.table t.test

@@ -2,13 +2,11 @@
 -- reads the input for none but those behind its stage.
 use Rattle.std.specs.Prelude.{◌≡◌, ◌⊎◌, ℕ, true, List, Some, Contains}
 use Rattle.sm_io.specs.Files.{Folder, file_at}
-use Rattle.sm_compile.specs.Answers.{StoreSeen, IsShapeCompiled}
-use Rattle.sm_compile.specs.declared.compiled.OneShape.{OneShape}
 use Rattle.sm_commands.specs.Commands.{Command, body_command, convert_command, select_command, reads, touches_input}
 use Rattle.sm_commands.specs.Answer.{Answer, Came, came}
 use Rattle.sm_commands.specs.Answer.InputUse.{untouched}
 use Rattle.sm_commands.specs.Stages.{Told}
-use Rattle.sm_commands.specs.BodyStages.{ShapeSound, ShapeServed}
+use Rattle.sm_commands.specs.BodyStages.{ShapeServed}
 use Rattle.sm_commands.specs.Body.{BodySays}
 use Rattle.sm_commands.specs.Convert.{ConvertSays}
 use Rattle.sm_commands.specs.Select.{SelectSays}
@@ -38,18 +36,11 @@ OneAnswer = (t : Told) (folder : Folder) (input : List ℕ) (command : Command) 
 abbrev pub AreThere : Folder → List (List ℕ) → Type 0
 AreThere folder names = (name : List ℕ) → Contains names name → (file : List ℕ) × (file_at folder name ≡ Some file)
 
--- each table that the command asks for can be made, said by two denials
-abbrev pub HasTable : Told → Command → Type 0
-HasTable t (body_command model shape near far) = (h : ShapeSound t model shape)
-    → ((now : StoreSeen) (one : OneShape) → IsShapeCompiled h.there.loaded.graph shape t.test t.store now one → ⊥) → ⊥
-HasTable t (convert_command models form) = Unit {0}
-HasTable t (select_command models selector) = Unit {0}
-
--- a law: where the files are there that a command may read, and a sound shape has a table, it comes to something, said by two denials.
--- So no gap in what is said is left to `NoMemory`
+-- a law: where the files are there that a command may read, it comes to something, said by two denials. So no gap in what is said is left
+-- to `NoMemory`
 abbrev pub SomeAnswer : Type 0
 SomeAnswer = (t : Told) (folder : Folder) (input : List ℕ) (command : Command) → TellsAll t folder input → AreThere folder (reads command)
-    → HasTable t command → ((c : Came) → Says t command c → ⊥) → ⊥
+    → ((c : Came) → Says t command c → ⊥) → ⊥
 
 -- a law: a command comes to what it says with the input untouched, or reaches the input; and it reaches it only where it is one
 -- that touches it

@@ -17,12 +17,12 @@ pub fn one_answer()
     sm_bodies::laws::one_text_answer();
 }
 
-/// Where its files are there, and a shape of which a table can be made has one, a command comes to an answer, whatever they and the input
-/// hold: what `run` says leaves no case to `NoMemory`.
+/// Where its files are there a command comes to an answer, whatever they and the input hold: what `run` says leaves no case to `NoMemory`.
 pub fn some_answer()
     ensures { SomeAnswer }
 {
     sm_bodies::laws::some_text_answer();
+    sm_compile::laws::some_table();
 }
 
 /// Where the words have a form and no count of faults rose, the answer is put, or memory ran out.

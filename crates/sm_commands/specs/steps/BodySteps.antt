@@ -10,11 +10,10 @@ use Rattle.sm_shapes.specs.Fitting.{Test}
 use Rattle.sm_shapes.specs.InOrder.{Shaped, AreStored}
 use Rattle.sm_shapes.specs.Places.{root_place}
 use Rattle.sm_shapes.specs.TableData.{TableData, shape_count}
-use Rattle.sm_shapes.specs.TableView.{table_data}
 use Rattle.sm_codec.specs.Defaults.{filled}
 use Rattle.sm_bodies.specs.TextAnswers.{TextAnswer, TextAnswers}
 use Rattle.sm_bodies.specs.declared.form.BodyForm.{BodyForm}
-use Rattle.sm_compile.specs.Answers.{StoreSeen, IsShapeCompiled, IsPatternRefused}
+use Rattle.sm_compile.specs.Answers.{StoreSeen, TableSeen, IsShapeCompiled, IsPatternRefused, seen_table}
 use Rattle.sm_compile.specs.Sound.{IsValueShape, Sound}
 use Rattle.sm_compile.specs.declared.compiled.OneShape.{OneShape}
 use Rattle.sm_compile.specs.declared.compiled.Served.{Served}
@@ -69,13 +68,13 @@ InputComesTo near far t test s input rest result =
     StepComesTo (InputSays near far t test s input rest) (Rose input.faults rest.faults) (Unit {0}) result
 
 -- what it comes to for a shape with its table, where the shape is served
-pub data TableSays (near far : BodyForm) (one : OneShape) (test : Test) (input rest : Stream) (a : Answer) : Type 0 where
+pub data TableSays (near far : BodyForm) (one : TableSeen) (test : Test) (input rest : Stream) (a : Answer) : Type 0 where
   left_out : (path : List ℕ) → Path Served one.served (Unserved path) → rest ≡ input → a ≡ refused (unserved_line path)
       → TableSays near far one test input rest a
-  by_input : Path Served one.served Yes → InputSays near far (filled (table_data one.table) test) test one.shape input rest a
+  by_input : Path Served one.served Yes → InputSays near far (filled one.table test) test one.shape input rest a
       → TableSays near far one test input rest a
 
 abbrev pub TableComesTo : BodyForm → BodyForm → OneShape → Test → Stream → Stream → Result (Vec ℕ) Stop → Type 0
 TableComesTo near far one test input rest result =
-    StepComesTo (TableSays near far one test input rest) (Path Served one.served Yes × Rose input.faults rest.faults)
+    StepComesTo (TableSays near far (seen_table one) test input rest) (Path Served one.served Yes × Rose input.faults rest.faults)
     ((rest ≡ input) ⊎ Path Served one.served Yes) result
