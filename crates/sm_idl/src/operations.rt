@@ -20,6 +20,7 @@ use crate::members::MemberKind;
 use crate::names::is_new;
 use crate::reader::{Reader, Stop};
 use crate::references::absolute;
+use crate::shapes::put;
 use crate::take::{is_mark, is_word};
 use crate::unknown::joined;
 use sm_ids::is_identifier;
@@ -121,10 +122,7 @@ fn put_part(
         Err(_) => return Err(NoMemory),
     }
     match part.defined {
-        Some(statement) => match defined.push(statement) {
-            Ok(()) => Ok(()),
-            Err(_) => Err(NoMemory),
-        },
+        Some(statement) => put(defined, statement),
         None => Ok(()),
     }
 }

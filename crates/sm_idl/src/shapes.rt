@@ -81,7 +81,7 @@ fn body_form(kind: Kind) -> BodyForm
 }
 
 /// Puts a statement behind others.
-fn put(statements: &mut Vec<Statement>, statement: Statement) -> Result<(), NoMemory>
+pub(crate) fn put(statements: &mut Vec<Statement>, statement: Statement) -> Result<(), NoMemory>
     ensures { IfOk result (λ _. statements_view statements.new.items ≡ statements_view statements.old.items ++ statement_view statement
         ∷ []) }
 {

@@ -22,4 +22,4 @@ pub returns : goal.returns
 returns c = λ cs ms begins here.
     c.rest.ensures (in_section_at cs ms (left c.args.start) (left c.args.self.now) begins _ c.in-Ok-uses.ensures.0
     (left c.the_word.new.self) (left c.namespace.new.self) (left c.uses.new.self) here c.in-Ok.ensures c.in-Ok-namespace.ensures
-    (c.in-Ok-shared.ensures ∙ c.in-Ok-uses.ensures.1) c.in-Ok-uses.ensures.2)
+    (c.in-Ok-new.ensures ∙ c.in-Ok-uses.ensures.1) c.in-Ok-uses.ensures.2)
