@@ -1,10 +1,13 @@
 // What only tests say of the writer of the IDL: that its text is the one of the layout, line by line, that it is written where
 // memory is ample, and that it is read as the same model again.
+ghost use Rattle.sm_model.specs.Formed.{AreFormed};
+ghost use Rattle.sm_model.specs.SaidView.{statements_view};
+
 use sm_ast::read_ast;
 use sm_idl::{read_idl, write_idl};
 use sm_json::read_tree;
-use sm_merge::merge;
-use sm_model::Statement;
+use sm_merge::{MergeRefusal, merge};
+use sm_model::{Graph, Statement};
 use sm_tree::NoMemory;
 use std::alloc::Global;
 use std::str;
@@ -93,10 +96,26 @@ metadata "b" = [1,{"x":null}]
 namespace smithy.api
 "#;
 
+// The graph of one file.
+fn merged(alloc: Global, statements: Vec<Statement>) -> Result<Graph, MergeRefusal>
+    requires { AreFormed (statements_view statements.items) }
+{
+    let mut files = Vec::new(alloc);
+    match files.push(statements) {
+        Ok(()) => merge(alloc, files.as_slice()),
+        Err(_) => Err(MergeRefusal::NoMemory),
+    }
+}
+
 // What is written for a namespace of the model that these statements merge to; no byte where they merge to none.
-fn merged(alloc: Global, statements: Vec<Statement>, namespace: &str) -> Result<Vec<u8>, NoMemory> {
-    let files = vec![in alloc; statements]?;
-    match merge(alloc, files.as_slice()) {
+fn written_of(
+    alloc: Global,
+    statements: Vec<Statement>,
+    namespace: &str,
+) -> Result<Vec<u8>, NoMemory>
+    requires { AreFormed (statements_view statements.items) }
+{
+    match merged(alloc, statements) {
         Ok(graph) => write_idl(alloc, &graph, namespace),
         Err(_) => Ok(Vec::new(alloc)),
     }
@@ -108,7 +127,7 @@ fn written(alloc: Global, namespace: &str) -> Result<Vec<u8>, NoMemory> {
         return Ok(Vec::new(alloc));
     };
     match read_ast(alloc, &tree) {
-        Ok(statements) => merged(alloc, statements, namespace),
+        Ok(statements) => written_of(alloc, statements, namespace),
         Err(_) => Ok(Vec::new(alloc)),
     }
 }
@@ -131,7 +150,7 @@ fn a_namespace_without_shapes_of_its_own_has_the_head_alone(rt: HostRuntime) -> 
 fn what_is_written_is_read_and_written_again(rt: HostRuntime) -> Result<(), Fail> {
     match read_idl(rt.alloc(), WRITTEN) {
         Ok(statements) => {
-            let text = merged(rt.alloc(), statements, "m")?;
+            let text = written_of(rt.alloc(), statements, "m")?;
             assert_eq!(rt; str::from_utf8(text.as_slice()), Ok(WRITTEN));
         }
         Err(_) => assert!(rt; false),
