@@ -3,3 +3,6 @@ mod SaidMeant
 mod NamespaceStates
 mod NamespaceOnce
 mod WrittenMerges
+mod NamesFormed
+mod MergedShapes
+mod WrittenTexts

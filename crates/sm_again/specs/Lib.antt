@@ -1,2 +1,3 @@
 pub mod AstMerges
 pub mod WrittenMerges
+pub mod WrittenTexts

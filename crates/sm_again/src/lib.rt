@@ -4,6 +4,7 @@
 
 ghost use Rattle.sm_again.specs.AstMerges.{AstMerges};
 ghost use Rattle.sm_again.specs.WrittenMerges.{WrittenAgain, WrittenMerges};
+ghost use Rattle.sm_again.specs.WrittenTexts.{ReadMerges, WrittenTexts};
 
 /// The statements that the tree of a graph says merge to the graph, where files merge to it.
 pub fn ast_merges()
@@ -18,4 +19,14 @@ pub fn written_again()
 /// The files that are written for all namespaces of a graph merge to the graph, where files merge to it.
 pub fn written_merges()
     ensures { WrittenMerges }
+{}
+
+/// What is written for a namespace of a graph is the text of the namespace's file, where files merge to the graph.
+pub fn written_texts()
+    ensures { WrittenTexts }
+{}
+
+/// The texts that are written for all namespaces of a graph, read again, merge to the graph, where files merge to it.
+pub fn read_merges()
+    ensures { ReadMerges }
 {}
