@@ -25,8 +25,8 @@ use Rattle.sm_merge.proofs.RegularGraphs.{merged_regular}
 use Rattle.sm_idl.specs.Idl.{FileSaid, Idl}
 use Rattle.sm_idl.specs.Written.{written_idl}
 use Rattle.sm_idl.specs.WrittenFile.{namespace_file}
-use Rattle.sm_idl.specs.WrittenNames.{AreFew, AreNamed, AreUnderIds, AreUnderTexts, HaveTraitIds, MembersAreUnderIds, MembersNestFew}
-use Rattle.sm_idl.specs.WrittenNames.{NestFew, ShapesNestFew}
+use Rattle.sm_model.specs.Named.{AreNamed, AreUnderIds, AreUnderTexts, HaveTraitIds, MembersAreUnderIds}
+use Rattle.sm_idl.specs.WrittenNames.{AreFew, MembersNestFew, NestFew, ShapesNestFew}
 use Rattle.sm_idl.proofs.FileWritten.{written_is_file}
 use Rattle.sm_idl.proofs.OneFile.{one_reading}
 use Rattle.sm_again.specs.WrittenMerges.{written_files}

@@ -20,7 +20,7 @@ use Rattle.sm_model.specs.References.{IsShapeId, absolute}
 use Rattle.sm_model.proofs.MapFacts.{Each, each_entry, each_joined, found_among, keys, keys_differ}
 use Rattle.sm_ast.specs.GraphSaid.{map_said, member_under_said, shape_members_said}
 use Rattle.sm_ast.specs.Ids.{has_member, is_dollar}
-use Rattle.sm_ast.specs.Named.{AreUnderIds, MembersAreUnderIds, HaveTraitIds, AreNamed}
+use Rattle.sm_model.specs.Named.{AreUnderIds, MembersAreUnderIds, HaveTraitIds, AreNamed}
 use Rattle.sm_ast.specs.Written.{field_there, member_object, member_there, name_in_id, written_entry, written_members}
 use Rattle.sm_ast.specs.steps.Saying.{pairs_said}
 use Rattle.sm_ast.proofs.IdNames.{name_of_member}

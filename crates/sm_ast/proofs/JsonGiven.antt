@@ -14,7 +14,7 @@ use Rattle.sm_model.specs.References.{IsShapeId}
 use Rattle.sm_model.specs.Given.{AreNodes, AreGivenMembers, AreGivenShapes, IsGivenShape}
 use Rattle.sm_model.specs.Graphs.{MemberGiven, ShapeGiven, given_entries, given_members, given_shape, graph_of, text_cmp}
 use Rattle.sm_model.proofs.MapFacts.{Each, each_entry, each_joined}
-use Rattle.sm_ast.specs.Named.{AreUnderIds, MembersAreUnderIds, HaveTraitIds, AreUnderTexts}
+use Rattle.sm_model.specs.Named.{AreUnderIds, MembersAreUnderIds, HaveTraitIds, AreUnderTexts}
 use Rattle.sm_ast.specs.Laws.{WrittenIsJson}
 use Rattle.sm_ast.proofs.IdNames.{name_of_member}
 use Rattle.sm_ids.proofs.Identifiers.{made_of_bytes}

@@ -9,6 +9,7 @@ use Rattle.sm_model.specs.Raw.{Raw, RawMembers, raw_leaf, raw_list, raw_object, 
 use Rattle.sm_model.specs.References.{absolute}
 use Rattle.sm_model.specs.declared.property.PropertyForm.{PropertyForm}
 use Rattle.sm_model.specs.declared.property.PropertyForm.TheVariants.{Reference, References, NamedReferences, Text, Rename}
+use Rattle.sm_model.proofs.FieldsAmong.{AreAmong}
 use Rattle.sm_ast.specs.Ast.{RawReferenceSays, RawReferencesSay, NamedReferencesSay, NewNamesSay, PropertySays, PropertyPairsSay}
 use Rattle.sm_tree.specs.Parts.{tree_named}
 use Rattle.sm_ast.specs.GraphSaid.{body_said, filled_raws, filled_raw_members, form_said, form_there_said, id_said, ids_said, named_ids_said}
@@ -112,11 +113,6 @@ form_under fs (member l m ms) fields k form named n there = elim (either_way (by
       subst (NodeHasForm form) is_node (subst (λ f. NodeHasForm f m) is_form fields.0.2)
   | inr other ↦ form_under fs ms fields.1 k form named n (ap (λ b. if b then Some m else tree_named k ms) (sym other) ∙ there)
 ]
-
--- each of these fields is one of the type
-abbrev pub AreAmong : TypeFields → TypeFields → Type 0
-AreAmong all [] = Unit {0}
-AreAmong all (f ∷ fs) = (form_named f.0 all ≡ Some f.1) × AreAmong all fs
 
 pub fields_say : (all fs : TypeFields) → AreAmong all fs → (body : Members) → AreNodeFields all body → (after : WrittenPairs)
     → PropertyPairsSay all (members_of after) no_raw_members

@@ -13,7 +13,7 @@ use Rattle.sm_ast.specs.Layout.{target_name, traits_name, members_name}
 use Rattle.sm_ast.specs.Ast.{OrNothing, TraitPairsSay, TraitsSay, AstMember, MemberPairsSay, MembersObjectSays, NamedMembersSay}
 use Rattle.sm_ast.specs.Ast.{AstMembers}
 use Rattle.sm_ast.specs.GraphSaid.{traits_of_pairs}
-use Rattle.sm_ast.specs.Named.{AreUnderIds}
+use Rattle.sm_model.specs.Named.{AreUnderIds}
 use Rattle.sm_ast.specs.Written.{WrittenPairs, member_object, object_of, written_in_form, written_traits}
 use Rattle.sm_ast.proofs.Judged.{test_same, true_is_false}
 use Rattle.sm_ast.proofs.WrittenNames.{EachDistinct, distinct_pairs, pair_behind}

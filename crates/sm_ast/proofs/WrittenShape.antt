@@ -24,7 +24,8 @@ use Rattle.sm_ast.specs.Faults.{stands_in}
 use Rattle.sm_ast.specs.GraphSaid.{body_said, traits_of_pairs}
 use Rattle.sm_ast.specs.Written.{WrittenPairs, shape_object, written_in_form, written_properties, written_traits}
 use Rattle.sm_ast.proofs.Judged.{both_true, true_is_false}
-use Rattle.sm_ast.proofs.WrittenFields.{AreAmong, AreUnnamed, all_passed_over, fields_distinct, fields_say, passed_over}
+use Rattle.sm_model.proofs.FieldsAmong.{fields_among}
+use Rattle.sm_ast.proofs.WrittenFields.{AreUnnamed, all_passed_over, fields_distinct, fields_say, passed_over}
 use Rattle.sm_ast.proofs.WrittenMembers.{AreFoundMembers, AreSoundTraits, FoundMember, form_distinct, form_names, form_says, form_under}
 use Rattle.sm_ast.proofs.WrittenMembers.{found_names, found_pairs, found_said, traits_behind, written_traits_distinct}
 use Rattle.sm_ast.proofs.WrittenNames.{PairsWithin, all_differ, apart_by_test, differ_by_test, differ_within, distinct_joined}
@@ -113,30 +114,6 @@ module _ (kind : Kind) where
   names_other =
       both_true (are_unnamed (property_forms kind) ((type_name ∷ []) ++ form_names (member_form kind)))
       (are_unnamed (property_forms kind) (traits_name ∷ [])) (both_true (are_apart kind) (are_other kind) last_fit).1
-
-fields_among : (kind : Kind) → AreAmong (property_forms kind) (property_forms kind)
-fields_among Operation = (refl, (refl, (refl, tt)))
-fields_among Service = (refl, (refl, (refl, (refl, (refl, tt)))))
-fields_among Resource = (refl, (refl, (refl, (refl, (refl, (refl, (refl, (refl, (refl, (refl, (refl, tt)))))))))))
-fields_among list_kind = tt
-fields_among Map = tt
-fields_among Structure = tt
-fields_among Union = tt
-fields_among Enum = tt
-fields_among IntEnum = tt
-fields_among Blob = tt
-fields_among Boolean = tt
-fields_among text_kind = tt
-fields_among Byte = tt
-fields_among Short = tt
-fields_among Integer = tt
-fields_among Long = tt
-fields_among Float = tt
-fields_among Double = tt
-fields_among BigInteger = tt
-fields_among BigDecimal = tt
-fields_among Timestamp = tt
-fields_among Document = tt
 
 -- a shape of a graph
 pub record IsFoundShape (id : List ℕ) (kind : Kind) (ms : List FoundMember) (body : Members) (ts : WrittenPairs) : Type 0 where

@@ -9,7 +9,7 @@ use Rattle.sm_model.specs.Said.{Said}
 use Rattle.sm_ast.specs.Ast.{Ast}
 use Rattle.sm_ast.specs.Faults.{ast_fault}
 use Rattle.sm_ast.specs.GraphSaid.{graph_said}
-use Rattle.sm_ast.specs.Named.{AreNamed}
+use Rattle.sm_model.specs.Named.{AreNamed}
 use Rattle.sm_ast.specs.Written.{written_ast}
 
 -- a tree of JSON says statements exactly where it has no fault

@@ -5,7 +5,6 @@ pub mod Faults
 pub mod Answers
 pub mod Distinct
 pub mod Written
-pub mod Named
 pub mod GraphSaid
 pub mod Laws
 pub mod steps

@@ -18,8 +18,8 @@ use Rattle.sm_model.proofs.MapFacts.{Each, each_entry, each_joined, found_among,
 use Rattle.sm_idl.specs.Nodes.{Home}
 use Rattle.sm_idl.specs.Written.{NodePairs, member_text as member_line, member_there, member_lines}
 use Rattle.sm_idl.specs.WrittenFile.{member_said, members_said, target_said, traits_said}
-use Rattle.sm_idl.specs.WrittenNames.{AreUnderIds, MembersAreUnderIds, HaveTraitIds, AreNamed, NestFew, MembersNestFew, ShapesNestFew}
-use Rattle.sm_idl.specs.WrittenNames.{AreFew}
+use Rattle.sm_model.specs.Named.{AreUnderIds, MembersAreUnderIds, HaveTraitIds, AreNamed}
+use Rattle.sm_idl.specs.WrittenNames.{AreFew, NestFew, MembersNestFew, ShapesNestFew}
 use Rattle.sm_idl.specs.declared.write.form.WrittenForm.{WrittenForm}
 use Rattle.sm_idl.proofs.IdsWritten.{member_cut, member_is_no_shape}
 use Rattle.sm_idl.proofs.TraitsWritten.{IsTraitValue}

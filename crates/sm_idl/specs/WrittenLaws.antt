@@ -7,7 +7,8 @@ use Rattle.sm_model.specs.Graphs.{ShapeGiven, graph_of}
 use Rattle.sm_idl.specs.Idl.{Idl}
 use Rattle.sm_idl.specs.Written.{written_idl}
 use Rattle.sm_idl.specs.WrittenFile.{namespace_file}
-use Rattle.sm_idl.specs.WrittenNames.{AreNamed, AreFew}
+use Rattle.sm_model.specs.Named.{AreNamed}
+use Rattle.sm_idl.specs.WrittenNames.{AreFew}
 
 -- what is written for a namespace of a graph is the text of the namespace's file
 abbrev pub WrittenIsFile : Type 0

@@ -18,12 +18,8 @@ use Rattle.sm_model.specs.PreludeShapes.{unit_id}
 use Rattle.sm_model.specs.Properties.{TypeFields, form_named, needed_fields, property_forms}
 use Rattle.sm_model.specs.Raw.{Raw, raw_object, raw_members_of}
 use Rattle.sm_model.specs.declared.kind.Kind.{Kind}
-use Rattle.sm_model.specs.declared.kind.Kind.TheVariants.{Blob, Boolean, Text as text_kind, Enum, Byte, Short, Integer, IntEnum, Long}
-use Rattle.sm_model.specs.declared.kind.Kind.TheVariants.{Float, Double}
-use Rattle.sm_model.specs.declared.kind.Kind.TheVariants.{BigInteger, BigDecimal, Timestamp, Document, List as list_kind, Map}
-use Rattle.sm_model.specs.declared.kind.Kind.TheVariants.{Structure, Union}
-use Rattle.sm_model.specs.declared.kind.Kind.TheVariants.{Service, Operation, Resource}
 use Rattle.sm_model.specs.declared.property.PropertyForm.{PropertyForm}
+use Rattle.sm_model.proofs.FieldsAmong.{AreAmong, fields_among}
 use Rattle.sm_merge.specs.Meaning.{Defined, members_meant, node_meant}
 use Rattle.sm_merge.proofs.PreludeGiven.{clash}
 use Rattle.sm_merge.specs.Stated.{body_of, field_stated, fields_stated, is_empty}
@@ -41,35 +37,6 @@ one_said name (Some r) = (name, r) ∷ []
 abbrev pub forms_said : (PropertyForm → Option Node → Option Raw) → TypeFields → Members → List (List ℕ × Raw)
 forms_said said [] ms = []
 forms_said said (f ∷ fs) ms = one_said f.0 (said f.1 (tree_named f.0 ms)) ++ forms_said said fs ms
-
--- each field of a type has its form under its name
-abbrev AreAmong : TypeFields → TypeFields → Type 0
-AreAmong gs [] = Unit {0}
-AreAmong gs (f ∷ fs) = (form_named f.0 gs ≡ Some f.1) × AreAmong gs fs
-
-fields_among : (kind : Kind) → AreAmong (property_forms kind) (property_forms kind)
-fields_among Operation = (refl, (refl, (refl, tt)))
-fields_among Service = (refl, (refl, (refl, (refl, (refl, tt)))))
-fields_among Resource = (refl, (refl, (refl, (refl, (refl, (refl, (refl, (refl, (refl, (refl, (refl, tt)))))))))))
-fields_among list_kind = tt
-fields_among Map = tt
-fields_among Structure = tt
-fields_among Union = tt
-fields_among Enum = tt
-fields_among IntEnum = tt
-fields_among Blob = tt
-fields_among Boolean = tt
-fields_among text_kind = tt
-fields_among Byte = tt
-fields_among Short = tt
-fields_among Integer = tt
-fields_among Long = tt
-fields_among Float = tt
-fields_among Double = tt
-fields_among BigInteger = tt
-fields_among BigDecimal = tt
-fields_among Timestamp = tt
-fields_among Document = tt
 
 -- what stands under a name is a pair
 named_pair : (k : List ℕ) (n : Node) (ms : Members) → tree_named k ms ≡ Some n → HasPair k n ms

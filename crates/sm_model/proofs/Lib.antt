@@ -24,3 +24,4 @@ pub mod LinkedEntries
 mod LinkedGraphs
 pub mod Worklist
 pub mod NumberedIds
+pub mod FieldsAmong

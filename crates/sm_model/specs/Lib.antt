@@ -10,6 +10,7 @@ pub mod SaidView
 pub mod Formed
 pub mod Graphs
 pub mod Given
+pub mod Named
 pub mod GivenView
 pub mod PreludeShapes
 pub mod FormedGraph
