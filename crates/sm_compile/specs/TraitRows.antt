@@ -1,5 +1,5 @@
 -- The traits of the prelude, of the protocols and of the protocol tests: which values each may have, and where it may stand (Smithy 2.0,
--- "Trait index", and the page of each trait).
+-- "Trait index", and the page of each trait). A trait of two rows, as `range`, has the value of the row whose place takes it in.
 use Rattle.std.specs.Prelude.{◌&&◌, ◌||◌, ℕ, Bool, true, false, not, List, [], ◌∷◌, ◌++◌, map, Option, Some, None}
 use Rattle.std.specs.Prelude.{cond, codes, is_some}
 use Rattle.std.specs.List.{list_any, list_all, filter}
@@ -8,6 +8,7 @@ use Rattle.std.specs.Str.{bytes_eq}
 use Rattle.httparse.specs.Grammar.{is_token}
 use Rattle.sm_tree.specs.Node.{Node, Nodes, Members, no_nodes, node, no_members, member}
 use Rattle.sm_tree.specs.Parts.{text_in, entries_in, pairs_in}
+use Rattle.sm_model.specs.Graphs.{Entry, shape_entry, member_entry}
 use Rattle.sm_model.specs.Kinds.{kind_name}
 use Rattle.sm_model.specs.PreludeShapes.{api_id}
 use Rattle.sm_model.specs.declared.kind.Kind.{Kind}
@@ -248,6 +249,34 @@ has_form a_time_format n = is_timestamp_format n
 has_form whole_number n = is_number n
 has_form text_or_number n = is_text n || is_number n
 
+-- where a trait stands: at a shape of this type, or at a member of a shape of this type with this behind its target, where it is there
+pub data Spot : Type 0 where
+  at_shape : Kind → Spot
+  at_member : Kind → Option Entry → Spot
+
+-- a target that isn't there is none of a wrong type
+abbrev pub targets_among : (Kind → Bool) → Option Entry → Bool
+targets_among kinds None = true
+targets_among kinds (Some (shape_entry s)) = kinds s.kind
+targets_among kinds (Some (member_entry m)) = false
+
+abbrev pub takes_in : Spot → PlaceForm → Bool
+takes_in spot everywhere = true
+takes_in (at_shape kind) any_shape = true
+takes_in (at_member kind target) any_shape = false
+takes_in (at_shape kind) structure_member = false
+takes_in (at_member kind target) structure_member = is_kind model.Structure kind
+takes_in (at_shape kind) (member_of kinds) = false
+takes_in (at_member kind target) (member_of kinds) = kinds kind
+takes_in (at_shape kind) (of_types kinds) = kinds kind
+takes_in (at_member kind target) (of_types kinds) = false
+takes_in (at_shape kind) (targeting kinds) = false
+takes_in (at_member kind target) (targeting kinds) = targets_among kinds target
+takes_in spot unit_alone = false
+
+abbrev pub row_takes_in : Spot → TraitRow → Bool
+row_takes_in spot r = list_any (takes_in spot) r.places
+
 -- the rows of a trait
 abbrev pub rows_of : List ℕ → List TraitRow
 rows_of trait = filter (λ r. list_any (bytes_eq trait) r.traits) trait_rows
@@ -255,9 +284,17 @@ rows_of trait = filter (λ r. list_any (bytes_eq trait) r.traits) trait_rows
 abbrev pub has_row : List ℕ → Bool
 has_row trait = not (has_none (rows_of trait))
 
+-- one of its rows takes the trait in at this spot
+abbrev pub may_stand : List ℕ → Spot → Bool
+may_stand trait spot = list_any (row_takes_in spot) (rows_of trait)
+
 -- a value is as one of these rows says
 abbrev pub is_as_one : List TraitRow → Node → Bool
 is_as_one rows n = list_any (λ r. has_form r.value n) rows
+
+-- the rows by which a value is judged: those that take the trait in at this spot, and all of them where none does
+abbrev pub judging : List ℕ → Spot → List TraitRow
+judging trait spot = cond (may_stand trait spot) (filter (row_takes_in spot) (rows_of trait)) (rows_of trait)
 
 -- a value of a trait that reads: it is as a row of the trait says
 abbrev pub that_reads : List ℕ → Option Node → Option Node

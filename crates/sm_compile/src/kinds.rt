@@ -15,8 +15,8 @@ pub(crate) fn has_values(kind: Kind) -> bool
     }
 }
 
-/// Whether the values of a type are texts.
-pub(crate) fn is_text_kind(kind: Kind) -> bool
+/// Whether the values of a type are texts. No memory.
+pub fn is_text_kind(kind: Kind) -> bool
     ensures { result ≡ kinds.is_text_kind kind }
 {
     match kind {
@@ -25,8 +25,8 @@ pub(crate) fn is_text_kind(kind: Kind) -> bool
     }
 }
 
-/// Whether the values of a type are whole numbers of at most 64 bits.
-pub(crate) fn is_whole_kind(kind: Kind) -> bool
+/// Whether the values of a type are whole numbers of at most 64 bits. No memory.
+pub fn is_whole_kind(kind: Kind) -> bool
     ensures { result ≡ kinds.is_whole_kind kind }
 {
     match kind {
@@ -35,8 +35,8 @@ pub(crate) fn is_whole_kind(kind: Kind) -> bool
     }
 }
 
-/// Whether the values of a type have a length.
-pub(crate) fn has_length(kind: Kind) -> bool
+/// Whether the values of a type have a length. No memory.
+pub fn has_length(kind: Kind) -> bool
     ensures { result ≡ kinds.has_length kind }
 {
     match kind {

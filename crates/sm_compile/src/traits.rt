@@ -26,9 +26,9 @@ pub(crate) fn number_in(tree: &Tree) -> Option<i64>
     }
 }
 
-/// Whether a tree is an object.
+/// Whether a tree is an object. No memory.
 #[tactic(auto, using(sm_tree::proofs::Views::node_object_pairs))]
-pub(crate) fn is_object(tree: &Tree) -> bool
+pub fn is_object(tree: &Tree) -> bool
     ensures { result ≡ nodes.is_object (node_of tree.now) }
 {
     match tree {
@@ -37,9 +37,9 @@ pub(crate) fn is_object(tree: &Tree) -> bool
     }
 }
 
-/// Whether a tree is a text.
+/// Whether a tree is a text. No memory.
 #[tactic(auto, using(sm_tree::proofs::Views::node_text))]
-pub(crate) fn is_text(tree: &Tree) -> bool
+pub fn is_text(tree: &Tree) -> bool
     ensures { result ≡ nodes.is_text (node_of tree.now) }
 {
     match tree {
@@ -48,16 +48,16 @@ pub(crate) fn is_text(tree: &Tree) -> bool
     }
 }
 
-/// Whether a tree is a whole number that fits 64 bits with sign.
-pub(crate) fn is_number(tree: &Tree) -> bool
+/// Whether a tree is a whole number that fits 64 bits with sign. No memory.
+pub fn is_number(tree: &Tree) -> bool
     ensures { result ≡ nodes.is_number (node_of tree.now) }
 {
     number_in(tree).is_some()
 }
 
-/// Whether a tree is a number of any size.
+/// Whether a tree is a number of any size. No memory.
 #[tactic(auto, using(sm_tree::proofs::Views::node_int, sm_tree::proofs::Views::node_number))]
-pub(crate) fn is_any_number(tree: &Tree) -> bool
+pub fn is_any_number(tree: &Tree) -> bool
     ensures { result ≡ nodes.is_any_number (node_of tree.now) }
 {
     match tree {
@@ -67,9 +67,9 @@ pub(crate) fn is_any_number(tree: &Tree) -> bool
     }
 }
 
-/// What stands under a name in an object; `None` for any other tree.
+/// What stands under a name in an object; `None` for any other tree. No memory.
 #[tactic(auto, using(sm_tree::proofs::Views::node_object_pairs))]
-pub(crate) fn field_of<'a>(tree: &'a Tree, name: &str) -> Option<&'a Tree>
+pub fn field_of<'a>(tree: &'a Tree, name: &str) -> Option<&'a Tree>
     ensures { option_map (λ t. node_of t.now) result ≡ field_of name.now (node_of tree.now) }
 {
     match tree {
@@ -88,8 +88,8 @@ pub(crate) fn bound_of(tree: Option<&Tree>, name: &str) -> Option<i64>
     }
 }
 
-/// The number that may be there.
-pub(crate) fn number_of(tree: Option<&Tree>) -> Option<i64>
+/// The number that may be there, where it fits 64 bits with sign. No memory.
+pub fn number_of(tree: Option<&Tree>) -> Option<i64>
     ensures { result ≡ number_of (option_map (λ t. node_of t.now) tree.entry) }
 {
     match tree {
@@ -98,8 +98,8 @@ pub(crate) fn number_of(tree: Option<&Tree>) -> Option<i64>
     }
 }
 
-/// The text that may be there.
-pub(crate) fn text_in_trait(tree: Option<&Tree>) -> Option<&str>
+/// The text that may be there. No memory.
+pub fn text_in_trait(tree: Option<&Tree>) -> Option<&str>
     ensures { option_copied result ≡ text_of (option_map (λ t. node_of t.now) tree.entry) }
 {
     match tree {
@@ -119,8 +119,8 @@ fn text_in(tree: &Tree) -> Option<&str>
     }
 }
 
-/// The format that the text names that may be there.
-pub(crate) fn format_of(tree: Option<&Tree>) -> Option<Format>
+/// The format that the text names that may be there. No memory.
+pub fn format_of(tree: Option<&Tree>) -> Option<Format>
     ensures { result ≡ format_named (text_of (option_map (λ t. node_of t.now) tree.entry)) }
 {
     match text_in_trait(tree) {

@@ -13,3 +13,10 @@ mod RepeatedNames
 mod UnknownTraits
 mod UnusedShapes
 mod ExclusiveTraits
+mod HttpSaid
+mod HttpUris
+mod HttpBodies
+mod HttpCodes
+mod RowTested
+mod JudgedTraits
+mod TableTold

@@ -2,7 +2,8 @@
 use Rattle.std.proofs.Common.{◌≡◌, ◌&&◌, ℕ, Bool, true, false, List, Option, Some, None, refl, ap, ◌∙◌}
 use Rattle.std.specs.Prelude.{not}
 use Rattle.std.specs.FinMap as fin
-use Rattle.sm_model.specs.Graphs.{Entry, shape_entry, member_entry, ShapeEntry, GraphMaps}
+use Rattle.sm_model.specs.Graphs.{Entry, shape_entry, member_entry, ShapeEntry, MemberEntry, GraphMaps}
+use Rattle.sm_model.specs.GraphView.{is_member_entry}
 use Rattle.sm_model.specs.PreludeShapes.{is_prelude_id}
 use Rattle.sm_model.specs.declared.kind.Kind.{Kind}
 use Rattle.sm_model.specs.declared.kind.Kind.TheVariants.{Structure}
@@ -11,6 +12,7 @@ use Rattle.sm_model.proofs.Worklist.{apart}
 use Rattle.sm_compile.specs.rules.Words.{IsOwnShape}
 use Rattle.sm_compile.specs.Looked.{kind_in, kind_under}
 use Rattle.sm_load.specs.steps.Folded.{is_own_shape, is_shape}
+use Rattle.sm_load.specs.steps.InBody.{is_member_in}
 use Rattle.sm_load.specs.steps.Owned.{is_own_structure, is_structure}
 
 pub not_so : (b : Bool) → not b ≡ true → b ≡ false
@@ -56,3 +58,13 @@ own_told g id h =
 
 pub told_own : (g : GraphMaps) (id : List ℕ) (s : ShapeEntry) → IsOwnShape g id s → is_own_shape g id ≡ true
 told_own g id s own = ap (λ o. is_shape o && not (is_prelude_id id)) own.0 ∙ ap not own.1
+
+-- what stands there is a member
+pub member_seen : (e : Entry) → is_member_in (Some e) ≡ is_member_entry e
+member_seen (shape_entry s) = refl
+member_seen (member_entry m) = refl
+
+pub member_in : (o : Option Entry) → is_member_in o ≡ true → (m : MemberEntry) × (o ≡ Some (member_entry m))
+member_in None h = absurd (apart h)
+member_in (Some (shape_entry s)) h = absurd (apart h)
+member_in (Some (member_entry m)) h = (m, refl)

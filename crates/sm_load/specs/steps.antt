@@ -1,10 +1,17 @@
 pub mod Bounding
 pub mod Carrying
+pub mod Codes
 pub mod Earlier
 pub mod Excluding
 pub mod Firsts
 pub mod Folded
+pub mod Forms
+pub mod Http
+pub mod InBody
+pub mod Judging
 pub mod Knowing
 pub mod Owned
+pub mod Places
 pub mod Putting
+pub mod RowTests
 pub mod Using

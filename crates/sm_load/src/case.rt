@@ -2,7 +2,6 @@
 ghost use Rattle.std.specs.Prelude.{◌≡◌, ◌++◌, ℕ, List, IfOk, OnOk, Some, length};
 ghost use Rattle.std.specs.List.{Contains};
 ghost use Rattle.sm_model.specs.GraphView.{IsShapeNumber, entries_of, maps_of};
-ghost use Rattle.sm_model.specs.Reaching.{id_of_number};
 ghost use Rattle.sm_load.specs.RuleEvents.{IsEventOf, Puts};
 ghost use Rattle.sm_load.specs.declared.rule.Rule.TheVariants.{IdCase};
 ghost use Rattle.sm_load.specs.rules.Ids.{HasCaseTwin};

@@ -1,5 +1,5 @@
 // A rule that is told number by number.
-ghost use Rattle.std.specs.Prelude.{◌≡◌, ℕ, List, OnOk, length};
+ghost use Rattle.std.specs.Prelude.{ℕ, List, OnOk, length};
 ghost use Rattle.sm_model.specs.EventView.{EventTold};
 ghost use Rattle.sm_model.specs.GraphView.{IsShapeNumber, entries_of, maps_of};
 ghost use Rattle.sm_model.specs.Graphs.{GraphMaps};

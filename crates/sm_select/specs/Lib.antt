@@ -7,6 +7,7 @@ pub mod Picks
 pub mod Answers
 pub mod Neighbors
 pub mod Images
+pub mod Ways
 pub mod Followed
 pub mod Laws
 pub mod steps

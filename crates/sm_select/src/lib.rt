@@ -35,3 +35,4 @@ pub use refusal::SelectorRefusal;
 pub use selecting::select;
 pub use selector::{Relations, Selector, SelectorOp, SelectorPath, SelectorStep, Selectors, Texts};
 pub use walk::walked;
+pub use ways::{Ways, image_along, image_of_walk};

@@ -5,7 +5,7 @@ ghost use Rattle.sm_model.specs.Links.{AreLinks};
 ghost use Rattle.sm_model.specs.Relations.{IsNeighbor, Reaches};
 ghost use Rattle.sm_select.specs.Images.{AreImage, turned};
 ghost use Rattle.sm_select.specs.Picks.{LeadsAlong};
-ghost use Rattle.sm_select.specs.steps.Imaging.{AreSteps, AreWays};
+ghost use Rattle.sm_select.specs.Ways.{AreSteps, AreWays};
 
 use crate::follow::followed;
 use crate::neighbors::Neighbors;
@@ -27,9 +27,9 @@ const FOLLOWED: [Relation; 9] = [
     Relation::Property,
 ];
 
-/// What is looked up once for all steps of a selector.
+/// What is looked up once for all steps along the links of a graph.
 #[derive(Drop)]
-pub(crate) struct Ways {
+pub struct Ways {
     /// The links of the graph.
     pub links: Vec<Link>,
     /// Where a step leads to from each number.
@@ -39,7 +39,7 @@ pub(crate) struct Ways {
 }
 
 impl Ways {
-    /// The ways of a graph.
+    /// The ways of a graph. `NoMemory` where they find no room.
     pub fn new(alloc: Global, graph: &Graph) -> Result<Self, NoMemory>
         ensures { IfOk result (λ ways. AreWays graph.now ways) }
     {
@@ -50,8 +50,9 @@ impl Ways {
     }
 }
 
-/// The numbers to which links of these relations lead from marked ones, or with `back` from which they lead to them.
-pub(crate) fn image_along(
+/// The numbers to which links of these relations lead from marked ones, or with `back` from which they lead to them, as marks. Each
+/// link is looked at once. `NoMemory` where the marks find no room.
+pub fn image_along(
     alloc: Global,
     graph: &Graph,
     ways: &Ways,
@@ -82,8 +83,8 @@ pub(crate) fn image_of_one(
     image_along(alloc, graph, ways, &FOLLOWED, back, starts)
 }
 
-/// The same by one such step or more.
-pub(crate) fn image_of_walk(
+/// The same by one such step or more of any relation but that from a member to its shape. Each step is taken once.
+pub fn image_of_walk(
     alloc: Global,
     graph: &Graph,
     ways: &Ways,

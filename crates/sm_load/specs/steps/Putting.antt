@@ -14,3 +14,7 @@ IsWhere test told e = (test ≡ true) × (e ≡ told)
 -- what is told of each of these
 abbrev pub ToldOf : {X : Type 0} → (X → EventTold → Type 0) → List X → EventTold → Type 0
 ToldOf Told xs e = (x : _) × Contains xs x × Told x e
+
+-- this one, where it doesn't hold
+abbrev pub IsUnless : Type 0 → EventTold → EventTold → Type 0
+IsUnless Holds told e = (Holds → ⊥) × (e ≡ told)
