@@ -12,5 +12,6 @@ pub mod UriRoutes
 pub mod Laws
 pub mod TraitRows
 pub mod rules
+pub mod Ready
 pub mod Looked
 pub mod steps

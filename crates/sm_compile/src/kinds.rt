@@ -5,8 +5,8 @@ ghost use Rattle.sm_compile.specs.Kinds as kinds;
 use sm_model::Kind;
 use sm_shapes::kinds::ShapeKind;
 
-/// Whether shapes of a type have values.
-pub(crate) fn has_values(kind: Kind) -> bool
+/// Whether shapes of a type have values. No memory.
+pub fn has_values(kind: Kind) -> bool
     ensures { result ≡ kinds.has_values kind }
 {
     match kind {
@@ -55,8 +55,8 @@ pub(crate) fn has_value_members(kind: Kind) -> bool
     }
 }
 
-/// Whether the member of a shape of a type may target a shape of this one, which may be the prelude's unit.
-pub(crate) fn may_target(home: Kind, unit: bool, target: Kind) -> bool
+/// Whether the member of a shape of a type may target a shape of this one, which may be the prelude's unit. No memory.
+pub fn may_target(home: Kind, unit: bool, target: Kind) -> bool
     ensures { result ≡ kinds.may_target home unit target }
 {
     match home {
@@ -66,8 +66,8 @@ pub(crate) fn may_target(home: Kind, unit: bool, target: Kind) -> bool
     }
 }
 
-/// The kind that a table has for a type.
-pub(crate) fn table_kind(kind: Kind) -> ShapeKind
+/// The kind that a table has for a type. No memory.
+pub fn table_kind(kind: Kind) -> ShapeKind
     ensures { result ≡ kinds.table_kind kind }
 {
     match kind {

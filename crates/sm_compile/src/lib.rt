@@ -32,11 +32,15 @@ mod way;
 pub use compile::compile_shape;
 pub use compiled::{CompileRefusal, OneShape, Served};
 pub use formed::{are_lengths_where, are_ordered_where, are_whole_bounds_where, is_range_where};
-pub use kinds::{has_length, is_text_kind, is_whole_kind};
+pub use kinds::{has_length, has_values, is_text_kind, is_whole_kind, may_target, table_kind};
 pub use look::{id_text, kind_of, members_of, target_kind, target_of, targets_unit, trait_node};
-pub use names::member_name;
-pub use soundness::sound;
+pub use names::{json_name, member_name};
+pub use reach::reached;
+pub use seen::has_trait;
+pub use soundness::{is_sound_shape, sound};
+pub use tabled::{Tabled, compile_marked};
 pub use traits::{
-    field_of, format_of, is_any_number, is_number, is_object, is_text, number_of, text_in_trait,
+    field_of, format_of, is_any_number, is_number, is_object, is_text, number_in, number_of,
+    text_in_trait,
 };
 pub use uri::{Segment, UriPattern, UriRefusal, route_text};

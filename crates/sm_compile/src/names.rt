@@ -91,8 +91,8 @@ pub(crate) fn names_of<'a>(
     Ok(Some(Names { names, json_names }))
 }
 
-/// The name that a member of this name has where JSON names are looked at.
-pub(crate) fn json_name<'a>(graph: &'a Graph, member: u32, name: &'a str) -> &'a str
+/// The name that a member of this name has where JSON names are looked at. No memory.
+pub fn json_name<'a>(graph: &'a Graph, member: u32, name: &'a str) -> &'a str
     requires { IsShapeNumber graph.now member }
     ensures { result.now ≡ unwrap_or (text_of (trait_of (maps_of graph.now) (id_of_number graph.now member) json_name_id)) name.now }
 {

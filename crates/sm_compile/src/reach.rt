@@ -36,8 +36,9 @@ impl Steps for MemberSteps<'_> {
     }
 }
 
-/// The numbers that are reached from some of these, which are reached too, as marks. n log n in what is reached.
-pub(crate) fn reached(alloc: Global, graph: &Graph, roots: &[u32]) -> Result<Vec<bool>, NoMemory>
+/// The numbers that are reached from some of these, which are reached too, as marks. `NoMemory` where memory is
+/// refused. n log n in what is reached.
+pub fn reached(alloc: Global, graph: &Graph, roots: &[u32]) -> Result<Vec<bool>, NoMemory>
     requires { AreShapeNumbers graph.now roots.now }
     ensures { IfOk result (λ marks. AreMarks (length (entries_of graph.now))
         (λ k. IsReachedFrom graph.now roots.now (id_of_number graph.now k)) marks.items) }

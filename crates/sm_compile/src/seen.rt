@@ -115,8 +115,8 @@ pub(crate) fn is_bound(graph: &Graph, member: u32) -> bool
         || has_trait(graph, member, "smithy.api#httpResponseCode")
 }
 
-/// Whether a shape or member has a trait.
-pub(crate) fn has_trait(graph: &Graph, number: u32, name: &str) -> bool
+/// Whether a shape or member has a trait. No memory.
+pub fn has_trait(graph: &Graph, number: u32, name: &str) -> bool
     requires { IsShapeNumber graph.now number }
     ensures { result ≡ is_some (trait_of (maps_of graph.now) (id_of_number graph.now number) name.now) }
 {

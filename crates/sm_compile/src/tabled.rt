@@ -24,15 +24,16 @@ use std::alloc::Global;
 
 /// A table, and the numbers of its shapes in the graph.
 #[derive(Drop)]
-pub(crate) struct Tabled {
+pub struct Tabled {
     /// The table.
     pub table: Table,
     /// The numbers.
     pub shapes: Vec<u32>,
 }
 
-/// The table of the marked shapes that have values, whose patterns are added to the store. n log n in what is marked.
-pub(crate) fn compile_marked<P: Patterns>(
+/// The table of the marked shapes that have values, whose patterns are added to the store; or the pattern that the store refuses, or
+/// `NoMemory` where memory is refused. n log n in what is marked.
+pub fn compile_marked<P: Patterns>(
     alloc: Global,
     graph: &Graph,
     marks: &[bool],

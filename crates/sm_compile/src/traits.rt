@@ -15,9 +15,9 @@ use sm_model::{Graph, Kind, pairs_of, text_of, tree_under};
 use sm_time::Format;
 use sm_tree::Tree;
 
-/// The number that a tree is, where it fits 64 bits with sign.
+/// The number that a tree is, where it fits 64 bits with sign. No memory.
 #[tactic(auto, using(sm_tree::proofs::Views::node_int))]
-pub(crate) fn number_in(tree: &Tree) -> Option<i64>
+pub fn number_in(tree: &Tree) -> Option<i64>
     ensures { result ≡ number_in (node_of tree.now) }
 {
     match tree {

@@ -1,0 +1,17 @@
+use Rattle.std.proofs.Common.{ap, sym, ◌∙◌}
+use Rattle.sm_model.specs.GraphView.{maps_of}
+use Rattle.sm_model.specs.PreludeShapes.{is_prelude_id}
+use Rattle.sm_model.specs.Reaching.{id_of_number}
+use Rattle.sm_rules.proofs.UnknownTraits.{no_unknown, unknown_put}
+use Rattle.sm_rules.proofs.unknown.UnknownAtEach.put_at.Goals as goal
+
+pub returns-then-is_in_prelude : goal.returns-then-is_in_prelude
+returns-then-is_in_prelude c =
+    no_unknown (maps_of c.args.graph.now) (id_of_number c.args.graph.now c.args.number) c.args.events.now.items
+    (ap is_prelude_id (sym c.id_text.ensures) ∙ sym c.is_in_prelude.ensures ∙ c.if-is_in_prelude.true)
+
+pub returns-in_ok-put_each_unknown : goal.returns-in_ok-put_each_unknown
+returns-in_ok-put_each_unknown c =
+    unknown_put c.args.graph.now c.args.number c.traits.result.now c.traits.ensures
+    (ap is_prelude_id (sym c.id_text.ensures) ∙ sym c.is_in_prelude.ensures ∙ c.if-is_in_prelude.false)
+    c.args.events.now.items c.put_each_unknown.new.events.items c.in_ok-put_each_unknown.ensures

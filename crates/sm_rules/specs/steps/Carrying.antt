@@ -1,0 +1,22 @@
+-- Members that carry a trait, as tests.
+use Rattle.std.specs.Prelude.{ℕ, Bool, false, List, [], ◌∷◌, cond, is_some}
+use Rattle.std.specs.List.{list_any}
+use Rattle.sm_model.specs.EventView.{EventTold}
+use Rattle.sm_model.specs.Graphs.{GraphMaps}
+use Rattle.sm_compile.specs.Sound.{trait_of}
+use Rattle.sm_compile.specs.Looked.{listed_under}
+use Rattle.sm_rules.specs.RuleEvents.{rule_event}
+use Rattle.sm_rules.specs.declared.rule.Rule.TheVariants as rule
+use Rattle.sm_rules.specs.steps.Putting.{IsWhere}
+
+abbrev pub carries : GraphMaps → List ℕ → List ℕ → Bool
+carries g trait id = is_some (trait_of g id trait)
+
+-- two of these do
+abbrev pub carried_twice : GraphMaps → List ℕ → List (List ℕ) → Bool
+carried_twice g trait [] = false
+carried_twice g trait (id ∷ ids) = cond (carries g trait id) (list_any (carries g trait) ids) (carried_twice g trait ids)
+
+-- so it is told
+abbrev pub ToldTwice : GraphMaps → List ℕ → List ℕ → EventTold → Type 0
+ToldTwice g id trait e = IsWhere (carried_twice g trait (listed_under g id)) (rule_event rule.TraitSingle id trait) e

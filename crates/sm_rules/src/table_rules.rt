@@ -1,0 +1,150 @@
+// Trait.Value and Trait.Place by the table: values are as the rows of their traits say, and traits stand where these allow it.
+ghost use Rattle.std.specs.Prelude.{◌≡◌, ◌&&◌, OnOk, cond};
+ghost use Rattle.sm_tree.specs.View.{node_of};
+ghost use Rattle.sm_model.specs.GraphView.{maps_of};
+ghost use Rattle.sm_compile.specs.TraitRows.{trait_rows};
+ghost use Rattle.sm_compile.specs.rules.Traits.{HasOtherValue, StandsElsewhere};
+ghost use Rattle.sm_rules.specs.RuleEvents.{IsEventOf, Puts};
+ghost use Rattle.sm_rules.specs.declared.rule.Rule.TheVariants.{TraitPlace, TraitValue};
+ghost use Rattle.sm_rules.specs.steps.RowTests.{any_row, is_wrong_place, is_wrong_value, reads_by, reads_there, some_row, stands_by};
+
+use crate::each::put_each;
+use crate::judged::{Judge, Judged};
+use crate::rows::form::{Form, is_of_form};
+use crate::rows::names::{RowTest, some_row};
+use crate::rows::place::{Place, Stand, allows};
+use crate::rule::Rule;
+use sm_model::{Graph, ModelEvent};
+use sm_tree::{NoMemory, Tree};
+use std::alloc::Global;
+
+#[derive(Drop)]
+struct AnyRow;
+
+impl RowTest for AnyRow {
+    ghost passes = { λ test. any_row };
+
+    fn passes(&self, _form: Form, _place: Place) -> bool {
+        true
+    }
+}
+
+#[derive(Drop)]
+struct StandsBy {
+    at: Stand,
+}
+
+impl RowTest for StandsBy {
+    ghost passes = { λ test. stands_by test.at };
+
+    fn passes(&self, _form: Form, place: Place) -> bool {
+        allows(place, self.at)
+    }
+}
+
+#[derive(Drop)]
+struct ReadsBy<'a> {
+    tree: &'a Tree,
+}
+
+impl RowTest for ReadsBy<'_> {
+    ghost passes = { λ test. reads_by (node_of test.tree.now) };
+
+    fn passes(&self, form: Form, _place: Place) -> bool {
+        is_of_form(form, self.tree)
+    }
+}
+
+#[derive(Drop)]
+struct ReadsThere<'a> {
+    at: Stand,
+    tree: &'a Tree,
+}
+
+impl RowTest for ReadsThere<'_> {
+    ghost passes = { λ test. reads_there test.at (node_of test.tree.now) };
+
+    fn passes(&self, form: Form, place: Place) -> bool {
+        let here = allows(place, self.at);
+        let reads = is_of_form(form, self.tree);
+        both(here, reads)
+    }
+}
+
+fn both(one: bool, other: bool) -> bool
+    ensures { result ≡ (one && other) }
+{
+    one && other
+}
+
+#[derive(Drop)]
+struct Values;
+
+impl Judge for Values {
+    ghost rule = { λ judge. TraitValue };
+
+    ghost wrong = { λ judge. is_wrong_value };
+
+    fn rule(&self) -> Rule {
+        Rule::TraitValue
+    }
+
+    fn is_wrong(&self, name: &str, at: Stand, tree: &Tree) -> bool {
+        some_row(name, &AnyRow) && !reads(name, at, tree)
+    }
+}
+
+// Whether a value is as a row says that allows the place, or as any row says where none does.
+fn reads(name: &str, at: Stand, tree: &Tree) -> bool
+    ensures { result ≡ cond (some_row name.now (stands_by at) trait_rows) (some_row name.now (reads_there at (node_of tree.now)) trait_rows)
+        (some_row name.now (reads_by (node_of tree.now)) trait_rows) }
+{
+    if some_row(name, &StandsBy { at }) {
+        some_row(name, &ReadsThere { at, tree })
+    } else {
+        some_row(name, &ReadsBy { tree })
+    }
+}
+
+#[derive(Drop)]
+struct Stands;
+
+impl Judge for Stands {
+    ghost rule = { λ judge. TraitPlace };
+
+    ghost wrong = { λ judge. is_wrong_place };
+
+    fn rule(&self) -> Rule {
+        Rule::TraitPlace
+    }
+
+    fn is_wrong(&self, name: &str, at: Stand, _tree: &Tree) -> bool {
+        some_row(name, &AnyRow) && !some_row(name, &StandsBy { at })
+    }
+}
+
+/// Puts the events of Trait.Value that the table tells. n times the table.
+pub fn put_other_values(
+    alloc: Global,
+    graph: &Graph,
+    events: &mut Vec<ModelEvent>,
+) -> Result<(), NoMemory>
+    ensures { OnOk result
+        (Puts (IsEventOf TraitValue (HasOtherValue (maps_of graph.now))) events.old.items events.new.items) }
+{
+    put_each(alloc, graph, &Judged { judge: &Values }, events)?;
+    Ok(())
+}
+
+/// Puts the events of Trait.Place that the table tells. n times the table.
+pub fn put_other_places(
+    alloc: Global,
+    graph: &Graph,
+    events: &mut Vec<ModelEvent>,
+) -> Result<(), NoMemory>
+    ensures { OnOk result
+        (Puts (IsEventOf TraitPlace (StandsElsewhere (maps_of graph.now))) events.old.items events.new.items) }
+{
+    put_each(alloc, graph, &Judged { judge: &Stands }, events)?;
+    Ok(())
+}

@@ -1,0 +1,157 @@
+// Shape.Unused: each shape is used by some service, where there is one.
+ghost use Rattle.std.specs.Prelude.{◌≡◌, Bool, OnOk, length, true};
+ghost use Rattle.std.specs.List.{list_any};
+ghost use Rattle.sm_model.specs.GraphView.{IsShapeNumber, entries_of, maps_of};
+ghost use Rattle.sm_model.specs.Reaching.{AreMarks, id_of_number};
+ghost use Rattle.sm_rules.specs.RuleEvents.{IsEventAt, IsEventOf, Puts};
+ghost use Rattle.sm_rules.specs.declared.rule.Rule.TheVariants.{ShapeUnused};
+ghost use Rattle.sm_rules.specs.rules.Ids.{IsUnused};
+ghost use Rattle.sm_rules.specs.steps.Using.{AreUsed, is_own_service, is_service, is_unused, wants_use};
+
+use crate::carried::carries;
+use crate::each::{AtEach, put_each};
+use crate::marked::{NumberTest, marked_where};
+use crate::owned::is_own_shape;
+use crate::putting::put_if;
+use crate::rule::Rule;
+use sm_compile::{id_text, kind_of};
+use sm_model::{Graph, Kind, ModelEvent, is_in_prelude};
+use sm_select::walked;
+use sm_tree::NoMemory;
+use std::alloc::Global;
+
+// Services outside of the prelude.
+#[derive(Drop)]
+struct Services;
+
+impl NumberTest for Services {
+    ghost passes = { λ test. is_own_service };
+
+    fn passes(&self, graph: &Graph, number: u32) -> bool {
+        is_service(kind_of(graph, number)) && !is_in_prelude(id_text(graph, number))
+    }
+}
+
+fn is_service(kind: Option<Kind>) -> bool
+    ensures { result ≡ is_service kind }
+{
+    match kind {
+        Some(kind) => match kind {
+            Kind::Service => true,
+            _ => false,
+        },
+        None => false,
+    }
+}
+
+/// Puts the events of the rule. n log n.
+pub fn put_unused(
+    alloc: Global,
+    graph: &Graph,
+    events: &mut Vec<ModelEvent>,
+) -> Result<(), NoMemory>
+    ensures { OnOk result
+        (Puts (IsEventOf ShapeUnused (IsUnused (maps_of graph.now))) events.old.items events.new.items) }
+{
+    let services = marked_where(alloc, graph, &Services)?;
+    put_unused_where(alloc, graph, services.as_slice(), events)?;
+    Ok(())
+}
+
+// The same with the services as marks.
+fn put_unused_where(
+    alloc: Global,
+    graph: &Graph,
+    services: &[bool],
+    events: &mut Vec<ModelEvent>,
+) -> Result<(), NoMemory>
+    requires { AreMarks (length (entries_of graph.now))
+        (λ k. is_own_service (maps_of graph.now) (id_of_number graph.now k) ≡ true) services.now }
+    ensures { OnOk result
+        (Puts (IsEventOf ShapeUnused (IsUnused (maps_of graph.now))) events.old.items events.new.items) }
+{
+    if some_marked(services) {
+        put_unused_by(alloc, graph, services, events)?;
+        Ok(())
+    } else {
+        Ok(())
+    }
+}
+
+// The same where there are some.
+fn put_unused_by(
+    alloc: Global,
+    graph: &Graph,
+    services: &[bool],
+    events: &mut Vec<ModelEvent>,
+) -> Result<(), NoMemory>
+    requires services { AreMarks (length (entries_of graph.now))
+        (λ k. is_own_service (maps_of graph.now) (id_of_number graph.now k) ≡ true) services.now }
+    requires some { list_any (λ (b : Bool). b) services.now ≡ true }
+    ensures { OnOk result
+        (Puts (IsEventOf ShapeUnused (IsUnused (maps_of graph.now))) events.old.items events.new.items) }
+{
+    let used = walked(alloc, graph, services)?;
+    put_each(
+        alloc,
+        graph,
+        &Unused {
+            marks: used.as_slice(),
+        },
+        events,
+    )?;
+    Ok(())
+}
+
+fn some_marked(marks: &[bool]) -> bool
+    ensures { result ≡ list_any (λ (b : Bool). b) marks.now }
+{
+    for mark in marks {
+        if *mark {
+            return true;
+        }
+    }
+    false
+}
+
+// What the services use, as marks.
+#[derive(Drop)]
+struct Unused<'a> {
+    marks: &'a [bool],
+}
+
+impl AtEach for Unused<'_> {
+    ghost tells = { λ rule g id. IsEventAt ShapeUnused (IsUnused g) id };
+
+    ghost knows = { λ rule g. AreUsed g rule.marks.now };
+
+    fn put_at(
+        &self,
+        alloc: Global,
+        graph: &Graph,
+        number: u32,
+        events: &mut Vec<ModelEvent>,
+    ) -> Result<(), NoMemory> {
+        let unused = is_unused(graph, self.marks, number);
+        put_if(alloc, graph, Rule::ShapeUnused, number, unused, "", events)?;
+        Ok(())
+    }
+}
+
+fn is_unused(graph: &Graph, marks: &[bool], number: u32) -> bool
+    requires number { IsShapeNumber graph.now number }
+    requires whole { length marks.now ≡ length (entries_of graph.now) }
+    ensures { result ≡ is_unused graph.now marks.now number }
+{
+    wants_use(graph, number) && !marks[number as usize]
+}
+
+fn wants_use(graph: &Graph, number: u32) -> bool
+    requires { IsShapeNumber graph.now number }
+    ensures { result ≡ wants_use (maps_of graph.now) (id_of_number graph.now number) }
+{
+    is_own_shape(graph, number)
+        && !is_service(kind_of(graph, number))
+        && !carries(graph, number, "smithy.api#trait")
+        && !carries(graph, number, "smithy.api#mixin")
+}
