@@ -38,7 +38,7 @@ impl Steps for MemberSteps<'_> {
 
 /// The numbers that are reached from some of these, which are reached too, as marks. `NoMemory` where memory is
 /// refused. n log n in what is reached.
-pub fn reached(alloc: Global, graph: &Graph, roots: &[u32]) -> Result<Vec<bool>, NoMemory>
+pub(crate) fn reached(alloc: Global, graph: &Graph, roots: &[u32]) -> Result<Vec<bool>, NoMemory>
     requires { AreShapeNumbers graph.now roots.now }
     ensures { IfOk result (λ marks. AreMarks (length (entries_of graph.now))
         (λ k. IsReachedFrom graph.now roots.now (id_of_number graph.now k)) marks.items) }

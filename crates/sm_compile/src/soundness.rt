@@ -91,7 +91,7 @@ fn is_sound_where(
 
 /// Whether a shape with its members is in order. It is so of a member. `NoMemory` where
 /// memory is refused.
-pub fn is_sound_shape(alloc: Global, graph: &Graph, shape: u32) -> Result<bool, NoMemory>
+pub(crate) fn is_sound_shape(alloc: Global, graph: &Graph, shape: u32) -> Result<bool, NoMemory>
     requires { IsShapeNumber graph.now shape }
     ensures { IfOk result (λ b. IsTrue b ↔ IsSoundAt graph.now shape) }
 {

@@ -24,7 +24,7 @@ use std::alloc::Global;
 
 /// A table, and the numbers of its shapes in the graph.
 #[derive(Drop)]
-pub struct Tabled {
+pub(crate) struct Tabled {
     /// The table.
     pub table: Table,
     /// The numbers.
@@ -33,7 +33,7 @@ pub struct Tabled {
 
 /// The table of the marked shapes that have values, whose patterns are added to the store; or the pattern that the store refuses, or
 /// `NoMemory` where memory is refused. n log n in what is marked.
-pub fn compile_marked<P: Patterns>(
+pub(crate) fn compile_marked<P: Patterns>(
     alloc: Global,
     graph: &Graph,
     marks: &[bool],

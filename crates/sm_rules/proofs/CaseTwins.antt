@@ -25,8 +25,8 @@ use Rattle.sm_model.proofs.Worklist.{apart}
 use Rattle.sm_rules.specs.RuleEvents.{IsEventOf, Puts, rule_event}
 use Rattle.sm_rules.specs.declared.rule.Rule.TheVariants.{IdCase}
 use Rattle.sm_rules.specs.rules.Ids.{HasCaseTwin, IsCaseTwin}
-use Rattle.sm_rules.specs.steps.Firsts.{ToldAmong, ToldFirst}
-use Rattle.sm_rules.specs.steps.Folded.{folded, folded_below, is_own_shape}
+use Rattle.sm_rules.specs.parts.Firsts.{ToldAmong, ToldFirst}
+use Rattle.sm_rules.specs.parts.Folded.{folded, folded_below, is_own_shape}
 use Rattle.sm_rules.proofs.EventsPut.{puts_same}
 use Rattle.sm_rules.proofs.OwnShapes.{own_told, told_own}
 use Rattle.sm_rules.proofs.Twins.{TellsFirst, first_told, is_row, row_is}

@@ -13,7 +13,7 @@ use Rattle.sm_model.specs.EventView.{EventTold}
 use Rattle.sm_model.specs.Graphs.{text_cmp}
 use Rattle.sm_model.specs.declared.event.ModelEvent.{ModelEvent}
 use Rattle.sm_rules.specs.RuleEvents.{Puts}
-use Rattle.sm_rules.specs.steps.Earlier.{ToldAfter, ToldAt}
+use Rattle.sm_rules.specs.parts.Earlier.{ToldAfter, ToldAt}
 use Rattle.sm_rules.proofs.EventsPut.{puts_none}
 use Rattle.sm_rules.proofs.FirstRows.{tests}
 use Rattle.sm_rules.proofs.TraitEntries.{found_in}

@@ -9,7 +9,7 @@ use Rattle.sm_model.specs.declared.event.ModelEvent.{ModelEvent}
 use Rattle.sm_model.specs.steps.Linking.{Joins}
 use Rattle.sm_model.proofs.Linking.{joins_both, joins_none, joins_one, joins_same}
 use Rattle.sm_rules.specs.RuleEvents.{HasItsSeverity, Puts}
-use Rattle.sm_rules.specs.steps.Putting.{Below, IsWhere}
+use Rattle.sm_rules.specs.parts.Putting.{Below, IsWhere}
 
 views_more : (es : List ModelEvent) (e : ModelEvent) → events_view (es ++ e ∷ []) ≡ events_view es ++ event_view e ∷ []
 views_more [] e = refl

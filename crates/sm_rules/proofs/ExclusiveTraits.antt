@@ -26,9 +26,9 @@ use Rattle.sm_compile.specs.steps.Naming.{texts_of_all}
 use Rattle.sm_compile.proofs.TabledShapes.{mapped_from, mapped_to}
 use Rattle.sm_rules.specs.RuleEvents.{IsEventAt, Puts, rule_event}
 use Rattle.sm_rules.specs.declared.rule.Rule.TheVariants.{TraitConflict}
-use Rattle.sm_rules.specs.steps.Carrying.{carries}
-use Rattle.sm_rules.specs.steps.Excluding.{ToldGreater, is_greater, is_smaller, of_methods, of_sides}
-use Rattle.sm_rules.specs.steps.Putting.{ToldOf}
+use Rattle.sm_rules.specs.parts.Carrying.{carries}
+use Rattle.sm_rules.specs.parts.Excluding.{ToldGreater, is_greater, is_smaller, of_methods, of_sides}
+use Rattle.sm_rules.specs.parts.Putting.{ToldOf}
 use Rattle.sm_rules.proofs.EventsPut.{puts_both, puts_none, puts_same}
 use Rattle.sm_rules.proofs.Singles.{any_split}
 

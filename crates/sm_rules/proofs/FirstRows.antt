@@ -11,7 +11,7 @@ use Rattle.sm_model.specs.Graphs.{text_cmp}
 use Rattle.sm_model.specs.declared.event.ModelEvent.{ModelEvent}
 use Rattle.sm_model.specs.declared.graph.Graph.{Graph}
 use Rattle.sm_rules.specs.RuleEvents.{Puts}
-use Rattle.sm_rules.specs.steps.Firsts.{ToldAmong, ToldFirst}
+use Rattle.sm_rules.specs.parts.Firsts.{ToldAmong, ToldFirst}
 use Rattle.sm_rules.proofs.EventsPut.{puts_none}
 use Rattle.sm_rules.proofs.ListPut.{none_of, put_behind}
 

@@ -23,8 +23,8 @@ use Rattle.sm_compile.specs.TraitIds.{http_header_id, http_prefix_headers_id, ht
 use Rattle.sm_compile.specs.rules.Bindings.{an_output, has_binding, is_in_body, a_payload, a_header, some_prefix_headers, a_response_code}
 use Rattle.sm_compile.specs.rules.Http.{HasOutputBody}
 use Rattle.sm_compile.specs.rules.Words.{IsMemberOf}
-use Rattle.sm_rules.specs.steps.Folded.{is_own_shape}
-use Rattle.sm_rules.specs.steps.InBody.{has_body_member, is_body_member, is_member_in}
+use Rattle.sm_rules.specs.parts.Folded.{is_own_shape}
+use Rattle.sm_rules.specs.parts.InBody.{has_body_member, is_body_member, is_member_in}
 use Rattle.sm_rules.proofs.OwnShapes.{member_in, own_told, told_own}
 
 -- one that passes

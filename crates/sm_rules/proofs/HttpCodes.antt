@@ -21,9 +21,9 @@ use Rattle.sm_compile.specs.rules.Http.{forbids_body, is_from_to, is_status_of}
 use Rattle.sm_compile.specs.rules.Words.{field_in, read_trait}
 use Rattle.sm_rules.specs.RuleEvents.{IsEventAt, Puts, rule_event}
 use Rattle.sm_rules.specs.declared.rule.Rule.TheVariants.{HttpCode}
-use Rattle.sm_rules.specs.steps.Codes.{TellsCode, TellsStatus, code_seen, is_wrong_code, is_wrong_status, status_seen}
-use Rattle.sm_rules.specs.steps.Owned.{is_own_structure}
-use Rattle.sm_rules.specs.steps.Putting.{IsWhere}
+use Rattle.sm_rules.specs.parts.Codes.{TellsCode, TellsStatus, code_seen, is_wrong_code, is_wrong_status, status_seen}
+use Rattle.sm_rules.specs.parts.Owned.{is_own_structure}
+use Rattle.sm_rules.specs.parts.Putting.{IsWhere}
 use Rattle.sm_rules.proofs.OwnShapes.{is_own, not_so, own_structure}
 use Rattle.sm_rules.proofs.EventsPut.{puts_both, puts_none, puts_same}
 use Rattle.sm_rules.proofs.HttpSaid.{operation_there, said_seen, seen_said}

@@ -17,8 +17,8 @@ use Rattle.sm_compile.specs.TraitIds.{http_id}
 use Rattle.sm_compile.specs.TraitNodes.{field_of, is_number, is_object, is_text, where_there}
 use Rattle.sm_compile.specs.TraitRows.{is_as_one, rows_of, that_reads}
 use Rattle.sm_compile.specs.rules.Words.{IsOperation, read_trait}
-use Rattle.sm_rules.specs.steps.Http.{http_seen, is_http_value, is_there_as, that_is_http}
-use Rattle.sm_rules.specs.steps.Owned.{is_operation, is_own_operation}
+use Rattle.sm_rules.specs.parts.Http.{http_seen, is_http_value, is_there_as, that_is_http}
+use Rattle.sm_rules.specs.parts.Owned.{is_operation, is_own_operation}
 use Rattle.sm_rules.proofs.OwnShapes.{not_so}
 
 -- a field that must be there, and one that may be

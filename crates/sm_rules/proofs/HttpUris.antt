@@ -13,8 +13,8 @@ use Rattle.sm_compile.specs.rules.Words.{field_in}
 use Rattle.sm_rules.specs.RuleEvents.{IsEventAt, Puts, rule_event}
 use Rattle.sm_rules.specs.declared.rule.Rule.TheVariants.{HttpMethod, HttpUri}
 use Rattle.sm_rules.specs.rules.Methods.{HasOtherMethod, is_routed}
-use Rattle.sm_rules.specs.steps.Http.{method_seen, uri_seen}
-use Rattle.sm_rules.specs.steps.Putting.{IsUnless, IsWhere}
+use Rattle.sm_rules.specs.parts.Http.{method_seen, uri_seen}
+use Rattle.sm_rules.specs.parts.Putting.{IsUnless, IsWhere}
 use Rattle.sm_rules.proofs.OwnShapes.{not_so}
 use Rattle.sm_rules.proofs.EventsPut.{puts_none, puts_same}
 use Rattle.sm_rules.proofs.HttpSaid.{said_seen, seen_said}

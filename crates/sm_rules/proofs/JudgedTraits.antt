@@ -32,11 +32,11 @@ use Rattle.sm_rules.specs.declared.rule.Rule.{Rule}
 use Rattle.sm_rules.specs.declared.rows.place.Behind.TheVariants as behind
 use Rattle.sm_rules.specs.declared.rows.place.Stand.{Stand}
 use Rattle.sm_rules.specs.declared.rows.place.Stand.TheVariants as stand
-use Rattle.sm_rules.specs.steps.InBody.{is_member_in}
-use Rattle.sm_rules.specs.steps.Judging.{Judgement, ToldJudged, ToldMember, ToldShape, ToldTrait, ToldTraits}
-use Rattle.sm_rules.specs.steps.Judging.{behind_of, entry_where, is_own_member}
-use Rattle.sm_rules.specs.steps.Places.{entry_behind, stand_at}
-use Rattle.sm_rules.specs.steps.Putting.{Below, IsWhere, ToldOf}
+use Rattle.sm_rules.specs.parts.InBody.{is_member_in}
+use Rattle.sm_rules.specs.parts.Judging.{Judgement, ToldJudged, ToldMember, ToldShape, ToldTrait, ToldTraits}
+use Rattle.sm_rules.specs.parts.Judging.{behind_of, entry_where, is_own_member}
+use Rattle.sm_rules.specs.parts.Places.{entry_behind, stand_at}
+use Rattle.sm_rules.specs.parts.Putting.{Below, IsWhere, ToldOf}
 use Rattle.sm_rules.proofs.EventsPut.{puts_both, puts_none, puts_same}
 use Rattle.sm_rules.proofs.OwnShapes.{member_in, not_so}
 use Rattle.sm_rules.proofs.TraitEntries.{entry_found, found_entry}

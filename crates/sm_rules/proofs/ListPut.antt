@@ -7,7 +7,7 @@ use Rattle.sm_model.specs.EventView.{EventTold}
 use Rattle.sm_model.specs.declared.event.ModelEvent.{ModelEvent}
 use Rattle.sm_model.proofs.OneRising.{contains_none}
 use Rattle.sm_rules.specs.RuleEvents.{Puts}
-use Rattle.sm_rules.specs.steps.Putting.{ToldOf}
+use Rattle.sm_rules.specs.parts.Putting.{ToldOf}
 use Rattle.sm_rules.proofs.EventsPut.{puts_both, puts_none, puts_same}
 
 module _ {X : Type 0} (Told : X → EventTold → Type 0) where

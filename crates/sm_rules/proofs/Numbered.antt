@@ -10,7 +10,7 @@ use Rattle.sm_model.specs.declared.graph.Graph.{Graph}
 use Rattle.sm_model.proofs.NumberedIds.{number_of}
 use Rattle.sm_rules.specs.RuleEvents.{IsEventAt, IsEventIn, IsEventOf, Puts, RuleFails}
 use Rattle.sm_rules.specs.declared.rule.Rule.{Rule}
-use Rattle.sm_rules.specs.steps.Putting.{Below}
+use Rattle.sm_rules.specs.parts.Putting.{Below}
 use Rattle.sm_rules.proofs.EventsPut.{puts_same}
 
 -- a rule fails at what the graph has alone

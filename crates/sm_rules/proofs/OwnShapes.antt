@@ -11,9 +11,9 @@ use Rattle.sm_model.proofs.Searching.{and_left, and_right}
 use Rattle.sm_model.proofs.Worklist.{apart}
 use Rattle.sm_compile.specs.rules.Words.{IsOwnShape}
 use Rattle.sm_compile.specs.Looked.{kind_in, kind_under}
-use Rattle.sm_rules.specs.steps.Folded.{is_own_shape, is_shape}
-use Rattle.sm_rules.specs.steps.InBody.{is_member_in}
-use Rattle.sm_rules.specs.steps.Owned.{is_own_structure, is_structure}
+use Rattle.sm_rules.specs.parts.Folded.{is_own_shape, is_shape}
+use Rattle.sm_rules.specs.parts.InBody.{is_member_in}
+use Rattle.sm_rules.specs.parts.Owned.{is_own_structure, is_structure}
 
 pub not_so : (b : Bool) → not b ≡ true → b ≡ false
 not_so true h = absurd (apart h)

@@ -24,9 +24,9 @@ use Rattle.sm_compile.specs.rules.Words.{IsOwnShape}
 use Rattle.sm_compile.proofs.OneWay.{one_name}
 use Rattle.sm_rules.specs.RuleEvents.{IsEventIn, Puts, rule_event}
 use Rattle.sm_rules.specs.declared.rule.Rule.TheVariants.{MemberCase}
-use Rattle.sm_rules.specs.steps.Earlier.{ToldAfter, ToldAt, ToldRepeat, folded_row, folded_rows}
-use Rattle.sm_rules.specs.steps.Folded.{folded, is_own_shape}
-use Rattle.sm_rules.specs.steps.Putting.{Below}
+use Rattle.sm_rules.specs.parts.Earlier.{ToldAfter, ToldAt, ToldRepeat, folded_row, folded_rows}
+use Rattle.sm_rules.specs.parts.Folded.{folded, is_own_shape}
+use Rattle.sm_rules.specs.parts.Putting.{Below}
 use Rattle.sm_rules.proofs.EventsPut.{puts_none, puts_same}
 use Rattle.sm_rules.proofs.OwnShapes.{own_told, told_own}
 

@@ -21,10 +21,10 @@ use Rattle.sm_rules.specs.declared.rows.form.Form.TheVariants as form
 use Rattle.sm_rules.specs.declared.rows.place.Place.{Place}
 use Rattle.sm_rules.specs.declared.rows.place.Place.TheVariants as place
 use Rattle.sm_rules.specs.declared.rows.place.Stand.{Stand}
-use Rattle.sm_rules.specs.steps.Forms.{form_said, is_of_form, token_signs}
-use Rattle.sm_rules.specs.steps.Places.{allows, is_defaulted_kind, places_said, stand_at, types_said}
-use Rattle.sm_rules.specs.steps.RowTests.{any_row, is_wrong_place, is_wrong_value, names_passing, reads_by, reads_there, some_row}
-use Rattle.sm_rules.specs.steps.RowTests.{stand_takes_in, stands_by}
+use Rattle.sm_rules.specs.parts.Forms.{form_said, is_of_form, token_signs}
+use Rattle.sm_rules.specs.parts.Places.{allows, is_defaulted_kind, places_said, stand_at, types_said}
+use Rattle.sm_rules.specs.parts.RowTests.{any_row, is_wrong_place, is_wrong_value, names_passing, reads_by, reads_there, some_row}
+use Rattle.sm_rules.specs.parts.RowTests.{stand_takes_in, stands_by}
 use Rattle.sm_rules.proofs.HttpSaid.{free, needed}
 
 or_false : (b : Bool) → (b || false) ≡ b

@@ -13,8 +13,8 @@ use Rattle.sm_compile.specs.rules.Traits.{CarriesTwice, single_traits}
 use Rattle.sm_compile.specs.Looked.{listed_in, listed_under}
 use Rattle.sm_rules.specs.RuleEvents.{IsEventAt, Puts}
 use Rattle.sm_rules.specs.declared.rule.Rule.TheVariants.{TraitSingle}
-use Rattle.sm_rules.specs.steps.Carrying.{ToldTwice, carried_twice, carries}
-use Rattle.sm_rules.specs.steps.Owned.{is_own_structure}
+use Rattle.sm_rules.specs.parts.Carrying.{ToldTwice, carried_twice, carries}
+use Rattle.sm_rules.specs.parts.Owned.{is_own_structure}
 use Rattle.sm_rules.proofs.OwnShapes.{OwnStructure, is_own, own_structure}
 use Rattle.sm_rules.proofs.EventsPut.{puts_both, puts_none, puts_same}
 

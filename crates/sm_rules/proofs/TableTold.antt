@@ -12,9 +12,9 @@ use Rattle.sm_compile.specs.TraitRows.{has_row, is_as_one, judging, may_stand}
 use Rattle.sm_compile.specs.rules.Traits.{HasOtherValue, StandsElsewhere}
 use Rattle.sm_rules.specs.RuleEvents.{IsEventOf, Puts}
 use Rattle.sm_rules.specs.declared.rule.Rule.TheVariants.{TraitPlace, TraitValue}
-use Rattle.sm_rules.specs.steps.Judging.{ToldJudged}
-use Rattle.sm_rules.specs.steps.Putting.{Below}
-use Rattle.sm_rules.specs.steps.RowTests.{is_wrong_place, is_wrong_value}
+use Rattle.sm_rules.specs.parts.Judging.{ToldJudged}
+use Rattle.sm_rules.specs.parts.Putting.{Below}
+use Rattle.sm_rules.specs.parts.RowTests.{is_wrong_place, is_wrong_value}
 use Rattle.sm_rules.proofs.EventsPut.{puts_same}
 use Rattle.sm_rules.proofs.JudgedTraits.{FailsJudged, judged_numbers}
 use Rattle.sm_rules.proofs.OwnShapes.{not_so}

@@ -18,7 +18,7 @@ use Rattle.sm_model.specs.Reaching.{id_of_number}
 use Rattle.sm_model.specs.declared.graph.Graph.{Graph}
 use Rattle.sm_model.proofs.OneRising.{contains_either, contains_head, contains_none}
 use Rattle.sm_model.proofs.Worklist.{apart}
-use Rattle.sm_rules.specs.steps.Folded.{folded, folded_at, folded_below, is_own_shape}
+use Rattle.sm_rules.specs.parts.Folded.{folded, folded_at, folded_below, is_own_shape}
 
 -- found behind others
 pub find_joined : (key : List ℕ) (xs ys : List (List ℕ × ℕ))

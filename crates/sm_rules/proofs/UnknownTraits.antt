@@ -30,8 +30,8 @@ use Rattle.sm_compile.proofs.TabledShapes.{mapped_from, mapped_to}
 use Rattle.sm_rules.specs.RuleEvents.{IsEventAt, Puts, rule_event}
 use Rattle.sm_rules.specs.declared.rule.Rule.TheVariants.{TraitUnknown}
 use Rattle.sm_rules.specs.rules.Traits.{CarriesTraitItself, HasUnknownTrait}
-use Rattle.sm_rules.specs.steps.Knowing.{ToldUnknown, is_defined, is_named_in, is_unknown}
-use Rattle.sm_rules.specs.steps.Putting.{ToldOf}
+use Rattle.sm_rules.specs.parts.Knowing.{ToldUnknown, is_defined, is_named_in, is_unknown}
+use Rattle.sm_rules.specs.parts.Putting.{ToldOf}
 use Rattle.sm_rules.proofs.OwnShapes.{not_so}
 use Rattle.sm_rules.proofs.TraitEntries.{entry_found, found_entry}
 use Rattle.sm_rules.proofs.EventsPut.{puts_none, puts_same}

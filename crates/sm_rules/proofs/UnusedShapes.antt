@@ -25,10 +25,10 @@ use Rattle.sm_compile.specs.rules.Words.{IsInClosure, IsOwnShape, IsService, has
 use Rattle.sm_rules.specs.RuleEvents.{IsEventAt, IsEventOf, Puts, rule_event}
 use Rattle.sm_rules.specs.declared.rule.Rule.TheVariants.{ShapeUnused}
 use Rattle.sm_rules.specs.rules.Ids.{IsUnused}
-use Rattle.sm_rules.specs.steps.Carrying.{carries}
-use Rattle.sm_rules.specs.steps.Folded.{is_own_shape}
-use Rattle.sm_rules.specs.steps.Putting.{IsWhere}
-use Rattle.sm_rules.specs.steps.Using.{AreUsed, is_own_service, is_service, is_unused, wants_use}
+use Rattle.sm_rules.specs.parts.Carrying.{carries}
+use Rattle.sm_rules.specs.parts.Folded.{is_own_shape}
+use Rattle.sm_rules.specs.parts.Putting.{IsWhere}
+use Rattle.sm_rules.specs.parts.Using.{AreUsed, is_own_service, is_service, is_unused, wants_use}
 use Rattle.sm_rules.proofs.EventsPut.{puts_none, puts_same}
 use Rattle.sm_rules.proofs.OwnShapes.{not_so, own_told, told_own}
 

@@ -19,8 +19,8 @@ use Rattle.sm_compile.specs.TraitRows.{is_as_one, rows_of, that_reads}
 use Rattle.sm_compile.specs.rules.Constraints.{HasWrongBounds, wrong_length, wrong_range}
 use Rattle.sm_rules.specs.RuleEvents.{IsEventAt, Puts, rule_event}
 use Rattle.sm_rules.specs.declared.rule.Rule.TheVariants.{ConstraintBounds}
-use Rattle.sm_rules.specs.steps.Bounding.{is_wrong_length, is_wrong_range}
-use Rattle.sm_rules.specs.steps.Putting.{IsWhere}
+use Rattle.sm_rules.specs.parts.Bounding.{is_wrong_length, is_wrong_range}
+use Rattle.sm_rules.specs.parts.Putting.{IsWhere}
 use Rattle.sm_rules.proofs.OwnShapes.{not_so}
 use Rattle.sm_rules.proofs.EventsPut.{puts_both, puts_none, puts_same}
 

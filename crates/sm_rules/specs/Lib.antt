@@ -1,4 +1,4 @@
 pub mod RuleIds
 pub mod RuleEvents
 pub mod rules
-pub mod steps
+pub mod parts

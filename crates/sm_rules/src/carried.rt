@@ -3,8 +3,8 @@ ghost use Rattle.std.specs.Prelude.{◌≡◌};
 ghost use Rattle.std.specs.FinMap as fin;
 ghost use Rattle.sm_model.specs.GraphView.{IsShapeNumber, maps_of};
 ghost use Rattle.sm_model.specs.Reaching.{id_of_number};
-ghost use Rattle.sm_rules.specs.steps.Carrying.{carries};
-ghost use Rattle.sm_rules.specs.steps.InBody.{is_member_in};
+ghost use Rattle.sm_rules.specs.parts.Carrying.{carries};
+ghost use Rattle.sm_rules.specs.parts.InBody.{is_member_in};
 
 use sm_compile::trait_node;
 use sm_model::Graph;

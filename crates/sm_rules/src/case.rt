@@ -5,8 +5,8 @@ ghost use Rattle.sm_model.specs.GraphView.{IsShapeNumber, entries_of, maps_of};
 ghost use Rattle.sm_rules.specs.RuleEvents.{IsEventOf, Puts};
 ghost use Rattle.sm_rules.specs.declared.rule.Rule.TheVariants.{IdCase};
 ghost use Rattle.sm_rules.specs.rules.Ids.{HasCaseTwin};
-ghost use Rattle.sm_rules.specs.steps.Firsts.{ToldAmong, ToldFirst, number_in};
-ghost use Rattle.sm_rules.specs.steps.Folded.{folded, folded_at, folded_below};
+ghost use Rattle.sm_rules.specs.parts.Firsts.{ToldAmong, ToldFirst, number_in};
+ghost use Rattle.sm_rules.specs.parts.Folded.{folded, folded_at, folded_below};
 
 use crate::firsts::{first_numbers, first_of};
 use crate::owned::is_own_shape;

@@ -7,8 +7,8 @@ ghost use Rattle.sm_model.specs.Reaching.{AreMarks, id_of_number};
 ghost use Rattle.sm_compile.specs.rules.Http.{HasOutputBody, HasWrongStatusCode, forbids_body, is_from_to, is_status_of};
 ghost use Rattle.sm_rules.specs.RuleEvents.{IsEventAt, IsEventOf, Puts, rule_event};
 ghost use Rattle.sm_rules.specs.declared.rule.Rule.TheVariants.{HttpCode};
-ghost use Rattle.sm_rules.specs.steps.Codes.{TellsCode, TellsStatus, is_wrong_code, is_wrong_status, status_seen};
-ghost use Rattle.sm_rules.specs.steps.Putting.{IsWhere};
+ghost use Rattle.sm_rules.specs.parts.Codes.{TellsCode, TellsStatus, is_wrong_code, is_wrong_status, status_seen};
+ghost use Rattle.sm_rules.specs.parts.Putting.{IsWhere};
 
 use crate::each::{AtEach, put_each};
 use crate::http::code_of;

@@ -5,7 +5,7 @@ ghost use Rattle.sm_model.specs.GraphView.{IsShapeNumber, entries_of, maps_of};
 ghost use Rattle.sm_model.specs.Graphs.{GraphMaps};
 ghost use Rattle.sm_model.specs.Reaching.{id_of_number};
 ghost use Rattle.sm_rules.specs.RuleEvents.{Puts};
-ghost use Rattle.sm_rules.specs.steps.Putting.{Below};
+ghost use Rattle.sm_rules.specs.parts.Putting.{Below};
 
 use sm_model::{Graph, ModelEvent};
 use sm_tree::NoMemory;

@@ -6,9 +6,9 @@ ghost use Rattle.std.specs.Str.{bytes_eq};
 ghost use Rattle.sm_model.specs.EventView.{EventTold};
 ghost use Rattle.sm_model.specs.GraphView.{IsShapeNumber};
 ghost use Rattle.sm_rules.specs.RuleEvents.{Puts};
-ghost use Rattle.sm_rules.specs.steps.Earlier.{ToldAfter, ToldAt};
-ghost use Rattle.sm_rules.specs.steps.Firsts.{number_in};
-ghost use Rattle.sm_rules.specs.steps.Putting.{Below};
+ghost use Rattle.sm_rules.specs.parts.Earlier.{ToldAfter, ToldAt};
+ghost use Rattle.sm_rules.specs.parts.Firsts.{number_in};
+ghost use Rattle.sm_rules.specs.parts.Putting.{Below};
 
 use crate::firsts::first_of;
 use sm_model::{Graph, ModelEvent};

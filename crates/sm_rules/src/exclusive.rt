@@ -11,8 +11,8 @@ ghost use Rattle.sm_compile.specs.rules.Traits.{HasExclusiveTraits};
 ghost use Rattle.sm_compile.specs.steps.Naming.{texts_of_all};
 ghost use Rattle.sm_rules.specs.RuleEvents.{IsEventAt, IsEventOf, Puts, rule_event};
 ghost use Rattle.sm_rules.specs.declared.rule.Rule.TheVariants.{TraitConflict};
-ghost use Rattle.sm_rules.specs.steps.Excluding.{ToldGreater, is_greater, is_smaller, of_methods, of_sides};
-ghost use Rattle.sm_rules.specs.steps.Putting.{IsWhere, ToldOf};
+ghost use Rattle.sm_rules.specs.parts.Excluding.{ToldGreater, is_greater, is_smaller, of_methods, of_sides};
+ghost use Rattle.sm_rules.specs.parts.Putting.{IsWhere, ToldOf};
 
 use crate::carried::carries;
 use crate::each::{AtEach, put_each};

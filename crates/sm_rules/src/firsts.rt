@@ -2,7 +2,7 @@
 ghost use Rattle.std.specs.Prelude.{◌≡◌, ℕ, List, IfOk};
 ghost use Rattle.std.specs.FinMap as fin;
 ghost use Rattle.sm_model.specs.Graphs.{text_cmp};
-ghost use Rattle.sm_rules.specs.steps.Firsts.{number_in};
+ghost use Rattle.sm_rules.specs.parts.Firsts.{number_in};
 
 use sm_tree::{NoMemory, Text};
 use std::alloc::Global;

@@ -6,8 +6,8 @@ ghost use Rattle.sm_model.specs.GraphView.{IsShapeNumber, maps_of};
 ghost use Rattle.sm_model.specs.Reaching.{id_of_number};
 ghost use Rattle.sm_compile.specs.TraitNodes.{is_number, is_text, where_there};
 ghost use Rattle.sm_compile.specs.rules.Words.{field_in};
-ghost use Rattle.sm_rules.specs.steps.Codes.{code_seen};
-ghost use Rattle.sm_rules.specs.steps.Http.{http_seen, is_http_value, is_there_as, method_seen, that_is_http, uri_seen};
+ghost use Rattle.sm_rules.specs.parts.Codes.{code_seen};
+ghost use Rattle.sm_rules.specs.parts.Http.{http_seen, is_http_value, is_there_as, method_seen, that_is_http, uri_seen};
 
 use crate::owned::is_own_operation;
 use sm_compile::{field_of, is_number, is_object, is_text, number_of, text_in_trait, trait_node};

@@ -4,7 +4,7 @@ ghost use Rattle.std.specs.List.{list_any};
 ghost use Rattle.sm_model.specs.GraphView.{AreShapeNumbers, IsShapeNumber, entries_of, maps_of};
 ghost use Rattle.sm_model.specs.Reaching.{AreMarks, id_of_number};
 ghost use Rattle.sm_compile.specs.rules.Http.{HasOutputBody};
-ghost use Rattle.sm_rules.specs.steps.InBody.{has_body_member, is_body_member, is_unbound};
+ghost use Rattle.sm_rules.specs.parts.InBody.{has_body_member, is_body_member, is_unbound};
 
 use crate::carried::{carries, is_member};
 use crate::marked::{NumberTest, marked_where};

@@ -6,8 +6,8 @@ ghost use Rattle.sm_tree.specs.View.{node_of};
 ghost use Rattle.sm_model.specs.GraphView.{AreShapeNumbers, IsShapeNumber, maps_of};
 ghost use Rattle.sm_model.specs.Reaching.{id_of_number};
 ghost use Rattle.sm_rules.specs.RuleEvents.{Puts};
-ghost use Rattle.sm_rules.specs.steps.Judging.{ToldJudged, ToldMember, ToldShape, ToldTrait, ToldTraits, behind_of, is_own_member};
-ghost use Rattle.sm_rules.specs.steps.Putting.{ToldOf};
+ghost use Rattle.sm_rules.specs.parts.Judging.{ToldJudged, ToldMember, ToldShape, ToldTrait, ToldTraits, behind_of, is_own_member};
+ghost use Rattle.sm_rules.specs.parts.Putting.{ToldOf};
 
 use crate::carried::is_member;
 use crate::each::AtEach;

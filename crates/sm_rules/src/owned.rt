@@ -2,8 +2,8 @@
 ghost use Rattle.std.specs.Prelude.{◌≡◌};
 ghost use Rattle.sm_model.specs.GraphView.{IsShapeNumber, maps_of};
 ghost use Rattle.sm_model.specs.Reaching.{id_of_number};
-ghost use Rattle.sm_rules.specs.steps.Folded.{is_own_shape};
-ghost use Rattle.sm_rules.specs.steps.Owned.{is_operation, is_own_operation, is_own_structure, is_structure};
+ghost use Rattle.sm_rules.specs.parts.Folded.{is_own_shape};
+ghost use Rattle.sm_rules.specs.parts.Owned.{is_operation, is_own_operation, is_own_structure, is_structure};
 
 use sm_compile::{id_text, kind_of};
 use sm_model::{Graph, Kind, is_in_prelude};

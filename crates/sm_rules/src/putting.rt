@@ -5,7 +5,7 @@ ghost use Rattle.sm_model.specs.GraphView.{IsShapeNumber};
 ghost use Rattle.sm_model.specs.Reaching.{id_of_number};
 ghost use Rattle.sm_rules.specs.RuleEvents.{Puts, rule_event};
 ghost use Rattle.sm_rules.specs.RuleIds.{severity_of};
-ghost use Rattle.sm_rules.specs.steps.Putting.{IsWhere};
+ghost use Rattle.sm_rules.specs.parts.Putting.{IsWhere};
 
 use crate::rule::Rule;
 use sm_ids::ShapeId;

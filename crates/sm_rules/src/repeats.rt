@@ -4,8 +4,8 @@ ghost use Rattle.sm_model.specs.GraphView.{AreShapeNumbers, IsShapeNumber, maps_
 ghost use Rattle.sm_compile.specs.rules.Names.{RepeatsName};
 ghost use Rattle.sm_rules.specs.RuleEvents.{IsEventIn, IsEventOf, Puts};
 ghost use Rattle.sm_rules.specs.declared.rule.Rule.TheVariants.{MemberCase};
-ghost use Rattle.sm_rules.specs.steps.Earlier.{ToldAt, ToldRepeat, folded_rows};
-ghost use Rattle.sm_rules.specs.steps.Putting.{Below};
+ghost use Rattle.sm_rules.specs.parts.Earlier.{ToldAt, ToldRepeat, folded_rows};
+ghost use Rattle.sm_rules.specs.parts.Putting.{Below};
 
 use crate::case::folded;
 use crate::each::{AtEach, put_each};

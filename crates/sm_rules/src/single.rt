@@ -5,8 +5,8 @@ ghost use Rattle.sm_model.specs.Reaching.{id_of_number};
 ghost use Rattle.sm_compile.specs.rules.Traits.{CarriesTwice};
 ghost use Rattle.sm_rules.specs.RuleEvents.{IsEventAt, IsEventOf, Puts};
 ghost use Rattle.sm_rules.specs.declared.rule.Rule.TheVariants.{TraitSingle};
-ghost use Rattle.sm_rules.specs.steps.Carrying.{ToldTwice, carried_twice, carries};
-ghost use Rattle.sm_rules.specs.steps.Owned.{is_own_structure};
+ghost use Rattle.sm_rules.specs.parts.Carrying.{ToldTwice, carried_twice, carries};
+ghost use Rattle.sm_rules.specs.parts.Owned.{is_own_structure};
 
 use crate::owned::is_own_structure;
 use crate::putting::put_if;

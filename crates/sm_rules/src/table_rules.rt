@@ -6,7 +6,7 @@ ghost use Rattle.sm_compile.specs.TraitRows.{trait_rows};
 ghost use Rattle.sm_compile.specs.rules.Traits.{HasOtherValue, StandsElsewhere};
 ghost use Rattle.sm_rules.specs.RuleEvents.{IsEventOf, Puts};
 ghost use Rattle.sm_rules.specs.declared.rule.Rule.TheVariants.{TraitPlace, TraitValue};
-ghost use Rattle.sm_rules.specs.steps.RowTests.{any_row, is_wrong_place, is_wrong_value, reads_by, reads_there, some_row, stands_by};
+ghost use Rattle.sm_rules.specs.parts.RowTests.{any_row, is_wrong_place, is_wrong_value, reads_by, reads_there, some_row, stands_by};
 
 use crate::each::put_each;
 use crate::judged::{Judge, Judged};

@@ -7,8 +7,8 @@ ghost use Rattle.sm_compile.specs.TraitIds.{trait_id};
 ghost use Rattle.sm_rules.specs.RuleEvents.{IsEventAt, IsEventOf, Puts, rule_event};
 ghost use Rattle.sm_rules.specs.declared.rule.Rule.TheVariants.{TraitUnknown};
 ghost use Rattle.sm_rules.specs.rules.Traits.{HasUnknownTrait};
-ghost use Rattle.sm_rules.specs.steps.Knowing.{ToldUnknown, is_defined, is_unknown};
-ghost use Rattle.sm_rules.specs.steps.Putting.{IsWhere, ToldOf};
+ghost use Rattle.sm_rules.specs.parts.Knowing.{ToldUnknown, is_defined, is_unknown};
+ghost use Rattle.sm_rules.specs.parts.Putting.{IsWhere, ToldOf};
 
 use crate::each::{AtEach, put_each};
 use crate::known::has_row;

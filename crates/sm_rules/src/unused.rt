@@ -6,7 +6,7 @@ ghost use Rattle.sm_model.specs.Reaching.{AreMarks, id_of_number};
 ghost use Rattle.sm_rules.specs.RuleEvents.{IsEventAt, IsEventOf, Puts};
 ghost use Rattle.sm_rules.specs.declared.rule.Rule.TheVariants.{ShapeUnused};
 ghost use Rattle.sm_rules.specs.rules.Ids.{IsUnused};
-ghost use Rattle.sm_rules.specs.steps.Using.{AreUsed, is_own_service, is_service, is_unused, wants_use};
+ghost use Rattle.sm_rules.specs.parts.Using.{AreUsed, is_own_service, is_service, is_unused, wants_use};
 
 use crate::carried::carries;
 use crate::each::{AtEach, put_each};

@@ -6,7 +6,7 @@ ghost use Rattle.sm_compile.specs.UriPattern.{IsUriText};
 ghost use Rattle.sm_compile.specs.rules.Http.{HasNoUri};
 ghost use Rattle.sm_rules.specs.RuleEvents.{IsEventAt, IsEventOf, Puts, rule_event};
 ghost use Rattle.sm_rules.specs.declared.rule.Rule.TheVariants.{HttpUri};
-ghost use Rattle.sm_rules.specs.steps.Putting.{IsUnless};
+ghost use Rattle.sm_rules.specs.parts.Putting.{IsUnless};
 
 use crate::each::{AtEach, put_each};
 use crate::http::uri_of;

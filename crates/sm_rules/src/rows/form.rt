@@ -5,7 +5,7 @@ ghost use Rattle.sm_tree.specs.View.{node_of};
 ghost use Rattle.sm_compile.specs.TraitNodes.{where_there};
 ghost use Rattle.sm_compile.specs.TraitNodes as nodes;
 ghost use Rattle.sm_compile.specs.TraitRows as table;
-ghost use Rattle.sm_rules.specs.steps.Forms.{are_two_texts, is_of_form, is_trait_value};
+ghost use Rattle.sm_rules.specs.parts.Forms.{are_two_texts, is_of_form, is_trait_value};
 
 use crate::http::{is_http_value, is_text_there};
 use crate::rows::texts::{

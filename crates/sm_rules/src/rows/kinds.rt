@@ -2,7 +2,7 @@
 ghost use Rattle.std.specs.Prelude.{◌≡◌};
 ghost use Rattle.sm_compile.specs.Kinds.{has_values};
 ghost use Rattle.sm_compile.specs.TraitRows as table;
-ghost use Rattle.sm_rules.specs.steps.Places.{is_defaulted_kind, types_said};
+ghost use Rattle.sm_rules.specs.parts.Places.{is_defaulted_kind, types_said};
 
 use sm_compile::{has_length, is_text_kind, is_whole_kind};
 use sm_model::Kind;

@@ -4,9 +4,9 @@ ghost use Rattle.std.specs.List.{list_any};
 ghost use Rattle.std.specs.Str.{bytes_eq};
 ghost use Rattle.sm_compile.specs.TraitRows.{PlaceForm, ValueForm, annotation_rows, constraint_rows, documentation_rows, other_rows};
 ghost use Rattle.sm_compile.specs.TraitRows.{rows_of_shapes, trait_rows, wire_rows};
-ghost use Rattle.sm_rules.specs.steps.Forms.{form_said};
-ghost use Rattle.sm_rules.specs.steps.Places.{places_said};
-ghost use Rattle.sm_rules.specs.steps.RowTests.{passes_one, some_row};
+ghost use Rattle.sm_rules.specs.parts.Forms.{form_said};
+ghost use Rattle.sm_rules.specs.parts.Places.{places_said};
+ghost use Rattle.sm_rules.specs.parts.RowTests.{passes_one, some_row};
 
 use crate::rows::form::Form;
 use crate::rows::kinds::Types;

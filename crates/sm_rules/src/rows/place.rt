@@ -2,7 +2,7 @@
 ghost use Rattle.std.specs.Prelude.{◌≡◌, true};
 ghost use Rattle.sm_model.specs.declared.kind.Kind.TheVariants as model;
 ghost use Rattle.sm_compile.specs.TraitRows as table;
-ghost use Rattle.sm_rules.specs.steps.Places.{allows, is_behind, is_member_of, is_member_to, is_shape_of, types_said};
+ghost use Rattle.sm_rules.specs.parts.Places.{allows, is_behind, is_member_of, is_member_to, is_shape_of, types_said};
 
 use crate::rows::kinds::{Types, is_kind, is_of};
 use sm_model::Kind;

@@ -7,7 +7,7 @@ ghost use Rattle.sm_tree.specs.Node.{members_of, nodes_of};
 ghost use Rattle.sm_tree.specs.View.{members_view, node_of, nodes_view};
 ghost use Rattle.sm_compile.specs.TraitNodes as nodes;
 ghost use Rattle.sm_compile.specs.TraitRows as table;
-ghost use Rattle.sm_rules.specs.steps.Forms.{is_a_side, sides, token_signs};
+ghost use Rattle.sm_rules.specs.parts.Forms.{is_a_side, sides, token_signs};
 
 use crate::rows::names::either;
 use sm_compile::{is_text, text_in_trait};

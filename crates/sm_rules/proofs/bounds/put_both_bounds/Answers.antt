@@ -4,8 +4,8 @@ use Rattle.sm_model.specs.GraphView.{maps_of}
 use Rattle.sm_model.specs.Reaching.{id_of_number}
 use Rattle.sm_rules.specs.RuleEvents.{Puts, rule_event}
 use Rattle.sm_rules.specs.declared.rule.Rule.TheVariants.{ConstraintBounds}
-use Rattle.sm_rules.specs.steps.Bounding.{is_wrong_length, is_wrong_range}
-use Rattle.sm_rules.specs.steps.Putting.{IsWhere}
+use Rattle.sm_rules.specs.parts.Bounding.{is_wrong_length, is_wrong_range}
+use Rattle.sm_rules.specs.parts.Putting.{IsWhere}
 use Rattle.sm_rules.proofs.WrongBounds.{bounds_put}
 use Rattle.sm_rules.proofs.bounds.put_both_bounds.Goals as goal
 

@@ -1,7 +1,7 @@
 use Rattle.std.proofs.Common.{◌≡◌, ap, sym, ◌∙◌}
 use Rattle.sm_model.specs.GraphView.{is_member_entry}
 use Rattle.sm_model.proofs.NumberedIds.{entry_here}
-use Rattle.sm_rules.specs.steps.InBody.{is_member_in}
+use Rattle.sm_rules.specs.parts.InBody.{is_member_in}
 use Rattle.sm_rules.proofs.OwnShapes.{member_seen}
 use Rattle.sm_rules.proofs.carried.is_member.Goals as goal
 

@@ -1,5 +1,5 @@
 use Rattle.std.proofs.Common.{◌≡◌}
-use Rattle.sm_rules.specs.steps.Folded.{folded_below}
+use Rattle.sm_rules.specs.parts.Folded.{folded_below}
 use Rattle.sm_rules.proofs.case.folded_ids.Given as goal
 
 abbrev pub invariant-loop-number : goal.invariant-loop-number

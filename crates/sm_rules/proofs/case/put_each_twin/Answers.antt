@@ -3,7 +3,7 @@ use Rattle.std.specs.List.{Contains}
 use Rattle.std.proofs.lemmas.List.{take_all, take_more}
 use Rattle.std.proofs.lemmas.List.Elements.{Contains-get_or}
 use Rattle.sm_rules.specs.RuleEvents.{Puts}
-use Rattle.sm_rules.specs.steps.Firsts.{ToldAmong, number_in}
+use Rattle.sm_rules.specs.parts.Firsts.{ToldAmong, number_in}
 use Rattle.sm_rules.proofs.FirstRows.{none_told, told_more}
 use Rattle.sm_rules.proofs.case.put_each_twin.Goals as goal
 

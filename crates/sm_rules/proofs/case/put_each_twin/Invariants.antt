@@ -1,6 +1,6 @@
 use Rattle.std.proofs.Common.{take}
 use Rattle.sm_rules.specs.RuleEvents.{Puts}
-use Rattle.sm_rules.specs.steps.Firsts.{ToldAmong, number_in}
+use Rattle.sm_rules.specs.parts.Firsts.{ToldAmong, number_in}
 use Rattle.sm_rules.proofs.case.put_each_twin.Given as goal
 
 abbrev pub invariant-loop-row : goal.invariant-loop-row

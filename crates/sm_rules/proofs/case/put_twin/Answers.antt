@@ -3,8 +3,8 @@ use Rattle.std.specs.Prelude.{◌==◌, not}
 use Rattle.sm_model.specs.Reaching.{id_of_number}
 use Rattle.sm_rules.specs.RuleEvents.{Puts, rule_event}
 use Rattle.sm_rules.specs.declared.rule.Rule.TheVariants.{IdCase}
-use Rattle.sm_rules.specs.steps.Firsts.{ToldFirst, number_in}
-use Rattle.sm_rules.specs.steps.Putting.{IsWhere}
+use Rattle.sm_rules.specs.parts.Firsts.{ToldFirst, number_in}
+use Rattle.sm_rules.specs.parts.Putting.{IsWhere}
 use Rattle.sm_rules.proofs.FirstRows.{not_first}
 use Rattle.sm_rules.proofs.case.put_twin.Goals as goal
 

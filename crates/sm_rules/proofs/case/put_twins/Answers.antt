@@ -1,7 +1,7 @@
 use Rattle.std.proofs.Common.{◌≡◌, sym, ap, ◌∙◌}
 use Rattle.std.specs.FinMap.Entries.{find}
 use Rattle.sm_model.specs.Graphs.{text_cmp}
-use Rattle.sm_rules.specs.steps.Firsts.{number_in}
+use Rattle.sm_rules.specs.parts.Firsts.{number_in}
 use Rattle.sm_rules.proofs.CaseTwins.{firsts_within, rows_within, twins_put}
 use Rattle.sm_rules.proofs.case.put_twins.Goals as goal
 

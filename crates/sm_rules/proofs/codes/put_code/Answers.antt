@@ -4,8 +4,8 @@ use Rattle.sm_model.specs.GraphView.{maps_of}
 use Rattle.sm_model.specs.Reaching.{id_of_number}
 use Rattle.sm_rules.specs.RuleEvents.{Puts, rule_event}
 use Rattle.sm_rules.specs.declared.rule.Rule.TheVariants.{HttpCode}
-use Rattle.sm_rules.specs.steps.Codes.{is_wrong_code}
-use Rattle.sm_rules.specs.steps.Putting.{IsWhere}
+use Rattle.sm_rules.specs.parts.Codes.{is_wrong_code}
+use Rattle.sm_rules.specs.parts.Putting.{IsWhere}
 use Rattle.sm_rules.proofs.HttpCodes.{code_put, no_code}
 use Rattle.sm_rules.proofs.codes.put_code.Goals as goal
 

@@ -2,7 +2,7 @@ use Rattle.std.proofs.Common.{◌≡◌, length, subst, arith}
 use Rattle.sm_model.specs.GraphView.{entries_of, maps_of}
 use Rattle.sm_model.specs.Reaching.{id_of_number}
 use Rattle.sm_rules.specs.RuleEvents.{Puts}
-use Rattle.sm_rules.specs.steps.Putting.{Below}
+use Rattle.sm_rules.specs.parts.Putting.{Below}
 use Rattle.sm_rules.proofs.EventsPut.{puts_next}
 use Rattle.sm_rules.proofs.each.put_each.Goals as goal
 

@@ -3,9 +3,9 @@ use Rattle.std.specs.List.{Contains}
 use Rattle.std.proofs.lemmas.List.Elements.{Contains-get_or}
 use Rattle.sm_model.specs.GraphView.{IsShapeNumber}
 use Rattle.sm_rules.specs.RuleEvents.{Puts}
-use Rattle.sm_rules.specs.steps.Earlier.{ToldAt}
-use Rattle.sm_rules.specs.steps.Firsts.{number_in}
-use Rattle.sm_rules.specs.steps.Putting.{Below}
+use Rattle.sm_rules.specs.parts.Earlier.{ToldAt}
+use Rattle.sm_rules.specs.parts.Firsts.{number_in}
+use Rattle.sm_rules.specs.parts.Putting.{Below}
 use Rattle.sm_rules.proofs.EarlierRows.{found_number, seen_next, told_here}
 use Rattle.sm_rules.proofs.EventsPut.{puts_next}
 use Rattle.sm_rules.proofs.earlier.put_later.Goals as goal

@@ -2,9 +2,9 @@ use Rattle.std.proofs.Common.{◌≡◌, ℕ, List, take}
 use Rattle.std.specs.FinMap as fin
 use Rattle.sm_model.specs.Graphs.{text_cmp}
 use Rattle.sm_rules.specs.RuleEvents.{Puts}
-use Rattle.sm_rules.specs.steps.Earlier.{ToldAt}
-use Rattle.sm_rules.specs.steps.Firsts.{number_in}
-use Rattle.sm_rules.specs.steps.Putting.{Below}
+use Rattle.sm_rules.specs.parts.Earlier.{ToldAt}
+use Rattle.sm_rules.specs.parts.Firsts.{number_in}
+use Rattle.sm_rules.specs.parts.Putting.{Below}
 use Rattle.sm_rules.proofs.earlier.put_later.Given as goal
 
 abbrev pub invariant-loop-row : goal.invariant-loop-row

@@ -1,6 +1,6 @@
 use Rattle.std.proofs.Common.{◌≡◌, ℕ, List, Some, None, cond, sym, ap, ◌∙◌, bytes_eq}
 use Rattle.std.proofs.lemmas.Map.Text.{btree_map_updates_str}
-use Rattle.sm_rules.specs.steps.Firsts.{number_in}
+use Rattle.sm_rules.specs.parts.Firsts.{number_in}
 use Rattle.sm_rules.proofs.EarlierRows.{none_after, seen_added, seen_kept, told_after}
 use Rattle.sm_rules.proofs.earlier.put_row.Goals as goal
 

@@ -4,8 +4,8 @@ use Rattle.sm_model.specs.GraphView.{maps_of}
 use Rattle.sm_model.specs.Reaching.{id_of_number}
 use Rattle.sm_compile.specs.steps.Naming.{texts_of_all}
 use Rattle.sm_rules.specs.RuleEvents.{Puts}
-use Rattle.sm_rules.specs.steps.Excluding.{ToldGreater}
-use Rattle.sm_rules.specs.steps.Putting.{ToldOf}
+use Rattle.sm_rules.specs.parts.Excluding.{ToldGreater}
+use Rattle.sm_rules.specs.parts.Putting.{ToldOf}
 use Rattle.sm_rules.proofs.ListPut.{none_of, put_place}
 use Rattle.sm_rules.proofs.exclusive.put_group.Goals as goal
 

@@ -3,8 +3,8 @@ use Rattle.sm_model.specs.GraphView.{maps_of}
 use Rattle.sm_model.specs.Reaching.{id_of_number}
 use Rattle.sm_compile.specs.steps.Naming.{texts_of_all}
 use Rattle.sm_rules.specs.RuleEvents.{Puts}
-use Rattle.sm_rules.specs.steps.Excluding.{ToldGreater}
-use Rattle.sm_rules.specs.steps.Putting.{ToldOf}
+use Rattle.sm_rules.specs.parts.Excluding.{ToldGreater}
+use Rattle.sm_rules.specs.parts.Putting.{ToldOf}
 use Rattle.sm_rules.proofs.exclusive.put_group.Given as goal
 
 abbrev pub invariant-loop-name : goal.invariant-loop-name

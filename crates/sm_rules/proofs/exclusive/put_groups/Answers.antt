@@ -2,8 +2,8 @@ use Rattle.std.proofs.Common.{List, ℕ, subst}
 use Rattle.sm_model.specs.GraphView.{maps_of}
 use Rattle.sm_model.specs.Reaching.{id_of_number}
 use Rattle.sm_rules.specs.RuleEvents.{Puts}
-use Rattle.sm_rules.specs.steps.Excluding.{ToldGreater}
-use Rattle.sm_rules.specs.steps.Putting.{ToldOf}
+use Rattle.sm_rules.specs.parts.Excluding.{ToldGreater}
+use Rattle.sm_rules.specs.parts.Putting.{ToldOf}
 use Rattle.sm_rules.proofs.ExclusiveTraits.{entry_there, exclusive_put}
 use Rattle.sm_rules.proofs.exclusive.put_groups.Goals as goal
 

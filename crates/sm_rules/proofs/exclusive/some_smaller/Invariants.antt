@@ -3,7 +3,7 @@ use Rattle.std.specs.List.{list_any}
 use Rattle.sm_model.specs.GraphView.{maps_of}
 use Rattle.sm_model.specs.Reaching.{id_of_number}
 use Rattle.sm_compile.specs.steps.Naming.{texts_of_all}
-use Rattle.sm_rules.specs.steps.Excluding.{is_smaller}
+use Rattle.sm_rules.specs.parts.Excluding.{is_smaller}
 use Rattle.sm_rules.proofs.exclusive.some_smaller.Given as goal
 
 abbrev pub invariant-loop-other : goal.invariant-loop-other

@@ -3,7 +3,7 @@ use Rattle.std.specs.FinMap.Entries.{find}
 use Rattle.std.proofs.lemmas.List.{drop_more}
 use Rattle.std.proofs.lemmas.Map.Text.{btree_map_updates_str}
 use Rattle.sm_model.specs.Graphs.{text_cmp}
-use Rattle.sm_rules.specs.steps.Firsts.{number_in}
+use Rattle.sm_rules.specs.parts.Firsts.{number_in}
 use Rattle.sm_rules.proofs.FirstRows.{first_more}
 use Rattle.sm_rules.proofs.firsts.first_numbers.Goals as goal
 

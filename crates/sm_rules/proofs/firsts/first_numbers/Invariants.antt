@@ -1,7 +1,7 @@
 use Rattle.std.proofs.Common.{◌≡◌, ◌≤◌, ℕ, List, drop, length}
 use Rattle.std.specs.FinMap as fin
 use Rattle.sm_model.specs.Graphs.{text_cmp}
-use Rattle.sm_rules.specs.steps.Firsts.{number_in}
+use Rattle.sm_rules.specs.parts.Firsts.{number_in}
 use Rattle.sm_rules.proofs.firsts.first_numbers.Given as goal
 
 abbrev pub decreases-loop-left : goal.decreases-loop-left

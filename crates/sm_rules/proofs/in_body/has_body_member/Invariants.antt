@@ -2,7 +2,7 @@ use Rattle.std.proofs.Common.{◌≡◌, drop, map}
 use Rattle.std.specs.List.{list_any}
 use Rattle.sm_model.specs.GraphView.{AreShapeNumbers, maps_of}
 use Rattle.sm_model.specs.Reaching.{id_of_number}
-use Rattle.sm_rules.specs.steps.InBody.{is_body_member}
+use Rattle.sm_rules.specs.parts.InBody.{is_body_member}
 use Rattle.sm_rules.proofs.in_body.has_body_member.Given as goal
 
 abbrev pub invariant-loop-member : goal.invariant-loop-member

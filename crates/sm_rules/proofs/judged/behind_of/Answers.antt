@@ -2,8 +2,8 @@ use Rattle.std.proofs.Common.{sym, ap, ◌∙◌}
 use Rattle.sm_model.specs.GraphView.{maps_of}
 use Rattle.sm_model.specs.Reaching.{id_of_number}
 use Rattle.sm_compile.specs.Looked.{target_under}
-use Rattle.sm_rules.specs.steps.Judging.{entry_where}
-use Rattle.sm_rules.specs.steps.Places.{entry_behind}
+use Rattle.sm_rules.specs.parts.Judging.{entry_where}
+use Rattle.sm_rules.specs.parts.Places.{entry_behind}
 use Rattle.sm_rules.proofs.JudgedTraits.{member_behind, nothing_behind, shape_behind}
 use Rattle.sm_rules.proofs.judged.behind_of.Goals as goal
 

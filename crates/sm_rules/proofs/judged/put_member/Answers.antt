@@ -3,7 +3,7 @@ use Rattle.sm_model.specs.GraphView.{maps_of}
 use Rattle.sm_model.specs.Reaching.{id_of_number}
 use Rattle.sm_rules.specs.RuleEvents.{Puts}
 use Rattle.sm_rules.specs.declared.rows.place.Stand.TheVariants as stand
-use Rattle.sm_rules.specs.steps.Judging.{ToldTraits}
+use Rattle.sm_rules.specs.parts.Judging.{ToldTraits}
 use Rattle.sm_rules.proofs.JudgedTraits.{member_put, no_member_put}
 use Rattle.sm_rules.proofs.judged.put_member.Goals as goal
 

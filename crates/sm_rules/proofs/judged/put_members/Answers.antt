@@ -3,8 +3,8 @@ use Rattle.std.proofs.lemmas.List.{drop_more, get_or_default, take_all}
 use Rattle.sm_model.specs.GraphView.{AreShapeNumbers, maps_of}
 use Rattle.sm_model.specs.Reaching.{id_of_number}
 use Rattle.sm_rules.specs.RuleEvents.{Puts}
-use Rattle.sm_rules.specs.steps.Judging.{ToldMember}
-use Rattle.sm_rules.specs.steps.Putting.{ToldOf}
+use Rattle.sm_rules.specs.parts.Judging.{ToldMember}
+use Rattle.sm_rules.specs.parts.Putting.{ToldOf}
 use Rattle.sm_rules.proofs.ListPut.{none_of, put_next}
 use Rattle.sm_rules.proofs.judged.put_members.Goals as goal
 

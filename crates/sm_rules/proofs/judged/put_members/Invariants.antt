@@ -2,8 +2,8 @@ use Rattle.std.proofs.Common.{drop, take}
 use Rattle.sm_model.specs.GraphView.{AreShapeNumbers, maps_of}
 use Rattle.sm_model.specs.Reaching.{id_of_number}
 use Rattle.sm_rules.specs.RuleEvents.{Puts}
-use Rattle.sm_rules.specs.steps.Judging.{ToldMember}
-use Rattle.sm_rules.specs.steps.Putting.{ToldOf}
+use Rattle.sm_rules.specs.parts.Judging.{ToldMember}
+use Rattle.sm_rules.specs.parts.Putting.{ToldOf}
 use Rattle.sm_rules.proofs.judged.put_members.Given as goal
 
 abbrev pub invariant-loop-member : goal.invariant-loop-member

@@ -2,8 +2,8 @@ use Rattle.std.proofs.Common.{take, subst}
 use Rattle.std.proofs.lemmas.List.{take_all}
 use Rattle.sm_model.specs.Reaching.{id_of_number}
 use Rattle.sm_rules.specs.RuleEvents.{Puts}
-use Rattle.sm_rules.specs.steps.Judging.{ToldTrait}
-use Rattle.sm_rules.specs.steps.Putting.{ToldOf}
+use Rattle.sm_rules.specs.parts.Judging.{ToldTrait}
+use Rattle.sm_rules.specs.parts.Putting.{ToldOf}
 use Rattle.sm_rules.proofs.ListPut.{none_of, put_next}
 use Rattle.sm_rules.proofs.judged.put_traits.Goals as goal
 

@@ -1,8 +1,8 @@
 use Rattle.std.proofs.Common.{take}
 use Rattle.sm_model.specs.Reaching.{id_of_number}
 use Rattle.sm_rules.specs.RuleEvents.{Puts}
-use Rattle.sm_rules.specs.steps.Judging.{ToldTrait}
-use Rattle.sm_rules.specs.steps.Putting.{ToldOf}
+use Rattle.sm_rules.specs.parts.Judging.{ToldTrait}
+use Rattle.sm_rules.specs.parts.Putting.{ToldOf}
 use Rattle.sm_rules.proofs.judged.put_traits.Given as goal
 
 abbrev pub invariant-loop-pair : goal.invariant-loop-pair

@@ -1,6 +1,6 @@
 use Rattle.std.proofs.Common.{◌≡◌, ◌++◌, drop}
 use Rattle.sm_model.specs.GraphView.{AreShapeNumbers}
-use Rattle.sm_rules.specs.steps.Earlier.{folded_rows}
+use Rattle.sm_rules.specs.parts.Earlier.{folded_rows}
 use Rattle.sm_rules.proofs.repeats.folded_members.Given as goal
 
 abbrev pub invariant-loop-member : goal.invariant-loop-member

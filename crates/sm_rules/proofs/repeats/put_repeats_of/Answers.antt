@@ -1,8 +1,8 @@
 use Rattle.std.proofs.Common.{length, subst, ◌∙◌}
 use Rattle.std.specs.List.{Contains}
 use Rattle.sm_rules.specs.RuleEvents.{Puts}
-use Rattle.sm_rules.specs.steps.Earlier.{ToldAt, ToldRepeat}
-use Rattle.sm_rules.specs.steps.Putting.{Below}
+use Rattle.sm_rules.specs.parts.Earlier.{ToldAt, ToldRepeat}
+use Rattle.sm_rules.specs.parts.Putting.{Below}
 use Rattle.sm_rules.proofs.RepeatedNames.{rows_of_members}
 use Rattle.sm_rules.proofs.repeats.put_repeats_of.Goals as goal
 

@@ -3,7 +3,7 @@ use Rattle.std.specs.List.{list_any}
 use Rattle.std.proofs.lemmas.List.{drop_all, drop_more}
 use Rattle.sm_model.specs.GraphView.{AreShapeNumbers, maps_of}
 use Rattle.sm_model.specs.Reaching.{id_of_number}
-use Rattle.sm_rules.specs.steps.Carrying.{carried_twice, carries}
+use Rattle.sm_rules.specs.parts.Carrying.{carried_twice, carries}
 use Rattle.sm_rules.proofs.Singles.{twice_from, seen_both, seen_last, seen_more}
 use Rattle.sm_rules.proofs.single.is_carried_twice.Goals as goal
 

@@ -2,7 +2,7 @@ use Rattle.std.proofs.Common.{◌≡◌, cond, drop, map}
 use Rattle.std.specs.List.{list_any}
 use Rattle.sm_model.specs.GraphView.{AreShapeNumbers, maps_of}
 use Rattle.sm_model.specs.Reaching.{id_of_number}
-use Rattle.sm_rules.specs.steps.Carrying.{carried_twice, carries}
+use Rattle.sm_rules.specs.parts.Carrying.{carried_twice, carries}
 use Rattle.sm_rules.proofs.single.is_carried_twice.Given as goal
 
 abbrev pub invariant-loop-member : goal.invariant-loop-member

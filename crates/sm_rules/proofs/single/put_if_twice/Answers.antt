@@ -3,8 +3,8 @@ use Rattle.sm_model.specs.GraphView.{maps_of}
 use Rattle.sm_model.specs.Reaching.{id_of_number}
 use Rattle.sm_rules.specs.RuleEvents.{Puts, rule_event}
 use Rattle.sm_rules.specs.declared.rule.Rule.TheVariants.{TraitSingle}
-use Rattle.sm_rules.specs.steps.Carrying.{carried_twice}
-use Rattle.sm_rules.specs.steps.Putting.{IsWhere}
+use Rattle.sm_rules.specs.parts.Carrying.{carried_twice}
+use Rattle.sm_rules.specs.parts.Putting.{IsWhere}
 use Rattle.sm_rules.proofs.single.put_if_twice.Goals as goal
 
 pub returns : goal.returns

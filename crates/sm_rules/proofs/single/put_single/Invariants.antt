@@ -2,7 +2,7 @@ use Rattle.sm_compile.specs.rules.Traits.{CarriesTwice}
 use Rattle.sm_model.specs.GraphView.{maps_of}
 use Rattle.sm_rules.specs.RuleEvents.{Puts}
 use Rattle.sm_rules.specs.declared.rule.Rule.TheVariants.{TraitSingle}
-use Rattle.sm_rules.specs.steps.Putting.{Below}
+use Rattle.sm_rules.specs.parts.Putting.{Below}
 use Rattle.sm_rules.proofs.Numbered.{at_number}
 use Rattle.sm_rules.proofs.single.put_single.Given as goal
 

@@ -4,8 +4,8 @@ use Rattle.sm_model.specs.GraphView.{maps_of}
 use Rattle.sm_model.specs.Reaching.{id_of_number}
 use Rattle.sm_rules.specs.RuleEvents.{Puts, rule_event}
 use Rattle.sm_rules.specs.declared.rule.Rule.TheVariants.{TraitUnknown}
-use Rattle.sm_rules.specs.steps.Knowing.{ToldUnknown, is_unknown}
-use Rattle.sm_rules.specs.steps.Putting.{IsWhere, ToldOf}
+use Rattle.sm_rules.specs.parts.Knowing.{ToldUnknown, is_unknown}
+use Rattle.sm_rules.specs.parts.Putting.{IsWhere, ToldOf}
 use Rattle.sm_rules.proofs.ListPut.{none_of, put_next}
 use Rattle.sm_rules.proofs.unknown.put_each_unknown.Goals as goal
 

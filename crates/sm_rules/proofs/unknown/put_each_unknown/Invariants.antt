@@ -2,8 +2,8 @@ use Rattle.std.proofs.Common.{take}
 use Rattle.sm_model.specs.GraphView.{maps_of}
 use Rattle.sm_model.specs.Reaching.{id_of_number}
 use Rattle.sm_rules.specs.RuleEvents.{Puts}
-use Rattle.sm_rules.specs.steps.Knowing.{ToldUnknown}
-use Rattle.sm_rules.specs.steps.Putting.{ToldOf}
+use Rattle.sm_rules.specs.parts.Knowing.{ToldUnknown}
+use Rattle.sm_rules.specs.parts.Putting.{ToldOf}
 use Rattle.sm_rules.proofs.unknown.put_each_unknown.Given as goal
 
 abbrev pub invariant-loop-pair : goal.invariant-loop-pair

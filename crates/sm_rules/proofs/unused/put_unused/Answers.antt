@@ -1,7 +1,7 @@
 use Rattle.std.proofs.Common.{◌≡◌, length, subst, sym, true}
 use Rattle.sm_model.specs.GraphView.{entries_of, maps_of}
 use Rattle.sm_model.specs.Reaching.{AreMarks, id_of_number}
-use Rattle.sm_rules.specs.steps.Using.{is_own_service}
+use Rattle.sm_rules.specs.parts.Using.{is_own_service}
 use Rattle.sm_rules.proofs.unused.put_unused.Goals as goal
 
 pub put_unused_where-requires : goal.put_unused_where-requires

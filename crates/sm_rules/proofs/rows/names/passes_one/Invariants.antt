@@ -1,5 +1,5 @@
 use Rattle.std.proofs.Common.{◌≡◌, drop}
-use Rattle.sm_rules.specs.steps.RowTests.{passes_one}
+use Rattle.sm_rules.specs.parts.RowTests.{passes_one}
 use Rattle.sm_rules.proofs.rows.names.passes_one.Given as goal
 
 abbrev pub invariant-loop-row : goal.invariant-loop-row

@@ -1,6 +1,6 @@
 use Rattle.std.proofs.Common.{◌≡◌, Bool, ap, ◌∙◌}
 use Rattle.std.specs.Prelude.{◌||◌}
-use Rattle.sm_rules.specs.steps.RowTests.{names_passing}
+use Rattle.sm_rules.specs.parts.RowTests.{names_passing}
 use Rattle.sm_rules.proofs.RowTested.{six_groups}
 use Rattle.sm_rules.proofs.rows.names.some_row.Goals as goal
 

@@ -2,8 +2,8 @@ use Rattle.std.proofs.Common.{sym, ap, ◌∙◌}
 use Rattle.std.specs.Prelude.{◌&&◌}
 use Rattle.std.specs.List.{list_any}
 use Rattle.sm_tree.specs.View.{node_of}
-use Rattle.sm_rules.specs.steps.Places.{places_said}
-use Rattle.sm_rules.specs.steps.RowTests.{stand_takes_in}
+use Rattle.sm_rules.specs.parts.Places.{places_said}
+use Rattle.sm_rules.specs.parts.RowTests.{stand_takes_in}
 use Rattle.sm_rules.proofs.RowTested.{form_same, place_same}
 use Rattle.sm_rules.proofs.table_rules.ReadsThereRowTest.passes.Goals as goal
 

@@ -11,7 +11,7 @@ use Rattle.sm_compile.specs.TraitIds.{trait_id}
 use Rattle.sm_compile.specs.TraitRows.{TraitRow, has_row}
 use Rattle.sm_rules.specs.RuleEvents.{rule_event}
 use Rattle.sm_rules.specs.declared.rule.Rule.TheVariants.{TraitUnknown}
-use Rattle.sm_rules.specs.steps.Putting.{IsWhere}
+use Rattle.sm_rules.specs.parts.Putting.{IsWhere}
 
 -- one of these rows is a trait's
 abbrev pub is_named_in : List TraitRow → List ℕ → Bool

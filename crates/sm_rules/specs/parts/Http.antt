@@ -6,7 +6,7 @@ use Rattle.sm_compile.specs.Sound.{trait_of}
 use Rattle.sm_compile.specs.TraitIds.{http_id}
 use Rattle.sm_compile.specs.TraitNodes.{field_of, is_number, is_object, is_text, text_of, where_there}
 use Rattle.sm_compile.specs.rules.Words.{field_in}
-use Rattle.sm_rules.specs.steps.Owned.{is_own_operation}
+use Rattle.sm_rules.specs.parts.Owned.{is_own_operation}
 
 -- a test of what must be there
 abbrev pub is_there_as : (Node → Bool) → Option Node → Bool

@@ -8,8 +8,8 @@ use Rattle.sm_compile.specs.TraitRows as table
 use Rattle.sm_compile.specs.TraitRows.{PlaceForm, TraitRow, ValueForm, has_form, trait_rows}
 use Rattle.sm_rules.specs.declared.rows.names.Row.{Row}
 use Rattle.sm_rules.specs.declared.rows.place.Stand.{Stand}
-use Rattle.sm_rules.specs.steps.Forms.{form_said}
-use Rattle.sm_rules.specs.steps.Places.{is_member_of, is_member_to, is_shape_of, places_said}
+use Rattle.sm_rules.specs.parts.Forms.{form_said}
+use Rattle.sm_rules.specs.parts.Places.{is_member_of, is_member_to, is_shape_of, places_said}
 
 -- a test of a row by its values and places
 abbrev pub AsksOfRow : Type 0

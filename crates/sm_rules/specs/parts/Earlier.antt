@@ -7,7 +7,7 @@ use Rattle.sm_model.specs.Reaching.{id_of_number}
 use Rattle.sm_model.specs.declared.graph.Graph.{Graph}
 use Rattle.sm_rules.specs.RuleEvents.{rule_event}
 use Rattle.sm_rules.specs.declared.rule.Rule.TheVariants.{MemberCase}
-use Rattle.sm_rules.specs.steps.Folded.{folded}
+use Rattle.sm_rules.specs.parts.Folded.{folded}
 
 -- of a number, by the one that stands first under its key
 abbrev pub ToldAfter : (ℕ → ℕ → EventTold → Type 0) → Option ℕ → ℕ → EventTold → Type 0

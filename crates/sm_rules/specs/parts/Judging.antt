@@ -15,9 +15,9 @@ use Rattle.sm_rules.specs.declared.rule.Rule.{Rule}
 use Rattle.sm_rules.specs.declared.rows.place.Behind.{Behind}
 use Rattle.sm_rules.specs.declared.rows.place.Stand.{Stand}
 use Rattle.sm_rules.specs.declared.rows.place.Stand.TheVariants as stand
-use Rattle.sm_rules.specs.steps.InBody.{is_member_in}
-use Rattle.sm_rules.specs.steps.Places.{entry_behind}
-use Rattle.sm_rules.specs.steps.Putting.{IsWhere, ToldOf}
+use Rattle.sm_rules.specs.parts.InBody.{is_member_in}
+use Rattle.sm_rules.specs.parts.Places.{entry_behind}
+use Rattle.sm_rules.specs.parts.Putting.{IsWhere, ToldOf}
 
 -- a trait with this value that stands there is wrong
 abbrev pub Judgement : Type 0

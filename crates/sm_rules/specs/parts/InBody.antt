@@ -5,8 +5,8 @@ use Rattle.std.specs.List.{list_any}
 use Rattle.sm_model.specs.Graphs.{Entry, shape_entry, member_entry, GraphMaps}
 use Rattle.sm_compile.specs.Looked.{listed_under}
 use Rattle.sm_compile.specs.TraitIds.{http_header_id, http_prefix_headers_id, http_payload_id, http_response_code_id}
-use Rattle.sm_rules.specs.steps.Carrying.{carries}
-use Rattle.sm_rules.specs.steps.Folded.{is_own_shape}
+use Rattle.sm_rules.specs.parts.Carrying.{carries}
+use Rattle.sm_rules.specs.parts.Folded.{is_own_shape}
 
 abbrev pub is_member_in : Option Entry → Bool
 is_member_in None = false

@@ -10,8 +10,8 @@ use Rattle.sm_compile.specs.rules.Http.{HasWrongCode, HasWrongStatus, forbids_bo
 use Rattle.sm_compile.specs.rules.Words.{field_in}
 use Rattle.sm_rules.specs.RuleEvents.{rule_event}
 use Rattle.sm_rules.specs.declared.rule.Rule.TheVariants.{HttpCode}
-use Rattle.sm_rules.specs.steps.Http.{http_seen}
-use Rattle.sm_rules.specs.steps.Owned.{is_own_structure}
+use Rattle.sm_rules.specs.parts.Http.{http_seen}
+use Rattle.sm_rules.specs.parts.Owned.{is_own_structure}
 
 abbrev pub code_seen : GraphMaps → List ℕ → Option ℤ
 code_seen g id = number_of (field_in (codes "code") (http_seen g id))

@@ -10,8 +10,8 @@ use Rattle.sm_model.specs.declared.kind.Kind.TheVariants.{Service}
 use Rattle.sm_compile.specs.Looked.{kind_under}
 use Rattle.sm_compile.specs.TraitIds.{trait_id}
 use Rattle.sm_compile.specs.rules.Words.{IsInClosure, IsService}
-use Rattle.sm_rules.specs.steps.Carrying.{carries}
-use Rattle.sm_rules.specs.steps.Folded.{is_own_shape}
+use Rattle.sm_rules.specs.parts.Carrying.{carries}
+use Rattle.sm_rules.specs.parts.Folded.{is_own_shape}
 
 abbrev pub is_service : Option Kind → Bool
 is_service (Some Service) = true

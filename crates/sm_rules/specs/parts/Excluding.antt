@@ -8,8 +8,8 @@ use Rattle.sm_model.specs.Graphs.{text_cmp, GraphMaps}
 use Rattle.sm_compile.specs.TraitIds.{readonly_id, idempotent_id, input_id, output_id, error_id}
 use Rattle.sm_rules.specs.RuleEvents.{rule_event}
 use Rattle.sm_rules.specs.declared.rule.Rule.TheVariants.{TraitConflict}
-use Rattle.sm_rules.specs.steps.Carrying.{carries}
-use Rattle.sm_rules.specs.steps.Putting.{IsWhere}
+use Rattle.sm_rules.specs.parts.Carrying.{carries}
+use Rattle.sm_rules.specs.parts.Putting.{IsWhere}
 
 -- two of the groups; the third is that of the bindings
 abbrev pub of_methods : List (List ℕ)

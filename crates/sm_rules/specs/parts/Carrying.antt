@@ -7,7 +7,7 @@ use Rattle.sm_compile.specs.Sound.{trait_of}
 use Rattle.sm_compile.specs.Looked.{listed_under}
 use Rattle.sm_rules.specs.RuleEvents.{rule_event}
 use Rattle.sm_rules.specs.declared.rule.Rule.TheVariants as rule
-use Rattle.sm_rules.specs.steps.Putting.{IsWhere}
+use Rattle.sm_rules.specs.parts.Putting.{IsWhere}
 
 abbrev pub carries : GraphMaps → List ℕ → List ℕ → Bool
 carries g trait id = is_some (trait_of g id trait)

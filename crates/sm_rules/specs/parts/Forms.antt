@@ -11,7 +11,7 @@ use Rattle.sm_compile.specs.TraitRows.{ValueForm, are_named_texts, are_text_node
 use Rattle.sm_compile.specs.TraitRows.{may_have, must_have}
 use Rattle.sm_rules.specs.declared.rows.form.Form.{Form}
 use Rattle.sm_rules.specs.declared.rows.form.Form.TheVariants as form
-use Rattle.sm_rules.specs.steps.Http.{is_http_value, is_there_as}
+use Rattle.sm_rules.specs.parts.Http.{is_http_value, is_there_as}
 
 -- the form as the table has it
 abbrev pub form_said : Form → ValueForm
