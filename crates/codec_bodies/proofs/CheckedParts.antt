@@ -11,7 +11,8 @@ use Rattle.std.specs.Ordering.{nat_cmp}
 use Rattle.std.specs.Cmp.Lexicographic.{slice_cmp}
 use Rattle.sm_tree.specs.Node.{Node}
 use Rattle.sm_shapes.specs.Names.{NoneIs}
-use Rattle.sm_shapes.specs.TableData.{TableData, MemberData, shape_count, kind_at, members_at, home_in, target_in, constraints_in, default_node_in, default_in, binding_in, name_at, json_name_at}
+use Rattle.sm_shapes.specs.TableData.{TableData, MemberData, shape_count, kind_at, members_at, home_in, target_in, constraints_in}
+use Rattle.sm_shapes.specs.TableData.{default_node_in, default_in, binding_in, name_at, json_name_at}
 use Rattle.sm_shapes.specs.InOrder.{AreMembersOf, AreByName, AreStored, NamesPattern, MayHaveNode}
 use Rattle.sm_shapes.specs.declared.kinds.ShapeKind.TheVariants.{Structure}
 use Rattle.codec_bodies.specs.Checked.{MemberInOrder}

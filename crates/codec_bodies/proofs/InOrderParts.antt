@@ -4,7 +4,8 @@ use Rattle.std.specs.Prelude.{Option, Some, None, slice_get}
 use Rattle.std.proofs.lemmas.Option.{slice_get_within}
 use Rattle.sm_tree.specs.Node.{Node}
 use Rattle.sm_shapes.specs.Values.{Val}
-use Rattle.sm_shapes.specs.TableData.{TableData, MemberData, shape_count, member_count, default_at, default_node_in, default_in, texts_numbered}
+use Rattle.sm_shapes.specs.TableData.{TableData, MemberData, shape_count, member_count, default_at, default_node_in, default_in}
+use Rattle.sm_shapes.specs.TableData.{texts_numbered}
 use Rattle.sm_shapes.specs.InOrder.{Shaped, NamesPattern}
 use Rattle.sm_shapes.specs.DefaultPuts.{HasNoDefault}
 use Rattle.codec_bodies.specs.Checked.{ShapeInOrder, MemberInOrder}

@@ -5,7 +5,8 @@ use Rattle.std.specs.List.Sorted.{IsStrictlySortedBy}
 use Rattle.std.specs.Ordering.{nat_cmp}
 use Rattle.sm_tree.specs.Node.{Node}
 use Rattle.sm_shapes.specs.Names.{AllDiffer}
-use Rattle.sm_shapes.specs.TableData.{TableData, shape_count, kind_at, members_at, by_name_at, by_json_name_at, needed_at, home_at, name_at, json_name_at, target_at, shape_constraints_at, constraints_at, default_node_at, default_at}
+use Rattle.sm_shapes.specs.TableData.{TableData, shape_count, kind_at, members_at, by_name_at, by_json_name_at, needed_at, home_at}
+use Rattle.sm_shapes.specs.TableData.{name_at, json_name_at, target_at, shape_constraints_at, constraints_at, default_node_at, default_at}
 use Rattle.sm_shapes.specs.InOrder.{AreMembersOf, AreByName, HasItsMembers, NamesPattern, MayDefault, MayHaveNode, is_needed}
 
 -- the name of a member, or the one that it has where JSON names are looked at

@@ -12,7 +12,8 @@ use Rattle.sm_tree.specs.Node.{Node}
 use Rattle.sm_tree.specs.Same.{IsNode}
 use Rattle.sm_model.specs.Formed.{StandsAmong, HaveForm}
 use Rattle.sm_model.specs.Given.{AreNodes, AreGiven, AreGivenMembers, AreGivenShapes, AreNodeFields, IsGivenShape, given_names}
-use Rattle.sm_model.specs.Graphs.{Entry, MemberEntry, MemberGiven, ShapeEntry, ShapeGiven, ShapeMap, given_entries, given_members, given_shape}
+use Rattle.sm_model.specs.Graphs.{Entry, MemberEntry, MemberGiven, ShapeEntry, ShapeGiven, ShapeMap, given_entries, given_members}
+use Rattle.sm_model.specs.Graphs.{given_shape}
 use Rattle.sm_model.specs.Graphs.{graph_of, member_entry, member_id, shape_entry, text_cmp}
 use Rattle.sm_model.specs.Kinds.{member_form}
 use Rattle.sm_model.specs.Properties.{property_forms}

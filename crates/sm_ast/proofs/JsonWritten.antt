@@ -1,5 +1,6 @@
 -- What is written for a graph whose values are JSON, and whose names and ids are UTF-8, is a tree of JSON.
-use Rattle.std.proofs.Common.{◌≡◌, ℕ, ◌<◌, inl, inr, Bool, true, cond, List, [], ◌∷◌, ◌++◌, Option, Some, None, refl, sym, ap, subst, arith, IsUtf8}
+use Rattle.std.proofs.Common.{◌≡◌, ℕ, ◌<◌, inl, inr, Bool, true, cond, List, [], ◌∷◌, ◌++◌, Option, Some, None, refl, sym, ap, subst}
+use Rattle.std.proofs.Common.{arith, IsUtf8}
 use Rattle.std.specs.Prelude.{if◌then◌else◌, codes}
 use Rattle.std.specs.FinMap as fin
 use Rattle.std.specs.FinMap.{find, get-entries, slice_cmp-IsAntisymmetric, nat_cmp-IsAntisymmetric}
@@ -12,7 +13,8 @@ use Rattle.std.proofs.lemmas.Bool.Decides.{nat_tests}
 use Rattle.std.proofs.lemmas.List.Sums.{AllPass-from_list_all}
 use Rattle.std.proofs.lemmas.Str.{IsUtf8-from_ascii}
 use Rattle.std.proofs.lemmas.Str.Ascii.{IsAscii-from_all}
-use Rattle.sm_tree.specs.Node.{Node, Nodes, Members, null, bool, int, number, text, bytes, tag, opaque, list, object, no_nodes, node, no_members, member}
+use Rattle.sm_tree.specs.Node.{Node, Nodes, Members, null, bool, int, number, text, bytes, tag, opaque, list, object, no_nodes, node}
+use Rattle.sm_tree.specs.Node.{no_members, member}
 use Rattle.sm_tree.specs.Node.{nodes_of, members_of}
 use Rattle.sm_tree.specs.Json.{IsJson, AreJson, AreJsonMembers}
 use Rattle.sm_model.specs.Kinds.{MemberForm, none, exactly, any, member_form, kind_name}
@@ -20,8 +22,10 @@ use Rattle.sm_model.specs.Properties.{TypeFields, property_forms}
 use Rattle.sm_model.specs.Graphs.{text_cmp, Entry, shape_entry, member_entry, ShapeMap, GraphMaps}
 use Rattle.sm_model.proofs.MapFacts.{Each}
 use Rattle.sm_model.specs.declared.kind.Kind.{Kind}
-use Rattle.sm_model.specs.declared.kind.Kind.TheVariants.{Blob, Boolean, Text as text_kind, Enum, Byte, Short, Integer, IntEnum, Long, Float, Double}
-use Rattle.sm_model.specs.declared.kind.Kind.TheVariants.{BigInteger, BigDecimal, Timestamp, Document, List as list_kind, Map, Structure, Union}
+use Rattle.sm_model.specs.declared.kind.Kind.TheVariants.{Blob, Boolean, Text as text_kind, Enum, Byte, Short, Integer, IntEnum, Long}
+use Rattle.sm_model.specs.declared.kind.Kind.TheVariants.{Float, Double}
+use Rattle.sm_model.specs.declared.kind.Kind.TheVariants.{BigInteger, BigDecimal, Timestamp, Document, List as list_kind, Map, Structure}
+use Rattle.sm_model.specs.declared.kind.Kind.TheVariants.{Union}
 use Rattle.sm_model.specs.declared.kind.Kind.TheVariants.{Service, Operation, Resource}
 use Rattle.sm_model.specs.declared.property.PropertyForm.{PropertyForm}
 use Rattle.sm_model.specs.declared.property.PropertyForm.TheVariants.{Reference, References, NamedReferences, Text, Rename}
@@ -29,7 +33,8 @@ use Rattle.sm_tree.specs.Parts.{tree_named}
 use Rattle.sm_model.specs.PreludeShapes.{is_prelude_id}
 use Rattle.sm_ast.specs.Written.{WrittenPairs, field_there, filled_list, filled_object, member_there, name_in_id, property_there}
 use Rattle.sm_ast.specs.Written.{shape_object, written_ast, written_entries, written_entry, written_in_form, written_members}
-use Rattle.sm_ast.specs.Written.{written_pairs, written_properties, written_property, written_reference, written_shapes, written_statement, written_traits}
+use Rattle.sm_ast.specs.Written.{written_pairs, written_properties, written_property, written_reference, written_shapes}
+use Rattle.sm_ast.specs.Written.{written_statement, written_traits}
 use Rattle.sm_ast.specs.steps.Saying.{entries_said, pairs_said}
 use Rattle.sm_ast.proofs.JsonParts.{json_named, json_pairs}
 use Rattle.sm_ast.proofs.Judged.{both_true, either_way}

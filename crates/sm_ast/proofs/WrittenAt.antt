@@ -1,5 +1,6 @@
 -- What is written for what stands at a number of a graph, from what its look-ups say of it.
-use Rattle.std.proofs.Common.{◌≡◌, ℕ, suc, zero, true, false, cond, List, [], ◌∷◌, ◌++◌, drop, get_or, Some, None, refl, sym, ap, ◌∙◌, subst, append_assoc, append-nil}
+use Rattle.std.proofs.Common.{◌≡◌, ℕ, suc, zero, true, false, cond, List, [], ◌∷◌, ◌++◌, drop, get_or, Some, None, refl, sym, ap, ◌∙◌}
+use Rattle.std.proofs.Common.{subst, append_assoc, append-nil}
 use Rattle.std.specs.Prelude.{IsSomeAnd, slice_get, if◌then◌else◌}
 use Rattle.std.specs.FinMap as fin
 use Rattle.sm_tree.specs.Node.{Node, Members}
@@ -11,7 +12,8 @@ use Rattle.sm_model.proofs.GraphFacts.{Found, entry_under, id_at}
 use Rattle.sm_model.specs.PreludeShapes.{is_prelude_id}
 use Rattle.sm_ast.specs.Written.{WrittenPairs, field_there, member_object, member_there, name_in_id, shape_object, written_entry}
 use Rattle.sm_tree.specs.Parts.{tree_named}
-use Rattle.sm_ast.specs.Written.{property_there, written_member, written_members, written_properties, written_shape, written_shapes, written_statement}
+use Rattle.sm_ast.specs.Written.{property_there, written_member, written_members, written_properties, written_shape, written_shapes}
+use Rattle.sm_ast.specs.Written.{written_statement}
 use Rattle.sm_model.specs.Properties.{TypeFields}
 use Rattle.sm_ast.specs.steps.Saying.{pairs_said}
 use Rattle.sm_ast.specs.steps.Writing.{IsWrittenShape}

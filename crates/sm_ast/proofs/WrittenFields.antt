@@ -1,6 +1,8 @@
 -- What is written for the body of an operation, service or resource says it.
-use Rattle.std.proofs.Common.{◌≡◌, inl, inr, ℕ, false, List, [], ◌∷◌, ◌++◌, Option, Some, None, refl, sym, ap, subst, ◌∙◌, append_assoc, if◌then◌else◌, bytes_eq}
-use Rattle.sm_tree.specs.Node.{Node, Nodes, Members, null, bool, int, number, text, bytes, tag, opaque, list, object, no_nodes, node, no_members, member}
+use Rattle.std.proofs.Common.{◌≡◌, inl, inr, ℕ, false, List, [], ◌∷◌, ◌++◌, Option, Some, None, refl, sym, ap, subst, ◌∙◌, append_assoc}
+use Rattle.std.proofs.Common.{if◌then◌else◌, bytes_eq}
+use Rattle.sm_tree.specs.Node.{Node, Nodes, Members, null, bool, int, number, text, bytes, tag, opaque, list, object, no_nodes, node}
+use Rattle.sm_tree.specs.Node.{no_members, member}
 use Rattle.sm_tree.specs.Node.{nodes_of, members_of}
 use Rattle.sm_tree.specs.Same.{HasName, HasDistinctNames, HaveDistinctNames, AreDistinct}
 use Rattle.sm_model.specs.Given.{AreIdNodes, AreNamedIds, AreRenamed, NodeHasForm, AreNodeFields, IsIdNode}
@@ -12,7 +14,8 @@ use Rattle.sm_model.specs.declared.property.PropertyForm.TheVariants.{Reference,
 use Rattle.sm_model.proofs.FieldsAmong.{AreAmong}
 use Rattle.sm_ast.specs.Ast.{RawReferenceSays, RawReferencesSay, NamedReferencesSay, NewNamesSay, PropertySays, PropertyPairsSay}
 use Rattle.sm_tree.specs.Parts.{tree_named}
-use Rattle.sm_ast.specs.GraphSaid.{body_said, filled_raws, filled_raw_members, form_said, form_there_said, id_said, ids_said, named_ids_said}
+use Rattle.sm_ast.specs.GraphSaid.{body_said, filled_raws, filled_raw_members, form_said, form_there_said, id_said, ids_said}
+use Rattle.sm_ast.specs.GraphSaid.{named_ids_said}
 use Rattle.sm_ast.specs.GraphSaid.{names_said, raw_field}
 use Rattle.sm_ast.specs.Written.{WrittenPairs, field_there, filled_list, filled_object, property_there, written_entries, written_pairs}
 use Rattle.sm_ast.specs.Written.{written_properties, written_property, written_reference}

@@ -1,5 +1,6 @@
 -- Names of pairs that are put in the order of a list of names, some left out: they differ where the names of the list do.
-use Rattle.std.proofs.Common.{◌≡◌, inl, inr, ◌⊎◌, ℕ, not, ◌&&◌, Bool, true, false, List, [], ◌∷◌, ◌++◌, map, Option, Some, None, refl, sym, subst, ◌∙◌, bytes_eq}
+use Rattle.std.proofs.Common.{◌≡◌, inl, inr, ◌⊎◌, ℕ, not, ◌&&◌, Bool, true, false, List, [], ◌∷◌, ◌++◌, map, Option, Some, None, refl}
+use Rattle.std.proofs.Common.{sym, subst, ◌∙◌, bytes_eq}
 use Rattle.std.proofs.lemmas.List.{map-append}
 use Rattle.sm_tree.specs.Node.{Node, Members, members_of}
 use Rattle.sm_tree.specs.Same.{HasPair, HasName, HasDistinctNames, AreDistinct}

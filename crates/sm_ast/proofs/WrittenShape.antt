@@ -1,5 +1,6 @@
 -- What is written for a shape says it.
-use Rattle.std.proofs.Common.{◌≡◌, inl, inr, ℕ, not, ◌&&◌, Bool, true, false, List, [], ◌∷◌, ◌++◌, Option, Some, None, refl, sym, ap, subst, ◌∙◌, append_assoc, is_some}
+use Rattle.std.proofs.Common.{◌≡◌, inl, inr, ℕ, not, ◌&&◌, Bool, true, false, List, [], ◌∷◌, ◌++◌, Option, Some, None, refl, sym, ap}
+use Rattle.std.proofs.Common.{subst, ◌∙◌, append_assoc, is_some}
 use Rattle.std.specs.List.{list_all}
 use Rattle.sm_tree.specs.Node.{Members, text, members_of}
 use Rattle.sm_tree.specs.Same.{HasName, HasDistinctNames, AreDistinct}

@@ -1,5 +1,6 @@
 -- What is written for a whole graph says the statements of the graph.
-use Rattle.std.proofs.Common.{inl, inr, ℕ, Bool, true, false, List, [], ◌∷◌, ◌++◌, map, Option, Some, None, refl, sym, subst, append-nil, if◌then◌else◌, codes}
+use Rattle.std.proofs.Common.{inl, inr, ℕ, Bool, true, false, List, [], ◌∷◌, ◌++◌, map, Option, Some, None, refl, sym, subst, append-nil}
+use Rattle.std.proofs.Common.{if◌then◌else◌, codes}
 use Rattle.std.specs.FinMap as fin
 use Rattle.sm_tree.specs.Node.{Node, text, members_of}
 use Rattle.sm_tree.specs.Same.{HasDistinctNames, AreDistinct}
@@ -20,7 +21,8 @@ use Rattle.sm_ast.specs.steps.Saying.{pairs_said}
 use Rattle.sm_ast.proofs.GivenGraph.{EntryIsSound, IsSoundShape, graph_sound, nodes_in_map}
 use Rattle.sm_ast.proofs.WrittenFields.{object_distinct}
 use Rattle.sm_ast.proofs.WrittenMembers.{found_pairs, nodes_distinct}
-use Rattle.sm_ast.proofs.WrittenNames.{EachDistinct, PairsWithin, differ_by_test, differ_within, distinct_joined, distinct_pairs, field_within}
+use Rattle.sm_ast.proofs.WrittenNames.{EachDistinct, PairsWithin, differ_by_test, differ_within, distinct_joined, distinct_pairs}
+use Rattle.sm_ast.proofs.WrittenNames.{field_within}
 use Rattle.sm_ast.proofs.WrittenNames.{pairs_joined}
 use Rattle.sm_ast.proofs.WrittenShape.{shape_distinct, shape_says}
 

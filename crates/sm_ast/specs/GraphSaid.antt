@@ -5,7 +5,8 @@ use Rattle.std.specs.FinMap as fin
 use Rattle.sm_tree.specs.Node.{Node, Nodes, Members, no_nodes, node, no_members, member}
 use Rattle.sm_model.specs.Properties.{TypeFields, property_forms}
 use Rattle.sm_model.specs.References.{absolute}
-use Rattle.sm_model.specs.Raw.{Raw, Raws, RawMembers, raw_leaf, raw_id, raw_list, raw_object, no_raws, raw, no_raw_members, raw_member, raw_members_of, raw_of}
+use Rattle.sm_model.specs.Raw.{Raw, Raws, RawMembers, raw_leaf, raw_id, raw_list, raw_object, no_raws, raw, no_raw_members, raw_member}
+use Rattle.sm_model.specs.Raw.{raw_members_of, raw_of}
 use Rattle.sm_model.specs.Said.{TraitSaid, MemberSaid, ShapeSaid, Said, metadata_said, shape_said}
 use Rattle.sm_model.specs.Graphs.{NodeMap, ShapeMap, ShapeEntry, Entry, shape_entry, member_entry, GraphMaps}
 use Rattle.sm_model.specs.declared.property.PropertyForm.{PropertyForm}

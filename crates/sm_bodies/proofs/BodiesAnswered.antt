@@ -10,7 +10,8 @@ use Rattle.sm_shapes.specs.declared.values.Value.{Value}
 use Rattle.sm_codec.specs.Encoded.{first_path}
 use Rattle.sm_bodies.specs.Sides.{side_of}
 use Rattle.sm_bodies.specs.Bodies.{DecodesAs}
-use Rattle.sm_bodies.specs.TextAnswers.{TextAnswer, the_text, the_refusal, the_fault, TextAnswers, no_text, fault, not_carried, value, near_codec, far_uncarried}
+use Rattle.sm_bodies.specs.TextAnswers.{TextAnswer, the_text, the_refusal, the_fault, TextAnswers, no_text, fault, not_carried, value}
+use Rattle.sm_bodies.specs.TextAnswers.{near_codec, far_uncarried}
 use Rattle.sm_bodies.specs.AnswerView.{text_answer}
 use Rattle.sm_bodies.specs.steps.Translating.{AnswersValue, AnswersRefusal}
 use Rattle.sm_bodies.specs.declared.form.BodyForm.{BodyForm}

@@ -2,9 +2,11 @@
 use Rattle.std.proofs.Common.{◌≡◌, ℕ, Bool, List, [], ◌∷◌, ◌++◌, length, refl, ap, ◌∙◌}
 use Rattle.std.specs.Prelude.{Option, Some, None}
 use Rattle.std.specs.Str.{chars}
-use Rattle.sm_shapes.specs.Values.{Val, Vals, EntryVals, FieldVals, null_val, bool_val, int_val, text_val, blob_val, time_val, list_val, map_val, structure_val, union_val, no_vals, val, no_entries, entry, no_fields, field}
+use Rattle.sm_shapes.specs.Values.{Val, Vals, EntryVals, FieldVals, null_val, bool_val, int_val, text_val, blob_val, time_val, list_val}
+use Rattle.sm_shapes.specs.Values.{map_val, structure_val, union_val, no_vals, val, no_entries, entry, no_fields, field}
 use Rattle.sm_shapes.specs.TableData.{TableData}
-use Rattle.sm_shapes.specs.Places.{Place, member_place, kind_of, members_of_place, constraints_of, sparse_of, entry_place, key_place, value_place}
+use Rattle.sm_shapes.specs.Places.{Place, member_place, kind_of, members_of_place, constraints_of, sparse_of, entry_place, key_place}
+use Rattle.sm_shapes.specs.Places.{value_place}
 use Rattle.sm_shapes.specs.Broken.{length_broken, pattern_broken, text_broken}
 use Rattle.sm_shapes.specs.Fitting.{Test, any_text, finder, Fits, FitEntries, FitPairs, FitFields, FitsOrNull, MeetsConstraints}
 use Rattle.sm_shapes.specs.declared.fault.FaultKind.{FaultKind}

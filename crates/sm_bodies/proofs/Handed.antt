@@ -1,6 +1,7 @@
 -- The events of a tree that is written: a writer of its format takes them, and then holds what is written for the tree.
 use Rattle.std.proofs.Common.{◌≡◌, List, []}
-use Rattle.sm_tree.specs.Node.{Node, Nodes, Members, null, bool, int, number, text, bytes, tag, opaque, list, object, no_nodes, node, no_members, member}
+use Rattle.sm_tree.specs.Node.{Node, Nodes, Members, null, bool, int, number, text, bytes, tag, opaque, list, object, no_nodes, node}
+use Rattle.sm_tree.specs.Node.{no_members, member}
 use Rattle.sm_tree.specs.Json.{IsJson, IsCbor}
 use Rattle.sm_tree.specs.Events.{NodeEvent}
 use Rattle.sm_tree.specs.Streams.{TakesEach, numbered, numbered_entries, numbered_pairs}

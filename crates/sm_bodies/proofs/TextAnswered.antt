@@ -29,7 +29,8 @@ use Rattle.sm_codec.proofs.JsonLaws.{json_laws}
 use Rattle.sm_codec.proofs.CborLaws.{cbor_laws}
 use Rattle.sm_codec.proofs.ReadValues.{one_value, value_or_fault}
 use Rattle.sm_bodies.specs.Sides.{side_of}
-use Rattle.sm_bodies.specs.TextAnswers.{TextAnswer, the_text, the_refusal, the_fault, TextAnswers, no_text, fault, not_carried, value, near_codec, IsNearText, far_uncarried, far_text}
+use Rattle.sm_bodies.specs.TextAnswers.{TextAnswer, the_text, the_refusal, the_fault, TextAnswers, no_text, fault, not_carried, value}
+use Rattle.sm_bodies.specs.TextAnswers.{near_codec, IsNearText, far_uncarried, far_text}
 use Rattle.sm_bodies.specs.TextLaws.{OneTextAnswer, SomeTextAnswer}
 use Rattle.sm_bodies.specs.declared.form.BodyForm.{BodyForm}
 use Rattle.sm_bodies.specs.declared.form.BodyForm.TheVariants.{Json, Cbor}

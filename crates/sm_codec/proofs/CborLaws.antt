@@ -12,9 +12,11 @@ use Rattle.sm_codec.specs.declared.simple.Simple.{Simple}
 use Rattle.sm_codec.specs.declared.simple.Simple.TheVariants as the
 use Rattle.sm_time.specs.StampTexts.{is_stamp}
 use Rattle.sm_codec.specs.Convention.{IsConvention, IsNested, nested_fault, fault_in, is_of, fits_bits, are_bytes}
-use Rattle.sm_codec.specs.Conventions.{cbor_read, cbor_blob, cbor_time, cbor_seconds, cbor_written, cbor_carries, cbor_carries_leaf, cbor_convention, is_whole_second, stamp_of_seconds, or_fault, stamp_val}
+use Rattle.sm_codec.specs.Conventions.{cbor_read, cbor_blob, cbor_time, cbor_seconds, cbor_written, cbor_carries, cbor_carries_leaf}
+use Rattle.sm_codec.specs.Conventions.{cbor_convention, is_whole_second, stamp_of_seconds, or_fault, stamp_val}
 use Rattle.sm_time.proofs.StampForms.{and_first, and_second}
-use Rattle.sm_codec.proofs.LeafLaws.{guarded, boolean_of, text_of, number_of, stamped, seconds_stamp, no_fault_where, type_never, boolean_never, text_never, number_never, stamp_never}
+use Rattle.sm_codec.proofs.LeafLaws.{guarded, boolean_of, text_of, number_of, stamped, seconds_stamp, no_fault_where, type_never}
+use Rattle.sm_codec.proofs.LeafLaws.{boolean_never, text_never, number_never, stamp_never}
 
 blob_of : (n : Node) (v : Val) → cbor_blob n ≡ Ok v → is_of the.Blob v ≡ true
 blob_of (bytes u) v h = guarded the.Blob (blob_val u) v WrongType (are_bytes u) refl h

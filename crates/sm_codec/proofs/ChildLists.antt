@@ -1,7 +1,8 @@
 -- The entries of a list and the pairs of an object as lists of trees, and what stands under a name among them.
 use Rattle.std.proofs.Common.{◌≡◌, ℕ, Bool, true, false, cond, List, [], ◌∷◌, refl, ap}
 use Rattle.std.specs.Str.{bytes_eq}
-use Rattle.sm_tree.specs.Node.{Node, Nodes, Members, null, bool, int, number, text, bytes, tag, opaque, list, object, no_nodes, node, no_members, member, nodes_of, members_of}
+use Rattle.sm_tree.specs.Node.{Node, Nodes, Members, null, bool, int, number, text, bytes, tag, opaque, list, object, no_nodes, node}
+use Rattle.sm_tree.specs.Node.{no_members, member, nodes_of, members_of}
 use Rattle.sm_codec.specs.Codec.{Codec}
 use Rattle.sm_codec.specs.Named.{named, names_of, is_null}
 use Rattle.sm_codec.specs.Readings.{Child, child_of, children, named_children, children_of, named_children_of}

@@ -15,7 +15,9 @@ use Rattle.sm_codec.specs.CodecLaws.{IsCodec}
 use Rattle.sm_codec.specs.Named.{named, is_null}
 use Rattle.sm_codec.specs.Spelling.{StandNot, NoneOrNull, Stands, Spells}
 use Rattle.sm_codec.specs.FaultLists.{FaultAt, under, faults_in}
-use Rattle.sm_codec.specs.Readings.{Child, child_of, children_of, named_children_of, one_here, present_reading, member_fields, repeated_faults, repeats, under_names, standing, all_standing, standing_faults, union_faults, standing_fields, union_reading_of, union_reading, object_by, reading, named_children}
+use Rattle.sm_codec.specs.Readings.{Child, child_of, children_of, named_children_of, one_here, present_reading, member_fields}
+use Rattle.sm_codec.specs.Readings.{repeated_faults, repeats, under_names, standing, all_standing, standing_faults, union_faults}
+use Rattle.sm_codec.specs.Readings.{standing_fields, union_reading_of, union_reading, object_by, reading, named_children}
 use Rattle.sm_codec.proofs.NoFaults.{none_first, none_behind, none_under, reading_is, clean_reading, same_reading}
 use Rattle.sm_codec.proofs.ChildLists.{pairs_are, pairs_each, named_are}
 use Rattle.sm_codec.proofs.PlacesIn.{kind_of_sort, members_stand, stand_at, split_member}

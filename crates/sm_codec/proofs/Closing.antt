@@ -13,7 +13,8 @@ use Rattle.sm_codec.specs.Codec.{Codec, InTable}
 use Rattle.sm_codec.specs.Named.{is_null}
 use Rattle.sm_codec.specs.Readings.{child_of, named_children_of, reading}
 use Rattle.sm_codec.specs.Decoding.{Outcome, MemberFrame, EntryFrame, Frame, structure_frame, list_frame, skip_frame, Decoding}
-use Rattle.sm_codec.specs.Walk.{Level, list_level, pair_level, Due, due_at, opened_at, opened_passed, inner_level, around_level, behind_tags, behind_name, due_member, opened, due_within, due_in, kept_levels, member_at}
+use Rattle.sm_codec.specs.Walk.{Level, list_level, pair_level, Due, due_at, opened_at, opened_passed, inner_level, around_level}
+use Rattle.sm_codec.specs.Walk.{behind_tags, behind_name, due_member, opened, due_within, due_in, kept_levels, member_at}
 use Rattle.sm_codec.specs.Kept.{IsOutcome, due_frames, HoldsPairs, FrameHolds, FramesHold, HoldsOpen, Holds}
 use Rattle.sm_codec.specs.steps.Arrivals.{Arrival, IsArrival, null_where, read_where, level_with}
 use Rattle.sm_codec.specs.steps.EntrySteps.{TakesEntry}

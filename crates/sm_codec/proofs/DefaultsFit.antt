@@ -1,7 +1,8 @@
 -- The defaults of a table that is in order are values of their members, patterns and all.
 use Rattle.std.proofs.Common.{◌≡◌, ℕ, sym, subst}
 use Rattle.std.specs.Prelude.{Some}
-use Rattle.sm_shapes.specs.Values.{Val, null_val, bool_val, int_val, text_val, blob_val, time_val, list_val, map_val, structure_val, union_val, no_vals, no_entries}
+use Rattle.sm_shapes.specs.Values.{Val, null_val, bool_val, int_val, text_val, blob_val, time_val, list_val, map_val, structure_val}
+use Rattle.sm_shapes.specs.Values.{union_val, no_vals, no_entries}
 use Rattle.sm_shapes.specs.TableData.{TableData, default_at}
 use Rattle.sm_shapes.specs.Places.{Place, member_place, kind_of}
 use Rattle.sm_shapes.specs.Fitting.{Test, any_text, Fits, MeetsConstraints}

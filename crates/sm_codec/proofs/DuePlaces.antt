@@ -14,7 +14,9 @@ use Rattle.sm_codec.specs.Sorts.{Sort, simple, a_list, a_map, a_structure, a_uni
 use Rattle.sm_codec.specs.Codec.{Codec, sort_at}
 use Rattle.sm_codec.specs.Readings.{one_here, leaf_reading, leaf_by, list_by, object_by, reading, children, named_children}
 use Rattle.sm_codec.specs.Decoding.{Frame, structure_frame, union_frame, list_frame, map_frame, tagged_frame, skip_frame}
-use Rattle.sm_codec.specs.Walk.{Level, list_level, object_level, pair_level, Due, due_at, due_tagged, due_passed, due_nowhere, opened_at, opened_passed, list_by_sort, object_by_sort, opened_where, tagged_by, behind_tag, behind_tags, behind_name, due_member, due_within, member_at}
+use Rattle.sm_codec.specs.Walk.{Level, list_level, object_level, pair_level, Due, due_at, due_tagged, due_passed, due_nowhere, opened_at}
+use Rattle.sm_codec.specs.Walk.{opened_passed, list_by_sort, object_by_sort, opened_where, tagged_by, behind_tag, behind_tags}
+use Rattle.sm_codec.specs.Walk.{behind_name, due_member, due_within, member_at}
 use Rattle.sm_codec.specs.Kept.{FrameHolds}
 use Rattle.sm_codec.specs.steps.Arrivals.{read_where}
 use Rattle.sm_codec.specs.steps.Standing.{place_in, IsDueAt}

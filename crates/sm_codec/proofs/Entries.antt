@@ -4,7 +4,8 @@ use Rattle.std.specs.Prelude.{Ok, Err}
 use Rattle.std.proofs.lemmas.List.{length-map}
 use Rattle.sm_tree.specs.Node.{Node, null, list, nodes_of}
 use Rattle.sm_tree.specs.declared.path.Step.TheVariants.{Index}
-use Rattle.sm_shapes.specs.Values.{Val, Vals, null_val, bool_val, int_val, text_val, blob_val, time_val, list_val, map_val, structure_val, union_val, no_vals, val, vals_of, each_val}
+use Rattle.sm_shapes.specs.Values.{Val, Vals, null_val, bool_val, int_val, text_val, blob_val, time_val, list_val, map_val, structure_val}
+use Rattle.sm_shapes.specs.Values.{union_val, no_vals, val, vals_of, each_val}
 use Rattle.sm_shapes.specs.Places.{Place, constraints_of, unique_of, sparse_of, entry_place}
 use Rattle.sm_shapes.specs.Broken.{length_broken, has_twice}
 use Rattle.sm_shapes.specs.Fitting.{Fits, FitEntries, FitsOrNull, AllUnlike}
@@ -18,7 +19,8 @@ use Rattle.sm_codec.specs.CodecLaws.{IsCodec}
 use Rattle.sm_codec.specs.Named.{is_null}
 use Rattle.sm_codec.specs.Spelling.{Spelled, SpelledEntries, SpelledOrNull, Spells}
 use Rattle.sm_codec.specs.FaultLists.{here, under, Reading, faults_in, values_in, settled}
-use Rattle.sm_codec.specs.Readings.{child_of, children_of, one_here, entry_reading, entries_faults, entries_values, unique_faults, list_faults, list_reading, list_by, leaf_by, leaf_reading, reading, children}
+use Rattle.sm_codec.specs.Readings.{child_of, children_of, one_here, entry_reading, entries_faults, entries_values, unique_faults}
+use Rattle.sm_codec.specs.Readings.{list_faults, list_reading, list_by, leaf_by, leaf_reading, reading, children}
 use Rattle.sm_codec.proofs.NoFaults.{none_first, none_behind, none_under, none_here, IsReading, reading_is, settled_ok, ok_reading}
 use Rattle.sm_codec.proofs.ChildLists.{null_is, entries_are, nodes_each}
 use Rattle.sm_codec.proofs.PlacesIn.{kind_of_sort, entry_in}

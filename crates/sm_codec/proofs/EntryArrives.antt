@@ -1,5 +1,6 @@
 -- A tree that is closed as an entry of a list, as the frame takes it, and what the frame comes to where the list ends.
-use Rattle.std.proofs.Common.{◌≡◌, ℕ, suc, ◌+◌, Bool, true, false, ◌&&◌, cond, List, [], ◌∷◌, ◌++◌, length, append_assoc, append-nil, refl, sym, ap, ◌∙◌, subst, arith}
+use Rattle.std.proofs.Common.{◌≡◌, ℕ, suc, ◌+◌, Bool, true, false, ◌&&◌, cond, List, [], ◌∷◌, ◌++◌, length, append_assoc, append-nil}
+use Rattle.std.proofs.Common.{refl, sym, ap, ◌∙◌, subst, arith}
 use Rattle.std.specs.Prelude.{Option, Some, None, Ok, Err}
 use Rattle.std.proofs.lemmas.List.{map-append, length-map}
 use Rattle.sm_tree.specs.Node.{Node}
@@ -10,7 +11,8 @@ use Rattle.sm_shapes.specs.Broken.{length_broken, has_twice}
 use Rattle.sm_shapes.specs.declared.fault.FaultKind.TheVariants.{Null, Unique}
 use Rattle.sm_codec.specs.Codec.{Codec}
 use Rattle.sm_codec.specs.FaultLists.{FaultAt, Reading, here, under, first_fault, faults_in, values_in, settled}
-use Rattle.sm_codec.specs.Readings.{Child, child_of, children_of, one_here, entry_reading, entries_faults, entries_values, unique_faults, list_faults, list_reading}
+use Rattle.sm_codec.specs.Readings.{Child, child_of, children_of, one_here, entry_reading, entries_faults, entries_values, unique_faults}
+use Rattle.sm_codec.specs.Readings.{list_faults, list_reading}
 use Rattle.sm_codec.specs.Decoding.{EntryFrame}
 use Rattle.sm_codec.specs.Kept.{AreOf, AreKept, HoldsEntries}
 use Rattle.sm_codec.specs.steps.Arrivals.{Arrival, null_comes, value_comes, fault_comes, IsArrival}

@@ -1,15 +1,20 @@
 -- Each tree that is counted has an event of its own.
 use Rattle.std.proofs.Common.{◌≡◌, ℕ, ◌+◌, ◌≤◌, List, [], ◌∷◌, ◌++◌, map, length, length-append, refl, arith}
 use Rattle.std.specs.Prelude.{Option, Some, None}
-use Rattle.sm_tree.specs.Node.{Node, Nodes, Members, null, bool, int, number, text, bytes, tag, opaque, list, object, no_nodes, node, no_members, member}
+use Rattle.sm_tree.specs.Node.{Node, Nodes, Members, null, bool, int, number, text, bytes, tag, opaque, list, object, no_nodes, node}
+use Rattle.sm_tree.specs.Node.{no_members, member}
 use Rattle.sm_tree.specs.Events.{NodeEvent, key_event, events, entries_events, pairs_events}
 use Rattle.sm_tree.specs.Streams.{unnumbered}
-use Rattle.sm_tree.specs.Building.{Building, nothing, whole, within, Inner, in_list, in_object, in_pair, Around, around_list, around_object, tag_events, each_events, each_pair_events, inner_events, around_events, outer_events, so_far}
+use Rattle.sm_tree.specs.Building.{Building, nothing, whole, within, Inner, in_list, in_object, in_pair, Around, around_list}
+use Rattle.sm_tree.specs.Building.{around_object, tag_events, each_events, each_pair_events, inner_events, around_events, outer_events}
+use Rattle.sm_tree.specs.Building.{so_far}
 use Rattle.sm_shapes.specs.Places.{Place, root_place, member_place, entry_place, value_place}
-use Rattle.sm_codec.specs.Bound.{total, tagged_count, list_count, object_count, member_count_by, tree_count, entries_count, values_count, members_count, each_count, pair_count, level_count, levels_count, known_trees}
+use Rattle.sm_codec.specs.Bound.{total, tagged_count, list_count, object_count, member_count_by, tree_count, entries_count, values_count}
+use Rattle.sm_codec.specs.Bound.{members_count, each_count, pair_count, level_count, levels_count, known_trees}
 use Rattle.sm_codec.specs.Codec.{Codec, sort_at}
 use Rattle.sm_codec.specs.Sorts.{Sort, simple, a_list, a_map, a_structure, a_union, left_out}
-use Rattle.sm_codec.specs.Walk.{Level, Opened, opened_at, opened_passed, inner_level, around_level, opened, due_in, member_at, with_level, kept_levels}
+use Rattle.sm_codec.specs.Walk.{Level, Opened, opened_at, opened_passed, inner_level, around_level, opened, due_in, member_at, with_level}
+use Rattle.sm_codec.specs.Walk.{kept_levels}
 
 tagged_few : (s : Sort) (n : Node) → tagged_count s n ≤ 1
 tagged_few (simple x) null = omega arith

@@ -3,7 +3,8 @@ use Rattle.std.proofs.Common.{◌≡◌, inl, inr, ℕ, Bool, true, false, not, 
 use Rattle.std.specs.Prelude.{Option, Some, None}
 use Rattle.std.specs.List.Sorted.{IsStrictlySortedBy}
 use Rattle.std.specs.Ordering.{nat_cmp}
-use Rattle.sm_shapes.specs.Values.{Val, Vals, EntryVals, null_val, bool_val, int_val, text_val, blob_val, time_val, list_val, map_val, structure_val, union_val, no_vals, no_entries}
+use Rattle.sm_shapes.specs.Values.{Val, Vals, EntryVals, null_val, bool_val, int_val, text_val, blob_val, time_val, list_val, map_val}
+use Rattle.sm_shapes.specs.Values.{structure_val, union_val, no_vals, no_entries}
 use Rattle.sm_shapes.specs.TableData.{TableData, kind_at, target_at, required_at, default_at}
 use Rattle.sm_shapes.specs.InOrder.{Shaped, MayHaveDefault}
 use Rattle.sm_shapes.specs.Fitting.{any_text, Fits}

@@ -1,5 +1,6 @@
 -- A table whose defaults are filled says of shapes and members what it said before, and its defaults are values of their members.
-use Rattle.std.proofs.Common.{◌≡◌, inl, inr, ℕ, zero, suc, ◌+◌, ◌<◌, Bool, true, false, ◌||◌, cond, List, [], ◌∷◌, ◌++◌, map, length, refl, sym, ap, ◌∙◌, subst, arith}
+use Rattle.std.proofs.Common.{◌≡◌, inl, inr, ℕ, zero, suc, ◌+◌, ◌<◌, Bool, true, false, ◌||◌, cond, List, [], ◌∷◌, ◌++◌, map, length}
+use Rattle.std.proofs.Common.{refl, sym, ap, ◌∙◌, subst, arith}
 use Rattle.std.specs.Prelude.{Option, Some, None, is_some, slice_get, Ok, Err, IsUtf8}
 use Rattle.std.specs.Str.{chars}
 use Rattle.std.proofs.lemmas.Option.{slice_get_within}
@@ -9,13 +10,18 @@ use Rattle.std.specs.List.{Contains, filter}
 use Rattle.std.specs.List.Sorted.{IsStrictlySortedBy}
 use Rattle.sm_tree.specs.Node.{Node, list, object, nodes_of, members_of}
 use Rattle.sm_shapes.specs.Names.{AllDiffer}
-use Rattle.sm_shapes.specs.Values.{Val, Vals, EntryVals, null_val, bool_val, int_val, text_val, blob_val, time_val, list_val, map_val, structure_val, union_val, no_vals, no_entries, val, entry}
-use Rattle.sm_shapes.specs.TableData.{TableData, MemberData, ConstraintData, shape_constraints_at, member_count, shape_count, kind_at, members_at, by_name_at, by_json_name_at, home_at, name_at, json_name_at, target_at, required_at, constraints_at, default_node_at, default_at, home_in, name_in, json_name_in, target_in, required_in, constraints_in, binding_in, default_node_in, default_in}
+use Rattle.sm_shapes.specs.Values.{Val, Vals, EntryVals, null_val, bool_val, int_val, text_val, blob_val, time_val, list_val, map_val}
+use Rattle.sm_shapes.specs.Values.{structure_val, union_val, no_vals, no_entries, val, entry}
+use Rattle.sm_shapes.specs.TableData.{TableData, MemberData, ConstraintData, shape_constraints_at, member_count, shape_count, kind_at}
+use Rattle.sm_shapes.specs.TableData.{members_at, by_name_at, by_json_name_at, home_at, name_at, json_name_at, target_at, required_at}
+use Rattle.sm_shapes.specs.TableData.{constraints_at, default_node_at, default_at, home_in, name_in, json_name_in, target_in, required_in}
+use Rattle.sm_shapes.specs.TableData.{constraints_in, binding_in, default_node_in, default_in}
 use Rattle.sm_shapes.specs.DefaultPuts.{HasNoDefault, with_default}
 use Rattle.sm_shapes.specs.Places.{Place, member_place, kind_of}
 use Rattle.sm_shapes.specs.Broken.{Finder, broken, unless, length_broken, pattern_broken, text_broken}
 use Rattle.sm_shapes.specs.Fitting.{Test, any_text, finder, Fits, IsOfKind, MeetsConstraints}
-use Rattle.sm_shapes.specs.InOrder.{NamesPattern, IsEmptyNode, Shaped, AreMembersOf, HasItsMembers, IsTextKind, is_needed, MayDefault, MayHaveNode, MayHaveDefault}
+use Rattle.sm_shapes.specs.InOrder.{NamesPattern, IsEmptyNode, Shaped, AreMembersOf, HasItsMembers, IsTextKind, is_needed, MayDefault}
+use Rattle.sm_shapes.specs.InOrder.{MayHaveNode, MayHaveDefault}
 use Rattle.sm_shapes.specs.declared.kinds.ShapeKind.{ShapeKind}
 use Rattle.sm_shapes.specs.declared.kinds.ShapeKind.TheVariants as kind
 use Rattle.sm_shapes.specs.declared.fault.FaultKind.TheVariants.{Pattern}

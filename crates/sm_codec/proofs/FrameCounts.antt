@@ -6,20 +6,24 @@ use Rattle.sm_tree.specs.Building.{whole}
 use Rattle.sm_shapes.specs.Values.{val_nodes}
 use Rattle.sm_shapes.specs.InOrder.{Shaped}
 use Rattle.sm_shapes.specs.Places.{Place, root_place, members_of_place, entry_place}
-use Rattle.sm_codec.specs.Bound.{total, frame_nodes, frames_nodes, outcome_nodes, decoding_nodes, pair_count, level_count, levels_count, known_trees}
+use Rattle.sm_codec.specs.Bound.{total, frame_nodes, frames_nodes, outcome_nodes, decoding_nodes, pair_count, level_count, levels_count}
+use Rattle.sm_codec.specs.Bound.{known_trees}
 use Rattle.sm_codec.specs.Codec.{Codec, InTable}
 use Rattle.sm_codec.specs.CodecLaws.{IsCodec}
 use Rattle.sm_codec.specs.Decoding.{Outcome, Frame, structure_frame, union_frame, list_frame, map_frame, tagged_frame, skip_frame, Decoding}
 use Rattle.sm_codec.specs.FaultLists.{Reading}
-use Rattle.sm_codec.specs.Kept.{HoldsList, HoldsPairs, FrameHolds, FramesHold, HoldsOpen, Holds, IsOutcome, due_frames, spelled_fields, spelled_entries, closed_faults, closed_union_faults}
+use Rattle.sm_codec.specs.Kept.{HoldsList, HoldsPairs, FrameHolds, FramesHold, HoldsOpen, Holds, IsOutcome, due_frames, spelled_fields}
+use Rattle.sm_codec.specs.Kept.{spelled_entries, closed_faults, closed_union_faults}
 use Rattle.sm_codec.specs.Named.{names_of, in_byte_order}
 use Rattle.sm_codec.specs.Readings.{under_names, children_of, named_children_of, entries_faults, entries_values, pairs_faults, reading}
 use Rattle.sm_codec.specs.Sorts.{a_list, a_map, a_structure, a_union}
-use Rattle.sm_codec.specs.Walk.{Level, list_level, object_level, pair_level, Due, due_at, due_tagged, due_passed, due_nowhere, Opened, opened_at, opened_passed, opened, due_in, with_level, kept_levels}
+use Rattle.sm_codec.specs.Walk.{Level, list_level, object_level, pair_level, Due, due_at, due_tagged, due_passed, due_nowhere, Opened}
+use Rattle.sm_codec.specs.Walk.{opened_at, opened_passed, opened, due_in, with_level, kept_levels}
 use Rattle.sm_codec.proofs.MembersKept.{kept_of}
 use Rattle.sm_codec.proofs.PlacesHeld.{due_held, place_in_table}
 use Rattle.sm_codec.proofs.PlacesIn.{kind_of_sort, entry_in, value_in}
-use Rattle.sm_codec.proofs.ReadingNodes.{reading_nodes, member_cost, value_cost, vals_total, entries_total, fields_total, items_at_most, entries_at_most, fields_at_most}
+use Rattle.sm_codec.proofs.ReadingNodes.{reading_nodes, member_cost, value_cost, vals_total, entries_total, fields_total, items_at_most}
+use Rattle.sm_codec.proofs.ReadingNodes.{entries_at_most, fields_at_most}
 use Rattle.sm_codec.proofs.Sums.{total_joined, total_of, pairs_cost}
 use Rattle.sm_codec.proofs.TreeCounts.{share, node_counted, each_counted, pairs_valued, pairs_named}
 

@@ -1,8 +1,10 @@
 -- Events handed to a sink one after the other: what may come next, and what came.
 use Rattle.std.proofs.Common.{◌≡◌, ℕ, suc, true, List, [], ◌∷◌, ◌++◌, length, refl, sym, ap, ◌∙◌, subst, append-nil, append_assoc}
-use Rattle.sm_tree.specs.Node.{Node, Nodes, Members, null, bool, int, number, text, bytes, tag, opaque, list, object, no_nodes, node, no_members, member}
+use Rattle.sm_tree.specs.Node.{Node, Nodes, Members, null, bool, int, number, text, bytes, tag, opaque, list, object, no_nodes, node}
+use Rattle.sm_tree.specs.Node.{no_members, member}
 use Rattle.sm_tree.specs.Events.{NodeEvent, key_event, tag_event, start_list, start_object}
-use Rattle.sm_tree.specs.Streams.{StandsFor, Takes, BeginsStream, TakesSame, TakesEach, TakesOn, Streams, numbered, numbered_entries, numbered_pairs, entry_count, pair_count}
+use Rattle.sm_tree.specs.Streams.{StandsFor, Takes, BeginsStream, TakesSame, TakesEach, TakesOn, Streams, numbered, numbered_entries}
+use Rattle.sm_tree.specs.Streams.{numbered_pairs, entry_count, pair_count}
 use Rattle.sm_tree.proofs.Handing.{begins_before, takes_none, takes_both}
 use Rattle.sm_tree.proofs.Streams.{numbered_stream}
 use Rattle.std.specs.Prelude.{Some, Result, Ok, Err, OnOk}

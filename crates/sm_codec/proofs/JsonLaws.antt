@@ -11,9 +11,11 @@ use Rattle.sm_codec.specs.declared.simple.Simple.{Simple}
 use Rattle.sm_codec.specs.declared.simple.Simple.TheVariants as the
 use Rattle.sm_time.specs.StampTexts.{is_stamp}
 use Rattle.sm_codec.specs.Convention.{IsConvention, IsNested, nested_fault, is_of, fits_bits, are_bytes}
-use Rattle.sm_codec.specs.Conventions.{json_read, json_time, json_written, json_written_time, json_carries, json_carries_leaf, json_convention, has_text}
+use Rattle.sm_codec.specs.Conventions.{json_read, json_time, json_written, json_written_time, json_carries, json_carries_leaf}
+use Rattle.sm_codec.specs.Conventions.{json_convention, has_text}
 use Rattle.sm_time.proofs.StampForms.{and_first, and_second}
-use Rattle.sm_codec.proofs.LeafLaws.{boolean_of, text_of, number_of, seconds_of, time_text_of, boolean_never, text_never, number_never, seconds_never, time_text_never}
+use Rattle.sm_codec.proofs.LeafLaws.{boolean_of, text_of, number_of, seconds_of, time_text_of, boolean_never, text_never, number_never}
+use Rattle.sm_codec.proofs.LeafLaws.{seconds_never, time_text_never}
 use Rattle.sm_codec.proofs.TextLeaves.{blob_reads, base64_of, base64_never, seconds_read, time_text_reads, date_writable}
 
 time_of : (format : Format) (n : Node) (v : Val) → json_time format n ≡ Ok v → is_of (the.Time format) v ≡ true

@@ -1,5 +1,6 @@
 -- What the conventions of JSON and of the nodes of models write can be written as JSON.
-use Rattle.std.proofs.Common.{◌≡◌, ℕ, zero, suc, ℤ, ◌<◌, ◌⊎◌, inl, inr, Bool, true, false, cond, List, [], ◌∷◌, ◌++◌, length, drop, take, refl, sym, ap, ◌∙◌, subst, arith, append-nil, append_assoc}
+use Rattle.std.proofs.Common.{◌≡◌, ℕ, zero, suc, ℤ, ◌<◌, ◌⊎◌, inl, inr, Bool, true, false, cond, List, [], ◌∷◌, ◌++◌, length, drop, take}
+use Rattle.std.proofs.Common.{refl, sym, ap, ◌∙◌, subst, arith, append-nil, append_assoc}
 use Rattle.std.specs.Prelude.{pos, negsuc, neg_ℤ, int_div, IsUtf8, codes, ◌==◌, unsigned_abs, ◌%◌, ◌/◌, if◌then◌else◌}
 use Rattle.std.specs.Fmt.{decimal}
 use Rattle.std.specs.Int.{w64}
@@ -28,7 +29,8 @@ use Rattle.sm_shapes.specs.Values.{Val, bool_val, int_val, text_val, blob_val, t
 use Rattle.sm_codec.specs.declared.simple.Simple.{Simple}
 use Rattle.sm_codec.specs.declared.simple.Simple.TheVariants as the
 use Rattle.sm_codec.specs.Convention.{is_of}
-use Rattle.sm_codec.specs.Conventions.{json_convention, json_written, json_written_time, json_carries_leaf, node_convention, node_written, node_written_blob, node_carries_leaf, written_seconds, is_whole_second, has_text}
+use Rattle.sm_codec.specs.Conventions.{json_convention, json_written, json_written_time, json_carries_leaf, node_convention, node_written}
+use Rattle.sm_codec.specs.Conventions.{node_written_blob, node_carries_leaf, written_seconds, is_whole_second, has_text}
 use Rattle.sm_codec.specs.WrittenLaws.{HasWidth, WritesJson}
 use Rattle.sm_codec.proofs.CborWrites.{width_fits, stamp_fits}
 use Rattle.sm_codec.proofs.TextLeaves.{date_writable}

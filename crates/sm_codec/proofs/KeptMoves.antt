@@ -4,7 +4,8 @@ use Rattle.std.specs.Prelude.{Option, None}
 use Rattle.sm_tree.specs.Node.{Node}
 use Rattle.sm_tree.specs.Events.{NodeEvent, tag_event, start_list, end_list, start_object, key_event, end_object, events}
 use Rattle.sm_tree.specs.Streams.{BeginsStream, MayTake, TakesOn, unnumbered_event}
-use Rattle.sm_tree.specs.Building.{Building, nothing, whole, within, Inner, in_list, in_object, in_pair, Around, tag_events, inner_events, around_events, outer_events, so_far, kinds, inner_awaits, awaits_value, IsIn}
+use Rattle.sm_tree.specs.Building.{Building, nothing, whole, within, Inner, in_list, in_object, in_pair, Around, tag_events, inner_events}
+use Rattle.sm_tree.specs.Building.{around_events, outer_events, so_far, kinds, inner_awaits, awaits_value, IsIn}
 use Rattle.sm_tree.specs.steps.BuilderSteps.{after_value, after_tag, after_start, after_end, put_around, Awaits}
 use Rattle.sm_tree.specs.declared.build.OpenKind.TheVariants.{List as a_list, Object as an_object}
 use Rattle.sm_tree.proofs.Building.{MayEnd, end_of, value_taken, tag_taken, end_taken}

@@ -1,6 +1,7 @@
 -- The keys of a map, as a frame takes one more: its place among them, what the others come to, and the fault that stands first in byte
 -- order.
-use Rattle.std.proofs.Common.{◌≡◌, ◌⊎◌, inl, inr, ℕ, Bool, true, false, ◌||◌, cond, List, [], ◌∷◌, ◌++◌, append-nil, refl, sym, ap, ◌∙◌, subst}
+use Rattle.std.proofs.Common.{◌≡◌, ◌⊎◌, inl, inr, ℕ, Bool, true, false, ◌||◌, cond, List, [], ◌∷◌, ◌++◌, append-nil, refl, sym, ap, ◌∙◌}
+use Rattle.std.proofs.Common.{subst}
 use Rattle.std.specs.Prelude.{Ok, Err}
 use Rattle.std.specs.BTreeMap.{insert_entry}
 use Rattle.std.specs.Cmp.Lexicographic.{slice_cmp}
@@ -21,7 +22,9 @@ use Rattle.sm_codec.specs.Readings.{Child, entry_reading, keyed, pair_faults, ke
 use Rattle.sm_codec.specs.Kept.{AreOf, each_entry, spelled_entries}
 use Rattle.sm_codec.specs.steps.MapSteps.{at_key, goes_first, least_at, has_key}
 use Rattle.sm_codec.proofs.Joined.{Agree, joined_two, joined_agree}
-use Rattle.sm_codec.proofs.KeyOrder.{IsIn, order, IsBefore, InOrder, same_where_equal, less_where_greater, never_before_itself, before_all, put_in_order, in_put, put_in, ordered, ordered_is, is_ordered, same_order, stands_in, named_in}
+use Rattle.sm_codec.proofs.KeyOrder.{IsIn, order, IsBefore, InOrder, same_where_equal, less_where_greater, never_before_itself}
+use Rattle.sm_codec.proofs.KeyOrder.{before_all, put_in_order, in_put, put_in, ordered, ordered_is, is_ordered, same_order, stands_in}
+use Rattle.sm_codec.proofs.KeyOrder.{named_in}
 use Rattle.sm_codec.proofs.LeastFault.{HeadGives, least_of_parts}
 use Rattle.sm_codec.proofs.MemberNamed.{named_pair}
 

@@ -20,11 +20,14 @@ use Rattle.sm_codec.specs.CodecLaws.{IsCodec}
 use Rattle.sm_codec.specs.Named.{named, names_of, in_byte_order}
 use Rattle.sm_codec.specs.Spelling.{SpelledPairs, AreKeys, Spells}
 use Rattle.sm_codec.specs.FaultLists.{here, under, Reading, faults_in, settled}
-use Rattle.sm_codec.specs.Readings.{child_of, children_of, named_children_of, one_here, entry_reading, key_faults, pair_faults, keyed, pair_values, keys_faults, keys_values, pairs_faults, pairs_values, map_faults, map_reading, object_by, reading, named_children}
+use Rattle.sm_codec.specs.Readings.{child_of, children_of, named_children_of, one_here, entry_reading, key_faults, pair_faults, keyed}
+use Rattle.sm_codec.specs.Readings.{pair_values, keys_faults, keys_values, pairs_faults, pairs_values, map_faults, map_reading, object_by}
+use Rattle.sm_codec.specs.Readings.{reading, named_children}
 use Rattle.sm_codec.proofs.NoFaults.{none_first, none_behind, none_under, none_here, settled_ok, ok_reading}
 use Rattle.sm_codec.proofs.ChildLists.{pairs_are, pairs_each, named_are, names_are}
 use Rattle.sm_codec.proofs.PlacesIn.{kind_of_sort, value_in, key_text}
-use Rattle.sm_codec.proofs.KeyOrder.{IsIn, InOrder, ordered, ordered_is, is_ordered, same_order, contains_in, in_contains, stands_in, named_in}
+use Rattle.sm_codec.proofs.KeyOrder.{IsIn, InOrder, ordered, ordered_is, is_ordered, same_order, contains_in, in_contains, stands_in}
+use Rattle.sm_codec.proofs.KeyOrder.{named_in}
 use Rattle.sm_codec.proofs.Entries.{IsRead, AreRead, IsSpelled, EntrySays, entry_says, entry_spelled}
 
 -- each pair's tree spells what it comes to

@@ -14,7 +14,8 @@ use Rattle.sm_codec.specs.declared.simple.Simple.{Simple}
 use Rattle.sm_codec.specs.declared.simple.Simple.TheVariants as the
 use Rattle.sm_time.specs.StampTexts.{is_stamp, stamp_of, stamp_of_form, supposed, is_form, is_whole_millis}
 use Rattle.sm_codec.specs.Convention.{is_of, fits_bits}
-use Rattle.sm_codec.specs.Conventions.{read_boolean, read_text, read_number, read_seconds, read_time_text, or_fault, stamp_val, stamp_of_seconds, has_fraction_mark}
+use Rattle.sm_codec.specs.Conventions.{read_boolean, read_text, read_number, read_seconds, read_time_text, or_fault, stamp_val}
+use Rattle.sm_codec.specs.Conventions.{stamp_of_seconds, has_fraction_mark}
 
 abbrev pub ok_val : Val → Result Val FaultKind
 ok_val v = Ok v

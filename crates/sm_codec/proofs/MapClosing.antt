@@ -22,7 +22,8 @@ use Rattle.sm_codec.specs.Sorts.{a_map}
 use Rattle.sm_codec.specs.Codec.{Codec, sort_at, broken_at, InTable}
 use Rattle.sm_codec.specs.Named.{named, names_of, in_byte_order}
 use Rattle.sm_codec.specs.FaultLists.{FaultAt, here, under, first_fault, settled}
-use Rattle.sm_codec.specs.Readings.{Child, child_of, named_children_of, key_faults, keyed, entry_reading, pair_faults, pair_values, keys_faults, keys_values, pairs_faults, pairs_values, map_reading}
+use Rattle.sm_codec.specs.Readings.{Child, child_of, named_children_of, key_faults, keyed, entry_reading, pair_faults, pair_values}
+use Rattle.sm_codec.specs.Readings.{keys_faults, keys_values, pairs_faults, pairs_values, map_reading}
 use Rattle.sm_codec.specs.Decoding.{KeyFrame, map_frame}
 use Rattle.sm_codec.specs.Walk.{pair_level, due_at, opened_at, behind_tags, behind_name, due_within}
 use Rattle.sm_codec.specs.Kept.{AreKept, each_entry, spelled_entries, IsOutcome, HoldsPairs, FrameHolds}

@@ -1,6 +1,7 @@
 -- A tree that is closed for a member of a structure, as the frame takes it: where the member stands for the first time, and where it
 -- stands once more.
-use Rattle.std.proofs.Common.{◌≡◌, inl, inr, ℕ, Bool, true, false, cond, List, [], ◌∷◌, ◌++◌, map, append_assoc, refl, sym, ap, ◌∙◌, subst, subst₂}
+use Rattle.std.proofs.Common.{◌≡◌, inl, inr, ℕ, Bool, true, false, cond, List, [], ◌∷◌, ◌++◌, map, append_assoc, refl, sym, ap, ◌∙◌}
+use Rattle.std.proofs.Common.{subst, subst₂}
 use Rattle.std.specs.Prelude.{Option, None, Result, Ok, Err}
 use Rattle.std.specs.List.Sorted.{IsPermutation}
 use Rattle.std.proofs.lemmas.List.Sorted.{IsPermutation-middle, IsPermutation-sym, IsPermutation-trans, IsPermutation-cons}
@@ -16,9 +17,11 @@ use Rattle.sm_codec.specs.Readings.{Child, ByMember, one_here, present_reading, 
 use Rattle.sm_codec.specs.Kept.{AreOf, AreKept, each_field, spelled_fields, has_one, closed_members, closed_faults}
 use Rattle.sm_codec.specs.steps.MemberSteps.{least_fault}
 use Rattle.sm_codec.proofs.NoFaults.{none_first, none_behind}
-use Rattle.sm_codec.proofs.MembersKept.{FieldsAbove, kept_of, kept_from, of_two, two_splits, below_of, above_of, put_behind, put_between, from_above, prefix_same, kept_put, kept_grown}
+use Rattle.sm_codec.proofs.MembersKept.{FieldsAbove, kept_of, kept_from, of_two, two_splits, below_of, above_of, put_behind, put_between}
+use Rattle.sm_codec.proofs.MembersKept.{from_above, prefix_same, kept_put, kept_grown}
 use Rattle.sm_codec.proofs.Joined.{Agree, agree_front, joined_two}
-use Rattle.sm_codec.proofs.MemberParts.{AllBelow, AllAbove, own_faults, faults_two, spelled_two, closed_two, faults_agree, spelled_agree, closed_agree, spelled_below, spelled_above, least_of_all}
+use Rattle.sm_codec.proofs.MemberParts.{AllBelow, AllAbove, own_faults, faults_two, spelled_two, closed_two, faults_agree, spelled_agree}
+use Rattle.sm_codec.proofs.MemberParts.{closed_agree, spelled_below, spelled_above, least_of_all}
 
 -- the values of all members that stand before the first with a fault are kept
 abbrev pub HasPrefix : TableData → List ℕ → ByMember → List (ℕ × Val) → Type 0

@@ -1,5 +1,6 @@
 -- A structure: what its pairs come to is what they spell, member by member, with the defaults of those that are absent.
-use Rattle.std.proofs.Common.{◌≡◌, ◌⊎◌, inl, inr, ℕ, ◌<◌, Bool, true, false, cond, List, [], ◌∷◌, ◌++◌, map, append-nil, refl, sym, ap, ◌∙◌, subst}
+use Rattle.std.proofs.Common.{◌≡◌, ◌⊎◌, inl, inr, ℕ, ◌<◌, Bool, true, false, cond, List, [], ◌∷◌, ◌++◌, map, append-nil, refl, sym, ap}
+use Rattle.std.proofs.Common.{◌∙◌, subst}
 use Rattle.std.specs.Prelude.{Option, Some, None, Result, Ok, Err}
 use Rattle.sm_tree.specs.Node.{Node, object, members_of}
 use Rattle.sm_tree.specs.declared.path.Step.TheVariants.{Member}
@@ -15,7 +16,9 @@ use Rattle.sm_codec.specs.CodecLaws.{IsCodec}
 use Rattle.sm_codec.specs.Named.{named, is_null}
 use Rattle.sm_codec.specs.Spelling.{Spelled, SpelledFields, NoneOrNull, AreAbsent, Spells}
 use Rattle.sm_codec.specs.FaultLists.{FaultAt, under, Reading, settled}
-use Rattle.sm_codec.specs.Readings.{children_of, named_children_of, absent_with, when_closed, absent_reading, present_reading, member_reading, member_faults, member_fields, members_faults, members_fields, under_names, structure_reading, object_by, reading, named_children}
+use Rattle.sm_codec.specs.Readings.{children_of, named_children_of, absent_with, when_closed, absent_reading, present_reading}
+use Rattle.sm_codec.specs.Readings.{member_reading, member_faults, member_fields, members_faults, members_fields, under_names}
+use Rattle.sm_codec.specs.Readings.{structure_reading, object_by, reading, named_children}
 use Rattle.sm_codec.proofs.NoFaults.{none_first, none_behind, none_under, IsReading, reading_is, settled_ok, ok_reading}
 use Rattle.sm_codec.proofs.ChildLists.{pairs_are, pairs_each, named_are}
 use Rattle.sm_codec.proofs.PlacesIn.{kind_of_sort, shape_in, members_stand, stand_at}

@@ -1,6 +1,7 @@
 -- What a frame keeps of a structure's members, as lists: some of the values, in order; the members before one and those behind it; and
 -- the first fault in model order.
-use Rattle.std.proofs.Common.{◌≡◌, ◌⊎◌, inl, inr, ℕ, ◌<◌, ◌≤◌, nat_lt, Bool, true, false, cond, List, [], ◌∷◌, ◌++◌, refl, sym, ap, ◌∙◌, subst, arith}
+use Rattle.std.proofs.Common.{◌≡◌, ◌⊎◌, inl, inr, ℕ, ◌<◌, ◌≤◌, nat_lt, Bool, true, false, cond, List, [], ◌∷◌, ◌++◌, refl, sym, ap, ◌∙◌}
+use Rattle.std.proofs.Common.{subst, arith}
 use Rattle.sm_shapes.specs.Values.{Val}
 use Rattle.sm_codec.specs.FaultLists.{FaultAt}
 use Rattle.sm_codec.specs.Kept.{AreOf, AreKept}

@@ -15,12 +15,15 @@ use Rattle.sm_codec.specs.Codec.{Codec, sort_at, InTable}
 use Rattle.sm_codec.specs.Named.{is_null}
 use Rattle.sm_codec.specs.Readings.{leaf_by, reading}
 use Rattle.sm_codec.specs.Decoding.{Frame, structure_frame, union_frame, list_frame, map_frame, tagged_frame, skip_frame, Decoding}
-use Rattle.sm_codec.specs.Walk.{Level, list_level, object_level, inner_level, around_level, Due, due_at, due_tagged, due_passed, Opened, list_by_sort, object_by_sort, opened_where, tagged_by}
+use Rattle.sm_codec.specs.Walk.{Level, list_level, object_level, inner_level, around_level, Due, due_at, due_tagged, due_passed, Opened}
+use Rattle.sm_codec.specs.Walk.{list_by_sort, object_by_sort, opened_where, tagged_by}
 use Rattle.sm_codec.specs.Kept.{due_frames, Holds}
 use Rattle.sm_codec.specs.steps.Arrivals.{Arrival, fault_comes, IsArrival, null_where, read_where}
-use Rattle.sm_codec.specs.steps.DecoderSteps.{Told, told_at, told_tagged, told_passed, due_told, Tells, FirstCanTake, TakenBy, CanPass, PassedBy}
+use Rattle.sm_codec.specs.steps.DecoderSteps.{Told, told_at, told_tagged, told_passed, due_told, Tells, FirstCanTake, TakenBy, CanPass}
+use Rattle.sm_codec.specs.steps.DecoderSteps.{PassedBy}
 use Rattle.sm_codec.specs.steps.EventsHanded.{IsPlain}
-use Rattle.sm_codec.specs.steps.OpeningSteps.{below, ToldIn, CanRead, LeafBy, nested_in, tag_frame, TagBy, list_start, object_start, new_members, new_entries, new_keys, StartBy}
+use Rattle.sm_codec.specs.steps.OpeningSteps.{below, ToldIn, CanRead, LeafBy, nested_in, tag_frame, TagBy, list_start, object_start}
+use Rattle.sm_codec.specs.steps.OpeningSteps.{new_members, new_entries, new_keys, StartBy}
 use Rattle.sm_codec.proofs.DuePlaces.{IsSimpleDue}
 use Rattle.sm_codec.proofs.MapClosing.{map_starts}
 use Rattle.sm_codec.proofs.Starting.{Starts, start_holds, structure_starts, list_starts}

@@ -11,7 +11,8 @@ use Rattle.sm_codec.specs.Sorts.{Sort, a_structure, a_union}
 use Rattle.sm_codec.specs.Codec.{Codec, sort_at, InTable}
 use Rattle.sm_codec.specs.Readings.{named_children_of}
 use Rattle.sm_codec.specs.Decoding.{Frame, structure_frame, union_frame, list_frame, map_frame, tagged_frame, skip_frame, Decoding}
-use Rattle.sm_codec.specs.Walk.{Level, object_level, pair_level, around_level, Due, Opened, opened_at, opened_passed, opened, behind_name, due_member, due_in, kept_levels, member_at}
+use Rattle.sm_codec.specs.Walk.{Level, object_level, pair_level, around_level, Due, Opened, opened_at, opened_passed, opened, behind_name}
+use Rattle.sm_codec.specs.Walk.{due_member, due_in, kept_levels, member_at}
 use Rattle.sm_codec.specs.Kept.{due_frames, FrameHolds, Holds}
 use Rattle.sm_codec.specs.steps.MemberSteps.{IsNamed}
 use Rattle.sm_codec.specs.steps.OpeningSteps.{CanName, FirstCanName, member_named, FrameNames, FirstNames, with_silence, NameBy}

@@ -10,7 +10,9 @@ use Rattle.sm_shapes.specs.declared.fault.FaultKind.TheVariants.{UnionCount}
 use Rattle.sm_codec.specs.Sorts.{Sort, simple, a_list, a_map, a_structure, a_union, left_out}
 use Rattle.sm_codec.specs.Codec.{Codec, sort_at, broken_at}
 use Rattle.sm_codec.specs.FaultLists.{FaultAt, here, under, Reading, faults_in, settled}
-use Rattle.sm_codec.specs.Readings.{Child, leaf_reading, leaf_by, list_by, object_by, reading, children, named_children, map_faults, pairs_values, list_faults, entries_values, union_faults, one_here, repeats, all_standing, standing_fields, union_reading_of, members_faults, members_fields, under_names, when_closed}
+use Rattle.sm_codec.specs.Readings.{Child, leaf_reading, leaf_by, list_by, object_by, reading, children, named_children, map_faults}
+use Rattle.sm_codec.specs.Readings.{pairs_values, list_faults, entries_values, union_faults, one_here, repeats, all_standing}
+use Rattle.sm_codec.specs.Readings.{standing_fields, union_reading_of, members_faults, members_fields, under_names, when_closed}
 
 pub none_first : {A : Type 0} (xs ys : List A) → xs ++ ys ≡ [] → xs ≡ []
 none_first [] ys h = refl

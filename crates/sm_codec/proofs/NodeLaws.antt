@@ -12,9 +12,11 @@ use Rattle.sm_codec.specs.declared.simple.Simple.{Simple}
 use Rattle.sm_codec.specs.declared.simple.Simple.TheVariants as the
 use Rattle.sm_time.specs.StampTexts.{is_stamp}
 use Rattle.sm_codec.specs.Convention.{IsConvention, IsNested, nested_fault, is_of, fits_bits, are_bytes}
-use Rattle.sm_codec.specs.Conventions.{node_read, node_blob, node_time, node_written, node_carries, node_carries_leaf, node_convention, is_whole_second}
+use Rattle.sm_codec.specs.Conventions.{node_read, node_blob, node_time, node_written, node_carries, node_carries_leaf, node_convention}
+use Rattle.sm_codec.specs.Conventions.{is_whole_second}
 use Rattle.sm_time.proofs.StampForms.{and_first}
-use Rattle.sm_codec.proofs.LeafLaws.{guarded, boolean_of, text_of, number_of, seconds_of, time_text_of, no_fault_where, type_never, boolean_never, text_never, number_never, seconds_never, time_text_never}
+use Rattle.sm_codec.proofs.LeafLaws.{guarded, boolean_of, text_of, number_of, seconds_of, time_text_of, no_fault_where, type_never}
+use Rattle.sm_codec.proofs.LeafLaws.{boolean_never, text_never, number_never, seconds_never, time_text_never}
 use Rattle.sm_codec.proofs.TextLeaves.{blob_reads, base64_of, base64_never, seconds_by}
 
 blob_of : (raw : Bool) (n : Node) (v : Val) → node_blob raw n ≡ Ok v → is_of the.Blob v ≡ true

@@ -4,9 +4,11 @@ use Rattle.std.specs.Prelude.{Option, Some, None, ℤ, Result, Ok, Err}
 use Rattle.sm_tree.specs.Node.{Node, null, bool, int, number, text, bytes, tag, opaque, list, object}
 use Rattle.sm_tree.specs.declared.path.Step.{Step}
 use Rattle.sm_tree.specs.declared.path.Step.TheVariants.{Member, Index, Key}
-use Rattle.sm_shapes.specs.Values.{Val, null_val, bool_val, int_val, text_val, blob_val, time_val, list_val, map_val, structure_val, union_val, vals_of}
+use Rattle.sm_shapes.specs.Values.{Val, null_val, bool_val, int_val, text_val, blob_val, time_val, list_val, map_val, structure_val}
+use Rattle.sm_shapes.specs.Values.{union_val, vals_of}
 use Rattle.sm_shapes.specs.TableData.{TableData, ConstraintData, name_at}
-use Rattle.sm_shapes.specs.Broken.{Finder, unless, length_broken, range_broken, pattern_broken, text_broken, number_broken, broken, has_twice}
+use Rattle.sm_shapes.specs.Broken.{Finder, unless, length_broken, range_broken, pattern_broken, text_broken, number_broken, broken}
+use Rattle.sm_shapes.specs.Broken.{has_twice}
 use Rattle.sm_shapes.specs.Fitting.{finder}
 use Rattle.sm_shapes.specs.Places.{Place, member_place, kind_of, constraints_of, unique_of, sparse_of, members_of_place, entry_place}
 use Rattle.sm_shapes.specs.declared.kinds.ShapeKind.{ShapeKind}
@@ -18,7 +20,11 @@ use Rattle.sm_codec.specs.Sorts.{Sort, simple, a_list, a_map, a_structure, a_uni
 use Rattle.sm_codec.specs.Codec.{Codec, sort_at, wire_name, broken_at}
 use Rattle.sm_codec.specs.Named.{named, names_of, in_byte_order}
 use Rattle.sm_codec.specs.FaultLists.{FaultAt, here, under, Reading, faults_in, settled}
-use Rattle.sm_codec.specs.Readings.{Child, ByMember, Absence, children_of, named_children_of, one_here, leaf_reading, entry_reading, entries_faults, entries_values, unique_faults, list_faults, list_reading, pair_faults, keys_faults, pairs_faults, map_faults, map_reading, member_faults, member_reading, members_faults, when_closed, under_names, repeated_faults, repeats, all_standing, union_faults, standing_fields, union_reading_of, leaf_by, list_by, object_by, reading, children, named_children}
+use Rattle.sm_codec.specs.Readings.{Child, ByMember, Absence, children_of, named_children_of, one_here, leaf_reading, entry_reading}
+use Rattle.sm_codec.specs.Readings.{entries_faults, entries_values, unique_faults, list_faults, list_reading, pair_faults, keys_faults}
+use Rattle.sm_codec.specs.Readings.{pairs_faults, map_faults, map_reading, member_faults, member_reading, members_faults, when_closed}
+use Rattle.sm_codec.specs.Readings.{under_names, repeated_faults, repeats, all_standing, union_faults, standing_fields, union_reading_of}
+use Rattle.sm_codec.specs.Readings.{leaf_by, list_by, object_by, reading, children, named_children}
 use Rattle.sm_codec.specs.steps.UnionSteps.{is_repeated, repeats_here}
 use Rattle.sm_codec.proofs.NoFaults.{reading_is}
 use Rattle.sm_codec.proofs.StructureRead.{never_empty}

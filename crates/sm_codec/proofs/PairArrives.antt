@@ -1,5 +1,6 @@
 -- A tree that is closed under a key of a map, as the frame takes it: for the first time, or once more.
-use Rattle.std.proofs.Common.{◌≡◌, ◌⊎◌, inl, inr, ℕ, Bool, true, false, cond, MatchBool, List, [], ◌∷◌, ◌++◌, refl, sym, ap, ◌∙◌, subst, subst₂}
+use Rattle.std.proofs.Common.{◌≡◌, ◌⊎◌, inl, inr, ℕ, Bool, true, false, cond, MatchBool, List, [], ◌∷◌, ◌++◌, refl, sym, ap, ◌∙◌, subst}
+use Rattle.std.proofs.Common.{subst₂}
 use Rattle.std.specs.Prelude.{Option, Some, None, Ok}
 use Rattle.std.specs.BTreeMap.{insert_entry}
 use Rattle.std.specs.Cmp.Lexicographic.{slice_cmp}
@@ -8,7 +9,8 @@ use Rattle.std.specs.Option.{option_map}
 use Rattle.std.specs.Ordering.{nat_cmp}
 use Rattle.std.specs.Str.{bytes_eq, is_utf8}
 use Rattle.std.specs.declared.cmp.Ordering.TheVariants.{Less, Greater}
-use Rattle.std.proofs.lemmas.List.Sorted.{IsPermutation-middle, IsPermutation-sym, IsPermutation-trans, IsPermutation-cons, list_any-IsPermutation}
+use Rattle.std.proofs.lemmas.List.Sorted.{IsPermutation-middle, IsPermutation-sym, IsPermutation-trans, IsPermutation-cons}
+use Rattle.std.proofs.lemmas.List.Sorted.{list_any-IsPermutation}
 use Rattle.sm_tree.specs.declared.path.Step.TheVariants.{Key}
 use Rattle.sm_shapes.specs.Values.{Val, text_val}
 use Rattle.sm_shapes.specs.Places.{Place, sparse_of, key_place, value_place}
@@ -26,7 +28,9 @@ use Rattle.sm_codec.specs.steps.EntrySteps.{entry_comes}
 use Rattle.sm_codec.specs.steps.MapSteps.{at_key, least_at, has_key, pair_comes, TakesKeyFirst, TakesKeyAgain, TakesKey}
 use Rattle.sm_codec.proofs.EntryArrives.{IsEntry, entry_is}
 use Rattle.sm_codec.proofs.KeyOrder.{IsIn, ordered, ordered_is, is_ordered}
-use Rattle.sm_codec.proofs.KeyParts.{KeysAt, placed, not_among, among_these, has_in, in_has, keys_now, nothing_under, something_under, under_key, same_under, faults_joined, entries_joined, faults_same, entries_same, at_of, at_spelled, each_joined, insert_between, first_at, least_of_keys}
+use Rattle.sm_codec.proofs.KeyParts.{KeysAt, placed, not_among, among_these, has_in, in_has, keys_now, nothing_under, something_under}
+use Rattle.sm_codec.proofs.KeyParts.{under_key, same_under, faults_joined, entries_joined, faults_same, entries_same, at_of, at_spelled}
+use Rattle.sm_codec.proofs.KeyParts.{each_joined, insert_between, first_at, least_of_keys}
 use Rattle.sm_codec.proofs.MembersKept.{kept_put, kept_grown}
 use Rattle.sm_codec.proofs.NoFaults.{none_first, none_behind}
 

@@ -2,7 +2,8 @@
 use Rattle.std.proofs.Common.{◌≡◌, ℕ, suc, Bool, List, [], subst}
 use Rattle.std.specs.Prelude.{IsUtf8}
 use Rattle.sm_tree.specs.declared.path.Step.TheVariants.{Member, Index, Key}
-use Rattle.sm_shapes.specs.Values.{Val, Vals, EntryVals, FieldVals, null_val, bool_val, int_val, text_val, blob_val, time_val, list_val, map_val, structure_val, union_val, no_vals, val, no_entries, entry, no_fields, field}
+use Rattle.sm_shapes.specs.Values.{Val, Vals, EntryVals, FieldVals, null_val, bool_val, int_val, text_val, blob_val, time_val, list_val}
+use Rattle.sm_shapes.specs.Values.{map_val, structure_val, union_val, no_vals, val, no_entries, entry, no_fields, field}
 use Rattle.sm_shapes.specs.TableData.{TableData, name_at}
 use Rattle.sm_shapes.specs.Places.{Place, member_place, members_of_place, shape_of, kind_of, sparse_of, entry_place, key_place, value_place}
 use Rattle.sm_shapes.specs.declared.kinds.ShapeKind.{ShapeKind}

@@ -8,7 +8,9 @@ use Rattle.sm_shapes.specs.InOrder.{Shaped, AreMembersOf}
 use Rattle.sm_shapes.specs.Places.{Place, root_place, shape_of, members_of_place, entry_place}
 use Rattle.sm_codec.specs.Sorts.{Sort, simple, a_list, a_map, a_structure, a_union, left_out}
 use Rattle.sm_codec.specs.Codec.{Codec, sort_at, wire_name, InTable}
-use Rattle.sm_codec.specs.Walk.{Level, list_level, object_level, pair_level, Due, due_at, due_tagged, due_passed, due_nowhere, Opened, opened_at, opened_passed, list_by_sort, object_by_sort, opened_where, opened, tagged_by, behind_tag, behind_tags, behind_name, due_member, due_within, due_in, member_at}
+use Rattle.sm_codec.specs.Walk.{Level, list_level, object_level, pair_level, Due, due_at, due_tagged, due_passed, due_nowhere, Opened}
+use Rattle.sm_codec.specs.Walk.{opened_at, opened_passed, list_by_sort, object_by_sort, opened_where, opened, tagged_by, behind_tag}
+use Rattle.sm_codec.specs.Walk.{behind_tags, behind_name, due_member, due_within, due_in, member_at}
 use Rattle.sm_codec.proofs.PlacesIn.{kind_of_sort, members_stand, entry_in, value_in}
 
 -- the place of what is due, if it has one, is the table's

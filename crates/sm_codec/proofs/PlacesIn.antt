@@ -5,7 +5,8 @@ use Rattle.std.specs.List.{Contains}
 use Rattle.std.proofs.lemmas.List.Elements.{Contains-append_right}
 use Rattle.sm_time.specs.declared.format.Format.{Format}
 use Rattle.sm_shapes.specs.TableData.{TableData, shape_count, member_count, target_at, kind_at}
-use Rattle.sm_shapes.specs.Places.{Place, root_place, member_place, shape_of, kind_of, format_of, members_of_place, entry_place, key_place, value_place}
+use Rattle.sm_shapes.specs.Places.{Place, root_place, member_place, shape_of, kind_of, format_of, members_of_place, entry_place}
+use Rattle.sm_shapes.specs.Places.{key_place, value_place}
 use Rattle.sm_shapes.specs.InOrder.{Shaped, AreMembersOf, HasItsMembers, IsTextKind}
 use Rattle.sm_shapes.specs.declared.kinds.ShapeKind.{ShapeKind}
 use Rattle.sm_shapes.specs.declared.kinds.ShapeKind.TheVariants as kind

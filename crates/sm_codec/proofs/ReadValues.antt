@@ -1,15 +1,18 @@
 -- What a tree comes to it spells, and what it spells it comes to: by induction over the tree, and over the value.
 use Rattle.std.proofs.Common.{◌≡◌, [], refl, sym, ap, ◌∙◌, subst}
 use Rattle.std.specs.Prelude.{Ok}
-use Rattle.sm_tree.specs.Node.{Node, Nodes, Members, null, bool, int, number, text, bytes, tag, opaque, list, object, no_nodes, node, no_members, member}
-use Rattle.sm_shapes.specs.Values.{Val, Vals, EntryVals, FieldVals, null_val, bool_val, int_val, text_val, blob_val, time_val, list_val, map_val, structure_val, union_val, no_vals, val, no_entries, entry, no_fields, field}
+use Rattle.sm_tree.specs.Node.{Node, Nodes, Members, null, bool, int, number, text, bytes, tag, opaque, list, object, no_nodes, node}
+use Rattle.sm_tree.specs.Node.{no_members, member}
+use Rattle.sm_shapes.specs.Values.{Val, Vals, EntryVals, FieldVals, null_val, bool_val, int_val, text_val, blob_val, time_val, list_val}
+use Rattle.sm_shapes.specs.Values.{map_val, structure_val, union_val, no_vals, val, no_entries, entry, no_fields, field}
 use Rattle.sm_shapes.specs.Places.{Place}
 use Rattle.sm_codec.specs.Sorts.{Sort, simple, a_list, a_map, a_structure, a_union, left_out}
 use Rattle.sm_codec.specs.Codec.{Codec, sort_at, broken_at, InTable}
 use Rattle.sm_codec.specs.CodecLaws.{IsCodec, OneValue, ValueOrFault}
 use Rattle.sm_codec.specs.Spelling.{IsLeaf, Spells}
 use Rattle.sm_codec.specs.FaultLists.{faults_in}
-use Rattle.sm_codec.specs.Readings.{reading, leaf_by, list_by, object_by, list_reading, map_reading, structure_reading, union_reading, children, named_children}
+use Rattle.sm_codec.specs.Readings.{reading, leaf_by, list_by, object_by, list_reading, map_reading, structure_reading, union_reading}
+use Rattle.sm_codec.specs.Readings.{children, named_children}
 use Rattle.sm_codec.proofs.LeafReadings.{leaf_read, spelled_read}
 use Rattle.sm_codec.proofs.NoFaults.{reading_is, clean_reading}
 use Rattle.sm_codec.proofs.ChildLists.{each_node, each_pair, nodes_back, members_back, entries_are, pairs_are}

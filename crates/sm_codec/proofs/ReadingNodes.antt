@@ -1,11 +1,13 @@
 -- How many nodes the value has that a list or an object comes to at a place, by those of its parts: itself, its parts, and for a structure
 -- a node for each default.
-use Rattle.std.proofs.Common.{◌≡◌, inl, inr, ℕ, zero, suc, ◌+◌, ◌≤◌, Bool, true, false, cond, List, [], ◌∷◌, ◌++◌, map, refl, sym, ap, arith}
+use Rattle.std.proofs.Common.{◌≡◌, inl, inr, ℕ, zero, suc, ◌+◌, ◌≤◌, Bool, true, false, cond, List, [], ◌∷◌, ◌++◌, map, refl, sym, ap}
+use Rattle.std.proofs.Common.{arith}
 use Rattle.std.specs.Prelude.{Option, Some, None, Result, Ok, Err, slice_get}
 use Rattle.std.specs.List.Sorted.{IsStrictlySortedBy}
 use Rattle.sm_tree.specs.Node.{Node, null, bool, int, number, text, bytes, tag, opaque, list, object}
 use Rattle.sm_shapes.specs.Names.{NoneIs, AllDiffer}
-use Rattle.sm_shapes.specs.Values.{Val, null_val, bool_val, int_val, text_val, blob_val, time_val, list_val, map_val, structure_val, union_val, vals_of, entries_of, fields_of, val_nodes, vals_nodes, entries_nodes, fields_nodes}
+use Rattle.sm_shapes.specs.Values.{Val, null_val, bool_val, int_val, text_val, blob_val, time_val, list_val, map_val, structure_val}
+use Rattle.sm_shapes.specs.Values.{union_val, vals_of, entries_of, fields_of, val_nodes, vals_nodes, entries_nodes, fields_nodes}
 use Rattle.sm_shapes.specs.TableData.{TableData, ShapeData, members_in, default_at, required_at, count_of_default}
 use Rattle.sm_shapes.specs.InOrder.{Shaped, defaults_among, most_among, most_defaults}
 use Rattle.sm_shapes.specs.Places.{Place, member_place, shape_of, members_of_place, sparse_of, entry_place, value_place}
@@ -23,7 +25,11 @@ use Rattle.sm_codec.specs.Kept.{each_field, spelled_fields, each_entry, spelled_
 use Rattle.sm_codec.specs.MapView.{held_entry}
 use Rattle.sm_shapes.specs.declared.values.Value.{Value}
 use Rattle.sm_codec.specs.Named.{named, names_of, in_byte_order}
-use Rattle.sm_codec.specs.Readings.{Child, under_names, one_here, leaf_reading, leaf_by, entry_reading, entries_values, list_faults, list_reading, keyed, pair_values, keys_values, pairs_values, map_faults, map_reading, absent_with, when_closed, absent_reading, present_reading, member_reading, member_fields, members_faults, members_fields, structure_reading, repeats, standing, all_standing, standing_fields, union_faults, union_reading_of, union_reading}
+use Rattle.sm_codec.specs.Readings.{Child, under_names, one_here, leaf_reading, leaf_by, entry_reading, entries_values, list_faults}
+use Rattle.sm_codec.specs.Readings.{list_reading, keyed, pair_values, keys_values, pairs_values, map_faults, map_reading, absent_with}
+use Rattle.sm_codec.specs.Readings.{when_closed, absent_reading, present_reading, member_reading, member_fields, members_faults}
+use Rattle.sm_codec.specs.Readings.{members_fields, structure_reading, repeats, standing, all_standing, standing_fields, union_faults}
+use Rattle.sm_codec.specs.Readings.{union_reading_of, union_reading}
 use Rattle.sm_codec.specs.Sorts.{Sort, simple, a_list, a_map, a_structure, a_union, left_out}
 use Rattle.sm_codec.specs.Walk.{member_at}
 use Rattle.sm_codec.specs.steps.ClosingSteps.{IsPlain}

@@ -11,8 +11,10 @@ use Rattle.sm_codec.specs.Codec.{Codec, sort_at}
 use Rattle.sm_codec.specs.FaultLists.{FaultAt, first_fault}
 use Rattle.sm_codec.specs.Readings.{Child, under_names}
 use Rattle.sm_codec.specs.Decoding.{MemberFrame, Frame, structure_frame, list_frame, skip_frame, Decoding}
-use Rattle.sm_codec.specs.Walk.{Level, list_level, object_level, pair_level, Due, Opened, opened_at, opened_passed, inner_level, around_level, opened, due_within, due_in, kept_levels, member_at}
-use Rattle.sm_codec.specs.Kept.{HoldsMembers, AreKept, spelled_fields, closed_members, closed_faults, due_frames, FrameHolds, HoldsPairs, HoldsList, HoldsOpen, Holds}
+use Rattle.sm_codec.specs.Walk.{Level, list_level, object_level, pair_level, Due, Opened, opened_at, opened_passed, inner_level}
+use Rattle.sm_codec.specs.Walk.{around_level, opened, due_within, due_in, kept_levels, member_at}
+use Rattle.sm_codec.specs.Kept.{HoldsMembers, AreKept, spelled_fields, closed_members, closed_faults, due_frames, FrameHolds, HoldsPairs}
+use Rattle.sm_codec.specs.Kept.{HoldsList, HoldsOpen, Holds}
 use Rattle.sm_codec.specs.steps.Standing.{Stands, StandsIn}
 use Rattle.sm_codec.specs.steps.MemberSteps.{IsNamed}
 use Rattle.sm_codec.specs.steps.OpeningSteps.{new_members, new_entries}

@@ -8,12 +8,14 @@ use Rattle.sm_shapes.specs.Places.{Place, root_place}
 use Rattle.sm_shapes.specs.declared.fault.FaultKind.{FaultKind}
 use Rattle.sm_codec.specs.Codec.{Codec}
 use Rattle.sm_codec.specs.Decoding.{Frame, Decoding}
-use Rattle.sm_codec.specs.Walk.{Level, Due, due_at, opened_at, opened_passed, inner_level, around_level, behind_tag, opened, due_within, due_in, with_level, kept_levels}
+use Rattle.sm_codec.specs.Walk.{Level, Due, due_at, opened_at, opened_passed, inner_level, around_level, behind_tag, opened, due_within}
+use Rattle.sm_codec.specs.Walk.{due_in, with_level, kept_levels}
 use Rattle.sm_codec.specs.Kept.{due_frames, FrameHolds, FramesHold, HoldsOpen, Holds}
 use Rattle.sm_codec.specs.steps.Arrivals.{level_with, level_tagged}
 use Rattle.sm_codec.specs.steps.Standing.{Stands, StandsIn, AwaitsTree}
 use Rattle.sm_codec.proofs.Arriving.{behind_more}
-use Rattle.sm_codec.proofs.Walking.{level_of_tree, level_of_tag, level_awaits, opened_tagged, opened_with, due_tag, frames_tagged, passed_with, frame_took}
+use Rattle.sm_codec.proofs.Walking.{level_of_tree, level_of_tag, level_awaits, opened_tagged, opened_with, due_tag, frames_tagged}
+use Rattle.sm_codec.proofs.Walking.{passed_with, frame_took}
 
 -- the same with other frames, where the root's shape stays
 abbrev pub with_frames : Decoding → List Frame → Decoding

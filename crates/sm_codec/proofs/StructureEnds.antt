@@ -1,5 +1,6 @@
 -- Where a structure ends: what its frame comes to, by the members that are absent, is what the object comes to.
-use Rattle.std.proofs.Common.{◌≡◌, ◌⊎◌, inl, inr, ℕ, ◌<◌, nat_eq, Bool, true, false, ◌||◌, cond, List, [], ◌∷◌, ◌++◌, append_assoc, append-nil, refl, sym, ap, ◌∙◌, subst, arith}
+use Rattle.std.proofs.Common.{◌≡◌, ◌⊎◌, inl, inr, ℕ, ◌<◌, nat_eq, Bool, true, false, ◌||◌, cond, List, [], ◌∷◌, ◌++◌, append_assoc}
+use Rattle.std.proofs.Common.{append-nil, refl, sym, ap, ◌∙◌, subst, arith}
 use Rattle.std.specs.Prelude.{Option, Some, None, Result, Ok, Err}
 use Rattle.sm_tree.specs.declared.path.Step.TheVariants.{Member}
 use Rattle.sm_shapes.specs.Values.{Val}
@@ -9,7 +10,8 @@ use Rattle.sm_shapes.specs.declared.fault.FaultKind.{FaultKind}
 use Rattle.sm_shapes.specs.declared.fault.FaultKind.TheVariants.{Missing}
 use Rattle.sm_shapes.specs.FieldPuts.{put_field, has_field}
 use Rattle.sm_codec.specs.FaultLists.{FaultAt, Reading, under, first_fault}
-use Rattle.sm_codec.specs.Readings.{Child, ByMember, absent_with, when_closed, so_far_absent, absent_reading, present_reading, member_reading, member_faults, member_fields, members_faults, members_fields}
+use Rattle.sm_codec.specs.Readings.{Child, ByMember, absent_with, when_closed, so_far_absent, absent_reading, present_reading}
+use Rattle.sm_codec.specs.Readings.{member_reading, member_faults, member_fields, members_faults, members_fields}
 use Rattle.sm_codec.specs.Kept.{each_field, spelled_fields, closed_faults}
 use Rattle.sm_codec.specs.steps.MemberSteps.{at_member}
 use Rattle.sm_codec.specs.steps.ClosingSteps.{missing_by, missing, missing_fault, put_default, defaults_put}

@@ -1,5 +1,6 @@
 -- What a structure's frame comes to where it ends is what the object comes to; and the members that are needed are enough to tell.
-use Rattle.std.proofs.Common.{◌≡◌, inl, inr, ℕ, ◌<◌, nat_lt, Bool, true, false, ◌||◌, cond, List, [], ◌∷◌, ◌++◌, map, refl, sym, ap, ◌∙◌, subst, arith}
+use Rattle.std.proofs.Common.{◌≡◌, inl, inr, ℕ, ◌<◌, nat_lt, Bool, true, false, ◌||◌, cond, List, [], ◌∷◌, ◌++◌, map, refl, sym, ap, ◌∙◌}
+use Rattle.std.proofs.Common.{subst, arith}
 use Rattle.std.specs.Prelude.{Option, Some, None, is_some, unwrap_or, Result, Ok, Err, IfOk}
 use Rattle.std.specs.List.{filter}
 use Rattle.std.specs.List.Sorted.{IsStrictlySortedBy}
@@ -7,7 +8,8 @@ use Rattle.std.specs.Ordering.{nat_cmp}
 use Rattle.sm_tree.specs.Node.{Node}
 use Rattle.sm_shapes.specs.Names.{AllDiffer}
 use Rattle.sm_shapes.specs.Values.{Val, structure_val, fields_of}
-use Rattle.sm_shapes.specs.TableData.{TableData, shape_count, member_count, name_at, members_at, needed_at, member_with, required_at, default_at, default_node_at}
+use Rattle.sm_shapes.specs.TableData.{TableData, shape_count, member_count, name_at, members_at, needed_at, member_with, required_at}
+use Rattle.sm_shapes.specs.TableData.{default_at, default_node_at}
 use Rattle.sm_shapes.specs.InOrder.{Shaped, AreMembersOf, is_needed}
 use Rattle.sm_shapes.specs.Places.{Place, shape_of, members_of_place}
 use Rattle.sm_shapes.specs.declared.fault.FaultKind.{FaultKind}
@@ -20,7 +22,8 @@ use Rattle.sm_codec.specs.Readings.{absent_with, when_closed, named_children_of,
 use Rattle.sm_codec.specs.Decoding.{good, bad, MemberFrame, structure_frame}
 use Rattle.sm_codec.specs.Kept.{HoldsPairs, IsOutcome}
 use Rattle.sm_codec.specs.steps.MemberSteps.{first_name, at_member}
-use Rattle.sm_codec.specs.steps.ClosingSteps.{missing_by, missing, missing_fault, put_default, defaults_put, is_before, ended_by, structure_end}
+use Rattle.sm_codec.specs.steps.ClosingSteps.{missing_by, missing, missing_fault, put_default, defaults_put, is_before, ended_by}
+use Rattle.sm_codec.specs.steps.ClosingSteps.{structure_end}
 use Rattle.sm_codec.proofs.PlacesIn.{shape_in}
 use Rattle.sm_codec.proofs.MemberParts.{AllBelow, AllAbove, rises_before, rises_behind, below_one, above_one, among_behind}
 use Rattle.sm_codec.proofs.StructureRead.{StructureEnds, structure_clean, structure_faulty}

@@ -15,7 +15,9 @@ use Rattle.sm_shapes.specs.FieldPuts.{FieldsFrom}
 use Rattle.sm_codec.specs.Codec.{Codec, wire_name, InTable}
 use Rattle.sm_codec.specs.Named.{named}
 use Rattle.sm_codec.specs.FaultLists.{FaultAt, Reading, under, first_fault, settled}
-use Rattle.sm_codec.specs.Readings.{Child, ByMember, children_of, named_children_of, under_names, reading, when_closed, so_far_absent, member_reading, member_faults, members_faults, members_fields, present_reading, absent_reading, structure_reading}
+use Rattle.sm_codec.specs.Readings.{Child, ByMember, children_of, named_children_of, under_names, reading, when_closed, so_far_absent}
+use Rattle.sm_codec.specs.Readings.{member_reading, member_faults, members_faults, members_fields, present_reading, absent_reading}
+use Rattle.sm_codec.specs.Readings.{structure_reading}
 use Rattle.sm_codec.specs.Decoding.{MemberFrame, structure_frame}
 use Rattle.sm_codec.specs.Kept.{AreOf, spelled_fields, closed_faults, HoldsPairs}
 use Rattle.sm_codec.specs.steps.MemberSteps.{first_name, at_member}
@@ -24,8 +26,10 @@ use Rattle.sm_codec.proofs.NoFaults.{IsReading, reading_is, ok_reading}
 use Rattle.sm_codec.proofs.ChildLists.{named_are}
 use Rattle.sm_codec.proofs.PlacesIn.{shape_in}
 use Rattle.sm_codec.proofs.MembersKept.{of_two, kept_of, kept_all, prefix_same, from_of, above_before}
-use Rattle.sm_codec.proofs.MemberParts.{AllBelow, AllAbove, own_faults, spelled_two, spelled_below, spelled_from, rises_before, rises_behind, above_from}
-use Rattle.sm_codec.proofs.StructureEnds.{AreReadings, all_stood, AreThere, Rising, HighFor, all_there, first_missing, clean_ends, fields_end, low_none}
+use Rattle.sm_codec.proofs.MemberParts.{AllBelow, AllAbove, own_faults, spelled_two, spelled_below, spelled_from, rises_before}
+use Rattle.sm_codec.proofs.MemberParts.{rises_behind, above_from}
+use Rattle.sm_codec.proofs.StructureEnds.{AreReadings, all_stood, AreThere, Rising, HighFor, all_there, first_missing, clean_ends}
+use Rattle.sm_codec.proofs.StructureEnds.{fields_end, low_none}
 
 -- what an object without faults so far comes to, by the first member that is missing
 abbrev pub StructureEnds : Codec → Place → List (List ℕ × Node) → MemberFrame → Option ℕ → Type 0

@@ -15,7 +15,8 @@ use Rattle.sm_shapes.specs.declared.fault.FaultKind.TheVariants.{Base64, Time, R
 use Rattle.sm_codec.specs.declared.simple.Simple.TheVariants as the
 use Rattle.sm_time.specs.StampTexts.{is_stamp}
 use Rattle.sm_codec.specs.Convention.{is_of, are_bytes}
-use Rattle.sm_codec.specs.Conventions.{read_base64, base64_text, decoded_blob, read_seconds, written_seconds, read_time_text, is_whole_second, has_text, or_fault, stamp_val}
+use Rattle.sm_codec.specs.Conventions.{read_base64, base64_text, decoded_blob, read_seconds, written_seconds, read_time_text}
+use Rattle.sm_codec.specs.Conventions.{is_whole_second, has_text, or_fault, stamp_val}
 use Rattle.sm_time.proofs.StampForms.{and_first, and_second, stamp_decides, at_most_int}
 use Rattle.sm_codec.proofs.LeafLaws.{guarded, no_fault_where}
 use Rattle.sm_codec.proofs.CborLaws.{whole_seconds, at_seconds}

@@ -13,8 +13,10 @@ use Rattle.sm_codec.specs.Convention.{IsConvention}
 use Rattle.sm_codec.specs.Sorts.{Sort, simple, a_list, a_map, a_structure, a_union, left_out}
 use Rattle.sm_codec.specs.Codec.{Codec, sort_at, InTable}
 use Rattle.sm_codec.specs.Readings.{one_here, leaf_by, leaf_reading, reading}
-use Rattle.sm_codec.specs.Decoding.{good, bad, MemberFrame, EntryFrame, Frame, structure_frame, union_frame, list_frame, map_frame, tagged_frame, skip_frame, Decoding}
-use Rattle.sm_codec.specs.Walk.{Level, list_level, object_level, pair_level, Due, due_at, due_tagged, due_passed, due_nowhere, Opened, opened_at, opened_passed, inner_level, around_level, opened, due_within, due_in, kept_levels, member_at}
+use Rattle.sm_codec.specs.Decoding.{good, bad, MemberFrame, EntryFrame, Frame, structure_frame, union_frame, list_frame, map_frame}
+use Rattle.sm_codec.specs.Decoding.{tagged_frame, skip_frame, Decoding}
+use Rattle.sm_codec.specs.Walk.{Level, list_level, object_level, pair_level, Due, due_at, due_tagged, due_passed, due_nowhere, Opened}
+use Rattle.sm_codec.specs.Walk.{opened_at, opened_passed, inner_level, around_level, opened, due_within, due_in, kept_levels, member_at}
 use Rattle.sm_codec.specs.Kept.{IsOutcome, due_frames, FrameHolds, FramesHold, Holds}
 use Rattle.sm_codec.specs.steps.Arrivals.{Arrival, null_comes, value_comes, fault_comes, IsArrival, null_where, read_where, level_with}
 use Rattle.sm_codec.specs.steps.DecoderSteps.{ForCurrent, FrameTakes, root_outcome, TakenBy}

@@ -1,20 +1,24 @@
 -- A tree comes to a value with a share of nodes at most for each tree that is counted in it: itself, and the defaults of a structure.
 use Rattle.std.proofs.Common.{◌≡◌, ℕ, ◌+◌, ◌*◌, ◌≤◌, List, [], ◌∷◌, refl, ap, arith}
 use Rattle.std.specs.Prelude.{Option, Some, None}
-use Rattle.sm_tree.specs.Node.{Node, Nodes, Members, null, bool, int, number, text, bytes, tag, opaque, list, object, no_nodes, node, no_members, member}
+use Rattle.sm_tree.specs.Node.{Node, Nodes, Members, null, bool, int, number, text, bytes, tag, opaque, list, object, no_nodes, node}
+use Rattle.sm_tree.specs.Node.{no_members, member}
 use Rattle.sm_shapes.specs.InOrder.{most_defaults}
 use Rattle.sm_shapes.specs.Places.{Place, member_place, kind_of, entry_place, value_place}
 use Rattle.sm_shapes.specs.declared.fault.FaultKind.TheVariants.{WrongType}
 use Rattle.sm_shapes.specs.declared.kinds.ShapeKind.TheVariants as kind
-use Rattle.sm_codec.specs.Bound.{total, tagged_count, list_count, object_count, member_count_by, tree_count, entries_count, values_count, members_count, each_count, pair_count}
+use Rattle.sm_codec.specs.Bound.{total, tagged_count, list_count, object_count, member_count_by, tree_count, entries_count, values_count}
+use Rattle.sm_codec.specs.Bound.{members_count, each_count, pair_count}
 use Rattle.sm_codec.specs.Codec.{Codec, sort_at, InTable}
 use Rattle.sm_codec.specs.CodecLaws.{IsCodec}
-use Rattle.sm_codec.specs.Readings.{child_of, children, named_children, children_of, named_children_of, leaf_by, list_by, object_by, reading}
+use Rattle.sm_codec.specs.Readings.{child_of, children, named_children, children_of, named_children_of, leaf_by, list_by, object_by}
+use Rattle.sm_codec.specs.Readings.{reading}
 use Rattle.sm_codec.specs.Sorts.{Sort, simple, a_list, a_map, a_structure, a_union, left_out}
 use Rattle.sm_codec.specs.Walk.{member_at}
 use Rattle.sm_codec.proofs.PlacesHeld.{member_in}
 use Rattle.sm_codec.proofs.PlacesIn.{kind_of_sort, entry_in, value_in}
-use Rattle.sm_codec.proofs.ReadingNodes.{reading_nodes, child_nodes, member_nodes, member_cost, value_cost, leaf_nodes, no_nodes_read, tagged_nodes, list_nodes, map_nodes, structure_nodes, union_nodes}
+use Rattle.sm_codec.proofs.ReadingNodes.{reading_nodes, child_nodes, member_nodes, member_cost, value_cost, leaf_nodes, no_nodes_read}
+use Rattle.sm_codec.proofs.ReadingNodes.{tagged_nodes, list_nodes, map_nodes, structure_nodes, union_nodes}
 use Rattle.sm_codec.proofs.Sums.{pairs_cost}
 
 abbrev pub share : Codec → ℕ

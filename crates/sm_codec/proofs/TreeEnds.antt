@@ -17,11 +17,14 @@ use Rattle.sm_codec.specs.Codec.{Codec, sort_at, InTable}
 use Rattle.sm_codec.specs.Named.{is_null}
 use Rattle.sm_codec.specs.Readings.{one_here, children, children_of, named_children, named_children_of, list_by, object_by, reading}
 use Rattle.sm_codec.specs.Decoding.{Frame, structure_frame, union_frame, list_frame, map_frame, tagged_frame, skip_frame, Decoding}
-use Rattle.sm_codec.specs.Walk.{Due, due_at, due_tagged, due_passed, due_nowhere, Opened, opened_at, opened_passed, Level, list_level, object_level, pair_level, inner_level, around_level, list_by_sort, object_by_sort, opened_where, opened, behind_name, due_member, due_within, due_in, kept_levels, member_at}
+use Rattle.sm_codec.specs.Walk.{Due, due_at, due_tagged, due_passed, due_nowhere, Opened, opened_at, opened_passed, Level, list_level}
+use Rattle.sm_codec.specs.Walk.{object_level, pair_level, inner_level, around_level, list_by_sort, object_by_sort, opened_where, opened}
+use Rattle.sm_codec.specs.Walk.{behind_name, due_member, due_within, due_in, kept_levels, member_at}
 use Rattle.sm_codec.specs.Kept.{IsOutcome, due_frames, FrameHolds, Holds}
 use Rattle.sm_codec.specs.steps.Arrivals.{fault_comes, comes, IsArrival, null_where, read_where}
 use Rattle.sm_codec.specs.steps.ClosingSteps.{structure_end}
-use Rattle.sm_codec.specs.steps.DecoderSteps.{place_among, FirstCanTake, TakenBy, PassedBy, CanPass, frame_end, CanEnd, FirstCanEnd, EndedBy}
+use Rattle.sm_codec.specs.steps.DecoderSteps.{place_among, FirstCanTake, TakenBy, PassedBy, CanPass, frame_end, CanEnd, FirstCanEnd}
+use Rattle.sm_codec.specs.steps.DecoderSteps.{EndedBy}
 use Rattle.sm_codec.specs.steps.EntrySteps.{list_end}
 use Rattle.sm_codec.specs.steps.Standing.{StandsIn}
 use Rattle.sm_codec.proofs.ChildLists.{entries_are, pairs_are, nodes_each, pairs_each}

@@ -11,7 +11,9 @@ use Rattle.sm_shapes.specs.declared.fault.FaultKind.{FaultKind}
 use Rattle.sm_codec.specs.Sorts.{Sort, simple, a_list, a_map, a_structure, a_union, left_out}
 use Rattle.sm_codec.specs.Codec.{Codec, sort_at}
 use Rattle.sm_codec.specs.Decoding.{Frame, structure_frame, union_frame, list_frame, map_frame, tagged_frame, skip_frame, Decoding}
-use Rattle.sm_codec.specs.Walk.{Level, list_level, object_level, pair_level, Due, due_at, due_tagged, due_passed, due_nowhere, Opened, opened_at, opened_passed, inner_level, around_level, opened, tagged_by, behind_tag, behind_tags, behind_name, due_member, due_within, due_in, kept_levels, member_at}
+use Rattle.sm_codec.specs.Walk.{Level, list_level, object_level, pair_level, Due, due_at, due_tagged, due_passed, due_nowhere, Opened}
+use Rattle.sm_codec.specs.Walk.{opened_at, opened_passed, inner_level, around_level, opened, tagged_by, behind_tag, behind_tags}
+use Rattle.sm_codec.specs.Walk.{behind_name, due_member, due_within, due_in, kept_levels, member_at}
 use Rattle.sm_codec.specs.Kept.{due_frames, FrameHolds, Holds}
 use Rattle.sm_codec.specs.steps.Arrivals.{level_with}
 use Rattle.sm_codec.specs.steps.Standing.{StandsIn, AwaitsTree}

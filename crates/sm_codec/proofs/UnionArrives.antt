@@ -1,5 +1,6 @@
 -- A tree that is closed in a union: what its frame keeps is still what the closed members come to.
-use Rattle.std.proofs.Common.{◌≡◌, ◌⊎◌, inl, inr, ℕ, Bool, true, false, cond, List, [], ◌∷◌, ◌++◌, append-nil, refl, sym, ap, ◌∙◌, subst, subst₂}
+use Rattle.std.proofs.Common.{◌≡◌, ◌⊎◌, inl, inr, ℕ, Bool, true, false, cond, List, [], ◌∷◌, ◌++◌, append-nil, refl, sym, ap, ◌∙◌, subst}
+use Rattle.std.proofs.Common.{subst₂}
 use Rattle.std.specs.Prelude.{Option, Some, None, Ok, Err}
 use Rattle.sm_tree.specs.declared.path.Step.TheVariants.{Member}
 use Rattle.sm_shapes.specs.Values.{Val}
@@ -7,7 +8,9 @@ use Rattle.sm_shapes.specs.TableData.{TableData, name_at}
 use Rattle.sm_shapes.specs.Places.{member_place}
 use Rattle.sm_shapes.specs.declared.fault.FaultKind.TheVariants.{Repeated, UnionCount}
 use Rattle.sm_codec.specs.FaultLists.{FaultAt, Reading, under, first_fault, faults_in}
-use Rattle.sm_codec.specs.Readings.{Child, ByMember, one_here, present_reading, member_reading, member_faults, member_fields, so_far_absent, repeated_faults, repeats, standing, all_standing, standing_faults, union_faults, standing_fields}
+use Rattle.sm_codec.specs.Readings.{Child, ByMember, one_here, present_reading, member_reading, member_faults, member_fields}
+use Rattle.sm_codec.specs.Readings.{so_far_absent, repeated_faults, repeats, standing, all_standing, standing_faults, union_faults}
+use Rattle.sm_codec.specs.Readings.{standing_fields}
 use Rattle.sm_codec.specs.Kept.{each_field, spelled_fields, closed_faults}
 use Rattle.sm_codec.specs.steps.MemberSteps.{at_member, least_fault}
 use Rattle.sm_codec.specs.steps.UnionSteps.{repeats_here, is_repeat, chosen, first_choice, repeat_fault}

@@ -8,15 +8,19 @@ use Rattle.sm_shapes.specs.TableData.{TableData, name_at}
 use Rattle.sm_shapes.specs.Places.{member_place}
 use Rattle.sm_shapes.specs.declared.fault.FaultKind.TheVariants.{Repeated}
 use Rattle.sm_codec.specs.FaultLists.{FaultAt, under, first_fault, faults_in}
-use Rattle.sm_codec.specs.Readings.{Child, ByMember, present_reading, member_faults, member_fields, member_reading, so_far_absent, repeated_faults, repeats, standing, all_standing, standing_faults, union_faults, standing_fields}
+use Rattle.sm_codec.specs.Readings.{Child, ByMember, present_reading, member_faults, member_fields, member_reading, so_far_absent}
+use Rattle.sm_codec.specs.Readings.{repeated_faults, repeats, standing, all_standing, standing_faults, union_faults, standing_fields}
 use Rattle.sm_codec.specs.Kept.{AreOf, AreKept, each_field, spelled_fields, closed_members, closed_faults, closed_union_faults}
 use Rattle.sm_codec.specs.steps.Arrivals.{Arrival, null_comes, value_comes, fault_comes, IsArrival}
 use Rattle.sm_codec.specs.steps.MemberSteps.{at_member, least_fault}
 use Rattle.sm_codec.specs.steps.UnionSteps.{chosen, choice_fault, first_choice, choice_fields, repeat_fault}
 use Rattle.sm_codec.proofs.MembersKept.{all_of, kept_of, kept_all, kept_from, of_grown}
 use Rattle.sm_codec.proofs.MemberParts.{own_faults, least_of_all}
-use Rattle.sm_codec.proofs.MemberArrives.{Arrives, faults_now, fields_now, fields_then, each_two, each_null, each_found, seen_first, seen_again}
-use Rattle.sm_codec.proofs.UnionArrives.{AreSound, StandSound, Says, repeats_two, standing_two, repeats_are, repeated_ones, only_more, repeats_first, spelled_standing, stand_sound, repeats_agree, standing_agree, more_agree, more_stands, IsPut, value_stands, chosen_some, repeat_first}
+use Rattle.sm_codec.proofs.MemberArrives.{Arrives, faults_now, fields_now, fields_then, each_two, each_null, each_found, seen_first}
+use Rattle.sm_codec.proofs.MemberArrives.{seen_again}
+use Rattle.sm_codec.proofs.UnionArrives.{AreSound, StandSound, Says, repeats_two, standing_two, repeats_are, repeated_ones, only_more}
+use Rattle.sm_codec.proofs.UnionArrives.{repeats_first, spelled_standing, stand_sound, repeats_agree, standing_agree, more_agree}
+use Rattle.sm_codec.proofs.UnionArrives.{more_stands, IsPut, value_stands, chosen_some, repeat_first}
 
 -- what a union's frame says of its closed members: those seen, the fault and the fields
 abbrev pub AreChosen : TableData → List ℕ → ByMember → List ℕ → Option FaultAt → List (ℕ × Val) → Type 0

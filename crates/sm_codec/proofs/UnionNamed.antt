@@ -10,7 +10,8 @@ use Rattle.sm_shapes.specs.declared.fault.FaultKind.TheVariants.{UnionCount}
 use Rattle.sm_codec.specs.Convention.{IsConvention}
 use Rattle.sm_codec.specs.Codec.{Codec, InTable}
 use Rattle.sm_codec.specs.FaultLists.{FaultAt, first_fault}
-use Rattle.sm_codec.specs.Readings.{Child, ByMember, one_here, under_names, repeats, all_standing, union_faults, standing_fields, union_reading_of, union_reading}
+use Rattle.sm_codec.specs.Readings.{Child, ByMember, one_here, under_names, repeats, all_standing, union_faults, standing_fields}
+use Rattle.sm_codec.specs.Readings.{union_reading_of, union_reading}
 use Rattle.sm_codec.specs.Walk.{member_at}
 use Rattle.sm_codec.specs.Decoding.{MemberFrame, union_frame}
 use Rattle.sm_codec.specs.Kept.{has_one, closed_members, closed_union_faults, HoldsMembers, HoldsPairs, IsOutcome}

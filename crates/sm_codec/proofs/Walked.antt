@@ -1,6 +1,7 @@
 -- A tree that is walked where it is due comes to what it is read as there: its entries and pairs one after another, and what stands under a
 -- name of no member is skipped.
-use Rattle.std.proofs.Common.{◌≡◌, ◌⊎◌, inl, inr, append_assoc, append-nil, ℕ, Bool, true, false, List, [], ◌∷◌, ◌++◌, refl, sym, ap, ◌∙◌, subst}
+use Rattle.std.proofs.Common.{◌≡◌, ◌⊎◌, inl, inr, append_assoc, append-nil, ℕ, Bool, true, false, List, [], ◌∷◌, ◌++◌, refl, sym, ap, ◌∙◌}
+use Rattle.std.proofs.Common.{subst}
 use Rattle.std.specs.Prelude.{Option, Some, None, unwrap_or}
 use Rattle.sm_tree.specs.Node.{Node, null, bool, int, number, text, bytes, tag, opaque, list, object}
 use Rattle.sm_tree.specs.Building.{Inner}
@@ -15,12 +16,14 @@ use Rattle.sm_codec.specs.Decoding.{Frame, skip_frame, Decoding}
 use Rattle.sm_codec.specs.Kept.{due_frames, FrameHolds}
 use Rattle.sm_codec.specs.Named.{is_null}
 use Rattle.sm_codec.specs.Readings.{Child, leaf_by, list_by, object_by, reading, children, named_children}
-use Rattle.sm_codec.specs.Walk.{Level, list_level, object_level, pair_level, Due, due_at, due_passed, opened_at, inner_level, behind_name, due_member, due_within, member_at}
+use Rattle.sm_codec.specs.Walk.{Level, list_level, object_level, pair_level, Due, due_at, due_passed, opened_at, inner_level, behind_name}
+use Rattle.sm_codec.specs.Walk.{due_member, due_within, member_at}
 use Rattle.sm_codec.specs.steps.Arrivals.{Arrival, comes, IsArrival, null_where, read_where, level_with}
 use Rattle.sm_codec.specs.steps.DecoderSteps.{place_among, FirstCanTake, TakenBy, frame_end, FirstCanEnd, EndedBy}
 use Rattle.sm_codec.specs.steps.OpeningSteps.{FirstCanName, FirstNames, LeafTaken, with_silence, list_start, object_start}
 use Rattle.sm_codec.specs.steps.Standing.{AwaitsTree, IsDueAt}
-use Rattle.sm_codec.specs.steps.WalkSteps.{is_list, is_object, IsLeafAt, next_place, WalkReady, TreeTaken, LevelAt, ListSoFar, PairsSoFar, PairReady, PairTaken}
+use Rattle.sm_codec.specs.steps.WalkSteps.{is_list, is_object, IsLeafAt, next_place, WalkReady, TreeTaken, LevelAt, ListSoFar, PairsSoFar}
+use Rattle.sm_codec.specs.steps.WalkSteps.{PairReady, PairTaken}
 use Rattle.sm_codec.proofs.DuePlaces.{place_known}
 use Rattle.sm_codec.proofs.LeafPlaces.{outcome_arrives}
 use Rattle.sm_codec.proofs.MapClosing.{map_starts}

@@ -2,14 +2,17 @@
 use Rattle.std.proofs.Common.{◌≡◌, ℕ, true, List, [], ◌∷◌, ◌++◌, map, refl, sym, ap, ◌∙◌}
 use Rattle.std.specs.Prelude.{Option, None}
 use Rattle.sm_tree.specs.Node.{Node}
-use Rattle.sm_tree.specs.Building.{Building, nothing, whole, within, Inner, in_list, in_object, in_pair, Around, around_list, around_object, inner_awaits, awaits_value}
+use Rattle.sm_tree.specs.Building.{Building, nothing, whole, within, Inner, in_list, in_object, in_pair, Around, around_list}
+use Rattle.sm_tree.specs.Building.{around_object, inner_awaits, awaits_value}
 use Rattle.sm_tree.specs.steps.BuilderSteps.{with_tree, with_tag, put_around, back_inside, after_start}
 use Rattle.sm_shapes.specs.Places.{Place, entry_place}
 use Rattle.sm_shapes.specs.declared.fault.FaultKind.{FaultKind}
 use Rattle.sm_codec.specs.Sorts.{Sort, simple, a_list, a_map, a_structure, a_union, left_out}
 use Rattle.sm_codec.specs.Codec.{Codec, sort_at}
 use Rattle.sm_codec.specs.Decoding.{Frame, Decoding}
-use Rattle.sm_codec.specs.Walk.{Level, list_level, object_level, pair_level, Due, due_at, due_tagged, due_passed, due_nowhere, Opened, opened_at, opened_passed, inner_level, around_level, levels_open, behind_tag, behind_name, list_by_sort, object_by_sort, opened, opened_where, due_within, with_level}
+use Rattle.sm_codec.specs.Walk.{Level, list_level, object_level, pair_level, Due, due_at, due_tagged, due_passed, due_nowhere, Opened}
+use Rattle.sm_codec.specs.Walk.{opened_at, opened_passed, inner_level, around_level, levels_open, behind_tag, behind_name, list_by_sort}
+use Rattle.sm_codec.specs.Walk.{object_by_sort, opened, opened_where, due_within, with_level}
 use Rattle.sm_codec.specs.Kept.{due_frames, FrameHolds, FramesHold}
 use Rattle.sm_codec.specs.steps.Arrivals.{level_with, level_tagged}
 use Rattle.sm_codec.specs.steps.Standing.{StandsIn, AwaitsTree}

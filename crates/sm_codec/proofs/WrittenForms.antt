@@ -4,7 +4,8 @@ use Rattle.std.specs.Prelude.{Option, IsUtf8}
 use Rattle.sm_tree.specs.Node.{Node, Nodes, Members, null, list, object, no_nodes, node, no_members, member}
 use Rattle.sm_tree.specs.Json.{IsJson, AreJson, AreJsonMembers, IsCbor, AreCbor, AreCborMembers}
 use Rattle.sm_time.specs.declared.format.Format.{Format}
-use Rattle.sm_shapes.specs.Values.{Val, Vals, EntryVals, FieldVals, null_val, bool_val, int_val, text_val, blob_val, time_val, list_val, map_val, structure_val, union_val, no_vals, val, no_entries, entry, no_fields, field}
+use Rattle.sm_shapes.specs.Values.{Val, Vals, EntryVals, FieldVals, null_val, bool_val, int_val, text_val, blob_val, time_val, list_val}
+use Rattle.sm_shapes.specs.Values.{map_val, structure_val, union_val, no_vals, val, no_entries, entry, no_fields, field}
 use Rattle.sm_shapes.specs.TableData.{TableData}
 use Rattle.sm_shapes.specs.InOrder.{Shaped}
 use Rattle.sm_shapes.specs.Places.{Place, shape_of, kind_of, format_of, entry_place, value_place, member_place}

@@ -13,7 +13,8 @@ use Rattle.sm_tree.specs.declared.path.Step.TheVariants.{Member, Index, Key}
 use Rattle.sm_time.specs.declared.format.Format.{Format}
 use Rattle.sm_time.specs.declared.format.Format.TheVariants.{EpochSeconds}
 use Rattle.sm_shapes.specs.Names.{NoneIs, AllDiffer}
-use Rattle.sm_shapes.specs.Values.{Val, Vals, EntryVals, FieldVals, null_val, bool_val, int_val, text_val, blob_val, time_val, list_val, map_val, structure_val, union_val, no_vals, val, no_entries, entry, no_fields, field, keys_of}
+use Rattle.sm_shapes.specs.Values.{Val, Vals, EntryVals, FieldVals, null_val, bool_val, int_val, text_val, blob_val, time_val, list_val}
+use Rattle.sm_shapes.specs.Values.{map_val, structure_val, union_val, no_vals, val, no_entries, entry, no_fields, field, keys_of}
 use Rattle.sm_shapes.specs.TableData.{name_at}
 use Rattle.sm_shapes.specs.Places.{Place, member_place, members_of_place, shape_of, kind_of, format_of, sparse_of, entry_place, value_place}
 use Rattle.sm_shapes.specs.Fitting.{Fits, FitEntries, FitPairs, FitFields, MayBeAbsent, FitsOrNull, IsOfKind}
@@ -29,8 +30,10 @@ use Rattle.sm_codec.specs.Sorts.{Sort, simple, sort_by, sort_of}
 use Rattle.sm_codec.specs.Codec.{Codec, wire_name, InTable}
 use Rattle.sm_codec.specs.CodecLaws.{WrittenSpells}
 use Rattle.sm_codec.specs.Named.{named, names_of, is_null}
-use Rattle.sm_codec.specs.Spelling.{IsLeaf, Spelled, SpelledEntries, SpelledPairs, SpelledFields, SpelledOrNull, NoneOrNull, StandNot, AreAbsent, AreKeys}
-use Rattle.sm_codec.specs.Written.{written, written_leaf, written_entries, written_pairs, written_fields, uncarried, uncarried_leaf, uncarried_entries, uncarried_pairs, uncarried_fields, paths_under}
+use Rattle.sm_codec.specs.Spelling.{IsLeaf, Spelled, SpelledEntries, SpelledPairs, SpelledFields, SpelledOrNull, NoneOrNull, StandNot}
+use Rattle.sm_codec.specs.Spelling.{AreAbsent, AreKeys}
+use Rattle.sm_codec.specs.Written.{written, written_leaf, written_entries, written_pairs, written_fields, uncarried, uncarried_leaf}
+use Rattle.sm_codec.specs.Written.{uncarried_entries, uncarried_pairs, uncarried_fields, paths_under}
 use Rattle.sm_codec.proofs.NoFaults.{none_first, none_behind}
 use Rattle.sm_codec.proofs.ChildLists.{each_node, each_pair, nodes_back, members_back, null_is}
 use Rattle.sm_codec.proofs.PlacesIn.{sort_of_kind, shape_in, members_stand, stand_at, member_splits, entry_in, value_in}

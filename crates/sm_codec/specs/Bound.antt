@@ -10,7 +10,8 @@ use Rattle.sm_shapes.specs.Places.{Place, root_place, member_place, entry_place,
 use Rattle.sm_codec.specs.Sorts.{Sort, simple, a_list, a_map, a_structure, a_union}
 use Rattle.sm_codec.specs.Codec.{Codec, sort_at}
 use Rattle.sm_codec.specs.CodecLaws.{IsCodec}
-use Rattle.sm_codec.specs.Decoding.{Outcome, good, bad, Frame, structure_frame, union_frame, list_frame, map_frame, tagged_frame, skip_frame, Decoding}
+use Rattle.sm_codec.specs.Decoding.{Outcome, good, bad, Frame, structure_frame, union_frame, list_frame, map_frame, tagged_frame}
+use Rattle.sm_codec.specs.Decoding.{skip_frame, Decoding}
 use Rattle.sm_codec.specs.Walk.{Level, list_level, object_level, pair_level, levels_open, tags_outside, kept_levels, member_at}
 use Rattle.sm_codec.specs.Kept.{Kept}
 

@@ -1,7 +1,8 @@
 -- The conventions of JSON (RFC 8259), of CBOR (RFC 8949), and of the nodes of models: names, and how simple values are spelled
 -- (Smithy 2.0, "Simple types", "timestampFormat trait", "jsonName trait", and the pages of the AWS JSON protocols and of Smithy
 -- RPC v2 CBOR).
-use Rattle.std.specs.Prelude.{ℕ, ◌==◌, ℤ, pos, ◌*ℤ◌, int_le, int_div, int_rem, Bool, true, false, ◌&&◌, ◌||◌, cond, List, Option, Some, None, Result, Ok, Err}
+use Rattle.std.specs.Prelude.{ℕ, ◌==◌, ℤ, pos, ◌*ℤ◌, int_le, int_div, int_rem, Bool, true, false, ◌&&◌, ◌||◌, cond, List, Option, Some}
+use Rattle.std.specs.Prelude.{None, Result, Ok, Err}
 use Rattle.std.specs.Ordering.{int_eq}
 use Rattle.std.specs.List.{list_any}
 use Rattle.std.specs.Str.{is_utf8}

@@ -14,9 +14,13 @@ use Rattle.sm_codec.specs.Sorts.{a_list, a_map, a_structure, a_union}
 use Rattle.sm_codec.specs.Codec.{Codec, sort_at, InTable}
 use Rattle.sm_codec.specs.Named.{named, names_of, in_byte_order}
 use Rattle.sm_codec.specs.FaultLists.{FaultAt, first_fault, Reading}
-use Rattle.sm_codec.specs.Readings.{Child, ByMember, under_names, children_of, named_children_of, entry_reading, entries_faults, entries_values, keyed, pairs_faults, present_reading, member_fields, members_faults, so_far_absent, repeats, all_standing, union_faults, reading}
-use Rattle.sm_codec.specs.Decoding.{Outcome, good, bad, MemberFrame, EntryFrame, KeyFrame, Frame, structure_frame, union_frame, list_frame, map_frame, tagged_frame, skip_frame, Decoding}
-use Rattle.sm_codec.specs.Walk.{Level, list_level, object_level, pair_level, Due, due_at, due_tagged, due_passed, due_nowhere, levels_open, due_in, kept_levels, member_at}
+use Rattle.sm_codec.specs.Readings.{Child, ByMember, under_names, children_of, named_children_of, entry_reading, entries_faults}
+use Rattle.sm_codec.specs.Readings.{entries_values, keyed, pairs_faults, present_reading, member_fields, members_faults, so_far_absent}
+use Rattle.sm_codec.specs.Readings.{repeats, all_standing, union_faults, reading}
+use Rattle.sm_codec.specs.Decoding.{Outcome, good, bad, MemberFrame, EntryFrame, KeyFrame, Frame, structure_frame, union_frame}
+use Rattle.sm_codec.specs.Decoding.{list_frame, map_frame, tagged_frame, skip_frame, Decoding}
+use Rattle.sm_codec.specs.Walk.{Level, list_level, object_level, pair_level, Due, due_at, due_tagged, due_passed, due_nowhere}
+use Rattle.sm_codec.specs.Walk.{levels_open, due_in, kept_levels, member_at}
 
 -- the values that trees under one name spell for a member, and for each of these members
 abbrev pub each_field : ℕ → List Child → List (ℕ × Val)

@@ -6,7 +6,8 @@ use Rattle.sm_tree.specs.Node.{Node, Nodes, Members, list, object, no_nodes, nod
 use Rattle.sm_tree.specs.declared.path.Step.TheVariants.{Member, Index, Key}
 use Rattle.sm_shapes.specs.Values.{Val, null_val, text_val, list_val, map_val, structure_val, union_val, vals_of, entries_of, fields_of}
 use Rattle.sm_shapes.specs.TableData.{TableData, name_at, required_at, default_at}
-use Rattle.sm_shapes.specs.Places.{Place, member_place, members_of_place, constraints_of, unique_of, sparse_of, entry_place, key_place, value_place}
+use Rattle.sm_shapes.specs.Places.{Place, member_place, members_of_place, constraints_of, unique_of, sparse_of, entry_place, key_place}
+use Rattle.sm_shapes.specs.Places.{value_place}
 use Rattle.sm_shapes.specs.Broken.{length_broken, has_twice}
 use Rattle.sm_shapes.specs.Fitting.{Test}
 use Rattle.sm_shapes.specs.declared.fault.FaultKind.{FaultKind}

@@ -5,7 +5,8 @@ use Rattle.sm_time.specs.declared.format.Format.TheVariants.{EpochSeconds}
 use Rattle.sm_shapes.specs.TableData.{TableData}
 use Rattle.sm_shapes.specs.Places.{Place, kind_of, format_of}
 use Rattle.sm_shapes.specs.declared.kinds.ShapeKind.{ShapeKind}
-use Rattle.sm_shapes.specs.declared.kinds.ShapeKind.TheVariants.{Blob, Boolean, Text, Enum, Byte, Short, Integer, IntEnum, Long, Timestamp, List, Map, Structure, Union, LeftOut}
+use Rattle.sm_shapes.specs.declared.kinds.ShapeKind.TheVariants.{Blob, Boolean, Text, Enum, Byte, Short, Integer, IntEnum, Long}
+use Rattle.sm_shapes.specs.declared.kinds.ShapeKind.TheVariants.{Timestamp, List, Map, Structure, Union, LeftOut}
 use Rattle.sm_codec.specs.declared.simple.Simple.{Simple}
 use Rattle.sm_codec.specs.declared.simple.Simple.TheVariants as the
 

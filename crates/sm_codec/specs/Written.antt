@@ -4,7 +4,8 @@ use Rattle.std.specs.Prelude.{ℕ, suc, cond, List, [], ◌∷◌, ◌++◌, map
 use Rattle.sm_tree.specs.Node.{Node, Nodes, Members, null, list, object, no_nodes, node, no_members, member}
 use Rattle.sm_tree.specs.declared.path.Step.{Step}
 use Rattle.sm_tree.specs.declared.path.Step.TheVariants.{Member, Index, Key}
-use Rattle.sm_shapes.specs.Values.{Val, Vals, EntryVals, FieldVals, null_val, bool_val, int_val, text_val, blob_val, time_val, list_val, map_val, structure_val, union_val, no_vals, val, no_entries, entry, no_fields, field}
+use Rattle.sm_shapes.specs.Values.{Val, Vals, EntryVals, FieldVals, null_val, bool_val, int_val, text_val, blob_val, time_val, list_val}
+use Rattle.sm_shapes.specs.Values.{map_val, structure_val, union_val, no_vals, val, no_entries, entry, no_fields, field}
 use Rattle.sm_shapes.specs.TableData.{TableData, name_at}
 use Rattle.sm_shapes.specs.Places.{Place, member_place, entry_place, value_place}
 use Rattle.sm_codec.specs.Convention.{Convention}

@@ -1,5 +1,6 @@
 -- What stands at a place of a list: in front of more, behind it, in a part, and after a store.
-use Rattle.std.proofs.Common.{◌≡◌, ◌⊎◌, inl, inr, ℕ, zero, suc, ◌+◌, ◌<◌, ◌≤◌, List, [], ◌∷◌, ◌++◌, length, take, drop, set, map, get_or, Some, refl, sym}
+use Rattle.std.proofs.Common.{◌≡◌, ◌⊎◌, inl, inr, ℕ, zero, suc, ◌+◌, ◌<◌, ◌≤◌, List, [], ◌∷◌, ◌++◌, length, take, drop, set, map, get_or}
+use Rattle.std.proofs.Common.{Some, refl, sym}
 use Rattle.std.proofs.Common.{◌∙◌, ap, subst, arith, ◌-◌}
 use Rattle.std.proofs.lemmas.Option.{slice_get_within, same_Some, none-some, get_or_from_slice_get, slice_get-get_or}
 use Rattle.std.specs.List.{Contains}

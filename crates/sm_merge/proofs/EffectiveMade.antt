@@ -18,7 +18,8 @@ use Rattle.sm_tree.specs.View.{node_of}
 use Rattle.sm_model.specs.Graphs.{MemberEntry, MemberGiven, text_cmp}
 use Rattle.sm_merge.specs.Mixins.{AreCopied, EffectiveMembers, EffectiveShape, IsEffective}
 use Rattle.sm_merge.specs.Mixins.{all_members, copy_of, is_copied, last_there, member_copied}
-use Rattle.sm_merge.specs.Mixins.{member_value, member_values, mixed_in, mixin_trait, names_of, no_mixins, own_member, passed_over, shape_values}
+use Rattle.sm_merge.specs.Mixins.{member_value, member_values, mixed_in, mixin_trait, names_of, no_mixins, own_member, passed_over}
+use Rattle.sm_merge.specs.Mixins.{shape_values}
 use Rattle.sm_merge.specs.Places.{names_and_targets}
 use Rattle.sm_merge.specs.Stated.{ShapeStated, Stated}
 use Rattle.sm_merge.specs.Values.{IsValueOf}

@@ -27,10 +27,12 @@ use Rattle.sm_model.proofs.MapFacts.{Each, each_joined}
 use Rattle.sm_merge.specs.Meaning.{Defined}
 use Rattle.sm_merge.specs.Merged.{IsMergedMember, IsMergedShape, StandsUnder, enum_value, with_enum_value}
 use Rattle.sm_merge.specs.Mixins.{AreCopied, AreEffectiveMembers, EffectiveMembers, EffectiveShape, IsEffective, IsEffectiveValue}
-use Rattle.sm_merge.specs.Mixins.{copy_of, effective, is_copied, last_there, member_copied, member_value, member_values, mixed_in, mixin_trait}
+use Rattle.sm_merge.specs.Mixins.{copy_of, effective, is_copied, last_there, member_copied, member_value, member_values, mixed_in}
+use Rattle.sm_merge.specs.Mixins.{mixin_trait}
 use Rattle.sm_merge.specs.Mixins.{no_mixins, passed_over, shape_values}
 use Rattle.sm_merge.specs.Places.{member_traits_at, metadata_by, metadata_values, trait_values, traits_at, values_under}
-use Rattle.sm_merge.specs.Stated.{AreFormedFiles, ShapeStated, Stated, all_said, defined_among, member_stated, stated, stated_by, traits_stated}
+use Rattle.sm_merge.specs.Stated.{AreFormedFiles, ShapeStated, Stated, all_said, defined_among, member_stated, stated, stated_by}
+use Rattle.sm_merge.specs.Stated.{traits_stated}
 use Rattle.sm_merge.specs.Values.{AllComeTo, ComeTo, IsValueOf}
 use Rattle.sm_merge.specs.steps.Folding.{AreNodes}
 use Rattle.sm_merge.proofs.EffectiveSound.{GivesNodes, effective_sound, some_left, some_of}

@@ -1,5 +1,6 @@
 -- Members of mixins one after the other, each name once: two lists, and one entry of a table of members.
-use Rattle.std.proofs.Common.{◌≡◌, ℕ, zero, suc, ◌<◌, Bool, false, cond, List, [], ◌∷◌, ◌++◌, filter, length, get_or, refl, sym, ap, subst, ◌∙◌}
+use Rattle.std.proofs.Common.{◌≡◌, ℕ, zero, suc, ◌<◌, Bool, false, cond, List, [], ◌∷◌, ◌++◌, filter, length, get_or, refl, sym, ap}
+use Rattle.std.proofs.Common.{subst, ◌∙◌}
 use Rattle.std.proofs.Common.{append_assoc, arith, bytes_eq}
 use Rattle.std.specs.Prelude.{◌||◌, not}
 use Rattle.std.specs.Global.{Vec}

@@ -1,5 +1,6 @@
 -- Events for members that are defined again with another target are those of the definition.
-use Rattle.std.proofs.Common.{◌≡◌, ◌⊎◌, inl, inr, ℕ, zero, suc, ◌<◌, ◌≤◌, Bool, true, false, List, [], ◌∷◌, ◌++◌, length, Option, Some, None}
+use Rattle.std.proofs.Common.{◌≡◌, ◌⊎◌, inl, inr, ℕ, zero, suc, ◌<◌, ◌≤◌, Bool, true, false, List, [], ◌∷◌, ◌++◌, length, Option, Some}
+use Rattle.std.proofs.Common.{None}
 use Rattle.std.proofs.Common.{refl, sym, ap, subst, ◌∙◌, arith, bytes_eq}
 use Rattle.std.specs.Prelude.{◌↔◌, if◌then◌else◌, not}
 use Rattle.std.specs.Global.{Vec}
@@ -29,7 +30,8 @@ use Rattle.sm_merge.specs.declared.mixins.Contributing.{Contributing}
 use Rattle.sm_merge.specs.declared.parts.BareShape.{BareShape}
 use Rattle.sm_merge.specs.declared.table.PlaceRow.{PlaceRow}
 use Rattle.sm_merge.specs.declared.walk.Walk.{Walk}
-use Rattle.sm_merge.proofs.Amongs.{Among, among_back, among_either, among_flat, among_from, among_front, among_map, among_to, flat_among, map_among}
+use Rattle.sm_merge.proofs.Amongs.{Among, among_back, among_either, among_flat, among_from, among_front, among_map, among_to, flat_among}
+use Rattle.sm_merge.proofs.Amongs.{map_among}
 use Rattle.sm_merge.proofs.Ats.{at_there, at_within}
 use Rattle.sm_merge.proofs.EffectiveAll.{shape_row}
 use Rattle.sm_merge.proofs.EffectiveMade.{target_found}

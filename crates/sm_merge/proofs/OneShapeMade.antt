@@ -15,7 +15,8 @@ use Rattle.sm_merge.specs.Mixins.{all_members, each_once, member_values, mixin_t
 use Rattle.sm_merge.specs.Places.{names_and_targets, trait_values}
 use Rattle.sm_merge.specs.Stated.{ShapeStated, Stated}
 use Rattle.sm_merge.specs.steps.EffectiveTables.{effective_member, traits_map, traits_of_member}
-use Rattle.sm_merge.specs.steps.Filling.{AreFirstRows, AreTraitsFrom, copied_at, folded_rows, given_rows, kept_at, kept_by, last_first, member_lists, member_rows}
+use Rattle.sm_merge.specs.steps.Filling.{AreFirstRows, AreTraitsFrom, copied_at, folded_rows, given_rows, kept_at, kept_by, last_first}
+use Rattle.sm_merge.specs.steps.Filling.{member_lists, member_rows}
 use Rattle.sm_merge.specs.steps.Filling.{members_at, mixed_members, shape_rows}
 use Rattle.sm_merge.specs.steps.Firsts.{NamesAndTargets, firsts}
 use Rattle.sm_merge.specs.steps.Folding.{IsFolded}

@@ -1,5 +1,6 @@
 -- Events of members and of what traits are applied to, one after the other.
-use Rattle.std.proofs.Common.{◌≡◌, ℕ, Bool, true, false, cond, List, [], ◌∷◌, ◌++◌, map, Option, Some, refl, sym, ap, ◌∙◌, append-nil, append_assoc}
+use Rattle.std.proofs.Common.{◌≡◌, ℕ, Bool, true, false, cond, List, [], ◌∷◌, ◌++◌, map, Option, Some, refl, sym, ap, ◌∙◌, append-nil}
+use Rattle.std.proofs.Common.{append_assoc}
 use Rattle.std.proofs.Common.{bytes_eq}
 use Rattle.std.specs.Prelude.{if◌then◌else◌, not}
 use Rattle.std.specs.Global.{Vec}
@@ -15,7 +16,8 @@ use Rattle.sm_merge.specs.steps.Filling.{all_targets, id_in, own_in}
 use Rattle.sm_merge.specs.steps.Firsts.{NamesAndTargets, targets_view}
 use Rattle.sm_merge.specs.steps.Links.{At}
 use Rattle.sm_merge.specs.steps.MixedIn.{vec_items}
-use Rattle.sm_merge.specs.steps.PlaceEvents.{Firsts, applied_events, first_among, if_other, is_other, others_among, others_at, places_at, target_in}
+use Rattle.sm_merge.specs.steps.PlaceEvents.{Firsts, applied_events, first_among, if_other, is_other, others_among, others_at, places_at}
+use Rattle.sm_merge.specs.steps.PlaceEvents.{target_in}
 use Rattle.sm_merge.specs.declared.firsts.NamedTarget.{NamedTarget}
 use Rattle.sm_merge.specs.declared.mixins.Contributing.{Contributing}
 use Rattle.sm_merge.specs.declared.parts.BareShape.{BareShape}

@@ -31,7 +31,8 @@ use Rattle.sm_merge.specs.steps.Walking.{IsWalked}
 use Rattle.sm_merge.specs.declared.parts.BareShape.{BareShape}
 use Rattle.sm_merge.specs.declared.walk.Walk.{Walk}
 use Rattle.sm_merge.proofs.Cycles.{cycle_ring}
-use Rattle.sm_merge.proofs.Ats.{at_contained, at_either_one, at_front, at_last, at_map, at_mapped, at_one, at_there, at_within, contains_at, sides}
+use Rattle.sm_merge.proofs.Ats.{at_contained, at_either_one, at_front, at_last, at_map, at_mapped, at_one, at_there, at_within}
+use Rattle.sm_merge.proofs.Ats.{contains_at, sides}
 
 tied : (id : List ℕ) → eq_by_cmp text_cmp id id ≡ true
 tied id = ap is_eq (tied_order nat_list_cmp_total id)

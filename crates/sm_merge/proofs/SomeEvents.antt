@@ -12,7 +12,8 @@ use Rattle.sm_model.specs.PreludeShapes.{unit_id}
 use Rattle.sm_model.proofs.MapFacts.{keys}
 use Rattle.sm_merge.specs.Laws.{SomeEvents}
 use Rattle.sm_merge.specs.Merged.{AreEventsOf, HasTraitConflict, IsThere, IsWrong, model_event}
-use Rattle.sm_merge.specs.Merged.{applied_to_nothing, bad_mixin, defined_otherwise, metadata_conflict, other_shape, stated_again, trait_conflict}
+use Rattle.sm_merge.specs.Merged.{applied_to_nothing, bad_mixin, defined_otherwise, metadata_conflict, other_shape, stated_again}
+use Rattle.sm_merge.specs.Merged.{trait_conflict}
 use Rattle.sm_merge.specs.Mixins.{AreCopied, EffectiveShape, all_members}
 use Rattle.sm_merge.specs.Places.{metadata_by, mixins_of, shape_under, traits_at}
 use Rattle.sm_merge.specs.Stated.{ShapeStated, Stated, apply_stated, metadata_stated, shape_stated, stated_by}

@@ -8,7 +8,8 @@ use Rattle.sm_merge.specs.declared.walk.Status.{Status}
 use Rattle.sm_merge.specs.declared.walk.Status.TheVariants.{New, Begun, Finished}
 use Rattle.sm_merge.specs.steps.Links.{Links, At, LeadsTo, Comes, AreLinks}
 use Rattle.sm_merge.specs.steps.Walking.{IsDone, AreParts, IsGrounded, AllReach}
-use Rattle.sm_merge.proofs.Ats.{at_within, at_one, at_front, at_behind, at_last, at_either, at_either_one, at_low, at_stored, at_other, at_was}
+use Rattle.sm_merge.proofs.Ats.{at_within, at_one, at_front, at_behind, at_last, at_either, at_either_one, at_low, at_stored, at_other}
+use Rattle.sm_merge.proofs.Ats.{at_was}
 use Rattle.sm_merge.proofs.Walked.{true_is_false, parts_kept}
 
 pub begun_at : (k j : ℕ) → Begun k ≡ Begun j → k ≡ j

@@ -6,7 +6,8 @@ use Rattle.std.proofs.lemmas.Option.{none-some, same_Some}
 use Rattle.sm_merge.specs.declared.walk.Part.{Part}
 use Rattle.sm_merge.specs.declared.walk.Status.{Status}
 use Rattle.sm_merge.specs.steps.Links.{Links, At, Reaches, Comes}
-use Rattle.sm_merge.specs.steps.Walking.{IsDone, StandsFrom, HasSource, first_open, IsKept, IsSegment, IsTied, AreParts, IsGrounded, AllReach}
+use Rattle.sm_merge.specs.steps.Walking.{IsDone, StandsFrom, HasSource, first_open, IsKept, IsSegment, IsTied, AreParts, IsGrounded}
+use Rattle.sm_merge.specs.steps.Walking.{AllReach}
 use Rattle.sm_merge.proofs.Ats.{at_within, at_there, at_front, at_last, at_either_one, sides}
 use Rattle.sm_merge.proofs.Ways.{one_way, comes_reaches, reaches_comes}
 

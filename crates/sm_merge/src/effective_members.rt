@@ -2,7 +2,8 @@
 ghost use Rattle.std.specs.Prelude.{◌≡◌, [], ◌∷◌, length, IfOk, OnOk, if◌then◌else◌};
 ghost use Rattle.std.specs.Str.{bytes_eq};
 ghost use Rattle.sm_model.specs.steps.Rising.{Rise};
-ghost use Rattle.sm_merge.specs.steps.Filling.{AreFirstRows, folded_rows, given_rows as given_to, kept_by, kept_of, last_first, member_rows};
+ghost use Rattle.sm_merge.specs.steps.Filling.{AreFirstRows, folded_rows, given_rows as given_to, kept_by, kept_of, last_first};
+ghost use Rattle.sm_merge.specs.steps.Filling.{member_rows};
 ghost use Rattle.sm_merge.specs.steps.Firsts.{targets_view};
 ghost use Rattle.sm_merge.specs.steps.Groups.{groups_view};
 ghost use Rattle.sm_merge.specs.steps.MemberLists.{AreMemberTraits, ComeToFirsts, joined_rows, PutsRows};

@@ -5,7 +5,8 @@
 ghost use Rattle.std.specs.Prelude.{◌≡◌, ◌<◌, ◌≤◌, ◌++◌, ℕ, List, length, get_or, Some, None, IfOk, OnOk};
 ghost use Rattle.sm_merge.specs.declared.walk.Status.TheVariants.{Begun, New};
 ghost use Rattle.sm_merge.specs.steps.Links.{AreLinks, At, Links, links_view};
-ghost use Rattle.sm_merge.specs.steps.Walking.{AllReach, AreMarked, HasFinished, HasGone, IsIdle, IsMet, IsWalked, IsWalking, KeepsMet, TakesStep};
+ghost use Rattle.sm_merge.specs.steps.Walking.{AllReach, AreMarked, HasFinished, HasGone, IsIdle, IsMet, IsWalked, IsWalking, KeepsMet};
+ghost use Rattle.sm_merge.specs.steps.Walking.{TakesStep};
 ghost use Rattle.sm_merge.specs.steps.Walking.{is_ring};
 
 use sm_tree::NoMemory;

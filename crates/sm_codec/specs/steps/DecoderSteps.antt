@@ -10,7 +10,8 @@ use Rattle.sm_shapes.specs.declared.fault.FaultKind.TheVariants.{WrongType}
 use Rattle.sm_shapes.specs.declared.kinds.ShapeKind.TheVariants.{Map}
 use Rattle.sm_codec.specs.declared.simple.Simple.{Simple}
 use Rattle.sm_codec.specs.Codec.{InTable}
-use Rattle.sm_codec.specs.Decoding.{Outcome, good, bad, MemberFrame, EntryFrame, KeyFrame, Frame, structure_frame, union_frame, list_frame, map_frame, tagged_frame, skip_frame, Decoding}
+use Rattle.sm_codec.specs.Decoding.{Outcome, good, bad, MemberFrame, EntryFrame, KeyFrame, Frame, structure_frame, union_frame}
+use Rattle.sm_codec.specs.Decoding.{list_frame, map_frame, tagged_frame, skip_frame, Decoding}
 use Rattle.sm_codec.specs.Walk.{Due, due_at, due_tagged, due_passed}
 use Rattle.sm_codec.specs.steps.Arrivals.{Arrival, null_comes, value_comes, fault_comes, comes}
 use Rattle.sm_codec.specs.steps.ClosingSteps.{structure_end}

@@ -9,7 +9,8 @@ use Rattle.sm_shapes.specs.declared.fault.FaultKind.TheVariants.{WrongType}
 use Rattle.sm_codec.specs.Convention.{Convention, nested_fault}
 use Rattle.sm_codec.specs.Sorts.{Sort, simple, a_list, a_map, a_structure, a_union, left_out, sort_of}
 use Rattle.sm_codec.specs.Codec.{InTable}
-use Rattle.sm_codec.specs.Decoding.{MemberFrame, EntryFrame, KeyFrame, Frame, structure_frame, union_frame, list_frame, map_frame, tagged_frame, skip_frame, Decoding}
+use Rattle.sm_codec.specs.Decoding.{MemberFrame, EntryFrame, KeyFrame, Frame, structure_frame, union_frame, list_frame, map_frame}
+use Rattle.sm_codec.specs.Decoding.{tagged_frame, skip_frame, Decoding}
 use Rattle.sm_codec.specs.Named.{is_null}
 use Rattle.sm_codec.specs.Readings.{leaf_in}
 use Rattle.sm_codec.specs.steps.Arrivals.{Arrival, IsArrival}

@@ -5,7 +5,8 @@ use Rattle.sm_shapes.specs.TableData.{TableData, members_at}
 use Rattle.sm_shapes.specs.Places.{Place, member_place}
 use Rattle.sm_codec.specs.Codec.{Codec}
 use Rattle.sm_codec.specs.Decoding.{Frame, structure_frame, union_frame, list_frame, map_frame, tagged_frame, skip_frame, Decoding}
-use Rattle.sm_codec.specs.Walk.{Level, list_level, object_level, pair_level, Due, due_at, due_tagged, due_passed, due_nowhere, Opened, due_within, with_level}
+use Rattle.sm_codec.specs.Walk.{Level, list_level, object_level, pair_level, Due, due_at, due_tagged, due_passed, due_nowhere, Opened}
+use Rattle.sm_codec.specs.Walk.{due_within, with_level}
 use Rattle.sm_codec.specs.Kept.{due_frames, FramesHold}
 
 -- the frames of what is due and of the levels that are kept, while there is no outcome

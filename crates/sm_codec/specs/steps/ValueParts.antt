@@ -1,7 +1,8 @@
 -- What code knows of each part of a value that it walks over: the part's place is one of the table, and of a leaf what a word says.
 use Rattle.std.specs.Prelude.{◌≡◌, true, ◌<◌, List, [], ◌∷◌, reverse, IsUtf8, Option, Some, None}
 use Rattle.sm_tree.specs.declared.path.Step.{Step}
-use Rattle.sm_shapes.specs.Values.{Val, Vals, EntryVals, FieldVals, null_val, bool_val, int_val, text_val, blob_val, time_val, list_val, map_val, structure_val, union_val, no_vals, val, no_entries, entry, no_fields, field}
+use Rattle.sm_shapes.specs.Values.{Val, Vals, EntryVals, FieldVals, null_val, bool_val, int_val, text_val, blob_val, time_val, list_val}
+use Rattle.sm_shapes.specs.Values.{map_val, structure_val, union_val, no_vals, val, no_entries, entry, no_fields, field}
 use Rattle.sm_shapes.specs.TableData.{TableData, member_count}
 use Rattle.sm_shapes.specs.Places.{Place, member_place, entry_place, value_place}
 use Rattle.sm_codec.specs.Convention.{Convention}

@@ -9,7 +9,8 @@ ghost use Rattle.sm_shapes.specs.FieldPuts.{FieldsRise};
 ghost use Rattle.sm_codec.specs.FrameView.{member_frame, outcome_of, fault_at};
 ghost use Rattle.sm_codec.specs.Decoding.{bad};
 ghost use Rattle.sm_codec.specs.steps.MemberSteps.{at_member, first_name};
-ghost use Rattle.sm_codec.specs.steps.ClosingSteps.{must_stand, lacks, missing, put_default, defaults_put, is_before, structure_end, EndsGood, IsPlain};
+ghost use Rattle.sm_codec.specs.steps.ClosingSteps.{must_stand, lacks, missing, put_default, defaults_put, is_before, structure_end};
+ghost use Rattle.sm_codec.specs.steps.ClosingSteps.{EndsGood, IsPlain};
 ghost use Rattle.sm_shapes.specs.declared.fault.FaultKind.TheVariants.{Missing};
 
 use super::faults::{fault_here, name_first, under_member};

@@ -15,7 +15,8 @@ ghost use Rattle.sm_shapes.specs.Values.{text_val};
 ghost use Rattle.sm_shapes.specs.declared.kinds.ShapeKind.TheVariants.{Map};
 ghost use Rattle.sm_codec.specs.FrameView.{arrival_of, outcome_of, fault_at};
 ghost use Rattle.sm_codec.specs.MapView.{key_frame, held_entry, held_entries};
-ghost use Rattle.sm_codec.specs.steps.MapSteps.{first_key, at_key, goes_first, has_key, JudgesKey, pair_comes, IsKeyed, KeepsKeyFault, PutsKey, TakesKey, TakesPair, map_end};
+ghost use Rattle.sm_codec.specs.steps.MapSteps.{first_key, at_key, goes_first, has_key, JudgesKey, pair_comes, IsKeyed, KeepsKeyFault};
+ghost use Rattle.sm_codec.specs.steps.MapSteps.{PutsKey, TakesKey, TakesPair, map_end};
 
 use super::entries::as_entry;
 use super::faults::{fault_here, under_step};

@@ -9,7 +9,8 @@ ghost use Rattle.sm_codec.specs.PlaceView.{place_of};
 ghost use Rattle.sm_codec.specs.Sorts.{sort_of};
 ghost use Rattle.sm_codec.specs.StackView.{frame_of, frames_of};
 ghost use Rattle.sm_codec.specs.steps.DecoderSteps.{due_told};
-ghost use Rattle.sm_codec.specs.steps.OpeningSteps.{below, ToldIn, nested_in, tag_frame, TagBy, list_start, object_start, StartBy, CanName, FirstCanName, FrameNames, FirstNames, NameBy};
+ghost use Rattle.sm_codec.specs.steps.OpeningSteps.{below, ToldIn, nested_in, tag_frame, TagBy, list_start, object_start, StartBy};
+ghost use Rattle.sm_codec.specs.steps.OpeningSteps.{CanName, FirstCanName, FrameNames, FirstNames, NameBy};
 
 use super::{Due, EntryFrame, Frame, Frames, KeyFrame, MemberFrame};
 use crate::places::ValuePlace;

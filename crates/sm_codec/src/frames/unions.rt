@@ -5,7 +5,8 @@ ghost use Rattle.sm_shapes.specs.TableData.{shape_count, member_count, members_a
 ghost use Rattle.sm_shapes.specs.TableView.{table_data};
 ghost use Rattle.sm_shapes.specs.ValueView.{val_of, fields_view};
 ghost use Rattle.sm_codec.specs.FrameView.{member_frame, arrival_of, outcome_of, fault_at};
-ghost use Rattle.sm_codec.specs.steps.UnionSteps.{is_repeat, is_free, union_end, TellsMore, ChoosesMember, KeepsRepeat, KeepsChoice, KeepsChoiceFault};
+ghost use Rattle.sm_codec.specs.steps.UnionSteps.{is_repeat, is_free, union_end, TellsMore, ChoosesMember, KeepsRepeat, KeepsChoice};
+ghost use Rattle.sm_codec.specs.steps.UnionSteps.{KeepsChoiceFault};
 
 use super::faults::{fault_here, under_member};
 use super::{Arrival, MemberFrame, Outcome};

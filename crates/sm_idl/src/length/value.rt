@@ -5,7 +5,8 @@ ghost use Rattle.sm_tree.specs.Node.{members_of, nodes_of};
 ghost use Rattle.sm_tree.specs.Parts.{entries_in, pairs_in, text_in};
 ghost use Rattle.sm_tree.specs.View.{node_of, nodes_view, members_view};
 ghost use Rattle.sm_json.specs.Written.{written};
-ghost use Rattle.sm_idl.specs.Written.{field_line, more_ids, more_named_ids, named_id, written_id, written_ids, written_named_ids, written_pairs, written_value};
+ghost use Rattle.sm_idl.specs.Written.{field_line, more_ids, more_named_ids, named_id, written_id, written_ids, written_named_ids};
+ghost use Rattle.sm_idl.specs.Written.{written_pairs, written_value};
 
 use sm_json::{encoded_len, text_len};
 use sm_model::PropertyForm;

@@ -4,7 +4,8 @@ ghost use Rattle.sm_tree.specs.Node.{members_of, nodes_of};
 ghost use Rattle.sm_tree.specs.Parts.{entries_in, pairs_in, text_in};
 ghost use Rattle.sm_tree.specs.View.{node_of, nodes_view, members_view};
 ghost use Rattle.sm_json.specs.Written.{written};
-ghost use Rattle.sm_idl.specs.Written.{field_line, indent, more_ids, more_named_ids, named_id, written_id, written_ids, written_named_ids, written_pairs, written_value};
+ghost use Rattle.sm_idl.specs.Written.{field_line, indent, more_ids, more_named_ids, named_id, written_id, written_ids};
+ghost use Rattle.sm_idl.specs.Written.{written_named_ids, written_pairs, written_value};
 
 use super::put::{put, put_node, put_string};
 use sm_model::PropertyForm;

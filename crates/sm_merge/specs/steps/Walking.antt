@@ -1,6 +1,7 @@
 -- A walk over numbers, as far as it has come. What is begun stands in a row: each number leads to all behind it. The row is cut into
 -- parts, of which each has targets that are still to be followed.
-use Rattle.std.specs.Prelude.{◌≡◌, ◌⊎◌, ◌↔◌, ◌<◌, ◌≤◌, ◌+◌, ℕ, Bool, true, false, List, [], ◌∷◌, ◌++◌, ◌-◌, length, reverse, take, drop, get_or, IsTrue, Option, Some, None}
+use Rattle.std.specs.Prelude.{◌≡◌, ◌⊎◌, ◌↔◌, ◌<◌, ◌≤◌, ◌+◌, ℕ, Bool, true, false, List, [], ◌∷◌, ◌++◌, ◌-◌, length, reverse, take, drop}
+use Rattle.std.specs.Prelude.{get_or, IsTrue, Option, Some, None}
 use Rattle.std.specs.Prelude.{Result, Ok, Err, if◌then◌else◌}
 use Rattle.sm_tree.specs.declared.NoMemory.{NoMemory}
 use Rattle.sm_merge.specs.declared.walk.Part.{Part}

@@ -12,7 +12,9 @@ use Rattle.sm_codec.specs.PlaceView.{place_of}
 use Rattle.sm_codec.specs.Written.{written, written_entries, written_pairs, written_fields}
 use Rattle.sm_codec.specs.steps.EventsHanded.{IsReady, Came, CameUpTo, list_stream, object_stream, pair_stream}
 use Rattle.sm_codec.specs.steps.ValueParts.{EntriesHold, PairsHold, FieldsHold, carried_leaf}
-use Rattle.sm_codec.proofs.HandedEvents.{first_ready, rest_ready, came_both, last_came, list_opener_ready, list_begun, entry_ready, entry_came, object_opener_ready, object_begun, pair_ready, pair_came, entries_counted, pairs_counted, fields_counted}
+use Rattle.sm_codec.proofs.HandedEvents.{first_ready, rest_ready, came_both, last_came, list_opener_ready, list_begun, entry_ready}
+use Rattle.sm_codec.proofs.HandedEvents.{entry_came, object_opener_ready, object_begun, pair_ready, pair_came, entries_counted}
+use Rattle.sm_codec.proofs.HandedEvents.{pairs_counted, fields_counted}
 use Rattle.sm_codec.proofs.events.+hand.Goals as goal
 
 pub hand_items-hand-requires : goal.hand_items-hand-requires

@@ -16,7 +16,8 @@ use Rattle.sm_codec.specs.steps.DecoderSteps.{EndedBy}
 use Rattle.sm_codec.specs.steps.OpeningSteps.{LeafTaken, FirstNames}
 use Rattle.sm_codec.specs.steps.WalkSteps.{IsLeafAt, next_place, TreeTaken, PairTaken}
 use Rattle.sm_codec.proofs.StructureOutcome.{known_by}
-use Rattle.sm_codec.proofs.Walked.{leaf_walked, level_can_end, level_ended, list_opens, entry_took, all_entries, object_opens, pair_took, all_pairs, known_ready, known_took, unknown_took}
+use Rattle.sm_codec.proofs.Walked.{leaf_walked, level_can_end, level_ended, list_opens, entry_took, all_entries, object_opens, pair_took}
+use Rattle.sm_codec.proofs.Walked.{all_pairs, known_ready, known_took, unknown_took}
 use Rattle.sm_codec.proofs.decoder.Decoder.+walk.Goals as goal
 
 pub walk-returns-in-Leaf-clause-taken : goal.walk-returns-in-Leaf-clause-taken

@@ -5,7 +5,8 @@ use Rattle.sm_tree.specs.Streams.{MayTake}
 use Rattle.sm_tree.specs.View.{node_of}
 use Rattle.sm_tree.specs.declared.tree.Tree.TheVariants as tree
 use Rattle.sm_tree.proofs.Views.{node_null, node_bool, node_int, node_number, node_text, node_bytes, node_opaque}
-use Rattle.sm_tree.specs.declared.event.Event.TheVariants.{Null, Bool, Int, Number, Text, Bytes, Tag, Opaque, StartList, EndList, StartObject, Key, EndObject}
+use Rattle.sm_tree.specs.declared.event.Event.TheVariants.{Null, Bool, Int, Number, Text, Bytes, Tag, Opaque, StartList, EndList}
+use Rattle.sm_tree.specs.declared.event.Event.TheVariants.{StartObject, Key, EndObject}
 use Rattle.sm_shapes.specs.TableView.{table_data}
 use Rattle.sm_codec.specs.Codec.{codec_of}
 use Rattle.sm_codec.specs.Decoding as decoding
@@ -13,7 +14,8 @@ use Rattle.sm_codec.specs.DecodingView.{decoding_of}
 use Rattle.sm_codec.specs.StackView.{frames_of}
 use Rattle.sm_codec.specs.steps.DecoderSteps.{due_told, EndedBy}
 use Rattle.sm_codec.specs.steps.OpeningSteps.{TagBy, list_start, object_start, StartBy, NameBy}
-use Rattle.sm_codec.proofs.KeptMoves.{Stands, name_ready, list_end_ready, object_end_ready, tag_kept, list_kept, object_kept, name_kept, list_end_kept, object_end_kept}
+use Rattle.sm_codec.proofs.KeptMoves.{Stands, name_ready, list_end_ready, object_end_ready, tag_kept, list_kept, object_kept, name_kept}
+use Rattle.sm_codec.proofs.KeptMoves.{list_end_kept, object_end_kept}
 use Rattle.sm_codec.proofs.EventMoves.{event_ready, took, leaf_took}
 use Rattle.sm_codec.proofs.decoder.Decoder.event.Goals as goal
 
