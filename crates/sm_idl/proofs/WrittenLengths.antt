@@ -38,7 +38,8 @@ other_counts shapes namespace o id h other =
 
 -- a shape, by what its look-ups say
 pub shape_length : (shapes : ShapeMap) (o : Found) (name : List ℕ) (kind : Kind) (members : List (List ℕ)) (body : Node)
-    (traits : NodePairs) (n : ℕ) → IsSomeAnd o (λ e. HasKind kind e.1) → IsSomeAnd o (λ e. HasMembers members e.1) → IsSomeAnd o (λ e. HasBodyNode body e.1)
+    (traits : NodePairs) (n : ℕ) → IsSomeAnd o (λ e. HasKind kind e.1) → IsSomeAnd o (λ e. HasMembers members e.1)
+    → IsSomeAnd o (λ e. HasBodyNode body e.1)
     → IsSomeAnd o (λ e. fin.entries (traits_in e.1) ≡ traits)
     → n ≡ length_word (length (((line_feed ∷ []) ++ trait_lines [] traits) ++ stated_text shapes name kind members body))
     → IsSomeAnd o (λ e. IsShapeLength shapes name n e.1)

@@ -67,12 +67,14 @@ module _ {A B : Type 0} where
 
 -- what is found stands among, and a name that stands among is found
 module _ {X : Type 0} where
-  pub among_found : (k : List ℕ) (es : List (List ℕ × X)) (x : X) → find text_cmp k es ≡ Some x → (e : List ℕ × X) × Among e es × (e.0 ≡ k) × (e.1 ≡ x)
+  pub among_found : (k : List ℕ) (es : List (List ℕ × X)) (x : X) → find text_cmp k es ≡ Some x
+      → (e : List ℕ × X) × Among e es × (e.0 ≡ k) × (e.1 ≡ x)
   among_found k [] x h = absurd (none-some x h)
   among_found k (e ∷ es) x h = by (bytes_eq e.0 k) refl (λ f. among_found k es x f)
     where
       by : (b : Bool) → bytes_eq e.0 k ≡ b
-          → (find text_cmp k es ≡ Some x → (d : List ℕ × X) × Among d es × (d.0 ≡ k) × (d.1 ≡ x)) → (d : List ℕ × X) × Among d (e ∷ es) × (d.0 ≡ k) × (d.1 ≡ x)
+          → (find text_cmp k es ≡ Some x → (d : List ℕ × X) × Among d es × (d.0 ≡ k) × (d.1 ≡ x))
+          → (d : List ℕ × X) × Among d (e ∷ es) × (d.0 ≡ k) × (d.1 ≡ x)
       by true is later = (e, inl refl, (bytes_eq-Decides e.0 k).0 is, same_Some e.1 x (sym (here k e es is) ∙ h))
       by false is later = let rest = later (sym (passed k e es is) ∙ h) in (rest.0, inr rest.1, rest.2, rest.3)
 
@@ -80,7 +82,8 @@ module _ {X : Type 0} where
   found_among e [] h = absurd h
   found_among e (d ∷ es) h = by (bytes_eq d.0 e.0) refl (λ a. found_among e es a) h
     where
-      by : (b : Bool) → bytes_eq d.0 e.0 ≡ b → (Among e es → (x : X) × (find text_cmp e.0 es ≡ Some x)) → Among e (d ∷ es) → (x : X) × (find text_cmp e.0 (d ∷ es) ≡ Some x)
+      by : (b : Bool) → bytes_eq d.0 e.0 ≡ b → (Among e es → (x : X) × (find text_cmp e.0 es ≡ Some x)) → Among e (d ∷ es)
+          → (x : X) × (find text_cmp e.0 (d ∷ es) ≡ Some x)
       by true is step all = (d.1, here e.0 d es is)
       by false is step (inl same) =
           absurd (true≢false (sym ((bytes_eq-Decides d.0 e.0).1 (ap (λ (z : List ℕ × X). z.0) same)) ∙ is))
@@ -91,7 +94,8 @@ pub among_any : (id : List ℕ) (ks : List (List ℕ)) → list_any (λ k. bytes
 among_any id [] h = absurd (true≢false (sym h))
 among_any id (k ∷ ks) h = by (bytes_eq k id) refl (λ a. among_any id ks a) h
   where
-    by : (b : Bool) → bytes_eq k id ≡ b → (list_any (λ k. bytes_eq k id) ks ≡ true → Among id ks) → (b || list_any (λ k. bytes_eq k id) ks) ≡ true → Among id (k ∷ ks)
+    by : (b : Bool) → bytes_eq k id ≡ b → (list_any (λ k. bytes_eq k id) ks ≡ true → Among id ks)
+        → (b || list_any (λ k. bytes_eq k id) ks) ≡ true → Among id (k ∷ ks)
     by true is step rest = inl ((bytes_eq-Decides k id).0 is)
     by false is step rest = inr (step rest)
 

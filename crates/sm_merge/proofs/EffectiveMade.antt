@@ -202,7 +202,8 @@ module _ (members : List (Vec NamedTarget)) (all : List ShapeTraits) where
 
       by : (o : Option (List ℕ)) → find text_cmp name (members_at members c.number) ≡ o
           → option_map value_node (find text_cmp t (kept_at name all c))
-          ≡ member_value t (option_map member_copied (option_map (λ target. (effective_member (member_lists (slice_get all c.number)) (name, target)).1) o))
+          ≡ member_value t (option_map member_copied (option_map
+          (λ target. (effective_member (member_lists (slice_get all c.number)) (name, target)).1) o))
       by None is =
           no_value mixin_trait t (folded_rows (traits_of_member name (member_lists (slice_get all c.number)))) (none name t is)
       by (Some target) is = removed_value mixin_trait t (traits_of_member name (member_lists (slice_get all c.number)))
@@ -245,6 +246,8 @@ module _ (members : List (Vec NamedTarget)) (all : List ShapeTraits) where
     copied_by (mixin ∷ mixins) cs (inr (c, told, rest, is, more)) h =
         let each : AllEffective (c ∷ rest) = subst AllEffective is h in
         subst (λ xs. AreCopied ss s (mixin ∷ mixins) (copies_at members all xs)) (sym is)
-        (subst (λ n. AreCopied ss s (mixin ∷ mixins) (copy_of n (shape_at_number members all c.number) ∷ copies_at members all rest)) told.value
-        (mixed_in s mixin mixins told.contributes (shape_at_number members all c.number) (copies_at members all rest) (each.0 mixin told.there)
+        (subst (λ n. AreCopied ss s (mixin ∷ mixins) (copy_of n (shape_at_number members all c.number) ∷ copies_at members all rest))
+        told.value
+        (mixed_in s mixin mixins told.contributes (shape_at_number members all c.number) (copies_at members all rest)
+        (each.0 mixin told.there)
         (copied_by mixins rest more each.1)))

@@ -118,4 +118,8 @@ error_among (f ∷ es) e h c = elim (contains_either f e es c) [
 
 pub errors_among : (es fs : List ModelEvent) → ((e : ModelEvent) → Contains fs e → Contains es e) → AreErrors es → AreErrors fs
 errors_among es [] kept h = tt
-errors_among es (f ∷ fs) kept h = (error_among es f h (kept f (contains_head f fs)), errors_among es fs (λ e c. kept e (contains_behind f e fs c)) h)
+errors_among es (f ∷ fs) kept h = (
+  error_among es f h (kept f (contains_head f fs)),
+  errors_among es fs
+      (λ e c. kept e (contains_behind f e fs c)) h,
+)

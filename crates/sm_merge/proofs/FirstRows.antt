@@ -156,7 +156,8 @@ rises_once : (es : List NamedFolded) → Climb es → Rise (trait_names (dedup s
 rises_once [] h = tt
 rises_once (e ∷ es) h = rises_from e es h
 
-pub first_rows_are : (xs ys zs : List NamedFolded) → IsPermutation xs ys → IsSortedBy before ys → IsStableBy before xs ys → zs ≡ dedup same ys
+pub first_rows_are : (xs ys zs : List NamedFolded) → IsPermutation xs ys → IsSortedBy before ys → IsStableBy before xs ys
+    → zs ≡ dedup same ys
     → AreFirstRows (folded_rows xs) zs
 first_rows_are xs ys zs moved up stable is = subst (AreFirstRows (folded_rows xs)) (sym is) (record {
   rise = rises_once ys (climbs ys up);

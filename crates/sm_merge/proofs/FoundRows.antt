@@ -22,7 +22,8 @@ pub same_key : (k l : List ℕ) → text_cmp k l ≡ Equal → k ≡ l
 same_key k l e = slice_cmp-IsAntisymmetric nat_cmp-IsAntisymmetric k l e
 
 module _ {X : Type 0} where
-  pub find_joined : (k : List ℕ) (es fs : List (List ℕ × X)) → find text_cmp k (es ++ fs) ≡ option_or (find text_cmp k es) (find text_cmp k fs)
+  pub find_joined : (k : List ℕ) (es fs : List (List ℕ × X)) → find text_cmp k (es ++ fs) ≡ option_or (find text_cmp k es)
+      (find text_cmp k fs)
   find_joined k [] fs = refl
   find_joined k (e ∷ es) fs = by (is_eq (text_cmp k e.0)) (find_joined k es fs)
     where

@@ -187,7 +187,8 @@ shape_last : (copied : List EffectiveShape) → CopiesHold copied → (t : List 
 shape_last [] h t n is = absurd (none-some n is)
 shape_last (m ∷ copied) h t n is = by_rest (λ rest. shape_last copied h.1 t n rest) (last_there (shape_values copied t)) refl is
   where
-    by_rest : (last_there (shape_values copied t) ≡ Some n → IsNamedNode IsIdText t n) → (o : Option Node) → last_there (shape_values copied t) ≡ o → option_or o (fin.get m.traits t) ≡ Some n
+    by_rest : (last_there (shape_values copied t) ≡ Some n → IsNamedNode IsIdText t n) → (o : Option Node)
+        → last_there (shape_values copied t) ≡ o → option_or o (fin.get m.traits t) ≡ Some n
         → IsNamedNode IsIdText t n
     by_rest later None same found = h.0.0 t n found
     by_rest later (Some x) same found = later (same ∙ found)
@@ -206,7 +207,8 @@ member_last [] h member t n is = absurd (none-some n is)
 member_last (m ∷ copied) h member t n is =
     by_rest (λ rest. member_last copied h.1 member t n rest) (last_there (member_values copied member t)) refl is
   where
-    by_rest : (last_there (member_values copied member t) ≡ Some n → IsNamedNode IsIdText t n) → (o : Option Node) → last_there (member_values copied member t) ≡ o
+    by_rest : (last_there (member_values copied member t) ≡ Some n → IsNamedNode IsIdText t n) → (o : Option Node)
+        → last_there (member_values copied member t) ≡ o
         → option_or o (member_value t (fin.find text_cmp member m.members)) ≡ Some n → IsNamedNode IsIdText t n
     by_rest later None same found = found_holds member m.members h.0.1 t n found
     by_rest later (Some x) same found = later (same ∙ found)
@@ -278,7 +280,75 @@ HaveNoMembers [] = Unit {0}
 HaveNoMembers (s ∷ ss) = AreUnderIds s.traits × (s.members ≡ []) × HaveNoMembers ss
 
 prelude_named : HaveNoMembers prelude_shapes
-prelude_named = (tt, refl, (tt, refl, (tt, refl, (tt, refl, (tt, refl, (tt, refl, (tt, refl, (tt, refl, (tt, refl, (tt, refl, (tt, refl, (tt, refl, (tt, refl, ((default_id, tt), refl, ((default_id, tt), refl, ((default_id, tt), refl, ((default_id, tt), refl, ((default_id, tt), refl, ((default_id, tt), refl, ((default_id, tt), refl, ((unit_type_id, tt), refl, tt)))))))))))))))))))))
+prelude_named = (
+  tt,
+  refl,
+  (
+    tt,
+    refl,
+    (
+      tt,
+      refl,
+      (
+        tt,
+        refl,
+        (
+          tt,
+          refl,
+          (
+            tt,
+            refl,
+            (
+              tt,
+              refl,
+              (
+                tt,
+                refl,
+                (
+                  tt,
+                  refl,
+                  (
+                    tt,
+                    refl,
+                    (
+                      tt,
+                      refl,
+                      (
+                        tt,
+                        refl,
+                        (
+                          tt,
+                          refl,
+                          (
+                            (default_id, tt),
+                            refl,
+                            (
+                              (default_id, tt),
+                              refl,
+                              (
+                                (default_id, tt),
+                                refl,
+                                (
+                                  (default_id, tt),
+                                  refl,
+                                  ((default_id, tt), refl, ((default_id, tt), refl, ((default_id, tt), refl, ((unit_type_id, tt), refl, tt)))),
+                                ),
+                              ),
+                            ),
+                          ),
+                        ),
+                      ),
+                    ),
+                  ),
+                ),
+              ),
+            ),
+          ),
+        ),
+      ),
+    ),
+  ),
+)
 
 both_named : (ps : List (List ℕ × Node)) → AreUnderIds ps → AreNodesUnder ps → Each (IsNamedNode IsIdText) ps
 both_named [] h is = tt
@@ -341,7 +411,8 @@ module _ (files : List (List Said)) (formed : AreFormedFiles files) where
       let there = found_has h.name h.of h.m.members h.found in
       let of_shape = effective_sound ss (gives_nodes files formed) sound h.shape h.m h.is_effective h.s h.there in
       let named = (has_each _ h.name h.of h.m.members of_shape.members there).0 in
-      let holds = has_each MemberHolds h.name h.of h.m.members (effective_holds ss (trait_named files formed) h.shape h.m h.is_effective).1 there in
+      let holds = has_each MemberHolds h.name h.of h.m.members
+      (effective_holds ss (trait_named files formed) h.shape h.m h.is_effective).1 there in
       subst (IsSoundEntry id) (sym h.is) (
         record { shape = h.shape; name = h.name; is = h.under; of_shape = subst IsShapeId under.same under.shape.id; named = named.0 },
         subst IsIdText (sym (target_kept h.s.shape.kind h.name h.of)) named.1,

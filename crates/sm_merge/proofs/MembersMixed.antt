@@ -45,7 +45,8 @@ mixin_members before after all seen now xs ys put h step =
     ap (λ l. l ++ unseen now (firsts ys)) put ∙ append_assoc before (unseen seen (firsts xs)) (unseen now (firsts ys))
     ∙ ap (λ l. before ++ l) (sym (unseen_joined seen now xs ys h)) ∙ step
 
-pub below_one : (n : ℕ) (cs : List Contributing) (i : ℕ) (c : Contributing) → AreBelow n cs → i < length cs → c ≡ get_or cs i c → c.number < n
+pub below_one : (n : ℕ) (cs : List Contributing) (i : ℕ) (c : Contributing) → AreBelow n cs → i < length cs → c ≡ get_or cs i c
+    → c.number < n
 below_one n [] i c h small is = absurd (omega (arith, small))
 below_one n (d ∷ cs) zero c h small is = subst (λ x. x.number < n) (sym is) h.0
 below_one n (d ∷ cs) (suc i) c h small is = below_one n cs i c h.1 (omega (arith, small)) is

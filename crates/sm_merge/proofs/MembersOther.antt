@@ -43,7 +43,8 @@ use Rattle.sm_merge.proofs.ShapeNumbers.{ids_count, shape_ids}
 module _ (ss : List Stated) (rows : List BareShape) (traits : List PlaceRow) (walk : Walk) (t : AreWalkedTables ss rows traits walk)
     (mixed : List (Vec Contributing)) (are : AreMixedIn ss rows mixed) (members : List (Vec NamedTarget))
     (named : AreMembersOf ss rows members) (made : AllMade ss) where
-  all_named_so : (s : ShapeStated) (mixins : List (List ℕ)) (cs : List Contributing) → MixIn ss rows s mixins cs → AllNamed ss rows members cs
+  all_named_so : (s : ShapeStated) (mixins : List (List ℕ)) (cs : List Contributing) → MixIn ss rows s mixins cs
+      → AllNamed ss rows members cs
   all_named_so s [] cs none = subst (AllNamed ss rows members) (sym none) tt
   all_named_so s (mixin ∷ mixins) cs (inl (never, rest)) = all_named_so s mixins cs rest
   all_named_so s (mixin ∷ mixins) cs (inr (c, told, rest, is, more)) =
@@ -86,7 +87,8 @@ module _ (ss : List Stated) (rows : List BareShape) (traits : List PlaceRow) (wa
       ∙ ap (find text_cmp name) (targets_of v id at_v h.0 h.1 h.2 h.3)
 
   -- one member, by what is found first under its name
-  other_told : (id : List ℕ) (p : List ℕ × List ℕ) (e : EventTold) (o : Option (List ℕ)) → Among e (if is_other o p.1 then member_event (member_id id p.0) p.1 ∷ [] else [])
+  other_told : (id : List ℕ) (p : List ℕ × List ℕ) (e : EventTold) (o : Option (List ℕ))
+      → Among e (if is_other o p.1 then member_event (member_id id p.0) p.1 ∷ [] else [])
       → (first : List ℕ) × (o ≡ Some first) × (first ≡ p.1 → ⊥) × (member_event (member_id id p.0) p.1 ≡ e)
   other_told id p e None none = absurd none
   other_told id p e (Some first) among = by (bytes_eq first p.1) refl among
@@ -102,20 +104,23 @@ module _ (ss : List Stated) (rows : List BareShape) (traits : List PlaceRow) (wa
   told_other id p first other = elim (cases_Bool (bytes_eq first p.1)) [
     | inl same ↦ absurd (other ((bytes_eq-Decides first p.1).0 same))
     | inr apart ↦
-        subst (λ b. Among (member_event (member_id id p.0) p.1) (if not b then member_event (member_id id p.0) p.1 ∷ [] else [])) (sym apart)
+        subst (λ b. Among (member_event (member_id id p.0) p.1) (if not b then member_event (member_id id p.0) p.1 ∷ [] else []))
+        (sym apart)
         (inl refl)
   ]
 
   at_told : (v : ℕ) (id : List ℕ) → At (ids_of rows) v id → id_at rows v ≡ id → (e : EventTold) → Among e (others_at rows mixed members v)
       → (i target : List ℕ) × IsDefinedOtherwise ss i target × (e ≡ member_event i target)
   at_told v id at_v same e among =
-      let p = among_flat (if_other (id_at rows v) (first_among (members_at members v))) (all_targets members (items_at mixed v) (own_at rows v)) e among in
+      let p = among_flat (if_other (id_at rows v) (first_among (members_at members v)))
+      (all_targets members (items_at mixed v) (own_at rows v)) e among in
       let o = other_told (id_at rows v) p.0 e (find text_cmp p.0.0 (members_at members v)) p.2 in
       let row = shape_row ss rows traits walk t v id at_v in
       let m = made id row.s row.there in
       let h = copies_in id m.0 m.1 in
       let whole = targets_of v id at_v h.0 h.1 h.2 h.3 in
-      let x = among_map (λ (q : List ℕ × MemberEntry). (q.0, q.1.target)) (all_members h.2 h.0.shape.members) p.0 (subst (Among p.0) (sym whole) p.1) in
+      let x = among_map (λ (q : List ℕ × MemberEntry). (q.0, q.1.target)) (all_members h.2 h.0.shape.members) p.0
+      (subst (Among p.0) (sym whole) p.1) in
       by id p.0 e same h whole x.0 x.1 x.2 o.0
       (sym (first_at v id at_v p.0.0) ∙ o.1) o.2 o.3 (find text_cmp p.0.0 (all_members h.2 h.0.shape.members)) refl
     where
@@ -175,7 +180,8 @@ module _ (ss : List Stated) (rows : List BareShape) (traits : List PlaceRow) (wa
       v_is zero zero small = inr refl
       v_is zero (suc v) small = absurd (omega (arith, small))
       v_is (suc n) zero small = inl (omega arith)
-      v_is (suc n) (suc v) small = elim (v_is n v (omega (arith, small))) [ inl less ↦ inl (omega (arith, less)) | inr same ↦ inr (ap suc same) ]
+      v_is (suc n) (suc v) small = elim (v_is n v (omega (arith, small)))
+          [ inl less ↦ inl (omega (arith, less)) | inr same ↦ inr (ap suc same) ]
 
       by : (v < n → Among e (others_below rows mixed members n)) → (v < n) ⊎ (v ≡ n)
           → Among e (others_below rows mixed members n ++ others_at rows mixed members n)
@@ -194,7 +200,8 @@ module _ (ss : List Stated) (rows : List BareShape) (traits : List PlaceRow) (wa
     λ is. among_to e (others_below rows mixed members (length rows)) (back is.0 is.1 is.2 is.3),
   )
     where
-      back : (i target : List ℕ) → IsDefinedOtherwise ss i target → e ≡ member_event i target → Among e (others_below rows mixed members (length rows))
+      back : (i target : List ℕ) → IsDefinedOtherwise ss i target → e ≡ member_event i target
+          → Among e (others_below rows mixed members (length rows))
       back i target d is =
           let n = (shape_ids ss rows t.shapes).all d.shape d.s d.there in
           let inside : n.number < length (ids_of rows) = at_within (ids_of rows) n.number d.shape n.there in
@@ -214,7 +221,9 @@ module _ (ss : List Stated) (rows : List BareShape) (traits : List PlaceRow) (wa
           told_below (length rows) n.number e small
           (flat_among (if_other (id_at rows n.number) (first_among (members_at members n.number)))
           (all_targets members (items_at mixed n.number) (own_at rows n.number)) (d.name, d.again.target) e p
-          (subst (λ o. Among e (if is_other o d.again.target then member_event (member_id (id_at rows n.number) d.name) d.again.target ∷ [] else []))
+          (subst (λ o. Among e (if is_other o d.again.target then member_event
+          (member_id (id_at rows n.number) d.name) d.again.target ∷ [] else []))
           (sym first)
-          (subst (λ x. Among x (if is_other (Some d.first.target) d.again.target then member_event (member_id (id_at rows n.number) d.name) d.again.target ∷ [] else []))
+          (subst (λ x. Among x (if is_other (Some d.first.target) d.again.target then member_event
+          (member_id (id_at rows n.number) d.name) d.again.target ∷ [] else []))
           (sym event) (told_other (id_at rows n.number) (d.name, d.again.target) d.first.target (λ one. d.other (one ∙ d.is))))))

@@ -52,7 +52,8 @@ mixin_step ss rows s mixin left mixins before after (inr (c, told, same)) h more
 
 -- those of one more shape
 abbrev pub MixedSoFar : List Stated → List BareShape → List (Vec Contributing) → Type 0
-MixedSoFar ss rows all = (v : ℕ) (id : List ℕ) (s : ShapeStated) (cs : Vec Contributing) → At (ids_of rows) v id → shape_under id ss ≡ Some s
+MixedSoFar ss rows all = (v : ℕ) (id : List ℕ) (s : ShapeStated) (cs : Vec Contributing) → At (ids_of rows) v id
+    → shape_under id ss ≡ Some s
     → At all v cs → MixIn ss rows s s.mixins cs.items
 
 pub mixed_more : (ss : List Stated) (rows : List BareShape) (traits : List PlaceRow) (walk : Walk) → AreWalkedTables ss rows traits walk
@@ -60,20 +61,22 @@ pub mixed_more : (ss : List Stated) (rows : List BareShape) (traits : List Place
     → length all ≡ i → MixedSoFar ss rows all
     → ((s : ShapeStated) → s.shape.kind ≡ row.kind → MixIn ss rows s row.mixins.items found.items)
     → MixedSoFar ss rows (all ++ found ∷ [])
-mixed_more ss rows traits walk t i row small is all found size before one v id s cs at_v there at_all = elim (at_either_one all found v cs at_all) [
-  | inl here ↦ before v id s cs at_v there here
-  | inr (last, same) ↦
-      let r = row_at ss rows t.shapes i row small is in
-      let place : v ≡ i = last ∙ size in
-      let at_i : At (ids_of rows) i id = subst (λ j. At (ids_of rows) j id) place at_v in
-      let seen : id ≡ row.id =
-      at_one (ids_of rows) i id row.id at_i
-      (at_map (λ (e : List ℕ × Bare). e.0) (shapes_view rows) i (row.id, bare_view row)
-      (at_map (λ (x : BareShape). (x.id, bare_view x)) rows i row (slice_get_read rows (length rows) i row refl small is))) in
-      let shape : r.s ≡ s = same_Some r.s s (sym r.there ∙ ap (λ k. shape_under k ss) (sym seen) ∙ there) in
-      subst (λ x. MixIn ss rows s s.mixins x.items) (sym same)
-      (subst (λ x. MixIn ss rows x x.mixins found.items) shape (subst (λ ms. MixIn ss rows r.s ms found.items) (sym r.mixins) (one r.s r.kind)))
-]
+mixed_more ss rows traits walk t i row small is all found size before one v id s cs at_v there at_all = elim
+    (at_either_one all found v cs at_all) [
+      | inl here ↦ before v id s cs at_v there here
+      | inr (last, same) ↦
+          let r = row_at ss rows t.shapes i row small is in
+          let place : v ≡ i = last ∙ size in
+          let at_i : At (ids_of rows) i id = subst (λ j. At (ids_of rows) j id) place at_v in
+          let seen : id ≡ row.id =
+          at_one (ids_of rows) i id row.id at_i
+          (at_map (λ (e : List ℕ × Bare). e.0) (shapes_view rows) i (row.id, bare_view row)
+          (at_map (λ (x : BareShape). (x.id, bare_view x)) rows i row (slice_get_read rows (length rows) i row refl small is))) in
+          let shape : r.s ≡ s = same_Some r.s s (sym r.there ∙ ap (λ k. shape_under k ss) (sym seen) ∙ there) in
+          subst (λ x. MixIn ss rows s s.mixins x.items) (sym same)
+          (subst (λ x. MixIn ss rows x x.mixins found.items) shape
+          (subst (λ ms. MixIn ss rows r.s ms found.items) (sym r.mixins) (one r.s r.kind)))
+    ]
 
 -- each shape stands behind the mixins that contribute to it
 module _ (ss : List Stated) (rows : List BareShape) (traits : List PlaceRow) (walk : Walk) (t : AreWalkedTables ss rows traits walk) where

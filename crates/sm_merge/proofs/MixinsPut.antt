@@ -80,7 +80,11 @@ pub among_more : (ss : List Stated) (s : ShapeStated) (id : List ℕ) (mixins : 
 among_more ss s id mixins mixin e = (
   λ h. elim (Contains-append_cases mixins (mixin ∷ []) h.mixin h.among) [
     | inl old ↦ inl (record { mixin = h.mixin; among = old; bad = h.bad; is = h.is })
-    | inr new ↦ let same = only_one mixin h.mixin new in inr (subst (λ m. Contributes ss s m → ⊥) same h.bad, h.is ∙ ap (mixin_event id) same)
+    | inr new ↦ let same = only_one mixin h.mixin new in inr (
+      subst (λ m. Contributes ss s m → ⊥) same h.bad,
+      h.is
+          ∙ ap (mixin_event id) same,
+    )
   ],
   λ either. elim either [
     | inl h ↦ record { mixin = h.mixin; among = Contains-append_left mixins (mixin ∷ []) h.mixin h.among; bad = h.bad; is = h.is }
@@ -88,7 +92,8 @@ among_more ss s id mixins mixin e = (
   ],
 )
 
-pub ids_more : (ss : List Stated) (s : ShapeStated) (ids : List (List ℕ)) (id : List ℕ) (mixins : List (List ℕ)) → shape_under id ss ≡ Some s
+pub ids_more : (ss : List Stated) (s : ShapeStated) (ids : List (List ℕ)) (id : List ℕ) (mixins : List (List ℕ))
+    → shape_under id ss ≡ Some s
     → s.mixins ≡ mixins → (e : EventTold)
     → TellsBadMixin ss (ids ++ id ∷ []) e ↔ (TellsBadMixin ss ids e ⊎ TellsBadAmong ss s id mixins e)
 ids_more ss s ids id mixins there are e = (

@@ -30,7 +30,8 @@ use Rattle.sm_merge.proofs.Ats.{at_map, at_mapped, at_one}
 use Rattle.sm_merge.proofs.ShapeNumbers.{HasShape, shape_at, shape_ids}
 
 -- what is found among what is given at a place
-named_same : (name : List ℕ) (given : Option (List NamedValue)) → folded_named name given ≡ find text_cmp name (named_view (unwrap_or given []))
+named_same : (name : List ℕ) (given : Option (List NamedValue))
+    → folded_named name given ≡ find text_cmp name (named_view (unwrap_or given []))
 named_same name None = refl
 named_same name (Some vs) = refl
 
@@ -84,7 +85,8 @@ module _ (ss : List Stated) (rows : List BareShape) (traits : List PlaceRow) (wa
           kind = sym (row_kind c.number may.row h may.there) ∙ may.same ∙ sym same;
           mixin_value = node_of f.value;
           marked = folded.value;
-          acyclic = λ cycle. on (is_ring (get_or walk.status.items c.number New)) may.apart ((t.walked.on_cycle c.number mixin at_w).1 cycle);
+          acyclic = λ cycle. on (is_ring (get_or walk.status.items c.number New)) may.apart
+              ((t.walked.on_cycle c.number mixin at_w).1 cycle);
         };
         value = value;
       }

@@ -52,7 +52,8 @@ module _ (traits : List PlaceRow) (id name t : List ℕ) where
           → find text_cmp t ((if b then named_view (traits_found (member_id id p.0) traits) else []) ++ given_rows traits id ps name) ≡ None
       by true is rest =
           find_joined t (named_view (traits_found (member_id id p.0) traits)) (given_rows traits id ps name)
-          ∙ first_of_none (find text_cmp t (named_view (traits_found (member_id id p.0) traits))) (find text_cmp t (given_rows traits id ps name))
+          ∙ first_of_none (find text_cmp t (named_view (traits_found (member_id id p.0) traits)))
+          (find text_cmp t (given_rows traits id ps name))
           (ap (λ n. find text_cmp t (named_view (traits_found (member_id id n) traits))) ((bytes_eq-Decides p.0 name).0 is) ∙ none)
           rest
       by false is rest = rest
@@ -71,9 +72,11 @@ module _ (traits : List PlaceRow) (id name t : List ℕ) where
           ≡ find text_cmp t (named_view (traits_found (member_id id name) traits))
       by true is rest nothing =
           find_joined t (named_view (traits_found (member_id id p.0) traits)) (given_rows traits id ps name)
-          ∙ ap (λ n. option_or (find text_cmp t (named_view (traits_found (member_id id n) traits))) (find text_cmp t (given_rows traits id ps name)))
+          ∙ ap (λ n. option_or (find text_cmp t (named_view (traits_found (member_id id n) traits)))
+          (find text_cmp t (given_rows traits id ps name)))
           ((bytes_eq-Decides p.0 name).0 is)
-          ∙ or_same (find text_cmp t (named_view (traits_found (member_id id name) traits))) (find text_cmp t (given_rows traits id ps name))
+          ∙ or_same (find text_cmp t (named_view (traits_found (member_id id name) traits)))
+          (find text_cmp t (given_rows traits id ps name))
           nothing
       by false is rest nothing = rest (sym (passed name p ps is) ∙ h)
 
@@ -101,7 +104,8 @@ module _ (ss : List Stated) (traits : List PlaceRow) (are : AreTraitsOf ss trait
     (kept : (name : List ℕ) → last_first (kept_by name all) cs ≡ last_first (kept_at name all) cs) where
   -- what is given at a place
   direct : (place t : List ℕ)
-      → MatchOption (find text_cmp t (named_view (traits_found place traits))) (trait_values ss place t ≡ []) (IsFolded (trait_values ss place t))
+      → MatchOption (find text_cmp t (named_view (traits_found place traits))) (trait_values ss place t ≡ [])
+      (IsFolded (trait_values ss place t))
   direct place t =
       subst (λ o. MatchOption o (trait_values ss place t ≡ []) (IsFolded (trait_values ss place t)))
       (found_given traits place t (find text_cmp t (named_view (traits_found place traits))) refl) (are.each place t)
@@ -109,11 +113,13 @@ module _ (ss : List Stated) (traits : List PlaceRow) (are : AreTraitsOf ss trait
   along : (a b : Option Node) (P : Type 0) (n : Node) → a ≡ b → (b ≡ Some n) ↔ P → (a ≡ Some n) ↔ P
   along a b P n e h = (λ is. h.0 (sym e ∙ is), λ p. e ∙ h.1 p)
 
-  own_told : (own : List NamedFolded) → AreFirstRows (shape_rows traits id all cs) own → AllCopiedBy members all cs → (t : List ℕ) (n : Node)
+  own_told : (own : List NamedFolded) → AreFirstRows (shape_rows traits id all cs) own → AllCopiedBy members all cs
+      → (t : List ℕ) (n : Node)
       → (fin.get (traits_map own) t ≡ Some n) ↔ IsEffectiveValue ss id (shape_values (copies_at members all cs) t) t n
   own_told own first copied t n =
       along (fin.get (traits_map own) t)
-      (option_map value_node (option_or (find text_cmp t (named_view (traits_found id traits))) (find text_cmp t (last_first (copied_at all) cs))))
+      (option_map value_node (option_or (find text_cmp t (named_view (traits_found id traits)))
+      (find text_cmp t (last_first (copied_at all) cs))))
       (IsEffectiveValue ss id (shape_values (copies_at members all cs) t) t n) n
       (got own t ∙ ap (option_map value_node) (first.same t
       ∙ find_joined t (named_view (traits_found id traits)) (last_first (copied_at all) cs)))
@@ -136,7 +142,8 @@ module _ (ss : List Stated) (traits : List PlaceRow) (are : AreTraitsOf ss trait
       ∙ find_joined t (given_rows traits id ms name) (last_first (kept_at name all) cs)
       ∙ ap (λ o. option_or o (find text_cmp t (last_first (kept_at name all) cs))) (given_found traits id name t ms target found)))
       (value_told (trait_values ss (member_id id name) t) (find text_cmp t (named_view (traits_found (member_id id name) traits)))
-      (find text_cmp t (last_first (kept_at name all) cs)) (member_values (copies_at members all cs) name t) n (direct (member_id id name) t)
+      (find text_cmp t (last_first (kept_at name all) cs)) (member_values (copies_at members all cs) name t) n
+      (direct (member_id id name) t)
       (member_copies members all cs name t others))
 
   first_target : (name target : List ℕ) → find text_cmp name (mixed_members members cs ++ names_and_targets s.shape.members) ≡ Some target

@@ -126,13 +126,15 @@ module _ (ss : List Stated) (rows : List BareShape) (are : AreShapesOf ss rows) 
       v_is zero zero small = inr refl
       v_is zero (suc v) small = absurd (omega (arith, small))
       v_is (suc n) zero small = inl (omega arith)
-      v_is (suc n) (suc v) small = elim (v_is n v (omega (arith, small))) [ inl less ↦ inl (omega (arith, less)) | inr same ↦ inr (ap suc same) ]
+      v_is (suc n) (suc v) small = elim (v_is n v (omega (arith, small)))
+          [ inl less ↦ inl (omega (arith, less)) | inr same ↦ inr (ap suc same) ]
 
       by : (v < n → Among id (places_below rows members n)) → (v < n) ⊎ (v ≡ n)
           → Among id (places_below rows members n ++ places_at rows members n)
       by rest (inl less) = among_front id (places_below rows members n) (places_at rows members n) (rest less)
       by rest (inr same) =
-          among_back id (places_below rows members n) (places_at rows members n) (subst (λ w. Among id (places_at rows members w)) same among)
+          among_back id (places_below rows members n) (places_at rows members n)
+          (subst (λ w. Among id (places_at rows members w)) same among)
 
   pub there_placed : (id : List ℕ) → IsThere ss id → Among id (places_below rows members (length rows))
   there_placed id (e, inl shape) =
@@ -152,7 +154,8 @@ module _ (ss : List Stated) (rows : List BareShape) (are : AreShapesOf ss rows) 
       ap (find text_cmp member.name) (sym told) ∙ target_found member.name member.m.members
       ∙ ap (option_map (λ (e : MemberEntry). e.target)) member.found in
       let p = among_found member.name (members_at members n.number) member.of.target found in
-      placed (length rows) n.number id small (inr (subst (λ i. Among i (map (λ q. member_id (id_at rows n.number) q.0) (members_at members n.number)))
+      placed (length rows) n.number id small (inr (subst (λ i. Among i
+      (map (λ q. member_id (id_at rows n.number) q.0) (members_at members n.number)))
       ((λ i. member_id (same i) (p.2 i)) ∙ sym member.under)
       (map_among (λ (q : List ℕ × List ℕ). member_id (id_at rows n.number) q.0) (members_at members n.number) p.0 p.1)))
 
@@ -193,9 +196,11 @@ module _ (ss : List Stated) (rows : List BareShape) (are : AreShapesOf ss rows) 
         forth : Contains (applied_events (λ id. list_any (λ place. bytes_eq place id) (places_below rows members (length rows))) applied) e
             → (id : List ℕ) × IsAppliedToNothing ss id × (e ≡ applied_event id)
         forth has =
-            let p = among_flat (λ id. if list_any (λ place. bytes_eq place id) (places_below rows members (length rows)) then [] else applied_event id ∷ [])
+            let p = among_flat (λ id. if list_any (λ place. bytes_eq place id)
+            (places_below rows members (length rows)) then [] else applied_event id ∷ [])
             applied e
-            (among_from e (applied_events (λ id. list_any (λ place. bytes_eq place id) (places_below rows members (length rows))) applied) has) in
+            (among_from e (applied_events (λ id. list_any (λ place. bytes_eq place id) (places_below rows members (length rows)))
+            applied) has) in
             let st = among_flat applied_by ss p.0 (subst (Among p.0) are_applied p.1) in
             let apply = applied_in p.0 st.0 st.2 in
             by p.0 apply.0 (subst (Contains ss) apply.1 (among_to st.0 ss st.1))
@@ -221,7 +226,8 @@ module _ (ss : List Stated) (rows : List BareShape) (are : AreShapesOf ss rows) 
             → Contains (applied_events (λ id. list_any (λ place. bytes_eq place id) (places_below rows members (length rows))) applied) e
         back (id, n, is) =
             among_to e (applied_events (λ id. list_any (λ place. bytes_eq place id) (places_below rows members (length rows))) applied)
-            (flat_among (λ id. if list_any (λ place. bytes_eq place id) (places_below rows members (length rows)) then [] else applied_event id ∷ [])
+            (flat_among (λ id. if list_any (λ place. bytes_eq place id)
+            (places_below rows members (length rows)) then [] else applied_event id ∷ [])
             applied id e
             (subst (Among id) (sym are_applied)
             (flat_among applied_by ss (apply_stated id n.traits) id (among_from (apply_stated id n.traits) ss n.among) (inl refl)))

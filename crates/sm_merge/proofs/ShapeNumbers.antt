@@ -117,7 +117,8 @@ one_link ids mixins mixin before after once (inl (n, at_n, is)) h = subst (Links
     | inr (last, same) ↦ record {
       place = length before;
       behind = omega arith;
-      there = subst (λ x. At (before ++ n ∷ []) (length before) x) (once n w mixin at_n (subst (λ i. At ids w i) same at_w)) (at_last before n);
+      there = subst (λ x. At (before ++ n ∷ []) (length before) x) (once n w mixin at_n (subst (λ i. At ids w i) same at_w))
+          (at_last before n);
     }
   ];
 })
@@ -261,8 +262,9 @@ module _ (ss : List Stated) (rows : List BareShape) (links : Links) (h : AreShap
         all = λ v small. w.order.all v (omega (arith, small, counted));
         within = λ k v there. let small = w.order.within k v there in omega (arith, small, counted);
         once = w.order.once;
-        behind = λ k v u id mixin there at_v at_u mixes. elim (w.order.behind k v u there (mixin_links_of.leads v u id mixin at_v at_u mixes)) [
-          | inl ring ↦ inl ((cycle_ring ss (ids_of rows) links known mixin_links_of u mixin at_u).1 ring)
-          | inr before ↦ inr before
-        ];
+        behind = λ k v u id mixin there at_v at_u mixes. elim
+            (w.order.behind k v u there (mixin_links_of.leads v u id mixin at_v at_u mixes)) [
+              | inl ring ↦ inl ((cycle_ring ss (ids_of rows) links known mixin_links_of u mixin at_u).1 ring)
+              | inr before ↦ inr before
+            ];
       }

@@ -170,7 +170,8 @@ module _ (ss : List Stated) where
       λ i. all_members (copied i) (s i).shape.members
 
   abbrev Counts : List ℕ → List EventTold → Type 0
-  Counts id es = (c : Copies ss id) (m : List ℕ × MemberEntry) → Among m (all_members c.copied c.s.shape.members) → Among (member_event id m) es
+  Counts id es = (c : Copies ss id) (m : List ℕ × MemberEntry) → Among m (all_members c.copied c.s.shape.members)
+      → Among (member_event id m) es
 
   with_copies : (x : List ℕ) (ids : List (List ℕ)) → Copies ss x → MemberEvents ss ids → MemberEvents ss (x ∷ ids)
   with_copies x ids d rest = record { found = front ++ rest.found; all = by_place }

@@ -179,7 +179,8 @@ module _ (ss : List Stated) (ids : MemberIds ss (stated_ids ss)) where
 
   pub own_member : (id : List ℕ) (e : Entry) → IsMergedMember ss id e → Among id own_ids
   own_member id e h =
-      let named = stands_among h.name (names_of h.m.members) (has_key h.name h.of h.m.members (found_has h.name h.of h.m.members h.found)) in
+      let named = stands_among h.name (names_of h.m.members) (has_key h.name h.of h.m.members
+      (found_has h.name h.of h.m.members h.found)) in
       among_back id (stated_ids ss) ids.found (subst (λ k. Among k ids.found) (sym h.under)
       (ids.all h.shape (stated_among h.shape ss h.s h.there) h.m h.is_effective h.name named))
 
@@ -196,7 +197,8 @@ module _ (ss : List Stated) (ids : MemberIds ss (stated_ids ss)) where
 pub graph_there : (ss : List Stated) → AreSoundStated ss → Must ((g : GraphMaps) × IsGraphOf ss g)
 graph_there ss sound =
     thence (member_ids ss (stated_ids ss)) (λ ids.
-    thence (some_map (StandsUnder ss) (one_stands ss sound) (all_ids ss ids) (λ id e h. among_stands id (all_ids ss ids) (covers ss ids id e h)))
+    thence (some_map (StandsUnder ss) (one_stands ss sound) (all_ids ss ids)
+    (λ id e h. among_stands id (all_ids ss ids) (covers ss ids id e h)))
     (λ shapes.
     thence (some_map (λ key n. IsValueOf (metadata_values ss key) n) (λ key n m. one_value (metadata_values ss key) n m)
     (keys (flat_map metadata_by ss)) (λ key n h. values_named key (flat_map metadata_by ss) n h)) (λ metadata.

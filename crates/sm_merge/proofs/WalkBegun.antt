@@ -23,7 +23,8 @@ module _ (links : Links) (status : List Status) (row targets order : List ℕ) (
   done_then k v done = record {
     ring = done.ring;
     there = at_other status w (Begun k) v (Finished done.ring)
-        (λ same. new_finished done.ring (at_one status w New (Finished done.ring) fresh (subst (λ x. At status x (Finished done.ring)) same done.there)))
+        (λ same. new_finished done.ring (at_one status w New (Finished done.ring) fresh
+        (subst (λ x. At status x (Finished done.ring)) same done.there)))
         done.there;
   }
     where

@@ -104,7 +104,8 @@ fewer_steps (targets ∷ links) [] [] size met = omega arith
 fewer_steps (targets ∷ links) [] (s ∷ now) size met = absurd (omega (arith, size))
 fewer_steps (targets ∷ links) (s ∷ before) [] size met = omega arith
 fewer_steps (targets ∷ links) (s ∷ before) (t ∷ now) size met =
-    let rest : steps_ahead links now ≤ steps_ahead links before = fewer_steps links before now (omega (arith, size)) (λ v h. met (suc v) h) in
+    let rest : steps_ahead links now ≤ steps_ahead links before = fewer_steps links before now (omega (arith, size))
+    (λ v h. met (suc v) h) in
     let here : new_steps t (length targets) ≤ new_steps s (length targets) = no_more (length targets) s t (λ h. met 0 h) in
     omega (arith, rest, here)
 
@@ -117,7 +118,8 @@ one_fewer [] (s ∷ before) now w size sized met fresh gone = absurd (omega (ari
 one_fewer (targets ∷ links) [] now w size sized met fresh gone = absurd (none-some New fresh)
 one_fewer (targets ∷ links) (s ∷ before) [] w size sized met fresh gone = absurd (omega (arith, size))
 one_fewer (targets ∷ links) (s ∷ before) (t ∷ now) zero size sized met fresh gone =
-    let rest : steps_ahead links now ≤ steps_ahead links before = fewer_steps links before now (omega (arith, size)) (λ v h. met (suc v) h) in
+    let rest : steps_ahead links now ≤ steps_ahead links before = fewer_steps links before now (omega (arith, size))
+    (λ v h. met (suc v) h) in
     let was : new_steps s (length targets) ≡ length targets + 2 = ap (λ x. new_steps x (length targets)) (same_Some s New fresh) in
     let is : new_steps t (length targets) ≡ 0 = none_more (length targets) t gone in
     omega (arith, rest, was, is)

@@ -114,7 +114,8 @@ module _ (links : Links) (status now : List Status) (row targets order : List �
 
   placed : (v : ℕ) → IsDone now v → StandsBefore (order ++ drop p.numbers row) (length (order ++ drop p.numbers row)) v
   placed v done = elim (done_was v done) [
-    | inl before ↦ earlier (length order) (length (order ++ drop p.numbers row)) v (omega (arith, length-append order (drop p.numbers row))) (g.placed v before)
+    | inl before ↦ earlier (length order) (length (order ++ drop p.numbers row)) v
+        (omega (arith, length-append order (drop p.numbers row))) (g.placed v before)
     | inr (k, of) ↦
         let s = at_drop p.numbers row k v of.0 of.1 in
         let behind = at_behind order (drop p.numbers row) s.0 v s.2 in

@@ -89,7 +89,8 @@ target_taken links before now p w h last popped room is_status is_row is_order i
           (popped_parts links before.status.items before.row.items now.targets.items w p (reverse split.0) fits parts);
       reached =
           subst (λ r. AllReach links r w) (sym is_row)
-          (popped_reached links before.status.items before.row.items now.targets.items before.order.items w p (reverse split.0) fits g parts);
+          (popped_reached links before.status.items before.row.items now.targets.items before.order.items w p
+          (reverse split.0) fits g parts);
       within = g.within (length now.targets.items) w (at_last now.targets.items w);
     }
 
@@ -136,13 +137,15 @@ target_begun links before now w are new h reach is_status is_row is_targets is_o
     let more : length now.targets.items ≡ length before.targets.items + length (get_or links w []) =
     ap length is_targets ∙ length-append before.targets.items (get_or links w []) in
     let longer : length now.path.items ≡ length before.path.items + 1 =
-    ap length is_path ∙ length-append before.path.items ((record { numbers = k; targets = length before.targets.items; ring = false }) ∷ []) in
+    ap length is_path ∙ length-append before.path.items ((record { numbers = k; targets = length before.targets.items; ring = false }) ∷
+    []) in
     record {
       walking =
           is_walking links None now begun (before.row.items ++ w ∷ []) (before.targets.items ++ get_or links w []) before.order.items
           ((record { numbers = k; targets = length before.targets.items; ring = false }) ∷ reverse before.path.items)
           is_status is_row is_targets is_order
-          (last_first now.path.items before.path.items (record { numbers = k; targets = length before.targets.items; ring = false }) is_path)
+          (last_first now.path.items before.path.items (record { numbers = k; targets = length before.targets.items; ring = false })
+          is_path)
           (begun_grounded links before.status.items before.row.items before.targets.items before.order.items w new are h.grounded reach)
           (begun_parts links before.status.items before.row.items before.targets.items before.order.items w new (reverse before.path.items)
           h.parts);
@@ -154,7 +157,8 @@ target_begun links before now w are new h reach is_status is_row is_targets is_o
 pub join_begun : (links : Links) (walk : Walk) (w place : ℕ) → At walk.status.items w (Begun place) → IsWalking links (Some w) walk
     → IsJoining links walk.status.items walk.row.items walk.targets.items w place (reverse walk.path.items)
 join_begun links walk w place there h =
-    joining links walk.status.items walk.row.items walk.targets.items w place (reverse walk.path.items) (h.grounded.begun place w there) h.parts
+    joining links walk.status.items walk.row.items walk.targets.items w place (reverse walk.path.items)
+    (h.grounded.begun place w there) h.parts
 
 pub join_more : (links : Links) (status : List Status) (row targets : List ℕ) (w place : ℕ) (p : Part) (path rest : List Part)
     → path ≡ rest ++ p ∷ [] → place < p.numbers → IsJoining links status row targets w place (reverse path)

@@ -68,7 +68,8 @@ module _ (ss : List Stated) (tables : Tables) (walk : Walk) (mixed : List (Vec C
   pub whole_told : (bad es : List EventTold)
       → ((e : EventTold) → Contains bad e ↔ ((id mixin : List ℕ) × HasBadMixin ss id mixin × (e ≡ mixin_event id mixin)))
       → HaveSameEvents
-      (((((bad ++ map shape_event tables.shapes.wrong.items) ++ metadata_events tables.metadata.items) ++ conflicts) ++ applied) ++ others) es
+      (((((bad ++ map shape_event tables.shapes.wrong.items) ++ metadata_events tables.metadata.items) ++ conflicts) ++ applied)
+      ++ others) es
       → AreInOrder es → AreEventsOf ss es
   whole_told bad es are same order =
       all_told ss
@@ -84,8 +85,10 @@ module _ (ss : List Stated) (tables : Tables) (walk : Walk) (mixed : List (Vec C
       (record {
         shapes = shapes_told ss tables.shapes.wrong.items t.tables.shapes.wrong;
         metadata = metadata_told ss tables.metadata.items t.tables.metadata;
-        traits = conflicts_there ss tables.shapes.rows.items t.tables.shapes.rows members t.members t.made tables.traits.items t.tables.traits;
-        applied = applied_there ss tables.shapes.rows.items t.tables.shapes.rows members t.members t.made tables.applied.items t.tables.applied;
+        traits = conflicts_there ss tables.shapes.rows.items t.tables.shapes.rows members t.members t.made tables.traits.items
+            t.tables.traits;
+        applied = applied_there ss tables.shapes.rows.items t.tables.shapes.rows members t.members t.made tables.applied.items
+            t.tables.applied;
         members = others_told ss tables.shapes.rows.items tables.traits.items walk t.walked mixed t.mixed members t.members t.made;
         mixins = are;
       })

@@ -33,7 +33,8 @@ pub(crate) fn member_traits<'a>(
 ) -> Result<Vec<MemberTraits<'a>>, NoMemory>
     requires places { Rise (places_in rows.now) }
     requires below { AreBelow (length all.now) mixed.now }
-    ensures { IfOk result (λ lists. AreMemberTraits (member_rows rows.now shape.now (targets_view members.now) all.now mixed.now) lists.items) }
+    ensures { IfOk result (λ lists. AreMemberTraits (member_rows rows.now shape.now (targets_view members.now) all.now mixed.now)
+        lists.items) }
 {
     let mut lists = Vec::new(alloc);
     put_given(alloc, rows, shape, members, &mut lists)?;
@@ -102,7 +103,8 @@ fn put_list<'a>(
     member: &str,
     rows: Vec<NamedFolded<'a>>,
 ) -> Result<(), NoMemory>
-    ensures { OnOk result (PutsRows lists.old.items lists.new.items (λ name. if bytes_eq member.now name then folded_rows rows.entry.items else [])) }
+    ensures { OnOk result (PutsRows lists.old.items lists.new.items
+        (λ name. if bytes_eq member.now name then folded_rows rows.entry.items else [])) }
 {
     if rows.is_empty() {
         return Ok(());

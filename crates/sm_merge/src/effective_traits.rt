@@ -77,7 +77,8 @@ pub(crate) fn copied_traits<'a>(
     own: &[NamedFolded<'a>],
 ) -> Result<Vec<NamedFolded<'a>>, NoMemory>
     requires { Rise (names_in given.now) }
-    ensures { IfOk result (λ rows. folded_rows rows.items ≡ copies_by (fin.find text_cmp mixin_trait (named_view given.now)) (folded_rows own.now)) }
+    ensures { IfOk result (λ rows. folded_rows rows.items ≡ copies_by (fin.find text_cmp mixin_trait (named_view given.now))
+        (folded_rows own.now)) }
 {
     match value_named(given, MIXIN) {
         None => Ok(Vec::new(alloc)),

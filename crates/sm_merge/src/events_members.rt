@@ -66,7 +66,8 @@ fn put_mixed_others(
     members: &[NamedTarget<'_>],
     events: &mut Vec<ModelEvent>,
 ) -> Result<(), NoMemory>
-    ensures { OnOk result (TellsMore events.old.items events.new.items (others_among shape.now (first_in firsts.now) (targets_view members.now))) }
+    ensures { OnOk result (TellsMore events.old.items events.new.items
+        (others_among shape.now (first_in firsts.now) (targets_view members.now))) }
 {
     for member in members {
         put_if_other(alloc, shape, firsts, member.name, member.target, events)?;

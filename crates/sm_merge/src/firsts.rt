@@ -41,7 +41,8 @@ pub(crate) fn put_first<'a>(
     target: &'a ShapeId,
 ) -> Result<(), NoMemory>
     ensures seen { OnOk result ((id : List ℕ) → has_text seen.new id ≡ (has_text seen.old id || bytes_eq name.now id)) }
-    ensures all { OnOk result (targets_view all.new.items ≡ targets_view all.old.items ++ unseen (has_text seen.old) ((name.now, target.now) ∷ [])) }
+    ensures all { OnOk result (targets_view all.new.items ≡ targets_view all.old.items ++ unseen (has_text seen.old)
+        ((name.now, target.now) ∷ [])) }
 {
     if seen.contains(name) {
         return Ok(());

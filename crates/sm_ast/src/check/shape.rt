@@ -70,7 +70,8 @@ fn check_shape(alloc: Global, tree: &Tree) -> Result<(), AstRefusal>
 }
 
 fn check_shape_pairs(alloc: Global, pairs: &[(Text, Tree)]) -> Result<(), AstRefusal>
-    ensures { Checks (shape_pairs_fault (tree_named type_name (members_of (members_view pairs.now))) (members_of (members_view pairs.now))) result }
+    ensures { Checks (shape_pairs_fault (tree_named type_name (members_of (members_view pairs.now)))
+        (members_of (members_view pairs.now))) result }
 {
     match tree_under(pairs, "type") {
         Some(named) => match type_of(named) {

@@ -58,7 +58,8 @@ fn member_under(
 // The members of the field `members`.
 fn members_under(alloc: Global, pairs: &[(Text, Tree)]) -> Result<Vec<MemberStatement>, NoMemory>
     requires { AreJsonMembers (members_of (members_view pairs.now)) }
-    ensures { IfOk result (λ said. member_statements_view said.items ≡ members_there (tree_named members_name (members_of (members_view pairs.now)))) }
+    ensures { IfOk result (λ said. member_statements_view said.items ≡ members_there
+        (tree_named members_name (members_of (members_view pairs.now)))) }
 {
     match tree_under(pairs, "members") {
         Some(tree) => members(alloc, pairs_or_none(tree)),

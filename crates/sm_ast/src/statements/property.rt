@@ -20,7 +20,8 @@ pub(crate) fn properties(
     kind: Kind,
     pairs: &[(Text, Tree)],
 ) -> Result<Vec<(Text, RawNode)>, NoMemory>
-    ensures { IfOk result (λ said. raw_members_view said.items ≡ property_pairs (property_forms kind) (members_of (members_view pairs.now))) }
+    ensures { IfOk result (λ said. raw_members_view said.items ≡ property_pairs (property_forms kind)
+        (members_of (members_view pairs.now))) }
 {
     let mut properties = Vec::new(alloc);
     for pair in pairs {

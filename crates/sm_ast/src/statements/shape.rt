@@ -44,7 +44,8 @@ fn typed(
 ) -> Result<Statement, NoMemory>
     requires json { AreJsonMembers (members_of (members_view pairs.now)) }
     requires id { name.now ≡ printed (id_of id.now) }
-    ensures { IfOk result (λ said. statement_view said ≡ statement_by_type (type_there (tree_named type_name (members_of (members_view pairs.now)))) name.now (members_of (members_view pairs.now))) }
+    ensures { IfOk result (λ said. statement_view said ≡ statement_by_type
+        (type_there (tree_named type_name (members_of (members_view pairs.now)))) name.now (members_of (members_view pairs.now))) }
 {
     match type_under(pairs) {
         Some(ShapeType::Defined(kind)) => {

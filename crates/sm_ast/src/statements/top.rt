@@ -29,7 +29,8 @@ fn put_top(
     statements: &mut Vec<Statement>,
 ) -> Result<(), NoMemory>
     requires { AreJsonMembers (members_of (members_view pairs.now)) }
-    ensures { OnOk result (statements_view statements.new.items ≡ statements_view statements.old.items ++ top_statements (members_of (members_view pairs.now))) }
+    ensures { OnOk result (statements_view statements.new.items ≡ statements_view statements.old.items ++ top_statements
+        (members_of (members_view pairs.now))) }
 {
     for pair in pairs {
         put_pair(alloc, pair.0.as_str(), &pair.1, statements)?;
@@ -44,7 +45,8 @@ fn put_pair(
     statements: &mut Vec<Statement>,
 ) -> Result<(), NoMemory>
     requires { IsJson (node_of tree.now) }
-    ensures { OnOk result (statements_view statements.new.items ≡ statements_view statements.old.items ++ top_said name.now (node_of tree.now)) }
+    ensures { OnOk result (statements_view statements.new.items ≡ statements_view statements.old.items ++ top_said name.now
+        (node_of tree.now)) }
 {
     match name {
         "metadata" => put_metadata(alloc, pairs_or_none(tree), statements),
@@ -59,7 +61,8 @@ fn put_metadata(
     statements: &mut Vec<Statement>,
 ) -> Result<(), NoMemory>
     requires { AreJsonMembers (members_of (members_view pairs.now)) }
-    ensures { OnOk result (statements_view statements.new.items ≡ statements_view statements.old.items ++ metadata_statements (members_of (members_view pairs.now))) }
+    ensures { OnOk result (statements_view statements.new.items ≡ statements_view statements.old.items ++ metadata_statements
+        (members_of (members_view pairs.now))) }
 {
     for pair in pairs {
         let key = Text::copy(alloc, pair.0.as_str())?;
@@ -75,7 +78,8 @@ fn put_shapes(
     statements: &mut Vec<Statement>,
 ) -> Result<(), NoMemory>
     requires { AreJsonMembers (members_of (members_view pairs.now)) }
-    ensures { OnOk result (statements_view statements.new.items ≡ statements_view statements.old.items ++ shape_statements (members_of (members_view pairs.now))) }
+    ensures { OnOk result (statements_view statements.new.items ≡ statements_view statements.old.items ++ shape_statements
+        (members_of (members_view pairs.now))) }
 {
     for pair in pairs {
         statements.push(statement(alloc, pair.0.as_str(), pairs_or_none(&pair.1))?)?;

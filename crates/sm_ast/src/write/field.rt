@@ -42,7 +42,8 @@ pub(crate) fn put_object(
     pairs: Vec<(Text, Tree)>,
     fields: &mut Vec<(Text, Tree)>,
 ) -> Result<(), NoMemory>
-    ensures { OnOk result (members_view fields.new.items ≡ members_view fields.old.items ++ (name.now, object_of (members_view pairs.items)) ∷ []) }
+    ensures { OnOk result (members_view fields.new.items ≡ members_view fields.old.items ++
+        (name.now, object_of (members_view pairs.items)) ∷ []) }
 {
     put_field(alloc, name, Tree::Object(Pairs::new(pairs)), fields)
 }
@@ -71,7 +72,8 @@ fn put_list(
     entries: Vec<Tree>,
     fields: &mut Vec<(Text, Tree)>,
 ) -> Result<(), NoMemory>
-    ensures { OnOk result (members_view fields.new.items ≡ members_view fields.old.items ++ (name.now, nodes.list (nodes_of (nodes_view entries.items))) ∷ []) }
+    ensures { OnOk result (members_view fields.new.items ≡ members_view fields.old.items ++
+        (name.now, nodes.list (nodes_of (nodes_view entries.items))) ∷ []) }
 {
     put_field(alloc, name, Tree::List(Items::new(entries)), fields)
 }

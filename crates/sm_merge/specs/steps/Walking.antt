@@ -43,7 +43,8 @@ IsKept status held row targets p w =
     (held ≡ Some w) ⊎ (StandsFrom targets p.targets w ⊎ (IsDone status w ⊎ StandsFrom row (first_open p) w))
 
 -- a part, whose numbers and targets end before these places
-pub record IsSegment (links : Links) (status : List Status) (held : Option ℕ) (row targets : List ℕ) (end last : ℕ) (p : Part) : Type 0 where
+pub record IsSegment (links : Links) (status : List Status) (held : Option ℕ) (row targets : List ℕ) (end last : ℕ)
+    (p : Part) : Type 0 where
   pub room : p.targets ≤ last
   pub sources : (k w : ℕ) → p.targets ≤ k → k < last → At targets k w → HasSource links row p.numbers end w
   pub followed : (k v w : ℕ) → p.numbers ≤ k → k < end → At row k v → LeadsTo links v w → IsKept status held row targets p w

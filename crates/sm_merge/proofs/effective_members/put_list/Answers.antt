@@ -8,4 +8,5 @@ use Rattle.sm_merge.proofs.effective_members.put_list.Goals as goal
 pub returns : goal.returns
 returns c = λ name.
     ap (rows_under name) c.in_ok-push.ensures.items ∙ put_one name c.in_ok-name.name c.args.lists.now.items c.args.rows
-    ∙ ap (λ m. rows_under name c.args.lists.now.items ++ (if bytes_eq m name then folded_rows c.args.rows.items else [])) c.in_ok-name.ensures.bytes
+    ∙ ap (λ m. rows_under name c.args.lists.now.items ++ (if bytes_eq m name then folded_rows c.args.rows.items else []))
+    c.in_ok-name.ensures.bytes

@@ -17,7 +17,8 @@ loop-row-preserved c = record {
   size = ap length c.in_ok-push.ensures.items ∙ length-append c.loop-row.all.items (c.in_ok-found.found ∷ [])
       ∙ ap (λ n. n + 1) c.loop-row.invariant.size;
   below = subst (AllBelow (length c.args.rows.now)) (sym c.in_ok-push.ensures.items)
-      (all_below_more (length c.args.rows.now) c.loop-row.all.items c.in_ok-found.found c.loop-row.invariant.below c.in_ok-found.ensures.below);
+      (all_below_more (length c.args.rows.now) c.loop-row.all.items c.in_ok-found.found c.loop-row.invariant.below
+      c.in_ok-found.ensures.below);
   mixed = λ ss t.
       subst (MixedSoFar ss c.args.rows.now) (sym c.in_ok-push.ensures.items)
       (mixed_more ss c.args.rows.now c.args.traits.now c.args.walk.now t c.loop-row.row-index c.row-item.result c.loop-row-test.true

@@ -8,7 +8,8 @@ returns-in-None-clause-put c = λ ss s t same. inl (c.in-None.ensures.told ss s 
 
 pub returns-in_ok-push-in-Some-clause-below : goal.returns-in_ok-push-in-Some-clause-below
 returns-in_ok-push-in-Some-clause-below c = λ h.
-    subst (AreBelow _) (sym c.in_ok-push-in-Some.ensures.items) (below_more _ c.args.found.now.items c.in-Some.one h c.in-Some.ensures.inside)
+    subst (AreBelow _) (sym c.in_ok-push-in-Some.ensures.items)
+    (below_more _ c.args.found.now.items c.in-Some.one h c.in-Some.ensures.inside)
 
 pub returns-in_ok-push-in-Some-clause-put : goal.returns-in_ok-push-in-Some-clause-put
 returns-in_ok-push-in-Some-clause-put c = λ ss s t same.

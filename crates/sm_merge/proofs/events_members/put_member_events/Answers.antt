@@ -32,7 +32,8 @@ loop-number-preserved c =
     c.index-rows-number.is in
     let at_mixed = slice_get_read c.args.mixed.now (length c.args.mixed.now) c.loop-number.number c.index-mixed-number.result refl small
     c.index-mixed-number.is in
-    let at_members = slice_get_read c.args.members.now (length c.args.members.now) c.loop-number.number c.index-members-number.result refl few
+    let at_members = slice_get_read c.args.members.now (length c.args.members.now) c.loop-number.number c.index-members-number.result
+    refl few
     c.index-members-number.is in
     record {
       told = c.in_ok-put_others.ensures.told

@@ -22,7 +22,8 @@ loop-one-preserved c =
       seen = λ id.
           held (has_text had id) (has_text has id) (bytes_eq one.name.now id) (is_name_of id left)
           (has_text first id || is_name_of id (targets_view more)) (c.in_ok-put_first.ensures.seen id)
-          (subst (λ ts. (has_text had id || is_name_of id (targets_view ts)) ≡ (has_text first id || is_name_of id (targets_view more))) parts
+          (subst (λ ts. (has_text had id || is_name_of id (targets_view ts)) ≡ (has_text first id || is_name_of id (targets_view more)))
+          parts
           (c.loop-one.invariant.seen id));
       all =
           firsts_step (targets_view c.loop-one.all.items) (targets_view c.put_first.new.all.items)

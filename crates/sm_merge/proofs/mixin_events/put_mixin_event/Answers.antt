@@ -17,7 +17,8 @@ returns-in-Some c = record {
 
 pub returns-in_ok-push-in-None-clause-errors : goal.returns-in_ok-push-in-None-clause-errors
 returns-in_ok-push-in-None-clause-errors c =
-    let put = put_more c.args.events.now.items c.push.new.self.items c.in_ok-event-in-None.event (mixin_event c.args.row.now.id c.args.mixin.now)
+    let put = put_more c.args.events.now.items c.push.new.self.items c.in_ok-event-in-None.event
+    (mixin_event c.args.row.now.id c.args.mixin.now)
     c.in_ok-push-in-None.ensures.items
     (c.in_ok-event-in-None.ensures.told ∙ (λ i. model_event (c.in_ok-shape-in-None.ensures i) (codes "Model.Mixin") c.args.mixin.now))
     c.in_ok-event-in-None.ensures.severity in

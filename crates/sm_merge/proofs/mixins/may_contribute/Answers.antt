@@ -16,5 +16,6 @@ returns c =
       },
       λ may.
           c.is_of.ensures.1
-          (ap (λ (r : BareShape). r.kind) (at_one c.args.rows.now c.args.number c.index-rows-number.result may.row there may.there) ∙ may.same),
+          (ap (λ (r : BareShape). r.kind) (at_one c.args.rows.now c.args.number c.index-rows-number.result may.row there may.there)
+          ∙ may.same),
     )

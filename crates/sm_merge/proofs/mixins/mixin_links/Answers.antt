@@ -15,7 +15,8 @@ loop-row-preserved c =
     subst (AreLinksOf (ids_of c.args.rows.now) (mixins_in (take (c.loop-row.row-index + 1) c.args.rows.now)))
     (sym (ap links_view c.in_ok-push.ensures.items ∙ links_view_more c.loop-row.links.items c.in_ok-mixin_numbers.field-0))
     (subst (λ ms. AreLinksOf (ids_of c.args.rows.now) ms (links_view c.loop-row.links.items ++ c.in_ok-mixin_numbers.field-0.items ∷ []))
-    (sym (ap mixins_in (taken_more c.args.rows.now c.row-item.result c.loop-row.row-index (c.loop-row.row-index + 1) refl c.loop-row-test.true
+    (sym (ap mixins_in (taken_more c.args.rows.now c.row-item.result c.loop-row.row-index
+    (c.loop-row.row-index + 1) refl c.loop-row-test.true
     ∙ ap (λ r. take c.loop-row.row-index c.args.rows.now ++ r ∷ []) (sym c.row-item.is))
     ∙ mixins_more (take c.loop-row.row-index c.args.rows.now) c.row-item.result))
     (links_more (ids_of c.args.rows.now) (mixins_in (take c.loop-row.row-index c.args.rows.now)) (links_view c.loop-row.links.items)

@@ -12,7 +12,8 @@ loop-mixin-preserved c =
     let put = subst (λ m. PutsNumber (ids_of c.args.rows.now) m c.loop-mixin.numbers.items c.put_number.new.numbers.items)
     c.as_str.ensures.bytes c.in_ok-put_number.ensures in
     subst (λ ms. LinksTo (ids_of c.args.rows.now) ms c.put_number.new.numbers.items)
-    (sym (taken_more c.args.mixins.now c.mixin-item.result c.loop-mixin.mixin-index (c.loop-mixin.mixin-index + 1) refl c.loop-mixin-test.true
+    (sym (taken_more c.args.mixins.now c.mixin-item.result c.loop-mixin.mixin-index
+    (c.loop-mixin.mixin-index + 1) refl c.loop-mixin-test.true
     ∙ ap (λ m. take c.loop-mixin.mixin-index c.args.mixins.now ++ m ∷ []) (sym c.mixin-item.is)))
     (one_link (ids_of c.args.rows.now) (take c.loop-mixin.mixin-index c.args.mixins.now) c.mixin-item.result c.loop-mixin.numbers.items
     c.put_number.new.numbers.items (listed_once (shapes_view c.args.rows.now) c.requires) put c.loop-mixin.invariant)

@@ -9,4 +9,8 @@ returns-in-None c = inr (λ w there. none_listed (shapes_view c.args.rows.now) c
 
 pub returns-in_ok-push-in-Some : goal.returns-in_ok-push-in-Some
 returns-in_ok-push-in-Some c =
-    inl (c.in-Some.number, number_at c.args.rows.now c.args.mixin.now c.in-Some.number c.in-Some.ensures, c.in_ok-push-in-Some.ensures.items)
+    inl (
+      c.in-Some.number,
+      number_at c.args.rows.now c.args.mixin.now c.in-Some.number c.in-Some.ensures,
+      c.in_ok-push-in-Some.ensures.items,
+    )

@@ -14,7 +14,8 @@ loop-number-preserved c =
     let inv = c.loop-number.invariant in
     let number = get_or c.args.numbers.now c.loop-number.number-index 0 in
     let inside : c.loop-number.number-index < length c.args.numbers.now = c.loop-number-test.true in
-    let more : take (c.loop-number.number-index + 1) c.args.numbers.now ≡ take c.loop-number.number-index c.args.numbers.now ++ number ∷ [] =
+    let more : take (c.loop-number.number-index + 1) c.args.numbers.now ≡ take c.loop-number.number-index c.args.numbers.now
+    ++ number ∷ [] =
     taken_more c.args.numbers.now 0 c.loop-number.number-index (c.loop-number.number-index + 1) refl inside in
     let was : number < length c.args.status.now.items =
     c.requires c.loop-number.number-index number (slice_get-get_or c.args.numbers.now c.loop-number.number-index 0 inside) in
@@ -24,7 +25,8 @@ loop-number-preserved c =
       marked =
           subst (λ ns. AreMarked ns c.args.ring c.args.status.now.items
           (slice_set c.loop-number.status.items number (Finished c.args.ring))) (sym more)
-          (one_marked (take c.loop-number.number-index c.args.numbers.now) c.args.ring c.args.status.now.items c.loop-number.status.items number
+          (one_marked (take c.loop-number.number-index c.args.numbers.now) c.args.ring c.args.status.now.items c.loop-number.status.items
+          number
           small inv.marked);
       order =
           c.in_ok-push.ensures.items ∙ ap (λ o. o ++ number ∷ []) inv.order

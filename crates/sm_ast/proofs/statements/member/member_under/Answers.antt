@@ -4,4 +4,5 @@ use Rattle.sm_ast.proofs.JsonParts.{json_under}
 use Rattle.sm_ast.proofs.statements.member.member_under.Goals as goal
 
 pub member-requires : goal.member-requires
-member-requires c = json_under c.args.name.now (members_of (members_view c.args.pairs.now)) _ c.requires c.in-Some.ensures _ c.pairs_or_none.ensures
+member-requires c = json_under c.args.name.now (members_of (members_view c.args.pairs.now)) _ c.requires c.in-Some.ensures _
+    c.pairs_or_none.ensures

@@ -5,4 +5,5 @@ use Rattle.sm_ast.proofs.JsonParts.{json_under}
 use Rattle.sm_ast.proofs.statements.member.members_under.Goals as goal
 
 pub members-requires : goal.members-requires
-members-requires c = json_under members_name (members_of (members_view c.args.pairs.now)) _ c.requires c.in-Some.ensures _ c.pairs_or_none.ensures
+members-requires c = json_under members_name (members_of (members_view c.args.pairs.now)) _ c.requires c.in-Some.ensures _
+    c.pairs_or_none.ensures

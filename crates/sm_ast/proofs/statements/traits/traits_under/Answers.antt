@@ -5,4 +5,5 @@ use Rattle.sm_ast.proofs.JsonParts.{json_under}
 use Rattle.sm_ast.proofs.statements.traits.traits_under.Goals as goal
 
 pub trait_uses-requires : goal.trait_uses-requires
-trait_uses-requires c = json_under traits_name (members_of (members_view c.args.pairs.now)) _ c.requires c.in-Some.ensures _ c.pairs_or_none.ensures
+trait_uses-requires c = json_under traits_name (members_of (members_view c.args.pairs.now)) _ c.requires c.in-Some.ensures _
+    c.pairs_or_none.ensures

@@ -7,6 +7,7 @@ use Rattle.sm_ast.proofs.write.member.put_members.Given as goal
 abbrev pub invariant-loop-member : goal.invariant-loop-member
 invariant-loop-member l = record {
   numbers : AreShapeNumbers l.graph (drop l.member-index l.members);
-  written : members_view l.fields.items ++ written_members (maps_of l.graph).shapes (map (λ k. get_or (ids l.graph) k []) (drop l.member-index l.members))
+  written : members_view l.fields.items ++ written_members (maps_of l.graph).shapes
+      (map (λ k. get_or (ids l.graph) k []) (drop l.member-index l.members))
       ≡ members_view l.fn.fields.items ++ written_members (maps_of l.graph).shapes (map (λ k. get_or (ids l.graph) k []) l.members);
 }

@@ -50,7 +50,8 @@ returns g c = let none : HeadIs Metadata (left c.loop-alloc.self) → ⊥ =
     (refused c.is_at_word.result (HeadIs Metadata (left c.loop-alloc.self)) c.is_at_word.ensures c.loop-alloc-test.false) in (
       read_whole (each (metadata (g.W.Words.home c.args.words.now))) (map raw_pair c.loop-alloc.pairs.items) (left c.args.self.now)
           (left c.loop-alloc.self) (viewed_read Metadata (metadata (g.W.Words.home c.args.words.now))
-          (metadata_firm (g.W.Words.home c.args.words.now)) raw_pair c.loop-alloc.pairs.items (left c.args.self.now) (left c.loop-alloc.self)
+          (metadata_firm (g.W.Words.home c.args.words.now)) raw_pair c.loop-alloc.pairs.items (left c.args.self.now)
+          (left c.loop-alloc.self)
           c.loop-alloc.invariant.row none),
       none,
     )

@@ -21,6 +21,7 @@ returns-in-Ok-metadata_statements c = λ cs ms begins.
           ∙ sym c.in-Ok-metadata_statements.ensures,
       without_namespace (raw_members_view c.in-Ok.beginning.controls.items)
           (raw_members_view c.in-Ok.beginning.metadata.items) (left c.args.self.now)
-          (subst (λ z. BeginSaid None (raw_members_view c.in-Ok.beginning.controls.items) (raw_members_view c.in-Ok.beginning.metadata.items)
+          (subst (λ z. BeginSaid None (raw_members_view c.in-Ok.beginning.controls.items)
+          (raw_members_view c.in-Ok.beginning.metadata.items)
           (left c.args.self.now) z) ends c.in-Ok.ensures),
     )

@@ -31,6 +31,7 @@ loop-part-preserved c =
 pub returns-then-part-place : goal.returns-then-part-place
 returns-then-part-place c = λ links w there h reach.
     let inv = c.loop-part.invariant in
-    join_ended links c.args.self.now _ w c.args.place c.in-Some.part c.loop-part.self.path.items c.pop.new.self.items c.in-Some.ensures.items
+    join_ended links c.args.self.now _ w c.args.place c.in-Some.part c.loop-part.self.path.items c.pop.new.self.items
+    c.in-Some.ensures.items
     c.if-part-place.true there h reach (inv.joins links w there h reach) inv.status inv.row inv.targets inv.order c.in_ok-push.ensures.items
     inv.path

@@ -14,7 +14,8 @@ returns-then-len-part c =
     let last = last_at c.args.self.now.path.items c.deref.result.now c.in-Some.field-0.now c.deref.ensures.value c.in-Some.ensures.value in
     let few : length c.args.self.now.targets.items ≤ c.in-Some.field-0.now.targets =
     omega (arith, c.if-len-part.true, c.len.ensures, c.args.self.now.targets.ok.0) in
-    let ended = part_finished (links_view c.args.links.now) c.args.self.now c.finish.new.self c.in-Some.field-0.now c.requires.walking last few
+    let ended = part_finished (links_view c.args.links.now) c.args.self.now c.finish.new.self c.in-Some.field-0.now c.requires.walking
+    last few
     c.in_ok-finish.ensures in
     (ended.walking, ended.met, ended.nearer)
 
