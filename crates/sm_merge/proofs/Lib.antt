@@ -6,7 +6,7 @@ mod OtherOrder
 pub mod PreludeGiven
 mod PreludeShapes
 mod MeantIds
-mod NamesKnown
+pub mod NamesKnown
 mod MeantViews
 mod Bodies
 mod Cuts
