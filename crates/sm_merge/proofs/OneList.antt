@@ -44,7 +44,7 @@ above : (e : EventTold) (fs : List EventTold) → IsBeforeAll e fs → AllByRecu
 above e [] h = tt
 above e (f ∷ fs) h = (h.0, above e fs h.1)
 
-sorted : (es : List EventTold) → AreInOrder es → IsStrictlySortedBy event_cmp es
+pub sorted : (es : List EventTold) → AreInOrder es → IsStrictlySortedBy event_cmp es
 unfolding IsStrictlySortedBy
 sorted [] h = tt
 sorted (e ∷ es) h = (above e es h.0, sorted es h.1)
