@@ -1,0 +1,7 @@
+mod Renumbered
+mod TwinPlaces
+mod TwinReadings
+mod OtherNumbers
+mod TableRows
+mod TableTwins
+pub mod SameFaults

@@ -1,0 +1,3 @@
+pub mod NodeChecks
+pub mod rules
+pub mod Laws
