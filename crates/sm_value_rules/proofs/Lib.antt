@@ -5,3 +5,4 @@ mod OtherNumbers
 mod TableRows
 mod TableTwins
 pub mod SameFaults
+pub mod CheckedShapes

@@ -1,5 +1,5 @@
--- The number that stands in one list of names for what has a number in another: by the name where both have it, else behind the list, so that
--- nothing is lost.
+-- The number that stands in one list of names for what has a number in another: by the name where both have it, else behind the list, so
+-- that nothing is lost.
 use Rattle.std.proofs.Common.{◌≡◌, ℕ, zero, suc, ◌+◌, ◌-◌, ◌≤◌, Bool, true, false, cond, List, [], ◌∷◌, length, refl, sym, ap, ◌∙◌, subst}
 use Rattle.std.proofs.Common.{arith, inl, inr}
 use Rattle.std.specs.Prelude.{Option, Some, None, slice_get, unwrap_or}

@@ -99,7 +99,8 @@ module _ (g : GraphMaps) (root : List ℕ) (roots others : List (List ℕ)) (t u
   same_filled n =
       let left = filled_members (node_codec t test) 0 t.members in
       let right = filled_members (node_codec u test) 0 u.members in
-      let have = have_twins g root roots others t u row other_row h o test left right (given_defaults t test) (given_defaults u test) filled_alike in
+      let have = have_twins g root roots others t u row other_row h o test left right (given_defaults t test) (given_defaults u test)
+      filled_alike in
       let two = root_twins g root roots others t u row other_row h o test left right (given_defaults t test) (given_defaults u test) in
       same_reading (filled t test) (filled u test) (node_convention false) test to back IsGood have inverse (node_laws false).of_type n
       (root_place row) (root_place other_row) two

@@ -36,13 +36,14 @@ among_members kind ids id h = by (has_value_members kind) h
     by false there = absurd (contains_none id there)
 
 -- what is reached by a way, and one step more
-way_on : (g : GraphMaps) (from : List ℕ) (by : List (List ℕ)) (mid to : List ℕ) → LeadsBy g from by mid → LeadsBy g mid (to ∷ []) to
+pub way_on : (g : GraphMaps) (from : List ℕ) (by : List (List ℕ)) (mid to : List ℕ) → LeadsBy g from by mid → LeadsBy g mid (to ∷ []) to
     → LeadsBy g from (by ++ to ∷ []) to
 way_on g from [] mid to h step = subst (λ x. LeadsBy g x (to ∷ []) to) (sym h) step
 way_on g from (next ∷ by) mid to h step = (h.0, way_on g next by mid to h.1 step)
 
 -- a shape's member and its target are reached where the shape is
-pub target_reached : (g : GraphMaps) (root shape id : List ℕ) (s : ShapeEntry) (m : MemberEntry) (target : ShapeEntry) → IsReached g root shape
+pub target_reached : (g : GraphMaps) (root shape id : List ℕ) (s : ShapeEntry) (m : MemberEntry) (target : ShapeEntry)
+    → IsReached g root shape
     → HasEntry g shape (shape_entry s) → Contains s.members id → HasEntry g id (member_entry m) → HasEntry g m.target (shape_entry target)
     → IsReached g root m.target
 target_reached g root shape id s m target reached there listed member found =
@@ -114,8 +115,10 @@ module _ (g : GraphMaps) (root : List ℕ) (roots : List (List ℕ)) (t : TableD
       let its = subst (Contains (members_under g id)) (get_or_from_slice_get n.members k good.id [] good.at) here in
       let place = shape_there good.shape good.reached good.value in
       let there = subst (λ e. Contains (members_in e) good.id) (sym good.there) good.listed in
-      let block = subst (λ x. Contains (members_under g x) good.id) (sym (get_or_from_slice_get n.shapes place.0 good.shape [] place.1)) there in
+      let block = subst (λ x. Contains (members_under g x) good.id)
+      (sym (get_or_from_slice_get n.shapes place.0 good.shape [] place.1)) there in
       let differ = subst AllDiffer h.compiled.members_follow h.compiled.members_once in
-      let same = one_block (members_under g) n.shapes differ d.shape place.0 good.id less (slice_get_within n.shapes place.0 good.shape place.1)
+      let same = one_block (members_under g) n.shapes differ d.shape place.0 good.id less
+      (slice_get_within n.shapes place.0 good.shape place.1)
       its block in
       ap (λ s. get_or n.shapes s []) same ∙ get_or_from_slice_get n.shapes place.0 good.shape [] place.1

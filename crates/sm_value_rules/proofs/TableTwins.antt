@@ -1,11 +1,12 @@
--- Two tables that say what a graph says of all that a shape reaches: their members with one id are twins, and so are the numbers of the shape,
--- though members may have been given defaults.
+-- Two tables that say what a graph says of all that a shape reaches: their members with one id are twins, and so are the numbers of the
+-- shape, though members may have been given defaults.
 use Rattle.std.proofs.Common.{◌≡◌, inl, inr, ℕ, ◌<◌, false, List, [], ◌∷◌, ◌++◌, map, length, get_or, refl, sym, ap, ◌∙◌}
-use Rattle.std.proofs.Common.{subst, arith, is_some}
+use Rattle.std.proofs.Common.{subst, arith, drop, is_some}
 use Rattle.std.specs.Prelude.{Option, Some, None, Result, Ok, Err, slice_get}
 use Rattle.std.specs.FinMap as fin
 use Rattle.std.specs.List.{AllByRecursion, Contains}
 use Rattle.std.specs.Option.{option_map}
+use Rattle.std.proofs.lemmas.List.{length-map}
 use Rattle.std.proofs.lemmas.Option.{get_or_from_slice_get, none-some, same_Some, slice_get-get_or, slice_get_within}
 use Rattle.sm_tree.specs.Node.{Node}
 use Rattle.sm_model.specs.Graphs.{GraphMaps, MemberEntry, ShapeEntry, member_entry, member_id, shape_entry}
@@ -19,7 +20,8 @@ use Rattle.sm_shapes.specs.Places.{Place, member_place, root_place}
 use Rattle.sm_shapes.specs.TableData.{ConstraintData, MemberData, ShapeData, TableData, constraints_in, default_at, default_in, first_text}
 use Rattle.sm_shapes.specs.TableData.{format_in, kind_at, kind_in, member_count, members_at, name_at, name_in, required_at, required_in}
 use Rattle.sm_shapes.specs.TableData.{members_in as listed_in}
-use Rattle.sm_shapes.specs.TableData.{constraints_at, shape_constraints_at, shape_constraints_in, shape_format_in, sparse_at, sparse_in, target_at}
+use Rattle.sm_shapes.specs.TableData.{constraints_at, shape_constraints_at, shape_constraints_in, shape_format_in, sparse_at, sparse_in}
+use Rattle.sm_shapes.specs.TableData.{target_at}
 use Rattle.sm_shapes.specs.TableData.{target_in, unique_at, unique_in}
 use Rattle.sm_shapes.specs.Values.{Val}
 use Rattle.sm_shapes.specs.declared.fault.FaultKind.TheVariants.{Pattern}
@@ -85,29 +87,20 @@ two_listed t kd ks own e = by ks (subst (λ k. HasItsMembers t k ks) e own)
     by (k ∷ j ∷ []) h = refl
     by (k ∷ j ∷ l ∷ js) h = absurd h
 
-abbrev first_name : List (List ℕ) → List ℕ
-first_name [] = []
-first_name (x ∷ xs) = x
-
-abbrev other_names : List (List ℕ) → List (List ℕ)
-other_names [] = []
-other_names (x ∷ xs) = xs
-
-abbrev is_some_list : List (List ℕ) → Type 0
-is_some_list [] = ⊥
-is_some_list (x ∷ xs) = Unit {0}
-
 -- members of two tables with one id each stand for one where they are in range
 module _ (xs ys : List (List ℕ)) (differ : AllDiffer ys) where
   same_listed : (ks js : List ℕ) → AllByRecursion (λ k. k < length xs) ks → AllByRecursion (λ k. k < length ys) js
       → map (λ k. get_or xs k []) ks ≡ map (λ k. get_or ys k []) js → map (other_number xs ys) ks ≡ js
   same_listed [] [] p q e = refl
-  same_listed [] (j ∷ js) p q e = absurd (subst is_some_list (sym e) tt)
-  same_listed (k ∷ ks) [] p q e = absurd (subst is_some_list e tt)
+  same_listed [] (j ∷ js) p q e =
+      let many : 0 ≡ length (j ∷ js) = ap length e ∙ length-map (j ∷ js) (λ k. get_or ys k []) in absurd (omega (arith, many))
+  same_listed (k ∷ ks) [] p q e =
+      let many : length (k ∷ ks) ≡ 0 = sym (length-map (k ∷ ks) (λ k. get_or xs k [])) ∙ ap length e in absurd (omega (arith, many))
   same_listed (k ∷ ks) (j ∷ js) p q e =
-      let name : get_or xs k [] ≡ get_or ys j [] = ap first_name e in
-      let names : map (λ k. get_or xs k []) ks ≡ map (λ k. get_or ys k []) js = ap other_names e in
-      let one = same_name_there xs ys differ k j (get_or xs k []) (slice_get-get_or xs k [] p.0) (slice_get-get_or ys j [] q.0 ∙ ap Some (sym name)) in
+      let name : get_or xs k [] ≡ get_or ys j [] = ap (λ ns. get_or ns 0 []) e in
+      let names : map (λ k. get_or xs k []) ks ≡ map (λ k. get_or ys k []) js = ap (drop 1) e in
+      let one = same_name_there xs ys differ k j (get_or xs k []) (slice_get-get_or xs k [] p.0)
+      (slice_get-get_or ys j [] q.0 ∙ ap Some (sym name)) in
       let more = same_listed ks js p.1 q.1 names in λ i. one i ∷ more i
 
 numbers_within : (t : TableData) (s : ℕ) (ks : List ℕ) (n : ℕ) → n ≡ member_count t → AreMembersOf t s ks → AllByRecursion (λ k. k < n) ks
@@ -167,19 +160,23 @@ module _ (g : GraphMaps) (n m : Numbering) (t u : TableData) (k l : ℕ) (id sha
       (constraints_said g r.a.target (effective_traits r.a.m.traits r.a.target.traits))
       (constraints_said g r.b.target (effective_traits r.b.m.traits r.b.target.traits))
       (λ i. constraints_said g (one_target i) (effective_traits (one_member i).traits (one_target i).traits))
-      (subst (λ ps. SayConstraints ps r.d.constraints (constraints_said g r.a.target (effective_traits r.a.m.traits r.a.target.traits))) (sym p)
+      (subst (λ ps. SayConstraints ps r.d.constraints (constraints_said g r.a.target (effective_traits r.a.m.traits r.a.target.traits)))
+      (sym p)
       r.a.constraints)
-      (subst (λ ps. SayConstraints ps r.e.constraints (constraints_said g r.b.target (effective_traits r.b.m.traits r.b.target.traits))) (sym q)
+      (subst (λ ps. SayConstraints ps r.e.constraints (constraints_said g r.b.target (effective_traits r.b.m.traits r.b.target.traits)))
+      (sym q)
       r.b.constraints)
 
 -- a table whose members have been given defaults, or stay as they are
 abbrev pub AreGiven : TableData → List MemberData → Type 0
-AreGiven t rows = (k : ℕ) (d : MemberData) → slice_get t.members k ≡ Some d → (v : Option Val) × (slice_get rows k ≡ Some (with_default d v))
+AreGiven t rows =
+    (k : ℕ) (d : MemberData) → slice_get t.members k ≡ Some d → (v : Option Val) × (slice_get rows k ≡ Some (with_default d v))
 
 abbrev pub given : TableData → List MemberData → TableData
 given t rows = record { shapes = t.shapes; members = rows; patterns = t.patterns }
 
-module _ (g : GraphMaps) (root : List ℕ) (roots others : List (List ℕ)) (t u : TableData) (row other_row : ℕ) (h : HasRow g roots t root row)
+module _ (g : GraphMaps) (root : List ℕ) (roots others : List (List ℕ)) (t u : TableData) (row other_row : ℕ)
+    (h : HasRow g roots t root row)
     (o : HasRow g others u root other_row) where
   abbrev n : Numbering
   n = h.numbering
@@ -224,7 +221,8 @@ module _ (g : GraphMaps) (root : List ℕ) (roots others : List (List ℕ)) (t u
       let named = ap (λ ks. map (λ k. get_or n.members k []) (listed_in ks)) p.1 ∙ x.members in
       let others_named = ap (λ ks. map (λ k. get_or m.members k []) (listed_in ks)) q.1 ∙ y.members in
       let inside = numbers_within t a (members_at t a) (length n.members) (members_many g root roots t row h) (h.shaped.members a less) in
-      let in_other = numbers_within u b (members_at u b) (length m.members) (members_many g root others u other_row o) (o.shaped.members b also) in
+      let in_other = numbers_within u b (members_at u b) (length m.members) (members_many g root others u other_row o)
+      (o.shaped.members b also) in
       record {
         kind = ap kind_in p.1 ∙ x.kind ∙ (λ i. table_kind (shape i).kind) ∙ sym y.kind ∙ sym (ap kind_in q.1);
         unique = ap unique_in p.1 ∙ x.unique ∙ (λ i. is_some (fin.get (shape i).traits unique_items_id)) ∙ sym y.unique

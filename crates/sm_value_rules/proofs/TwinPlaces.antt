@@ -19,6 +19,7 @@ use Rattle.sm_shapes.specs.declared.kinds.ShapeKind.{ShapeKind}
 use Rattle.sm_shapes.specs.declared.kinds.ShapeKind.TheVariants as kinds
 use Rattle.sm_codec.specs.Convention.{Convention, is_of}
 use Rattle.sm_codec.specs.FaultLists.{FaultAt, Reading, faults_in, settled, values_in}
+use Rattle.sm_codec.specs.Readings.{Child}
 use Rattle.sm_codec.specs.declared.simple.Simple.{Simple}
 use Rattle.sm_codec.specs.declared.simple.Simple.TheVariants as the
 use Rattle.sm_value_rules.proofs.Renumbered.{moved}
@@ -75,6 +76,19 @@ module _ (t u : TableData) (test : Test) (c d : ConstraintData) (h : SayAlike t 
 abbrev pub moved_reading : (ℕ → ℕ) → Reading → Reading
 moved_reading f (Ok v) = Ok (moved f v)
 moved_reading f (Err fs) = Err fs
+
+-- what stands in trees, read by both tables
+pub record ChildTwins (t u : TableData) (test : Test) (f : ℕ → ℕ) (Good : ℕ → Type 0) (a b : Child) : Type 0 where
+  pub nulls : a.null ≡ b.null
+  pub readings : (p q : Place) → AreTwins t u test f Good p q → moved_reading f (a.reading p) ≡ b.reading q
+
+-- what a member comes to, by the other numbers
+abbrev pub Came : Type 0
+Came = Result (Option Val) (List FaultAt)
+
+abbrev pub moved_member : (ℕ → ℕ) → Came → Came
+moved_member f (Ok o) = Ok (option_map (moved f) o)
+moved_member f (Err fs) = Err fs
 
 module _ (f : ℕ → ℕ) where
   pub faults_kept : (r : Reading) → faults_in r ≡ faults_in (moved_reading f r)

@@ -34,20 +34,7 @@ use Rattle.sm_codec.specs.declared.simple.Simple.{Simple}
 use Rattle.sm_codec.proofs.PlacesIn.{kind_of_sort}
 use Rattle.sm_value_rules.proofs.Renumbered.{entries_moved, fields_moved, moved, moved_entry, moved_field, twice_moved, vals_moved}
 use Rattle.sm_value_rules.proofs.TwinPlaces.{AreTwins, HaveTwins, breaks_alike, faults_kept, lengths_alike, moved_reading, settled_moved}
-use Rattle.sm_value_rules.proofs.TwinPlaces.{simple_stays, values_kept}
-
--- what stands in trees, read by both tables
-record ChildTwins (t u : TableData) (test : Test) (f : ℕ → ℕ) (Good : ℕ → Type 0) (a b : Child) : Type 0 where
-  nulls : a.null ≡ b.null
-  readings : (p q : Place) → AreTwins t u test f Good p q → moved_reading f (a.reading p) ≡ b.reading q
-
--- what a member comes to, by the other numbers
-abbrev Came : Type 0
-Came = Result (Option Val) (List FaultAt)
-
-abbrev moved_member : (ℕ → ℕ) → Came → Came
-moved_member f (Ok o) = Ok (option_map (moved f) o)
-moved_member f (Err fs) = Err fs
+use Rattle.sm_value_rules.proofs.TwinPlaces.{Came, ChildTwins, moved_member, simple_stays, values_kept}
 
 module _ (t u : TableData) (l : Convention) (test : Test) (f back : ℕ → ℕ) (Good : ℕ → Type 0) where
   abbrev c : Codec
@@ -160,7 +147,8 @@ module _ (t u : TableData) (l : Convention) (test : Test) (f back : ℕ → ℕ)
   entries_valued p q e w (a ∷ xs) [] h = absurd h
   entries_valued p q e w (a ∷ xs) (b ∷ ys) h =
       let r = entry_reading (sparse_of t p) (entry_place t p) a in
-      let one = values_kept f r ∙ ap values_in (entry_alike (entry_place t p) (entry_place u q) w (sparse_of t p) (sparse_of u q) e a b h.0) in
+      let one = values_kept f r
+      ∙ ap values_in (entry_alike (entry_place t p) (entry_place u q) w (sparse_of t p) (sparse_of u q) e a b h.0) in
       let more = entries_valued p q e w xs ys h.1 in
       map-append (moved f) (values_in r) (entries_values c p xs) ∙ (λ j. one j ++ more j)
 
