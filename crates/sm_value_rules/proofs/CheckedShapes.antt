@@ -1,8 +1,7 @@
 -- The shapes for which nodes are checked are those that have values, are fine, and from which no steps lead on to a faulty one.
-use Rattle.std.proofs.Common.{◌≡◌, ◌⊎◌, inl, inr, ℕ, ◌<◌, Bool, true, false, List, [], ◌∷◌, ◌++◌, length, get_or, refl, sym, ap, ◌∙◌, subst}
-use Rattle.std.specs.Prelude.{◌↔◌, MatchBool, Some, slice_get}
-use Rattle.std.specs.List.{Contains}
-use Rattle.sm_model.specs.Graphs.{Entry, ShapeEntry, shape_entry, member_entry}
+use Rattle.std.proofs.Common.{◌≡◌, ◌⊎◌, inl, inr, ℕ, ◌<◌, Bool, true, false, List, [], ◌∷◌, ◌++◌, length, get_or, refl, sym, ◌∙◌, subst}
+use Rattle.std.specs.Prelude.{Some, slice_get}
+use Rattle.sm_model.specs.Graphs.{ShapeEntry, shape_entry}
 use Rattle.sm_model.specs.GraphView.{IsShapeNumber, entries_of, maps_of}
 use Rattle.sm_model.specs.Links.{IsLinked}
 use Rattle.sm_model.specs.Reaching.{IsMarked, id_of_number}
@@ -10,15 +9,15 @@ use Rattle.sm_model.specs.Relations.{HasEntry, IsInGraph, IsRelated}
 use Rattle.sm_model.specs.declared.graph.Graph.{Graph}
 use Rattle.sm_model.specs.declared.link.Link.{Link}
 use Rattle.sm_model.specs.declared.relation.Relation.{Relation}
-use Rattle.sm_model.specs.declared.relation.Relation.TheVariants.{Container, Member, Target}
+use Rattle.sm_model.specs.declared.relation.Relation.TheVariants.{Member, Target}
 use Rattle.sm_model.proofs.GraphFacts.{id_at}
 use Rattle.sm_model.proofs.LinkNumbers.{one_number, stands_at}
 use Rattle.sm_model.proofs.NumberedIds.{number_of, related_in}
 use Rattle.sm_model.proofs.Worklist.{marked_within}
 use Rattle.sm_select.specs.Neighbors.{AreNeighbors, AreReached, HasStep, IsReached as LeadsFrom, StepsBy}
 use Rattle.sm_compile.specs.Reached.{IsReached, LeadsBy, LeadsTo}
-use Rattle.sm_compile.specs.Served.{IsLeftOut, ReachesLeftOut}
-use Rattle.sm_compile.specs.Sound.{IsSoundShape, IsValueShape, Sound}
+use Rattle.sm_compile.specs.Served.{IsLeftOut}
+use Rattle.sm_compile.specs.Sound.{IsSoundShape, IsValueShape}
 use Rattle.sm_value_rules.specs.NodeChecks.{IsChecked}
 use Rattle.sm_value_rules.specs.parts.Checking.{AreFaultMarks, AreValueLinks, IsFaultyAt, IsFineAt, IsOfValues, TellsFault}
 use Rattle.sm_value_rules.proofs.TableRows.{way_on}

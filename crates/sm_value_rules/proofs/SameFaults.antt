@@ -1,5 +1,5 @@
 -- What a node comes to for a shape is one thing in all tables that have the shape.
-use Rattle.std.proofs.Common.{◌≡◌, ℕ, zero, suc, ◌+◌, false, List, [], ◌∷◌, refl, sym, ap, ◌∙◌, subst, arith}
+use Rattle.std.proofs.Common.{◌≡◌, ℕ, zero, suc, ◌+◌, false, List, [], ◌∷◌, refl, sym, ap, ◌∙◌, arith}
 use Rattle.std.specs.Prelude.{Option, Some, None, Ok, Err, slice_get}
 use Rattle.std.specs.Option.{option_map}
 use Rattle.std.proofs.lemmas.Option.{none-some, same_Some}
@@ -9,7 +9,6 @@ use Rattle.sm_shapes.specs.DefaultPuts.{with_default}
 use Rattle.sm_shapes.specs.Fitting.{Test, any_text}
 use Rattle.sm_shapes.specs.Places.{member_place, root_place}
 use Rattle.sm_shapes.specs.TableData.{MemberData, TableData, default_at, default_in}
-use Rattle.sm_shapes.specs.Values.{Val}
 use Rattle.sm_codec.specs.Codec.{Codec}
 use Rattle.sm_codec.specs.Conventions.{node_convention}
 use Rattle.sm_codec.specs.Defaults.{counted_default, filled, filled_members, node_codec, read_value}
@@ -17,10 +16,10 @@ use Rattle.sm_codec.specs.FaultLists.{FaultAt, Reading, faults_in}
 use Rattle.sm_codec.specs.Readings.{reading}
 use Rattle.sm_codec.proofs.NodeLaws.{node_laws}
 use Rattle.sm_value_rules.specs.Laws.{FaultsByEach, OneFaultList, SameFaults}
-use Rattle.sm_value_rules.specs.NodeChecks.{HasNodeFaults, HasRow, node_reading}
+use Rattle.sm_value_rules.specs.NodeChecks.{HasRow, node_reading}
 use Rattle.sm_value_rules.proofs.OtherNumbers.{nothing_lost, number_back}
 use Rattle.sm_value_rules.proofs.Renumbered.{moved}
-use Rattle.sm_value_rules.proofs.TableTwins.{AreGiven, Good, f, given, have_twins, member_twins, nodes_alike, root_twins}
+use Rattle.sm_value_rules.proofs.TableTwins.{AreGiven, Good, f, have_twins, member_twins, nodes_alike, root_twins}
 use Rattle.sm_value_rules.proofs.TwinPlaces.{faults_kept, moved_reading}
 use Rattle.sm_value_rules.proofs.TwinReadings.{same_reading}
 

@@ -1,22 +1,22 @@
 -- The rows of a table that says what a graph says of all that some shapes reach, by ids.
-use Rattle.std.proofs.Common.{◌≡◌, inl, inr, ℕ, zero, suc, ◌+◌, ◌<◌, Bool, true, false, cond, List, [], ◌∷◌, ◌++◌, map, length, get_or}
-use Rattle.std.proofs.Common.{refl, sym, ap, ◌∙◌, subst, arith}
-use Rattle.std.specs.Prelude.{Option, Some, None, slice_get}
-use Rattle.std.specs.List.{Contains, flat_map}
+use Rattle.std.proofs.Common.{◌≡◌, inl, inr, ℕ, zero, suc, ◌<◌, Bool, true, false, cond, List, [], ◌∷◌, ◌++◌, length, get_or}
+use Rattle.std.proofs.Common.{refl, sym, ap, ◌∙◌, subst}
+use Rattle.std.specs.Prelude.{Some, slice_get}
+use Rattle.std.specs.List.{Contains}
 use Rattle.std.proofs.lemmas.Option.{get_or_from_slice_get, none-some, same_Some, slice_get-get_or, slice_get_within}
 use Rattle.sm_model.specs.Graphs.{GraphMaps, MemberEntry, ShapeEntry, member_entry, shape_entry}
 use Rattle.sm_model.specs.Relations.{HasEntry}
 use Rattle.sm_model.specs.declared.kind.Kind.{Kind}
 use Rattle.sm_model.proofs.OneRising.{contains_none}
 use Rattle.sm_shapes.specs.Names.{AllDiffer}
-use Rattle.sm_shapes.specs.TableData.{MemberData, ShapeData, TableData, home_at, home_in, member_count, members_at, shape_count}
+use Rattle.sm_shapes.specs.TableData.{MemberData, ShapeData, TableData, home_in, member_count, members_at, shape_count}
 use Rattle.sm_shapes.specs.TableData.{members_in as listed_in}
-use Rattle.sm_compile.specs.Compiled.{EachSays, IsTabled, Numbering, SaysMember, SaysShape, members_in, members_under}
+use Rattle.sm_compile.specs.Compiled.{EachSays, Numbering, SaysMember, SaysShape, members_in, members_under}
 use Rattle.sm_compile.specs.Kinds.{has_value_members, members_of_kind, value_members}
 use Rattle.sm_compile.specs.Reached.{IsReached, LeadsBy}
 use Rattle.sm_compile.specs.Sound.{IsValueShape}
 use Rattle.sm_compile.proofs.RowsAlike.{contains_mapped, each_length, one_block}
-use Rattle.sm_value_rules.specs.NodeChecks.{HasRow, IsReachedFromSome}
+use Rattle.sm_value_rules.specs.NodeChecks.{HasRow}
 use Rattle.sm_value_rules.proofs.OtherNumbers.{at_contains, contains_at}
 
 -- a row that says something of the name at its place

@@ -1,24 +1,23 @@
 -- Two tables that say what a graph says of all that a shape reaches: their members with one id are twins, and so are the numbers of the
 -- shape, though members may have been given defaults.
-use Rattle.std.proofs.Common.{◌≡◌, inl, inr, ℕ, ◌<◌, false, List, [], ◌∷◌, ◌++◌, map, length, get_or, refl, sym, ap, ◌∙◌}
+use Rattle.std.proofs.Common.{◌≡◌, ℕ, ◌<◌, false, List, [], ◌∷◌, map, length, get_or, refl, sym, ap, ◌∙◌}
 use Rattle.std.proofs.Common.{subst, arith, drop, is_some}
-use Rattle.std.specs.Prelude.{Option, Some, None, Result, Ok, Err, slice_get}
+use Rattle.std.specs.Prelude.{Option, Some, None, slice_get}
 use Rattle.std.specs.FinMap as fin
 use Rattle.std.specs.List.{AllByRecursion, Contains}
 use Rattle.std.specs.Option.{option_map}
 use Rattle.std.proofs.lemmas.List.{length-map}
-use Rattle.std.proofs.lemmas.Option.{get_or_from_slice_get, none-some, same_Some, slice_get-get_or, slice_get_within}
-use Rattle.sm_tree.specs.Node.{Node}
-use Rattle.sm_model.specs.Graphs.{GraphMaps, MemberEntry, ShapeEntry, member_entry, member_id, shape_entry}
+use Rattle.std.proofs.lemmas.Option.{slice_get-get_or}
+use Rattle.sm_model.specs.Graphs.{GraphMaps, MemberEntry, ShapeEntry, member_id, shape_entry}
 use Rattle.sm_model.specs.Relations.{HasEntry}
 use Rattle.sm_model.proofs.OneRising.{contains_behind, contains_head}
 use Rattle.sm_shapes.specs.Broken.{pattern_broken, unless}
 use Rattle.sm_shapes.specs.DefaultPuts.{with_default}
 use Rattle.sm_shapes.specs.Fitting.{Test, finder}
 use Rattle.sm_shapes.specs.InOrder.{AreMembersOf, HasItsMembers}
-use Rattle.sm_shapes.specs.Places.{Place, member_place, root_place}
-use Rattle.sm_shapes.specs.TableData.{ConstraintData, MemberData, ShapeData, TableData, constraints_in, default_at, default_in, first_text}
-use Rattle.sm_shapes.specs.TableData.{format_in, kind_at, kind_in, member_count, members_at, name_at, name_in, required_at, required_in}
+use Rattle.sm_shapes.specs.Places.{member_place, root_place}
+use Rattle.sm_shapes.specs.TableData.{ConstraintData, MemberData, TableData, constraints_in, default_at, first_text}
+use Rattle.sm_shapes.specs.TableData.{format_in, kind_at, kind_in, member_count, members_at, name_at, name_in, required_in}
 use Rattle.sm_shapes.specs.TableData.{members_in as listed_in}
 use Rattle.sm_shapes.specs.TableData.{constraints_at, shape_constraints_at, shape_constraints_in, shape_format_in, sparse_at, sparse_in}
 use Rattle.sm_shapes.specs.TableData.{target_at}
@@ -29,7 +28,7 @@ use Rattle.sm_shapes.specs.declared.kinds.ShapeKind.{ShapeKind}
 use Rattle.sm_shapes.specs.declared.kinds.ShapeKind.TheVariants as kinds
 use Rattle.sm_shapes.specs.Names.{AllDiffer}
 use Rattle.sm_codec.specs.Conventions.{node_convention}
-use Rattle.sm_compile.specs.Compiled.{NamesText, Numbering, PatternRows, SayConstraints, SaysMember, SaysShape}
+use Rattle.sm_compile.specs.Compiled.{NamesText, Numbering, SayConstraints, SaysMember, SaysShape}
 use Rattle.sm_compile.specs.Kinds.{table_kind, value_members}
 use Rattle.sm_compile.specs.Reached.{IsReached}
 use Rattle.sm_compile.specs.Said.{ConstraintsSaid, constraints_said, default_said, format_seen}

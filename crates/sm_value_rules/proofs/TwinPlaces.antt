@@ -1,19 +1,17 @@
 -- Places of two tables that stand for one thing, though members have other numbers: one is the other's twin. Which tables have twins is
 -- said of their members by number.
-use Rattle.std.proofs.Common.{◌≡◌, ℕ, ℤ, pos, Bool, true, false, ◌&&◌, cond, List, [], ◌∷◌, ◌++◌, map, length, refl, sym, ap, ◌∙◌, subst}
-use Rattle.std.specs.Prelude.{Option, Some, None, Result, Ok, Err}
+use Rattle.std.proofs.Common.{◌≡◌, ℕ, pos, true, ◌&&◌, List, [], ◌∷◌, ◌++◌, map, length, refl}
+use Rattle.std.specs.Prelude.{Option, Result, Ok, Err}
 use Rattle.std.specs.List.{AllByRecursion}
 use Rattle.std.specs.Option.{option_map}
 use Rattle.std.specs.Str.{chars}
-use Rattle.sm_tree.specs.Node.{Node}
-use Rattle.sm_shapes.specs.Broken.{Finder, broken, is_at_least, is_at_most, length_broken, number_broken, pattern_broken, text_broken}
+use Rattle.sm_shapes.specs.Broken.{broken, is_at_least, is_at_most, length_broken, number_broken, pattern_broken, text_broken}
 use Rattle.sm_shapes.specs.Broken.{unless}
 use Rattle.sm_shapes.specs.Fitting.{Test, finder}
 use Rattle.sm_shapes.specs.Places.{Place, member_place, constraints_of, format_of, kind_of, members_of_place, sparse_of, unique_of}
 use Rattle.sm_shapes.specs.TableData.{ConstraintData, TableData, default_at, name_at, required_at}
 use Rattle.sm_shapes.specs.Values.{Val, null_val, bool_val, int_val, text_val, blob_val, time_val, list_val, map_val, structure_val}
 use Rattle.sm_shapes.specs.Values.{each_val, keys_of, union_val}
-use Rattle.sm_shapes.specs.declared.fault.FaultKind.{FaultKind}
 use Rattle.sm_shapes.specs.declared.fault.FaultKind.TheVariants.{Length, Range}
 use Rattle.sm_shapes.specs.declared.kinds.ShapeKind.{ShapeKind}
 use Rattle.sm_shapes.specs.declared.kinds.ShapeKind.TheVariants as kinds

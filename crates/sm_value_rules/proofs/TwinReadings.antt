@@ -1,5 +1,5 @@
 -- A tree comes to the same at places that are twins, but for the numbers of members: an induction on the tree.
-use Rattle.std.proofs.Common.{◌≡◌, ◌⊎◌, ℕ, suc, Bool, true, false, ◌&&◌, cond, List, [], ◌∷◌, ◌++◌, map, length, refl, sym, ap, ◌∙◌, subst}
+use Rattle.std.proofs.Common.{◌≡◌, ℕ, suc, Bool, true, false, ◌&&◌, cond, List, [], ◌∷◌, ◌++◌, map, length, refl, sym, ap, ◌∙◌, subst}
 use Rattle.std.proofs.Common.{arith}
 use Rattle.std.specs.Prelude.{Option, Some, None, Result, Ok, Err, slice_index_or}
 use Rattle.std.specs.List.{AllByRecursion}
@@ -11,23 +11,22 @@ use Rattle.sm_tree.specs.Node.{no_members, member}
 use Rattle.sm_tree.specs.declared.path.Step.TheVariants.{Member, Index, Key}
 use Rattle.sm_shapes.specs.Broken.{has_twice, length_broken}
 use Rattle.sm_shapes.specs.Fitting.{Test}
-use Rattle.sm_shapes.specs.Places.{Place, member_place, constraints_of, entry_place, format_of, key_place, kind_of, members_of_place}
+use Rattle.sm_shapes.specs.Places.{Place, member_place, constraints_of, entry_place, key_place, kind_of, members_of_place}
 use Rattle.sm_shapes.specs.Places.{shape_of, sparse_of, unique_of, value_place}
 use Rattle.sm_shapes.specs.TableData.{TableData, default_at, name_at, required_at}
-use Rattle.sm_shapes.specs.Values.{Val, entries_of, fields_of, list_val, map_val, null_val, structure_val, text_val, union_val, vals_of}
+use Rattle.sm_shapes.specs.Values.{Val, entries_of, fields_of, list_val, map_val, null_val, structure_val, text_val, vals_of}
 use Rattle.sm_shapes.specs.declared.fault.FaultKind.{FaultKind}
-use Rattle.sm_shapes.specs.declared.fault.FaultKind.TheVariants.{WrongType, Null, Repeated, Missing, Unique, UnionCount}
-use Rattle.sm_shapes.specs.declared.kinds.ShapeKind.{ShapeKind}
+use Rattle.sm_shapes.specs.declared.fault.FaultKind.TheVariants.{WrongType, Null, Unique, UnionCount}
 use Rattle.sm_shapes.specs.declared.kinds.ShapeKind.TheVariants as kind
 use Rattle.sm_codec.specs.Codec.{Codec, broken_at, codec_of, sort_at}
 use Rattle.sm_codec.specs.Convention.{Convention, is_of}
 use Rattle.sm_codec.specs.FaultLists.{FaultAt, Reading, faults_in, here, settled, under, values_in}
-use Rattle.sm_codec.specs.Named.{in_byte_order, is_null, named, names_of}
+use Rattle.sm_codec.specs.Named.{in_byte_order, named, names_of}
 use Rattle.sm_codec.specs.Readings.{ByMember, Child, absent_reading, absent_with, all_standing, children, entries_faults, entries_values}
 use Rattle.sm_codec.specs.Readings.{entry_reading, key_faults, keyed, keys_faults, keys_values, leaf_by, leaf_reading, list_by, list_faults}
 use Rattle.sm_codec.specs.Readings.{list_reading, map_faults, map_reading, member_faults, member_fields, member_reading, members_faults}
 use Rattle.sm_codec.specs.Readings.{members_fields, named_children, object_by, one_here, pair_faults, pair_values, present_reading, reading}
-use Rattle.sm_codec.specs.Readings.{repeated_faults, repeats, standing, standing_faults, standing_fields, structure_reading, under_names}
+use Rattle.sm_codec.specs.Readings.{repeated_faults, repeats, standing, standing_fields, structure_reading, under_names}
 use Rattle.sm_codec.specs.Readings.{union_faults, union_reading, union_reading_of, unique_faults, when_closed}
 use Rattle.sm_codec.specs.Sorts.{Sort, simple, a_list, a_map, a_structure, a_union, left_out, sort_by, sort_of}
 use Rattle.sm_codec.specs.declared.simple.Simple.{Simple}
