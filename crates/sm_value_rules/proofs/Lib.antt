@@ -1,0 +1,8 @@
+mod Renumbered
+mod TwinPlaces
+mod TwinReadings
+mod OtherNumbers
+mod TableRows
+mod TableTwins
+pub mod SameFaults
+pub mod CheckedShapes

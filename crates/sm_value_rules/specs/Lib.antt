@@ -1,0 +1,4 @@
+pub mod NodeChecks
+pub mod rules
+pub mod Laws
+pub mod parts

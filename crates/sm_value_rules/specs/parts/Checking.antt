@@ -1,0 +1,35 @@
+-- Which shapes have a fault themselves, by number, and the links between values.
+use Rattle.std.specs.Prelude.{◌≡◌, ◌⊎◌, ◌↔◌, ◌<◌, ℕ, Bool, false, List, MatchBool, get_or, length}
+use Rattle.std.specs.List.{Contains}
+use Rattle.sm_model.specs.GraphView.{entries_of, maps_of}
+use Rattle.sm_model.specs.Links.{IsLinked}
+use Rattle.sm_model.specs.Reaching.{id_of_number}
+use Rattle.sm_model.specs.declared.graph.Graph.{Graph}
+use Rattle.sm_model.specs.declared.link.Link.{Link}
+use Rattle.sm_model.specs.declared.relation.Relation.{Relation}
+use Rattle.sm_model.specs.declared.relation.Relation.TheVariants.{Member, Target}
+use Rattle.sm_compile.specs.Served.{IsLeftOut}
+use Rattle.sm_compile.specs.steps.Soundness.{IsSoundAt}
+
+-- what stands at a number is a shape that isn't in order, or one of a type left out
+abbrev pub IsFaultyAt : Graph → ℕ → Type 0
+IsFaultyAt g k = (IsSoundAt g k → ⊥) ⊎ IsLeftOut (maps_of g) (id_of_number g k)
+
+-- or neither
+abbrev pub IsFineAt : Graph → ℕ → Type 0
+IsFineAt g k = IsSoundAt g k × (IsLeftOut (maps_of g) (id_of_number g k) → ⊥)
+
+abbrev pub TellsFault : Graph → ℕ → Bool → Type 0
+TellsFault g k b = MatchBool b (IsFaultyAt g k) (IsFineAt g k)
+
+pub record AreFaultMarks (g : Graph) (marks : List Bool) : Type 0 where
+  pub whole : length marks ≡ length (entries_of g)
+  pub each : (k : ℕ) → k < length marks → TellsFault g k (get_or marks k false)
+
+-- a relation by which a value has a part
+abbrev pub IsOfValues : Relation → Type 0
+IsOfValues relation = (relation ≡ Member) ⊎ (relation ≡ Target)
+
+-- the links of a graph by these relations
+abbrev pub AreValueLinks : Graph → List Link → Type 0
+AreValueLinks g links = (l : Link) → Contains links l ↔ (IsLinked g l × IsOfValues l.relation)

@@ -1,0 +1,4 @@
+// Checks of node values against shapes of the model: defaults, and values and places of traits by their shapes.
+#![tactic(auto)]
+
+pub mod laws;
