@@ -1,0 +1,3 @@
+pub mod RowsBelow
+pub mod GivenNames
+pub mod NamesTold

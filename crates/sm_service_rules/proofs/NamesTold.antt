@@ -1,0 +1,381 @@
+-- What is told of the rows and pairs of a service is what the rule on its names says.
+use Rattle.std.proofs.Common.{◌≡◌, ◌⊎◌, ◌<◌, inl, inr, ℕ, Bool, true, false, List, [], ◌∷◌, Option, Some, None, get_or, length, replicate}
+use Rattle.std.proofs.Common.{refl}
+use Rattle.std.proofs.Common.{sym, ap, ◌∙◌, subst, arith}
+use Rattle.std.specs.Prelude.{◌↔◌, ◌&&◌, ◌||◌, is_some, not, set}
+use Rattle.std.specs.Cmp.{tied_itself}
+use Rattle.std.specs.Cmp.Lexicographic.{nat_list_cmp_total}
+use Rattle.std.specs.FinMap as fin
+use Rattle.std.specs.FinMap.Entries.{is_sorted}
+use Rattle.std.specs.List.{Contains}
+use Rattle.std.specs.Option.{unwrap_or}
+use Rattle.std.specs.Ordering.{ordering_reverse}
+use Rattle.std.specs.declared.cmp.Ordering.{Ordering}
+use Rattle.std.specs.declared.cmp.Ordering.TheVariants.{Less, Equal, Greater}
+use Rattle.std.proofs.lemmas.Bool.{cases_order}
+use Rattle.std.proofs.lemmas.List.{length-replicate}
+use Rattle.std.proofs.lemmas.Option.{get_or_from_slice_get, none-some}
+use Rattle.sm_tree.specs.Node.{Node, Members, members_of}
+use Rattle.sm_tree.specs.Parts.{tree_named}
+use Rattle.sm_tree.specs.Same.{HasName}
+use Rattle.sm_tree.specs.View.{members_view}
+use Rattle.sm_tree.specs.declared.tree.Tree.{Tree}
+use Rattle.sm_model.specs.EventView.{EventTold}
+use Rattle.sm_model.specs.Graphs.{text_cmp, Entry, shape_entry, member_entry, ShapeEntry, GraphMaps, traits_in}
+use Rattle.sm_model.specs.GraphView.{IsShapeNumber, entries_of, maps_of}
+use Rattle.sm_model.specs.PreludeShapes.{is_prelude_id}
+use Rattle.sm_model.specs.Reaching.{Finds, IsMarked, id_of_number}
+use Rattle.sm_model.specs.Relations.{HasEntry, IsInGraph, Reaches, WalksBy}
+use Rattle.sm_model.specs.declared.event.ModelEvent.{ModelEvent}
+use Rattle.sm_model.specs.declared.graph.Graph.{Graph}
+use Rattle.sm_model.specs.declared.kind.Kind.{Kind}
+use Rattle.sm_model.specs.declared.kind.Kind.TheVariants.{Operation, Resource, Service}
+use Rattle.sm_model.proofs.GraphFacts.{id_at}
+use Rattle.sm_model.proofs.LinkNumbers.{one_number, stands_at}
+use Rattle.sm_model.proofs.NumberedIds.{number_of, related_in}
+use Rattle.sm_model.proofs.OneRising.{contains_either, contains_none}
+use Rattle.sm_model.proofs.Searching.{and_left, and_right, key_at, keys_rise}
+use Rattle.sm_model.proofs.Worklist.{apart, found_none, mark_new, none_marked}
+use Rattle.sm_select.specs.Images.{AreImage, turned}
+use Rattle.sm_select.proofs.MarkedNumbers.{marks_same}
+use Rattle.sm_compile.specs.Looked.{kind_in, kind_under}
+use Rattle.sm_compile.specs.Sound.{trait_in}
+use Rattle.sm_compile.specs.TraitIds.{error_id}
+use Rattle.sm_compile.specs.TraitNodes.{text_of}
+use Rattle.sm_compile.specs.TraitRows.{is_among}
+use Rattle.sm_compile.specs.rules.Services.{HasNameAgain, HasWrongNames, IsNamedIn, KeepsName, RenamesWrongly, name_again, wrong_rename}
+use Rattle.sm_compile.specs.rules.Words.{IsOwnShape, IsService, has_trait}
+use Rattle.sm_rules.specs.RuleEvents.{IsEventAt, Puts, rule_event}
+use Rattle.sm_rules.specs.declared.rule.Rule.TheVariants.{ServiceNames}
+use Rattle.sm_rules.specs.parts.Carrying.{carries}
+use Rattle.sm_rules.specs.parts.Folded.{folded, is_own_shape}
+use Rattle.sm_rules.specs.parts.Putting.{IsWhere, ToldOf}
+use Rattle.sm_rules.specs.parts.Using.{is_own_service, is_service}
+use Rattle.sm_rules.proofs.EventsPut.{puts_both, puts_none, puts_same}
+use Rattle.sm_rules.proofs.ExclusiveTraits.{entry_there}
+use Rattle.sm_rules.proofs.OwnShapes.{not_so, own_told, told_own}
+use Rattle.sm_service_rules.specs.parts.Naming.{AreInside, AreRowsBelow, IsKeyBy, IsMarkedId, IsNameBy, IsWrongBy, IsWrongName, ToldAgain}
+use Rattle.sm_service_rules.specs.parts.Naming.{ToldWrong}
+use Rattle.sm_service_rules.specs.parts.Naming.{is_kept_kind, is_left, is_named, is_named_kind, keeps_name, renames_under}
+use Rattle.sm_service_rules.proofs.GivenNames.{given_name, name_of_pair, one_key, pair_of_name, renames_are, some_renames}
+use Rattle.sm_service_rules.proofs.RowsBelow.{ToldRows, ToldTwice, row_of, told_twice, twice_told}
+
+-- a service outside of the prelude
+service_kind : (k : Kind) → is_service (Some k) ≡ true → k ≡ Service
+service_kind Service h = refl
+service_kind k h = absurd (apart h)
+
+service_in : (o : Option Entry) → is_service (kind_in o) ≡ true → (s : ShapeEntry) × (o ≡ Some (shape_entry s)) × (s.kind ≡ Service)
+service_in None h = absurd (apart h)
+service_in (Some (shape_entry s)) h = (s, refl, service_kind s.kind h)
+service_in (Some (member_entry m)) h = absurd (apart h)
+
+own_service : (g : GraphMaps) (id : List ℕ) → is_own_service g id ≡ true → IsService g id
+own_service g id h =
+    let s = service_in (fin.get g.shapes id) (and_left (is_service (kind_under g id)) (not (is_prelude_id id)) h) in
+    (s.0, (s.1, not_so (is_prelude_id id) (and_right (is_service (kind_under g id)) (not (is_prelude_id id)) h)), s.2)
+
+service_own : (g : GraphMaps) (id : List ℕ) (v : ShapeEntry) → IsOwnShape g id v → v.kind ≡ Service → is_own_service g id ≡ true
+service_own g id v own kind =
+    ap (λ o. is_service (kind_in o) && not (is_prelude_id id)) own.0 ∙ ap (λ k. is_service (Some k) && not (is_prelude_id id)) kind
+    ∙ ap not own.1
+
+-- a walk stays in the graph
+walk_in : (m : GraphMaps) (between : List (List ℕ)) (a b : List ℕ) → WalksBy m a between b → IsInGraph m b
+walk_in m [] a b h = (related_in h.0 m a b h.2).1
+walk_in m (n ∷ more) a b h = walk_in m more n b h.1
+
+-- an id has one number, and ids rise with their numbers
+pub same_number : (g : Graph) (j k : ℕ) → j < length (entries_of g) → k < length (entries_of g) → id_of_number g j ≡ id_of_number g k
+    → j ≡ k
+same_number g j k a b same =
+    let x = stands_at g j a in
+    let y = stands_at g k b in
+    let is : y.0 ≡ x.0 = sym (id_at g k y.0 y.1 y.2) ∙ sym same ∙ id_at g j x.0 x.1 x.2 in
+    one_number g j k x.0 x.1 y.1 x.2 (y.2 ∙ ap (λ (i : List ℕ). Some (i, y.1)) is)
+
+either_way : (i j : ℕ) → (i < j) ⊎ ((i ≡ j) ⊎ (j < i))
+either_way i j = elim (cases_order i j) [
+  | inl same ↦ inr (inl same)
+  | inr other ↦ elim other [ inl less ↦ inl less | inr more ↦ inr (inr more) ]
+]
+
+not_greater : (r : Ordering) → r ≡ Less → r ≡ Greater → ⊥
+not_greater Less h k = cc
+not_greater Equal h k = cc
+not_greater Greater h k = cc
+
+module _ (g : Graph) where
+  abbrev m : GraphMaps
+  m = maps_of g
+
+  abbrev count : ℕ
+  count = length (entries_of g)
+
+  rising : (i j : ℕ) → i < j → j < count → text_cmp (id_of_number g i) (id_of_number g j) ≡ Less
+  rising i j less within =
+      let es = entries_of g in
+      let a = stands_at g i (omega (arith, less, within)) in
+      let b = stands_at g j within in
+      let d : List ℕ × Entry = (b.0, b.1) in
+      let first : key_at es i d ≡ id_of_number g i = ap (λ (x : List ℕ × Entry). x.0) (get_or_from_slice_get es i (a.0, a.1) d a.2)
+      ∙ sym (id_at g i a.0 a.1 a.2) in
+      let second : key_at es j d ≡ id_of_number g j = ap (λ (x : List ℕ × Entry). x.0) (get_or_from_slice_get es j (b.0, b.1) d b.2)
+      ∙ sym (id_at g j b.0 b.1 b.2) in
+      ap (λ t. text_cmp t (id_of_number g j)) (sym first) ∙ ap (text_cmp (key_at es i d)) (sym second)
+      ∙ keys_rise es (and_left (is_sorted text_cmp es) _ g.sound) d i j less within
+
+  falling : (j k : ℕ) → j < count → k < count → text_cmp (id_of_number g j) (id_of_number g k) ≡ Less → j < k
+  falling j k a b less = by (either_way j k)
+    where
+      by : (j < k) ⊎ ((j ≡ k) ⊎ (k < j)) → j < k
+      by (inl lt) = lt
+      by (inr (inl same)) =
+          let e : Equal ≡ Less = sym (tied_itself nat_list_cmp_total (id_of_number g k))
+          ∙ subst (λ i. text_cmp (id_of_number g i) (id_of_number g k) ≡ Less) same less in
+          absurd cc
+      by (inr (inr more)) =
+          absurd (not_greater (text_cmp (id_of_number g j) (id_of_number g k)) less
+          (nat_list_cmp_total.antisymm (id_of_number g j) (id_of_number g k) ∙ ap ordering_reverse (rising k j more a)))
+
+  -- the closure from a walk that starts at the service alone
+  pub inside_of : (service : ℕ) → IsShapeNumber g service → (marks : List Bool)
+      → AreImage g (set (replicate count false) service true) (turned false (Reaches m)) marks → AreInside g service marks
+  inside_of service within marks are = marks_same _ _ count marks (λ k small. (forth k, back k)) are
+    where
+      lt : service < length (replicate count false)
+      lt = let long = length-replicate count false in omega (arith, within, long)
+
+      fresh : (b : Bool) → get_or (replicate count false) service false ≡ b → b ≡ false
+      fresh true is = absurd (none_marked count service is)
+      fresh false is = refl
+
+      starts : Finds (λ k. service ≡ k) (replicate count false) [] (set (replicate count false) service true) (service ∷ [])
+      starts = mark_new (replicate count false) [] service lt (found_none count) (fresh (get_or (replicate count false) service false) refl)
+
+      forth : (k : ℕ) → (a : ℕ) × IsMarked (set (replicate count false) service true) a × Reaches m (id_of_number g a) (id_of_number g k)
+          → Reaches m (id_of_number g service) (id_of_number g k)
+      forth k (a, marked, reach) = elim (contains_either service a [] ((starts.are.marked a).0 marked)) [
+        | inl same ↦ subst (λ i. Reaches m (id_of_number g i) (id_of_number g k)) (sym same) reach
+        | inr none ↦ absurd (contains_none a none)
+      ]
+
+      back : (k : ℕ) → Reaches m (id_of_number g service) (id_of_number g k)
+          → (a : ℕ) × IsMarked (set (replicate count false) service true) a × Reaches m (id_of_number g a) (id_of_number g k)
+      back k reach = (service, (starts.are.marked service).1 ((starts.joins service).1 (inr refl)), reach)
+
+  -- a shape that keeps its name
+  kept_there : (id : List ℕ) → keeps_name m id ≡ true → KeepsName m id
+  kept_there id h = by (fin.get m.shapes id) refl h
+    where
+      either : (a b : Bool) → (a || b) ≡ true → (a ≡ true) ⊎ (b ≡ true)
+      either true b h = inl refl
+      either false b h = inr h
+
+      by : (o : Option Entry) → fin.get m.shapes id ≡ o
+          → (is_some (kind_in o) && (is_some (trait_in error_id o) || is_kept_kind (kind_in o))) ≡ true → KeepsName m id
+      by None is h = absurd (apart h)
+      by (Some (shape_entry s)) is h = (s, is, either (has_trait error_id s.traits) (is_kept_kind (Some s.kind)) h)
+      by (Some (member_entry e)) is h = absurd (apart h)
+
+  there_kept : (id : List ℕ) → KeepsName m id → keeps_name m id ≡ true
+  there_kept id (s, there, why) =
+      ap (λ o. is_some (kind_in o) && (is_some (trait_in error_id o) || is_kept_kind (kind_in o))) there ∙ by why
+    where
+      left : (a b : Bool) → a ≡ true → (a || b) ≡ true
+      left true b h = refl
+      left false b h = absurd (apart h)
+
+      right : (a b : Bool) → b ≡ true → (a || b) ≡ true
+      right true b h = refl
+      right false b h = h
+
+      by : ((has_trait error_id s.traits ≡ true) ⊎ (is_among (Operation ∷ Resource ∷ Service ∷ []) s.kind ≡ true))
+          → (has_trait error_id s.traits || is_kept_kind (Some s.kind)) ≡ true
+      by (inl h) = left (has_trait error_id s.traits) (is_kept_kind (Some s.kind)) h
+      by (inr h) = right (has_trait error_id s.traits) (is_kept_kind (Some s.kind)) h
+
+  module _ (inside : List Bool) where
+    -- a name of `rename` that stands at a number, and one of nothing
+    pub wrong_there : (id : List ℕ) (k : ℕ) → IsShapeNumber g k → id_of_number g k ≡ id → (b : Bool) → b ≡ is_left g inside k
+        → (b ≡ true) ↔ IsWrongBy g inside id
+    wrong_there id k within same b is = (
+      λ h. forth (keeps_name m (id_of_number g k)) refl (sym is ∙ h),
+      λ w. is ∙ back w (keeps_name m (id_of_number g k)) refl (get_or inside k false) refl,
+    )
+      where
+        forth : (c : Bool) → keeps_name m (id_of_number g k) ≡ c → (c || not (get_or inside k false)) ≡ true → IsWrongBy g inside id
+        forth true kept h = inl (subst (KeepsName m) same (kept_there (id_of_number g k) kept))
+        forth false kept h = inr (λ n.
+            let here : n.0 ≡ k = same_number g n.0 k n.1 within (n.2 ∙ sym same) in
+            apart (sym (not_so (get_or inside k false) h) ∙ subst (IsMarked inside) here n.3))
+
+        back : IsWrongBy g inside id → (c : Bool) → keeps_name m (id_of_number g k) ≡ c → (d : Bool) → get_or inside k false ≡ d
+            → (c || not d) ≡ true
+        back w true kept d marked = refl
+        back w false kept false marked = refl
+        back (inl keeps) false kept true marked = absurd (apart
+            (sym kept ∙ there_kept (id_of_number g k) (subst (KeepsName m) (sym same) keeps)))
+        back (inr none) false kept true marked = absurd (none (k, within, same, marked))
+
+    pub wrong_nowhere : (id : List ℕ) → fin.get m.shapes id ≡ None → (true ≡ true) ↔ IsWrongBy g inside id
+    wrong_nowhere id none = (
+      λ h. inr (λ n.
+          let e = entry_there g n.0 n.1 in
+          none-some e.0 (sym none ∙ ap (fin.get m.shapes) (sym n.2) ∙ e.1)),
+      λ w. refl,
+    )
+
+  module _ (service : ℕ) (inside : List Bool) (are : AreInside g service inside) where
+    abbrev sid : List ℕ
+    sid = id_of_number g service
+
+    -- by the marks, and by the model
+    wrong_same : (id : List ℕ) → IsWrongBy g inside id ↔ IsWrongName m sid id
+    wrong_same id = (forth, back)
+      where
+        forth : IsWrongBy g inside id → IsWrongName m sid id
+        forth (inl keeps) = inl keeps
+        forth (inr none) = inr (λ reach.
+            let k = number_of g id (walk_in m reach.0 sid id reach.1) in
+            none (k.0, k.1, k.2, (are.marked k.0).1 (k.1, subst (Reaches m sid) (sym k.2) reach)))
+
+        back : IsWrongName m sid id → IsWrongBy g inside id
+        back (inl keeps) = inl keeps
+        back (inr none) = inr (λ n. none (subst (Reaches m sid) n.2 ((are.marked n.0).0 n.3).1))
+
+    pub wrong_put : (name : List ℕ) (b : Bool) → (b ≡ true) ↔ IsWrongBy g inside name → (before now : List ModelEvent)
+        → Puts (IsWhere b (rule_event ServiceNames sid name)) before now
+        → Puts (λ e. IsWrongName m sid name × (e ≡ rule_event ServiceNames sid name)) before now
+    wrong_put name b tells before now h =
+        puts_same (IsWhere b (rule_event ServiceNames sid name))
+        (λ e. IsWrongName m sid name × (e ≡ rule_event ServiceNames sid name)) before now
+        (λ e. (
+          λ w. ((wrong_same name).0 (tells.0 w.0), w.1),
+          λ w. (tells.1 ((wrong_same name).1 w.0), w.1),
+        )) h
+
+    module _ (v : ShapeEntry) (own : IsOwnShape m sid v) (kind : v.kind ≡ Service) (given : List ℕ → Option Node)
+        (given_is : (key : List ℕ) → given key ≡ tree_named key (renames_under m sid)) where
+      -- a number that passes, with its name
+      named_in : (k : ℕ) (name : List ℕ) → is_named g inside k ≡ true
+          → IsNameBy (text_of (given (id_of_number g k))) (id_of_number g k) name → IsNamedIn m sid v (id_of_number g k) name
+      named_in k name h (parts, spelled, is) =
+          let id = id_of_number g k in
+          let rest = and_right (get_or inside k false) (is_own_shape m id && is_named_kind (kind_under m id)) h in
+          let s = own_told m id (and_left (is_own_shape m id) (is_named_kind (kind_under m id)) rest) in
+          record {
+            s = s.0;
+            own = s.1;
+            kind = sym (ap (λ o. is_named_kind (kind_in o)) s.1.0) ∙ and_right (is_own_shape m id) (is_named_kind (kind_under m id)) rest;
+            inside = (
+              (v, own, kind),
+              ((are.marked k).0 (and_left (get_or inside k false) (is_own_shape m id && is_named_kind (kind_under m id)) h)).1,
+            );
+            named = (parts, spelled, is ∙ ap (λ o. unwrap_or o parts.name) (given_name m sid v own.0 given given_is id));
+          }
+
+      -- and the other way round
+      passes_named : (w : ShapeEntry) → HasEntry m sid (shape_entry w) → (k : ℕ) → k < count → (name : List ℕ)
+          → IsNamedIn m sid w (id_of_number g k) name
+          → (is_named g inside k ≡ true) × IsNameBy (text_of (given (id_of_number g k))) (id_of_number g k) name
+      passes_named w there k small name n =
+          let id = id_of_number g k in
+          let a : get_or inside k false ≡ true = (are.marked k).1 (small, n.inside.1) in
+          let b : is_own_shape m id ≡ true = told_own m id n.s n.own in
+          let c : is_named_kind (kind_under m id) ≡ true = ap (λ o. is_named_kind (kind_in o)) n.own.0 ∙ n.kind in (
+            λ i. a i && (b i && c i),
+            (
+              n.named.0,
+              n.named.1,
+              n.named.2 ∙ ap (λ o. unwrap_or o n.named.0.name) (sym (given_name m sid w there given given_is id)),
+            ),
+          )
+
+      module _ (pairs : List (List ℕ × Tree)) (pairs_are : members_of (members_view pairs) ≡ renames_under m sid) (rows : List (List ℕ × ℕ))
+          (rows_are : AreRowsBelow (is_named g inside) (IsKeyBy given g) count rows) where
+        abbrev Told : EventTold → Type 0
+        Told e = ToldRows (λ k x. x ≡ rule_event ServiceNames sid (id_of_number g k)) rows e ⊎ ToldOf (ToldWrong m sid) pairs e
+
+        forth : (e : EventTold) → Told e → IsEventAt ServiceNames (HasWrongNames m) sid e
+        forth e (inl h) =
+            let t = told_twice (λ k x. x ≡ rule_event ServiceNames sid (id_of_number g k)) (is_named g inside) (IsKeyBy given g) count rows
+            rows_are e h in
+            again t
+          where
+            again : ToldTwice (λ k x. x ≡ rule_event ServiceNames sid (id_of_number g k)) (is_named g inside) (IsKeyBy given g) count e
+                → IsEventAt ServiceNames (HasWrongNames m) sid e
+            again (j, k, key, (small, less, pj, pk, kj, kk), is) = (
+              id_of_number g k,
+              name_again (record {
+                v = v;
+                own = own;
+                name = kk.0;
+                named = named_in k kk.0 pk kk.1;
+                smaller = id_of_number g j;
+                other = kj.0;
+                other_named = named_in j kj.0 pj kj.1;
+                order = rising j k less small;
+                same = sym kj.2 ∙ kk.2;
+              }),
+              is,
+            )
+        forth e (inr (p, among, w)) =
+            let named = some_renames m sid v own.0 p.0 (subst (HasName p.0) pairs_are (name_of_pair pairs p among)) in (
+              p.0,
+              wrong_rename (record {
+                v = v;
+                own = own;
+                kind = kind;
+                pairs = named.0;
+                rename = named.1;
+                among = named.2;
+                wrong = w.0;
+              }),
+              w.1,
+            )
+
+        back : (e : EventTold) → IsEventAt ServiceNames (HasWrongNames m) sid e → Told e
+        back e (detail, name_again h, is) =
+            let k = number_of g detail (shape_entry h.named.s, h.named.own.0) in
+            let j = number_of g h.smaller (shape_entry h.other_named.s, h.other_named.own.0) in
+            let nk = passes_named h.v h.own.0 k.0 k.1 h.name (subst (λ i. IsNamedIn m sid h.v i h.name) (sym k.2) h.named) in
+            let nj = passes_named h.v h.own.0 j.0 j.1 h.other (subst (λ i. IsNamedIn m sid h.v i h.other) (sym j.2) h.other_named) in
+            let order = ap (λ a. text_cmp a (id_of_number g k.0)) j.2 ∙ ap (text_cmp h.smaller) k.2 ∙ h.order in
+            let less : j.0 < k.0 = falling j.0 k.0 j.1 k.1 order in
+            inl (twice_told (λ n x. x ≡ rule_event ServiceNames sid (id_of_number g n)) (is_named g inside) (IsKeyBy given g)
+            (one_key given g) count rows rows_are e (
+              j.0,
+              k.0,
+              folded h.name,
+              (k.1, less, nj.0, nk.0, (h.other, nj.1, sym h.same), (h.name, nk.1, refl)),
+              is ∙ ap (rule_event ServiceNames sid) (sym k.2),
+            ))
+        back e (detail, wrong_rename h, is) =
+            let p = pair_of_name pairs detail
+            (subst (HasName detail) (sym (renames_are m sid h.v h.own.0 h.pairs h.rename) ∙ sym pairs_are) h.among) in
+            inr (p.0, p.1, (subst (IsWrongName m sid) (sym p.2) h.wrong, is ∙ ap (rule_event ServiceNames sid) (sym p.2)))
+
+        pub names_put : (a b c : List ModelEvent)
+            → Puts (ToldRows (λ k x. x ≡ rule_event ServiceNames sid (id_of_number g k)) rows) a b
+            → Puts (ToldOf (ToldWrong m sid) pairs) b c → Puts (IsEventAt ServiceNames (HasWrongNames m) sid) a c
+        names_put a b c h k =
+            puts_same Told (IsEventAt ServiceNames (HasWrongNames m) sid) a c (λ e. (forth e, back e))
+            (puts_both _ _ a b c h k)
+
+-- who is told of is a service of the graph
+pub names_there : (g : GraphMaps) (id detail : List ℕ) → HasWrongNames g id detail → IsInGraph g id
+names_there g id detail (name_again h) = (shape_entry h.v, h.own.0)
+names_there g id detail (wrong_rename h) = (shape_entry h.v, h.own.0)
+
+pub no_names : (g : GraphMaps) (id : List ℕ) (es : List ModelEvent) → is_own_service g id ≡ false
+    → Puts (IsEventAt ServiceNames (HasWrongNames g) id) es es
+no_names g id es other = puts_none (IsEventAt ServiceNames (HasWrongNames g) id) es (λ e h. apart (sym other ∙ there h.1))
+  where
+    there : {detail : List ℕ} → HasWrongNames g id detail → is_own_service g id ≡ true
+    there (name_again h) = service_own g id h.named.inside.0.0 h.named.inside.0.1 h.named.inside.0.2
+    there (wrong_rename h) = service_own g id h.v h.own h.kind
+
+-- the service, as an entry
+pub its_service : (g : GraphMaps) (id : List ℕ) → is_own_service g id ≡ true → IsService g id
+its_service g id h = own_service g id h

@@ -1,0 +1,34 @@
+use Rattle.std.proofs.Common.{◌≡◌, ℕ, List, length, ap, sym, subst, arith, ◌∙◌}
+use Rattle.std.specs.List.{Contains}
+use Rattle.sm_model.specs.GraphView.{entries_of, maps_of}
+use Rattle.sm_model.specs.Reaching.{id_of_number}
+use Rattle.sm_tree.specs.Node.{members_of}
+use Rattle.sm_tree.specs.Parts.{tree_named}
+use Rattle.sm_tree.specs.View.{members_view}
+use Rattle.sm_rules.specs.declared.rule.Rule.TheVariants.{ServiceNames}
+use Rattle.sm_rules.specs.RuleEvents.{rule_event}
+use Rattle.sm_service_rules.specs.parts.Naming.{AreRowsBelow, IsKeyBy, is_named, tree_in}
+use Rattle.sm_service_rules.proofs.NamesTold.{its_service, names_put}
+use Rattle.sm_service_rules.proofs.RowsBelow.{row_of}
+use Rattle.sm_service_rules.proofs.names.put_names_among.Goals as goal
+
+pub named_rows-requires : goal.named_rows-requires
+named_rows-requires c = c.requires.inside.whole
+
+pub put_later-requires-clause-numbers : goal.put_later-requires-clause-numbers
+put_later-requires-clause-numbers c r among =
+    let g = c.args.graph.now in
+    (row_of (λ k e. e ≡ rule_event ServiceNames (id_of_number g c.args.service) (id_of_number g k)) (is_named g c.args.inside.now)
+    (IsKeyBy (tree_in c.in_ok-given.given) g) (length (entries_of g)) c.in_ok-rows.rows.items c.in_ok-rows.ensures r
+    (subst (λ rs. Contains rs r) c.as_slice.ensures.value among)).0
+
+pub returns : goal.returns
+returns c =
+    let g = c.args.graph.now in
+    let s = its_service (maps_of g) (id_of_number g c.args.service) c.requires.own in
+    names_put g c.args.service c.args.inside.now c.requires.inside s.0 s.1 s.2 (tree_in c.in_ok-given.given)
+    (λ key. c.in_ok-given.ensures key ∙ ap (tree_named key) c.renames_of-renames.ensures) c.renames_of-renames.result.now
+    c.renames_of-renames.ensures c.as_slice.result.now
+    (subst (AreRowsBelow (is_named g c.args.inside.now) (IsKeyBy (tree_in c.in_ok-given.given) g) (length (entries_of g)))
+    (sym c.as_slice.ensures.value) c.in_ok-rows.ensures) c.args.events.now.items c.put_later.new.events.items
+    c.put_renames.new.events.items c.in_ok-put_later.ensures c.in_ok-put_renames.ensures

@@ -1,0 +1,4 @@
+// Rules of models on what shapes lead to (Smithy 2.0, "Model validation").
+#![tactic(auto)]
+
+pub mod names;
