@@ -7,7 +7,6 @@ use Rattle.std.specs.Cmp.{tied_itself}
 use Rattle.std.specs.Cmp.Lexicographic.{nat_list_cmp_total}
 use Rattle.std.specs.FinMap as fin
 use Rattle.std.specs.FinMap.Entries.{is_sorted}
-use Rattle.std.specs.List.{Contains}
 use Rattle.std.specs.Option.{unwrap_or}
 use Rattle.std.specs.Ordering.{ordering_reverse}
 use Rattle.std.specs.declared.cmp.Ordering.{Ordering}
@@ -15,13 +14,13 @@ use Rattle.std.specs.declared.cmp.Ordering.TheVariants.{Less, Equal, Greater}
 use Rattle.std.proofs.lemmas.Bool.{cases_order}
 use Rattle.std.proofs.lemmas.List.{length-replicate}
 use Rattle.std.proofs.lemmas.Option.{get_or_from_slice_get, none-some}
-use Rattle.sm_tree.specs.Node.{Node, Members, members_of}
+use Rattle.sm_tree.specs.Node.{Node, members_of}
 use Rattle.sm_tree.specs.Parts.{tree_named}
 use Rattle.sm_tree.specs.Same.{HasName}
 use Rattle.sm_tree.specs.View.{members_view}
 use Rattle.sm_tree.specs.declared.tree.Tree.{Tree}
 use Rattle.sm_model.specs.EventView.{EventTold}
-use Rattle.sm_model.specs.Graphs.{text_cmp, Entry, shape_entry, member_entry, ShapeEntry, GraphMaps, traits_in}
+use Rattle.sm_model.specs.Graphs.{text_cmp, Entry, shape_entry, member_entry, ShapeEntry, GraphMaps}
 use Rattle.sm_model.specs.GraphView.{IsShapeNumber, entries_of, maps_of}
 use Rattle.sm_model.specs.PreludeShapes.{is_prelude_id}
 use Rattle.sm_model.specs.Reaching.{Finds, IsMarked, id_of_number}
@@ -43,22 +42,21 @@ use Rattle.sm_compile.specs.Sound.{trait_in}
 use Rattle.sm_compile.specs.TraitIds.{error_id}
 use Rattle.sm_compile.specs.TraitNodes.{text_of}
 use Rattle.sm_compile.specs.TraitRows.{is_among}
-use Rattle.sm_compile.specs.rules.Services.{HasNameAgain, HasWrongNames, IsNamedIn, KeepsName, RenamesWrongly, name_again, wrong_rename}
+use Rattle.sm_compile.specs.rules.Services.{HasWrongNames, IsNamedIn, KeepsName, name_again, wrong_rename}
 use Rattle.sm_compile.specs.rules.Words.{IsOwnShape, IsService, has_trait}
 use Rattle.sm_rules.specs.RuleEvents.{IsEventAt, Puts, rule_event}
 use Rattle.sm_rules.specs.declared.rule.Rule.TheVariants.{ServiceNames}
-use Rattle.sm_rules.specs.parts.Carrying.{carries}
 use Rattle.sm_rules.specs.parts.Folded.{folded, is_own_shape}
 use Rattle.sm_rules.specs.parts.Putting.{IsWhere, ToldOf}
 use Rattle.sm_rules.specs.parts.Using.{is_own_service, is_service}
 use Rattle.sm_rules.proofs.EventsPut.{puts_both, puts_none, puts_same}
 use Rattle.sm_rules.proofs.ExclusiveTraits.{entry_there}
 use Rattle.sm_rules.proofs.OwnShapes.{not_so, own_told, told_own}
-use Rattle.sm_service_rules.specs.parts.Naming.{AreInside, AreRowsBelow, IsKeyBy, IsMarkedId, IsNameBy, IsWrongBy, IsWrongName, ToldAgain}
+use Rattle.sm_service_rules.specs.parts.Naming.{AreInside, AreRowsBelow, IsKeyBy, IsNameBy, IsWrongBy, IsWrongName}
 use Rattle.sm_service_rules.specs.parts.Naming.{ToldWrong}
 use Rattle.sm_service_rules.specs.parts.Naming.{is_kept_kind, is_left, is_named, is_named_kind, keeps_name, renames_under}
 use Rattle.sm_service_rules.proofs.GivenNames.{given_name, name_of_pair, one_key, pair_of_name, renames_are, some_renames}
-use Rattle.sm_service_rules.proofs.RowsBelow.{ToldRows, ToldTwice, row_of, told_twice, twice_told}
+use Rattle.sm_service_rules.proofs.RowsBelow.{ToldRows, ToldTwice, told_twice, twice_told}
 
 -- a service outside of the prelude
 service_kind : (k : Kind) → is_service (Some k) ≡ true → k ≡ Service

@@ -1,10 +1,8 @@
-use Rattle.std.proofs.Common.{◌≡◌, ℕ, List, length, ap, sym, subst, arith, ◌∙◌}
+use Rattle.std.proofs.Common.{◌≡◌, length, ap, sym, subst, ◌∙◌}
 use Rattle.std.specs.List.{Contains}
 use Rattle.sm_model.specs.GraphView.{entries_of, maps_of}
 use Rattle.sm_model.specs.Reaching.{id_of_number}
-use Rattle.sm_tree.specs.Node.{members_of}
 use Rattle.sm_tree.specs.Parts.{tree_named}
-use Rattle.sm_tree.specs.View.{members_view}
 use Rattle.sm_rules.specs.declared.rule.Rule.TheVariants.{ServiceNames}
 use Rattle.sm_rules.specs.RuleEvents.{rule_event}
 use Rattle.sm_service_rules.specs.parts.Naming.{AreRowsBelow, IsKeyBy, is_named, tree_in}
