@@ -1,0 +1,2 @@
+pub mod BodyReferences
+pub mod TargetKinds
