@@ -1,2 +1,4 @@
 pub mod BodyReferences
 pub mod TargetKinds
+pub mod EnumMembers
+pub mod ValuesTaken

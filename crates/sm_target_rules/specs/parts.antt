@@ -1,2 +1,4 @@
+pub mod Enums
 pub mod References
+pub mod SeenValues
 pub mod Targets
