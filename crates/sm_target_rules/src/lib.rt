@@ -4,5 +4,6 @@
 
 pub mod enums;
 pub mod kinds;
+pub mod missing;
 pub mod references;
 pub mod values;
