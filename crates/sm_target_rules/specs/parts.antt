@@ -1,0 +1,5 @@
+pub mod Enums
+pub mod Missing
+pub mod References
+pub mod SeenValues
+pub mod Targets

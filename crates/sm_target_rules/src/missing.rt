@@ -1,0 +1,116 @@
+// Target.Missing: references name shapes.
+ghost use Rattle.std.specs.Prelude.{◌≡◌, OnOk};
+ghost use Rattle.std.specs.Option.{option_copied};
+ghost use Rattle.sm_model.specs.GraphView.{IsShapeNumber, maps_of};
+ghost use Rattle.sm_model.specs.Reaching.{id_of_number};
+ghost use Rattle.sm_compile.specs.Looked.{target_under};
+ghost use Rattle.sm_compile.specs.rules.Targets.{RefersToNothing};
+ghost use Rattle.sm_rules.specs.RuleEvents.{IsEventAt, IsEventOf, Puts};
+ghost use Rattle.sm_rules.specs.declared.rule.Rule.TheVariants.{TargetMissing};
+ghost use Rattle.sm_target_rules.specs.parts.Missing.{TargetsNothing, ToldMissing};
+
+use crate::references::{AtReference, put_bodies};
+use sm_compile::id_text;
+use sm_model::{Graph, ModelEvent, Relation, is_in_prelude};
+use sm_rules::Rule;
+use sm_rules::each::{AtEach, put_each};
+use sm_rules::putting::put_event;
+use sm_tree::NoMemory;
+use std::alloc::Global;
+
+/// Puts the events of the rule. n log n.
+pub fn put_missing(
+    alloc: Global,
+    graph: &Graph,
+    events: &mut Vec<ModelEvent>,
+) -> Result<(), NoMemory>
+    ensures { OnOk result
+        (Puts (IsEventOf TargetMissing (RefersToNothing (maps_of graph.now))) events.old.items events.new.items) }
+{
+    put_each(alloc, graph, &Targeted, events)?;
+    put_bodies(alloc, graph, &Named, events)?;
+    Ok(())
+}
+
+// What members target.
+#[derive(Drop)]
+struct Targeted;
+
+impl AtEach for Targeted {
+    ghost tells = { λ rule g id. IsEventAt TargetMissing (TargetsNothing g) id };
+
+    ghost knows = { λ rule g. Unit {0} };
+
+    fn put_at(
+        &self,
+        alloc: Global,
+        graph: &Graph,
+        number: u32,
+        events: &mut Vec<ModelEvent>,
+    ) -> Result<(), NoMemory> {
+        if is_in_prelude(id_text(graph, number)) {
+            return Ok(());
+        }
+        match target_text(graph, number) {
+            Some(id) => {
+                put_if_missing(alloc, graph, number, id, events)?;
+                Ok(())
+            }
+            None => Ok(()),
+        }
+    }
+}
+
+// The text of the id that a member targets.
+fn target_text(graph: &Graph, number: u32) -> Option<&str>
+    requires { IsShapeNumber graph.now number }
+    ensures { option_copied result ≡ target_under (maps_of graph.now) (id_of_number graph.now number) }
+{
+    if graph.is_member(number) {
+        Some(graph.target_id(number).as_str())
+    } else {
+        None
+    }
+}
+
+// What bodies refer to.
+#[derive(Drop)]
+struct Named;
+
+impl AtReference for Named {
+    ghost tells = { λ rule g from relation. ToldMissing g from };
+
+    fn put_for(
+        &self,
+        alloc: Global,
+        graph: &Graph,
+        from: u32,
+        _: Relation,
+        id: &str,
+        events: &mut Vec<ModelEvent>,
+    ) -> Result<(), NoMemory> {
+        put_if_missing(alloc, graph, from, id, events)?;
+        Ok(())
+    }
+}
+
+// Of an id that the graph doesn't have.
+fn put_if_missing(
+    alloc: Global,
+    graph: &Graph,
+    from: u32,
+    id: &str,
+    events: &mut Vec<ModelEvent>,
+) -> Result<(), NoMemory>
+    requires { IsShapeNumber graph.now from }
+    ensures { OnOk result
+        (Puts (ToldMissing (maps_of graph.now) (id_of_number graph.now from) id.now) events.old.items events.new.items) }
+{
+    match graph.number(id) {
+        Some(_) => Ok(()),
+        None => {
+            put_event(alloc, graph, Rule::TargetMissing, from, id, events)?;
+            Ok(())
+        }
+    }
+}
