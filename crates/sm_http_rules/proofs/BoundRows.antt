@@ -1,5 +1,27 @@
 -- Rows of members that are bound to labels.
-use Rattle.std.proofs.Common.{◌≡◌, ◌<◌, ◌+◌, inl, inr, ℕ, true, false, List, [], ◌∷◌, ◌++◌, get_or, length, map, take, refl, sym, ap, ◌∙◌, subst}
+use Rattle.std.proofs.Common.{
+  ◌≡◌,
+  ◌<◌,
+  ◌+◌,
+  inl,
+  inr,
+  ℕ,
+  true,
+  false,
+  List,
+  [],
+  ◌∷◌,
+  ◌++◌,
+  get_or,
+  length,
+  map,
+  take,
+  refl,
+  sym,
+  ap,
+  ◌∙◌,
+  subst,
+}
 use Rattle.std.specs.List.{Contains}
 use Rattle.std.proofs.lemmas.List.{take_more}
 use Rattle.std.proofs.lemmas.List.Elements.{Contains-append_left, Contains-push, Contains-push_cases}
@@ -55,7 +77,8 @@ module _ (g : Graph) (input : ℕ) where
   )
 
   -- the row of the one at a place, where those before it are done
-  pub bound_next : (ms : List ℕ) (i m : ℕ) → i < length ms → m ≡ get_or ms i m → (old now : List (List ℕ × ℕ)) → AreBound g input (take i ms) old
+  pub bound_next : (ms : List ℕ) (i m : ℕ) → i < length ms → m ≡ get_or ms i m → (old now : List (List ℕ × ℕ))
+      → AreBound g input (take i ms) old
       → Joins (Contains old) (BoundRow g input m) (Contains now) → AreBound g input (take (i + 1) ms) now
   bound_next ms i m within is old now are joins =
       let parts : take (i + 1) ms ≡ take i ms ++ m ∷ [] = take_more ms i m within ∙ ap (λ y. take i ms ++ y ∷ []) (sym is) in
@@ -76,7 +99,8 @@ module _ (g : Graph) (input : ℕ) where
           subst (λ k. BoundRow g input k r) (sym is) h.2,
         ),
     λ h.
-        let from = mapped_from (id_of_number g) ms (id_of_number g r.1) (subst (λ ids. Contains ids (id_of_number g r.1)) (sym listed) h.1) in
+        let from = mapped_from (id_of_number g) ms (id_of_number g r.1)
+        (subst (λ ids. Contains ids (id_of_number g r.1)) (sym listed) h.1) in
         let same = same_number g from.0 r.1 (number_among g ms all from.0 from.1) h.2 from.2 in
         (are r).1 (r.1, subst (Contains ms) same from.1, h.3),
   )

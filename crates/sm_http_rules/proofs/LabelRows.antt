@@ -98,14 +98,16 @@ label_there greedy (s ∷ segments) q k c = elim (Contains-append_cases (label_r
 ]
 
 -- in the words of the definition
-pub is_label_row : (segments : List Segment) (q : List ℕ) → Contains (label_names segments) q → Contains (rows_of_labels false segments) (q, 0)
+pub is_label_row : (segments : List Segment) (q : List ℕ) → Contains (label_names segments) q
+    → Contains (rows_of_labels false segments) (q, 0)
 is_label_row segments q c = label_row_there false segments q c
 
 pub row_is_label : (segments : List Segment) (q : List ℕ) (k : ℕ) → Contains (rows_of_labels false segments) (q, k)
     → Contains (label_names segments) q
 row_is_label segments q k c = label_there false segments q k c
 
-pub is_greedy_row : (segments : List Segment) (q : List ℕ) → Contains (greedy_names segments) q → Contains (rows_of_labels true segments) (q, 0)
+pub is_greedy_row : (segments : List Segment) (q : List ℕ) → Contains (greedy_names segments) q
+    → Contains (rows_of_labels true segments) (q, 0)
 is_greedy_row segments q c = label_row_there true segments q c
 
 pub row_is_greedy : (segments : List Segment) (q : List ℕ) (k : ℕ) → Contains (rows_of_labels true segments) (q, k)

@@ -58,7 +58,8 @@ some_not_none (Some x) = refl
 module _ (g : Graph) (input : ℕ) (rows : List (List ℕ × ℕ)) (are : AreBoundOf g input rows) where
   -- a row is that of a member that is bound to a label of its name, and such a member has a row
   row_bound : (name : List ℕ) (k : ℕ) → Contains rows (name, k)
-      → (m : MemberEntry) × IsLabelled (maps_of g) (id_of_number g input) name m × (id_of_number g k ≡ member_id (id_of_number g input) name)
+      → (m : MemberEntry) × IsLabelled (maps_of g) (id_of_number g input) name m
+      × (id_of_number g k ≡ member_id (id_of_number g input) name)
       × (fin.get (maps_of g).shapes (id_of_number g k) ≡ Some (member_entry m))
   row_bound name k c =
       let h = (are (name, k)).0 c in
@@ -124,7 +125,8 @@ module _ (g : Graph) (input : ℕ) (rows : List (List ℕ × ℕ)) (are : AreBou
         → IsWrongLabel (maps_of g) (id_of_number g input) segments r.0
     member_forth r c wrong =
         by (is_none (find text_cmp r.0 (rows_of_labels false segments))) (carries (maps_of g) required_id (id_of_number g r.1))
-        (is_some (find text_cmp r.0 (rows_of_labels true segments))) (targets (passes is_string) (maps_of g) (id_of_number g r.1)) refl refl refl refl wrong
+        (is_some (find text_cmp r.0 (rows_of_labels true segments)))
+        (targets (passes is_string) (maps_of g) (id_of_number g r.1)) refl refl refl refl wrong
       where
         by : (a b d e : Bool) → is_none (find text_cmp r.0 (rows_of_labels false segments)) ≡ a
             → carries (maps_of g) required_id (id_of_number g r.1) ≡ b → is_some (find text_cmp r.0 (rows_of_labels true segments)) ≡ d
@@ -173,23 +175,27 @@ module _ (g : Graph) (input : ℕ) (rows : List (List ℕ × ℕ)) (are : AreBou
         let missing : is_none (find text_cmp name (rows_of_labels false segments)) ≡ true =
         elim (either (is_none (find text_cmp name (rows_of_labels false segments)))) [
           | inl none_there ↦ none_there
-          | inr some_there ↦ let f = some_found name (rows_of_labels false segments) some_there in absurd (none (row_is_label segments name f.0 f.1))
+          | inr some_there ↦ let f = some_found name (rows_of_labels false segments) some_there in absurd
+              (none (row_is_label segments name f.0 f.1))
         ] in
         member_told name e is b.0 b.1 (ap (λ x. x || (not (carries (maps_of g) required_id (id_of_number g b.0))
-        || (is_some (find text_cmp name (rows_of_labels true segments)) && not (targets (passes is_string) (maps_of g) (id_of_number g b.0))))) missing)
+        || (is_some (find text_cmp name (rows_of_labels true segments)) && not
+        (targets (passes is_string) (maps_of g) (id_of_number g b.0))))) missing)
     told_back e (name, free m has other, is) =
         let b = bound_row name m has in
         let here = at_row name m has b.0 b.2 in
         let optional : carries (maps_of g) required_id (id_of_number g b.0) ≡ false = required_same (id_of_number g b.0) m here ∙ other in
         member_told name e is b.0 b.1
         (ap (λ x. is_none (find text_cmp name (rows_of_labels false segments)) || (not x
-        || (is_some (find text_cmp name (rows_of_labels true segments)) && not (targets (passes is_string) (maps_of g) (id_of_number g b.0))))) optional
+        || (is_some (find text_cmp name (rows_of_labels true segments)) && not
+        (targets (passes is_string) (maps_of g) (id_of_number g b.0))))) optional
         ∙ or_true (is_none (find text_cmp name (rows_of_labels false segments))))
     told_back e (name, other_shape m has among wrong, is) =
         let b = bound_row name m has in
         let here = at_row name m has b.0 b.2 in
         let found : is_some (find text_cmp name (rows_of_labels true segments)) ≡ true =
-        some_not_none (find text_cmp name (rows_of_labels true segments)) ∙ elim (either (is_none (find text_cmp name (rows_of_labels true segments)))) [
+        some_not_none (find text_cmp name (rows_of_labels true segments))
+        ∙ elim (either (is_none (find text_cmp name (rows_of_labels true segments)))) [
           | inl none_there ↦ absurd (none_found name (rows_of_labels true segments) none_there 0 (is_greedy_row segments name among))
           | inr some_there ↦ ap not some_there
         ] in

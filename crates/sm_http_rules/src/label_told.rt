@@ -103,8 +103,8 @@ fn put_bound(
     requires operation { IsShapeNumber graph.now operation }
     requires members { (r : List ℕ × ℕ) → Contains bound.now r → IsShapeNumber graph.now r.1 }
     ensures { OnOk result
-        (Puts (ToldOf (ToldMember graph.now (id_of_number graph.now operation) (number_in by_label.now) (number_in by_greedy.now)) bound.now)
-        events.old.items events.new.items) }
+        (Puts (ToldOf (ToldMember graph.now (id_of_number graph.now operation) (number_in by_label.now) (number_in by_greedy.now))
+        bound.now) events.old.items events.new.items) }
 {
     for row in bound {
         put_member(alloc, graph, operation, by_label, by_greedy, row, events)?;

@@ -53,7 +53,8 @@ AreBound g input members rows =
 abbrev pub AreBoundOf : Graph → ℕ → List (List ℕ × ℕ) → Type 0
 AreBoundOf g input rows =
     (r : List ℕ × ℕ) → Contains rows r
-    ↔ ((is_own_shape (maps_of g) (id_of_number g input) ≡ true) × (Contains (listed_under (maps_of g) (id_of_number g input)) (id_of_number g r.1))
+    ↔ ((is_own_shape (maps_of g) (id_of_number g input) ≡ true)
+    × (Contains (listed_under (maps_of g) (id_of_number g input)) (id_of_number g r.1))
     × IsShapeNumber g r.1 × BoundRow g input r.1 r)
 
 -- a label is wrong
@@ -61,7 +62,8 @@ pub data IsWrongLabel (g : GraphMaps) (input : List ℕ) (segments : List Segmen
   unbound : Contains (label_names segments) name → (HasLabelled g input name → ⊥) → IsWrongLabel g input segments name
   unnamed : HasLabelled g input name → (Contains (label_names segments) name → ⊥) → IsWrongLabel g input segments name
   free : (m : _) → IsLabelled g input name m → has_trait required_id m.traits ≡ false → IsWrongLabel g input segments name
-  other_shape : (m : _) → IsLabelled g input name m → Contains (greedy_names segments) name → passes is_string (fin.get g.shapes m.target) ≡ false
+  other_shape : (m : _) → IsLabelled g input name m → Contains (greedy_names segments) name
+      → passes is_string (fin.get g.shapes m.target) ≡ false
       → IsWrongLabel g input segments name
 
 -- what is told of an operation, by a pattern's segments, by its pattern, and by a link

@@ -11,17 +11,20 @@ use Rattle.sm_http_rules.specs.parts.Labels.{ToldMember}
 use Rattle.sm_http_rules.proofs.label_told.put_bound.Goals as goal
 
 pub loop-row-init : goal.loop-row-init
-loop-row-init c = none_of (ToldMember c.args.graph.now (id_of_number c.args.graph.now c.args.operation) (number_in c.args.by_label.now) (number_in c.args.by_greedy.now)) c.args.events.now.items
+loop-row-init c = none_of (ToldMember c.args.graph.now (id_of_number c.args.graph.now c.args.operation) (number_in c.args.by_label.now)
+    (number_in c.args.by_greedy.now)) c.args.events.now.items
 
 pub loop-row-preserved : goal.loop-row-preserved
 loop-row-preserved c =
-    put_next (ToldMember c.args.graph.now (id_of_number c.args.graph.now c.args.operation) (number_in c.args.by_label.now) (number_in c.args.by_greedy.now)) c.args.bound.now
+    put_next (ToldMember c.args.graph.now (id_of_number c.args.graph.now c.args.operation) (number_in c.args.by_label.now)
+    (number_in c.args.by_greedy.now)) c.args.bound.now
     c.loop-row.row-index c.row-item.result c.loop-row-test.true c.row-item.is c.args.events.now.items c.loop-row.events.items
     c.put_member.new.events.items c.loop-row.invariant c.in_ok-put_member.ensures
 
 pub returns : goal.returns
 returns c =
-    subst (λ rs. Puts (ToldOf (ToldMember c.args.graph.now (id_of_number c.args.graph.now c.args.operation) (number_in c.args.by_label.now) (number_in c.args.by_greedy.now)) rs)
+    subst (λ rs. Puts (ToldOf (ToldMember c.args.graph.now (id_of_number c.args.graph.now c.args.operation)
+    (number_in c.args.by_label.now) (number_in c.args.by_greedy.now)) rs)
     c.args.events.now.items c.loop-row.events.items) (take_all c.loop-row.row-index c.args.bound.now c.loop-row-test.false)
     c.loop-row.invariant
 

@@ -25,7 +25,8 @@ returns c =
     puts_both (ToldOf (ToldLabel op (λ q. fin.find text_cmp q c.args.bound.now)) c.args.labels.now)
     (ToldOf (ToldMember g op (λ q. fin.find text_cmp q c.args.labels.now) (λ q. fin.find text_cmp q c.args.greedy.now)) c.args.bound.now)
     c.args.events.now.items c.put_unbound.new.events.items c.put_bound.new.events.items
-    (subst (λ (f : List ℕ → Option ℕ). Puts (ToldOf (ToldLabel op f) c.args.labels.now) c.args.events.now.items c.put_unbound.new.events.items)
+    (subst (λ (f : List ℕ → Option ℕ). Puts (ToldOf (ToldLabel op f) c.args.labels.now) c.args.events.now.items
+    c.put_unbound.new.events.items)
     by_member c.in_ok-put_unbound.ensures)
     (subst (λ (f : List ℕ → Option ℕ). Puts (ToldOf (ToldMember g op f (λ q. fin.find text_cmp q c.args.greedy.now)) c.args.bound.now)
     c.put_unbound.new.events.items c.put_bound.new.events.items) by_label

@@ -9,7 +9,8 @@ use Rattle.sm_http_rules.specs.parts.Labels.{ToldLabel}
 use Rattle.sm_http_rules.proofs.label_told.put_unbound.Goals as goal
 
 pub loop-row-init : goal.loop-row-init
-loop-row-init c = none_of (ToldLabel (id_of_number c.args.graph.now c.args.operation) (number_in c.args.by_member.now)) c.args.events.now.items
+loop-row-init c = none_of (ToldLabel (id_of_number c.args.graph.now c.args.operation) (number_in c.args.by_member.now))
+    c.args.events.now.items
 
 pub loop-row-preserved : goal.loop-row-preserved
 loop-row-preserved c =

@@ -8,5 +8,6 @@ put_by_links-requires c = λ l h. (subst (AreLinks c.args.graph.now) (sym c.as_s
 
 pub returns : goal.returns
 returns c =
-    links_put c.args.graph.now c.as_slice.result.now (subst (AreLinks c.args.graph.now) (sym c.as_slice.ensures.value) c.in_ok-links.ensures)
+    links_put c.args.graph.now c.as_slice.result.now (subst (AreLinks c.args.graph.now)
+    (sym c.as_slice.ensures.value) c.in_ok-links.ensures)
     c.args.events.now.items c.put_by_links.new.events.items c.in_ok-put_by_links.ensures
