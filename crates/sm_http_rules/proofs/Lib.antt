@@ -1,0 +1,4 @@
+pub mod TargetTested
+pub mod LabelRows
+pub mod BoundRows
+pub mod LabelsTold

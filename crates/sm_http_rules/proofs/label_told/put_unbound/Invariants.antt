@@ -1,0 +1,12 @@
+use Rattle.std.proofs.Common.{take}
+use Rattle.sm_model.specs.Reaching.{id_of_number}
+use Rattle.sm_rules.specs.RuleEvents.{Puts}
+use Rattle.sm_rules.specs.parts.Firsts.{number_in}
+use Rattle.sm_rules.specs.parts.Putting.{ToldOf}
+use Rattle.sm_http_rules.specs.parts.Labels.{ToldLabel}
+use Rattle.sm_http_rules.proofs.label_told.put_unbound.Given as goal
+
+abbrev pub invariant-loop-row : goal.invariant-loop-row
+invariant-loop-row l =
+    Puts (ToldOf (ToldLabel (id_of_number l.graph l.operation) (number_in l.by_member)) (take l.row-index l.labels)) l.fn.events.items
+    l.events.items

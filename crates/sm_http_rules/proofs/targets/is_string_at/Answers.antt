@@ -1,0 +1,16 @@
+use Rattle.std.proofs.Common.{sym, ◌∙◌}
+use Rattle.std.specs.FinMap as fin
+use Rattle.sm_model.specs.GraphView.{maps_of}
+use Rattle.sm_model.specs.Reaching.{id_of_number}
+use Rattle.sm_compile.specs.rules.Bindings.{is_string}
+use Rattle.sm_http_rules.proofs.TargetTested.{kind_passes, member_fails}
+use Rattle.sm_http_rules.proofs.targets.is_string_at.Goals as goal
+
+pub returns-in-Some : goal.returns-in-Some
+returns-in-Some c =
+    let m = maps_of c.args.graph.now in
+    c.is_kind.ensures
+    ∙ sym (kind_passes is_string (fin.get m.shapes (id_of_number c.args.graph.now c.args.number)) c.in-Some.kind c.in-Some.ensures)
+
+pub returns-in-None : goal.returns-in-None
+returns-in-None c = sym (member_fails is_string c.args.graph.now c.args.number c.requires c.in-None.ensures)

@@ -1,0 +1,149 @@
+// Labels of a pattern, and members of an input that are bound to labels, as rows of names.
+ghost use Rattle.std.specs.Prelude.{◌≡◌, ◌++◌, ◌∷◌, [], IfOk, OnOk, true};
+ghost use Rattle.std.specs.List.{Contains};
+ghost use Rattle.sm_model.specs.GraphView.{AreShapeNumbers, IsShapeNumber, maps_of};
+ghost use Rattle.sm_model.specs.Reaching.{id_of_number};
+ghost use Rattle.sm_model.specs.steps.Linking.{Joins};
+ghost use Rattle.sm_http_rules.specs.parts.Labels.{AreBound, AreBoundOf, BoundRow, is_bound, label_row, rows_of_labels};
+
+use sm_compile::{Segment, member_name, members_of};
+use sm_model::Graph;
+use sm_rules::carried::{carries, is_member};
+use sm_rules::owned::is_own_shape;
+use sm_tree::{NoMemory, Text};
+use std::alloc::Global;
+
+/// The names of the labels, or of the greedy ones alone.
+pub(crate) fn label_rows(
+    alloc: Global,
+    segments: &[Segment],
+    greedy: bool,
+) -> Result<Vec<(Text, u32)>, NoMemory>
+    ensures { IfOk result (λ rows. rows.items ≡ rows_of_labels greedy segments.now) }
+{
+    let mut rows = Vec::new(alloc);
+    for segment in segments {
+        put_label_row(alloc, segment, greedy, &mut rows)?;
+    }
+    Ok(rows)
+}
+
+fn put_label_row(
+    alloc: Global,
+    segment: &Segment,
+    greedy: bool,
+    rows: &mut Vec<(Text, u32)>,
+) -> Result<(), NoMemory>
+    ensures { OnOk result (rows.new.items ≡ rows.old.items ++ label_row greedy segment.now) }
+{
+    match segment {
+        Segment::Literal(_) => Ok(()),
+        Segment::Label(name) => {
+            if greedy {
+                Ok(())
+            } else {
+                put_name(alloc, name, 0, rows)?;
+                Ok(())
+            }
+        }
+        Segment::Greedy(name) => {
+            put_name(alloc, name, 0, rows)?;
+            Ok(())
+        }
+    }
+}
+
+fn put_name(
+    alloc: Global,
+    name: &Text,
+    number: u32,
+    rows: &mut Vec<(Text, u32)>,
+) -> Result<(), NoMemory>
+    ensures { OnOk result (rows.new.items ≡ rows.old.items ++ (name.now, number) ∷ []) }
+{
+    let name = Text::copy(alloc, name.as_str())?;
+    rows.push((name, number))?;
+    Ok(())
+}
+
+/// The names of the input's members that are bound to labels, with their numbers.
+pub(crate) fn bound_rows(
+    alloc: Global,
+    graph: &Graph,
+    input: u32,
+) -> Result<Vec<(Text, u32)>, NoMemory>
+    requires { IsShapeNumber graph.now input }
+    ensures { IfOk result (λ rows. AreBoundOf graph.now input rows.items) }
+{
+    if is_own_shape(graph, input) {
+        let rows = bound_among(alloc, graph, input, members_of(graph, input))?;
+        Ok(rows)
+    } else {
+        Ok(Vec::new(alloc))
+    }
+}
+
+fn bound_among(
+    alloc: Global,
+    graph: &Graph,
+    input: u32,
+    members: &[u32],
+) -> Result<Vec<(Text, u32)>, NoMemory>
+    requires input { IsShapeNumber graph.now input }
+    requires members { AreShapeNumbers graph.now members.now }
+    ensures { IfOk result (λ rows. AreBound graph.now input members.now rows.items) }
+{
+    let mut rows = Vec::new(alloc);
+    for member in members {
+        put_bound_row(alloc, graph, input, *member, &mut rows)?;
+    }
+    Ok(rows)
+}
+
+fn put_bound_row(
+    alloc: Global,
+    graph: &Graph,
+    input: u32,
+    member: u32,
+    rows: &mut Vec<(Text, u32)>,
+) -> Result<(), NoMemory>
+    requires input { IsShapeNumber graph.now input }
+    requires member { IsShapeNumber graph.now member }
+    ensures { OnOk result (Joins (Contains rows.old.items) (BoundRow graph.now input member) (Contains rows.new.items)) }
+{
+    if is_bound(graph, member) {
+        put_bound_name(alloc, graph, input, member, rows)?;
+        Ok(())
+    } else {
+        Ok(())
+    }
+}
+
+fn put_bound_name(
+    alloc: Global,
+    graph: &Graph,
+    input: u32,
+    member: u32,
+    rows: &mut Vec<(Text, u32)>,
+) -> Result<(), NoMemory>
+    requires input { IsShapeNumber graph.now input }
+    requires member { IsShapeNumber graph.now member }
+    requires bound { is_bound (maps_of graph.now) (id_of_number graph.now member) ≡ true }
+    ensures { OnOk result (Joins (Contains rows.old.items) (BoundRow graph.now input member) (Contains rows.new.items)) }
+{
+    match member_name(graph, input, member) {
+        Some(name) => {
+            let name = Text::copy(alloc, name)?;
+            rows.push((name, member))?;
+            Ok(())
+        }
+        None => Ok(()),
+    }
+}
+
+fn is_bound(graph: &Graph, member: u32) -> bool
+    requires { IsShapeNumber graph.now member }
+    ensures { result ≡ is_bound (maps_of graph.now) (id_of_number graph.now member) }
+{
+    is_member(graph, member) && carries(graph, member, "smithy.api#httpLabel")
+}
