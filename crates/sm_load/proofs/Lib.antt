@@ -1,0 +1,5 @@
+pub mod NamedEvents
+pub mod SuppressionsKept
+pub mod RulesPut
+pub mod ListTold
+pub mod OneRuleList

@@ -1,0 +1,19 @@
+use Rattle.std.proofs.Common.{[], ◌∷◌}
+use Rattle.sm_model.specs.GraphView.{maps_of}
+use Rattle.sm_rules.specs.declared.rule.Rule.TheVariants as rule
+use Rattle.sm_load.proofs.RulesPut.{all_put, none_put, put_more}
+use Rattle.sm_load.proofs.told.put_rules.Goals as goal
+
+pub returns : goal.returns
+returns c =
+    let g = maps_of c.args.graph.now in
+    let put_0 = none_put g c.args.events.now.items in
+    let put_1 = put_more g _ rule.IdCase _ _ _ put_0 c.in_ok-put_twins.ensures in
+    let put_2 = put_more g _ rule.MemberCase _ _ _ put_1 c.in_ok-put_repeats.ensures in
+    let put_3 = put_more g _ rule.TraitUnknown _ _ _ put_2 c.in_ok-put_unknown.ensures in
+    let put_4 = put_more g _ rule.TraitSingle _ _ _ put_3 c.in_ok-put_single.ensures in
+    let put_5 = put_more g _ rule.ConstraintBounds _ _ _ put_4 c.in_ok-put_bounds.ensures in
+    let put_6 = put_more g _ rule.HttpUri _ _ _ put_5 c.in_ok-put_uris.ensures in
+    let put_7 = put_more g _ rule.HttpCode _ _ _ put_6 c.in_ok-put_codes.ensures in
+    let put_8 = put_more g _ rule.HttpMethod _ _ _ put_7 c.in_ok-put_methods.ensures in
+    all_put g _ _ (put_more g _ rule.ShapeUnused _ _ _ put_8 c.in_ok-put_unused.ensures)

@@ -1,0 +1,47 @@
+// The events of the rules that stand, in order, each once.
+ghost use Rattle.std.specs.Prelude.{IfOk, OnOk};
+ghost use Rattle.sm_model.specs.GraphView.{maps_of};
+ghost use Rattle.sm_rules.specs.RuleEvents.{Puts};
+ghost use Rattle.sm_load.specs.Events.{AreModelEvents};
+ghost use Rattle.sm_load.specs.parts.Passes.{IsOfRule};
+
+use crate::suppressed::without_suppressed;
+use sm_merge::sorted_events;
+use sm_model::{Graph, ModelEvent, ModelEvents};
+use sm_rules::bounds::put_bounds;
+use sm_rules::case::put_twins;
+use sm_rules::codes::put_codes;
+use sm_rules::methods::put_methods;
+use sm_rules::repeats::put_repeats;
+use sm_rules::single::put_single;
+use sm_rules::unknown::put_unknown;
+use sm_rules::unused::put_unused;
+use sm_rules::uris::put_uris;
+use sm_tree::NoMemory;
+use std::alloc::Global;
+
+/// The events of a graph by the rules that stand, without those that are suppressed. n log n.
+pub(crate) fn told_events(alloc: Global, graph: &Graph) -> Result<ModelEvents, NoMemory>
+    ensures { IfOk result (λ es. AreModelEvents (maps_of graph.now) es) }
+{
+    let mut events = Vec::new(alloc);
+    put_rules(alloc, graph, &mut events)?;
+    let kept = without_suppressed(alloc, graph, events)?;
+    Ok(sorted_events(kept))
+}
+
+// Puts the events of each rule, one rule after the other.
+fn put_rules(alloc: Global, graph: &Graph, events: &mut Vec<ModelEvent>) -> Result<(), NoMemory>
+    ensures { OnOk result (Puts (IsOfRule (maps_of graph.now)) events.old.items events.new.items) }
+{
+    put_twins(alloc, graph, events)?;
+    put_repeats(alloc, graph, events)?;
+    put_unknown(alloc, graph, events)?;
+    put_single(alloc, graph, events)?;
+    put_bounds(alloc, graph, events)?;
+    put_uris(alloc, graph, events)?;
+    put_codes(alloc, graph, events)?;
+    put_methods(alloc, graph, events)?;
+    put_unused(alloc, graph, events)?;
+    Ok(())
+}
