@@ -1,20 +1,19 @@
 -- The one list: of what was put, without what is suppressed, in order.
-use Rattle.std.proofs.Common.{◌≡◌, ◌⊎◌, inl, inr, ℕ, Bool, true, false, cond, List, [], ◌∷◌, refl, sym, ap, ◌∙◌, subst}
+use Rattle.std.proofs.Common.{◌≡◌, ◌⊎◌, inl, inr, Bool, true, false, cond, List, [], ◌∷◌, refl, sym, ap, ◌∙◌, subst}
 use Rattle.std.specs.Prelude.{◌↔◌, ◌&&◌, not}
 use Rattle.std.specs.List.{Contains, filter}
-use Rattle.std.proofs.lemmas.Bool.{cases_Bool, true≢false}
+use Rattle.std.proofs.lemmas.Bool.{true≢false}
 use Rattle.sm_model.specs.EventView.{EventTold, AreInOrder, event_view, events_view}
 use Rattle.sm_model.specs.Graphs.{GraphMaps}
 use Rattle.sm_model.specs.declared.event.ModelEvent.{ModelEvent}
 use Rattle.sm_model.specs.declared.event.Severity.{Severity}
 use Rattle.sm_model.specs.declared.event.Severity.TheVariants.{Danger, Error, Note, Warning}
 use Rattle.sm_model.proofs.OneRising.{contains_behind, contains_either, contains_head, contains_none}
-use Rattle.sm_rules.specs.RuleEvents.{HaveSeverities, IsEventOf, Puts}
+use Rattle.sm_rules.specs.RuleEvents.{HaveSeverities, Puts}
 use Rattle.sm_rules.specs.RuleIds.{rule_id, severity_of}
 use Rattle.sm_rules.specs.declared.rule.Rule.{Rule}
 use Rattle.sm_rules.specs.declared.rule.Rule.TheVariants as rule
-use Rattle.sm_load.specs.Events.{AreModelEvents, IsTold, IsToldBy}
-use Rattle.sm_load.specs.Rules.{Fails}
+use Rattle.sm_load.specs.Events.{AreModelEvents, IsTold}
 use Rattle.sm_load.specs.Suppressions.{is_suppressed}
 use Rattle.sm_load.specs.parts.Passes.{IsOfRule}
 use Rattle.sm_load.specs.parts.Suppressing.{may_be_suppressed, stays}

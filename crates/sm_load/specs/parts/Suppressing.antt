@@ -1,5 +1,5 @@
 -- What suppresses the events of one id, as it is kept: namespaces, and marks of shapes and members.
-use Rattle.std.specs.Prelude.{◌≡◌, ◌||◌, ◌&&◌, ℕ, Bool, true, not, List, codes, length}
+use Rattle.std.specs.Prelude.{◌≡◌, ◌||◌, ◌&&◌, ℕ, Bool, true, not, List, length}
 use Rattle.std.specs.Str.{bytes_eq}
 use Rattle.sm_model.specs.EventView.{EventTold}
 use Rattle.sm_model.specs.Graphs.{GraphMaps}

@@ -1,10 +1,8 @@
 use Rattle.std.proofs.Common.{◌∙◌, sym, ap}
-use Rattle.std.specs.Prelude.{◌||◌, codes}
+use Rattle.std.specs.Prelude.{◌||◌}
 use Rattle.sm_tree.specs.View.{node_of}
-use Rattle.sm_compile.specs.TraitNodes.{field_of, text_of}
 use Rattle.sm_merge.specs.steps.Known.{has_text}
 use Rattle.sm_merge.proofs.NamesKnown.{or_none}
-use Rattle.sm_load.specs.Suppressions.{text_is}
 use Rattle.sm_load.proofs.SuppressionsKept.{entry_here, entry_other}
 use Rattle.sm_load.proofs.suppressing.put_namespace.Goals as goal
 

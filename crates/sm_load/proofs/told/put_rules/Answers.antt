@@ -1,4 +1,3 @@
-use Rattle.std.proofs.Common.{[], ◌∷◌}
 use Rattle.sm_model.specs.GraphView.{maps_of}
 use Rattle.sm_rules.specs.declared.rule.Rule.TheVariants as rule
 use Rattle.sm_load.proofs.RulesPut.{all_put, none_put, put_more}

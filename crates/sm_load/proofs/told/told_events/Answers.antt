@@ -1,4 +1,4 @@
-use Rattle.std.proofs.Common.{[], subst}
+use Rattle.std.proofs.Common.{subst}
 use Rattle.sm_model.specs.GraphView.{maps_of}
 use Rattle.sm_rules.specs.RuleEvents.{Puts}
 use Rattle.sm_load.specs.parts.Passes.{IsOfRule}

@@ -1,4 +1,4 @@
-use Rattle.std.proofs.Common.{◌≡◌, ◌∙◌, sym, subst}
+use Rattle.std.proofs.Common.{◌∙◌, sym, subst}
 use Rattle.std.specs.Prelude.{◌||◌, codes}
 use Rattle.sm_model.specs.GraphView.{maps_of}
 use Rattle.sm_load.specs.Suppressions.{is_suppressed_there, namespace_of}
