@@ -2,3 +2,8 @@ pub mod TargetTested
 pub mod LabelRows
 pub mod BoundRows
 pub mod LabelsTold
+pub mod Splits
+pub mod ReadTraits
+pub mod NamesAgain
+pub mod BoundSides
+pub mod WireNamesTold

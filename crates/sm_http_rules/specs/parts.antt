@@ -1,1 +1,4 @@
 pub mod Labels
+pub mod Naming
+pub mod Sides
+pub mod WireNames

@@ -1,7 +1,12 @@
-// Rules of models on HTTP bindings (Smithy 2.0, "HTTP bindings"): labels of patterns.
+// Rules of models on HTTP bindings (Smithy 2.0, "HTTP bindings"): labels of patterns, and names in messages.
 #![tactic(auto)]
 
+mod again;
 mod label_rows;
 mod label_told;
 pub mod labels;
+pub mod naming;
+mod prefixes;
+pub mod sides;
 mod targets;
+pub mod wire_names;

@@ -1,0 +1,12 @@
+use Rattle.std.proofs.Common.{drop, take}
+use Rattle.sm_model.specs.GraphView.{AreShapeNumbers}
+use Rattle.sm_rules.specs.RuleEvents.{Puts}
+use Rattle.sm_rules.specs.parts.Putting.{ToldOf}
+use Rattle.sm_http_rules.specs.parts.WireNames.{ToldBegun}
+use Rattle.sm_http_rules.proofs.prefixes.put_each_begun.Given as goal
+
+abbrev pub invariant-loop-member : goal.invariant-loop-member
+invariant-loop-member l = record {
+  numbers : AreShapeNumbers l.graph (drop l.member-index l.members);
+  puts : Puts (ToldOf (ToldBegun l.graph l.prefixes) (take l.member-index l.members)) l.fn.events.items l.events.items;
+}
