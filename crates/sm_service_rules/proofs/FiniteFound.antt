@@ -1,5 +1,6 @@
 -- What is found is what has a finite value.
-use Rattle.std.proofs.Common.{◌≡◌, ◌<◌, inl, inr, ℕ, zero, suc, Bool, true, false, List, [], ◌∷◌, Option, Some, None, get_or, length, refl, sym, ap, ◌∙◌}
+use Rattle.std.proofs.Common.{◌≡◌, ◌<◌, inl, inr, ℕ, zero, suc, Bool, true, false, List, [], ◌∷◌, Option, Some, None, get_or, length}
+use Rattle.std.proofs.Common.{refl, sym, ap, ◌∙◌}
 use Rattle.std.proofs.Common.{subst, arith}
 use Rattle.std.specs.Prelude.{is_some}
 use Rattle.std.specs.FinMap as fin
@@ -21,7 +22,8 @@ use Rattle.sm_compile.specs.rules.Words.{has_trait}
 use Rattle.sm_rules.specs.parts.InBody.{is_member_in}
 use Rattle.sm_rules.proofs.ExclusiveTraits.{entry_there}
 use Rattle.sm_rules.proofs.OwnShapes.{member_in}
-use Rattle.sm_service_rules.specs.rules.Finite.{HasFinite, RequiredAreFinite, is_always_finite, not_there, at_once, by_required, by_one, no_more, finite_target, one_optional}
+use Rattle.sm_service_rules.specs.rules.Finite.{HasFinite, RequiredAreFinite, is_always_finite, not_there, at_once, by_required, by_one}
+use Rattle.sm_service_rules.specs.rules.Finite.{no_more, finite_target, one_optional}
 use Rattle.sm_service_rules.specs.parts.Finding.{IsStuck, Lacks, Opens, StuckBy, Wants, is_member_id}
 
 module _ (g : Graph) (marks : List Bool) (right : (k : ℕ) → IsMarked marks k → HasFinite (maps_of g) (id_of_number g k)) where
@@ -30,7 +32,8 @@ module _ (g : Graph) (marks : List Bool) (right : (k : ℕ) → IsMarked marks k
       → HasFinite (maps_of g) m.target
   closed_finite id m there closed = by (fin.get (maps_of g).shapes m.target) refl
     where
-      at : (k : ℕ) → IsShapeNumber g k → id_of_number g k ≡ m.target → (b : Bool) → get_or marks k false ≡ b → HasFinite (maps_of g) m.target
+      at : (k : ℕ) → IsShapeNumber g k → id_of_number g k ≡ m.target → (b : Bool) → get_or marks k false ≡ b
+          → HasFinite (maps_of g) m.target
       at k within same true is = subst (HasFinite (maps_of g)) same (right k is)
       at k within same false is =
           absurd (closed (k, within, ap target_in there ∙ ap Some (sym same), λ marked. apart (sym is ∙ marked)))
@@ -59,7 +62,8 @@ module _ (g : Graph) (marks : List Bool) (right : (k : ℕ) → IsMarked marks k
           → has_trait required_id m.traits ≡ b → RequiredAreFinite (maps_of g) (id ∷ ids)
       by m there rest true needed =
           finite_target id ids m there
-          (closed_finite id m there (λ opens. none 0 (omega arith) (inr (ap (λ o. is_some (trait_in required_id o)) there ∙ needed, opens)))) rest
+          (closed_finite id m there (λ opens. none 0 (omega arith)
+          (inr (ap (λ o. is_some (trait_in required_id o)) there ∙ needed, opens)))) rest
       by m there rest false needed = one_optional id ids m there needed rest
 
   pub structure_finite : (k : ℕ) → kind_under (maps_of g) (id_of_number g k) ≡ Some Structure
@@ -77,7 +81,8 @@ module _ (g : Graph) (marks : List Bool) (right : (k : ℕ) → IsMarked marks k
       by (Some (member_entry m)) is kind none = absurd (none-some Structure kind)
 
   pub union_finite : (k : ℕ) → kind_under (maps_of g) (id_of_number g k) ≡ Some Union → (id : List ℕ)
-      → Contains (listed_under (maps_of g) (id_of_number g k)) id → (Lacks g (IsMarked marks) id → ⊥) → HasFinite (maps_of g) (id_of_number g k)
+      → Contains (listed_under (maps_of g) (id_of_number g k)) id → (Lacks g (IsMarked marks) id → ⊥)
+      → HasFinite (maps_of g) (id_of_number g k)
   union_finite k kind id among none = by (fin.get (maps_of g).shapes (id_of_number g k)) refl kind among
     where
       by : (o : Option Entry) → fin.get (maps_of g).shapes (id_of_number g k) ≡ o → kind_in o ≡ Some Union → Contains (listed_in o) id
@@ -85,7 +90,8 @@ module _ (g : Graph) (marks : List Bool) (right : (k : ℕ) → IsMarked marks k
       by None is kind among = absurd (none-some Union kind)
       by (Some (shape_entry s)) is kind among =
           let e = as_member id (λ other. none (inl other)) in
-          by_one (id_of_number g k) s is (same_Some s.kind Union kind) id e.0 among e.1 (closed_finite id e.0 e.1 (λ opens. none (inr opens)))
+          by_one (id_of_number g k) s is (same_Some s.kind Union kind) id e.0 among e.1
+          (closed_finite id e.0 e.1 (λ opens. none (inr opens)))
       by (Some (member_entry m)) is kind among = absurd (none-some Union kind)
 
 -- a shape of any other type that always has one
@@ -93,7 +99,8 @@ pub other_finite : (g : Graph) (k : ℕ) (kind : Kind) → kind_under (maps_of g
     → HasFinite (maps_of g) (id_of_number g k)
 other_finite g k kind there always = by (fin.get (maps_of g).shapes (id_of_number g k)) refl there
   where
-    by : (o : Option Entry) → fin.get (maps_of g).shapes (id_of_number g k) ≡ o → kind_in o ≡ Some kind → HasFinite (maps_of g) (id_of_number g k)
+    by : (o : Option Entry) → fin.get (maps_of g).shapes (id_of_number g k) ≡ o → kind_in o ≡ Some kind
+        → HasFinite (maps_of g) (id_of_number g k)
     by None is h = absurd (none-some kind h)
     by (Some (shape_entry s)) is h = at_once (id_of_number g k) s is (ap is_always_finite (same_Some s.kind kind h) ∙ always)
     by (Some (member_entry m)) is h = absurd (none-some kind h)
@@ -134,7 +141,8 @@ here g maps is id m there = subst (λ x. HasEntry x id (member_entry m)) is ther
 
 mutual
   -- what has a finite value is marked
-  pub finite_marked : (g : Graph) (marks : List Bool) (place : ℕ → ℕ) → AllWait g marks place → (m : GraphMaps) → m ≡ maps_of g → (id : List ℕ)
+  pub finite_marked : (g : Graph) (marks : List Bool) (place : ℕ → ℕ) → AllWait g marks place → (m : GraphMaps) → m ≡ maps_of g
+      → (id : List ℕ)
       → HasFinite m id → (k : ℕ) → IsShapeNumber g k → id_of_number g k ≡ id → IsMarked marks k
   finite_marked g marks place waits maps is id (not_there i none) k within same =
       absurd (none (subst (λ x. IsInGraph x i) (sym is) (subst (IsInGraph (maps_of g)) same (entry_there g k within))))

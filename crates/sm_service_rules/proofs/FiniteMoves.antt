@@ -1,12 +1,14 @@
 -- How more is known, one shape after the other, and what unmarked shapes wait for meanwhile.
-use Rattle.std.proofs.Common.{◌≡◌, ◌⊎◌, ◌<◌, ◌≤◌, ◌+◌, inl, inr, ℕ, zero, suc, Bool, true, false, List, [], ◌∷◌, ◌++◌, Option, Some, None, get_or}
+use Rattle.std.proofs.Common.{◌≡◌, ◌⊎◌, ◌<◌, ◌≤◌, ◌+◌, inl, inr, ℕ, zero, suc, Bool, true, false, List, [], ◌∷◌, ◌++◌, Option, Some, None}
+use Rattle.std.proofs.Common.{get_or}
 use Rattle.std.proofs.Common.{drop, leb, length, map, replicate, take, refl, sym, ap, ◌∙◌, subst, arith, append_assoc}
 use Rattle.std.specs.Prelude.{◌↔◌, not, set}
 use Rattle.std.specs.FinMap as fin
 use Rattle.std.specs.List.{Contains}
 use Rattle.std.proofs.lemmas.Bool.{cases_eq, cases_lt, leb-true}
 use Rattle.std.proofs.lemmas.Bool.Decides.{leb_tells}
-use Rattle.std.proofs.lemmas.List.{append-nil, get_or-set_other, get_or-set_same, length-map, length-replicate, length-set, take-append-drop, take-append-le, take_all, take_more}
+use Rattle.std.proofs.lemmas.List.{append-nil, get_or-set_other, get_or-set_same, length-map, length-replicate, length-set}
+use Rattle.std.proofs.lemmas.List.{take-append-drop, take-append-le, take_all, take_more}
 use Rattle.std.proofs.lemmas.List.Elements.{Contains-append_left, Contains-get_or, Contains-push_cases}
 use Rattle.std.proofs.lemmas.Option.{none-some, same_Some}
 use Rattle.sm_model.specs.GraphView.{AreShapeNumbers, IsShapeNumber, entries_of, maps_of}
@@ -24,7 +26,8 @@ use Rattle.sm_rules.proofs.OwnShapes.{not_so}
 use Rattle.sm_service_rules.specs.declared.finite.Known.{Known}
 use Rattle.sm_service_rules.specs.declared.finite.Way.TheVariants.{ByOne, Always}
 use Rattle.sm_service_rules.specs.rules.Finite.{HasFinite, is_always_finite}
-use Rattle.sm_service_rules.specs.parts.Finding.{IsHome, IsHomeOf, IsNext, IsStuck, Knows, Lacks, Moves, Opens, PassedTo, Says, Sees, SomeClosed, StuckBy, Waits, Wants, is_member_id, way_of}
+use Rattle.sm_service_rules.specs.parts.Finding.{IsHome, IsHomeOf, IsNext, IsStuck, Knows, Lacks, Moves, Opens, PassedTo, Says, Sees}
+use Rattle.sm_service_rules.specs.parts.Finding.{SomeClosed, StuckBy, Waits, Wants, is_member_id, way_of}
 use Rattle.sm_service_rules.proofs.FiniteFound.{other_finite, structure_finite, union_finite}
 use Rattle.sm_service_rules.proofs.NamesTold.{same_number}
 
@@ -175,7 +178,8 @@ module _ (g : Graph) where
   -- after all shapes were looked at each waits, or is marked
   pub waits_first : (old now : Known) → Moves g (λ k. k < length (entries_of g)) old now → Waits g (λ k. ⊥) now
   waits_first old now h = λ k within fresh.
-      stuck_less g (λ i. ⊥) (IsMarked old.marks.items) (λ i none. absurd none) k (get_or now.places.items k 0) (h.looked k within within fresh)
+      stuck_less g (λ i. ⊥) (IsMarked old.marks.items) (λ i none. absurd none) k (get_or now.places.items k 0)
+      (h.looked k within within fresh)
 
   -- after the users of one number more
   pub waits_next : (User : ℕ → Type 0) (at : ℕ) (old now : Known) → at < length old.found.items → Moves g User old now
@@ -202,7 +206,8 @@ module _ (g : Graph) where
 
       among : (k : ℕ) → Taken k → Contains (take at old.found.items) k ⊎ (k ≡ get_or old.found.items at 0)
       among k taken =
-          elim (Contains-push_cases (take at old.found.items) (get_or old.found.items at 0) k (subst (λ xs. Contains xs k) same_part taken)) [
+          elim (Contains-push_cases (take at old.found.items) (get_or old.found.items at 0) k
+          (subst (λ xs. Contains xs k) same_part taken)) [
             | inl before ↦ inl before
             | inr is ↦ inr (sym is)
           ]
@@ -216,7 +221,8 @@ module _ (g : Graph) where
           taken_there : (xs : List ℕ) (i k : ℕ) → Contains (take i xs) k → Contains xs k
           taken_there xs i k c = subst (λ ys. Contains ys k) (take-append-drop i xs) (Contains-append_left (take i xs) (drop i xs) k c)
 
-      later : (k : ℕ) → IsStuck g (IsMarked old.marks.items) k (get_or now.places.items k 0) → IsStuck g Taken k (get_or now.places.items k 0)
+      later : (k : ℕ) → IsStuck g (IsMarked old.marks.items) k (get_or now.places.items k 0)
+          → IsStuck g Taken k (get_or now.places.items k 0)
       later k stuck = stuck_less g Taken (IsMarked old.marks.items) marked k (get_or now.places.items k 0) stuck
 
   -- once all that was found was taken
@@ -359,7 +365,8 @@ homes_next g back members i small k (n, among, home) = elim ((numbers_more membe
 ]
 
 -- tests by what they say
-pub open_is : (g : Graph) (marks : List Bool) (id : List ℕ) (t : ℕ) → IsShapeNumber g t → target_under (maps_of g) id ≡ Some (id_of_number g t)
+pub open_is : (g : Graph) (marks : List Bool) (id : List ℕ) (t : ℕ) → IsShapeNumber g t
+    → target_under (maps_of g) id ≡ Some (id_of_number g t)
     → (b : Bool) → b ≡ not (get_or marks t false) → (b ≡ true) ↔ Opens g (IsMarked marks) id
 open_is g marks id t small target b is = (
   λ h. (t, small, target, λ marked. apart (sym (not_so (get_or marks t false) (sym is ∙ h)) ∙ marked)),
@@ -374,7 +381,8 @@ open_is g marks id t small target b is = (
         absurd (o.3 (subst (IsMarked marks) (sym here) marked))
 
 pub open_nowhere : (g : Graph) (T : ℕ → Type 0) (id : List ℕ)
-    → ((target : List ℕ) → target_under (maps_of g) id ≡ Some target → fin.get (maps_of g).shapes target ≡ None) → (false ≡ true) ↔ Opens g T id
+    → ((target : List ℕ) → target_under (maps_of g) id ≡ Some target → fin.get (maps_of g).shapes target ≡ None)
+    → (false ≡ true) ↔ Opens g T id
 open_nowhere g T id none = (
   λ h. absurd (apart h),
   λ o. let e = entry_there g o.0 o.1 in absurd (none-some e.0 (sym (none (id_of_number g o.0) o.2) ∙ e.1)),

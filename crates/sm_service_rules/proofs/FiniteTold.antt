@@ -1,5 +1,6 @@
 -- What is told of shapes without a finite value, from the marks, and which shapes use which.
-use Rattle.std.proofs.Common.{◌≡◌, ◌⊎◌, ◌<◌, inl, inr, ℕ, Bool, true, false, List, [], Option, Some, None, get_or, refl, sym, ap, ◌∙◌, subst, arith}
+use Rattle.std.proofs.Common.{◌≡◌, ◌⊎◌, ◌<◌, inl, inr, ℕ, Bool, true, false, List, [], Option, Some, None, get_or, refl, sym, ap, ◌∙◌}
+use Rattle.std.proofs.Common.{subst, arith}
 use Rattle.std.specs.Prelude.{◌&&◌, not}
 use Rattle.std.specs.FinMap as fin
 use Rattle.std.specs.List.{Contains}
@@ -49,7 +50,8 @@ target_other h = cc
 member_other : Member ≡ Container → ⊥
 member_other h = cc
 
-member_of_target : (o : Option Entry) (id : List ℕ) → target_in o ≡ Some id → (m : MemberEntry) × (o ≡ Some (member_entry m)) × (m.target ≡ id)
+member_of_target : (o : Option Entry) (id : List ℕ) → target_in o ≡ Some id
+    → (m : MemberEntry) × (o ≡ Some (member_entry m)) × (m.target ≡ id)
 member_of_target None id h = absurd (none-some id h)
 member_of_target (Some (shape_entry s)) id h = absurd (none-some id h)
 member_of_target (Some (member_entry m)) id h = (m, refl, same_Some m.target id h)
@@ -63,10 +65,18 @@ user_there g back are t k id small within listed target =
     let n = number_of g id (member_entry e.0, e.1) in
     let there : HasEntry m (id_of_number g n.0) (member_entry e.0) = ap (fin.get m.shapes) n.2 ∙ e.1 in
     let up : IsNeighbor m (id_of_number g n.0) (id_of_number g t) =
-    (Target, target_other, (member_entry e.0, there, (refl, e.2), entry_there g t small)) in
-    (n.0, (are.steps t n.0).1 (small, n.1, up), (ap is_member_in there, (are.steps n.0 k).1 (n.1, within, home n.0 n.2 (member_entry e.0, there))))
+    (Target, target_other, (member_entry e.0, there, (refl, e.2), entry_there g t small)) in (
+      n.0,
+      (are.steps t n.0).1 (small, n.1, up),
+      (
+        ap is_member_in there,
+        (are.steps n.0 k).1
+            (n.1, within, home n.0 n.2 (member_entry e.0, there)),
+      ),
+    )
   where
-    home : (n : ℕ) → id_of_number g n ≡ id → IsInGraph (maps_of g) (id_of_number g n) → IsNeighbor (maps_of g) (id_of_number g k) (id_of_number g n)
+    home : (n : ℕ) → id_of_number g n ≡ id → IsInGraph (maps_of g) (id_of_number g n)
+        → IsNeighbor (maps_of g) (id_of_number g k) (id_of_number g n)
     home n same there =
         by (fin.get (maps_of g).shapes (id_of_number g k)) refl
         (subst (Contains (listed_under (maps_of g) (id_of_number g k))) (sym same) listed)
@@ -103,7 +113,8 @@ module _ (g : Graph) (marks : List Bool) (finite : AreFinite g marks) (k : ℕ) 
   abbrev rest : Bool
   rest = not (is_prelude_id id) && not (get_or marks k false)
 
-  forth : (e : EventTold) → IsWhere (is_infinite g marks k) (rule_event ShapeInfinite id []) e → IsEventAt ShapeInfinite (HasNoFinite m) id e
+  forth : (e : EventTold) → IsWhere (is_infinite g marks k) (rule_event ShapeInfinite id []) e
+      → IsEventAt ShapeInfinite (HasNoFinite m) id e
   forth e h =
       let s = compound_in (fin.get m.shapes id) (and_left (is_compound (kind_under m id)) rest h.0) in
       let own = and_right (is_compound (kind_under m id)) rest h.0 in

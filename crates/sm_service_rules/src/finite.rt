@@ -9,7 +9,8 @@ ghost use Rattle.sm_compile.specs.Looked.{kind_under, listed_under};
 ghost use Rattle.sm_rules.specs.RuleEvents.{IsEventAt, IsEventOf, Puts};
 ghost use Rattle.sm_rules.specs.declared.rule.Rule.TheVariants.{ShapeInfinite};
 ghost use Rattle.sm_service_rules.specs.rules.Finite.{HasNoFinite};
-ghost use Rattle.sm_service_rules.specs.parts.Finding.{AreFinite, IsHome, IsHomeOf, IsNext, IsUser, Knows, Lacks, Moves, Opens, Sees, SomeClosed};
+ghost use Rattle.sm_service_rules.specs.parts.Finding.{AreFinite, IsHome, IsHomeOf, IsNext, IsUser, Knows, Lacks, Moves, Opens, Sees};
+ghost use Rattle.sm_service_rules.specs.parts.Finding.{SomeClosed};
 ghost use Rattle.sm_service_rules.specs.parts.Finding.{Waits, Wants, is_compound, is_infinite, way_of};
 
 use sm_compile::{id_text, kind_of, members_of, target_of};
@@ -98,8 +99,8 @@ fn is_compound(kind: Option<Kind>) -> bool
     }
 }
 
-/// The shapes that have a finite value, as marks. A structure is looked at from the member at which it was left, once for each
-/// target that is found.
+// The shapes that have a finite value, as marks. A structure is looked at from the member at which it was left, once for each
+// target that is found.
 fn finite_shapes(alloc: Global, graph: &Graph) -> Result<Vec<bool>, NoMemory>
     ensures { IfOk result (λ marks. AreFinite graph.now marks.items) }
 {

@@ -43,7 +43,8 @@ loop-at-preserved c =
     let moves = subst (λ t. Moves g (IsUser g c.args.back.now t) at.known c.look_at_users.new.known) is c.in_ok-look_at_users.ensures in
     record {
       knows = moves.knows;
-      waits = waits_next g (IsUser g c.args.back.now (get_or at.known.found.items at.at 0)) at.at at.known c.look_at_users.new.known lt moves
+      waits = waits_next g (IsUser g c.args.back.now (get_or at.known.found.items at.at 0)) at.at at.known c.look_at_users.new.known lt
+          moves
           at.invariant.knows at.invariant.waits
           (λ k id within listed target. user_there g c.args.back.now c.requires.ways (get_or at.known.found.items at.at 0) k id small within
           listed target);
@@ -53,7 +54,14 @@ pub returns : goal.returns
 returns c =
     let at = c.loop-at in
     let all : length at.known.found.items ≤ at.at =
-    omega (arith, c.len-at-end.ensures, c.loop-at-test.false, at.invariant.knows.are.few, at.invariant.knows.whole, c.requires.knows.whole) in
+    omega (
+      arith,
+      c.len-at-end.ensures,
+      c.loop-at-test.false,
+      at.invariant.knows.are.few,
+      at.invariant.knows.whole,
+      c.requires.knows.whole,
+    ) in
     record {
       knows = at.invariant.knows;
       waits = waits_last c.args.graph.now at.at at.known at.invariant.knows all at.invariant.waits;

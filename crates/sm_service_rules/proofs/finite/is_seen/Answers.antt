@@ -12,7 +12,8 @@ returns-in-ByOne c =
     let found = c.some_closed.result in
     sees_same g c.args.shape known c.requires.knows found
     (says_union g c.args.shape known.marks.items c.requires.knows.right (get_or known.places.items c.args.shape 0)
-    (sym c.kind_of.ensures ∙ c.in-Some.is ∙ ap (λ (k : Kind). Some k) (way_union c.in-Some.kind (sym c.way_of.ensures ∙ c.in-ByOne.is))) found
+    (sym c.kind_of.ensures ∙ c.in-Some.is ∙ ap (λ (k : Kind). Some k) (way_union c.in-Some.kind (sym c.way_of.ensures ∙ c.in-ByOne.is)))
+    found
     (subst (λ ids. SomeClosed g (IsMarked known.marks.items) ids found) c.members_of-in-ByOne.ensures.ids
     (subst (λ ms. SomeClosed g (IsMarked ms) (map (id_of_number g) c.members_of-in-ByOne.result.now) found) c.as_slice.ensures.value
     c.some_closed.ensures)))
