@@ -1,3 +1,6 @@
 pub mod RowsBelow
 pub mod GivenNames
 pub mod NamesTold
+pub mod FiniteFound
+pub mod FiniteMoves
+pub mod FiniteTold

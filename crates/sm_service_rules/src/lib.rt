@@ -1,4 +1,5 @@
 // Rules of models on what shapes lead to (Smithy 2.0, "Model validation").
 #![tactic(auto)]
 
+pub mod finite;
 pub mod names;
