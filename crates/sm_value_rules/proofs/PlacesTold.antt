@@ -1,8 +1,8 @@
 -- What is told of the carriers of each trait by its selector is what the rule says.
-use Rattle.std.proofs.Common.{◌≡◌, ◌<◌, ℕ, Bool, true, false, cond, List, Option, Some, None, get_or, length, refl, sym, ap, ◌∙◌, subst}
+use Rattle.std.proofs.Common.{◌≡◌, ℕ, Bool, true, false, cond, List, Option, Some, None, get_or, length, refl, sym, ap, ◌∙◌, subst}
 use Rattle.std.specs.Prelude.{◌&&◌, ◌||◌, ◌↔◌, codes, is_some, not}
 use Rattle.std.specs.FinMap as fin
-use Rattle.std.specs.List.{Contains, list_any}
+use Rattle.std.specs.List.{list_any}
 use Rattle.std.specs.Str.{bytes_eq}
 use Rattle.std.proofs.lemmas.Option.{none-some, same_Some}
 use Rattle.sm_tree.specs.Node.{Node}
@@ -35,7 +35,7 @@ use Rattle.sm_rules.specs.parts.Putting.{Below}
 use Rattle.sm_rules.proofs.EventsPut.{puts_none, puts_same}
 use Rattle.sm_rules.proofs.HttpSaid.{free}
 use Rattle.sm_rules.proofs.OwnShapes.{not_so, own_told, told_own}
-use Rattle.sm_value_rules.specs.parts.Placing.{AreUsed, IsNotPickedBy, IsOutside, ToldOfTrait, ToldUnpicked, is_left, is_unpicked}
+use Rattle.sm_value_rules.specs.parts.Placing.{AreUsed, IsOutside, ToldOfTrait, ToldUnpicked, is_left, is_unpicked}
 use Rattle.sm_value_rules.specs.parts.Placing.{selector_in, selector_under}
 use Rattle.sm_value_rules.specs.rules.Traits.{IsNotPicked, IsTraitShape, selector_of}
 use Rattle.sm_value_rules.proofs.AmongIds.{any_there, there_any}

@@ -11,7 +11,7 @@ use Rattle.std.proofs.lemmas.Option.{none-some}
 use Rattle.sm_tree.specs.Node.{Node}
 use Rattle.sm_tree.specs.View.{members_view}
 use Rattle.sm_tree.specs.declared.tree.Tree.{Tree}
-use Rattle.sm_model.specs.Graphs.{Entry, traits_in}
+use Rattle.sm_model.specs.Graphs.{traits_in}
 use Rattle.sm_model.specs.GraphView.{At, IsShapeNumber, Stands, entries_of, maps_of}
 use Rattle.sm_model.specs.Reaching.{IsMarked, id_of_number}
 use Rattle.sm_model.specs.declared.graph.Graph.{Graph}

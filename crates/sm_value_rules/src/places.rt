@@ -1,5 +1,5 @@
 // Trait.Place by the shape of the trait: it stands only on what the selector of its shape picks.
-ghost use Rattle.std.specs.Prelude.{◌≡◌, List, OnOk, Some, cond, None, codes};
+ghost use Rattle.std.specs.Prelude.{◌≡◌, None, OnOk, Some, codes, cond};
 ghost use Rattle.std.specs.List.{list_any};
 ghost use Rattle.std.specs.List.Sorted.{IsStrictlySortedBy};
 ghost use Rattle.std.specs.Option.{option_copied, option_map};

@@ -1,6 +1,6 @@
 // Which shapes and members of a graph stand as traits at some shape or member, as marks.
 ghost use Rattle.std.specs.Prelude.{◌≡◌, ◌<◌, ℕ, IfOk, length};
-ghost use Rattle.sm_model.specs.GraphView.{IsShapeNumber, entries_of};
+ghost use Rattle.sm_model.specs.GraphView.{entries_of};
 ghost use Rattle.sm_model.specs.Reaching.{IsMarked};
 ghost use Rattle.sm_value_rules.specs.parts.Placing.{AreNamed, AreUsed, IsNamed};
 

@@ -1,8 +1,7 @@
-use Rattle.std.proofs.Common.{◌≡◌, List, ℕ, length, subst, sym}
+use Rattle.std.proofs.Common.{List, ℕ, subst, sym}
 use Rattle.std.specs.List.Sorted.{IsStrictlySortedBy}
 use Rattle.sm_model.specs.Graphs.{text_cmp}
-use Rattle.sm_model.specs.GraphView.{entries_of, maps_of}
-use Rattle.sm_model.specs.Reaching.{id_of_number}
+use Rattle.sm_model.specs.GraphView.{maps_of}
 use Rattle.sm_select.specs.Answers.{ArePicked}
 use Rattle.sm_select.specs.Selectors.{steps_of}
 use Rattle.sm_select.specs.View.{selector_view}
