@@ -6,3 +6,6 @@ mod TableRows
 mod TableTwins
 pub mod SameFaults
 pub mod CheckedShapes
+mod AmongIds
+mod UsedTraits
+mod PlacesTold
