@@ -66,13 +66,16 @@ module _ (g : GraphMaps) (id : List ℕ) where
       ∙ ap (λ b. not b && is_some (trait_in http_id (Some (shape_entry h.s)))) h.own.1
       ∙ h.http
 
-  service_told : is_own_service g id ≡ true → IsService g id
+  pub service_told : is_own_service g id ≡ true → IsService g id
   service_told h =
-      let s = kind_there is_service refl (fin.get g.shapes id) (and_left (is_service (kind_under g id)) (not (is_prelude_id id)) h) in
-      (s.0, (s.1, not_so (is_prelude_id id) (and_right (is_service (kind_under g id)) (not (is_prelude_id id)) h)), service_kind s.0.kind
-          s.2)
+      let s = kind_there is_service refl (fin.get g.shapes id) (and_left (is_service (kind_under g id)) (not (is_prelude_id id)) h) in (
+        s.0,
+        (s.1, not_so (is_prelude_id id) (and_right (is_service (kind_under g id)) (not (is_prelude_id id)) h)),
+        service_kind s.0.kind
+            s.2,
+      )
 
-  told_service : IsService g id → is_own_service g id ≡ true
+  pub told_service : IsService g id → is_own_service g id ≡ true
   told_service h =
       ap (λ o. is_service (kind_in o) && not (is_prelude_id id)) h.1.0 ∙ ap (λ k. is_service (Some k) && not (is_prelude_id id)) h.2
       ∙ ap not h.1.1
@@ -83,7 +86,7 @@ pub along_one : (g : Graph) (starts marks : List Bool) (relation : Relation)
     → AreImage g starts (IsRelated relation (maps_of g)) marks
 along_one g starts marks relation h =
     marks_same (IsImage g starts (turned false (LeadsAlong (maps_of g) (relation ∷ []))))
-        (IsImage g starts (IsRelated relation (maps_of g)))
+    (IsImage g starts (IsRelated relation (maps_of g)))
     (length (entries_of g)) marks (λ k small. (
       λ x. (x.0, x.1, subst (λ r. IsRelated r (maps_of g) (id_of_number g x.0) (id_of_number g k)) (sym (only relation x.2.0 x.2.1)) x.2.2),
       λ x. (x.0, x.1, (relation, contains_head relation [], x.2)),
@@ -112,12 +115,12 @@ from_marked g P relation starts marks are h =
 -- errors of operations and of services
 pub errors_marked : (g : Graph) (marks : List Bool)
     → AreMarks (length (entries_of g)) (λ k. (id : List ℕ) × MayErr (maps_of g) id × IsRelated Error (maps_of g) id (id_of_number g k))
-        marks
+    marks
     → AreOnSide g an_error marks
 errors_marked g marks h =
     marks_same (λ k. (id : List ℕ) × MayErr (maps_of g) id × IsRelated Error (maps_of g) id (id_of_number g k))
     (λ k. IsBound (maps_of g) an_error (id_of_number g k)) (length (entries_of g)) marks
-        (λ k small. (λ x. forth k x.0 x.1 x.2, λ x. back k x)) h
+    (λ k small. (λ x. forth k x.0 x.1 x.2, λ x. back k x)) h
   where
     forth : (k : ℕ) (id : List ℕ) → MayErr (maps_of g) id → IsRelated Error (maps_of g) id (id_of_number g k)
         → IsBound (maps_of g) an_error (id_of_number g k)
@@ -143,8 +146,11 @@ module _ (g : Graph) (operations reaching : List Bool)
           let way = ((walk.marked k).0 (and_left (get_or reaching k false) (is_own_service (maps_of g) (id_of_number g k)) h)).1 in
           inr (
             id_of_number g way.0,
-            (service_told (maps_of g) (id_of_number g k) (and_right (get_or reaching k false)
-                (is_own_service (maps_of g) (id_of_number g k)) h), way.2),
+            (
+              service_told (maps_of g) (id_of_number g k) (and_right (get_or reaching k false)
+                  (is_own_service (maps_of g) (id_of_number g k)) h),
+              way.2,
+            ),
             ((are.marked way.0).0 way.1).1,
           )
 
