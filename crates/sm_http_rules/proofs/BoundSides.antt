@@ -66,7 +66,7 @@ module _ (g : GraphMaps) (id : List ℕ) where
       ∙ ap (λ b. not b && is_some (trait_in http_id (Some (shape_entry h.s)))) h.own.1
       ∙ h.http
 
-  service_told : is_own_service g id ≡ true → IsService g id
+  pub service_told : is_own_service g id ≡ true → IsService g id
   service_told h =
       let s = kind_there is_service refl (fin.get g.shapes id) (and_left (is_service (kind_under g id)) (not (is_prelude_id id)) h) in (
         s.0,
@@ -75,7 +75,7 @@ module _ (g : GraphMaps) (id : List ℕ) where
             s.2,
       )
 
-  told_service : IsService g id → is_own_service g id ≡ true
+  pub told_service : IsService g id → is_own_service g id ≡ true
   told_service h =
       ap (λ o. is_service (kind_in o) && not (is_prelude_id id)) h.1.0 ∙ ap (λ k. is_service (Some k) && not (is_prelude_id id)) h.2
       ∙ ap not h.1.1

@@ -7,3 +7,7 @@ pub mod ReadTraits
 pub mod NamesAgain
 pub mod BoundSides
 pub mod WireNamesTold
+pub mod RunsTold
+pub mod RouteKeys
+pub mod ServiceClosures
+pub mod RoutesTold

@@ -1,12 +1,16 @@
-// Rules of models on HTTP bindings (Smithy 2.0, "HTTP bindings"): labels of patterns, and names in messages.
+// Rules of models on HTTP bindings (Smithy 2.0, "HTTP bindings"): labels and routes of patterns, and names in messages.
 #![tactic(auto)]
 
 mod again;
+mod closures;
 mod label_rows;
 mod label_told;
 pub mod labels;
 pub mod naming;
 mod prefixes;
+mod route_keys;
+pub mod routes;
+mod runs;
 pub mod sides;
 mod targets;
 pub mod wire_names;

@@ -4,13 +4,12 @@ ghost use Rattle.sm_model.specs.GraphView.{IsShapeNumber, entries_of, maps_of};
 ghost use Rattle.sm_model.specs.Reaching.{AreMarks, id_of_number};
 ghost use Rattle.sm_model.specs.Relations.{IsRelated};
 ghost use Rattle.sm_compile.specs.rules.Bindings.{IsHttpOperation};
-ghost use Rattle.sm_rules.specs.parts.Using.{is_own_service, is_service};
 ghost use Rattle.sm_select.specs.Images.{AreImage};
 ghost use Rattle.sm_select.specs.Ways.{AreWays};
 ghost use Rattle.sm_http_rules.specs.parts.Sides.{AreSides, MayErr, is_http_operation, may_err};
 
-use sm_compile::{id_text, kind_of};
-use sm_model::{Graph, Kind, Relation, is_in_prelude};
+use crate::closures::is_own_service;
+use sm_model::{Graph, Relation};
 use sm_rules::carried::carries;
 use sm_rules::marked::{NumberTest, marked_where};
 use sm_rules::owned::is_own_operation;
@@ -104,23 +103,4 @@ fn may_err(graph: &Graph, operations: &[bool], reaching: &[bool], number: u32) -
     ensures { result ≡ may_err graph.now operations.now reaching.now number }
 {
     operations[number as usize] || (reaching[number as usize] && is_own_service(graph, number))
-}
-
-fn is_own_service(graph: &Graph, number: u32) -> bool
-    requires { IsShapeNumber graph.now number }
-    ensures { result ≡ is_own_service (maps_of graph.now) (id_of_number graph.now number) }
-{
-    is_service(kind_of(graph, number)) && !is_in_prelude(id_text(graph, number))
-}
-
-fn is_service(kind: Option<Kind>) -> bool
-    ensures { result ≡ is_service kind }
-{
-    match kind {
-        Some(kind) => match kind {
-            Kind::Service => true,
-            _ => false,
-        },
-        None => false,
-    }
 }

@@ -1,4 +1,4 @@
-use Rattle.std.proofs.Common.{◌≡◌, ◌<◌, ◌+◌, ◌∙◌, ℕ, length, true, subst, sym, arith}
+use Rattle.std.proofs.Common.{List, Bool, ◌≡◌, ◌<◌, ◌+◌, ◌∙◌, ℕ, length, true, subst, sym, arith}
 use Rattle.sm_model.specs.GraphView.{entries_of, maps_of}
 use Rattle.sm_model.specs.Reaching.{AreMarks, id_of_number}
 use Rattle.sm_select.specs.Images.{AreImage, turned}
@@ -23,7 +23,7 @@ loop-number-preserved c =
     let Holds : ℕ → Type 0 = λ k. MayErr (maps_of g) (id_of_number g k) in
     let small : at.number < length (entries_of g) = omega (arith, c.loop-number-test.true, c.count-number-end.ensures) in
     let walk = subst (AreImage g c.args.operations.now (turned true (Reaches (maps_of g))))
-    (sym c.as_slice.ensures.value) c.in_ok-reaching.ensures in
+    (sym {A = List Bool} c.as_slice.ensures.value) c.in_ok-reaching.ensures in
     let told = may_err_told g c.args.operations.now c.as_slice.result.now c.requires.operations walk at.number small in
     record {
       within = omega (arith, c.loop-number-test.true, c.count-number-end.ensures);

@@ -1,0 +1,38 @@
+-- The routes of operations as texts, and the closures of services as marks.
+use Rattle.std.specs.Prelude.{◌≡◌, ◌++◌, ◌∷◌, ℕ, Bool, List, [], Option, Some, None, length}
+use Rattle.sm_bytes.specs.Ascii.{number_sign}
+use Rattle.sm_model.specs.Graphs.{GraphMaps}
+use Rattle.sm_model.specs.GraphView.{entries_of, maps_of}
+use Rattle.sm_model.specs.Reaching.{AreMarks, id_of_number}
+use Rattle.sm_model.specs.Relations.{Reaches}
+use Rattle.sm_model.specs.declared.graph.Graph.{Graph}
+use Rattle.sm_compile.specs.UriPattern.{UriSaid, printed_uri}
+use Rattle.sm_compile.specs.UriRoutes.{unnamed}
+use Rattle.sm_compile.specs.rules.Http.{HasSameRoute, HasUri, method_of}
+use Rattle.sm_http_rules.specs.parts.Runs.{AreEach}
+
+-- these marks are those of the closure
+abbrev pub AreInside : Graph → ℕ → List Bool → Type 0
+AreInside g service marks = AreMarks (length (entries_of g)) (λ k. Reaches (maps_of g) (id_of_number g service) (id_of_number g k)) marks
+
+-- a pattern without the names of its labels, and the method behind a `#`, which no pattern has
+abbrev pub method_tail : Option (List ℕ) → List ℕ
+method_tail None = []
+method_tail (Some method) = number_sign ∷ method
+
+abbrev pub key_of : UriSaid → Option (List ℕ) → List ℕ
+key_of u method = printed_uri (unnamed u) ++ method_tail method
+
+abbrev pub IsRouteKey : GraphMaps → List ℕ → List ℕ → Type 0
+IsRouteKey g id key = (u : UriSaid) × HasUri g id u × (key ≡ key_of u (method_of g id))
+
+abbrev pub IsKeyAt : Graph → ℕ → Option (List ℕ) → Type 0
+IsKeyAt g k None = (key : List ℕ) → IsRouteKey (maps_of g) (id_of_number g k) key → ⊥
+IsKeyAt g k (Some key) = IsRouteKey (maps_of g) (id_of_number g k) key
+
+abbrev pub AreKeys : Graph → ℕ → List (Option (List ℕ)) → Type 0
+AreKeys g n keys = AreEach (IsKeyAt g) None n keys
+
+-- the service in whose closure both stand
+abbrev pub closure_of_route : (g : GraphMaps) (operation smaller : List ℕ) → HasSameRoute g operation smaller → List ℕ
+closure_of_route g operation smaller h = h.service

@@ -1,0 +1,50 @@
+// Services outside of the prelude, and what their closures hold.
+ghost use Rattle.std.specs.Prelude.{◌≡◌, IfOk};
+ghost use Rattle.sm_model.specs.GraphView.{IsShapeNumber, maps_of};
+ghost use Rattle.sm_model.specs.Reaching.{id_of_number};
+ghost use Rattle.sm_rules.specs.parts.Using.{is_own_service, is_service};
+ghost use Rattle.sm_select.specs.Ways.{AreWays};
+ghost use Rattle.sm_http_rules.specs.parts.Routes.{AreInside};
+
+use sm_compile::{id_text, kind_of};
+use sm_model::{Graph, Kind, is_in_prelude, no_marks};
+use sm_select::{Ways, image_of_walk};
+use sm_tree::NoMemory;
+use std::alloc::Global;
+
+/// Whether a service outside of the prelude stands there. No memory.
+pub(crate) fn is_own_service(graph: &Graph, number: u32) -> bool
+    requires { IsShapeNumber graph.now number }
+    ensures { result ≡ is_own_service (maps_of graph.now) (id_of_number graph.now number) }
+{
+    is_service(kind_of(graph, number)) && !is_in_prelude(id_text(graph, number))
+}
+
+fn is_service(kind: Option<Kind>) -> bool
+    ensures { result ≡ is_service kind }
+{
+    match kind {
+        Some(kind) => match kind {
+            Kind::Service => true,
+            _ => false,
+        },
+        None => false,
+    }
+}
+
+/// The closure of a service, as marks. Each link is looked at once.
+pub(crate) fn closure_of(
+    alloc: Global,
+    graph: &Graph,
+    ways: &Ways,
+    service: u32,
+) -> Result<Vec<bool>, NoMemory>
+    requires number { IsShapeNumber graph.now service }
+    requires ways { AreWays graph.now ways.now }
+    ensures { IfOk result (λ marks. AreInside graph.now service marks.items) }
+{
+    let mut starts = no_marks(alloc, graph.count() as usize)?;
+    starts[service as usize] = true;
+    let marks = image_of_walk(alloc, graph, ways, false, starts.as_slice())?;
+    Ok(marks)
+}
