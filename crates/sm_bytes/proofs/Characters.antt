@@ -1,6 +1,7 @@
 -- Texts in UTF-8 byte by byte: the steps over a whole character, what may stand behind a run of characters, and that
 -- from each place a text goes on where there is room. The proofs of readers cite them.
-use Rattle.std.proofs.Common.{◌≡◌, ◌⊎◌, ◌&&◌, ◌≤◌, ◌<◌, ◌+◌, ◌-◌, ◌*◌, ℕ, zero, suc, Bool, true, false, Option, None, Some, List, [], ◌∷◌, ◌++◌, inl, inr, refl, sym, ap, ◌∙◌, subst, arith, length, encode_utf8_all, IsUtf8}
+use Rattle.std.proofs.Common.{◌≡◌, ◌⊎◌, ◌&&◌, ◌≤◌, ◌<◌, ◌+◌, ◌-◌, ◌*◌, ℕ, zero, suc, Bool, true, false, Option, None, Some, List, [], ◌∷◌}
+use Rattle.std.proofs.Common.{◌++◌, inl, inr, refl, sym, ap, ◌∙◌, subst, arith, length, encode_utf8_all, IsUtf8}
 use Rattle.std.specs.Prelude.{option_and_then}
 use Rattle.std.specs.Char.{IsScalar}
 use Rattle.std.proofs.lemmas.Bool.{and_from, cases_lt, cases_order, cond-false, le-ltb, lt-ltb, le-leb}

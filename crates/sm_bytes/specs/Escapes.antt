@@ -1,7 +1,8 @@
 -- Escapes in strings (RFC 8259, section 7): what stands for a character behind a backslash, and the pairs of
 -- surrogates of UTF-16.
 use Rattle.std.specs.Prelude.{ℕ, ◌+◌, ◌-◌, ◌*◌, ◌≤◌, ◌<◌, ◌==◌, cond, nat_le, ◌&&◌, Option, Some, None}
-use Rattle.sm_bytes.specs.Ascii.{backspace, tab, line_feed, form_feed, carriage_return, quote, slash, backslash, digit_zero, digit_nine, capital_a, capital_f, small_a, small_b, small_f, small_n, small_r, small_t}
+use Rattle.sm_bytes.specs.Ascii.{backspace, tab, line_feed, form_feed, carriage_return, quote, slash, backslash, digit_zero, digit_nine}
+use Rattle.sm_bytes.specs.Ascii.{capital_a, capital_f, small_a, small_b, small_f, small_n, small_r, small_t}
 
 -- one of `"` `\` `/` `b` `f` `n` `r` `t`
 abbrev pub short_escape : ℕ → Option ℕ

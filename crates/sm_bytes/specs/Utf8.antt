@@ -1,6 +1,7 @@
 -- UTF-8 byte by byte (RFC 3629, section 4): what may stand behind some bytes of a text. It is for readers that
 -- take a text in pieces, or of a length that is told; that it is `IsUtf8` of std is a law.
-use Rattle.std.specs.Prelude.{◌≡◌, ◌↔◌, ℕ, ◌≤◌, ◌<◌, ◌==◌, ◌&&◌, nat_le, nat_lt, cond, if◌then◌else◌, option_and_then, Option, None, Some, List, [], ◌∷◌, IsUtf8}
+use Rattle.std.specs.Prelude.{◌≡◌, ◌↔◌, ℕ, ◌≤◌, ◌<◌, ◌==◌, ◌&&◌, nat_le, nat_lt, cond, if◌then◌else◌, option_and_then, Option, None, Some}
+use Rattle.std.specs.Prelude.{List, [], ◌∷◌, IsUtf8}
 use Rattle.sm_bytes.specs.declared.utf8.Utf8.{Utf8}
 use Rattle.sm_bytes.specs.declared.utf8.Utf8.TheVariants.{Between, Second, LastTwo, Last}
 

@@ -1,6 +1,7 @@
 -- Whatever may come, its first byte leads on to a state between two bytes: so bytes that begin an item lead from the first
 -- state to one such, and complete one list of events.
-use Rattle.std.proofs.Common.{◌≡◌, ◌≢◌, ◌≤◌, ◌<◌, ◌+◌, ◌-◌, ◌*◌, ◌%◌, ℕ, suc, zero, inl, inr, Option, Some, None, List, [], ◌∷◌, ◌++◌, refl, sym, ap, subst, ◌∙◌, arith, length, append-nil, append_assoc}
+use Rattle.std.proofs.Common.{◌≡◌, ◌≢◌, ◌≤◌, ◌<◌, ◌+◌, ◌-◌, ◌*◌, ◌%◌, ℕ, suc, zero, inl, inr, Option, Some, None, List, [], ◌∷◌, ◌++◌}
+use Rattle.std.proofs.Common.{refl, sym, ap, subst, ◌∙◌, arith, length, append-nil, append_assoc}
 use Rattle.sm_tree.specs.Limits.{most_levels}
 use Rattle.sm_tree.specs.Events.{NodeEvent}
 use Rattle.sm_tree.specs.Timing.{TimedEvent}
@@ -13,26 +14,33 @@ use Rattle.sm_cbor.specs.CborItem.{TextString}
 use Rattle.sm_cbor.specs.Timing.{cbor_timing}
 use Rattle.sm_cbor.specs.steps.Marks.{plain}
 use Rattle.sm_cbor.specs.steps.Reading.{HeadIs}
-use Rattle.sm_cbor.specs.steps.Rest.{CborState, CborEnds, ItemComes, CborKeyComes, ChunksCome, CborStringComes, before_span, ArgumentComes, CborRest, CborLeads, first_state}
+use Rattle.sm_cbor.specs.steps.Rest.{CborState, CborEnds, ItemComes, CborKeyComes, ChunksCome, CborStringComes, before_span}
+use Rattle.sm_cbor.specs.steps.Rest.{ArgumentComes, CborRest, CborLeads, first_state}
 use Rattle.sm_cbor.specs.steps.Machine.{Begun}
 use Rattle.sm_cbor.specs.declared.head.Head.{Head}
-use Rattle.sm_cbor.specs.declared.head.Head.TheVariants.{Argument as ArgumentHead, Chunks as ChunksHead, List as EntriesHead, Map as PairsHead, Null as NullHead, Bool as BoolHead, NoItem}
+use Rattle.sm_cbor.specs.declared.head.Head.TheVariants.{Argument as ArgumentHead, Chunks as ChunksHead, List as EntriesHead}
+use Rattle.sm_cbor.specs.declared.head.Head.TheVariants.{Map as PairsHead, Null as NullHead, Bool as BoolHead, NoItem}
 use Rattle.sm_cbor.specs.declared.place.StringKind.{StringKind}
 use Rattle.sm_cbor.specs.declared.place.StringKind.TheVariants.{Bytes, Text, Key as KeyText}
 use Rattle.sm_cbor.specs.declared.place.Span.{Span}
 use Rattle.sm_cbor.specs.declared.place.Span.TheVariants.{Whole, Chunk}
 use Rattle.sm_cbor.specs.declared.place.Subject.{Subject}
-use Rattle.sm_cbor.specs.declared.place.Subject.TheVariants.{Unsigned, Negative, String as StringHead, List as ListHead, Map as MapHead, Tag as TagHead, Opaque}
+use Rattle.sm_cbor.specs.declared.place.Subject.TheVariants.{Unsigned, Negative, String as StringHead, List as ListHead, Map as MapHead}
+use Rattle.sm_cbor.specs.declared.place.Subject.TheVariants.{Tag as TagHead, Opaque}
 use Rattle.sm_cbor.specs.declared.place.Level.{Level}
-use Rattle.sm_cbor.specs.declared.place.Level.TheVariants.{Tag, List as AList, ListToBreak as AListToBreak, Map as AMap, MapToBreak as AMapToBreak}
+use Rattle.sm_cbor.specs.declared.place.Level.TheVariants.{Tag, List as AList, ListToBreak as AListToBreak, Map as AMap}
+use Rattle.sm_cbor.specs.declared.place.Level.TheVariants.{MapToBreak as AMapToBreak}
 use Rattle.sm_cbor.specs.declared.place.Place.{Place}
 use Rattle.sm_cbor.specs.declared.place.Place.TheVariants.{Item, Key, After, Argument as InArgument, String, Chunks}
 use Rattle.sm_cbor.proofs.Arguments.{argument_starts, number_byte}
-use Rattle.sm_cbor.proofs.Items.{at, HeadComes, initial_byte, argument_leads, chunks_lead, list_leads, map_leads, null_leads, bool_leads, item_stops}
+use Rattle.sm_cbor.proofs.Items.{at, HeadComes, initial_byte, argument_leads, chunks_lead, list_leads, map_leads, null_leads, bool_leads}
+use Rattle.sm_cbor.proofs.Items.{item_stops}
 use Rattle.sm_cbor.proofs.KeySteps.{key_leads, key_chunks_lead}
-use Rattle.sm_cbor.proofs.LevelSteps.{tag_ends, list_ends, map_ends, entry_leads, pair_leads, more_entries, more_pairs, list_breaks, map_breaks, entry_goes_on, pair_goes_on, break_is_no_item, no_break_key}
+use Rattle.sm_cbor.proofs.LevelSteps.{tag_ends, list_ends, map_ends, entry_leads, pair_leads, more_entries, more_pairs, list_breaks}
+use Rattle.sm_cbor.proofs.LevelSteps.{map_breaks, entry_goes_on, pair_goes_on, break_is_no_item, no_break_key}
 use Rattle.sm_cbor.proofs.StringSteps.{IsText, bytes_run, text_byte, bytes_end, text_end, key_end, chunk_end, break_leads, chunk_leads}
-use Rattle.sm_cbor.proofs.ArgumentSteps.{argument_byte, ended_onward, unsigned_ends, negative_ends, string_begins, list_opens, map_opens, tag_opens, opaque_ends}
+use Rattle.sm_cbor.proofs.ArgumentSteps.{argument_byte, ended_onward, unsigned_ends, negative_ends, string_begins, list_opens, map_opens}
+use Rattle.sm_cbor.proofs.ArgumentSteps.{tag_opens, opaque_ends}
 use Rattle.sm_cbor.proofs.RunSteps.{none_owed}
 use Rattle.sm_cbor.proofs.Readings.{leads_none, leads_joined}
 use Rattle.sm_cbor.proofs.Completing.{complete_leads}

@@ -10,7 +10,8 @@ use Rattle.sm_cbor.specs.steps.Sinks.{Reached}
 use Rattle.sm_cbor.specs.Refusals.{mark}
 use Rattle.sm_cbor.specs.steps.Marks.{Keys, plain, marked}
 use Rattle.sm_cbor.specs.steps.Rest.{CborState, CborLeads, LeadsBack, CborStops, first_state}
-use Rattle.sm_cbor.specs.steps.Machine.{levels_of, cbor_state_at, cbor_state_of, IsAt, IsBadByte, IsOtherKey, OpensTooDeep, CborTakesByte, IsFirstLevel}
+use Rattle.sm_cbor.specs.steps.Machine.{levels_of, cbor_state_at, cbor_state_of, IsAt, IsBadByte, IsOtherKey, OpensTooDeep, CborTakesByte}
+use Rattle.sm_cbor.specs.steps.Machine.{IsFirstLevel}
 use Rattle.sm_cbor.specs.steps.Levels.{first_level}
 use Rattle.sm_cbor.specs.declared.place.Level.{Level}
 use Rattle.sm_cbor.specs.declared.place.Level.TheVariants.{ListToBreak as AListToBreak, MapToBreak as AMapToBreak}

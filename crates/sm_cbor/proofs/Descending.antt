@@ -1,6 +1,7 @@
 -- What the reader by recursive descent finds, step by step, from the cases of CborItem: heads, strings and simple
 -- values, and entries and pairs one after the other.
-use Rattle.std.proofs.Common.{◌≡◌, ℕ, pos, negsuc, ◌+◌, ◌-◌, ◌≤◌, ◌<◌, inl, inr, None, List, [], ◌∷◌, ◌++◌, refl, sym, ap, subst, ◌∙◌, arith, length, take, drop, append_assoc, append-nil}
+use Rattle.std.proofs.Common.{◌≡◌, ℕ, pos, negsuc, ◌+◌, ◌-◌, ◌≤◌, ◌<◌, inl, inr, None, List, [], ◌∷◌, ◌++◌, refl, sym, ap, subst, ◌∙◌}
+use Rattle.std.proofs.Common.{arith, length, take, drop, append_assoc, append-nil}
 use Rattle.std.proofs.lemmas.List.{take-append-drop, map-append}
 use Rattle.sm_tree.specs.Node.{Node, nodes_of, members_of}
 use Rattle.sm_tree.specs.Levels.{levels, nodes_levels, members_levels}

@@ -4,7 +4,8 @@ use Rattle.std.proofs.lemmas.Str.{IsUtf8-nil}
 use Rattle.sm_tree.specs.Json.{AreBytes}
 use Rattle.sm_tree.specs.Node.{Nodes, Members, null, no_nodes, node, no_members, member}
 use Rattle.sm_tree.specs.Levels.{nodes_levels, members_levels}
-use Rattle.sm_tree.specs.Events.{null_event, key_event, text_event, bytes_event, tag_event, opaque_event, start_list, end_list, start_object, end_object}
+use Rattle.sm_tree.specs.Events.{null_event, key_event, text_event, bytes_event, tag_event, opaque_event, start_list, end_list}
+use Rattle.sm_tree.specs.Events.{start_object, end_object}
 use Rattle.sm_tree.specs.Timing.{TimedEvent, by_byte}
 use Rattle.sm_bytes.specs.declared.utf8.Utf8.{Utf8}
 use Rattle.sm_bytes.specs.declared.utf8.Utf8.TheVariants.{Between}
@@ -15,15 +16,18 @@ use Rattle.sm_cbor.specs.Heads.{Number}
 use Rattle.sm_cbor.specs.CborItem.{CountedEntries, CountedPairs, IsOpaque}
 use Rattle.sm_cbor.specs.steps.Marks.{Keys, plain, marked, key_of}
 use Rattle.sm_cbor.specs.steps.Reading.{EndsAs}
-use Rattle.sm_cbor.specs.steps.Rest.{CborEnds, ItemComes, CborKeyComes, StringEnded, ChunksCome, SpanEnded, CborStringComes, ArgumentEnded, ArgumentComes, before_span, CborRestAt}
+use Rattle.sm_cbor.specs.steps.Rest.{CborEnds, ItemComes, CborKeyComes, StringEnded, ChunksCome, SpanEnded, CborStringComes}
+use Rattle.sm_cbor.specs.steps.Rest.{ArgumentEnded, ArgumentComes, before_span, CborRestAt}
 use Rattle.sm_cbor.specs.declared.place.StringKind.{StringKind}
 use Rattle.sm_cbor.specs.declared.place.StringKind.TheVariants.{Bytes, Text, Key as KeyText}
 use Rattle.sm_cbor.specs.declared.place.Span.{Span}
 use Rattle.sm_cbor.specs.declared.place.Span.TheVariants.{Whole, Chunk}
 use Rattle.sm_cbor.specs.declared.place.Subject.{Subject}
-use Rattle.sm_cbor.specs.declared.place.Subject.TheVariants.{Unsigned, Negative, String as StringHead, List as ListHead, Map as MapHead, Tag as TagHead, Opaque}
+use Rattle.sm_cbor.specs.declared.place.Subject.TheVariants.{Unsigned, Negative, String as StringHead, List as ListHead, Map as MapHead}
+use Rattle.sm_cbor.specs.declared.place.Subject.TheVariants.{Tag as TagHead, Opaque}
 use Rattle.sm_cbor.specs.declared.place.Level.{Level}
-use Rattle.sm_cbor.specs.declared.place.Level.TheVariants.{Tag, List as AList, ListToBreak as AListToBreak, Map as AMap, MapToBreak as AMapToBreak}
+use Rattle.sm_cbor.specs.declared.place.Level.TheVariants.{Tag, List as AList, ListToBreak as AListToBreak, Map as AMap}
+use Rattle.sm_cbor.specs.declared.place.Level.TheVariants.{MapToBreak as AMapToBreak}
 use Rattle.sm_cbor.specs.declared.place.Place.{Place}
 use Rattle.sm_cbor.specs.declared.place.Place.TheVariants.{Item, Key, After, Argument as InArgument, String, Chunks}
 use Rattle.sm_cbor.specs.steps.Machine.{opens, ArgumentLives, Lives}

@@ -1,10 +1,13 @@
 -- What is written for the events of a tree is its written item, and one event more adds its own bytes.
-use Rattle.std.proofs.Common.{◌≡◌, true, false, Option, None, Some, ℕ, List, [], ◌∷◌, ◌++◌, refl, sym, ap, subst, ◌∙◌, append_assoc, append-nil}
-use Rattle.sm_tree.specs.Node.{Node, Nodes, Members, null, bool, int, number, text, bytes, tag, opaque, list, object, no_nodes, node, no_members, member}
+use Rattle.std.proofs.Common.{◌≡◌, true, false, Option, None, Some, ℕ, List, [], ◌∷◌, ◌++◌, refl, sym, ap, subst, ◌∙◌, append_assoc}
+use Rattle.std.proofs.Common.{append-nil}
+use Rattle.sm_tree.specs.Node.{Node, Nodes, Members, null, bool, int, number, text, bytes, tag, opaque, list, object, no_nodes, node}
+use Rattle.sm_tree.specs.Node.{no_members, member}
 use Rattle.sm_tree.specs.Events.{NodeEvent, start_list, start_object}
 use Rattle.sm_tree.specs.Streams.{Streams, EntriesStream, PairsStream, HasCount, TakesOn, entry_count, pair_count}
 use Rattle.sm_cbor.specs.Written.{written_head, written_item, written_item_entries, written_item_pairs, written_text_item}
-use Rattle.sm_cbor.specs.WrittenEvents.{event_item, written_item_events, IsCounted, AreCounted, WrittenEventsAreItem, WrittenEventsBeginItem}
+use Rattle.sm_cbor.specs.WrittenEvents.{event_item, written_item_events, IsCounted, AreCounted, WrittenEventsAreItem}
+use Rattle.sm_cbor.specs.WrittenEvents.{WrittenEventsBeginItem}
 
 -- the events begin with bytes, and those that follow tell their numbers too
 abbrev Follow : List ℕ → List NodeEvent → List NodeEvent → Type 0

@@ -1,5 +1,6 @@
 -- One turn of the reader behind another, and where it ends.
-use Rattle.std.proofs.Common.{Ok, Err, ◌≡◌, ℕ, ◌+◌, ◌-◌, ◌≤◌, ◌<◌, inl, inr, true, false, List, [], ◌∷◌, ◌++◌, refl, sym, ap, subst, ◌∙◌, arith, length, take, drop, get_or, length-drop}
+use Rattle.std.proofs.Common.{Ok, Err, ◌≡◌, ℕ, ◌+◌, ◌-◌, ◌≤◌, ◌<◌, inl, inr, true, false, List, [], ◌∷◌, ◌++◌, refl, sym, ap, subst, ◌∙◌}
+use Rattle.std.proofs.Common.{arith, length, take, drop, get_or, length-drop}
 use Rattle.std.proofs.Math.Seq.{take-add}
 use Rattle.std.proofs.lemmas.List.{take_more, drop_more, take_all}
 use Rattle.sm_tree.specs.Node.{Node, null, bool, int, number, text, bytes, tag, opaque, list, object, no_nodes, node, no_members, member}
@@ -17,9 +18,11 @@ use Rattle.sm_cbor.specs.CborItem.{Item as ItemBytes}
 use Rattle.sm_cbor.specs.steps.Marks.{Keys, plain, key_of}
 use Rattle.sm_cbor.specs.steps.Rest.{CborEnds, CborRest, CborRestAt}
 use Rattle.sm_tree.specs.Refusal.{IsWithin, moved_by}
-use Rattle.sm_cbor.specs.steps.Machine.{levels_of, cbor_state_of, Begun, BehindItem, IsSoundReader, CborGoes, CborTakesByte, CborTakesPrefix, CborTakesAll, RefusesAt, IsPlaceOf, RefusesOneOf, StandsStill}
+use Rattle.sm_cbor.specs.steps.Machine.{levels_of, cbor_state_of, Begun, BehindItem, IsSoundReader, CborGoes, CborTakesByte}
+use Rattle.sm_cbor.specs.steps.Machine.{CborTakesPrefix, CborTakesAll, RefusesAt, IsPlaceOf, RefusesOneOf, StandsStill}
 use Rattle.sm_cbor.specs.declared.place.Level.{Level}
-use Rattle.sm_cbor.specs.declared.place.Level.TheVariants.{Tag, List as AList, ListToBreak as AListToBreak, Map as AMap, MapToBreak as AMapToBreak}
+use Rattle.sm_cbor.specs.declared.place.Level.TheVariants.{Tag, List as AList, ListToBreak as AListToBreak, Map as AMap}
+use Rattle.sm_cbor.specs.declared.place.Level.TheVariants.{MapToBreak as AMapToBreak}
 use Rattle.sm_cbor.specs.declared.place.Place.{Place}
 use Rattle.sm_cbor.specs.declared.place.Place.TheVariants.{Item, Key, After, Argument as InArgument, String, Chunks}
 use Rattle.sm_cbor.specs.declared.read.Reader.{Reader}

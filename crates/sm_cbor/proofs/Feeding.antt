@@ -1,6 +1,7 @@
 -- A reader that takes pieces, beside a sink: what a piece does to it, and what it answers at the end. The answers of `CborReader`
 -- and of `read_by_bytes` cite these.
-use Rattle.std.proofs.Common.{Ok, Err, ◌≡◌, ℕ, ◌+◌, ◌-◌, ◌≤◌, ◌<◌, List, [], ◌++◌, Option, None, Some, refl, sym, ap, subst, ◌∙◌, arith, length, length-append, take, drop, take-append-drop, get_or, false}
+use Rattle.std.proofs.Common.{Ok, Err, ◌≡◌, ℕ, ◌+◌, ◌-◌, ◌≤◌, ◌<◌, List, [], ◌++◌, Option, None, Some, refl, sym, ap, subst, ◌∙◌, arith}
+use Rattle.std.proofs.Common.{length, length-append, take, drop, take-append-drop, get_or, false}
 use Rattle.std.proofs.Math.Seq.{take-append-add}
 use Rattle.std.proofs.lemmas.List.{get_or-append-add, take_all, length-drop}
 use Rattle.sm_tree.specs.Limits.{most_levels}

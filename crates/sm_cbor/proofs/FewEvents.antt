@@ -1,13 +1,17 @@
 -- An item gives two events for each byte at most, and so does what has come of it.
-use Rattle.std.proofs.Common.{◌≤◌, ◌<◌, ◌*◌, ◌+◌, ◌-◌, ℕ, inl, inr, true, false, cond, List, [], ◌∷◌, ◌++◌, Some, None, sym, ap, subst, arith, length, length-append, IsUtf8}
+use Rattle.std.proofs.Common.{◌≤◌, ◌<◌, ◌*◌, ◌+◌, ◌-◌, ℕ, inl, inr, true, false, cond, List, [], ◌∷◌, ◌++◌, Some, None, sym, ap, subst}
+use Rattle.std.proofs.Common.{arith, length, length-append, IsUtf8}
 use Rattle.std.proofs.lemmas.Bool.{cases_lt, le-leb, lt-leb}
 use Rattle.sm_tree.specs.Json.{AreBytes}
-use Rattle.sm_tree.specs.Node.{Node, Nodes, Members, null, bool, int, number, text, bytes, tag, opaque, list, object, no_nodes, node, no_members, member}
-use Rattle.sm_tree.specs.Events.{NodeEvent, null_event, bool_event, int_event, number_event, text_event, bytes_event, tag_event, opaque_event, start_list, end_list, start_object, key_event, end_object}
+use Rattle.sm_tree.specs.Node.{Node, Nodes, Members, null, bool, int, number, text, bytes, tag, opaque, list, object, no_nodes, node}
+use Rattle.sm_tree.specs.Node.{no_members, member}
+use Rattle.sm_tree.specs.Events.{NodeEvent, null_event, bool_event, int_event, number_event, text_event, bytes_event, tag_event}
+use Rattle.sm_tree.specs.Events.{opaque_event, start_list, end_list, start_object, key_event, end_object}
 use Rattle.sm_tree.specs.Timing.{TimedEvent, by_byte, complete_with}
 use Rattle.sm_tree.specs.TimingLaws.{HasFewEvents}
 use Rattle.sm_cbor.specs.CborItem.{KeyForm, TextString}
-use Rattle.sm_cbor.specs.Timing.{CompleteAt, ItemTimed, CountedEntriesTimed, EntriesToBreakTimed, CountedPairsTimed, PairsToBreakTimed, cbor_timing}
+use Rattle.sm_cbor.specs.Timing.{CompleteAt, ItemTimed, CountedEntriesTimed, EntriesToBreakTimed, CountedPairsTimed, PairsToBreakTimed}
+use Rattle.sm_cbor.specs.Timing.{cbor_timing}
 use Rattle.sm_cbor.proofs.Shorter.{HasByte, text_has_byte, head_short, byte_short, string_short, integer_short, simple_short, item_short}
 
 -- how many are complete where so many of the text's bytes are still to come

@@ -1,5 +1,6 @@
 -- What the reader does with a byte outside of strings. The answers of those steps cite these.
-use Rattle.std.proofs.Common.{◌≡◌, ◌≢◌, ℕ, zero, suc, ◌+◌, ◌-◌, ◌*◌, ◌/◌, ◌%◌, ◌^◌, ◌≤◌, ◌<◌, ◌⊎◌, inl, inr, Bool, List, [], ◌∷◌, None, refl, sym, subst, arith, length}
+use Rattle.std.proofs.Common.{◌≡◌, ◌≢◌, ℕ, zero, suc, ◌+◌, ◌-◌, ◌*◌, ◌/◌, ◌%◌, ◌^◌, ◌≤◌, ◌<◌, ◌⊎◌, inl, inr, Bool, List, [], ◌∷◌, None}
+use Rattle.std.proofs.Common.{refl, sym, subst, arith, length}
 use Rattle.std.proofs.Common.{Global}
 use Rattle.std.specs.Prelude.{Vec}
 use Rattle.std.proofs.lemmas.Str.{IsUtf8-nil}
@@ -18,20 +19,24 @@ use Rattle.sm_cbor.specs.Heads.{HasWidth}
 use Rattle.sm_cbor.specs.Refusals.{IsNoText, BeginsOther}
 use Rattle.sm_cbor.specs.steps.Reading.{StartsNumber, HeadIs, SubjectIs, IsOf, bound}
 use Rattle.sm_cbor.specs.steps.Rest.{CborLeads}
-use Rattle.sm_cbor.specs.steps.Machine.{levels_of, cbor_state_at, opened, opens_of, ArgumentLives, ChunksHeld, BehindItem, IsAt, IsSoundReader, CborGoes, OpensLevel, IsBadByte, IsOtherKey, OpensTooDeep}
+use Rattle.sm_cbor.specs.steps.Machine.{levels_of, cbor_state_at, opened, opens_of, ArgumentLives, ChunksHeld, BehindItem, IsAt}
+use Rattle.sm_cbor.specs.steps.Machine.{IsSoundReader, CborGoes, OpensLevel, IsBadByte, IsOtherKey, OpensTooDeep}
 use Rattle.sm_cbor.specs.declared.head.Head.{Head}
-use Rattle.sm_cbor.specs.declared.head.Head.TheVariants.{Argument as ArgumentHead, Chunks as ChunksHead, List as EntriesHead, Map as PairsHead, Null as NullHead, Bool as BoolHead, NoItem}
+use Rattle.sm_cbor.specs.declared.head.Head.TheVariants.{Argument as ArgumentHead, Chunks as ChunksHead, List as EntriesHead}
+use Rattle.sm_cbor.specs.declared.head.Head.TheVariants.{Map as PairsHead, Null as NullHead, Bool as BoolHead, NoItem}
 use Rattle.sm_cbor.specs.declared.place.StringKind.{StringKind}
 use Rattle.sm_cbor.specs.declared.place.StringKind.TheVariants.{Bytes, Text, Key as KeyText}
 use Rattle.sm_cbor.specs.declared.place.Span.TheVariants.{Whole, Chunk}
 use Rattle.sm_cbor.specs.declared.place.Subject.{Subject}
-use Rattle.sm_cbor.specs.declared.place.Subject.TheVariants.{Unsigned, Negative, String as StringHead, List as ListHead, Map as MapHead, Tag as TagHead, Opaque}
+use Rattle.sm_cbor.specs.declared.place.Subject.TheVariants.{Unsigned, Negative, String as StringHead, List as ListHead, Map as MapHead}
+use Rattle.sm_cbor.specs.declared.place.Subject.TheVariants.{Tag as TagHead, Opaque}
 use Rattle.sm_cbor.specs.declared.place.Level.{Level}
 use Rattle.sm_cbor.specs.declared.place.Level.TheVariants.{ListToBreak as AListToBreak, MapToBreak as AMapToBreak}
 use Rattle.sm_cbor.specs.declared.place.Place.{Place}
 use Rattle.sm_cbor.specs.declared.place.Place.TheVariants.{Item, Key, After, Argument as InArgument, Chunks}
 use Rattle.sm_cbor.specs.declared.read.Reader.{Reader}
-use Rattle.sm_cbor.proofs.Items.{at, HeadComes, item_onward, item_back, argument_leads, chunks_lead, list_leads, map_leads, null_leads, bool_leads, item_stops}
+use Rattle.sm_cbor.proofs.Items.{at, HeadComes, item_onward, item_back, argument_leads, chunks_lead, list_leads, map_leads, null_leads}
+use Rattle.sm_cbor.proofs.Items.{bool_leads, item_stops}
 use Rattle.sm_cbor.proofs.KeySteps.{key_leads, key_chunks_lead, key_stops, key_mark}
 use Rattle.sm_cbor.proofs.ArgumentSteps.{no_room}
 use Rattle.sm_cbor.proofs.Endings.{goes_on as something_comes, ends_can, item_can}

@@ -1,5 +1,6 @@
 -- What the initial byte of an item leaves to come: the laws of `CborLeads` and `CborStops` where an item must come.
-use Rattle.std.proofs.Common.{◌≡◌, ℕ, ℤ, pos, negsuc, ◌+◌, ◌%◌, ◌^◌, ◌≤◌, ◌<◌, ◌⊎◌, inl, inr, Bool, true, false, cond, List, [], ◌∷◌, None, refl, sym, ap, subst, ◌∙◌, arith, length, FitsSigned, IsUtf8}
+use Rattle.std.proofs.Common.{◌≡◌, ℕ, ℤ, pos, negsuc, ◌+◌, ◌%◌, ◌^◌, ◌≤◌, ◌<◌, ◌⊎◌, inl, inr, Bool, true, false, cond, List, [], ◌∷◌}
+use Rattle.std.proofs.Common.{None, refl, sym, ap, subst, ◌∙◌, arith, length, FitsSigned, IsUtf8}
 use Rattle.std.specs.Int.{w64}
 use Rattle.std.specs.Fmt.{signed_decimal}
 use Rattle.std.specs.List.{concat}
@@ -7,7 +8,8 @@ use Rattle.std.proofs.lemmas.Bool.{cases_lt, lt-ltb, le-ltb}
 use Rattle.sm_tree.specs.Node.{Node, null, bool, int, number, text, bytes, tag, opaque, list, object}
 use Rattle.sm_tree.specs.Json.{AreBytes}
 use Rattle.sm_tree.specs.Levels.{levels}
-use Rattle.sm_tree.specs.Events.{NodeEvent, events, null_event, bool_event, int_event, number_event, text_event, bytes_event, start_list, start_object}
+use Rattle.sm_tree.specs.Events.{NodeEvent, events, null_event, bool_event, int_event, number_event, text_event, bytes_event, start_list}
+use Rattle.sm_tree.specs.Events.{start_object}
 use Rattle.sm_tree.specs.Streams.{unnumbered}
 use Rattle.sm_tree.specs.Timing.{TimedEvent, by_byte}
 use Rattle.sm_bytes.proofs.Characters.{utf8_runs, rest_utf8}
@@ -21,13 +23,15 @@ use Rattle.sm_cbor.specs.declared.place.StringKind.{StringKind}
 use Rattle.sm_cbor.specs.declared.place.StringKind.TheVariants.{Bytes, Text, Key as KeyText}
 use Rattle.sm_cbor.specs.declared.place.Span.TheVariants.{Whole, Chunk}
 use Rattle.sm_cbor.specs.declared.place.Subject.{Subject}
-use Rattle.sm_cbor.specs.declared.place.Subject.TheVariants.{Unsigned, Negative, String as StringHead, List as ListHead, Map as MapHead, Tag as TagHead, Opaque}
+use Rattle.sm_cbor.specs.declared.place.Subject.TheVariants.{Unsigned, Negative, String as StringHead, List as ListHead, Map as MapHead}
+use Rattle.sm_cbor.specs.declared.place.Subject.TheVariants.{Tag as TagHead, Opaque}
 use Rattle.sm_cbor.specs.declared.place.Level.{Level}
 use Rattle.sm_cbor.specs.declared.place.Level.TheVariants.{ListToBreak as AListToBreak, MapToBreak as AMapToBreak}
 use Rattle.sm_cbor.specs.declared.place.Place.{Place}
 use Rattle.sm_cbor.specs.declared.place.Place.TheVariants.{Item, After, Argument as InArgument, Chunks}
 use Rattle.sm_cbor.specs.declared.head.Head.{Head}
-use Rattle.sm_cbor.specs.declared.head.Head.TheVariants.{Argument as ArgumentHead, Chunks as ChunksHead, List as EntriesHead, Map as PairsHead, Null as NullHead, Bool as BoolHead, NoItem}
+use Rattle.sm_cbor.specs.declared.head.Head.TheVariants.{Argument as ArgumentHead, Chunks as ChunksHead, List as EntriesHead}
+use Rattle.sm_cbor.specs.declared.head.Head.TheVariants.{Map as PairsHead, Null as NullHead, Bool as BoolHead, NoItem}
 use Rattle.sm_cbor.proofs.Arguments.{argument_starts, argument_back, one_head}
 use Rattle.sm_cbor.proofs.Readings.{leads_silent, leads_one}
 

@@ -1,8 +1,11 @@
 -- Where a reader stands between two bytes, no event of what may come is complete: none is handed on late.
-use Rattle.std.proofs.Common.{◌≤◌, ◌<◌, ◌+◌, ℕ, suc, zero, inl, inr, List, [], ◌∷◌, ◌++◌, Some, None, sym, ap, subst, arith, length, length-append}
+use Rattle.std.proofs.Common.{◌≤◌, ◌<◌, ◌+◌, ℕ, suc, zero, inl, inr, List, [], ◌∷◌, ◌++◌, Some, None, sym, ap, subst, arith, length}
+use Rattle.std.proofs.Common.{length-append}
 use Rattle.std.specs.List.{concat}
-use Rattle.sm_tree.specs.Node.{Node, Nodes, Members, null, bool, int, number, text, bytes, tag, opaque, list, object, no_nodes, node, no_members, member}
-use Rattle.sm_tree.specs.Events.{NodeEvent, null_event, bool_event, int_event, number_event, text_event, bytes_event, tag_event, opaque_event, start_list, end_list, start_object, key_event, end_object}
+use Rattle.sm_tree.specs.Node.{Node, Nodes, Members, null, bool, int, number, text, bytes, tag, opaque, list, object, no_nodes, node}
+use Rattle.sm_tree.specs.Node.{no_members, member}
+use Rattle.sm_tree.specs.Events.{NodeEvent, null_event, bool_event, int_event, number_event, text_event, bytes_event, tag_event}
+use Rattle.sm_tree.specs.Events.{opaque_event, start_list, end_list, start_object, key_event, end_object}
 use Rattle.sm_tree.specs.Timing.{TimedEvent}
 use Rattle.sm_tree.specs.steps.Handing.{AreLater}
 use Rattle.sm_bytes.specs.declared.utf8.Utf8.{Utf8}
@@ -12,19 +15,23 @@ use Rattle.sm_cbor.specs.CborItem.{KeyForm}
 use Rattle.sm_cbor.specs.Timing.{CompleteAt, ItemTimed, CountedEntriesTimed, EntriesToBreakTimed, CountedPairsTimed, PairsToBreakTimed}
 use Rattle.sm_cbor.specs.steps.Marks.{Keys, plain, marked, key_of}
 use Rattle.sm_cbor.specs.steps.Reading.{major_of, IsOf, integer_event}
-use Rattle.sm_cbor.specs.steps.Rest.{CborEnds, ItemComes, CborKeyComes, StringEnded, ChunksCome, SpanEnded, CborStringComes, before_span, ArgumentEnded, ArgumentComes, CborRestAt}
+use Rattle.sm_cbor.specs.steps.Rest.{CborEnds, ItemComes, CborKeyComes, StringEnded, ChunksCome, SpanEnded, CborStringComes, before_span}
+use Rattle.sm_cbor.specs.steps.Rest.{ArgumentEnded, ArgumentComes, CborRestAt}
 use Rattle.sm_cbor.specs.steps.Machine.{BehindItem, Begun}
 use Rattle.sm_cbor.specs.declared.place.StringKind.{StringKind}
 use Rattle.sm_cbor.specs.declared.place.StringKind.TheVariants.{Bytes, Text, Key as KeyText}
 use Rattle.sm_cbor.specs.declared.place.Span.{Span}
 use Rattle.sm_cbor.specs.declared.place.Span.TheVariants.{Whole, Chunk}
 use Rattle.sm_cbor.specs.declared.place.Subject.{Subject}
-use Rattle.sm_cbor.specs.declared.place.Subject.TheVariants.{Unsigned, Negative, String as StringHead, List as ListHead, Map as MapHead, Tag as TagHead, Opaque}
+use Rattle.sm_cbor.specs.declared.place.Subject.TheVariants.{Unsigned, Negative, String as StringHead, List as ListHead, Map as MapHead}
+use Rattle.sm_cbor.specs.declared.place.Subject.TheVariants.{Tag as TagHead, Opaque}
 use Rattle.sm_cbor.specs.declared.place.Level.{Level}
-use Rattle.sm_cbor.specs.declared.place.Level.TheVariants.{Tag, List as AList, ListToBreak as AListToBreak, Map as AMap, MapToBreak as AMapToBreak}
+use Rattle.sm_cbor.specs.declared.place.Level.TheVariants.{Tag, List as AList, ListToBreak as AListToBreak, Map as AMap}
+use Rattle.sm_cbor.specs.declared.place.Level.TheVariants.{MapToBreak as AMapToBreak}
 use Rattle.sm_cbor.specs.declared.place.Place.{Place}
 use Rattle.sm_cbor.specs.declared.place.Place.TheVariants.{Item, Key as KeyPlace, After, Argument as InArgument, String, Chunks}
-use Rattle.sm_cbor.proofs.Shorter.{HasByte, text_has_byte, head_short, byte_short, chunks_short, number_short, item_short, counted_short, entries_short, counted_pairs_short, pairs_short}
+use Rattle.sm_cbor.proofs.Shorter.{HasByte, text_has_byte, head_short, byte_short, chunks_short, number_short, item_short, counted_short}
+use Rattle.sm_cbor.proofs.Shorter.{entries_short, counted_pairs_short, pairs_short}
 
 key_has_byte : (w : Keys) → HasByte (key_of w)
 key_has_byte plain k s r h = text_has_byte k s r h

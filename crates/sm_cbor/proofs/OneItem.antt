@@ -1,15 +1,20 @@
 -- Bytes are an item of at most one tree, and are one thing alone: by cases on two trees that they are an item of.
-use Rattle.std.proofs.Common.{◌≡◌, ◌≢◌, ℕ, ℤ, pos, negsuc, zero, suc, ◌+◌, ◌*◌, ◌/◌, ◌%◌, ◌<◌, ◌==◌, inl, inr, true, false, cond, List, [], ◌∷◌, ◌++◌, refl, sym, ap, subst, ◌∙◌, arith, length, length-append, append-nil, IsUtf8, FitsSigned}
+use Rattle.std.proofs.Common.{◌≡◌, ◌≢◌, ℕ, ℤ, pos, negsuc, zero, suc, ◌+◌, ◌*◌, ◌/◌, ◌%◌, ◌<◌, ◌==◌, inl, inr, true, false, cond, List}
+use Rattle.std.proofs.Common.{[], ◌∷◌, ◌++◌, refl, sym, ap, subst, ◌∙◌, arith, length, length-append, append-nil, IsUtf8, FitsSigned}
 use Rattle.std.specs.Int.{w64}
 use Rattle.std.specs.Fmt.{signed_decimal}
 use Rattle.std.specs.List.{concat}
 use Rattle.std.proofs.lemmas.Bool.{cond-false}
 use Rattle.std.proofs.lemmas.Bool.Decides.{nat_tests}
 use Rattle.sm_tree.specs.Json.{AreBytes}
-use Rattle.sm_tree.specs.Node.{Node, Nodes, Members, null, bool, int, number, text, bytes, tag, opaque, list, object, no_nodes, node, no_members, member}
+use Rattle.sm_tree.specs.Node.{Node, Nodes, Members, null, bool, int, number, text, bytes, tag, opaque, list, object, no_nodes, node}
+use Rattle.sm_tree.specs.Node.{no_members, member}
 use Rattle.sm_cbor.specs.Heads.{Byte, Number, Argument, Head, Indefinite}
-use Rattle.sm_cbor.specs.CborItem.{Item, Integer, Definite, Chunks, String, TextString, CountedEntries, EntriesToBreak, CountedPairs, PairsToBreak}
-use Rattle.sm_tree.proofs.NodeKinds.{NodeKind, node_kind, of_null, of_true, of_false, of_number, of_text, of_bytes, of_tag, of_opaque, of_list, of_object, null_only, true_only, false_only, text_only, bytes_only, tag_only, opaque_only, list_only, object_only}
+use Rattle.sm_cbor.specs.CborItem.{Item, Integer, Definite, Chunks, String, TextString, CountedEntries, EntriesToBreak, CountedPairs}
+use Rattle.sm_cbor.specs.CborItem.{PairsToBreak}
+use Rattle.sm_tree.proofs.NodeKinds.{NodeKind, node_kind, of_null, of_true, of_false, of_number, of_text, of_bytes, of_tag, of_opaque}
+use Rattle.sm_tree.proofs.NodeKinds.{of_list, of_object, null_only, true_only, false_only, text_only, bytes_only, tag_only, opaque_only}
+use Rattle.sm_tree.proofs.NodeKinds.{list_only, object_only}
 use Rattle.sm_tree.specs.SyntaxLaws.{HasOneReading}
 use Rattle.sm_cbor.specs.Refusals.{cbor_syntax}
 use Rattle.sm_cbor.proofs.Arguments.{argument_starts, argument_onward, no_argument}

@@ -1,5 +1,6 @@
 -- What the reader does with bytes of strings. The answers of those steps cite these.
-use Rattle.std.proofs.Common.{◌≡◌, ◌≢◌, ◌↔◌, ℕ, suc, ◌-◌, ◌≤◌, ◌<◌, inl, inr, Option, Some, List, [], ◌∷◌, ◌++◌, refl, sym, ap, subst, ◌∙◌, arith, length, take, get_or, length-take, append-nil, append_assoc, IsUtf8}
+use Rattle.std.proofs.Common.{◌≡◌, ◌≢◌, ◌↔◌, ℕ, suc, ◌-◌, ◌≤◌, ◌<◌, inl, inr, Option, Some, List, [], ◌∷◌, ◌++◌, refl, sym, ap, subst}
+use Rattle.std.proofs.Common.{◌∙◌, arith, length, take, get_or, length-take, append-nil, append_assoc, IsUtf8}
 use Rattle.std.proofs.Common.{Global}
 use Rattle.std.specs.Prelude.{Vec}
 use Rattle.std.proofs.lemmas.List.{take-take}
@@ -18,7 +19,8 @@ use Rattle.sm_cbor.proofs.Reaching.{reached_by}
 use Rattle.sm_cbor.specs.steps.Marks.{Keys, plain, marked}
 use Rattle.sm_cbor.specs.steps.Reading.{IsOf, EndsAs}
 use Rattle.sm_cbor.specs.steps.Rest.{CborLeads}
-use Rattle.sm_cbor.specs.steps.Machine.{levels_of, cbor_state_at, CborHolds, Begun, IsAt, IsSoundReader, CborGoes, IsBadByte, RunFits, IsSomePrefix, IsTextPlace, IsBytesPlace}
+use Rattle.sm_cbor.specs.steps.Machine.{levels_of, cbor_state_at, CborHolds, Begun, IsAt, IsSoundReader, CborGoes, IsBadByte, RunFits}
+use Rattle.sm_cbor.specs.steps.Machine.{IsSomePrefix, IsTextPlace, IsBytesPlace}
 use Rattle.sm_cbor.specs.declared.place.StringKind.{StringKind}
 use Rattle.sm_cbor.specs.declared.place.StringKind.TheVariants.{Bytes, Text, Key as KeyText}
 use Rattle.sm_cbor.specs.declared.place.Span.{Span}
@@ -26,7 +28,8 @@ use Rattle.sm_cbor.specs.declared.place.Place.{Place}
 use Rattle.sm_cbor.specs.declared.place.Place.TheVariants.{String}
 use Rattle.sm_cbor.specs.declared.read.Reader.{Reader}
 use Rattle.sm_cbor.proofs.Items.{at}
-use Rattle.sm_cbor.proofs.StringSteps.{IsText, string_runs, bytes_prefix, bytes_behind, text_onward, text_back, text_stops, string_no_mark, Misfits}
+use Rattle.sm_cbor.proofs.StringSteps.{IsText, string_runs, bytes_prefix, bytes_behind, text_onward, text_back, text_stops}
+use Rattle.sm_cbor.proofs.StringSteps.{string_no_mark, Misfits}
 use Rattle.sm_cbor.proofs.Readings.{goes_by, goes_to}
 
 -- nothing is owed between two characters alone

@@ -1,7 +1,9 @@
 -- Items have a byte at least, and what is behind them is shorter.
-use Rattle.std.proofs.Common.{◌≤◌, ◌<◌, ◌*◌, ◌+◌, ◌%◌, ℕ, ℤ, suc, zero, inl, inr, true, false, List, [], ◌∷◌, ap, ◌∙◌, arith, length, length-append, IsUtf8}
+use Rattle.std.proofs.Common.{◌≤◌, ◌<◌, ◌*◌, ◌+◌, ◌%◌, ℕ, ℤ, suc, zero, inl, inr, true, false, List, [], ◌∷◌, ap, ◌∙◌, arith, length}
+use Rattle.std.proofs.Common.{length-append, IsUtf8}
 use Rattle.sm_tree.specs.Json.{AreBytes}
-use Rattle.sm_tree.specs.Node.{Node, Nodes, Members, null, bool, int, number, text, bytes, tag, opaque, list, object, no_nodes, node, no_members, member}
+use Rattle.sm_tree.specs.Node.{Node, Nodes, Members, null, bool, int, number, text, bytes, tag, opaque, list, object, no_nodes, node}
+use Rattle.sm_tree.specs.Node.{no_members, member}
 use Rattle.sm_tree.specs.Timing.{TimedEvent}
 use Rattle.sm_cbor.specs.Heads.{Byte, Number, Argument, Head}
 use Rattle.sm_cbor.specs.CborItem.{KeyForm, TextString, String, Definite, Chunks, Integer, SimpleOrFloat}

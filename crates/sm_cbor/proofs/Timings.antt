@@ -1,7 +1,9 @@
 -- Each item has events with their times, and what has them is an item, whose events are a stream of its tree.
 use Rattle.std.proofs.Common.{◌≡◌, ℕ, suc, inl, inr, List, [], ◌∷◌, Some, None, refl, ap, ◌∙◌, length}
-use Rattle.sm_tree.specs.Node.{Node, Nodes, Members, null, bool, int, number, text, bytes, tag, opaque, list, object, no_nodes, node, no_members, member}
-use Rattle.sm_tree.specs.Events.{null_event, bool_event, int_event, number_event, text_event, bytes_event, tag_event, opaque_event, start_list, end_list, start_object, key_event, end_object}
+use Rattle.sm_tree.specs.Node.{Node, Nodes, Members, null, bool, int, number, text, bytes, tag, opaque, list, object, no_nodes, node}
+use Rattle.sm_tree.specs.Node.{no_members, member}
+use Rattle.sm_tree.specs.Events.{null_event, bool_event, int_event, number_event, text_event, bytes_event, tag_event, opaque_event}
+use Rattle.sm_tree.specs.Events.{start_list, end_list, start_object, key_event, end_object}
 use Rattle.sm_tree.specs.Streams.{Streams, EntriesStream, PairsStream, entry_count, pair_count}
 use Rattle.sm_tree.specs.Timing.{TimedEvent, by_byte, untimed}
 use Rattle.sm_tree.specs.TimingLaws.{TimesTexts}

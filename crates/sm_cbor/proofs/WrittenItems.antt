@@ -1,12 +1,15 @@
 -- What is written for a tree is an item of that tree.
-use Rattle.std.proofs.Common.{◌≡◌, ℕ, ℤ, pos, negsuc, suc, ◌+◌, ◌*◌, ◌/◌, ◌%◌, ◌^◌, ◌≤◌, ◌<◌, inl, inr, true, false, List, [], ◌∷◌, ◌++◌, refl, sym, ap, subst, ◌∙◌, arith, length, drop, length-append, append_assoc, append-nil, IsUtf8, FitsSigned}
+use Rattle.std.proofs.Common.{◌≡◌, ℕ, ℤ, pos, negsuc, suc, ◌+◌, ◌*◌, ◌/◌, ◌%◌, ◌^◌, ◌≤◌, ◌<◌, inl, inr, true, false, List, [], ◌∷◌, ◌++◌}
+use Rattle.std.proofs.Common.{refl, sym, ap, subst, ◌∙◌, arith, length, drop, length-append, append_assoc, append-nil, IsUtf8, FitsSigned}
 use Rattle.std.specs.Int.{w64}
 use Rattle.std.proofs.lemmas.Bool.{cond-true, cond-false, lt-ltb, le-ltb, cases_lt}
 use Rattle.sm_tree.specs.Json.{AreBytes, IsCbor, AreCbor, AreCborMembers}
-use Rattle.sm_tree.specs.Node.{Node, Nodes, Members, null, bool, int, number, text, bytes, tag, opaque, list, object, no_nodes, node, no_members, member}
+use Rattle.sm_tree.specs.Node.{Node, Nodes, Members, null, bool, int, number, text, bytes, tag, opaque, list, object, no_nodes, node}
+use Rattle.sm_tree.specs.Node.{no_members, member}
 use Rattle.sm_cbor.specs.Heads.{Number, Head}
 use Rattle.sm_cbor.specs.CborItem.{CborItem, Item, Integer, Definite, TextString, CountedEntries, CountedPairs}
-use Rattle.sm_cbor.specs.Written.{two_bytes, four_bytes, eight_bytes, written_head, written_int, written_text_item, written_item, written_item_entries, written_item_pairs}
+use Rattle.sm_cbor.specs.Written.{two_bytes, four_bytes, eight_bytes, written_head, written_int, written_text_item, written_item}
+use Rattle.sm_cbor.specs.Written.{written_item_entries, written_item_pairs}
 use Rattle.sm_cbor.specs.Laws.{WrittenIsItem}
 use Rattle.std.proofs.Math.Seq.{drop-append_seam}
 use Rattle.sm_tree.specs.Levels.{levels}

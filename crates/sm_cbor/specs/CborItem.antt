@@ -1,12 +1,15 @@
 -- The items of CBOR (RFC 8949, section 3) with text keys: which bytes are an item of which tree. By cases on the
 -- tree, in the form "s begins with an item of n, and r is what follows it". Levels aren't limited here.
-use Rattle.std.specs.Prelude.{◌≡◌, ℕ, ℤ, pos, negsuc, suc, ◌/◌, ◌%◌, ◌<◌, ◌≤◌, ◌⊎◌, true, false, FitsSigned, IsUtf8, List, [], ◌∷◌, ◌++◌, length}
+use Rattle.std.specs.Prelude.{◌≡◌, ℕ, ℤ, pos, negsuc, suc, ◌/◌, ◌%◌, ◌<◌, ◌≤◌, ◌⊎◌, true, false, FitsSigned, IsUtf8, List, [], ◌∷◌, ◌++◌}
+use Rattle.std.specs.Prelude.{length}
 use Rattle.std.specs.Int.{w64}
 use Rattle.std.specs.Fmt.{signed_decimal}
 use Rattle.std.specs.List.{concat}
 use Rattle.sm_tree.specs.Json.{AreBytes}
-use Rattle.sm_tree.specs.Node.{Node, Nodes, Members, null, bool, int, number, text, bytes, tag, opaque, list, object, no_nodes, node, no_members, member}
-use Rattle.sm_cbor.specs.Heads.{Byte, Argument, Head, unsigned_type, negative_type, bytes_type, text_type, array_type, map_type, tag_type, simple_type, false_byte, true_byte, null_byte, undefined_byte, Indefinite, Break}
+use Rattle.sm_tree.specs.Node.{Node, Nodes, Members, null, bool, int, number, text, bytes, tag, opaque, list, object, no_nodes, node}
+use Rattle.sm_tree.specs.Node.{no_members, member}
+use Rattle.sm_cbor.specs.Heads.{Byte, Argument, Head, unsigned_type, negative_type, bytes_type, text_type, array_type, map_type, tag_type}
+use Rattle.sm_cbor.specs.Heads.{simple_type, false_byte, true_byte, null_byte, undefined_byte, Indefinite, Break}
 
 -- major types 0 and 1: the integer n, and the integer -1 - n
 abbrev pub Integer : ℤ → List ℕ → List ℕ → Type 0

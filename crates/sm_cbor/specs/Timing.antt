@@ -3,8 +3,10 @@
 -- ends with its "break", and an array or a map of stated length with its last item, or with its head where it has none. The
 -- opener of a stated length tells it. "s begins with an item of n, and then r; ts are its events with their times, and then us".
 use Rattle.std.specs.Prelude.{◌≡◌, ◌⊎◌, ℕ, suc, List, [], ◌∷◌, length, Some, None}
-use Rattle.sm_tree.specs.Node.{Node, Nodes, Members, null, bool, int, number, text, bytes, tag, opaque, list, object, no_nodes, node, no_members, member}
-use Rattle.sm_tree.specs.Events.{NodeEvent, null_event, bool_event, int_event, number_event, text_event, bytes_event, tag_event, opaque_event, start_list, end_list, start_object, key_event, end_object}
+use Rattle.sm_tree.specs.Node.{Node, Nodes, Members, null, bool, int, number, text, bytes, tag, opaque, list, object, no_nodes, node}
+use Rattle.sm_tree.specs.Node.{no_members, member}
+use Rattle.sm_tree.specs.Events.{NodeEvent, null_event, bool_event, int_event, number_event, text_event, bytes_event, tag_event}
+use Rattle.sm_tree.specs.Events.{opaque_event, start_list, end_list, start_object, key_event, end_object}
 use Rattle.sm_tree.specs.Timing.{TimedEvent, by_byte, Timing}
 use Rattle.sm_cbor.specs.Heads.{Head, array_type, map_type, tag_type, Indefinite, Break}
 use Rattle.sm_cbor.specs.CborItem.{KeyForm, TextString, Item}

@@ -1,9 +1,11 @@
 -- The one item that is written for a tree: the shortest heads and definite lengths (RFC 8949, section 4.2.1, but that
 -- pairs keep their order), and `F6` for null.
 use Rattle.std.specs.Prelude.{ℕ, ℤ, pos, negsuc, ◌+◌, ◌*◌, ◌/◌, ◌%◌, nat_lt, if◌then◌else◌, true, false, List, [], ◌∷◌, ◌++◌, length}
-use Rattle.sm_tree.specs.Node.{Node, Nodes, Members, null, bool, int, number, text, bytes, tag, opaque, list, object, no_nodes, node, no_members, member}
+use Rattle.sm_tree.specs.Node.{Node, Nodes, Members, null, bool, int, number, text, bytes, tag, opaque, list, object, no_nodes, node}
+use Rattle.sm_tree.specs.Node.{no_members, member}
 use Rattle.sm_tree.specs.Streams.{entry_count, pair_count}
-use Rattle.sm_cbor.specs.Heads.{unsigned_type, negative_type, bytes_type, text_type, array_type, map_type, tag_type, false_byte, true_byte, null_byte}
+use Rattle.sm_cbor.specs.Heads.{unsigned_type, negative_type, bytes_type, text_type, array_type, map_type, tag_type, false_byte}
+use Rattle.sm_cbor.specs.Heads.{true_byte, null_byte}
 
 -- a number in 2, 4 and 8 bytes, in network byte order
 abbrev pub two_bytes : ℕ → List ℕ

@@ -4,7 +4,8 @@
 use Rattle.std.specs.Prelude.{◌≡◌, ◌↔◌, ◌<◌, ◌^◌, ℕ, true, false, List, [], ◌∷◌, ◌++◌, length, None, Some, IsUtf8, FitsSigned}
 use Rattle.std.specs.Int.{w64}
 use Rattle.sm_tree.specs.Node.{Node}
-use Rattle.sm_tree.specs.Events.{NodeEvent, null_event, bool_event, int_event, number_event, text_event, bytes_event, tag_event, opaque_event, start_list, end_list, start_object, key_event, end_object}
+use Rattle.sm_tree.specs.Events.{NodeEvent, null_event, bool_event, int_event, number_event, text_event, bytes_event, tag_event}
+use Rattle.sm_tree.specs.Events.{opaque_event, start_list, end_list, start_object, key_event, end_object}
 use Rattle.sm_tree.specs.Streams.{Streams, TakesEach}
 use Rattle.sm_tree.specs.Json.{AreBytes, IsCbor}
 use Rattle.sm_cbor.specs.Heads.{bytes_type, array_type, map_type, tag_type, false_byte, true_byte, null_byte}

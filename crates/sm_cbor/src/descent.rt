@@ -63,7 +63,8 @@ pub struct Descent<'a> {
 impl<'a> Descent<'a> {
     ghost use Rattle.sm_tree.specs.Node.{list, object, nodes_of, members_of};
     ghost use Rattle.sm_cbor.specs.Heads.{array_type, map_type, tag_type};
-    ghost use Rattle.sm_cbor.specs.steps.Descent.{number_of, initial_type, ItemIn, PutsEntry, PutsPair, EntriesIn, EntriesToBreakIn, PairsIn, PairsToBreakIn};
+    ghost use Rattle.sm_cbor.specs.steps.Descent.{number_of, initial_type, ItemIn, PutsEntry, PutsPair, EntriesIn, EntriesToBreakIn};
+    ghost use Rattle.sm_cbor.specs.steps.Descent.{PairsIn, PairsToBreakIn};
 
     // What the next initial byte says.
     #[inline(always)]

@@ -5,7 +5,8 @@ ghost use Rattle.sm_tree.specs.Node.{nodes_of, members_of};
 ghost use Rattle.sm_tree.specs.Streams.{entry_count, pair_count};
 ghost use Rattle.sm_tree.specs.View.{node_of, nodes_view, members_view};
 ghost use Rattle.sm_bytes.specs.Lengths.{length_word};
-ghost use Rattle.sm_cbor.specs.Written.{written_item, written_head, written_int, written_text_item, written_item_entries, written_item_pairs};
+ghost use Rattle.sm_cbor.specs.Written.{written_item, written_head, written_int, written_text_item, written_item_entries};
+ghost use Rattle.sm_cbor.specs.Written.{written_item_pairs};
 
 use crate::put::argument_of;
 use sm_tree::{Bytes, Text, Tree};

@@ -32,7 +32,8 @@ pub struct Reader {
 }
 
 impl Reader {
-    ghost use Rattle.sm_cbor.specs.steps.Machine.{IsSoundReader, CborTakesByte, CborTakesPrefix, CborTakesAll, IsBytewise, cbor_state_of, levels_of};
+    ghost use Rattle.sm_cbor.specs.steps.Machine.{IsSoundReader, CborTakesByte, CborTakesPrefix, CborTakesAll, IsBytewise, cbor_state_of};
+    ghost use Rattle.sm_cbor.specs.steps.Machine.{levels_of};
     ghost use Rattle.sm_cbor.specs.steps.Sinks.{Reached};
     ghost use Rattle.sm_tree.specs.Streams.{TakesEvery};
     ghost use Rattle.sm_tree.specs.ReaderClauses.{TakesStill};

@@ -1,5 +1,6 @@
 -- Where a body ends: the last line and the trailers; and where it is refused, or the bytes end.
-use Rattle.std.proofs.Common.{◌≡◌, ℕ, zero, suc, ◌+◌, ◌<◌, ◌≤◌, List, [], ◌∷◌, ◌++◌, length, replicate, refl, sym, ap, subst, ◌∙◌, arith, append_assoc, append-nil}
+use Rattle.std.proofs.Common.{◌≡◌, ℕ, zero, suc, ◌+◌, ◌<◌, ◌≤◌, List, [], ◌∷◌, ◌++◌, length, replicate, refl, sym, ap, subst, ◌∙◌, arith}
+use Rattle.std.proofs.Common.{append_assoc, append-nil}
 use Rattle.std.specs.Prelude.{All}
 use Rattle.std.proofs.lemmas.List.{length-replicate}
 use Rattle.std.proofs.lemmas.List.Elements.{All-head, All-nil}
@@ -11,7 +12,8 @@ use Rattle.sm_http.specs.declared.message.BodyLeft.TheVariants.{Known, Size, Dat
 use Rattle.sm_http.specs.declared.refusal.HttpRefusal.TheVariants.{Ended, TooLong}
 use Rattle.sm_http.specs.declared.refusal.HttpRefusal.TheVariants.{Chunk as BadChunk}
 use Rattle.sm_http.specs.Limits.{message_body_limit}
-use Rattle.sm_http.specs.Chunks.{IsSizeLine, Chunk, IsChunk, IsTrailer, ChunkedText, print_chunks, print_trailers, print_chunked, IsChunkedText, chunks_data, PassesLimit}
+use Rattle.sm_http.specs.Chunks.{IsSizeLine, Chunk, IsChunk, IsTrailer, ChunkedText, print_chunks, print_trailers, print_chunked}
+use Rattle.sm_http.specs.Chunks.{IsChunkedText, chunks_data, PassesLimit}
 use Rattle.sm_http.specs.Bodies.{HasBody, NeverHasBody, body_refused, BodyFramed}
 use Rattle.sm_http.specs.steps.SizeLines.{HasNoSize, NeverHasSize, MayBecomeSize}
 use Rattle.sm_http.specs.steps.Trailers.{ReadsTrailers, HasNoTrailers, NeverHasTrailers, MayBecomeTrailers}

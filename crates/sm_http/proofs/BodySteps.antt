@@ -11,7 +11,8 @@ use Rattle.sm_http.specs.declared.message.BodyLeft.TheVariants.{Known, Size, Dat
 use Rattle.sm_http.specs.declared.refusal.HttpRefusal.TheVariants.{ReadFault, Ended, HeadTooLarge, Coding, Length, TooLong, NoMemory}
 use Rattle.sm_http.specs.declared.refusal.HttpRefusal.TheVariants.{Head as BadHead, Chunk as BadChunk}
 use Rattle.sm_http.specs.Limits.{message_body_limit}
-use Rattle.sm_http.specs.Chunks.{IsSizeLine, Chunk, print_chunk, IsChunk, ChunkedText, print_chunks, print_trailers, print_chunked, IsChunkedText, chunks_data, PassesLimit}
+use Rattle.sm_http.specs.Chunks.{IsSizeLine, Chunk, print_chunk, IsChunk, ChunkedText, print_chunks, print_trailers, print_chunked}
+use Rattle.sm_http.specs.Chunks.{IsChunkedText, chunks_data, PassesLimit}
 use Rattle.sm_http.specs.Bodies.{HasBody, HasNoBody, IsPastLimit, BodyFraming, body, body_refused, BodyFramed, behind_data}
 use Rattle.sm_http.specs.steps.Places.{Steps}
 use Rattle.sm_http.proofs.OneChunked.{behind_line, behind_text}

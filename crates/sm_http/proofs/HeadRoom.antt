@@ -4,7 +4,8 @@ use Rattle.std.specs.Prelude.{All}
 use Rattle.std.proofs.lemmas.List.{length-append}
 use Rattle.std.proofs.lemmas.List.Elements.{All-head, All-tail}
 use Rattle.std.specs.List.{flat_map}
-use Rattle.httparse.specs.Grammar.{Field, IsField, print_field, LineEnd, crlf, lf, print_end, print_blank, print_version, print_section, print_reason, RequestHead, print_request, ResponseHead, print_response}
+use Rattle.httparse.specs.Grammar.{Field, IsField, print_field, LineEnd, crlf, lf, print_end, print_blank, print_version, print_section}
+use Rattle.httparse.specs.Grammar.{print_reason, RequestHead, print_request, ResponseHead, print_response}
 use Rattle.httparse.proofs.GrammarLemmas.{print_request-append, print_response-append}
 use Rattle.sm_http.specs.declared.message.Side.{Side}
 use Rattle.sm_http.specs.declared.message.Side.TheVariants.{Request as of_requests, Response as of_responses}

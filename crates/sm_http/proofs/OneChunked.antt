@@ -7,7 +7,8 @@ use Rattle.httparse.specs.Ascii.{crlf_bytes}
 use Rattle.httparse.specs.Grammar.{is_extension_byte, ChunkLine, print_chunk_line, chunk_size}
 use Rattle.httparse.proofs.ChunkLemmas.{chunk_line_unique}
 use Rattle.httparse.proofs.RunLemmas.{run_unique}
-use Rattle.sm_http.specs.Chunks.{IsSizeLine, Chunk, IsChunk, IsTrailer, ChunkedText, print_chunks, print_trailers, print_chunked, IsChunkedText, chunks_data}
+use Rattle.sm_http.specs.Chunks.{IsSizeLine, Chunk, IsChunk, IsTrailer, ChunkedText, print_chunks, print_trailers, print_chunked}
+use Rattle.sm_http.specs.Chunks.{IsChunkedText, chunks_data}
 use Rattle.sm_http.proofs.Cuts.{same_cut}
 
 -- ---- how printed parts stand one behind the other

@@ -1,5 +1,6 @@
 -- The bytes of a side come to one head, or to one word.
-use Rattle.std.proofs.Common.{◌≡◌, ℕ, true, List, [], ◌∷◌, length, take, refl, sym, ap, ◌∙◌, subst, arith, append-nil, inl, inr, Option, Some, None, ◌⊎◌}
+use Rattle.std.proofs.Common.{◌≡◌, ℕ, true, List, [], ◌∷◌, length, take, refl, sym, ap, ◌∙◌, subst, arith, append-nil, inl, inr, Option}
+use Rattle.std.proofs.Common.{Some, None, ◌⊎◌}
 use Rattle.std.proofs.Common.{true≢false}
 use Rattle.httparse.specs.Grammar.{print_request, print_response, print_blank, print_version}
 use Rattle.httparse.proofs.GrammarLemmas.{request_unique, response_unique, print_request-append, print_response-append}

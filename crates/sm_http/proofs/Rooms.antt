@@ -1,5 +1,6 @@
 -- Bytes held in room: some used at its start, and others put behind them.
-use Rattle.std.proofs.Common.{◌≡◌, ℕ, ◌+◌, ◌-◌, ◌≤◌, List, ◌++◌, length, take, drop, slice_range, sym, ap, ◌∙◌, arith, le_refl, drop_at, length-take-le, Option, Result, Ok, Err}
+use Rattle.std.proofs.Common.{◌≡◌, ℕ, ◌+◌, ◌-◌, ◌≤◌, List, ◌++◌, length, take, drop, slice_range, sym, ap, ◌∙◌, arith, le_refl, drop_at}
+use Rattle.std.proofs.Common.{length-take-le, Option, Result, Ok, Err}
 use Rattle.std.proofs.lemmas.List.{drop-take, drop-drop, take-append-le, length-take, length-drop}
 use Rattle.std.proofs.lemmas.Slice.{take-put_mid_below}
 use Rattle.std.specs.Io.{ReadsAtMost}

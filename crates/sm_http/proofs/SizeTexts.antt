@@ -1,5 +1,6 @@
 -- The text of a size line: a size line's bytes before its line end are one, a prefix of them is one, and one is a size line's.
-use Rattle.std.proofs.Common.{◌≡◌, ℕ, suc, ◌+◌, ◌<◌, ◌≤◌, ◌⊎◌, inl, inr, Bool, true, false, cond, ◌||◌, not, List, [], ◌∷◌, ◌++◌, length, take, drop, refl, sym, ap, subst, ◌∙◌, arith, append_assoc, append-nil, Option, Some, None}
+use Rattle.std.proofs.Common.{◌≡◌, ℕ, suc, ◌+◌, ◌<◌, ◌≤◌, ◌⊎◌, inl, inr, Bool, true, false, cond, ◌||◌, not, List, [], ◌∷◌, ◌++◌, length}
+use Rattle.std.proofs.Common.{take, drop, refl, sym, ap, subst, ◌∙◌, arith, append_assoc, append-nil, Option, Some, None}
 use Rattle.std.proofs.Common.{true≢false}
 use Rattle.std.specs.Prelude.{◌==◌, if◌then◌else◌}
 use Rattle.std.specs.List.{prefix_len}
@@ -10,7 +11,8 @@ use Rattle.std.proofs.lemmas.List.Elements.{All-head, All-tail, All-cons, All-ni
 use Rattle.std.proofs.lemmas.List.Folds.{length-prefix_len}
 use Rattle.std.proofs.Math.Seq.{drop-append_seam}
 use Rattle.httparse.specs.Ascii.{semicolon, tab, space, crlf_bytes}
-use Rattle.httparse.specs.Grammar.{is_ows, is_extension_byte, AllPass, IsExtension, print_extension, ChunkLine, IsChunkLine, print_chunk_line}
+use Rattle.httparse.specs.Grammar.{is_ows, is_extension_byte, AllPass, IsExtension, print_extension, ChunkLine, IsChunkLine}
+use Rattle.httparse.specs.Grammar.{print_chunk_line}
 use Rattle.sm_http.specs.Limits.{most_size_digits, size_line_limit}
 use Rattle.sm_http.specs.Chunks.{IsSizeLine}
 use Rattle.sm_http.specs.steps.SizeLines.{line_text, is_tail, digit_count, IsSizeText}

@@ -1,5 +1,6 @@
 -- A written message is read as itself.
-use Rattle.std.proofs.Common.{◌≡◌, ℕ, ◌<◌, ◌≤◌, true, List, [], ◌∷◌, ◌++◌, length, map, refl, sym, ap, ◌∙◌, subst, arith, append_assoc, Some}
+use Rattle.std.proofs.Common.{◌≡◌, ℕ, ◌<◌, ◌≤◌, true, List, [], ◌∷◌, ◌++◌, length, map, refl, sym, ap, ◌∙◌, subst, arith, append_assoc}
+use Rattle.std.proofs.Common.{Some}
 use Rattle.std.proofs.Common.{suc, zero, Bool, ◌&&◌, ◌||◌}
 use Rattle.std.specs.Prelude.{All, ◌==◌, nat_lt, decimal}
 use Rattle.std.proofs.lemmas.Bool.{eqb-true, le-ltb}
@@ -21,7 +22,8 @@ use Rattle.sm_http.specs.Bodies.{BodyFramed, body}
 use Rattle.sm_http.specs.Laws.{WrittenIsRead}
 use Rattle.sm_http.proofs.Numbers.{and_left, and_right}
 use Rattle.sm_http.specs.Heads.{HeadText, ReadsHead, field_of}
-use Rattle.sm_http.specs.Written.{request_head_of, response_head_of, line_of, phrase, written_from, written_head, IsWritableField, IsWritableStart}
+use Rattle.sm_http.specs.Written.{request_head_of, response_head_of, line_of, phrase, written_from, written_head, IsWritableField}
+use Rattle.sm_http.specs.Written.{IsWritableStart}
 
 -- a written field is read as itself
 field_again : (field : Field) → IsWritableField field → field_of (line_of field) ≡ field

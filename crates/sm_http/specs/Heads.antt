@@ -2,7 +2,8 @@
 -- alone, empty lines may come first, and a phrase may be missing.
 use Rattle.std.specs.Prelude.{◌≡◌, ℕ, ◌+◌, ◌≤◌, ◌<◌, List, [], ◌∷◌, map, take, length, Bool, false, ◌==◌, ◌||◌, if◌then◌else◌, IsTrue}
 use Rattle.std.specs.List.{list_any}
-use Rattle.httparse.specs.Grammar.{RequestHead, ReadsRequest, HasNoRequest, NeverHasRequest, ResponseHead, ReadsResponse, HasNoResponse, NeverHasResponse, status_code, field_value}
+use Rattle.httparse.specs.Grammar.{RequestHead, ReadsRequest, HasNoRequest, NeverHasRequest, ResponseHead, ReadsResponse, HasNoResponse}
+use Rattle.httparse.specs.Grammar.{NeverHasResponse, status_code, field_value}
 use Rattle.httparse.specs.Grammar.{Field as FieldLine}
 use Rattle.sm_bytes.specs.Ascii.{carriage_return, line_feed}
 use Rattle.sm_http.specs.declared.message.Field.{Field}

@@ -3,7 +3,8 @@
 use Rattle.std.specs.Prelude.{◌≡◌, ℕ, ◌<◌, ◌≤◌, List, [], ◌∷◌, ◌++◌, map, length, All, IsUtf8, decimal, unwrap_or, Some, None}
 use Rattle.http.specs.StatusCode.{reason_phrase}
 use Rattle.httparse.specs.Ascii.{space}
-use Rattle.httparse.specs.Grammar.{crlf, RequestHead, ResponseHead, print_request, print_response, is_uri_byte, is_value_byte, IsToken, AllPass, trim_ows}
+use Rattle.httparse.specs.Grammar.{crlf, RequestHead, ResponseHead, print_request, print_response, is_uri_byte, is_value_byte, IsToken}
+use Rattle.httparse.specs.Grammar.{AllPass, trim_ows}
 use Rattle.httparse.specs.Grammar.{Field as FieldLine}
 use Rattle.sm_http.specs.declared.message.Field.{Field}
 use Rattle.sm_http.specs.declared.message.Head.{Head}

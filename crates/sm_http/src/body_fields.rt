@@ -6,7 +6,8 @@ ghost use Rattle.std.specs.List.{list_all};
 ghost use Rattle.std.specs.Str.{str_eq_ignore_ascii_case};
 ghost use Rattle.std.specs.Str.Parse.{digits_value};
 ghost use Rattle.sm_http.specs.Limits.{message_body_limit};
-ghost use Rattle.sm_http.specs.BodyFields.{values_named, is_length, is_same_length, agrees, is_other_coding, is_other_length, told_body, tells_none, is_below_100, is_interim, must_tell, has_no_body};
+ghost use Rattle.sm_http.specs.BodyFields.{values_named, is_length, is_same_length, agrees, is_other_coding, is_other_length, told_body};
+ghost use Rattle.sm_http.specs.BodyFields.{tells_none, is_below_100, is_interim, must_tell, has_no_body};
 ghost use Rattle.sm_http.specs.steps.Digits.{significant, first_value};
 ghost use Rattle.sm_http.specs.steps.Judging.{Tells, Judges};
 

@@ -1,5 +1,6 @@
 -- What the scanner's places mean in its text: prefixes and rests of the bytes.
-use Rattle.std.proofs.Common.{◌≡◌, ◌≢◌, ◌↔◌, ◌==◌, ℕ, ◌+◌, ◌-◌, ◌<◌, ◌≤◌, inl, inr, true, List, [], ◌∷◌, ◌++◌, length, take, drop, get_or, append_assoc, append-nil, Option, Some, None, sym, ap, subst, ◌∙◌, arith, length-drop, eq-eqb}
+use Rattle.std.proofs.Common.{◌≡◌, ◌≢◌, ◌↔◌, ◌==◌, ℕ, ◌+◌, ◌-◌, ◌<◌, ◌≤◌, inl, inr, true, List, [], ◌∷◌, ◌++◌, length, take, drop, get_or}
+use Rattle.std.proofs.Common.{append_assoc, append-nil, Option, Some, None, sym, ap, subst, ◌∙◌, arith, length-drop, eq-eqb}
 use Rattle.std.proofs.Math.Seq.{take-add}
 use Rattle.std.proofs.lemmas.List.Folds.{drop_split}
 use Rattle.std.specs.List.{slice_range}
@@ -14,7 +15,8 @@ use Rattle.sm_ids.specs.steps.Ahead.{Part, in_namespace, in_name, in_member, Ahe
 use Rattle.sm_ids.proofs.Cutting.{heads}
 use Rattle.sm_ids.proofs.Identifiers.{made_of_bytes}
 use Rattle.sm_ids.proofs.Namespaces.{one_identifier, one_more}
-use Rattle.sm_ids.proofs.Aheads.{After, after_run, some_member, no_member, LeadsToPart, leads_nowhere, leads_joined, full_stop_leads, hash_leads, dollar_leads}
+use Rattle.sm_ids.proofs.Aheads.{After, after_run, some_member, no_member, LeadsToPart, leads_nowhere, leads_joined, full_stop_leads}
+use Rattle.sm_ids.proofs.Aheads.{hash_leads, dollar_leads}
 use Rattle.sm_ids.proofs.Breaking.{breaks_after, breaks_behind}
 
 -- where the rest breaks behind what leads there, the text breaks

@@ -1,5 +1,6 @@
 // Laws of shape ids, each the contract of a function that does nothing.
-ghost use Rattle.sm_ids.specs.Laws.{OneReading, OneAnswer, PrintedReadsBack, OrdersByBytes, ShapesBeforeMembers, EqualByParts, IdentifiersByTheGrammar, NamespacesByTheGrammar};
+ghost use Rattle.sm_ids.specs.Laws.{OneReading, OneAnswer, PrintedReadsBack, OrdersByBytes, ShapesBeforeMembers, EqualByParts};
+ghost use Rattle.sm_ids.specs.Laws.{IdentifiersByTheGrammar, NamespacesByTheGrammar};
 
 use crate::owned::ShapeId;
 

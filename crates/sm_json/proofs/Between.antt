@@ -9,7 +9,8 @@ use Rattle.sm_tree.specs.declared.build.OpenKind.{OpenKind}
 use Rattle.sm_tree.specs.declared.build.OpenKind.TheVariants.{List as a_list, Object as an_object}
 use Rattle.sm_json.specs.Strings.{is_whitespace, Whitespace}
 use Rattle.sm_json.specs.Timing.{ValueTimed}
-use Rattle.sm_json.specs.steps.Rest.{value, first_entry, first_key, next_key, colon, after, in_text, JsonState, JsonEnds, ValueComes, NameNow, NameComes, FirstEntryComes, FirstKeyComes, JsonLeads, JsonStops}
+use Rattle.sm_json.specs.steps.Rest.{value, first_entry, first_key, next_key, colon, after, in_text, JsonState, JsonEnds, ValueComes}
+use Rattle.sm_json.specs.steps.Rest.{NameNow, NameComes, FirstEntryComes, FirstKeyComes, JsonLeads, JsonStops}
 use Rattle.sm_json.specs.declared.spot.Spot.TheVariants.{Plain}
 use Rattle.sm_json.specs.declared.place.Role.TheVariants.{Key}
 use Rattle.sm_json.proofs.Starts.{below, above, heads, tails, skips_none, skips_here, FirstByte}

@@ -7,7 +7,8 @@ use Rattle.sm_tree.specs.Numbers.{IsNumber}
 use Rattle.sm_tree.specs.declared.build.OpenKind.{OpenKind}
 use Rattle.sm_tree.specs.declared.build.OpenKind.TheVariants.{List as a_list, Object as an_object}
 use Rattle.sm_json.specs.steps.TextSteps.{IsLive}
-use Rattle.sm_json.specs.steps.Rest.{value, first_entry, first_key, next_key, colon, after, word, numeral, in_text, letters, literal_event, JsonEnds, ValueNow, ColonComes, FirstEntryComes, FirstKeyComes, JsonGoesOn}
+use Rattle.sm_json.specs.steps.Rest.{value, first_entry, first_key, next_key, colon, after, word, numeral, in_text, letters}
+use Rattle.sm_json.specs.steps.Rest.{literal_event, JsonEnds, ValueNow, ColonComes, FirstEntryComes, FirstKeyComes, JsonGoesOn}
 use Rattle.sm_json.specs.declared.spot.Spot.{Spot}
 use Rattle.sm_json.specs.declared.place.Literal.{Literal}
 use Rattle.sm_json.specs.declared.place.Role.{Role}

@@ -1,7 +1,8 @@
 -- How many bytes the parts of a text take: each event of a text has a byte of its own.
 use Rattle.std.proofs.Common.{ℕ, zero, suc, ◌+◌, ◌≤◌, ◌<◌, inl, inr, true, false, List, [], ◌∷◌, ap, arith, length, length-append}
 use Rattle.std.specs.Char.{encode_utf8}
-use Rattle.sm_tree.specs.Node.{Node, Nodes, Members, null, bool, int, number, text, bytes, tag, opaque, list, object, no_nodes, node, no_members, member}
+use Rattle.sm_tree.specs.Node.{Node, Nodes, Members, null, bool, int, number, text, bytes, tag, opaque, list, object, no_nodes, node}
+use Rattle.sm_tree.specs.Node.{no_members, member}
 use Rattle.sm_tree.specs.Timing.{TimedEvent}
 use Rattle.sm_tree.specs.Numbers.{IsNumber, NumberText}
 use Rattle.sm_json.specs.Strings.{Whitespace, HexDigits, CodeUnit, LowHalf, Escape, Character, Characters, SpellsText}

@@ -1,11 +1,14 @@
 -- What is written for the events of a tree is its written text, and one event more adds its own text behind a comma or none.
 use Rattle.std.proofs.Common.{◌≡◌, true, ℕ, List, [], ◌∷◌, ◌++◌, refl, sym, ap, subst, ◌∙◌, append_assoc, append-nil, None}
-use Rattle.sm_tree.specs.Node.{Node, Nodes, Members, null, bool, int, number, text, bytes, tag, opaque, list, object, no_nodes, node, no_members, member}
-use Rattle.sm_tree.specs.Events.{NodeEvent, null_event, bool_event, int_event, number_event, text_event, start_list, end_list, start_object, key_event, end_object}
+use Rattle.sm_tree.specs.Node.{Node, Nodes, Members, null, bool, int, number, text, bytes, tag, opaque, list, object, no_nodes, node}
+use Rattle.sm_tree.specs.Node.{no_members, member}
+use Rattle.sm_tree.specs.Events.{NodeEvent, null_event, bool_event, int_event, number_event, text_event, start_list, end_list}
+use Rattle.sm_tree.specs.Events.{start_object, key_event, end_object}
 use Rattle.sm_tree.specs.Streams.{Streams, EntriesStream, PairsStream}
 use Rattle.sm_tree.specs.Json.{IsJson, AreJson, AreJsonMembers}
 use Rattle.sm_json.specs.Written.{written, written_entries, more_written_entries, written_pairs, more_written_pairs, written_text}
-use Rattle.sm_json.specs.WrittenEvents.{comma_before, ends_value, value_ended, ended_behind, event_text, written_behind, written_events, WrittenEventsAreTree, WrittenEventsBegin}
+use Rattle.sm_json.specs.WrittenEvents.{comma_before, ends_value, value_ended, ended_behind, event_text, written_behind, written_events}
+use Rattle.sm_json.specs.WrittenEvents.{WrittenEventsAreTree, WrittenEventsBegin}
 
 -- nothing stands before the first event, as behind an opener
 pub at_first : (es : List NodeEvent) → written_behind (start_list None) es ≡ written_events es

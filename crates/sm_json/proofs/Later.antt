@@ -1,8 +1,11 @@
 -- Nothing is handed on late: of what may still come at a place no event is complete already. So the events that a run of the reader
 -- hands on are those that its bytes complete, and no others are.
-use Rattle.std.proofs.Common.{◌≡◌, ℕ, ◌≤◌, ◌<◌, true, false, List, [], ◌∷◌, ◌++◌, None, sym, ap, subst, ◌∙◌, arith, length, length-append, length-drop, drop}
-use Rattle.sm_tree.specs.Node.{Node, Nodes, Members, null, bool, int, number, text, bytes, tag, opaque, list, object, no_nodes, node, no_members, member}
-use Rattle.sm_tree.specs.Events.{NodeEvent, null_event, bool_event, int_event, number_event, text_event, start_list, end_list, start_object, key_event, end_object}
+use Rattle.std.proofs.Common.{◌≡◌, ℕ, ◌≤◌, ◌<◌, true, false, List, [], ◌∷◌, ◌++◌, None, sym, ap, subst, ◌∙◌, arith, length, length-append}
+use Rattle.std.proofs.Common.{length-drop, drop}
+use Rattle.sm_tree.specs.Node.{Node, Nodes, Members, null, bool, int, number, text, bytes, tag, opaque, list, object, no_nodes, node}
+use Rattle.sm_tree.specs.Node.{no_members, member}
+use Rattle.sm_tree.specs.Events.{NodeEvent, null_event, bool_event, int_event, number_event, text_event, start_list, end_list}
+use Rattle.sm_tree.specs.Events.{start_object, key_event, end_object}
 use Rattle.sm_tree.specs.Timing.{TimedEvent, by_byte, complete_with, Completes}
 use Rattle.sm_tree.specs.Syntax.{most_levels}
 use Rattle.sm_tree.specs.steps.Handing.{AreLater}
@@ -11,7 +14,9 @@ use Rattle.sm_tree.specs.declared.build.OpenKind.TheVariants.{List as a_list, Ob
 use Rattle.sm_tree.proofs.Handing.{later_sooner, handed_complete}
 use Rattle.sm_json.specs.Timing.{by_next, ValueTimed, EntriesTimed, MoreEntriesTimed, PairsTimed, MorePairsTimed, json_timing}
 use Rattle.sm_json.specs.steps.TextSteps.{IsLive}
-use Rattle.sm_json.specs.steps.Rest.{Where, value, first_entry, first_key, next_key, colon, after, word, numeral, in_text, JsonState, json_start, letters, literal_event, JsonEnds, ValueComes, ColonComes, FirstEntryComes, FirstKeyComes, JsonRestAt, JsonLeads, JsonGoesOn}
+use Rattle.sm_json.specs.steps.Rest.{Where, value, first_entry, first_key, next_key, colon, after, word, numeral, in_text, JsonState}
+use Rattle.sm_json.specs.steps.Rest.{json_start, letters, literal_event, JsonEnds, ValueComes, ColonComes, FirstEntryComes, FirstKeyComes}
+use Rattle.sm_json.specs.steps.Rest.{JsonRestAt, JsonLeads, JsonGoesOn}
 use Rattle.sm_json.specs.declared.place.Role.TheVariants.{Key, Value}
 use Rattle.sm_json.proofs.EventCounts.{white_shorter, separator_shorter, text_shorter, number_shorter}
 use Rattle.sm_json.proofs.Owed.{text_rest_shorter}

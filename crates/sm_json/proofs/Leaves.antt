@@ -1,5 +1,6 @@
 -- What a byte does where a leaf must come: a string, a literal name or a number begins, or nothing does.
-use Rattle.std.proofs.Common.{◌≡◌, ◌≢◌, ℕ, ◌≤◌, inl, inr, true, false, List, [], ◌∷◌, ◌++◌, refl, sym, ap, subst, ◌∙◌, arith, lit<, length, drop, codes}
+use Rattle.std.proofs.Common.{◌≡◌, ◌≢◌, ℕ, ◌≤◌, inl, inr, true, false, List, [], ◌∷◌, ◌++◌, refl, sym, ap, subst, ◌∙◌, arith, lit<}
+use Rattle.std.proofs.Common.{length, drop, codes}
 use Rattle.sm_tree.specs.Node.{Node, null, bool, int, number, text, bytes, tag, opaque, list, object}
 use Rattle.sm_tree.specs.Levels.{levels}
 use Rattle.sm_tree.specs.Events.{NodeEvent, int_event, number_event, events}
@@ -10,7 +11,8 @@ use Rattle.sm_json.specs.Strings.{is_whitespace, SpellsText, Characters}
 use Rattle.sm_json.specs.JsonText.{SpellsNumber, SpellsValue}
 use Rattle.sm_json.specs.Timing.{by_next, ValueTimed}
 use Rattle.sm_json.specs.steps.TextRest.{TextRest}
-use Rattle.sm_json.specs.steps.Rest.{value, word, numeral, in_text, letters, literal_node, literal_event, NumberTimed, ValueNow, ValueComes, QuotedComes, JsonRestAt, JsonLeads, JsonStops}
+use Rattle.sm_json.specs.steps.Rest.{value, word, numeral, in_text, letters, literal_node, literal_event, NumberTimed, ValueNow}
+use Rattle.sm_json.specs.steps.Rest.{ValueComes, QuotedComes, JsonRestAt, JsonLeads, JsonStops}
 use Rattle.sm_json.specs.steps.Machine.{first_letter}
 use Rattle.sm_json.specs.declared.spot.Spot.TheVariants.{Plain}
 use Rattle.sm_json.specs.declared.place.Literal.{Literal}

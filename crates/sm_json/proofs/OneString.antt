@@ -1,5 +1,6 @@
 -- Bytes begin with at most one string (RFC 8259, section 7): they tell its text and what follows it.
-use Rattle.std.proofs.Common.{◌≡◌, ◌<◌, ◌+◌, ◌*◌, ◌++◌, ℕ, zero, suc, Some, None, List, [], ◌∷◌, inl, inr, refl, sym, ap, ◌∙◌, subst, arith, lit<}
+use Rattle.std.proofs.Common.{◌≡◌, ◌<◌, ◌+◌, ◌*◌, ◌++◌, ℕ, zero, suc, Some, None, List, [], ◌∷◌, inl, inr, refl, sym, ap, ◌∙◌, subst}
+use Rattle.std.proofs.Common.{arith, lit<}
 use Rattle.std.specs.Char.{IsScalar, encode_utf8}
 use Rattle.std.specs.Prelude.{encode_utf8_all}
 use Rattle.std.proofs.lemmas.Str.{encode_same, encode_ascii}

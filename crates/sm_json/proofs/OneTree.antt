@@ -3,7 +3,8 @@
 use Rattle.std.proofs.Common.{◌≡◌, ◌++◌, ◌==◌, ℕ, true, false, cond, List, [], ◌∷◌, inl, inr, refl, sym, ap, ◌∙◌, subst, arith, lit<, codes}
 use Rattle.std.proofs.lemmas.Bool.Decides.{nat_tests}
 use Rattle.sm_tree.specs.Numbers.{NumberText}
-use Rattle.sm_tree.specs.Node.{Node, Nodes, Members, null, bool, int, number, text, bytes, tag, opaque, list, object, no_nodes, node, no_members, member}
+use Rattle.sm_tree.specs.Node.{Node, Nodes, Members, null, bool, int, number, text, bytes, tag, opaque, list, object, no_nodes, node}
+use Rattle.sm_tree.specs.Node.{no_members, member}
 use Rattle.sm_json.specs.Strings.{is_whitespace, Whitespace, SpellsText}
 use Rattle.sm_json.specs.JsonText.{SpellsNumber, Separator, SpellsValue, Entries, MoreEntries, Pairs, MorePairs}
 use Rattle.sm_tree.specs.NumberTail.{IsNumberByte, AreNumberBytes}
@@ -11,7 +12,8 @@ use Rattle.sm_json.specs.Laws.{OneReading}
 use Rattle.sm_json.proofs.Starts.{below, above, heads, tails, not_white, StartsNumber, FirstByte, spells_start}
 use Rattle.sm_json.proofs.White.{first_not_white}
 use Rattle.sm_tree.proofs.Numbers.{number_bytes, one_node}
-use Rattle.sm_tree.proofs.NodeKinds.{NodeKind, of_null, of_true, of_false, of_number, of_text, of_list, of_object, node_kind, null_only, true_only, false_only, text_only, list_only, object_only}
+use Rattle.sm_tree.proofs.NodeKinds.{NodeKind, of_null, of_true, of_false, of_number, of_text, of_list, of_object, node_kind, null_only}
+use Rattle.sm_tree.proofs.NodeKinds.{true_only, false_only, text_only, list_only, object_only}
 use Rattle.sm_json.proofs.Leaves.{number_is}
 use Rattle.sm_json.proofs.Opening.{digit_is_not}
 use Rattle.sm_json.proofs.OneString.{one_text}

@@ -1,6 +1,7 @@
 -- From each reader between two bytes some text that is read goes on. So a byte that it refuses is the first with
 -- which none goes on, and refusals are carried from a reader to an earlier one.
-use Rattle.std.proofs.Common.{◌≡◌, ℕ, ◌+◌, ◌≤◌, ◌<◌, List, [], ◌∷◌, ◌++◌, refl, sym, ap, subst, ◌∙◌, arith, length, take, drop, get_or, append_assoc, length-drop}
+use Rattle.std.proofs.Common.{◌≡◌, ℕ, ◌+◌, ◌≤◌, ◌<◌, List, [], ◌∷◌, ◌++◌, refl, sym, ap, subst, ◌∙◌, arith, length, take, drop, get_or}
+use Rattle.std.proofs.Common.{append_assoc, length-drop}
 use Rattle.std.proofs.Math.Seq.{take-add}
 use Rattle.std.proofs.lemmas.List.{drop_more}
 use Rattle.sm_tree.specs.Events.{NodeEvent}
@@ -14,7 +15,8 @@ use Rattle.sm_json.specs.declared.place.Place.TheVariants.{Value, FirstEntry, Fi
 use Rattle.sm_json.specs.declared.read.Reader.{Reader}
 use Rattle.sm_tree.proofs.Numbers.{completion, completes}
 use Rattle.sm_json.proofs.Opening.{at}
-use Rattle.sm_json.proofs.Closing.{after_goes_on, value_goes_on, colon_goes_on, next_key_goes_on, first_entry_goes_on, first_key_goes_on, word_goes_on, numeral_goes_on, text_goes_on}
+use Rattle.sm_json.proofs.Closing.{after_goes_on, value_goes_on, colon_goes_on, next_key_goes_on, first_entry_goes_on, first_key_goes_on}
+use Rattle.sm_json.proofs.Closing.{word_goes_on, numeral_goes_on, text_goes_on}
 use Rattle.sm_json.proofs.Readers.{place_at, kept_at, room_in, inside}
 
 -- at each place

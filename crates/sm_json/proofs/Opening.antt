@@ -1,6 +1,7 @@
 -- What a byte does where a value must come: the laws of `JsonLeads` and `JsonStops` there, and where a bracket has
 -- opened.
-use Rattle.std.proofs.Common.{◌≡◌, ℕ, ◌+◌, ◌≤◌, ◌<◌, ◌⊎◌, inl, inr, true, false, List, [], ◌∷◌, None, refl, sym, ap, subst, ◌∙◌, arith, lit<, length}
+use Rattle.std.proofs.Common.{◌≡◌, ℕ, ◌+◌, ◌≤◌, ◌<◌, ◌⊎◌, inl, inr, true, false, List, [], ◌∷◌, None, refl, sym, ap, subst, ◌∙◌, arith}
+use Rattle.std.proofs.Common.{lit<, length}
 use Rattle.sm_tree.specs.Node.{Node, Nodes, Members, null, bool, int, number, text, bytes, tag, opaque, list, object}
 use Rattle.sm_tree.specs.Levels.{levels, nodes_levels, members_levels}
 use Rattle.sm_tree.specs.Events.{start_list, start_object}
@@ -9,7 +10,8 @@ use Rattle.sm_tree.specs.declared.build.OpenKind.{OpenKind}
 use Rattle.sm_tree.specs.declared.build.OpenKind.TheVariants.{List as a_list, Object as an_object}
 use Rattle.sm_json.specs.Strings.{is_whitespace}
 use Rattle.sm_json.specs.Timing.{ValueTimed, EntriesTimed, PairsTimed}
-use Rattle.sm_json.specs.steps.Rest.{Where, value, first_entry, first_key, JsonState, ValueNow, ValueComes, FirstEntryComes, FirstKeyComes, JsonLeads, JsonStops}
+use Rattle.sm_json.specs.steps.Rest.{Where, value, first_entry, first_key, JsonState, ValueNow, ValueComes, FirstEntryComes}
+use Rattle.sm_json.specs.steps.Rest.{FirstKeyComes, JsonLeads, JsonStops}
 use Rattle.sm_json.proofs.Starts.{below, above, tails, skips_none, skips_here, StartsNumber, FirstByte}
 use Rattle.sm_json.proofs.Timed.{timed_first}
 use Rattle.sm_json.proofs.Whole.{spoken_leads}

@@ -1,5 +1,6 @@
 -- Runs of bytes that stand for themselves: what is written of a text that begins with one.
-use Rattle.std.proofs.Common.{◌≡◌, ℕ, ◌+◌, ◌≤◌, true, false, nat_lt, ◌==◌, List, [], ◌∷◌, ◌++◌, length, take, drop, refl, subst, sym, ap, ap₂, ◌∙◌, arith, append-nil, length-append, ltb-false}
+use Rattle.std.proofs.Common.{◌≡◌, ℕ, ◌+◌, ◌≤◌, true, false, nat_lt, ◌==◌, List, [], ◌∷◌, ◌++◌, length, take, drop, refl, subst, sym, ap}
+use Rattle.std.proofs.Common.{ap₂, ◌∙◌, arith, append-nil, length-append, ltb-false}
 use Rattle.std.proofs.lemmas.Bool.{or_parts, not-true, eqb-false}
 use Rattle.std.proofs.lemmas.List.{take-append-drop}
 use Rattle.std.specs.List.{prefix_len}

@@ -1,7 +1,8 @@
 -- A reader that takes a text in pieces: what it stands for, what its sink stands for, and what it has refused, one piece behind
 -- another. The answers of `JsonReader` cite these.
 use Rattle.std.specs.Prelude.{Bool, IsTrue, ◌↔◌}
-use Rattle.std.proofs.Common.{true, false, Option, Ok, Err, ◌≡◌, ℕ, ◌+◌, ◌≤◌, List, [], ◌∷◌, ◌++◌, Some, None, refl, sym, ap, subst, ◌∙◌, arith, length, take, append-nil, length-append}
+use Rattle.std.proofs.Common.{true, false, Option, Ok, Err, ◌≡◌, ℕ, ◌+◌, ◌≤◌, List, [], ◌∷◌, ◌++◌, Some, None, refl, sym, ap, subst, ◌∙◌}
+use Rattle.std.proofs.Common.{arith, length, take, append-nil, length-append}
 use Rattle.std.proofs.Math.Seq.{take-append_seam, take-append-add, drop-append_seam}
 use Rattle.sm_tree.specs.Node.{Node, null}
 use Rattle.sm_tree.specs.Levels.{levels}
@@ -19,8 +20,10 @@ use Rattle.sm_tree.proofs.Streams.{events_stream}
 use Rattle.sm_json.specs.JsonText.{JsonText, json_syntax}
 use Rattle.sm_json.specs.Timing.{json_timing}
 use Rattle.sm_json.specs.steps.Rest.{JsonState, json_start, JsonLeads, JsonGoesOn}
-use Rattle.sm_json.specs.steps.Machine.{json_state, JsonIsSound, JsonIsPlaced, JsonGoes, JsonBrings, JsonBringsTo, HaltsAt, DeepensAt, JsonTakesAll, JsonEndsText, JsonMayEnd}
-use Rattle.sm_json.specs.Stands.{first_of, JsonHasRead, HasCome, JsonHasCome, JsonStands, refusal_of, JsonFeeds, FollowsAll, JsonFlushes, JsonEndsWith, StandingCompletes}
+use Rattle.sm_json.specs.steps.Machine.{json_state, JsonIsSound, JsonIsPlaced, JsonGoes, JsonBrings, JsonBringsTo, HaltsAt, DeepensAt}
+use Rattle.sm_json.specs.steps.Machine.{JsonTakesAll, JsonEndsText, JsonMayEnd}
+use Rattle.sm_json.specs.Stands.{first_of, JsonHasRead, HasCome, JsonHasCome, JsonStands, refusal_of, JsonFeeds, FollowsAll, JsonFlushes}
+use Rattle.sm_json.specs.Stands.{JsonEndsWith, StandingCompletes}
 use Rattle.sm_json.specs.declared.read.Reader.{Reader}
 use Rattle.sm_json.specs.declared.pieces.JsonReader.{JsonReader}
 use Rattle.sm_json.proofs.Onward.{reader_goes_on, halts_then, deepens_then}

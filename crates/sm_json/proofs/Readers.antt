@@ -1,5 +1,6 @@
 -- What the steps of the reader do to it: the laws of the machine at readers. The answers cite these.
-use Rattle.std.proofs.Common.{Result, Ok, Err, ◌≡◌, ◌≢◌, ℕ, ◌+◌, ◌≤◌, ◌<◌, inl, inr, false, List, [], ◌∷◌, None, Some, refl, sym, ap, subst, ◌∙◌, arith, drop, length, length-drop, lit<}
+use Rattle.std.proofs.Common.{Result, Ok, Err, ◌≡◌, ◌≢◌, ℕ, ◌+◌, ◌≤◌, ◌<◌, inl, inr, false, List, [], ◌∷◌, None, Some, refl, sym, ap}
+use Rattle.std.proofs.Common.{subst, ◌∙◌, arith, drop, length, length-drop, lit<}
 use Rattle.sm_tree.specs.Events.{NodeEvent, start_list, start_object, end_list, end_object}
 use Rattle.sm_tree.specs.Building.{first_kind, IsIn}
 use Rattle.sm_tree.specs.Streams.{StandsFor, Takes}
@@ -14,7 +15,8 @@ use Rattle.sm_json.specs.declared.nesting.Nesting.{Nesting}
 use Rattle.sm_json.specs.steps.StringReading.{string_so_far, IsAtStart}
 use Rattle.sm_json.specs.steps.Rest.{value, first_entry, first_key, next_key, after, in_text, numeral, JsonState, letters, JsonLeads}
 use Rattle.sm_tree.specs.Syntax.{most_levels}
-use Rattle.sm_json.specs.steps.Machine.{where_of, lists_of, json_state, PlaceKeeps, JsonIsSound, LeadsTo, JsonGoes, Halts, Deepens, JsonTakesByte, HasClosed, BeginsString, ClosesAt, first_letter}
+use Rattle.sm_json.specs.steps.Machine.{where_of, lists_of, json_state, PlaceKeeps, JsonIsSound, LeadsTo, JsonGoes, Halts, Deepens}
+use Rattle.sm_json.specs.steps.Machine.{JsonTakesByte, HasClosed, BeginsString, ClosesAt, first_letter}
 use Rattle.sm_tree.specs.declared.number.Phase.{Phase}
 use Rattle.sm_tree.specs.declared.number.Phase.TheVariants.{Start}
 use Rattle.sm_json.specs.declared.spot.Spot.TheVariants.{Plain}
@@ -31,7 +33,8 @@ use Rattle.sm_json.proofs.Starts.{heads, StartsNumber, number_start}
 use Rattle.sm_json.proofs.Opening.{at, list_opens, object_opens, list_too_deep, object_too_deep}
 use Rattle.sm_json.proofs.Closing.{list_deeper, object_deeper}
 use Rattle.sm_json.proofs.Leaves.{string_begins, word_begins, number_begins, value_stops}
-use Rattle.sm_json.proofs.Between.{colon_leads, colon_stops, key_leads, key_stops, first_key_leads, first_key_stops, first_key_back, object_empty, first_entry_leads, first_entry_stops, first_entry_back, list_empty}
+use Rattle.sm_json.proofs.Between.{colon_leads, colon_stops, key_leads, key_stops, first_key_leads, first_key_stops, first_key_back}
+use Rattle.sm_json.proofs.Between.{object_empty, first_entry_leads, first_entry_stops, first_entry_back, list_empty}
 use Rattle.sm_json.proofs.After.{list_goes_on, list_ends, list_stops, object_goes_on, object_ends, object_stops, end_stops}
 
 -- the state of a reader whose place is known, and what it keeps there

@@ -1,7 +1,9 @@
 -- A writer takes exactly the events that stand in the stream of some tree that JSON can spell.
 use Rattle.std.proofs.Common.{ℕ, zero, suc, List, [], ◌∷◌, ◌++◌, refl, sym, subst, Some, None, Option, IsUtf8}
-use Rattle.sm_tree.specs.Node.{Node, Nodes, Members, null, bool, int, number, text, bytes, tag, opaque, list, object, no_nodes, node, no_members, member}
-use Rattle.sm_tree.specs.Events.{NodeEvent, null_event, bool_event, int_event, number_event, text_event, bytes_event, tag_event, opaque_event, start_list, end_list, start_object, key_event, end_object}
+use Rattle.sm_tree.specs.Node.{Node, Nodes, Members, null, bool, int, number, text, bytes, tag, opaque, list, object, no_nodes, node}
+use Rattle.sm_tree.specs.Node.{no_members, member}
+use Rattle.sm_tree.specs.Events.{NodeEvent, null_event, bool_event, int_event, number_event, text_event, bytes_event, tag_event}
+use Rattle.sm_tree.specs.Events.{opaque_event, start_list, end_list, start_object, key_event, end_object}
 use Rattle.sm_tree.specs.Streams.{Streams, EntriesStream, PairsStream, TakesEach, numbered_entries, numbered_pairs}
 use Rattle.sm_tree.specs.Json.{IsJson, AreJson, AreJsonMembers}
 use Rattle.sm_tree.proofs.Counted.{nulls, nulls_stream, null_pairs, null_pairs_stream}

@@ -1,8 +1,10 @@
 -- Texts with times: each text has its times, a text with times is a text of its tree's events, and it has no more events than
 -- bytes.
 use Rattle.std.proofs.Common.{◌≡◌, ℕ, List, [], ◌∷◌, None, refl, ap, ◌∙◌, length}
-use Rattle.sm_tree.specs.Node.{Node, Nodes, Members, null, bool, int, number, text, bytes, tag, opaque, list, object, no_nodes, node, no_members, member}
-use Rattle.sm_tree.specs.Events.{NodeEvent, null_event, bool_event, int_event, number_event, text_event, start_list, end_list, start_object, key_event, end_object, events, entries_events, pairs_events}
+use Rattle.sm_tree.specs.Node.{Node, Nodes, Members, null, bool, int, number, text, bytes, tag, opaque, list, object, no_nodes, node}
+use Rattle.sm_tree.specs.Node.{no_members, member}
+use Rattle.sm_tree.specs.Events.{NodeEvent, null_event, bool_event, int_event, number_event, text_event, start_list, end_list}
+use Rattle.sm_tree.specs.Events.{start_object, key_event, end_object, events, entries_events, pairs_events}
 use Rattle.sm_tree.specs.Timing.{TimedEvent, by_byte, untimed}
 use Rattle.sm_json.specs.JsonText.{SpellsValue, Entries, MoreEntries, Pairs, MorePairs, JsonText}
 use Rattle.sm_json.specs.Timing.{by_next, ValueTimed, EntriesTimed, MoreEntriesTimed, PairsTimed, MorePairsTimed, json_timing}

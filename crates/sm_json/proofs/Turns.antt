@@ -1,7 +1,8 @@
 -- What runs of bytes do to a reader: whitespace, numbers and strings, one run behind another, and the end of
 -- the bytes. The answers of the reader's turns cite these.
 use Rattle.std.specs.Prelude.{Bool, IsTrue, ◌↔◌}
-use Rattle.std.proofs.Common.{Result, Ok, Err, false, ◌≡◌, ◌≢◌, ℕ, ◌+◌, ◌-◌, ◌≤◌, ◌<◌, ◌⊎◌, inl, inr, true, List, [], ◌∷◌, ◌++◌, refl, sym, ap, subst, ◌∙◌, arith, length, take, drop, get_or, append-nil, length-drop}
+use Rattle.std.proofs.Common.{Result, Ok, Err, false, ◌≡◌, ◌≢◌, ℕ, ◌+◌, ◌-◌, ◌≤◌, ◌<◌, ◌⊎◌, inl, inr, true, List, [], ◌∷◌, ◌++◌, refl}
+use Rattle.std.proofs.Common.{sym, ap, subst, ◌∙◌, arith, length, take, drop, get_or, append-nil, length-drop}
 use Rattle.std.proofs.Math.Seq.{take-add}
 use Rattle.std.proofs.lemmas.List.{take_more, drop_more, take-take, take_all, drop_all}
 use Rattle.sm_tree.specs.Node.{Node}
@@ -28,7 +29,10 @@ use Rattle.sm_json.specs.declared.place.Role.{Role}
 use Rattle.sm_json.specs.declared.place.Role.TheVariants.{Key, Value as Whole}
 use Rattle.sm_json.specs.steps.Rest.{Where, after, colon, letters, literal_event, numeral, JsonRest, JsonGoesOn, JsonStops}
 use Rattle.sm_tree.specs.Syntax.{most_levels}
-use Rattle.sm_json.specs.steps.Machine.{where_of, lists_of, json_state, PlaceKeeps, JsonIsSound, LeadsTo, JsonIsPlaced, JsonGoes, JsonBrings, JsonKeeps, JsonBringsTo, JsonStepsByte, JsonEndsText, JsonMayEnd, Halts, HaltsAt, DeepensAt, JsonTakesByte, JsonTakesPrefix, JsonTakesAll, TakesWhitespace, AllWhitespace, Grows, HandsNumber, HandsText, behind_text, text_event_of, as_syntax}
+use Rattle.sm_json.specs.steps.Machine.{where_of, lists_of, json_state, PlaceKeeps, JsonIsSound, LeadsTo, JsonIsPlaced, JsonGoes}
+use Rattle.sm_json.specs.steps.Machine.{JsonBrings, JsonKeeps, JsonBringsTo, JsonStepsByte, JsonEndsText, JsonMayEnd, Halts, HaltsAt}
+use Rattle.sm_json.specs.steps.Machine.{DeepensAt, JsonTakesByte, JsonTakesPrefix, JsonTakesAll, TakesWhitespace, AllWhitespace, Grows}
+use Rattle.sm_json.specs.steps.Machine.{HandsNumber, HandsText, behind_text, text_event_of, as_syntax}
 use Rattle.sm_tree.specs.Refusal.{moved_by, IsWithin}
 use Rattle.sm_tree.specs.declared.number.Phase.{Phase}
 use Rattle.sm_tree.specs.declared.number.Phase.TheVariants.{Start}
@@ -43,7 +47,9 @@ use Rattle.sm_json.proofs.Opening.{at}
 use Rattle.sm_json.proofs.Closing.{after_goes_on, colon_goes_on}
 use Rattle.sm_json.proofs.Leaves.{number_is}
 use Rattle.sm_json.proofs.White.{white_leads, whites_lead}
-use Rattle.sm_json.proofs.Within.{number_over, number_bytes_lead, number_ends, number_stops, number_last, number_last_is, nothing_ends, string_goes, key_closes, text_closes, letter_leads, word_ends, word_stops, string_no_rest, token_owed, word_owed, IsOwed}
+use Rattle.sm_json.proofs.Within.{number_over, number_bytes_lead, number_ends, number_stops, number_last, number_last_is, nothing_ends}
+use Rattle.sm_json.proofs.Within.{string_goes, key_closes, text_closes, letter_leads, word_ends, word_stops, string_no_rest, token_owed}
+use Rattle.sm_json.proofs.Within.{word_owed, IsOwed}
 use Rattle.sm_json.proofs.Owed.{string_owed}
 use Rattle.sm_json.proofs.Whole.{leads_none, leads_joined}
 use Rattle.sm_json.proofs.Readers.{place_at, leads_from, stops_from, kept_at, room_in, inside}

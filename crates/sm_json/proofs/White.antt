@@ -1,13 +1,15 @@
 -- Whitespace changes nothing where a token may come: the laws of `JsonLeads` for a white byte.
 use Rattle.std.proofs.Common.{◌≡◌, ℕ, inl, inr, true, false, List, [], ◌∷◌, refl, sym, subst, arith, take}
 use Rattle.std.proofs.lemmas.Bool.Decides.{nat_tests}
-use Rattle.sm_tree.specs.Node.{Node, Nodes, Members, null, bool, int, number, text, bytes, tag, opaque, list, object, no_nodes, node, no_members, member}
+use Rattle.sm_tree.specs.Node.{Node, Nodes, Members, null, bool, int, number, text, bytes, tag, opaque, list, object, no_nodes, node}
+use Rattle.sm_tree.specs.Node.{no_members, member}
 use Rattle.sm_tree.specs.Timing.{TimedEvent}
 use Rattle.sm_tree.specs.declared.build.OpenKind.{OpenKind}
 use Rattle.sm_tree.specs.declared.build.OpenKind.TheVariants.{List as a_list, Object as an_object}
 use Rattle.sm_json.specs.Strings.{is_whitespace, Whitespace, SpellsText}
 use Rattle.sm_json.specs.Timing.{ValueTimed, EntriesTimed, MoreEntriesTimed, PairsTimed, MorePairsTimed}
-use Rattle.sm_json.specs.steps.Rest.{Where, value, first_entry, first_key, next_key, colon, after, word, numeral, in_text, JsonState, JsonEnds, ValueComes, ColonComes, NameComes, FirstEntryComes, FirstKeyComes, JsonRestAt, JsonLeads}
+use Rattle.sm_json.specs.steps.Rest.{Where, value, first_entry, first_key, next_key, colon, after, word, numeral, in_text, JsonState}
+use Rattle.sm_json.specs.steps.Rest.{JsonEnds, ValueComes, ColonComes, NameComes, FirstEntryComes, FirstKeyComes, JsonRestAt, JsonLeads}
 use Rattle.std.specs.List.{prefix_len}
 use Rattle.sm_bytes.proofs.Runs.{of_run}
 use Rattle.sm_json.specs.steps.Machine.{AllWhitespace, TakesWhitespace}

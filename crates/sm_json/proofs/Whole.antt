@@ -1,6 +1,7 @@
 -- From states to texts: how the laws of `JsonLeads` are made and joined, what may stand where the bytes end, and what a run of
 -- the reader says of a whole text.
-use Rattle.std.proofs.Common.{◌≡◌, ℕ, ◌≤◌, List, [], ◌∷◌, ◌++◌, refl, sym, ap, subst, ◌∙◌, arith, length, length-append, append_assoc, append-nil}
+use Rattle.std.proofs.Common.{◌≡◌, ℕ, ◌≤◌, List, [], ◌∷◌, ◌++◌, refl, sym, ap, subst, ◌∙◌, arith, length, length-append, append_assoc}
+use Rattle.std.proofs.Common.{append-nil}
 use Rattle.sm_tree.specs.Node.{Node}
 use Rattle.sm_tree.specs.Levels.{levels}
 use Rattle.sm_tree.specs.Events.{NodeEvent, events}

@@ -1,6 +1,7 @@
 -- What bytes do within a literal name, a number and a string, and where the bytes end: the laws of `JsonLeads`
 -- and `JsonStops` there. And the laws that carry them to a whole text.
-use Rattle.std.proofs.Common.{◌≡◌, ◌≢◌, ℕ, ◌+◌, ◌<◌, ◌⊎◌, inl, inr, true, false, List, [], ◌∷◌, ◌++◌, refl, sym, ap, subst, ◌∙◌, arith, length, drop, append_assoc, append-nil, get_or}
+use Rattle.std.proofs.Common.{◌≡◌, ◌≢◌, ℕ, ◌+◌, ◌<◌, ◌⊎◌, inl, inr, true, false, List, [], ◌∷◌, ◌++◌, refl, sym, ap, subst, ◌∙◌, arith}
+use Rattle.std.proofs.Common.{length, drop, append_assoc, append-nil, get_or}
 use Rattle.std.proofs.lemmas.Bool.Decides.{nat_tests}
 use Rattle.std.proofs.lemmas.List.{drop_more}
 use Rattle.sm_tree.specs.Node.{Node, no_nodes, node, no_members, member}
@@ -14,7 +15,9 @@ use Rattle.sm_json.specs.Strings.{is_whitespace, Whitespace}
 use Rattle.sm_json.specs.Timing.{ValueTimed}
 use Rattle.sm_json.specs.steps.TextRest.{TextRest}
 use Rattle.sm_tree.specs.NumberTail.{IsNumberByte, AreNumberBytes}
-use Rattle.sm_json.specs.steps.Rest.{Where, value, first_entry, first_key, next_key, colon, after, word, numeral, in_text, JsonState, letters, literal_event, NumberTimed, JsonEnds, ValueComes, ColonComes, NameComes, FirstEntryComes, FirstKeyComes, JsonRestAt, JsonRest, JsonLeads, JsonStops}
+use Rattle.sm_json.specs.steps.Rest.{Where, value, first_entry, first_key, next_key, colon, after, word, numeral, in_text, JsonState}
+use Rattle.sm_json.specs.steps.Rest.{letters, literal_event, NumberTimed, JsonEnds, ValueComes, ColonComes, NameComes, FirstEntryComes}
+use Rattle.sm_json.specs.steps.Rest.{FirstKeyComes, JsonRestAt, JsonRest, JsonLeads, JsonStops}
 use Rattle.sm_json.specs.declared.spot.Spot.{Spot}
 use Rattle.sm_json.specs.declared.place.Literal.{Literal}
 use Rattle.sm_json.specs.declared.place.Role.{Role}

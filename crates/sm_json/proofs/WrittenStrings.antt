@@ -1,6 +1,8 @@
 -- The written text of a string spells it: through its characters, since the bytes from 128 on stand for
 -- themselves and no other byte of a longer character comes.
-use Rattle.std.proofs.Common.{◌≡◌, ℕ, suc, ◌+◌, ◌/◌, ◌%◌, ◌<◌, ◌≤◌, ◌≢◌, ◌==◌, true, cond, nat_lt, List, [], ◌∷◌, ◌++◌, length, get_or, Some, codes, IsUtf8, inl, inr, refl, sym, ap, ap₂, ◌∙◌, subst, arith, append_assoc, append-nil, ltb-true, ltb-false, eqb-true, ne_eqb, le-leb, lt-ltb, le-ltb}
+use Rattle.std.proofs.Common.{◌≡◌, ℕ, suc, ◌+◌, ◌/◌, ◌%◌, ◌<◌, ◌≤◌, ◌≢◌, ◌==◌, true, cond, nat_lt, List, [], ◌∷◌, ◌++◌, length, get_or}
+use Rattle.std.proofs.Common.{Some, codes, IsUtf8, inl, inr, refl, sym, ap, ap₂, ◌∙◌, subst, arith, append_assoc, append-nil, ltb-true}
+use Rattle.std.proofs.Common.{ltb-false, eqb-true, ne_eqb, le-leb, lt-ltb, le-ltb}
 use Rattle.std.proofs.lemmas.Bool.{eqb-false, and_from, and_right, and_parts, cases_lt, cond-true, cond-false, cond_both, lt-leb}
 use Rattle.std.proofs.lemmas.Str.{encode_ascii, inside_one}
 use lib.Utf8.{scalar, scalars, encode, encodes, low_scalar}

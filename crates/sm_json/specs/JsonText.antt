@@ -3,7 +3,8 @@
 -- byte order mark begins no text.
 use Rattle.std.specs.Prelude.{◌≡◌, ℕ, Bool, true, false, List, [], ◌∷◌, ◌++◌, codes}
 use Rattle.sm_bytes.specs.Ascii.{comma, colon, left_bracket, right_bracket, left_brace, right_brace}
-use Rattle.sm_tree.specs.Node.{Node, Nodes, Members, null, bool, int, number, text, bytes, tag, opaque, list, object, no_nodes, node, no_members, member}
+use Rattle.sm_tree.specs.Node.{Node, Nodes, Members, null, bool, int, number, text, bytes, tag, opaque, list, object, no_nodes, node}
+use Rattle.sm_tree.specs.Node.{no_members, member}
 use Rattle.sm_tree.specs.Numbers.{NumberText}
 use Rattle.sm_tree.specs.Syntax.{Syntax}
 use Rattle.sm_json.specs.Strings.{Whitespace, SpellsText}

@@ -1,7 +1,8 @@
 -- Whitespace and strings of JSON (RFC 8259, sections 2 and 7). A definition here has the form "s begins
 -- with a spelling of .., and r is what follows it", so that a text is cut nowhere by hand. A surrogate stands
 -- only as a pair of escapes, so "\uDEAD" is no string.
-use Rattle.std.specs.Prelude.{◌≡◌, ℕ, zero, suc, ◌+◌, ◌*◌, ◌≤◌, ◌⊎◌, ◌≢◌, ◌==◌, Bool, true, ◌||◌, List, [], ◌∷◌, ◌++◌, Some, encode_utf8_all}
+use Rattle.std.specs.Prelude.{◌≡◌, ℕ, zero, suc, ◌+◌, ◌*◌, ◌≤◌, ◌⊎◌, ◌≢◌, ◌==◌, Bool, true, ◌||◌, List, [], ◌∷◌, ◌++◌, Some}
+use Rattle.std.specs.Prelude.{encode_utf8_all}
 use Rattle.std.specs.Char.{IsScalar, encode_utf8}
 use Rattle.sm_bytes.specs.Ascii.{tab, line_feed, carriage_return, space, quote, backslash, small_u}
 use Rattle.sm_bytes.specs.Escapes.{short_escape, hex_value, IsHigh, IsLow, joined}

@@ -3,8 +3,10 @@
 -- number's text goes on as long as bytes of a number come, so the byte after it completes it.
 use Rattle.std.specs.Prelude.{◌≡◌, ℕ, List, [], ◌∷◌, ◌++◌, length, codes, None}
 use Rattle.sm_bytes.specs.Ascii.{comma, colon, left_bracket, right_bracket, left_brace, right_brace}
-use Rattle.sm_tree.specs.Node.{Node, Nodes, Members, null, bool, int, number, text, bytes, tag, opaque, list, object, no_nodes, node, no_members, member}
-use Rattle.sm_tree.specs.Events.{NodeEvent, null_event, bool_event, int_event, number_event, text_event, start_list, end_list, start_object, key_event, end_object}
+use Rattle.sm_tree.specs.Node.{Node, Nodes, Members, null, bool, int, number, text, bytes, tag, opaque, list, object, no_nodes, node}
+use Rattle.sm_tree.specs.Node.{no_members, member}
+use Rattle.sm_tree.specs.Events.{NodeEvent, null_event, bool_event, int_event, number_event, text_event, start_list, end_list}
+use Rattle.sm_tree.specs.Events.{start_object, key_event, end_object}
 use Rattle.sm_tree.specs.Timing.{TimedEvent, by_byte, by_end, Timing}
 use Rattle.sm_json.specs.Strings.{Whitespace, SpellsText}
 use Rattle.sm_json.specs.JsonText.{bool_word, SpellsNumber, Separator}

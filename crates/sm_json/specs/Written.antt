@@ -2,8 +2,10 @@
 -- the control bytes are escaped, these by the short form where there is one, else as `\u00xx`.
 use Rattle.std.specs.Prelude.{ℕ, ◌+◌, ◌-◌, ◌/◌, ◌%◌, ◌==◌, nat_lt, cond, List, [], ◌∷◌, ◌++◌, codes}
 use Rattle.std.specs.Fmt.{signed_decimal}
-use Rattle.sm_bytes.specs.Ascii.{backspace, tab, line_feed, form_feed, carriage_return, space, quote, comma, digit_zero, colon, left_bracket, backslash, right_bracket, small_a, left_brace, right_brace}
-use Rattle.sm_tree.specs.Node.{Node, Nodes, Members, null, bool, int, number, text, bytes, tag, opaque, list, object, no_nodes, node, no_members, member}
+use Rattle.sm_bytes.specs.Ascii.{backspace, tab, line_feed, form_feed, carriage_return, space, quote, comma, digit_zero, colon}
+use Rattle.sm_bytes.specs.Ascii.{left_bracket, backslash, right_bracket, small_a, left_brace, right_brace}
+use Rattle.sm_tree.specs.Node.{Node, Nodes, Members, null, bool, int, number, text, bytes, tag, opaque, list, object, no_nodes, node}
+use Rattle.sm_tree.specs.Node.{no_members, member}
 use Rattle.sm_json.specs.JsonText.{bool_word}
 
 -- a hexadecimal digit in lower case

@@ -1,5 +1,6 @@
 // Laws of texts and of what is written, each the contract of a function whose body is empty.
-ghost use Rattle.sm_json.specs.Laws.{WrittenIsText, WrittenSpells, WrittenIsRead, WrittenTextSpells, EscapesAreMeant, TextsAreTimed, FewEvents, NoEventYet, OneReading, OneAnswer, SomeAnswer};
+ghost use Rattle.sm_json.specs.Laws.{WrittenIsText, WrittenSpells, WrittenIsRead, WrittenTextSpells, EscapesAreMeant, TextsAreTimed};
+ghost use Rattle.sm_json.specs.Laws.{FewEvents, NoEventYet, OneReading, OneAnswer, SomeAnswer};
 ghost use Rattle.sm_json.specs.Stands.{StandingCompletes};
 ghost use Rattle.sm_json.specs.WrittenEvents.{WrittenEventsAreTree, WrittenEventsBegin, JsonEventsStand, JsonStreamsAreTaken};
 

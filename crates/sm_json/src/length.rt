@@ -4,7 +4,8 @@ ghost use Rattle.std.specs.Fmt.{signed_decimal};
 ghost use Rattle.sm_tree.specs.Node.{nodes_of, members_of};
 ghost use Rattle.sm_tree.specs.View.{node_of, nodes_view, members_view};
 ghost use Rattle.sm_bytes.specs.Lengths.{length_word};
-ghost use Rattle.sm_json.specs.Written.{written, written_entries, more_written_entries, written_pairs, more_written_pairs, written_byte, written_bytes, written_text};
+ghost use Rattle.sm_json.specs.Written.{written, written_entries, more_written_entries, written_pairs, more_written_pairs, written_byte};
+ghost use Rattle.sm_json.specs.Written.{written_bytes, written_text};
 
 use crate::byte_form::{ByteForm, Unescaped, form_of};
 use crate::plain::is_plain;

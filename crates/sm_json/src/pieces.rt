@@ -6,7 +6,8 @@ ghost use Rattle.sm_tree.specs.Events.{null_event};
 ghost use Rattle.sm_tree.specs.Timing.{Follows, Completes};
 ghost use Rattle.sm_tree.specs.ReaderClauses.{TakesStill, StaysRefused};
 ghost use Rattle.sm_json.specs.Timing.{json_timing};
-ghost use Rattle.sm_json.specs.Stands.{first_black, first_of, refusal_of, JsonHasCome, JsonStands, MayFeed, JsonFeeds, JsonFlushes, JsonEndsWith};
+ghost use Rattle.sm_json.specs.Stands.{first_black, first_of, refusal_of, JsonHasCome, JsonStands, MayFeed, JsonFeeds, JsonFlushes};
+ghost use Rattle.sm_json.specs.Stands.{JsonEndsWith};
 
 use crate::read::Reader;
 use crate::whitespace::Whitespace;

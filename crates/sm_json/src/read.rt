@@ -33,7 +33,8 @@ pub struct Reader {
 }
 
 impl Reader {
-    ghost use Rattle.sm_json.specs.steps.Machine.{JsonIsSound, JsonIsPlaced, JsonTakesPrefix, JsonTakesAll, JsonEndsText, JsonMayEnd, json_state};
+    ghost use Rattle.sm_json.specs.steps.Machine.{JsonIsSound, JsonIsPlaced, JsonTakesPrefix, JsonTakesAll, JsonEndsText, JsonMayEnd};
+    ghost use Rattle.sm_json.specs.steps.Machine.{json_state};
 
     pub(crate) fn new(alloc: Global) -> Self
         ensures state { json_state result ≡ json_start }

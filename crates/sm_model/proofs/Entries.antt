@@ -1,5 +1,6 @@
 -- What a row stands for, by what it is.
-use Rattle.std.proofs.Common.{◌≡◌, ℕ, ◌<◌, nat_lt, zero, suc, Bool, true, List, [], ◌∷◌, length, map, get_or, Some, None, Option, sym, ap, ◌∙◌, subst, refl}
+use Rattle.std.proofs.Common.{◌≡◌, ℕ, ◌<◌, nat_lt, zero, suc, Bool, true, List, [], ◌∷◌, length, map, get_or, Some, None, Option, sym, ap}
+use Rattle.std.proofs.Common.{◌∙◌, subst, refl}
 use Rattle.std.specs.Prelude.{IsSomeAnd, MatchOption, slice_get}
 use Rattle.std.specs.Bool.{passes}
 use Rattle.std.specs.Option.{option_map}

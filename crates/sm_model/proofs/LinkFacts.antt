@@ -3,7 +3,8 @@ use Rattle.std.proofs.Common.{◌≡◌, ◌⊎◌, inl, inr, ℕ, List, [], ◌
 use Rattle.std.specs.Prelude.{◌↔◌, slice_get}
 use Rattle.std.specs.FinMap as fin
 use Rattle.std.proofs.lemmas.Option.{none-some}
-use Rattle.sm_tree.specs.Node.{Node, Nodes, Members, null, bool, int, number, text, bytes, tag, opaque, list, object, members_of, member, no_members}
+use Rattle.sm_tree.specs.Node.{Node, Nodes, Members, null, bool, int, number, text, bytes, tag, opaque, list, object, members_of, member}
+use Rattle.sm_tree.specs.Node.{no_members}
 use Rattle.sm_tree.specs.Same.{HasPair}
 use Rattle.sm_model.specs.GraphView.{At, Stands, entries_of, maps_of}
 use Rattle.sm_model.specs.Relations.{HasBodyPair, Refers, field_relations, relation_under}

@@ -1,19 +1,22 @@
 -- The links of all that stands in a graph are its relations, by numbers.
-use Rattle.std.proofs.Common.{◌≡◌, ◌⊎◌, inl, inr, ℕ, ◌+◌, ◌≤◌, true, List, [], length, get_or, cond, Some, None, refl, sym, ap, ◌∙◌, subst, arith}
+use Rattle.std.proofs.Common.{◌≡◌, ◌⊎◌, inl, inr, ℕ, ◌+◌, ◌≤◌, true, List, [], length, get_or, cond, Some, None, refl, sym, ap, ◌∙◌}
+use Rattle.std.proofs.Common.{subst, arith}
 use Rattle.std.specs.Prelude.{◌↔◌, slice_get}
 use Rattle.std.specs.FinMap as fin
 use Rattle.std.proofs.lemmas.Bool.{cases_lt}
 use Rattle.std.proofs.lemmas.Option.{same_Some}
 use Rattle.sm_tree.specs.Node.{Node, Members, object, members_of}
 use Rattle.sm_model.specs.Graphs.{Entry, shape_entry, member_entry, ShapeEntry, MemberEntry, GraphMaps}
-use Rattle.sm_model.specs.GraphView.{At, HasKind, HasBodyNode, IsMemberEntry, IsShapeNumber, Stands, is_member_entry, entries_of, ids, maps_of, target_of}
+use Rattle.sm_model.specs.GraphView.{At, HasKind, HasBodyNode, IsMemberEntry, IsShapeNumber, Stands, is_member_entry, entries_of, ids}
+use Rattle.sm_model.specs.GraphView.{maps_of, target_of}
 use Rattle.sm_model.specs.Relations.{HasBodyPair, IsRelated, RefersBy, SaysInBody, SaysRelated, field_relations, relation_under}
 use Rattle.sm_model.specs.Links.{AreLinks, IsLinked}
 use Rattle.sm_model.specs.declared.graph.Graph.{Graph}
 use Rattle.sm_model.specs.declared.kind.Kind.{Kind}
 use Rattle.sm_model.specs.declared.link.Link.{Link}
 use Rattle.sm_model.specs.declared.relation.Relation.{Relation}
-use Rattle.sm_model.specs.declared.relation.Relation.TheVariants.{Member, Container, Target, Input, Output, Error, Operation, Resource, Identifier, Property}
+use Rattle.sm_model.specs.declared.relation.Relation.TheVariants.{Member, Container, Target, Input, Output, Error, Operation, Resource}
+use Rattle.sm_model.specs.declared.relation.Relation.TheVariants.{Identifier, Property}
 use Rattle.sm_model.specs.steps.Linking.{Adds, BodyLinks, BodySays, EntryLinks, FieldsLinks, LinksBelow, RunsTo, TargetLinks, TargetSays}
 use Rattle.sm_model.proofs.GraphFacts.{entry_under, id_at}
 use Rattle.sm_model.proofs.LinkNumbers.{at_opened, at_from, stands_at, within}

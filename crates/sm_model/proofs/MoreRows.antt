@@ -1,12 +1,14 @@
 -- One block more at the end of the rows of a graph.
-use Rattle.std.proofs.Common.{◌≡◌, ℕ, ◌+◌, ◌<◌, ◌≤◌, ◌^◌, true, List, [], ◌∷◌, ◌++◌, map, length, get_or, nat_lt, IsPermutation, refl, sym, ap, subst, ◌∙◌, arith, append_assoc, append-nil}
+use Rattle.std.proofs.Common.{◌≡◌, ℕ, ◌+◌, ◌<◌, ◌≤◌, ◌^◌, true, List, [], ◌∷◌, ◌++◌, map, length, get_or, nat_lt, IsPermutation, refl}
+use Rattle.std.proofs.Common.{sym, ap, subst, ◌∙◌, arith, append_assoc, append-nil}
 use Rattle.std.specs.FinMap.Entries.{is_sorted}
 use Rattle.std.specs.List.{list_all}
 use Rattle.std.proofs.lemmas.Bool.{and_from}
 use Rattle.std.proofs.lemmas.Bool.Decides.{nat_tests}
 use Rattle.std.proofs.lemmas.List.{map-append, length-map, length-append, get_or_append_left}
 use Rattle.std.proofs.lemmas.List.Folds.{list_all-append}
-use Rattle.std.proofs.lemmas.List.Sorted.{IsPermutation-trans, IsPermutation-append_left, IsPermutation-append_right, IsPermutation-refl, length_permutation}
+use Rattle.std.proofs.lemmas.List.Sorted.{IsPermutation-trans, IsPermutation-append_left, IsPermutation-append_right, IsPermutation-refl}
+use Rattle.std.proofs.lemmas.List.Sorted.{length_permutation}
 use Rattle.sm_tree.specs.View.{node_of, pairs_view}
 use Rattle.sm_model.specs.Given.{AreGivenShapes, given_ids}
 use Rattle.sm_model.specs.Graphs.{ShapeGiven, NodeMap, given_entries, given_shape, text_cmp, shape_entry}

@@ -14,7 +14,8 @@ use Rattle.sm_model.specs.Reaching.{id_of_number}
 use Rattle.sm_model.specs.Relations.{HasEntry, IsInGraph, IsRelated}
 use Rattle.sm_model.specs.declared.graph.Graph.{Graph}
 use Rattle.sm_model.specs.declared.relation.Relation.{Relation}
-use Rattle.sm_model.specs.declared.relation.Relation.TheVariants.{Member, Container, Target, Input, Output, Error, Operation, Resource, Identifier, Property}
+use Rattle.sm_model.specs.declared.relation.Relation.TheVariants.{Member, Container, Target, Input, Output, Error, Operation, Resource}
+use Rattle.sm_model.specs.declared.relation.Relation.TheVariants.{Identifier, Property}
 use Rattle.sm_model.proofs.GraphFacts.{entry_under, id_at}
 use Rattle.sm_model.proofs.LinkNumbers.{at_opened, within}
 use Rattle.sm_model.proofs.Searching.{and_left}

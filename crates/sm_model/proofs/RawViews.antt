@@ -3,7 +3,8 @@ use Rattle.std.proofs.Common.{◌≡◌, ℕ, List, sym, ap, ◌∙◌, rules}
 use Rattle.sm_tree.specs.View.{node_of}
 use Rattle.sm_tree.specs.declared.tree.Tree.{Tree}
 use Rattle.sm_model.specs.Raw.{Raw, raw_leaf, raw_id, raw_list, raw_object, raws_of, raw_members_of}
-use Rattle.sm_model.specs.RawView.{raw_step, raw_items_step, raw_pairs_step, raw_view, raw_items_view, raw_pairs_view, raws_view, raw_members_view}
+use Rattle.sm_model.specs.RawView.{raw_step, raw_items_step, raw_pairs_step, raw_view, raw_items_view, raw_pairs_view, raws_view}
+use Rattle.sm_model.specs.RawView.{raw_members_view}
 use Rattle.sm_model.specs.declared.reference.Ref.{Ref}
 use Rattle.sm_model.specs.declared.raw.RawItems.{RawItems}
 use Rattle.sm_model.specs.declared.raw.RawPairs.{RawPairs}

@@ -1,5 +1,6 @@
 -- Where a binary search ends among entries whose keys rise by the bytes of texts, and what a finite map gives there.
-use Rattle.std.proofs.Common.{inl, inr, ◌≡◌, ℕ, ◌<◌, ◌≤◌, Bool, true, false, List, [], ◌∷◌, length, get_or, map, Some, None, Option, sym, ap, ◌∙◌, suc, subst, refl, arith, zero}
+use Rattle.std.proofs.Common.{inl, inr, ◌≡◌, ℕ, ◌<◌, ◌≤◌, Bool, true, false, List, [], ◌∷◌, length, get_or, map, Some, None, Option, sym}
+use Rattle.std.proofs.Common.{ap, ◌∙◌, suc, subst, refl, arith, zero}
 use Rattle.std.specs.Prelude.{◌&&◌, IsSomeAnd, slice_get, cond}
 use Rattle.std.specs.Option.{option_map}
 use Rattle.std.specs.List.{HoldsAt}

@@ -4,15 +4,19 @@ use Rattle.std.specs.Prelude.{◌≡◌, ◌⊎◌, ℕ, List, [], ◌∷◌, Op
 use Rattle.std.specs.Cmp.Lexicographic.{pointwise}
 use Rattle.std.specs.List.{Contains}
 use Rattle.std.specs.FinMap as fin
-use Rattle.sm_tree.specs.Node.{Node, Nodes, Members, null, bool, int, number, text, bytes, tag, opaque, list, object, node, no_nodes, member, no_members}
+use Rattle.sm_tree.specs.Node.{Node, Nodes, Members, null, bool, int, number, text, bytes, tag, opaque, list, object, node, no_nodes}
+use Rattle.sm_tree.specs.Node.{member, no_members}
 use Rattle.sm_tree.specs.Same.{HasPair}
 use Rattle.sm_model.specs.Graphs.{Entry, shape_entry, member_entry, ShapeEntry, GraphMaps}
 use Rattle.sm_model.specs.declared.kind.Kind.{Kind}
-use Rattle.sm_model.specs.declared.kind.Kind.TheVariants.{Blob, Boolean, Text as text_kind, Enum, Byte, Short, Integer, IntEnum, Long, Float, Double}
-use Rattle.sm_model.specs.declared.kind.Kind.TheVariants.{BigInteger, BigDecimal, Timestamp, Document, List as list_kind, Map, Structure, Union}
+use Rattle.sm_model.specs.declared.kind.Kind.TheVariants.{Blob, Boolean, Text as text_kind, Enum, Byte, Short, Integer, IntEnum, Long}
+use Rattle.sm_model.specs.declared.kind.Kind.TheVariants.{Float, Double}
+use Rattle.sm_model.specs.declared.kind.Kind.TheVariants.{BigInteger, BigDecimal, Timestamp, Document, List as list_kind, Map, Structure}
+use Rattle.sm_model.specs.declared.kind.Kind.TheVariants.{Union}
 use Rattle.sm_model.specs.declared.kind.Kind.TheVariants.{Service as service_kind, Operation as operation_kind, Resource as resource_kind}
 use Rattle.sm_model.specs.declared.relation.Relation.{Relation}
-use Rattle.sm_model.specs.declared.relation.Relation.TheVariants.{Member, Container, Target, Input, Output, Error, Operation, Resource, Identifier, Property}
+use Rattle.sm_model.specs.declared.relation.Relation.TheVariants.{Member, Container, Target, Input, Output, Error, Operation, Resource}
+use Rattle.sm_model.specs.declared.relation.Relation.TheVariants.{Identifier, Property}
 
 -- the name of a relation, as selectors write it
 abbrev pub relation_name : Relation → List ℕ

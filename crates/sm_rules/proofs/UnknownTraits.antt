@@ -23,7 +23,8 @@ use Rattle.sm_model.proofs.Searching.{and_left, and_right}
 use Rattle.sm_model.proofs.Worklist.{apart}
 use Rattle.sm_compile.specs.Sound.{trait_in, trait_of}
 use Rattle.sm_compile.specs.TraitIds.{trait_id}
-use Rattle.sm_compile.specs.TraitRows.{TraitRow, has_none, has_row, trait_rows, annotation_rows, constraint_rows, documentation_rows, other_rows}
+use Rattle.sm_compile.specs.TraitRows.{TraitRow, has_none, has_row, trait_rows, annotation_rows, constraint_rows, documentation_rows}
+use Rattle.sm_compile.specs.TraitRows.{other_rows}
 use Rattle.sm_compile.specs.TraitRows.{rows_of_shapes, wire_rows}
 use Rattle.sm_compile.specs.rules.Words.{has_trait}
 use Rattle.sm_compile.proofs.TabledShapes.{mapped_from, mapped_to}

@@ -1,6 +1,7 @@
 // The traits of the table, by their ids. Nothing here takes memory.
 ghost use Rattle.std.specs.Prelude.{◌≡◌};
-ghost use Rattle.sm_compile.specs.TraitRows.{annotation_rows, constraint_rows, documentation_rows, has_row, other_rows, rows_of_shapes, wire_rows};
+ghost use Rattle.sm_compile.specs.TraitRows.{annotation_rows, constraint_rows, documentation_rows, has_row, other_rows, rows_of_shapes};
+ghost use Rattle.sm_compile.specs.TraitRows.{wire_rows};
 ghost use Rattle.sm_rules.specs.parts.Knowing.{is_named_in};
 
 /// Whether a trait has a row.

@@ -4,7 +4,8 @@ use Rattle.sm_model.specs.Graphs.{GraphMaps}
 use Rattle.sm_model.specs.Relations.{IsInGraph, WalksBy}
 use Rattle.sm_model.proofs.NumberedIds.{related_in}
 use Rattle.sm_select.specs.Picks.{Goes, PickedByOne, Picks}
-use Rattle.sm_select.specs.Selectors.{Step, any_shape, of_kind, has, compares, forward, back, walk, along, picked_by, picks_none, picks_some}
+use Rattle.sm_select.specs.Selectors.{Step, any_shape, of_kind, has, compares, forward, back, walk, along, picked_by, picks_none}
+use Rattle.sm_select.specs.Selectors.{picks_some}
 use Rattle.sm_select.specs.Selectors.{Steps, no_steps, then, Alternatives, no_selectors, or_by}
 use Rattle.sm_select.proofs.WalkNumbers.{neighbor_in}
 

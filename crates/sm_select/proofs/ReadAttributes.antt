@@ -9,7 +9,8 @@ use Rattle.sm_select.specs.declared.tokens.Sign.TheVariants.{ClosePath, Comma, B
 use Rattle.sm_select.specs.Tokens.{EndsWhite, SkipsWhite}
 use Rattle.sm_select.specs.declared.refusal.SelectorRefusal.{SelectorRefusal}
 use Rattle.sm_select.specs.steps.Signs.{sign_text, stands, first_sign, path_signs, behind_path_signs, behind_value_signs}
-use Rattle.sm_select.specs.steps.Places.{Piece, sign, Frame, Place, stepping, path_wanted, key_wanted, behind_path, trait_wanted, value_wanted}
+use Rattle.sm_select.specs.steps.Places.{Piece, sign, Frame, Place, stepping, path_wanted, key_wanted, behind_path, trait_wanted}
+use Rattle.sm_select.specs.steps.Places.{value_wanted}
 use Rattle.sm_select.specs.steps.Places.{at_namespace, at_name, at_member, at_trait}
 use Rattle.sm_select.specs.steps.Places.{behind_value, behind_fold, Moves, bar, had, stands_to, another_value, compared, compared_folded}
 use Rattle.sm_select.specs.steps.Standing.{Passes}

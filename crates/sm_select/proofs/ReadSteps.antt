@@ -1,5 +1,6 @@
 -- The reader of steps: what each sign, or a type's name, leads to where a step may come, and what is refused there.
-use Rattle.std.proofs.Common.{◌≡◌, ◌⊎◌, inl, inr, ℕ, suc, ◌==◌, ◌<◌, ◌≤◌, Bool, true, false, cond, List, [], ◌∷◌, ◌++◌, length, drop, Option, Some, None, refl, sym, ap}
+use Rattle.std.proofs.Common.{◌≡◌, ◌⊎◌, inl, inr, ℕ, suc, ◌==◌, ◌<◌, ◌≤◌, Bool, true, false, cond, List, [], ◌∷◌, ◌++◌, length, drop}
+use Rattle.std.proofs.Common.{Option, Some, None, refl, sym, ap}
 use Rattle.std.proofs.Common.{◌∙◌, subst, codes, arith, Result, Ok, Err}
 use Rattle.sm_model.specs.declared.kind.Kind.{Kind}
 use Rattle.sm_select.specs.Grammar.{type_word}
@@ -11,11 +12,13 @@ use Rattle.sm_select.specs.Answers.{ParsesSelector}
 use Rattle.sm_select.specs.declared.refusal.SelectorRefusal.{SelectorRefusal}
 use Rattle.sm_select.specs.declared.refusal.SelectorRefusal.TheVariants.{Syntax, OutOfProfile, NoMemory}
 use Rattle.sm_select.specs.declared.tokens.Sign.{Sign}
-use Rattle.sm_select.specs.declared.tokens.Sign.TheVariants.{Star, Greater, Smaller, Tilde, OpenNames, OpenPath, OpenIs, OpenNot, OpenTest, Close}
+use Rattle.sm_select.specs.declared.tokens.Sign.TheVariants.{Star, Greater, Smaller, Tilde, OpenNames, OpenPath, OpenIs, OpenNot}
+use Rattle.sm_select.specs.declared.tokens.Sign.TheVariants.{OpenTest, Close}
 use Rattle.sm_select.specs.declared.tokens.Sign.TheVariants.{Comma}
 use Rattle.sm_select.specs.Tokens.{Token, terminal, word, EndsWhite, SkipsWhite, TokensThen}
 use Rattle.sm_select.specs.steps.Signs.{sign_text, sign_ends, opens, stands, first_sign, step_signs}
-use Rattle.sm_select.specs.steps.Places.{Piece, sign, kind, Frame, frame, Place, stepping, Moves, star, a_kind, greater, smaller, tilde, opens_path}
+use Rattle.sm_select.specs.steps.Places.{Piece, sign, kind, Frame, frame, Place, stepping, Moves, star, a_kind, greater, smaller, tilde}
+use Rattle.sm_select.specs.steps.Places.{opens_path}
 use Rattle.sm_select.specs.steps.Places.{opens_names, opens_is, opens_not, opens_test, closes, another, IsWhole, Runs}
 use Rattle.sm_select.specs.steps.Standing.{Passes, StopsAt}
 use Rattle.sm_select.specs.steps.Reader.{BeginsNoRun, IsNotWhole, IsRunAt, Refuses}

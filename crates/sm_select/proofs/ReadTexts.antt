@@ -3,7 +3,8 @@ use Rattle.std.proofs.Common.{ℕ, List, [], ◌∷◌, ◌++◌}
 use Rattle.sm_select.specs.Selectors.{Step, Attribute, trait_of}
 use Rattle.sm_select.specs.declared.selector.SelectorOp.{SelectorOp}
 use Rattle.sm_select.specs.Tokens.{Token}
-use Rattle.sm_select.specs.steps.Places.{Piece, key, trait, value, ReadAs, Frame, Place, trait_wanted, key_wanted, behind_path, value_wanted}
+use Rattle.sm_select.specs.steps.Places.{Piece, key, trait, value, ReadAs, Frame, Place, trait_wanted, key_wanted, behind_path}
+use Rattle.sm_select.specs.steps.Places.{value_wanted}
 use Rattle.sm_select.specs.steps.Places.{behind_value, Moves, of_trait, of_key, of_value}
 use Rattle.sm_select.specs.steps.Taking.{IsKeyToken, IsTraitToken, IsValueToken, LeadsBy}
 

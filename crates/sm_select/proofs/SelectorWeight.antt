@@ -1,6 +1,7 @@
 -- A measure for recursions over selectors: each part weighs less than the whole.
 use Rattle.std.proofs.Common.{ℕ, ◌+◌, ◌<◌, zero, suc, List, [], ◌∷◌, length, get_or, map, arith}
-use Rattle.sm_select.specs.Selectors.{Step, any_shape, of_kind, has, compares, forward, back, walk, along, picked_by, picks_none, picks_some}
+use Rattle.sm_select.specs.Selectors.{Step, any_shape, of_kind, has, compares, forward, back, walk, along, picked_by, picks_none}
+use Rattle.sm_select.specs.Selectors.{picks_some}
 use Rattle.sm_select.specs.Selectors.{Steps, no_steps, then, steps_of, Alternatives, no_selectors, or_by, alternatives_of}
 use Rattle.sm_select.specs.View.{selector_view, selector_views, step_view, step_views}
 use Rattle.sm_select.specs.declared.selector.Selector.{Selector}

@@ -10,7 +10,8 @@ use Rattle.sm_model.specs.declared.relation.Relation.{Relation}
 use Rattle.sm_model.specs.Reaching.{AreMarks, IsMarked}
 use Rattle.sm_select.specs.Images.{AreImage, turned}
 use Rattle.sm_select.specs.Picks.{Compares, Goes, LeadsAlong, PickedByOne, Picks, folded}
-use Rattle.sm_select.specs.Selectors.{Step, any_shape, of_kind, has, compares, forward, back, walk, along, picked_by, picks_none, picks_some}
+use Rattle.sm_select.specs.Selectors.{Step, any_shape, of_kind, has, compares, forward, back, walk, along, picked_by, picks_none}
+use Rattle.sm_select.specs.Selectors.{picks_some}
 use Rattle.sm_select.specs.Selectors.{alternatives_of, steps_of}
 use Rattle.sm_select.specs.View.{path_view, selector_view, selectors_view, step_view}
 use Rattle.sm_select.specs.declared.selector.Compare.{Compare as Comparison}
@@ -24,7 +25,8 @@ use Rattle.sm_select.specs.steps.Imaging.{ArePicking}
 use Rattle.sm_select.proofs.ImageNumbers.{kept_image, same_image}
 use Rattle.sm_select.proofs.NineRelations.{other_image}
 use Rattle.sm_select.proofs.PickedImages.{kept_none, kept_some}
-use Rattle.sm_select.proofs.SelectorViews.{step_any, step_named, step_has, step_compare, step_forward, step_back, step_walk, step_along, step_is, step_not, step_test}
+use Rattle.sm_select.proofs.SelectorViews.{step_any, step_named, step_has, step_compare, step_forward, step_back, step_walk, step_along}
+use Rattle.sm_select.proofs.SelectorViews.{step_is, step_not, step_test}
 
 module _ {T E : Type 0} (items : T → List Bool) (g : Graph) (turn : Bool) (starts : List Bool) (long : length starts ≡ length (entries_of g)) where
   -- the result of a step is the image by a relation

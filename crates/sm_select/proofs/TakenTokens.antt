@@ -10,7 +10,8 @@ use Rattle.sm_select.specs.steps.Places.{Place, stepping, path_wanted, trait_wan
 use Rattle.sm_select.specs.steps.Places.{behind_fold, name_wanted, behind_name, IsStepping, IsWhole}
 use Rattle.sm_select.specs.steps.Standing.{Passes, StopsAt}
 use Rattle.sm_select.specs.steps.Reader.{IsPlaced, ReadsTo, Refuses}
-use Rattle.sm_select.specs.steps.Taking.{IsCopy, IsIdToken, IsIdentifierToken, IsKeyToken, IsNumeralToken, IsQuotedToken, IsTaken, IsValueToken}
+use Rattle.sm_select.specs.steps.Taking.{IsCopy, IsIdToken, IsIdentifierToken, IsKeyToken, IsNumeralToken, IsQuotedToken, IsTaken}
+use Rattle.sm_select.specs.steps.Taking.{IsValueToken}
 use Rattle.sm_select.specs.steps.Taking.{LeadsBy, NoneAs, TakenAs}
 use Rattle.sm_select.proofs.Passing.{passes_token}
 use Rattle.sm_select.proofs.TwoTokens.{numeral_no_quoted, word_no_numeral, word_no_quoted}

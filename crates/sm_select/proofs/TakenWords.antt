@@ -16,7 +16,8 @@ use Rattle.sm_model.specs.PreludeShapes.{api_id}
 use Rattle.sm_select.specs.Tokens.{Token, word, BeginsOther, GoesOnWithRun, TokenThen, begins_run, is_run_byte}
 use Rattle.sm_select.specs.SelectorText.{IsRun}
 use Rattle.sm_select.specs.steps.Reader.{BeginsNoRun, IsRunAt, begins_a_run}
-use Rattle.sm_select.specs.steps.Taking.{IsIdToken, IsIdentifierToken, IsTraitToken, NoneAs, TakenAs, IsTaken, IsMemberRun, IsLongerWord, IsRunId}
+use Rattle.sm_select.specs.steps.Taking.{IsIdToken, IsIdentifierToken, IsTraitToken, NoneAs, TakenAs, IsTaken, IsMemberRun, IsLongerWord}
+use Rattle.sm_select.specs.steps.Taking.{IsRunId}
 use Rattle.sm_select.specs.declared.parser_taken.Taken.{Taken}
 use Rattle.sm_select.specs.Grammar.{MeansTrait}
 use Rattle.sm_select.proofs.WordBytes.{WordThen, WordShape, word_then, id_shape, identifier_run, member_run_ends}

@@ -19,7 +19,8 @@ use Rattle.sm_model.specs.declared.relation.Relation.{Relation}
 use Rattle.sm_select.specs.declared.selector.SelectorOp.{SelectorOp}
 use Rattle.sm_select.specs.declared.selector.SelectorOp.TheVariants.{Equal, Unequal, Starts, Ends, Contains as HasIn}
 use Rattle.sm_select.specs.Selectors.{Attribute, id_of, namespace_of, name_of, member_of, trait_of}
-use Rattle.sm_select.specs.Selectors.{Step, any_shape, of_kind, has, compares, forward, back, walk, along, picked_by, picks_none, picks_some}
+use Rattle.sm_select.specs.Selectors.{Step, any_shape, of_kind, has, compares, forward, back, walk, along, picked_by, picks_none}
+use Rattle.sm_select.specs.Selectors.{picks_some}
 use Rattle.sm_select.specs.Selectors.{Steps, no_steps, then, Alternatives, no_selectors, or_by}
 
 -- the type that a step names takes a shape in: `string` takes enums too, and `integer` intEnums

@@ -3,7 +3,8 @@ use Rattle.std.specs.Prelude.{◌≡◌, ◌≤◌, ◌⊎◌, ℕ, ◌+◌, tru
 use Rattle.std.specs.List.{AllPass, Contains}
 use Rattle.sm_bytes.specs.Ascii.{apostrophe, dollar, quote}
 use Rattle.sm_select.specs.Selectors.{Steps}
-use Rattle.sm_select.specs.Tokens.{Token, terminal, GoesOnWithRun, BeginsOther, EndsWhite, IsFree, SkipsWhite, TokensThen, begins_run, is_run_byte}
+use Rattle.sm_select.specs.Tokens.{Token, terminal, GoesOnWithRun, BeginsOther, EndsWhite, IsFree, SkipsWhite, TokensThen, begins_run}
+use Rattle.sm_select.specs.Tokens.{is_run_byte}
 use Rattle.sm_select.specs.Grammar.{SpellsSteps}
 
 -- the text spells the selector

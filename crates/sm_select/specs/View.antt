@@ -1,7 +1,8 @@
 -- What a selector of the code stands for. Steps and selectors are seen as lists.
 use Rattle.std.specs.Prelude.{List, map}
 use Rattle.sm_select.specs.Selectors.{Attribute, id_of, namespace_of, name_of, member_of, trait_of}
-use Rattle.sm_select.specs.Selectors.{Step, any_shape, of_kind, has, compares, forward, back, walk, along, picked_by, picks_none, picks_some}
+use Rattle.sm_select.specs.Selectors.{Step, any_shape, of_kind, has, compares, forward, back, walk, along, picked_by, picks_none}
+use Rattle.sm_select.specs.Selectors.{picks_some}
 use Rattle.sm_select.specs.Selectors.{steps_of, alternatives_of}
 use Rattle.sm_select.specs.declared.selector.SelectorPath.{SelectorPath}
 use Rattle.sm_select.specs.declared.selector.SelectorPath.TheVariants.{Id, IdNamespace, IdName, IdMember, Trait}

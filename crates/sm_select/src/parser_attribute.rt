@@ -3,7 +3,8 @@ ghost use Rattle.std.specs.Prelude.{◌≡◌, ◌++◌, ◌∷◌, [], List, �
 ghost use Rattle.sm_select.specs.Selectors.{Attribute, Step, compares, trait_of};
 ghost use Rattle.sm_select.specs.View.{path_view, step_view};
 ghost use Rattle.sm_select.specs.declared.selector.SelectorOp.{SelectorOp as Op};
-ghost use Rattle.sm_select.specs.steps.Places.{Frame, behind_fold, behind_path as after_path, behind_value, path_wanted, stepping, trait_wanted, value_wanted};
+ghost use Rattle.sm_select.specs.steps.Places.{Frame, behind_fold, behind_path as after_path, behind_value, path_wanted, stepping};
+ghost use Rattle.sm_select.specs.steps.Places.{trait_wanted, value_wanted};
 ghost use Rattle.sm_select.specs.steps.Reader.{NoKeyFollows, ReadsTo, behind_a_value};
 ghost use Rattle.sm_select.specs.steps.Signs.{behind_value_signs, first_sign, path_signs, stands};
 ghost use Rattle.sm_select.specs.declared.tokens.Sign.TheVariants.{Bar, Op as Operator};

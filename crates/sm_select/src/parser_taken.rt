@@ -2,7 +2,8 @@
 ghost use Rattle.std.specs.Prelude.{◌≡◌, ◌<◌, MatchBool, drop, length};
 ghost use Rattle.sm_ids.specs.IdText.{IsIdText};
 ghost use Rattle.sm_select.specs.steps.Reader.{IsRunAt};
-ghost use Rattle.sm_select.specs.steps.Taking.{IsIdToken, IsIdentifierToken, IsKeyToken, IsLongerWord, IsNumeralToken, IsQuotedAt, IsQuotedToken, IsRunId, IsTaken, IsValueToken};
+ghost use Rattle.sm_select.specs.steps.Taking.{IsIdToken, IsIdentifierToken, IsKeyToken, IsLongerWord, IsNumeralToken, IsQuotedAt};
+ghost use Rattle.sm_select.specs.steps.Taking.{IsQuotedToken, IsRunId, IsTaken, IsValueToken};
 
 use crate::parser_number::number_len;
 use crate::parser_text::run_at;

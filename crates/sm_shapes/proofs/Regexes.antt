@@ -1,6 +1,7 @@
 -- A regex that was compiled from a text finds what the text's own reading finds; and the test holds exactly of the texts of which
 -- some part matches.
-use Rattle.std.proofs.Common.{◌≡◌, ◌↔◌, ◌∙◌, ℕ, ◌+◌, ◌≤◌, ◌<◌, Bool, true, false, List, length, get_or, Option, Some, None, IsSomeAnd, is_some, IsCharBoundary, refl, sym, ap, subst, arith}
+use Rattle.std.proofs.Common.{◌≡◌, ◌↔◌, ◌∙◌, ℕ, ◌+◌, ◌≤◌, ◌<◌, Bool, true, false, List, length, get_or, Option, Some, None, IsSomeAnd}
+use Rattle.std.proofs.Common.{is_some, IsCharBoundary, refl, sym, ap, subst, arith}
 use Rattle.std.specs.Prelude.{Result, Ok, Err, IfOk, IsTrue}
 use Rattle.std.specs.Str.{chars}
 use Rattle.std.proofs.lemmas.Bool.{false≢true}

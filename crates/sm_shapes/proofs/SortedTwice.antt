@@ -1,6 +1,7 @@
 -- A value stands twice in a list exactly where it does in another order of the list; and in one that is sorted exactly where two neighbours
 -- don't rise.
-use Rattle.std.proofs.Common.{◌≡◌, ℕ, zero, suc, ◌<◌, ◌≤◌, ◌+◌, Bool, true, false, not, List, [], ◌∷◌, map, length, get_or, IsPermutation, IsSortedBy, refl, sym, ap, ◌∙◌, subst, arith}
+use Rattle.std.proofs.Common.{◌≡◌, ℕ, zero, suc, ◌<◌, ◌≤◌, ◌+◌, Bool, true, false, not, List, [], ◌∷◌, map, length, get_or, IsPermutation}
+use Rattle.std.proofs.Common.{IsSortedBy, refl, sym, ap, ◌∙◌, subst, arith}
 use Rattle.std.specs.List.{sum_by, AllAdjacentBelow, IsAllAdjacentAnswer}
 use Rattle.std.specs.Ordering.{is_lt, ordering_reverse}
 use Rattle.std.specs.declared.cmp.Ordering.{Ordering}

@@ -11,7 +11,9 @@ use Rattle.std.proofs.lemmas.Cmp.{nat_cmp_total, int_cmp_total, nat_list_cmp_tot
 use Rattle.std.proofs.Common.{arith}
 use Rattle.std.proofs.lemmas.Bool.Decides.{nat_tests}
 use Rattle.std.proofs.lemmas.Map.Text.{is_eq-slice_cmp}
-use Rattle.sm_shapes.specs.Values.{Val, Vals, EntryVals, FieldVals, null_val, bool_val, int_val, text_val, blob_val, time_val, list_val, map_val, structure_val, union_val, no_vals, val, no_entries, entry, no_fields, field, same_val, same_vals, same_entries, same_fields}
+use Rattle.sm_shapes.specs.Values.{Val, Vals, EntryVals, FieldVals, null_val, bool_val, int_val, text_val, blob_val, time_val, list_val}
+use Rattle.sm_shapes.specs.Values.{map_val, structure_val, union_val, no_vals, val, no_entries, entry, no_fields, field, same_val}
+use Rattle.sm_shapes.specs.Values.{same_vals, same_entries, same_fields}
 use Rattle.sm_shapes.specs.ValueOrder.{val_cmp, vals_cmp, entries_cmp, fields_cmp, ValuesInOrder, EqualIsSame}
 use Rattle.sm_shapes.proofs.SameVals.{same_is, same_itself}
 

@@ -1,12 +1,15 @@
 -- What val_of gives of a value of any kind, variant by variant, for code that makes or reads values: other crates cite these.
 use Rattle.std.proofs.Common.{◌≡◌, ℕ, ℤ, Bool, List, Box, Global, sym, ap, ◌∙◌, rules}
-use Rattle.sm_shapes.specs.Values.{Val, null_val, bool_val, int_val, text_val, blob_val, time_val, list_val, map_val, structure_val, union_val, vals_of, entries_of, fields_of}
-use Rattle.sm_shapes.specs.ValueView.{value_step, entries_step, fields_step, items_step, val_of, entries_view, fields_view, items_view, vals_view, each_entry_view, each_field_view}
+use Rattle.sm_shapes.specs.Values.{Val, null_val, bool_val, int_val, text_val, blob_val, time_val, list_val, map_val, structure_val}
+use Rattle.sm_shapes.specs.Values.{union_val, vals_of, entries_of, fields_of}
+use Rattle.sm_shapes.specs.ValueView.{value_step, entries_step, fields_step, items_step, val_of, entries_view, fields_view, items_view}
+use Rattle.sm_shapes.specs.ValueView.{vals_view, each_entry_view, each_field_view}
 use Rattle.sm_shapes.specs.declared.values.Value.{Value, the_lemmas}
 use Rattle.sm_shapes.specs.declared.values.Items.{Items}
 use Rattle.sm_shapes.specs.declared.values.Entries.{Entries}
 use Rattle.sm_shapes.specs.declared.values.Fields.{Fields}
-use Rattle.sm_shapes.specs.declared.values.Value.TheVariants.{Null, Bool as Boolean, Int, Text, Blob, Time, List as Listed, Map, rolls-Map, Structure, rolls-Structure, Union}
+use Rattle.sm_shapes.specs.declared.values.Value.TheVariants.{Null, Bool as Boolean, Int, Text, Blob, Time, List as Listed, Map}
+use Rattle.sm_shapes.specs.declared.values.Value.TheVariants.{rolls-Map, Structure, rolls-Structure, Union}
 use Rattle.sm_shapes.specs.declared.values.Value.TheFolds.{fold-roll-Value, fold-roll-Items, fold-roll-Entries, fold-roll-Fields}
 
 pub view_items : (v : Items) → items_view v ≡ vals_view v.items.items

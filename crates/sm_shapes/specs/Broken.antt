@@ -5,7 +5,8 @@ use Rattle.std.specs.Prelude.{ℕ, ℤ, pos, Bool, true, false, ◌&&◌, ◌||�
 use Rattle.std.specs.Ordering.{int_eq}
 use Rattle.std.specs.List.{list_any}
 use Rattle.std.specs.Str.{bytes_eq, chars}
-use Rattle.sm_shapes.specs.Values.{Val, null_val, bool_val, int_val, text_val, blob_val, time_val, list_val, map_val, structure_val, union_val, each_val, keys_of, same_val}
+use Rattle.sm_shapes.specs.Values.{Val, null_val, bool_val, int_val, text_val, blob_val, time_val, list_val, map_val, structure_val}
+use Rattle.sm_shapes.specs.Values.{union_val, each_val, keys_of, same_val}
 use Rattle.sm_shapes.specs.TableData.{ConstraintData}
 use Rattle.sm_shapes.specs.declared.kinds.ShapeKind.{ShapeKind}
 use Rattle.sm_shapes.specs.declared.kinds.ShapeKind.TheVariants as kinds

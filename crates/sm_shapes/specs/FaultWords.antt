@@ -1,7 +1,8 @@
 -- The words that programs print for the kinds of faults.
 use Rattle.std.specs.Prelude.{ℕ, List, codes}
 use Rattle.sm_shapes.specs.declared.fault.FaultKind.{FaultKind}
-use Rattle.sm_shapes.specs.declared.fault.FaultKind.TheVariants.{WrongType, Null, Repeated, Missing, Width, Base64, Time, Length, Pattern, Enum, Range, Unique, UnionCount, NotCarried}
+use Rattle.sm_shapes.specs.declared.fault.FaultKind.TheVariants.{WrongType, Null, Repeated, Missing, Width, Base64, Time, Length, Pattern}
+use Rattle.sm_shapes.specs.declared.fault.FaultKind.TheVariants.{Enum, Range, Unique, UnionCount, NotCarried}
 
 abbrev pub fault_word : FaultKind → List ℕ
 fault_word WrongType = codes "Type"

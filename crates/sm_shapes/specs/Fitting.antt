@@ -8,12 +8,16 @@ use Rattle.std.specs.List.{Contains}
 use Rattle.std.specs.List.Sorted.{IsStrictlySortedBy}
 use Rattle.sm_tree.specs.Json.{AreBytes}
 use Rattle.sm_time.specs.TimeText.{IsStamp}
-use Rattle.sm_shapes.specs.Values.{Val, Vals, EntryVals, FieldVals, null_val, bool_val, int_val, text_val, blob_val, time_val, list_val, map_val, structure_val, union_val, no_vals, val, no_entries, entry, no_fields, field, each_val, keys_of}
+use Rattle.sm_shapes.specs.Values.{Val, Vals, EntryVals, FieldVals, null_val, bool_val, int_val, text_val, blob_val, time_val, list_val}
+use Rattle.sm_shapes.specs.Values.{map_val, structure_val, union_val, no_vals, val, no_entries, entry, no_fields, field, each_val}
+use Rattle.sm_shapes.specs.Values.{keys_of}
 use Rattle.sm_shapes.specs.TableData.{TableData, pattern_at, required_at, default_at}
-use Rattle.sm_shapes.specs.Places.{Place, member_place, kind_of, members_of_place, constraints_of, unique_of, sparse_of, entry_place, key_place, value_place}
+use Rattle.sm_shapes.specs.Places.{Place, member_place, kind_of, members_of_place, constraints_of, unique_of, sparse_of, entry_place}
+use Rattle.sm_shapes.specs.Places.{key_place, value_place}
 use Rattle.sm_shapes.specs.Broken.{Finder, broken}
 use Rattle.sm_shapes.specs.declared.kinds.ShapeKind.{ShapeKind}
-use Rattle.sm_shapes.specs.declared.kinds.ShapeKind.TheVariants.{Blob, Boolean, Text, Enum, Byte, Short, Integer, IntEnum, Long, Timestamp, List as a_list, Map as a_map, Structure, Union}
+use Rattle.sm_shapes.specs.declared.kinds.ShapeKind.TheVariants.{Blob, Boolean, Text, Enum, Byte, Short, Integer, IntEnum, Long}
+use Rattle.sm_shapes.specs.declared.kinds.ShapeKind.TheVariants.{Timestamp, List as a_list, Map as a_map, Structure, Union}
 
 -- whether a pattern's text finds a text: the one test of a type of stores
 abbrev pub Test : Type 0

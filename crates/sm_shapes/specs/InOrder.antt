@@ -8,7 +8,9 @@ use Rattle.sm_tree.specs.Node.{Node, list, object, no_nodes, no_members}
 use Rattle.sm_shapes.specs.Names.{AllDiffer}
 use Rattle.sm_shapes.specs.Patterns.{pattern_text}
 use Rattle.sm_shapes.specs.Values.{Val, list_val, map_val, no_vals, no_entries}
-use Rattle.sm_shapes.specs.TableData.{TableData, ShapeData, shape_count, member_count, kind_at, members_at, by_name_at, by_json_name_at, needed_at, required_at, shape_constraints_at, home_at, name_at, json_name_at, target_at, constraints_at, binding_at, default_node_at, default_at, texts_numbered, count_of_default}
+use Rattle.sm_shapes.specs.TableData.{TableData, ShapeData, shape_count, member_count, kind_at, members_at, by_name_at, by_json_name_at}
+use Rattle.sm_shapes.specs.TableData.{needed_at, required_at, shape_constraints_at, home_at, name_at, json_name_at, target_at}
+use Rattle.sm_shapes.specs.TableData.{constraints_at, binding_at, default_node_at, default_at, texts_numbered, count_of_default}
 use Rattle.sm_shapes.specs.Places.{member_place}
 use Rattle.sm_shapes.specs.Fitting.{Test, any_text, Fits, MeetsConstraints}
 use Rattle.sm_shapes.specs.declared.kinds.ShapeKind.{ShapeKind}

@@ -3,7 +3,8 @@
 use Rattle.std.specs.Prelude.{ℕ, Bool, List, slice_index_or, Option}
 use Rattle.sm_time.specs.declared.format.Format.{Format}
 use Rattle.sm_shapes.specs.declared.kinds.ShapeKind.{ShapeKind}
-use Rattle.sm_shapes.specs.TableData.{TableData, ConstraintData, kind_at, members_at, shape_constraints_at, unique_at, sparse_at, shape_format_at, target_at, constraints_at, format_at}
+use Rattle.sm_shapes.specs.TableData.{TableData, ConstraintData, kind_at, members_at, shape_constraints_at, unique_at, sparse_at}
+use Rattle.sm_shapes.specs.TableData.{shape_format_at, target_at, constraints_at, format_at}
 
 pub data Place : Type 0 where
   root_place : ℕ → Place

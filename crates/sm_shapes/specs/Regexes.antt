@@ -1,6 +1,7 @@
 -- Patterns in the language of the crate `regex`, by that crate's own grammar and its own search in a text. Options are the crate's
 -- defaults. A pattern is searched for: it finds a text of which some part matches.
-use Rattle.std.specs.Prelude.{◌≡◌, ◌≢◌, ◌<◌, ◌≤◌, ℕ, Bool, false, List, Option, Some, None, IsSomeAnd, is_some, chars, slice_index_or, IsCharBoundary}
+use Rattle.std.specs.Prelude.{◌≡◌, ◌≢◌, ◌<◌, ◌≤◌, ℕ, Bool, false, List, Option, Some, None, IsSomeAnd, is_some, chars, slice_index_or}
+use Rattle.std.specs.Prelude.{IsCharBoundary}
 use Rattle.regex.specs.Patterns.{Re, Matches, find_str, default_config}
 use Rattle.regex.specs.Strings.{regex_pattern, regex_source, IsDefaultFailure}
 use Rattle.regex.specs.declared.string.regex.Regex.{Regex}

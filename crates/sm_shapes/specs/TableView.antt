@@ -4,7 +4,8 @@ use Rattle.std.specs.Option.{option_map}
 use Rattle.sm_tree.specs.View.{node_of}
 use Rattle.sm_shapes.specs.ValueView.{val_of}
 use Rattle.sm_shapes.specs.ConstraintView.{constraint_data}
-use Rattle.sm_shapes.specs.TableData.{BindingData, ShapeData, MemberData, TableData, label, query, query_params, header, prefix_headers, payload, response_code}
+use Rattle.sm_shapes.specs.TableData.{BindingData, ShapeData, MemberData, TableData, label, query, query_params, header, prefix_headers}
+use Rattle.sm_shapes.specs.TableData.{payload, response_code}
 use Rattle.sm_shapes.specs.declared.tables.Binding.{Binding}
 use Rattle.sm_shapes.specs.declared.tables.Binding.TheVariants.{Label, Query, QueryParams, Header, PrefixHeaders, Payload, ResponseCode}
 use Rattle.sm_shapes.specs.declared.tables.TableShape.{TableShape}

@@ -1,6 +1,7 @@
 -- What a value of the code stands for. Every contract that speaks of a value cites it.
 use Rattle.std.specs.Prelude.{ℕ, List, map}
-use Rattle.sm_shapes.specs.Values.{Val, null_val, bool_val, int_val, text_val, blob_val, time_val, list_val, map_val, structure_val, union_val, vals_of, entries_of, fields_of}
+use Rattle.sm_shapes.specs.Values.{Val, null_val, bool_val, int_val, text_val, blob_val, time_val, list_val, map_val, structure_val}
+use Rattle.sm_shapes.specs.Values.{union_val, vals_of, entries_of, fields_of}
 use Rattle.sm_shapes.specs.declared.values.Value.{Value, fold-Value}
 use Rattle.sm_shapes.specs.declared.values.Items.{Items, fold-Items}
 use Rattle.sm_shapes.specs.declared.values.Entries.{Entries, fold-Entries}

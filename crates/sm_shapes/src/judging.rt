@@ -2,7 +2,8 @@
 ghost use Rattle.std.specs.Prelude.{◌≡◌, ◌++◌, ◌||◌, is_some, length, pos, IfOk};
 ghost use Rattle.std.specs.List.{list_any};
 ghost use Rattle.std.specs.Str.{bytes_eq, chars};
-ghost use Rattle.sm_shapes.specs.Broken.{is_at_least, is_at_most, first_broken, broken, length_broken, range_broken, pattern_broken, text_broken, number_broken};
+ghost use Rattle.sm_shapes.specs.Broken.{is_at_least, is_at_most, first_broken, broken, length_broken, range_broken, pattern_broken};
+ghost use Rattle.sm_shapes.specs.Broken.{text_broken, number_broken};
 ghost use Rattle.sm_shapes.specs.ConstraintView.{constraint_data};
 ghost use Rattle.sm_shapes.specs.Fitting.{finder};
 ghost use Rattle.sm_shapes.specs.InOrder.{AreStored, NamesPattern};

@@ -1,7 +1,8 @@
 // Tables of shapes and members by number. Contracts see a table as the TableData of specs/TableData.antt.
 ghost use Rattle.std.specs.Prelude.{◌≡◌, ◌<◌, Some, map, slice_get, if◌then◌else◌};
 ghost use Rattle.sm_shapes.specs.InOrder.{Shaped, most_defaults, defaults_among};
-ghost use Rattle.sm_shapes.specs.TableData.{shape_count, member_count, kind_at, members_at, by_name_at, by_json_name_at, needed_at, name_at, json_name_at, target_at, required_at, default_at, count_of_default, member_with};
+ghost use Rattle.sm_shapes.specs.TableData.{shape_count, member_count, kind_at, members_at, by_name_at, by_json_name_at, needed_at};
+ghost use Rattle.sm_shapes.specs.TableData.{name_at, json_name_at, target_at, required_at, default_at, count_of_default, member_with};
 ghost use Rattle.sm_shapes.specs.TableView.{shape_data, member_data, shape_rows, member_rows, table_data};
 ghost use Rattle.sm_shapes.specs.DefaultPuts.{defaults_view, with_defaults, table_with_defaults};
 

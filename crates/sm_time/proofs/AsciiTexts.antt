@@ -1,5 +1,6 @@
 -- The texts of stamps are ASCII, so they are texts.
-use Rattle.std.proofs.Common.{◌≡◌, inl, inr, ℕ, zero, suc, ◌<◌, ◌≤◌, ◌+◌, ◌-◌, ◌/◌, ◌%◌, ℤ, Bool, true, false, List, [], ◌∷◌, ◌++◌, sym, subst, refl, arith}
+use Rattle.std.proofs.Common.{◌≡◌, inl, inr, ℕ, zero, suc, ◌<◌, ◌≤◌, ◌+◌, ◌-◌, ◌/◌, ◌%◌, ℤ, Bool, true, false, List, [], ◌∷◌, ◌++◌, sym}
+use Rattle.std.proofs.Common.{subst, refl, arith}
 use Rattle.std.specs.Prelude.{nat_lt, slice_index_or, codes, IsAscii, IsUtf8, if◌then◌else◌}
 use Rattle.std.specs.List.{list_all}
 use Rattle.std.specs.Str.Parse.{AllDigits}
@@ -12,8 +13,10 @@ use Rattle.sm_time.specs.declared.format.Format.{Format}
 use Rattle.sm_time.specs.declared.format.Format.TheVariants.{DateTime, HttpDate, EpochSeconds}
 use Rattle.sm_time.specs.declared.civil.Civil.{Civil}
 use Rattle.sm_time.specs.Calendar.{weekday, day_count, days_in_month}
-use Rattle.sm_time.specs.Civil.{IsCivil, date_in, two_digits, four_digits, full_date, time_of_day, clock_text, day_name, month_name, imf_fixdate}
-use Rattle.sm_time.specs.TimeText.{Form, clock_form, gmt_form, seconds_form, IsStampForm, IsLetter, IsZone, IsStamp, form_text, fraction_text, zone_text, Zone, zulu, small_zulu, ahead, behind}
+use Rattle.sm_time.specs.Civil.{IsCivil, date_in, two_digits, four_digits, full_date, time_of_day, clock_text, day_name, month_name}
+use Rattle.sm_time.specs.Civil.{imf_fixdate}
+use Rattle.sm_time.specs.TimeText.{Form, clock_form, gmt_form, seconds_form, IsStampForm, IsLetter, IsZone, IsStamp, form_text}
+use Rattle.sm_time.specs.TimeText.{fraction_text, zone_text, Zone, zulu, small_zulu, ahead, behind}
 use Rattle.sm_time.specs.Written.{written_stamp, IsWritable}
 use Rattle.sm_time.proofs.StampForms.{and_first, and_second}
 use Rattle.sm_time.proofs.StampClocks.{month_days}

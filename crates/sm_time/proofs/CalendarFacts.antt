@@ -2,7 +2,8 @@
 use Rattle.std.proofs.Common.{◌≡◌, ℕ, zero, suc, ◌+◌, ◌-◌, ◌<◌, ◌≤◌, Bool, true, false, nat_lt, refl, ap, ◌∙◌, arith}
 use Rattle.std.proofs.lemmas.Bool.{cases_order}
 use Rattle.std.proofs.lemmas.Bool.Decides.{nat_tests}
-use Rattle.sm_time.specs.Calendar.{Date, IsDate, days_in_year, days_in_month, days_before_year, days_of_months, day_count, next_day, date_of}
+use Rattle.sm_time.specs.Calendar.{Date, IsDate, days_in_year, days_in_month, days_before_year, days_of_months, day_count, next_day}
+use Rattle.sm_time.specs.Calendar.{date_of}
 
 -- a day of any year
 pub record IsDay (d : Date) : Type 0 where

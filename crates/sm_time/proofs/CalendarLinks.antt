@@ -1,9 +1,11 @@
 -- The days of `jiff_core` and of `httpdate` are those of this crate's calendar.
-use Rattle.std.proofs.Common.{◌≡◌, ℕ, zero, suc, ◌+◌, ◌-◌, ◌≤◌, refl, sym, ap, subst, ◌∙◌, arith, ℤ, pos, negsuc, ◌+ℤ◌, ◌-ℤ◌, ◌≤ℤ◌, unsigned_abs, to_z, of_z, w8, w16}
+use Rattle.std.proofs.Common.{◌≡◌, ℕ, zero, suc, ◌+◌, ◌-◌, ◌≤◌, refl, sym, ap, subst, ◌∙◌, arith, ℤ, pos, negsuc, ◌+ℤ◌, ◌-ℤ◌, ◌≤ℤ◌}
+use Rattle.std.proofs.Common.{unsigned_abs, to_z, of_z, w8, w16}
 use Rattle.std.proofs.lemmas.Int.{to_z_pos}
 use Rattle.jiff_core.specs.declared.civil.date.Date.{Date as JiffDate}
 use Rattle.jiff_core.specs.Date.{epoch_day, IsYmd}
-use Rattle.jiff_core.specs.Calendar.{IsYear, IsCivilDate, day_count as jiff_count, days_of_years as jiff_years, days_of_months as jiff_months}
+use Rattle.jiff_core.specs.Calendar.{IsYear, IsCivilDate, day_count as jiff_count, days_of_years as jiff_years}
+use Rattle.jiff_core.specs.Calendar.{days_of_months as jiff_months}
 use Rattle.jiff_core.proofs.MarchLemmas.{days_of_years-march_days}
 use Rattle.jiff_core.proofs.CalendarLemmas.{days_from_civil-day_count, day_count-lt_year}
 use Rattle.jiff_core.proofs.DateLemmas.{civil}

@@ -4,7 +4,8 @@ use Rattle.std.proofs.lemmas.List.{take-append-drop}
 use Rattle.sm_time.specs.declared.civil.Civil.{Civil}
 use Rattle.sm_time.specs.declared.format.Format.TheVariants.{DateTime}
 use Rattle.sm_time.specs.Civil.{clock_text, two_digits}
-use Rattle.sm_time.specs.TimeText.{Form, clock_form, gmt_form, seconds_form, Shows, Zone, zulu, small_zulu, ahead, behind, zone_text, fraction_text}
+use Rattle.sm_time.specs.TimeText.{Form, clock_form, gmt_form, seconds_form, Shows, Zone, zulu, small_zulu, ahead, behind, zone_text}
+use Rattle.sm_time.specs.TimeText.{fraction_text}
 use Rattle.sm_time.proofs.DigitFacts.{same_first, same_rest, one_tail}
 use Rattle.sm_time.specs.steps.Parts.{EndsFraction, SplitsFraction, ClockSeconds, ZoneOffset, ShowsClock}
 

@@ -1,5 +1,6 @@
 -- IMF-fixdates of `httpdate` are those of this crate.
-use Rattle.std.proofs.Common.{◌≡◌, ℕ, ◌+◌, ◌-◌, ◌*◌, ◌/◌, ◌%◌, ◌≤◌, List, ◌++◌, codes, refl, sym, ap, ◌∙◌, arith, inl, ℤ, pos, negsuc, ◌≤ℤ◌, unsigned_abs, Ok}
+use Rattle.std.proofs.Common.{◌≡◌, ℕ, ◌+◌, ◌-◌, ◌*◌, ◌/◌, ◌%◌, ◌≤◌, List, ◌++◌, codes, refl, sym, ap, ◌∙◌, arith, inl, ℤ, pos, negsuc}
+use Rattle.std.proofs.Common.{◌≤ℤ◌, unsigned_abs, Ok}
 use Rattle.std.proofs.lemmas.Int.{ints}
 use Rattle.httpdate.specs.declared.parts.Parts.{Parts}
 use Rattle.httpdate.specs.declared.date.HttpDate.{HttpDate as Http}
@@ -10,7 +11,8 @@ use Rattle.httpdate.proofs.Theorems.{IsDateText_unique}
 use Rattle.sm_time.specs.declared.civil.Civil.{Civil}
 use Rattle.sm_time.specs.declared.format.Format.TheVariants.{HttpDate}
 use Rattle.sm_time.specs.Calendar.{day_count, weekday}
-use Rattle.sm_time.specs.Civil.{IsCivil, date_in, second_count, imf_fixdate, day_name, two_digits, month_name, four_digits, time_of_day, civil_of}
+use Rattle.sm_time.specs.Civil.{IsCivil, date_in, second_count, imf_fixdate, day_name, two_digits, month_name, four_digits, time_of_day}
+use Rattle.sm_time.specs.Civil.{civil_of}
 use Rattle.sm_time.specs.TimeText.{Form, clock_form, gmt_form, seconds_form, Shows, IsStamp, moment, from_1970}
 use Rattle.sm_time.specs.Written.{since_year_0}
 use Rattle.sm_time.specs.Answers.{ReadsStamp}

@@ -1,5 +1,6 @@
 -- The form that a text of date-time or of epoch-seconds shows is the one that is supposed of it.
-use Rattle.std.proofs.Common.{◌≡◌, ℕ, ◌+◌, ◌-◌, ◌*◌, ◌/◌, ◌%◌, ◌<◌, ◌≤◌, Bool, true, false, List, [], ◌∷◌, ◌++◌, drop, refl, ap, ◌∙◌, subst, arith, append-nil}
+use Rattle.std.proofs.Common.{◌≡◌, ℕ, ◌+◌, ◌-◌, ◌*◌, ◌/◌, ◌%◌, ◌<◌, ◌≤◌, Bool, true, false, List, [], ◌∷◌, ◌++◌, drop, refl, ap, ◌∙◌}
+use Rattle.std.proofs.Common.{subst, arith, append-nil}
 use Rattle.std.specs.Prelude.{◌==◌, ◌||◌, if◌then◌else◌}
 use Rattle.std.specs.Char.{is_ascii_digit, digit_value}
 use Rattle.std.specs.List.{prefix_len}
@@ -11,11 +12,13 @@ use Rattle.sm_time.specs.declared.civil.Civil.{Civil}
 use Rattle.sm_time.specs.declared.format.Format.TheVariants.{DateTime, EpochSeconds}
 use Rattle.sm_time.specs.Calendar.{days_in_month, is_leap_year}
 use Rattle.sm_time.specs.Civil.{IsCivil, clock_text}
-use Rattle.sm_time.specs.TimeText.{clock_form, seconds_form, IsStampForm, IsZone, IsIntDigits, form_text, Zone, zulu, small_zulu, ahead, behind, zone_text, fraction_text}
+use Rattle.sm_time.specs.TimeText.{clock_form, seconds_form, IsStampForm, IsZone, IsIntDigits, form_text, Zone, zulu, small_zulu, ahead}
+use Rattle.sm_time.specs.TimeText.{behind, zone_text, fraction_text}
 use Rattle.sm_time.specs.steps.Parts.{NoDigitFirst}
 use Rattle.sm_time.proofs.DigitFacts.{run_digits, run_ends, one_run, no_digit}
 use Rattle.sm_time.proofs.ClockForms.{zone_ends}
-use Rattle.sm_time.specs.StampTexts.{digits_first, behind_digits, fraction_first, behind_fraction, zone_in, clock_in, is_negative_in, supposed}
+use Rattle.sm_time.specs.StampTexts.{digits_first, behind_digits, fraction_first, behind_fraction, zone_in, clock_in, is_negative_in}
+use Rattle.sm_time.specs.StampTexts.{supposed}
 
 -- digits and what is behind them are told by a run
 run_back : (ds r : List ℕ) → AllDigits 10 ds → NoDigitFirst r → (digits_first (ds ++ r) ≡ ds) × (behind_digits (ds ++ r) ≡ r)

@@ -1,5 +1,6 @@
 -- The tests of a stamp's form decide what they are tests of.
-use Rattle.std.proofs.Common.{◌≡◌, ℕ, ◌<◌, ◌≤◌, ℤ, Bool, true, false, not, ◌&&◌, ◌||◌, List, [], ◌∷◌, length, drop, refl, sym, ap, ◌∙◌, subst, arith}
+use Rattle.std.proofs.Common.{◌≡◌, ℕ, ◌<◌, ◌≤◌, ℤ, Bool, true, false, not, ◌&&◌, ◌||◌, List, [], ◌∷◌, length, drop, refl, sym, ap, ◌∙◌}
+use Rattle.std.proofs.Common.{subst, arith}
 use Rattle.std.specs.Prelude.{pos, neg_ℤ, ◌≤ℤ◌, nat_le, nat_lt, ◌==◌, int_le, T}
 use Rattle.std.specs.Bool.{Decides}
 use Rattle.std.specs.Char.{is_ascii_digit, digit_value}
@@ -12,7 +13,8 @@ use Rattle.sm_time.specs.declared.format.Format.TheVariants.{DateTime, HttpDate,
 use Rattle.sm_time.specs.declared.civil.Civil.{Civil}
 use Rattle.sm_time.specs.Calendar.{Date, IsDate, days_in_month}
 use Rattle.sm_time.specs.Civil.{IsCivil, date_in}
-use Rattle.sm_time.specs.TimeText.{Form, clock_form, gmt_form, seconds_form, IsStampForm, IsIntDigits, IsLetter, IsZone, IsWholeMillis, IsStamp, Zone, zulu, small_zulu, ahead, behind}
+use Rattle.sm_time.specs.TimeText.{Form, clock_form, gmt_form, seconds_form, IsStampForm, IsIntDigits, IsLetter, IsZone, IsWholeMillis}
+use Rattle.sm_time.specs.TimeText.{IsStamp, Zone, zulu, small_zulu, ahead, behind}
 use Rattle.sm_time.proofs.DigitFacts.{digit_small}
 use Rattle.sm_time.specs.StampTexts.{is_stamp, is_date, is_civil, is_zone, are_digits, is_int, is_form, is_whole_millis}
 

@@ -5,7 +5,8 @@ use Rattle.std.specs.Str.{bytes_eq}
 use Rattle.std.proofs.lemmas.Slice.Eq.{bytes_eq-Decides}
 use Rattle.sm_time.specs.declared.format.Format.{Format}
 use Rattle.sm_time.specs.declared.format.Format.TheVariants.{DateTime, HttpDate, EpochSeconds}
-use Rattle.sm_time.specs.TimeText.{Form, clock_form, gmt_form, seconds_form, form_text, digits_of, moment, IsStampForm, Shows, TimeText, IsWholeMillis, IsStamp}
+use Rattle.sm_time.specs.TimeText.{Form, clock_form, gmt_form, seconds_form, form_text, digits_of, moment, IsStampForm, Shows, TimeText}
+use Rattle.sm_time.specs.TimeText.{IsWholeMillis, IsStamp}
 use Rattle.sm_time.specs.Written.{written_stamp, IsWritable}
 use Rattle.sm_time.proofs.OneReading.{one_reading}
 use Rattle.sm_time.proofs.WrittenTexts.{written_is_text}

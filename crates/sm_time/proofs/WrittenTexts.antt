@@ -1,5 +1,6 @@
 -- What is written for a stamp is a text of it.
-use Rattle.std.proofs.Common.{◌≡◌, inl, inr, ℕ, zero, suc, ◌+◌, ◌*◌, ◌/◌, ◌%◌, ◌^◌, ◌<◌, ◌≤◌, Bool, true, false, List, [], length, take, refl, sym, ap, subst, ◌∙◌, arith, ℤ, pos, negsuc, ◌≤ℤ◌, ◌+ℤ◌, ◌-ℤ◌, unsigned_abs, neg_ℤ}
+use Rattle.std.proofs.Common.{◌≡◌, inl, inr, ℕ, zero, suc, ◌+◌, ◌*◌, ◌/◌, ◌%◌, ◌^◌, ◌<◌, ◌≤◌, Bool, true, false, List, [], length, take}
+use Rattle.std.proofs.Common.{refl, sym, ap, subst, ◌∙◌, arith, ℤ, pos, negsuc, ◌≤ℤ◌, ◌+ℤ◌, ◌-ℤ◌, unsigned_abs, neg_ℤ}
 use Rattle.std.proofs.lemmas.Int.{ints}
 use Rattle.std.proofs.lemmas.Bool.{cases_lt}
 use Rattle.std.proofs.lemmas.Bool.Decides.{nat_tests}
@@ -13,7 +14,8 @@ use Rattle.sm_time.specs.declared.format.Format.{Format}
 use Rattle.sm_time.specs.declared.format.Format.TheVariants.{DateTime, HttpDate, EpochSeconds}
 use Rattle.sm_time.specs.Calendar.{date_of}
 use Rattle.sm_time.specs.Civil.{civil_of}
-use Rattle.sm_time.specs.TimeText.{zulu, clock_form, gmt_form, seconds_form, TimeText, IsWholeMillis, IsStamp, IsIntDigits, thousandths, from_1970}
+use Rattle.sm_time.specs.TimeText.{zulu, clock_form, gmt_form, seconds_form, TimeText, IsWholeMillis, IsStamp, IsIntDigits, thousandths}
+use Rattle.sm_time.specs.TimeText.{from_1970}
 use Rattle.sm_time.specs.Written.{since_year_0, three_digits, fixed_digits, short_digits, written_stamp, IsWritable}
 use Rattle.sm_time.proofs.CalendarFacts.{before_year, days_of_date}
 use Rattle.sm_time.proofs.CalendarLinks.{days_before_1970}

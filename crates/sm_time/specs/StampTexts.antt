@@ -1,6 +1,7 @@
 -- The stamp of a text in each format, as a function: the form that a text shows, if it shows any, is told by its bytes, so a form is
 -- supposed and its text compared. A law ties it to the texts of stamps.
-use Rattle.std.specs.Prelude.{ℕ, ◌+◌, ◌-◌, ◌*◌, nat_lt, nat_le, ◌==◌, ℤ, pos, neg_ℤ, int_le, Bool, true, false, not, ◌&&◌, ◌||◌, cond, List, [], ◌∷◌, take, drop, slice_index_or, codes, Option, Some, None, if◌then◌else◌}
+use Rattle.std.specs.Prelude.{ℕ, ◌+◌, ◌-◌, ◌*◌, nat_lt, nat_le, ◌==◌, ℤ, pos, neg_ℤ, int_le, Bool, true, false, not, ◌&&◌, ◌||◌, cond}
+use Rattle.std.specs.Prelude.{List, [], ◌∷◌, take, drop, slice_index_or, codes, Option, Some, None, if◌then◌else◌}
 use Rattle.std.specs.Char.{is_ascii_digit}
 use Rattle.std.specs.List.{list_all, position_or_len, prefix_len}
 use Rattle.std.specs.Str.{bytes_eq}
@@ -10,7 +11,8 @@ use Rattle.sm_time.specs.declared.format.Format.TheVariants.{DateTime, HttpDate,
 use Rattle.sm_time.specs.declared.civil.Civil.{Civil}
 use Rattle.sm_time.specs.Calendar.{Date, days_in_month}
 use Rattle.sm_time.specs.Civil.{date_in, month_name}
-use Rattle.sm_time.specs.TimeText.{Form, clock_form, gmt_form, seconds_form, form_text, digits_of, moment, Zone, zulu, small_zulu, ahead, behind, TimeText}
+use Rattle.sm_time.specs.TimeText.{Form, clock_form, gmt_form, seconds_form, form_text, digits_of, moment, Zone, zulu, small_zulu, ahead}
+use Rattle.sm_time.specs.TimeText.{behind, TimeText}
 
 -- the milliseconds of a stamp: of the years 0000 to 9999
 abbrev pub is_stamp : ℤ → Bool

@@ -1,7 +1,8 @@
 -- Which texts are of which stamp, in Smithy's three formats (Smithy 2.0, "timestampFormat trait"): `date-time`
 -- is RFC 3339, section 5.6, `http-date` IMF-fixdate alone of RFC 9110, section 5.6.7, and `epoch-seconds` a
 -- number of RFC 8259, section 6, without an exponent.
-use Rattle.std.specs.Prelude.{◌≡◌, ◌⊎◌, ℕ, ◌+◌, ◌*◌, ◌<◌, ◌≤◌, Bool, List, [], ◌∷◌, ◌++◌, length, slice_index, All, take, drop, codes, if◌then◌else◌, ℤ, pos, neg_ℤ, ◌+ℤ◌, ◌-ℤ◌, ◌≤ℤ◌}
+use Rattle.std.specs.Prelude.{◌≡◌, ◌⊎◌, ℕ, ◌+◌, ◌*◌, ◌<◌, ◌≤◌, Bool, List, [], ◌∷◌, ◌++◌, length, slice_index, All, take, drop, codes}
+use Rattle.std.specs.Prelude.{if◌then◌else◌, ℤ, pos, neg_ℤ, ◌+ℤ◌, ◌-ℤ◌, ◌≤ℤ◌}
 use Rattle.std.specs.Str.Parse.{AllDigits, IsNumeral, digits_value}
 use Rattle.sm_bytes.specs.Ascii.{full_stop, digit_zero, capital_t, small_t}
 use Rattle.sm_time.specs.declared.format.Format.{Format}

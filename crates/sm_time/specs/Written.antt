@@ -1,6 +1,7 @@
 -- The one text that is written for a stamp in each format. `date-time` is in UTC, with three digits of a
 -- fraction where the milliseconds aren't 0; `epoch-seconds` has no trailing zeros.
-use Rattle.std.specs.Prelude.{◌≡◌, ℕ, ◌+◌, ◌/◌, ◌%◌, Bool, true, false, ◌==◌, List, [], ◌∷◌, take, if◌then◌else◌, ℤ, pos, negsuc, ◌+ℤ◌, ◌≤ℤ◌, unsigned_abs}
+use Rattle.std.specs.Prelude.{◌≡◌, ℕ, ◌+◌, ◌/◌, ◌%◌, Bool, true, false, ◌==◌, List, [], ◌∷◌, take, if◌then◌else◌, ℤ, pos, negsuc, ◌+ℤ◌}
+use Rattle.std.specs.Prelude.{◌≤ℤ◌, unsigned_abs}
 use Rattle.std.specs.Fmt.{decimal}
 use Rattle.sm_bytes.specs.Ascii.{digit_zero, capital_t}
 use Rattle.sm_time.specs.declared.format.Format.{Format}

@@ -1,5 +1,6 @@
 // The format epoch-seconds (a number of RFC 8259, section 6, without an exponent), read and written.
-ghost use Rattle.std.specs.Prelude.{◌≡◌, ◌≢◌, ℕ, ◌^◌, ◌-◌, ◌/◌, ◌%◌, ◌<◌, ◌++◌, [], min, take, drop, length, slice_index, false, IsTrue, ◌↔◌, ◌+◌, ◌≤◌, pos, neg_ℤ, MatchOption, if◌then◌else◌, codes};
+ghost use Rattle.std.specs.Prelude.{◌≡◌, ◌≢◌, ℕ, ◌^◌, ◌-◌, ◌/◌, ◌%◌, ◌<◌, ◌++◌, [], min, take, drop, length, slice_index, false, IsTrue};
+ghost use Rattle.std.specs.Prelude.{◌↔◌, ◌+◌, ◌≤◌, pos, neg_ℤ, MatchOption, if◌then◌else◌, codes};
 ghost use Rattle.std.specs.Str.Parse.{AllDigits, digits_value};
 ghost use Rattle.sm_time.specs.declared.format.Format.TheVariants.{EpochSeconds};
 ghost use Rattle.sm_time.specs.TimeText.{Form, seconds_form, Shows, IsIntDigits, fraction_text};

@@ -1,8 +1,14 @@
 -- What comes next in a stream is what a builder that took the events before awaits.
-use Rattle.std.proofs.Common.{◌≡◌, ◌⊎◌, inl, inr, ℕ, true, List, [], ◌∷◌, ◌++◌, refl, ap, sym, ◌∙◌, append_assoc, subst, None, append-nil, false}
-use Rattle.sm_tree.specs.Node.{Node, Nodes, Members, null, bool, int, number, text, bytes, tag, opaque, list, object, no_nodes, node, no_members, member}
-use Rattle.sm_tree.specs.Events.{NodeEvent, null_event, bool_event, int_event, number_event, text_event, bytes_event, tag_event, opaque_event, start_list, end_list, start_object, key_event, end_object, events, entries_events, pairs_events}
-use Rattle.sm_tree.specs.Building.{Inner, in_list, in_object, in_pair, Around, around_list, around_object, Building, nothing, whole, within, tag_events, each_events, each_pair_events, inner_events, around_events, outer_events, so_far, kinds, awaits_value, is_tagged}
+use Rattle.std.proofs.Common.{◌≡◌, ◌⊎◌, inl, inr, ℕ, true, List, [], ◌∷◌, ◌++◌, refl, ap, sym, ◌∙◌, append_assoc, subst, None, append-nil}
+use Rattle.std.proofs.Common.{false}
+use Rattle.sm_tree.specs.Node.{Node, Nodes, Members, null, bool, int, number, text, bytes, tag, opaque, list, object, no_nodes, node}
+use Rattle.sm_tree.specs.Node.{no_members, member}
+use Rattle.sm_tree.specs.Events.{NodeEvent, null_event, bool_event, int_event, number_event, text_event, bytes_event, tag_event}
+use Rattle.sm_tree.specs.Events.{opaque_event, start_list, end_list, start_object, key_event, end_object, events, entries_events}
+use Rattle.sm_tree.specs.Events.{pairs_events}
+use Rattle.sm_tree.specs.Building.{Inner, in_list, in_object, in_pair, Around, around_list, around_object, Building, nothing, whole}
+use Rattle.sm_tree.specs.Building.{within, tag_events, each_events, each_pair_events, inner_events, around_events, outer_events, so_far}
+use Rattle.sm_tree.specs.Building.{kinds, awaits_value, is_tagged}
 use Rattle.sm_tree.specs.steps.BuilderSteps.{Awaits}
 use Rattle.sm_tree.specs.Streams.{Streams, MayTake, TakesOn, unnumbered_event, unnumbered}
 use Rattle.sm_tree.proofs.Streams.{unnumbered_append, stream_events}

@@ -1,8 +1,12 @@
 -- What each call of a builder adds to the events that it has taken, over the data of Building alone.
 use Rattle.std.proofs.Common.{◌≡◌, ℕ, true, false, List, [], ◌∷◌, ◌++◌, refl, ap, sym, ◌∙◌, append_assoc, append-nil, None}
 use Rattle.sm_tree.specs.Node.{Node, tag, nodes_of, members_of}
-use Rattle.sm_tree.specs.Events.{NodeEvent, start_list, start_object, end_list, end_object, key_event, tag_event, events, entries_events, pairs_events}
-use Rattle.sm_tree.specs.Building.{Inner, in_list, in_object, in_pair, Around, around_list, around_object, Building, nothing, whole, within, tagged, tag_events, each_events, each_pair_events, inner_events, around_events, outer_events, so_far, inner_kind, kinds, inner_awaits, awaits_value, is_tagged, inner_awaits_content, awaits_content, IsIn}
+use Rattle.sm_tree.specs.Events.{NodeEvent, start_list, start_object, end_list, end_object, key_event, tag_event, events, entries_events}
+use Rattle.sm_tree.specs.Events.{pairs_events}
+use Rattle.sm_tree.specs.Building.{Inner, in_list, in_object, in_pair, Around, around_list, around_object, Building, nothing, whole}
+use Rattle.sm_tree.specs.Building.{within, tagged, tag_events, each_events, each_pair_events, inner_events, around_events, outer_events}
+use Rattle.sm_tree.specs.Building.{so_far, inner_kind, kinds, inner_awaits, awaits_value, is_tagged, inner_awaits_content, awaits_content}
+use Rattle.sm_tree.specs.Building.{IsIn}
 use Rattle.sm_tree.specs.steps.BuilderSteps.{with_tree, with_tag, ended, back_inside, after_value, after_tag, after_end}
 use Rattle.sm_tree.specs.declared.build.OpenKind.{OpenKind}
 use Rattle.sm_tree.specs.declared.build.OpenKind.TheVariants.{List as a_list, Object as an_object}

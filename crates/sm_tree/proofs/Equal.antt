@@ -1,12 +1,14 @@
 -- What `==` of trees says: that they stand for one node.
-use Rattle.std.proofs.Common.{◌≡◌, ℕ, zero, suc, ℤ, true≢false, ◌+◌, ◌<◌, Bool, true, false, ◌&&◌, List, [], ◌∷◌, Box, Global, IsTrue, ◌↔◌, refl, sym, ap, ◌∙◌, subst, arith, rules}
+use Rattle.std.proofs.Common.{◌≡◌, ℕ, zero, suc, ℤ, true≢false, ◌+◌, ◌<◌, Bool, true, false, ◌&&◌, List, [], ◌∷◌, Box, Global, IsTrue}
+use Rattle.std.proofs.Common.{◌↔◌, refl, sym, ap, ◌∙◌, subst, arith, rules}
 use Rattle.std.specs.Prelude.{Decides}
 use Rattle.std.specs.Cmp.{booleans_Decides, unsigned_Decides, signed_Decides}
 use Rattle.std.specs.Cmp.Lexicographic.{pointwise}
 use Rattle.std.proofs.lemmas.Bool.{and_from, and_parts}
 use Rattle.std.proofs.lemmas.Slice.Eq.{slice_eq-Decides}
 use Rattle.std.specs.Prelude.{nat_eq}
-use Rattle.sm_tree.specs.Node.{Node, Nodes, Members, null, bool, int, number, text, bytes, tag, opaque, list, object, no_nodes, node, no_members, member, nodes_of, members_of}
+use Rattle.sm_tree.specs.Node.{Node, Nodes, Members, null, bool, int, number, text, bytes, tag, opaque, list, object, no_nodes, node}
+use Rattle.sm_tree.specs.Node.{no_members, member, nodes_of, members_of}
 use Rattle.sm_tree.specs.View.{node_of, nodes_view, members_view}
 use Rattle.sm_tree.specs.steps.Weight.{weight, nodes_weight, members_weight}
 use Rattle.sm_tree.specs.declared.tree.Tree.{Tree, out-Tree, roll-out-Tree, out-roll-Tree, the_lemmas}

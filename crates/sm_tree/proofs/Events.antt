@@ -1,7 +1,8 @@
 -- Laws of the events of trees: what follows a tree's events stands behind them, and the events of two
 -- trees are the same only where the trees are. The proofs of readers cite them.
 use Rattle.std.proofs.Common.{◌≡◌, List, [], ◌∷◌, ◌++◌, refl, ap, sym, ◌∙◌, append_assoc, None}
-use Rattle.sm_tree.specs.Node.{Node, Nodes, Members, null, bool, int, number, text, bytes, tag, opaque, list, object, no_nodes, node, no_members, member}
+use Rattle.sm_tree.specs.Node.{Node, Nodes, Members, null, bool, int, number, text, bytes, tag, opaque, list, object, no_nodes, node}
+use Rattle.sm_tree.specs.Node.{no_members, member}
 use Rattle.sm_tree.specs.Events.{NodeEvent, tag_event, end_list, start_list, start_object, key_event, events, entries_events, pairs_events}
 
 mutual

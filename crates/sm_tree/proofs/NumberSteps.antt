@@ -7,7 +7,8 @@ use Rattle.sm_tree.specs.Numbers.{IsDigit, AreDigits, IsMinus, IsInt, IsDigits, 
 use Rattle.sm_tree.specs.NumberTail.{IsExponentMark, IsNumberByte, Then, NumberTail, NumberLeads, NumberStops, IsNextPhase}
 use Rattle.sm_tree.specs.steps.NumberBytes.{is_digit}
 use Rattle.sm_tree.specs.declared.number.Phase.{Phase}
-use Rattle.sm_tree.specs.declared.number.Phase.TheVariants.{Start, Minus, Zero, Whole, Point, Fraction, Exponent, ExponentSign, ExponentDigits}
+use Rattle.sm_tree.specs.declared.number.Phase.TheVariants.{Start, Minus, Zero, Whole, Point, Fraction, Exponent, ExponentSign}
+use Rattle.sm_tree.specs.declared.number.Phase.TheVariants.{ExponentDigits}
 use Rattle.sm_tree.proofs.NumberRuns.{digits_lead}
 use Rattle.sm_tree.proofs.NumberParts.{then_split, then_none, then_more, then_first, then_rest, minus_then, then_minus, no_int, no_digits}
 use Rattle.sm_tree.proofs.NumberParts.{digits_begin, digits_more, int_begins, fraction_begins, exponent_begins, exponent_more, sign_begins}

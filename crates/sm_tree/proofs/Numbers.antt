@@ -1,5 +1,6 @@
 -- Laws of number texts (RFC 8259, section 6): each stands for one tree, and what bytes it has.
-use Rattle.std.proofs.Common.{◌≡◌, ℕ, ◌^◌, ◌≤◌, ◌<◌, ◌⊎◌, inl, inr, ℤ, true, false, List, [], ◌∷◌, ◌++◌, length, take, refl, sym, ap, subst, ◌∙◌, arith}
+use Rattle.std.proofs.Common.{◌≡◌, ℕ, ◌^◌, ◌≤◌, ◌<◌, ◌⊎◌, inl, inr, ℤ, true, false, List, [], ◌∷◌, ◌++◌, length, take, refl, sym, ap}
+use Rattle.std.proofs.Common.{subst, ◌∙◌, arith}
 use Rattle.std.specs.Prelude.{IsUtf8}
 use Rattle.std.specs.List.{All}
 use Rattle.std.proofs.lemmas.List.{append-nil, take_all}
@@ -18,7 +19,8 @@ use Rattle.sm_tree.specs.Numbers.{AreDigits, IsMinus, IsInt, IsFraction, IsExpon
 use Rattle.sm_tree.specs.NumberTail.{IsNumberByte, AreNumberBytes, Then, NumberTail, NumberLeads}
 use Rattle.sm_tree.specs.steps.NumberBytes.{IsNumberStart}
 use Rattle.sm_tree.specs.declared.number.Phase.{Phase}
-use Rattle.sm_tree.specs.declared.number.Phase.TheVariants.{Start, Minus, Zero, Whole, Point, Fraction, Exponent, ExponentSign, ExponentDigits}
+use Rattle.sm_tree.specs.declared.number.Phase.TheVariants.{Start, Minus, Zero, Whole, Point, Fraction, Exponent, ExponentSign}
+use Rattle.sm_tree.specs.declared.number.Phase.TheVariants.{ExponentDigits}
 use Rattle.sm_tree.proofs.NumberParts.{then_none}
 use Rattle.sm_tree.proofs.NumberSteps.{goes_on, comes_from, next_byte}
 

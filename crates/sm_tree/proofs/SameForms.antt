@@ -1,5 +1,6 @@
 -- Two nodes have one canonical form exactly where they are the same.
-use Rattle.std.proofs.Common.{◌≡◌, ◌⊎◌, inl, inr, ℕ, ℤ, Bool, true, false, nat_eq, List, [], ◌∷◌, ◌++◌, refl, sym, ap, subst, ◌∙◌, append_assoc}
+use Rattle.std.proofs.Common.{◌≡◌, ◌⊎◌, inl, inr, ℕ, ℤ, Bool, true, false, nat_eq, List, [], ◌∷◌, ◌++◌, refl, sym, ap, subst, ◌∙◌}
+use Rattle.std.proofs.Common.{append_assoc}
 use Rattle.std.specs.Prelude.{pos, negsuc, IsTrue, ◌↔◌}
 use Rattle.std.specs.Ordering.{int_cmp, nat_cmp, eq_by_cmp, is_eq}
 use Rattle.std.specs.Cmp.Lexicographic.{slice_cmp}
@@ -7,9 +8,11 @@ use Rattle.std.specs.BTreeSet.{insert_key}
 use Rattle.std.proofs.lemmas.Cmp.{tied_itself}
 use Rattle.std.proofs.lemmas.Map.Views.{tells_apart}
 use Rattle.std.proofs.lemmas.Map.Lookups.{CmpEqualImpliesEq, exact_pairs, exact_signed, exact_bytes}
-use Rattle.sm_tree.specs.Node.{Node, Nodes, Members, null, bool, int, number, text, bytes, tag, opaque, list, object, no_nodes, node, no_members, member}
+use Rattle.sm_tree.specs.Node.{Node, Nodes, Members, null, bool, int, number, text, bytes, tag, opaque, list, object, no_nodes, node}
+use Rattle.sm_tree.specs.Node.{no_members, member}
 use Rattle.sm_tree.specs.Same.{HasPair, Same, SameEntries, AllIn, HasSamePair}
-use Rattle.sm_tree.specs.steps.Canonical.{Word, word_cmp, form_cmp, tag_word, list_word, object_word, end_word, bit, name_word, joined, form, entries_form, pair_forms, pair_form}
+use Rattle.sm_tree.specs.steps.Canonical.{Word, word_cmp, form_cmp, tag_word, list_word, object_word, end_word, bit, name_word, joined}
+use Rattle.sm_tree.specs.steps.Canonical.{form, entries_form, pair_forms, pair_form}
 use Rattle.sm_tree.specs.steps.FormOrder.{form_total}
 use Rattle.sm_tree.proofs.Sameness.{reflexive}
 use Rattle.sm_tree.proofs.SameOrder.{clash, Has, Ascends, ascends_in, has_new, has_kept, has_from, one_list, exact_lists}

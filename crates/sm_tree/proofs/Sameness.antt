@@ -1,6 +1,7 @@
 -- That Same is reflexive, symmetric and transitive, and that a name stands for one value.
 use Rattle.std.proofs.Common.{◌≡◌, inl, inr, ℕ, List, refl, subst, sym, ◌∙◌}
-use Rattle.sm_tree.specs.Node.{Node, Nodes, Members, null, bool, int, number, text, bytes, tag, opaque, list, object, no_nodes, node, no_members, member}
+use Rattle.sm_tree.specs.Node.{Node, Nodes, Members, null, bool, int, number, text, bytes, tag, opaque, list, object, no_nodes, node}
+use Rattle.sm_tree.specs.Node.{no_members, member}
 use Rattle.sm_tree.specs.Same.{HasPair, HasName, AreDistinct, Same, SameEntries, AllIn, HasSamePair, OneValueAName}
 
 -- more pairs on the left

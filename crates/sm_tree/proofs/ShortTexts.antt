@@ -1,5 +1,6 @@
 -- Bytes that are looked at one after the other, of which those of a text are to be ASCII.
-use Rattle.std.proofs.Common.{◌≡◌, ℕ, ◌+◌, ◌<◌, ◌≤◌, ◌↔◌, Bool, true, ◌&&◌, ◌||◌, inl, inr, IsTrue, IsAscii, IsUtf8, nat_lt, nat_le, List, slice_index, length, take, subst, sym, ap, ◌∙◌, arith, lit<}
+use Rattle.std.proofs.Common.{◌≡◌, ℕ, ◌+◌, ◌<◌, ◌≤◌, ◌↔◌, Bool, true, ◌&&◌, ◌||◌, inl, inr, IsTrue, IsAscii, IsUtf8, nat_lt, nat_le, List}
+use Rattle.std.proofs.Common.{slice_index, length, take, subst, sym, ap, ◌∙◌, arith, lit<}
 use Rattle.std.proofs.lemmas.Bool.{and_parts, and_from, or_cases, or_left, or_right, ltb-true, leb-true, lt-ltb, le-leb, cases_lt}
 use Rattle.std.proofs.lemmas.Str.{IsUtf8-from_ascii}
 use Rattle.std.proofs.lemmas.List.{get_or-take, get_or_past, length-take-le, take-take}

@@ -2,10 +2,12 @@
 -- that took the events before awaits.
 use Rattle.sm_tree.proofs.Events.{events_injective}
 use Rattle.std.proofs.Common.{sym, ◌≡◌, List, [], ◌∷◌, ◌++◌, refl, ap, ◌∙◌, Some, None}
-use Rattle.sm_tree.specs.Node.{Node, Nodes, Members, null, bool, int, number, text, bytes, tag, opaque, list, object, no_nodes, node, no_members, member}
+use Rattle.sm_tree.specs.Node.{Node, Nodes, Members, null, bool, int, number, text, bytes, tag, opaque, list, object, no_nodes, node}
+use Rattle.sm_tree.specs.Node.{no_members, member}
 use Rattle.sm_tree.specs.Events.{NodeEvent, tag_event, start_list, start_object, key_event, events, entries_events, pairs_events}
 use Rattle.sm_tree.specs.EventLaws.{HasStreams}
-use Rattle.sm_tree.specs.Streams.{Streams, EntriesStream, PairsStream, unnumbered_event, unnumbered, entry_count, pair_count, numbered, numbered_entries, numbered_pairs}
+use Rattle.sm_tree.specs.Streams.{Streams, EntriesStream, PairsStream, unnumbered_event, unnumbered, entry_count, pair_count, numbered}
+use Rattle.sm_tree.specs.Streams.{numbered_entries, numbered_pairs}
 
 pub unnumbered_append : (es fs : List NodeEvent) → unnumbered (es ++ fs) ≡ unnumbered es ++ unnumbered fs
 unnumbered_append [] fs = refl

@@ -6,7 +6,8 @@ use Rattle.sm_tree.specs.declared.tree.Tree.{Tree}
 use Rattle.sm_tree.specs.declared.tree.Items.{Items}
 use Rattle.sm_tree.specs.declared.tree.Pairs.{Pairs}
 use Rattle.sm_tree.specs.declared.tree.Tree.{the_lemmas}
-use Rattle.sm_tree.specs.declared.tree.Tree.TheVariants.{Null, Bool as Boolean, Int, Number, Text, Bytes, Tag, Opaque, List as Array, rolls-List, Object, rolls-Object}
+use Rattle.sm_tree.specs.declared.tree.Tree.TheVariants.{Null, Bool as Boolean, Int, Number, Text, Bytes, Tag, Opaque, List as Array}
+use Rattle.sm_tree.specs.declared.tree.Tree.TheVariants.{rolls-List, Object, rolls-Object}
 use Rattle.sm_tree.specs.declared.tree.Tree.TheOpen.{Tree-F}
 use Rattle.sm_tree.specs.declared.tree.Tree.TheViews.{roll-Tree}
 use Rattle.sm_tree.specs.declared.tree.Tree.TheFolds.{fold-roll-Tree, fold-roll-Items, fold-roll-Pairs}

@@ -1,7 +1,9 @@
 -- What an event of the code stands for. Every contract that speaks of one cites it.
-use Rattle.sm_tree.specs.Events.{NodeEvent, null_event, bool_event, int_event, number_event, text_event, bytes_event, tag_event, opaque_event, start_list, end_list, start_object, key_event, end_object}
+use Rattle.sm_tree.specs.Events.{NodeEvent, null_event, bool_event, int_event, number_event, text_event, bytes_event, tag_event}
+use Rattle.sm_tree.specs.Events.{opaque_event, start_list, end_list, start_object, key_event, end_object}
 use Rattle.sm_tree.specs.declared.event.Event.{Event}
-use Rattle.sm_tree.specs.declared.event.Event.TheVariants.{Null, Bool, Int, Number, Text, Bytes, Tag, Opaque, StartList, EndList, StartObject, Key, EndObject}
+use Rattle.sm_tree.specs.declared.event.Event.TheVariants.{Null, Bool, Int, Number, Text, Bytes, Tag, Opaque, StartList, EndList}
+use Rattle.sm_tree.specs.declared.event.Event.TheVariants.{StartObject, Key, EndObject}
 
 abbrev pub event_of : Event → NodeEvent
 event_of Null = null_event

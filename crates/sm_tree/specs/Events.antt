@@ -2,7 +2,8 @@
 -- on, and what builds trees takes them. An opener may tell the number of entries or pairs that follow; of
 -- the streams of one tree, `events` is the one whose openers tell none.
 use Rattle.std.specs.Prelude.{ℕ, ℤ, Bool, List, ◌∷◌, Option, None}
-use Rattle.sm_tree.specs.Node.{Node, Nodes, Members, null, bool, int, number, text, bytes, tag, opaque, list, object, no_nodes, node, no_members, member}
+use Rattle.sm_tree.specs.Node.{Node, Nodes, Members, null, bool, int, number, text, bytes, tag, opaque, list, object, no_nodes, node}
+use Rattle.sm_tree.specs.Node.{no_members, member}
 
 pub data NodeEvent : Type 0 where
   null_event : NodeEvent

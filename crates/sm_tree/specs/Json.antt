@@ -2,7 +2,8 @@
 -- opaque leaves, which aren't written.
 use Rattle.std.specs.Prelude.{ℕ, ◌<◌, ◌^◌, IsUtf8, FitsSigned, List, [], ◌∷◌}
 use Rattle.std.specs.Int.{w64}
-use Rattle.sm_tree.specs.Node.{Node, Nodes, Members, null, bool, int, number, text, bytes, tag, opaque, list, object, no_nodes, node, no_members, member}
+use Rattle.sm_tree.specs.Node.{Node, Nodes, Members, null, bool, int, number, text, bytes, tag, opaque, list, object, no_nodes, node}
+use Rattle.sm_tree.specs.Node.{no_members, member}
 use Rattle.sm_tree.specs.Numbers.{NumberText}
 
 abbrev mutual

@@ -1,6 +1,7 @@
 -- How deep a tree nests: lists, objects and tags are levels, also empty ones.
 use Rattle.std.specs.Prelude.{ℕ, ◌+◌, max}
-use Rattle.sm_tree.specs.Node.{Node, Nodes, Members, null, bool, int, number, text, bytes, tag, opaque, list, object, no_nodes, node, no_members, member}
+use Rattle.sm_tree.specs.Node.{Node, Nodes, Members, null, bool, int, number, text, bytes, tag, opaque, list, object, no_nodes, node}
+use Rattle.sm_tree.specs.Node.{no_members, member}
 
 abbrev mutual
   -- the greatest number of levels that are open at one place of the tree

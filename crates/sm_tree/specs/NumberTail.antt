@@ -3,7 +3,8 @@ use Rattle.std.specs.Prelude.{◌≡◌, ℕ, ◌⊎◌, List, [], ◌∷◌, �
 use Rattle.sm_bytes.specs.Ascii.{plus, minus, full_stop, capital_e, small_e}
 use Rattle.sm_tree.specs.Numbers.{IsDigit, AreDigits, IsInt, IsDigits, IsFraction, IsSign, IsExponent, IsNumber}
 use Rattle.sm_tree.specs.declared.number.Phase.{Phase}
-use Rattle.sm_tree.specs.declared.number.Phase.TheVariants.{Start, Minus, Zero, Whole, Point, Fraction, Exponent, ExponentSign, ExponentDigits}
+use Rattle.sm_tree.specs.declared.number.Phase.TheVariants.{Start, Minus, Zero, Whole, Point, Fraction, Exponent, ExponentSign}
+use Rattle.sm_tree.specs.declared.number.Phase.TheVariants.{ExponentDigits}
 
 -- the letter of an exponent, `e` or `E`
 abbrev pub IsExponentMark : ℕ → Type 0

@@ -1,7 +1,8 @@
 -- Nodes: trees of JSON in whose objects no name repeats. And when two are equal: objects are equal as sets
 -- of pairs, and all else part by part.
 use Rattle.std.specs.Prelude.{◌≡◌, ◌⊎◌, ℕ, List}
-use Rattle.sm_tree.specs.Node.{Node, Nodes, Members, null, bool, int, number, text, bytes, tag, opaque, list, object, no_nodes, node, no_members, member}
+use Rattle.sm_tree.specs.Node.{Node, Nodes, Members, null, bool, int, number, text, bytes, tag, opaque, list, object, no_nodes, node}
+use Rattle.sm_tree.specs.Node.{no_members, member}
 use Rattle.sm_tree.specs.Json.{IsJson}
 
 -- this name with this value is a pair of the object

@@ -1,12 +1,14 @@
 -- What the reader makes of a head, in words of its own. Its private methods cite it.
-use Rattle.std.specs.Prelude.{◌≡◌, ◌≢◌, ℕ, zero, suc, ◌+◌, ◌/◌, ◌%◌, ◌<◌, ◌≤◌, ◌⊎◌, ◌^◌, nat_lt, if◌then◌else◌, ℤ, true, false, Option, None, Some, List, [], length, take, drop, slice_index, IsUtf8}
+use Rattle.std.specs.Prelude.{◌≡◌, ◌≢◌, ℕ, zero, suc, ◌+◌, ◌/◌, ◌%◌, ◌<◌, ◌≤◌, ◌⊎◌, ◌^◌, nat_lt, if◌then◌else◌, ℤ, true, false, Option}
+use Rattle.std.specs.Prelude.{None, Some, List, [], length, take, drop, slice_index, IsUtf8}
 use Rattle.std.specs.Fmt.{signed_decimal}
 use Rattle.sm_tree.specs.Json.{AreBytes}
 use Rattle.sm_tree.specs.Node.{Node, int, number}
 use Rattle.sm_tree.specs.Events.{NodeEvent, int_event, number_event}
 use Rattle.sm_bytes.specs.declared.utf8.Utf8.{Utf8}
 use Rattle.sm_bytes.specs.Utf8 as utf8
-use Rattle.sm_cbor.specs.Heads.{Number, HasWidth, unsigned_type, negative_type, bytes_type, text_type, array_type, map_type, tag_type, simple_type}
+use Rattle.sm_cbor.specs.Heads.{Number, HasWidth, unsigned_type, negative_type, bytes_type, text_type, array_type, map_type, tag_type}
+use Rattle.sm_cbor.specs.Heads.{simple_type}
 use Rattle.sm_cbor.specs.declared.place.StringKind.{StringKind}
 use Rattle.sm_cbor.specs.declared.place.StringKind.TheVariants.{Bytes, Text, Key}
 use Rattle.sm_cbor.specs.declared.place.Span.TheVariants.{Whole, Chunk}

@@ -32,7 +32,8 @@ fn characters(utf8: Utf8, bytes: &[u8]) -> usize
 }
 
 impl Reader {
-    ghost use Rattle.sm_cbor.specs.steps.Machine.{IsAt, IsSoundReader, CborGoes, CborTakesByte, CborTakesPrefix, RunFits, IsBytesPlace, IsTextPlace, cbor_state_at, cbor_state_of};
+    ghost use Rattle.sm_cbor.specs.steps.Machine.{IsAt, IsSoundReader, CborGoes, CborTakesByte, CborTakesPrefix, RunFits, IsBytesPlace};
+    ghost use Rattle.sm_cbor.specs.steps.Machine.{IsTextPlace, cbor_state_at, cbor_state_of};
     ghost use Rattle.sm_cbor.specs.steps.Sinks.{Reached};
     ghost use Rattle.sm_tree.specs.Streams.{TakesEvery, TakesSame};
     ghost use Rattle.sm_tree.specs.ReaderClauses.{TakesStill};

@@ -7,7 +7,8 @@ use Rattle.sm_model.specs.Relations.{HasEntry, IsInGraph, SaysRelated, SaysInBod
 use Rattle.sm_model.specs.declared.kind.Kind.{Kind}
 use Rattle.sm_model.specs.declared.kind.Kind.TheVariants as model
 use Rattle.sm_model.specs.declared.relation.Relation.{Relation}
-use Rattle.sm_model.specs.declared.relation.Relation.TheVariants.{Member, Container, Target, Input, Output, Error, Operation, Resource, Identifier, Property}
+use Rattle.sm_model.specs.declared.relation.Relation.TheVariants.{Member, Container, Target, Input, Output, Error, Operation, Resource}
+use Rattle.sm_model.specs.declared.relation.Relation.TheVariants.{Identifier, Property}
 use Rattle.sm_compile.specs.Kinds.{has_values, is_text_kind, may_target}
 use Rattle.sm_compile.specs.TraitIds.{error_id}
 use Rattle.sm_compile.specs.TraitRows.{is_kind}

@@ -1,6 +1,7 @@
 -- What a reader stands for, what it keeps, and what its steps do. The contracts of the reader's methods cite
 -- it; that of `read_tree` doesn't.
-use Rattle.std.specs.Prelude.{◌≡◌, ℕ, ◌+◌, ◌≤◌, ◌<◌, Bool, true, false, List, [], ◌∷◌, take, drop, length, ◌⊎◌, Result, Ok, Err, slice_index}
+use Rattle.std.specs.Prelude.{◌≡◌, ℕ, ◌+◌, ◌≤◌, ◌<◌, Bool, true, false, List, [], ◌∷◌, take, drop, length, ◌⊎◌, Result, Ok, Err}
+use Rattle.std.specs.Prelude.{slice_index}
 use Rattle.sm_bytes.specs.Ascii.{small_f, small_n, small_t}
 use Rattle.sm_tree.specs.Node.{Node}
 use Rattle.sm_tree.specs.Syntax.{most_levels}
@@ -22,7 +23,8 @@ use Rattle.sm_json.specs.steps.Nesting.{nesting_of}
 use Rattle.sm_tree.specs.steps.Handing.{TakesAll}
 use Rattle.sm_json.specs.steps.Feeding.{IsPlaced}
 use Rattle.sm_json.specs.steps.StringReading.{string_so_far}
-use Rattle.sm_json.specs.steps.Rest.{Where, value, first_entry, first_key, next_key, colon, after, word, numeral, in_text, JsonState, letters, JsonRest, JsonLeads, JsonGoesOn, JsonStops}
+use Rattle.sm_json.specs.steps.Rest.{Where, value, first_entry, first_key, next_key, colon, after, word, numeral, in_text, JsonState}
+use Rattle.sm_json.specs.steps.Rest.{letters, JsonRest, JsonLeads, JsonGoesOn, JsonStops}
 use Rattle.sm_tree.specs.declared.number.Phase.TheVariants.{Start}
 use Rattle.sm_json.specs.declared.spot.Spot.{Spot}
 use Rattle.sm_json.specs.declared.place.Place.{Place}

@@ -38,7 +38,8 @@ impl Literal {
 }
 
 impl Reader {
-    ghost use Rattle.sm_json.specs.steps.Machine.{JsonIsSound, JsonIsPlaced, JsonTakesByte, Grows, HandsNumber, HandsText, IsNumberEvent, JsonTakesPrefix, text_event_of};
+    ghost use Rattle.sm_json.specs.steps.Machine.{JsonIsSound, JsonIsPlaced, JsonTakesByte, Grows, HandsNumber, HandsText, IsNumberEvent};
+    ghost use Rattle.sm_json.specs.steps.Machine.{JsonTakesPrefix, text_event_of};
     ghost use Rattle.sm_json.specs.steps.StringReading.{string_so_far};
 
     // One more byte of a literal name.

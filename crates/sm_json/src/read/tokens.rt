@@ -28,7 +28,9 @@ fn follows_pair(byte: u8) -> bool
 }
 
 impl Reader {
-    ghost use Rattle.sm_json.specs.steps.Machine.{JsonIsSound, JsonIsPlaced, JsonTakesByte, JsonStepsByte, JsonGoes, JsonBrings, HasClosed, ClosesAt, BeginsString, TakesWhitespace, JsonTakesPrefix, MayFollow, json_state, lists_of, first_letter};
+    ghost use Rattle.sm_json.specs.steps.Machine.{JsonIsSound, JsonIsPlaced, JsonTakesByte, JsonStepsByte, JsonGoes, JsonBrings};
+    ghost use Rattle.sm_json.specs.steps.Machine.{HasClosed, ClosesAt, BeginsString, TakesWhitespace, JsonTakesPrefix, MayFollow};
+    ghost use Rattle.sm_json.specs.steps.Machine.{json_state, lists_of, first_letter};
 
     // A bracket where a value may come.
     fn open_list<E: EventSink>(&mut self, to: &mut E) -> Result<(), SyntaxRefusal>

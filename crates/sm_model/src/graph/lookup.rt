@@ -5,7 +5,8 @@ ghost use Rattle.sm_ids.specs.IdText.{printed};
 ghost use Rattle.sm_ids.specs.View.{id_of};
 ghost use Rattle.sm_tree.specs.View.{node_of, members_view};
 ghost use Rattle.sm_model.specs.Graphs.{traits_in};
-ghost use Rattle.sm_model.specs.GraphView.{AreShapeNumbers, At, HasBodyNode, HasKind, HasMembers, ids, is_member_entry, IsShapeNumber, IsShapeAt, IsMemberAt, Stands, Targets, entries_of, maps_of, target_of};
+ghost use Rattle.sm_model.specs.GraphView.{AreShapeNumbers, At, HasBodyNode, HasKind, HasMembers, ids, is_member_entry, IsShapeNumber};
+ghost use Rattle.sm_model.specs.GraphView.{IsShapeAt, IsMemberAt, Stands, Targets, entries_of, maps_of, target_of};
 
 use super::ordered::value_under;
 use super::{Graph, Row, RowEntry};

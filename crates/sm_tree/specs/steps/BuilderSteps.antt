@@ -1,9 +1,11 @@
 -- What a builder's parts do at an event, by cases on what is open. The private methods of TreeBuilder cite these words;
 -- what the public calls promise is in Building.
 use Rattle.std.specs.Prelude.{◌≡◌, ℕ, true, false, [], ◌∷◌, ◌++◌}
-use Rattle.sm_tree.specs.Events.{NodeEvent, null_event, bool_event, int_event, number_event, text_event, bytes_event, tag_event, opaque_event, start_list, end_list, start_object, key_event, end_object}
+use Rattle.sm_tree.specs.Events.{NodeEvent, null_event, bool_event, int_event, number_event, text_event, bytes_event, tag_event}
+use Rattle.sm_tree.specs.Events.{opaque_event, start_list, end_list, start_object, key_event, end_object}
 use Rattle.sm_tree.specs.Node.{Node, list, object, nodes_of, members_of}
-use Rattle.sm_tree.specs.Building.{Inner, in_list, in_object, in_pair, Around, around_list, around_object, Building, nothing, whole, within, tagged, kinds, awaits_value, awaits_content, IsIn}
+use Rattle.sm_tree.specs.Building.{Inner, in_list, in_object, in_pair, Around, around_list, around_object, Building, nothing, whole}
+use Rattle.sm_tree.specs.Building.{within, tagged, kinds, awaits_value, awaits_content, IsIn}
 use Rattle.sm_tree.specs.declared.build.OpenKind.TheVariants.{List as a_list, Object as an_object}
 
 -- a tree becomes the last entry, or the tree of the name that awaits one, in the tags that have come

@@ -1,7 +1,8 @@
 -- A measure for recursions over trees: each part weighs less than the whole. It isn't the number of nodes: each
 -- entry and each pair adds one of its own.
 use Rattle.std.specs.Prelude.{ℕ, ◌+◌}
-use Rattle.sm_tree.specs.Node.{Node, Nodes, Members, null, bool, int, number, text, bytes, tag, opaque, list, object, no_nodes, node, no_members, member}
+use Rattle.sm_tree.specs.Node.{Node, Nodes, Members, null, bool, int, number, text, bytes, tag, opaque, list, object, no_nodes, node}
+use Rattle.sm_tree.specs.Node.{no_members, member}
 
 abbrev mutual
   pub weight : Node → ℕ

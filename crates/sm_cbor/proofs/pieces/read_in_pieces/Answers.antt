@@ -2,7 +2,8 @@ use Rattle.std.proofs.Common.{[], Err, subst, ◌∙◌, ◌-◌, append-nil, le
 use Rattle.sm_tree.specs.Syntax.{Reads}
 use Rattle.sm_tree.specs.BuilderView.{building_of}
 use Rattle.sm_cbor.specs.Refusals.{cbor_syntax}
-use Rattle.sm_cbor.proofs.Feeding.{Reading, reading_first, reading_on, reading_refused, both_pieces, tree_whole, tree_closed, tree_read, end_answers}
+use Rattle.sm_cbor.proofs.Feeding.{Reading, reading_first, reading_on, reading_refused, both_pieces, tree_whole, tree_closed, tree_read}
+use Rattle.sm_cbor.proofs.Feeding.{end_answers}
 use Rattle.sm_cbor.proofs.pieces.read_in_pieces.Goals as goal
 
 pub feed-requires-clause-stands : goal.feed-requires-clause-stands

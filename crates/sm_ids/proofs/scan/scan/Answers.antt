@@ -1,7 +1,8 @@
 use Rattle.std.proofs.Common.{◌<◌, ◌≤◌, ◌+◌, length, arith}
 use Rattle.std.proofs.lemmas.Result.{err_from_is_err_and}
 use Rattle.sm_ids.specs.steps.Ahead.{in_namespace, in_name, in_member}
-use Rattle.sm_ids.proofs.Scanning.{breaks_from, breaks_at_byte, name_stops, member_stops, name_comes, member_begins, ends_with_name, ends_with_member}
+use Rattle.sm_ids.proofs.Scanning.{breaks_from, breaks_at_byte, name_stops, member_stops, name_comes, member_begins, ends_with_name}
+use Rattle.sm_ids.proofs.Scanning.{ends_with_member}
 use Rattle.sm_ids.proofs.scan.scan.Goals as goal
 
 pub returns-in_err-name : goal.returns-in_err-name

@@ -12,7 +12,8 @@ use Rattle.sm_select.specs.Picks.{HasValue, value_within}
 use Rattle.sm_select.specs.Selectors.{id_of, namespace_of, name_of, member_of, trait_of}
 use Rattle.sm_select.specs.View.{path_view}
 use Rattle.sm_select.specs.steps.Filtering.{HoldsOfOnly, found_node}
-use Rattle.sm_select.proofs.FilterFacts.{id_told, path_told, value_id, value_member, value_name, value_namespace, value_no_trait, value_trait}
+use Rattle.sm_select.proofs.FilterFacts.{id_told, path_told, value_id, value_member, value_name, value_namespace, value_no_trait}
+use Rattle.sm_select.proofs.FilterFacts.{value_trait}
 use Rattle.sm_select.proofs.values.value_of.Goals as goal
 
 pub returns-in-Id : goal.returns-in-Id

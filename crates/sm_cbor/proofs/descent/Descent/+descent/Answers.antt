@@ -2,7 +2,8 @@ use Rattle.std.proofs.Common.{sym, ap, subst, ◌∙◌}
 use Rattle.sm_tree.specs.View.{nodes_view, members_view}
 use Rattle.sm_cbor.specs.Heads.{Head}
 use Rattle.sm_cbor.specs.steps.Descent.{number_of, ItemIn, PutsEntry, PutsPair}
-use Rattle.sm_cbor.proofs.Descending.{unsigned_in, negative_in, entry_more, entries_end, entry_to_break_more, entries_break, pair_more, pairs_end, pair_to_break_more, pairs_break, entry_levels, pair_levels}
+use Rattle.sm_cbor.proofs.Descending.{unsigned_in, negative_in, entry_more, entries_end, entry_to_break_more, entries_break, pair_more}
+use Rattle.sm_cbor.proofs.Descending.{pairs_end, pair_to_break_more, pairs_break, entry_levels, pair_levels}
 use Rattle.sm_cbor.proofs.descent.Descent.+descent.Goals as goal
 
 pub item-returns-in_ok-unsigned_tree-in-Unsigned : goal.item-returns-in_ok-unsigned_tree-in-Unsigned

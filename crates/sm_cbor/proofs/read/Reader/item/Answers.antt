@@ -2,7 +2,9 @@ use Rattle.std.proofs.Common.{[], ◌∷◌, refl, sym, subst}
 use Rattle.sm_cbor.specs.steps.Machine.{CborGoes}
 use Rattle.sm_cbor.specs.declared.place.Place.TheVariants.{Item}
 use Rattle.sm_cbor.specs.declared.read.Reader.{Reader}
-use Rattle.sm_cbor.proofs.InitialSteps.{argument_goes, argument_reached, argument_deep, list_deep, map_deep, list_begins, list_begins_owed, map_begins, map_begins_owed, chunks_begin, null_goes, null_owed, bool_goes, bool_owed, item_bad}
+use Rattle.sm_cbor.proofs.InitialSteps.{argument_goes, argument_reached, argument_deep, list_deep, map_deep, list_begins}
+use Rattle.sm_cbor.proofs.InitialSteps.{list_begins_owed, map_begins, map_begins_owed, chunks_begin, null_goes, null_owed, bool_goes}
+use Rattle.sm_cbor.proofs.InitialSteps.{bool_owed, item_bad}
 use Rattle.sm_cbor.proofs.read.Reader.item.Goals as goal
 
 pub returns-then-is_full-clause-goes : goal.returns-then-is_full-clause-goes

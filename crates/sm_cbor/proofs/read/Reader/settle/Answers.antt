@@ -1,8 +1,10 @@
 use Rattle.std.proofs.Common.{refl, ap, ◌∙◌, arith}
-use Rattle.sm_cbor.specs.declared.place.Level.TheVariants.{Tag, List as AList, ListToBreak as AListToBreak, Map as AMap, MapToBreak as AMapToBreak}
+use Rattle.sm_cbor.specs.declared.place.Level.TheVariants.{Tag, List as AList, ListToBreak as AListToBreak, Map as AMap}
+use Rattle.sm_cbor.specs.declared.place.Level.TheVariants.{MapToBreak as AMapToBreak}
 use Rattle.sm_cbor.specs.steps.Levels.{levels_in}
 use Rattle.sm_cbor.specs.steps.Machine.{levels_of}
-use Rattle.sm_cbor.proofs.Settling.{popped, room_left, settles_first, tag_settles, list_settles, map_settles, list_end_may, map_end_may, entry_settles, pair_settles, stays, all_left}
+use Rattle.sm_cbor.proofs.Settling.{popped, room_left, settles_first, tag_settles, list_settles, map_settles, list_end_may, map_end_may}
+use Rattle.sm_cbor.proofs.Settling.{entry_settles, pair_settles, stays, all_left}
 use Rattle.sm_cbor.proofs.read.Reader.settle.Goals as goal
 
 pub loop-level-init : goal.loop-level-init
