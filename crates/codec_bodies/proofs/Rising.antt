@@ -42,7 +42,8 @@ module _ {A : Type 0} (S : List A → Type 0) where
       → (S (with_last last left) → W) → S (x ∷ rest) → W
   first_step last x left rest W is cut kept h = kept (subst (λ l. S (with_last l left)) (sym is) (subst S (sym cut) h))
 
-  pub at_end : (last : Option A) (left : List A) (W : Type 0) → left ≡ [] → S [] → ((x : A) → S (x ∷ [])) → (S (with_last last left) → W) → W
+  pub at_end : (last : Option A) (left : List A) (W : Type 0) → left ≡ [] → S [] → ((x : A) → S (x ∷ [])) → (S (with_last last left) → W)
+      → W
   at_end None left W none nothing one kept = kept (subst S (sym none) nothing)
   at_end (Some x) left W none nothing one kept = kept (subst (λ d. S (x ∷ d)) (sym none) (one x))
 

@@ -19,4 +19,5 @@ text_there t l s v shaped inside fits carried writes = written_is_json t l any_t
 
 pub item_there : (t : TableData) (s : ℕ) (v : Val) → Shaped t → s < shape_count t → Fits t any_text (root_place s) v
     → uncarried t cbor_convention (root_place s) v ≡ [] → IsCbor (written t cbor_convention (root_place s) v)
-item_there t s v shaped inside fits carried = written_is_cbor t cbor_convention any_text (root_place s) v shaped cbor_writes inside fits carried
+item_there t s v shaped inside fits carried = written_is_cbor t cbor_convention any_text
+    (root_place s) v shaped cbor_writes inside fits carried

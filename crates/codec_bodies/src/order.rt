@@ -233,7 +233,8 @@ fn names_rise(table: &Table, json: bool, members: &[u32]) -> bool
 
 // The name of a member comes before that of another one, by bytes.
 fn is_before(table: &Table, json: bool, first: u32, second: u32) -> bool
-    ensures { IsTrue result → slice_cmp nat_cmp (name_by json (table_data table.now) first) (name_by json (table_data table.now) second) ≡ Less }
+    ensures { IsTrue result → slice_cmp nat_cmp (name_by json (table_data table.now) first)
+        (name_by json (table_data table.now) second) ≡ Less }
 {
     name_by(table, json, first).cmp(name_by(table, json, second)) == Ordering::Less
 }

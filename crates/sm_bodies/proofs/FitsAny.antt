@@ -29,7 +29,8 @@ meets_any t test p (text_val u) h =
     let bad = text_broken (kind_of t p) c.texts u in
     let first = none_joined (long ++ pattern_broken (finder t test) c.pattern u) bad h in
     let second = none_joined long (pattern_broken (finder t test) c.pattern u) first.0 in
-    ap (λ x. (x ++ pattern_broken (finder t any_text) c.pattern u) ++ bad) second.0 ∙ ap (λ x. x ++ bad) (any_passes t c.pattern u) ∙ first.1
+    ap (λ x. (x ++ pattern_broken (finder t any_text) c.pattern u) ++ bad) second.0 ∙ ap (λ x. x ++ bad) (any_passes t c.pattern u)
+    ∙ first.1
 meets_any t test p (blob_val u) h = h
 meets_any t test p (time_val ms) h = h
 meets_any t test p (list_val vs) h = h
@@ -65,7 +66,8 @@ mutual
   entries_any : (t : TableData) (test : Test) (p : Place) (vs : Vals) → FitEntries t test p vs → FitEntries t any_text p vs
   entries_any t test p no_vals h = tt
   entries_any t test p (val v vs) h = (
-    or_null (sparse_of t p) (Fits t test (entry_place t p) v) (Fits t any_text (entry_place t p) v) v (fits_any t test (entry_place t p) v) h.0,
+    or_null (sparse_of t p) (Fits t test (entry_place t p) v) (Fits t any_text (entry_place t p) v) v
+        (fits_any t test (entry_place t p) v) h.0,
     entries_any t test p vs h.1,
   )
 
@@ -74,7 +76,8 @@ mutual
   pairs_any t test p (entry key v es) h = (
     h.0,
     meets_any t test (key_place t p) (text_val key) h.1,
-    or_null (sparse_of t p) (Fits t test (value_place t p) v) (Fits t any_text (value_place t p) v) v (fits_any t test (value_place t p) v) h.2,
+    or_null (sparse_of t p) (Fits t test (value_place t p) v) (Fits t any_text (value_place t p) v) v
+        (fits_any t test (value_place t p) v) h.2,
     pairs_any t test p es h.3,
   )
 

@@ -204,7 +204,8 @@ pub fn body_value<L: Leaves, P: Patterns>(
     requires shaped { Shaped (table_data table.now) }
     requires stored { AreStored (table_data table.now).patterns (P.added patterns.old) }
     requires pass { DefaultsPass (table_data table.now) P.test }
-    ensures value { DecodesAs (side_of form).syntax (codec_of (table_data table.now) (L.convention leaves.now) P.test) shape bytes.now result }
+    ensures value { DecodesAs (side_of form).syntax (codec_of (table_data table.now) (L.convention leaves.now) P.test) shape bytes.now
+        result }
     ensures added { P.added patterns.new ≡ P.added patterns.old }
     ensures refused { P.refused patterns.new ≡ P.refused patterns.old }
     ensures refusals { P.refusals patterns.new ≡ P.refusals patterns.old }

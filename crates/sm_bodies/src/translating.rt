@@ -155,7 +155,8 @@ pub fn translated<P: Patterns>(
     requires shaped { Shaped (table_data table.now) }
     requires stored { AreStored (table_data table.now).patterns (P.added patterns.old) }
     requires pass { DefaultsPass (table_data table.now) P.test }
-    ensures answers { IfOk result (λ answer. TextAnswers near far (table_data table.now) P.test (root_place shape) body.now (text_answer answer)) }
+    ensures answers { IfOk result (λ answer. TextAnswers near far (table_data table.now) P.test (root_place shape) body.now
+        (text_answer answer)) }
     ensures added { P.added patterns.new ≡ P.added patterns.old }
     ensures refused { P.refused patterns.new ≡ P.refused patterns.old }
     ensures refusals { P.refusals patterns.new ≡ P.refusals patterns.old }

@@ -16,11 +16,13 @@ two_bytes c low high = cond-false _ _ _ (le-ltb c 128 low) ∙ cond-true _ _ _ (
 
 pub three_bytes : (c : ℕ) → 2048 ≤ c → c < 65536 → encode c ≡ (224 + c / 4096) ∷ next (c / 64) ∷ next c ∷ []
 unfolding encode
-three_bytes c low high = cond-false _ _ _ (le-ltb c 128 (omega arith)) ∙ (cond-false _ _ _ (le-ltb c 2048 low) ∙ cond-true _ _ _ (lt-ltb c 65536 high))
+three_bytes c low high = cond-false _ _ _ (le-ltb c 128 (omega arith))
+    ∙ (cond-false _ _ _ (le-ltb c 2048 low) ∙ cond-true _ _ _ (lt-ltb c 65536 high))
 
 pub four_bytes : (c : ℕ) → 65536 ≤ c → encode c ≡ (240 + c / 262144) ∷ next (c / 4096) ∷ next (c / 64) ∷ next c ∷ []
 unfolding encode
-four_bytes c low = cond-false _ _ _ (le-ltb c 128 (omega arith)) ∙ (cond-false _ _ _ (le-ltb c 2048 (omega arith)) ∙ cond-false _ _ _ (le-ltb c 65536 low))
+four_bytes c low = cond-false _ _ _ (le-ltb c 128 (omega arith))
+    ∙ (cond-false _ _ _ (le-ltb c 2048 (omega arith)) ∙ cond-false _ _ _ (le-ltb c 65536 low))
 
 -- a whole sequence is the encoding of the number that its bits make
 pub two_encode : (x y : ℕ) → 194 ≤ x → x < 224 → 128 ≤ y → y < 192 → encode ((x - 192) * 64 + (y - 128)) ≡ x ∷ y ∷ []
@@ -42,12 +44,14 @@ low_three x y a p = grind (arith, nat_tests)
 pub low_four : (x y : ℕ) → 240 ≤ x → IsSecond x y → (128 ≤ y) × (y < 192) × (16 ≤ (x - 240) * 64 + (y - 128))
 low_four x y a p = grind (arith, nat_tests)
 
-pub three_encode : (x y z : ℕ) → 224 ≤ x → x < 240 → IsSecond x y → IsTail z → encode (((x - 224) * 64 + (y - 128)) * 64 + (z - 128)) ≡ x ∷ y ∷ z ∷ []
+pub three_encode : (x y z : ℕ) → 224 ≤ x → x < 240 → IsSecond x y → IsTail z
+    → encode (((x - 224) * 64 + (y - 128)) * 64 + (z - 128)) ≡ x ∷ y ∷ z ∷ []
 three_encode x y z a b p q =
     let low = low_three x y a p in
     three_bytes _ (omega arith) (omega arith) ∙ same_three x y z _ _ _ (omega arith) (omega arith) (omega arith)
 
-pub four_encode : (x y z w : ℕ) → 240 ≤ x → x < 245 → IsSecond x y → IsTail z → IsTail w → encode ((((x - 240) * 64 + (y - 128)) * 64 + (z - 128)) * 64 + (w - 128)) ≡ x ∷ y ∷ z ∷ w ∷ []
+pub four_encode : (x y z w : ℕ) → 240 ≤ x → x < 245 → IsSecond x y → IsTail z → IsTail w
+    → encode ((((x - 240) * 64 + (y - 128)) * 64 + (z - 128)) * 64 + (w - 128)) ≡ x ∷ y ∷ z ∷ w ∷ []
 four_encode x y z w a b p q t =
     let low = low_four x y a p in
     four_bytes _ (omega arith) ∙ same_four x y z w _ _ _ _ (omega arith) (omega arith) (omega arith) (omega arith)

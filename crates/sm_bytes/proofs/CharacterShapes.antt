@@ -17,10 +17,13 @@ IsThree c = (x y z : ℕ) × (224 ≤ x) × (x < 240) × IsSecond x y × IsTail 
 abbrev pub IsFour : ℕ → Type 0
 IsFour c = (x y z w : ℕ) × (240 ≤ x) × (x < 245) × IsSecond x y × IsTail z × IsTail w × (encode c ≡ x ∷ y ∷ z ∷ w ∷ [])
 
-second : (x y : ℕ) → 128 ≤ y → y < 192 → (x ≡ 224 → 160 ≤ y) → (x ≡ 240 → 144 ≤ y) → (x ≡ 237 → y < 160) → (x ≡ 244 → y < 144) → IsSecond x y
+second : (x y : ℕ) → 128 ≤ y → y < 192 → (x ≡ 224 → 160 ≤ y) → (x ≡ 240 → 144 ≤ y) → (x ≡ 237 → y < 160) → (x ≡ 244 → y < 144)
+    → IsSecond x y
 second x y low high a b c d = (
-  cond_both (x == 224) _ _ (λ n. n ≤ y) (λ e. a (eqb-true _ _ e)) (λ _. cond_both (x == 240) _ _ (λ n. n ≤ y) (λ e. b (eqb-true _ _ e)) (λ _. low)),
-  cond_both (x == 237) _ _ (λ n. y ≤ n) (λ e. let p = c (eqb-true _ _ e) in omega arith) (λ _. cond_both (x == 244) _ _ (λ n. y ≤ n) (λ e. let p = d (eqb-true _ _ e) in omega arith) (λ _. omega arith)),
+  cond_both (x == 224) _ _ (λ n. n ≤ y) (λ e. a (eqb-true _ _ e))
+      (λ _. cond_both (x == 240) _ _ (λ n. n ≤ y) (λ e. b (eqb-true _ _ e)) (λ _. low)),
+  cond_both (x == 237) _ _ (λ n. y ≤ n) (λ e. let p = c (eqb-true _ _ e) in omega arith)
+      (λ _. cond_both (x == 244) _ _ (λ n. y ≤ n) (λ e. let p = d (eqb-true _ _ e) in omega arith) (λ _. omega arith)),
 )
 
 is_two : (c : ℕ) → 128 ≤ c → c < 2048 → IsTwo c
@@ -33,7 +36,8 @@ is_three c low high no_surrogate = (
   next c,
   omega arith,
   omega arith,
-  second (224 + c / 4096) (next (c / 64)) (omega arith) (omega arith) (λ e. omega arith) (λ e. omega arith) (λ e. elim no_surrogate [ inl below ↦ omega arith | inr above ↦ omega arith ]) (λ e. omega arith),
+  second (224 + c / 4096) (next (c / 64)) (omega arith) (omega arith) (λ e. omega arith) (λ e. omega arith)
+      (λ e. elim no_surrogate [ inl below ↦ omega arith | inr above ↦ omega arith ]) (λ e. omega arith),
   (omega arith, omega arith),
   three_bytes c low high,
 )
@@ -46,7 +50,8 @@ is_four c low high = (
   next c,
   omega arith,
   omega arith,
-  second (240 + c / 262144) (next (c / 4096)) (omega arith) (omega arith) (λ e. omega arith) (λ e. omega arith) (λ e. omega arith) (λ e. omega arith),
+  second (240 + c / 262144) (next (c / 4096)) (omega arith) (omega arith) (λ e. omega arith) (λ e. omega arith) (λ e. omega arith)
+      (λ e. omega arith),
   (omega arith, omega arith),
   (omega arith, omega arith),
   four_bytes c low,

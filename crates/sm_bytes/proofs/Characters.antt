@@ -58,7 +58,11 @@ second_is x y = elim (cases_lt y (least_second x)) [
 tail_is : (y : ℕ) → IsTail y ⊎ ((step LastTwo y ≡ None) × (step Last y ≡ None))
 tail_is y = elim (cases_lt y 128) [
   | inl low ↦ inr (grind (arith, nat_tests), grind (arith, nat_tests))
-  | inr high ↦ elim (cases_lt y 192) [ inl in_range ↦ inl (high, in_range) | inr past ↦ inr (grind (arith, nat_tests), grind (arith, nat_tests)) ]
+  | inr high ↦ elim (cases_lt y 192) [
+    | inl in_range ↦ inl (high, in_range)
+    | inr past ↦ inr
+        (grind (arith, nat_tests), grind (arith, nat_tests))
+  ]
 ]
 
 -- a step, and what comes behind it
@@ -87,15 +91,19 @@ one_run : (c : ℕ) (p : List ℕ) → IsOne c ⊎ (IsTwo c ⊎ (IsThree c ⊎ I
 one_run c p (inl (small, e)) f = subst (Rest Between) (sym e ∙ f) (over Between Between c [] (step_one c small))
 one_run c p (inr (inl (x, y, low, high, tail, e))) f =
     subst (Rest Between) (sym e ∙ f)
-    (over Between (Second x) x (y ∷ []) (step_lead x low (omega arith)) ∙ over (Second x) (behind_second x) y [] (step_second x y (grind (arith, nat_tests))) ∙ ap Some (behind_two x high))
+    (over Between (Second x) x (y ∷ []) (step_lead x low (omega arith))
+    ∙ over (Second x) (behind_second x) y [] (step_second x y (grind (arith, nat_tests))) ∙ ap Some (behind_two x high))
 one_run c p (inr (inr (inl (x, y, z, low, high, second, tail, e)))) f =
     subst (Rest Between) (sym e ∙ f)
-    (over Between (Second x) x (y ∷ z ∷ []) (step_lead x (omega arith) (omega arith)) ∙ over (Second x) (behind_second x) y (z ∷ []) (step_second x y second)
+    (over Between (Second x) x (y ∷ z ∷ []) (step_lead x (omega arith) (omega arith))
+    ∙ over (Second x) (behind_second x) y (z ∷ []) (step_second x y second)
     ∙ ap (λ q. run q (z ∷ [])) (behind_three x low high) ∙ over Last Between z [] (step_last z tail))
 one_run c p (inr (inr (inr (x, y, z, t, low, high, second, tail, last, e)))) f =
     subst (Rest Between) (sym e ∙ f)
-    (over Between (Second x) x (y ∷ z ∷ t ∷ []) (step_lead x (omega arith) high) ∙ over (Second x) (behind_second x) y (z ∷ t ∷ []) (step_second x y second)
-    ∙ ap (λ q. run q (z ∷ t ∷ [])) (behind_four x low) ∙ over LastTwo Last z (t ∷ []) (step_two z tail) ∙ over Last Between t [] (step_last t last))
+    (over Between (Second x) x (y ∷ z ∷ t ∷ []) (step_lead x (omega arith) high)
+    ∙ over (Second x) (behind_second x) y (z ∷ t ∷ []) (step_second x y second)
+    ∙ ap (λ q. run q (z ∷ t ∷ [])) (behind_four x low) ∙ over LastTwo Last z (t ∷ []) (step_two z tail)
+    ∙ over Last Between t [] (step_last t last))
 
 and_parts : (x y : Bool) → (x && y) ≡ true → (x ≡ true) × (y ≡ true)
 and_parts true y e = (refl, e)
@@ -123,7 +131,8 @@ surrogate_tail x y e h = grind (arith, nat_tests)
 fourth_plane : (x y : ℕ) → x ≡ 244 → IsSecond x y → y < 144
 fourth_plane x y e h = grind (arith, nat_tests)
 
-pub three_scalar : (x y z : ℕ) → 224 ≤ x → x < 240 → IsSecond x y → IsTail z → (c : ℕ) → c ≡ ((x - 224) * 64 + (y - 128)) * 64 + (z - 128) → IsScalar c
+pub three_scalar : (x y z : ℕ) → 224 ≤ x → x < 240 → IsSecond x y → IsTail z → (c : ℕ)
+    → c ≡ ((x - 224) * 64 + (y - 128)) * 64 + (z - 128) → IsScalar c
 three_scalar x y z a b h t c e =
     let low = low_three x y a h in
     elim (cases_order x 237) [
@@ -131,7 +140,8 @@ three_scalar x y z a b h t c e =
       | inr other ↦ elim other [ inl below ↦ low_scalar c (omega arith) | inr above ↦ high_scalar c (omega arith) (omega arith) ]
     ]
 
-pub four_scalar : (x y z w : ℕ) → 240 ≤ x → x < 245 → IsSecond x y → IsTail z → IsTail w → (c : ℕ) → c ≡ (((x - 240) * 64 + (y - 128)) * 64 + (z - 128)) * 64 + (w - 128) → IsScalar c
+pub four_scalar : (x y z w : ℕ) → 240 ≤ x → x < 245 → IsSecond x y → IsTail z → IsTail w → (c : ℕ)
+    → c ≡ (((x - 240) * 64 + (y - 128)) * 64 + (z - 128)) * 64 + (w - 128) → IsScalar c
 four_scalar x y z w a b h t u c e =
     let low = low_four x y a h in
     elim (cases_order x 244) [
@@ -188,7 +198,8 @@ peel_fourth x y z (t ∷ u) low high second tail h = elim (tail_is t) [
         x ∷ y ∷ z ∷ t ∷ [],
         u,
         refl,
-        one_utf8 c (x ∷ y ∷ z ∷ t ∷ []) (four_scalar x y z t low high second tail last c refl) (four_encode x y z t low high second tail last),
+        one_utf8 c (x ∷ y ∷ z ∷ t ∷ []) (four_scalar x y z t low high second tail last c refl)
+            (four_encode x y z t low high second tail last),
         omega arith,
         sym (over Last Between t u (step_last t last)) ∙ h,
       )
@@ -216,7 +227,15 @@ peel_long x (y ∷ u) low high h = elim (second_is x y) [
 
 peel : (c : ℕ) (u : List ℕ) → Rest Between (c ∷ u) → Peeled c u
 peel c u h = elim (first_is c) [
-  | inl small ↦ (c ∷ [], u, refl, one_utf8 c (c ∷ []) (low_scalar c (omega arith)) (one_byte c small), omega arith, sym (over Between Between c u (step_one c small)) ∙ h)
+  | inl small ↦ (
+    c ∷ [],
+    u,
+    refl,
+    one_utf8 c (c ∷ []) (low_scalar c (omega arith)) (one_byte c small),
+    omega arith,
+    sym
+        (over Between Between c u (step_one c small)) ∙ h,
+  )
   | inr other ↦ elim other [
     | inl lead ↦
         let rest = sym (over Between (Second c) c u (step_lead c lead.0 lead.1)) ∙ h in
@@ -242,7 +261,8 @@ rest_is_utf8 u = (rest_utf8 u, utf8_runs u)
 owed_step : (place q : Utf8) (c : ℕ) → step place c ≡ Some q → owed place ≤ owed q + 1
 owed_step Between q c e = omega arith
 owed_step (Second x) q c e = elim (second_is x c) [
-  | inl second ↦ let same : q ≡ behind_second x = (let f = step_second x c second in cc) in subst (λ p. owed (Second x) ≤ owed p + 1) (sym same) (owed_second x)
+  | inl second ↦ let same : q ≡ behind_second x = (let f = step_second x c second in cc) in subst (λ p. owed (Second x) ≤ owed p + 1)
+      (sym same) (owed_second x)
   | inr none ↦ absurd cc
 ]
   where
@@ -257,7 +277,8 @@ owed_step LastTwo q c e = elim (tail_is c) [
 ]
 owed_step Last q c e = omega arith
 
-fits_step : (o : Option Utf8) (u : List ℕ) → ((q : Utf8) → Rest q u → owed q ≤ length u) → option_and_then (λ q. run q u) o ≡ Some Between → (q : Utf8) × (o ≡ Some q) × (owed q ≤ length u)
+fits_step : (o : Option Utf8) (u : List ℕ) → ((q : Utf8) → Rest q u → owed q ≤ length u)
+    → option_and_then (λ q. run q u) o ≡ Some Between → (q : Utf8) × (o ≡ Some q) × (owed q ≤ length u)
 fits_step None u h e = absurd cc
 fits_step (Some q) u h e = (q, refl, h q e)
 
@@ -292,12 +313,15 @@ some_second x = (omega arith, grind (arith, nat_tests))
 second_on : (x k : ℕ) → owed (Second x) ≤ k → GoesOn (Second x) k
 second_on x zero room = absurd (grind (arith, nat_tests))
 second_on x (suc k) room =
-    let step_there : (q : Utf8) → behind_second x ≡ q → step (Second x) (least_second x) ≡ Some q = λ q e. step_second x (least_second x) (some_second x) ∙ ap Some e in
+    let step_there : (q : Utf8) → behind_second x ≡ q → step (Second x) (least_second x) ≡ Some q = λ q e. step_second x (least_second x)
+    (some_second x) ∙ ap Some e in
     elim (cases_lt x 224) [
       | inl two ↦ after_byte (Second x) Between (least_second x) k (step_there Between (behind_two x two)) (between_on k)
       | inr long ↦ elim (cases_lt x 240) [
-        | inl three ↦ after_byte (Second x) Last (least_second x) k (step_there Last (behind_three x long three)) (last_on k (grind (arith, nat_tests)))
-        | inr four ↦ after_byte (Second x) LastTwo (least_second x) k (step_there LastTwo (behind_four x four)) (two_on k (grind (arith, nat_tests)))
+        | inl three ↦ after_byte (Second x) Last (least_second x) k (step_there Last (behind_three x long three))
+            (last_on k (grind (arith, nat_tests)))
+        | inr four ↦ after_byte (Second x) LastTwo (least_second x) k (step_there LastTwo (behind_four x four))
+            (two_on k (grind (arith, nat_tests)))
       ]
     ]
 

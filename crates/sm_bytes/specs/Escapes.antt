@@ -7,8 +7,10 @@ use Rattle.sm_bytes.specs.Ascii.{capital_a, capital_f, small_a, small_b, small_f
 -- one of `"` `\` `/` `b` `f` `n` `r` `t`
 abbrev pub short_escape : ℕ → Option ℕ
 short_escape e =
-    cond (e == quote) (Some quote) (cond (e == backslash) (Some backslash) (cond (e == slash) (Some slash) (cond (e == small_b) (Some backspace)
-    (cond (e == small_f) (Some form_feed) (cond (e == small_n) (Some line_feed) (cond (e == small_r) (Some carriage_return) (cond (e == small_t) (Some tab) None)))))))
+    cond (e == quote) (Some quote) (cond (e == backslash) (Some backslash)
+    (cond (e == slash) (Some slash) (cond (e == small_b) (Some backspace)
+    (cond (e == small_f) (Some form_feed) (cond (e == small_n) (Some line_feed)
+    (cond (e == small_r) (Some carriage_return) (cond (e == small_t) (Some tab) None)))))))
 
 -- HEXDIG, in either case
 abbrev pub hex_value : ℕ → Option ℕ

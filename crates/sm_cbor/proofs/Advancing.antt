@@ -218,7 +218,8 @@ after_advances limit c t (AListToBreak ∷ ls) s es begun h =
       | inl b ↦ go limit (at After t (AListToBreak ∷ ls)) (at After t ls) (c ∷ []) _ s es
           (list_breaks plain limit c t t ls (omega arith) b.0) h (λ fs g. settles limit t ls s fs g)
       | inr item ↦
-          let other : c ≢ 0xFF = λ is. item_stops plain limit c t (AListToBreak ∷ ls) (subst (λ x. HeadIs x NoItem) (sym is) break_is_no_item) s es
+          let other : c ≢ 0xFF = λ is. item_stops plain limit c t (AListToBreak ∷ ls)
+          (subst (λ x. HeadIs x NoItem) (sym is) break_is_no_item) s es
           item in
           let (out, y, leads, stands) = item_advances limit c t (AListToBreak ∷ ls) s es item in
           (out, y, entry_goes_on plain limit c t ls out y other leads, stands)
@@ -255,7 +256,8 @@ text_goes_on limit zero kind span place t ls s es is owes h =
     (span_settles limit kind span t ls s es (subst (λ p. CborStringComes plain limit kind span 0 p t ls s es) whole h))
 text_goes_on limit (suc n) Bytes span place t ls s es is owes h = absurd is
 text_goes_on limit (suc n) Text span place t ls s es is owes h = stays limit (at (String Text span (suc n) place) t ls) (omega arith, tt)
-text_goes_on limit (suc n) KeyText span place t ls s es is owes h = stays limit (at (String KeyText span (suc n) place) t ls) (omega arith, tt)
+text_goes_on limit (suc n) KeyText span place t ls s es is owes h = stays limit (at (String KeyText span (suc n) place) t ls)
+    (omega arith, tt)
 
 text_advances : (limit c n : ℕ) (kind : StringKind) (span : Span) (place : Utf8) (t : List ℕ) (ls : List Level) (s : List ℕ)
     (es : List TimedEvent) (u : List ℕ) (o : Option Utf8)

@@ -120,9 +120,12 @@ key_can w limit ls room =
 -- the rest of a string
 string_ended_can : (w : Keys) (limit : ℕ) (kind : StringKind) (t : List ℕ) (ls : List Level) → length ls ≤ limit
     → Can (StringEnded w limit kind t ls)
-string_ended_can w limit Bytes t ls room = let (s, es, en) = ends_can w limit ls room in (s, by_byte (bytes_event t) (length s) ∷ es, (es, en, refl))
-string_ended_can w limit Text t ls room = let (s, es, en) = ends_can w limit ls room in (s, by_byte (text_event t) (length s) ∷ es, (es, en, refl))
-string_ended_can w limit KeyText t ls room = let (s, es, item) = item_can w limit ls room in (s, by_byte (key_event t) (length s) ∷ es, (es, item, refl))
+string_ended_can w limit Bytes t ls room = let (s, es, en) = ends_can w limit ls room in
+    (s, by_byte (bytes_event t) (length s) ∷ es, (es, en, refl))
+string_ended_can w limit Text t ls room = let (s, es, en) = ends_can w limit ls room in
+    (s, by_byte (text_event t) (length s) ∷ es, (es, en, refl))
+string_ended_can w limit KeyText t ls room = let (s, es, item) = item_can w limit ls room in
+    (s, by_byte (key_event t) (length s) ∷ es, (es, item, refl))
 
 chunks_can : (w : Keys) (limit : ℕ) (kind : StringKind) (t : List ℕ) (ls : List Level) → length ls ≤ limit
     → Can (ChunksCome w limit kind t ls)

@@ -21,13 +21,16 @@ done left ts = length (complete_with left ts)
 one_more : (left : ℕ) (e : NodeEvent) (r : List ℕ) (us : List TimedEvent)
     → done left (by_byte e (length r) ∷ us) + (length r - left) ≤ done left us + (length r + 1 - left)
 one_more left e r us = elim (cases_lt (length r) left) [
-  | inl late ↦ let is = ap (λ b. length (cond b (e ∷ complete_with left us) (complete_with left us))) (lt-leb left (length r) late) in omega arith
-  | inr soon ↦ let is = ap (λ b. length (cond b (e ∷ complete_with left us) (complete_with left us))) (le-leb left (length r) soon) in omega arith
+  | inl late ↦ let is = ap (λ b. length (cond b (e ∷ complete_with left us) (complete_with left us)))
+      (lt-leb left (length r) late) in omega arith
+  | inr soon ↦ let is = ap (λ b. length (cond b (e ∷ complete_with left us) (complete_with left us)))
+      (le-leb left (length r) soon) in omega arith
 ]
 
 told_done : (left : ℕ) (e : NodeEvent) (r : List ℕ) (ts us : List TimedEvent) → CompleteAt e r ts us
     → done left ts + (length r - left) ≤ done left us + (length r + 1 - left)
-told_done left e r ts us is = subst (λ x. done left x + (length r - left) ≤ done left us + (length r + 1 - left)) (sym is) (one_more left e r us)
+told_done left e r ts us is = subst (λ x. done left x + (length r - left) ≤ done left us + (length r + 1 - left)) (sym is)
+    (one_more left e r us)
 
 one_event : (left : ℕ) (e : NodeEvent) (s r : List ℕ) (ts us : List TimedEvent) → CompleteAt e r ts us → length r < length s
     → done left ts + 2 * (length r - left) ≤ done left us + 2 * (length s - left)
@@ -68,22 +71,27 @@ mutual
       let count = told_done left (start_object None) s1 ts vs e in omega arith
 
   few_counted : (left : ℕ) (Key : KeyForm) → HasByte Key → (n : ℕ) (ns : Nodes) (s r : List ℕ) (ts us : List TimedEvent)
-      → CountedEntriesTimed Key n ns s r ts us → done left ts + 2 * (length r - left) ≤ done left us + (length s - left) + (length s + 1 - left)
-  few_counted left Key has n no_nodes s r ts us (none, same, e) = let count = told_done left end_list r ts us e in let all = ap length same in omega arith
+      → CountedEntriesTimed Key n ns s r ts us → done left ts + 2 * (length r - left) ≤ done left us + (length s - left) +
+      (length s + 1 - left)
+  few_counted left Key has n no_nodes s r ts us (none, same, e) = let count = told_done left end_list r ts us e
+      in let all = ap length same in omega arith
   few_counted left Key has n (node x xs) s r ts us (m, is, s1, vs, h, more) =
       let less = item_short Key has x s s1 ts vs h in
       let first = few_events left Key has x s s1 ts vs h in
       let others = few_counted left Key has m xs s1 r vs us more in omega arith
 
-  few_entries : (left : ℕ) (Key : KeyForm) → HasByte Key → (ns : Nodes) (s r : List ℕ) (ts us : List TimedEvent) → EntriesToBreakTimed Key ns s r ts us
+  few_entries : (left : ℕ) (Key : KeyForm) → HasByte Key → (ns : Nodes) (s r : List ℕ) (ts us : List TimedEvent)
+      → EntriesToBreakTimed Key ns s r ts us
       → done left ts + 2 * (length r - left) ≤ done left us + 2 * (length s - left)
   few_entries left Key has no_nodes s r ts us (h, e) = one_event left end_list s r ts us e (byte_short 0xFF s r h)
   few_entries left Key has (node x xs) s r ts us (s1, vs, h, more) =
       let first = few_events left Key has x s s1 ts vs h in let others = few_entries left Key has xs s1 r vs us more in omega arith
 
   few_counted_pairs : (left : ℕ) (Key : KeyForm) → HasByte Key → (n : ℕ) (ms : Members) (s r : List ℕ) (ts us : List TimedEvent)
-      → CountedPairsTimed Key n ms s r ts us → done left ts + 2 * (length r - left) ≤ done left us + (length s - left) + (length s + 1 - left)
-  few_counted_pairs left Key has n no_members s r ts us (none, same, e) = let count = told_done left end_object r ts us e in let all = ap length same in omega arith
+      → CountedPairsTimed Key n ms s r ts us → done left ts + 2 * (length r - left) ≤ done left us + (length s - left) +
+      (length s + 1 - left)
+  few_counted_pairs left Key has n no_members s r ts us (none, same, e) = let count = told_done left end_object r ts us e
+      in let all = ap length same in omega arith
   few_counted_pairs left Key has n (member k x ms) s r ts us (m, is, s1, s2, vs, ws, key, e, h, more) =
       let count = told_done left (key_event k) s1 ts vs e in
       let less = has k s s1 key in
@@ -91,7 +99,8 @@ mutual
       let first = few_events left Key has x s1 s2 vs ws h in
       let others = few_counted_pairs left Key has m ms s2 r ws us more in omega arith
 
-  few_pairs : (left : ℕ) (Key : KeyForm) → HasByte Key → (ms : Members) (s r : List ℕ) (ts us : List TimedEvent) → PairsToBreakTimed Key ms s r ts us
+  few_pairs : (left : ℕ) (Key : KeyForm) → HasByte Key → (ms : Members) (s r : List ℕ) (ts us : List TimedEvent)
+      → PairsToBreakTimed Key ms s r ts us
       → done left ts + 2 * (length r - left) ≤ done left us + 2 * (length s - left)
   few_pairs left Key has no_members s r ts us (h, e) = one_event left end_object s r ts us e (byte_short 0xFF s r h)
   few_pairs left Key has (member k x ms) s r ts us (s1, s2, vs, ws, key, e, h, more) =

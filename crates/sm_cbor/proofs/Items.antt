@@ -79,7 +79,8 @@ integer_untold n z = elim (cases_lt n (2 ^ 63)) [
 ]
 
 integer_timed : (w : Keys) (n : ℕ) (z : ℤ) (s r : List ℕ) (es fs : List TimedEvent) → (n < 2 ^ 63 → FitsSigned w64 z)
-    → (FitsSigned w64 z → n < 2 ^ 63) → Integer z s r → CompleteAt (integer_event n z) r es fs → ItemTimed (key_of w) (integer_node n z) s r es fs
+    → (FitsSigned w64 z → n < 2 ^ 63) → Integer z s r → CompleteAt (integer_event n z) r es fs
+    → ItemTimed (key_of w) (integer_node n z) s r es fs
 integer_timed w n z s r es fs fits small h e = elim (cases_lt n (2 ^ 63)) [
   | inl below ↦ subst (λ x. ItemTimed (key_of w) x s r es fs) (sym (node_small n z below))
       ((fits below, h), e ∙ ap (λ x. by_byte x (length r) ∷ fs) (event_small n z below))
@@ -189,7 +190,8 @@ initial_onward w limit c t ls s r es fs (object ms) (inl (n, s1, vs, head, e, h)
 initial_onward w limit c t ls s r es fs (object ms) (inr (s1, vs, first, e, h)) room en =
     (PairsHead, first.0, leaf_at w limit (start_object None) (AMapToBreak ∷ ls) s s1 es vs first.1 (ms, r, fs, h, omega arith, en) e)
 
-pub initial_byte : (w : Keys) (limit c : ℕ) (t : List ℕ) (ls : List Level) (s : List ℕ) (es : List TimedEvent) → ItemComes w limit ls (c ∷ s) es
+pub initial_byte : (w : Keys) (limit c : ℕ) (t : List ℕ) (ls : List Level) (s : List ℕ) (es : List TimedEvent)
+    → ItemComes w limit ls (c ∷ s) es
     → InitialByte w limit c t ls s es
 initial_byte w limit c t ls s es (n, r, fs, h, room, en) = initial_onward w limit c t ls s r es fs n h room en
 

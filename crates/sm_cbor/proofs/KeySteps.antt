@@ -65,11 +65,16 @@ key_leads w limit c k v t ls is starts = leads_silent
 
 -- the head of a text in chunks
 in_chunks : (w : Keys) (limit c : ℕ) (ls : List Level) (s : List ℕ) (es : List TimedEvent) (u s1 : List ℕ) (fs : List TimedEvent) → c ≡ 0x7F
-    → TextString u (c ∷ s) s1 → ItemComes w limit ls s1 fs → es ≡ by_byte (key_event u) (length s1) ∷ fs → ChunksCome w limit KeyText [] ls s es
+    → TextString u (c ∷ s) s1 → ItemComes w limit ls s1 fs → es ≡ by_byte (key_event u) (length s1) ∷ fs
+    → ChunksCome w limit KeyText [] ls s es
 in_chunks w limit c ls s es u s1 fs is (inl (s0, head, split, utf8)) item e =
     absurd (no_argument (c % 32) (length u) s s0 (omega arith) head.1)
-in_chunks w limit c ls s es u s1 fs is (inr (s0, us, first, chunks, joined)) item e =
-    (us, s1, subst (λ x. ChunkBytes 3 IsUtf8 us x s1) (sym first.1) chunks, (fs, item, e ∙ ap (λ x. by_byte (key_event x) (length s1) ∷ fs) joined))
+in_chunks w limit c ls s es u s1 fs is (inr (s0, us, first, chunks, joined)) item e = (
+  us,
+  s1,
+  subst (λ x. ChunkBytes 3 IsUtf8 us x s1) (sym first.1) chunks,
+  (fs, item, e ∙ ap (λ x. by_byte (key_event x) (length s1) ∷ fs) joined),
+)
 
 pub key_chunks_lead : (w : Keys) (limit c : ℕ) (t : List ℕ) (ls : List Level) → c ≡ 0x7F
     → CborLeads w limit (at Key t ls) (c ∷ []) [] (at (Chunks KeyText) [] ls)

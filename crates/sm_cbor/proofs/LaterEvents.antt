@@ -139,7 +139,8 @@ after_later w limit (Tag ∷ ls) s es begun h = absurd begun
 after_later w limit (AList n ∷ ls) s es begun h = absurd begun
 after_later w limit (AListToBreak ∷ ls) s es begun (ns, r, fs, h, room, en) =
     let short = entries_short (key_of w) (key_has_byte w) ns s r es fs h in
-    entries_later (length s) (key_of w) (key_has_byte w) ns s r es fs h (omega arith) (ends_later (length s) w limit ls r fs en (omega arith))
+    entries_later (length s) (key_of w) (key_has_byte w) ns s r es fs h (omega arith)
+    (ends_later (length s) w limit ls r fs en (omega arith))
 after_later w limit (AMap n ∷ ls) s es begun h = absurd begun
 after_later w limit (AMapToBreak ∷ ls) s es begun (ms, r, fs, h, room, en) =
     let short = pairs_short (key_of w) (key_has_byte w) ms s r es fs h in
@@ -158,7 +159,8 @@ key_comes_later w limit ls s es (k, s1, fs, key, item, e) =
     told_later (length s) (key_event k) s1 es fs e less (item_comes_later (length s) w limit ls s1 fs item (omega arith))
 
 -- behind the last byte of a string, and before it
-string_ended_later : (left : ℕ) (w : Keys) (limit : ℕ) (kind : StringKind) (t : List ℕ) (ls : List Level) (s : List ℕ) (es : List TimedEvent)
+string_ended_later : (left : ℕ) (w : Keys) (limit : ℕ) (kind : StringKind) (t : List ℕ) (ls : List Level) (s : List ℕ)
+    (es : List TimedEvent)
     → StringEnded w limit kind t ls s es → length s < left → AreLater left es
 string_ended_later left w limit Bytes t ls s es (fs, en, e) few =
     told_later left (bytes_event t) s es fs e few (ends_later left w limit ls s fs en few)

@@ -108,7 +108,8 @@ pub break_is_no_item : HeadIs 0xFF NoItem
 break_is_no_item = (omega arith, (λ e. omega arith), (λ e. omega arith), (λ e. omega arith), (λ e. omega arith))
 
 only_list_break : (w : Keys) (limit c : ℕ) (ls : List Level) (s : List ℕ) (es : List TimedEvent) → c ≡ 0xFF
-    → CborEnds w limit (AListToBreak ∷ ls) (c ∷ s) es → (fs : List TimedEvent) × CborEnds w limit ls s fs × (es ≡ by_byte end_list (length s) ∷ fs)
+    → CborEnds w limit (AListToBreak ∷ ls) (c ∷ s) es → (fs : List TimedEvent) × CborEnds w limit ls s fs
+    × (es ≡ by_byte end_list (length s) ∷ fs)
 only_list_break w limit c ls s es is h = elim (more_entries w limit c ls s es h) [
   | inl b ↦ (b.1, b.2, b.3)
   | inr item ↦ absurd (item_stops w limit 0xFF [] (AListToBreak ∷ ls) break_is_no_item s es
@@ -128,7 +129,8 @@ entry_goes_on w limit c t ls out x other leads = record {
 }
 
 -- up to a break: another pair, or the break
-pub more_pairs : (w : Keys) (limit c : ℕ) (ls : List Level) (s : List ℕ) (es : List TimedEvent) → CborEnds w limit (AMapToBreak ∷ ls) (c ∷ s) es
+pub more_pairs : (w : Keys) (limit c : ℕ) (ls : List Level) (s : List ℕ) (es : List TimedEvent)
+    → CborEnds w limit (AMapToBreak ∷ ls) (c ∷ s) es
     → ((c ≡ 0xFF) × (fs : List TimedEvent) × CborEnds w limit ls s fs × (es ≡ by_byte end_object (length s) ∷ fs))
     ⊎ CborKeyComes w limit (AMapToBreak ∷ ls) (c ∷ s) es
 more_pairs w limit c ls s es (no_members, r, fs, (h, e), room, en) =
@@ -145,7 +147,8 @@ pub only_pair : (w : Keys) (limit c : ℕ) (ls : List Level) (s : List ℕ) (es 
     → CborEnds w limit (AMapToBreak ∷ ls) (c ∷ s) es → CborKeyComes w limit (AMapToBreak ∷ ls) (c ∷ s) es
 only_pair w limit c ls s es other h = elim (more_pairs w limit c ls s es h) [ inl b ↦ absurd (other b.0) | inr key ↦ key ]
 
-pub no_break_key : (w : Keys) (limit c : ℕ) (ls : List Level) (s : List ℕ) (es : List TimedEvent) → c ≡ 0xFF → CborKeyComes w limit ls (c ∷ s) es
+pub no_break_key : (w : Keys) (limit c : ℕ) (ls : List Level) (s : List ℕ) (es : List TimedEvent) → c ≡ 0xFF
+    → CborKeyComes w limit ls (c ∷ s) es
     → ⊥
 no_break_key plain limit c ls s es is (u, s1, fs, inl (s0, head, split, utf8), item, e) = let f = head.0 in omega arith
 no_break_key plain limit c ls s es is (u, s1, fs, inr (s0, us, first, chunks, joined), item, e) = let f = first.0 in omega arith
@@ -154,7 +157,8 @@ no_break_key marked limit c ls s es is (u, s1, fs, inl (inr (s0, us, first, chun
 no_break_key marked limit c ls s es is (u, s1, fs, inr h, item, e) = let f = h.0.0 in omega arith
 
 only_map_break : (w : Keys) (limit c : ℕ) (ls : List Level) (s : List ℕ) (es : List TimedEvent) → c ≡ 0xFF
-    → CborEnds w limit (AMapToBreak ∷ ls) (c ∷ s) es → (fs : List TimedEvent) × CborEnds w limit ls s fs × (es ≡ by_byte end_object (length s) ∷ fs)
+    → CborEnds w limit (AMapToBreak ∷ ls) (c ∷ s) es → (fs : List TimedEvent) × CborEnds w limit ls s fs
+    × (es ≡ by_byte end_object (length s) ∷ fs)
 only_map_break w limit c ls s es is h = elim (more_pairs w limit c ls s es h)
     [ inl b ↦ (b.1, b.2, b.3) | inr key ↦ absurd (no_break_key w limit c (AMapToBreak ∷ ls) s es is key) ]
 

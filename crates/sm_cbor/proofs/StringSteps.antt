@@ -161,7 +161,8 @@ ends_nil Bytes = tt
 ends_nil Text = refl
 ends_nil KeyText = refl
 
-pub span_onward : (w : Keys) (limit : ℕ) (kind : StringKind) (span : Span) (t : List ℕ) (ls : List Level) (s : List ℕ) (es : List TimedEvent)
+pub span_onward : (w : Keys) (limit : ℕ) (kind : StringKind) (span : Span) (t : List ℕ) (ls : List Level) (s : List ℕ)
+    (es : List TimedEvent)
     → CborStringComes w limit kind span 0 Between t ls s es → SpanEnded w limit kind span t ls s es
 span_onward w limit kind span t ls s es ([], r, e, len, ends, more) =
     subst (λ x. SpanEnded w limit kind span t ls x es) (sym e) (subst (λ x. SpanEnded w limit kind span x ls r es) (append-nil t) more)

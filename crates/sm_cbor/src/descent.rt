@@ -144,7 +144,8 @@ impl<'a> Descent<'a> {
     fn map(&mut self, levels: usize) -> Result<Vec<(Text, Tree)>, Unread>
         requires some { 0 < length self.old.rest.now }
         requires map { initial_type self.old.rest.now ≡ map_type }
-        ensures { IfOk result (λ pairs. ItemIn levels (object (members_of (members_view pairs.items))) self.old.rest.now self.new.rest.now) }
+        ensures { IfOk result (λ pairs. ItemIn levels (object (members_of (members_view pairs.items))) self.old.rest.now
+            self.new.rest.now) }
     {
         if levels == 0 {
             return Err(Unread::GaveUp);

@@ -73,7 +73,8 @@ impl CborReader {
     pub fn feed<E: EventSink>(&mut self, piece: &[u8], to: &mut E) -> Result<(), SyntaxRefusal>
         requires stands { MayFeed self.old (E.stands_for to.old) }
         requires takes { TakesEvery (E.takes to.old) }
-        ensures feeds { refusal_of self.old ≡ None → CborFeeds (E.stands_for to.old) self.old piece.now (E.stands_for to.new) self.new result }
+        ensures feeds { refusal_of self.old ≡ None → CborFeeds (E.stands_for to.old) self.old piece.now
+            (E.stands_for to.new) self.new result }
         ensures again { IfSome (refusal_of self.old) (λ refusal. (result ≡ Err refusal) × (self.new ≡ self.old) × (to.new ≡ to.old)) }
         ensures longer { StaysRefused CborStands (refusal_of self.old) self.old piece.now }
         ensures takes { TakesStill (E.takes to.old) (E.takes to.new) result }

@@ -111,7 +111,8 @@ fn place_tree(buf: &mut [u8], at: usize, tree: &Tree) -> usize
 pub fn write_tree(alloc: Global, tree: &Tree, out: &mut Vec<u8>) -> Result<(), NoMemory>
     requires cbor { IsCbor (node_of tree.now) }
     ensures written { OnOk result (out.new.items ≡ out.old.items ++ written_item (node_of tree.now)) }
-    ensures read_again { OnOk result (levels (node_of tree.now) ≤ most_levels → ComesTo cbor_syntax (drop (length out.old.items) out.new.items) (Ok (node_of tree.now))) }
+    ensures read_again { OnOk result (levels (node_of tree.now) ≤ most_levels
+        → ComesTo cbor_syntax (drop (length out.old.items) out.new.items) (Ok (node_of tree.now))) }
     ensures unchanged { OnErr result (out.new.items ≡ out.old.items) }
     ensures succeeds { vec_len out.old + length (written_item (node_of tree.now)) ≤ vec_capacity out.old → IsOk result }
     ensures same_block { vec_len out.old + length (written_item (node_of tree.now)) ≤ vec_capacity out.old → SameBlock out.old out.new }

@@ -73,7 +73,8 @@ impl CborWriter {
 
     fn put_string(&mut self, major: u8, bytes: &[u8]) -> Result<(), NoMemory>
         requires { major < 8 }
-        ensures written { OnOk result (self.new.bytes.items ≡ self.old.bytes.items ++ (written_head major (length bytes.now) ++ bytes.now)) }
+        ensures written { OnOk result (self.new.bytes.items ≡ self.old.bytes.items ++
+            (written_head major (length bytes.now) ++ bytes.now)) }
         ensures unchanged { OnErr result (self.new.bytes.items ≡ self.old.bytes.items) }
     {
         let at = make_room(self.alloc, &mut self.bytes, string_len(bytes) as usize)?;

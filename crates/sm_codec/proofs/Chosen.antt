@@ -63,7 +63,8 @@ module _ (c : Codec) (p : Place) (ps : List (List ℕ × Node)) where
   not_there (k ∷ ks) read h g =
       let faults = sym (repeats_more k ks) ∙ h in
       let there = sym (there_more k ks) ∙ g in
-      let says = name_says k (trees k) (named_read c (wire_name c p k) ps read) (none_first (repeat_at k (trees k)) (all_repeats ks) faults) in (
+      let says = name_says k (trees k) (named_read c (wire_name c p k) ps read)
+      (none_first (repeat_at k (trees k)) (all_repeats ks) faults) in (
         subst (NameSays k (trees k)) (none_first (standing k (children_of c (trees k))) (all_there ks) there) says,
         not_there ks read (none_behind (repeat_at k (trees k)) (all_repeats ks) faults)
             (none_behind (standing k (children_of c (trees k))) (all_there ks) there),

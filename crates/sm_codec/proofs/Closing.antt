@@ -45,7 +45,8 @@ arrives_in c q us n x due laws e h =
 -- a structure's frame takes a member's tree
 pub structure_takes : (c : Codec) (p : Place) (ms : List (List ℕ × Node)) (name : List ℕ) (us : List ℕ) (n : Node) (k : ℕ) (x : Arrival)
     → (f g : MemberFrame) → IsConvention c.convention → Shaped c.table → InTable c.table p → member_at c p name ≡ Some k
-    → IsArrival (null_where (due_within c (opened_at p) (pair_level ms name us)) n) (read_where c (due_within c (opened_at p) (pair_level ms name us)) n) x
+    → IsArrival (null_where (due_within c (opened_at p) (pair_level ms name us)) n)
+    (read_where c (due_within c (opened_at p) (pair_level ms name us)) n) x
     → TakesMember c.table k x f g → FrameHolds c p (pair_level ms name us) (structure_frame f)
     → FrameHolds c p (level_with n (pair_level ms name us)) (structure_frame g)
 structure_takes c p ms name us n k x f g laws shaped inside at is takes h =
@@ -53,23 +54,27 @@ structure_takes c p ms name us n k x f g laws shaped inside at is takes h =
     ap (λ s. behind_tags c (behind_name s c p name) us) h.0 ∙ ap (λ o. behind_tags c (due_member o) us) at in
     let come = arrives_in c (member_place k) us n x (due_within c (opened_at p) (pair_level ms name us)) laws due is in
     let held = member_held c p (named_children_of c ms) name (child_of c (tagged us n)) k x f g laws shaped inside at come takes h in
-    subst (λ ps. HoldsPairs c p ps None (structure_frame g)) (sym (map-append (λ m. (m.0, child_of c m.1)) ms ((name, tagged us n) ∷ []))) held
+    subst (λ ps. HoldsPairs c p ps None (structure_frame g)) (sym
+    (map-append (λ m. (m.0, child_of c m.1)) ms ((name, tagged us n) ∷ []))) held
 
 pub structure_passes : (c : Codec) (p : Place) (ms : List (List ℕ × Node)) (name : List ℕ) (us : List ℕ) (n : Node) (f : MemberFrame)
     → member_at c p name ≡ None → FrameHolds c p (pair_level ms name us) (structure_frame f)
     → FrameHolds c p (level_with n (pair_level ms name us)) (structure_frame f)
 structure_passes c p ms name us n f at h =
     let held = unknown_held c p (named_children_of c ms) name (child_of c (tagged us n)) f at h in
-    subst (λ ps. HoldsPairs c p ps None (structure_frame f)) (sym (map-append (λ m. (m.0, child_of c m.1)) ms ((name, tagged us n) ∷ []))) held
+    subst (λ ps. HoldsPairs c p ps None (structure_frame f)) (sym
+    (map-append (λ m. (m.0, child_of c m.1)) ms ((name, tagged us n) ∷ []))) held
 
 -- a list's frame takes an entry
 pub list_takes : (c : Codec) (p : Place) (ns : List Node) (us : List ℕ) (n : Node) (x : Arrival) (f g : EntryFrame)
     → IsConvention c.convention
-    → IsArrival (null_where (due_within c (opened_at p) (list_level ns us)) n) (read_where c (due_within c (opened_at p) (list_level ns us)) n) x
+    → IsArrival (null_where (due_within c (opened_at p) (list_level ns us)) n)
+    (read_where c (due_within c (opened_at p) (list_level ns us)) n) x
     → TakesEntry (sparse_of c.table p) x f g → FrameHolds c p (list_level ns us) (list_frame f)
     → FrameHolds c p (level_with n (list_level ns us)) (list_frame g)
 list_takes c p ns us n x f g laws is takes h =
-    entry_held c p ns (tagged us n) x f g (arrives_in c (entry_place c.table p) us n x (due_within c (opened_at p) (list_level ns us)) laws refl is) takes h
+    entry_held c p ns (tagged us n) x f g (arrives_in c (entry_place c.table p) us n x
+    (due_within c (opened_at p) (list_level ns us)) laws refl is) takes h
 
 -- what stood before what is open innermost was opened
 abbrev pub before_opener : List ℕ → List Around → Building

@@ -12,7 +12,8 @@ use Rattle.sm_codec.specs.CodecLaws.{IsCodec}
 use Rattle.sm_codec.proofs.KeyOrder.{none_in_order}
 
 -- what fits but for its pattern, and keeps it too, fits
-fits_too : (t : TableData) (test : Test) (p : Place) (v : Val) → Fits t any_text p v → MayHaveDefault (kind_of t p) v → MeetsConstraints t test p v
+fits_too : (t : TableData) (test : Test) (p : Place) (v : Val) → Fits t any_text p v → MayHaveDefault (kind_of t p) v
+    → MeetsConstraints t test p v
     → Fits t test p v
 fits_too t test p null_val h may kept = h
 fits_too t test p (bool_val b) h may kept = (h.0, kept)

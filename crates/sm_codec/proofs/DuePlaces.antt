@@ -75,7 +75,8 @@ key_due c p q name left_out e h = absurd cc
 pub place_known : (c : Codec) (p q : Place) (l : Level) (f : Frame) → FrameHolds c p l f → IsDueAt q (due_within c (opened_at p) l)
     → place_in c.table f ≡ Some q
 place_known c p q (list_level ns ts) (list_frame f) h due =
-    ap (λ s. Some (member_place (slice_index_or (members_at c.table s) 0 0))) h.shape ∙ ap (λ x. Some x) (before_tags c q (due_at (entry_place c.table p)) ts due)
+    ap (λ s. Some (member_place (slice_index_or (members_at c.table s) 0 0))) h.shape
+    ∙ ap (λ x. Some x) (before_tags c q (due_at (entry_place c.table p)) ts due)
 place_known c p q (list_level ns ts) (structure_frame f) h due = absurd h
 place_known c p q (list_level ns ts) (union_frame f) h due = absurd h
 place_known c p q (list_level ns ts) (map_frame f) h due = absurd h
@@ -162,7 +163,8 @@ passed_list c due_nowhere ns depth kind laws is e = absurd cc
 pub passed_object : (c : Codec) (due : Due) (ms : Members) (depth : ℕ) (kind : FaultKind) → IsConvention c.convention → IsSimpleDue c due
     → opened_where c object_by_sort due ≡ opened_passed depth (Some kind) → read_where c due (object ms) ≡ Err (one_here kind)
 passed_object c (due_at p) ms depth kind laws is e = wrong_object c p ms (sort_at c p) depth kind laws e
-passed_object c (due_tagged p x k) ms depth kind laws is e = tagged_nested c p x k (object ms) depth kind is (laws.nested x k (object ms) tt) e
+passed_object c (due_tagged p x k) ms depth kind laws is e = tagged_nested c p x k (object ms) depth kind is
+    (laws.nested x k (object ms) tt) e
 passed_object c (due_passed d report) ms depth kind laws is e =
     let same : report ≡ Some kind = cc in ap (λ r. read_where c (due_passed d r) (object ms)) same
 passed_object c due_nowhere ms depth kind laws is e = absurd cc

@@ -65,7 +65,8 @@ present_says c q sparse n read i (Ok v) e is = no_null_value c q sparse n v (rea
 present_says c q sparse n read i (Err []) e is = is
 present_says c q sparse n read i (Err (f ∷ fs)) e is = tt
 
-null_says : (c : Codec) (q : Place) (sparse : Bool) (n : Node) → n ≡ null → EntrySays c q sparse n (cond sparse (Ok null_val) (Err (one_here Null)))
+null_says : (c : Codec) (q : Place) (sparse : Bool) (n : Node) → n ≡ null
+    → EntrySays c q sparse n (cond sparse (Ok null_val) (Err (one_here Null)))
 null_says c q true n e = (e, refl)
 null_says c q false n e = tt
 
@@ -172,7 +173,13 @@ module _ (c : Codec) (p : Place) where
       (none_here (length_broken (constraints_of c.table p) (length cs)) (none_behind es long both)) in
       let unlike = subst (λ fs. unique_faults c p fs vs ≡ []) clean (none_behind (es ++ long) (unique_faults c p es vs) found.0) in
       subst (λ w. Spells c p w (list (nodes_of ns))) found.1 (
-        (kind, kept, (λ u. subst AllUnlike (sym (vals_back vs)) (unlike_where vs (unlike_if (unique_of c.table p) (has_twice vs) unlike u))), parts.1),
+        (
+          kind,
+          kept,
+          (λ u. subst AllUnlike (sym (vals_back vs))
+              (unlike_where vs (unlike_if (unique_of c.table p) (has_twice vs) unlike u))),
+          parts.1,
+        ),
         (sort, (ns, refl, parts.0)),
       )
 
@@ -180,7 +187,8 @@ module _ (c : Codec) (p : Place) where
   SpelledList i ns vs =
       (entries_faults c p i (children_of c ns) ≡ []) × (entries_values c p (children_of c ns) ≡ vs) × (length ns ≡ length vs)
 
-  entries_spelled : (i : ℕ) (vs : Vals) (ns : List Node) → IsConvention c.convention → InTable c.table (entry_place c.table p) → AreSpelled c vs
+  entries_spelled : (i : ℕ) (vs : Vals) (ns : List Node) → IsConvention c.convention → InTable c.table (entry_place c.table p)
+      → AreSpelled c vs
       → SpelledEntries c p vs ns → FitEntries c.table c.test p vs → SpelledList i ns (each_val vs)
   entries_spelled i no_vals [] laws inside is h g = (refl, refl, refl)
   entries_spelled i no_vals (n ∷ ns) laws inside is h g = absurd h
@@ -212,7 +220,8 @@ module _ (c : Codec) (p : Place) where
       ap (λ fs. unique_faults c p fs (entries_values c p cs)) parts.0 ∙ ap (unique_faults c p []) parts.1
       ∙ none_twice (unique_of c.table p) (each_val vs) h.0.2 in
       let clean : list_faults c p cs ≡ [] =
-      ap (λ fs. fs ++ here (length_broken (constraints_of c.table p) (length cs)) ++ unique_faults c p (entries_faults c p 0 cs) (entries_values c p cs)) parts.0
+      ap (λ fs. fs ++ here (length_broken (constraints_of c.table p) (length cs)) ++ unique_faults c p (entries_faults c p 0 cs)
+      (entries_values c p cs)) parts.0
       ∙ ap (λ fs. fs ++ unique_faults c p (entries_faults c p 0 cs) (entries_values c p cs)) kept ∙ unlike in
       ap (λ m. reading c m p) h.1.1.1
       ∙ ap (λ s. list_by s c p (list (nodes_of ns)) (children c (nodes_of ns))) h.1.0

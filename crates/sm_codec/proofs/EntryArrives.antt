@@ -34,7 +34,8 @@ entry_null false found = ([], refl)
 pub entry_is : (sparse : Bool) (q : Place) (child : Child) (x : Arrival) → IsArrival child.null (child.reading q) x
     → IsEntry (entry_reading sparse q child) (entry_comes sparse x)
 entry_is sparse q child null_comes h =
-    subst (λ b. IsEntry (cond b (cond sparse (Ok null_val) (Err (one_here Null))) (child.reading q)) (entry_comes sparse null_comes)) (sym h)
+    subst (λ b. IsEntry (cond b (cond sparse (Ok null_val) (Err (one_here Null))) (child.reading q)) (entry_comes sparse null_comes))
+    (sym h)
     (entry_null sparse (child.reading q))
 entry_is sparse q child (value_comes v) h =
     ap (λ b. cond b (cond sparse (Ok null_val) (Err (one_here Null))) (child.reading q)) h.0 ∙ h.1
@@ -104,7 +105,8 @@ module _ (c : Codec) (p : Place) (cs : List Child) (child : Child) where
       faults_behind c p child cs ∙ ap (λ r. before_faults ++ under (Index (length cs)) (faults_in r)) e ∙ append-nil before_faults in
       let values : entries_values c p (cs ++ child ∷ []) ≡ entries_values c p cs ++ v ∷ [] =
       values_more c p child cs ∙ ap (λ r. entries_values c p cs ++ values_in r) e in
-      let some = of_joined items (entries_values c p cs) (v ∷ []) (v ∷ []) (kept_of before_faults items (entries_values c p cs) h.1) (all_of (v ∷ [])) in (
+      let some = of_joined items (entries_values c p cs) (v ∷ []) (v ∷ []) (kept_of before_faults items (entries_values c p cs) h.1)
+      (all_of (v ∷ [])) in (
         h.0 ∙ ap first_fault (sym faults),
         kept_from now_faults (items ++ v ∷ []) (entries_values c p (cs ++ child ∷ []))
             (subst (λ vs. AreOf (items ++ v ∷ []) vs) (sym values) some)
@@ -144,7 +146,8 @@ entry_held c p ns n x f g is takes h =
     let child = child_of c n in
     let count : f.count ≡ length cs = h.count ∙ sym (length-map ns (child_of c)) in
     let come = entry_comes (sparse_of c.table p) x in
-    let held = entry_more c p cs child come f.fault f.items (entry_is (sparse_of c.table p) (entry_place c.table p) child x is) (h.fault, h.items) in
+    let held = entry_more c p cs child come f.fault f.items (entry_is (sparse_of c.table p) (entry_place c.table p) child x is)
+    (h.fault, h.items) in
     let all : children_of c (ns ++ n ∷ []) ≡ cs ++ child ∷ [] = map-append (child_of c) ns (n ∷ []) in
     let now = subst (λ ks. Held c p cs child (entry_fault (length cs) come f.fault) (items_taken come f.items) ks) (sym all) held in
     let same_fault : g.fault ≡ entry_fault (length cs) come f.fault = takes.3 ∙ ap (λ i. entry_fault i come f.fault) count in
@@ -153,7 +156,8 @@ entry_held c p ns n x f g is takes h =
       shape = takes.0 ∙ h.shape;
       count = takes.1 ∙ ap suc h.count ∙ sym (one_longer ns n);
       fault = same_fault ∙ now.0;
-      items = subst (λ vs. AreKept (entries_faults c p 0 (children_of c (ns ++ n ∷ []))) vs (entries_values c p (children_of c (ns ++ n ∷ []))))
+      items = subst (λ vs. AreKept (entries_faults c p 0 (children_of c (ns ++ n ∷ []))) vs
+          (entries_values c p (children_of c (ns ++ n ∷ []))))
           (sym takes.2) now.1;
     }
   where
@@ -163,7 +167,8 @@ entry_held c p ns n x f g is takes h =
 
 -- where the list ends
 ends_by : (c : Codec) (p : Place) (cs : List Child) (fs : List FaultAt) → entries_faults c p 0 cs ≡ fs
-    → list_faults c p cs ≡ (fs ++ here (length_broken (constraints_of c.table p) (length cs))) ++ unique_faults c p fs (entries_values c p cs)
+    → list_faults c p cs ≡ (fs ++ here (length_broken (constraints_of c.table p) (length cs))) ++ unique_faults c p fs
+    (entries_values c p cs)
 ends_by c p cs fs e =
     ap (λ xs. (xs ++ here (length_broken (constraints_of c.table p) (length cs))) ++ unique_faults c p xs (entries_values c p cs)) e
 
@@ -178,12 +183,16 @@ list_fault c p ns f g h e = by_faults (entries_faults c p 0 (children_of c ns)) 
     by_faults (f ∷ fs) is first =
         let both : Some g ≡ Some f = first ∙ ap first_fault is in
         let same : f ≡ g = cc in
-        let rest = (fs ++ here (length_broken (constraints_of c.table p) (length (children_of c ns)))) ++ [] in
-        (rest, ap (λ xs. settled xs (list_val (vals_of (entries_values c p (children_of c ns))))) (ends_by c p (children_of c ns) (f ∷ fs) is) ∙ ap (λ x. Err (x ∷ rest)) same)
+        let rest = (fs ++ here (length_broken (constraints_of c.table p) (length (children_of c ns)))) ++ [] in (
+          rest,
+          ap (λ xs. settled xs (list_val (vals_of (entries_values c p (children_of c ns)))))
+              (ends_by c p (children_of c ns) (f ∷ fs) is) ∙ ap (λ x. Err (x ∷ rest)) same,
+        )
 
 pub list_ends : (c : Codec) (p : Place) (ns : List Node) (f : EntryFrame) → HoldsEntries c p ns f → f.fault ≡ None
     → list_reading c p (children_of c ns)
-    ≡ settled (here (length_broken (constraints_of c.table p) f.count) ++ cond (unique_of c.table p && has_twice f.items) (one_here Unique) [])
+    ≡ settled (here (length_broken (constraints_of c.table p) f.count) ++ cond (unique_of c.table p && has_twice f.items)
+    (one_here Unique) [])
     (list_val (vals_of f.items))
 list_ends c p ns f h e =
     let cs = children_of c ns in
@@ -191,8 +200,10 @@ list_ends c p ns f h e =
     let items : f.items ≡ entries_values c p cs = kept_all (entries_faults c p 0 cs) f.items (entries_values c p cs) h.items none in
     let count : length cs ≡ f.count = length-map ns (child_of c) ∙ sym h.count in
     ap (λ fs. settled fs (list_val (vals_of (entries_values c p cs)))) (ends_by c p cs [] none)
-    ∙ ap (λ n. settled (here (length_broken (constraints_of c.table p) n) ++ unique_faults c p [] (entries_values c p cs)) (list_val (vals_of (entries_values c p cs)))) count
-    ∙ ap (λ vs. settled (here (length_broken (constraints_of c.table p) f.count) ++ unique_faults c p [] vs) (list_val (vals_of vs))) (sym items)
+    ∙ ap (λ n. settled (here (length_broken (constraints_of c.table p) n) ++ unique_faults c p [] (entries_values c p cs))
+    (list_val (vals_of (entries_values c p cs)))) count
+    ∙ ap (λ vs. settled (here (length_broken (constraints_of c.table p) f.count) ++ unique_faults c p [] vs) (list_val (vals_of vs)))
+    (sym items)
   where
     no_first : (fs : List FaultAt) → None ≡ first_fault fs → fs ≡ []
     no_first [] i = refl

@@ -52,7 +52,8 @@ module _ (c : Codec) (d : Decoding) (ev : NodeEvent) (shaped : Shaped c.table) w
         → LeafBy c.table c.convention c.test told n d.frames e → TakesOn (Stands c d) ev (Stands c e)
     leaf_kept n laws plain is comes by es k begins =
         let awaits = comes k.building (kept_awaits c es ev d k begins) in
-        kept_on c es ev d e k (after_value n k.building) begins (value_taken k.building n awaits ∙ ap (λ fs. so_far k.building ++ fs) is) root
+        kept_on c es ev d e k (after_value n k.building) begins
+        (value_taken k.building n awaits ∙ ap (λ fs. so_far k.building ++ fs) is) root
         (leaf_holds c d k.building shaped k.in_table awaits k.holds e n laws plain root by)
 
 -- the events of an opener
@@ -81,14 +82,16 @@ module _ (c : Codec) (d e : Decoding) (shaped : Shaped c.table) (root : e.shape 
       → TakesOn (Stands c d) (start_list count) (Stands c e)
   list_kept count by es k begins =
       let awaits : awaits_value k.building ≡ true = kept_awaits c es (start_list count) d k begins in
-      kept_on c es (start_list count) d e k (after_start (in_list [] []) k.building) begins (start_taken (in_list [] []) k.building awaits) root
+      kept_on c es (start_list count) d e k (after_start (in_list [] []) k.building) begins
+      (start_taken (in_list [] []) k.building awaits) root
       (list_moves c d k.building shaped k.in_table awaits k.holds e root same by)
 
   pub object_kept : (count : Option ℕ) → StartBy object_start c.table c.convention (due_told c.table d.shape d.frames) d.frames e.frames
       → TakesOn (Stands c d) (start_object count) (Stands c e)
   object_kept count by es k begins =
       let awaits : awaits_value k.building ≡ true = kept_awaits c es (start_object count) d k begins in
-      kept_on c es (start_object count) d e k (after_start (in_object []) k.building) begins (start_taken (in_object []) k.building awaits) root
+      kept_on c es (start_object count) d e k (after_start (in_object []) k.building) begins
+      (start_taken (in_object []) k.building awaits) root
       (object_moves c d k.building shaped k.in_table awaits k.holds e root same by)
 
 -- a name
@@ -149,7 +152,8 @@ object_awaited (within ts (in_pair ms key us) outer) h = let owed : true ≡ fal
 abbrev pub EndReady : Codec → Decoding → Type 0
 EndReady c d = FirstCanEnd c.table d.shape d.frames × (d.result ≡ None)
 
-module _ (c : Codec) (d : Decoding) (ev : NodeEvent) (laws : IsConvention c.convention) (shaped : Shaped c.table) (awaited : EndAwaited ev) where
+module _ (c : Codec) (d : Decoding) (ev : NodeEvent) (laws : IsConvention c.convention) (shaped : Shaped c.table)
+    (awaited : EndAwaited ev) where
   end_ready : MayTake (Stands c d) ev → EndReady c d
   end_ready (es, k, begins) =
       let end = awaited k.building (kept_awaits c es ev d k begins) in

@@ -69,7 +69,8 @@ placed key (k ∷ ks) h = placed_by key k ks (order key k) refl h (placed key ks
 never_behind_itself : (key k : List ℕ) → key ≡ k → order key k ≡ Greater → ⊥
 never_behind_itself key k e h = never_before_itself k key (sym e) (less_where_greater key k h)
 
-pub not_among : (key : List ℕ) (before behind : List (List ℕ)) → KeysAt key Greater before → KeysAt key Less behind → IsIn key (before ++ behind)
+pub not_among : (key : List ℕ) (before behind : List (List ℕ)) → KeysAt key Greater before → KeysAt key Less behind
+    → IsIn key (before ++ behind)
     → ⊥
 not_among key [] [] low high i = i
 not_among key [] (k ∷ ks) low high (inl e) = never_before_itself key k e high.0
@@ -177,7 +178,8 @@ module _ (c : Codec) (p : Place) (ps : List (List ℕ × Child)) where
 
   pub faults_same : (qs : List (List ℕ × Child)) (ks : List (List ℕ)) → SameUnder qs ps ks → keys_faults c p qs ks ≡ keys_faults c p ps ks
   faults_same qs ks h =
-      joined_agree (λ k cs. under (Key k) (pair_faults c p k cs)) (λ k. named k qs) (λ k. named k ps) (keys_faults c p qs) (keys_faults c p ps)
+      joined_agree (λ k cs. under (Key k) (pair_faults c p k cs)) (λ k. named k qs) (λ k. named k ps) (keys_faults c p qs)
+      (keys_faults c p ps)
       (refl, λ k ms. refl) (refl, λ k ms. refl) ks h
 
   pub entries_same : (qs : List (List ℕ × Child)) (ks : List (List ℕ)) → SameUnder qs ps ks
@@ -191,7 +193,8 @@ abbrev pub EntriesAt : List ℕ → Ordering → List (List ℕ × Val) → Type
 EntriesAt key o [] = Unit {0}
 EntriesAt key o (e ∷ es) = (order key e.0 ≡ o) × EntriesAt key o es
 
-pub at_joined : (key : List ℕ) (o : Ordering) (es hs : List (List ℕ × Val)) → EntriesAt key o es → EntriesAt key o hs → EntriesAt key o (es ++ hs)
+pub at_joined : (key : List ℕ) (o : Ordering) (es hs : List (List ℕ × Val)) → EntriesAt key o es → EntriesAt key o hs
+    → EntriesAt key o (es ++ hs)
 at_joined key o [] hs h g = g
 at_joined key o (e ∷ es) hs h g = (h.0, at_joined key o es hs h.1 g)
 
@@ -216,11 +219,13 @@ module _ (c : Codec) (p : Place) where
       → EntriesAt key o (spelled_entries c p ps ks)
   at_spelled key o ps [] h = tt
   at_spelled key o ps (k ∷ ks) h =
-      at_joined key o (each_entry c p k (named k ps)) (spelled_entries c p ps ks) (at_each key k o (named k ps) h.0) (at_spelled key o ps ks h.1)
+      at_joined key o (each_entry c p k (named k ps)) (spelled_entries c p ps ks) (at_each key k o (named k ps) h.0)
+      (at_spelled key o ps ks h.1)
 
   pub each_joined : (key : List ℕ) (cs ds : List Child) → each_entry c p key (cs ++ ds) ≡ each_entry c p key cs ++ each_entry c p key ds
   each_joined key cs ds =
-      joined_two (λ x. keyed key (entry_reading (sparse_of c.table p) (value_place c.table p) x)) (each_entry c p key) (refl, λ x xs. refl) cs ds
+      joined_two (λ x. keyed key (entry_reading (sparse_of c.table p) (value_place c.table p) x)) (each_entry c p key)
+      (refl, λ x xs. refl) cs ds
 
 -- an entry that is put goes behind those before it
 module _ (key : List ℕ) (v : Val) where
@@ -228,7 +233,8 @@ module _ (key : List ℕ) (v : Val) where
       → insert_entry (slice_cmp nat_cmp) (es ++ hs) key v ≡ es ++ insert_entry (slice_cmp nat_cmp) hs key v
   insert_past [] hs h = refl
   insert_past (e ∷ es) hs h =
-      ap (λ o. match_ordering o ((key, v) ∷ e ∷ (es ++ hs)) ((e.0, v) ∷ (es ++ hs)) (e ∷ insert_entry (slice_cmp nat_cmp) (es ++ hs) key v)) h.0
+      ap (λ o. match_ordering o ((key, v) ∷ e ∷ (es ++ hs)) ((e.0, v) ∷ (es ++ hs))
+      (e ∷ insert_entry (slice_cmp nat_cmp) (es ++ hs) key v)) h.0
       ∙ ap (λ xs. e ∷ xs) (insert_past es hs h.1)
 
   pub insert_first : (hs : List (List ℕ × Val)) → EntriesAt key Less hs → insert_entry (slice_cmp nat_cmp) hs key v ≡ (key, v) ∷ hs
@@ -246,7 +252,8 @@ pub first_own : (key k : List ℕ) (b : Bool) (own rest : List FaultAt) → is_l
 first_own key k b [] rest e h = h
 first_own key k b (f ∷ own) rest e h = e
 
-pub first_at : (c : Codec) (p : Place) (ps : List (List ℕ × Child)) (key : List ℕ) (o : Ordering) (b : Bool) (ks : List (List ℕ)) → is_le o ≡ b
+pub first_at : (c : Codec) (p : Place) (ps : List (List ℕ × Child)) (key : List ℕ) (o : Ordering) (b : Bool) (ks : List (List ℕ))
+    → is_le o ≡ b
     → KeysAt key o ks → HeadGives (goes_first key) b (keys_faults c p ps ks)
 first_at c p ps key o b [] e h = tt
 first_at c p ps key o b (k ∷ ks) e h =

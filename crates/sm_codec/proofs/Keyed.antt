@@ -71,13 +71,15 @@ module _ (c : Codec) (p : Place) where
   key_if key false h = absurd cc
 
   key_fits : (key : List ℕ) → IsTextKind (kind_of c.table (key_place c.table p)) → key_faults c p key ≡ []
-      → IsOfKind (kind_of c.table (key_place c.table p)) (text_val key) × MeetsConstraints c.table c.test (key_place c.table p) (text_val key)
+      → IsOfKind (kind_of c.table (key_place c.table p)) (text_val key)
+      × MeetsConstraints c.table c.test (key_place c.table p) (text_val key)
   key_fits key texts h =
       let found = key_if key (is_utf8 key) h in
       (text_kind (kind_of c.table (key_place c.table p)) key texts (IsUtf8-from_is_utf8 key found.0), found.1)
 
   key_clear : (key : List ℕ) → IsTextKind (kind_of c.table (key_place c.table p))
-      → IsOfKind (kind_of c.table (key_place c.table p)) (text_val key) → MeetsConstraints c.table c.test (key_place c.table p) (text_val key)
+      → IsOfKind (kind_of c.table (key_place c.table p)) (text_val key)
+      → MeetsConstraints c.table c.test (key_place c.table p) (text_val key)
       → key_faults c p key ≡ []
   key_clear key texts of kept =
       ap (λ b. cond b (here (broken_at c (key_place c.table p) (text_val key))) (one_here WrongType))
@@ -108,7 +110,8 @@ module _ (c : Codec) (p : Place) where
   key_read ps key keys [] more texts inside i e read h rest = absurd (stands_in key ps i e)
   key_read ps key keys (n ∷ []) more texts inside i e read h rest =
       key_more ps key keys n (value_reading n) more texts e (entry_says c (value_place c.table p) (sparse_of c.table p) n read.0 inside)
-      (none_first (key_faults c p key) (faults_in (value_reading n)) h) (none_behind (key_faults c p key) (faults_in (value_reading n)) h) rest
+      (none_first (key_faults c p key) (faults_in (value_reading n)) h)
+      (none_behind (key_faults c p key) (faults_in (value_reading n)) h) rest
   key_read ps key keys (n ∷ m ∷ ns) more texts inside i e read h rest = absurd cc
 
   keys_read : (ps : List (List ℕ × Node)) (keys : List (List ℕ)) → IsTextKind (kind_of c.table (key_place c.table p))
@@ -155,7 +158,8 @@ module _ (c : Codec) (p : Place) where
   SpelledKeys ps es =
       (keys_faults c p (named_children_of c ps) (keys_of es) ≡ []) × (keys_values c p (named_children_of c ps) (keys_of es) ≡ entries_in es)
 
-  keys_spelled : (ps : List (List ℕ × Node)) (es : EntryVals) → IsConvention c.convention → IsTextKind (kind_of c.table (key_place c.table p))
+  keys_spelled : (ps : List (List ℕ × Node)) (es : EntryVals) → IsConvention c.convention
+      → IsTextKind (kind_of c.table (key_place c.table p))
       → InTable c.table (value_place c.table p) → EntriesAreSpelled c es → SpelledPairs c p es ps → FitPairs c.table c.test p es
       → SpelledKeys ps es
   keys_spelled ps no_entries laws texts inside is h g = (refl, refl)
@@ -166,7 +170,8 @@ module _ (c : Codec) (p : Place) where
       let value = entry_spelled c (value_place c.table p) (sparse_of c.table p) n v laws inside is.0 h.2 g.2 in
       let rest = keys_spelled ps es laws texts inside is.1 h.3 g.3 in (
         ap (λ ks. under (Key key) (pair_faults c p key ks) ++ keys_faults c p cs (keys_of es)) under_key
-            ∙ ap (λ fs. under (Key key) (fs ++ faults_in (value_reading n)) ++ keys_faults c p cs (keys_of es)) (key_clear key texts g.0 g.1)
+            ∙ ap (λ fs. under (Key key) (fs ++ faults_in (value_reading n)) ++ keys_faults c p cs (keys_of es))
+            (key_clear key texts g.0 g.1)
             ∙ ap (λ r. under (Key key) (faults_in r) ++ keys_faults c p cs (keys_of es)) value
             ∙ rest.0,
         ap (λ ks. pair_values c p key ks ++ keys_values c p cs (keys_of es)) under_key
@@ -190,7 +195,8 @@ module _ (c : Codec) (p : Place) where
       let ps = h.1.1.0 in
       let cs = named_children_of c ps in
       let kind = h.0.0 in
-      let parts = keys_spelled ps es laws.convention (key_text c.table p laws.table inside kind) (value_in c.table p laws.table inside kind) is
+      let parts = keys_spelled ps es laws.convention (key_text c.table p laws.table inside kind)
+      (value_in c.table p laws.table inside kind) is
       h.1.1.3 h.0.3 in
       let same : names_of cs ≡ names_of ps = names_are c ps in
       let keys : in_byte_order (names_of cs) ≡ keys_of es =

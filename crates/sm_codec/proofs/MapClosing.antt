@@ -142,8 +142,10 @@ map_outcome c p ps f h = by_fault f.fault refl
         let entries : f.entries ≡ pairs_values c p ps =
         kept_all (pairs_faults c p ps) f.entries (spelled_entries c p ps ks) h.1.entries none ∙ all_entries c p ps ks none in
         let count : length ks ≡ length f.seen = length_permutation f.seen ks h.1.seen in
-        let reads : map_reading c p ps ≡ settled (here (length_broken (constraints_of c.table p) (length f.seen))) (map_val (entries_of f.entries)) =
-        ap (λ fs. settled (fs ++ here (length_broken (constraints_of c.table p) (length ks))) (map_val (entries_of (pairs_values c p ps)))) none
+        let reads : map_reading c p ps ≡ settled (here (length_broken (constraints_of c.table p) (length f.seen)))
+        (map_val (entries_of f.entries)) =
+        ap (λ fs. settled (fs ++ here (length_broken (constraints_of c.table p) (length ks)))
+        (map_val (entries_of (pairs_values c p ps)))) none
         ∙ ap (λ n. settled (here (length_broken (constraints_of c.table p) n)) (map_val (entries_of (pairs_values c p ps)))) count
         ∙ ap (λ es. settled (here (length_broken (constraints_of c.table p) (length f.seen))) (map_val (entries_of es))) (sym entries) in
         let long = length_broken (constraints_of c.table p) (length f.seen) in

@@ -26,7 +26,8 @@ use Rattle.sm_codec.proofs.MemberParts.{closed_agree, spelled_below, spelled_abo
 -- the values of all members that stand before the first with a fault are kept
 abbrev pub HasPrefix : TableData → List ℕ → ByMember → List (ℕ × Val) → Type 0
 HasPrefix t ms s fields =
-    (before behind : List ℕ) → ms ≡ before ++ behind → closed_faults t s before ≡ [] → (rest : List (ℕ × Val)) × (fields ≡ spelled_fields s before ++ rest)
+    (before behind : List ℕ) → ms ≡ before ++ behind → closed_faults t s before ≡ []
+    → (rest : List (ℕ × Val)) × (fields ≡ spelled_fields s before ++ rest)
 
 -- what a structure's frame says of its closed members: those seen, the fault and the fields
 abbrev pub AreHeld : TableData → List ℕ → ByMember → List ℕ → Option FaultAt → List (ℕ × Val) → Type 0
@@ -44,7 +45,8 @@ two_read k a x (b ∷ bs) = refl
 
 pub each_two : (k : ℕ) (xs ys : List Child) → each_field k (xs ++ ys) ≡ each_field k xs ++ each_field k ys
 each_two k xs ys =
-    joined_two (λ x. cond x.null [] (member_fields k (present_reading (x.reading (member_place k))))) (each_field k) (refl, λ x zs. refl) xs ys
+    joined_two (λ x. cond x.null [] (member_fields k (present_reading (x.reading (member_place k))))) (each_field k)
+    (refl, λ x zs. refl) xs ys
 
 -- all faults and fields, where the same stands for all members but k
 module _ (t : TableData) (before : List ℕ) (k : ℕ) (s r : ByMember) where
@@ -144,8 +146,11 @@ module _ (t : TableData) (before : List ℕ) (k : ℕ) (s r : ByMember) where
       ∙ put_between k v (spelled_fields s before) (spelled_fields s mid ++ kept.0) (spelled_below s k before below)
       (subst (λ fs. FieldsAbove k fs) same.1 high) in
       let now : spelled_fields r pre ≡ spelled_fields s before ++ (k, v) ∷ spelled_fields s mid =
-      ap (spelled_fields r) e ∙ fields_now mid ((k, v) ∷ []) front back one in
-      (kept.0, put ∙ sym (append_assoc (spelled_fields s before) ((k, v) ∷ spelled_fields s mid) kept.0) ∙ ap (λ fs. fs ++ kept.0) (sym now))
+      ap (spelled_fields r) e ∙ fields_now mid ((k, v) ∷ []) front back one in (
+        kept.0,
+        put ∙ sym (append_assoc (spelled_fields s before) ((k, v) ∷ spelled_fields s mid) kept.0)
+            ∙ ap (λ fs. fs ++ kept.0) (sym now),
+      )
 
   put_before_it : (pre more : List ℕ) (v : Val) (fields : List (ℕ × Val)) → AllBelow k pre → Agree r s pre → closed_faults t r pre ≡ []
       → (closed_faults t s pre ≡ [] → (rest : List (ℕ × Val)) × (fields ≡ spelled_fields s pre ++ rest))
@@ -169,7 +174,8 @@ module _ (t : TableData) (before : List ℕ) (k : ℕ) (s r : ByMember) where
       elim (two_splits pre post before k behind (sym e)) [
         | inl b ↦ put_before_it pre b.0 v fields (below_front pre b.0 (subst (AllBelow k) b.1 below))
             (agree_front r s pre b.0 (subst (λ ks. Agree r s ks) b.1 front)) h (old pre post e)
-        | inr m ↦ put_with_it behind pre m.0 v fields below above front (agree_front r s m.0 post (subst (λ ks. Agree r s ks) m.2 back)) m.1 h
+        | inr m ↦ put_with_it behind pre m.0 v fields below above front
+            (agree_front r s m.0 post (subst (λ ks. Agree r s ks) m.2 back)) m.1 h
             quiet empty one some (old pre post e)
       ]
 
@@ -228,13 +234,15 @@ pub record Arrives (t : TableData) (before : List ℕ) (k : ℕ) (behind : List 
 -- the members that are seen
 module _ (t : TableData) (before : List ℕ) (k : ℕ) (behind : List ℕ) (s r : ByMember) (child : Child) where
   members_by : (cs : List Child) → s k ≡ cs
-      → closed_members s (before ++ k ∷ behind) ≡ closed_members s before ++ cond (has_one cs) (k ∷ closed_members s behind) (closed_members s behind)
+      → closed_members s (before ++ k ∷ behind) ≡ closed_members s before ++ cond (has_one cs) (k ∷ closed_members s behind)
+      (closed_members s behind)
   members_by cs e =
       closed_two t s before (k ∷ behind)
       ∙ ap (λ xs. closed_members s before ++ cond (has_one xs) (k ∷ closed_members s behind) (closed_members s behind)) e
 
   members_now : (cs : List Child) → Agree r s before → Agree r s behind → r k ≡ cs
-      → closed_members r (before ++ k ∷ behind) ≡ closed_members s before ++ cond (has_one cs) (k ∷ closed_members s behind) (closed_members s behind)
+      → closed_members r (before ++ k ∷ behind) ≡ closed_members s before ++ cond (has_one cs) (k ∷ closed_members s behind)
+      (closed_members s behind)
   members_now cs front back e =
       closed_two t r before (k ∷ behind)
       ∙ ap (λ xs. xs ++ cond (has_one (r k)) (k ∷ closed_members r behind) (closed_members r behind)) (closed_agree t r s before front)
@@ -343,7 +351,8 @@ module _ (t : TableData) (before : List ℕ) (k : ℕ) (behind : List ℕ) (s r 
       let more = under (Member (name_at t k)) gs in
       let own = own_found t k child r (Err (g ∷ gs)) one is in
       let each = each_found t k child r (Err (g ∷ gs)) one is in
-      let some = subst (λ xs. AreOf fields xs) (sym (same_fields a none each)) (kept_of (closed_faults t s ms) fields (spelled_fields s ms) h.2) in (
+      let some = subst (λ xs. AreOf fields xs) (sym (same_fields a none each))
+      (kept_of (closed_faults t s ms) fields (spelled_fields s ms) h.2) in (
         seen_first t before k behind s r child seen now a.front a.back none one put h.0,
         fault_now new more fault a own h.1,
         kept_from (closed_faults t r ms) fields (spelled_fields r ms) some (λ e. absurd (never_none new more a own e)),

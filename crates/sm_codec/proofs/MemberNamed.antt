@@ -150,7 +150,8 @@ stands_by k j js false h = h
 
 pub stands_seen : (s : ByMember) (before : List ℕ) (k : ℕ) (behind : List ℕ) → has_one (s k) ≡ true
     → is_seen k (closed_members s (before ++ k ∷ behind)) ≡ true
-stands_seen s [] k behind h = ap (λ b. is_seen k (cond b (k ∷ closed_members s behind) (closed_members s behind))) h ∙ is_first k (closed_members s behind)
+stands_seen s [] k behind h = ap (λ b. is_seen k (cond b (k ∷ closed_members s behind) (closed_members s behind))) h
+    ∙ is_first k (closed_members s behind)
 stands_seen s (j ∷ before) k behind h =
     stands_by k j (closed_members s (before ++ k ∷ behind)) (has_one (s j)) (stands_seen s before k behind h)
 
@@ -240,7 +241,8 @@ arrives_at c p ps name child k laws shaped inside at =
       },
     )
 
-pub member_held : (c : Codec) (p : Place) (ps : List (List ℕ × Child)) (name : List ℕ) (child : Child) (k : ℕ) (x : Arrival) (f g : MemberFrame)
+pub member_held : (c : Codec) (p : Place) (ps : List (List ℕ × Child)) (name : List ℕ) (child : Child) (k : ℕ) (x : Arrival)
+    (f g : MemberFrame)
     → IsConvention c.convention → Shaped c.table → InTable c.table p → member_at c p name ≡ Some k
     → IsArrival child.null (child.reading (member_place k)) x → TakesMember c.table k x f g
     → HoldsPairs c p ps (Some name) (structure_frame f)
@@ -251,7 +253,8 @@ member_held c p ps name child k x f g laws shaped inside at is takes h =
     let r = under_names c p (ps ++ (name, child) ∷ []) in
     let found = arrives_at c p ps name child k laws shaped inside at in
     let old = subst (λ ks. AreHeld t ks s f.seen f.fault f.fields) found.2 (held_of t p s (member_at c p name) f h.1 h.2) in
-    let new = takes_by t found.0 k found.1 s r child x f g (is_seen k f.seen) refl (ap (members_at t) h.1.shape ∙ found.2) found.3 is takes.2 old in
+    let new = takes_by t found.0 k found.1 s r child x f g (is_seen k f.seen) refl
+    (ap (members_at t) h.1.shape ∙ found.2) found.3 is takes.2 old in
     let back = subst (λ ks. AreHeld t ks r g.seen g.fault g.fields) (sym found.2) new in (
       h.0,
       record { shape = takes.0 ∙ h.1.shape; seen = back.0; current = takes.1; fault = back.1; fields = back.2 },
@@ -259,7 +262,8 @@ member_held c p ps name child k x f g laws shaped inside at is takes h =
     )
 
 -- a name that finds no member leaves the frame as it is
-pub unknown_members : (c : Codec) (p : Place) (ps : List (List ℕ × Child)) (name : List ℕ) (child : Child) (f : MemberFrame) (fs gs : List FaultAt)
+pub unknown_members : (c : Codec) (p : Place) (ps : List (List ℕ × Child)) (name : List ℕ) (child : Child) (f : MemberFrame)
+    (fs gs : List FaultAt)
     → gs ≡ fs → member_at c p name ≡ None → HoldsMembers c.table p (under_names c p ps) (member_at c p name) fs f
     → HoldsMembers c.table p (under_names c p (ps ++ (name, child) ∷ [])) None gs f
 unknown_members c p ps name child f fs gs same at h =

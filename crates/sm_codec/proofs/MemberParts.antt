@@ -86,7 +86,8 @@ module _ (t : TableData) (s : ByMember) where
 module _ (t : TableData) (s r : ByMember) where
   pub faults_agree : (ks : List ℕ) → Agree s r ks → closed_faults t s ks ≡ closed_faults t r ks
   faults_agree ks h =
-      joined_agree (λ k cs. under (Member (name_at t k)) (member_faults (member_reading so_far_absent k cs))) s r (closed_faults t s) (closed_faults t r)
+      joined_agree (λ k cs. under (Member (name_at t k)) (member_faults (member_reading so_far_absent k cs))) s r (closed_faults t s)
+      (closed_faults t r)
       (refl, λ k ms. refl) (refl, λ k ms. refl) ks h
 
   pub spelled_agree : (ks : List ℕ) → Agree s r ks → spelled_fields s ks ≡ spelled_fields r ks
@@ -133,12 +134,14 @@ of_each k (child ∷ children) =
 pub spelled_below : (s : ByMember) (k : ℕ) (ks : List ℕ) → AllBelow k ks → FieldsBelow k (spelled_fields s ks)
 spelled_below s k [] h = tt
 spelled_below s k (j ∷ ks) h =
-    below_joined k (each_field j (s j)) (spelled_fields s ks) (below_here j k (each_field j (s j)) (of_each j (s j)) h.0) (spelled_below s k ks h.1)
+    below_joined k (each_field j (s j)) (spelled_fields s ks) (below_here j k (each_field j (s j)) (of_each j (s j)) h.0)
+    (spelled_below s k ks h.1)
 
 pub spelled_above : (s : ByMember) (k : ℕ) (ks : List ℕ) → AllAbove k ks → FieldsAbove k (spelled_fields s ks)
 spelled_above s k [] h = tt
 spelled_above s k (j ∷ ks) h =
-    above_joined k (each_field j (s j)) (spelled_fields s ks) (above_here j k (each_field j (s j)) (of_each j (s j)) h.0) (spelled_above s k ks h.1)
+    above_joined k (each_field j (s j)) (spelled_fields s ks) (above_here j k (each_field j (s j)) (of_each j (s j)) h.0)
+    (spelled_above s k ks h.1)
 
 pub each_below : (j k : ℕ) (children : List Child) → j < k → FieldsBelow k (each_field j children)
 each_below j k children lt = below_here j k (each_field j children) (of_each j children) lt
@@ -189,7 +192,8 @@ module _ (t : TableData) (before : List ℕ) (k : ℕ) (behind : List ℕ) where
       → nat_le k j ≡ b → gives f ≡ b
   gives_by f j b differ i e g = ap (gives_way k) (at_name f j differ i e) ∙ g
 
-  stays_before : (s : ByMember) (fs : List FaultAt) → AllDiffer (map (name_at t) members) → AllBelow k before → closed_faults t s before ≡ fs
+  stays_before : (s : ByMember) (fs : List FaultAt) → AllDiffer (map (name_at t) members) → AllBelow k before
+      → closed_faults t s before ≡ fs
       → HeadGives gives false fs
   stays_before s [] differ below h = tt
   stays_before s (f ∷ fs) differ below h =
@@ -197,7 +201,8 @@ module _ (t : TableData) (before : List ℕ) (k : ℕ) (behind : List ℕ) where
       let lt : named.0 < k = below_one k named.0 before below named.1 in
       gives_by f named.0 false differ (among_front named.0 before (k ∷ behind) named.1) named.2 (grind (arith, lt))
 
-  gives_behind : (s : ByMember) (fs : List FaultAt) → AllDiffer (map (name_at t) members) → AllAbove k behind → closed_faults t s behind ≡ fs
+  gives_behind : (s : ByMember) (fs : List FaultAt) → AllDiffer (map (name_at t) members) → AllAbove k behind
+      → closed_faults t s behind ≡ fs
       → HeadGives gives true fs
   gives_behind s [] differ above h = tt
   gives_behind s (f ∷ fs) differ above h =

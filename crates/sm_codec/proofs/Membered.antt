@@ -33,7 +33,8 @@ MemberReading = Result (Option Val) (List FaultAt)
 abbrev MemberSays : Codec → ℕ → List Node → MemberReading → Type 0
 MemberSays c k ns (Ok None) = NoneOrNull ns × (default_at c.table k ≡ None) × (required_at c.table k ≡ false)
 MemberSays c k ns (Ok (Some v)) =
-    (((n : Node) × ((ns ≡ n ∷ []) × (is_null n ≡ false)) × Spelled c (member_place k) v n) ⊎ (NoneOrNull ns × (default_at c.table k ≡ Some v)))
+    (((n : Node) × ((ns ≡ n ∷ []) × (is_null n ≡ false)) × Spelled c (member_place k) v n)
+    ⊎ (NoneOrNull ns × (default_at c.table k ≡ Some v)))
     × Fits c.table c.test (member_place k) v
 MemberSays c k ns (Err []) = ⊥
 MemberSays c k ns (Err (f ∷ fs)) = Unit {0}
@@ -96,7 +97,8 @@ one_split f (j ∷ before) behind (i ∷ others) rest k differ e =
     let found = one_split f before behind others rest k differ.1 more in
     (ap (λ x. x ∷ before) first ∙ ap (λ xs. i ∷ xs) found.0, found.1)
 
-pub differ_behind : (f : ℕ → List ℕ) (before : List ℕ) (k : ℕ) (behind : List ℕ) → AllDiffer (map f (before ++ k ∷ behind)) → AllDiffer (map f behind)
+pub differ_behind : (f : ℕ → List ℕ) (before : List ℕ) (k : ℕ) (behind : List ℕ) → AllDiffer (map f (before ++ k ∷ behind))
+    → AllDiffer (map f behind)
 differ_behind f [] k behind h = h.1
 differ_behind f (j ∷ before) k behind h = differ_behind f before k behind h.1
 
@@ -113,7 +115,8 @@ module _ (c : Codec) (p : Place) (ps : List (List ℕ × Node)) where
   abbrev all_fields : List ℕ → List (ℕ × Val)
   all_fields ks = members_fields (when_closed c.table) (under_names c p (named_children_of c ps)) ks
 
-  faults_more : (k : ℕ) (ks : List ℕ) → all_faults (k ∷ ks) ≡ under (Member (name_at c.table k)) (member_faults (member_read k)) ++ all_faults ks
+  faults_more : (k : ℕ) (ks : List ℕ) → all_faults (k ∷ ks) ≡ under (Member (name_at c.table k))
+      (member_faults (member_read k)) ++ all_faults ks
   faults_more k ks =
       ap (λ cs. under (Member (name_at c.table k)) (member_faults (member_reading (when_closed c.table) k cs)) ++ all_faults ks)
       (named_are c (wire_name c p k) ps)
@@ -143,7 +146,8 @@ module _ (c : Codec) (p : Place) (ps : List (List ℕ × Node)) where
   member_more k ks (Err []) more says clean rest = absurd says
   member_more k ks (Err (f ∷ fs)) more says clean rest = absurd cc
 
-  fields_read : (s : ℕ) (ks : List ℕ) → IsCodec c → AreMembersOf c.table s ks → PairsAreRead c ps → all_faults ks ≡ [] → ReadFields ks (all_fields ks)
+  fields_read : (s : ℕ) (ks : List ℕ) → IsCodec c → AreMembersOf c.table s ks → PairsAreRead c ps → all_faults ks ≡ []
+      → ReadFields ks (all_fields ks)
   fields_read s [] laws stand read h = (tt, tt)
   fields_read s (k ∷ ks) laws stand read h =
       let parts = sym (faults_more k ks) ∙ h in

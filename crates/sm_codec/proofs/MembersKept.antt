@@ -186,7 +186,8 @@ module _ {A : Type 0} where
   pub kept_grown : (fs gs : List FaultAt) (kept xs ys ws zs : List A) → (gs ≡ [] → ⊥) → AreKept fs kept (xs ++ (ys ++ zs))
       → AreKept gs kept (xs ++ ((ys ++ ws) ++ zs))
   kept_grown fs gs kept xs ys ws zs never h =
-      kept_from gs kept (xs ++ ((ys ++ ws) ++ zs)) (of_grown kept xs ys ws zs (kept_of fs kept (xs ++ (ys ++ zs)) h)) (λ e. absurd (never e))
+      kept_from gs kept (xs ++ ((ys ++ ws) ++ zs)) (of_grown kept xs ys ws zs (kept_of fs kept (xs ++ (ys ++ zs)) h))
+      (λ e. absurd (never e))
 
   -- and where one is put between those before it and those behind it
   pub kept_put : (put : List A → List A) (new : A) (fs : List FaultAt) (kept xs zs : List A)
@@ -196,6 +197,7 @@ module _ {A : Type 0} where
       let parts = of_two kept xs zs (kept_of fs kept (xs ++ zs) h) in
       let placed : put kept ≡ parts.0 ++ new ∷ parts.1 = ap put parts.2 ∙ between parts.0 parts.1 parts.3 parts.4 in
       let some : AreOf (put kept) (xs ++ new ∷ zs) =
-      subst (λ ks. AreOf ks (xs ++ new ∷ zs)) (sym placed) (of_joined parts.0 xs (new ∷ parts.1) (new ∷ zs) parts.3 (inl (refl, parts.4))) in
+      subst (λ ks. AreOf ks (xs ++ new ∷ zs)) (sym placed) (of_joined parts.0 xs (new ∷ parts.1) (new ∷ zs) parts.3
+      (inl (refl, parts.4))) in
       kept_from fs (put kept) (xs ++ new ∷ zs) some
       (λ e. ap put (kept_all fs kept (xs ++ zs) h e) ∙ between xs zs (all_of xs) (all_of zs))

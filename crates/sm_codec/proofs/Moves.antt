@@ -52,7 +52,8 @@ simple_next c root (nothing ts) = simple_in_all c root ts []
 simple_next c root (whole n) = tt
 simple_next c root (within ts i outer) = simple_in_all c root ts (inner_level i ∷ map around_level outer)
 
-nested_is : (c : Codec) (p : Place) (k : ℕ) (s : Sort) (x : Simple) → s ≡ simple x → nested_in c.convention s k ≡ nested_fault c.convention x k
+nested_is : (c : Codec) (p : Place) (k : ℕ) (s : Sort) (x : Simple) → s ≡ simple x
+    → nested_in c.convention s k ≡ nested_fault c.convention x k
 nested_is c p k s x e = ap (λ r. nested_in c.convention r k) e
 
 tag_frames : (c : Codec) (p : Place) (k : ℕ) (s : Sort) → due_frames c (tagged_by s p k) ≡ tag_frame s (shape_of c.table p) k ∷ []
@@ -70,7 +71,12 @@ below_is f xs fs e = ap below e
 -- what opens at a place of this sort
 list_opens : (c : Codec) (d e : Decoding) (p : Place) (s : Sort) → sort_at c p ≡ s
     → e.frames ≡ list_start s (shape_of c.table p) ∷ d.frames → Starts c d e (list_level [] []) (due_at p) (list_by_sort s p)
-list_opens c d e p a_list sort now = λ fs is. (list_frame (new_entries (shape_of c.table p)), now ∙ ap (λ xs. list_frame (new_entries (shape_of c.table p)) ∷ xs) is, list_starts c p sort)
+list_opens c d e p a_list sort now = λ fs is. (
+  list_frame (new_entries (shape_of c.table p)),
+  now
+      ∙ ap (λ xs. list_frame (new_entries (shape_of c.table p)) ∷ xs) is,
+  list_starts c p sort,
+)
 list_opens c d e p (simple x) sort now = λ fs is. now ∙ ap (λ xs. skip_frame 1 (Some WrongType) ∷ xs) is
 list_opens c d e p a_map sort now = λ fs is. now ∙ ap (λ xs. skip_frame 1 (Some WrongType) ∷ xs) is
 list_opens c d e p a_structure sort now = λ fs is. now ∙ ap (λ xs. skip_frame 1 (Some WrongType) ∷ xs) is
@@ -79,9 +85,24 @@ list_opens c d e p left_out sort now = λ fs is. now ∙ ap (λ xs. skip_frame 1
 
 object_opens : (c : Codec) (d e : Decoding) (p : Place) (s : Sort) → sort_at c p ≡ s
     → e.frames ≡ object_start s (shape_of c.table p) ∷ d.frames → Starts c d e (object_level []) (due_at p) (object_by_sort s p)
-object_opens c d e p a_map sort now = λ fs is. (map_frame (new_keys (shape_of c.table p)), now ∙ ap (λ xs. map_frame (new_keys (shape_of c.table p)) ∷ xs) is, map_starts c p sort)
-object_opens c d e p a_structure sort now = λ fs is. (structure_frame (new_members (shape_of c.table p)), now ∙ ap (λ xs. structure_frame (new_members (shape_of c.table p)) ∷ xs) is, structure_starts c p sort)
-object_opens c d e p a_union sort now = λ fs is. (union_frame (new_members (shape_of c.table p)), now ∙ ap (λ xs. union_frame (new_members (shape_of c.table p)) ∷ xs) is, union_starts c p sort)
+object_opens c d e p a_map sort now = λ fs is. (
+  map_frame (new_keys (shape_of c.table p)),
+  now
+      ∙ ap (λ xs. map_frame (new_keys (shape_of c.table p)) ∷ xs) is,
+  map_starts c p sort,
+)
+object_opens c d e p a_structure sort now = λ fs is. (
+  structure_frame (new_members (shape_of c.table p)),
+  now
+      ∙ ap (λ xs. structure_frame (new_members (shape_of c.table p)) ∷ xs) is,
+  structure_starts c p sort,
+)
+object_opens c d e p a_union sort now = λ fs is. (
+  union_frame (new_members (shape_of c.table p)),
+  now
+      ∙ ap (λ xs. union_frame (new_members (shape_of c.table p)) ∷ xs) is,
+  union_starts c p sort,
+)
 object_opens c d e p a_list sort now = λ fs is. now ∙ ap (λ xs. skip_frame 1 (Some WrongType) ∷ xs) is
 object_opens c d e p (simple x) sort now = λ fs is. now ∙ ap (λ xs. skip_frame 1 (Some WrongType) ∷ xs) is
 object_opens c d e p left_out sort now = λ fs is. now ∙ ap (λ xs. skip_frame 1 (Some WrongType) ∷ xs) is
@@ -180,12 +201,14 @@ module _ (c : Codec) (d : Decoding) (b : Building) (shaped : Shaped c.table) (in
       tag_by : (t : Told) → Tells t due → TagBy c.table c.convention t k d.frames e.frames → Tags c d k due e
       tag_by (told_at p) is by =
           subst (λ x. Tags c d k x e) (sym is)
-          (λ fs at. by ∙ ap (λ xs. tag_frame (sort_at c p) (shape_of c.table p) k ∷ xs) at ∙ ap (λ xs. xs ++ fs) (sym (tag_frames c p k (sort_at c p))))
+          (λ fs at. by ∙ ap (λ xs. tag_frame (sort_at c p) (shape_of c.table p) k ∷ xs) at
+          ∙ ap (λ xs. xs ++ fs) (sym (tag_frames c p k (sort_at c p))))
       tag_by (told_tagged p j) is by =
           let sort : sort_at c p ≡ simple is.0 = subst (IsSimpleDue c) is.1 (simple_next c d.shape b) in
           subst (λ x. Tags c d k x e) (sym is.1)
           (λ fs at. by ∙ ap (λ kind. skip_frame 0 (Some kind) ∷ below d.frames) (nested_is c p j (sort_at c p) is.0 sort)
-          ∙ ap (λ xs. skip_frame 0 (Some (nested_fault c.convention is.0 j)) ∷ xs) (below_is (tagged_frame (shape_of c.table p) j) d.frames fs at))
+          ∙ ap (λ xs. skip_frame 0 (Some (nested_fault c.convention is.0 j)) ∷ xs)
+          (below_is (tagged_frame (shape_of c.table p) j) d.frames fs at))
       tag_by (told_passed depth report) is by = subst (λ x. Tags c d k x e) (sym is) (λ fs at. by ∙ at)
 
       pub tag_moves : TagBy c.table c.convention told k d.frames e.frames → Holds c (after_tag k b) e
@@ -193,14 +216,17 @@ module _ (c : Codec) (d : Decoding) (b : Building) (shaped : Shaped c.table) (in
 
     -- an opener
     start_by : (start : Sort → ℕ → Frame) (by_sort : Sort → Place → Opened) (l : Level)
-        → ((p : Place) → e.frames ≡ start (sort_at c p) (shape_of c.table p) ∷ d.frames → Starts c d e l (due_at p) (by_sort (sort_at c p) p))
-        → (t : Told) → Tells t due → StartBy start c.table c.convention t d.frames e.frames → Starts c d e l due (opened_where c by_sort due)
+        → ((p : Place) → e.frames ≡ start (sort_at c p) (shape_of c.table p) ∷ d.frames
+        → Starts c d e l (due_at p) (by_sort (sort_at c p) p))
+        → (t : Told) → Tells t due → StartBy start c.table c.convention t d.frames e.frames
+        → Starts c d e l due (opened_where c by_sort due)
     start_by start by_sort l at_place (told_at p) is by = subst (λ x. Starts c d e l x (opened_where c by_sort x)) (sym is) (at_place p by)
     start_by start by_sort l at_place (told_tagged p j) is by =
         let sort : sort_at c p ≡ simple is.0 = subst (IsSimpleDue c) is.1 (simple_next c d.shape b) in
         subst (λ x. Starts c d e l x (opened_where c by_sort x)) (sym is.1)
         (λ fs at. by ∙ ap (λ kind. skip_frame 1 (Some kind) ∷ below d.frames) (nested_is c p j (sort_at c p) is.0 sort)
-        ∙ ap (λ xs. skip_frame 1 (Some (nested_fault c.convention is.0 j)) ∷ xs) (below_is (tagged_frame (shape_of c.table p) j) d.frames fs at))
+        ∙ ap (λ xs. skip_frame 1 (Some (nested_fault c.convention is.0 j)) ∷ xs)
+        (below_is (tagged_frame (shape_of c.table p) j) d.frames fs at))
     start_by start by_sort l at_place (told_passed depth report) is by =
         subst (λ x. Starts c d e l x (opened_where c by_sort x)) (sym is)
         (λ fs at. by ∙ ap (λ xs. skip_frame (suc depth) report ∷ xs) (below_is (skip_frame depth report) d.frames fs at))

@@ -40,14 +40,17 @@ module _ (c : Codec) (p : Place) (ms : List (List ℕ × Node)) (name : List ℕ
       ap (λ b. with_silence b fs) is ∙ silence_is c o fs ∙ ap (λ due. due_frames c due ++ fs) (sym at)
       ∙ ap (λ x. due_frames c (behind_name x c p name) ++ fs) (sym sort)
 
-  pub named_by : (known : Bool) (f g : Frame) → FrameHolds c p (object_level ms) f → FrameNames c.table c.convention name known f g → Named known g
+  pub named_by : (known : Bool) (f g : Frame) → FrameHolds c p (object_level ms) f → FrameNames c.table c.convention name known f g
+      → Named known g
   named_by known (structure_frame f) g h is =
-      let named : IsNamed (member_at c p name) f is.0 = subst (λ s. IsNamed (member_named c.table c.convention s name) f is.0) h.1.shape is.2 in (
+      let named : IsNamed (member_at c p name) f is.0 = subst
+      (λ s. IsNamed (member_named c.table c.convention s name) f is.0) h.1.shape is.2 in (
         subst (FrameHolds c p (pair_level ms name [])) (sym is.1) (name_held c p (named_children_of c ms) name f is.0 named h),
         silent_by known (member_at c p name) a_structure (is.3 ∙ ap is_some named.4) refl h.0,
       )
   named_by known (union_frame f) g h is =
-      let named : IsNamed (member_at c p name) f is.0 = subst (λ s. IsNamed (member_named c.table c.convention s name) f is.0) h.1.shape is.2 in (
+      let named : IsNamed (member_at c p name) f is.0 = subst
+      (λ s. IsNamed (member_named c.table c.convention s name) f is.0) h.1.shape is.2 in (
         subst (FrameHolds c p (pair_level ms name [])) (sym is.1) (choice_named c p (named_children_of c ms) name f is.0 named h),
         silent_by known (member_at c p name) a_union (is.3 ∙ ap is_some named.4) refl h.0,
       )
@@ -87,7 +90,8 @@ module _ (c : Codec) (d : Decoding) (ts : List ℕ) (ms : List (List ℕ × Node
   back_held o e at root h =
       let here : StandsIn c (opened c (pair_level ms name []) due_around) (pair_level ms name []) around e =
       subst (λ x. StandsIn c x (pair_level ms name []) around e) (sym at) h in
-      subst (λ s. Stands c (due_in c s ts (pair_level ms name [] ∷ map around_level outer)) (kept_levels c s ts (pair_level ms name [] ∷ map around_level outer)) e) (sym root) here
+      subst (λ s. Stands c (due_in c s ts (pair_level ms name [] ∷ map around_level outer))
+      (kept_levels c s ts (pair_level ms name [] ∷ map around_level outer)) e) (sym root) here
 
   name_by : (o : Opened) → opened c (object_level ms) due_around ≡ o → StandsIn c o (object_level ms) around d → NameTaken
   name_by (opened_at p) at h =

@@ -78,7 +78,8 @@ broken_not finds kind c (bool_val b) = tt
 broken_not finds kind c (int_val z) =
     both_kinds (range_broken c z) (number_broken kind c.numbers z) (unless_not _ Range refl) (number_not kind c.numbers z)
 broken_not finds kind c (text_val u) =
-    both_kinds _ (text_broken kind c.texts u) (both_kinds _ (pattern_broken finds c.pattern u) (unless_not _ Length refl) (pattern_not finds c.pattern u))
+    both_kinds _ (text_broken kind c.texts u) (both_kinds _ (pattern_broken finds c.pattern u) (unless_not _ Length refl)
+    (pattern_not finds c.pattern u))
     (text_not kind c.texts u)
 broken_not finds kind c (blob_val u) = unless_not _ Length refl
 broken_not finds kind c (time_val ms) = tt
@@ -102,7 +103,8 @@ not_that kind h = refl
 
 leaf_own : (c : Codec) (p : Place) (r : Result Val FaultKind) → (r ≡ Err Repeated → ⊥) → IsOwn (leaf_reading c p r)
 leaf_own c p (Ok v) h =
-    settled_own (here (broken_at c p v)) v (of_kinds (broken_at c p v) (broken_not (finder c.table c.test) (kind_of c.table p) (constraints_of c.table p) v))
+    settled_own (here (broken_at c p v)) v (of_kinds (broken_at c p v)
+    (broken_not (finder c.table c.test) (kind_of c.table p) (constraints_of c.table p) v))
 leaf_own c p (Err kind) h = (not_that kind (λ e. h (ap (λ k. wrong k) e)), tt)
   where
     wrong : FaultKind → Result Val FaultKind
@@ -139,12 +141,14 @@ map_own : (c : Codec) (p : Place) (ps : List (List ℕ × Child)) → IsOwn (map
 map_own c p ps =
     let broken = length_broken (constraints_of c.table p) (length (in_byte_order (names_of ps))) in
     settled_own (map_faults c p ps) _
-    (both_faults (pairs_faults c p ps) (here broken) (keys_own c p ps (in_byte_order (names_of ps))) (of_kinds broken (unless_not _ Length refl)))
+    (both_faults (pairs_faults c p ps) (here broken) (keys_own c p ps (in_byte_order (names_of ps)))
+    (of_kinds broken (unless_not _ Length refl)))
 
 members_own : (t : TableData) (absent : Absence) (stands : ByMember) (ks : List ℕ) → NoneRepeat (members_faults t absent stands ks)
 members_own t absent stands [] = tt
 members_own t absent stands (k ∷ ks) =
-    both_faults _ (members_faults t absent stands ks) (one_below (Member (name_at t k)) (member_faults (member_reading absent k (stands k))))
+    both_faults _ (members_faults t absent stands ks) (one_below (Member (name_at t k))
+    (member_faults (member_reading absent k (stands k))))
     (members_own t absent stands ks)
 
 repeats_own : (t : TableData) (stands : ByMember) (ks : List ℕ) → NoneRepeat (repeats t stands ks)
@@ -190,7 +194,8 @@ object_by_own c p n ps a_union laws =
     let ks = members_of_place c.table p in
     let rs = repeats c.table stands ks in
     let ms = all_standing stands ks in
-    union_of_own (union_faults c.table (one_here UnionCount) rs ms) (standing_fields ms) (union_own c.table rs ms (repeats_own c.table stands ks))
+    union_of_own (union_faults c.table (one_here UnionCount) rs ms) (standing_fields ms)
+    (union_own c.table rs ms (repeats_own c.table stands ks))
 object_by_own c p n ps (simple x) laws = leaf_by_own c p n (simple x) laws
 object_by_own c p n ps a_list laws = (refl, tt)
 object_by_own c p n ps left_out laws = (refl, tt)
@@ -216,10 +221,15 @@ first_own (Err (g ∷ gs)) is f fs h = let same : g ≡ f = cc in ap repeats_her
 are_sound : (c : Codec) (k : ℕ) (ns : List Node) → IsConvention c.convention → AreSound k (children_of c ns)
 are_sound c k [] laws = tt
 are_sound c k (n ∷ ns) laws = (
-  (never_empty (reading c n (member_place k)) (reading_is c n (member_place k)), first_own (reading c n (member_place k)) (reading_own c n (member_place k) laws)),
+  (
+    never_empty (reading c n (member_place k)) (reading_is c n (member_place k)),
+    first_own (reading c n (member_place k))
+        (reading_own c n (member_place k) laws),
+  ),
   are_sound c k ns laws,
 )
 
 pub all_sound : (c : Codec) (p : Place) (ms : List (List ℕ × Node)) → IsConvention c.convention → (k : ℕ)
     → AreSound k (under_names c p (named_children_of c ms) k)
-all_sound c p ms laws k = subst (λ cs. AreSound k cs) (sym (named_are c (wire_name c p k) ms)) (are_sound c k (named (wire_name c p k) ms) laws)
+all_sound c p ms laws k = subst (λ cs. AreSound k cs) (sym (named_are c (wire_name c p k) ms))
+    (are_sound c k (named (wire_name c p k) ms) laws)

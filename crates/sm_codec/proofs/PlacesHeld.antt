@@ -123,7 +123,8 @@ object_within : (c : Codec) (ms : List (List ℕ × Node)) (o : Opened) → DueI
 object_within c ms (opened_at p) = tt
 object_within c ms (opened_passed depth report) = tt
 
-pub level_within : (c : Codec) (l : Level) (due : Due) → Shaped c.table → DueIn c.table due → DueIn c.table (due_within c (opened c l due) l)
+pub level_within : (c : Codec) (l : Level) (due : Due) → Shaped c.table → DueIn c.table due
+    → DueIn c.table (due_within c (opened c l due) l)
 level_within c (list_level ns ts) due shaped h = list_within c ns ts (opened c (list_level ns ts) due) shaped (list_where c due h)
 level_within c (object_level ms) due shaped h = object_within c ms (opened c (object_level ms) due)
 level_within c (pair_level ms name ts) due shaped h =

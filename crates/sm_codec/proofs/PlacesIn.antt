@@ -60,7 +60,8 @@ stand_at t s [] k behind h = (h.0, h.2)
 stand_at t s (j ∷ before) k behind h = stand_at t s before k behind h.2
 
 -- a member of a list stands in the middle of it, and the other way
-split_at : (k : ℕ) (ks : List ℕ) (i : ℕ) → i < length ks → slice_index_or ks i k ≡ k → (before behind : List ℕ) × (ks ≡ before ++ k ∷ behind)
+split_at : (k : ℕ) (ks : List ℕ) (i : ℕ) → i < length ks → slice_index_or ks i k ≡ k
+    → (before behind : List ℕ) × (ks ≡ before ++ k ∷ behind)
 split_at k [] i h e = absurd (omega (arith, h))
 split_at k (j ∷ ks) zero h e = ([], ks, ap (λ x. x ∷ ks) e)
 split_at k (j ∷ ks) (suc i) h e = let rest = split_at k ks i (omega (arith, h)) e in (j ∷ rest.0, rest.1, ap (λ xs. j ∷ xs) rest.2)

@@ -112,7 +112,8 @@ plain_node (structure_val fs) h = absurd h
 plain_node (union_val k v) h = absurd h
 
 -- a leaf
-leaf_read : (c : Codec) (p : Place) (x : Simple) (n : Node) (r : Result Val FaultKind) → IsConvention c.convention → c.convention.read x n ≡ r
+leaf_read : (c : Codec) (p : Place) (x : Simple) (n : Node) (r : Result Val FaultKind) → IsConvention c.convention
+    → c.convention.read x n ≡ r
     → reading_nodes (leaf_reading c p r) ≤ 1
 leaf_read c p x n (Ok v) laws e =
     omega (arith, settled_nodes (here (broken_at c p v)) v, one_node x v (laws.of_type x n v e))
@@ -277,7 +278,9 @@ same_total : (f g : Child → ℕ) (ks : List Child) → ((k : Child) → f k �
 same_total f g [] h = refl
 same_total f g (k ∷ ks) h = omega (arith, h k, same_total f g ks h)
 
-module _ {B : Type 0} (c : Codec) (p : Place) (ps : List (List ℕ × Child)) (size : B → ℕ) (extra : ℕ → ℕ) (own : ℕ → List B) (all : List ℕ → List B) (joins : Joins own all) (each : (k : ℕ) → total size (own k) ≤ extra k + total (child_nodes (member_place k)) (under_names c p ps k)) where
+module _ {B : Type 0} (c : Codec) (p : Place) (ps : List (List ℕ × Child)) (size : B → ℕ) (extra : ℕ → ℕ) (own : ℕ → List B)
+    (all : List ℕ → List B) (joins : Joins own all) (each : (k : ℕ)
+    → total size (own k) ≤ extra k + total (child_nodes (member_place k)) (under_names c p ps k)) where
   members_total : (ks : List ℕ) → ((k : ℕ) → IsAmong k ks → member_at c p (wire_name c p k) ≡ Some k)
       → total size (all ks) ≤ total extra ks + under_cost (member_cost c p) (map (wire_name c p) ks) ps
   members_total [] found = omega (arith, ap (total size) joins.0)
@@ -353,7 +356,8 @@ structure_nodes c p ps laws inside =
       settled_nodes (members_faults t (when_closed t) (under_names c p ps) ks) (structure_val (fields_of fs)),
       fields_total fs,
       members_at_most c p ps (λ e. val_nodes e.1) (λ k. count_of_default (default_at t k))
-          (λ k. member_fields k (member_reading (when_closed t) k (under_names c p ps k))) (members_fields (when_closed t) (under_names c p ps))
+          (λ k. member_fields k (member_reading (when_closed t) k (under_names c p ps k)))
+          (members_fields (when_closed t) (under_names c p ps))
           (refl, λ k js. refl) (λ k. closed_nodes t k (under_names c p ps k) laws.table) laws inside,
       defaults_total t ks,
       among_most t t.shapes (shape_of t p),
@@ -429,6 +433,7 @@ union_nodes c p ps laws inside =
       union_of_nodes (union_faults c.table (one_here UnionCount) (repeats c.table (under_names c p ps) ks) ms) (standing_fields ms),
       stand_fields ms,
       members_at_most c p ps standing_size (λ k. 0) (λ k. standing k (under_names c p ps k))
-          (all_standing (under_names c p ps)) (refl, λ k js. refl) (λ k. omega (arith, standing_nodes k (under_names c p ps k))) laws inside,
+          (all_standing (under_names c p ps)) (refl, λ k js. refl)
+          (λ k. omega (arith, standing_nodes k (under_names c p ps k))) laws inside,
       nothing_more ks,
     )

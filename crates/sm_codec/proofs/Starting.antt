@@ -95,7 +95,8 @@ pub structure_starts : (c : Codec) (p : Place) → sort_at c p ≡ a_structure
     → HoldsPairs c p [] None (structure_frame (new_members (shape_of c.table p)))
 structure_starts c p sort = (
   sort,
-  members_start c p (closed_faults c.table (under_names c p []) (members_of_place c.table p)) (none_faulty c p (members_of_place c.table p)),
+  members_start c p (closed_faults c.table (under_names c p []) (members_of_place c.table p))
+      (none_faulty c p (members_of_place c.table p)),
   λ before behind e clean. ([], sym (none_spelled c p before) ∙ sym (append-nil (spelled_fields (under_names c p []) before))),
 )
 

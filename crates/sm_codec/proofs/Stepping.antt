@@ -65,7 +65,8 @@ tag_holds c d e k (within ts i outer) awaits root same tags h =
     (tag_in_level c d k ts (inner_level i) (map around_level outer) e (level_awaits i awaits) root same tags h)
 
 -- a tree that is closed in a level that is passed over changes nothing
-pub tree_passed : (c : Codec) (d : Decoding) (n : Node) (ts : List ℕ) (i : Inner) (outer : List Around) (depth : ℕ) (report : Option FaultKind)
+pub tree_passed : (c : Codec) (d : Decoding) (n : Node) (ts : List ℕ) (i : Inner) (outer : List Around) (depth : ℕ)
+    (report : Option FaultKind)
     → opened c (inner_level i) (due_in c d.shape ts (map around_level outer)) ≡ opened_passed depth report
     → Holds c (within ts i outer) d → Holds c (within ts (with_tree n i) outer) d
 tree_passed c d n ts i outer depth report e h =
@@ -77,7 +78,8 @@ tree_passed c d n ts i outer depth report e h =
     subst (λ l. HoldsOpen c ts (l ∷ map around_level outer) d) (sym (level_of_tree n i)) back
 
 -- in a level that is kept its frame takes the tree
-pub tree_taken : (c : Codec) (d e : Decoding) (n : Node) (ts : List ℕ) (i : Inner) (outer : List Around) (p : Place) (g : Frame) (fs : List Frame)
+pub tree_taken : (c : Codec) (d e : Decoding) (n : Node) (ts : List ℕ) (i : Inner) (outer : List Around) (p : Place) (g : Frame)
+    (fs : List Frame)
     → opened c (inner_level i) (due_in c d.shape ts (map around_level outer)) ≡ opened_at p → e.shape ≡ d.shape → e.result ≡ None
     → e.frames ≡ g ∷ fs → FrameHolds c p (level_with n (inner_level i)) g
     → FramesHold c (kept_levels c d.shape ts (map around_level outer)) fs

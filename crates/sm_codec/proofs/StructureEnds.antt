@@ -108,7 +108,8 @@ put_present : (k : ℕ) (d : Option Val) (v : Val) (done rest : List (ℕ × Val
     → put_default k d (done ++ (k, v) ∷ rest) ≡ (done ++ (k, v) ∷ []) ++ rest
 put_present k None v done rest low = sym (append_assoc done ((k, v) ∷ []) rest)
 put_present k (Some w) v done rest low =
-    ap (λ b. cond b (done ++ (k, v) ∷ rest) (put_field k w (done ++ (k, v) ∷ rest))) (none_below k done ((k, v) ∷ rest) low ∙ has_first k v rest)
+    ap (λ b. cond b (done ++ (k, v) ∷ rest) (put_field k w (done ++ (k, v) ∷ rest)))
+    (none_below k done ((k, v) ∷ rest) low ∙ has_first k v rest)
     ∙ sym (append_assoc done ((k, v) ∷ []) rest)
 
 -- what an absent member comes to where it isn't missing
@@ -145,7 +146,8 @@ module _ (t : TableData) (s : ByMember) where
   -- a field is there exactly for a member that stands
   abbrev pub AreThere : List (ℕ × Val) → List ℕ → Type 0
   AreThere fs [] = Unit {0}
-  AreThere fs (k ∷ ks) = ((IsAbsent (s k) → has_field k fs ≡ false) × ((v : Val) → IsPresent k (s k) v → has_field k fs ≡ true)) × AreThere fs ks
+  AreThere fs (k ∷ ks) = ((IsAbsent (s k) → has_field k fs ≡ false) × ((v : Val) → IsPresent k (s k) v → has_field k fs ≡ true))
+      × AreThere fs ks
 
   absent_faults : (k : ℕ) → IsAbsent (s k)
       → under (Member (name_at t k)) (member_faults (member_reading (when_closed t) k (s k)))
@@ -159,7 +161,8 @@ module _ (t : TableData) (s : ByMember) where
   -- the first fault of members that had none is that of the first that is missing
   first_by : (k : ℕ) (ks : List ℕ) (fs : List (ℕ × Val)) (a : Result (Option Val) FaultKind) (rest : List FaultAt) → IsMissing a
       → first_fault rest ≡ missing_fault t (missing t fs ks)
-      → first_fault (under (Member (name_at t k)) (member_faults (absent_reading a)) ++ rest) ≡ missing_fault t (missing_by a k (missing t fs ks))
+      → first_fault (under (Member (name_at t k)) (member_faults (absent_reading a)) ++ rest) ≡ missing_fault t
+      (missing_by a k (missing t fs ks))
   first_by k ks fs (Ok v) rest is h = h
   first_by k ks fs (Err kind) rest is h = ap (λ x. Some (at_member t k ([], x))) is
 
@@ -187,7 +190,8 @@ module _ (t : TableData) (s : ByMember) where
       × ((v : Val) → IsPresent k (s k) v → has_field k (done ++ (spelled_fields s (k ∷ ks) ++ rest)) ≡ true)
   lower_there k ks done rest low high = (
     λ absent. none_below k done (spelled_fields s (k ∷ ks) ++ rest) low
-        ∙ ap (λ xs. has_field k ((xs ++ spelled_fields s ks) ++ rest)) (absent_fields k (s k) absent) ∙ none_above k (spelled_fields s ks ++ rest) high,
+        ∙ ap (λ xs. has_field k ((xs ++ spelled_fields s ks) ++ rest)) (absent_fields k (s k) absent)
+        ∙ none_above k (spelled_fields s ks ++ rest) high,
     λ v present. none_below k done (spelled_fields s (k ∷ ks) ++ rest) low
         ∙ ap (λ xs. has_field k ((xs ++ spelled_fields s ks) ++ rest)) (present_fields k (s k) v present)
         ∙ has_first k v (spelled_fields s ks ++ rest),
@@ -298,7 +302,8 @@ module _ (t : TableData) (s : ByMember) where
   none_missing fs [] there h = tt
   none_missing fs (k ∷ ks) there h = (
     λ absent. not_missing t k (default_at t k) (required_at t k) refl refl
-        (no_more (when_closed t k) (missing t fs ks) (sym (ap (λ b. cond b (missing t fs ks) (missing_by (when_closed t k) k (missing t fs ks))) (there.0.0 absent)) ∙ h)),
+        (no_more (when_closed t k) (missing t fs ks) (sym (ap
+        (λ b. cond b (missing t fs ks) (missing_by (when_closed t k) k (missing t fs ks))) (there.0.0 absent)) ∙ h)),
     none_missing fs ks there.1 (rest_none (has_field k fs) (when_closed t k) h),
   )
     where
@@ -315,5 +320,6 @@ module _ (t : TableData) (s : ByMember) where
   pub fields_end : (fs : List (ℕ × Val)) (ks : List ℕ) → ((k : ℕ) → AreReadings (s k)) → closed_faults t s ks ≡ [] → Rising ks
       → fs ≡ spelled_fields s ks → missing t fs ks ≡ None → defaults_put t ks fs ≡ members_fields (when_closed t) s ks
   fields_end fs ks is clean rise e none =
-      let there = subst (λ xs. AreThere xs ks) (append-nil (spelled_fields s ks) ∙ sym e) (all_there [] ks [] rise (low_none ks) (high_none ks)) in
+      let there = subst (λ xs. AreThere xs ks) (append-nil (spelled_fields s ks) ∙ sym e)
+      (all_there [] ks [] rise (low_none ks) (high_none ks)) in
       ap (defaults_put t ks) e ∙ fields_put [] ks (all_stood ks is clean) (none_missing fs ks there none) rise (low_none ks)

@@ -66,7 +66,8 @@ module _ (t : TableData) where
       by_need true e h = ap (λ o. cond (has_field k fs) o (missing_by (when_closed t k) k o)) h
       by_need false e h =
           let free = spare k e in
-          by_have (has_field k fs) (missing t fs (filter (is_needed t) ks)) (missing t fs ks) (missing_by (when_closed t k) k (missing t fs ks)) h
+          by_have (has_field k fs) (missing t fs (filter (is_needed t) ks)) (missing t fs ks)
+          (missing_by (when_closed t k) k (missing t fs ks)) h
           (never_missing k (default_at t k) (required_at t k) (missing t fs ks) refl refl free.1 free.0)
 
   defaults_by : (fs : List (ℕ × Val)) (k : ℕ) (ks rest : List ℕ) (b : Bool) → is_needed t k ≡ b
@@ -138,7 +139,8 @@ module _ (t : TableData) (fields : List (ℕ × Val)) (pre : List ℕ) (j : ℕ)
       → ended_by t all fields (Some g) (missing t fields all) ≡ bad (unwrap_or (missing_fault t (missing t fields pre)) g)
   faulty_ends g differ sorted named =
       ap (ended_by t all fields (Some g)) (missing_two t fields pre (j ∷ post))
-      ∙ faulty_by g (missing t fields pre) (missing t fields (j ∷ post)) refl refl (rises_before pre j post sorted) (rises_behind pre j post sorted)
+      ∙ faulty_by g (missing t fields pre) (missing t fields (j ∷ post)) refl refl (rises_before pre j post sorted)
+      (rises_behind pre j post sorted)
       (ap (λ w. member_with (name_at t) w all) named ∙ found (name_at t) j all differ (among_behind j pre (j ∷ post) (inl refl)))
 
 is_good : (r : Reading) (v : Val) → r ≡ Ok v → IsOutcome r (good v)
@@ -152,7 +154,8 @@ is_bad (Err gs) f fs e = let same : gs ≡ f ∷ fs = cc in (f, fs, same, refl)
 clean_outcome : (c : Codec) (p : Place) (ms : List (List ℕ × Node)) (f : MemberFrame) (o : Option ℕ) → StructureEnds c p ms f o
     → IsOutcome (structure_reading c p (named_children_of c ms)) (ended_by c.table (members_of_place c.table p) f.fields None o)
 clean_outcome c p ms f None h =
-    is_good (structure_reading c p (named_children_of c ms)) (structure_val (fields_of (defaults_put c.table (members_of_place c.table p) f.fields))) h
+    is_good (structure_reading c p (named_children_of c ms)) (structure_val
+    (fields_of (defaults_put c.table (members_of_place c.table p) f.fields))) h
 clean_outcome c p ms f (Some k) h = is_bad (structure_reading c p (named_children_of c ms)) (at_member c.table k ([], Missing)) h.0 h.1
 
 -- so what the frame comes to is the outcome of the object
@@ -173,7 +176,8 @@ outcome_by c p ms f (Some g) e shaped inside h =
     let same : ended_by t ks f.fields (Some g) (missing t f.fields ks) ≡ bad (unwrap_or (missing_fault t (missing t f.fields faulty.0)) g) =
     ap (λ xs. ended_by t xs f.fields (Some g) (missing t f.fields xs)) faulty.3 ∙ ends in
     subst (λ o. IsOutcome (structure_reading c p (named_children_of c ms)) o) (sym same)
-    (is_bad (structure_reading c p (named_children_of c ms)) (unwrap_or (missing_fault t (missing t f.fields faulty.0)) g) faulty.5.0 faulty.5.1)
+    (is_bad (structure_reading c p (named_children_of c ms)) (unwrap_or (missing_fault t (missing t f.fields faulty.0)) g) faulty.5.0
+    faulty.5.1)
 
 pub structure_outcome : (c : Codec) (p : Place) (ms : List (List ℕ × Node)) (f : MemberFrame) → Shaped c.table → InTable c.table p
     → HoldsPairs c p (named_children_of c ms) None (structure_frame f)

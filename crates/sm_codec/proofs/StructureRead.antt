@@ -34,7 +34,8 @@ use Rattle.sm_codec.proofs.StructureEnds.{fields_end, low_none}
 -- what an object without faults so far comes to, by the first member that is missing
 abbrev pub StructureEnds : Codec → Place → List (List ℕ × Node) → MemberFrame → Option ℕ → Type 0
 StructureEnds c p ms f None =
-    structure_reading c p (named_children_of c ms) ≡ Ok (structure_val (fields_of (defaults_put c.table (members_of_place c.table p) f.fields)))
+    structure_reading c p (named_children_of c ms) ≡ Ok (structure_val
+    (fields_of (defaults_put c.table (members_of_place c.table p) f.fields)))
 StructureEnds c p ms f (Some k) =
     (fs : List FaultAt) × (structure_reading c p (named_children_of c ms) ≡ Err (at_member c.table k ([], Missing) ∷ fs))
 
@@ -55,7 +56,8 @@ all_readings c p ms k = subst AreReadings (sym (named_are c (wire_name c p k) ms
 -- the first fault of the closed members: the member that has it, those before it without one, and those behind it
 abbrev SplitAt : TableData → ByMember → List ℕ → FaultAt → Type 0
 SplitAt t s ks g =
-    (pre post : List ℕ) × (j : ℕ) × (ks ≡ pre ++ j ∷ post) × (closed_faults t s pre ≡ []) × ((fs : List FaultAt) × (own_faults t s j ≡ g ∷ fs))
+    (pre post : List ℕ) × (j : ℕ) × (ks ≡ pre ++ j ∷ post) × (closed_faults t s pre ≡ [])
+    × ((fs : List FaultAt) × (own_faults t s j ≡ g ∷ fs))
 
 split_by : (t : TableData) (s : ByMember) (k : ℕ) (ks : List ℕ) (own : List FaultAt) (g : FaultAt) (gs : List FaultAt)
     → own_faults t s k ≡ own
@@ -124,7 +126,8 @@ there_before t s fields pre j post sorted some kept =
     let parts = of_two fields (spelled_fields s pre) (spelled_fields s (j ∷ post))
     (subst (λ xs. AreOf fields xs) (spelled_two t s pre (j ∷ post)) some) in
     let from = from_of j parts.1 (spelled_fields s (j ∷ post)) parts.4 (spelled_from s j post (rises_behind pre j post sorted)) in
-    let same = prefix_same j parts.0 parts.1 (spelled_fields s pre) kept.0 parts.3 (spelled_below s j pre below) from (sym parts.2 ∙ kept.1) in
+    let same = prefix_same j parts.0 parts.1 (spelled_fields s pre) kept.0 parts.3 (spelled_below s j pre below) from
+    (sym parts.2 ∙ kept.1) in
     let high = high_from t s j pre kept.0 below (subst (λ fs. FieldsFrom j fs) same.1 from) in
     subst (λ fs. AreThere t s fs pre) (sym kept.1)
     (all_there t s [] pre kept.0 (rising_front t s pre (j ∷ post) (rising t s (pre ++ j ∷ post) sorted)) (low_none t s pre) high)
@@ -143,7 +146,8 @@ pub structure_faulty : (c : Codec) (p : Place) (ms : List (List ℕ × Node)) (f
     → InTable c.table p
     → HoldsPairs c p (named_children_of c ms) None (structure_frame f) → f.fault ≡ Some g
     → (pre post : List ℕ) × (j : ℕ) × (members_of_place c.table p ≡ pre ++ j ∷ post) × (first_name g.0 ≡ name_at c.table j)
-    × ((fs : List FaultAt) × (structure_reading c p (named_children_of c ms) ≡ Err (unwrap_or (missing_fault c.table (missing c.table f.fields pre)) g ∷ fs)))
+    × ((fs : List FaultAt) × (structure_reading c p (named_children_of c ms) ≡ Err
+    (unwrap_or (missing_fault c.table (missing c.table f.fields pre)) g ∷ fs)))
 structure_faulty c p ms f g shaped inside h e =
     let t = c.table in
     let s = under_names c p (named_children_of c ms) in
@@ -154,7 +158,8 @@ structure_faulty c p ms f g shaped inside h e =
     let post = split.1 in
     let j = split.2 in
     let sorted = subst (λ xs. IsStrictlySortedBy nat_cmp xs) split.3 (shaped.rises (shape_of t p) (shape_in t p shaped inside)) in
-    let some = subst (λ xs. AreOf f.fields (spelled_fields s xs)) split.3 (kept_of (closed_faults t s ks) f.fields (spelled_fields s ks) h.1.fields) in
+    let some = subst (λ xs. AreOf f.fields (spelled_fields s xs)) split.3
+    (kept_of (closed_faults t s ks) f.fields (spelled_fields s ks) h.1.fields) in
     let there = there_before t s f.fields pre j post sorted some (h.2 pre (j ∷ post) split.3 split.4) in
     let before = first_missing t s f.fields pre (all_stood t s pre (all_readings c p ms) split.4) there in
     let own = ap (λ r. under (Member (name_at t j)) (member_faults r)) (same_own t j (s j) g split.5.0 split.5.1) ∙ split.5.1 in
@@ -184,7 +189,8 @@ structure_faulty c p ms f g shaped inside h e =
     named_by name [] x gs i = absurd cc
     named_by name (y ∷ own) x gs i = let same : (Member name ∷ y.0, y.1) ≡ x = cc in sym (ap (λ z. first_name z.0) same)
 
-ends_by : (c : Codec) (p : Place) (ms : List (List ℕ × Node)) (f : MemberFrame) (faults : List FaultAt) (fields : List (ℕ × Val)) (o : Option ℕ)
+ends_by : (c : Codec) (p : Place) (ms : List (List ℕ × Node)) (f : MemberFrame) (faults : List FaultAt) (fields : List (ℕ × Val))
+    (o : Option ℕ)
     → structure_reading c p (named_children_of c ms) ≡ settled faults (structure_val (fields_of fields))
     → first_fault faults ≡ missing_fault c.table o → (o ≡ None → defaults_put c.table (members_of_place c.table p) f.fields ≡ fields)
     → StructureEnds c p ms f o

@@ -37,9 +37,11 @@ use Rattle.sm_codec.proofs.Walking.{in_frame, level_awaits}
 -- by the member that the name before the tree is of
 module _ (c : Codec) (p : Place) (ms : List (List ℕ × Node)) (name : List ℕ) (us : List ℕ) (n : Node) (x : Arrival)
     (laws : IsConvention c.convention) (shaped : Shaped c.table) (inside : InTable c.table p)
-    (is : IsArrival (null_where (due_within c (opened_at p) (pair_level ms name us)) n) (read_where c (due_within c (opened_at p) (pair_level ms name us)) n) x) where
+    (is : IsArrival (null_where (due_within c (opened_at p) (pair_level ms name us)) n)
+    (read_where c (due_within c (opened_at p) (pair_level ms name us)) n) x) where
   structure_by : (f h : MemberFrame) (o : Option ℕ) → member_at c p name ≡ o → ForCurrent o (λ k. TakesMember c.table k x f h)
-      → FrameHolds c p (pair_level ms name us) (structure_frame f) → FrameHolds c p (level_with n (pair_level ms name us)) (structure_frame h)
+      → FrameHolds c p (pair_level ms name us) (structure_frame f)
+      → FrameHolds c p (level_with n (pair_level ms name us)) (structure_frame h)
   structure_by f h None e takes holds = absurd takes
   structure_by f h (Some k) e takes holds = structure_takes c p ms name us n k x f h laws shaped inside e is takes holds
 
@@ -54,7 +56,8 @@ module _ (c : Codec) (p : Place) (n : Node) (x : Arrival) (laws : IsConvention c
   Comes l = IsArrival (null_where (due_within c (opened_at p) l) n) (read_where c (due_within c (opened_at p) l) n) x
 
   abbrev pub Takes : Level → Frame → Type 0
-  Takes l f = (g : Frame) → AwaitsTree l → Comes l → FrameTakes c.table c.test x f g → FrameHolds c p l f → FrameHolds c p (level_with n l) g
+  Takes l f = (g : Frame) → AwaitsTree l → Comes l → FrameTakes c.table c.test x f g → FrameHolds c p l f
+      → FrameHolds c p (level_with n l) g
 
   list_by : (ns : List Node) (us : List ℕ) (f : EntryFrame) → Takes (list_level ns us) (list_frame f)
   list_by ns us f g awaits is takes holds =
@@ -116,7 +119,8 @@ module _ (c : Codec) (d e : Decoding) (n : Node) (x : Arrival) (laws : IsConvent
   abbrev ComesAt : Due → Type 0
   ComesAt due = IsArrival (null_where due n) (read_where c due n) x
 
-  at_root : (ts : List ℕ) (fs rest : List Frame) → FramesHold c [] rest → rest ≡ fs → ComesAt (due_in c d.shape ts []) → TakenBy c.table c.test x fs e
+  at_root : (ts : List ℕ) (fs rest : List Frame) → FramesHold c [] rest → rest ≡ fs → ComesAt (due_in c d.shape ts [])
+      → TakenBy c.table c.test x fs e
       → Holds c (whole (tagged ts n)) e
   at_root ts [] rest holds same is taken =
       root_taken c d e n ts (root_outcome x) laws root taken.0 taken.1 (root_is c (due_in c d.shape ts []) n x laws is)
@@ -148,7 +152,8 @@ module _ (c : Codec) (d e : Decoding) (n : Node) (x : Arrival) (laws : IsConvent
     by_level (opened_at p) fs at deep h frames shallow is taken =
         let stand = in_frame c p (inner_level i) around d h in
         by_frame p stand.0 stand.1 fs at stand.3 stand.4
-        (append_cancel_left (due_frames c (due_within c (opened_at p) (inner_level i))) (stand.0 ∷ stand.1) fs (sym stand.2 ∙ frames)) is taken
+        (append_cancel_left (due_frames c (due_within c (opened_at p) (inner_level i))) (stand.0 ∷ stand.1) fs (sym stand.2 ∙ frames)) is
+        taken
     by_level (opened_passed zero report) fs at deep h frames shallow is taken = absurd deep
     by_level (opened_passed (suc depth) report) fs at deep h frames shallow is taken = absurd shallow
 

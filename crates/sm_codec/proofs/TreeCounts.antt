@@ -119,7 +119,8 @@ module _ (c : Codec) (laws : IsCodec c) where
         )
 
   -- the same of closed entries and pairs of a level
-  pub each_counted : (ns : List Node) (q : Place) → InTable c.table q → total (child_nodes q) (children_of c ns) ≤ share c * each_count c ns q
+  pub each_counted : (ns : List Node) (q : Place) → InTable c.table q
+      → total (child_nodes q) (children_of c ns) ≤ share c * each_count c ns q
   each_counted [] q inside = omega arith
   each_counted (n ∷ ns) q inside = omega (arith, null_or n q (node_counted n q inside), each_counted ns q inside)
 

@@ -80,7 +80,8 @@ simple_name c p name left_out = simple_member c (member_at c p name)
 simple_within : (c : Codec) (o : Opened) (l : Level) → IsSimpleDue c (due_within c o l)
 simple_within c (opened_at p) (list_level ns ts) = simple_due c (due_within c (opened_at p) (list_level ns [])) ts tt
 simple_within c (opened_at p) (object_level ms) = tt
-simple_within c (opened_at p) (pair_level ms name ts) = simple_due c (behind_name (sort_at c p) c p name) ts (simple_name c p name (sort_at c p))
+simple_within c (opened_at p) (pair_level ms name ts) = simple_due c (behind_name (sort_at c p) c p name) ts
+    (simple_name c p name (sort_at c p))
 simple_within c (opened_passed depth report) l = tt
 
 pub simple_in_all : (c : Codec) (root : ℕ) (ts : List ℕ) (ls : List Level) → IsSimpleDue c (due_in c root ts ls)
@@ -248,22 +249,26 @@ module _ (c : Codec) (d : Decoding) (ts : List ℕ) (i : Inner) (outer : List Ar
       let frames : d.frames ≡ f ∷ fs = ends.2 ∙ ap (λ xs. xs ++ f ∷ fs) (none_due c p i may) in
       let before = ends.4 (with_rest fs) refl refl refl in
       let awaits = before_awaits ts outer in
-      let stand : TreeDue c (with_rest fs) (due_at p) = subst (TreeDue c (with_rest fs)) ends.5 (tree_due c (with_rest fs) (before_opener ts outer) shaped inside awaits before) in
+      let stand : TreeDue c (with_rest fs) (due_at p) = subst (TreeDue c (with_rest fs)) ends.5
+      (tree_due c (with_rest fs) (before_opener ts outer) shaped inside awaits before) in
       let below : fs ≡ stand.rest = stand.frames in
       let place : place_among c.table d.shape fs ≡ p = ap (place_among c.table d.shape) below ∙ stand.place p refl in
       let can = end_able c p shaped here i f may ends.3 in
       let outcome = outcome_by c p shaped here i f may ends.3 in
       let first : FirstCanEnd c.table d.shape (f ∷ fs) =
-      first_ends c d.shape f fs can (subst (InTable c.table) (sym place) here) (subst (FirstCanTake c.table) (sym below) (stand.can tt)) in (
+      first_ends c d.shape f fs can (subst (InTable c.table) (sym place) here)
+      (subst (FirstCanTake c.table) (sym below) (stand.can tt)) in (
         subst (FirstCanEnd c.table d.shape) (sym frames) first,
         λ e root by.
             let taken = taken_end c d.shape f fs e can (subst (λ xs. EndedBy c.table c.test d.shape xs e) frames by) in
             let took = subst (λ q. TakenBy c.table c.test (comes (frame_end c.table q f)) fs e) place taken in
             let is : IsArrival (null_where (due_at p) (ended i)) (read_where c (due_at p) (ended i)) (comes (frame_end c.table p f)) =
             outcome_arrives (reading c (ended i) p) (frame_end c.table p f) (is_null (ended i)) (not_null i) outcome in
-            let now = tree_comes c (with_rest fs) e (ended i) (comes (frame_end c.table p f)) laws shaped inside root (before_opener ts outer) fs awaits before
+            let now = tree_comes c (with_rest fs) e (ended i) (comes (frame_end c.table p f)) laws shaped inside root
+            (before_opener ts outer) fs awaits before
             (ap (λ x. due_frames c x ++ fs) (sym ends.5)) (subst IsShallow (sym ends.5) tt)
-            (subst (λ x. IsArrival (null_where x (ended i)) (read_where c x (ended i)) (comes (frame_end c.table p f))) (sym ends.5) is) took in
+            (subst (λ x. IsArrival (null_where x (ended i)) (read_where c x (ended i)) (comes (frame_end c.table p f))) (sym ends.5) is)
+            took in
             subst (λ b. Holds c b e) (after_is ts i outer) now,
       )
 
@@ -299,9 +304,11 @@ module _ (c : Codec) (d : Decoding) (ts : List ℕ) (i : Inner) (outer : List Ar
         let read = read_passed c i due_around depth kind laws (simple_in_all c d.shape ts (map around_level outer)) may opens in
         let arrives : IsArrival (null_where due_around (ended i)) (read_where c due_around (ended i)) (fault_comes ([], kind)) =
         (null_passed due_around i, ([], read)) in
-        let now = tree_comes c again e (ended i) (fault_comes ([], kind)) laws shaped inside root (before_opener ts outer) fs (before_awaits ts outer) before
+        let now = tree_comes c again e (ended i) (fault_comes ([], kind)) laws shaped inside root (before_opener ts outer) fs
+        (before_awaits ts outer) before
         (ap (λ x. due_frames c x ++ fs) (sym due_before)) (subst IsShallow (sym due_before) shallow)
-        (subst (λ x. IsArrival (null_where x (ended i)) (read_where c x (ended i)) (fault_comes ([], kind))) (sym due_before) arrives) taken in
+        (subst (λ x. IsArrival (null_where x (ended i)) (read_where c x (ended i)) (fault_comes ([], kind))) (sym due_before) arrives)
+        taken in
         subst (λ b. Holds c b e) (after_is ts i outer) now
 
     quiet : due_around ≡ due_passed 0 None → (e : Decoding) → e.shape ≡ d.shape → e.result ≡ None → e.frames ≡ fs

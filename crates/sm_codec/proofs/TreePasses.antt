@@ -102,7 +102,8 @@ module _ (c : Codec) (d e : Decoding) (n : Node) (root : e.shape ≡ d.shape) (n
         → e.frames ≡ fs → Holds c (within ts (with_tree n i) outer) e
     silent_by (opened_at p) fs at deep h due frames now =
         let stand = in_frame c p (inner_level i) around d h in
-        let same = append_cancel_left (due_frames c (due_within c (opened_at p) (inner_level i))) fs (stand.0 ∷ stand.1) (sym frames ∙ stand.2) in
+        let same = append_cancel_left (due_frames c (due_within c (opened_at p) (inner_level i))) fs (stand.0 ∷ stand.1)
+        (sym frames ∙ stand.2) in
         tree_taken c d e n ts i outer p stand.0 stand.1 at root none (now ∙ same)
         (frame_passes c p (inner_level i) n stand.0 awaits (quiet_due (due_within c (opened_at p) (inner_level i)) 0 due) stand.3) stand.4
     silent_by (opened_passed zero report) fs at deep h due frames now = absurd deep
@@ -122,7 +123,8 @@ module _ (c : Codec) (d e : Decoding) (n : Node) (root : e.shape ≡ d.shape) (n
 
 module _ (c : Codec) (d : Decoding) (n : Node) where
   -- a tree within what is passed over
-  deep_by : (ts : List ℕ) (i : Inner) (outer : List Around) → AwaitsTree (inner_level i) → (o : Opened) (depth : ℕ) (report : Option FaultKind)
+  deep_by : (ts : List ℕ) (i : Inner) (outer : List Around) → AwaitsTree (inner_level i)
+      → (o : Opened) (depth : ℕ) (report : Option FaultKind)
       → opened c (inner_level i) (due_in c d.shape ts (map around_level outer)) ≡ o
       → due_within c o (inner_level i) ≡ due_passed (suc depth) report → Holds c (within ts i outer) d
       → Holds c (within ts (with_tree n i) outer) d
@@ -136,7 +138,8 @@ module _ (c : Codec) (d : Decoding) (n : Node) where
       absurd (shallow_due (due_in c d.shape ts []) depth report due (shallow_tags c (due_at (root_place d.shape)) ts tt))
   deep_passes (whole m) depth report awaits h due = absurd cc
   deep_passes (within ts i outer) depth report awaits h due =
-      deep_by ts i outer (level_awaits i awaits) (opened c (inner_level i) (due_in c d.shape ts (map around_level outer))) depth report refl due h
+      deep_by ts i outer (level_awaits i awaits) (opened c (inner_level i) (due_in c d.shape ts (map around_level outer))) depth report
+      refl due h
 
 -- the root's shape, the frames and the outcome are all that a decoder holds
 same_decoding : (d e : Decoding) → e.shape ≡ d.shape → e.frames ≡ d.frames → e.result ≡ d.result → e ≡ d

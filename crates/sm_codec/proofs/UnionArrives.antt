@@ -165,7 +165,8 @@ module _ (t : TableData) where
   -- the members that stand with one more among them: it is alone, or there are more
   abbrev Joined : List (ℕ × Child) → ℕ × Child → List (ℕ × Child) → Type 0
   Joined us m bs =
-      ((us ≡ []) × (bs ≡ [])) ⊎ ((n : ℕ × Child) × (ms : List (ℕ × Child)) × (us ++ bs ≡ n ∷ ms) × (union_faults t [] [] (us ++ m ∷ bs) ≡ one_here UnionCount))
+      ((us ≡ []) × (bs ≡ [])) ⊎ ((n : ℕ × Child) × (ms : List (ℕ × Child)) × (us ++ bs ≡ n ∷ ms)
+      × (union_faults t [] [] (us ++ m ∷ bs) ≡ one_here UnionCount))
 
   joined : (us : List (ℕ × Child)) (m : ℕ × Child) (bs : List (ℕ × Child)) → Joined us m bs
   joined [] m [] = inl (refl, refl)
@@ -185,7 +186,8 @@ module _ (t : TableData) where
   fields_stay k v (x ∷ xs) old f e = ap (first_choice k v (x ∷ xs)) e
 
   -- the fault where one more stands, and what the only one comes to
-  pub more_stands : (rs : List FaultAt) (us : List (ℕ × Child)) (m : ℕ × Child) (bs : List (ℕ × Child)) (fields : List (ℕ × Val)) (old : Option FaultAt)
+  pub more_stands : (rs : List FaultAt) (us : List (ℕ × Child)) (m : ℕ × Child) (bs : List (ℕ × Child)) (fields : List (ℕ × Val))
+      (old : Option FaultAt)
       → (alone : Option FaultAt) → ((f : FaultAt) (fs : List FaultAt) → rs ≡ f ∷ fs → is_repeat f ≡ true) → StandSound (us ++ bs)
       → alone ≡ first_fault (standing_faults t m) → Says t rs (us ++ bs) fields old
       → chosen alone fields old ≡ first_fault (union_faults t [] rs (us ++ m ∷ bs))
@@ -259,4 +261,5 @@ module _ (t : TableData) where
   repeat_first k ks (f ∷ fs) ms fields old repeat sound h =
       let old_is : old ≡ Some f = h.0 in
       ap (repeat_fault t ks k) old_is
-      ∙ ap (λ b. cond b (least_fault t ks k (at_member t k ([], Repeated)) (Some f)) (Some (at_member t k ([], Repeated)))) (repeat f fs refl)
+      ∙ ap (λ b. cond b (least_fault t ks k (at_member t k ([], Repeated)) (Some f)) (Some (at_member t k ([], Repeated))))
+      (repeat f fs refl)

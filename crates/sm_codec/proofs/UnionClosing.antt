@@ -49,14 +49,16 @@ choice_named c p ps name f g named h =
 -- a member's tree
 pub union_takes : (c : Codec) (p : Place) (ms : List (List ℕ × Node)) (name : List ℕ) (us : List ℕ) (n : Node) (k : ℕ) (x : Arrival)
     → (f g : MemberFrame) → IsConvention c.convention → Shaped c.table → InTable c.table p → member_at c p name ≡ Some k
-    → IsArrival (null_where (due_within c (opened_at p) (pair_level ms name us)) n) (read_where c (due_within c (opened_at p) (pair_level ms name us)) n) x
+    → IsArrival (null_where (due_within c (opened_at p) (pair_level ms name us)) n)
+    (read_where c (due_within c (opened_at p) (pair_level ms name us)) n) x
     → ChoosesMember c.table k x f g → FrameHolds c p (pair_level ms name us) (union_frame f)
     → FrameHolds c p (level_with n (pair_level ms name us)) (union_frame g)
 union_takes c p ms name us n k x f g laws shaped inside at is takes h =
     let due : due_within c (opened_at p) (pair_level ms name us) ≡ behind_tags c (due_at (member_place k)) us =
     ap (λ s. behind_tags c (behind_name s c p name) us) h.0 ∙ ap (λ o. behind_tags c (due_member o) us) at in
     let come = arrives_in c (member_place k) us n x (due_within c (opened_at p) (pair_level ms name us)) laws due is in
-    let held = choice_held c p (named_children_of c ms) name (child_of c (tagged us n)) k x f g laws shaped inside at come (all_sound c p ms laws) takes h in
+    let held = choice_held c p (named_children_of c ms) name (child_of c (tagged us n)) k x f g laws shaped inside at come
+    (all_sound c p ms laws) takes h in
     subst (λ ps. HoldsPairs c p ps None (union_frame g)) (sym (map-append (λ m. (m.0, child_of c m.1)) ms ((name, tagged us n) ∷ []))) held
 
 pub union_passes : (c : Codec) (p : Place) (ms : List (List ℕ × Node)) (name : List ℕ) (us : List ℕ) (n : Node) (f : MemberFrame)

@@ -142,7 +142,8 @@ module _ (t : TableData) (before : List ℕ) (k : ℕ) (behind : List ℕ) (s r 
       let rs = repeats t s ms in
       let says = says_then none seen fault fields h in
       let stand = sound_then none sound in
-      let alone : None ≡ first_fault (standing_faults t (k, child)) = ap (λ x. first_fault (under (Member (name_at t k)) (faults_in x))) (sym is.1) in
+      let alone : None ≡ first_fault (standing_faults t (k, child)) = ap (λ x. first_fault (under (Member (name_at t k)) (faults_in x)))
+      (sym is.1) in
       let all = all_now a none is.0 in
       let first : chosen None fields fault ≡ first_fault (closed_union_faults t r ms) =
       more_stands t rs low (k, child) high fields fault None (repeats_first t s ms) stand alone says ∙ ap first_fault (sym all) in
@@ -183,7 +184,8 @@ module _ (t : TableData) (before : List ℕ) (k : ℕ) (behind : List ℕ) (s r 
       (says_then none seen fault fields h) ∙ ap first_fault (sym (all_now a none is.0)) in
       let each = each_found t k child r (Err (w ∷ ws)) one is in
       let kept = chosen_some t (at_member t k w) fields fault in
-      let some = subst (λ xs. AreOf fields xs) (sym (same_fields a none each)) (kept_of (closed_union_faults t s ms) fields (spelled_fields s ms) h.2) in (
+      let some = subst (λ xs. AreOf fields xs) (sym (same_fields a none each))
+      (kept_of (closed_union_faults t s ms) fields (spelled_fields s ms) h.2) in (
         seen_first t before k behind s r child seen now a.front a.back none one put h.0,
         first,
         kept_from (closed_union_faults t r ms) fields (spelled_fields r ms) some
@@ -214,11 +216,13 @@ module _ (t : TableData) (before : List ℕ) (k : ℕ) (behind : List ℕ) (s r 
   again_chosen seen b bs fault fields a stood sound h =
       let two : r k ≡ b ∷ (bs ++ child ∷ []) = a.here ∙ ap (λ cs. cs ++ child ∷ []) stood in
       let own : own_faults t (repeated_ones t r) k ≡ new ∷ [] =
-      ap (λ cs. under (Member (name_at t k)) (member_faults (member_reading so_far_absent k (only_more t r cs)))) two ∙ more_than_one b bs in
+      ap (λ cs. under (Member (name_at t k)) (member_faults (member_reading so_far_absent k (only_more t r cs)))) two
+      ∙ more_than_one b bs in
       let was = repeated_ones t s in
       let now_is : repeats t r ms ≡ closed_faults t was before ++ (new ∷ closed_faults t was behind) =
       repeats_are t r ms
-      ∙ faults_now t before k was (repeated_ones t r) behind (new ∷ []) (more_agree t r s before a.front) (more_agree t r s behind a.back) own in
+      ∙ faults_now t before k was (repeated_ones t r) behind (new ∷ []) (more_agree t r s before a.front)
+      (more_agree t r s behind a.back) own in
       let some_now = not_empty (closed_faults t was before) new (closed_faults t was behind) in
       let only = repeats_only t (repeats t r ms) (all_standing r ms) some_now.0 some_now.1 (now_is ∙ some_now.2) in
       let first : repeat_fault t ms k fault ≡ first_fault (closed_union_faults t r ms) =
@@ -231,7 +235,8 @@ module _ (t : TableData) (before : List ℕ) (k : ℕ) (behind : List ℕ) (s r 
       ap (each_field k) a.here ∙ each_two k (s k) (child ∷ []) in
       let then_of = subst (λ xs. AreOf fields xs) (fields_then t before k s r behind (each_field k (s k)) refl)
       (kept_of (closed_union_faults t s ms) fields (spelled_fields s ms) h.2) in
-      let more = of_grown fields (spelled_fields s before) (each_field k (s k)) (each_field k (child ∷ [])) (spelled_fields s behind) then_of in
+      let more = of_grown fields (spelled_fields s before) (each_field k (s k)) (each_field k (child ∷ []))
+      (spelled_fields s behind) then_of in
       let is_now = fields_now t before k s r behind (each_field k (s k) ++ each_field k (child ∷ [])) a.front a.back grown_is in
       let some : AreOf fields (spelled_fields r ms) = subst (λ xs. AreOf fields xs) (sym is_now) more in (
         seen_again t before k behind s r child seen b bs (bs ++ child ∷ []) a.front a.back stood two h.0,

@@ -42,7 +42,8 @@ module _ (t : TableData) (before : List ℕ) (k : ℕ) (behind : List ℕ) (s r 
   chooses_by x f g false seen e a is sound takes h =
       let absent : has_one (s k) ≡ false =
       no_one (has_one (s k)) refl (sym (list_any-IsPermutation (λ j. nat_eq j k) f.seen (closed_members s ms) h.0) ∙ seen) in
-      let held = first_chosen t before k behind s r child f.seen g.seen x f.fault f.fields a (nothing_yet (s k) absent) is sound takes.0 h in
+      let held = first_chosen t before k behind s r child f.seen g.seen x f.fault f.fields a
+      (nothing_yet (s k) absent) is sound takes.0 h in
       subst₂ (λ o fs. AreChosen t ms r g.seen o fs) (sym takes.2) (sym takes.1) held
     where
       no_one : (d : Bool) → has_one (s k) ≡ d → is_seen k (closed_members s ms) ≡ false → d ≡ false
@@ -55,7 +56,8 @@ chosen_of : (t : TableData) (p : Place) (s : ByMember) (pending : Option ℕ) (f
 chosen_of t p s pending f h = (h.seen, h.fault, h.fields)
 
 -- so a union's frame holds the pairs with this one
-pub choice_held : (c : Codec) (p : Place) (ps : List (List ℕ × Child)) (name : List ℕ) (child : Child) (k : ℕ) (x : Arrival) (f g : MemberFrame)
+pub choice_held : (c : Codec) (p : Place) (ps : List (List ℕ × Child)) (name : List ℕ) (child : Child) (k : ℕ) (x : Arrival)
+    (f g : MemberFrame)
     → IsConvention c.convention → Shaped c.table → InTable c.table p → member_at c p name ≡ Some k
     → IsArrival child.null (child.reading (member_place k)) x → ((j : ℕ) → AreSound j (under_names c p ps j))
     → ChoosesMember c.table k x f g
@@ -108,7 +110,8 @@ ends_clean (f ∷ fs) = refl
 
 union_by : (t : TableData) (s : ByMember) (ks seen : List ℕ) (fault : Option FaultAt) (fields : List (ℕ × Val)) (fs : List FaultAt)
     → closed_union_faults t s ks ≡ fs → AreChosen t ks s seen fault fields
-    → IsOutcome (union_reading_of (union_faults t (one_here UnionCount) (repeats t s ks) (all_standing s ks)) (standing_fields (all_standing s ks)))
+    → IsOutcome (union_reading_of (union_faults t (one_here UnionCount) (repeats t s ks) (all_standing s ks))
+    (standing_fields (all_standing s ks)))
     (union_end fields fault)
 union_by t s ks seen fault fields [] e h =
     let values : fields ≡ standing_fields (all_standing s ks) = (says_of t s ks seen fault fields h).1 e in
@@ -119,7 +122,8 @@ union_by t s ks seen fault fields [] e h =
 union_by t s ks seen fault fields (f ∷ fs) e h =
     let some : fault ≡ Some f = h.1 ∙ ap first_fault e in
     let all = open_or_not t (repeats t s ks) (all_standing s ks) f fs e in
-    subst₂ (λ r o. IsOutcome r o) (ap (λ xs. union_reading_of xs (standing_fields (all_standing s ks))) (sym all)) (ap (union_end fields) (sym some))
+    subst₂ (λ r o. IsOutcome r o) (ap (λ xs. union_reading_of xs (standing_fields (all_standing s ks))) (sym all))
+    (ap (union_end fields) (sym some))
     (faulty fields f fs (standing_fields (all_standing s ks)))
   where
     faulty : (xs : List (ℕ × Val)) (g : FaultAt) (gs : List FaultAt) (ys : List (ℕ × Val))
@@ -131,4 +135,5 @@ pub union_ends : (c : Codec) (p : Place) (ps : List (List ℕ × Child)) (f : Me
     → IsOutcome (union_reading c p ps) (union_end f.fields f.fault)
 union_ends c p ps f h =
     union_by c.table (under_names c p ps) (members_of_place c.table p) f.seen f.fault f.fields
-    (closed_union_faults c.table (under_names c p ps) (members_of_place c.table p)) refl (chosen_of c.table p (under_names c p ps) None f h.1)
+    (closed_union_faults c.table (under_names c p ps) (members_of_place c.table p)) refl
+    (chosen_of c.table p (under_names c p ps) None f h.1)

@@ -121,7 +121,8 @@ module _ (c : Codec) (i : Inner) (d now e : Decoding) (shaped : Shaped c.table) 
       let taken = taken_end c now.shape f d.frames e can (subst (λ gs. EndedBy c.table c.test now.shape gs e) at.1.1 by) in
       let here = subst (λ q. TakenBy c.table c.test (comes (frame_end c.table q f)) d.frames e) same_place taken in (
         comes (frame_end c.table p f),
-        outcome_arrives (reading c (ended i) p) (frame_end c.table p f) (is_null (ended i)) (not_null i) (outcome_by c p shaped ready.0 i f may at.1.2),
+        outcome_arrives (reading c (ended i) p) (frame_end c.table p f) (is_null (ended i)) (not_null i)
+            (outcome_by c p shaped ready.0 i f may at.1.2),
         here,
       )
 
@@ -173,7 +174,8 @@ starts_by c q a_structure e h = structure_starts c q e
 starts_by c q a_union e h = union_starts c q e
 starts_by c q left_out e h = absurd cc
 
-pub object_opens : (c : Codec) (d now : Decoding) (p : Place) (all : List (List ℕ × Node)) → is_object (sort_at c (next_place c.table d)) ≡ true
+pub object_opens : (c : Codec) (d now : Decoding) (p : Place) (all : List (List ℕ × Node))
+    → is_object (sort_at c (next_place c.table d)) ≡ true
     → p ≡ next_place c.table d → d.result ≡ None → now.result ≡ d.result
     → now.frames ≡ object_start (sort_at c p) (shape_of c.table p) ∷ d.frames → PairsSoFar c (next_place c.table d) d.frames all all now
 object_opens c d now p all is at none same frames =
@@ -216,7 +218,12 @@ name_behind : (c : Codec) (p : Place) (name : List ℕ) (s : Sort) → Shaped c.
     → BehindName c p (behind_name s c p name)
 name_behind c p name (simple x) shaped inside e = member_behind c p name (member_at c p name) shaped inside refl
 name_behind c p name a_list shaped inside e = member_behind c p name (member_at c p name) shaped inside refl
-name_behind c p name a_map shaped inside e = inl (value_place c.table p, refl, value_in c.table p shaped inside (kind_of_sort c.table p a_map e))
+name_behind c p name a_map shaped inside e = inl (
+  value_place c.table p,
+  refl,
+  value_in c.table p shaped inside
+      (kind_of_sort c.table p a_map e),
+)
 name_behind c p name a_structure shaped inside e = member_behind c p name (member_at c p name) shaped inside refl
 name_behind c p name a_union shaped inside e = member_behind c p name (member_at c p name) shaped inside refl
 name_behind c p name left_out shaped inside e = member_behind c p name (member_at c p name) shaped inside refl
@@ -270,5 +277,10 @@ module _ (c : Codec) (p : Place) (ms : List (List ℕ × Node)) (name : List ℕ
   pub unknown_took : known ≡ false → (n : Node) → LevelAt c p (object_level (ms ++ (name, n) ∷ [])) fs now
   unknown_took h n = (
     named_at.0.0,
-    (named_at.0.1.0, named_at.0.1.1, frame_passes c p (pair_level ms name []) n named_at.0.1.0 tt (quiet_due due 0 (unknown_at h)) named_at.0.1.2),
+    (
+      named_at.0.1.0,
+      named_at.0.1.1,
+      frame_passes c p (pair_level ms name []) n named_at.0.1.0 tt
+          (quiet_due due 0 (unknown_at h)) named_at.0.1.2,
+    ),
   )

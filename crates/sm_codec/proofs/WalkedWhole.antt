@@ -45,7 +45,8 @@ module _ (c : Codec) (n : Node) (s : ℕ) (d e : Decoding) (laws : IsConvention 
       (
         root_outcome walked.0,
         walked.2.1,
-        subst (λ x. IsOutcome (reading c n (root_place x)) (root_outcome walked.0)) (sym same_root) (root_is c (due_at (root_place s)) n walked.0 laws walked.1),
+        subst (λ x. IsOutcome (reading c n (root_place x)) (root_outcome walked.0)) (sym same_root)
+            (root_is c (due_at (root_place s)) n walked.0 laws walked.1),
       ),
     );
   }

@@ -94,7 +94,8 @@ none_due c p (pair_level ms name ts) n = refl
 -- the frame of the innermost level, where it is kept
 abbrev pub InFrame : Codec → Place → Level → List (Place × Level) → Decoding → Type 0
 InFrame c p l around d =
-    (f : Frame) × (fs : List Frame) × (d.frames ≡ due_frames c (due_within c (opened_at p) l) ++ f ∷ fs) × FrameHolds c p l f × FramesHold c around fs
+    (f : Frame) × (fs : List Frame) × (d.frames ≡ due_frames c (due_within c (opened_at p) l) ++ f ∷ fs) × FrameHolds c p l f
+    × FramesHold c around fs
 
 frame_of : (c : Codec) (p : Place) (l : Level) (around : List (Place × Level)) (d : Decoding) (fs : List Frame)
     → d.frames ≡ due_frames c (due_within c (opened_at p) l) ++ fs → FramesHold c ((p, l) ∷ around) fs → InFrame c p l around d

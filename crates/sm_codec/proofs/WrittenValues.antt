@@ -93,7 +93,8 @@ leaf_written c p v laws of h =
 pub two_results : (v : Val) (kind : FaultKind) (r : Result Val FaultKind) → r ≡ Ok v → r ≡ Err kind → ⊥
 two_results v kind r h g = cc
 
-leaf_stands_if : (c : Codec) (p : Place) (v : Val) (n : Node) → IsConvention c.convention → IsLeaf c p v n → (b : Bool) → is_null n ≡ b → b ≡ false
+leaf_stands_if : (c : Codec) (p : Place) (v : Val) (n : Node) → IsConvention c.convention → IsLeaf c p v n → (b : Bool) → is_null n ≡ b
+    → b ≡ false
 leaf_stands_if c p v n laws h true e =
     absurd (two_results v WrongType (c.convention.read h.0 null) (subst (λ m. c.convention.read h.0 m ≡ Ok v) (null_is n e) h.2)
     (laws.no_null h.0))
@@ -182,7 +183,8 @@ module _ (c : Codec) (p : Place) where
   none_written x ks no_fields none h = refl
   none_written x ks (field k v fs) none h =
       let parts = subst (λ xs. NoneIs x (map (wire_name c p) xs)) h.2 none in
-      named_other x (wire_name c p k) (written c.table c.convention (member_place k) v) (fields_put fs) (none_at (wire_name c p) x h.0 k h.1 parts)
+      named_other x (wire_name c p k) (written c.table c.convention (member_place k) v) (fields_put fs)
+      (none_at (wire_name c p) x h.0 k h.1 parts)
       ∙ none_written x h.1 fs (none_in_last x h.0 k h.1 parts) h.5
 
   absent_none : (ks : List ℕ) → MayBeAbsent c.table ks → AreAbsent c p [] ks
@@ -220,7 +222,8 @@ module _ (c : Codec) (p : Place) where
       → AreAbsent c p ((wire_name c p k, n) ∷ fields_put fs) before
   skipped_absent [] k behind n fs differ may fits = tt
   skipped_absent (j ∷ before) k behind n fs differ may fits =
-      let none = named_other (wire_name c p j) (wire_name c p k) n (fields_put fs) (none_at (wire_name c p) (wire_name c p j) before k behind differ.0)
+      let none = named_other (wire_name c p j) (wire_name c p k) n (fields_put fs)
+      (none_at (wire_name c p) (wire_name c p j) before k behind differ.0)
       ∙ none_written (wire_name c p j) behind fs (none_in_last (wire_name c p j) before k behind differ.0) fits in
       (subst NoneOrNull (sym none) tt, may.1, skipped_absent before k behind n fs differ.1 may.2 fits)
 
@@ -356,7 +359,8 @@ mutual
           one,
         ),
         fields_beside c p (wire_name c p k) n h.1 fs (fields_put c p fs) apart
-            (fields_written c laws shaped fs p s h.1 place.1 (differ_behind (wire_name c p) h.0 k h.1 names) h.5 (none_behind first rest g)),
+            (fields_written c laws shaped fs p s h.1 place.1 (differ_behind (wire_name c p) h.0 k h.1 names) h.5
+            (none_behind first rest g)),
       )
 
 pub written_spells : WrittenSpells

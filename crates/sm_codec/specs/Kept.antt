@@ -77,7 +77,8 @@ abbrev pub closed_union_faults : TableData → ByMember → List ℕ → List Fa
 closed_union_faults t stands ks = union_faults t [] (repeats t stands ks) (all_standing stands ks)
 
 -- what is kept of the members of a place, by what stands for them: their closed places have these faults
-pub record HoldsMembers (t : TableData) (p : Place) (stands : ByMember) (pending : Option ℕ) (faults : List FaultAt) (f : MemberFrame) : Type 0 where
+pub record HoldsMembers (t : TableData) (p : Place) (stands : ByMember) (pending : Option ℕ) (faults : List FaultAt)
+    (f : MemberFrame) : Type 0 where
   pub shape : f.shape ≡ shape_of t p
   pub seen : IsPermutation f.seen (closed_members stands (members_of_place t p))
   pub current : f.current ≡ pending

@@ -59,7 +59,8 @@ abbrev mutual
   Spelled c p (list_val vs) n = (sort_at c p ≡ a_list) × ((ns : List Node) × (n ≡ list (nodes_of ns)) × SpelledEntries c p vs ns)
   -- an object with distinct names, pair by pair in any order
   Spelled c p (map_val es) n =
-      (sort_at c p ≡ a_map) × ((ps : List (List ℕ × Node)) × (n ≡ object (members_of ps)) × AreKeys ps (keys_of es) × SpelledPairs c p es ps)
+      (sort_at c p ≡ a_map) × ((ps : List (List ℕ × Node)) × (n ≡ object (members_of ps)) × AreKeys ps (keys_of es)
+      × SpelledPairs c p es ps)
   -- an object; pairs of names that no member has are anything
   Spelled c p (structure_val fs) n =
       (sort_at c p ≡ a_structure) × ((ps : List (List ℕ × Node)) × (n ≡ object (members_of ps))

@@ -77,8 +77,10 @@ impl Decoder {
     ) -> Result<(), NoMemory>
         requires shaped { Shaped (table_data table.now) }
         requires stored { AreStored (table_data table.now).patterns (P.added patterns.old) }
-        requires placed { MayTake (decodes_so_far (codec_of (table_data table.now) (L.convention leaves.now) P.test) self.old) (event_of event) }
-        ensures kept { OnOk result (TakesOn (decodes_so_far (codec_of (table_data table.now) (L.convention leaves.now) P.test) self.old) (event_of event) (decodes_so_far (codec_of (table_data table.now) (L.convention leaves.now) P.test) self.new)) }
+        requires placed { MayTake (decodes_so_far (codec_of (table_data table.now) (L.convention leaves.now) P.test) self.old)
+            (event_of event) }
+        ensures kept { OnOk result (TakesOn (decodes_so_far (codec_of (table_data table.now) (L.convention leaves.now) P.test) self.old)
+            (event_of event) (decodes_so_far (codec_of (table_data table.now) (L.convention leaves.now) P.test) self.new)) }
         ensures bounded { StaysBounded (decoding_of self.new) }
         ensures shape { (decoding_of self.new).shape ≡ (decoding_of self.old).shape }
         ensures added { P.added patterns.new ≡ P.added patterns.old }

@@ -29,7 +29,8 @@ pub fn decode<L: Leaves, P: Patterns>(
     requires shaped { Shaped (table_data table.now) }
     requires built { Built (table_data table.now) (P.added patterns.old) P.test }
     requires shape { shape < shape_count (table_data table.now) }
-    ensures decoded { DecodesTree (codec_of (table_data table.now) (L.convention leaves.now) P.test) (root_place shape) (node_of tree.now) result }
+    ensures decoded { DecodesTree (codec_of (table_data table.now) (L.convention leaves.now) P.test) (root_place shape)
+        (node_of tree.now) result }
     ensures added { P.added patterns.new ≡ P.added patterns.old }
     ensures refused { P.refused patterns.new ≡ P.refused patterns.old }
     ensures refusals { P.refusals patterns.new ≡ P.refusals patterns.old }

@@ -66,7 +66,8 @@ fn hand<E: EventSink>(event: Event, to: &mut E) -> Result<(), NoMemory>
 // The name of a pair.
 fn hand_key<E: EventSink>(alloc: Global, name: &str, to: &mut E) -> Result<(), NoMemory>
     requires ready { IsReady (E.stands_for to.old) (E.takes to.old) (key_event name.now ∷ []) }
-    ensures came { OnOk result (Came (E.stands_for to.old) (E.takes to.old) (key_event name.now ∷ []) (E.stands_for to.new) (E.takes to.new)) }
+    ensures came { OnOk result (Came (E.stands_for to.old) (E.takes to.old) (key_event name.now ∷ []) (E.stands_for to.new)
+        (E.takes to.new)) }
     ensures alike { E.alike to.old to.new }
 {
     match Text::copy(alloc, name) {

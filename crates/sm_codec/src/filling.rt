@@ -61,7 +61,8 @@ fn defaults_of<P: Patterns>(
 ) -> Result<Vec<Option<Value>>, NoMemory>
     requires shaped { Shaped (table_data table.now) }
     requires stored { AreStored (table_data table.now).patterns (P.added patterns.old) }
-    ensures defaults { IfOk result (λ all. defaults_view all.items ≡ counted_defaults (node_codec (table_data table.now) P.test) 0 (table_data table.now).members) }
+    ensures defaults { IfOk result (λ all. defaults_view all.items ≡ counted_defaults (node_codec (table_data table.now) P.test) 0
+        (table_data table.now).members) }
     ensures added { P.added patterns.new ≡ P.added patterns.old }
     ensures refused { P.refused patterns.new ≡ P.refused patterns.old }
     ensures refusals { P.refusals patterns.new ≡ P.refusals patterns.old }

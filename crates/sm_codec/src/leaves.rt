@@ -39,7 +39,8 @@ pub trait Leaves {
     fn member_named(&self, table: &Table, shape: u32, name: &str) -> Option<u32>
         requires number { shape < shape_count (table_data table.now) }
         requires shaped { Shaped (table_data table.now) }
-        ensures { result ≡ member_with ((convention self.now).name (table_data table.now) shape) name.now (members_at (table_data table.now) shape) };
+        ensures { result ≡ member_with ((convention self.now).name (table_data table.now) shape) name.now
+            (members_at (table_data table.now) shape) };
 
     /// The value that a tree spells where a simple type is, or the fault. A text or a blob takes as much memory as its length.
     fn read(&self, alloc: Global, simple: Simple, leaf: &Tree) -> Result<Value, LeafRefusal>

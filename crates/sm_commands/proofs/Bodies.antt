@@ -137,7 +137,8 @@ pub served_comes : (near far : BodyForm) (one : OneShape) (test : Test) (input r
     → Path Served one.served Yes → InputComesTo near far (filled (table_data one.table) test) test one.shape input rest result
     → TableComesTo near far one test input rest result
 served_comes near far one test input rest result served h =
-    comes_map (InputSays near far (filled (table_data one.table) test) test one.shape input rest) (TableSays near far (seen_table one) test input rest)
+    comes_map (InputSays near far (filled (table_data one.table) test) test one.shape input rest)
+    (TableSays near far (seen_table one) test input rest)
     (Rose input.faults rest.faults) (Path Served one.served Yes × Rose input.faults rest.faults) (Unit {0})
     ((rest ≡ input) ⊎ Path Served one.served Yes) result (λ a says. by_input served says) (λ rose. (served, rose)) (λ short. inr served) h
 

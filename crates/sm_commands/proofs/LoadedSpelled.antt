@@ -16,7 +16,8 @@ member_text_of : (shape name : List ℕ) → IsShapeId shape → IsIdentifier na
 member_text_of shape name of named =
     let id : Id = of.0 in
     let base : shape ≡ id.namespace ++ 35 ∷ id.name =
-    of.1.spelled ∙ ap (λ o. id.namespace ++ 35 ∷ (id.name ++ member_text o)) of.2 ∙ ap (λ x. id.namespace ++ 35 ∷ x) (append-nil id.name) in (
+    of.1.spelled ∙ ap (λ o. id.namespace ++ 35 ∷ (id.name ++ member_text o)) of.2
+    ∙ ap (λ x. id.namespace ++ 35 ∷ x) (append-nil id.name) in (
       record { namespace = id.namespace; name = id.name; member = Some name },
       record {
         is_id = record {

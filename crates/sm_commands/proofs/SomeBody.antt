@@ -49,7 +49,8 @@ module _ (texts : SomeTextAnswer) (tables : SomeTable) (t : Told) (name shape : 
       inside = number_within h.table.sound.there.loaded.graph shape t.test t.store h.table.now h.table.one h.table.compiled
 
   -- a table, by whether it is served
-  table_answered : (input : List ℕ) → IsInput t.input input → (h : TableMade t name shape) → (served : Served) → Path Served h.one.served served → ⊥
+  table_answered : (input : List ℕ) → IsInput t.input input → (h : TableMade t name shape) → (served : Served)
+      → Path Served h.one.served served → ⊥
   table_answered input is h Yes e = input_answered input is (record { table = h; served = e })
   table_answered input is h (Unserved path) e = none (came untouched (refused (unserved_line path))) (unserved h path e refl)
 

@@ -16,7 +16,8 @@ use Rattle.sm_compile.proofs.RowsAlike.{each_length}
 pub number_within : (g : GraphMaps) (shape : List ℕ) (test : Test) (before now : StoreSeen) (one : TableSeen)
     → IsTableSeen g shape test before now one → one.shape < shape_count one.table
 number_within g shape test before now one h =
-    subst (λ n. one.shape < n) (each_length (SaysShape g one.table.patterns h.numbering) h.numbering.shapes one.table.shapes h.compiled.says_shapes)
+    subst (λ n. one.shape < n) (each_length (SaysShape g one.table.patterns h.numbering) h.numbering.shapes one.table.shapes
+    h.compiled.says_shapes)
     (slice_get_within h.numbering.shapes one.shape shape h.shape)
 
 pub is_filled : (g : GraphMaps) (shape : List ℕ) (test : Test) (before now : StoreSeen) (one : TableSeen)

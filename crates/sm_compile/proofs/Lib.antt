@@ -3,10 +3,10 @@ pub mod OnePatterns
 pub mod OneWay
 pub mod OneTable
 pub mod LookedUp
-mod ReachedNumbers
+pub mod ReachedNumbers
 mod Differing
 mod NamesBehind
-mod SoundTests
+pub mod SoundTests
 mod SoundShapes
 mod EmptyNodes
 mod TabledNumbers
@@ -49,7 +49,7 @@ mod SomeTable
 mod UriStops
 mod UriBytes
 mod UriNames
-mod UriSegments
+pub mod UriSegments
 mod UriParts
 mod UriCuts
 mod UriPaths

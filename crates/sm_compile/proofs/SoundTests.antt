@@ -230,11 +230,11 @@ module _ (g : GraphMaps) where
       by (Some (list ns)) is h = absurd (apart h)
       by (Some (object ms)) is h = absurd (apart h)
 
-  fits_from : (z : ℤ) → fits_word z ≡ true → FitsSigned w32 z
+  pub fits_from : (z : ℤ) → fits_word z ≡ true → FitsSigned w32 z
   fits_from (pos n) h = record { sfits = grind (arith, nat_tests) }
   fits_from (negsuc n) h = record { sfits = grind (arith, nat_tests) }
 
-  fits_back : (z : ℤ) → FitsSigned w32 z → fits_word z ≡ true
+  pub fits_back : (z : ℤ) → FitsSigned w32 z → fits_word z ≡ true
   fits_back (pos n) h = let f = h.sfits in grind (arith, nat_tests)
   fits_back (negsuc n) h = let f = h.sfits in grind (arith, nat_tests)
 

@@ -154,8 +154,8 @@ fn is_some_number(number: Option<i64>) -> bool
     }
 }
 
-// Whether 32 bits hold the number, one of them its sign.
-fn fits_word(number: i64) -> bool
+/// Whether 32 bits hold the number, one of them its sign: what the value of a member of an intEnum may be. No memory.
+pub fn fits_word(number: i64) -> bool
     ensures { result ≡ fits_word number }
 {
     if number < 0 {

@@ -31,6 +31,7 @@ mod way;
 
 pub use compile::compile_shape;
 pub use compiled::{CompileRefusal, OneShape, Served};
+pub use enums::fits_word;
 pub use formed::{are_lengths_where, are_ordered_where, are_whole_bounds_where, is_range_where};
 pub use kinds::{has_length, has_values, is_text_kind, is_whole_kind, may_target, table_kind};
 pub use look::{id_text, kind_of, members_of, target_kind, target_of, targets_unit, trait_node};

@@ -103,7 +103,12 @@ end_open total = (
   λ content behind x.
       let y = end_begins total (13 ∷ []) content behind x in one_return (print_chunked y.0 ++ behind) y.2,
   λ never. some_body (Size total) (λ more content behind x.
-      never (10 ∷ more) content behind (13 ∷ 10 ∷ x.0, ([], x.1.0, refl, x.1.1, ap (λ b. 13 ∷ 10 ∷ b) x.1.2, x.1.3), ap (λ b. 13 ∷ 10 ∷ b) x.2)),
+      never (10 ∷ more) content behind (
+        13 ∷ 10 ∷ x.0,
+        ([], x.1.0, refl, x.1.1, ap (λ b. 13 ∷ 10 ∷ b) x.1.2, x.1.3),
+        ap
+            (λ b. 13 ∷ 10 ∷ b) x.2,
+      )),
   λ p. let y = past_begins total (13 ∷ []) p in one_return y.0 y.1,
 )
 
@@ -162,7 +167,12 @@ pub last_on : (sum : ℕ) (l : ChunkLine) (bytes behind : List ℕ) → IsSizeLi
 last_on sum l bytes behind line none x =
     let text : ChunkedText = record { chunks = []; last = l; trailers = x.lines } in (
       print_chunked text,
-      (text, record { chunks = All-nil IsChunk; last = line; zero = none; trailers = x.are_trailers; short = omega (arith, x.within) }, refl, refl),
+      (
+        text,
+        record { chunks = All-nil IsChunk; last = line; zero = none; trailers = x.are_trailers; short = omega (arith, x.within) },
+        refl,
+        refl,
+      ),
       ap (λ b. print_chunk_line l ++ b) x.reads ∙ sym (behind_text [] (print_chunk_line l) (print_trailers x.lines) behind),
     )
 

@@ -97,7 +97,8 @@ data_step k total piece = record {
     piece ++ p.0,
     p.1,
     length-append piece p.0 ∙ ap (λ n. length piece + n) p.2,
-    ap (λ b. piece ++ b) p.3 ∙ sym (append_assoc piece (p.0 ++ crlf_bytes) p.1) ∙ ap (λ b. b ++ p.1) (sym (append_assoc piece p.0 crlf_bytes)),
+    ap (λ b. piece ++ b) p.3 ∙ sym (append_assoc piece (p.0 ++ crlf_bytes) p.1)
+        ∙ ap (λ b. b ++ p.1) (sym (append_assoc piece p.0 crlf_bytes)),
     p.4,
   );
   past_back = λ rest p.
@@ -203,7 +204,8 @@ size_back n total l rest behind [] last ts line size some is e none =
 size_back n total l rest behind (c ∷ cs) last ts line size some is e none =
     let inner : ChunkedText = record { chunks = cs; last = last; trailers = ts } in
     let this = All-head IsChunk c cs is.chunks in
-    let both = e ∙ ap (λ b. b ++ behind) (printed_with c inner) ∙ append_assoc (print_chunk_line c.line) (c.content ++ crlf_bytes ++ print_chunked inner) behind in
+    let both = e ∙ ap (λ b. b ++ behind) (printed_with c inner)
+    ∙ append_assoc (print_chunk_line c.line) (c.content ++ crlf_bytes ++ print_chunked inner) behind in
     let same = chunk_line_unique _ l c.line rest _ (line.form, refl) (this.line.form, both) in
     let long : length c.content ≡ n = this.size ∙ ap chunk_size (sym same.0) ∙ size in
     none (c.content ++ chunks_data cs) behind (
@@ -240,7 +242,8 @@ size_past_on sum n l rest line size some p =
       past = omega (arith, p.2);
     }
 
-size_past_back : (sum n : ℕ) (l : ChunkLine) (rest : List ℕ) (cs : List Chunk) (k : ChunkLine) (r : List ℕ) → IsSizeLine l → chunk_size l ≡ n
+size_past_back : (sum n : ℕ) (l : ChunkLine) (rest : List ℕ) (cs : List Chunk) (k : ChunkLine) (r : List ℕ) → IsSizeLine l
+    → chunk_size l ≡ n
     → sum + n ≤ message_body_limit → All IsChunk cs → IsSizeLine k → print_chunk_line l ++ rest ≡ print_chunks cs ++ print_chunk_line k ++ r
     → message_body_limit < sum + length (chunks_data cs) + chunk_size k → IsPastLimit (Data n (sum + n)) rest
 size_past_back sum n l rest [] k r line size within all is e past =

@@ -92,7 +92,8 @@ no_line_no_head of_responses bytes e = λ h rest x. true≢false (sym (response_
 no_lf_target : (bytes : List ℕ) → AllPass is_uri_byte bytes → has_line_feed bytes ≡ false
 no_lf_target [] all = refl
 no_lf_target (b ∷ bytes) all =
-    uri_first b bytes _ refl (All-head (λ v. is_uri_byte v ≡ true) b bytes all) (no_lf_target bytes (All-tail (λ v. is_uri_byte v ≡ true) b bytes all))
+    uri_first b bytes _ refl (All-head (λ v. is_uri_byte v ≡ true) b bytes all)
+    (no_lf_target bytes (All-tail (λ v. is_uri_byte v ≡ true) b bytes all))
   where
     uri_first : (b : ℕ) (bytes : List ℕ) (t : Bool) → (b == line_feed) ≡ t → is_uri_byte b ≡ true → has_line_feed bytes ≡ false
         → (b == line_feed || has_line_feed bytes) ≡ false

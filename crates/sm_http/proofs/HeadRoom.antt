@@ -40,7 +40,8 @@ fields_some (f ∷ fs) all =
 
 section_some : (fs : List Field) (last : LineEnd) (rest : List ℕ) → All IsField fs → 3 * length fs ≤ length (print_section fs last ++ rest)
 section_some fs last rest all =
-    before (print_section fs last) rest (3 * length fs) (before (flat_map print_field fs) (print_end last) (3 * length fs) (fields_some fs all))
+    before (print_section fs last) rest (3 * length fs) (before (flat_map print_field fs) (print_end last) (3 * length fs)
+    (fields_some fs all))
 
 request_some : (h : RequestHead) (rest : List ℕ) → All IsField h.fields → 3 * length h.fields ≤ length (print_request h ++ rest)
 request_some h rest all =
@@ -60,12 +61,14 @@ response_some h rest all =
     let in_end = behind (print_end h.line_end) (print_section h.fields h.last ++ rest) n (section_some h.fields h.last rest all) in
     let in_reason = behind (print_reason h.reason) tail n in_end in
     let in_code = behind h.digits (print_reason h.reason ++ tail) n in_reason in
-    let in_version = behind (print_version h.minor) (32 ∷ (h.digits ++ (print_reason h.reason ++ tail))) n (let more = in_code in omega arith) in
+    let in_version = behind (print_version h.minor) (32 ∷ (h.digits ++ (print_reason h.reason ++ tail))) n
+    (let more = in_code in omega arith) in
     let in_blank = behind (print_blank h.blank) _ n in_version in
     subst (λ bs. n ≤ length bs) (sym (print_response-append h rest)) in_blank
 
 -- a head of more fields than the limit of a head has room for
-too_many : (bytes front rest text : List ℕ) (count : ℕ) → length bytes ≤ head_limit → bytes ≡ front ++ rest → 3 * count ≤ length (text ++ [])
+too_many : (bytes front rest text : List ℕ) (count : ℕ) → length bytes ≤ head_limit → bytes ≡ front ++ rest
+    → 3 * count ≤ length (text ++ [])
     → front ++ print_end lf ≡ text ++ [] → 5500 < count → ⊥
 too_many bytes front rest text count short cut long is many =
     let same = ap length is in

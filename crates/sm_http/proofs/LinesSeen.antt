@@ -69,7 +69,8 @@ behind_return bytes n inside =
 pub no_feed : (bytes : List ℕ) (n : ℕ) → n ≡ prefix_len is_extension_byte bytes → n + 1 < length bytes
     → (get_or bytes (n + 1) 0 ≡ 10 → ⊥) → SeesLine bytes Never
 no_feed bytes n e inside other more text rest line =
-    let behind = same_rest (get_or bytes n 0) 13 (drop (n + 1) bytes ++ more) (10 ∷ rest) (goes_on bytes n e (omega arith) more text rest line) in
+    let behind = same_rest (get_or bytes n 0) 13 (drop (n + 1) bytes ++ more) (10 ∷ rest)
+    (goes_on bytes n e (omega arith) more text rest line) in
     other (same_first (get_or bytes (n + 1) 0) 10 (drop (n + 2) bytes ++ more) rest
     (sym (ap (λ r. r ++ more) (behind_return bytes n inside)) ∙ behind))
 

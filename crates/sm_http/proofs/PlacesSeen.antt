@@ -56,7 +56,8 @@ pub end_none : (total : ℕ) (bytes : List ℕ) → length bytes ≡ 0 → SeesP
 end_none total [] none = (omega arith, data_open 0 total)
 end_none total (b ∷ bytes) none = absurd (omega arith)
 
-pub end_other : (total : ℕ) (bytes : List ℕ) → 0 < length bytes → (get_or bytes 0 0 ≡ 13 → ⊥) → SeesPlace (Data 0 total) bytes (Err BadChunk)
+pub end_other : (total : ℕ) (bytes : List ℕ) → 0 < length bytes → (get_or bytes 0 0 ≡ 13 → ⊥)
+    → SeesPlace (Data 0 total) bytes (Err BadChunk)
 end_other total [] some other more = absurd (omega arith)
 end_other total (b ∷ bytes) some other more =
     end_refused total (b ∷ (bytes ++ more)) (λ m rest e. other (same_first b 13 ((bytes ++ more) ++ m) (10 ∷ rest) e))
@@ -67,7 +68,8 @@ end_return total (b ∷ []) one first =
     (omega arith, subst (λ c. BodyFramed (Data 0 total) (c ∷ []) (body_refused Ended)) (sym first) (end_open total))
 end_return total (b ∷ c ∷ bytes) one first = absurd (omega arith)
 
-pub end_no_feed : (total : ℕ) (bytes : List ℕ) → 1 < length bytes → (get_or bytes 1 0 ≡ 10 → ⊥) → SeesPlace (Data 0 total) bytes (Err BadChunk)
+pub end_no_feed : (total : ℕ) (bytes : List ℕ) → 1 < length bytes → (get_or bytes 1 0 ≡ 10 → ⊥)
+    → SeesPlace (Data 0 total) bytes (Err BadChunk)
 end_no_feed total [] some other more = absurd (omega arith)
 end_no_feed total (b ∷ []) some other more = absurd (omega arith)
 end_no_feed total (b ∷ c ∷ bytes) some other more =
@@ -80,7 +82,8 @@ end_whole total [] within some first second = absurd (omega arith)
 end_whole total (b ∷ []) within some first second = absurd (omega arith)
 end_whole total (b ∷ c ∷ bytes) within some first second = record {
   inside = omega arith;
-  steps = subst (λ u. Steps (Data 0 total) u [] (Size total)) (sym (ap (λ x. x ∷ c ∷ []) first ∙ ap (λ x. 13 ∷ x ∷ []) second)) (end_step total);
+  steps = subst (λ u. Steps (Data 0 total) u [] (Size total)) (sym (ap (λ x. x ∷ c ∷ []) first ∙ ap (λ x. 13 ∷ x ∷ []) second))
+      (end_step total);
   fewer = omega arith;
   within = within;
   room = omega arith;
@@ -138,7 +141,8 @@ last_whole sum bytes len more within x sees =
       room = omega arith;
     }
 
-pub last_part : (sum : ℕ) (bytes : List ℕ) (len : ℕ) → sum ≤ message_body_limit → ReadsSize bytes 0 len → SeesTrailers (drop len bytes) trailers.Part
+pub last_part : (sum : ℕ) (bytes : List ℕ) (len : ℕ) → sum ≤ message_body_limit → ReadsSize bytes 0 len
+    → SeesTrailers (drop len bytes) trailers.Part
     → SeesPlace (Size sum) bytes (Ok Part)
 last_part sum bytes len within x sees =
     let behind = drop len bytes in
@@ -153,7 +157,8 @@ last_part sum bytes len within x sees =
           (last_open sum x.line behind x.is_line (sym x.number) within sees.0 sees.1),
     )
 
-pub last_never : (sum : ℕ) (bytes : List ℕ) (len : ℕ) → sum ≤ message_body_limit → ReadsSize bytes 0 len → SeesTrailers (drop len bytes) trailers.Never
+pub last_never : (sum : ℕ) (bytes : List ℕ) (len : ℕ) → sum ≤ message_body_limit → ReadsSize bytes 0 len
+    → SeesTrailers (drop len bytes) trailers.Never
     → SeesPlace (Size sum) bytes (Err BadChunk)
 last_never sum bytes len within x sees more =
     let behind = drop len bytes in

@@ -20,7 +20,8 @@ fields_printed [] = refl
 fields_printed (f ∷ fs) =
     ap (λ t. t ++ flat_map print_field (map line_of fs)) (field_printed f) ∙ ap (λ t. field_text f ++ t) (fields_printed fs)
 
-section_printed : (fs : List Field) (rest : List ℕ) → (flat_map print_field (map line_of fs) ++ crlf_bytes) ++ rest ≡ fields_text fs ++ 13 ∷ 10 ∷ rest
+section_printed : (fs : List Field) (rest : List ℕ) → (flat_map print_field (map line_of fs) ++ crlf_bytes) ++ rest ≡ fields_text fs
+    ++ 13 ∷ 10 ∷ rest
 section_printed fs rest =
     append_assoc (flat_map print_field (map line_of fs)) crlf_bytes rest ∙ ap (λ t. t ++ 13 ∷ 10 ∷ rest) (fields_printed fs)
 
@@ -29,14 +30,31 @@ from_parts : (start : Start) (fs : List Field) (rest : List ℕ)
 from_parts (Request method target) fs rest =
     let behind = fields_text fs ++ 13 ∷ 10 ∷ rest in
     let version = codes " HTTP/1.1" ++ 13 ∷ 10 ∷ [] in
-    print_request-append (record { blank = []; method = method; target = target; minor = 1; line_end = crlf; fields = map line_of fs; last = crlf }) rest
+    print_request-append (record {
+      blank = [];
+      method = method;
+      target = target;
+      minor = 1;
+      line_end = crlf;
+      fields = map line_of fs;
+      last = crlf;
+    }) rest
     ∙ ap (λ t. method ++ 32 ∷ (target ++ (version ++ t))) (section_printed fs rest)
     ∙ sym (append_assoc method (32 ∷ (target ++ version)) behind ∙ ap (λ t. method ++ 32 ∷ t) (append_assoc target version behind))
 from_parts (Response status) fs rest =
     let behind = fields_text fs ++ 13 ∷ 10 ∷ rest in
     let digits = decimal status in
     let words = phrase status in
-    print_response-append (record { blank = []; minor = 1; digits = digits; reason = Some words; line_end = crlf; fields = map line_of fs; last = crlf }) rest
+    print_response-append (record {
+      blank = [];
+      minor = 1;
+      digits = digits;
+      reason = Some words;
+      line_end = crlf;
+      fields = map line_of
+          fs;
+      last = crlf;
+    }) rest
     ∙ ap (λ t. codes "HTTP/1.1 " ++ (digits ++ 32 ∷ (words ++ 13 ∷ 10 ∷ t))) (section_printed fs rest)
     ∙ sym (ap (λ t. codes "HTTP/1.1 " ++ t) (append_assoc digits (32 ∷ (words ++ 13 ∷ 10 ∷ [])) behind
     ∙ ap (λ t. digits ++ 32 ∷ t) (append_assoc words (13 ∷ 10 ∷ []) behind)))

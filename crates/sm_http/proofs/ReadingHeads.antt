@@ -43,7 +43,8 @@ stands_on side bytes rest more text few reads = record {
   within = let whole = length-append bytes more in let behind = length-append rest more in omega arith;
 }
 
-cut_on : (bytes more : List ℕ) → length bytes ≤ head_limit → take head_limit (bytes ++ more) ≡ bytes ++ take (head_limit - length bytes) more
+cut_on : (bytes more : List ℕ) → length bytes ≤ head_limit → take head_limit (bytes ++ more) ≡ bytes ++ take
+    (head_limit - length bytes) more
 cut_on bytes more few =
     let fits : head_limit ≡ length bytes + (head_limit - length bytes) = omega arith in
     ap (λ n. take n (bytes ++ more)) fits ∙ take-append-add bytes more (head_limit - length bytes)
@@ -51,7 +52,8 @@ cut_on bytes more few =
 lost_on : (side : Side) (bytes more : List ℕ) → length bytes ≤ head_limit → IsLost side bytes → IsNoHead side (bytes ++ more)
 lost_on side bytes more few lost = record {
   ended = ap has_first_line (cut_on bytes more few) ∙ first_line_stays bytes (take (head_limit - length bytes) more) lost.0;
-  never = subst (λ bs. NeverHasHead side bs) (sym (cut_on bytes more few)) (never_on side bytes (take (head_limit - length bytes) more) lost.1);
+  never = subst (λ bs. NeverHasHead side bs) (sym (cut_on bytes more few))
+      (never_on side bytes (take (head_limit - length bytes) more) lost.1);
 }
 
 refuses_on : (side : Side) (bytes more : List ℕ) (why : HttpRefusal) → length bytes ≤ head_limit → RefusesRead side bytes why

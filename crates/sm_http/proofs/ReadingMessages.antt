@@ -84,7 +84,8 @@ said_ahead side (Some a) (Some b) (Some c) l k h left content x goes =
     let framed : BodyFramed left (goes.used ++ c) (body (content ++ []) c) =
     framed_on left Done goes.used content goes.steps c (body [] c) (([], (refl, refl), refl), λ p. p) in
     let whole : BodyFramed left b (body content c) =
-    subst (λ s. BodyFramed left b (body s c)) (append-nil content) (subst (λ s. BodyFramed left s (body (content ++ []) c)) (sym goes.consumes) framed) in
+    subst (λ s. BodyFramed left b (body s c)) (append-nil content)
+    (subst (λ s. BodyFramed left s (body (content ++ []) c)) (sym goes.consumes) framed) in
     (b, x.1, subst (λ p. BodyFramed p b (body content c)) x.0 whole)
 
 body_word : (side : Side) (a b l : Option (List ℕ)) (h : Head) (left : BodyLeft) (why : HttpRefusal)

@@ -85,7 +85,8 @@ steps_joined a b c u v p q s t = record {
   past_back = λ rest x. t.past_back rest (s.past_back (v ++ rest) (subst (λ y. IsPastLimit a y) (append_assoc u v rest) x));
 }
 
-pub goes_joined : (a b c : BodyLeft) (x y z : Option (List ℕ)) (p q : List ℕ) → GoesTo a b x y p → GoesTo b c y z q → GoesTo a c x z (p ++ q)
+pub goes_joined : (a b c : BodyLeft) (x y z : Option (List ℕ)) (p q : List ℕ) → GoesTo a b x y p → GoesTo b c y z q
+    → GoesTo a c x z (p ++ q)
 goes_joined a b c x y z p q s t = record {
   used = s.used ++ t.used;
   consumes = consumes_joined x y z s.used t.used s.consumes t.consumes;
@@ -160,7 +161,8 @@ pub gives_data : (most total count : ℕ) (x y left : Option (List ℕ)) (buffer
     → length buffer ≡ piece_limit → Gives most x y left buffer (Ok count)
     → GivesPiece (Data most total) (Data (most - count) total) x y buffer count
 gives_data most total count x y left buffer within long said =
-    gives_step (Data most total) (Data (most - count) total) most count x y left buffer said long (omega (arith, within.0), within.1) (omega (arith, said.1))
+    gives_step (Data most total) (Data (most - count) total) most count x y left buffer said long (omega (arith, within.0), within.1)
+    (omega (arith, said.1))
     (λ piece all. subst (λ n. Steps (Data n total) piece piece (Data (most - count) total)) all (data_step (most - count) total piece))
 
 pub same_ahead : (x : Option (List ℕ)) → Consumes x x []
@@ -236,7 +238,8 @@ pub whole_body : (a b d : BodyLeft) (x y z : Option (List ℕ)) (before buffer :
     → GivesPiece b d y z buffer count → GoesTo a Done x z before
 whole_body a b d x y z before buffer count none goes gives =
     subst (λ s. GoesTo a Done x z s) (append-nil before) (subst (λ n. GoesTo a Done x z (before ++ take n buffer)) none
-    (subst (λ e. GoesTo a e x z (before ++ take count buffer)) (gives.ends none) (goes_joined a b d x y z before (take count buffer) goes gives.goes)))
+    (subst (λ e. GoesTo a e x z (before ++ take count buffer)) (gives.ends none)
+    (goes_joined a b d x y z before (take count buffer) goes gives.goes)))
 
 pub more_body : (a b d : BodyLeft) (x y z : Option (List ℕ)) (before now buffer : List ℕ) (count : ℕ) → now ≡ before ++ take count buffer
     → GoesTo a b x y before → GivesPiece b d y z buffer count → GoesTo a d x z now
@@ -244,7 +247,8 @@ more_body a b d x y z before now buffer count e goes gives =
     subst (λ s. GoesTo a d x z s) (sym e) (goes_joined a b d x y z before (take count buffer) goes gives.goes)
 
 -- no bytes are refused as a failed read
-pub never_fault : (before : BodyLeft) (h : List ℕ) (why : HttpRefusal) → IsErrOf {T = Unit {0}} {E = HttpRefusal} (Err why) ReadFault → SeesPlace before h (Err why) → ⊥
+pub never_fault : (before : BodyLeft) (h : List ℕ) (why : HttpRefusal) → IsErrOf {T = Unit {0}} {E = HttpRefusal} (Err why) ReadFault
+    → SeesPlace before h (Err why) → ⊥
 never_fault before h why e sees =
     let same : why ≡ ReadFault = cc in
     subst (λ w. BodyFramed before (h ++ []) (body_refused w)) same (sees [])
@@ -259,7 +263,8 @@ held_gives most n l h k xs ys some within few inside e f =
       within,
       few,
       subst (λ t. Consumes (prepend_known h l) (prepend_known k l) t) front
-          (subst (λ d. Consumes (prepend_known h l) (prepend_known d l) (take n h)) (sym e) (consumed (prepend_known h l) l h n (ahead_same l h))),
+          (subst (λ d. Consumes (prepend_known h l) (prepend_known d l) (take n h)) (sym e)
+          (consumed (prepend_known h l) l h n (ahead_same l h))),
     )
 
 -- all that was left of a body, from the bytes held

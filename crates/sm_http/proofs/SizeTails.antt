@@ -8,7 +8,8 @@ use Rattle.httparse.specs.Ascii.{semicolon}
 use Rattle.httparse.specs.Grammar.{is_ows}
 use Rattle.sm_http.specs.steps.SizeLines.{is_tail}
 
-all_step : (b k n : ℕ) (rest : Bool) (t : Bool) → cond t (1 + k) 0 ≡ suc n → (k ≡ n → rest ≡ true) → (if t then rest else b == semicolon) ≡ true
+all_step : (b k n : ℕ) (rest : Bool) (t : Bool) → cond t (1 + k) 0 ≡ suc n → (k ≡ n → rest ≡ true)
+    → (if t then rest else b == semicolon) ≡ true
 all_step b k n rest true e more = more (omega arith)
 all_step b k n rest false e more = absurd (omega arith)
 

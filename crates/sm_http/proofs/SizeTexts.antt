@@ -216,13 +216,19 @@ line_of text says all short =
     let count = length-prefix_len is_ascii_hexdigit text in
     let some = says.some in
     let few = says.few in
-    let parts = tail_parts (drop n text) says.tail (all_behind is_extension_byte (take n text) (drop n text) (subst (λ t. AllPass is_extension_byte t) (sym cut) all)) in
+    let parts = tail_parts (drop n text) says.tail (all_behind is_extension_byte (take n text) (drop n text)
+    (subst (λ t. AllPass is_extension_byte t) (sym cut) all)) in
     let line : ChunkLine = record { digits = take n text; pad = parts.pad; extension = parts.extension } in
     let is : line_text line ≡ text = ap (λ t. take n text ++ t) (sym parts.is) ∙ cut in
     record {
       line = line;
       is_line = line_is line
-          (record { digits = (omega arith, omega arith, run_passes is_ascii_hexdigit text n refl); pad = parts.are_blank; extension = parts.is_extension })
+          (record {
+            digits = (omega arith, omega arith, run_passes is_ascii_hexdigit text n refl);
+            pad = parts.are_blank;
+            extension =
+                parts.is_extension;
+          })
           (omega arith) (omega (arith, ap length is));
       is = is;
       digits = refl;

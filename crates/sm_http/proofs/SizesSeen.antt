@@ -20,7 +20,8 @@ same_text : (text rest more : List ℕ) (bytes : List ℕ) (l : ChunkLine) (r : 
     → bytes ++ more ≡ print_chunk_line l ++ r → text ≡ line_text l
 same_text text rest more bytes l r reads is e =
     let both = sym (append_assoc text (13 ∷ 10 ∷ rest) more) ∙ ap (λ x. x ++ more) (sym reads.reads) ∙ e ∙ printed l r in
-    let same = run_unique is_extension_byte text (line_text l) (13 ∷ 10 ∷ (rest ++ more)) (13 ∷ 10 ∷ r) reads.passes (line_passes l is) refl refl both in
+    let same = run_unique is_extension_byte text (line_text l) (13 ∷ 10 ∷ (rest ++ more)) (13 ∷ 10 ∷ r) reads.passes
+    (line_passes l is) refl refl both in
     same.0
 
 pub whole_long : (bytes : List ℕ) (n : ℕ) → SeesLine bytes (line.Whole n) → size_line_limit < n → SeesSize bytes Never
@@ -142,7 +143,8 @@ zero_text = record { some = omega arith; few = omega arith; tail = refl }
 
 pub zero_line : LineOf (48 ∷ [])
 zero_line =
-    line_of (48 ∷ []) zero_text (All-cons (λ b. is_extension_byte b ≡ true) 48 [] refl (All-nil (λ b. is_extension_byte b ≡ true))) (omega arith)
+    line_of (48 ∷ []) zero_text (All-cons (λ b. is_extension_byte b ≡ true) 48 [] refl (All-nil (λ b. is_extension_byte b ≡ true)))
+    (omega arith)
 
 no_end : (r : List ℕ) → [] ≡ 13 ∷ 10 ∷ r → ⊥
 no_end r e = cc

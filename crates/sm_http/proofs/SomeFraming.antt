@@ -49,7 +49,8 @@ within_stands side bytes text rest reads = record {
 no_whole : (side : Side) (bytes : List ℕ) → ((text : HeadText) (rest : List ℕ) → HeadStands side bytes text rest → ⊥)
     → HasNoHead side (take head_limit bytes)
 no_whole of_requests bytes none = λ h rest x. none (request_text h) _ (within_stands of_requests bytes (request_text h) rest (h, x, refl))
-no_whole of_responses bytes none = λ h rest x. none (response_text h) _ (within_stands of_responses bytes (response_text h) rest (h, x, refl))
+no_whole of_responses bytes none = λ h rest x. none (response_text h) _
+    (within_stands of_responses bytes (response_text h) rest (h, x, refl))
 
 by_length : (side : Side) (bytes : List ℕ) (short : Bool) → nat_lt (length bytes) head_limit ≡ short → AwaitsHead side bytes
     → ((a : Framing) → Framed side bytes a → ⊥) → ⊥

@@ -63,7 +63,8 @@ whole_past used n bytes sees some past more rest x =
     let text = take n bytes in
     let behind = drop (n + 2) bytes in
     let both = sym (append_assoc text (13 ∷ 10 ∷ behind) more) ∙ ap (λ y. y ++ more) (sym sees.1.reads) ∙ first.reads in
-    let same = run_unique is_extension_byte text first.text (13 ∷ 10 ∷ (behind ++ more)) (13 ∷ 10 ∷ first.behind) sees.1.passes first.passes refl refl both in
+    let same = run_unique is_extension_byte text first.text (13 ∷ 10 ∷ (behind ++ more))
+    (13 ∷ 10 ∷ first.behind) sees.1.passes first.passes refl refl both in
     let len = length-take-le n bytes (omega (arith, sees.0)) in
     let same_len = ap length same.0 in
     let room = first.room (omega arith) in
@@ -114,7 +115,8 @@ part_none used bytes text part rest x =
           let parts = ap length front.1 ∙ length-append text front.0 in
           omega arith
       | inr cut ↦
-          let same = run_unique is_extension_byte text first.text (13 ∷ []) (13 ∷ 10 ∷ first.behind) part.passes first.passes refl refl (sym cut ∙ first.reads) in
+          let same = run_unique is_extension_byte text first.text (13 ∷ []) (13 ∷ 10 ∷ first.behind) part.passes first.passes refl refl
+          (sym cut ∙ first.reads) in
           let tails = ap length same.1 in
           omega arith
     ]
@@ -187,7 +189,8 @@ trailer_back used t x rest [] is all within e =
 trailer_back used t x rest (u ∷ us) is all within e =
     let that = All-head IsTrailer u us all in
     let lines = sym (append_assoc t crlf_bytes x) ∙ e ∙ behind_line u (print_trailers us) (13 ∷ 10 ∷ rest) in
-    let same = run_unique is_extension_byte t u (13 ∷ 10 ∷ x) (13 ∷ 10 ∷ (print_trailers us ++ 13 ∷ 10 ∷ rest)) is.bytes that.bytes refl refl lines in
+    let same = run_unique is_extension_byte t u (13 ∷ 10 ∷ x)
+    (13 ∷ 10 ∷ (print_trailers us ++ 13 ∷ 10 ∷ rest)) is.bytes that.bytes refl refl lines in
     let long = ap (λ y. length (print_trailer y)) same.0 in
     let parts = length-append (print_trailer u) (print_trailers us) in
     record {

@@ -51,7 +51,8 @@ lines_good (f ∷ fs) all =
 -- ---- a status line
 
 abbrev good_digits : ℕ → Bool
-good_digits n = length (decimal n) == 3 && (list_all is_ascii_digit (decimal n) && (digits_value 10 (decimal n) == n && list_all is_value_byte (phrase n)))
+good_digits n = length (decimal n) == 3 && (list_all is_ascii_digit (decimal n) &&
+    (digits_value 10 (decimal n) == n && list_all is_value_byte (phrase n)))
 
 abbrev good_status : ℕ → Bool
 good_status n = nat_lt n 100 || good_digits n
@@ -63,7 +64,8 @@ good_below (suc n) = good_status n && good_below n
 -- each status is three digits, and its phrase may stand in a line
 all_good : (n : ℕ) → n < 1000 → good_status n ≡ true
 unfolding digits
-all_good n h = (Decides-below_and good_status (λ k. good_status k ≡ true) good_below (λ k. (λ x. x, λ x. x)) refl (λ _. refl) 1000).0 refl n h
+all_good n h = (Decides-below_and good_status (λ k. good_status k ≡ true) good_below (λ k. (λ x. x, λ x. x)) refl (λ _. refl) 1000).0
+    refl n h
 
 good : (n : ℕ) → 100 ≤ n → n < 1000 → good_digits n ≡ true
 good n low high = ap (λ t. t || good_digits n) (sym (le-ltb n 100 low)) ∙ all_good n high

@@ -20,7 +20,8 @@ fn pass_place<S: Source>(
     left: &mut BodyLeft,
 ) -> Result<(), HttpRefusal>
     requires { IsWithinLimit left.old }
-    ensures bytes { Passes left.old left.new (prepend_known held.old (S.left source.old)) (prepend_known held.new (S.left source.new)) (S.left source.new) result }
+    ensures bytes { Passes left.old left.new (prepend_known held.old (S.left source.old)) (prepend_known held.new (S.left source.new))
+        (S.left source.new) result }
     ensures few { length held.new ≤ head_limit }
     ensures later { S.faults source.old ≤ S.faults source.new }
     ensures cause { HasCause (IsErrOf result HttpRefusal.ReadFault) (S.faults source.old) (S.faults source.new) }
@@ -53,7 +54,8 @@ fn take_data<S: Source>(
     buf: &mut [u8; 4096],
 ) -> Result<usize, HttpRefusal>
     requires { 0 < most }
-    ensures bytes { Gives most (prepend_known held.old (S.left source.old)) (prepend_known held.new (S.left source.new)) (S.left source.new) buf.new result }
+    ensures bytes { Gives most (prepend_known held.old (S.left source.old)) (prepend_known held.new (S.left source.new))
+        (S.left source.new) buf.new result }
     ensures few { length held.new ≤ head_limit }
     ensures later { S.faults source.old ≤ S.faults source.new }
     ensures cause { HasCause (IsErrOf result HttpRefusal.ReadFault) (S.faults source.old) (S.faults source.new) }
@@ -82,7 +84,8 @@ fn give_data<S: Source>(
     requires within { IsWithinLimit left.old }
     requires plain { lines_before left.old ≡ 0 }
     requires few { length held.old ≤ head_limit }
-    ensures bytes { GivesBody left.old left.new (prepend_known held.old (S.left source.old)) (prepend_known held.new (S.left source.new)) (S.left source.new) buf.new result }
+    ensures bytes { GivesBody left.old left.new (prepend_known held.old (S.left source.old)) (prepend_known held.new (S.left source.new))
+        (S.left source.new) buf.new result }
     ensures few { length held.new ≤ head_limit }
     ensures later { S.faults source.old ≤ S.faults source.new }
     ensures cause { HasCause (IsErrOf result HttpRefusal.ReadFault) (S.faults source.old) (S.faults source.new) }
@@ -122,7 +125,8 @@ pub(crate) fn next_piece<S: Source>(
     buf: &mut [u8; 4096],
 ) -> Result<usize, HttpRefusal>
     requires { IsWithinLimit left.old }
-    ensures bytes { GivesBody left.old left.new (prepend_known held.old (S.left source.old)) (prepend_known held.new (S.left source.new)) (S.left source.new) buf.new result }
+    ensures bytes { GivesBody left.old left.new (prepend_known held.old (S.left source.old)) (prepend_known held.new (S.left source.new))
+        (S.left source.new) buf.new result }
     ensures few { length held.new ≤ head_limit }
     ensures later { S.faults source.old ≤ S.faults source.new }
     ensures cause { HasCause (IsErrOf result HttpRefusal.ReadFault) (S.faults source.old) (S.faults source.new) }
@@ -150,7 +154,8 @@ pub fn read_piece<S: Source>(
     buf: &mut [u8; 4096],
 ) -> Result<usize, HttpRefusal>
     requires { IsWithinLimit left.old }
-    ensures bytes { ReadsAPiece left.old left.new (prepend_known held.old (S.left source.old)) (prepend_known held.new (S.left source.new)) (S.left source.new) buf.new result }
+    ensures bytes { ReadsAPiece left.old left.new (prepend_known held.old (S.left source.old))
+        (prepend_known held.new (S.left source.new)) (S.left source.new) buf.new result }
     ensures within { OnOk result (IsWithinLimit left.new) }
     ensures room { IfOk result (λ count. data_room left.new + count ≤ data_room left.old) }
     ensures few { length held.new ≤ head_limit }

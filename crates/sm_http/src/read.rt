@@ -25,7 +25,8 @@ pub fn read_head<S: Source>(
     held: &mut Held,
     side: Side,
 ) -> Result<Option<(Head, BodyLeft)>, HttpRefusal>
-    ensures bytes { ReadsAHead side (prepend_known held.old (S.left source.old)) (prepend_known held.new (S.left source.new)) (S.left source.new) result }
+    ensures bytes { ReadsAHead side (prepend_known held.old (S.left source.old)) (prepend_known held.new (S.left source.new))
+        (S.left source.new) result }
     ensures within { BeginsWithin result }
     ensures few { length held.new ≤ head_limit }
     ensures later { S.faults source.old ≤ S.faults source.new }
@@ -69,7 +70,8 @@ fn read_body<S: Source>(
     begun: BodyLeft,
 ) -> Result<Vec<u8>, HttpRefusal>
     requires { IsWithinLimit begun }
-    ensures bytes { TakesBody begun (prepend_known held.old (S.left source.old)) (prepend_known held.new (S.left source.new)) (S.left source.new) result }
+    ensures bytes { TakesBody begun (prepend_known held.old (S.left source.old)) (prepend_known held.new (S.left source.new))
+        (S.left source.new) result }
     ensures few { length held.new ≤ head_limit }
     ensures later { S.faults source.old ≤ S.faults source.new }
     ensures cause { HasCause (IsErrOf result HttpRefusal.ReadFault) (S.faults source.old) (S.faults source.new) }
@@ -127,7 +129,8 @@ pub fn read_message<S: Source>(
     held: &mut Held,
     side: Side,
 ) -> Result<Option<Message>, HttpRefusal>
-    ensures bytes { ReadsAMessage side (prepend_known held.old (S.left source.old)) (prepend_known held.new (S.left source.new)) (S.left source.new) result }
+    ensures bytes { ReadsAMessage side (prepend_known held.old (S.left source.old)) (prepend_known held.new (S.left source.new))
+        (S.left source.new) result }
     ensures few { length held.new ≤ head_limit }
     ensures later { S.faults source.old ≤ S.faults source.new }
     ensures cause { HasCause (IsErrOf result HttpRefusal.ReadFault) (S.faults source.old) (S.faults source.new) }

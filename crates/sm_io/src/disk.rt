@@ -61,8 +61,10 @@ impl<R: rt::Files> Files for DiskFiles<R> {
         ensures bytes { ReadsFile None name.now limit result }
         ensures later { ⟦<DiskFiles<R> as Files>⟧.read_faults self.old ≤ ⟦<DiskFiles<R> as Files>⟧.read_faults self.new }
         ensures other_count { ⟦<DiskFiles<R> as Files>⟧.write_faults self.new ≡ ⟦<DiskFiles<R> as Files>⟧.write_faults self.old }
-        ensures cause { HasCause (IsErrOf result FileRefusal.Failed) (⟦<DiskFiles<R> as Files>⟧.read_faults self.old) (⟦<DiskFiles<R> as Files>⟧.read_faults self.new) }
-        ensures faults { ⟦<DiskFiles<R> as Files>⟧.read_faults self.new ≡ count_after (file_failed result) (⟦<DiskFiles<R> as Files>⟧.read_faults self.old) }
+        ensures cause { HasCause (IsErrOf result FileRefusal.Failed) (⟦<DiskFiles<R> as Files>⟧.read_faults self.old)
+            (⟦<DiskFiles<R> as Files>⟧.read_faults self.new) }
+        ensures faults { ⟦<DiskFiles<R> as Files>⟧.read_faults self.new ≡ count_after (file_failed result)
+            (⟦<DiskFiles<R> as Files>⟧.read_faults self.old) }
     {
         match load(self.alloc, &self.runtime, name, limit) {
             Ok(bytes) => Ok(bytes),
@@ -79,8 +81,10 @@ impl<R: rt::Files> Files for DiskFiles<R> {
         ensures bytes { WritesFile None None name.now bytes.now result }
         ensures later { ⟦<DiskFiles<R> as Files>⟧.write_faults self.old ≤ ⟦<DiskFiles<R> as Files>⟧.write_faults self.new }
         ensures other_count { ⟦<DiskFiles<R> as Files>⟧.read_faults self.new ≡ ⟦<DiskFiles<R> as Files>⟧.read_faults self.old }
-        ensures cause { HasCause (IsErrOf result FileRefusal.Failed) (⟦<DiskFiles<R> as Files>⟧.write_faults self.old) (⟦<DiskFiles<R> as Files>⟧.write_faults self.new) }
-        ensures faults { ⟦<DiskFiles<R> as Files>⟧.write_faults self.new ≡ count_after (file_failed result) (⟦<DiskFiles<R> as Files>⟧.write_faults self.old) }
+        ensures cause { HasCause (IsErrOf result FileRefusal.Failed) (⟦<DiskFiles<R> as Files>⟧.write_faults self.old)
+            (⟦<DiskFiles<R> as Files>⟧.write_faults self.new) }
+        ensures faults { ⟦<DiskFiles<R> as Files>⟧.write_faults self.new ≡ count_after (file_failed result)
+            (⟦<DiskFiles<R> as Files>⟧.write_faults self.old) }
     {
         match fs::write(&self.runtime, name, bytes) {
             Ok(()) => Ok(()),

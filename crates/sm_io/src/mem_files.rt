@@ -64,8 +64,10 @@ impl Files for MemFiles {
         ensures held { mem_folder self.new ≡ mem_folder self.old }
         ensures later { ⟦<MemFiles as Files>⟧.read_faults self.old ≤ ⟦<MemFiles as Files>⟧.read_faults self.new }
         ensures other_count { ⟦<MemFiles as Files>⟧.write_faults self.new ≡ ⟦<MemFiles as Files>⟧.write_faults self.old }
-        ensures cause { HasCause (IsErrOf result FileRefusal.Failed) (⟦<MemFiles as Files>⟧.read_faults self.old) (⟦<MemFiles as Files>⟧.read_faults self.new) }
-        ensures faults { ⟦<MemFiles as Files>⟧.read_faults self.new ≡ count_after (file_failed result) (⟦<MemFiles as Files>⟧.read_faults self.old) }
+        ensures cause { HasCause (IsErrOf result FileRefusal.Failed) (⟦<MemFiles as Files>⟧.read_faults self.old)
+            (⟦<MemFiles as Files>⟧.read_faults self.new) }
+        ensures faults { ⟦<MemFiles as Files>⟧.read_faults self.new ≡ count_after (file_failed result)
+            (⟦<MemFiles as Files>⟧.read_faults self.old) }
         ensures script { files_script self.new ≡ script_after (files_script self.old) }
         ensures failing { IsErrOf result FileRefusal.Failed
             ↔ IsTrue (is_failing (files_script self.new)) ⊎ (file_at (mem_folder self.old) name.now ≡ None) }
@@ -87,8 +89,10 @@ impl Files for MemFiles {
         ensures bytes { WritesFile (Some (mem_folder self.old)) (Some (mem_folder self.new)) name.now bytes.now result }
         ensures later { ⟦<MemFiles as Files>⟧.write_faults self.old ≤ ⟦<MemFiles as Files>⟧.write_faults self.new }
         ensures other_count { ⟦<MemFiles as Files>⟧.read_faults self.new ≡ ⟦<MemFiles as Files>⟧.read_faults self.old }
-        ensures cause { HasCause (IsErrOf result FileRefusal.Failed) (⟦<MemFiles as Files>⟧.write_faults self.old) (⟦<MemFiles as Files>⟧.write_faults self.new) }
-        ensures faults { ⟦<MemFiles as Files>⟧.write_faults self.new ≡ count_after (file_failed result) (⟦<MemFiles as Files>⟧.write_faults self.old) }
+        ensures cause { HasCause (IsErrOf result FileRefusal.Failed) (⟦<MemFiles as Files>⟧.write_faults self.old)
+            (⟦<MemFiles as Files>⟧.write_faults self.new) }
+        ensures faults { ⟦<MemFiles as Files>⟧.write_faults self.new ≡ count_after (file_failed result)
+            (⟦<MemFiles as Files>⟧.write_faults self.old) }
         ensures script { files_script self.new ≡ script_after (files_script self.old) }
         ensures failing { IsErrOf result FileRefusal.Failed ↔ IsTrue (is_failing (files_script self.new)) }
         ensures written { OnOk result (mem_folder self.new ≡ with_file (mem_folder self.old) name.now bytes.now) }

@@ -107,7 +107,8 @@ impl Sink for MemSink {
     fn put(&mut self, piece: &[u8]) -> Result<(), PutRefusal>
         ensures bytes { Puts (Some (sink_written self.old)) (Some (sink_written self.new)) piece.now result }
         ensures later { ⟦<MemSink as Sink>⟧.faults self.old ≤ ⟦<MemSink as Sink>⟧.faults self.new }
-        ensures cause { HasCause (IsErrOf result PutRefusal.Failed) (⟦<MemSink as Sink>⟧.faults self.old) (⟦<MemSink as Sink>⟧.faults self.new) }
+        ensures cause { HasCause (IsErrOf result PutRefusal.Failed) (⟦<MemSink as Sink>⟧.faults self.old)
+            (⟦<MemSink as Sink>⟧.faults self.new) }
         ensures faults { ⟦<MemSink as Sink>⟧.faults self.new ≡ count_after (put_failed result) (⟦<MemSink as Sink>⟧.faults self.old) }
         ensures script { sink_script self.new ≡ script_after (sink_script self.old) }
         ensures failing { IsErrOf result PutRefusal.Failed ↔ IsTrue (is_failing (sink_script self.new)) }

@@ -37,7 +37,8 @@ impl<R: Read> Source for StdSource<R> {
         ensures bytes { TakesBytes (⟦<StdSource<R> as Source>⟧.left self.old) (⟦<StdSource<R> as Source>⟧.left self.new) buf.new result }
         ensures later { ⟦<StdSource<R> as Source>⟧.faults self.old ≤ ⟦<StdSource<R> as Source>⟧.faults self.new }
         ensures cause { HasCause (IsErr result) (⟦<StdSource<R> as Source>⟧.faults self.old) (⟦<StdSource<R> as Source>⟧.faults self.new) }
-        ensures faults { ⟦<StdSource<R> as Source>⟧.faults self.new ≡ count_after (is_err result) (⟦<StdSource<R> as Source>⟧.faults self.old) }
+        ensures faults { ⟦<StdSource<R> as Source>⟧.faults self.new ≡ count_after (is_err result)
+            (⟦<StdSource<R> as Source>⟧.faults self.old) }
     {
         match self.reader.read(buf) {
             Ok(count) => Ok(count),
@@ -74,7 +75,8 @@ impl<W: Write> Sink for StdSink<W> {
     fn put(&mut self, piece: &[u8]) -> Result<(), PutRefusal>
         ensures bytes { Puts (⟦<StdSink<W> as Sink>⟧.written self.old) (⟦<StdSink<W> as Sink>⟧.written self.new) piece.now result }
         ensures later { ⟦<StdSink<W> as Sink>⟧.faults self.old ≤ ⟦<StdSink<W> as Sink>⟧.faults self.new }
-        ensures cause { HasCause (IsErrOf result PutRefusal.Failed) (⟦<StdSink<W> as Sink>⟧.faults self.old) (⟦<StdSink<W> as Sink>⟧.faults self.new) }
+        ensures cause { HasCause (IsErrOf result PutRefusal.Failed) (⟦<StdSink<W> as Sink>⟧.faults self.old)
+            (⟦<StdSink<W> as Sink>⟧.faults self.new) }
         ensures faults { ⟦<StdSink<W> as Sink>⟧.faults self.new ≡ count_after (put_failed result) (⟦<StdSink<W> as Sink>⟧.faults self.old) }
         ensures takes_no_memory { IsErrOf result PutRefusal.NoMemory → ⊥ }
     {

@@ -88,20 +88,29 @@ first_placed r b takes begins nothing all = record {
 
 begun_leads : (r q : Reader) (bs : List ℕ) (out : List NodeEvent) → JsonGoes r bs out q → json_state r ≡ json_start
     → JsonLeads most_levels json_start bs out (json_state q)
-begun_leads r q bs out goes begins = subst (λ x. JsonLeads most_levels x bs out (json_state q)) begins (goes.leads most_levels (omega arith))
+begun_leads r q bs out goes begins = subst (λ x. JsonLeads most_levels x bs out (json_state q)) begins
+    (goes.leads most_levels (omega arith))
 
 -- the bytes end: the builder has taken the events of the one tree of the text, or they are no text
 pub text_built : (r q : Reader) (bs : List ℕ) (first behind_bytes last : Building) (before behind : Takes) → json_state r ≡ json_start
-    → so_far first ≡ [] → JsonBrings r (took first) bs q (took behind_bytes) before → JsonEndsText q (took behind_bytes) (took last) behind (Ok tt)
+    → so_far first ≡ [] → JsonBrings r (took first) bs q (took behind_bytes) before
+    → JsonEndsText q (took behind_bytes) (took last) behind (Ok tt)
     → (n : Node) × IsRead JsonText n bs × (so_far last ≡ events n [])
 text_built r q bs first behind_bytes last before behind begins nothing feeds (ts, rest, hands, all) =
-    let (n, text, room, same) = run_is_text most_levels bs feeds.out ts (json_state q) (begun_leads r q bs feeds.out feeds.goes begins) rest in
-    let whole : BeginsStream (feeds.out ++ untimed ts) = (n, [], subst (λ es. Streams n es []) (sym (append-nil (feeds.out ++ untimed ts) ∙ same)) (events_stream n [])) in
+    let (n, text, room, same) = run_is_text most_levels bs feeds.out ts (json_state q)
+    (begun_leads r q bs feeds.out feeds.goes begins) rest in
+    let whole : BeginsStream (feeds.out ++ untimed ts) = (
+      n,
+      [],
+      subst (λ es. Streams n es [])
+          (sym (append-nil (feeds.out ++ untimed ts) ∙ same)) (events_stream n []),
+    ) in
     let some = feeds.hands [] (sym nothing) (begins_before feeds.out (untimed ts) whole) in
     let built = hands feeds.out some whole in
     (n, (text, room), sym built ∙ ap unnumbered same ∙ stream_events n (events n []) [] (events_stream n []))
 
-pub begun_whole : (r q : Reader) (bs : List ℕ) (out : List NodeEvent) → json_state r ≡ json_start → JsonGoes r bs out q → BeginsRead JsonText bs
+pub begun_whole : (r q : Reader) (bs : List ℕ) (out : List NodeEvent) → json_state r ≡ json_start → JsonGoes r bs out q
+    → BeginsRead JsonText bs
 begun_whole r q bs out begins goes =
     begins_read bs (subst (λ x. JsonGoesOn most_levels x bs) begins
     (subst (JsonGoesOn most_levels (json_state r)) (append-nil bs)
@@ -125,7 +134,8 @@ tree_built r q bs first middle last before behind tree begins nothing feeds ends
     tree_read n bs tree read (sym is ∙ same)
 
 pub end_refused : (r q : Reader) (S T U : StandsFor) (before behind : Takes) (bs : List ℕ) (refusal : SyntaxRefusal)
-    → json_state r ≡ json_start → JsonBrings r S bs q T before → JsonEndsText q T U behind (Err refusal) → Reads json_syntax bs (Err refusal)
+    → json_state r ≡ json_start → JsonBrings r S bs q T before → JsonEndsText q T U behind (Err refusal)
+    → Reads json_syntax bs (Err refusal)
 end_refused r q S T U before behind bs NoMemory begins feeds h = tt
 end_refused r q S T U before behind bs (Bad p) begins feeds h = absurd h
 end_refused r q S T U before behind bs Ended begins feeds h = record {

@@ -86,7 +86,8 @@ first_key_stops limit c ks w f h s ts g = h s ts (first_key_onward limit c ks s 
 
 no_keys : (limit : ℕ) (ks : List OpenKind) (s : List ℕ) (ts : List TimedEvent) → FirstKeyComes limit (an_object ∷ ks) (125 ∷ s) ts
     → (us : List TimedEvent) × (ts ≡ by_byte end_object (length s) ∷ us) × JsonEnds limit ks s us
-no_keys limit ks s ts (no_members, r, us, (k, timed), room, en) = ended limit ks s ts r us end_object (here_rest 125 125 s r refl k) timed en
+no_keys limit ks s ts (no_members, r, us, (k, timed), room, en) = ended limit ks s ts r us end_object
+    (here_rest 125 125 s r refl k) timed en
 no_keys limit ks s ts (member name n ms, r, us, (s1, s2, s3, s4, vs, ws, k, (cs, u, e1, e2, x), timed, sep, v, m), room, en) =
     absurd (above 125 34 (lit< tt) (heads 125 34 s u (sym (skips_here 125 s s1 refl k) ∙ e2)))
 

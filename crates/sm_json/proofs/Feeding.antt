@@ -58,7 +58,8 @@ number_placed b ks S n e (es, stands, comes) room is one =
     let (s, us, ends) = after_goes_on most_levels ks room in
     let whole : JsonRest most_levels (at (numeral b) ks) s (by_next e s ∷ us) =
     (n, [], s, us, refl, subst (NumberText n) (sym (append-nil b)) is, ends, (e, one, refl)) in
-    let all : BeginsStream (es ++ e ∷ untimed us) = subst (λ fs. BeginsStream (es ++ fs)) (next_untimed e s us) (comes s (by_next e s ∷ us) whole) in
+    let all : BeginsStream (es ++ e ∷ untimed us) = subst (λ fs. BeginsStream (es ++ fs)) (next_untimed e s us)
+    (comes s (by_next e s ∷ us) whole) in
     (es, stands, begins_before (es ++ e ∷ []) (untimed us) (subst BeginsStream (sym (append_assoc es (e ∷ []) (untimed us))) all))
 
 -- and behind it the sink is placed as behind a value

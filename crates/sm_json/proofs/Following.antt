@@ -34,7 +34,8 @@ entry_goes_with ks c room (inl is) =
     (value_goes_on most_levels (a_list ∷ ks) room))
 entry_goes_with ks c room (inr is) =
     subst (λ b. JsonGoesOn most_levels (at after (a_list ∷ ks)) (b ∷ [])) (sym is)
-    (goes_with (at after (a_list ∷ ks)) (at after ks) (93 ∷ []) _ (list_ends most_levels ks room) (after_goes_on most_levels ks (omega arith)))
+    (goes_with (at after (a_list ∷ ks)) (at after ks) (93 ∷ []) _ (list_ends most_levels ks room)
+    (after_goes_on most_levels ks (omega arith)))
 
 pair_goes_with : (ks : List OpenKind) (c : ℕ) → length (an_object ∷ ks) ≤ most_levels → (c ≡ 44) ⊎ (c ≡ 125)
     → JsonGoesOn most_levels (at after (an_object ∷ ks)) (c ∷ [])
@@ -54,7 +55,8 @@ entry_follows r c within is =
     subst (λ ls. JsonGoesOn most_levels (at after ls) (c ∷ [])) (sym same)
     (entry_goes_with ks c (subst (λ ls. length ls ≤ most_levels) same (room_in r most_levels (omega arith))) is)
 
-pub pair_follows : (r : Reader) (c : ℕ) → IsIn an_object (lists_of r) → (c ≡ 44) ⊎ (c ≡ 125) → JsonGoesOn most_levels (behind_value r) (c ∷ [])
+pub pair_follows : (r : Reader) (c : ℕ) → IsIn an_object (lists_of r) → (c ≡ 44) ⊎ (c ≡ 125)
+    → JsonGoesOn most_levels (behind_value r) (c ∷ [])
 pair_follows r c within is =
     let (ks, same) = inside (lists_of r) an_object within in
     subst (λ ls. JsonGoesOn most_levels (at after ls) (c ∷ [])) (sym same)

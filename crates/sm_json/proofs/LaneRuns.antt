@@ -44,7 +44,8 @@ module _ (q : ℕ → Bool) where
   run_through bs i n room none =
       let c = chunk i n bs in
       split bs i n
-      ∙ ap (λ b. cond b (length c + prefix_len q (drop (i + n) bs)) (prefix_len q c)) (eq-eqb _ _ (same_run c ∙ leading_from_mask_l fails c none))
+      ∙ ap (λ b. cond b (length c + prefix_len q (drop (i + n) bs)) (prefix_len q c))
+      (eq-eqb _ _ (same_run c ∙ leading_from_mask_l fails c none))
       ∙ ap (λ k. k + prefix_len q (drop (i + n) bs)) (length-chunk i n bs room)
 
   -- some byte fails: the run ends at the first

@@ -53,13 +53,15 @@ pub reader_goes_on : (r : Reader) → JsonIsSound r → JsonGoesOn most_levels (
 reader_goes_on r sound = goes_on_at r r.place refl sound
 
 -- what goes on from a reader goes on from an earlier one, and the other way round
-pub on_back : {out : List NodeEvent} (r q : Reader) (w v : List ℕ) (limit : ℕ) → JsonGoes r w out q → most_levels ≤ limit → JsonGoesOn limit (json_state q) v
+pub on_back : {out : List NodeEvent} (r q : Reader) (w v : List ℕ) (limit : ℕ) → JsonGoes r w out q → most_levels ≤ limit
+    → JsonGoesOn limit (json_state q) v
     → JsonGoesOn limit (json_state r) (w ++ v)
 on_back r q w v limit goes up (s, ts, rest) =
     let (os, hands, rest1) = (goes.leads limit up).back (v ++ s) ts rest in
     (s, os ++ ts, subst (λ u. JsonRest limit (json_state r) u (os ++ ts)) (sym (append_assoc w v s)) rest1)
 
-pub on_onward : {out : List NodeEvent} (r q : Reader) (w v : List ℕ) (limit : ℕ) → JsonGoes r w out q → most_levels ≤ limit → JsonGoesOn limit (json_state r) (w ++ v)
+pub on_onward : {out : List NodeEvent} (r q : Reader) (w v : List ℕ) (limit : ℕ) → JsonGoes r w out q → most_levels ≤ limit
+    → JsonGoesOn limit (json_state r) (w ++ v)
     → JsonGoesOn limit (json_state q) v
 on_onward r q w v limit goes up (s, ts, rest) =
     let (os, us, e, hands, rest1) = (goes.leads limit up).onward (v ++ s) ts
@@ -70,7 +72,8 @@ front_add : (i p : ℕ) (bs : List ℕ) → take (i + p + 1) bs ≡ take i bs ++
 front_add i p bs =
     let same : i + p + 1 ≡ i + (p + 1) = omega arith in ap (λ n. take n bs) same ∙ take-add i (p + 1) bs
 
-pub halts_then : {out : List NodeEvent} (r q : Reader) (bs : List ℕ) (i p : ℕ) → JsonGoes r (take i bs) out q → HaltsAt (json_state q) (drop i bs) p
+pub halts_then : {out : List NodeEvent} (r q : Reader) (bs : List ℕ) (i p : ℕ) → JsonGoes r (take i bs) out q
+    → HaltsAt (json_state q) (drop i bs) p
     → HaltsAt (json_state r) bs (i + p)
 halts_then r q bs i p goes h = record {
   inside = omega (arith, h.inside, length-drop i bs);
@@ -80,7 +83,8 @@ halts_then r q bs i p goes h = record {
       (on_onward r q (take i bs) (take (p + 1) (drop i bs)) limit goes up (subst (JsonGoesOn limit (json_state r)) (front_add i p bs) g));
 }
 
-pub deepens_then : {out : List NodeEvent} (r q : Reader) (bs : List ℕ) (i p : ℕ) → JsonGoes r (take i bs) out q → DeepensAt (json_state q) (drop i bs) p
+pub deepens_then : {out : List NodeEvent} (r q : Reader) (bs : List ℕ) (i p : ℕ) → JsonGoes r (take i bs) out q
+    → DeepensAt (json_state q) (drop i bs) p
     → DeepensAt (json_state r) bs (i + p)
 deepens_then r q bs i p goes h = record {
   inside = omega (arith, h.inside, length-drop i bs);
@@ -100,14 +104,16 @@ deepens_here : (x : JsonState) (c : ℕ) (bs : List ℕ) → JsonGoesOn most_lev
 deepens_here x c bs before deep =
     record { inside = omega arith; before = before; deeper = deep.deeper; stops = λ g. deep.stops g.0 g.1 g.2 }
 
-pub halts_at : {out : List NodeEvent} (r q : Reader) (bs : List ℕ) (i : ℕ) → i < length bs → JsonGoes r (take i bs) out q → Halts (json_state q) (get_or bs i 0)
+pub halts_at : {out : List NodeEvent} (r q : Reader) (bs : List ℕ) (i : ℕ) → i < length bs → JsonGoes r (take i bs) out q
+    → Halts (json_state q) (get_or bs i 0)
     → HaltsAt (json_state r) bs (i + 0)
 halts_at r q bs i inside goes halts =
     halts_then r q bs i 0 goes
     (subst (λ ws. HaltsAt (json_state q) ws 0) (sym (drop_more bs i 0 inside))
     (halts_here (json_state q) (get_or bs i 0) (drop (i + 1) bs) (reader_goes_on q goes.sound) halts))
 
-pub deepens_at : {out : List NodeEvent} (r q : Reader) (bs : List ℕ) (i : ℕ) → i < length bs → JsonGoes r (take i bs) out q → Deepens (json_state q) (get_or bs i 0)
+pub deepens_at : {out : List NodeEvent} (r q : Reader) (bs : List ℕ) (i : ℕ) → i < length bs → JsonGoes r (take i bs) out q
+    → Deepens (json_state q) (get_or bs i 0)
     → DeepensAt (json_state r) bs (i + 0)
 deepens_at r q bs i inside goes deep =
     deepens_then r q bs i 0 goes

@@ -38,7 +38,8 @@ use Rattle.sm_json.proofs.Starts.{FirstByte}
 use Rattle.sm_json.proofs.NullTexts.{text_first, black_append, null_by_first, null_by_event, null_completes, null_whole}
 
 -- a reader that has read nothing
-pub reads_nothing : (j : JsonReader) → json_state j.reader ≡ json_start → JsonIsSound j.reader → j.taken ≡ 0 → j.first ≡ None → JsonHasRead j []
+pub reads_nothing : (j : JsonReader) → json_state j.reader ≡ json_start → JsonIsSound j.reader → j.taken ≡ 0 → j.first ≡ None
+    → JsonHasRead j []
 reads_nothing j begins sound none blank =
     record { first = j.reader; begins = begins; out = []; goes = goes_nowhere j.reader sound; taken = none; black = blank }
 
@@ -74,7 +75,8 @@ piece_placed j bytes S takes read follows all = record {
 
 -- behind a piece it stands for the longer bytes
 pub read_on : (j k : JsonReader) (bytes piece : List ℕ) (S T : StandsFor) (takes : Takes) → JsonHasRead j bytes
-    → JsonBrings j.reader S piece k.reader T takes → k.taken ≡ j.taken + length piece → k.first ≡ first_of j.first piece → JsonHasRead k (bytes ++ piece)
+    → JsonBrings j.reader S piece k.reader T takes → k.taken ≡ j.taken + length piece → k.first ≡ first_of j.first piece
+    → JsonHasRead k (bytes ++ piece)
 read_on j k bytes piece S T takes read feeds taken black = record {
   first = read.first;
   begins = read.begins;
@@ -90,7 +92,8 @@ pub follows_on : (j : JsonReader) (q : Reader) (bytes piece : List ℕ) (S T : S
 follows_on j q bytes piece S T takes read feeds follows es done =
     let goes : JsonGoes read.first (bytes ++ piece) (read.out ++ feeds.out) q =
     goes_joined read.first j.reader q bytes piece read.goes feeds.goes in
-    let is : es ≡ read.out ++ feeds.out = bytes_complete_one read.first q (bytes ++ piece) (read.out ++ feeds.out) es goes read.begins done in
+    let is : es ≡ read.out ++ feeds.out = bytes_complete_one read.first q (bytes ++ piece)
+    (read.out ++ feeds.out) es goes read.begins done in
     let stands : S read.out = follows read.out (bytes_complete read.first j.reader bytes read.out read.goes read.begins) in
     let begins : BeginsStream (read.out ++ feeds.out) =
     run_begins (bytes ++ piece) (read.out ++ feeds.out) (json_state q)
@@ -152,7 +155,8 @@ piece_fed j k piece S T takes fresh still same taken black brings = (still, fed)
         )
 
 pub piece_refused : (j k : JsonReader) (q : Reader) (piece : List ℕ) (S T : StandsFor) (takes : Takes) (refusal : SyntaxRefusal)
-    → j.refused ≡ None → k.refused ≡ Some (moved_by j.taken refusal) → k.flushed ≡ j.flushed → JsonTakesAll j.reader S piece q T takes (Err refusal)
+    → j.refused ≡ None → k.refused ≡ Some (moved_by j.taken refusal) → k.flushed ≡ j.flushed
+    → JsonTakesAll j.reader S piece q T takes (Err refusal)
     → JsonFeeds S j piece T k (Err (moved_by j.taken refusal))
 piece_refused j k q piece S T takes (Bad p) fresh refused same (halts, brings) = (refused, told)
   where
@@ -195,10 +199,16 @@ stays_at : (o : Option SyntaxRefusal) (j : JsonReader) (piece : List ℕ) → j.
 stays_at None j piece is = tt
 stays_at (Some NoMemory) j piece is = tt
 stays_at (Some Ended) j piece is = tt
-stays_at (Some (Bad p)) j piece is = λ bytes (open_still, come).
-    (open_still, refused_come j (bytes ++ piece) (Bad p) is (refused_longer json_syntax bytes piece (Bad p) (λ e. cc) (subst (λ r. HasCome r j bytes) is come)))
-stays_at (Some (TooDeep p)) j piece is = λ bytes (open_still, come).
-    (open_still, refused_come j (bytes ++ piece) (TooDeep p) is (refused_longer json_syntax bytes piece (TooDeep p) (λ e. cc) (subst (λ r. HasCome r j bytes) is come)))
+stays_at (Some (Bad p)) j piece is = λ bytes (open_still, come). (
+  open_still,
+  refused_come j (bytes ++ piece) (Bad p) is (refused_longer json_syntax bytes piece (Bad p) (λ e. cc)
+      (subst (λ r. HasCome r j bytes) is come)),
+)
+stays_at (Some (TooDeep p)) j piece is = λ bytes (open_still, come). (
+  open_still,
+  refused_come j (bytes ++ piece) (TooDeep p) is
+      (refused_longer json_syntax bytes piece (TooDeep p) (λ e. cc) (subst (λ r. HasCome r j bytes) is come)),
+)
 stays_at (Some (KeyKind p)) j piece is = λ bytes (open_still, come).
     let refused : IsRefused json_syntax bytes (KeyKind p) = subst (λ r. HasCome r j bytes) is come in absurd refused.key
 
@@ -206,7 +216,8 @@ pub stays_refused : (j : JsonReader) (piece : List ℕ) → StaysRefused JsonSta
 stays_refused j piece = stays_at j.refused j piece refl
 
 -- the end of the bytes
-leads_of : (j : JsonReader) (bytes : List ℕ) (read : JsonHasRead j bytes) → JsonLeads most_levels json_start bytes read.out (json_state j.reader)
+leads_of : (j : JsonReader) (bytes : List ℕ) (read : JsonHasRead j bytes)
+    → JsonLeads most_levels json_start bytes read.out (json_state j.reader)
 leads_of j bytes read = begun read.first j.reader bytes read.out read.goes read.begins
 
 all_complete : (n : Node) (bytes : List ℕ) → JsonText n bytes → levels n ≤ most_levels
@@ -248,7 +259,8 @@ no_refusal None refusal fresh is = cc
 no_refusal (Some r) refusal fresh is = cc
 
 -- the sink stands for all the events of a text that ends
-follows_last : (j : JsonReader) (bytes : List ℕ) (S T : StandsFor) (takes : Takes) → JsonHasRead j bytes → JsonEndsText j.reader S T takes (Ok tt)
+follows_last : (j : JsonReader) (bytes : List ℕ) (S T : StandsFor) (takes : Takes) → JsonHasRead j bytes
+    → JsonEndsText j.reader S T takes (Ok tt)
     → Follows json_timing S bytes → FollowsAll T bytes
 follows_last j bytes S T takes read (last, rest, hands, all) follows = (whole, λ unread. absurd (unread n (text, room)))
   where
@@ -277,7 +289,8 @@ follows_none : (j : JsonReader) (bytes : List ℕ) (S : StandsFor) → JsonHasRe
     → Follows json_timing S bytes → FollowsAll S bytes
 follows_none j bytes S read none follows = (
   λ es (n, ts, timed, room, is).
-      absurd (run_is_cut most_levels bytes read.out (json_state j.reader) (leads_of j bytes read) none n (timed_text n bytes ts timed).0 room),
+      absurd (run_is_cut most_levels bytes read.out (json_state j.reader) (leads_of j bytes read) none n
+      (timed_text n bytes ts timed).0 room),
   λ unread. follows,
 )
 
@@ -339,7 +352,8 @@ null_told j bytes read first over =
     let same : c ≡ 110 = cc in
     null_completes bytes (subst (λ m. JsonText m bytes) (null_by_first n (subst (FirstByte n) same begins)) text)
 
-pub null_by_end : (j : JsonReader) (bytes : List ℕ) (over : Bool) → j.refused ≡ None → j.first ≡ Some 110 → (JsonIsSound j.reader → JsonMayEnd j.reader over)
+pub null_by_end : (j : JsonReader) (bytes : List ℕ) (over : Bool) → j.refused ≡ None → j.first ≡ Some 110
+    → (JsonIsSound j.reader → JsonMayEnd j.reader over)
     → JsonHasCome j bytes → IsTrue over ↔ Completes json_timing bytes (null_event ∷ [])
 null_by_end j bytes true fresh first ends come =
     let read : JsonHasRead j bytes = has_read j bytes fresh come in (λ t. null_told j bytes read first (ends read.goes.sound), λ h. refl)

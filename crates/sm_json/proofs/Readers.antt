@@ -162,7 +162,8 @@ ends_at r q p k e c place within closed law =
     (λ limit up. law limit (lists_of q) (subst (λ ls. length ls ≤ limit) lists (room_in r limit up)))))
     (subst (λ x. PlaceKeeps x q.number.items (lists_of q)) (sym closed.place) tt)
 
-pub list_closes : (r q : Reader) → ClosesAt a_list r.place → IsIn a_list (lists_of r) → HasClosed r q → JsonGoes r (93 ∷ []) (end_list ∷ []) q
+pub list_closes : (r q : Reader) → ClosesAt a_list r.place → IsIn a_list (lists_of r) → HasClosed r q
+    → JsonGoes r (93 ∷ []) (end_list ∷ []) q
 list_closes r q (inl place) within closed = ends_at r q FirstEntry a_list end_list 93 place within closed list_empty
 list_closes r q (inr place) within closed = ends_at r q After a_list end_list 93 place within closed list_ends
 

@@ -135,7 +135,8 @@ white_run_goes r bs k sound p some few here more =
     })
 
 -- a byte that is refused behind those that led there, and the first byte
-fed_to : (r q : Reader) (S T : StandsFor) (takes : Takes) (bs : List ℕ) (i p : ℕ) → p ≡ 0 → JsonGoes r (take i bs) [] q → JsonKeeps S T takes
+fed_to : (r q : Reader) (S T : StandsFor) (takes : Takes) (bs : List ℕ) (i p : ℕ) → p ≡ 0 → JsonGoes r (take i bs) [] q
+    → JsonKeeps S T takes
     → JsonBringsTo r S bs (i + p) T takes
 fed_to r q S T takes bs i p none goes kept =
     let same : i ≡ i + p = omega (arith, none) in record {
@@ -296,7 +297,8 @@ fed_to_then r q S T U before takes bs i p h g = record {
 
 pub refused_in_turn : (r q x : Reader) (S T U : StandsFor) (before takes : Takes) (bs : List ℕ) (i : ℕ)
     (refusal : SyntaxRefusal) → i < length bs → JsonBrings r S (take i bs) q T before
-    → JsonTakesPrefix q T (take (length bs - i) (drop i bs)) x U takes (Err refusal) → JsonTakesAll r S bs x U takes (Err (moved_by i refusal))
+    → JsonTakesPrefix q T (take (length bs - i) (drop i bs)) x U takes (Err refusal)
+    → JsonTakesAll r S bs x U takes (Err (moved_by i refusal))
 refused_in_turn r q x S T U before takes bs i (Bad p) inside fed h = (
   halts_then r q bs i p fed.goes (subst (λ ws. HaltsAt (json_state q) ws p) (rest_of bs i) h.0),
   fed_to_then r q S T U before takes bs i p fed (subst (λ ws. JsonBringsTo q T ws p U takes) (rest_of bs i) h.1),
@@ -397,7 +399,8 @@ string_halts r role t bs i sound place inside on stops =
     }
 
 -- the end of the bytes
-pub number_cut_short : (r : Reader) (phase : Phase) → JsonIsSound r → r.place ≡ Number phase → (0 < length (lists_of r)) ⊎ (NumberTail phase [] → ⊥)
+pub number_cut_short : (r : Reader) (phase : Phase) → JsonIsSound r → r.place ≡ Number phase
+    → (0 < length (lists_of r)) ⊎ (NumberTail phase [] → ⊥)
     → (ts : List TimedEvent) → JsonRest most_levels (json_state r) [] ts → ⊥
 number_cut_short r phase sound place (inl deep) ts h =
     let (n, x, none) = number_last_is most_levels r.number.items (lists_of r) ts
@@ -437,7 +440,8 @@ text_owed r role place ts h =
     (λ t v x. string_owed r.text.spot (string_so_far r.text) t v r.text.live x)
     (subst (λ q. JsonRest most_levels (place_at r q) [] ts) place h)
 
-cut_at_place : (r : Reader) (p : Place) → r.place ≡ p → JsonIsSound r → ((phase : Phase) → p ≡ Number phase → ⊥) → (p ≡ After → 0 < length (lists_of r))
+cut_at_place : (r : Reader) (p : Place) → r.place ≡ p → JsonIsSound r → ((phase : Phase) → p ≡ Number phase → ⊥)
+    → (p ≡ After → 0 < length (lists_of r))
     → (ts : List TimedEvent) → JsonRest most_levels (json_state r) [] ts → ⊥
 cut_at_place r Value place sound n d ts h = owed_at r Value place tt ts h
 cut_at_place r FirstEntry place sound n d ts h = owed_at r FirstEntry place tt ts h
@@ -469,9 +473,11 @@ letter_halts r w taken c place inside other =
     stops_from r (Word w taken) c place (λ limit. word_stops limit w taken c (get_or (letters w) taken 0) (lists_of r)
     (drop_more (letters w) taken 0 inside) (λ e. other (sym e)))
 
-pub white_run_takes : (r : Reader) (S : StandsFor) (takes : Takes) (bs : List ℕ) (k : ℕ) → JsonIsSound r → JsonIsPlaced r S takes → TakesWhitespace (json_state r).place → 0 < length bs
+pub white_run_takes : (r : Reader) (S : StandsFor) (takes : Takes) (bs : List ℕ) (k : ℕ) → JsonIsSound r → JsonIsPlaced r S takes
+    → TakesWhitespace (json_state r).place → 0 < length bs
     → k ≤ length (take (length bs - 1) (drop 1 bs))
-    → is_whitespace (get_or bs 0 0) ≡ true → AllWhitespace (take k (take (length bs - 1) (drop 1 bs))) → JsonTakesPrefix r S bs r S takes (Ok (1 + k))
+    → is_whitespace (get_or bs 0 0) ≡ true → AllWhitespace (take k (take (length bs - 1) (drop 1 bs)))
+    → JsonTakesPrefix r S bs r S takes (Ok (1 + k))
 white_run_takes r S takes bs k sound placed p some few here more =
     let within : k ≤ length bs - 1 = omega (arith, ap length (rest_of bs 1), length-drop 1 bs) in
     (omega arith, omega arith, feeds_nothing r r S takes (take (1 + k) bs) placed (white_run_goes r bs k sound p some within here more))

@@ -41,7 +41,8 @@ leads_none limit x = silent_leads limit x [] x (λ s ts h. h) (λ s ts h. h)
 both : (w s : List ℕ) (os ps : List TimedEvent) (out more : List NodeEvent) → HandsOn (length (w ++ s)) os out → HandsOn (length s) ps more
     → HandsOn (length s) (os ++ ps) (out ++ more)
 both w s os ps out more hands hands1 =
-    hands_joined (length s) os ps out more (hands_sooner (length (w ++ s)) (length s) os out (omega (arith, length-append w s)) hands) hands1
+    hands_joined (length s) os ps out more (hands_sooner (length (w ++ s)) (length s) os out (omega (arith, length-append w s)) hands)
+    hands1
 
 pub leads_joined : (limit : ℕ) (x y z : JsonState) (v w : List ℕ) (out more : List NodeEvent) → JsonLeads limit x v out y
     → JsonLeads limit y w more z → JsonLeads limit x (v ++ w) (out ++ more) z
@@ -86,7 +87,8 @@ pub run_is_text : (limit : ℕ) (bs : List ℕ) (out : List NodeEvent) (last : L
     → (n : Node) × JsonText n bs × (levels n ≤ limit) × (out ++ untimed last ≡ events n [])
 run_is_text limit bs out last x h rest =
     let (os, hands, rest1) = h.back [] last rest in
-    let (n, text, room, is) = start_text limit bs (os ++ last) (subst (λ u. JsonRest limit json_start u (os ++ last)) (append-nil bs) rest1) in
+    let (n, text, room, is) = start_text limit bs (os ++ last)
+    (subst (λ u. JsonRest limit json_start u (os ++ last)) (append-nil bs) rest1) in
     (n, text, room, ap (λ es. es ++ untimed last) (sym (hands_untimed 0 os out hands)) ∙ sym (untimed_append os last) ∙ is)
 
 -- a run through all the bytes to a state in which they may not end: they are no text

@@ -47,7 +47,8 @@ word_ends limit w taken c ks d =
 pub word_stops : (limit : ℕ) (w : Literal) (taken c d : ℕ) (ks : List OpenKind) → drop taken (letters w) ≡ d ∷ drop (taken + 1) (letters w)
     → c ≢ d
     → JsonStops limit (at (word w taken) ks) c
-word_stops limit w taken c d ks e f s ts (r, us, e1, en, timed) = f (heads c d s (drop (taken + 1) (letters w) ++ r) (e1 ∙ ap (λ x. x ++ r) e))
+word_stops limit w taken c d ks e f s ts (r, us, e1, en, timed) = f
+    (heads c d s (drop (taken + 1) (letters w) ++ r) (e1 ∙ ap (λ x. x ++ r) e))
 
 -- behind a value no byte of a number comes
 number_byte_not_white : (c : ℕ) → IsNumberByte c → is_whitespace c ≡ true → ⊥
@@ -79,7 +80,14 @@ number_ends_before limit c (a_list ∷ ks) s ts n (no_nodes, r, us, (k, timed), 
 number_ends_before limit c (a_list ∷ ks) s ts n (node x ns, r, us, (s1, s2, vs, (y, k, k1), v, m), room, en) =
     follows_not c 44 s y n (inl refl) k
 number_ends_before limit c (an_object ∷ ks) s ts n (no_members, r, us, (k, timed), room, en) = follows_not c 125 s r n (inr (inr refl)) k
-number_ends_before limit c (an_object ∷ ks) s ts n (member name x ms, r, us, (s1, s2, s3, s4, vs, ws, (y, k, k0), sp, timed, sep, v, m), room, en) =
+number_ends_before limit c (an_object ∷ ks) s ts n (
+  member name x ms,
+  r,
+  us,
+  (s1, s2, s3, s4, vs, ws, (y, k, k0), sp, timed, sep, v, m),
+  room,
+  en,
+) =
     follows_not c 44 s y n (inl refl) k
 
 -- one more byte of a number
@@ -272,7 +280,14 @@ first_key_owed : (limit : ℕ) (ks : List OpenKind) (ts : List TimedEvent) → F
 first_key_owed limit [] ts h = h
 first_key_owed limit (a_list ∷ ks) ts h = h
 first_key_owed limit (an_object ∷ ks) ts (no_members, r, us, (k, timed), room, en) = skips_nothing 125 r k
-first_key_owed limit (an_object ∷ ks) ts (member name n ms, r, us, (s1, s2, s3, s4, vs, ws, k, (cs, u, e1, e2, h), timed, sep, v, m), room, en) =
+first_key_owed limit (an_object ∷ ks) ts (
+  member name n ms,
+  r,
+  us,
+  (s1, s2, s3, s4, vs, ws, k, (cs, u, e1, e2, h), timed, sep, v, m),
+  room,
+  en,
+) =
     skips_nothing 34 u (sym e2 ∙ k)
 
 pub word_owed : (limit : ℕ) (w : Literal) (taken : ℕ) (ks : List OpenKind) (ts : List TimedEvent) → taken < length (letters w)

@@ -105,7 +105,8 @@ impl JsonReader {
     pub fn feed<E: EventSink>(&mut self, piece: &[u8], to: &mut E) -> Result<(), SyntaxRefusal>
         requires stands { MayFeed self.old (E.stands_for to.old) }
         requires takes { TakesEvery (E.takes to.old) }
-        ensures feeds { refusal_of self.old ≡ None → JsonFeeds (E.stands_for to.old) self.old piece.now (E.stands_for to.new) self.new result }
+        ensures feeds { refusal_of self.old ≡ None → JsonFeeds (E.stands_for to.old) self.old piece.now
+            (E.stands_for to.new) self.new result }
         ensures again { IfSome (refusal_of self.old) (λ refusal. (result ≡ Err refusal) × (self.new ≡ self.old) × (to.new ≡ to.old)) }
         ensures longer { StaysRefused JsonStands (refusal_of self.old) self.old piece.now }
         ensures takes { TakesStill (E.takes to.old) (E.takes to.new) result }
@@ -178,7 +179,8 @@ impl JsonReader {
 
     /// Whether nothing was refused and the bytes so far complete the one event `Null`, and no other. No memory.
     pub fn is_null(&self) -> bool
-        ensures { (bytes : List ℕ) → JsonHasCome self.now bytes → IsTrue result ↔ (refusal_of self.now ≡ None) × Completes json_timing bytes (null_event ∷ []) }
+        ensures { (bytes : List ℕ) → JsonHasCome self.now bytes
+            → IsTrue result ↔ (refusal_of self.now ≡ None) × Completes json_timing bytes (null_event ∷ []) }
     {
         match self.refused {
             Some(_) => false,

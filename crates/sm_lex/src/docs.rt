@@ -49,7 +49,8 @@ fn doc_line(piece: &str) -> Option<&str>
 
 /// The documentation so far, with the text of one more piece of whitespace.
 fn with_piece(alloc: Global, docs: Option<String>, piece: &str) -> Result<Option<String>, NoMemory>
-    ensures { IfOk result (λ all. option_map string_bytes all ≡ docs_joined (option_map string_bytes docs) (option_to_list (doc_of piece.now))) }
+    ensures { IfOk result (λ all. option_map string_bytes all ≡ docs_joined (option_map string_bytes docs)
+        (option_to_list (doc_of piece.now))) }
 {
     match doc_line(piece) {
         Some(line) => with_line(alloc, docs, line),

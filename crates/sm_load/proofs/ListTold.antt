@@ -49,7 +49,8 @@ module _ {X : Type 0} (test : X → Bool) where
       by false h = h
 
 -- a filter by what is seen of events
-views_left : (test : EventTold → Bool) (es : List ModelEvent) → events_view (filter (λ e. test (event_view e)) es) ≡ filter test (events_view es)
+views_left : (test : EventTold → Bool) (es : List ModelEvent)
+    → events_view (filter (λ e. test (event_view e)) es) ≡ filter test (events_view es)
 views_left test [] = refl
 views_left test (e ∷ es) = by (test (event_view e)) (views_left test es)
   where

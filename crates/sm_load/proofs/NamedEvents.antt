@@ -45,7 +45,8 @@ named_here event named rest is = ap (λ e. names_event e named) is ∙ named_beh
 
 -- and no other text names it
 pub not_named : (event named : List ℕ) → ((rest : List ℕ) → event ≡ named ++ rest → ⊥) → names_event event named ≡ false
-not_named event named other = or_from _ _ (whole (bytes_eq named event) refl) (part (starts_with nat_eq event (named ++ full_stop ∷ [])) refl)
+not_named event named other = or_from _ _ (whole (bytes_eq named event) refl)
+    (part (starts_with nat_eq event (named ++ full_stop ∷ [])) refl)
   where
     whole : (b : Bool) → bytes_eq named event ≡ b → b ≡ false
     whole true is = absurd (other [] (sym ((bytes_eq-Decides named event).0 is) ∙ sym (append-nil named)))
@@ -65,7 +66,8 @@ or_false false = refl
 row_reads : (n : Node) → is_as_one (rows_of suppress_id) n ≡ are_text_nodes n
 row_reads n = or_false _
 
-pub names_where : (event : List ℕ) (o : Option Node) → some_node (node_names event) (nodes_in (that_reads suppress_id o)) ≡ where_names event o
+pub names_where : (event : List ℕ) (o : Option Node) → some_node (node_names event)
+    (nodes_in (that_reads suppress_id o)) ≡ where_names event o
 names_where event None = refl
 names_where event (Some n) =
     ap (λ b. some_node (node_names event) (nodes_in (cond b (Some n) None))) (row_reads n) ∙ by (are_text_nodes n)

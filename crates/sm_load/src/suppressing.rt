@@ -35,7 +35,8 @@ pub(crate) fn namespaces_for<'a>(
     graph: &'a Graph,
     event: &str,
 ) -> Result<BTreeSet<&'a str>, NoMemory>
-    ensures { IfOk result (λ set. (namespace : List ℕ) → has_text set namespace ≡ is_suppressed_in (maps_of graph.now) namespace event.now) }
+    ensures { IfOk result (λ set. (namespace : List ℕ) → has_text set namespace ≡ is_suppressed_in
+        (maps_of graph.now) namespace event.now) }
 {
     let mut namespaces: BTreeSet<&'a str> = BTreeSet::new(alloc);
     let entries = suppressions(graph);

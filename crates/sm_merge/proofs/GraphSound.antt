@@ -331,7 +331,15 @@ prelude_named = (
                                 (
                                   (default_id, tt),
                                   refl,
-                                  ((default_id, tt), refl, ((default_id, tt), refl, ((default_id, tt), refl, ((unit_type_id, tt), refl, tt)))),
+                                  (
+                                    (default_id, tt),
+                                    refl,
+                                    (
+                                      (default_id, tt),
+                                      refl,
+                                      ((default_id, tt), refl, ((unit_type_id, tt), refl, tt)),
+                                    ),
+                                  ),
                                 ),
                               ),
                             ),

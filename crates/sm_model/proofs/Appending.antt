@@ -18,5 +18,6 @@ passes_more p xs x all one =
     list_all-append p xs (x ∷ []) ∙ ap (λ b. b && (p x && true)) all ∙ ap (λ b. b && true) one
 
 -- the element behind others, counted from the first of all
-pub behind : {X : Type 0} (before xs : List X) (first i : ℕ) (d : X) → length before ≡ first → get_or (before ++ xs) (first + i) d ≡ get_or xs i d
+pub behind : {X : Type 0} (before xs : List X) (first i : ℕ) (d : X) → length before ≡ first
+    → get_or (before ++ xs) (first + i) d ≡ get_or xs i d
 behind before xs first i d long = ap (λ n. get_or (before ++ xs) (n + i) d) (sym long) ∙ get_or-append-add before xs i d

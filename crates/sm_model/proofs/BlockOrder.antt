@@ -42,7 +42,8 @@ module _ (shape : List ℕ) (ids : List (List ℕ)) (ss : List ShapeGiven) (h : 
   still_below : (k : List ℕ) (ks : List (List ℕ)) → IsBelow k (ks ++ shape ∷ given_ids ss) → IsBelow k (ks ++ shape ∷ (ids ++ given_ids ss))
   still_below k [] below = (
     below.0,
-    below_append k ids (given_ids ss) (below_members k shape ids h members (λ m. nat_list_cmp_total.trans k shape (member_id shape m) below.0 (below_member shape h m)))
+    below_append k ids (given_ids ss) (below_members k shape ids h members
+        (λ m. nat_list_cmp_total.trans k shape (member_id shape m) below.0 (below_member shape h m)))
         below.1,
   )
   still_below k (j ∷ js) below = (below.0, still_below k js below.1)

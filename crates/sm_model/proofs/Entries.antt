@@ -137,7 +137,8 @@ kept_below : (n : ℕ) (e : RowEntry) → members_are_below n e ≡ true → are
 kept_below n (Shape s) h = h
 kept_below n (Member target) h = refl
 
-pub members_numbered : (g : Graph) (s : ℕ) (r : Row) → IsSomeAnd (slice_get g.rows.items s) (λ x. r ≡ x) → AreShapeNumbers g (members_kept r.entry)
+pub members_numbered : (g : Graph) (s : ℕ) (r : Row) → IsSomeAnd (slice_get g.rows.items s) (λ x. r ≡ x)
+    → AreShapeNumbers g (members_kept r.entry)
 members_numbered g s r at =
     let rows = g.rows.items in
     let each = and_right (is_sorted text_cmp (entries_of g)) (list_all (is_sound_row (length rows)) rows) g.sound in

@@ -19,7 +19,7 @@ mod MoreRows
 mod MadeGraphs
 pub mod Linking
 pub mod LinkNumbers
-mod LinkFacts
+pub mod LinkFacts
 pub mod LinkedEntries
 mod LinkedGraphs
 pub mod Worklist

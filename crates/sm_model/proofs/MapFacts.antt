@@ -65,7 +65,8 @@ module _ {X : Type 0} where
   pub each_entry : (P : List ℕ → X → Type 0) (es : List (List ℕ × X)) → Each P es
       → Each P (fin.entries (fin.from_entries {R = text_cmp} es))
   each_entry P [] all =
-      nothing_in P (fin.entries (fin.from_entries {X = X} {R = text_cmp} [])) (sym (len-entries {R = text_cmp} fin.empty) ∙ len-empty text_cmp X)
+      nothing_in P (fin.entries (fin.from_entries {X = X} {R = text_cmp} []))
+      (sym (len-entries {R = text_cmp} fin.empty) ∙ len-empty text_cmp X)
   each_entry P (e ∷ es) all =
       subst (Each P) (sym (entries-insert nat_list_cmp_total (fin.from_entries es) e.0 e.1))
       (each_put P e.0 e.1 _ all.0 (each_entry P es all.1))

@@ -32,7 +32,8 @@ differ_mapped shape [] d = tt
 differ_mapped shape (k ∷ ks) d = ((λ s. d.0 (stands_unmapped shape k ks s)), differ_mapped shape ks d.1)
 
 -- the ids of members' rows
-given_member_ids : (shape : List ℕ) (ms : List MemberGiven) → map (λ e. e.0) (given_members shape ms) ≡ map (member_id shape) (given_names ms)
+given_member_ids : (shape : List ℕ) (ms : List MemberGiven) → map (λ e. e.0) (given_members shape ms) ≡ map (member_id shape)
+    (given_names ms)
 given_member_ids shape [] = refl
 given_member_ids shape (m ∷ ms) = ap (λ ids. member_id shape m.name ∷ ids) (given_member_ids shape ms)
 
@@ -60,7 +61,8 @@ are_member_ids : (shape : List ℕ) (ms : List MemberGiven) → AreGivenMembers 
 are_member_ids shape [] h = tt
 are_member_ids shape (m ∷ ms) h = ((m.name, h.0, refl), are_member_ids shape ms h.3)
 
-moved_member_ids : (shape : List ℕ) (xs ys : List Row) → IsPermutation xs ys → AreMemberIds shape (ids_of xs) → AreMemberIds shape (ids_of ys)
+moved_member_ids : (shape : List ℕ) (xs ys : List Row) → IsPermutation xs ys → AreMemberIds shape (ids_of xs)
+    → AreMemberIds shape (ids_of ys)
 moved_member_ids shape = along_permutation (λ xs ys. AreMemberIds shape (ids_of xs) → AreMemberIds shape (ids_of ys))
     (λ xs h. h)
     (λ x xs ys f h. (h.0, f h.1))
@@ -84,8 +86,10 @@ module _ (shape : List ℕ) (ms : List MemberGiven) (rows sorted : List Row) (h 
       → IsMemberBlock first shape ms numbers sorted
   member_block first numbers rise numbered = record {
     rise = rise;
-    members = moved_member_ids shape rows sorted moved (subst (AreMemberIds shape) (sym (member_ids shape ms rows h)) (are_member_ids shape ms given));
-    entries = λ ids. subst (λ es. IsPermutation es (map (row_entry ids) sorted)) (h.entries ids) (IsPermutation-map (row_entry ids) rows sorted moved);
+    members = moved_member_ids shape rows sorted moved (subst (AreMemberIds shape) (sym (member_ids shape ms rows h))
+        (are_member_ids shape ms given));
+    entries = λ ids. subst (λ es. IsPermutation es (map (row_entry ids) sorted)) (h.entries ids)
+        (IsPermutation-map (row_entry ids) rows sorted moved);
     sound = λ n. all_moved (is_sound_row n) rows sorted moved (h.sound n);
     numbered = numbered;
   }

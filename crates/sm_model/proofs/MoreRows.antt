@@ -38,7 +38,8 @@ same_numbers ids more (k ∷ ks) h =
 same_entry : (ids more : List (List ℕ)) (traits : NodeMap) (e : RowEntry) → members_are_below (length ids) e ≡ true
     → entry_view (ids ++ more) traits e ≡ entry_view ids traits e
 same_entry ids more traits (Shape s) h =
-    ap (λ names. shape_entry (record { kind = s.kind; members = names; properties = node_of s.properties; traits = traits })) (same_numbers ids more s.members h)
+    ap (λ names. shape_entry (record { kind = s.kind; members = names; properties = node_of s.properties; traits = traits }))
+    (same_numbers ids more s.members h)
 same_entry ids more traits (Member target) h = refl
 
 same_entries : (ids more : List (List ℕ)) (rows : List Row) → list_all (is_sound_row (length ids)) rows ≡ true

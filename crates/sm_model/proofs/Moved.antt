@@ -117,7 +117,8 @@ pub moved_entries : (xs ys : List ShapeGiven) → IsPermutation xs ys → IsPerm
 moved_entries = along_permutation (λ xs ys. IsPermutation (given_entries xs) (given_entries ys))
     (λ xs. IsPermutation-refl _)
     (λ x xs ys h. IsPermutation-append_right (given_shape x) _ _ h)
-    (λ x y xs. rw (← append_assoc (given_shape x), ← append_assoc (given_shape y)) (IsPermutation-append_left (given_entries xs) _ _ (IsPermutation-append_comm (given_shape x) (given_shape y))))
+    (λ x y xs. rw (← append_assoc (given_shape x), ← append_assoc (given_shape y))
+    (IsPermutation-append_left (given_entries xs) _ _ (IsPermutation-append_comm (given_shape x) (given_shape y))))
     (λ xs ys zs. IsPermutation-trans _ _ _)
 
 pub moved_given : (xs ys : List ShapeGiven) → IsPermutation xs ys → AreGivenShapes xs → AreGivenShapes ys

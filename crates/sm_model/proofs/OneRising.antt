@@ -63,5 +63,6 @@ module _ {K : Type 0} {R : K → K → Ordering} (o : IsTotalOrder R) where
       (λ e there. rest_contains y x e ys xs (sym same) k.0 there (back e (contains_behind y e ys there))) in
       λ i. same i ∷ rest i
 
-  pub one_rising : (xs ys : List K) → IsStrictlySortedBy R xs → IsStrictlySortedBy R ys → ((e : K) → Contains xs e ↔ Contains ys e) → xs ≡ ys
+  pub one_rising : (xs ys : List K) → IsStrictlySortedBy R xs → IsStrictlySortedBy R ys → ((e : K) → Contains xs e ↔ Contains ys e)
+      → xs ≡ ys
   one_rising xs ys h k same = rising xs ys h k (λ e. (same e).0) (λ e. (same e).1)

@@ -14,10 +14,12 @@ use Rattle.sm_model.specs.declared.raw.RawNode.TheFolds.{fold-roll-RawNode, fold
 
 -- the entries and the pairs, in the words for nodes that stand by themselves
 pub view_raw_items : (v : RawItems) → raw_items_view v ≡ raws_view v.items.items
-view_raw_items v = fold-roll-RawItems Raw (List Raw) (List (List ℕ × Raw)) raw_step raw_items_step raw_pairs_step (record { items = v.items })
+view_raw_items v = fold-roll-RawItems Raw (List Raw) (List (List ℕ × Raw)) raw_step raw_items_step raw_pairs_step
+    (record { items = v.items })
 
 pub view_raw_pairs : (p : RawPairs) → raw_pairs_view p ≡ raw_members_view p.pairs.items
-view_raw_pairs p = fold-roll-RawPairs Raw (List Raw) (List (List ℕ × Raw)) raw_step raw_items_step raw_pairs_step (record { pairs = p.pairs })
+view_raw_pairs p = fold-roll-RawPairs Raw (List Raw) (List (List ℕ × Raw)) raw_step raw_items_step raw_pairs_step
+    (record { pairs = p.pairs })
 
 -- each variant
 pub view_leaf : (t : Tree) → raw_view (Leaf t) ≡ raw_leaf (node_of t)

@@ -88,7 +88,8 @@ module _ {X : Type 0} where
   equal_to [] h d i lt q tied = absurd (omega (arith, lt))
   equal_to (e ∷ es) h d zero lt q tied = ap (λ r. cond (is_eq r) (Some e.1) (find text_cmp q es)) (turned_equal e.0 q tied)
   equal_to (e ∷ es) h d (suc i) lt q tied =
-      ap (λ r. cond (is_eq r) (Some e.1) (find text_cmp q es)) (after e.0 (key_at es i d) q (below_each e.0 es (and_left _ _ h) d i (omega (arith, lt))) tied)
+      ap (λ r. cond (is_eq r) (Some e.1) (find text_cmp q es))
+      (after e.0 (key_at es i d) q (below_each e.0 es (and_left _ _ h) d i (omega (arith, lt))) tied)
       ∙ equal_to es (and_right (below_all text_cmp e.0 es) _ h) d i (omega (arith, lt)) q tied
 
   nowhere : (es : List (List ℕ × X)) (q : List ℕ) (d : List ℕ × X)
@@ -161,7 +162,8 @@ module _ {R X : Type 0} (f : R → List ℕ × X) where
       → HoldsAt (λ r. text_cmp (f r).0 q ≡ Equal) rows i → (v : X) → IsSomeAnd (slice_get rows i) (λ r. v ≡ (f r).1)
       → find text_cmp q (map f rows) ≡ Some v
   value_found rows h q i lt tied v at =
-      joined (slice_get rows i) at (subst (λ o. IsSomeAnd o (λ e. (e.0 ≡ q) × (find text_cmp q (map f rows) ≡ Some e.1))) (slice_get-map f rows i)
+      joined (slice_get rows i) at (subst (λ o. IsSomeAnd o (λ e. (e.0 ≡ q) × (find text_cmp q (map f rows) ≡ Some e.1)))
+      (slice_get-map f rows i)
       (found_at rows h q i lt tied))
     where
       joined : (o : Option R) → IsSomeAnd o (λ r. v ≡ (f r).1)

@@ -21,10 +21,24 @@ use Rattle.sm_model.proofs.Sorting.{map_twice}
 
 -- the row of a shape
 abbrev pub shape_row : GraphShape → Pairs → List ℕ → Row
-shape_row s traits numbers = record { id = s.id; traits = traits; entry = Shape (record { kind = s.kind; members = numbers; properties = s.properties }) }
+shape_row s traits numbers = record {
+  id = s.id;
+  traits = traits;
+  entry = Shape
+      (record { kind = s.kind; members = numbers; properties = s.properties });
+}
 
 same_entry : (s : GraphShape) (ids names : List (List ℕ)) (traits given : NodeMap) → ids ≡ names → given ≡ traits
-    → Path (List ℕ × Entry) (s.id, shape_entry (record { kind = s.kind; members = names; properties = node_of s.properties; traits = given }))
+    → Path (List ℕ × Entry) (
+      s.id,
+      shape_entry (record {
+        kind = s.kind;
+        members = names;
+        properties = node_of s.properties;
+        traits =
+            given;
+      }),
+    )
     (s.id, shape_entry (record { kind = s.kind; members = ids; properties = node_of s.properties; traits = traits }))
 same_entry s ids names traits given e f =
     ap (λ m. (s.id, shape_entry (record { kind = s.kind; members = m; properties = node_of s.properties; traits = given }))) (sym e)
@@ -62,7 +76,8 @@ module _ (s : GraphShape) (traits : Pairs) (numbers : List ℕ) (old rows : List
       are_ids = refl;
       rise = h.rise;
       members = h.members;
-      entries = λ before long. subst (λ e. IsPermutation (given_shape (shape_given_view s)) (e ∷ map (row_entry (before ++ s.id ∷ ids_of rows)) rows))
+      entries = λ before long. subst (λ e. IsPermutation (given_shape (shape_given_view s))
+          (e ∷ map (row_entry (before ++ s.id ∷ ids_of rows)) rows))
           (first_entry before long) (IsPermutation-cons _ _ _ (h.entries (before ++ s.id ∷ ids_of rows)));
       sound = sound_rows _ (omega arith);
     };

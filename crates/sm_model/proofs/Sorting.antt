@@ -26,7 +26,8 @@ pub map_moved : {V : Type 0} (es fs : List (List ℕ × V)) → IsPermutation es
     → is_sorted text_cmp fs ≡ true → Path (fin.FinMap text_cmp V) (fin.from_entries es) (fin.from_sorted fs)
 map_moved es fs moved differ sorted =
     same_map nat_list_cmp_total (slice_cmp-IsAntisymmetric nat_cmp-IsAntisymmetric) _ _
-    (λ q. get-from_entries nat_list_cmp_total es q ∙ same_found es fs moved differ q ∙ sym (get-from_sorted text_cmp fs q (passes _ sorted)))
+    (λ q. get-from_entries nat_list_cmp_total es q ∙ same_found es fs moved differ q
+    ∙ sym (get-from_sorted text_cmp fs q (passes _ sorted)))
 
 module _ {T V : Type 0} (node : T → V) where
   abbrev view : List (List ℕ × T) → List (List ℕ × V)

@@ -18,7 +18,13 @@ ids_of rows = map id_of_row rows
 -- what stands under the id of a row; a shape's members are kept as numbers of rows
 abbrev pub entry_view : List (List ℕ) → NodeMap → RowEntry → Entry
 entry_view ids traits (Shape s) =
-    shape_entry (record { kind = s.kind; members = map (λ k. get_or ids k []) s.members; properties = node_of s.properties; traits = traits })
+    shape_entry (record {
+      kind = s.kind;
+      members = map (λ k. get_or ids k []) s.members;
+      properties = node_of s.properties;
+      traits =
+          traits;
+    })
 entry_view ids traits (Member target) = member_entry (record { target = target; traits = traits })
 
 abbrev pub row_entry : List (List ℕ) → Row → List ℕ × Entry

@@ -120,7 +120,8 @@ module _ (g : Graph) where
         at n.0 n.1 n.2 (either_way n.0 j) (either_way n.0 k)
       where
         own_at : (i : ℕ) → id_of_number g i ≡ detail → is_own_shape (maps_of g) (id_of_number g i) ≡ true
-        own_at i is = subst (λ x. is_own_shape (maps_of g) x ≡ true) (sym is) (told_own (maps_of g) detail h.least.holds.s h.least.holds.own)
+        own_at i is = subst (λ x. is_own_shape (maps_of g) x ≡ true) (sym is)
+            (told_own (maps_of g) detail h.least.holds.s h.least.holds.own)
 
         -- the twin stands before
         not_behind : (i : ℕ) → i < length (entries_of g) → id_of_number g i ≡ detail → ((i < k) ⊎ ((i ≡ k) ⊎ (k < i))) → i < k

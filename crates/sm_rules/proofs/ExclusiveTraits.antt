@@ -72,7 +72,8 @@ module _ (g : GraphMaps) (id : List ℕ) where
           w.1,
         )
 
-    group_back : (t : EventTold) (detail : List ℕ) (h : HasExclusiveTraits g id detail) → h.group ≡ group → t ≡ rule_event TraitConflict id detail
+    group_back : (t : EventTold) (detail : List ℕ) (h : HasExclusiveTraits g id detail) → h.group ≡ group
+        → t ≡ rule_event TraitConflict id detail
         → ToldOf (ToldGreater g id group) names t
     group_back t detail h here is =
         let greater : Contains group detail = subst (λ xs. Contains xs detail) here h.both.1 in

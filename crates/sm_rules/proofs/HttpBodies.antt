@@ -56,7 +56,8 @@ or_false false = refl
 
 module _ (g : GraphMaps) where
   -- at a member the tests are those of the definition
-  body_at : (id : List ℕ) (m : MemberEntry) → fin.get g.shapes id ≡ Some (member_entry m) → is_body_member g id ≡ is_in_body an_output m.traits
+  body_at : (id : List ℕ) (m : MemberEntry) → fin.get g.shapes id ≡ Some (member_entry m)
+      → is_body_member g id ≡ is_in_body an_output m.traits
   body_at id m is = ap at is ∙ same
     where
       carried : Option Entry → List ℕ → Bool
@@ -73,7 +74,8 @@ module _ (g : GraphMaps) where
 
   -- a shape with a member in the body
   abbrev pub HasBodyMember : List ℕ → Type 0
-  HasBodyMember shape = (id : List ℕ) × (s : ShapeEntry) × (m : MemberEntry) × IsMemberOf g shape s id m × (is_in_body an_output m.traits ≡ true)
+  HasBodyMember shape = (id : List ℕ) × (s : ShapeEntry) × (m : MemberEntry) × IsMemberOf g shape s id m
+      × (is_in_body an_output m.traits ≡ true)
 
   pub body_told : (shape : List ℕ) → has_body_member g shape ≡ true → HasBodyMember shape
   body_told shape h =

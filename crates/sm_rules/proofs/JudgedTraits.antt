@@ -180,7 +180,11 @@ module _ (rule : Rule) (wrong : Judgement) (g : GraphMaps) where
               s.kind,
               ap kind_in home.0,
               ap not home.1,
-              inr (id, subst (λ ids. Contains ids id) (sym (ap listed_in home.0)) h.member.among, (here, (trait, n, carries.1, (value, is)))),
+              inr (
+                id,
+                subst (λ ids. Contains ids id) (sym (ap listed_in home.0)) h.member.among,
+                (here, (trait, n, carries.1, (value, is))),
+              ),
             ),
           )
 

@@ -41,7 +41,9 @@ module _ {X : Type 0} (Told : X → EventTold → Type 0) where
       subst (λ ys. Puts (ToldOf Told ys) before now) (sym parts) (put_behind (take i xs) x before mid now h k)
 
   -- the same, where nothing else is known of it
-  pub put_place : (xs : List X) (i : ℕ) (d : X) → i < length xs → (before mid now : List ModelEvent) → Puts (ToldOf Told (take i xs)) before mid
+  pub put_place : (xs : List X) (i : ℕ) (d : X) → i < length xs → (before mid now : List ModelEvent)
+      → Puts (ToldOf Told (take i xs)) before mid
       → Puts (Told (get_or xs i d)) mid now → Puts (ToldOf Told (take (i + 1) xs)) before now
   put_place xs i d within before mid now h k =
-      subst (λ ys. Puts (ToldOf Told ys) before now) (sym (take_more xs i d within)) (put_behind (take i xs) (get_or xs i d) before mid now h k)
+      subst (λ ys. Puts (ToldOf Told ys) before now) (sym (take_more xs i d within))
+      (put_behind (take i xs) (get_or xs i d) before mid now h k)

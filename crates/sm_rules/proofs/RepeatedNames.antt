@@ -79,7 +79,8 @@ module _ (g : Graph) where
         (subst (λ o. IsSomeAnd o (λ (r : List ℕ × ℕ). ToldAfter (ToldRepeat g k) (fin.find text_cmp r.0 (take i (folded_rows g ns))) r.1 e))
         (slice_get-map (folded_row g) ns i) w)
       where
-        first : (n : ℕ) → slice_get ns i ≡ Some n → (o : Option ℕ) → fin.find text_cmp (folded (id_of_number g n)) (folded_rows g (take i ns)) ≡ o
+        first : (n : ℕ) → slice_get ns i ≡ Some n → (o : Option ℕ)
+            → fin.find text_cmp (folded (id_of_number g n)) (folded_rows g (take i ns)) ≡ o
             → ToldAfter (ToldRepeat g k) o n e → Told e
         first n at None is h = absurd h
         first n at (Some j) is (name, named, told) =
@@ -113,7 +114,8 @@ module _ (g : Graph) where
         by None at h = absurd h
         by (Some n) at h =
             first n at (fin.find text_cmp (folded (id_of_number g n)) (folded_rows g (take i ns))) refl
-            (subst (λ rs. ToldAfter (ToldRepeat g k) (fin.find text_cmp (folded (id_of_number g n)) rs) n e) (take-map (folded_row g) i ns) h)
+            (subst (λ rs. ToldAfter (ToldRepeat g k) (fin.find text_cmp (folded (id_of_number g n)) rs) n e)
+            (take-map (folded_row g) i ns) h)
 
     back : (e : EventTold) → Told e → Rows e
     back e (id, detail, h, same, is) =
@@ -130,7 +132,8 @@ module _ (g : Graph) where
             ∙ take-append_seam h.before (id ∷ h.behind.later)
 
         first : (n : ℕ) → id_of_number g n ≡ id → (o : Option ℕ)
-            → fin.find text_cmp (folded (id_of_number g n)) (folded_rows g (take (length h.before) ns)) ≡ o → ToldAfter (ToldRepeat g k) o n e
+            → fin.find text_cmp (folded (id_of_number g n)) (folded_rows g (take (length h.before) ns)) ≡ o
+            → ToldAfter (ToldRepeat g k) o n e
         first n named o found =
             by_first o
             (ap (option_map (id_of_number g)) (sym found) ∙ sym (found_folded (id_of_number g n) (take (length h.before) ns))
@@ -154,9 +157,11 @@ module _ (g : Graph) where
             let named = same_Some (id_of_number g n) id q in (
               i,
               slice_get_within (folded_rows g ns) i (folded_row g n) row,
-              subst (λ o. IsSomeAnd o (λ (r : List ℕ × ℕ). ToldAfter (ToldRepeat g k) (fin.find text_cmp r.0 (take i (folded_rows g ns))) r.1 e))
+              subst (λ o. IsSomeAnd o (λ (r : List ℕ × ℕ). ToldAfter (ToldRepeat g k)
+                  (fin.find text_cmp r.0 (take i (folded_rows g ns))) r.1 e))
                   (sym row)
-                  (subst (λ rs. ToldAfter (ToldRepeat g k) (fin.find text_cmp (folded (id_of_number g n)) rs) n e) (sym (take-map (folded_row g) i ns))
+                  (subst (λ rs. ToldAfter (ToldRepeat g k) (fin.find text_cmp (folded (id_of_number g n)) rs) n e)
+                  (sym (take-map (folded_row g) i ns))
                   (first n named (fin.find text_cmp (folded (id_of_number g n)) (folded_rows g (take i ns))) refl)),
             )
 
@@ -190,7 +195,8 @@ pub not_named : (g : Graph) (shape j k : ℕ) (es : List ModelEvent)
 not_named g shape j k es none = puts_none (ToldRepeat g shape j k) es (λ e t. none t.0 t.1)
 
 -- rows are of numbers of the graph
-pub rows_of_members : (g : Graph) (ns : List ℕ) → AreShapeNumbers g ns → (r : List ℕ × ℕ) → Contains (folded_rows g ns) r → IsShapeNumber g r.1
+pub rows_of_members : (g : Graph) (ns : List ℕ) → AreShapeNumbers g ns → (r : List ℕ × ℕ) → Contains (folded_rows g ns) r
+    → IsShapeNumber g r.1
 rows_of_members g [] all r h = absurd (contains_none r h)
 rows_of_members g (n ∷ ns) all r h = elim (contains_either (folded_row g n) r (folded_rows g ns) h) [
   | inl same ↦ subst (λ (x : List ℕ × ℕ). IsShapeNumber g x.1) same all.0

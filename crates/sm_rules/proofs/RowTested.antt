@@ -139,7 +139,8 @@ module _ (trait : List ℕ) (spot : Spot) where
       by true =
           filtered (row_takes_in spot) (λ r. has_form r.value n) (rows_of trait)
           ∙ filtered (λ r. list_any (bytes_eq trait) r.traits) (λ r. row_takes_in spot r && has_form r.value n) trait_rows
-          ∙ ap (λ (f : TraitRow → Bool). list_any (λ r. list_any (bytes_eq trait) r.traits && (f r && has_form r.value n)) trait_rows) (λ i r. takes r i)
+          ∙ ap (λ (f : TraitRow → Bool). list_any (λ r. list_any (bytes_eq trait) r.traits && (f r && has_form r.value n)) trait_rows)
+          (λ i r. takes r i)
       by false = filtered (λ r. list_any (bytes_eq trait) r.traits) (λ r. has_form r.value n) trait_rows
 
   pub value_judged : (n : Node) → is_wrong_value trait (stand_at spot) n ≡ (has_row trait && not (is_as_one (judging trait spot) n))

@@ -71,7 +71,11 @@ module _ (g : Graph) (services : List Bool)
       → AreUsed g marks
   used_by marks some image = record {
     whole = image.whole;
-    some = let k = any_marked services some in (id_of_number g k.0, own_service (maps_of g) (id_of_number g k.0) ((told.marked k.0).0 k.1).1);
+    some = let k = any_marked services some in (
+      id_of_number g k.0,
+      own_service (maps_of g) (id_of_number g k.0)
+          ((told.marked k.0).0 k.1).1,
+    );
     used = λ k h.
         let from = ((image.marked k).0 h).1 in
         (id_of_number g from.0, (own_service (maps_of g) (id_of_number g from.0) ((told.marked from.0).0 from.1).1, from.2));

@@ -97,7 +97,8 @@ module _ (g : Graph) where
           let a = h.1.0 in
           let r = h.1.2 in
           let k = number_of g r.0
-          (passes (id_of_number g a) r.0 (id_of_number g b) (in_graph g a (marked_number starts a whole h.1.1)) (in_graph g b h.0) r.1 r.2) in
+          (passes (id_of_number g a) r.0 (id_of_number g b) (in_graph g a (marked_number starts a whole h.1.1))
+          (in_graph g b h.0) r.1 r.2) in
           (second.marked b).1 (
             h.0,
             (

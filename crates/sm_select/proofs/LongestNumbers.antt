@@ -229,7 +229,8 @@ pub leads_more : (s : List ℕ) (at : ℕ) (phase next : Phase) → at < length 
 leads_more s at phase next less before here = subst (λ t. NumberLeads Start t next) (sym (prefix_more s at less))
     (leads_joined Start phase next (take at s) (get_or s at 0 ∷ []) before here)
 
-pub open_next : (s : List ℕ) (at : ℕ) → at < length s → run_open false (take (at + 1) s) ≡ run_after (run_open false (take at s)) (get_or s at 0)
+pub open_next : (s : List ℕ) (at : ℕ) → at < length s → run_open false (take (at + 1) s) ≡ run_after (run_open false (take at s))
+    (get_or s at 0)
 open_next s at less = ap (run_open false) (prefix_more s at less) ∙ open_more false (take at s) (get_or s at 0)
 
 -- all that is behind a place

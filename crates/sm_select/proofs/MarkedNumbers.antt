@@ -93,7 +93,8 @@ pub set_none : (old more : List Bool) (k : ℕ) → IsMarked old k ↔ (IsMarked
 set_none old more k = (λ h. inl h, λ h. elim h [ inl o ↦ o | inr m ↦ absurd (omega (arith, m.0)) ])
 
 pub set_all : (old more now : List Bool) (n : ℕ) → length more ≤ n
-    → ((k : ℕ) → IsMarked now k ↔ (IsMarked old k ⊎ ((k < n) × IsMarked more k))) → (k : ℕ) → IsMarked now k ↔ (IsMarked old k ⊎ IsMarked more k)
+    → ((k : ℕ) → IsMarked now k ↔ (IsMarked old k ⊎ ((k < n) × IsMarked more k))) → (k : ℕ)
+    → IsMarked now k ↔ (IsMarked old k ⊎ IsMarked more k)
 set_all old more now n all so k = (
   λ h. elim ((so k).0 h) [ inl o ↦ inl o | inr m ↦ inr m.1 ],
   λ h. (so k).1 (elim h [

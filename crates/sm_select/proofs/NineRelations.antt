@@ -77,7 +77,8 @@ turned_other : (m : GraphMaps) (back : Bool) (a b : List ℕ)
 turned_other m false a b = (λ h. h, λ h. h)
 turned_other m true a b = (λ h. h, λ h. h)
 
-pub other_image : (g : Graph) (back : Bool) (starts marks : List Bool) → AreImage g starts (turned (not back) (IsNeighbor (maps_of g))) marks
+pub other_image : (g : Graph) (back : Bool) (starts marks : List Bool)
+    → AreImage g starts (turned (not back) (IsNeighbor (maps_of g))) marks
     → AreImage g starts (turned back (λ from to. IsNeighbor (maps_of g) to from)) marks
 other_image g back starts marks are =
     image_as g starts marks (turned (not back) (IsNeighbor (maps_of g))) (turned back (λ from to. IsNeighbor (maps_of g) to from))

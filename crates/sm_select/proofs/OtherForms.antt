@@ -96,7 +96,8 @@ module _ (s : List ℕ) (none : opens_other s ≡ false) where
   no_category_form w refuted at none_of (variable rest f) = no_variable rest f
   no_category_form w refuted at none_of (scoped_or_back other) = no_scoped other
   no_category_form w refuted at none_of (function name rest behind f r known) = refuted rest f
-  no_category_form w refuted at none_of (category name behind r is) = none_of (subst (Contains categories) (one_run name s behind w r at) is)
+  no_category_form w refuted at none_of (category name behind r is) = none_of
+      (subst (Contains categories) (one_run name s behind w r at) is)
 
   -- the tests of the reader
   pub by_name : (more w : List ℕ) → s ≡ 58 ∷ more → IsRunAt more w → (b : Bool)

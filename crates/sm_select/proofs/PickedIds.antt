@@ -121,7 +121,8 @@ are_picked g steps starts marks begun are = record {
 }
 
 -- one number after the other
-pub marked_more : (ms : List Bool) (xs found now : List (List ℕ)) (k : ℕ) (m : Bool) (x : List ℕ) (rest : List Bool) (others : List (List ℕ))
+pub marked_more : (ms : List Bool) (xs found now : List (List ℕ)) (k : ℕ) (m : Bool) (x : List ℕ) (rest : List Bool)
+    (others : List (List ℕ))
     → drop k ms ≡ m ∷ rest → drop k xs ≡ x ∷ others → now ≡ found ++ marked_ids (m ∷ []) (x ∷ [])
     → found ++ marked_ids (drop k ms) (drop k xs) ≡ marked_ids ms xs
     → now ++ marked_ids rest others ≡ marked_ids ms xs

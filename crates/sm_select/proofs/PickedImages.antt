@@ -108,7 +108,8 @@ module _ (g : Graph) where
   -- the numbers from which something is picked are those from which all numbers are led to
   module _ (Leads : List ℕ → List ℕ → Type 0)
       (leads_in : (a b : List ℕ) → IsInGraph (maps_of g) a → Leads a b → IsInGraph (maps_of g) b) where
-    pub are_picking : (all marks : List Bool) → AreMarks (length (entries_of g)) (λ k. Unit {0}) all → AreImage g all (turned true Leads) marks
+    pub are_picking : (all marks : List Bool) → AreMarks (length (entries_of g)) (λ k. Unit {0}) all
+        → AreImage g all (turned true Leads) marks
         → ArePicking g Leads marks
     are_picking all marks every are = record {
       whole = are.whole;

@@ -114,7 +114,8 @@ only_close : {ss : List Step} {fs : List Frame} {path : Attribute} {op : Selecto
     → (a : Sign) × (x ≡ sign a)
 only_close compared_folded = (ClosePath, refl)
 
-fold_leads : {ss : List Step} {fs : List Frame} {path : Attribute} {op : SelectorOp} {vs : List (List ℕ)} {a : Sign} {q : Place} (s : List ℕ)
+fold_leads : {ss : List Step} {fs : List Frame} {path : Attribute} {op : SelectorOp} {vs : List (List ℕ)} {a : Sign} {q : Place}
+    (s : List ℕ)
     → stands ClosePath s ≡ false
     → first_sign behind_path_signs s ≡ Some a
     → Moves (behind_fold ss fs path op vs) (sign a) q
@@ -144,7 +145,8 @@ pub namespace_read : (ss : List Step) (fs : List Frame) (s r : List ℕ) → sta
     → SkipsWhite (drop (length (sign_text IdNamespace)) s) r
     → EndsWhite r
     → Passes (path_wanted ss fs) s (behind_path ss fs namespace_of) r
-namespace_read ss fs s r e gone dark = sign_passes (path_wanted ss fs) (behind_path ss fs namespace_of) IdNamespace s r e at_namespace gone dark
+namespace_read ss fs s r e gone dark = sign_passes (path_wanted ss fs)
+    (behind_path ss fs namespace_of) IdNamespace s r e at_namespace gone dark
 
 pub shape_name_read : (ss : List Step) (fs : List Frame) (s r : List ℕ) → stands IdName s ≡ true
     → SkipsWhite (drop (length (sign_text IdName)) s) r

@@ -97,7 +97,8 @@ pub names_refused : (len : ℕ) (ss : List Step) (fs : List Frame) (ns : List Re
     → Refuses len (behind_name ss fs ns) s e
 names_refused len ss fs ns s e no_comma no_close dark placed =
     flat_refused len (behind_name ss fs ns) s e (λ x. x) (λ steps x. x)
-    (signs_stop (behind_name ss fs ns) s (none_no_sign (behind_name ss fs ns) s (neither s no_comma no_close)) (λ x q m. only_signs m)) dark placed
+    (signs_stop (behind_name ss fs ns) s (none_no_sign (behind_name ss fs ns) s (neither s no_comma no_close)) (λ x q m. only_signs m))
+    dark placed
 
 -- one name more
 pub name_shorter : (ss : List Step) (fs : List Frame) (ns more : List Relation) (s r x : List ℕ)

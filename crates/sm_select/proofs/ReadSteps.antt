@@ -241,7 +241,8 @@ parse_refused text (OutOfProfile at) (q, rest, stuck, steps, other, placed) = le
 parse_refused text NoMemory h = tt
 
 -- a sign, and what follows it
-pub sign_read : (p q : Place) (a : Sign) (s r : List ℕ) → stands a s ≡ true → Moves p (sign a) q → SkipsWhite (drop (length (sign_text a)) s) r
+pub sign_read : (p q : Place) (a : Sign) (s r : List ℕ) → stands a s ≡ true → Moves p (sign a) q
+    → SkipsWhite (drop (length (sign_text a)) s) r
     → EndsWhite r
     → Passes p s q r × (length r < length s)
 sign_read p q a s r e m gone dark = (sign_passes p q a s r e m gone dark, sign_shorter a s r e gone)

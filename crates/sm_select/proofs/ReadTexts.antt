@@ -8,7 +8,8 @@ use Rattle.sm_select.specs.steps.Places.{value_wanted}
 use Rattle.sm_select.specs.steps.Places.{behind_value, Moves, of_trait, of_key, of_value}
 use Rattle.sm_select.specs.steps.Taking.{IsKeyToken, IsTraitToken, IsValueToken, LeadsBy}
 
-value_moves : {ss : List Step} {fs : List Frame} {path : Attribute} {op : SelectorOp} {vs : List (List ℕ)} {x : Piece} {n : Place} (t : Token)
+value_moves : {ss : List Step} {fs : List Frame} {path : Attribute} {op : SelectorOp} {vs : List (List ℕ)} {x : Piece} {n : Place}
+    (t : Token)
     → Moves (value_wanted ss fs path op vs) x n
     → ReadAs x t
     → (v : List ℕ) × IsValueToken v t

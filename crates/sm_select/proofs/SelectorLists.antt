@@ -71,9 +71,11 @@ module _ (g : Graph) where
       → ((k : ℕ) → (IsMarked marks k ⊎ IsInImage g starts (turned turn (PickedByOne (maps_of g)
       (alternatives_of (map steps_of (selector_views (drop i ss)))))) k) ↔ IsInImage g starts (turned turn (PickedByOne (maps_of g) all)) k)
       → (k : ℕ) → (IsMarked now k ⊎ IsInImage g starts (turned turn (PickedByOne (maps_of g)
-      (alternatives_of (map steps_of (selector_views (drop (i + 1) ss)))))) k) ↔ IsInImage g starts (turned turn (PickedByOne (maps_of g) all)) k
+      (alternatives_of (map steps_of (selector_views (drop (i + 1) ss)))))) k) ↔ IsInImage g starts (turned turn (PickedByOne
+      (maps_of g) all)) k
   any_step turn starts marks more now ss i x all lt is are too so =
-      any_more g turn starts marks more now (steps_of (selector_view x)) (alternatives_of (map steps_of (selector_views (drop (i + 1) ss)))) all
+      any_more g turn starts marks more now (steps_of (selector_view x))
+      (alternatives_of (map steps_of (selector_views (drop (i + 1) ss)))) all
       are too
       (subst (λ xs. (k : ℕ) → (IsMarked marks k ⊎ IsInImage g starts (turned turn (PickedByOne (maps_of g)
       (alternatives_of (map steps_of (selector_views xs))))) k) ↔ IsInImage g starts (turned turn (PickedByOne (maps_of g) all)) k)

@@ -73,7 +73,8 @@ none_listed (f ∷ fs) e h = cc
 pub no_comma_outside : (xs : List Step) (fs : List Frame) (n : Place) → fs ≡ [] → Moves (stepping xs fs) (sign Comma) n → ⊥
 no_comma_outside xs fs n e m = none_listed fs e (another_parts m).1
 
-pub no_comma_in_not : (xs outer : List Step) (all fs : List Frame) (n : Place) → all ≡ frame Not outer [] ∷ fs → Moves (stepping xs all) (sign Comma) n
+pub no_comma_in_not : (xs outer : List Step) (all fs : List Frame) (n : Place) → all ≡ frame Not outer [] ∷ fs
+    → Moves (stepping xs all) (sign Comma) n
     → ⊥
 no_comma_in_not xs outer all fs n e m = subst IsListedFirst e (another_parts m).1
 
@@ -88,13 +89,15 @@ comma_moves [] outer form done fs some listed = absurd (some refl)
 comma_moves (x ∷ xs) outer form done fs some listed = another listed
 
 -- the step that a form is
-pub is_held : (v : Selectors) (done : List Selector) (last : Selector) (xs : List Step) → selectors_view v ≡ selector_views (done ++ last ∷ [])
+pub is_held : (v : Selectors) (done : List Selector) (last : Selector) (xs : List Step)
+    → selectors_view v ≡ selector_views (done ++ last ∷ [])
     → selector_view last ≡ xs
     → step_view (is_step v) ≡ held Is (selector_views done ++ xs ∷ [])
 is_held v done last xs e f = step_is v ∙ ap (λ x. picked_by (alternatives_of (map steps_of x)))
     (e ∙ selectors_pushed done last ∙ ap (λ x. selector_views done ++ x ∷ []) f)
 
-pub test_held : (v : Selectors) (done : List Selector) (last : Selector) (xs : List Step) → selectors_view v ≡ selector_views (done ++ last ∷ [])
+pub test_held : (v : Selectors) (done : List Selector) (last : Selector) (xs : List Step)
+    → selectors_view v ≡ selector_views (done ++ last ∷ [])
     → selector_view last ≡ xs
     → step_view (test_step v) ≡ held Test (selector_views done ++ xs ∷ [])
 test_held v done last xs e f = step_test v ∙ ap (λ x. picks_some (alternatives_of (map steps_of x)))
@@ -104,7 +107,8 @@ pub not_held : (last : Selector) (xs : List Step) → selector_view last ≡ xs 
 not_held last xs f = step_not last ∙ ap (λ x. picks_none (steps_of x)) f
 
 -- the form that closed is a step behind those before it
-pub closed_moves : (form : Form) (xs outer now_steps : List Step) (done : List (List Step)) (all fs : List Frame) (step : Step) → (xs ≡ [] → ⊥)
+pub closed_moves : (form : Form) (xs outer now_steps : List Step) (done : List (List Step)) (all fs : List Frame) (step : Step)
+    → (xs ≡ [] → ⊥)
     → all ≡ frame form outer done ∷ fs
     → step ≡ held form (done ++ xs ∷ [])
     → now_steps ≡ outer
@@ -112,11 +116,13 @@ pub closed_moves : (form : Form) (xs outer now_steps : List Step) (done : List (
 closed_moves form xs outer now_steps done all fs step some e f g =
     subst (λ a. Moves (stepping xs a) (sign Close) (stepping (now_steps ++ step ∷ []) fs)) (sym e)
     (subst (λ s. Moves (stepping xs (frame form outer done ∷ fs)) (sign Close) (stepping (now_steps ++ s ∷ []) fs)) (sym f)
-    (subst (λ b. Moves (stepping xs (frame form outer done ∷ fs)) (sign Close) (stepping (b ++ held form (done ++ xs ∷ []) ∷ []) fs)) (sym g)
+    (subst (λ b. Moves (stepping xs (frame form outer done ∷ fs)) (sign Close) (stepping (b ++ held form (done ++ xs ∷ []) ∷ []) fs))
+    (sym g)
     (close_moves xs outer form done fs some)))
 
 -- a form that goes on holds the selector before the comma
-pub continued_moves : (form : Form) (xs outer : List Step) (done more : List (List Step)) (all fs : List Frame) → (xs ≡ [] → ⊥) → IsListed form
+pub continued_moves : (form : Form) (xs outer : List Step) (done more : List (List Step)) (all fs : List Frame) → (xs ≡ [] → ⊥)
+    → IsListed form
     → all ≡ frame form outer done ∷ fs
     → more ≡ done ++ xs ∷ []
     → Moves (stepping xs all) (sign Comma) (stepping [] (frame form outer more ∷ fs))
@@ -162,7 +168,8 @@ pub not_empty : {A : Type 0} (t : List A) (b : Bool) → b ≡ (length t == 0) �
 not_empty t b e f g = absurd (let h : true ≡ false = sym (ap (λ x. length x == 0) g) ∙ sym e ∙ f in cc)
 
 -- an answer that says yes, where the sign leads on
-then_moved : (p q now : Place) (a : Sign) (result : Result Bool SelectorRefusal) → Moves p (sign a) q → IsThen q now result → IsMoved p a now result
+then_moved : (p q now : Place) (a : Sign) (result : Result Bool SelectorRefusal) → Moves p (sign a) q → IsThen q now result
+    → IsMoved p a now result
 then_moved p q now a (Ok true) m is = subst (λ x. Moves p (sign a) x) (sym is) m
 then_moved p q now a (Ok false) m none = absurd none
 then_moved p q now a (Err (Syntax at)) m none = absurd none
@@ -185,12 +192,14 @@ pub form_closed : (form : Form) (ss : List SelectorStep) (old os forms : List Op
     → IsThen (stepping (step_views steps ++ step ∷ []) (frames_onto forms [])) now result
     → IsMoved (stepping (step_views ss) (frames_onto old [])) Close now result
 form_closed form ss old os forms o outer steps done step now result some e g f same rest is =
-    then_moved (stepping (step_views ss) (frames_onto old [])) (stepping (step_views steps ++ step ∷ []) (frames_onto forms [])) now Close result
+    then_moved (stepping (step_views ss) (frames_onto old []))
+    (stepping (step_views steps ++ step ∷ []) (frames_onto forms [])) now Close result
     (closed_moves form (step_views ss) (step_views outer) (step_views steps) done (frames_onto old []) (frames_onto forms []) step
     (some_steps ss some) (frames_popped old os forms o (frame form (step_views outer) done) e g rest) f (ap step_views same)) is
 
 -- the innermost form goes on
-pub form_continued : (form : Form) (ss : List SelectorStep) (old os forms : List OpenForm) (o longer : OpenForm) (outer steps : List SelectorStep)
+pub form_continued : (form : Form) (ss : List SelectorStep) (old os forms : List OpenForm) (o longer : OpenForm)
+    (outer steps : List SelectorStep)
     (done more : List (List Step)) (now : Place) (result : Result Bool SelectorRefusal) → (ss ≡ [] → ⊥)
     → IsListed form
     → old ≡ os ++ o ∷ []
@@ -202,15 +211,18 @@ pub form_continued : (form : Form) (ss : List SelectorStep) (old os forms : List
     → IsThen (stepping (step_views steps) (frame_of longer ∷ frames_onto forms [])) now result
     → IsMoved (stepping (step_views ss) (frames_onto old [])) Comma now result
 form_continued form ss old os forms o longer outer steps done more now result some listed e g f h none rest is =
-    then_moved (stepping (step_views ss) (frames_onto old [])) (stepping [] (frame form (step_views outer) more ∷ frames_onto forms [])) now Comma
+    then_moved (stepping (step_views ss) (frames_onto old []))
+    (stepping [] (frame form (step_views outer) more ∷ frames_onto forms [])) now Comma
     result
-    (continued_moves form (step_views ss) (step_views outer) done more (frames_onto old []) (frames_onto forms []) (some_steps ss some) listed
+    (continued_moves form (step_views ss) (step_views outer) done more (frames_onto old []) (frames_onto forms [])
+    (some_steps ss some) listed
     (frames_popped old os forms o (frame form (step_views outer) done) e g rest) f)
     (subst (λ x. IsThen (stepping x (frame form (step_views outer) more ∷ frames_onto forms [])) now result) (ap step_views none)
     (subst (λ x. IsThen (stepping (step_views steps) (x ∷ frames_onto forms [])) now result) h is))
 
 -- `:not(` goes on with no comma
-pub not_continued : (ss : List SelectorStep) (old os : List OpenForm) (o : OpenForm) (outer : List SelectorStep) (n : Place) → old ≡ os ++ o ∷ []
+pub not_continued : (ss : List SelectorStep) (old os : List OpenForm) (o : OpenForm) (outer : List SelectorStep) (n : Place)
+    → old ≡ os ++ o ∷ []
     → frame_of o ≡ frame Not (step_views outer) []
     → Moves (stepping (step_views ss) (frames_onto old [])) (sign Comma) n
     → ⊥
@@ -222,4 +234,5 @@ pub form_entered : (ss : List Step) (steps : List SelectorStep) (os now : List O
     → now ≡ os ++ o ∷ []
     → frame_of o ≡ f
     → stepping (step_views steps) (frames_onto now []) ≡ stepping [] (f ∷ frames_onto os [])
-form_entered ss steps os now o f none e g = form_held (step_views steps) os now o f e g ∙ ap (λ x. stepping (step_views x) (f ∷ frames_onto os [])) none
+form_entered ss steps os now o f none e g = form_held (step_views steps) os now o f e g
+    ∙ ap (λ x. stepping (step_views x) (f ∷ frames_onto os [])) none

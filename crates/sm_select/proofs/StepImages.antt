@@ -28,7 +28,8 @@ use Rattle.sm_select.proofs.PickedImages.{kept_none, kept_some}
 use Rattle.sm_select.proofs.SelectorViews.{step_any, step_named, step_has, step_compare, step_forward, step_back, step_walk, step_along}
 use Rattle.sm_select.proofs.SelectorViews.{step_is, step_not, step_test}
 
-module _ {T E : Type 0} (items : T → List Bool) (g : Graph) (turn : Bool) (starts : List Bool) (long : length starts ≡ length (entries_of g)) where
+module _ {T E : Type 0} (items : T → List Bool) (g : Graph) (turn : Bool) (starts : List Bool)
+    (long : length starts ≡ length (entries_of g)) where
   -- the result of a step is the image by a relation
   abbrev pub Comes : Result T E → (List ℕ → List ℕ → Type 0) → Type 0
   Comes r Leads = IfOk r (λ m. AreImage g starts (turned turn Leads) (items m))
@@ -46,7 +47,8 @@ module _ {T E : Type 0} (items : T → List Bool) (g : Graph) (turn : Bool) (sta
       IfOk-weaker r (λ m. AreKept g starts Holds (items m)) (λ m. AreImage g starts (turned turn Leads) (items m))
       (λ m kept. kept_image g Leads Holds stays turn starts (items m) long kept) h
 
-  pub comes_any : (v : SelectorStep) → v ≡ Any → (r : Result T E) → IfOk r (λ m. items m ≡ starts) → Comes r (Goes (maps_of g) (step_view v))
+  pub comes_any : (v : SelectorStep) → v ≡ Any → (r : Result T E) → IfOk r (λ m. items m ≡ starts)
+      → Comes r (Goes (maps_of g) (step_view v))
   comes_any v is r h =
       let Leads : List ℕ → List ℕ → Type 0 = λ from to. to ≡ from in
       let same : AreImage g starts (turned turn Leads) starts =
@@ -72,7 +74,8 @@ module _ {T E : Type 0} (items : T → List Bool) (g : Graph) (turn : Bool) (sta
       → Comes r (Goes (maps_of g) (step_view v))
   comes_compare v c is r h =
       told v (compares (path_view c.path) c.op c.values c.fold) (ap step_view is ∙ step_compare c) r
-      (kept_comes (Goes (maps_of g) (compares (path_view c.path) c.op c.values c.fold)) (λ id. Compares (maps_of g) id (path_view c.path) c.op c.fold (map (folded c.fold) c.values))
+      (kept_comes (Goes (maps_of g) (compares (path_view c.path) c.op c.values c.fold))
+      (λ id. Compares (maps_of g) id (path_view c.path) c.op c.fold (map (folded c.fold) c.values))
       (λ from to. (λ e. e, λ e. e)) r h)
 
   pub comes_forward : (v : SelectorStep) → v ≡ Forward → (r : Result T E) → Comes r (IsNeighbor (maps_of g))
@@ -107,7 +110,8 @@ module _ {T E : Type 0} (items : T → List Bool) (g : Graph) (turn : Bool) (sta
   comes_not v s is picking are r h =
       let Leads : List ℕ → List ℕ → Type 0 = Picks (maps_of g) (steps_of (selector_view s)) in
       told v (picks_none (steps_of (selector_view s))) (ap step_view is ∙ step_not s) r
-      (kept_comes (Goes (maps_of g) (picks_none (steps_of (selector_view s)))) (λ id. (other : List ℕ) → Leads id other → ⊥) (λ from to. (λ e. e, λ e. e)) r
+      (kept_comes (Goes (maps_of g) (picks_none (steps_of (selector_view s)))) (λ id. (other : List ℕ) → Leads id other → ⊥)
+      (λ from to. (λ e. e, λ e. e)) r
       (IfOk-weaker r (λ m. AreMarks (length starts) (λ k. IsMarked starts k × (get_or picking k false ≡ false)) (items m))
       (λ m. AreKept g starts (λ id. (other : List ℕ) → Leads id other → ⊥) (items m))
       (λ m marks. kept_none g Leads starts picking (items m) long are marks) h))
@@ -119,7 +123,8 @@ module _ {T E : Type 0} (items : T → List Bool) (g : Graph) (turn : Bool) (sta
   comes_test v ss is picking are r h =
       let Leads : List ℕ → List ℕ → Type 0 = PickedByOne (maps_of g) (alternatives_of (map steps_of (selectors_view ss))) in
       told v (picks_some (alternatives_of (map steps_of (selectors_view ss)))) (ap step_view is ∙ step_test ss) r
-      (kept_comes (Goes (maps_of g) (picks_some (alternatives_of (map steps_of (selectors_view ss))))) (λ id. (other : List ℕ) × Leads id other) (λ from to. (λ e. e, λ e. e)) r
+      (kept_comes (Goes (maps_of g) (picks_some (alternatives_of (map steps_of (selectors_view ss)))))
+      (λ id. (other : List ℕ) × Leads id other) (λ from to. (λ e. e, λ e. e)) r
       (IfOk-weaker r (λ m. AreMarks (length starts) (λ k. IsMarked starts k × (get_or picking k false ≡ true)) (items m))
       (λ m. AreKept g starts (λ id. (other : List ℕ) × Leads id other) (items m))
       (λ m marks. kept_some g Leads starts picking (items m) long are marks) h))

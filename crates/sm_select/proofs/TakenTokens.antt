@@ -111,5 +111,6 @@ module _ (K : List ℕ → Token → Type 0) (p : Place) (next : List ℕ → Pl
   none_stops s none t r q h l = let w = by.only t q l in none w.0 t r w.1 h
 
   pub none_refused : (len : ℕ) (s : List ℕ) (e : SelectorRefusal) → NoneAs K s → EndsWhite s → IsPlaced len s e → Refuses len p s e
-  none_refused len s e none dark placed = flat_refused len p s e by.flat (λ steps whole. by.flat (whole_steps p steps whole)) (none_stops s none)
+  none_refused len s e none dark placed = flat_refused len p s e by.flat (λ steps whole. by.flat (whole_steps p steps whole))
+      (none_stops s none)
       dark placed

@@ -274,7 +274,8 @@ pub longer_boundary : (s run more m : List ℕ) → IsRunAt s run → drop (leng
 longer_boundary s run more m at rest there some u =
     let r = some_run more m there some in boundary_of s run more m r.0 at rest r.1 u
 
-pub longer_found : (s run more m : List ℕ) → IsRunAt s run → drop (length run) s ≡ 36 ∷ more → IsRunAt more m → (m ≡ [] → ⊥) → (t b : List ℕ)
+pub longer_found : (s run more m : List ℕ) → IsRunAt s run → drop (length run) s ≡ 36 ∷ more → IsRunAt more m → (m ≡ [] → ⊥)
+    → (t b : List ℕ)
     → t ≡ take (length run + 1 + length m) s
     → b ≡ drop (length run + 1 + length m) s
     → (x : List ℕ) × (t ≡ run ++ 36 ∷ x) × (s ≡ t ++ b) × IsMemberRun s run x b

@@ -53,7 +53,8 @@ pub put_at : (k : ℕ) (v : Value) (fs : List (ℕ × Value)) (i : ℕ) → i �
     → each_field_view (insert fs i (k, v)) ≡ put_field k (val_of v) (each_field_view fs)
 put_at k v [] zero le low high = refl
 put_at k v [] (suc i) le low high = absurd (omega (arith, le))
-put_at k v (f ∷ fs) zero le low high = sym (put_high k (val_of v) (f.0, val_of f.1) (each_field_view fs) (high 0 f (omega arith) (omega arith)))
+put_at k v (f ∷ fs) zero le low high = sym (put_high k (val_of v) (f.0, val_of f.1) (each_field_view fs)
+    (high 0 f (omega arith) (omega arith)))
 put_at k v (f ∷ fs) (suc i) le low high =
     let more = put_at k v fs i (omega (arith, le)) (λ j d lt. low (suc j) d (omega (arith, lt)))
     (λ j d at lt. high (suc j) d (omega (arith, at)) (omega (arith, lt))) in
@@ -88,7 +89,8 @@ has_at k (f ∷ fs) zero low high rise =
     has_here k (f.0, val_of f.1) (each_field_view fs) (nat_eq f.0 k) refl (high 0 f (omega arith) (omega arith)) rise.0
 has_at k (f ∷ fs) (suc i) low high rise =
     ap (λ b. b || has_field k (each_field_view fs)) (apart_low f.0 k (low 0 f (omega arith)))
-    ∙ has_at k fs i (λ j d lt. low (suc j) d (omega (arith, lt))) (λ j d at lt. high (suc j) d (omega (arith, at)) (omega (arith, lt))) rise.1
+    ∙ has_at k fs i (λ j d lt. low (suc j) d (omega (arith, lt)))
+    (λ j d at lt. high (suc j) d (omega (arith, at)) (omega (arith, lt))) rise.1
 
 pub number_some : (k : ℕ) (fs : List (ℕ × Value)) (i : ℕ) (f : ℕ × Value) → slice_get fs i ≡ Some f → number_at k fs i ≡ nat_eq f.0 k
 number_some k [] i f h = absurd cc

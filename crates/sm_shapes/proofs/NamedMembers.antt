@@ -96,7 +96,8 @@ module _ (f : ℕ → List ℕ) (ordered : List ℕ) (rises : IsStrictlySortedBy
 
   in_order : IsSortedBy (λ a b. is_lt (slice_cmp nat_cmp (f a) (f b))) ordered
   in_order i d low lt =
-      ap is_lt (nat_list_cmp_total.antisymm (f (get_or ordered (i + 1) d)) (f (get_or ordered i d)) ∙ ap ordering_reverse (next_less i d lt))
+      ap is_lt (nat_list_cmp_total.antisymm (f (get_or ordered (i + 1) d)) (f (get_or ordered i d))
+      ∙ ap ordering_reverse (next_less i d lt))
 
   -- so the answers to a name rise, as a binary search asks
   pub searchable : (w : List ℕ) → IsNonDecreasingBy (λ k. ordering_index (slice_cmp nat_cmp (f k) w)) ordered

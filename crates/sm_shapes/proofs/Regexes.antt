@@ -25,7 +25,8 @@ use Rattle.sm_shapes.specs.Regexes.{Reading, reading, IsRegex, found_in, regex_f
 
 -- the crate's clause on what was read, at a depth of at most `most`
 abbrev IsReadAs : Reading → ℕ → Re → Names → Type 0
-IsReadAs o most re names = IsSomeAnd o (λ (read, found). (read.depth ≤ most) × SameCaptures re read.value × (names ≡ found) × (group_count re ≤ length names))
+IsReadAs o most re names = IsSomeAnd o (λ (read, found). (read.depth ≤ most) × SameCaptures re read.value × (names ≡ found)
+    × (group_count re ≤ length names))
 
 found_alike : (o : Reading) (most : ℕ) (re : Re) (names : Names) → IsReadAs o most re names
     → (text : List ℕ) → ((k : ℕ) → get_or text k 0 < 256) → is_some (find_str re text 0) ≡ found_in o text
@@ -42,7 +43,8 @@ unfolding Reads
 finds_as_written regex is_default is_read text bytes = found_alike _ _ _ _ (rw is_default at is_read) text bytes
 
 -- and that it is a pattern
-pub is_regex : (regex : Regex) (text : List ℕ) → regex_source regex ≡ text → regex_config regex ≡ default_config → IsReadFromSource regex → IsRegex text
+pub is_regex : (regex : Regex) (text : List ℕ) → regex_source regex ≡ text → regex_config regex ≡ default_config → IsReadFromSource regex
+    → IsRegex text
 unfolding Reads
 is_regex regex text is_source is_default is_read = depth_is _ _ _ _ (rw (is_source, is_default) at is_read)
 

@@ -101,7 +101,8 @@ module _ {X : Type 0} (key : X → Val) where
   none_like x (y ∷ ys) h zero d lt e = h.0 e
   none_like x (y ∷ ys) h (suc j) d lt e = none_like x ys h.1 j d (omega (arith, lt)) e
 
-  differ_at : (xs : List X) → AllUnlike (map key xs) → (i j : ℕ) (d : X) → i < j → j < length xs → key (get_or xs j d) ≡ key (get_or xs i d) → ⊥
+  differ_at : (xs : List X) → AllUnlike (map key xs) → (i j : ℕ) (d : X) → i < j → j < length xs
+      → key (get_or xs j d) ≡ key (get_or xs i d) → ⊥
   differ_at [] h i j d lt inside e = absurd (omega (arith, inside))
   differ_at (x ∷ xs) h i zero d lt inside e = absurd (omega (arith, lt))
   differ_at (x ∷ xs) h zero (suc j) d lt inside e = none_like x xs h.0 j d (omega (arith, inside)) e
@@ -130,7 +131,8 @@ module _ {X : Type 0} (key : X → Val) where
 
   -- where two neighbours don't rise, they are the same
   tied : (xs : List X) → IsSortedBy comes_before xs
-      → ((k : ℕ) × (k + 1 < length xs) × ((d : X) → false ≡ comes_before (get_or xs k d) (get_or xs (k + 1) d))) → AllUnlike (map key xs) → ⊥
+      → ((k : ℕ) × (k + 1 < length xs) × ((d : X) → false ≡ comes_before (get_or xs k d) (get_or xs (k + 1) d))) → AllUnlike (map key xs)
+      → ⊥
   tied [] up h unlike = absurd (omega (arith, h.1))
   tied (x ∷ xs) up h unlike =
       let k = h.0 in
@@ -147,7 +149,8 @@ module _ {X : Type 0} (key : X → Val) where
       sym (where_unlike (map key xs) (unlike_back (rising ys up told)))
     where
       unlike_back : AllUnlike (map key ys) → AllUnlike (map key xs)
-      unlike_back h = unlike_moved (map key ys) (map key xs) (IsPermutation-sym (map key xs) (map key ys) (IsPermutation-map key xs ys moved)) h
+      unlike_back h = unlike_moved (map key ys) (map key xs) (IsPermutation-sym (map key xs) (map key ys)
+          (IsPermutation-map key xs ys moved)) h
   twice_told xs ys false moved up told =
       sym (not_twice (has_twice (map key xs)) (λ none.
       tied ys up told (unlike_moved (map key xs) (map key ys) (IsPermutation-map key xs ys moved) (unlike_where (map key xs) none))))

@@ -25,7 +25,8 @@ abbrev word_cmp : Word → Word → Ordering
 word_cmp = then_cmp (on (λ w. w.0) nat_cmp) (then_cmp (on (λ w. w.1) int_cmp) (on (λ w. w.2) (slice_cmp nat_cmp)))
 
 words_total : IsTotalOrder (slice_cmp word_cmp)
-words_total = lists_total (then_total (on_total (λ w. w.0) nat_cmp_total) (then_total (on_total (λ w. w.1) int_cmp_total) (on_total (λ w. w.2) nat_list_cmp_total)))
+words_total = lists_total (then_total (on_total (λ w. w.0) nat_cmp_total)
+    (then_total (on_total (λ w. w.1) int_cmp_total) (on_total (λ w. w.2) nat_list_cmp_total)))
 
 abbrev sign : ℕ → Word
 sign k = (k, pos 0, [])
@@ -139,7 +140,8 @@ by_words v w = sym (words_then v w [] [] ∙ then_equal (val_cmp v w))
 pub values_in_order : ValuesInOrder
 values_in_order = record {
   antisymm = λ x y. by_words x y ∙ words_total.antisymm (words x []) (words y []) ∙ ap ordering_reverse (sym (by_words y x));
-  trans = λ x y z h g. by_words x z ∙ words_total.trans (words x []) (words y []) (words z []) (sym (by_words x y) ∙ h) (sym (by_words y z) ∙ g);
+  trans = λ x y z h g. by_words x z ∙ words_total.trans (words x []) (words y []) (words z []) (sym (by_words x y) ∙ h)
+      (sym (by_words y z) ∙ g);
   congr = λ x y z h. by_words x z ∙ words_total.congr (words x []) (words y []) (words z []) (sym (by_words x y) ∙ h) ∙ sym (by_words y z);
 }
 

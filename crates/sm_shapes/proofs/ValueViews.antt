@@ -13,13 +13,16 @@ use Rattle.sm_shapes.specs.declared.values.Value.TheVariants.{rolls-Map, Structu
 use Rattle.sm_shapes.specs.declared.values.Value.TheFolds.{fold-roll-Value, fold-roll-Items, fold-roll-Entries, fold-roll-Fields}
 
 pub view_items : (v : Items) → items_view v ≡ vals_view v.items.items
-view_items v = fold-roll-Items Val (List (List ℕ × Val)) (List (ℕ × Val)) (List Val) value_step entries_step fields_step items_step (record { items = v.items })
+view_items v = fold-roll-Items Val (List (List ℕ × Val)) (List (ℕ × Val)) (List Val) value_step entries_step fields_step items_step
+    (record { items = v.items })
 
 pub view_entries : (v : Entries) → entries_view v ≡ each_entry_view v.entries.items
-view_entries v = fold-roll-Entries Val (List (List ℕ × Val)) (List (ℕ × Val)) (List Val) value_step entries_step fields_step items_step (record { entries = v.entries })
+view_entries v = fold-roll-Entries Val (List (List ℕ × Val)) (List (ℕ × Val)) (List Val) value_step entries_step fields_step items_step
+    (record { entries = v.entries })
 
 pub view_fields : (v : Fields) → fields_view v ≡ each_field_view v.fields.items
-view_fields v = fold-roll-Fields Val (List (List ℕ × Val)) (List (ℕ × Val)) (List Val) value_step entries_step fields_step items_step (record { fields = v.fields })
+view_fields v = fold-roll-Fields Val (List (List ℕ × Val)) (List (ℕ × Val)) (List Val) value_step entries_step fields_step items_step
+    (record { fields = v.fields })
 
 pub null_value : val_of Null ≡ null_val
 null_value = search (rules, the_lemmas)

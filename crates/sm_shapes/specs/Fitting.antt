@@ -78,9 +78,11 @@ abbrev mutual
   Fits t test p (blob_val u) = IsOfKind (kind_of t p) (blob_val u) × MeetsConstraints t test p (blob_val u)
   Fits t test p (time_val ms) = IsOfKind (kind_of t p) (time_val ms) × MeetsConstraints t test p (time_val ms)
   Fits t test p (list_val vs) =
-      (kind_of t p ≡ a_list) × MeetsConstraints t test p (list_val vs) × (unique_of t p ≡ true → AllUnlike (each_val vs)) × FitEntries t test p vs
+      (kind_of t p ≡ a_list) × MeetsConstraints t test p (list_val vs) × (unique_of t p ≡ true → AllUnlike (each_val vs))
+      × FitEntries t test p vs
   Fits t test p (map_val es) =
-      (kind_of t p ≡ a_map) × MeetsConstraints t test p (map_val es) × IsStrictlySortedBy (slice_cmp nat_cmp) (keys_of es) × FitPairs t test p es
+      (kind_of t p ≡ a_map) × MeetsConstraints t test p (map_val es) × IsStrictlySortedBy (slice_cmp nat_cmp) (keys_of es)
+      × FitPairs t test p es
   Fits t test p (structure_val fs) = (kind_of t p ≡ Structure) × FitFields t test (members_of_place t p) fs
   Fits t test p (union_val k v) =
       (kind_of t p ≡ Union) × Contains (members_of_place t p) k × Fits t test (member_place k) v
@@ -101,4 +103,5 @@ abbrev mutual
   pub FitFields : TableData → Test → List ℕ → FieldVals → Type 0
   FitFields t test ks no_fields = MayBeAbsent t ks
   FitFields t test ks (field k v fs) =
-      (skipped rest : List ℕ) × (ks ≡ skipped ++ k ∷ rest) × MayBeAbsent t skipped × Fits t test (member_place k) v × FitFields t test rest fs
+      (skipped rest : List ℕ) × (ks ≡ skipped ++ k ∷ rest) × MayBeAbsent t skipped × Fits t test (member_place k) v
+      × FitFields t test rest fs

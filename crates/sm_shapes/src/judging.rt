@@ -31,7 +31,8 @@ impl Constraints {
 
     /// `Range` where a number lies outside the bounds, else `Enum` where it is none of an intEnum's. No memory.
     pub fn judge_number(&self, kind: ShapeKind, number: i64) -> Option<FaultKind>
-        ensures { result ≡ first_broken (range_broken (constraint_data self.now) number ++ number_broken kind (constraint_data self.now).numbers number) }
+        ensures { result ≡ first_broken (range_broken (constraint_data self.now) number ++ number_broken kind
+            (constraint_data self.now).numbers number) }
     {
         if !self.is_between(number) {
             return Some(FaultKind::Range);
@@ -73,7 +74,8 @@ impl Constraints {
     ) -> Result<Option<FaultKind>, NoMemory>
         requires stored { AreStored (table_data table.now).patterns (P.added patterns.old) }
         requires named { NamesPattern (table_data table.now) (constraint_data self.now).pattern }
-        ensures first { IfOk result (λ first. first ≡ first_broken (pattern_broken (finder (table_data table.now) P.test) (constraint_data self.now).pattern text.now)) }
+        ensures first { IfOk result (λ first. first ≡ first_broken
+            (pattern_broken (finder (table_data table.now) P.test) (constraint_data self.now).pattern text.now)) }
         ensures added { P.added patterns.new ≡ P.added patterns.old }
         ensures refused { P.refused patterns.new ≡ P.refused patterns.old }
         ensures refusals { P.refusals patterns.new ≡ P.refusals patterns.old }
@@ -116,7 +118,9 @@ impl Constraints {
     ) -> Result<Option<FaultKind>, NoMemory>
         requires stored { AreStored (table_data table.now).patterns (P.added patterns.old) }
         requires named { NamesPattern (table_data table.now) (constraint_data self.now).pattern }
-        ensures first { IfOk result (λ first. first ≡ first_broken (pattern_broken (finder (table_data table.now) P.test) (constraint_data self.now).pattern text.now ++ text_broken kind (constraint_data self.now).texts text.now)) }
+        ensures first { IfOk result (λ first. first ≡ first_broken
+            (pattern_broken (finder (table_data table.now) P.test) (constraint_data self.now).pattern text.now ++ text_broken kind
+            (constraint_data self.now).texts text.now)) }
         ensures added { P.added patterns.new ≡ P.added patterns.old }
         ensures refused { P.refused patterns.new ≡ P.refused patterns.old }
         ensures refusals { P.refusals patterns.new ≡ P.refusals patterns.old }
@@ -138,7 +142,9 @@ impl Constraints {
     ) -> Result<Option<FaultKind>, NoMemory>
         requires stored { AreStored (table_data table.now).patterns (P.added patterns.old) }
         requires named { NamesPattern (table_data table.now) (constraint_data self.now).pattern }
-        ensures first { IfOk result (λ first. first ≡ first_broken (length_broken (constraint_data self.now) (length (chars text.now)) ++ pattern_broken (finder (table_data table.now) P.test) (constraint_data self.now).pattern text.now ++ text_broken kind (constraint_data self.now).texts text.now)) }
+        ensures first { IfOk result (λ first. first ≡ first_broken
+            (length_broken (constraint_data self.now) (length (chars text.now)) ++ pattern_broken (finder (table_data table.now) P.test)
+            (constraint_data self.now).pattern text.now ++ text_broken kind (constraint_data self.now).texts text.now)) }
         ensures added { P.added patterns.new ≡ P.added patterns.old }
         ensures refused { P.refused patterns.new ≡ P.refused patterns.old }
         ensures refusals { P.refusals patterns.new ≡ P.refusals patterns.old }
@@ -160,7 +166,8 @@ impl Constraints {
     ) -> Result<Option<FaultKind>, NoMemory>
         requires stored { AreStored (table_data table.now).patterns (P.added patterns.old) }
         requires named { NamesPattern (table_data table.now) (constraint_data self.now).pattern }
-        ensures first { IfOk result (λ first. first ≡ first_broken (broken (finder (table_data table.now) P.test) kind (constraint_data self.now) (val_of value.now))) }
+        ensures first { IfOk result (λ first. first ≡ first_broken
+            (broken (finder (table_data table.now) P.test) kind (constraint_data self.now) (val_of value.now))) }
         ensures added { P.added patterns.new ≡ P.added patterns.old }
         ensures refused { P.refused patterns.new ≡ P.refused patterns.old }
         ensures refusals { P.refusals patterns.new ≡ P.refusals patterns.old }

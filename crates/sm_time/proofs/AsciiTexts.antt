@@ -29,7 +29,8 @@ all_ascii bs = list_all (λ b. nat_lt b 128) bs
 ascii_where : (bs : List ℕ) → all_ascii bs ≡ true → IsAscii bs
 ascii_where [] h = IsAscii-nil
 ascii_where (b ∷ bs) h =
-    IsAscii-cons b bs ((Decides-ltb b 128).0 (and_first (nat_lt b 128) (all_ascii bs) h)) (ascii_where bs (and_second (nat_lt b 128) (all_ascii bs) h))
+    IsAscii-cons b bs ((Decides-ltb b 128).0 (and_first (nat_lt b 128) (all_ascii bs) h))
+    (ascii_where bs (and_second (nat_lt b 128) (all_ascii bs) h))
 
 name_ascii : (names : List (List ℕ)) (i : ℕ) → list_all all_ascii names ≡ true → IsAscii (slice_index_or names i [])
 name_ascii [] i h = IsAscii-nil
@@ -37,10 +38,12 @@ name_ascii (n ∷ ns) zero h = ascii_where n (and_first (all_ascii n) (list_all 
 name_ascii (n ∷ ns) (suc i) h = name_ascii ns i (and_second (all_ascii n) (list_all all_ascii ns) h)
 
 two_ascii : (n : ℕ) → n < 100 → IsAscii (two_digits n)
-two_ascii n h = IsAscii-cons (digit_zero + n / 10) ((digit_zero + n % 10) ∷ []) (omega (arith, h)) (IsAscii-cons (digit_zero + n % 10) [] (omega (arith, h)) IsAscii-nil)
+two_ascii n h = IsAscii-cons (digit_zero + n / 10) ((digit_zero + n % 10) ∷ []) (omega (arith, h))
+    (IsAscii-cons (digit_zero + n % 10) [] (omega (arith, h)) IsAscii-nil)
 
 four_ascii : (n : ℕ) → n ≤ 9999 → IsAscii (four_digits n)
-four_ascii n h = IsAscii-append (two_digits (n / 100)) (two_digits (n % 100)) (two_ascii (n / 100) (omega (arith, h))) (two_ascii (n % 100) (omega (arith, h)))
+four_ascii n h = IsAscii-append (two_digits (n / 100)) (two_digits (n % 100)) (two_ascii (n / 100) (omega (arith, h)))
+    (two_ascii (n % 100) (omega (arith, h)))
 
 small_day : (n m : ℕ) → n ≤ m → m < 100 → n < 100
 small_day n m h g = omega (arith, h, g)
@@ -64,7 +67,8 @@ three_ascii xs s ys e h g = IsAscii-append (xs ++ s) ys (IsAscii-append xs s h (
 date_ascii : (c : Civil) → IsCivil c → IsAscii (full_date c)
 date_ascii c h =
     three_ascii (four_digits c.year ++ dash ++ two_digits c.month) dash (two_digits c.day) refl
-    (three_ascii (four_digits c.year) dash (two_digits c.month) refl (four_ascii c.year h.0.0) (two_ascii c.month (small_day c.month 12 h.0.2 (omega arith))))
+    (three_ascii (four_digits c.year) dash (two_digits c.month) refl (four_ascii c.year h.0.0)
+    (two_ascii c.month (small_day c.month 12 h.0.2 (omega arith))))
     (two_ascii c.day (small_day c.day (days_in_month c.year c.month) h.0.4 (month_days c.year c.month)))
 
 day_time_ascii : (c : Civil) → IsCivil c → IsAscii (time_of_day c)

@@ -74,7 +74,8 @@ clock_back letter c rest h =
     let second = two_back c.second (omega (arith, h.3)) in
     λ i. record { year = year i; month = month i; day = day i; hour = hour i; minute = minute i; second = second i }
 
-same_clock : (letter : ℕ) (c d : Civil) (ds es : List ℕ) (z y : Zone) → c ≡ d → ds ≡ es → z ≡ y → clock_form letter c ds z ≡ clock_form letter d es y
+same_clock : (letter : ℕ) (c d : Civil) (ds es : List ℕ) (z y : Zone) → c ≡ d → ds ≡ es → z ≡ y
+    → clock_form letter c ds z ≡ clock_form letter d es y
 same_clock letter c d ds es z y a b e = λ i. clock_form letter (a i) (b i) (e i)
 
 pub date_time_back : (letter : ℕ) (c : Civil) (ds : List ℕ) (z : Zone) → IsStampForm DateTime (clock_form letter c ds z)

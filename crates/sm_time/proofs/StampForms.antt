@@ -45,19 +45,23 @@ date_decides : (d : Date) → Decides (is_date d) (IsDate d)
 date_decides d =
     let days = at_most d.day (days_in_month d.year d.month) in
     let from_one = Decides-and (nat_le 1 d.day) (nat_le d.day (days_in_month d.year d.month)) (at_most 1 d.day) days in
-    let months = Decides-and (nat_le d.month 12) (nat_le 1 d.day && nat_le d.day (days_in_month d.year d.month)) (at_most d.month 12) from_one in
+    let months = Decides-and (nat_le d.month 12) (nat_le 1 d.day && nat_le d.day (days_in_month d.year d.month))
+    (at_most d.month 12) from_one in
     let first =
-    Decides-and (nat_le 1 d.month) (nat_le d.month 12 && (nat_le 1 d.day && nat_le d.day (days_in_month d.year d.month))) (at_most 1 d.month) months in
+    Decides-and (nat_le 1 d.month) (nat_le d.month 12 && (nat_le 1 d.day && nat_le d.day (days_in_month d.year d.month)))
+    (at_most 1 d.month) months in
     let all =
     Decides-and (nat_le d.year 9999)
-    (nat_le 1 d.month && (nat_le d.month 12 && (nat_le 1 d.day && nat_le d.day (days_in_month d.year d.month)))) (at_most d.year 9999) first in
+    (nat_le 1 d.month && (nat_le d.month 12 && (nat_le 1 d.day && nat_le d.day (days_in_month d.year d.month))))
+    (at_most d.year 9999) first in
     Decides-like (is_date d) (λ h. (h.0, h.1.0, h.1.1.0, h.1.1.1.0, h.1.1.1.1)) (λ h. (h.0, (h.1, (h.2, (h.3, h.4))))) all
 
 civil_decides : (d : Civil) → Decides (is_civil d) (IsCivil d)
 civil_decides d =
     let seconds = Decides-and (nat_lt d.minute 60) (nat_lt d.second 60) (Decides-ltb d.minute 60) (Decides-ltb d.second 60) in
     let hours = Decides-and (nat_lt d.hour 24) (nat_lt d.minute 60 && nat_lt d.second 60) (Decides-ltb d.hour 24) seconds in
-    let all = Decides-and (is_date (date_in d)) (nat_lt d.hour 24 && (nat_lt d.minute 60 && nat_lt d.second 60)) (date_decides (date_in d)) hours in
+    let all = Decides-and (is_date (date_in d)) (nat_lt d.hour 24 && (nat_lt d.minute 60 && nat_lt d.second 60))
+    (date_decides (date_in d)) hours in
     Decides-like (is_civil d) (λ h. (h.0, h.1.0, h.1.1.0, h.1.1.1)) (λ h. (h.0, (h.1, (h.2, h.3)))) all
 
 zone_decides : (z : Zone) → Decides (is_zone z) (IsZone z)
@@ -130,7 +134,8 @@ form_decides DateTime (clock_form letter d digits zone) =
     let tail = Decides-and (are_digits digits) (is_zone zone) (digits_decide digits) (zone_decides zone) in
     let rest = Decides-and (is_civil d) (are_digits digits && is_zone zone) (civil_decides d) tail in
     let all =
-    Decides-and ((letter == capital_t) || (letter == small_t)) (is_civil d && (are_digits digits && is_zone zone)) (letter_decides letter) rest in
+    Decides-and ((letter == capital_t) || (letter == small_t)) (is_civil d && (are_digits digits && is_zone zone))
+    (letter_decides letter) rest in
     Decides-like (is_form DateTime (clock_form letter d digits zone)) (λ h. (h.0, h.1.0, h.1.1.0, h.1.1.1))
     (λ h. (h.0, (h.1, (h.2, h.3)))) all
 form_decides DateTime (gmt_form d) = no_form (λ h. h)

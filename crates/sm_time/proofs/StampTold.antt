@@ -38,8 +38,10 @@ all_pass format t form shown whole range =
 -- and what they hold of is shown
 passed : (format : Format) (t : List ℕ) (form : Form) → tests format t form ≡ true → TimeText format (moment form) t
 passed format t form h =
-    let shown = and_first (is_form format form && bytes_eq t (form_text form)) (is_whole_millis (digits_of form) && is_stamp (moment form)) h in
-    let last = and_second (is_form format form && bytes_eq t (form_text form)) (is_whole_millis (digits_of form) && is_stamp (moment form)) h in (
+    let shown = and_first (is_form format form && bytes_eq t (form_text form))
+    (is_whole_millis (digits_of form) && is_stamp (moment form)) h in
+    let last = and_second (is_form format form && bytes_eq t (form_text form))
+    (is_whole_millis (digits_of form) && is_stamp (moment form)) h in (
       form,
       (
         (form_decides format form).0 (and_first (is_form format form) (bytes_eq t (form_text form)) shown),

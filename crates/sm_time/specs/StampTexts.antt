@@ -62,10 +62,26 @@ month_in t i = month_of (take 3 (drop i t))
 
 -- what the clock shows in `2000-02-29T08:49:37`, and in `Sun, 06 Nov 1994 08:49:37 GMT`
 abbrev pub clock_in : List ℕ → Civil
-clock_in t = record { year = four_in t 0; month = two_in t 5; day = two_in t 8; hour = two_in t 11; minute = two_in t 14; second = two_in t 17 }
+clock_in t = record {
+  year = four_in t 0;
+  month = two_in t 5;
+  day = two_in t 8;
+  hour = two_in t 11;
+  minute = two_in t 14;
+  second = two_in
+      t 17;
+}
 
 abbrev pub gmt_in : List ℕ → Civil
-gmt_in t = record { year = four_in t 12; month = month_in t 8; day = two_in t 5; hour = two_in t 17; minute = two_in t 20; second = two_in t 23 }
+gmt_in t = record {
+  year = four_in t 12;
+  month = month_in t 8;
+  day = two_in t 5;
+  hour = two_in t 17;
+  minute = two_in t 20;
+  second =
+      two_in t 23;
+}
 
 abbrev pub is_negative_in : List ℕ → Bool
 is_negative_in [] = false

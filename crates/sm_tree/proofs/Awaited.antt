@@ -161,7 +161,8 @@ in_a_pair ms k ts n xs gs h =
     (sym (append_assoc (each_pair_events ms) (key_event k ∷ tag_events ts) xs) ∙ opened.1) in
     value_of behind.0 behind.1
   where
-    value_of : (rest : Members) → key_event k ∷ (tag_events ts ++ xs) ≡ pairs_events rest gs → (m : Node) × (hs : List NodeEvent) × (xs ≡ events m hs)
+    value_of : (rest : Members) → key_event k ∷ (tag_events ts ++ xs) ≡ pairs_events rest gs
+        → (m : Node) × (hs : List NodeEvent) × (xs ≡ events m hs)
     value_of no_members e = absurd cc
     value_of (member j m rest) e =
         let value : tag_events ts ++ xs ≡ events m (pairs_events rest gs) = cc in
@@ -173,7 +174,8 @@ in_an_object : (ms : List (List ℕ × Node)) (n : Node) (e : NodeEvent) (fs gs 
     → start_object None ∷ (each_pair_events ms ++ e ∷ fs) ≡ events n gs
     → ((k : List ℕ) × (e ≡ key_event k)) ⊎ (e ≡ end_object)
 in_an_object ms n e fs gs h =
-    let opened : (rest : Members) × (each_pair_events ms ++ e ∷ fs ≡ pairs_events rest gs) = object_opened n (each_pair_events ms ++ e ∷ fs) gs h in
+    let opened : (rest : Members) × (each_pair_events ms ++ e ∷ fs ≡ pairs_events rest gs) = object_opened n
+    (each_pair_events ms ++ e ∷ fs) gs h in
     let behind : (rest : Members) × (e ∷ fs ≡ pairs_events rest gs) = behind_pairs ms opened.0 (e ∷ fs) gs opened.1 in
     next_of behind.0 behind.1
   where
@@ -213,7 +215,8 @@ behind_outer : (outer : List Around) (n : Node) (xs gs : List NodeEvent) → Ope
 behind_outer [] n xs gs opens h = (n, gs, h)
 behind_outer (a ∷ outer) n xs gs opens h =
     let around : (m : Node) × (hs : List NodeEvent) × (around_events a ++ xs ≡ events m hs) =
-    behind_outer outer n (around_events a ++ xs) gs (opened_around a xs) (sym (append_assoc (outer_events outer) (around_events a) xs) ∙ h) in
+    behind_outer outer n (around_events a ++ xs) gs (opened_around a xs)
+    (sym (append_assoc (outer_events outer) (around_events a) xs) ∙ h) in
     behind_around a around.0 xs around.1 opens around.2
 
 -- what the innermost awaits
@@ -261,7 +264,8 @@ placed_awaited b e (es, stands, begins) =
     let is : unnumbered ((es ++ e ∷ []) ++ more) ≡ events n [] = stream_events n ((es ++ e ∷ []) ++ more) [] stream in
     let parts : unnumbered ((es ++ e ∷ []) ++ more) ≡ unnumbered es ++ unnumbered_event e ∷ unnumbered more =
     ap unnumbered (append_assoc es (e ∷ []) more) ∙ unnumbered_append es (e ∷ more) in
-    next_awaited b (unnumbered_event e) (unnumbered more) n (ap (λ fs. fs ++ unnumbered_event e ∷ unnumbered more) (sym stands) ∙ sym parts ∙ is)
+    next_awaited b (unnumbered_event e) (unnumbered more) n (ap (λ fs. fs ++ unnumbered_event e ∷ unnumbered more) (sym stands)
+    ∙ sym parts ∙ is)
 
 -- where it takes the event, it stands for the longer stream
 pub taken_on : (b c : Building) (e : NodeEvent) → so_far c ≡ so_far b ++ unnumbered_event e ∷ []
@@ -296,7 +300,8 @@ inner_open (in_object ms) n gs h =
     let inside = object_opened n (each_pair_events ms) gs h in
     let rest = behind_pairs ms inside.0 [] gs (append-nil (each_pair_events ms) ∙ inside.1) in no_pairs_end rest.0 gs rest.1
 inner_open (in_pair ms k us) n gs h =
-    let tree = in_a_pair ms k us n [] gs (ap (λ es. start_object None ∷ es) (append-nil (each_pair_events ms ++ key_event k ∷ tag_events us)) ∙ h) in
+    let tree = in_a_pair ms k us n [] gs (ap (λ es. start_object None ∷ es)
+    (append-nil (each_pair_events ms ++ key_event k ∷ tag_events us)) ∙ h) in
     no_tree tree.0 tree.1 tree.2
 
 pub whole_closed : (b : Building) (n : Node) → so_far b ≡ events n [] → (kinds b ≡ []) × (awaits_value b ≡ false)

@@ -22,7 +22,8 @@ each_events_more (m ∷ ns) n =
     ∙ ap (λ es. es ++ events n []) (sym (events_append m (each_events ns)))
 
 -- one more pair
-pub each_pair_events_more : (ms : List (List ℕ × Node)) (k : List ℕ) (n : Node) → each_pair_events (ms ++ (k, n) ∷ []) ≡ each_pair_events ms ++ (key_event k ∷ events n [])
+pub each_pair_events_more : (ms : List (List ℕ × Node)) (k : List ℕ) (n : Node)
+    → each_pair_events (ms ++ (k, n) ∷ []) ≡ each_pair_events ms ++ (key_event k ∷ events n [])
 each_pair_events_more [] k n = refl
 each_pair_events_more (m ∷ ms) k n = ap (λ es. key_event m.0 ∷ es)
     (ap (λ es. events m.1 es) (each_pair_events_more ms k n)
@@ -75,7 +76,8 @@ MayEnd (in_pair ms k ts) = ⊥
 
 pub ended_events : (i : Inner) → MayEnd i → events (ended i) [] ≡ inner_events i ++ (end_of i ∷ [])
 ended_events (in_list ns ts) may =
-    let tags : each_events ns ++ tag_events ts ≡ each_events ns = ap (λ us. each_events ns ++ tag_events us) may ∙ append-nil (each_events ns) in
+    let tags : each_events ns ++ tag_events ts ≡ each_events ns = ap (λ us. each_events ns ++ tag_events us) may
+    ∙ append-nil (each_events ns) in
     ap (λ es. start_list None ∷ es) (entries_then_end ns ∙ ap (λ es. es ++ (end_list ∷ [])) (sym tags))
 ended_events (in_object ms) may = ap (λ es. start_object None ∷ es) (pairs_then_end ms)
 ended_events (in_pair ms k ts) may = absurd may
@@ -130,16 +132,19 @@ more_behind ts outer es fs gs e =
 pub value_taken : (b : Building) (n : Node) → awaits_value b ≡ true → so_far (after_value n b) ≡ so_far b ++ events n []
 value_taken (nothing ts) n awaits = tagged_events ts n []
 value_taken (whole m) n awaits = absurd cc
-value_taken (within ts i outer) n awaits = more_behind ts outer (inner_events i) (events n []) (inner_events (with_tree n i)) (with_tree_events i n awaits)
+value_taken (within ts i outer) n awaits = more_behind ts outer (inner_events i) (events n []) (inner_events (with_tree n i))
+    (with_tree_events i n awaits)
 
 -- a tag
 pub tag_taken : (b : Building) (t : ℕ) → awaits_value b ≡ true → so_far (after_tag t b) ≡ so_far b ++ tag_event t ∷ []
 tag_taken (nothing ts) t awaits = tag_events_more ts t
 tag_taken (whole m) t awaits = absurd cc
-tag_taken (within ts i outer) t awaits = more_behind ts outer (inner_events i) (tag_event t ∷ []) (inner_events (with_tag t i)) (with_tag_events i t awaits)
+tag_taken (within ts i outer) t awaits = more_behind ts outer (inner_events i) (tag_event t ∷ []) (inner_events (with_tag t i))
+    (with_tag_events i t awaits)
 
 -- the end of what is open
-pub end_taken : (ts : List ℕ) (i : Inner) (outer : List Around) → MayEnd i → so_far (after_end (within ts i outer)) ≡ so_far (within ts i outer) ++ (end_of i ∷ [])
+pub end_taken : (ts : List ℕ) (i : Inner) (outer : List Around) → MayEnd i
+    → so_far (after_end (within ts i outer)) ≡ so_far (within ts i outer) ++ (end_of i ∷ [])
 end_taken ts i [] may =
     tagged_events ts (ended i) [] ∙ more_behind ts [] (inner_events i) (end_of i ∷ []) (events (ended i) []) (ended_events i may)
 end_taken ts i (a ∷ outer) may =
@@ -165,7 +170,8 @@ end_list_taken (within ts (in_list ns us) outer) is_in settled = end_taken ts (i
 end_list_taken (within ts (in_object ms) outer) is_in settled = absurd cc
 end_list_taken (within ts (in_pair ms k us) outer) is_in settled = absurd cc
 
-pub end_object_taken : (b : Building) → IsIn an_object (kinds b) → awaits_value b ≡ false → so_far (after_end b) ≡ so_far b ++ (end_object ∷ [])
+pub end_object_taken : (b : Building) → IsIn an_object (kinds b) → awaits_value b ≡ false
+    → so_far (after_end b) ≡ so_far b ++ (end_object ∷ [])
 end_object_taken (nothing ts) is_in unnamed = absurd is_in
 end_object_taken (whole n) is_in unnamed = absurd is_in
 end_object_taken (within ts (in_list ns us) outer) is_in unnamed = absurd cc

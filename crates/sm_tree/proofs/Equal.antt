@@ -149,8 +149,16 @@ pair_equal p q = pointwise nat_eq p.0 q.0 && equal p.1 q.1
 pairs_decide : (k : ℕ) → DecidesBelow k → (ps qs : List (List ℕ × Tree)) → members_weight (members_of (members_view ps)) < k
     → Decides (pointwise pair_equal ps qs) (members_of (members_view ps) ≡ members_of (members_view qs))
 pairs_decide k below [] [] h = (λ e. refl, λ e. refl)
-pairs_decide k below [] (q ∷ qs) h = (λ e. absurd (true≢false (sym e)), λ e. let bad : 0 ≡ 1 = ap pairs_size e in absurd (omega (arith, bad)))
-pairs_decide k below (p ∷ ps) [] h = (λ e. absurd (true≢false (sym e)), λ e. let bad : 1 ≡ 0 = ap pairs_size e in absurd (omega (arith, bad)))
+pairs_decide k below [] (q ∷ qs) h = (
+  λ e. absurd (true≢false (sym e)),
+  λ e. let bad : 0 ≡ 1 = ap pairs_size e in absurd
+      (omega (arith, bad)),
+)
+pairs_decide k below (p ∷ ps) [] h = (
+  λ e. absurd (true≢false (sym e)),
+  λ e. let bad : 1 ≡ 0 = ap pairs_size e in absurd
+      (omega (arith, bad)),
+)
 pairs_decide k below (p ∷ ps) (q ∷ qs) h =
     let names = slice_eq-Decides unsigned_Decides p.0 q.0 (pointwise nat_eq p.0 q.0) refl in
     let weighs : weight (node_of p.1) + members_weight (members_of (members_view ps)) + 1 < k = h in
@@ -161,7 +169,8 @@ pairs_decide k below (p ∷ ps) (q ∷ qs) h =
           ap (λ t. member t (node_of p.1) (members_of (members_view ps))) (names.0 parts.0)
           ∙ ap (λ n. member q.0 n (members_of (members_view ps))) (one.0 parts.1)
           ∙ ap (member q.0 (node_of q.1)) (more.0 here.1),
-      λ e. and_from (pair_equal p q) (pointwise pair_equal ps qs) (and_from (pointwise nat_eq p.0 q.0) (equal p.1 q.1) (names.1 (ap name e)) (one.1 (ap value e))) (more.1 (ap others e)),
+      λ e. and_from (pair_equal p q) (pointwise pair_equal ps qs)
+          (and_from (pointwise nat_eq p.0 q.0) (equal p.1 q.1) (names.1 (ap name e)) (one.1 (ap value e))) (more.1 (ap others e)),
     )
 
 texts_decide : (s t : List ℕ) → Decides (pointwise nat_eq s t) (s ≡ t)
@@ -188,7 +197,8 @@ strings_decide : (s u : List ℕ) → Decides (tree.unfolded (roll-Tree (Tree-F.
 unfolding out-Tree denote.Hole.Carrier.out roll-Tree denote.Hole.Carrier.roll
 strings_decide s u = (λ t. ap bytes ((texts_decide s u).0 t), λ p. (texts_decide s u).1 (ap text_in p))
 
-tags_decide : (k : ℕ) → DecidesBelow k → (j l : ℕ) (s u : Box Tree Global) → weight (node_of s.value) < k → Decides (tree.unfolded (roll-Tree (Tree-F.Tag j s)) (roll-Tree (Tree-F.Tag l u))) (tag j (node_of s.value) ≡ tag l (node_of u.value))
+tags_decide : (k : ℕ) → DecidesBelow k → (j l : ℕ) (s u : Box Tree Global) → weight (node_of s.value) < k
+    → Decides (tree.unfolded (roll-Tree (Tree-F.Tag j s)) (roll-Tree (Tree-F.Tag l u))) (tag j (node_of s.value) ≡ tag l (node_of u.value))
 unfolding out-Tree denote.Hole.Carrier.out roll-Tree denote.Hole.Carrier.roll
 tags_decide k below j l s u h =
     let inside = below s.value u.value h in (
@@ -210,29 +220,34 @@ abbrev object_in : Pairs → Tree-F Tree Items Pairs → Pairs
 object_in v (Tree-F.Object w) = w
 object_in v d = v
 
-lists_equal : (v w : Items) → tree.unfolded (roll-Tree (Tree-F.List v)) (roll-Tree (Tree-F.List w)) ≡ pointwise equal v.items.items w.items.items
+lists_equal : (v w : Items) → tree.unfolded (roll-Tree (Tree-F.List v))
+    (roll-Tree (Tree-F.List w)) ≡ pointwise equal v.items.items w.items.items
 unfolding out-Tree denote.Hole.Carrier.out roll-Tree denote.Hole.Carrier.roll
 lists_equal v w =
     ap (λ d. tree.family member-Items (items_in v d) (items_in w (out-Tree (roll-Tree (Tree-F.List w))))) (out-roll-Tree (Tree-F.List v))
     ∙ ap (λ d. tree.family member-Items v (items_in w d)) (out-roll-Tree (Tree-F.List w))
     ∙ compared_is the_members the_family the_depth Bool true trees.the_step tree.local member-Items v w
 
-objects_equal : (v w : Pairs) → tree.unfolded (roll-Tree (Tree-F.Object v)) (roll-Tree (Tree-F.Object w)) ≡ pointwise pair_equal v.pairs.items w.pairs.items
+objects_equal : (v w : Pairs) → tree.unfolded (roll-Tree (Tree-F.Object v))
+    (roll-Tree (Tree-F.Object w)) ≡ pointwise pair_equal v.pairs.items w.pairs.items
 unfolding out-Tree denote.Hole.Carrier.out roll-Tree denote.Hole.Carrier.roll
 objects_equal v w =
-    ap (λ d. tree.family member-Pairs (object_in v d) (object_in w (out-Tree (roll-Tree (Tree-F.Object w))))) (out-roll-Tree (Tree-F.Object v))
+    ap (λ d. tree.family member-Pairs (object_in v d) (object_in w (out-Tree (roll-Tree (Tree-F.Object w)))))
+    (out-roll-Tree (Tree-F.Object v))
     ∙ ap (λ d. tree.family member-Pairs v (object_in w d)) (out-roll-Tree (Tree-F.Object w))
     ∙ compared_is the_members the_family the_depth Bool true trees.the_step tree.local member-Pairs v w
 
 lists_decide : (k : ℕ) → DecidesBelow k → (v w : Items) → nodes_weight (nodes_of (nodes_view v.items.items)) < k
-    → Decides (tree.unfolded (roll-Tree (Tree-F.List v)) (roll-Tree (Tree-F.List w))) (list (nodes_of (nodes_view v.items.items)) ≡ list (nodes_of (nodes_view w.items.items)))
+    → Decides (tree.unfolded (roll-Tree (Tree-F.List v)) (roll-Tree (Tree-F.List w)))
+    (list (nodes_of (nodes_view v.items.items)) ≡ list (nodes_of (nodes_view w.items.items)))
 unfolding out-Tree denote.Hole.Carrier.out roll-Tree denote.Hole.Carrier.roll
 lists_decide k below v w h =
     let inside = entries_decide k below v.items.items w.items.items h in
     (λ t. ap list (inside.0 (sym (lists_equal v w) ∙ t)), λ p. lists_equal v w ∙ inside.1 (ap entries_in p))
 
 objects_decide : (k : ℕ) → DecidesBelow k → (v w : Pairs) → members_weight (members_of (members_view v.pairs.items)) < k
-    → Decides (tree.unfolded (roll-Tree (Tree-F.Object v)) (roll-Tree (Tree-F.Object w))) (object (members_of (members_view v.pairs.items)) ≡ object (members_of (members_view w.pairs.items)))
+    → Decides (tree.unfolded (roll-Tree (Tree-F.Object v)) (roll-Tree (Tree-F.Object w)))
+    (object (members_of (members_view v.pairs.items)) ≡ object (members_of (members_view w.pairs.items)))
 unfolding out-Tree denote.Hole.Carrier.out roll-Tree denote.Hole.Carrier.roll
 objects_decide k below v w h =
     let inside = pairs_decide k below v.pairs.items w.pairs.items h in
@@ -271,7 +286,8 @@ rolled_decide k below d e h =
 decided : (k : ℕ) → DecidesBelow k
 decided zero a b h = absurd (omega (arith, h))
 decided (suc k) a b h =
-    let whole = rolled_decide k (λ c d i. decided k c d i) (out-Tree a) (out-Tree b) (subst (λ t. weight (node_of t) < k + 1) (sym (roll-out-Tree a)) (omega (arith, h))) in
+    let whole = rolled_decide k (λ c d i. decided k c d i) (out-Tree a) (out-Tree b)
+    (subst (λ t. weight (node_of t) < k + 1) (sym (roll-out-Tree a)) (omega (arith, h))) in
     subst (λ t. Decides (equal a t) (node_of a ≡ node_of t)) (roll-out-Tree b)
     (subst (λ t. Decides (equal t (roll-Tree (out-Tree b))) (node_of t ≡ node_of (roll-Tree (out-Tree b)))) (roll-out-Tree a) whole)
 

@@ -82,12 +82,14 @@ mutual
       (ap object both.0, both.1)
   events_injective (object ns) _ es fs h = absurd cc
 
-  pub entries_events_injective : (ns ms : Nodes) (es fs : List NodeEvent) → entries_events ns es ≡ entries_events ms fs → (ns ≡ ms) × (es ≡ fs)
+  pub entries_events_injective : (ns ms : Nodes) (es fs : List NodeEvent) → entries_events ns es ≡ entries_events ms fs
+      → (ns ≡ ms) × (es ≡ fs)
   entries_events_injective no_nodes no_nodes es fs h = (refl, cc)
   entries_events_injective no_nodes (node m ms) es fs h = absurd (not_an_end m (entries_events ms fs) es h)
   entries_events_injective (node n ns) no_nodes es fs h = absurd (not_an_end n (entries_events ns es) fs (sym h))
   entries_events_injective (node n ns) (node m ms) es fs h =
-      let first : (n ≡ m) × (entries_events ns es ≡ entries_events ms fs) = events_injective n m (entries_events ns es) (entries_events ms fs) h in
+      let first : (n ≡ m) × (entries_events ns es ≡ entries_events ms fs) = events_injective n m (entries_events ns es)
+      (entries_events ms fs) h in
       let others : (ns ≡ ms) × (es ≡ fs) = entries_events_injective ns ms es fs first.1 in
       (ap (λ k. node k ns) first.0 ∙ ap (λ ks. node m ks) others.0, others.1)
 
@@ -98,6 +100,7 @@ mutual
   pairs_events_injective (member k n ns) (member l m ms) es fs h =
       let name : k ≡ l = cc in
       let rest : events n (pairs_events ns es) ≡ events m (pairs_events ms fs) = cc in
-      let first : (n ≡ m) × (pairs_events ns es ≡ pairs_events ms fs) = events_injective n m (pairs_events ns es) (pairs_events ms fs) rest in
+      let first : (n ≡ m) × (pairs_events ns es ≡ pairs_events ms fs) = events_injective n m (pairs_events ns es)
+      (pairs_events ms fs) rest in
       let others : (ns ≡ ms) × (es ≡ fs) = pairs_events_injective ns ms es fs first.1 in
       (ap (λ j. member j n ns) name ∙ ap (λ j. member l j ns) first.0 ∙ ap (λ js. member l m js) others.0, others.1)

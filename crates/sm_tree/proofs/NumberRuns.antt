@@ -44,8 +44,10 @@ pub prefix_grows : (bs : List ℕ) (i k : ℕ) → i < length bs → k ≤ lengt
     → take (i + 1 + k) bs ≡ take i bs ++ (get_or bs i 0 ∷ take k (take (length bs - (i + 1)) (drop (i + 1) bs)))
 prefix_grows bs i k lt few =
     let one : take (i + 1) bs ≡ take i bs ++ get_or bs i 0 ∷ [] = grind (arith, common_steps) in
-    let rest : take k (take (length bs - (i + 1)) (drop (i + 1) bs)) ≡ take k (drop (i + 1) bs) = take-take k (length bs - (i + 1)) (drop (i + 1) bs) few in
-    take-add (i + 1) k bs ∙ ap (λ s. s ++ take k (drop (i + 1) bs)) one ∙ append_assoc (take i bs) (get_or bs i 0 ∷ []) (take k (drop (i + 1) bs)) ∙ ap (λ s. take i bs ++ (get_or bs i 0 ∷ s)) (sym rest)
+    let rest : take k (take (length bs - (i + 1)) (drop (i + 1) bs)) ≡ take k (drop (i + 1) bs) = take-take k (length bs - (i + 1))
+    (drop (i + 1) bs) few in
+    take-add (i + 1) k bs ∙ ap (λ s. s ++ take k (drop (i + 1) bs)) one
+    ∙ append_assoc (take i bs) (get_or bs i 0 ∷ []) (take k (drop (i + 1) bs)) ∙ ap (λ s. take i bs ++ (get_or bs i 0 ∷ s)) (sym rest)
 
 pub run_leads : (p q r : Phase) (bs : List ℕ) (i k : ℕ) → i < length bs → k ≤ length bs - (i + 1) → NumberLeads p (take i bs) q
     → NumberLeads q (get_or bs i 0 ∷ []) r → NumberLeads r (take k (take (length bs - (i + 1)) (drop (i + 1) bs))) r
@@ -54,7 +56,9 @@ run_leads p q r bs i k lt few before here behind = let rest = take k (take (leng
     subst (λ s. NumberLeads p s r) (sym (prefix_grows bs i k lt few))
     (leads_joined p q r (take i bs) (get_or bs i 0 ∷ rest) before (leads_joined q r r (get_or bs i 0 ∷ []) rest here behind))
 
-pub run_bytes : (bs : List ℕ) (i k : ℕ) → i < length bs → k ≤ length bs - (i + 1) → AreNumberBytes (take i bs) → IsNumberByte (get_or bs i 0) → AreDigits (take k (take (length bs - (i + 1)) (drop (i + 1) bs))) → AreNumberBytes (take (i + 1 + k) bs)
+pub run_bytes : (bs : List ℕ) (i k : ℕ) → i < length bs → k ≤ length bs - (i + 1) → AreNumberBytes (take i bs)
+    → IsNumberByte (get_or bs i 0) → AreDigits (take k (take (length bs - (i + 1)) (drop (i + 1) bs)))
+    → AreNumberBytes (take (i + 1 + k) bs)
 run_bytes bs i k lt few before here behind = let rest = take k (take (length bs - (i + 1)) (drop (i + 1) bs)) in
     subst AreNumberBytes (sym (prefix_grows bs i k lt few))
     (bytes_joined (take i bs) (get_or bs i 0 ∷ rest) before (here, digits_are_bytes rest behind))

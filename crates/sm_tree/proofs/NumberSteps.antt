@@ -64,7 +64,8 @@ no_minus c q e = ne_eqb c 45 (λ is. absurd (none_is_some q (sym (ap after_minus
     none_is_some q e = cc
 
 -- an arc of the table: its test held, or a later one's arc was taken
-arc : (R : Phase → Type 0) (b : Bool) (p q : Phase) (other : Option Phase) → cond b (Some p) other ≡ Some q → (b ≡ true → R p) → (b ≡ false → other ≡ Some q → R q) → R q
+arc : (R : Phase → Type 0) (b : Bool) (p q : Phase) (other : Option Phase) → cond b (Some p) other ≡ Some q → (b ≡ true → R p)
+    → (b ≡ false → other ≡ Some q → R q) → R q
 arc R true p q other e here later = let same : p ≡ q = cc in subst R same (here refl)
 arc R false p q other e here later = later refl e
 
@@ -95,7 +96,8 @@ from_minus c u t = begun (then_split IsInt (Then IsFraction IsExponent) c u t)
       record { first = t.first; rest = t.rest; parts = t.parts; is_first = digits; is_rest = t.is_rest },
     )
 
-    begun : (IsInt [] × Then IsFraction IsExponent (c ∷ u)) ⊎ Then (λ s. IsInt (c ∷ s)) (Then IsFraction IsExponent) u → Goes (after_minus c) u
+    begun : (IsInt [] × Then IsFraction IsExponent (c ∷ u)) ⊎ Then (λ s. IsInt (c ∷ s)) (Then IsFraction IsExponent) u
+        → Goes (after_minus c) u
     begun (inl h) = absurd (no_int h.0)
     begun (inr t) = by_first t (int_begins c t.first t.is_first)
 
@@ -146,7 +148,8 @@ other_arc b q other u e h = goes_along _ _ u (cond-false b (Some q) other e) h
 from_whole : (c : ℕ) (u : List ℕ) → NumberTail Whole (c ∷ u) → Goes (next_of Whole c) u
 from_whole c u t = begun (then_split AreDigits (Then IsFraction IsExponent) c u t)
   where
-    begun : (AreDigits [] × Then IsFraction IsExponent (c ∷ u)) ⊎ Then (λ s. AreDigits (c ∷ s)) (Then IsFraction IsExponent) u → Goes (next_of Whole c) u
+    begun : (AreDigits [] × Then IsFraction IsExponent (c ∷ u)) ⊎ Then (λ s. AreDigits (c ∷ s)) (Then IsFraction IsExponent) u
+        → Goes (next_of Whole c) u
     begun (inl h) = other_arc (is_digit c) Whole (after_zero c) u (no_digit_at_zero c u h.1) (from_zero c u h.1)
     begun (inr t) = digit_arc c Whole (after_zero c) u t.is_first.0
         (then_first (λ s. AreDigits (c ∷ s)) AreDigits (Then IsFraction IsExponent) u (λ s h. h.1) t)
@@ -177,7 +180,8 @@ from_exponent c u t = begun (then_split IsSign IsDigits c u t)
   where
     digit : IsDigits (c ∷ u) → Goes (next_of Exponent c) u
     digit h = let parts = digits_begin c u h in let no_sign : ((c == 43) || (c == 45)) ≡ false = no_sign_test c parts.0 in
-        other_arc ((c == 43) || (c == 45)) ExponentSign (cond (is_digit c) (Some ExponentDigits) None) u no_sign (digit_arc c ExponentDigits None u parts.0 parts.1)
+        other_arc ((c == 43) || (c == 45)) ExponentSign (cond (is_digit c) (Some ExponentDigits) None) u no_sign
+        (digit_arc c ExponentDigits None u parts.0 parts.1)
 
     sign : (c ≡ 45) ⊎ (c ≡ 43) → IsDigits u → Goes (next_of Exponent c) u
     sign (inl e) h = (ExponentSign, subst (λ d. next_of Exponent d ≡ Some ExponentSign) (sym e) refl, h)
@@ -259,7 +263,8 @@ to_fraction c q u e = arc (Comes Fraction c u) (is_digit c) Fraction q (cond (is
 to_exponent : (c : ℕ) (q : Phase) (u : List ℕ) → next_of Exponent c ≡ Some q → Comes Exponent c u q
 to_exponent c q u e = arc (Comes Exponent c u) ((c == 43) || (c == 45)) ExponentSign q (cond (is_digit c) (Some ExponentDigits) None) e
     (λ sign t. record { first = c ∷ []; rest = u; parts = refl; is_first = signed (test_sign c sign); is_rest = t })
-    (λ _ e. last_arc (Comes Exponent c u) (is_digit c) ExponentDigits q e (λ digit t. then_none IsSign IsDigits (c ∷ u) (inl refl) (digits_more c u (test_digit c digit) t)))
+    (λ _ e. last_arc (Comes Exponent c u) (is_digit c) ExponentDigits q e
+    (λ digit t. then_none IsSign IsDigits (c ∷ u) (inl refl) (digits_more c u (test_digit c digit) t)))
   where
     signed : (c ≡ 45) ⊎ (c ≡ 43) → IsSign (c ∷ [])
     signed (inl e) = inr (inl (ap (λ d. d ∷ []) e))
@@ -279,7 +284,8 @@ comes_from Whole c q u e = to_whole c q u e
 comes_from Point c q u e = to_point c q u e
 comes_from Fraction c q u e = to_fraction c q u e
 comes_from Exponent c q u e = to_exponent c q u e
-comes_from ExponentSign c q u e = last_arc (Comes ExponentSign c u) (is_digit c) ExponentDigits q e (λ digit t. digits_more c u (test_digit c digit) t)
+comes_from ExponentSign c q u e = last_arc (Comes ExponentSign c u) (is_digit c) ExponentDigits q e
+    (λ digit t. digits_more c u (test_digit c digit) t)
 comes_from ExponentDigits c q u e = last_arc (Comes ExponentDigits c u) (is_digit c) ExponentDigits q e (λ digit t. (test_digit c digit, t))
 
 -- both, for the table as it stands in the code
@@ -305,10 +311,12 @@ letter_byte : (c : ℕ) (q : Phase) → cond (is_letter c) (Some Exponent) None 
 letter_byte c q e = last_arc (λ _. IsNumberByte c) (is_letter c) Exponent q e (λ letter. inr (inr (inr (inr (test_letter c letter)))))
 
 zero_byte : (c : ℕ) (q : Phase) → after_zero c ≡ Some q → IsNumberByte c
-zero_byte c q e = arc (λ _. IsNumberByte c) (c == 46) Point q (cond (is_letter c) (Some Exponent) None) e (λ point. inr (inr (inr (inl (test_equal c 46 point))))) (λ _ e. letter_byte c q e)
+zero_byte c q e = arc (λ _. IsNumberByte c) (c == 46) Point q (cond (is_letter c) (Some Exponent) None) e
+    (λ point. inr (inr (inr (inl (test_equal c 46 point))))) (λ _ e. letter_byte c q e)
 
 minus_byte : (c : ℕ) (q : Phase) → after_minus c ≡ Some q → IsNumberByte c
-minus_byte c q e = arc (λ _. IsNumberByte c) (c == 48) Zero q (cond (is_digit c) (Some Whole) None) e (λ zero. zero_is_digit c (test_equal c 48 zero)) (λ _ e. last_arc (λ _. IsNumberByte c) (is_digit c) Whole q e (digit_byte c))
+minus_byte c q e = arc (λ _. IsNumberByte c) (c == 48) Zero q (cond (is_digit c) (Some Whole) None) e
+    (λ zero. zero_is_digit c (test_equal c 48 zero)) (λ _ e. last_arc (λ _. IsNumberByte c) (is_digit c) Whole q e (digit_byte c))
   where
     zero_is_digit : (c : ℕ) → c ≡ 48 → IsNumberByte c
     zero_is_digit c e = inl (omega arith, omega arith)
@@ -321,13 +329,17 @@ sign_byte c e = either (test_sign c e)
     either (inr e) = inr (inr (inl e))
 
 pub next_byte : (p : Phase) (c : ℕ) (q : Phase) → next_of p c ≡ Some q → IsNumberByte c
-next_byte Start c q e = arc (λ _. IsNumberByte c) (c == 45) Minus q (after_minus c) e (λ minus. inr (inl (test_equal c 45 minus))) (λ _ e. minus_byte c q e)
+next_byte Start c q e = arc (λ _. IsNumberByte c) (c == 45) Minus q (after_minus c) e (λ minus. inr (inl (test_equal c 45 minus)))
+    (λ _ e. minus_byte c q e)
 next_byte Minus c q e = minus_byte c q e
 next_byte Zero c q e = zero_byte c q e
 next_byte Whole c q e = arc (λ _. IsNumberByte c) (is_digit c) Whole q (after_zero c) e (digit_byte c) (λ _ e. zero_byte c q e)
 next_byte Point c q e = last_arc (λ _. IsNumberByte c) (is_digit c) Fraction q e (digit_byte c)
-next_byte Fraction c q e = arc (λ _. IsNumberByte c) (is_digit c) Fraction q (cond (is_letter c) (Some Exponent) None) e (digit_byte c) (λ _ e. letter_byte c q e)
-next_byte Exponent c q e = arc (λ _. IsNumberByte c) ((c == 43) || (c == 45)) ExponentSign q (cond (is_digit c) (Some ExponentDigits) None) e (sign_byte c) (λ _ e. last_arc (λ _. IsNumberByte c) (is_digit c) ExponentDigits q e (digit_byte c))
+next_byte Fraction c q e = arc (λ _. IsNumberByte c) (is_digit c) Fraction q (cond (is_letter c) (Some Exponent) None) e (digit_byte c)
+    (λ _ e. letter_byte c q e)
+next_byte Exponent c q e = arc (λ _. IsNumberByte c) ((c == 43) || (c == 45)) ExponentSign q
+    (cond (is_digit c) (Some ExponentDigits) None) e (sign_byte c)
+    (λ _ e. last_arc (λ _. IsNumberByte c) (is_digit c) ExponentDigits q e (digit_byte c))
 next_byte ExponentSign c q e = last_arc (λ _. IsNumberByte c) (is_digit c) ExponentDigits q e (digit_byte c)
 next_byte ExponentDigits c q e = last_arc (λ _. IsNumberByte c) (is_digit c) ExponentDigits q e (digit_byte c)
 
@@ -338,10 +350,13 @@ next_is p c None e = stops_next p c e
 -- digits behind digits change no phase
 
 pub whole_stays : (ds : List ℕ) → AreDigits ds → NumberLeads Whole ds Whole
-whole_stays ds h = digits_lead Whole ds (λ c d. leads_next Whole c Whole (cond-true (is_digit c) (Some Whole) (after_zero c) (digit_test c d))) h
+whole_stays ds h = digits_lead Whole ds (λ c d. leads_next Whole c Whole
+    (cond-true (is_digit c) (Some Whole) (after_zero c) (digit_test c d))) h
 
 pub fraction_stays : (ds : List ℕ) → AreDigits ds → NumberLeads Fraction ds Fraction
-fraction_stays ds h = digits_lead Fraction ds (λ c d. leads_next Fraction c Fraction (cond-true (is_digit c) (Some Fraction) (cond (is_letter c) (Some Exponent) None) (digit_test c d))) h
+fraction_stays ds h = digits_lead Fraction ds (λ c d. leads_next Fraction c Fraction
+    (cond-true (is_digit c) (Some Fraction) (cond (is_letter c) (Some Exponent) None) (digit_test c d))) h
 
 pub exponent_stays : (ds : List ℕ) → AreDigits ds → NumberLeads ExponentDigits ds ExponentDigits
-exponent_stays ds h = digits_lead ExponentDigits ds (λ c d. leads_next ExponentDigits c ExponentDigits (cond-true (is_digit c) (Some ExponentDigits) None (digit_test c d))) h
+exponent_stays ds h = digits_lead ExponentDigits ds (λ c d. leads_next ExponentDigits c ExponentDigits
+    (cond-true (is_digit c) (Some ExponentDigits) None (digit_test c d))) h

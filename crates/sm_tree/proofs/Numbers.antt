@@ -95,7 +95,8 @@ number_bytes_utf8 t h = IsUtf8-from_ascii t (IsAscii-from_all t (each t h))
 start_of : (m w r t : List ℕ) → t ≡ m ++ (w ++ r) → IsMinus m → IsInt w → (c : ℕ) × (u : List ℕ) × (t ≡ c ∷ u) × IsNumberStart c
 start_of m w r t e (inr minus) i = (45, w ++ r, e ∙ ap (λ s. s ++ (w ++ r)) minus, inr refl)
 start_of m w r t e (inl none) (inl zero) = (48, r, e ∙ ap (λ s. s ++ (w ++ r)) none ∙ ap (λ s. s ++ r) zero, inl (omega arith, omega arith))
-start_of m w r t e (inl none) (inr (c, ds, begins, low, high, digits)) = (c, ds ++ r, e ∙ ap (λ s. s ++ (w ++ r)) none ∙ ap (λ s. s ++ r) begins, inl (omega arith, high))
+start_of m w r t e (inl none) (inr (c, ds, begins, low, high, digits)) =
+    (c, ds ++ r, e ∙ ap (λ s. s ++ (w ++ r)) none ∙ ap (λ s. s ++ r) begins, inl (omega arith, high))
 
 pub number_starts : (t : List ℕ) → IsNumber t → (c : ℕ) × (u : List ℕ) × (t ≡ c ∷ u) × IsNumberStart c
 number_starts t n = start_of n.minus n.whole (n.fraction ++ n.exponent) t n.parts n.is_minus n.is_int
@@ -160,9 +161,11 @@ are_digits (c ∷ cs) = both (is_below (digit_value c) 10) (are_digits cs)
     both (inl d) (inr ds) = inr (λ h. ds h.1)
 
 is_word : (t : List ℕ) → Decided (IsInt64 t)
-is_word t = all (is_below 0 (length (without_leading_sign t))) (are_digits (without_leading_sign t)) (is_below (mag (signed_digits_value 10 t)) (2 ^ hbits w64))
+is_word t = all (is_below 0 (length (without_leading_sign t))) (are_digits (without_leading_sign t))
+    (is_below (mag (signed_digits_value 10 t)) (2 ^ hbits w64))
   where
-    all : Decided (0 < length (without_leading_sign t)) → Decided (AllDigits 10 (without_leading_sign t)) → Decided (mag (signed_digits_value 10 t) < 2 ^ hbits w64) → Decided (IsInt64 t)
+    all : Decided (0 < length (without_leading_sign t)) → Decided (AllDigits 10 (without_leading_sign t))
+        → Decided (mag (signed_digits_value 10 t) < 2 ^ hbits w64) → Decided (IsInt64 t)
     all (inl some) (inl digits) (inl fits) = inl (record { is_integer = (some, digits); in_range = record { sfits = fits } })
     all (inr none) x y = inr (λ w. none w.is_integer.0)
     all (inl some) (inr other) y = inr (λ w. other w.is_integer.1)

@@ -13,8 +13,12 @@ use Rattle.sm_tree.specs.declared.refusal.SyntaxRefusal.TheVariants.{Bad, Ended,
 
 -- what begins with some bytes begins with the first of them
 prefix_begins : (F : TreeFormat) (bs : List ℕ) (i : ℕ) → BeginsRead F bs → BeginsRead F (take i bs)
-prefix_begins F bs i (more, n, text) =
-    (drop i bs ++ more, n, subst (λ s. IsRead F n s) (ap (λ s. s ++ more) (sym (take-append-drop i bs)) ∙ append_assoc (take i bs) (drop i bs) more) text)
+prefix_begins F bs i (more, n, text) = (
+  drop i bs ++ more,
+  n,
+  subst (λ s. IsRead F n s) (ap (λ s. s ++ more) (sym (take-append-drop i bs))
+      ∙ append_assoc (take i bs) (drop i bs) more) text,
+)
 
 -- a text begins with all its bytes
 read_begins : (F : TreeFormat) (bs : List ℕ) (n : Node) → IsRead F n bs → BeginsRead F bs

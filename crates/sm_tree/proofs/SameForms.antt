@@ -38,11 +38,13 @@ pair_of (member k q qs) x (inr later) = let found = pair_of qs x later in (found
 -- the forms of pairs are in order, and are those of the pairs
 forms_ascend : (ms : Members) (fs : List (List Word)) → Ascends form_cmp fs → Ascends form_cmp (pair_forms fs ms)
 forms_ascend no_members fs s = s
-forms_ascend (member k n ms) fs s = forms_ascend ms (insert_key form_cmp fs (pair_form k n)) (ascends_in form_total exact_forms fs (pair_form k n) s)
+forms_ascend (member k n ms) fs s = forms_ascend ms (insert_key form_cmp fs (pair_form k n))
+    (ascends_in form_total exact_forms fs (pair_form k n) s)
 
 forms_keep : (ms : Members) (fs : List (List Word)) (x : List Word) → Has x fs → Has x (pair_forms fs ms)
 forms_keep no_members fs x h = h
-forms_keep (member k n ms) fs x h = forms_keep ms (insert_key form_cmp fs (pair_form k n)) x (has_kept form_total exact_forms fs (pair_form k n) x h)
+forms_keep (member k n ms) fs x h = forms_keep ms (insert_key form_cmp fs (pair_form k n)) x
+    (has_kept form_total exact_forms fs (pair_form k n) x h)
 
 forms_have : (ms : Members) (fs : List (List Word)) (x : List Word) → IsFormIn x ms → Has x (pair_forms fs ms)
 forms_have no_members fs x h = absurd h
@@ -77,8 +79,10 @@ mutual
       let forth : (z : List Word) → Has z (pair_forms [] ps) → Has z (pair_forms [] h.0) =
       λ z i. forms_have h.0 [] z (in_alike ps h.0 h.2 z (only ps z i)) in
       let back : (z : List Word) → Has z (pair_forms [] h.0) → Has z (pair_forms [] ps) =
-      λ z i. let found = pair_of h.0 z (only h.0 z i) in forms_have ps [] z (some_alike ps found.0 found.1 (h.3 found.0 found.1 found.2) z found.3) in
-      let one = one_list form_total exact_forms (pair_forms [] ps) (pair_forms [] h.0) (forms_ascend ps [] tt) (forms_ascend h.0 [] tt) forth back in
+      λ z i. let found = pair_of h.0 z (only h.0 z i) in forms_have ps [] z
+      (some_alike ps found.0 found.1 (h.3 found.0 found.1 found.2) z found.3) in
+      let one = one_list form_total exact_forms (pair_forms [] ps) (pair_forms [] h.0) (forms_ascend ps [] tt)
+      (forms_ascend h.0 [] tt) forth back in
       ap (λ fs. object_word ∷ (joined fs ++ (end_word ∷ []))) one ∙ ap form (sym h.1)
 
   entries_alike : (ns ms : Nodes) → SameEntries ns ms → entries_form ns ≡ entries_form ms
@@ -93,7 +97,8 @@ mutual
 
   some_alike : (ps : Members) (k : List ℕ) (q : Node) → HasSamePair ps k q → (z : List Word) → z ≡ pair_form k q → IsFormIn z ps
   some_alike no_members k q h z e = absurd h
-  some_alike (member l n ps) k q (inl here) z e = inl (e ∙ ap (λ t. pair_form t q) (sym here.0) ∙ ap (λ ws. name_word l ∷ ws) (sym (alike n q here.1)))
+  some_alike (member l n ps) k q (inl here) z e = inl (e ∙ ap (λ t. pair_form t q) (sym here.0)
+      ∙ ap (λ ws. name_word l ∷ ws) (sym (alike n q here.1)))
   some_alike (member l n ps) k q (inr later) z e = inr (some_alike ps k q later z e)
 
 -- the first word and what follows it
@@ -141,7 +146,8 @@ IsPairForm x = (l : List ℕ) × (m : Node) × (x ≡ pair_form l m)
 is_pair_form : (qs : Members) (x : List Word) → IsFormIn x qs → IsPairForm x
 is_pair_form qs x i = let found = pair_of qs x i in (found.0, found.1, found.3)
 
-rows_part : (xs ys : List (List Word)) → ((x : List Word) → Has x xs → Parts x) → ((x : List Word) → Has x xs → IsPairForm x) → ((y : List Word) → Has y ys → IsPairForm y)
+rows_part : (xs ys : List (List Word)) → ((x : List Word) → Has x xs → Parts x) → ((x : List Word) → Has x xs → IsPairForm x)
+    → ((y : List Word) → Has y ys → IsPairForm y)
     → (r s : List Word) → joined xs ++ end_word ∷ r ≡ joined ys ++ end_word ∷ s → (xs ≡ ys) × (r ≡ s)
 rows_part [] [] parts form_x form_y r s e = (refl, ap rest e)
 rows_part [] (y ∷ ys) parts form_x form_y r s e =
@@ -155,7 +161,8 @@ rows_part (x ∷ xs) [] parts form_x form_y r s e =
 rows_part (x ∷ xs) (y ∷ ys) parts form_x form_y r s e =
     let found = form_y y (inl refl) in
     let together : x ++ (joined xs ++ end_word ∷ r) ≡ pair_form found.0 found.1 ++ (joined ys ++ end_word ∷ s) =
-    sym (append_assoc x (joined xs) (end_word ∷ r)) ∙ e ∙ append_assoc y (joined ys) (end_word ∷ s) ∙ ap (λ w. w ++ (joined ys ++ end_word ∷ s)) found.2 in
+    sym (append_assoc x (joined xs) (end_word ∷ r)) ∙ e ∙ append_assoc y (joined ys) (end_word ∷ s)
+    ∙ ap (λ w. w ++ (joined ys ++ end_word ∷ s)) found.2 in
     let part = parts x (inl refl) found.0 found.1 (joined xs ++ end_word ∷ r) (joined ys ++ end_word ∷ s) together in
     let more = rows_part xs ys (λ z i. parts z (inr i)) (λ z i. form_x z (inr i)) (λ z i. form_y z (inr i)) r s part.1 in
     (ap (λ w. w ∷ xs) (part.0 ∙ sym found.2) ∙ ap (λ ws. y ∷ ws) more.0, more.1)
@@ -176,14 +183,18 @@ mutual
   parts (list ns) (list ms) r s e = let more = entries_part ns ms r s (ap rest e) in ((ms, refl, more.0), more.1)
   parts (object ps) (object qs) r s e =
       let inside : joined (pair_forms [] ps) ++ end_word ∷ r ≡ joined (pair_forms [] qs) ++ end_word ∷ s =
-      sym (append_assoc (joined (pair_forms [] ps)) (end_word ∷ []) r) ∙ ap rest e ∙ append_assoc (joined (pair_forms [] qs)) (end_word ∷ []) s in
-      let both = rows_part (pair_forms [] ps) (pair_forms [] qs) (λ x i. pair_parts ps x (only ps x i)) (λ x i. is_pair_form ps x (only ps x i))
+      sym (append_assoc (joined (pair_forms [] ps)) (end_word ∷ []) r) ∙ ap rest e
+      ∙ append_assoc (joined (pair_forms [] qs)) (end_word ∷ []) s in
+      let both = rows_part (pair_forms [] ps) (pair_forms [] qs) (λ x i. pair_parts ps x (only ps x i))
+      (λ x i. is_pair_form ps x (only ps x i))
       (λ y i. is_pair_form qs y (only qs y i)) r s inside in (
         (
           qs,
           refl,
           all_same ps qs (λ x i. only qs x (subst (λ fs. Has x fs) both.0 (forms_have ps [] x i))),
-          λ k q has. some_same ps k q (only ps (pair_form k q) (subst (λ fs. Has (pair_form k q) fs) (sym both.0) (forms_have qs [] (pair_form k q) (form_of_pair qs k q has (pair_form k q) refl)))),
+          λ k q has. some_same ps k q (only ps (pair_form k q)
+              (subst (λ fs. Has (pair_form k q) fs) (sym both.0)
+              (forms_have qs [] (pair_form k q) (form_of_pair qs k q has (pair_form k q) refl)))),
         ),
         both.1,
       )
@@ -198,7 +209,8 @@ mutual
       let begins : 10 ≡ kind (form n ++ (entries_form ns ++ r)) = ap kind (sym e ∙ append_assoc (form n) (entries_form ns) r) in
       absurd (clash (kind (form n ++ (entries_form ns ++ r))) 10 (no_end n (entries_form ns ++ r)) (sym begins))
   entries_part (node n ns) (node m ms) r s e =
-      let part = parts n m (entries_form ns ++ r) (entries_form ms ++ s) (sym (append_assoc (form n) (entries_form ns) r) ∙ e ∙ append_assoc (form m) (entries_form ms) s) in
+      let part = parts n m (entries_form ns ++ r) (entries_form ms ++ s)
+      (sym (append_assoc (form n) (entries_form ns) r) ∙ e ∙ append_assoc (form m) (entries_form ms) s) in
       let more = entries_part ns ms r s part.1 in
       ((m, ms, refl, part.0, more.0), more.1)
 
@@ -214,12 +226,18 @@ mutual
   all_same no_members qs h = tt
   all_same (member k n ps) qs h =
       let found = pair_of qs (pair_form k n) (h (pair_form k n) (inl refl)) in
-      let part = parts n found.1 [] [] (ap (λ ws. rest ws ++ []) found.3) in
-      ((found.1, subst (λ t. HasPair t found.1 qs) (sym (ap (λ ws. (first ws).1) found.3)) found.2, part.0), all_same ps qs (λ x i. h x (inr i)))
+      let part = parts n found.1 [] [] (ap (λ ws. rest ws ++ []) found.3) in (
+        (found.1, subst (λ t. HasPair t found.1 qs) (sym (ap (λ ws. (first ws).1) found.3)) found.2, part.0),
+        all_same ps qs
+            (λ x i. h x (inr i)),
+      )
 
   some_same : (ps : Members) (k : List ℕ) (q : Node) → IsFormIn (pair_form k q) ps → HasSamePair ps k q
   some_same no_members k q h = absurd h
-  some_same (member l n ps) k q (inl here) = inl (sym (ap (λ ws. (first ws).1) here), (parts n q [] [] (ap (λ ws. rest ws ++ []) (sym here))).0)
+  some_same (member l n ps) k q (inl here) = inl (
+    sym (ap (λ ws. (first ws).1) here),
+    (parts n q [] [] (ap (λ ws. rest ws ++ []) (sym here))).0,
+  )
   some_same (member l n ps) k q (inr later) = inr (some_same ps k q later)
 
 pub same_form : (n m : Node) → form n ≡ form m → Same n m

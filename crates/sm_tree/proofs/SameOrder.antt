@@ -45,7 +45,8 @@ module _ {K : Type 0} {R : K → K → Ordering} (o : IsTotalOrder R) (exact : C
   ascends_in [] k s = (tt, tt)
   ascends_in (y ∷ ys) k s = by (R k y) refl (ascends_in ys k s.1)
     where
-      by : (r : Ordering) → R k y ≡ r → Ascends R (insert_key R ys k) → Ascends R (match_ordering r (k ∷ y ∷ ys) (y ∷ ys) (y ∷ insert_key R ys k))
+      by : (r : Ordering) → R k y ≡ r → Ascends R (insert_key R ys k)
+          → Ascends R (match_ordering r (k ∷ y ∷ ys) (y ∷ ys) (y ∷ insert_key R ys k))
       by Less e more = ((e, below_through k y ys e s.0), s)
       by Equal e more = s
       by Greater e more = (below_in y k ys (o.antisymm y k ∙ ap ordering_reverse e) s.0, more)
@@ -64,7 +65,8 @@ module _ {K : Type 0} {R : K → K → Ordering} (o : IsTotalOrder R) (exact : C
   has_kept [] k x h = absurd h
   has_kept (y ∷ ys) k x h = by (R k y) (λ later. has_kept ys k x later) h
     where
-      by : (r : Ordering) → (Has x ys → Has x (insert_key R ys k)) → Has x (y ∷ ys) → Has x (match_ordering r (k ∷ y ∷ ys) (y ∷ ys) (y ∷ insert_key R ys k))
+      by : (r : Ordering) → (Has x ys → Has x (insert_key R ys k)) → Has x (y ∷ ys)
+          → Has x (match_ordering r (k ∷ y ∷ ys) (y ∷ ys) (y ∷ insert_key R ys k))
       by Less more i = inr i
       by Equal more i = i
       by Greater more (inl here) = inl here
@@ -74,7 +76,8 @@ module _ {K : Type 0} {R : K → K → Ordering} (o : IsTotalOrder R) (exact : C
   has_from [] k x h = h
   has_from (y ∷ ys) k x h = by (R k y) (λ later. has_from ys k x later) h
     where
-      by : (r : Ordering) → (Has x (insert_key R ys k) → (x ≡ k) ⊎ Has x ys) → Has x (match_ordering r (k ∷ y ∷ ys) (y ∷ ys) (y ∷ insert_key R ys k)) → (x ≡ k) ⊎ Has x (y ∷ ys)
+      by : (r : Ordering) → (Has x (insert_key R ys k) → (x ≡ k) ⊎ Has x ys)
+          → Has x (match_ordering r (k ∷ y ∷ ys) (y ∷ ys) (y ∷ insert_key R ys k)) → (x ≡ k) ⊎ Has x (y ∷ ys)
       by Less more i = i
       by Equal more i = inr i
       by Greater more (inl here) = inr (inl here)
@@ -100,7 +103,8 @@ module _ {K : Type 0} {R : K → K → Ordering} (o : IsTotalOrder R) (exact : C
     | inr later ↦ later
   ]
 
-  pub one_list : (xs ys : List K) → Ascends R xs → Ascends R ys → ((z : K) → Has z xs → Has z ys) → ((z : K) → Has z ys → Has z xs) → xs ≡ ys
+  pub one_list : (xs ys : List K) → Ascends R xs → Ascends R ys → ((z : K) → Has z xs → Has z ys) → ((z : K) → Has z ys → Has z xs)
+      → xs ≡ ys
   one_list [] [] s t h g = refl
   one_list [] (y ∷ ys) s t h g = absurd (g y (inl refl))
   one_list (x ∷ xs) [] s t h g = absurd (h x (inl refl))

@@ -75,7 +75,8 @@ mutual
   is_in-sym : (ps qs : Members) → AllIn ps qs → (k : List ℕ) (n : Node) → HasPair k n ps → HasSamePair qs k n
   is_in-sym no_members qs h k n has = absurd has
   is_in-sym (member l m ps) qs h k n (inl here) =
-      subst (λ x. HasSamePair qs x n) (sym here.0) (is_in-from qs l h.0.0 n h.0.1 (subst (λ x. Same h.0.0 x) (sym here.1) (symmetric m h.0.0 h.0.2)))
+      subst (λ x. HasSamePair qs x n) (sym here.0) (is_in-from qs l h.0.0 n h.0.1
+      (subst (λ x. Same h.0.0 x) (sym here.1) (symmetric m h.0.0 h.0.2)))
   is_in-sym (member l m ps) qs h k n (inr later) = is_in-sym ps qs h.1 k n later
 
 -- the partner of a pair in another object

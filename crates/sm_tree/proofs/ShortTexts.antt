@@ -9,7 +9,8 @@ use Rattle.std.proofs.lemmas.List.{get_or-take, get_or_past, length-take-le, tak
 abbrev pub AsciiBefore : ℕ → ℕ → List ℕ → Type 0
 AsciiBefore at len bytes = (j : ℕ) → j < at → j < len → slice_index bytes j < 128
 
-still_seen : (ascii : Bool) (len at : ℕ) (bytes : List ℕ) → (IsTrue ascii → AsciiBefore at len bytes) → IsTrue (ascii && (nat_le len at || nat_lt (slice_index bytes at) 128)) → AsciiBefore (at + 1) len bytes
+still_seen : (ascii : Bool) (len at : ℕ) (bytes : List ℕ) → (IsTrue ascii → AsciiBefore at len bytes)
+    → IsTrue (ascii && (nat_le len at || nat_lt (slice_index bytes at) 128)) → AsciiBefore (at + 1) len bytes
 still_seen ascii len at bytes before holds j near inside =
     let parts = and_parts ascii _ holds in
     elim (cases_lt j at) [
@@ -33,20 +34,28 @@ here_seen len at bytes all =
 -- one more byte was looked at
 pub one_more_seen : (ascii : Bool) (len at : ℕ) (bytes : List ℕ) → IsTrue ascii ↔ AsciiBefore at len bytes
     → IsTrue (ascii && (nat_le len at || nat_lt (slice_index bytes at) 128)) ↔ AsciiBefore (at + 1) len bytes
-one_more_seen ascii len at bytes before =
-    (still_seen ascii len at bytes before.0, λ all. and_from ascii _ (before.1 (λ j near inside. all j (omega arith) inside)) (here_seen len at bytes all))
+one_more_seen ascii len at bytes before = (
+  still_seen ascii len at bytes before.0,
+  λ all. and_from ascii _ (before.1 (λ j near inside. all j (omega arith) inside))
+      (here_seen len at bytes all),
+)
 
 -- all bytes of the text were looked at
 are_ascii : (len : ℕ) (bytes : List ℕ) → len ≤ length bytes → ((j : ℕ) → j < len → slice_index bytes j < 128) → IsAscii (take len bytes)
 are_ascii len bytes fits small i =
     elim (cases_lt i len) [
       | inl inside ↦ subst (λ b. b < 128) (sym (get_or-take len bytes i 0 inside)) (small i inside)
-      | inr past ↦ subst (λ b. b < 128) (sym (get_or_past (take len bytes) i 0 (subst (λ n. n ≤ i) (sym (length-take-le len bytes fits)) past))) (lit< tt)
+      | inr past ↦ subst (λ b. b < 128) (sym (get_or_past (take len bytes) i 0
+          (subst (λ n. n ≤ i) (sym (length-take-le len bytes fits)) past))) (lit< tt)
     ]
 
-pub all_seen : (ascii : Bool) (len at : ℕ) (bytes : List ℕ) → len ≤ length bytes → len ≤ at → IsTrue ascii ↔ AsciiBefore at len bytes → IsTrue ascii ↔ IsAscii (take len bytes)
-all_seen ascii len at bytes fits done before =
-    (λ holds. are_ascii len bytes fits (λ j inside. before.0 holds j (omega arith) inside), λ all. before.1 (λ j near inside. subst (λ b. b < 128) (get_or-take len bytes j 0 inside) (all j)))
+pub all_seen : (ascii : Bool) (len at : ℕ) (bytes : List ℕ) → len ≤ length bytes → len ≤ at → IsTrue ascii ↔ AsciiBefore at len bytes
+    → IsTrue ascii ↔ IsAscii (take len bytes)
+all_seen ascii len at bytes fits done before = (
+  λ holds. are_ascii len bytes fits (λ j inside. before.0 holds j (omega arith) inside),
+  λ all. before.1
+      (λ j near inside. subst (λ b. b < 128) (get_or-take len bytes j 0 inside) (all j)),
+)
 
 pub all_utf8 : (ascii : Bool) (bytes : List ℕ) → IsTrue ascii ↔ IsAscii bytes → IsTrue ascii → IsUtf8 bytes
 all_utf8 ascii bytes seen holds = IsUtf8-from_ascii bytes (seen.0 holds)

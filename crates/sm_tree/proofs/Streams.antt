@@ -37,7 +37,8 @@ mutual
   pairs_stream_events : (ms : Members) (es fs : List NodeEvent) → PairsStream ms es fs → unnumbered es ≡ pairs_events ms (unnumbered fs)
   pairs_stream_events no_members es fs h = ap unnumbered h
   pairs_stream_events (member k n ms) es fs (gs, hs, is, first, rest) =
-      ap unnumbered is ∙ ap (λ xs. key_event k ∷ xs) (stream_events n gs hs first ∙ ap (λ xs. events n xs) (pairs_stream_events ms hs fs rest))
+      ap unnumbered is ∙ ap (λ xs. key_event k ∷ xs) (stream_events n gs hs first
+      ∙ ap (λ xs. events n xs) (pairs_stream_events ms hs fs rest))
 
 mutual
   -- the events of a tree, whose openers tell no number, are a stream of it
@@ -78,7 +79,12 @@ mutual
 
   numbered_entries_stream : (ns : Nodes) (fs : List NodeEvent) → EntriesStream ns (numbered_entries ns fs) fs
   numbered_entries_stream no_nodes fs = refl
-  numbered_entries_stream (node n ns) fs = (numbered_entries ns fs, numbered_stream n (numbered_entries ns fs), numbered_entries_stream ns fs)
+  numbered_entries_stream (node n ns) fs = (
+    numbered_entries ns fs,
+    numbered_stream n
+        (numbered_entries ns fs),
+    numbered_entries_stream ns fs,
+  )
 
   numbered_pairs_stream : (ms : Members) (fs : List NodeEvent) → PairsStream ms (numbered_pairs ms fs) fs
   numbered_pairs_stream no_members fs = refl

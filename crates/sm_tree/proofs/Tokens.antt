@@ -29,7 +29,8 @@ plain_run (b ∷ bs) rest no_tilde no_slash =
 pub token-letter : (c : ℕ) (rest : List ℕ) → c ≢ 126 → c ≢ 47
     → reference_token (encode_utf8 c ++ rest) ≡ encode_utf8 c ++ reference_token rest
 token-letter c rest not_tilde not_slash =
-    let own : (k : ℕ) → k < length (encode_utf8 c) → get_or (encode_utf8 c) k 0 < 128 → c ≡ get_or (encode_utf8 c) k 0 = λ k lt. inside_one c [] (encode_utf8 c) k (sym (append-nil (encode_utf8 c))) lt in
+    let own : (k : ℕ) → k < length (encode_utf8 c) → get_or (encode_utf8 c) k 0 < 128
+    → c ≡ get_or (encode_utf8 c) k 0 = λ k lt. inside_one c [] (encode_utf8 c) k (sym (append-nil (encode_utf8 c))) lt in
     plain_run (encode_utf8 c) rest
     (λ k lt is. not_tilde (own k lt (omega (arith, is)) ∙ is))
     (λ k lt is. not_slash (own k lt (omega (arith, is)) ∙ is))
@@ -89,7 +90,8 @@ read-half-read (c ∷ cs) =
     let tilde : G 126 = ap (λ r. 126 ∷ r) more in
     elim (cases_eq c 126) [
       | inl is ↦ subst G (sym is) tilde
-      | inr other ↦ ap (replaced 126 48 126) (half_read-other c cs other) ∙ replaced-other 126 48 126 c (half_read cs) other ∙ ap (λ r. c ∷ r) more
+      | inr other ↦ ap (replaced 126 48 126) (half_read-other c cs other) ∙ replaced-other 126 48 126 c (half_read cs) other
+          ∙ ap (λ r. c ∷ r) more
     ]
 
 pub reads_back : TokenReadsBack

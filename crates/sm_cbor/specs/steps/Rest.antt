@@ -93,8 +93,10 @@ before_span Chunk t = t
 
 -- behind an argument of value n
 abbrev pub ArgumentEnded : Keys → ℕ → Subject → ℕ → List ℕ → List Level → List ℕ → List TimedEvent → Type 0
-ArgumentEnded w limit Unsigned n t ls s es = (fs : List TimedEvent) × CborEnds w limit ls s fs × CompleteAt (integer_event n (pos n)) s es fs
-ArgumentEnded w limit Negative n t ls s es = (fs : List TimedEvent) × CborEnds w limit ls s fs × CompleteAt (integer_event n (negsuc n)) s es fs
+ArgumentEnded w limit Unsigned n t ls s es = (fs : List TimedEvent) × CborEnds w limit ls s fs
+    × CompleteAt (integer_event n (pos n)) s es fs
+ArgumentEnded w limit Negative n t ls s es = (fs : List TimedEvent) × CborEnds w limit ls s fs
+    × CompleteAt (integer_event n (negsuc n)) s es fs
 ArgumentEnded w limit (StringHead kind span) n t ls s es = CborStringComes w limit kind span n Between (before_span span t) ls s es
 ArgumentEnded w limit ListHead n t ls s es = (fs : List TimedEvent) × CborEnds w limit (AList n ∷ ls) s fs × CompleteAt (start_list
     (Some n)) s es fs

@@ -236,7 +236,8 @@ impl Reader {
         requires some { 0 < left }
         requires reached { Reached (E.stands_for to.old) (cbor_state_at self.old (Place.Argument subject left value)) }
         requires takes { TakesEvery (E.takes to.old) }
-        ensures goes { CborTakesByte (E.stands_for to.old) self.old (Place.Argument subject left value) byte (E.stands_for to.new) self.new result }
+        ensures goes { CborTakesByte (E.stands_for to.old) self.old (Place.Argument subject left value) byte
+            (E.stands_for to.new) self.new result }
         ensures takes { TakesStill (E.takes to.old) (E.takes to.new) result }
         ensures alike { E.alike to.old to.new }
     {

@@ -68,7 +68,8 @@ impl Reader {
         requires sound { IsAt self.old Place.After }
         requires reached { Owed (E.stands_for to.old) (event_of event) (cbor_state_at self.old Place.After) }
         requires takes { TakesEvery (E.takes to.old) }
-        ensures goes { OnOk result (CborGoes (E.stands_for to.old) self.old (event_of event ∷ []) Place.After [] (E.stands_for to.new) self.new) }
+        ensures goes { OnOk result (CborGoes (E.stands_for to.old) self.old (event_of event ∷ []) Place.After []
+            (E.stands_for to.new) self.new) }
         ensures takes { OnOk result (TakesSame (E.takes to.old) (E.takes to.new)) }
         ensures alike { E.alike to.old to.new }
     {
@@ -82,7 +83,8 @@ impl Reader {
         requires room { length (levels_of self.old) < most_levels }
         requires reached { Owed (E.stands_for to.old) (start_list (Some count)) (opened self.old (Level.List count)) }
         requires takes { TakesEvery (E.takes to.old) }
-        ensures goes { OnOk result (OpensLevel (E.stands_for to.old) self.old (Level.List count) (start_list (Some count)) (E.stands_for to.new) self.new) }
+        ensures goes { OnOk result (OpensLevel (E.stands_for to.old) self.old (Level.List count) (start_list (Some count))
+            (E.stands_for to.new) self.new) }
         ensures takes { OnOk result (TakesSame (E.takes to.old) (E.takes to.new)) }
         ensures alike { E.alike to.old to.new }
     {
@@ -97,7 +99,8 @@ impl Reader {
         requires room { length (levels_of self.old) < most_levels }
         requires reached { Owed (E.stands_for to.old) (start_list None) (opened self.old Level.ListToBreak) }
         requires takes { TakesEvery (E.takes to.old) }
-        ensures goes { OnOk result (OpensLevel (E.stands_for to.old) self.old Level.ListToBreak (start_list None) (E.stands_for to.new) self.new) }
+        ensures goes { OnOk result (OpensLevel (E.stands_for to.old) self.old Level.ListToBreak (start_list None)
+            (E.stands_for to.new) self.new) }
         ensures takes { OnOk result (TakesSame (E.takes to.old) (E.takes to.new)) }
         ensures alike { E.alike to.old to.new }
     {
@@ -112,7 +115,8 @@ impl Reader {
         requires room { length (levels_of self.old) < most_levels }
         requires reached { Owed (E.stands_for to.old) (start_object (Some count)) (opened self.old (Level.Map count)) }
         requires takes { TakesEvery (E.takes to.old) }
-        ensures goes { OnOk result (OpensLevel (E.stands_for to.old) self.old (Level.Map count) (start_object (Some count)) (E.stands_for to.new) self.new) }
+        ensures goes { OnOk result (OpensLevel (E.stands_for to.old) self.old (Level.Map count) (start_object (Some count))
+            (E.stands_for to.new) self.new) }
         ensures takes { OnOk result (TakesSame (E.takes to.old) (E.takes to.new)) }
         ensures alike { E.alike to.old to.new }
     {
@@ -127,7 +131,8 @@ impl Reader {
         requires room { length (levels_of self.old) < most_levels }
         requires reached { Owed (E.stands_for to.old) (start_object None) (opened self.old Level.MapToBreak) }
         requires takes { TakesEvery (E.takes to.old) }
-        ensures goes { OnOk result (OpensLevel (E.stands_for to.old) self.old Level.MapToBreak (start_object None) (E.stands_for to.new) self.new) }
+        ensures goes { OnOk result (OpensLevel (E.stands_for to.old) self.old Level.MapToBreak (start_object None)
+            (E.stands_for to.new) self.new) }
         ensures takes { OnOk result (TakesSame (E.takes to.old) (E.takes to.new)) }
         ensures alike { E.alike to.old to.new }
     {
@@ -155,7 +160,8 @@ impl Reader {
         requires sound { IsAt self.old (Place.String kind Span.Whole 0 Between) }
         requires reached { Reached (E.stands_for to.old) (cbor_state_at self.old (Place.String kind Span.Whole 0 Between)) }
         requires takes { TakesEvery (E.takes to.old) }
-        ensures goes { OnOk result (CborGoes (E.stands_for to.old) self.old [] (Place.String kind Span.Whole 0 Between) [] (E.stands_for to.new) self.new) }
+        ensures goes { OnOk result (CborGoes (E.stands_for to.old) self.old [] (Place.String kind Span.Whole 0 Between) []
+            (E.stands_for to.new) self.new) }
         ensures takes { OnOk result (TakesSame (E.takes to.old) (E.takes to.new)) }
         ensures alike { E.alike to.old to.new }
     {
@@ -187,7 +193,8 @@ impl Reader {
         requires sound { IsAt self.old (Place.String kind span 0 Between) }
         requires reached { Reached (E.stands_for to.old) (cbor_state_at self.old (Place.String kind span 0 Between)) }
         requires takes { TakesEvery (E.takes to.old) }
-        ensures goes { OnOk result (CborGoes (E.stands_for to.old) self.old [] (Place.String kind span 0 Between) [] (E.stands_for to.new) self.new) }
+        ensures goes { OnOk result (CborGoes (E.stands_for to.old) self.old [] (Place.String kind span 0 Between) []
+            (E.stands_for to.new) self.new) }
         ensures takes { OnOk result (TakesSame (E.takes to.old) (E.takes to.new)) }
         ensures alike { E.alike to.old to.new }
     {
@@ -222,7 +229,8 @@ impl Reader {
         requires sound { IsAt self.old (Place.Argument (Subject.String kind span) 0 len) }
         requires reached { Reached (E.stands_for to.old) (cbor_state_at self.old (Place.Argument (Subject.String kind span) 0 len)) }
         requires takes { TakesEvery (E.takes to.old) }
-        ensures goes { OnOk result (CborGoes (E.stands_for to.old) self.old [] (Place.Argument (Subject.String kind span) 0 len) [] (E.stands_for to.new) self.new) }
+        ensures goes { OnOk result (CborGoes (E.stands_for to.old) self.old [] (Place.Argument (Subject.String kind span) 0 len) []
+            (E.stands_for to.new) self.new) }
         ensures takes { OnOk result (TakesSame (E.takes to.old) (E.takes to.new)) }
         ensures alike { E.alike to.old to.new }
     {
@@ -239,7 +247,8 @@ impl Reader {
         requires sound { IsAt self.old (Place.Argument Subject.Tag 0 number) }
         requires reached { Reached (E.stands_for to.old) (cbor_state_at self.old (Place.Argument Subject.Tag 0 number)) }
         requires takes { TakesEvery (E.takes to.old) }
-        ensures goes { OnOk result (CborGoes (E.stands_for to.old) self.old [] (Place.Argument Subject.Tag 0 number) [] (E.stands_for to.new) self.new) }
+        ensures goes { OnOk result (CborGoes (E.stands_for to.old) self.old [] (Place.Argument Subject.Tag 0 number) []
+            (E.stands_for to.new) self.new) }
         ensures takes { OnOk result (TakesSame (E.takes to.old) (E.takes to.new)) }
         ensures alike { E.alike to.old to.new }
     {
@@ -259,7 +268,8 @@ impl Reader {
         requires sound { IsAt self.old (Place.Argument subject 0 value) }
         requires reached { Reached (E.stands_for to.old) (cbor_state_at self.old (Place.Argument subject 0 value)) }
         requires takes { TakesEvery (E.takes to.old) }
-        ensures goes { OnOk result (CborGoes (E.stands_for to.old) self.old [] (Place.Argument subject 0 value) [] (E.stands_for to.new) self.new) }
+        ensures goes { OnOk result (CborGoes (E.stands_for to.old) self.old [] (Place.Argument subject 0 value) []
+            (E.stands_for to.new) self.new) }
         ensures takes { OnOk result (TakesSame (E.takes to.old) (E.takes to.new)) }
         ensures alike { E.alike to.old to.new }
     {
@@ -297,7 +307,8 @@ impl Reader {
         requires sound { IsAt self.old (Place.Argument subject left value) }
         requires reached { Reached (E.stands_for to.old) (cbor_state_at self.old (Place.Argument subject left value)) }
         requires takes { TakesEvery (E.takes to.old) }
-        ensures goes { OnOk result (CborGoes (E.stands_for to.old) self.old [] (Place.Argument subject left value) [] (E.stands_for to.new) self.new) }
+        ensures goes { OnOk result (CborGoes (E.stands_for to.old) self.old [] (Place.Argument subject left value) []
+            (E.stands_for to.new) self.new) }
         ensures takes { OnOk result (TakesSame (E.takes to.old) (E.takes to.new)) }
         ensures alike { E.alike to.old to.new }
     {

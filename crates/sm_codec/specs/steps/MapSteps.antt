@@ -50,7 +50,8 @@ JudgesKey finds t shape current first =
     (key : List ℕ) → current ≡ Some key
     → IsUtf8 key
     × (first
-    ≡ first_broken (broken finds (kind_of t (key_place t (root_place shape))) (constraints_of t (key_place t (root_place shape))) (text_val key)))
+    ≡ first_broken (broken finds (kind_of t (key_place t (root_place shape))) (constraints_of t (key_place t (root_place shape)))
+    (text_val key)))
 
 -- a fault of the key itself goes before what its value comes to
 abbrev pub pair_comes : Option FaultKind → Arrival → Arrival

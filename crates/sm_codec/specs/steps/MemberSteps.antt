@@ -67,7 +67,8 @@ fault_taken t ks k (fault_comes f) old = least_fault t ks k (at_member t k f) ol
 -- a tree comes for the member k of a structure: for the first time, or once more
 abbrev pub TakesFirst : TableData → ℕ → Arrival → MemberFrame → MemberFrame → Type 0
 TakesFirst t k x f g =
-    IsPermutation (k ∷ f.seen) g.seen × (g.fields ≡ fields_taken k x f.fields) × (g.fault ≡ fault_taken t (members_at t f.shape) k x f.fault)
+    IsPermutation (k ∷ f.seen) g.seen × (g.fields ≡ fields_taken k x f.fields)
+    × (g.fault ≡ fault_taken t (members_at t f.shape) k x f.fault)
 
 abbrev pub TakesAgain : TableData → ℕ → MemberFrame → MemberFrame → Type 0
 TakesAgain t k f g =

@@ -38,7 +38,8 @@ impl Decoder {
         requires stored { AreStored (table_data table.now).patterns (P.added patterns.old) }
         requires can { FirstCanTake (table_data table.now) (decoding_of self.old).frames }
         requires none { (decoding_of self.old).result ≡ None }
-        ensures taken { OnOk result (TakenBy (table_data table.now) P.test (arrival_of arrival) (decoding_of self.old).frames (decoding_of self.new)) }
+        ensures taken { OnOk result (TakenBy (table_data table.now) P.test (arrival_of arrival) (decoding_of self.old).frames
+            (decoding_of self.new)) }
         ensures shape { (decoding_of self.new).shape ≡ (decoding_of self.old).shape }
         ensures added { P.added patterns.new ≡ P.added patterns.old }
         ensures refused { P.refused patterns.new ≡ P.refused patterns.old }
@@ -66,7 +67,8 @@ impl Decoder {
         requires stored { AreStored (table_data table.now).patterns (P.added patterns.old) }
         requires can { CanPass (table_data table.now) depth report (decoding_of self.old).frames }
         requires none { (decoding_of self.old).result ≡ None }
-        ensures passed { OnOk result (PassedBy (table_data table.now) P.test depth report (decoding_of self.old).frames (decoding_of self.new)) }
+        ensures passed { OnOk result (PassedBy (table_data table.now) P.test depth report (decoding_of self.old).frames
+            (decoding_of self.new)) }
         ensures shape { (decoding_of self.new).shape ≡ (decoding_of self.old).shape }
         ensures added { P.added patterns.new ≡ P.added patterns.old }
         ensures refused { P.refused patterns.new ≡ P.refused patterns.old }
@@ -121,7 +123,8 @@ impl Decoder {
         requires stored { AreStored (table_data table.now).patterns (P.added patterns.old) }
         requires can { FirstCanEnd (table_data table.now) (decoding_of self.old).shape (decoding_of self.old).frames }
         requires none { (decoding_of self.old).result ≡ None }
-        ensures ended { OnOk result (EndedBy (table_data table.now) P.test (decoding_of self.old).shape (decoding_of self.old).frames (decoding_of self.new)) }
+        ensures ended { OnOk result (EndedBy (table_data table.now) P.test (decoding_of self.old).shape (decoding_of self.old).frames
+            (decoding_of self.new)) }
         ensures shape { (decoding_of self.new).shape ≡ (decoding_of self.old).shape }
         ensures added { P.added patterns.new ≡ P.added patterns.old }
         ensures refused { P.refused patterns.new ≡ P.refused patterns.old }

@@ -34,7 +34,8 @@ impl Decoder {
         requires place { InTable (table_data table.now) (place_of place) }
         requires can { FirstCanTake (table_data table.now) (decoding_of self.old).frames }
         requires none { (decoding_of self.old).result ≡ None }
-        ensures taken { OnOk result (LeafTaken (table_data table.now) (L.convention leaves.now) P.test (place_of place) (node_of leaf.now) (decoding_of self.old).frames (decoding_of self.new)) }
+        ensures taken { OnOk result (LeafTaken (table_data table.now) (L.convention leaves.now) P.test (place_of place)
+            (node_of leaf.now) (decoding_of self.old).frames (decoding_of self.new)) }
         ensures shape { (decoding_of self.new).shape ≡ (decoding_of self.old).shape }
         ensures added { P.added patterns.new ≡ P.added patterns.old }
         ensures refused { P.refused patterns.new ≡ P.refused patterns.old }
@@ -57,10 +58,14 @@ impl Decoder {
     ) -> Result<(), NoMemory>
         requires shaped { Shaped (table_data table.now) }
         requires stored { AreStored (table_data table.now).patterns (P.added patterns.old) }
-        requires due { ToldIn (table_data table.now) (due_told (table_data table.now) (decoding_of self.old).shape (decoding_of self.old).frames) }
-        requires can { CanRead (table_data table.now) (due_told (table_data table.now) (decoding_of self.old).shape (decoding_of self.old).frames) (decoding_of self.old).frames }
+        requires due { ToldIn (table_data table.now) (due_told (table_data table.now) (decoding_of self.old).shape
+            (decoding_of self.old).frames) }
+        requires can { CanRead (table_data table.now) (due_told (table_data table.now) (decoding_of self.old).shape
+            (decoding_of self.old).frames) (decoding_of self.old).frames }
         requires none { (decoding_of self.old).result ≡ None }
-        ensures read { OnOk result (LeafBy (table_data table.now) (L.convention leaves.now) P.test (due_told (table_data table.now) (decoding_of self.old).shape (decoding_of self.old).frames) (node_of leaf) (decoding_of self.old).frames (decoding_of self.new)) }
+        ensures read { OnOk result (LeafBy (table_data table.now) (L.convention leaves.now) P.test
+            (due_told (table_data table.now) (decoding_of self.old).shape (decoding_of self.old).frames) (node_of leaf)
+            (decoding_of self.old).frames (decoding_of self.new)) }
         ensures shape { (decoding_of self.new).shape ≡ (decoding_of self.old).shape }
         ensures added { P.added patterns.new ≡ P.added patterns.old }
         ensures refused { P.refused patterns.new ≡ P.refused patterns.old }

@@ -105,7 +105,8 @@ impl Decoder {
         requires stored { AreStored (table_data table.now).patterns (P.added patterns.old) }
         requires laws { IsConvention (L.convention leaves.now) }
         requires ready { WalkReady (table_data table.now) (decoding_of self.old) }
-        ensures taken { OnOk result (TreeTaken (codec_of (table_data table.now) (L.convention leaves.now) P.test) (node_of tree.now) (decoding_of self.old) (decoding_of self.new)) }
+        ensures taken { OnOk result (TreeTaken (codec_of (table_data table.now) (L.convention leaves.now) P.test) (node_of tree.now)
+            (decoding_of self.old) (decoding_of self.new)) }
         ensures shape { (decoding_of self.new).shape ≡ (decoding_of self.old).shape }
         ensures added { P.added patterns.new ≡ P.added patterns.old }
         ensures refused { P.refused patterns.new ≡ P.refused patterns.old }
@@ -138,7 +139,8 @@ impl Decoder {
         requires ready { WalkReady (table_data table.now) (decoding_of self.old) }
         requires at { place_of place ≡ next_place (table_data table.now) (decoding_of self.old) }
         requires list { is_list (sort_of (table_data table.now) (next_place (table_data table.now) (decoding_of self.old))) ≡ true }
-        ensures taken { OnOk result (TreeTaken (codec_of (table_data table.now) (L.convention leaves.now) P.test) (list (nodes_of (nodes_view items.now))) (decoding_of self.old) (decoding_of self.new)) }
+        ensures taken { OnOk result (TreeTaken (codec_of (table_data table.now) (L.convention leaves.now) P.test)
+            (list (nodes_of (nodes_view items.now))) (decoding_of self.old) (decoding_of self.new)) }
         ensures shape { (decoding_of self.new).shape ≡ (decoding_of self.old).shape }
         ensures added { P.added patterns.new ≡ P.added patterns.old }
         ensures refused { P.refused patterns.new ≡ P.refused patterns.old }
@@ -174,7 +176,8 @@ impl Decoder {
         requires ready { WalkReady (table_data table.now) (decoding_of self.old) }
         requires at { place_of place ≡ next_place (table_data table.now) (decoding_of self.old) }
         requires object { is_object (sort_of (table_data table.now) (next_place (table_data table.now) (decoding_of self.old))) ≡ true }
-        ensures taken { OnOk result (TreeTaken (codec_of (table_data table.now) (L.convention leaves.now) P.test) (object (members_of (members_view pairs.now))) (decoding_of self.old) (decoding_of self.new)) }
+        ensures taken { OnOk result (TreeTaken (codec_of (table_data table.now) (L.convention leaves.now) P.test)
+            (object (members_of (members_view pairs.now))) (decoding_of self.old) (decoding_of self.new)) }
         ensures shape { (decoding_of self.new).shape ≡ (decoding_of self.old).shape }
         ensures added { P.added patterns.new ≡ P.added patterns.old }
         ensures refused { P.refused patterns.new ≡ P.refused patterns.old }
@@ -208,7 +211,8 @@ impl Decoder {
         requires stored { AreStored (table_data table.now).patterns (P.added patterns.old) }
         requires laws { IsConvention (L.convention leaves.now) }
         requires ready { PairReady (codec_of (table_data table.now) (L.convention leaves.now) P.test) (decoding_of self.old) }
-        ensures taken { OnOk result (PairTaken (codec_of (table_data table.now) (L.convention leaves.now) P.test) name.now (node_of tree.now) (decoding_of self.old) (decoding_of self.new)) }
+        ensures taken { OnOk result (PairTaken (codec_of (table_data table.now) (L.convention leaves.now) P.test) name.now
+            (node_of tree.now) (decoding_of self.old) (decoding_of self.new)) }
         ensures shape { (decoding_of self.new).shape ≡ (decoding_of self.old).shape }
         ensures added { P.added patterns.new ≡ P.added patterns.old }
         ensures refused { P.refused patterns.new ≡ P.refused patterns.old }

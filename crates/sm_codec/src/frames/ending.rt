@@ -113,7 +113,8 @@ fn put_default_of(
 ) -> Result<(), NoMemory>
     requires shaped { Shaped (table_data table.now) }
     requires rises { FieldsRise (fields_view fields.old) }
-    ensures { OnOk result (fields_view fields.new ≡ put_default member (default_at (table_data table.now) member) (fields_view fields.old)) }
+    ensures { OnOk result (fields_view fields.new ≡ put_default member (default_at (table_data table.now) member)
+        (fields_view fields.old)) }
 {
     match default_of(table, member) {
         None => Ok(()),
@@ -142,7 +143,8 @@ fn missing_at(alloc: Global, table: &Table, member: u32) -> Result<Outcome, NoMe
 fn stands_before(table: &Table, shape: u32, member: u32, fault: &Fault) -> bool
     requires number { shape < shape_count (table_data table.now) }
     requires shaped { Shaped (table_data table.now) }
-    ensures { result ≡ is_before member (member_with (name_at (table_data table.now)) (first_name (fault_at fault.now).0) (members_at (table_data table.now) shape)) }
+    ensures { result ≡ is_before member (member_with (name_at (table_data table.now)) (first_name (fault_at fault.now).0)
+        (members_at (table_data table.now) shape)) }
 {
     match table.member_named(shape, name_first(&fault.path)) {
         Some(other) => member < other,

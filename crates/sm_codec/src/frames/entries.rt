@@ -105,7 +105,8 @@ fn without_fault(
     count: u64,
     items: Items,
 ) -> Result<Outcome, NoMemory>
-    ensures { IfOk result (λ outcome. outcome_of outcome ≡ list_ended None (length_broken (constraint_data constraints.now) count) (unique && has_twice (items_view items)) (items_view items)) }
+    ensures { IfOk result (λ outcome. outcome_of outcome ≡ list_ended None (length_broken (constraint_data constraints.now) count)
+        (unique && has_twice (items_view items)) (items_view items)) }
 {
     match constraints.judge_length(count as usize) {
         Some(kind) => Ok(Outcome::Bad(fault_here(alloc, kind))),

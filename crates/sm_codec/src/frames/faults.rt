@@ -62,7 +62,8 @@ pub(super) fn name_first(path: &Path) -> &str
 pub(super) fn yields_to(table: &Table, shape: u32, member: u32, fault: &Fault) -> bool
     requires number { shape < shape_count (table_data table.now) }
     requires shaped { Shaped (table_data table.now) }
-    ensures { result ≡ gives_way member (member_with (name_at (table_data table.now)) (first_name (fault_at fault.now).0) (members_at (table_data table.now) shape)) }
+    ensures { result ≡ gives_way member (member_with (name_at (table_data table.now)) (first_name (fault_at fault.now).0)
+        (members_at (table_data table.now) shape)) }
 {
     match table.member_named(shape, name_first(&fault.path)) {
         Some(other) => member <= other,

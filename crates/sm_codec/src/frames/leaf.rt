@@ -34,7 +34,8 @@ fn first_broken<P: Patterns>(
     requires shaped { Shaped (table_data table.now) }
     requires place { InTable (table_data table.now) (place_of place) }
     requires stored { AreStored (table_data table.now).patterns (P.added patterns.old) }
-    ensures first { IfOk result (λ first. first ≡ first_broken (broken_in (table_data table.now) P.test (place_of place) (val_of value.now))) }
+    ensures first { IfOk result (λ first. first ≡ first_broken
+        (broken_in (table_data table.now) P.test (place_of place) (val_of value.now))) }
     ensures added { P.added patterns.new ≡ P.added patterns.old }
     ensures refused { P.refused patterns.new ≡ P.refused patterns.old }
     ensures refusals { P.refusals patterns.new ≡ P.refusals patterns.old }
@@ -55,7 +56,8 @@ fn judged<P: Patterns>(
     requires shaped { Shaped (table_data table.now) }
     requires place { InTable (table_data table.now) (place_of place) }
     requires stored { AreStored (table_data table.now).patterns (P.added patterns.old) }
-    ensures outcome { IfOk result (λ outcome. IsOutcome (settled (here (broken_in (table_data table.now) P.test (place_of place) (val_of value))) (val_of value)) (outcome_of outcome)) }
+    ensures outcome { IfOk result (λ outcome. IsOutcome (settled
+        (here (broken_in (table_data table.now) P.test (place_of place) (val_of value))) (val_of value)) (outcome_of outcome)) }
     ensures added { P.added patterns.new ≡ P.added patterns.old }
     ensures refused { P.refused patterns.new ≡ P.refused patterns.old }
     ensures refusals { P.refusals patterns.new ≡ P.refusals patterns.old }
@@ -79,7 +81,8 @@ pub(crate) fn read_leaf<L: Leaves, P: Patterns>(
     requires shaped { Shaped (table_data table.now) }
     requires place { InTable (table_data table.now) (place_of place) }
     requires stored { AreStored (table_data table.now).patterns (P.added patterns.old) }
-    ensures outcome { IfOk result (λ outcome. IsOutcome (leaf_in (table_data table.now) (L.convention leaves.now) P.test (place_of place) (node_of leaf.now)) (outcome_of outcome)) }
+    ensures outcome { IfOk result (λ outcome. IsOutcome (leaf_in (table_data table.now) (L.convention leaves.now) P.test (place_of place)
+        (node_of leaf.now)) (outcome_of outcome)) }
     ensures added { P.added patterns.new ≡ P.added patterns.old }
     ensures refused { P.refused patterns.new ≡ P.refused patterns.old }
     ensures refusals { P.refusals patterns.new ≡ P.refusals patterns.old }
@@ -136,7 +139,8 @@ pub(crate) fn leaf_arrives<L: Leaves, P: Patterns>(
     requires shaped { Shaped (table_data table.now) }
     requires place { InTable (table_data table.now) (place_of place) }
     requires stored { AreStored (table_data table.now).patterns (P.added patterns.old) }
-    ensures arrival { IfOk result (λ arrival. IsArrival (is_null (node_of leaf.now)) (leaf_in (table_data table.now) (L.convention leaves.now) P.test (place_of place) (node_of leaf.now)) (arrival_of arrival)) }
+    ensures arrival { IfOk result (λ arrival. IsArrival (is_null (node_of leaf.now))
+        (leaf_in (table_data table.now) (L.convention leaves.now) P.test (place_of place) (node_of leaf.now)) (arrival_of arrival)) }
     ensures added { P.added patterns.new ≡ P.added patterns.old }
     ensures refused { P.refused patterns.new ≡ P.refused patterns.old }
     ensures refusals { P.refusals patterns.new ≡ P.refusals patterns.old }

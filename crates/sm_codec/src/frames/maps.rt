@@ -90,7 +90,9 @@ fn judge_at<P: Patterns>(
     requires stored { AreStored (table_data table.now).patterns (P.added patterns.old) }
     requires shaped { Shaped (table_data table.now) }
     requires member { member < member_count (table_data table.now) }
-    ensures first { IfOk result (λ first. first ≡ first_broken (broken (finder (table_data table.now) P.test) (kind_of (table_data table.now) (member_place member)) (constraints_of (table_data table.now) (member_place member)) (text_val text.now))) }
+    ensures first { IfOk result (λ first. first ≡ first_broken
+        (broken (finder (table_data table.now) P.test) (kind_of (table_data table.now) (member_place member))
+        (constraints_of (table_data table.now) (member_place member)) (text_val text.now))) }
     ensures added { P.added patterns.new ≡ P.added patterns.old }
     ensures refused { P.refused patterns.new ≡ P.refused patterns.old }
     ensures refusals { P.refusals patterns.new ≡ P.refusals patterns.old }
@@ -159,7 +161,8 @@ impl KeyFrame {
         requires shaped { Shaped (table_data table.now) }
         requires shape { self.now.shape < shape_count (table_data table.now) }
         requires map { kind_at (table_data table.now) self.now.shape ≡ Map }
-        ensures first { IfOk result (JudgesKey (finder (table_data table.now) P.test) (table_data table.now) self.now.shape (key_frame self.now).current) }
+        ensures first { IfOk result (JudgesKey (finder (table_data table.now) P.test) (table_data table.now) self.now.shape
+            (key_frame self.now).current) }
         ensures added { P.added patterns.new ≡ P.added patterns.old }
         ensures refused { P.refused patterns.new ≡ P.refused patterns.old }
         ensures refusals { P.refusals patterns.new ≡ P.refusals patterns.old }

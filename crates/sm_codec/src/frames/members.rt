@@ -34,7 +34,8 @@ impl MemberFrame {
     pub(crate) fn name<L: Leaves>(&mut self, table: &Table, leaves: &L, name: &str)
         requires shape { self.old.shape < shape_count (table_data table.now) }
         requires shaped { Shaped (table_data table.now) }
-        ensures { IsNamed (member_with ((L.convention leaves.now).name (table_data table.now) self.old.shape) name.now (members_at (table_data table.now) self.old.shape)) (member_frame self.old) (member_frame self.new) }
+        ensures { IsNamed (member_with ((L.convention leaves.now).name (table_data table.now) self.old.shape) name.now
+            (members_at (table_data table.now) self.old.shape)) (member_frame self.old) (member_frame self.new) }
     {
         self.current = leaves.member_named(table, self.shape, name);
     }
@@ -51,7 +52,8 @@ impl MemberFrame {
         requires member { member < member_count (table_data table.now) }
         requires shaped { Shaped (table_data table.now) }
         requires rises { FieldsRise (member_frame self.old).fields }
-        ensures { OnOk result (TakesMember (table_data table.now) member (arrival_of arrival) (member_frame self.old) (member_frame self.new)) }
+        ensures { OnOk result (TakesMember (table_data table.now) member (arrival_of arrival) (member_frame self.old)
+            (member_frame self.new)) }
     {
         self.current = None;
         if !self.seen.add(member)? {

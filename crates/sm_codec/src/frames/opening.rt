@@ -49,7 +49,8 @@ fn nested<L: Leaves>(
 fn tagged(table: &Table, place: ValuePlace, tag: u64) -> Frame
     requires shaped { Shaped (table_data table.now) }
     requires place { InTable (table_data table.now) (place_of place) }
-    ensures { frame_of result ≡ tag_frame (sort_of (table_data table.now) (place_of place)) (shape_of (table_data table.now) (place_of place)) tag }
+    ensures { frame_of result ≡ tag_frame (sort_of (table_data table.now) (place_of place))
+        (shape_of (table_data table.now) (place_of place)) tag }
 {
     match place.simple(table) {
         Some(_) => Frame::Tagged(place.shape(table), tag),
@@ -61,7 +62,8 @@ fn tagged(table: &Table, place: ValuePlace, tag: u64) -> Frame
 pub(crate) fn list_at(alloc: Global, table: &Table, place: ValuePlace) -> Frame
     requires shaped { Shaped (table_data table.now) }
     requires place { InTable (table_data table.now) (place_of place) }
-    ensures { frame_of result ≡ list_start (sort_of (table_data table.now) (place_of place)) (shape_of (table_data table.now) (place_of place)) }
+    ensures { frame_of result ≡ list_start (sort_of (table_data table.now) (place_of place))
+        (shape_of (table_data table.now) (place_of place)) }
 {
     match place.kind(table) {
         ShapeKind::List => Frame::List(EntryFrame::new(alloc, place.shape(table))),
@@ -73,7 +75,8 @@ pub(crate) fn list_at(alloc: Global, table: &Table, place: ValuePlace) -> Frame
 pub(crate) fn object_at(alloc: Global, table: &Table, place: ValuePlace) -> Frame
     requires shaped { Shaped (table_data table.now) }
     requires place { InTable (table_data table.now) (place_of place) }
-    ensures { frame_of result ≡ object_start (sort_of (table_data table.now) (place_of place)) (shape_of (table_data table.now) (place_of place)) }
+    ensures { frame_of result ≡ object_start (sort_of (table_data table.now) (place_of place))
+        (shape_of (table_data table.now) (place_of place)) }
 {
     match place.kind(table) {
         ShapeKind::Structure => Frame::Structure(MemberFrame::new(alloc, place.shape(table))),
@@ -105,7 +108,8 @@ impl Frames {
     ) -> Result<(), NoMemory>
         requires shaped { Shaped (table_data table.now) }
         requires due { ToldIn (table_data table.now) (due_told (table_data table.now) root (frames_of self.old)) }
-        ensures { OnOk result (TagBy (table_data table.now) (L.convention leaves.now) (due_told (table_data table.now) root (frames_of self.old)) tag (frames_of self.old) (frames_of self.new)) }
+        ensures { OnOk result (TagBy (table_data table.now) (L.convention leaves.now)
+            (due_told (table_data table.now) root (frames_of self.old)) tag (frames_of self.old) (frames_of self.new)) }
     {
         match self.due(table, root) {
             Due::At(place) => self.push(tagged(table, place, tag)),
@@ -128,7 +132,9 @@ impl Frames {
     ) -> Result<(), NoMemory>
         requires shaped { Shaped (table_data table.now) }
         requires place { InTable (table_data table.now) (place_of place) }
-        ensures { OnOk result (frames_of self.new ≡ skip_frame 1 (Some (nested_in (L.convention leaves.now) (sort_of (table_data table.now) (place_of place)) tag)) ∷ below (frames_of self.old)) }
+        ensures { OnOk result (frames_of self.new ≡ skip_frame 1
+            (Some (nested_in (L.convention leaves.now) (sort_of (table_data table.now) (place_of place)) tag)) ∷ below
+            (frames_of self.old)) }
     {
         match nested(alloc, table, place, tag, leaves) {
             Ok(kind) => self.replace(Frame::Skip(1, Some(kind))),
@@ -156,7 +162,8 @@ impl Frames {
     ) -> Result<(), NoMemory>
         requires shaped { Shaped (table_data table.now) }
         requires due { ToldIn (table_data table.now) (due_told (table_data table.now) root (frames_of self.old)) }
-        ensures { OnOk result (StartBy list_start (table_data table.now) (L.convention leaves.now) (due_told (table_data table.now) root (frames_of self.old)) (frames_of self.old) (frames_of self.new)) }
+        ensures { OnOk result (StartBy list_start (table_data table.now) (L.convention leaves.now)
+            (due_told (table_data table.now) root (frames_of self.old)) (frames_of self.old) (frames_of self.new)) }
     {
         match self.due(table, root) {
             Due::At(place) => self.push(list_at(alloc, table, place)),
@@ -175,7 +182,8 @@ impl Frames {
     ) -> Result<(), NoMemory>
         requires shaped { Shaped (table_data table.now) }
         requires due { ToldIn (table_data table.now) (due_told (table_data table.now) root (frames_of self.old)) }
-        ensures { OnOk result (StartBy object_start (table_data table.now) (L.convention leaves.now) (due_told (table_data table.now) root (frames_of self.old)) (frames_of self.old) (frames_of self.new)) }
+        ensures { OnOk result (StartBy object_start (table_data table.now) (L.convention leaves.now)
+            (due_told (table_data table.now) root (frames_of self.old)) (frames_of self.old) (frames_of self.new)) }
     {
         match self.due(table, root) {
             Due::At(place) => self.push(object_at(alloc, table, place)),
@@ -213,7 +221,8 @@ impl Frames {
     ) -> Result<bool, NoMemory>
         requires shaped { Shaped (table_data table.now) }
         requires can { FirstCanName (table_data table.now) (frames_of self.old) }
-        ensures { IfOk result (λ known. FirstNames (table_data table.now) (L.convention leaves.now) name.now known (frames_of self.old) (frames_of self.new)) }
+        ensures { IfOk result (λ known. FirstNames (table_data table.now) (L.convention leaves.now) name.now known (frames_of self.old)
+            (frames_of self.new)) }
     {
         match self.frames.last_mut() {
             Some(frame) => frame.name(alloc, table, name, leaves),
@@ -233,7 +242,8 @@ impl Frame {
     ) -> Result<bool, NoMemory>
         requires shaped { Shaped (table_data table.now) }
         requires can { CanName (table_data table.now) (frame_of self.old) }
-        ensures { IfOk result (λ known. FrameNames (table_data table.now) (L.convention leaves.now) name.now known (frame_of self.old) (frame_of self.new)) }
+        ensures { IfOk result (λ known. FrameNames (table_data table.now) (L.convention leaves.now) name.now known (frame_of self.old)
+            (frame_of self.new)) }
     {
         match self {
             Frame::Structure(frame) => {

@@ -90,7 +90,8 @@ impl Frame {
         requires shaped { Shaped (table_data table.now) }
         requires stored { AreStored (table_data table.now).patterns (P.added patterns.old) }
         requires can { CanTake (table_data table.now) (frame_of self.old) }
-        ensures takes { OnOk result (FrameTakes (table_data table.now) P.test (arrival_of arrival) (frame_of self.old) (frame_of self.new)) }
+        ensures takes { OnOk result (FrameTakes (table_data table.now) P.test (arrival_of arrival) (frame_of self.old)
+            (frame_of self.new)) }
         ensures added { P.added patterns.new ≡ P.added patterns.old }
         ensures refused { P.refused patterns.new ≡ P.refused patterns.old }
         ensures refusals { P.refusals patterns.new ≡ P.refusals patterns.old }

@@ -38,7 +38,8 @@ impl MemberFrame {
         requires shape { self.old.shape < shape_count (table_data table.now) }
         requires member { member < member_count (table_data table.now) }
         requires shaped { Shaped (table_data table.now) }
-        ensures { OnOk result (ChoosesMember (table_data table.now) member (arrival_of arrival) (member_frame self.old) (member_frame self.new)) }
+        ensures { OnOk result (ChoosesMember (table_data table.now) member (arrival_of arrival) (member_frame self.old)
+            (member_frame self.new)) }
     {
         self.current = None;
         if !self.seen.add(member)? {
@@ -105,7 +106,8 @@ impl MemberFrame {
         fault: Fault,
     ) -> Result<(), NoMemory>
         requires member { member < member_count (table_data table.now) }
-        ensures { OnOk result (KeepsChoiceFault (table_data table.now) member (fault_at fault) (member_frame self.old) (member_frame self.new)) }
+        ensures { OnOk result (KeepsChoiceFault (table_data table.now) member (fault_at fault) (member_frame self.old)
+            (member_frame self.new)) }
     {
         if self.is_free() {
             self.fault = Some(under_member(alloc, table, member, fault)?);

@@ -52,7 +52,8 @@ SeesPlace left bytes (Err why) = (more : List ℕ) → BodyFramed left (bytes ++
 -- a refusal of a body from a place on
 abbrev pub RefusesBody : BodyLeft → Option (List ℕ) → Option (List ℕ) → HttpRefusal → Type 0
 RefusesBody before ahead left why =
-    RefusedAs ahead left (λ bytes word. BodyFramed before bytes (body_refused word)) (λ taken. BodyFramed before taken (body_refused Ended)) why
+    RefusedAs ahead left (λ bytes word. BodyFramed before bytes (body_refused word))
+    (λ taken. BodyFramed before taken (body_refused Ended)) why
 
 -- the bytes ahead lose some, which are a step to the place now
 pub record GoesTo (before now : BodyLeft) (ahead behind : Option (List ℕ)) (piece : List ℕ) : Type 0 where

@@ -78,7 +78,8 @@ impl Reader {
         requires placed { JsonIsPlaced self.old (E.stands_for to.old) (E.takes to.old) }
         requires place { ClosesAt OpenKind.List self.old.place }
         requires inside { IsIn OpenKind.List (lists_of self.old) }
-        ensures goes { OnOk result (JsonBrings self.old (E.stands_for to.old) (right_bracket ∷ []) self.new (E.stands_for to.new) (E.takes to.new)) }
+        ensures goes { OnOk result (JsonBrings self.old (E.stands_for to.old) (right_bracket ∷ []) self.new (E.stands_for to.new)
+            (E.takes to.new)) }
         ensures alike { E.alike to.old to.new }
     {
         to.event(Event::EndList)?;
@@ -90,7 +91,8 @@ impl Reader {
         requires placed { JsonIsPlaced self.old (E.stands_for to.old) (E.takes to.old) }
         requires place { ClosesAt OpenKind.Object self.old.place }
         requires inside { IsIn OpenKind.Object (lists_of self.old) }
-        ensures goes { OnOk result (JsonBrings self.old (E.stands_for to.old) (right_brace ∷ []) self.new (E.stands_for to.new) (E.takes to.new)) }
+        ensures goes { OnOk result (JsonBrings self.old (E.stands_for to.old) (right_brace ∷ []) self.new (E.stands_for to.new)
+            (E.takes to.new)) }
         ensures alike { E.alike to.old to.new }
     {
         to.event(Event::EndObject)?;

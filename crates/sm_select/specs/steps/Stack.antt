@@ -77,5 +77,6 @@ IsRefusedStep len rest NoMemory = ⊥
 -- none of the signs that are a step by themselves, or begin an attribute or names
 abbrev pub NoPlainSign : List ℕ → Type 0
 NoPlainSign s =
-    (stands Star s ≡ false) × (stands Greater s ≡ false) × (stands Smaller s ≡ false) × (stands Tilde s ≡ false) × (stands OpenPath s ≡ false)
+    (stands Star s ≡ false) × (stands Greater s ≡ false) × (stands Smaller s ≡ false) × (stands Tilde s ≡ false)
+    × (stands OpenPath s ≡ false)
     × (stands OpenNames s ≡ false)

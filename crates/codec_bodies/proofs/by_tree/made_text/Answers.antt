@@ -8,6 +8,7 @@ use Rattle.codec_bodies.proofs.by_tree.made_text.Goals as goal
 pub write_tree-requires : goal.write_tree-requires
 write_tree-requires g c = record {
   json = subst IsJson (sym c.in_ok-tree.ensures.tree)
-      (text_there (table_data c.args.table.now) (g.L.Leaves.convention c.args.leaves.now) c.args.shape (val_of c.args.value.now) c.requires.shaped
+      (text_there (table_data c.args.table.now) (g.L.Leaves.convention c.args.leaves.now) c.args.shape
+      (val_of c.args.value.now) c.requires.shaped
       c.requires.shape c.requires.fits c.requires.carried c.requires.writes);
 }

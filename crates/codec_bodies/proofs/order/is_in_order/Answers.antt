@@ -12,7 +12,8 @@ use Rattle.codec_bodies.proofs.order.is_in_order.Goals as goal
 pub returns-clause-shaped : goal.returns-clause-shaped
 returns-clause-shaped c =
     let t = table_data c.args.table.now in
-    if_ok_so (λ good. IsTrue good → (s : ℕ) → s < shape_count t → ShapeInOrder t s) (λ good. IsTrue good → Shaped t) c.are_shapes_in_order.result
+    if_ok_so (λ good. IsTrue good → (s : ℕ) → s < shape_count t → ShapeInOrder t s)
+    (λ good. IsTrue good → Shaped t) c.are_shapes_in_order.result
     (λ good shapes true. shaped_by t (c.if-not-are_members_in_order.ensures refl) (shapes true)) c.are_shapes_in_order.ensures
 
 pub returns-clause-unset : goal.returns-clause-unset

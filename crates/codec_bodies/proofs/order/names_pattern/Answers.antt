@@ -11,4 +11,5 @@ returns-in-Some c good =
     let n = c.in-Some.number in
     let one : c.count_of.result ≡ 1 = is_one c.count_of.result good in
     subst (NamesPattern (table_data c.args.table.now)) (sym c.in-Some.is)
-    (names_one (table_data c.args.table.now) n _ refl (ap (λ ps. length (texts_numbered n ps)) (sym c.as_slice.ensures) ∙ sym c.count_of.ensures ∙ one))
+    (names_one (table_data c.args.table.now) n _ refl (ap (λ ps. length (texts_numbered n ps)) (sym c.as_slice.ensures)
+    ∙ sym c.count_of.ensures ∙ one))

@@ -36,4 +36,5 @@ returns c good =
     (drop c.loop-member.member-index c.args.members.now) _
     (drop_none c.args.members.now c.loop-member.member-index
     (omega (arith, c.loop-member-test.false, c.loop-member.auto.member-index-end)))
-    (none_rise (slice_cmp nat_cmp) nat_list_cmp_total) (λ k. one_rises (slice_cmp nat_cmp) nat_list_cmp_total (name k)) c.loop-member.invariant
+    (none_rise (slice_cmp nat_cmp) nat_list_cmp_total) (λ k. one_rises (slice_cmp nat_cmp) nat_list_cmp_total (name k))
+    c.loop-member.invariant

@@ -20,7 +20,8 @@ loop-number-preserved c h =
           (rise_behind nat_cmp nat_cmp_total w.in-Some.before x (drop (i + 1) xs)
           (less_first w.in-Some.before x (omega (arith, w.if-number-before.false)))) c.loop-number.invariant h
       | in-None w ↦
-          first_step (IsStrictlySortedBy nat_cmp) c.loop-number.last x (drop i xs) (drop (i + 1) xs) _ w.in-None.is cut c.loop-number.invariant h
+          first_step (IsStrictlySortedBy nat_cmp) c.loop-number.last x (drop i xs)
+          (drop (i + 1) xs) _ w.in-None.is cut c.loop-number.invariant h
     ]
 
 pub returns : goal.returns

@@ -9,4 +9,5 @@ pub returns-clause-fresh : goal.returns-clause-fresh
 returns-clause-fresh c = taken_fresh c.args.reader.now c.feed.new.self c.feed.result _ _ _ (c.feed.ensures.feeds c.requires.fresh)
 
 pub returns-clause-stands : goal.returns-clause-stands
-returns-clause-stands c = taken_stands c.args.reader.now c.feed.new.self c.feed.result _ _ _ (c.feed.ensures.feeds c.requires.fresh) c.requires.stands
+returns-clause-stands c = taken_stands c.args.reader.now c.feed.new.self c.feed.result _ _ _
+    (c.feed.ensures.feeds c.requires.fresh) c.requires.stands

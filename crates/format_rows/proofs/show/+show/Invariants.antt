@@ -14,7 +14,9 @@ abbrev pub decreases-show_pairs : goal.decreases-show_pairs
 decreases-show_pairs l = members_weight (members_of (members_view l.pairs.now))
 
 abbrev pub invariant-show_entries-loop-item : goal.invariant-show_entries-loop-item
-invariant-show_entries-loop-item l = nodes_weight (nodes_of (nodes_view (drop l.item-index l.items))) ≤ nodes_weight (nodes_of (nodes_view l.items))
+invariant-show_entries-loop-item l = nodes_weight (nodes_of (nodes_view (drop l.item-index l.items))) ≤ nodes_weight
+    (nodes_of (nodes_view l.items))
 
 abbrev pub invariant-show_pairs-loop-pair : goal.invariant-show_pairs-loop-pair
-invariant-show_pairs-loop-pair l = members_weight (members_of (members_view (drop l.pair-index l.pairs))) ≤ members_weight (members_of (members_view l.pairs))
+invariant-show_pairs-loop-pair l = members_weight (members_of (members_view (drop l.pair-index l.pairs))) ≤ members_weight
+    (members_of (members_view l.pairs))

@@ -9,4 +9,5 @@ returns-in-Err-Fault c = λ c' es n laws kept streams.
 
 pub returns-in-Err-NoMemory : goal.returns-in-Err-NoMemory
 returns-in-Err-NoMemory c = λ c' es n laws kept streams.
-    subst (λ r. Finishes c' c.args.decoder.shape n (Err r)) c.in-Err-NoMemory.field-0-is (c.in-Err-NoMemory.ensures c' es n laws kept streams)
+    subst (λ r. Finishes c' c.args.decoder.shape n (Err r)) c.in-Err-NoMemory.field-0-is
+    (c.in-Err-NoMemory.ensures c' es n laws kept streams)

@@ -13,7 +13,8 @@ loop-at-init g c = record {
   inside = omega arith;
   fresh = c.new-reader.ensures.fresh;
   stands = c.new-reader.ensures.stands;
-  follows = λ es done. subst (g.E.EventSink.stands_for c.args.to.now) (sym (no_events es (c.few_events.ensures [] es done))) c.requires.empty;
+  follows = λ es done. subst (g.E.EventSink.stands_for c.args.to.now)
+      (sym (no_events es (c.few_events.ensures [] es done))) c.requires.empty;
   takes = c.requires.takes;
   alike = g.met.E.EventSink.alike_itself c.args.to.now;
 }

@@ -15,7 +15,8 @@ encode_events-requires-clause-takes g c =
 
 pub returns : goal.returns
 returns g c =
-    let n = written (table_data c.args.table.now) (g.L.Leaves.convention c.args.leaves.now) (root_place c.args.shape) (val_of c.args.value.now) in
+    let n = written (table_data c.args.table.now) (g.L.Leaves.convention c.args.leaves.now) (root_place c.args.shape)
+    (val_of c.args.value.now) in
     let made = encodes_json (table_data c.args.table.now) (g.L.Leaves.convention c.args.leaves.now) any_text (root_place c.args.shape)
     (val_of c.args.value.now) c.requires.shaped c.requires.writes c.requires.shape c.requires.fits c.requires.carried in
     c.into_bytes.ensures (numbered n []) c.in_ok-encode_events.ensures.stands ∙ made.1

@@ -7,7 +7,8 @@ use Rattle.sm_codec.proofs.counting.all_nodes.Goals as goal
 
 pub returns : goal.returns
 returns c =
-    let done = ap (λ xs. total frame_nodes (map frame_of xs)) (drop_all c.loop-frame.frame-index c.args.frames.now c.loop-frame-test.false) in
+    let done = ap (λ xs. total frame_nodes (map frame_of xs))
+    (drop_all c.loop-frame.frame-index c.args.frames.now c.loop-frame-test.false) in
     let turned : frames_nodes (stack_of c.args.frames.now) ≡ total frame_nodes (map frame_of c.args.frames.now)
     = total_reversed frame_nodes (map frame_of c.args.frames.now) in
     omega (arith, done, turned, c.loop-frame.invariant.count, c.loop-frame.invariant.fits)

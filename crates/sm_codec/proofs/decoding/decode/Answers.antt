@@ -14,7 +14,8 @@ pub finish-requires : goal.finish-requires
 finish-requires g c =
     let k = codec_of (table_data c.args.table.now) (g.L.Leaves.convention c.args.leaves.now) g.P.Patterns.test in
     record {
-      whole = walked_whole k (node_of c.args.tree.now) c.args.shape (decoding_of c.new-decoder.result) (decoding_of c.walk.new.self) c.laws.ensures c.new-decoder.ensures
+      whole = walked_whole k (node_of c.args.tree.now) c.args.shape (decoding_of c.new-decoder.result)
+          (decoding_of c.walk.new.self) c.laws.ensures c.new-decoder.ensures
           c.requires.shape c.walk.ensures.shape c.in-Ok.ensures.taken;
     }
 
@@ -23,6 +24,7 @@ returns-in-Ok-clause-decoded g c =
     let k = codec_of (table_data c.args.table.now) (g.L.Leaves.convention c.args.leaves.now) g.P.Patterns.test in
     let n = node_of c.args.tree.now in
     finished_decodes k c.args.shape n c.finish.result
-    (walked_finishes k n c.args.shape (decoding_of c.new-decoder.result) (decoding_of c.walk.new.self) c.laws.ensures c.new-decoder.ensures c.requires.shape
+    (walked_finishes k n c.args.shape (decoding_of c.new-decoder.result)
+    (decoding_of c.walk.new.self) c.laws.ensures c.new-decoder.ensures c.requires.shape
     c.walk.ensures.shape c.in-Ok.ensures.taken c.finish.result
     (record { convention = c.laws.ensures; table = c.requires.shaped; defaults = c.requires.built.defaults }) c.finish.ensures)

@@ -19,7 +19,8 @@ loop-number-preserved g c =
     let default = c.in_ok-default.default in
     let below : c.loop-number.number < length c.as_slice-count.result.now = grind (arith, common_steps) in
     let inside : c.loop-number.number < length (table_data c.args.table.now).members =
-    subst (λ n. c.loop-number.number < n) (sym (length-map c.as_slice-count.result.now member_data) ∙ ap length c.as_slice-count.ensures) below in
+    subst (λ n. c.loop-number.number < n) (sym (length-map c.as_slice-count.result.now member_data) ∙ ap length c.as_slice-count.ensures)
+    below in
     let more : defaults_view c.push.new.self.items ≡ defaults_view items ++ option_map val_of default ∷ [] =
     ap defaults_view c.in_ok-push.ensures.items ∙ map-append (option_map val_of) items (default ∷ []) in
     record {

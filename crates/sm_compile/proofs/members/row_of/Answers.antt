@@ -41,6 +41,7 @@ pub member_row-requires-clause-values : goal.member_row-requires-clause-values
 member_row-requires-clause-values c =
     let place = c.member_place-place.result in
     let has = c.member_place-place.ensures in
-    in_row c.args.parts.now.graph.now c.args.parts.now.shapes.now c.args.parts.now.values.now place.target_row place.target place.target_kind
+    in_row c.args.parts.now.graph.now c.args.parts.now.shapes.now c.args.parts.now.values.now place.target_row place.target
+    place.target_kind
     c.values_in-values.result.now c.requires.values c.values_in-values.ensures
     (target_row_is c.args.parts.now.shapes.now place.target_row place.target has.target_row) has.target_kind

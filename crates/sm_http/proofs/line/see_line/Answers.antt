@@ -7,7 +7,8 @@ returns-then-len-bytes c = all_text c.args.bytes.now c.run_len-len.result c.run_
 
 pub returns-then-bytes-len-ne13 : goal.returns-then-bytes-len-ne13
 returns-then-bytes-len-ne13 c =
-    no_return c.args.bytes.now c.run_len-len.result c.run_len-len.ensures.run (omega (arith, c.run_len-len.ensures.within, c.if-len-bytes.false))
+    no_return c.args.bytes.now c.run_len-len.result c.run_len-len.ensures.run
+    (omega (arith, c.run_len-len.ensures.within, c.if-len-bytes.false))
     c.if-bytes-len-ne13.true
 
 pub returns-then-len-bytes-2 : goal.returns-then-len-bytes-2

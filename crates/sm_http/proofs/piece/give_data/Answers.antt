@@ -10,20 +10,25 @@ use Rattle.sm_http.proofs.piece.give_data.Goals as goal
 pub returns-then-most-eq0-clause-bytes : goal.returns-then-most-eq0-clause-bytes
 returns-then-most-eq0-clause-bytes g c =
     let ahead = prepend_known c.args.held.now (g.S.Source.left c.args.source.now) in
-    subst (λ p. GivesPiece p Done ahead ahead c.args.buf.now 0) (sym (c.in-Known.is ∙ ap Known c.if-most-eq0.true)) (gives_none ahead c.args.buf.now)
+    subst (λ p. GivesPiece p Done ahead ahead c.args.buf.now 0) (sym (c.in-Known.is ∙ ap Known c.if-most-eq0.true))
+    (gives_none ahead c.args.buf.now)
 
 pub returns-in-Err-clause-bytes : goal.returns-in-Err-clause-bytes
 returns-in-Err-clause-bytes g c =
     let ahead = prepend_known c.args.held.now (g.S.Source.left c.args.source.now) in
     subst (λ p. RefusesBody p ahead (g.S.Source.left c.take_data.new.source) c.in-Err.refusal) (sym c.in-Known.is)
-    (gives_refused (Known c.in-Known.most) c.in-Known.most ahead (prepend_known c.take_data.new.held (g.S.Source.left c.take_data.new.source)) (g.S.Source.left c.take_data.new.source) c.take_data.new.buf c.in-Err.refusal
+    (gives_refused (Known c.in-Known.most) c.in-Known.most ahead
+    (prepend_known c.take_data.new.held (g.S.Source.left c.take_data.new.source))
+    (g.S.Source.left c.take_data.new.source) c.take_data.new.buf c.in-Err.refusal
     (known_open c.in-Known.most (omega (arith, c.if-most-eq0.false))) c.in-Err.ensures.bytes)
 
 pub returns-in-Err-take_data-clause-bytes : goal.returns-in-Err-take_data-clause-bytes
 returns-in-Err-take_data-clause-bytes g c =
     let ahead = prepend_known c.args.held.now (g.S.Source.left c.args.source.now) in
     subst (λ p. RefusesBody p ahead (g.S.Source.left c.take_data-in-Data.new.source) c.in-Err-take_data.refusal) (sym c.in-Data.is)
-    (gives_refused (Data c.in-Data.most c.in-Data.total) c.in-Data.most ahead (prepend_known c.take_data-in-Data.new.held (g.S.Source.left c.take_data-in-Data.new.source)) (g.S.Source.left c.take_data-in-Data.new.source) c.take_data-in-Data.new.buf c.in-Err-take_data.refusal
+    (gives_refused (Data c.in-Data.most c.in-Data.total) c.in-Data.most ahead
+    (prepend_known c.take_data-in-Data.new.held (g.S.Source.left c.take_data-in-Data.new.source))
+    (g.S.Source.left c.take_data-in-Data.new.source) c.take_data-in-Data.new.buf c.in-Err-take_data.refusal
     (data_open c.in-Data.most c.in-Data.total) c.in-Err-take_data.ensures.bytes)
 
 pub returns-in-Ok-clause-bytes : goal.returns-in-Ok-clause-bytes
@@ -38,8 +43,10 @@ pub returns-in-Ok-take_data-clause-bytes : goal.returns-in-Ok-take_data-clause-b
 returns-in-Ok-take_data-clause-bytes g c =
     let ahead = prepend_known c.args.held.now (g.S.Source.left c.args.source.now) in
     let behind = prepend_known c.take_data-in-Data.new.held (g.S.Source.left c.take_data-in-Data.new.source) in
-    subst (λ p. GivesPiece p (Data (c.in-Data.most - c.in-Ok-take_data.count) c.in-Data.total) ahead behind c.take_data-in-Data.new.buf c.in-Ok-take_data.count) (sym c.in-Data.is)
-    (gives_data c.in-Data.most c.in-Data.total c.in-Ok-take_data.count ahead behind (g.S.Source.left c.take_data-in-Data.new.source) c.take_data-in-Data.new.buf
+    subst (λ p. GivesPiece p (Data (c.in-Data.most - c.in-Ok-take_data.count) c.in-Data.total) ahead behind c.take_data-in-Data.new.buf
+    c.in-Ok-take_data.count) (sym c.in-Data.is)
+    (gives_data c.in-Data.most c.in-Data.total c.in-Ok-take_data.count ahead behind
+    (g.S.Source.left c.take_data-in-Data.new.source) c.take_data-in-Data.new.buf
     (subst IsWithinLimit c.in-Data.is c.requires.within) c.take_data-in-Data.array_long c.in-Ok-take_data.ensures.bytes)
 
 pub returns-in-Done-clause-bytes : goal.returns-in-Done-clause-bytes

@@ -10,14 +10,18 @@ pub returns-in-Ok-Next-clause-bytes : goal.returns-in-Ok-Next-clause-bytes
 returns-in-Ok-Next-clause-bytes g c =
     let sees = sees_at c.args.left.now _ _ _ (Ok (Next c.in-Ok-Next.used c.in-Ok-Next.next)) c.as_slice.ensures.bytes
     (c.in-Ok-Next.is ∙ ap Ok c.in-Ok-Next.field-0-is) c.see_place.ensures in
-    subst (λ k. PassesTo c.args.left.now c.in-Ok-Next.next (prepend_known c.args.held.now (g.S.Source.left c.args.source.now)) (prepend_known k (g.S.Source.left c.loop-used.source)))
+    subst (λ k. PassesTo c.args.left.now c.in-Ok-Next.next (prepend_known c.args.held.now (g.S.Source.left c.args.source.now))
+    (prepend_known k (g.S.Source.left c.loop-used.source)))
     (sym c.advance.ensures)
-    (next_ahead c.args.left.now c.in-Ok-Next.next (prepend_known c.args.held.now (g.S.Source.left c.args.source.now)) (g.S.Source.left c.loop-used.source) c.loop-used.held c.in-Ok-Next.used c.loop-used.invariant.kept sees)
+    (next_ahead c.args.left.now c.in-Ok-Next.next (prepend_known c.args.held.now (g.S.Source.left c.args.source.now))
+    (g.S.Source.left c.loop-used.source) c.loop-used.held c.in-Ok-Next.used c.loop-used.invariant.kept sees)
 
 pub returns-in-Err-clause-bytes : goal.returns-in-Err-clause-bytes
 returns-in-Err-clause-bytes g c =
     let sees = sees_at c.args.left.now _ _ _ (Err c.in-Err.refusal) c.as_slice.ensures.bytes c.in-Err.is c.see_place.ensures in
-    refused_ahead c.args.left.now (prepend_known c.args.held.now (g.S.Source.left c.args.source.now)) (g.S.Source.left c.loop-used.source) (g.S.Source.left c.loop-used.source) c.loop-used.held c.in-Err.refusal c.loop-used.invariant.kept sees
+    refused_ahead c.args.left.now (prepend_known c.args.held.now (g.S.Source.left c.args.source.now))
+    (g.S.Source.left c.loop-used.source) (g.S.Source.left c.loop-used.source) c.loop-used.held c.in-Err.refusal
+    c.loop-used.invariant.kept sees
 
 pub returns-in-Err-clause-cause : goal.returns-in-Err-clause-cause
 returns-in-Err-clause-cause g c = λ e.
@@ -26,6 +30,8 @@ returns-in-Err-clause-cause g c = λ e.
 
 pub returns-in-Ok-eq0-clause-bytes : goal.returns-in-Ok-eq0-clause-bytes
 returns-in-Ok-eq0-clause-bytes g c =
-    let sees = sees_at c.args.left.now _ _ _ (Ok Part) c.as_slice.ensures.bytes (c.in-Ok-Part.is ∙ ap Ok c.in-Ok-Part.field-0-is) c.see_place.ensures in
+    let sees = sees_at c.args.left.now _ _ _ (Ok Part) c.as_slice.ensures.bytes
+    (c.in-Ok-Part.is ∙ ap Ok c.in-Ok-Part.field-0-is) c.see_place.ensures in
     let fills = fills_at _ _ _ _ _ (Ok 0) (c.in-Ok-eq0.is ∙ ap Ok c.in-Ok-eq0.field-0-test) c.fill.ensures.bytes in
-    ended_ahead c.args.left.now (prepend_known c.args.held.now (g.S.Source.left c.args.source.now)) (g.S.Source.left c.loop-used.source) (g.S.Source.left c.fill.new.source) c.loop-used.held c.fill.new.self c.loop-used.invariant.kept fills sees
+    ended_ahead c.args.left.now (prepend_known c.args.held.now (g.S.Source.left c.args.source.now)) (g.S.Source.left c.loop-used.source)
+    (g.S.Source.left c.fill.new.source) c.loop-used.held c.fill.new.self c.loop-used.invariant.kept fills sees

@@ -7,7 +7,8 @@ use Rattle.sm_http.proofs.read.read_body.Given as goal
 
 abbrev pub invariant-loop-count : goal.invariant-loop-count
 invariant-loop-count g l = record {
-  goes : GoesTo l.fn.begun l.left (prepend_known l.fn.held (g.S.Source.left l.fn.source)) (prepend_known l.held (g.S.Source.left l.source)) l.body.items;
+  goes : GoesTo l.fn.begun l.left (prepend_known l.fn.held (g.S.Source.left l.fn.source))
+      (prepend_known l.held (g.S.Source.left l.source)) l.body.items;
   faults : g.S.Source.faults l.fn.source ≤ g.S.Source.faults l.source;
 }
 

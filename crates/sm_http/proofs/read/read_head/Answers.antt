@@ -16,31 +16,40 @@ loop-found-init g c = record {
 
 pub returns-in-Ok-Some-clause-bytes : goal.returns-in-Ok-Some-clause-bytes
 returns-in-Ok-Some-clause-bytes g c =
-    found_ahead c.args.side (prepend_known c.args.held.now (g.S.Source.left c.args.source.now)) (g.S.Source.left c.loop-found.source) c.loop-found.held c.look.new.held c.in-Ok-Some.found
+    found_ahead c.args.side (prepend_known c.args.held.now (g.S.Source.left c.args.source.now))
+    (g.S.Source.left c.loop-found.source) c.loop-found.held c.look.new.held c.in-Ok-Some.found
     c.loop-found.invariant.kept c.look.ensures.few
-    (looks_at c.args.side c.loop-found.held c.look.new.held c.look.result (Ok (Some c.in-Ok-Some.found)) (c.in-Ok-Some.is ∙ ap Ok c.in-Ok-Some.field-0-is) c.look.ensures.bytes)
+    (looks_at c.args.side c.loop-found.held c.look.new.held c.look.result (Ok (Some c.in-Ok-Some.found))
+    (c.in-Ok-Some.is ∙ ap Ok c.in-Ok-Some.field-0-is) c.look.ensures.bytes)
 
 pub returns-in-Ok-Some-clause-within : goal.returns-in-Ok-Some-clause-within
 returns-in-Ok-Some-clause-within g c =
     found_within c.args.side c.loop-found.held c.look.new.held c.in-Ok-Some.found
-    (looks_at c.args.side c.loop-found.held c.look.new.held c.look.result (Ok (Some c.in-Ok-Some.found)) (c.in-Ok-Some.is ∙ ap Ok c.in-Ok-Some.field-0-is) c.look.ensures.bytes)
+    (looks_at c.args.side c.loop-found.held c.look.new.held c.look.result (Ok (Some c.in-Ok-Some.found))
+    (c.in-Ok-Some.is ∙ ap Ok c.in-Ok-Some.field-0-is) c.look.ensures.bytes)
 
 pub returns-in-Err-clause-bytes : goal.returns-in-Err-clause-bytes
 returns-in-Err-clause-bytes g c =
-    refused_ahead c.args.side (prepend_known c.args.held.now (g.S.Source.left c.args.source.now)) (g.S.Source.left c.loop-found.source) (g.S.Source.left c.loop-found.source) c.loop-found.held c.in-Err.refusal
+    refused_ahead c.args.side (prepend_known c.args.held.now (g.S.Source.left c.args.source.now)) (g.S.Source.left c.loop-found.source)
+    (g.S.Source.left c.loop-found.source) c.loop-found.held c.in-Err.refusal
     c.loop-found.invariant.kept c.look.ensures.few
     (looks_at c.args.side c.loop-found.held c.look.new.held c.look.result (Err c.in-Err.refusal) c.in-Err.is c.look.ensures.bytes)
 
 pub returns-then-as_slice-eq-HEAD_LIMIT-clause-bytes : goal.returns-then-as_slice-eq-HEAD_LIMIT-clause-bytes
 returns-then-as_slice-eq-HEAD_LIMIT-clause-bytes g c =
-    let none = looks_at c.args.side c.loop-found.held c.look.new.held c.look.result (Ok None) (c.in-Ok-None.is ∙ ap Ok c.in-Ok-None.field-0-is) c.look.ensures.bytes in
-    large_ahead c.args.side (prepend_known c.args.held.now (g.S.Source.left c.args.source.now)) (g.S.Source.left c.loop-found.source) (g.S.Source.left c.loop-found.source) c.loop-found.held
-    c.loop-found.invariant.kept (ap length (sym none.0) ∙ ap length (sym c.as_slice.ensures.bytes) ∙ c.if-as_slice-eq-HEAD_LIMIT.true) none.1
+    let none = looks_at c.args.side c.loop-found.held c.look.new.held c.look.result (Ok None)
+    (c.in-Ok-None.is ∙ ap Ok c.in-Ok-None.field-0-is) c.look.ensures.bytes in
+    large_ahead c.args.side (prepend_known c.args.held.now (g.S.Source.left c.args.source.now)) (g.S.Source.left c.loop-found.source)
+    (g.S.Source.left c.loop-found.source) c.loop-found.held
+    c.loop-found.invariant.kept (ap length (sym none.0) ∙ ap length (sym c.as_slice.ensures.bytes) ∙ c.if-as_slice-eq-HEAD_LIMIT.true)
+    none.1
 
 pub loop-found-preserved : goal.loop-found-preserved
 loop-found-preserved g c =
-    let none = looks_at c.args.side c.loop-found.held c.look.new.held c.look.result (Ok None) (c.in-Ok-None.is ∙ ap Ok c.in-Ok-None.field-0-is) c.look.ensures.bytes in
-    let kept = subst (λ s. Keeps (prepend_known c.args.held.now (g.S.Source.left c.args.source.now)) (prepend_known s (g.S.Source.left c.loop-found.source))) (sym none.0) c.loop-found.invariant.kept in
+    let none = looks_at c.args.side c.loop-found.held c.look.new.held c.look.result (Ok None)
+    (c.in-Ok-None.is ∙ ap Ok c.in-Ok-None.field-0-is) c.look.ensures.bytes in
+    let kept = subst (λ s. Keeps (prepend_known c.args.held.now (g.S.Source.left c.args.source.now))
+    (prepend_known s (g.S.Source.left c.loop-found.source))) (sym none.0) c.loop-found.invariant.kept in
     record {
       kept = ahead_kept _ _ _ _ _ c.in-Ok.field-0 kept (fills_on_at _ _ _ _ _ (Ok c.in-Ok.field-0) c.in-Ok.is c.fill_line.ensures.bytes);
       faults = omega (arith, c.loop-found.invariant.faults, c.fill_line.ensures.later);
@@ -48,43 +57,61 @@ loop-found-preserved g c =
 
 pub returns-else-len-eq0-clause-bytes : goal.returns-else-len-eq0-clause-bytes
 returns-else-len-eq0-clause-bytes g c =
-    let none = looks_at c.args.side c.loop-found.held c.look.new.held c.look.result (Ok None) (c.in-Ok-None.is ∙ ap Ok c.in-Ok-None.field-0-is) c.look.ensures.bytes in
-    let kept = subst (λ s. Keeps (prepend_known c.args.held.now (g.S.Source.left c.args.source.now)) (prepend_known s (g.S.Source.left c.loop-found.source))) (sym none.0) c.loop-found.invariant.kept in
+    let none = looks_at c.args.side c.loop-found.held c.look.new.held c.look.result (Ok None)
+    (c.in-Ok-None.is ∙ ap Ok c.in-Ok-None.field-0-is) c.look.ensures.bytes in
+    let kept = subst (λ s. Keeps (prepend_known c.args.held.now (g.S.Source.left c.args.source.now))
+    (prepend_known s (g.S.Source.left c.loop-found.source))) (sym none.0) c.loop-found.invariant.kept in
     let sees = subst (λ s. SeesHead c.args.side s (Ok Part)) (sym none.0) none.1 in
     let fills = fills_on_at _ _ _ _ _ (Ok 0) (c.in-Ok-eq0.is ∙ ap Ok c.in-Ok-eq0.field-0-test) c.fill_line.ensures.bytes in
     let same = ap length c.as_slice.ensures.bytes in
     let short : length c.look.new.held < head_limit = omega (arith, same, c.look.ensures.still_few, c.if-as_slice-eq-HEAD_LIMIT.false) in
     let some : 0 < length c.fill_line.new.held = omega (arith, c.len.ensures.count, c.if-len-eq0.false) in
-    ended_ahead c.args.side (prepend_known c.args.held.now (g.S.Source.left c.args.source.now)) (g.S.Source.left c.loop-found.source) (g.S.Source.left c.loop-found.source) (g.S.Source.left c.fill_line.new.source) c.look.new.held
+    ended_ahead c.args.side (prepend_known c.args.held.now (g.S.Source.left c.args.source.now)) (g.S.Source.left c.loop-found.source)
+    (g.S.Source.left c.loop-found.source) (g.S.Source.left c.fill_line.new.source) c.look.new.held
     c.fill_line.new.held kept fills some short sees
 
 pub returns-in-Ok-Some-look-clause-bytes : goal.returns-in-Ok-Some-look-clause-bytes
 returns-in-Ok-Some-look-clause-bytes g c =
     let ahead = prepend_known c.args.held.now (g.S.Source.left c.args.source.now) in
-    let none = looks_at c.args.side c.loop-found.held c.look.new.held c.look.result (Ok None) (c.in-Ok-None.is ∙ ap Ok c.in-Ok-None.field-0-is) c.look.ensures.bytes in
+    let none = looks_at c.args.side c.loop-found.held c.look.new.held c.look.result (Ok None)
+    (c.in-Ok-None.is ∙ ap Ok c.in-Ok-None.field-0-is) c.look.ensures.bytes in
     let kept = subst (λ s. Keeps ahead (prepend_known s (g.S.Source.left c.loop-found.source))) (sym none.0) c.loop-found.invariant.kept in
     let fills = fills_on_at _ _ _ _ _ (Err Failed) (c.in-Err-Failed.is ∙ ap Err c.in-Err-Failed.field-0-is) c.fill_line.ensures.bytes in
-    let now = ahead_taken ahead (g.S.Source.left c.loop-found.source) (g.S.Source.left c.fill_line.new.source) c.look.new.held c.fill_line.new.held fills.0 kept fills.1 in
-    found_ahead c.args.side ahead (g.S.Source.left c.fill_line.new.source) c.fill_line.new.held c.look-in-Err-Failed.new.held c.in-Ok-Some-look.found now c.look-in-Err-Failed.ensures.few
-    (looks_at c.args.side c.fill_line.new.held c.look-in-Err-Failed.new.held c.look-in-Err-Failed.result (Ok (Some c.in-Ok-Some-look.found)) (c.in-Ok-Some-look.is ∙ ap Ok c.in-Ok-Some-look.field-0-is) c.look-in-Err-Failed.ensures.bytes)
+    let now = ahead_taken ahead (g.S.Source.left c.loop-found.source)
+    (g.S.Source.left c.fill_line.new.source) c.look.new.held c.fill_line.new.held fills.0 kept fills.1 in
+    found_ahead c.args.side ahead (g.S.Source.left c.fill_line.new.source) c.fill_line.new.held c.look-in-Err-Failed.new.held
+    c.in-Ok-Some-look.found now c.look-in-Err-Failed.ensures.few
+    (looks_at c.args.side c.fill_line.new.held c.look-in-Err-Failed.new.held c.look-in-Err-Failed.result
+    (Ok (Some c.in-Ok-Some-look.found)) (c.in-Ok-Some-look.is ∙ ap Ok c.in-Ok-Some-look.field-0-is) c.look-in-Err-Failed.ensures.bytes)
 
 pub returns-in-Ok-None-look-clause-bytes : goal.returns-in-Ok-None-look-clause-bytes
 returns-in-Ok-None-look-clause-bytes g c =
     let ahead = prepend_known c.args.held.now (g.S.Source.left c.args.source.now) in
-    let none = looks_at c.args.side c.loop-found.held c.look.new.held c.look.result (Ok None) (c.in-Ok-None.is ∙ ap Ok c.in-Ok-None.field-0-is) c.look.ensures.bytes in
+    let none = looks_at c.args.side c.loop-found.held c.look.new.held c.look.result (Ok None)
+    (c.in-Ok-None.is ∙ ap Ok c.in-Ok-None.field-0-is) c.look.ensures.bytes in
     let kept = subst (λ s. Keeps ahead (prepend_known s (g.S.Source.left c.loop-found.source))) (sym none.0) c.loop-found.invariant.kept in
     let fills = fills_on_at _ _ _ _ _ (Err Failed) (c.in-Err-Failed.is ∙ ap Err c.in-Err-Failed.field-0-is) c.fill_line.ensures.bytes in
-    let now = ahead_taken ahead (g.S.Source.left c.loop-found.source) (g.S.Source.left c.fill_line.new.source) c.look.new.held c.fill_line.new.held fills.0 kept fills.1 in
-    let sees = looks_at c.args.side c.fill_line.new.held c.look-in-Err-Failed.new.held c.look-in-Err-Failed.result (Ok None) (c.in-Ok-None-look.is ∙ ap Ok c.in-Ok-None-look.field-0-is) c.look-in-Err-Failed.ensures.bytes in
-    let short = c.fill_line.ensures.part (c.in-Err-Failed.is ∙ ap Err c.in-Err-Failed.field-0-is) in
-    (c.fill_line.new.held, consumed_whole ahead (g.S.Source.left c.fill_line.new.source) c.fill_line.new.held now, open_part c.args.side c.fill_line.new.held short sees.1)
+    let now = ahead_taken ahead (g.S.Source.left c.loop-found.source)
+    (g.S.Source.left c.fill_line.new.source) c.look.new.held c.fill_line.new.held fills.0 kept fills.1 in
+    let sees = looks_at c.args.side c.fill_line.new.held c.look-in-Err-Failed.new.held c.look-in-Err-Failed.result (Ok None)
+    (c.in-Ok-None-look.is ∙ ap Ok c.in-Ok-None-look.field-0-is) c.look-in-Err-Failed.ensures.bytes in
+    let short = c.fill_line.ensures.part (c.in-Err-Failed.is ∙ ap Err c.in-Err-Failed.field-0-is) in (
+      c.fill_line.new.held,
+      consumed_whole ahead (g.S.Source.left c.fill_line.new.source) c.fill_line.new.held now,
+      open_part c.args.side
+          c.fill_line.new.held short sees.1,
+    )
 
 pub returns-in-Err-look-clause-bytes : goal.returns-in-Err-look-clause-bytes
 returns-in-Err-look-clause-bytes g c =
     let ahead = prepend_known c.args.held.now (g.S.Source.left c.args.source.now) in
-    let none = looks_at c.args.side c.loop-found.held c.look.new.held c.look.result (Ok None) (c.in-Ok-None.is ∙ ap Ok c.in-Ok-None.field-0-is) c.look.ensures.bytes in
+    let none = looks_at c.args.side c.loop-found.held c.look.new.held c.look.result (Ok None)
+    (c.in-Ok-None.is ∙ ap Ok c.in-Ok-None.field-0-is) c.look.ensures.bytes in
     let kept = subst (λ s. Keeps ahead (prepend_known s (g.S.Source.left c.loop-found.source))) (sym none.0) c.loop-found.invariant.kept in
     let fills = fills_on_at _ _ _ _ _ (Err Failed) (c.in-Err-Failed.is ∙ ap Err c.in-Err-Failed.field-0-is) c.fill_line.ensures.bytes in
-    let now = ahead_taken ahead (g.S.Source.left c.loop-found.source) (g.S.Source.left c.fill_line.new.source) c.look.new.held c.fill_line.new.held fills.0 kept fills.1 in
-    refused_ahead c.args.side ahead (g.S.Source.left c.fill_line.new.source) (g.S.Source.left c.fill_line.new.source) c.fill_line.new.held c.in-Err-look.refusal now c.look-in-Err-Failed.ensures.few
-    (looks_at c.args.side c.fill_line.new.held c.look-in-Err-Failed.new.held c.look-in-Err-Failed.result (Err c.in-Err-look.refusal) c.in-Err-look.is c.look-in-Err-Failed.ensures.bytes)
+    let now = ahead_taken ahead (g.S.Source.left c.loop-found.source)
+    (g.S.Source.left c.fill_line.new.source) c.look.new.held c.fill_line.new.held fills.0 kept fills.1 in
+    refused_ahead c.args.side ahead (g.S.Source.left c.fill_line.new.source)
+    (g.S.Source.left c.fill_line.new.source) c.fill_line.new.held c.in-Err-look.refusal now c.look-in-Err-Failed.ensures.few
+    (looks_at c.args.side c.fill_line.new.held c.look-in-Err-Failed.new.held c.look-in-Err-Failed.result
+    (Err c.in-Err-look.refusal) c.in-Err-look.is c.look-in-Err-Failed.ensures.bytes)

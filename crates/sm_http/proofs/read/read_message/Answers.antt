@@ -8,7 +8,9 @@ use Rattle.sm_http.proofs.read.read_message.Goals as goal
 
 pub returns-in-Err-clause-bytes : goal.returns-in-Err-clause-bytes
 returns-in-Err-clause-bytes g c =
-    refused_head c.args.side (prepend_known c.args.held.now (g.S.Source.left c.args.source.now)) (prepend_known c.read_head.new.held (g.S.Source.left c.read_head.new.source)) (prepend_known c.read_head.new.held (g.S.Source.left c.read_head.new.source))
+    refused_head c.args.side (prepend_known c.args.held.now (g.S.Source.left c.args.source.now))
+    (prepend_known c.read_head.new.held (g.S.Source.left c.read_head.new.source))
+    (prepend_known c.read_head.new.held (g.S.Source.left c.read_head.new.source))
     (g.S.Source.left c.read_head.new.source) c.in-Err.refusal c.in-Err.ensures.bytes
 
 -- the body has come with its head
@@ -23,7 +25,8 @@ returns-in-Ok-take_held-clause-bytes g c =
     (said_ahead c.args.side ahead behind now left left c.in-Some.head (Known c.in-Some-come_whole.count) c.in-Ok-take_held.body.items
     (subst (λ p. ReadsAHead c.args.side ahead behind left (Ok (Some (c.in-Some.head, p)))) c.in-Some-come_whole.ensures.0
     (subst (λ f. ReadsAHead c.args.side ahead behind left (Ok f)) c.in-Some.is c.in-Ok.ensures.bytes))
-    (held_whole c.in-Some-come_whole.count left c.read_head.new.held c.take_held.new.held c.in-Ok-take_held.body.items c.in-Some-come_whole.ensures.1
+    (held_whole c.in-Some-come_whole.count left c.read_head.new.held c.take_held.new.held c.in-Ok-take_held.body.items
+    c.in-Some-come_whole.ensures.1
     c.in-Ok-take_held.ensures.used c.in-Ok-take_held.ensures.bytes))
 
 pub returns-in-Ok-read_body-clause-bytes : goal.returns-in-Ok-read_body-clause-bytes
@@ -31,9 +34,11 @@ returns-in-Ok-read_body-clause-bytes g c =
     let ahead = prepend_known c.args.held.now (g.S.Source.left c.args.source.now) in
     let behind = prepend_known c.read_head.new.held (g.S.Source.left c.read_head.new.source) in
     let now = prepend_known c.read_body.new.held (g.S.Source.left c.read_body.new.source) in
-    subst (λ b. ReadsAMessage c.args.side ahead now (g.S.Source.left c.read_body.new.source) (Ok (Some (record { head = c.in-Some.head; body = b }))))
+    subst (λ b. ReadsAMessage c.args.side ahead now (g.S.Source.left c.read_body.new.source)
+    (Ok (Some (record { head = c.in-Some.head; body = b }))))
     (sym c.new-in-Ok-read_body.ensures)
-    (said_ahead c.args.side ahead behind now (g.S.Source.left c.read_head.new.source) (g.S.Source.left c.read_body.new.source) c.in-Some.head c.in-Some.left c.in-Ok-read_body.body.items
+    (said_ahead c.args.side ahead behind now (g.S.Source.left c.read_head.new.source)
+    (g.S.Source.left c.read_body.new.source) c.in-Some.head c.in-Some.left c.in-Ok-read_body.body.items
     (subst (λ f. ReadsAHead c.args.side ahead behind (g.S.Source.left c.read_head.new.source) (Ok f)) c.in-Some.is c.in-Ok.ensures.bytes)
     c.in-Ok-read_body.ensures.bytes)
 
@@ -42,6 +47,7 @@ returns-in-Err-read_body-clause-bytes g c =
     let ahead = prepend_known c.args.held.now (g.S.Source.left c.args.source.now) in
     let behind = prepend_known c.read_head.new.held (g.S.Source.left c.read_head.new.source) in
     let now = prepend_known c.read_body.new.held (g.S.Source.left c.read_body.new.source) in
-    refused_body c.args.side ahead behind now (g.S.Source.left c.read_head.new.source) (g.S.Source.left c.read_body.new.source) c.in-Some.head c.in-Some.left c.in-Err-read_body.refusal
+    refused_body c.args.side ahead behind now (g.S.Source.left c.read_head.new.source)
+    (g.S.Source.left c.read_body.new.source) c.in-Some.head c.in-Some.left c.in-Err-read_body.refusal
     (subst (λ f. ReadsAHead c.args.side ahead behind (g.S.Source.left c.read_head.new.source) (Ok f)) c.in-Some.is c.in-Ok.ensures.bytes)
     c.in-Err-read_body.ensures.bytes

@@ -11,5 +11,6 @@ returns-then-not-has_first_line c =
 
 pub returns-in-Err-Part : goal.returns-in-Err-Part
 returns-in-Err-Part c =
-    let part = subst (λ r. FindsAny c.args.side c.args.bytes.now r) (c.in-Err-Part.is ∙ ap Err c.in-Err-Part.field-0-is) c.find_head.ensures in
+    let part = subst (λ r. FindsAny c.args.side c.args.bytes.now r)
+    (c.in-Err-Part.is ∙ ap Err c.in-Err-Part.field-0-is) c.find_head.ensures in
     (part.0, λ lost. not_never c.args.side c.args.bytes.now part.1 lost.0 lost.1)

@@ -13,7 +13,8 @@ returns-then-len-gt-SIZE_LINE_LIMIT-2 c = part_long c.args.bytes.now c.in-Part.l
 
 pub returns-in-Some : goal.returns-in-Some
 returns-in-Some c =
-    whole_size c.args.bytes.now c.in-Whole.len c.in-Some.size c.in-Whole.ensures (omega (arith, c.if-len-gt-SIZE_LINE_LIMIT.false)) c.in-Some.ensures
+    whole_size c.args.bytes.now c.in-Whole.len c.in-Some.size c.in-Whole.ensures
+    (omega (arith, c.if-len-gt-SIZE_LINE_LIMIT.false)) c.in-Some.ensures
 
 pub returns-in-None : goal.returns-in-None
 returns-in-None c = whole_other c.args.bytes.now c.in-Whole.len c.in-Whole.ensures c.in-None.ensures

@@ -11,7 +11,8 @@ returns-then-len-used c =
 
 pub returns-then-len-eq0-2 : goal.returns-then-len-eq0-2
 returns-then-len-eq0-2 c =
-    part_empty c.args.used c.args.bytes.now c.requires (subst (λ n. SeesLine c.args.bytes.now (Part n)) c.if-len-eq0-2.true c.in-Part.ensures)
+    part_empty c.args.used c.args.bytes.now c.requires (subst
+    (λ n. SeesLine c.args.bytes.now (Part n)) c.if-len-eq0-2.true c.in-Part.ensures)
 
 pub returns-then-len-used-2 : goal.returns-then-len-used-2
 returns-then-len-used-2 c =

@@ -5,7 +5,8 @@ use Rattle.sm_http.proofs.write.write_message.Goals as goal
 
 pub returns-clause-written : goal.returns-clause-written
 returns-clause-written c =
-    subst (λ t. OnOk c.append_text.result (c.append_text.new.out.items ≡ c.args.out.now.items ++ t)) (sym (written_parts c.args.message.now))
+    subst (λ t. OnOk c.append_text.result (c.append_text.new.out.items ≡ c.args.out.now.items ++ t))
+    (sym (written_parts c.args.message.now))
     c.append_text.ensures.written
 
 pub returns-clause-succeeds : goal.returns-clause-succeeds

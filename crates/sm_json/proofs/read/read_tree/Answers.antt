@@ -5,21 +5,25 @@ use Rattle.sm_json.proofs.Turns.{fed_placed}
 use Rattle.sm_json.proofs.read.read_tree.Goals as goal
 
 pub feed-requires-clause-placed : goal.feed-requires-clause-placed
-feed-requires-clause-placed c = first_placed c.new-reader.result (building_of c.new-builder.result) (λ e. Unit {0}) c.new-reader.ensures.state
+feed-requires-clause-placed c = first_placed c.new-reader.result (building_of c.new-builder.result)
+    (λ e. Unit {0}) c.new-reader.ensures.state
     c.new-builder.ensures.taken (λ e. tt)
 
 pub finish-requires-clause-placed : goal.finish-requires-clause-placed
 finish-requires-clause-placed c = fed_placed c.new-reader.result c.feed.new.self _ _ _ _ _
-    (first_placed c.new-reader.result (building_of c.new-builder.result) (λ e. Unit {0}) c.new-reader.ensures.state c.new-builder.ensures.taken (λ e. tt))
+    (first_placed c.new-reader.result (building_of c.new-builder.result)
+    (λ e. Unit {0}) c.new-reader.ensures.state c.new-builder.ensures.taken (λ e. tt))
     c.in-Ok.ensures.goes
 
 pub finish-requires-in-Ok-finish-clause-closed : goal.finish-requires-in-Ok-finish-clause-closed
-finish-requires-in-Ok-finish-clause-closed c = (builder_closed c.new-reader.result c.feed.new.self c.args.bytes.now (building_of c.new-builder.result)
+finish-requires-in-Ok-finish-clause-closed c = (builder_closed c.new-reader.result c.feed.new.self c.args.bytes.now
+    (building_of c.new-builder.result)
     (building_of c.feed.new.to) (building_of c.finish.new.to) _ _
     c.new-reader.ensures.state c.new-builder.ensures.taken c.in-Ok.ensures.goes c.in-Ok-finish.ensures.goes).0
 
 pub finish-requires-in-Ok-finish-clause-begun : goal.finish-requires-in-Ok-finish-clause-begun
-finish-requires-in-Ok-finish-clause-begun c = (builder_closed c.new-reader.result c.feed.new.self c.args.bytes.now (building_of c.new-builder.result)
+finish-requires-in-Ok-finish-clause-begun c = (builder_closed c.new-reader.result c.feed.new.self c.args.bytes.now
+    (building_of c.new-builder.result)
     (building_of c.feed.new.to) (building_of c.finish.new.to) _ _
     c.new-reader.ensures.state c.new-builder.ensures.taken c.in-Ok.ensures.goes c.in-Ok-finish.ensures.goes).1
 
@@ -30,7 +34,8 @@ returns-in-Ok-finish-clause-text c = tree_built c.new-reader.result c.feed.new.s
     c.finish-in-Ok-finish.ensures
 
 pub returns-in-Ok-finish-clause-json : goal.returns-in-Ok-finish-clause-json
-returns-in-Ok-finish-clause-json c = read_json c.args.bytes.now (Ok c.finish-in-Ok-finish.result) (tree_built c.new-reader.result c.feed.new.self c.args.bytes.now (building_of c.new-builder.result)
+returns-in-Ok-finish-clause-json c = read_json c.args.bytes.now (Ok c.finish-in-Ok-finish.result)
+    (tree_built c.new-reader.result c.feed.new.self c.args.bytes.now (building_of c.new-builder.result)
     (building_of c.feed.new.to) (building_of c.finish.new.to) _ _
     c.finish-in-Ok-finish.result c.new-reader.ensures.state c.new-builder.ensures.taken c.in-Ok.ensures.goes c.in-Ok-finish.ensures.goes
     c.finish-in-Ok-finish.ensures)
@@ -42,5 +47,6 @@ returns-in-Ok-clause-text c = end_refused c.new-reader.result c.feed.new.self (t
 
 pub returns-clause-text : goal.returns-clause-text
 returns-clause-text c =
-    feed_refused c.new-reader.result c.feed.new.self (took (building_of c.new-builder.result)) (took (building_of c.feed.new.to)) (λ e. Unit {0})
+    feed_refused c.new-reader.result c.feed.new.self (took (building_of c.new-builder.result)) (took (building_of c.feed.new.to))
+    (λ e. Unit {0})
     c.args.bytes.now c.in-Err.refusal c.new-reader.ensures.state c.in-Err.ensures.goes

@@ -6,4 +6,5 @@ use Rattle.sm_load.proofs.naming.some_names.Given as goal
 
 abbrev pub invariant-loop-entry : goal.invariant-loop-entry
 invariant-loop-entry l =
-    some_node (node_names l.event) (nodes_of (nodes_view (drop l.entry-index l.entries))) ≡ some_node (node_names l.event) (nodes_of (nodes_view l.entries))
+    some_node (node_names l.event) (nodes_of (nodes_view (drop l.entry-index l.entries))) ≡ some_node (node_names l.event)
+    (nodes_of (nodes_view l.entries))

@@ -15,4 +15,5 @@ returns c =
     (slice_set c.args.marks.now.items c.args.number true))
     (sym c.in_ok-push.ensures.items)
     (mark_new c.args.marks.now.items c.args.found.now.items c.args.number c.requires.within c.requires.are
-    (get_or_default c.args.marks.now.items c.args.number false c.index.result.now c.requires.within ∙ sym c.index.ensures ∙ c.if-index.false))
+    (get_or_default c.args.marks.now.items c.args.number false c.index.result.now c.requires.within ∙ sym c.index.ensures
+    ∙ c.if-index.false))

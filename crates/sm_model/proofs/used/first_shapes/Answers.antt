@@ -19,7 +19,8 @@ loop-left-preserved c =
       left = omega (arith, high);
       told = λ q.
           first_more (get_by_text c.loop-left.shapes) (get_by_text c.put_shape.new.shapes) one (drop c.loop-left.left c.args.ids.now)
-          (subst (λ (t : List ℕ). (q : List ℕ) → get_by_text c.put_shape.new.shapes q ≡ cond (bytes_eq (name_part t) q) (Some (shape_part t)) (get_by_text c.loop-left.shapes q))
+          (subst (λ (t : List ℕ). (q : List ℕ) → get_by_text c.put_shape.new.shapes q ≡ cond (bytes_eq (name_part t) q)
+          (Some (shape_part t)) (get_by_text c.loop-left.shapes q))
           c.as_str.ensures c.in_ok-put_shape.ensures)
           c.loop-left.invariant.told q
           ∙ ap (used_under q) (sym parts);

@@ -11,7 +11,8 @@ use Rattle.sm_rules.proofs.judged.put_members.Goals as goal
 pub loop-member-init : goal.loop-member-init
 loop-member-init g c = record {
   numbers = c.requires;
-  puts = none_of (λ k. ToldMember (g.J.Judge.rule c.args.judge.now) (g.J.Judge.wrong c.args.judge.now) (maps_of c.args.graph.now) c.args.home
+  puts = none_of (λ k. ToldMember (g.J.Judge.rule c.args.judge.now) (g.J.Judge.wrong c.args.judge.now)
+      (maps_of c.args.graph.now) c.args.home
       (id_of_number c.args.graph.now k)) c.args.events.now.items;
 }
 
@@ -31,6 +32,7 @@ loop-member-preserved g c =
 
 pub returns : goal.returns
 returns g c =
-    subst (λ ks. Puts (ToldOf (λ k. ToldMember (g.J.Judge.rule c.args.judge.now) (g.J.Judge.wrong c.args.judge.now) (maps_of c.args.graph.now)
+    subst (λ ks. Puts (ToldOf (λ k. ToldMember (g.J.Judge.rule c.args.judge.now) (g.J.Judge.wrong c.args.judge.now)
+    (maps_of c.args.graph.now)
     c.args.home (id_of_number c.args.graph.now k)) ks) c.args.events.now.items c.loop-member.events.items)
     (take_all c.loop-member.member-index c.args.members.now c.loop-member-test.false) c.loop-member.invariant.puts

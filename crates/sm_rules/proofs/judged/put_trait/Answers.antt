@@ -13,7 +13,8 @@ returns g c =
     let again : c.as_str-2.result.now ≡ c.args.pair.now.0 = c.as_str-2.ensures.bytes in
     let wrong = c.is_wrong-wrong.ensures
     ∙ ap (λ (t : List ℕ). g.J.Judge.wrong c.args.judge.now t c.args.at (node_of c.args.pair.now.1)) name in
-    let told = λ (r : Rule) (w : Bool) (t : List ℕ). Puts (IsWhere w (rule_event r id t)) c.args.events.now.items c.put_if.new.events.items in
+    let told = λ (r : Rule) (w : Bool) (t : List ℕ). Puts (IsWhere w (rule_event r id t)) c.args.events.now.items
+    c.put_if.new.events.items in
     subst (λ r. told r (g.J.Judge.wrong c.args.judge.now c.args.pair.now.0 c.args.at (node_of c.args.pair.now.1)) c.args.pair.now.0)
     c.rule.ensures
     (subst (λ w. told c.rule.result w c.args.pair.now.0) wrong

@@ -7,5 +7,6 @@ use Rattle.sm_rules.proofs.judged.put_traits.Given as goal
 
 abbrev pub invariant-loop-pair : goal.invariant-loop-pair
 invariant-loop-pair g l =
-    Puts (ToldOf (ToldTrait (g.J.Judge.rule l.judge) (g.J.Judge.wrong l.judge) (id_of_number l.graph l.number) l.at) (take l.pair-index l.traits))
+    Puts (ToldOf (ToldTrait (g.J.Judge.rule l.judge) (g.J.Judge.wrong l.judge) (id_of_number l.graph l.number) l.at)
+    (take l.pair-index l.traits))
     l.fn.events.items l.events.items

@@ -5,9 +5,11 @@ use Rattle.sm_rules.proofs.known.is_annotation.Goals as goal
 
 pub returns-in_default : goal.returns-in_default
 returns-in_default c =
-    sym (λ i. (((not_text c.in_default.not-text i || (not_text c.in_default.not-text-2 i || (not_text c.in_default.not-text-3 i || (not_text c.in_default.not-text-4 i
+    sym (λ i. (((not_text c.in_default.not-text i || (not_text c.in_default.not-text-2 i ||
+    (not_text c.in_default.not-text-3 i || (not_text c.in_default.not-text-4 i
     || (not_text c.in_default.not-text-5 i || (not_text c.in_default.not-text-6 i || (not_text c.in_default.not-text-7 i
-    || (not_text c.in_default.not-text-8 i || (not_text c.in_default.not-text-9 i || false)))))))))) || (((not_text c.in_default.not-text-10 i
+    || (not_text c.in_default.not-text-8 i || (not_text c.in_default.not-text-9 i || false)))))))))) ||
+    (((not_text c.in_default.not-text-10 i
     || (not_text c.in_default.not-text-11 i || (not_text c.in_default.not-text-12 i || (not_text c.in_default.not-text-13 i
     || (not_text c.in_default.not-text-14 i || false)))))) || (((not_text c.in_default.not-text-15 i || false))
     || (((not_text c.in_default.not-text-16 i || false)) || (((not_text c.in_default.not-text-17 i || (not_text c.in_default.not-text-18 i

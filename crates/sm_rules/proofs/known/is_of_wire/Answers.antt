@@ -5,7 +5,8 @@ use Rattle.sm_rules.proofs.known.is_of_wire.Goals as goal
 
 pub returns-in_default : goal.returns-in_default
 returns-in_default c =
-    sym (λ i. (((not_text c.in_default.not-text i || false)) || (((not_text c.in_default.not-text-2 i || false)) || (((not_text c.in_default.not-text-3 i
+    sym (λ i. (((not_text c.in_default.not-text i || false)) ||
+    (((not_text c.in_default.not-text-2 i || false)) || (((not_text c.in_default.not-text-3 i
     || false)) || (((not_text c.in_default.not-text-4 i || false)) || (((not_text c.in_default.not-text-5 i || false))
     || (((not_text c.in_default.not-text-6 i || false)) || (((not_text c.in_default.not-text-7 i || false))
     || (((not_text c.in_default.not-text-8 i || false)) || (((not_text c.in_default.not-text-9 i || false))

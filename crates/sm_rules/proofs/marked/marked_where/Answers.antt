@@ -6,7 +6,8 @@ use Rattle.sm_rules.proofs.marked.marked_where.Goals as goal
 
 pub loop-number-init : goal.loop-number-init
 loop-number-init g c =
-    let Holds : ℕ → Type 0 = λ k. g.T.NumberTest.passes c.args.test.now (maps_of c.args.graph.now) (id_of_number c.args.graph.now k) ≡ true in
+    let Holds : ℕ → Type 0 = λ k. g.T.NumberTest.passes c.args.test.now (maps_of c.args.graph.now)
+    (id_of_number c.args.graph.now k) ≡ true in
     record {
       within = omega arith;
       marks = subst (AreMarks 0 Holds) (sym c.in_ok-marks.ensures.items) (marks_none Holds);
@@ -15,7 +16,8 @@ loop-number-init g c =
 pub loop-number-preserved : goal.loop-number-preserved
 loop-number-preserved g c =
     let at = c.loop-number in
-    let Holds : ℕ → Type 0 = λ k. g.T.NumberTest.passes c.args.test.now (maps_of c.args.graph.now) (id_of_number c.args.graph.now k) ≡ true in
+    let Holds : ℕ → Type 0 = λ k. g.T.NumberTest.passes c.args.test.now (maps_of c.args.graph.now)
+    (id_of_number c.args.graph.now k) ≡ true in
     record {
       within = omega (arith, c.loop-number-test.true, c.count-number-end.ensures);
       marks = subst (AreMarks (at.number + 1) Holds) (sym c.in_ok-push.ensures.items)

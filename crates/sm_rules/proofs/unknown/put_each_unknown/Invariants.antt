@@ -8,4 +8,5 @@ use Rattle.sm_rules.proofs.unknown.put_each_unknown.Given as goal
 
 abbrev pub invariant-loop-pair : goal.invariant-loop-pair
 invariant-loop-pair l =
-    Puts (ToldOf (ToldUnknown (maps_of l.graph) (id_of_number l.graph l.number)) (take l.pair-index l.traits)) l.fn.events.items l.events.items
+    Puts (ToldOf (ToldUnknown (maps_of l.graph) (id_of_number l.graph l.number)) (take l.pair-index l.traits)) l.fn.events.items
+    l.events.items

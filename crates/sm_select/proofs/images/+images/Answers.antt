@@ -73,7 +73,8 @@ image_of_step-returns-in_ok-some-in-Test t c =
     (subst (λ ss. ArePicking g (PickedByOne (maps_of g) (alternatives_of (map steps_of ss))) c.in_ok-some-in-Test.some.items)
     c.as_slice-in-Test.ensures c.in_ok-some-in-Test.ensures)
     c.kept_where-in-Test.result
-    (subst (λ p. IfOk c.kept_where-in-Test.result (λ m. AreMarks (length starts) (λ k. IsMarked starts k × (get_or p k false ≡ true)) m.items))
+    (subst (λ p. IfOk c.kept_where-in-Test.result (λ m. AreMarks (length starts)
+    (λ k. IsMarked starts k × (get_or p k false ≡ true)) m.items))
     c.deref-in-Test.ensures.value c.kept_where-in-Test.ensures)
 
 pub image_of-image_of_step-requires : goal.image_of-image_of_step-requires

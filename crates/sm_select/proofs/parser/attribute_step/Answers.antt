@@ -21,6 +21,7 @@ returns-in-Err-clause-read c =
     let ss = step_views c.args.stack.now.steps.items in
     let fs = frames_onto c.args.stack.now.forms.items [] in
     let r = c.pass_sign.new.self.rest.now in
-    opened_refused c.args.reading.now.len c.pass_sign.new.self.len (stepping ss fs) (path_wanted ss fs) OpenPath c.args.reading.now.rest.now r
+    opened_refused c.args.reading.now.len c.pass_sign.new.self.len (stepping ss fs)
+    (path_wanted ss fs) OpenPath c.args.reading.now.rest.now r
     c.in-Err.refusal c.requires opens_path c.pass_sign.ensures.rest (dark_now r c.pass_sign.new.self.dark) c.pass_sign.ensures.len
     (c.in-Err.ensures.read ss fs)

@@ -11,6 +11,7 @@ returns-clause-read c =
     let ss = step_views c.args.stack.now.steps.items in
     let fs = frames_onto c.args.stack.now.forms.items [] in
     let r = c.pass_sign.new.self.rest.now in
-    sign_steps c.args.reading.now.len (stepping ss fs) (stepping [] (frame c.args.form ss [] ∷ fs)) c.args.sign c.args.reading.now.rest.now r
+    sign_steps c.args.reading.now.len (stepping ss fs) (stepping [] (frame c.args.form ss [] ∷ fs)) c.args.sign
+    c.args.reading.now.rest.now r
     (place_of c.enter.new.self) c.enter.result c.requires.stands (c.requires.moves ss fs) c.pass_sign.ensures.rest
     (dark_now r c.pass_sign.new.self.dark) c.enter.ensures

@@ -15,13 +15,15 @@ use Rattle.sm_select.proofs.parser.parse_selector.Goals as goal
 pub loop-stack-init : goal.loop-stack-init
 loop-stack-init c = record {
   read = subst (λ p. Passes (stepping [] []) c.args.text.now p c.new-reading.result.rest.now) (sym c.new-stack.ensures)
-      (passes_white (stepping [] []) c.args.text.now c.new-reading.result.rest.now c.new-reading.ensures.white (dark_now c.new-reading.result.rest.now c.new-reading.result.dark));
+      (passes_white (stepping [] []) c.args.text.now c.new-reading.result.rest.now c.new-reading.ensures.white
+      (dark_now c.new-reading.result.rest.now c.new-reading.result.dark));
   len = c.new-reading.ensures.len;
 }
 
 pub loop-stack-preserved : goal.loop-stack-preserved
 loop-stack-preserved c = record {
-  read = passes_joined (stepping [] []) (place_of c.loop-stack.stack) (place_of c.step.new.stack) c.args.text.now c.loop-stack.reading.rest.now
+  read = passes_joined (stepping [] []) (place_of c.loop-stack.stack)
+      (place_of c.step.new.stack) c.args.text.now c.loop-stack.reading.rest.now
       c.step.new.reading.rest.now c.loop-stack.invariant.read c.in-Ok.ensures.read.0;
   len = c.in-Ok.ensures.len ∙ c.loop-stack.invariant.len;
 }
@@ -29,9 +31,11 @@ loop-stack-preserved c = record {
 pub returns-in-Err : goal.returns-in-Err
 returns-in-Err c =
     parse_refused c.args.text.now c.in-Err.refusal
-    (refused_behind (length c.args.text.now) (stepping [] []) (place_of c.loop-stack.stack) c.args.text.now c.loop-stack.reading.rest.now c.in-Err.refusal
+    (refused_behind (length c.args.text.now) (stepping [] [])
+    (place_of c.loop-stack.stack) c.args.text.now c.loop-stack.reading.rest.now c.in-Err.refusal
     c.loop-stack.invariant.read
-    (subst (λ n. Refuses n (place_of c.loop-stack.stack) c.loop-stack.reading.rest.now c.in-Err.refusal) c.loop-stack.invariant.len c.in-Err.ensures.read))
+    (subst (λ n. Refuses n (place_of c.loop-stack.stack) c.loop-stack.reading.rest.now c.in-Err.refusal) c.loop-stack.invariant.len
+    c.in-Err.ensures.read))
 
 pub returns-then-is_whole : goal.returns-then-is_whole
 returns-then-is_whole c =

@@ -14,7 +14,8 @@ returns-in-Err-clause-read c ss fs =
     let p = path_view c.args.path in
     let vs = c.loop-value.values.items in
     let here = c.loop-value.reading.rest.now in
-    refused_behind c.args.reading.now.len (value_wanted ss fs p c.args.op []) (value_wanted ss fs p c.args.op vs) c.args.reading.now.rest.now here
+    refused_behind c.args.reading.now.len (value_wanted ss fs p c.args.op [])
+    (value_wanted ss fs p c.args.op vs) c.args.reading.now.rest.now here
     c.in-Err.refusal (c.loop-value.invariant.read ss fs)
     (subst (λ n. Refuses n (value_wanted ss fs p c.args.op vs) here c.in-Err.refusal) c.loop-value.invariant.len
     (c.in-Err.ensures.read ss fs p c.args.op vs))
@@ -40,7 +41,8 @@ loop-value-preserved c =
     let read = c.value.new.reading.rest.now in
     let after = c.behind.new.reading.rest.now in
     record {
-      read = λ ss fs. subst (λ xs. Passes (value_wanted ss fs p op []) first (value_wanted ss fs p op xs) after) (sym c.in-Ok-push.ensures.items)
+      read = λ ss fs. subst (λ xs. Passes (value_wanted ss fs p op []) first (value_wanted ss fs p op xs) after)
+          (sym c.in-Ok-push.ensures.items)
           (passes_joined (value_wanted ss fs p op []) (behind_value ss fs p op more) (value_wanted ss fs p op more) first read after
           (passes_joined (value_wanted ss fs p op []) (value_wanted ss fs p op vs) (behind_value ss fs p op more) first here read
           (c.loop-value.invariant.read ss fs) (c.in-Ok.ensures.read ss fs p op vs))
@@ -60,11 +62,13 @@ returns-in-Ok-Some-clause-read c ss fs =
     let here = c.loop-value.reading.rest.now in
     let read = c.value.new.reading.rest.now in
     let after = c.behind.new.reading.rest.now in
-    subst (λ y. Passes (value_wanted ss fs p op []) first (stepping (ss ++ compares (path_view y) op c.new.result c.in-Ok-Some.fold ∷ []) fs) after)
+    subst (λ y. Passes (value_wanted ss fs p op []) first (stepping
+    (ss ++ compares (path_view y) op c.new.result c.in-Ok-Some.fold ∷ []) fs) after)
     (sym c.loop-value.invariant.same)
     (subst (λ xs. Passes (value_wanted ss fs p op []) first (stepping (ss ++ compares p op xs c.in-Ok-Some.fold ∷ []) fs) after)
     (sym (c.new.ensures ∙ c.in-Ok-push.ensures.items))
-    (passes_joined (value_wanted ss fs p op []) (behind_value ss fs p op more) (stepping (ss ++ compares p op more c.in-Ok-Some.fold ∷ []) fs)
+    (passes_joined (value_wanted ss fs p op []) (behind_value ss fs p op more)
+    (stepping (ss ++ compares p op more c.in-Ok-Some.fold ∷ []) fs)
     first read after
     (passes_joined (value_wanted ss fs p op []) (value_wanted ss fs p op vs) (behind_value ss fs p op more) first here read
     (c.loop-value.invariant.read ss fs) (c.in-Ok.ensures.read ss fs p op vs))

@@ -17,5 +17,6 @@ returns-in-i-clause-read c ss fs path op vs =
 
 pub returns-in_default-clause-read : goal.returns-in_default-clause-read
 returns-in_default-clause-read c ss fs path op vs =
-    behind_value_refused c.args.reading.now.len ss fs path op vs c.args.reading.now.rest.now c.word-word.result.now c.refused.result c.requires
+    behind_value_refused c.args.reading.now.len ss fs path op vs c.args.reading.now.rest.now c.word-word.result.now c.refused.result
+    c.requires
     c.word-word.ensures c.in_default.not-i (dark_now c.args.reading.now.rest.now c.args.reading.now.dark) c.refused.ensures

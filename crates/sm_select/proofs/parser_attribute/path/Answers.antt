@@ -10,7 +10,9 @@ pub returns-then-starts-3-clause-read : goal.returns-then-starts-3-clause-read
 returns-then-starts-3-clause-read c ss fs =
     let s = c.args.reading.now.rest.now in
     let r = c.pass_sign-then-starts-3.new.self.rest.now in
-    read_behind c.args.reading.now.len c.pass_sign-then-starts-3.new.self.len (path_wanted ss fs) (trait_wanted ss fs) s r c.trait_path.new.reading.rest.now
+    read_behind c.args.reading.now.len c.pass_sign-then-starts-3.new.self.len (path_wanted ss fs)
+    (trait_wanted ss fs) s r c.trait_path.new.reading.rest.now
     (λ path. behind_path ss fs (path_view path)) c.trait_path.result c.pass_sign-then-starts-3.ensures.len
-    (trait_opened ss fs s r (sym c.starts-else-starts-2.ensures ∙ c.if-starts-3.true) c.pass_sign-then-starts-3.ensures.rest (dark_now r c.pass_sign-then-starts-3.new.self.dark))
+    (trait_opened ss fs s r (sym c.starts-else-starts-2.ensures ∙ c.if-starts-3.true) c.pass_sign-then-starts-3.ensures.rest
+    (dark_now r c.pass_sign-then-starts-3.new.self.dark))
     (c.trait_path.ensures.read ss fs)

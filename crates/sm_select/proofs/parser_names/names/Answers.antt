@@ -39,7 +39,8 @@ loop-name-preserved c =
           (passes_joined (name_wanted ss fs []) (behind_name ss fs more) (name_wanted ss fs more) first read after
           (passes_joined (name_wanted ss fs []) (name_wanted ss fs ns) (behind_name ss fs more) first here read
           (c.loop-name.invariant.read ss fs) (c.in-Ok.ensures.read ss fs ns))
-          (subst (λ b. Passes (behind_name ss fs more) read (if b then name_wanted ss fs more else stepping (ss ++ along more ∷ []) fs) after)
+          (subst (λ b. Passes (behind_name ss fs more) read (if b then name_wanted ss fs more else stepping (ss ++ along more ∷ []) fs)
+          after)
           c.in-Ok-true.field-0-test (c.in-Ok-true.ensures.read ss fs more)));
       len = c.in-Ok-true.ensures.len ∙ c.in-Ok.ensures.len ∙ c.loop-name.invariant.len;
     }
@@ -52,7 +53,8 @@ returns-in-Ok-false-clause-read c ss fs =
     let here = c.loop-name.reading.rest.now in
     let read = c.relation.new.reading.rest.now in
     let after = c.another.new.reading.rest.now in
-    subst (λ xs. Passes (name_wanted ss fs []) first (stepping (ss ++ along xs ∷ []) fs) after) (sym (c.new.ensures ∙ c.in-Ok-push.ensures.items))
+    subst (λ xs. Passes (name_wanted ss fs []) first (stepping (ss ++ along xs ∷ []) fs) after)
+    (sym (c.new.ensures ∙ c.in-Ok-push.ensures.items))
     (passes_joined (name_wanted ss fs []) (behind_name ss fs more) (stepping (ss ++ along more ∷ []) fs) first read after
     (passes_joined (name_wanted ss fs []) (name_wanted ss fs ns) (behind_name ss fs more) first here read
     (c.loop-name.invariant.read ss fs) (c.in-Ok.ensures.read ss fs ns))

@@ -6,7 +6,8 @@ use Rattle.sm_select.proofs.parser_names.names.Given as goal
 
 abbrev pub invariant-loop-name : goal.invariant-loop-name
 invariant-loop-name l = record {
-  read : (ss : List Step) (fs : List Frame) → Passes (name_wanted ss fs []) l.fn.reading.rest.now (name_wanted ss fs l.names.items) l.reading.rest.now;
+  read : (ss : List Step) (fs : List Frame) → Passes (name_wanted ss fs []) l.fn.reading.rest.now
+      (name_wanted ss fs l.names.items) l.reading.rest.now;
   len : l.reading.len ≡ l.fn.reading.len;
 }
 

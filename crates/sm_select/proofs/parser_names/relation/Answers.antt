@@ -4,7 +4,8 @@ use Rattle.sm_select.proofs.parser_names.relation.Goals as goal
 
 pub returns-in-Some-clause-read : goal.returns-in-Some-clause-read
 returns-in-Some-clause-read c ss fs ns =
-    name_read ss fs ns c.args.reading.now.rest.now c.word-word.result.now c.pass_word.new.self.rest.now c.in-Some.relation c.word-word.ensures
+    name_read ss fs ns c.args.reading.now.rest.now c.word-word.result.now c.pass_word.new.self.rest.now c.in-Some.relation
+    c.word-word.ensures
     c.in-Some.ensures c.pass_word.ensures.rest (dark_now c.pass_word.new.self.rest.now c.pass_word.new.self.dark)
 
 pub returns-in-None-clause-read : goal.returns-in-None-clause-read

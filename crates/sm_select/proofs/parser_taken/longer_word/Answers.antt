@@ -9,13 +9,15 @@ split_at-requires c = word_boundary c.args.rest.now c.args.run.now c.requires c.
 
 pub split_at-requires-in-Some : goal.split_at-requires-in-Some
 split_at-requires-in-Some c =
-    let rest = sym c.split_at.ensures.back ∙ strip_prefix_char 36 c.split_at.result.1.now (Some c.in-Some.more) c.in-Some.ensures.cases (lit< tt) in
+    let rest = sym c.split_at.ensures.back ∙ strip_prefix_char 36 c.split_at.result.1.now (Some c.in-Some.more) c.in-Some.ensures.cases
+    (lit< tt) in
     longer_boundary c.args.rest.now c.args.run.now c.in-Some.more.now c.run_at-member.result.now c.requires rest c.run_at-member.ensures
     (some_text c.run_at-member.result.now c.is_empty.result c.is_empty.ensures c.if-is_empty.false) c.utf8.rest
 
 pub returns-else-is_empty : goal.returns-else-is_empty
 returns-else-is_empty c =
-    let rest = sym c.split_at.ensures.back ∙ strip_prefix_char 36 c.split_at.result.1.now (Some c.in-Some.more) c.in-Some.ensures.cases (lit< tt) in
+    let rest = sym c.split_at.ensures.back ∙ strip_prefix_char 36 c.split_at.result.1.now (Some c.in-Some.more) c.in-Some.ensures.cases
+    (lit< tt) in
     longer_found c.args.rest.now c.args.run.now c.in-Some.more.now c.run_at-member.result.now c.requires rest c.run_at-member.ensures
     (some_text c.run_at-member.result.now c.is_empty.result c.is_empty.ensures c.if-is_empty.false) c.split_at-in-Some.result.0.now
     c.split_at-in-Some.result.1.now c.split_at-in-Some.ensures.front c.split_at-in-Some.ensures.back

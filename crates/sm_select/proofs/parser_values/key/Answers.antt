@@ -8,13 +8,15 @@ use Rattle.sm_select.proofs.TakenTokens.{copy_read, none_refused, taken_within}
 use Rattle.sm_select.proofs.parser_values.key.Goals as goal
 
 pub copied-requires : goal.copied-requires
-copied-requires c = taken_within IsKeyToken c.in-Some.taken.text.now c.args.reading.now.rest.now c.in-Some.taken.behind.now c.in-Some.ensures
+copied-requires c = taken_within IsKeyToken c.in-Some.taken.text.now c.args.reading.now.rest.now c.in-Some.taken.behind.now
+    c.in-Some.ensures
 
 pub returns-in-Some-clause-read : goal.returns-in-Some-clause-read
 returns-in-Some-clause-read c ss fs u ks =
     let r = c.copied.new.reading.rest.now in
     copy_read IsKeyToken (key_wanted ss fs u ks) (λ k. behind_path ss fs (trait_of u (ks ++ k ∷ []))) (key_leads ss fs u ks)
-    c.args.reading.now.len c.in-Some.taken.text.now c.args.reading.now.rest.now c.in-Some.taken.behind.now r c.copied.result c.in-Some.ensures
+    c.args.reading.now.len c.in-Some.taken.text.now c.args.reading.now.rest.now c.in-Some.taken.behind.now r c.copied.result
+    c.in-Some.ensures
     c.copied.ensures.copy (dark_now r c.copied.new.reading.dark)
 
 pub returns-in-None-clause-read : goal.returns-in-None-clause-read

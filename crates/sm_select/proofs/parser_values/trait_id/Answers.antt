@@ -23,7 +23,8 @@ returns-in-Some-clause-read c ss fs =
 
 pub in_prelude-requires : goal.in_prelude-requires
 in_prelude-requires c =
-    taken_within IsIdentifierToken c.in-Some-identifier_at.taken.text.now c.args.reading.now.rest.now c.in-Some-identifier_at.taken.behind.now
+    taken_within IsIdentifierToken c.in-Some-identifier_at.taken.text.now c.args.reading.now.rest.now
+    c.in-Some-identifier_at.taken.behind.now
     c.in-Some-identifier_at.ensures
 
 pub returns-in-Some-identifier_at-clause-read : goal.returns-in-Some-identifier_at-clause-read
@@ -32,7 +33,8 @@ returns-in-Some-identifier_at-clause-read c ss fs =
     let b = c.in-Some-identifier_at.taken.behind.now in
     let s = c.args.reading.now.rest.now in
     let r = c.in_prelude.new.reading.rest.now in
-    copy_read IsTraitToken (trait_wanted ss fs) (λ u. behind_path ss fs (trait_of u [])) (trait_leads ss fs) c.args.reading.now.len (api_id v) s b r
+    copy_read IsTraitToken (trait_wanted ss fs) (λ u. behind_path ss fs (trait_of u [])) (trait_leads ss fs) c.args.reading.now.len
+    (api_id v) s b r
     c.in_prelude.result (trait_prelude v s b c.in-None.ensures c.in-Some-identifier_at.ensures) c.in_prelude.ensures.copy
     (dark_now r c.in_prelude.new.reading.dark)
 

@@ -61,7 +61,8 @@ returns-in-Some c =
     let tree = c.in-Some.tree.now in
     let asked = c.as_str-in-Trait.result.now in
     let told : At g k (λ i e. fin.get (traits_in e) asked ≡ Some (node_of tree)) =
-    subst (λ r. At g k (λ i e. MatchOption r (fin.get (traits_in e) asked ≡ None) (λ t. fin.get (traits_in e) asked ≡ Some (node_of t.now))))
+    subst (λ r. At g k (λ i e. MatchOption r (fin.get (traits_in e) asked ≡ None)
+    (λ t. fin.get (traits_in e) asked ≡ Some (node_of t.now))))
     c.in-Some.is c.trait_value.ensures in
     let here : At g k (λ i e. fin.get (traits_in e) trait ≡ Some (node_of tree)) =
     subst (λ n. At g k (λ i e. fin.get (traits_in e) n ≡ Some (node_of tree))) c.as_str-in-Trait.ensures.bytes told in
@@ -78,7 +79,8 @@ returns-in-None c =
     let keys = c.in-Trait.keys in
     let asked = c.as_str-in-Trait.result.now in
     let told : At g k (λ i e. fin.get (traits_in e) asked ≡ None) =
-    subst (λ r. At g k (λ i e. MatchOption r (fin.get (traits_in e) asked ≡ None) (λ t. fin.get (traits_in e) asked ≡ Some (node_of t.now))))
+    subst (λ r. At g k (λ i e. MatchOption r (fin.get (traits_in e) asked ≡ None)
+    (λ t. fin.get (traits_in e) asked ≡ Some (node_of t.now))))
     c.in-None.is c.trait_value.ensures in
     let here : At g k (λ i e. fin.get (traits_in e) trait ≡ None) =
     subst (λ n. At g k (λ i e. fin.get (traits_in e) n ≡ None)) c.as_str-in-Trait.ensures.bytes told in

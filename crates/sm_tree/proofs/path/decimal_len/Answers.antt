@@ -5,7 +5,8 @@ use Rattle.sm_tree.proofs.path.decimal_len.Goals as goal
 
 pub overflow_add-digits : goal.overflow_add-digits
 overflow_add-digits c =
-    let whole = length-decimal-le 20 c.args.number (omega arith) (omega (arith, c.ranges.number.fits)) (omega (arith, c.ranges.number.fits)) in
+    let whole = length-decimal-le 20 c.args.number (omega arith) (omega (arith, c.ranges.number.fits))
+    (omega (arith, c.ranges.number.fits)) in
     omega (arith, whole, c.loop-rest.invariant.digits)
 
 pub loop-rest-preserved : goal.loop-rest-preserved

@@ -16,12 +16,14 @@ decreases-forms_of l = members_weight (members_of (members_view l.pairs.now))
 
 abbrev pub invariant-put_entries-loop-item : goal.invariant-put_entries-loop-item
 invariant-put_entries-loop-item l = record {
-  words : l.out ++ entries_form (nodes_of (nodes_view (drop l.item-index l.items))) ≡ l.fn.out ++ entries_form (nodes_of (nodes_view l.items));
+  words : l.out ++ entries_form (nodes_of (nodes_view (drop l.item-index l.items))) ≡ l.fn.out ++ entries_form
+      (nodes_of (nodes_view l.items));
   weight : nodes_weight (nodes_of (nodes_view (drop l.item-index l.items))) ≤ nodes_weight (nodes_of (nodes_view l.items));
 }
 
 abbrev pub invariant-forms_of-loop-pair : goal.invariant-forms_of-loop-pair
 invariant-forms_of-loop-pair l = record {
-  forms : pair_forms l.forms.keys (members_of (members_view (drop l.pair-index l.pairs))) ≡ pair_forms [] (members_of (members_view l.pairs));
+  forms : pair_forms l.forms.keys (members_of (members_view (drop l.pair-index l.pairs))) ≡ pair_forms []
+      (members_of (members_view l.pairs));
   weight : members_weight (members_of (members_view (drop l.pair-index l.pairs))) ≤ members_weight (members_of (members_view l.pairs));
 }

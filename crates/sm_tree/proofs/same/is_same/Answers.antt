@@ -21,7 +21,10 @@ returns-in_err-put-2-clause-equal c = λ one.
 
 pub returns-clause-same : goal.returns-clause-same
 returns-clause-same c =
-    let first : c.put.new.out ≡ form (node_of c.args.a.now) = c.in_ok-put.ensures ∙ ap (λ f. f ++ form (node_of c.args.a.now)) c.new-first.ensures in
-    let second : c.put-2.new.out ≡ form (node_of c.args.b.now) = c.in_ok-put-2.ensures ∙ ap (λ f. f ++ form (node_of c.args.b.now)) c.new-second.ensures in
+    let first : c.put.new.out ≡ form (node_of c.args.a.now) = c.in_ok-put.ensures
+    ∙ ap (λ f. f ++ form (node_of c.args.a.now)) c.new-first.ensures in
+    let second : c.put-2.new.out ≡ form (node_of c.args.b.now) = c.in_ok-put-2.ensures
+    ∙ ap (λ f. f ++ form (node_of c.args.b.now)) c.new-second.ensures in
     answers_same (node_of c.args.a.now) (node_of c.args.b.now) c.eq-2.result
-    (c.eq-2.ensures ∙ ap (λ f. eq_by_cmp form_cmp f c.put-2.new.out) first ∙ ap (λ f. eq_by_cmp form_cmp (form (node_of c.args.a.now)) f) second)
+    (c.eq-2.ensures ∙ ap (λ f. eq_by_cmp form_cmp f c.put-2.new.out) first
+    ∙ ap (λ f. eq_by_cmp form_cmp (form (node_of c.args.a.now)) f) second)

@@ -62,7 +62,8 @@ walk_list-loop-item-preserved g t c =
     let view : nodes_view (drop i all) ≡ node_of item ∷ nodes_view (drop (i + 1) all) =
     ap nodes_view (drop_more all i item c.loop-item-test.true ∙ ap (λ y. y ∷ drop (i + 1) all) (sym c.item-item.is)) in
     record {
-      sofar = entry_took k (next_place tb d) d.frames (nodes_view all) (nodes_view (drop i all)) (decoding_of c.loop-item.self) c.requires.laws
+      sofar = entry_took k (next_place tb d) d.frames (nodes_view all) (nodes_view (drop i all))
+          (decoding_of c.loop-item.self) c.requires.laws
           c.requires.shaped c.requires.ready.0 c.requires.list c.loop-item.invariant.sofar (node_of item) (nodes_view (drop (i + 1) all))
           (decoding_of c.walk.new.self) view c.in-Ok-walk.ensures.taken;
       shape = c.walk.ensures.shape ∙ c.loop-item.invariant.shape;
@@ -87,7 +88,8 @@ walk_list-returns-clause-taken g t c =
     let e = decoding_of c.end.new.self in
     let n = list (nodes_of (nodes_view all)) in
     known_by (λ u. EndedBy tb g.P.Patterns.test now.shape now.frames e) (λ u. TreeTaken k n d e) c.end.result
-    (λ u by. level_ended k (in_list (nodes_view all) []) d now e c.requires.shaped refl c.requires.ready c.loop-item.invariant.shape at by) c.end.ensures.ended
+    (λ u by. level_ended k (in_list (nodes_view all) []) d now e c.requires.shaped refl c.requires.ready c.loop-item.invariant.shape at
+    by) c.end.ensures.ended
 
 pub walk_object-loop-pair-init : goal.walk_object-loop-pair-init
 walk_object-loop-pair-init g t c =
@@ -97,7 +99,8 @@ walk_object-loop-pair-init g t c =
     let d = decoding_of c.args.self.now in
     let now : decoding.Decoding = record { shape = d.shape; frames = frames_of c.push.new.self; result = d.result } in
     record {
-      sofar = object_opens k d now (place_of c.args.place) (members_view c.args.pairs.now) c.requires.object c.requires.at c.requires.ready.2 refl
+      sofar = object_opens k d now (place_of c.args.place) (members_view c.args.pairs.now) c.requires.object c.requires.at
+          c.requires.ready.2 refl
           (c.in-Ok.ensures ∙ ap (λ f. f ∷ d.frames) c.object_at.ensures);
       shape = refl;
       added = refl;
@@ -160,7 +163,8 @@ walk_object-returns-clause-taken g t c =
     let e = decoding_of c.end.new.self in
     let n = object (members_of (members_view all)) in
     known_by (λ u. EndedBy tb g.P.Patterns.test now.shape now.frames e) (λ u. TreeTaken k n d e) c.end.result
-    (λ u by. level_ended k (in_object (members_view all)) d now e c.requires.shaped tt c.requires.ready c.loop-pair.invariant.shape at by) c.end.ensures.ended
+    (λ u by. level_ended k (in_object (members_view all)) d now e c.requires.shaped tt c.requires.ready c.loop-pair.invariant.shape at
+    by) c.end.ensures.ended
 
 pub walk_pair-walk-requires : goal.walk_pair-walk-requires
 walk_pair-walk-requires g t c =

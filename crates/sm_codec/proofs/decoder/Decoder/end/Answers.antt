@@ -27,7 +27,8 @@ returns-in-Structure-clause-ended g c =
     let o = frame_end t (place_among t s rest) f in
     let is : IfOk c.finish.result (λ x. outcome_of x ≡ o) = c.finish.ensures in
     known_by (λ u. ClosedBy t test c.finish.result rest e) (λ u. EndedBy t test s d.frames e) c.close.result
-    (λ u closed. subst (λ fs. EndedBy t test s fs e) (sym at) (closed_takes t test c.finish.result o rest e is closed)) c.close.ensures.closed
+    (λ u closed. subst (λ fs. EndedBy t test s fs e) (sym at) (closed_takes t test c.finish.result o rest e is closed))
+    c.close.ensures.closed
 
 pub returns-in-Union-clause-ended : goal.returns-in-Union-clause-ended
 returns-in-Union-clause-ended g c =
@@ -42,7 +43,8 @@ returns-in-Union-clause-ended g c =
     let o = frame_end t (place_among t s rest) f in
     let is : IfOk c.finish_union.result (λ x. outcome_of x ≡ o) = c.finish_union.ensures in
     known_by (λ u. ClosedBy t test c.finish_union.result rest e) (λ u. EndedBy t test s d.frames e) c.close-in-Union.result
-    (λ u closed. subst (λ fs. EndedBy t test s fs e) (sym at) (closed_takes t test c.finish_union.result o rest e is closed)) c.close-in-Union.ensures.closed
+    (λ u closed. subst (λ fs. EndedBy t test s fs e) (sym at) (closed_takes t test c.finish_union.result o rest e is closed))
+    c.close-in-Union.ensures.closed
 
 pub returns-in-List-clause-ended : goal.returns-in-List-clause-ended
 returns-in-List-clause-ended g c =
@@ -58,11 +60,14 @@ returns-in-List-clause-ended g c =
     let place = ap (constraints_of t) c.place.ensures in
     let constraints = c.constraints-constraints.ensures ∙ place in
     let is : IfOk c.finish-in-List.result (λ x. outcome_of x ≡ o) =
-    subst (λ u. IfOk c.finish-in-List.result (λ x. outcome_of x ≡ list_end (constraints_of t (place_among t s rest)) u (entry_frame c.in-List.frame)))
+    subst (λ u. IfOk c.finish-in-List.result (λ x. outcome_of x ≡ list_end (constraints_of t (place_among t s rest)) u
+    (entry_frame c.in-List.frame)))
     c.is_unique-unique.ensures
-    (subst (λ cs. IfOk c.finish-in-List.result (λ x. outcome_of x ≡ list_end cs c.is_unique-unique.result (entry_frame c.in-List.frame))) constraints c.finish-in-List.ensures) in
+    (subst (λ cs. IfOk c.finish-in-List.result (λ x. outcome_of x ≡ list_end cs c.is_unique-unique.result (entry_frame c.in-List.frame)))
+    constraints c.finish-in-List.ensures) in
     known_by (λ u. ClosedBy t test c.finish-in-List.result rest e) (λ u. EndedBy t test s d.frames e) c.close-in-List.result
-    (λ u closed. subst (λ fs. EndedBy t test s fs e) (sym at) (closed_takes t test c.finish-in-List.result o rest e is closed)) c.close-in-List.ensures.closed
+    (λ u closed. subst (λ fs. EndedBy t test s fs e) (sym at) (closed_takes t test c.finish-in-List.result o rest e is closed))
+    c.close-in-List.ensures.closed
 
 pub returns-in-Map-clause-ended : goal.returns-in-Map-clause-ended
 returns-in-Map-clause-ended g c =
@@ -77,6 +82,8 @@ returns-in-Map-clause-ended g c =
     let o = frame_end t (place_among t s rest) f in
     let constraints = c.constraints-constraints-in-Map.ensures ∙ ap (constraints_of t) c.place-in-Map.ensures in
     let is : IfOk c.finish-in-Map.result (λ x. outcome_of x ≡ o) =
-    subst (λ cs. IfOk c.finish-in-Map.result (λ x. outcome_of x ≡ map_end cs (key_frame c.in-Map.frame))) constraints c.finish-in-Map.ensures in
+    subst (λ cs. IfOk c.finish-in-Map.result (λ x. outcome_of x ≡ map_end cs (key_frame c.in-Map.frame))) constraints
+    c.finish-in-Map.ensures in
     known_by (λ u. ClosedBy t test c.finish-in-Map.result rest e) (λ u. EndedBy t test s d.frames e) c.close-in-Map.result
-    (λ u closed. subst (λ fs. EndedBy t test s fs e) (sym at) (closed_takes t test c.finish-in-Map.result o rest e is closed)) c.close-in-Map.ensures.closed
+    (λ u closed. subst (λ fs. EndedBy t test s fs e) (sym at) (closed_takes t test c.finish-in-Map.result o rest e is closed))
+    c.close-in-Map.ensures.closed

@@ -41,7 +41,8 @@ pub returns-in-Null-clause-kept : goal.returns-in-Null-clause-kept
 returns-in-Null-clause-kept g c =
     let k = codec_of (table_data c.args.table.now) (g.L.Leaves.convention c.args.leaves.now) g.P.Patterns.test in
     let d = decoding_of c.args.self.now in
-    leaf_took k d (decoding_of c.leaf.new.self) c.args.event Null (node_of tree.Null) null c.leaf.result c.laws.ensures c.requires.shaped c.in-Null.is
+    leaf_took k d (decoding_of c.leaf.new.self) c.args.event Null
+    (node_of tree.Null) null c.leaf.result c.laws.ensures c.requires.shaped c.in-Null.is
     (node_null) (λ x. x) refl (λ b h. h) c.leaf.ensures.read c.leaf.ensures.shape
 
 pub leaf-requires-in-Bool-clause-due : goal.leaf-requires-in-Bool-clause-due
@@ -66,7 +67,8 @@ pub returns-in-Bool-clause-kept : goal.returns-in-Bool-clause-kept
 returns-in-Bool-clause-kept g c =
     let k = codec_of (table_data c.args.table.now) (g.L.Leaves.convention c.args.leaves.now) g.P.Patterns.test in
     let d = decoding_of c.args.self.now in
-    leaf_took k d (decoding_of c.leaf-in-Bool.new.self) c.args.event (Bool c.in-Bool.truth) (node_of (tree.Bool c.in-Bool.truth)) (bool c.in-Bool.truth) c.leaf-in-Bool.result c.laws.ensures c.requires.shaped c.in-Bool.is
+    leaf_took k d (decoding_of c.leaf-in-Bool.new.self) c.args.event (Bool c.in-Bool.truth) (node_of (tree.Bool c.in-Bool.truth))
+    (bool c.in-Bool.truth) c.leaf-in-Bool.result c.laws.ensures c.requires.shaped c.in-Bool.is
     (node_bool c.in-Bool.truth) (λ x. x) refl (λ b h. h) c.leaf-in-Bool.ensures.read c.leaf-in-Bool.ensures.shape
 
 pub leaf-requires-in-Int-clause-due : goal.leaf-requires-in-Int-clause-due
@@ -93,8 +95,11 @@ returns-in-Int-clause-kept g c =
     let d = decoding_of c.args.self.now in
     let fits : FitsSigned w64 c.in-Int.number = search rules in
     let same : to_z w64 (of_z w64 c.in-Int.number) ≡ c.in-Int.number = to_z-of_z fits in
-    leaf_took k d (decoding_of c.leaf-in-Int.new.self) c.args.event (Int c.in-Int.number) (node_of (tree.Int (to_z w64 (of_z w64 c.in-Int.number)))) (int c.in-Int.number) c.leaf-in-Int.result c.laws.ensures c.requires.shaped c.in-Int.is
-    (ap (λ z. node_of (tree.Int z)) same ∙ node_int c.in-Int.number) (λ x. x) refl (λ b h. h) c.leaf-in-Int.ensures.read c.leaf-in-Int.ensures.shape
+    leaf_took k d (decoding_of c.leaf-in-Int.new.self) c.args.event (Int c.in-Int.number)
+    (node_of (tree.Int (to_z w64 (of_z w64 c.in-Int.number))))
+    (int c.in-Int.number) c.leaf-in-Int.result c.laws.ensures c.requires.shaped c.in-Int.is
+    (ap (λ z. node_of (tree.Int z)) same ∙ node_int c.in-Int.number) (λ x. x) refl
+    (λ b h. h) c.leaf-in-Int.ensures.read c.leaf-in-Int.ensures.shape
 
 pub leaf-requires-in-Number-clause-due : goal.leaf-requires-in-Number-clause-due
 leaf-requires-in-Number-clause-due g c =
@@ -118,7 +123,9 @@ pub returns-in-Number-clause-kept : goal.returns-in-Number-clause-kept
 returns-in-Number-clause-kept g c =
     let k = codec_of (table_data c.args.table.now) (g.L.Leaves.convention c.args.leaves.now) g.P.Patterns.test in
     let d = decoding_of c.args.self.now in
-    leaf_took k d (decoding_of c.leaf-in-Number.new.self) c.args.event (Number c.in-Number.number) (node_of (tree.Number c.in-Number.number)) (number c.in-Number.number) c.leaf-in-Number.result c.laws.ensures c.requires.shaped c.in-Number.is
+    leaf_took k d (decoding_of c.leaf-in-Number.new.self) c.args.event (Number c.in-Number.number)
+    (node_of (tree.Number c.in-Number.number)) (number c.in-Number.number) c.leaf-in-Number.result c.laws.ensures c.requires.shaped
+    c.in-Number.is
     (node_number c.in-Number.number) (λ x. x) refl (λ b h. h) c.leaf-in-Number.ensures.read c.leaf-in-Number.ensures.shape
 
 pub leaf-requires-in-Text-clause-due : goal.leaf-requires-in-Text-clause-due
@@ -143,7 +150,8 @@ pub returns-in-Text-clause-kept : goal.returns-in-Text-clause-kept
 returns-in-Text-clause-kept g c =
     let k = codec_of (table_data c.args.table.now) (g.L.Leaves.convention c.args.leaves.now) g.P.Patterns.test in
     let d = decoding_of c.args.self.now in
-    leaf_took k d (decoding_of c.leaf-in-Text.new.self) c.args.event (Text c.in-Text.text) (node_of (tree.Text c.in-Text.text)) (text c.in-Text.text) c.leaf-in-Text.result c.laws.ensures c.requires.shaped c.in-Text.is
+    leaf_took k d (decoding_of c.leaf-in-Text.new.self) c.args.event (Text c.in-Text.text) (node_of (tree.Text c.in-Text.text))
+    (text c.in-Text.text) c.leaf-in-Text.result c.laws.ensures c.requires.shaped c.in-Text.is
     (node_text c.in-Text.text) (λ x. x) refl (λ b h. h) c.leaf-in-Text.ensures.read c.leaf-in-Text.ensures.shape
 
 pub leaf-requires-in-Bytes-clause-due : goal.leaf-requires-in-Bytes-clause-due
@@ -168,7 +176,8 @@ pub returns-in-Bytes-clause-kept : goal.returns-in-Bytes-clause-kept
 returns-in-Bytes-clause-kept g c =
     let k = codec_of (table_data c.args.table.now) (g.L.Leaves.convention c.args.leaves.now) g.P.Patterns.test in
     let d = decoding_of c.args.self.now in
-    leaf_took k d (decoding_of c.leaf-in-Bytes.new.self) c.args.event (Bytes c.in-Bytes.bytes) (node_of (tree.Bytes c.in-Bytes.bytes)) (bytes c.in-Bytes.bytes) c.leaf-in-Bytes.result c.laws.ensures c.requires.shaped c.in-Bytes.is
+    leaf_took k d (decoding_of c.leaf-in-Bytes.new.self) c.args.event (Bytes c.in-Bytes.bytes) (node_of (tree.Bytes c.in-Bytes.bytes))
+    (bytes c.in-Bytes.bytes) c.leaf-in-Bytes.result c.laws.ensures c.requires.shaped c.in-Bytes.is
     (node_bytes c.in-Bytes.bytes) (λ x. x) refl (λ b h. h) c.leaf-in-Bytes.ensures.read c.leaf-in-Bytes.ensures.shape
 
 pub leaf-requires-in-Opaque-clause-due : goal.leaf-requires-in-Opaque-clause-due
@@ -193,7 +202,8 @@ pub returns-in-Opaque-clause-kept : goal.returns-in-Opaque-clause-kept
 returns-in-Opaque-clause-kept g c =
     let k = codec_of (table_data c.args.table.now) (g.L.Leaves.convention c.args.leaves.now) g.P.Patterns.test in
     let d = decoding_of c.args.self.now in
-    leaf_took k d (decoding_of c.leaf-in-Opaque.new.self) c.args.event (Opaque c.in-Opaque.byte) (node_of (tree.Opaque c.in-Opaque.byte)) (opaque c.in-Opaque.byte) c.leaf-in-Opaque.result c.laws.ensures c.requires.shaped c.in-Opaque.is
+    leaf_took k d (decoding_of c.leaf-in-Opaque.new.self) c.args.event (Opaque c.in-Opaque.byte) (node_of (tree.Opaque c.in-Opaque.byte))
+    (opaque c.in-Opaque.byte) c.leaf-in-Opaque.result c.laws.ensures c.requires.shaped c.in-Opaque.is
     (node_opaque c.in-Opaque.byte) (λ x. x) refl (λ b h. h) c.leaf-in-Opaque.ensures.read c.leaf-in-Opaque.ensures.shape
 
 pub tag-requires-clause-due : goal.tag-requires-clause-due
@@ -209,7 +219,8 @@ returns-in-Tag-clause-kept g c =
     let e : decoding.Decoding = record { shape = d.shape; frames = frames_of c.tag.new.self; result = d.result } in
     let due = due_told k.table d.shape d.frames in
     let By : Type 0 = TagBy k.table k.convention due c.in-Tag.tag d.frames e.frames in
-    took k d e c.args.event (Tag c.in-Tag.tag) c.tag.result By (e.shape ≡ d.shape) c.in-Tag.is (λ by root. tag_kept k d e c.requires.shaped root refl c.in-Tag.tag by) c.tag.ensures refl
+    took k d e c.args.event (Tag c.in-Tag.tag) c.tag.result By (e.shape ≡ d.shape) c.in-Tag.is
+    (λ by root. tag_kept k d e c.requires.shaped root refl c.in-Tag.tag by) c.tag.ensures refl
 
 pub start_list-requires-clause-due : goal.start_list-requires-clause-due
 start_list-requires-clause-due g c =
@@ -224,13 +235,15 @@ returns-in-StartList-clause-kept g c =
     let e : decoding.Decoding = record { shape = d.shape; frames = frames_of c.start_list.new.self; result = d.result } in
     let due = due_told k.table d.shape d.frames in
     let By : Type 0 = StartBy list_start k.table k.convention due d.frames e.frames in
-    took k d e c.args.event (StartList c.in-StartList.field-0) c.start_list.result By (e.shape ≡ d.shape) c.in-StartList.is (λ by root. list_kept k d e c.requires.shaped root refl c.in-StartList.field-0 by) c.start_list.ensures refl
+    took k d e c.args.event (StartList c.in-StartList.field-0) c.start_list.result By (e.shape ≡ d.shape) c.in-StartList.is
+    (λ by root. list_kept k d e c.requires.shaped root refl c.in-StartList.field-0 by) c.start_list.ensures refl
 
 pub start_object-requires-clause-due : goal.start_object-requires-clause-due
 start_object-requires-clause-due g c =
     let k = codec_of (table_data c.args.table.now) (g.L.Leaves.convention c.args.leaves.now) g.P.Patterns.test in
     let d = decoding_of c.args.self.now in
-    (event_ready k d c.args.event (StartObject c.in-StartObject.field-0) (λ b h. h) c.requires.shaped c.in-StartObject.is c.requires.placed).0
+    (event_ready k d c.args.event (StartObject c.in-StartObject.field-0)
+    (λ b h. h) c.requires.shaped c.in-StartObject.is c.requires.placed).0
 
 pub returns-in-StartObject-clause-kept : goal.returns-in-StartObject-clause-kept
 returns-in-StartObject-clause-kept g c =
@@ -239,7 +252,8 @@ returns-in-StartObject-clause-kept g c =
     let e : decoding.Decoding = record { shape = d.shape; frames = frames_of c.start_object.new.self; result = d.result } in
     let due = due_told k.table d.shape d.frames in
     let By : Type 0 = StartBy object_start k.table k.convention due d.frames e.frames in
-    took k d e c.args.event (StartObject c.in-StartObject.field-0) c.start_object.result By (e.shape ≡ d.shape) c.in-StartObject.is (λ by root. object_kept k d e c.requires.shaped root refl c.in-StartObject.field-0 by) c.start_object.ensures refl
+    took k d e c.args.event (StartObject c.in-StartObject.field-0) c.start_object.result By (e.shape ≡ d.shape) c.in-StartObject.is
+    (λ by root. object_kept k d e c.requires.shaped root refl c.in-StartObject.field-0 by) c.start_object.ensures refl
 
 pub key-requires-clause-can : goal.key-requires-clause-can
 key-requires-clause-can g c =
@@ -261,13 +275,15 @@ pub end-requires-clause-can : goal.end-requires-clause-can
 end-requires-clause-can g c =
     let k = codec_of (table_data c.args.table.now) (g.L.Leaves.convention c.args.leaves.now) g.P.Patterns.test in
     let d = decoding_of c.args.self.now in
-    (list_end_ready k d c.laws.ensures c.requires.shaped (subst (λ e. MayTake (Stands k d) (event_of e)) c.in-EndList.is c.requires.placed)).0
+    (list_end_ready k d c.laws.ensures c.requires.shaped (subst
+    (λ e. MayTake (Stands k d) (event_of e)) c.in-EndList.is c.requires.placed)).0
 
 pub end-requires-clause-none : goal.end-requires-clause-none
 end-requires-clause-none g c =
     let k = codec_of (table_data c.args.table.now) (g.L.Leaves.convention c.args.leaves.now) g.P.Patterns.test in
     let d = decoding_of c.args.self.now in
-    (list_end_ready k d c.laws.ensures c.requires.shaped (subst (λ e. MayTake (Stands k d) (event_of e)) c.in-EndList.is c.requires.placed)).1
+    (list_end_ready k d c.laws.ensures c.requires.shaped (subst
+    (λ e. MayTake (Stands k d) (event_of e)) c.in-EndList.is c.requires.placed)).1
 
 pub returns-in-EndList-clause-kept : goal.returns-in-EndList-clause-kept
 returns-in-EndList-clause-kept g c =
@@ -281,21 +297,25 @@ pub end-requires-in-EndObject-clause-can : goal.end-requires-in-EndObject-clause
 end-requires-in-EndObject-clause-can g c =
     let k = codec_of (table_data c.args.table.now) (g.L.Leaves.convention c.args.leaves.now) g.P.Patterns.test in
     let d = decoding_of c.args.self.now in
-    (object_end_ready k d c.laws.ensures c.requires.shaped (subst (λ e. MayTake (Stands k d) (event_of e)) c.in-EndObject.is c.requires.placed)).0
+    (object_end_ready k d c.laws.ensures c.requires.shaped (subst
+    (λ e. MayTake (Stands k d) (event_of e)) c.in-EndObject.is c.requires.placed)).0
 
 pub end-requires-in-EndObject-clause-none : goal.end-requires-in-EndObject-clause-none
 end-requires-in-EndObject-clause-none g c =
     let k = codec_of (table_data c.args.table.now) (g.L.Leaves.convention c.args.leaves.now) g.P.Patterns.test in
     let d = decoding_of c.args.self.now in
-    (object_end_ready k d c.laws.ensures c.requires.shaped (subst (λ e. MayTake (Stands k d) (event_of e)) c.in-EndObject.is c.requires.placed)).1
+    (object_end_ready k d c.laws.ensures c.requires.shaped (subst
+    (λ e. MayTake (Stands k d) (event_of e)) c.in-EndObject.is c.requires.placed)).1
 
 pub returns-in-EndObject-clause-kept : goal.returns-in-EndObject-clause-kept
 returns-in-EndObject-clause-kept g c =
     let k = codec_of (table_data c.args.table.now) (g.L.Leaves.convention c.args.leaves.now) g.P.Patterns.test in
     let d = decoding_of c.args.self.now in
     let e = decoding_of c.end-in-EndObject.new.self in
-    took k d e c.args.event EndObject c.end-in-EndObject.result (EndedBy k.table k.test d.shape d.frames e) (e.shape ≡ d.shape) c.in-EndObject.is
-    (λ by root. object_end_kept k d e c.laws.ensures c.requires.shaped root by) c.end-in-EndObject.ensures.ended c.end-in-EndObject.ensures.shape
+    took k d e c.args.event EndObject c.end-in-EndObject.result (EndedBy k.table k.test d.shape d.frames e)
+    (e.shape ≡ d.shape) c.in-EndObject.is
+    (λ by root. object_end_kept k d e c.laws.ensures c.requires.shaped root by) c.end-in-EndObject.ensures.ended
+    c.end-in-EndObject.ensures.shape
 
 pub returns-in-Null-clause-bounded : goal.returns-in-Null-clause-bounded
 returns-in-Null-clause-bounded g c = c.kept_is_bounded.ensures _

@@ -16,7 +16,8 @@ returns-in-Ok-clause-takes g c =
     let first = c.in-Ok.first in
     let f = key_frame c.in-Map.frame in
     let h = key_frame c.take-in-Ok.new.self in
-    known_by (λ u. TakesPair c.is_sparse-in-Ok.result first x f h) (λ u. FrameTakes t g.P.Patterns.test x (frame_of c.args.self.now) (map_frame h))
+    known_by (λ u. TakesPair c.is_sparse-in-Ok.result first x f h)
+    (λ u. FrameTakes t g.P.Patterns.test x (frame_of c.args.self.now) (map_frame h))
     c.take-in-Ok.result
     (λ u takes. subst (λ s. FrameTakes t g.P.Patterns.test x (frame_of s) (map_frame h)) (sym c.in-Map.is)
     (h, first, refl, c.in-Ok.ensures.first, subst (λ sparse. TakesPair sparse first x f h) c.is_sparse-in-Ok.ensures takes))

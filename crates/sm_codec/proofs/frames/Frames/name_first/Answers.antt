@@ -16,7 +16,8 @@ returns g c =
     let x = c.in-Some.frame.now in
     let y = c.name.new.self in
     let gs = set fs (c.args.self.now.frames.len - 1) y in
-    let top = lent_changed fs c.args.self.now.frames.len x y c.args.self.now.frames.ok.0 (c.in-Some.ensures.variant.0 refl) c.in-Some.ensures.value in
+    let top = lent_changed fs c.args.self.now.frames.len x y c.args.self.now.frames.ok.0
+    (c.in-Some.ensures.variant.0 refl) c.in-Some.ensures.value in
     known_by (λ known. FrameNames t l name known (frame_of x) (frame_of y)) (λ known. FirstNames t l name known (stack_of fs) (stack_of gs))
     c.name.result (λ known named. named_first t l name known (stack_of fs) (stack_of gs) top.0 (frame_of x) (frame_of y) top.1 top.2 named)
     c.name.ensures

@@ -18,8 +18,10 @@ returns-in-None-None c =
     let least = lacking t f.shape f.fields c.needed-needed.result.now c.first_missing-missing.result c.requires.shaped c.requires.shape
     c.first_missing-missing.ensures c.needed-needed.ensures in
     let ends = end_is t f None None (ap (option_map fault_at) c.in-None-None.is-0) (least ∙ c.in-None-None.is-1) in
-    known_by (λ o. EndsGood t c.needed-needed.result.now f.fields (outcome_of o)) (λ o. outcome_of o ≡ structure_end t f) c.with_defaults.result
-    (λ o is. is ∙ ap (λ fs. good (structure_val (fields_of fs))) (put_needed t f.shape f.fields c.needed-needed.result.now c.requires.shaped c.requires.shape c.needed-needed.ensures) ∙ sym ends)
+    known_by (λ o. EndsGood t c.needed-needed.result.now f.fields (outcome_of o))
+    (λ o. outcome_of o ≡ structure_end t f) c.with_defaults.result
+    (λ o is. is ∙ ap (λ fs. good (structure_val (fields_of fs)))
+    (put_needed t f.shape f.fields c.needed-needed.result.now c.requires.shaped c.requires.shape c.needed-needed.ensures) ∙ sym ends)
     c.with_defaults.ensures
 
 pub missing_at-requires : goal.missing_at-requires
@@ -47,7 +49,8 @@ returns-in-Some-None c =
     let f = member_frame c.args.self in
     let least = lacking t f.shape f.fields c.needed-needed.result.now c.first_missing-missing.result c.requires.shaped c.requires.shape
     c.first_missing-missing.ensures c.needed-needed.ensures in
-    sym (end_is t f (Some (fault_at c.in-Some-None.fault)) None (ap (option_map fault_at) c.in-Some-None.is-0) (least ∙ c.in-Some-None.is-1))
+    sym (end_is t f (Some (fault_at c.in-Some-None.fault)) None (ap (option_map fault_at) c.in-Some-None.is-0)
+    (least ∙ c.in-Some-None.is-1))
 
 pub missing_at-requires-then-stands_before : goal.missing_at-requires-then-stands_before
 missing_at-requires-then-stands_before c =

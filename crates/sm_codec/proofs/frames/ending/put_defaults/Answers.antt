@@ -19,6 +19,7 @@ loop-member-preserved c =
     drop_more members i 0 (omega arith) in
     let put = c.in_ok-put_default_of.ensures in
     record {
-      put = ap (defaults_put t (drop (i + 1) members)) put ∙ sym (ap (λ ks. defaults_put t ks (fields_view at.fields)) next) ∙ at.invariant.put;
+      put = ap (defaults_put t (drop (i + 1) members)) put ∙ sym (ap (λ ks. defaults_put t ks (fields_view at.fields)) next)
+          ∙ at.invariant.put;
       rises = subst FieldsRise (sym put) (default_rises member (default_at t member) (fields_view at.fields) at.invariant.rises);
     }

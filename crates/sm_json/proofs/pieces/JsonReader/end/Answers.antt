@@ -13,18 +13,21 @@ returns-in-Some-clause-refused c = c.in-Some.is
 
 pub returns-then-is_over-clause-ends : goal.returns-then-is_over-clause-ends
 returns-then-is_over-clause-ends c bytes come =
-    let read = has_read c.args.self.now bytes c.in-None.is come in ends_here c.args.self.now bytes read (c.if-is_over.ensures read.goes.sound)
+    let read = has_read c.args.self.now bytes c.in-None.is come in ends_here c.args.self.now bytes read
+    (c.if-is_over.ensures read.goes.sound)
 
 pub returns-then-is_over-clause-again : goal.returns-then-is_over-clause-again
 returns-then-is_over-clause-again c = rw c.in-None.is tt
 
 pub returns-else-is_over-clause-ends : goal.returns-else-is_over-clause-ends
 returns-else-is_over-clause-ends c bytes come =
-    let read = has_read c.args.self.now bytes c.in-None.is come in cut_here c.args.self.now bytes read (c.if-is_over.ensures read.goes.sound)
+    let read = has_read c.args.self.now bytes c.in-None.is come in cut_here c.args.self.now bytes read
+    (c.if-is_over.ensures read.goes.sound)
 
 pub returns-else-is_over-clause-stands : goal.returns-else-is_over-clause-stands
 returns-else-is_over-clause-stands c bytes come =
-    let read = has_read c.args.self.now bytes c.in-None.is come in cut_here c.args.self.now bytes read (c.if-is_over.ensures read.goes.sound)
+    let read = has_read c.args.self.now bytes c.in-None.is come in cut_here c.args.self.now bytes read
+    (c.if-is_over.ensures read.goes.sound)
 
 pub returns-else-is_over-clause-again : goal.returns-else-is_over-clause-again
 returns-else-is_over-clause-again c = rw c.in-None.is tt

@@ -15,14 +15,16 @@ feed-requires-clause-placed g c =
 
 pub returns-in-Ok-clause-feeds : goal.returns-in-Ok-clause-feeds
 returns-in-Ok-clause-feeds g c =
-    piece_fed c.args.self.now _ c.args.piece.now _ _ _ c.requires.fresh c.requires.fresh refl refl c.first_behind-self.ensures c.in-Ok.ensures.goes
+    piece_fed c.args.self.now _ c.args.piece.now _ _ _ c.requires.fresh c.requires.fresh refl refl c.first_behind-self.ensures
+    c.in-Ok.ensures.goes
 
 pub returns-in-Ok-clause-takes : goal.returns-in-Ok-clause-takes
 returns-in-Ok-clause-takes g c e before = c.in-Ok.ensures.goes.takes_all e
 
 pub moved_by-moved-requires : goal.moved_by-moved-requires
 moved_by-moved-requires g c = record {
-  room = feed_within c.args.self.now.reader c.feed.new.self (g.E.EventSink.stands_for c.args.to.now) (g.E.EventSink.stands_for c.feed.new.to)
+  room = feed_within c.args.self.now.reader c.feed.new.self (g.E.EventSink.stands_for c.args.to.now)
+      (g.E.EventSink.stands_for c.feed.new.to)
       (g.E.EventSink.takes c.feed.new.to) c.args.piece.now c.in-Err.refusal _ (omega arith) c.in-Err.ensures.goes;
 }
 
@@ -38,6 +40,7 @@ returns-in-Err-clause-feeds g c =
 
 pub returns-in-Err-clause-takes : goal.returns-in-Err-clause-takes
 returns-in-Err-clause-takes g c =
-    rw c.moved_by-moved.ensures (takes_refused c.args.self.now.reader c.feed.new.self c.args.piece.now (g.E.EventSink.stands_for c.args.to.now)
+    rw c.moved_by-moved.ensures (takes_refused c.args.self.now.reader c.feed.new.self c.args.piece.now
+    (g.E.EventSink.stands_for c.args.to.now)
     (g.E.EventSink.stands_for c.feed.new.to) (g.E.EventSink.takes c.args.to.now) (g.E.EventSink.takes c.feed.new.to)
     c.args.self.now.taken c.in-Err.refusal c.in-Err.ensures.goes)

@@ -5,7 +5,8 @@ use Rattle.sm_json.proofs.read.Reader.between.Goals as goal
 
 pub returns-then-has-clause-goes : goal.returns-then-has-clause-goes
 returns-then-has-clause-goes g c =
-    white_run_takes c.args.self.now _ _ c.args.bytes.now c.run_len.result c.requires.sound c.requires.placed c.requires.between c.requires.some
+    white_run_takes c.args.self.now _ _ c.args.bytes.now c.run_len.result c.requires.sound c.requires.placed c.requires.between
+    c.requires.some
     c.run_len.ensures.within (sym c.has.ensures ∙ c.if-has.true) (whites_of_run _ c.run_len.result c.run_len.ensures.run)
 
 pub returns-in-Err-clause-goes : goal.returns-in-Err-clause-goes

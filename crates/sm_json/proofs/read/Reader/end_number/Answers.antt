@@ -20,7 +20,8 @@ returns-then-not-may_follow-clause-goes g c = (
 )
 
 pub behind-requires-clause-placed : goal.behind-requires-clause-placed
-behind-requires-clause-placed g c = number_over_placed c.args.self.now _ _ _ _ c.args.phase c.requires.place c.requires.placed c.in_ok-hand_number.ensures.goes
+behind-requires-clause-placed g c = number_over_placed c.args.self.now _ _ _ _ c.args.phase c.requires.place c.requires.placed
+    c.in_ok-hand_number.ensures.goes
 
 pub returns-clause-goes : goal.returns-clause-goes
 returns-clause-goes g c =

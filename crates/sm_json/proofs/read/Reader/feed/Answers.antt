@@ -5,7 +5,8 @@ use Rattle.sm_json.proofs.read.Reader.feed.Goals as goal
 pub loop-at-init : goal.loop-at-init
 loop-at-init g c = record {
   inside = omega arith;
-  fed = feeds_nowhere c.args.self.now (g.E.EventSink.stands_for c.args.to.now) (g.E.EventSink.takes c.args.to.now) c.requires.sound c.requires.placed;
+  fed = feeds_nowhere c.args.self.now (g.E.EventSink.stands_for c.args.to.now)
+      (g.E.EventSink.takes c.args.to.now) c.requires.sound c.requires.placed;
   alike = g.met.E.EventSink.alike_itself c.args.to.now;
 }
 

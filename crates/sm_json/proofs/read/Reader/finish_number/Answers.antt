@@ -7,5 +7,6 @@ returns-then-depth-gt0-clause-goes g c = number_cut_short c.args.self.now c.args
     (inl (omega (arith, c.depth.ensures, c.if-depth-gt0.true)))
 
 pub returns-clause-goes : goal.returns-clause-goes
-returns-clause-goes g c = number_finishes c.args.self.now _ _ _ c.args.phase c.requires.place (omega (arith, c.depth.ensures, c.if-depth-gt0.false))
+returns-clause-goes g c = number_finishes c.args.self.now _ _ _ c.args.phase c.requires.place
+    (omega (arith, c.depth.ensures, c.if-depth-gt0.false))
     c.in_ok-hand_number.ensures.goes

@@ -6,7 +6,8 @@ pub returns-in_ok-close_list-clause-goes : goal.returns-in_ok-close_list-clause-
 returns-in_ok-close_list-clause-goes g c = rw c.if-byte-eq93.true c.in_ok-close_list.ensures.goes
 
 pub returns-else-byte-eq93-clause-goes : goal.returns-else-byte-eq93-clause-goes
-returns-else-byte-eq93-clause-goes g c = first_entry_takes c.args.self.now c.value.new.self _ _ _ c.args.byte c.value.result c.requires.sound
+returns-else-byte-eq93-clause-goes g c = first_entry_takes c.args.self.now c.value.new.self _ _ _ c.args.byte c.value.result
+    c.requires.sound
     c.requires.place c.requires.black c.if-byte-eq93.false c.value.ensures.goes
 
 pub value-requires-clause-placed : goal.value-requires-clause-placed

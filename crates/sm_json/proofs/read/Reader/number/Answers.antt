@@ -17,6 +17,7 @@ returns-in-Ok-clause-goes g c = (
 pub returns-in-Err-clause-goes : goal.returns-in-Err-clause-goes
 returns-in-Err-clause-goes g c =
     rw c.moved_by.ensures (refused_later c.args.self.now c.grow_number.new.self c.end_number.new.self
-    (g.E.EventSink.stands_for c.args.to.now) (g.E.EventSink.stands_for c.end_number.new.to) (g.E.EventSink.takes c.end_number.new.to) c.args.bytes.now
+    (g.E.EventSink.stands_for c.args.to.now) (g.E.EventSink.stands_for c.end_number.new.to)
+    (g.E.EventSink.takes c.end_number.new.to) c.args.bytes.now
     c.in_ok-run.run'.count c.in-Err.refusal
     (omega (arith, c.in_ok-run.ensures.inside)) c.in_ok-run.ensures.goes c.in-Err.ensures.goes)

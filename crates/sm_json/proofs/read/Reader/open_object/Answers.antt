@@ -12,7 +12,8 @@ returns-then-depth-ge-MOST_LEVELS-clause-goes g c = (
 )
 
 pub returns-clause-goes : goal.returns-clause-goes
-returns-clause-goes g c = feeds_event c.args.self.now _ _ _ _ _ _ _ c.requires.placed (object_goes c.args.self.now _ c.requires.place refl c.enter.ensures)
+returns-clause-goes g c = feeds_event c.args.self.now _ _ _ _ _ _ _ c.requires.placed
+    (object_goes c.args.self.now _ c.requires.place refl c.enter.ensures)
     c.in_ok-event.ensures.stands c.in_ok-event.ensures.takes_same
 
 pub event-requires-clause-placed : goal.event-requires-clause-placed

@@ -5,7 +5,8 @@ use Rattle.sm_model.proofs.MadeGraphs.{few_rows, few_sorted, given_sorted, made_
 use Rattle.sm_model.proofs.graph.Graph.build.Goals as goal
 
 pub rows_of-requires-clause-given : goal.rows_of-requires-clause-given
-rows_of-requires-clause-given c = given_sorted c.args.shapes.items c.shapes_in_order.result.items c.shapes_in_order.ensures.moved c.requires.each
+rows_of-requires-clause-given c = given_sorted c.args.shapes.items c.shapes_in_order.result.items c.shapes_in_order.ensures.moved
+    c.requires.each
 
 pub rows_of-requires-clause-few : goal.rows_of-requires-clause-few
 rows_of-requires-clause-few c = few_sorted c.args.shapes.items c.shapes_in_order.result.items c.shapes_in_order.ensures.moved c.requires.few
@@ -16,12 +17,18 @@ invariant_of-result c =
     let rows = c.in_ok-rows.rows in
     let long : vec_len rows ≡ length rows.items = search rules in
     record {
-      few = omega (arith, long, few_rows c.args.shapes.items c.shapes_in_order.result.items moved rows.items c.in_ok-rows.ensures c.requires.few);
+      few = omega (
+        arith,
+        long,
+        few_rows c.args.shapes.items c.shapes_in_order.result.items moved rows.items c.in_ok-rows.ensures
+            c.requires.few,
+      );
       sound = sound_rows c.args.shapes.items c.shapes_in_order.result.items moved rows.items c.in_ok-rows.ensures;
       sorted = c.pairs_in_order-metadata.ensures.sorted;
     }
 
 pub returns : goal.returns
 returns c = same_graph _ _ _ _
-    (made_map c.args.shapes.items c.shapes_in_order.result.items c.shapes_in_order.ensures.moved c.in_ok-rows.rows.items c.in_ok-rows.ensures)
+    (made_map c.args.shapes.items c.shapes_in_order.result.items c.shapes_in_order.ensures.moved c.in_ok-rows.rows.items
+    c.in_ok-rows.ensures)
     (sym (subst (λ es. KeepsMap es (pairs_view c.pairs_in_order-metadata.result)) c.new.ensures c.pairs_in_order-metadata.ensures.same))

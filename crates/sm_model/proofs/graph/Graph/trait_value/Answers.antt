@@ -6,7 +6,8 @@ use Rattle.sm_model.proofs.Entries.{trait_found, traits_sorted}
 use Rattle.sm_model.proofs.graph.Graph.trait_value.Goals as goal
 
 pub value_under-requires : goal.value_under-requires
-value_under-requires c = ap (is_sorted text_cmp) c.as_slice.ensures ∙ traits_sorted c.args.self.now c.args.shape c.row.result.now c.row.ensures
+value_under-requires c = ap (is_sorted text_cmp) c.as_slice.ensures
+    ∙ traits_sorted c.args.self.now c.args.shape c.row.result.now c.row.ensures
 
 pub returns : goal.returns
 returns c =

@@ -11,7 +11,8 @@ put_block-requires-clause-few c =
     let all = given_view (into_iter_items c.into_iter-shape-iterator.result) in
     let rows = c.loop-shape.rows in
     let long : vec_len rows ≡ length rows.items = search rules in
-    let few = subst (λ xs. length (given_entries (given_view xs)) < 2 ^ 32) (sym c.into_iter-shape-iterator.ensures.into_iter_gives.0) c.requires.few in
+    let few = subst (λ xs. length (given_entries (given_view xs)) < 2 ^ 32)
+    (sym c.into_iter-shape-iterator.ensures.into_iter_gives.0) c.requires.few in
     omega (
       arith,
       long,

@@ -11,10 +11,12 @@ pub returns-in-Ok : goal.returns-in-Ok
 returns-in-Ok c =
     let q = c.args.name.now in
     let held = c.in-Ok.ensures.position (λ p. text_cmp p.0 q) (always_returns_same _ _ _ (λ a r g called. search rules)) in
-    value_found (λ p. (p.0, node_of p.1)) c.args.pairs.now c.requires q c.in-Ok.place c.in-Ok.ensures.bound held (node_of c.tree_at.result.now)
+    value_found (λ p. (p.0, node_of p.1)) c.args.pairs.now c.requires q c.in-Ok.place c.in-Ok.ensures.bound held
+    (node_of c.tree_at.result.now)
     (same (slice_get c.args.pairs.now c.in-Ok.place) c.tree_at.ensures)
   where
-    same : (o : Option (List ℕ × Tree)) → IsSomeAnd o (λ p. c.tree_at.result.now ≡ p.1) → IsSomeAnd o (λ p. node_of c.tree_at.result.now ≡ node_of p.1)
+    same : (o : Option (List ℕ × Tree)) → IsSomeAnd o (λ p. c.tree_at.result.now ≡ p.1)
+        → IsSomeAnd o (λ p. node_of c.tree_at.result.now ≡ node_of p.1)
     same None h = h
     same (Some p) h = ap node_of h
 
@@ -22,4 +24,5 @@ pub returns-in-Err : goal.returns-in-Err
 returns-in-Err c =
     let q = c.args.name.now in
     let parted = c.in-Err.ensures.position (λ p. text_cmp p.0 q) (always_returns_same _ _ _ (λ a r g called. search rules)) in
-    found_nowhere (λ p. (p.0, node_of p.1)) c.args.pairs.now q c.in-Err.field-0 (parted (rises (λ p. (p.0, node_of p.1)) c.args.pairs.now c.requires q))
+    found_nowhere (λ p. (p.0, node_of p.1)) c.args.pairs.now q c.in-Err.field-0
+    (parted (rises (λ p. (p.0, node_of p.1)) c.args.pairs.now c.requires q))

@@ -25,6 +25,7 @@ returns-in-Map-clause-first g c =
     let cd = constraint_data c.args.self.now in
     let parts = c.in-Map.entries in
     let slice = c.as_slice-in-Map.result.now in
-    let count = keys_of_entries (entries_view parts) ∙ ap (λ xs. length xs) (sym c.as_slice-in-Map.ensures) ∙ length-map slice (λ e. (e.0, val_of e.1)) in
+    let count = keys_of_entries (entries_view parts) ∙ ap (λ xs. length xs) (sym c.as_slice-in-Map.ensures)
+    ∙ length-map slice (λ e. (e.0, val_of e.1)) in
     c.judge_length-in-Map.ensures ∙ ap (λ n. first_broken (length_broken cd n)) (sym count)
     ∙ sym (ap (λ v. first_broken (broken finds c.args.kind cd v)) (ap val_of c.in-Map.is ∙ map_value parts))

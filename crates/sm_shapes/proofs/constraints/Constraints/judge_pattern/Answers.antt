@@ -12,10 +12,12 @@ finds-requires g c = record {
 
 pub returns-in-Ok-true-clause-first : goal.returns-in-Ok-true-clause-first
 returns-in-Ok-true-clause-first g c =
-    pattern_first (table_data c.args.table.now) g.P.Patterns.test (g.P.Patterns.added c.args.patterns.now) c.args.self.now.pattern c.in-Some.pattern
+    pattern_first (table_data c.args.table.now) g.P.Patterns.test
+    (g.P.Patterns.added c.args.patterns.now) c.args.self.now.pattern c.in-Some.pattern
     c.args.text.now true c.in-Some.is c.requires.stored c.requires.named (sym c.in-Ok-true.field-0-test ∙ c.in-Ok-true.ensures.found)
 
 pub returns-in-Ok-false-clause-first : goal.returns-in-Ok-false-clause-first
 returns-in-Ok-false-clause-first g c =
-    pattern_first (table_data c.args.table.now) g.P.Patterns.test (g.P.Patterns.added c.args.patterns.now) c.args.self.now.pattern c.in-Some.pattern
+    pattern_first (table_data c.args.table.now) g.P.Patterns.test
+    (g.P.Patterns.added c.args.patterns.now) c.args.self.now.pattern c.in-Some.pattern
     c.args.text.now false c.in-Some.is c.requires.stored c.requires.named (sym c.in-Ok-false.field-0-test ∙ c.in-Ok-false.ensures.found)

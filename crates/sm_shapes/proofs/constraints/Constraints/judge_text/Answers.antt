@@ -14,7 +14,8 @@ returns-in-Some-clause-first g c =
     let long = length_broken (constraint_data c.args.self.now) (length (chars u)) in
     let shown = pattern_broken (finder (table_data c.args.table.now) g.P.Patterns.test) c.args.self.now.pattern u in
     let among = text_broken c.args.kind c.args.self.now.texts u in
-    sym (first_some (long ++ shown) among c.in-Some.fault (first_some long shown c.in-Some.fault (sym c.judge_chars.ensures ∙ c.in-Some.is)))
+    sym (first_some (long ++ shown) among c.in-Some.fault (first_some long shown c.in-Some.fault
+    (sym c.judge_chars.ensures ∙ c.in-Some.is)))
 
 pub returns-in-None-clause-first : goal.returns-in-None-clause-first
 returns-in-None-clause-first g c =
@@ -22,5 +23,6 @@ returns-in-None-clause-first g c =
     let long = length_broken (constraint_data c.args.self.now) (length (chars u)) in
     let shown = pattern_broken (finder (table_data c.args.table.now) g.P.Patterns.test) c.args.self.now.pattern u in
     let among = text_broken c.args.kind c.args.self.now.texts u in
-    subst (λ k. IfOk c.judge_content.result (λ first. first ≡ k)) (sym (first_later long shown among (sym c.judge_chars.ensures ∙ c.in-None.is)))
+    subst (λ k. IfOk c.judge_content.result (λ first. first ≡ k))
+    (sym (first_later long shown among (sym c.judge_chars.ensures ∙ c.in-None.is)))
     c.judge_content.ensures.first

@@ -19,7 +19,8 @@ returns-in-Some c =
     (λ a r g called. search rules)) in
     sym (ap (has_field k) (view_fields c.args.self.now) ∙ has_at k fs i here.0 here.1 rise
     ∙ number_some k fs i c.in-Some.field.now (subst (λ xs. slice_get xs i ≡ Some c.in-Some.field.now) c.deref-2.ensures.value
-    (slice_get-get_or c.deref-2.result.now i c.in-Some.field.now ((Decides-ltb i (length c.deref-2.result.now)).0 (sym c.in-Some.ensures.lookup.0))
+    (slice_get-get_or c.deref-2.result.now i c.in-Some.field.now
+    ((Decides-ltb i (length c.deref-2.result.now)).0 (sym c.in-Some.ensures.lookup.0))
     ∙ ap (λ f. Some f) (sym c.in-Some.ensures.lookup.1))))
 
 pub returns-in-None : goal.returns-in-None

@@ -6,6 +6,7 @@ use Rattle.sm_tree.proofs.path.Path.printed_len.Goals as goal
 pub returns : goal.returns
 returns c =
     let steps = c.args.self.now in
-    let past : length steps ≤ c.loop-step.step-index = subst (λ s. length s ≤ c.loop-step.step-index) c.as_slice-step-items.ensures c.loop-step-test.false in
+    let past : length steps ≤ c.loop-step.step-index = subst (λ s. length s ≤ c.loop-step.step-index) c.as_slice-step-items.ensures
+    c.loop-step-test.false in
     let none_left = at_drop_all (λ s. length (pointer s)) steps c.loop-step.step-index past in
     omega (arith, none_left, c.loop-step.invariant.counted, c.loop-step.invariant.word)

@@ -15,7 +15,8 @@ invariant_of-self-inside c =
     let at = subst (λ ys. (c.in-Err.place ≤ length ys) × ((k : ℕ) → k < c.in-Err.place → get_or ys k 0 < c.args.member)
     × ((k : ℕ) → c.in-Err.place ≤ k → k < length ys → c.args.member < get_or ys k 0)) c.as_slice.ensures
     (searched c.as_slice.result.now c.args.member (Err c.in-Err.place) c.in-Err.ensures.position (λ i j le lt. rises i j 0 le lt)) in (
-      rises_put xs c.insert.new.self.items c.in-Err.place c.args.member (is_ok c.insert.result) (put_or_same c.self.inside.numbers c.insert.new.self c.insert.result c.in-Err.place c.args.member
+      rises_put xs c.insert.new.self.items c.in-Err.place c.args.member (is_ok c.insert.result)
+          (put_or_same c.self.inside.numbers c.insert.new.self c.insert.result c.in-Err.place c.args.member
           c.insert.ensures.ok c.insert.ensures.err) c.self.inside.rises
           at.0 at.1 at.2,
       tt,

@@ -24,7 +24,8 @@ pub numbers_of-requires-clause-few : goal.numbers_of-requires-clause-few
 numbers_of-requires-clause-few c =
     let shape = c.args.shape.now in
     let ms = members_given_view c.args.members.items in
-    let many = as_many_sorted shape ms c.in_ok-names.field-0.rows.items c.rows_in_order-rows.result.items c.in_ok-names.ensures.1 c.requires.members
+    let many = as_many_sorted shape ms c.in_ok-names.field-0.rows.items c.rows_in_order-rows.result.items c.in_ok-names.ensures.1
+    c.requires.members
     c.rows_in_order-rows.ensures.moved in
     omega (arith, c.requires.few, many, length-map c.args.members.items member_given_view, ap length c.as_slice-2.ensures.value)
 
@@ -36,5 +37,6 @@ returns c =
     member_block shape ms c.in_ok-names.field-0.rows.items c.rows_in_order-rows.result.items c.in_ok-names.ensures.1 c.requires.members
     c.rows_in_order-rows.ensures.moved c.args.first numbers c.rows_in_order-rows.ensures.rise
     (subst (λ rows. AreNumbers c.args.first rows shape (given_names ms) numbers) c.as_slice-2.ensures.value
-    (subst (λ names. AreNumbers c.args.first c.as_slice-2.result.now shape names numbers) (c.as_slice.ensures.value ∙ c.in_ok-names.ensures.0)
+    (subst (λ names. AreNumbers c.args.first c.as_slice-2.result.now shape names numbers)
+    (c.as_slice.ensures.value ∙ c.in_ok-names.ensures.0)
     c.in_ok-numbers.ensures))

@@ -11,7 +11,8 @@ abbrev pub invariant-loop-member : goal.invariant-loop-member
 invariant-loop-member l = record {
   names : l.names.items ++ given_names (members_given_view (into_iter_items l.member-iterator))
       ≡ given_names (members_given_view (into_iter_items l.initial.member-iterator));
-  rows : (ids : List (List ℕ)) → map (row_entry ids) l.rows.items ++ given_members l.shape (members_given_view (into_iter_items l.member-iterator))
+  rows : (ids : List (List ℕ)) → map (row_entry ids) l.rows.items ++ given_members l.shape
+      (members_given_view (into_iter_items l.member-iterator))
       ≡ given_members l.shape (members_given_view (into_iter_items l.initial.member-iterator));
   sound : (n : ℕ) → list_all (is_sound_row n) l.rows.items ≡ true;
   given : AreGivenMembers (members_given_view (into_iter_items l.member-iterator));
