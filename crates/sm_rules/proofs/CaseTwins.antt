@@ -28,19 +28,9 @@ use Rattle.sm_rules.specs.rules.Ids.{HasCaseTwin, IsCaseTwin}
 use Rattle.sm_rules.specs.parts.Firsts.{ToldAmong, ToldFirst}
 use Rattle.sm_rules.specs.parts.Folded.{folded, folded_below, is_own_shape}
 use Rattle.sm_rules.proofs.EventsPut.{puts_same}
+use Rattle.sm_rules.proofs.IdsRise.{either_way, not_greater, rising}
 use Rattle.sm_rules.proofs.OwnShapes.{own_told, told_own}
 use Rattle.sm_rules.proofs.Twins.{TellsFirst, first_told, is_row, row_is}
-
-either_way : (i j : ℕ) → (i < j) ⊎ ((i ≡ j) ⊎ (j < i))
-either_way i j = elim (cases_order i j) [
-  | inl same ↦ inr (inl same)
-  | inr apart ↦ elim apart [ inl less ↦ inl less | inr more ↦ inr (inr more) ]
-]
-
-less_not_greater : (r : Ordering) → r ≡ Less → r ≡ Greater → ⊥
-less_not_greater Less h k = cc
-less_not_greater Equal h k = cc
-less_not_greater Greater h k = cc
 
 equal_not_greater : (a : List ℕ) → text_cmp a a ≡ Greater → ⊥
 equal_not_greater a h = let e : Equal ≡ Greater = sym (tied_itself nat_list_cmp_total a) ∙ h in cc
@@ -58,20 +48,6 @@ apart_numbers : (j k : ℕ) → (j ≡ k → ⊥) → not (j == k) ≡ true
 apart_numbers j k h = ap not (ne_eqb j k h)
 
 module _ (g : Graph) where
-  -- ids rise with their numbers
-  rising : (i j : ℕ) → i < j → j < length (entries_of g) → text_cmp (id_of_number g i) (id_of_number g j) ≡ Less
-  rising i j less within =
-      let es = entries_of g in
-      let a = stands_at g i (omega (arith, less, within)) in
-      let b = stands_at g j within in
-      let d : List ℕ × Entry = (b.0, b.1) in
-      let first : key_at es i d ≡ id_of_number g i = ap (λ (x : List ℕ × Entry). x.0) (get_or_from_slice_get es i (a.0, a.1) d a.2)
-      ∙ sym (id_at g i a.0 a.1 a.2) in
-      let second : key_at es j d ≡ id_of_number g j = ap (λ (x : List ℕ × Entry). x.0) (get_or_from_slice_get es j (b.0, b.1) d b.2)
-      ∙ sym (id_at g j b.0 b.1 b.2) in
-      ap (λ t. text_cmp t (id_of_number g j)) (sym first) ∙ ap (text_cmp (key_at es i d)) (sym second)
-      ∙ keys_rise es (and_left (is_sorted text_cmp es) _ g.sound) d i j less within
-
   module _ (k : ℕ) (within : k < length (entries_of g)) (mine : is_own_shape (maps_of g) (id_of_number g k) ≡ true) where
     -- the one that stands first is the least that is equal but for case
     twin_told : (j : ℕ) → TellsFirst g (length (entries_of g)) (folded (id_of_number g k)) (Some j) → (j ≡ k → ⊥)
@@ -84,7 +60,7 @@ module _ (g : Graph) where
           s = s.0;
           own = s.1;
           least = record {
-            holds = record { s = t.0; own = t.1; smaller = rising j k before within; same = first.2 };
+            holds = record { s = t.0; own = t.1; smaller = rising g j k before within; same = first.2 };
             least = least;
           };
         }
@@ -106,8 +82,8 @@ module _ (g : Graph) where
             at i small is (inr (inl same)) =
                 equal_not_greater t (subst (λ x. text_cmp x t ≡ Greater) (ap (id_of_number g) (sym same) ∙ is) greater)
             at i small is (inr (inr more)) =
-                less_not_greater (text_cmp (id_of_number g j) t)
-                (subst (λ x. text_cmp (id_of_number g j) x ≡ Less) is (rising j i more small)) greater
+                not_greater (text_cmp (id_of_number g j) t)
+                (subst (λ x. text_cmp (id_of_number g j) x ≡ Less) is (rising g j i more small)) greater
 
     -- and the other way round
     found_twin : (detail : List ℕ) → HasCaseTwin (maps_of g) (id_of_number g k) detail → (o : Option ℕ)
@@ -130,8 +106,8 @@ module _ (g : Graph) where
             less_not_equal (id_of_number g k)
             (subst (λ x. text_cmp x (id_of_number g k) ≡ Less) (sym is ∙ ap (id_of_number g) same) h.least.holds.smaller)
         not_behind i small is (inr (inr more)) =
-            absurd (less_not_greater (text_cmp detail (id_of_number g k)) h.least.holds.smaller
-            (turned_less (id_of_number g k) detail (subst (λ x. text_cmp (id_of_number g k) x ≡ Less) is (rising k i more small))))
+            absurd (not_greater (text_cmp detail (id_of_number g k)) h.least.holds.smaller
+            (turned_less (id_of_number g k) detail (subst (λ x. text_cmp (id_of_number g k) x ≡ Less) is (rising g k i more small))))
 
         at : (i : ℕ) → i < length (entries_of g) → id_of_number g i ≡ detail → ((i < j) ⊎ ((i ≡ j) ⊎ (j < i)))
             → ((i < k) ⊎ ((i ≡ k) ⊎ (k < i))) → (n : ℕ) × (Some j ≡ Some n) × (n ≡ k → ⊥) × (id_of_number g n ≡ detail)
@@ -143,8 +119,8 @@ module _ (g : Graph) where
             let before = not_behind i small is o in
             let t = own_told (maps_of g) (id_of_number g j) first.1 in
             absurd (h.least.least (id_of_number g j)
-            (record { s = t.0; own = t.1; smaller = rising j k (omega (arith, before, more)) within; same = first.2 })
-            (turned_less (id_of_number g j) detail (subst (λ x. text_cmp (id_of_number g j) x ≡ Less) is (rising j i more small))))
+            (record { s = t.0; own = t.1; smaller = rising g j k (omega (arith, before, more)) within; same = first.2 })
+            (turned_less (id_of_number g j) detail (subst (λ x. text_cmp (id_of_number g j) x ≡ Less) is (rising g j i more small))))
 
   -- what is told of the rows is what the rule says
   pub twins_told : (e : EventTold)

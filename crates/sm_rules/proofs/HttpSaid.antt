@@ -52,24 +52,24 @@ reads : (o : Option Node) → that_reads http_id o ≡ that_is_http o
 reads None = refl
 reads (Some n) = ap (λ b. cond b (Some n) None) (row_reads n)
 
-operation_kind : (k : Kind) → is_operation (Some k) ≡ true → k ≡ Operation
+pub operation_kind : (k : Kind) → is_operation (Some k) ≡ true → k ≡ Operation
 operation_kind Operation h = refl
 operation_kind k h = absurd (apart h)
 
-operation_in : (o : Option Entry) → is_operation (kind_in o) ≡ true → (s : ShapeEntry) × (o ≡ Some (shape_entry s)) × (s.kind ≡ Operation)
+pub operation_in : (o : Option Entry) → is_operation (kind_in o) ≡ true → (s : ShapeEntry) × (o ≡ Some (shape_entry s)) × (s.kind ≡ Operation)
 operation_in None h = absurd (apart h)
 operation_in (Some (shape_entry s)) h = (s, refl, operation_kind s.kind h)
 operation_in (Some (member_entry m)) h = absurd (apart h)
 
 module _ (g : GraphMaps) (id : List ℕ) where
-  own_operation : is_own_operation g id ≡ true → IsOperation g id
+  pub own_operation : is_own_operation g id ≡ true → IsOperation g id
   own_operation h =
       let kind = and_left (is_operation (kind_under g id)) (not (is_prelude_id id)) h in
       let own = and_right (is_operation (kind_under g id)) (not (is_prelude_id id)) h in
       let s = operation_in (fin.get g.shapes id) kind in
       (s.0, (s.1, not_so (is_prelude_id id) own), s.2)
 
-  is_own : IsOperation g id → is_own_operation g id ≡ true
+  pub is_own : IsOperation g id → is_own_operation g id ≡ true
   is_own own =
       ap (λ o. is_operation (kind_in o) && not (is_prelude_id id)) own.1.0
       ∙ ap (λ k. is_operation (Some k) && not (is_prelude_id id)) own.2

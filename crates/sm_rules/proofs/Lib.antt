@@ -7,6 +7,8 @@ pub mod Singles
 pub mod WrongBounds
 pub mod FirstRows
 pub mod Twins
+pub mod IdsRise
+pub mod ServiceClosures
 pub mod CaseTwins
 pub mod EarlierRows
 pub mod RepeatedNames

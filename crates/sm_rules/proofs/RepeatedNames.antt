@@ -32,13 +32,13 @@ use Rattle.sm_rules.proofs.EventsPut.{puts_none, puts_same}
 use Rattle.sm_rules.proofs.OwnShapes.{own_told, told_own}
 
 -- a place of a list, and the parts before and behind it
-parts_at : {X : Type 0} (xs : List X) (i : ℕ) (x : X) → slice_get xs i ≡ Some x → xs ≡ take i xs ++ x ∷ drop (i + 1) xs
+pub parts_at : {X : Type 0} (xs : List X) (i : ℕ) (x : X) → slice_get xs i ≡ Some x → xs ≡ take i xs ++ x ∷ drop (i + 1) xs
 parts_at xs i x at =
     let within = slice_get_within xs i x at in
     sym (take-append-drop i xs)
     ∙ ap (λ ys. take i xs ++ ys) (drop_more xs i x within ∙ ap (λ y. y ∷ drop (i + 1) xs) (get_or_from_slice_get xs i x x at))
 
-seam_at : {X : Type 0} (before : List X) (x : X) (later : List X) → slice_get (before ++ x ∷ later) (length before) ≡ Some x
+pub seam_at : {X : Type 0} (before : List X) (x : X) (later : List X) → slice_get (before ++ x ∷ later) (length before) ≡ Some x
 seam_at before x later =
     let long : length (before ++ x ∷ later) ≡ length before + (length later + 1) =
     length-append before (x ∷ later) ∙ ap (λ n. length before + n) (omega arith) in

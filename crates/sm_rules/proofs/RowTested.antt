@@ -98,7 +98,7 @@ spot_takes (at_member kind target) table.unit_alone = refl
 
 -- rows that name the trait
 module _ (p : TraitRow → Bool) where
-  filtered : (f : TraitRow → Bool) (rows : List TraitRow) → list_any f (filter p rows) ≡ list_any (λ r. p r && f r) rows
+  pub filtered : (f : TraitRow → Bool) (rows : List TraitRow) → list_any f (filter p rows) ≡ list_any (λ r. p r && f r) rows
   filtered f [] = refl
   filtered f (r ∷ rows) = by (p r) (filtered f rows)
     where

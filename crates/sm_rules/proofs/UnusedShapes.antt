@@ -49,17 +49,17 @@ service_kind : (k : Kind) → is_service (Some k) ≡ true → k ≡ Service
 service_kind Service h = refl
 service_kind k h = absurd (apart h)
 
-service_in : (o : Option Entry) → is_service (kind_in o) ≡ true → (s : ShapeEntry) × (o ≡ Some (shape_entry s)) × (s.kind ≡ Service)
+pub service_in : (o : Option Entry) → is_service (kind_in o) ≡ true → (s : ShapeEntry) × (o ≡ Some (shape_entry s)) × (s.kind ≡ Service)
 service_in None h = absurd (apart h)
 service_in (Some (shape_entry s)) h = (s, refl, service_kind s.kind h)
 service_in (Some (member_entry m)) h = absurd (apart h)
 
-own_service : (g : GraphMaps) (id : List ℕ) → is_own_service g id ≡ true → IsService g id
+pub own_service : (g : GraphMaps) (id : List ℕ) → is_own_service g id ≡ true → IsService g id
 own_service g id h =
     let s = service_in (fin.get g.shapes id) (and_left (is_service (kind_under g id)) (not (is_prelude_id id)) h) in
     (s.0, (s.1, not_so (is_prelude_id id) (and_right (is_service (kind_under g id)) (not (is_prelude_id id)) h)), s.2)
 
-service_own : (g : GraphMaps) (id : List ℕ) → IsService g id → is_own_service g id ≡ true
+pub service_own : (g : GraphMaps) (id : List ℕ) → IsService g id → is_own_service g id ≡ true
 service_own g id h =
     ap (λ o. is_service (kind_in o) && not (is_prelude_id id)) h.1.0 ∙ ap (λ k. is_service (Some k) && not (is_prelude_id id)) h.2
     ∙ ap not h.1.1

@@ -1,5 +1,6 @@
 pub mod Bounding
 pub mod Carrying
+pub mod Closures
 pub mod Codes
 pub mod Earlier
 pub mod Excluding

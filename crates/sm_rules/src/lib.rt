@@ -4,6 +4,7 @@
 pub mod bounds;
 pub mod carried;
 pub mod case;
+pub mod closures;
 pub mod codes;
 pub mod each;
 pub mod earlier;

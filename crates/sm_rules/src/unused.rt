@@ -9,6 +9,7 @@ ghost use Rattle.sm_rules.specs.rules.Ids.{IsUnused};
 ghost use Rattle.sm_rules.specs.parts.Using.{AreUsed, is_own_service, is_service, is_unused, wants_use};
 
 use crate::carried::carries;
+use crate::closures::is_own_service;
 use crate::each::{AtEach, put_each};
 use crate::marked::{NumberTest, marked_where};
 use crate::owned::is_own_shape;
@@ -28,19 +29,7 @@ impl NumberTest for Services {
     ghost passes = { λ test. is_own_service };
 
     fn passes(&self, graph: &Graph, number: u32) -> bool {
-        is_service(kind_of(graph, number)) && !is_in_prelude(id_text(graph, number))
-    }
-}
-
-fn is_service(kind: Option<Kind>) -> bool
-    ensures { result ≡ is_service kind }
-{
-    match kind {
-        Some(kind) => match kind {
-            Kind::Service => true,
-            _ => false,
-        },
-        None => false,
+        is_own_service(graph, number)
     }
 }
 

@@ -4,8 +4,8 @@ use Rattle.std.proofs.lemmas.List.{length-replicate, length-set}
 use Rattle.sm_model.specs.GraphView.{entries_of, maps_of}
 use Rattle.sm_model.specs.Relations.{Reaches}
 use Rattle.sm_select.specs.Images.{AreImage, turned}
-use Rattle.sm_http_rules.proofs.ServiceClosures.{inside_of}
-use Rattle.sm_http_rules.proofs.closures.closure_of.Goals as goal
+use Rattle.sm_rules.proofs.ServiceClosures.{inside_of}
+use Rattle.sm_rules.proofs.closures.closure_of.Goals as goal
 
 pub image_of_walk-requires-clause-count : goal.image_of_walk-requires-clause-count
 image_of_walk-requires-clause-count c =

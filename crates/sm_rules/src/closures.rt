@@ -2,9 +2,9 @@
 ghost use Rattle.std.specs.Prelude.{◌≡◌, IfOk};
 ghost use Rattle.sm_model.specs.GraphView.{IsShapeNumber, maps_of};
 ghost use Rattle.sm_model.specs.Reaching.{id_of_number};
-ghost use Rattle.sm_rules.specs.parts.Using.{is_own_service, is_service};
 ghost use Rattle.sm_select.specs.Ways.{AreWays};
-ghost use Rattle.sm_http_rules.specs.parts.Routes.{AreInside};
+ghost use Rattle.sm_rules.specs.parts.Closures.{AreInside};
+ghost use Rattle.sm_rules.specs.parts.Using.{is_own_service, is_service};
 
 use sm_compile::{id_text, kind_of};
 use sm_model::{Graph, Kind, is_in_prelude, no_marks};
@@ -13,7 +13,7 @@ use sm_tree::NoMemory;
 use std::alloc::Global;
 
 /// Whether a service outside of the prelude stands there. No memory.
-pub(crate) fn is_own_service(graph: &Graph, number: u32) -> bool
+pub fn is_own_service(graph: &Graph, number: u32) -> bool
     requires { IsShapeNumber graph.now number }
     ensures { result ≡ is_own_service (maps_of graph.now) (id_of_number graph.now number) }
 {
@@ -33,7 +33,7 @@ fn is_service(kind: Option<Kind>) -> bool
 }
 
 /// The closure of a service, as marks. Each link is looked at once.
-pub(crate) fn closure_of(
+pub fn closure_of(
     alloc: Global,
     graph: &Graph,
     ways: &Ways,
