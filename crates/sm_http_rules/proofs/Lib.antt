@@ -9,5 +9,4 @@ pub mod BoundSides
 pub mod WireNamesTold
 pub mod RunsTold
 pub mod RouteKeys
-pub mod ServiceClosures
 pub mod RoutesTold

@@ -17,13 +17,14 @@ use Rattle.sm_compile.specs.rules.Http.{HasSameRoute, method_of}
 use Rattle.sm_compile.specs.rules.Words.{IsInClosure, IsService}
 use Rattle.sm_rules.specs.RuleEvents.{IsEventIn, Puts, rule_event}
 use Rattle.sm_rules.specs.declared.rule.Rule.TheVariants.{HttpRoutes}
+use Rattle.sm_rules.specs.parts.Closures.{AreInside}
 use Rattle.sm_rules.specs.parts.Putting.{Below}
 use Rattle.sm_rules.specs.parts.Using.{is_own_service}
 use Rattle.sm_rules.proofs.EventsPut.{puts_none, puts_same}
-use Rattle.sm_http_rules.specs.parts.Routes.{AreInside, AreKeys, IsKeyAt, IsRouteKey, closure_of_route, key_of}
+use Rattle.sm_rules.proofs.IdsRise.{falling, rising}
+use Rattle.sm_http_rules.specs.parts.Routes.{AreKeys, IsKeyAt, IsRouteKey, closure_of_route, key_of}
 use Rattle.sm_http_rules.specs.parts.Runs.{ToldFrom, key_inside}
 use Rattle.sm_http_rules.proofs.BoundSides.{service_told, told_service}
-use Rattle.sm_http_rules.proofs.ServiceClosures.{falling, rising}
 use Rattle.sm_http_rules.proofs.RouteKeys.{keys_same, one_key, same_keys}
 
 pub closure_there : (g : GraphMaps) (operation smaller : List ℕ) (h : HasSameRoute g operation smaller)

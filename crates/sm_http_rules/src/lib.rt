@@ -2,7 +2,6 @@
 #![tactic(auto)]
 
 mod again;
-mod closures;
 mod label_rows;
 mod label_told;
 pub mod labels;

@@ -8,9 +8,9 @@ ghost use Rattle.sm_select.specs.Images.{AreImage};
 ghost use Rattle.sm_select.specs.Ways.{AreWays};
 ghost use Rattle.sm_http_rules.specs.parts.Sides.{AreSides, MayErr, is_http_operation, may_err};
 
-use crate::closures::is_own_service;
 use sm_model::{Graph, Relation};
 use sm_rules::carried::carries;
+use sm_rules::closures::is_own_service;
 use sm_rules::marked::{NumberTest, marked_where};
 use sm_rules::owned::is_own_operation;
 use sm_select::{Ways, image_along, image_of_walk};

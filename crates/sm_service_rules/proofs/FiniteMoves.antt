@@ -29,7 +29,7 @@ use Rattle.sm_service_rules.specs.rules.Finite.{HasFinite, is_always_finite}
 use Rattle.sm_service_rules.specs.parts.Finding.{IsHome, IsHomeOf, IsNext, IsStuck, Knows, Lacks, Moves, Opens, PassedTo, Says, Sees}
 use Rattle.sm_service_rules.specs.parts.Finding.{SomeClosed, StuckBy, Waits, Wants, is_member_id, way_of}
 use Rattle.sm_service_rules.proofs.FiniteFound.{other_finite, structure_finite, union_finite}
-use Rattle.sm_service_rules.proofs.NamesTold.{same_number}
+use Rattle.sm_compile.proofs.ReachedNumbers.{same_number}
 
 -- what waits for more waits for less
 module _ (g : Graph) (T U : ℕ → Type 0) (less : (k : ℕ) → T k → U k) where

@@ -3,16 +3,10 @@ use Rattle.std.proofs.Common.{◌≡◌, ◌⊎◌, ◌<◌, inl, inr, ℕ, Bool
 use Rattle.std.proofs.Common.{refl}
 use Rattle.std.proofs.Common.{sym, ap, ◌∙◌, subst, arith}
 use Rattle.std.specs.Prelude.{◌↔◌, ◌&&◌, ◌||◌, is_some, not, set}
-use Rattle.std.specs.Cmp.{tied_itself}
-use Rattle.std.specs.Cmp.Lexicographic.{nat_list_cmp_total}
 use Rattle.std.specs.FinMap as fin
-use Rattle.std.specs.FinMap.Entries.{is_sorted}
 use Rattle.std.specs.Option.{unwrap_or}
-use Rattle.std.specs.Ordering.{ordering_reverse}
 use Rattle.std.specs.declared.cmp.Ordering.{Ordering}
 use Rattle.std.specs.declared.cmp.Ordering.TheVariants.{Less, Equal, Greater}
-use Rattle.std.proofs.lemmas.Bool.{cases_order}
-use Rattle.std.proofs.lemmas.List.{length-replicate}
 use Rattle.std.proofs.lemmas.Option.{get_or_from_slice_get, none-some}
 use Rattle.sm_tree.specs.Node.{Node, members_of}
 use Rattle.sm_tree.specs.Parts.{tree_named}
@@ -32,12 +26,10 @@ use Rattle.sm_model.specs.declared.kind.Kind.TheVariants.{Operation, Resource, S
 use Rattle.sm_model.proofs.GraphFacts.{id_at}
 use Rattle.sm_model.proofs.LinkNumbers.{one_number, stands_at}
 use Rattle.sm_model.proofs.NumberedIds.{number_of, related_in}
-use Rattle.sm_model.proofs.OneRising.{contains_either, contains_none}
 use Rattle.sm_model.proofs.Searching.{and_left, and_right, key_at, keys_rise}
 use Rattle.sm_model.proofs.Worklist.{apart, found_none, mark_new, none_marked}
-use Rattle.sm_select.specs.Images.{AreImage, turned}
-use Rattle.sm_select.proofs.MarkedNumbers.{marks_same}
 use Rattle.sm_compile.specs.Looked.{kind_in, kind_under}
+use Rattle.sm_compile.proofs.ReachedNumbers.{same_number}
 use Rattle.sm_compile.specs.Sound.{trait_in}
 use Rattle.sm_compile.specs.TraitIds.{error_id}
 use Rattle.sm_compile.specs.TraitNodes.{text_of}
@@ -46,62 +38,25 @@ use Rattle.sm_compile.specs.rules.Services.{HasWrongNames, IsNamedIn, KeepsName,
 use Rattle.sm_compile.specs.rules.Words.{IsOwnShape, IsService, has_trait}
 use Rattle.sm_rules.specs.RuleEvents.{IsEventAt, Puts, rule_event}
 use Rattle.sm_rules.specs.declared.rule.Rule.TheVariants.{ServiceNames}
+use Rattle.sm_rules.specs.parts.Closures.{AreInside}
 use Rattle.sm_rules.specs.parts.Folded.{folded, is_own_shape}
 use Rattle.sm_rules.specs.parts.Putting.{IsWhere, ToldOf}
-use Rattle.sm_rules.specs.parts.Using.{is_own_service, is_service}
+use Rattle.sm_rules.specs.parts.Using.{is_own_service}
 use Rattle.sm_rules.proofs.EventsPut.{puts_both, puts_none, puts_same}
+use Rattle.sm_rules.proofs.IdsRise.{falling, rising}
+use Rattle.sm_rules.proofs.UnusedShapes.{service_own}
 use Rattle.sm_rules.proofs.ExclusiveTraits.{entry_there}
 use Rattle.sm_rules.proofs.OwnShapes.{not_so, own_told, told_own}
-use Rattle.sm_service_rules.specs.parts.Naming.{AreInside, AreRowsBelow, IsKeyBy, IsNameBy, IsWrongBy, IsWrongName}
+use Rattle.sm_service_rules.specs.parts.Naming.{AreRowsBelow, IsKeyBy, IsNameBy, IsWrongBy, IsWrongName}
 use Rattle.sm_service_rules.specs.parts.Naming.{ToldWrong}
 use Rattle.sm_service_rules.specs.parts.Naming.{is_kept_kind, is_left, is_named, is_named_kind, keeps_name, renames_under}
 use Rattle.sm_service_rules.proofs.GivenNames.{given_name, name_of_pair, one_key, pair_of_name, renames_are, some_renames}
 use Rattle.sm_service_rules.proofs.RowsBelow.{ToldRows, ToldTwice, told_twice, twice_told}
 
--- a service outside of the prelude
-service_kind : (k : Kind) → is_service (Some k) ≡ true → k ≡ Service
-service_kind Service h = refl
-service_kind k h = absurd (apart h)
-
-service_in : (o : Option Entry) → is_service (kind_in o) ≡ true → (s : ShapeEntry) × (o ≡ Some (shape_entry s)) × (s.kind ≡ Service)
-service_in None h = absurd (apart h)
-service_in (Some (shape_entry s)) h = (s, refl, service_kind s.kind h)
-service_in (Some (member_entry m)) h = absurd (apart h)
-
-own_service : (g : GraphMaps) (id : List ℕ) → is_own_service g id ≡ true → IsService g id
-own_service g id h =
-    let s = service_in (fin.get g.shapes id) (and_left (is_service (kind_under g id)) (not (is_prelude_id id)) h) in
-    (s.0, (s.1, not_so (is_prelude_id id) (and_right (is_service (kind_under g id)) (not (is_prelude_id id)) h)), s.2)
-
-service_own : (g : GraphMaps) (id : List ℕ) (v : ShapeEntry) → IsOwnShape g id v → v.kind ≡ Service → is_own_service g id ≡ true
-service_own g id v own kind =
-    ap (λ o. is_service (kind_in o) && not (is_prelude_id id)) own.0 ∙ ap (λ k. is_service (Some k) && not (is_prelude_id id)) kind
-    ∙ ap not own.1
-
 -- a walk stays in the graph
 walk_in : (m : GraphMaps) (between : List (List ℕ)) (a b : List ℕ) → WalksBy m a between b → IsInGraph m b
 walk_in m [] a b h = (related_in h.0 m a b h.2).1
 walk_in m (n ∷ more) a b h = walk_in m more n b h.1
-
--- an id has one number, and ids rise with their numbers
-pub same_number : (g : Graph) (j k : ℕ) → j < length (entries_of g) → k < length (entries_of g) → id_of_number g j ≡ id_of_number g k
-    → j ≡ k
-same_number g j k a b same =
-    let x = stands_at g j a in
-    let y = stands_at g k b in
-    let is : y.0 ≡ x.0 = sym (id_at g k y.0 y.1 y.2) ∙ sym same ∙ id_at g j x.0 x.1 x.2 in
-    one_number g j k x.0 x.1 y.1 x.2 (y.2 ∙ ap (λ (i : List ℕ). Some (i, y.1)) is)
-
-either_way : (i j : ℕ) → (i < j) ⊎ ((i ≡ j) ⊎ (j < i))
-either_way i j = elim (cases_order i j) [
-  | inl same ↦ inr (inl same)
-  | inr other ↦ elim other [ inl less ↦ inl less | inr more ↦ inr (inr more) ]
-]
-
-not_greater : (r : Ordering) → r ≡ Less → r ≡ Greater → ⊥
-not_greater Less h k = cc
-not_greater Equal h k = cc
-not_greater Greater h k = cc
 
 module _ (g : Graph) where
   abbrev m : GraphMaps
@@ -109,58 +64,6 @@ module _ (g : Graph) where
 
   abbrev count : ℕ
   count = length (entries_of g)
-
-  rising : (i j : ℕ) → i < j → j < count → text_cmp (id_of_number g i) (id_of_number g j) ≡ Less
-  rising i j less within =
-      let es = entries_of g in
-      let a = stands_at g i (omega (arith, less, within)) in
-      let b = stands_at g j within in
-      let d : List ℕ × Entry = (b.0, b.1) in
-      let first : key_at es i d ≡ id_of_number g i = ap (λ (x : List ℕ × Entry). x.0) (get_or_from_slice_get es i (a.0, a.1) d a.2)
-      ∙ sym (id_at g i a.0 a.1 a.2) in
-      let second : key_at es j d ≡ id_of_number g j = ap (λ (x : List ℕ × Entry). x.0) (get_or_from_slice_get es j (b.0, b.1) d b.2)
-      ∙ sym (id_at g j b.0 b.1 b.2) in
-      ap (λ t. text_cmp t (id_of_number g j)) (sym first) ∙ ap (text_cmp (key_at es i d)) (sym second)
-      ∙ keys_rise es (and_left (is_sorted text_cmp es) _ g.sound) d i j less within
-
-  falling : (j k : ℕ) → j < count → k < count → text_cmp (id_of_number g j) (id_of_number g k) ≡ Less → j < k
-  falling j k a b less = by (either_way j k)
-    where
-      by : (j < k) ⊎ ((j ≡ k) ⊎ (k < j)) → j < k
-      by (inl lt) = lt
-      by (inr (inl same)) =
-          let e : Equal ≡ Less = sym (tied_itself nat_list_cmp_total (id_of_number g k))
-          ∙ subst (λ i. text_cmp (id_of_number g i) (id_of_number g k) ≡ Less) same less in
-          absurd cc
-      by (inr (inr more)) =
-          absurd (not_greater (text_cmp (id_of_number g j) (id_of_number g k)) less
-          (nat_list_cmp_total.antisymm (id_of_number g j) (id_of_number g k) ∙ ap ordering_reverse (rising k j more a)))
-
-  -- the closure from a walk that starts at the service alone
-  pub inside_of : (service : ℕ) → IsShapeNumber g service → (marks : List Bool)
-      → AreImage g (set (replicate count false) service true) (turned false (Reaches m)) marks → AreInside g service marks
-  inside_of service within marks are = marks_same _ _ count marks (λ k small. (forth k, back k)) are
-    where
-      lt : service < length (replicate count false)
-      lt = let long = length-replicate count false in omega (arith, within, long)
-
-      fresh : (b : Bool) → get_or (replicate count false) service false ≡ b → b ≡ false
-      fresh true is = absurd (none_marked count service is)
-      fresh false is = refl
-
-      starts : Finds (λ k. service ≡ k) (replicate count false) [] (set (replicate count false) service true) (service ∷ [])
-      starts = mark_new (replicate count false) [] service lt (found_none count) (fresh (get_or (replicate count false) service false) refl)
-
-      forth : (k : ℕ) → (a : ℕ) × IsMarked (set (replicate count false) service true) a × Reaches m (id_of_number g a) (id_of_number g k)
-          → Reaches m (id_of_number g service) (id_of_number g k)
-      forth k (a, marked, reach) = elim (contains_either service a [] ((starts.are.marked a).0 marked)) [
-        | inl same ↦ subst (λ i. Reaches m (id_of_number g i) (id_of_number g k)) (sym same) reach
-        | inr none ↦ absurd (contains_none a none)
-      ]
-
-      back : (k : ℕ) → Reaches m (id_of_number g service) (id_of_number g k)
-          → (a : ℕ) × IsMarked (set (replicate count false) service true) a × Reaches m (id_of_number g a) (id_of_number g k)
-      back k reach = (service, (starts.are.marked service).1 ((starts.joins service).1 (inr refl)), reach)
 
   -- a shape that keeps its name
   kept_there : (id : List ℕ) → keeps_name m id ≡ true → KeepsName m id
@@ -313,7 +216,7 @@ module _ (g : Graph) where
                 smaller = id_of_number g j;
                 other = kj.0;
                 other_named = named_in j kj.0 pj kj.1;
-                order = rising j k less small;
+                order = rising g j k less small;
                 same = sym kj.2 ∙ kk.2;
               }),
               is,
@@ -340,7 +243,7 @@ module _ (g : Graph) where
             let nk = passes_named h.v h.own.0 k.0 k.1 h.name (subst (λ i. IsNamedIn m sid h.v i h.name) (sym k.2) h.named) in
             let nj = passes_named h.v h.own.0 j.0 j.1 h.other (subst (λ i. IsNamedIn m sid h.v i h.other) (sym j.2) h.other_named) in
             let order = ap (λ a. text_cmp a (id_of_number g k.0)) j.2 ∙ ap (text_cmp h.smaller) k.2 ∙ h.order in
-            let less : j.0 < k.0 = falling j.0 k.0 j.1 k.1 order in
+            let less : j.0 < k.0 = falling g j.0 k.0 j.1 k.1 order in
             inl (twice_told (λ n x. x ≡ rule_event ServiceNames sid (id_of_number g n)) (is_named g inside) (IsKeyBy given g)
             (one_key given g) count rows rows_are e (
               j.0,
@@ -371,9 +274,7 @@ pub no_names : (g : GraphMaps) (id : List ℕ) (es : List ModelEvent) → is_own
 no_names g id es other = puts_none (IsEventAt ServiceNames (HasWrongNames g) id) es (λ e h. apart (sym other ∙ there h.1))
   where
     there : {detail : List ℕ} → HasWrongNames g id detail → is_own_service g id ≡ true
-    there (name_again h) = service_own g id h.named.inside.0.0 h.named.inside.0.1 h.named.inside.0.2
-    there (wrong_rename h) = service_own g id h.v h.own h.kind
+    there (name_again h) = service_own g id h.named.inside.0
+    there (wrong_rename h) = service_own g id (h.v, h.own, h.kind)
 
 -- the service, as an entry
-pub its_service : (g : GraphMaps) (id : List ℕ) → is_own_service g id ≡ true → IsService g id
-its_service g id h = own_service g id h

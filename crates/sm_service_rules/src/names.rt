@@ -13,22 +13,24 @@ ghost use Rattle.sm_compile.specs.rules.Services.{HasWrongNames};
 ghost use Rattle.sm_rules.specs.RuleEvents.{IsEventAt, IsEventOf, Puts, rule_event};
 ghost use Rattle.sm_rules.specs.declared.rule.Rule.TheVariants.{ServiceNames};
 ghost use Rattle.sm_rules.specs.parts.Putting.{ToldOf};
-ghost use Rattle.sm_rules.specs.parts.Using.{is_own_service, is_service};
-ghost use Rattle.sm_service_rules.specs.parts.Naming.{AreInside, AreRowsBelow, IsKeyBy, IsNameBy, IsWrongBy, IsWrongName, MoreBy};
+ghost use Rattle.sm_rules.specs.parts.Closures.{AreInside};
+ghost use Rattle.sm_rules.specs.parts.Using.{is_own_service};
+ghost use Rattle.sm_service_rules.specs.parts.Naming.{AreRowsBelow, IsKeyBy, IsNameBy, IsWrongBy, IsWrongName, MoreBy};
 ghost use Rattle.sm_service_rules.specs.parts.Naming.{ToldAgain, ToldWrong, is_kept_kind, is_left, is_named, is_named_kind, keeps_name};
 ghost use Rattle.sm_service_rules.specs.parts.Naming.{pairs_where, renames_under, tree_in};
 
 use sm_compile::{field_of, id_text, kind_of, text_in_trait};
 use sm_ids::ShapeId;
-use sm_model::{Graph, Kind, ModelEvent, is_in_prelude, no_marks, pairs_of};
+use sm_model::{Graph, Kind, ModelEvent, pairs_of};
 use sm_rules::Rule;
 use sm_rules::carried::carries;
 use sm_rules::case::folded;
+use sm_rules::closures::{closure_of, is_own_service};
 use sm_rules::each::{AtEach, put_each};
 use sm_rules::earlier::{OfFirst, put_later};
 use sm_rules::owned::is_own_shape;
 use sm_rules::putting::{put_event, put_if};
-use sm_select::{Ways, image_of_walk};
+use sm_select::Ways;
 use sm_tree::{NoMemory, Text, Tree};
 use std::alloc::Global;
 use std::collections::BTreeMap;
@@ -70,25 +72,6 @@ impl AtEach for Names<'_> {
     }
 }
 
-fn is_own_service(graph: &Graph, number: u32) -> bool
-    requires { IsShapeNumber graph.now number }
-    ensures { result ≡ is_own_service (maps_of graph.now) (id_of_number graph.now number) }
-{
-    is_service(kind_of(graph, number)) && !is_in_prelude(id_text(graph, number))
-}
-
-fn is_service(kind: Option<Kind>) -> bool
-    ensures { result ≡ is_service kind }
-{
-    match kind {
-        Some(kind) => match kind {
-            Kind::Service => true,
-            _ => false,
-        },
-        None => false,
-    }
-}
-
 // Of one service.
 fn put_names_of(
     alloc: Global,
@@ -107,23 +90,6 @@ fn put_names_of(
     let inside = closure_of(alloc, graph, ways, service)?;
     put_names_among(alloc, graph, service, inside.as_slice(), events)?;
     Ok(())
-}
-
-// The closure of a service, as marks.
-fn closure_of(
-    alloc: Global,
-    graph: &Graph,
-    ways: &Ways,
-    service: u32,
-) -> Result<Vec<bool>, NoMemory>
-    requires number { IsShapeNumber graph.now service }
-    requires ways { AreWays graph.now ways.now }
-    ensures { IfOk result (λ marks. AreInside graph.now service marks.items) }
-{
-    let mut starts = no_marks(alloc, graph.count() as usize)?;
-    starts[service as usize] = true;
-    let marks = image_of_walk(alloc, graph, ways, false, starts.as_slice())?;
-    Ok(marks)
 }
 
 // Of a service with its closure.

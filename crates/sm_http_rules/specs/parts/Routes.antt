@@ -1,19 +1,14 @@
--- The routes of operations as texts, and the closures of services as marks.
-use Rattle.std.specs.Prelude.{◌≡◌, ◌++◌, ◌∷◌, ℕ, Bool, List, [], Option, Some, None, length}
+-- The routes of operations as texts.
+use Rattle.std.specs.Prelude.{◌≡◌, ◌++◌, ◌∷◌, ℕ, List, [], Option, Some, None}
 use Rattle.sm_bytes.specs.Ascii.{number_sign}
 use Rattle.sm_model.specs.Graphs.{GraphMaps}
-use Rattle.sm_model.specs.GraphView.{entries_of, maps_of}
-use Rattle.sm_model.specs.Reaching.{AreMarks, id_of_number}
-use Rattle.sm_model.specs.Relations.{Reaches}
+use Rattle.sm_model.specs.GraphView.{maps_of}
+use Rattle.sm_model.specs.Reaching.{id_of_number}
 use Rattle.sm_model.specs.declared.graph.Graph.{Graph}
 use Rattle.sm_compile.specs.UriPattern.{UriSaid, printed_uri}
 use Rattle.sm_compile.specs.UriRoutes.{unnamed}
 use Rattle.sm_compile.specs.rules.Http.{HasSameRoute, HasUri, method_of}
 use Rattle.sm_http_rules.specs.parts.Runs.{AreEach}
-
--- these marks are those of the closure
-abbrev pub AreInside : Graph → ℕ → List Bool → Type 0
-AreInside g service marks = AreMarks (length (entries_of g)) (λ k. Reaches (maps_of g) (id_of_number g service) (id_of_number g k)) marks
 
 -- a pattern without the names of its labels, and the method behind a `#`, which no pattern has
 abbrev pub method_tail : Option (List ℕ) → List ℕ

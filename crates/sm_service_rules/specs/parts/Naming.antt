@@ -31,10 +31,6 @@ use Rattle.sm_rules.specs.declared.rule.Rule.TheVariants.{ServiceNames}
 use Rattle.sm_rules.specs.parts.Carrying.{carries}
 use Rattle.sm_rules.specs.parts.Folded.{folded, is_own_shape}
 
--- these marks are those of the closure
-abbrev pub AreInside : Graph → ℕ → List Bool → Type 0
-AreInside g service marks = AreMarks (length (entries_of g)) (λ k. Reaches (maps_of g) (id_of_number g service) (id_of_number g k)) marks
-
 -- the pairs of `rename` of what stands under an id
 abbrev pub pairs_where : Option Node → Members
 pairs_where None = no_members

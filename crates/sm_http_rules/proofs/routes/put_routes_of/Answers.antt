@@ -1,5 +1,5 @@
 use Rattle.std.proofs.Common.{subst, sym}
-use Rattle.sm_http_rules.specs.parts.Routes.{AreInside}
+use Rattle.sm_rules.specs.parts.Closures.{AreInside}
 use Rattle.sm_http_rules.proofs.routes.put_routes_of.Goals as goal
 
 pub put_routes_inside-requires-clause-inside : goal.put_routes_inside-requires-clause-inside

@@ -6,7 +6,8 @@ use Rattle.sm_tree.specs.Parts.{tree_named}
 use Rattle.sm_rules.specs.declared.rule.Rule.TheVariants.{ServiceNames}
 use Rattle.sm_rules.specs.RuleEvents.{rule_event}
 use Rattle.sm_service_rules.specs.parts.Naming.{AreRowsBelow, IsKeyBy, is_named, tree_in}
-use Rattle.sm_service_rules.proofs.NamesTold.{its_service, names_put}
+use Rattle.sm_rules.proofs.UnusedShapes.{own_service}
+use Rattle.sm_service_rules.proofs.NamesTold.{names_put}
 use Rattle.sm_service_rules.proofs.RowsBelow.{row_of}
 use Rattle.sm_service_rules.proofs.names.put_names_among.Goals as goal
 
@@ -23,7 +24,7 @@ put_later-requires-clause-numbers c r among =
 pub returns : goal.returns
 returns c =
     let g = c.args.graph.now in
-    let s = its_service (maps_of g) (id_of_number g c.args.service) c.requires.own in
+    let s = own_service (maps_of g) (id_of_number g c.args.service) c.requires.own in
     names_put g c.args.service c.args.inside.now c.requires.inside s.0 s.1 s.2 (tree_in c.in_ok-given.given)
     (λ key. c.in_ok-given.ensures key ∙ ap (tree_named key) c.renames_of-renames.ensures) c.renames_of-renames.result.now
     c.renames_of-renames.ensures c.as_slice.result.now

@@ -1,5 +1,5 @@
 use Rattle.std.proofs.Common.{subst, sym}
-use Rattle.sm_service_rules.specs.parts.Naming.{AreInside}
+use Rattle.sm_rules.specs.parts.Closures.{AreInside}
 use Rattle.sm_service_rules.proofs.names.put_names_of.Goals as goal
 
 pub put_names_among-requires-clause-inside : goal.put_names_among-requires-clause-inside
