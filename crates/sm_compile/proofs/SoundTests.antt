@@ -22,10 +22,10 @@ use Rattle.sm_compile.specs.Sound.{IsSoundMember, TargetsText, enum_numbers, enu
 use Rattle.sm_compile.specs.TraitIds.{required_id, sparse_id, unique_items_id, length_id, range_id, pattern_id, timestamp_format_id}
 use Rattle.sm_compile.specs.TraitIds.{json_name_id, enum_value_id}
 use Rattle.sm_compile.specs.TraitNodes.{AreFormedTraits, TraitsSeen, are_lengths, are_ordered, are_whole_bounds, is_object, is_range}
-use Rattle.sm_compile.specs.TraitNodes.{is_text, is_timestamp_format, number_of, own_traits, text_of, where_there}
+use Rattle.sm_compile.specs.TraitNodes.{fits_word, is_text, is_timestamp_format, number_of, own_traits, text_of, where_there}
 use Rattle.sm_compile.specs.steps.Looked.{is_unit, kind_in, kind_where, target_in, target_kind}
 use Rattle.sm_compile.specs.steps.Naming.{all_differ, all_numbers_differ}
-use Rattle.sm_compile.specs.steps.Tests.{are_annotations, are_formed, are_texts, enum_number, enum_text, fits_word, has_enum_numbers}
+use Rattle.sm_compile.specs.steps.Tests.{are_annotations, are_formed, are_texts, enum_number, enum_text, has_enum_numbers}
 use Rattle.sm_compile.specs.steps.Tests.{has_enum_texts, has_its_values, has_text_key, is_length, is_range_seen, is_some_member}
 use Rattle.sm_compile.specs.steps.Tests.{is_some_number, is_some_text, is_sound_member, is_sound_target, is_text_where}
 use Rattle.sm_compile.proofs.Differing.{differ_told, numbers_told}

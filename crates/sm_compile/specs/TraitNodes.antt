@@ -1,7 +1,7 @@
 -- What the values of the traits say that tables are made from, and which values these traits may have (Smithy 2.0, "Constraint
 -- traits", "timestampFormat trait", "jsonName trait", "enumValue trait").
 use Rattle.std.specs.Prelude.{◌&&◌, ◌||◌, ℕ, ℤ, pos, Bool, true, false, List, Option, Some, None, if◌then◌else◌, codes, IsTrue, int_le}
-use Rattle.std.specs.Prelude.{is_some}
+use Rattle.std.specs.Prelude.{◌^◌, is_some, nat_lt, negsuc}
 use Rattle.std.specs.Option.{unwrap_or, option_or}
 use Rattle.std.specs.FinMap as fin
 use Rattle.std.specs.Str.{bytes_eq}
@@ -46,6 +46,11 @@ field_of name n = tree_named name (unwrap_or (pairs_in n) no_members)
 abbrev pub number_of : Option Node → Option ℤ
 number_of None = None
 number_of (Some n) = number_in n
+
+-- a number of 32 bits with sign
+abbrev pub fits_word : ℤ → Bool
+fits_word (pos n) = nat_lt n (2 ^ 31)
+fits_word (negsuc n) = nat_lt n (2 ^ 31)
 
 abbrev pub text_of : Option Node → Option (List ℕ)
 text_of None = None

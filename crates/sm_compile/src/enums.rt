@@ -5,9 +5,10 @@ ghost use Rattle.std.specs.Option.{option_copied};
 ghost use Rattle.sm_model.specs.GraphView.{AreShapeNumbers, IsShapeNumber, maps_of};
 ghost use Rattle.sm_model.specs.Reaching.{id_of_number};
 ghost use Rattle.sm_compile.specs.Sound.{enum_numbers, enum_texts};
+ghost use Rattle.sm_compile.specs.TraitNodes.{fits_word};
 ghost use Rattle.sm_compile.specs.steps.Naming.{texts_of_all};
 ghost use Rattle.sm_compile.specs.steps.Tests as tests;
-ghost use Rattle.sm_compile.specs.steps.Tests.{enum_number, enum_text, fits_word, has_its_values, is_some_number, is_some_text};
+ghost use Rattle.sm_compile.specs.steps.Tests.{enum_number, enum_text, has_its_values, is_some_number, is_some_text};
 
 use crate::differ::{numbers_differ, texts_differ};
 use crate::look::trait_node;

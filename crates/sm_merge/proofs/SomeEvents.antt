@@ -90,13 +90,13 @@ put_order e (f ∷ fs) h = by_order (put_order e fs h.1) (event_cmp e f) refl
     by_order later Equal is = h
     by_order later Greater is = (before_put f e fs (after e f is) h.0, later)
 
--- what holds of some of these events, in order
+-- what holds of some of these events, in order. Other crates cite it
 module _ (P : EventTold → Type 0) where
-  record AreSome (cs : List EventTold) : Type 0 where
-    es : List EventTold
-    in_order : AreInOrder es
-    holds : (e : EventTold) → Has e es → P e
-    all : (e : EventTold) → Has e cs → P e → Has e es
+  pub record AreSome (cs : List EventTold) : Type 0 where
+    pub es : List EventTold
+    pub in_order : AreInOrder es
+    pub holds : (e : EventTold) → Has e es → P e
+    pub all : (e : EventTold) → Has e cs → P e → Has e es
 
   with_event : (c : EventTold) (cs : List EventTold) → P c → AreSome cs → AreSome (c ∷ cs)
   with_event c cs is rest = record {
@@ -117,7 +117,7 @@ module _ (P : EventTold → Type 0) where
     all = λ e h k. elim h [ inl same ↦ absurd (none (subst P same k)) | inr later ↦ rest.all e later k ];
   }
 
-  some_of : (cs : List EventTold) → Must (AreSome cs)
+  pub some_of : (cs : List EventTold) → Must (AreSome cs)
   some_of [] = must (record { es = []; in_order = tt; holds = λ e h. absurd h; all = λ e h k. absurd h })
   some_of (c ∷ cs) =
       thence (some_of cs) (λ rest. thence (either_way (P c)) (λ known. elim known [

@@ -1,5 +1,5 @@
 -- Whether a shape is in order, as tests.
-use Rattle.std.specs.Prelude.{◌&&◌, ◌^◌, ℕ, ℤ, pos, negsuc, nat_lt, Bool, true, false, List, [], ◌∷◌, Option, Some, None}
+use Rattle.std.specs.Prelude.{◌&&◌, ℕ, ℤ, Bool, true, false, List, [], ◌∷◌, Option, Some, None}
 use Rattle.std.specs.List.{list_all}
 use Rattle.sm_model.specs.Graphs.{GraphMaps}
 use Rattle.sm_model.specs.declared.kind.Kind.{Kind}
@@ -9,7 +9,7 @@ use Rattle.sm_compile.specs.Sound.{enum_texts, enum_numbers, trait_of}
 use Rattle.sm_compile.specs.TraitIds.{required_id, sparse_id, unique_items_id, length_id, range_id, pattern_id, timestamp_format_id}
 use Rattle.sm_compile.specs.TraitIds.{json_name_id, enum_value_id}
 use Rattle.sm_compile.specs.TraitNodes.{TraitsSeen, number_of, text_of, where_there, is_object, is_text, are_whole_bounds, are_lengths}
-use Rattle.sm_compile.specs.TraitNodes.{are_ordered, is_range, is_timestamp_format, is_enum_value}
+use Rattle.sm_compile.specs.TraitNodes.{are_ordered, fits_word, is_range, is_timestamp_format, is_enum_value}
 use Rattle.sm_compile.specs.steps.Looked.{target_kind, targets_unit}
 use Rattle.sm_compile.specs.steps.Naming.{all_differ, all_numbers_differ}
 
@@ -57,11 +57,6 @@ abbrev pub is_some_text : Option (List ℕ) → Bool
 is_some_text None = false
 is_some_text (Some []) = false
 is_some_text (Some (c ∷ cs)) = true
-
--- a number of 32 bits with sign
-abbrev pub fits_word : ℤ → Bool
-fits_word (pos n) = nat_lt n (2 ^ 31)
-fits_word (negsuc n) = nat_lt n (2 ^ 31)
 
 abbrev pub is_some_number : Option ℤ → Bool
 is_some_number None = false
