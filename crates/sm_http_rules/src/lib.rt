@@ -2,9 +2,13 @@
 #![tactic(auto)]
 
 mod again;
+mod allows;
+mod bindings;
+pub mod bound_targets;
 mod label_rows;
 mod label_told;
 pub mod labels;
+mod left_out;
 pub mod naming;
 mod prefixes;
 mod route_keys;
