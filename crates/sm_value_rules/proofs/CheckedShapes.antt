@@ -1,6 +1,5 @@
 -- The shapes for which nodes are checked are those that have values, are fine, and from which no steps lead on to a faulty one.
 use Rattle.std.proofs.Common.{◌≡◌, ◌⊎◌, inl, inr, ℕ, ◌<◌, Bool, true, false, List, [], ◌∷◌, ◌++◌, length, get_or, refl, sym, ◌∙◌, subst}
-use Rattle.std.specs.Prelude.{Some, slice_get}
 use Rattle.sm_model.specs.Graphs.{ShapeEntry, shape_entry}
 use Rattle.sm_model.specs.GraphView.{IsShapeNumber, entries_of, maps_of}
 use Rattle.sm_model.specs.Links.{IsLinked}
@@ -10,11 +9,10 @@ use Rattle.sm_model.specs.declared.graph.Graph.{Graph}
 use Rattle.sm_model.specs.declared.link.Link.{Link}
 use Rattle.sm_model.specs.declared.relation.Relation.{Relation}
 use Rattle.sm_model.specs.declared.relation.Relation.TheVariants.{Member, Target}
-use Rattle.sm_model.proofs.GraphFacts.{id_at}
-use Rattle.sm_model.proofs.LinkNumbers.{one_number, stands_at}
 use Rattle.sm_model.proofs.NumberedIds.{number_of, related_in}
 use Rattle.sm_model.proofs.Worklist.{marked_within}
 use Rattle.sm_select.specs.Neighbors.{AreNeighbors, AreReached, HasStep, IsReached as LeadsFrom, StepsBy}
+use Rattle.sm_compile.proofs.ReachedNumbers.{same_number}
 use Rattle.sm_compile.specs.Reached.{IsReached, LeadsBy, LeadsTo}
 use Rattle.sm_compile.specs.Served.{IsLeftOut}
 use Rattle.sm_compile.specs.Sound.{IsSoundShape, IsValueShape}
@@ -27,14 +25,6 @@ steps_on : (rows : List (List ℕ)) (a : ℕ) (between : List ℕ) (c b : ℕ) �
     → StepsBy rows a (between ++ c ∷ []) b
 steps_on rows a [] c b h step = (h, step)
 steps_on rows a (next ∷ between) c b h step = (h.0, steps_on rows next between c b h.1 step)
-
--- an id has one number
-one : (g : Graph) (j k : ℕ) → IsShapeNumber g j → IsShapeNumber g k → id_of_number g j ≡ id_of_number g k → j ≡ k
-one g j k lt gt same =
-    let a = stands_at g j lt in
-    let b = stands_at g k gt in
-    let is : a.0 ≡ b.0 = sym (id_at g j a.0 a.1 a.2) ∙ same ∙ id_at g k b.0 b.1 b.2 in
-    one_number g j k b.0 a.1 b.1 (subst (λ (i : List ℕ). slice_get (entries_of g) j ≡ Some (i, a.1)) is a.2) b.2
 
 module _ (g : Graph) (faulty : List Bool) (are : AreFaultMarks g faulty) (links : List Link) (value : AreValueLinks g links)
     (rows : List (List ℕ)) (near : AreNeighbors (length (entries_of g)) links true rows) where
@@ -118,7 +108,7 @@ module _ (g : Graph) (faulty : List Bool) (are : AreFaultMarks g faulty) (links 
           j.2,
           is_fine j.0 j.1 (λ marked.
               elim (way_made way.0 k other lt way.1
-              (λ i gt is. subst (IsMarked faulty) (one g j.0 i j.1 gt (j.2 ∙ sym is)) marked)) [
+              (λ i gt is. subst (IsMarked faulty) (same_number g j.0 i j.1 gt (j.2 ∙ sym is)) marked)) [
                 | inl here ↦ none here
                 | inr later ↦ no_way ((reached k).1 later)
               ]),

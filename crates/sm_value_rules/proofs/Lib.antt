@@ -6,9 +6,13 @@ mod TableRows
 mod TableTwins
 pub mod SameFaults
 pub mod CheckedShapes
+mod CheckedMarks
+mod NodesTold
+mod DefaultsTold
 mod AmongIds
 mod UsedTraits
 mod PlacesTold
 pub mod PartsPut
 mod TextsHeld
 mod ConflictsTold
+mod ValuesTold

@@ -71,7 +71,7 @@ pub some_of : (o : Option Node) → is_some o ≡ true → (n : Node) × (o ≡ 
 some_of None h = absurd (apart h)
 some_of (Some n) h = (n, refl)
 
-entry_of : (trait : List ℕ) (o : Option Entry) (n : Node) → trait_in trait o ≡ Some n → (e : Entry) × (o ≡ Some e)
+pub entry_of : (trait : List ℕ) (o : Option Entry) (n : Node) → trait_in trait o ≡ Some n → (e : Entry) × (o ≡ Some e)
 entry_of trait None n h = absurd (none-some n h)
 entry_of trait (Some e) n h = (e, refl)
 

@@ -1,7 +1,6 @@
 -- Marks of what stands as a trait at some shape or member.
 use Rattle.std.proofs.Common.{◌≡◌, ◌<◌, ◌+◌, inl, inr, ℕ, Bool, List, [], ◌∷◌, ◌++◌, get_or, length, take, Some, None, sym, ap, ◌∙◌}
 use Rattle.std.proofs.Common.{subst, arith}
-use Rattle.std.specs.Prelude.{slice_get}
 use Rattle.std.specs.FinMap as fin
 use Rattle.std.specs.List.{Contains}
 use Rattle.std.proofs.lemmas.Bool.{cases_lt}
@@ -12,32 +11,25 @@ use Rattle.sm_tree.specs.Node.{Node}
 use Rattle.sm_tree.specs.View.{members_view}
 use Rattle.sm_tree.specs.declared.tree.Tree.{Tree}
 use Rattle.sm_model.specs.Graphs.{traits_in}
-use Rattle.sm_model.specs.GraphView.{At, IsShapeNumber, Stands, entries_of, maps_of}
+use Rattle.sm_model.specs.GraphView.{At, Stands, maps_of}
 use Rattle.sm_model.specs.Reaching.{IsMarked, id_of_number}
 use Rattle.sm_model.specs.declared.graph.Graph.{Graph}
 use Rattle.sm_model.proofs.GraphFacts.{entry_under, id_at}
-use Rattle.sm_model.proofs.LinkNumbers.{one_number, stands_at}
+use Rattle.sm_model.proofs.LinkNumbers.{stands_at}
 use Rattle.sm_model.proofs.NumberedIds.{entry_here}
 use Rattle.sm_compile.specs.Sound.{trait_in}
 use Rattle.sm_compile.proofs.LookedUp.{stands_is}
+use Rattle.sm_compile.proofs.ReachedNumbers.{same_number}
 use Rattle.sm_compile.proofs.TabledShapes.{mapped_from}
 use Rattle.sm_rules.proofs.JudgedTraits.{pair_seen}
 use Rattle.sm_rules.proofs.TraitEntries.{found_entry}
 use Rattle.sm_value_rules.specs.parts.Placing.{AreNamed, AreUsedBy, IsNamed}
 
 module _ (g : Graph) where
-  -- an id has one number
-  same_number : (j k : ℕ) → IsShapeNumber g j → IsShapeNumber g k → id_of_number g j ≡ id_of_number g k → j ≡ k
-  same_number j k lt gt same =
-      let a = stands_at g j lt in
-      let b = stands_at g k gt in
-      let is : a.0 ≡ b.0 = sym (id_at g j a.0 a.1 a.2) ∙ same ∙ id_at g k b.0 b.1 b.2 in
-      one_number g j k b.0 a.1 b.1 (subst (λ (i : List ℕ). slice_get (entries_of g) j ≡ Some (i, a.1)) is a.2) b.2
-
   pub one_named : (marks : List Bool) (id : List ℕ) (s : ℕ) → Stands g s id → IsMarked marks s → IsNamed g marks id
   one_named marks id s at marked k small is =
       let t = stands_is g 0 s id at in
-      subst (IsMarked marks) (same_number s k t.0 small (t.1 ∙ sym is)) marked
+      subst (IsMarked marks) (same_number g s k t.0 small (t.1 ∙ sym is)) marked
 
   -- an id that the graph hasn't has none
   pub none_named : (marks : List Bool) (id : List ℕ) → fin.get (maps_of g).shapes id ≡ None → IsNamed g marks id

@@ -12,7 +12,7 @@ use Rattle.sm_codec.specs.Defaults.{filled, node_codec}
 use Rattle.sm_codec.specs.FaultLists.{FaultAt, Reading}
 use Rattle.sm_codec.specs.Readings.{reading}
 use Rattle.sm_compile.specs.Compiled.{Numbering, IsCompiled}
-use Rattle.sm_compile.specs.Reached.{IsReached}
+use Rattle.sm_compile.specs.Roots.{IsReachedFromSome}
 use Rattle.sm_compile.specs.Served.{ReachesLeftOut}
 use Rattle.sm_compile.specs.Sound.{IsValueShape, Sound}
 
@@ -21,10 +21,6 @@ pub record IsChecked (g : GraphMaps) (root : List ℕ) : Type 0 where
   pub has_values : IsValueShape g root
   pub sound : Sound g root
   pub carried : ReachesLeftOut g root → ⊥
-
--- what some of these shapes reaches
-abbrev pub IsReachedFromSome : GraphMaps → List (List ℕ) → List ℕ → Type 0
-IsReachedFromSome g roots id = (root : List ℕ) × Contains roots root × IsReached g root id
 
 -- a table of these shapes and of all that they reach, in which one of them has this number. Which the others are tells nothing of it
 -- (`SameFaults` of Laws)

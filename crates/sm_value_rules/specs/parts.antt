@@ -1,3 +1,6 @@
 pub mod Checking
 pub mod Placing
 pub mod Conflicting
+pub mod Nodes
+pub mod Defaulting
+pub mod Valuing

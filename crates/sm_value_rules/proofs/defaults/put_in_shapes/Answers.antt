@@ -1,0 +1,43 @@
+use Rattle.std.proofs.Common.{◌≡◌, length, subst, arith}
+use Rattle.sm_model.specs.GraphView.{entries_of, maps_of}
+use Rattle.sm_model.specs.Reaching.{id_of_number}
+use Rattle.sm_rules.specs.RuleEvents.{Puts}
+use Rattle.sm_rules.specs.declared.rule.Rule.TheVariants.{DefaultValue}
+use Rattle.sm_rules.specs.parts.Putting.{Below}
+use Rattle.sm_rules.proofs.EventsPut.{puts_begun, puts_next}
+use Rattle.sm_rules.proofs.Numbered.{puts_homes}
+use Rattle.sm_value_rules.specs.parts.Defaulting.{ToldDefaults}
+use Rattle.sm_value_rules.specs.rules.Values.{HasWrongDefault}
+use Rattle.sm_value_rules.proofs.DefaultsTold.{home_of, homes_there}
+use Rattle.sm_value_rules.proofs.defaults.put_in_shapes.Goals as goal
+
+pub loop-number-init : goal.loop-number-init
+loop-number-init c =
+    let g = c.args.graph.now in
+    record {
+      within = omega arith;
+      told = puts_begun (λ k. ToldDefaults (maps_of g) (id_of_number g k)) c.args.events.now.items;
+      nodes = c.requires.nodes;
+    }
+
+pub loop-number-preserved : goal.loop-number-preserved
+loop-number-preserved c =
+    let g = c.args.graph.now in
+    let at = c.loop-number in
+    record {
+      within = omega (arith, c.loop-number-test.true, c.count-number-end.ensures);
+      told = puts_next (λ k. ToldDefaults (maps_of g) (id_of_number g k)) at.number c.args.events.now.items at.events.items
+          c.put_in_shape.new.events.items at.invariant.told c.in_ok-put_in_shape.ensures.told;
+      nodes = c.in_ok-put_in_shape.ensures.nodes;
+    }
+
+pub returns : goal.returns
+returns c =
+    let g = c.args.graph.now in
+    let at = c.loop-number in
+    let all : at.number ≡ length (entries_of g) =
+    omega (arith, c.loop-number-test.false, c.count-number-end.ensures, at.invariant.within) in
+    puts_homes g DefaultValue (HasWrongDefault (maps_of g)) (home_of (maps_of g)) (homes_there (maps_of g)) c.args.events.now.items
+    at.events.items
+    (subst (λ n. Puts (Below (λ k. ToldDefaults (maps_of g) (id_of_number g k)) n) c.args.events.now.items at.events.items) all
+    at.invariant.told)

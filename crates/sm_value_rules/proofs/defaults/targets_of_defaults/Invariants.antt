@@ -1,0 +1,6 @@
+use Rattle.sm_value_rules.specs.parts.Defaulting.{WantsTarget}
+use Rattle.sm_value_rules.specs.parts.Nodes.{AreRoots}
+use Rattle.sm_value_rules.proofs.defaults.targets_of_defaults.Given as goal
+
+abbrev pub invariant-loop-number : goal.invariant-loop-number
+invariant-loop-number l = AreRoots l.graph (WantsTarget l.graph) l.number l.roots.items

@@ -1,0 +1,6 @@
+use Rattle.sm_value_rules.specs.parts.Nodes.{AreRoots}
+use Rattle.sm_value_rules.specs.parts.Valuing.{WantsTrait}
+use Rattle.sm_value_rules.proofs.values.judged_traits.Given as goal
+
+abbrev pub invariant-loop-number : goal.invariant-loop-number
+invariant-loop-number l = AreRoots l.graph (WantsTrait l.graph) l.number l.roots.items
