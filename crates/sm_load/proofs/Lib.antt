@@ -3,3 +3,9 @@ pub mod SuppressionsKept
 pub mod RulesPut
 pub mod ListTold
 pub mod OneRuleList
+pub mod SeveritiesTold
+pub mod FilesSaid
+pub mod GraphsJudged
+pub mod GraphsMade
+pub mod OneModelFile
+pub mod OneModelLoaded

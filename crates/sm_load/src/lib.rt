@@ -2,7 +2,10 @@
 #![tactic(auto)]
 
 pub mod laws;
+mod loading;
+mod model;
 mod naming;
 mod suppressed;
 mod suppressing;
+mod texts;
 mod told;
