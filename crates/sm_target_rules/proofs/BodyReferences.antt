@@ -6,7 +6,7 @@ use Rattle.std.specs.Prelude.{MatchOption}
 use Rattle.std.specs.FinMap as fin
 use Rattle.std.specs.List.{Contains}
 use Rattle.std.proofs.lemmas.Option.{none-some, same_Some}
-use Rattle.sm_tree.specs.Node.{Node, Nodes, Members, null, bool, int, number, text, bytes, tag, opaque, list, object, members_of, nodes_of}
+use Rattle.sm_tree.specs.Node.{Node, Nodes, Members, text, list, object, members_of, nodes_of}
 use Rattle.sm_tree.specs.Parts.{text_in}
 use Rattle.sm_tree.specs.Same.{HasPair}
 use Rattle.sm_tree.specs.View.{members_view, node_of, nodes_view}
