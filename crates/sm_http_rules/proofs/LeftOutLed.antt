@@ -23,11 +23,10 @@ use Rattle.sm_model.proofs.OneRising.{contains_behind, contains_either, contains
 use Rattle.sm_model.proofs.Worklist.{apart, marked_within}
 use Rattle.sm_shapes.specs.declared.kinds.ShapeKind.TheVariants.{LeftOut}
 use Rattle.sm_select.specs.Neighbors.{AreBelow, AreNeighbors, AreReached, HasStep, IsReached as LeadsFrom, IsStepOf, StayBelow, StepsBy}
-use Rattle.sm_compile.specs.Kinds.{has_values, table_kind}
+use Rattle.sm_compile.specs.Kinds.{has_values, is_left_out, table_kind}
 use Rattle.sm_compile.specs.Looked.{kind_in}
 use Rattle.sm_compile.specs.Reached.{LeadsBy, LeadsTo}
 use Rattle.sm_compile.specs.rules.Http.{ReachesLeftOutValue}
-use Rattle.sm_compile.specs.steps.Unserved.{is_left_out}
 use Rattle.sm_http_rules.specs.parts.LeftOut.{AreLeading, AreValueSteps, LeadsToLeftOut, has_left_out, is_left_out_kind, is_left_out_where}
 use Rattle.sm_http_rules.specs.parts.LeftOut.{is_of_values, value_link}
 

@@ -14,3 +14,4 @@ pub mod SomePasses
 pub mod AllowedTold
 pub mod LeftOutLed
 pub mod BoundTold
+pub mod ShortestKept

@@ -8,3 +8,4 @@ pub mod Binding
 pub mod Allowing
 pub mod LeftOut
 pub mod BoundTargets
+pub mod Shortest

@@ -14,6 +14,7 @@ mod prefixes;
 mod route_keys;
 pub mod routes;
 mod runs;
+mod shortest;
 pub mod sides;
 mod targets;
 pub mod wire_names;

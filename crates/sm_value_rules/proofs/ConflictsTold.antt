@@ -1,6 +1,6 @@
 -- What is told of the traits of a shape or member, one after the other, is what the rule says.
-use Rattle.std.proofs.Common.{◌≡◌, ◌⊎◌, inl, inr, ℕ, Bool, true, false, cond, List, Option, Some, None}
-use Rattle.std.proofs.Common.{refl, sym, ap, ◌∙◌, subst}
+use Rattle.std.proofs.Common.{◌≡◌, ◌⊎◌, ◌<◌, ◌+◌, inl, inr, ℕ, Bool, true, false, cond, List, [], ◌∷◌, ◌++◌, Option, Some, None, get_or}
+use Rattle.std.proofs.Common.{length, take, refl, sym, ap, ◌∙◌, subst}
 use Rattle.std.specs.Prelude.{◌&&◌, ◌↔◌, codes, is_some, not}
 use denote.Ref.{Bor}
 use Rattle.std.specs.BTreeSet.{BTreeSet}
@@ -11,12 +11,13 @@ use Rattle.std.specs.Option.{option_and_then, unwrap_or}
 use Rattle.std.specs.Ordering.{ordering_reverse}
 use Rattle.std.specs.declared.cmp.Ordering.{Ordering}
 use Rattle.std.specs.declared.cmp.Ordering.TheVariants.{Less, Equal, Greater}
+use Rattle.std.proofs.lemmas.List.{take_more}
+use Rattle.std.proofs.lemmas.List.Elements.{Contains-append_left, Contains-push, Contains-push_cases}
 use Rattle.std.proofs.lemmas.Option.{same_Some}
 use Rattle.sm_tree.specs.Node.{Node, Nodes, no_nodes, text}
 use Rattle.sm_tree.specs.Parts.{entries_in, text_in}
 use Rattle.sm_tree.specs.View.{members_view}
 use Rattle.sm_tree.specs.declared.tree.Tree.{Tree}
-use Rattle.sm_model.specs.EventView.{EventTold}
 use Rattle.sm_model.specs.Graphs.{text_cmp, Entry, GraphMaps, traits_in}
 use Rattle.sm_model.specs.GraphView.{At, maps_of}
 use Rattle.sm_model.specs.PreludeShapes.{is_prelude_id}
@@ -24,7 +25,10 @@ use Rattle.sm_model.specs.Reaching.{id_of_number}
 use Rattle.sm_model.specs.Relations.{IsEntryText}
 use Rattle.sm_model.specs.declared.event.ModelEvent.{ModelEvent}
 use Rattle.sm_model.specs.declared.graph.Graph.{Graph}
+use Rattle.sm_model.specs.steps.Linking.{Joins}
+use Rattle.sm_model.proofs.Linking.{joins_both, joins_none, joins_same}
 use Rattle.sm_model.proofs.NumberedIds.{entry_here}
+use Rattle.sm_model.proofs.OneRising.{contains_none}
 use Rattle.sm_model.proofs.Worklist.{apart}
 use Rattle.sm_compile.specs.Sound.{trait_in, trait_of}
 use Rattle.sm_compile.specs.TraitIds.{trait_id}
@@ -39,12 +43,13 @@ use Rattle.sm_rules.specs.parts.Carrying.{carries}
 use Rattle.sm_rules.specs.parts.Folded.{is_own_shape, is_shape}
 use Rattle.sm_rules.specs.parts.Forms.{is_trait_value}
 use Rattle.sm_rules.specs.parts.Putting.{ToldOf}
-use Rattle.sm_rules.proofs.EventsPut.{puts_both, puts_none, puts_same}
+use Rattle.sm_rules.proofs.EventsPut.{puts_none, puts_same}
 use Rattle.sm_rules.proofs.JudgedTraits.{pair_seen}
 use Rattle.sm_rules.proofs.OwnShapes.{own_told, told_own}
 use Rattle.sm_rules.proofs.TraitEntries.{entry_found, found_entry}
-use Rattle.sm_value_rules.specs.parts.Conflicting.{HasText, ToldAny, ToldBoth, ToldGreater, ToldIn, ToldOfTrait}
-use Rattle.sm_value_rules.specs.parts.Conflicting.{conflicts_in, conflicts_under}
+use Rattle.sm_value_rules.specs.parts.Conflicting.{HasText, IsGreaterBy, IsGreaterIfHeld, IsGreaterOfAny, IsGreaterOfBoth}
+use Rattle.sm_value_rules.specs.parts.Conflicting.{IsGreaterOfTrait, IsGreaterThere, IsHeldThere, IsOfSome, ToldHeld}
+use Rattle.sm_value_rules.specs.parts.Conflicting.{conflicts_in, conflicts_under, has_text}
 use Rattle.sm_value_rules.specs.rules.Conflicts.{Excludes, HasConflict, by_table, by_shape, HasExcludedTrait}
 use Rattle.sm_value_rules.proofs.PartsPut.{puts_parts}
 use Rattle.sm_value_rules.proofs.PlacesTold.{row_reads, some_of}
@@ -86,59 +91,67 @@ module _ (g : GraphMaps) (trait other : List ℕ) where
       (conflicts_read (trait_of g trait trait_id)
       ∙ sym (ap (λ b. cond b (conflicts_in (trait_of g trait trait_id)) no_nodes) (told_own g trait shape.0 shape.1))) among
 
-module _ (g : GraphMaps) (id : List ℕ) where
-  there_as : (e : Entry) → IsOwn g id e → (trait : List ℕ) → carries g trait id ≡ has_trait trait (traits_in e)
+module _ (g : GraphMaps) (at : List ℕ) where
+  there_as : (e : Entry) → IsOwn g at e → (trait : List ℕ) → carries g trait at ≡ has_trait trait (traits_in e)
   there_as e own trait = ap (λ o. is_some (trait_in trait o)) own.0
 
   -- of two traits that stand there, one of which excludes the other, the greater is told
-  pair_forth : (e : Entry) → IsOwn g id e → (trait other : List ℕ) → carries g trait id ≡ true
-      → IsEntryText other (conflicts_under g trait) → (t : EventTold) → ToldBoth g id trait other t
-      → IsEventAt TraitConflict (HasExcludedTrait g) id t
-  pair_forth e own trait other here among t both = by (text_cmp trait other) refl both.1
+  pair_forth : (e : Entry) → IsOwn g at e → (trait other id : List ℕ) → carries g trait at ≡ true
+      → IsEntryText other (conflicts_under g trait) → IsGreaterOfBoth g at trait other id → HasExcludedTrait g at id
+  pair_forth e own trait other id here among both = by (text_cmp trait other) refl both.1
     where
-      by : (o : Ordering) → text_cmp trait other ≡ o → ToldGreater o id trait other t → IsEventAt TraitConflict (HasExcludedTrait g) id t
-      by Less is told = (
-        other,
-        record {
-          e = e;
-          own = own;
-          smaller = trait;
-          excludes = inl (seen_excluded g trait other among);
-          smaller_there = sym (there_as e own trait) ∙ here;
-          greater_there = sym (there_as e own other) ∙ both.0;
-          order = is;
-        },
-        told,
-      )
-      by Equal is told = absurd told
-      by Greater is told = (
-        trait,
-        record {
-          e = e;
-          own = own;
-          smaller = other;
-          excludes = inr (seen_excluded g trait other among);
-          smaller_there = sym (there_as e own other) ∙ both.0;
-          greater_there = sym (there_as e own trait) ∙ here;
-          order = nat_list_cmp_total.antisymm other trait ∙ ap ordering_reverse is;
-        },
-        told,
-      )
+      by : (o : Ordering) → text_cmp trait other ≡ o → IsGreaterBy o trait other id → HasExcludedTrait g at id
+      by Less is same = subst (HasExcludedTrait g at) same (record {
+        e = e;
+        own = own;
+        smaller = trait;
+        excludes = inl (seen_excluded g trait other among);
+        smaller_there = sym (there_as e own trait) ∙ here;
+        greater_there = sym (there_as e own other) ∙ both.0;
+        order = is;
+      })
+      by Equal is none = absurd none
+      by Greater is same = subst (HasExcludedTrait g at) same (record {
+        e = e;
+        own = own;
+        smaller = other;
+        excludes = inr (seen_excluded g trait other among);
+        smaller_there = sym (there_as e own other) ∙ both.0;
+        greater_there = sym (there_as e own trait) ∙ here;
+        order = nat_list_cmp_total.antisymm other trait ∙ ap ordering_reverse is;
+      })
 
-  pair_back : (t : EventTold) → IsEventAt TraitConflict (HasExcludedTrait g) id t
-      → (trait : List ℕ) × (carries g trait id ≡ true) × ToldOfTrait g id trait t
-  pair_back t (greater, h, is) =
+  pair_back : (id : List ℕ) → HasExcludedTrait g at id → IsGreaterThere g at id
+  pair_back id h =
       let small = there_as h.e h.own h.smaller ∙ h.smaller_there in
-      let great = there_as h.e h.own greater ∙ h.greater_there in
-      let turned : text_cmp greater h.smaller ≡ Greater = nat_list_cmp_total.antisymm greater h.smaller ∙ ap ordering_reverse h.order in
+      let great = there_as h.e h.own id ∙ h.greater_there in
+      let turned : text_cmp id h.smaller ≡ Greater = nat_list_cmp_total.antisymm id h.smaller ∙ ap ordering_reverse h.order in
       elim h.excludes [
         | inl x ↦
-            let both : ToldBoth g id h.smaller greater t = (great, subst (λ o. ToldGreater o id h.smaller greater t) (sym h.order) is) in
-            (h.smaller, small, (greater, excluded_seen g h.smaller greater x, both))
+            let both : IsGreaterOfBoth g at h.smaller id id = (great, subst (λ o. IsGreaterBy o h.smaller id id) (sym h.order) refl) in
+            (h.smaller, small, (id, excluded_seen g h.smaller id x, both))
         | inr x ↦
-            let both : ToldBoth g id greater h.smaller t = (small, subst (λ o. ToldGreater o id greater h.smaller t) (sym turned) is) in
-            (greater, great, (h.smaller, excluded_seen g greater h.smaller x, both))
+            let both : IsGreaterOfBoth g at id h.smaller id = (small, subst (λ o. IsGreaterBy o id h.smaller id) (sym turned) refl) in
+            (id, great, (h.smaller, excluded_seen g id h.smaller x, both))
       ]
+
+  -- what was taken of all traits there, and is told
+  pub held_put : (e : Entry) → IsOwn g at e → (none texts : BTreeSet (Bor (List ℕ))) → ((t : List ℕ) → has_text none t ≡ false)
+      → Joins (HasText none) (IsGreaterThere g at) (HasText texts) → (a b : List ModelEvent)
+      → Puts (IsEventAt TraitConflict (λ here id. IsHeldThere g here texts id) at) a b
+      → Puts (IsEventAt TraitConflict (HasExcludedTrait g) at) a b
+  held_put e own none texts empty joins a b h =
+      puts_same (IsEventAt TraitConflict (λ here id. IsHeldThere g here texts id) at) (IsEventAt TraitConflict (HasExcludedTrait g) at) a b
+      (λ x. (λ t. (t.0, forth t.0 t.1.1, t.2), λ t. (t.0, back t.0 t.1, t.2))) h
+    where
+      forth : (id : List ℕ) → HasText texts id → HasExcludedTrait g at id
+      forth id held = elim ((joins id).0 held) [
+        | inl old ↦ absurd (apart (sym (empty id) ∙ old))
+        | inr r ↦ pair_forth e own r.0 r.2.0 id r.1 r.2.1 r.2.2
+      ]
+
+      back : (id : List ℕ) → HasExcludedTrait g at id → IsHeldThere g at texts id
+      back id x = (there_as x.e x.own id ∙ x.greater_there, (joins id).1 (inr (pair_back id x)))
 
 -- the traits at a number
 module _ (g : Graph) (k : ℕ) (ts : List (List ℕ × Tree)) (at : At g k (λ id e. fin.entries (traits_in e) ≡ members_view ts)) where
@@ -161,34 +174,44 @@ module _ (g : Graph) (k : ℕ) (ts : List (List ℕ × Tree)) (at : At g k (λ i
       let t = mapped_from pair_seen ts (trait, n.0) stands in
       (t.0, t.1, ap (λ (y : List ℕ × Node). y.0) t.2)
 
-  -- those of a set
-  pub named_put : (trait : List ℕ) (texts : BTreeSet (Bor (List ℕ))) (a b : List ModelEvent)
-      → Puts (ToldOf (λ t. ToldIn (maps_of g) here trait texts t.0) ts) a b → Puts (ToldAny (maps_of g) here trait (HasText texts)) a b
-  named_put trait texts a b h =
-      puts_same (ToldOf (λ t. ToldIn (maps_of g) here trait texts t.0) ts) (ToldAny (maps_of g) here trait (HasText texts)) a b
-      (λ e. (
+  -- those of a set, beside a trait
+  pub named_taken : (trait : List ℕ) (texts : BTreeSet (Bor (List ℕ))) (Old Now : List ℕ → Type 0)
+      → Joins Old (IsOfSome (λ t. IsGreaterIfHeld (maps_of g) here trait texts t.0) ts) Now
+      → Joins Old (IsGreaterOfAny (maps_of g) here trait (HasText texts)) Now
+  named_taken trait texts Old Now joins =
+      joins_same Old (IsOfSome (λ t. IsGreaterIfHeld (maps_of g) here trait texts t.0) ts)
+      (IsGreaterOfAny (maps_of g) here trait (HasText texts)) Now
+      (λ id. (
         λ p. let t = p.0 in (t.0, p.2.0, p.2.1),
         λ q.
             let p = carried_pair q.0 q.2.0 in
-            let told : ToldIn (maps_of g) here trait texts q.0 e = (q.1, q.2) in
-            (p.0, p.1, subst (λ o. ToldIn (maps_of g) here trait texts o e) (sym p.2) told),
-      )) h
+            let said : IsGreaterIfHeld (maps_of g) here trait texts q.0 id = (q.1, q.2) in
+            (p.0, p.1, subst (λ o. IsGreaterIfHeld (maps_of g) here trait texts o id) (sym p.2) said),
+      )) joins
 
   -- all of them
-  pub carried_put : is_prelude_id here ≡ false → (a b : List ModelEvent)
-      → Puts (ToldOf (λ t. ToldOfTrait (maps_of g) here t.0) ts) a b → Puts (IsEventAt TraitConflict (HasExcludedTrait (maps_of g)) here) a b
-  carried_put own a b h =
-      let x = entry_here g k (λ id e. fin.entries (traits_in e) ≡ members_view ts) at in
-      puts_same (ToldOf (λ t. ToldOfTrait (maps_of g) here t.0) ts) (IsEventAt TraitConflict (HasExcludedTrait (maps_of g)) here) a b
-      (λ e. (
-        λ p.
-            let t = p.0 in
-            let h = p.2 in
-            pair_forth (maps_of g) here x.0 (x.1, own) t.0 h.0 (pair_carried t p.1) h.1 e h.2,
+  pub carried_taken : (Old Now : List ℕ → Type 0) → Joins Old (IsOfSome (λ t. IsGreaterOfTrait (maps_of g) here t.0) ts) Now
+      → Joins Old (IsGreaterThere (maps_of g) here) Now
+  carried_taken Old Now joins =
+      joins_same Old (IsOfSome (λ t. IsGreaterOfTrait (maps_of g) here t.0) ts) (IsGreaterThere (maps_of g) here) Now
+      (λ id. (
+        λ p. let t = p.0 in (t.0, pair_carried t p.1, p.2),
         λ q.
-            let r = pair_back (maps_of g) here e q in
-            let p = carried_pair r.0 r.1 in
-            (p.0, p.1, subst (λ o. ToldOfTrait (maps_of g) here o e) (sym p.2) r.2),
+            let p = carried_pair q.0 q.1 in
+            (p.0, p.1, subst (λ o. IsGreaterOfTrait (maps_of g) here o id) (sym p.2) q.2),
+      )) joins
+
+  -- those of a set are told
+  pub carried_told : (texts : BTreeSet (Bor (List ℕ))) (a b : List ModelEvent) → Puts (ToldOf (λ t. ToldHeld here texts t.0) ts) a b
+      → Puts (IsEventAt TraitConflict (λ at id. IsHeldThere (maps_of g) at texts id) here) a b
+  carried_told texts a b h =
+      puts_same (ToldOf (λ t. ToldHeld here texts t.0) ts) (IsEventAt TraitConflict (λ at id. IsHeldThere (maps_of g) at texts id) here) a b
+      (λ e. (
+        λ p. let t = p.0 in (t.0, (pair_carried t p.1, p.2.0), p.2.1),
+        λ q.
+            let p = carried_pair q.0 q.1.0 in
+            let told : ToldHeld here texts q.0 e = (q.1.1, q.2) in
+            (p.0, p.1, subst (λ o. ToldHeld here texts o e) (sym p.2) told),
       )) h
 
 -- at a shape or member of the prelude nothing is told
@@ -197,55 +220,78 @@ pub no_excluded : (g : GraphMaps) (id : List ℕ) (es : List ModelEvent) → is_
 no_excluded g id es of_prelude =
     puts_none (IsEventAt TraitConflict (HasExcludedTrait g) id) es (λ e h. apart (sym h.1.own.1 ∙ of_prelude))
 
-module _ (g : GraphMaps) (id trait : List ℕ) where
+module _ (g : GraphMaps) (at trait : List ℕ) where
   -- what isn't there excludes nothing
-  pub nothing_told : fin.get g.shapes trait ≡ None → (es : List ModelEvent) → Puts (ToldOfTrait g id trait) es es
-  nothing_told none es =
-      puts_none (ToldOfTrait g id trait) es
-      (λ e h. subst (IsEntryText h.0)
+  pub nothing_taken : fin.get g.shapes trait ≡ None → (Old : List ℕ → Type 0) → Joins Old (IsGreaterOfTrait g at trait) Old
+  nothing_taken none Old =
+      joins_none Old (IsGreaterOfTrait g at trait)
+      (λ id h. subst (IsEntryText h.0)
       (ap (λ o. cond (is_shape o && not (is_prelude_id trait)) (conflicts_in (trait_of g trait trait_id)) no_nodes) none) h.1)
 
   -- of some, and then of others
-  pub any_joined : (P Q R : List ℕ → Type 0) → ((o : List ℕ) → R o ↔ (P o ⊎ Q o)) → (a b c : List ModelEvent)
-      → Puts (ToldAny g id trait P) a b → Puts (ToldAny g id trait Q) b c → Puts (ToldAny g id trait R) a c
-  any_joined P Q R joins a b c h k =
-      puts_same (λ e. ToldAny g id trait P e ⊎ ToldAny g id trait Q e) (ToldAny g id trait R) a c
-      (λ e. (
+  pub any_joined : (P Q R : List ℕ → Type 0) → ((o : List ℕ) → R o ↔ (P o ⊎ Q o)) → (Old Mid Now : List ℕ → Type 0)
+      → Joins Old (IsGreaterOfAny g at trait P) Mid → Joins Mid (IsGreaterOfAny g at trait Q) Now
+      → Joins Old (IsGreaterOfAny g at trait R) Now
+  any_joined P Q R joins Old Mid Now h k =
+      joins_same Old (λ id. IsGreaterOfAny g at trait P id ⊎ IsGreaterOfAny g at trait Q id) (IsGreaterOfAny g at trait R) Now
+      (λ id. (
         λ s. elim s [ inl p ↦ (p.0, (joins p.0).1 (inl p.1), p.2) | inr q ↦ (q.0, (joins q.0).1 (inr q.1), q.2) ],
         λ r. elim ((joins r.0).0 r.1) [ inl p ↦ inl (r.0, p, r.2) | inr q ↦ inr (r.0, q, r.2) ],
-      )) (puts_both (ToldAny g id trait P) (ToldAny g id trait Q) a b c h k)
+      )) (joins_both Old (IsGreaterOfAny g at trait P) Mid (IsGreaterOfAny g at trait Q) Now h k)
 
   -- the same in other words
-  pub any_same : (P R : List ℕ → Type 0) → ((o : List ℕ) → P o ↔ R o) → (a b : List ModelEvent)
-      → Puts (ToldAny g id trait P) a b → Puts (ToldAny g id trait R) a b
-  any_same P R same a b h =
-      puts_same (ToldAny g id trait P) (ToldAny g id trait R) a b
-      (λ e. (λ p. (p.0, (same p.0).0 p.1, p.2), λ r. (r.0, (same r.0).1 r.1, r.2))) h
+  pub any_same : (P R : List ℕ → Type 0) → ((o : List ℕ) → P o ↔ R o) → (Old Now : List ℕ → Type 0)
+      → Joins Old (IsGreaterOfAny g at trait P) Now → Joins Old (IsGreaterOfAny g at trait R) Now
+  any_same P R same Old Now h =
+      joins_same Old (IsGreaterOfAny g at trait P) (IsGreaterOfAny g at trait R) Now
+      (λ id. (λ p. (p.0, (same p.0).0 p.1, p.2), λ r. (r.0, (same r.0).1 r.1, r.2))) h
 
-  pub any_none : (P : List ℕ → Type 0) → ((o : List ℕ) → P o → ⊥) → (es : List ModelEvent) → Puts (ToldAny g id trait P) es es
-  any_none P none es = puts_none (ToldAny g id trait P) es (λ e p. none p.0 p.1)
+  pub any_none : (P : List ℕ → Type 0) → ((o : List ℕ) → P o → ⊥) → (Old : List ℕ → Type 0) → Joins Old (IsGreaterOfAny g at trait P) Old
+  any_none P none Old = joins_none Old (IsGreaterOfAny g at trait P) (λ id p. none p.0 p.1)
 
   -- of the text that an entry is
-  pub of_text : (n : Node) (other : List ℕ) → n ≡ text other → (a b : List ModelEvent) → Puts (ToldBoth g id trait other) a b
-      → Puts (ToldAny g id trait (λ o. n ≡ text o)) a b
-  of_text n other is a b h =
-      puts_same (ToldBoth g id trait other) (ToldAny g id trait (λ o. n ≡ text o)) a b
-      (λ e. (
+  pub of_text : (n : Node) (other : List ℕ) → n ≡ text other → (Old Now : List ℕ → Type 0)
+      → Joins Old (IsGreaterOfBoth g at trait other) Now → Joins Old (IsGreaterOfAny g at trait (λ o. n ≡ text o)) Now
+  of_text n other is Old Now h =
+      joins_same Old (IsGreaterOfBoth g at trait other) (IsGreaterOfAny g at trait (λ o. n ≡ text o)) Now
+      (λ id. (
         λ t. (other, is, t),
-        λ t. subst (λ o. ToldBoth g id trait o e) (same_Some t.0 other (ap text_in (sym t.1 ∙ is))) t.2,
+        λ t. subst (λ o. IsGreaterOfBoth g at trait o id) (same_Some t.0 other (ap text_in (sym t.1 ∙ is))) t.2,
       )) h
 
 -- where a test passes, and where it doesn't
-pub puts_passing : (Told : EventTold → Type 0) (test : Bool) → test ≡ true → (a b : List ModelEvent) → Puts Told a b
-    → Puts (λ e. (test ≡ true) × Told e) a b
-puts_passing Told test passes a b h = puts_same Told (λ e. (test ≡ true) × Told e) a b (λ e. (λ t. (passes, t), λ p. p.1)) h
+module _ (P Old : List ℕ → Type 0) (test : Bool) where
+  pub takes_passing : test ≡ true → (Now : List ℕ → Type 0) → Joins Old P Now → Joins Old (λ id. (test ≡ true) × P id) Now
+  takes_passing passes Now h = joins_same Old P (λ id. (test ≡ true) × P id) Now (λ id. (λ t. (passes, t), λ p. p.1)) h
 
-pub puts_failing : (Told : EventTold → Type 0) (test : Bool) → test ≡ false → (es : List ModelEvent)
-    → Puts (λ e. (test ≡ true) × Told e) es es
-puts_failing Told test fails es = puts_none (λ e. (test ≡ true) × Told e) es (λ e p. apart (sym fails ∙ p.0))
+  pub takes_failing : test ≡ false → Joins Old (λ id. (test ≡ true) × P id) Old
+  takes_failing fails = joins_none Old (λ id. (test ≡ true) × P id) (λ id p. apart (sym fails ∙ p.0))
+
+-- of one element of a list after the other
+module _ {X : Type 0} (Is : X → List ℕ → Type 0) where
+  pub none_of_some : (Old : List ℕ → Type 0) → Joins Old (IsOfSome Is []) Old
+  none_of_some Old = joins_none Old (IsOfSome Is []) (λ id h. contains_none h.0 h.1)
+
+  some_more : (xs : List X) (x : X) (id : List ℕ) → (IsOfSome Is xs id ⊎ Is x id) ↔ IsOfSome Is (xs ++ x ∷ []) id
+  some_more xs x id = (
+    λ h. elim h [ inl o ↦ (o.0, Contains-append_left xs (x ∷ []) o.0 o.1, o.2) | inr last ↦ (x, Contains-push xs x, last) ],
+    λ h. elim (Contains-push_cases xs x h.0 h.1) [
+      | inl o ↦ inl (h.0, o, h.2)
+      | inr same ↦ inr (subst (λ y. Is y id) (sym same) h.2)
+    ],
+  )
+
+  pub some_next : (xs : List X) (i : ℕ) (x : X) → i < length xs → x ≡ get_or xs i x → (Old Mid Now : List ℕ → Type 0)
+      → Joins Old (IsOfSome Is (take i xs)) Mid → Joins Mid (Is x) Now → Joins Old (IsOfSome Is (take (i + 1) xs)) Now
+  some_next xs i x within is Old Mid Now h k =
+      let parts : take (i + 1) xs ≡ take i xs ++ x ∷ [] = take_more xs i x within ∙ ap (λ y. take i xs ++ y ∷ []) (sym is) in
+      subst (λ ys. Joins Old (IsOfSome Is ys) Now) (sym parts)
+      (joins_same Old (λ id. IsOfSome Is (take i xs) id ⊎ Is x id) (IsOfSome Is (take i xs ++ x ∷ [])) Now (some_more (take i xs) x)
+      (joins_both Old (IsOfSome Is (take i xs)) Mid (Is x) Now h k))
 
 -- what the table tells, and then what the shapes tell
-both_parts : (g : GraphMaps) (id greater : List ℕ) → (HasExclusiveTraits g id greater ⊎ HasExcludedTrait g id greater) ↔ HasConflict g id greater
+both_parts : (g : GraphMaps) (id greater : List ℕ)
+    → (HasExclusiveTraits g id greater ⊎ HasExcludedTrait g id greater) ↔ HasConflict g id greater
 both_parts g id greater = (λ either. elim either [ inl table ↦ by_table table | inr shape ↦ by_shape shape ], parted)
   where
     parted : HasConflict g id greater → HasExclusiveTraits g id greater ⊎ HasExcludedTrait g id greater

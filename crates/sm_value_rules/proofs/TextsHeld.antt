@@ -19,31 +19,36 @@ use Rattle.sm_tree.specs.View.{node_of, nodes_view}
 use Rattle.sm_tree.specs.declared.tree.Tree.{Tree}
 use Rattle.sm_model.specs.Relations.{IsEntryText}
 use Rattle.sm_model.specs.steps.Linking.{Joins}
+use Rattle.sm_model.proofs.Linking.{joins_same}
 use Rattle.sm_model.proofs.Worklist.{apart}
 use Rattle.sm_value_rules.specs.parts.Conflicting.{AreTextsOf, HasText, has_text}
 
 -- one text more in the set
-pub text_put : (old new : BTreeSet (Bor (List ℕ))) (key : List ℕ) (n : Node) → n ≡ text key
+pub text_put : (old new : BTreeSet (Bor (List ℕ))) (key : List ℕ)
     → sorted.UpdatesBy (λ x y. slice_cmp nat_cmp x.now y.now) (λ k. slice_cmp nat_cmp key k.now) old new true
-    → Joins (HasText old) (λ t. n ≡ text t) (HasText new)
-text_put old new key n is u t =
+    → Joins (HasText old) (λ t. key ≡ t) (HasText new)
+text_put old new key u t =
     by (bytes_eq key t) (bytes_eq-Decides key t).0 (bytes_eq-Decides key t).1
     (u.0 (record { ref_ptr = (0, 0); now = t }) ∙ ap (λ b. cond b true (has_text old t)) (is_eq-slice_cmp key t))
   where
     by : (b : Bool) → (b ≡ true → key ≡ t) → (key ≡ t → b ≡ true) → has_text new t ≡ cond b true (has_text old t)
-        → HasText new t ↔ (HasText old t ⊎ (n ≡ text t))
-    by true same from e = (λ h. inr (is ∙ ap text (same refl)), λ h. e)
-    by false same from e = (
-      λ h. inl (sym e ∙ h),
-      λ h. elim h [ inl o ↦ e ∙ o | inr p ↦ absurd (apart (from (same_Some key t (ap text_in (sym is ∙ p))))) ],
-    )
+        → HasText new t ↔ (HasText old t ⊎ (key ≡ t))
+    by true same from e = (λ h. inr (same refl), λ h. e)
+    by false same from e = (λ h. inl (sym e ∙ h), λ h. elim h [ inl o ↦ e ∙ o | inr p ↦ absurd (apart (from p)) ])
+
+-- the text that an entry is
+pub entry_put : (Old New : List ℕ → Type 0) (key : List ℕ) (n : Node) → n ≡ text key → Joins Old (λ t. key ≡ t) New
+    → Joins Old (λ t. n ≡ text t) New
+entry_put Old New key n is joins =
+    joins_same Old (λ t. key ≡ t) (λ t. n ≡ text t) New
+    (λ t. (λ same. is ∙ ap text same, λ as_text. same_Some key t (ap text_in (sym is ∙ as_text)))) joins
 
 -- none at first
-pub texts_none : (texts : BTreeSet (Bor (List ℕ))) → texts.keys ≡ [] → AreTextsOf no_nodes texts
-texts_none texts none t = (
-  λ h. absurd (apart (sym (ap (list_any (λ (k : Bor (List ℕ)). is_eq (slice_cmp nat_cmp t k.now))) none) ∙ h)),
-  λ h. absurd h,
-)
+pub none_held : (texts : BTreeSet (Bor (List ℕ))) → texts.keys ≡ [] → (t : List ℕ) → has_text texts t ≡ false
+none_held texts none t = ap (list_any (λ (k : Bor (List ℕ)). is_eq (slice_cmp nat_cmp t k.now))) none
+
+pub texts_none : (texts : BTreeSet (Bor (List ℕ))) → ((t : List ℕ) → has_text texts t ≡ false) → AreTextsOf no_nodes texts
+texts_none texts none t = (λ h. absurd (apart (sym (none t) ∙ h)), λ h. absurd h)
 
 -- one entry more
 pub entry_more : (key : List ℕ) (xs : List Tree) (x : Tree) → IsEntryText key (nodes_of (nodes_view (xs ++ x ∷ [])))
@@ -67,7 +72,8 @@ pub entries_next : (xs : List Tree) (i : ℕ) (x : Tree) → i < length xs → x
     ↔ (IsEntryText key (nodes_of (nodes_view (take i xs))) ⊎ (node_of x ≡ text key))
 entries_next xs i x within is key =
     let parts : take (i + 1) xs ≡ take i xs ++ x ∷ [] = take_more xs i x within ∙ ap (λ y. take i xs ++ y ∷ []) (sym is) in
-    subst (λ ys. IsEntryText key (nodes_of (nodes_view ys)) ↔ (IsEntryText key (nodes_of (nodes_view (take i xs))) ⊎ (node_of x ≡ text key)))
+    let before = IsEntryText key (nodes_of (nodes_view (take i xs))) in
+    subst (λ ys. IsEntryText key (nodes_of (nodes_view ys)) ↔ (before ⊎ (node_of x ≡ text key)))
     (sym parts) (entry_more key (take i xs) x)
 
 pub texts_next : (xs : List Tree) (i : ℕ) (x : Tree) → i < length xs → x ≡ get_or xs i x → (old new : BTreeSet (Bor (List ℕ)))

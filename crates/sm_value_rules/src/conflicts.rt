@@ -9,10 +9,12 @@ ghost use Rattle.sm_model.specs.GraphView.{IsShapeNumber, maps_of};
 ghost use Rattle.sm_model.specs.PreludeShapes.{is_prelude_id};
 ghost use Rattle.sm_model.specs.Reaching.{id_of_number};
 ghost use Rattle.sm_model.specs.Relations.{IsEntryText};
+ghost use Rattle.sm_model.specs.steps.Linking.{Joins};
 ghost use Rattle.sm_rules.specs.RuleEvents.{IsEventAt, IsEventOf, Puts};
 ghost use Rattle.sm_rules.specs.declared.rule.Rule.TheVariants.{TraitConflict};
-ghost use Rattle.sm_value_rules.specs.parts.Conflicting.{AreExcluded, AreTextsOf, HasText, ToldAny, ToldBoth, ToldGreater, ToldIn};
-ghost use Rattle.sm_value_rules.specs.parts.Conflicting.{ToldOfTrait, conflicts_in, conflicts_under};
+ghost use Rattle.sm_value_rules.specs.parts.Conflicting.{AreExcluded, AreTextsOf, HasText, IsGreaterBy, IsGreaterIfHeld};
+ghost use Rattle.sm_value_rules.specs.parts.Conflicting.{IsGreaterOfAny, IsGreaterOfBoth, IsGreaterOfTrait, IsGreaterThere, IsHeldThere};
+ghost use Rattle.sm_value_rules.specs.parts.Conflicting.{ToldHeld, conflicts_in, conflicts_under};
 ghost use Rattle.sm_value_rules.specs.rules.Conflicts.{HasConflict, HasExcludedTrait};
 
 use crate::text_set::TextSet;
@@ -23,7 +25,7 @@ use sm_rules::carried::carries;
 use sm_rules::each::{AtEach, put_each};
 use sm_rules::exclusive::put_exclusive;
 use sm_rules::owned::is_own_shape;
-use sm_rules::putting::put_event;
+use sm_rules::putting::put_if;
 use sm_rules::rows::form::{Form, is_of_form};
 use sm_tree::{NoMemory, Tree};
 use std::alloc::Global;
@@ -44,7 +46,7 @@ pub fn put_conflicts(
 }
 
 /// Puts the events of Trait.Conflict that the shapes of traits tell. For each trait that stands somewhere the shorter of two lists is
-/// walked, with a look-up at each step: what the trait excludes, and what stands beside it.
+/// walked, with a look-up at each step: what the trait excludes, and what stands beside it. A trait is told once at each carrier.
 pub fn put_excluded(
     alloc: Global,
     graph: &Graph,
@@ -105,10 +107,10 @@ fn excluded_sets<'a>(alloc: Global, graph: &'a Graph) -> Result<Vec<TextSet<'a>>
     Ok(sets)
 }
 
-// Of each trait of a shape or member.
-fn put_carried(
+// Of the traits of a shape or member. Each is told once, whatever it stands beside.
+fn put_carried<'a>(
     alloc: Global,
-    graph: &Graph,
+    graph: &'a Graph,
     sets: &[TextSet<'_>],
     number: u32,
     events: &mut Vec<ModelEvent>,
@@ -120,39 +122,94 @@ fn put_carried(
         (Puts (IsEventAt TraitConflict (HasExcludedTrait (maps_of graph.now)) (id_of_number graph.now number))
         events.old.items events.new.items) }
 {
+    let mut told: TextSet<'a> = TextSet::new(alloc);
+    take_carried(graph, sets, number, &mut told)?;
+    put_told(alloc, graph, number, &told, events)?;
+    Ok(())
+}
+
+// Puts those of its traits that a set has.
+fn put_told(
+    alloc: Global,
+    graph: &Graph,
+    number: u32,
+    told: &TextSet<'_>,
+    events: &mut Vec<ModelEvent>,
+) -> Result<(), NoMemory>
+    requires { IsShapeNumber graph.now number }
+    ensures { OnOk result
+        (Puts (IsEventAt TraitConflict (λ at id. IsHeldThere (maps_of graph.now) at told.now.texts id) (id_of_number graph.now number))
+        events.old.items events.new.items) }
+{
     let traits = graph.traits(number);
     for pair in traits {
-        put_of_trait(alloc, graph, sets, number, pair.0.as_str(), events)?;
+        put_if_told(alloc, graph, number, told, pair.0.as_str(), events)?;
     }
     Ok(())
 }
 
-// Of one of them. What has no shape in the graph excludes nothing.
-fn put_of_trait(
+fn put_if_told(
     alloc: Global,
     graph: &Graph,
-    sets: &[TextSet<'_>],
     number: u32,
+    told: &TextSet<'_>,
     name: &str,
     events: &mut Vec<ModelEvent>,
+) -> Result<(), NoMemory>
+    requires { IsShapeNumber graph.now number }
+    ensures { OnOk result
+        (Puts (ToldHeld (id_of_number graph.now number) told.now.texts name.now) events.old.items events.new.items) }
+{
+    let wrong = told.has(name);
+    put_if(
+        alloc,
+        graph,
+        Rule::TraitConflict,
+        number,
+        wrong,
+        name,
+        events,
+    )?;
+    Ok(())
+}
+
+// Takes the greater of each two traits there of which one excludes the other.
+fn take_carried<'a>(
+    graph: &'a Graph,
+    sets: &[TextSet<'_>],
+    number: u32,
+    told: &mut TextSet<'a>,
 ) -> Result<(), NoMemory>
     requires number { IsShapeNumber graph.now number }
     requires sets { AreExcluded graph.now sets.now }
     ensures { OnOk result
-        (Puts (ToldOfTrait (maps_of graph.now) (id_of_number graph.now number) name.now) events.old.items events.new.items) }
+        (Joins (HasText told.old.texts) (IsGreaterThere (maps_of graph.now) (id_of_number graph.now number)) (HasText told.new.texts)) }
+{
+    let traits = graph.traits(number);
+    for pair in traits {
+        take_of_trait(graph, sets, number, pair.0.as_str(), told)?;
+    }
+    Ok(())
+}
+
+// Of one of them and those that it excludes. What has no shape in the graph excludes nothing.
+fn take_of_trait<'a>(
+    graph: &'a Graph,
+    sets: &[TextSet<'_>],
+    number: u32,
+    name: &'a str,
+    told: &mut TextSet<'a>,
+) -> Result<(), NoMemory>
+    requires number { IsShapeNumber graph.now number }
+    requires sets { AreExcluded graph.now sets.now }
+    ensures { OnOk result
+        (Joins (HasText told.old.texts) (IsGreaterOfTrait (maps_of graph.now) (id_of_number graph.now number) name.now)
+        (HasText told.new.texts)) }
 {
     match graph.number(name) {
         Some(found) => {
             let conflicts = conflicts_at(graph, found);
-            put_shorter(
-                alloc,
-                graph,
-                number,
-                name,
-                conflicts,
-                &sets[found as usize],
-                events,
-            )?;
+            take_shorter(graph, number, name, conflicts, &sets[found as usize], told)?;
             Ok(())
         }
         None => Ok(()),
@@ -160,66 +217,63 @@ fn put_of_trait(
 }
 
 // Of one that excludes these.
-fn put_shorter(
-    alloc: Global,
-    graph: &Graph,
+fn take_shorter<'a>(
+    graph: &'a Graph,
     number: u32,
-    name: &str,
-    conflicts: &[Tree],
+    name: &'a str,
+    conflicts: &'a [Tree],
     set: &TextSet<'_>,
-    events: &mut Vec<ModelEvent>,
+    told: &mut TextSet<'a>,
 ) -> Result<(), NoMemory>
     requires number { IsShapeNumber graph.now number }
     requires set { AreTextsOf (nodes_of (nodes_view conflicts.now)) set.now.texts }
     ensures { OnOk result
-        (Puts (ToldAny (maps_of graph.now) (id_of_number graph.now number) name.now
-        (λ other. IsEntryText other (nodes_of (nodes_view conflicts.now)))) events.old.items events.new.items) }
+        (Joins (HasText told.old.texts) (IsGreaterOfAny (maps_of graph.now) (id_of_number graph.now number) name.now
+        (λ other. IsEntryText other (nodes_of (nodes_view conflicts.now)))) (HasText told.new.texts)) }
 {
     if conflicts.len() <= graph.traits(number).len() {
-        put_entries(alloc, graph, number, name, conflicts, events)?;
+        take_entries(graph, number, name, conflicts, told)?;
         Ok(())
     } else {
-        put_named(alloc, graph, number, name, set, events)?;
+        take_named(graph, number, name, set, told)?;
         Ok(())
     }
 }
 
 // Of each entry that stands beside it.
-fn put_entries(
-    alloc: Global,
+fn take_entries<'a>(
     graph: &Graph,
     number: u32,
-    name: &str,
-    conflicts: &[Tree],
-    events: &mut Vec<ModelEvent>,
+    name: &'a str,
+    conflicts: &'a [Tree],
+    told: &mut TextSet<'a>,
 ) -> Result<(), NoMemory>
     requires { IsShapeNumber graph.now number }
     ensures { OnOk result
-        (Puts (ToldAny (maps_of graph.now) (id_of_number graph.now number) name.now
-        (λ other. IsEntryText other (nodes_of (nodes_view conflicts.now)))) events.old.items events.new.items) }
+        (Joins (HasText told.old.texts) (IsGreaterOfAny (maps_of graph.now) (id_of_number graph.now number) name.now
+        (λ other. IsEntryText other (nodes_of (nodes_view conflicts.now)))) (HasText told.new.texts)) }
 {
     for entry in conflicts {
-        put_entry(alloc, graph, number, name, entry, events)?;
+        take_entry(graph, number, name, entry, told)?;
     }
     Ok(())
 }
 
-fn put_entry(
-    alloc: Global,
+fn take_entry<'a>(
     graph: &Graph,
     number: u32,
-    name: &str,
-    entry: &Tree,
-    events: &mut Vec<ModelEvent>,
+    name: &'a str,
+    entry: &'a Tree,
+    told: &mut TextSet<'a>,
 ) -> Result<(), NoMemory>
     requires { IsShapeNumber graph.now number }
     ensures { OnOk result
-        (Puts (ToldAny (maps_of graph.now) (id_of_number graph.now number) name.now (λ other. node_of entry.now ≡ text other))
-        events.old.items events.new.items) }
+        (Joins (HasText told.old.texts) (IsGreaterOfAny (maps_of graph.now) (id_of_number graph.now number) name.now
+        (λ other. node_of entry.now ≡ text other)) (HasText told.new.texts)) }
 {
     match text_of(entry) {
         Some(other) => {
-            put_both(alloc, graph, number, name, other, events)?;
+            take_both(graph, number, name, other, told)?;
             Ok(())
         }
         None => Ok(()),
@@ -227,42 +281,40 @@ fn put_entry(
 }
 
 // Of each trait that stands beside it and is in the set.
-fn put_named(
-    alloc: Global,
-    graph: &Graph,
+fn take_named<'a>(
+    graph: &'a Graph,
     number: u32,
-    name: &str,
+    name: &'a str,
     set: &TextSet<'_>,
-    events: &mut Vec<ModelEvent>,
+    told: &mut TextSet<'a>,
 ) -> Result<(), NoMemory>
     requires { IsShapeNumber graph.now number }
     ensures { OnOk result
-        (Puts (ToldAny (maps_of graph.now) (id_of_number graph.now number) name.now (HasText set.now.texts))
-        events.old.items events.new.items) }
+        (Joins (HasText told.old.texts) (IsGreaterOfAny (maps_of graph.now) (id_of_number graph.now number) name.now
+        (HasText set.now.texts)) (HasText told.new.texts)) }
 {
     let traits = graph.traits(number);
     for pair in traits {
-        put_if_named(alloc, graph, number, name, set, pair.0.as_str(), events)?;
+        take_if_held(graph, number, name, set, pair.0.as_str(), told)?;
     }
     Ok(())
 }
 
-fn put_if_named(
-    alloc: Global,
+fn take_if_held<'a>(
     graph: &Graph,
     number: u32,
-    name: &str,
+    name: &'a str,
     set: &TextSet<'_>,
-    other: &str,
-    events: &mut Vec<ModelEvent>,
+    other: &'a str,
+    told: &mut TextSet<'a>,
 ) -> Result<(), NoMemory>
     requires { IsShapeNumber graph.now number }
     ensures { OnOk result
-        (Puts (ToldIn (maps_of graph.now) (id_of_number graph.now number) name.now set.now.texts other.now)
-        events.old.items events.new.items) }
+        (Joins (HasText told.old.texts)
+        (IsGreaterIfHeld (maps_of graph.now) (id_of_number graph.now number) name.now set.now.texts other.now) (HasText told.new.texts)) }
 {
     if set.has(other) {
-        put_both(alloc, graph, number, name, other, events)?;
+        take_both(graph, number, name, other, told)?;
         Ok(())
     } else {
         Ok(())
@@ -270,49 +322,39 @@ fn put_if_named(
 }
 
 // Of two traits, where the other stands there too.
-fn put_both(
-    alloc: Global,
+fn take_both<'a>(
     graph: &Graph,
     number: u32,
-    name: &str,
-    other: &str,
-    events: &mut Vec<ModelEvent>,
+    name: &'a str,
+    other: &'a str,
+    told: &mut TextSet<'a>,
 ) -> Result<(), NoMemory>
     requires { IsShapeNumber graph.now number }
     ensures { OnOk result
-        (Puts (ToldBoth (maps_of graph.now) (id_of_number graph.now number) name.now other.now)
-        events.old.items events.new.items) }
+        (Joins (HasText told.old.texts) (IsGreaterOfBoth (maps_of graph.now) (id_of_number graph.now number) name.now other.now)
+        (HasText told.new.texts)) }
 {
     if carries(graph, number, other) {
-        put_greater(alloc, graph, number, name, other, events)?;
+        take_greater(name, other, told)?;
         Ok(())
     } else {
         Ok(())
     }
 }
 
-// Puts the greater of two traits.
-fn put_greater(
-    alloc: Global,
-    graph: &Graph,
-    number: u32,
-    name: &str,
-    other: &str,
-    events: &mut Vec<ModelEvent>,
-) -> Result<(), NoMemory>
-    requires { IsShapeNumber graph.now number }
+// Takes the greater of two traits.
+fn take_greater<'a>(name: &'a str, other: &'a str, told: &mut TextSet<'a>) -> Result<(), NoMemory>
     ensures { OnOk result
-        (Puts (ToldGreater (text_cmp name.now other.now) (id_of_number graph.now number) name.now other.now)
-        events.old.items events.new.items) }
+        (Joins (HasText told.old.texts) (IsGreaterBy (text_cmp name.now other.now) name.now other.now) (HasText told.new.texts)) }
 {
     match order_of(name, other) {
         Ordering::Less => {
-            put_event(alloc, graph, Rule::TraitConflict, number, other, events)?;
+            told.put(other)?;
             Ok(())
         }
         Ordering::Equal => Ok(()),
         Ordering::Greater => {
-            put_event(alloc, graph, Rule::TraitConflict, number, name, events)?;
+            told.put(name)?;
             Ok(())
         }
     }

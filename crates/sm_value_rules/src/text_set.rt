@@ -1,5 +1,5 @@
-// The texts among the entries of a list, as a set.
-ghost use Rattle.std.specs.Prelude.{◌≡◌, IfOk, OnOk};
+// Sets of texts that are borrowed, as those among the entries of a list.
+ghost use Rattle.std.specs.Prelude.{◌≡◌, ℕ, List, IfOk, OnOk, false};
 ghost use Rattle.sm_tree.specs.Node.{nodes_of, text};
 ghost use Rattle.sm_tree.specs.View.{node_of, nodes_view};
 ghost use Rattle.sm_model.specs.steps.Linking.{Joins};
@@ -18,34 +18,52 @@ pub struct TextSet<'a> {
 }
 
 impl<'a> TextSet<'a> {
+    /// No texts. No memory.
+    pub fn new(alloc: Global) -> Self
+        ensures { (t : List ℕ) → has_text result.texts t ≡ false }
+    {
+        let texts: BTreeSet<&'a str> = BTreeSet::new(alloc);
+        TextSet { texts }
+    }
+
     /// The texts among some entries. n log n. `NoMemory` where there is no room for them.
     pub fn among(alloc: Global, entries: &'a [Tree]) -> Result<Self, NoMemory>
         ensures { IfOk result (λ set. AreTextsOf (nodes_of (nodes_view entries.now)) set.texts) }
     {
-        let mut texts: BTreeSet<&'a str> = BTreeSet::new(alloc);
+        let mut set = TextSet::new(alloc);
         for entry in entries {
-            put_text(&mut texts, entry)?;
+            set.put_entry(entry)?;
         }
-        Ok(TextSet { texts })
+        Ok(set)
+    }
+
+    /// Puts a text. `NoMemory` where there is no room for it.
+    pub fn put(&mut self, name: &'a str) -> Result<(), NoMemory>
+        ensures { OnOk result (Joins (HasText self.old.texts) (λ t. name.now ≡ t) (HasText self.new.texts)) }
+    {
+        match self.texts.insert(name) {
+            Ok(_) => Ok(()),
+            Err(_) => Err(NoMemory),
+        }
+    }
+
+    // Puts the text that an entry is.
+    fn put_entry(&mut self, entry: &'a Tree) -> Result<(), NoMemory>
+        ensures { OnOk result (Joins (HasText self.old.texts) (λ t. node_of entry.now ≡ text t) (HasText self.new.texts)) }
+    {
+        match text_of(entry) {
+            Some(name) => {
+                self.put(name)?;
+                Ok(())
+            }
+            None => Ok(()),
+        }
     }
 
     /// Whether a text is one of them. No memory.
-    pub fn has(&self, text: &str) -> bool
-        ensures { result ≡ has_text self.now.texts text.now }
+    pub fn has(&self, name: &str) -> bool
+        ensures { result ≡ has_text self.now.texts name.now }
     {
-        self.texts.contains(text)
-    }
-}
-
-// Puts the text that an entry is.
-fn put_text<'a>(texts: &mut BTreeSet<&'a str>, entry: &'a Tree) -> Result<(), NoMemory>
-    ensures { OnOk result (Joins (HasText texts.old) (λ t. node_of entry.now ≡ text t) (HasText texts.new)) }
-{
-    match text_of(entry) {
-        Some(name) => match texts.insert(name) {
-            Ok(_) => Ok(()),
-            Err(_) => Err(NoMemory),
-        },
-        None => Ok(()),
+        self.texts.contains(name)
     }
 }

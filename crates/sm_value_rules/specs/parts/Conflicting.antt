@@ -3,6 +3,7 @@ use Rattle.std.specs.Prelude.{◌≡◌, ◌↔◌, ◌<◌, ℕ, Bool, true, Li
 use denote.Ref.{Bor}
 use Rattle.std.specs.BTreeSet.{BTreeSet, contains_by}
 use Rattle.std.specs.Cmp.Lexicographic.{slice_cmp}
+use Rattle.std.specs.List.{Contains}
 use Rattle.std.specs.Option.{option_and_then, unwrap_or}
 use Rattle.std.specs.Ordering.{nat_cmp}
 use Rattle.std.specs.declared.cmp.Ordering.{Ordering}
@@ -23,6 +24,7 @@ use Rattle.sm_rules.specs.declared.rule.Rule.TheVariants.{TraitConflict}
 use Rattle.sm_rules.specs.parts.Carrying.{carries}
 use Rattle.sm_rules.specs.parts.Folded.{is_own_shape}
 use Rattle.sm_rules.specs.parts.Forms.{is_trait_value}
+use Rattle.sm_rules.specs.parts.Putting.{IsWhere}
 use Rattle.sm_value_rules.specs.declared.text_set.TextSet.{TextSet}
 
 -- the entries of `conflicts` in the value of `trait`, where it reads, and those of a shape outside of the prelude
@@ -54,22 +56,36 @@ pub record AreExcluded (g : Graph) (sets : List TextSet) : Type 0 where
   pub whole : length sets ≡ length (entries_of g)
   pub each : AreExcludedBelow g sets
 
--- the greater of two ids is told; nothing of one with itself
-abbrev pub ToldGreater : Ordering → List ℕ → List ℕ → List ℕ → EventTold → Type 0
-ToldGreater Less id one other e = e ≡ rule_event TraitConflict id other
-ToldGreater Equal id one other e = ⊥
-ToldGreater Greater id one other e = e ≡ rule_event TraitConflict id one
+-- the greater of two ids; none of one and itself
+abbrev pub IsGreaterBy : Ordering → List ℕ → List ℕ → List ℕ → Type 0
+IsGreaterBy Less one other id = other ≡ id
+IsGreaterBy Equal one other id = ⊥
+IsGreaterBy Greater one other id = one ≡ id
 
--- where another trait stands there too; and it is one of which something holds
-abbrev pub ToldBoth : GraphMaps → List ℕ → List ℕ → List ℕ → EventTold → Type 0
-ToldBoth g id trait other e = (carries g other id ≡ true) × ToldGreater (text_cmp trait other) id trait other e
+-- of a trait and another that stands there too; and that is one of which something holds
+abbrev pub IsGreaterOfBoth : GraphMaps → List ℕ → List ℕ → List ℕ → List ℕ → Type 0
+IsGreaterOfBoth g at trait other id = (carries g other at ≡ true) × IsGreaterBy (text_cmp trait other) trait other id
 
-abbrev pub ToldAny : GraphMaps → List ℕ → List ℕ → (List ℕ → Type 0) → EventTold → Type 0
-ToldAny g id trait Holds e = (other : List ℕ) × Holds other × ToldBoth g id trait other e
+abbrev pub IsGreaterOfAny : GraphMaps → List ℕ → List ℕ → (List ℕ → Type 0) → List ℕ → Type 0
+IsGreaterOfAny g at trait Holds id = (other : List ℕ) × Holds other × IsGreaterOfBoth g at trait other id
 
-abbrev pub ToldIn : GraphMaps → List ℕ → List ℕ → BTreeSet (Bor (List ℕ)) → List ℕ → EventTold → Type 0
-ToldIn g id trait texts other e = HasText texts other × ToldBoth g id trait other e
+abbrev pub IsGreaterIfHeld : GraphMaps → List ℕ → List ℕ → BTreeSet (Bor (List ℕ)) → List ℕ → List ℕ → Type 0
+IsGreaterIfHeld g at trait texts other id = HasText texts other × IsGreaterOfBoth g at trait other id
 
--- of a trait: one that its shape excludes
-abbrev pub ToldOfTrait : GraphMaps → List ℕ → List ℕ → EventTold → Type 0
-ToldOfTrait g id trait e = ToldAny g id trait (λ other. IsEntryText other (conflicts_under g trait)) e
+-- of a trait and one that its shape excludes; and of any trait that stands there
+abbrev pub IsGreaterOfTrait : GraphMaps → List ℕ → List ℕ → List ℕ → Type 0
+IsGreaterOfTrait g at trait id = IsGreaterOfAny g at trait (λ other. IsEntryText other (conflicts_under g trait)) id
+
+abbrev pub IsGreaterThere : GraphMaps → List ℕ → List ℕ → Type 0
+IsGreaterThere g at id = (trait : List ℕ) × (carries g trait at ≡ true) × IsGreaterOfTrait g at trait id
+
+-- it is said of one of these
+abbrev pub IsOfSome : {X : Type 0} → (X → List ℕ → Type 0) → List X → List ℕ → Type 0
+IsOfSome Is xs id = (x : _) × Contains xs x × Is x id
+
+-- what is told of the traits that stand there and that a set has
+abbrev pub IsHeldThere : GraphMaps → List ℕ → BTreeSet (Bor (List ℕ)) → List ℕ → Type 0
+IsHeldThere g at texts id = (carries g id at ≡ true) × HasText texts id
+
+abbrev pub ToldHeld : List ℕ → BTreeSet (Bor (List ℕ)) → List ℕ → EventTold → Type 0
+ToldHeld at texts id e = IsWhere (has_text texts id) (rule_event TraitConflict at id) e
