@@ -1,5 +1,6 @@
 -- What a table of the shapes that a pass asks for tells of a node is what the definition tells.
-use Rattle.std.proofs.Common.{◌≡◌, inl, inr, ℕ, ◌<◌, ◌≤◌, ◌+◌, Bool, true, false, List, [], ◌∷◌, ◌++◌, length, map, Option, Some, None, refl, sym}
+use Rattle.std.proofs.Common.{◌≡◌, inl, inr, ℕ, ◌<◌, ◌≤◌, ◌+◌, Bool, true, false, List, [], ◌∷◌, ◌++◌, length, map, Option, Some, None}
+use Rattle.std.proofs.Common.{refl, sym}
 use Rattle.std.proofs.Common.{ap, ◌∙◌, subst, arith}
 use Rattle.std.specs.Prelude.{Ok, Err, slice_get}
 use Rattle.std.specs.List.{Contains}
@@ -101,10 +102,12 @@ module _ (g : Graph) where
         ready = record {
           few = is.few;
           rise = is.rise;
-          whole = ap shape_count full ∙ sym (each_length (SaysShape (maps_of g) t.patterns is.numbering) is.numbering.shapes t.shapes is.compiled.says_shapes) ∙ ap length is.named
-              ∙ length-map made.shapes.items (id_of_number g);
+          whole = ap shape_count full
+              ∙ sym (each_length (SaysShape (maps_of g) t.patterns is.numbering) is.numbering.shapes t.shapes is.compiled.says_shapes)
+              ∙ ap length is.named ∙ length-map made.shapes.items (id_of_number g);
           fine = fine;
-          stored = subst (λ (d : TableData). AreStored d.patterns added) (sym full) (subst (AreStored t.patterns) (sym same) is.built.stored);
+          stored = subst (λ (d : TableData). AreStored d.patterns added) (sym full)
+              (subst (AreStored t.patterns) (sym same) is.built.stored);
         };
         roots = roots;
         judged = λ k c. c;

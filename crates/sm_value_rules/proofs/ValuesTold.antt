@@ -139,7 +139,8 @@ wanted g number root t lt there named judged stands = (
 )
 
 -- by the table, or by the shape
-pub value_parts : (g : GraphMaps) (id detail : List ℕ) → (HasOtherValue g id detail ⊎ HasFaultyValue g id detail) ↔ HasWrongValue g id detail
+pub value_parts : (g : GraphMaps) (id detail : List ℕ)
+    → (HasOtherValue g id detail ⊎ HasFaultyValue g id detail) ↔ HasWrongValue g id detail
 value_parts g id detail = (λ e. elim e [ inl row ↦ by_row row | inr shape ↦ by_shape shape ], back)
   where
     back : HasWrongValue g id detail → HasOtherValue g id detail ⊎ HasFaultyValue g id detail

@@ -9,8 +9,8 @@ ghost use Rattle.sm_rules.specs.RuleEvents.{IsEventOf, Puts};
 ghost use Rattle.sm_rules.specs.declared.rule.Rule.TheVariants.{DefaultValue};
 ghost use Rattle.sm_rules.specs.parts.Putting.{Below, ToldOf};
 ghost use Rattle.sm_value_rules.specs.NodeChecks.{IsChecked};
-ghost use Rattle.sm_value_rules.specs.parts.Defaulting.{IsCheckedTarget, IsDefault, IsSaidDefault, IsWantedTarget, ToldDefault, ToldDefaults};
-ghost use Rattle.sm_value_rules.specs.parts.Defaulting.{WantsTarget};
+ghost use Rattle.sm_value_rules.specs.parts.Defaulting.{IsCheckedTarget, IsDefault, IsSaidDefault, IsWantedTarget};
+ghost use Rattle.sm_value_rules.specs.parts.Defaulting.{ToldDefault, ToldDefaults, WantsTarget};
 ghost use Rattle.sm_value_rules.specs.parts.Nodes.{AddsRoots, AreRoots, IsNodeTable};
 ghost use Rattle.sm_value_rules.specs.rules.Values.{HasWrongDefault};
 

@@ -35,8 +35,8 @@ returns-in_ok-put_event-in-Some-clause-told c =
     (subst (λ root. TellsFaults (maps_of g) root n (Some kind)) same
     (faults_told g (IsWantedTrait g) nodes.tabled (any_texts nodes.patterns) c.requires.nodes k is checked n (Some kind) told))
     c.args.events.now.items c.put_event.new.events.items
-    (subst (λ w. Puts (λ e. e ≡ rule_event TraitValue (id_of_number g c.args.number) w) c.args.events.now.items c.put_event.new.events.items)
-    c.as_str.ensures.bytes c.in_ok-put_event-in-Some.ensures)
+    (subst (λ w. Puts (λ e. e ≡ rule_event TraitValue (id_of_number g c.args.number) w) c.args.events.now.items
+    c.put_event.new.events.items) c.as_str.ensures.bytes c.in_ok-put_event-in-Some.ensures)
 
 pub returns-in-None-clause-told : goal.returns-in-None-clause-told
 returns-in-None-clause-told c =
