@@ -8,10 +8,9 @@ use Rattle.sm_json.specs.JsonText.{json_syntax}
 use Rattle.sm_model.specs.Formed.{AreFormed}
 use Rattle.sm_model.specs.Said.{Said}
 use Rattle.sm_merge.specs.Stated.{AreFormedFiles}
-use Rattle.sm_load.specs.ModelFiles.{FileGiven, HasStatements, HaveStatements, IsFirstRefused, IsRefusedAt}
+use Rattle.sm_load.specs.ModelFiles.{FileGiven, HasStatements, HaveStatements}
 use Rattle.sm_load.specs.declared.model.LoadRefusal.{LoadRefusal}
 use Rattle.sm_load.specs.declared.model.LoadRefusal.TheVariants.{Text, Limit, Rejected, NoMemory}
-use Rattle.sm_load.specs.declared.model.TextPlace.{TextPlace}
 use Rattle.sm_load.specs.parts.Stages.{AreBehind, StopsFile, StopsFiles}
 
 -- a reader's refusal that isn't out of memory is the bytes' own

@@ -1,5 +1,5 @@
 -- A graph with its events is accepted, or one of them rejects it.
-use Rattle.std.proofs.Common.{◌≡◌, ◌||◌, inl, inr, Bool, true, false, List, [], ◌∷◌, refl, sym, ap, ◌∙◌, subst}
+use Rattle.std.proofs.Common.{◌≡◌, ◌||◌, inl, inr, Bool, true, false, List, [], ◌∷◌, refl, sym, ap, ◌∙◌}
 use Rattle.std.specs.List.{Contains}
 use Rattle.std.proofs.lemmas.Bool.{true≢false}
 use Rattle.sm_model.specs.EventView.{EventTold, event_view}
@@ -8,7 +8,7 @@ use Rattle.sm_model.specs.declared.event.ModelEvent.{ModelEvent}
 use Rattle.sm_model.proofs.OneRising.{contains_behind, contains_either, contains_head, contains_none}
 use Rattle.sm_compile.proofs.TabledShapes.{mapped_from, mapped_to}
 use Rattle.sm_rules.specs.RuleEvents.{rule_event}
-use Rattle.sm_rules.specs.RuleIds.{rule_id, severity_of}
+use Rattle.sm_rules.specs.RuleIds.{rule_id}
 use Rattle.sm_load.specs.Events.{AreModelEvents}
 use Rattle.sm_load.specs.Loading.{HasError}
 use Rattle.sm_load.specs.parts.Stages.{is_error, some_grave}

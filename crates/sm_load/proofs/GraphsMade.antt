@@ -1,6 +1,5 @@
 -- The graph that files come to, and its model.
-use Rattle.std.proofs.Common.{◌≡◌, inl, inr, List, Result, Ok, Err, refl, sym, ap, ◌∙◌, subst}
-use Rattle.sm_model.specs.EventView.{EventTold}
+use Rattle.std.proofs.Common.{inl, inr, List, Result, Ok, Err, sym, subst}
 use Rattle.sm_model.specs.Graphs.{GraphMaps}
 use Rattle.sm_model.specs.GraphView.{maps_of}
 use Rattle.sm_model.specs.Said.{Said}
@@ -13,7 +12,7 @@ use Rattle.sm_load.specs.ModelFiles.{FileGiven, HaveStatements}
 use Rattle.sm_load.specs.declared.model.LoadRefusal.{LoadRefusal}
 use Rattle.sm_load.specs.declared.model.LoadRefusal.TheVariants.{Text, Limit, Rejected, NoMemory}
 use Rattle.sm_load.specs.declared.model.Model.{Model}
-use Rattle.sm_load.specs.parts.Stages.{HaveGraph, Judges, MakesGraph, Merges, StopsFiles, StopsGraph, StopsMerge}
+use Rattle.sm_load.specs.parts.Stages.{HaveGraph, Judges, MakesGraph, Merges, StopsFiles, StopsGraph}
 
 pub graph_told : (said : List (List Said)) (graph : Graph) → MergesTo said (Ok graph) → MergeInto said (maps_of graph)
 graph_told said graph merges = record { is_graph = merges.0; within = merges.1; right = merges.2 }

@@ -1,14 +1,13 @@
 -- A model file says one list of statements, or has one place where it says none; and so have several files.
-use Rattle.std.proofs.Common.{◌≡◌, ◌∷◌, ◌++◌, ℕ, List, [], Option, Some, None, Ok, Err, length, refl, sym, ap, subst, ◌∙◌, arith}
+use Rattle.std.proofs.Common.{◌≡◌, ◌∷◌, ◌++◌, ℕ, List, [], Option, Some, None, Err, length, refl, sym, ap, subst, ◌∙◌, arith}
 use Rattle.std.proofs.Math.Seq.{take-length}
 use Rattle.std.proofs.lemmas.Str.{utf8_valid_len-IsValidUpTo}
-use Rattle.std.specs.Prelude.{IsUtf8, Result}
+use Rattle.std.specs.Prelude.{IsUtf8}
 use Rattle.std.specs.Str.{IsValidUpTo}
-use Rattle.sm_tree.specs.Node.{Node}
-use Rattle.sm_tree.specs.Syntax.{IsRead, IsRefused}
+use Rattle.sm_tree.specs.Syntax.{IsRefused}
 use Rattle.sm_tree.specs.declared.refusal.SyntaxRefusal.{SyntaxRefusal}
 use Rattle.sm_tree.proofs.OneAnswer.{one_answer, refused_no_text}
-use Rattle.sm_json.specs.JsonText.{JsonText, json_syntax}
+use Rattle.sm_json.specs.JsonText.{json_syntax}
 use Rattle.sm_json.proofs.OneTree.{one_tree}
 use Rattle.sm_json.proofs.SpeltTrees.{text_json}
 use Rattle.sm_model.specs.Formed.{AreFormed}

@@ -1,13 +1,12 @@
 -- Model files load to one model, or have one refusal.
-use Rattle.std.proofs.Common.{◌≡◌, ◌<◌, inl, inr, ℕ, List, [], ◌∷◌, Result, Ok, Err, length, refl, sym, ap, subst, ◌∙◌, arith}
-use Rattle.sm_model.specs.EventView.{EventTold, event_view, events_view}
+use Rattle.std.proofs.Common.{◌≡◌, inl, inr, List, [], ◌∷◌, Result, Ok, Err, refl, ap, subst, ◌∙◌, arith}
+use Rattle.sm_model.specs.EventView.{event_view, events_view}
 use Rattle.sm_model.specs.Graphs.{GraphMaps}
 use Rattle.sm_model.specs.GraphView.{maps_of}
 use Rattle.sm_model.specs.Said.{Said}
 use Rattle.sm_model.specs.declared.event.ModelEvent.{ModelEvent}
 use Rattle.sm_merge.specs.Answers.{MergesTo}
 use Rattle.sm_merge.specs.Limits.{IsFirstPast, IsPast, IsWithinLimits}
-use Rattle.sm_merge.specs.Merged.{AreEventsOf}
 use Rattle.sm_merge.specs.Stated.{AreFormedFiles, stated_by}
 use Rattle.sm_merge.specs.declared.limit.LimitKind.{LimitKind}
 use Rattle.sm_merge.specs.declared.limit.LimitKind.TheVariants.{Shapes, Members, AllMembers, Traits}
@@ -22,7 +21,6 @@ use Rattle.sm_load.specs.ModelFiles.{FileGiven, HaveStatements}
 use Rattle.sm_load.specs.declared.model.LoadRefusal.{LoadRefusal}
 use Rattle.sm_load.specs.declared.model.LoadRefusal.TheVariants.{Text, Limit, Rejected, NoMemory}
 use Rattle.sm_load.specs.declared.model.Model.{Model}
-use Rattle.sm_load.specs.declared.model.TextPlace.{TextPlace}
 use Rattle.sm_load.proofs.OneModelFile.{all_same, files_formed, first_apart, first_same}
 use Rattle.sm_load.proofs.OneRuleList.{one_list}
 use Rattle.sm_load.proofs.SeveritiesTold.{one_of_errors, one_of_rules}

@@ -1,6 +1,5 @@
 -- An event's id and shape and detail say all of it: its severity is that of the rule of this id.
 use Rattle.std.proofs.Common.{◌≡◌, ℕ, cond, List, [], ◌∷◌, bytes_eq, map, refl, sym, ap, ◌∙◌}
-use Rattle.std.specs.List.{Contains}
 use Rattle.sm_model.specs.EventView.{AreErrors, EventTold, event_view, events_view}
 use Rattle.sm_model.specs.declared.event.ModelEvent.{ModelEvent}
 use Rattle.sm_model.specs.declared.event.Severity.{Severity}
