@@ -1,9 +1,14 @@
 pub mod NamedEvents
 pub mod SuppressionsKept
-pub mod PartsPut
+pub mod PlacesPut
 pub mod RulesPut
 pub mod ListTold
 pub mod OneRuleList
+pub mod Few
+pub mod FewIds
+pub mod FewDetails
+pub mod FewWords
+pub mod SomeRuleEvents
 pub mod SeveritiesTold
 pub mod FilesSaid
 pub mod GraphsJudged

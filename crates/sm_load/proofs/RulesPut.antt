@@ -1,5 +1,5 @@
 -- What passes put one after the other, rule by rule.
-use Rattle.std.proofs.Common.{◌≡◌, ◌⊎◌, inl, inr, ℕ, zero, suc, List, [], ◌∷◌, refl, sym, subst}
+use Rattle.std.proofs.Common.{◌≡◌, ◌⊎◌, inl, inr, zero, suc, List, [], ◌∷◌, refl, sym, subst}
 use Rattle.std.proofs.lemmas.Option.{none-some, same_Some}
 use Rattle.sm_model.specs.Graphs.{GraphMaps}
 use Rattle.sm_model.specs.declared.event.ModelEvent.{ModelEvent}
@@ -12,34 +12,35 @@ use Rattle.sm_load.specs.parts.Passes.{IsAmongRules, IsOfOne, IsOfRule}
 
 -- the rules that have a pass, the last one first
 abbrev pub passes : List Rule
-passes = rule.ShapeUnused ∷ rule.HttpMethod ∷ rule.HttpCode ∷ rule.HttpRoutes ∷ rule.WireNames ∷ rule.HttpLabels ∷ rule.HttpUri
-    ∷ rule.ServiceNames ∷ rule.ConstraintBounds ∷ rule.EnumValues ∷ rule.ShapeInfinite ∷ rule.TraitSingle ∷ rule.TraitPlace
-    ∷ rule.TraitUnknown ∷ rule.TargetKind ∷ rule.TargetMissing ∷ rule.MemberCase ∷ rule.IdCase ∷ []
+passes = rule.ShapeUnused ∷ rule.HttpMethod ∷ rule.HttpCode ∷ rule.HttpRoutes ∷ rule.WireNames ∷ rule.HttpTarget ∷ rule.HttpLabels
+    ∷ rule.HttpUri ∷ rule.ServiceNames ∷ rule.ConstraintBounds ∷ rule.DefaultValue ∷ rule.EnumValues ∷ rule.ShapeInfinite
+    ∷ rule.TraitSingle ∷ rule.TraitConflict ∷ rule.TraitPlace ∷ rule.TraitValue ∷ rule.TraitUnknown ∷ rule.TargetKind
+    ∷ rule.TargetMissing ∷ rule.MemberCase ∷ rule.IdCase ∷ []
 
--- a rule of which something is told has one
-pub has_pass : (g : GraphMaps) (r : Rule) (id detail : List ℕ) → Fails r g id detail → IsAmongRules passes r
-has_pass g rule.ShapeUnused id detail h = (0, refl)
-has_pass g rule.HttpMethod id detail h = (1, refl)
-has_pass g rule.HttpCode id detail h = (2, refl)
-has_pass g rule.HttpRoutes id detail h = (3, refl)
-has_pass g rule.WireNames id detail h = (4, refl)
-has_pass g rule.HttpLabels id detail h = (5, refl)
-has_pass g rule.HttpUri id detail h = (6, refl)
-has_pass g rule.ServiceNames id detail h = (7, refl)
-has_pass g rule.ConstraintBounds id detail h = (8, refl)
-has_pass g rule.EnumValues id detail h = (9, refl)
-has_pass g rule.ShapeInfinite id detail h = (10, refl)
-has_pass g rule.TraitSingle id detail h = (11, refl)
-has_pass g rule.TraitPlace id detail h = (12, refl)
-has_pass g rule.TraitUnknown id detail h = (13, refl)
-has_pass g rule.TargetKind id detail h = (14, refl)
-has_pass g rule.TargetMissing id detail h = (15, refl)
-has_pass g rule.MemberCase id detail h = (16, refl)
-has_pass g rule.IdCase id detail h = (17, refl)
-has_pass g rule.TraitValue id detail h = absurd h
-has_pass g rule.TraitConflict id detail h = absurd h
-has_pass g rule.DefaultValue id detail h = absurd h
-has_pass g rule.HttpTarget id detail h = absurd h
+-- each rule has one
+pub has_pass : (r : Rule) → IsAmongRules passes r
+has_pass rule.ShapeUnused = (0, refl)
+has_pass rule.HttpMethod = (1, refl)
+has_pass rule.HttpCode = (2, refl)
+has_pass rule.HttpRoutes = (3, refl)
+has_pass rule.WireNames = (4, refl)
+has_pass rule.HttpTarget = (5, refl)
+has_pass rule.HttpLabels = (6, refl)
+has_pass rule.HttpUri = (7, refl)
+has_pass rule.ServiceNames = (8, refl)
+has_pass rule.ConstraintBounds = (9, refl)
+has_pass rule.DefaultValue = (10, refl)
+has_pass rule.EnumValues = (11, refl)
+has_pass rule.ShapeInfinite = (12, refl)
+has_pass rule.TraitSingle = (13, refl)
+has_pass rule.TraitConflict = (14, refl)
+has_pass rule.TraitPlace = (15, refl)
+has_pass rule.TraitValue = (16, refl)
+has_pass rule.TraitUnknown = (17, refl)
+has_pass rule.TargetKind = (18, refl)
+has_pass rule.TargetMissing = (19, refl)
+has_pass rule.MemberCase = (20, refl)
+has_pass rule.IdCase = (21, refl)
 
 either_rule : (rules : List Rule) (r x : Rule) → IsAmongRules (r ∷ rules) x → (r ≡ x) ⊎ IsAmongRules rules x
 either_rule rules r x (zero, here) = inl (same_Some r x here)
@@ -68,5 +69,5 @@ module _ (g : GraphMaps) where
   pub all_put : (before now : List ModelEvent) → Puts (IsOfOne g passes) before now → Puts (IsOfRule g) before now
   all_put before now h = puts_same (IsOfOne g passes) (IsOfRule g) before now (λ e. (
     λ one. (one.rule, one.told),
-    λ h. record { rule = h.0; among = has_pass g h.0 h.1.0 h.1.1 h.1.2; told = h.1 },
+    λ h. record { rule = h.0; among = has_pass h.0; told = h.1 },
   )) h

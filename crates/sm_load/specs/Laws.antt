@@ -16,6 +16,10 @@ use Rattle.sm_load.specs.declared.model.Model.{Model}
 abbrev pub OneListOfRuleEvents : Type 0
 OneListOfRuleEvents = (g : GraphMaps) (es fs : List EventTold) → AreEvents g es → AreEvents g fs → Path (List EventTold) es fs
 
+-- and it can't be that it has none
+abbrev pub SomeRuleEvents : Type 0
+SomeRuleEvents = (g : GraphMaps) → ((es : List EventTold) → AreEvents g es → ⊥) → ⊥
+
 -- what files say is formed as merging asks
 abbrev pub FormedFiles : Type 0
 FormedFiles = (files : List FileGiven) (said : List (List Said)) → HaveStatements files said → AreFormedFiles said

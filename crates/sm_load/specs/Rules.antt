@@ -1,8 +1,7 @@
--- The rules of models, by the names of their events, and what each says of a shape or member of a graph. Those that aren't named have no
--- pass yet: nothing is told of them.
+-- The rules of models, by the names of their events, and what each says of a shape or member of a graph.
 use Rattle.sm_model.specs.Graphs.{GraphMaps}
 use Rattle.sm_compile.specs.rules.Constraints.{HasWrongBounds, HasWrongEnum}
-use Rattle.sm_compile.specs.rules.Http.{HasNoUri, HasSameRoute, HasWrongLabel, HasWrongStatusCode}
+use Rattle.sm_compile.specs.rules.Http.{HasNoUri, HasSameRoute, HasWrongLabel, HasWrongStatusCode, IsBoundWrongly}
 use Rattle.sm_compile.specs.rules.Names.{RepeatsName}
 use Rattle.sm_compile.specs.rules.Services.{HasWrongNames}
 use Rattle.sm_compile.specs.rules.Targets.{RefersToNothing, RefersToOther}
@@ -15,7 +14,9 @@ use Rattle.sm_rules.specs.rules.Traits.{HasUnknownTrait}
 use Rattle.sm_rules.specs.declared.rule.Rule.{Rule}
 use Rattle.sm_rules.specs.declared.rule.Rule.TheVariants as rule
 use Rattle.sm_service_rules.specs.rules.Finite.{HasNoFinite}
-use Rattle.sm_value_rules.specs.rules.Traits.{HasWrongPlace}
+use Rattle.sm_value_rules.specs.rules.Conflicts.{HasConflict}
+use Rattle.sm_value_rules.specs.rules.Traits.{HasWrongPlace, HasWrongValue}
+use Rattle.sm_value_rules.specs.rules.Values.{HasWrongDefault}
 
 -- a rule fails at a shape or member, with this detail
 abbrev pub Fails : Rule → GraphMaps → RuleFails
@@ -24,17 +25,20 @@ Fails rule.MemberCase = RepeatsName
 Fails rule.TargetMissing = RefersToNothing
 Fails rule.TargetKind = RefersToOther
 Fails rule.TraitUnknown = HasUnknownTrait
+Fails rule.TraitValue = HasWrongValue
 Fails rule.TraitPlace = HasWrongPlace
+Fails rule.TraitConflict = HasConflict
 Fails rule.TraitSingle = CarriesTwice
 Fails rule.ShapeInfinite = HasNoFinite
 Fails rule.EnumValues = HasWrongEnum
+Fails rule.DefaultValue = HasWrongDefault
 Fails rule.ConstraintBounds = HasWrongBounds
 Fails rule.ServiceNames = HasWrongNames
 Fails rule.HttpUri = HasNoUri
 Fails rule.HttpLabels = HasWrongLabel
+Fails rule.HttpTarget = IsBoundWrongly
 Fails rule.WireNames = HasWireNameAgain
 Fails rule.HttpRoutes = HasSameRoute
 Fails rule.HttpCode = HasWrongStatusCode
 Fails rule.HttpMethod = HasOtherMethod
 Fails rule.ShapeUnused = IsUnused
-Fails other = λ g id detail. ⊥

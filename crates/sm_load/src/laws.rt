@@ -1,9 +1,14 @@
 // Laws over the definitions: public functions with empty bodies, whose contracts are the laws.
-ghost use Rattle.sm_load.specs.Laws.{FormedFiles, OneListOfRuleEvents, OneLoad};
+ghost use Rattle.sm_load.specs.Laws.{FormedFiles, OneListOfRuleEvents, OneLoad, SomeRuleEvents};
 
 /// A graph has one list of events: what fails and isn't suppressed, in order, each once.
 pub fn one_list_of_rule_events()
     ensures { OneListOfRuleEvents }
+{}
+
+/// And it can't be that it has none.
+pub fn some_rule_events()
+    ensures { SomeRuleEvents }
 {}
 
 /// Model files load to one answer: each of `load` comes exactly where its reason is, but where memory runs out.

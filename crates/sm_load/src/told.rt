@@ -1,12 +1,13 @@
-// The events of the rules that stand, in order, each once.
+// The events of a graph, in order, each once.
 ghost use Rattle.std.specs.Prelude.{IfOk, OnOk};
 ghost use Rattle.sm_model.specs.GraphView.{maps_of};
 ghost use Rattle.sm_rules.specs.RuleEvents.{Puts};
 ghost use Rattle.sm_load.specs.Events.{AreModelEvents};
 ghost use Rattle.sm_load.specs.parts.Passes.{IsOfRule};
 
-use crate::joined::put_places;
+use crate::places::put_places;
 use crate::suppressed::without_suppressed;
+use sm_http_rules::bound_targets::put_bound_targets;
 use sm_http_rules::labels::put_labels;
 use sm_http_rules::routes::put_routes;
 use sm_http_rules::wire_names::put_wire_names;
@@ -27,9 +28,21 @@ use sm_target_rules::enums::put_enums;
 use sm_target_rules::kinds::put_kinds;
 use sm_target_rules::missing::put_missing;
 use sm_tree::NoMemory;
+use sm_value_rules::conflicts::put_conflicts;
+use sm_value_rules::defaults::put_defaults;
+use sm_value_rules::values::put_values;
 use std::alloc::Global;
 
-/// The events of a graph by the rules that stand, without those that are suppressed. n log n.
+/// The events of a graph: all that fails by the rules of models and isn't suppressed, in order, each once and as grave as its rule.
+/// `NoMemory` where memory is refused. n log n, beside the selectors of traits and the closures of services.
+pub fn events(alloc: Global, graph: &Graph) -> Result<Vec<ModelEvent>, NoMemory>
+    ensures { IfOk result (λ es. AreModelEvents (maps_of graph.now) es.items) }
+{
+    let told = told_events(alloc, graph)?;
+    Ok(told.into_inner())
+}
+
+/// The same as one value.
 pub(crate) fn told_events(alloc: Global, graph: &Graph) -> Result<ModelEvents, NoMemory>
     ensures { IfOk result (λ es. AreModelEvents (maps_of graph.now) es) }
 {
@@ -48,14 +61,18 @@ fn put_rules(alloc: Global, graph: &Graph, events: &mut Vec<ModelEvent>) -> Resu
     put_missing(alloc, graph, events)?;
     put_kinds(alloc, graph, events)?;
     put_unknown(alloc, graph, events)?;
+    put_values(alloc, graph, events)?;
     put_places(alloc, graph, events)?;
+    put_conflicts(alloc, graph, events)?;
     put_single(alloc, graph, events)?;
     put_infinite(alloc, graph, events)?;
     put_enums(alloc, graph, events)?;
+    put_defaults(alloc, graph, events)?;
     put_bounds(alloc, graph, events)?;
     put_names(alloc, graph, events)?;
     put_uris(alloc, graph, events)?;
     put_labels(alloc, graph, events)?;
+    put_bound_targets(alloc, graph, events)?;
     put_wire_names(alloc, graph, events)?;
     put_routes(alloc, graph, events)?;
     put_codes(alloc, graph, events)?;

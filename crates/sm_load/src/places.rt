@@ -1,4 +1,4 @@
-// Rules of which two passes tell: one by the table of traits, one by the shapes of traits.
+// Trait.Place, of which two passes tell: one by the table of traits, one by the shapes of traits.
 ghost use Rattle.std.specs.Prelude.{OnOk};
 ghost use Rattle.sm_model.specs.GraphView.{maps_of};
 ghost use Rattle.sm_rules.specs.RuleEvents.{IsEventOf, Puts};
@@ -11,7 +11,7 @@ use sm_tree::NoMemory;
 use sm_value_rules::places::put_unpicked;
 use std::alloc::Global;
 
-/// Puts the events of Trait.Place.
+/// Puts its events.
 pub(crate) fn put_places(
     alloc: Global,
     graph: &Graph,

@@ -1,6 +1,6 @@
 use Rattle.sm_model.specs.GraphView.{maps_of}
-use Rattle.sm_load.proofs.PartsPut.{places_put}
-use Rattle.sm_load.proofs.joined.put_places.Goals as goal
+use Rattle.sm_load.proofs.PlacesPut.{places_put}
+use Rattle.sm_load.proofs.places.put_places.Goals as goal
 
 pub returns : goal.returns
 returns c =
