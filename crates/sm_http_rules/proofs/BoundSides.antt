@@ -1,5 +1,5 @@
 -- Which shapes stand on each side of messages, from marks of operations with `http`.
-use Rattle.std.proofs.Common.{◌≡◌, inl, inr, ℕ, Bool, true, false, List, [], ◌∷◌, length, Option, Some, None, get_or, refl, sym, ap, ◌∙◌}
+use Rattle.std.proofs.Common.{◌≡◌, inl, inr, ℕ, Bool, true, false, List, [], ◌∷◌, length, get_or, refl, sym, ap, ◌∙◌}
 use Rattle.std.proofs.Common.{subst}
 use Rattle.std.specs.Prelude.{◌↔◌, ◌&&◌, ◌||◌, is_some}
 use Rattle.std.specs.List.{Contains}
@@ -13,7 +13,6 @@ use Rattle.sm_model.specs.declared.relation.Relation.TheVariants.{Error}
 use Rattle.sm_model.proofs.NumberedIds.{number_of, related_in}
 use Rattle.sm_model.proofs.OneRising.{contains_either, contains_head, contains_none}
 use Rattle.sm_model.proofs.Searching.{and_left, and_right}
-use Rattle.sm_model.proofs.Worklist.{apart}
 use Rattle.sm_select.specs.Images.{AreImage, IsImage, turned}
 use Rattle.sm_select.specs.Picks.{LeadsAlong}
 use Rattle.sm_select.proofs.MarkedNumbers.{marks_same}

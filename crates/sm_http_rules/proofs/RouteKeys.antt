@@ -1,6 +1,6 @@
 -- The texts of routes: a pattern and a method have one, and one text is of one route.
 use Rattle.std.proofs.Common.{◌≡◌, ℕ, Bool, true, false, List, [], ◌∷◌, ◌++◌, Option, Some, None, map, refl, sym, ap, ◌∙◌, subst}
-use Rattle.std.specs.Prelude.{◌==◌, ◌||◌, ◌&&◌, codes, not}
+use Rattle.std.specs.Prelude.{◌==◌, ◌||◌, codes, not}
 use Rattle.std.specs.List.{flat_map, list_all}
 use Rattle.std.proofs.lemmas.Option.{none-some, same_Some}
 use Rattle.sm_bytes.specs.Ascii.{equals, number_sign, slash}

@@ -1,4 +1,4 @@
--- Of prefixes in order those that begin with no earlier one: a text begins with one of them where it begins with any, and a search finds it.
+-- Of prefixes in order those that begin with no earlier one: a text begins with one of them where it begins with any.
 use Rattle.std.proofs.Common.{◌≡◌, ◌⊎◌, inl, inr, ℕ, zero, suc, ◌+◌, ◌<◌, ◌≤◌, Bool, true, false, cond, List, [], ◌∷◌, ◌++◌, get_or, length}
 use Rattle.std.proofs.Common.{drop, eqb, IsPermutation, IsSortedBy, refl, sym, ap, ◌∙◌, subst, arith}
 use Rattle.std.specs.Prelude.{◌↔◌}
