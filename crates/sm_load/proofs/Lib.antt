@@ -15,3 +15,7 @@ pub mod GraphsJudged
 pub mod GraphsMade
 pub mod OneModelFile
 pub mod OneModelLoaded
+pub mod SeveritiesMade
+pub mod SomeModelLoaded
+pub mod NoErrors
+pub mod ModelsSound

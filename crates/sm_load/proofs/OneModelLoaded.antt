@@ -87,7 +87,8 @@ module _ (said : List (List Said)) (formed : AreFormedFiles said) where
 
   wrong_apart : (es : List ModelEvent) (g : GraphMaps) → MergesTo said (Err (RejectedInMerging es)) → MergeInto said g → ⊥
   wrong_apart [] g (within, all, errors, some) merged = omega (arith, some)
-  wrong_apart (e ∷ es) g (within, all, errors, some) merged = merged.right (event_view e) ((all.all (event_view e)).0 (0, omega arith, refl))
+  wrong_apart (e ∷ es) g (within, all, errors, some) merged =
+      merged.right (event_view e) ((all.all (event_view e)).0 (0, omega arith, refl))
 
   limit_rejected : (k : LimitKind) (es : List ModelEvent) → MergesTo said (Err (PastLimit k)) → AreRejected said es → ⊥
   limit_rejected k es h (inl (within, all, errors, some)) =

@@ -1,5 +1,6 @@
 // Laws over the definitions: public functions with empty bodies, whose contracts are the laws.
-ghost use Rattle.sm_load.specs.Laws.{FormedFiles, OneListOfRuleEvents, OneLoad, SomeRuleEvents};
+ghost use Rattle.sm_load.specs.Laws.{FormedFiles, OneListOfRuleEvents, OneLoad, ReadyModels, ReadyWithoutErrors, SomeLoad};
+ghost use Rattle.sm_load.specs.Laws.{SomeModelEvents, SomeRuleEvents, SoundModels, SoundWithoutErrors};
 
 /// A graph has one list of events: what fails and isn't suppressed, in order, each once.
 pub fn one_list_of_rule_events()
@@ -19,4 +20,26 @@ pub fn one_load()
 /// The statements of model files are formed as merging asks.
 pub fn formed_files()
     ensures { FormedFiles }
+{}
+
+/// In a graph in which no rule fails that rejects a model a table can be made of each shape.
+pub fn sound_without_errors()
+    ensures { SoundWithoutErrors }
+{}
+
+/// In a graph in which no rule fails that rejects a model a table can be made of each service.
+pub fn ready_without_errors()
+    ensures { ReadyWithoutErrors }
+{}
+
+/// It can't be that model files are neither accepted nor refused, nor that a graph has no events: `load` leaves no case to `NoMemory`.
+pub fn some_load()
+    ensures files { SomeLoad }
+    ensures events { SomeModelEvents }
+{}
+
+/// Of each shape and of each service of a model that is accepted a table can be made.
+pub fn sound_models()
+    ensures shapes { SoundModels }
+    ensures services { ReadyModels }
 {}

@@ -1,4 +1,4 @@
-// Events of the rules of models: all that fails and isn't suppressed, in order (Smithy 2.0, "Model validation"); and the model of model files.
+// Events of the rules of models: all that fails and isn't suppressed, in order (Smithy 2.0, "Model validation"); and models of files.
 #![tactic(auto)]
 
 pub mod laws;

@@ -1,0 +1,45 @@
+-- Where no rule fails that rejects a model, each shape is sound and each service ready.
+use Rattle.std.proofs.Common.{◌≡◌, ℕ, List, refl}
+use Rattle.sm_model.specs.Graphs.{GraphMaps}
+use Rattle.sm_model.specs.declared.event.Severity.TheVariants.{Error}
+use Rattle.sm_rules.specs.RuleIds.{severity_of}
+use Rattle.sm_rules.specs.declared.rule.Rule.{Rule}
+use Rattle.sm_rules.specs.declared.rule.Rule.TheVariants as rule
+use Rattle.sm_value_rules.specs.rules.Conflicts.{by_table}
+use Rattle.sm_value_rules.specs.rules.Traits.HasWrongPlace.{by_row as place_by_row}
+use Rattle.sm_value_rules.specs.rules.Traits.HasWrongValue.{by_row as value_by_row}
+use Rattle.sm_accepted.specs.NoneFails.{NeverFails, NoneFails}
+use Rattle.sm_accepted.proofs.ReadyGraphs.{ready_graph, sound_graph}
+use Rattle.sm_load.specs.Laws.{ReadyWithoutErrors, SoundWithoutErrors}
+use Rattle.sm_load.specs.Loading.{HasError}
+use Rattle.sm_load.specs.Rules.{Fails}
+
+module _ (g : GraphMaps) (none : HasError g → ⊥) where
+  never : (r : Rule) → severity_of r ≡ Error → NeverFails g (Fails r)
+  never r rejects id detail fails = none (record { rule = r; id = id; detail = detail; rejects = rejects; fails = fails })
+
+  none_fails : NoneFails g
+  none_fails = record {
+    member_names = never rule.MemberCase refl;
+    missing = never rule.TargetMissing refl;
+    kinds = never rule.TargetKind refl;
+    values = λ id detail h. never rule.TraitValue refl id detail (value_by_row h);
+    places = λ id detail h. never rule.TraitPlace refl id detail (place_by_row h);
+    exclusive = λ id detail h. never rule.TraitConflict refl id detail (by_table h);
+    single = never rule.TraitSingle refl;
+    enums = never rule.EnumValues refl;
+    bounds = never rule.ConstraintBounds refl;
+    names = never rule.ServiceNames refl;
+    uris = never rule.HttpUri refl;
+    labels = never rule.HttpLabels refl;
+    parts = never rule.HttpTarget refl;
+    wire_names = never rule.WireNames refl;
+    routes = never rule.HttpRoutes refl;
+    numbers = never rule.HttpCode refl;
+  }
+
+pub sound_without_errors : SoundWithoutErrors
+sound_without_errors g formed none id = sound_graph g formed (none_fails g none) id
+
+pub ready_without_errors : ReadyWithoutErrors
+ready_without_errors g formed none service = ready_graph g formed (none_fails g none) service
