@@ -4,8 +4,8 @@ use Rattle.sm_io.specs.Causes.{Rose}
 use Rattle.sm_io.specs.Files.{Holds}
 use Rattle.sm_commands.specs.Limits.{bytes_limit}
 use Rattle.sm_commands.specs.Lines.{bytes_limit_line}
-use Rattle.sm_commands.specs.ModelFiles.{ModelFile, AreRead, PassesOne}
-use Rattle.sm_commands.specs.steps.LoadSteps.{text_view, texts_view}
+use Rattle.sm_commands.specs.ModelFiles.{AreRead, PassesOne}
+use Rattle.sm_load.specs.ModelFiles.{FileGiven, file_given, given_files}
 use Rattle.sm_commands.proofs.Loads.{all_long, all_read, one_passed, reads_more}
 use Rattle.sm_commands.proofs.files.read_models.Goals as goal
 
@@ -44,8 +44,8 @@ loop-word-preserved g c =
     let few : total + length file ≤ bytes_limit = omega (arith, c.if-len-total.false, c.len.ensures, c.loop-word.invariant.within) in
     let counted : total + c.len-total.result ≡ total + length file = ap (λ k. total + k) (c.len-total.ensures ∙ long) in
     let holds = subst (λ x. Holds x name (Some file)) c.loop-word.invariant.held c.in-Ok.ensures.opens.0 in
-    let f : ModelFile = record { name = name; bytes = file } in
-    let put : texts_view c.push.new.self.items ≡ texts_view c.loop-word.read.items ++ f ∷ [] = ap texts_view c.in-Ok-push.ensures.items
+    let f : FileGiven = file_given name file in
+    let put : given_files c.push.new.self.items ≡ given_files c.loop-word.read.items ++ f ∷ [] = ap given_files c.in-Ok-push.ensures.items
     ∙ map-append text_view c.loop-word.read.items _ in
     record {
       held = c.in-Ok.ensures.held ∙ c.loop-word.invariant.held;
@@ -60,8 +60,8 @@ loop-word-preserved g c =
         λ h. (c.loop-word.invariant.same_writes n).1 ((c.in-Ok.ensures.same_writes n).1 h),
       );
       within = subst (λ k. k ≤ bytes_limit) (sym counted) few;
-      reads = λ more h. reads_more held total names (drop (i + 1) names) name file (texts_view c.loop-word.read.items)
-          (texts_view c.push.new.self.items)
+      reads = λ more h. reads_more held total names (drop (i + 1) names) name file (given_files c.loop-word.read.items)
+          (given_files c.push.new.self.items)
           (λ m all. c.loop-word.invariant.reads m (subst (λ xs. AreRead held total xs m) (sym next) all)) put holds c.in-Ok.ensures.opens.1
           few more (subst (λ k. AreRead held k (drop (i + 1) names) more) counted h);
       passes = λ a h. one_passed held total names (drop (i + 1) names) name file
@@ -73,5 +73,5 @@ pub returns-clause-reads : goal.returns-clause-reads
 returns-clause-reads g c =
     let names = c.args.names.now in
     let i = c.loop-word.word-index in
-    all_read (g.F.Files.held c.args.files.now) c.loop-word.total names (drop i names) (texts_view c.loop-word.read.items)
+    all_read (g.F.Files.held c.args.files.now) c.loop-word.total names (drop i names) (given_files c.loop-word.read.items)
     (drop_all i names (omega (arith, c.loop-word-test.false))) c.loop-word.invariant.reads

@@ -6,7 +6,7 @@ pub returns-in-Ok-clause-loads : goal.returns-in-Ok-clause-loads
 returns-in-Ok-clause-loads g c =
     file_loads (files_seen (g.F.Files.held c.args.files.now) (g.F.Files.read_faults c.args.files.now))
     (files_seen (g.F.Files.held c.open_file.new.files) (g.F.Files.read_faults c.open_file.new.files)) c.args.name.now c.in-Ok.bytes.items
-    c.graph_of_one.result c.in-Ok.ensures.opens.0 c.in-Ok.ensures.opens.1 c.graph_of_one.ensures
+    c.model_of_one.result c.in-Ok.ensures.opens.0 c.in-Ok.ensures.opens.1 c.model_of_one.ensures
 
 pub returns-in-Err-clause-loads : goal.returns-in-Err-clause-loads
 returns-in-Err-clause-loads g c =

@@ -1,9 +1,9 @@
 use Rattle.std.proofs.Common.{rules}
 use Rattle.sm_io.specs.Seen.{files_seen}
+use Rattle.sm_load.specs.ModelFiles.{given_files}
 use Rattle.sm_commands.specs.Lines.{files_limit_line}
-use Rattle.sm_commands.specs.steps.LoadSteps.{texts_view}
-use Rattle.sm_commands.proofs.Loads.{files_many, graph_loads}
-use Rattle.sm_commands.proofs.loading.load.Goals as goal
+use Rattle.sm_commands.proofs.Loads.{files_many, model_loads}
+use Rattle.sm_commands.proofs.loading.load_models.Goals as goal
 
 pub returns-then-models-gt-FILES_LIMIT-clause-loads : goal.returns-then-models-gt-FILES_LIMIT-clause-loads
 returns-then-models-gt-FILES_LIMIT-clause-loads g c =
@@ -12,6 +12,6 @@ returns-then-models-gt-FILES_LIMIT-clause-loads g c =
 
 pub returns-in-Ok-clause-loads : goal.returns-in-Ok-clause-loads
 returns-in-Ok-clause-loads g c =
-    graph_loads (files_seen (g.F.Files.held c.args.files.now) (g.F.Files.read_faults c.args.files.now))
+    model_loads (files_seen (g.F.Files.held c.args.files.now) (g.F.Files.read_faults c.args.files.now))
     (files_seen (g.F.Files.held c.read_models.new.files) (g.F.Files.read_faults c.read_models.new.files))
-    c.args.models.now (texts_view c.in-Ok.read.items) c.graph_of.result (search rules) c.in-Ok.ensures.reads c.graph_of.ensures
+    c.args.models.now (given_files c.in-Ok.read.items) c.model_of.result (search rules) c.in-Ok.ensures.reads c.model_of.ensures
