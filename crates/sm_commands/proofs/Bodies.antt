@@ -45,6 +45,7 @@ use Rattle.sm_commands.specs.steps.BodySteps.TableSays.{left_out, by_input}
 use Rattle.sm_commands.specs.steps.CommandSteps.{StepStops, StepComesTo, EndsWithLine, EndsWithLimit, EndsWithPattern, CommandComesTo}
 use Rattle.sm_commands.specs.steps.LoadSteps.{Loads}
 use Rattle.sm_commands.specs.declared.stop.Stop.{Stop}
+use Rattle.sm_commands.specs.declared.lines.Shown.TheVariants.{Errors}
 use Rattle.sm_commands.proofs.Answered.{answer_before, none_is_some}
 use Rattle.sm_commands.proofs.LongFiles.{long_list}
 use Rattle.sm_commands.proofs.Stops.{line_stops, limit_stops, pattern_stops, stops_map, comes_map}
@@ -134,14 +135,14 @@ served_comes near far one test input rest result served h =
 
 -- the whole command, by its model file
 pub body_stops : (files files1 : FilesSeen) (input : Stream) (test : Test) (store : StoreSeen) (name shape : List ℕ) (near far : BodyForm)
-    (stop : Stop) → Loads files files1 (name ∷ []) (Err stop)
+    (stop : Stop) → Loads Errors files files1 (name ∷ []) (Err stop)
     → CommandComesTo (inputs_seen files input test store) (inputs_seen files1 input test store) (body_command name shape near far)
     (Err stop)
 body_stops files files1 input test store name shape near far stop h =
     let before = inputs_seen files input test store in
     let after = inputs_seen files1 input test store in
     let command = body_command name shape near far in
-    stops_map (LoadAnswers files.held (name ∷ [])) (Answers before after command) (Rose files.faults files1.faults)
+    stops_map (LoadAnswers Errors files.held (name ∷ [])) (Answers before after command) (Rose files.faults files1.faults)
     (ReadFails before after command) (Unit {0}) (StopsShort before after command) stop
     (λ a says. answer_before before after command a (not_loaded a says refl) refl refl)
     (λ rose. inl (record { rose = rose; input = refl; refusals = refl })) (λ short. inl refl) h
@@ -175,7 +176,7 @@ module _ (files files1 : FilesSeen) (test : Test) (store store1 : StoreSeen) (na
       rose : Rose store.refusals store1.refusals
       rose = omega (arith, h.refusals)
 
-  pub body_refuses : (input : Stream) (m : Model) (stop : Stop) → Loads files files1 (name ∷ []) (Ok m)
+  pub body_refuses : (input : Stream) (m : Model) (stop : Stop) → Loads Errors files files1 (name ∷ []) (Ok m)
       → MakesTable (maps_of m.graph) shape test store store1 (Err stop) → CommandComesTo (before input) (after input) command (Err stop)
   body_refuses input m stop loads h =
       stops_map (ShapeSays (maps_of m.graph) shape store store1) (Answers (before input) (after input) command) ⊥
@@ -221,7 +222,7 @@ module _ (files files1 : FilesSeen) (test : Test) (store store1 : StoreSeen) (na
   }
 
   pub body_by : (input rest : Stream) (m : Model) (now : StoreSeen) (one : OneShape) (result : Result (Vec ℕ) Stop)
-      → Loads files files1 (name ∷ []) (Ok m) → HasTableOf (maps_of m.graph) shape test store now one → store1.refusals ≡ now.refusals
+      → Loads Errors files files1 (name ∷ []) (Ok m) → HasTableOf (maps_of m.graph) shape test store now one → store1.refusals ≡ now.refusals
       → TableComesTo near far one test input rest result → CommandComesTo (before input) (after rest) command result
   body_by input rest m now one result loads h same comes =
       let table : HasTableOf loads.0.graph shape test store now one = subst (λ g. HasTableOf g shape test store now one) loads.1.0 h in

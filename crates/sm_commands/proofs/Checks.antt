@@ -19,20 +19,21 @@ use Rattle.sm_commands.specs.steps.CheckSteps.{Checks, TellsEvents}
 use Rattle.sm_commands.specs.steps.CommandSteps.{CommandComesTo}
 use Rattle.sm_commands.specs.steps.LoadSteps.{Loads}
 use Rattle.sm_commands.specs.declared.stop.Stop.{Stop}
+use Rattle.sm_commands.specs.declared.lines.Shown.TheVariants.{All}
 use Rattle.sm_commands.proofs.Answered.{answer_before}
 use Rattle.sm_commands.proofs.Stops.{comes_map, stops_map}
 
 pub events_told : (files files1 : FilesSeen) (models : List (List ℕ)) (m : Model) (result : Result (Vec ℕ) Stop)
-    → Loads files files1 models (Ok m) → TellsEvents m.events result → Checks files files1 models result
+    → Loads All files files1 models (Ok m) → TellsEvents m.events result → Checks files files1 models result
 events_told files files1 models m result h told =
-    comes_map (λ a. a ≡ done (event_lines m.events)) (CheckSays files.held models) ⊥ (Rose files.faults files1.faults) (Unit {0}) (Unit {0})
+    comes_map (λ a. a ≡ done (event_lines All m.events)) (CheckSays files.held models) ⊥ (Rose files.faults files1.faults) (Unit {0}) (Unit {0})
     result (λ a is. checked h.0 m.events (subst (λ g. AreModelEvents g m.events) h.1.0 h.1.1) is) (λ never. absurd never)
     (λ short. short) told
 
-pub check_stops : (files files1 : FilesSeen) (models : List (List ℕ)) (stop : Stop) → Loads files files1 models (Err stop)
+pub check_stops : (files files1 : FilesSeen) (models : List (List ℕ)) (stop : Stop) → Loads All files files1 models (Err stop)
     → Checks files files1 models (Err stop)
 check_stops files files1 models stop h =
-    stops_map (LoadAnswers files.held models) (CheckSays files.held models) (Rose files.faults files1.faults)
+    stops_map (LoadAnswers All files.held models) (CheckSays files.held models) (Rose files.faults files1.faults)
     (Rose files.faults files1.faults) (Unit {0}) (Unit {0}) stop (λ a says. not_loaded says) (λ rose. rose) (λ short. short) h
 
 -- the command leaves the input as it is

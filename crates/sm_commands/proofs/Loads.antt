@@ -16,13 +16,14 @@ use Rattle.sm_load.specs.declared.model.TextPlace.{TextPlace}
 use Rattle.sm_commands.specs.Answer.{Answer, past, refused}
 use Rattle.sm_commands.specs.IdlLines.{text_line}
 use Rattle.sm_commands.specs.Limits.{files_limit, file_limit, bytes_limit}
-use Rattle.sm_commands.specs.Lines.{bytes_limit_line, event_line, event_lines, files_limit_line, size_limit_line}
+use Rattle.sm_commands.specs.Lines.{bytes_limit_line, event_lines, files_limit_line, shown_line, size_limit_line}
 use Rattle.sm_commands.specs.Loading.{FilesRead, LoadAnswers, name_at}
 use Rattle.sm_commands.specs.Loading.LoadAnswers.{many_files, long_files, not_loaded}
 use Rattle.sm_commands.specs.ModelFiles.{AreRead, PassesOne}
 use Rattle.sm_commands.specs.steps.CommandSteps.{StepStops, EndsWithLine, EndsWithLimit}
 use Rattle.sm_commands.specs.steps.FileSteps.{PassesLimit, OpensFile}
 use Rattle.sm_commands.specs.steps.LoadSteps.{Loads, LoadsModel, ReadsModels, StopsLoad, TextsAnswer}
+use Rattle.sm_commands.specs.declared.lines.Shown.{Shown}
 use Rattle.sm_commands.specs.declared.stop.Stop.{Stop}
 use Rattle.sm_commands.proofs.Stops.{limit_stops, line_stops, stops_map}
 
@@ -67,57 +68,57 @@ all_read held total names rest read e reads =
     subst (AreRead held 0 names) (append-nil read) (reads [] (subst (λ ns. AreRead held total ns []) (sym e) refl))
 
 -- files that load to no model
-pub text_stops : (read : List FileGiven) (number : ℕ) (place : TextPlace) (name : List ℕ) (stop : Stop) → name ≡ name_at read number
-    → LoadsTo read (Err (Text number place)) → EndsWithLine (text_line name place) stop → StopsLoad read stop
-text_stops read number place name stop named h ends =
-    line_stops (TextsAnswer read) ⊥ (Unit {0}) (text_line name place) stop
+pub text_stops : (shown : Shown) (read : List FileGiven) (number : ℕ) (place : TextPlace) (name : List ℕ) (stop : Stop) → name ≡ name_at read number
+    → LoadsTo read (Err (Text number place)) → EndsWithLine (text_line name place) stop → StopsLoad shown read stop
+text_stops shown read number place name stop named h ends =
+    line_stops (TextsAnswer shown read) ⊥ (Unit {0}) (text_line name place) stop
     (Text number place, record { loads = h; told = λ e. cc }, ap (λ n. refused (text_line n place)) named) tt ends
 
-pub size_stops : (read : List FileGiven) (kind : LimitKind) (stop : Stop) → LoadsTo read (Err (Limit kind))
-    → EndsWithLimit (size_limit_line kind) stop → StopsLoad read stop
-size_stops read kind stop h ends =
-    limit_stops (TextsAnswer read) ⊥ (Unit {0}) (size_limit_line kind) stop (Limit kind, record { loads = h; told = λ e. cc }, refl) tt ends
+pub size_stops : (shown : Shown) (read : List FileGiven) (kind : LimitKind) (stop : Stop) → LoadsTo read (Err (Limit kind))
+    → EndsWithLimit (size_limit_line kind) stop → StopsLoad shown read stop
+size_stops shown read kind stop h ends =
+    limit_stops (TextsAnswer shown read) ⊥ (Unit {0}) (size_limit_line kind) stop (Limit kind, record { loads = h; told = λ e. cc }, refl) tt ends
 
-pub rejected_stops : (read : List FileGiven) (es : List ModelEvent) (stop : Stop) → LoadsTo read (Err (Rejected es))
-    → EndsWithLine (event_lines es) stop → StopsLoad read stop
-rejected_stops read es stop h ends =
-    line_stops (TextsAnswer read) ⊥ (Unit {0}) (event_lines es) stop (Rejected es, record { loads = h; told = λ e. cc }, refl) tt ends
+pub rejected_stops : (shown : Shown) (read : List FileGiven) (es : List ModelEvent) (stop : Stop) → LoadsTo read (Err (Rejected es))
+    → EndsWithLine (event_lines shown es) stop → StopsLoad shown read stop
+rejected_stops shown read es stop h ends =
+    line_stops (TextsAnswer shown read) ⊥ (Unit {0}) (event_lines shown es) stop (Rejected es, record { loads = h; told = λ e. cc }, refl) tt ends
 
 -- the files of a command
-pub files_many : (files files1 : FilesSeen) (names : List (List ℕ)) (stop : Stop) → files_limit < length names
-    → EndsWithLimit files_limit_line stop → Loads files files1 names (Err stop)
-files_many files files1 names stop many ends =
-    limit_stops (LoadAnswers files.held names) (Rose files.faults files1.faults) (Unit {0}) files_limit_line stop
+pub files_many : (shown : Shown) (files files1 : FilesSeen) (names : List (List ℕ)) (stop : Stop) → files_limit < length names
+    → EndsWithLimit files_limit_line stop → Loads shown files files1 names (Err stop)
+files_many shown files files1 names stop many ends =
+    limit_stops (LoadAnswers shown files.held names) (Rose files.faults files1.faults) (Unit {0}) files_limit_line stop
     (many_files many refl) tt ends
 
-pub reading_stops : (files files1 : FilesSeen) (names : List (List ℕ)) (stop : Stop) → length names ≤ files_limit
-    → ReadsModels files files1 names (Err stop) → Loads files files1 names (Err stop)
-reading_stops files files1 names stop few h =
-    stops_map (PassesOne files.held 0 names) (LoadAnswers files.held names) (Rose files.faults files1.faults)
+pub reading_stops : (shown : Shown) (files files1 : FilesSeen) (names : List (List ℕ)) (stop : Stop) → length names ≤ files_limit
+    → ReadsModels files files1 names (Err stop) → Loads shown files files1 names (Err stop)
+reading_stops shown files files1 names stop few h =
+    stops_map (PassesOne files.held 0 names) (LoadAnswers shown files.held names) (Rose files.faults files1.faults)
     (Rose files.faults files1.faults)
     (Unit {0}) (Unit {0}) stop (λ a says. long_files few says) (λ rose. rose) (λ short. short) h
 
-pub model_loads : (files files1 : FilesSeen) (names : List (List ℕ)) (read : List FileGiven) (result : Result Model Stop)
-    → length names ≤ files_limit → AreRead files.held 0 names read → LoadsModel read result → Loads files files1 names result
-model_loads files files1 names read (Ok m) few are h = (
+pub model_loads : (shown : Shown) (files files1 : FilesSeen) (names : List (List ℕ)) (read : List FileGiven) (result : Result Model Stop)
+    → length names ≤ files_limit → AreRead files.held 0 names read → LoadsModel shown read result → Loads shown files files1 names result
+model_loads shown files files1 names read (Ok m) few are h = (
   record { texts = record { few = few; read = read; are_read = are }; graph = maps_of m.graph; accepted = h.accepted },
   refl,
   h.events,
 )
-model_loads files files1 names read (Err stop) few are h =
-    stops_map (TextsAnswer read) (LoadAnswers files.held names) ⊥ (Rose files.faults files1.faults) (Unit {0}) (Unit {0}) stop
+model_loads shown files files1 names read (Err stop) few are h =
+    stops_map (TextsAnswer shown read) (LoadAnswers shown files.held names) ⊥ (Rose files.faults files1.faults) (Unit {0}) (Unit {0}) stop
     (λ a says. not_loaded texts says.0 says.1 says.2) (λ never. absurd never) (λ short. short) h
   where
     texts : FilesRead files.held names
     texts = record { few = few; read = read; are_read = are }
 
 -- lines of events, one more
-pub events_more : (all here rest : List ModelEvent) (e : ModelEvent) (before after : List ℕ) → here ≡ e ∷ rest
-    → after ≡ before ++ event_line e → before ++ event_lines here ≡ event_lines all → after ++ event_lines rest ≡ event_lines all
-events_more all here rest e before after parts put was =
-    let lines : event_line e ++ event_lines rest ≡ event_lines (e ∷ rest) = refl in
-    ap (λ xs. xs ++ event_lines rest) put ∙ append_assoc before (event_line e) (event_lines rest) ∙ ap (λ xs. before ++ xs) lines
-    ∙ ap (λ es. before ++ event_lines es) (sym parts) ∙ was
+pub events_more : (shown : Shown) (all here rest : List ModelEvent) (e : ModelEvent) (before after : List ℕ) → here ≡ e ∷ rest
+    → after ≡ before ++ shown_line shown e → before ++ event_lines shown here ≡ event_lines shown all → after ++ event_lines shown rest ≡ event_lines shown all
+events_more shown all here rest e before after parts put was =
+    let lines : shown_line shown e ++ event_lines shown rest ≡ event_lines shown (e ∷ rest) = refl in
+    ap (λ xs. xs ++ event_lines shown rest) put ∙ append_assoc before (shown_line shown e) (event_lines shown rest) ∙ ap (λ xs. before ++ xs) lines
+    ∙ ap (λ es. before ++ event_lines shown es) (sym parts) ∙ was
 
 -- one file by itself
 pub one_read : (held : Option Folder) (name file : List ℕ) → Holds held name (Some file) → length file ≤ file_limit
@@ -125,14 +126,14 @@ pub one_read : (held : Option Folder) (name file : List ℕ) → Holds held name
 one_read held name file holds within =
     (record { bytes = file; held = holds; within = within }, [], refl, omega (arith, within), refl)
 
-pub file_loads : (files files1 : FilesSeen) (name file : List ℕ) (result : Result Model Stop) → Holds files.held name (Some file)
-    → length file ≤ file_limit → LoadsModel (file_given name file ∷ []) result → Loads files files1 (name ∷ []) result
-file_loads files files1 name file result holds within h =
-    model_loads files files1 (name ∷ []) (file_given name file ∷ []) result (omega arith) (one_read files.held name file holds within) h
+pub file_loads : (shown : Shown) (files files1 : FilesSeen) (name file : List ℕ) (result : Result Model Stop) → Holds files.held name (Some file)
+    → length file ≤ file_limit → LoadsModel shown (file_given name file ∷ []) result → Loads shown files files1 (name ∷ []) result
+file_loads shown files files1 name file result holds within h =
+    model_loads shown files files1 (name ∷ []) (file_given name file ∷ []) result (omega arith) (one_read files.held name file holds within) h
 
-pub file_stops : (files files1 : FilesSeen) (name : List ℕ) (stop : Stop) → OpensFile files files1 name (Err stop)
-    → Loads files files1 (name ∷ []) (Err stop)
-file_stops files files1 name stop h =
-    stops_map (PassesLimit files.held name) (LoadAnswers files.held (name ∷ [])) (Rose files.faults files1.faults)
+pub file_stops : (shown : Shown) (files files1 : FilesSeen) (name : List ℕ) (stop : Stop) → OpensFile files files1 name (Err stop)
+    → Loads shown files files1 (name ∷ []) (Err stop)
+file_stops shown files files1 name stop h =
+    stops_map (PassesLimit files.held name) (LoadAnswers shown files.held (name ∷ [])) (Rose files.faults files1.faults)
     (Rose files.faults files1.faults) (Unit {0}) (Unit {0}) stop (λ a says. long_files (omega arith) (inl says)) (λ rose. rose)
     (λ short. short) h

@@ -11,17 +11,18 @@ use Rattle.sm_commands.specs.Check.{CheckSays}
 use Rattle.sm_commands.specs.Check.CheckSays.{not_loaded, checked}
 use Rattle.sm_commands.specs.Lines.{event_lines}
 use Rattle.sm_commands.specs.Says.{AreThere}
+use Rattle.sm_commands.specs.declared.lines.Shown.TheVariants.{All}
 use Rattle.sm_commands.proofs.OneLoad.{graph_same, load_apart, load_same}
 use Rattle.sm_commands.proofs.SomeLoad.{load_answered}
 
 says_same : (folder : Folder) (models : List (List ℕ)) (a b : Answer) → CheckSays (Some folder) models a
     → CheckSays (Some folder) models b → a ≡ b
-says_same folder models a b (not_loaded h) (not_loaded i) = load_same folder models a b h i
-says_same folder models a b (not_loaded h) (checked l es are is) = absurd (load_apart folder models a h l)
-says_same folder models a b (checked k es are is) (not_loaded i) = absurd (load_apart folder models b i k)
+says_same folder models a b (not_loaded h) (not_loaded i) = load_same All folder models a b h i
+says_same folder models a b (not_loaded h) (checked l es are is) = absurd (load_apart All folder models a h l)
+says_same folder models a b (checked k es are is) (not_loaded i) = absurd (load_apart All folder models b i k)
 says_same folder models a b (checked k es are is) (checked l fs are1 is1) =
     let same = one_event_list l.graph es fs (subst (λ g. AreModelEvents g es) (graph_same folder models k l) are) are1 in
-    is ∙ ap (λ xs. done (event_lines xs)) same ∙ sym is1
+    is ∙ ap (λ xs. done (event_lines All xs)) same ∙ sym is1
 
 pub check_same : (folder : Folder) (models : List (List ℕ)) (c d : Came)
     → ((a : Answer) × CheckSays (Some folder) models a × (c ≡ came untouched a))
@@ -31,5 +32,5 @@ check_same folder models c d (a, h, e) (b, i, f) = e ∙ ap (came untouched) (sa
 pub check_answered : (folder : Folder) (models : List (List ℕ)) → AreThere folder models
     → ((c : Came) → ((a : Answer) × CheckSays (Some folder) models a × (c ≡ came untouched a)) → ⊥) → ⊥
 check_answered folder models there none =
-    load_answered folder models there (λ a h. none (came untouched a) (a, not_loaded h, refl))
-    (λ l. some_events l.graph (λ es are. none (came untouched (done (event_lines es))) (done (event_lines es), checked l es are refl, refl)))
+    load_answered All folder models there (λ a h. none (came untouched a) (a, not_loaded h, refl))
+    (λ l. some_events l.graph (λ es are. none (came untouched (done (event_lines All es))) (done (event_lines All es), checked l es are refl, refl)))

@@ -12,6 +12,7 @@ use Rattle.sm_commands.specs.Stages.{FileRead}
 use Rattle.sm_commands.specs.Loading.{AreRefused, FilesRead, Loaded, LoadAnswers, refusal_answer}
 use Rattle.sm_commands.specs.Loading.LoadAnswers.{many_files, long_files, not_loaded}
 use Rattle.sm_commands.specs.ModelFiles.{AreRead, PassesOne}
+use Rattle.sm_commands.specs.declared.lines.Shown.{Shown}
 use Rattle.sm_commands.proofs.FilesRead.{bytes_same, not_long}
 
 -- a file that is read twice has one length
@@ -65,31 +66,31 @@ read_same folder before (name ∷ names) xs ys (file, more, e, within, later) (f
 texts_same : (folder : Folder) (names : List (List ℕ)) (x y : FilesRead (Some folder) names) → x.read ≡ y.read
 texts_same folder names x y = read_same folder 0 names x.read y.read x.are_read y.are_read
 
-refused_same : (folder : Folder) (names : List (List ℕ)) (a b : Answer) (x y : FilesRead (Some folder) names) (r q : LoadRefusal)
-    → AreRefused x.read r → AreRefused y.read q → a ≡ refusal_answer x.read r → b ≡ refusal_answer y.read q → a ≡ b
-refused_same folder names a b x y r q h i is is1 =
+refused_same : (shown : Shown) (folder : Folder) (names : List (List ℕ)) (a b : Answer) (x y : FilesRead (Some folder) names) (r q : LoadRefusal)
+    → AreRefused x.read r → AreRefused y.read q → a ≡ refusal_answer shown x.read r → b ≡ refusal_answer shown y.read q → a ≡ b
+refused_same shown folder names a b x y r q h i is is1 =
     let same = texts_same folder names x y in
     let one : r ≡ q = one_refused y.read r q (subst (λ fs. LoadsTo fs (Err r)) same h.loads) i.loads h.told i.told in
-    is ∙ ap (λ fs. refusal_answer fs r) same ∙ ap (refusal_answer y.read) one ∙ sym is1
+    is ∙ ap (λ fs. refusal_answer shown fs r) same ∙ ap (refusal_answer shown y.read) one ∙ sym is1
 
-pub load_same : (folder : Folder) (names : List (List ℕ)) (a b : Answer) → LoadAnswers (Some folder) names a
-    → LoadAnswers (Some folder) names b → a ≡ b
-load_same folder names a b (many_files many is) (many_files many1 is1) = is ∙ sym is1
-load_same folder names a b (many_files many is) (long_files few passes) = absurd (omega (arith, many, few))
-load_same folder names a b (many_files many is) (not_loaded texts r h is1) = absurd (omega (arith, many, texts.few))
-load_same folder names a b (long_files few passes) (many_files many is) = absurd (omega (arith, many, few))
-load_same folder names a b (long_files few passes) (long_files few1 passes1) = pass_same folder 0 names a b passes passes1
-load_same folder names a b (long_files few passes) (not_loaded texts r h is) =
+pub load_same : (shown : Shown) (folder : Folder) (names : List (List ℕ)) (a b : Answer) → LoadAnswers shown (Some folder) names a
+    → LoadAnswers shown (Some folder) names b → a ≡ b
+load_same shown folder names a b (many_files many is) (many_files many1 is1) = is ∙ sym is1
+load_same shown folder names a b (many_files many is) (long_files few passes) = absurd (omega (arith, many, few))
+load_same shown folder names a b (many_files many is) (not_loaded texts r h is1) = absurd (omega (arith, many, texts.few))
+load_same shown folder names a b (long_files few passes) (many_files many is) = absurd (omega (arith, many, few))
+load_same shown folder names a b (long_files few passes) (long_files few1 passes1) = pass_same folder 0 names a b passes passes1
+load_same shown folder names a b (long_files few passes) (not_loaded texts r h is) =
     absurd (pass_apart folder 0 names a texts.read passes texts.are_read)
-load_same folder names a b (not_loaded texts r h is) (many_files many is1) = absurd (omega (arith, many, texts.few))
-load_same folder names a b (not_loaded texts r h is) (long_files few passes) =
+load_same shown folder names a b (not_loaded texts r h is) (many_files many is1) = absurd (omega (arith, many, texts.few))
+load_same shown folder names a b (not_loaded texts r h is) (long_files few passes) =
     absurd (pass_apart folder 0 names b texts.read passes texts.are_read)
-load_same folder names a b (not_loaded x r h is) (not_loaded y q i is1) = refused_same folder names a b x y r q h i is is1
+load_same shown folder names a b (not_loaded x r h is) (not_loaded y q i is1) = refused_same shown folder names a b x y r q h i is is1
 
-pub load_apart : (folder : Folder) (names : List (List ℕ)) (a : Answer) → LoadAnswers (Some folder) names a → Loaded (Some folder) names → ⊥
-load_apart folder names a (many_files many is) l = omega (arith, many, l.texts.few)
-load_apart folder names a (long_files few passes) l = pass_apart folder 0 names a l.texts.read passes l.texts.are_read
-load_apart folder names a (not_loaded texts r h is) l =
+pub load_apart : (shown : Shown) (folder : Folder) (names : List (List ℕ)) (a : Answer) → LoadAnswers shown (Some folder) names a → Loaded (Some folder) names → ⊥
+load_apart shown folder names a (many_files many is) l = omega (arith, many, l.texts.few)
+load_apart shown folder names a (long_files few passes) l = pass_apart folder 0 names a l.texts.read passes l.texts.are_read
+load_apart shown folder names a (not_loaded texts r h is) l =
     accepted_refused l.texts.read l.graph r l.accepted
     (subst (λ fs. LoadsTo fs (Err r)) (texts_same folder names texts l.texts) h.loads) h.told
 

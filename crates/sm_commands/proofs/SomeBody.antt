@@ -28,6 +28,7 @@ use Rattle.sm_commands.specs.Lines.{no_shape_line, pattern_line, unserved_line, 
 use Rattle.sm_commands.specs.Loading.{Loaded, LoadAnswers}
 use Rattle.sm_commands.specs.Says.{AreThere, TellsAll}
 use Rattle.sm_commands.specs.Stages.{Told, IsInput}
+use Rattle.sm_commands.specs.declared.lines.Shown.TheVariants.{Errors}
 use Rattle.sm_commands.proofs.LoadedSpelled.{loaded_spelled}
 use Rattle.sm_commands.proofs.SomeLoad.{load_answered}
 use Rattle.sm_commands.proofs.TablesMade.{number_within, is_filled}
@@ -85,13 +86,13 @@ module _ (texts : SomeTextAnswer) (tables : SomeTable) (t : Told) (name shape : 
 
 -- what files that are told come to
 abbrev FilesCome : Option Folder → List ℕ → Type 0
-FilesCome files name = ((a : Answer) → LoadAnswers files (name ∷ []) a → ⊥) → (Loaded files (name ∷ []) → ⊥) → ⊥
+FilesCome files name = ((a : Answer) → LoadAnswers Errors files (name ∷ []) a → ⊥) → (Loaded files (name ∷ []) → ⊥) → ⊥
 
 pub body_answered : SomeTextAnswer → SomeTable → (t : Told) (folder : Folder) (input : List ℕ) → TellsAll t folder input
     → (name shape : List ℕ) (near far : BodyForm)
     → AreThere folder (name ∷ [])
     → ((c : Came) → BodySays t name shape near far c → ⊥) → ⊥
 body_answered texts tables t folder input all name shape near far there none =
-    let come : FilesCome t.files name = subst (λ x. FilesCome x name) (sym all.files) (load_answered folder (name ∷ []) there) in
+    let come : FilesCome t.files name = subst (λ x. FilesCome x name) (sym all.files) (load_answered Errors folder (name ∷ []) there) in
     come (λ a says. none (came untouched a) (not_loaded a says refl))
     (λ loaded. graph_answered texts tables t name shape near far none input (subst (λ x. IsInput x input) (sym all.input) refl) loaded)

@@ -12,6 +12,7 @@ use Rattle.sm_commands.specs.Loading.LoadAnswers.{many_files, long_files, not_lo
 use Rattle.sm_commands.specs.ModelFiles.{AreRead, PassesOne}
 use Rattle.sm_commands.specs.Says.{AreThere}
 use Rattle.sm_commands.specs.Stages.{FileRead}
+use Rattle.sm_commands.specs.declared.lines.Shown.{Shown}
 
 -- files are all read, or a limit is passed
 abbrev PassedOrRead : Folder → ℕ → List (List ℕ) → Type 0
@@ -43,13 +44,13 @@ passed_or_read folder before (name ∷ names) there =
     ]
 
 -- model files are loaded, or have an answer
-module _ (folder : Folder) (names : List (List ℕ)) (there : AreThere folder names)
-    (none : (a : Answer) → LoadAnswers (Some folder) names a → ⊥)
+module _ (shown : Shown) (folder : Folder) (names : List (List ℕ)) (there : AreThere folder names)
+    (none : (a : Answer) → LoadAnswers shown (Some folder) names a → ⊥)
     (some : Loaded (Some folder) names → ⊥) where
   of_texts : FilesRead (Some folder) names → ⊥
   of_texts texts =
       some_model texts.read
-      (λ r told loads. none (refusal_answer texts.read r) (not_loaded texts r (record { loads = loads; told = told }) refl))
+      (λ r told loads. none (refusal_answer shown texts.read r) (not_loaded texts r (record { loads = loads; told = told }) refl))
       (λ g accepted. some (record { texts = texts; graph = g; accepted = accepted }))
 
   pub load_answered : ⊥

@@ -17,6 +17,7 @@ use Rattle.sm_commands.specs.Limits.{body_limit}
 use Rattle.sm_commands.specs.Lines.{no_shape_line, pattern_line, unserved_line, fault_line, syntax_line, body_limit_line}
 use Rattle.sm_commands.specs.Loading.{Loaded, LoadAnswers}
 use Rattle.sm_commands.specs.Stages.{Told, IsInput}
+use Rattle.sm_commands.specs.declared.lines.Shown.TheVariants.{Errors}
 
 -- what is printed for what a body comes to
 abbrev pub printed : TextAnswer → Answer
@@ -26,7 +27,7 @@ printed (the_fault path kind) = refused (fault_line path kind)
 
 -- what the command comes to, in this order
 pub data BodySays (t : Told) (name shape : List ℕ) (near far : BodyForm) (c : Came) : Type 0 where
-  not_loaded : (a : Answer) → LoadAnswers t.files (name ∷ []) a → c ≡ came untouched a → BodySays t name shape near far c
+  not_loaded : (a : Answer) → LoadAnswers Errors t.files (name ∷ []) a → c ≡ came untouched a → BodySays t name shape near far c
   no_shape : (loaded : Loaded t.files (name ∷ [])) → (IsValueShape loaded.graph shape → ⊥)
       → c ≡ came untouched (refused (no_shape_line shape)) → BodySays t name shape near far c
   pattern : (there : ShapeThere t name shape) → (u id : List ℕ) → t.refused ≡ Some u

@@ -1,5 +1,5 @@
 -- The lines that are printed for what is refused, and for what is told. Each ends with a line feed.
-use Rattle.std.specs.Prelude.{ℕ, List, [], ◌∷◌, ◌++◌, codes}
+use Rattle.std.specs.Prelude.{ℕ, Bool, true, false, if◌then◌else◌, List, [], ◌∷◌, ◌++◌, codes}
 use Rattle.std.specs.Fmt.{decimal}
 use Rattle.std.specs.List.{flat_map}
 use Rattle.sm_bytes.specs.Ascii.{space, line_feed}
@@ -17,6 +17,8 @@ use Rattle.sm_model.specs.declared.event.Severity.TheVariants.{Note, Warning, Da
 use Rattle.sm_merge.specs.declared.limit.LimitKind.{LimitKind}
 use Rattle.sm_merge.specs.declared.limit.LimitKind.TheVariants.{Shapes, Members, AllMembers, Traits}
 use Rattle.sm_merge.specs.declared.limit.TheConstants.{SHAPE_LIMIT, MEMBER_LIMIT, ALL_MEMBER_LIMIT, TRAIT_LIMIT}
+use Rattle.sm_commands.specs.declared.lines.Shown.{Shown}
+use Rattle.sm_commands.specs.declared.lines.Shown.TheVariants.{All, Errors}
 use Rattle.sm_commands.specs.Limits.{files_limit, file_limit, bytes_limit, body_limit}
 
 -- a word, a blank and a text
@@ -111,8 +113,19 @@ detail_part (c ∷ cs) = space ∷ c ∷ cs
 abbrev pub event_line : ModelEvent → List ℕ
 event_line e = line (severity_word e.severity) (e.id ++ (space ∷ (e.shape ++ detail_part e.detail)))
 
-abbrev pub event_lines : List ModelEvent → List ℕ
-event_lines es = flat_map event_line es
+-- whether an event is shown: all are, or those alone for which a model is rejected
+abbrev pub is_shown : Shown → Severity → Bool
+is_shown All severity = true
+is_shown Errors Error = true
+is_shown Errors Danger = false
+is_shown Errors Warning = false
+is_shown Errors Note = false
+
+abbrev pub shown_line : Shown → ModelEvent → List ℕ
+shown_line shown e = if is_shown shown e.severity then event_line e else []
+
+abbrev pub event_lines : Shown → List ModelEvent → List ℕ
+event_lines shown es = flat_map (shown_line shown) es
 
 -- a text that is no selector: what stands at the place can't go on there, or is a form that isn't read
 abbrev pub broken_selector_line : ℕ → List ℕ

@@ -9,6 +9,7 @@ use Rattle.sm_load.specs.declared.model.LoadRefusal.{LoadRefusal}
 use Rattle.sm_load.specs.declared.model.LoadRefusal.TheVariants.{Text, Limit, Rejected, NoMemory}
 use Rattle.sm_commands.specs.Answer.{Answer, refused, past}
 use Rattle.sm_commands.specs.IdlLines.{text_line}
+use Rattle.sm_commands.specs.declared.lines.Shown.{Shown}
 use Rattle.sm_commands.specs.Limits.{files_limit}
 use Rattle.sm_commands.specs.Lines.{event_lines, files_limit_line, size_limit_line}
 use Rattle.sm_commands.specs.ModelFiles.{AreRead, PassesOne}
@@ -29,12 +30,13 @@ pub record Loaded (files : Option Folder) (names : List (List ℕ)) : Type 0 whe
 abbrev pub name_at : List FileGiven → ℕ → List ℕ
 name_at read number = get_or (map (λ f. f.name) read) number []
 
--- what is printed where loading refuses: the line of the first file that says no statements, of a limit, or those of all events
-abbrev pub refusal_answer : List FileGiven → LoadRefusal → Answer
-refusal_answer read (Text number place) = refused (text_line (name_at read number) place)
-refusal_answer read (Limit kind) = past (size_limit_line kind)
-refusal_answer read (Rejected es) = refused (event_lines es)
-refusal_answer read NoMemory = refused []
+-- what is printed where loading refuses: the line of the first file that says no statements, of a limit, or those of the events that
+-- the command shows
+abbrev pub refusal_answer : Shown → List FileGiven → LoadRefusal → Answer
+refusal_answer shown read (Text number place) = refused (text_line (name_at read number) place)
+refusal_answer shown read (Limit kind) = past (size_limit_line kind)
+refusal_answer shown read (Rejected es) = refused (event_lines shown es)
+refusal_answer shown read NoMemory = refused []
 
 -- loading refuses these files, and that memory ran out isn't why
 pub record AreRefused (read : List FileGiven) (refusal : LoadRefusal) : Type 0 where
@@ -42,8 +44,8 @@ pub record AreRefused (read : List FileGiven) (refusal : LoadRefusal) : Type 0 w
   pub told : refusal ≡ NoMemory → ⊥
 
 -- the answers that stand before a model, in this order
-pub data LoadAnswers (files : Option Folder) (names : List (List ℕ)) (a : Answer) : Type 0 where
-  many_files : files_limit < length names → a ≡ past files_limit_line → LoadAnswers files names a
-  long_files : length names ≤ files_limit → PassesOne files 0 names a → LoadAnswers files names a
+pub data LoadAnswers (shown : Shown) (files : Option Folder) (names : List (List ℕ)) (a : Answer) : Type 0 where
+  many_files : files_limit < length names → a ≡ past files_limit_line → LoadAnswers shown files names a
+  long_files : length names ≤ files_limit → PassesOne files 0 names a → LoadAnswers shown files names a
   not_loaded : (texts : FilesRead files names) → (refusal : LoadRefusal) → AreRefused texts.read refusal
-      → a ≡ refusal_answer texts.read refusal → LoadAnswers files names a
+      → a ≡ refusal_answer shown texts.read refusal → LoadAnswers shown files names a

@@ -4,7 +4,7 @@ ghost use Rattle.sm_io.specs.Files.{LetsSame};
 ghost use Rattle.sm_io.specs.Seen.{files_seen};
 ghost use Rattle.sm_commands.specs.steps.CheckSteps.{Checks, TellsEvents};
 
-use crate::lines::event_lines;
+use crate::lines::{Shown, event_lines};
 use crate::loading::load_models;
 use crate::stop::Stop;
 use crate::words::CheckWords;
@@ -34,7 +34,7 @@ pub(crate) fn check<F: Files>(
     ensures same_reads { LetsSame (F.lets_read files.old) (F.lets_read files.new) }
     ensures same_writes { LetsSame (F.lets_write files.old) (F.lets_write files.new) }
 {
-    match load_models(alloc, files, words.models) {
+    match load_models(alloc, Shown::All, files, words.models) {
         Ok(model) => told(alloc, model),
         Err(stop) => Err(stop),
     }
@@ -46,7 +46,7 @@ fn told(alloc: Global, model: Model) -> Result<Vec<u8>, Stop>
 {
     let Model { graph, events } = model;
     drop(graph);
-    match event_lines(alloc, events.as_slice()) {
+    match event_lines(alloc, Shown::All, events.as_slice()) {
         Ok(lines) => Ok(lines),
         Err(NoMemory) => Err(Stop::NoMemory),
     }

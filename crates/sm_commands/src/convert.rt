@@ -10,6 +10,7 @@ ghost use Rattle.sm_commands.specs.Convert.{converted};
 ghost use Rattle.sm_commands.specs.steps.Asked.{graph_form};
 ghost use Rattle.sm_commands.specs.steps.ConvertSteps.{Converts};
 
+use crate::lines::Shown;
 use crate::loading::load_models;
 use crate::stop::Stop;
 use crate::words::{ConvertForm, ConvertWords};
@@ -70,7 +71,7 @@ pub(crate) fn convert<F: Files>(
     ensures same_reads { LetsSame (F.lets_read files.old) (F.lets_read files.new) }
     ensures same_writes { LetsSame (F.lets_write files.old) (F.lets_write files.new) }
 {
-    match load_models(alloc, files, words.models) {
+    match load_models(alloc, Shown::Errors, files, words.models) {
         Ok(model) => match graph_text(alloc, model.graph, words.form) {
             Ok(text) => Ok(text),
             Err(NoMemory) => Err(Stop::NoMemory),

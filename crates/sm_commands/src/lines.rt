@@ -4,6 +4,7 @@ ghost use Rattle.std.specs.List.{flat_map};
 ghost use Rattle.sm_tree.specs.Pointer.{pointer};
 ghost use Rattle.sm_commands.specs.Lines.{broken_selector_line as the_broken_line, other_selector_line as the_other_line};
 ghost use Rattle.sm_commands.specs.Lines.{id_lines as the_id_lines};
+ghost use Rattle.sm_commands.specs.Lines.{is_shown, shown_line};
 ghost use Rattle.sm_commands.specs.Lines.{detail_part, event_line, event_lines as the_event_lines, severity_word as the_severity_word};
 ghost use Rattle.sm_commands.specs.Lines.{size_limit, size_limit_word};
 ghost use Rattle.sm_commands.specs.Lines.{line as the_line, fault_line as the_fault_line, limit_line as the_limit_line};
@@ -159,15 +160,50 @@ fn severity_word(severity: Severity) -> &'static str
     }
 }
 
-/// The lines of events.
-pub(crate) fn event_lines(alloc: Global, events: &[ModelEvent]) -> Result<Vec<u8>, NoMemory>
-    ensures { IfOk result (λ lines. lines.items ≡ the_event_lines events.now) }
+/// Which events of a model are shown.
+#[derive(Debug, Clone, Copy, PartialEq, Eq, Drop)]
+pub enum Shown {
+    /// All of them.
+    All,
+    /// Those alone for which the model is rejected.
+    Errors,
+}
+
+/// The lines of the events that are shown.
+pub(crate) fn event_lines(
+    alloc: Global,
+    shown: Shown,
+    events: &[ModelEvent],
+) -> Result<Vec<u8>, NoMemory>
+    ensures { IfOk result (λ lines. lines.items ≡ the_event_lines shown events.now) }
 {
     let mut lines = Vec::new(alloc);
     for event in events {
-        put_event(event, &mut lines)?;
+        put_shown(shown, event, &mut lines)?;
     }
     Ok(lines)
+}
+
+// Appends the line of an event that is shown.
+fn put_shown(shown: Shown, event: &ModelEvent, lines: &mut Vec<u8>) -> Result<(), NoMemory>
+    ensures { OnOk result (lines.new.items ≡ lines.old.items ++ shown_line shown event.now) }
+{
+    if is_shown(shown, event.severity) {
+        put_event(event, lines)?;
+    }
+    Ok(())
+}
+
+fn is_shown(shown: Shown, severity: Severity) -> bool
+    ensures { result ≡ is_shown shown severity }
+{
+    match shown {
+        Shown::All => true,
+        Shown::Errors => match severity {
+            Severity::Error => true,
+            Severity::Danger | Severity::Warning | Severity::Note => false,
+        },
+    }
 }
 
 // Appends the line of an event.

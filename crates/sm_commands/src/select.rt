@@ -12,7 +12,7 @@ ghost use Rattle.sm_commands.specs.Select.{SelectorSays};
 ghost use Rattle.sm_commands.specs.steps.CommandSteps.{StepComesTo, StepStops};
 ghost use Rattle.sm_commands.specs.steps.SelectSteps.{Selects};
 
-use crate::lines::{broken_selector_line, id_lines, other_selector_line};
+use crate::lines::{Shown, broken_selector_line, id_lines, other_selector_line};
 use crate::loading::load_models;
 use crate::stop::{Stop, refused};
 use crate::words::SelectWords;
@@ -76,7 +76,7 @@ pub(crate) fn select<F: Files>(
     ensures same_reads { LetsSame (F.lets_read files.old) (F.lets_read files.new) }
     ensures same_writes { LetsSame (F.lets_write files.old) (F.lets_write files.new) }
 {
-    match load_models(alloc, files, words.models) {
+    match load_models(alloc, Shown::Errors, files, words.models) {
         Ok(model) => selected(alloc, &model.graph, words.selector),
         Err(stop) => Err(stop),
     }

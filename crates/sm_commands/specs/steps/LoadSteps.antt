@@ -15,6 +15,7 @@ use Rattle.sm_commands.specs.Answer.{Answer}
 use Rattle.sm_commands.specs.Loading.{AreRefused, Loaded, LoadAnswers, name_at, refusal_answer}
 use Rattle.sm_commands.specs.ModelFiles.{AreRead, PassesOne}
 use Rattle.sm_commands.specs.steps.CommandSteps.{StepStops}
+use Rattle.sm_commands.specs.declared.lines.Shown.{Shown}
 use Rattle.sm_commands.specs.declared.stop.Stop.{Stop}
 
 -- the files are read, or a limit is passed
@@ -30,18 +31,18 @@ NamesFirst read (Rejected es) name = Unit {0}
 NamesFirst read NoMemory name = Unit {0}
 
 -- files that were read load to a model, or to an answer
-abbrev pub TextsAnswer : List FileGiven → Answer → Type 0
-TextsAnswer read a = (refusal : LoadRefusal) × AreRefused read refusal × (a ≡ refusal_answer read refusal)
+abbrev pub TextsAnswer : Shown → List FileGiven → Answer → Type 0
+TextsAnswer shown read a = (refusal : LoadRefusal) × AreRefused read refusal × (a ≡ refusal_answer shown read refusal)
 
-abbrev pub StopsLoad : List FileGiven → Stop → Type 0
-StopsLoad read stop = StepStops (TextsAnswer read) ⊥ (Unit {0}) stop
+abbrev pub StopsLoad : Shown → List FileGiven → Stop → Type 0
+StopsLoad shown read stop = StepStops (TextsAnswer shown read) ⊥ (Unit {0}) stop
 
-abbrev pub LoadsModel : List FileGiven → Result Model Stop → Type 0
-LoadsModel read (Ok m) = LoadsTo read (Ok m)
-LoadsModel read (Err stop) = StopsLoad read stop
+abbrev pub LoadsModel : Shown → List FileGiven → Result Model Stop → Type 0
+LoadsModel shown read (Ok m) = LoadsTo read (Ok m)
+LoadsModel shown read (Err stop) = StopsLoad shown read stop
 
 -- the model of the files of these names, or the answer before it
-abbrev pub Loads : FilesSeen → FilesSeen → List (List ℕ) → Result Model Stop → Type 0
-Loads files files1 names (Ok m) =
+abbrev pub Loads : Shown → FilesSeen → FilesSeen → List (List ℕ) → Result Model Stop → Type 0
+Loads shown files files1 names (Ok m) =
     (loaded : Loaded files.held names) × (maps_of m.graph ≡ loaded.graph) × AreModelEvents (maps_of m.graph) m.events
-Loads files files1 names (Err stop) = StepStops (LoadAnswers files.held names) (Rose files.faults files1.faults) (Unit {0}) stop
+Loads shown files files1 names (Err stop) = StepStops (LoadAnswers shown files.held names) (Rose files.faults files1.faults) (Unit {0}) stop

@@ -8,8 +8,8 @@ loop-event-preserved c =
     let events = c.args.events.now in
     let i = c.loop-event.event-index in
     record {
-      lines = events_more events (drop i events) (drop (i + 1) events) c.event-item.result c.loop-event.lines.items
-          c.put_event.new.lines.items
+      lines = events_more c.args.shown events (drop i events) (drop (i + 1) events) c.event-item.result c.loop-event.lines.items
+          c.put_shown.new.lines.items
           (drop_more events i c.event-item.result c.loop-event-test.true ∙ ap (λ e. e ∷ drop (i + 1) events) (sym c.event-item.is))
-          c.in_ok-put_event.ensures c.loop-event.invariant.lines;
+          c.in_ok-put_shown.ensures c.loop-event.invariant.lines;
     }

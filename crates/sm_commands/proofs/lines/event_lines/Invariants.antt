@@ -4,5 +4,5 @@ use Rattle.sm_commands.proofs.lines.event_lines.Given as goal
 
 abbrev pub invariant-loop-event : goal.invariant-loop-event
 invariant-loop-event l = record {
-  lines : l.lines.items ++ event_lines (drop l.event-index l.events) ≡ event_lines l.events;
+  lines : l.lines.items ++ event_lines l.shown (drop l.event-index l.events) ≡ event_lines l.shown l.events;
 }
