@@ -1,5 +1,5 @@
 -- What the steps of loading model files come to, joined: the answers of src/files.rt and src/loading.rt cite it.
-use Rattle.std.proofs.Common.{◌≡◌, ◌<◌, ◌≤◌, ◌+◌, ℕ, inl, inr, List, [], ◌∷◌, ◌++◌, Option, Some, Result, Ok, Err, length}
+use Rattle.std.proofs.Common.{◌≡◌, ◌<◌, ◌≤◌, ◌+◌, ℕ, inl, inr, List, [], ◌∷◌, ◌++◌, Option, Some, Result, Ok, Err, length, map}
 use Rattle.std.proofs.Common.{sym, ap, subst, refl}
 use Rattle.std.proofs.Common.{◌∙◌, append_assoc, append-nil, arith}
 use Rattle.sm_io.specs.Causes.{Rose}
@@ -66,6 +66,13 @@ pub all_read : (held : Option Folder) (total : ℕ) (names rest : List (List ℕ
     → ((more : List FileGiven) → AreRead held total rest more → AreRead held 0 names (read ++ more)) → AreRead held 0 names read
 all_read held total names rest read e reads =
     subst (AreRead held 0 names) (append-nil read) (reads [] (subst (λ ns. AreRead held total ns []) (sym e) refl))
+
+-- the names of files that were read
+pub read_names : (held : Option Folder) (before : ℕ) (names : List (List ℕ)) (read : List FileGiven) → AreRead held before names read
+    → map (λ f. f.name) read ≡ names
+read_names held before [] read h = ap (map (λ f. f.name)) h
+read_names held before (name ∷ names) read (file, more, e, within, later) =
+    ap (map (λ f. f.name)) e ∙ ap (λ ns. name ∷ ns) (read_names held (before + length file.bytes) names more later)
 
 -- files that load to no model
 pub text_stops : (shown : Shown) (read : List FileGiven) (number : ℕ) (place : TextPlace) (name : List ℕ) (stop : Stop) → name ≡ name_at read number

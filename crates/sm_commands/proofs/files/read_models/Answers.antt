@@ -1,5 +1,5 @@
 use Rattle.std.proofs.Common.{◌≡◌, ◌<◌, ◌≤◌, ◌+◌, ◌∷◌, ◌++◌, [], ℕ, List, Some, ap, arith, drop, length, rules, subst, sym, vec_len, ◌∙◌}
-use Rattle.std.proofs.lemmas.List.{drop_all, drop_more, map-append}
+use Rattle.std.proofs.lemmas.List.{drop_all, drop_more}
 use Rattle.sm_io.specs.Causes.{Rose}
 use Rattle.sm_io.specs.Files.{Holds}
 use Rattle.sm_commands.specs.Limits.{bytes_limit}
@@ -45,8 +45,7 @@ loop-word-preserved g c =
     let counted : total + c.len-total.result ≡ total + length file = ap (λ k. total + k) (c.len-total.ensures ∙ long) in
     let holds = subst (λ x. Holds x name (Some file)) c.loop-word.invariant.held c.in-Ok.ensures.opens.0 in
     let f : FileGiven = file_given name file in
-    let put : given_files c.push.new.self.items ≡ given_files c.loop-word.read.items ++ f ∷ [] = ap given_files c.in-Ok-push.ensures.items
-    ∙ map-append text_view c.loop-word.read.items _ in
+    let put : given_files c.put_file.new.files.items ≡ given_files c.loop-word.read.items ++ f ∷ [] = c.in_ok-put_file.ensures in
     record {
       held = c.in-Ok.ensures.held ∙ c.loop-word.invariant.held;
       read_faults = omega (arith, c.in-Ok.ensures.read_faults, c.loop-word.invariant.read_faults);
@@ -61,7 +60,7 @@ loop-word-preserved g c =
       );
       within = subst (λ k. k ≤ bytes_limit) (sym counted) few;
       reads = λ more h. reads_more held total names (drop (i + 1) names) name file (given_files c.loop-word.read.items)
-          (given_files c.push.new.self.items)
+          (given_files c.put_file.new.files.items)
           (λ m all. c.loop-word.invariant.reads m (subst (λ xs. AreRead held total xs m) (sym next) all)) put holds c.in-Ok.ensures.opens.1
           few more (subst (λ k. AreRead held k (drop (i + 1) names) more) counted h);
       passes = λ a h. one_passed held total names (drop (i + 1) names) name file

@@ -1,0 +1,7 @@
+use Rattle.std.proofs.Common.{◌∙◌, ◌∷◌, [], ap}
+use Rattle.std.proofs.lemmas.List.{map-append}
+use Rattle.sm_load.specs.ModelFiles.{file_view, given_files}
+use Rattle.sm_commands.proofs.files.put_file.Goals as goal
+
+pub returns-in-Ok : goal.returns-in-Ok
+returns-in-Ok c = ap given_files c.in-Ok.ensures.items ∙ map-append file_view c.args.files.now.items _
