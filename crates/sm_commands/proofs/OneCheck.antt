@@ -4,7 +4,7 @@ use Rattle.sm_io.specs.Files.{Folder}
 use Rattle.sm_model.specs.declared.event.ModelEvent.{ModelEvent}
 use Rattle.sm_load.specs.Events.{AreModelEvents}
 use Rattle.sm_load.proofs.OneModelLoaded.{one_event_list}
-use Rattle.sm_load.proofs.SomeModelLoaded.{some_events}
+use Rattle.sm_load.proofs.SomeModelLoaded.{some_events_told}
 use Rattle.sm_commands.specs.Answer.{Answer, Came, came, done}
 use Rattle.sm_commands.specs.Answer.InputUse.{untouched}
 use Rattle.sm_commands.specs.Check.{CheckSays}
@@ -33,4 +33,4 @@ pub check_answered : (folder : Folder) (models : List (List ℕ)) → AreThere f
     → ((c : Came) → ((a : Answer) × CheckSays (Some folder) models a × (c ≡ came untouched a)) → ⊥) → ⊥
 check_answered folder models there none =
     load_answered All folder models there (λ a h. none (came untouched a) (a, not_loaded h, refl))
-    (λ l. some_events l.graph (λ es are. none (came untouched (done (event_lines All es))) (done (event_lines All es), checked l es are refl, refl)))
+    (λ l. some_events_told l.graph (λ es are. none (came untouched (done (event_lines All es))) (done (event_lines All es), checked l es are refl, refl)))
