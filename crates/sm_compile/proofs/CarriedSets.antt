@@ -79,7 +79,7 @@ module _ (g : Graph) (marks : List Bool) (In : List ℕ → Type 0)
         );
   }
 
-first_among : (g : Graph) (marks : List Bool) (earlier later : PatternRows) (number : ℕ) (text : List ℕ)
+pub first_among : (g : Graph) (marks : List Bool) (earlier later : PatternRows) (number : ℕ) (text : List ℕ)
     → AreFirstAt g marks (earlier ++ (number, text) ∷ later) → IsFirstAt g marks text number
 first_among g marks [] later number text h = h.0
 first_among g marks (r ∷ earlier) later number text h = first_among g marks earlier later number text h.1

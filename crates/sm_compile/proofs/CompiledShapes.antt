@@ -117,7 +117,7 @@ table_compiled g marks In before now made are patterns is =
     patterns
 
 -- patterns that are numbered from the store's end on are the store's, once they are added
-stored_there : (before added : List (List ℕ)) (rows : PatternRows) → AreNumberedFrom (length before) rows → added ≡ before ++ texts_of rows
+pub stored_there : (before added : List (List ℕ)) (rows : PatternRows) → AreNumberedFrom (length before) rows → added ≡ before ++ texts_of rows
     → AreStored rows added
 stored_there before added [] numbered is = tt
 stored_there before added (r ∷ rows) numbered is =

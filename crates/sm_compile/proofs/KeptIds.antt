@@ -1,5 +1,5 @@
 -- Ids that rise, and those of them of which something holds: that there is such a list, said by two denials.
-use Rattle.std.proofs.Common.{◌≡◌, inl, inr, ℕ, Bool, true, false, cond, List, [], ◌∷◌, map, Some, refl, sym, ap, ◌∙◌, subst}
+use Rattle.std.proofs.Common.{◌≡◌, inl, inr, ℕ, Bool, true, false, cond, List, [], ◌∷◌, map, Some, refl, sym, ◌∙◌, subst}
 use Rattle.std.specs.Prelude.{◌↔◌, T}
 use Rattle.std.specs.Cmp.Lexicographic.{nat_list_cmp_total}
 use Rattle.std.specs.FinMap as fin
@@ -11,7 +11,7 @@ use Rattle.std.specs.Ordering.{is_eq, is_lt}
 use Rattle.std.specs.declared.cmp.Ordering.{Ordering}
 use Rattle.std.specs.declared.cmp.Ordering.TheVariants.{Less, Equal, Greater}
 use Rattle.std.proofs.lemmas.Option.{none-some}
-use Rattle.sm_model.specs.Graphs.{Entry, GraphMaps, text_cmp}
+use Rattle.sm_model.specs.Graphs.{GraphMaps, text_cmp}
 use Rattle.sm_model.specs.Relations.{IsInGraph}
 use Rattle.sm_model.proofs.OneRising.{before_one, contains_behind, contains_either, contains_head, contains_none}
 use Rattle.sm_model.proofs.Searching.{and_left, and_right, less_from}

@@ -39,6 +39,7 @@ mod CompiledShapes
 mod MarkedTables
 mod CarriedSets
 mod CompiledRoots
+mod CompiledSome
 mod NumbersOrdered
 mod RowsThere
 mod KeptIds

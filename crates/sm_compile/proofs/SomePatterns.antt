@@ -1,20 +1,18 @@
 -- The patterns of a set of ids that can be listed: each text at the first id that carries it.
 use Rattle.std.proofs.Common.{◌≡◌, ◌⊎◌, inl, inr, ℕ, ◌+◌, Bool, true, false, List, [], ◌∷◌, Option, Some, None, refl, sym, ap, ◌∙◌, subst}
 use Rattle.std.proofs.Common.{bytes_eq, length}
-use Rattle.std.specs.Prelude.{◌↔◌, slice_get, cond}
+use Rattle.std.specs.Prelude.{slice_get}
 use Rattle.std.specs.Cmp.{tied_itself}
 use Rattle.std.specs.Cmp.Lexicographic.{nat_list_cmp_total}
-use Rattle.std.specs.List.{AllByRecursion, Contains}
+use Rattle.std.specs.List.{Contains}
 use Rattle.std.specs.List.Sorted.{IsStrictlySortedBy}
-use Rattle.std.specs.Ordering.{is_gt}
-use Rattle.std.specs.declared.cmp.Ordering.{Ordering}
-use Rattle.std.specs.declared.cmp.Ordering.TheVariants.{Less, Equal, Greater}
+use Rattle.std.specs.declared.cmp.Ordering.TheVariants.{Equal, Greater}
 use Rattle.std.proofs.lemmas.Option.{none-some, same_Some, slice_get_read}
 use Rattle.std.proofs.lemmas.Slice.Eq.{bytes_eq-Decides}
 use Rattle.sm_model.specs.Graphs.{GraphMaps, text_cmp}
 use Rattle.sm_model.proofs.OneRising.{before_one, contains_behind, contains_either, contains_head, contains_none}
 use Rattle.sm_model.proofs.Worklist.{apart}
-use Rattle.sm_compile.specs.Compiled.{AreNumberedFrom, ArePatternsOf, CarriesPattern, EachSays, IdSet, IsCarrier, IsFirstCarrier, NamesText}
+use Rattle.sm_compile.specs.Compiled.{AreNumberedFrom, ArePatternsOf, EachSays, IdSet, IsCarrier, IsFirstCarrier, NamesText}
 use Rattle.sm_compile.specs.Compiled.{PatternRows, texts_of}
 use Rattle.sm_compile.specs.steps.Carrying.{carried}
 use Rattle.sm_compile.proofs.CarriedPatterns.{carries_told}

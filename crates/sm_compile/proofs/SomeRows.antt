@@ -1,7 +1,7 @@
 -- The rows of a table of all shapes that a sound shape reaches: each is told by its place, from what the graph says there.
-use Rattle.std.proofs.Common.{◌≡◌, inl, inr, ℕ, ◌+◌, ◌<◌, ◌≤◌, Bool, cond, List, [], ◌∷◌, length, get_or, Option, Some, None, refl, sym, ap}
+use Rattle.std.proofs.Common.{◌≡◌, inl, inr, ℕ, ◌+◌, ◌<◌, ◌≤◌, cond, List, [], length, get_or, Option, Some, None, refl, sym, ap}
 use Rattle.std.proofs.Common.{◌∙◌, subst, arith}
-use Rattle.std.specs.Prelude.{◌↔◌, IsUtf8, is_some, slice_get, unwrap_or}
+use Rattle.std.specs.Prelude.{◌↔◌, IsUtf8, is_some, unwrap_or}
 use Rattle.std.specs.FinMap as fin
 use Rattle.std.specs.List.{Contains, filter, flat_map}
 use Rattle.std.specs.Option.{option_or}
@@ -17,7 +17,7 @@ use Rattle.sm_model.specs.Graphs.{shape_entry, member_entry, GraphMaps, ShapeEnt
 use Rattle.sm_model.specs.PreludeShapes.{unit_id}
 use Rattle.sm_shapes.specs.TableData.{MemberData, ShapeData, TableData, json_name_at, name_at}
 use Rattle.sm_shapes.specs.InOrder.{is_needed}
-use Rattle.sm_compile.specs.Compiled.{AreNumberedFrom, IsCarrier, IsTabled, NamesText, PatternRows, SaysMember, SaysShape, members_under}
+use Rattle.sm_compile.specs.Compiled.{AreNumberedFrom, IsCarrier, IsTabled, NamesText, PatternRows, SaysMember, members_under}
 use Rattle.sm_compile.specs.Compiled.{texts_of}
 use Rattle.sm_compile.specs.Kinds.{is_text_kind, table_kind, value_members}
 use Rattle.sm_compile.specs.Laws.{IsSpelledGraph}

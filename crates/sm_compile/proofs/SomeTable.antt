@@ -1,6 +1,6 @@
 -- A shape of which a table can be made has one, with a store that holds its patterns: it can't be that it has none.
-use Rattle.std.proofs.Common.{◌≡◌, ℕ, List, [], ◌++◌, length, Some, refl, sym, ap, ◌∙◌, subst}
-use Rattle.std.specs.Prelude.{◌↔◌, slice_get}
+use Rattle.std.proofs.Common.{ℕ, List, [], ◌++◌, length, refl, sym, ap, ◌∙◌, subst}
+use Rattle.std.specs.Prelude.{◌↔◌}
 use Rattle.std.specs.FinMap as fin
 use Rattle.std.specs.List.{Contains}
 use Rattle.std.specs.List.Sorted.{IsStrictlySortedBy}

@@ -21,12 +21,12 @@ use Rattle.sm_model.proofs.Worklist.{apart}
 use Rattle.sm_shapes.specs.Names.{AllDiffer}
 use Rattle.sm_compile.specs.Kinds.{has_values}
 use Rattle.sm_compile.specs.Reached.{IsReached}
-use Rattle.sm_compile.specs.Sound.{IsSoundShape, IsValueShape, Sound, TellsSound, trait_in, trait_of}
+use Rattle.sm_compile.specs.Sound.{IsSoundAt, IsSoundShape, IsValueShape, Sound, TellsSound, trait_in, trait_of}
 use Rattle.sm_compile.specs.TraitNodes.{own_traits}
 use Rattle.sm_compile.specs.steps.Looked.{IsReachedFrom, kind_in, kind_under, listed_in, listed_under}
 use Rattle.sm_compile.specs.declared.names.Names.{Names}
 use Rattle.sm_compile.specs.steps.Naming.{AreNames, texts_of_all}
-use Rattle.sm_compile.specs.steps.Soundness.{AreSoundBelow, AreSoundNames, IsSoundAt}
+use Rattle.sm_compile.specs.steps.Soundness.{AreSoundBelow, AreSoundNames}
 use Rattle.sm_compile.specs.steps.Tests.{are_formed, has_parts, has_plain_parts, is_sound_member}
 use Rattle.sm_compile.proofs.SoundTests.{both_of, first_of, formed_along, formed_told, members_told, second_of, text_key_told, values_told}
 

@@ -12,13 +12,13 @@ use Rattle.sm_model.proofs.OneRising.{contains_behind, contains_either, contains
 use Rattle.sm_model.proofs.Worklist.{apart}
 use Rattle.sm_shapes.specs.declared.kinds.ShapeKind.{ShapeKind}
 use Rattle.sm_shapes.specs.declared.kinds.ShapeKind.TheVariants as table
-use Rattle.sm_compile.specs.Kinds.{table_kind}
+use Rattle.sm_compile.specs.Kinds.{is_left_out, table_kind}
 use Rattle.sm_compile.specs.Served.{IsUnserved, type_name}
 use Rattle.sm_compile.specs.Sound.{json_name_of, trait_in, trait_of}
 use Rattle.sm_compile.specs.TraitIds.{json_name_id, streaming_id}
 use Rattle.sm_compile.specs.TraitNodes.{text_of}
 use Rattle.sm_compile.specs.steps.Looked.{kind_in, kind_under, listed_in, listed_under}
-use Rattle.sm_compile.specs.steps.Unserved.{NamesType, TellsType, is_left_out, may_tell_type}
+use Rattle.sm_compile.specs.steps.Unserved.{NamesType, TellsType, may_tell_type}
 use Rattle.sm_compile.proofs.OneWay.{one_name}
 
 left_out_is : (kind : ShapeKind) → is_left_out kind ≡ true → kind ≡ table.LeftOut

@@ -31,6 +31,10 @@ table_kind model.Service = table.LeftOut
 table_kind model.Operation = table.LeftOut
 table_kind model.Resource = table.LeftOut
 
+abbrev pub is_left_out : ShapeKind → Bool
+is_left_out table.LeftOut = true
+is_left_out kind = false
+
 -- a shape that has values: any but a service, an operation and a resource
 abbrev pub has_values : Kind → Bool
 has_values model.Service = false

@@ -7,6 +7,7 @@ pub mod Said
 pub mod Compiled
 pub mod Served
 pub mod Answers
+pub mod Roots
 pub mod UriPattern
 pub mod UriRoutes
 pub mod Laws

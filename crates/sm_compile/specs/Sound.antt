@@ -10,8 +10,11 @@ use Rattle.sm_tree.specs.Node.{Node, text, int}
 use Rattle.sm_model.specs.Formed.{HaveForm}
 use Rattle.sm_model.specs.Kinds.{member_form}
 use Rattle.sm_model.specs.Graphs.{Entry, shape_entry, member_entry, ShapeEntry, MemberEntry, GraphMaps, member_id, traits_in}
+use Rattle.sm_model.specs.GraphView.{maps_of}
 use Rattle.sm_model.specs.PreludeShapes.{unit_id}
+use Rattle.sm_model.specs.Reaching.{id_of_number}
 use Rattle.sm_model.specs.Relations.{HasEntry}
+use Rattle.sm_model.specs.declared.graph.Graph.{Graph}
 use Rattle.sm_model.specs.declared.kind.Kind.{Kind}
 use Rattle.sm_model.specs.declared.kind.Kind.TheVariants.{Enum, IntEnum, Map}
 use Rattle.sm_shapes.specs.Names.{AllDiffer}
@@ -106,6 +109,11 @@ pub record IsSoundShape (g : GraphMaps) (id : List ℕ) (s : ShapeEntry) : Type 
   pub key : HasTextKey g s.kind s.members
   pub values : HasItsValues g s.kind s.members
   pub traits : AreFormedTraits s.kind (own_traits s.traits)
+
+-- what stands at this number of a graph is, if it is a shape
+abbrev pub IsSoundAt : Graph → ℕ → Type 0
+IsSoundAt g k =
+    (s : ShapeEntry) → HasEntry (maps_of g) (id_of_number g k) (shape_entry s) → IsSoundShape (maps_of g) (id_of_number g k) s
 
 -- a shape that has values
 abbrev pub IsValueShape : GraphMaps → List ℕ → Type 0

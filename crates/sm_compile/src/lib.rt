@@ -17,6 +17,7 @@ mod orders;
 mod parts;
 mod patterns;
 mod reach;
+mod roots;
 mod rows;
 mod seen;
 mod shapes;
@@ -36,10 +37,14 @@ pub use formed::{are_lengths_where, are_ordered_where, are_whole_bounds_where, i
 pub use kinds::{has_length, has_values, is_text_kind, is_whole_kind, may_target, table_kind};
 pub use look::{id_text, kind_of, members_of, target_kind, target_of, targets_unit, trait_node};
 pub use names::{json_name, member_name};
+pub use parts::row_at;
+pub use roots::compile_roots;
 pub use seen::has_trait;
-pub use soundness::sound;
+pub use soundness::{is_sound_shape, sound};
+pub use tabled::Tabled;
 pub use traits::{
     field_of, format_of, is_any_number, is_number, is_object, is_text, number_in, number_of,
     text_in_trait,
 };
+pub use unserved::is_left_out;
 pub use uri::{Segment, UriPattern, UriRefusal, route_text};

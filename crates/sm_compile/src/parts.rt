@@ -80,7 +80,7 @@ pub(crate) fn name_at<'a>(graph: &'a Graph, shape: u32, member: u32) -> &'a str
 }
 
 /// The number in the table of the shape that has this one in the graph. A binary search.
-pub(crate) fn row_at(shapes: &[u32], number: u32) -> u32
+pub fn row_at(shapes: &[u32], number: u32) -> u32
     requires few { length shapes.now < 2 ^ 32 }
     requires rise { IsStrictlySortedBy nat_cmp shapes.now }
     requires there { Contains shapes.now number }

@@ -7,10 +7,10 @@ ghost use Rattle.sm_model.specs.Kinds.{member_form};
 ghost use Rattle.sm_model.specs.Reaching.{IsMarked, id_of_number};
 ghost use Rattle.sm_model.specs.declared.kind.Kind.TheVariants.{Map as map_kind};
 ghost use Rattle.sm_shapes.specs.Names.{AllDiffer};
-ghost use Rattle.sm_compile.specs.Sound.{IsValueShape, TellsSound, trait_of};
+ghost use Rattle.sm_compile.specs.Sound.{IsSoundAt, IsValueShape, TellsSound, trait_of};
 ghost use Rattle.sm_compile.specs.steps.Looked.{kind_under, listed_under, targets_unit};
 ghost use Rattle.sm_compile.specs.steps.Naming.{texts_of_all};
-ghost use Rattle.sm_compile.specs.steps.Soundness.{AreSoundBelow, IsSoundAt};
+ghost use Rattle.sm_compile.specs.steps.Soundness.{AreSoundBelow};
 ghost use Rattle.sm_compile.specs.steps.Tests as tests;
 
 use crate::differ::texts_differ;
@@ -91,7 +91,7 @@ fn is_sound_where(
 
 /// Whether a shape with its members is in order. It is so of a member. `NoMemory` where
 /// memory is refused.
-pub(crate) fn is_sound_shape(alloc: Global, graph: &Graph, shape: u32) -> Result<bool, NoMemory>
+pub fn is_sound_shape(alloc: Global, graph: &Graph, shape: u32) -> Result<bool, NoMemory>
     requires { IsShapeNumber graph.now shape }
     ensures { IfOk result (λ b. IsTrue b ↔ IsSoundAt graph.now shape) }
 {

@@ -24,7 +24,7 @@ use std::alloc::Global;
 
 /// A table, and the numbers of its shapes in the graph.
 #[derive(Drop)]
-pub(crate) struct Tabled {
+pub struct Tabled {
     /// The table.
     pub table: Table,
     /// The numbers.

@@ -2,9 +2,10 @@
 ghost use Rattle.std.specs.Prelude.{◌≡◌, ◌↔◌, IsTrue, Some, map};
 ghost use Rattle.sm_model.specs.GraphView.{AreShapeNumbers, IsShapeNumber, maps_of};
 ghost use Rattle.sm_model.specs.Reaching.{id_of_number};
+ghost use Rattle.sm_compile.specs.Kinds.{is_left_out};
 ghost use Rattle.sm_compile.specs.Served.{IsUnserved, type_name};
 ghost use Rattle.sm_compile.specs.steps.Looked.{kind_under};
-ghost use Rattle.sm_compile.specs.steps.Unserved.{NamesType, TellsType, is_left_out, may_tell_type};
+ghost use Rattle.sm_compile.specs.steps.Unserved.{NamesType, TellsType, may_tell_type};
 
 use crate::kinds::table_kind;
 use crate::look::{kind_of, members_of};
@@ -41,7 +42,8 @@ fn is_unserved_of_kind(graph: &Graph, shape: u32, kind: Kind) -> bool
     }
 }
 
-fn is_left_out(kind: ShapeKind) -> bool
+/// Whether a table leaves shapes of a kind out. No memory.
+pub fn is_left_out(kind: ShapeKind) -> bool
     ensures { result ≡ is_left_out kind }
 {
     match kind {

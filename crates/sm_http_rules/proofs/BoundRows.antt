@@ -30,15 +30,12 @@ use Rattle.sm_model.specs.GraphView.{AreShapeNumbers, IsShapeNumber, entries_of,
 use Rattle.sm_model.specs.Reaching.{id_of_number}
 use Rattle.sm_model.specs.declared.graph.Graph.{Graph}
 use Rattle.sm_model.specs.steps.Linking.{Joins}
-use Rattle.std.specs.Prelude.{slice_get}
-use Rattle.std.specs.Prelude.{Some}
-use Rattle.sm_model.proofs.GraphFacts.{id_at}
-use Rattle.sm_model.proofs.LinkNumbers.{one_number, stands_at}
 use Rattle.sm_model.proofs.Linking.{joins_none, joins_one, joins_same}
 use Rattle.sm_model.proofs.OneRising.{contains_either, contains_none}
 use Rattle.sm_model.proofs.Worklist.{apart}
 use Rattle.sm_compile.specs.Looked.{listed_under}
 use Rattle.sm_compile.proofs.OneWay.{one_name}
+use Rattle.sm_compile.proofs.ReachedNumbers.{same_number}
 use Rattle.sm_compile.proofs.TabledShapes.{mapped_from, mapped_to}
 use Rattle.sm_rules.specs.parts.Folded.{is_own_shape}
 use Rattle.sm_http_rules.specs.parts.Labels.{AreBound, AreBoundOf, BoundRow, is_bound}
@@ -50,14 +47,6 @@ number_among g (j ∷ ks) all k c = elim (contains_either j k ks c) [
   | inl same ↦ subst (IsShapeNumber g) same all.0
   | inr more ↦ number_among g ks all.1 k more
 ]
-
-pub same_number : (g : Graph) (j k : ℕ) → IsShapeNumber g j → IsShapeNumber g k → id_of_number g j ≡ id_of_number g k → j ≡ k
-same_number g j k jn kn same =
-    let x = stands_at g j jn in
-    let y = stands_at g k kn in
-    let ids : x.0 ≡ y.0 = sym (id_at g j x.0 x.1 x.2) ∙ same ∙ id_at g k y.0 y.1 y.2 in
-    let there : slice_get (entries_of g) k ≡ Some (x.0, y.1) = y.2 ∙ ap (λ (t : List ℕ). Some (t, y.1)) (sym ids) in
-    one_number g j k x.0 x.1 y.1 x.2 there
 
 module _ (g : Graph) (input : ℕ) where
   pub none_bound : AreBound g input [] []

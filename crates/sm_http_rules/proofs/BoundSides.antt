@@ -1,17 +1,13 @@
 -- Which shapes stand on each side of messages, from marks of operations with `http`.
 use Rattle.std.proofs.Common.{◌≡◌, inl, inr, ℕ, Bool, true, false, List, [], ◌∷◌, length, Option, Some, None, get_or, refl, sym, ap, ◌∙◌}
 use Rattle.std.proofs.Common.{subst}
-use Rattle.std.specs.Prelude.{◌↔◌, ◌&&◌, ◌||◌, is_some, not}
-use Rattle.std.specs.FinMap as fin
+use Rattle.std.specs.Prelude.{◌↔◌, ◌&&◌, ◌||◌, is_some}
 use Rattle.std.specs.List.{Contains}
-use Rattle.sm_model.specs.Graphs.{Entry, shape_entry, member_entry, ShapeEntry, GraphMaps}
+use Rattle.sm_model.specs.Graphs.{shape_entry, GraphMaps}
 use Rattle.sm_model.specs.GraphView.{IsShapeNumber, entries_of, maps_of}
-use Rattle.sm_model.specs.PreludeShapes.{is_prelude_id}
 use Rattle.sm_model.specs.Reaching.{AreMarks, IsMarked, id_of_number}
 use Rattle.sm_model.specs.Relations.{IsRelated, Reaches}
 use Rattle.sm_model.specs.declared.graph.Graph.{Graph}
-use Rattle.sm_model.specs.declared.kind.Kind.{Kind}
-use Rattle.sm_model.specs.declared.kind.Kind.TheVariants.{Operation, Service}
 use Rattle.sm_model.specs.declared.relation.Relation.{Relation}
 use Rattle.sm_model.specs.declared.relation.Relation.TheVariants.{Error}
 use Rattle.sm_model.proofs.NumberedIds.{number_of, related_in}
@@ -21,64 +17,31 @@ use Rattle.sm_model.proofs.Worklist.{apart}
 use Rattle.sm_select.specs.Images.{AreImage, IsImage, turned}
 use Rattle.sm_select.specs.Picks.{LeadsAlong}
 use Rattle.sm_select.proofs.MarkedNumbers.{marks_same}
-use Rattle.sm_compile.specs.Looked.{kind_in, kind_under}
 use Rattle.sm_compile.specs.Sound.{trait_in}
 use Rattle.sm_compile.specs.TraitIds.{http_id}
 use Rattle.sm_compile.specs.rules.Bindings.{IsBound, IsHttpOperation, an_error}
-use Rattle.sm_compile.specs.rules.Words.{IsService}
 use Rattle.sm_rules.specs.parts.Carrying.{carries}
-use Rattle.sm_rules.specs.parts.Owned.{is_operation, is_own_operation}
-use Rattle.sm_rules.specs.parts.Using.{is_own_service, is_service}
-use Rattle.sm_rules.proofs.OwnShapes.{not_so}
+use Rattle.sm_rules.specs.parts.Owned.{is_own_operation}
+use Rattle.sm_rules.specs.parts.Using.{is_own_service}
+use Rattle.sm_rules.proofs.HttpSaid.{is_own, own_operation}
+use Rattle.sm_rules.proofs.UnusedShapes.{own_service, service_own}
 use Rattle.sm_http_rules.specs.parts.Sides.{AreOnSide, MayErr, is_http_operation, may_err}
 
--- what is a shape of a type
-module _ (test : Option Kind → Bool) (none : test None ≡ false) where
-  kind_there : (o : Option Entry) → test (kind_in o) ≡ true → (s : ShapeEntry) × (o ≡ Some (shape_entry s)) × (test (Some s.kind) ≡ true)
-  kind_there None h = absurd (apart (sym none ∙ h))
-  kind_there (Some (shape_entry s)) h = (s, refl, h)
-  kind_there (Some (member_entry m)) h = absurd (apart (sym none ∙ h))
-
-operation_kind : (k : Kind) → is_operation (Some k) ≡ true → k ≡ Operation
-operation_kind Operation h = refl
-operation_kind k h = absurd (apart h)
-
-service_kind : (k : Kind) → is_service (Some k) ≡ true → k ≡ Service
-service_kind Service h = refl
-service_kind k h = absurd (apart h)
-
+-- operations with `http`
 module _ (g : GraphMaps) (id : List ℕ) where
   pub operation_told : is_http_operation g id ≡ true → IsHttpOperation g id
   operation_told h =
-      let own = and_left (is_own_operation g id) (carries g http_id id) h in
-      let s = kind_there is_operation refl (fin.get g.shapes id) (and_left (is_operation (kind_under g id)) (not (is_prelude_id id)) own) in
+      let o = own_operation g id (and_left (is_own_operation g id) (carries g http_id id) h) in
       record {
-        s = s.0;
-        own = (s.1, not_so (is_prelude_id id) (and_right (is_operation (kind_under g id)) (not (is_prelude_id id)) own));
-        kind = operation_kind s.0.kind s.2;
-        http = ap (λ o. is_some (trait_in http_id o)) (sym s.1) ∙ and_right (is_own_operation g id) (carries g http_id id) h;
+        s = o.0;
+        own = o.1;
+        kind = o.2;
+        http = ap (λ e. is_some (trait_in http_id e)) (sym o.1.0) ∙ and_right (is_own_operation g id) (carries g http_id id) h;
       }
 
   pub told_operation : IsHttpOperation g id → is_http_operation g id ≡ true
   told_operation h =
-      ap (λ o. (is_operation (kind_in o) && not (is_prelude_id id)) && is_some (trait_in http_id o)) h.own.0
-      ∙ ap (λ k. (is_operation (Some k) && not (is_prelude_id id)) && is_some (trait_in http_id (Some (shape_entry h.s)))) h.kind
-      ∙ ap (λ b. not b && is_some (trait_in http_id (Some (shape_entry h.s)))) h.own.1
-      ∙ h.http
-
-  pub service_told : is_own_service g id ≡ true → IsService g id
-  service_told h =
-      let s = kind_there is_service refl (fin.get g.shapes id) (and_left (is_service (kind_under g id)) (not (is_prelude_id id)) h) in (
-        s.0,
-        (s.1, not_so (is_prelude_id id) (and_right (is_service (kind_under g id)) (not (is_prelude_id id)) h)),
-        service_kind s.0.kind
-            s.2,
-      )
-
-  pub told_service : IsService g id → is_own_service g id ≡ true
-  told_service h =
-      ap (λ o. is_service (kind_in o) && not (is_prelude_id id)) h.1.0 ∙ ap (λ k. is_service (Some k) && not (is_prelude_id id)) h.2
-      ∙ ap not h.1.1
+      ap (λ b. b && carries g http_id id) (is_own g id (h.s, h.own, h.kind)) ∙ ap (λ e. is_some (trait_in http_id e)) h.own.0 ∙ h.http
 
 -- one relation alone
 pub along_one : (g : Graph) (starts marks : List Bool) (relation : Relation)
@@ -147,7 +110,7 @@ module _ (g : Graph) (operations reaching : List Bool)
           inr (
             id_of_number g way.0,
             (
-              service_told (maps_of g) (id_of_number g k) (and_right (get_or reaching k false)
+              own_service (maps_of g) (id_of_number g k) (and_right (get_or reaching k false)
                   (is_own_service (maps_of g) (id_of_number g k)) h),
               way.2,
             ),
@@ -163,7 +126,7 @@ module _ (g : Graph) (operations reaching : List Bool)
       let way : IsMarked reaching k =
       (walk.marked k).1 (small, (n.0, marked, subst (Reaches (maps_of g) (id_of_number g k)) (sym n.2) inside.1)) in
       ap (λ b. get_or operations k false || (b && is_own_service (maps_of g) (id_of_number g k))) way
-      ∙ ap (λ b. get_or operations k false || b) (told_service (maps_of g) (id_of_number g k) inside.0)
+      ∙ ap (λ b. get_or operations k false || b) (service_own (maps_of g) (id_of_number g k) inside.0)
       ∙ or_true (get_or operations k false)
     where
       or_true : (b : Bool) → (b || true) ≡ true

@@ -10,3 +10,8 @@ pub mod WireNamesTold
 pub mod RunsTold
 pub mod RouteKeys
 pub mod RoutesTold
+pub mod SomePasses
+pub mod AllowedTold
+pub mod LeftOutLed
+pub mod BoundTold
+pub mod ShortestKept

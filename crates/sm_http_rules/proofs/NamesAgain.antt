@@ -7,6 +7,7 @@ use Rattle.std.specs.FinMap as fin
 use Rattle.std.specs.List.{Contains, cons_option, filter_map, list_any}
 use Rattle.std.specs.Option.{option_map}
 use Rattle.std.specs.Ordering.{is_eq}
+use Rattle.std.proofs.lemmas.List.{map-append}
 use Rattle.std.proofs.lemmas.List.Elements.{filter_map-append}
 use Rattle.std.proofs.lemmas.Map.Text.{is_eq-slice_cmp}
 use Rattle.std.proofs.lemmas.Option.{none-some, same_Some}
@@ -29,7 +30,7 @@ use Rattle.sm_rules.proofs.OwnShapes.{own_told}
 use Rattle.sm_http_rules.specs.declared.naming.Naming.{Naming}
 use Rattle.sm_http_rules.specs.declared.naming.Naming.TheVariants.{Header, Query, Json}
 use Rattle.sm_http_rules.specs.parts.Naming.{ToldAgain, ToldName, key_of, name_of, name_row, name_rows, same_by}
-use Rattle.sm_http_rules.proofs.Splits.{Kept, Mapped, ToldSplit, kept_parts, mapped_cut, mapped_parts, split_told, told_split}
+use Rattle.sm_http_rules.proofs.Splits.{Kept, Mapped, ToldSplit, kept_parts, mapped_parts, split_told, told_split}
 
 key_same : (naming : Naming) (a b : List ℕ) → is_eq (text_cmp (key_of naming a) (key_of naming b)) ≡ same_by naming a b
 key_same Header a b = is_eq-slice_cmp (folded a) (folded b)
@@ -121,7 +122,7 @@ module _ (naming : Naming) (g : Graph) (shape : ℕ) where
                   home = s.1;
                   later = map (id_of_number g) p.later;
                   members = sym (ap listed_in s.1.0) ∙ sym listed ∙ ap (map (id_of_number g)) p.is
-                      ∙ mapped_cut (id_of_number g) p.first p.at p.later;
+                      ∙ map-append (id_of_number g) p.first (p.at ∷ p.later);
                 };
                 is = here;
                 again = sym (found_same name p.first) ∙ again;

@@ -2,11 +2,10 @@
 use Rattle.std.proofs.Common.{◌≡◌, ℕ, Bool, true, false, List, [], ◌∷◌, ◌++◌, Option, Some, None, map, refl, sym, ap, ◌∙◌, subst}
 use Rattle.std.specs.Prelude.{◌==◌, ◌||◌, ◌&&◌, codes, not}
 use Rattle.std.specs.List.{flat_map, list_all}
-use Rattle.std.proofs.lemmas.List.Folds.{list_all-append}
 use Rattle.std.proofs.lemmas.Option.{none-some, same_Some}
 use Rattle.sm_bytes.specs.Ascii.{equals, number_sign, slash}
 use Rattle.sm_ids.specs.steps.Ahead.{EndsRun}
-use Rattle.sm_ids.proofs.Cutting.{and_also, both, one_cut, tails}
+use Rattle.sm_ids.proofs.Cutting.{both, list_all_weaker, one_cut, tails}
 use Rattle.sm_model.specs.Graphs.{GraphMaps}
 use Rattle.sm_model.proofs.Worklist.{apart}
 use Rattle.sm_compile.specs.UriPattern.{IsUri, IsUriText, QueryLiteral, UriSaid, UriText, is_brace, is_key_byte, is_literal_byte}
@@ -20,6 +19,7 @@ use Rattle.sm_compile.specs.rules.Http.{method_of}
 use Rattle.sm_compile.specs.rules.Words.{IsOperation}
 use Rattle.sm_compile.proofs.UriOnce.{one_uri}
 use Rattle.sm_compile.proofs.UriRouted.{routes_by_texts}
+use Rattle.sm_compile.proofs.UriSegments.{all_both, text_passes}
 use Rattle.sm_rules.specs.parts.Http.{method_seen, uri_seen}
 use Rattle.sm_rules.proofs.HttpSaid.{said_seen, seen_said}
 use Rattle.sm_rules.proofs.HttpUris.{field_text}
@@ -27,19 +27,6 @@ use Rattle.sm_http_rules.specs.parts.Routes.{IsRouteKey, key_of, method_tail}
 
 abbrev is_free : ℕ → Bool
 is_free c = not (c == number_sign)
-
-weaker : (p q : ℕ → Bool) → ((c : ℕ) → p c ≡ true → q c ≡ true) → (cs : List ℕ) → list_all p cs ≡ true → list_all q cs ≡ true
-weaker p q h [] k = refl
-weaker p q h (c ∷ cs) k =
-    let a = both (p c) (list_all p cs) k in
-    ap (λ b. b && list_all q cs) (h c a.0) ∙ weaker p q h cs a.1
-
-text_passes : (p : ℕ → Bool) (t : List ℕ) → is_text_of p t ≡ true → list_all p t ≡ true
-text_passes p [] h = absurd (apart h)
-text_passes p (c ∷ t) h = h
-
-all_both : (p : ℕ → Bool) (a b : List ℕ) → list_all p a ≡ true → list_all p b ≡ true → list_all p (a ++ b) ≡ true
-all_both p a b h k = list_all-append p a b ∙ and_also (list_all p a) (list_all p b) h k
 
 -- no byte of a pattern is a `#`
 third : (a b s d : Bool) → not (a || (b || (s || d))) ≡ true → not s ≡ true
@@ -63,7 +50,7 @@ key_free : (c : ℕ) → is_key_byte c ≡ true → is_free c ≡ true
 key_free c h = value_free c (both (is_value_byte c) (not (c == equals)) h).0
 
 segment_is_free : (s : Segment) → is_segment s ≡ true → list_all is_free (segment_text (one_named s)) ≡ true
-segment_is_free (Literal t) h = weaker is_literal_byte is_free literal_free t (text_passes is_literal_byte t h)
+segment_is_free (Literal t) h = list_all_weaker is_literal_byte is_free literal_free t (text_passes is_literal_byte t h)
 segment_is_free (Label n) h = refl
 segment_is_free (Greedy n) h = refl
 
@@ -79,12 +66,12 @@ path_free (s ∷ ss) h = segments_free (s ∷ ss) h
 
 value_is_free : (v : Option (List ℕ)) → is_value v ≡ true → list_all is_free (value_text v) ≡ true
 value_is_free None h = refl
-value_is_free (Some v) h = weaker is_value_byte is_free value_free v h
+value_is_free (Some v) h = list_all_weaker is_value_byte is_free value_free v h
 
 literal_is_free : (l : QueryLiteral) → is_query_literal l ≡ true → list_all is_free (literal_text l) ≡ true
 literal_is_free l h =
     let a = both (is_text_of is_key_byte l.0) (is_value l.1) h in
-    all_both is_free l.0 (value_text l.1) (weaker is_key_byte is_free key_free l.0 (text_passes is_key_byte l.0 a.0))
+    all_both is_free l.0 (value_text l.1) (list_all_weaker is_key_byte is_free key_free l.0 (text_passes is_key_byte l.0 a.0))
     (value_is_free l.1 a.1)
 
 more_free : (ls : List QueryLiteral) → list_all is_query_literal ls ≡ true → list_all is_free (more_text ls) ≡ true

@@ -22,9 +22,9 @@ use Rattle.sm_rules.specs.parts.Putting.{Below}
 use Rattle.sm_rules.specs.parts.Using.{is_own_service}
 use Rattle.sm_rules.proofs.EventsPut.{puts_none, puts_same}
 use Rattle.sm_rules.proofs.IdsRise.{falling, rising}
+use Rattle.sm_rules.proofs.UnusedShapes.{own_service, service_own}
 use Rattle.sm_http_rules.specs.parts.Routes.{AreKeys, IsKeyAt, IsRouteKey, closure_of_route, key_of}
 use Rattle.sm_http_rules.specs.parts.Runs.{ToldFrom, key_inside}
-use Rattle.sm_http_rules.proofs.BoundSides.{service_told, told_service}
 use Rattle.sm_http_rules.proofs.RouteKeys.{keys_same, one_key, same_keys}
 
 pub closure_there : (g : GraphMaps) (operation smaller : List ℕ) (h : HasSameRoute g operation smaller)
@@ -37,7 +37,7 @@ ToldHere g service e = IsEventIn HttpRoutes (HasSameRoute g) (closure_of_route g
 pub no_routes : (g : GraphMaps) (id : List ℕ) → is_own_service g id ≡ false → (es : List ModelEvent) → Puts (ToldHere g id) es es
 no_routes g id other es =
     puts_none (ToldHere g id) es
-    (λ e h. apart (sym other ∙ told_service g id (subst (IsService g) h.3 h.2.inside.0)))
+    (λ e h. apart (sym other ∙ service_own g id (subst (IsService g) h.3 h.2.inside.0)))
 
 module _ (g : Graph) (table : List (Option (List ℕ))) (are : AreKeys g (length (entries_of g)) table) (service : ℕ)
     (own : is_own_service (maps_of g) (id_of_number g service) ≡ true) (inside : List Bool) (marks : AreInside g service inside) where
@@ -55,7 +55,7 @@ module _ (g : Graph) (table : List (Option (List ℕ))) (are : AreKeys g (length
       by : (b : Bool) → get_or inside k false ≡ b → cond b (get_or table k None) None ≡ Some key
           → IsInClosure m (id_of_number g service) (id_of_number g k) × IsRouteKey m (id_of_number g k) key
       by true in_it h = (
-        (service_told m (id_of_number g service) own, ((marks.marked k).0 in_it).1),
+        (own_service m (id_of_number g service) own, ((marks.marked k).0 in_it).1),
         subst (IsKeyAt g k) h (are.each k less),
       )
       by false out h = absurd (none-some key h)

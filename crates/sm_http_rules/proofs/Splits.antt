@@ -1,16 +1,17 @@
 -- Lists that are cut at an element, and what their parts are made of.
 use Rattle.std.proofs.Common.{◌≡◌, ◌<◌, ◌+◌, ℕ, List, [], ◌∷◌, ◌++◌, Option, Some, None, length, get_or, map, take, drop, refl, sym, ap}
-use Rattle.std.proofs.Common.{◌∙◌, subst, arith}
+use Rattle.std.proofs.Common.{◌∙◌, subst}
 use Rattle.std.specs.Prelude.{IsSomeAnd, slice_get}
 use Rattle.std.specs.FinMap as fin
 use Rattle.std.specs.List.{cons_option, filter_map}
-use Rattle.std.proofs.Math.Seq.{get_or-append_seam, take-append_seam}
-use Rattle.std.proofs.lemmas.List.{append-nil, append_assoc, drop_more, length-append, take-append-drop}
-use Rattle.std.proofs.lemmas.Option.{get_or_from_slice_get, same_Some, slice_get_read, slice_get_within}
+use Rattle.std.proofs.Math.Seq.{take-append_seam}
+use Rattle.std.proofs.lemmas.List.{append-nil, append_assoc, drop_more}
+use Rattle.std.proofs.lemmas.Option.{same_Some, slice_get_within}
 use Rattle.sm_model.specs.EventView.{EventTold}
 use Rattle.sm_model.specs.Graphs.{text_cmp}
 use Rattle.sm_rules.specs.parts.Earlier.{ToldAfter, ToldAt}
 use Rattle.sm_rules.specs.parts.Putting.{Below}
+use Rattle.sm_rules.proofs.RepeatedNames.{parts_at, seam_at}
 
 abbrev behind_first : {X : Type 0} → List X → List X
 behind_first [] = []
@@ -27,21 +28,6 @@ IsThere (x ∷ xs) = Unit {0}
 not_nil : {X : Type 0} (before : List X) (y : X) (later : List X) → [] ≡ before ++ y ∷ later → ⊥
 not_nil [] y later is = subst IsThere (sym is) tt
 not_nil (b ∷ before) y later is = subst IsThere (sym is) tt
-
--- a place of a list, and the parts before and behind it
-parts_at : {X : Type 0} (xs : List X) (i : ℕ) (x : X) → slice_get xs i ≡ Some x → xs ≡ take i xs ++ x ∷ drop (i + 1) xs
-parts_at xs i x at =
-    let within = slice_get_within xs i x at in
-    sym (take-append-drop i xs)
-    ∙ ap (λ ys. take i xs ++ ys) (drop_more xs i x within ∙ ap (λ y. y ∷ drop (i + 1) xs) (get_or_from_slice_get xs i x x at))
-
-seam_at : {X : Type 0} (before : List X) (x : X) (later : List X) → slice_get (before ++ x ∷ later) (length before) ≡ Some x
-seam_at before x later =
-    let long : length (before ++ x ∷ later) ≡ length before + (length later + 1) =
-    length-append before (x ∷ later) ∙ ap (λ n. length before + n) (omega arith) in
-    let within : length before < length (before ++ x ∷ later) = omega (arith, long) in
-    slice_get_read (before ++ x ∷ later) (length (before ++ x ∷ later)) (length before) x refl within
-    (sym (get_or-append_seam before x later x))
 
 -- what is told at the places of rows is told of a row and those before it
 module _ (T : ℕ → ℕ → EventTold → Type 0) where
@@ -135,10 +121,6 @@ module _ {X Y : Type 0} (f : X → Y) where
         made = sym (all_kept r.first) ∙ r.made;
         here = same_Some (f r.at) y r.here;
       }
-
-  pub mapped_cut : (xs : List X) (y : X) (ys : List X) → map f (xs ++ y ∷ ys) ≡ map f xs ++ f y ∷ map f ys
-  mapped_cut [] y ys = refl
-  mapped_cut (x ∷ xs) y ys = ap (λ zs. f x ∷ zs) (mapped_cut xs y ys)
 
 -- what is kept is put one by one
 module _ {X Y : Type 0} (h : X → Option Y) where

@@ -1,7 +1,7 @@
 -- What is told of the names of a shape's members is what the rule says.
 use Rattle.std.proofs.Common.{◌≡◌, ◌⊎◌, inl, inr, ℕ, Bool, true, false, List, [], ◌∷◌, ◌++◌, Option, Some, None, get_or, map, refl, sym}
 use Rattle.std.proofs.Common.{ap, ◌∙◌, subst}
-use Rattle.std.specs.Prelude.{◌||◌}
+use Rattle.std.specs.Prelude.{◌↔◌, ◌||◌}
 use Rattle.std.specs.FinMap as fin
 use Rattle.std.specs.List.{Contains, cons_option, filter_map}
 use Rattle.std.specs.Str.{bytes_eq, str_eq_ignore_ascii_case}
@@ -280,3 +280,13 @@ module _ (id : List ℕ) (prefixes : List (List ℕ)) (header : List ℕ) where
 
   pub not_begun : (BeginsWithOne (folded header) prefixes → ⊥) → (es : List ModelEvent) → Puts (IsHeader id prefixes header) es es
   not_begun none es = puts_none (IsHeader id prefixes header) es (λ e x. none x.0)
+
+-- of prefixes that begin the same texts the same is told
+pub same_begun : (g : Graph) (ps qs : List (List ℕ)) → ((text : List ℕ) → BeginsWithOne text ps ↔ BeginsWithOne text qs) → (ks : List ℕ)
+    → (a b : List ModelEvent) → Puts (ToldOf (ToldBegun g ps) ks) a b → Puts (ToldOf (ToldBegun g qs) ks) a b
+same_begun g ps qs same ks a b h =
+    puts_same (ToldOf (ToldBegun g ps) ks) (ToldOf (ToldBegun g qs) ks) a b
+    (λ e. (
+      λ x. (x.0, x.1, (x.2.0, x.2.1, ((same (folded x.2.0)).0 x.2.2.0, x.2.2.1))),
+      λ x. (x.0, x.1, (x.2.0, x.2.1, ((same (folded x.2.0)).1 x.2.2.0, x.2.2.1))),
+    )) h

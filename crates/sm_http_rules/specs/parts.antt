@@ -4,3 +4,8 @@ pub mod Sides
 pub mod WireNames
 pub mod Runs
 pub mod Routes
+pub mod Binding
+pub mod Allowing
+pub mod LeftOut
+pub mod BoundTargets
+pub mod Shortest

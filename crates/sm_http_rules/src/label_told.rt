@@ -9,7 +9,7 @@ ghost use Rattle.sm_rules.specs.parts.Firsts.{number_in};
 ghost use Rattle.sm_rules.specs.parts.Putting.{ToldOf};
 ghost use Rattle.sm_http_rules.specs.parts.Labels.{ToldByRows, ToldLabel, ToldMember, is_wrong_member};
 
-use crate::targets::targets_string;
+use crate::targets::{Wanted, targets_at};
 use sm_model::{Graph, ModelEvent};
 use sm_rules::Rule;
 use sm_rules::carried::carries;
@@ -170,7 +170,7 @@ fn is_other_shape(graph: &Graph, member: u32, greedy: Option<u32>) -> bool
     ensures { result ≡ (is_some greedy && not (targets (passes is_string) (maps_of graph.now) (id_of_number graph.now member))) }
 {
     match greedy {
-        Some(_) => !targets_string(graph, member),
+        Some(_) => !targets_at(graph, Wanted::Text, member),
         None => false,
     }
 }

@@ -2,14 +2,19 @@
 #![tactic(auto)]
 
 mod again;
+mod allows;
+mod bindings;
+pub mod bound_targets;
 mod label_rows;
 mod label_told;
 pub mod labels;
+mod left_out;
 pub mod naming;
 mod prefixes;
 mod route_keys;
 pub mod routes;
 mod runs;
+mod shortest;
 pub mod sides;
 mod targets;
 pub mod wire_names;

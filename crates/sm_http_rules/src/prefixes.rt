@@ -1,5 +1,5 @@
 // Headers that begin with a prefix of their shape.
-ghost use Rattle.std.specs.Prelude.{◌≡◌, ◌++◌, ◌↔◌, [], IfOk, IsTrue, OnOk, true};
+ghost use Rattle.std.specs.Prelude.{◌≡◌, ◌++◌, [], IfOk, OnOk, true};
 ghost use Rattle.std.specs.List.{cons_option};
 ghost use Rattle.std.specs.Option.{option_copied};
 ghost use Rattle.sm_model.specs.GraphView.{AreShapeNumbers, IsShapeNumber, maps_of};
@@ -8,10 +8,11 @@ ghost use Rattle.sm_compile.specs.rules.WireNames.{header_name};
 ghost use Rattle.sm_rules.specs.RuleEvents.{Puts};
 ghost use Rattle.sm_rules.specs.parts.Folded.{is_own_shape};
 ghost use Rattle.sm_rules.specs.parts.Putting.{ToldOf};
-ghost use Rattle.sm_http_rules.specs.parts.WireNames.{BeginsWith, BeginsWithOne, IsHeader, ToldBegun, ToldPrefixed, prefix_in, prefix_of};
-ghost use Rattle.sm_http_rules.specs.parts.WireNames.{prefixes_of};
+ghost use Rattle.sm_http_rules.specs.parts.Shortest.{AreApart};
+ghost use Rattle.sm_http_rules.specs.parts.WireNames.{IsHeader, ToldBegun, ToldPrefixed, prefix_in, prefix_of, prefixes_of};
 
 use crate::naming::read_trait;
+use crate::shortest::{begins_with_one, shortest};
 use sm_compile::{members_of, text_in_trait};
 use sm_model::{Graph, ModelEvent};
 use sm_rules::Rule;
@@ -47,6 +48,7 @@ fn put_begun(
         (Puts (ToldOf (ToldBegun graph.now (prefixes_of graph.now members.now)) members.now) events.old.items events.new.items) }
 {
     let prefixes = prefixes_among(alloc, graph, members)?;
+    let prefixes = shortest(prefixes);
     put_each_begun(alloc, graph, prefixes.as_slice(), members, events)?;
     Ok(())
 }
@@ -101,7 +103,8 @@ fn put_each_begun(
     members: &[u32],
     events: &mut Vec<ModelEvent>,
 ) -> Result<(), NoMemory>
-    requires { AreShapeNumbers graph.now members.now }
+    requires apart { AreApart prefixes.now }
+    requires members { AreShapeNumbers graph.now members.now }
     ensures { OnOk result (Puts (ToldOf (ToldBegun graph.now prefixes.now) members.now) events.old.items events.new.items) }
 {
     for member in members {
@@ -117,7 +120,8 @@ fn put_begun_at(
     member: u32,
     events: &mut Vec<ModelEvent>,
 ) -> Result<(), NoMemory>
-    requires { IsShapeNumber graph.now member }
+    requires apart { AreApart prefixes.now }
+    requires member { IsShapeNumber graph.now member }
     ensures { OnOk result (Puts (ToldBegun graph.now prefixes.now member) events.old.items events.new.items) }
 {
     match header_name(graph, member) {
@@ -145,7 +149,8 @@ fn put_header(
     header: &str,
     events: &mut Vec<ModelEvent>,
 ) -> Result<(), NoMemory>
-    requires { IsShapeNumber graph.now member }
+    requires apart { AreApart prefixes.now }
+    requires member { IsShapeNumber graph.now member }
     ensures { OnOk result
         (Puts (IsHeader (id_of_number graph.now member) prefixes.now header.now) events.old.items events.new.items) }
 {
@@ -155,25 +160,5 @@ fn put_header(
         Ok(())
     } else {
         Ok(())
-    }
-}
-
-fn begins_with_one(text: &str, prefixes: &[Text]) -> bool
-    ensures { IsTrue result ↔ BeginsWithOne text.now prefixes.now }
-{
-    for prefix in prefixes {
-        if begins_with(text, prefix.as_str()) {
-            return true;
-        }
-    }
-    false
-}
-
-fn begins_with(text: &str, prefix: &str) -> bool
-    ensures { IsTrue result ↔ BeginsWith text.now prefix.now }
-{
-    match text.strip_prefix(prefix) {
-        Some(_) => true,
-        None => false,
     }
 }

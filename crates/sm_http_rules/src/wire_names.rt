@@ -20,8 +20,7 @@ use sm_rules::owned::is_own_shape;
 use sm_tree::NoMemory;
 use std::alloc::Global;
 
-/// Puts the events of the rule. n log n, and each header of a shape is held against each of its prefixes, of which `Trait.Single`
-/// allows one.
+/// Puts the events of the rule. n log n.
 pub fn put_wire_names(
     alloc: Global,
     graph: &Graph,

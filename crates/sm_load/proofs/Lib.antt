@@ -1,5 +1,6 @@
 pub mod NamedEvents
 pub mod SuppressionsKept
+pub mod PartsPut
 pub mod RulesPut
 pub mod ListTold
 pub mod OneRuleList

@@ -5,7 +5,11 @@ ghost use Rattle.sm_rules.specs.RuleEvents.{Puts};
 ghost use Rattle.sm_load.specs.Events.{AreModelEvents};
 ghost use Rattle.sm_load.specs.parts.Passes.{IsOfRule};
 
+use crate::joined::put_places;
 use crate::suppressed::without_suppressed;
+use sm_http_rules::labels::put_labels;
+use sm_http_rules::routes::put_routes;
+use sm_http_rules::wire_names::put_wire_names;
 use sm_merge::sorted_events;
 use sm_model::{Graph, ModelEvent, ModelEvents};
 use sm_rules::bounds::put_bounds;
@@ -17,6 +21,11 @@ use sm_rules::single::put_single;
 use sm_rules::unknown::put_unknown;
 use sm_rules::unused::put_unused;
 use sm_rules::uris::put_uris;
+use sm_service_rules::finite::put_infinite;
+use sm_service_rules::names::put_names;
+use sm_target_rules::enums::put_enums;
+use sm_target_rules::kinds::put_kinds;
+use sm_target_rules::missing::put_missing;
 use sm_tree::NoMemory;
 use std::alloc::Global;
 
@@ -36,10 +45,19 @@ fn put_rules(alloc: Global, graph: &Graph, events: &mut Vec<ModelEvent>) -> Resu
 {
     put_twins(alloc, graph, events)?;
     put_repeats(alloc, graph, events)?;
+    put_missing(alloc, graph, events)?;
+    put_kinds(alloc, graph, events)?;
     put_unknown(alloc, graph, events)?;
+    put_places(alloc, graph, events)?;
     put_single(alloc, graph, events)?;
+    put_infinite(alloc, graph, events)?;
+    put_enums(alloc, graph, events)?;
     put_bounds(alloc, graph, events)?;
+    put_names(alloc, graph, events)?;
     put_uris(alloc, graph, events)?;
+    put_labels(alloc, graph, events)?;
+    put_wire_names(alloc, graph, events)?;
+    put_routes(alloc, graph, events)?;
     put_codes(alloc, graph, events)?;
     put_methods(alloc, graph, events)?;
     put_unused(alloc, graph, events)?;

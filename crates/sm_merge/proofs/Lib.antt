@@ -77,6 +77,7 @@ mod MembersOther
 mod WholeEvents
 mod OthersPut
 pub mod SomeGraph
+pub mod FormedGraphs
 pub mod SomeEvents
 pub mod GraphSound
 pub mod RestatedValues

@@ -138,7 +138,7 @@ module _ (ss : List Stated) (sound : AreSoundStated ss) where
       let of = same_Some h.of k.of (sym h.found ∙ (λ i. fin.find text_cmp (name i) (m i).members) ∙ k.found) in
       h.is ∙ (λ i. member_entry (with_enum_value (s i).shape.kind (name i) (of i))) ∙ sym k.is
 
-  apart : (id : List ℕ) (e f : Entry) → IsMergedShape ss id e → IsMergedMember ss id f → ⊥
+  pub apart : (id : List ℕ) (e f : Entry) → IsMergedShape ss id e → IsMergedMember ss id f → ⊥
   apart id e f h k =
       let same : id ≡ k.shape = sym (of_shape id (shape_id id h.s h.there)) ∙ own_part id f k in
       longer k.shape k.name (sym same ∙ k.under)
@@ -148,7 +148,7 @@ module _ (ss : List Stated) (sound : AreSoundStated ss) where
       stands_by_test (shape_part id) (given_ids prelude_shapes) (shapes_of prelude_shapes prelude_given.each id
       (has_key id e (given_entries prelude_shapes) (made_has (given_entries prelude_shapes) id e h)))
 
-  shape_own : (id : List ℕ) (e f : Entry) → IsMergedShape ss id e → IsOfPrelude id f → ⊥
+  pub shape_own : (id : List ℕ) (e f : Entry) → IsMergedShape ss id e → IsOfPrelude id f → ⊥
   shape_own id e f h k =
       clash (is_prelude_id id) (ap is_prelude_id (sym (of_shape id (shape_id id h.s h.there))) ∙ of_prelude id f k)
       (sound_under id ss h.s sound h.there).own

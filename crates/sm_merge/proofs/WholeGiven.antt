@@ -95,7 +95,7 @@ whole_names : (kind : Kind) (ms : EffectiveMembers) → names_of ms ≡ given_na
 whole_names kind [] = refl
 whole_names kind (m ∷ ms) = ap (λ names. m.0 ∷ names) (whole_names kind ms)
 
-shape_given : (s : ShapeStated) (m : EffectiveShape) → IsSoundShape s.shape → IsSoundEffective s.shape.kind m
+pub shape_given : (s : ShapeStated) (m : EffectiveShape) → IsSoundShape s.shape → IsSoundEffective s.shape.kind m
     → IsGivenShape (whole_shape (bare_of s) m)
 shape_given s m h is = record {
   id = h.id;

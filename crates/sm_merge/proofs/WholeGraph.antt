@@ -41,11 +41,11 @@ member_ids_of : (shape : List ℕ) (kind : Kind) (ms : EffectiveMembers)
 member_ids_of shape kind [] = refl
 member_ids_of shape kind (m ∷ ms) = ap (λ ids. member_id shape m.0 ∷ ids) (member_ids_of shape kind ms)
 
-abbrev whole_entry : List ℕ → Bare → EffectiveShape → Entry
+abbrev pub whole_entry : List ℕ → Bare → EffectiveShape → Entry
 whole_entry id b m =
     shape_entry (record { kind = b.kind; members = map (member_id id) (names_of m.members); properties = b.properties; traits = m.traits })
 
-entry_same : (b : Bare) (m : EffectiveShape) → Path Entry (shape_entry (record {
+pub entry_same : (b : Bare) (m : EffectiveShape) → Path Entry (shape_entry (record {
   kind = b.kind;
   members = map (λ x. member_id b.id x.name) (map (whole_member b.kind) m.members);
   properties = b.properties;
@@ -62,14 +62,14 @@ pub member_same : (e : MemberEntry)
     → Path Entry (member_entry (record { target = e.target; traits = fin.from_entries (fin.entries e.traits) })) (member_entry e)
 member_same e = λ i. member_entry (record { target = e.target; traits = map_again e.traits i })
 
-record IsMemberIn (shape : List ℕ) (kind : Kind) (ms : EffectiveMembers) (id : List ℕ) (e : Entry) : Type 0 where
-  name : List ℕ
-  of : MemberEntry
-  there : Has name of ms
-  under : id ≡ member_id shape name
-  is : e ≡ member_entry (with_enum_value kind name of)
+pub record IsMemberIn (shape : List ℕ) (kind : Kind) (ms : EffectiveMembers) (id : List ℕ) (e : Entry) : Type 0 where
+  pub name : List ℕ
+  pub of : MemberEntry
+  pub there : Has name of ms
+  pub under : id ≡ member_id shape name
+  pub is : e ≡ member_entry (with_enum_value kind name of)
 
-member_in : (shape : List ℕ) (kind : Kind) (ms : EffectiveMembers) (id : List ℕ) (e : Entry)
+pub member_in : (shape : List ℕ) (kind : Kind) (ms : EffectiveMembers) (id : List ℕ) (e : Entry)
     → Has id e (given_members shape (map (whole_member kind) ms)) → IsMemberIn shape kind ms id e
 member_in shape kind [] id e h = absurd h
 member_in shape kind (m ∷ ms) id e (inl (same, is)) = record {
@@ -83,7 +83,7 @@ member_in shape kind (m ∷ ms) id e (inr h) =
     let later = member_in shape kind ms id e h in
     record { name = later.name; of = later.of; there = inr later.there; under = later.under; is = later.is }
 
-in_member : (shape : List ℕ) (kind : Kind) (ms : EffectiveMembers) (name : List ℕ) (of : MemberEntry) → Has name of ms
+pub in_member : (shape : List ℕ) (kind : Kind) (ms : EffectiveMembers) (name : List ℕ) (of : MemberEntry) → Has name of ms
     → Has (member_id shape name) (member_entry (with_enum_value kind name of)) (given_members shape (map (whole_member kind) ms))
 in_member shape kind [] name of h = absurd h
 in_member shape kind (m ∷ ms) name of (inl (same, is)) = inl (

@@ -2,6 +2,7 @@
 use Rattle.std.specs.Prelude.{◌≡◌, ◌↔◌, ℕ, List, [], Result}
 use Rattle.std.specs.List.{Contains}
 use Rattle.sm_tree.specs.Node.{Node}
+use Rattle.sm_model.specs.FormedGraph.{IsFormedGraph}
 use Rattle.sm_model.specs.Said.{Said}
 use Rattle.sm_model.specs.Graphs.{GraphMaps}
 use Rattle.sm_model.specs.PreludeShapes.{prelude_graph}
@@ -39,6 +40,11 @@ SomeGraph = (files : List (List Said)) → AreFormedFiles files → ((g : GraphM
 
 abbrev pub SomeEvents : Type 0
 SomeEvents = (files : List (List Said)) → ((es : List EventTold) → AreEventsOf (stated_by files) es → ⊥) → ⊥
+
+-- a graph of theirs that is within the limits has the form of one
+abbrev pub FormedGraphs : Type 0
+FormedGraphs = (files : List (List Said)) → AreFormedFiles files → (g : GraphMaps) → IsGraphOf (stated_by files) g → IsWithinLimits g
+    → IsFormedGraph g
 
 -- the same statements in the same order, in one file or several, merge to the same
 abbrev pub OneFileOrSeveral : Type 0

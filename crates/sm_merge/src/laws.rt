@@ -1,4 +1,5 @@
 // Laws over the definitions of merging: public functions with empty bodies, whose contracts are the laws.
+ghost use Rattle.sm_merge.specs.Laws.{FormedGraphs};
 ghost use Rattle.sm_merge.specs.Laws.{NoFiles, OneEffectiveShape, OneFileOrSeveral, OneGraph, OneListOfEvents, OneValue, OtherOrder};
 ghost use Rattle.sm_merge.specs.Laws.{SomeEvents, SomeGraph};
 ghost use Rattle.sm_merge.specs.Restated.{StatedAgain};
@@ -30,6 +31,12 @@ pub fn one_list_of_events()
 #[tactic(auto, using(crate::proofs::SomeGraph::some_graph))]
 pub fn some_graph()
     ensures { SomeGraph }
+{}
+
+/// A graph of the statements of files that is within the limits has the form of one: it is made of shapes as `Graph::build` takes them.
+#[tactic(auto, using(crate::proofs::FormedGraphs::merged_formed))]
+pub fn formed_graphs()
+    ensures { FormedGraphs }
 {}
 
 /// Statements have a list of events, which may be empty: it can't be that they have none.

@@ -4,23 +4,18 @@ use Rattle.std.proofs.Common.{None, refl, sym, ap, ◌∙◌, subst, arith}
 use Rattle.std.specs.Prelude.{◌↔◌, ◌==◌, not}
 use Rattle.std.specs.Cmp.{tied_itself}
 use Rattle.std.specs.Cmp.Lexicographic.{nat_list_cmp_total}
-use Rattle.std.specs.FinMap.Entries.{find, is_sorted}
+use Rattle.std.specs.FinMap.Entries.{find}
 use Rattle.std.specs.List.{Contains}
-use Rattle.std.specs.declared.cmp.Ordering.{Ordering}
 use Rattle.std.specs.declared.cmp.Ordering.TheVariants.{Less, Equal, Greater}
-use Rattle.std.proofs.lemmas.Bool.{cases_order, eq-eqb, ne_eqb}
-use Rattle.std.proofs.lemmas.Option.{get_or_from_slice_get}
+use Rattle.std.proofs.lemmas.Bool.{eq-eqb, ne_eqb}
 use Rattle.std.specs.Ordering.{ordering_reverse}
 use Rattle.sm_model.specs.EventView.{EventTold}
-use Rattle.sm_model.specs.Graphs.{text_cmp, Entry, shape_entry}
+use Rattle.sm_model.specs.Graphs.{text_cmp, shape_entry}
 use Rattle.sm_model.specs.GraphView.{entries_of, maps_of}
 use Rattle.sm_model.specs.Reaching.{id_of_number}
 use Rattle.sm_model.specs.declared.event.ModelEvent.{ModelEvent}
 use Rattle.sm_model.specs.declared.graph.Graph.{Graph}
-use Rattle.sm_model.proofs.LinkNumbers.{stands_at}
-use Rattle.sm_model.proofs.GraphFacts.{id_at}
 use Rattle.sm_model.proofs.NumberedIds.{number_of}
-use Rattle.sm_model.proofs.Searching.{and_left, key_at, keys_rise}
 use Rattle.sm_model.proofs.Worklist.{apart}
 use Rattle.sm_rules.specs.RuleEvents.{IsEventOf, Puts, rule_event}
 use Rattle.sm_rules.specs.declared.rule.Rule.TheVariants.{IdCase}

@@ -56,7 +56,8 @@ pub operation_kind : (k : Kind) → is_operation (Some k) ≡ true → k ≡ Ope
 operation_kind Operation h = refl
 operation_kind k h = absurd (apart h)
 
-pub operation_in : (o : Option Entry) → is_operation (kind_in o) ≡ true → (s : ShapeEntry) × (o ≡ Some (shape_entry s)) × (s.kind ≡ Operation)
+pub operation_in : (o : Option Entry) → is_operation (kind_in o) ≡ true
+    → (s : ShapeEntry) × (o ≡ Some (shape_entry s)) × (s.kind ≡ Operation)
 operation_in None h = absurd (apart h)
 operation_in (Some (shape_entry s)) h = (s, refl, operation_kind s.kind h)
 operation_in (Some (member_entry m)) h = absurd (apart h)

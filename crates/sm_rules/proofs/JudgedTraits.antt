@@ -1,5 +1,5 @@
 -- What is told of traits that are judged by the table, number by number, is what is told of each shape and member.
-use Rattle.std.proofs.Common.{◌≡◌, ◌⊎◌, ◌<◌, inl, inr, ℕ, Bool, true, false, List, Option, Some, None, length, map, refl, sym, ap, ◌∙◌}
+use Rattle.std.proofs.Common.{◌≡◌, inl, inr, ℕ, true, false, List, Option, Some, None, length, map, refl, sym, ap, ◌∙◌}
 use Rattle.std.proofs.Common.{subst}
 use Rattle.std.specs.Prelude.{◌↔◌, ◌&&◌, not}
 use Rattle.std.specs.FinMap as fin
@@ -22,10 +22,10 @@ use Rattle.sm_model.proofs.NumberedIds.{number_of}
 use Rattle.sm_model.proofs.Searching.{and_left, and_right}
 use Rattle.sm_model.proofs.Worklist.{apart}
 use Rattle.sm_compile.specs.Looked.{kind_in, kind_under, listed_in, listed_under, target_in}
-use Rattle.sm_compile.specs.Sound.{trait_in, trait_of}
+use Rattle.sm_compile.specs.Sound.{trait_in}
 use Rattle.sm_compile.specs.TraitRows.{Spot, at_member, at_shape}
 use Rattle.sm_compile.specs.rules.Traits.{IsMemberSpot, IsSpot, of_member, of_shape}
-use Rattle.sm_compile.specs.rules.Words.{CarriesTrait, IsMemberOf, IsOwnShape}
+use Rattle.sm_compile.specs.rules.Words.{CarriesTrait}
 use Rattle.sm_compile.proofs.TabledShapes.{mapped_from, mapped_to}
 use Rattle.sm_rules.specs.RuleEvents.{IsEventOf, Puts, rule_event}
 use Rattle.sm_rules.specs.declared.rule.Rule.{Rule}

@@ -1,12 +1,12 @@
 -- What the code asks of the rows of the table is what the table says.
-use Rattle.std.proofs.Common.{◌≡◌, ℕ, Bool, true, false, List, [], ◌∷◌, ◌++◌, Option, Some, None, cond, refl, sym, ap, ◌∙◌}
+use Rattle.std.proofs.Common.{◌≡◌, ℕ, Bool, true, false, List, [], ◌∷◌, ◌++◌, Some, None, cond, refl, sym, ap, ◌∙◌}
 use Rattle.std.specs.Prelude.{◌&&◌, ◌||◌, ◌==◌, codes, is_some, not}
 use Rattle.httparse.specs.Grammar.{is_token_byte}
 use Rattle.std.specs.Char.{is_ascii_alphanumeric}
 use Rattle.std.specs.List.{filter, list_any}
 use Rattle.std.specs.Str.{bytes_eq}
 use Rattle.sm_tree.specs.Node.{Node}
-use Rattle.sm_model.specs.Graphs.{Entry, shape_entry, member_entry}
+use Rattle.sm_model.specs.Graphs.{shape_entry, member_entry}
 use Rattle.sm_model.specs.declared.kind.Kind.{Kind}
 use Rattle.sm_model.specs.declared.kind.Kind.TheVariants as model
 use Rattle.sm_compile.specs.Kinds.{has_values}
@@ -23,7 +23,7 @@ use Rattle.sm_rules.specs.declared.rows.place.Place.TheVariants as place
 use Rattle.sm_rules.specs.declared.rows.place.Stand.{Stand}
 use Rattle.sm_rules.specs.parts.Forms.{form_said, is_of_form, token_signs}
 use Rattle.sm_rules.specs.parts.Places.{allows, is_defaulted_kind, places_said, stand_at, types_said}
-use Rattle.sm_rules.specs.parts.RowTests.{any_row, is_wrong_place, is_wrong_value, names_passing, reads_by, reads_there, some_row}
+use Rattle.sm_rules.specs.parts.RowTests.{any_row, is_wrong_place, is_wrong_value, reads_by, reads_there, some_row}
 use Rattle.sm_rules.specs.parts.RowTests.{stand_takes_in, stands_by}
 use Rattle.sm_rules.proofs.HttpSaid.{free, needed}
 

@@ -1,7 +1,6 @@
 -- What is told by the table is what the two rules say.
 use Rattle.std.proofs.Common.{◌≡◌, ℕ, Bool, true, false, List, length, sym, ap, ◌∙◌}
 use Rattle.std.specs.Prelude.{◌↔◌, ◌&&◌, not}
-use Rattle.sm_model.specs.EventView.{EventTold}
 use Rattle.sm_model.specs.GraphView.{entries_of, maps_of}
 use Rattle.sm_model.specs.Graphs.{GraphMaps}
 use Rattle.sm_model.specs.Reaching.{id_of_number}

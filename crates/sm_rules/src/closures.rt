@@ -20,7 +20,8 @@ pub fn is_own_service(graph: &Graph, number: u32) -> bool
     is_service(kind_of(graph, number)) && !is_in_prelude(id_text(graph, number))
 }
 
-fn is_service(kind: Option<Kind>) -> bool
+// Whether what stands there is a service.
+pub(crate) fn is_service(kind: Option<Kind>) -> bool
     ensures { result ≡ is_service kind }
 {
     match kind {

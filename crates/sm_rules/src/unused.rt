@@ -9,14 +9,14 @@ ghost use Rattle.sm_rules.specs.rules.Ids.{IsUnused};
 ghost use Rattle.sm_rules.specs.parts.Using.{AreUsed, is_own_service, is_service, is_unused, wants_use};
 
 use crate::carried::carries;
-use crate::closures::is_own_service;
+use crate::closures::{is_own_service, is_service};
 use crate::each::{AtEach, put_each};
 use crate::marked::{NumberTest, marked_where};
 use crate::owned::is_own_shape;
 use crate::putting::put_if;
 use crate::rule::Rule;
-use sm_compile::{id_text, kind_of};
-use sm_model::{Graph, Kind, ModelEvent, is_in_prelude};
+use sm_compile::kind_of;
+use sm_model::{Graph, ModelEvent};
 use sm_select::walked;
 use sm_tree::NoMemory;
 use std::alloc::Global;

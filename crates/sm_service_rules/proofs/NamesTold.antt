@@ -1,13 +1,11 @@
 -- What is told of the rows and pairs of a service is what the rule on its names says.
-use Rattle.std.proofs.Common.{◌≡◌, ◌⊎◌, ◌<◌, inl, inr, ℕ, Bool, true, false, List, [], ◌∷◌, Option, Some, None, get_or, length, replicate}
+use Rattle.std.proofs.Common.{◌≡◌, ◌⊎◌, ◌<◌, inl, inr, ℕ, Bool, true, false, List, [], ◌∷◌, Option, Some, None, get_or, length}
 use Rattle.std.proofs.Common.{refl}
-use Rattle.std.proofs.Common.{sym, ap, ◌∙◌, subst, arith}
-use Rattle.std.specs.Prelude.{◌↔◌, ◌&&◌, ◌||◌, is_some, not, set}
+use Rattle.std.proofs.Common.{sym, ap, ◌∙◌, subst}
+use Rattle.std.specs.Prelude.{◌↔◌, ◌&&◌, ◌||◌, is_some, not}
 use Rattle.std.specs.FinMap as fin
 use Rattle.std.specs.Option.{unwrap_or}
-use Rattle.std.specs.declared.cmp.Ordering.{Ordering}
-use Rattle.std.specs.declared.cmp.Ordering.TheVariants.{Less, Equal, Greater}
-use Rattle.std.proofs.lemmas.Option.{get_or_from_slice_get, none-some}
+use Rattle.std.proofs.lemmas.Option.{none-some}
 use Rattle.sm_tree.specs.Node.{Node, members_of}
 use Rattle.sm_tree.specs.Parts.{tree_named}
 use Rattle.sm_tree.specs.Same.{HasName}
@@ -16,18 +14,14 @@ use Rattle.sm_tree.specs.declared.tree.Tree.{Tree}
 use Rattle.sm_model.specs.EventView.{EventTold}
 use Rattle.sm_model.specs.Graphs.{text_cmp, Entry, shape_entry, member_entry, ShapeEntry, GraphMaps}
 use Rattle.sm_model.specs.GraphView.{IsShapeNumber, entries_of, maps_of}
-use Rattle.sm_model.specs.PreludeShapes.{is_prelude_id}
-use Rattle.sm_model.specs.Reaching.{Finds, IsMarked, id_of_number}
+use Rattle.sm_model.specs.Reaching.{IsMarked, id_of_number}
 use Rattle.sm_model.specs.Relations.{HasEntry, IsInGraph, Reaches, WalksBy}
 use Rattle.sm_model.specs.declared.event.ModelEvent.{ModelEvent}
 use Rattle.sm_model.specs.declared.graph.Graph.{Graph}
-use Rattle.sm_model.specs.declared.kind.Kind.{Kind}
 use Rattle.sm_model.specs.declared.kind.Kind.TheVariants.{Operation, Resource, Service}
-use Rattle.sm_model.proofs.GraphFacts.{id_at}
-use Rattle.sm_model.proofs.LinkNumbers.{one_number, stands_at}
 use Rattle.sm_model.proofs.NumberedIds.{number_of, related_in}
-use Rattle.sm_model.proofs.Searching.{and_left, and_right, key_at, keys_rise}
-use Rattle.sm_model.proofs.Worklist.{apart, found_none, mark_new, none_marked}
+use Rattle.sm_model.proofs.Searching.{and_left, and_right}
+use Rattle.sm_model.proofs.Worklist.{apart}
 use Rattle.sm_compile.specs.Looked.{kind_in, kind_under}
 use Rattle.sm_compile.proofs.ReachedNumbers.{same_number}
 use Rattle.sm_compile.specs.Sound.{trait_in}
@@ -35,7 +29,7 @@ use Rattle.sm_compile.specs.TraitIds.{error_id}
 use Rattle.sm_compile.specs.TraitNodes.{text_of}
 use Rattle.sm_compile.specs.TraitRows.{is_among}
 use Rattle.sm_compile.specs.rules.Services.{HasWrongNames, IsNamedIn, KeepsName, name_again, wrong_rename}
-use Rattle.sm_compile.specs.rules.Words.{IsOwnShape, IsService, has_trait}
+use Rattle.sm_compile.specs.rules.Words.{IsOwnShape, has_trait}
 use Rattle.sm_rules.specs.RuleEvents.{IsEventAt, Puts, rule_event}
 use Rattle.sm_rules.specs.declared.rule.Rule.TheVariants.{ServiceNames}
 use Rattle.sm_rules.specs.parts.Closures.{AreInside}

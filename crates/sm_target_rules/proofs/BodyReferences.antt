@@ -6,7 +6,7 @@ use Rattle.std.specs.Prelude.{MatchOption}
 use Rattle.std.specs.FinMap as fin
 use Rattle.std.specs.List.{Contains}
 use Rattle.std.proofs.lemmas.Option.{none-some, same_Some}
-use Rattle.sm_tree.specs.Node.{Node, Nodes, Members, null, bool, int, number, text, bytes, tag, opaque, list, object, members_of, nodes_of}
+use Rattle.sm_tree.specs.Node.{Node, Nodes, Members, text, list, object, members_of, nodes_of}
 use Rattle.sm_tree.specs.Parts.{text_in}
 use Rattle.sm_tree.specs.Same.{HasPair}
 use Rattle.sm_tree.specs.View.{members_view, node_of, nodes_view}
@@ -21,6 +21,7 @@ use Rattle.sm_model.specs.declared.event.ModelEvent.{ModelEvent}
 use Rattle.sm_model.specs.declared.graph.Graph.{Graph}
 use Rattle.sm_model.specs.declared.kind.Kind.{Kind}
 use Rattle.sm_model.specs.declared.relation.Relation.{Relation}
+use Rattle.sm_model.proofs.LinkFacts.{pair_none, refers_none}
 use Rattle.sm_model.proofs.NumberedIds.{number_of}
 use Rattle.sm_model.proofs.OneRising.{contains_behind, contains_either, contains_head, contains_none}
 use Rattle.sm_model.proofs.Worklist.{apart}
@@ -75,33 +76,6 @@ pair_among (q ∷ ps) p among = elim (contains_either q p ps among) [
   | inl same ↦ inl (ap (λ (x : List ℕ × Tree). x.0) (sym same), ap (λ (x : List ℕ × Tree). node_of x.1) (sym same))
   | inr later ↦ inr (pair_among ps p later)
 ]
-
--- what is neither a text nor a list nor an object refers to nothing
-refers_none : (n : Node) → ((t : List ℕ) → n ≡ text t → ⊥) → ((ns : Nodes) → n ≡ list ns → ⊥) → ((ms : Members) → n ≡ object ms → ⊥)
-    → (id : List ℕ) → Refers id n → ⊥
-refers_none null a b c id h = h
-refers_none (bool x) a b c id h = h
-refers_none (int z) a b c id h = h
-refers_none (number t) a b c id h = h
-refers_none (text t) a b c id h = a t refl
-refers_none (bytes t) a b c id h = h
-refers_none (tag k n) a b c id h = h
-refers_none (opaque x) a b c id h = h
-refers_none (list ns) a b c id h = b ns refl
-refers_none (object ms) a b c id h = c ms refl
-
--- nothing is a pair of what is no object
-pair_none : (n : Node) → ((ms : Members) → n ≡ object ms → ⊥) → (k : List ℕ) (v : Node) → HasBodyPair k v n → ⊥
-pair_none null c k v h = h
-pair_none (bool x) c k v h = h
-pair_none (int z) c k v h = h
-pair_none (number t) c k v h = h
-pair_none (text t) c k v h = h
-pair_none (bytes t) c k v h = h
-pair_none (tag i n) c k v h = h
-pair_none (opaque x) c k v h = h
-pair_none (list ns) c k v h = h
-pair_none (object ms) c k v h = c ms refl
 
 -- what is told of the ids that a value refers to
 module _ (Told : List ℕ → EventTold → Type 0) (n : Node) where

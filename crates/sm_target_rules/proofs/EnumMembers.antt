@@ -2,15 +2,14 @@
 use Rattle.std.proofs.Common.{◌≡◌, ◌⊎◌, ◌<◌, ◌+◌, inl, inr, ℕ, ℤ, Bool, true, false, cond, List, [], ◌∷◌, ◌++◌, Option, Some, None}
 use Rattle.std.proofs.Common.{get_or, length}
 use Rattle.std.proofs.Common.{map, take, drop, refl, sym, ap, ◌∙◌, subst, arith}
-use Rattle.std.specs.Prelude.{◌↔◌, FitsSigned, pos, negsuc, not, slice_get}
+use Rattle.std.specs.Prelude.{◌↔◌, FitsSigned, not, slice_get}
 use Rattle.std.specs.Int.{w32}
 use Rattle.std.specs.List.{Contains, take-map}
 use Rattle.std.specs.Option.{option_map}
-use Rattle.std.proofs.Math.Seq.{get_or-append_seam, take-append_seam}
-use Rattle.std.proofs.lemmas.Bool.Decides.{nat_tests}
-use Rattle.std.proofs.lemmas.List.{drop_more, get_or_default, length-append, take-append-drop, take_more}
+use Rattle.std.proofs.Math.Seq.{take-append_seam}
+use Rattle.std.proofs.lemmas.List.{get_or_default, map-append, take_more}
 use Rattle.std.proofs.lemmas.List.Elements.{Contains-append_left, Contains-push, Contains-push_cases}
-use Rattle.std.proofs.lemmas.Option.{get_or_from_slice_get, none-some, same_Some, slice_get-map, slice_get_read, slice_get_within}
+use Rattle.std.proofs.lemmas.Option.{none-some, same_Some, slice_get-map, slice_get_read, slice_get_within}
 use Rattle.sm_tree.specs.Node.{Node, null, bool, int, number, text, bytes, tag, opaque, list, object}
 use Rattle.sm_model.specs.EventView.{EventTold}
 use Rattle.sm_model.specs.Graphs.{ShapeEntry, GraphMaps}
@@ -30,12 +29,14 @@ use Rattle.sm_compile.specs.TraitNodes.{number_of, text_of}
 use Rattle.sm_compile.specs.rules.Constraints.{HasItsValue, HasWrongEnum, IsEnumKind, has_none}
 use Rattle.sm_compile.specs.rules.Constraints.{wrong_value}
 use Rattle.sm_compile.specs.rules.Words.{IsOwnShape}
-use Rattle.sm_compile.specs.steps.Tests.{fits_word}
+use Rattle.sm_compile.specs.TraitNodes.{fits_word}
+use Rattle.sm_compile.proofs.SoundTests.{fits_back, fits_from}
 use Rattle.sm_compile.proofs.TabledShapes.{mapped_from, mapped_to}
 use Rattle.sm_rules.specs.RuleEvents.{IsEventAt, IsEventIn, IsEventOf, Puts, rule_event}
 use Rattle.sm_rules.specs.declared.rule.Rule.TheVariants.{EnumValues}
 use Rattle.sm_rules.specs.parts.Putting.{Below, IsWhere}
 use Rattle.sm_rules.proofs.EventsPut.{puts_both, puts_none, puts_same}
+use Rattle.sm_rules.proofs.RepeatedNames.{parts_at, seam_at}
 use Rattle.sm_target_rules.specs.parts.Enums.{HasNone, HasWrong, IsValueAmong, IsWrongAfter, ToldValue, ToldValueAt, enum_of, enum_where}
 use Rattle.sm_target_rules.specs.parts.Enums.{are_none, home_of, own_enum, right_number, right_text, right_value, value_at}
 use Rattle.sm_target_rules.specs.parts.References.{own_kind}
@@ -94,18 +95,10 @@ filled_text n (Some (c ∷ cs)) is v h =
     by (Some (list ns)) e = absurd (none-some (c ∷ cs) e)
     by (Some (object ms)) e = absurd (none-some (c ∷ cs) e)
 
-fits_from : (z : ℤ) → fits_word z ≡ true → FitsSigned w32 z
-fits_from (pos n) h = record { sfits = grind (arith, nat_tests) }
-fits_from (negsuc n) h = record { sfits = grind (arith, nat_tests) }
-
-fits_back : (z : ℤ) → FitsSigned w32 z → fits_word z ≡ true
-fits_back (pos n) h = let f = h.sfits in grind (arith, nat_tests)
-fits_back (negsuc n) h = let f = h.sfits in grind (arith, nat_tests)
-
-fitting_number : (n : Option Node) (o : Option ℤ) → number_of n ≡ o → (v : Node) → right_number o ≡ Some v
+fitting_number : (g : GraphMaps) (n : Option Node) (o : Option ℤ) → number_of n ≡ o → (v : Node) → right_number o ≡ Some v
     → (n ≡ Some v) × ((z : ℤ) × (v ≡ int z) × FitsSigned w32 z)
-fitting_number n None is v h = absurd (none-some v h)
-fitting_number n (Some z) is v h = by (fits_word z) refl h
+fitting_number g n None is v h = absurd (none-some v h)
+fitting_number g n (Some z) is v h = by (fits_word z) refl h
   where
     from : (n : Option Node) → number_of n ≡ Some z → n ≡ Some (int z)
     from None e = absurd (none-some z e)
@@ -124,7 +117,7 @@ fitting_number n (Some z) is v h = by (fits_word z) refl h
     by false fits e = absurd (none-some v e)
     by true fits e =
         let same : int z ≡ v = same_Some (int z) v e in
-        (from n is ∙ ap Some same, (z, sym same, fits_from z fits))
+        (from n is ∙ ap Some same, (z, sym same, fits_from g z fits))
 
 -- a member has its value exactly where it is right
 module _ (g : GraphMaps) (id : List ℕ) where
@@ -137,7 +130,7 @@ module _ (g : GraphMaps) (id : List ℕ) where
       let t = r.1 in
       (r.0, subst (λ k. HasItsValue g k id) (sym is) (t.0, r.0 ∙ ap Some t.1, t.2))
   its_value kind (inr is) v h =
-      let r = fitting_number value (number_of value) refl v (subst (λ k. right_value k value ≡ Some v) is h) in
+      let r = fitting_number g value (number_of value) refl v (subst (λ k. right_value k value ≡ Some v) is h) in
       let z = r.1 in
       (r.0, subst (λ k. HasItsValue g k id) (sym is) (z.0, r.0 ∙ ap Some z.1, z.2))
 
@@ -155,27 +148,8 @@ module _ (g : GraphMaps) (id : List ℕ) where
   right_of kind (inr is) h =
       let n : HasNumber g id = subst (λ k. HasItsValue g k id) is h in (
         int n.0,
-        ap (λ k. right_value k value) is ∙ ap (right_value IntEnum) n.1 ∙ ap (λ b. cond b (Some (int n.0)) None) (fits_back n.0 n.2),
+        ap (λ k. right_value k value) is ∙ ap (right_value IntEnum) n.1 ∙ ap (λ b. cond b (Some (int n.0)) None) (fits_back g n.0 n.2),
       )
-
--- a place of a list, and the parts before and behind it
-parts_at : {X : Type 0} (xs : List X) (i : ℕ) (x : X) → slice_get xs i ≡ Some x → xs ≡ take i xs ++ x ∷ drop (i + 1) xs
-parts_at xs i x at =
-    let within = slice_get_within xs i x at in
-    sym (take-append-drop i xs)
-    ∙ ap (λ ys. take i xs ++ ys) (drop_more xs i x within ∙ ap (λ y. y ∷ drop (i + 1) xs) (get_or_from_slice_get xs i x x at))
-
-seam_at : {X : Type 0} (before : List X) (x : X) (later : List X) → slice_get (before ++ x ∷ later) (length before) ≡ Some x
-seam_at before x later =
-    let long : length (before ++ x ∷ later) ≡ length before + (length later + 1) =
-    length-append before (x ∷ later) ∙ ap (λ n. length before + n) (omega arith) in
-    let within : length before < length (before ++ x ∷ later) = omega (arith, long) in
-    slice_get_read (before ++ x ∷ later) (length (before ++ x ∷ later)) (length before) x refl within
-    (sym (get_or-append_seam before x later x))
-
-map_parts : {X Y : Type 0} (f : X → Y) (xs : List X) (y : X) (ys : List X) → map f (xs ++ y ∷ ys) ≡ map f xs ++ f y ∷ map f ys
-map_parts f [] y ys = refl
-map_parts f (x ∷ xs) y ys = ap (λ zs. f x ∷ zs) (map_parts f xs y ys)
 
 -- member by member
 module _ (g : Graph) (kind : Kind) where
@@ -244,7 +218,7 @@ module _ (g : Graph) (k : ℕ) where
                 home = s.1;
                 later = map (id_of_number g) (drop (i + 1) ks);
                 members = sym (ap listed_in s.1.0) ∙ sym listed ∙ ap (map (id_of_number g)) (parts_at ks i n at)
-                    ∙ map_parts (id_of_number g) (take i ks) n (drop (i + 1) ks);
+                    ∙ map-append (id_of_number g) (take i ks) (n ∷ drop (i + 1) ks);
               };
               kind = subst IsEnumKind (sym s.2) s.3;
               wrong = by s.0 s.2 s.3 (value_at g kind n) refl wrong;

@@ -1,16 +1,15 @@
 // The values of the members of enums, and those that were seen.
-ghost use Rattle.std.specs.Prelude.{◌≡◌, ◌||◌, ◌^◌, ℕ, ℤ, List, IfOk, OnOk, false, nat_lt, not};
+ghost use Rattle.std.specs.Prelude.{◌≡◌, ◌||◌, ℕ, ℤ, List, IfOk, OnOk, false, not};
 ghost use Rattle.std.specs.Option.{option_copied, option_map};
 ghost use Rattle.std.specs.Ordering.{int_eq};
 ghost use Rattle.std.specs.Str.{bytes_eq};
 ghost use Rattle.sm_tree.specs.Node.{Node};
 ghost use Rattle.sm_model.specs.GraphView.{IsShapeNumber};
 ghost use Rattle.sm_model.specs.steps.Linking.{Joins};
-ghost use Rattle.sm_compile.specs.steps.Tests as sound;
 ghost use Rattle.sm_target_rules.specs.parts.Enums.{right_number, right_text, value_at};
 ghost use Rattle.sm_target_rules.specs.parts.SeenValues.{Holds, has_number, has_text, holds, value_node};
 
-use sm_compile::{number_of, text_in_trait, trait_node};
+use sm_compile::{fits_word, number_of, text_in_trait, trait_node};
 use sm_model::{Graph, Kind};
 use sm_tree::NoMemory;
 use std::alloc::Global;
@@ -68,23 +67,6 @@ fn number_value<'a>(number: Option<i64>) -> Option<EnumValue<'a>>
         }
         None => None,
     }
-}
-
-// Whether 32 bits hold the number, one of them its sign.
-fn fits_word(number: i64) -> bool
-    ensures { result ≡ sound.fits_word number }
-{
-    if number < 0 {
-        has_places((-(number + 1)) as u64)
-    } else {
-        has_places(number as u64)
-    }
-}
-
-fn has_places(reach: u64) -> bool
-    ensures { result ≡ nat_lt reach (2 ^ 31) }
-{
-    reach < 2147483648
 }
 
 /// Values that were seen.

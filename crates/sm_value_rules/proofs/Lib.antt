@@ -9,3 +9,6 @@ pub mod CheckedShapes
 mod AmongIds
 mod UsedTraits
 mod PlacesTold
+pub mod PartsPut
+mod TextsHeld
+mod ConflictsTold

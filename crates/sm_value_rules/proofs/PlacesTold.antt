@@ -49,7 +49,7 @@ and_true true = refl
 and_true false = refl
 
 -- the row of the trait `trait`
-row_reads : (n : Node) → is_as_one (rows_of trait_id) n ≡ is_trait_value n
+pub row_reads : (n : Node) → is_as_one (rows_of trait_id) n ≡ is_trait_value n
 row_reads n =
     or_false _
     ∙ (λ i. is_object n && (and_true (where_there is_text (field_of (codes "selector") n)) i
@@ -67,7 +67,7 @@ value_there : (o : Option Node) (text : List ℕ) → selector_in o ≡ Some tex
 value_there None text h = absurd (none-some text h)
 value_there (Some n) text h = refl
 
-some_of : (o : Option Node) → is_some o ≡ true → (n : Node) × (o ≡ Some n)
+pub some_of : (o : Option Node) → is_some o ≡ true → (n : Node) × (o ≡ Some n)
 some_of None h = absurd (apart h)
 some_of (Some n) h = (n, refl)
 

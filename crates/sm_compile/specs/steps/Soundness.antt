@@ -1,20 +1,13 @@
 -- What the parts of `sound` tell of shapes by their numbers.
 use Rattle.std.specs.Prelude.{◌<◌, ℕ, Bool, List, map}
 use Rattle.sm_model.specs.Formed.{HaveForm}
-use Rattle.sm_model.specs.Graphs.{GraphMaps, ShapeEntry, shape_entry}
-use Rattle.sm_model.specs.GraphView.{maps_of}
+use Rattle.sm_model.specs.Graphs.{GraphMaps}
 use Rattle.sm_model.specs.Kinds.{member_form}
-use Rattle.sm_model.specs.Reaching.{IsMarked, id_of_number}
-use Rattle.sm_model.specs.Relations.{HasEntry}
+use Rattle.sm_model.specs.Reaching.{IsMarked}
 use Rattle.sm_model.specs.declared.graph.Graph.{Graph}
 use Rattle.sm_model.specs.declared.kind.Kind.{Kind}
 use Rattle.sm_shapes.specs.Names.{AllDiffer}
-use Rattle.sm_compile.specs.Sound.{IsSoundShape, json_name_of}
-
--- a shape at this number is in order
-abbrev pub IsSoundAt : Graph → ℕ → Type 0
-IsSoundAt g k =
-    (s : ShapeEntry) → HasEntry (maps_of g) (id_of_number g k) (shape_entry s) → IsSoundShape (maps_of g) (id_of_number g k) s
+use Rattle.sm_compile.specs.Sound.{IsSoundAt, json_name_of}
 
 -- of the numbers below a bound each that is marked
 abbrev pub AreSoundBelow : Graph → List Bool → ℕ → Type 0

@@ -3,14 +3,8 @@ use Rattle.std.specs.Prelude.{◌≡◌, ◌⊎◌, ℕ, Bool, true, false, List
 use Rattle.sm_model.specs.Graphs.{GraphMaps, member_id}
 use Rattle.sm_model.specs.declared.kind.Kind.{Kind}
 use Rattle.sm_model.specs.declared.kind.Kind.TheVariants.{Structure, Union}
-use Rattle.sm_shapes.specs.declared.kinds.ShapeKind.{ShapeKind}
-use Rattle.sm_shapes.specs.declared.kinds.ShapeKind.TheVariants.{LeftOut}
 use Rattle.sm_compile.specs.Served.{type_name}
 use Rattle.sm_compile.specs.Sound.{json_name_of}
-
-abbrev pub is_left_out : ShapeKind → Bool
-is_left_out LeftOut = true
-is_left_out kind = false
 
 abbrev pub may_tell_type : Kind → Bool
 may_tell_type Structure = true

@@ -1,5 +1,5 @@
 -- The events of several rules, one after the other.
-use Rattle.std.specs.Prelude.{◌≡◌, ◌⊎◌, List, [], ◌∷◌}
+use Rattle.std.specs.Prelude.{◌≡◌, ℕ, List, Some, slice_get}
 use Rattle.sm_model.specs.EventView.{EventTold}
 use Rattle.sm_model.specs.Graphs.{GraphMaps}
 use Rattle.sm_rules.specs.RuleEvents.{IsEventOf}
@@ -10,10 +10,9 @@ use Rattle.sm_load.specs.Rules.{Fails}
 abbrev pub IsOfRule : GraphMaps → EventTold → Type 0
 IsOfRule g e = (rule : Rule) × IsEventOf rule (Fails rule g) e
 
--- of one of these rules
+-- one of these rules, by its place
 abbrev pub IsAmongRules : List Rule → Rule → Type 0
-IsAmongRules [] rule = ⊥
-IsAmongRules (r ∷ rs) rule = (rule ≡ r) ⊎ IsAmongRules rs rule
+IsAmongRules rules rule = (n : ℕ) × (slice_get rules n ≡ Some rule)
 
 pub record IsOfOne (g : GraphMaps) (rules : List Rule) (e : EventTold) : Type 0 where
   pub rule : Rule

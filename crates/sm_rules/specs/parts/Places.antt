@@ -1,5 +1,5 @@
 -- The places that the rows of the table of traits allow, by the names that the code has for them, as tests.
-use Rattle.std.specs.Prelude.{◌&&◌, ◌||◌, ℕ, Bool, true, false, List, [], ◌∷◌, Option, Some, None}
+use Rattle.std.specs.Prelude.{◌||◌, Bool, true, false, List, [], ◌∷◌, Option, Some, None}
 use Rattle.sm_model.specs.Graphs.{Entry, shape_entry, member_entry}
 use Rattle.sm_model.specs.declared.kind.Kind.{Kind}
 use Rattle.sm_model.specs.declared.kind.Kind.TheVariants as model

@@ -23,7 +23,8 @@ is_own_service g id = is_service (kind_under g id) && not (is_prelude_id id)
 -- a shape that is no service, no trait and no mixin
 abbrev pub wants_use : GraphMaps → List ℕ → Bool
 wants_use g id =
-    is_own_shape g id && (not (is_service (kind_under g id)) && (not (carries g trait_id id) && not (carries g (api_id (codes "mixin")) id)))
+    is_own_shape g id
+    && (not (is_service (kind_under g id)) && (not (carries g trait_id id) && not (carries g (api_id (codes "mixin")) id)))
 
 -- these marks are those of what is in the closure of some service, of which there are some
 pub record AreUsed (g : Graph) (marks : List Bool) : Type 0 where

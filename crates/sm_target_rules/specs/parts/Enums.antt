@@ -11,9 +11,8 @@ use Rattle.sm_model.specs.declared.kind.Kind.{Kind}
 use Rattle.sm_model.specs.declared.kind.Kind.TheVariants.{Enum, IntEnum}
 use Rattle.sm_compile.specs.Sound.{trait_of}
 use Rattle.sm_compile.specs.TraitIds.{enum_value_id}
-use Rattle.sm_compile.specs.TraitNodes.{number_of, text_of}
+use Rattle.sm_compile.specs.TraitNodes.{fits_word, number_of, text_of}
 use Rattle.sm_compile.specs.rules.Constraints.{HasNoMembers, HasWrongEnumValue}
-use Rattle.sm_compile.specs.steps.Tests.{fits_word}
 use Rattle.sm_rules.specs.RuleEvents.{rule_event}
 use Rattle.sm_rules.specs.declared.rule.Rule.TheVariants.{EnumValues}
 use Rattle.sm_target_rules.specs.parts.References.{own_kind}

@@ -9,7 +9,7 @@ use Rattle.sm_model.specs.declared.link.Link.{Link}
 use Rattle.sm_model.specs.declared.relation.Relation.{Relation}
 use Rattle.sm_model.specs.declared.relation.Relation.TheVariants.{Member, Target}
 use Rattle.sm_compile.specs.Served.{IsLeftOut}
-use Rattle.sm_compile.specs.steps.Soundness.{IsSoundAt}
+use Rattle.sm_compile.specs.Sound.{IsSoundAt}
 
 -- what stands at a number is a shape that isn't in order, or one of a type left out
 abbrev pub IsFaultyAt : Graph → ℕ → Type 0

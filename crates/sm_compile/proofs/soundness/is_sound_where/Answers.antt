@@ -3,7 +3,7 @@ use Rattle.std.specs.Prelude.{◌↔◌}
 use Rattle.std.proofs.lemmas.Result.{IfOk-weaker}
 use Rattle.sm_model.specs.Reaching.{IsMarked}
 use Rattle.sm_model.proofs.Worklist.{apart}
-use Rattle.sm_compile.specs.steps.Soundness.{IsSoundAt}
+use Rattle.sm_compile.specs.Sound.{IsSoundAt}
 use Rattle.sm_compile.proofs.soundness.is_sound_where.Goals as goal
 
 pub returns-then-marks-number : goal.returns-then-marks-number

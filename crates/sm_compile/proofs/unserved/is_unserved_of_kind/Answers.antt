@@ -2,7 +2,8 @@ use Rattle.std.proofs.Common.{inl, inr, ap, refl, subst, sym, ◌∙◌}
 use Rattle.sm_model.specs.GraphView.{maps_of}
 use Rattle.sm_model.specs.Reaching.{id_of_number}
 use Rattle.sm_model.proofs.Worklist.{apart}
-use Rattle.sm_compile.specs.steps.Unserved.{TellsType, is_left_out}
+use Rattle.sm_compile.specs.Kinds.{is_left_out}
+use Rattle.sm_compile.specs.steps.Unserved.{TellsType}
 use Rattle.sm_compile.proofs.UnservedTold.{unserved_cases, unserved_left_out, unserved_streams, unserved_tells}
 use Rattle.sm_compile.proofs.unserved.is_unserved_of_kind.Goals as goal
 

@@ -9,7 +9,7 @@ use Rattle.sm_http_rules.proofs.prefixes.put_each_begun.Goals as goal
 
 pub loop-member-init : goal.loop-member-init
 loop-member-init c = record {
-  numbers = c.requires;
+  numbers = c.requires.members;
   puts = none_of (ToldBegun c.args.graph.now c.args.prefixes.now) c.args.events.now.items;
 }
 

@@ -27,7 +27,7 @@ loop-number-preserved c =
     let told = may_err_told g c.args.operations.now c.as_slice.result.now c.requires.operations walk at.number small in
     record {
       within = omega (arith, c.loop-number-test.true, c.count-number-end.ensures);
-      marks = subst (AreMarks (at.number + 1) Holds) (sym c.in_ok-push.ensures.items)
+      marks = subst (AreMarks (at.number + 1) Holds) (sym {A = List Bool} c.in_ok-push.ensures.items)
           (marks_more Holds at.number at.marks.items c.may_err.result at.invariant.marks
           (λ h. told.0 (sym c.may_err.ensures ∙ h), λ h. c.may_err.ensures ∙ told.1 h));
     }

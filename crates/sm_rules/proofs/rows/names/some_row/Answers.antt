@@ -1,4 +1,4 @@
-use Rattle.std.proofs.Common.{◌≡◌, Bool, ap, ◌∙◌}
+use Rattle.std.proofs.Common.{ap, ◌∙◌}
 use Rattle.std.specs.Prelude.{◌||◌}
 use Rattle.sm_rules.specs.parts.RowTests.{names_passing}
 use Rattle.sm_rules.proofs.RowTested.{six_groups}

@@ -1,4 +1,4 @@
-use Rattle.std.proofs.Common.{ap, ◌∙◌}
+use Rattle.std.proofs.Common.{◌∙◌}
 use Rattle.std.specs.Prelude.{◌||◌}
 use Rattle.sm_rules.proofs.RowTested.{token_byte}
 use Rattle.sm_rules.proofs.rows.texts.is_token_byte.Goals as goal

@@ -1,0 +1,2 @@
+pub mod NoneFails
+pub mod Laws

@@ -1,0 +1,7 @@
+use Rattle.std.proofs.Common.{subst, sym}
+use Rattle.sm_http_rules.specs.parts.LeftOut.{AreLeading}
+use Rattle.sm_http_rules.proofs.bound_targets.put_bound_targets.Goals as goal
+
+pub put_by_marks-requires-clause-leading : goal.put_by_marks-requires-clause-leading
+put_by_marks-requires-clause-leading c =
+    subst (AreLeading c.args.graph.now) (sym c.as_slice.ensures.value) c.in_ok-leading.ensures

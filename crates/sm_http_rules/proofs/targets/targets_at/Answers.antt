@@ -1,0 +1,21 @@
+use Rattle.std.proofs.Common.{refl, sym, ◌∙◌}
+use Rattle.std.specs.FinMap as fin
+use Rattle.sm_model.specs.GraphView.{maps_of}
+use Rattle.sm_model.specs.Reaching.{id_of_number}
+use Rattle.sm_compile.specs.rules.Bindings.{passes}
+use Rattle.sm_http_rules.specs.parts.Allowing.{test_of}
+use Rattle.sm_http_rules.proofs.TargetTested.{no_target, target_tested}
+use Rattle.sm_http_rules.proofs.targets.targets_at.Goals as goal
+
+pub returns-in-Some : goal.returns-in-Some
+returns-in-Some c =
+    let m = maps_of c.args.graph.now in
+    c.passes_at.ensures
+    ∙ sym (target_tested (passes (test_of c.args.wanted)) m (fin.get m.shapes (id_of_number c.args.graph.now c.args.member))
+    (id_of_number c.args.graph.now c.in-Some.target) c.in-Some.ensures.1)
+
+pub returns-in-None : goal.returns-in-None
+returns-in-None c =
+    let m = maps_of c.args.graph.now in
+    sym (no_target (passes (test_of c.args.wanted)) refl m
+    (fin.get m.shapes (id_of_number c.args.graph.now c.args.member)) c.in-None.ensures)

@@ -1,0 +1,99 @@
+// The traits that bind members to parts of messages, and those that count on each side.
+ghost use Rattle.std.specs.Prelude.{◌≡◌};
+ghost use Rattle.std.specs.List.{list_any};
+ghost use Rattle.sm_model.specs.GraphView.{IsShapeNumber, maps_of};
+ghost use Rattle.sm_model.specs.Reaching.{id_of_number};
+ghost use Rattle.sm_compile.specs.rules.Bindings.{binding_id};
+ghost use Rattle.sm_http_rules.specs.parts.Binding.{bindings_in, binding_said, carries_binding};
+
+use sm_model::Graph;
+use sm_rules::carried::carries;
+
+/// A trait that binds a member to a part of a message.
+#[derive(Debug, Clone, Copy, PartialEq, Eq, Drop)]
+pub enum Binding {
+    /// `httpLabel`.
+    Label,
+    /// `httpQuery`.
+    Query,
+    /// `httpQueryParams`.
+    QueryParams,
+    /// `httpHeader`.
+    Header,
+    /// `httpPrefixHeaders`.
+    PrefixHeaders,
+    /// `httpPayload`.
+    Payload,
+    /// `httpResponseCode`.
+    ResponseCode,
+}
+
+/// The side of a message.
+#[derive(Debug, Clone, Copy, PartialEq, Eq, Drop)]
+pub enum Side {
+    /// The input of an operation.
+    Input,
+    /// Its output.
+    Output,
+    /// An error.
+    Error,
+}
+
+/// The id of the trait. No memory.
+pub(crate) fn binding_name(binding: Binding) -> &'static str
+    ensures { result.now ≡ binding_id (binding_said binding) }
+{
+    match binding {
+        Binding::Label => "smithy.api#httpLabel",
+        Binding::Query => "smithy.api#httpQuery",
+        Binding::QueryParams => "smithy.api#httpQueryParams",
+        Binding::Header => "smithy.api#httpHeader",
+        Binding::PrefixHeaders => "smithy.api#httpPrefixHeaders",
+        Binding::Payload => "smithy.api#httpPayload",
+        Binding::ResponseCode => "smithy.api#httpResponseCode",
+    }
+}
+
+/// The bindings that count on a side.
+pub(crate) fn bindings_of(side: Side) -> &'static [Binding]
+    ensures { result.now ≡ bindings_in side }
+{
+    match side {
+        Side::Input => &[
+            Binding::Label,
+            Binding::Query,
+            Binding::QueryParams,
+            Binding::Header,
+            Binding::PrefixHeaders,
+            Binding::Payload,
+        ],
+        Side::Output => &[
+            Binding::Header,
+            Binding::PrefixHeaders,
+            Binding::Payload,
+            Binding::ResponseCode,
+        ],
+        Side::Error => &[Binding::Header, Binding::PrefixHeaders, Binding::Payload],
+    }
+}
+
+/// Whether a trait of a binding stands at a number.
+pub(crate) fn carries_binding(graph: &Graph, binding: Binding, number: u32) -> bool
+    requires { IsShapeNumber graph.now number }
+    ensures { result ≡ carries_binding (maps_of graph.now) (id_of_number graph.now number) binding }
+{
+    carries(graph, number, binding_name(binding))
+}
+
+/// Whether one of these does.
+pub(crate) fn carries_one(graph: &Graph, bindings: &[Binding], number: u32) -> bool
+    requires { IsShapeNumber graph.now number }
+    ensures { result ≡ list_any (carries_binding (maps_of graph.now) (id_of_number graph.now number)) bindings.now }
+{
+    for binding in bindings {
+        if carries_binding(graph, *binding, number) {
+            return true;
+        }
+    }
+    false
+}

@@ -1,0 +1,26 @@
+// Rules of which two passes tell: one by the table of traits, one by the shapes of traits.
+ghost use Rattle.std.specs.Prelude.{OnOk};
+ghost use Rattle.sm_model.specs.GraphView.{maps_of};
+ghost use Rattle.sm_rules.specs.RuleEvents.{IsEventOf, Puts};
+ghost use Rattle.sm_rules.specs.declared.rule.Rule.TheVariants.{TraitPlace};
+ghost use Rattle.sm_value_rules.specs.rules.Traits.{HasWrongPlace};
+
+use sm_model::{Graph, ModelEvent};
+use sm_rules::table_rules::put_other_places;
+use sm_tree::NoMemory;
+use sm_value_rules::places::put_unpicked;
+use std::alloc::Global;
+
+/// Puts the events of Trait.Place.
+pub(crate) fn put_places(
+    alloc: Global,
+    graph: &Graph,
+    events: &mut Vec<ModelEvent>,
+) -> Result<(), NoMemory>
+    ensures { OnOk result
+        (Puts (IsEventOf TraitPlace (HasWrongPlace (maps_of graph.now))) events.old.items events.new.items) }
+{
+    put_other_places(alloc, graph, events)?;
+    put_unpicked(alloc, graph, events)?;
+    Ok(())
+}

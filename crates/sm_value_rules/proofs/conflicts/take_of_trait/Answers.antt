@@ -1,0 +1,23 @@
+use Rattle.std.proofs.Common.{ap, subst, ◌∙◌}
+use Rattle.sm_model.specs.GraphView.{maps_of}
+use Rattle.sm_model.specs.Reaching.{id_of_number}
+use Rattle.sm_model.specs.Relations.{IsEntryText}
+use Rattle.sm_model.specs.steps.Linking.{Joins}
+use Rattle.sm_compile.proofs.LookedUp.{stands_is}
+use Rattle.sm_value_rules.specs.parts.Conflicting.{HasText, IsGreaterOfAny, conflicts_under}
+use Rattle.sm_value_rules.proofs.ConflictsTold.{nothing_taken}
+use Rattle.sm_value_rules.proofs.conflicts.take_of_trait.Goals as goal
+
+pub returns-in_ok-take_shorter-in-Some : goal.returns-in_ok-take_shorter-in-Some
+returns-in_ok-take_shorter-in-Some c =
+    let g = c.args.graph.now in
+    let name = c.args.name.now in
+    subst (λ ns. Joins (HasText c.args.told.now.texts) (IsGreaterOfAny (maps_of g) (id_of_number g c.args.number) name
+    (λ o. IsEntryText o ns)) (HasText c.take_shorter.new.told.texts))
+    (c.conflicts_at-conflicts.ensures ∙ ap (conflicts_under (maps_of g)) (stands_is g 0 c.in-Some.found name c.in-Some.ensures).1)
+    c.in_ok-take_shorter-in-Some.ensures
+
+pub returns-in-None : goal.returns-in-None
+returns-in-None c =
+    nothing_taken (maps_of c.args.graph.now) (id_of_number c.args.graph.now c.args.number) c.args.name.now c.in-None.ensures
+    (HasText c.args.told.now.texts)
