@@ -4,3 +4,9 @@ pub mod PartsPut
 pub mod RulesPut
 pub mod ListTold
 pub mod OneRuleList
+pub mod SeveritiesTold
+pub mod FilesSaid
+pub mod GraphsJudged
+pub mod GraphsMade
+pub mod OneModelFile
+pub mod OneModelLoaded

@@ -16,6 +16,7 @@ use Rattle.sm_rules.specs.declared.rule.Rule.TheVariants as rule
 use Rattle.sm_load.specs.Events.{AreModelEvents, IsTold}
 use Rattle.sm_load.specs.Suppressions.{is_suppressed}
 use Rattle.sm_load.specs.parts.Passes.{IsOfRule}
+use Rattle.sm_load.specs.parts.Stages.{is_error}
 use Rattle.sm_load.specs.parts.Suppressing.{may_be_suppressed, stays}
 
 -- what a filter leaves
@@ -61,13 +62,7 @@ views_left test (e ∷ es) = by (test (event_view e)) (views_left test es)
     by false h = h
 
 -- events that may be suppressed are those for which no model is rejected
-abbrev is_error : Severity → Bool
-is_error Error = true
-is_error Danger = false
-is_error Warning = false
-is_error Note = false
-
-error_from : (s : Severity) → is_error s ≡ true → s ≡ Error
+pub error_from : (s : Severity) → is_error s ≡ true → s ≡ Error
 error_from Error h = refl
 error_from Danger h = absurd (true≢false (sym h))
 error_from Warning h = absurd (true≢false (sym h))

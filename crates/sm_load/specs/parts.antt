@@ -1,3 +1,4 @@
 pub mod Naming
 pub mod Passes
+pub mod Stages
 pub mod Suppressing

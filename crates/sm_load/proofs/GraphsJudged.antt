@@ -1,0 +1,64 @@
+-- A graph with its events is accepted, or one of them rejects it.
+use Rattle.std.proofs.Common.{◌≡◌, ◌||◌, inl, inr, Bool, true, false, List, [], ◌∷◌, refl, sym, ap, ◌∙◌, subst}
+use Rattle.std.specs.List.{Contains}
+use Rattle.std.proofs.lemmas.Bool.{true≢false}
+use Rattle.sm_model.specs.EventView.{EventTold, event_view}
+use Rattle.sm_model.specs.Graphs.{GraphMaps}
+use Rattle.sm_model.specs.declared.event.ModelEvent.{ModelEvent}
+use Rattle.sm_model.proofs.OneRising.{contains_behind, contains_either, contains_head, contains_none}
+use Rattle.sm_compile.proofs.TabledShapes.{mapped_from, mapped_to}
+use Rattle.sm_rules.specs.RuleEvents.{rule_event}
+use Rattle.sm_rules.specs.RuleIds.{rule_id, severity_of}
+use Rattle.sm_load.specs.Events.{AreModelEvents}
+use Rattle.sm_load.specs.Loading.{HasError}
+use Rattle.sm_load.specs.parts.Stages.{is_error, some_grave}
+use Rattle.sm_load.proofs.ListTold.{error_from}
+use Rattle.sm_load.proofs.SeveritiesTold.{severity_same}
+
+-- an event that rejects
+grave_there : (es : List ModelEvent) → some_grave es ≡ true → (e : ModelEvent) × Contains es e × (is_error e.severity ≡ true)
+grave_there [] h = absurd (true≢false (sym h))
+grave_there (e ∷ es) h = by (λ rest. grave_there es rest) (is_error e.severity) refl h
+  where
+    by : (some_grave es ≡ true → (x : ModelEvent) × Contains es x × (is_error x.severity ≡ true)) → (b : Bool) → is_error e.severity ≡ b
+        → (b || some_grave es) ≡ true → (x : ModelEvent) × Contains (e ∷ es) x × (is_error x.severity ≡ true)
+    by later true is h = (e, contains_head e es, is)
+    by later false is h = let r = later h in (r.0, contains_behind e r.0 es r.1, r.2)
+
+grave_from : (es : List ModelEvent) (e : ModelEvent) → Contains es e → is_error e.severity ≡ true → some_grave es ≡ true
+grave_from [] e there is = absurd (contains_none e there)
+grave_from (x ∷ es) e there is = elim (contains_either x e es there) [
+  | inl same ↦ ap (λ (y : ModelEvent). is_error y.severity || some_grave es) same ∙ ap (λ b. b || some_grave es) is
+  | inr later ↦ behind (is_error x.severity) (grave_from es e later is)
+]
+  where
+    behind : (b : Bool) → some_grave es ≡ true → (b || some_grave es) ≡ true
+    behind true h = refl
+    behind false h = h
+
+module _ (g : GraphMaps) (es : List ModelEvent) (are : AreModelEvents g es) where
+  pub rejected_by : some_grave es ≡ true → HasError g
+  rejected_by h =
+      let e = grave_there es h in
+      let told = (are.events.all (event_view e.0)).0 (mapped_to event_view es e.0 e.1) in
+      let its = are.severities e.0 e.1 in
+      let fails = told.1.fails in
+      let same : rule_id told.0 ≡ rule_id its.0 = sym (ap (λ (x : EventTold). x.event) fails.3) ∙ its.1 in
+      record {
+        rule = told.0;
+        id = fails.0;
+        detail = fails.1;
+        rejects = severity_same told.0 its.0 same ∙ sym its.2 ∙ error_from e.0.severity e.2;
+        fails = fails.2;
+      }
+
+  pub rejects_none : some_grave es ≡ false → HasError g → ⊥
+  rejects_none h error =
+      let said : EventTold = rule_event error.rule error.id error.detail in
+      let told = (are.events.all said).1
+      (error.rule, record { fails = (error.id, error.detail, error.fails, refl); told = inl error.rejects }) in
+      let e = mapped_from event_view es said told in
+      let its = are.severities e.0 e.1 in
+      let same : rule_id its.0 ≡ rule_id error.rule = sym its.1 ∙ ap (λ (x : EventTold). x.event) e.2 in
+      true≢false (sym (grave_from es e.0 e.1
+      (ap is_error (its.2 ∙ severity_same its.0 error.rule same ∙ error.rejects))) ∙ h)
