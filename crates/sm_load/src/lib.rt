@@ -10,3 +10,6 @@ mod suppressed;
 mod suppressing;
 mod texts;
 mod told;
+
+pub use loading::load;
+pub use model::{LoadRefusal, Model, ModelFile, TextPlace};
