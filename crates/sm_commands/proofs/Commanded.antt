@@ -16,6 +16,7 @@ use Rattle.sm_commands.proofs.OneBody.{body_same}
 use Rattle.sm_commands.proofs.SomeBody.{body_answered}
 use Rattle.sm_commands.proofs.OneCheck.{check_answered, check_same}
 use Rattle.sm_commands.proofs.OneConvert.{convert_same}
+use Rattle.sm_commands.proofs.SomeLoad.{SomeEventsTold, SomeLoads, SoundModels}
 use Rattle.sm_commands.proofs.SomeConvert.{convert_answered}
 use Rattle.sm_commands.proofs.OneSelect.{select_same, select_answered}
 use Rattle.sm_commands.proofs.ToldAll.{all_told}
@@ -42,15 +43,15 @@ one_answer texts t folder input (select_command models selector) c d all h i =
 one_answer texts t folder input (check_command models) c d all h i =
     check_same folder models c d (subst (λ x. CheckComes x models c) all.files h) (subst (λ x. CheckComes x models d) all.files i)
 
-pub some_answer : SomeTextAnswer → SomeTable → SomeAnswer
-some_answer texts tables t folder input (body_command model shape near far) all there none =
-    body_answered texts tables t folder input all model shape near far there none
-some_answer texts tables t folder input (convert_command models form) all there none =
-    convert_answered folder models form there (λ c h. none c (subst (λ x. ConvertComes x models form c) (sym all.files) h))
-some_answer texts tables t folder input (select_command models selector) all there none =
-    select_answered folder models selector there (λ c h. none c (subst (λ x. SelectComes x models selector c) (sym all.files) h))
-some_answer texts tables t folder input (check_command models) all there none =
-    check_answered folder models there (λ c h. none c (subst (λ x. CheckComes x models c) (sym all.files) h))
+pub some_answer : SomeTextAnswer → SomeTable → SomeLoads → SomeEventsTold → SoundModels → SomeAnswer
+some_answer texts tables loads events models t folder input (body_command model shape near far) all there none =
+    body_answered texts tables loads models t folder input all model shape near far there none
+some_answer texts tables loads events sound t folder input (convert_command models form) all there none =
+    convert_answered loads folder models form there (λ c h. none c (subst (λ x. ConvertComes x models form c) (sym all.files) h))
+some_answer texts tables loads events sound t folder input (select_command models selector) all there none =
+    select_answered loads folder models selector there (λ c h. none c (subst (λ x. SelectComes x models selector c) (sym all.files) h))
+some_answer texts tables loads events sound t folder input (check_command models) all there none =
+    check_answered loads events folder models there (λ c h. none c (subst (λ x. CheckComes x models c) (sym all.files) h))
 
 -- the input is untouched, or its stage is reached
 pub says_reaches : (t : Told) (command : Command) (c : Came) → Says t command c → (c.input ≡ untouched) ⊎ ReachesInput t command

@@ -4,7 +4,6 @@ use Rattle.sm_io.specs.Files.{Folder}
 use Rattle.sm_model.specs.declared.event.ModelEvent.{ModelEvent}
 use Rattle.sm_load.specs.Events.{AreModelEvents}
 use Rattle.sm_load.proofs.OneModelLoaded.{one_event_list}
-use Rattle.sm_load.proofs.SomeModelLoaded.{some_events_told}
 use Rattle.sm_commands.specs.Answer.{Answer, Came, came, done}
 use Rattle.sm_commands.specs.Answer.InputUse.{untouched}
 use Rattle.sm_commands.specs.Check.{CheckSays}
@@ -13,7 +12,7 @@ use Rattle.sm_commands.specs.Lines.{event_lines}
 use Rattle.sm_commands.specs.Says.{AreThere}
 use Rattle.sm_commands.specs.declared.lines.Shown.TheVariants.{All}
 use Rattle.sm_commands.proofs.OneLoad.{graph_same, load_apart, load_same}
-use Rattle.sm_commands.proofs.SomeLoad.{load_answered}
+use Rattle.sm_commands.proofs.SomeLoad.{SomeEventsTold, SomeLoads, load_answered}
 
 says_same : (folder : Folder) (models : List (List ℕ)) (a b : Answer) → CheckSays (Some folder) models a
     → CheckSays (Some folder) models b → a ≡ b
@@ -29,8 +28,8 @@ pub check_same : (folder : Folder) (models : List (List ℕ)) (c d : Came)
     → ((a : Answer) × CheckSays (Some folder) models a × (d ≡ came untouched a)) → c ≡ d
 check_same folder models c d (a, h, e) (b, i, f) = e ∙ ap (came untouched) (says_same folder models a b h i) ∙ sym f
 
-pub check_answered : (folder : Folder) (models : List (List ℕ)) → AreThere folder models
+pub check_answered : SomeLoads → SomeEventsTold → (folder : Folder) (models : List (List ℕ)) → AreThere folder models
     → ((c : Came) → ((a : Answer) × CheckSays (Some folder) models a × (c ≡ came untouched a)) → ⊥) → ⊥
-check_answered folder models there none =
-    load_answered All folder models there (λ a h. none (came untouched a) (a, not_loaded h, refl))
-    (λ l. some_events_told l.graph (λ es are. none (came untouched (done (event_lines All es))) (done (event_lines All es), checked l es are refl, refl)))
+check_answered loads events folder models there none =
+    load_answered loads All folder models there (λ a h. none (came untouched a) (a, not_loaded h, refl))
+    (λ l. events l.graph (λ es are. none (came untouched (done (event_lines All es))) (done (event_lines All es), checked l es are refl, refl)))

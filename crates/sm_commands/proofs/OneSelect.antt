@@ -15,7 +15,7 @@ use Rattle.sm_commands.specs.Select.SelectorSays.{breaks, leaves, picks}
 use Rattle.sm_commands.specs.Select.SelectSays.{not_loaded, selected}
 use Rattle.sm_commands.specs.declared.lines.Shown.TheVariants.{Errors}
 use Rattle.sm_commands.proofs.OneLoad.{load_same, load_apart, graph_same}
-use Rattle.sm_commands.proofs.SomeLoad.{load_answered}
+use Rattle.sm_commands.proofs.SomeLoad.{SomeLoads, load_answered}
 
 selector_same : (g : GraphMaps) (text : List ℕ) (a b : Answer) → SelectorSays g text a → SelectorSays g text b → a ≡ b
 selector_same g text a b (breaks at h is) (breaks at1 h1 is1) =
@@ -52,8 +52,8 @@ selector_answered g text none =
     (λ at h. none (refused (broken_selector_line at)) (breaks at h refl))
     (λ at h. none (refused (other_selector_line at)) (leaves at h refl))
 
-pub select_answered : (folder : Folder) (models : List (List ℕ)) (selector : List ℕ) → AreThere folder models
+pub select_answered : SomeLoads → (folder : Folder) (models : List (List ℕ)) (selector : List ℕ) → AreThere folder models
     → ((c : Came) → ((a : Answer) × SelectSays (Some folder) models selector a × (c ≡ came untouched a)) → ⊥) → ⊥
-select_answered folder models selector there none =
-    load_answered Errors folder models there (λ a says. none (came untouched a) (a, not_loaded says, refl))
+select_answered loads folder models selector there none =
+    load_answered loads Errors folder models there (λ a says. none (came untouched a) (a, not_loaded says, refl))
     (λ l. selector_answered l.graph selector (λ a says. none (came untouched a) (a, selected l says, refl)))

@@ -17,7 +17,6 @@ use Rattle.sm_compile.specs.Sound.{IsValueShape}
 use Rattle.sm_compile.specs.declared.compiled.Served.{Served}
 use Rattle.sm_compile.specs.declared.compiled.Served.TheVariants.{Yes, Unserved}
 use Rattle.sm_compile.proofs.OnePatterns.{column_of}
-use Rattle.sm_load.proofs.ModelsSound.{model_sound}
 use Rattle.sm_commands.specs.Answer.{Answer, Came, came, refused, pattern_refused, past}
 use Rattle.sm_commands.specs.Answer.InputUse.{untouched, to_its_end, past_its_limit}
 use Rattle.sm_commands.specs.Body.{BodySays, printed}
@@ -30,10 +29,10 @@ use Rattle.sm_commands.specs.Says.{AreThere, TellsAll}
 use Rattle.sm_commands.specs.Stages.{Told, IsInput}
 use Rattle.sm_commands.specs.declared.lines.Shown.TheVariants.{Errors}
 use Rattle.sm_commands.proofs.LoadedSpelled.{loaded_spelled}
-use Rattle.sm_commands.proofs.SomeLoad.{load_answered}
+use Rattle.sm_commands.proofs.SomeLoad.{SomeLoads, SoundModels, load_answered}
 use Rattle.sm_commands.proofs.TablesMade.{number_within, is_filled}
 
-module _ (texts : SomeTextAnswer) (tables : SomeTable) (t : Told) (name shape : List ℕ) (near far : BodyForm)
+module _ (texts : SomeTextAnswer) (tables : SomeTable) (models : SoundModels) (t : Told) (name shape : List ℕ) (near far : BodyForm)
     (none : (c : Came) → BodySays t name shape near far c → ⊥) where
   -- the input of a shape that is served
   input_answered : (input : List ℕ) → IsInput t.input input → ShapeServed t name shape → ⊥
@@ -81,18 +80,18 @@ module _ (texts : SomeTextAnswer) (tables : SomeTable) (t : Told) (name shape : 
       with_shape there =
           let h : ShapeThere t name shape = record { loaded = loaded; is = there } in
           tables loaded.graph shape t.test t.store (loaded_spelled t.files (name ∷ []) loaded) there
-          (model_sound loaded.texts.read loaded.graph loaded.accepted shape)
+          (models loaded.texts.read loaded.graph loaded.accepted shape)
           (λ now one compiled. shape_answered input is h now one compiled)
 
 -- what files that are told come to
 abbrev FilesCome : Option Folder → List ℕ → Type 0
 FilesCome files name = ((a : Answer) → LoadAnswers Errors files (name ∷ []) a → ⊥) → (Loaded files (name ∷ []) → ⊥) → ⊥
 
-pub body_answered : SomeTextAnswer → SomeTable → (t : Told) (folder : Folder) (input : List ℕ) → TellsAll t folder input
+pub body_answered : SomeTextAnswer → SomeTable → SomeLoads → SoundModels → (t : Told) (folder : Folder) (input : List ℕ) → TellsAll t folder input
     → (name shape : List ℕ) (near far : BodyForm)
     → AreThere folder (name ∷ [])
     → ((c : Came) → BodySays t name shape near far c → ⊥) → ⊥
-body_answered texts tables t folder input all name shape near far there none =
-    let come : FilesCome t.files name = subst (λ x. FilesCome x name) (sym all.files) (load_answered Errors folder (name ∷ []) there) in
+body_answered texts tables loads models t folder input all name shape near far there none =
+    let come : FilesCome t.files name = subst (λ x. FilesCome x name) (sym all.files) (load_answered loads Errors folder (name ∷ []) there) in
     come (λ a says. none (came untouched a) (not_loaded a says refl))
-    (λ loaded. graph_answered texts tables t name shape near far none input (subst (λ x. IsInput x input) (sym all.input) refl) loaded)
+    (λ loaded. graph_answered texts tables models t name shape near far none input (subst (λ x. IsInput x input) (sym all.input) refl) loaded)

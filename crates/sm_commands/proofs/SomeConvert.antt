@@ -8,10 +8,10 @@ use Rattle.sm_commands.specs.Convert.{ConvertSays, converted}
 use Rattle.sm_commands.specs.Convert.ConvertSays.{not_loaded, graph}
 use Rattle.sm_commands.specs.Says.{AreThere}
 use Rattle.sm_commands.specs.declared.lines.Shown.TheVariants.{Errors}
-use Rattle.sm_commands.proofs.SomeLoad.{load_answered}
+use Rattle.sm_commands.proofs.SomeLoad.{SomeLoads, load_answered}
 
-pub convert_answered : (folder : Folder) (models : List (List ℕ)) (form : GraphForm) → AreThere folder models
+pub convert_answered : SomeLoads → (folder : Folder) (models : List (List ℕ)) (form : GraphForm) → AreThere folder models
     → ((c : Came) → ((a : Answer) × ConvertSays (Some folder) models form a × (c ≡ came untouched a)) → ⊥) → ⊥
-convert_answered folder models form there none =
-    load_answered Errors folder models there (λ a says. none (came untouched a) (a, not_loaded says, refl))
+convert_answered loads folder models form there none =
+    load_answered loads Errors folder models there (λ a says. none (came untouched a) (a, not_loaded says, refl))
     (λ l. none (came untouched (done (converted form l.graph))) (done (converted form l.graph), graph l refl, refl))
