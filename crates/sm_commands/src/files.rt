@@ -61,8 +61,6 @@ pub(crate) fn put_file(
     ensures { OnOk result (given_files files.new.items ≡ given_files files.old.items ++ file_given name.now bytes.items ∷ []) }
 {
     let name = Text::copy(alloc, name)?;
-    match files.push(ModelFile { name, bytes }) {
-        Ok(()) => Ok(()),
-        Err(_) => Err(NoMemory),
-    }
+    files.push(ModelFile { name, bytes })?;
+    Ok(())
 }

@@ -3,5 +3,5 @@ use Rattle.std.proofs.lemmas.List.{map-append}
 use Rattle.sm_load.specs.ModelFiles.{file_view, given_files}
 use Rattle.sm_commands.proofs.files.put_file.Goals as goal
 
-pub returns-in-Ok : goal.returns-in-Ok
-returns-in-Ok c = ap given_files c.in-Ok.ensures.items ∙ map-append file_view c.args.files.now.items _
+pub returns : goal.returns
+returns c = ap given_files c.in_ok-push.ensures.items ∙ map-append file_view c.args.files.now.items _

@@ -45,7 +45,7 @@ loop-word-preserved g c =
     let counted : total + c.len-total.result ≡ total + length file = ap (λ k. total + k) (c.len-total.ensures ∙ long) in
     let holds = subst (λ x. Holds x name (Some file)) c.loop-word.invariant.held c.in-Ok.ensures.opens.0 in
     let f : FileGiven = file_given name file in
-    let put : given_files c.put_file.new.files.items ≡ given_files c.loop-word.read.items ++ f ∷ [] = c.in_ok-put_file.ensures in
+    let put : given_files c.put_file.new.files.items ≡ given_files c.loop-word.read.items ++ f ∷ [] = c.in_ok-put_file-in-Ok.ensures in
     record {
       held = c.in-Ok.ensures.held ∙ c.loop-word.invariant.held;
       read_faults = omega (arith, c.in-Ok.ensures.read_faults, c.loop-word.invariant.read_faults);
