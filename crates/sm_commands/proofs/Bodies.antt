@@ -181,7 +181,7 @@ module _ (files files1 : FilesSeen) (test : Test) (store store1 : StoreSeen) (na
   body_refuses input m stop loads h =
       stops_map (ShapeSays (maps_of m.graph) shape store store1) (Answers (before input) (after input) command) ⊥
       (ReadFails (before input) (after input) command) (Unit {0}) (StopsShort (before input) (after input) command) stop
-      (λ a says. shape_answers input loads.0 a (subst (λ g. ShapeSays g shape store store1 a) loads.1.0 says)) (λ never. absurd never)
+      (λ a says. shape_answers input loads.0 a (subst (λ g. ShapeSays g shape store store1 a) loads.1 says)) (λ never. absurd never)
       (λ short. inl refl) h
 
   -- by a table
@@ -225,7 +225,7 @@ module _ (files files1 : FilesSeen) (test : Test) (store store1 : StoreSeen) (na
       → Loads Errors files files1 (name ∷ []) (Ok m) → HasTableOf (maps_of m.graph) shape test store now one → store1.refusals ≡ now.refusals
       → TableComesTo near far one test input rest result → CommandComesTo (before input) (after rest) command result
   body_by input rest m now one result loads h same comes =
-      let table : HasTableOf loads.0.graph shape test store now one = subst (λ g. HasTableOf g shape test store now one) loads.1.0 h in
+      let table : HasTableOf loads.0.graph shape test store now one = subst (λ g. HasTableOf g shape test store now one) loads.1 h in
       let made = made_of input loads.0 now one table in
       let count : store1.refusals ≡ store.refusals = same ∙ h.compiled.refusals in
       comes_map (TableSays near far (seen_table one) test input rest) (Answers (before input) (after rest) command)

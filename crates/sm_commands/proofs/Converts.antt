@@ -26,7 +26,7 @@ use Rattle.sm_commands.proofs.Stops.{stops_map, comes_map}
 
 pub text_comes : (files files1 : FilesSeen) (models : List (List ℕ)) (form : GraphForm) (m : Model) (text : Vec ℕ)
     → Loads Errors files files1 models (Ok m) → text.items ≡ converted form (maps_of m.graph) → Converts files files1 models form (Ok text)
-text_comes files files1 models form m text h is = graph h.0 (ap done (is ∙ ap (converted form) h.1.0))
+text_comes files files1 models form m text h is = graph h.0 (ap done (is ∙ ap (converted form) h.1))
 
 pub stop_comes : (files files1 : FilesSeen) (models : List (List ℕ)) (form : GraphForm) (stop : Stop) → Loads Errors files files1 models (Err stop)
     → Converts files files1 models form (Err stop)
