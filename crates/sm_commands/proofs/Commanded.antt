@@ -3,6 +3,7 @@ use Rattle.std.proofs.Common.{◌≡◌, ◌⊎◌, ◌<◌, ℕ, List, Option, 
 use Rattle.sm_io.specs.Files.{Folder}
 use Rattle.sm_bodies.specs.TextLaws.{OneTextAnswer, SomeTextAnswer}
 use Rattle.sm_compile.specs.Laws.{SomeTable}
+use Rattle.sm_load.specs.Laws.{SomeLoad, SomeModelEvents, SoundModels}
 use Rattle.sm_commands.specs.Commands.{Command, GraphForm, body_command, check_command, convert_command, select_command, touches_input}
 use Rattle.sm_commands.specs.Answer.{Answer, Came, came}
 use Rattle.sm_commands.specs.Answer.InputUse.{untouched}
@@ -16,7 +17,6 @@ use Rattle.sm_commands.proofs.OneBody.{body_same}
 use Rattle.sm_commands.proofs.SomeBody.{body_answered}
 use Rattle.sm_commands.proofs.OneCheck.{check_answered, check_same}
 use Rattle.sm_commands.proofs.OneConvert.{convert_same}
-use Rattle.sm_commands.proofs.SomeLoad.{SomeEventsTold, SomeLoads, SoundModels}
 use Rattle.sm_commands.proofs.SomeConvert.{convert_answered}
 use Rattle.sm_commands.proofs.OneSelect.{select_same, select_answered}
 use Rattle.sm_commands.proofs.ToldAll.{all_told}
@@ -43,7 +43,7 @@ one_answer texts t folder input (select_command models selector) c d all h i =
 one_answer texts t folder input (check_command models) c d all h i =
     check_same folder models c d (subst (λ x. CheckComes x models c) all.files h) (subst (λ x. CheckComes x models d) all.files i)
 
-pub some_answer : SomeTextAnswer → SomeTable → SomeLoads → SomeEventsTold → SoundModels → SomeAnswer
+pub some_answer : SomeTextAnswer → SomeTable → SomeLoad → SomeModelEvents → SoundModels → SomeAnswer
 some_answer texts tables loads events models t folder input (body_command model shape near far) all there none =
     body_answered texts tables loads models t folder input all model shape near far there none
 some_answer texts tables loads events sound t folder input (convert_command models form) all there none =

@@ -4,6 +4,7 @@ use Rattle.sm_io.specs.Files.{Folder}
 use Rattle.sm_model.specs.declared.event.ModelEvent.{ModelEvent}
 use Rattle.sm_load.specs.Events.{AreModelEvents}
 use Rattle.sm_load.proofs.OneModelLoaded.{one_event_list}
+use Rattle.sm_load.specs.Laws.{SomeLoad, SomeModelEvents}
 use Rattle.sm_commands.specs.Answer.{Answer, Came, came, done}
 use Rattle.sm_commands.specs.Answer.InputUse.{untouched}
 use Rattle.sm_commands.specs.Check.{CheckSays}
@@ -12,7 +13,7 @@ use Rattle.sm_commands.specs.Lines.{event_lines}
 use Rattle.sm_commands.specs.Says.{AreThere}
 use Rattle.sm_commands.specs.declared.lines.Shown.TheVariants.{All}
 use Rattle.sm_commands.proofs.OneLoad.{graph_same, load_apart, load_same}
-use Rattle.sm_commands.proofs.SomeLoad.{SomeEventsTold, SomeLoads, load_answered}
+use Rattle.sm_commands.proofs.SomeLoad.{load_answered}
 
 says_same : (folder : Folder) (models : List (List ℕ)) (a b : Answer) → CheckSays (Some folder) models a
     → CheckSays (Some folder) models b → a ≡ b
@@ -28,7 +29,7 @@ pub check_same : (folder : Folder) (models : List (List ℕ)) (c d : Came)
     → ((a : Answer) × CheckSays (Some folder) models a × (d ≡ came untouched a)) → c ≡ d
 check_same folder models c d (a, h, e) (b, i, f) = e ∙ ap (came untouched) (says_same folder models a b h i) ∙ sym f
 
-pub check_answered : SomeLoads → SomeEventsTold → (folder : Folder) (models : List (List ℕ)) → AreThere folder models
+pub check_answered : SomeLoad → SomeModelEvents → (folder : Folder) (models : List (List ℕ)) → AreThere folder models
     → ((c : Came) → ((a : Answer) × CheckSays (Some folder) models a × (c ≡ came untouched a)) → ⊥) → ⊥
 check_answered loads events folder models there none =
     load_answered loads All folder models there (λ a h. none (came untouched a) (a, not_loaded h, refl))

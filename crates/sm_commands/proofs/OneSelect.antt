@@ -6,6 +6,7 @@ use Rattle.sm_select.specs.Answers.{ArePicked}
 use Rattle.sm_select.proofs.OneAnswer.{one_answer, one_selector}
 use Rattle.sm_select.proofs.SomeAnswer.{some_answer}
 use Rattle.sm_select.proofs.SomePicked.{one_picked, some_picked}
+use Rattle.sm_load.specs.Laws.{SomeLoad}
 use Rattle.sm_commands.specs.Answer.{Answer, Came, came, done, refused}
 use Rattle.sm_commands.specs.Answer.InputUse.{untouched}
 use Rattle.sm_commands.specs.Lines.{broken_selector_line, id_lines, other_selector_line}
@@ -15,7 +16,7 @@ use Rattle.sm_commands.specs.Select.SelectorSays.{breaks, leaves, picks}
 use Rattle.sm_commands.specs.Select.SelectSays.{not_loaded, selected}
 use Rattle.sm_commands.specs.declared.lines.Shown.TheVariants.{Errors}
 use Rattle.sm_commands.proofs.OneLoad.{load_same, load_apart, graph_same}
-use Rattle.sm_commands.proofs.SomeLoad.{SomeLoads, load_answered}
+use Rattle.sm_commands.proofs.SomeLoad.{load_answered}
 
 selector_same : (g : GraphMaps) (text : List ℕ) (a b : Answer) → SelectorSays g text a → SelectorSays g text b → a ≡ b
 selector_same g text a b (breaks at h is) (breaks at1 h1 is1) =
@@ -52,7 +53,7 @@ selector_answered g text none =
     (λ at h. none (refused (broken_selector_line at)) (breaks at h refl))
     (λ at h. none (refused (other_selector_line at)) (leaves at h refl))
 
-pub select_answered : SomeLoads → (folder : Folder) (models : List (List ℕ)) (selector : List ℕ) → AreThere folder models
+pub select_answered : SomeLoad → (folder : Folder) (models : List (List ℕ)) (selector : List ℕ) → AreThere folder models
     → ((c : Came) → ((a : Answer) × SelectSays (Some folder) models selector a × (c ≡ came untouched a)) → ⊥) → ⊥
 select_answered loads folder models selector there none =
     load_answered loads Errors folder models there (λ a says. none (came untouched a) (a, not_loaded says, refl))

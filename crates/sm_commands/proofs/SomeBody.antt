@@ -17,6 +17,7 @@ use Rattle.sm_compile.specs.Sound.{IsValueShape}
 use Rattle.sm_compile.specs.declared.compiled.Served.{Served}
 use Rattle.sm_compile.specs.declared.compiled.Served.TheVariants.{Yes, Unserved}
 use Rattle.sm_compile.proofs.OnePatterns.{column_of}
+use Rattle.sm_load.specs.Laws.{SomeLoad, SoundModels}
 use Rattle.sm_commands.specs.Answer.{Answer, Came, came, refused, pattern_refused, past}
 use Rattle.sm_commands.specs.Answer.InputUse.{untouched, to_its_end, past_its_limit}
 use Rattle.sm_commands.specs.Body.{BodySays, printed}
@@ -29,7 +30,7 @@ use Rattle.sm_commands.specs.Says.{AreThere, TellsAll}
 use Rattle.sm_commands.specs.Stages.{Told, IsInput}
 use Rattle.sm_commands.specs.declared.lines.Shown.TheVariants.{Errors}
 use Rattle.sm_commands.proofs.LoadedSpelled.{loaded_spelled}
-use Rattle.sm_commands.proofs.SomeLoad.{SomeLoads, SoundModels, load_answered}
+use Rattle.sm_commands.proofs.SomeLoad.{load_answered}
 use Rattle.sm_commands.proofs.TablesMade.{number_within, is_filled}
 
 module _ (texts : SomeTextAnswer) (tables : SomeTable) (models : SoundModels) (t : Told) (name shape : List ℕ) (near far : BodyForm)
@@ -87,7 +88,7 @@ module _ (texts : SomeTextAnswer) (tables : SomeTable) (models : SoundModels) (t
 abbrev FilesCome : Option Folder → List ℕ → Type 0
 FilesCome files name = ((a : Answer) → LoadAnswers Errors files (name ∷ []) a → ⊥) → (Loaded files (name ∷ []) → ⊥) → ⊥
 
-pub body_answered : SomeTextAnswer → SomeTable → SomeLoads → SoundModels → (t : Told) (folder : Folder) (input : List ℕ) → TellsAll t folder input
+pub body_answered : SomeTextAnswer → SomeTable → SomeLoad → SoundModels → (t : Told) (folder : Folder) (input : List ℕ) → TellsAll t folder input
     → (name shape : List ℕ) (near far : BodyForm)
     → AreThere folder (name ∷ [])
     → ((c : Came) → BodySays t name shape near far c → ⊥) → ⊥

@@ -1,15 +1,9 @@
 -- Model files that are there come to a graph or to an answer. Where a case can't be decided, each of its two sides is denied in turn.
-use Rattle.std.proofs.Common.{◌≡◌, ◌<◌, ◌≤◌, ◌+◌, ◌⊎◌, ℕ, suc, inl, inr, List, [], ◌∷◌, Some, Err, length, refl, arith}
+use Rattle.std.proofs.Common.{◌≡◌, ◌<◌, ◌≤◌, ◌+◌, ◌⊎◌, ℕ, suc, inl, inr, List, [], ◌∷◌, Some, length, refl, arith}
 use Rattle.std.proofs.lemmas.Bool.{cases_lt}
 use Rattle.sm_io.specs.Files.{Folder}
-use Rattle.sm_model.specs.Graphs.{GraphMaps}
-use Rattle.sm_model.specs.declared.event.ModelEvent.{ModelEvent}
-use Rattle.sm_compile.specs.Sound.{Sound}
-use Rattle.sm_load.specs.Events.{AreModelEvents}
-use Rattle.sm_load.specs.Loading.{AreAccepted, LoadsTo}
+use Rattle.sm_load.specs.Laws.{SomeLoad}
 use Rattle.sm_load.specs.ModelFiles.{FileGiven, file_given}
-use Rattle.sm_load.specs.declared.model.LoadRefusal.{LoadRefusal}
-use Rattle.sm_load.specs.declared.model.LoadRefusal.TheVariants.{NoMemory}
 use Rattle.sm_commands.specs.Limits.{files_limit, file_limit, bytes_limit}
 use Rattle.sm_commands.specs.Lines.{files_limit_line, file_limit_line, bytes_limit_line}
 use Rattle.sm_commands.specs.Answer.{Answer, past}
@@ -19,18 +13,6 @@ use Rattle.sm_commands.specs.ModelFiles.{AreRead, PassesOne}
 use Rattle.sm_commands.specs.Says.{AreThere}
 use Rattle.sm_commands.specs.Stages.{FileRead}
 use Rattle.sm_commands.specs.declared.lines.Shown.{Shown}
-
--- what holds of loading, and of models that are loaded
-abbrev pub SomeLoads : Type 0
-SomeLoads =
-    (files : List FileGiven) → ((r : LoadRefusal) → (r ≡ NoMemory → ⊥) → LoadsTo files (Err r) → ⊥)
-    → ((g : GraphMaps) → AreAccepted files g → ⊥) → ⊥
-
-abbrev pub SomeEventsTold : Type 0
-SomeEventsTold = (g : GraphMaps) → ((es : List ModelEvent) → AreModelEvents g es → ⊥) → ⊥
-
-abbrev pub SoundModels : Type 0
-SoundModels = (files : List FileGiven) (g : GraphMaps) → AreAccepted files g → (id : List ℕ) → Sound g id
 
 -- files are all read, or a limit is passed
 abbrev PassedOrRead : Folder → ℕ → List (List ℕ) → Type 0
@@ -62,7 +44,7 @@ passed_or_read folder before (name ∷ names) there =
     ]
 
 -- model files are loaded, or have an answer
-module _ (loads : SomeLoads) (shown : Shown) (folder : Folder) (names : List (List ℕ)) (there : AreThere folder names)
+module _ (loads : SomeLoad) (shown : Shown) (folder : Folder) (names : List (List ℕ)) (there : AreThere folder names)
     (none : (a : Answer) → LoadAnswers shown (Some folder) names a → ⊥)
     (some : Loaded (Some folder) names → ⊥) where
   of_texts : FilesRead (Some folder) names → ⊥

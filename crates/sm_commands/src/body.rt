@@ -237,6 +237,7 @@ pub(crate) fn body<F: Files, S: Source, P: Patterns>(
         Err(stop) => return Err(stop),
     };
     drop(events);
+    sm_load::laws::sound_models();
     let made = table_named(alloc, &graph, words.shape, patterns);
     drop(graph);
     match made {

@@ -1,3 +1,5 @@
+use Rattle.std.proofs.Common.{subst, sym}
+use Rattle.sm_compile.specs.Sound.{Sound}
 use Rattle.sm_io.specs.Seen.{files_seen, stream}
 use Rattle.sm_compile.specs.Answers.{seen_store}
 use Rattle.sm_model.specs.GraphView.{maps_of}
@@ -12,6 +14,12 @@ returns-in-Err-clause-comes g c =
     (seen_store (g.P.Patterns.added c.args.patterns.now) (g.P.Patterns.refused c.args.patterns.now)
     (g.P.Patterns.refusals c.args.patterns.now))
     c.args.words.model.now c.args.words.shape.now c.args.words.near c.args.words.far c.in-Err.stop c.in-Err.ensures.loads
+
+pub table_named-made-requires : goal.table_named-made-requires
+table_named-made-requires g c =
+    let loads = c.in-Ok.ensures.loads in
+    subst (λ x. Sound x c.args.words.shape.now) (sym loads.1)
+    (c.sound_models.ensures.shapes loads.0.texts.read loads.0.graph loads.0.accepted c.args.words.shape.now)
 
 pub far_of_shape-requires : goal.far_of_shape-requires
 far_of_shape-requires g c =
