@@ -19,7 +19,7 @@ returns-in-Ok-graph_text-clause-comes g c =
     c.args.words.models.now (graph_form c.args.words.form) c.in-Ok.model c.in-Ok-graph_text.text c.in-Ok.ensures.loads
     c.in-Ok-graph_text.ensures
 
-pub returns-clause-comes : goal.returns-in-Err-clause-comes
+pub returns-clause-comes : goal.returns-clause-comes
 returns-clause-comes g c =
     stop_comes (files_seen (g.F.Files.held c.args.files.now) (g.F.Files.read_faults c.args.files.now))
     (files_seen (g.F.Files.held c.load_models.new.files) (g.F.Files.read_faults c.load_models.new.files))
