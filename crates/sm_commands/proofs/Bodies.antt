@@ -8,7 +8,7 @@ use Rattle.sm_io.specs.Reading.{Empties}
 use Rattle.sm_io.specs.Seen.{FilesSeen, Stream}
 use Rattle.sm_model.specs.GraphView.{maps_of}
 use Rattle.sm_model.specs.Graphs.{GraphMaps}
-use Rattle.sm_model.specs.declared.graph.Graph.{Graph}
+use Rattle.sm_load.specs.declared.model.Model.{Model}
 use Rattle.sm_shapes.specs.Fitting.{Test}
 use Rattle.sm_shapes.specs.Places.{root_place}
 use Rattle.sm_shapes.specs.TableData.{TableData}
@@ -18,7 +18,7 @@ use Rattle.sm_bodies.specs.TextAnswers.{TextAnswer, TextAnswers}
 use Rattle.sm_bodies.specs.declared.form.BodyForm.{BodyForm}
 use Rattle.sm_compile.specs.Answers.{StoreSeen, CompilesShape, IsPatternRefused, IsShapeCompiled, seen_table}
 use Rattle.sm_compile.specs.Compiled.{texts_of}
-use Rattle.sm_compile.specs.Sound.{IsValueShape, Sound}
+use Rattle.sm_compile.specs.Sound.{IsValueShape}
 use Rattle.sm_compile.specs.declared.compiled.CompileRefusal.{CompileRefusal}
 use Rattle.sm_compile.specs.declared.compiled.CompileRefusal.TheVariants.{NoShape, Pattern as is_pattern, NoMemory as no_room}
 use Rattle.sm_compile.specs.declared.compiled.OneShape.{OneShape}
@@ -27,11 +27,11 @@ use Rattle.sm_compile.specs.declared.compiled.Served.TheVariants.{Yes, Unserved}
 use Rattle.sm_commands.specs.Answer.{Answer, came, refused, pattern_refused, past}
 use Rattle.sm_commands.specs.Answer.InputUse.{untouched, to_its_end, past_its_limit}
 use Rattle.sm_commands.specs.Body.{printed}
-use Rattle.sm_commands.specs.Body.BodySays.{not_loaded, no_shape, unbuilt, pattern, unserved, long_input, by_text}
-use Rattle.sm_commands.specs.BodyStages.{ShapeThere, ShapeSound, TableMade, ShapeServed}
+use Rattle.sm_commands.specs.Body.BodySays.{not_loaded, no_shape, pattern, unserved, long_input, by_text}
+use Rattle.sm_commands.specs.BodyStages.{ShapeThere, TableMade, ShapeServed}
 use Rattle.sm_commands.specs.Commands.{Command, body_command}
 use Rattle.sm_commands.specs.Limits.{body_limit}
-use Rattle.sm_commands.specs.Lines.{no_shape_line, unbuilt_line, pattern_line, unserved_line, body_limit_line}
+use Rattle.sm_commands.specs.Lines.{no_shape_line, pattern_line, unserved_line, body_limit_line}
 use Rattle.sm_commands.specs.Loading.{Loaded, LoadAnswers}
 use Rattle.sm_commands.specs.Outside.{InputsSeen, inputs_seen}
 use Rattle.sm_commands.specs.Run.{Answers, OnlyAdds, ReadFails, StopsShort, told_by}
@@ -39,52 +39,43 @@ use Rattle.sm_commands.specs.Stages.{Told, IsInput}
 use Rattle.sm_commands.specs.declared.command.Status.TheVariants.{Pattern}
 use Rattle.sm_commands.specs.steps.BodySteps.{ShapeSays, HasTableOf, MakesTable, IsReady, PrintsText, InputSays, InputComesTo, TableSays}
 use Rattle.sm_commands.specs.steps.BodySteps.{TableComesTo}
-use Rattle.sm_commands.specs.steps.BodySteps.ShapeSays.{lacks, not_sound, refuses}
+use Rattle.sm_commands.specs.steps.BodySteps.ShapeSays.{lacks, refuses}
 use Rattle.sm_commands.specs.steps.BodySteps.InputSays.{beyond, whole}
 use Rattle.sm_commands.specs.steps.BodySteps.TableSays.{left_out, by_input}
 use Rattle.sm_commands.specs.steps.CommandSteps.{StepStops, StepComesTo, EndsWithLine, EndsWithLimit, EndsWithPattern, CommandComesTo}
 use Rattle.sm_commands.specs.steps.LoadSteps.{Loads}
 use Rattle.sm_commands.specs.declared.stop.Stop.{Stop}
+use Rattle.sm_commands.specs.declared.lines.Shown.TheVariants.{Errors}
 use Rattle.sm_commands.proofs.Answered.{answer_before, none_is_some}
 use Rattle.sm_commands.proofs.LongFiles.{long_list}
 use Rattle.sm_commands.proofs.Stops.{line_stops, limit_stops, pattern_stops, stops_map, comes_map}
 use Rattle.sm_commands.proofs.TablesMade.{number_within}
 
--- a shape that has no table: it isn't there, isn't sound, or a pattern is refused
-pub shape_lacks : (g : GraphMaps) (name shape : List ℕ) (test : Test) (before now : StoreSeen) (stop : Stop) → (IsValueShape g shape → ⊥)
-    → now.refusals ≡ before.refusals → EndsWithLine (no_shape_line shape) stop → MakesTable g name shape test before now (Err stop)
-shape_lacks g name shape test before now stop none count ends =
-    line_stops (ShapeSays g name shape before now) ⊥ (Unit {0}) (no_shape_line shape) stop (lacks none count refl) tt ends
-
-pub shape_unsound : (g : GraphMaps) (name shape : List ℕ) (test : Test) (before now : StoreSeen) (stop : Stop) → IsValueShape g shape
-    → (Sound g shape → ⊥) → now.refusals ≡ before.refusals → EndsWithLine (unbuilt_line name) stop
-    → MakesTable g name shape test before now (Err stop)
-shape_unsound g name shape test before now stop there none count ends =
-    line_stops (ShapeSays g name shape before now) ⊥ (Unit {0}) (unbuilt_line name) stop (not_sound there none count refl) tt ends
+-- a shape that has no table: it isn't there, or a pattern is refused
+pub shape_lacks : (g : GraphMaps) (shape : List ℕ) (test : Test) (before now : StoreSeen) (stop : Stop) → (IsValueShape g shape → ⊥)
+    → now.refusals ≡ before.refusals → EndsWithLine (no_shape_line shape) stop → MakesTable g shape test before now (Err stop)
+shape_lacks g shape test before now stop none count ends =
+    line_stops (ShapeSays g shape before now) ⊥ (Unit {0}) (no_shape_line shape) stop (lacks none count refl) tt ends
 
 -- by what compiling answers for the id as it is borrowed
 module _ (g : GraphMaps) (id shape : List ℕ) (test : Test) (before now : StoreSeen) (e : id ≡ shape) where
-  pub compiled_table : (one : OneShape) → Sound g id → CompilesShape g shape test before now (Ok one) → HasTableOf g id test before now one
-  compiled_table one sound h =
+  pub compiled_table : (one : OneShape) → CompilesShape g shape test before now (Ok one) → HasTableOf g id test before now one
+  compiled_table one h =
       record {
         is = subst (IsValueShape g) (sym e) h.0;
-        sound = sound;
         compiled = subst (λ x. IsShapeCompiled g x test before now one) (sym e) h.1;
       }
 
-  pub compiled_lacks : (name : List ℕ) (stop : Stop) → CompilesShape g shape test before now (Err NoShape)
-      → EndsWithLine (no_shape_line id) stop
-      → MakesTable g name id test before now (Err stop)
-  compiled_lacks name stop h ends =
-      shape_lacks g name id test before now stop (λ there. h.0 (subst (IsValueShape g) e there)) (ap (λ (x : StoreSeen). x.refusals) h.1)
-      ends
+  pub compiled_lacks : (stop : Stop) → CompilesShape g shape test before now (Err NoShape) → EndsWithLine (no_shape_line id) stop
+      → MakesTable g id test before now (Err stop)
+  compiled_lacks stop h ends =
+      shape_lacks g id test before now stop (λ there. h.0 (subst (IsValueShape g) e there)) (ap (λ (x : StoreSeen). x.refusals) h.1) ends
 
-  pub compiled_refused : (name carrier : List ℕ) (stop : Stop) → Sound g id
-      → CompilesShape g shape test before now (Err (is_pattern carrier))
-      → EndsWithPattern (pattern_line carrier) stop → MakesTable g name id test before now (Err stop)
-  compiled_refused name carrier stop sound h ends =
-      pattern_stops (ShapeSays g name id before now) ⊥ (Unit {0}) (pattern_line carrier) stop
-      (refuses (subst (IsValueShape g) (sym e) h.0) sound carrier (subst (λ x. IsPatternRefused g x before now carrier) (sym e) h.1) refl)
+  pub compiled_refused : (carrier : List ℕ) (stop : Stop) → CompilesShape g shape test before now (Err (is_pattern carrier))
+      → EndsWithPattern (pattern_line carrier) stop → MakesTable g id test before now (Err stop)
+  compiled_refused carrier stop h ends =
+      pattern_stops (ShapeSays g id before now) ⊥ (Unit {0}) (pattern_line carrier) stop
+      (refuses (subst (IsValueShape g) (sym e) h.0) carrier (subst (λ x. IsPatternRefused g x before now carrier) (sym e) h.1) refl)
       tt ends
 
 -- a table that was made is one to read by
@@ -144,14 +135,14 @@ served_comes near far one test input rest result served h =
 
 -- the whole command, by its model file
 pub body_stops : (files files1 : FilesSeen) (input : Stream) (test : Test) (store : StoreSeen) (name shape : List ℕ) (near far : BodyForm)
-    (stop : Stop) → Loads files files1 (name ∷ []) (Err stop)
+    (stop : Stop) → Loads Errors files files1 (name ∷ []) (Err stop)
     → CommandComesTo (inputs_seen files input test store) (inputs_seen files1 input test store) (body_command name shape near far)
     (Err stop)
 body_stops files files1 input test store name shape near far stop h =
     let before = inputs_seen files input test store in
     let after = inputs_seen files1 input test store in
     let command = body_command name shape near far in
-    stops_map (LoadAnswers files.held (name ∷ [])) (Answers before after command) (Rose files.faults files1.faults)
+    stops_map (LoadAnswers Errors files.held (name ∷ [])) (Answers before after command) (Rose files.faults files1.faults)
     (ReadFails before after command) (Unit {0}) (StopsShort before after command) stop
     (λ a says. answer_before before after command a (not_loaded a says refl) refl refl)
     (λ rose. inl (record { rose = rose; input = refl; refusals = refl })) (λ short. inl refl) h
@@ -167,20 +158,17 @@ module _ (files files1 : FilesSeen) (test : Test) (store store1 : StoreSeen) (na
   command = body_command name shape near far
 
   -- by what a shape without a table comes to
-  shape_answers : (input : Stream) (loaded : Loaded files.held (name ∷ [])) (a : Answer) → ShapeSays loaded.graph name shape store store1 a
+  shape_answers : (input : Stream) (loaded : Loaded files.held (name ∷ [])) (a : Answer) → ShapeSays loaded.graph shape store store1 a
       → Answers (before input) (after input) command a
   shape_answers input loaded a (lacks none count is) =
       answer_before (before input) (after input) command a (no_shape loaded none (ap (came untouched) is)) refl count
-  shape_answers input loaded a (not_sound there none count is) =
-      answer_before (before input) (after input) command a
-      (unbuilt (record { loaded = loaded; is = there }) none (ap (came untouched) is)) refl count
-  shape_answers input loaded a (refuses there sound id h is) = record {
+  shape_answers input loaded a (refuses there id h is) = record {
     taken = untouched;
     pattern = Some h.text;
     by = (rose, h.refused);
     only = λ u e. ap (λ (x : Answer). x.status) is;
     says =
-        pattern (record { there = record { loaded = loaded; is = there }; sound = sound }) h.text id refl h.carrier
+        pattern (record { loaded = loaded; is = there }) h.text id refl h.carrier
         (ap (came untouched) is);
     left = refl;
   }
@@ -188,12 +176,12 @@ module _ (files files1 : FilesSeen) (test : Test) (store store1 : StoreSeen) (na
       rose : Rose store.refusals store1.refusals
       rose = omega (arith, h.refusals)
 
-  pub body_refuses : (input : Stream) (graph : Graph) (stop : Stop) → Loads files files1 (name ∷ []) (Ok graph)
-      → MakesTable (maps_of graph) name shape test store store1 (Err stop) → CommandComesTo (before input) (after input) command (Err stop)
-  body_refuses input graph stop loads h =
-      stops_map (ShapeSays (maps_of graph) name shape store store1) (Answers (before input) (after input) command) ⊥
+  pub body_refuses : (input : Stream) (m : Model) (stop : Stop) → Loads Errors files files1 (name ∷ []) (Ok m)
+      → MakesTable (maps_of m.graph) shape test store store1 (Err stop) → CommandComesTo (before input) (after input) command (Err stop)
+  body_refuses input m stop loads h =
+      stops_map (ShapeSays (maps_of m.graph) shape store store1) (Answers (before input) (after input) command) ⊥
       (ReadFails (before input) (after input) command) (Unit {0}) (StopsShort (before input) (after input) command) stop
-      (λ a says. shape_answers input loads.0 a (subst (λ g. ShapeSays g name shape store store1 a) loads.1 says)) (λ never. absurd never)
+      (λ a says. shape_answers input loads.0 a (subst (λ g. ShapeSays g shape store store1 a) loads.1 says)) (λ never. absurd never)
       (λ short. inl refl) h
 
   -- by a table
@@ -203,7 +191,7 @@ module _ (files files1 : FilesSeen) (test : Test) (store store1 : StoreSeen) (na
   abbrev made_of : (input : Stream) (loaded : Loaded files.held (name ∷ [])) (now : StoreSeen) (one : OneShape)
       → HasTableOf loaded.graph shape test store now one → TableMade (told_now input) name shape
   made_of input loaded now one h = record {
-    sound = record { there = record { loaded = loaded; is = h.is }; sound = h.sound };
+    there = record { loaded = loaded; is = h.is };
     now = now;
     one = seen_table one;
     compiled = h.compiled;
@@ -233,10 +221,10 @@ module _ (files files1 : FilesSeen) (test : Test) (store store1 : StoreSeen) (na
     left = at_end;
   }
 
-  pub body_by : (input rest : Stream) (graph : Graph) (now : StoreSeen) (one : OneShape) (result : Result (Vec ℕ) Stop)
-      → Loads files files1 (name ∷ []) (Ok graph) → HasTableOf (maps_of graph) shape test store now one → store1.refusals ≡ now.refusals
+  pub body_by : (input rest : Stream) (m : Model) (now : StoreSeen) (one : OneShape) (result : Result (Vec ℕ) Stop)
+      → Loads Errors files files1 (name ∷ []) (Ok m) → HasTableOf (maps_of m.graph) shape test store now one → store1.refusals ≡ now.refusals
       → TableComesTo near far one test input rest result → CommandComesTo (before input) (after rest) command result
-  body_by input rest graph now one result loads h same comes =
+  body_by input rest m now one result loads h same comes =
       let table : HasTableOf loads.0.graph shape test store now one = subst (λ g. HasTableOf g shape test store now one) loads.1 h in
       let made = made_of input loads.0 now one table in
       let count : store1.refusals ≡ store.refusals = same ∙ h.compiled.refusals in

@@ -5,7 +5,7 @@ use Rattle.sm_io.specs.Causes.{Rose}
 use Rattle.sm_io.specs.Seen.{FilesSeen, Stream}
 use Rattle.std.specs.Prelude.{Result}
 use Rattle.sm_model.specs.GraphView.{maps_of}
-use Rattle.sm_model.specs.declared.graph.Graph.{Graph}
+use Rattle.sm_load.specs.declared.model.Model.{Model}
 use Rattle.sm_commands.specs.Answer.{Answer, done}
 use Rattle.sm_commands.specs.Answer.InputUse.{untouched}
 use Rattle.sm_commands.specs.Commands.{GraphForm, convert_command}
@@ -21,16 +21,17 @@ use Rattle.sm_commands.specs.steps.CommandSteps.{CommandComesTo}
 use Rattle.sm_commands.specs.steps.ConvertSteps.{Converts}
 use Rattle.sm_commands.specs.steps.LoadSteps.{Loads}
 use Rattle.sm_commands.specs.declared.stop.Stop.{Stop}
+use Rattle.sm_commands.specs.declared.lines.Shown.TheVariants.{Errors}
 use Rattle.sm_commands.proofs.Stops.{stops_map, comes_map}
 
-pub text_comes : (files files1 : FilesSeen) (models : List (List ℕ)) (form : GraphForm) (loaded : Graph) (text : Vec ℕ)
-    → Loads files files1 models (Ok loaded) → text.items ≡ converted form (maps_of loaded) → Converts files files1 models form (Ok text)
-text_comes files files1 models form loaded text h is = graph h.0 (ap done (is ∙ ap (converted form) h.1))
+pub text_comes : (files files1 : FilesSeen) (models : List (List ℕ)) (form : GraphForm) (m : Model) (text : Vec ℕ)
+    → Loads Errors files files1 models (Ok m) → text.items ≡ converted form (maps_of m.graph) → Converts files files1 models form (Ok text)
+text_comes files files1 models form m text h is = graph h.0 (ap done (is ∙ ap (converted form) h.1))
 
-pub stop_comes : (files files1 : FilesSeen) (models : List (List ℕ)) (form : GraphForm) (stop : Stop) → Loads files files1 models (Err stop)
+pub stop_comes : (files files1 : FilesSeen) (models : List (List ℕ)) (form : GraphForm) (stop : Stop) → Loads Errors files files1 models (Err stop)
     → Converts files files1 models form (Err stop)
 stop_comes files files1 models form stop h =
-    stops_map (LoadAnswers files.held models) (ConvertSays files.held models form) (Rose files.faults files1.faults)
+    stops_map (LoadAnswers Errors files.held models) (ConvertSays files.held models form) (Rose files.faults files1.faults)
     (Rose files.faults files1.faults)
     (Unit {0}) (Unit {0}) stop (λ a says. not_loaded says) (λ rose. rose) (λ short. short) h
 

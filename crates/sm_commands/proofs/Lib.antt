@@ -1,8 +1,6 @@
 pub mod Stops
 pub mod LongFiles
 pub mod FilesRead
-pub mod NoTrees
-pub mod NoTexts
 pub mod Loads
 pub mod OneForm
 pub mod OneLoad
@@ -14,12 +12,14 @@ pub mod OneBody
 pub mod LoadedSpelled
 pub mod SomeBody
 pub mod MergedJson
+pub mod OneCheck
 pub mod OneConvert
 pub mod SomeConvert
 pub mod OneSelect
 pub mod Commanded
 pub mod Answered
 pub mod Bodies
+pub mod Checks
 pub mod Converts
 pub mod Selects
 pub mod Runs

@@ -9,7 +9,6 @@ use Rattle.sm_model.specs.References.{IsShapeId}
 use Rattle.sm_merge.proofs.GraphSound.{IsMemberId, IsSoundEntry, stands_sound}
 use Rattle.sm_compile.specs.Laws.{IsSpelledEntry, IsSpelledGraph}
 use Rattle.sm_commands.specs.Loading.{Loaded}
-use Rattle.sm_commands.proofs.OneLoad.{files_formed}
 
 -- the id of a member, from its parts
 member_text_of : (shape name : List ℕ) → IsShapeId shape → IsIdentifier name → IsIdText (member_id shape name)
@@ -39,5 +38,4 @@ spelled_entry id (member_entry m) h = (spelled_member id h.0, λ name n at. (h.2
 pub loaded_spelled : (files : Option Folder) (names : List (List ℕ)) (l : Loaded files names) → IsSpelledGraph l.graph
 loaded_spelled files names l id e found =
     spelled_entry id e
-    (stands_sound l.statements.said (files_formed l.statements.texts.read l.statements.said l.statements.says) id e
-    ((l.merged.is_graph.shapes id e).0 found))
+    (stands_sound l.accepted.said l.accepted.formed id e ((l.accepted.merged.is_graph.shapes id e).0 found))

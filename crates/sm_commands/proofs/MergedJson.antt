@@ -16,7 +16,6 @@ use Rattle.sm_merge.specs.Stated.{AreFormedFiles, stated_by}
 use Rattle.sm_merge.proofs.EntriesFound.{each_has, has_get}
 use Rattle.sm_merge.proofs.GraphSound.{HoldsNamed, IsNamedNode, IsSoundEntry, metadata_named, stands_sound}
 use Rattle.sm_commands.specs.Loading.{Loaded}
-use Rattle.sm_commands.proofs.OneLoad.{files_formed}
 
 -- names and nodes that may be written
 pairs_json : (ps : List (List ℕ × Node)) → Each (IsNamedNode IsUtf8) ps → AreJsonPairs ps
@@ -48,4 +47,4 @@ graph_json said g formed of = written_json g (record {
 
 pub loaded_json : (files : Option Folder) (names : List (List ℕ)) (l : Loaded files names) → IsJson (written_ast l.graph)
 loaded_json files names l =
-    graph_json l.statements.said l.graph (files_formed l.statements.texts.read l.statements.said l.statements.says) l.merged.is_graph
+    graph_json l.accepted.said l.graph l.accepted.formed l.accepted.merged.is_graph

@@ -13,15 +13,15 @@ use Rattle.sm_bodies.specs.TextLaws.{OneTextAnswer}
 use Rattle.sm_compile.specs.Answers.{IsTableSeen}
 use Rattle.sm_compile.specs.Compiled.{IsFirstCarrier}
 use Rattle.sm_compile.specs.Reached.{IsReached}
-use Rattle.sm_compile.specs.Sound.{IsValueShape, Sound}
+use Rattle.sm_compile.specs.Sound.{IsValueShape}
 use Rattle.sm_compile.specs.declared.compiled.Served.{Served}
 use Rattle.sm_compile.specs.declared.compiled.Served.TheVariants.{Yes, Unserved}
 use Rattle.sm_compile.proofs.OneTable.{one_seen}
 use Rattle.sm_commands.specs.Answer.{Answer, Came, came, refused, pattern_refused}
 use Rattle.sm_commands.specs.Answer.InputUse.{untouched, to_its_end}
 use Rattle.sm_commands.specs.Body.{BodySays, printed}
-use Rattle.sm_commands.specs.Body.BodySays.{not_loaded, no_shape, unbuilt, pattern, unserved, long_input, by_text}
-use Rattle.sm_commands.specs.BodyStages.{ShapeThere, ShapeSound, TableMade, ShapeServed, InputRead, table_of}
+use Rattle.sm_commands.specs.Body.BodySays.{not_loaded, no_shape, pattern, unserved, long_input, by_text}
+use Rattle.sm_commands.specs.BodyStages.{ShapeThere, TableMade, ShapeServed, InputRead, table_of}
 use Rattle.sm_commands.specs.Limits.{body_limit}
 use Rattle.sm_commands.specs.Lines.{pattern_line, unserved_line}
 use Rattle.sm_commands.specs.Loading.{Loaded, LoadAnswers}
@@ -40,37 +40,34 @@ path_in Yes = []
 path_in (Unserved path) = path
 
 module _ (texts : OneTextAnswer) (t : Told) (whole : IsToldWhole t) (name shape : List ℕ) where
-  -- one graph: it has the shape, and the shape is sound, or not
+  -- one graph: it has the shape, or not
   graphs : (k l : Loaded t.files (name ∷ [])) → Path GraphMaps k.graph l.graph
   graphs = whole.graphs (name ∷ [])
 
   not_there : (loaded : Loaded t.files (name ∷ [])) → (IsValueShape loaded.graph shape → ⊥) → ShapeThere t name shape → ⊥
   not_there loaded none h = none (subst (λ g. IsValueShape g shape) (graphs h.loaded loaded) h.is)
 
-  not_sound : (there : ShapeThere t name shape) → (Sound there.loaded.graph shape → ⊥) → ShapeSound t name shape → ⊥
-  not_sound there none h = none (subst (λ g. Sound g shape) (graphs h.there.loaded there.loaded) h.sound)
-
   -- the store refuses a pattern of the shape, or there is a table of it
-  not_made : (sound : ShapeSound t name shape) (u id : List ℕ) → t.refused ≡ Some u
-      → IsFirstCarrier sound.there.loaded.graph (IsReached sound.there.loaded.graph shape) u id → TableMade t name shape → ⊥
-  not_made sound u id is first h = h.free u is (carried_within h.sound.there.loaded.graph shape t.test t.store h.now h.one u id h.compiled
-      (subst (λ g. IsFirstCarrier g (IsReached g shape) u id) (graphs sound.there.loaded h.sound.there.loaded) first))
+  not_made : (there : ShapeThere t name shape) (u id : List ℕ) → t.refused ≡ Some u
+      → IsFirstCarrier there.loaded.graph (IsReached there.loaded.graph shape) u id → TableMade t name shape → ⊥
+  not_made there u id is first h = h.free u is (carried_within h.there.loaded.graph shape t.test t.store h.now h.one u id h.compiled
+      (subst (λ g. IsFirstCarrier g (IsReached g shape) u id) (graphs there.loaded h.there.loaded) first))
 
-  id_same : (h i : ShapeSound t name shape) (u v id id1 : List ℕ) → t.refused ≡ Some u → t.refused ≡ Some v
-      → IsFirstCarrier h.there.loaded.graph (IsReached h.there.loaded.graph shape) u id
-      → IsFirstCarrier i.there.loaded.graph (IsReached i.there.loaded.graph shape) v id1 → id ≡ id1
+  id_same : (h i : ShapeThere t name shape) (u v id id1 : List ℕ) → t.refused ≡ Some u → t.refused ≡ Some v
+      → IsFirstCarrier h.loaded.graph (IsReached h.loaded.graph shape) u id
+      → IsFirstCarrier i.loaded.graph (IsReached i.loaded.graph shape) v id1 → id ≡ id1
   id_same h i u v id id1 is is1 first first1 =
-      let g = i.there.loaded.graph in
+      let g = i.loaded.graph in
       let texts : u ≡ v = cc in
       one_first g (IsReached g shape) v id id1 (subst (λ x. IsFirstCarrier g (IsReached g shape) x id) texts
-      (subst (λ x. IsFirstCarrier x (IsReached x shape) u id) (graphs h.there.loaded i.there.loaded) first)) first1
+      (subst (λ x. IsFirstCarrier x (IsReached x shape) u id) (graphs h.loaded i.loaded) first)) first1
 
   -- there is one table, which is served or not
   tables : (h i : TableMade t name shape)
       → Path TableData h.one.table i.one.table × (h.one.shape ≡ i.one.shape) × Path Served h.one.served i.one.served
   tables h i =
-      one_seen i.sound.there.loaded.graph shape t.test t.store h.now i.now h.one i.one
-      (subst (λ g. IsTableSeen g shape t.test t.store h.now h.one) (graphs h.sound.there.loaded i.sound.there.loaded) h.compiled)
+      one_seen i.there.loaded.graph shape t.test t.store h.now i.now h.one i.one
+      (subst (λ g. IsTableSeen g shape t.test t.store h.now h.one) (graphs h.there.loaded i.there.loaded) h.compiled)
       i.compiled
 
   not_served : (h : TableMade t name shape) (path : List ℕ) → Path Served h.one.served (Unserved path) → ShapeServed t name shape → ⊥
@@ -94,7 +91,7 @@ module _ (texts : OneTextAnswer) (t : Told) (whole : IsToldWhole t) (name shape 
       let k = i.served.table in
       let same = tables h.served.table k in
       let ready : IsFilled (filled k.one.table t.test) t.test =
-      is_filled k.sound.there.loaded.graph shape t.test t.store k.now k.one k.compiled in
+      is_filled k.there.loaded.graph shape t.test t.store k.now k.one k.compiled in
       texts near far (filled k.one.table t.test) t.test (root_place k.one.shape) i.bytes a b ready.shaped ready.pass
       (within k)
       (subst (λ x. TextAnswers near far (filled k.one.table t.test) t.test (root_place k.one.shape) x a)
@@ -103,72 +100,57 @@ module _ (texts : OneTextAnswer) (t : Told) (whole : IsToldWhole t) (name shape 
       (subst (λ x. TextAnswers near far (filled x t.test) t.test (root_place h.served.table.one.shape) h.bytes a) same.0 says))) says1
     where
       within : (k : TableMade t name shape) → InTable (filled k.one.table t.test) (root_place k.one.shape)
-      within k = number_within k.sound.there.loaded.graph shape t.test t.store k.now k.one k.compiled
+      within k = number_within k.there.loaded.graph shape t.test t.store k.now k.one k.compiled
 
   pub body_same : (near far : BodyForm) (c d : Came) → BodySays t name shape near far c → BodySays t name shape near far d → c ≡ d
   body_same near far c d (not_loaded a h e) (not_loaded a1 h1 e1) = e ∙ ap (came untouched) (whole.answers (name ∷ []) a a1 h h1) ∙ sym e1
   body_same near far c d (not_loaded a h e) (no_shape l1 none1 e1) = absurd (whole.apart (name ∷ []) a h l1)
-  body_same near far c d (not_loaded a h e) (unbuilt there1 none1 e1) = absurd (whole.apart (name ∷ []) a h there1.loaded)
-  body_same near far c d (not_loaded a h e) (pattern sound1 u1 id1 is1 first1 e1) =
-      absurd (whole.apart (name ∷ []) a h sound1.there.loaded)
+  body_same near far c d (not_loaded a h e) (pattern there1 u1 id1 is1 first1 e1) =
+      absurd (whole.apart (name ∷ []) a h there1.loaded)
   body_same near far c d (not_loaded a h e) (unserved table1 path1 is1 e1) =
-      absurd (whole.apart (name ∷ []) a h table1.sound.there.loaded)
+      absurd (whole.apart (name ∷ []) a h table1.there.loaded)
   body_same near far c d (not_loaded a h e) (long_input served1 input1 is1 long1 e1) =
-      absurd (whole.apart (name ∷ []) a h served1.table.sound.there.loaded)
+      absurd (whole.apart (name ∷ []) a h served1.table.there.loaded)
   body_same near far c d (not_loaded a h e) (by_text input1 a1 says1 e1) =
-      absurd (whole.apart (name ∷ []) a h input1.served.table.sound.there.loaded)
+      absurd (whole.apart (name ∷ []) a h input1.served.table.there.loaded)
   body_same near far c d (no_shape l none e) (not_loaded a1 h1 e1) = absurd (whole.apart (name ∷ []) a1 h1 l)
   body_same near far c d (no_shape l none e) (no_shape l1 none1 e1) = e ∙ sym e1
-  body_same near far c d (no_shape l none e) (unbuilt there1 none1 e1) = absurd (not_there l none there1)
-  body_same near far c d (no_shape l none e) (pattern sound1 u1 id1 is1 first1 e1) = absurd (not_there l none sound1.there)
-  body_same near far c d (no_shape l none e) (unserved table1 path1 is1 e1) = absurd (not_there l none table1.sound.there)
+  body_same near far c d (no_shape l none e) (pattern there1 u1 id1 is1 first1 e1) = absurd (not_there l none there1)
+  body_same near far c d (no_shape l none e) (unserved table1 path1 is1 e1) = absurd (not_there l none table1.there)
   body_same near far c d (no_shape l none e) (long_input served1 input1 is1 long1 e1) =
-      absurd (not_there l none served1.table.sound.there)
-  body_same near far c d (no_shape l none e) (by_text input1 a1 says1 e1) = absurd (not_there l none input1.served.table.sound.there)
-  body_same near far c d (unbuilt there none e) (not_loaded a1 h1 e1) = absurd (whole.apart (name ∷ []) a1 h1 there.loaded)
-  body_same near far c d (unbuilt there none e) (no_shape l1 none1 e1) = absurd (not_there l1 none1 there)
-  body_same near far c d (unbuilt there none e) (unbuilt there1 none1 e1) = e ∙ sym e1
-  body_same near far c d (unbuilt there none e) (pattern sound1 u1 id1 is1 first1 e1) = absurd (not_sound there none sound1)
-  body_same near far c d (unbuilt there none e) (unserved table1 path1 is1 e1) = absurd (not_sound there none table1.sound)
-  body_same near far c d (unbuilt there none e) (long_input served1 input1 is1 long1 e1) =
-      absurd (not_sound there none served1.table.sound)
-  body_same near far c d (unbuilt there none e) (by_text input1 a1 says1 e1) = absurd (not_sound there none input1.served.table.sound)
-  body_same near far c d (pattern sound u id is first e) (not_loaded a1 h1 e1) = absurd (whole.apart (name ∷ []) a1 h1 sound.there.loaded)
-  body_same near far c d (pattern sound u id is first e) (no_shape l1 none1 e1) = absurd (not_there l1 none1 sound.there)
-  body_same near far c d (pattern sound u id is first e) (unbuilt there1 none1 e1) = absurd (not_sound there1 none1 sound)
-  body_same near far c d (pattern sound u id is first e) (pattern sound1 u1 id1 is1 first1 e1) =
-      e ∙ ap (λ x. came untouched (pattern_refused (pattern_line x))) (id_same sound sound1 u u1 id id1 is is1 first first1) ∙ sym e1
-  body_same near far c d (pattern sound u id is first e) (unserved table1 path1 is1 e1) = absurd (not_made sound u id is first table1)
-  body_same near far c d (pattern sound u id is first e) (long_input served1 input1 is1 long1 e1) =
-      absurd (not_made sound u id is first served1.table)
-  body_same near far c d (pattern sound u id is first e) (by_text input1 a1 says1 e1) =
-      absurd (not_made sound u id is first input1.served.table)
+      absurd (not_there l none served1.table.there)
+  body_same near far c d (no_shape l none e) (by_text input1 a1 says1 e1) = absurd (not_there l none input1.served.table.there)
+  body_same near far c d (pattern there u id is first e) (not_loaded a1 h1 e1) = absurd (whole.apart (name ∷ []) a1 h1 there.loaded)
+  body_same near far c d (pattern there u id is first e) (no_shape l1 none1 e1) = absurd (not_there l1 none1 there)
+  body_same near far c d (pattern there u id is first e) (pattern there1 u1 id1 is1 first1 e1) =
+      e ∙ ap (λ x. came untouched (pattern_refused (pattern_line x))) (id_same there there1 u u1 id id1 is is1 first first1) ∙ sym e1
+  body_same near far c d (pattern there u id is first e) (unserved table1 path1 is1 e1) = absurd (not_made there u id is first table1)
+  body_same near far c d (pattern there u id is first e) (long_input served1 input1 is1 long1 e1) =
+      absurd (not_made there u id is first served1.table)
+  body_same near far c d (pattern there u id is first e) (by_text input1 a1 says1 e1) =
+      absurd (not_made there u id is first input1.served.table)
   body_same near far c d (unserved table path is e) (not_loaded a1 h1 e1) =
-      absurd (whole.apart (name ∷ []) a1 h1 table.sound.there.loaded)
-  body_same near far c d (unserved table path is e) (no_shape l1 none1 e1) = absurd (not_there l1 none1 table.sound.there)
-  body_same near far c d (unserved table path is e) (unbuilt there1 none1 e1) = absurd (not_sound there1 none1 table.sound)
-  body_same near far c d (unserved table path is e) (pattern sound1 u1 id1 is1 first1 e1) =
-      absurd (not_made sound1 u1 id1 is1 first1 table)
+      absurd (whole.apart (name ∷ []) a1 h1 table.there.loaded)
+  body_same near far c d (unserved table path is e) (no_shape l1 none1 e1) = absurd (not_there l1 none1 table.there)
+  body_same near far c d (unserved table path is e) (pattern there1 u1 id1 is1 first1 e1) =
+      absurd (not_made there1 u1 id1 is1 first1 table)
   body_same near far c d (unserved table path is e) (unserved table1 path1 is1 e1) =
       e ∙ ap (λ x. came untouched (refused (unserved_line x))) (path_same table table1 path path1 is is1) ∙ sym e1
   body_same near far c d (unserved table path is e) (long_input served1 input1 is1 long1 e1) = absurd (not_served table path is served1)
   body_same near far c d (unserved table path is e) (by_text input1 a1 says1 e1) = absurd (not_served table path is input1.served)
   body_same near far c d (long_input served input is long e) (not_loaded a1 h1 e1) =
-      absurd (whole.apart (name ∷ []) a1 h1 served.table.sound.there.loaded)
-  body_same near far c d (long_input served input is long e) (no_shape l1 none1 e1) = absurd (not_there l1 none1 served.table.sound.there)
-  body_same near far c d (long_input served input is long e) (unbuilt there1 none1 e1) =
-      absurd (not_sound there1 none1 served.table.sound)
-  body_same near far c d (long_input served input is long e) (pattern sound1 u1 id1 is1 first1 e1) =
-      absurd (not_made sound1 u1 id1 is1 first1 served.table)
+      absurd (whole.apart (name ∷ []) a1 h1 served.table.there.loaded)
+  body_same near far c d (long_input served input is long e) (no_shape l1 none1 e1) = absurd (not_there l1 none1 served.table.there)
+  body_same near far c d (long_input served input is long e) (pattern there1 u1 id1 is1 first1 e1) =
+      absurd (not_made there1 u1 id1 is1 first1 served.table)
   body_same near far c d (long_input served input is long e) (unserved table1 path1 is1 e1) = absurd (not_served table1 path1 is1 served)
   body_same near far c d (long_input served input is long e) (long_input served1 input1 is1 long1 e1) = e ∙ sym e1
   body_same near far c d (long_input served input is long e) (by_text input1 a1 says1 e1) = absurd (not_beyond input1 input is long)
   body_same near far c d (by_text input a says e) (not_loaded a1 h1 e1) =
-      absurd (whole.apart (name ∷ []) a1 h1 input.served.table.sound.there.loaded)
-  body_same near far c d (by_text input a says e) (no_shape l1 none1 e1) = absurd (not_there l1 none1 input.served.table.sound.there)
-  body_same near far c d (by_text input a says e) (unbuilt there1 none1 e1) = absurd (not_sound there1 none1 input.served.table.sound)
-  body_same near far c d (by_text input a says e) (pattern sound1 u1 id1 is1 first1 e1) =
-      absurd (not_made sound1 u1 id1 is1 first1 input.served.table)
+      absurd (whole.apart (name ∷ []) a1 h1 input.served.table.there.loaded)
+  body_same near far c d (by_text input a says e) (no_shape l1 none1 e1) = absurd (not_there l1 none1 input.served.table.there)
+  body_same near far c d (by_text input a says e) (pattern there1 u1 id1 is1 first1 e1) =
+      absurd (not_made there1 u1 id1 is1 first1 input.served.table)
   body_same near far c d (by_text input a says e) (unserved table1 path1 is1 e1) = absurd (not_served table1 path1 is1 input.served)
   body_same near far c d (by_text input a says e) (long_input served1 input1 is1 long1 e1) = absurd (not_beyond input input1 is1 long1)
   body_same near far c d (by_text input a says e) (by_text input1 a1 says1 e1) =

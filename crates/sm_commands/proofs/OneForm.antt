@@ -1,11 +1,14 @@
 -- Words have the form of one command at most.
-use Rattle.std.proofs.Common.{◌≡◌, ◌<◌, ℕ, Bool, false, cond, List, [], ◌∷◌, ◌++◌, length, sym, ap, subst, ◌∙◌, refl}
-use Rattle.std.proofs.Common.{codes, bytes_eq, arith}
+use Rattle.std.proofs.Common.{◌≡◌, ◌<◌, ◌⊎◌, inl, inr, ℕ, Bool, false, cond, List, [], ◌∷◌, ◌++◌, length, sym, ap, subst, ◌∙◌, refl}
+use Rattle.std.proofs.Common.{codes, bytes_eq, arith, Option, Some, None, MatchOption}
 use Rattle.std.proofs.lemmas.List.{append_cancel_left}
+use Rattle.std.proofs.lemmas.Slice.Eq.{bytes_eq-Decides}
 use Rattle.sm_bodies.specs.declared.form.BodyForm.{BodyForm}
 use Rattle.sm_bodies.specs.declared.form.BodyForm.TheVariants.{Json, Cbor}
-use Rattle.sm_commands.specs.Commands.{body_command, convert_command, select_command, GraphForm, as_ast, as_idl}
+use Rattle.sm_commands.specs.Commands.{body_command, check_command, convert_command, select_command, GraphForm, as_ast, as_idl}
 use Rattle.sm_commands.specs.Commands.{AreOverModels, form_word, graph_word, IsCommandForm, IsNoForm, OneCommandForm}
+use Rattle.sm_commands.specs.steps.Asked.{command_of}
+use Rattle.sm_commands.specs.declared.words.Form.{Form}
 
 -- whether the first word is that of `body`
 abbrev pub says_body : List (List ℕ) → Bool
@@ -32,6 +35,11 @@ says_convert (w ∷ ws) = bytes_eq w (codes "convert")
 
 no_convert : (ws vs : List (List ℕ)) → codes "convert" ∷ ws ≡ codes "select" ∷ vs → ⊥
 no_convert ws vs e = subst (λ b. cond b (Unit {0}) ⊥) (ap says_convert e) tt
+
+-- and that of `check` is none of these
+first_other : (a b : List ℕ) (ws vs : List (List ℕ)) → bytes_eq a b ≡ false → a ∷ ws ≡ b ∷ vs → ⊥
+first_other a b ws vs other e =
+    let same : a ≡ b = cc in subst (λ x. cond x (Unit {0}) ⊥) (sym ((bytes_eq-Decides a b).1 same) ∙ other) tt
 
 -- the words for two forms of a graph differ
 abbrev says_ast : List ℕ → Bool
@@ -90,14 +98,32 @@ one_form words (select_command models s) (select_command models1 s1) h i =
     let both = over_same words (codes "select") models models1 s s1 h i in
     ap (λ ms. select_command ms s) both.0 ∙ ap (λ x. select_command models1 x) both.1
 
+one_form words (check_command models) (check_command models1) h i =
+    let e = sym h.are ∙ i.are in
+    let same : models ≡ models1 = cc in ap check_command same
+one_form words (check_command models) (body_command model shape near far) h i =
+    absurd (no_body _ _ (codes "check") refl (sym i ∙ h.are))
+one_form words (check_command models) (convert_command models1 form) h i =
+    absurd (first_other (codes "check") (codes "convert") _ _ refl (sym h.are ∙ i.are))
+one_form words (check_command models) (select_command models1 s) h i =
+    absurd (first_other (codes "check") (codes "select") _ _ refl (sym h.are ∙ i.are))
+one_form words (body_command model shape near far) (check_command models) h i =
+    absurd (no_body _ _ (codes "check") refl (sym h ∙ i.are))
+one_form words (convert_command models form) (check_command models1) h i =
+    absurd (first_other (codes "check") (codes "convert") _ _ refl (sym i.are ∙ h.are))
+one_form words (select_command models s) (check_command models1) h i =
+    absurd (first_other (codes "check") (codes "select") _ _ refl (sym i.are ∙ h.are))
+
 -- words of no command's form
 pub no_form : (words : List (List ℕ))
     → ((model shape : List ℕ) (near far : BodyForm) → IsCommandForm words (body_command model shape near far) → ⊥)
     → ((models : List (List ℕ)) (form : GraphForm) → IsCommandForm words (convert_command models form) → ⊥)
-    → ((models : List (List ℕ)) (selector : List ℕ) → IsCommandForm words (select_command models selector) → ⊥) → IsNoForm words
+    → ((models : List (List ℕ)) (selector : List ℕ)
+    → (IsCommandForm words (select_command models selector) ⊎ IsCommandForm words (check_command models)) → ⊥) → IsNoForm words
+no_form words no_body no_convert no_select (check_command models) h = no_select models [] (inr h)
 no_form words no_body no_convert no_select (body_command model shape near far) h = no_body model shape near far h
 no_form words no_body no_convert no_select (convert_command models form) h = no_convert models form h
-no_form words no_body no_convert no_select (select_command models selector) h = no_select models selector h
+no_form words no_body no_convert no_select (select_command models selector) h = no_select models selector (inl h)
 
 -- words that aren't over model files: no words, another name, no last word, no model
 pub no_words : (words : List (List ℕ)) (name : List ℕ) (models : List (List ℕ)) (last : List ℕ) → words ≡ []
@@ -144,3 +170,41 @@ pub no_graph_word : (word : List ℕ) → (word ≡ codes "ast" → ⊥) → ((r
     → (form : GraphForm) → word ≡ graph_word form → ⊥
 no_graph_word word no_ast no_idl as_ast e = no_ast e
 no_graph_word word no_ast no_idl (as_idl namespace) e = no_idl namespace e
+
+-- words that aren't those of `check`: no words, another name, no model file; and those that are
+pub no_words_alone : (words : List (List ℕ)) (models : List (List ℕ)) → words ≡ [] → IsCommandForm words (check_command models) → ⊥
+no_words_alone words models none h = let e = sym none ∙ h.are in cc
+
+pub other_name_alone : (words rest : List (List ℕ)) (command : List ℕ) (models : List (List ℕ)) → words ≡ command ∷ rest
+    → (command ≡ codes "check" → ⊥) → IsCommandForm words (check_command models) → ⊥
+other_name_alone words rest command models is other h = let e = sym is ∙ h.are in other (cc)
+
+pub no_model_alone : (words rest : List (List ℕ)) (command : List ℕ) (models : List (List ℕ)) → words ≡ command ∷ rest → rest ≡ []
+    → IsCommandForm words (check_command models) → ⊥
+no_model_alone words rest command models is none h =
+    let e = sym is ∙ h.are in
+    let same : rest ≡ models = cc in
+    let empty : length models ≡ 0 = ap length (sym same ∙ none) in omega (arith, empty, h.some)
+
+pub models_alone : (words rest : List (List ℕ)) (command : List ℕ) → words ≡ command ∷ rest → command ≡ codes "check" → 0 < length rest
+    → IsCommandForm words (check_command rest)
+models_alone words rest command is named some = record { some = some; are = is ∙ ap (λ c. c ∷ rest) named }
+
+-- words over models of neither form
+pub no_models : (words : List (List ℕ))
+    → ((models : List (List ℕ)) (selector : List ℕ) → IsCommandForm words (select_command models selector) → ⊥)
+    → ((models : List (List ℕ)) → IsCommandForm words (check_command models) → ⊥) → (models : List (List ℕ)) (selector : List ℕ)
+    → (IsCommandForm words (select_command models selector) ⊎ IsCommandForm words (check_command models)) → ⊥
+no_models words no_select no_check models selector (inl h) = no_select models selector h
+no_models words no_select no_check models selector (inr h) = no_check models h
+
+-- what the code finds behind `body` and `convert`
+pub form_or_none : (words : List (List ℕ)) (found : Option Form)
+    → ((model shape : List ℕ) (near far : BodyForm) → IsCommandForm words (body_command model shape near far) → ⊥)
+    → ((models : List (List ℕ)) (form : GraphForm) → IsCommandForm words (convert_command models form) → ⊥)
+    → MatchOption found ((models : List (List ℕ)) (selector : List ℕ)
+    → (IsCommandForm words (select_command models selector) ⊎ IsCommandForm words (check_command models)) → ⊥)
+    (λ form. IsCommandForm words (command_of form))
+    → MatchOption found (IsNoForm words) (λ form. IsCommandForm words (command_of form))
+form_or_none words None no_body no_convert h = no_form words no_body no_convert h
+form_or_none words (Some form) no_body no_convert h = h

@@ -6,6 +6,7 @@ use Rattle.sm_select.specs.Answers.{ArePicked}
 use Rattle.sm_select.proofs.OneAnswer.{one_answer, one_selector}
 use Rattle.sm_select.proofs.SomeAnswer.{some_answer}
 use Rattle.sm_select.proofs.SomePicked.{one_picked, some_picked}
+use Rattle.sm_load.specs.Laws.{SomeLoad}
 use Rattle.sm_commands.specs.Answer.{Answer, Came, came, done, refused}
 use Rattle.sm_commands.specs.Answer.InputUse.{untouched}
 use Rattle.sm_commands.specs.Lines.{broken_selector_line, id_lines, other_selector_line}
@@ -13,6 +14,7 @@ use Rattle.sm_commands.specs.Says.{AreThere}
 use Rattle.sm_commands.specs.Select.{SelectorSays, SelectSays}
 use Rattle.sm_commands.specs.Select.SelectorSays.{breaks, leaves, picks}
 use Rattle.sm_commands.specs.Select.SelectSays.{not_loaded, selected}
+use Rattle.sm_commands.specs.declared.lines.Shown.TheVariants.{Errors}
 use Rattle.sm_commands.proofs.OneLoad.{load_same, load_apart, graph_same}
 use Rattle.sm_commands.proofs.SomeLoad.{load_answered}
 
@@ -33,9 +35,9 @@ selector_same g text a b (picks steps h ids are is) (picks steps1 h1 ids1 are1 i
 
 answer_same : (folder : Folder) (models : List (List ℕ)) (selector : List ℕ) (a b : Answer) → SelectSays (Some folder) models selector a
     → SelectSays (Some folder) models selector b → a ≡ b
-answer_same folder models selector a b (not_loaded h) (not_loaded i) = load_same folder models a b h i
-answer_same folder models selector a b (not_loaded h) (selected l says) = absurd (load_apart folder models a h l)
-answer_same folder models selector a b (selected l says) (not_loaded h) = absurd (load_apart folder models b h l)
+answer_same folder models selector a b (not_loaded h) (not_loaded i) = load_same Errors folder models a b h i
+answer_same folder models selector a b (not_loaded h) (selected l says) = absurd (load_apart Errors folder models a h l)
+answer_same folder models selector a b (selected l says) (not_loaded h) = absurd (load_apart Errors folder models b h l)
 answer_same folder models selector a b (selected k says) (selected l says1) =
     selector_same l.graph selector a b (subst (λ g. SelectorSays g selector a) (graph_same folder models k l) says) says1
 
@@ -51,8 +53,8 @@ selector_answered g text none =
     (λ at h. none (refused (broken_selector_line at)) (breaks at h refl))
     (λ at h. none (refused (other_selector_line at)) (leaves at h refl))
 
-pub select_answered : (folder : Folder) (models : List (List ℕ)) (selector : List ℕ) → AreThere folder models
+pub select_answered : SomeLoad → (folder : Folder) (models : List (List ℕ)) (selector : List ℕ) → AreThere folder models
     → ((c : Came) → ((a : Answer) × SelectSays (Some folder) models selector a × (c ≡ came untouched a)) → ⊥) → ⊥
-select_answered folder models selector there none =
-    load_answered folder models there (λ a says. none (came untouched a) (a, not_loaded says, refl))
+select_answered loads folder models selector there none =
+    load_answered loads Errors folder models there (λ a says. none (came untouched a) (a, not_loaded says, refl))
     (λ l. selector_answered l.graph selector (λ a says. none (came untouched a) (a, selected l says, refl)))

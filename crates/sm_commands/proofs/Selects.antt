@@ -7,7 +7,7 @@ use Rattle.sm_io.specs.Causes.{Rose}
 use Rattle.sm_io.specs.Seen.{FilesSeen, Stream}
 use Rattle.sm_model.specs.Graphs.{GraphMaps}
 use Rattle.sm_model.specs.GraphView.{maps_of}
-use Rattle.sm_model.specs.declared.graph.Graph.{Graph}
+use Rattle.sm_load.specs.declared.model.Model.{Model}
 use Rattle.sm_select.specs.Answers.{ArePicked, ParsesSelector}
 use Rattle.sm_select.specs.SelectorText.{SelectorText}
 use Rattle.sm_select.specs.Selectors.{Steps, steps_of}
@@ -31,6 +31,7 @@ use Rattle.sm_commands.specs.steps.CommandSteps.{CommandComesTo, EndsWithLine, S
 use Rattle.sm_commands.specs.steps.LoadSteps.{Loads}
 use Rattle.sm_commands.specs.steps.SelectSteps.{Selects}
 use Rattle.sm_commands.specs.declared.stop.Stop.{Stop}
+use Rattle.sm_commands.specs.declared.lines.Shown.TheVariants.{Errors}
 use Rattle.sm_commands.proofs.Stops.{line_stops, stops_map, comes_map}
 
 -- a text that is no selector
@@ -51,18 +52,18 @@ pub picked_told : (g : GraphMaps) (text : List ℕ) (selector : Selector) (lines
 picked_told g text selector lines is (ids, are, same) = picks (steps_of (selector_view selector)) is ids are (ap done same)
 
 -- the command
-pub graph_selects : (files files1 : FilesSeen) (models : List (List ℕ)) (selector : List ℕ) (graph : Graph) (result : Result (Vec ℕ) Stop)
-    → Loads files files1 models (Ok graph) → StepComesTo (SelectorSays (maps_of graph) selector) ⊥ (Unit {0}) result
+pub graph_selects : (files files1 : FilesSeen) (models : List (List ℕ)) (selector : List ℕ) (m : Model) (result : Result (Vec ℕ) Stop)
+    → Loads Errors files files1 models (Ok m) → StepComesTo (SelectorSays (maps_of m.graph) selector) ⊥ (Unit {0}) result
     → Selects files files1 models selector result
-graph_selects files files1 models selector graph result h is =
-    comes_map (SelectorSays (maps_of graph) selector) (SelectSays files.held models selector) ⊥ (Rose files.faults files1.faults) (Unit {0})
+graph_selects files files1 models selector m result h is =
+    comes_map (SelectorSays (maps_of m.graph) selector) (SelectSays files.held models selector) ⊥ (Rose files.faults files1.faults) (Unit {0})
     (Unit {0}) result (λ a says. selected h.0 (subst (λ g. SelectorSays g selector a) h.1 says)) (λ never. absurd never) (λ short. short) is
 
 pub select_stops : (files files1 : FilesSeen) (models : List (List ℕ)) (selector : List ℕ) (stop : Stop)
-    → Loads files files1 models (Err stop)
+    → Loads Errors files files1 models (Err stop)
     → Selects files files1 models selector (Err stop)
 select_stops files files1 models selector stop h =
-    stops_map (LoadAnswers files.held models) (SelectSays files.held models selector) (Rose files.faults files1.faults)
+    stops_map (LoadAnswers Errors files.held models) (SelectSays files.held models selector) (Rose files.faults files1.faults)
     (Rose files.faults files1.faults) (Unit {0}) (Unit {0}) stop (λ a says. not_loaded says) (λ rose. rose) (λ short. short) h
 
 -- it leaves the input as it is

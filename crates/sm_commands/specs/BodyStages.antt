@@ -1,11 +1,11 @@
--- How far the command `body` has come, over bytes alone: behind the graph of its model file a shape that has values, of which a table
--- can be made; the table, with what a store of patterns did for it; that values of the shape are served; and the input.
+-- How far the command `body` has come, over bytes alone: behind the graph of its model file a shape that has values; its table, with what
+-- a store of patterns did for it; that values of the shape are served; and the input.
 use Rattle.std.specs.Prelude.{◌≡◌, ℕ, ◌≤◌, List, [], ◌∷◌, Contains, Some, length}
 use Rattle.sm_shapes.specs.TableData.{TableData}
 use Rattle.sm_codec.specs.Defaults.{filled}
 use Rattle.sm_compile.specs.Answers.{StoreSeen, TableSeen, IsTableSeen}
 use Rattle.sm_compile.specs.Compiled.{texts_of}
-use Rattle.sm_compile.specs.Sound.{IsValueShape, Sound}
+use Rattle.sm_compile.specs.Sound.{IsValueShape}
 use Rattle.sm_compile.specs.declared.compiled.Served.{Served}
 use Rattle.sm_compile.specs.declared.compiled.Served.TheVariants.{Yes}
 use Rattle.sm_commands.specs.Limits.{body_limit}
@@ -17,17 +17,12 @@ pub record ShapeThere (t : Told) (name shape : List ℕ) : Type 0 where
   pub loaded : Loaded t.files (name ∷ [])
   pub is : IsValueShape loaded.graph shape
 
--- of which a table can be made
-pub record ShapeSound (t : Told) (name shape : List ℕ) : Type 0 where
-  pub there : ShapeThere t name shape
-  pub sound : Sound there.loaded.graph shape
-
 -- its table over the store as it was, of whose patterns the store refuses none
 pub record TableMade (t : Told) (name shape : List ℕ) : Type 0 where
-  pub sound : ShapeSound t name shape
+  pub there : ShapeThere t name shape
   pub now : StoreSeen
   pub one : TableSeen
-  pub compiled : IsTableSeen sound.there.loaded.graph shape t.test t.store now one
+  pub compiled : IsTableSeen there.loaded.graph shape t.test t.store now one
   pub free : (u : List ℕ) → t.refused ≡ Some u → Contains (texts_of one.table.patterns) u → ⊥
 
 -- its values can be carried

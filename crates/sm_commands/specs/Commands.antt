@@ -11,6 +11,8 @@ pub data GraphForm : Type 0 where
   as_idl : (namespace : List ℕ) → GraphForm
 
 pub data Command : Type 0 where
+  -- check MODEL+
+  check_command : (models : List (List ℕ)) → Command
   -- body MODELFILE SHAPE NEAR FAR
   body_command : (model shape : List ℕ) → (near far : BodyForm) → Command
   -- convert MODEL+ FORM
@@ -33,8 +35,14 @@ pub record AreOverModels (words : List (List ℕ)) (name : List ℕ) (models : L
   pub some : 0 < length models
   pub are : words ≡ name ∷ (models ++ last ∷ [])
 
+-- or they are a command's name, and one model file or more
+pub record AreModelsAlone (words : List (List ℕ)) (name : List ℕ) (models : List (List ℕ)) : Type 0 where
+  pub some : 0 < length models
+  pub are : words ≡ name ∷ models
+
 -- the words have the form of the command
 abbrev pub IsCommandForm : List (List ℕ) → Command → Type 0
+IsCommandForm words (check_command models) = AreModelsAlone words (codes "check") models
 IsCommandForm words (body_command model shape near far) = words ≡ codes "body" ∷ model ∷ shape ∷ form_word near ∷ form_word far ∷ []
 IsCommandForm words (convert_command models form) = AreOverModels words (codes "convert") models (graph_word form)
 IsCommandForm words (select_command models selector) = AreOverModels words (codes "select") models selector
@@ -50,18 +58,21 @@ OneCommandForm = (words : List (List ℕ)) (command command1 : Command) → IsCo
 
 -- the names of the files that a command may read
 abbrev pub reads : Command → List (List ℕ)
+reads (check_command models) = models
 reads (body_command model shape near far) = model ∷ []
 reads (convert_command models form) = models
 reads (select_command models selector) = models
 
 -- the names of the files that it may write
 abbrev pub writes : Command → List (List ℕ)
+writes (check_command models) = []
 writes (body_command model shape near far) = []
 writes (convert_command models form) = []
 writes (select_command models selector) = []
 
 -- whether it may read the input
 abbrev pub touches_input : Command → Bool
+touches_input (check_command models) = false
 touches_input (body_command model shape near far) = true
 touches_input (convert_command models form) = false
 touches_input (select_command models selector) = false

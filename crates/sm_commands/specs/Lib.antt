@@ -5,13 +5,11 @@ pub mod IdlLines
 pub mod Outside
 pub mod Answer
 pub mod Stages
-pub mod NoTree
-pub mod NoText
 pub mod ModelFiles
-pub mod FileStatements
 pub mod Loading
 pub mod BodyStages
 pub mod Body
+pub mod Check
 pub mod Convert
 pub mod Select
 pub mod Says

@@ -1,5 +1,5 @@
 -- The lines that are printed for what is refused, and for what is told. Each ends with a line feed.
-use Rattle.std.specs.Prelude.{ℕ, List, [], ◌∷◌, ◌++◌, codes}
+use Rattle.std.specs.Prelude.{ℕ, Bool, true, false, if◌then◌else◌, List, [], ◌∷◌, ◌++◌, codes}
 use Rattle.std.specs.Fmt.{decimal}
 use Rattle.std.specs.List.{flat_map}
 use Rattle.sm_bytes.specs.Ascii.{space, line_feed}
@@ -9,22 +9,21 @@ use Rattle.sm_tree.specs.declared.refusal.SyntaxRefusal.{SyntaxRefusal}
 use Rattle.sm_tree.specs.declared.refusal.SyntaxRefusal.TheVariants.{Bad, Ended, TooDeep, KeyKind, NoMemory}
 use Rattle.sm_shapes.specs.FaultWords.{fault_word}
 use Rattle.sm_shapes.specs.declared.fault.FaultKind.{FaultKind}
-use Rattle.sm_ast.specs.Faults.{AstFault, version, field, wrong_type, bad_id}
-use Rattle.sm_model.specs.EventView.{EventTold}
+use Rattle.sm_ast.specs.declared.refusal.AstRefusal.{AstRefusal}
+use Rattle.sm_ast.specs.declared.refusal.AstRefusal.TheVariants.{Version, Field, WrongType, BadId, NoMemory as ast_short}
+use Rattle.sm_model.specs.declared.event.ModelEvent.{ModelEvent}
 use Rattle.sm_model.specs.declared.event.Severity.{Severity}
 use Rattle.sm_model.specs.declared.event.Severity.TheVariants.{Note, Warning, Danger, Error}
 use Rattle.sm_merge.specs.declared.limit.LimitKind.{LimitKind}
 use Rattle.sm_merge.specs.declared.limit.LimitKind.TheVariants.{Shapes, Members, AllMembers, Traits}
 use Rattle.sm_merge.specs.declared.limit.TheConstants.{SHAPE_LIMIT, MEMBER_LIMIT, ALL_MEMBER_LIMIT, TRAIT_LIMIT}
+use Rattle.sm_commands.specs.declared.lines.Shown.{Shown}
+use Rattle.sm_commands.specs.declared.lines.Shown.TheVariants.{All, Errors}
 use Rattle.sm_commands.specs.Limits.{files_limit, file_limit, bytes_limit, body_limit}
 
 -- a word, a blank and a text
 abbrev pub line : List ℕ → List ℕ → List ℕ
 line word text = word ++ (space ∷ (text ++ line_feed ∷ []))
-
--- the model file isn't of the form that is read, or no table can be made of its shape
-abbrev pub unbuilt_line : List ℕ → List ℕ
-unbuilt_line model = line (codes "Unbuilt") model
 
 -- the model has no shape of this name
 abbrev pub no_shape_line : List ℕ → List ℕ
@@ -54,15 +53,16 @@ syntax_text NoMemory = codes "NoMemory"
 abbrev pub json_line : List ℕ → SyntaxRefusal → List ℕ
 json_line file refusal = line file (codes "Json " ++ syntax_text refusal)
 
--- a model file that is no model: the file's name, the word, and the path as a JSON Pointer
-abbrev pub ast_text : AstFault → List ℕ
-ast_text version = codes "Version"
-ast_text (field path) = codes "Field " ++ pointer path
-ast_text (wrong_type path) = codes "Type " ++ pointer path
-ast_text (bad_id path) = codes "BadId " ++ pointer path
+-- a model file that is no model: the file's name, the word, and the path as a JSON Pointer. `NoMemory` is no refusal of a tree
+abbrev pub ast_text : AstRefusal → List ℕ
+ast_text Version = codes "Version"
+ast_text (Field path) = codes "Field " ++ pointer path
+ast_text (WrongType path) = codes "Type " ++ pointer path
+ast_text (BadId path) = codes "BadId " ++ pointer path
+ast_text ast_short = codes "NoMemory"
 
-abbrev pub ast_line : List ℕ → AstFault → List ℕ
-ast_line file fault = line file (codes "Ast " ++ ast_text fault)
+abbrev pub ast_line : List ℕ → AstRefusal → List ℕ
+ast_line file refusal = line file (codes "Ast " ++ ast_text refusal)
 
 abbrev pub syntax_line : SyntaxRefusal → List ℕ
 syntax_line refusal = line (codes "Syntax") (syntax_text refusal)
@@ -110,12 +110,22 @@ abbrev pub detail_part : List ℕ → List ℕ
 detail_part [] = []
 detail_part (c ∷ cs) = space ∷ c ∷ cs
 
-abbrev pub event_line : Severity → EventTold → List ℕ
-event_line severity e = line (severity_word severity) (e.event ++ (space ∷ (e.shape ++ detail_part e.detail)))
+abbrev pub event_line : ModelEvent → List ℕ
+event_line e = line (severity_word e.severity) (e.id ++ (space ∷ (e.shape ++ detail_part e.detail)))
 
--- events for which a model is rejected
-abbrev pub error_lines : List EventTold → List ℕ
-error_lines es = flat_map (event_line Error) es
+-- whether an event is shown: all are, or those alone for which a model is rejected
+abbrev pub is_shown : Shown → Severity → Bool
+is_shown All severity = true
+is_shown Errors Error = true
+is_shown Errors Danger = false
+is_shown Errors Warning = false
+is_shown Errors Note = false
+
+abbrev pub shown_line : Shown → ModelEvent → List ℕ
+shown_line shown e = if is_shown shown e.severity then event_line e else []
+
+abbrev pub event_lines : Shown → List ModelEvent → List ℕ
+event_lines shown es = flat_map (shown_line shown) es
 
 -- a text that is no selector: what stands at the place can't go on there, or is a form that isn't read
 abbrev pub broken_selector_line : ℕ → List ℕ

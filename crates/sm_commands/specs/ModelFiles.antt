@@ -1,21 +1,17 @@
 -- The model files of a command. They are read in turn, all of them before the first is looked at.
 use Rattle.std.specs.Prelude.{◌≡◌, ◌<◌, ◌≤◌, ◌+◌, ◌⊎◌, ℕ, List, [], ◌∷◌, Option, length}
 use Rattle.sm_io.specs.Files.{Folder}
+use Rattle.sm_load.specs.ModelFiles.{FileGiven, file_given}
 use Rattle.sm_commands.specs.Answer.{Answer, past}
 use Rattle.sm_commands.specs.Limits.{bytes_limit}
 use Rattle.sm_commands.specs.Lines.{file_limit_line, bytes_limit_line}
 use Rattle.sm_commands.specs.Stages.{FileRead, FileTooLong}
 
--- a model file that was read
-pub record ModelFile : Type 0 where
-  pub name : List ℕ
-  pub bytes : List ℕ
-
 -- each of these files is there within its limit, and with so many bytes before them they are within that of all; and these are they
-abbrev pub AreRead : Option Folder → ℕ → List (List ℕ) → List ModelFile → Type 0
+abbrev pub AreRead : Option Folder → ℕ → List (List ℕ) → List FileGiven → Type 0
 AreRead files before [] read = read ≡ []
 AreRead files before (name ∷ names) read =
-    (file : FileRead files name) × (more : List ModelFile) × (read ≡ record { name = name; bytes = file.bytes } ∷ more)
+    (file : FileRead files name) × (more : List FileGiven) × (read ≡ file_given name file.bytes ∷ more)
     × (before + length file.bytes ≤ bytes_limit) × AreRead files (before + length file.bytes) names more
 
 -- the answer to the first limit that is passed: a file is too long, or with it all are

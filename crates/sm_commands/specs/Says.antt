@@ -2,22 +2,25 @@
 -- reads the input for none but those behind its stage.
 use Rattle.std.specs.Prelude.{◌≡◌, ◌⊎◌, ℕ, true, List, Some, Contains}
 use Rattle.sm_io.specs.Files.{Folder, file_at}
-use Rattle.sm_commands.specs.Commands.{Command, body_command, convert_command, select_command, reads, touches_input}
+use Rattle.sm_commands.specs.Commands.{Command, check_command, body_command, convert_command, select_command, reads, touches_input}
 use Rattle.sm_commands.specs.Answer.{Answer, Came, came}
 use Rattle.sm_commands.specs.Answer.InputUse.{untouched}
 use Rattle.sm_commands.specs.Stages.{Told}
 use Rattle.sm_commands.specs.BodyStages.{ShapeServed}
 use Rattle.sm_commands.specs.Body.{BodySays}
+use Rattle.sm_commands.specs.Check.{CheckSays}
 use Rattle.sm_commands.specs.Convert.{ConvertSays}
 use Rattle.sm_commands.specs.Select.{SelectSays}
 
 abbrev pub Says : Told → Command → Came → Type 0
+Says t (check_command models) c = (a : Answer) × CheckSays t.files models a × (c ≡ came untouched a)
 Says t (body_command model shape near far) c = BodySays t model shape near far c
 Says t (convert_command models form) c = (a : Answer) × ConvertSays t.files models form a × (c ≡ came untouched a)
 Says t (select_command models selector) c = (a : Answer) × SelectSays t.files models selector a × (c ≡ came untouched a)
 
 -- the stage from which the command reads the input: nothing that stands before it is refused
 abbrev pub ReachesInput : Told → Command → Type 0
+ReachesInput t (check_command models) = ⊥
 ReachesInput t (body_command model shape near far) = ShapeServed t model shape
 ReachesInput t (convert_command models form) = ⊥
 ReachesInput t (select_command models selector) = ⊥

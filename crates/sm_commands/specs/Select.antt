@@ -8,6 +8,7 @@ use Rattle.sm_select.specs.Selectors.{Steps}
 use Rattle.sm_commands.specs.Answer.{Answer, done, refused}
 use Rattle.sm_commands.specs.Lines.{broken_selector_line, other_selector_line, id_lines}
 use Rattle.sm_commands.specs.Loading.{Loaded, LoadAnswers}
+use Rattle.sm_commands.specs.declared.lines.Shown.TheVariants.{Errors}
 
 -- what a text comes to for a graph: the place at which it is no selector, or the ids that it picks, in order, one a line
 pub data SelectorSays (g : GraphMaps) (text : List ℕ) (a : Answer) : Type 0 where
@@ -17,5 +18,5 @@ pub data SelectorSays (g : GraphMaps) (text : List ℕ) (a : Answer) : Type 0 wh
       → SelectorSays g text a
 
 pub data SelectSays (files : Option Folder) (models : List (List ℕ)) (selector : List ℕ) (a : Answer) : Type 0 where
-  not_loaded : LoadAnswers files models a → SelectSays files models selector a
+  not_loaded : LoadAnswers Errors files models a → SelectSays files models selector a
   selected : (loaded : Loaded files models) → SelectorSays loaded.graph selector a → SelectSays files models selector a

@@ -1,6 +1,6 @@
 -- How far a command has come, over bytes alone. Each stage holds the one before it, so no condition is said twice: a
 -- refusal takes the last stage that was reached, and its own cause.
-use Rattle.std.specs.Prelude.{◌≡◌, ℕ, ◌<◌, ◌≤◌, List, ◌++◌, codes, Option, Some, IfSome, length}
+use Rattle.std.specs.Prelude.{◌≡◌, ℕ, ◌<◌, ◌≤◌, List, Option, Some, IfSome, length}
 use Rattle.sm_io.specs.Files.{Folder, Holds}
 use Rattle.sm_shapes.specs.Fitting.{Test}
 use Rattle.sm_compile.specs.Answers.{StoreSeen}
@@ -33,7 +33,3 @@ pub record FileTooLong (files : Option Folder) (name : List ℕ) : Type 0 where
   pub bytes : List ℕ
   pub held : Holds files name (Some bytes)
   pub long : file_limit < length bytes
-
--- the name of a file in the JSON AST
-abbrev pub EndsInJson : List ℕ → Type 0
-EndsInJson name = (stem : List ℕ) × (name ≡ stem ++ codes ".json")

@@ -3,8 +3,7 @@ ghost use Rattle.std.specs.Prelude.{◌≡◌, ◌≤◌, ◌<◌, ℕ, List};
 ghost use Rattle.sm_io.specs.Files.{LetsSame};
 ghost use Rattle.sm_io.specs.Reading.{LosesPrefix};
 ghost use Rattle.sm_io.specs.Seen.{files_seen, stream};
-ghost use Rattle.sm_model.specs.GraphView.{IsShapeNumber, maps_of};
-ghost use Rattle.sm_model.specs.Reaching.{id_of_number};
+ghost use Rattle.sm_model.specs.GraphView.{maps_of};
 ghost use Rattle.sm_shapes.specs.InOrder.{Shaped, AreStored, DefaultsPass};
 ghost use Rattle.sm_shapes.specs.TableData.{shape_count};
 ghost use Rattle.sm_shapes.specs.TableView.{table_data};
@@ -25,9 +24,10 @@ use crate::stop::{Stop, past, refused, refused_pattern};
 use crate::words::BodyWords;
 use sm_bodies::{BodyAnswer, translated};
 use sm_codec::fill_defaults;
-use sm_compile::{CompileRefusal, OneShape, Served, compile_shape, sound};
+use sm_compile::{CompileRefusal, OneShape, Served, compile_shape};
 use sm_ids::ShapeId;
 use sm_io::{Files, ReadRefusal, Source, read_all};
+use sm_load::Model;
 use sm_model::Graph;
 use sm_shapes::Patterns;
 use sm_shapes::tables::Table;
@@ -47,7 +47,7 @@ fn compiled<P: Patterns>(
     requires { Sound (maps_of graph.now) id.now }
     ensures makes { let before = seen_store (P.added patterns.old) (P.refused patterns.old) (P.refusals patterns.old) in
         let after = seen_store (P.added patterns.new) (P.refused patterns.new) (P.refusals patterns.new) in
-        (name : List ℕ) → MakesTable (maps_of graph.now) name id.now P.test before after result }
+        MakesTable (maps_of graph.now) id.now P.test before after result }
     ensures added { OnlyAdds (P.added patterns.old) (P.added patterns.new) }
 {
     let shape = id.as_ref();
@@ -61,42 +61,22 @@ fn compiled<P: Patterns>(
     }
 }
 
-// The table of the shape at a number of the graph, or why there is none. `name` is the name of the model file.
-fn table_at<P: Patterns>(
-    alloc: Global,
-    graph: &Graph,
-    number: u32,
-    name: &str,
-    patterns: &mut P,
-) -> Result<OneShape, Stop>
-    requires { IsShapeNumber graph.now number }
-    ensures makes { let before = seen_store (P.added patterns.old) (P.refused patterns.old) (P.refusals patterns.old) in
-        let after = seen_store (P.added patterns.new) (P.refused patterns.new) (P.refusals patterns.new) in
-        MakesTable (maps_of graph.now) name.now (id_of_number graph.now number) P.test before after result }
-    ensures added { OnlyAdds (P.added patterns.old) (P.added patterns.new) }
-{
-    match sound(alloc, graph, number) {
-        Ok(true) => compiled(alloc, graph, graph.id(number), patterns),
-        Ok(false) => Err(refused(line(alloc, "Unbuilt", name))),
-        Err(NoMemory) => Err(Stop::NoMemory),
-    }
-}
-
-// The table of the shape with this id in the graph, or why there is none.
+// The table of the shape with this id in the graph, or why there is none. Each shape of a model that is loaded is sound.
 fn table_named<P: Patterns>(
     alloc: Global,
     graph: &Graph,
-    words: BodyWords<'_>,
+    shape: &str,
     patterns: &mut P,
 ) -> Result<OneShape, Stop>
+    requires { Sound (maps_of graph.now) shape.now }
     ensures makes { let before = seen_store (P.added patterns.old) (P.refused patterns.old) (P.refusals patterns.old) in
         let after = seen_store (P.added patterns.new) (P.refused patterns.new) (P.refusals patterns.new) in
-        MakesTable (maps_of graph.now) words.entry.model.now words.entry.shape.now P.test before after result }
+        MakesTable (maps_of graph.now) shape.now P.test before after result }
     ensures added { OnlyAdds (P.added patterns.old) (P.added patterns.new) }
 {
-    match graph.number(words.shape) {
-        Some(number) => table_at(alloc, graph, number, words.model, patterns),
-        None => Err(refused(line(alloc, "NoShape", words.shape))),
+    match graph.number(shape) {
+        Some(number) => compiled(alloc, graph, graph.id(number), patterns),
+        None => Err(refused(line(alloc, "NoShape", shape))),
     }
 }
 
@@ -225,7 +205,7 @@ fn far_of_shape<S: Source, P: Patterns>(
 ///
 /// # Errors
 ///
-/// In this order: those of `load_file`; an id of no shape that has values; a shape of which no table can be made; a pattern that the store
+/// In this order: those of `load_file`; an id of no shape that has values; a pattern that the store
 /// refuses; a shape whose values can't be carried; an input that can't be read or is too long; a body that is no text or has a fault, or
 /// whose value the far side doesn't carry. At any step memory may run out.
 pub(crate) fn body<F: Files, S: Source, P: Patterns>(
@@ -252,11 +232,13 @@ pub(crate) fn body<F: Files, S: Source, P: Patterns>(
     ensures input_faults { S.faults input.old ≤ S.faults input.new }
     ensures added { OnlyAdds (P.added patterns.old) (P.added patterns.new) }
 {
-    let graph = match load_file(alloc, files, words.model) {
-        Ok(graph) => graph,
+    let Model { graph, events } = match load_file(alloc, files, words.model) {
+        Ok(model) => model,
         Err(stop) => return Err(stop),
     };
-    let made = table_named(alloc, &graph, words, patterns);
+    drop(events);
+    sm_load::laws::sound_models();
+    let made = table_named(alloc, &graph, words.shape, patterns);
     drop(graph);
     match made {
         Ok(one) => far_of_shape(alloc, words, one, patterns, input),

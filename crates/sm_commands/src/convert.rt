@@ -10,7 +10,8 @@ ghost use Rattle.sm_commands.specs.Convert.{converted};
 ghost use Rattle.sm_commands.specs.steps.Asked.{graph_form};
 ghost use Rattle.sm_commands.specs.steps.ConvertSteps.{Converts};
 
-use crate::loading::load;
+use crate::lines::Shown;
+use crate::loading::load_models;
 use crate::stop::Stop;
 use crate::words::{ConvertForm, ConvertWords};
 use sm_ast::write_ast;
@@ -53,7 +54,7 @@ fn ast_text(alloc: Global, graph: Graph) -> Result<Vec<u8>, NoMemory>
 ///
 /// # Errors
 ///
-/// Those of `load`, and memory may run out.
+/// Those of `load_models`, and memory may run out.
 pub(crate) fn convert<F: Files>(
     alloc: Global,
     words: ConvertWords<'_>,
@@ -70,8 +71,8 @@ pub(crate) fn convert<F: Files>(
     ensures same_reads { LetsSame (F.lets_read files.old) (F.lets_read files.new) }
     ensures same_writes { LetsSame (F.lets_write files.old) (F.lets_write files.new) }
 {
-    match load(alloc, files, words.models) {
-        Ok(graph) => match graph_text(alloc, graph, words.form) {
+    match load_models(alloc, Shown::Errors, files, words.models) {
+        Ok(model) => match graph_text(alloc, model.graph, words.form) {
             Ok(text) => Ok(text),
             Err(NoMemory) => Err(Stop::NoMemory),
         },

@@ -1,34 +1,27 @@
 // The model files of a command, which are all read before the first is looked at.
-ghost use Rattle.std.specs.Prelude.{◌≡◌, ◌≤◌, List, ℕ, Contains};
+ghost use Rattle.std.specs.Prelude.{◌≡◌, ◌≤◌, ◌++◌, ◌∷◌, [], List, ℕ, Contains, OnOk};
 ghost use Rattle.sm_io.specs.Files.{LetsSame};
 ghost use Rattle.sm_io.specs.Seen.{files_seen};
+ghost use Rattle.sm_load.specs.ModelFiles.{file_given, given_files};
 ghost use Rattle.sm_commands.specs.steps.LoadSteps.{ReadsModels};
 
 use crate::file::open_file;
 use crate::lines::limit_line;
 use crate::stop::{Stop, past};
 use sm_io::Files;
-use sm_tree::Text;
+use sm_load::ModelFile;
+use sm_tree::{NoMemory, Text};
 use std::alloc::Global;
 
 /// The greatest length of all model files of a command together, in bytes.
 const BYTES_LIMIT: usize = 33_554_432;
 
-/// A model file that was read.
-#[derive(Drop)]
-pub struct ModelText<'a> {
-    /// Its name.
-    pub name: &'a str,
-    /// Its bytes.
-    pub bytes: Vec<u8>,
-}
-
 /// The files of these names, in their order, each read once; or the line of the first that is too long, or with which all are.
-pub(crate) fn read_models<'a, F: Files>(
+pub(crate) fn read_models<F: Files>(
     alloc: Global,
     files: &mut F,
-    names: &'a [Text],
-) -> Result<Vec<ModelText<'a>>, Stop>
+    names: &[Text],
+) -> Result<Vec<ModelFile>, Stop>
     requires { (name : List ℕ) → Contains names.now name → F.lets_read files.old name }
     ensures reads { ReadsModels
         (files_seen (F.held files.old) (F.read_faults files.old))
@@ -50,13 +43,24 @@ pub(crate) fn read_models<'a, F: Files>(
                     return Err(past(limit_line(alloc, "bytes", BYTES_LIMIT as u64)));
                 }
                 total += bytes.len();
-                match read.push(ModelText { name, bytes }) {
-                    Ok(()) => {}
-                    Err(_) => return Err(Stop::NoMemory),
-                }
+                put_file(alloc, &mut read, name, bytes)?;
             }
             Err(stop) => return Err(stop),
         }
     }
     Ok(read)
+}
+
+/// Puts a file behind others.
+pub(crate) fn put_file(
+    alloc: Global,
+    files: &mut Vec<ModelFile>,
+    name: &str,
+    bytes: Vec<u8>,
+) -> Result<(), NoMemory>
+    ensures { OnOk result (given_files files.new.items ≡ given_files files.old.items ++ file_given name.now bytes.items ∷ []) }
+{
+    let name = Text::copy(alloc, name)?;
+    files.push(ModelFile { name, bytes })?;
+    Ok(())
 }

@@ -1,15 +1,12 @@
-// A model file that is an IDL text: its statements, or the line of one that says none.
+// The line of a model file that says no statements.
 ghost use Rattle.std.specs.Prelude.{◌≡◌, IfOk, string_bytes};
 ghost use Rattle.sm_commands.specs.IdlLines.{idl_line as the_idl_line, idl_text as the_idl_text, lex_text as the_lex_text};
-ghost use Rattle.sm_commands.specs.IdlLines.{utf8_line as the_utf8_line};
-ghost use Rattle.sm_commands.specs.steps.CommandSteps.{EndsWithLine};
-ghost use Rattle.sm_commands.specs.steps.LoadSteps.{ReadsText};
+ghost use Rattle.sm_commands.specs.IdlLines.{text_line as the_text_line, utf8_line as the_utf8_line};
 
-use crate::lines::line;
-use crate::stop::{Stop, refused};
-use sm_idl::{IdlRefusal, read_idl};
+use crate::lines::{ast_line, json_line, line};
+use sm_idl::IdlRefusal;
 use sm_lex::LexRefusal;
-use sm_model::Statement;
+use sm_load::TextPlace;
 use sm_tree::NoMemory;
 use std::alloc::Global;
 
@@ -52,47 +49,21 @@ fn idl_line(alloc: Global, file: &str, refusal: IdlRefusal) -> Result<Vec<u8>, N
 }
 
 // The line of a model file that isn't UTF-8.
-fn utf8_line(alloc: Global, file: &str, at: usize) -> Result<Vec<u8>, NoMemory>
+fn utf8_line(alloc: Global, file: &str, at: u64) -> Result<Vec<u8>, NoMemory>
     ensures { IfOk result (λ line. line.items ≡ the_utf8_line file.now at) }
 {
     let text = format!(in alloc; "Utf8 {at}")?;
     line(alloc, file, text.as_str())
 }
 
-// The command ends with one of these lines.
-fn not_said(alloc: Global, name: &str, refusal: IdlRefusal) -> Stop
-    ensures { EndsWithLine (the_idl_line name.now refusal) result }
+/// The line of a model file that says no statements, and why.
+pub(crate) fn text_line(alloc: Global, file: &str, place: &TextPlace) -> Result<Vec<u8>, NoMemory>
+    ensures { IfOk result (λ line. line.items ≡ the_text_line file.now place.now) }
 {
-    refused(idl_line(alloc, name, refusal))
-}
-
-fn not_utf8(alloc: Global, name: &str, at: usize) -> Stop
-    ensures { EndsWithLine (the_utf8_line name.now at) result }
-{
-    refused(utf8_line(alloc, name, at))
-}
-
-/// The statements of a file of this name that is an IDL text.
-///
-/// # Errors
-///
-/// A line with the length of its longest prefix that is UTF-8, where it isn't; with why the text is no model. Or memory runs out.
-pub(crate) fn text_statements(
-    alloc: Global,
-    name: &str,
-    file: &[u8],
-) -> Result<Vec<Statement>, Stop>
-    ensures { ReadsText name.now file.now result }
-{
-    let text = match str::from_utf8(file) {
-        Ok(text) => text,
-        Err(error) => return Err(not_utf8(alloc, name, error.valid_up_to())),
-    };
-    match read_idl(alloc, text) {
-        Ok(statements) => Ok(statements),
-        Err(refusal) => match refusal {
-            IdlRefusal::NoMemory => Err(Stop::NoMemory),
-            _ => Err(not_said(alloc, name, refusal)),
-        },
+    match place {
+        TextPlace::Utf8(at) => utf8_line(alloc, file, *at),
+        TextPlace::Json(refusal) => json_line(alloc, file, *refusal),
+        TextPlace::Ast(refusal) => ast_line(alloc, file, refusal),
+        TextPlace::Idl(refusal) => idl_line(alloc, file, *refusal),
     }
 }

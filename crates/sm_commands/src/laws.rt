@@ -23,6 +23,8 @@ pub fn some_answer()
 {
     sm_bodies::laws::some_text_answer();
     sm_compile::laws::some_table();
+    sm_load::laws::some_load();
+    sm_load::laws::sound_models();
 }
 
 /// Where the words have a form and no count of faults rose, the answer is put, or memory ran out.

@@ -2,6 +2,7 @@
 #![tactic(auto)]
 
 mod body;
+mod check;
 mod command;
 mod convert;
 mod file;

@@ -1,13 +1,11 @@
 // The lines that are printed for what is refused, and for what is told.
-ghost use Rattle.std.specs.Prelude.{◌≡◌, ◌++◌, Some, IfOk, OnOk, string_bytes};
+ghost use Rattle.std.specs.Prelude.{◌≡◌, ◌++◌, IfOk, OnOk, string_bytes};
 ghost use Rattle.std.specs.List.{flat_map};
 ghost use Rattle.sm_tree.specs.Pointer.{pointer};
-ghost use Rattle.sm_model.specs.EventView.{AreErrors, event_view, events_view};
-ghost use Rattle.sm_ast.specs.Answers.{Tells};
-ghost use Rattle.sm_ast.specs.Faults.{AstFault};
 ghost use Rattle.sm_commands.specs.Lines.{broken_selector_line as the_broken_line, other_selector_line as the_other_line};
 ghost use Rattle.sm_commands.specs.Lines.{id_lines as the_id_lines};
-ghost use Rattle.sm_commands.specs.Lines.{detail_part, event_line, error_lines as the_error_lines, severity_word as the_severity_word};
+ghost use Rattle.sm_commands.specs.Lines.{is_shown, shown_line};
+ghost use Rattle.sm_commands.specs.Lines.{detail_part, event_line, event_lines as the_event_lines, severity_word as the_severity_word};
 ghost use Rattle.sm_commands.specs.Lines.{size_limit, size_limit_word};
 ghost use Rattle.sm_commands.specs.Lines.{line as the_line, fault_line as the_fault_line, limit_line as the_limit_line};
 ghost use Rattle.sm_commands.specs.Lines.{size_limit_line as the_size_limit_line, syntax_line as the_syntax_line};
@@ -121,7 +119,7 @@ pub(crate) fn json_line(
 
 /// The line of a model file whose text is no model.
 pub(crate) fn ast_line(alloc: Global, file: &str, refusal: &AstRefusal) -> Result<Vec<u8>, NoMemory>
-    ensures { (fault : AstFault) → Tells (Some fault) refusal.now → IfOk result (λ line. line.items ≡ the_ast_line file.now fault) }
+    ensures { IfOk result (λ line. line.items ≡ the_ast_line file.now refusal.now) }
 {
     let mut text = String::from_str(alloc, "Ast ")?;
     text.push_str(ast_text(alloc, refusal)?.as_str())?;
@@ -130,14 +128,14 @@ pub(crate) fn ast_line(alloc: Global, file: &str, refusal: &AstRefusal) -> Resul
 
 // The word of a refusal, and its path.
 fn ast_text(alloc: Global, refusal: &AstRefusal) -> Result<String, NoMemory>
-    ensures { (fault : AstFault) → Tells (Some fault) refusal.now → IfOk result (λ text. string_bytes text ≡ the_ast_text fault) }
+    ensures { IfOk result (λ text. string_bytes text ≡ the_ast_text refusal.now) }
 {
     match refusal {
         AstRefusal::Version => Ok(String::from_str(alloc, "Version")?),
         AstRefusal::Field(path) => placed(alloc, "Field ", path),
         AstRefusal::WrongType(path) => placed(alloc, "Type ", path),
         AstRefusal::BadId(path) => placed(alloc, "BadId ", path),
-        AstRefusal::NoMemory => Err(NoMemory),
+        AstRefusal::NoMemory => Ok(String::from_str(alloc, "NoMemory")?),
     }
 }
 
@@ -162,20 +160,55 @@ fn severity_word(severity: Severity) -> &'static str
     }
 }
 
-/// The lines of events for which a model is rejected.
-pub(crate) fn error_lines(alloc: Global, events: &[ModelEvent]) -> Result<Vec<u8>, NoMemory>
-    ensures { AreErrors events.now → IfOk result (λ lines. lines.items ≡ the_error_lines (events_view events.now)) }
+/// Which events of a model are shown.
+#[derive(Debug, Clone, Copy, PartialEq, Eq, Drop)]
+pub enum Shown {
+    /// All of them.
+    All,
+    /// Those alone for which the model is rejected.
+    Errors,
+}
+
+/// The lines of the events that are shown.
+pub(crate) fn event_lines(
+    alloc: Global,
+    shown: Shown,
+    events: &[ModelEvent],
+) -> Result<Vec<u8>, NoMemory>
+    ensures { IfOk result (λ lines. lines.items ≡ the_event_lines shown events.now) }
 {
     let mut lines = Vec::new(alloc);
     for event in events {
-        put_event(event, &mut lines)?;
+        put_shown(shown, event, &mut lines)?;
     }
     Ok(lines)
 }
 
+// Appends the line of an event that is shown.
+fn put_shown(shown: Shown, event: &ModelEvent, lines: &mut Vec<u8>) -> Result<(), NoMemory>
+    ensures { OnOk result (lines.new.items ≡ lines.old.items ++ shown_line shown event.now) }
+{
+    if is_shown(shown, event.severity) {
+        put_event(event, lines)?;
+    }
+    Ok(())
+}
+
+fn is_shown(shown: Shown, severity: Severity) -> bool
+    ensures { result ≡ is_shown shown severity }
+{
+    match shown {
+        Shown::All => true,
+        Shown::Errors => match severity {
+            Severity::Error => true,
+            Severity::Danger | Severity::Warning | Severity::Note => false,
+        },
+    }
+}
+
 // Appends the line of an event.
 fn put_event(event: &ModelEvent, lines: &mut Vec<u8>) -> Result<(), NoMemory>
-    ensures { OnOk result (lines.new.items ≡ lines.old.items ++ event_line event.now.severity (event_view event.now)) }
+    ensures { OnOk result (lines.new.items ≡ lines.old.items ++ event_line event.now) }
 {
     lines.extend_from_slice(severity_word(event.severity).as_bytes())?;
     lines.push(b' ')?;

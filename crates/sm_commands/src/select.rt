@@ -12,8 +12,8 @@ ghost use Rattle.sm_commands.specs.Select.{SelectorSays};
 ghost use Rattle.sm_commands.specs.steps.CommandSteps.{StepComesTo, StepStops};
 ghost use Rattle.sm_commands.specs.steps.SelectSteps.{Selects};
 
-use crate::lines::{broken_selector_line, id_lines, other_selector_line};
-use crate::loading::load;
+use crate::lines::{Shown, broken_selector_line, id_lines, other_selector_line};
+use crate::loading::load_models;
 use crate::stop::{Stop, refused};
 use crate::words::SelectWords;
 use sm_io::Files;
@@ -59,7 +59,7 @@ fn selected(alloc: Global, graph: &Graph, text: &str) -> Result<Vec<u8>, Stop>
 ///
 /// # Errors
 ///
-/// Those of `load`, then a text that is no selector. At any step memory may run out.
+/// Those of `load_models`, then a text that is no selector. At any step memory may run out.
 pub(crate) fn select<F: Files>(
     alloc: Global,
     words: SelectWords<'_>,
@@ -76,8 +76,8 @@ pub(crate) fn select<F: Files>(
     ensures same_reads { LetsSame (F.lets_read files.old) (F.lets_read files.new) }
     ensures same_writes { LetsSame (F.lets_write files.old) (F.lets_write files.new) }
 {
-    match load(alloc, files, words.models) {
-        Ok(graph) => selected(alloc, &graph, words.selector),
+    match load_models(alloc, Shown::Errors, files, words.models) {
+        Ok(model) => selected(alloc, &model.graph, words.selector),
         Err(stop) => Err(stop),
     }
 }

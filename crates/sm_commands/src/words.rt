@@ -1,7 +1,7 @@
 // The words of a command, and the forms that they may have.
-ghost use Rattle.std.specs.Prelude.{◌≡◌, ◌↔◌, List, ℕ, [], ◌∷◌, ◌++◌, IsTrue, MatchOption};
+ghost use Rattle.std.specs.Prelude.{◌≡◌, ◌↔◌, ◌⊎◌, List, ℕ, [], ◌∷◌, ◌++◌, IsTrue, MatchOption};
 ghost use Rattle.sm_commands.specs.Commands.{AreOverModels, GraphForm, IsCommandForm, IsNoForm, form_word, graph_word};
-ghost use Rattle.sm_commands.specs.Commands.{body_command, convert_command, select_command};
+ghost use Rattle.sm_commands.specs.Commands.{body_command, check_command, convert_command, select_command};
 ghost use Rattle.sm_commands.specs.steps.Asked.{command_of, graph_form};
 
 use sm_bodies::BodyForm;
@@ -29,6 +29,13 @@ pub enum ConvertForm<'a> {
     Idl(&'a str),
 }
 
+/// The words of `check MODEL+`.
+#[derive(Debug, Clone, Copy)]
+pub struct CheckWords<'a> {
+    /// The names of the model files, in their order.
+    pub models: &'a [Text],
+}
+
 /// The words of `convert MODEL+ FORM`.
 #[derive(Debug, Clone, Copy)]
 pub struct ConvertWords<'a> {
@@ -50,6 +57,8 @@ pub struct SelectWords<'a> {
 /// The forms that words may have.
 #[derive(Debug, Clone, Copy)]
 pub enum Form<'a> {
+    /// `check MODEL+`.
+    Check(CheckWords<'a>),
     /// `body MODELFILE SHAPE NEAR FAR`.
     Body(BodyWords<'a>),
     /// `convert MODEL+ FORM`.
@@ -66,12 +75,43 @@ pub(crate) fn form_of(words: &[Text]) -> Option<Form<'_>>
         Some(words) => Some(Form::Body(words)),
         None => match convert_words(words) {
             Some(words) => Some(Form::Convert(words)),
-            None => match select_words(words) {
-                Some(words) => Some(Form::Select(words)),
-                None => None,
-            },
+            None => form_over_models(words),
         },
     }
+}
+
+// What they ask for, where they have the form of `select` or of `check`.
+fn form_over_models(words: &[Text]) -> Option<Form<'_>>
+    ensures { MatchOption result
+        ((models : List (List ℕ)) (selector : List ℕ) → (IsCommandForm words.now (select_command models selector)
+        ⊎ IsCommandForm words.now (check_command models)) → ⊥)
+        (λ form. IsCommandForm words.now (command_of form)) }
+{
+    match select_words(words) {
+        Some(words) => Some(Form::Select(words)),
+        None => match check_words(words) {
+            Some(words) => Some(Form::Check(words)),
+            None => None,
+        },
+    }
+}
+
+// The words of `check`, where they have its form.
+fn check_words(words: &[Text]) -> Option<CheckWords<'_>>
+    ensures { MatchOption result
+        ((models : List (List ℕ)) → IsCommandForm words.now (check_command models) → ⊥)
+        (λ form. IsCommandForm words.now (check_command form.models.now)) }
+{
+    let Some((command, models)) = first_and_rest(words) else {
+        return None;
+    };
+    if !is_word(command, "check") {
+        return None;
+    }
+    if models.is_empty() {
+        return None;
+    }
+    Some(CheckWords { models })
 }
 
 // The words of `body`, where they have its form.

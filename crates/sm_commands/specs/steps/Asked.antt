@@ -1,15 +1,16 @@
 -- The command that words ask for, as the code holds it.
-use Rattle.sm_commands.specs.Commands.{Command, GraphForm, as_ast, as_idl, body_command, convert_command, select_command}
+use Rattle.sm_commands.specs.Commands.{Command, GraphForm, as_ast, as_idl, body_command, check_command, convert_command, select_command}
 use Rattle.sm_commands.specs.declared.words.ConvertForm.{ConvertForm}
 use Rattle.sm_commands.specs.declared.words.ConvertForm.TheVariants.{Ast, Idl}
 use Rattle.sm_commands.specs.declared.words.Form.{Form}
-use Rattle.sm_commands.specs.declared.words.Form.TheVariants.{Body, Convert, Select}
+use Rattle.sm_commands.specs.declared.words.Form.TheVariants.{Body, Check, Convert, Select}
 
 abbrev pub graph_form : ConvertForm → GraphForm
 graph_form Ast = as_ast
 graph_form (Idl namespace) = as_idl namespace.now
 
 abbrev pub command_of : Form → Command
+command_of (Check words) = check_command words.models.now
 command_of (Body words) = body_command words.model.now words.shape.now words.near words.far
 command_of (Convert words) = convert_command words.models.now (graph_form words.form)
 command_of (Select words) = select_command words.models.now words.selector.now

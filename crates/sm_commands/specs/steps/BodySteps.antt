@@ -14,36 +14,33 @@ use Rattle.sm_codec.specs.Defaults.{filled}
 use Rattle.sm_bodies.specs.TextAnswers.{TextAnswer, TextAnswers}
 use Rattle.sm_bodies.specs.declared.form.BodyForm.{BodyForm}
 use Rattle.sm_compile.specs.Answers.{StoreSeen, TableSeen, IsShapeCompiled, IsPatternRefused, seen_table}
-use Rattle.sm_compile.specs.Sound.{IsValueShape, Sound}
+use Rattle.sm_compile.specs.Sound.{IsValueShape}
 use Rattle.sm_compile.specs.declared.compiled.OneShape.{OneShape}
 use Rattle.sm_compile.specs.declared.compiled.Served.{Served}
 use Rattle.sm_compile.specs.declared.compiled.Served.TheVariants.{Yes, Unserved}
 use Rattle.sm_commands.specs.Answer.{Answer, refused, pattern_refused, past}
 use Rattle.sm_commands.specs.Body.{printed}
 use Rattle.sm_commands.specs.Limits.{body_limit}
-use Rattle.sm_commands.specs.Lines.{unbuilt_line, no_shape_line, pattern_line, unserved_line, body_limit_line}
+use Rattle.sm_commands.specs.Lines.{no_shape_line, pattern_line, unserved_line, body_limit_line}
 use Rattle.sm_commands.specs.Stages.{IsInput}
 use Rattle.sm_commands.specs.steps.CommandSteps.{StepStops, StepComesTo}
 use Rattle.sm_commands.specs.declared.stop.Stop.{Stop}
 
 -- what a graph comes to for a shape that has no table, with what the store did
-pub data ShapeSays (g : GraphMaps) (name shape : List ℕ) (before now : StoreSeen) (a : Answer) : Type 0 where
+pub data ShapeSays (g : GraphMaps) (shape : List ℕ) (before now : StoreSeen) (a : Answer) : Type 0 where
   lacks : (IsValueShape g shape → ⊥) → now.refusals ≡ before.refusals → a ≡ refused (no_shape_line shape)
-      → ShapeSays g name shape before now a
-  not_sound : IsValueShape g shape → (Sound g shape → ⊥) → now.refusals ≡ before.refusals → a ≡ refused (unbuilt_line name)
-      → ShapeSays g name shape before now a
-  refuses : IsValueShape g shape → Sound g shape → (id : List ℕ) → IsPatternRefused g shape before now id
-      → a ≡ pattern_refused (pattern_line id) → ShapeSays g name shape before now a
+      → ShapeSays g shape before now a
+  refuses : IsValueShape g shape → (id : List ℕ) → IsPatternRefused g shape before now id
+      → a ≡ pattern_refused (pattern_line id) → ShapeSays g shape before now a
 
 -- a table of a shape
 pub record HasTableOf (g : GraphMaps) (shape : List ℕ) (test : Test) (before now : StoreSeen) (one : OneShape) : Type 0 where
   pub is : IsValueShape g shape
-  pub sound : Sound g shape
   pub compiled : IsShapeCompiled g shape test before now one
 
-abbrev pub MakesTable : GraphMaps → List ℕ → List ℕ → Test → StoreSeen → StoreSeen → Result OneShape Stop → Type 0
-MakesTable g name shape test before now (Ok one) = HasTableOf g shape test before now one
-MakesTable g name shape test before now (Err stop) = StepStops (ShapeSays g name shape before now) ⊥ (Unit {0}) stop
+abbrev pub MakesTable : GraphMaps → List ℕ → Test → StoreSeen → StoreSeen → Result OneShape Stop → Type 0
+MakesTable g shape test before now (Ok one) = HasTableOf g shape test before now one
+MakesTable g shape test before now (Err stop) = StepStops (ShapeSays g shape before now) ⊥ (Unit {0}) stop
 
 -- a table by which bodies can be read, once its defaults are filled
 pub record IsReady (t : TableData) (s : ℕ) (added : List (List ℕ)) : Type 0 where

@@ -4,15 +4,9 @@ use Rattle.std.specs.Global.{Vec}
 use Rattle.sm_io.specs.Causes.{Rose}
 use Rattle.sm_io.specs.Files.{Folder, Holds}
 use Rattle.sm_io.specs.Seen.{FilesSeen}
-use Rattle.sm_tree.specs.Json.{IsJson}
-use Rattle.sm_tree.specs.Syntax.{IsRead}
-use Rattle.sm_tree.specs.View.{node_of}
-use Rattle.sm_tree.specs.declared.tree.Tree.{Tree}
-use Rattle.sm_json.specs.JsonText.{JsonText}
 use Rattle.sm_commands.specs.Answer.{Answer, past}
 use Rattle.sm_commands.specs.Limits.{file_limit}
 use Rattle.sm_commands.specs.Lines.{file_limit_line}
-use Rattle.sm_commands.specs.NoTree.{NoTree}
 use Rattle.sm_commands.specs.Stages.{FileTooLong}
 use Rattle.sm_commands.specs.steps.CommandSteps.{StepStops}
 use Rattle.sm_commands.specs.declared.stop.Stop.{Stop}
@@ -25,8 +19,3 @@ PassesLimit files name a = FileTooLong files name × (a ≡ past file_limit_line
 abbrev pub OpensFile : FilesSeen → FilesSeen → List ℕ → Result (Vec ℕ) Stop → Type 0
 OpensFile files files1 name (Ok file) = Holds files.held name (Some file.items) × (length file.items ≤ file_limit)
 OpensFile files files1 name (Err stop) = StepStops (PassesLimit files.held name) (Rose files.faults files1.faults) (Unit {0}) stop
-
--- the tree of a file in the JSON AST with these bytes, or the answer to one that gives no tree
-abbrev pub OpensTree : List ℕ → List ℕ → Result Tree Stop → Type 0
-OpensTree name file (Ok tree) = IsRead JsonText (node_of tree) file × IsJson (node_of tree)
-OpensTree name file (Err stop) = StepStops (NoTree name file) ⊥ (Unit {0}) stop

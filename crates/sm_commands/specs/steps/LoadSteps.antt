@@ -1,72 +1,48 @@
 -- What the steps of loading model files come to.
-use Rattle.std.specs.Prelude.{◌≡◌, ◌⊎◌, ℕ, List, map, Option, Result, Ok, Err, IsUtf8}
+use Rattle.std.specs.Prelude.{◌≡◌, ℕ, List, Result, Ok, Err}
 use Rattle.std.specs.Global.{Vec}
 use Rattle.sm_io.specs.Causes.{Rose}
 use Rattle.sm_io.specs.Seen.{FilesSeen}
-use Rattle.sm_model.specs.Formed.{AreFormed}
 use Rattle.sm_model.specs.GraphView.{maps_of}
-use Rattle.sm_model.specs.Said.{Said}
-use Rattle.sm_model.specs.SaidView.{statements_view}
-use Rattle.sm_model.specs.declared.graph.Graph.{Graph}
-use Rattle.sm_model.specs.declared.statement.Statement.{Statement}
-use Rattle.sm_idl.specs.Idl.{FileSaid, Idl, HaveVersion}
-use Rattle.sm_merge.specs.Stated.{AreFormedFiles}
-use Rattle.sm_merge.specs.Files.{files_view}
+use Rattle.sm_load.specs.Events.{AreModelEvents}
+use Rattle.sm_load.specs.Loading.{LoadsTo}
+use Rattle.sm_load.specs.ModelFiles.{FileGiven, given_files}
+use Rattle.sm_load.specs.declared.model.LoadRefusal.{LoadRefusal}
+use Rattle.sm_load.specs.declared.model.LoadRefusal.TheVariants.{Text, Limit, Rejected, NoMemory}
+use Rattle.sm_load.specs.declared.model.Model.{Model}
+use Rattle.sm_load.specs.declared.model.ModelFile.{ModelFile}
 use Rattle.sm_commands.specs.Answer.{Answer}
-use Rattle.sm_commands.specs.FileStatements.{StatementsIn, NoStatements, AllSay, OneSaysNone}
-use Rattle.sm_commands.specs.Loading.{IsMerged, MergeAnswers, Loaded, LoadAnswers}
-use Rattle.sm_commands.specs.ModelFiles.{ModelFile, AreRead, PassesOne}
-use Rattle.sm_commands.specs.NoText.{NoText}
+use Rattle.sm_commands.specs.Loading.{AreRefused, Loaded, LoadAnswers, name_at, refusal_answer}
+use Rattle.sm_commands.specs.ModelFiles.{AreRead, PassesOne}
 use Rattle.sm_commands.specs.steps.CommandSteps.{StepStops}
-use Rattle.sm_commands.specs.declared.files.ModelText.{ModelText}
+use Rattle.sm_commands.specs.declared.lines.Shown.{Shown}
 use Rattle.sm_commands.specs.declared.stop.Stop.{Stop}
 
--- what model files of the code stand for
-abbrev pub file_of : List ℕ → List ℕ → ModelFile
-file_of name bytes = record { name = name; bytes = bytes }
-
-abbrev pub text_view : ModelText → ModelFile
-text_view t = file_of t.name.now t.bytes.items
-
-abbrev pub texts_view : List ModelText → List ModelFile
-texts_view ts = map text_view ts
-
 -- the files are read, or a limit is passed
-abbrev pub ReadsModels : FilesSeen → FilesSeen → List (List ℕ) → Result (Vec ModelText) Stop → Type 0
-ReadsModels files files1 names (Ok read) = AreRead files.held 0 names (texts_view read.items)
+abbrev pub ReadsModels : FilesSeen → FilesSeen → List (List ℕ) → Result (Vec ModelFile) Stop → Type 0
+ReadsModels files files1 names (Ok read) = AreRead files.held 0 names (given_files read.items)
 ReadsModels files files1 names (Err stop) = StepStops (PassesOne files.held 0 names) (Rose files.faults files1.faults) (Unit {0}) stop
 
--- an IDL text of a file of this name says these statements, as merging asks for them; or the answer to one that says none
-abbrev pub ReadsText : List ℕ → List ℕ → Result (Vec Statement) Stop → Type 0
-ReadsText name file (Ok ss) =
-    IsUtf8 file × ((f : FileSaid) × (f.said ≡ statements_view ss.items) × HaveVersion f.controls × Idl f file)
-    × AreFormed (statements_view ss.items)
-ReadsText name file (Err stop) = StepStops (NoText name file) ⊥ (Unit {0}) stop
+-- the name is that of the file of which the refusal speaks, where it speaks of one
+abbrev pub NamesFirst : List FileGiven → LoadRefusal → List ℕ → Type 0
+NamesFirst read (Text number place) name = name ≡ name_at read number
+NamesFirst read (Limit kind) name = Unit {0}
+NamesFirst read (Rejected es) name = Unit {0}
+NamesFirst read NoMemory name = Unit {0}
 
--- a file says these statements, as merging asks for them; or the answer to one that says none
-abbrev pub ReadsStatements : ModelFile → Result (Vec Statement) Stop → Type 0
-ReadsStatements f (Ok ss) = StatementsIn f (statements_view ss.items) × AreFormed (statements_view ss.items)
-ReadsStatements f (Err stop) = StepStops (NoStatements f) ⊥ (Unit {0}) stop
+-- files that were read load to a model, or to an answer
+abbrev pub TextsAnswer : Shown → List FileGiven → Answer → Type 0
+TextsAnswer shown read a = (refusal : LoadRefusal) × AreRefused read refusal × (a ≡ refusal_answer shown read refusal)
 
--- all do, or one doesn't
-abbrev pub ReadsAllStatements : List ModelFile → Result (Vec (Vec Statement)) Stop → Type 0
-ReadsAllStatements fs (Ok said) = AllSay fs (files_view said.items) × AreFormedFiles (files_view said.items)
-ReadsAllStatements fs (Err stop) = StepStops (OneSaysNone fs) ⊥ (Unit {0}) stop
+abbrev pub StopsLoad : Shown → List FileGiven → Stop → Type 0
+StopsLoad shown read stop = StepStops (TextsAnswer shown read) ⊥ (Unit {0}) stop
 
--- statements come to this graph, or to an answer
-abbrev pub Merges : List (List Said) → Result Graph Stop → Type 0
-Merges said (Ok graph) = IsMerged said (maps_of graph)
-Merges said (Err stop) = StepStops (MergeAnswers said) ⊥ (Unit {0}) stop
+abbrev pub LoadsModel : Shown → List FileGiven → Result Model Stop → Type 0
+LoadsModel shown read (Ok m) = LoadsTo read (Ok m)
+LoadsModel shown read (Err stop) = StopsLoad shown read stop
 
--- and so the texts of files
-abbrev pub TextsAnswer : List ModelFile → Answer → Type 0
-TextsAnswer fs a = OneSaysNone fs a ⊎ ((said : List (List Said)) × AllSay fs said × MergeAnswers said a)
-
-abbrev pub TextsMerge : List ModelFile → Result Graph Stop → Type 0
-TextsMerge fs (Ok graph) = (said : List (List Said)) × AllSay fs said × IsMerged said (maps_of graph)
-TextsMerge fs (Err stop) = StepStops (TextsAnswer fs) ⊥ (Unit {0}) stop
-
--- the graph of the files of these names, or the answer before it
-abbrev pub Loads : FilesSeen → FilesSeen → List (List ℕ) → Result Graph Stop → Type 0
-Loads files files1 names (Ok graph) = (loaded : Loaded files.held names) × (maps_of graph ≡ loaded.graph)
-Loads files files1 names (Err stop) = StepStops (LoadAnswers files.held names) (Rose files.faults files1.faults) (Unit {0}) stop
+-- the model of the files of these names, or the answer before it
+abbrev pub Loads : Shown → FilesSeen → FilesSeen → List (List ℕ) → Result Model Stop → Type 0
+Loads shown files files1 names (Ok m) =
+    (loaded : Loaded files.held names) × (maps_of m.graph ≡ loaded.graph) × AreModelEvents (maps_of m.graph) m.events
+Loads shown files files1 names (Err stop) = StepStops (LoadAnswers shown files.held names) (Rose files.faults files1.faults) (Unit {0}) stop

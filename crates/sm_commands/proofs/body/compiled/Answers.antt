@@ -17,8 +17,8 @@ returns-in-Ok-clause-makes g c =
     (g.P.Patterns.refusals c.args.patterns.now) in
     let now = seen_store (g.P.Patterns.added c.compile_shape.new.patterns) (g.P.Patterns.refused c.compile_shape.new.patterns)
     (g.P.Patterns.refusals c.compile_shape.new.patterns) in
-    λ name. compiled_table (maps_of c.args.graph.now) c.args.id.now (printed (id_of c.as_ref-shape.result)) g.P.Patterns.test before now
-    c.as_ref-shape.ensures.spelled c.in-Ok.one c.requires c.in-Ok.ensures
+    compiled_table (maps_of c.args.graph.now) c.args.id.now (printed (id_of c.as_ref-shape.result)) g.P.Patterns.test before now
+    c.as_ref-shape.ensures.spelled c.in-Ok.one c.in-Ok.ensures
 
 pub returns-in-Err-NoShape-clause-makes : goal.returns-in-Err-NoShape-clause-makes
 returns-in-Err-NoShape-clause-makes g c =
@@ -27,8 +27,8 @@ returns-in-Err-NoShape-clause-makes g c =
     let now = seen_store (g.P.Patterns.added c.compile_shape.new.patterns) (g.P.Patterns.refused c.compile_shape.new.patterns)
     (g.P.Patterns.refusals c.compile_shape.new.patterns) in
     let none = rw c.in-Err-NoShape.field-0-is at c.in-Err-NoShape.ensures in
-    λ name. compiled_lacks (maps_of c.args.graph.now) c.args.id.now (printed (id_of c.as_ref-shape.result)) g.P.Patterns.test before now
-    c.as_ref-shape.ensures.spelled name c.refused.result none (c.refused.ensures (no_shape_line c.args.id.now)
+    compiled_lacks (maps_of c.args.graph.now) c.args.id.now (printed (id_of c.as_ref-shape.result)) g.P.Patterns.test before now
+    c.as_ref-shape.ensures.spelled c.refused.result none (c.refused.ensures (no_shape_line c.args.id.now)
     (rw c.as_str.ensures at c.line.ensures))
 
 pub returns-in-Err-Pattern-clause-makes : goal.returns-in-Err-Pattern-clause-makes
@@ -38,7 +38,7 @@ returns-in-Err-Pattern-clause-makes g c =
     let now = seen_store (g.P.Patterns.added c.compile_shape.new.patterns) (g.P.Patterns.refused c.compile_shape.new.patterns)
     (g.P.Patterns.refusals c.compile_shape.new.patterns) in
     let one = rw c.in-Err-Pattern.field-0-is at c.in-Err-Pattern.ensures in
-    λ name. compiled_refused (maps_of c.args.graph.now) c.args.id.now (printed (id_of c.as_ref-shape.result)) g.P.Patterns.test before now
-    c.as_ref-shape.ensures.spelled name c.in-Err-Pattern.carrier c.refused_pattern.result c.requires one
+    compiled_refused (maps_of c.args.graph.now) c.args.id.now (printed (id_of c.as_ref-shape.result)) g.P.Patterns.test before now
+    c.as_ref-shape.ensures.spelled c.in-Err-Pattern.carrier c.refused_pattern.result one
     (c.refused_pattern.ensures (pattern_line c.in-Err-Pattern.carrier)
     (rw c.as_str-in-Err-Pattern.ensures at c.line-in-Err-Pattern.ensures))

@@ -15,12 +15,12 @@ graph_text-requires g c =
 pub returns-in-Ok-graph_text-clause-comes : goal.returns-in-Ok-graph_text-clause-comes
 returns-in-Ok-graph_text-clause-comes g c =
     text_comes (files_seen (g.F.Files.held c.args.files.now) (g.F.Files.read_faults c.args.files.now))
-    (files_seen (g.F.Files.held c.load.new.files) (g.F.Files.read_faults c.load.new.files))
-    c.args.words.models.now (graph_form c.args.words.form) c.in-Ok.graph c.in-Ok-graph_text.text c.in-Ok.ensures.loads
+    (files_seen (g.F.Files.held c.load_models.new.files) (g.F.Files.read_faults c.load_models.new.files))
+    c.args.words.models.now (graph_form c.args.words.form) c.in-Ok.model c.in-Ok-graph_text.text c.in-Ok.ensures.loads
     c.in-Ok-graph_text.ensures
 
-pub returns-in-Err-clause-comes : goal.returns-in-Err-clause-comes
-returns-in-Err-clause-comes g c =
+pub returns-clause-comes : goal.returns-clause-comes
+returns-clause-comes g c =
     stop_comes (files_seen (g.F.Files.held c.args.files.now) (g.F.Files.read_faults c.args.files.now))
-    (files_seen (g.F.Files.held c.load.new.files) (g.F.Files.read_faults c.load.new.files))
+    (files_seen (g.F.Files.held c.load_models.new.files) (g.F.Files.read_faults c.load_models.new.files))
     c.args.words.models.now (graph_form c.args.words.form) c.in-Err.stop c.in-Err.ensures.loads

@@ -1,11 +1,11 @@
 use Rattle.std.proofs.Common.{◌≡◌, ◌<◌, ◌≤◌, ◌+◌, ◌∷◌, ◌++◌, [], ℕ, List, Some, ap, arith, drop, length, rules, subst, sym, vec_len, ◌∙◌}
-use Rattle.std.proofs.lemmas.List.{drop_all, drop_more, map-append}
+use Rattle.std.proofs.lemmas.List.{drop_all, drop_more}
 use Rattle.sm_io.specs.Causes.{Rose}
 use Rattle.sm_io.specs.Files.{Holds}
 use Rattle.sm_commands.specs.Limits.{bytes_limit}
 use Rattle.sm_commands.specs.Lines.{bytes_limit_line}
-use Rattle.sm_commands.specs.ModelFiles.{ModelFile, AreRead, PassesOne}
-use Rattle.sm_commands.specs.steps.LoadSteps.{text_view, texts_view}
+use Rattle.sm_commands.specs.ModelFiles.{AreRead, PassesOne}
+use Rattle.sm_load.specs.ModelFiles.{FileGiven, file_given, given_files}
 use Rattle.sm_commands.proofs.Loads.{all_long, all_read, one_passed, reads_more}
 use Rattle.sm_commands.proofs.files.read_models.Goals as goal
 
@@ -44,9 +44,8 @@ loop-word-preserved g c =
     let few : total + length file ≤ bytes_limit = omega (arith, c.if-len-total.false, c.len.ensures, c.loop-word.invariant.within) in
     let counted : total + c.len-total.result ≡ total + length file = ap (λ k. total + k) (c.len-total.ensures ∙ long) in
     let holds = subst (λ x. Holds x name (Some file)) c.loop-word.invariant.held c.in-Ok.ensures.opens.0 in
-    let f : ModelFile = record { name = name; bytes = file } in
-    let put : texts_view c.push.new.self.items ≡ texts_view c.loop-word.read.items ++ f ∷ [] = ap texts_view c.in-Ok-push.ensures.items
-    ∙ map-append text_view c.loop-word.read.items _ in
+    let f : FileGiven = file_given name file in
+    let put : given_files c.put_file.new.files.items ≡ given_files c.loop-word.read.items ++ f ∷ [] = c.in_ok-put_file-in-Ok.ensures in
     record {
       held = c.in-Ok.ensures.held ∙ c.loop-word.invariant.held;
       read_faults = omega (arith, c.in-Ok.ensures.read_faults, c.loop-word.invariant.read_faults);
@@ -60,8 +59,8 @@ loop-word-preserved g c =
         λ h. (c.loop-word.invariant.same_writes n).1 ((c.in-Ok.ensures.same_writes n).1 h),
       );
       within = subst (λ k. k ≤ bytes_limit) (sym counted) few;
-      reads = λ more h. reads_more held total names (drop (i + 1) names) name file (texts_view c.loop-word.read.items)
-          (texts_view c.push.new.self.items)
+      reads = λ more h. reads_more held total names (drop (i + 1) names) name file (given_files c.loop-word.read.items)
+          (given_files c.put_file.new.files.items)
           (λ m all. c.loop-word.invariant.reads m (subst (λ xs. AreRead held total xs m) (sym next) all)) put holds c.in-Ok.ensures.opens.1
           few more (subst (λ k. AreRead held k (drop (i + 1) names) more) counted h);
       passes = λ a h. one_passed held total names (drop (i + 1) names) name file
@@ -73,5 +72,5 @@ pub returns-clause-reads : goal.returns-clause-reads
 returns-clause-reads g c =
     let names = c.args.names.now in
     let i = c.loop-word.word-index in
-    all_read (g.F.Files.held c.args.files.now) c.loop-word.total names (drop i names) (texts_view c.loop-word.read.items)
+    all_read (g.F.Files.held c.args.files.now) c.loop-word.total names (drop i names) (given_files c.loop-word.read.items)
     (drop_all i names (omega (arith, c.loop-word-test.false))) c.loop-word.invariant.reads

@@ -2,8 +2,8 @@ use Rattle.std.proofs.Common.{◌≡◌, ◌≤◌, ◌++◌, List, drop}
 use Rattle.sm_io.specs.Files.{LetsSame}
 use Rattle.sm_commands.specs.Answer.{Answer}
 use Rattle.sm_commands.specs.Limits.{bytes_limit}
-use Rattle.sm_commands.specs.ModelFiles.{ModelFile, AreRead, PassesOne}
-use Rattle.sm_commands.specs.steps.LoadSteps.{texts_view}
+use Rattle.sm_commands.specs.ModelFiles.{AreRead, PassesOne}
+use Rattle.sm_load.specs.ModelFiles.{FileGiven, given_files}
 use Rattle.sm_commands.proofs.files.read_models.Given as goal
 
 abbrev pub invariant-loop-word : goal.invariant-loop-word
@@ -14,8 +14,8 @@ invariant-loop-word g l = record {
   same_reads : LetsSame (g.F.Files.lets_read l.fn.files) (g.F.Files.lets_read l.files);
   same_writes : LetsSame (g.F.Files.lets_write l.fn.files) (g.F.Files.lets_write l.files);
   within : l.total ≤ bytes_limit;
-  reads : (more : List ModelFile) → AreRead (g.F.Files.held l.fn.files) l.total (drop l.word-index l.names) more
-      → AreRead (g.F.Files.held l.fn.files) 0 l.names (texts_view l.read.items ++ more);
+  reads : (more : List FileGiven) → AreRead (g.F.Files.held l.fn.files) l.total (drop l.word-index l.names) more
+      → AreRead (g.F.Files.held l.fn.files) 0 l.names (given_files l.read.items ++ more);
   passes : (a : Answer) → PassesOne (g.F.Files.held l.fn.files) l.total (drop l.word-index l.names) a
       → PassesOne (g.F.Files.held l.fn.files) 0 l.names a;
 }
