@@ -97,7 +97,6 @@ one_form words (select_command models s) (convert_command models1 form1) h i = a
 one_form words (select_command models s) (select_command models1 s1) h i =
     let both = over_same words (codes "select") models models1 s s1 h i in
     ap (λ ms. select_command ms s) both.0 ∙ ap (λ x. select_command models1 x) both.1
-
 one_form words (check_command models) (check_command models1) h i =
     let e = sym h.are ∙ i.are in
     let same : models ≡ models1 = cc in ap check_command same
