@@ -51,8 +51,7 @@ from_parts (Response status) fs rest =
       digits = digits;
       reason = Some words;
       line_end = crlf;
-      fields = map line_of
-          fs;
+      fields = map line_of fs;
       last = crlf;
     }) rest
     ∙ ap (λ t. codes "HTTP/1.1 " ++ (digits ++ 32 ∷ (words ++ 13 ∷ 10 ∷ t))) (section_printed fs rest)

@@ -226,8 +226,7 @@ line_of text says all short =
           (record {
             digits = (omega arith, omega arith, run_passes is_ascii_hexdigit text n refl);
             pad = parts.are_blank;
-            extension =
-                parts.is_extension;
+            extension = parts.is_extension;
           })
           (omega arith) (omega (arith, ap length is));
       is = is;

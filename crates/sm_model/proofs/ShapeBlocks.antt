@@ -24,8 +24,7 @@ abbrev pub shape_row : GraphShape → Pairs → List ℕ → Row
 shape_row s traits numbers = record {
   id = s.id;
   traits = traits;
-  entry = Shape
-      (record { kind = s.kind; members = numbers; properties = s.properties });
+  entry = Shape (record { kind = s.kind; members = numbers; properties = s.properties });
 }
 
 same_entry : (s : GraphShape) (ids names : List (List ℕ)) (traits given : NodeMap) → ids ≡ names → given ≡ traits
@@ -35,8 +34,7 @@ same_entry : (s : GraphShape) (ids names : List (List ℕ)) (traits given : Node
         kind = s.kind;
         members = names;
         properties = node_of s.properties;
-        traits =
-            given;
+        traits = given;
       }),
     )
     (s.id, shape_entry (record { kind = s.kind; members = ids; properties = node_of s.properties; traits = traits }))

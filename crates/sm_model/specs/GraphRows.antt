@@ -22,8 +22,7 @@ entry_view ids traits (Shape s) =
       kind = s.kind;
       members = map (λ k. get_or ids k []) s.members;
       properties = node_of s.properties;
-      traits =
-          traits;
+      traits = traits;
     })
 entry_view ids traits (Member target) = member_entry (record { target = target; traits = traits })
 

@@ -48,8 +48,7 @@ dark (c ∷ s) = by_test (dark s) (is_selector_white c) refl
     by_test : Dark s → (b : Bool) → is_selector_white c ≡ b → Dark (c ∷ s)
     by_test later true is = record {
       rest = later.rest;
-      white = white_joined (c ∷ s) s later.rest
-          (one_white c s is) later.white;
+      white = white_joined (c ∷ s) s later.rest (one_white c s is) later.white;
       ends = later.ends;
     }
     by_test later false is = record { rest = c ∷ s; white = no_white (c ∷ s); ends = is }

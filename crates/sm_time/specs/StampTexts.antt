@@ -68,8 +68,7 @@ clock_in t = record {
   day = two_in t 8;
   hour = two_in t 11;
   minute = two_in t 14;
-  second = two_in
-      t 17;
+  second = two_in t 17;
 }
 
 abbrev pub gmt_in : List ℕ → Civil
@@ -79,8 +78,7 @@ gmt_in t = record {
   day = two_in t 5;
   hour = two_in t 17;
   minute = two_in t 20;
-  second =
-      two_in t 23;
+  second = two_in t 23;
 }
 
 abbrev pub is_negative_in : List ℕ → Bool
