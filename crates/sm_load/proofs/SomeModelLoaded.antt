@@ -153,7 +153,8 @@ files_answered (f ∷ fs) none some =
 
 -- statements merge, or are refused
 module _ (said : List (List Said)) (formed : AreFormedFiles said) (past : (kind : LimitKind) → MergesTo said (Err (PastLimit kind)) → ⊥)
-    (rejected : (es : List ModelEvent) → MergesTo said (Err (RejectedInMerging es)) → ⊥) (some : (g : GraphMaps) → MergeInto said g → ⊥) where
+    (rejected : (es : List ModelEvent) → MergesTo said (Err (RejectedInMerging es)) → ⊥)
+    (some : (g : GraphMaps) → MergeInto said g → ⊥) where
   module _ (g : GraphMaps) (of : IsGraphOf (stated_by said) g) where
     each : (P : GraphMaps → Type 0) → P g → (h : GraphMaps) → IsGraphOf (stated_by said) h → P h
     each P holds h is = subst P (one_graph (stated_by said) g h of is) holds
