@@ -14,6 +14,8 @@ use std::process::ExitCode;
 const HELP: &str = "\
 sm_tool body MODELFILE SHAPE NEAR FAR
     Reads a body of the shape from standard input in the form NEAR, and prints it in the form FAR: json or cbor.
+sm_tool check MODEL..
+    Prints the events of model files by the rules of models: SEVERITY ID SHAPE DETAIL, one a line.
 sm_tool convert MODEL.. FORM
     Merges model files, and prints their graph: as a text of the JSON AST (ast), or a namespace of it in the IDL (idl:NAMESPACE).
 sm_tool select MODEL.. SELECTOR
