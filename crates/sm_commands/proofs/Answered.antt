@@ -1,5 +1,5 @@
 -- An answer that stands before the input, in a run that refuses no pattern.
-use Rattle.std.proofs.Common.{◌≡◌, ℕ, List, None, Some, refl}
+use Rattle.std.proofs.Common.{◌≡◌, ℕ, List, None, Some}
 use Rattle.sm_commands.specs.Answer.{Answer, came}
 use Rattle.sm_commands.specs.Answer.InputUse.{untouched}
 use Rattle.sm_commands.specs.Commands.{Command}

@@ -24,25 +24,24 @@ use Rattle.sm_compile.specs.declared.compiled.CompileRefusal.TheVariants.{NoShap
 use Rattle.sm_compile.specs.declared.compiled.OneShape.{OneShape}
 use Rattle.sm_compile.specs.declared.compiled.Served.{Served}
 use Rattle.sm_compile.specs.declared.compiled.Served.TheVariants.{Yes, Unserved}
-use Rattle.sm_commands.specs.Answer.{Answer, came, refused, pattern_refused, past}
+use Rattle.sm_commands.specs.Answer.{Answer, came}
 use Rattle.sm_commands.specs.Answer.InputUse.{untouched, to_its_end, past_its_limit}
 use Rattle.sm_commands.specs.Body.{printed}
 use Rattle.sm_commands.specs.Body.BodySays.{not_loaded, no_shape, pattern, unserved, long_input, by_text}
-use Rattle.sm_commands.specs.BodyStages.{ShapeThere, TableMade, ShapeServed}
+use Rattle.sm_commands.specs.BodyStages.{TableMade}
 use Rattle.sm_commands.specs.Commands.{Command, body_command}
 use Rattle.sm_commands.specs.Limits.{body_limit}
 use Rattle.sm_commands.specs.Lines.{no_shape_line, pattern_line, unserved_line, body_limit_line}
 use Rattle.sm_commands.specs.Loading.{Loaded, LoadAnswers}
 use Rattle.sm_commands.specs.Outside.{InputsSeen, inputs_seen}
 use Rattle.sm_commands.specs.Run.{Answers, OnlyAdds, ReadFails, StopsShort, told_by}
-use Rattle.sm_commands.specs.Stages.{Told, IsInput}
-use Rattle.sm_commands.specs.declared.command.Status.TheVariants.{Pattern}
+use Rattle.sm_commands.specs.Stages.{Told}
 use Rattle.sm_commands.specs.steps.BodySteps.{ShapeSays, HasTableOf, MakesTable, IsReady, PrintsText, InputSays, InputComesTo, TableSays}
 use Rattle.sm_commands.specs.steps.BodySteps.{TableComesTo}
 use Rattle.sm_commands.specs.steps.BodySteps.ShapeSays.{lacks, refuses}
 use Rattle.sm_commands.specs.steps.BodySteps.InputSays.{beyond, whole}
 use Rattle.sm_commands.specs.steps.BodySteps.TableSays.{left_out, by_input}
-use Rattle.sm_commands.specs.steps.CommandSteps.{StepStops, StepComesTo, EndsWithLine, EndsWithLimit, EndsWithPattern, CommandComesTo}
+use Rattle.sm_commands.specs.steps.CommandSteps.{StepComesTo, EndsWithLine, EndsWithLimit, EndsWithPattern, CommandComesTo}
 use Rattle.sm_commands.specs.steps.LoadSteps.{Loads}
 use Rattle.sm_commands.specs.declared.stop.Stop.{Stop}
 use Rattle.sm_commands.specs.declared.lines.Shown.TheVariants.{Errors}

@@ -1,5 +1,5 @@
 -- What holds of what each command comes to: a clause for each command.
-use Rattle.std.proofs.Common.{◌≡◌, ◌⊎◌, ◌<◌, ℕ, List, Option, Some, inl, inr, true, ap, sym, subst, refl, arith}
+use Rattle.std.proofs.Common.{◌≡◌, ◌⊎◌, ℕ, List, Option, inl, inr, true, ap, sym, subst, refl}
 use Rattle.sm_io.specs.Files.{Folder}
 use Rattle.sm_bodies.specs.TextLaws.{OneTextAnswer, SomeTextAnswer}
 use Rattle.sm_compile.specs.Laws.{SomeTable}

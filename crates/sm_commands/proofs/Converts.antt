@@ -6,8 +6,7 @@ use Rattle.sm_io.specs.Seen.{FilesSeen, Stream}
 use Rattle.std.specs.Prelude.{Result}
 use Rattle.sm_model.specs.GraphView.{maps_of}
 use Rattle.sm_load.specs.declared.model.Model.{Model}
-use Rattle.sm_commands.specs.Answer.{Answer, done}
-use Rattle.sm_commands.specs.Answer.InputUse.{untouched}
+use Rattle.sm_commands.specs.Answer.{done}
 use Rattle.sm_commands.specs.Commands.{GraphForm, convert_command}
 use Rattle.sm_commands.specs.Convert.{ConvertSays, converted}
 use Rattle.sm_commands.specs.Convert.ConvertSays.{not_loaded, graph}

@@ -1,9 +1,9 @@
 -- What stands in a graph that model files come to is spelled: members have ids, and the values of their traits are JSON.
-use Rattle.std.proofs.Common.{◌≡◌, ℕ, List, [], ◌∷◌, ◌++◌, Option, Some, None, sym, ap, subst, ◌∙◌, append_assoc, append-nil}
+use Rattle.std.proofs.Common.{◌≡◌, ℕ, List, ◌∷◌, ◌++◌, Option, Some, sym, ap, subst, ◌∙◌, append_assoc, append-nil}
 use Rattle.std.proofs.lemmas.Option.{same_Some}
 use Rattle.sm_io.specs.Files.{Folder}
 use Rattle.sm_ids.specs.Identifier.{IsIdentifier}
-use Rattle.sm_ids.specs.IdText.{Id, IsIdText, member_text, printed}
+use Rattle.sm_ids.specs.IdText.{Id, IsIdText, member_text}
 use Rattle.sm_model.specs.Graphs.{Entry, shape_entry, member_entry, member_id}
 use Rattle.sm_model.specs.References.{IsShapeId}
 use Rattle.sm_merge.proofs.GraphSound.{IsMemberId, IsSoundEntry, stands_sound}

@@ -1,6 +1,5 @@
 -- Files, an input and a store come to one answer of the command `body`: at each decision two answers go the same way.
-use Rattle.std.proofs.Common.{◌≡◌, ◌<◌, ◌≤◌, ℕ, List, [], ◌∷◌, Option, Some, length, sym, ap, subst, ◌∙◌, arith}
-use Rattle.std.specs.Prelude.{Contains}
+use Rattle.std.proofs.Common.{◌≡◌, ◌<◌, ℕ, List, [], ◌∷◌, Some, length, sym, ap, subst, ◌∙◌, arith}
 use Rattle.sm_model.specs.Graphs.{GraphMaps}
 use Rattle.sm_shapes.specs.Places.{root_place}
 use Rattle.sm_shapes.specs.TableData.{TableData}
@@ -17,14 +16,14 @@ use Rattle.sm_compile.specs.Sound.{IsValueShape}
 use Rattle.sm_compile.specs.declared.compiled.Served.{Served}
 use Rattle.sm_compile.specs.declared.compiled.Served.TheVariants.{Yes, Unserved}
 use Rattle.sm_compile.proofs.OneTable.{one_seen}
-use Rattle.sm_commands.specs.Answer.{Answer, Came, came, refused, pattern_refused}
+use Rattle.sm_commands.specs.Answer.{Came, came, refused, pattern_refused}
 use Rattle.sm_commands.specs.Answer.InputUse.{untouched, to_its_end}
 use Rattle.sm_commands.specs.Body.{BodySays, printed}
 use Rattle.sm_commands.specs.Body.BodySays.{not_loaded, no_shape, pattern, unserved, long_input, by_text}
 use Rattle.sm_commands.specs.BodyStages.{ShapeThere, TableMade, ShapeServed, InputRead, table_of}
 use Rattle.sm_commands.specs.Limits.{body_limit}
 use Rattle.sm_commands.specs.Lines.{pattern_line, unserved_line}
-use Rattle.sm_commands.specs.Loading.{Loaded, LoadAnswers}
+use Rattle.sm_commands.specs.Loading.{Loaded}
 use Rattle.sm_commands.specs.Stages.{Told, IsInput}
 use Rattle.sm_compile.proofs.OnePatterns.{one_first}
 use Rattle.sm_commands.proofs.TablesMade.{number_within, is_filled, carried_within}

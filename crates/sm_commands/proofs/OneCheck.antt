@@ -1,7 +1,6 @@
 -- Model files come to one answer of the command `check`, and to some.
 use Rattle.std.proofs.Common.{◌≡◌, ℕ, List, Some, ap, subst, sym, refl, ◌∙◌}
 use Rattle.sm_io.specs.Files.{Folder}
-use Rattle.sm_model.specs.declared.event.ModelEvent.{ModelEvent}
 use Rattle.sm_load.specs.Events.{AreModelEvents}
 use Rattle.sm_load.proofs.OneModelLoaded.{one_event_list}
 use Rattle.sm_load.specs.Laws.{SomeLoad, SomeModelEvents}

@@ -1,5 +1,5 @@
 -- Model files come to one model or one answer: at each decision two answers go the same way.
-use Rattle.std.proofs.Common.{◌≡◌, ◌<◌, ◌≤◌, ◌+◌, ℕ, inl, inr, List, [], ◌∷◌, Some, Err, length, refl, sym, ap, subst, ◌∙◌, arith}
+use Rattle.std.proofs.Common.{◌≡◌, ◌<◌, ◌≤◌, ◌+◌, ℕ, inl, inr, List, [], ◌∷◌, Some, Err, length, sym, ap, subst, ◌∙◌, arith}
 use Rattle.sm_io.specs.Files.{Folder}
 use Rattle.sm_model.specs.Graphs.{GraphMaps}
 use Rattle.sm_load.specs.Loading.{AreAccepted, LoadsTo}

@@ -6,8 +6,8 @@ use Rattle.sm_io.proofs.Counts.{quiet_not_rose}
 use Rattle.sm_commands.specs.Commands.{Command, IsCommandForm, touches_input}
 use Rattle.sm_commands.specs.Outside.{InputsSeen, Outside}
 use Rattle.sm_commands.specs.Answer.{Answer}
-use Rattle.sm_commands.specs.Run.{Answers, Prints, ReadFails, RefusedBy, RunEnds, StopsShort, told_by}
-use Rattle.sm_commands.specs.RunLaws.{IsQuiet, QuietRunAnswers, KeepsInput, KeepsRefusals, RefusesNone}
+use Rattle.sm_commands.specs.Run.{Answers, ReadFails, RefusedBy, StopsShort, told_by}
+use Rattle.sm_commands.specs.RunLaws.{IsQuiet, QuietRunAnswers, KeepsInput, KeepsRefusals}
 use Rattle.sm_commands.specs.Says.{ReachesInput}
 use Rattle.sm_commands.specs.declared.command.Status.TheVariants.{Done, Refused, Usage, ReadFault, WriteFault, NoMemory, Pattern, Limit}
 use Rattle.sm_commands.proofs.OneForm.{one_form}

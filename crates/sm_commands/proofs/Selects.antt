@@ -9,13 +9,11 @@ use Rattle.sm_model.specs.Graphs.{GraphMaps}
 use Rattle.sm_model.specs.GraphView.{maps_of}
 use Rattle.sm_load.specs.declared.model.Model.{Model}
 use Rattle.sm_select.specs.Answers.{ArePicked, ParsesSelector}
-use Rattle.sm_select.specs.SelectorText.{SelectorText}
 use Rattle.sm_select.specs.Selectors.{Steps, steps_of}
 use Rattle.sm_select.specs.View.{selector_view}
 use Rattle.sm_select.specs.declared.refusal.SelectorRefusal.TheVariants.{Syntax, OutOfProfile}
 use Rattle.sm_select.specs.declared.selector.Selector.{Selector}
-use Rattle.sm_commands.specs.Answer.{Answer, done}
-use Rattle.sm_commands.specs.Answer.InputUse.{untouched}
+use Rattle.sm_commands.specs.Answer.{done}
 use Rattle.sm_commands.specs.Commands.{select_command}
 use Rattle.sm_commands.specs.Lines.{broken_selector_line, id_lines, other_selector_line}
 use Rattle.sm_commands.specs.Loading.{LoadAnswers}

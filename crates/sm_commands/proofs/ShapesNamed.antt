@@ -1,12 +1,11 @@
 -- A shape by its id and by its number in a graph; that whether it has values is decided.
-use Rattle.std.proofs.Common.{◌≡◌, ◌⊎◌, ◌<◌, ℕ, Bool, true, false, List, Option, Some, None, inl, inr, sym, subst, refl, ◌∙◌}
+use Rattle.std.proofs.Common.{◌≡◌, ◌<◌, ℕ, Bool, true, false, List, Option, Some, None, sym, subst, refl, ◌∙◌}
 use Rattle.std.specs.Prelude.{length, slice_get, IsSomeAnd}
 use Rattle.std.proofs.lemmas.Option.{slice_get_within}
 use Rattle.std.specs.FinMap as fin
 use Rattle.sm_model.specs.GraphView.{At, IsShapeNumber, Stands, entries_of, maps_of}
 use Rattle.sm_model.specs.Graphs.{Entry, GraphMaps, ShapeEntry, shape_entry, member_entry}
 use Rattle.sm_model.specs.Reaching.{id_of_number}
-use Rattle.sm_model.specs.Relations.{HasEntry}
 use Rattle.sm_model.specs.declared.graph.Graph.{Graph}
 use Rattle.sm_model.proofs.NumberedIds.{entry_here}
 use Rattle.sm_compile.specs.Kinds.{has_values}

@@ -1,7 +1,7 @@
 -- A file that is there, an input and a store come to some answer of the command `body`. Where a case can't be decided,
 -- each of its two sides is denied in turn.
-use Rattle.std.proofs.Common.{◌≡◌, ◌<◌, ℕ, inl, inr, List, [], ◌∷◌, Option, Some, length, sym, subst, refl, ◌∙◌}
-use Rattle.std.specs.Prelude.{Contains, IfSome}
+use Rattle.std.proofs.Common.{◌≡◌, ℕ, inl, inr, List, [], ◌∷◌, Option, Some, length, sym, subst, refl}
+use Rattle.std.specs.Prelude.{Contains}
 use Rattle.std.proofs.lemmas.Bool.{cases_lt}
 use Rattle.sm_io.specs.Files.{Folder}
 use Rattle.sm_shapes.specs.Places.{root_place}

@@ -1,5 +1,5 @@
 -- Model files that are there come to a graph or to an answer. Where a case can't be decided, each of its two sides is denied in turn.
-use Rattle.std.proofs.Common.{◌≡◌, ◌<◌, ◌≤◌, ◌+◌, ◌⊎◌, ℕ, suc, inl, inr, List, [], ◌∷◌, Some, length, refl, arith}
+use Rattle.std.proofs.Common.{◌+◌, ◌⊎◌, ℕ, suc, inl, inr, List, [], ◌∷◌, Some, length, refl, arith}
 use Rattle.std.proofs.lemmas.Bool.{cases_lt}
 use Rattle.sm_io.specs.Files.{Folder}
 use Rattle.sm_load.specs.Laws.{SomeLoad}

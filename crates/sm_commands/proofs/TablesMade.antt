@@ -1,6 +1,6 @@
 -- What is known of a table that was made of a shape: it can be read by once its defaults are filled, and it is one.
-use Rattle.std.proofs.Common.{◌≡◌, ◌<◌, ℕ, List, Some, sym, subst, ap, ◌∙◌}
-use Rattle.std.specs.Prelude.{length, slice_get, Contains}
+use Rattle.std.proofs.Common.{◌<◌, ℕ, List, subst}
+use Rattle.std.specs.Prelude.{Contains}
 use Rattle.std.proofs.lemmas.Option.{slice_get_within}
 use Rattle.sm_model.specs.Graphs.{GraphMaps}
 use Rattle.sm_shapes.specs.Fitting.{Test}

@@ -1,6 +1,5 @@
 -- Where the files and the input are told, what model files come to is one thing, and the input is one.
-use Rattle.std.proofs.Common.{◌≡◌, ℕ, List, Option, Some, None, sym, subst, ◌∙◌}
-use Rattle.std.specs.Prelude.{IfSome}
+use Rattle.std.proofs.Common.{◌≡◌, ℕ, List, Option, Some, sym, subst, ◌∙◌}
 use Rattle.sm_io.specs.Files.{Folder}
 use Rattle.sm_model.specs.Graphs.{GraphMaps}
 use Rattle.sm_commands.specs.Answer.{Answer}

@@ -1,4 +1,4 @@
-use Rattle.std.proofs.Common.{◌+◌, ◌∷◌, ap, arith, drop, sym, ◌∙◌}
+use Rattle.std.proofs.Common.{◌+◌, ◌∷◌, ap, drop, sym, ◌∙◌}
 use Rattle.std.proofs.lemmas.List.{drop_more}
 use Rattle.sm_commands.proofs.Loads.{events_more}
 use Rattle.sm_commands.proofs.lines.event_lines.Goals as goal
