@@ -111,7 +111,7 @@ fn checked(alloc: Global, graph: Graph) -> Result<Model, LoadRefusal>
 
 /// The model of these files. The first that holds is answered: `Text` where a file says no statements, for the first such; `Limit`
 /// where their graph is past a limit; `Rejected` where merging rejects them, or a rule does; else the model. `NoMemory` where the
-/// allocator refuses memory. n log n, beside what the text of an error takes.
+/// allocator refuses memory. It takes what reading, merging and `events` take.
 pub fn load(alloc: Global, files: Vec<ModelFile>) -> Result<Model, LoadRefusal>
     ensures { LoadsTo (given_files files.items) result }
 {
