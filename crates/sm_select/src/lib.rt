@@ -2,6 +2,7 @@
 // asked of a graph.
 #![tactic(auto)]
 
+mod among;
 mod compare;
 mod filters;
 mod follow;
@@ -22,11 +23,13 @@ mod reach;
 mod refusal;
 mod selecting;
 mod selector;
+mod staying;
 mod tokens;
 mod values;
 mod walk;
 mod ways;
 
+pub use among::select_among;
 pub use follow::followed;
 pub use neighbors::{Neighbors, Row};
 pub use parser::parse_selector;

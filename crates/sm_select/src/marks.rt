@@ -36,13 +36,13 @@ pub(crate) fn kept_where(
 {
     let mut kept = Vec::with_capacity(alloc, starts.len())?;
     for number in 0..starts.len() {
-        kept.push(stays(starts, marks, marked, number))?;
+        kept.push(is_marked_so(starts, marks, marked, number))?;
     }
     Ok(kept)
 }
 
 // Whether a start is marked so.
-fn stays(starts: &[bool], marks: &[bool], marked: bool, number: usize) -> bool
+fn is_marked_so(starts: &[bool], marks: &[bool], marked: bool, number: usize) -> bool
     requires start { number < length starts.now }
     requires mark { number < length marks.now }
     ensures { IsTrue result ↔ (IsMarked starts.now number × (get_or marks.now number false ≡ marked)) }
