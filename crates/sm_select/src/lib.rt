@@ -26,16 +26,15 @@ mod selector;
 mod staying;
 mod tokens;
 mod values;
-mod walk;
 mod ways;
 
 pub use among::select_among;
 pub use follow::followed;
+pub use marks::all_marked;
 pub use neighbors::{Neighbors, Row};
 pub use parser::parse_selector;
 pub use reach::reached;
 pub use refusal::SelectorRefusal;
 pub use selecting::select;
 pub use selector::{Relations, Selector, SelectorOp, SelectorPath, SelectorStep, Selectors, Texts};
-pub use walk::walked;
 pub use ways::{Ways, image_along, image_of_walk};

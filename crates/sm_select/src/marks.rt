@@ -5,8 +5,8 @@ ghost use Rattle.sm_model.specs.Reaching.{AreMarks, IsMarked};
 use sm_tree::NoMemory;
 use std::alloc::Global;
 
-/// All of so many numbers.
-pub(crate) fn all_marked(alloc: Global, count: u32) -> Result<Vec<bool>, NoMemory>
+/// All of so many numbers, as marks. `NoMemory` where they find no room.
+pub fn all_marked(alloc: Global, count: u32) -> Result<Vec<bool>, NoMemory>
     ensures { IfOk result (λ marks. AreMarks count (λ k. Unit {0}) marks.items) }
 {
     let mut marks = Vec::with_capacity(alloc, count as usize)?;
