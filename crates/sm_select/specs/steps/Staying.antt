@@ -1,6 +1,5 @@
 -- Selectors without a step along a relation: what one picks is where it started, so of some numbers each is asked by itself.
-use Rattle.std.specs.Prelude.{◌≡◌, ◌&&◌, ℕ, Bool, true, false, List, get_or, length}
-use Rattle.sm_model.specs.GraphView.{maps_of}
+use Rattle.std.specs.Prelude.{◌&&◌, ℕ, Bool, true, false, List, get_or, length}
 use Rattle.sm_model.specs.Reaching.{AreMarks, IsMarked, id_of_number}
 use Rattle.sm_model.specs.declared.graph.Graph.{Graph}
 use Rattle.sm_select.specs.Selectors.{Step, any_shape, of_kind, has, compares, forward, back, walk, along, picked_by, picks_none}

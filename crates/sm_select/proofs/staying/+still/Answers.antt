@@ -6,7 +6,7 @@ use Rattle.sm_select.specs.Picks.{Goes, PickedByOne, Picks}
 use Rattle.sm_select.specs.Selectors.{alternatives_of, steps_of}
 use Rattle.sm_select.specs.View.{selector_view, selector_views, selectors_view, step_view, step_views}
 use Rattle.sm_select.specs.steps.Staying.{AreStill, all_stay, each_stays, stays}
-use Rattle.sm_select.proofs.SelectorViews.{step_along, step_back, step_forward, step_is, step_not, step_test, step_walk}
+use Rattle.sm_select.proofs.SelectorViews.{step_is, step_not, step_test}
 use Rattle.sm_select.proofs.SelectorWeight.{alternatives_weight, selector_light, step_light, step_weight, steps_weight}
 use Rattle.sm_select.proofs.StillSteps.{one_all, each_at, one_begun, one_more, stays_at, still_any, still_begun, still_compare, still_ended}
 use Rattle.sm_select.proofs.StillSteps.{still_has, still_is, still_named, still_next, still_not, still_test}
