@@ -9,7 +9,6 @@ pub mod CheckedShapes
 mod CheckedMarks
 mod NodesTold
 mod DefaultsTold
-mod AmongIds
 mod UsedTraits
 mod PlacesTold
 mod FirstTexts

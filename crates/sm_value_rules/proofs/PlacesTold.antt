@@ -12,16 +12,16 @@ use Rattle.sm_tree.specs.Node.{Node}
 use Rattle.sm_model.specs.EventView.{EventTold}
 use Rattle.sm_model.specs.Graphs.{Entry, GraphMaps, shape_entry}
 use Rattle.sm_model.specs.GraphView.{IsShapeNumber, entries_of, maps_of}
-use Rattle.sm_model.specs.Reaching.{AreMarks, id_of_number}
+use Rattle.sm_model.specs.Reaching.{id_of_number}
 use Rattle.sm_model.specs.declared.event.ModelEvent.{ModelEvent}
 use Rattle.sm_model.specs.declared.graph.Graph.{Graph}
 use Rattle.sm_model.proofs.NumberedIds.{number_of}
 use Rattle.sm_model.proofs.Worklist.{apart}
-use Rattle.sm_select.specs.Answers.{ArePicked}
+use Rattle.sm_select.specs.Answers.{ArePickedAmong}
 use Rattle.sm_select.specs.Picks.{IsPicked}
 use Rattle.sm_select.specs.SelectorText.{IsSelectorText, SelectorText}
 use Rattle.sm_select.specs.Selectors.{Steps}
-use Rattle.sm_select.proofs.MarkedNumbers.{marks_same, unset}
+use Rattle.sm_select.proofs.MarkedNumbers.{unset}
 use Rattle.sm_select.proofs.OneAnswer.{one_selector}
 use Rattle.sm_compile.specs.Sound.{trait_in, trait_of}
 use Rattle.sm_compile.specs.TraitIds.{trait_id}
@@ -37,7 +37,7 @@ use Rattle.sm_rules.specs.parts.Putting.{Below, ToldOf}
 use Rattle.sm_rules.proofs.EventsPut.{puts_none, puts_same}
 use Rattle.sm_rules.proofs.HttpSaid.{free}
 use Rattle.sm_rules.proofs.OwnShapes.{own_told, told_own}
-use Rattle.sm_value_rules.specs.parts.Placing.{AreFirsts, AreShapeNumbers, AreOfText, ArePickedAmong, AreUses, AreUsesThere, IsUse}
+use Rattle.sm_value_rules.specs.parts.Placing.{AreFirsts, AreOfText, AreUses, AreUsesThere, IsUse}
 use Rattle.sm_value_rules.specs.parts.Placing.{SharesText, ToldOfUse, ToldOutside, ToldUnmarked, selector_in, selector_under, told_use}
 use Rattle.sm_value_rules.specs.rules.Traits.{IsNotPicked, IsTraitShape, selector_of}
 
@@ -107,7 +107,8 @@ carriers_more us i u ks within is so =
     ap (λ xs. xs ++ u.0 ∷ []) so ∙ sym (map-append (λ (v : ℕ × ℕ). v.0) (take i us) (u ∷ []))
     ∙ ap (map (λ (v : ℕ × ℕ). v.0)) (sym (take_more us i u within ∙ ap (λ y. take i us ++ y ∷ []) (sym is)))
 
-pub carriers_there : (g : Graph) (us : List (ℕ × ℕ)) → AreUsesThere g us → AreShapeNumbers g (map (λ (u : ℕ × ℕ). u.0) us)
+pub carriers_there : (g : Graph) (us : List (ℕ × ℕ)) → AreUsesThere g us → (k : ℕ) → Contains (map (λ (u : ℕ × ℕ). u.0) us) k
+    → IsShapeNumber g k
 carriers_there g us are k among =
     let u = mapped_from (λ (v : ℕ × ℕ). v.0) us k among in
     subst (IsShapeNumber g) u.2 (are u.0 u.1).0
@@ -115,13 +116,6 @@ carriers_there g us are k among =
 pub none_there : (us : List (ℕ × ℕ)) (b : Bool) → b ≡ (length us == 0) → b ≡ true → us ≡ []
 none_there [] b said is = refl
 none_there (u ∷ us) b said is = absurd (let n : length (u ∷ us) ≡ 0 = eqb-true (length (u ∷ us)) 0 (sym said ∙ is) in omega (arith, n))
-
--- marks by ids that are picked
-pub among_picked : (g : Graph) (steps : Steps) (ids : List (List ℕ)) → ArePicked (maps_of g) steps ids → (ks : List ℕ) (marks : List Bool)
-    → AreMarks (length ks) (λ i. Contains ids (id_of_number g (get_or ks i 0))) marks → ArePickedAmong g steps ks marks
-among_picked g steps ids are ks marks h =
-    marks_same (λ i. Contains ids (id_of_number g (get_or ks i 0))) (λ i. IsPicked (maps_of g) steps (id_of_number g (get_or ks i 0)))
-    (length ks) marks (λ i less. are.picked (id_of_number g (get_or ks i 0))) h
 
 module _ (g : Graph) where
   -- where a trait has no selector, nothing is told of its uses

@@ -1,44 +1,42 @@
 // Trait.Place by the shape of the trait: it stands only on what the selector of its shape picks.
-ghost use Rattle.std.specs.Prelude.{◌≡◌, ℕ, IfOk, OnOk, Some, get_or, length, map, not};
-ghost use Rattle.std.specs.List.{Contains, list_any};
-ghost use Rattle.std.specs.List.Sorted.{IsStrictlySortedBy};
-ghost use Rattle.std.specs.Str.{bytes_eq};
-ghost use Rattle.sm_model.specs.Graphs.{text_cmp};
+ghost use Rattle.std.specs.Prelude.{◌≡◌, ℕ, IfOk, OnOk, Some, length, map, not};
 ghost use Rattle.sm_model.specs.GraphView.{IsShapeNumber, maps_of};
-ghost use Rattle.sm_model.specs.Reaching.{AreMarks, id_of_number};
+ghost use Rattle.sm_model.specs.Reaching.{id_of_number};
 ghost use Rattle.sm_select.specs.Selectors.{steps_of};
 ghost use Rattle.sm_select.specs.View.{selector_view};
+ghost use Rattle.sm_select.specs.Ways.{AreWays};
 ghost use Rattle.sm_rules.specs.RuleEvents.{IsEventOf, Puts};
 ghost use Rattle.sm_rules.specs.declared.rule.Rule.TheVariants.{TraitPlace};
 ghost use Rattle.sm_rules.specs.parts.Putting.{Below, IsWhere, ToldOf};
-ghost use Rattle.sm_value_rules.specs.parts.Placing.{AreShapeNumbers, AreOfText, ArePickedAmong, AreSharedUses, AreUsesThere};
+ghost use Rattle.sm_value_rules.specs.parts.Placing.{AreOfText, AreSharedUses, AreUsesThere};
 ghost use Rattle.sm_value_rules.specs.parts.Placing.{ToldOfUse, ToldOutside, ToldUnmarked, selector_under, told_use};
 ghost use Rattle.sm_value_rules.specs.rules.Traits.{IsNotPicked};
 
 use crate::first_texts::{first_texts, selector_at};
 use crate::uses::{TraitUses, uses_of};
 use sm_compile::id_text;
-use sm_ids::ShapeId;
 use sm_model::{Graph, ModelEvent};
 use sm_rules::Rule;
 use sm_rules::putting::put_if;
-use sm_select::{Selector, SelectorRefusal, parse_selector, select};
+use sm_select::{Selector, SelectorRefusal, Ways, parse_selector, select_among};
 use sm_tree::NoMemory;
 use std::alloc::Global;
 
-/// Puts the events of Trait.Place that the shapes of traits tell. The selectors of one text are asked once, for all uses of their
-/// traits: n log n for each text that differs.
+/// Puts the events of Trait.Place that the shapes of traits tell. The selectors of one text are asked once, of what carries their
+/// traits: n log n in all where they follow no relation; else a pass over the graph and its links for each step of each text.
 pub fn put_unpicked(
     alloc: Global,
     graph: &Graph,
+    ways: &Ways,
     events: &mut Vec<ModelEvent>,
 ) -> Result<(), NoMemory>
+    requires { AreWays graph.now ways.now }
     ensures { OnOk result
         (Puts (IsEventOf TraitPlace (IsNotPicked (maps_of graph.now))) events.old.items events.new.items) }
 {
     let firsts = first_texts(alloc, graph)?;
     let rows = uses_of(alloc, graph, firsts.as_slice())?;
-    put_by_texts(alloc, graph, rows.as_slice(), events)?;
+    put_by_texts(alloc, graph, ways, rows.as_slice(), events)?;
     Ok(())
 }
 
@@ -46,10 +44,12 @@ pub fn put_unpicked(
 fn put_by_texts(
     alloc: Global,
     graph: &Graph,
+    ways: &Ways,
     rows: &[TraitUses],
     events: &mut Vec<ModelEvent>,
 ) -> Result<(), NoMemory>
-    requires { AreSharedUses graph.now rows.now }
+    requires ways { AreWays graph.now ways.now }
+    requires rows { AreSharedUses graph.now rows.now }
     ensures { OnOk result
         (Puts (IsEventOf TraitPlace (IsNotPicked (maps_of graph.now))) events.old.items events.new.items) }
 {
@@ -57,6 +57,7 @@ fn put_by_texts(
         put_shared(
             alloc,
             graph,
+            ways,
             number,
             rows[number as usize].as_slice(),
             events,
@@ -69,10 +70,12 @@ fn put_by_texts(
 fn put_shared(
     alloc: Global,
     graph: &Graph,
+    ways: &Ways,
     number: u32,
     uses: &[(u32, u32)],
     events: &mut Vec<ModelEvent>,
 ) -> Result<(), NoMemory>
+    requires ways { AreWays graph.now ways.now }
     requires number { IsShapeNumber graph.now number }
     requires uses { AreOfText graph.now (selector_under (maps_of graph.now) (id_of_number graph.now number)) uses.now }
     ensures { OnOk result (Puts (ToldOf (ToldOfUse graph.now) uses.now) events.old.items events.new.items) }
@@ -81,7 +84,7 @@ fn put_shared(
         return Ok(());
     }
     match selector_at(graph, number) {
-        Some(text) => put_by_text(alloc, graph, text, uses, events),
+        Some(text) => put_by_text(alloc, graph, ways, text, uses, events),
         None => Ok(()),
     }
 }
@@ -90,16 +93,18 @@ fn put_shared(
 fn put_by_text(
     alloc: Global,
     graph: &Graph,
+    ways: &Ways,
     text: &str,
     uses: &[(u32, u32)],
     events: &mut Vec<ModelEvent>,
 ) -> Result<(), NoMemory>
-    requires { AreOfText graph.now (Some text.now) uses.now }
+    requires ways { AreWays graph.now ways.now }
+    requires uses { AreOfText graph.now (Some text.now) uses.now }
     ensures { OnOk result (Puts (ToldOf (ToldOfUse graph.now) uses.now) events.old.items events.new.items) }
 {
     match parse_selector(alloc, text) {
         Ok(selector) => {
-            put_by_selector(alloc, graph, &selector, uses, events)?;
+            put_by_selector(alloc, graph, ways, &selector, uses, events)?;
             Ok(())
         }
         Err(refusal) => match refusal {
@@ -114,16 +119,18 @@ fn put_by_text(
 fn put_by_selector(
     alloc: Global,
     graph: &Graph,
+    ways: &Ways,
     selector: &Selector,
     uses: &[(u32, u32)],
     events: &mut Vec<ModelEvent>,
 ) -> Result<(), NoMemory>
-    requires { AreUsesThere graph.now uses.now }
+    requires ways { AreWays graph.now ways.now }
+    requires uses { AreUsesThere graph.now uses.now }
     ensures { OnOk result
         (Puts (ToldOf (ToldOutside graph.now (steps_of (selector_view selector.now))) uses.now) events.old.items events.new.items) }
 {
     let carriers = carriers_of(alloc, uses)?;
-    let picked = picked_among(alloc, graph, selector, carriers.as_slice())?;
+    let picked = select_among(alloc, graph, ways, selector, carriers.as_slice())?;
     put_unmarked(alloc, graph, uses, picked.as_slice(), events)?;
     Ok(())
 }
@@ -180,49 +187,4 @@ fn put_unless(
         events,
     )?;
     Ok(())
-}
-
-// For each of these numbers whether the selector picks what stands there, as marks by their places.
-fn picked_among(
-    alloc: Global,
-    graph: &Graph,
-    selector: &Selector,
-    numbers: &[u32],
-) -> Result<Vec<bool>, NoMemory>
-    requires { AreShapeNumbers graph.now numbers.now }
-    ensures { IfOk result
-        (λ marks. ArePickedAmong graph.now (steps_of (selector_view selector.now)) numbers.now marks.items) }
-{
-    let picked = select(alloc, graph, selector)?;
-    marks_among(alloc, graph, picked.as_slice(), numbers)
-}
-
-// Whether the ids at these numbers are among some that are in order.
-fn marks_among(
-    alloc: Global,
-    graph: &Graph,
-    ids: &[ShapeId],
-    numbers: &[u32],
-) -> Result<Vec<bool>, NoMemory>
-    requires sorted { IsStrictlySortedBy text_cmp ids.now }
-    requires numbers { AreShapeNumbers graph.now numbers.now }
-    ensures { IfOk result (λ marks. AreMarks (length numbers.now)
-        (λ i. Contains ids.now (id_of_number graph.now (get_or numbers.now i 0))) marks.items) }
-{
-    let mut marks = Vec::with_capacity(alloc, numbers.len())?;
-    for number in numbers {
-        marks.push(is_among(ids, id_text(graph, *number)))?;
-    }
-    Ok(marks)
-}
-
-// Whether an id is one of these, which are in order.
-fn is_among(ids: &[ShapeId], id: &str) -> bool
-    requires { IsStrictlySortedBy text_cmp ids.now }
-    ensures { result ≡ list_any (bytes_eq id.now) ids.now }
-{
-    match ids.binary_search_by(|one| one.as_str().cmp(id)) {
-        Ok(_) => true,
-        Err(_) => false,
-    }
 }

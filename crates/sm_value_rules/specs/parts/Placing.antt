@@ -6,7 +6,7 @@ use Rattle.sm_tree.specs.declared.tree.Tree.{Tree}
 use Rattle.sm_model.specs.EventView.{EventTold}
 use Rattle.sm_model.specs.Graphs.{GraphMaps}
 use Rattle.sm_model.specs.GraphView.{IsShapeNumber, entries_of, maps_of}
-use Rattle.sm_model.specs.Reaching.{AreMarks, IsMarked, id_of_number}
+use Rattle.sm_model.specs.Reaching.{IsMarked, id_of_number}
 use Rattle.sm_model.specs.declared.graph.Graph.{Graph}
 use Rattle.sm_select.specs.Picks.{IsPicked}
 use Rattle.sm_select.specs.Selectors.{Steps}
@@ -103,14 +103,6 @@ AreUsesThere g us = (u : ℕ × ℕ) → Contains us u → IsUse g u
 
 abbrev pub AreOfText : Graph → Option (List ℕ) → List (ℕ × ℕ) → Type 0
 AreOfText g said us = (u : ℕ × ℕ) → Contains us u → IsUse g u × (selector_under (maps_of g) (id_of_number g u.1) ≡ said)
-
--- numbers of a graph; exactly those places of some are marked at which steps pick what stands there
-abbrev pub AreShapeNumbers : Graph → List ℕ → Type 0
-AreShapeNumbers g ks = (k : ℕ) → Contains ks k → IsShapeNumber g k
-
-abbrev pub ArePickedAmong : Graph → Steps → List ℕ → List Bool → Type 0
-ArePickedAmong g steps ks marks =
-    AreMarks (length ks) (λ i. IsPicked (maps_of g) steps (id_of_number g (get_or ks i 0))) marks
 
 -- what is told of a use: by the rule, by steps, and by marks
 abbrev pub told_use : Graph → ℕ × ℕ → EventTold

@@ -1,15 +1,16 @@
 use Rattle.std.proofs.Common.{ℕ, length, subst, sym, ap, ◌∙◌}
+use Rattle.std.specs.List.{Contains}
 use Rattle.std.proofs.lemmas.List.{length-map}
+use Rattle.sm_select.specs.Answers.{ArePickedAmong}
 use Rattle.sm_select.specs.Selectors.{steps_of}
 use Rattle.sm_select.specs.View.{selector_view}
-use Rattle.sm_value_rules.specs.parts.Placing.{AreShapeNumbers, ArePickedAmong}
 use Rattle.sm_value_rules.proofs.PlacesTold.{carriers_there, unmarked_put}
 use Rattle.sm_value_rules.proofs.places.put_by_selector.Goals as goal
 
-pub picked_among-requires : goal.picked_among-requires
-picked_among-requires c =
-    subst (AreShapeNumbers c.args.graph.now) (sym (c.as_slice.ensures.value ∙ c.in_ok-carriers.ensures))
-    (carriers_there c.args.graph.now c.args.uses.now c.requires)
+pub select_among-requires-clause-numbers : goal.select_among-requires-clause-numbers
+select_among-requires-clause-numbers c k among =
+    carriers_there c.args.graph.now c.args.uses.now c.requires.uses k
+    (subst (λ ks. Contains ks k) (c.as_slice.ensures.value ∙ c.in_ok-carriers.ensures) among)
 
 pub put_unmarked-requires-clause-count : goal.put_unmarked-requires-clause-count
 put_unmarked-requires-clause-count c =

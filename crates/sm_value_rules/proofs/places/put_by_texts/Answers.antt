@@ -19,7 +19,7 @@ pub put_shared-requires-clause-uses : goal.put_shared-requires-clause-uses
 put_shared-requires-clause-uses c =
     let g = c.args.graph.now in
     let k = c.loop-number.number in
-    let h = c.requires in
+    let h = c.requires.rows in
     let within : k < length c.args.rows.now = omega (arith, c.loop-number-test.true, c.count-number-end.ensures, h.2.whole) in
     subst (AreOfText g (selector_under (maps_of g) (id_of_number g k)))
     (sym (c.as_slice.ensures ∙ c.index-rows-number.is ∙ get_or_default c.args.rows.now k _ [] within))
@@ -29,7 +29,7 @@ pub loop-number-preserved : goal.loop-number-preserved
 loop-number-preserved c =
     let g = c.args.graph.now in
     let at = c.loop-number in
-    let h = c.requires in
+    let h = c.requires.rows in
     let within : at.number < length c.args.rows.now = omega (arith, c.loop-number-test.true, c.count-number-end.ensures, h.2.whole) in
     let row : c.as_slice.result.now ≡ get_or c.args.rows.now at.number [] =
     c.as_slice.ensures ∙ c.index-rows-number.is ∙ get_or_default c.args.rows.now at.number _ [] within in
@@ -44,7 +44,7 @@ pub returns : goal.returns
 returns c =
     let g = c.args.graph.now in
     let at = c.loop-number in
-    let h = c.requires in
+    let h = c.requires.rows in
     let all : at.number ≡ length (entries_of g) =
     omega (arith, c.loop-number-test.false, c.count-number-end.ensures, at.invariant.within) in
     rows_put g h.0 c.args.rows.now h.1 h.2 c.args.events.now.items at.events.items

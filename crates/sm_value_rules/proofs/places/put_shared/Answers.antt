@@ -12,8 +12,8 @@ returns-then-is_empty c =
     subst (λ us. Puts (ToldOf Told us) c.args.events.now.items c.args.events.now.items)
     (sym (none_there c.args.uses.now c.is_empty.result c.is_empty.ensures c.if-is_empty.true)) (none_of Told c.args.events.now.items)
 
-pub put_by_text-requires : goal.put_by_text-requires
-put_by_text-requires c = subst (λ said. AreOfText c.args.graph.now said c.args.uses.now) (sym c.in-Some.ensures) c.requires.uses
+pub put_by_text-requires-clause-uses : goal.put_by_text-requires-clause-uses
+put_by_text-requires-clause-uses c = subst (λ said. AreOfText c.args.graph.now said c.args.uses.now) (sym c.in-Some.ensures) c.requires.uses
 
 pub returns-in-None : goal.returns-in-None
 returns-in-None c =

@@ -5,7 +5,7 @@ use Rattle.sm_value_rules.proofs.places.put_unpicked.Goals as goal
 pub uses_of-requires : goal.uses_of-requires
 uses_of-requires c = subst (AreFirsts c.args.graph.now) (sym c.as_slice.ensures.value) c.in_ok-firsts.ensures
 
-pub put_by_texts-requires : goal.put_by_texts-requires
-put_by_texts-requires c =
+pub put_by_texts-requires-clause-rows : goal.put_by_texts-requires-clause-rows
+put_by_texts-requires-clause-rows c =
     subst (AreSharedUses c.args.graph.now) (sym c.as_slice-2.ensures.value)
     (c.as_slice.result.now, subst (AreFirsts c.args.graph.now) (sym c.as_slice.ensures.value) c.in_ok-firsts.ensures, c.in_ok-rows.ensures)
