@@ -9,12 +9,10 @@ use Rattle.sm_ids.proofs.Spellings.{one_id}
 use Rattle.sm_tree.specs.Node.{Node, text}
 use Rattle.sm_model.specs.Graphs.{Entry, shape_entry, member_entry, GraphMaps, traits_in}
 use Rattle.sm_model.specs.GraphView.{At, HasKind, is_member_entry, IsShapeEntry, maps_of}
-use Rattle.sm_model.specs.Relations.{HasEntry}
 use Rattle.sm_model.specs.declared.graph.Graph.{Graph}
 use Rattle.sm_model.specs.declared.kind.Kind.{Kind}
-use Rattle.sm_model.proofs.GraphFacts.{entry_under, id_at}
 use Rattle.sm_model.proofs.LinkNumbers.{at_opened, at_from}
-use Rattle.sm_model.proofs.NumberedIds.{entry_here, of_entry, one_entry}
+use Rattle.sm_model.proofs.NumberedIds.{entry_here, of_entry}
 use Rattle.sm_model.specs.Reaching.{id_of_number}
 use Rattle.sm_model.proofs.Worklist.{apart}
 use Rattle.sm_select.specs.Picks.{Compares, HasValue, IsNamed, IsTaken, StandsToOne, folded, value_within}

@@ -42,6 +42,7 @@ mod OtherForms
 mod StackPlaces
 mod StepImages
 mod SelectorLists
+mod StillSteps
 mod SignBoundaries
 pub mod SomePicked
 pub mod SomeAnswer

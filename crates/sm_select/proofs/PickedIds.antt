@@ -19,7 +19,7 @@ use Rattle.sm_model.proofs.NumberedIds.{number_of}
 use Rattle.sm_model.proofs.Worklist.{apart}
 use Rattle.sm_select.specs.Answers.{ArePicked}
 use Rattle.sm_select.specs.Images.{AreImage}
-use Rattle.sm_select.specs.Picks.{Picks}
+use Rattle.sm_select.specs.Picks.{IsPicked, Picks}
 use Rattle.sm_select.specs.Selectors.{Steps}
 use Rattle.sm_select.specs.steps.Imaging.{marked_ids}
 use Rattle.sm_select.proofs.ImageNumbers.{in_graph}
@@ -92,29 +92,44 @@ at_marked (false ∷ ms) (y ∷ xs) zero h lt = absurd (apart h)
 at_marked (false ∷ ms) (y ∷ xs) (suc k) h lt = at_marked ms xs k h (omega (arith, lt))
 
 -- what is marked where steps lead from all starts is picked
-pub are_picked : (g : Graph) (steps : Steps) (starts marks : List Bool)
+pub marks_picked : (g : Graph) (steps : Steps) (starts marks : List Bool)
     → AreMarks (length (entries_of g)) (λ k. is_prelude_id (id_of_number g k) ≡ false) starts
-    → AreImage g starts (Picks (maps_of g) steps) marks → ArePicked (maps_of g) steps (marked_ids marks (ids g))
-are_picked g steps starts marks begun are = record {
+    → AreImage g starts (Picks (maps_of g) steps) marks
+    → AreMarks (length (entries_of g)) (λ k. IsPicked (maps_of g) steps (id_of_number g k)) marks
+marks_picked g steps starts marks begun are = record {
+  whole = are.whole;
+  marked = λ b. (
+    λ h.
+        let i = (are.marked b).0 h in
+        let s = (begun.marked i.1.0).0 i.1.1 in
+        (i.0, (id_of_number g i.1.0, (in_graph g i.1.0 s.0, s.1), i.1.2)),
+    λ h.
+        let p = h.1 in
+        let a = number_of g p.0 p.1.0 in
+        (are.marked b).1 (
+          h.0,
+          (
+            a.0,
+            (begun.marked a.0).1 (a.1, subst (λ i. is_prelude_id i ≡ false) (sym a.2) p.1.1),
+            subst (λ i. Picks (maps_of g) steps i (id_of_number g b)) (sym a.2) p.2,
+          ),
+        ),
+  );
+}
+
+-- so the ids of what is marked are those that are picked
+pub are_picked : (g : Graph) (steps : Steps) (marks : List Bool)
+    → AreMarks (length (entries_of g)) (λ k. IsPicked (maps_of g) steps (id_of_number g k)) marks
+    → ArePicked (maps_of g) steps (marked_ids marks (ids g))
+are_picked g steps marks are = record {
   in_order = kept_sorted marks (ids g) (ids_sorted g);
   picked = λ id. (
     λ h.
         let k = marked_at marks (ids g) id h in
-        let i = (are.marked k.0).0 k.1 in
-        let s = (begun.marked i.1.0).0 i.1.1 in
-        (id_of_number g i.1.0, (in_graph g i.1.0 s.0, s.1), subst (Picks (maps_of g) steps (id_of_number g i.1.0)) k.3 i.1.2),
+        subst (IsPicked (maps_of g) steps) k.3 ((are.marked k.0).0 k.1).1,
     λ h.
-        let a = number_of g h.0 h.1.0 in
         let b = number_of g id (picks_in (maps_of g) steps h.0 id h.1.0 h.2) in
-        let marked = (are.marked b.0).1 (
-          b.1,
-          (
-            a.0,
-            (begun.marked a.0).1 (a.1, subst (λ i. is_prelude_id i ≡ false) (sym a.2) h.1.1),
-            subst (λ i. Picks (maps_of g) steps (id_of_number g a.0) i) (sym b.2)
-                (subst (λ i. Picks (maps_of g) steps i id) (sym a.2) h.2),
-          ),
-        ) in
+        let marked = (are.marked b.0).1 (b.1, subst (IsPicked (maps_of g) steps) (sym b.2) h) in
         subst (Contains (marked_ids marks (ids g))) b.2
         (at_marked marks (ids g) b.0 marked (subst (λ n. b.0 < n) (sym (ids_long g)) b.1)),
   );

@@ -16,7 +16,7 @@ use Rattle.sm_select.specs.steps.Imaging.{IsInImage, LeadsOn}
 use Rattle.sm_select.proofs.PickedImages.{any_ended, any_more, back_more, on_ended, on_more, same_on}
 
 -- what stands at a place, and what behind it
-rest_at : {X : Type 0} (xs : List X) (i : ℕ) (x : X) → i < length xs → x ≡ get_or xs i x → drop i xs ≡ x ∷ drop (i + 1) xs
+pub rest_at : {X : Type 0} (xs : List X) (i : ℕ) (x : X) → i < length xs → x ≡ get_or xs i x → drop i xs ≡ x ∷ drop (i + 1) xs
 rest_at xs i x lt is = drop_more xs i x lt ∙ ap (λ y. y ∷ drop (i + 1) xs) (sym is)
 
 module _ (g : Graph) where

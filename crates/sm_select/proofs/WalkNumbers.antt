@@ -1,24 +1,11 @@
 -- Walks between shapes are those between their numbers.
-use Rattle.std.proofs.Common.{◌≡◌, ℕ, ◌<◌, suc, Bool, true, false, List, [], ◌∷◌, ◌++◌, length, Some, refl, sym, ap, ◌∙◌, subst}
-use Rattle.std.specs.Prelude.{◌&&◌, cond, slice_get}
-use Rattle.std.specs.FinMap.{get-from_sorted, slice_cmp-IsAntisymmetric, nat_cmp-IsAntisymmetric}
-use Rattle.std.specs.FinMap.Entries.{find, is_sorted}
-use Rattle.std.specs.Bool.{passes}
-use Rattle.std.specs.Ordering.{is_eq}
-use Rattle.std.specs.declared.cmp.Ordering.{Ordering}
-use Rattle.std.specs.declared.cmp.Ordering.TheVariants.{Less, Equal, Greater}
-use Rattle.std.proofs.lemmas.Option.{none-some, same_Some}
-use Rattle.sm_model.specs.Graphs.{text_cmp, Entry, GraphMaps}
+use Rattle.std.proofs.Common.{◌≡◌, ℕ, ◌<◌, Bool, true, false, List, [], ◌∷◌, ◌++◌, length, refl, sym, ◌∙◌, subst}
+use Rattle.sm_model.specs.Graphs.{GraphMaps}
 use Rattle.sm_model.specs.GraphView.{IsShapeNumber, entries_of, maps_of}
 use Rattle.sm_model.specs.Links.{AreLinks, IsLinked}
 use Rattle.sm_model.specs.Relations.{IsInGraph, IsNeighbor, IsRelated, Reaches, WalksBy}
 use Rattle.sm_model.specs.declared.graph.Graph.{Graph}
 use Rattle.sm_model.specs.declared.link.Link.{Link}
-use Rattle.sm_model.specs.declared.relation.Relation.{Relation}
-use Rattle.sm_model.specs.declared.relation.Relation.TheVariants.{Member, Container, Target, Input, Output, Error, Operation, Resource}
-use Rattle.sm_model.specs.declared.relation.Relation.TheVariants.{Identifier, Property}
-use Rattle.sm_model.proofs.GraphFacts.{id_at}
-use Rattle.sm_model.proofs.LinkNumbers.{within}
 use Rattle.sm_model.specs.Reaching.{id_of_number}
 use Rattle.sm_model.proofs.NumberedIds.{number_of, related_in}
 use Rattle.sm_model.proofs.Worklist.{marked_within}

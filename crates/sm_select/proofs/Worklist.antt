@@ -1,7 +1,6 @@
 -- Steps from the starts of a walk, one start after the other, and one step or more as a step from a start and further ones.
-use Rattle.std.proofs.Common.{◌≡◌, ◌≢◌, ◌⊎◌, inl, inr, ℕ, ◌+◌, ◌<◌, Bool, true, false, List, [], ◌∷◌, ◌++◌, length, refl, sym, subst, arith}
+use Rattle.std.proofs.Common.{◌≢◌, ◌⊎◌, inl, inr, ℕ, ◌+◌, ◌<◌, Bool, false, List, [], ◌∷◌, ◌++◌, length, refl, subst, arith}
 use Rattle.std.specs.Prelude.{◌↔◌, replicate}
-use Rattle.std.specs.List.{Contains}
 use Rattle.std.proofs.lemmas.Bool.{cases_lt, cases_eq}
 use Rattle.sm_model.specs.Reaching.{AreLedTo, Finds, IsMarked, LeadsOn}
 use Rattle.sm_model.proofs.Worklist.{marked_within}

@@ -1,8 +1,11 @@
--- What `parse_selector` and `select` answer.
-use Rattle.std.specs.Prelude.{◌↔◌, ℕ, List, Result, Ok, Err}
+-- What `parse_selector`, `select` and `select_among` answer.
+use Rattle.std.specs.Prelude.{◌↔◌, ℕ, Bool, List, Result, Ok, Err, get_or, length}
 use Rattle.std.specs.List.{Contains}
 use Rattle.std.specs.List.Sorted.{IsStrictlySortedBy}
 use Rattle.sm_model.specs.Graphs.{GraphMaps, text_cmp}
+use Rattle.sm_model.specs.GraphView.{maps_of}
+use Rattle.sm_model.specs.Reaching.{AreMarks, id_of_number}
+use Rattle.sm_model.specs.declared.graph.Graph.{Graph}
 use Rattle.sm_select.specs.Selectors.{Steps, steps_of}
 use Rattle.sm_select.specs.Picks.{IsPicked}
 use Rattle.sm_select.specs.SelectorText.{SelectorText, BreaksBy, LeavesProfile}
@@ -21,3 +24,8 @@ ParsesSelector text (Err NoMemory) = Unit {0}
 pub record ArePicked (g : GraphMaps) (steps : Steps) (ids : List (List ℕ)) : Type 0 where
   pub in_order : IsStrictlySortedBy text_cmp ids
   pub picked : (id : List ℕ) → Contains ids id ↔ IsPicked g steps id
+
+-- of some numbers exactly those places are marked at which something is picked
+abbrev pub ArePickedAmong : Graph → Steps → List ℕ → List Bool → Type 0
+ArePickedAmong g steps numbers marks =
+    AreMarks (length numbers) (λ i. IsPicked (maps_of g) steps (id_of_number g (get_or numbers i 0))) marks

@@ -6,5 +6,6 @@ pub mod Standing
 pub mod Reader
 pub mod Imaging
 pub mod Filtering
+pub mod Staying
 pub mod Taking
 pub mod Stack

@@ -1,11 +1,13 @@
 // Filters: whether a step keeps a shape or member.
-ghost use Rattle.std.specs.Prelude.{◌≡◌, ◌↔◌, ℕ, IfOk, IsTrue, List, Some, length, map};
+ghost use Rattle.std.specs.Prelude.{◌≡◌, ◌↔◌, ℕ, IfOk, IsTrue, List, Some, length, map, true};
+ghost use Rattle.std.specs.List.{Contains};
 ghost use Rattle.sm_model.specs.Graphs.{GraphMaps};
 ghost use Rattle.sm_model.specs.GraphView.{IsShapeNumber, entries_of, maps_of};
-ghost use Rattle.sm_model.specs.Reaching.{id_of_number, IsMarked};
+ghost use Rattle.sm_model.specs.Reaching.{id_of_number};
 ghost use Rattle.sm_select.specs.Picks.{Compares, IsTaken, folded};
 ghost use Rattle.sm_select.specs.View.{path_view};
 ghost use Rattle.sm_select.specs.steps.Filtering.{AreKept, HasSomeValue, IsNamedAt};
+ghost use Rattle.sm_select.specs.steps.Staying.{AreKeptAmong};
 
 use crate::compare::{folded_values, shows};
 use crate::selector::{Compare, SelectorOp, SelectorPath};
@@ -36,26 +38,46 @@ pub(crate) fn kept<F: Filter>(
 {
     let mut marks = Vec::with_capacity(alloc, starts.len())?;
     for number in 0..graph.count() {
-        let keeps = keeps_start(alloc, graph, filter, starts, number)?;
+        let keeps = keeps_start(alloc, graph, filter, starts[number as usize], number)?;
         marks.push(keeps)?;
     }
     Ok(marks)
 }
 
-// Whether a number is marked, and the filter keeps it.
+/// The marked places of some numbers at which the filter keeps what stands there, as marks.
+pub(crate) fn kept_among<F: Filter>(
+    alloc: Global,
+    graph: &Graph,
+    filter: &F,
+    numbers: &[u32],
+    starts: &[bool],
+) -> Result<Vec<bool>, NoMemory>
+    requires numbers { (k : ℕ) → Contains numbers.now k → IsShapeNumber graph.now k }
+    requires count { length starts.now ≡ length numbers.now }
+    ensures { IfOk result
+        (λ marks. AreKeptAmong graph.now numbers.now starts.now (F.keeps filter.now (maps_of graph.now)) marks.items) }
+{
+    let mut marks = Vec::with_capacity(alloc, numbers.len())?;
+    for place in 0..numbers.len() {
+        let keeps = keeps_start(alloc, graph, filter, starts[place], numbers[place])?;
+        marks.push(keeps)?;
+    }
+    Ok(marks)
+}
+
+// Whether a number is a start, and the filter keeps it.
 fn keeps_start<F: Filter>(
     alloc: Global,
     graph: &Graph,
     filter: &F,
-    starts: &[bool],
+    start: bool,
     number: u32,
 ) -> Result<bool, NoMemory>
-    requires count { length starts.now ≡ length (entries_of graph.now) }
-    requires number { IsShapeNumber graph.now number }
+    requires { IsShapeNumber graph.now number }
     ensures { IfOk result (λ kept. IsTrue kept
-        ↔ (IsMarked starts.now number × F.keeps filter.now (maps_of graph.now) (id_of_number graph.now number))) }
+        ↔ ((start ≡ true) × F.keeps filter.now (maps_of graph.now) (id_of_number graph.now number))) }
 {
-    if starts[number as usize] {
+    if start {
         filter.keeps(alloc, graph, number)
     } else {
         Ok(false)

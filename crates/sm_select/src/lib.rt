@@ -2,6 +2,7 @@
 // asked of a graph.
 #![tactic(auto)]
 
+mod among;
 mod compare;
 mod filters;
 mod follow;
@@ -22,17 +23,18 @@ mod reach;
 mod refusal;
 mod selecting;
 mod selector;
+mod staying;
 mod tokens;
 mod values;
-mod walk;
 mod ways;
 
+pub use among::select_among;
 pub use follow::followed;
+pub use marks::all_marked;
 pub use neighbors::{Neighbors, Row};
 pub use parser::parse_selector;
 pub use reach::reached;
 pub use refusal::SelectorRefusal;
 pub use selecting::select;
 pub use selector::{Relations, Selector, SelectorOp, SelectorPath, SelectorStep, Selectors, Texts};
-pub use walk::walked;
 pub use ways::{Ways, image_along, image_of_walk};

@@ -5,8 +5,8 @@ ghost use Rattle.sm_model.specs.Reaching.{AreMarks, IsMarked};
 use sm_tree::NoMemory;
 use std::alloc::Global;
 
-/// All of so many numbers.
-pub(crate) fn all_marked(alloc: Global, count: u32) -> Result<Vec<bool>, NoMemory>
+/// All of so many numbers, as marks. `NoMemory` where they find no room.
+pub fn all_marked(alloc: Global, count: u32) -> Result<Vec<bool>, NoMemory>
     ensures { IfOk result (λ marks. AreMarks count (λ k. Unit {0}) marks.items) }
 {
     let mut marks = Vec::with_capacity(alloc, count as usize)?;
@@ -36,13 +36,13 @@ pub(crate) fn kept_where(
 {
     let mut kept = Vec::with_capacity(alloc, starts.len())?;
     for number in 0..starts.len() {
-        kept.push(stays(starts, marks, marked, number))?;
+        kept.push(is_marked_so(starts, marks, marked, number))?;
     }
     Ok(kept)
 }
 
 // Whether a start is marked so.
-fn stays(starts: &[bool], marks: &[bool], marked: bool, number: usize) -> bool
+fn is_marked_so(starts: &[bool], marks: &[bool], marked: bool, number: usize) -> bool
     requires start { number < length starts.now }
     requires mark { number < length marks.now }
     ensures { IsTrue result ↔ (IsMarked starts.now number × (get_or marks.now number false ≡ marked)) }

@@ -4,8 +4,10 @@ ghost use Rattle.sm_model.specs.GraphView.{IsShapeNumber, entries_of, ids, maps_
 ghost use Rattle.sm_model.specs.PreludeShapes.{is_prelude_id};
 ghost use Rattle.sm_model.specs.Reaching.{AreMarks, id_of_number};
 ghost use Rattle.sm_select.specs.Answers.{ArePicked};
+ghost use Rattle.sm_select.specs.Picks.{IsPicked};
 ghost use Rattle.sm_select.specs.Selectors.{steps_of};
 ghost use Rattle.sm_select.specs.View.{selector_view};
+ghost use Rattle.sm_select.specs.Ways.{AreWays};
 ghost use Rattle.sm_select.specs.steps.Imaging.{marked_ids};
 
 use crate::images::image_of;
@@ -23,9 +25,23 @@ pub fn select(alloc: Global, graph: &Graph, selector: &Selector) -> Result<Vec<S
     ensures { IfOk result (λ ids. ArePicked (maps_of graph.now) (steps_of (selector_view selector.now)) ids.items) }
 {
     let ways = Ways::new(alloc, graph)?;
-    let starts = starts_of(alloc, graph)?;
-    let picked = image_of(alloc, graph, &ways, selector.as_slice(), &starts)?;
+    let picked = picked_marks(alloc, graph, &ways, selector)?;
     ids_of_marked(alloc, graph, &picked)
+}
+
+/// The numbers of what a selector picks from some start, as marks.
+pub(crate) fn picked_marks(
+    alloc: Global,
+    graph: &Graph,
+    ways: &Ways,
+    selector: &Selector,
+) -> Result<Vec<bool>, NoMemory>
+    requires { AreWays graph.now ways.now }
+    ensures { IfOk result (λ marks. AreMarks (length (entries_of graph.now))
+        (λ k. IsPicked (maps_of graph.now) (steps_of (selector_view selector.now)) (id_of_number graph.now k)) marks.items) }
+{
+    let starts = starts_of(alloc, graph)?;
+    image_of(alloc, graph, ways, selector.as_slice(), &starts)
 }
 
 // The numbers of shapes and members outside of the prelude.
@@ -40,7 +56,8 @@ fn starts_of(alloc: Global, graph: &Graph) -> Result<Vec<bool>, NoMemory>
     Ok(marks)
 }
 
-fn is_start(graph: &Graph, number: u32) -> bool
+/// Whether what stands at a number is outside of the prelude.
+pub(crate) fn is_start(graph: &Graph, number: u32) -> bool
     requires { IsShapeNumber graph.now number }
     ensures { result ≡ not (is_prelude_id (id_of_number graph.now number)) }
 {

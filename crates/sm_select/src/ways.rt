@@ -102,8 +102,8 @@ pub fn image_of_walk(
     }
 }
 
-/// The same, where these are the steps.
-pub(crate) fn image_by_steps(
+// The same, where these are the steps.
+fn image_by_steps(
     alloc: Global,
     graph: &Graph,
     neighbors: &Neighbors,
@@ -117,8 +117,8 @@ pub(crate) fn image_by_steps(
     reached(alloc, neighbors, starts)
 }
 
-/// The steps of a graph whose links these are.
-pub(crate) fn steps_of_links(
+// The steps of a graph whose links these are.
+fn steps_of_links(
     alloc: Global,
     graph: &Graph,
     links: &[Link],

@@ -13,4 +13,4 @@ loop-number-preserved c =
     let at = c.loop-number in
     let Holds : ℕ → Type 0 = λ k. IsMarked c.args.starts.now k × (get_or c.args.marks.now k false ≡ c.args.marked) in
     subst (AreMarks (at.number + 1) Holds) (sym c.in_ok-push.ensures.items)
-    (marks_more Holds at.number at.kept.items c.stays.result at.invariant c.stays.ensures)
+    (marks_more Holds at.number at.kept.items c.is_marked_so.result at.invariant c.is_marked_so.ensures)
