@@ -1,3 +1,4 @@
+pub mod Apart
 pub mod Bounding
 pub mod Carrying
 pub mod Closures

@@ -4,6 +4,7 @@ ghost use Rattle.std.specs.Fmt.{signed_decimal};
 ghost use Rattle.std.specs.Option.{option_copied};
 ghost use Rattle.sm_model.specs.GraphView.{IsShapeNumber, entries_of, maps_of};
 ghost use Rattle.sm_model.specs.Reaching.{AreMarks, id_of_number};
+ghost use Rattle.sm_select.specs.Ways.{AreWays};
 ghost use Rattle.sm_compile.specs.rules.Http.{HasOutputBody, HasWrongStatusCode, forbids_body, is_from_to, is_status_of};
 ghost use Rattle.sm_rules.specs.RuleEvents.{IsEventAt, IsEventOf, Puts, rule_event};
 ghost use Rattle.sm_rules.specs.declared.rule.Rule.TheVariants.{HttpCode};
@@ -19,6 +20,7 @@ use crate::rule::Rule;
 use itoa::Buffer;
 use sm_compile::{number_of, text_in_trait, trait_node};
 use sm_model::{Graph, ModelEvent};
+use sm_select::Ways;
 use sm_tree::NoMemory;
 use std::alloc::Global;
 
@@ -46,12 +48,18 @@ impl AtEach for Codes<'_> {
     }
 }
 
-/// Puts the events of the rule.
-pub fn put_codes(alloc: Global, graph: &Graph, events: &mut Vec<ModelEvent>) -> Result<(), NoMemory>
+/// Puts the events of the rule, by the ways of the graph.
+pub fn put_codes(
+    alloc: Global,
+    graph: &Graph,
+    ways: &Ways,
+    events: &mut Vec<ModelEvent>,
+) -> Result<(), NoMemory>
+    requires { AreWays graph.now ways.now }
     ensures { OnOk result
         (Puts (IsEventOf HttpCode (HasWrongStatusCode (maps_of graph.now))) events.old.items events.new.items) }
 {
-    let bodied = with_output_body(alloc, graph)?;
+    let bodied = with_output_body(alloc, graph, ways)?;
     put_each(alloc, graph, &Codes { bodied: &bodied }, events)?;
     Ok(())
 }

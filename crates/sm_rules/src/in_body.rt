@@ -3,6 +3,7 @@ ghost use Rattle.std.specs.Prelude.{◌≡◌, IfOk, length, map};
 ghost use Rattle.std.specs.List.{list_any};
 ghost use Rattle.sm_model.specs.GraphView.{AreShapeNumbers, IsShapeNumber, entries_of, maps_of};
 ghost use Rattle.sm_model.specs.Reaching.{AreMarks, id_of_number};
+ghost use Rattle.sm_select.specs.Ways.{AreWays};
 ghost use Rattle.sm_compile.specs.rules.Http.{HasOutputBody};
 ghost use Rattle.sm_rules.specs.parts.InBody.{has_body_member, is_body_member, is_unbound};
 
@@ -27,13 +28,13 @@ impl NumberTest for WithBody {
 }
 
 /// The operations whose output has a member in the body, as marks.
-pub fn with_output_body(alloc: Global, graph: &Graph) -> Result<Vec<bool>, NoMemory>
+pub fn with_output_body(alloc: Global, graph: &Graph, ways: &Ways) -> Result<Vec<bool>, NoMemory>
+    requires { AreWays graph.now ways.now }
     ensures { IfOk result (λ marks. AreMarks (length (entries_of graph.now))
         (λ k. HasOutputBody (maps_of graph.now) (id_of_number graph.now k)) marks.items) }
 {
     let bodied = marked_where(alloc, graph, &WithBody)?;
-    let ways = Ways::new(alloc, graph)?;
-    let marks = image_along(alloc, graph, &ways, &[Relation::Output], true, &bodied)?;
+    let marks = image_along(alloc, graph, ways, &[Relation::Output], true, &bodied)?;
     Ok(marks)
 }
 

@@ -3,6 +3,7 @@ ghost use Rattle.std.specs.Prelude.{◌≡◌, Bool, OnOk, length, true};
 ghost use Rattle.std.specs.List.{list_any};
 ghost use Rattle.sm_model.specs.GraphView.{IsShapeNumber, entries_of, maps_of};
 ghost use Rattle.sm_model.specs.Reaching.{AreMarks, id_of_number};
+ghost use Rattle.sm_select.specs.Ways.{AreWays};
 ghost use Rattle.sm_rules.specs.RuleEvents.{IsEventAt, IsEventOf, Puts};
 ghost use Rattle.sm_rules.specs.declared.rule.Rule.TheVariants.{ShapeUnused};
 ghost use Rattle.sm_rules.specs.rules.Ids.{IsUnused};
@@ -17,7 +18,7 @@ use crate::putting::put_if;
 use crate::rule::Rule;
 use sm_compile::kind_of;
 use sm_model::{Graph, ModelEvent};
-use sm_select::walked;
+use sm_select::{Ways, image_of_walk};
 use sm_tree::NoMemory;
 use std::alloc::Global;
 
@@ -33,17 +34,19 @@ impl NumberTest for Services {
     }
 }
 
-/// Puts the events of the rule. n log n.
+/// Puts the events of the rule, by the ways of the graph. Each link is looked at once.
 pub fn put_unused(
     alloc: Global,
     graph: &Graph,
+    ways: &Ways,
     events: &mut Vec<ModelEvent>,
 ) -> Result<(), NoMemory>
+    requires { AreWays graph.now ways.now }
     ensures { OnOk result
         (Puts (IsEventOf ShapeUnused (IsUnused (maps_of graph.now))) events.old.items events.new.items) }
 {
     let services = marked_where(alloc, graph, &Services)?;
-    put_unused_where(alloc, graph, services.as_slice(), events)?;
+    put_unused_where(alloc, graph, ways, services.as_slice(), events)?;
     Ok(())
 }
 
@@ -51,16 +54,18 @@ pub fn put_unused(
 fn put_unused_where(
     alloc: Global,
     graph: &Graph,
+    ways: &Ways,
     services: &[bool],
     events: &mut Vec<ModelEvent>,
 ) -> Result<(), NoMemory>
-    requires { AreMarks (length (entries_of graph.now))
+    requires ways { AreWays graph.now ways.now }
+    requires services { AreMarks (length (entries_of graph.now))
         (λ k. is_own_service (maps_of graph.now) (id_of_number graph.now k) ≡ true) services.now }
     ensures { OnOk result
         (Puts (IsEventOf ShapeUnused (IsUnused (maps_of graph.now))) events.old.items events.new.items) }
 {
     if some_marked(services) {
-        put_unused_by(alloc, graph, services, events)?;
+        put_unused_by(alloc, graph, ways, services, events)?;
         Ok(())
     } else {
         Ok(())
@@ -71,16 +76,18 @@ fn put_unused_where(
 fn put_unused_by(
     alloc: Global,
     graph: &Graph,
+    ways: &Ways,
     services: &[bool],
     events: &mut Vec<ModelEvent>,
 ) -> Result<(), NoMemory>
+    requires ways { AreWays graph.now ways.now }
     requires services { AreMarks (length (entries_of graph.now))
         (λ k. is_own_service (maps_of graph.now) (id_of_number graph.now k) ≡ true) services.now }
     requires some { list_any (λ (b : Bool). b) services.now ≡ true }
     ensures { OnOk result
         (Puts (IsEventOf ShapeUnused (IsUnused (maps_of graph.now))) events.old.items events.new.items) }
 {
-    let used = walked(alloc, graph, services)?;
+    let used = image_of_walk(alloc, graph, ways, false, services)?;
     put_each(
         alloc,
         graph,

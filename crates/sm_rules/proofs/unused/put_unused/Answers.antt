@@ -4,8 +4,8 @@ use Rattle.sm_model.specs.Reaching.{AreMarks, id_of_number}
 use Rattle.sm_rules.specs.parts.Using.{is_own_service}
 use Rattle.sm_rules.proofs.unused.put_unused.Goals as goal
 
-pub put_unused_where-requires : goal.put_unused_where-requires
-put_unused_where-requires c =
+pub put_unused_where-requires-clause-services : goal.put_unused_where-requires-clause-services
+put_unused_where-requires-clause-services c =
     subst (AreMarks (length (entries_of c.args.graph.now))
     (λ k. is_own_service (maps_of c.args.graph.now) (id_of_number c.args.graph.now k) ≡ true)) (sym c.as_slice.ensures.value)
     c.in_ok-services.ensures

@@ -8,8 +8,8 @@ use Rattle.sm_rules.proofs.Numbered.{puts_numbers}
 use Rattle.sm_rules.proofs.UnusedShapes.{used_by}
 use Rattle.sm_rules.proofs.unused.put_unused_by.Goals as goal
 
-pub walked-requires : goal.walked-requires
-walked-requires c = c.requires.services.whole
+pub image_of_walk-requires-clause-count : goal.image_of_walk-requires-clause-count
+image_of_walk-requires-clause-count c = c.requires.services.whole
 
 pub put_each-requires : goal.put_each-requires
 put_each-requires c =

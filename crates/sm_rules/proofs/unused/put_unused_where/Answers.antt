@@ -7,4 +7,5 @@ put_unused_by-requires-clause-some c = sym c.some_marked.ensures ∙ c.if-some_m
 
 pub returns-else-some_marked : goal.returns-else-some_marked
 returns-else-some_marked c =
-    no_service c.args.graph.now c.args.services.now c.requires (sym c.some_marked.ensures ∙ c.if-some_marked.false) c.args.events.now.items
+    no_service c.args.graph.now c.args.services.now c.requires.services (sym c.some_marked.ensures ∙ c.if-some_marked.false)
+    c.args.events.now.items
