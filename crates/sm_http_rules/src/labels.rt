@@ -3,6 +3,7 @@ ghost use Rattle.std.specs.Prelude.{◌≡◌, OnOk, Some};
 ghost use Rattle.sm_model.specs.GraphView.{IsShapeNumber, maps_of};
 ghost use Rattle.sm_model.specs.Links.{IsLinked};
 ghost use Rattle.sm_model.specs.Reaching.{id_of_number};
+ghost use Rattle.sm_select.specs.Ways.{AreWays};
 ghost use Rattle.sm_compile.specs.rules.Http.{HasWrongLabel};
 ghost use Rattle.std.specs.List.{Contains};
 ghost use Rattle.sm_rules.specs.RuleEvents.{IsEventOf, Puts};
@@ -16,20 +17,22 @@ use crate::label_told::put_by_rows;
 use sm_compile::{Segment, UriPattern, UriRefusal};
 use sm_model::{Graph, Link, ModelEvent, Relation};
 use sm_rules::http::uri_of;
+use sm_select::Ways;
 use sm_tree::NoMemory;
 use std::alloc::Global;
 
-/// Puts the events of the rule. n log n.
+/// Puts the events of the rule, by the ways of the graph. n log n.
 pub fn put_labels(
     alloc: Global,
     graph: &Graph,
+    ways: &Ways,
     events: &mut Vec<ModelEvent>,
 ) -> Result<(), NoMemory>
+    requires { AreWays graph.now ways.now }
     ensures { OnOk result
         (Puts (IsEventOf HttpLabels (HasWrongLabel (maps_of graph.now))) events.old.items events.new.items) }
 {
-    let links = graph.links(alloc)?;
-    put_by_links(alloc, graph, links.as_slice(), events)?;
+    put_by_links(alloc, graph, ways.links.as_slice(), events)?;
     Ok(())
 }
 

@@ -24,18 +24,19 @@ use sm_select::Ways;
 use sm_tree::{NoMemory, Text};
 use std::alloc::Global;
 
-/// Puts the events of the rule: one for each pair. n log n for each service, and what the answer takes.
+/// Puts the events of the rule, by the ways of the graph: one for each pair. n log n for each service, and what the answer takes.
 pub fn put_routes(
     alloc: Global,
     graph: &Graph,
+    ways: &Ways,
     events: &mut Vec<ModelEvent>,
 ) -> Result<(), NoMemory>
+    requires { AreWays graph.now ways.now }
     ensures { OnOk result
         (Puts (IsEventOf HttpRoutes (HasSameRoute (maps_of graph.now))) events.old.items events.new.items) }
 {
-    let ways = Ways::new(alloc, graph)?;
     let keys = route_keys(alloc, graph)?;
-    put_by_keys(alloc, graph, &ways, keys.as_slice(), events)?;
+    put_by_keys(alloc, graph, ways, keys.as_slice(), events)?;
     Ok(())
 }
 
