@@ -1,12 +1,10 @@
 -- Marks of faulty shapes, the links between values, and the marks of checked shapes that follow from them.
 use Rattle.std.proofs.Common.{◌≡◌, inl, inr, ℕ, ◌<◌, ◌+◌, Bool, true, false, List, [], ◌∷◌, ◌++◌, length, get_or, take, Option, Some}
-use Rattle.std.proofs.Common.{None, refl, sym, ap, ◌∙◌, subst, arith, length-append}
+use Rattle.std.proofs.Common.{None, refl, sym, ap, ◌∙◌, subst}
 use Rattle.std.specs.Prelude.{◌↔◌, ◌&&◌, not}
 use Rattle.std.specs.FinMap as fin
 use Rattle.std.specs.List.{Contains}
-use Rattle.std.proofs.lemmas.Bool.{cases_lt}
-use Rattle.std.proofs.Math.Seq.{get_or-append_seam}
-use Rattle.std.proofs.lemmas.List.{get_or_append_left, take_more}
+use Rattle.std.proofs.lemmas.List.{take_more}
 use Rattle.std.proofs.lemmas.List.Elements.{Contains-append_left, Contains-push, Contains-push_cases}
 use Rattle.sm_model.specs.Graphs.{Entry, GraphMaps, member_entry, shape_entry}
 use Rattle.sm_model.specs.GraphView.{IsShapeNumber, entries_of, maps_of}
@@ -44,21 +42,7 @@ left_out_seen g id h = by (fin.get g.shapes id) refl h
     by (Some (shape_entry s)) is h = (s, is, left_out_is (table_kind s.kind) h)
     by (Some (member_entry m)) is h = absurd (apart h)
 
--- one mark more, where each says something of its number
-pub tells_more : (Says : ℕ → Bool → Type 0) (marks : List Bool) (n : ℕ) (b : Bool) → length marks ≡ n
-    → ((k : ℕ) → k < n → Says k (get_or marks k false)) → Says n b → (k : ℕ) → k < n + 1 → Says k (get_or (marks ++ b ∷ []) k false)
-tells_more Says marks n b long each here k small = elim (cases_lt k n) [
-  | inl less ↦
-      subst (Says k) (sym (get_or_append_left marks (b ∷ []) false k (subst (λ m. k < m) (sym long) less))) (each k less)
-  | inr more ↦
-      let same : k ≡ length marks = omega (arith, small, more, long) in
-      subst (Says k) (sym (ap (λ j. get_or (marks ++ b ∷ []) j false) same ∙ get_or-append_seam marks b [] false))
-      (subst (λ j. Says j b) (sym long ∙ sym same) here)
-]
-
-pub long_more : (marks : List Bool) (n : ℕ) (b : Bool) → length marks ≡ n → length (marks ++ b ∷ []) ≡ n + 1
-long_more marks n b long = let more = length-append marks (b ∷ []) in omega (arith, more, long)
-
+-- marks that are made one after the other
 pub faults_marked : (g : Graph) (marks : List Bool) (n : ℕ) → n ≡ length (entries_of g) → length marks ≡ n
     → ((k : ℕ) → k < n → TellsFault g k (get_or marks k false)) → AreFaultMarks g marks
 faults_marked g marks n all long each = record { whole = long ∙ all; each = λ k small. each k (subst (λ m. k < m) long small) }

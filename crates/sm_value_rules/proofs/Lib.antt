@@ -12,7 +12,9 @@ mod DefaultsTold
 mod AmongIds
 mod UsedTraits
 mod PlacesTold
+mod FirstTexts
 pub mod PartsPut
 mod TextsHeld
 mod ConflictsTold
 mod ValuesTold
+mod UsesPut

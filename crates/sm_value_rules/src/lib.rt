@@ -4,9 +4,11 @@
 mod checked;
 pub mod conflicts;
 pub mod defaults;
+mod first_texts;
 pub mod laws;
 mod nodes;
 pub mod places;
 pub mod text_set;
 mod used;
+mod uses;
 pub mod values;

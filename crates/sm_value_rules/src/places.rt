@@ -1,39 +1,33 @@
 // Trait.Place by the shape of the trait: it stands only on what the selector of its shape picks.
-ghost use Rattle.std.specs.Prelude.{◌≡◌, None, OnOk, Some, codes, cond};
-ghost use Rattle.std.specs.List.{list_any};
+ghost use Rattle.std.specs.Prelude.{◌≡◌, ℕ, IfOk, OnOk, Some, get_or, length, map, not};
+ghost use Rattle.std.specs.List.{Contains, list_any};
 ghost use Rattle.std.specs.List.Sorted.{IsStrictlySortedBy};
-ghost use Rattle.std.specs.Option.{option_copied, option_map};
 ghost use Rattle.std.specs.Str.{bytes_eq};
-ghost use Rattle.sm_tree.specs.View.{node_of};
 ghost use Rattle.sm_model.specs.Graphs.{text_cmp};
 ghost use Rattle.sm_model.specs.GraphView.{IsShapeNumber, maps_of};
-ghost use Rattle.sm_model.specs.Reaching.{id_of_number};
+ghost use Rattle.sm_model.specs.Reaching.{AreMarks, id_of_number};
 ghost use Rattle.sm_select.specs.Selectors.{steps_of};
 ghost use Rattle.sm_select.specs.View.{selector_view};
-ghost use Rattle.sm_compile.specs.TraitNodes.{field_of, text_of};
 ghost use Rattle.sm_rules.specs.RuleEvents.{IsEventOf, Puts};
 ghost use Rattle.sm_rules.specs.declared.rule.Rule.TheVariants.{TraitPlace};
-ghost use Rattle.sm_rules.specs.parts.Forms.{is_trait_value};
-ghost use Rattle.sm_value_rules.specs.parts.Placing.{AreUsed, IsOutside, ToldOfTrait, ToldUnpicked, is_left, is_unpicked};
-ghost use Rattle.sm_value_rules.specs.parts.Placing.{selector_in, selector_under};
+ghost use Rattle.sm_rules.specs.parts.Putting.{Below, IsWhere, ToldOf};
+ghost use Rattle.sm_value_rules.specs.parts.Placing.{AreShapeNumbers, AreOfText, ArePickedAmong, AreSharedUses, AreUsesThere};
+ghost use Rattle.sm_value_rules.specs.parts.Placing.{ToldOfUse, ToldOutside, ToldUnmarked, selector_under, told_use};
 ghost use Rattle.sm_value_rules.specs.rules.Traits.{IsNotPicked};
 
-use crate::used::used_traits;
-use sm_compile::{field_of, id_text, text_in_trait, trait_node};
+use crate::first_texts::{first_texts, selector_at};
+use crate::uses::{TraitUses, uses_of};
+use sm_compile::id_text;
 use sm_ids::ShapeId;
-use sm_model::{Graph, ModelEvent, is_in_prelude};
+use sm_model::{Graph, ModelEvent};
 use sm_rules::Rule;
-use sm_rules::carried::carries;
-use sm_rules::each::{AtEach, put_each};
-use sm_rules::owned::is_own_shape;
 use sm_rules::putting::put_if;
-use sm_rules::rows::form::{Form, is_of_form};
 use sm_select::{Selector, SelectorRefusal, parse_selector, select};
-use sm_tree::{NoMemory, Tree};
+use sm_tree::NoMemory;
 use std::alloc::Global;
 
-/// Puts the events of Trait.Place that the shapes of traits tell. A trait shape that is in use and has a selector costs one selection
-/// and one look at each shape and member; all else is n log n.
+/// Puts the events of Trait.Place that the shapes of traits tell. The selectors of one text are asked once, for all uses of their
+/// traits: n log n for each text that differs.
 pub fn put_unpicked(
     alloc: Global,
     graph: &Graph,
@@ -42,82 +36,70 @@ pub fn put_unpicked(
     ensures { OnOk result
         (Puts (IsEventOf TraitPlace (IsNotPicked (maps_of graph.now))) events.old.items events.new.items) }
 {
-    let used = used_traits(alloc, graph)?;
-    put_each(
-        alloc,
-        graph,
-        &OfTraits {
-            used: used.as_slice(),
-        },
-        events,
-    )?;
+    let firsts = first_texts(alloc, graph)?;
+    let rows = uses_of(alloc, graph, firsts.as_slice())?;
+    put_by_texts(alloc, graph, rows.as_slice(), events)?;
     Ok(())
 }
 
-// What is told at a trait: the carriers that its selector doesn't pick.
-#[derive(Drop)]
-struct OfTraits<'a> {
-    // Marks of what stands as a trait somewhere.
-    used: &'a [bool],
-}
-
-impl AtEach for OfTraits<'_> {
-    ghost tells = { λ rule g trait. ToldOfTrait g trait };
-
-    ghost knows = { λ rule g. AreUsed g rule.used.now };
-
-    fn put_at(
-        &self,
-        alloc: Global,
-        graph: &Graph,
-        number: u32,
-        events: &mut Vec<ModelEvent>,
-    ) -> Result<(), NoMemory> {
-        if self.used[number as usize] {
-            put_of_trait(alloc, graph, number, events)?;
-            Ok(())
-        } else {
-            Ok(())
-        }
+// Of all uses.
+fn put_by_texts(
+    alloc: Global,
+    graph: &Graph,
+    rows: &[TraitUses],
+    events: &mut Vec<ModelEvent>,
+) -> Result<(), NoMemory>
+    requires { AreSharedUses graph.now rows.now }
+    ensures { OnOk result
+        (Puts (IsEventOf TraitPlace (IsNotPicked (maps_of graph.now))) events.old.items events.new.items) }
+{
+    for number in 0..graph.count() {
+        put_shared(
+            alloc,
+            graph,
+            number,
+            rows[number as usize].as_slice(),
+            events,
+        )?;
     }
+    Ok(())
 }
 
-// Of the trait at a number, if it is one with a selector.
-fn put_of_trait(
+// Of uses of traits that have the selector of the trait at a number.
+fn put_shared(
     alloc: Global,
     graph: &Graph,
     number: u32,
+    uses: &[(u32, u32)],
     events: &mut Vec<ModelEvent>,
 ) -> Result<(), NoMemory>
-    requires { IsShapeNumber graph.now number }
-    ensures { OnOk result
-        (Puts (ToldOfTrait (maps_of graph.now) (id_of_number graph.now number)) events.old.items events.new.items) }
+    requires number { IsShapeNumber graph.now number }
+    requires uses { AreOfText graph.now (selector_under (maps_of graph.now) (id_of_number graph.now number)) uses.now }
+    ensures { OnOk result (Puts (ToldOf (ToldOfUse graph.now) uses.now) events.old.items events.new.items) }
 {
+    if uses.is_empty() {
+        return Ok(());
+    }
     match selector_at(graph, number) {
-        Some(text) => {
-            put_by_text(alloc, graph, number, text, events)?;
-            Ok(())
-        }
+        Some(text) => put_by_text(alloc, graph, text, uses, events),
         None => Ok(()),
     }
 }
 
-// Of one whose selector has this text. A text that is none isn't applied.
+// Of those whose selectors have this text. A text that is none isn't applied.
 fn put_by_text(
     alloc: Global,
     graph: &Graph,
-    number: u32,
     text: &str,
+    uses: &[(u32, u32)],
     events: &mut Vec<ModelEvent>,
 ) -> Result<(), NoMemory>
-    requires number { IsShapeNumber graph.now number }
-    requires said { selector_under (maps_of graph.now) (id_of_number graph.now number) ≡ Some text.now }
-    ensures { OnOk result
-        (Puts (ToldOfTrait (maps_of graph.now) (id_of_number graph.now number)) events.old.items events.new.items) }
+    requires { AreOfText graph.now (Some text.now) uses.now }
+    ensures { OnOk result (Puts (ToldOf (ToldOfUse graph.now) uses.now) events.old.items events.new.items) }
 {
     match parse_selector(alloc, text) {
         Ok(selector) => {
-            put_by_selector(alloc, graph, number, &selector, events)?;
+            put_by_selector(alloc, graph, &selector, uses, events)?;
             Ok(())
         }
         Err(refusal) => match refusal {
@@ -128,82 +110,110 @@ fn put_by_text(
     }
 }
 
-// Of one with this selector.
+// Of those that this selector doesn't pick.
 fn put_by_selector(
     alloc: Global,
     graph: &Graph,
-    number: u32,
     selector: &Selector,
+    uses: &[(u32, u32)],
     events: &mut Vec<ModelEvent>,
 ) -> Result<(), NoMemory>
-    requires { IsShapeNumber graph.now number }
+    requires { AreUsesThere graph.now uses.now }
     ensures { OnOk result
-        (Puts (IsEventOf TraitPlace
-        (IsOutside (maps_of graph.now) (id_of_number graph.now number) (steps_of (selector_view selector.now))))
-        events.old.items events.new.items) }
+        (Puts (ToldOf (ToldOutside graph.now (steps_of (selector_view selector.now))) uses.now) events.old.items events.new.items) }
 {
-    let picked = select(alloc, graph, selector)?;
-    put_each(
+    let carriers = carriers_of(alloc, uses)?;
+    let picked = picked_among(alloc, graph, selector, carriers.as_slice())?;
+    put_unmarked(alloc, graph, uses, picked.as_slice(), events)?;
+    Ok(())
+}
+
+// What carries the traits of these uses.
+fn carriers_of(alloc: Global, uses: &[(u32, u32)]) -> Result<Vec<u32>, NoMemory>
+    ensures { IfOk result (λ carriers. carriers.items ≡ map (λ (u : ℕ × ℕ). u.0) uses.now) }
+{
+    let mut carriers = Vec::with_capacity(alloc, uses.len())?;
+    for used in uses {
+        carriers.push(used.0)?;
+    }
+    Ok(carriers)
+}
+
+// Of those whose places aren't marked.
+fn put_unmarked(
+    alloc: Global,
+    graph: &Graph,
+    uses: &[(u32, u32)],
+    marks: &[bool],
+    events: &mut Vec<ModelEvent>,
+) -> Result<(), NoMemory>
+    requires count { length marks.now ≡ length uses.now }
+    requires uses { AreUsesThere graph.now uses.now }
+    ensures { OnOk result (Puts (Below (ToldUnmarked graph.now uses.now marks.now) (length uses.now)) events.old.items events.new.items) }
+{
+    for place in 0..uses.len() {
+        let used = &uses[place];
+        put_unless(alloc, graph, used.0, used.1, marks[place], events)?;
+    }
+    Ok(())
+}
+
+fn put_unless(
+    alloc: Global,
+    graph: &Graph,
+    carrier: u32,
+    of: u32,
+    picked: bool,
+    events: &mut Vec<ModelEvent>,
+) -> Result<(), NoMemory>
+    requires carrier { IsShapeNumber graph.now carrier }
+    requires of { IsShapeNumber graph.now of }
+    ensures { OnOk result (Puts (IsWhere (not picked) (told_use graph.now (carrier, of))) events.old.items events.new.items) }
+{
+    put_if(
         alloc,
         graph,
-        &Unpicked {
-            name: id_text(graph, number),
-            picked: picked.as_slice(),
-        },
+        Rule::TraitPlace,
+        carrier,
+        !picked,
+        id_text(graph, of),
         events,
     )?;
     Ok(())
 }
 
-// What is told of carriers of one trait.
-#[derive(Drop)]
-struct Unpicked<'a> {
-    // The trait.
-    name: &'a str,
-    // What its selector picks, in order.
-    picked: &'a [ShapeId],
+// For each of these numbers whether the selector picks what stands there, as marks by their places.
+fn picked_among(
+    alloc: Global,
+    graph: &Graph,
+    selector: &Selector,
+    numbers: &[u32],
+) -> Result<Vec<bool>, NoMemory>
+    requires { AreShapeNumbers graph.now numbers.now }
+    ensures { IfOk result
+        (λ marks. ArePickedAmong graph.now (steps_of (selector_view selector.now)) numbers.now marks.items) }
+{
+    let picked = select(alloc, graph, selector)?;
+    marks_among(alloc, graph, picked.as_slice(), numbers)
 }
 
-impl AtEach for Unpicked<'_> {
-    ghost tells = { λ rule g. ToldUnpicked g rule.name.now rule.picked.now };
-
-    ghost knows = { λ rule g. IsStrictlySortedBy text_cmp rule.picked.now };
-
-    fn put_at(
-        &self,
-        alloc: Global,
-        graph: &Graph,
-        number: u32,
-        events: &mut Vec<ModelEvent>,
-    ) -> Result<(), NoMemory> {
-        let wrong = is_unpicked(graph, number, self.name, self.picked);
-        put_if(
-            alloc,
-            graph,
-            Rule::TraitPlace,
-            number,
-            wrong,
-            self.name,
-            events,
-        )?;
-        Ok(())
+// Whether the ids at these numbers are among some that are in order.
+fn marks_among(
+    alloc: Global,
+    graph: &Graph,
+    ids: &[ShapeId],
+    numbers: &[u32],
+) -> Result<Vec<bool>, NoMemory>
+    requires sorted { IsStrictlySortedBy text_cmp ids.now }
+    requires numbers { AreShapeNumbers graph.now numbers.now }
+    ensures { IfOk result (λ marks. AreMarks (length numbers.now)
+        (λ i. Contains ids.now (id_of_number graph.now (get_or numbers.now i 0))) marks.items) }
+{
+    let mut marks = Vec::with_capacity(alloc, numbers.len())?;
+    for number in numbers {
+        marks.push(is_among(ids, id_text(graph, *number)))?;
     }
-}
-
-// Whether a shape or member outside of the prelude carries the trait and isn't picked.
-fn is_unpicked(graph: &Graph, number: u32, name: &str, picked: &[ShapeId]) -> bool
-    requires number { IsShapeNumber graph.now number }
-    requires sorted { IsStrictlySortedBy text_cmp picked.now }
-    ensures { result ≡ is_unpicked (maps_of graph.now) name.now picked.now (id_of_number graph.now number) }
-{
-    carries(graph, number, name) && is_left(picked, id_text(graph, number))
-}
-
-fn is_left(picked: &[ShapeId], id: &str) -> bool
-    requires { IsStrictlySortedBy text_cmp picked.now }
-    ensures { result ≡ is_left picked.now id.now }
-{
-    !is_in_prelude(id) && !is_among(picked, id)
+    Ok(marks)
 }
 
 // Whether an id is one of these, which are in order.
@@ -214,38 +224,5 @@ fn is_among(ids: &[ShapeId], id: &str) -> bool
     match ids.binary_search_by(|one| one.as_str().cmp(id)) {
         Ok(_) => true,
         Err(_) => false,
-    }
-}
-
-// The text of the selector of a trait shape outside of the prelude.
-fn selector_at(graph: &Graph, number: u32) -> Option<&str>
-    requires { IsShapeNumber graph.now number }
-    ensures { option_copied result ≡ selector_under (maps_of graph.now) (id_of_number graph.now number) }
-{
-    if is_own_shape(graph, number) {
-        selector_in(trait_node(graph, number, "smithy.api#trait"))
-    } else {
-        None
-    }
-}
-
-// The one in the value of `trait`.
-fn selector_in(tree: Option<&Tree>) -> Option<&str>
-    ensures { option_copied result ≡ selector_in (option_map (λ t. node_of t.now) tree.entry) }
-{
-    match tree {
-        Some(tree) => selector_of(tree),
-        None => None,
-    }
-}
-
-fn selector_of(tree: &Tree) -> Option<&str>
-    ensures { option_copied result
-        ≡ cond (is_trait_value (node_of tree.now)) (text_of (field_of (codes "selector") (node_of tree.now))) None }
-{
-    if is_of_form(Form::Trait, tree) {
-        text_in_trait(field_of(tree, "selector"))
-    } else {
-        None
     }
 }

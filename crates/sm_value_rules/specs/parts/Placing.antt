@@ -1,14 +1,12 @@
--- Trait shapes that are in use and have a selector, and who carries a trait where the selector doesn't pick it.
-use Rattle.std.specs.Prelude.{◌≡◌, ◌&&◌, ℕ, Bool, not, List, Option, Some, None, codes, cond, length}
-use Rattle.std.specs.List.{Contains, list_any}
-use Rattle.std.specs.Str.{bytes_eq}
+-- Trait shapes that have a selector, by its text, and what carries them where the selector doesn't pick it.
+use Rattle.std.specs.Prelude.{◌≡◌, ◌↔◌, ◌<◌, ℕ, Bool, false, not, List, [], Option, Some, None, codes, cond, get_or, length}
+use Rattle.std.specs.List.{Contains}
 use Rattle.sm_tree.specs.Node.{Node}
 use Rattle.sm_tree.specs.declared.tree.Tree.{Tree}
 use Rattle.sm_model.specs.EventView.{EventTold}
 use Rattle.sm_model.specs.Graphs.{GraphMaps}
 use Rattle.sm_model.specs.GraphView.{IsShapeNumber, entries_of, maps_of}
-use Rattle.sm_model.specs.PreludeShapes.{is_prelude_id}
-use Rattle.sm_model.specs.Reaching.{IsMarked, id_of_number}
+use Rattle.sm_model.specs.Reaching.{AreMarks, IsMarked, id_of_number}
 use Rattle.sm_model.specs.declared.graph.Graph.{Graph}
 use Rattle.sm_select.specs.Picks.{IsPicked}
 use Rattle.sm_select.specs.Selectors.{Steps}
@@ -16,12 +14,11 @@ use Rattle.sm_compile.specs.Sound.{trait_of}
 use Rattle.sm_compile.specs.TraitIds.{trait_id}
 use Rattle.sm_compile.specs.TraitNodes.{field_of, text_of}
 use Rattle.sm_compile.specs.rules.Words.{CarriesTrait}
-use Rattle.sm_rules.specs.RuleEvents.{IsEventOf, RuleFails, rule_event}
+use Rattle.sm_rules.specs.RuleEvents.{rule_event}
 use Rattle.sm_rules.specs.declared.rule.Rule.TheVariants.{TraitPlace}
-use Rattle.sm_rules.specs.parts.Carrying.{carries}
 use Rattle.sm_rules.specs.parts.Folded.{is_own_shape}
 use Rattle.sm_rules.specs.parts.Forms.{is_trait_value}
-use Rattle.sm_rules.specs.parts.Putting.{IsWhere}
+use Rattle.sm_rules.specs.parts.Putting.{IsUnless, IsWhere}
 use Rattle.sm_value_rules.specs.rules.Traits.{IsNotPicked}
 
 -- each trait that an id carries is marked
@@ -49,25 +46,81 @@ selector_in (Some n) = cond (is_trait_value n) (text_of (field_of (codes "select
 abbrev pub selector_under : GraphMaps → List ℕ → Option (List ℕ)
 selector_under g trait = cond (is_own_shape g trait) (selector_in (trait_of g trait trait_id)) None
 
--- where a shape or member carries one trait and the trait's selector doesn't pick it
-abbrev pub IsNotPickedBy : GraphMaps → List ℕ → RuleFails
-IsNotPickedBy g trait id detail = (detail ≡ trait) × IsNotPicked g id detail
+-- the selector of the trait at a number has this text
+abbrev pub IsTextAt : Graph → List ℕ → ℕ → Type 0
+IsTextAt g text k = IsShapeNumber g k × (selector_under (maps_of g) (id_of_number g k) ≡ Some text)
 
--- where it carries the trait and these steps don't pick it
-abbrev pub IsOutside : GraphMaps → List ℕ → Steps → RuleFails
-IsOutside g trait steps id detail = (detail ≡ trait) × ((n : Node) × CarriesTrait g id detail n × (IsPicked g steps id → ⊥))
+-- a trait whose selector has the same text, where there is one
+abbrev pub SharesText : Graph → ℕ → Option ℕ → Type 0
+SharesText g k None = selector_under (maps_of g) (id_of_number g k) ≡ None
+SharesText g k (Some first) = (text : List ℕ) × IsTextAt g text k × IsTextAt g text first
 
--- what is told of one trait
-abbrev pub ToldOfTrait : GraphMaps → List ℕ → EventTold → Type 0
-ToldOfTrait g trait e = IsEventOf TraitPlace (IsNotPickedBy g trait) e
+-- the traits at these numbers do, each with the text under which it is found
+abbrev pub AreSeen : Graph → (List ℕ → Option ℕ) → Type 0
+AreSeen g seen = (text : List ℕ) (first : ℕ) → seen text ≡ Some first → IsTextAt g text first
 
--- none of these ids is this one, and it isn't of the prelude
-abbrev pub is_left : List (List ℕ) → List ℕ → Bool
-is_left picked id = not (is_prelude_id id) && not (list_any (bytes_eq id) picked)
+-- one for each number
+pub record AreFirsts (g : Graph) (firsts : List (Option ℕ)) : Type 0 where
+  pub whole : length firsts ≡ length (entries_of g)
+  pub each : (k : ℕ) → IsShapeNumber g k → SharesText g k (get_or firsts k None)
 
--- and it carries the trait
-abbrev pub is_unpicked : GraphMaps → List ℕ → List (List ℕ) → List ℕ → Bool
-is_unpicked g trait picked id = carries g trait id && is_left picked id
+-- a use of a trait: the numbers of what carries it, and of the trait
+abbrev pub IsUse : Graph → ℕ × ℕ → Type 0
+IsUse g u =
+    IsShapeNumber g u.0 × IsShapeNumber g u.1 × ((n : Node) × CarriesTrait (maps_of g) (id_of_number g u.0) (id_of_number g u.1) n)
 
-abbrev pub ToldUnpicked : GraphMaps → List ℕ → List (List ℕ) → List ℕ → EventTold → Type 0
-ToldUnpicked g trait picked id e = IsWhere (is_unpicked g trait picked id) (rule_event TraitPlace id trait) e
+-- a list for each number, with the number a use stands under
+abbrev pub HasUse : List (List (ℕ × ℕ)) → ℕ × (ℕ × ℕ) → Type 0
+HasUse rows p = Contains (get_or rows p.0 []) p.1
+
+-- a use stands under the number given for its trait
+abbrev pub IsUnderFirst : List (Option ℕ) → ℕ × (ℕ × ℕ) → Type 0
+IsUnderFirst firsts p = get_or firsts p.1.1 None ≡ Some p.0
+
+-- those of the trait of a name by what stands at a number
+abbrev pub IsUseOfName : Graph → List (Option ℕ) → ℕ → List ℕ → ℕ × (ℕ × ℕ) → Type 0
+IsUseOfName g firsts j name p =
+    (p.1.0 ≡ j) × IsShapeNumber g p.1.1 × (id_of_number g p.1.1 ≡ name) × IsUnderFirst firsts p
+
+-- those by what stands at a number, and at the numbers below one
+abbrev pub IsUseAt : Graph → List (Option ℕ) → ℕ → ℕ × (ℕ × ℕ) → Type 0
+IsUseAt g firsts j p = (p.1.0 ≡ j) × IsUse g p.1 × IsUnderFirst firsts p
+
+abbrev pub IsUseBelow : Graph → List (Option ℕ) → ℕ → ℕ × (ℕ × ℕ) → Type 0
+IsUseBelow g firsts n p = (p.1.0 < n) × IsUse g p.1 × IsUnderFirst firsts p
+
+-- exactly the uses of traits with selectors, each under the trait with its text
+pub record AreUses (g : Graph) (firsts : List (Option ℕ)) (rows : List (List (ℕ × ℕ))) : Type 0 where
+  pub whole : length rows ≡ length (entries_of g)
+  pub uses : (p : ℕ × (ℕ × ℕ)) → HasUse rows p ↔ (IsUse g p.1 × IsUnderFirst firsts p)
+
+abbrev pub AreSharedUses : Graph → List (List (ℕ × ℕ)) → Type 0
+AreSharedUses g rows = (firsts : List (Option ℕ)) × AreFirsts g firsts × AreUses g firsts rows
+
+-- uses, and uses of traits whose selectors have this text
+abbrev pub AreUsesThere : Graph → List (ℕ × ℕ) → Type 0
+AreUsesThere g us = (u : ℕ × ℕ) → Contains us u → IsUse g u
+
+abbrev pub AreOfText : Graph → Option (List ℕ) → List (ℕ × ℕ) → Type 0
+AreOfText g said us = (u : ℕ × ℕ) → Contains us u → IsUse g u × (selector_under (maps_of g) (id_of_number g u.1) ≡ said)
+
+-- numbers of a graph; exactly those places of some are marked at which steps pick what stands there
+abbrev pub AreShapeNumbers : Graph → List ℕ → Type 0
+AreShapeNumbers g ks = (k : ℕ) → Contains ks k → IsShapeNumber g k
+
+abbrev pub ArePickedAmong : Graph → Steps → List ℕ → List Bool → Type 0
+ArePickedAmong g steps ks marks =
+    AreMarks (length ks) (λ i. IsPicked (maps_of g) steps (id_of_number g (get_or ks i 0))) marks
+
+-- what is told of a use: by the rule, by steps, and by marks
+abbrev pub told_use : Graph → ℕ × ℕ → EventTold
+told_use g u = rule_event TraitPlace (id_of_number g u.0) (id_of_number g u.1)
+
+abbrev pub ToldOfUse : Graph → ℕ × ℕ → EventTold → Type 0
+ToldOfUse g u e = IsNotPicked (maps_of g) (id_of_number g u.0) (id_of_number g u.1) × (e ≡ told_use g u)
+
+abbrev pub ToldOutside : Graph → Steps → ℕ × ℕ → EventTold → Type 0
+ToldOutside g steps u e = IsUnless (IsPicked (maps_of g) steps (id_of_number g u.0)) (told_use g u) e
+
+abbrev pub ToldUnmarked : Graph → List (ℕ × ℕ) → List Bool → ℕ → EventTold → Type 0
+ToldUnmarked g us marks i e = IsWhere (not (get_or marks i false)) (told_use g (get_or us i (0, 0))) e

@@ -1,7 +1,8 @@
 use Rattle.std.proofs.Common.{◌≡◌, ◌<◌, ◌+◌, ℕ, false, get_or, length, subst, sym, ap, ◌∙◌, arith}
 use Rattle.sm_model.specs.GraphView.{entries_of}
 use Rattle.sm_value_rules.specs.parts.Checking.{TellsFault}
-use Rattle.sm_value_rules.proofs.CheckedMarks.{faults_marked, long_more, tells_more}
+use Rattle.sm_value_rules.proofs.CheckedMarks.{faults_marked}
+use Rattle.sm_value_rules.proofs.FirstTexts.{each_pushed, long_pushed}
 use Rattle.sm_value_rules.proofs.checked.faulty_shapes.Goals as goal
 
 pub loop-number-preserved : goal.loop-number-preserved
@@ -10,9 +11,9 @@ loop-number-preserved c =
     let g = c.args.graph.now in
     record {
       within = omega (arith, c.loop-number-test.true, c.count-number-end.ensures);
-      long = ap length c.in_ok-push.ensures.items ∙ long_more at.marks.items at.number c.in_ok-faulty.faulty at.invariant.long;
+      long = ap length c.in_ok-push.ensures.items ∙ long_pushed at.marks.items at.number c.in_ok-faulty.faulty at.invariant.long;
       each = subst (λ ms. (k : ℕ) → k < at.number + 1 → TellsFault g k (get_or ms k false)) (sym c.in_ok-push.ensures.items)
-          (tells_more (TellsFault g) at.marks.items at.number c.in_ok-faulty.faulty at.invariant.long at.invariant.each
+          (each_pushed (TellsFault g) false at.marks.items at.number c.in_ok-faulty.faulty at.invariant.long at.invariant.each
           c.in_ok-faulty.ensures);
     }
 

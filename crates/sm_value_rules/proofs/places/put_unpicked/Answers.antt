@@ -1,10 +1,11 @@
 use Rattle.std.proofs.Common.{subst, sym}
-use Rattle.sm_value_rules.specs.parts.Placing.{AreUsed}
-use Rattle.sm_value_rules.proofs.PlacesTold.{traits_put}
+use Rattle.sm_value_rules.specs.parts.Placing.{AreFirsts, AreSharedUses}
 use Rattle.sm_value_rules.proofs.places.put_unpicked.Goals as goal
 
-pub put_each-requires : goal.put_each-requires
-put_each-requires c = subst (AreUsed c.args.graph.now) (sym c.as_slice.ensures.value) c.in_ok-used.ensures
+pub uses_of-requires : goal.uses_of-requires
+uses_of-requires c = subst (AreFirsts c.args.graph.now) (sym c.as_slice.ensures.value) c.in_ok-firsts.ensures
 
-pub returns : goal.returns
-returns c = traits_put c.args.graph.now c.args.events.now.items c.put_each.new.events.items c.in_ok-put_each.ensures
+pub put_by_texts-requires : goal.put_by_texts-requires
+put_by_texts-requires c =
+    subst (AreSharedUses c.args.graph.now) (sym c.as_slice-2.ensures.value)
+    (c.as_slice.result.now, subst (AreFirsts c.args.graph.now) (sym c.as_slice.ensures.value) c.in_ok-firsts.ensures, c.in_ok-rows.ensures)
