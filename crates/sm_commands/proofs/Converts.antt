@@ -27,7 +27,8 @@ pub text_comes : (files files1 : FilesSeen) (models : List (List ℕ)) (form : G
     → Loads Errors files files1 models (Ok m) → text.items ≡ converted form (maps_of m.graph) → Converts files files1 models form (Ok text)
 text_comes files files1 models form m text h is = graph h.0 (ap done (is ∙ ap (converted form) h.1))
 
-pub stop_comes : (files files1 : FilesSeen) (models : List (List ℕ)) (form : GraphForm) (stop : Stop) → Loads Errors files files1 models (Err stop)
+pub stop_comes : (files files1 : FilesSeen) (models : List (List ℕ)) (form : GraphForm) (stop : Stop)
+    → Loads Errors files files1 models (Err stop)
     → Converts files files1 models form (Err stop)
 stop_comes files files1 models form stop h =
     stops_map (LoadAnswers Errors files.held models) (ConvertSays files.held models form) (Rose files.faults files1.faults)

@@ -75,7 +75,8 @@ read_names held before (name ∷ names) read (file, more, e, within, later) =
     ap (map (λ f. f.name)) e ∙ ap (λ ns. name ∷ ns) (read_names held (before + length file.bytes) names more later)
 
 -- files that load to no model
-pub text_stops : (shown : Shown) (read : List FileGiven) (number : ℕ) (place : TextPlace) (name : List ℕ) (stop : Stop) → name ≡ name_at read number
+pub text_stops : (shown : Shown) (read : List FileGiven) (number : ℕ) (place : TextPlace) (name : List ℕ) (stop : Stop)
+    → name ≡ name_at read number
     → LoadsTo read (Err (Text number place)) → EndsWithLine (text_line name place) stop → StopsLoad shown read stop
 text_stops shown read number place name stop named h ends =
     line_stops (TextsAnswer shown read) ⊥ (Unit {0}) (text_line name place) stop
@@ -84,12 +85,14 @@ text_stops shown read number place name stop named h ends =
 pub size_stops : (shown : Shown) (read : List FileGiven) (kind : LimitKind) (stop : Stop) → LoadsTo read (Err (Limit kind))
     → EndsWithLimit (size_limit_line kind) stop → StopsLoad shown read stop
 size_stops shown read kind stop h ends =
-    limit_stops (TextsAnswer shown read) ⊥ (Unit {0}) (size_limit_line kind) stop (Limit kind, record { loads = h; told = λ e. cc }, refl) tt ends
+    limit_stops (TextsAnswer shown read) ⊥ (Unit {0}) (size_limit_line kind) stop
+        (Limit kind, record { loads = h; told = λ e. cc }, refl) tt ends
 
 pub rejected_stops : (shown : Shown) (read : List FileGiven) (es : List ModelEvent) (stop : Stop) → LoadsTo read (Err (Rejected es))
     → EndsWithLine (event_lines shown es) stop → StopsLoad shown read stop
 rejected_stops shown read es stop h ends =
-    line_stops (TextsAnswer shown read) ⊥ (Unit {0}) (event_lines shown es) stop (Rejected es, record { loads = h; told = λ e. cc }, refl) tt ends
+    line_stops (TextsAnswer shown read) ⊥ (Unit {0}) (event_lines shown es) stop
+        (Rejected es, record { loads = h; told = λ e. cc }, refl) tt ends
 
 -- the files of a command
 pub files_many : (shown : Shown) (files files1 : FilesSeen) (names : List (List ℕ)) (stop : Stop) → files_limit < length names
@@ -121,10 +124,12 @@ model_loads shown files files1 names read (Err stop) few are h =
 
 -- lines of events, one more
 pub events_more : (shown : Shown) (all here rest : List ModelEvent) (e : ModelEvent) (before after : List ℕ) → here ≡ e ∷ rest
-    → after ≡ before ++ shown_line shown e → before ++ event_lines shown here ≡ event_lines shown all → after ++ event_lines shown rest ≡ event_lines shown all
+    → after ≡ before ++ shown_line shown e → before ++ event_lines shown here ≡ event_lines shown all
+        → after ++ event_lines shown rest ≡ event_lines shown all
 events_more shown all here rest e before after parts put was =
     let lines : shown_line shown e ++ event_lines shown rest ≡ event_lines shown (e ∷ rest) = refl in
-    ap (λ xs. xs ++ event_lines shown rest) put ∙ append_assoc before (shown_line shown e) (event_lines shown rest) ∙ ap (λ xs. before ++ xs) lines
+    ap (λ xs. xs ++ event_lines shown rest) put ∙ append_assoc before (shown_line shown e) (event_lines shown rest)
+        ∙ ap (λ xs. before ++ xs) lines
     ∙ ap (λ es. before ++ event_lines shown es) (sym parts) ∙ was
 
 -- one file by itself
@@ -133,10 +138,12 @@ pub one_read : (held : Option Folder) (name file : List ℕ) → Holds held name
 one_read held name file holds within =
     (record { bytes = file; held = holds; within = within }, [], refl, omega (arith, within), refl)
 
-pub file_loads : (shown : Shown) (files files1 : FilesSeen) (name file : List ℕ) (result : Result Model Stop) → Holds files.held name (Some file)
+pub file_loads : (shown : Shown) (files files1 : FilesSeen) (name file : List ℕ) (result : Result Model Stop)
+    → Holds files.held name (Some file)
     → length file ≤ file_limit → LoadsModel shown (file_given name file ∷ []) result → Loads shown files files1 (name ∷ []) result
 file_loads shown files files1 name file result holds within h =
-    model_loads shown files files1 (name ∷ []) (file_given name file ∷ []) result (omega arith) (one_read files.held name file holds within) h
+    model_loads shown files files1 (name ∷ []) (file_given name file ∷ []) result (omega arith)
+        (one_read files.held name file holds within) h
 
 pub file_stops : (shown : Shown) (files files1 : FilesSeen) (name : List ℕ) (stop : Stop) → OpensFile files files1 name (Err stop)
     → Loads shown files files1 (name ∷ []) (Err stop)

@@ -66,7 +66,8 @@ read_same folder before (name ∷ names) xs ys (file, more, e, within, later) (f
 texts_same : (folder : Folder) (names : List (List ℕ)) (x y : FilesRead (Some folder) names) → x.read ≡ y.read
 texts_same folder names x y = read_same folder 0 names x.read y.read x.are_read y.are_read
 
-refused_same : (shown : Shown) (folder : Folder) (names : List (List ℕ)) (a b : Answer) (x y : FilesRead (Some folder) names) (r q : LoadRefusal)
+refused_same : (shown : Shown) (folder : Folder) (names : List (List ℕ)) (a b : Answer) (x y : FilesRead (Some folder) names)
+    (r q : LoadRefusal)
     → AreRefused x.read r → AreRefused y.read q → a ≡ refusal_answer shown x.read r → b ≡ refusal_answer shown y.read q → a ≡ b
 refused_same shown folder names a b x y r q h i is is1 =
     let same = texts_same folder names x y in
@@ -87,7 +88,8 @@ load_same shown folder names a b (not_loaded texts r h is) (long_files few passe
     absurd (pass_apart folder 0 names b texts.read passes texts.are_read)
 load_same shown folder names a b (not_loaded x r h is) (not_loaded y q i is1) = refused_same shown folder names a b x y r q h i is is1
 
-pub load_apart : (shown : Shown) (folder : Folder) (names : List (List ℕ)) (a : Answer) → LoadAnswers shown (Some folder) names a → Loaded (Some folder) names → ⊥
+pub load_apart : (shown : Shown) (folder : Folder) (names : List (List ℕ)) (a : Answer) → LoadAnswers shown (Some folder) names a
+    → Loaded (Some folder) names → ⊥
 load_apart shown folder names a (many_files many is) l = omega (arith, many, l.texts.few)
 load_apart shown folder names a (long_files few passes) l = pass_apart folder 0 names a l.texts.read passes l.texts.are_read
 load_apart shown folder names a (not_loaded texts r h is) l =

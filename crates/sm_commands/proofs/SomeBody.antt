@@ -88,11 +88,14 @@ module _ (texts : SomeTextAnswer) (tables : SomeTable) (models : SoundModels) (t
 abbrev FilesCome : Option Folder → List ℕ → Type 0
 FilesCome files name = ((a : Answer) → LoadAnswers Errors files (name ∷ []) a → ⊥) → (Loaded files (name ∷ []) → ⊥) → ⊥
 
-pub body_answered : SomeTextAnswer → SomeTable → SomeLoad → SoundModels → (t : Told) (folder : Folder) (input : List ℕ) → TellsAll t folder input
+pub body_answered : SomeTextAnswer → SomeTable → SomeLoad → SoundModels → (t : Told) (folder : Folder) (input : List ℕ)
+    → TellsAll t folder input
     → (name shape : List ℕ) (near far : BodyForm)
     → AreThere folder (name ∷ [])
     → ((c : Came) → BodySays t name shape near far c → ⊥) → ⊥
 body_answered texts tables loads models t folder input all name shape near far there none =
-    let come : FilesCome t.files name = subst (λ x. FilesCome x name) (sym all.files) (load_answered loads Errors folder (name ∷ []) there) in
+    let come : FilesCome t.files name = subst (λ x. FilesCome x name) (sym all.files)
+        (load_answered loads Errors folder (name ∷ []) there) in
     come (λ a says. none (came untouched a) (not_loaded a says refl))
-    (λ loaded. graph_answered texts tables models t name shape near far none input (subst (λ x. IsInput x input) (sym all.input) refl) loaded)
+    (λ loaded. graph_answered texts tables models t name shape near far none input
+        (subst (λ x. IsInput x input) (sym all.input) refl) loaded)

@@ -135,8 +135,8 @@ fn print<K: Sink>(out: &mut K, came: Result<Vec<u8>, Stop>) -> Status
 /// The input is touched only where nothing that stands before it is refused. `convert MODEL+ FORM` prints the graph that model files merge
 /// to, as its one text of the JSON AST where FORM is `ast`, and as that of a namespace in the IDL where it is `idl:NAMESPACE` (0); or the
 /// lines of the first that is refused: the number of its files, their lengths (7), their texts and models, file by file (1), the size of
-/// the graph (7), the events that reject the model (1); it doesn't touch the input. `select MODEL+ SELECTOR` prints the ids that the selector
-/// picks in their graph, one a line (0); what `convert` refuses is refused here too, and then a text that is no selector (1).
+/// the graph (7), the events that reject the model (1); it doesn't touch the input. `select MODEL+ SELECTOR` prints the ids that the
+/// selector picks in their graph, one a line (0); what `convert` refuses is refused here too, and then a text that is no selector (1).
 /// `check MODEL+` prints all events of their model, one a line (0, or 1 where one of them rejects it); else what `convert` refuses.
 ///
 /// 2: the words have no form, and nothing is touched. 3: a read of the file or of the input failed, and nothing

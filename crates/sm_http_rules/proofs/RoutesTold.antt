@@ -15,7 +15,7 @@ use Rattle.sm_model.proofs.NumberedIds.{number_of}
 use Rattle.sm_model.proofs.Worklist.{apart}
 use Rattle.sm_compile.specs.rules.Http.{HasSameRoute, method_of}
 use Rattle.sm_compile.specs.rules.Words.{IsInClosure, IsService}
-use Rattle.sm_rules.specs.RuleEvents.{IsEventIn, Puts, rule_event}
+use Rattle.sm_rules.specs.RuleEvents.{IsEventIn, IsEventOf, Puts, rule_event}
 use Rattle.sm_rules.specs.declared.rule.Rule.TheVariants.{HttpRoutes}
 use Rattle.sm_rules.specs.parts.Closures.{AreInside}
 use Rattle.sm_rules.specs.parts.Putting.{Below}
@@ -24,7 +24,7 @@ use Rattle.sm_rules.proofs.EventsPut.{puts_none, puts_same}
 use Rattle.sm_rules.proofs.IdsRise.{falling, rising}
 use Rattle.sm_rules.proofs.UnusedShapes.{own_service, service_own}
 use Rattle.sm_http_rules.specs.parts.Routes.{AreKeys, IsKeyAt, IsRouteKey, closure_of_route, key_of}
-use Rattle.sm_http_rules.specs.parts.Runs.{ToldFrom, key_inside}
+use Rattle.sm_http_rules.specs.parts.Runs.{AreAlone, ToldFrom, key_inside}
 use Rattle.sm_http_rules.proofs.RouteKeys.{keys_same, one_key, same_keys}
 
 pub closure_there : (g : GraphMaps) (operation smaller : List ℕ) (h : HasSameRoute g operation smaller)
@@ -38,6 +38,36 @@ pub no_routes : (g : GraphMaps) (id : List ℕ) → is_own_service g id ≡ fals
 no_routes g id other es =
     puts_none (ToldHere g id) es
     (λ e h. apart (sym other ∙ service_own g id (subst (IsService g) h.3 h.2.inside.0)))
+
+-- two that have one route have one key
+same_key : (g : GraphMaps) (operation smaller : List ℕ) (h : HasSameRoute g operation smaller)
+    → key_of h.u (method_of g operation) ≡ key_of h.v (method_of g smaller)
+same_key g operation smaller h =
+    same_keys h.u h.v h.uri.spells.is_uri h.smaller_uri.spells.is_uri (method_of g operation) (method_of g smaller) h.same h.methods
+
+module _ (g : Graph) (table : List (Option (List ℕ))) (are : AreKeys g (length (entries_of g)) table) where
+  key_at : (k : ℕ) → k < length (entries_of g) → (key : List ℕ) → IsRouteKey (maps_of g) (id_of_number g k) key
+      → get_or table k None ≡ Some key
+  key_at k less key route = by (get_or table k None) (are.each k less)
+    where
+      by : (o : Option (List ℕ)) → IsKeyAt g k o → o ≡ Some key
+      by None none = absurd (none key route)
+      by (Some other) h = ap (λ t. Some t) (one_key (maps_of g) (id_of_number g k) other key h route)
+
+  -- where no two operations have one route, no closure has two
+  pub alone_put : AreAlone (λ k. get_or table k None) (length (entries_of g)) → (es : List ModelEvent)
+      → Puts (IsEventOf HttpRoutes (HasSameRoute (maps_of g))) es es
+  alone_put alone es =
+      puts_none (IsEventOf HttpRoutes (HasSameRoute (maps_of g))) es
+      (λ e t.
+      let m = maps_of g in
+      let h = t.2 in
+      let k = number_of g t.0 (shape_entry h.uri.is_operation.0, h.uri.is_operation.1.0) in
+      let j = number_of g t.1 (shape_entry h.smaller_uri.is_operation.0, h.smaller_uri.is_operation.1.0) in
+      let key = key_of h.u (method_of m t.0) in
+      alone j.0 k.0 (falling g j.0 k.0 j.1 k.1 ((λ i. text_cmp (j.2 i) (k.2 i)) ∙ h.order)) k.1 key
+      (key_at j.0 j.1 key (subst (λ id. IsRouteKey m id key) (sym j.2) (h.v, h.smaller_uri, same_key m t.0 t.1 h)))
+      (key_at k.0 k.1 key (subst (λ id. IsRouteKey m id key) (sym k.2) (h.u, h.uri, refl))))
 
 module _ (g : Graph) (table : List (Option (List ℕ))) (are : AreKeys g (length (entries_of g)) table) (service : ℕ)
     (own : is_own_service (maps_of g) (id_of_number g service) ≡ true) (inside : List Bool) (marks : AreInside g service inside) where
@@ -63,11 +93,7 @@ module _ (g : Graph) (table : List (Option (List ℕ))) (are : AreKeys g (length
   there_key : (k : ℕ) → k < length (entries_of g) → Reaches m (id_of_number g service) (id_of_number g k) → (key : List ℕ)
       → IsRouteKey m (id_of_number g k) key → keys k ≡ Some key
   there_key k less reach key route =
-      ap (λ b. cond b (get_or table k None) None) ((marks.marked k).1 (less, reach)) ∙ by (get_or table k None) (are.each k less)
-    where
-      by : (o : Option (List ℕ)) → IsKeyAt g k o → o ≡ Some key
-      by None none = absurd (none key route)
-      by (Some other) h = ap (λ t. Some t) (one_key m (id_of_number g k) other key h route)
+      ap (λ b. cond b (get_or table k None) None) ((marks.marked k).1 (less, reach)) ∙ key_at g table are k less key route
 
   abbrev InRuns : EventTold → Type 0
   InRuns e = Below (ToldFrom g keys 0) (length (entries_of g)) e
@@ -131,15 +157,11 @@ module _ (g : Graph) (table : List (Option (List ℕ))) (are : AreKeys g (length
           there_key k less_k (subst (Reaches m (id_of_number g service)) (sym first.2) (subst (λ s. Reaches m s operation) home h.inside.1))
           key (subst (λ id. IsRouteKey m id key) (sym first.2) (h.u, h.uri, refl))
 
-      key_is : key ≡ key_of h.v (method_of m smaller)
-      key_is =
-          same_keys h.u h.v h.uri.spells.is_uri h.smaller_uri.spells.is_uri (method_of m operation) (method_of m smaller) h.same h.methods
-
       at_j : keys j ≡ Some key
       at_j =
           there_key j less_j
           (subst (Reaches m (id_of_number g service)) (sym second.2) (subst (λ s. Reaches m s smaller) home h.smaller_inside.1)) key
-          (subst (λ id. IsRouteKey m id key) (sym second.2) (h.v, h.smaller_uri, key_is))
+          (subst (λ id. IsRouteKey m id key) (sym second.2) (h.v, h.smaller_uri, same_key m operation smaller h))
 
       told : e ≡ rule_event HttpRoutes (id_of_number g k) (id_of_number g j)
       told = is ∙ (λ i. rule_event HttpRoutes (sym first.2 i) (sym second.2 i))

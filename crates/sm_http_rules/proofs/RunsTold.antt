@@ -16,7 +16,7 @@ use Rattle.sm_model.proofs.Worklist.{apart}
 use Rattle.sm_rules.specs.RuleEvents.{Puts, rule_event}
 use Rattle.sm_rules.specs.declared.rule.Rule.TheVariants.{HttpRoutes}
 use Rattle.sm_rules.proofs.EventsPut.{puts_both, puts_none, puts_same}
-use Rattle.sm_http_rules.specs.parts.Runs.{AreEach, AreSame, IsEarlier, IsLast, IsOnRun, ToldFrom, before_of, last_with}
+use Rattle.sm_http_rules.specs.parts.Runs.{AreAlone, AreEach, AreSame, IsEarlier, IsLast, IsOnRun, ToldFrom, before_of, last_with}
 
 below : (k n : ℕ) → k < n + 1 → (k < n) ⊎ (k ≡ n)
 below k n less = elim (cases_order k n) [
@@ -68,6 +68,19 @@ module _ (keys : ℕ → Option (List ℕ)) where
       by : (o : Option (List ℕ)) → keys n ≡ o → IsEarlier keys n (before_of last n o)
       by None is = inl (refl, λ j less same. none-some same.0 (sym is ∙ same.2))
       by (Some key) is = found key is (last key) (h key)
+
+  -- and that all stand alone
+  pub alone_none : AreAlone keys 0
+  alone_none j k less small = absurd (omega (arith, small))
+
+  pub alone_more : (n p : ℕ) → IsEarlier keys n p → p ≡ n → AreAlone keys n → AreAlone keys (n + 1)
+  alone_more n p near is alone j k less small key at_j at_k = elim (below k n small) [
+    | inl before ↦ alone j k less before key at_j at_k
+    | inr here ↦ elim near [
+      | inl first ↦ first.1 j (subst (λ i. j < i) here less) (key, at_j, ap keys (sym here) ∙ at_k)
+      | inr later ↦ let low = later.0 in absurd (omega (arith, low, is))
+    ]
+  ]
 
   pub last_none : (q : List ℕ) (o : Option ℕ) → o ≡ None → IsLast keys 0 q o
   last_none q o is = subst (IsLast keys 0 q) (sym is) (λ k less h. absurd (omega (arith, less)))

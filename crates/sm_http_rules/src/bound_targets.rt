@@ -2,6 +2,7 @@
 ghost use Rattle.std.specs.Prelude.{◌≡◌, ◌<◌, ◌&&◌, OnOk, false, get_or, length, map, true};
 ghost use Rattle.sm_model.specs.GraphView.{AreShapeNumbers, IsShapeNumber, entries_of, maps_of};
 ghost use Rattle.sm_model.specs.Reaching.{id_of_number};
+ghost use Rattle.sm_select.specs.Ways.{AreWays};
 ghost use Rattle.sm_compile.specs.rules.Http.{IsBoundWrongly};
 ghost use Rattle.sm_rules.specs.RuleEvents.{IsEventIn, IsEventOf, Puts};
 ghost use Rattle.sm_rules.specs.declared.rule.Rule.TheVariants.{HttpTarget};
@@ -24,21 +25,25 @@ use sm_rules::carried::is_member;
 use sm_rules::each::{AtEach, put_each};
 use sm_rules::owned::is_own_shape;
 use sm_rules::putting::put_if;
+use sm_select::Ways;
 use sm_tree::NoMemory;
 use std::alloc::Global;
 
-/// Puts the events of the rule. n log n.
+/// Puts the events of the rule, by the ways of the graph and the shapes on each side. n log n.
 pub fn put_bound_targets(
     alloc: Global,
     graph: &Graph,
+    ways: &Ways,
+    sides: &Sides,
     events: &mut Vec<ModelEvent>,
 ) -> Result<(), NoMemory>
+    requires ways { AreWays graph.now ways.now }
+    requires sides { AreSides graph.now sides.now }
     ensures { OnOk result
         (Puts (IsEventOf HttpTarget (IsBoundWrongly (maps_of graph.now))) events.old.items events.new.items) }
 {
-    let sides = Sides::new(alloc, graph)?;
-    let leading = leading_to_left_out(alloc, graph)?;
-    put_by_marks(alloc, graph, &sides, leading.as_slice(), events)?;
+    let leading = leading_to_left_out(alloc, graph, &ways.links)?;
+    put_by_marks(alloc, graph, sides, leading.as_slice(), events)?;
     Ok(())
 }
 

@@ -1,10 +1,11 @@
 // Labels of a pattern, and members of an input that are bound to labels, as rows of names.
-ghost use Rattle.std.specs.Prelude.{◌≡◌, ◌++◌, ◌∷◌, [], IfOk, OnOk, true};
+ghost use Rattle.std.specs.Prelude.{◌≡◌, ◌++◌, ◌∷◌, [], IfOk, OnOk, length, true};
 ghost use Rattle.std.specs.List.{Contains};
-ghost use Rattle.sm_model.specs.GraphView.{AreShapeNumbers, IsShapeNumber, maps_of};
+ghost use Rattle.sm_model.specs.GraphView.{AreShapeNumbers, IsShapeNumber, entries_of, maps_of};
 ghost use Rattle.sm_model.specs.Reaching.{id_of_number};
 ghost use Rattle.sm_model.specs.steps.Linking.{Joins};
 ghost use Rattle.sm_http_rules.specs.parts.Labels.{AreBound, AreBoundOf, BoundRow, is_bound, label_row, rows_of_labels};
+ghost use Rattle.sm_http_rules.specs.parts.Runs.{AreEach};
 
 use sm_compile::{Segment, member_name, members_of};
 use sm_model::Graph;
@@ -12,6 +13,30 @@ use sm_rules::carried::{carries, is_member};
 use sm_rules::owned::is_own_shape;
 use sm_tree::{NoMemory, Text};
 use std::alloc::Global;
+use std::marker::Model;
+
+/// The names of an input's members that are bound to labels, with their numbers. Contracts see the rows.
+#[derive(Drop)]
+pub(crate) struct BoundRows {
+    rows: Vec<(Text, u32)>,
+}
+
+impl Model for BoundRows {
+    ghost use Rattle.std.specs.Prelude.{List, ℕ};
+
+    ghost Value = { List (List ℕ × ℕ) };
+
+    ghost view = { λ a. a.rows.items };
+}
+
+impl BoundRows {
+    /// The rows, in order. No memory.
+    pub(crate) fn as_slice(&self) -> &[(Text, u32)]
+        ensures { result.now ≡ self.now }
+    {
+        self.rows.as_slice()
+    }
+}
 
 /// The names of the labels, or of the greedy ones alone.
 pub(crate) fn label_rows(
@@ -66,12 +91,19 @@ fn put_name(
     Ok(())
 }
 
-/// The names of the input's members that are bound to labels, with their numbers.
-pub(crate) fn bound_rows(
-    alloc: Global,
-    graph: &Graph,
-    input: u32,
-) -> Result<Vec<(Text, u32)>, NoMemory>
+/// The rows of each number, made once, however many operations have it as their input. Each member is looked at once.
+pub(crate) fn all_bound_rows(alloc: Global, graph: &Graph) -> Result<Vec<BoundRows>, NoMemory>
+    ensures { IfOk result (λ all. AreEach (AreBoundOf graph.now) [] (length (entries_of graph.now)) all.items) }
+{
+    let mut all = Vec::with_capacity(alloc, graph.count() as usize)?;
+    for number in 0..graph.count() {
+        let rows = bound_rows(alloc, graph, number)?;
+        all.push(BoundRows { rows })?;
+    }
+    Ok(all)
+}
+
+fn bound_rows(alloc: Global, graph: &Graph, input: u32) -> Result<Vec<(Text, u32)>, NoMemory>
     requires { IsShapeNumber graph.now input }
     ensures { IfOk result (λ rows. AreBoundOf graph.now input rows.items) }
 {

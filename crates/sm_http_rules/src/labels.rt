@@ -1,35 +1,46 @@
 // Http.Labels: labels of a pattern and the members of the input that are bound to them.
-ghost use Rattle.std.specs.Prelude.{◌≡◌, OnOk, Some};
-ghost use Rattle.sm_model.specs.GraphView.{IsShapeNumber, maps_of};
+ghost use Rattle.std.specs.Prelude.{◌≡◌, [], OnOk, Some, length};
+ghost use Rattle.sm_model.specs.GraphView.{IsShapeNumber, entries_of, maps_of};
 ghost use Rattle.sm_model.specs.Links.{IsLinked};
 ghost use Rattle.sm_model.specs.Reaching.{id_of_number};
+ghost use Rattle.sm_select.specs.Ways.{AreWays};
 ghost use Rattle.sm_compile.specs.rules.Http.{HasWrongLabel};
 ghost use Rattle.std.specs.List.{Contains};
 ghost use Rattle.sm_rules.specs.RuleEvents.{IsEventOf, Puts};
 ghost use Rattle.sm_rules.specs.declared.rule.Rule.TheVariants.{HttpLabels};
 ghost use Rattle.sm_rules.specs.parts.Http.{uri_seen};
 ghost use Rattle.sm_rules.specs.parts.Putting.{ToldOf};
-ghost use Rattle.sm_http_rules.specs.parts.Labels.{ToldByLink, ToldLabels, ToldOfUri, is_input};
+ghost use Rattle.sm_http_rules.specs.parts.Labels.{AreBoundOf, ToldByLink, ToldLabels, ToldOfUri, is_input};
+ghost use Rattle.sm_http_rules.specs.parts.Runs.{AreEach};
 
-use crate::label_rows::{bound_rows, label_rows};
+use crate::label_rows::{BoundRows, all_bound_rows, label_rows};
 use crate::label_told::put_by_rows;
 use sm_compile::{Segment, UriPattern, UriRefusal};
 use sm_model::{Graph, Link, ModelEvent, Relation};
 use sm_rules::http::uri_of;
-use sm_tree::NoMemory;
+use sm_select::Ways;
+use sm_tree::{NoMemory, Text};
 use std::alloc::Global;
 
-/// Puts the events of the rule. n log n.
+/// Puts the events of the rule, by the ways of the graph. n log n.
 pub fn put_labels(
     alloc: Global,
     graph: &Graph,
+    ways: &Ways,
     events: &mut Vec<ModelEvent>,
 ) -> Result<(), NoMemory>
+    requires { AreWays graph.now ways.now }
     ensures { OnOk result
         (Puts (IsEventOf HttpLabels (HasWrongLabel (maps_of graph.now))) events.old.items events.new.items) }
 {
-    let links = graph.links(alloc)?;
-    put_by_links(alloc, graph, links.as_slice(), events)?;
+    let bound = all_bound_rows(alloc, graph)?;
+    put_by_links(
+        alloc,
+        graph,
+        ways.links.as_slice(),
+        bound.as_slice(),
+        events,
+    )?;
     Ok(())
 }
 
@@ -37,13 +48,15 @@ fn put_by_links(
     alloc: Global,
     graph: &Graph,
     links: &[Link],
+    bound: &[BoundRows],
     events: &mut Vec<ModelEvent>,
 ) -> Result<(), NoMemory>
-    requires { (l : Link) → Contains links.now l → IsLinked graph.now l }
+    requires links { (l : Link) → Contains links.now l → IsLinked graph.now l }
+    requires bound { AreEach (AreBoundOf graph.now) [] (length (entries_of graph.now)) bound.now }
     ensures { OnOk result (Puts (ToldOf (ToldByLink graph.now) links.now) events.old.items events.new.items) }
 {
     for link in links {
-        put_by_link(alloc, graph, link, events)?;
+        put_by_link(alloc, graph, link, bound, events)?;
     }
     Ok(())
 }
@@ -53,13 +66,21 @@ fn put_by_link(
     alloc: Global,
     graph: &Graph,
     link: &Link,
+    bound: &[BoundRows],
     events: &mut Vec<ModelEvent>,
 ) -> Result<(), NoMemory>
-    requires { IsLinked graph.now link.now }
+    requires link { IsLinked graph.now link.now }
+    requires bound { AreEach (AreBoundOf graph.now) [] (length (entries_of graph.now)) bound.now }
     ensures { OnOk result (Puts (ToldByLink graph.now link.now) events.old.items events.new.items) }
 {
     if is_input(link.relation) {
-        put_of_operation(alloc, graph, link.from, link.to, events)?;
+        put_of_operation(
+            alloc,
+            graph,
+            link,
+            bound[link.to as usize].as_slice(),
+            events,
+        )?;
         Ok(())
     } else {
         Ok(())
@@ -75,22 +96,23 @@ fn is_input(relation: Relation) -> bool
     }
 }
 
+// By the rows of the members of its input that are bound to labels.
 fn put_of_operation(
     alloc: Global,
     graph: &Graph,
-    operation: u32,
-    input: u32,
+    link: &Link,
+    bound: &[(Text, u32)],
     events: &mut Vec<ModelEvent>,
 ) -> Result<(), NoMemory>
-    requires operation { IsShapeNumber graph.now operation }
-    requires input { IsShapeNumber graph.now input }
+    requires operation { IsShapeNumber graph.now link.now.from }
+    requires bound { AreBoundOf graph.now link.now.to bound.now }
     ensures { OnOk result
-        (Puts (ToldLabels (maps_of graph.now) (id_of_number graph.now operation) (id_of_number graph.now input))
+        (Puts (ToldLabels (maps_of graph.now) (id_of_number graph.now link.now.from) (id_of_number graph.now link.now.to))
         events.old.items events.new.items) }
 {
-    match uri_of(graph, operation) {
+    match uri_of(graph, link.from) {
         Some(text) => {
-            put_of_text(alloc, graph, operation, input, text, events)?;
+            put_of_text(alloc, graph, link, bound, text, events)?;
             Ok(())
         }
         None => Ok(()),
@@ -101,28 +123,21 @@ fn put_of_operation(
 fn put_of_text(
     alloc: Global,
     graph: &Graph,
-    operation: u32,
-    input: u32,
+    link: &Link,
+    bound: &[(Text, u32)],
     text: &str,
     events: &mut Vec<ModelEvent>,
 ) -> Result<(), NoMemory>
-    requires operation { IsShapeNumber graph.now operation }
-    requires input { IsShapeNumber graph.now input }
-    requires said { Some text.now ≡ uri_seen (maps_of graph.now) (id_of_number graph.now operation) }
+    requires operation { IsShapeNumber graph.now link.now.from }
+    requires bound { AreBoundOf graph.now link.now.to bound.now }
+    requires said { Some text.now ≡ uri_seen (maps_of graph.now) (id_of_number graph.now link.now.from) }
     ensures { OnOk result
-        (Puts (ToldLabels (maps_of graph.now) (id_of_number graph.now operation) (id_of_number graph.now input))
+        (Puts (ToldLabels (maps_of graph.now) (id_of_number graph.now link.now.from) (id_of_number graph.now link.now.to))
         events.old.items events.new.items) }
 {
     match UriPattern::parse(alloc, text) {
         Ok(uri) => {
-            put_of_uri(
-                alloc,
-                graph,
-                operation,
-                input,
-                uri.segments.as_slice(),
-                events,
-            )?;
+            put_of_uri(alloc, graph, link, bound, uri.segments.as_slice(), events)?;
             Ok(())
         }
         Err(UriRefusal::Bad(_)) => Ok(()),
@@ -134,27 +149,26 @@ fn put_of_text(
 fn put_of_uri(
     alloc: Global,
     graph: &Graph,
-    operation: u32,
-    input: u32,
+    link: &Link,
+    bound: &[(Text, u32)],
     segments: &[Segment],
     events: &mut Vec<ModelEvent>,
 ) -> Result<(), NoMemory>
-    requires operation { IsShapeNumber graph.now operation }
-    requires input { IsShapeNumber graph.now input }
+    requires operation { IsShapeNumber graph.now link.now.from }
+    requires bound { AreBoundOf graph.now link.now.to bound.now }
     ensures { OnOk result
-        (Puts (ToldOfUri (maps_of graph.now) (id_of_number graph.now operation) (id_of_number graph.now input) segments.now)
+        (Puts (ToldOfUri (maps_of graph.now) (id_of_number graph.now link.now.from) (id_of_number graph.now link.now.to) segments.now)
         events.old.items events.new.items) }
 {
     let labels = label_rows(alloc, segments, false)?;
     let greedy = label_rows(alloc, segments, true)?;
-    let bound = bound_rows(alloc, graph, input)?;
     put_by_rows(
         alloc,
         graph,
-        operation,
+        link.from,
         labels.as_slice(),
         greedy.as_slice(),
-        bound.as_slice(),
+        bound,
         events,
     )?;
     Ok(())

@@ -45,11 +45,15 @@ fn is_left_out_kind(kind: Kind) -> bool
 }
 
 /// The numbers from which one step or more lead to a shape of such a type, as marks. Each link is looked at a few times.
-pub(crate) fn leading_to_left_out(alloc: Global, graph: &Graph) -> Result<Vec<bool>, NoMemory>
+pub(crate) fn leading_to_left_out(
+    alloc: Global,
+    graph: &Graph,
+    links: &[Link],
+) -> Result<Vec<bool>, NoMemory>
+    requires { AreLinks graph.now links.now }
     ensures { IfOk result (λ marks. AreLeading graph.now marks.items) }
 {
-    let links = graph.links(alloc)?;
-    let steps = value_steps(alloc, graph, links.as_slice())?;
+    let steps = value_steps(alloc, graph, links)?;
     let left_out = marked_where(alloc, graph, &LeftOutValues)?;
     let marks = leading_to(alloc, graph, &steps, left_out.as_slice())?;
     Ok(marks)

@@ -13,7 +13,7 @@ ghost use Rattle.sm_http_rules.specs.parts.Routes.{AreKeys, closure_of_route};
 ghost use Rattle.sm_http_rules.specs.parts.Runs.{AreEarlier, ToldFrom};
 
 use crate::route_keys::route_keys;
-use crate::runs::earlier_of;
+use crate::runs::{earlier_of, stand_alone};
 use sm_compile::id_text;
 use sm_model::{Graph, ModelEvent};
 use sm_rules::Rule;
@@ -24,18 +24,24 @@ use sm_select::Ways;
 use sm_tree::{NoMemory, Text};
 use std::alloc::Global;
 
-/// Puts the events of the rule: one for each pair. n log n for each service, and what the answer takes.
+/// Puts the events of the rule, by the ways of the graph: one for each pair. n log n where no two operations of the graph have one method
+/// and one pattern; else n log n for each service, and what the answer takes.
 pub fn put_routes(
     alloc: Global,
     graph: &Graph,
+    ways: &Ways,
     events: &mut Vec<ModelEvent>,
 ) -> Result<(), NoMemory>
+    requires { AreWays graph.now ways.now }
     ensures { OnOk result
         (Puts (IsEventOf HttpRoutes (HasSameRoute (maps_of graph.now))) events.old.items events.new.items) }
 {
-    let ways = Ways::new(alloc, graph)?;
     let keys = route_keys(alloc, graph)?;
-    put_by_keys(alloc, graph, &ways, keys.as_slice(), events)?;
+    let alone = stand_alone(alloc, keys.as_slice(), graph.count())?;
+    if alone {
+        return Ok(());
+    }
+    put_by_keys(alloc, graph, ways, keys.as_slice(), events)?;
     Ok(())
 }
 

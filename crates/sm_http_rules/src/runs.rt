@@ -1,13 +1,32 @@
 // Numbers with one key: each with the nearest one below it that has its key too.
-ghost use Rattle.std.specs.Prelude.{◌≡◌, ◌<◌, ℕ, List, IfOk, OnOk, Option, length};
+ghost use Rattle.std.specs.Prelude.{◌≡◌, ◌<◌, ℕ, List, IfOk, None, OnOk, Option, get_or, length, true};
 ghost use Rattle.std.specs.Option.{option_copied, unwrap_or};
 ghost use Rattle.sm_rules.specs.parts.Firsts.{number_in};
-ghost use Rattle.sm_http_rules.specs.parts.Runs.{AreEarlier, before_of, key_inside, last_with};
+ghost use Rattle.sm_http_rules.specs.parts.Runs.{AreAlone, AreEarlier, before_of, key_inside, last_with};
 
 use sm_rules::firsts::first_of;
 use sm_tree::{NoMemory, Text};
 use std::alloc::Global;
 use std::collections::BTreeMap;
+
+/// Whether no two numbers have one key: it ends at the first that has the key of an earlier one. n log n.
+pub(crate) fn stand_alone(
+    alloc: Global,
+    keys: &[Option<Text>],
+    count: u32,
+) -> Result<bool, NoMemory>
+    requires { length keys.now ≡ count }
+    ensures { IfOk result (λ alone. alone ≡ true → AreAlone (λ (k : ℕ). get_or keys.now k None) count) }
+{
+    let mut last: BTreeMap<&str, u32> = BTreeMap::new(alloc);
+    for number in 0..count {
+        let before = earlier_at(text_of(&keys[number as usize]), number, &mut last)?;
+        if before != number {
+            return Ok(false);
+        }
+    }
+    Ok(true)
+}
 
 /// For each number the nearest one below it that has its key, both marked; itself where there is none. n log n.
 pub(crate) fn earlier_of(
@@ -23,7 +42,7 @@ pub(crate) fn earlier_of(
     let mut last: BTreeMap<&str, u32> = BTreeMap::new(alloc);
     let mut earlier = Vec::with_capacity(alloc, count as usize)?;
     for number in 0..count {
-        let before = earlier_at(keys, inside, number, &mut last)?;
+        let before = earlier_at(key_inside(keys, inside, number), number, &mut last)?;
         earlier.push(before)?;
     }
     Ok(earlier)
@@ -31,19 +50,14 @@ pub(crate) fn earlier_of(
 
 // It is the last one of its key then.
 fn earlier_at<'a>(
-    keys: &'a [Option<Text>],
-    inside: &[bool],
+    key: Option<&'a str>,
     number: u32,
     last: &mut BTreeMap<&'a str, u32>,
 ) -> Result<u32, NoMemory>
-    requires keys { number < length keys.now }
-    requires inside { number < length inside.now }
-    ensures before { IfOk result (λ before. before
-        ≡ before_of (number_in last.old) number (key_inside keys.now inside.now number)) }
-    ensures last { OnOk result ((q : List ℕ) → number_in last.new q
-        ≡ last_with (number_in last.old) number (key_inside keys.now inside.now number) q) }
+    ensures before { IfOk result (λ before. before ≡ before_of (number_in last.old) number (option_copied key.entry)) }
+    ensures last { OnOk result ((q : List ℕ) → number_in last.new q ≡ last_with (number_in last.old) number (option_copied key.entry) q) }
 {
-    match key_inside(keys, inside, number) {
+    match key {
         Some(key) => {
             let before = number_or(first_of(last, key), number);
             last.insert(key, number)?;

@@ -41,16 +41,16 @@ impl NumberTest for HttpOperations {
 }
 
 impl Sides {
-    /// Those of a graph. Each link is looked at a few times.
-    pub fn new(alloc: Global, graph: &Graph) -> Result<Self, NoMemory>
+    /// Those of a graph, by its ways. Each link is looked at a few times.
+    pub fn new(alloc: Global, graph: &Graph, ways: &Ways) -> Result<Self, NoMemory>
+        requires { AreWays graph.now ways.now }
         ensures { IfOk result (λ sides. AreSides graph.now sides) }
     {
-        let ways = Ways::new(alloc, graph)?;
         let operations = marked_where(alloc, graph, &HttpOperations)?;
-        let failing = failing(alloc, graph, &ways, operations.as_slice())?;
-        let inputs = related(alloc, graph, &ways, Relation::Input, operations.as_slice())?;
-        let outputs = related(alloc, graph, &ways, Relation::Output, operations.as_slice())?;
-        let errors = related(alloc, graph, &ways, Relation::Error, failing.as_slice())?;
+        let failing = failing(alloc, graph, ways, operations.as_slice())?;
+        let inputs = related(alloc, graph, ways, Relation::Input, operations.as_slice())?;
+        let outputs = related(alloc, graph, ways, Relation::Output, operations.as_slice())?;
+        let errors = related(alloc, graph, ways, Relation::Error, failing.as_slice())?;
         Ok(Sides {
             inputs,
             outputs,

@@ -20,17 +20,18 @@ use sm_rules::owned::is_own_shape;
 use sm_tree::NoMemory;
 use std::alloc::Global;
 
-/// Puts the events of the rule. n log n.
+/// Puts the events of the rule, by the shapes on each side. n log n.
 pub fn put_wire_names(
     alloc: Global,
     graph: &Graph,
+    sides: &Sides,
     events: &mut Vec<ModelEvent>,
 ) -> Result<(), NoMemory>
+    requires { AreSides graph.now sides.now }
     ensures { OnOk result
         (Puts (IsEventOf WireNames (HasWireNameAgain (maps_of graph.now))) events.old.items events.new.items) }
 {
-    let sides = Sides::new(alloc, graph)?;
-    put_each(alloc, graph, &Named { sides: &sides }, events)?;
+    put_each(alloc, graph, &Named { sides }, events)?;
     Ok(())
 }
 

@@ -1,13 +1,12 @@
 -- Members one after the other, each name once: one more, when the names before were seen.
-use Rattle.std.proofs.Common.{◌≡◌, inl, inr, ℕ, Bool, true, false, cond, List, [], ◌∷◌, ◌++◌, filter, map, refl, sym, ap, subst, ◌∙◌}
+use Rattle.std.proofs.Common.{◌≡◌, ℕ, Bool, true, false, cond, List, [], ◌∷◌, ◌++◌, filter, map, refl, sym, ap, ◌∙◌}
 use Rattle.std.proofs.Common.{append-nil, append_assoc, bytes_eq}
-use Rattle.std.proofs.lemmas.Bool.{cases_Bool}
 use Rattle.std.proofs.lemmas.Slice.Eq.{bytes_eq-Decides}
 use Rattle.std.specs.Prelude.{◌&&◌, ◌||◌, not}
 use Rattle.sm_merge.specs.Meaning.{Defined}
 use Rattle.sm_merge.specs.Mixins.{each_once}
 use Rattle.sm_merge.specs.steps.Firsts.{NamesAndTargets, firsts, unseen}
-use Rattle.sm_merge.proofs.NamesKnown.{or_none}
+use Rattle.sm_merge.proofs.NamesKnown.{seen_by}
 
 with_true : (x : Bool) → (x && true) ≡ x
 with_true true = refl
@@ -76,12 +75,7 @@ names_once (p ∷ ps) =
 
 -- a name that was seen adds nothing, and another one stands behind
 pub seen_before : (seen : Defined) (name : List ℕ) → seen name ≡ true → (id : List ℕ) → seen id ≡ (seen id || bytes_eq name id)
-seen_before seen name is id = elim (cases_Bool (bytes_eq name id)) [
-  | inl same ↦
-      let there : seen id ≡ true = subst (λ k. seen k ≡ true) ((bytes_eq-Decides name id).0 same) is in
-      there ∙ sym (ap (λ b. b || bytes_eq name id) there)
-  | inr apart ↦ or_none (seen id) ∙ sym (ap (λ b. seen id || b) apart)
-]
+seen_before seen name is id = seen_by bytes_eq (λ k l same. (bytes_eq-Decides k l).0 same) seen name is id
 
 pub none_unseen : (before : NamesAndTargets) (seen : Defined) (p : List ℕ × List ℕ) → seen p.0 ≡ true
     → before ≡ before ++ unseen seen (p ∷ [])

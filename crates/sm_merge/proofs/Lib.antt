@@ -72,6 +72,7 @@ mod SoundEntries
 mod Counted
 mod TraitsListed
 mod Amongs
+mod MixinsOnce
 mod PlacesThere
 mod MembersOther
 mod WholeEvents

@@ -18,6 +18,7 @@ use Rattle.sm_model.specs.Used.{is_byte, shape_part, name_part, used_under}
 use Rattle.sm_merge.specs.Meaning.{Defined, is_absolute, member_part, found_in}
 use Rattle.sm_merge.specs.Meaning.{relative_meaning}
 use Rattle.sm_merge.specs.Meaning.{meaning_in, meaning}
+use Rattle.sm_merge.proofs.NamesKnown.{or_true}
 use Rattle.sm_merge.proofs.PreludeGiven.{api_shape_id}
 
 both_parts : (a b : Bool) → (a && b) ≡ true → (a ≡ true) × (b ≡ true)
@@ -67,10 +68,6 @@ pub member_left : (name : List ℕ) (m : Option (List ℕ)) → IsIdentifier nam
 member_left name m h = ap (λ n. drop n (name ++ member_text m)) (name_ends name m h) ∙ behind name (member_text m)
 
 -- an id has a number sign, and a relative one has none
-or_true : (b : Bool) → (b || true) ≡ true
-or_true true = refl
-or_true false = refl
-
 has_sign : (ns rest : List ℕ) → is_absolute (ns ++ number_sign ∷ rest) ≡ true
 has_sign ns rest = list_any-append (is_byte number_sign) ns (number_sign ∷ rest) ∙ or_true (list_any (is_byte number_sign) ns)
 

@@ -22,6 +22,7 @@ use Rattle.sm_merge.specs.steps.EffectiveTables.{AreMembersOf, named_targets}
 use Rattle.sm_merge.specs.steps.Filling.{all_targets, id_at, members_at, own_at}
 use Rattle.sm_merge.specs.steps.Links.{At}
 use Rattle.sm_merge.specs.steps.MixedIn.{AreMixedIn, MixIn, items_at, vec_items}
+use Rattle.sm_merge.specs.steps.MixinsOnce.{mixins_once}
 use Rattle.sm_merge.specs.steps.PlaceEvents.{first_among, if_other, is_other, others_at, others_below}
 use Rattle.sm_merge.specs.steps.ShapeTables.{ids_of}
 use Rattle.sm_merge.specs.steps.ToldEvents.{AllMade}
@@ -36,6 +37,7 @@ use Rattle.sm_merge.proofs.Ats.{at_there, at_within}
 use Rattle.sm_merge.proofs.EffectiveAll.{shape_row}
 use Rattle.sm_merge.proofs.EffectiveMade.{target_found}
 use Rattle.sm_merge.proofs.FoundRows.{find_firsts}
+use Rattle.sm_merge.proofs.MixinsOnce.{with_repeats, without_repeats}
 use Rattle.sm_merge.proofs.NamesMixed.{AllNamed, made_names, whole_targets}
 use Rattle.sm_merge.proofs.PlacesThere.{members_told}
 use Rattle.sm_merge.proofs.ShapeNumbers.{ids_count, shape_ids}
@@ -113,14 +115,14 @@ module _ (ss : List Stated) (rows : List BareShape) (traits : List PlaceRow) (wa
       → (i target : List ℕ) × IsDefinedOtherwise ss i target × (e ≡ member_event i target)
   at_told v id at_v same e among =
       let p = among_flat (if_other (id_at rows v) (first_among (members_at members v)))
-      (all_targets members (items_at mixed v) (own_at rows v)) e among in
+      (all_targets members (mixins_once (items_at mixed v)) (own_at rows v)) e among in
       let o = other_told (id_at rows v) p.0 e (find text_cmp p.0.0 (members_at members v)) p.2 in
       let row = shape_row ss rows traits walk t v id at_v in
       let m = made id row.s row.there in
       let h = copies_in id m.0 m.1 in
       let whole = targets_of v id at_v h.0 h.1 h.2 h.3 in
       let x = among_map (λ (q : List ℕ × MemberEntry). (q.0, q.1.target)) (all_members h.2 h.0.shape.members) p.0
-      (subst (Among p.0) (sym whole) p.1) in
+      (subst (Among p.0) (sym whole) (with_repeats p.0 (members_at members) (own_at rows v) (items_at mixed v) p.1)) in
       by id p.0 e same h whole x.0 x.1 x.2 o.0
       (sym (first_at v id at_v p.0.0) ∙ o.1) o.2 o.3 (find text_cmp p.0.0 (all_members h.2 h.0.shape.members)) refl
     where
@@ -220,7 +222,8 @@ module _ (ss : List Stated) (rows : List BareShape) (traits : List PlaceRow) (wa
           is ∙ (λ j. member_event ((d.under ∙ ap (λ k. member_id k d.name) (sym named)) j) (sym d.is j)) in
           told_below (length rows) n.number e small
           (flat_among (if_other (id_at rows n.number) (first_among (members_at members n.number)))
-          (all_targets members (items_at mixed n.number) (own_at rows n.number)) (d.name, d.again.target) e p
+          (all_targets members (mixins_once (items_at mixed n.number)) (own_at rows n.number)) (d.name, d.again.target) e
+          (without_repeats (d.name, d.again.target) (members_at members) (own_at rows n.number) (items_at mixed n.number) p)
           (subst (λ o. Among e (if is_other o d.again.target then member_event
           (member_id (id_at rows n.number) d.name) d.again.target ∷ [] else []))
           (sym first)

@@ -1,5 +1,5 @@
 -- Sets of ids, as ids come.
-use Rattle.std.proofs.Common.{◌≡◌, ℕ, Bool, true, false, cond, List, refl, ap, ◌∙◌}
+use Rattle.std.proofs.Common.{◌≡◌, ℕ, Bool, true, false, cond, List, refl, sym, ap, subst, ◌∙◌}
 use Rattle.std.specs.Prelude.{◌||◌}
 use Rattle.std.specs.BTreeSet as sorted
 use Rattle.std.specs.BTreeSet.{BTreeSet}
@@ -10,7 +10,7 @@ use Rattle.std.proofs.lemmas.Map.Text.{is_eq-slice_cmp}
 use denote.Ref.{Bor}
 use Rattle.sm_merge.specs.steps.Known.{has_text}
 
-or_other : (a b : Bool) → cond a true b ≡ (b || a)
+pub or_other : (a b : Bool) → cond a true b ≡ (b || a)
 or_other true true = refl
 or_other true false = refl
 or_other false true = refl
@@ -28,9 +28,22 @@ pub or_none : (a : Bool) → a ≡ (a || false)
 or_none true = refl
 or_none false = refl
 
+pub or_true : (a : Bool) → (a || true) ≡ true
+or_true true = refl
+or_true false = refl
+
 pub regroup : (a b c : Bool) → ((a || b) || c) ≡ (a || (b || c))
 regroup true b c = refl
 regroup false b c = refl
+
+-- what was seen is nothing new
+pub seen_by : {K : Type 0} (same : K → K → Bool) → ((k l : K) → same k l ≡ true → k ≡ l) → (seen : K → Bool) (k : K) → seen k ≡ true
+    → (l : K) → seen l ≡ (seen l || same k l)
+seen_by same one seen k is l = by (same k l) refl
+  where
+    by : (b : Bool) → same k l ≡ b → seen l ≡ (seen l || b)
+    by true e = let there : seen l ≡ true = subst (λ j. seen j ≡ true) (one k l e) is in there ∙ sym (or_true (seen l))
+    by false e = or_none (seen l)
 
 -- what is held and what is still to come
 pub held : (had has here rest whole : Bool) → has ≡ (had || here) → (had || (here || rest)) ≡ whole → (has || rest) ≡ whole

@@ -16,6 +16,7 @@ use Rattle.sm_merge.specs.steps.Filling.{all_targets, id_in, own_in}
 use Rattle.sm_merge.specs.steps.Firsts.{NamesAndTargets, targets_view}
 use Rattle.sm_merge.specs.steps.Links.{At}
 use Rattle.sm_merge.specs.steps.MixedIn.{vec_items}
+use Rattle.sm_merge.specs.steps.MixinsOnce.{mixins_once}
 use Rattle.sm_merge.specs.steps.PlaceEvents.{Firsts, applied_events, first_among, if_other, is_other, others_among, others_at, places_at}
 use Rattle.sm_merge.specs.steps.PlaceEvents.{target_in}
 use Rattle.sm_merge.specs.declared.firsts.NamedTarget.{NamedTarget}
@@ -85,11 +86,11 @@ others_step before after whole id first xs ys put step =
 pub others_entry : (rows : List BareShape) (mixed : List (Vec Contributing)) (members : List (Vec NamedTarget)) (v : ℕ) (row : BareShape)
     (cs : Vec Contributing) (ms : Vec NamedTarget) (first : Firsts) → At rows v row → At mixed v cs → At members v ms
     → ((n : List ℕ) → first n ≡ first_among (targets_view ms.items) n)
-    → others_among row.id first (all_targets members cs.items row.members.items) ≡ others_at rows mixed members v
+    → others_among row.id first (all_targets members (mixins_once cs.items) row.members.items) ≡ others_at rows mixed members v
 others_entry rows mixed members v row cs ms first at_row at_cs at_ms h =
-    others_same row.id first (first_among (targets_view ms.items)) h (all_targets members cs.items row.members.items)
+    others_same row.id first (first_among (targets_view ms.items)) h (all_targets members (mixins_once cs.items) row.members.items)
     ∙ (λ i. others_among (id_in (sym at_row i)) (first_among (targets_view (vec_items (sym at_ms i))))
-    (all_targets members (vec_items (sym at_cs i)) (own_in (sym at_row i))))
+    (all_targets members (mixins_once (vec_items (sym at_cs i))) (own_in (sym at_row i))))
 
 pub places_entry : (rows : List BareShape) (members : List (Vec NamedTarget)) (v : ℕ) (row : BareShape) (ms : Vec NamedTarget)
     → At rows v row → At members v ms

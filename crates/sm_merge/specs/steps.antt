@@ -23,6 +23,7 @@ pub mod Made
 pub mod SoundStated
 pub mod Verdicts
 pub mod MixedIn
+pub mod MixinsOnce
 pub mod Filling
 pub mod Stopping
 pub mod Counting

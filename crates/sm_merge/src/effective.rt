@@ -17,6 +17,7 @@ use crate::limit::TRAIT_LIMIT;
 use crate::limits::shape_size;
 use crate::look::traits_at;
 use crate::mixins::Contributing;
+use crate::mixins_once::last_mixins;
 use crate::parts::BareShape;
 use crate::table::PlaceRow;
 use crate::value::Folded;
@@ -106,7 +107,8 @@ fn entry_at<'a>(
 {
     let id = rows[number].id.as_str();
     let given = members[number].as_slice();
-    traits_of(alloc, traits, id, given, mixed[number].as_slice(), all)
+    let mixins = last_mixins(alloc, mixed[number].as_slice())?;
+    traits_of(alloc, traits, id, given, mixins.as_slice(), all)
 }
 
 // How much the shape of a number counts with these traits.

@@ -10,6 +10,7 @@ use crate::events::event;
 use crate::events_places::id_of_member;
 use crate::firsts::NamedTarget;
 use crate::mixins::Contributing;
+use crate::mixins_once::first_mixins;
 use crate::parts::BareShape;
 use sm_ids::ShapeId;
 use sm_model::ModelEvent;
@@ -31,9 +32,16 @@ pub(crate) fn put_member_events(
     ensures { OnOk result (TellsMore events.old.items events.new.items (others_below rows.now mixed.now members.now (length rows.now))) }
 {
     for number in 0..rows.len() {
-        let list = mixed[number].as_slice();
+        let mixins = first_mixins(alloc, mixed[number].as_slice())?;
         let firsts = first_targets(alloc, members[number].as_slice())?;
-        put_others(alloc, &rows[number], list, &firsts, members, events)?;
+        put_others(
+            alloc,
+            &rows[number],
+            mixins.as_slice(),
+            &firsts,
+            members,
+            events,
+        )?;
     }
     Ok(())
 }

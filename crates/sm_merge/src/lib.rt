@@ -25,6 +25,7 @@ mod members;
 mod merging;
 mod mixin_events;
 mod mixins;
+mod mixins_once;
 mod names;
 mod node;
 mod parts;

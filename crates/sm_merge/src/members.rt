@@ -12,6 +12,7 @@ ghost use Rattle.sm_merge.specs.declared.limit.TheConstants.{MEMBER_LIMIT};
 use crate::firsts::{NamedTarget, put_first, put_firsts};
 use crate::limit::MEMBER_LIMIT;
 use crate::mixins::Contributing;
+use crate::mixins_once::first_mixins;
 use crate::parts::BareShape;
 use sm_ids::ShapeId;
 use sm_tree::{NoMemory, Text};
@@ -76,7 +77,8 @@ fn members_at<'a>(
     requires below { AllBelow (length rows.now) mixed.now }
     ensures { IfOk result (HasMixedMembers rows.now mixed.now number all.now) }
 {
-    members_of(alloc, &rows[number], mixed[number].as_slice(), all)
+    let mixins = first_mixins(alloc, mixed[number].as_slice())?;
+    members_of(alloc, &rows[number], mixins.as_slice(), all)
 }
 
 // The members of one shape: those of its mixins one after the other, then its own.

@@ -14,9 +14,9 @@ use Rattle.std.proofs.lemmas.List.{length-map}
 use Rattle.std.proofs.lemmas.Option.{slice_get-map}
 use Rattle.sm_tree.specs.Node.{Node}
 use Rattle.sm_tree.specs.View.{pairs_view}
-use Rattle.sm_model.specs.Graphs.{text_cmp, NodeMap, traits_in, Entry, shape_entry, member_entry}
+use Rattle.sm_model.specs.Graphs.{text_cmp, NodeMap, traits_in, Entry}
 use Rattle.sm_model.specs.GraphRows.{are_below, entry_view, is_member_row, is_sound_row, members_are_below, members_kept, row_entry}
-use Rattle.sm_model.specs.GraphView.{AreShapeNumbers, At, HasMembers, is_member_entry, Stands, Targets, entries_of, ids, maps_of, target_of}
+use Rattle.sm_model.specs.GraphView.{AreShapeNumbers, At, HasMembers, is_member_entry, Stands, entries_of, ids, maps_of}
 use Rattle.sm_model.specs.declared.graph.Graph.{Graph}
 use Rattle.sm_model.specs.declared.graph.rows.Row.{Row}
 use Rattle.sm_model.specs.declared.graph.rows.RowEntry.{RowEntry}
@@ -63,26 +63,6 @@ found_no_number g q i parted =
     let sorted = and_left (is_sorted text_cmp es) _ g.sound in
     get-from_sorted text_cmp es q (passes _ sorted)
     ∙ found_nowhere (row_entry (ids g)) g.rows.items q i (parted (rises (row_entry (ids g)) g.rows.items sorted q))
-
--- what holds of an entry, by what is known of it
-at_by : (g : Graph) (s : ℕ) (P Q : List ℕ → Entry → Type 0) → ((id : List ℕ) (e : Entry) → P id e → Q id e) → At g s P → At g s Q
-at_by g s P Q f h = by (slice_get (entries_of g) s) h
-  where
-    by : (o : Option (List ℕ × Entry)) → IsSomeAnd o (λ e. P e.0 e.1) → IsSomeAnd o (λ e. Q e.0 e.1)
-    by None h = h
-    by (Some e) h = f e.0 e.1 h
-
-targeted : (t : List ℕ) (e : Entry) → Targets t e → target_of e ≡ t
-targeted t (shape_entry s) h = absurd h
-targeted t (member_entry m) h = h
-
--- the number of a target is that of its id
-pub target_number : (g : Graph) (m : ℕ) (t q : List ℕ) (found : Option ℕ) → At g m (λ id e. Targets t e) → t ≡ q
-    → MatchOption found (fin.get (maps_of g).shapes q ≡ None) (λ s. Stands g s q)
-    → At g m (λ id e. MatchOption found (fin.get (maps_of g).shapes (target_of e) ≡ None) (λ s. Stands g s (target_of e)))
-target_number g m t q found at same is =
-    at_by g m (λ id e. Targets t e) _
-    (λ id e h. subst (λ x. MatchOption found (fin.get (maps_of g).shapes x ≡ None) (λ s. Stands g s x)) (sym (targeted t e h ∙ same)) is) at
 
 -- what holds of each row holds of the row at a number
 all_at : {X : Type 0} (q : X → Bool) (xs : List X) → list_all q xs ≡ true → (n : ℕ) (r : X) → IsSomeAnd (slice_get xs n) (λ x. r ≡ x)

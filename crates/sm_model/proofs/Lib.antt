@@ -5,6 +5,7 @@ pub mod RawWeight
 pub mod Searching
 mod UsedIds
 mod Entries
+mod TargetsKept
 pub mod Moved
 pub mod Rises
 pub mod OneRising

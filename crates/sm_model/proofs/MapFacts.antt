@@ -1,5 +1,5 @@
 -- Finite maps under texts: what holds of each entry, what is found under a key, and that keys differ. Other crates cite these.
-use Rattle.std.proofs.Common.{◌≡◌, inl, inr, ◌⊎◌, ℕ, Bool, true, false, cond, List, [], ◌∷◌, ◌++◌, map, length, Some, refl, sym, ap}
+use Rattle.std.proofs.Common.{◌≡◌, inl, inr, ◌⊎◌, ℕ, Bool, true, false, cond, List, [], ◌∷◌, ◌++◌, map, length, Some, None, refl, sym, ap}
 use Rattle.std.proofs.Common.{subst, ◌∙◌, arith}
 use Rattle.std.specs.Prelude.{T}
 use Rattle.std.specs.Cmp.{tied_itself as tied_order}
@@ -93,11 +93,19 @@ module _ {X : Type 0} where
         (later.0, ap (λ b. cond b (Some e.1) (find text_cmp q es)) apart ∙ later.1, later.2)
   ]
 
+  -- and nothing is found under one that doesn't
+  pub none_among : (q : List ℕ) (es : List (List ℕ × X)) → (StandsAmong q (keys es) → ⊥) → find text_cmp q es ≡ None
+  none_among q [] apart = refl
+  none_among q (e ∷ es) apart = elim (either (is_eq (text_cmp q e.0))) [
+    | inl tied ↦ absurd (apart (inl (same_key q e.0 (equal_from (text_cmp q e.0) tied))))
+    | inr differ ↦ ap (λ b. cond b (Some e.1) (find text_cmp q es)) differ ∙ none_among q es (λ later. apart (inr later))
+  ]
+
   below_each : (k : List ℕ) (es : List (List ℕ × X)) → below_all text_cmp k es ≡ true → IsBelow k (keys es)
   below_each k [] h = tt
   below_each k (e ∷ es) h = (less_from (text_cmp k e.0) (and_left _ _ h), below_each k es (and_right (is_lt (text_cmp k e.0)) _ h))
 
-  rise_from : (es : List (List ℕ × X)) → is_sorted text_cmp es ≡ true → Rise (keys es)
+  pub rise_from : (es : List (List ℕ × X)) → is_sorted text_cmp es ≡ true → Rise (keys es)
   rise_from [] h = tt
   rise_from (e ∷ es) h = (below_each e.0 es (and_left _ _ h), rise_from es (and_right (below_all text_cmp e.0 es) _ h))
 

@@ -8,7 +8,7 @@ use Rattle.std.proofs.lemmas.List.{append-nil, get_or-set_other, get_or-set_same
 use Rattle.std.proofs.lemmas.List.Elements.{Contains-append_cases, Contains-append_left, Contains-push, Contains-push_cases}
 use Rattle.std.proofs.lemmas.List.Folds.{sum_by-replicate}
 use Rattle.std.proofs.lemmas.List.Sums.{sum_by-set}
-use Rattle.sm_model.specs.Reaching.{AreFound, AreLedTo, Finds, IsLedTo, IsMarked, LeadsOn, Spreads}
+use Rattle.sm_model.specs.Reaching.{AreFound, AreLedTo, Finds, IsMarked, LeadsOn, Spreads}
 
 pub apart : false ≡ true → ⊥
 apart e = absurd (subst (λ b. cond b ⊥ (Unit {0})) e tt)

@@ -1,3 +1,4 @@
 pub mod Rising
 pub mod Blocks
 pub mod Linking
+pub mod TargetNumbers

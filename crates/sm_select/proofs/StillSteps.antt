@@ -78,22 +78,30 @@ picked_still m steps id still = (
 )
 
 -- each of some steps and selectors of the code
-pub stays_at : (ss : List SelectorStep) (i : ℕ) (d : SelectorStep) → i < length ss → all_stay (steps_of (step_views ss)) ≡ true
+stays_within : (ss : List SelectorStep) (i : ℕ) (d : SelectorStep) → i < length ss → all_stay (steps_of (step_views ss)) ≡ true
     → stays (step_view (get_or ss i d)) ≡ true
-stays_at [] i d lt h = absurd (omega (arith, lt))
-stays_at (s ∷ ss) zero d lt h = and_left (stays (step_view s)) (all_stay (steps_of (step_views ss))) h
-stays_at (s ∷ ss) (suc i) d lt h =
-    stays_at ss i d (omega (arith, lt)) (and_right (stays (step_view s)) (all_stay (steps_of (step_views ss))) h)
+stays_within [] i d lt h = absurd (omega (arith, lt))
+stays_within (s ∷ ss) zero d lt h = and_left (stays (step_view s)) (all_stay (steps_of (step_views ss))) h
+stays_within (s ∷ ss) (suc i) d lt h =
+    stays_within ss i d (omega (arith, lt)) (and_right (stays (step_view s)) (all_stay (steps_of (step_views ss))) h)
 
-pub each_at : (ss : List Selector) (i : ℕ) (d : Selector) → i < length ss
-    → each_stays (alternatives_of (map steps_of (selector_views ss))) ≡ true
+pub stays_at : (ss : List SelectorStep) (i : ℕ) (x : SelectorStep) → i < length ss → x ≡ get_or ss i x
+    → all_stay (steps_of (step_views ss)) ≡ true → stays (step_view x) ≡ true
+stays_at ss i x lt is h = subst (λ y. stays (step_view y) ≡ true) (sym is) (stays_within ss i x lt h)
+
+abbrev pub each_stays_in : List Selector → Bool
+each_stays_in ss = each_stays (alternatives_of (map steps_of (selector_views ss)))
+
+each_within : (ss : List Selector) (i : ℕ) (d : Selector) → i < length ss → each_stays_in ss ≡ true
     → all_stay (steps_of (selector_view (get_or ss i d))) ≡ true
-each_at [] i d lt h = absurd (omega (arith, lt))
-each_at (s ∷ ss) zero d lt h =
-    and_left (all_stay (steps_of (selector_view s))) (each_stays (alternatives_of (map steps_of (selector_views ss)))) h
-each_at (s ∷ ss) (suc i) d lt h =
-    each_at ss i d (omega (arith, lt))
-    (and_right (all_stay (steps_of (selector_view s))) (each_stays (alternatives_of (map steps_of (selector_views ss)))) h)
+each_within [] i d lt h = absurd (omega (arith, lt))
+each_within (s ∷ ss) zero d lt h = and_left (all_stay (steps_of (selector_view s))) (each_stays_in ss) h
+each_within (s ∷ ss) (suc i) d lt h =
+    each_within ss i d (omega (arith, lt)) (and_right (all_stay (steps_of (selector_view s))) (each_stays_in ss) h)
+
+pub each_at : (ss : List Selector) (i : ℕ) (x : Selector) → i < length ss → x ≡ get_or ss i x → each_stays_in ss ≡ true
+    → all_stay (steps_of (selector_view x)) ≡ true
+each_at ss i x lt is h = subst (λ y. all_stay (steps_of (selector_view y)) ≡ true) (sym is) (each_within ss i x lt h)
 
 -- one after the other, as tests
 pub all_next : (ss : List SelectorStep) (i : ℕ) (x : SelectorStep) → i < length ss → x ≡ get_or ss i x → stays (step_view x) ≡ true
@@ -112,9 +120,6 @@ all_stopped ss i x lt is moves so =
 pub all_ended : (ss : List SelectorStep) (i : ℕ) → length ss ≤ i
     → all_stay (steps_of (step_views (drop i ss))) ≡ all_stay (steps_of (step_views ss)) → true ≡ all_stay (steps_of (step_views ss))
 all_ended ss i end so = ap (λ xs. all_stay (steps_of (step_views xs))) (sym (drop_all i ss end)) ∙ so
-
-abbrev pub each_stays_in : List Selector → Bool
-each_stays_in ss = each_stays (alternatives_of (map steps_of (selector_views ss)))
 
 pub each_next : (ss : List Selector) (i : ℕ) (x : Selector) → i < length ss → x ≡ get_or ss i x
     → all_stay (steps_of (selector_view x)) ≡ true → each_stays_in (drop i ss) ≡ each_stays_in ss

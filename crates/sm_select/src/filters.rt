@@ -123,13 +123,12 @@ pub(crate) fn kept_by_text(
         (map (folded compare.now.fold) compare.now.values)) marks.items) }
 {
     let values = folded_values(alloc, compare.fold, compare.values.as_slice())?;
-    let filter = ByText {
-        path: &compare.path,
-        op: compare.op,
-        fold: compare.fold,
-        values: values.as_slice(),
-    };
-    kept(alloc, graph, &filter, starts)
+    kept(
+        alloc,
+        graph,
+        &ByText::of(compare, values.as_slice()),
+        starts,
+    )
 }
 
 /// The shapes of a type, or the members.
@@ -178,6 +177,23 @@ pub(crate) struct ByText<'a> {
     pub fold: bool,
     /// The values, which are folded where the text is.
     pub values: &'a [Text],
+}
+
+impl<'a> ByText<'a> {
+    /// What a comparison asks by its values, which are folded where the text is.
+    pub fn of(compare: &'a Compare, values: &'a [Text]) -> Self
+        ensures path { result.path.now ≡ compare.now.path }
+        ensures op { result.op ≡ compare.now.op }
+        ensures fold { result.fold ≡ compare.now.fold }
+        ensures values { result.values.now ≡ values.now }
+    {
+        ByText {
+            path: &compare.path,
+            op: compare.op,
+            fold: compare.fold,
+            values,
+        }
+    }
 }
 
 impl Filter for ByText<'_> {

@@ -5,14 +5,13 @@ ghost use Rattle.sm_model.specs.GraphView.{IsShapeNumber, maps_of};
 ghost use Rattle.sm_select.specs.Picks.{Compares, Goes, PickedByOne, Picks, folded};
 ghost use Rattle.sm_select.specs.Selectors.{alternatives_of, steps_of};
 ghost use Rattle.sm_select.specs.View.{path_view, selector_views, step_view, step_views};
-ghost use Rattle.sm_select.specs.steps.Filtering.{HasSomeValue, IsNamedAt};
 ghost use Rattle.sm_select.specs.steps.Staying.{AreKeptAmong, AreStill, all_stay, each_stays, stays};
 
 use crate::compare::folded_values;
 use crate::filters::{ByKind, ByPath, ByText, kept_among};
 use crate::marks::{kept_where, mark_too, same_marks};
-use crate::selector::{Compare, Selector, SelectorPath, SelectorStep};
-use sm_model::{Graph, Kind, no_marks};
+use crate::selector::{Compare, Selector, SelectorStep};
+use sm_model::{Graph, no_marks};
 use sm_tree::NoMemory;
 use std::alloc::Global;
 
@@ -120,8 +119,10 @@ fn still_of_step(
 {
     match step {
         SelectorStep::Any => same_marks(alloc, starts),
-        SelectorStep::Named(named) => kept_by_kind(alloc, graph, *named, numbers, starts),
-        SelectorStep::Has(path) => kept_by_path(alloc, graph, path, numbers, starts),
+        SelectorStep::Named(named) => {
+            kept_among(alloc, graph, &ByKind { named: *named }, numbers, starts)
+        }
+        SelectorStep::Has(path) => kept_among(alloc, graph, &ByPath { path }, numbers, starts),
         SelectorStep::Compare(compare) => kept_by_text(alloc, graph, compare, numbers, starts),
         SelectorStep::Forward | SelectorStep::Back | SelectorStep::Walk | SelectorStep::Along(_) =>
             unreachable!(),
@@ -136,38 +137,6 @@ fn still_of_step(
             still_of_any(alloc, graph, selectors.as_slice(), numbers, starts)
         }
     }
-}
-
-// Those of shapes of a type, or of members.
-fn kept_by_kind(
-    alloc: Global,
-    graph: &Graph,
-    named: Option<Kind>,
-    numbers: &[u32],
-    starts: &[bool],
-) -> Result<Vec<bool>, NoMemory>
-    requires numbers { (k : ℕ) → Contains numbers.now k → IsShapeNumber graph.now k }
-    requires count { length starts.now ≡ length numbers.now }
-    ensures { IfOk result
-        (λ marks. AreKeptAmong graph.now numbers.now starts.now (IsNamedAt named (maps_of graph.now)) marks.items) }
-{
-    kept_among(alloc, graph, &ByKind { named }, numbers, starts)
-}
-
-// Those at which a path has a value.
-fn kept_by_path(
-    alloc: Global,
-    graph: &Graph,
-    path: &SelectorPath,
-    numbers: &[u32],
-    starts: &[bool],
-) -> Result<Vec<bool>, NoMemory>
-    requires numbers { (k : ℕ) → Contains numbers.now k → IsShapeNumber graph.now k }
-    requires count { length starts.now ≡ length numbers.now }
-    ensures { IfOk result
-        (λ marks. AreKeptAmong graph.now numbers.now starts.now (HasSomeValue (path_view path.now) (maps_of graph.now)) marks.items) }
-{
-    kept_among(alloc, graph, &ByPath { path }, numbers, starts)
 }
 
 // Those at which the value of a path shows a text that is asked for.
@@ -185,11 +154,11 @@ fn kept_by_text(
         (map (folded compare.now.fold) compare.now.values)) marks.items) }
 {
     let values = folded_values(alloc, compare.fold, compare.values.as_slice())?;
-    let filter = ByText {
-        path: &compare.path,
-        op: compare.op,
-        fold: compare.fold,
-        values: values.as_slice(),
-    };
-    kept_among(alloc, graph, &filter, numbers, starts)
+    kept_among(
+        alloc,
+        graph,
+        &ByText::of(compare, values.as_slice()),
+        numbers,
+        starts,
+    )
 }

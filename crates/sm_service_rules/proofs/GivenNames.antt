@@ -1,6 +1,8 @@
 -- The names that `rename` of a service gives, and what it names.
 use Rattle.std.proofs.Common.{◌≡◌, inl, inr, ℕ, Bool, true, false, cond, List, [], ◌∷◌, Option, Some, None, refl, sym, ap, ◌∙◌, subst}
-use Rattle.std.specs.Prelude.{codes, if◌then◌else◌}
+use Rattle.std.proofs.Common.{arith}
+use Rattle.std.proofs.lemmas.Bool.{eqb-true}
+use Rattle.std.specs.Prelude.{◌==◌, codes, if◌then◌else◌, length}
 use denote.Ref.{Bor}
 use Rattle.std.specs.List.{Contains}
 use Rattle.std.specs.Option.{option_map, unwrap_or}
@@ -89,6 +91,11 @@ pub pair_of_name : (pairs : List (List ℕ × Tree)) (key : List ℕ) → HasNam
 pair_of_name [] key h = absurd h
 pair_of_name (x ∷ xs) key (inl same) = (x, contains_head x xs, sym same)
 pair_of_name (x ∷ xs) key (inr later) = let r = pair_of_name xs key later in (r.0, contains_behind x r.0 xs r.1, r.2)
+
+-- no pairs
+pub none_there : (pairs : List (List ℕ × Tree)) → (length pairs == 0) ≡ true → members_of (members_view pairs) ≡ no_members
+none_there [] h = refl
+none_there (p ∷ ps) h = let none : length (p ∷ ps) ≡ 0 = eqb-true (length (p ∷ ps)) 0 h in absurd (omega (arith, none))
 
 -- a shape has one key
 pub one_key : (given : List ℕ → Option Node) (g : Graph) (k : ℕ) (a b : List ℕ) → IsKeyBy given g k a → IsKeyBy given g k b → a ≡ b

@@ -49,6 +49,59 @@ get_seam xs r =
     let small : length xs < length (xs ++ r ∷ []) = omega (arith, long) in
     slice_get_read (xs ++ r ∷ []) (length (xs ++ r ∷ [])) (length xs) r refl small (sym (get_or-append_seam xs r [] r))
 
+-- rows and the numbers that pass
+module _ (passes : ℕ → Bool) (IsKey : ℕ → List ℕ → Type 0) where
+  -- a row is of a number that passes
+  abbrev pub IsRow : ℕ → List ℕ × ℕ → Type 0
+  IsRow n r = (r.1 < n) × (passes r.1 ≡ true) × IsKey r.1 r.0
+
+  pub row_of : (n : ℕ) (rows : List (List ℕ × ℕ)) → AreRowsBelow passes IsKey n rows → (r : List ℕ × ℕ) → Contains rows r → IsRow n r
+  row_of zero rows are r c = absurd (contains_none r (subst (λ rs. Contains {X = List ℕ × ℕ} rs r) are c))
+  row_of (suc n) rows (before, old, more) r c = by (λ k. row_of n before old r k) (passes n) refl more
+    where
+      by : (Contains {X = List ℕ × ℕ} before r → IsRow n r) → (b : Bool) → passes n ≡ b → MoreBy b (IsKey n) n before rows
+          → IsRow (suc n) r
+      by rest false is same =
+          let o = rest (subst (λ rs. Contains {X = List ℕ × ℕ} rs r) same c) in
+          let small = o.0 in
+          (omega (arith, small), o.1, o.2)
+      by rest true is (key, named, same) =
+          elim (Contains-push_cases before (key, n) r (subst (λ rs. Contains {X = List ℕ × ℕ} rs r) same c)) [
+            | inl earlier ↦
+                let o = rest earlier in
+                let small = o.0 in
+                (omega (arith, small), o.1, o.2)
+            | inr last ↦ subst (IsRow (suc n)) last (omega arith, is, named)
+          ]
+
+  -- and each has a row
+  pub row_for : (n : ℕ) (rows : List (List ℕ × ℕ)) → AreRowsBelow passes IsKey n rows → (k : ℕ) → k < n → passes k ≡ true
+      → (key : List ℕ) × IsKey k key × Contains {X = List ℕ × ℕ} rows (key, k)
+  row_for zero rows are k small p = absurd (omega (arith, small))
+  row_for (suc n) rows (before, old, more) k small p = by (λ less. row_for n before old k less p) (passes n) refl more
+      (below_or n k small)
+    where
+      by : (k < n → (key : List ℕ) × IsKey k key × Contains {X = List ℕ × ℕ} before (key, k)) → (b : Bool) → passes n ≡ b
+          → MoreBy b (IsKey n) n before rows → (k < n) ⊎ (k ≡ n)
+          → (key : List ℕ) × IsKey k key × Contains {X = List ℕ × ℕ} rows (key, k)
+      by rest false is same (inl less) =
+          let r = rest less in
+          (r.0, r.1, subst (λ rs. Contains {X = List ℕ × ℕ} rs (r.0, k)) (sym same) r.2)
+      by rest false is same (inr at) = absurd (apart (sym is ∙ ap passes (sym at) ∙ p))
+      by rest true is (key, named, same) (inl less) =
+          let r = rest less in (
+            r.0,
+            r.1,
+            subst (λ rs. Contains {X = List ℕ × ℕ} rs (r.0, k)) (sym same)
+                (Contains-append_left before ((key, n) ∷ []) (r.0, k) r.2),
+          )
+      by rest true is (key, named, same) (inr at) = (
+        key,
+        subst (λ j. IsKey j key) (sym at) named,
+        subst (λ rs. Contains {X = List ℕ × ℕ} rs (key, k)) (sym same)
+            (subst (λ j. Contains {X = List ℕ × ℕ} (before ++ (key, n) ∷ []) (key, j)) (sym at) (Contains-push before (key, n))),
+      )
+
 -- what is told of rows is told by their numbers alone
 module _ (Told : ℕ → EventTold → Type 0) where
   abbrev By : Option ℕ → ℕ → EventTold → Type 0
@@ -112,57 +165,6 @@ module _ (Told : ℕ → EventTold → Type 0) where
   after_some (Some j) k e h = (j, refl, h)
 
   module _ (passes : ℕ → Bool) (IsKey : ℕ → List ℕ → Type 0) where
-    -- a row is of a number that passes
-    abbrev pub IsRow : ℕ → List ℕ × ℕ → Type 0
-    IsRow n r = (r.1 < n) × (passes r.1 ≡ true) × IsKey r.1 r.0
-
-    pub row_of : (n : ℕ) (rows : List (List ℕ × ℕ)) → AreRowsBelow passes IsKey n rows → (r : List ℕ × ℕ) → Contains rows r → IsRow n r
-    row_of zero rows are r c = absurd (contains_none r (subst (λ rs. Contains {X = List ℕ × ℕ} rs r) are c))
-    row_of (suc n) rows (before, old, more) r c = by (λ k. row_of n before old r k) (passes n) refl more
-      where
-        by : (Contains {X = List ℕ × ℕ} before r → IsRow n r) → (b : Bool) → passes n ≡ b → MoreBy b (IsKey n) n before rows
-            → IsRow (suc n) r
-        by rest false is same =
-            let o = rest (subst (λ rs. Contains {X = List ℕ × ℕ} rs r) same c) in
-            let small = o.0 in
-            (omega (arith, small), o.1, o.2)
-        by rest true is (key, named, same) =
-            elim (Contains-push_cases before (key, n) r (subst (λ rs. Contains {X = List ℕ × ℕ} rs r) same c)) [
-              | inl earlier ↦
-                  let o = rest earlier in
-                  let small = o.0 in
-                  (omega (arith, small), o.1, o.2)
-              | inr last ↦ subst (IsRow (suc n)) last (omega arith, is, named)
-            ]
-
-    -- and each has a row
-    row_for : (n : ℕ) (rows : List (List ℕ × ℕ)) → AreRowsBelow passes IsKey n rows → (k : ℕ) → k < n → passes k ≡ true
-        → (key : List ℕ) × IsKey k key × Contains {X = List ℕ × ℕ} rows (key, k)
-    row_for zero rows are k small p = absurd (omega (arith, small))
-    row_for (suc n) rows (before, old, more) k small p = by (λ less. row_for n before old k less p) (passes n) refl more
-        (below_or n k small)
-      where
-        by : (k < n → (key : List ℕ) × IsKey k key × Contains {X = List ℕ × ℕ} before (key, k)) → (b : Bool) → passes n ≡ b
-            → MoreBy b (IsKey n) n before rows → (k < n) ⊎ (k ≡ n)
-            → (key : List ℕ) × IsKey k key × Contains {X = List ℕ × ℕ} rows (key, k)
-        by rest false is same (inl less) =
-            let r = rest less in
-            (r.0, r.1, subst (λ rs. Contains {X = List ℕ × ℕ} rs (r.0, k)) (sym same) r.2)
-        by rest false is same (inr at) = absurd (apart (sym is ∙ ap passes (sym at) ∙ p))
-        by rest true is (key, named, same) (inl less) =
-            let r = rest less in (
-              r.0,
-              r.1,
-              subst (λ rs. Contains {X = List ℕ × ℕ} rs (r.0, k)) (sym same)
-                  (Contains-append_left before ((key, n) ∷ []) (r.0, k) r.2),
-            )
-        by rest true is (key, named, same) (inr at) = (
-          key,
-          subst (λ j. IsKey j key) (sym at) named,
-          subst (λ rs. Contains {X = List ℕ × ℕ} rs (key, k)) (sym same)
-              (subst (λ j. Contains {X = List ℕ × ℕ} (before ++ (key, n) ∷ []) (key, j)) (sym at) (Contains-push before (key, n))),
-        )
-
     -- a number that passes, and whose key a smaller one has that passes
     abbrev pub IsAgain : ℕ → ℕ → ℕ → List ℕ → Type 0
     IsAgain n j k key = (k < n) × (j < k) × (passes j ≡ true) × (passes k ≡ true) × IsKey j key × IsKey k key
@@ -184,7 +186,7 @@ module _ (Told : ℕ → EventTold → Type 0) where
           | inl earlier ↦ later (rest earlier)
           | inr last ↦
               let s = after_some (find text_cmp key before) n e last in
-              let o = row_of n before old (key, s.0) (found_in key s.0 before s.1) in
+              let o = row_of passes IsKey n before old (key, s.0) (found_in key s.0 before s.1) in
               (s.0, n, key, (omega arith, o.0, o.1, is, o.2, named), s.2)
         ]
 
@@ -200,7 +202,7 @@ module _ (Told : ℕ → EventTold → Type 0) where
         by rest false is same (inr at) = absurd (apart (sym is ∙ ap passes (sym at) ∙ pk))
         by rest true is (own, named, same) (inl lt) = subst (λ rs. ToldRows rs e) (sym same) (push_back before (own, n) e (inl (rest lt)))
         by rest true is (own, named, same) (inr at) =
-            let r = row_for n before old j (subst (λ i. j < i) at less) pj in
+            let r = row_for passes IsKey n before old j (subst (λ i. j < i) at less) pj in
             let key_is : r.0 ≡ own = one j r.0 key r.1 kj ∙ one n key own (subst (λ i. IsKey i key) at kk) named in
             let f = found_some own j before (subst (λ q. Contains {X = List ℕ × ℕ} before (q, j)) key_is r.2) in
             subst (λ rs. ToldRows rs e) (sym same)

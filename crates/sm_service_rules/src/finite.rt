@@ -4,7 +4,7 @@ ghost use Rattle.std.specs.List.{Contains};
 ghost use Rattle.sm_model.specs.declared.kind.Kind.TheVariants.{Structure};
 ghost use Rattle.sm_model.specs.GraphView.{AreShapeNumbers, IsShapeNumber, entries_of, maps_of};
 ghost use Rattle.sm_model.specs.Reaching.{IsMarked, id_of_number};
-ghost use Rattle.sm_select.specs.Ways.{AreSteps};
+ghost use Rattle.sm_select.specs.Ways.{AreSteps, AreWays};
 ghost use Rattle.sm_compile.specs.Looked.{kind_under, listed_under};
 ghost use Rattle.sm_rules.specs.RuleEvents.{IsEventAt, IsEventOf, Puts};
 ghost use Rattle.sm_rules.specs.declared.rule.Rule.TheVariants.{ShapeInfinite};
@@ -23,16 +23,18 @@ use sm_select::{Neighbors, Ways};
 use sm_tree::NoMemory;
 use std::alloc::Global;
 
-/// Puts the events of the rule. Linear in the members and their targets, beside the links of the graph.
+/// Puts the events of the rule, by the ways of the graph. Each member is looked at once, and each step back.
 pub fn put_infinite(
     alloc: Global,
     graph: &Graph,
+    ways: &Ways,
     events: &mut Vec<ModelEvent>,
 ) -> Result<(), NoMemory>
+    requires { AreWays graph.now ways.now }
     ensures { OnOk result
         (Puts (IsEventOf ShapeInfinite (HasNoFinite (maps_of graph.now))) events.old.items events.new.items) }
 {
-    let finite = finite_shapes(alloc, graph)?;
+    let finite = finite_shapes(alloc, graph, &ways.back)?;
     put_each(
         alloc,
         graph,
@@ -101,13 +103,13 @@ fn is_compound(kind: Option<Kind>) -> bool
 
 // The shapes that have a finite value, as marks. A structure is looked at from the member at which it was left, once for each
 // target that is found.
-fn finite_shapes(alloc: Global, graph: &Graph) -> Result<Vec<bool>, NoMemory>
+fn finite_shapes(alloc: Global, graph: &Graph, back: &Neighbors) -> Result<Vec<bool>, NoMemory>
+    requires { AreSteps graph.now true back.now }
     ensures { IfOk result (λ marks. AreFinite graph.now marks.items) }
 {
-    let ways = Ways::new(alloc, graph)?;
     let mut known = Known::new(alloc, graph)?;
     look_at_all(graph, &mut known)?;
-    follow(graph, &ways.back, &mut known)?;
+    follow(graph, back, &mut known)?;
     Ok(known.marks)
 }
 

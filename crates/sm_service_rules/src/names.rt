@@ -1,60 +1,63 @@
 // Service.Names: names in the closure of a service differ, not by case alone, and `rename` names what may have a new name.
-ghost use Rattle.std.specs.Prelude.{◌≡◌, ◌↔◌, ◌++◌, ◌∷◌, [], ℕ, List, IfOk, OnOk, length, true};
-ghost use Rattle.std.specs.Option.{option_copied, option_map, unwrap_or};
-ghost use Rattle.sm_ids.specs.IdText.{Id, IdText};
+ghost use Rattle.std.specs.Prelude.{◌≡◌, ◌↔◌, OnOk, length, true};
+ghost use Rattle.std.specs.Option.{option_map, unwrap_or};
 ghost use Rattle.sm_tree.specs.Node.{members_of, no_members};
-ghost use Rattle.sm_tree.specs.Parts.{pairs_in, tree_named};
+ghost use Rattle.sm_tree.specs.Parts.{pairs_in};
 ghost use Rattle.sm_tree.specs.View.{members_view, node_of};
 ghost use Rattle.sm_model.specs.GraphView.{IsShapeNumber, entries_of, maps_of};
 ghost use Rattle.sm_model.specs.Reaching.{id_of_number};
 ghost use Rattle.sm_select.specs.Ways.{AreWays};
-ghost use Rattle.sm_compile.specs.TraitNodes.{text_of};
 ghost use Rattle.sm_compile.specs.rules.Services.{HasWrongNames};
 ghost use Rattle.sm_rules.specs.RuleEvents.{IsEventAt, IsEventOf, Puts, rule_event};
 ghost use Rattle.sm_rules.specs.declared.rule.Rule.TheVariants.{ServiceNames};
 ghost use Rattle.sm_rules.specs.parts.Putting.{ToldOf};
 ghost use Rattle.sm_rules.specs.parts.Closures.{AreInside};
 ghost use Rattle.sm_rules.specs.parts.Using.{is_own_service};
-ghost use Rattle.sm_service_rules.specs.parts.Naming.{AreRowsBelow, IsKeyBy, IsNameBy, IsWrongBy, IsWrongName, MoreBy};
-ghost use Rattle.sm_service_rules.specs.parts.Naming.{ToldAgain, ToldWrong, is_kept_kind, is_left, is_named, is_named_kind, keeps_name};
-ghost use Rattle.sm_service_rules.specs.parts.Naming.{pairs_where, renames_under, tree_in};
+ghost use Rattle.sm_service_rules.specs.parts.Naming.{AreNamesApart, IsWrongBy, IsWrongName, ToldAgain, ToldWrong, is_kept_kind, is_left};
+ghost use Rattle.sm_service_rules.specs.parts.Naming.{keeps_name, pairs_where, renames_under};
 
-use sm_compile::{field_of, id_text, kind_of, text_in_trait};
-use sm_ids::ShapeId;
+use crate::apart::are_names_apart;
+use crate::named::{named_rows, names_given};
+use sm_compile::{field_of, id_text, kind_of};
 use sm_model::{Graph, Kind, ModelEvent, pairs_of};
 use sm_rules::Rule;
 use sm_rules::carried::carries;
-use sm_rules::case::folded;
 use sm_rules::closures::{closure_of, is_own_service};
 use sm_rules::each::{AtEach, put_each};
 use sm_rules::earlier::{OfFirst, put_later};
-use sm_rules::owned::is_own_shape;
 use sm_rules::putting::{put_event, put_if};
 use sm_select::Ways;
 use sm_tree::{NoMemory, Text, Tree};
 use std::alloc::Global;
-use std::collections::BTreeMap;
 
-/// Puts the events of the rule. n log n for each service, n being how many shapes and members there are.
-pub fn put_names(alloc: Global, graph: &Graph, events: &mut Vec<ModelEvent>) -> Result<(), NoMemory>
+/// Puts the events of the rule, by the ways of the graph. n log n where no two names of the graph are equal but for case and no service
+/// gives names; else n log n for each service that gives some, or for all services. n is how many shapes and members there are.
+pub fn put_names(
+    alloc: Global,
+    graph: &Graph,
+    ways: &Ways,
+    events: &mut Vec<ModelEvent>,
+) -> Result<(), NoMemory>
+    requires { AreWays graph.now ways.now }
     ensures { OnOk result
         (Puts (IsEventOf ServiceNames (HasWrongNames (maps_of graph.now))) events.old.items events.new.items) }
 {
-    let ways = Ways::new(alloc, graph)?;
-    put_each(alloc, graph, &Names { ways: &ways }, events)?;
+    let apart = are_names_apart(alloc, graph)?;
+    put_each(alloc, graph, &Names { ways, apart }, events)?;
     Ok(())
 }
 
-// What the closures are walked by.
+// What the closures are walked by, and whether no two names of the graph are equal but for case.
 #[derive(Drop)]
 struct Names<'a> {
     ways: &'a Ways,
+    apart: bool,
 }
 
 impl AtEach for Names<'_> {
     ghost tells = { λ rule g id. IsEventAt ServiceNames (HasWrongNames g) id };
 
-    ghost knows = { λ rule g. AreWays g rule.ways.now };
+    ghost knows = { λ rule g. AreWays g rule.ways.now × (rule.apart ≡ true → AreNamesApart g) };
 
     fn put_at(
         &self,
@@ -64,7 +67,7 @@ impl AtEach for Names<'_> {
         events: &mut Vec<ModelEvent>,
     ) -> Result<(), NoMemory> {
         if is_own_service(graph, number) {
-            put_names_of(alloc, graph, self.ways, number, events)?;
+            put_names_of(alloc, graph, self.ways, self.apart, number, events)?;
             Ok(())
         } else {
             Ok(())
@@ -72,8 +75,41 @@ impl AtEach for Names<'_> {
     }
 }
 
-// Of one service.
+// Of one service: its closure is walked where something may be told.
 fn put_names_of(
+    alloc: Global,
+    graph: &Graph,
+    ways: &Ways,
+    apart: bool,
+    service: u32,
+    events: &mut Vec<ModelEvent>,
+) -> Result<(), NoMemory>
+    requires number { IsShapeNumber graph.now service }
+    requires own { is_own_service (maps_of graph.now) (id_of_number graph.now service) ≡ true }
+    requires ways { AreWays graph.now ways.now }
+    requires apart { apart ≡ true → AreNamesApart graph.now }
+    ensures { OnOk result
+        (Puts (IsEventAt ServiceNames (HasWrongNames (maps_of graph.now)) (id_of_number graph.now service))
+        events.old.items events.new.items) }
+{
+    if is_settled(graph, apart, service) {
+        Ok(())
+    } else {
+        put_names_inside(alloc, graph, ways, service, events)?;
+        Ok(())
+    }
+}
+
+// Whether nothing can be told: names differ in the whole graph, and the service gives none.
+fn is_settled(graph: &Graph, apart: bool, service: u32) -> bool
+    requires { IsShapeNumber graph.now service }
+    ensures { result ≡ true → (apart ≡ true) × (renames_under (maps_of graph.now) (id_of_number graph.now service) ≡ no_members) }
+{
+    apart && renames_of(graph, service).is_empty()
+}
+
+// By its closure.
+fn put_names_inside(
     alloc: Global,
     graph: &Graph,
     ways: &Ways,
@@ -143,129 +179,6 @@ fn pairs_there(tree: &Tree) -> &[(Text, Tree)]
         Some(pairs) => pairs,
         None => &[],
     }
-}
-
-// The first tree under each name. n log n.
-fn names_given<'a>(
-    alloc: Global,
-    pairs: &'a [(Text, Tree)],
-) -> Result<BTreeMap<&'a str, &'a Tree>, NoMemory>
-    ensures { IfOk result (λ given. (key : List ℕ) → tree_in given key ≡ tree_named key (members_of (members_view pairs.now))) }
-{
-    let mut given: BTreeMap<&'a str, &'a Tree> = BTreeMap::new(alloc);
-    let mut left = pairs.len();
-    while left > 0 {
-        left -= 1;
-        let pair = &pairs[left];
-        given.insert(pair.0.as_str(), &pair.1)?;
-    }
-    Ok(given)
-}
-
-// The shapes of a closure whose names count, by number, under their names in small letters.
-fn named_rows<'a>(
-    alloc: Global,
-    graph: &'a Graph,
-    given: &BTreeMap<&'a str, &'a Tree>,
-    inside: &[bool],
-) -> Result<Vec<(Text, u32)>, NoMemory>
-    requires { length inside.now ≡ length (entries_of graph.now) }
-    ensures { IfOk result (λ rows. AreRowsBelow (is_named graph.now inside.now) (IsKeyBy (tree_in given.now) graph.now)
-        (length (entries_of graph.now)) rows.items) }
-{
-    let mut rows = Vec::new(alloc);
-    for number in 0..graph.count() {
-        put_named(alloc, graph, given, inside, number, &mut rows)?;
-    }
-    Ok(rows)
-}
-
-fn put_named<'a>(
-    alloc: Global,
-    graph: &'a Graph,
-    given: &BTreeMap<&'a str, &'a Tree>,
-    inside: &[bool],
-    number: u32,
-    rows: &mut Vec<(Text, u32)>,
-) -> Result<(), NoMemory>
-    requires number { IsShapeNumber graph.now number }
-    requires whole { length inside.now ≡ length (entries_of graph.now) }
-    ensures { OnOk result (MoreBy (is_named graph.now inside.now number) (IsKeyBy (tree_in given.now) graph.now number) number
-        rows.old.items rows.new.items) }
-{
-    if is_named(graph, inside, number) {
-        push_named(alloc, graph, given, number, rows)
-    } else {
-        Ok(())
-    }
-}
-
-fn push_named<'a>(
-    alloc: Global,
-    graph: &'a Graph,
-    given: &BTreeMap<&'a str, &'a Tree>,
-    number: u32,
-    rows: &mut Vec<(Text, u32)>,
-) -> Result<(), NoMemory>
-    requires { IsShapeNumber graph.now number }
-    ensures { OnOk result ((key : List ℕ) × IsKeyBy (tree_in given.now) graph.now number key
-        × (rows.new.items ≡ rows.old.items ++ (key, number) ∷ [])) }
-{
-    let key = folded(alloc, name_of(graph, given, number))?;
-    rows.push((key, number))?;
-    Ok(())
-}
-
-fn is_named(graph: &Graph, inside: &[bool], number: u32) -> bool
-    requires number { IsShapeNumber graph.now number }
-    requires whole { length inside.now ≡ length (entries_of graph.now) }
-    ensures { result ≡ is_named graph.now inside.now number }
-{
-    inside[number as usize] && is_own_shape(graph, number) && is_named_kind(kind_of(graph, number))
-}
-
-fn is_named_kind(kind: Option<Kind>) -> bool
-    ensures { result ≡ is_named_kind kind }
-{
-    match kind {
-        Some(kind) => match kind {
-            Kind::Structure => true,
-            Kind::Union => true,
-            Kind::Enum => true,
-            Kind::IntEnum => true,
-            Kind::Operation => true,
-            Kind::Resource => true,
-            _ => false,
-        },
-        None => false,
-    }
-}
-
-// The name that a shape is given, else that of its id.
-fn name_of<'a>(graph: &'a Graph, given: &BTreeMap<&'a str, &'a Tree>, number: u32) -> &'a str
-    requires { IsShapeNumber graph.now number }
-    ensures { IsNameBy (text_of (tree_in given.now (id_of_number graph.now number))) (id_of_number graph.now number) result.now }
-{
-    let own = own_name(graph.id(number));
-    match given_name(given, id_text(graph, number)) {
-        Some(name) => name,
-        None => own,
-    }
-}
-
-fn given_name<'a>(given: &BTreeMap<&'a str, &'a Tree>, id: &str) -> Option<&'a str>
-    ensures { option_copied result ≡ text_of (tree_in given.now id.now) }
-{
-    match given.get(id) {
-        Some(tree) => text_in_trait(Some(*tree)),
-        None => None,
-    }
-}
-
-fn own_name(id: &ShapeId) -> &str
-    ensures { (parts : Id) × IdText parts id.now × (result.now ≡ parts.name) }
-{
-    id.as_ref().name
 }
 
 // What is told of a name that stands again, at the service.

@@ -1,4 +1,5 @@
 pub mod Checking
+pub mod Marking
 pub mod Placing
 pub mod Conflicting
 pub mod Nodes

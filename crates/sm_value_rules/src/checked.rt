@@ -15,13 +15,18 @@ use sm_select::{Neighbors, reached};
 use sm_tree::NoMemory;
 use std::alloc::Global;
 
-/// The shapes for which nodes are checked, as marks by their numbers. n log n.
-pub(crate) fn checked_shapes(alloc: Global, graph: &Graph) -> Result<Vec<bool>, NoMemory>
+/// The shapes for which nodes are checked, as marks by their numbers, by the links of the graph. n log n.
+pub(crate) fn checked_shapes(
+    alloc: Global,
+    graph: &Graph,
+    all: &[Link],
+) -> Result<Vec<bool>, NoMemory>
+    requires { AreLinks graph.now all.now }
     ensures { IfOk result (λ marks. AreMarks (length (entries_of graph.now))
         (λ k. IsChecked (maps_of graph.now) (id_of_number graph.now k)) marks.items) }
 {
     let faulty = faulty_shapes(alloc, graph)?;
-    let links = value_links(alloc, graph)?;
+    let links = value_links(alloc, graph, all)?;
     let back = Neighbors::new(alloc, graph.count(), links.as_slice(), true)?;
     let before = reached(alloc, &back, faulty.as_slice())?;
     checked_where(alloc, graph, faulty.as_slice(), before.as_slice())
@@ -61,11 +66,11 @@ fn is_type_left_out(kind: Option<Kind>) -> bool
 }
 
 // The links from shapes to their members and from members to their targets.
-fn value_links(alloc: Global, graph: &Graph) -> Result<Vec<Link>, NoMemory>
+fn value_links(alloc: Global, graph: &Graph, all: &[Link]) -> Result<Vec<Link>, NoMemory>
+    requires { AreLinks graph.now all.now }
     ensures { IfOk result (λ links. AreValueLinks graph.now links.items) }
 {
-    let all = graph.links(alloc)?;
-    links_of_values(alloc, all.as_slice())
+    links_of_values(alloc, all)
 }
 
 fn links_of_values(alloc: Global, all: &[Link]) -> Result<Vec<Link>, NoMemory>

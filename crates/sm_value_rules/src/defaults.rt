@@ -11,11 +11,12 @@ ghost use Rattle.sm_rules.specs.parts.Putting.{Below, ToldOf};
 ghost use Rattle.sm_value_rules.specs.NodeChecks.{IsChecked};
 ghost use Rattle.sm_value_rules.specs.parts.Defaulting.{IsCheckedTarget, IsDefault, IsSaidDefault, IsWantedTarget};
 ghost use Rattle.sm_value_rules.specs.parts.Defaulting.{ToldDefault, ToldDefaults, WantsTarget};
+ghost use Rattle.sm_value_rules.specs.parts.Marking.{AreValueMarks};
 ghost use Rattle.sm_value_rules.specs.parts.Nodes.{AddsRoots, AreRoots, IsNodeTable};
 ghost use Rattle.sm_value_rules.specs.rules.Values.{HasWrongDefault};
 
-use crate::checked::checked_shapes;
 use crate::nodes::NodeTable;
+use crate::value_marks::ValueMarks;
 use sm_compile::{members_of, target_of, trait_node};
 use sm_model::{Graph, ModelEvent};
 use sm_rules::Rule;
@@ -24,17 +25,18 @@ use sm_rules::putting::put_event;
 use sm_tree::{NoMemory, Tree};
 use std::alloc::Global;
 
-/// Puts the events of the rule. n log n, besides the checks of the defaults themselves.
+/// Puts the events of the rule, by the marks of the graph. n log n, besides the checks of the defaults themselves.
 pub fn put_defaults(
     alloc: Global,
     graph: &Graph,
+    marks: &ValueMarks,
     events: &mut Vec<ModelEvent>,
 ) -> Result<(), NoMemory>
+    requires { AreValueMarks graph.now marks.now }
     ensures { OnOk result
         (Puts (IsEventOf DefaultValue (HasWrongDefault (maps_of graph.now))) events.old.items events.new.items) }
 {
-    let checked = checked_shapes(alloc, graph)?;
-    put_by_marks(alloc, graph, checked.as_slice(), events)
+    put_by_marks(alloc, graph, marks.checked.as_slice(), events)
 }
 
 // Where these are the marks of the shapes for which nodes are checked.

@@ -11,4 +11,5 @@ pub mod places;
 pub mod text_set;
 mod used;
 mod uses;
+pub mod value_marks;
 pub mod values;

@@ -8,15 +8,15 @@ ghost use Rattle.sm_rules.specs.RuleEvents.{IsEventOf, Puts};
 ghost use Rattle.sm_rules.specs.declared.rule.Rule.TheVariants.{TraitValue};
 ghost use Rattle.sm_rules.specs.parts.Putting.{ToldOf};
 ghost use Rattle.sm_value_rules.specs.NodeChecks.{IsChecked};
+ghost use Rattle.sm_value_rules.specs.parts.Marking.{AreValueMarks};
 ghost use Rattle.sm_value_rules.specs.parts.Nodes.{AddsRoots, AreRoots, IsNodeTable};
 ghost use Rattle.sm_value_rules.specs.parts.Placing.{AreUsed};
 ghost use Rattle.sm_value_rules.specs.parts.Valuing.{AreTraitsAt, IsJudgedTrait, IsWantedTrait, ToldValue, ToldValues, WantsTrait};
 ghost use Rattle.sm_value_rules.specs.parts.Valuing.{is_judged_at};
 ghost use Rattle.sm_value_rules.specs.rules.Traits.{HasFaultyValue, HasWrongValue};
 
-use crate::checked::checked_shapes;
 use crate::nodes::NodeTable;
-use crate::used::used_traits;
+use crate::value_marks::ValueMarks;
 use sm_compile::id_text;
 use sm_model::{Graph, ModelEvent, is_in_prelude};
 use sm_rules::Rule;
@@ -27,32 +27,42 @@ use sm_rules::table_rules::put_other_values;
 use sm_tree::{NoMemory, Text, Tree};
 use std::alloc::Global;
 
-/// Puts the events of the rule: those that the table tells, and those that the shapes of traits tell. n times the table, and n log n.
+/// Puts the events of the rule, by the marks of the graph: those that the table tells, and those that the shapes of traits tell. n
+/// times the table, and n log n.
 pub fn put_values(
     alloc: Global,
     graph: &Graph,
+    marks: &ValueMarks,
     events: &mut Vec<ModelEvent>,
 ) -> Result<(), NoMemory>
+    requires { AreValueMarks graph.now marks.now }
     ensures { OnOk result
         (Puts (IsEventOf TraitValue (HasWrongValue (maps_of graph.now))) events.old.items events.new.items) }
 {
     put_other_values(alloc, graph, events)?;
-    put_faulty_values(alloc, graph, events)?;
+    put_faulty_values(alloc, graph, marks, events)?;
     Ok(())
 }
 
-/// Puts the events of Trait.Value that the shapes of traits tell. n log n, besides the checks of the values themselves.
+/// Puts the events of Trait.Value that the shapes of traits tell, by the marks of the graph. n log n, besides the checks of the values
+/// themselves.
 pub fn put_faulty_values(
     alloc: Global,
     graph: &Graph,
+    marks: &ValueMarks,
     events: &mut Vec<ModelEvent>,
 ) -> Result<(), NoMemory>
+    requires { AreValueMarks graph.now marks.now }
     ensures { OnOk result
         (Puts (IsEventOf TraitValue (HasFaultyValue (maps_of graph.now))) events.old.items events.new.items) }
 {
-    let checked = checked_shapes(alloc, graph)?;
-    let used = used_traits(alloc, graph)?;
-    put_by_marks(alloc, graph, checked.as_slice(), used.as_slice(), events)
+    put_by_marks(
+        alloc,
+        graph,
+        marks.checked.as_slice(),
+        marks.used.as_slice(),
+        events,
+    )
 }
 
 // Where these are the marks of the shapes for which nodes are checked, and of all that stands as a trait.

@@ -16,6 +16,10 @@ key_inside keys inside k = cond (get_or inside k false) (get_or keys k None) Non
 abbrev pub AreSame : (ℕ → Option (List ℕ)) → ℕ → ℕ → Type 0
 AreSame keys j k = (key : List ℕ) × (keys j ≡ Some key) × (keys k ≡ Some key)
 
+-- no two numbers below this one have one key
+abbrev pub AreAlone : (ℕ → Option (List ℕ)) → ℕ → Type 0
+AreAlone keys n = (j k : ℕ) → j < k → k < n → (key : List ℕ) → keys j ≡ Some key → keys k ≡ Some key → ⊥
+
 -- the nearest one below a number that has its key; itself where there is none
 abbrev pub IsEarlier : (ℕ → Option (List ℕ)) → ℕ → ℕ → Type 0
 IsEarlier keys k p =

@@ -16,6 +16,7 @@ use Rattle.sm_merge.specs.steps.EventLists.{applied_event, trait_events}
 use Rattle.sm_merge.specs.steps.Filling.{all_targets, id_at, members_at, own_at}
 use Rattle.sm_merge.specs.steps.Firsts.{NamesAndTargets}
 use Rattle.sm_merge.specs.steps.MixedIn.{items_at}
+use Rattle.sm_merge.specs.steps.MixinsOnce.{mixins_once}
 use Rattle.sm_merge.specs.steps.Tables.{traits_found}
 use Rattle.sm_merge.specs.declared.firsts.NamedTarget.{NamedTarget}
 use Rattle.sm_merge.specs.declared.mixins.Contributing.{Contributing}
@@ -57,7 +58,7 @@ first_among ps name = fin.find text_cmp name ps
 
 abbrev pub others_at : List BareShape → List (Vec Contributing) → List (Vec NamedTarget) → ℕ → List EventTold
 others_at rows mixed members v =
-    others_among (id_at rows v) (first_among (members_at members v)) (all_targets members (items_at mixed v) (own_at rows v))
+    others_among (id_at rows v) (first_among (members_at members v)) (all_targets members (mixins_once (items_at mixed v)) (own_at rows v))
 
 -- the first targets in the code
 abbrev pub target_in : Option (Bor (List ℕ)) → Option (List ℕ)

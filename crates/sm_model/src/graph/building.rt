@@ -11,6 +11,7 @@ ghost use Rattle.sm_model.specs.steps.Rising.{Rise};
 use super::blocks::put_block;
 use super::given::GraphShape;
 use super::sorting::{pairs_in_order, shapes_in_order};
+use super::targets::targets_of;
 use super::{Graph, Row};
 use sm_tree::{NoMemory, Pairs, Text, Tree};
 use std::alloc::Global;
@@ -42,6 +43,11 @@ impl Graph {
     {
         let metadata = pairs_in_order(Pairs::new(metadata));
         let rows = rows_of(alloc, shapes_in_order(shapes))?;
-        Ok(Graph { rows, metadata })
+        let targets = targets_of(alloc, rows.as_slice())?;
+        Ok(Graph {
+            rows,
+            metadata,
+            targets,
+        })
     }
 }

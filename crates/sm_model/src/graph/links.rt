@@ -10,6 +10,7 @@ ghost use Rattle.sm_model.specs.steps.Linking.{Adds, BodyLinks, EntryLinks, Fiel
 ghost use Rattle.sm_model.specs.steps.Linking.{MemberLinks, MembersLinks, RunsTo, TargetLinks};
 
 use super::Graph;
+use super::targets::number_in;
 use crate::kind::Kind;
 use crate::link::Link;
 use crate::part::{entries_of, pairs_of, text_of};
@@ -234,10 +235,7 @@ impl Graph {
             (fin.get (maps_of self.now).shapes id.now ≡ None)
             (λ s. Stands self.now s id.now) }
     {
-        match self.rows.binary_search_by(|row| row.id.as_str().cmp(id)) {
-            Ok(place) => Some(place as u32),
-            Err(_) => None,
-        }
+        number_in(self.rows.as_slice(), id)
     }
 }
 

@@ -103,7 +103,7 @@ impl Graph {
             (fin.get (maps_of self.now).shapes (target_of e) ≡ None)
             (λ s. Stands self.now s (target_of e))) }
     {
-        self.shape(&self.target_id(member).as_ref())
+        self.targets[member as usize]
     }
 
     /// The numbers of the members of a shape, in model order; a member has none. No memory.

@@ -1,6 +1,6 @@
 -- The names of shapes in the closure of a service, as rows and as tests, and what is told of them.
 use Rattle.std.specs.Prelude.{◌≡◌, ◌⊎◌, ◌&&◌, ◌||◌, ℕ, zero, suc, Bool, true, false, not, List, [], ◌∷◌, ◌++◌, Option, Some, None, codes}
-use Rattle.std.specs.Prelude.{get_or}
+use Rattle.std.specs.Prelude.{◌==◌, get_or, length}
 use Rattle.std.specs.Prelude.{is_some}
 use denote.Ref.{Bor}
 use Rattle.std.specs.BTreeMap.{BTreeMap, get_by}
@@ -15,7 +15,7 @@ use Rattle.sm_tree.specs.View.{node_of}
 use Rattle.sm_tree.specs.declared.tree.Tree.{Tree}
 use Rattle.sm_model.specs.EventView.{EventTold}
 use Rattle.sm_model.specs.Graphs.{Entry, shape_entry, member_entry, GraphMaps}
-use Rattle.sm_model.specs.GraphView.{IsShapeNumber, maps_of}
+use Rattle.sm_model.specs.GraphView.{IsShapeNumber, entries_of, maps_of}
 use Rattle.sm_model.specs.Reaching.{IsMarked, id_of_number}
 use Rattle.sm_model.specs.Relations.{Reaches}
 use Rattle.sm_model.specs.declared.graph.Graph.{Graph}
@@ -28,6 +28,7 @@ use Rattle.sm_compile.specs.TraitRows.{is_among}
 use Rattle.sm_compile.specs.rules.Services.{KeepsName, named_kinds}
 use Rattle.sm_rules.specs.RuleEvents.{rule_event}
 use Rattle.sm_rules.specs.declared.rule.Rule.TheVariants.{ServiceNames}
+use Rattle.sm_rules.specs.parts.Apart.{AreApart}
 use Rattle.sm_rules.specs.parts.Carrying.{carries}
 use Rattle.sm_rules.specs.parts.Folded.{folded, is_own_shape}
 
@@ -60,9 +61,26 @@ abbrev pub is_named_kind : Option Kind → Bool
 is_named_kind None = false
 is_named_kind (Some kind) = is_among named_kinds kind
 
+abbrev pub is_own_named : GraphMaps → List ℕ → Bool
+is_own_named g id = is_own_shape g id && is_named_kind (kind_under g id)
+
 abbrev pub is_named : Graph → List Bool → ℕ → Bool
-is_named g inside k =
-    get_or inside k false && (is_own_shape (maps_of g) (id_of_number g k) && is_named_kind (kind_under (maps_of g) (id_of_number g k)))
+is_named g inside k = get_or inside k false && is_own_named (maps_of g) (id_of_number g k)
+
+-- the key of such a shape by the name of its id; no two numbers of the graph have one
+abbrev pub IsOwnKey : Graph → ℕ → List ℕ → Type 0
+IsOwnKey g k key = (is_own_named (maps_of g) (id_of_number g k) ≡ true) × IsKeyBy (λ q. None) g k key
+
+abbrev pub AreNamesApart : Graph → Type 0
+AreNamesApart g = AreApart (IsOwnKey g) (length (entries_of g))
+
+-- a row is the first one of its key, by the numbers that stand first
+abbrev pub is_number : Option ℕ → ℕ → Bool
+is_number None k = false
+is_number (Some j) k = j == k
+
+abbrev pub is_first : (List ℕ → Option ℕ) → List ℕ × ℕ → Bool
+is_first first r = is_number (first r.0) r.1
 
 -- one row more where the number passes; rows of the numbers below this one, in order
 abbrev pub MoreBy : Bool → (List ℕ → Type 0) → ℕ → List (List ℕ × ℕ) → List (List ℕ × ℕ) → Type 0

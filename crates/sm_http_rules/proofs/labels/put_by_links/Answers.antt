@@ -15,11 +15,11 @@ nowhere = record { relation = Member; from = 0; to = 0 }
 pub loop-link-init : goal.loop-link-init
 loop-link-init c = none_of (ToldByLink c.args.graph.now) c.args.events.now.items
 
-pub put_by_link-requires : goal.put_by_link-requires
-put_by_link-requires c =
+pub put_by_link-requires-clause-link : goal.put_by_link-requires-clause-link
+put_by_link-requires-clause-link c =
     let ls = c.args.links.now in
     let i = c.loop-link.link-index in
-    c.requires (get_or ls i nowhere) (Contains-get_or ls i nowhere c.loop-link-test.true)
+    c.requires.links (get_or ls i nowhere) (Contains-get_or ls i nowhere c.loop-link-test.true)
 
 pub loop-link-preserved : goal.loop-link-preserved
 loop-link-preserved c =

@@ -8,5 +8,6 @@ put_of_text-requires-clause-said c = c.in-Some.ensures
 
 pub returns-in-None : goal.returns-in-None
 returns-in-None c =
-    no_text (maps_of c.args.graph.now) (id_of_number c.args.graph.now c.args.operation) (id_of_number c.args.graph.now c.args.input)
-    c.in-None.ensures c.args.events.now.items
+    let l = c.args.link.now in
+    no_text (maps_of c.args.graph.now) (id_of_number c.args.graph.now l.from) (id_of_number c.args.graph.now l.to) c.in-None.ensures
+    c.args.events.now.items

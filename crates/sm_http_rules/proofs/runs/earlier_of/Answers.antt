@@ -1,6 +1,7 @@
-use Rattle.std.proofs.Common.{arith, rules, subst, sym, ◌+◌, ◌≡◌}
+use Rattle.std.proofs.Common.{ap, arith, rules, subst, sym, ◌+◌, ◌≡◌, ◌∙◌}
+use Rattle.std.specs.Option.{option_copied}
 use Rattle.sm_rules.specs.parts.Firsts.{number_in}
-use Rattle.sm_http_rules.specs.parts.Runs.{AreEarlier, IsEarlier, key_inside}
+use Rattle.sm_http_rules.specs.parts.Runs.{AreEarlier, IsEarlier, before_of, key_inside, last_with}
 use Rattle.sm_http_rules.proofs.RunsTold.{each_more, each_none, earlier_here, last_next, last_none}
 use Rattle.sm_http_rules.proofs.runs.earlier_of.Goals as goal
 
@@ -17,12 +18,14 @@ pub loop-number-preserved : goal.loop-number-preserved
 loop-number-preserved c =
     let keys = key_inside c.args.keys.now c.args.inside.now in
     let at = c.loop-number in
+    let key : option_copied c.key_inside.result ≡ keys at.number = c.key_inside.ensures in
     let here : IsEarlier keys at.number c.in_ok-before.before =
-    subst (IsEarlier keys at.number) (sym c.in_ok-before.ensures.before)
+    subst (IsEarlier keys at.number) (sym (c.in_ok-before.ensures.before ∙ ap (before_of (number_in at.last) at.number) key))
     (earlier_here keys (number_in at.last) at.number at.invariant.last) in
     record {
       within = omega (arith, c.loop-number-test.true);
-      last = last_next keys (number_in at.last) (number_in c.earlier_at.new.last) at.number at.invariant.last c.in_ok-before.ensures.last;
+      last = last_next keys (number_in at.last) (number_in c.earlier_at.new.last) at.number at.invariant.last
+          (λ q. c.in_ok-before.ensures.last q ∙ ap (λ o. last_with (number_in at.last) at.number o q) key);
       earlier = subst (AreEarlier keys (at.number + 1)) (sym c.in_ok-push.ensures.items)
           (each_more (IsEarlier keys) 0 at.number at.earlier.items c.in_ok-before.before at.invariant.earlier here);
     }

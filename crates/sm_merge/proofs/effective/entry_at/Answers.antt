@@ -7,6 +7,7 @@ use Rattle.sm_merge.specs.steps.Firsts.{targets_view}
 use Rattle.sm_merge.specs.steps.MixedIn.{AreBelow, vec_items}
 use Rattle.sm_merge.specs.declared.parts.BareShape.{BareShape}
 use Rattle.sm_merge.proofs.MixedMade.{below_at}
+use Rattle.sm_merge.proofs.MixinsOnce.{below_last, last_traits}
 use Rattle.sm_merge.proofs.effective.entry_at.Goals as goal
 
 pub traits_of-requires-clause-below : goal.traits_of-requires-clause-below
@@ -17,8 +18,10 @@ traits_of-requires-clause-below c =
     let below = below_at (length c.args.rows.now) c.args.mixed.now c.args.number c.index-mixed-number.result c.requires.below
     (slice_get_read c.args.mixed.now (length c.args.mixed.now) c.args.number c.index-mixed-number.result refl small
     c.index-mixed-number.is) in
-    subst (AreBelow (length c.args.all.now)) (sym c.as_slice.ensures.value)
-    (subst (λ (n : ℕ). AreBelow n c.index-mixed-number.result.items) (sym c.requires.many) below)
+    subst (AreBelow (length c.args.all.now)) (sym (c.as_slice-2.ensures.value ∙ c.in_ok-mixins.ensures))
+    (below_last (length c.args.all.now) c.as_slice.result.now
+    (subst (AreBelow (length c.args.all.now)) (sym c.as_slice.ensures.value)
+    (subst (λ (n : ℕ). AreBelow n c.index-mixed-number.result.items) (sym c.requires.many) below)))
 
 pub returns : goal.returns
 returns c =
@@ -35,7 +38,7 @@ returns c =
     let at_row = slice_get_read c.args.rows.now (length c.args.rows.now) number c.index-rows-number.result refl low
     c.index-rows-number.is in
     IfOk-weaker c.traits_of.result
-    (AreTraitsFrom c.args.traits.now c.as_str-id.result.now (targets_view c.as_slice-given.result.now) c.as_slice.result.now c.args.all.now)
+    (AreTraitsFrom c.args.traits.now c.as_str-id.result.now (targets_view c.as_slice-given.result.now) c.as_slice-2.result.now c.args.all.now)
     (HasMixedTraits c.args.traits.now c.args.rows.now c.args.members.now c.args.mixed.now number c.args.all.now)
     (λ entry from.
     subst (λ k. AreTraitsFrom c.args.traits.now k (targets_view (vec_items (slice_get c.args.members.now number)))
@@ -45,5 +48,9 @@ returns c =
     c.args.all.now entry)
     (c.as_slice-given.ensures.value ∙ sym (ap vec_items at_members))
     (subst (λ cs. AreTraitsFrom c.args.traits.now c.as_str-id.result.now (targets_view c.as_slice-given.result.now) cs c.args.all.now entry)
-    (c.as_slice.ensures.value ∙ sym (ap vec_items at_mixed)) from)))
+    (c.as_slice.ensures.value ∙ sym (ap vec_items at_mixed))
+    (last_traits c.args.traits.now c.as_str-id.result.now (targets_view c.as_slice-given.result.now) c.as_slice.result.now c.args.all.now
+    entry
+    (subst (λ cs. AreTraitsFrom c.args.traits.now c.as_str-id.result.now (targets_view c.as_slice-given.result.now) cs c.args.all.now entry)
+    (c.as_slice-2.ensures.value ∙ c.in_ok-mixins.ensures) from)))))
     c.traits_of.ensures

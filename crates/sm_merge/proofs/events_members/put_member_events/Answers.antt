@@ -4,8 +4,10 @@ use Rattle.sm_model.specs.EventView.{events_view}
 use Rattle.sm_merge.specs.steps.Filling.{all_targets}
 use Rattle.sm_merge.specs.steps.Firsts.{targets_view}
 use Rattle.sm_merge.specs.steps.MixedIn.{AreBelow}
+use Rattle.sm_merge.specs.steps.MixinsOnce.{mixins_once}
 use Rattle.sm_merge.specs.steps.PlaceEvents.{first_among, first_in, others_among, others_at, others_below}
 use Rattle.sm_merge.proofs.MixedMade.{below_at}
+use Rattle.sm_merge.proofs.MixinsOnce.{below_once}
 use Rattle.sm_merge.proofs.OthersPut.{others_entry}
 use Rattle.sm_merge.proofs.events_members.put_member_events.Goals as goal
 
@@ -17,8 +19,10 @@ put_others-requires c =
     let below = below_at (length c.args.rows.now) c.args.mixed.now c.loop-number.number c.index-mixed-number.result c.requires.below
     (slice_get_read c.args.mixed.now (length c.args.mixed.now) c.loop-number.number c.index-mixed-number.result refl small
     c.index-mixed-number.is) in
-    subst (λ cs. AreBelow (length c.args.members.now) cs) (sym c.as_slice-list.ensures.value)
-    (subst (λ (n : ℕ). AreBelow n c.index-mixed-number.result.items) (sym c.requires.members) below)
+    subst (λ cs. AreBelow (length c.args.members.now) cs) (sym (c.as_slice-in-loop-number-2.ensures.value ∙ c.in_ok-mixins.ensures))
+    (below_once (length c.args.members.now) c.as_slice.result.now
+    (subst (AreBelow (length c.args.members.now)) (sym c.as_slice.ensures.value)
+    (subst (λ (n : ℕ). AreBelow n c.index-mixed-number.result.items) (sym c.requires.members) below)))
 
 pub loop-number-preserved : goal.loop-number-preserved
 loop-number-preserved c =
@@ -39,10 +43,11 @@ loop-number-preserved c =
       told = c.in_ok-put_others.ensures.told
           ∙ ap (λ l. events_view c.loop-number.events.items ++ l)
           (ap (λ cs. others_among c.index-rows-number.result.id (first_in c.in_ok-firsts.firsts)
-          (all_targets c.args.members.now cs c.index-rows-number.result.members.items)) c.as_slice-list.ensures.value
+          (all_targets c.args.members.now cs c.index-rows-number.result.members.items))
+          (c.as_slice-in-loop-number-2.ensures.value ∙ c.in_ok-mixins.ensures ∙ ap mixins_once c.as_slice.ensures.value)
           ∙ others_entry c.args.rows.now c.args.mixed.now c.args.members.now c.loop-number.number c.index-rows-number.result
           c.index-mixed-number.result c.index-members-number.result (first_in c.in_ok-firsts.firsts) at_row at_mixed at_members
-          (λ n. c.in_ok-firsts.ensures n ∙ ap (λ ms. first_among (targets_view ms) n) c.as_slice.ensures.value))
+          (λ n. c.in_ok-firsts.ensures n ∙ ap (λ ms. first_among (targets_view ms) n) c.as_slice-in-loop-number.ensures.value))
           ∙ ap (λ l. l ++ others_at c.args.rows.now c.args.mixed.now c.args.members.now c.loop-number.number) c.loop-number.invariant.told
           ∙ append_assoc (events_view c.args.events.now.items)
           (others_below c.args.rows.now c.args.mixed.now c.args.members.now c.loop-number.number)

@@ -1,4 +1,4 @@
-use Rattle.std.proofs.Common.{◌≡◌, ◌⊎◌, ◌↔◌, ℕ, ◌+◌, ◌-◌, ◌*◌, ◌<◌, List, IfOk, ap, arith, false, get_or, length, map, subst, sym, true}
+use Rattle.std.proofs.Common.{◌≡◌, ◌⊎◌, ◌↔◌, ℕ, ◌+◌, ◌-◌, ◌*◌, ◌<◌, List, IfOk, ap, arith, false, get_or, length, map, subst, true}
 use Rattle.std.proofs.Common.{◌∙◌}
 use Rattle.std.proofs.lemmas.Result.{IfOk-weaker}
 use Rattle.sm_model.specs.GraphView.{maps_of}
@@ -11,7 +11,7 @@ use Rattle.sm_select.specs.steps.Imaging.{ArePicking}
 use Rattle.sm_select.proofs.LedInGraph.{one_in, picks_in}
 use Rattle.sm_select.proofs.PickedImages.{are_picking}
 use Rattle.sm_select.proofs.SelectorLists.{any_all, any_step, back_all, back_none, back_step, on_all, on_step}
-use Rattle.sm_select.proofs.SelectorWeight.{alternatives_weight, selector_light, step_light, step_weight, steps_weight}
+use Rattle.sm_select.proofs.SelectorWeight.{alternatives_weight, light_selector, light_step, step_weight, steps_weight}
 use Rattle.sm_select.proofs.StepImages.{comes_along, comes_any, comes_compare, comes_has, comes_is, comes_named, comes_not, comes_test}
 use Rattle.sm_select.proofs.images.+images.Goals as goal
 
@@ -81,9 +81,7 @@ pub image_of-image_of_step-requires : goal.image_of-image_of_step-requires
 image_of-image_of_step-requires t c =
     let steps = c.args.steps.now in
     let x = c.step-item.result in
-    let light : step_weight (step_view x) < steps_weight (steps_of (step_views steps)) =
-    subst (λ y. step_weight (step_view y) < steps_weight (steps_of (step_views steps))) (sym c.step-item.is)
-    (step_light steps c.loop-step.step-index x c.loop-step-test.true) in
+    let light = light_step steps c.loop-step.step-index x c.loop-step-test.true c.step-item.is in
     let whole : 4 * steps_weight (steps_of (step_views steps)) ≡ t = c.decreases in
     let falls : 4 * step_weight (step_view x) < t = omega (arith, light, whole) in
     (falls, (ap length c.deref.ensures.value ∙ c.loop-step.invariant.count, c.requires.ways))
@@ -113,15 +111,11 @@ image_of-returns t c =
 pub image_of_any-image-requires : goal.image_of_any-image-requires
 image_of_any-image-requires t c =
     let ss = c.args.selectors.now in
-    let x = c.selector-item.result in
-    let all = alternatives_weight (alternatives_of (map steps_of (selector_views ss))) in
-    let light : steps_weight (steps_of (selector_view x)) < all =
-    subst (λ y. steps_weight (steps_of (selector_view y)) < all) (sym c.selector-item.is)
-    (selector_light ss c.loop-selector.selector-index x c.loop-selector-test.true) in
-    let same : steps_weight (steps_of (step_views c.as_slice.result.now)) ≡ steps_weight (steps_of (selector_view x)) =
-    ap (λ xs. steps_weight (steps_of xs)) c.as_slice.ensures in
-    let whole : 4 * all ≡ t = c.decreases in
-    let falls : 4 * steps_weight (steps_of (step_views c.as_slice.result.now)) + 1 < t = omega (arith, light, same, whole) in
+    let steps = c.as_slice.result.now in
+    let light = light_selector ss c.loop-selector.selector-index c.selector-item.result steps c.loop-selector-test.true c.selector-item.is
+    c.as_slice.ensures in
+    let whole : 4 * alternatives_weight (alternatives_of (map steps_of (selector_views ss))) ≡ t = c.decreases in
+    let falls : 4 * steps_weight (steps_of (step_views steps)) + 1 < t = omega (arith, light, whole) in
     (falls, (c.requires.count, c.requires.ways))
 
 pub image_of_any-loop-selector-preserved : goal.image_of_any-loop-selector-preserved
@@ -162,10 +156,7 @@ origin_of-image_of_step-requires t c =
     let steps = c.args.steps.now in
     let done = c.loop-done.done in
     let x = c.index-steps-steps.result in
-    let at_place = c.index-steps-steps.is in
-    let light : step_weight (step_view x) < steps_weight (steps_of (step_views steps)) =
-    subst (λ y. step_weight (step_view y) < steps_weight (steps_of (step_views steps))) (sym at_place)
-    (step_light steps (length steps - 1 - done) x (omega (arith, c.loop-done-test.true))) in
+    let light = light_step steps (length steps - 1 - done) x (omega (arith, c.loop-done-test.true)) c.index-steps-steps.is in
     let whole : 4 * steps_weight (steps_of (step_views steps)) ≡ t = c.decreases in
     let falls : 4 * step_weight (step_view x) < t = omega (arith, light, whole) in
     (falls, (ap length c.deref.ensures.value ∙ c.loop-done.invariant.count, c.requires.ways))

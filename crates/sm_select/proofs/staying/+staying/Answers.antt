@@ -1,33 +1,25 @@
-use Rattle.std.proofs.Common.{◌≡◌, ◌<◌, ap, arith, map, subst, sym, ◌∙◌}
+use Rattle.std.proofs.Common.{◌≡◌, ap, arith, map, sym, ◌∙◌}
 use Rattle.sm_select.specs.Selectors.{alternatives_of, steps_of}
-use Rattle.sm_select.specs.View.{selector_view, selector_views, step_view, step_views}
+use Rattle.sm_select.specs.View.{selector_views, step_views}
 use Rattle.sm_select.specs.steps.Staying.{all_stay}
-use Rattle.sm_select.proofs.SelectorWeight.{alternatives_weight, selector_light, step_light, step_weight, steps_weight}
+use Rattle.sm_select.proofs.SelectorWeight.{alternatives_weight, light_selector, light_step, steps_weight}
 use Rattle.sm_select.proofs.StillSteps.{all_ended, all_next, all_stopped, each_ended, each_next, each_stopped}
 use Rattle.sm_select.proofs.staying.+staying.Goals as goal
 
 pub all_stay-stays-requires : goal.all_stay-stays-requires
 all_stay-stays-requires t c =
     let steps = c.args.steps.now in
-    let x = c.step-item.result in
-    let light : step_weight (step_view x) < steps_weight (steps_of (step_views steps)) =
-    subst (λ y. step_weight (step_view y) < steps_weight (steps_of (step_views steps))) (sym c.step-item.is)
-    (step_light steps c.loop-step.step-index x c.loop-step-test.true) in
+    let light = light_step steps c.loop-step.step-index c.step-item.result c.loop-step-test.true c.step-item.is in
     let whole : steps_weight (steps_of (step_views steps)) ≡ t = c.decreases in
     (omega (arith, light, whole), tt)
 
 pub each_stays-all_stay-requires : goal.each_stays-all_stay-requires
 each_stays-all_stay-requires t c =
     let ss = c.args.selectors.now in
-    let x = c.selector-item.result in
-    let all = alternatives_weight (alternatives_of (map steps_of (selector_views ss))) in
-    let light : steps_weight (steps_of (selector_view x)) < all =
-    subst (λ y. steps_weight (steps_of (selector_view y)) < all) (sym c.selector-item.is)
-    (selector_light ss c.loop-selector.selector-index x c.loop-selector-test.true) in
-    let same : steps_weight (steps_of (step_views c.as_slice.result.now)) ≡ steps_weight (steps_of (selector_view x)) =
-    ap (λ xs. steps_weight (steps_of xs)) c.as_slice.ensures in
-    let whole : all ≡ t = c.decreases in
-    (omega (arith, light, same, whole), tt)
+    let light = light_selector ss c.loop-selector.selector-index c.selector-item.result c.as_slice.result.now c.loop-selector-test.true
+    c.selector-item.is c.as_slice.ensures in
+    let whole : alternatives_weight (alternatives_of (map steps_of (selector_views ss))) ≡ t = c.decreases in
+    (omega (arith, light, whole), tt)
 
 pub all_stay-returns-then-not-stays : goal.all_stay-returns-then-not-stays
 all_stay-returns-then-not-stays t c =

@@ -1,4 +1,4 @@
-use Rattle.std.proofs.Common.{◌≡◌, ◌⊎◌, ◌↔◌, ◌+◌, ◌<◌, ℕ, IfOk, ap, arith, false, get_or, length, map, subst, sym, true, ◌∙◌}
+use Rattle.std.proofs.Common.{◌≡◌, ◌⊎◌, ◌↔◌, ◌+◌, ℕ, IfOk, ap, arith, false, get_or, length, map, subst, sym, true, ◌∙◌}
 use Rattle.std.proofs.lemmas.List.{length-replicate}
 use Rattle.sm_model.specs.GraphView.{maps_of}
 use Rattle.sm_model.specs.Reaching.{AreMarks, IsMarked}
@@ -7,7 +7,7 @@ use Rattle.sm_select.specs.Selectors.{alternatives_of, steps_of}
 use Rattle.sm_select.specs.View.{selector_view, selector_views, selectors_view, step_view, step_views}
 use Rattle.sm_select.specs.steps.Staying.{AreStill, all_stay, each_stays, stays}
 use Rattle.sm_select.proofs.SelectorViews.{step_is, step_not, step_test}
-use Rattle.sm_select.proofs.SelectorWeight.{alternatives_weight, selector_light, step_light, step_weight, steps_weight}
+use Rattle.sm_select.proofs.SelectorWeight.{alternatives_weight, light_selector, light_step, step_weight, steps_weight}
 use Rattle.sm_select.proofs.StillSteps.{one_all, each_at, one_begun, one_more, stays_at, still_any, still_begun, still_compare, still_ended}
 use Rattle.sm_select.proofs.StillSteps.{still_has, still_is, still_named, still_next, still_not, still_test}
 use Rattle.sm_select.proofs.staying.+still.Goals as goal
@@ -20,12 +20,12 @@ still_of_step-returns-in-Any t c =
 pub still_of_step-returns-in-Named : goal.still_of_step-returns-in-Named
 still_of_step-returns-in-Named t c =
     still_named c.args.graph.now c.args.numbers.now (λ m. m.items) c.args.starts.now c.requires.count c.args.step.now c.in-Named.named
-    c.in-Named.is c.kept_by_kind.result c.kept_by_kind.ensures
+    c.in-Named.is c.kept_among.result c.kept_among.ensures
 
 pub still_of_step-returns-in-Has : goal.still_of_step-returns-in-Has
 still_of_step-returns-in-Has t c =
     still_has c.args.graph.now c.args.numbers.now (λ m. m.items) c.args.starts.now c.requires.count c.args.step.now c.in-Has.path
-    c.in-Has.is c.kept_by_path.result c.kept_by_path.ensures
+    c.in-Has.is c.kept_among-in-Has.result c.kept_among-in-Has.ensures
 
 pub still_of_step-returns-in-Compare : goal.still_of_step-returns-in-Compare
 still_of_step-returns-in-Compare t c =
@@ -102,12 +102,9 @@ still_of-still_of_step-requires t c =
     let steps = c.args.steps.now in
     let i = c.loop-step.step-index in
     let x = c.step-item.result in
-    let light : step_weight (step_view x) < steps_weight (steps_of (step_views steps)) =
-    subst (λ y. step_weight (step_view y) < steps_weight (steps_of (step_views steps))) (sym c.step-item.is)
-    (step_light steps i x c.loop-step-test.true) in
+    let light = light_step steps i x c.loop-step-test.true c.step-item.is in
     let whole : steps_weight (steps_of (step_views steps)) ≡ t = c.decreases in
-    let still : stays (step_view x) ≡ true =
-    subst (λ y. stays (step_view y) ≡ true) (sym c.step-item.is) (stays_at steps i x c.loop-step-test.true c.requires.stays) in
+    let still = stays_at steps i x c.loop-step-test.true c.step-item.is c.requires.stays in
     (omega (arith, light, whole), (still, (c.requires.numbers, ap length c.deref.ensures.value ∙ c.loop-step.invariant.count)))
 
 pub still_of-loop-step-preserved : goal.still_of-loop-step-preserved
@@ -118,8 +115,7 @@ still_of-loop-step-preserved t c =
     let steps = c.args.steps.now in
     let x = c.step-item.result in
     let now = c.in_ok-marks-2.marks.items in
-    let still : stays (step_view x) ≡ true =
-    subst (λ y. stays (step_view y) ≡ true) (sym c.step-item.is) (stays_at steps at.step-index x c.loop-step-test.true c.requires.stays) in
+    let still = stays_at steps at.step-index x c.loop-step-test.true c.step-item.is c.requires.stays in
     let step : AreStill g ns at.marks.items (Goes (maps_of g) (step_view x)) now =
     subst (λ xs. AreStill g ns xs (Goes (maps_of g) (step_view x)) now) c.deref.ensures.value c.in_ok-marks-2.ensures in
     record {
@@ -147,17 +143,10 @@ still_of_any-still_of-requires t c =
     let ss = c.args.selectors.now in
     let i = c.loop-selector.selector-index in
     let x = c.selector-item.result in
-    let all = alternatives_weight (alternatives_of (map steps_of (selector_views ss))) in
-    let light : steps_weight (steps_of (selector_view x)) < all =
-    subst (λ y. steps_weight (steps_of (selector_view y)) < all) (sym c.selector-item.is)
-    (selector_light ss i x c.loop-selector-test.true) in
-    let same : steps_weight (steps_of (step_views c.as_slice.result.now)) ≡ steps_weight (steps_of (selector_view x)) =
-    ap (λ xs. steps_weight (steps_of xs)) c.as_slice.ensures in
-    let whole : all ≡ t = c.decreases in
-    let still : all_stay (steps_of (selector_view x)) ≡ true =
-    subst (λ y. all_stay (steps_of (selector_view y)) ≡ true) (sym c.selector-item.is)
-    (each_at ss i x c.loop-selector-test.true c.requires.stays) in (
-      omega (arith, light, same, whole),
+    let light = light_selector ss i x c.as_slice.result.now c.loop-selector-test.true c.selector-item.is c.as_slice.ensures in
+    let whole : alternatives_weight (alternatives_of (map steps_of (selector_views ss))) ≡ t = c.decreases in
+    let still = each_at ss i x c.loop-selector-test.true c.selector-item.is c.requires.stays in (
+      omega (arith, light, whole),
       (ap (λ xs. all_stay (steps_of xs)) c.as_slice.ensures ∙ still, (c.requires.numbers, c.requires.count)),
     )
 

@@ -3,7 +3,7 @@ use Rattle.sm_service_rules.proofs.FiniteTold.{all_finite}
 use Rattle.sm_service_rules.proofs.finite.finite_shapes.Goals as goal
 
 pub follow-requires-clause-ways : goal.follow-requires-clause-ways
-follow-requires-clause-ways c = c.in_ok-ways.ensures.are_back
+follow-requires-clause-ways c = c.requires
 
 pub follow-requires-clause-knows : goal.follow-requires-clause-knows
 follow-requires-clause-knows c = c.in_ok-look_at_all.ensures.knows

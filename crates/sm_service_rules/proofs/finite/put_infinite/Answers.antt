@@ -6,6 +6,9 @@ use Rattle.sm_service_rules.specs.rules.Finite.{HasNoFinite}
 use Rattle.sm_service_rules.specs.parts.Finding.{AreFinite}
 use Rattle.sm_service_rules.proofs.finite.put_infinite.Goals as goal
 
+pub finite_shapes-requires : goal.finite_shapes-requires
+finite_shapes-requires c = c.requires.are_back
+
 pub put_each-requires : goal.put_each-requires
 put_each-requires c = subst (AreFinite c.args.graph.now) (sym c.as_slice.ensures.value) c.in_ok-finite.ensures
 

@@ -1,10 +1,8 @@
-use Rattle.std.proofs.Common.{◌≡◌, length, ap, sym, subst, ◌∙◌}
+use Rattle.std.proofs.Common.{length, ap, sym, subst, ◌∙◌}
 use Rattle.std.specs.List.{Contains}
 use Rattle.sm_model.specs.GraphView.{entries_of, maps_of}
 use Rattle.sm_model.specs.Reaching.{id_of_number}
 use Rattle.sm_tree.specs.Parts.{tree_named}
-use Rattle.sm_rules.specs.declared.rule.Rule.TheVariants.{ServiceNames}
-use Rattle.sm_rules.specs.RuleEvents.{rule_event}
 use Rattle.sm_service_rules.specs.parts.Naming.{AreRowsBelow, IsKeyBy, is_named, tree_in}
 use Rattle.sm_rules.proofs.UnusedShapes.{own_service}
 use Rattle.sm_service_rules.proofs.NamesTold.{names_put}
@@ -17,8 +15,8 @@ named_rows-requires c = c.requires.inside.whole
 pub put_later-requires-clause-numbers : goal.put_later-requires-clause-numbers
 put_later-requires-clause-numbers c r among =
     let g = c.args.graph.now in
-    (row_of (λ k e. e ≡ rule_event ServiceNames (id_of_number g c.args.service) (id_of_number g k)) (is_named g c.args.inside.now)
-    (IsKeyBy (tree_in c.in_ok-given.given) g) (length (entries_of g)) c.in_ok-rows.rows.items c.in_ok-rows.ensures r
+    (row_of (is_named g c.args.inside.now) (IsKeyBy (tree_in c.in_ok-given.given) g) (length (entries_of g))
+    c.in_ok-rows.rows.items c.in_ok-rows.ensures r
     (subst (λ rs. Contains rs r) c.as_slice.ensures.value among)).0
 
 pub returns : goal.returns

@@ -1,7 +1,7 @@
-use Rattle.std.proofs.Common.{subst, sym}
-use Rattle.sm_rules.specs.parts.Closures.{AreInside}
+use Rattle.sm_service_rules.proofs.NamesApart.{settled_put}
 use Rattle.sm_service_rules.proofs.names.put_names_of.Goals as goal
 
-pub put_names_among-requires-clause-inside : goal.put_names_among-requires-clause-inside
-put_names_among-requires-clause-inside c =
-    subst (AreInside c.args.graph.now c.args.service) (sym c.as_slice.ensures.value) c.in_ok-inside.ensures
+pub returns-then-is_settled : goal.returns-then-is_settled
+returns-then-is_settled c =
+    let s = c.is_settled.ensures c.if-is_settled.true in
+    settled_put c.args.graph.now c.args.service (c.requires.apart s.0) s.1 c.args.events.now.items

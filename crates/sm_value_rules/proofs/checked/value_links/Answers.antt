@@ -1,4 +1,3 @@
-use Rattle.std.proofs.Common.{subst}
 use Rattle.std.proofs.lemmas.Result.{IfOk-weaker}
 use Rattle.sm_value_rules.specs.parts.Checking.{AreOfValues, AreValueLinks}
 use Rattle.sm_value_rules.proofs.CheckedMarks.{value_links_told}
@@ -7,7 +6,6 @@ use Rattle.sm_value_rules.proofs.checked.value_links.Goals as goal
 pub returns : goal.returns
 returns c =
     let g = c.args.graph.now in
-    let all = c.in_ok-all.all.items in
-    IfOk-weaker c.links_of_values.result (λ links. AreOfValues c.as_slice.result.now links.items) (λ links. AreValueLinks g links.items)
-    (λ links of. value_links_told g all links.items c.in_ok-all.ensures
-    (subst (λ ls. AreOfValues ls links.items) c.as_slice.ensures.value of)) c.links_of_values.ensures
+    let all = c.args.all.now in
+    IfOk-weaker c.links_of_values.result (λ links. AreOfValues all links.items) (λ links. AreValueLinks g links.items)
+    (λ links of. value_links_told g all links.items c.requires of) c.links_of_values.ensures

@@ -1,6 +1,9 @@
-use Rattle.std.proofs.Common.{◌≡◌, length, vec_len, subst, sym, arith, rules}
+use Rattle.std.proofs.Common.{◌≡◌, ◌<◌, ◌^◌, List, length, vec_len, subst, sym, arith, rules}
 use Rattle.sm_tree.specs.View.{pairs_view}
-use Rattle.sm_model.specs.steps.Rising.{KeepsMap}
+use Rattle.sm_model.specs.GraphRows.{ids_of}
+use Rattle.sm_model.specs.steps.TargetNumbers.{AreTargets}
+use Rattle.sm_model.specs.declared.graph.rows.Row.{Row}
+use Rattle.sm_model.specs.steps.Rising.{KeepsMap, Rise}
 use Rattle.sm_model.proofs.MadeGraphs.{few_rows, few_sorted, given_sorted, made_map, same_graph, sound_rows}
 use Rattle.sm_model.proofs.graph.Graph.build.Goals as goal
 
@@ -10,6 +13,15 @@ rows_of-requires-clause-given c = given_sorted c.args.shapes.items c.shapes_in_o
 
 pub rows_of-requires-clause-few : goal.rows_of-requires-clause-few
 rows_of-requires-clause-few c = few_sorted c.args.shapes.items c.shapes_in_order.result.items c.shapes_in_order.ensures.moved c.requires.few
+
+pub targets_of-requires-clause-rise : goal.targets_of-requires-clause-rise
+targets_of-requires-clause-rise c = subst (λ rows. Rise (ids_of rows)) (sym c.as_slice.ensures.value) c.in_ok-rows.ensures.rise
+
+pub targets_of-requires-clause-few : goal.targets_of-requires-clause-few
+targets_of-requires-clause-few c =
+    subst (λ (rs : List Row). length rs < 2 ^ 32) (sym c.as_slice.ensures.value)
+    (few_rows c.args.shapes.items c.shapes_in_order.result.items c.shapes_in_order.ensures.moved c.in_ok-rows.rows.items
+    c.in_ok-rows.ensures c.requires.few)
 
 pub invariant_of-result : goal.invariant_of-result
 invariant_of-result c =
@@ -24,6 +36,7 @@ invariant_of-result c =
             c.requires.few,
       );
       sound = sound_rows c.args.shapes.items c.shapes_in_order.result.items moved rows.items c.in_ok-rows.ensures;
+      targeted = subst (λ rs. AreTargets rs c.in_ok-targets.targets.items) c.as_slice.ensures.value c.in_ok-targets.ensures;
       sorted = c.pairs_in_order-metadata.ensures.sorted;
     }
 

@@ -1,25 +1,14 @@
-use Rattle.std.proofs.Common.{◌<◌, ◌≡◌, length, rules, subst}
-use Rattle.std.specs.List.{HoldsAt}
-use Rattle.std.specs.List.Sorted.{IsNonDecreasingBy, IsPartitionPoint}
-use Rattle.std.specs.Ordering.{ordering_index}
-use Rattle.std.specs.declared.cmp.Ordering.TheVariants.{Less, Equal, Greater}
-use Rattle.std.proofs.lemmas.Fn.{always_returns_same}
-use Rattle.sm_model.specs.Graphs.{text_cmp}
-use Rattle.sm_model.proofs.Entries.{found_number, found_no_number}
+use Rattle.std.proofs.Common.{subst, sym}
+use Rattle.sm_model.specs.GraphRows.{ids_of}
+use Rattle.sm_model.specs.steps.TargetNumbers.{IsNumberAmong}
+use Rattle.sm_model.specs.steps.Rising.{Rise}
+use Rattle.sm_model.proofs.TargetsKept.{ids_rise, number_stands}
 use Rattle.sm_model.proofs.graph.Graph.number.Goals as goal
 
-pub returns-in-Ok : goal.returns-in-Ok
-returns-in-Ok c =
-    let q = c.args.id.now in
-    let held = c.in-Ok.ensures.position (λ r. text_cmp r.id q) (always_returns_same _ _ _ (λ a r g called. search rules)) in
-    found_number c.args.self.now q c.in-Ok.place
-    (subst (λ rows. c.in-Ok.place < length rows) c.deref.ensures.value c.in-Ok.ensures.bound)
-    (subst (λ rows. HoldsAt (λ r. text_cmp r.id q ≡ Equal) rows c.in-Ok.place) c.deref.ensures.value held)
+pub number_in-requires-clause-rise : goal.number_in-requires-clause-rise
+number_in-requires-clause-rise c = subst (λ rows. Rise (ids_of rows)) (sym c.as_slice.ensures.value) (ids_rise c.args.self.now)
 
-pub returns-in-Err : goal.returns-in-Err
-returns-in-Err c =
-    let q = c.args.id.now in
-    let parted = c.in-Err.ensures.position (λ r. text_cmp r.id q) (always_returns_same _ _ _ (λ a r g called. search rules)) in
-    found_no_number c.args.self.now q c.in-Err.field-0
-    (subst (λ rows. IsNonDecreasingBy (λ r. ordering_index (text_cmp r.id q)) rows
-    → IsPartitionPoint (λ r. text_cmp r.id q ≡ Less) (λ r. text_cmp r.id q ≡ Greater) rows c.in-Err.field-0) c.deref.ensures.value parted)
+pub returns : goal.returns
+returns c =
+    number_stands c.args.self.now c.args.id.now c.number_in.result
+    (subst (λ rows. IsNumberAmong (ids_of rows) c.args.id.now c.number_in.result) c.as_slice.ensures.value c.number_in.ensures)

@@ -3,7 +3,7 @@ use Rattle.sm_tree.specs.Node.{members_of}
 use Rattle.sm_tree.specs.Parts.{tree_named}
 use Rattle.sm_tree.specs.View.{members_view}
 use Rattle.sm_service_rules.specs.parts.Naming.{tree_in}
-use Rattle.sm_service_rules.proofs.names.names_given.Given as goal
+use Rattle.sm_service_rules.proofs.named.names_given.Given as goal
 
 abbrev pub decreases-loop-left : goal.decreases-loop-left
 decreases-loop-left l = l.left

@@ -12,7 +12,7 @@ use Rattle.sm_tree.specs.View.{members_view, node_of}
 use Rattle.sm_tree.specs.declared.tree.Tree.{Tree}
 use Rattle.sm_service_rules.specs.parts.Naming.{tree_in}
 use Rattle.sm_service_rules.proofs.GivenNames.{tree_cond, tree_more}
-use Rattle.sm_service_rules.proofs.names.names_given.Goals as goal
+use Rattle.sm_service_rules.proofs.named.names_given.Goals as goal
 
 pub loop-left-preserved : goal.loop-left-preserved
 loop-left-preserved c =

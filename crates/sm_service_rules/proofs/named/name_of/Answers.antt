@@ -5,7 +5,7 @@ use Rattle.sm_model.proofs.NumberedIds.{entry_here}
 use Rattle.sm_compile.specs.TraitNodes.{text_of}
 use Rattle.sm_service_rules.specs.parts.Naming.{tree_in}
 use Rattle.sm_service_rules.proofs.GivenNames.{name_by}
-use Rattle.sm_service_rules.proofs.names.name_of.Goals as goal
+use Rattle.sm_service_rules.proofs.named.name_of.Goals as goal
 
 pub returns-in-Some : goal.returns-in-Some
 returns-in-Some c =

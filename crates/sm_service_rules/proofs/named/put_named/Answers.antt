@@ -1,7 +1,7 @@
 use Rattle.std.proofs.Common.{refl, subst, sym, ◌∙◌}
 use Rattle.std.proofs.lemmas.Result.{on_ok_weaker}
 use Rattle.sm_service_rules.specs.parts.Naming.{IsKeyBy, MoreBy, tree_in}
-use Rattle.sm_service_rules.proofs.names.put_named.Goals as goal
+use Rattle.sm_service_rules.proofs.named.put_named.Goals as goal
 
 pub returns-then-is_named : goal.returns-then-is_named
 returns-then-is_named c =

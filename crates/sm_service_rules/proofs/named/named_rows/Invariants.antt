@@ -1,7 +1,7 @@
 use Rattle.std.proofs.Common.{◌≤◌, length}
 use Rattle.sm_model.specs.GraphView.{entries_of}
 use Rattle.sm_service_rules.specs.parts.Naming.{AreRowsBelow, IsKeyBy, is_named, tree_in}
-use Rattle.sm_service_rules.proofs.names.named_rows.Given as goal
+use Rattle.sm_service_rules.proofs.named.named_rows.Given as goal
 
 abbrev pub invariant-loop-number : goal.invariant-loop-number
 invariant-loop-number l = record {

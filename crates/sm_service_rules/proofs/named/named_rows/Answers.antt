@@ -1,7 +1,7 @@
 use Rattle.std.proofs.Common.{◌≡◌, ◌+◌, suc, length, subst, arith}
 use Rattle.sm_model.specs.GraphView.{entries_of}
 use Rattle.sm_service_rules.specs.parts.Naming.{AreRowsBelow, IsKeyBy, is_named, tree_in}
-use Rattle.sm_service_rules.proofs.names.named_rows.Goals as goal
+use Rattle.sm_service_rules.proofs.named.named_rows.Goals as goal
 
 pub loop-number-preserved : goal.loop-number-preserved
 loop-number-preserved c =
