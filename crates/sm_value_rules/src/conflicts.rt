@@ -12,7 +12,7 @@ ghost use Rattle.sm_model.specs.Relations.{IsEntryText};
 ghost use Rattle.sm_model.specs.steps.Linking.{Joins};
 ghost use Rattle.sm_rules.specs.RuleEvents.{IsEventAt, IsEventOf, Puts};
 ghost use Rattle.sm_rules.specs.declared.rule.Rule.TheVariants.{TraitConflict};
-ghost use Rattle.sm_value_rules.specs.parts.Conflicting.{AreExcluded, AreTextsOf, HasText, IsGreaterBy, IsGreaterIfHeld};
+ghost use Rattle.sm_value_rules.specs.parts.Conflicting.{AreExcluded, AreTextsOf, HasText, IsExcludedAt, IsGreaterBy, IsGreaterIfHeld};
 ghost use Rattle.sm_value_rules.specs.parts.Conflicting.{IsGreaterOfAny, IsGreaterOfBoth, IsGreaterOfTrait, IsGreaterThere, IsHeldThere};
 ghost use Rattle.sm_value_rules.specs.parts.Conflicting.{ToldHeld, conflicts_in, conflicts_under};
 ghost use Rattle.sm_value_rules.specs.rules.Conflicts.{HasConflict, HasExcludedTrait};
@@ -60,6 +60,7 @@ pub fn put_excluded(
         alloc,
         graph,
         &Excluding {
+            graph,
             sets: sets.as_slice(),
         },
         events,
@@ -67,17 +68,38 @@ pub fn put_excluded(
     Ok(())
 }
 
+// What the trait at a number excludes: the entries, and the set of their texts. They are looked up once for all its carriers, since
+// whether the value of `trait` reads is a question to each entry.
+#[derive(Drop)]
+struct Excluded<'a> {
+    entries: &'a [Tree],
+    set: TextSet<'a>,
+}
+
+impl<'a> Excluded<'a> {
+    fn at(alloc: Global, graph: &'a Graph, number: u32) -> Result<Self, NoMemory>
+        requires { IsShapeNumber graph.now number }
+        ensures { IfOk result (λ e. IsExcludedAt graph.now number e) }
+    {
+        let entries = conflicts_at(graph, number);
+        let set = TextSet::among(alloc, entries)?;
+        Ok(Excluded { entries, set })
+    }
+}
+
 // What is told of what carries traits.
 #[derive(Drop)]
 struct Excluding<'a, 'b> {
+    // The graph, as long as what the traits exclude: ids of traits and entries go into one set.
+    graph: &'b Graph,
     // What the trait at each number excludes.
-    sets: &'a [TextSet<'b>],
+    sets: &'a [Excluded<'b>],
 }
 
 impl AtEach for Excluding<'_, '_> {
     ghost tells = { λ rule g id. IsEventAt TraitConflict (HasExcludedTrait g) id };
 
-    ghost knows = { λ rule g. AreExcluded g rule.sets.now };
+    ghost knows = { λ rule g. (rule.graph.now ≡ g) × AreExcluded g rule.sets.now };
 
     fn put_at(
         &self,
@@ -89,20 +111,20 @@ impl AtEach for Excluding<'_, '_> {
         if is_in_prelude(id_text(graph, number)) {
             Ok(())
         } else {
-            put_carried(alloc, graph, self.sets, number, events)?;
+            put_carried(alloc, self.graph, self.sets, number, events)?;
             Ok(())
         }
     }
 }
 
-// For each number the texts that the trait there excludes. n log n.
-fn excluded_sets<'a>(alloc: Global, graph: &'a Graph) -> Result<Vec<TextSet<'a>>, NoMemory>
+// For each number what the trait there excludes. n log n.
+fn excluded_sets<'a>(alloc: Global, graph: &'a Graph) -> Result<Vec<Excluded<'a>>, NoMemory>
     ensures { IfOk result (λ sets. AreExcluded graph.now sets.items) }
 {
     let mut sets = Vec::new(alloc);
     for number in 0..graph.count() {
-        let set = TextSet::among(alloc, conflicts_at(graph, number))?;
-        sets.push(set)?;
+        let excluded = Excluded::at(alloc, graph, number)?;
+        sets.push(excluded)?;
     }
     Ok(sets)
 }
@@ -111,7 +133,7 @@ fn excluded_sets<'a>(alloc: Global, graph: &'a Graph) -> Result<Vec<TextSet<'a>>
 fn put_carried<'a>(
     alloc: Global,
     graph: &'a Graph,
-    sets: &[TextSet<'_>],
+    sets: &[Excluded<'a>],
     number: u32,
     events: &mut Vec<ModelEvent>,
 ) -> Result<(), NoMemory>
@@ -176,7 +198,7 @@ fn put_if_told(
 // Takes the greater of each two traits there of which one excludes the other.
 fn take_carried<'a>(
     graph: &'a Graph,
-    sets: &[TextSet<'_>],
+    sets: &[Excluded<'a>],
     number: u32,
     told: &mut TextSet<'a>,
 ) -> Result<(), NoMemory>
@@ -195,7 +217,7 @@ fn take_carried<'a>(
 // Of one of them and those that it excludes. What has no shape in the graph excludes nothing.
 fn take_of_trait<'a>(
     graph: &'a Graph,
-    sets: &[TextSet<'_>],
+    sets: &[Excluded<'a>],
     number: u32,
     name: &'a str,
     told: &mut TextSet<'a>,
@@ -208,8 +230,7 @@ fn take_of_trait<'a>(
 {
     match graph.number(name) {
         Some(found) => {
-            let conflicts = conflicts_at(graph, found);
-            take_shorter(graph, number, name, conflicts, &sets[found as usize], told)?;
+            take_shorter(graph, number, name, &sets[found as usize], told)?;
             Ok(())
         }
         None => Ok(()),
@@ -221,21 +242,20 @@ fn take_shorter<'a>(
     graph: &'a Graph,
     number: u32,
     name: &'a str,
-    conflicts: &'a [Tree],
-    set: &TextSet<'_>,
+    excluded: &Excluded<'a>,
     told: &mut TextSet<'a>,
 ) -> Result<(), NoMemory>
     requires number { IsShapeNumber graph.now number }
-    requires set { AreTextsOf (nodes_of (nodes_view conflicts.now)) set.now.texts }
+    requires texts { AreTextsOf (nodes_of (nodes_view excluded.now.entries.now)) excluded.now.set.texts }
     ensures { OnOk result
         (Joins (HasText told.old.texts) (IsGreaterOfAny (maps_of graph.now) (id_of_number graph.now number) name.now
-        (λ other. IsEntryText other (nodes_of (nodes_view conflicts.now)))) (HasText told.new.texts)) }
+        (λ other. IsEntryText other (nodes_of (nodes_view excluded.now.entries.now)))) (HasText told.new.texts)) }
 {
-    if conflicts.len() <= graph.traits(number).len() {
-        take_entries(graph, number, name, conflicts, told)?;
+    if excluded.entries.len() <= graph.traits(number).len() {
+        take_entries(graph, number, name, excluded.entries, told)?;
         Ok(())
     } else {
-        take_named(graph, number, name, set, told)?;
+        take_named(graph, number, name, &excluded.set, told)?;
         Ok(())
     }
 }

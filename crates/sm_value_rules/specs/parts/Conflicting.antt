@@ -8,7 +8,8 @@ use Rattle.std.specs.Option.{option_and_then, unwrap_or}
 use Rattle.std.specs.Ordering.{nat_cmp}
 use Rattle.std.specs.declared.cmp.Ordering.{Ordering}
 use Rattle.std.specs.declared.cmp.Ordering.TheVariants.{Less, Equal, Greater}
-use Rattle.sm_tree.specs.Node.{Node, Nodes, no_nodes}
+use Rattle.sm_tree.specs.Node.{Node, Nodes, no_nodes, nodes_of}
+use Rattle.sm_tree.specs.View.{nodes_view}
 use Rattle.sm_tree.specs.Parts.{entries_in}
 use Rattle.sm_model.specs.EventView.{EventTold}
 use Rattle.sm_model.specs.Graphs.{text_cmp, GraphMaps}
@@ -25,7 +26,7 @@ use Rattle.sm_rules.specs.parts.Carrying.{carries}
 use Rattle.sm_rules.specs.parts.Folded.{is_own_shape}
 use Rattle.sm_rules.specs.parts.Forms.{is_trait_value}
 use Rattle.sm_rules.specs.parts.Putting.{IsWhere}
-use Rattle.sm_value_rules.specs.declared.text_set.TextSet.{TextSet}
+use Rattle.sm_value_rules.specs.declared.conflicts.Excluded.{Excluded}
 
 -- the entries of `conflicts` in the value of `trait`, where it reads, and those of a shape outside of the prelude
 abbrev pub conflicts_in : Option Node → Nodes
@@ -45,14 +46,15 @@ HasText texts t = has_text texts t ≡ true
 abbrev pub AreTextsOf : Nodes → BTreeSet (Bor (List ℕ)) → Type 0
 AreTextsOf ns texts = (t : List ℕ) → HasText texts t ↔ IsEntryText t ns
 
--- it has exactly the texts that the trait at a number excludes; and so do these, each by its number
-abbrev pub IsExcludedAt : Graph → ℕ → TextSet → Type 0
-IsExcludedAt g k set = AreTextsOf (conflicts_under (maps_of g) (id_of_number g k)) set.texts
+-- the entries are those of the trait at a number, and the set has exactly their texts; and so of these, each by its number
+pub record IsExcludedAt (g : Graph) (k : ℕ) (e : Excluded) : Type 0 where
+  pub entries : nodes_of (nodes_view e.entries.now) ≡ conflicts_under (maps_of g) (id_of_number g k)
+  pub texts : AreTextsOf (nodes_of (nodes_view e.entries.now)) e.set.texts
 
-abbrev pub AreExcludedBelow : Graph → List TextSet → Type 0
-AreExcludedBelow g sets = (k : ℕ) (other : TextSet) → k < length sets → IsExcludedAt g k (get_or sets k other)
+abbrev pub AreExcludedBelow : Graph → List Excluded → Type 0
+AreExcludedBelow g sets = (k : ℕ) (other : Excluded) → k < length sets → IsExcludedAt g k (get_or sets k other)
 
-pub record AreExcluded (g : Graph) (sets : List TextSet) : Type 0 where
+pub record AreExcluded (g : Graph) (sets : List Excluded) : Type 0 where
   pub whole : length sets ≡ length (entries_of g)
   pub each : AreExcludedBelow g sets
 

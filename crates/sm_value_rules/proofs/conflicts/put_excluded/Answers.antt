@@ -1,4 +1,4 @@
-use Rattle.std.proofs.Common.{length, subst, sym, arith}
+use Rattle.std.proofs.Common.{length, refl, subst, sym, arith}
 use Rattle.sm_model.specs.GraphView.{entries_of, maps_of}
 use Rattle.sm_rules.specs.declared.rule.Rule.TheVariants.{TraitConflict}
 use Rattle.sm_rules.proofs.Numbered.{puts_numbers}
@@ -7,7 +7,7 @@ use Rattle.sm_value_rules.specs.rules.Conflicts.{HasExcludedTrait}
 use Rattle.sm_value_rules.proofs.conflicts.put_excluded.Goals as goal
 
 pub put_each-requires : goal.put_each-requires
-put_each-requires c = subst (AreExcluded c.args.graph.now) (sym c.as_slice.ensures.value) c.in_ok-sets.ensures
+put_each-requires c = (refl, subst (AreExcluded c.args.graph.now) (sym c.as_slice.ensures.value) c.in_ok-sets.ensures)
 
 pub returns : goal.returns
 returns c =

@@ -9,6 +9,7 @@ use Rattle.sm_value_rules.proofs.conflicts.take_shorter.Goals as goal
 
 pub returns-in_ok-take_named : goal.returns-in_ok-take_named
 returns-in_ok-take_named c =
-    any_same (maps_of c.args.graph.now) (id_of_number c.args.graph.now c.args.number) c.args.name.now (HasText c.args.set.now.texts)
-    (λ o. IsEntryText o (nodes_of (nodes_view c.args.conflicts.now))) c.requires.set (HasText c.args.told.now.texts)
+    any_same (maps_of c.args.graph.now) (id_of_number c.args.graph.now c.args.number) c.args.name.now
+    (HasText c.args.excluded.now.set.texts)
+    (λ o. IsEntryText o (nodes_of (nodes_view c.args.excluded.now.entries.now))) c.requires.texts (HasText c.args.told.now.texts)
     (HasText c.take_named.new.told.texts) c.in_ok-take_named.ensures
