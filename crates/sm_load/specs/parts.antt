@@ -1,4 +1,5 @@
 pub mod Naming
 pub mod Passes
+pub mod Sharing
 pub mod Stages
 pub mod Suppressing

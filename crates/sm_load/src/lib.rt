@@ -6,6 +6,7 @@ mod loading;
 mod model;
 mod naming;
 mod places;
+mod shared;
 mod suppressed;
 mod suppressing;
 mod texts;

@@ -1,12 +1,14 @@
 // Trait.Place, of which two passes tell: one by the table of traits, one by the shapes of traits.
 ghost use Rattle.std.specs.Prelude.{OnOk};
 ghost use Rattle.sm_model.specs.GraphView.{maps_of};
+ghost use Rattle.sm_select.specs.Ways.{AreWays};
 ghost use Rattle.sm_rules.specs.RuleEvents.{IsEventOf, Puts};
 ghost use Rattle.sm_rules.specs.declared.rule.Rule.TheVariants.{TraitPlace};
 ghost use Rattle.sm_value_rules.specs.rules.Traits.{HasWrongPlace};
 
 use sm_model::{Graph, ModelEvent};
 use sm_rules::table_rules::put_other_places;
+use sm_select::Ways;
 use sm_tree::NoMemory;
 use sm_value_rules::places::put_unpicked;
 use std::alloc::Global;
@@ -15,12 +17,14 @@ use std::alloc::Global;
 pub(crate) fn put_places(
     alloc: Global,
     graph: &Graph,
+    ways: &Ways,
     events: &mut Vec<ModelEvent>,
 ) -> Result<(), NoMemory>
+    requires { AreWays graph.now ways.now }
     ensures { OnOk result
         (Puts (IsEventOf TraitPlace (HasWrongPlace (maps_of graph.now))) events.old.items events.new.items) }
 {
     put_other_places(alloc, graph, events)?;
-    put_unpicked(alloc, graph, events)?;
+    put_unpicked(alloc, graph, ways, events)?;
     Ok(())
 }

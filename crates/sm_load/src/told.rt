@@ -4,8 +4,10 @@ ghost use Rattle.sm_model.specs.GraphView.{maps_of};
 ghost use Rattle.sm_rules.specs.RuleEvents.{Puts};
 ghost use Rattle.sm_load.specs.Events.{AreModelEvents};
 ghost use Rattle.sm_load.specs.parts.Passes.{IsOfRule};
+ghost use Rattle.sm_load.specs.parts.Sharing.{AreShared};
 
 use crate::places::put_places;
+use crate::shared::Shared;
 use crate::suppressed::without_suppressed;
 use sm_http_rules::bound_targets::put_bound_targets;
 use sm_http_rules::labels::put_labels;
@@ -46,14 +48,21 @@ pub fn events(alloc: Global, graph: &Graph) -> Result<Vec<ModelEvent>, NoMemory>
 pub(crate) fn told_events(alloc: Global, graph: &Graph) -> Result<ModelEvents, NoMemory>
     ensures { IfOk result (λ es. AreModelEvents (maps_of graph.now) es) }
 {
+    let shared = Shared::new(alloc, graph)?;
     let mut events = Vec::new(alloc);
-    put_rules(alloc, graph, &mut events)?;
+    put_rules(alloc, graph, &shared, &mut events)?;
     let kept = without_suppressed(alloc, graph, events)?;
     Ok(sorted_events(kept))
 }
 
-// Puts the events of each rule, one rule after the other.
-fn put_rules(alloc: Global, graph: &Graph, events: &mut Vec<ModelEvent>) -> Result<(), NoMemory>
+// Puts the events of each rule, one rule after the other, by what they share.
+fn put_rules(
+    alloc: Global,
+    graph: &Graph,
+    shared: &Shared,
+    events: &mut Vec<ModelEvent>,
+) -> Result<(), NoMemory>
+    requires { AreShared graph.now shared.now }
     ensures { OnOk result (Puts (IsOfRule (maps_of graph.now)) events.old.items events.new.items) }
 {
     put_twins(alloc, graph, events)?;
@@ -61,22 +70,22 @@ fn put_rules(alloc: Global, graph: &Graph, events: &mut Vec<ModelEvent>) -> Resu
     put_missing(alloc, graph, events)?;
     put_kinds(alloc, graph, events)?;
     put_unknown(alloc, graph, events)?;
-    put_values(alloc, graph, events)?;
-    put_places(alloc, graph, events)?;
+    put_values(alloc, graph, &shared.marks, events)?;
+    put_places(alloc, graph, &shared.ways, events)?;
     put_conflicts(alloc, graph, events)?;
     put_single(alloc, graph, events)?;
-    put_infinite(alloc, graph, events)?;
+    put_infinite(alloc, graph, &shared.ways, events)?;
     put_enums(alloc, graph, events)?;
-    put_defaults(alloc, graph, events)?;
+    put_defaults(alloc, graph, &shared.marks, events)?;
     put_bounds(alloc, graph, events)?;
-    put_names(alloc, graph, events)?;
+    put_names(alloc, graph, &shared.ways, events)?;
     put_uris(alloc, graph, events)?;
-    put_labels(alloc, graph, events)?;
-    put_bound_targets(alloc, graph, events)?;
-    put_wire_names(alloc, graph, events)?;
-    put_routes(alloc, graph, events)?;
-    put_codes(alloc, graph, events)?;
+    put_labels(alloc, graph, &shared.ways, events)?;
+    put_bound_targets(alloc, graph, &shared.ways, &shared.sides, events)?;
+    put_wire_names(alloc, graph, &shared.sides, events)?;
+    put_routes(alloc, graph, &shared.ways, events)?;
+    put_codes(alloc, graph, &shared.ways, events)?;
     put_methods(alloc, graph, events)?;
-    put_unused(alloc, graph, events)?;
+    put_unused(alloc, graph, &shared.ways, events)?;
     Ok(())
 }

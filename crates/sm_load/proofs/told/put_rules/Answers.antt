@@ -3,6 +3,42 @@ use Rattle.sm_rules.specs.declared.rule.Rule.TheVariants as rule
 use Rattle.sm_load.proofs.RulesPut.{all_put, none_put, put_more}
 use Rattle.sm_load.proofs.told.put_rules.Goals as goal
 
+pub put_values-requires : goal.put_values-requires
+put_values-requires c = c.requires.are_marks
+
+pub put_places-requires : goal.put_places-requires
+put_places-requires c = c.requires.are_ways
+
+pub put_infinite-requires : goal.put_infinite-requires
+put_infinite-requires c = c.requires.are_ways
+
+pub put_defaults-requires : goal.put_defaults-requires
+put_defaults-requires c = c.requires.are_marks
+
+pub put_names-requires : goal.put_names-requires
+put_names-requires c = c.requires.are_ways
+
+pub put_labels-requires : goal.put_labels-requires
+put_labels-requires c = c.requires.are_ways
+
+pub put_bound_targets-requires-clause-ways : goal.put_bound_targets-requires-clause-ways
+put_bound_targets-requires-clause-ways c = c.requires.are_ways
+
+pub put_bound_targets-requires-clause-sides : goal.put_bound_targets-requires-clause-sides
+put_bound_targets-requires-clause-sides c = c.requires.are_sides
+
+pub put_wire_names-requires : goal.put_wire_names-requires
+put_wire_names-requires c = c.requires.are_sides
+
+pub put_routes-requires : goal.put_routes-requires
+put_routes-requires c = c.requires.are_ways
+
+pub put_codes-requires : goal.put_codes-requires
+put_codes-requires c = c.requires.are_ways
+
+pub put_unused-requires : goal.put_unused-requires
+put_unused-requires c = c.requires.are_ways
+
 pub returns : goal.returns
 returns c =
     let g = maps_of c.args.graph.now in
