@@ -222,7 +222,7 @@ module _ (files files1 : FilesSeen) (test : Test) (store store1 : StoreSeen) (na
 
   pub body_by : (input rest : Stream) (m : Model) (now : StoreSeen) (one : OneShape) (result : Result (Vec ℕ) Stop)
       → Loads Errors files files1 (name ∷ []) (Ok m) → HasTableOf (maps_of m.graph) shape test store now one
-          → store1.refusals ≡ now.refusals
+      → store1.refusals ≡ now.refusals
       → TableComesTo near far one test input rest result → CommandComesTo (before input) (after rest) command result
   body_by input rest m now one result loads h same comes =
       let table : HasTableOf loads.0.graph shape test store now one = subst (λ g. HasTableOf g shape test store now one) loads.1 h in

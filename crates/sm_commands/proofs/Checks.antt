@@ -27,7 +27,7 @@ pub events_told : (files files1 : FilesSeen) (models : List (List ℕ)) (m : Mod
     → Loads All files files1 models (Ok m) → TellsEvents m.events result → Checks files files1 models result
 events_told files files1 models m result h told =
     comes_map (λ a. a ≡ done (event_lines All m.events)) (CheckSays files.held models) ⊥ (Rose files.faults files1.faults) (Unit {0})
-        (Unit {0})
+    (Unit {0})
     result (λ a is. checked h.0 m.events (subst (λ g. AreModelEvents g m.events) h.1 h.2) is) (λ never. absurd never)
     (λ short. short) told
 

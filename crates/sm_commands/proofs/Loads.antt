@@ -86,13 +86,13 @@ pub size_stops : (shown : Shown) (read : List FileGiven) (kind : LimitKind) (sto
     → EndsWithLimit (size_limit_line kind) stop → StopsLoad shown read stop
 size_stops shown read kind stop h ends =
     limit_stops (TextsAnswer shown read) ⊥ (Unit {0}) (size_limit_line kind) stop
-        (Limit kind, record { loads = h; told = λ e. cc }, refl) tt ends
+    (Limit kind, record { loads = h; told = λ e. cc }, refl) tt ends
 
 pub rejected_stops : (shown : Shown) (read : List FileGiven) (es : List ModelEvent) (stop : Stop) → LoadsTo read (Err (Rejected es))
     → EndsWithLine (event_lines shown es) stop → StopsLoad shown read stop
 rejected_stops shown read es stop h ends =
     line_stops (TextsAnswer shown read) ⊥ (Unit {0}) (event_lines shown es) stop
-        (Rejected es, record { loads = h; told = λ e. cc }, refl) tt ends
+    (Rejected es, record { loads = h; told = λ e. cc }, refl) tt ends
 
 -- the files of a command
 pub files_many : (shown : Shown) (files files1 : FilesSeen) (names : List (List ℕ)) (stop : Stop) → files_limit < length names
@@ -125,11 +125,11 @@ model_loads shown files files1 names read (Err stop) few are h =
 -- lines of events, one more
 pub events_more : (shown : Shown) (all here rest : List ModelEvent) (e : ModelEvent) (before after : List ℕ) → here ≡ e ∷ rest
     → after ≡ before ++ shown_line shown e → before ++ event_lines shown here ≡ event_lines shown all
-        → after ++ event_lines shown rest ≡ event_lines shown all
+    → after ++ event_lines shown rest ≡ event_lines shown all
 events_more shown all here rest e before after parts put was =
     let lines : shown_line shown e ++ event_lines shown rest ≡ event_lines shown (e ∷ rest) = refl in
     ap (λ xs. xs ++ event_lines shown rest) put ∙ append_assoc before (shown_line shown e) (event_lines shown rest)
-        ∙ ap (λ xs. before ++ xs) lines
+    ∙ ap (λ xs. before ++ xs) lines
     ∙ ap (λ es. before ++ event_lines shown es) (sym parts) ∙ was
 
 -- one file by itself
@@ -143,7 +143,7 @@ pub file_loads : (shown : Shown) (files files1 : FilesSeen) (name file : List �
     → length file ≤ file_limit → LoadsModel shown (file_given name file ∷ []) result → Loads shown files files1 (name ∷ []) result
 file_loads shown files files1 name file result holds within h =
     model_loads shown files files1 (name ∷ []) (file_given name file ∷ []) result (omega arith)
-        (one_read files.held name file holds within) h
+    (one_read files.held name file holds within) h
 
 pub file_stops : (shown : Shown) (files files1 : FilesSeen) (name : List ℕ) (stop : Stop) → OpensFile files files1 name (Err stop)
     → Loads shown files files1 (name ∷ []) (Err stop)

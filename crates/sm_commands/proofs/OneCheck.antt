@@ -33,4 +33,4 @@ pub check_answered : SomeLoad → SomeModelEvents → (folder : Folder) (models 
 check_answered loads events folder models there none =
     load_answered loads All folder models there (λ a h. none (came untouched a) (a, not_loaded h, refl))
     (λ l. events l.graph (λ es are. none (came untouched (done (event_lines All es)))
-        (done (event_lines All es), checked l es are refl, refl)))
+    (done (event_lines All es), checked l es are refl, refl)))

@@ -55,7 +55,7 @@ pub graph_selects : (files files1 : FilesSeen) (models : List (List ℕ)) (selec
     → Selects files files1 models selector result
 graph_selects files files1 models selector m result h is =
     comes_map (SelectorSays (maps_of m.graph) selector) (SelectSays files.held models selector) ⊥ (Rose files.faults files1.faults)
-        (Unit {0})
+    (Unit {0})
     (Unit {0}) result (λ a says. selected h.0 (subst (λ g. SelectorSays g selector a) h.1 says)) (λ never. absurd never) (λ short. short) is
 
 pub select_stops : (files files1 : FilesSeen) (models : List (List ℕ)) (selector : List ℕ) (stop : Stop)

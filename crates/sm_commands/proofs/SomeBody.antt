@@ -95,7 +95,7 @@ pub body_answered : SomeTextAnswer → SomeTable → SomeLoad → SoundModels �
     → ((c : Came) → BodySays t name shape near far c → ⊥) → ⊥
 body_answered texts tables loads models t folder input all name shape near far there none =
     let come : FilesCome t.files name = subst (λ x. FilesCome x name) (sym all.files)
-        (load_answered loads Errors folder (name ∷ []) there) in
+    (load_answered loads Errors folder (name ∷ []) there) in
     come (λ a says. none (came untouched a) (not_loaded a says refl))
     (λ loaded. graph_answered texts tables models t name shape near far none input
-        (subst (λ x. IsInput x input) (sym all.input) refl) loaded)
+    (subst (λ x. IsInput x input) (sym all.input) refl) loaded)

@@ -20,5 +20,5 @@ returns-in-Limit c = λ read named loads.
 pub returns-in-Rejected : goal.returns-in-Rejected
 returns-in-Rejected c = λ read named loads.
     rejected_stops c.args.shown read c.in-Rejected.events c.refused-in-Rejected.result
-        (subst (λ r. LoadsTo read (Err r)) c.in-Rejected.is loads)
+    (subst (λ r. LoadsTo read (Err r)) c.in-Rejected.is loads)
     (c.refused-in-Rejected.ensures (event_lines c.args.shown c.in-Rejected.events) (rw c.as_slice.ensures at c.event_lines.ensures))
