@@ -77,6 +77,7 @@ mod PlacesThere
 mod MembersOther
 mod WholeEvents
 mod OthersPut
+mod NothingTold
 pub mod SomeGraph
 pub mod FormedGraphs
 pub mod SomeEvents

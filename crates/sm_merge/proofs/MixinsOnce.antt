@@ -1,5 +1,5 @@
 -- Mixins each once: what they come to, one after the other, is what they come to with repeats.
-use Rattle.std.proofs.Common.{◌≡◌, ◌⊎◌, inl, inr, ◌<◌, ℕ, Bool, true, false, cond, List, [], ◌∷◌, ◌++◌, Option, Some, None, refl, sym, ap}
+use Rattle.std.proofs.Common.{◌≡◌, ◌⊎◌, inl, inr, ℕ, Bool, true, false, cond, List, [], ◌∷◌, ◌++◌, Option, Some, None, refl, sym, ap}
 use Rattle.std.proofs.Common.{subst, ◌∙◌, append_assoc, append-nil, bytes_eq, reverse}
 use Rattle.std.specs.Prelude.{◌==◌, ◌||◌, not, slice_get}
 use Rattle.std.specs.BTreeSet as sorted

@@ -101,8 +101,9 @@ module _ (ss : List Stated) (tables : Tables) (walk : Walk) (mixed : List (Vec C
       order
 
 -- lists that are put one after the other
-pub chained : (e0 e1 e2 e3 e4 e5 : List ModelEvent) (s d c a o : List EventTold) → TellsMore e0 e1 s → TellsMore e1 e2 d
-    → TellsMore e2 e3 c → TellsMore e3 e4 a → TellsMore e4 e5 o
-    → events_view e5 ≡ ((((events_view e0 ++ s) ++ d) ++ c) ++ a) ++ o
-chained e0 e1 e2 e3 e4 e5 s d c a o h1 h2 h3 h4 h5 =
-    h5.told ∙ ap (λ l. l ++ o) (h4.told ∙ ap (λ l. l ++ a) (h3.told ∙ ap (λ l. l ++ c) (h2.told ∙ ap (λ l. l ++ d) h1.told)))
+pub chained : (e0 e1 e2 e3 e4 : List ModelEvent) (s d c a o : List EventTold) → TellsMore e0 e1 s → TellsMore e1 e2 d
+    → TellsMore e2 e3 (c ++ a) → TellsMore e3 e4 o → events_view e4 ≡ ((((events_view e0 ++ s) ++ d) ++ c) ++ a) ++ o
+chained e0 e1 e2 e3 e4 s d c a o h1 h2 h3 h4 =
+    h4.told
+    ∙ ap (λ l. l ++ o) (h3.told ∙ ap (λ l. l ++ (c ++ a)) (h2.told ∙ ap (λ l. l ++ d) h1.told)
+    ∙ sym (append_assoc ((events_view e0 ++ s) ++ d) c a))

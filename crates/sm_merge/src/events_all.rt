@@ -12,7 +12,7 @@ ghost use Rattle.sm_merge.specs.steps.ToldEvents.{AreToldFrom};
 
 use crate::events::in_order;
 use crate::events_members::put_member_events;
-use crate::events_places::{all_places, put_applied_events, put_place_conflicts};
+use crate::events_places::put_place_events;
 use crate::firsts::NamedTarget;
 use crate::mixin_events::mixin_events;
 use crate::mixins::Contributing;
@@ -47,14 +47,8 @@ pub(crate) fn all_events(
     let mut events = mixin_events(alloc, rows, traits, walk)?;
     put_shape_events(alloc, tables.shapes.wrong.as_slice(), &mut events)?;
     put_metadata_events(alloc, tables.metadata.as_slice(), &mut events)?;
-    let places = all_places(alloc, rows, members)?;
-    put_place_conflicts(alloc, places.as_slice(), traits, &mut events)?;
-    put_applied_events(
-        alloc,
-        tables.applied.as_slice(),
-        places.as_slice(),
-        &mut events,
-    )?;
+    let applied = tables.applied.as_slice();
+    put_place_events(alloc, rows, members, traits, applied, &mut events)?;
     put_member_events(alloc, rows, mixed, members, &mut events)?;
     Ok(in_order(events))
 }

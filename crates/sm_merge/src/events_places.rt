@@ -1,5 +1,5 @@
 // Events for values in conflict at shapes and members that are there, and for traits that are applied to what isn't.
-ghost use Rattle.std.specs.Prelude.{◌≡◌, ◌||◌, ◌++◌, ◌∷◌, [], ℕ, List, length, map, IfOk, OnOk};
+ghost use Rattle.std.specs.Prelude.{◌≡◌, ◌||◌, ◌++◌, ◌∷◌, [], ℕ, List, length, map, IfOk, IsTrue, OnOk};
 ghost use Rattle.std.specs.List.{list_any};
 ghost use Rattle.std.specs.Str.{bytes_eq};
 ghost use Rattle.sm_model.specs.Graphs.{member_id};
@@ -7,14 +7,14 @@ ghost use Rattle.sm_model.specs.steps.Rising.{Rise};
 ghost use Rattle.sm_merge.specs.steps.EventLists.{TellsMore};
 ghost use Rattle.sm_merge.specs.steps.Firsts.{targets_view};
 ghost use Rattle.sm_merge.specs.steps.Known.{has_text};
-ghost use Rattle.sm_merge.specs.steps.PlaceEvents.{applied_events, place_conflicts, places_below};
+ghost use Rattle.sm_merge.specs.steps.PlaceEvents.{applied_events, events_at, have_conflict, place_conflicts, places_below, some_conflict};
 ghost use Rattle.sm_merge.specs.steps.Tables.{places_in};
 
 use crate::firsts::NamedTarget;
 use crate::look::traits_at;
 use crate::parts::{BareShape, member_text};
 use crate::stated::copied_id;
-use crate::table::PlaceRow;
+use crate::table::{NamedValue, PlaceRow};
 use crate::told::{put_applied_event, put_trait_events};
 use sm_ids::{ShapeId, ShapeIdRef};
 use sm_model::ModelEvent;
@@ -22,8 +22,57 @@ use sm_tree::NoMemory;
 use std::alloc::Global;
 use std::collections::BTreeSet;
 
-/// The ids of all shapes and of all members, those of mixins among them.
-pub(crate) fn all_places(
+/// Puts the events of all shapes and members that are there. Where none can come, the places aren't listed.
+pub(crate) fn put_place_events(
+    alloc: Global,
+    rows: &[BareShape],
+    members: &[Vec<NamedTarget<'_>>],
+    traits: &[PlaceRow],
+    applied: &[ShapeId],
+    events: &mut Vec<ModelEvent>,
+) -> Result<(), NoMemory>
+    requires members { length members.now ≡ length rows.now }
+    requires places { Rise (places_in traits.now) }
+    ensures { OnOk result (TellsMore events.old.items events.new.items
+        (events_at traits.now applied.now (places_below rows.now members.now (length rows.now)))) }
+{
+    if is_nothing_told(traits, applied) {
+        return Ok(());
+    }
+    let places = all_places(alloc, rows, members)?;
+    let there = places.as_slice();
+    put_place_conflicts(alloc, there, traits, events)?;
+    put_applied_events(alloc, applied, there, events)?;
+    Ok(())
+}
+
+// Whether nothing is told, whatever is there.
+fn is_nothing_told(traits: &[PlaceRow], applied: &[ShapeId]) -> bool
+    ensures { IsTrue result → (places : List (List ℕ)) → events_at traits.now applied.now places ≡ [] }
+{
+    if !applied.is_empty() {
+        return false;
+    }
+    !is_some_conflict(traits)
+}
+
+// Whether some values are in conflict.
+fn is_some_conflict(traits: &[PlaceRow]) -> bool
+    ensures { result ≡ some_conflict traits.now }
+{
+    traits
+        .iter()
+        .any(|row| are_in_conflict(row.traits.as_slice()))
+}
+
+fn are_in_conflict(values: &[NamedValue]) -> bool
+    ensures { result ≡ have_conflict values.now }
+{
+    values.iter().any(|value| value.folded.conflict)
+}
+
+// The ids of all shapes and of all members, those of mixins among them.
+fn all_places(
     alloc: Global,
     rows: &[BareShape],
     members: &[Vec<NamedTarget<'_>>],
@@ -70,8 +119,8 @@ pub(crate) fn id_of_member(alloc: Global, shape: &ShapeId, name: &str) -> Result
     }
 }
 
-/// Puts an event for each trait of each place whose values are in conflict.
-pub(crate) fn put_place_conflicts(
+// Puts an event for each trait of each place whose values are in conflict.
+fn put_place_conflicts(
     alloc: Global,
     places: &[ShapeId],
     traits: &[PlaceRow],
@@ -87,8 +136,8 @@ pub(crate) fn put_place_conflicts(
     Ok(())
 }
 
-/// Puts an event for what traits are applied to and is none of these places.
-pub(crate) fn put_applied_events(
+// Puts an event for what traits are applied to and is none of these places.
+fn put_applied_events(
     alloc: Global,
     applied: &[ShapeId],
     places: &[ShapeId],

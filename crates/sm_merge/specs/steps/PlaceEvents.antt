@@ -1,7 +1,7 @@
 -- Events that speak of shapes and members that are there, those of mixins among them, or aren't.
 use Rattle.std.specs.Prelude.{ℕ, zero, suc, Bool, false, not, List, [], ◌∷◌, ◌++◌, map, Option, None, Some, if◌then◌else◌}
 use Rattle.std.specs.Global.{Vec}
-use Rattle.std.specs.List.{flat_map}
+use Rattle.std.specs.List.{flat_map, list_any}
 use Rattle.std.specs.BTreeMap.{BTreeMap, get_by}
 use Rattle.std.specs.Cmp.Lexicographic.{slice_cmp}
 use Rattle.std.specs.FinMap as fin
@@ -21,6 +21,7 @@ use Rattle.sm_merge.specs.steps.Tables.{traits_found}
 use Rattle.sm_merge.specs.declared.firsts.NamedTarget.{NamedTarget}
 use Rattle.sm_merge.specs.declared.mixins.Contributing.{Contributing}
 use Rattle.sm_merge.specs.declared.parts.BareShape.{BareShape}
+use Rattle.sm_merge.specs.declared.table.NamedValue.{NamedValue}
 use Rattle.sm_merge.specs.declared.table.PlaceRow.{PlaceRow}
 
 -- the ids of a shape and its members, and of all shapes before a number and their members
@@ -38,6 +39,18 @@ place_conflicts traits places = flat_map (λ id. trait_events id (traits_found i
 -- what traits are applied to, unless it is there
 abbrev pub applied_events : Defined → List (List ℕ) → List EventTold
 applied_events there ids = flat_map (λ id. if there id then [] else applied_event id ∷ []) ids
+
+-- both, of the same places
+abbrev pub events_at : List PlaceRow → List (List ℕ) → List (List ℕ) → List EventTold
+events_at traits applied places =
+    place_conflicts traits places ++ applied_events (λ id. list_any (λ place. bytes_eq place id) places) applied
+
+-- whether some values are in conflict, wherever they are given
+abbrev pub have_conflict : List NamedValue → Bool
+have_conflict values = list_any (λ v. v.folded.conflict) values
+
+abbrev pub some_conflict : List PlaceRow → Bool
+some_conflict rows = list_any (λ row. have_conflict row.traits.items) rows
 
 -- members that are defined again with another target than the first
 abbrev pub is_other : Option (List ℕ) → List ℕ → Bool

@@ -1,9 +1,9 @@
-use Rattle.std.proofs.Common.{◌≡◌, length, map, sym, ap, subst, ◌∙◌, bytes_eq}
+use Rattle.std.proofs.Common.{length, map, sym, subst, bytes_eq}
 use Rattle.std.specs.List.{list_any}
 use Rattle.sm_model.specs.EventView.{events_view}
 use Rattle.sm_merge.specs.steps.Contributing.{AreWalkedTables}
 use Rattle.sm_merge.specs.steps.EventLists.{HaveSameEvents, TellsMore, metadata_events, shape_event}
-use Rattle.sm_merge.specs.steps.PlaceEvents.{applied_events, others_below, place_conflicts, places_below}
+use Rattle.sm_merge.specs.steps.PlaceEvents.{applied_events, events_at, others_below, place_conflicts, places_below}
 use Rattle.sm_merge.proofs.WholeEvents.{chained, whole_told}
 use Rattle.sm_merge.proofs.events_all.all_events.Goals as goal
 
@@ -13,10 +13,7 @@ returns-clause-told c = λ ss t.
     let members = c.args.members.now in
     let rows = c.as_slice-rows.ensures.value in
     let traits = c.as_slice-traits.ensures.value in
-    let places : c.as_slice-3.result.now ≡ places_below tables.shapes.rows.items members (length tables.shapes.rows.items) =
-    c.as_slice-3.ensures.value ∙ c.in_ok-places.ensures ∙ ap (λ rs. places_below rs members (length rs)) rows in
-    let there : c.as_slice-5.result.now ≡ places_below tables.shapes.rows.items members (length tables.shapes.rows.items) =
-    c.as_slice-5.ensures.value ∙ c.in_ok-places.ensures ∙ ap (λ rs. places_below rs members (length rs)) rows in
+    let places = places_below tables.shapes.rows.items members (length tables.shapes.rows.items) in
     whole_told ss c.args.tables.now c.args.walk.now c.args.mixed.now c.args.members.now t (events_view c.in_ok-events.events.items)
     (events_view c.in_order.result)
     (c.in_ok-events.ensures.told ss
@@ -24,28 +21,22 @@ returns-clause-told c = λ ss t.
     (subst (λ ts. AreWalkedTables ss c.args.tables.now.shapes.rows.items ts c.args.walk.now) (sym traits) t.walked)))
     (subst (λ l. HaveSameEvents l (events_view c.in_order.result))
     (chained c.in_ok-events.events.items c.put_shape_events.new.events.items c.put_metadata_events.new.events.items
-    c.put_place_conflicts.new.events.items c.put_applied_events.new.events.items c.put_member_events.new.events.items
-    (map shape_event tables.shapes.wrong.items) (metadata_events tables.metadata.items)
-    (place_conflicts tables.traits.items (places_below tables.shapes.rows.items members (length tables.shapes.rows.items)))
-    (applied_events
-    (λ id. list_any (λ place. bytes_eq place id) (places_below tables.shapes.rows.items members (length tables.shapes.rows.items)))
-    tables.applied.items)
+    c.put_place_events.new.events.items c.put_member_events.new.events.items
+    (map shape_event tables.shapes.wrong.items) (metadata_events tables.metadata.items) (place_conflicts tables.traits.items places)
+    (applied_events (λ id. list_any (λ place. bytes_eq place id) places) tables.applied.items)
     (others_below tables.shapes.rows.items c.args.mixed.now members (length tables.shapes.rows.items))
     (subst (λ w. TellsMore c.in_ok-events.events.items c.put_shape_events.new.events.items (map shape_event w)) c.as_slice.ensures.value
     c.in_ok-put_shape_events.ensures)
     (subst (λ w. TellsMore c.put_shape_events.new.events.items c.put_metadata_events.new.events.items (metadata_events w))
     c.as_slice-2.ensures.value c.in_ok-put_metadata_events.ensures)
-    (subst (λ ts. TellsMore c.put_metadata_events.new.events.items c.put_place_conflicts.new.events.items
-    (place_conflicts ts (places_below tables.shapes.rows.items members (length tables.shapes.rows.items)))) traits
-    (subst (λ ps. TellsMore c.put_metadata_events.new.events.items c.put_place_conflicts.new.events.items
-    (place_conflicts c.as_slice-traits.result.now ps)) places c.in_ok-put_place_conflicts.ensures))
-    (subst (λ ids. TellsMore c.put_place_conflicts.new.events.items c.put_applied_events.new.events.items
-    (applied_events
-    (λ id. list_any (λ place. bytes_eq place id) (places_below tables.shapes.rows.items members (length tables.shapes.rows.items))) ids))
-    c.as_slice-4.ensures.value
-    (subst (λ ps. TellsMore c.put_place_conflicts.new.events.items c.put_applied_events.new.events.items
-    (applied_events (λ id. list_any (λ place. bytes_eq place id) ps) c.as_slice-4.result.now)) there c.in_ok-put_applied_events.ensures))
-    (subst (λ rs. TellsMore c.put_applied_events.new.events.items c.put_member_events.new.events.items
+    (subst (λ ids. TellsMore c.put_metadata_events.new.events.items c.put_place_events.new.events.items
+    (events_at tables.traits.items ids places)) c.as_slice-applied.ensures.value
+    (subst (λ ts. TellsMore c.put_metadata_events.new.events.items c.put_place_events.new.events.items
+    (events_at ts c.as_slice-applied.result.now places)) traits
+    (subst (λ rs. TellsMore c.put_metadata_events.new.events.items c.put_place_events.new.events.items
+    (events_at c.as_slice-traits.result.now c.as_slice-applied.result.now (places_below rs members (length rs)))) rows
+    c.in_ok-put_place_events.ensures)))
+    (subst (λ rs. TellsMore c.put_place_events.new.events.items c.put_member_events.new.events.items
     (others_below rs c.args.mixed.now members (length rs))) rows c.in_ok-put_member_events.ensures))
     c.in_order.ensures.same)
     c.in_order.ensures.order
