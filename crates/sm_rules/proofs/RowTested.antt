@@ -208,29 +208,16 @@ any_joined f (r ∷ rows) more = by (f r) (any_joined f rows more)
     by true h = refl
     by false h = h
 
-or_six : (a b c d e f : Bool) → (((((a || b) || c) || d) || e) || f) ≡ (a || (b || (c || (d || (e || f)))))
-or_six true b c d e f = refl
-or_six false true c d e f = refl
-or_six false false true d e f = refl
-or_six false false false true e f = refl
-or_six false false false false true f = refl
-or_six false false false false false f = refl
+-- a group in which some row passes, and the rows behind a group in which none does
+pub first_group : (f : TraitRow → Bool) (rows more : List TraitRow) (r : Bool) → r ≡ list_any f rows → r ≡ true
+    → r ≡ list_any f (rows ++ more)
+first_group f rows more r is holds =
+    holds ∙ sym (any_joined f rows more ∙ ap (λ b. b || list_any f more) (sym is ∙ holds))
 
-pub six_groups : (f : TraitRow → Bool) → (((((list_any f annotation_rows || list_any f rows_of_shapes) || list_any f constraint_rows)
-    || list_any f documentation_rows) || list_any f wire_rows) || list_any f other_rows)
-    ≡ list_any f trait_rows
-six_groups f =
-    or_six (list_any f annotation_rows) (list_any f rows_of_shapes) (list_any f constraint_rows) (list_any f documentation_rows)
-    (list_any f wire_rows) (list_any f other_rows)
-    ∙ ap (λ b. list_any f annotation_rows || (list_any f rows_of_shapes || (list_any f constraint_rows
-    || (list_any f documentation_rows || b)))) (sym (any_joined f wire_rows other_rows))
-    ∙ ap (λ b. list_any f annotation_rows || (list_any f rows_of_shapes || (list_any f constraint_rows || b)))
-    (sym (any_joined f documentation_rows (wire_rows ++ other_rows)))
-    ∙ ap (λ b. list_any f annotation_rows || (list_any f rows_of_shapes || b))
-    (sym (any_joined f constraint_rows (documentation_rows ++ wire_rows ++ other_rows)))
-    ∙ ap (λ b. list_any f annotation_rows || b)
-    (sym (any_joined f rows_of_shapes (constraint_rows ++ documentation_rows ++ wire_rows ++ other_rows)))
-    ∙ sym (any_joined f annotation_rows (rows_of_shapes ++ constraint_rows ++ documentation_rows ++ wire_rows ++ other_rows))
+pub later_group : (f : TraitRow → Bool) (rows more : List TraitRow) (r s : Bool) → r ≡ list_any f rows → r ≡ false
+    → s ≡ list_any f more → s ≡ list_any f (rows ++ more)
+later_group f rows more r s is none later =
+    later ∙ sym (any_joined f rows more ∙ ap (λ b. b || list_any f more) (sym is ∙ none))
 
 -- a byte of a token
 pub token_byte : (b : ℕ) (r : Bool) → r ≡ (is_ascii_alphanumeric b || list_any (λ c. c == b) token_signs) → r ≡ is_token_byte b

@@ -1,5 +1,5 @@
 // The rows of the table of traits that name a trait.
-ghost use Rattle.std.specs.Prelude.{◌≡◌, ◌||◌, Bool, List, map};
+ghost use Rattle.std.specs.Prelude.{◌≡◌, ◌||◌, ◌++◌, Bool, List, map};
 ghost use Rattle.std.specs.List.{list_any};
 ghost use Rattle.std.specs.Str.{bytes_eq};
 ghost use Rattle.sm_compile.specs.TraitRows.{PlaceForm, ValueForm, annotation_rows, constraint_rows, documentation_rows, other_rows};
@@ -21,21 +21,36 @@ pub trait RowTest {
         ensures { result ≡ passes self.now (form_said form) (places_said place) };
 }
 
-/// Whether a row that names the trait passes. Linear in the table.
+/// Whether a row that names the trait passes. Linear in the table, up to the first row that does.
 pub fn some_row<T: RowTest>(name: &str, test: &T) -> bool
     ensures { result ≡ some_row name.now (T.passes test.now) trait_rows }
 {
-    let annotation = some_annotation(name, test);
-    let of_shapes = some_of_shapes(name, test);
-    let constraint = some_constraint(name, test);
-    let documentation = some_documentation(name, test);
-    let of_wire = some_of_wire(name, test);
-    let other = some_other(name, test);
-    let first = either(annotation, of_shapes);
-    let second = either(first, constraint);
-    let third = either(second, documentation);
-    let fourth = either(third, of_wire);
-    either(fourth, other)
+    some_annotation(name, test) || some_behind_annotations(name, test)
+}
+
+fn some_behind_annotations<T: RowTest>(name: &str, test: &T) -> bool
+    ensures { result ≡ some_row name.now (T.passes test.now)
+        (rows_of_shapes ++ constraint_rows ++ documentation_rows ++ wire_rows ++ other_rows) }
+{
+    some_of_shapes(name, test) || some_behind_shapes(name, test)
+}
+
+fn some_behind_shapes<T: RowTest>(name: &str, test: &T) -> bool
+    ensures { result ≡ some_row name.now (T.passes test.now) (constraint_rows ++ documentation_rows ++ wire_rows ++ other_rows) }
+{
+    some_constraint(name, test) || some_behind_constraints(name, test)
+}
+
+fn some_behind_constraints<T: RowTest>(name: &str, test: &T) -> bool
+    ensures { result ≡ some_row name.now (T.passes test.now) (documentation_rows ++ wire_rows ++ other_rows) }
+{
+    some_documentation(name, test) || some_behind_documentation(name, test)
+}
+
+fn some_behind_documentation<T: RowTest>(name: &str, test: &T) -> bool
+    ensures { result ≡ some_row name.now (T.passes test.now) (wire_rows ++ other_rows) }
+{
+    some_of_wire(name, test) || some_other(name, test)
 }
 
 /// Whether one holds.

@@ -1,16 +1,18 @@
-use Rattle.std.proofs.Common.{ap, ◌∙◌}
-use Rattle.std.specs.Prelude.{◌||◌}
+use Rattle.std.proofs.Common.{◌++◌}
+use Rattle.sm_compile.specs.TraitRows.{annotation_rows, constraint_rows, documentation_rows, other_rows, rows_of_shapes, wire_rows}
 use Rattle.sm_rules.specs.parts.RowTests.{names_passing}
-use Rattle.sm_rules.proofs.RowTested.{six_groups}
+use Rattle.sm_rules.proofs.RowTested.{first_group, later_group}
 use Rattle.sm_rules.proofs.rows.names.some_row.Goals as goal
 
-pub returns : goal.returns
-returns g c =
-    c.either.ensures
-    ∙ ap (λ b. b || c.some_other-other.result) (c.either-fourth.ensures
-    ∙ ap (λ b. b || c.some_of_wire-of_wire.result) (c.either-third.ensures
-    ∙ ap (λ b. b || c.some_documentation-documentation.result) (c.either-second.ensures
-    ∙ ap (λ b. b || c.some_constraint-constraint.result) c.either-first.ensures)))
-    ∙ (λ i. ((((c.some_annotation-annotation.ensures i || c.some_of_shapes-of_shapes.ensures i) || c.some_constraint-constraint.ensures i)
-    || c.some_documentation-documentation.ensures i) || c.some_of_wire-of_wire.ensures i) || c.some_other-other.ensures i)
-    ∙ six_groups (names_passing c.args.name.now (g.T.RowTest.passes c.args.test.now))
+pub returns-then-some_annotation : goal.returns-then-some_annotation
+returns-then-some_annotation g c =
+    first_group (names_passing c.args.name.now (g.T.RowTest.passes c.args.test.now)) annotation_rows
+    (rows_of_shapes ++ constraint_rows ++ documentation_rows ++ wire_rows ++ other_rows)
+    c.some_annotation.result c.some_annotation.ensures c.if-some_annotation.true
+
+pub returns-else-some_annotation : goal.returns-else-some_annotation
+returns-else-some_annotation g c =
+    later_group (names_passing c.args.name.now (g.T.RowTest.passes c.args.test.now)) annotation_rows
+    (rows_of_shapes ++ constraint_rows ++ documentation_rows ++ wire_rows ++ other_rows)
+    c.some_annotation.result c.some_behind_annotations.result c.some_annotation.ensures c.if-some_annotation.false
+    c.some_behind_annotations.ensures
