@@ -40,6 +40,7 @@ pub trait OfServices {
     ) -> Result<(), NoMemory>
         requires ways { AreWays graph.now ways.now }
         requires own { AreOwnServices graph.now services.now }
+        requires some { 0 < length services.now }
         requires one { HaveOneClosure graph.now services.now }
         requires knows { knows self.now graph.now }
         ensures { OnOk result (Puts (ToldOf (tells self.now graph.now) services.now) events.old.items events.new.items) };
