@@ -9,6 +9,7 @@ pub mod FirstRows
 pub mod Twins
 pub mod IdsRise
 pub mod ServiceClosures
+pub mod SharedClosures
 pub mod CaseTwins
 pub mod EarlierRows
 pub mod RepeatedNames

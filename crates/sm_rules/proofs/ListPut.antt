@@ -2,7 +2,8 @@
 use Rattle.std.proofs.Common.{◌≡◌, ◌⊎◌, ◌<◌, ◌+◌, inl, inr, ℕ, List, [], ◌∷◌, ◌++◌, get_or, length, take, sym, ap, ◌∙◌, subst}
 use Rattle.std.specs.Prelude.{◌↔◌}
 use Rattle.std.proofs.lemmas.List.{take_more}
-use Rattle.std.proofs.lemmas.List.Elements.{Contains-append_left, Contains-push, Contains-push_cases}
+use Rattle.std.proofs.lemmas.List.Elements.{Contains-append_cases, Contains-append_left, Contains-append_right}
+use Rattle.std.proofs.lemmas.List.Elements.{Contains-push, Contains-push_cases}
 use Rattle.sm_model.specs.EventView.{EventTold}
 use Rattle.sm_model.specs.declared.event.ModelEvent.{ModelEvent}
 use Rattle.sm_model.proofs.OneRising.{contains_none}
@@ -47,3 +48,19 @@ module _ {X : Type 0} (Told : X → EventTold → Type 0) where
   put_place xs i d within before mid now h k =
       subst (λ ys. Puts (ToldOf Told ys) before now) (sym (take_more xs i d within))
       (put_behind (take i xs) (get_or xs i d) before mid now h k)
+
+  both_lists : (xs ys : List X) (e : EventTold) → (ToldOf Told xs e ⊎ ToldOf Told ys e) ↔ ToldOf Told (xs ++ ys) e
+  both_lists xs ys e = (
+    λ h. elim h [
+      | inl t ↦ (t.0, Contains-append_left xs ys t.0 t.1, t.2)
+      | inr t ↦ (t.0, Contains-append_right xs ys t.0 t.1, t.2)
+    ],
+    λ t. elim (Contains-append_cases xs ys t.0 t.1) [ inl left ↦ inl (t.0, left, t.2) | inr right ↦ inr (t.0, right, t.2) ],
+  )
+
+  -- of one list and then of another
+  pub put_joined : (xs ys : List X) (before mid now : List ModelEvent) → Puts (ToldOf Told xs) before mid → Puts (ToldOf Told ys) mid now
+      → Puts (ToldOf Told (xs ++ ys)) before now
+  put_joined xs ys before mid now h k =
+      puts_same (λ e. ToldOf Told xs e ⊎ ToldOf Told ys e) (ToldOf Told (xs ++ ys)) before now (both_lists xs ys)
+      (puts_both (ToldOf Told xs) (ToldOf Told ys) before mid now h k)

@@ -3,7 +3,7 @@ ghost use Rattle.std.specs.Prelude.{◌≡◌, IfOk};
 ghost use Rattle.sm_model.specs.GraphView.{IsShapeNumber, maps_of};
 ghost use Rattle.sm_model.specs.Reaching.{id_of_number};
 ghost use Rattle.sm_select.specs.Ways.{AreWays};
-ghost use Rattle.sm_rules.specs.parts.Closures.{AreInside};
+ghost use Rattle.sm_rules.specs.parts.Closures.{AreInside, AreInsideOf, AreOwnServices, HaveOneClosure};
 ghost use Rattle.sm_rules.specs.parts.Using.{is_own_service, is_service};
 
 use sm_compile::{id_text, kind_of};
@@ -30,6 +30,24 @@ pub(crate) fn is_service(kind: Option<Kind>) -> bool
             _ => false,
         },
         None => false,
+    }
+}
+
+/// What is in the closure of each of these services, as marks. Each link is looked at once.
+pub fn closure_shared(
+    alloc: Global,
+    graph: &Graph,
+    ways: &Ways,
+    services: &[u32],
+) -> Result<Vec<bool>, NoMemory>
+    requires ways { AreWays graph.now ways.now }
+    requires own { AreOwnServices graph.now services.now }
+    requires one { HaveOneClosure graph.now services.now }
+    ensures { IfOk result (λ marks. AreInsideOf graph.now services.now marks.items) }
+{
+    match services.first() {
+        Some(service) => closure_of(alloc, graph, ways, *service),
+        None => no_marks(alloc, graph.count() as usize),
     }
 }
 

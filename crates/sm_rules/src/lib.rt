@@ -21,6 +21,7 @@ pub mod putting;
 pub mod repeats;
 pub mod rows;
 mod rule;
+pub mod services;
 pub mod single;
 pub mod table_rules;
 pub mod unknown;
