@@ -1,6 +1,6 @@
 -- What is told of the traits of a shape or member, one after the other, is what the rule says.
-use Rattle.std.proofs.Common.{◌≡◌, ◌⊎◌, ◌<◌, ◌+◌, inl, inr, ℕ, Bool, true, false, cond, List, [], ◌∷◌, ◌++◌, Option, Some, None, get_or}
-use Rattle.std.proofs.Common.{length, take, refl, sym, ap, ◌∙◌, subst}
+use Rattle.std.proofs.Common.{◌≡◌, ◌⊎◌, inl, inr, ℕ, Bool, true, false, cond, List, Option, Some, None}
+use Rattle.std.proofs.Common.{refl, sym, ap, ◌∙◌, subst}
 use Rattle.std.specs.Prelude.{◌&&◌, ◌↔◌, codes, is_some, not}
 use denote.Ref.{Bor}
 use Rattle.std.specs.BTreeSet.{BTreeSet}
@@ -11,8 +11,6 @@ use Rattle.std.specs.Option.{option_and_then, unwrap_or}
 use Rattle.std.specs.Ordering.{ordering_reverse}
 use Rattle.std.specs.declared.cmp.Ordering.{Ordering}
 use Rattle.std.specs.declared.cmp.Ordering.TheVariants.{Less, Equal, Greater}
-use Rattle.std.proofs.lemmas.List.{take_more}
-use Rattle.std.proofs.lemmas.List.Elements.{Contains-append_left, Contains-push, Contains-push_cases}
 use Rattle.std.proofs.lemmas.Option.{same_Some}
 use Rattle.sm_tree.specs.Node.{Node, Nodes, no_nodes, text}
 use Rattle.sm_tree.specs.Parts.{entries_in, text_in}
@@ -28,7 +26,6 @@ use Rattle.sm_model.specs.declared.graph.Graph.{Graph}
 use Rattle.sm_model.specs.steps.Linking.{Joins}
 use Rattle.sm_model.proofs.Linking.{joins_both, joins_none, joins_same}
 use Rattle.sm_model.proofs.NumberedIds.{entry_here}
-use Rattle.sm_model.proofs.OneRising.{contains_none}
 use Rattle.sm_model.proofs.Worklist.{apart}
 use Rattle.sm_compile.specs.Sound.{trait_in, trait_of}
 use Rattle.sm_compile.specs.TraitIds.{trait_id}
@@ -266,28 +263,6 @@ module _ (P Old : List ℕ → Type 0) (test : Bool) where
 
   pub takes_failing : test ≡ false → Joins Old (λ id. (test ≡ true) × P id) Old
   takes_failing fails = joins_none Old (λ id. (test ≡ true) × P id) (λ id p. apart (sym fails ∙ p.0))
-
--- of one element of a list after the other
-module _ {X : Type 0} (Is : X → List ℕ → Type 0) where
-  pub none_of_some : (Old : List ℕ → Type 0) → Joins Old (IsOfSome Is []) Old
-  none_of_some Old = joins_none Old (IsOfSome Is []) (λ id h. contains_none h.0 h.1)
-
-  some_more : (xs : List X) (x : X) (id : List ℕ) → (IsOfSome Is xs id ⊎ Is x id) ↔ IsOfSome Is (xs ++ x ∷ []) id
-  some_more xs x id = (
-    λ h. elim h [ inl o ↦ (o.0, Contains-append_left xs (x ∷ []) o.0 o.1, o.2) | inr last ↦ (x, Contains-push xs x, last) ],
-    λ h. elim (Contains-push_cases xs x h.0 h.1) [
-      | inl o ↦ inl (h.0, o, h.2)
-      | inr same ↦ inr (subst (λ y. Is y id) (sym same) h.2)
-    ],
-  )
-
-  pub some_next : (xs : List X) (i : ℕ) (x : X) → i < length xs → x ≡ get_or xs i x → (Old Mid Now : List ℕ → Type 0)
-      → Joins Old (IsOfSome Is (take i xs)) Mid → Joins Mid (Is x) Now → Joins Old (IsOfSome Is (take (i + 1) xs)) Now
-  some_next xs i x within is Old Mid Now h k =
-      let parts : take (i + 1) xs ≡ take i xs ++ x ∷ [] = take_more xs i x within ∙ ap (λ y. take i xs ++ y ∷ []) (sym is) in
-      subst (λ ys. Joins Old (IsOfSome Is ys) Now) (sym parts)
-      (joins_same Old (λ id. IsOfSome Is (take i xs) id ⊎ Is x id) (IsOfSome Is (take i xs ++ x ∷ [])) Now (some_more (take i xs) x)
-      (joins_both Old (IsOfSome Is (take i xs)) Mid (Is x) Now h k))
 
 -- what the table tells, and then what the shapes tell
 both_parts : (g : GraphMaps) (id greater : List ℕ)

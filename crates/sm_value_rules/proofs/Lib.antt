@@ -9,6 +9,7 @@ pub mod CheckedShapes
 mod CheckedMarks
 mod NodesTold
 mod DefaultsTold
+mod SomeJoined
 mod UsedTraits
 mod PlacesTold
 mod FirstTexts

@@ -5,7 +5,7 @@ use Rattle.std.specs.Prelude.{◌↔◌, replicate, set}
 use Rattle.std.specs.FinMap as fin
 use Rattle.std.specs.List.{Contains}
 use Rattle.std.proofs.lemmas.Bool.{cases_eq, cases_lt}
-use Rattle.std.proofs.lemmas.List.{get_or-set_other, get_or-set_same, take_more}
+use Rattle.std.proofs.lemmas.List.{get_or-set_other, get_or-set_same}
 use Rattle.std.proofs.lemmas.List.Elements.{Contains-append_left, Contains-push, Contains-push_cases}
 use Rattle.std.proofs.lemmas.Option.{none-some}
 use Rattle.sm_tree.specs.Node.{Node}
@@ -17,7 +17,7 @@ use Rattle.sm_model.specs.PreludeShapes.{is_prelude_id}
 use Rattle.sm_model.specs.Reaching.{id_of_number}
 use Rattle.sm_model.specs.declared.graph.Graph.{Graph}
 use Rattle.sm_model.specs.steps.Linking.{Joins}
-use Rattle.sm_model.proofs.Linking.{joins_both, joins_none, joins_same}
+use Rattle.sm_model.proofs.Linking.{joins_none, joins_same}
 use Rattle.sm_model.proofs.GraphFacts.{entry_under, id_at}
 use Rattle.sm_model.proofs.LinkNumbers.{stands_at}
 use Rattle.sm_model.proofs.NumberedIds.{entry_here}
@@ -31,6 +31,7 @@ use Rattle.sm_rules.proofs.JudgedTraits.{pair_seen}
 use Rattle.sm_rules.proofs.TraitEntries.{found_entry}
 use Rattle.sm_value_rules.specs.parts.Placing.{AreFirsts, AreUses, HasUse, IsUseAt, IsUseBelow, IsUseOfName}
 use Rattle.sm_value_rules.specs.parts.Placing.{SharesText}
+use Rattle.sm_value_rules.proofs.SomeJoined.{none_of_some, some_next}
 use Rattle.sm_value_rules.proofs.ValuesTold.{traits_there}
 
 -- of so many lists without uses none has one
@@ -126,31 +127,15 @@ module _ (g : Graph) (firsts : List (Option ℕ)) where
   IsUseOfOne j ts p = (t : List ℕ × Tree) × Contains ts t × IsUseOfName g firsts j t.0 p
 
   pub no_traits : (rows : List (List (ℕ × ℕ))) (j : ℕ) → Joins (HasUse rows) (IsUseOfOne j []) (HasUse rows)
-  no_traits rows j = joins_none (HasUse rows) (IsUseOfOne j []) (λ p h. contains_none h.0 h.1)
+  no_traits rows j = none_of_some (λ t. IsUseOfName g firsts j t.0) (HasUse rows)
 
   pub next_trait : (old mid now : List (List (ℕ × ℕ))) (j : ℕ) (ts : List (List ℕ × Tree)) (i : ℕ) (t : List ℕ × Tree) (name : List ℕ)
       → i < length ts → t ≡ get_or ts i t → name ≡ t.0 → Joins (HasUse old) (IsUseOfOne j (take i ts)) (HasUse mid)
       → Joins (HasUse mid) (IsUseOfName g firsts j name) (HasUse now)
       → Joins (HasUse old) (IsUseOfOne j (take (i + 1) ts)) (HasUse now)
   next_trait old mid now j ts i t name within is same before here =
-      let parts : take (i + 1) ts ≡ take i ts ++ t ∷ [] = take_more ts i t within ∙ ap (λ y. take i ts ++ y ∷ []) (sym is) in
-      subst (λ us. Joins (HasUse old) (IsUseOfOne j us) (HasUse now)) (sym parts)
-      (joins_same (HasUse old) (λ p. IsUseOfOne j (take i ts) p ⊎ IsUseOfName g firsts j name p) (IsUseOfOne j (take i ts ++ t ∷ []))
-      (HasUse now) (behind (take i ts))
-      (joins_both (HasUse old) (IsUseOfOne j (take i ts)) (HasUse mid) (IsUseOfName g firsts j name) (HasUse now) before here))
-    where
-      behind : (us : List (List ℕ × Tree)) (p : ℕ × (ℕ × ℕ))
-          → (IsUseOfOne j us p ⊎ IsUseOfName g firsts j name p) ↔ IsUseOfOne j (us ++ t ∷ []) p
-      behind us p = (
-        λ h. elim h [
-          | inl old ↦ (old.0, Contains-append_left us (t ∷ []) old.0 old.1, old.2)
-          | inr last ↦ (t, Contains-push us t, subst (λ n. IsUseOfName g firsts j n p) same last)
-        ],
-        λ h. elim (Contains-push_cases us t h.0 h.1) [
-          | inl old ↦ inl (h.0, old, h.2)
-          | inr at ↦ inr (subst (λ n. IsUseOfName g firsts j n p) (sym (same ∙ ap (λ (y : List ℕ × Tree). y.0) at)) h.2)
-        ],
-      )
+      some_next (λ t. IsUseOfName g firsts j t.0) ts i t within is (HasUse old) (HasUse mid) (HasUse now) before
+      (subst (λ n. Joins (HasUse mid) (IsUseOfName g firsts j n) (HasUse now)) same here)
 
   -- of what stands at a number outside of the prelude, and of what stands in it
   module _ (j : ℕ) (small : IsShapeNumber g j) where

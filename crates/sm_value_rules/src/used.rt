@@ -1,8 +1,9 @@
 // Which shapes and members of a graph stand as traits at some shape or member, as marks.
-ghost use Rattle.std.specs.Prelude.{◌≡◌, ◌<◌, ℕ, IfOk, length};
+ghost use Rattle.std.specs.Prelude.{◌≡◌, ◌<◌, IfOk, length};
 ghost use Rattle.sm_model.specs.GraphView.{entries_of};
 ghost use Rattle.sm_model.specs.Reaching.{IsMarked};
-ghost use Rattle.sm_value_rules.specs.parts.Placing.{AreNamed, AreUsed, IsNamed};
+ghost use Rattle.sm_model.specs.steps.Linking.{Joins};
+ghost use Rattle.sm_value_rules.specs.parts.Placing.{AreUsed, IsNamed, IsNamedOf};
 
 use sm_model::{Graph, no_marks};
 use sm_tree::{NoMemory, Text, Tree};
@@ -23,8 +24,7 @@ pub(crate) fn used_traits(alloc: Global, graph: &Graph) -> Result<Vec<bool>, NoM
 fn mark_traits(graph: &Graph, traits: &[(Text, Tree)], marks: &mut Vec<bool>)
     requires { length marks.old.items ≡ length (entries_of graph.now) }
     ensures count { length marks.new.items ≡ length marks.old.items }
-    ensures kept { (k : ℕ) → IsMarked marks.old.items k → IsMarked marks.new.items k }
-    ensures named { AreNamed graph.now marks.new.items traits.now }
+    ensures named { Joins (IsMarked marks.old.items) (IsNamedOf graph.now traits.now) (IsMarked marks.new.items) }
 {
     for pair in traits {
         mark_named(graph, pair.0.as_str(), marks);
@@ -35,8 +35,7 @@ fn mark_traits(graph: &Graph, traits: &[(Text, Tree)], marks: &mut Vec<bool>)
 fn mark_named(graph: &Graph, name: &str, marks: &mut Vec<bool>)
     requires { length marks.old.items ≡ length (entries_of graph.now) }
     ensures count { length marks.new.items ≡ length marks.old.items }
-    ensures kept { (k : ℕ) → IsMarked marks.old.items k → IsMarked marks.new.items k }
-    ensures named { IsNamed graph.now marks.new.items name.now }
+    ensures named { Joins (IsMarked marks.old.items) (IsNamed graph.now name.now) (IsMarked marks.new.items) }
 {
     match graph.number(name) {
         Some(number) => mark(marks, number),
@@ -47,8 +46,7 @@ fn mark_named(graph: &Graph, name: &str, marks: &mut Vec<bool>)
 fn mark(marks: &mut Vec<bool>, number: u32)
     requires { number < length marks.old.items }
     ensures count { length marks.new.items ≡ length marks.old.items }
-    ensures kept { (k : ℕ) → IsMarked marks.old.items k → IsMarked marks.new.items k }
-    ensures marked { IsMarked marks.new.items number }
+    ensures marked { Joins (IsMarked marks.old.items) (λ k. number ≡ k) (IsMarked marks.new.items) }
 {
     marks[number as usize] = true;
 }

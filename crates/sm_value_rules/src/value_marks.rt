@@ -15,7 +15,7 @@ use std::alloc::Global;
 pub struct ValueMarks {
     /// The shapes for which nodes are checked.
     pub checked: Vec<bool>,
-    /// At least what stands as a trait somewhere.
+    /// What stands as a trait somewhere.
     pub used: Vec<bool>,
 }
 

@@ -82,8 +82,8 @@ abbrev pub IsGreaterThere : GraphMaps → List ℕ → List ℕ → Type 0
 IsGreaterThere g at id = (trait : List ℕ) × (carries g trait at ≡ true) × IsGreaterOfTrait g at trait id
 
 -- it is said of one of these
-abbrev pub IsOfSome : {X : Type 0} → (X → List ℕ → Type 0) → List X → List ℕ → Type 0
-IsOfSome Is xs id = (x : _) × Contains xs x × Is x id
+abbrev pub IsOfSome : {X Y : Type 0} → (X → Y → Type 0) → List X → Y → Type 0
+IsOfSome Is xs y = (x : _) × Contains xs x × Is x y
 
 -- what is told of the traits that stand there and that a set has
 abbrev pub IsHeldThere : GraphMaps → List ℕ → BTreeSet (Bor (List ℕ)) → List ℕ → Type 0

@@ -7,7 +7,7 @@ use Rattle.sm_value_rules.specs.NodeChecks.{IsChecked}
 use Rattle.sm_value_rules.specs.parts.Placing.{AreUsed}
 use Rattle.sm_value_rules.specs.declared.value_marks.ValueMarks.{ValueMarks}
 
--- exactly the shapes for which nodes are checked are marked, and at least all that stands as a trait
+-- exactly the shapes for which nodes are checked are marked, and exactly what stands as a trait somewhere
 pub record AreValueMarks (g : Graph) (marks : ValueMarks) : Type 0 where
   pub are_checked : AreMarks (length (entries_of g)) (λ k. IsChecked (maps_of g) (id_of_number g k)) marks.checked.items
   pub are_used : AreUsed g marks.used.items

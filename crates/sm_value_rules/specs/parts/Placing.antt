@@ -6,7 +6,7 @@ use Rattle.sm_tree.specs.declared.tree.Tree.{Tree}
 use Rattle.sm_model.specs.EventView.{EventTold}
 use Rattle.sm_model.specs.Graphs.{GraphMaps}
 use Rattle.sm_model.specs.GraphView.{IsShapeNumber, entries_of, maps_of}
-use Rattle.sm_model.specs.Reaching.{IsMarked, id_of_number}
+use Rattle.sm_model.specs.Reaching.{AreMarks, id_of_number}
 use Rattle.sm_model.specs.declared.graph.Graph.{Graph}
 use Rattle.sm_select.specs.Picks.{IsPicked}
 use Rattle.sm_select.specs.Selectors.{Steps}
@@ -21,22 +21,23 @@ use Rattle.sm_rules.specs.parts.Forms.{is_trait_value}
 use Rattle.sm_rules.specs.parts.Putting.{IsUnless, IsWhere}
 use Rattle.sm_value_rules.specs.rules.Traits.{IsNotPicked}
 
--- each trait that an id carries is marked
-abbrev pub AreUsedBy : Graph → List Bool → List ℕ → Type 0
-AreUsedBy g marks id = (k : ℕ) (n : Node) → IsShapeNumber g k → trait_of (maps_of g) id (id_of_number g k) ≡ Some n → IsMarked marks k
+-- an id carries the trait at a number; some shape or member does
+abbrev pub IsUsedBy : Graph → List ℕ → ℕ → Type 0
+IsUsedBy g id k = (n : Node) × (trait_of (maps_of g) id (id_of_number g k) ≡ Some n)
 
--- so are the traits of all shapes and members
-pub record AreUsed (g : Graph) (marks : List Bool) : Type 0 where
-  pub whole : length marks ≡ length (entries_of g)
-  pub used : (j : ℕ) → IsShapeNumber g j → AreUsedBy g marks (id_of_number g j)
+abbrev pub IsUsed : Graph → ℕ → Type 0
+IsUsed g k = (j : ℕ) × IsShapeNumber g j × IsUsedBy g (id_of_number g j) k
 
--- the number of this id is marked
-abbrev pub IsNamed : Graph → List Bool → List ℕ → Type 0
-IsNamed g marks id = (k : ℕ) → IsShapeNumber g k → id_of_number g k ≡ id → IsMarked marks k
+-- exactly what stands as a trait is marked
+abbrev pub AreUsed : Graph → List Bool → Type 0
+AreUsed g marks = AreMarks (length (entries_of g)) (IsUsed g) marks
 
--- the numbers of the ids of these traits are
-abbrev pub AreNamed : Graph → List Bool → List (List ℕ × Tree) → Type 0
-AreNamed g marks ts = (t : List ℕ × Tree) → Contains ts t → IsNamed g marks t.0
+-- this is the number of an id, and of one of these traits
+abbrev pub IsNamed : Graph → List ℕ → ℕ → Type 0
+IsNamed g id k = IsShapeNumber g k × (id_of_number g k ≡ id)
+
+abbrev pub IsNamedOf : Graph → List (List ℕ × Tree) → ℕ → Type 0
+IsNamedOf g ts k = (t : List ℕ × Tree) × Contains ts t × IsNamed g t.0 k
 
 -- the selector in the value of `trait`, where it reads, and that of a shape outside of the prelude
 abbrev pub selector_in : Option Node → Option (List ℕ)

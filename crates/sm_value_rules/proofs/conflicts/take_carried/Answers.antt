@@ -4,7 +4,8 @@ use Rattle.sm_model.specs.GraphView.{maps_of}
 use Rattle.sm_model.specs.Reaching.{id_of_number}
 use Rattle.sm_model.specs.steps.Linking.{Joins}
 use Rattle.sm_value_rules.specs.parts.Conflicting.{HasText, IsGreaterOfTrait, IsOfSome}
-use Rattle.sm_value_rules.proofs.ConflictsTold.{carried_taken, none_of_some, some_next}
+use Rattle.sm_value_rules.proofs.ConflictsTold.{carried_taken}
+use Rattle.sm_value_rules.proofs.SomeJoined.{none_of_some, some_next}
 use Rattle.sm_value_rules.proofs.conflicts.take_carried.Goals as goal
 
 pub loop-pair-init : goal.loop-pair-init

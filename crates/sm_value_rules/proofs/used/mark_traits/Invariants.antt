@@ -1,11 +1,11 @@
-use Rattle.std.proofs.Common.{◌≡◌, ℕ, length, take}
+use Rattle.std.proofs.Common.{◌≡◌, length, take}
 use Rattle.sm_model.specs.Reaching.{IsMarked}
-use Rattle.sm_value_rules.specs.parts.Placing.{AreNamed}
+use Rattle.sm_model.specs.steps.Linking.{Joins}
+use Rattle.sm_value_rules.specs.parts.Placing.{IsNamedOf}
 use Rattle.sm_value_rules.proofs.used.mark_traits.Given as goal
 
 abbrev pub invariant-loop-pair : goal.invariant-loop-pair
 invariant-loop-pair l = record {
   count : length l.marks.items ≡ length l.initial.marks.items;
-  kept : (k : ℕ) → IsMarked l.initial.marks.items k → IsMarked l.marks.items k;
-  named : AreNamed l.graph l.marks.items (take l.pair-index l.traits);
+  named : Joins (IsMarked l.initial.marks.items) (IsNamedOf l.graph (take l.pair-index l.traits)) (IsMarked l.marks.items);
 }
