@@ -1,6 +1,8 @@
 pub mod RowsBelow
 pub mod GivenNames
 pub mod NamesTold
+pub mod NumbersCounted
+pub mod NamesNumbered
 pub mod NamesApart
 pub mod FiniteFound
 pub mod FiniteMoves

@@ -30,19 +30,19 @@ use Rattle.sm_compile.specs.TraitNodes.{text_of}
 use Rattle.sm_compile.specs.TraitRows.{is_among}
 use Rattle.sm_compile.specs.rules.Services.{HasWrongNames, IsNamedIn, KeepsName, name_again, wrong_rename}
 use Rattle.sm_compile.specs.rules.Words.{IsOwnShape, has_trait}
-use Rattle.sm_rules.specs.RuleEvents.{IsEventAt, Puts, rule_event}
+use Rattle.sm_rules.specs.RuleEvents.{IsEventAt, IsEventOf, Puts, rule_event}
 use Rattle.sm_rules.specs.declared.rule.Rule.TheVariants.{ServiceNames}
-use Rattle.sm_rules.specs.parts.Closures.{AreInside}
+use Rattle.sm_rules.specs.parts.Closures.{AreInside, ToldOfServices}
 use Rattle.sm_rules.specs.parts.Folded.{folded, is_own_shape}
 use Rattle.sm_rules.specs.parts.Putting.{IsWhere, ToldOf}
 use Rattle.sm_rules.specs.parts.Using.{is_own_service}
-use Rattle.sm_rules.proofs.EventsPut.{puts_both, puts_none, puts_same}
+use Rattle.sm_rules.proofs.EventsPut.{puts_both, puts_same}
 use Rattle.sm_rules.proofs.IdsRise.{falling, rising}
 use Rattle.sm_rules.proofs.UnusedShapes.{service_own}
 use Rattle.sm_rules.proofs.ExclusiveTraits.{entry_there}
 use Rattle.sm_rules.proofs.OwnShapes.{not_so, own_told, told_own}
 use Rattle.sm_service_rules.specs.parts.Naming.{AreAlikeAmong, AreRowsAmong, IsKeyBy, IsNameBy, IsWrongBy, IsWrongName}
-use Rattle.sm_service_rules.specs.parts.Naming.{ToldWrong}
+use Rattle.sm_service_rules.specs.parts.Naming.{ToldNames, ToldWrong}
 use Rattle.sm_service_rules.specs.parts.Naming.{is_kept_kind, is_left, is_named, is_named_kind, is_own_named, keeps_name, renames_under}
 use Rattle.sm_service_rules.proofs.GivenNames.{given_name, name_of_pair, one_key, pair_of_name, renames_are, some_renames}
 use Rattle.sm_service_rules.proofs.RowsBelow.{ToldRows, ToldTwice, told_twice, twice_told}
@@ -277,12 +277,23 @@ pub names_there : (g : GraphMaps) (id detail : List ℕ) → HasWrongNames g id 
 names_there g id detail (name_again h) = (shape_entry h.v, h.own.0)
 names_there g id detail (wrong_rename h) = (shape_entry h.v, h.own.0)
 
-pub no_names : (g : GraphMaps) (id : List ℕ) (es : List ModelEvent) → is_own_service g id ≡ false
-    → Puts (IsEventAt ServiceNames (HasWrongNames g) id) es es
-no_names g id es other = puts_none (IsEventAt ServiceNames (HasWrongNames g) id) es (λ e h. apart (sym other ∙ there h.1))
+-- and what is told at all services outside of the prelude is what is told
+pub names_all : (g : Graph) (before now : List ModelEvent) → Puts (ToldOfServices g (ToldNames g)) before now
+    → Puts (IsEventOf ServiceNames (HasWrongNames (maps_of g))) before now
+names_all g before now h =
+    puts_same (ToldOfServices g (ToldNames g)) (IsEventOf ServiceNames (HasWrongNames (maps_of g))) before now (λ e. (forth e, back e)) h
   where
-    there : {detail : List ℕ} → HasWrongNames g id detail → is_own_service g id ≡ true
-    there (name_again h) = service_own g id h.named.inside.0
-    there (wrong_rename h) = service_own g id (h.v, h.own, h.kind)
+    own : (id detail : List ℕ) → HasWrongNames (maps_of g) id detail → is_own_service (maps_of g) id ≡ true
+    own id detail (name_again h) = service_own (maps_of g) id h.named.inside.0
+    own id detail (wrong_rename h) = service_own (maps_of g) id (h.v, h.own, h.kind)
 
--- the service, as an entry
+    forth : (e : EventTold) → ToldOfServices g (ToldNames g) e → IsEventOf ServiceNames (HasWrongNames (maps_of g)) e
+    forth e (k, service, t) = (id_of_number g k, t.0, t.1, t.2)
+
+    back : (e : EventTold) → IsEventOf ServiceNames (HasWrongNames (maps_of g)) e → ToldOfServices g (ToldNames g) e
+    back e (id, detail, wrong, is) =
+        let k = number_of g id (names_there (maps_of g) id detail wrong) in (
+          k.0,
+          (k.1, subst (λ i. is_own_service (maps_of g) i ≡ true) (sym k.2) (own id detail wrong)),
+          subst (λ i. IsEventAt ServiceNames (HasWrongNames (maps_of g)) i e) (sym k.2) (detail, wrong, is),
+        )

@@ -22,7 +22,7 @@ use Rattle.sm_rules.proofs.TraitEntries.{found_in}
 use Rattle.sm_service_rules.specs.parts.Naming.{AreRows, AreRowsAmong, AreRowsBelow, MoreBy}
 
 -- a key that stands there is found
-found_some : (key : List ℕ) (j : ℕ) (rows : List (List ℕ × ℕ)) → Contains rows (key, j) → (i : ℕ) × (find text_cmp key rows ≡ Some i)
+pub found_some : (key : List ℕ) (j : ℕ) (rows : List (List ℕ × ℕ)) → Contains rows (key, j) → (i : ℕ) × (find text_cmp key rows ≡ Some i)
 found_some key j [] c = absurd (contains_none (key, j) c)
 found_some key j (r ∷ rows) c = by (λ later. found_some key j rows later) (is_eq (text_cmp key r.0)) refl
   where

@@ -1,6 +1,6 @@
 -- The names of shapes in the closure of a service, as rows and as tests, and what is told of them.
 use Rattle.std.specs.Prelude.{◌≡◌, ◌⊎◌, ◌&&◌, ◌||◌, ℕ, Bool, true, false, not, List, [], ◌∷◌, ◌++◌, Option, Some, None, codes}
-use Rattle.std.specs.Prelude.{◌==◌, ◌<◌, get_or, length}
+use Rattle.std.specs.Prelude.{◌<◌, get_or, length}
 use Rattle.std.specs.Prelude.{is_some}
 use denote.Ref.{Bor}
 use Rattle.std.specs.BTreeMap.{BTreeMap, get_by}
@@ -26,8 +26,8 @@ use Rattle.sm_compile.specs.Looked.{kind_under}
 use Rattle.sm_compile.specs.TraitIds.{error_id}
 use Rattle.sm_compile.specs.TraitNodes.{field_of, text_of}
 use Rattle.sm_compile.specs.TraitRows.{is_among}
-use Rattle.sm_compile.specs.rules.Services.{KeepsName, named_kinds}
-use Rattle.sm_rules.specs.RuleEvents.{rule_event}
+use Rattle.sm_compile.specs.rules.Services.{HasWrongNames, KeepsName, named_kinds}
+use Rattle.sm_rules.specs.RuleEvents.{IsEventAt, rule_event}
 use Rattle.sm_rules.specs.declared.rule.Rule.TheVariants.{ServiceNames}
 use Rattle.sm_rules.specs.parts.Apart.{AreApart}
 use Rattle.sm_rules.specs.parts.Carrying.{carries}
@@ -45,6 +45,10 @@ renames_in (Some (member_entry m)) = no_members
 
 abbrev pub renames_under : GraphMaps → List ℕ → Members
 renames_under g id = renames_in (fin.get g.shapes id)
+
+-- a service that gives no names
+abbrev pub GivesNone : Graph → ℕ → Type 0
+GivesNone g k = renames_under (maps_of g) (id_of_number g k) ≡ no_members
 
 -- the tree under a text, in the code
 abbrev pub tree_in : BTreeMap (Bor (List ℕ)) (Bor Tree) → List ℕ → Option Node
@@ -83,14 +87,6 @@ IsOwnKey g k key = (is_own_named (maps_of g) (id_of_number g k) ≡ true) × IsK
 abbrev pub AreNamesApart : Graph → Type 0
 AreNamesApart g = AreApart (IsOwnKey g) (length (entries_of g))
 
--- a row is the first one of its key, by the numbers that stand first
-abbrev pub is_number : Option ℕ → ℕ → Bool
-is_number None k = false
-is_number (Some j) k = j == k
-
-abbrev pub is_first : (List ℕ → Option ℕ) → List ℕ × ℕ → Bool
-is_first first r = is_number (first r.0) r.1
-
 -- one row more where the number passes
 abbrev pub MoreBy : Bool → (List ℕ → Type 0) → ℕ → List (List ℕ × ℕ) → List (List ℕ × ℕ) → Type 0
 MoreBy false IsKey n rows more = more ≡ rows
@@ -108,6 +104,10 @@ AreRowsAmong Among passes IsKey rows = AreRows (λ k. Among k × (passes k ≡ t
 
 abbrev pub AreRowsBelow : (ℕ → Bool) → (ℕ → List ℕ → Type 0) → ℕ → List (List ℕ × ℕ) → Type 0
 AreRowsBelow passes IsKey n rows = AreRowsAmong (λ k. k < n) passes IsKey rows
+
+-- what the rule tells of the service at a number
+abbrev pub ToldNames : Graph → ℕ → EventTold → Type 0
+ToldNames g k e = IsEventAt ServiceNames (HasWrongNames (maps_of g)) (id_of_number g k) e
 
 -- told of a shape whose name an earlier one has
 abbrev pub ToldAgain : Graph → ℕ → ℕ → ℕ → EventTold → Type 0
