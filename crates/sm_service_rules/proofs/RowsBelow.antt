@@ -6,10 +6,12 @@ use Rattle.std.specs.Cmp.{tied_itself}
 use Rattle.std.specs.Cmp.Lexicographic.{nat_list_cmp_total}
 use Rattle.std.specs.FinMap.Entries.{find}
 use Rattle.std.specs.List.{Contains}
+use Rattle.std.specs.List.Sorted.{IsStrictlyIncreasing}
 use Rattle.std.specs.Ordering.{is_eq}
 use Rattle.std.proofs.lemmas.Bool.{cases_lt, cases_eq}
 use Rattle.std.proofs.lemmas.List.{get_or-take, get_or_default, length-take-le}
 use Rattle.std.proofs.lemmas.List.Elements.{Contains-append_left, Contains-get_or, Contains-push, Contains-push_cases}
+use Rattle.std.proofs.lemmas.List.Kept.{AllPairs-from_increasing}
 use Rattle.std.proofs.lemmas.List.Quantifiers.{all_pairs_push}
 use Rattle.std.proofs.lemmas.Option.{slice_get-get_or}
 use Rattle.sm_model.specs.EventView.{EventTold}
@@ -48,6 +50,15 @@ place_before xs n i x inside less at =
     let long : length (take n xs) ≡ n = length-take-le n xs (omega (arith, inside)) in
     let small : i < length (take n xs) = omega (arith, less, long) in
     (i, small, get_or-take n xs i x less ∙ at)
+
+-- of numbers that rise each is above those before it
+pub taken_above : (ns : List ℕ) (i : ℕ) → IsStrictlyIncreasing ns → i < length ns → (k : ℕ) → Contains (take i ns) k → k < get_or ns i 0
+taken_above ns i rise small k c =
+    let p = before_place ns i k small c in
+    let inside : p.0 < length ns = omega (arith, p.1, small) in
+    let up = AllPairs-from_increasing ns rise p.0 i 0 p.1 small in
+    let here : get_or ns p.0 0 ≡ k = get_or_default ns p.0 0 k inside ∙ p.2 in
+    omega (arith, up, here)
 
 -- rows of none; one row more, of a number above all of them
 module _ (Among : ℕ → Type 0) (passes : ℕ → Bool) (IsKey : ℕ → List ℕ → Type 0) where
@@ -123,7 +134,8 @@ module _ (Told : ℕ → EventTold → Type 0) where
     told_twice e (i, small, w) =
         let r : List ℕ × ℕ = get_or rows i ([], 0) in
         let t : By (find text_cmp r.0 (take i rows)) r.1 e =
-        subst (λ o. IsSomeAnd o (λ (x : List ℕ × ℕ). By (find text_cmp x.0 (take i rows)) x.1 e)) (slice_get-get_or rows i ([], 0) small) w in
+        subst (λ o. IsSomeAnd o (λ (x : List ℕ × ℕ). By (find text_cmp x.0 (take i rows)) x.1 e))
+        (slice_get-get_or rows i ([], 0) small) w in
         let s = after_some (find text_cmp r.0 (take i rows)) r.1 e t in
         let c = found_in r.0 s.0 (take i rows) s.1 in
         let p = before_place rows i (r.0, s.0) small c in

@@ -2,6 +2,7 @@
 #![tactic(auto)]
 
 pub mod finite;
+mod given_names;
 mod later;
 mod named;
 pub mod names;

@@ -19,8 +19,9 @@ ghost use Rattle.sm_service_rules.specs.parts.Naming.{GivesNone, IsWrongBy, IsWr
 ghost use Rattle.sm_service_rules.specs.parts.Naming.{is_kept_kind, is_left, keeps_name, pairs_where, renames_under};
 ghost use Rattle.sm_service_rules.specs.parts.Twins.{AreNames, AreNamesInside};
 
+use crate::given_names::numbers_alike;
 use crate::later::{later_rows, own_rows};
-use crate::named::{named_rows, names_given};
+use crate::named::{names_given, rows_among};
 use crate::twins::{NamesInside, names_inside};
 use sm_compile::{field_of, id_text, kind_of};
 use sm_model::{Graph, Kind, ModelEvent, pairs_of};
@@ -37,7 +38,8 @@ use std::alloc::Global;
 use std::collections::BTreeMap;
 
 /// Puts the events of the rule, by the ways of the graph. n log n where no two names of the graph are equal but for case and no service
-/// gives names; else services that lead to the same share a walk of their closure and what it has of names.
+/// gives names; else services that lead to the same share a walk of their closure and what it has of names, and each of them is n log n
+/// in the names that others of its closure have and in its `rename`.
 pub fn put_names(
     alloc: Global,
     graph: &Graph,
@@ -143,31 +145,33 @@ fn put_names_each(
     ensures { OnOk result (Puts (ToldOf (ToldNames graph.now) services.now) events.old.items events.new.items) }
 {
     for service in services {
-        put_names_among(alloc, graph, *service, names.inside(), events)?;
+        put_names_of_service(alloc, graph, names, *service, events)?;
     }
     Ok(())
 }
 
-// Of a service with its closure.
-fn put_names_among(
+// Of a service, by what its closure has of names. n log n in the twins of the closure and in `rename`, beside the look-up of each id.
+fn put_names_of_service(
     alloc: Global,
     graph: &Graph,
+    names: &NamesInside,
     service: u32,
-    inside: &[bool],
     events: &mut Vec<ModelEvent>,
 ) -> Result<(), NoMemory>
     requires number { IsShapeNumber graph.now service }
     requires own { is_own_service (maps_of graph.now) (id_of_number graph.now service) ≡ true }
-    requires inside { AreInside graph.now service inside.now }
+    requires inside { AreInside graph.now service names.now.inside.now }
+    requires names { AreNamesInside graph.now names.now }
     ensures { OnOk result
         (Puts (IsEventAt ServiceNames (HasWrongNames (maps_of graph.now)) (id_of_number graph.now service))
         events.old.items events.new.items) }
 {
     let renames = renames_of(graph, service);
     let given = names_given(alloc, renames)?;
-    let rows = named_rows(alloc, graph, &given, inside)?;
+    let numbers = numbers_alike(alloc, graph, names, renames)?;
+    let rows = rows_among(alloc, graph, &given, names.inside(), numbers.as_slice())?;
     put_later(alloc, graph, &Again { service }, rows.as_slice(), events)?;
-    put_renames(alloc, graph, service, inside, renames, events)?;
+    put_renames(alloc, graph, service, names.inside(), renames, events)?;
     Ok(())
 }
 
