@@ -14,8 +14,8 @@ loop-row-preserved c =
     subst (λ rs. AreCounted c.args.inside.now later rs (number_under c.count_row.new.ones) c.count_row.new.twins.items)
     (sym (take_more later i (0, 0) c.loop-row-test.true))
     (counted_next c.args.inside.now later (take i later) _ (Contains-get_or later i (0, 0) c.loop-row-test.true)
-    (number_under c.loop-row.ones) c.loop-row.twins.items c.loop-row.invariant (number_under c.count_row.new.ones) c.count_row.new.twins.items
-    c.in_ok-count_row.ensures)
+    (number_under c.loop-row.ones) c.loop-row.twins.items c.loop-row.invariant (number_under c.count_row.new.ones)
+    c.count_row.new.twins.items c.in_ok-count_row.ensures)
 
 pub returns : goal.returns
 returns c = (
