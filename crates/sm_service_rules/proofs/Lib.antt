@@ -1,6 +1,9 @@
 pub mod RowsBelow
 pub mod GivenNames
 pub mod NamesTold
+pub mod AlikeHeld
+pub mod NumbersCounted
+pub mod NamesNumbered
 pub mod NamesApart
 pub mod FiniteFound
 pub mod FiniteMoves

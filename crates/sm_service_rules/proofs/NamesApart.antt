@@ -1,72 +1,30 @@
 -- Where no two names of a graph are equal but for case, nothing is told of a service that gives none.
-use Rattle.std.proofs.Common.{◌≡◌, ◌<◌, ℕ, Bool, true, false, List, Option, Some, None, get_or, length, refl, sym, ap, ◌∙◌, subst, arith}
+use Rattle.std.proofs.Common.{◌≡◌, ℕ, true, List, None, refl, sym, ap, ◌∙◌, subst}
 use Rattle.std.specs.Prelude.{◌&&◌}
-use Rattle.std.specs.List.{Contains, list_all}
+use Rattle.std.specs.List.{Contains}
 use Rattle.std.specs.Option.{unwrap_or}
-use Rattle.std.proofs.lemmas.Bool.{eqb-true}
-use Rattle.std.proofs.lemmas.List.Sums.{AllPass-from_list_all}
-use Rattle.std.proofs.lemmas.Option.{same_Some}
-use Rattle.sm_tree.specs.Node.{Node, no_members}
 use Rattle.sm_tree.specs.Parts.{tree_named}
 use Rattle.sm_tree.specs.Same.{HasName}
 use Rattle.sm_model.specs.Graphs.{text_cmp, shape_entry, ShapeEntry, GraphMaps}
-use Rattle.sm_model.specs.GraphView.{entries_of, maps_of}
-use Rattle.sm_model.specs.Reaching.{AreMarks, id_of_number}
+use Rattle.sm_model.specs.GraphView.{maps_of}
+use Rattle.sm_model.specs.Reaching.{id_of_number}
 use Rattle.sm_model.specs.Relations.{HasEntry}
 use Rattle.sm_model.specs.declared.event.ModelEvent.{ModelEvent}
 use Rattle.sm_model.specs.declared.graph.Graph.{Graph}
 use Rattle.sm_model.proofs.NumberedIds.{number_of}
-use Rattle.sm_model.proofs.Worklist.{apart}
 use Rattle.sm_compile.specs.Looked.{kind_in, kind_under}
-use Rattle.sm_compile.specs.TraitNodes.{text_of}
 use Rattle.sm_compile.specs.rules.Services.{HasWrongNames, IsNamedIn, name_again, wrong_rename}
-use Rattle.sm_rules.specs.RuleEvents.{IsEventAt, Puts}
-use Rattle.sm_rules.specs.declared.rule.Rule.TheVariants.{ServiceNames}
+use Rattle.sm_rules.specs.RuleEvents.{Puts}
 use Rattle.sm_rules.specs.parts.Folded.{folded, is_own_shape}
+use Rattle.sm_rules.specs.parts.Putting.{ToldOf}
 use Rattle.sm_rules.proofs.EventsPut.{puts_none}
 use Rattle.sm_rules.proofs.IdsRise.{falling}
 use Rattle.sm_rules.proofs.OwnShapes.{told_own}
-use Rattle.sm_service_rules.specs.parts.Naming.{AreNamesApart, AreRowsBelow, IsKeyBy, IsNameBy, IsOwnKey, is_first, is_named, is_named_kind}
-use Rattle.sm_service_rules.specs.parts.Naming.{is_number, renames_under}
-use Rattle.sm_service_rules.proofs.GivenNames.{given_name, one_key, renames_are}
-use Rattle.sm_service_rules.proofs.RowsBelow.{row_for}
-
-number_is : (o : Option ℕ) (k : ℕ) → is_number o k ≡ true → o ≡ Some k
-number_is None k h = absurd (apart h)
-number_is (Some j) k h = ap (λ i. Some i) (eqb-true j k h)
-
--- a row is the first one of its key, where all are
-first_is : (first : List ℕ → Option ℕ) (rows : List (List ℕ × ℕ)) → list_all (is_first first) rows ≡ true → (r : List ℕ × ℕ)
-    → Contains rows r → first r.0 ≡ Some r.1
-first_is first rows all r c =
-    number_is (first r.0) r.1
-    (subst (λ x. is_first first x ≡ true) c.2 (AllPass-from_list_all (is_first first) rows all c.0 r c.1))
-
--- rows of all numbers whose names count, each the first one of its key
-module _ (g : Graph) (inside : List Bool) (all : AreMarks (length (entries_of g)) (λ k. Unit {0}) inside) (given : List ℕ → Option Node)
-    (none : (q : List ℕ) → given q ≡ None) (rows : List (List ℕ × ℕ))
-    (are : AreRowsBelow (is_named g inside) (IsKeyBy given g) (length (entries_of g)) rows) (first : List ℕ → Option ℕ)
-    (firsts : list_all (is_first first) rows ≡ true) where
-  number_at : (k : ℕ) → k < length (entries_of g) → (key : List ℕ) → IsOwnKey g k key → first key ≡ Some k
-  number_at k small key own =
-      let marked : get_or inside k false ≡ true = (all.marked k).1 (small, tt) in
-      let passes : is_named g inside k ≡ true = λ i. marked i && own.0 i in
-      let r = row_for (is_named g inside) (IsKeyBy given g) (length (entries_of g)) rows are k small passes in
-      let id = id_of_number g k in
-      let mine : IsKeyBy given g k key =
-      (own.1.0, subst (λ o. IsNameBy (text_of o) id own.1.0) (sym (none id)) own.1.1, own.1.2) in
-      let same : r.0 ≡ key = one_key given g k r.0 key r.1 mine in
-      first_is first rows firsts (key, k) (subst (λ q. Contains {X = List ℕ × ℕ} rows (q, k)) same r.2)
-
-  pub names_apart : AreNamesApart g
-  names_apart j k less small key a b =
-      let before : j < length (entries_of g) = omega (arith, less, small) in
-      let same : j ≡ k = same_Some j k (sym (number_at j before key a) ∙ number_at k small key b) in
-      omega (arith, less, same)
+use Rattle.sm_service_rules.specs.parts.Naming.{AreNamesApart, GivesNone, IsOwnKey, ToldNames, is_named_kind, renames_under}
+use Rattle.sm_service_rules.proofs.GivenNames.{given_name, renames_are}
 
 -- a service that gives no names
-module _ (g : Graph) (service : ℕ) (differ : AreNamesApart g)
-    (none : renames_under (maps_of g) (id_of_number g service) ≡ no_members) where
+module _ (g : Graph) (service : ℕ) (differ : AreNamesApart g) (none : GivesNone g service) where
   abbrev m : GraphMaps
   m = maps_of g
 
@@ -107,5 +65,8 @@ module _ (g : Graph) (service : ℕ) (differ : AreNamesApart g)
   untold detail (wrong_rename h) =
       subst (HasName detail) (sym (renames_are m sid h.v h.own.0 h.pairs h.rename) ∙ none) h.among
 
-  pub settled_put : (es : List ModelEvent) → Puts (IsEventAt ServiceNames (HasWrongNames m) sid) es es
-  settled_put es = puts_none (IsEventAt ServiceNames (HasWrongNames m) sid) es (λ e h. untold h.0 h.1)
+-- nor of some of them
+pub settled_each : (g : Graph) (services : List ℕ) → AreNamesApart g → ((k : ℕ) → Contains services k → GivesNone g k)
+    → (es : List ModelEvent) → Puts (ToldOf (ToldNames g) services) es es
+settled_each g services differ none es =
+    puts_none (ToldOf (ToldNames g) services) es (λ e h. untold g h.0 differ (none h.0 h.1) h.2.0 h.2.1)

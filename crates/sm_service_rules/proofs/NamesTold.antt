@@ -1,7 +1,7 @@
 -- What is told of the rows and pairs of a service is what the rule on its names says.
 use Rattle.std.proofs.Common.{◌≡◌, ◌⊎◌, ◌<◌, inl, inr, ℕ, Bool, true, false, List, [], ◌∷◌, Option, Some, None, get_or, length}
 use Rattle.std.proofs.Common.{refl}
-use Rattle.std.proofs.Common.{sym, ap, ◌∙◌, subst}
+use Rattle.std.proofs.Common.{sym, ap, ◌∙◌, subst, arith}
 use Rattle.std.specs.Prelude.{◌↔◌, ◌&&◌, ◌||◌, is_some, not}
 use Rattle.std.specs.FinMap as fin
 use Rattle.std.specs.Option.{unwrap_or}
@@ -30,20 +30,20 @@ use Rattle.sm_compile.specs.TraitNodes.{text_of}
 use Rattle.sm_compile.specs.TraitRows.{is_among}
 use Rattle.sm_compile.specs.rules.Services.{HasWrongNames, IsNamedIn, KeepsName, name_again, wrong_rename}
 use Rattle.sm_compile.specs.rules.Words.{IsOwnShape, has_trait}
-use Rattle.sm_rules.specs.RuleEvents.{IsEventAt, Puts, rule_event}
+use Rattle.sm_rules.specs.RuleEvents.{IsEventAt, IsEventOf, Puts, rule_event}
 use Rattle.sm_rules.specs.declared.rule.Rule.TheVariants.{ServiceNames}
-use Rattle.sm_rules.specs.parts.Closures.{AreInside}
+use Rattle.sm_rules.specs.parts.Closures.{AreInside, ToldOfServices}
 use Rattle.sm_rules.specs.parts.Folded.{folded, is_own_shape}
 use Rattle.sm_rules.specs.parts.Putting.{IsWhere, ToldOf}
 use Rattle.sm_rules.specs.parts.Using.{is_own_service}
-use Rattle.sm_rules.proofs.EventsPut.{puts_both, puts_none, puts_same}
+use Rattle.sm_rules.proofs.EventsPut.{puts_both, puts_same}
 use Rattle.sm_rules.proofs.IdsRise.{falling, rising}
 use Rattle.sm_rules.proofs.UnusedShapes.{service_own}
 use Rattle.sm_rules.proofs.ExclusiveTraits.{entry_there}
 use Rattle.sm_rules.proofs.OwnShapes.{not_so, own_told, told_own}
-use Rattle.sm_service_rules.specs.parts.Naming.{AreRowsBelow, IsKeyBy, IsNameBy, IsWrongBy, IsWrongName}
-use Rattle.sm_service_rules.specs.parts.Naming.{ToldWrong}
-use Rattle.sm_service_rules.specs.parts.Naming.{is_kept_kind, is_left, is_named, is_named_kind, keeps_name, renames_under}
+use Rattle.sm_service_rules.specs.parts.Naming.{AreAlikeAmong, AreRowsAmong, IsKeyBy, IsNameBy, IsWrongBy, IsWrongName}
+use Rattle.sm_service_rules.specs.parts.Naming.{ToldNames, ToldWrong}
+use Rattle.sm_service_rules.specs.parts.Naming.{is_kept_kind, is_left, is_named, is_named_kind, is_own_named, keeps_name, renames_under}
 use Rattle.sm_service_rules.proofs.GivenNames.{given_name, name_of_pair, one_key, pair_of_name, renames_are, some_renames}
 use Rattle.sm_service_rules.proofs.RowsBelow.{ToldRows, ToldTwice, told_twice, twice_told}
 
@@ -152,6 +152,9 @@ module _ (g : Graph) where
 
     module _ (v : ShapeEntry) (own : IsOwnShape m sid v) (kind : v.kind ≡ Service) (given : List ℕ → Option Node)
         (given_is : (key : List ℕ) → given key ≡ tree_named key (renames_under m sid)) where
+      marked : (k : ℕ) → is_named g inside k ≡ true → IsMarked inside k
+      marked k h = and_left (get_or inside k false) (is_own_named m (id_of_number g k)) h
+
       -- a number that passes, with its name
       named_in : (k : ℕ) (name : List ℕ) → is_named g inside k ≡ true
           → IsNameBy (text_of (given (id_of_number g k))) (id_of_number g k) name → IsNamedIn m sid v (id_of_number g k) name
@@ -165,7 +168,7 @@ module _ (g : Graph) where
             kind = sym (ap (λ o. is_named_kind (kind_in o)) s.1.0) ∙ and_right (is_own_shape m id) (is_named_kind (kind_under m id)) rest;
             inside = (
               (v, own, kind),
-              ((are.marked k).0 (and_left (get_or inside k false) (is_own_shape m id && is_named_kind (kind_under m id)) h)).1,
+              ((are.marked k).0 (marked k h)).1,
             );
             named = (parts, spelled, is ∙ ap (λ o. unwrap_or o parts.name) (given_name m sid v own.0 given given_is id));
           }
@@ -187,34 +190,39 @@ module _ (g : Graph) where
             ),
           )
 
-      module _ (pairs : List (List ℕ × Tree)) (pairs_are : members_of (members_view pairs) ≡ renames_under m sid) (rows : List (List ℕ × ℕ))
-          (rows_are : AreRowsBelow (is_named g inside) (IsKeyBy given g) count rows) where
-        abbrev Told : EventTold → Type 0
-        Told e = ToldRows (λ k x. x ≡ rule_event ServiceNames sid (id_of_number g k)) rows e ⊎ ToldOf (ToldWrong m sid) pairs e
+      -- rows of numbers among which are any two with one key
+      module _ (pairs : List (List ℕ × Tree)) (pairs_are : members_of (members_view pairs) ≡ renames_under m sid) (Among : ℕ → Type 0)
+          (alike : AreAlikeAmong g inside given Among) (rows : List (List ℕ × ℕ))
+          (rows_are : AreRowsAmong Among (is_named g inside) (IsKeyBy given g) rows) where
+        abbrev Holds : ℕ → Type 0
+        Holds k = Among k × (is_named g inside k ≡ true)
 
-        forth : (e : EventTold) → Told e → IsEventAt ServiceNames (HasWrongNames m) sid e
-        forth e (inl h) =
-            let t = told_twice (λ k x. x ≡ rule_event ServiceNames sid (id_of_number g k)) (is_named g inside) (IsKeyBy given g) count rows
-            rows_are e h in
-            again t
-          where
-            again : ToldTwice (λ k x. x ≡ rule_event ServiceNames sid (id_of_number g k)) (is_named g inside) (IsKeyBy given g) count e
-                → IsEventAt ServiceNames (HasWrongNames m) sid e
-            again (j, k, key, (small, less, pj, pk, kj, kk), is) = (
+        abbrev At : ℕ → EventTold → Type 0
+        At k e = e ≡ rule_event ServiceNames sid (id_of_number g k)
+
+        abbrev Told : EventTold → Type 0
+        Told e = ToldRows At rows e ⊎ ToldOf (ToldWrong m sid) pairs e
+
+        again : (e : EventTold) → ToldTwice At Holds (IsKeyBy given g) rows rows_are e → IsEventAt ServiceNames (HasWrongNames m) sid e
+        again e (j, k, key, less, cj, ck, kj, kk, is) =
+            let small : k < count = ((are.marked k).0 (marked k ck.1)).0 in (
               id_of_number g k,
               name_again (record {
                 v = v;
                 own = own;
                 name = kk.0;
-                named = named_in k kk.0 pk kk.1;
+                named = named_in k kk.0 ck.1 kk.1;
                 smaller = id_of_number g j;
                 other = kj.0;
-                other_named = named_in j kj.0 pj kj.1;
+                other_named = named_in j kj.0 cj.1 kj.1;
                 order = rising g j k less small;
                 same = sym kj.2 ∙ kk.2;
               }),
               is,
             )
+
+        forth : (e : EventTold) → Told e → IsEventAt ServiceNames (HasWrongNames m) sid e
+        forth e (inl h) = again e (told_twice At Holds (IsKeyBy given g) rows rows_are e h)
         forth e (inr (p, among, w)) =
             let named = some_renames m sid v own.0 p.0 (subst (HasName p.0) pairs_are (name_of_pair pairs p among)) in (
               p.0,
@@ -238,12 +246,19 @@ module _ (g : Graph) where
             let nj = passes_named h.v h.own.0 j.0 j.1 h.other (subst (λ i. IsNamedIn m sid h.v i h.other) (sym j.2) h.other_named) in
             let order = ap (λ a. text_cmp a (id_of_number g k.0)) j.2 ∙ ap (text_cmp h.smaller) k.2 ∙ h.order in
             let less : j.0 < k.0 = falling g j.0 k.0 j.1 k.1 order in
-            inl (twice_told (λ n x. x ≡ rule_event ServiceNames sid (id_of_number g n)) (is_named g inside) (IsKeyBy given g)
-            (one_key given g) count rows rows_are e (
+            let kj : IsKeyBy given g j.0 (folded h.name) = (h.other, nj.1, sym h.same) in
+            let kk : IsKeyBy given g k.0 (folded h.name) = (h.name, nk.1, refl) in
+            let aj = alike j.0 k.0 (folded h.name) (λ same. omega (arith, less, same)) (nj.0, kj) (nk.0, kk) in
+            let ak = alike k.0 j.0 (folded h.name) (λ same. omega (arith, less, same)) (nk.0, kk) (nj.0, kj) in
+            inl (twice_told At Holds (IsKeyBy given g) rows rows_are (one_key given g) e (
               j.0,
               k.0,
               folded h.name,
-              (k.1, less, nj.0, nk.0, (h.other, nj.1, sym h.same), (h.name, nk.1, refl)),
+              less,
+              (aj, nj.0),
+              (ak, nk.0),
+              kj,
+              kk,
               is ∙ ap (rule_event ServiceNames sid) (sym k.2),
             ))
         back e (detail, wrong_rename h, is) =
@@ -251,9 +266,8 @@ module _ (g : Graph) where
             (subst (HasName detail) (sym (renames_are m sid h.v h.own.0 h.pairs h.rename) ∙ sym pairs_are) h.among) in
             inr (p.0, p.1, (subst (IsWrongName m sid) (sym p.2) h.wrong, is ∙ ap (rule_event ServiceNames sid) (sym p.2)))
 
-        pub names_put : (a b c : List ModelEvent)
-            → Puts (ToldRows (λ k x. x ≡ rule_event ServiceNames sid (id_of_number g k)) rows) a b
-            → Puts (ToldOf (ToldWrong m sid) pairs) b c → Puts (IsEventAt ServiceNames (HasWrongNames m) sid) a c
+        pub names_put : (a b c : List ModelEvent) → Puts (ToldRows At rows) a b → Puts (ToldOf (ToldWrong m sid) pairs) b c
+            → Puts (IsEventAt ServiceNames (HasWrongNames m) sid) a c
         names_put a b c h k =
             puts_same Told (IsEventAt ServiceNames (HasWrongNames m) sid) a c (λ e. (forth e, back e))
             (puts_both _ _ a b c h k)
@@ -263,12 +277,23 @@ pub names_there : (g : GraphMaps) (id detail : List ℕ) → HasWrongNames g id 
 names_there g id detail (name_again h) = (shape_entry h.v, h.own.0)
 names_there g id detail (wrong_rename h) = (shape_entry h.v, h.own.0)
 
-pub no_names : (g : GraphMaps) (id : List ℕ) (es : List ModelEvent) → is_own_service g id ≡ false
-    → Puts (IsEventAt ServiceNames (HasWrongNames g) id) es es
-no_names g id es other = puts_none (IsEventAt ServiceNames (HasWrongNames g) id) es (λ e h. apart (sym other ∙ there h.1))
+-- and what is told at all services outside of the prelude is what is told
+pub names_all : (g : Graph) (before now : List ModelEvent) → Puts (ToldOfServices g (ToldNames g)) before now
+    → Puts (IsEventOf ServiceNames (HasWrongNames (maps_of g))) before now
+names_all g before now h =
+    puts_same (ToldOfServices g (ToldNames g)) (IsEventOf ServiceNames (HasWrongNames (maps_of g))) before now (λ e. (forth e, back e)) h
   where
-    there : {detail : List ℕ} → HasWrongNames g id detail → is_own_service g id ≡ true
-    there (name_again h) = service_own g id h.named.inside.0
-    there (wrong_rename h) = service_own g id (h.v, h.own, h.kind)
+    own : (id detail : List ℕ) → HasWrongNames (maps_of g) id detail → is_own_service (maps_of g) id ≡ true
+    own id detail (name_again h) = service_own (maps_of g) id h.named.inside.0
+    own id detail (wrong_rename h) = service_own (maps_of g) id (h.v, h.own, h.kind)
 
--- the service, as an entry
+    forth : (e : EventTold) → ToldOfServices g (ToldNames g) e → IsEventOf ServiceNames (HasWrongNames (maps_of g)) e
+    forth e (k, service, t) = (id_of_number g k, t.0, t.1, t.2)
+
+    back : (e : EventTold) → IsEventOf ServiceNames (HasWrongNames (maps_of g)) e → ToldOfServices g (ToldNames g) e
+    back e (id, detail, wrong, is) =
+        let k = number_of g id (names_there (maps_of g) id detail wrong) in (
+          k.0,
+          (k.1, subst (λ i. is_own_service (maps_of g) i ≡ true) (sym k.2) (own id detail wrong)),
+          subst (λ i. IsEventAt ServiceNames (HasWrongNames (maps_of g)) i e) (sym k.2) (detail, wrong, is),
+        )

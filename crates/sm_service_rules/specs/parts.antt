@@ -1,2 +1,4 @@
 pub mod Naming
+pub mod Twins
+pub mod Renaming
 pub mod Finding

@@ -1,5 +1,7 @@
 // The shapes whose names count, as rows under their names in small letters, and the names that `rename` gives.
 ghost use Rattle.std.specs.Prelude.{◌≡◌, ◌++◌, ◌∷◌, [], ℕ, List, IfOk, OnOk, length};
+ghost use Rattle.std.specs.List.{Contains};
+ghost use Rattle.std.specs.List.Sorted.{IsStrictlyIncreasing};
 ghost use Rattle.std.specs.Option.{option_copied};
 ghost use Rattle.sm_ids.specs.IdText.{Id, IdText};
 ghost use Rattle.sm_tree.specs.Node.{members_of};
@@ -8,7 +10,8 @@ ghost use Rattle.sm_tree.specs.View.{members_view};
 ghost use Rattle.sm_model.specs.GraphView.{IsShapeNumber, entries_of};
 ghost use Rattle.sm_model.specs.Reaching.{id_of_number};
 ghost use Rattle.sm_compile.specs.TraitNodes.{text_of};
-ghost use Rattle.sm_service_rules.specs.parts.Naming.{AreRowsBelow, IsKeyBy, IsNameBy, MoreBy, is_named, is_named_kind, tree_in};
+ghost use Rattle.sm_service_rules.specs.parts.Naming.{AreRowsAmong, AreRowsBelow, IsKeyBy, IsNameBy, MoreBy};
+ghost use Rattle.sm_service_rules.specs.parts.Naming.{is_named, is_named_kind, tree_in};
 
 use sm_compile::{id_text, kind_of, text_in_trait};
 use sm_ids::ShapeId;
@@ -50,6 +53,27 @@ pub(crate) fn named_rows<'a>(
     let mut rows = Vec::new(alloc);
     for number in 0..graph.count() {
         put_named(alloc, graph, given, inside, number, &mut rows)?;
+    }
+    Ok(rows)
+}
+
+/// Those among these numbers, which rise.
+pub(crate) fn rows_among<'a>(
+    alloc: Global,
+    graph: &'a Graph,
+    given: &BTreeMap<&'a str, &'a Tree>,
+    inside: &[bool],
+    numbers: &[u32],
+) -> Result<Vec<(Text, u32)>, NoMemory>
+    requires whole { length inside.now ≡ length (entries_of graph.now) }
+    requires numbers { (k : ℕ) → Contains numbers.now k → IsShapeNumber graph.now k }
+    requires rise { IsStrictlyIncreasing numbers.now }
+    ensures { IfOk result (λ rows. AreRowsAmong (λ k. Contains numbers.now k) (is_named graph.now inside.now)
+        (IsKeyBy (tree_in given.now) graph.now) rows.items) }
+{
+    let mut rows = Vec::new(alloc);
+    for number in numbers {
+        put_named(alloc, graph, given, inside, *number, &mut rows)?;
     }
     Ok(rows)
 }

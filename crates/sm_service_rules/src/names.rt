@@ -1,5 +1,6 @@
 // Service.Names: names in the closure of a service differ, not by case alone, and `rename` names what may have a new name.
-ghost use Rattle.std.specs.Prelude.{◌≡◌, ◌↔◌, OnOk, length, true};
+ghost use Rattle.std.specs.Prelude.{◌≡◌, ◌↔◌, [], ℕ, OnOk, length, true};
+ghost use Rattle.std.specs.List.{Contains};
 ghost use Rattle.std.specs.Option.{option_map, unwrap_or};
 ghost use Rattle.sm_tree.specs.Node.{members_of, no_members};
 ghost use Rattle.sm_tree.specs.Parts.{pairs_in};
@@ -11,27 +12,34 @@ ghost use Rattle.sm_compile.specs.rules.Services.{HasWrongNames};
 ghost use Rattle.sm_rules.specs.RuleEvents.{IsEventAt, IsEventOf, Puts, rule_event};
 ghost use Rattle.sm_rules.specs.declared.rule.Rule.TheVariants.{ServiceNames};
 ghost use Rattle.sm_rules.specs.parts.Putting.{ToldOf};
-ghost use Rattle.sm_rules.specs.parts.Closures.{AreInside};
+ghost use Rattle.sm_rules.specs.parts.Closures.{AreInside, AreInsideOf, AreOwnServices, HaveOneClosure};
+ghost use Rattle.sm_rules.specs.parts.Firsts.{number_in};
 ghost use Rattle.sm_rules.specs.parts.Using.{is_own_service};
-ghost use Rattle.sm_service_rules.specs.parts.Naming.{AreNamesApart, IsWrongBy, IsWrongName, ToldAgain, ToldWrong, is_kept_kind, is_left};
-ghost use Rattle.sm_service_rules.specs.parts.Naming.{keeps_name, pairs_where, renames_under};
+ghost use Rattle.sm_service_rules.specs.parts.Naming.{GivesNone, IsWrongBy, IsWrongName, ToldAgain, ToldNames, ToldWrong};
+ghost use Rattle.sm_service_rules.specs.parts.Naming.{is_kept_kind, is_left, keeps_name, pairs_where, renames_under};
+ghost use Rattle.sm_service_rules.specs.parts.Twins.{AreNames, AreNamesInside};
 
-use crate::apart::are_names_apart;
-use crate::named::{named_rows, names_given};
+use crate::given_names::numbers_alike;
+use crate::later::{later_rows, own_rows};
+use crate::named::{names_given, rows_among};
+use crate::twins::{NamesInside, names_inside};
 use sm_compile::{field_of, id_text, kind_of};
 use sm_model::{Graph, Kind, ModelEvent, pairs_of};
 use sm_rules::Rule;
 use sm_rules::carried::carries;
-use sm_rules::closures::{closure_of, is_own_service};
-use sm_rules::each::{AtEach, put_each};
+use sm_rules::closures::closure_shared;
 use sm_rules::earlier::{OfFirst, put_later};
+use sm_rules::firsts::first_numbers;
 use sm_rules::putting::{put_event, put_if};
+use sm_rules::services::{OfServices, put_by_closures};
 use sm_select::Ways;
 use sm_tree::{NoMemory, Text, Tree};
 use std::alloc::Global;
+use std::collections::BTreeMap;
 
 /// Puts the events of the rule, by the ways of the graph. n log n where no two names of the graph are equal but for case and no service
-/// gives names; else n log n for each service that gives some, or for all services. n is how many shapes and members there are.
+/// gives names; else services that lead to the same share a walk of their closure and what it has of names, and each of them is n log n
+/// in the names that others of its closure have and in its `rename`.
 pub fn put_names(
     alloc: Global,
     graph: &Graph,
@@ -42,112 +50,128 @@ pub fn put_names(
     ensures { OnOk result
         (Puts (IsEventOf ServiceNames (HasWrongNames (maps_of graph.now))) events.old.items events.new.items) }
 {
-    let apart = are_names_apart(alloc, graph)?;
-    put_each(alloc, graph, &Names { ways, apart }, events)?;
+    let rows = own_rows(alloc, graph)?;
+    let firsts = first_numbers(alloc, rows.as_slice())?;
+    let later = later_rows(alloc, &firsts, rows.as_slice())?;
+    let names = Names {
+        firsts: &firsts,
+        later: later.as_slice(),
+    };
+    put_by_closures(alloc, graph, ways, &names, events)?;
     Ok(())
 }
 
-// What the closures are walked by, and whether no two names of the graph are equal but for case.
+// The names of a graph: what stands first under each, and the other numbers of a name, each with the first one.
 #[derive(Drop)]
-struct Names<'a> {
-    ways: &'a Ways,
-    apart: bool,
+struct Names<'a, 'b> {
+    firsts: &'a BTreeMap<&'b str, u32>,
+    later: &'a [(u32, u32)],
 }
 
-impl AtEach for Names<'_> {
-    ghost tells = { λ rule g id. IsEventAt ServiceNames (HasWrongNames g) id };
+impl OfServices for Names<'_, '_> {
+    ghost tells = { λ rule g k e. ToldNames g k e };
 
-    ghost knows = { λ rule g. AreWays g rule.ways.now × (rule.apart ≡ true → AreNamesApart g) };
+    ghost knows = { λ rule g. AreNames g (number_in rule.firsts.now) rule.later.now };
 
-    fn put_at(
+    fn put_of_services(
         &self,
         alloc: Global,
         graph: &Graph,
-        number: u32,
+        ways: &Ways,
+        services: &[u32],
         events: &mut Vec<ModelEvent>,
     ) -> Result<(), NoMemory> {
-        if is_own_service(graph, number) {
-            put_names_of(alloc, graph, self.ways, self.apart, number, events)?;
+        if is_settled(graph, self.later, services) {
             Ok(())
         } else {
+            put_names_inside(alloc, graph, ways, self, services, events)?;
             Ok(())
         }
     }
 }
 
-// Of one service: its closure is walked where something may be told.
-fn put_names_of(
-    alloc: Global,
-    graph: &Graph,
-    ways: &Ways,
-    apart: bool,
-    service: u32,
-    events: &mut Vec<ModelEvent>,
-) -> Result<(), NoMemory>
-    requires number { IsShapeNumber graph.now service }
-    requires own { is_own_service (maps_of graph.now) (id_of_number graph.now service) ≡ true }
-    requires ways { AreWays graph.now ways.now }
-    requires apart { apart ≡ true → AreNamesApart graph.now }
-    ensures { OnOk result
-        (Puts (IsEventAt ServiceNames (HasWrongNames (maps_of graph.now)) (id_of_number graph.now service))
-        events.old.items events.new.items) }
+// Whether nothing can be told: names differ in the whole graph, and none of these services gives any.
+fn is_settled(graph: &Graph, later: &[(u32, u32)], services: &[u32]) -> bool
+    requires { AreOwnServices graph.now services.now }
+    ensures { result ≡ true → (later.now ≡ []) × ((k : ℕ) → Contains services.now k → GivesNone graph.now k) }
 {
-    if is_settled(graph, apart, service) {
-        Ok(())
-    } else {
-        put_names_inside(alloc, graph, ways, service, events)?;
-        Ok(())
+    later.is_empty() && give_none(graph, services)
+}
+
+fn give_none(graph: &Graph, services: &[u32]) -> bool
+    requires { AreOwnServices graph.now services.now }
+    ensures { result ≡ true → (k : ℕ) → Contains services.now k → GivesNone graph.now k }
+{
+    for service in services {
+        if !renames_of(graph, *service).is_empty() {
+            return false;
+        }
     }
+    true
 }
 
-// Whether nothing can be told: names differ in the whole graph, and the service gives none.
-fn is_settled(graph: &Graph, apart: bool, service: u32) -> bool
-    requires { IsShapeNumber graph.now service }
-    ensures { result ≡ true → (apart ≡ true) × (renames_under (maps_of graph.now) (id_of_number graph.now service) ≡ no_members) }
-{
-    apart && renames_of(graph, service).is_empty()
-}
-
-// By its closure.
+// By their closure, which is one.
 fn put_names_inside(
     alloc: Global,
     graph: &Graph,
     ways: &Ways,
-    service: u32,
+    names: &Names,
+    services: &[u32],
     events: &mut Vec<ModelEvent>,
 ) -> Result<(), NoMemory>
-    requires number { IsShapeNumber graph.now service }
-    requires own { is_own_service (maps_of graph.now) (id_of_number graph.now service) ≡ true }
     requires ways { AreWays graph.now ways.now }
-    ensures { OnOk result
-        (Puts (IsEventAt ServiceNames (HasWrongNames (maps_of graph.now)) (id_of_number graph.now service))
-        events.old.items events.new.items) }
+    requires own { AreOwnServices graph.now services.now }
+    requires one { HaveOneClosure graph.now services.now }
+    requires names { AreNames graph.now (number_in names.now.firsts.now) names.now.later.now }
+    ensures { OnOk result (Puts (ToldOf (ToldNames graph.now) services.now) events.old.items events.new.items) }
 {
-    let inside = closure_of(alloc, graph, ways, service)?;
-    put_names_among(alloc, graph, service, inside.as_slice(), events)?;
+    let marks = closure_shared(alloc, graph, ways, services)?;
+    let inside = names_inside(alloc, names.firsts, names.later, marks.as_slice())?;
+    put_names_each(alloc, graph, &inside, services, events)?;
     Ok(())
 }
 
-// Of a service with its closure.
-fn put_names_among(
+// Of each of these services, with what their closure has of names.
+fn put_names_each(
     alloc: Global,
     graph: &Graph,
+    names: &NamesInside,
+    services: &[u32],
+    events: &mut Vec<ModelEvent>,
+) -> Result<(), NoMemory>
+    requires own { AreOwnServices graph.now services.now }
+    requires inside { AreInsideOf graph.now services.now names.now.inside.now }
+    requires names { AreNamesInside graph.now names.now }
+    ensures { OnOk result (Puts (ToldOf (ToldNames graph.now) services.now) events.old.items events.new.items) }
+{
+    for service in services {
+        put_names_of_service(alloc, graph, names, *service, events)?;
+    }
+    Ok(())
+}
+
+// Of a service, by what its closure has of names. n log n in the twins of the closure and in `rename`, beside the look-up of each id.
+fn put_names_of_service(
+    alloc: Global,
+    graph: &Graph,
+    names: &NamesInside,
     service: u32,
-    inside: &[bool],
     events: &mut Vec<ModelEvent>,
 ) -> Result<(), NoMemory>
     requires number { IsShapeNumber graph.now service }
     requires own { is_own_service (maps_of graph.now) (id_of_number graph.now service) ≡ true }
-    requires inside { AreInside graph.now service inside.now }
+    requires inside { AreInside graph.now service names.now.inside.now }
+    requires names { AreNamesInside graph.now names.now }
     ensures { OnOk result
         (Puts (IsEventAt ServiceNames (HasWrongNames (maps_of graph.now)) (id_of_number graph.now service))
         events.old.items events.new.items) }
 {
     let renames = renames_of(graph, service);
     let given = names_given(alloc, renames)?;
-    let rows = named_rows(alloc, graph, &given, inside)?;
+    let numbers = numbers_alike(alloc, graph, names, renames)?;
+    let rows = rows_among(alloc, graph, &given, names.inside(), numbers.as_slice())?;
     put_later(alloc, graph, &Again { service }, rows.as_slice(), events)?;
-    put_renames(alloc, graph, service, inside, renames, events)?;
+    put_renames(alloc, graph, service, names.inside(), renames, events)?;
     Ok(())
 }
 

@@ -1,11 +1,12 @@
 -- The names of shapes in the closure of a service, as rows and as tests, and what is told of them.
-use Rattle.std.specs.Prelude.{◌≡◌, ◌⊎◌, ◌&&◌, ◌||◌, ℕ, zero, suc, Bool, true, false, not, List, [], ◌∷◌, ◌++◌, Option, Some, None, codes}
-use Rattle.std.specs.Prelude.{◌==◌, get_or, length}
+use Rattle.std.specs.Prelude.{◌≡◌, ◌⊎◌, ◌&&◌, ◌||◌, ℕ, Bool, true, false, not, List, [], ◌∷◌, ◌++◌, Option, Some, None, codes}
+use Rattle.std.specs.Prelude.{◌<◌, get_or, length}
 use Rattle.std.specs.Prelude.{is_some}
 use denote.Ref.{Bor}
 use Rattle.std.specs.BTreeMap.{BTreeMap, get_by}
 use Rattle.std.specs.Cmp.Lexicographic.{slice_cmp}
 use Rattle.std.specs.FinMap as fin
+use Rattle.std.specs.List.{AllPairs, Contains}
 use Rattle.std.specs.Option.{option_map, unwrap_or}
 use Rattle.std.specs.Ordering.{nat_cmp}
 use Rattle.sm_ids.specs.IdText.{Id, IdText}
@@ -25,8 +26,8 @@ use Rattle.sm_compile.specs.Looked.{kind_under}
 use Rattle.sm_compile.specs.TraitIds.{error_id}
 use Rattle.sm_compile.specs.TraitNodes.{field_of, text_of}
 use Rattle.sm_compile.specs.TraitRows.{is_among}
-use Rattle.sm_compile.specs.rules.Services.{KeepsName, named_kinds}
-use Rattle.sm_rules.specs.RuleEvents.{rule_event}
+use Rattle.sm_compile.specs.rules.Services.{HasWrongNames, KeepsName, named_kinds}
+use Rattle.sm_rules.specs.RuleEvents.{IsEventAt, rule_event}
 use Rattle.sm_rules.specs.declared.rule.Rule.TheVariants.{ServiceNames}
 use Rattle.sm_rules.specs.parts.Apart.{AreApart}
 use Rattle.sm_rules.specs.parts.Carrying.{carries}
@@ -44,6 +45,10 @@ renames_in (Some (member_entry m)) = no_members
 
 abbrev pub renames_under : GraphMaps → List ℕ → Members
 renames_under g id = renames_in (fin.get g.shapes id)
+
+-- a service that gives no names
+abbrev pub GivesNone : Graph → ℕ → Type 0
+GivesNone g k = renames_under (maps_of g) (id_of_number g k) ≡ no_members
 
 -- the tree under a text, in the code
 abbrev pub tree_in : BTreeMap (Bor (List ℕ)) (Bor Tree) → List ℕ → Option Node
@@ -67,6 +72,14 @@ is_own_named g id = is_own_shape g id && is_named_kind (kind_under g id)
 abbrev pub is_named : Graph → List Bool → ℕ → Bool
 is_named g inside k = get_or inside k false && is_own_named (maps_of g) (id_of_number g k)
 
+-- the key of such a shape under a service; two numbers with one key are both among these
+abbrev pub IsGivenKey : Graph → List Bool → (List ℕ → Option Node) → ℕ → List ℕ → Type 0
+IsGivenKey g inside given k key = (is_named g inside k ≡ true) × IsKeyBy given g k key
+
+abbrev pub AreAlikeAmong : Graph → List Bool → (List ℕ → Option Node) → (ℕ → Type 0) → Type 0
+AreAlikeAmong g inside given Among =
+    (j k : ℕ) (key : List ℕ) → (j ≡ k → ⊥) → IsGivenKey g inside given j key → IsGivenKey g inside given k key → Among j
+
 -- the key of such a shape by the name of its id; no two numbers of the graph have one
 abbrev pub IsOwnKey : Graph → ℕ → List ℕ → Type 0
 IsOwnKey g k key = (is_own_named (maps_of g) (id_of_number g k) ≡ true) × IsKeyBy (λ q. None) g k key
@@ -74,23 +87,27 @@ IsOwnKey g k key = (is_own_named (maps_of g) (id_of_number g k) ≡ true) × IsK
 abbrev pub AreNamesApart : Graph → Type 0
 AreNamesApart g = AreApart (IsOwnKey g) (length (entries_of g))
 
--- a row is the first one of its key, by the numbers that stand first
-abbrev pub is_number : Option ℕ → ℕ → Bool
-is_number None k = false
-is_number (Some j) k = j == k
-
-abbrev pub is_first : (List ℕ → Option ℕ) → List ℕ × ℕ → Bool
-is_first first r = is_number (first r.0) r.1
-
--- one row more where the number passes; rows of the numbers below this one, in order
+-- one row more where the number passes
 abbrev pub MoreBy : Bool → (List ℕ → Type 0) → ℕ → List (List ℕ × ℕ) → List (List ℕ × ℕ) → Type 0
 MoreBy false IsKey n rows more = more ≡ rows
 MoreBy true IsKey n rows more = (key : List ℕ) × IsKey key × (more ≡ rows ++ (key, n) ∷ [])
 
+-- rows of exactly these numbers, by rising numbers, each under its key
+pub record AreRows (Holds : ℕ → Type 0) (IsKey : ℕ → List ℕ → Type 0) (rows : List (List ℕ × ℕ)) : Type 0 where
+  pub each : (r : List ℕ × ℕ) → Contains rows r → Holds r.1 × IsKey r.1 r.0
+  pub all : (k : ℕ) → Holds k → (key : List ℕ) × Contains {X = List ℕ × ℕ} rows (key, k)
+  pub rise : AllPairs (λ (q : List ℕ × ℕ) (r : List ℕ × ℕ). q.1 < r.1) rows
+
+-- of those among some that pass; of those below a number
+abbrev pub AreRowsAmong : (ℕ → Type 0) → (ℕ → Bool) → (ℕ → List ℕ → Type 0) → List (List ℕ × ℕ) → Type 0
+AreRowsAmong Among passes IsKey rows = AreRows (λ k. Among k × (passes k ≡ true)) IsKey rows
+
 abbrev pub AreRowsBelow : (ℕ → Bool) → (ℕ → List ℕ → Type 0) → ℕ → List (List ℕ × ℕ) → Type 0
-AreRowsBelow passes IsKey zero rows = rows ≡ []
-AreRowsBelow passes IsKey (suc n) rows =
-    (before : List (List ℕ × ℕ)) × AreRowsBelow passes IsKey n before × MoreBy (passes n) (IsKey n) n before rows
+AreRowsBelow passes IsKey n rows = AreRowsAmong (λ k. k < n) passes IsKey rows
+
+-- what the rule tells of the service at a number
+abbrev pub ToldNames : Graph → ℕ → EventTold → Type 0
+ToldNames g k e = IsEventAt ServiceNames (HasWrongNames (maps_of g)) (id_of_number g k) e
 
 -- told of a shape whose name an earlier one has
 abbrev pub ToldAgain : Graph → ℕ → ℕ → ℕ → EventTold → Type 0
