@@ -1,5 +1,6 @@
 pub mod TargetTested
 pub mod LabelRows
+pub mod EachNumber
 pub mod BoundRows
 pub mod LabelsTold
 pub mod Splits
@@ -7,8 +8,9 @@ pub mod ReadTraits
 pub mod NamesAgain
 pub mod BoundSides
 pub mod WireNamesTold
-pub mod RunsTold
 pub mod RouteKeys
+pub mod SameRouteRows
+pub mod PairsTold
 pub mod RoutesTold
 pub mod SomePasses
 pub mod AllowedTold

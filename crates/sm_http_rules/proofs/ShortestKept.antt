@@ -32,10 +32,10 @@ begins_starts : (t p : List ℕ) → BeginsWith t p → starts_with eqb t p ≡ 
 begins_starts t p h = (starts_is Decides-eqb t p (starts_with eqb t p) refl).1 h.0 h.1
 
 -- the order of texts
-same_text : (a b : List ℕ) → text_cmp a b ≡ Equal → a ≡ b
+pub same_text : (a b : List ℕ) → text_cmp a b ≡ Equal → a ≡ b
 same_text = slice_cmp-IsAntisymmetric nat_cmp-IsAntisymmetric
 
-turned_less : (a b : List ℕ) → text_cmp a b ≡ Greater → text_cmp b a ≡ Less
+pub turned_less : (a b : List ℕ) → text_cmp a b ≡ Greater → text_cmp b a ≡ Less
 turned_less a b h = nat_list_cmp_total.antisymm b a ∙ ap ordering_reverse h
 
 below_both : (t p q : List ℕ) → text_cmp t p ≡ Less → (text_cmp q p ≡ Less → ⊥) → text_cmp t q ≡ Less

@@ -2,8 +2,8 @@ pub mod Labels
 pub mod Naming
 pub mod Sides
 pub mod WireNames
-pub mod Runs
 pub mod Routes
+pub mod SameRoutes
 pub mod Binding
 pub mod Allowing
 pub mod LeftOut

@@ -4,8 +4,7 @@ ghost use Rattle.std.specs.List.{Contains};
 ghost use Rattle.sm_model.specs.GraphView.{AreShapeNumbers, IsShapeNumber, entries_of, maps_of};
 ghost use Rattle.sm_model.specs.Reaching.{id_of_number};
 ghost use Rattle.sm_model.specs.steps.Linking.{Joins};
-ghost use Rattle.sm_http_rules.specs.parts.Labels.{AreBound, AreBoundOf, BoundRow, is_bound, label_row, rows_of_labels};
-ghost use Rattle.sm_http_rules.specs.parts.Runs.{AreEach};
+ghost use Rattle.sm_http_rules.specs.parts.Labels.{AreBound, AreBoundOf, AreEach, BoundRow, is_bound, label_row, rows_of_labels};
 
 use sm_compile::{Segment, member_name, members_of};
 use sm_model::Graph;

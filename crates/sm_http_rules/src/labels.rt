@@ -10,8 +10,7 @@ ghost use Rattle.sm_rules.specs.RuleEvents.{IsEventOf, Puts};
 ghost use Rattle.sm_rules.specs.declared.rule.Rule.TheVariants.{HttpLabels};
 ghost use Rattle.sm_rules.specs.parts.Http.{uri_seen};
 ghost use Rattle.sm_rules.specs.parts.Putting.{ToldOf};
-ghost use Rattle.sm_http_rules.specs.parts.Labels.{AreBoundOf, ToldByLink, ToldLabels, ToldOfUri, is_input};
-ghost use Rattle.sm_http_rules.specs.parts.Runs.{AreEach};
+ghost use Rattle.sm_http_rules.specs.parts.Labels.{AreBoundOf, AreEach, is_input, ToldByLink, ToldLabels, ToldOfUri};
 
 use crate::label_rows::{BoundRows, all_bound_rows, label_rows};
 use crate::label_told::put_by_rows;

@@ -13,7 +13,7 @@ pub mod naming;
 mod prefixes;
 mod route_keys;
 pub mod routes;
-mod runs;
+mod same_routes;
 mod shortest;
 pub mod sides;
 mod targets;

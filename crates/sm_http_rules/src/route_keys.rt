@@ -1,11 +1,13 @@
 // The routes of operations as texts: patterns without the names of labels, each with its method.
-ghost use Rattle.std.specs.Prelude.{◌≡◌, ◌++◌, IfOk, Some, length};
+ghost use Rattle.std.specs.Prelude.{◌≡◌, ◌++◌, IfOk, OnOk, Some};
+ghost use Rattle.std.specs.List.{Contains};
 ghost use Rattle.std.specs.Option.{option_copied};
-ghost use Rattle.sm_model.specs.GraphView.{IsShapeNumber, entries_of, maps_of};
+ghost use Rattle.sm_model.specs.GraphView.{IsShapeNumber, maps_of};
 ghost use Rattle.sm_model.specs.Reaching.{id_of_number};
+ghost use Rattle.sm_model.specs.steps.Linking.{Joins};
 ghost use Rattle.sm_compile.specs.UriPattern.{uri_said};
 ghost use Rattle.sm_rules.specs.parts.Http.{uri_seen};
-ghost use Rattle.sm_http_rules.specs.parts.Routes.{AreKeys, IsKeyAt, key_of, method_tail};
+ghost use Rattle.sm_http_rules.specs.parts.Routes.{AreRoutes, IsKeyAt, IsRouteKey, key_of, method_tail};
 
 use sm_compile::{UriPattern, UriRefusal, route_text};
 use sm_model::Graph;
@@ -13,16 +15,34 @@ use sm_rules::http::{method_of, uri_of};
 use sm_tree::{NoMemory, Text};
 use std::alloc::Global;
 
-/// The route of each number that has one. Linear in the texts, and n log n in labels.
-pub(crate) fn route_keys(alloc: Global, graph: &Graph) -> Result<Vec<Option<Text>>, NoMemory>
-    ensures { IfOk result (λ keys. AreKeys graph.now (length (entries_of graph.now)) keys.items) }
+/// The routes of operations, each with the operation's number. Linear in the texts, and n log n in labels.
+pub(crate) fn route_rows(alloc: Global, graph: &Graph) -> Result<Vec<(Text, u32)>, NoMemory>
+    ensures { IfOk result (λ rows. AreRoutes graph.now rows.items) }
 {
-    let mut keys = Vec::with_capacity(alloc, graph.count() as usize)?;
+    let mut rows = Vec::new(alloc);
     for number in 0..graph.count() {
-        let key = key_at(alloc, graph, number)?;
-        keys.push(key)?;
+        put_key(alloc, graph, number, &mut rows)?;
     }
-    Ok(keys)
+    Ok(rows)
+}
+
+fn put_key(
+    alloc: Global,
+    graph: &Graph,
+    number: u32,
+    rows: &mut Vec<(Text, u32)>,
+) -> Result<(), NoMemory>
+    requires { IsShapeNumber graph.now number }
+    ensures { OnOk result (Joins (Contains rows.old.items)
+        (λ r. (r.1 ≡ number) × IsRouteKey (maps_of graph.now) (id_of_number graph.now r.1) r.0) (Contains rows.new.items)) }
+{
+    match key_at(alloc, graph, number)? {
+        Some(key) => {
+            rows.push((key, number))?;
+            Ok(())
+        }
+        None => Ok(()),
+    }
 }
 
 fn key_at(alloc: Global, graph: &Graph, number: u32) -> Result<Option<Text>, NoMemory>

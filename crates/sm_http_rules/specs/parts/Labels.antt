@@ -1,5 +1,6 @@
 -- Labels of patterns, and members that are bound to them, as rows of names; and what is told of them.
-use Rattle.std.specs.Prelude.{◌≡◌, ◌⊎◌, ◌&&◌, ◌||◌, ◌↔◌, ℕ, Bool, true, false, not, List, [], ◌∷◌, Option, cond, is_none, is_some}
+use Rattle.std.specs.Prelude.{◌≡◌, ◌⊎◌, ◌&&◌, ◌||◌, ◌↔◌, ◌<◌, ℕ, Bool, true, false, not, List, [], ◌∷◌, Option, cond}
+use Rattle.std.specs.Prelude.{get_or, is_none, is_some, length}
 use Rattle.std.specs.FinMap as fin
 use Rattle.std.specs.List.{Contains, flat_map}
 use Rattle.sm_model.specs.EventView.{EventTold}
@@ -56,6 +57,11 @@ AreBoundOf g input rows =
     ↔ ((is_own_shape (maps_of g) (id_of_number g input) ≡ true)
     × (Contains (listed_under (maps_of g) (id_of_number g input)) (id_of_number g r.1))
     × IsShapeNumber g r.1 × BoundRow g input r.1 r)
+
+-- what holds of the element of each number below this one
+pub record AreEach {X : Type 0} (Is : ℕ → X → Type 0) (default : X) (n : ℕ) (xs : List X) : Type 0 where
+  pub whole : length xs ≡ n
+  pub each : (k : ℕ) → k < n → Is k (get_or xs k default)
 
 -- a label is wrong
 pub data IsWrongLabel (g : GraphMaps) (input : List ℕ) (segments : List Segment) (name : List ℕ) : Type 0 where

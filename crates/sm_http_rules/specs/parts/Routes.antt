@@ -1,14 +1,14 @@
 -- The routes of operations as texts.
-use Rattle.std.specs.Prelude.{◌≡◌, ◌++◌, ◌∷◌, ℕ, List, [], Option, Some, None}
+use Rattle.std.specs.Prelude.{◌≡◌, ◌↔◌, ◌<◌, ◌++◌, ◌∷◌, ℕ, List, [], Option, Some, None, length}
+use Rattle.std.specs.List.{Contains}
 use Rattle.sm_bytes.specs.Ascii.{number_sign}
 use Rattle.sm_model.specs.Graphs.{GraphMaps}
-use Rattle.sm_model.specs.GraphView.{maps_of}
+use Rattle.sm_model.specs.GraphView.{entries_of, maps_of}
 use Rattle.sm_model.specs.Reaching.{id_of_number}
 use Rattle.sm_model.specs.declared.graph.Graph.{Graph}
 use Rattle.sm_compile.specs.UriPattern.{UriSaid, printed_uri}
 use Rattle.sm_compile.specs.UriRoutes.{unnamed}
 use Rattle.sm_compile.specs.rules.Http.{HasSameRoute, HasUri, method_of}
-use Rattle.sm_http_rules.specs.parts.Runs.{AreEach}
 
 -- a pattern without the names of its labels, and the method behind a `#`, which no pattern has
 abbrev pub method_tail : Option (List ℕ) → List ℕ
@@ -25,8 +25,12 @@ abbrev pub IsKeyAt : Graph → ℕ → Option (List ℕ) → Type 0
 IsKeyAt g k None = (key : List ℕ) → IsRouteKey (maps_of g) (id_of_number g k) key → ⊥
 IsKeyAt g k (Some key) = IsRouteKey (maps_of g) (id_of_number g k) key
 
-abbrev pub AreKeys : Graph → ℕ → List (Option (List ℕ)) → Type 0
-AreKeys g n keys = AreEach (IsKeyAt g) None n keys
+-- these rows are the routes of the numbers below one
+abbrev pub AreRoutesBelow : Graph → ℕ → List (List ℕ × ℕ) → Type 0
+AreRoutesBelow g n rows = (r : List ℕ × ℕ) → Contains rows r ↔ ((r.1 < n) × IsRouteKey (maps_of g) (id_of_number g r.1) r.0)
+
+abbrev pub AreRoutes : Graph → List (List ℕ × ℕ) → Type 0
+AreRoutes g rows = AreRoutesBelow g (length (entries_of g)) rows
 
 -- the service in whose closure both stand
 abbrev pub closure_of_route : (g : GraphMaps) (operation smaller : List ℕ) → HasSameRoute g operation smaller → List ℕ

@@ -1,8 +1,7 @@
 use Rattle.std.proofs.Common.{◌≡◌, ◌+◌, [], arith, length, subst, sym}
 use Rattle.sm_model.specs.GraphView.{entries_of}
-use Rattle.sm_http_rules.specs.parts.Labels.{AreBoundOf}
-use Rattle.sm_http_rules.specs.parts.Runs.{AreEach}
-use Rattle.sm_http_rules.proofs.RunsTold.{each_more, each_none}
+use Rattle.sm_http_rules.specs.parts.Labels.{AreBoundOf, AreEach}
+use Rattle.sm_http_rules.proofs.EachNumber.{each_more, each_none}
 use Rattle.sm_http_rules.proofs.label_rows.all_bound_rows.Goals as goal
 
 pub loop-number-init : goal.loop-number-init

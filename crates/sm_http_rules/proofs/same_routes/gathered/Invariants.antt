@@ -1,0 +1,12 @@
+use Rattle.std.proofs.Common.{length, ◌-◌, ◌≤◌}
+use Rattle.sm_http_rules.specs.parts.SameRoutes.{AreGathered}
+use Rattle.sm_http_rules.proofs.same_routes.gathered.Given as goal
+
+abbrev pub decreases-loop-begin : goal.decreases-loop-begin
+decreases-loop-begin l = length l.rows - l.begin
+
+abbrev pub invariant-loop-begin : goal.invariant-loop-begin
+invariant-loop-begin l = record {
+  within : l.begin ≤ length l.rows;
+  sets : AreGathered l.rows l.begin l.sets.items;
+}
