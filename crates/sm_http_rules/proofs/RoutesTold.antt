@@ -1,10 +1,9 @@
 -- What is told of operations with one route in a closure is what the rule says.
-use Rattle.std.proofs.Common.{◌≡◌, ◌<◌, ℕ, Bool, true, List, [], length, refl, sym, ap, ◌∙◌, subst, arith}
+use Rattle.std.proofs.Common.{◌≡◌, ◌<◌, ℕ, Bool, true, List, [], refl, sym, ◌∙◌, subst}
 use Rattle.std.specs.List.{Contains}
-use Rattle.std.specs.declared.cmp.Ordering.TheVariants.{Less}
 use Rattle.sm_model.specs.EventView.{EventTold}
 use Rattle.sm_model.specs.Graphs.{text_cmp, shape_entry, GraphMaps}
-use Rattle.sm_model.specs.GraphView.{IsShapeNumber, entries_of, maps_of}
+use Rattle.sm_model.specs.GraphView.{IsShapeNumber, maps_of}
 use Rattle.sm_model.specs.Reaching.{IsMarked, id_of_number}
 use Rattle.sm_model.specs.declared.event.ModelEvent.{ModelEvent}
 use Rattle.sm_model.specs.declared.graph.Graph.{Graph}
@@ -14,7 +13,7 @@ use Rattle.sm_compile.specs.rules.Http.{HasSameRoute, method_of}
 use Rattle.sm_compile.specs.rules.Words.{IsInClosure, IsService}
 use Rattle.sm_rules.specs.RuleEvents.{IsEventIn, IsEventOf, Puts, rule_event}
 use Rattle.sm_rules.specs.declared.rule.Rule.TheVariants.{HttpRoutes}
-use Rattle.sm_rules.specs.parts.Closures.{AreInsideOf, AreOwnServices, IsOwnServiceNumber, ToldOfServices}
+use Rattle.sm_rules.specs.parts.Closures.{AreInsideOf, AreOwnServices, ToldOfServices}
 use Rattle.sm_rules.specs.parts.Putting.{ToldOf}
 use Rattle.sm_rules.specs.parts.Using.{is_own_service}
 use Rattle.sm_rules.proofs.EventsPut.{puts_none, puts_same}

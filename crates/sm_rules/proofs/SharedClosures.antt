@@ -1,5 +1,6 @@
 -- Services with the same row of steps lead to the same.
 use Rattle.std.proofs.Common.{◌≡◌, ◌<◌, ◌≤◌, ◌+◌, ◌-◌, inl, inr, ℕ, Bool, true, false, List, [], ◌∷◌, ◌++◌, drop, get_or, length, take}
+use Rattle.std.specs.Map.{values_of}
 use Rattle.std.proofs.Common.{sym, ap, subst, ◌∙◌, arith}
 use Rattle.std.specs.Prelude.{Some, slice_get}
 use Rattle.std.proofs.Math.Seq.{take-add}
@@ -27,7 +28,7 @@ use Rattle.sm_select.specs.Ways.{AreSteps}
 use Rattle.sm_select.proofs.MarkedNumbers.{marks_same}
 use Rattle.sm_rules.specs.RuleEvents.{Puts}
 use Rattle.sm_rules.specs.parts.Closures.{AreAllServices, AreInside, AreInsideOf, AreOwnServices, AreServicesBelow, HaveOneClosure, HaveRow}
-use Rattle.sm_rules.specs.parts.Closures.{IsOwnServiceNumber, ToldOfServices, numbers_in}
+use Rattle.sm_rules.specs.parts.Closures.{IsOwnServiceNumber, ToldOfServices}
 use Rattle.sm_rules.specs.parts.Putting.{ToldOf}
 use Rattle.sm_rules.specs.parts.Using.{is_own_service}
 use Rattle.sm_rules.proofs.EventsPut.{puts_same}
@@ -113,12 +114,12 @@ module _ (g : Graph) where
 
   -- one more row, where it is a service's
   pub own_joined : {X : Type 0} (olds : List (X × ℕ)) (row : X × ℕ) (news : List (X × ℕ)) → news ≡ olds ++ row ∷ []
-      → IsOwnServiceNumber g row.1 → Joins (Contains (numbers_in olds)) (λ k. (k ≡ row.1) × IsOwnServiceNumber g k) (Contains (numbers_in news))
+      → IsOwnServiceNumber g row.1 → Joins (Contains (values_of olds)) (λ k. (k ≡ row.1) × IsOwnServiceNumber g k) (Contains (values_of news))
   own_joined olds row news is own =
-      let parts : numbers_in news ≡ numbers_in olds ++ row.1 ∷ [] = ap numbers_in is ∙ map-append (λ r. r.1) olds (row ∷ []) in
-      joins_same (Contains (numbers_in olds)) (λ k. k ≡ row.1) (λ k. (k ≡ row.1) × IsOwnServiceNumber g k) (Contains (numbers_in news))
+      let parts : values_of news ≡ values_of olds ++ row.1 ∷ [] = ap values_of is ∙ map-append (λ r. r.1) olds (row ∷ []) in
+      joins_same (Contains (values_of olds)) (λ k. k ≡ row.1) (λ k. (k ≡ row.1) × IsOwnServiceNumber g k) (Contains (values_of news))
       (λ k. (λ same. (same, subst (IsOwnServiceNumber g) (sym same) own), λ h. h.0))
-      (subst (λ ks. Joins (Contains (numbers_in olds)) (λ k. k ≡ row.1) (Contains ks)) (sym parts) (joins_one row.1 (numbers_in olds)))
+      (subst (λ ks. Joins (Contains (values_of olds)) (λ k. k ≡ row.1) (Contains ks)) (sym parts) (joins_one row.1 (values_of olds)))
 
   -- and where it is none
   pub other_joined : (ks : List ℕ) (n : ℕ) → is_own_service (maps_of g) (id_of_number g n) ≡ false
@@ -134,12 +135,12 @@ module _ (g : Graph) where
   )
 
   -- in another order
-  pub services_moved : {X : Type 0} (xs ys : List (X × ℕ)) → IsPermutation xs ys → AreAllServices g (numbers_in xs)
-      → AreAllServices g (numbers_in ys)
+  pub services_moved : {X : Type 0} (xs ys : List (X × ℕ)) → IsPermutation xs ys → AreAllServices g (values_of xs)
+      → AreAllServices g (values_of ys)
   services_moved xs ys moved all k =
       let numbers = IsPermutation-map (λ r. r.1) xs ys moved in (
-        λ h. (all k).0 (Contains-permutation (numbers_in ys) (numbers_in xs) k (IsPermutation-sym _ _ numbers) h),
-        λ own. Contains-permutation (numbers_in xs) (numbers_in ys) k numbers ((all k).1 own),
+        λ h. (all k).0 (Contains-permutation (values_of ys) (values_of xs) k (IsPermutation-sym _ _ numbers) h),
+        λ own. Contains-permutation (values_of xs) (values_of ys) k numbers ((all k).1 own),
       )
 
   pub told_services : (Told : ℕ → EventTold → Type 0) (ks : List ℕ) → AreAllServices g ks → (a b : List ModelEvent)

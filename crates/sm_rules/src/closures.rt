@@ -51,8 +51,8 @@ pub fn closure_shared(
     }
 }
 
-/// The closure of a service, as marks. Each link is looked at once.
-pub fn closure_of(
+// The closure of a service, as marks.
+fn closure_of(
     alloc: Global,
     graph: &Graph,
     ways: &Ways,

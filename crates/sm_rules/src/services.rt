@@ -2,12 +2,13 @@
 ghost use Rattle.std.specs.Prelude.{◌≡◌, ◌<◌, ◌≤◌, IfOk, ℕ, OnOk, length, take};
 ghost use Rattle.std.specs.Cmp.Lexicographic.{slice_cmp};
 ghost use Rattle.std.specs.List.{Contains};
+ghost use Rattle.std.specs.Map.{values_of};
 ghost use Rattle.std.specs.Ordering.{nat_cmp};
 ghost use Rattle.sm_model.specs.GraphView.{IsShapeNumber};
 ghost use Rattle.sm_model.specs.steps.Linking.{Joins};
 ghost use Rattle.sm_rules.specs.RuleEvents.{Puts};
 ghost use Rattle.sm_rules.specs.parts.Closures.{AreAllServices, AreOwnServices, HaveOneClosure, IsOwnServiceNumber};
-ghost use Rattle.sm_rules.specs.parts.Closures.{ToldOfServices, numbers_in};
+ghost use Rattle.sm_rules.specs.parts.Closures.{ToldOfServices};
 ghost use Rattle.sm_rules.specs.parts.Putting.{ToldOf};
 ghost use Rattle.sm_select.specs.Ways.{AreWays};
 
@@ -133,7 +134,7 @@ fn services_by_steps(alloc: Global, graph: &Graph, ways: &Ways) -> Result<Vec<u3
 {
     let mut rows = service_rows(alloc, graph, ways)?;
     rows.sort_unstable_by(|a, b| order_of(a.0, b.0));
-    numbers_in(alloc, rows.as_slice())
+    numbers_of(alloc, rows.as_slice())
 }
 
 fn order_of(a: &[u32], b: &[u32]) -> Ordering
@@ -149,7 +150,7 @@ fn service_rows<'a>(
     ways: &'a Ways,
 ) -> Result<Vec<(&'a [u32], u32)>, NoMemory>
     requires { AreWays graph.now ways.now }
-    ensures { IfOk result (λ rows. AreAllServices graph.now (numbers_in rows.items)) }
+    ensures { IfOk result (λ rows. AreAllServices graph.now (values_of rows.items)) }
 {
     let mut rows = Vec::new(alloc);
     for number in 0..graph.count() {
@@ -167,8 +168,8 @@ fn put_row<'a>(
 ) -> Result<(), NoMemory>
     requires number { IsShapeNumber graph.now number }
     requires ways { AreWays graph.now ways.now }
-    ensures { OnOk result (Joins (Contains (numbers_in rows.old.items)) (λ k. (k ≡ number) × IsOwnServiceNumber graph.now k)
-        (Contains (numbers_in rows.new.items))) }
+    ensures { OnOk result (Joins (Contains (values_of rows.old.items)) (λ k. (k ≡ number) × IsOwnServiceNumber graph.now k)
+        (Contains (values_of rows.new.items))) }
 {
     if is_own_service(graph, number) {
         rows.push((ways.on.row(number), number))?;
@@ -176,8 +177,8 @@ fn put_row<'a>(
     Ok(())
 }
 
-fn numbers_in(alloc: Global, rows: &[(&[u32], u32)]) -> Result<Vec<u32>, NoMemory>
-    ensures { IfOk result (λ numbers. numbers.items ≡ numbers_in rows.now) }
+fn numbers_of(alloc: Global, rows: &[(&[u32], u32)]) -> Result<Vec<u32>, NoMemory>
+    ensures { IfOk result (λ numbers. numbers.items ≡ values_of rows.now) }
 {
     let mut numbers = Vec::with_capacity(alloc, rows.len())?;
     for row in rows {

@@ -1,5 +1,5 @@
 -- The closures of services as marks, and services that have one closure.
-use Rattle.std.specs.Prelude.{◌≡◌, ◌↔◌, ◌<◌, ℕ, Bool, true, List, [], get_or, length, map}
+use Rattle.std.specs.Prelude.{◌≡◌, ◌↔◌, ◌<◌, ℕ, Bool, true, List, [], get_or, length}
 use Rattle.std.specs.List.{Contains}
 use Rattle.sm_model.specs.EventView.{EventTold}
 use Rattle.sm_model.specs.GraphView.{IsShapeNumber, entries_of, maps_of}
@@ -44,7 +44,3 @@ ToldOfServices g Told e = (k : ℕ) × IsOwnServiceNumber g k × Told k e
 -- each of these leads by one step to the same numbers
 abbrev pub HaveRow : List (List ℕ) → List ℕ → List ℕ → Type 0
 HaveRow rows row ks = (k : ℕ) → Contains ks k → get_or rows k [] ≡ row
-
--- the numbers of rows
-abbrev pub numbers_in : {X : Type 0} → List (X × ℕ) → List ℕ
-numbers_in rows = map (λ r. r.1) rows

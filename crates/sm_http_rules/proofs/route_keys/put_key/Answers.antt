@@ -1,4 +1,4 @@
-use Rattle.std.proofs.Common.{subst, ◌≡◌}
+use Rattle.std.proofs.Common.{subst}
 use Rattle.sm_http_rules.specs.parts.Routes.{IsKeyAt}
 use Rattle.sm_http_rules.proofs.SameRouteRows.{none_joined, row_joined}
 use Rattle.sm_http_rules.proofs.route_keys.put_key.Goals as goal

@@ -1,9 +1,7 @@
 use Rattle.std.proofs.Common.{subst, sym}
-use Rattle.std.proofs.lemmas.List.{take_all}
 use Rattle.std.proofs.lemmas.List.Elements.{Contains-get_or}
 use Rattle.std.specs.List.{Contains}
 use Rattle.sm_rules.specs.RuleEvents.{Puts}
-use Rattle.sm_rules.specs.parts.Putting.{ToldOf}
 use Rattle.sm_rules.proofs.ListPut.{put_next}
 use Rattle.sm_http_rules.specs.parts.SameRoutes.{ToldOfMarked}
 use Rattle.sm_http_rules.proofs.RoutesTold.{numbers_there}

@@ -1,4 +1,4 @@
-use Rattle.std.proofs.Common.{arith, ◌<◌}
+use Rattle.std.proofs.Common.{arith}
 use Rattle.sm_http_rules.proofs.PairsTold.{told_less, told_more, told_neither}
 use Rattle.sm_http_rules.proofs.routes.put_pair.Goals as goal
 

@@ -1,11 +1,11 @@
-use Rattle.std.proofs.Common.{arith, get_or, length, subst, sym, take, ◌+◌, ◌≡◌}
-use Rattle.std.proofs.lemmas.List.{take_all, take_more}
+use Rattle.std.proofs.Common.{arith, get_or, subst, sym, take}
+use Rattle.std.proofs.lemmas.List.{take_more}
 use Rattle.std.proofs.lemmas.List.Elements.{Contains-get_or}
 use Rattle.sm_model.specs.GraphView.{IsShapeNumber}
 use Rattle.sm_rules.specs.RuleEvents.{Puts}
 use Rattle.sm_rules.proofs.SharedClosures.{of_first}
 use Rattle.sm_http_rules.specs.parts.SameRoutes.{ToldOfPairs}
-use Rattle.sm_http_rules.proofs.PairsTold.{no_pairs, pairs_next}
+use Rattle.sm_http_rules.proofs.PairsTold.{pairs_next}
 use Rattle.sm_http_rules.proofs.routes.put_pairs.Goals as goal
 
 pub put_with-requires-clause-others : goal.put_with-requires-clause-others

@@ -1,4 +1,4 @@
-use Rattle.std.proofs.Common.{List, ℕ, [], arith, length, ◌≡◌}
+use Rattle.std.proofs.Common.{arith, length, ◌≡◌}
 use Rattle.std.proofs.lemmas.Grind.{common_steps}
 use Rattle.std.proofs.lemmas.List.{drop_all}
 use Rattle.sm_http_rules.proofs.RoutesTold.{none_told}

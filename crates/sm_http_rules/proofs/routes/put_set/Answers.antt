@@ -1,4 +1,4 @@
-use Rattle.std.proofs.Common.{length, subst, sym, ◌<◌}
+use Rattle.std.proofs.Common.{subst, sym, ◌<◌}
 use Rattle.sm_http_rules.specs.parts.SameRoutes.{AreThoseMarked}
 use Rattle.sm_http_rules.proofs.PairsTold.{marked_told}
 use Rattle.sm_http_rules.proofs.routes.put_set.Goals as goal

@@ -1,10 +1,10 @@
-use Rattle.std.proofs.Common.{List, ℕ, ◌-◌, ◌<◌, ◌≡◌, ◌≤◌, ◌∙◌, arith, drop, length, subst, sym, take}
+use Rattle.std.proofs.Common.{List, ℕ, ◌-◌, ◌<◌, ◌≡◌, ◌≤◌, ◌∙◌, arith, drop, length, subst, take}
 use Rattle.std.proofs.lemmas.List.{length-drop, take_rest}
 use Rattle.std.specs.List.{Contains}
 use Rattle.std.specs.Map.{values_of}
 use Rattle.sm_model.specs.steps.Linking.{Joins}
-use Rattle.sm_http_rules.specs.parts.SameRoutes.{AreInOrder, IsRun}
-use Rattle.sm_http_rules.proofs.SameRouteRows.{gathered_all, gathered_next, gathered_none, order_of_rest}
+use Rattle.sm_http_rules.specs.parts.SameRoutes.{IsRun}
+use Rattle.sm_http_rules.proofs.SameRouteRows.{gathered_next}
 use Rattle.sm_http_rules.proofs.same_routes.gathered.Goals as goal
 
 pub loop-begin-preserved : goal.loop-begin-preserved

@@ -1,4 +1,4 @@
-use Rattle.std.proofs.Common.{List, ap, arith, get_or, length, subst, sym, take, ℕ, ◌+◌, ◌<◌, ◌≡◌, ◌∙◌}
+use Rattle.std.proofs.Common.{arith, length, subst, sym, take, ◌≡◌, ◌∙◌}
 use Rattle.std.specs.List.{All}
 use Rattle.sm_model.proofs.Worklist.{apart}
 use Rattle.sm_http_rules.proofs.SameRouteRows.{run_ended, run_whole}
