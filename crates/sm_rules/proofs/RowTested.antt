@@ -5,6 +5,8 @@ use Rattle.httparse.specs.Grammar.{is_token_byte}
 use Rattle.std.specs.Char.{is_ascii_alphanumeric}
 use Rattle.std.specs.List.{filter, list_any}
 use Rattle.std.specs.Str.{bytes_eq}
+use Rattle.std.proofs.lemmas.Bool.{true≢false}
+use Rattle.std.proofs.lemmas.Slice.Eq.{bytes_eq-Decides}
 use Rattle.sm_tree.specs.Node.{Node}
 use Rattle.sm_model.specs.Graphs.{shape_entry, member_entry}
 use Rattle.sm_model.specs.declared.kind.Kind.{Kind}
@@ -13,18 +15,18 @@ use Rattle.sm_compile.specs.Kinds.{has_values}
 use Rattle.sm_compile.specs.TraitNodes.{field_of, is_number, is_object, is_text, where_there}
 use Rattle.sm_compile.specs.TraitRows as table
 use Rattle.sm_compile.specs.TraitRows.{PlaceForm, Spot, TraitRow, are_text_nodes, at_member, at_shape, has_form, has_none, has_row}
-use Rattle.sm_compile.specs.TraitRows.{annotation_rows, constraint_rows, defaulted_kinds, documentation_rows, is_among, other_rows}
-use Rattle.sm_compile.specs.TraitRows.{rows_of_shapes, trait_kinds, wire_rows}
+use Rattle.sm_compile.specs.TraitRows.{defaulted_kinds, is_among, trait_kinds}
 use Rattle.sm_compile.specs.TraitRows.{is_as_one, judging, may_stand, row_takes_in, rows_of, takes_in, trait_rows}
 use Rattle.sm_rules.specs.declared.rows.form.Form.{Form}
 use Rattle.sm_rules.specs.declared.rows.form.Form.TheVariants as form
+use Rattle.sm_rules.specs.declared.rows.names.Rows.{Rows}
 use Rattle.sm_rules.specs.declared.rows.place.Place.{Place}
 use Rattle.sm_rules.specs.declared.rows.place.Place.TheVariants as place
 use Rattle.sm_rules.specs.declared.rows.place.Stand.{Stand}
 use Rattle.sm_rules.specs.parts.Forms.{form_said, is_of_form, token_signs}
 use Rattle.sm_rules.specs.parts.Places.{allows, is_defaulted_kind, places_said, stand_at, types_said}
-use Rattle.sm_rules.specs.parts.RowTests.{any_row, is_wrong_place, is_wrong_value, reads_by, reads_there, some_row}
-use Rattle.sm_rules.specs.parts.RowTests.{stand_takes_in, stands_by}
+use Rattle.sm_rules.specs.parts.RowTests.{AsksOfRow, any_row, is_wrong_place, is_wrong_value, reads_by, reads_there}
+use Rattle.sm_rules.specs.parts.RowTests.{some_row, some_said, stand_takes_in, stands_by}
 use Rattle.sm_rules.proofs.HttpSaid.{free, needed}
 
 or_false : (b : Bool) → (b || false) ≡ b
@@ -116,10 +118,10 @@ module _ (p : TraitRow → Bool) where
       by true h = refl
       by false h = h
 
-module _ (trait : List ℕ) (spot : Spot) where
-  row_named : has_row trait ≡ some_row trait any_row trait_rows
-  row_named = some_left (λ r. list_any (bytes_eq trait) r.traits) trait_rows
+pub row_named : (trait : List ℕ) → has_row trait ≡ some_row trait any_row trait_rows
+row_named trait = some_left (λ r. list_any (bytes_eq trait) r.traits) trait_rows
 
+module _ (trait : List ℕ) (spot : Spot) where
   takes : (r : TraitRow) → row_takes_in spot r ≡ stands_by (stand_at spot) r.value r.places
   takes r = ap (λ (f : PlaceForm → Bool). list_any f r.places) (λ i p. spot_takes spot p i)
 
@@ -144,10 +146,10 @@ module _ (trait : List ℕ) (spot : Spot) where
       by false = filtered (λ r. list_any (bytes_eq trait) r.traits) (λ r. has_form r.value n) trait_rows
 
   pub value_judged : (n : Node) → is_wrong_value trait (stand_at spot) n ≡ (has_row trait && not (is_as_one (judging trait spot) n))
-  value_judged n = λ i. sym row_named i && not (sym (judged n) i)
+  value_judged n = λ i. sym (row_named trait) i && not (sym (judged n) i)
 
   pub place_judged : (n : Node) → is_wrong_place trait (stand_at spot) n ≡ (has_row trait && not (may_stand trait spot))
-  place_judged n = λ i. sym row_named i && not (sym stands i)
+  place_judged n = λ i. sym (row_named trait) i && not (sym stands i)
 
 -- types by their names
 pub trait_kind_same : (kind : Kind) → has_values kind ≡ is_among trait_kinds kind
@@ -198,26 +200,39 @@ defaulted_kind_same model.Service = refl
 defaulted_kind_same model.Operation = refl
 defaulted_kind_same model.Resource = refl
 
--- the table, group by group
-any_joined : (f : TraitRow → Bool) (rows more : List TraitRow) → list_any f (rows ++ more) ≡ (list_any f rows || list_any f more)
-any_joined f [] more = refl
-any_joined f (r ∷ rows) more = by (f r) (any_joined f rows more)
+-- what is asked of the rows that name a trait is asked of the table
+module _ (trait : List ℕ) (rs : Rows) (all : (test : AsksOfRow) → some_said test rs ≡ some_row trait test trait_rows) (at : Stand) where
+  pub value_by_rows : (n : Node) → (some_said any_row rs && not (cond (some_said (stands_by at) rs) (some_said (reads_there at n) rs)
+      (some_said (reads_by n) rs))) ≡ is_wrong_value trait at n
+  value_by_rows n = λ i. all any_row i && not (cond (all (stands_by at) i) (all (reads_there at n) i) (all (reads_by n) i))
+
+  pub place_by_rows : (n : Node) → (some_said any_row rs && not (some_said (stands_by at) rs)) ≡ is_wrong_place trait at n
+  place_by_rows n = λ i. all any_row i && not (all (stands_by at) i)
+
+-- one of these rows is a trait's
+abbrev pub is_named_in : List TraitRow → List ℕ → Bool
+is_named_in rows trait = list_any (λ r. list_any (bytes_eq trait) r.traits) rows
+
+-- a trait that a group doesn't name is looked for behind it
+pub behind_group : (rows more : List TraitRow) (trait : List ℕ) (test : AsksOfRow) → is_named_in rows trait ≡ false
+    → some_row trait test (rows ++ more) ≡ some_row trait test more
+behind_group [] more trait test none = refl
+behind_group (r ∷ rows) more trait test none =
+    by (list_any (bytes_eq trait) r.traits) (λ h. behind_group rows more trait test h) none
   where
-    by : (b : Bool) → list_any f (rows ++ more) ≡ (list_any f rows || list_any f more)
-        → (b || list_any f (rows ++ more)) ≡ ((b || list_any f rows) || list_any f more)
-    by true h = refl
-    by false h = h
+    by : (b : Bool) → (is_named_in rows trait ≡ false → some_row trait test (rows ++ more) ≡ some_row trait test more)
+        → (b || is_named_in rows trait) ≡ false
+        → ((b && test r.value r.places) || some_row trait test (rows ++ more)) ≡ some_row trait test more
+    by true later h = absurd (true≢false h)
+    by false later h = later h
 
--- a group in which some row passes, and the rows behind a group in which none does
-pub first_group : (f : TraitRow → Bool) (rows more : List TraitRow) (r : Bool) → r ≡ list_any f rows → r ≡ true
-    → r ≡ list_any f (rows ++ more)
-first_group f rows more r is holds =
-    holds ∙ sym (any_joined f rows more ∙ ap (λ b. b || list_any f more) (sym is ∙ holds))
-
-pub later_group : (f : TraitRow → Bool) (rows more : List TraitRow) (r s : Bool) → r ≡ list_any f rows → r ≡ false
-    → s ≡ list_any f more → s ≡ list_any f (rows ++ more)
-later_group f rows more r s is none later =
-    later ∙ sym (any_joined f rows more ∙ ap (λ b. b || list_any f more) (sym is ∙ none))
+-- a text that is another
+pub not_text : {a b : List ℕ} → (a ≡ b → ⊥) → bytes_eq a b ≡ false
+not_text {a} {b} h = by (bytes_eq a b) refl
+  where
+    by : (v : Bool) → bytes_eq a b ≡ v → v ≡ false
+    by true is = absurd (h ((bytes_eq-Decides a b).0 is))
+    by false is = refl
 
 -- a byte of a token
 pub token_byte : (b : ℕ) (r : Bool) → r ≡ (is_ascii_alphanumeric b || list_any (λ c. c == b) token_signs) → r ≡ is_token_byte b

@@ -1,12 +1,9 @@
 -- Traits that have neither a row nor a shape, from the tests of each trait.
-use Rattle.std.proofs.Common.{◌≡◌, ℕ, Bool, true, false, cond, List, [], ◌∷◌, ◌++◌, Option, Some, None, refl, sym, ap, ◌∙◌, subst}
-use Rattle.std.specs.Prelude.{◌&&◌, ◌||◌, is_some, not}
+use Rattle.std.proofs.Common.{◌≡◌, ℕ, Bool, true, false, List, Option, Some, None, refl, sym, ap, ◌∙◌, subst}
+use Rattle.std.specs.Prelude.{◌&&◌, is_some, not}
 use Rattle.std.specs.FinMap as fin
-use Rattle.std.specs.List.{Contains, filter, list_any}
-use Rattle.std.specs.Str.{bytes_eq}
-use Rattle.std.proofs.lemmas.List.Folds.{list_any-append}
+use Rattle.std.specs.List.{Contains}
 use Rattle.std.proofs.lemmas.Option.{none-some}
-use Rattle.std.proofs.lemmas.Slice.Eq.{bytes_eq-Decides}
 use Rattle.sm_tree.specs.Node.{Node}
 use Rattle.sm_tree.specs.View.{members_view, node_of}
 use Rattle.sm_tree.specs.declared.tree.Tree.{Tree}
@@ -23,63 +20,17 @@ use Rattle.sm_model.proofs.Searching.{and_left, and_right}
 use Rattle.sm_model.proofs.Worklist.{apart}
 use Rattle.sm_compile.specs.Sound.{trait_in, trait_of}
 use Rattle.sm_compile.specs.TraitIds.{trait_id}
-use Rattle.sm_compile.specs.TraitRows.{TraitRow, has_none, has_row, trait_rows, annotation_rows, constraint_rows, documentation_rows}
-use Rattle.sm_compile.specs.TraitRows.{other_rows}
-use Rattle.sm_compile.specs.TraitRows.{rows_of_shapes, wire_rows}
+use Rattle.sm_compile.specs.TraitRows.{has_row}
 use Rattle.sm_compile.specs.rules.Words.{has_trait}
 use Rattle.sm_compile.proofs.TabledShapes.{mapped_from, mapped_to}
 use Rattle.sm_rules.specs.RuleEvents.{IsEventAt, Puts, rule_event}
 use Rattle.sm_rules.specs.declared.rule.Rule.TheVariants.{TraitUnknown}
 use Rattle.sm_rules.specs.rules.Traits.{CarriesTraitItself, HasUnknownTrait}
-use Rattle.sm_rules.specs.parts.Knowing.{ToldUnknown, is_defined, is_named_in, is_unknown}
+use Rattle.sm_rules.specs.parts.Knowing.{ToldUnknown, is_defined, is_unknown}
 use Rattle.sm_rules.specs.parts.Putting.{ToldOf}
 use Rattle.sm_rules.proofs.OwnShapes.{not_so}
 use Rattle.sm_rules.proofs.TraitEntries.{entry_found, found_entry}
 use Rattle.sm_rules.proofs.EventsPut.{puts_none, puts_same}
-
--- some row is kept exactly where one passes
-some_kept : (p : TraitRow → Bool) (rows : List TraitRow) → not (has_none (filter p rows)) ≡ list_any p rows
-some_kept p [] = refl
-some_kept p (r ∷ rows) = by (p r) (some_kept p rows)
-  where
-    by : (b : Bool) → not (has_none (filter p rows)) ≡ list_any p rows
-        → not (has_none (cond b (r ∷ filter p rows) (filter p rows))) ≡ (b || list_any p rows)
-    by true h = refl
-    by false h = h
-
-abbrev behind_documentation : List TraitRow
-behind_documentation = wire_rows ++ other_rows
-
-abbrev behind_constraints : List TraitRow
-behind_constraints = documentation_rows ++ behind_documentation
-
-abbrev behind_shapes : List TraitRow
-behind_shapes = constraint_rows ++ behind_constraints
-
-abbrev behind_annotations : List TraitRow
-behind_annotations = rows_of_shapes ++ behind_shapes
-
--- the rows, part by part
-pub has_row_in : (trait : List ℕ) → has_row trait ≡ (is_named_in annotation_rows trait || (is_named_in rows_of_shapes trait
-    || (is_named_in constraint_rows trait || (is_named_in documentation_rows trait || (is_named_in wire_rows trait
-    || is_named_in other_rows trait)))))
-has_row_in trait =
-    some_kept named trait_rows ∙ list_any-append named annotation_rows behind_annotations
-    ∙ ap (λ b. list_any named annotation_rows || b) (list_any-append named rows_of_shapes behind_shapes
-    ∙ ap (λ b. list_any named rows_of_shapes || b) (list_any-append named constraint_rows behind_constraints
-    ∙ ap (λ b. list_any named constraint_rows || b) (list_any-append named documentation_rows behind_documentation
-    ∙ ap (λ b. list_any named documentation_rows || b) (list_any-append named wire_rows other_rows))))
-  where
-    named : TraitRow → Bool
-    named r = list_any (bytes_eq trait) r.traits
-
--- a text that is another
-pub not_text : {a b : List ℕ} → (a ≡ b → ⊥) → bytes_eq a b ≡ false
-not_text {a} {b} h = by (bytes_eq a b) refl
-  where
-    by : (v : Bool) → bytes_eq a b ≡ v → v ≡ false
-    by true is = absurd (h ((bytes_eq-Decides a b).0 is))
-    by false is = refl
 
 -- what the model defines
 carried : (o : Option Entry) → is_some (trait_in trait_id o) ≡ true → (e : Entry) × (o ≡ Some e) × (has_trait trait_id (traits_in e) ≡ true)

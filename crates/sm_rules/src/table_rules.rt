@@ -1,33 +1,21 @@
 // Trait.Value and Trait.Place by the table: values are as the rows of their traits say, and traits stand where these allow it.
-ghost use Rattle.std.specs.Prelude.{◌≡◌, ◌&&◌, OnOk, cond};
+ghost use Rattle.std.specs.Prelude.{◌≡◌, ◌&&◌, OnOk, cond, not};
 ghost use Rattle.sm_tree.specs.View.{node_of};
 ghost use Rattle.sm_model.specs.GraphView.{maps_of};
-ghost use Rattle.sm_compile.specs.TraitRows.{trait_rows};
 ghost use Rattle.sm_compile.specs.rules.Traits.{HasOtherValue, StandsElsewhere};
 ghost use Rattle.sm_rules.specs.RuleEvents.{IsEventOf, Puts};
 ghost use Rattle.sm_rules.specs.declared.rule.Rule.TheVariants.{TraitPlace, TraitValue};
-ghost use Rattle.sm_rules.specs.parts.RowTests.{any_row, is_wrong_place, is_wrong_value, reads_by, reads_there, some_row, stands_by};
+ghost use Rattle.sm_rules.specs.parts.RowTests.{any_row, is_wrong_place, is_wrong_value, reads_by, reads_there, some_said, stands_by};
 
 use crate::each::put_each;
 use crate::judged::{Judge, Judged};
 use crate::rows::form::{Form, is_of_form};
-use crate::rows::names::{RowTest, some_row};
+use crate::rows::names::{AnyRow, RowTest, Rows, rows_of};
 use crate::rows::place::{Place, Stand, allows};
 use crate::rule::Rule;
 use sm_model::{Graph, ModelEvent};
 use sm_tree::{NoMemory, Tree};
 use std::alloc::Global;
-
-#[derive(Drop)]
-struct AnyRow;
-
-impl RowTest for AnyRow {
-    ghost passes = { λ test. any_row };
-
-    fn passes(&self, _form: Form, _place: Place) -> bool {
-        true
-    }
-}
 
 #[derive(Drop)]
 struct StandsBy {
@@ -90,19 +78,27 @@ impl Judge for Values {
     }
 
     fn is_wrong(&self, name: &str, at: Stand, tree: &Tree) -> bool {
-        some_row(name, &AnyRow) && !reads(name, at, tree)
+        has_other_value(rows_of(name), at, tree)
     }
 }
 
-// Whether a value is as a row says that allows the place, or as any row says where none does.
-fn reads(name: &str, at: Stand, tree: &Tree) -> bool
-    ensures { result ≡ cond (some_row name.now (stands_by at) trait_rows) (some_row name.now (reads_there at (node_of tree.now)) trait_rows)
-        (some_row name.now (reads_by (node_of tree.now)) trait_rows) }
+// Whether some row names the trait, and its value isn't as they say.
+fn has_other_value(rows: Rows, at: Stand, tree: &Tree) -> bool
+    ensures { result ≡ (some_said any_row rows && not (cond (some_said (stands_by at) rows)
+        (some_said (reads_there at (node_of tree.now)) rows) (some_said (reads_by (node_of tree.now)) rows))) }
 {
-    if some_row(name, &StandsBy { at }) {
-        some_row(name, &ReadsThere { at, tree })
+    rows.some(&AnyRow) && !reads(rows, at, tree)
+}
+
+// Whether a value is as a row says that allows the place, or as any row says where none does.
+fn reads(rows: Rows, at: Stand, tree: &Tree) -> bool
+    ensures { result ≡ cond (some_said (stands_by at) rows) (some_said (reads_there at (node_of tree.now)) rows)
+        (some_said (reads_by (node_of tree.now)) rows) }
+{
+    if rows.some(&StandsBy { at }) {
+        rows.some(&ReadsThere { at, tree })
     } else {
-        some_row(name, &ReadsBy { tree })
+        rows.some(&ReadsBy { tree })
     }
 }
 
@@ -119,8 +115,15 @@ impl Judge for Stands {
     }
 
     fn is_wrong(&self, name: &str, at: Stand, _tree: &Tree) -> bool {
-        some_row(name, &AnyRow) && !some_row(name, &StandsBy { at })
+        stands_elsewhere(rows_of(name), at)
     }
+}
+
+// Whether some row names the trait, and none allows the place.
+fn stands_elsewhere(rows: Rows, at: Stand) -> bool
+    ensures { result ≡ (some_said any_row rows && not (some_said (stands_by at) rows)) }
+{
+    rows.some(&AnyRow) && !rows.some(&StandsBy { at })
 }
 
 /// Puts the events of Trait.Value that the table tells. n times the table.

@@ -1,21 +1,15 @@
 -- Traits that are known, as tests, and what is told of those that aren't.
 use Rattle.std.specs.Prelude.{◌&&◌, ℕ, Bool, not, List, is_some}
-use Rattle.std.specs.List.{list_any}
-use Rattle.std.specs.Str.{bytes_eq}
 use Rattle.sm_tree.specs.declared.tree.Tree.{Tree}
 use Rattle.sm_model.specs.EventView.{EventTold}
 use Rattle.sm_model.specs.Graphs.{GraphMaps}
 use Rattle.sm_model.specs.PreludeShapes.{is_prelude_id}
 use Rattle.sm_compile.specs.Sound.{trait_of}
 use Rattle.sm_compile.specs.TraitIds.{trait_id}
-use Rattle.sm_compile.specs.TraitRows.{TraitRow, has_row}
+use Rattle.sm_compile.specs.TraitRows.{has_row}
 use Rattle.sm_rules.specs.RuleEvents.{rule_event}
 use Rattle.sm_rules.specs.declared.rule.Rule.TheVariants.{TraitUnknown}
 use Rattle.sm_rules.specs.parts.Putting.{IsWhere}
-
--- one of these rows is a trait's
-abbrev pub is_named_in : List TraitRow → List ℕ → Bool
-is_named_in rows trait = list_any (λ r. list_any (bytes_eq trait) r.traits) rows
 
 -- the model says that it is a trait
 abbrev pub is_defined : GraphMaps → List ℕ → Bool

@@ -1,12 +1,13 @@
 -- What is asked of the rows of the table that name a trait, as tests.
-use Rattle.std.specs.Prelude.{◌&&◌, ℕ, Bool, true, false, not, List, cond, map}
+use Rattle.std.specs.Prelude.{◌&&◌, ℕ, Bool, true, false, not, List, [], ◌∷◌, cond}
 use Rattle.std.specs.List.{list_any}
 use Rattle.std.specs.Str.{bytes_eq}
 use Rattle.sm_tree.specs.Node.{Node}
 use Rattle.sm_model.specs.declared.kind.Kind.TheVariants as model
 use Rattle.sm_compile.specs.TraitRows as table
 use Rattle.sm_compile.specs.TraitRows.{PlaceForm, TraitRow, ValueForm, has_form, trait_rows}
-use Rattle.sm_rules.specs.declared.rows.names.Row.{Row}
+use Rattle.sm_rules.specs.declared.rows.names.Rows.{Rows}
+use Rattle.sm_rules.specs.declared.rows.names.Rows.TheVariants as found
 use Rattle.sm_rules.specs.declared.rows.place.Stand.{Stand}
 use Rattle.sm_rules.specs.parts.Forms.{form_said}
 use Rattle.sm_rules.specs.parts.Places.{is_member_of, is_member_to, is_shape_of, places_said}
@@ -22,10 +23,14 @@ names_passing trait test r = list_any (bytes_eq trait) r.traits && test r.value 
 abbrev pub some_row : List ℕ → AsksOfRow → List TraitRow → Bool
 some_row trait test rows = list_any (names_passing trait test) rows
 
--- the same of the rows of the code
-abbrev pub passes_one : List ℕ → AsksOfRow → List Row → Bool
-passes_one trait test rows =
-    list_any (λ r. list_any (bytes_eq trait) (map (λ t. t.now) r.traits.now) && test (form_said r.form) (places_said r.place)) rows
+-- the rows that name a trait, by the values and places that the code has for them
+abbrev pub rows_said : Rows → List (ValueForm × List PlaceForm)
+rows_said found.Absent = []
+rows_said (found.One f p) = (form_said f, places_said p) ∷ []
+rows_said (found.Two f p g q) = (form_said f, places_said p) ∷ (form_said g, places_said q) ∷ []
+
+abbrev pub some_said : AsksOfRow → Rows → Bool
+some_said test rows = list_any (λ r. test r.0 r.1) (rows_said rows)
 
 -- a trait that stands there may be at such a place
 abbrev pub stand_takes_in : Stand → PlaceForm → Bool

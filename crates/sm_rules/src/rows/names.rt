@@ -1,12 +1,10 @@
-// The rows of the table of traits that name a trait.
-ghost use Rattle.std.specs.Prelude.{◌≡◌, ◌||◌, ◌++◌, Bool, List, map};
-ghost use Rattle.std.specs.List.{list_any};
-ghost use Rattle.std.specs.Str.{bytes_eq};
-ghost use Rattle.sm_compile.specs.TraitRows.{PlaceForm, ValueForm, annotation_rows, constraint_rows, documentation_rows, other_rows};
-ghost use Rattle.sm_compile.specs.TraitRows.{rows_of_shapes, trait_rows, wire_rows};
+// The rows of the table of traits that name a trait, by its id. Nothing here takes memory.
+ghost use Rattle.std.specs.Prelude.{◌≡◌, ◌||◌, ◌++◌, Bool, List};
+ghost use Rattle.sm_compile.specs.TraitRows.{PlaceForm, ValueForm, constraint_rows, documentation_rows, other_rows, rows_of_shapes};
+ghost use Rattle.sm_compile.specs.TraitRows.{trait_rows, wire_rows};
 ghost use Rattle.sm_rules.specs.parts.Forms.{form_said};
 ghost use Rattle.sm_rules.specs.parts.Places.{places_said};
-ghost use Rattle.sm_rules.specs.parts.RowTests.{passes_one, some_row};
+ghost use Rattle.sm_rules.specs.parts.RowTests.{AsksOfRow, any_row, some_row, some_said};
 
 use crate::rows::form::Form;
 use crate::rows::kinds::Types;
@@ -21,36 +19,32 @@ pub trait RowTest {
         ensures { result ≡ passes self.now (form_said form) (places_said place) };
 }
 
-/// Whether a row that names the trait passes. Linear in the table, up to the first row that does.
-pub fn some_row<T: RowTest>(name: &str, test: &T) -> bool
-    ensures { result ≡ some_row name.now (T.passes test.now) trait_rows }
-{
-    some_annotation(name, test) || some_behind_annotations(name, test)
+/// The rows that name one trait, each by the form of its values and its places.
+#[derive(Clone, Copy, Drop)]
+pub enum Rows {
+    /// None does.
+    Absent,
+    /// One.
+    One(Form, Place),
+    /// Two.
+    Two(Form, Place, Form, Place),
 }
 
-fn some_behind_annotations<T: RowTest>(name: &str, test: &T) -> bool
-    ensures { result ≡ some_row name.now (T.passes test.now)
-        (rows_of_shapes ++ constraint_rows ++ documentation_rows ++ wire_rows ++ other_rows) }
-{
-    some_of_shapes(name, test) || some_behind_shapes(name, test)
-}
-
-fn some_behind_shapes<T: RowTest>(name: &str, test: &T) -> bool
-    ensures { result ≡ some_row name.now (T.passes test.now) (constraint_rows ++ documentation_rows ++ wire_rows ++ other_rows) }
-{
-    some_constraint(name, test) || some_behind_constraints(name, test)
-}
-
-fn some_behind_constraints<T: RowTest>(name: &str, test: &T) -> bool
-    ensures { result ≡ some_row name.now (T.passes test.now) (documentation_rows ++ wire_rows ++ other_rows) }
-{
-    some_documentation(name, test) || some_behind_documentation(name, test)
-}
-
-fn some_behind_documentation<T: RowTest>(name: &str, test: &T) -> bool
-    ensures { result ≡ some_row name.now (T.passes test.now) (wire_rows ++ other_rows) }
-{
-    some_of_wire(name, test) || some_other(name, test)
+impl Rows {
+    /// Whether one of them passes.
+    pub fn some<T: RowTest>(self, test: &T) -> bool
+        ensures { result ≡ some_said (T.passes test.now) self }
+    {
+        match self {
+            Rows::Absent => false,
+            Rows::One(form, place) => test.passes(form, place),
+            Rows::Two(form, place, other_form, other_place) => {
+                let one = test.passes(form, place);
+                let other = test.passes(other_form, other_place);
+                either(one, other)
+            }
+        }
+    }
 }
 
 /// Whether one holds.
@@ -60,345 +54,150 @@ pub fn either(one: bool, other: bool) -> bool
     one || other
 }
 
-// A row of the table: the ids of its traits, their values and places.
+/// Any row passes.
 #[derive(Drop)]
-struct Row<'a> {
-    traits: &'a [&'a str],
-    form: Form,
-    place: Place,
-}
+pub struct AnyRow;
 
-// Whether one of these rows names the trait and passes.
-fn passes_one<T: RowTest>(name: &str, test: &T, rows: &[Row<'_>]) -> bool
-    ensures { result ≡ passes_one name.now (T.passes test.now) rows.now }
-{
-    for row in rows {
-        if is_one_of(name, row.traits) && test.passes(row.form, row.place) {
-            return true;
-        }
+impl RowTest for AnyRow {
+    ghost passes = { λ test. any_row };
+
+    fn passes(&self, _form: Form, _place: Place) -> bool {
+        true
     }
-    false
 }
 
-fn is_one_of(name: &str, names: &[&str]) -> bool
-    ensures { result ≡ list_any (bytes_eq name.now) (map (λ t. t.now) names.now) }
+/// Whether a row that names the trait passes.
+pub fn some_row<T: RowTest>(name: &str, test: &T) -> bool
+    ensures { result ≡ some_row name.now (T.passes test.now) trait_rows }
 {
-    for other in names {
-        if name == *other {
-            return true;
-        }
+    rows_of(name).some(test)
+}
+
+/// The rows that name a trait. Annotations come first, and one group behind another.
+pub fn rows_of(name: &str) -> Rows
+    ensures { (test : AsksOfRow) → some_said test result ≡ some_row name.now test trait_rows }
+{
+    match name {
+        "smithy.api#required"
+        | "smithy.api#clientOptional"
+        | "smithy.api#addedDefault"
+        | "smithy.api#idempotencyToken"
+        | "smithy.api#httpLabel"
+        | "smithy.api#httpPayload"
+        | "smithy.api#httpQueryParams"
+        | "smithy.api#httpResponseCode"
+        | "smithy.api#hostLabel" => Rows::One(Form::AnyObject, Place::StructureMember),
+        "smithy.api#input"
+        | "smithy.api#output"
+        | "smithy.api#protocolDefinition"
+        | "smithy.api#authDefinition"
+        | "smithy.api#retryable" => Rows::One(Form::AnyObject, Place::Of(Types::Structure)),
+        "smithy.api#sparse" => Rows::One(Form::AnyObject, Place::Of(Types::Container)),
+        "smithy.api#uniqueItems" => Rows::One(Form::AnyObject, Place::Of(Types::List)),
+        "smithy.api#private"
+        | "smithy.api#internal"
+        | "smithy.api#unstable"
+        | "smithy.api#sensitive" => Rows::One(Form::AnyObject, Place::Everywhere),
+        "smithy.api#readonly" | "smithy.api#idempotent" | "smithy.api#optionalAuth" => Rows::One(
+            Form::AnyObject,
+            Place::Of(Types::Operation),
+        ),
+        "smithy.api#streaming" | "smithy.api#requiresLength" => Rows::One(
+            Form::AnyObject,
+            Place::Of(Types::Streamed),
+        ),
+        "smithy.api#noReplace" => Rows::One(Form::AnyObject, Place::Of(Types::Resource)),
+        "smithy.api#unitType" => Rows::One(Form::AnyObject, Place::Unit),
+        "smithy.api#paginated" => Rows::One(Form::AnyObject, Place::Of(Types::Paginated)),
+        "smithy.api#cors" => Rows::One(Form::AnyObject, Place::Of(Types::Service)),
+        _ => behind_annotations(name),
     }
-    false
-}
-
-// Annotations.
-fn some_annotation<T: RowTest>(name: &str, test: &T) -> bool
-    ensures { result ≡ some_row name.now (T.passes test.now) annotation_rows }
-{
-    passes_one(
-        name,
-        test,
-        &[
-            Row {
-                traits: &[
-                    "smithy.api#required",
-                    "smithy.api#clientOptional",
-                    "smithy.api#addedDefault",
-                    "smithy.api#idempotencyToken",
-                    "smithy.api#httpLabel",
-                    "smithy.api#httpPayload",
-                    "smithy.api#httpQueryParams",
-                    "smithy.api#httpResponseCode",
-                    "smithy.api#hostLabel",
-                ],
-                form: Form::AnyObject,
-                place: Place::StructureMember,
-            },
-            Row {
-                traits: &[
-                    "smithy.api#input",
-                    "smithy.api#output",
-                    "smithy.api#protocolDefinition",
-                    "smithy.api#authDefinition",
-                    "smithy.api#retryable",
-                ],
-                form: Form::AnyObject,
-                place: Place::Of(Types::Structure),
-            },
-            Row {
-                traits: &["smithy.api#sparse"],
-                form: Form::AnyObject,
-                place: Place::Of(Types::Container),
-            },
-            Row {
-                traits: &["smithy.api#uniqueItems"],
-                form: Form::AnyObject,
-                place: Place::Of(Types::List),
-            },
-            Row {
-                traits: &[
-                    "smithy.api#private",
-                    "smithy.api#internal",
-                    "smithy.api#unstable",
-                    "smithy.api#sensitive",
-                ],
-                form: Form::AnyObject,
-                place: Place::Everywhere,
-            },
-            Row {
-                traits: &[
-                    "smithy.api#readonly",
-                    "smithy.api#idempotent",
-                    "smithy.api#optionalAuth",
-                ],
-                form: Form::AnyObject,
-                place: Place::Of(Types::Operation),
-            },
-            Row {
-                traits: &["smithy.api#streaming", "smithy.api#requiresLength"],
-                form: Form::AnyObject,
-                place: Place::Of(Types::Streamed),
-            },
-            Row {
-                traits: &["smithy.api#noReplace"],
-                form: Form::AnyObject,
-                place: Place::Of(Types::Resource),
-            },
-            Row {
-                traits: &["smithy.api#unitType"],
-                form: Form::AnyObject,
-                place: Place::Unit,
-            },
-            Row {
-                traits: &["smithy.api#paginated"],
-                form: Form::AnyObject,
-                place: Place::Of(Types::Paginated),
-            },
-            Row {
-                traits: &["smithy.api#cors"],
-                form: Form::AnyObject,
-                place: Place::Of(Types::Service),
-            },
-        ],
-    )
 }
 
 // What shapes are and may have.
-fn some_of_shapes<T: RowTest>(name: &str, test: &T) -> bool
-    ensures { result ≡ some_row name.now (T.passes test.now) rows_of_shapes }
+fn behind_annotations(name: &str) -> Rows
+    ensures { (test : AsksOfRow) → some_said test result ≡
+        some_row name.now test (rows_of_shapes ++ constraint_rows ++ documentation_rows ++ wire_rows ++ other_rows) }
 {
-    passes_one(
-        name,
-        test,
-        &[
-            Row {
-                traits: &["smithy.api#endpoint"],
-                form: Form::Endpoint,
-                place: Place::Of(Types::Operation),
-            },
-            Row {
-                traits: &["smithy.api#mixin"],
-                form: Form::Mixin,
-                place: Place::AnyShape,
-            },
-            Row {
-                traits: &["smithy.api#default"],
-                form: Form::AnyValue,
-                place: Place::Default,
-            },
-            Row {
-                traits: &["smithy.api#enumValue"],
-                form: Form::TextOrNumber,
-                place: Place::MemberOf(Types::Enum),
-            },
-            Row {
-                traits: &["smithy.api#error"],
-                form: Form::Side,
-                place: Place::Of(Types::Structure),
-            },
-            Row {
-                traits: &["smithy.api#trait"],
-                form: Form::Trait,
-                place: Place::Of(Types::Trait),
-            },
-        ],
-    )
+    match name {
+        "smithy.api#endpoint" => Rows::One(Form::Endpoint, Place::Of(Types::Operation)),
+        "smithy.api#mixin" => Rows::One(Form::Mixin, Place::AnyShape),
+        "smithy.api#default" => Rows::One(Form::AnyValue, Place::Default),
+        "smithy.api#enumValue" => Rows::One(Form::TextOrNumber, Place::MemberOf(Types::Enum)),
+        "smithy.api#error" => Rows::One(Form::Side, Place::Of(Types::Structure)),
+        "smithy.api#trait" => Rows::One(Form::Trait, Place::Of(Types::Trait)),
+        _ => behind_shapes(name),
+    }
 }
 
 // Constraints.
-fn some_constraint<T: RowTest>(name: &str, test: &T) -> bool
-    ensures { result ≡ some_row name.now (T.passes test.now) constraint_rows }
+fn behind_shapes(name: &str) -> Rows
+    ensures { (test : AsksOfRow) → some_said test result ≡
+        some_row name.now test (constraint_rows ++ documentation_rows ++ wire_rows ++ other_rows) }
 {
-    passes_one(
-        name,
-        test,
-        &[
-            Row {
-                traits: &["smithy.api#length"],
-                form: Form::WholeBounds,
-                place: Place::With(Types::Sized),
-            },
-            Row {
-                traits: &["smithy.api#range"],
-                form: Form::WholeBounds,
-                place: Place::With(Types::Whole),
-            },
-            Row {
-                traits: &["smithy.api#range"],
-                form: Form::AnyBounds,
-                place: Place::With(Types::Fraction),
-            },
-            Row {
-                traits: &["smithy.api#pattern"],
-                form: Form::AnyText,
-                place: Place::With(Types::Text),
-            },
-        ],
-    )
+    match name {
+        "smithy.api#length" => Rows::One(Form::WholeBounds, Place::With(Types::Sized)),
+        "smithy.api#range" => Rows::Two(
+            Form::WholeBounds,
+            Place::With(Types::Whole),
+            Form::AnyBounds,
+            Place::With(Types::Fraction),
+        ),
+        "smithy.api#pattern" => Rows::One(Form::AnyText, Place::With(Types::Text)),
+        _ => behind_constraints(name),
+    }
 }
 
 // Documentation.
-fn some_documentation<T: RowTest>(name: &str, test: &T) -> bool
-    ensures { result ≡ some_row name.now (T.passes test.now) documentation_rows }
+fn behind_constraints(name: &str) -> Rows
+    ensures { (test : AsksOfRow) → some_said test result ≡ some_row name.now test (documentation_rows ++ wire_rows ++ other_rows) }
 {
-    passes_one(
-        name,
-        test,
-        &[
-            Row {
-                traits: &["smithy.api#documentation", "smithy.api#since"],
-                form: Form::AnyText,
-                place: Place::Everywhere,
-            },
-            Row {
-                traits: &["smithy.api#title"],
-                form: Form::AnyText,
-                place: Place::Of(Types::Titled),
-            },
-            Row {
-                traits: &["smithy.api#tags", "smithy.api#suppress"],
-                form: Form::Texts,
-                place: Place::Everywhere,
-            },
-            Row {
-                traits: &["smithy.api#auth"],
-                form: Form::Texts,
-                place: Place::Of(Types::Authorized),
-            },
-            Row {
-                traits: &["smithy.api#deprecated"],
-                form: Form::Deprecated,
-                place: Place::Everywhere,
-            },
-            Row {
-                traits: &["smithy.api#recommended"],
-                form: Form::Recommended,
-                place: Place::StructureMember,
-            },
-            Row {
-                traits: &["smithy.api#externalDocumentation"],
-                form: Form::NamedTexts,
-                place: Place::Everywhere,
-            },
-            Row {
-                traits: &["smithy.api#examples"],
-                form: Form::AnyList,
-                place: Place::Of(Types::Operation),
-            },
-        ],
-    )
+    match name {
+        "smithy.api#documentation" | "smithy.api#since" => Rows::One(
+            Form::AnyText,
+            Place::Everywhere,
+        ),
+        "smithy.api#title" => Rows::One(Form::AnyText, Place::Of(Types::Titled)),
+        "smithy.api#tags" | "smithy.api#suppress" => Rows::One(Form::Texts, Place::Everywhere),
+        "smithy.api#auth" => Rows::One(Form::Texts, Place::Of(Types::Authorized)),
+        "smithy.api#deprecated" => Rows::One(Form::Deprecated, Place::Everywhere),
+        "smithy.api#recommended" => Rows::One(Form::Recommended, Place::StructureMember),
+        "smithy.api#externalDocumentation" => Rows::One(Form::NamedTexts, Place::Everywhere),
+        "smithy.api#examples" => Rows::One(Form::AnyList, Place::Of(Types::Operation)),
+        _ => behind_documentation(name),
+    }
 }
 
 // What is said of the wire.
-fn some_of_wire<T: RowTest>(name: &str, test: &T) -> bool
-    ensures { result ≡ some_row name.now (T.passes test.now) wire_rows }
+fn behind_documentation(name: &str) -> Rows
+    ensures { (test : AsksOfRow) → some_said test result ≡ some_row name.now test (wire_rows ++ other_rows) }
 {
-    passes_one(
-        name,
-        test,
-        &[
-            Row {
-                traits: &["smithy.api#mediaType"],
-                form: Form::AnyText,
-                place: Place::With(Types::Media),
-            },
-            Row {
-                traits: &["smithy.api#jsonName"],
-                form: Form::AnyText,
-                place: Place::MemberOf(Types::Named),
-            },
-            Row {
-                traits: &["smithy.api#timestampFormat"],
-                form: Form::TimeFormat,
-                place: Place::With(Types::Timestamp),
-            },
-            Row {
-                traits: &["smithy.api#http"],
-                form: Form::Http,
-                place: Place::Of(Types::Operation),
-            },
-            Row {
-                traits: &["smithy.api#httpError"],
-                form: Form::WholeNumber,
-                place: Place::Of(Types::Structure),
-            },
-            Row {
-                traits: &["smithy.api#httpHeader"],
-                form: Form::Token,
-                place: Place::StructureMember,
-            },
-            Row {
-                traits: &["smithy.api#httpQuery"],
-                form: Form::FilledText,
-                place: Place::StructureMember,
-            },
-            Row {
-                traits: &["smithy.api#httpPrefixHeaders"],
-                form: Form::AnyText,
-                place: Place::StructureMember,
-            },
-            Row {
-                traits: &["smithy.api#resourceIdentifier"],
-                form: Form::AnyText,
-                place: Place::StructureMember,
-            },
-            Row {
-                traits: &["smithy.api#references"],
-                form: Form::AnyList,
-                place: Place::With(Types::Reference),
-            },
-        ],
-    )
+    match name {
+        "smithy.api#mediaType" => Rows::One(Form::AnyText, Place::With(Types::Media)),
+        "smithy.api#jsonName" => Rows::One(Form::AnyText, Place::MemberOf(Types::Named)),
+        "smithy.api#timestampFormat" => Rows::One(Form::TimeFormat, Place::With(Types::Timestamp)),
+        "smithy.api#http" => Rows::One(Form::Http, Place::Of(Types::Operation)),
+        "smithy.api#httpError" => Rows::One(Form::WholeNumber, Place::Of(Types::Structure)),
+        "smithy.api#httpHeader" => Rows::One(Form::Token, Place::StructureMember),
+        "smithy.api#httpQuery" => Rows::One(Form::FilledText, Place::StructureMember),
+        "smithy.api#httpPrefixHeaders" => Rows::One(Form::AnyText, Place::StructureMember),
+        "smithy.api#resourceIdentifier" => Rows::One(Form::AnyText, Place::StructureMember),
+        "smithy.api#references" => Rows::One(Form::AnyList, Place::With(Types::Reference)),
+        _ => behind_wire(name),
+    }
 }
 
 // Protocols and protocol tests.
-fn some_other<T: RowTest>(name: &str, test: &T) -> bool
-    ensures { result ≡ some_row name.now (T.passes test.now) other_rows }
+fn behind_wire(name: &str) -> Rows
+    ensures { (test : AsksOfRow) → some_said test result ≡ some_row name.now test other_rows }
 {
-    passes_one(
-        name,
-        test,
-        &[
-            Row {
-                traits: &[
-                    "aws.protocols#awsJson1_0",
-                    "aws.protocols#awsJson1_1",
-                    "aws.protocols#restJson1",
-                    "smithy.protocols#rpcv2Cbor",
-                ],
-                form: Form::AnyObject,
-                place: Place::Of(Types::Service),
-            },
-            Row {
-                traits: &["smithy.test#httpRequestTests"],
-                form: Form::AnyList,
-                place: Place::Of(Types::Operation),
-            },
-            Row {
-                traits: &["smithy.test#httpResponseTests"],
-                form: Form::AnyList,
-                place: Place::Of(Types::Answering),
-            },
-        ],
-    )
+    match name {
+        "aws.protocols#awsJson1_0"
+        | "aws.protocols#awsJson1_1"
+        | "aws.protocols#restJson1"
+        | "smithy.protocols#rpcv2Cbor" => Rows::One(Form::AnyObject, Place::Of(Types::Service)),
+        "smithy.test#httpRequestTests" => Rows::One(Form::AnyList, Place::Of(Types::Operation)),
+        "smithy.test#httpResponseTests" => Rows::One(Form::AnyList, Place::Of(Types::Answering)),
+        _ => Rows::Absent,
+    }
 }
