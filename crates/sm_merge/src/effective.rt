@@ -131,7 +131,7 @@ fn no_traits<'a>(alloc: Global, count: usize) -> Result<Vec<ShapeTraits<'a>>, No
     ensures size { IfOk result (λ all. length all.items ≡ count) }
     ensures sound { IfOk result (λ all. AreSoundEntries all.items) }
 {
-    let mut all = Vec::new(alloc);
+    let mut all = Vec::with_capacity(alloc, count)?;
     for _ in 0..count {
         let none = ShapeTraits {
             own: Vec::new(alloc),

@@ -121,7 +121,7 @@ fn first_lists<'a>(
 ) -> Result<Vec<MemberTraits<'a>>, NoMemory>
     ensures { IfOk result (λ lists. ComeToFirsts (groups_view groups.entry.items) lists.items) }
 {
-    let mut lists = Vec::new(alloc);
+    let mut lists = Vec::with_capacity(alloc, groups.len())?;
     for group in groups {
         let list = first_list(group)?;
         lists.push(list)?;

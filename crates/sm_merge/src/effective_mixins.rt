@@ -31,7 +31,7 @@ pub(crate) fn all_mixed_in<'a>(
     ensures mixed { IfOk result (λ all. (ss : List Stated) → AreWalkedTables ss rows.now traits.now walk.now
         → AreMixedIn ss rows.now all.items) }
 {
-    let mut all = Vec::new(alloc);
+    let mut all = Vec::with_capacity(alloc, rows.len())?;
     for row in rows {
         let found = mixed_in(alloc, rows, traits, walk, row)?;
         all.push(found)?;
@@ -55,7 +55,7 @@ fn mixed_in<'a>(
     ensures mixed { IfOk result (λ found. (ss : List Stated) (s : ShapeStated) → AreWalkedTables ss rows.now traits.now walk.now
         → s.shape.kind ≡ row.now.kind → MixIn ss rows.now s row.now.mixins.items found.items) }
 {
-    let mut found = Vec::new(alloc);
+    let mut found = Vec::with_capacity(alloc, row.mixins.len())?;
     for mixin in &row.mixins {
         put_mixin(rows, traits, walk, row.kind, mixin.as_str(), &mut found)?;
     }

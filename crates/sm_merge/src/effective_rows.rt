@@ -20,7 +20,7 @@ pub(crate) fn given_rows<'a>(
 ) -> Result<Vec<NamedFolded<'a>>, NoMemory>
     ensures { IfOk result (λ rows. folded_rows rows.items ≡ named_view values.now) }
 {
-    let mut rows = Vec::new(alloc);
+    let mut rows = Vec::with_capacity(alloc, values.len())?;
     for value in values {
         rows.push(NamedFolded {
             name: value.name.as_str(),
@@ -37,7 +37,7 @@ pub(crate) fn kept_rows<'a>(
 ) -> Result<Vec<NamedFolded<'a>>, NoMemory>
     ensures { IfOk result (λ rows. folded_rows rows.items ≡ filter is_kept (folded_rows traits.now)) }
 {
-    let mut rows = Vec::new(alloc);
+    let mut rows = Vec::with_capacity(alloc, traits.len())?;
     for row in traits {
         put_kept(&mut rows, row)?;
     }

@@ -95,7 +95,7 @@ fn copies<'a>(
     ensures { IfOk result (λ rows. folded_rows rows.items ≡ filter (λ r. is_copied (node_of value.now) r.0) (folded_rows own.now)) }
 {
     let local = local_names(alloc, value)?;
-    let mut rows = Vec::new(alloc);
+    let mut rows = Vec::with_capacity(alloc, own.len())?;
     for row in own {
         put_copy(&local, row, &mut rows)?;
     }

@@ -39,20 +39,22 @@ fn all_shapes(
 ) -> Result<Vec<GraphShape>, NoMemory>
     ensures { IfOk result (λ shapes. given_view shapes.items ≡ parted_shapes rows.items parts.items ++ the_prelude) }
 {
-    let mut shapes = with_parts(alloc, rows, parts)?;
     let mut of_prelude = prelude_shapes(alloc)?;
+    let mut shapes = with_parts(alloc, rows, parts, of_prelude.len())?;
     shapes.append(&mut of_prelude)?;
     Ok(shapes)
 }
 
+// With room for some more behind them.
 fn with_parts(
     alloc: Global,
     rows: Vec<BareShape>,
     parts: Vec<ShapePart>,
+    more: usize,
 ) -> Result<Vec<GraphShape>, NoMemory>
     ensures { IfOk result (λ shapes. given_view shapes.items ≡ parted_shapes rows.items parts.items) }
 {
-    let mut shapes = Vec::new(alloc);
+    let mut shapes = Vec::with_capacity(alloc, rows.len().saturating_add(more))?;
     let mut parts = parts.into_iter();
     for row in rows {
         match parts.next() {
@@ -86,7 +88,7 @@ fn with_part(row: BareShape, part: ShapePart) -> GraphShape
 fn metadata_pairs(alloc: Global, rows: Vec<NamedValue>) -> Result<Vec<(Text, Tree)>, NoMemory>
     ensures { IfOk result (λ pairs. members_view pairs.items ≡ pairs_of rows.items) }
 {
-    let mut pairs = Vec::new(alloc);
+    let mut pairs = Vec::with_capacity(alloc, rows.len())?;
     for row in rows {
         pairs.push((row.name, row.folded.value))?;
     }

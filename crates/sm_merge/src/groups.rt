@@ -42,7 +42,7 @@ fn in_order<V: Drop>(mut rows: Vec<(Text, V)>) -> Result<Vec<(Text, V)>, NoMemor
 fn gathered<V: Drop>(alloc: Global, rows: Vec<(Text, V)>) -> Result<Vec<Group<V>>, NoMemory>
     ensures { IfOk result (λ gs. groups_view gs.items ≡ grouped rows.items) }
 {
-    let mut groups = Vec::new(alloc);
+    let mut groups = Vec::with_capacity(alloc, rows.len())?;
     let mut current = None;
     for (key, value) in rows {
         current = with_row(alloc, &mut groups, current, key, value)?;

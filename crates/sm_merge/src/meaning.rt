@@ -114,7 +114,12 @@ pub(crate) fn joined(
 ) -> Result<String, NoMemory>
     ensures { IfOk result (λ text. string_bytes text ≡ first.now ++ second.now ++ third.now) }
 {
-    let mut text = String::from_str(alloc, first)?;
+    let len = first
+        .len()
+        .saturating_add(second.len())
+        .saturating_add(third.len());
+    let mut text = String::with_capacity(alloc, len)?;
+    text.push_str(first)?;
     text.push_str(second)?;
     text.push_str(third)?;
     Ok(text)

@@ -55,7 +55,7 @@ fn no_members<'a>(alloc: Global, count: usize) -> Result<Vec<Vec<NamedTarget<'a>
     ensures size { IfOk result (λ all. length all.items ≡ count) }
     ensures short { IfOk result (λ all. HaveManyMembers all.items → ⊥) }
 {
-    let mut all = Vec::new(alloc);
+    let mut all = Vec::with_capacity(alloc, count)?;
     for _ in 0..count {
         let none = Vec::new(alloc);
         all.push(none)?;
@@ -92,7 +92,7 @@ fn members_of<'a>(
     ensures { IfOk result (λ members. targets_view members.items ≡ firsts (all_targets all.now mixed.now row.now.members.items)) }
 {
     let mut seen: BTreeSet<&'a str> = BTreeSet::new(alloc);
-    let mut members = Vec::new(alloc);
+    let mut members = Vec::with_capacity(alloc, row.members.len())?;
     for mixin in mixed {
         put_firsts(&mut seen, &mut members, all[mixin.number].as_slice())?;
     }

@@ -33,7 +33,7 @@ fn mixin_links(alloc: Global, rows: &[BareShape]) -> Result<Vec<Vec<usize>>, NoM
     requires { Rise (ids_of rows.now) }
     ensures { IfOk result (λ links. AreLinksOf (ids_of rows.now) (mixins_in rows.now) (links_view links.items)) }
 {
-    let mut links = Vec::new(alloc);
+    let mut links = Vec::with_capacity(alloc, rows.len())?;
     for row in rows {
         links.push(mixin_numbers(alloc, rows, row.mixins.as_slice())?)?;
     }
@@ -53,7 +53,7 @@ fn mixin_numbers(alloc: Global, rows: &[BareShape], mixins: &[Text]) -> Result<V
     requires { Rise (ids_of rows.now) }
     ensures { IfOk result (λ numbers. LinksTo (ids_of rows.now) mixins.now numbers.items) }
 {
-    let mut numbers = Vec::new(alloc);
+    let mut numbers = Vec::with_capacity(alloc, mixins.len())?;
     for mixin in mixins {
         put_number(rows, mixin.as_str(), &mut numbers)?;
     }

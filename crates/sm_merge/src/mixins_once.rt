@@ -16,7 +16,7 @@ pub(crate) fn first_mixins<'a>(
     ensures { IfOk result (λ once. once.items ≡ mixins_once mixed.now) }
 {
     let mut seen: BTreeSet<usize> = BTreeSet::new(alloc);
-    let mut once = Vec::new(alloc);
+    let mut once = Vec::with_capacity(alloc, mixed.len())?;
     for mixin in mixed {
         put_unseen(&mut seen, &mut once, mixin)?;
     }
@@ -30,7 +30,7 @@ pub(crate) fn last_mixins<'a>(
 ) -> Result<Vec<Contributing<'a>>, NoMemory>
     ensures { IfOk result (λ once. once.items ≡ reverse (mixins_once (reverse mixed.now))) }
 {
-    let mut turned = Vec::new(alloc);
+    let mut turned = Vec::with_capacity(alloc, mixed.len())?;
     turned.extend_from_slice(mixed)?;
     turned.reverse();
     let mut once = first_mixins(alloc, turned.as_slice())?;

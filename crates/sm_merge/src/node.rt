@@ -36,7 +36,7 @@ pub(crate) fn meant_node(alloc: Global, names: &Names<'_>, node: &RawNode) -> Re
 fn meant_entries(alloc: Global, names: &Names<'_>, items: &[RawNode]) -> Result<Vec<Tree>, NoMemory>
     ensures { IfOk result (λ trees. nodes_view trees.items ≡ entries_meant (known names.now) (raws_view items.now)) }
 {
-    let mut entries = Vec::new(alloc);
+    let mut entries = Vec::with_capacity(alloc, items.len())?;
     for item in items {
         entries.push(meant_node(alloc, names, item)?)?;
     }
@@ -51,7 +51,7 @@ fn meant_pairs(
 ) -> Result<Vec<(Text, Tree)>, NoMemory>
     ensures { IfOk result (λ trees. members_view trees.items ≡ pairs_meant (known names.now) (raw_members_view pairs.now)) }
 {
-    let mut members = Vec::new(alloc);
+    let mut members = Vec::with_capacity(alloc, pairs.len())?;
     for pair in pairs {
         let value = meant_node(alloc, names, &pair.1)?;
         members.push((Text::copy(alloc, pair.0.as_str())?, value))?;

@@ -48,9 +48,9 @@ pub(crate) fn taken_apart(alloc: Global, rows: Vec<StatedRow>) -> Result<Parts, 
     ensures { IfOk result (ArePartsOf (rows_view rows.items)) }
 {
     let mut parts = Parts {
-        traits: Vec::new(alloc),
+        traits: Vec::with_capacity(alloc, rows.len())?,
         metadata: Vec::new(alloc),
-        shapes: Vec::new(alloc),
+        shapes: Vec::with_capacity(alloc, rows.len())?,
         applied: Vec::new(alloc),
     };
     for row in rows {
@@ -118,7 +118,7 @@ fn put_members(
     ensures traits { OnOk result (placed_view traits.new.items
         ≡ placed_view traits.old.items ++ placed_members shape.now (members_given_view members.items)) }
 {
-    let mut bare = Vec::new(alloc);
+    let mut bare = Vec::with_capacity(alloc, members.len())?;
     for member in members {
         let GraphMember {
             name,

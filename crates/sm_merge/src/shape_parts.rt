@@ -43,7 +43,7 @@ pub(crate) fn shape_parts(
     requires { AreAllSound traits.now }
     ensures { IfOk result (λ parts. parted_shapes rows.now parts.items ≡ made_shapes rows.now members.now traits.now) }
 {
-    let mut parts = Vec::new(alloc);
+    let mut parts = Vec::with_capacity(alloc, rows.len())?;
     let mut lists = members.iter();
     let mut tables = traits.iter();
     for row in rows {
@@ -84,7 +84,7 @@ fn copied_members(
     requires { AreSoundTraits traits.now }
     ensures { IfOk result (λ all. members_given_of all ≡ made_members kind traits.now.members.items (targets_view members.now)) }
 {
-    let mut all = Vec::new(alloc);
+    let mut all = Vec::with_capacity(alloc, members.len())?;
     for member in members {
         all.push(copied_member(alloc, kind, member, traits)?)?;
     }
@@ -133,7 +133,7 @@ fn valued_traits(
 fn copied_traits(alloc: Global, traits: &[NamedFolded]) -> Result<Vec<(Text, Tree)>, NoMemory>
     ensures { IfOk result (λ all. members_view all.items ≡ trait_pairs traits.now) }
 {
-    let mut all = Vec::new(alloc);
+    let mut all = Vec::with_capacity(alloc, traits.len())?;
     for one in traits {
         let value = copy_tree(alloc, &one.folded.value)?;
         all.push((Text::copy(alloc, one.name)?, value))?;

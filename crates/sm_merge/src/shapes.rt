@@ -34,7 +34,7 @@ pub(crate) fn shape_table(alloc: Global, rows: Vec<(Text, BareShape)>) -> Result
 {
     let groups = by_key(alloc, rows)?;
     let mut shapes = Shapes {
-        rows: Vec::new(alloc),
+        rows: Vec::with_capacity(alloc, groups.len())?,
         wrong: Vec::new(alloc),
     };
     for group in groups {

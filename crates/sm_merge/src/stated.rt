@@ -68,6 +68,7 @@ fn put_rows(
     ensures { OnOk result (rows_view rows.new.items
         ≡ rows_view rows.old.items ++ map (statement_stated (known names.now)) (statements_view file.now)) }
 {
+    rows.reserve(file.len())?;
     for statement in file {
         rows.push(row(alloc, names, statement)?)?;
     }
@@ -128,7 +129,7 @@ fn meant_members(
     requires { AreStatedMembers (member_statements_view members.now) }
     ensures { IfOk result (λ made. members_given_view made.items ≡ members_stated (known names.now) (member_statements_view members.now)) }
 {
-    let mut made = Vec::new(alloc);
+    let mut made = Vec::with_capacity(alloc, members.len())?;
     for member in members {
         made.push(meant_member(alloc, names, member)?)?;
     }
@@ -178,7 +179,7 @@ fn id_of_text(alloc: Global, text: &str) -> Result<ShapeId, NoMemory>
 fn meant_ids(alloc: Global, names: &Names<'_>, references: &[Ref]) -> Result<Vec<Text>, NoMemory>
     ensures { IfOk result (λ ids. ids.items ≡ meanings (known names.now) references.now) }
 {
-    let mut ids = Vec::new(alloc);
+    let mut ids = Vec::with_capacity(alloc, references.len())?;
     for reference in references {
         ids.push(meaning(alloc, names, reference)?)?;
     }
@@ -192,7 +193,7 @@ fn meant_traits(
 ) -> Result<Vec<(Text, Tree)>, NoMemory>
     ensures { IfOk result (λ traits. members_view traits.items ≡ traits_stated (known names.now) (traits_view uses.now)) }
 {
-    let mut traits = Vec::new(alloc);
+    let mut traits = Vec::with_capacity(alloc, uses.len())?;
     for one in uses {
         let value = meant_node(alloc, names, &one.value)?;
         traits.push((meaning(alloc, names, &one.id)?, value))?;

@@ -40,7 +40,7 @@ pub(crate) fn named_values(
     ensures { IfOk result (λ values. AreValuesOf (members_view pairs.items) values.items) }
 {
     let groups = by_key(alloc, pairs)?;
-    let mut values = Vec::new(alloc);
+    let mut values = Vec::with_capacity(alloc, groups.len())?;
     for group in groups {
         values.push(value(alloc, group)?)?;
     }
@@ -67,7 +67,7 @@ pub(crate) fn place_rows(
     ensures { IfOk result (λ rows. ArePlacesOf (placed_view lists.items) rows.items) }
 {
     let groups = by_key(alloc, lists)?;
-    let mut rows = Vec::new(alloc);
+    let mut rows = Vec::with_capacity(alloc, groups.len())?;
     for group in groups {
         rows.push(place(alloc, group)?)?;
     }

@@ -82,7 +82,7 @@ impl Walk {
             row: Vec::new(alloc),
             targets: Vec::new(alloc),
             path: Vec::new(alloc),
-            order: Vec::new(alloc),
+            order: Vec::with_capacity(alloc, count)?,
         })
     }
 

@@ -14,7 +14,7 @@ use Rattle.sm_merge.proofs.effective_members.first_lists.Goals as goal
 pub loop-group-init : goal.loop-group-init
 loop-group-init c = λ more h.
     subst (λ ls. ComeToRows (λ vs ts. AreFirstRows (joined_rows vs) ts) (groups_view (into_iter_items c.into_iter-group-iterator.result))
-    (by_members ls ++ more)) (sym c.new-lists.ensures.items) h
+    (by_members ls ++ more)) (sym c.in_ok-lists.ensures.items) h
 
 pub returns : goal.returns
 returns c =

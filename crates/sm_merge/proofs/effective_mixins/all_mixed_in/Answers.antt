@@ -6,10 +6,10 @@ use Rattle.sm_merge.proofs.effective_mixins.all_mixed_in.Goals as goal
 
 pub loop-row-init : goal.loop-row-init
 loop-row-init c = record {
-  size = ap length c.new-all.ensures.items;
-  below = subst (AllBelow (length c.args.rows.now)) (sym c.new-all.ensures.items) tt;
+  size = ap length c.in_ok-all.ensures.items;
+  below = subst (AllBelow (length c.args.rows.now)) (sym c.in_ok-all.ensures.items) tt;
   mixed = λ ss t.
-      subst (MixedSoFar ss c.args.rows.now) (sym c.new-all.ensures.items) (λ v id s cs at_v there none. absurd (none-some cs none));
+      subst (MixedSoFar ss c.args.rows.now) (sym c.in_ok-all.ensures.items) (λ v id s cs at_v there none. absurd (none-some cs none));
 }
 
 pub loop-row-preserved : goal.loop-row-preserved

@@ -6,9 +6,9 @@ use Rattle.sm_merge.proofs.effective_mixins.mixed_in.Goals as goal
 
 pub loop-mixin-init : goal.loop-mixin-init
 loop-mixin-init c = record {
-  below = subst (AreBelow (length c.args.rows.now)) (sym c.new-found.ensures.items) tt;
+  below = subst (AreBelow (length c.args.rows.now)) (sym c.in_ok-found.ensures.items) tt;
   mixed = λ ss s t same more h.
-      subst (λ cs. MixIn ss c.args.rows.now s c.args.row.now.mixins.items (cs ++ more)) (sym c.new-found.ensures.items) h;
+      subst (λ cs. MixIn ss c.args.rows.now s c.args.row.now.mixins.items (cs ++ more)) (sym c.in_ok-found.ensures.items) h;
 }
 
 pub loop-mixin-preserved : goal.loop-mixin-preserved

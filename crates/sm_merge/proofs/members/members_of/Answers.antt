@@ -12,7 +12,7 @@ use Rattle.sm_merge.proofs.members.members_of.Goals as goal
 pub loop-mixin-init : goal.loop-mixin-init
 loop-mixin-init c =
     let all = all_targets c.args.all.now c.args.mixed.now c.args.row.now.members.items in
-    ap (λ ms. targets_view ms ++ unseen (has_text c.new-seen.result) (firsts all)) c.new-members.ensures.items
+    ap (λ ms. targets_view ms ++ unseen (has_text c.new-seen.result) (firsts all)) c.in_ok-members.ensures.items
     ∙ all_unseen (has_text c.new-seen.result) (λ id. search rules) (firsts all)
 
 pub bounds-all-mixin : goal.bounds-all-mixin

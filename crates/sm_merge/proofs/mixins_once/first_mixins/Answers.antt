@@ -6,7 +6,7 @@ use Rattle.sm_merge.proofs.mixins_once.first_mixins.Goals as goal
 
 pub loop-mixin-init : goal.loop-mixin-init
 loop-mixin-init c =
-    ap (λ l. l ++ unseen_mixins (has_number c.new-seen.result) c.args.mixed.now) c.new-once.ensures.items
+    ap (λ l. l ++ unseen_mixins (has_number c.new-seen.result) c.args.mixed.now) c.in_ok-once.ensures.items
     ∙ mixins_begun (has_number c.new-seen.result) (λ n. search rules) c.args.mixed.now
 
 pub loop-mixin-preserved : goal.loop-mixin-preserved

@@ -18,7 +18,7 @@ loop-group-init c =
           (groups_of_nodes c.args.pairs.items (groups_view groups) c.in_ok-groups.ensures c.requires);
       rows = λ more h.
           subst (λ vs. ComeToRows (λ ts f. IsFolded (nodes_view ts) f) (groups_view (into_iter_items c.into_iter-group-iterator.result))
-          (named_view vs ++ more)) (sym c.new-values.ensures.items) h;
+          (named_view vs ++ more)) (sym c.in_ok-values.ensures.items) h;
     }
 
 pub returns : goal.returns

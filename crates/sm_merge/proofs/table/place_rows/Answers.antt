@@ -16,7 +16,7 @@ loop-group-init c =
           (groups_of_lists c.args.lists.items (groups_view groups) c.in_ok-groups.ensures c.requires);
       rows = λ more h.
           subst (λ rs. ComeToRows (λ ps vs. ComeToTraits (pairs_views ps) vs)
-          (groups_view (into_iter_items c.into_iter-group-iterator.result)) (places_view rs ++ more)) (sym c.new-rows.ensures.items) h;
+          (groups_view (into_iter_items c.into_iter-group-iterator.result)) (places_view rs ++ more)) (sym c.in_ok-rows.ensures.items) h;
     }
 
 pub returns : goal.returns
