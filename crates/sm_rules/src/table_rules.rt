@@ -126,7 +126,7 @@ fn stands_elsewhere(rows: Rows, at: Stand) -> bool
     rows.some(&AnyRow) && !rows.some(&StandsBy { at })
 }
 
-/// Puts the events of Trait.Value that the table tells. n times the table.
+/// Puts the events of Trait.Value that the table tells. Linear in the graph and the values of its traits.
 pub fn put_other_values(
     alloc: Global,
     graph: &Graph,
@@ -139,7 +139,7 @@ pub fn put_other_values(
     Ok(())
 }
 
-/// Puts the events of Trait.Place that the table tells. n times the table.
+/// Puts the events of Trait.Place that the table tells. Linear in the graph.
 pub fn put_other_places(
     alloc: Global,
     graph: &Graph,
