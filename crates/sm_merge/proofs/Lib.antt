@@ -6,6 +6,7 @@ mod OtherOrder
 pub mod PreludeGiven
 mod PreludeShapes
 mod MeantIds
+mod MemberIdsMade
 pub mod NamesKnown
 mod MeantViews
 mod Bodies

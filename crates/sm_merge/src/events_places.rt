@@ -12,11 +12,11 @@ ghost use Rattle.sm_merge.specs.steps.Tables.{places_in};
 
 use crate::firsts::NamedTarget;
 use crate::look::traits_at;
-use crate::parts::{BareShape, member_text};
+use crate::parts::BareShape;
 use crate::stated::copied_id;
 use crate::table::{NamedValue, PlaceRow};
 use crate::told::{put_applied_event, put_trait_events};
-use sm_ids::{ShapeId, ShapeIdRef};
+use sm_ids::{ShapeId, ShapeIdRef, is_identifier};
 use sm_model::ModelEvent;
 use sm_tree::NoMemory;
 use std::alloc::Global;
@@ -105,17 +105,25 @@ fn put_places(
     Ok(())
 }
 
-/// The id of a member: its text is one.
+/// The id of a member, put together from its parts. `NoMemory` too where they are those of none.
 pub(crate) fn id_of_member(alloc: Global, shape: &ShapeId, name: &str) -> Result<ShapeId, NoMemory>
     ensures { IfOk result (λ id. id ≡ member_id shape.now name.now) }
 {
-    let text = member_text(alloc, shape.as_str(), name)?;
-    match ShapeIdRef::parse(text.as_str()) {
+    let parts = shape.as_ref();
+    let None = parts.member else {
+        return Err(NoMemory);
+    };
+    if !is_identifier(name) {
+        return Err(NoMemory);
+    }
+    let id = ShapeIdRef {
+        namespace: parts.namespace,
+        name: parts.name,
+        member: Some(name),
+    };
+    match ShapeId::new(alloc, &id) {
+        Ok(owned) => Ok(owned),
         Err(_) => Err(NoMemory),
-        Ok(id) => match ShapeId::new(alloc, &id) {
-            Ok(copy) => Ok(copy),
-            Err(_) => Err(NoMemory),
-        },
     }
 }
 

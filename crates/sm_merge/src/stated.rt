@@ -159,8 +159,13 @@ fn meant_id(alloc: Global, names: &Names<'_>, reference: &Ref) -> Result<ShapeId
     requires { IsReference reference.now }
     ensures { IfOk result (λ id. id ≡ meant (known names.now) reference.now) }
 {
-    let text = meaning(alloc, names, reference)?;
-    id_of_text(alloc, text.as_str())
+    match &reference.namespace {
+        None => id_of_text(alloc, reference.text.as_str()),
+        Some(_) => {
+            let text = meaning(alloc, names, reference)?;
+            id_of_text(alloc, text.as_str())
+        }
+    }
 }
 
 fn id_of_text(alloc: Global, text: &str) -> Result<ShapeId, NoMemory>
