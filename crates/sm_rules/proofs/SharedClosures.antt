@@ -114,7 +114,8 @@ module _ (g : Graph) where
 
   -- one more row, where it is a service's
   pub own_joined : {X : Type 0} (olds : List (X × ℕ)) (row : X × ℕ) (news : List (X × ℕ)) → news ≡ olds ++ row ∷ []
-      → IsOwnServiceNumber g row.1 → Joins (Contains (values_of olds)) (λ k. (k ≡ row.1) × IsOwnServiceNumber g k) (Contains (values_of news))
+      → IsOwnServiceNumber g row.1
+      → Joins (Contains (values_of olds)) (λ k. (k ≡ row.1) × IsOwnServiceNumber g k) (Contains (values_of news))
   own_joined olds row news is own =
       let parts : values_of news ≡ values_of olds ++ row.1 ∷ [] = ap values_of is ∙ map-append (λ r. r.1) olds (row ∷ []) in
       joins_same (Contains (values_of olds)) (λ k. k ≡ row.1) (λ k. (k ≡ row.1) × IsOwnServiceNumber g k) (Contains (values_of news))

@@ -27,8 +27,8 @@ use sm_rules::table_rules::put_other_values;
 use sm_tree::{NoMemory, Text, Tree};
 use std::alloc::Global;
 
-/// Puts the events of the rule, by the marks of the graph: those that the table tells, and those that the shapes of traits tell. n
-/// times the table, and n log n.
+/// Puts the events of the rule, by the marks of the graph: those that the table tells, and those that the shapes of traits tell.
+/// n log n.
 pub fn put_values(
     alloc: Global,
     graph: &Graph,
