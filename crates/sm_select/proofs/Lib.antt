@@ -1,4 +1,6 @@
 mod StepLists
+mod RunLists
+mod FilledRuns
 mod Worklist
 mod WalkNumbers
 mod FollowedLinks

@@ -1,4 +1,5 @@
 pub mod Reaching
+pub mod Runs
 pub mod Signs
 pub mod Places
 pub mod Resting

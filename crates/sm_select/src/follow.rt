@@ -37,7 +37,7 @@ fn mark_end(link: Link, relations: &[Relation], back: bool, starts: &[bool], mar
     ensures ends { (b : ℕ) → IsMarked marks.new.items b ↔ (IsMarked marks.old.items b ⊎ Follows relations.now back starts.now link b) }
 {
     if leads(link, relations, back, starts) {
-        marks[end_of(link, back)] = true;
+        marks[end_of(link, back) as usize] = true;
     }
 }
 
@@ -48,7 +48,7 @@ fn leads(link: Link, relations: &[Relation], back: bool, starts: &[bool]) -> boo
         (Contains relations.now link.relation × IsMarked starts.now (start_of back link))
         (Contains relations.now link.relation × IsMarked starts.now (start_of back link) → ⊥) }
 {
-    if starts[start_of(link, back)] {
+    if starts[start_of(link, back) as usize] {
         is_among(relations, link.relation)
     } else {
         false
@@ -56,25 +56,17 @@ fn leads(link: Link, relations: &[Relation], back: bool, starts: &[bool]) -> boo
 }
 
 // Where a link begins.
-fn start_of(link: Link, back: bool) -> usize
+pub(crate) fn start_of(link: Link, back: bool) -> u32
     ensures { result ≡ start_of back link }
 {
-    if back {
-        link.to as usize
-    } else {
-        link.from as usize
-    }
+    if back { link.to } else { link.from }
 }
 
 // Where a link ends.
-fn end_of(link: Link, back: bool) -> usize
+pub(crate) fn end_of(link: Link, back: bool) -> u32
     ensures { result ≡ end_of back link }
 {
-    if back {
-        link.from as usize
-    } else {
-        link.to as usize
-    }
+    if back { link.from } else { link.to }
 }
 
 // Whether a relation is one of these.

@@ -31,7 +31,7 @@ mod ways;
 pub use among::select_among;
 pub use follow::followed;
 pub use marks::all_marked;
-pub use neighbors::{Neighbors, Row};
+pub use neighbors::Neighbors;
 pub use parser::parse_selector;
 pub use reach::reached;
 pub use refusal::SelectorRefusal;

@@ -4,10 +4,6 @@ use Rattle.sm_model.specs.Reaching.{IsMarked}
 use Rattle.sm_model.specs.declared.link.Link.{Link}
 use Rattle.sm_select.specs.Neighbors.{HasStep, IsStepOf}
 
--- exactly these steps were added
-abbrev pub AddsSteps : (ℕ → ℕ → Type 0) → List (List ℕ) → List (List ℕ) → Type 0
-AddsSteps P old now = (a b : ℕ) → HasStep now a b ↔ (HasStep old a b ⊎ P a b)
-
 -- it holds of one of these
 abbrev pub AnyOf : {X : Type 0} → (X → Type 0) → List X → Type 0
 AnyOf P [] = ⊥

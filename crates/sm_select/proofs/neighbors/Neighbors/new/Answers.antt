@@ -1,49 +1,64 @@
-use Rattle.std.proofs.Common.{◌≡◌, ◌+◌, ◌∷◌, ◌⊎◌, ℕ, drop, get_or, subst, sym, ◌∙◌}
-use Rattle.std.specs.Prelude.{◌↔◌}
-use Rattle.std.proofs.lemmas.List.{drop_all, drop_more}
-use Rattle.std.proofs.lemmas.List.Elements.{Contains-get_or}
-use Rattle.sm_model.specs.declared.link.Link.{Link}
-use Rattle.sm_model.specs.declared.relation.Relation.TheVariants.{Member}
-use Rattle.sm_select.specs.Neighbors.{HasStep, IsBelow}
-use Rattle.sm_select.specs.steps.Reaching.{StepsOf}
-use Rattle.sm_select.proofs.StepLists.{long_rows, steps_begun, steps_ended, steps_put}
+use Rattle.std.proofs.Common.{◌≡◌, ◌<◌, ℕ, get_or, length, ap, sym, ◌∙◌, subst, arith}
+use Rattle.std.specs.Vec.{with_items}
+use Rattle.std.proofs.lemmas.List.{with_items_is}
+use Rattle.sm_select.specs.Neighbors.{AreNeighbors}
+use Rattle.sm_select.specs.steps.Runs.{RiseFrom, runs_from}
+use Rattle.sm_select.proofs.FilledRuns.{fills_ended, fills_rise, starts_begun}
+use Rattle.sm_select.proofs.RunLists.{sums_fit}
 use Rattle.sm_select.proofs.neighbors.Neighbors.new.Goals as goal
 
-abbrev nowhere : Link
-nowhere = record { relation = Member; from = 0; to = 0 }
-
-pub put_step-requires : goal.put_step-requires
-put_step-requires c =
-    let at = c.loop-link in
-    let ls = c.args.links.now in
-    subst (λ n. IsBelow n (get_or ls at.link-index nowhere)) (sym at.invariant.count)
-    (c.requires (get_or ls at.link-index nowhere) (Contains-get_or ls at.link-index nowhere c.loop-link-test.true))
-
-pub loop-link-init : goal.loop-link-init
-loop-link-init c = record {
-  count = long_rows c.args.count c.in_ok-rows.rows.items c.in_ok-rows.ensures;
-  steps = steps_begun c.args.back c.args.links.now c.args.count c.in_ok-rows.rows.items c.in_ok-rows.ensures;
+pub to_starts-steps-requires : goal.to_starts-steps-requires
+to_starts-steps-requires c = record {
+  few = sums_fit c.args.back c.args.links.now c.count_steps.new.counts
+      (λ k lt. c.count_steps.ensures.steps k (subst (λ n. k < n) c.count_steps.ensures.whole lt)) (omega (arith, c.well_formed));
 }
 
-pub loop-link-preserved : goal.loop-link-preserved
-loop-link-preserved c =
-    let at = c.loop-link in
-    let i = at.link-index in
-    let ls = c.args.links.now in
-    let back = c.args.back in
-    let next : drop i ls ≡ get_or ls i nowhere ∷ drop (i + 1) ls = drop_more ls i nowhere c.loop-link-test.true in
-    record {
-      count = c.in_ok-put_step.ensures.count ∙ at.invariant.count;
-      steps = steps_put back (get_or ls i nowhere) (drop (i + 1) ls) ls at.rows.items c.put_step.new.rows.items
-          c.in_ok-put_step.ensures.steps
-          (subst (λ xs. (a b : ℕ) → (HasStep at.rows.items a b ⊎ StepsOf back xs a b) ↔ StepsOf back ls a b) next at.invariant.steps);
-    }
+pub put_steps-requires-clause-none : goal.put_steps-requires-clause-none
+put_steps-requires-clause-none c =
+    starts_begun c.args.back c.args.links.now c.count_steps.new.counts c.to_starts-steps.new.counts c.as_mut_slice.result.now
+    c.to_starts-steps.result
+    (λ k lt. c.count_steps.ensures.steps k (subst (λ n. k < n) c.count_steps.ensures.whole lt))
+    c.to_starts-steps.ensures.whole c.to_starts-steps.ensures.starts c.to_starts-steps.ensures.steps
+    (omega (arith, c.as_mut_slice.ensures.len, c.in_ok-numbers.ensures.len))
+
+pub invariant_of-result : goal.invariant_of-result
+invariant_of-result c =
+    let numbers = c.put_steps.new.numbers in
+    let ends = c.put_steps.new.ends in
+    subst (λ es. RiseFrom 0 es (length (with_items c.in_ok-numbers.numbers numbers).items))
+    (sym (with_items_is c.in_ok-ends.ends ends (omega (
+      arith,
+      c.put_steps.auto.ends,
+      c.to_starts-steps.ensures.whole,
+      c.count_steps.ensures.whole,
+      c.as_mut_slice-places.ensures.len,
+    ))))
+    (subst (λ ns. RiseFrom 0 ends (length ns))
+    (sym (with_items_is c.in_ok-numbers.numbers numbers (omega (arith, c.put_steps.auto.numbers, c.as_mut_slice.ensures.len))))
+    (fills_rise (length c.to_starts-steps.new.counts) c.args.back c.args.links.now numbers ends c.put_steps.ensures))
 
 pub returns : goal.returns
 returns c =
-    let at = c.loop-link in
-    let ls = c.args.links.now in
-    let back = c.args.back in
-    steps_ended c.args.count back ls at.rows.items at.invariant.count
-    (subst (λ xs. (a b : ℕ) → (HasStep at.rows.items a b ⊎ StepsOf back xs a b) ↔ StepsOf back ls a b)
-    (drop_all at.link-index ls c.loop-link-test.false) at.invariant.steps)
+    let numbers = c.put_steps.new.numbers in
+    let ends = c.put_steps.new.ends in
+    let count : length c.to_starts-steps.new.counts ≡ c.args.count =
+    omega (
+      arith,
+      c.to_starts-steps.ensures.whole,
+      c.count_steps.ensures.whole,
+      c.as_mut_slice-places.ensures.len,
+      c.in_ok-ends.ensures.len,
+    ) in
+    subst (λ es. AreNeighbors c.args.count c.args.links.now c.args.back
+    (runs_from (with_items c.in_ok-numbers.numbers numbers).items 0 es))
+    (sym (with_items_is c.in_ok-ends.ends ends (omega (
+      arith,
+      c.put_steps.auto.ends,
+      c.to_starts-steps.ensures.whole,
+      c.count_steps.ensures.whole,
+      c.as_mut_slice-places.ensures.len,
+    ))))
+    (subst (λ ns. AreNeighbors c.args.count c.args.links.now c.args.back (runs_from ns 0 ends))
+    (sym (with_items_is c.in_ok-numbers.numbers numbers (omega (arith, c.put_steps.auto.numbers, c.as_mut_slice.ensures.len))))
+    (subst (λ n. AreNeighbors n c.args.links.now c.args.back (runs_from numbers 0 ends)) count
+    (fills_ended (length c.to_starts-steps.new.counts) c.args.back c.args.links.now numbers ends c.put_steps.ensures)))
