@@ -12,8 +12,7 @@ use Rattle.sm_model.specs.declared.relation.Relation.TheVariants.{Container, Err
 use Rattle.sm_model.specs.declared.relation.Relation.TheVariants.{Output, Property, Resource, Target}
 use Rattle.sm_select.specs.Followed.{end_of, start_of}
 use Rattle.sm_select.specs.Neighbors.{AreBelow, AreNeighbors, HasStep, IsBelow, IsStepOf}
-use Rattle.sm_select.specs.steps.Reaching.{StepsOf}
-use Rattle.sm_select.specs.steps.Runs.{Fills, IsPlaced, RiseFrom, followed, runs_from, steps_at, sums, takes}
+use Rattle.sm_select.specs.steps.Runs.{Fills, IsPlaced, RiseFrom, followed, runs_from, steps_at, sums}
 use Rattle.sm_select.proofs.RunLists.{count_runs, in_run, no_step, one_step, rise_sums, run_at, sums_rise}
 use Rattle.sm_select.proofs.RunLists.{sums_same, takes_here, takes_none, takes_other}
 use Rattle.sm_select.proofs.StepLists.{any_in, in_any, same_or_not}

@@ -1,5 +1,5 @@
 -- What the parts of the worklist promise each other.
-use Rattle.std.specs.Prelude.{◌⊎◌, ◌↔◌, ◌<◌, ℕ, Bool, List, [], ◌∷◌}
+use Rattle.std.specs.Prelude.{◌⊎◌, ◌<◌, ℕ, Bool, List, [], ◌∷◌}
 use Rattle.sm_model.specs.Reaching.{IsMarked}
 use Rattle.sm_model.specs.declared.link.Link.{Link}
 use Rattle.sm_select.specs.Neighbors.{HasStep, IsStepOf}

@@ -1,4 +1,4 @@
-use Rattle.std.proofs.Common.{◌≡◌, ◌≤◌, ◌-◌, ◌∷◌, [], ℕ, get_or, length, take, drop, ap, sym, ◌∙◌, subst, arith}
+use Rattle.std.proofs.Common.{◌-◌, get_or, length, take, drop, ap, sym, ◌∙◌, arith}
 use Rattle.sm_select.proofs.RunLists.{rise_at, run_at}
 use Rattle.sm_select.proofs.neighbors.run.Goals as goal
 

@@ -1,5 +1,4 @@
 use Rattle.std.proofs.Common.{get_or, length, suc, arith}
-use Rattle.sm_select.specs.steps.Runs.{sums}
 use Rattle.sm_select.proofs.RunLists.{sums_rise}
 use Rattle.sm_select.proofs.neighbors.to_starts.Goals as goal
 

@@ -1,4 +1,4 @@
-use Rattle.std.proofs.Common.{◌<◌, length, ap, sym, ◌∙◌, subst, arith}
+use Rattle.std.proofs.Common.{length, ap, arith}
 use Rattle.sm_select.proofs.RunLists.{count_runs}
 use Rattle.sm_select.proofs.neighbors.Neighbors.row.Goals as goal
 
