@@ -9,7 +9,7 @@ ghost use Rattle.sm_model.specs.GraphView.{IsShapeNumber};
 ghost use Rattle.sm_model.specs.steps.Linking.{Joins};
 ghost use Rattle.sm_rules.specs.RuleEvents.{Puts};
 ghost use Rattle.sm_rules.specs.parts.Closures.{AreOwnServices, IsClosureOf, IsOwnServiceNumber, ToldOfServices};
-ghost use Rattle.sm_rules.specs.parts.Groups.{AreAllServices, AreStepRows, HaveOneClosure, HaveRow, IsClear};
+ghost use Rattle.sm_rules.specs.parts.Groups.{AreAllServices, AreServiceRows, HaveOneClosure, HaveSteps, IsClear};
 ghost use Rattle.sm_rules.specs.parts.Putting.{ToldOf};
 ghost use Rattle.sm_select.specs.Neighbors.{HasStep};
 ghost use Rattle.sm_select.specs.Ways.{AreWays};
@@ -86,8 +86,7 @@ fn put_runs<R: OfServices>(
     events: &mut Vec<ModelEvent>,
 ) -> Result<(), NoMemory>
     requires ways { AreWays graph.now ways.now }
-    requires own { AreOwnServices graph.now (values_of rows.now) }
-    requires steps { AreStepRows ways.now.on rows.now }
+    requires rows { AreServiceRows graph.now ways.now.on rows.now }
     requires clear { IsClear graph.now closure.old }
     requires knows { R.knows rule.now graph.now }
     ensures { OnOk result (Puts (ToldOf (R.tells rule.now graph.now) (values_of rows.now)) events.old.items events.new.items) }
@@ -110,8 +109,7 @@ fn put_run<R: OfServices>(
     events: &mut Vec<ModelEvent>,
 ) -> Result<usize, NoMemory>
     requires ways { AreWays graph.now ways.now }
-    requires own { AreOwnServices graph.now (values_of rows.now) }
-    requires steps { AreStepRows ways.now.on rows.now }
+    requires rows { AreServiceRows graph.now ways.now.on rows.now }
     requires some { 0 < length rows.now }
     requires clear { IsClear graph.now closure.old }
     requires knows { R.knows rule.now graph.now }
@@ -146,11 +144,12 @@ fn put_group<R: OfServices>(
     ensures clear { OnOk result (IsClear graph.now closure.new) }
     ensures told { OnOk result (Puts (ToldOf (R.tells rule.now graph.now) services.now) events.old.items events.new.items) }
 {
-    if rule.may_tell(graph, services) {
-        closure.walk(graph, ways, services[0])?;
-        rule.put_of_services(alloc, graph, services, closure, events)?;
-        closure.clear();
+    if !rule.may_tell(graph, services) {
+        return Ok(());
     }
+    closure.walk(graph, ways, services[0])?;
+    rule.put_of_services(alloc, graph, services, closure, events)?;
+    closure.clear();
     Ok(())
 }
 
@@ -159,11 +158,11 @@ fn run_len(rows: &[(Vec<u32>, u32)]) -> usize
     requires { 0 < length rows.now }
     ensures some { 0 < result }
     ensures within { result ≤ length rows.now }
-    ensures one { (row : List ℕ) × HaveRow row (take result rows.now) }
+    ensures one { (numbers : List ℕ) × HaveSteps numbers (take result rows.now) }
 {
-    let row = rows[0].0.as_slice();
+    let steps = rows[0].0.as_slice();
     for place in 1..rows.len() {
-        if rows[place].0.as_slice() != row {
+        if rows[place].0.as_slice() != steps {
             return place;
         }
     }
@@ -178,7 +177,7 @@ fn rows_by_steps(
 ) -> Result<Vec<(Vec<u32>, u32)>, NoMemory>
     requires { AreWays graph.now ways.now }
     ensures services { IfOk result (λ rows. AreAllServices graph.now (values_of rows.items)) }
-    ensures steps { IfOk result (λ rows. AreStepRows ways.now.on rows.items) }
+    ensures rows { IfOk result (λ rows. AreServiceRows graph.now ways.now.on rows.items) }
 {
     let mut rows = service_rows(alloc, graph, ways)?;
     rows.sort_unstable_by(|a, b| order_of(a.0.as_slice(), b.0.as_slice()));
@@ -199,7 +198,7 @@ fn service_rows(
 ) -> Result<Vec<(Vec<u32>, u32)>, NoMemory>
     requires { AreWays graph.now ways.now }
     ensures services { IfOk result (λ rows. AreAllServices graph.now (values_of rows.items)) }
-    ensures steps { IfOk result (λ rows. AreStepRows ways.now.on rows.items) }
+    ensures rows { IfOk result (λ rows. AreServiceRows graph.now ways.now.on rows.items) }
 {
     let mut rows = Vec::new(alloc);
     for number in 0..graph.count() {
@@ -218,10 +217,10 @@ fn put_row(
 ) -> Result<(), NoMemory>
     requires number { IsShapeNumber graph.now number }
     requires ways { AreWays graph.now ways.now }
-    requires steps { AreStepRows ways.now.on rows.old.items }
+    requires rows { AreServiceRows graph.now ways.now.on rows.old.items }
     ensures services { OnOk result (Joins (Contains (values_of rows.old.items)) (λ k. (k ≡ number) × IsOwnServiceNumber graph.now k)
         (Contains (values_of rows.new.items))) }
-    ensures steps { OnOk result (AreStepRows ways.now.on rows.new.items) }
+    ensures rows { OnOk result (AreServiceRows graph.now ways.now.on rows.new.items) }
 {
     if is_own_service(graph, number) {
         let steps = steps_once(alloc, ways, number)?;

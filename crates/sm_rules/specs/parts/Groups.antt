@@ -24,16 +24,20 @@ HaveOneClosure g ks =
     (j k : ℕ) → Contains ks j → Contains ks k → (id : List ℕ) → Reaches (maps_of g) (id_of_number g j) id
     → Reaches (maps_of g) (id_of_number g k) id
 
--- each number with those that one step leads to from it, by these steps
-abbrev pub StepRow : Type 0
-StepRow = Vec ℕ × ℕ
+-- a service outside of the prelude, behind the numbers that a step leads to from it, by these steps
+abbrev pub ServiceRow : Type 0
+ServiceRow = Vec ℕ × ℕ
 
-abbrev pub AreStepRows : List (List ℕ) → List StepRow → Type 0
-AreStepRows steps rows = (r : StepRow) → Contains rows r → (b : ℕ) → Contains r.0.items b ↔ HasStep steps r.1 b
+pub record IsServiceRow (g : Graph) (steps : List (List ℕ)) (r : ServiceRow) : Type 0 where
+  pub own : IsOwnServiceNumber g r.1
+  pub to : (b : ℕ) → Contains r.0.items b ↔ HasStep steps r.1 b
 
--- each of these leads by one step to these numbers
-abbrev pub HaveRow : List ℕ → List StepRow → Type 0
-HaveRow row rows = (r : StepRow) → Contains rows r → r.0.items ≡ row
+abbrev pub AreServiceRows : Graph → List (List ℕ) → List ServiceRow → Type 0
+AreServiceRows g steps rows = (r : ServiceRow) → Contains rows r → IsServiceRow g steps r
+
+-- in each of these rows these numbers stand
+abbrev pub HaveSteps : List ℕ → List ServiceRow → Type 0
+HaveSteps numbers rows = (r : ServiceRow) → Contains rows r → r.0.items ≡ numbers
 
 -- room for a closure, where nothing is found yet
 pub record IsClear (g : Graph) (c : Closure) : Type 0 where
