@@ -3,7 +3,7 @@ use Rattle.sm_model.specs.GraphView.{entries_of}
 use Rattle.sm_model.specs.Reaching.{AreMarks}
 use Rattle.sm_service_rules.specs.parts.Naming.{tree_in}
 use Rattle.sm_service_rules.proofs.NamesNumbered.{own_rows}
-use Rattle.sm_service_rules.proofs.later.own_rows.Goals as goal
+use Rattle.sm_service_rules.proofs.earlier.own_rows.Goals as goal
 
 pub returns : goal.returns
 returns c =

@@ -1,10 +1,15 @@
 // Shapes whose names are equal but for case, in the whole graph and in a closure.
-ghost use Rattle.std.specs.Prelude.{◌≡◌, ◌++◌, IfOk, OnOk, Some, false, get_or, length, true};
+ghost use Rattle.std.specs.Prelude.{◌≡◌, ◌↔◌, ◌++◌, ℕ, IfOk, OnOk, Some, false, get_or, length};
+ghost use Rattle.std.specs.List.{Contains};
 ghost use Rattle.sm_model.specs.GraphView.{entries_of};
+ghost use Rattle.sm_model.specs.Reaching.{IsMarked};
 ghost use Rattle.sm_model.specs.declared.graph.Graph.{Graph};
 ghost use Rattle.sm_rules.specs.parts.Firsts.{number_in};
-ghost use Rattle.sm_service_rules.specs.parts.Twins.{AreNames, AreNamesInside, Counts, IsOneNamed, number_under, one_of, two_of};
+ghost use Rattle.sm_service_rules.specs.parts.NameTwins.{AreNames, AreNamesInside, Counts, IsOneNamed};
+ghost use Rattle.sm_service_rules.specs.parts.NameTwins.{earlier_in, number_under, one_of, two_of};
 
+use crate::earlier::earlier_at;
+use sm_rules::closures::Closure;
 use sm_rules::firsts::first_of;
 use sm_tree::NoMemory;
 use std::alloc::Global;
@@ -49,21 +54,23 @@ impl NamesInside<'_, '_> {
     }
 }
 
-// That of a closure, by the names of its graph. n log n in the numbers that stand later under a name.
+// That of a closure, by the names of its graph. n log n in the numbers inside.
 pub(crate) fn names_inside<'a, 'b>(
     alloc: Global,
     firsts: &'a BTreeMap<&'b str, u32>,
-    later: &[(u32, u32)],
-    inside: &'a [bool],
+    earlier: &[Option<u32>],
+    closure: &'a Closure,
 ) -> Result<NamesInside<'a, 'b>, NoMemory>
-    ensures { IfOk result (λ names. (names.inside.now ≡ inside.now)
-        × ((g : Graph) → AreNames g (number_in firsts.now) later.now → length inside.now ≡ length (entries_of g)
-        → AreNamesInside g names)) }
+    requires { (k : ℕ) → Contains closure.now.found.items k ↔ IsMarked closure.now.marks.items k }
+    ensures { IfOk result (λ names. (names.inside.now ≡ closure.now.marks.items)
+        × ((g : Graph) → AreNames g (number_in firsts.now) (earlier_in earlier.now)
+        → length closure.now.marks.items ≡ length (entries_of g) → AreNamesInside g names)) }
 {
+    let inside = closure.marks();
     let mut ones: BTreeMap<u32, u32> = BTreeMap::new(alloc);
     let mut twins: Vec<u32> = Vec::new(alloc);
-    for row in later {
-        count_row(inside, row, &mut ones, &mut twins)?;
+    for number in closure.numbers() {
+        count_number(inside, earlier, *number, &mut ones, &mut twins)?;
     }
     Ok(NamesInside {
         firsts,
@@ -73,39 +80,42 @@ pub(crate) fn names_inside<'a, 'b>(
     })
 }
 
-// Of one number that stands later under a name.
-fn count_row(
+// Of one number inside.
+fn count_number(
     inside: &[bool],
-    row: &(u32, u32),
+    earlier: &[Option<u32>],
+    number: u32,
     ones: &mut BTreeMap<u32, u32>,
     twins: &mut Vec<u32>,
 ) -> Result<(), NoMemory>
-    ensures { OnOk result (Counts (get_or inside.now row.now.0 false) (one_of inside.now (number_under ones.old) (Some row.now.1)) row.now
+    ensures { OnOk result (Counts (earlier_in earlier.now number)
+        (one_of inside.now (number_under ones.old) (earlier_in earlier.now number)) number
         (number_under ones.old) twins.old.items (number_under ones.new) twins.new.items) }
 {
-    if mark_at(inside, row.0) {
-        count_inside(inside, row, ones, twins)
-    } else {
-        Ok(())
+    match earlier_at(earlier, number) {
+        Some(first) => count_later(inside, first, number, ones, twins),
+        None => Ok(()),
     }
 }
 
-fn count_inside(
+// Of one that stands later than this one under a name.
+fn count_later(
     inside: &[bool],
-    row: &(u32, u32),
+    first: u32,
+    number: u32,
     ones: &mut BTreeMap<u32, u32>,
     twins: &mut Vec<u32>,
 ) -> Result<(), NoMemory>
-    ensures { OnOk result (Counts true (one_of inside.now (number_under ones.old) (Some row.now.1)) row.now (number_under ones.old)
+    ensures { OnOk result (Counts (Some first) (one_of inside.now (number_under ones.old) (Some first)) number (number_under ones.old)
         twins.old.items (number_under ones.new) twins.new.items) }
 {
-    match one_of(inside, ones, row.1) {
+    match one_of(inside, ones, first) {
         Some(one) => {
-            put_two(one, row.0, twins)?;
+            put_two(one, number, twins)?;
             Ok(())
         }
         None => {
-            ones.insert(row.1, row.0)?;
+            ones.insert(first, number)?;
             Ok(())
         }
     }
