@@ -1,16 +1,15 @@
--- Services with the same row of steps lead to the same.
+-- Services with the same steps lead to the same.
 use Rattle.std.proofs.Common.{◌≡◌, ◌<◌, ◌≤◌, ◌+◌, ◌-◌, inl, inr, ℕ, Bool, true, false, List, [], ◌∷◌, ◌++◌, drop, get_or, length, take}
 use Rattle.std.specs.Map.{values_of}
-use Rattle.std.proofs.Common.{sym, ap, subst, ◌∙◌, arith}
-use Rattle.std.specs.Prelude.{Some, slice_get}
+use Rattle.std.proofs.Common.{sym, ap, subst, replicate, ◌∙◌, arith}
 use Rattle.std.proofs.Math.Seq.{take-add}
 use Rattle.std.specs.List.{Contains}
 use Rattle.std.specs.List.Sorted.{IsPermutation}
 use Rattle.std.proofs.lemmas.Bool.{cases_lt}
-use Rattle.std.proofs.lemmas.List.{take-append-drop, map-append, take-take, take_more, take_rest}
-use Rattle.std.proofs.lemmas.List.Elements.{Contains-append_left, Contains-append_right, Contains-push_cases}
-use Rattle.std.proofs.lemmas.Option.{none-some, same_Some}
+use Rattle.std.proofs.lemmas.List.{length-map, length-take-le, take-append-drop, map-append, take-take, take_more, take_rest}
+use Rattle.std.proofs.lemmas.List.Elements.{Contains-append_left, Contains-append_right, Contains-push, Contains-push_cases}
 use Rattle.std.proofs.lemmas.List.Sorted.{Contains-permutation, IsPermutation-map, IsPermutation-sym}
+use Rattle.std.proofs.lemmas.Map.Made.{Contains-from_values_of}
 use Rattle.sm_model.specs.EventView.{EventTold}
 use Rattle.sm_model.specs.Graphs.{GraphMaps}
 use Rattle.sm_model.specs.GraphView.{IsShapeNumber, entries_of, maps_of}
@@ -27,72 +26,93 @@ use Rattle.sm_select.specs.Neighbors.{HasStep}
 use Rattle.sm_select.specs.Ways.{AreSteps}
 use Rattle.sm_select.proofs.MarkedNumbers.{marks_same}
 use Rattle.sm_rules.specs.RuleEvents.{Puts}
-use Rattle.sm_rules.specs.parts.Closures.{AreAllServices, AreInside, AreInsideOf, AreOwnServices, AreServicesBelow, HaveOneClosure, HaveRow}
-use Rattle.sm_rules.specs.parts.Closures.{IsOwnServiceNumber, ToldOfServices}
+use Rattle.sm_rules.specs.declared.closures.Closure.{Closure}
+use Rattle.sm_rules.specs.parts.Closures.{AreInside, AreInsideOf, AreOwnServices, IsClosureOf, IsOwnServiceNumber, ToldOfServices}
+use Rattle.sm_rules.specs.parts.Groups.{AreAllServices, AreServiceRows, AreServicesBelow, HaveOneClosure, HaveSteps, IsClear}
+use Rattle.sm_rules.specs.parts.Groups.{IsServiceRow, ServiceRow}
 use Rattle.sm_rules.specs.parts.Putting.{ToldOf}
 use Rattle.sm_rules.specs.parts.Using.{is_own_service}
 use Rattle.sm_rules.proofs.EventsPut.{puts_same}
 use Rattle.sm_rules.proofs.ListPut.{put_joined}
 
-module _ (g : Graph) (rows : List (List ℕ)) (are : AreSteps g false rows) where
+module _ (g : Graph) (steps : List (List ℕ)) (are : AreSteps g false steps) where
   abbrev m : GraphMaps
   m = maps_of g
 
-  module _ (j k : ℕ) (within : IsShapeNumber g j) (same : get_or rows j [] ≡ get_or rows k []) where
+  module _ (j k : ℕ) (within : IsShapeNumber g j) (same : (n : ℕ) → HasStep steps j n → HasStep steps k n) where
     step_shared : (id : List ℕ) → IsNeighbor m (id_of_number g j) id → IsNeighbor m (id_of_number g k) id
     step_shared id h =
         let n = number_of g id (related_in h.0 m (id_of_number g j) id h.2).1 in
-        let step : HasStep rows j n.0 = (are.steps j n.0).1 (within, n.1, subst (IsNeighbor m (id_of_number g j)) (sym n.2) h) in
-        let other : HasStep rows k n.0 = subst (λ row. Contains row n.0) same step in
-        subst (IsNeighbor m (id_of_number g k)) n.2 ((are.steps k n.0).0 other).2
+        let step : HasStep steps j n.0 = (are.steps j n.0).1 (within, n.1, subst (IsNeighbor m (id_of_number g j)) (sym n.2) h) in
+        subst (IsNeighbor m (id_of_number g k)) n.2 ((are.steps k n.0).0 (same n.0 step)).2
 
     -- a walk looks at where it comes from in its first step alone
     walk_shared : (id : List ℕ) → Reaches m (id_of_number g j) id → Reaches m (id_of_number g k) id
     walk_shared id ([], h) = ([], step_shared id h)
     walk_shared id (next ∷ more, h) = (next ∷ more, (step_shared next h.0, h.1))
 
-  pub one_closure : (ks row : List ℕ) → AreOwnServices g ks → HaveRow rows row ks → HaveOneClosure g ks
-  one_closure ks row own same j k at_j at_k id h = walk_shared j k (own j at_j).0 (same j at_j ∙ sym (same k at_k)) id h
+  pub one_closure : (numbers : List ℕ) (rows : List ServiceRow) → AreServiceRows g steps rows → HaveSteps numbers rows
+      → HaveOneClosure g (values_of rows)
+  one_closure numbers rows each have j k at_j at_k id h =
+      let r = Contains-from_values_of rows j at_j in
+      let s = Contains-from_values_of rows k at_k in
+      walk_shared j k (each (r.0, j) r.1).own.0
+      (λ n step. ((each (s.0, k) s.1).to n).0 (subst (λ ns. Contains ns n) (have (r.0, j) r.1 ∙ sym (have (s.0, k) s.1))
+      (((each (r.0, j) r.1).to n).1 step))) id h
 
--- a run of one row, service by service
-module _ (rows : List (List ℕ)) (row ks : List ℕ) where
-  pub row_next : (i d : ℕ) → i < length ks → HaveRow rows row (take i ks) → get_or rows (get_or ks i d) [] ≡ row
-      → HaveRow rows row (take (i + 1) ks)
-  row_next i d within before here k h =
-      elim (Contains-push_cases (take i ks) (get_or ks i d) k (subst (λ ys. Contains ys k) (take_more ks i d within) h)) [
-        | inl old ↦ before k old
-        | inr is ↦ ap (λ j. get_or rows j []) (sym is) ∙ here
+-- rows with these numbers, row by row
+module _ (numbers : List ℕ) (rows : List ServiceRow) where
+  pub steps_next : (i : ℕ) (r : ServiceRow) → i < length rows → r ≡ get_or rows i r → HaveSteps numbers (take i rows)
+      → r.0.items ≡ numbers → HaveSteps numbers (take (i + 1) rows)
+  steps_next i r within is before here s h =
+      let parts : take (i + 1) rows ≡ take i rows ++ r ∷ [] =
+      take_more rows i r within ∙ ap (λ x. take i rows ++ x ∷ []) (sym is) in
+      elim (Contains-push_cases (take i rows) r s (subst (λ xs. Contains xs s) parts h)) [
+        | inl old ↦ before s old
+        | inr same ↦ ap (λ x. x.0.items) (sym same) ∙ here
       ]
 
-  pub row_begun : (d : ℕ) → 0 < length ks → get_or rows (get_or ks 0 d) [] ≡ row → HaveRow rows row (take 1 ks)
-  row_begun d some here = row_next 0 d some (λ k h. absurd (contains_none k h)) here
+  pub steps_begun : (r : ServiceRow) → 0 < length rows → r ≡ get_or rows 0 r → r.0.items ≡ numbers → HaveSteps numbers (take 1 rows)
+  steps_begun r some is here = steps_next 0 r some is (λ s h. absurd (contains_none s h)) here
 
 -- of a part of them
-pub of_first : (P : ℕ → Type 0) (n : ℕ) (ks : List ℕ) → ((k : ℕ) → Contains ks k → P k) → (k : ℕ) → Contains (take n ks) k → P k
-of_first P n ks all k h =
-    all k (subst (λ xs. Contains xs k) (take-append-drop n ks) (Contains-append_left (take n ks) (drop n ks) k h))
+module _ {X : Type 0} (P : X → Type 0) (n : ℕ) (xs : List X) (all : (x : X) → Contains xs x → P x) where
+  pub of_first : (x : X) → Contains (take n xs) x → P x
+  of_first x h = all x (subst (λ ys. Contains ys x) (take-append-drop n xs) (Contains-append_left (take n xs) (drop n xs) x h))
 
-pub of_rest : (P : ℕ → Type 0) (n : ℕ) (ks : List ℕ) → ((k : ℕ) → Contains ks k → P k) → (k : ℕ)
-    → Contains (take (length ks - n) (drop n ks)) k → P k
-of_rest P n ks all k h =
-    all k
-    (subst (λ xs. Contains xs k) (take-append-drop n ks)
-    (Contains-append_right (take n ks) (drop n ks) k (subst (λ xs. Contains xs k) (take_rest ks n) h)))
+  pub of_rest : (x : X) → Contains (take (length xs - n) (drop n xs)) x → P x
+  of_rest x h =
+      all x
+      (subst (λ ys. Contains ys x) (take-append-drop n xs)
+      (Contains-append_right (take n xs) (drop n xs) x (subst (λ ys. Contains ys x) (take_rest xs n) h)))
 
--- the first of them is one
-pub first_one : (ks : List ℕ) (s : ℕ) → Some s ≡ slice_get ks 0 → Contains ks s
-first_one [] s is = absurd (none-some s (sym is))
-first_one (k ∷ ks) s is = (0, omega arith, same_Some k s (sym is))
+-- of their services
+pub own_services : (g : Graph) (steps : List (List ℕ)) (rows : List ServiceRow) → AreServiceRows g steps rows
+    → AreOwnServices g (values_of rows)
+own_services g steps rows each k h = let r = Contains-from_values_of rows k h in (each (r.0, k) r.1).own
 
--- the marks of one closure
-pub inside_shared : (g : Graph) (ks : List ℕ) (s : ℕ) → Contains ks s → HaveOneClosure g ks → (marks : List Bool) → AreInside g s marks
-    → AreInsideOf g ks marks
-inside_shared g ks s at one marks are = (are.whole, each)
-  where
-    each : (k : ℕ) → Contains ks k → AreInside g k marks
-    each k there =
-        marks_same _ _ (length (entries_of g)) marks
-        (λ n small. (one s k at there (id_of_number g n), one k s there at (id_of_number g n))) are
+pub some_services : (rows : List ServiceRow) (n : ℕ) → 0 < n → n ≤ length rows → 0 < length (values_of (take n rows))
+some_services rows n some within =
+    let long = length-map (take n rows) (λ r. r.1) in
+    let taken = length-take-le n rows within in omega (arith, long, taken, some)
+
+-- the closure of one of some that lead to the same
+module _ (g : Graph) (ks : List ℕ) (s : ℕ) (at : Contains ks s) (one : HaveOneClosure g ks) where
+  inside_shared : (marks : List Bool) → AreInsideOf g (s ∷ []) marks → AreInsideOf g ks marks
+  inside_shared marks are = (are.0, each)
+    where
+      each : (k : ℕ) → Contains ks k → AreInside g k marks
+      each k there =
+          marks_same _ _ (length (entries_of g)) marks
+          (λ n small. (one s k at there (id_of_number g n), one k s there at (id_of_number g n))) (are.1 s (Contains-push [] s))
+
+  pub closure_shared : (c : Closure) → IsClosureOf g (s ∷ []) c → IsClosureOf g ks c
+  closure_shared c is = record { inside = inside_shared c.marks.items is.inside; found = is.found }
+
+-- what was walked and then taken back
+pub cleared : (g : Graph) (ks : List ℕ) (c now : Closure) → IsClosureOf g ks c
+    → now.marks.items ≡ replicate (length c.marks.items) false → now.found.items ≡ [] → IsClear g now
+cleared g ks c now is marks found = record { marks = marks ∙ ap (λ n. replicate n false) is.inside.0; found = found }
 
 -- all services, number by number
 module _ (g : Graph) where
@@ -144,6 +164,15 @@ module _ (g : Graph) where
         λ own. Contains-permutation (values_of xs) (values_of ys) k numbers ((all k).1 own),
       )
 
+  -- and their rows
+  pub rows_joined : (steps : List (List ℕ)) (olds news : List ServiceRow) (row : ServiceRow) → news ≡ olds ++ row ∷ []
+      → AreServiceRows g steps olds → IsServiceRow g steps row → AreServiceRows g steps news
+  rows_joined steps olds news row is before here r h =
+      elim (Contains-push_cases olds row r (subst (λ rs. Contains rs r) is h)) [
+        | inl old ↦ before r old
+        | inr same ↦ subst (IsServiceRow g steps) same here
+      ]
+
   pub told_services : (Told : ℕ → EventTold → Type 0) (ks : List ℕ) → AreAllServices g ks → (a b : List ModelEvent)
       → Puts (ToldOf Told ks) a b → Puts (ToldOfServices g Told) a b
   told_services Told ks all a b h =
@@ -151,10 +180,13 @@ module _ (g : Graph) where
       (λ e. (λ t. (t.0, (all t.0).0 t.1, t.2), λ t. (t.0, (all t.0).1 t.1, t.2))) h
 
 -- the first of what is left of a list
-pub run_told : (Told : ℕ → EventTold → Type 0) (ks : List ℕ) (begin count : ℕ) → count ≤ length ks - begin → (a b c : List ModelEvent)
-    → Puts (ToldOf Told (take begin ks)) a b → Puts (ToldOf Told (take count (take (length ks - begin) (drop begin ks)))) b c
-    → Puts (ToldOf Told (take (begin + count) ks)) a c
-run_told Told ks begin count within a b c before run =
-    subst (λ xs. Puts (ToldOf Told xs) a c) (sym (take-add begin count ks))
-    (put_joined Told (take begin ks) (take count (drop begin ks)) a b c before
-    (subst (λ xs. Puts (ToldOf Told xs) b c) (take-take count (length ks - begin) (drop begin ks) within) run))
+pub run_told : (Told : ℕ → EventTold → Type 0) (rows : List ServiceRow) (begin count : ℕ) → count ≤ length rows - begin
+    → (a b c : List ModelEvent) → Puts (ToldOf Told (values_of (take begin rows))) a b
+    → Puts (ToldOf Told (values_of (take count (take (length rows - begin) (drop begin rows))))) b c
+    → Puts (ToldOf Told (values_of (take (begin + count) rows))) a c
+run_told Told rows begin count within a b c before run =
+    let front = take begin rows in
+    let next = take count (drop begin rows) in
+    subst (λ ks. Puts (ToldOf Told ks) a c) (sym (ap values_of (take-add begin count rows) ∙ map-append (λ r. r.1) front next))
+    (put_joined Told (values_of front) (values_of next) a b c before
+    (subst (λ rs. Puts (ToldOf Told (values_of rs)) b c) (take-take count (length rows - begin) (drop begin rows) within) run))

@@ -8,6 +8,7 @@ pub mod Excluding
 pub mod Firsts
 pub mod Folded
 pub mod Forms
+pub mod Groups
 pub mod Http
 pub mod InBody
 pub mod Judging

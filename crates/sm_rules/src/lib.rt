@@ -16,6 +16,7 @@ pub mod judged;
 pub mod known;
 pub mod marked;
 pub mod methods;
+pub mod numbers;
 pub mod owned;
 pub mod putting;
 pub mod repeats;

@@ -1,18 +1,21 @@
 // What is told of services, where those with the same references are looked at together.
-ghost use Rattle.std.specs.Prelude.{◌≡◌, ◌<◌, ◌≤◌, IfOk, ℕ, OnOk, length, take};
+ghost use Rattle.std.specs.Prelude.{◌≡◌, ◌↔◌, ◌<◌, ◌≤◌, ℕ, List, IfOk, OnOk, false, length, take};
 ghost use Rattle.std.specs.Cmp.Lexicographic.{slice_cmp};
 ghost use Rattle.std.specs.List.{Contains};
 ghost use Rattle.std.specs.Map.{values_of};
 ghost use Rattle.std.specs.Ordering.{nat_cmp};
+ghost use Rattle.sm_model.specs.EventView.{EventTold};
 ghost use Rattle.sm_model.specs.GraphView.{IsShapeNumber};
 ghost use Rattle.sm_model.specs.steps.Linking.{Joins};
 ghost use Rattle.sm_rules.specs.RuleEvents.{Puts};
-ghost use Rattle.sm_rules.specs.parts.Closures.{AreAllServices, AreOwnServices, HaveOneClosure, IsOwnServiceNumber};
-ghost use Rattle.sm_rules.specs.parts.Closures.{ToldOfServices};
+ghost use Rattle.sm_rules.specs.parts.Closures.{AreOwnServices, IsClosureOf, IsOwnServiceNumber, ToldOfServices};
+ghost use Rattle.sm_rules.specs.parts.Groups.{AreAllServices, AreServiceRows, HaveOneClosure, HaveSteps, IsClear};
 ghost use Rattle.sm_rules.specs.parts.Putting.{ToldOf};
+ghost use Rattle.sm_select.specs.Neighbors.{HasStep};
 ghost use Rattle.sm_select.specs.Ways.{AreWays};
 
-use crate::closures::is_own_service;
+use crate::closures::{Closure, is_own_service};
+use crate::numbers::{numbers_of, rising};
 use sm_model::{Graph, ModelEvent};
 use sm_select::Ways;
 use sm_tree::NoMemory;
@@ -30,25 +33,31 @@ pub trait OfServices {
     /// What it knows of the graph.
     ghost knows: { Self → Graph → Type 0 };
 
-    /// Puts the events of these services.
+    /// Whether something may be told of these services. Where nothing may, their closure isn't walked.
+    fn may_tell(&self, graph: &Graph, services: &[u32]) -> bool
+        requires own { AreOwnServices graph.now services.now }
+        requires knows { knows self.now graph.now }
+        ensures { result ≡ false → (k : ℕ) → Contains services.now k → (e : EventTold) → tells self.now graph.now k e → ⊥ };
+
+    /// Puts the events of these services, one or more that lead to the same, by their closure.
     fn put_of_services(
         &self,
         alloc: Global,
         graph: &Graph,
-        ways: &Ways,
         services: &[u32],
+        closure: &Closure,
         events: &mut Vec<ModelEvent>,
     ) -> Result<(), NoMemory>
-        requires ways { AreWays graph.now ways.now }
         requires own { AreOwnServices graph.now services.now }
         requires some { 0 < length services.now }
-        requires one { HaveOneClosure graph.now services.now }
+        requires closure { IsClosureOf graph.now services.now closure.now }
         requires knows { knows self.now graph.now }
         ensures { OnOk result (Puts (ToldOf (tells self.now graph.now) services.now) events.old.items events.new.items) };
 }
 
-/// Puts the events of all services outside of the prelude. Those with the same references are handed over together: n log n in
-/// services and references, beside what the rule takes.
+/// Puts the events of all services outside of the prelude. Those with the same references, in any order and any number of times, are
+/// handed over together, with what they lead to. n log n in services and references, beside a mark for each number, a walk of the
+/// closure of each such group of which something may be told, and what the rule takes.
 pub fn put_by_closures<R: OfServices>(
     alloc: Global,
     graph: &Graph,
@@ -60,28 +69,39 @@ pub fn put_by_closures<R: OfServices>(
     requires knows { R.knows rule.now graph.now }
     ensures { OnOk result (Puts (ToldOfServices graph.now (R.tells rule.now graph.now)) events.old.items events.new.items) }
 {
-    let services = services_by_steps(alloc, graph, ways)?;
-    put_runs(alloc, graph, ways, rule, services.as_slice(), events)?;
+    let rows = rows_by_steps(alloc, graph, ways)?;
+    let mut closure = Closure::new(alloc, graph)?;
+    put_runs(
+        alloc,
+        graph,
+        ways,
+        rule,
+        rows.as_slice(),
+        &mut closure,
+        events,
+    )?;
     Ok(())
 }
 
-// Puts those of these services, run by run.
+// Puts those of the services of these rows, run by run.
 fn put_runs<R: OfServices>(
     alloc: Global,
     graph: &Graph,
     ways: &Ways,
     rule: &R,
-    services: &[u32],
+    rows: &[(Vec<u32>, u32)],
+    closure: &mut Closure,
     events: &mut Vec<ModelEvent>,
 ) -> Result<(), NoMemory>
     requires ways { AreWays graph.now ways.now }
-    requires own { AreOwnServices graph.now services.now }
+    requires rows { AreServiceRows graph.now ways.now.on rows.now }
+    requires clear { IsClear graph.now closure.old }
     requires knows { R.knows rule.now graph.now }
-    ensures { OnOk result (Puts (ToldOf (R.tells rule.now graph.now) services.now) events.old.items events.new.items) }
+    ensures { OnOk result (Puts (ToldOf (R.tells rule.now graph.now) (values_of rows.now)) events.old.items events.new.items) }
 {
     let mut begin = 0;
-    while begin < services.len() {
-        begin += put_run(alloc, graph, ways, rule, &services[begin..], events)?;
+    while begin < rows.len() {
+        begin += put_run(alloc, graph, ways, rule, &rows[begin..], closure, events)?;
     }
     Ok(())
 }
@@ -92,49 +112,92 @@ fn put_run<R: OfServices>(
     graph: &Graph,
     ways: &Ways,
     rule: &R,
-    services: &[u32],
+    rows: &[(Vec<u32>, u32)],
+    closure: &mut Closure,
     events: &mut Vec<ModelEvent>,
 ) -> Result<usize, NoMemory>
     requires ways { AreWays graph.now ways.now }
-    requires own { AreOwnServices graph.now services.now }
-    requires some { 0 < length services.now }
+    requires rows { AreServiceRows graph.now ways.now.on rows.now }
+    requires some { 0 < length rows.now }
+    requires clear { IsClear graph.now closure.old }
     requires knows { R.knows rule.now graph.now }
     ensures some { IfOk result (λ count. 0 < count) }
-    ensures within { IfOk result (λ count. count ≤ length services.now) }
+    ensures within { IfOk result (λ count. count ≤ length rows.now) }
+    ensures clear { OnOk result (IsClear graph.now closure.new) }
     ensures told { IfOk result
-        (λ count. Puts (ToldOf (R.tells rule.now graph.now) (take count services.now)) events.old.items events.new.items) }
+        (λ count. Puts (ToldOf (R.tells rule.now graph.now) (values_of (take count rows.now))) events.old.items events.new.items) }
 {
-    let count = run_len(graph, ways, services);
-    rule.put_of_services(alloc, graph, ways, &services[..count], events)?;
+    let count = run_len(rows);
+    let services = numbers_of(alloc, &rows[..count])?;
+    put_group(
+        alloc,
+        graph,
+        ways,
+        rule,
+        services.as_slice(),
+        closure,
+        events,
+    )?;
     Ok(count)
 }
 
-// How many services from the first one on have its steps.
-fn run_len(graph: &Graph, ways: &Ways, services: &[u32]) -> usize
+// Puts those of services that lead to the same. Their closure is walked where something may be told of them.
+fn put_group<R: OfServices>(
+    alloc: Global,
+    graph: &Graph,
+    ways: &Ways,
+    rule: &R,
+    services: &[u32],
+    closure: &mut Closure,
+    events: &mut Vec<ModelEvent>,
+) -> Result<(), NoMemory>
     requires ways { AreWays graph.now ways.now }
     requires own { AreOwnServices graph.now services.now }
     requires some { 0 < length services.now }
-    ensures some { 0 < result }
-    ensures within { result ≤ length services.now }
-    ensures one { HaveOneClosure graph.now (take result services.now) }
+    requires one { HaveOneClosure graph.now services.now }
+    requires clear { IsClear graph.now closure.old }
+    requires knows { R.knows rule.now graph.now }
+    ensures clear { OnOk result (IsClear graph.now closure.new) }
+    ensures told { OnOk result (Puts (ToldOf (R.tells rule.now graph.now) services.now) events.old.items events.new.items) }
 {
-    let row = ways.on.row(services[0]);
-    for place in 1..services.len() {
-        if ways.on.row(services[place]) != row {
+    if !rule.may_tell(graph, services) {
+        return Ok(());
+    }
+    closure.walk(graph, ways, services[0])?;
+    rule.put_of_services(alloc, graph, services, closure, events)?;
+    closure.clear();
+    Ok(())
+}
+
+// How many rows from the first one on have its steps.
+fn run_len(rows: &[(Vec<u32>, u32)]) -> usize
+    requires { 0 < length rows.now }
+    ensures some { 0 < result }
+    ensures within { result ≤ length rows.now }
+    ensures one { (numbers : List ℕ) × HaveSteps numbers (take result rows.now) }
+{
+    let steps = rows[0].0.as_slice();
+    for place in 1..rows.len() {
+        if rows[place].0.as_slice() != steps {
             return place;
         }
     }
-    services.len()
+    rows.len()
 }
 
-// All services outside of the prelude, in the order of their rows of steps: those with the same references stand together.
-fn services_by_steps(alloc: Global, graph: &Graph, ways: &Ways) -> Result<Vec<u32>, NoMemory>
+// All services outside of the prelude, in the order of what a step leads to from them: those with the same references stand together.
+fn rows_by_steps(
+    alloc: Global,
+    graph: &Graph,
+    ways: &Ways,
+) -> Result<Vec<(Vec<u32>, u32)>, NoMemory>
     requires { AreWays graph.now ways.now }
-    ensures { IfOk result (λ services. AreAllServices graph.now services.items) }
+    ensures services { IfOk result (λ rows. AreAllServices graph.now (values_of rows.items)) }
+    ensures rows { IfOk result (λ rows. AreServiceRows graph.now ways.now.on rows.items) }
 {
     let mut rows = service_rows(alloc, graph, ways)?;
-    rows.sort_unstable_by(|a, b| order_of(a.0, b.0));
-    numbers_of(alloc, rows.as_slice())
+    rows.sort_unstable_by(|a, b| order_of(a.0.as_slice(), b.0.as_slice()));
+    Ok(rows)
 }
 
 fn order_of(a: &[u32], b: &[u32]) -> Ordering
@@ -143,46 +206,47 @@ fn order_of(a: &[u32], b: &[u32]) -> Ordering
     a.cmp(b)
 }
 
-// The services, each with its row of steps.
-fn service_rows<'a>(
-    alloc: Global,
-    graph: &Graph,
-    ways: &'a Ways,
-) -> Result<Vec<(&'a [u32], u32)>, NoMemory>
+// The services, each with the numbers that a step leads to from it, rising.
+fn service_rows(alloc: Global, graph: &Graph, ways: &Ways) -> Result<Vec<(Vec<u32>, u32)>, NoMemory>
     requires { AreWays graph.now ways.now }
-    ensures { IfOk result (λ rows. AreAllServices graph.now (values_of rows.items)) }
+    ensures services { IfOk result (λ rows. AreAllServices graph.now (values_of rows.items)) }
+    ensures rows { IfOk result (λ rows. AreServiceRows graph.now ways.now.on rows.items) }
 {
     let mut rows = Vec::new(alloc);
     for number in 0..graph.count() {
-        put_row(graph, ways, number, &mut rows)?;
+        put_row(alloc, graph, ways, number, &mut rows)?;
     }
     Ok(rows)
 }
 
 // Puts a number, if it is a service's.
-fn put_row<'a>(
+fn put_row(
+    alloc: Global,
     graph: &Graph,
-    ways: &'a Ways,
+    ways: &Ways,
     number: u32,
-    rows: &mut Vec<(&'a [u32], u32)>,
+    rows: &mut Vec<(Vec<u32>, u32)>,
 ) -> Result<(), NoMemory>
     requires number { IsShapeNumber graph.now number }
     requires ways { AreWays graph.now ways.now }
-    ensures { OnOk result (Joins (Contains (values_of rows.old.items)) (λ k. (k ≡ number) × IsOwnServiceNumber graph.now k)
+    requires rows { AreServiceRows graph.now ways.now.on rows.old.items }
+    ensures services { OnOk result (Joins (Contains (values_of rows.old.items)) (λ k. (k ≡ number) × IsOwnServiceNumber graph.now k)
         (Contains (values_of rows.new.items))) }
+    ensures rows { OnOk result (AreServiceRows graph.now ways.now.on rows.new.items) }
 {
     if is_own_service(graph, number) {
-        rows.push((ways.on.row(number), number))?;
+        let steps = steps_once(alloc, ways, number)?;
+        rows.push((steps, number))?;
     }
     Ok(())
 }
 
-fn numbers_of(alloc: Global, rows: &[(&[u32], u32)]) -> Result<Vec<u32>, NoMemory>
-    ensures { IfOk result (λ numbers. numbers.items ≡ values_of rows.now) }
+// The numbers that a step leads to from a number, rising, each once.
+fn steps_once(alloc: Global, ways: &Ways, number: u32) -> Result<Vec<u32>, NoMemory>
+    requires { number < length ways.now.on }
+    ensures { IfOk result (λ steps. (b : ℕ) → Contains steps.items b ↔ HasStep ways.now.on number b) }
 {
-    let mut numbers = Vec::with_capacity(alloc, rows.len())?;
-    for row in rows {
-        numbers.push(row.1)?;
-    }
-    Ok(numbers)
+    let mut steps = Vec::new(alloc);
+    steps.extend_from_slice(ways.on.row(number))?;
+    Ok(rising(steps))
 }

@@ -28,7 +28,7 @@ use Rattle.sm_rules.specs.parts.Folded.{folded}
 use Rattle.sm_rules.proofs.ExclusiveTraits.{entry_there}
 use Rattle.sm_service_rules.specs.parts.Naming.{AreAlikeAmong, IsGivenKey, IsKeyBy, IsNameBy, IsOwnKey, is_named, is_own_named}
 use Rattle.sm_service_rules.specs.parts.Renaming.{HasAlike, HasRenamed, IsMore, IsOneGiven}
-use Rattle.sm_service_rules.specs.parts.Twins.{AreTwins, IsOneNamed}
+use Rattle.sm_service_rules.specs.parts.NameTwins.{AreNameTwins, IsOneNamed}
 
 -- the pair that gives a name
 pair_named : (pairs : List (List ℕ × Tree)) (key name : List ℕ) → text_of (tree_named key (members_of (members_view pairs))) ≡ Some name
@@ -153,7 +153,7 @@ module _ (g : Graph) where
     pair_stays p a b more h = (λ k small is. more k (h.0 k small is), (h.1.0, h.1.1, one_stays a b h.1.0 more h.1.2))
 
     -- the twins alone, where nothing is renamed; one pair more; the same numbers
-    pub alike_first : length inside ≡ length (entries_of g) → (ts ns : List ℕ) → AreTwins g inside ts → ns ≡ ts
+    pub alike_first : length inside ≡ length (entries_of g) → (ts ns : List ℕ) → AreNameTwins g inside ts → ns ≡ ts
         → HasAlike g inside [] ns
     alike_first whole ts ns are is = subst (HasAlike g inside []) (sym is) (record {
       within = λ k c. marked_number g inside whole k ((are k).0 c).0;

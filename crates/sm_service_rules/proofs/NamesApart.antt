@@ -1,23 +1,21 @@
 -- Where no two names of a graph are equal but for case, nothing is told of a service that gives none.
-use Rattle.std.proofs.Common.{◌≡◌, ℕ, true, List, None, refl, sym, ap, ◌∙◌, subst}
-use Rattle.std.specs.Prelude.{◌&&◌}
+use Rattle.std.proofs.Common.{◌≡◌, ℕ, Bool, true, false, List, None, refl, sym, ap, ◌∙◌, subst}
+use Rattle.std.specs.Prelude.{◌&&◌, not}
 use Rattle.std.specs.List.{Contains}
 use Rattle.std.specs.Option.{unwrap_or}
 use Rattle.sm_tree.specs.Parts.{tree_named}
 use Rattle.sm_tree.specs.Same.{HasName}
+use Rattle.sm_model.specs.EventView.{EventTold}
 use Rattle.sm_model.specs.Graphs.{text_cmp, shape_entry, ShapeEntry, GraphMaps}
 use Rattle.sm_model.specs.GraphView.{maps_of}
 use Rattle.sm_model.specs.Reaching.{id_of_number}
 use Rattle.sm_model.specs.Relations.{HasEntry}
-use Rattle.sm_model.specs.declared.event.ModelEvent.{ModelEvent}
 use Rattle.sm_model.specs.declared.graph.Graph.{Graph}
 use Rattle.sm_model.proofs.NumberedIds.{number_of}
+use Rattle.sm_model.proofs.Worklist.{apart}
 use Rattle.sm_compile.specs.Looked.{kind_in, kind_under}
 use Rattle.sm_compile.specs.rules.Services.{HasWrongNames, IsNamedIn, name_again, wrong_rename}
-use Rattle.sm_rules.specs.RuleEvents.{Puts}
 use Rattle.sm_rules.specs.parts.Folded.{folded, is_own_shape}
-use Rattle.sm_rules.specs.parts.Putting.{ToldOf}
-use Rattle.sm_rules.proofs.EventsPut.{puts_none}
 use Rattle.sm_rules.proofs.IdsRise.{falling}
 use Rattle.sm_rules.proofs.OwnShapes.{told_own}
 use Rattle.sm_service_rules.specs.parts.Naming.{AreNamesApart, GivesNone, IsOwnKey, ToldNames, is_named_kind, renames_under}
@@ -65,8 +63,12 @@ module _ (g : Graph) (service : ℕ) (differ : AreNamesApart g) (none : GivesNon
   untold detail (wrong_rename h) =
       subst (HasName detail) (sym (renames_are m sid h.v h.own.0 h.pairs h.rename) ∙ none) h.among
 
+-- what isn't false
+pub was_true : (b : Bool) → not b ≡ false → b ≡ true
+was_true true h = refl
+was_true false h = absurd (apart (sym h))
+
 -- nor of some of them
-pub settled_each : (g : Graph) (services : List ℕ) → AreNamesApart g → ((k : ℕ) → Contains services k → GivesNone g k)
-    → (es : List ModelEvent) → Puts (ToldOf (ToldNames g) services) es es
-settled_each g services differ none es =
-    puts_none (ToldOf (ToldNames g) services) es (λ e h. untold g h.0 differ (none h.0 h.1) h.2.0 h.2.1)
+pub untold_each : (g : Graph) (services : List ℕ) → AreNamesApart g → ((k : ℕ) → Contains services k → GivesNone g k)
+    → (k : ℕ) → Contains services k → (e : EventTold) → ToldNames g k e → ⊥
+untold_each g services differ none k among e h = untold g k differ (none k among) h.0 h.1

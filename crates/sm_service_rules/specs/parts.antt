@@ -1,4 +1,4 @@
 pub mod Naming
-pub mod Twins
+pub mod NameTwins
 pub mod Renaming
 pub mod Finding

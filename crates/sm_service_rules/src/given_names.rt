@@ -1,5 +1,5 @@
 // The numbers whose names may be told at a service: twins in its closure, what it renames, and what has a name that it gives.
-ghost use Rattle.std.specs.Prelude.{◌≡◌, ◌↔◌, ◌++◌, ◌∷◌, [], ℕ, IfOk, IfSome, OnOk, Option, Some};
+ghost use Rattle.std.specs.Prelude.{◌≡◌, ℕ, IfOk, IfSome, OnOk, Option, Some};
 ghost use Rattle.std.specs.List.{Contains};
 ghost use Rattle.std.specs.List.Sorted.{IsStrictlyIncreasing};
 ghost use Rattle.sm_tree.specs.View.{node_of};
@@ -7,12 +7,13 @@ ghost use Rattle.sm_model.specs.GraphView.{IsShapeNumber};
 ghost use Rattle.sm_model.specs.Reaching.{id_of_number};
 ghost use Rattle.sm_compile.specs.TraitNodes.{text_of};
 ghost use Rattle.sm_service_rules.specs.parts.Renaming.{HasAlike, HasRenamed, IsMore, IsOneGiven};
-ghost use Rattle.sm_service_rules.specs.parts.Twins.{AreNamesInside};
+ghost use Rattle.sm_service_rules.specs.parts.NameTwins.{AreNamesInside};
 
-use crate::twins::NamesInside;
+use crate::name_twins::NamesInside;
 use sm_compile::text_in_trait;
 use sm_model::Graph;
 use sm_rules::case::folded;
+use sm_rules::numbers::rising;
 use sm_tree::{NoMemory, Text, Tree};
 use std::alloc::Global;
 
@@ -118,15 +119,4 @@ fn one_given(
         }
         None => Ok(None),
     }
-}
-
-// The same numbers, each once.
-fn rising(numbers: Vec<u32>) -> Vec<u32>
-    ensures rise { IsStrictlyIncreasing result.items }
-    ensures same { (k : ℕ) → Contains numbers.items k ↔ Contains result.items k }
-{
-    let mut numbers = numbers;
-    numbers.sort_unstable();
-    numbers.dedup();
-    numbers
 }

@@ -1,5 +1,5 @@
 // Service.Names: names in the closure of a service differ, not by case alone, and `rename` names what may have a new name.
-ghost use Rattle.std.specs.Prelude.{◌≡◌, ◌↔◌, [], ℕ, OnOk, length, true};
+ghost use Rattle.std.specs.Prelude.{◌≡◌, ◌↔◌, ℕ, None, OnOk, length, true};
 ghost use Rattle.std.specs.List.{Contains};
 ghost use Rattle.std.specs.Option.{option_map, unwrap_or};
 ghost use Rattle.sm_tree.specs.Node.{members_of, no_members};
@@ -12,22 +12,22 @@ ghost use Rattle.sm_compile.specs.rules.Services.{HasWrongNames};
 ghost use Rattle.sm_rules.specs.RuleEvents.{IsEventAt, IsEventOf, Puts, rule_event};
 ghost use Rattle.sm_rules.specs.declared.rule.Rule.TheVariants.{ServiceNames};
 ghost use Rattle.sm_rules.specs.parts.Putting.{ToldOf};
-ghost use Rattle.sm_rules.specs.parts.Closures.{AreInside, AreInsideOf, AreOwnServices, HaveOneClosure};
+ghost use Rattle.sm_rules.specs.parts.Closures.{AreInside, AreInsideOf, AreOwnServices};
 ghost use Rattle.sm_rules.specs.parts.Firsts.{number_in};
 ghost use Rattle.sm_rules.specs.parts.Using.{is_own_service};
 ghost use Rattle.sm_service_rules.specs.parts.Naming.{GivesNone, IsWrongBy, IsWrongName, ToldAgain, ToldNames, ToldWrong};
 ghost use Rattle.sm_service_rules.specs.parts.Naming.{is_kept_kind, is_left, keeps_name, pairs_where, renames_under};
-ghost use Rattle.sm_service_rules.specs.parts.Twins.{AreNames, AreNamesInside};
+ghost use Rattle.sm_service_rules.specs.parts.NameTwins.{AreNames, AreNamesInside, earlier_in};
 
+use crate::earlier::{are_apart, earlier_numbers, own_rows};
 use crate::given_names::numbers_alike;
-use crate::later::{later_rows, own_rows};
+use crate::name_twins::{NamesInside, names_inside};
 use crate::named::{names_given, rows_among};
-use crate::twins::{NamesInside, names_inside};
 use sm_compile::{field_of, id_text, kind_of};
 use sm_model::{Graph, Kind, ModelEvent, pairs_of};
 use sm_rules::Rule;
 use sm_rules::carried::carries;
-use sm_rules::closures::closure_shared;
+use sm_rules::closures::Closure;
 use sm_rules::earlier::{OfFirst, put_later};
 use sm_rules::firsts::first_numbers;
 use sm_rules::putting::{put_event, put_if};
@@ -38,8 +38,8 @@ use std::alloc::Global;
 use std::collections::BTreeMap;
 
 /// Puts the events of the rule, by the ways of the graph. n log n where no two names of the graph are equal but for case and no service
-/// gives names; else services that lead to the same share a walk of their closure and what it has of names, and each of them is n log n
-/// in the names that others of its closure have and in its `rename`.
+/// gives names; else services with the same references share a walk of their closure and what it has of names, n log n in the closure,
+/// and each of them is n log n in the names that others of its closure have and in its `rename`.
 pub fn put_names(
     alloc: Global,
     graph: &Graph,
@@ -52,52 +52,50 @@ pub fn put_names(
 {
     let rows = own_rows(alloc, graph)?;
     let firsts = first_numbers(alloc, rows.as_slice())?;
-    let later = later_rows(alloc, &firsts, rows.as_slice())?;
+    let earlier = earlier_numbers(alloc, graph, &firsts, rows.as_slice())?;
     let names = Names {
         firsts: &firsts,
-        later: later.as_slice(),
+        earlier: earlier.as_slice(),
+        apart: are_apart(earlier.as_slice()),
     };
     put_by_closures(alloc, graph, ways, &names, events)?;
     Ok(())
 }
 
-// The names of a graph: what stands first under each, and the other numbers of a name, each with the first one.
+// The names of a graph: what stands first under each, and, for each other number of a name, that first one.
 #[derive(Drop)]
 struct Names<'a, 'b> {
     firsts: &'a BTreeMap<&'b str, u32>,
-    later: &'a [(u32, u32)],
+    earlier: &'a [Option<u32>],
+    // No two are equal but for case.
+    apart: bool,
 }
 
 impl OfServices for Names<'_, '_> {
     ghost tells = { λ rule g k e. ToldNames g k e };
 
-    ghost knows = { λ rule g. AreNames g (number_in rule.firsts.now) rule.later.now };
+    ghost knows = { λ rule g. AreNames g (number_in rule.firsts.now) (earlier_in rule.earlier.now)
+        × (rule.apart ≡ true → (k : ℕ) → earlier_in rule.earlier.now k ≡ None) };
+
+    fn may_tell(&self, graph: &Graph, services: &[u32]) -> bool {
+        !self.apart || !give_none(graph, services)
+    }
 
     fn put_of_services(
         &self,
         alloc: Global,
         graph: &Graph,
-        ways: &Ways,
         services: &[u32],
+        closure: &Closure,
         events: &mut Vec<ModelEvent>,
     ) -> Result<(), NoMemory> {
-        if is_settled(graph, self.later, services) {
-            Ok(())
-        } else {
-            put_names_inside(alloc, graph, ways, self, services, events)?;
-            Ok(())
-        }
+        let inside = names_inside(alloc, self.firsts, self.earlier, closure)?;
+        put_names_each(alloc, graph, &inside, services, events)?;
+        Ok(())
     }
 }
 
-// Whether nothing can be told: names differ in the whole graph, and none of these services gives any.
-fn is_settled(graph: &Graph, later: &[(u32, u32)], services: &[u32]) -> bool
-    requires { AreOwnServices graph.now services.now }
-    ensures { result ≡ true → (later.now ≡ []) × ((k : ℕ) → Contains services.now k → GivesNone graph.now k) }
-{
-    later.is_empty() && give_none(graph, services)
-}
-
+// Whether none of these services gives any.
 fn give_none(graph: &Graph, services: &[u32]) -> bool
     requires { AreOwnServices graph.now services.now }
     ensures { result ≡ true → (k : ℕ) → Contains services.now k → GivesNone graph.now k }
@@ -108,27 +106,6 @@ fn give_none(graph: &Graph, services: &[u32]) -> bool
         }
     }
     true
-}
-
-// By their closure, which is one.
-fn put_names_inside(
-    alloc: Global,
-    graph: &Graph,
-    ways: &Ways,
-    names: &Names,
-    services: &[u32],
-    events: &mut Vec<ModelEvent>,
-) -> Result<(), NoMemory>
-    requires ways { AreWays graph.now ways.now }
-    requires own { AreOwnServices graph.now services.now }
-    requires one { HaveOneClosure graph.now services.now }
-    requires names { AreNames graph.now (number_in names.now.firsts.now) names.now.later.now }
-    ensures { OnOk result (Puts (ToldOf (ToldNames graph.now) services.now) events.old.items events.new.items) }
-{
-    let marks = closure_shared(alloc, graph, ways, services)?;
-    let inside = names_inside(alloc, names.firsts, names.later, marks.as_slice())?;
-    put_names_each(alloc, graph, &inside, services, events)?;
-    Ok(())
 }
 
 // Of each of these services, with what their closure has of names.

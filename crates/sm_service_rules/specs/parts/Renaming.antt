@@ -8,7 +8,7 @@ use Rattle.sm_model.specs.Reaching.{id_of_number}
 use Rattle.sm_model.specs.declared.graph.Graph.{Graph}
 use Rattle.sm_compile.specs.TraitNodes.{text_of}
 use Rattle.sm_rules.specs.parts.Folded.{folded}
-use Rattle.sm_service_rules.specs.parts.Twins.{IsOneNamed, IsTwin}
+use Rattle.sm_service_rules.specs.parts.NameTwins.{IsOneNamed, IsNameTwin}
 
 -- a marked number of a name that is given, where one is
 abbrev pub IsOneGiven : Graph → List Bool → Option (List ℕ) → Option ℕ → Type 0
@@ -24,7 +24,7 @@ HasRenamed g inside pair ns =
 -- all that may be told where these pairs are in `rename`
 pub record HasAlike (g : Graph) (inside : List Bool) (pairs : List (List ℕ × Tree)) (ns : List ℕ) : Type 0 where
   pub within : (k : ℕ) → Contains ns k → IsShapeNumber g k
-  pub twins : (k : ℕ) → IsTwin g inside k → Contains ns k
+  pub twins : (k : ℕ) → IsNameTwin g inside k → Contains ns k
   pub renamed : (pair : List ℕ × Tree) → Contains pairs pair → HasRenamed g inside pair ns
 
 -- some numbers of a graph came to these

@@ -1,10 +1,10 @@
 use Rattle.std.proofs.Common.{length, take, ◌<◌, ◌≤◌}
-use Rattle.sm_rules.specs.parts.Closures.{HaveRow}
+use Rattle.sm_rules.specs.parts.Groups.{HaveSteps}
 use Rattle.sm_rules.proofs.services.run_len.Given as goal
 
 abbrev pub invariant-loop-place : goal.invariant-loop-place
 invariant-loop-place l = record {
   some : 0 < l.place;
-  within : l.place ≤ length l.services;
-  same : HaveRow l.ways.on l.row (take l.place l.services);
+  within : l.place ≤ length l.rows;
+  same : HaveSteps l.steps (take l.place l.rows);
 }

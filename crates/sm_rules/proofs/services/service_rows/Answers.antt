@@ -10,11 +10,12 @@ loop-number-preserved c =
     record {
       within = omega (arith, c.loop-number-test.true, c.count-number-end.ensures);
       services = services_next c.args.graph.now at.number (values_of at.rows.items) (values_of c.put_row.new.rows.items)
-          at.invariant.services c.in_ok-put_row.ensures;
+          at.invariant.services c.in_ok-put_row.ensures.services;
+      rows = c.in_ok-put_row.ensures.rows;
     }
 
-pub returns : goal.returns
-returns c =
+pub returns-clause-services : goal.returns-clause-services
+returns-clause-services c =
     let at = c.loop-number in
     let all : at.number ≡ length (entries_of c.args.graph.now) =
     omega (arith, c.loop-number-test.false, c.count-number-end.ensures, at.invariant.within) in

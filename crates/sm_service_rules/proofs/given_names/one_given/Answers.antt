@@ -1,6 +1,6 @@
 use Rattle.std.proofs.Common.{None, refl, subst, ◌∙◌}
 use Rattle.sm_service_rules.specs.parts.Renaming.{IsOneGiven}
-use Rattle.sm_service_rules.specs.parts.Twins.{IsOneNamed}
+use Rattle.sm_service_rules.specs.parts.NameTwins.{IsOneNamed}
 use Rattle.sm_service_rules.proofs.given_names.one_given.Goals as goal
 
 pub returns-in_ok-key-in-Some : goal.returns-in_ok-key-in-Some
