@@ -8,7 +8,8 @@ use Rattle.std.specs.Ordering.{is_lt, nat_cmp}
 use Rattle.std.proofs.lemmas.Bool.{cases_lt}
 use Rattle.std.proofs.lemmas.Cmp.{nat_cmp_total}
 use Rattle.std.proofs.lemmas.List.{get_or-drop, get_or-take, get_or_default, length-drop, length-take, take-append-drop}
-use Rattle.std.proofs.lemmas.List.Elements.{Contains-append_cases, Contains-append_left, Contains-append_right, Contains-push, Contains-push_cases}
+use Rattle.std.proofs.lemmas.List.Elements.{Contains-append_cases, Contains-append_left, Contains-append_right}
+use Rattle.std.proofs.lemmas.List.Elements.{Contains-push, Contains-push_cases}
 use Rattle.std.proofs.lemmas.List.Sorted.{Contains-permutation, IsPermutation-sym, ranks_by, sorted_far}
 use Rattle.std.proofs.lemmas.Map.Keys.{ge_from_not_lt}
 use Rattle.sm_model.specs.steps.Linking.{Joins}
@@ -105,10 +106,11 @@ module _ (rows : List (ℕ × ℕ)) where
     forth r (i, less, is) =
         let long = length-drop begin front in
         let all = length-take place rows in
-        let inside : begin + i < place = omega (arith, less, long, all, within) in (
-          subst (λ rs. Contains rs r) (take-append-drop begin front) (Contains-append_right (take begin front) (drop begin front) r (i, less, is)),
-          sym (here (begin + i) r inside (sym (get_or-drop begin front i r) ∙ is)) ∙ run.same (begin + i) (omega arith) (omega (arith, inside))
-              ∙ last,
+        let inside : begin + i < place = omega (arith, less, long, all, within) in
+        let first = here (begin + i) r inside (sym (get_or-drop begin front i r) ∙ is) in (
+          subst (λ rs. Contains rs r) (take-append-drop begin front)
+              (Contains-append_right (take begin front) (drop begin front) r (i, less, is)),
+          sym first ∙ run.same (begin + i) (omega arith) (omega (arith, inside)) ∙ last,
         )
 
     none_before : (r : ℕ × ℕ) → Contains (take begin front) r → r.0 ≡ first_at rows place → ⊥

@@ -1,6 +1,6 @@
 -- Rows in the order of their texts: those with one text stand next to each other, and are put together.
-use Rattle.std.proofs.Common.{◌≡◌, ◌⊎◌, ◌<◌, ◌≤◌, ◌+◌, ◌-◌, inl, inr, ℕ, Bool, false, List, [], ◌∷◌, ◌++◌, drop, get_or, length, replicate, take}
-use Rattle.std.proofs.Common.{refl, sym, ap, subst, ◌∙◌, arith, Option, None, Some}
+use Rattle.std.proofs.Common.{◌≡◌, ◌⊎◌, ◌<◌, ◌≤◌, ◌+◌, ◌-◌, inl, inr, ℕ, Bool, false, List, [], ◌∷◌, ◌++◌, Option, None, Some}
+use Rattle.std.proofs.Common.{refl, sym, ap, subst, ◌∙◌, arith, drop, get_or, length, replicate, take}
 use Rattle.std.specs.Prelude.{set}
 use Rattle.std.proofs.Math.Seq.{take-add}
 use Rattle.std.specs.Cmp.Lexicographic.{nat_list_cmp_total}
@@ -11,7 +11,8 @@ use Rattle.std.specs.Ordering.{is_lt}
 use Rattle.std.specs.declared.cmp.Ordering.{Ordering}
 use Rattle.std.specs.declared.cmp.Ordering.TheVariants.{Equal, Greater, Less}
 use Rattle.std.proofs.lemmas.Bool.{cases_eq, cases_lt}
-use Rattle.std.proofs.lemmas.List.{drop-drop, drop_all, get_or-drop, get_or-replicate, get_or-take, get_or-set_other, get_or-set_same, get_or_default, get_or_past}
+use Rattle.std.proofs.lemmas.List.{drop-drop, drop_all, get_or-drop, get_or-replicate, get_or-set_other, get_or-set_same, get_or-take}
+use Rattle.std.proofs.lemmas.List.{get_or_default, get_or_past}
 use Rattle.std.proofs.lemmas.List.{length-drop, length-replicate, length-take, map-append, take-append-drop, take_all, take_more, take_rest}
 use Rattle.std.proofs.lemmas.List.Elements.{All-contains, Contains-append_cases, Contains-append_left, Contains-append_right}
 use Rattle.std.proofs.lemmas.List.Elements.{Contains-get_or, Contains-push, Contains-push_cases}
@@ -58,8 +59,8 @@ module _ (g : Graph) where
   abbrev IsRouteOf : ℕ → List ℕ → Type 0
   IsRouteOf k key = IsRouteKey (maps_of g) (id_of_number g k) key
 
-  pub routes_next : (n : ℕ) (olds news : List (List ℕ × ℕ)) → AreRoutesBelow g n olds → Joins (Contains olds) (IsRowAt IsRouteOf n) (Contains news)
-      → AreRoutesBelow g (n + 1) news
+  pub routes_next : (n : ℕ) (olds news : List (List ℕ × ℕ)) → AreRoutesBelow g n olds
+      → Joins (Contains olds) (IsRowAt IsRouteOf n) (Contains news) → AreRoutesBelow g (n + 1) news
   routes_next n olds news before joins r = (forth, back)
     where
       forth : Contains news r → (r.1 < n + 1) × IsRouteKey (maps_of g) (id_of_number g r.1) r.0

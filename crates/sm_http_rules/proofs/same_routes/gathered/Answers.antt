@@ -29,6 +29,6 @@ loop-begin-preserved c =
       whole = c.put_run-begin.ensures.whole ∙ at.invariant.whole;
       firsts = gathered_next rows c.requires.texts at.begin count at.firsts.items c.put_run-begin.new.firsts.items at.invariant.firsts
           (subst (λ rs. IsRun rs count) (take_rest rows at.begin) c.put_run-begin.ensures.run)
-          (subst (λ (rs : List (List ℕ × ℕ)). IsFirstPut rs count at.firsts.items c.put_run-begin.new.firsts.items) (take_rest rows at.begin)
-          c.put_run-begin.ensures.first);
+          (subst (λ (rs : List (List ℕ × ℕ)). IsFirstPut rs count at.firsts.items c.put_run-begin.new.firsts.items)
+          (take_rest rows at.begin) c.put_run-begin.ensures.first);
     }

@@ -12,5 +12,6 @@ returns c =
     let closure = c.args.closure.now in
     routes_put g c.args.self.now.firsts.now c.requires.knows ks c.requires.own closure.marks.items c.requires.closure.inside
     c.numbers.result.now
-    (subst (λ ns. (k : ℕ) → Contains ns k ↔ IsMarked closure.marks.items k) (sym c.numbers.ensures) c.requires.closure.found) (get_or ks 0 0)
-    (Contains-get_or ks 0 0 c.requires.some) c.args.events.now.items c.put_inside.new.events.items c.in_ok-put_inside.ensures
+    (subst (λ ns. (k : ℕ) → Contains ns k ↔ IsMarked closure.marks.items k) (sym c.numbers.ensures) c.requires.closure.found)
+    (get_or ks 0 0) (Contains-get_or ks 0 0 c.requires.some) c.args.events.now.items c.put_inside.new.events.items
+    c.in_ok-put_inside.ensures
