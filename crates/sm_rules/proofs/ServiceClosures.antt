@@ -1,5 +1,5 @@
 -- A walk over numbers from a service finds its closure, and room for a closure is clear again when its marks are taken back.
-use Rattle.std.proofs.Common.{◌≡◌, ◌<◌, ◌+◌, inl, inr, ℕ, suc, Bool, true, false, List, [], ◌∷◌, ◌++◌, get_or, length, replicate, take}
+use Rattle.std.proofs.Common.{◌≡◌, ◌<◌, ◌+◌, inl, inr, ℕ, suc, Bool, true, false, List, [], ◌∷◌, get_or, length, replicate, take}
 use Rattle.std.proofs.Common.{refl, sym, ap, ◌∙◌, subst}
 use Rattle.std.specs.Prelude.{◌↔◌, set}
 use Rattle.std.specs.List.{Contains}

@@ -68,19 +68,15 @@ impl Closure {
     }
 
     // Finds the closure of a service. Each step from what is in it is taken once or twice.
-    pub(crate) fn walk(
-        &mut self,
-        graph: &Graph,
-        ways: &Ways,
-        service: u32,
-    ) -> Result<(), NoMemory>
+    pub(crate) fn walk(&mut self, graph: &Graph, ways: &Ways, service: u32) -> Result<(), NoMemory>
         requires number { IsShapeNumber graph.now service }
         requires ways { AreWays graph.now ways.now }
         requires clear { IsClear graph.now self.old }
         ensures { OnOk result (IsClosureOf graph.now (service ∷ []) self.new) }
     {
-        ways.on.visit(service, &mut self.marks, &mut self.found)?;
-        spread_found(&ways.on, &mut self.marks, &mut self.found)?;
+        let steps = &ways.on;
+        steps.visit(service, &mut self.marks, &mut self.found)?;
+        spread_found(steps, &mut self.marks, &mut self.found)?;
         Ok(())
     }
 

@@ -71,7 +71,15 @@ pub fn put_by_closures<R: OfServices>(
 {
     let rows = rows_by_steps(alloc, graph, ways)?;
     let mut closure = Closure::new(alloc, graph)?;
-    put_runs(alloc, graph, ways, rule, rows.as_slice(), &mut closure, events)?;
+    put_runs(
+        alloc,
+        graph,
+        ways,
+        rule,
+        rows.as_slice(),
+        &mut closure,
+        events,
+    )?;
     Ok(())
 }
 
@@ -121,7 +129,15 @@ fn put_run<R: OfServices>(
 {
     let count = run_len(rows);
     let services = numbers_of(alloc, &rows[..count])?;
-    put_group(alloc, graph, ways, rule, services.as_slice(), closure, events)?;
+    put_group(
+        alloc,
+        graph,
+        ways,
+        rule,
+        services.as_slice(),
+        closure,
+        events,
+    )?;
     Ok(count)
 }
 
@@ -191,11 +207,7 @@ fn order_of(a: &[u32], b: &[u32]) -> Ordering
 }
 
 // The services, each with the numbers that a step leads to from it, rising.
-fn service_rows(
-    alloc: Global,
-    graph: &Graph,
-    ways: &Ways,
-) -> Result<Vec<(Vec<u32>, u32)>, NoMemory>
+fn service_rows(alloc: Global, graph: &Graph, ways: &Ways) -> Result<Vec<(Vec<u32>, u32)>, NoMemory>
     requires { AreWays graph.now ways.now }
     ensures services { IfOk result (λ rows. AreAllServices graph.now (values_of rows.items)) }
     ensures rows { IfOk result (λ rows. AreServiceRows graph.now ways.now.on rows.items) }

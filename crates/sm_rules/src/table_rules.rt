@@ -10,7 +10,7 @@ ghost use Rattle.sm_rules.specs.parts.RowTests.{any_row, is_wrong_place, is_wron
 use crate::each::put_each;
 use crate::judged::{Judge, Judged};
 use crate::rows::form::{Form, is_of_form};
-use crate::rows::names::{AnyRow, RowTest, Rows, rows_of};
+use crate::rows::names::{AnyRow, FoundRows, RowTest, rows_of};
 use crate::rows::place::{Place, Stand, allows};
 use crate::rule::Rule;
 use sm_model::{Graph, ModelEvent};
@@ -83,7 +83,7 @@ impl Judge for Values {
 }
 
 // Whether some row names the trait, and its value isn't as they say.
-fn has_other_value(rows: Rows, at: Stand, tree: &Tree) -> bool
+fn has_other_value(rows: FoundRows, at: Stand, tree: &Tree) -> bool
     ensures { result ≡ (some_said any_row rows && not (cond (some_said (stands_by at) rows)
         (some_said (reads_there at (node_of tree.now)) rows) (some_said (reads_by (node_of tree.now)) rows))) }
 {
@@ -91,7 +91,7 @@ fn has_other_value(rows: Rows, at: Stand, tree: &Tree) -> bool
 }
 
 // Whether a value is as a row says that allows the place, or as any row says where none does.
-fn reads(rows: Rows, at: Stand, tree: &Tree) -> bool
+fn reads(rows: FoundRows, at: Stand, tree: &Tree) -> bool
     ensures { result ≡ cond (some_said (stands_by at) rows) (some_said (reads_there at (node_of tree.now)) rows)
         (some_said (reads_by (node_of tree.now)) rows) }
 {
@@ -120,7 +120,7 @@ impl Judge for Stands {
 }
 
 // Whether some row names the trait, and none allows the place.
-fn stands_elsewhere(rows: Rows, at: Stand) -> bool
+fn stands_elsewhere(rows: FoundRows, at: Stand) -> bool
     ensures { result ≡ (some_said any_row rows && not (some_said (stands_by at) rows)) }
 {
     rows.some(&AnyRow) && !rows.some(&StandsBy { at })

@@ -6,8 +6,8 @@ use Rattle.sm_tree.specs.Node.{Node}
 use Rattle.sm_model.specs.declared.kind.Kind.TheVariants as model
 use Rattle.sm_compile.specs.TraitRows as table
 use Rattle.sm_compile.specs.TraitRows.{PlaceForm, TraitRow, ValueForm, has_form, trait_rows}
-use Rattle.sm_rules.specs.declared.rows.names.Rows.{Rows}
-use Rattle.sm_rules.specs.declared.rows.names.Rows.TheVariants as found
+use Rattle.sm_rules.specs.declared.rows.names.FoundRows.{FoundRows}
+use Rattle.sm_rules.specs.declared.rows.names.FoundRows.TheVariants as found
 use Rattle.sm_rules.specs.declared.rows.place.Stand.{Stand}
 use Rattle.sm_rules.specs.parts.Forms.{form_said}
 use Rattle.sm_rules.specs.parts.Places.{is_member_of, is_member_to, is_shape_of, places_said}
@@ -24,12 +24,12 @@ abbrev pub some_row : List ℕ → AsksOfRow → List TraitRow → Bool
 some_row trait test rows = list_any (names_passing trait test) rows
 
 -- the rows that name a trait, by the values and places that the code has for them
-abbrev pub rows_said : Rows → List (ValueForm × List PlaceForm)
+abbrev pub rows_said : FoundRows → List (ValueForm × List PlaceForm)
 rows_said found.Absent = []
 rows_said (found.One f p) = (form_said f, places_said p) ∷ []
 rows_said (found.Two f p g q) = (form_said f, places_said p) ∷ (form_said g, places_said q) ∷ []
 
-abbrev pub some_said : AsksOfRow → Rows → Bool
+abbrev pub some_said : AsksOfRow → FoundRows → Bool
 some_said test rows = list_any (λ r. test r.0 r.1) (rows_said rows)
 
 -- a trait that stands there may be at such a place

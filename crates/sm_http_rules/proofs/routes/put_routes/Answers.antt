@@ -1,5 +1,4 @@
-use Rattle.std.proofs.Common.{None, arith, get_or, ℕ, ◌≡◌, subst}
-use Rattle.std.proofs.lemmas.Grind.{common_steps}
+use Rattle.std.proofs.Common.{None, get_or, ℕ, ◌≡◌, subst}
 use Rattle.sm_http_rules.proofs.RoutesTold.{none_told}
 use Rattle.sm_http_rules.proofs.routes.put_routes.Goals as goal
 

@@ -1,4 +1,4 @@
-use Rattle.std.proofs.Common.{None, ap, get_or, length, replicate, rules, subst, sym, ◌<◌, ◌≡◌, ◌∙◌}
+use Rattle.std.proofs.Common.{None, ap, get_or, length, rules, subst, sym, ◌<◌, ◌≡◌, ◌∙◌}
 use Rattle.std.specs.Map.{values_of}
 use Rattle.std.proofs.lemmas.Fn.{always_returns_same}
 use Rattle.std.proofs.lemmas.List.{length-replicate}

@@ -4,7 +4,7 @@ use Rattle.std.proofs.lemmas.Grind.{common_steps}
 use Rattle.std.proofs.lemmas.List.{take_all}
 use Rattle.std.proofs.lemmas.List.Elements.{Contains-get_or}
 use Rattle.sm_model.proofs.Worklist.{marked_within}
-use Rattle.sm_rules.proofs.ServiceClosures.{left_next, none_set}
+use Rattle.sm_rules.proofs.ServiceClosures.{none_set}
 use Rattle.sm_rules.proofs.closures.unmark_all.Goals as goal
 
 pub index_mut-requires : goal.index_mut-requires

@@ -1,4 +1,4 @@
-use Rattle.std.proofs.Common.{ap, subst, sym}
+use Rattle.std.proofs.Common.{subst, sym}
 use Rattle.std.specs.Map.{values_of}
 use Rattle.sm_rules.specs.parts.Groups.{AreAllServices, AreServiceRows}
 use Rattle.sm_rules.proofs.SharedClosures.{told_services}

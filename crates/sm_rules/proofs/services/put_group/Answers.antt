@@ -1,8 +1,6 @@
 use Rattle.std.proofs.Common.{get_or}
 use Rattle.std.proofs.lemmas.List.Elements.{Contains-get_or}
-use Rattle.sm_rules.specs.parts.Putting.{ToldOf}
-use Rattle.sm_rules.proofs.EventsPut.{puts_none}
-use Rattle.sm_rules.proofs.SharedClosures.{cleared, closure_shared}
+use Rattle.sm_rules.proofs.SharedClosures.{closure_shared}
 use Rattle.sm_rules.proofs.services.put_group.Goals as goal
 
 pub walk-requires-clause-number : goal.walk-requires-clause-number

@@ -1,6 +1,5 @@
-use Rattle.sm_rules.proofs.ServiceClosures.{clear_found, steps_below, walked_all}
+use Rattle.sm_rules.proofs.ServiceClosures.{steps_below, walked_all}
 use Rattle.sm_rules.proofs.closures.Closure.walk.Goals as goal
-
 
 pub visit-requires-clause-steps : goal.visit-requires-clause-steps
 visit-requires-clause-steps c = steps_below c.args.graph.now c.args.ways.now.on c.requires.ways.are_on
