@@ -10,6 +10,7 @@ pub mod BoundSides
 pub mod WireNamesTold
 pub mod RouteKeys
 pub mod SameRouteRows
+pub mod FirstsInOrder
 pub mod PairsTold
 pub mod RoutesTold
 pub mod SomePasses

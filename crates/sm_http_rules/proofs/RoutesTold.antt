@@ -1,5 +1,7 @@
 -- What is told of operations with one route in a closure is what the rule says.
-use Rattle.std.proofs.Common.{◌≡◌, ◌<◌, ℕ, Bool, true, List, [], refl, sym, ◌∙◌, subst}
+use Rattle.std.proofs.Common.{◌≡◌, ◌<◌, ℕ, Bool, true, List, Option, None, Some, get_or, refl, sym, ◌∙◌, subst}
+use Rattle.std.specs.Prelude.{◌↔◌}
+use Rattle.std.proofs.lemmas.Option.{none-some}
 use Rattle.std.specs.List.{Contains}
 use Rattle.sm_model.specs.EventView.{EventTold}
 use Rattle.sm_model.specs.Graphs.{text_cmp, shape_entry, GraphMaps}
@@ -8,7 +10,6 @@ use Rattle.sm_model.specs.Reaching.{IsMarked, id_of_number}
 use Rattle.sm_model.specs.declared.event.ModelEvent.{ModelEvent}
 use Rattle.sm_model.specs.declared.graph.Graph.{Graph}
 use Rattle.sm_model.proofs.NumberedIds.{number_of}
-use Rattle.sm_model.proofs.OneRising.{contains_none}
 use Rattle.sm_compile.specs.rules.Http.{HasSameRoute, method_of}
 use Rattle.sm_compile.specs.rules.Words.{IsInClosure, IsService}
 use Rattle.sm_rules.specs.RuleEvents.{IsEventIn, IsEventOf, Puts, rule_event}
@@ -20,8 +21,8 @@ use Rattle.sm_rules.proofs.EventsPut.{puts_none, puts_same}
 use Rattle.sm_rules.proofs.IdsRise.{falling, rising}
 use Rattle.sm_rules.proofs.UnusedShapes.{own_service, service_own}
 use Rattle.sm_http_rules.specs.parts.Routes.{IsRouteKey, closure_of_route, key_of}
-use Rattle.sm_http_rules.specs.parts.SameRoutes.{AreSameRoutes, HasRoute, ToldOfMarked}
-use Rattle.sm_http_rules.proofs.RouteKeys.{keys_same, same_keys}
+use Rattle.sm_http_rules.specs.parts.SameRoutes.{AreSameRoutes, HasRoute, ToldOfNumbers}
+use Rattle.sm_http_rules.proofs.RouteKeys.{keys_same, one_key, same_keys}
 
 -- two that have one route have one key
 same_key : (g : GraphMaps) (operation smaller : List ℕ) (h : HasSameRoute g operation smaller)
@@ -47,7 +48,8 @@ module _ (g : Graph) where
           → ToldOfServices g ToldAt e
       at e operation smaller h is =
           let n = number_of g h.service (shape_entry h.inside.0.0, h.inside.0.1.0) in
-          let own : is_own_service m (id_of_number g n.0) ≡ true = service_own m (id_of_number g n.0) (subst (IsService m) (sym n.2) h.inside.0) in
+          let own : is_own_service m (id_of_number g n.0) ≡ true =
+          service_own m (id_of_number g n.0) (subst (IsService m) (sym n.2) h.inside.0) in
           (n.0, (n.1, own), (operation, smaller, h, sym n.2, is))
 
   module _ (operation smaller : List ℕ) (h : HasSameRoute m operation smaller) where
@@ -73,39 +75,43 @@ module _ (g : Graph) where
         → e ≡ rule_event HttpRoutes (id_of_number g first.0) (id_of_number g second.0)
     told_there e is = is ∙ (λ i. rule_event HttpRoutes (sym first.2 i) (sym second.2 i))
 
-  module _ (sets : List (List ℕ)) (are : AreSameRoutes g sets) where
+  module _ (firsts : List (Option ℕ)) (are : AreSameRoutes g firsts) where
     -- where no two operations have one route, no closure has two
-    pub none_told : sets ≡ [] → (es : List ModelEvent) → Puts (IsEventOf HttpRoutes (HasSameRoute m)) es es
+    pub none_told : ((k : ℕ) → get_or firsts k None ≡ None) → (es : List ModelEvent)
+        → Puts (IsEventOf HttpRoutes (HasSameRoute m)) es es
     none_told none es =
         puts_none (IsEventOf HttpRoutes (HasSameRoute m)) es
         (λ e t.
         let h = t.2 in
-        let set = are.all (key t.0 t.1 h) (second t.0 t.1 h).0 (first t.0 t.1 h).0 (less t.0 t.1 h) (second_has t.0 t.1 h)
+        let two = are.all (key t.0 t.1 h) (second t.0 t.1 h).0 (first t.0 t.1 h).0 (less t.0 t.1 h) (second_has t.0 t.1 h)
         (first_has t.0 t.1 h) in
-        contains_none set.0 (subst (λ ss. Contains ss set.0) none set.1))
+        none-some two.0 (sym (none (second t.0 t.1 h).0) ∙ two.1))
 
-    pub numbers_there : (s : List ℕ) → Contains sets s → (k : ℕ) → Contains s k → IsShapeNumber g k
-    numbers_there s there k at = (are.one s there k k at at).1.0
+    pub number_there : (k one : ℕ) → get_or firsts k None ≡ Some one → IsShapeNumber g k
+    number_there k one is = (are.one k one is).1.0
 
-    -- of services with these marks
-    module _ (ks : List ℕ) (own : AreOwnServices g ks) (marks : List Bool) (inside : AreInsideOf g ks marks) where
-      in_closure : (s n : ℕ) → Contains ks s → IsMarked marks n → IsInClosure m (id_of_number g s) (id_of_number g n)
-      in_closure s n at mark = (
+    -- of services whose closure has these numbers
+    module _ (ks : List ℕ) (own : AreOwnServices g ks) (marks : List Bool) (inside : AreInsideOf g ks marks) (numbers : List ℕ)
+        (found : (k : ℕ) → Contains numbers k ↔ IsMarked marks k) where
+      in_closure : (s n : ℕ) → Contains ks s → Contains numbers n → IsInClosure m (id_of_number g s) (id_of_number g n)
+      in_closure s n at there = (
         own_service m (id_of_number g s) (own s at).1,
-        (((inside.1 s at).marked n).0 mark).1,
+        (((inside.1 s at).marked n).0 ((found n).0 there)).1,
       )
 
-      is_marked : (s n : ℕ) → Contains ks s → IsShapeNumber g n → IsInClosure m (id_of_number g s) (id_of_number g n) → IsMarked marks n
-      is_marked s n at within there = ((inside.1 s at).marked n).1 (within, there.1)
+      is_found : (s n : ℕ) → Contains ks s → IsShapeNumber g n → IsInClosure m (id_of_number g s) (id_of_number g n) → Contains numbers n
+      is_found s n at within there = (found n).1 (((inside.1 s at).marked n).1 (within, there.1))
 
-      forth : (s : ℕ) → Contains ks s → (e : EventTold) → ToldOf (ToldOfMarked g marks) sets e → ToldOf ToldAt ks e
-      forth s at e (set, there, (j, k, at_j, at_k, marked_j, marked_k, (small, is))) =
-          let r = are.one set there j k at_j at_k in
-          let v = r.1.1 in
-          let u = r.2.1 in
-          let within = r.2.0 in
+      forth : (s : ℕ) → Contains ks s → (e : EventTold) → ToldOfNumbers g firsts numbers e → ToldOf ToldAt ks e
+      forth s at e (j, k, one, at_j, at_k, is_j, is_k, (small, is)) =
+          let of_j = are.one j one is_j in
+          let of_k = are.one k one is_k in
+          let v = of_j.1.1 in
+          let u = of_k.1.1 in
+          let within = of_k.1.0 in
+          let same = one_key m (id_of_number g one) of_k.0 of_j.0 of_k.2.1 of_j.2.1 in
           let route = keys_same u.0 v.0 u.1.spells.is_uri v.1.spells.is_uri (method_of m (id_of_number g k))
-          (method_of m (id_of_number g j)) (sym u.2 ∙ v.2) in (
+          (method_of m (id_of_number g j)) (sym u.2 ∙ same ∙ v.2) in (
             s,
             at,
             (
@@ -113,8 +119,8 @@ module _ (g : Graph) where
               id_of_number g j,
               record {
                 service = id_of_number g s;
-                inside = in_closure s k at marked_k;
-                smaller_inside = in_closure s j at marked_j;
+                inside = in_closure s k at at_k;
+                smaller_inside = in_closure s j at at_j;
                 order = rising g j k small within;
                 u = u.0;
                 uri = u.1;
@@ -128,23 +134,20 @@ module _ (g : Graph) where
             ),
           )
 
-      back : (e : EventTold) → ToldOf ToldAt ks e → ToldOf (ToldOfMarked g marks) sets e
+      back : (e : EventTold) → ToldOf ToldAt ks e → ToldOfNumbers g firsts numbers e
       back e (s, at, (operation, smaller, h, home, is)) =
           let k = first operation smaller h in
           let j = second operation smaller h in
-          let set = are.all (key operation smaller h) j.0 k.0 (less operation smaller h) (second_has operation smaller h)
+          let two = are.all (key operation smaller h) j.0 k.0 (less operation smaller h) (second_has operation smaller h)
           (first_has operation smaller h) in (
-            set.0,
-            set.1,
-            (
-              j.0,
-              k.0,
-              set.2,
-              set.3,
-              is_marked s j.0 at j.1 (here smaller j.0 j.2 h.smaller_inside),
-              is_marked s k.0 at k.1 (here operation k.0 k.2 h.inside),
-              (less operation smaller h, told_there operation smaller h e is),
-            ),
+            j.0,
+            k.0,
+            two.0,
+            is_found s j.0 at j.1 (here smaller j.0 j.2 h.smaller_inside),
+            is_found s k.0 at k.1 (here operation k.0 k.2 h.inside),
+            two.1,
+            two.2,
+            (less operation smaller h, told_there operation smaller h e is),
           )
         where
           here : (id : List ℕ) (n : ℕ) → id_of_number g n ≡ id → IsInClosure m h.service id
@@ -152,6 +155,7 @@ module _ (g : Graph) where
           here id n same there =
               subst (λ i. IsInClosure m (id_of_number g s) i) (sym same) (subst (λ i. IsInClosure m i id) home there)
 
-      pub routes_put : (s : ℕ) → Contains ks s → (a b : List ModelEvent) → Puts (ToldOf (ToldOfMarked g marks) sets) a b
+      pub routes_put : (s : ℕ) → Contains ks s → (a b : List ModelEvent) → Puts (ToldOfNumbers g firsts numbers) a b
           → Puts (ToldOf ToldAt ks) a b
-      routes_put s at a b h = puts_same (ToldOf (ToldOfMarked g marks) sets) (ToldOf ToldAt ks) a b (λ e. (forth s at e, back e)) h
+      routes_put s at a b h =
+          puts_same (ToldOfNumbers g firsts numbers) (ToldOf ToldAt ks) a b (λ e. (forth s at e, back e)) h

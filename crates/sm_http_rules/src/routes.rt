@@ -1,30 +1,32 @@
 // Http.Routes: no two operations of a closure have one method and one pattern, whatever the names of labels.
-ghost use Rattle.std.specs.Prelude.{◌≡◌, ◌<◌, ℕ, List, IfOk, OnOk, length};
+ghost use Rattle.std.specs.Prelude.{◌≡◌, ◌<◌, ◌≤◌, ◌+◌, ℕ, IfOk, None, OnOk, Some, false, get_or, length};
 ghost use Rattle.std.specs.List.{Contains};
-ghost use Rattle.sm_model.specs.GraphView.{IsShapeNumber, entries_of, maps_of};
+ghost use Rattle.sm_model.specs.GraphView.{IsShapeNumber, maps_of};
 ghost use Rattle.sm_model.specs.Reaching.{id_of_number};
+ghost use Rattle.sm_model.specs.steps.Linking.{Joins};
 ghost use Rattle.sm_compile.specs.rules.Http.{HasSameRoute};
 ghost use Rattle.sm_rules.specs.RuleEvents.{IsEventIn, IsEventOf, Puts};
 ghost use Rattle.sm_rules.specs.declared.rule.Rule.TheVariants.{HttpRoutes};
 ghost use Rattle.sm_rules.specs.parts.Putting.{ToldOf};
 ghost use Rattle.sm_select.specs.Ways.{AreWays};
 ghost use Rattle.sm_http_rules.specs.parts.Routes.{closure_of_route};
-ghost use Rattle.sm_http_rules.specs.parts.SameRoutes.{AreSameRoutes, AreThoseMarked, IsEitherTold, IsPairTold, ToldOfMarked, ToldOfPairs};
+ghost use Rattle.sm_http_rules.specs.parts.SameRoutes.{AreByFirsts, AreSameRoutes, AreUnder, IsEitherTold, IsPairTold, IsRunFrom};
+ghost use Rattle.sm_http_rules.specs.parts.SameRoutes.{ToldOfNumbers, ToldOfRows};
 
-use crate::same_routes::{SameRoute, same_routes};
+use crate::same_routes::same_routes;
 use sm_compile::id_text;
 use sm_model::{Graph, ModelEvent};
 use sm_rules::Rule;
-use sm_rules::closures::closure_shared;
+use sm_rules::closures::Closure;
 use sm_rules::putting::put_event;
 use sm_rules::services::{OfServices, put_by_closures};
 use sm_select::Ways;
 use sm_tree::NoMemory;
 use std::alloc::Global;
 
-/// Puts the events of the rule, by the ways of the graph: one for each pair. n log n where no two operations of the graph have one method
-/// and one pattern. Else beside that, for services with the same references together: one walk, and what their closure has of routes
-/// that stand twice; and what the answer takes.
+/// Puts the events of the rule, by the ways of the graph: for each pair one for each group of services with the same references that lead
+/// to both, so time and memory may be pairs times groups. n log n where no two operations of the graph have one method and one pattern.
+/// Else beside that a walk of its closure for each group, and n log n in what it has of routes that stand twice.
 pub fn put_routes(
     alloc: Global,
     graph: &Graph,
@@ -35,51 +37,66 @@ pub fn put_routes(
     ensures { OnOk result
         (Puts (IsEventOf HttpRoutes (HasSameRoute (maps_of graph.now))) events.old.items events.new.items) }
 {
-    let sets = same_routes(alloc, graph)?;
-    if sets.is_empty() {
+    let firsts = same_routes(alloc, graph)?;
+    if !is_some(firsts.as_slice()) {
         return Ok(());
     }
-    put_by_sets(alloc, graph, ways, sets.as_slice(), events)?;
+    put_by_firsts(alloc, graph, ways, firsts.as_slice(), events)?;
     Ok(())
 }
 
-fn put_by_sets(
+// Whether anything stands there.
+fn is_some(firsts: &[Option<u32>]) -> bool
+    ensures { result ≡ false → (k : ℕ) → get_or firsts.now k None ≡ None }
+{
+    for first in firsts {
+        if first.is_some() {
+            return true;
+        }
+    }
+    false
+}
+
+fn put_by_firsts(
     alloc: Global,
     graph: &Graph,
     ways: &Ways,
-    sets: &[SameRoute],
+    firsts: &[Option<u32>],
     events: &mut Vec<ModelEvent>,
 ) -> Result<(), NoMemory>
     requires ways { AreWays graph.now ways.now }
-    requires sets { AreSameRoutes graph.now sets.now }
+    requires firsts { AreSameRoutes graph.now firsts.now }
     ensures { OnOk result
         (Puts (IsEventOf HttpRoutes (HasSameRoute (maps_of graph.now))) events.old.items events.new.items) }
 {
-    put_by_closures(alloc, graph, ways, &Routes { sets }, events)?;
+    put_by_closures(alloc, graph, ways, &Routes { firsts }, events)?;
     Ok(())
 }
 
 // The operations with one route, which are the same for each closure.
 #[derive(Drop)]
 struct Routes<'a> {
-    sets: &'a [SameRoute],
+    firsts: &'a [Option<u32>],
 }
 
 impl OfServices for Routes<'_> {
     ghost tells = { λ rule g k. IsEventIn HttpRoutes (HasSameRoute (maps_of g)) (closure_of_route (maps_of g)) (id_of_number g k) };
 
-    ghost knows = { λ rule g. AreSameRoutes g rule.sets.now };
+    ghost knows = { λ rule g. AreSameRoutes g rule.firsts.now };
+
+    fn may_tell(&self, graph: &Graph, services: &[u32]) -> bool {
+        true
+    }
 
     fn put_of_services(
         &self,
         alloc: Global,
         graph: &Graph,
-        ways: &Ways,
         services: &[u32],
+        closure: &Closure,
         events: &mut Vec<ModelEvent>,
     ) -> Result<(), NoMemory> {
-        let inside = closure_shared(alloc, graph, ways, services)?;
-        put_inside(alloc, graph, self.sets, inside.as_slice(), events)?;
+        put_inside(alloc, graph, self.firsts, closure.numbers(), events)?;
         Ok(())
     }
 }
@@ -88,82 +105,106 @@ impl OfServices for Routes<'_> {
 fn put_inside(
     alloc: Global,
     graph: &Graph,
-    sets: &[SameRoute],
-    inside: &[bool],
-    events: &mut Vec<ModelEvent>,
-) -> Result<(), NoMemory>
-    requires sets { AreSameRoutes graph.now sets.now }
-    requires inside { length inside.now ≡ length (entries_of graph.now) }
-    ensures { OnOk result
-        (Puts (ToldOf (ToldOfMarked graph.now inside.now) sets.now) events.old.items events.new.items) }
-{
-    for set in sets {
-        put_set(alloc, graph, set.as_slice(), inside, events)?;
-    }
-    Ok(())
-}
-
-fn put_set(
-    alloc: Global,
-    graph: &Graph,
-    set: &[u32],
-    inside: &[bool],
-    events: &mut Vec<ModelEvent>,
-) -> Result<(), NoMemory>
-    requires numbers { (k : ℕ) → Contains set.now k → IsShapeNumber graph.now k }
-    requires inside { length inside.now ≡ length (entries_of graph.now) }
-    ensures { OnOk result (Puts (ToldOfMarked graph.now inside.now set.now) events.old.items events.new.items) }
-{
-    let here = those_marked(alloc, set, inside)?;
-    put_pairs(alloc, graph, here.as_slice(), events)?;
-    Ok(())
-}
-
-// Those of a set that are marked.
-fn those_marked(alloc: Global, set: &[u32], marks: &[bool]) -> Result<Vec<u32>, NoMemory>
-    requires { (k : ℕ) → Contains set.now k → k < length marks.now }
-    ensures { IfOk result (λ here. AreThoseMarked set.now marks.now here.items) }
-{
-    let mut here = Vec::new(alloc);
-    for number in set {
-        if marks[*number as usize] {
-            here.push(*number)?;
-        }
-    }
-    Ok(here)
-}
-
-// Of each two of these.
-fn put_pairs(
-    alloc: Global,
-    graph: &Graph,
+    firsts: &[Option<u32>],
     numbers: &[u32],
     events: &mut Vec<ModelEvent>,
 ) -> Result<(), NoMemory>
-    requires { (k : ℕ) → Contains numbers.now k → IsShapeNumber graph.now k }
-    ensures { OnOk result (Puts (ToldOfPairs graph.now numbers.now) events.old.items events.new.items) }
+    requires { AreSameRoutes graph.now firsts.now }
+    ensures { OnOk result
+        (Puts (ToldOfNumbers graph.now firsts.now numbers.now) events.old.items events.new.items) }
 {
-    for place in 0..numbers.len() {
-        put_with(alloc, graph, &numbers[..place], numbers[place], events)?;
+    let mut rows = rows_under(alloc, firsts, numbers)?;
+    rows.sort_unstable_by(|a, b| a.0.cmp(&b.0));
+    put_rows(alloc, graph, rows.as_slice(), events)?;
+    Ok(())
+}
+
+// Of these numbers those whose route another has too, each behind the first of its route.
+fn rows_under(
+    alloc: Global,
+    firsts: &[Option<u32>],
+    numbers: &[u32],
+) -> Result<Vec<(u32, u32)>, NoMemory>
+    ensures { IfOk result (λ rows. AreUnder firsts.now numbers.now rows.items) }
+{
+    let mut rows = Vec::new(alloc);
+    for number in numbers {
+        push_row(firsts, *number, &mut rows)?;
+    }
+    Ok(rows)
+}
+
+fn push_row(firsts: &[Option<u32>], number: u32, rows: &mut Vec<(u32, u32)>) -> Result<(), NoMemory>
+    ensures { OnOk result (Joins (Contains rows.old.items) (λ r. (r.1 ≡ number) × (get_or firsts.now r.1 None ≡ Some r.0))
+        (Contains rows.new.items)) }
+{
+    match first_of(firsts, number) {
+        Some(first) => {
+            rows.push((first, number))?;
+            Ok(())
+        }
+        None => Ok(()),
+    }
+}
+
+fn first_of(firsts: &[Option<u32>], number: u32) -> Option<u32>
+    ensures { result ≡ get_or firsts.now number None }
+{
+    match firsts.get(number as usize) {
+        Some(first) => *first,
+        None => None,
+    }
+}
+
+// Of each two rows with one first.
+fn put_rows(
+    alloc: Global,
+    graph: &Graph,
+    rows: &[(u32, u32)],
+    events: &mut Vec<ModelEvent>,
+) -> Result<(), NoMemory>
+    requires order { AreByFirsts rows.now }
+    requires numbers { (r : ℕ × ℕ) → Contains rows.now r → IsShapeNumber graph.now r.1 }
+    ensures { OnOk result (Puts (ToldOfRows graph.now rows.now) events.old.items events.new.items) }
+{
+    let mut begin = 0;
+    for place in 0..rows.len() {
+        begin = run_begin(rows, begin, place);
+        let before = &rows[..place];
+        put_with(alloc, graph, &before[begin..], rows[place].1, events)?;
     }
     Ok(())
+}
+
+// Where the run of a place begins, by where that of the place before it does.
+fn run_begin(rows: &[(u32, u32)], begin: usize, place: usize) -> usize
+    requires order { AreByFirsts rows.now }
+    requires place { place < length rows.now }
+    requires run { IsRunFrom rows.now begin place }
+    ensures within { result ≤ place }
+    ensures run { IsRunFrom rows.now result (place + 1) }
+{
+    if rows[begin].0 == rows[place].0 {
+        return begin;
+    }
+    place
 }
 
 // Of a number with each of these.
 fn put_with(
     alloc: Global,
     graph: &Graph,
-    others: &[u32],
+    others: &[(u32, u32)],
     number: u32,
     events: &mut Vec<ModelEvent>,
 ) -> Result<(), NoMemory>
-    requires others { (k : ℕ) → Contains others.now k → IsShapeNumber graph.now k }
+    requires others { (r : ℕ × ℕ) → Contains others.now r → IsShapeNumber graph.now r.1 }
     requires number { IsShapeNumber graph.now number }
     ensures { OnOk result
-        (Puts (ToldOf (λ j. IsEitherTold graph.now j number) others.now) events.old.items events.new.items) }
+        (Puts (ToldOf (λ r. IsEitherTold graph.now r.1 number) others.now) events.old.items events.new.items) }
 {
     for other in others {
-        put_pair(alloc, graph, *other, number, events)?;
+        put_pair(alloc, graph, other.1, number, events)?;
     }
     Ok(())
 }

@@ -1,89 +1,70 @@
-// Operations that have one method and one pattern, together, whatever the names of labels.
-ghost use Rattle.std.specs.Prelude.{◌≡◌, ◌↔◌, ◌<◌, ◌≤◌, IfOk, IsTrue, length, take};
+// Operations that have one method and one pattern, whatever the names of labels: for each one of them, the same for all.
+ghost use Rattle.std.specs.Prelude.{◌≡◌, ◌↔◌, ◌<◌, ◌≤◌, IfOk, IsTrue, None, ℕ, get_or, length, replicate};
 ghost use Rattle.std.specs.List.{Contains};
 ghost use Rattle.std.specs.Map.{values_of};
-ghost use Rattle.sm_model.specs.steps.Linking.{Joins};
-ghost use Rattle.sm_http_rules.specs.parts.SameRoutes.{AreInOrder, AreSameRoutes, AreTogether, HasRow, IsRun};
+ghost use Rattle.sm_http_rules.specs.parts.SameRoutes.{AreInOrder, AreSameRoutes, AreTogether, HasRow, HaveOneText};
+ghost use Rattle.sm_http_rules.specs.parts.SameRoutes.{IsFirstPut, IsPutUnder, IsRun};
 
 use crate::route_keys::route_rows;
 use sm_model::Graph;
 use sm_tree::{NoMemory, Text};
 use std::alloc::Global;
-use std::marker::Model;
 
-/// Operations that have one route. Contracts see the list of their numbers.
-#[derive(Drop)]
-pub(crate) struct SameRoute {
-    operations: Vec<u32>,
-}
-
-impl Model for SameRoute {
-    ghost use Rattle.std.specs.Prelude.{List, ℕ};
-
-    ghost Value = { List ℕ };
-
-    ghost view = { λ a. a.operations.items };
-}
-
-impl SameRoute {
-    fn new(operations: Vec<u32>) -> Self
-        ensures { result ≡ operations.items }
-    {
-        SameRoute { operations }
-    }
-
-    /// Their numbers. No memory.
-    pub(crate) fn as_slice(&self) -> &[u32]
-        ensures { result.now ≡ self.now }
-    {
-        self.operations.as_slice()
-    }
-}
-
-/// The operations of a graph that have a route that another has too, together by their routes. n log n.
-pub(crate) fn same_routes(alloc: Global, graph: &Graph) -> Result<Vec<SameRoute>, NoMemory>
-    ensures { IfOk result (λ sets. AreSameRoutes graph.now sets.items) }
+/// Under each number of a graph one operation with the route of that number's, the same for all that have it; nothing where no other has
+/// it. n log n.
+pub(crate) fn same_routes(alloc: Global, graph: &Graph) -> Result<Vec<Option<u32>>, NoMemory>
+    ensures { IfOk result (λ firsts. AreSameRoutes graph.now firsts.items) }
 {
     let mut rows = route_rows(alloc, graph)?;
     rows.sort_unstable_by(|a, b| a.0.as_str().cmp(b.0.as_str()));
-    let sets = gathered(alloc, rows.as_slice())?;
-    Ok(sets)
+    let firsts = no_numbers(alloc, graph.count() as usize)?;
+    Ok(gathered(rows.as_slice(), firsts))
 }
 
-// The numbers of rows in order, run by run.
-fn gathered(alloc: Global, rows: &[(Text, u32)]) -> Result<Vec<SameRoute>, NoMemory>
-    requires { AreInOrder rows.now }
-    ensures { IfOk result (λ sets. AreTogether (HasRow rows.now) sets.items) }
+// Nothing under so many numbers.
+fn no_numbers(alloc: Global, count: usize) -> Result<Vec<Option<u32>>, NoMemory>
+    ensures { IfOk result (λ firsts. firsts.items ≡ replicate count None) }
 {
-    let mut sets = Vec::new(alloc);
+    let mut firsts = Vec::with_capacity(alloc, count)?;
+    for _ in 0..count {
+        firsts.push(None)?;
+    }
+    Ok(firsts)
+}
+
+// Those of rows in order, run by run.
+fn gathered(rows: &[(Text, u32)], firsts: Vec<Option<u32>>) -> Vec<Option<u32>>
+    requires order { AreInOrder rows.now }
+    requires texts { HaveOneText rows.now }
+    requires within { (k : ℕ) → Contains (values_of rows.now) k → k < length firsts.items }
+    requires none { (k : ℕ) → get_or firsts.items k None ≡ None }
+    ensures { AreTogether (HasRow rows.now) result.items }
+{
+    let mut firsts = firsts;
     let mut begin = 0;
     while begin < rows.len() {
-        begin += put_run(alloc, &rows[begin..], &mut sets)?;
+        begin += put_run(&rows[begin..], &mut firsts);
     }
-    Ok(sets)
+    firsts
 }
 
-// Puts the run that comes first, if it has more than one row, and says how many it has.
-fn put_run(
-    alloc: Global,
-    rows: &[(Text, u32)],
-    sets: &mut Vec<SameRoute>,
-) -> Result<usize, NoMemory>
+// Puts the first of the run that comes first under all of it, if it has more than one row, and says how many it has.
+fn put_run(rows: &[(Text, u32)], firsts: &mut Vec<Option<u32>>) -> usize
     requires order { AreInOrder rows.now }
     requires some { 0 < length rows.now }
-    ensures some { IfOk result (λ count. 0 < count) }
-    ensures within { IfOk result (λ count. count ≤ length rows.now) }
-    ensures run { IfOk result (λ count. IsRun rows.now count) }
-    ensures sets { IfOk result (λ count. Joins (Contains sets.old.items)
-        (λ s. (1 < count) × (s ≡ values_of (take count rows.now))) (Contains sets.new.items)) }
+    requires within { (k : ℕ) → Contains (values_of rows.now) k → k < length firsts.old.items }
+    ensures some { 0 < result }
+    ensures within { result ≤ length rows.now }
+    ensures run { IsRun rows.now result }
+    ensures whole { length firsts.new.items ≡ length firsts.old.items }
+    ensures first { IsFirstPut rows.now result firsts.old.items firsts.new.items }
 {
     let count = run_len(rows);
     if count == 1 {
-        return Ok(count);
+        return count;
     }
-    let operations = numbers_of(alloc, &rows[..count])?;
-    sets.push(SameRoute::new(operations))?;
-    Ok(count)
+    put_under(rows[0].1, &rows[..count], firsts);
+    count
 }
 
 // How many rows from the first on have its text.
@@ -109,12 +90,13 @@ fn is_text_of(row: &(Text, u32), other: &(Text, u32)) -> bool
     row.0.as_str() == other.0.as_str()
 }
 
-fn numbers_of(alloc: Global, rows: &[(Text, u32)]) -> Result<Vec<u32>, NoMemory>
-    ensures { IfOk result (λ numbers. numbers.items ≡ values_of rows.now) }
+// Puts a number under those of these rows.
+fn put_under(first: u32, rows: &[(Text, u32)], firsts: &mut Vec<Option<u32>>)
+    requires { (k : ℕ) → Contains (values_of rows.now) k → k < length firsts.old.items }
+    ensures whole { length firsts.new.items ≡ length firsts.old.items }
+    ensures put { IsPutUnder first (values_of rows.now) firsts.old.items firsts.new.items }
 {
-    let mut numbers = Vec::with_capacity(alloc, rows.len())?;
     for row in rows {
-        numbers.push(row.1)?;
+        firsts[row.1 as usize] = Some(first);
     }
-    Ok(numbers)
 }

@@ -1,23 +1,33 @@
-use Rattle.std.proofs.Common.{subst, sym}
-use Rattle.std.proofs.lemmas.List.Elements.{Contains-get_or}
-use Rattle.std.specs.List.{Contains}
-use Rattle.sm_rules.specs.RuleEvents.{Puts}
-use Rattle.sm_rules.proofs.ListPut.{put_next}
-use Rattle.sm_http_rules.specs.parts.SameRoutes.{ToldOfMarked}
-use Rattle.sm_http_rules.proofs.RoutesTold.{numbers_there}
+use Rattle.std.proofs.Common.{rules, subst, sym}
+use Rattle.std.proofs.lemmas.Cmp.{nat_cmp_total}
+use Rattle.std.proofs.lemmas.Fn.{always_returns_same}
+use Rattle.std.proofs.lemmas.List.Sorted.{ranks_by}
+use Rattle.std.specs.Ordering.{is_lt, nat_cmp}
+use Rattle.sm_http_rules.specs.parts.SameRoutes.{AreByFirsts, AreUnder}
+use Rattle.sm_http_rules.proofs.FirstsInOrder.{rows_moved}
+use Rattle.sm_http_rules.proofs.PairsTold.{numbers_told}
+use Rattle.sm_http_rules.proofs.RoutesTold.{number_there}
 use Rattle.sm_http_rules.proofs.routes.put_inside.Goals as goal
 
-pub put_set-requires-clause-numbers : goal.put_set-requires-clause-numbers
-put_set-requires-clause-numbers c k there =
-    let sets = c.args.sets.now in
-    let set = c.set-item.result in
-    numbers_there c.args.graph.now sets c.requires.sets set
-    (subst (Contains sets) (sym c.set-item.is) (Contains-get_or sets c.loop-set.set-index set c.loop-set-test.true)) k
-    (subst (λ ks. Contains ks k) c.as_slice.ensures there)
+pub put_rows-requires-clause-order : goal.put_rows-requires-clause-order
+put_rows-requires-clause-order c =
+    subst AreByFirsts (sym c.as_slice.ensures.value)
+    (c.sort_unstable_by.ensures.sorted (λ a b. is_lt (nat_cmp a.0 b.0)) (ranks_by nat_cmp_total (λ r. r.0))
+    (always_returns_same _ _ _ (λ a r f called. search rules)))
 
-pub loop-set-preserved : goal.loop-set-preserved
-loop-set-preserved c =
-    let Told = ToldOfMarked c.args.graph.now c.args.inside.now in
-    put_next Told c.args.sets.now c.loop-set.set-index c.set-item.result c.loop-set-test.true c.set-item.is c.args.events.now.items
-    c.loop-set.events.items c.put_set.new.events.items c.loop-set.invariant
-    (subst (λ ks. Puts (Told ks) c.loop-set.events.items c.put_set.new.events.items) c.as_slice.ensures c.in_ok-put_set.ensures)
+pub put_rows-requires-clause-numbers : goal.put_rows-requires-clause-numbers
+put_rows-requires-clause-numbers c r there =
+    let firsts = c.args.firsts.now in
+    let are = subst (AreUnder firsts c.args.numbers.now) (sym c.as_slice.ensures.value)
+    (rows_moved firsts c.args.numbers.now c.in_ok-rows.rows.items c.sort_unstable_by.new.self.items
+    c.sort_unstable_by.ensures.permutation c.in_ok-rows.ensures) in
+    number_there c.args.graph.now firsts c.requires r.1 r.0 ((are r).0 there).1
+
+pub returns : goal.returns
+returns c =
+    let firsts = c.args.firsts.now in
+    numbers_told c.args.graph.now firsts c.args.numbers.now c.as_slice.result.now
+    (subst (AreUnder firsts c.args.numbers.now) (sym c.as_slice.ensures.value)
+    (rows_moved firsts c.args.numbers.now c.in_ok-rows.rows.items c.sort_unstable_by.new.self.items
+    c.sort_unstable_by.ensures.permutation c.in_ok-rows.ensures)) c.args.events.now.items c.put_rows.new.events.items
+    c.in_ok-put_rows.ensures

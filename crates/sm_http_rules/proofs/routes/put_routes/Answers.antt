@@ -1,11 +1,9 @@
-use Rattle.std.proofs.Common.{arith, length, ◌≡◌}
-use Rattle.std.proofs.lemmas.Grind.{common_steps}
-use Rattle.std.proofs.lemmas.List.{drop_all}
+use Rattle.std.proofs.Common.{None, get_or, ℕ, ◌≡◌, subst}
 use Rattle.sm_http_rules.proofs.RoutesTold.{none_told}
 use Rattle.sm_http_rules.proofs.routes.put_routes.Goals as goal
 
-pub returns-then-is_empty : goal.returns-then-is_empty
-returns-then-is_empty c =
-    let sets = c.in_ok-sets.sets.items in
-    let none : length sets ≡ 0 = grind (arith, common_steps, c.is_empty.ensures, c.if-is_empty.true) in
-    none_told c.args.graph.now sets c.in_ok-sets.ensures (drop_all 0 sets (omega (arith, none))) c.args.events.now.items
+pub returns-then-not-is_some : goal.returns-then-not-is_some
+returns-then-not-is_some c =
+    none_told c.args.graph.now c.in_ok-firsts.firsts.items c.in_ok-firsts.ensures
+    (subst (λ fs. (k : ℕ) → get_or fs k None ≡ None) c.as_slice.ensures.value (c.is_some.ensures c.if-not-is_some.true))
+    c.args.events.now.items

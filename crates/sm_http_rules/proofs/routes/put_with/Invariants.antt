@@ -6,4 +6,4 @@ use Rattle.sm_http_rules.proofs.routes.put_with.Given as goal
 
 abbrev pub invariant-loop-other : goal.invariant-loop-other
 invariant-loop-other l =
-    Puts (ToldOf (λ j. IsEitherTold l.graph j l.number) (take l.other-index l.others)) l.fn.events.items l.events.items
+    Puts (ToldOf (λ r. IsEitherTold l.graph r.1 l.number) (take l.other-index l.others)) l.fn.events.items l.events.items

@@ -1,4 +1,4 @@
-use Rattle.std.proofs.Common.{length, ◌-◌, ◌≤◌}
+use Rattle.std.proofs.Common.{length, ◌-◌, ◌≡◌, ◌≤◌}
 use Rattle.sm_http_rules.specs.parts.SameRoutes.{AreGathered}
 use Rattle.sm_http_rules.proofs.same_routes.gathered.Given as goal
 
@@ -8,5 +8,6 @@ decreases-loop-begin l = length l.rows - l.begin
 abbrev pub invariant-loop-begin : goal.invariant-loop-begin
 invariant-loop-begin l = record {
   within : l.begin ≤ length l.rows;
-  sets : AreGathered l.rows l.begin l.sets.items;
+  whole : length l.firsts.items ≡ length l.fn.firsts.items;
+  firsts : AreGathered l.rows l.begin l.firsts.items;
 }

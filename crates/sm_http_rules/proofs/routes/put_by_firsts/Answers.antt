@@ -1,5 +1,5 @@
 use Rattle.sm_http_rules.proofs.RoutesTold.{services_told}
-use Rattle.sm_http_rules.proofs.routes.put_by_sets.Goals as goal
+use Rattle.sm_http_rules.proofs.routes.put_by_firsts.Goals as goal
 
 pub returns : goal.returns
 returns c =

@@ -1,6 +1,0 @@
-use Rattle.std.proofs.Common.{take, ◌≡◌}
-use Rattle.std.specs.Map.{values_of}
-use Rattle.sm_http_rules.proofs.same_routes.numbers_of.Given as goal
-
-abbrev pub invariant-loop-row : goal.invariant-loop-row
-invariant-loop-row l = l.numbers.items ≡ values_of (take l.row-index l.rows)
