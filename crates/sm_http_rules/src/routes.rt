@@ -38,7 +38,7 @@ pub fn put_routes(
         (Puts (IsEventOf HttpRoutes (HasSameRoute (maps_of graph.now))) events.old.items events.new.items) }
 {
     let firsts = same_routes(alloc, graph)?;
-    if !is_some(firsts.as_slice()) {
+    if !has_any(firsts.as_slice()) {
         return Ok(());
     }
     put_by_firsts(alloc, graph, ways, firsts.as_slice(), events)?;
@@ -46,7 +46,7 @@ pub fn put_routes(
 }
 
 // Whether anything stands there.
-fn is_some(firsts: &[Option<u32>]) -> bool
+fn has_any(firsts: &[Option<u32>]) -> bool
     ensures { result ≡ false → (k : ℕ) → get_or firsts.now k None ≡ None }
 {
     for first in firsts {
