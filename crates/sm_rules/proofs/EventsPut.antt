@@ -50,6 +50,15 @@ puts_both Told Other before mid now h k = record {
   severities = λ s. k.severities (h.severities s);
 }
 
+-- and then the same events each once
+pub puts_kept : (Told : EventTold → Type 0) (before mid now : List ModelEvent)
+    → ((e : EventTold) → Contains (events_view mid) e ↔ Contains (events_view now) e)
+    → ((e : ModelEvent) → Contains now e → Contains mid e) → Puts Told before mid → Puts Told before now
+puts_kept Told before mid now same kept h = record {
+  told = λ e. (λ there. (h.told e).0 ((same e).1 there), λ told. (same e).0 ((h.told e).1 told));
+  severities = λ s e there. h.severities s e (kept e there);
+}
+
 -- one where a test passes
 pub puts_where : (test : Bool) (told : EventTold) (before now : List ModelEvent) → test ≡ true → Puts (λ x. x ≡ told) before now
     → Puts (IsWhere test told) before now

@@ -17,6 +17,7 @@ pub mod known;
 pub mod marked;
 pub mod methods;
 pub mod numbers;
+mod once;
 pub mod owned;
 pub mod putting;
 pub mod repeats;

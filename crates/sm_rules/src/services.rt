@@ -16,6 +16,7 @@ ghost use Rattle.sm_select.specs.Ways.{AreWays};
 
 use crate::closures::{Closure, is_own_service};
 use crate::numbers::{numbers_of, rising};
+use crate::once::kept_once;
 use sm_model::{Graph, ModelEvent};
 use sm_select::Ways;
 use sm_tree::NoMemory;
@@ -100,8 +101,10 @@ fn put_runs<R: OfServices>(
     ensures { OnOk result (Puts (ToldOf (R.tells rule.now graph.now) (values_of rows.now)) events.old.items events.new.items) }
 {
     let mut begin = 0;
+    let mut last = events.len();
     while begin < rows.len() {
         begin += put_run(alloc, graph, ways, rule, &rows[begin..], closure, events)?;
+        last = kept_once(alloc, events, last);
     }
     Ok(())
 }

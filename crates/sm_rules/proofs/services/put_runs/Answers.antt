@@ -1,6 +1,9 @@
-use Rattle.std.proofs.Common.{arith, drop, length, subst, take, ◌-◌, ◌≡◌, ◌≤◌, ◌∙◌}
+use Rattle.std.proofs.Common.{arith, drop, length, subst, take, ◌+◌, ◌-◌, ◌≡◌, ◌≤◌, ◌∙◌}
 use Rattle.std.proofs.lemmas.List.{length-drop, take_rest}
+use Rattle.std.specs.Map.{values_of}
 use Rattle.sm_rules.specs.parts.Groups.{IsServiceRow}
+use Rattle.sm_rules.specs.parts.Putting.{ToldOf}
+use Rattle.sm_rules.proofs.EventsPut.{puts_kept}
 use Rattle.sm_rules.proofs.SharedClosures.{of_rest, run_told}
 use Rattle.sm_rules.proofs.services.put_runs.Goals as goal
 
@@ -13,12 +16,15 @@ loop-begin-preserved g c =
     let rows = c.args.rows.now in
     let at = c.loop-begin.begin in
     let count = c.in_ok-begin.field-0 in
+    let told = g.R.OfServices.tells c.args.rule.now c.args.graph.now in
     let left : length (take (length rows - at) (drop at rows)) ≡ length rows - at =
     (λ i. length (take_rest rows at i)) ∙ length-drop at rows in
     let few : count ≤ length rows - at = subst (λ n. count ≤ n) left c.in_ok-begin.ensures.within in
     record {
       within = omega (arith, few, c.loop-begin-test.true);
       clear = c.in_ok-begin.ensures.clear;
-      told = run_told (g.R.OfServices.tells c.args.rule.now c.args.graph.now) rows at count few c.args.events.now.items
-          c.loop-begin.events.items c.put_run.new.events.items c.loop-begin.invariant.told c.in_ok-begin.ensures.told;
+      told = puts_kept (ToldOf told (values_of (take (at + count) rows))) c.args.events.now.items c.put_run.new.events.items
+          c.kept_once-last.new.events.items c.kept_once-last.ensures.same c.kept_once-last.ensures.kept
+          (run_told told rows at count few c.args.events.now.items c.loop-begin.events.items c.put_run.new.events.items
+          c.loop-begin.invariant.told c.in_ok-begin.ensures.told);
     }
