@@ -24,9 +24,9 @@ use sm_select::Ways;
 use sm_tree::NoMemory;
 use std::alloc::Global;
 
-/// Puts the events of the rule, by the ways of the graph: for each pair one for each group of services with the same references that lead
-/// to both, so time and memory may be pairs times groups. n log n where no two operations of the graph have one method and one pattern.
-/// Else beside that a walk of its closure for each group, and n log n in what it has of routes that stand twice.
+/// Puts the events of the rule, by the ways of the graph. n log n where no two operations of the graph have one method and one pattern.
+/// Else beside that, for each group of services with the same references: a walk of its closure, n log n in what it has of routes that
+/// stand twice, and an event for each pair in it. So time is pairs times groups that lead to both; memory is the answer's and a group's.
 pub fn put_routes(
     alloc: Global,
     graph: &Graph,
