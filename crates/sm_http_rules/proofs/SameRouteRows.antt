@@ -13,7 +13,7 @@ use Rattle.std.specs.declared.cmp.Ordering.TheVariants.{Equal, Greater, Less}
 use Rattle.std.proofs.lemmas.Bool.{cases_eq, cases_lt}
 use Rattle.std.proofs.lemmas.List.{drop-drop, drop_all, get_or-drop, get_or-replicate, get_or-set_other, get_or-set_same, get_or-take}
 use Rattle.std.proofs.lemmas.List.{get_or_default, get_or_past}
-use Rattle.std.proofs.lemmas.List.{length-drop, length-replicate, length-take, map-append, take-append-drop, take_all, take_more, take_rest}
+use Rattle.std.proofs.lemmas.List.{length-drop, length-replicate, length-take, map-append, take-append-drop, take_all, take_more}
 use Rattle.std.proofs.lemmas.List.Elements.{All-contains, Contains-append_cases, Contains-append_left, Contains-append_right}
 use Rattle.std.proofs.lemmas.List.Elements.{Contains-get_or, Contains-push, Contains-push_cases}
 use Rattle.std.proofs.lemmas.Option.{none-some, same_Some}
@@ -27,6 +27,7 @@ use Rattle.sm_model.specs.steps.Linking.{Joins}
 use Rattle.sm_model.proofs.Linking.{joins_none, joins_one, joins_same}
 use Rattle.sm_model.proofs.OneRising.{contains_none}
 use Rattle.sm_model.proofs.Worklist.{apart}
+use Rattle.sm_rules.proofs.SharedClosures.{of_first, of_rest}
 use Rattle.sm_http_rules.specs.parts.Routes.{AreRoutes, AreRoutesBelow, IsRouteKey}
 use Rattle.sm_http_rules.specs.parts.SameRoutes.{AreGathered, AreInOrder, AreSameRoutes, AreTogether, HasRoute, HasRow, HaveOneText}
 use Rattle.sm_http_rules.specs.parts.SameRoutes.{IsFirstPut, IsPutUnder, IsRun}
@@ -173,16 +174,11 @@ values_within xs ys within k h =
     let found = Contains-from_values_of xs k h in Contains-values_of ys found.0 k (within (found.0, k) found.1)
 
 pub values_of_first : (n : ℕ) (rows : List (List ℕ × ℕ)) (k : ℕ) → Contains (values_of (take n rows)) k → Contains (values_of rows) k
-values_of_first n rows =
-    values_within (take n rows) rows
-    (λ r h. subst (λ rs. Contains rs r) (take-append-drop n rows) (Contains-append_left (take n rows) (drop n rows) r h))
+values_of_first n rows = values_within (take n rows) rows (of_first (Contains rows) n rows (λ r h. h))
 
 pub values_of_rest : (n : ℕ) (rows : List (List ℕ × ℕ)) (k : ℕ) → Contains (values_of (take (length rows - n) (drop n rows))) k
     → Contains (values_of rows) k
-values_of_rest n rows k h =
-    values_within (drop n rows) rows
-    (λ r h. subst (λ rs. Contains rs r) (take-append-drop n rows) (Contains-append_right (take n rows) (drop n rows) r h)) k
-    (subst (λ rs. Contains (values_of rs) k) (take_rest rows n) h)
+values_of_rest n rows = values_within (take (length rows - n) (drop n rows)) rows (of_rest (Contains rows) n rows (λ r h. h))
 
 -- the first row is one of the first so many
 pub first_value : (rows : List (List ℕ × ℕ)) (count : ℕ) (d : List ℕ × ℕ) → 0 < count → count ≤ length rows
@@ -263,21 +259,21 @@ module _ (rows : List (List ℕ × ℕ)) (texts : HaveOneText rows) (begin count
   from_set : (k : ℕ) → Contains set_of k → HasRow (take (begin + count) rows) k run.key
   from_set k h = subst (λ rs. Contains rs (run.key, k)) (sym parts) (Contains-append_right old new (run.key, k) (in_set k h))
 
-  of_rest : (r : List ℕ × ℕ) → Contains new r → Contains (drop begin rows) r
-  of_rest r h =
+  in_rest : (r : List ℕ × ℕ) → Contains new r → Contains (drop begin rows) r
+  in_rest r h =
       subst (λ rs. Contains rs r) (take-append-drop count (drop begin rows)) (Contains-append_left new (drop count (drop begin rows)) r h)
 
   all_old : (r : List ℕ × ℕ) → Contains old r → Contains rows r
   all_old r h = subst (λ rs. Contains rs r) (take-append-drop begin rows) (Contains-append_left old (drop begin rows) r h)
 
   all_new : (r : List ℕ × ℕ) → Contains new r → Contains rows r
-  all_new r h = subst (λ rs. Contains rs r) (take-append-drop begin rows) (Contains-append_right old (drop begin rows) r (of_rest r h))
+  all_new r h = subst (λ rs. Contains rs r) (take-append-drop begin rows) (Contains-append_right old (drop begin rows) r (in_rest r h))
 
   -- no number stands in both
   apart_from_old : (k : ℕ) (key : List ℕ) → HasRow old k key → Contains set_of k → ⊥
   apart_from_old k key h there =
       let here = in_set k there in
-      before.differ (key, k) (run.key, k) h (of_rest (run.key, k) here)
+      before.differ (key, k) (run.key, k) h (in_rest (run.key, k) here)
       (texts k key run.key (all_old (key, k) h) (all_new (run.key, k) here))
 
   abbrev HasOne : ℕ → ℕ → Type 0
@@ -332,8 +328,8 @@ module _ (rows : List (List ℕ × ℕ)) (texts : HaveOneText rows) (begin count
     where
       by : Contains old (key, j) ⊎ Contains new (key, j) → Contains old (key, k) ⊎ Contains new (key, k) → IsTogether j k
       by (inl a) (inl b) = let t = before.together.all key j k less a b in (t.0, kept j key t.0 a t.1, kept k key t.0 b t.2)
-      by (inl a) (inr b) = absurd (before.differ (key, j) (key, k) a (of_rest (key, k) b) refl)
-      by (inr a) (inl b) = absurd (before.differ (key, k) (key, j) b (of_rest (key, j) a) refl)
+      by (inl a) (inr b) = absurd (before.differ (key, j) (key, k) a (in_rest (key, k) b) refl)
+      by (inr a) (inl b) = absurd (before.differ (key, k) (key, j) b (in_rest (key, j) a) refl)
       by (inr a) (inr b) = both_new key j k less a b
 
   none_behind : (r s : List ℕ × ℕ) → Contains (old ++ new) r → Contains (drop count (drop begin rows)) s → r.0 ≡ s.0 → ⊥

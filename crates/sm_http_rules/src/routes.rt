@@ -24,9 +24,9 @@ use sm_select::Ways;
 use sm_tree::NoMemory;
 use std::alloc::Global;
 
-/// Puts the events of the rule, by the ways of the graph: for each pair one for each group of services with the same references that lead
-/// to both, so time and memory may be pairs times groups. n log n where no two operations of the graph have one method and one pattern.
-/// Else beside that a walk of its closure for each group, and n log n in what it has of routes that stand twice.
+/// Puts the events of the rule, by the ways of the graph. n log n where no two operations of the graph have one method and one pattern.
+/// Else beside that, for each group of services with the same references: a walk of its closure, n log n in what it has of routes that
+/// stand twice, and an event for each pair in it. So time is pairs times groups that lead to both; memory is the answer's and a group's.
 pub fn put_routes(
     alloc: Global,
     graph: &Graph,
@@ -38,7 +38,7 @@ pub fn put_routes(
         (Puts (IsEventOf HttpRoutes (HasSameRoute (maps_of graph.now))) events.old.items events.new.items) }
 {
     let firsts = same_routes(alloc, graph)?;
-    if !is_some(firsts.as_slice()) {
+    if !has_any(firsts.as_slice()) {
         return Ok(());
     }
     put_by_firsts(alloc, graph, ways, firsts.as_slice(), events)?;
@@ -46,7 +46,7 @@ pub fn put_routes(
 }
 
 // Whether anything stands there.
-fn is_some(firsts: &[Option<u32>]) -> bool
+fn has_any(firsts: &[Option<u32>]) -> bool
     ensures { result ≡ false → (k : ℕ) → get_or firsts.now k None ≡ None }
 {
     for first in firsts {

@@ -1,8 +1,10 @@
 use Rattle.std.proofs.Common.{arith, drop, get_or, length, subst, sym, take, ◌-◌, ◌↔◌, ◌≡◌, ℕ}
 use Rattle.std.specs.List.{Contains}
-use Rattle.std.proofs.lemmas.List.{take-append-drop, take_more, take_rest}
-use Rattle.std.proofs.lemmas.List.Elements.{Contains-append_left, Contains-get_or}
+use Rattle.std.proofs.lemmas.List.{take_more, take_rest}
+use Rattle.std.proofs.lemmas.List.Elements.{Contains-get_or}
+use Rattle.sm_model.specs.GraphView.{IsShapeNumber}
 use Rattle.sm_rules.specs.RuleEvents.{Puts}
+use Rattle.sm_rules.proofs.SharedClosures.{of_first}
 use Rattle.sm_http_rules.specs.parts.SameRoutes.{ToldOfRows, first_at}
 use Rattle.sm_http_rules.proofs.FirstsInOrder.{run_begun, run_rows}
 use Rattle.sm_http_rules.proofs.PairsTold.{no_pairs, pairs_next}
@@ -22,8 +24,7 @@ put_with-requires-clause-others c r there =
     let begin = c.run_begin-begin.result in
     let here = (run_rows rows begin place c.run_begin-begin.ensures.run c.run_begin-begin.ensures.within c.loop-place-test.true r).0
     (subst (λ rs. Contains rs r) (take_rest (take place rows) begin) there) in
-    c.requires.numbers r
-    (subst (λ rs. Contains rs r) (take-append-drop place rows) (Contains-append_left (take place rows) (drop place rows) r here.0))
+    of_first (λ s. IsShapeNumber c.args.graph.now s.1) place rows c.requires.numbers r here.0
 
 pub put_with-requires-clause-number : goal.put_with-requires-clause-number
 put_with-requires-clause-number c =
