@@ -201,7 +201,8 @@ defaulted_kind_same model.Operation = refl
 defaulted_kind_same model.Resource = refl
 
 -- what is asked of the rows that name a trait is asked of the table
-module _ (trait : List ℕ) (rs : FoundRows) (all : (test : AsksOfRow) → some_said test rs ≡ some_row trait test trait_rows) (at : Stand) where
+module _ (trait : List ℕ) (rs : FoundRows)
+    (all : (test : AsksOfRow) → some_said test rs ≡ some_row trait test trait_rows) (at : Stand) where
   pub value_by_rows : (n : Node) → (some_said any_row rs && not (cond (some_said (stands_by at) rs) (some_said (reads_there at n) rs)
       (some_said (reads_by n) rs))) ≡ is_wrong_value trait at n
   value_by_rows n = λ i. all any_row i && not (cond (all (stands_by at) i) (all (reads_there at n) i) (all (reads_by n) i))
