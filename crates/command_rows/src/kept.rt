@@ -103,9 +103,11 @@ impl Files for KeptFiles {
         self.change_now();
         match self.files.read(name, limit) {
             Ok(bytes) => Ok(bytes),
-            Err(refusal) => {
+            Err(FileRefusal::TooLong) => Err(FileRefusal::TooLong),
+            Err(FileRefusal::NoMemory) => Err(FileRefusal::NoMemory),
+            Err(FileRefusal::Failed) => {
                 self.read_faults = self.read_faults.saturating_add(1);
-                Err(refusal)
+                Err(FileRefusal::Failed)
             }
         }
     }
@@ -113,9 +115,9 @@ impl Files for KeptFiles {
     fn write(&mut self, name: &str, bytes: &[u8]) -> Result<(), FileRefusal> {
         match self.files.write(name, bytes) {
             Ok(()) => Ok(()),
-            Err(refusal) => {
+            Err(_) => {
                 self.write_faults = self.write_faults.saturating_add(1);
-                Err(refusal)
+                Err(FileRefusal::Failed)
             }
         }
     }

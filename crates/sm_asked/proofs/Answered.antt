@@ -1,5 +1,5 @@
 -- An answer that stands before the input, in a run that refuses no pattern.
-use Rattle.std.proofs.Common.{◌≡◌, ℕ, List, None, Some}
+use Rattle.std.proofs.Common.{◌≡◌, None, Some}
 use Rattle.sm_asked.specs.Answer.{Answer, came}
 use Rattle.sm_asked.specs.Answer.InputUse.{untouched}
 use Rattle.sm_asked.specs.Asked.{Answers, Asked, told_by}

@@ -8,7 +8,7 @@ use Rattle.sm_shapes.specs.Fitting.{Test}
 use Rattle.sm_compile.specs.Answers.{StoreSeen}
 use Rattle.sm_asked.specs.Answer.{Answer, Came, came}
 use Rattle.sm_asked.specs.Answer.InputUse.{untouched}
-use Rattle.sm_asked.specs.Asked.{Answers, Asked, ReadFails, StopsShort, over_files}
+use Rattle.sm_asked.specs.Asked.{Answers, ReadFails, StopsShort, over_files}
 use Rattle.sm_asked.specs.AskedLaws.{AreThere, ComesToOne, ComesToSome, ReachesInput, WritesAsNamed}
 use Rattle.sm_asked.specs.Comes.{CommandComesTo, FilesComeTo}
 use Rattle.sm_asked.specs.Outside.{InputsSeen, inputs_seen}

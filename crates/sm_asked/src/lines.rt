@@ -1,6 +1,5 @@
 // The lines that are printed for model files and models that are refused, for limits, and for events.
 ghost use Rattle.std.specs.Prelude.{◌≡◌, ◌++◌, IfOk, OnOk, string_bytes};
-ghost use Rattle.std.specs.List.{flat_map};
 ghost use Rattle.sm_tree.specs.Pointer.{pointer};
 ghost use Rattle.sm_asked.specs.Lines.{is_shown, shown_line};
 ghost use Rattle.sm_asked.specs.Lines.{detail_part, event_line, event_lines as the_event_lines, severity_word as the_severity_word};

@@ -1,5 +1,5 @@
 -- The words of `body` have one reading.
-use Rattle.std.proofs.Common.{◌≡◌, ℕ, Bool, cond, List, [], ◌∷◌, sym, ap, subst, ◌∙◌, refl, codes, bytes_eq}
+use Rattle.std.proofs.Common.{◌≡◌, ℕ, Bool, cond, List, sym, ap, subst, ◌∙◌, refl, codes, bytes_eq}
 use Rattle.sm_bodies.specs.declared.form.BodyForm.{BodyForm}
 use Rattle.sm_bodies.specs.declared.form.BodyForm.TheVariants.{Json, Cbor}
 use Rattle.sm_body_command.specs.BodyWords.{IsBodyForm, form_word}

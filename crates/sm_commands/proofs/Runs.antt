@@ -1,5 +1,5 @@
 -- From what a command came to, and what was printed, to how the program ends. The answers of `run` cite it.
-use Rattle.std.proofs.Common.{◌≡◌, ◌<◌, ℕ, Bool, true, false, true≢false, inl, inr, List, [], Option, Some, None, Result, Ok, Err, arith}
+use Rattle.std.proofs.Common.{◌≡◌, ℕ, Bool, true, false, true≢false, inl, inr, List, [], Option, Some, None, Result, Ok, Err, arith}
 use Rattle.std.proofs.Common.{sym, subst, refl}
 use Rattle.std.specs.Global.{Vec}
 use Rattle.std.specs.Prelude.{Contains}
@@ -8,7 +8,7 @@ use Rattle.sm_io.specs.Files.{Folder}
 use Rattle.sm_io.specs.Seen.{Stream}
 use Rattle.sm_asked.specs.Answer.{Answer, FileWritten, InputUse, came_writing, code_of}
 use Rattle.sm_asked.specs.Asked.{Answers, Asked, LeavesInput, ReadFails, StopsShort, told_by}
-use Rattle.sm_asked.specs.AskedLaws.{ReachesInput, WritesAsNamed}
+use Rattle.sm_asked.specs.AskedLaws.{ReachesInput}
 use Rattle.sm_asked.specs.Comes.{CommandComesTo}
 use Rattle.sm_asked.specs.Outside.{InputsSeen, Outside}
 use Rattle.sm_asked.specs.Stages.{Told}

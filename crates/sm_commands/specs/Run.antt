@@ -6,7 +6,7 @@ use Rattle.sm_io.specs.Causes.{Rose}
 use Rattle.sm_io.specs.Files.{Folder, Holds, file_at}
 use Rattle.sm_io.specs.Writing.{AppendsPrefix}
 use Rattle.sm_asked.specs.Answer.{Answer, Came, FileWritten, code_of}
-use Rattle.sm_asked.specs.Asked.{Asked, Answers, FileFails, InputFails, ReadFails, RefusedBy, StopsShort, told_by}
+use Rattle.sm_asked.specs.Asked.{Asked, Answers, FileFails, InputFails, RefusedBy, StopsShort, told_by}
 use Rattle.sm_asked.specs.Outside.{Outside}
 use Rattle.sm_asked.specs.declared.status.Status.{Status}
 use Rattle.sm_asked.specs.declared.status.Status.TheVariants.{Done, Refused, Usage, ReadFault, WriteFault, NoMemory, Pattern, Limit}

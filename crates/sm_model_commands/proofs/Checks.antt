@@ -1,8 +1,8 @@
 -- What the command `check` comes to, from what its model files do.
-use Rattle.std.proofs.Common.{◌≡◌, ℕ, List, Result, Ok, Err, inl, subst, refl}
+use Rattle.std.proofs.Common.{◌≡◌, ℕ, List, Result, Ok, Err, subst}
 use Rattle.std.specs.Global.{Vec}
 use Rattle.sm_io.specs.Causes.{Rose}
-use Rattle.sm_io.specs.Seen.{FilesSeen, Stream}
+use Rattle.sm_io.specs.Seen.{FilesSeen}
 use Rattle.sm_load.specs.Events.{AreModelEvents}
 use Rattle.sm_load.specs.declared.model.Model.{Model}
 use Rattle.sm_asked.specs.Answer.{done}

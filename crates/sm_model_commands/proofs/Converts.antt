@@ -1,9 +1,8 @@
 -- What the command `convert` comes to, from what its model files do.
-use Rattle.std.proofs.Common.{◌≡◌, ℕ, inl, List, Ok, Err, refl, ap, ◌∙◌}
+use Rattle.std.proofs.Common.{◌≡◌, ℕ, List, Ok, Err, ap, ◌∙◌}
 use Rattle.std.specs.Global.{Vec}
 use Rattle.sm_io.specs.Causes.{Rose}
-use Rattle.sm_io.specs.Seen.{FilesSeen, Stream}
-use Rattle.std.specs.Prelude.{Result}
+use Rattle.sm_io.specs.Seen.{FilesSeen}
 use Rattle.sm_model.specs.GraphView.{maps_of}
 use Rattle.sm_load.specs.declared.model.Model.{Model}
 use Rattle.sm_asked.specs.Answer.{done}
@@ -13,7 +12,7 @@ use Rattle.sm_model_commands.specs.Convert.ConvertSays.{not_loaded, graph}
 use Rattle.sm_asked.specs.Loading.{LoadAnswers, Loads}
 use Rattle.sm_asked.specs.declared.stop.Stop.{Stop}
 use Rattle.sm_asked.specs.declared.lines.Shown.TheVariants.{Errors}
-use Rattle.sm_asked.proofs.Stops.{stops_map, comes_map}
+use Rattle.sm_asked.proofs.Stops.{stops_map}
 
 pub text_comes : (files files1 : FilesSeen) (models : List (List ℕ)) (form : GraphForm) (m : Model) (text : Vec ℕ)
     → Loads Errors files files1 models (Ok m) → text.items ≡ converted form (maps_of m.graph) → Converts files files1 models form (Ok text)

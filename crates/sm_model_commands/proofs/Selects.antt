@@ -1,10 +1,10 @@
 -- What the command `select` comes to, from what its model files and its selector do.
-use Rattle.std.proofs.Common.{◌≡◌, ℕ, inl, List, Ok, Err, refl, ap, subst}
+use Rattle.std.proofs.Common.{◌≡◌, ℕ, List, Ok, Err, refl, ap, subst}
 use Rattle.std.specs.Global.{Vec}
 use Rattle.std.specs.Prelude.{IfOk, Result}
 use Rattle.sm_tree.specs.declared.NoMemory.{NoMemory}
 use Rattle.sm_io.specs.Causes.{Rose}
-use Rattle.sm_io.specs.Seen.{FilesSeen, Stream}
+use Rattle.sm_io.specs.Seen.{FilesSeen}
 use Rattle.sm_model.specs.Graphs.{GraphMaps}
 use Rattle.sm_model.specs.GraphView.{maps_of}
 use Rattle.sm_load.specs.declared.model.Model.{Model}

@@ -1,5 +1,5 @@
 // The lines of the command `select`.
-ghost use Rattle.std.specs.Prelude.{◌≡◌, ◌++◌, IfOk};
+ghost use Rattle.std.specs.Prelude.{◌≡◌, IfOk};
 ghost use Rattle.sm_model_commands.specs.SelectLines.{broken_selector_line as the_broken_line, other_selector_line as the_other_line};
 ghost use Rattle.sm_model_commands.specs.SelectLines.{id_lines as the_id_lines};
 

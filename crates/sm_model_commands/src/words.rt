@@ -1,5 +1,5 @@
 // The words of `check`, `convert` and `select`.
-ghost use Rattle.std.specs.Prelude.{◌≡◌, List, ℕ, MatchOption};
+ghost use Rattle.std.specs.Prelude.{List, ℕ, MatchOption};
 ghost use Rattle.sm_model_commands.specs.Forms.{GraphForm, IsCheckForm, IsConvertForm, IsSelectForm, SaysGraphForm, graph_form};
 
 use sm_asked::{model_words, models_alone};
