@@ -29,7 +29,7 @@ more_made : (g : Graph) (ss : List Suppressor) (s : Suppressor) → AreOfRules g
     → AreOfRules g (ss ++ s ∷ [])
 more_made g ss s are is may t h = elim (Contains-push_cases ss s t h) [
   | inl old ↦ are t old
-  | inr new ↦ subst (λ x. IsSuppressor g x × (may_be_suppressed x.rule ≡ true)) (sym new) (is, may)
+  | inr new ↦ subst (λ x. IsSuppressor g x × (may_be_suppressed x.rule ≡ true)) new (is, may)
 ]
 
 module _ (rules : List Rule) (i : ℕ) (r : Rule) (within : i < length rules) (is : r ≡ get_or rules i r) where
@@ -40,14 +40,15 @@ module _ (rules : List Rule) (i : ℕ) (r : Rule) (within : i < length rules) (i
   rule_without : (ss : List Suppressor) → HaveOnes (take i rules) ss → may_be_suppressed r ≡ false → HaveOnes (take (i + 1) rules) ss
   rule_without ss have never x h may = elim (Contains-push_cases (take i rules) r x (subst (λ xs. Contains xs x) parts h)) [
     | inl old ↦ have x old may
-    | inr new ↦ absurd (true≢false (sym may ∙ ap may_be_suppressed new ∙ never))
+    | inr new ↦ absurd (true≢false (sym may ∙ ap may_be_suppressed (sym new) ∙ never))
   ]
 
   -- any other has the one that is put behind those there
-  rule_with : (ss : List Suppressor) (s : Suppressor) → HaveOnes (take i rules) ss → s.rule ≡ r → HaveOnes (take (i + 1) rules) (ss ++ s ∷ [])
+  rule_with : (ss : List Suppressor) (s : Suppressor) → HaveOnes (take i rules) ss → s.rule ≡ r
+      → HaveOnes (take (i + 1) rules) (ss ++ s ∷ [])
   rule_with ss s have of x h may = elim (Contains-push_cases (take i rules) r x (subst (λ xs. Contains xs x) parts h)) [
     | inl old ↦ let one = have x old may in (one.0, Contains-append_left ss (s ∷ []) one.0 one.1, one.2)
-    | inr new ↦ (s, Contains-push ss s, of ∙ sym new)
+    | inr new ↦ (s, Contains-push ss s, of ∙ new)
   ]
 
   pub made_next : (g : Graph) (old new : List Suppressor) → AreOfRules g old → HaveOnes (take i rules) old → IsMade g r old new

@@ -81,8 +81,8 @@ fn suppressor_for<'s, 'a>(
     suppressors: &'s [Suppressor<'a>],
     event: &str,
 ) -> Option<&'s Suppressor<'a>>
-    ensures { MatchOption result (λ s. Contains suppressors.now s.now × (rule_id s.now.rule ≡ event.now))
-        ((s : Suppressor) → Contains suppressors.now s → rule_id s.rule ≡ event.now → ⊥) }
+    ensures { MatchOption result ((s : Suppressor) → Contains suppressors.now s → rule_id s.rule ≡ event.now → ⊥)
+        (λ s. Contains suppressors.now s.now × (rule_id s.now.rule ≡ event.now)) }
 {
     for suppressor in suppressors {
         if suppressor.rule.id() == event {

@@ -45,7 +45,7 @@ use Rattle.sm_passes.proofs.OwnShapes.{own_told, told_own}
 use Rattle.sm_passes.proofs.TraitEntries.{entry_found, found_entry}
 use Rattle.sm_trait_rules.specs.steps.Conflicting.{HasText, IsGreaterBy, IsGreaterIfHeld, IsGreaterOfAny, IsGreaterOfBoth, IsGreaterOfTrait}
 use Rattle.sm_trait_rules.specs.steps.Conflicting.{IsGreaterThere, IsHeldThere, IsOfSome, ToldHeld, conflicts_in, conflicts_under, has_text}
-use Rattle.sm_rules.specs.TraitShapes.{Excludes, HasConflict, by_table, by_shape, HasExcludedTrait}
+use Rattle.sm_rules.specs.TraitShapes.{Excludes, HasConflict, HasExcludedTrait}
 use Rattle.sm_passes.proofs.PartsPut.{puts_parts}
 use Rattle.sm_trait_rules.proofs.PlacesTold.{row_reads, some_of}
 use Rattle.sm_model.specs.EventView.{EventTold}
@@ -260,11 +260,14 @@ module _ (P Old : List ℕ → Type 0) (test : Bool) where
 -- what the table tells, and then what the shapes tell
 both_parts : (g : GraphMaps) (id greater : List ℕ)
     → (HasExclusiveTraits g id greater ⊎ HasExcludedTrait g id greater) ↔ HasConflict g id greater
-both_parts g id greater = (λ either. elim either [ inl table ↦ by_table table | inr shape ↦ by_shape shape ], parted)
+both_parts g id greater = (
+  λ either. elim either [ inl table ↦ HasConflict.by_table table | inr shape ↦ HasConflict.by_shape shape ],
+  parted,
+)
   where
     parted : HasConflict g id greater → HasExclusiveTraits g id greater ⊎ HasExcludedTrait g id greater
-    parted (by_table table) = inl table
-    parted (by_shape shape) = inr shape
+    parted (HasConflict.by_table table) = inl table
+    parted (HasConflict.by_shape shape) = inr shape
 
 pub conflicts_put : (g : GraphMaps) (a b c : List ModelEvent) → Puts (IsEventOf TraitConflict (HasExclusiveTraits g)) a b
     → Puts (IsEventOf TraitConflict (HasExcludedTrait g)) b c → Puts (IsEventOf TraitConflict (HasConflict g)) a c

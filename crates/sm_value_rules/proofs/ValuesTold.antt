@@ -36,6 +36,7 @@ use Rattle.sm_value_rules.specs.steps.Valuing.{IsFaultyFor, IsJudgedTrait, IsWan
 use Rattle.sm_rules.specs.TraitShapes.{HasFaultyValue, HasWrongValue, IsTraitShape, by_row, by_shape}
 use Rattle.sm_value_rules.proofs.NodesTold.{adds_one}
 use Rattle.sm_trait_rules.proofs.PlacesTold.{entry_of}
+use Rattle.sm_trait_rules.proofs.TraitsThere.{traits_there}
 
 -- the shape of a trait, by tests
 trait_shape : (g : GraphMaps) (trait : List ℕ) → is_own_shape g trait ≡ true → carries g trait_id trait ≡ true → IsTraitShape g trait
@@ -97,7 +98,7 @@ module _ (g : GraphMaps) (id : List ℕ) (x : Entry) (has : fin.get g.shapes id 
           t.0,
           record {
             n = node_of t.1;
-            carries = (own, traits_there t h.1);
+            carries = (own, traits_there g id x has ts are t h.1);
             shape = h.2.0.0;
             faults = h.2.0.1.0;
             faulty = h.2.0.1.1;

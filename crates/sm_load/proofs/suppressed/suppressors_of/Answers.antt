@@ -1,11 +1,14 @@
-use Rattle.std.proofs.Common.{take, ◌∙◌, subst}
+use Rattle.std.proofs.Common.{◌∙◌, sym, subst}
 use Rattle.std.proofs.lemmas.List.{take_all}
-use Rattle.sm_load.specs.steps.Suppressing.{HaveOnes}
+use Rattle.sm_load.specs.steps.Suppressing.{AreOfRules, HaveOnes}
 use Rattle.sm_load.proofs.SuppressorsFound.{all_made, made_next, no_rules, none_made}
 use Rattle.sm_load.proofs.suppressed.suppressors_of.Goals as goal
 
 pub loop-rule-init : goal.loop-rule-init
-loop-rule-init c = record { each = none_made c.args.graph.now; have = no_rules c.new-all.result.items }
+loop-rule-init c = record {
+  each = subst (AreOfRules c.args.graph.now) (sym c.new-all.ensures.items) (none_made c.args.graph.now);
+  have = no_rules c.new-all.result.items;
+}
 
 pub loop-rule-preserved : goal.loop-rule-preserved
 loop-rule-preserved c =
