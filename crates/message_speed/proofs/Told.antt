@@ -5,6 +5,7 @@ use Rattle.std.specs.Io.KnownBytes.{prepend_known}
 use Rattle.sm_http.specs.declared.message.Message.{Message}
 use Rattle.sm_http.specs.declared.message.Side.{Side}
 use Rattle.sm_http.specs.declared.refusal.HttpRefusal.{HttpRefusal}
+use Rattle.sm_http.specs.Framed.{message, Framed}
 use Rattle.sm_http.specs.Calls.{ReadsAMessage}
 use Rattle.message_speed.specs.Turns.{MessageOf}
 
@@ -12,8 +13,9 @@ told : (side : Side) (bytes : List ℕ) (now left : Option (List ℕ)) (result :
     → ReadsAMessage side (Some bytes) now left result → MessageOf side bytes result
 told side bytes None left (Ok None) r = absurd r
 told side bytes (Some rest) left (Ok None) r = r.0
-told side bytes None left (Ok (Some said)) r = absurd r
-told side bytes (Some rest) left (Ok (Some said)) r = (rest, r)
+told side bytes None left (Ok (Some said)) (used, consumes, framed) = absurd consumes
+told side bytes (Some rest) left (Ok (Some said)) (used, consumes, framed) =
+    (rest, subst (λ b. Framed side b (message said rest)) (sym consumes) (framed rest))
 told side bytes now left (Err refusal) r = tt
 
 all_told : (side : Side) (source now left : Option (List ℕ)) (result : Result (Option Message) HttpRefusal)

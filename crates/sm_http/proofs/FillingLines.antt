@@ -7,28 +7,29 @@ use Rattle.std.specs.Io.KnownBytes.{prepend_known, Consumes, Keeps}
 use Rattle.sm_http.specs.declared.message.Head.{Head}
 use Rattle.sm_http.specs.declared.message.BodyLeft.{BodyLeft}
 use Rattle.sm_http.specs.declared.message.Side.{Side}
-use Rattle.sm_http.specs.declared.held.Unfilled.TheVariants.{Failed}
+use Rattle.sm_http.specs.declared.held.Unfilled.TheVariants.{Failed, NoMemory}
 use Rattle.sm_http.specs.Limits.{head_limit}
 use Rattle.sm_http.specs.declared.held.Unfilled.{Unfilled}
 use Rattle.sm_http.specs.declared.refusal.HttpRefusal.{HttpRefusal}
 use Rattle.sm_http.specs.BodyFields.{body_begin}
 use Rattle.sm_http.specs.Framed.{head, HeadFramed}
-use Rattle.sm_http.specs.Calls.{IfAhead, ReadsAHead, IsWithinLimit}
+use Rattle.sm_http.specs.Calls.{ReadsAHead, IsWithinLimit}
+use Rattle.sm_io.specs.Reading.{LosesPrefix}
 use Rattle.sm_http.specs.steps.Finding.{found_text}
 use Rattle.sm_http.specs.steps.Holding.{Fills}
 use Rattle.sm_http.specs.steps.Looking.{FindsWhole, LooksAHead, HasTaken, FillsOn}
 use Rattle.sm_http.proofs.ReadingHeads.{whole_ahead}
 use Rattle.sm_http.proofs.ReadingMessages.{begins_within}
-use Rattle.sm_http.proofs.ReadingPieces.{consumes_joined, same_ahead}
+use Rattle.sm_io.proofs.Told.{consumes_both, consumes_none, loses_kept}
 
 pub taken_none : (l : Option (List ℕ)) (h : List ℕ) → HasTaken l l h h 0
-taken_none l h = record { taken = []; consumes = same_ahead l; now_is = sym (append-nil h); long = refl }
+taken_none l h = record { taken = []; consumes = consumes_none l; now_is = sym (append-nil h); long = refl }
 
 pub taken_more : (l m r : Option (List ℕ)) (h i k : List ℕ) (n count : ℕ) → HasTaken l m h i n → Fills m r i k (Ok count)
     → HasTaken l r h k (n + count)
 taken_more l m r h i k n count x fills = record {
   taken = x.taken ++ fills.0;
-  consumes = consumes_joined l m r x.taken fills.0 x.consumes fills.1;
+  consumes = consumes_both l m r x.taken fills.0 x.consumes fills.1;
   now_is = fills.2 ∙ ap (λ t. t ++ fills.0) x.now_is ∙ append_assoc h x.taken fills.0;
   long = let one = x.long in let two = fills.3 in let parts = length-append x.taken fills.0 in omega arith;
 }
@@ -45,10 +46,10 @@ taken_some l m r h i k n count x fills some =
     let whole = taken_more l m r h i k n count x fills in
     (whole.taken, whole.consumes, whole.now_is, whole.long, λ none. absurd (omega arith))
 
--- a failed fill took nothing
-pub taken_failed : (l m r : Option (List ℕ)) (h i k : List ℕ) (n : ℕ) → HasTaken l m h i n → Fills m r i k (Err Failed)
-    → FillsOn l r h k (Err Failed)
-taken_failed l m r h i k n x fills = (
+-- a fill that failed or ran out of memory took nothing
+still_taken : (l m r : Option (List ℕ)) (h i k : List ℕ) (n : ℕ) → HasTaken l m h i n → Keeps m r × (k ≡ i)
+    → (count : ℕ) × HasTaken l r h k count
+still_taken l m r h i k n x fills = (
   n,
   record {
     taken = x.taken;
@@ -63,6 +64,25 @@ taken_failed l m r h i k n x fills = (
     kept (Some l) None r taken x y = absurd x
     kept (Some l) (Some m) None taken x y = absurd y
     kept (Some l) (Some m) (Some r) taken x y = x ∙ ap (λ s. taken ++ s) (sym y)
+
+pub taken_failed : (l m r : Option (List ℕ)) (h i k : List ℕ) (n : ℕ) → HasTaken l m h i n → Fills m r i k (Err Failed)
+    → FillsOn l r h k (Err Failed)
+taken_failed l m r h i k n x fills = still_taken l m r h i k n x fills
+
+pub taken_short : (l m r : Option (List ℕ)) (h i k : List ℕ) (n : ℕ) → HasTaken l m h i n → Fills m r i k (Err NoMemory)
+    → FillsOn l r h k (Err NoMemory)
+taken_short l m r h i k n x fills = still_taken l m r h i k n x fills
+
+-- a fill only takes a prefix
+pub loses_filled : (l r : Option (List ℕ)) (h k : List ℕ) (result : Result ℕ Unfilled) → Fills l r h k result → LosesPrefix l r
+loses_filled l r h k (Ok count) fills = (fills.0, fills.1)
+loses_filled l r h k (Err Failed) fills = loses_kept l r fills.0
+loses_filled l r h k (Err NoMemory) fills = loses_kept l r fills.0
+
+pub loses_filled_on : (l r : Option (List ℕ)) (h k : List ℕ) (result : Result ℕ Unfilled) → FillsOn l r h k result → LosesPrefix l r
+loses_filled_on l r h k (Ok count) fills = (fills.0, fills.1)
+loses_filled_on l r h k (Err Failed) fills = (fills.1.taken, fills.1.consumes)
+loses_filled_on l r h k (Err NoMemory) fills = (fills.1.taken, fills.1.consumes)
 
 pub count_within : (l r : Option (List ℕ)) (h k : List ℕ) (n : ℕ) → HasTaken l r h k n → length h ≤ length k
 count_within l r h k n x =
@@ -87,11 +107,8 @@ pub found_ahead : (side : Side) (a l : Option (List ℕ)) (h k : List ℕ) (pair
     → length h ≤ head_limit → FindsWhole side h k pair → ReadsAHead side a (prepend_known k l) l (Ok (Some pair))
 found_ahead side a l h k pair kept few x =
     let whole = whole_ahead side a l h x.found pair.1 kept few x.sees in
-    let moved : IfAhead a (prepend_known k l) (λ bytes rest. HeadFramed side bytes (head x.found.head rest)) =
-    subst (λ s. IfAhead a (prepend_known s l) (λ bytes rest. HeadFramed side bytes (head x.found.head rest))) (sym x.now_is) whole.1 in (
-      whole.0 ∙ ap body_begin (sym x.head_is),
-      subst (λ s. IfAhead a (prepend_known k l) (λ bytes rest. HeadFramed side bytes (head s rest))) (sym x.head_is) moved,
-    )
+    let moved = subst (λ s. ReadsAHead side a (prepend_known s l) l (Ok (Some (x.found.head, pair.1)))) (sym x.now_is) whole in
+    subst (λ s. ReadsAHead side a (prepend_known k l) l (Ok (Some (s, pair.1)))) (sym x.head_is) moved
 
 pub found_within : (side : Side) (h k : List ℕ) (pair : Head × BodyLeft) → FindsWhole side h k pair → IsWithinLimit pair.1
 found_within side h k pair x = let sees = x.sees in begins_within (found_text x.found) pair.1 sees.2 sees.3

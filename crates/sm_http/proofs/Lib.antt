@@ -10,6 +10,7 @@ mod OneChunked
 mod OneBody
 mod OneHead
 mod OneFraming
+mod ByItself
 mod SomeFraming
 mod WrittenRead
 mod LinesSeen

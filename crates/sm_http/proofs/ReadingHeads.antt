@@ -1,11 +1,13 @@
 -- From what is seen of the bytes held to what the bytes ahead come to.
 use Rattle.std.proofs.Common.{◌≡◌, ℕ, ◌+◌, ◌-◌, ◌<◌, ◌≤◌, Bool, true, false, List, [], ◌∷◌, ◌++◌, length, take, drop, refl, sym, ap, ◌∙◌}
 use Rattle.std.proofs.Common.{subst, arith, append-nil, append_assoc, inl, inr, Option, Some, None, Ok, Err}
-use Rattle.std.specs.Prelude.{IfSome, if◌then◌else◌, Result}
+use Rattle.std.specs.Prelude.{IfSome, IsErrOf, if◌then◌else◌, Result}
 use Rattle.std.proofs.lemmas.List.{length-append, take_all}
 use Rattle.std.proofs.Math.Seq.{take-append-add, take-append_seam}
 use Rattle.std.specs.Io.KnownBytes.{prepend_known, Consumes, Keeps}
+use Rattle.httparse.specs.Grammar.{print_request, print_response}
 use Rattle.httparse.proofs.GrammarLemmas.{ReadsRequest-append, ReadsResponse-append}
+use Rattle.sm_http.specs.declared.message.Head.{Head}
 use Rattle.sm_http.specs.declared.message.Side.{Side}
 use Rattle.sm_http.specs.declared.message.Side.TheVariants.{Request as of_requests, Response as of_responses}
 use Rattle.sm_http.specs.declared.message.BodyLeft.{BodyLeft}
@@ -19,7 +21,7 @@ use Rattle.sm_http.specs.declared.held.Unfilled.{Unfilled}
 use Rattle.sm_http.specs.Limits.{head_limit}
 use Rattle.sm_http.specs.Heads.{HeadText, ReadsHead, HasNoHead, NeverHasHead, HeadStands, IsNoHead, AwaitsHead, has_first_line}
 use Rattle.sm_http.specs.Framed.{no_head, head, head_refused, HeadFramed}
-use Rattle.sm_http.specs.Calls.{IfAhead, IsOpenHead, ReadsAHead}
+use Rattle.sm_http.specs.Calls.{IfAhead, IsOpenHead, DecidesHead, ReadsAHead}
 use Rattle.sm_http.specs.steps.Finding.{found_text}
 use Rattle.sm_http.specs.steps.Seeing.{IsLost, RefusesRead, SeesHead}
 use Rattle.sm_http.specs.steps.Holding.{Fills}
@@ -96,6 +98,34 @@ by_some None l h P kept p = tt
 by_some (Some a) None h P kept p = absurd kept
 by_some (Some a) (Some l) h P kept p = subst P kept (p l)
 
+-- ---- what is used of what is held
+
+pub consumed_part : (a l : Option (List ℕ)) (h used k : List ℕ) → h ≡ used ++ k → Keeps a (prepend_known h l)
+    → Consumes a (prepend_known k l) used
+consumed_part None l h used k e kept = tt
+consumed_part (Some a) None h used k e kept = absurd kept
+consumed_part (Some a) (Some l) h used k e kept = sym kept ∙ ap (λ x. x ++ l) e ∙ append_assoc used k l
+
+-- a head stands before whatever follows it
+pub record HeadUsed (side : Side) (bytes rest : List ℕ) (text : HeadText) : Type 0 where
+  pub used : List ℕ
+  pub is : bytes ≡ used ++ rest
+  pub on : (more : List ℕ) → ReadsHead side (used ++ more) text more
+
+pub head_used : (side : Side) (bytes rest : List ℕ) (text : HeadText) → ReadsHead side bytes text rest → HeadUsed side bytes rest text
+head_used of_requests bytes rest text x = record { used = print_request x.0; is = x.1.1; on = λ more. (x.0, (x.1.0, refl), x.2) }
+head_used of_responses bytes rest text x = record { used = print_response x.0; is = x.1.1; on = λ more. (x.0, (x.1.0, refl), x.2) }
+
+pub used_stands : (side : Side) (bytes rest more : List ℕ) (text : HeadText) → length bytes ≤ head_limit + length rest
+    → (u : HeadUsed side bytes rest text) → HeadStands side (u.used ++ more) text more
+used_stands side bytes rest more text few u = record {
+  reads = u.on more;
+  within =
+      let whole = ap length u.is ∙ length-append u.used rest in
+      let parts = length-append u.used more in
+      omega arith;
+}
+
 -- ---- the answers
 
 -- a head is never refused as a failed read
@@ -114,11 +144,15 @@ no_read_fault side h x = no_fault _ _ _ _ _ x.3
 pub whole_ahead : (side : Side) (a l : Option (List ℕ)) (h : List ℕ) (found : HeadFound) (left : BodyLeft)
     → Keeps a (prepend_known h l) → length h ≤ head_limit → SeesHead side h (Ok (Whole found left))
     → ReadsAHead side a (prepend_known (drop found.len h) l) l (Ok (Some (found.head, left)))
-whole_ahead side a l h found left kept few sees = (
-  sees.3,
-  by_ahead a l h (drop found.len h) (λ bytes rest. HeadFramed side bytes (head found.head rest)) kept
-      (λ more. (found_text found, stands_on side h (drop found.len h) more (found_text found) few sees.0, sees.2, refl)),
-)
+whole_ahead side a l h found left kept few sees =
+    let u = head_used side h (drop found.len h) (found_text found) sees.0 in (
+      sees.3,
+      (
+        u.used,
+        consumed_part a l h u.used (drop found.len h) u.is kept,
+        λ more. (found_text found, used_stands side h (drop found.len h) more (found_text found) (omega arith) u, sees.2, refl),
+      ),
+    )
 
 pub refused_ahead : (side : Side) (a n l : Option (List ℕ)) (h : List ℕ) (why : HttpRefusal) → Keeps a (prepend_known h l)
     → length h ≤ head_limit → SeesHead side h (Err why) → ReadsAHead side a n l (Err why)
@@ -204,6 +238,20 @@ ended_ahead side a n l r h k kept fills some short sees =
 pub open_part : (side : Side) (h : List ℕ) → length h < head_limit → SeesHead side h (Ok Part) → IsOpenHead side h
 open_part side [] short sees = inl refl
 open_part side (b ∷ h) short sees = inr (part_ended side (b ∷ h) (omega arith) short sees)
+
+-- where the bytes held at first decide, no part is seen
+pub part_undecided : (side : Side) (at_first h k : List ℕ) → h ≡ at_first → (k ≡ h) × SeesHead side h (Ok Part) → length k < head_limit
+    → DecidesHead side at_first → ⊥
+part_undecided side at_first h k e part short decides =
+    decides (open_part side at_first (subst (λ x. length x < head_limit) (part.0 ∙ e) short)
+    (subst (λ x. SeesHead side x (Ok Part)) e part.1))
+
+-- no bytes are refused as a failed read
+pub never_fault : (side : Side) (h : List ℕ) (why : HttpRefusal)
+    → IsErrOf {T = Option (Head × BodyLeft)} {E = HttpRefusal} (Err why) ReadFault → SeesHead side h (Err why) → ⊥
+never_fault side h why e sees =
+    let same : why ≡ ReadFault = cc in
+    no_read_fault side h (subst (λ w. SeesHead side h (Err w)) same sees)
 
 pub taken_ahead : (a l r : Option (List ℕ)) (h : List ℕ) → Keeps a (prepend_known h l) → Keeps l r → Consumes a r h
 taken_ahead None l r h kept same = tt

@@ -18,7 +18,8 @@ use Rattle.sm_http.specs.Limits.{head_limit, message_body_limit}
 use Rattle.sm_http.specs.Heads.{HeadText, ReadsHead, HeadStands}
 use Rattle.sm_http.specs.BodyFields.{head_refusal, body_begin, told_body, is_past_limit, has_no_body, codings, lengths}
 use Rattle.sm_http.specs.Bodies.{body, body_refused, BodyFramed}
-use Rattle.sm_http.specs.Framed.{head_refused, HeadFramed, message_refused, Framed}
+use Rattle.sm_http.specs.Framed.{head, head_refused, HeadFramed, message_refused, Framed}
+use Rattle.sm_io.proofs.Told.{consumes_both}
 use Rattle.sm_http.specs.Calls.{IsOpen, IsOpenHead, ReadsAHead, IsWithinLimit, ReadsAMessage}
 use Rattle.sm_http.specs.steps.Passing.{RefusesBody, GoesTo}
 use Rattle.sm_http.proofs.BodySteps.{framed_on}
@@ -77,60 +78,33 @@ refused_head side a n m l NoMemory x = tt
 pub said_ahead : (side : Side) (a b c l k : Option (List ℕ)) (h : Head) (left : BodyLeft) (content : List ℕ)
     → ReadsAHead side a b l (Ok (Some (h, left))) → GoesTo left Done b c content
     → ReadsAMessage side a c k (Ok (Some (record { head = h; body = content })))
-said_ahead side None b c l k h left content x goes = tt
-said_ahead side (Some a) None c l k h left content x goes = absurd x.1
-said_ahead side (Some a) (Some b) None l k h left content x goes = absurd goes.consumes
-said_ahead side (Some a) (Some b) (Some c) l k h left content x goes =
-    let framed : BodyFramed left (goes.used ++ c) (body (content ++ []) c) =
-    framed_on left Done goes.used content goes.steps c (body [] c) (([], (refl, refl), refl), λ p. p) in
-    let whole : BodyFramed left b (body content c) =
-    subst (λ s. BodyFramed left b (body s c)) (append-nil content)
-    (subst (λ s. BodyFramed left s (body (content ++ []) c)) (sym goes.consumes) framed) in
-    (b, x.1, subst (λ p. BodyFramed p b (body content c)) x.0 whole)
+said_ahead side a b c l k h left content (begun, (used, consumes, framed)) goes = (
+  used ++ goes.used,
+  consumes_both a b c used goes.used consumes goes.consumes,
+  λ more. (
+    goes.used ++ more,
+    subst (λ s. HeadFramed side s (head h (goes.used ++ more))) (sym (append_assoc used goes.used more)) (framed (goes.used ++ more)),
+    subst (λ p. BodyFramed p (goes.used ++ more) (body content more)) begun
+        (subst (λ s. BodyFramed left (goes.used ++ more) (body s more)) (append-nil content)
+        (framed_on left Done goes.used content goes.steps more (body [] more) (([], (refl, refl), refl), λ p. p))),
+  ),
+)
 
 body_word : (side : Side) (a b l : Option (List ℕ)) (h : Head) (left : BodyLeft) (why : HttpRefusal)
     → ReadsAHead side a b l (Ok (Some (h, left))) → IfSome b (λ bytes. BodyFramed left bytes (body_refused why))
     → IfSome a (λ bytes. Framed side bytes (message_refused why))
 body_word side None b l h left why x y = tt
-body_word side (Some a) None l h left why x y = absurd x.1
-body_word side (Some a) (Some b) l h left why x y =
-    inr (h, b, x.1, subst (λ p. BodyFramed p b (body_refused why)) x.0 y)
-
--- a head stands as well before a prefix of what follows it
-record HeadCut (side : Side) (bytes taken rest : List ℕ) (text : HeadText) : Type 0 where
-  front : List ℕ
-  is : bytes ≡ front ++ (taken ++ rest)
-  stands : HeadStands side (front ++ taken) text taken
-
-cut_stands : (side : Side) (bytes front taken rest : List ℕ) (text : HeadText) → bytes ≡ front ++ (taken ++ rest)
-    → length bytes ≤ head_limit + length (taken ++ rest) → ReadsHead side (front ++ taken) text taken → HeadCut side bytes taken rest text
-cut_stands side bytes front taken rest text e within reads =
-    let whole = ap length e ∙ length-append front (taken ++ rest) in
-    let parts = length-append front taken in
-    record { front = front; is = e; stands = record { reads = reads; within = omega arith } }
-
-head_cut : (side : Side) (bytes taken rest : List ℕ) (text : HeadText) → HeadStands side bytes text (taken ++ rest)
-    → HeadCut side bytes taken rest text
-head_cut of_requests bytes taken rest text x =
-    let reads = x.reads in
-    cut_stands of_requests bytes (print_request reads.0) taken rest text reads.1.1 x.within (reads.0, (reads.1.0, refl), reads.2)
-head_cut of_responses bytes taken rest text x =
-    let reads = x.reads in
-    cut_stands of_responses bytes (print_response reads.0) taken rest text reads.1.1 x.within (reads.0, (reads.1.0, refl), reads.2)
+body_word side (Some a) None l h left why (begun, (used, consumes, framed)) y = absurd consumes
+body_word side (Some a) (Some b) l h left why (begun, (used, consumes, framed)) y =
+    inr (h, b, subst (λ s. HeadFramed side s (head h b)) (sym consumes) (framed b), subst (λ p. BodyFramed p b (body_refused why)) begun y)
 
 pub refused_body : (side : Side) (a b m l k : Option (List ℕ)) (h : Head) (left : BodyLeft) (why : HttpRefusal)
     → ReadsAHead side a b l (Ok (Some (h, left))) → RefusesBody left b k why → ReadsAMessage side a m k (Err why)
-refused_body side None b m l k h left ReadFault x y = ([], tt, inl refl)
-refused_body side (Some a) None m l k h left ReadFault x y = absurd x.1
-refused_body side (Some a) (Some b) m l None h left ReadFault x y = absurd y.1
-refused_body side (Some a) (Some b) m l (Some k) h left ReadFault x y =
-    let taken = y.0 in
-    let stands = subst (λ r. HeadStands side a x.1.0 r) y.1 x.1.1 in
-    let cut = head_cut side a taken k x.1.0 stands in (
-      cut.front ++ taken,
-      cut.is ∙ sym (append_assoc cut.front taken k),
-      inr (inr (h, taken, (x.1.0, cut.stands, x.1.2, x.1.3), subst (λ p. BodyFramed p taken (body_refused Ended)) x.0 y.2)),
-    )
+refused_body side a b m l k h left ReadFault (begun, (used, consumes, framed)) (taken, takes, opened) = (
+  used ++ taken,
+  consumes_both a b k used taken consumes takes,
+  inr (inr (h, taken, framed taken, subst (λ p. BodyFramed p taken (body_refused Ended)) begun opened)),
+)
 refused_body side a b m l k h left Ended x y = body_word side a b l h left Ended x y
 refused_body side a b m l k h left BadHead x y = body_word side a b l h left BadHead x y
 refused_body side a b m l k h left HeadTooLarge x y = body_word side a b l h left HeadTooLarge x y

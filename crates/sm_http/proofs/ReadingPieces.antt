@@ -1,5 +1,5 @@
 -- From what is seen of the bytes held to what a body from a place on comes to.
-use Rattle.std.proofs.Common.{◌≡◌, ℕ, ◌+◌, ◌-◌, ◌<◌, ◌≤◌, List, [], ◌++◌, length, take, drop, refl, sym, ap, subst, ◌∙◌, arith}
+use Rattle.std.proofs.Common.{◌≡◌, ℕ, ◌+◌, ◌-◌, ◌<◌, ◌≤◌, List, [], ◌∷◌, ◌++◌, length, take, drop, refl, sym, ap, subst, ◌∙◌, arith}
 use Rattle.std.proofs.Common.{append_assoc, append-nil, Option, Some, None, Ok, Err}
 use Rattle.std.specs.Prelude.{IfSome, IsErrOf, Result}
 use Rattle.std.proofs.lemmas.List.{length-take-le, take-append-drop}
@@ -14,22 +14,27 @@ use Rattle.sm_http.specs.declared.place.SeenPlace.{SeenPlace}
 use Rattle.sm_http.specs.declared.place.SeenPlace.TheVariants.{Next, Part}
 use Rattle.sm_http.specs.Limits.{piece_limit}
 use Rattle.sm_http.specs.Bodies.{HasBody, IsPastLimit, BodyFraming, body, body_refused, BodyFramed, behind_data}
-use Rattle.sm_http.specs.Calls.{IfAhead, IsWithinLimit, data_room, ReadsAPiece}
+use Rattle.sm_http.specs.Calls.{IsWithinLimit, data_room, DecidesBody, GoesOn, ReadsAPiece}
 use Rattle.sm_http.specs.steps.Holding.{Fills}
 use Rattle.sm_http.specs.steps.Places.{Steps}
 use Rattle.sm_http.specs.steps.Passing.{SeesPlace, RefusesBody, Gives, GoesTo, PassesTo, GivesPiece}
-use Rattle.sm_http.proofs.ReadingHeads.{ahead_same, by_some, some_end, taken_ahead}
+use Rattle.sm_io.proofs.Told.{consumes_both, consumes_none}
+use Rattle.sm_http.proofs.ReadingHeads.{ahead_same, by_some, consumed_part, some_end, taken_ahead}
 use Rattle.sm_http.proofs.BodySteps.{framed_on, known_step, data_step}
-use Rattle.sm_http.proofs.BodyEnds.{known_end}
+use Rattle.sm_http.proofs.BodyEnds.{known_end, known_open, data_open}
 
 -- ---- one call to the next place
 
 consumed : (a l : Option (List ℕ)) (h : List ℕ) (used : ℕ) → Keeps a (prepend_known h l)
     → Consumes a (prepend_known (drop used h) l) (take used h)
-consumed None l h used kept = tt
-consumed (Some a) None h used kept = absurd kept
-consumed (Some a) (Some l) h used kept =
-    sym kept ∙ ap (λ x. x ++ l) (sym (take-append-drop used h)) ∙ append_assoc (take used h) (drop used h) l
+consumed a l h used kept = consumed_part a l h (take used h) (drop used h) (sym (take-append-drop used h)) kept
+
+-- where the bytes held decide, those behind the place do
+pub decides_next : (before next : BodyLeft) (h : List ℕ) (used : ℕ) → SeesPlace before h (Ok (Next used next)) → DecidesBody before h
+    → DecidesBody next (drop used h)
+decides_next before next h used sees decides = λ opened.
+    decides (subst (λ bytes. BodyFramed before bytes (body_refused Ended)) (take-append-drop used h)
+    (framed_on before next (take used h) [] sees.steps (drop used h) (body_refused Ended) opened))
 
 pub next_ahead : (before next : BodyLeft) (a l : Option (List ℕ)) (h : List ℕ) (used : ℕ) → Keeps a (prepend_known h l)
     → SeesPlace before h (Ok (Next used next)) → PassesTo before next a (prepend_known (drop used h) l)
@@ -38,6 +43,21 @@ next_ahead before next a l h used kept sees = record {
   fewer = sees.fewer;
   room = sees.room;
 }
+
+-- where the bytes held at first decide, no part is seen
+pub undecided : (before : BodyLeft) (at_first h : List ℕ) → h ≡ at_first → SeesPlace before h (Ok Part) → DecidesBody before at_first → ⊥
+undecided before at_first h e sees decides = decides (subst (λ x. BodyFramed before x (body_refused Ended)) e sees.1)
+
+-- bytes that decide aren't none, where none are open
+some_held : (left : BodyLeft) (h : List ℕ) → BodyFramed left [] (body_refused Ended) → DecidesBody left h → 0 < length h
+some_held left [] opened decides = absurd (decides opened)
+some_held left (b ∷ h) opened decides = omega arith
+
+pub known_some : (k : ℕ) (h : List ℕ) → 0 < k → DecidesBody (Known k) h → 0 < length h
+known_some k h some decides = some_held (Known k) h (known_open k some) decides
+
+pub data_some : (k total : ℕ) (h : List ℕ) → DecidesBody (Data k total) h → 0 < length h
+data_some k total h decides = some_held (Data k total) h (data_open k total) decides
 
 pub refused_ahead : (before : BodyLeft) (a l r : Option (List ℕ)) (h : List ℕ) (why : HttpRefusal) → Keeps a (prepend_known h l)
     → SeesPlace before h (Err why) → RefusesBody before a r why
@@ -66,12 +86,6 @@ sees_at before s h r q e f sees = subst (λ x. SeesPlace before h x) f (subst (�
 
 -- ---- calls one after the other
 
-pub consumes_joined : (a b c : Option (List ℕ)) (u v : List ℕ) → Consumes a b u → Consumes b c v → Consumes a c (u ++ v)
-consumes_joined None b c u v x y = tt
-consumes_joined (Some a) None c u v x y = absurd x
-consumes_joined (Some a) (Some b) None u v x y = absurd y
-consumes_joined (Some a) (Some b) (Some c) u v x y = x ∙ ap (λ r. u ++ r) y ∙ sym (append_assoc u v c)
-
 steps_joined : (a b c : BodyLeft) (u v p q : List ℕ) → Steps a u p b → Steps b v q c → Steps a (u ++ v) (p ++ q) c
 steps_joined a b c u v p q s t = record {
   on = λ rest content behind x.
@@ -89,7 +103,7 @@ pub goes_joined : (a b c : BodyLeft) (x y z : Option (List ℕ)) (p q : List ℕ
     → GoesTo a c x z (p ++ q)
 goes_joined a b c x y z p q s t = record {
   used = s.used ++ t.used;
-  consumes = consumes_joined x y z s.used t.used s.consumes t.consumes;
+  consumes = consumes_both x y z s.used t.used s.consumes t.consumes;
   steps = steps_joined a b c s.used t.used p q s.steps t.steps;
   within = t.within;
 }
@@ -110,7 +124,7 @@ pub refused_behind : (a b : BodyLeft) (x y left : Option (List ℕ)) (piece : Li
     → RefusesBody b y left why → RefusesBody a x left why
 refused_behind a b x y left piece ReadFault s said = (
   s.used ++ said.0,
-  consumes_joined x y left s.used said.0 s.consumes said.1,
+  consumes_both x y left s.used said.0 s.consumes said.1,
   framed_on a b s.used piece s.steps said.0 (body_refused Ended) said.2,
 )
 refused_behind a b x y left piece Ended s said = word_behind a b x y piece Ended s said
@@ -165,14 +179,10 @@ gives_data most total count x y left buffer within long said =
     (omega (arith, said.1))
     (λ piece all. subst (λ n. Steps (Data n total) piece piece (Data (most - count) total)) all (data_step (most - count) total piece))
 
-pub same_ahead : (x : Option (List ℕ)) → Consumes x x []
-same_ahead None = tt
-same_ahead (Some x) = refl
-
 pub begins_empty : (a : BodyLeft) (x : Option (List ℕ)) → IsWithinLimit a → GoesTo a a x x []
 begins_empty a x within = record {
   used = [];
-  consumes = same_ahead x;
+  consumes = consumes_none x;
   steps = record {
     on = λ rest content behind y. y;
     back = λ rest content behind y none. none content behind y;
@@ -185,7 +195,7 @@ begins_empty a x within = record {
 pub gives_none : (x : Option (List ℕ)) (buffer : List ℕ) → GivesPiece (Known 0) Done x x buffer 0
 gives_none x buffer = record {
   few = omega arith;
-  goes = record { used = []; consumes = same_ahead x; steps = known_end; within = tt };
+  goes = record { used = []; consumes = consumes_none x; steps = known_end; within = tt };
   ends = λ none. refl;
   room = omega arith;
 }
@@ -200,20 +210,6 @@ gives_done x buffer = record {
 
 -- ---- the whole call
 
-framed_ahead : (a b : BodyLeft) (x y : Option (List ℕ)) (piece : List ℕ) → GoesTo a b x y piece
-    → IfAhead x y (λ bytes rest. (framing : BodyFraming) → BodyFramed b rest framing → BodyFramed a bytes (behind_data piece framing))
-framed_ahead a b None y piece s = tt
-framed_ahead a b (Some x) None piece s = absurd s.consumes
-framed_ahead a b (Some x) (Some y) piece s = λ framing framed.
-    subst (λ bytes. BodyFramed a bytes (behind_data piece framing)) (sym s.consumes) (framed_on a b s.used piece s.steps y framing framed)
-
-ended_here : (a : BodyLeft) (x y : Option (List ℕ)) → GoesTo a Done x y [] → IfAhead x y (λ bytes rest. BodyFramed a bytes (body [] rest))
-ended_here a None y s = tt
-ended_here a (Some x) None s = absurd s.consumes
-ended_here a (Some x) (Some y) s =
-    subst (λ bytes. BodyFramed a bytes (body [] y)) (sym s.consumes)
-    (framed_on a Done s.used [] s.steps y (body [] y) (([], (refl, refl), refl), λ p. p))
-
 pub gives_behind : (a b c d : BodyLeft) (x y z v : Option (List ℕ)) (buffer : List ℕ) (count : ℕ) → PassesTo a b x y → PassesTo b c y z
     → GivesPiece c d z v buffer count → GivesPiece a d x v buffer count
 gives_behind a b c d x y z v buffer count first second gives = record {
@@ -223,14 +219,27 @@ gives_behind a b c d x y z v buffer count first second gives = record {
   room = let one = first.room in let two = second.room in let three = gives.room in omega arith;
 }
 
+ended_here : (a d : BodyLeft) (used more : List ℕ) (piece : List ℕ) → d ≡ Done → piece ≡ [] → Steps a used piece d
+    → BodyFramed a (used ++ more) (body [] more)
+ended_here a d used more piece e none steps =
+    framed_on a Done used [] (subst (λ p. Steps a used p Done) none (subst (λ x. Steps a used piece x) e steps)) more (body [] more)
+    (([], (refl, refl), refl), λ p. p)
+
 pub piece_ahead : (a d : BodyLeft) (x v left : Option (List ℕ)) (buffer : List ℕ) (count : ℕ) → GivesPiece a d x v buffer count
     → ReadsAPiece a d x v left buffer (Ok count)
-piece_ahead a d x v left buffer count gives = (
-  gives.few,
-  λ none. ended_here a x v (subst (λ n. GoesTo a Done x v (take n buffer)) none
-      (subst (λ e. GoesTo a e x v (take count buffer)) (gives.ends none) gives.goes)),
-  framed_ahead a d x v (take count buffer) gives.goes,
-)
+piece_ahead a d x v left buffer count gives =
+    let goes = gives.goes in (
+      gives.few,
+      gives.ends,
+      (
+        goes.used,
+        goes.consumes,
+        λ more. record {
+          on = λ framing framed. framed_on a d goes.used (take count buffer) goes.steps more framing framed;
+          ends = λ none. ended_here a d goes.used more (take count buffer) (gives.ends none) (ap (λ n. take n buffer) none) goes.steps;
+        },
+      ),
+    )
 
 -- ---- pieces one after the other
 
@@ -282,4 +291,4 @@ held_whole n l h k xs inside e f =
       steps = subst (λ m. Steps (Known m) (take n h) (take n h) (Known 0)) all (known_step 0 (take n h));
       within = omega arith;
     })
-    (record { used = []; consumes = same_ahead (prepend_known (drop n h) l); steps = known_end; within = tt })))
+    (record { used = []; consumes = consumes_none (prepend_known (drop n h) l); steps = known_end; within = tt })))

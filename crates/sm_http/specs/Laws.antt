@@ -1,4 +1,5 @@
--- What is to hold of the definitions: bytes come to one answer, never to none, and a written message is read as itself.
+-- What is to hold of the definitions: bytes come to one answer, never to none, a message is one by its own bytes alone, and a written
+-- message is read as itself.
 use Rattle.std.specs.Prelude.{◌≡◌, ℕ, List, ◌++◌}
 use Rattle.sm_http.specs.declared.message.Message.{Message}
 use Rattle.sm_http.specs.declared.message.Side.{Side}
@@ -20,6 +21,11 @@ HasOneFraming side = (bytes : List ℕ) (a b : Framing) → Framed side bytes a 
 -- no bytes are without an answer: it can't be that each of them is denied
 abbrev pub HasSomeFraming : Side → Type 0
 HasSomeFraming side = (bytes : List ℕ) → ((a : Framing) → Framed side bytes a → ⊥) → ⊥
+
+-- a message is so many bytes, and is that message whatever follows these
+abbrev pub HasMessageByItself : Side → Type 0
+HasMessageByItself side = (bytes : List ℕ) (said : Message) (rest : List ℕ) → Framed side bytes (message said rest)
+    → (used : List ℕ) × (bytes ≡ used ++ rest) × ((more : List ℕ) → Framed side (used ++ more) (message said more))
 
 -- a written message is read again as itself, whatever follows it
 abbrev pub WrittenIsRead : Side → Type 0

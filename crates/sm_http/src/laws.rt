@@ -1,7 +1,7 @@
 // Laws of the definitions, each the contract of a function that does nothing.
 ghost use Rattle.sm_http.specs.declared.message.BodyLeft.{BodyLeft};
 ghost use Rattle.sm_http.specs.declared.message.Side.{Side};
-ghost use Rattle.sm_http.specs.Laws.{HasOneHead, HasOneBody, HasOneFraming, HasSomeFraming, WrittenIsRead};
+ghost use Rattle.sm_http.specs.Laws.{HasOneHead, HasOneBody, HasOneFraming, HasSomeFraming, HasMessageByItself, WrittenIsRead};
 
 /// Bytes begin with one head at most, or are refused by one word, and never both.
 pub fn one_head()
@@ -21,6 +21,11 @@ pub fn one_answer()
 /// No bytes are without an answer.
 pub fn some_answer()
     ensures { (side : Side) → HasSomeFraming side }
+{}
+
+/// A message is one by its own bytes alone: so many of the bytes are that message, whatever follows them.
+pub fn message_by_itself()
+    ensures { (side : Side) → HasMessageByItself side }
 {}
 
 /// A written message is read again as itself, whatever follows it.

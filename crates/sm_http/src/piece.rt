@@ -2,8 +2,9 @@
 ghost use Rattle.std.specs.Prelude.{◌≡◌, ◌+◌, ◌<◌, ◌≤◌, length, OnOk, IfOk, IsErrOf};
 ghost use Rattle.std.specs.Io.KnownBytes.{prepend_known};
 ghost use Rattle.sm_io.specs.Causes.{HasCause};
+ghost use Rattle.sm_io.specs.Reading.{LosesPrefix};
 ghost use Rattle.sm_http.specs.Limits.{head_limit};
-ghost use Rattle.sm_http.specs.Calls.{IsWithinLimit, data_room, ReadsAPiece};
+ghost use Rattle.sm_http.specs.Calls.{IsWithinLimit, data_room, DecidesBody, ReadsAPiece};
 ghost use Rattle.sm_http.specs.steps.Passing.{lines_before, Gives, Passes, GivesBody};
 
 use crate::HttpRefusal;
@@ -23,6 +24,8 @@ fn pass_place<S: Source>(
     ensures bytes { Passes left.old left.new (prepend_known held.old (S.left source.old)) (prepend_known held.new (S.left source.new))
         (S.left source.new) result }
     ensures few { length held.new ≤ head_limit }
+    ensures taken { LosesPrefix (S.left source.old) (S.left source.new) }
+    ensures alone { DecidesBody left.old held.old → (source.new ≡ source.old) × OnOk result (DecidesBody left.new held.new) }
     ensures later { S.faults source.old ≤ S.faults source.new }
     ensures cause { HasCause (IsErrOf result HttpRefusal.ReadFault) (S.faults source.old) (S.faults source.new) }
 {
@@ -57,6 +60,8 @@ fn take_data<S: Source>(
     ensures bytes { Gives most (prepend_known held.old (S.left source.old)) (prepend_known held.new (S.left source.new))
         (S.left source.new) buf.new result }
     ensures few { length held.new ≤ head_limit }
+    ensures taken { LosesPrefix (S.left source.old) (S.left source.new) }
+    ensures unasked { 0 < length held.old → source.new ≡ source.old }
     ensures later { S.faults source.old ≤ S.faults source.new }
     ensures cause { HasCause (IsErrOf result HttpRefusal.ReadFault) (S.faults source.old) (S.faults source.new) }
 {
@@ -87,6 +92,8 @@ fn give_data<S: Source>(
     ensures bytes { GivesBody left.old left.new (prepend_known held.old (S.left source.old)) (prepend_known held.new (S.left source.new))
         (S.left source.new) buf.new result }
     ensures few { length held.new ≤ head_limit }
+    ensures taken { LosesPrefix (S.left source.old) (S.left source.new) }
+    ensures unasked { DecidesBody left.old held.old → source.new ≡ source.old }
     ensures later { S.faults source.old ≤ S.faults source.new }
     ensures cause { HasCause (IsErrOf result HttpRefusal.ReadFault) (S.faults source.old) (S.faults source.new) }
 {
@@ -128,6 +135,8 @@ pub(crate) fn next_piece<S: Source>(
     ensures bytes { GivesBody left.old left.new (prepend_known held.old (S.left source.old)) (prepend_known held.new (S.left source.new))
         (S.left source.new) buf.new result }
     ensures few { length held.new ≤ head_limit }
+    ensures taken { LosesPrefix (S.left source.old) (S.left source.new) }
+    ensures unasked { DecidesBody left.old held.old → source.new ≡ source.old }
     ensures later { S.faults source.old ≤ S.faults source.new }
     ensures cause { HasCause (IsErrOf result HttpRefusal.ReadFault) (S.faults source.old) (S.faults source.new) }
 {
@@ -146,7 +155,8 @@ pub(crate) fn next_piece<S: Source>(
 }
 
 /// The next data of a body, at the start of the buffer, and where the body stands behind it. None exactly at the end.
-/// After `ReadFault` the bytes that were held and taken are a body that hasn't ended.
+/// After `ReadFault` the bytes that were held and taken are a body that hasn't ended. The source is asked for nothing where the bytes
+/// held are the rest of the body, whole, or are refused.
 pub fn read_piece<S: Source>(
     source: &mut S,
     held: &mut Held,
@@ -159,6 +169,8 @@ pub fn read_piece<S: Source>(
     ensures within { OnOk result (IsWithinLimit left.new) }
     ensures room { IfOk result (λ count. data_room left.new + count ≤ data_room left.old) }
     ensures few { length held.new ≤ head_limit }
+    ensures taken { LosesPrefix (S.left source.old) (S.left source.new) }
+    ensures unasked { DecidesBody left.old held.old → source.new ≡ source.old }
     ensures later { S.faults source.old ≤ S.faults source.new }
     ensures cause { HasCause (IsErrOf result HttpRefusal.ReadFault) (S.faults source.old) (S.faults source.new) }
 {

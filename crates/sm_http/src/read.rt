@@ -2,9 +2,10 @@
 ghost use Rattle.std.specs.Prelude.{◌≡◌, ◌≤◌, length, take, drop, OnOk, IfOk, IfSome, IsErrOf};
 ghost use Rattle.std.specs.Io.KnownBytes.{prepend_known};
 ghost use Rattle.sm_io.specs.Causes.{HasCause};
+ghost use Rattle.sm_io.specs.Reading.{LosesPrefix};
 ghost use Rattle.sm_http.specs.declared.message.BodyLeft.TheVariants.{Known};
 ghost use Rattle.sm_http.specs.Limits.{head_limit};
-ghost use Rattle.sm_http.specs.Calls.{ReadsAHead, BeginsWithin, IsWithinLimit, ReadsAMessage};
+ghost use Rattle.sm_http.specs.Calls.{ReadsAHead, BeginsWithin, DecidesHead, IsWithinLimit, ReadsAMessage};
 ghost use Rattle.sm_http.specs.steps.Passing.{TakesBody};
 
 use crate::HttpRefusal;
@@ -18,7 +19,8 @@ use sm_tree::Bytes;
 use std::alloc::{AllocError, Global};
 
 /// The next head, and the body that begins behind it. None exactly where no byte is left.
-/// After `ReadFault` the bytes that were held and taken are nothing or a head that hasn't ended.
+/// After `ReadFault` the bytes that were held and taken are nothing or a head that hasn't ended. The source is asked for nothing where
+/// the bytes held have the whole head, or are refused.
 pub fn read_head<S: Source>(
     alloc: Global,
     source: &mut S,
@@ -29,6 +31,8 @@ pub fn read_head<S: Source>(
         (S.left source.new) result }
     ensures within { BeginsWithin result }
     ensures few { length held.new ≤ head_limit }
+    ensures taken { LosesPrefix (S.left source.old) (S.left source.new) }
+    ensures unasked { DecidesHead side held.old → source.new ≡ source.old }
     ensures later { S.faults source.old ≤ S.faults source.new }
     ensures cause { HasCause (IsErrOf result HttpRefusal.ReadFault) (S.faults source.old) (S.faults source.new) }
 {
@@ -73,6 +77,7 @@ fn read_body<S: Source>(
     ensures bytes { TakesBody begun (prepend_known held.old (S.left source.old)) (prepend_known held.new (S.left source.new))
         (S.left source.new) result }
     ensures few { length held.new ≤ head_limit }
+    ensures taken { LosesPrefix (S.left source.old) (S.left source.new) }
     ensures later { S.faults source.old ≤ S.faults source.new }
     ensures cause { HasCause (IsErrOf result HttpRefusal.ReadFault) (S.faults source.old) (S.faults source.new) }
 {
@@ -132,6 +137,7 @@ pub fn read_message<S: Source>(
     ensures bytes { ReadsAMessage side (prepend_known held.old (S.left source.old)) (prepend_known held.new (S.left source.new))
         (S.left source.new) result }
     ensures few { length held.new ≤ head_limit }
+    ensures taken { LosesPrefix (S.left source.old) (S.left source.new) }
     ensures later { S.faults source.old ≤ S.faults source.new }
     ensures cause { HasCause (IsErrOf result HttpRefusal.ReadFault) (S.faults source.old) (S.faults source.new) }
 {

@@ -9,7 +9,7 @@ abbrev pub Fills : Option (List ℕ) → Option (List ℕ) → List ℕ → List
 Fills left rest before now (Ok count) =
     (taken : List ℕ) × Consumes left rest taken × (now ≡ before ++ taken) × (length taken ≡ count) × (count ≡ 0 → IsAtEnd rest)
 Fills left rest before now (Err Failed) = Keeps left rest × (now ≡ before)
-Fills left rest before now (Err NoMemory) = Unit {0}
+Fills left rest before now (Err NoMemory) = Keeps left rest × (now ≡ before)
 
 -- the same for room of which the first bytes are used
 abbrev pub FillsRoom : Option (List ℕ) → Option (List ℕ) → ℕ → List ℕ → List ℕ → Result ℕ Fault → Type 0

@@ -34,4 +34,4 @@ pub record HasTaken (left rest : Option (List ℕ)) (before now : List ℕ) (cou
 abbrev pub FillsOn : Option (List ℕ) → Option (List ℕ) → List ℕ → List ℕ → Result ℕ Unfilled → Type 0
 FillsOn left rest before now (Ok count) = Fills left rest before now (Ok count)
 FillsOn left rest before now (Err Failed) = (count : ℕ) × HasTaken left rest before now count
-FillsOn left rest before now (Err NoMemory) = Unit {0}
+FillsOn left rest before now (Err NoMemory) = (count : ℕ) × HasTaken left rest before now count

@@ -1,10 +1,10 @@
 use Rattle.std.proofs.Common.{sym, ap, subst, ◌-◌, ◌∙◌, arith}
 use Rattle.std.specs.Io.KnownBytes.{prepend_known}
 use Rattle.sm_http.specs.declared.message.BodyLeft.TheVariants.{Known, Data, Done}
-use Rattle.sm_http.specs.Calls.{IsWithinLimit}
+use Rattle.sm_http.specs.Calls.{IsWithinLimit, DecidesBody}
 use Rattle.sm_http.specs.steps.Passing.{GivesPiece, RefusesBody}
 use Rattle.sm_http.proofs.BodyEnds.{known_open, data_open}
-use Rattle.sm_http.proofs.ReadingPieces.{gives_none, gives_done, gives_refused, gives_known, gives_data}
+use Rattle.sm_http.proofs.ReadingPieces.{known_some, data_some, gives_none, gives_done, gives_refused, gives_known, gives_data}
 use Rattle.sm_http.proofs.piece.give_data.Goals as goal
 
 pub returns-then-most-eq0-clause-bytes : goal.returns-then-most-eq0-clause-bytes
@@ -53,3 +53,23 @@ pub returns-in-Done-clause-bytes : goal.returns-in-Done-clause-bytes
 returns-in-Done-clause-bytes g c =
     let ahead = prepend_known c.args.held.now (g.S.Source.left c.args.source.now) in
     subst (λ p. GivesPiece p p ahead ahead c.args.buf.now 0) (sym c.in-Done.is) (gives_done ahead c.args.buf.now)
+
+pub returns-in-Err-clause-unasked : goal.returns-in-Err-clause-unasked
+returns-in-Err-clause-unasked g c = λ decides.
+    c.in-Err.ensures.unasked (known_some c.in-Known.most c.args.held.now (omega (arith, c.if-most-eq0.false))
+    (subst (λ p. DecidesBody p c.args.held.now) c.in-Known.is decides))
+
+pub returns-in-Ok-clause-unasked : goal.returns-in-Ok-clause-unasked
+returns-in-Ok-clause-unasked g c = λ decides.
+    c.in-Ok.ensures.unasked (known_some c.in-Known.most c.args.held.now (omega (arith, c.if-most-eq0.false))
+    (subst (λ p. DecidesBody p c.args.held.now) c.in-Known.is decides))
+
+pub returns-in-Err-take_data-clause-unasked : goal.returns-in-Err-take_data-clause-unasked
+returns-in-Err-take_data-clause-unasked g c = λ decides.
+    c.in-Err-take_data.ensures.unasked (data_some c.in-Data.most c.in-Data.total c.args.held.now
+    (subst (λ p. DecidesBody p c.args.held.now) c.in-Data.is decides))
+
+pub returns-in-Ok-take_data-clause-unasked : goal.returns-in-Ok-take_data-clause-unasked
+returns-in-Ok-take_data-clause-unasked g c = λ decides.
+    c.in-Ok-take_data.ensures.unasked (data_some c.in-Data.most c.in-Data.total c.args.held.now
+    (subst (λ p. DecidesBody p c.args.held.now) c.in-Data.is decides))

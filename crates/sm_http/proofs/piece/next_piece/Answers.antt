@@ -1,5 +1,6 @@
 use Rattle.std.proofs.Common.{[]}
 use Rattle.std.specs.Io.KnownBytes.{prepend_known}
+use Rattle.sm_io.proofs.Told.{loses_both}
 use Rattle.sm_http.proofs.ReadingPieces.{goes_joined, refused_behind, gives_behind}
 use Rattle.sm_http.proofs.piece.next_piece.Goals as goal
 
@@ -28,3 +29,14 @@ returns-in-Err-give_data-clause-bytes g c =
     (goes_joined c.args.left.now c.pass_place.new.left c.pass_place-2.new.left ahead first second [] [] c.in-Ok.ensures.bytes.goes
     c.in-Ok-pass_place.ensures.bytes.goes)
     c.in-Err-give_data.ensures.bytes
+
+pub returns-in-Err-pass_place-clause-taken : goal.returns-in-Err-pass_place-clause-taken
+returns-in-Err-pass_place-clause-taken g c = loses_both _ _ _ c.in-Ok.ensures.taken c.in-Err-pass_place.ensures.taken
+
+pub returns-in-Ok-give_data-clause-taken : goal.returns-in-Ok-give_data-clause-taken
+returns-in-Ok-give_data-clause-taken g c =
+    loses_both _ _ _ (loses_both _ _ _ c.in-Ok.ensures.taken c.in-Ok-pass_place.ensures.taken) c.in-Ok-give_data.ensures.taken
+
+pub returns-in-Err-give_data-clause-taken : goal.returns-in-Err-give_data-clause-taken
+returns-in-Err-give_data-clause-taken g c =
+    loses_both _ _ _ (loses_both _ _ _ c.in-Ok.ensures.taken c.in-Ok-pass_place.ensures.taken) c.in-Err-give_data.ensures.taken

@@ -1,12 +1,16 @@
--- The bytes ahead are the same, held or left.
-use Rattle.std.proofs.Common.{◌≤◌, ◌-◌, length}
+-- The bytes ahead are the same, held or left; and nothing was asked of the source where those held at first decide.
+use Rattle.std.proofs.Common.{◌≡◌, ◌≤◌, ◌-◌, length}
 use Rattle.std.specs.Io.KnownBytes.{prepend_known, Keeps}
+use Rattle.sm_io.specs.Reading.{LosesPrefix}
 use Rattle.sm_http.specs.Limits.{head_limit}
+use Rattle.sm_http.specs.Calls.{DecidesBody}
 use Rattle.sm_http.proofs.piece.pass_place.Given as goal
 
 abbrev pub invariant-loop-used : goal.invariant-loop-used
 invariant-loop-used g l = record {
   kept : Keeps (prepend_known l.fn.held (g.S.Source.left l.fn.source)) (prepend_known l.held (g.S.Source.left l.source));
+  taken : LosesPrefix (g.S.Source.left l.fn.source) (g.S.Source.left l.source);
+  alone : DecidesBody l.fn.left l.fn.held → (l.source ≡ l.fn.source) × (l.held ≡ l.fn.held);
   faults : g.S.Source.faults l.fn.source ≤ g.S.Source.faults l.source;
 }
 

@@ -1,5 +1,6 @@
 use Rattle.std.proofs.Common.{arith, sym, subst}
 use Rattle.std.specs.Io.KnownBytes.{prepend_known}
+use Rattle.sm_io.proofs.Told.{loses_none, loses_both}
 use Rattle.sm_http.specs.steps.Passing.{GoesTo}
 use Rattle.sm_http.proofs.ReadingPieces.{begins_empty, refused_behind, whole_body, more_body}
 use Rattle.sm_http.proofs.read.read_body.Goals as goal
@@ -10,6 +11,7 @@ loop-count-init g c =
     record {
       goes = subst (λ s. GoesTo c.args.begun c.args.begun ahead ahead s) (sym c.new-body.ensures.items)
           (begins_empty c.args.begun ahead c.requires);
+      taken = loses_none (g.S.Source.left c.args.source.now);
       faults = omega arith;
     }
 
@@ -38,5 +40,15 @@ loop-count-preserved g c = record {
       (prepend_known c.next_piece.new.held (g.S.Source.left c.next_piece.new.source)) c.loop-count.body.items
       c.extend_from_slice.new.self.items c.next_piece.new.buf c.in-Ok.count
       c.in-Ok-extend_from_slice.ensures.items c.loop-count.invariant.goes c.in-Ok.ensures.bytes;
+  taken = loses_both _ _ _ c.loop-count.invariant.taken c.in-Ok.ensures.taken;
   faults = omega (arith, c.loop-count.invariant.faults, c.in-Ok.ensures.later);
 }
+
+pub returns-in-Err-clause-taken : goal.returns-in-Err-clause-taken
+returns-in-Err-clause-taken g c = loses_both _ _ _ c.loop-count.invariant.taken c.in-Err.ensures.taken
+
+pub returns-then-count-eq0-clause-taken : goal.returns-then-count-eq0-clause-taken
+returns-then-count-eq0-clause-taken g c = loses_both _ _ _ c.loop-count.invariant.taken c.in-Ok.ensures.taken
+
+pub returns-in-Err-extend_from_slice-clause-taken : goal.returns-in-Err-extend_from_slice-clause-taken
+returns-in-Err-extend_from_slice-clause-taken g c = loses_both _ _ _ c.loop-count.invariant.taken c.in-Ok.ensures.taken

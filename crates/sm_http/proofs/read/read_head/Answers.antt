@@ -1,16 +1,20 @@
-use Rattle.std.proofs.Common.{◌<◌, length, sym, ap, subst, ◌∙◌, arith, Ok, Err, Some, None}
+use Rattle.std.proofs.Common.{◌<◌, length, refl, sym, ap, subst, ◌∙◌, arith, Ok, Err, Some, None}
 use Rattle.std.specs.Io.KnownBytes.{prepend_known, Keeps}
 use Rattle.sm_http.specs.declared.see.Seen.TheVariants.{Part}
 use Rattle.sm_http.specs.Limits.{head_limit}
 use Rattle.sm_http.specs.steps.Seeing.{SeesHead}
 use Rattle.sm_http.specs.declared.held.Unfilled.TheVariants.{Failed}
 use Rattle.sm_http.proofs.ReadingHeads.{ahead_same, ahead_kept, refused_ahead, large_ahead, ended_ahead, open_part}
-use Rattle.sm_http.proofs.FillingLines.{found_ahead, found_within, looks_at, fills_on_at, ahead_taken, consumed_whole}
+use Rattle.sm_http.proofs.ReadingHeads.{part_undecided, never_fault}
+use Rattle.sm_io.proofs.Told.{loses_none, loses_both}
+use Rattle.sm_http.proofs.FillingLines.{loses_filled_on, found_ahead, found_within, looks_at, fills_on_at, ahead_taken, consumed_whole}
 use Rattle.sm_http.proofs.read.read_head.Goals as goal
 
 pub loop-found-init : goal.loop-found-init
 loop-found-init g c = record {
   kept = ahead_same (g.S.Source.left c.args.source.now) c.args.held.now;
+  taken = loses_none (g.S.Source.left c.args.source.now);
+  alone = λ decides. (refl, refl);
   faults = omega arith;
 }
 
@@ -52,6 +56,10 @@ loop-found-preserved g c =
     (prepend_known s (g.S.Source.left c.loop-found.source))) (sym none.0) c.loop-found.invariant.kept in
     record {
       kept = ahead_kept _ _ _ _ _ c.in-Ok.field-0 kept (fills_on_at _ _ _ _ _ (Ok c.in-Ok.field-0) c.in-Ok.is c.fill_line.ensures.bytes);
+      taken = loses_both _ _ _ c.loop-found.invariant.taken (loses_filled_on _ _ _ _ _ c.fill_line.ensures.bytes);
+      alone = λ decides. absurd (part_undecided c.args.side c.args.held.now c.loop-found.held c.look.new.held
+          (c.loop-found.invariant.alone decides).1 none
+          (omega (arith, ap length c.as_slice.ensures.bytes, c.look.ensures.still_few, c.if-as_slice-eq-HEAD_LIMIT.false)) decides);
       faults = omega (arith, c.loop-found.invariant.faults, c.fill_line.ensures.later);
     }
 
@@ -115,3 +123,65 @@ returns-in-Err-look-clause-bytes g c =
     (g.S.Source.left c.fill_line.new.source) c.fill_line.new.held c.in-Err-look.refusal now c.look-in-Err-Failed.ensures.few
     (looks_at c.args.side c.fill_line.new.held c.look-in-Err-Failed.new.held c.look-in-Err-Failed.result
     (Err c.in-Err-look.refusal) c.in-Err-look.is c.look-in-Err-Failed.ensures.bytes)
+
+pub returns-in-Err-clause-cause : goal.returns-in-Err-clause-cause
+returns-in-Err-clause-cause g c = λ e.
+    absurd (never_fault c.args.side c.loop-found.held c.in-Err.refusal e
+    (looks_at c.args.side c.loop-found.held c.look.new.held c.look.result (Err c.in-Err.refusal) c.in-Err.is c.look.ensures.bytes))
+
+-- where the bytes held decide, the source isn't asked
+pub returns-in-Err-clause-unasked : goal.returns-in-Err-clause-unasked
+returns-in-Err-clause-unasked g c = λ decides. (c.loop-found.invariant.alone decides).0
+
+pub returns-else-len-eq0-clause-unasked : goal.returns-else-len-eq0-clause-unasked
+returns-else-len-eq0-clause-unasked g c = λ decides.
+    absurd (part_undecided c.args.side c.args.held.now c.loop-found.held c.look.new.held (c.loop-found.invariant.alone decides).1
+    (looks_at c.args.side c.loop-found.held c.look.new.held c.look.result (Ok None)
+    (c.in-Ok-None.is ∙ ap Ok c.in-Ok-None.field-0-is) c.look.ensures.bytes)
+    (omega (arith, ap length c.as_slice.ensures.bytes, c.look.ensures.still_few, c.if-as_slice-eq-HEAD_LIMIT.false)) decides)
+
+pub returns-in-Ok-Some-look-clause-unasked : goal.returns-in-Ok-Some-look-clause-unasked
+returns-in-Ok-Some-look-clause-unasked g c = λ decides.
+    absurd (part_undecided c.args.side c.args.held.now c.loop-found.held c.look.new.held (c.loop-found.invariant.alone decides).1
+    (looks_at c.args.side c.loop-found.held c.look.new.held c.look.result (Ok None)
+    (c.in-Ok-None.is ∙ ap Ok c.in-Ok-None.field-0-is) c.look.ensures.bytes)
+    (omega (arith, ap length c.as_slice.ensures.bytes, c.look.ensures.still_few, c.if-as_slice-eq-HEAD_LIMIT.false)) decides)
+
+pub returns-in-Ok-None-look-clause-unasked : goal.returns-in-Ok-None-look-clause-unasked
+returns-in-Ok-None-look-clause-unasked g c = λ decides.
+    absurd (part_undecided c.args.side c.args.held.now c.loop-found.held c.look.new.held (c.loop-found.invariant.alone decides).1
+    (looks_at c.args.side c.loop-found.held c.look.new.held c.look.result (Ok None)
+    (c.in-Ok-None.is ∙ ap Ok c.in-Ok-None.field-0-is) c.look.ensures.bytes)
+    (omega (arith, ap length c.as_slice.ensures.bytes, c.look.ensures.still_few, c.if-as_slice-eq-HEAD_LIMIT.false)) decides)
+
+pub returns-in-Err-look-clause-unasked : goal.returns-in-Err-look-clause-unasked
+returns-in-Err-look-clause-unasked g c = λ decides.
+    absurd (part_undecided c.args.side c.args.held.now c.loop-found.held c.look.new.held (c.loop-found.invariant.alone decides).1
+    (looks_at c.args.side c.loop-found.held c.look.new.held c.look.result (Ok None)
+    (c.in-Ok-None.is ∙ ap Ok c.in-Ok-None.field-0-is) c.look.ensures.bytes)
+    (omega (arith, ap length c.as_slice.ensures.bytes, c.look.ensures.still_few, c.if-as_slice-eq-HEAD_LIMIT.false)) decides)
+
+pub returns-in-Err-NoMemory-clause-unasked : goal.returns-in-Err-NoMemory-clause-unasked
+returns-in-Err-NoMemory-clause-unasked g c = λ decides.
+    absurd (part_undecided c.args.side c.args.held.now c.loop-found.held c.look.new.held (c.loop-found.invariant.alone decides).1
+    (looks_at c.args.side c.loop-found.held c.look.new.held c.look.result (Ok None)
+    (c.in-Ok-None.is ∙ ap Ok c.in-Ok-None.field-0-is) c.look.ensures.bytes)
+    (omega (arith, ap length c.as_slice.ensures.bytes, c.look.ensures.still_few, c.if-as_slice-eq-HEAD_LIMIT.false)) decides)
+
+-- what the source lost before, and what it lost up to an LF
+
+pub returns-in-Ok-Some-look-clause-taken : goal.returns-in-Ok-Some-look-clause-taken
+returns-in-Ok-Some-look-clause-taken g c =
+    loses_both _ _ _ c.loop-found.invariant.taken (loses_filled_on _ _ _ _ _ c.fill_line.ensures.bytes)
+
+pub returns-in-Ok-None-look-clause-taken : goal.returns-in-Ok-None-look-clause-taken
+returns-in-Ok-None-look-clause-taken g c =
+    loses_both _ _ _ c.loop-found.invariant.taken (loses_filled_on _ _ _ _ _ c.fill_line.ensures.bytes)
+
+pub returns-in-Err-look-clause-taken : goal.returns-in-Err-look-clause-taken
+returns-in-Err-look-clause-taken g c =
+    loses_both _ _ _ c.loop-found.invariant.taken (loses_filled_on _ _ _ _ _ c.fill_line.ensures.bytes)
+
+pub returns-in-Err-NoMemory-clause-taken : goal.returns-in-Err-NoMemory-clause-taken
+returns-in-Err-NoMemory-clause-taken g c =
+    loses_both _ _ _ c.loop-found.invariant.taken (loses_filled_on _ _ _ _ _ c.fill_line.ensures.bytes)

@@ -2,6 +2,7 @@ use Rattle.std.proofs.Common.{sym, subst, arith, Some, Ok}
 use Rattle.std.specs.Io.KnownBytes.{prepend_known}
 use Rattle.sm_http.specs.declared.message.BodyLeft.TheVariants.{Known}
 use Rattle.sm_http.specs.Calls.{ReadsAHead, ReadsAMessage}
+use Rattle.sm_io.proofs.Told.{loses_both}
 use Rattle.sm_http.proofs.ReadingMessages.{refused_head, said_ahead, refused_body}
 use Rattle.sm_http.proofs.ReadingPieces.{held_whole}
 use Rattle.sm_http.proofs.read.read_message.Goals as goal
@@ -51,3 +52,9 @@ returns-in-Err-read_body-clause-bytes g c =
     (g.S.Source.left c.read_body.new.source) c.in-Some.head c.in-Some.left c.in-Err-read_body.refusal
     (subst (λ f. ReadsAHead c.args.side ahead behind (g.S.Source.left c.read_head.new.source) (Ok f)) c.in-Some.is c.in-Ok.ensures.bytes)
     c.in-Err-read_body.ensures.bytes
+
+pub returns-in-Ok-read_body-clause-taken : goal.returns-in-Ok-read_body-clause-taken
+returns-in-Ok-read_body-clause-taken g c = loses_both _ _ _ c.in-Ok.ensures.taken c.in-Ok-read_body.ensures.taken
+
+pub returns-in-Err-read_body-clause-taken : goal.returns-in-Err-read_body-clause-taken
+returns-in-Err-read_body-clause-taken g c = loses_both _ _ _ c.in-Ok.ensures.taken c.in-Err-read_body.ensures.taken
