@@ -8,6 +8,8 @@ use std::alloc::Global;
 pub enum Asked {
     /// Its input comes in pieces of at most so many bytes.
     Cut(u64),
+    /// This read of its files fails, counted from 1.
+    FailRead(u64),
     /// This read of its input fails, counted from 1.
     FailTake(u64),
     /// This write of its output fails, counted from 1.
@@ -18,6 +20,7 @@ pub enum Asked {
 #[derive(Clone, Copy, Drop)]
 pub struct Given {
     piece: u64,
+    read: u64,
     take: u64,
     put: u64,
 }
@@ -27,6 +30,7 @@ impl Given {
     pub fn nothing() -> Self {
         Given {
             piece: 0,
+            read: 0,
             take: 0,
             put: 0,
         }
@@ -36,9 +40,15 @@ impl Given {
     pub fn and(&mut self, asked: Asked) {
         match asked {
             Asked::Cut(length) => self.piece = length,
+            Asked::FailRead(call) => self.read = call,
             Asked::FailTake(call) => self.take = call,
             Asked::FailPut(call) => self.put = call,
         }
+    }
+
+    /// The read of its files that fails; 0 where none does.
+    pub fn failing_read(self) -> u64 {
+        self.read
     }
 
     /// An input of these bytes.
@@ -61,6 +71,7 @@ pub fn asked_by(words: &str, number: &str) -> Option<Asked> {
     let number = number.parse::<u64>().ok()?;
     match words {
         "cut" => Some(Asked::Cut(number)),
+        "fail read" => Some(Asked::FailRead(number)),
         "fail take" => Some(Asked::FailTake(number)),
         "fail put" => Some(Asked::FailPut(number)),
         _ => None,

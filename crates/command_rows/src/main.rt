@@ -3,6 +3,7 @@
 #![tactic(auto)]
 
 mod given;
+mod kept;
 mod large;
 mod row;
 mod shelf;

@@ -16,14 +16,16 @@ pub enum Input<'a> {
 pub enum Row<'a> {
     /// `pad N`: what the next row gives, a file's text or an input, is padded with blanks up to so many bytes.
     Pad(usize),
-    /// `cut N`, `fail take N`, `fail put N`: something is asked of the next run.
+    /// `cut N`, `fail read N`, `fail take N`, `fail put N`: something is asked of the next run.
     Next(Asked),
     /// `file NAME TEXT`: from now on the name stands for a file of this text.
     File(&'a str, &'a str),
     /// `line NAME TEXT`: this text and a line feed go behind what the name stands for.
     Line(&'a str, &'a str),
-    /// `model NAME SHAPES MEMBERS`: from now on the name stands for a file of a model of this size.
+    /// `model NAME SHAPES MEMBERS`, `mixed NAME SHAPES MEMBERS`: from now on the name stands for a file of a model of this size.
     Model(&'a str, Size),
+    /// `change N NAME TEXT`: before the Nth read of the next run the name comes to stand for a file of this text.
+    Change(u64, &'a str, &'a str),
     /// `run WORDS < INPUT`: a run of these words, and its input. `run < INPUT` has no words.
     Run(Option<&'a str>, Input<'a>),
     /// Any other line.
@@ -39,7 +41,9 @@ impl<'a> Row<'a> {
         match line.split_once(' ') {
             Some(("file", rest)) => Row::file(rest),
             Some(("line", rest)) => Row::line(rest),
-            Some(("model", rest)) => Row::model(rest),
+            Some(("model", rest)) => Row::model(rest, false),
+            Some(("mixed", rest)) => Row::model(rest, true),
+            Some(("change", rest)) => Row::change(rest),
             Some(("pad", length)) => match length.parse::<usize>() {
                 Ok(length) => Row::Pad(length),
                 Err(_) => Row::Unknown,
@@ -77,6 +81,17 @@ impl<'a> Row<'a> {
         }
     }
 
+    // A row `change`, without this word.
+    fn change(rest: &'a str) -> Self {
+        let Some((number, rest)) = rest.split_once(' ') else {
+            return Row::Unknown;
+        };
+        match (number.parse::<u64>(), rest.split_once(' ')) {
+            (Ok(read), Some((name, text))) => Row::Change(read, name, text),
+            _ => Row::Unknown,
+        }
+    }
+
     // A row `line`, without this word. The text may be empty.
     fn line(rest: &'a str) -> Self {
         match rest.split_once(' ') {
@@ -85,10 +100,10 @@ impl<'a> Row<'a> {
         }
     }
 
-    // A row `model`, without this word.
-    fn model(rest: &'a str) -> Self {
+    // A row `model` or `mixed`, without this word.
+    fn model(rest: &'a str, mixed: bool) -> Self {
         match rest.split_once(' ') {
-            Some((name, size)) => match Size::of(size) {
+            Some((name, size)) => match Size::of(size, mixed) {
                 Some(size) => Row::Model(name, size),
                 None => Row::Unknown,
             },

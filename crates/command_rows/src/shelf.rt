@@ -2,10 +2,11 @@
 ghost use Rattle.std.specs.Prelude.{◌≡◌, ◌≤◌, IfOk, length, take};
 
 use crate::given::{Asked, Given};
+use crate::kept::{Change, KeptFiles};
 use crate::row::{Input, Row};
 use rows::{Player, bytes_shown, show_bytes};
 use sm_commands::run;
-use sm_io::{Files, MemFiles};
+use sm_io::Files;
 use sm_shapes::RegexPatterns;
 use sm_tree::{NoMemory, Text};
 use std::alloc::Global;
@@ -13,7 +14,7 @@ use std::alloc::Global;
 /// Files in memory, the length up to which the next text is padded, and what is asked of the next run.
 #[derive(Drop)]
 pub struct Shelf {
-    files: MemFiles,
+    files: KeptFiles,
     padded: usize,
     given: Given,
 }
@@ -22,7 +23,7 @@ impl Shelf {
     /// No files. Reading a name without a file fails.
     pub fn new(alloc: Global) -> Self {
         Shelf {
-            files: MemFiles::new(alloc, Vec::new(alloc), Vec::new(alloc)),
+            files: KeptFiles::new(alloc),
             padded: 0,
             given: Given::nothing(),
         }
@@ -102,6 +103,7 @@ impl Shelf {
         let mut input = given.input(alloc, bytes)?;
         let mut put = given.output(alloc)?;
         let mut patterns = RegexPatterns::new(alloc);
+        self.files.begin(given.failing_read());
         let status = run(
             alloc,
             words.as_slice(),
@@ -110,6 +112,7 @@ impl Shelf {
             &mut put,
             &mut patterns,
         );
+        self.files.end();
         out.push_str(format!(in alloc; " => {status}")?.as_str())?;
         if is_item && status == 0 {
             return show_pairs(put.bytes(), out);
@@ -166,6 +169,9 @@ impl Player for Shelf {
             Row::File(name, text) => self.keep(alloc, name, text)?,
             Row::Line(name, text) => self.append(alloc, name, text)?,
             Row::Model(name, size) => self.keep(alloc, name, size.model(alloc)?.as_str())?,
+            Row::Change(read, name, text) => self
+                .files
+                .change(Change::new(alloc, read, name, text)?),
             Row::Run(words, input) => self.run(alloc, words, input, out)?,
             Row::Unknown => out.push_str(" => no row")?,
         }

@@ -1,6 +1,6 @@
 // Whether a text is a pattern of URIs: its parts, or how many of its bytes begin one.
-use sm_compile::{Segment, UriPattern, UriRefusal};
 use sm_tree::{NoMemory, Text};
+use sm_uri::{Segment, UriPattern, UriRefusal};
 use std::alloc::Global;
 use std::fmt::Write;
 

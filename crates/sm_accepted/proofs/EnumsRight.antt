@@ -9,12 +9,11 @@ use Rattle.sm_model.specs.declared.kind.Kind.{Kind}
 use Rattle.sm_model.specs.declared.kind.Kind.TheVariants as model
 use Rattle.sm_model.proofs.LinkedEntries.{cons_here}
 use Rattle.sm_shapes.specs.Names.{AllDiffer}
-use Rattle.sm_compile.specs.Sound.{AllNumbersDiffer, HasItsValues, HasNumber, HasText, enum_numbers, enum_texts}
-use Rattle.sm_compile.specs.Sound.{trait_of}
+use Rattle.sm_compile.specs.Sound.{AllNumbersDiffer, HasItsValues, HasNumber, HasText, enum_numbers, enum_texts, trait_of}
 use Rattle.sm_compile.specs.TraitIds.{enum_value_id}
 use Rattle.sm_compile.specs.TraitNodes.{number_of, text_of}
-use Rattle.sm_compile.specs.rules.Constraints.{HasItsValue, IsEnumKind, has_none, wrong_value}
-use Rattle.sm_compile.specs.rules.Words.{IsOwnShape}
+use Rattle.sm_rules.specs.Constraints.{HasItsValue, IsEnumKind, has_none, wrong_value}
+use Rattle.sm_rules.specs.Words.{IsOwnShape}
 use Rattle.sm_accepted.specs.NoneFails.{NoneFails}
 use Rattle.sm_accepted.proofs.GivenShapes.{behind_head}
 use Rattle.sm_accepted.proofs.Lists.{NoneAgain, all_differ, all_numbers_differ, stands_at}

@@ -1,6 +1,6 @@
 -- The members of a shape target what they may, and their traits have values of their forms, where no rule fails.
-use Rattle.std.proofs.Common.{◌≡◌, inl, inr, ℕ, Bool, true, false, ◌&&◌, ◌||◌, List, [], ◌∷◌, map, Option, Some, None, refl, sym, ap}
-use Rattle.std.proofs.Common.{subst, ◌∙◌, arith, bytes_eq, length, FitsSigned}
+use Rattle.std.proofs.Common.{◌≡◌, inl, inr, ℕ, Bool, true, false, ◌&&◌, ◌||◌, List, [], ◌∷◌, map, Option, Some, None, refl, sym, ap, subst}
+use Rattle.std.proofs.Common.{◌∙◌, arith, bytes_eq, length, FitsSigned}
 use Rattle.std.specs.Prelude.{codes, not, ℤ}
 use Rattle.std.specs.Int.{w32}
 use Rattle.std.specs.FinMap as fin
@@ -22,13 +22,12 @@ use Rattle.sm_model.proofs.Worklist.{apart}
 use Rattle.sm_compile.specs.Kinds.{has_values, is_text_kind, may_target}
 use Rattle.sm_compile.specs.Sound.{AreSoundMembers, HasTextKey, IsSoundMember, TargetsText, trait_in, trait_of}
 use Rattle.sm_compile.specs.TraitIds.{enum_value_id}
-use Rattle.sm_compile.specs.TraitNodes.{is_enum_value, is_number, is_text, own_traits, where_there}
-use Rattle.sm_compile.specs.TraitNodes.{fits_word}
-use Rattle.sm_compile.specs.TraitRows.{at_member, takes_in, with_members}
-use Rattle.sm_compile.specs.rules.Constraints.{HasItsValue, IsEnumKind, wrong_value}
-use Rattle.sm_compile.specs.rules.Targets.{by_member, is_key, may_be_target}
-use Rattle.sm_compile.specs.rules.Traits.{IsSpot, of_member}
-use Rattle.sm_compile.specs.rules.Words.{IsMemberOf, IsOwnShape}
+use Rattle.sm_compile.specs.TraitNodes.{is_enum_value, is_number, is_text, own_traits, where_there, fits_word}
+use Rattle.sm_rules.specs.TraitRows.{at_member, takes_in, with_members}
+use Rattle.sm_rules.specs.Constraints.{HasItsValue, IsEnumKind, wrong_value}
+use Rattle.sm_rules.specs.Targets.{by_member, is_key, may_be_target}
+use Rattle.sm_rules.specs.Traits.{IsSpot, of_member}
+use Rattle.sm_rules.specs.Words.{IsMemberOf, IsOwnShape}
 use Rattle.sm_compile.proofs.SoundTests.{fits_back, fits_from, formed_along}
 use Rattle.sm_accepted.specs.NoneFails.{NoneFails}
 use Rattle.sm_accepted.proofs.FormedShapes.{AreThere, member_own, prelude_is}

@@ -1,6 +1,6 @@
 -- The names that members have in JSON differ where no rule fails.
-use Rattle.std.proofs.Common.{◌≡◌, ◌⊎◌, inl, inr, ℕ, true, false, ◌||◌, List, [], ◌∷◌, map, length, drop, Option, Some, None, refl}
-use Rattle.std.proofs.Common.{sym, ap, subst, ◌∙◌, arith, append_assoc}
+use Rattle.std.proofs.Common.{◌≡◌, ◌⊎◌, inl, inr, ℕ, true, false, ◌||◌, List, [], ◌∷◌, map, length, drop, Option, Some, None, refl, sym, ap}
+use Rattle.std.proofs.Common.{subst, ◌∙◌, arith, append_assoc}
 use Rattle.std.specs.Prelude.{unwrap_or, is_some}
 use Rattle.std.specs.FinMap as fin
 use Rattle.std.specs.List.{Contains}
@@ -22,9 +22,9 @@ use Rattle.sm_shapes.specs.Names.{AllDiffer, NoneIs}
 use Rattle.sm_compile.specs.Sound.{json_name_of, trait_of}
 use Rattle.sm_compile.specs.TraitIds.{json_name_id}
 use Rattle.sm_compile.specs.TraitNodes.{is_text, text_of}
-use Rattle.sm_compile.specs.TraitRows.{at_member, is_among}
-use Rattle.sm_compile.specs.rules.WireNames.{json_again, name_in_json, named_by, own_name}
-use Rattle.sm_compile.specs.rules.Words.{IsOwnShape}
+use Rattle.sm_rules.specs.TraitRows.{at_member, is_among}
+use Rattle.sm_rules.specs.WireNames.{json_again, name_in_json, named_by, own_name}
+use Rattle.sm_rules.specs.Words.{IsOwnShape}
 use Rattle.sm_accepted.specs.NoneFails.{NoneFails}
 use Rattle.sm_accepted.proofs.FormedShapes.{AreThere, IsThere, member_own}
 use Rattle.sm_accepted.proofs.GivenShapes.{behind_head}

@@ -1,6 +1,5 @@
 -- Each shape of a graph is in order where no rule fails: those of the prelude, which rules don't look at, and all others.
-use Rattle.std.proofs.Common.{◌≡◌, inl, inr, ℕ, Bool, true, false, ◌&&◌, List, [], ◌∷◌, map, refl, sym, ap, subst, ◌∙◌}
-use Rattle.std.proofs.Common.{arith}
+use Rattle.std.proofs.Common.{◌≡◌, inl, inr, ℕ, Bool, true, false, ◌&&◌, List, [], ◌∷◌, map, refl, sym, ap, subst, ◌∙◌, arith}
 use Rattle.std.specs.Prelude.{not}
 use Rattle.std.specs.FinMap as fin
 use Rattle.std.specs.FinMap.{get-from_entries}
@@ -18,9 +17,9 @@ use Rattle.sm_model.proofs.Worklist.{apart}
 use Rattle.sm_shapes.specs.Names.{AllDiffer}
 use Rattle.sm_compile.specs.Sound.{AreSoundMembers, HasItsValues, HasTextKey, IsSoundShape, json_name_of, trait_in, trait_of}
 use Rattle.sm_compile.specs.TraitNodes.{AreFormedTraits, TraitsSeen, own_traits}
-use Rattle.sm_compile.specs.TraitRows.{at_shape, has_none}
-use Rattle.sm_compile.specs.rules.Traits.{of_shape}
-use Rattle.sm_compile.specs.rules.Words.{IsOwnShape}
+use Rattle.sm_rules.specs.TraitRows.{at_shape, has_none}
+use Rattle.sm_rules.specs.Traits.{of_shape}
+use Rattle.sm_rules.specs.Words.{IsOwnShape}
 use Rattle.sm_compile.specs.steps.Tests.{are_formed}
 use Rattle.sm_compile.proofs.SoundTests.{first_of, formed_along, formed_told, second_of}
 use Rattle.sm_accepted.specs.NoneFails.{NoneFails}

@@ -1,6 +1,6 @@
 -- The traits that tables are made from have values of their forms where no rule fails on traits.
-use Rattle.std.proofs.Common.{◌≡◌, ℕ, Bool, true, false, cond, ◌&&◌, ◌||◌, List, [], ◌∷◌, Option, Some, None, refl, sym, ap, subst}
-use Rattle.std.proofs.Common.{◌∙◌, filter}
+use Rattle.std.proofs.Common.{◌≡◌, ℕ, Bool, true, false, cond, ◌&&◌, ◌||◌, List, [], ◌∷◌, Option, Some, None, refl, sym, ap, subst, ◌∙◌}
+use Rattle.std.proofs.Common.{filter}
 use Rattle.std.specs.Prelude.{codes}
 use Rattle.std.specs.List.{list_any}
 use Rattle.sm_tree.specs.Node.{Node}
@@ -15,12 +15,11 @@ use Rattle.sm_compile.specs.TraitIds.{required_id, sparse_id, unique_items_id, l
 use Rattle.sm_compile.specs.TraitIds.{json_name_id}
 use Rattle.sm_compile.specs.TraitNodes.{AreFormedTraits, are_lengths, are_ordered, are_whole_bounds, is_object, is_range, is_text}
 use Rattle.sm_compile.specs.TraitNodes.{is_timestamp_format, where_there}
-use Rattle.sm_compile.specs.TraitRows.{Spot, TraitRow, has_form, has_row, is_among, fraction_kinds, is_as_one, judging, may_stand}
-use Rattle.sm_compile.specs.TraitRows.{row_takes_in}
-use Rattle.sm_compile.specs.TraitRows.{rows_of, takes_in, that_reads, with_members, api_row, whole_bounds, any_bounds}
-use Rattle.sm_compile.specs.rules.Constraints.{wrong_length, wrong_range}
-use Rattle.sm_compile.specs.rules.Traits.{IsSpot}
-use Rattle.sm_compile.specs.rules.Words.{read_trait}
+use Rattle.sm_rules.specs.TraitRows.{Spot, TraitRow, has_form, has_row, is_among, fraction_kinds, is_as_one, judging, may_stand}
+use Rattle.sm_rules.specs.TraitRows.{row_takes_in, rows_of, takes_in, that_reads, with_members, api_row, whole_bounds, any_bounds}
+use Rattle.sm_rules.specs.Constraints.{wrong_length, wrong_range}
+use Rattle.sm_rules.specs.Traits.{IsSpot}
+use Rattle.sm_rules.specs.Words.{read_trait}
 use Rattle.sm_compile.proofs.SoundTests.{first_of, second_of}
 use Rattle.sm_accepted.specs.NoneFails.{NoneFails}
 use Rattle.sm_accepted.proofs.Lists.{or_later}

@@ -2,14 +2,14 @@
 -- holds of each graph that is accepted.
 use Rattle.std.specs.Prelude.{ℕ, List}
 use Rattle.sm_model.specs.Graphs.{GraphMaps}
-use Rattle.sm_compile.specs.Ready.{RuleOn}
-use Rattle.sm_compile.specs.rules.Constraints.{HasWrongBounds, HasWrongEnum}
-use Rattle.sm_compile.specs.rules.Http.{HasNoUri, HasSameRoute, HasWrongLabel, HasWrongStatusCode, IsBoundWrongly}
-use Rattle.sm_compile.specs.rules.Names.{RepeatsName}
-use Rattle.sm_compile.specs.rules.Services.{HasWrongNames}
-use Rattle.sm_compile.specs.rules.Targets.{RefersToNothing, RefersToOther}
-use Rattle.sm_compile.specs.rules.Traits.{CarriesTwice, HasExclusiveTraits, HasOtherValue, StandsElsewhere}
-use Rattle.sm_compile.specs.rules.WireNames.{HasWireNameAgain}
+use Rattle.sm_rules.specs.Ready.{RuleOn}
+use Rattle.sm_rules.specs.Constraints.{HasWrongBounds, HasWrongEnum}
+use Rattle.sm_rules.specs.Http.{HasNoUri, HasSameRoute, HasWrongLabel, HasWrongStatusCode, IsBoundWrongly}
+use Rattle.sm_rules.specs.Names.{RepeatsName}
+use Rattle.sm_rules.specs.Services.{HasWrongNames}
+use Rattle.sm_rules.specs.Targets.{RefersToNothing, RefersToOther}
+use Rattle.sm_rules.specs.Traits.{CarriesTwice, HasExclusiveTraits, HasOtherValue, StandsElsewhere}
+use Rattle.sm_rules.specs.WireNames.{HasWireNameAgain}
 
 -- a rule fails at no shape and at no member
 abbrev pub NeverFails : GraphMaps → RuleOn → Type 0

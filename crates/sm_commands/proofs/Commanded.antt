@@ -1,75 +1,63 @@
 -- What holds of what each command comes to: a clause for each command.
-use Rattle.std.proofs.Common.{◌≡◌, ◌⊎◌, ℕ, List, Option, inl, inr, true, ap, sym, subst, refl}
-use Rattle.sm_io.specs.Files.{Folder}
-use Rattle.sm_bodies.specs.TextLaws.{OneTextAnswer, SomeTextAnswer}
-use Rattle.sm_compile.specs.Laws.{SomeTable}
-use Rattle.sm_load.specs.Laws.{SomeLoad, SomeModelEvents, SoundModels}
-use Rattle.sm_commands.specs.Commands.{Command, GraphForm, body_command, check_command, convert_command, select_command, touches_input}
-use Rattle.sm_commands.specs.Answer.{Answer, Came, came}
-use Rattle.sm_commands.specs.Answer.InputUse.{untouched}
-use Rattle.sm_commands.specs.Stages.{Told}
-use Rattle.sm_commands.specs.Body.BodySays.{not_loaded, no_shape, pattern, unserved, long_input, by_text}
-use Rattle.sm_commands.specs.Check.{CheckSays}
-use Rattle.sm_commands.specs.Convert.{ConvertSays}
-use Rattle.sm_commands.specs.Select.{SelectSays}
-use Rattle.sm_commands.specs.Says.{Says, ReachesInput, OneAnswer, SomeAnswer, InputReached}
-use Rattle.sm_commands.proofs.OneBody.{body_same}
-use Rattle.sm_commands.proofs.SomeBody.{body_answered}
-use Rattle.sm_commands.proofs.OneCheck.{check_answered, check_same}
-use Rattle.sm_commands.proofs.OneConvert.{convert_same}
-use Rattle.sm_commands.proofs.SomeConvert.{convert_answered}
-use Rattle.sm_commands.proofs.OneSelect.{select_same, select_answered}
-use Rattle.sm_commands.proofs.ToldAll.{all_told}
+use Rattle.std.proofs.Common.{◌≡◌, ℕ, false, List, [], refl}
+use Rattle.sm_bodies.specs.declared.form.BodyForm.{BodyForm}
+use Rattle.sm_asked.specs.Asked.{Asked}
+use Rattle.sm_asked.specs.AskedLaws.{ReachesInput, WritesAsNamed}
+use Rattle.sm_asked.proofs.OverFiles.{none_over_files, reach_over_files}
+use Rattle.sm_model_commands.specs.Check.{CheckSays, check_asked}
+use Rattle.sm_model_commands.specs.Convert.{ConvertSays, convert_asked}
+use Rattle.sm_model_commands.specs.Forms.{GraphForm}
+use Rattle.sm_model_commands.specs.Select.{SelectSays, select_asked}
+use Rattle.sm_body_command.specs.Body.{body_asked}
+use Rattle.sm_body_command.proofs.BodyReaches.{body_reaches, body_writes}
+use Rattle.sm_commands.specs.Commands.{Command, asked_of, body_command, check_command, convert_command, select_command}
+use Rattle.sm_commands.specs.Says.{InputReached}
 
--- what the commands that read files alone come to
-abbrev CheckComes : Option Folder → List (List ℕ) → Came → Type 0
-CheckComes files models c = (a : Answer) × CheckSays files models a × (c ≡ came untouched a)
-
-abbrev ConvertComes : Option Folder → List (List ℕ) → GraphForm → Came → Type 0
-ConvertComes files models form c = (a : Answer) × ConvertSays files models form a × (c ≡ came untouched a)
-
-abbrev SelectComes : Option Folder → List (List ℕ) → List ℕ → Came → Type 0
-SelectComes files models selector c = (a : Answer) × SelectSays files models selector a × (c ≡ came untouched a)
-
-pub one_answer : OneTextAnswer → OneAnswer
-one_answer texts t folder input (body_command model shape near far) c d all h i = body_same texts t (all_told t folder input all) model
-    shape near far c d h i
-one_answer texts t folder input (convert_command models form) c d all h i =
-    convert_same folder models form c d (subst (λ x. ConvertComes x models form c) all.files h)
-    (subst (λ x. ConvertComes x models form d) all.files i)
-one_answer texts t folder input (select_command models selector) c d all h i =
-    select_same folder models selector c d (subst (λ x. SelectComes x models selector c) all.files h)
-    (subst (λ x. SelectComes x models selector d) all.files i)
-one_answer texts t folder input (check_command models) c d all h i =
-    check_same folder models c d (subst (λ x. CheckComes x models c) all.files h) (subst (λ x. CheckComes x models d) all.files i)
-
-pub some_answer : SomeTextAnswer → SomeTable → SomeLoad → SomeModelEvents → SoundModels → SomeAnswer
-some_answer texts tables loads events models t folder input (body_command model shape near far) all there none =
-    body_answered texts tables loads models t folder input all model shape near far there none
-some_answer texts tables loads events sound t folder input (convert_command models form) all there none =
-    convert_answered loads folder models form there (λ c h. none c (subst (λ x. ConvertComes x models form c) (sym all.files) h))
-some_answer texts tables loads events sound t folder input (select_command models selector) all there none =
-    select_answered loads folder models selector there (λ c h. none c (subst (λ x. SelectComes x models selector c) (sym all.files) h))
-some_answer texts tables loads events sound t folder input (check_command models) all there none =
-    check_answered loads events folder models there (λ c h. none c (subst (λ x. CheckComes x models c) (sym all.files) h))
-
--- the input is untouched, or its stage is reached
-pub says_reaches : (t : Told) (command : Command) (c : Came) → Says t command c → (c.input ≡ untouched) ⊎ ReachesInput t command
-says_reaches t (body_command model shape near far) c (not_loaded a h e) = inl (ap (λ (x : Came). x.input) e)
-says_reaches t (body_command model shape near far) c (no_shape loaded none e) = inl (ap (λ (x : Came). x.input) e)
-says_reaches t (body_command model shape near far) c (pattern sound u id is first e) = inl (ap (λ (x : Came). x.input) e)
-says_reaches t (body_command model shape near far) c (unserved table path is e) = inl (ap (λ (x : Came). x.input) e)
-says_reaches t (body_command model shape near far) c (long_input served input is long e) = inr served
-says_reaches t (body_command model shape near far) c (by_text input a says e) = inr input.served
-says_reaches t (check_command models) c (a, says, e) = inl (ap (λ (x : Came). x.input) e)
-says_reaches t (convert_command models form) c (a, says, e) = inl (ap (λ (x : Came). x.input) e)
-says_reaches t (select_command models selector) c (a, says, e) = inl (ap (λ (x : Came). x.input) e)
-
-reaches_touches : (t : Told) (command : Command) → ReachesInput t command → touches_input command ≡ true
-reaches_touches t (body_command model shape near far) h = refl
-reaches_touches t (check_command models) h = absurd h
-reaches_touches t (convert_command models form) h = absurd h
-reaches_touches t (select_command models selector) h = absurd h
+-- what holds of what each command asks holds of every command
+pub of_each : (P : Asked → Type 0) → ((models : List (List ℕ)) → P (check_asked models))
+    → ((model shape : List ℕ) (near far : BodyForm) → P (body_asked model shape near far))
+    → ((models : List (List ℕ)) (form : GraphForm) → P (convert_asked models form))
+    → ((models : List (List ℕ)) (selector : List ℕ) → P (select_asked models selector)) → (command : Command) → P (asked_of command)
+of_each P check body convert select (check_command models) = check models
+of_each P check body convert select (body_command model shape near far) = body model shape near far
+of_each P check body convert select (convert_command models form) = convert models form
+of_each P check body convert select (select_command models selector) = select models selector
 
 pub input_reached : InputReached
-input_reached t command = (says_reaches t command, reaches_touches t command)
+input_reached = of_each ReachesInput (λ models. reach_over_files models (λ files a. CheckSays files models a)) body_reaches
+    (λ models form. reach_over_files models (λ files a. ConvertSays files models form a))
+    (λ models selector. reach_over_files models (λ files a. SelectSays files models selector a))
+
+-- each puts its answer as one piece, and writes no file
+pub record PutsWhole (asked : Asked) : Type 0 where
+  pub streams : asked.streams ≡ false
+  pub writes : asked.writes ≡ []
+  pub named : WritesAsNamed asked
+  pub reach : ReachesInput asked
+
+pub puts_whole : (command : Command) → PutsWhole (asked_of command)
+puts_whole = of_each PutsWhole
+    (λ models. record {
+      streams = refl;
+      writes = refl;
+      named = none_over_files models (λ files a. CheckSays files models a);
+      reach = reach_over_files models (λ files a. CheckSays files models a);
+    })
+    (λ model shape near far. record {
+      streams = refl;
+      writes = refl;
+      named = body_writes model shape near far;
+      reach = body_reaches model shape near far;
+    })
+    (λ models form. record {
+      streams = refl;
+      writes = refl;
+      named = none_over_files models (λ files a. ConvertSays files models form a);
+      reach = reach_over_files models (λ files a. ConvertSays files models form a);
+    })
+    (λ models selector. record {
+      streams = refl;
+      writes = refl;
+      named = none_over_files models (λ files a. SelectSays files models selector a);
+      reach = reach_over_files models (λ files a. SelectSays files models selector a);
+    })

@@ -5,18 +5,18 @@ use Rattle.sm_io.specs.Files.{Folder}
 use Rattle.sm_io.specs.Causes.{last_count}
 use Rattle.sm_io.proofs.Counts.{quiet_not_rose}
 use Rattle.sm_compile.specs.Answers.{StoreSeen}
-use Rattle.sm_bodies.specs.TextLaws.{OneTextAnswer}
-use Rattle.sm_commands.specs.Outside.{InputsSeen, Outside}
-use Rattle.sm_commands.specs.Commands.{Command, IsNoForm}
-use Rattle.sm_commands.specs.Answer.{Answer, Came, came}
-use Rattle.sm_commands.specs.Stages.{Told}
-use Rattle.sm_commands.specs.Says.{Says, TellsAll}
-use Rattle.sm_commands.specs.Run.{Answers, Prints, RefusedBy, RunEnds, told_by}
+use Rattle.sm_asked.specs.Outside.{InputsSeen, Outside}
+use Rattle.sm_commands.specs.Commands.{IsNoForm, asked_of}
+use Rattle.sm_asked.specs.Answer.{Answer, Came, came_writing}
+use Rattle.sm_asked.specs.Stages.{Told}
+use Rattle.sm_commands.specs.Says.{OneAnswer}
+use Rattle.sm_asked.specs.AskedLaws.{ComesToOne, TellsAll}
+use Rattle.sm_asked.specs.Asked.{Asked, Answers, RefusedBy, told_by}
+use Rattle.sm_commands.specs.Run.{Prints, RunEnds}
 use Rattle.sm_commands.specs.RunLaws.{IsAnswered, IsAnsweredRun, OneRunAnswer}
-use Rattle.sm_commands.specs.declared.command.Status.{Status}
-use Rattle.sm_commands.specs.declared.command.Status.TheVariants.{Done, Refused, Usage, ReadFault, WriteFault, NoMemory, Pattern, Limit}
+use Rattle.sm_asked.specs.declared.status.Status.{Status}
+use Rattle.sm_asked.specs.declared.status.Status.TheVariants.{Done, Refused, Usage, ReadFault, WriteFault, NoMemory, Pattern, Limit}
 use Rattle.sm_commands.proofs.OneForm.{one_form}
-use Rattle.sm_commands.proofs.Commanded.{one_answer}
 
 -- a store that isn't at its last count refused one pattern at most
 pattern_same : (before after : StoreSeen) (p q : Option (List ℕ)) → before.refusals < last_count → RefusedBy before after p
@@ -29,21 +29,21 @@ pattern_same before after (Some u) None below h i = absurd (quiet_not_rose befor
 pattern_same before after (Some u) (Some v) below h i = sym h.1 ∙ i.1
 
 -- what a command comes to, over what is told
-says_told : (t : Told) (seen : InputsSeen) (pattern : Option (List ℕ)) (command : Command) (c : Came) → pattern ≡ t.refused
-    → Path Told (told_by seen t.refused) t → Says (told_by seen pattern) command c → Says t command c
-says_told t seen pattern command c e tells h =
-    subst (λ x. Says x command c) tells (subst (λ x. Says (told_by seen x) command c) e h)
+says_told : (t : Told) (seen : InputsSeen) (pattern : Option (List ℕ)) (asked : Asked) (c : Came) → pattern ≡ t.refused
+    → Path Told (told_by seen t.refused) t → asked.says (told_by seen pattern) c → asked.says t c
+says_told t seen pattern asked c e tells h =
+    subst (λ x. asked.says x c) tells (subst (λ x. asked.says (told_by seen x) c) e h)
 
--- two runs for one command come to one answer
-answers_same : OneTextAnswer → (words : List (List ℕ)) (t : Told) (folder : Folder) (input : List ℕ) (before after before1 after1 : Outside)
-    (status status1 : Status) (command : Command) (a b : Answer) → TellsAll t folder input
+-- two runs for what is asked come to one answer
+answers_same : (words : List (List ℕ)) (t : Told) (folder : Folder) (input : List ℕ) (before after before1 after1 : Outside)
+    (status status1 : Status) (asked : Asked) (a b : Answer) → ComesToOne asked → TellsAll t folder input
     → IsAnsweredRun words t before after status → IsAnsweredRun words t before1 after1 status1
-    → Answers before.inputs after.inputs command a → Answers before1.inputs after1.inputs command b → a ≡ b
-answers_same texts words t folder input before after before1 after1 status status1 command a b all h i ha ib =
-    ap (λ (x : Came). x.answer) (one_answer texts t folder input command (came ha.taken a) (came ib.taken b) all
-    (says_told t before.inputs ha.pattern command (came ha.taken a)
+    → Answers before.inputs after.inputs asked a → Answers before1.inputs after1.inputs asked b → a ≡ b
+answers_same words t folder input before after before1 after1 status status1 asked a b one all h i ha ib =
+    ap (λ (x : Came). x.answer) (one t folder input (came_writing ha.taken a ha.written) (came_writing ib.taken b ib.written) all
+    (says_told t before.inputs ha.pattern asked (came_writing ha.taken a ha.written)
     (pattern_same before.inputs.store after.inputs.store ha.pattern t.refused h.below ha.by h.by) h.tells ha.says)
-    (says_told t before1.inputs ib.pattern command (came ib.taken b)
+    (says_told t before1.inputs ib.pattern asked (came_writing ib.taken b ib.written)
     (pattern_same before1.inputs.store after1.inputs.store ib.pattern t.refused i.below ib.by i.by) i.tells ib.says))
 
 -- an answer is printed, or the words have no form
@@ -66,31 +66,31 @@ appends_nothing before after e = subst (λ (x : Outside). Appends before.output.
     kept (Some xs) = sym (append-nil xs)
 
 -- two runs that end with answers end so alike
-ends_same : OneTextAnswer → (words : List (List ℕ)) (t : Told) (folder : Folder) (input : List ℕ) (before after before1 after1 : Outside)
+ends_same : OneAnswer → (words : List (List ℕ)) (t : Told) (folder : Folder) (input : List ℕ) (before after before1 after1 : Outside)
     (status status1 : Status)
     → TellsAll t folder input → IsAnsweredRun words t before after status → IsAnsweredRun words t before1 after1 status1
     → Prints words before after status ⊎ ((status ≡ Usage) × IsNoForm words × Path Outside after before)
     → Prints words before1 after1 status1 ⊎ ((status1 ≡ Usage) × IsNoForm words × Path Outside after1 before1)
     → (status ≡ status1) × ((text : List ℕ) × Appends before.output.bytes after.output.bytes text × Appends before1.output.bytes
     after1.output.bytes text)
-ends_same texts words t folder input before after before1 after1 status status1 all h i (inl (command, is, (text, comes, put)))
-    (inl (command1, is1, (text1, comes1, put1))) =
+ends_same ones words t folder input before after before1 after1 status status1 all h i (inl (command, is, (text, comes, put, written)))
+    (inl (command1, is1, (text1, comes1, put1, written1))) =
     let named : command ≡ command1 = one_form words command command1 is is1 in
     let a : Answer = record { status = status; text = text } in
     let b : Answer = record { status = status1; text = text1 } in
-    let same : a ≡ b = answers_same texts words t folder input before after before1 after1 status status1 command1 a b all h i
-    (subst (λ x. Answers before.inputs after.inputs x a) named comes) comes1 in (
+    let same : a ≡ b = answers_same words t folder input before after before1 after1 status status1 (asked_of command1) a b
+    (ones command1) all h i (subst (λ x. Answers before.inputs after.inputs (asked_of x) a) named comes) comes1 in (
       ap (λ (x : Answer). x.status) same,
       (text1, subst (λ x. Appends before.output.bytes after.output.bytes x) (ap (λ (x : Answer). x.text) same) put, put1),
     )
-ends_same texts words t folder input before after before1 after1 status status1 all h i (inl (command, is, p)) (inr (e, none, same)) =
+ends_same ones words t folder input before after before1 after1 status status1 all h i (inl (command, is, p)) (inr (e, none, same)) =
     absurd (none command is)
-ends_same texts words t folder input before after before1 after1 status status1 all h i (inr (e, none, same)) (inl (command, is, p)) =
+ends_same ones words t folder input before after before1 after1 status status1 all h i (inr (e, none, same)) (inl (command, is, p)) =
     absurd (none command is)
-ends_same texts words t folder input before after before1 after1 status status1 all h i (inr (e, none, same)) (inr (e1, none1, same1)) =
+ends_same ones words t folder input before after before1 after1 status status1 all h i (inr (e, none, same)) (inr (e1, none1, same1)) =
     (e ∙ sym e1, ([], appends_nothing before after same, appends_nothing before1 after1 same1))
 
-pub one_run_answer : OneTextAnswer → OneRunAnswer
-one_run_answer texts words t folder input before after before1 after1 status status1 all h i =
-    ends_same texts words t folder input before after before1 after1 status status1 all h i
+pub one_run_answer : OneAnswer → OneRunAnswer
+one_run_answer ones words t folder input before after before1 after1 status status1 all h i =
+    ends_same ones words t folder input before after before1 after1 status status1 all h i
     (answered words before after status h.ends h.answered) (answered words before1 after1 status1 i.ends i.answered)

@@ -1,14 +1,13 @@
--- The commands as data: the form of each one's words, and what it may touch of the outside.
-use Rattle.std.specs.Prelude.{◌≡◌, ◌<◌, ℕ, Bool, true, false, List, [], ◌∷◌, ◌++◌, codes, Contains, length}
+-- The commands as data: the form of each one's words, and what each asks.
+use Rattle.std.specs.Prelude.{◌≡◌, ℕ, List, codes, Contains}
 use Rattle.sm_bodies.specs.declared.form.BodyForm.{BodyForm}
-use Rattle.sm_bodies.specs.declared.form.BodyForm.TheVariants.{Json, Cbor}
-
--- the forms in which a graph is written: the JSON AST, or a namespace of it in the IDL, for which any text may stand
-pub data GraphForm : Type 0 where
-  -- ast
-  as_ast : GraphForm
-  -- idl:NAMESPACE
-  as_idl : (namespace : List ℕ) → GraphForm
+use Rattle.sm_asked.specs.Asked.{Asked}
+use Rattle.sm_model_commands.specs.Check.{check_asked}
+use Rattle.sm_model_commands.specs.Convert.{convert_asked}
+use Rattle.sm_model_commands.specs.Forms.{GraphForm, IsCheckForm, IsConvertForm, IsSelectForm}
+use Rattle.sm_model_commands.specs.Select.{select_asked}
+use Rattle.sm_body_command.specs.Body.{body_asked}
+use Rattle.sm_body_command.specs.BodyWords.{IsBodyForm}
 
 pub data Command : Type 0 where
   -- check MODEL+
@@ -20,34 +19,28 @@ pub data Command : Type 0 where
   -- select MODEL+ SELECTOR
   select_command : (models : List (List ℕ)) → (selector : List ℕ) → Command
 
--- the word for the form of a side of a body
-abbrev pub form_word : BodyForm → List ℕ
-form_word Json = codes "json"
-form_word Cbor = codes "cbor"
-
--- the word for the form of a graph
-abbrev pub graph_word : GraphForm → List ℕ
-graph_word as_ast = codes "ast"
-graph_word (as_idl namespace) = codes "idl:" ++ namespace
-
--- the words are a command's name, one model file or more, and a last word
-pub record AreOverModels (words : List (List ℕ)) (name : List ℕ) (models : List (List ℕ)) (last : List ℕ) : Type 0 where
-  pub some : 0 < length models
-  pub are : words ≡ name ∷ (models ++ last ∷ [])
-
--- or they are a command's name, and one model file or more
-pub record AreModelsAlone (words : List (List ℕ)) (name : List ℕ) (models : List (List ℕ)) : Type 0 where
-  pub some : 0 < length models
-  pub are : words ≡ name ∷ models
-
 -- the words have the form of the command
 abbrev pub IsCommandForm : List (List ℕ) → Command → Type 0
-IsCommandForm words (check_command models) = AreModelsAlone words (codes "check") models
-IsCommandForm words (body_command model shape near far) = words ≡ codes "body" ∷ model ∷ shape ∷ form_word near ∷ form_word far ∷ []
-IsCommandForm words (convert_command models form) = AreOverModels words (codes "convert") models (graph_word form)
-IsCommandForm words (select_command models selector) = AreOverModels words (codes "select") models selector
+IsCommandForm words (check_command models) = IsCheckForm words models
+IsCommandForm words (body_command model shape near far) = IsBodyForm words model shape near far
+IsCommandForm words (convert_command models form) = IsConvertForm words models form
+IsCommandForm words (select_command models selector) = IsSelectForm words models selector
 
--- they have the form of none
+-- what it asks
+abbrev pub asked_of : Command → Asked
+asked_of (check_command models) = check_asked models
+asked_of (body_command model shape near far) = body_asked model shape near far
+asked_of (convert_command models form) = convert_asked models form
+asked_of (select_command models selector) = select_asked models selector
+
+-- its first word
+abbrev pub first_word : Command → List ℕ
+first_word (check_command models) = codes "check"
+first_word (body_command model shape near far) = codes "body"
+first_word (convert_command models form) = codes "convert"
+first_word (select_command models selector) = codes "select"
+
+-- the words have the form of none
 abbrev pub IsNoForm : List (List ℕ) → Type 0
 IsNoForm words = (command : Command) → IsCommandForm words command → ⊥
 
@@ -56,27 +49,6 @@ abbrev pub OneCommandForm : Type 0
 OneCommandForm = (words : List (List ℕ)) (command command1 : Command) → IsCommandForm words command → IsCommandForm words command1
     → command ≡ command1
 
--- the names of the files that a command may read
-abbrev pub reads : Command → List (List ℕ)
-reads (check_command models) = models
-reads (body_command model shape near far) = model ∷ []
-reads (convert_command models form) = models
-reads (select_command models selector) = models
-
--- the names of the files that it may write
-abbrev pub writes : Command → List (List ℕ)
-writes (check_command models) = []
-writes (body_command model shape near far) = []
-writes (convert_command models form) = []
-writes (select_command models selector) = []
-
--- whether it may read the input
-abbrev pub touches_input : Command → Bool
-touches_input (check_command models) = false
-touches_input (body_command model shape near far) = true
-touches_input (convert_command models form) = false
-touches_input (select_command models selector) = false
-
 -- the files that such words name to be read may be read
 abbrev pub LetsRead : (List ℕ → Type 0) → List (List ℕ) → Type 0
-LetsRead lets words = (command : Command) (name : List ℕ) → IsCommandForm words command → Contains (reads command) name → lets name
+LetsRead lets words = (command : Command) (name : List ℕ) → IsCommandForm words command → Contains (asked_of command).reads name → lets name

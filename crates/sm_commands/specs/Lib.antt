@@ -1,17 +1,4 @@
 pub mod Commands
-pub mod Limits
-pub mod Lines
-pub mod IdlLines
-pub mod Outside
-pub mod Answer
-pub mod Stages
-pub mod ModelFiles
-pub mod Loading
-pub mod BodyStages
-pub mod Body
-pub mod Check
-pub mod Convert
-pub mod Select
 pub mod Says
 pub mod Run
 pub mod RunLaws

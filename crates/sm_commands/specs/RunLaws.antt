@@ -3,13 +3,15 @@ use Rattle.std.specs.Prelude.{◌≡◌, ◌⊎◌, ◌<◌, ℕ, false, List}
 use Rattle.std.specs.Io.KnownBytes.{Appends}
 use Rattle.sm_io.specs.Causes.{Quiet, last_count}
 use Rattle.sm_io.specs.Files.{Folder}
-use Rattle.sm_commands.specs.Outside.{Outside}
-use Rattle.sm_commands.specs.Commands.{Command, IsCommandForm, touches_input}
-use Rattle.sm_commands.specs.Stages.{Told}
-use Rattle.sm_commands.specs.Says.{TellsAll}
-use Rattle.sm_commands.specs.Run.{Prints, RefusedBy, RunEnds, told_by}
-use Rattle.sm_commands.specs.declared.command.Status.{Status}
-use Rattle.sm_commands.specs.declared.command.Status.TheVariants.{Done, Refused, Usage, ReadFault, WriteFault, NoMemory, Pattern, Limit}
+use Rattle.sm_io.specs.Seen.{QuietFiles}
+use Rattle.sm_asked.specs.Outside.{Outside}
+use Rattle.sm_commands.specs.Commands.{Command, IsCommandForm, asked_of}
+use Rattle.sm_asked.specs.Stages.{Told}
+use Rattle.sm_asked.specs.AskedLaws.{TellsAll}
+use Rattle.sm_commands.specs.Run.{Prints, RunEnds}
+use Rattle.sm_asked.specs.Asked.{RefusedBy, told_by}
+use Rattle.sm_asked.specs.declared.status.Status.{Status}
+use Rattle.sm_asked.specs.declared.status.Status.TheVariants.{Done, Refused, Usage, ReadFault, WriteFault, NoMemory, Pattern, Limit}
 
 -- the status is of an answer: neither `NoMemory` nor that of a fault of the outside
 abbrev pub IsAnswered : Status → Type 0
@@ -40,9 +42,9 @@ OneRunAnswer = (words : List (List ℕ)) (t : Told) (folder : Folder) (input : L
     → (status ≡ status1)
     × ((text : List ℕ) × Appends before.output.bytes after.output.bytes text × Appends before1.output.bytes after1.output.bytes text)
 
--- no count of faults rose in between: neither that of reads of files, nor those of the input and of the output
+-- no count of faults rose in between: neither those of reads and writes of files, nor those of the input and of the output
 pub record IsQuiet (before after : Outside) : Type 0 where
-  pub files : Quiet before.inputs.files.faults after.inputs.files.faults
+  pub files : QuietFiles before.inputs.files after.inputs.files
   pub input : Quiet before.inputs.input.faults after.inputs.input.faults
   pub output : Quiet before.output.faults after.output.faults
 
@@ -56,7 +58,7 @@ QuietRunAnswers = (words : List (List ℕ)) (command : Command) (before after : 
 -- a law: a run of a command that doesn't touch the input leaves it as it was
 abbrev pub KeepsInput : Type 0
 KeepsInput = (words : List (List ℕ)) (command : Command) (before after : Outside) (status : Status)
-    → IsCommandForm words command → touches_input command ≡ false → RunEnds words before after status
+    → IsCommandForm words command → (asked_of command).touches_input ≡ false → RunEnds words before after status
     → after.inputs.input ≡ before.inputs.input
 
 -- by these statuses a run ends that refuses no pattern. By WriteFault and NoMemory one may end that couldn't print the line

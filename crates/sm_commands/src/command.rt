@@ -4,61 +4,24 @@ ghost use Rattle.sm_io.specs.Files.{LetsSame};
 ghost use Rattle.sm_io.specs.Reading.{LosesPrefix};
 ghost use Rattle.sm_io.specs.Seen.{files_seen, stream};
 ghost use Rattle.sm_compile.specs.Answers.{seen_store};
-ghost use Rattle.sm_commands.specs.Outside.{inputs_seen, outside};
-ghost use Rattle.sm_commands.specs.Commands.{LetsRead, reads};
-ghost use Rattle.sm_commands.specs.Run.{code_of, RunAnswers, KeepsFiles, OnlyAdds};
-ghost use Rattle.sm_commands.specs.steps.Asked.{command_of};
-ghost use Rattle.sm_commands.specs.steps.CommandSteps.{CommandComesTo, PutEnds, PrintsResult};
+ghost use Rattle.sm_asked.specs.Asked.{OnlyAdds};
+ghost use Rattle.sm_asked.specs.Comes.{CommandComesTo};
+ghost use Rattle.sm_asked.specs.Outside.{inputs_seen, outside};
+ghost use Rattle.sm_commands.specs.Commands.{LetsRead, asked_of};
+ghost use Rattle.sm_commands.specs.Run.{KeepsFiles, RunAnswers, WritingNone};
+ghost use Rattle.sm_commands.specs.steps.FormSteps.{command_of};
+ghost use Rattle.sm_commands.specs.steps.PutSteps.{PrintsResult, PutEnds};
 
-use crate::body::body;
-use crate::check::check;
-use crate::convert::convert;
-use crate::select::select;
-use crate::stop::Stop;
 use crate::words::{Form, form_of};
+use sm_asked::{Status, Stop};
+use sm_body_command::body::body;
 use sm_io::{Files, PutRefusal, Sink, Source};
+use sm_model_commands::check::check;
+use sm_model_commands::convert::convert;
+use sm_model_commands::select::select;
 use sm_shapes::Patterns;
 use sm_tree::Text;
 use std::alloc::Global;
-
-/// How a command ended.
-#[derive(Debug, Clone, Copy, PartialEq, Eq, Drop)]
-pub enum Status {
-    /// Its work is done.
-    Done,
-    /// The model, the shape or the body is refused; a line or more were printed.
-    Refused,
-    /// The words have none of the forms; nothing was printed.
-    Usage,
-    /// A file or the input could not be read; nothing was printed.
-    ReadFault,
-    /// The output could not be written.
-    WriteFault,
-    /// The allocator refused the memory that is needed.
-    NoMemory,
-    /// The store refused a pattern that the shape reaches; a line was printed.
-    Pattern,
-    /// A limit is passed; a line was printed.
-    Limit,
-}
-
-impl Status {
-    /// The number of the status, by which the process ends.
-    pub fn code(self) -> u8
-        ensures { result ≡ code_of self }
-    {
-        match self {
-            Status::Done => 0,
-            Status::Refused => 1,
-            Status::Usage => 2,
-            Status::ReadFault => 3,
-            Status::WriteFault => 4,
-            Status::NoMemory => 5,
-            Status::Pattern => 6,
-            Status::Limit => 7,
-        }
-    }
-}
 
 // What a command comes to: what it prints, or why it ends before.
 fn come_to<F: Files, S: Source, P: Patterns>(
@@ -68,14 +31,14 @@ fn come_to<F: Files, S: Source, P: Patterns>(
     input: &mut S,
     patterns: &mut P,
 ) -> Result<Vec<u8>, Stop>
-    requires { (name : List ℕ) → Contains (reads (command_of form)) name → F.lets_read files.old name }
-    ensures comes { let before = inputs_seen (files_seen (F.held files.old) (F.read_faults files.old))
+    requires { (name : List ℕ) → Contains (asked_of (command_of form)).reads name → F.lets_read files.old name }
+    ensures comes { let before = inputs_seen (files_seen (F.held files.old) (F.read_faults files.old) (F.write_faults files.old))
         (stream (S.left input.old) (S.faults input.old))
         P.test (seen_store (P.added patterns.old) (P.refused patterns.old) (P.refusals patterns.old)) in
-        let after = inputs_seen (files_seen (F.held files.new) (F.read_faults files.new))
+        let after = inputs_seen (files_seen (F.held files.new) (F.read_faults files.new) (F.write_faults files.new))
         (stream (S.left input.new) (S.faults input.new))
         P.test (seen_store (P.added patterns.new) (P.refused patterns.new) (P.refusals patterns.new)) in
-        CommandComesTo before after (command_of form.entry) result }
+        CommandComesTo before after (asked_of (command_of form.entry)) result }
     ensures held { F.held files.new ≡ F.held files.old }
     ensures read_faults { F.read_faults files.old ≤ F.read_faults files.new }
     ensures write_faults { F.write_faults files.new ≡ F.write_faults files.old }
@@ -152,17 +115,17 @@ pub fn run<F: Files, S: Source, K: Sink, P: Patterns>(
     patterns: &mut P,
 ) -> u8
     requires { LetsRead (F.lets_read files.old) words.now }
-    ensures answers { let before = inputs_seen (files_seen (F.held files.old) (F.read_faults files.old))
+    ensures answers { let before = inputs_seen (files_seen (F.held files.old) (F.read_faults files.old) (F.write_faults files.old))
         (stream (S.left input.old) (S.faults input.old))
         P.test (seen_store (P.added patterns.old) (P.refused patterns.old) (P.refusals patterns.old)) in
-        let after = inputs_seen (files_seen (F.held files.new) (F.read_faults files.new))
+        let after = inputs_seen (files_seen (F.held files.new) (F.read_faults files.new) (F.write_faults files.new))
         (stream (S.left input.new) (S.faults input.new))
         P.test (seen_store (P.added patterns.new) (P.refused patterns.new) (P.refusals patterns.new)) in
         RunAnswers words.now (outside before (stream (K.written out.old) (K.faults out.old)))
         (outside after (stream (K.written out.new) (K.faults out.new))) result }
     ensures files { KeepsFiles words.now (F.held files.old) (F.held files.new) }
-    ensures held { F.held files.new ≡ F.held files.old }
-    ensures write_faults { F.write_faults files.new ≡ F.write_faults files.old }
+    ensures held { WritingNone words.now (F.held files.new ≡ F.held files.old) }
+    ensures write_faults { WritingNone words.now (F.write_faults files.new ≡ F.write_faults files.old) }
     ensures read_faults { F.read_faults files.old ≤ F.read_faults files.new }
     ensures same_reads { LetsSame (F.lets_read files.old) (F.lets_read files.new) }
     ensures same_writes { LetsSame (F.lets_write files.old) (F.lets_write files.new) }

@@ -14,17 +14,16 @@ pub fn one_answer()
     ensures said { OneAnswer }
     ensures runs { OneRunAnswer }
 {
-    sm_bodies::laws::one_text_answer();
+    sm_model_commands::laws::one_answer();
+    sm_body_command::laws::one_answer();
 }
 
 /// Where its files are there a command comes to an answer, whatever they and the input hold: what `run` says leaves no case to `NoMemory`.
 pub fn some_answer()
     ensures { SomeAnswer }
 {
-    sm_bodies::laws::some_text_answer();
-    sm_compile::laws::some_table();
-    sm_load::laws::some_load();
-    sm_load::laws::sound_models();
+    sm_model_commands::laws::some_answer();
+    sm_body_command::laws::some_answer();
 }
 
 /// Where the words have a form and no count of faults rose, the answer is put, or memory ran out.

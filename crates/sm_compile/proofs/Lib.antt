@@ -47,14 +47,3 @@ mod SomePatterns
 mod SomeWay
 mod SomeRows
 mod SomeTable
-mod UriStops
-mod UriBytes
-mod UriNames
-pub mod UriSegments
-mod UriParts
-mod UriCuts
-mod UriPaths
-mod UriQueries
-mod UriHeld
-pub mod UriOnce
-pub mod UriRouted

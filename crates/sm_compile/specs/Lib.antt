@@ -8,11 +8,6 @@ pub mod Compiled
 pub mod Served
 pub mod Answers
 pub mod Roots
-pub mod UriPattern
-pub mod UriRoutes
 pub mod Laws
-pub mod TraitRows
-pub mod rules
-pub mod Ready
 pub mod Looked
 pub mod steps

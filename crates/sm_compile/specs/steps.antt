@@ -13,4 +13,3 @@ pub mod Valued
 pub mod Placing
 pub mod Making
 pub mod Tests
-pub mod UriReading

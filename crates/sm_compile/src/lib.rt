@@ -26,7 +26,6 @@ mod storing;
 mod tabled;
 mod traits;
 mod unserved;
-mod uri;
 mod values;
 mod way;
 
@@ -47,4 +46,3 @@ pub use traits::{
     text_in_trait,
 };
 pub use unserved::is_left_out;
-pub use uri::{Segment, UriPattern, UriRefusal, route_text};

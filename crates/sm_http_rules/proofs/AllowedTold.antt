@@ -9,12 +9,11 @@ use Rattle.sm_model.specs.declared.graph.Graph.{Graph}
 use Rattle.sm_model.specs.declared.kind.Kind.{Kind}
 use Rattle.sm_model.specs.declared.kind.Kind.TheVariants as model
 use Rattle.sm_compile.specs.Looked.{kind_in, kind_under}
-use Rattle.sm_compile.specs.rules.Bindings.{BindingTrait, a_header, a_label, a_payload, a_query, a_response_code, allows_target}
-use Rattle.sm_compile.specs.rules.Bindings.{is_list_of, is_map_to, is_one_text, is_payload}
-use Rattle.sm_compile.specs.rules.Bindings.{some_prefix_headers, some_query_params}
+use Rattle.sm_rules.specs.Bindings.{BindingTrait, a_header, a_label, a_payload, a_query, a_response_code, allows_target, is_list_of}
+use Rattle.sm_rules.specs.Bindings.{is_map_to, is_one_text, is_payload, some_prefix_headers, some_query_params}
 use Rattle.sm_http_rules.specs.declared.allows.MapValues.{MapValues}
 use Rattle.sm_http_rules.specs.declared.allows.MapValues.TheVariants.{Texts, TextsOrLists}
-use Rattle.sm_http_rules.specs.parts.Allowing.{is_payload_kind, is_spelled_kind, map_test}
+use Rattle.sm_http_rules.specs.steps.Allowing.{is_payload_kind, is_spelled_kind, map_test}
 use Rattle.sm_http_rules.proofs.TargetTested.{entry_at}
 
 -- types by their names

@@ -37,8 +37,8 @@ use Rattle.sm_compile.specs.Looked.{listed_under}
 use Rattle.sm_compile.proofs.OneWay.{one_name}
 use Rattle.sm_compile.proofs.ReachedNumbers.{same_number}
 use Rattle.sm_compile.proofs.TabledShapes.{mapped_from, mapped_to}
-use Rattle.sm_rules.specs.parts.Folded.{is_own_shape}
-use Rattle.sm_http_rules.specs.parts.Labels.{AreBound, AreBoundOf, BoundRow, is_bound}
+use Rattle.sm_passes.specs.Owned.{is_own_shape}
+use Rattle.sm_http_rules.specs.steps.Labels.{AreBound, AreBoundOf, BoundRow, is_bound}
 
 -- numbers of a graph
 pub number_among : (g : Graph) (ks : List ℕ) → AreShapeNumbers g ks → (k : ℕ) → Contains ks k → IsShapeNumber g k

@@ -1,6 +1,5 @@
 -- Which shapes stand on each side of messages, from marks of operations with `http`.
-use Rattle.std.proofs.Common.{◌≡◌, inl, inr, ℕ, Bool, true, false, List, [], ◌∷◌, length, get_or, refl, sym, ap, ◌∙◌}
-use Rattle.std.proofs.Common.{subst}
+use Rattle.std.proofs.Common.{◌≡◌, inl, inr, ℕ, Bool, true, false, List, [], ◌∷◌, length, get_or, refl, sym, ap, ◌∙◌, subst}
 use Rattle.std.specs.Prelude.{◌↔◌, ◌&&◌, ◌||◌, is_some}
 use Rattle.std.specs.List.{Contains}
 use Rattle.sm_model.specs.Graphs.{shape_entry, GraphMaps}
@@ -18,13 +17,12 @@ use Rattle.sm_select.specs.Picks.{LeadsAlong}
 use Rattle.sm_select.proofs.MarkedNumbers.{marks_same}
 use Rattle.sm_compile.specs.Sound.{trait_in}
 use Rattle.sm_compile.specs.TraitIds.{http_id}
-use Rattle.sm_compile.specs.rules.Bindings.{IsBound, IsHttpOperation, an_error}
-use Rattle.sm_rules.specs.parts.Carrying.{carries}
-use Rattle.sm_rules.specs.parts.Owned.{is_own_operation}
-use Rattle.sm_rules.specs.parts.Using.{is_own_service}
-use Rattle.sm_rules.proofs.HttpSaid.{is_own, own_operation}
-use Rattle.sm_rules.proofs.UnusedShapes.{own_service, service_own}
-use Rattle.sm_http_rules.specs.parts.Sides.{AreOnSide, MayErr, is_http_operation, may_err}
+use Rattle.sm_rules.specs.Bindings.{IsBound, IsHttpOperation, an_error}
+use Rattle.sm_passes.specs.Carrying.{carries}
+use Rattle.sm_passes.specs.Owned.{is_own_operation, is_own_service}
+use Rattle.sm_passes.proofs.HttpSaid.{is_own, own_operation}
+use Rattle.sm_passes.proofs.OwnServices.{own_service, service_own}
+use Rattle.sm_http_rules.specs.Sides.{AreOnSide, MayErr, is_http_operation, may_err}
 
 -- operations with `http`
 module _ (g : GraphMaps) (id : List ℕ) where

@@ -1,6 +1,5 @@
 -- What is told of members that are bound to parts of messages is what the rule says.
-use Rattle.std.proofs.Common.{◌≡◌, ◌⊎◌, inl, inr, ℕ, Bool, true, false, List, Option, Some, get_or, map, refl, sym, ap, ◌∙◌}
-use Rattle.std.proofs.Common.{subst}
+use Rattle.std.proofs.Common.{◌≡◌, ◌⊎◌, inl, inr, ℕ, Bool, true, false, List, Option, Some, get_or, map, refl, sym, ap, ◌∙◌, subst}
 use Rattle.std.specs.Prelude.{◌&&◌, is_some, not}
 use Rattle.std.specs.FinMap as fin
 use Rattle.std.specs.List.{Contains, list_any}
@@ -17,31 +16,29 @@ use Rattle.sm_select.proofs.MarkedNumbers.{unset}
 use Rattle.sm_compile.specs.Looked.{listed_in, listed_under}
 use Rattle.sm_compile.specs.Sound.{trait_in}
 use Rattle.sm_compile.specs.TraitIds.{http_payload_id}
-use Rattle.sm_compile.specs.rules.Bindings.{BoundSide, IsBound, allows_target, an_error, an_input, an_output, binding_id}
-use Rattle.sm_compile.specs.rules.Bindings.{bindings_of, has_binding, is_in_document, target_passes, targets}
-use Rattle.sm_compile.specs.rules.Http.{IsBoundWrongly, StandsOn, beside_payload, wrong_target}
-use Rattle.sm_compile.specs.rules.Words.{IsMemberOf, IsOwnShape}
+use Rattle.sm_rules.specs.Bindings.{BoundSide, IsBound, allows_target, an_error, an_input, an_output, binding_id, bindings_of, has_binding}
+use Rattle.sm_rules.specs.Bindings.{is_in_document, target_passes, targets}
+use Rattle.sm_rules.specs.Http.{IsBoundWrongly, StandsOn, beside_payload, wrong_target}
+use Rattle.sm_rules.specs.Words.{IsMemberOf, IsOwnShape}
 use Rattle.sm_compile.proofs.ReachedNumbers.{each_number}
 use Rattle.sm_compile.proofs.TabledShapes.{mapped_from, mapped_to}
 use Rattle.sm_rules.specs.RuleEvents.{IsEventIn, Puts, rule_event}
 use Rattle.sm_rules.specs.declared.rule.Rule.TheVariants.{HttpTarget}
-use Rattle.sm_rules.specs.parts.Folded.{is_own_shape}
-use Rattle.sm_rules.specs.parts.InBody.{is_member_in}
-use Rattle.sm_rules.specs.parts.Putting.{ToldOf}
-use Rattle.sm_rules.proofs.EventsPut.{puts_both, puts_none, puts_same}
-use Rattle.sm_rules.proofs.HttpBodies.{any_found, found_any}
-use Rattle.sm_rules.proofs.OwnShapes.{member_in, not_so, own_told, told_own}
+use Rattle.sm_passes.specs.Owned.{is_own_shape, is_member_in}
+use Rattle.sm_passes.specs.Putting.{ToldOf}
+use Rattle.sm_passes.proofs.EventsPut.{puts_both, puts_none, puts_same}
+use Rattle.sm_http_rules.proofs.HttpBodies.{any_found, found_any}
+use Rattle.sm_passes.proofs.OwnShapes.{member_in, not_so, own_told, told_own}
 use Rattle.sm_http_rules.specs.declared.bindings.Binding.{Binding}
 use Rattle.sm_http_rules.specs.declared.bindings.Binding.TheVariants.{Payload}
 use Rattle.sm_http_rules.specs.declared.bindings.Side.{Side}
 use Rattle.sm_http_rules.specs.declared.bindings.Side.TheVariants.{Input, Output, Error}
 use Rattle.sm_http_rules.specs.declared.sides.Sides.{Sides}
-use Rattle.sm_http_rules.specs.parts.Binding.{binding_said, bindings_in, side_said}
-use Rattle.sm_http_rules.specs.parts.BoundTargets.{HasPayload, IsBesideTold, IsTargetTold, ToldBeside, ToldBinding, ToldBoundMember}
-use Rattle.sm_http_rules.specs.parts.BoundTargets.{ToldOnSide, has_payload, home_of_binding, is_bound_by, is_in_document_at}
-use Rattle.sm_http_rules.specs.parts.BoundTargets.{marks_of}
-use Rattle.sm_http_rules.specs.parts.LeftOut.{AreLeading}
-use Rattle.sm_http_rules.specs.parts.Sides.{AreOnSide, AreSides}
+use Rattle.sm_http_rules.specs.steps.Binding.{binding_said, bindings_in, side_said}
+use Rattle.sm_http_rules.specs.steps.BoundTargets.{HasPayload, IsBesideTold, IsTargetTold, ToldBeside, ToldBinding, ToldBoundMember}
+use Rattle.sm_http_rules.specs.steps.BoundTargets.{ToldOnSide, has_payload, home_of_binding, is_bound_by, is_in_document_at, marks_of}
+use Rattle.sm_http_rules.specs.steps.LeftOut.{AreLeading}
+use Rattle.sm_http_rules.specs.Sides.{AreOnSide, AreSides}
 use Rattle.sm_http_rules.proofs.LeftOutLed.{leads_by_target}
 
 both_true : (a b : Bool) → a ≡ true → b ≡ true → (a && b) ≡ true

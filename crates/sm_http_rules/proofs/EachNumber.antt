@@ -3,7 +3,7 @@ use Rattle.std.proofs.Common.{◌≡◌, ◌⊎◌, ◌<◌, ◌+◌, inl, inr, 
 use Rattle.std.proofs.Math.Seq.{get_or-append_seam}
 use Rattle.std.proofs.lemmas.Bool.{cases_order}
 use Rattle.std.proofs.lemmas.List.{get_or_append_left, length-append}
-use Rattle.sm_http_rules.specs.parts.Labels.{AreEach}
+use Rattle.sm_http_rules.specs.steps.Labels.{AreEach}
 
 below : (k n : ℕ) → k < n + 1 → (k < n) ⊎ (k ≡ n)
 below k n less = elim (cases_order k n) [

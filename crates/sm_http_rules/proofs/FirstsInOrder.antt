@@ -8,13 +8,13 @@ use Rattle.std.specs.Ordering.{is_lt, nat_cmp}
 use Rattle.std.proofs.lemmas.Bool.{cases_lt}
 use Rattle.std.proofs.lemmas.Cmp.{nat_cmp_total}
 use Rattle.std.proofs.lemmas.List.{get_or-drop, get_or-take, get_or_default, length-drop, length-take, take-append-drop}
-use Rattle.std.proofs.lemmas.List.Elements.{Contains-append_cases, Contains-append_left, Contains-append_right}
-use Rattle.std.proofs.lemmas.List.Elements.{Contains-push, Contains-push_cases}
+use Rattle.std.proofs.lemmas.List.Elements.{Contains-append_cases, Contains-append_left, Contains-append_right, Contains-push}
+use Rattle.std.proofs.lemmas.List.Elements.{Contains-push_cases}
 use Rattle.std.proofs.lemmas.List.Sorted.{Contains-permutation, IsPermutation-sym, ranks_by, sorted_far}
 use Rattle.std.proofs.lemmas.Map.Keys.{ge_from_not_lt}
 use Rattle.sm_model.specs.steps.Linking.{Joins}
 use Rattle.sm_model.proofs.OneRising.{contains_none}
-use Rattle.sm_http_rules.specs.parts.SameRoutes.{AreByFirsts, AreUnder, IsRunFrom, first_at}
+use Rattle.sm_http_rules.specs.steps.SameRoutes.{AreByFirsts, AreUnder, IsRunFrom, first_at}
 
 module _ (firsts : List (Option ℕ)) where
   pub none_of_none : AreUnder firsts [] []

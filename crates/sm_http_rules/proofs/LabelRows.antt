@@ -13,10 +13,10 @@ use Rattle.std.proofs.lemmas.List.Elements.{Contains-append_cases, Contains-appe
 use Rattle.sm_model.specs.Graphs.{text_cmp}
 use Rattle.sm_model.proofs.OneRising.{contains_behind, contains_either, contains_head, contains_none}
 use Rattle.sm_model.proofs.Worklist.{apart}
-use Rattle.sm_compile.specs.UriPattern.{greedy_name, greedy_names, label_name, label_names}
-use Rattle.sm_compile.specs.declared.uri.pattern.Segment.{Segment}
-use Rattle.sm_compile.specs.declared.uri.pattern.Segment.TheVariants.{Literal, Label, Greedy}
-use Rattle.sm_http_rules.specs.parts.Labels.{label_row, rows_of_labels}
+use Rattle.sm_uri.specs.UriPattern.{greedy_name, greedy_names, label_name, label_names}
+use Rattle.sm_uri.specs.declared.pattern.Segment.{Segment}
+use Rattle.sm_uri.specs.declared.pattern.Segment.TheVariants.{Literal, Label, Greedy}
+use Rattle.sm_http_rules.specs.steps.Labels.{label_row, rows_of_labels}
 
 tied : (r : Ordering) → is_eq r ≡ true → r ≡ Equal
 tied Less h = absurd (apart h)

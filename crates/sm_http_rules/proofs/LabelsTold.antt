@@ -22,26 +22,25 @@ use Rattle.sm_model.proofs.Worklist.{apart}
 use Rattle.sm_compile.specs.Looked.{listed_in, listed_under}
 use Rattle.sm_compile.specs.Sound.{trait_in}
 use Rattle.sm_compile.specs.TraitIds.{http_label_id, required_id}
-use Rattle.sm_compile.specs.UriPattern.{IsUriText, UriSaid, UriText}
-use Rattle.sm_compile.proofs.UriOnce.{one_uri}
-use Rattle.sm_compile.specs.declared.uri.pattern.Segment.{Segment}
-use Rattle.sm_compile.specs.rules.Bindings.{is_string, passes, target_passes, targets}
-use Rattle.sm_compile.specs.rules.Http.{HasUri, HasWrongLabel, IsLabelled, TakesLabels, greedy_target, no_label, no_member, not_required}
-use Rattle.sm_compile.specs.rules.Words.{has_trait}
+use Rattle.sm_uri.specs.UriPattern.{IsUriText, UriSaid, UriText}
+use Rattle.sm_uri.proofs.UriOnce.{one_uri}
+use Rattle.sm_uri.specs.declared.pattern.Segment.{Segment}
+use Rattle.sm_rules.specs.Bindings.{is_string, passes, target_passes, targets}
+use Rattle.sm_rules.specs.Http.{HasUri, HasWrongLabel, IsLabelled, TakesLabels, greedy_target, no_label, no_member, not_required}
+use Rattle.sm_rules.specs.Words.{has_trait}
 use Rattle.sm_rules.specs.RuleEvents.{IsEventOf, Puts, rule_event}
 use Rattle.sm_rules.specs.declared.rule.Rule.TheVariants.{HttpLabels}
-use Rattle.sm_rules.specs.parts.Carrying.{carries}
-use Rattle.sm_rules.specs.parts.InBody.{is_member_in}
-use Rattle.sm_rules.specs.parts.Http.{uri_seen}
-use Rattle.sm_http_rules.specs.parts.Labels.{AreBoundOf, IsWrongLabel, ToldByLink, ToldByRows, ToldLabels, ToldOfUri}
-use Rattle.sm_http_rules.specs.parts.Labels.{free, is_bound, is_wrong_member, other_shape}
-use Rattle.sm_http_rules.specs.parts.Labels.{is_input, rows_of_labels, unbound, unnamed}
-use Rattle.sm_rules.specs.parts.Putting.{ToldOf}
-use Rattle.sm_rules.proofs.EventsPut.{puts_none, puts_same}
-use Rattle.sm_rules.proofs.HttpSaid.{said_seen, seen_said}
-use Rattle.sm_rules.proofs.HttpUris.{field_text}
+use Rattle.sm_passes.specs.Carrying.{carries}
+use Rattle.sm_passes.specs.Owned.{is_member_in}
+use Rattle.sm_passes.specs.Http.{uri_seen}
+use Rattle.sm_http_rules.specs.steps.Labels.{AreBoundOf, IsWrongLabel, ToldByLink, ToldByRows, ToldLabels, ToldOfUri, free, is_bound}
+use Rattle.sm_http_rules.specs.steps.Labels.{is_wrong_member, other_shape, is_input, rows_of_labels, unbound, unnamed}
+use Rattle.sm_passes.specs.Putting.{ToldOf}
+use Rattle.sm_passes.proofs.EventsPut.{puts_none, puts_same}
+use Rattle.sm_passes.proofs.HttpSaid.{said_seen, seen_said}
+use Rattle.sm_http_rules.proofs.HttpUris.{field_text}
 use Rattle.sm_http_rules.proofs.LabelRows.{is_greedy_row, is_label_row, none_found, row_is_greedy, row_is_label, some_found}
-use Rattle.sm_rules.proofs.OwnShapes.{member_in, not_so, own_told, told_own}
+use Rattle.sm_passes.proofs.OwnShapes.{member_in, not_so, own_told, told_own}
 
 either : (b : Bool) → (b ≡ true) ⊎ (b ≡ false)
 either true = inl refl

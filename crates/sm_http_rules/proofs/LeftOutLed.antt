@@ -26,9 +26,9 @@ use Rattle.sm_select.specs.Neighbors.{AreBelow, AreNeighbors, AreReached, HasSte
 use Rattle.sm_compile.specs.Kinds.{has_values, is_left_out, table_kind}
 use Rattle.sm_compile.specs.Looked.{kind_in}
 use Rattle.sm_compile.specs.Reached.{LeadsBy, LeadsTo}
-use Rattle.sm_compile.specs.rules.Http.{ReachesLeftOutValue}
-use Rattle.sm_http_rules.specs.parts.LeftOut.{AreLeading, AreValueSteps, LeadsToLeftOut, has_left_out, is_left_out_kind, is_left_out_where}
-use Rattle.sm_http_rules.specs.parts.LeftOut.{is_of_values, value_link}
+use Rattle.sm_rules.specs.Http.{ReachesLeftOutValue}
+use Rattle.sm_http_rules.specs.steps.LeftOut.{AreLeading, AreValueSteps, LeadsToLeftOut, has_left_out, is_left_out_kind, is_left_out_where}
+use Rattle.sm_http_rules.specs.steps.LeftOut.{is_of_values, value_link}
 
 -- types whose values aren't carried
 left_out_value : (kind : Kind) → is_left_out_kind kind ≡ true → (table_kind kind ≡ LeftOut) × (has_values kind ≡ true)

@@ -1,20 +1,23 @@
-pub mod TargetTested
-pub mod LabelRows
-pub mod EachNumber
-pub mod BoundRows
-pub mod LabelsTold
-pub mod Splits
-pub mod ReadTraits
-pub mod NamesAgain
-pub mod BoundSides
-pub mod WireNamesTold
-pub mod RouteKeys
-pub mod SameRouteRows
-pub mod FirstsInOrder
-pub mod PairsTold
-pub mod RoutesTold
-pub mod SomePasses
-pub mod AllowedTold
-pub mod LeftOutLed
-pub mod BoundTold
-pub mod ShortestKept
+mod HttpUris
+mod HttpBodies
+pub mod HttpCodes
+mod TargetTested
+mod LabelRows
+mod EachNumber
+mod BoundRows
+mod LabelsTold
+mod Splits
+mod ReadTraits
+mod NamesAgain
+mod BoundSides
+mod WireNamesTold
+mod RouteKeys
+mod SameRouteRows
+mod FirstsInOrder
+mod PairsTold
+mod RoutesTold
+mod SomePasses
+mod AllowedTold
+mod LeftOutLed
+mod BoundTold
+mod ShortestKept

@@ -1,7 +1,6 @@
 -- Members whose names earlier members of their shape have too, from rows of names.
 use Rattle.std.proofs.Common.{◌≡◌, ℕ, Bool, true, false, cond, List, [], ◌∷◌, ◌++◌, Option, Some, None, length, map, refl, sym, ap, ◌∙◌}
-use Rattle.std.proofs.Common.{subst}
-use Rattle.std.proofs.Common.{inl, inr}
+use Rattle.std.proofs.Common.{subst, inl, inr}
 use Rattle.std.specs.Prelude.{◌||◌, is_some}
 use Rattle.std.specs.FinMap as fin
 use Rattle.std.specs.List.{Contains, cons_option, filter_map, list_any}
@@ -22,14 +21,15 @@ use Rattle.sm_model.proofs.Worklist.{apart}
 use Rattle.sm_compile.specs.Looked.{listed_in, listed_under}
 use Rattle.sm_rules.specs.RuleEvents.{Puts, rule_event}
 use Rattle.sm_rules.specs.declared.rule.Rule.TheVariants.{WireNames}
-use Rattle.sm_rules.specs.parts.Earlier.{ToldAfter, ToldAt}
-use Rattle.sm_rules.specs.parts.Folded.{folded, is_own_shape}
-use Rattle.sm_rules.specs.parts.Putting.{Below}
-use Rattle.sm_rules.proofs.EventsPut.{puts_none, puts_same}
-use Rattle.sm_rules.proofs.OwnShapes.{own_told}
+use Rattle.sm_passes.specs.Earlier.{ToldAfter, ToldAt}
+use Rattle.sm_passes.specs.Folded.{folded}
+use Rattle.sm_passes.specs.Owned.{is_own_shape}
+use Rattle.sm_passes.specs.Putting.{Below}
+use Rattle.sm_passes.proofs.EventsPut.{puts_none, puts_same}
+use Rattle.sm_passes.proofs.OwnShapes.{own_told}
 use Rattle.sm_http_rules.specs.declared.naming.Naming.{Naming}
 use Rattle.sm_http_rules.specs.declared.naming.Naming.TheVariants.{Header, Query, Json}
-use Rattle.sm_http_rules.specs.parts.Naming.{ToldAgain, ToldName, key_of, name_of, name_row, name_rows, same_by}
+use Rattle.sm_http_rules.specs.steps.Naming.{ToldAgain, ToldName, key_of, name_of, name_row, name_rows, same_by}
 use Rattle.sm_http_rules.proofs.Splits.{Kept, Mapped, ToldSplit, kept_parts, mapped_parts, split_told, told_split}
 
 key_same : (naming : Naming) (a b : List ℕ) → is_eq (text_cmp (key_of naming a) (key_of naming b)) ≡ same_by naming a b

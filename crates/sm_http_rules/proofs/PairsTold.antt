@@ -1,6 +1,5 @@
 -- What is told of each two rows with one first.
-use Rattle.std.proofs.Common.{◌≡◌, ◌⊎◌, ◌<◌, inl, inr, ℕ, List, [], ◌∷◌, ◌++◌, Option, Some}
-use Rattle.std.proofs.Common.{refl, sym, ap, subst, ◌∙◌, arith}
+use Rattle.std.proofs.Common.{◌≡◌, ◌⊎◌, ◌<◌, inl, inr, ℕ, List, [], ◌∷◌, ◌++◌, Option, Some, refl, sym, ap, subst, ◌∙◌, arith}
 use Rattle.std.specs.Prelude.{◌↔◌}
 use Rattle.std.specs.List.{Contains}
 use Rattle.std.proofs.lemmas.List.Elements.{Contains-append_left, Contains-push, Contains-push_cases}
@@ -9,9 +8,9 @@ use Rattle.sm_model.specs.declared.event.ModelEvent.{ModelEvent}
 use Rattle.sm_model.specs.declared.graph.Graph.{Graph}
 use Rattle.sm_model.proofs.OneRising.{contains_none}
 use Rattle.sm_rules.specs.RuleEvents.{Puts}
-use Rattle.sm_rules.specs.parts.Putting.{ToldOf}
-use Rattle.sm_rules.proofs.EventsPut.{puts_both, puts_none, puts_same}
-use Rattle.sm_http_rules.specs.parts.SameRoutes.{AreUnder, IsEitherTold, IsPairTold, ToldOfNumbers, ToldOfRows}
+use Rattle.sm_passes.specs.Putting.{ToldOf}
+use Rattle.sm_passes.proofs.EventsPut.{puts_both, puts_none, puts_same}
+use Rattle.sm_http_rules.specs.steps.SameRoutes.{AreUnder, IsEitherTold, IsPairTold, ToldOfNumbers, ToldOfRows}
 
 module _ (g : Graph) where
   pub no_pairs : (es : List ModelEvent) → Puts (ToldOfRows g []) es es

@@ -8,22 +8,21 @@ use Rattle.sm_ids.specs.steps.Ahead.{EndsRun}
 use Rattle.sm_ids.proofs.Cutting.{both, list_all_weaker, one_cut, tails}
 use Rattle.sm_model.specs.Graphs.{GraphMaps}
 use Rattle.sm_model.proofs.Worklist.{apart}
-use Rattle.sm_compile.specs.UriPattern.{IsUri, IsUriText, QueryLiteral, UriSaid, UriText, is_brace, is_key_byte, is_literal_byte}
-use Rattle.sm_compile.specs.UriPattern.{is_query_literal}
-use Rattle.sm_compile.specs.UriPattern.{is_segment, is_text_of, is_value, is_value_byte, literal_text, more_text, path_text, printed_uri}
-use Rattle.sm_compile.specs.UriPattern.{ampersand, query_text, question_mark, segment_text, value_text}
-use Rattle.sm_compile.specs.UriRoutes.{IsSameRoute, one_named, unnamed}
-use Rattle.sm_compile.specs.declared.uri.pattern.Segment.{Segment}
-use Rattle.sm_compile.specs.declared.uri.pattern.Segment.TheVariants.{Literal, Label, Greedy}
-use Rattle.sm_compile.specs.rules.Http.{method_of}
-use Rattle.sm_compile.specs.rules.Words.{IsOperation}
-use Rattle.sm_compile.proofs.UriOnce.{one_uri}
-use Rattle.sm_compile.proofs.UriRouted.{routes_by_texts}
-use Rattle.sm_compile.proofs.UriSegments.{all_both, text_passes}
-use Rattle.sm_rules.specs.parts.Http.{method_seen, uri_seen}
-use Rattle.sm_rules.proofs.HttpSaid.{said_seen, seen_said}
-use Rattle.sm_rules.proofs.HttpUris.{field_text}
-use Rattle.sm_http_rules.specs.parts.Routes.{IsRouteKey, key_of, method_tail}
+use Rattle.sm_uri.specs.UriPattern.{IsUri, IsUriText, QueryLiteral, UriSaid, UriText, is_brace, is_key_byte, is_literal_byte}
+use Rattle.sm_uri.specs.UriPattern.{is_query_literal, is_segment, is_text_of, is_value, is_value_byte, literal_text, more_text, path_text}
+use Rattle.sm_uri.specs.UriPattern.{printed_uri, ampersand, query_text, question_mark, segment_text, value_text}
+use Rattle.sm_uri.specs.UriRoutes.{IsSameRoute, one_named, unnamed}
+use Rattle.sm_uri.specs.declared.pattern.Segment.{Segment}
+use Rattle.sm_uri.specs.declared.pattern.Segment.TheVariants.{Literal, Label, Greedy}
+use Rattle.sm_rules.specs.Http.{method_of}
+use Rattle.sm_rules.specs.Words.{IsOperation}
+use Rattle.sm_uri.proofs.UriOnce.{one_uri}
+use Rattle.sm_uri.proofs.UriRouted.{routes_by_texts}
+use Rattle.sm_uri.proofs.UriSegments.{all_both, text_passes}
+use Rattle.sm_passes.specs.Http.{method_seen, uri_seen}
+use Rattle.sm_passes.proofs.HttpSaid.{said_seen, seen_said}
+use Rattle.sm_http_rules.proofs.HttpUris.{field_text}
+use Rattle.sm_http_rules.specs.steps.Routes.{IsRouteKey, key_of, method_tail}
 
 abbrev is_free : ℕ → Bool
 is_free c = not (c == number_sign)

@@ -10,18 +10,18 @@ use Rattle.sm_model.specs.Reaching.{IsMarked, id_of_number}
 use Rattle.sm_model.specs.declared.event.ModelEvent.{ModelEvent}
 use Rattle.sm_model.specs.declared.graph.Graph.{Graph}
 use Rattle.sm_model.proofs.NumberedIds.{number_of}
-use Rattle.sm_compile.specs.rules.Http.{HasSameRoute, method_of}
-use Rattle.sm_compile.specs.rules.Words.{IsInClosure, IsService}
+use Rattle.sm_rules.specs.Http.{HasSameRoute, method_of}
+use Rattle.sm_rules.specs.Words.{IsInClosure, IsService}
 use Rattle.sm_rules.specs.RuleEvents.{IsEventIn, IsEventOf, Puts, rule_event}
 use Rattle.sm_rules.specs.declared.rule.Rule.TheVariants.{HttpRoutes}
-use Rattle.sm_rules.specs.parts.Closures.{AreInsideOf, AreOwnServices, ToldOfServices}
-use Rattle.sm_rules.specs.parts.Putting.{ToldOf}
-use Rattle.sm_rules.specs.parts.Using.{is_own_service}
-use Rattle.sm_rules.proofs.EventsPut.{puts_none, puts_same}
-use Rattle.sm_rules.proofs.IdsRise.{falling, rising}
-use Rattle.sm_rules.proofs.UnusedShapes.{own_service, service_own}
-use Rattle.sm_http_rules.specs.parts.Routes.{IsRouteKey, closure_of_route, key_of}
-use Rattle.sm_http_rules.specs.parts.SameRoutes.{AreSameRoutes, HasRoute, ToldOfNumbers}
+use Rattle.sm_passes.specs.Closures.{AreInsideOf, AreOwnServices, ToldOfServices}
+use Rattle.sm_passes.specs.Putting.{ToldOf}
+use Rattle.sm_passes.specs.Owned.{is_own_service}
+use Rattle.sm_passes.proofs.EventsPut.{puts_none, puts_same}
+use Rattle.sm_passes.proofs.IdsRise.{falling, rising}
+use Rattle.sm_passes.proofs.OwnServices.{own_service, service_own}
+use Rattle.sm_http_rules.specs.steps.Routes.{IsRouteKey, closure_of_route, key_of}
+use Rattle.sm_http_rules.specs.steps.SameRoutes.{AreSameRoutes, HasRoute, ToldOfNumbers}
 use Rattle.sm_http_rules.proofs.RouteKeys.{keys_same, one_key, same_keys}
 
 -- two that have one route have one key

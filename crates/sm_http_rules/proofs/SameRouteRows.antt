@@ -1,6 +1,6 @@
 -- Rows in the order of their texts: those with one text stand next to each other, and are put together.
-use Rattle.std.proofs.Common.{◌≡◌, ◌⊎◌, ◌<◌, ◌≤◌, ◌+◌, ◌-◌, inl, inr, ℕ, Bool, false, List, [], ◌∷◌, ◌++◌, Option, None, Some}
-use Rattle.std.proofs.Common.{refl, sym, ap, subst, ◌∙◌, arith, drop, get_or, length, replicate, take}
+use Rattle.std.proofs.Common.{◌≡◌, ◌⊎◌, ◌<◌, ◌≤◌, ◌+◌, ◌-◌, inl, inr, ℕ, Bool, false, List, [], ◌∷◌, ◌++◌, Option, None, Some, refl, sym}
+use Rattle.std.proofs.Common.{ap, subst, ◌∙◌, arith, drop, get_or, length, replicate, take}
 use Rattle.std.specs.Prelude.{set}
 use Rattle.std.proofs.Math.Seq.{take-add}
 use Rattle.std.specs.Cmp.Lexicographic.{nat_list_cmp_total}
@@ -12,8 +12,8 @@ use Rattle.std.specs.declared.cmp.Ordering.{Ordering}
 use Rattle.std.specs.declared.cmp.Ordering.TheVariants.{Equal, Greater, Less}
 use Rattle.std.proofs.lemmas.Bool.{cases_eq, cases_lt}
 use Rattle.std.proofs.lemmas.List.{drop-drop, drop_all, get_or-drop, get_or-replicate, get_or-set_other, get_or-set_same, get_or-take}
-use Rattle.std.proofs.lemmas.List.{get_or_default, get_or_past}
-use Rattle.std.proofs.lemmas.List.{length-drop, length-replicate, length-take, map-append, take-append-drop, take_all, take_more}
+use Rattle.std.proofs.lemmas.List.{get_or_default, get_or_past, length-drop, length-replicate, length-take, map-append, take-append-drop}
+use Rattle.std.proofs.lemmas.List.{take_all, take_more}
 use Rattle.std.proofs.lemmas.List.Elements.{All-contains, Contains-append_cases, Contains-append_left, Contains-append_right}
 use Rattle.std.proofs.lemmas.List.Elements.{Contains-get_or, Contains-push, Contains-push_cases}
 use Rattle.std.proofs.lemmas.Option.{none-some, same_Some}
@@ -27,10 +27,10 @@ use Rattle.sm_model.specs.steps.Linking.{Joins}
 use Rattle.sm_model.proofs.Linking.{joins_none, joins_one, joins_same}
 use Rattle.sm_model.proofs.OneRising.{contains_none}
 use Rattle.sm_model.proofs.Worklist.{apart}
-use Rattle.sm_rules.proofs.SharedClosures.{of_first, of_rest}
-use Rattle.sm_http_rules.specs.parts.Routes.{AreRoutes, AreRoutesBelow, IsRouteKey}
-use Rattle.sm_http_rules.specs.parts.SameRoutes.{AreGathered, AreInOrder, AreSameRoutes, AreTogether, HasRoute, HasRow, HaveOneText}
-use Rattle.sm_http_rules.specs.parts.SameRoutes.{IsFirstPut, IsPutUnder, IsRun}
+use Rattle.sm_passes.proofs.SharedClosures.{of_first, of_rest}
+use Rattle.sm_http_rules.specs.steps.Routes.{AreRoutes, AreRoutesBelow, IsRouteKey}
+use Rattle.sm_http_rules.specs.steps.SameRoutes.{AreGathered, AreInOrder, AreSameRoutes, AreTogether, HasRoute, HasRow, HaveOneText}
+use Rattle.sm_http_rules.specs.steps.SameRoutes.{IsFirstPut, IsPutUnder, IsRun}
 use Rattle.sm_http_rules.proofs.RouteKeys.{one_key}
 use Rattle.sm_http_rules.proofs.ShortestKept.{same_text, turned_less}
 

@@ -21,8 +21,8 @@ use Rattle.std.proofs.lemmas.Slice.Eq.{starts_is}
 use Rattle.sm_model.specs.Graphs.{text_cmp}
 use Rattle.sm_model.proofs.OneRising.{contains_behind, contains_either, contains_head, contains_none}
 use Rattle.sm_model.proofs.Worklist.{apart}
-use Rattle.sm_http_rules.specs.parts.Shortest.{AreApart, IsApart, place_of}
-use Rattle.sm_http_rules.specs.parts.WireNames.{BeginsWith, BeginsWithOne}
+use Rattle.sm_http_rules.specs.steps.Shortest.{AreApart, IsApart, place_of}
+use Rattle.sm_http_rules.specs.steps.WireNames.{BeginsWith, BeginsWithOne}
 
 -- the test is the relation
 starts_begins : (t p : List ℕ) → starts_with eqb t p ≡ true → BeginsWith t p

@@ -9,9 +9,9 @@ use Rattle.std.proofs.lemmas.List.{append-nil, append_assoc, drop_more}
 use Rattle.std.proofs.lemmas.Option.{same_Some, slice_get_within}
 use Rattle.sm_model.specs.EventView.{EventTold}
 use Rattle.sm_model.specs.Graphs.{text_cmp}
-use Rattle.sm_rules.specs.parts.Earlier.{ToldAfter, ToldAt}
-use Rattle.sm_rules.specs.parts.Putting.{Below}
-use Rattle.sm_rules.proofs.RepeatedNames.{parts_at, seam_at}
+use Rattle.sm_passes.specs.Earlier.{ToldAfter, ToldAt}
+use Rattle.sm_passes.specs.Putting.{Below}
+use Rattle.sm_passes.proofs.ListParts.{parts_at, seam_at}
 
 abbrev behind_first : {X : Type 0} → List X → List X
 behind_first [] = []

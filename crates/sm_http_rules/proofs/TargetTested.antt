@@ -10,7 +10,7 @@ use Rattle.sm_model.specs.declared.kind.Kind.{Kind}
 use Rattle.sm_model.proofs.GraphFacts.{entry_under, id_at}
 use Rattle.sm_model.proofs.LinkNumbers.{stands_at}
 use Rattle.sm_compile.specs.Looked.{kind_in, kind_under, target_in}
-use Rattle.sm_compile.specs.rules.Bindings.{passes, target_passes}
+use Rattle.sm_rules.specs.Bindings.{passes, target_passes}
 
 -- what stands at a number
 pub entry_at : (g : Graph) (k : ℕ) → IsShapeNumber g k → (e : Entry) × (fin.get (maps_of g).shapes (id_of_number g k) ≡ Some e)

@@ -1,6 +1,6 @@
 -- What is told of the names of a shape's members is what the rule says.
-use Rattle.std.proofs.Common.{◌≡◌, ◌⊎◌, inl, inr, ℕ, Bool, true, false, List, [], ◌∷◌, ◌++◌, Option, Some, None, get_or, map, refl, sym}
-use Rattle.std.proofs.Common.{ap, ◌∙◌, subst}
+use Rattle.std.proofs.Common.{◌≡◌, ◌⊎◌, inl, inr, ℕ, Bool, true, false, List, [], ◌∷◌, ◌++◌, Option, Some, None, get_or, map, refl, sym, ap}
+use Rattle.std.proofs.Common.{◌∙◌, subst}
 use Rattle.std.specs.Prelude.{◌↔◌, ◌||◌}
 use Rattle.std.specs.FinMap as fin
 use Rattle.std.specs.List.{Contains, cons_option, filter_map}
@@ -17,26 +17,25 @@ use Rattle.sm_model.specs.declared.kind.Kind.TheVariants.{Structure, Union}
 use Rattle.sm_model.proofs.OneRising.{contains_behind, contains_either, contains_head, contains_none}
 use Rattle.sm_model.proofs.Worklist.{apart}
 use Rattle.sm_compile.specs.Looked.{kind_in, kind_under, listed_in, listed_under}
-use Rattle.sm_compile.specs.rules.Bindings.{BoundSide, an_input, an_output, an_error, IsBound}
-use Rattle.sm_compile.specs.rules.WireNames.{BeginsWithPrefix, HasWireNameAgain, IsNamedAgain, has_prefix, header_again, header_name}
-use Rattle.sm_compile.specs.rules.WireNames.{header_prefix}
-use Rattle.sm_compile.specs.rules.WireNames.{json_again, name_in_json, query_again, query_name}
-use Rattle.sm_compile.specs.rules.Words.{IsOwnShape}
+use Rattle.sm_rules.specs.Bindings.{BoundSide, an_input, an_output, an_error, IsBound}
+use Rattle.sm_rules.specs.WireNames.{BeginsWithPrefix, HasWireNameAgain, IsNamedAgain, has_prefix, header_again, header_name, header_prefix}
+use Rattle.sm_rules.specs.WireNames.{json_again, name_in_json, query_again, query_name}
+use Rattle.sm_rules.specs.Words.{IsOwnShape}
 use Rattle.sm_compile.proofs.TabledShapes.{mapped_from, mapped_to}
 use Rattle.sm_rules.specs.RuleEvents.{IsEventIn, Puts, rule_event}
 use Rattle.sm_rules.specs.declared.rule.Rule.TheVariants.{WireNames}
-use Rattle.sm_rules.specs.parts.Folded.{folded, is_own_shape}
-use Rattle.sm_rules.specs.parts.Putting.{ToldOf}
-use Rattle.sm_rules.proofs.EventsPut.{puts_both, puts_none, puts_same}
-use Rattle.sm_rules.proofs.OwnShapes.{own_told, told_own}
+use Rattle.sm_passes.specs.Folded.{folded}
+use Rattle.sm_passes.specs.Owned.{is_own_shape}
+use Rattle.sm_passes.specs.Putting.{ToldOf}
+use Rattle.sm_passes.proofs.EventsPut.{puts_both, puts_none, puts_same}
+use Rattle.sm_passes.proofs.OwnShapes.{own_told, told_own}
 use Rattle.sm_http_rules.specs.declared.naming.Naming.TheVariants.{Header, Query, Json}
 use Rattle.sm_http_rules.specs.declared.sides.Sides.{Sides}
-use Rattle.sm_http_rules.specs.parts.Naming.{ToldAgain}
-use Rattle.sm_http_rules.specs.parts.Sides.{AreSides}
-use Rattle.sm_http_rules.specs.parts.WireNames.{BeginsWith, BeginsWithOne, IsHeader, ToldBegun, ToldHeaders, ToldJson, ToldNames}
-use Rattle.sm_http_rules.specs.parts.WireNames.{ToldPrefixed, ToldQueries}
+use Rattle.sm_http_rules.specs.steps.Naming.{ToldAgain}
+use Rattle.sm_http_rules.specs.Sides.{AreSides}
+use Rattle.sm_http_rules.specs.steps.WireNames.{BeginsWith, BeginsWithOne, IsHeader, ToldBegun, ToldHeaders, ToldJson, ToldNames}
+use Rattle.sm_http_rules.specs.steps.WireNames.{ToldPrefixed, ToldQueries, home_of, is_named, is_on_side, prefix_in, prefix_of, prefixes_of}
 use Rattle.sm_http_rules.proofs.Splits.{IsThere}
-use Rattle.sm_http_rules.specs.parts.WireNames.{home_of, is_named, is_on_side, prefix_in, prefix_of, prefixes_of}
 
 -- a text begins with one of what is kept of a list
 module _ {X : Type 0} (h : X → Option (List ℕ)) (text : List ℕ) where

@@ -4,17 +4,17 @@ ghost use Rattle.std.specs.List.{cons_option};
 ghost use Rattle.sm_model.specs.GraphView.{AreShapeNumbers, IsShapeNumber, maps_of};
 ghost use Rattle.sm_model.specs.Reaching.{id_of_number};
 ghost use Rattle.sm_rules.specs.RuleEvents.{Puts};
-ghost use Rattle.sm_rules.specs.parts.Earlier.{ToldAt};
-ghost use Rattle.sm_rules.specs.parts.Folded.{is_own_shape};
-ghost use Rattle.sm_rules.specs.parts.Putting.{Below};
-ghost use Rattle.sm_http_rules.specs.parts.Naming.{ToldAgain, ToldName, name_row, name_rows};
+ghost use Rattle.sm_passes.specs.Earlier.{ToldAt};
+ghost use Rattle.sm_passes.specs.Owned.{is_own_shape};
+ghost use Rattle.sm_passes.specs.Putting.{Below};
+ghost use Rattle.sm_http_rules.specs.steps.Naming.{ToldAgain, ToldName, name_row, name_rows};
 
 use crate::naming::{Naming, key_of, name_of};
 use sm_compile::members_of;
 use sm_model::{Graph, ModelEvent};
+use sm_passes::earlier::{OfFirst, put_later};
+use sm_passes::putting::put_event;
 use sm_rules::Rule;
-use sm_rules::earlier::{OfFirst, put_later};
-use sm_rules::putting::put_event;
 use sm_tree::{NoMemory, Text};
 use std::alloc::Global;
 

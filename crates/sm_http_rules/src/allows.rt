@@ -4,16 +4,16 @@ ghost use Rattle.std.specs.FinMap as fin;
 ghost use Rattle.std.specs.List.{list_all};
 ghost use Rattle.sm_model.specs.GraphView.{AreShapeNumbers, IsShapeNumber, maps_of};
 ghost use Rattle.sm_model.specs.Reaching.{id_of_number};
-ghost use Rattle.sm_compile.specs.rules.Bindings.{allows_target, have_strings_to, is_list_of, is_map_to, is_one_or_list, passes, targets};
-ghost use Rattle.sm_http_rules.specs.parts.Allowing.{map_test, test_of};
-ghost use Rattle.sm_http_rules.specs.parts.Binding.{binding_said};
+ghost use Rattle.sm_rules.specs.Bindings.{allows_target, have_strings_to, is_list_of, is_map_to, is_one_or_list, passes, targets};
+ghost use Rattle.sm_http_rules.specs.steps.Allowing.{map_test, test_of};
+ghost use Rattle.sm_http_rules.specs.steps.Binding.{binding_said};
 
 use crate::bindings::Binding;
 use crate::targets::{Wanted, passes_at, targets_at};
 use sm_compile::{kind_of, members_of, target_of};
 use sm_model::{Graph, Kind};
-use sm_rules::carried::carries;
-use sm_rules::rows::kinds::is_kind;
+use sm_passes::carried::carries;
+use sm_passes::rows::kinds::is_kind;
 
 /// Values of maps.
 #[derive(Debug, Clone, Copy, PartialEq, Eq, Drop)]

@@ -3,11 +3,11 @@ ghost use Rattle.std.specs.Prelude.{◌≡◌};
 ghost use Rattle.std.specs.List.{list_any};
 ghost use Rattle.sm_model.specs.GraphView.{IsShapeNumber, maps_of};
 ghost use Rattle.sm_model.specs.Reaching.{id_of_number};
-ghost use Rattle.sm_compile.specs.rules.Bindings.{binding_id};
-ghost use Rattle.sm_http_rules.specs.parts.Binding.{bindings_in, binding_said, carries_binding};
+ghost use Rattle.sm_rules.specs.Bindings.{binding_id};
+ghost use Rattle.sm_http_rules.specs.steps.Binding.{bindings_in, binding_said, carries_binding};
 
 use sm_model::Graph;
-use sm_rules::carried::carries;
+use sm_passes::carried::carries;
 
 /// A trait that binds a member to a part of a message.
 #[derive(Debug, Clone, Copy, PartialEq, Eq, Drop)]

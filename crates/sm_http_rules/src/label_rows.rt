@@ -4,13 +4,14 @@ ghost use Rattle.std.specs.List.{Contains};
 ghost use Rattle.sm_model.specs.GraphView.{AreShapeNumbers, IsShapeNumber, entries_of, maps_of};
 ghost use Rattle.sm_model.specs.Reaching.{id_of_number};
 ghost use Rattle.sm_model.specs.steps.Linking.{Joins};
-ghost use Rattle.sm_http_rules.specs.parts.Labels.{AreBound, AreBoundOf, AreEach, BoundRow, is_bound, label_row, rows_of_labels};
+ghost use Rattle.sm_http_rules.specs.steps.Labels.{AreBound, AreBoundOf, AreEach, BoundRow, is_bound, label_row, rows_of_labels};
 
-use sm_compile::{Segment, member_name, members_of};
+use sm_compile::{member_name, members_of};
 use sm_model::Graph;
-use sm_rules::carried::{carries, is_member};
-use sm_rules::owned::is_own_shape;
+use sm_passes::carried::{carries, is_member};
+use sm_passes::owned::is_own_shape;
 use sm_tree::{NoMemory, Text};
+use sm_uri::Segment;
 use std::alloc::Global;
 use std::marker::Model;
 

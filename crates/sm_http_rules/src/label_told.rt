@@ -3,18 +3,18 @@ ghost use Rattle.std.specs.Prelude.{◌≡◌, ◌&&◌, ℕ, List, OnOk, is_non
 ghost use Rattle.std.specs.List.{Contains};
 ghost use Rattle.sm_model.specs.GraphView.{IsShapeNumber, maps_of};
 ghost use Rattle.sm_model.specs.Reaching.{id_of_number};
-ghost use Rattle.sm_compile.specs.rules.Bindings.{is_string, passes, targets};
+ghost use Rattle.sm_rules.specs.Bindings.{is_string, passes, targets};
 ghost use Rattle.sm_rules.specs.RuleEvents.{Puts};
-ghost use Rattle.sm_rules.specs.parts.Firsts.{number_in};
-ghost use Rattle.sm_rules.specs.parts.Putting.{ToldOf};
-ghost use Rattle.sm_http_rules.specs.parts.Labels.{ToldByRows, ToldLabel, ToldMember, is_wrong_member};
+ghost use Rattle.sm_passes.specs.Firsts.{number_in};
+ghost use Rattle.sm_passes.specs.Putting.{ToldOf};
+ghost use Rattle.sm_http_rules.specs.steps.Labels.{ToldByRows, ToldLabel, ToldMember, is_wrong_member};
 
 use crate::targets::{Wanted, targets_at};
 use sm_model::{Graph, ModelEvent};
+use sm_passes::carried::carries;
+use sm_passes::firsts::{first_numbers, first_of};
+use sm_passes::putting::put_if;
 use sm_rules::Rule;
-use sm_rules::carried::carries;
-use sm_rules::firsts::{first_numbers, first_of};
-use sm_rules::putting::put_if;
 use sm_tree::{NoMemory, Text};
 use std::alloc::Global;
 use std::collections::BTreeMap;

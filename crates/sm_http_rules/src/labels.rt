@@ -4,21 +4,21 @@ ghost use Rattle.sm_model.specs.GraphView.{IsShapeNumber, entries_of, maps_of};
 ghost use Rattle.sm_model.specs.Links.{IsLinked};
 ghost use Rattle.sm_model.specs.Reaching.{id_of_number};
 ghost use Rattle.sm_select.specs.Ways.{AreWays};
-ghost use Rattle.sm_compile.specs.rules.Http.{HasWrongLabel};
+ghost use Rattle.sm_rules.specs.Http.{HasWrongLabel};
 ghost use Rattle.std.specs.List.{Contains};
 ghost use Rattle.sm_rules.specs.RuleEvents.{IsEventOf, Puts};
 ghost use Rattle.sm_rules.specs.declared.rule.Rule.TheVariants.{HttpLabels};
-ghost use Rattle.sm_rules.specs.parts.Http.{uri_seen};
-ghost use Rattle.sm_rules.specs.parts.Putting.{ToldOf};
-ghost use Rattle.sm_http_rules.specs.parts.Labels.{AreBoundOf, AreEach, is_input, ToldByLink, ToldLabels, ToldOfUri};
+ghost use Rattle.sm_passes.specs.Http.{uri_seen};
+ghost use Rattle.sm_passes.specs.Putting.{ToldOf};
+ghost use Rattle.sm_http_rules.specs.steps.Labels.{AreBoundOf, AreEach, is_input, ToldByLink, ToldLabels, ToldOfUri};
 
 use crate::label_rows::{BoundRows, all_bound_rows, label_rows};
 use crate::label_told::put_by_rows;
-use sm_compile::{Segment, UriPattern, UriRefusal};
 use sm_model::{Graph, Link, ModelEvent, Relation};
-use sm_rules::http::uri_of;
+use sm_passes::http::uri_of;
 use sm_select::Ways;
 use sm_tree::{NoMemory, Text};
+use sm_uri::{Segment, UriPattern, UriRefusal};
 use std::alloc::Global;
 
 /// Puts the events of the rule, by the ways of the graph. n log n.

@@ -4,12 +4,12 @@ ghost use Rattle.std.specs.List.{cons_option, filter_map};
 ghost use Rattle.sm_model.specs.GraphView.{entries_of, maps_of};
 ghost use Rattle.sm_model.specs.Links.{AreLinks};
 ghost use Rattle.sm_model.specs.Reaching.{AreMarks, id_of_number};
-ghost use Rattle.sm_http_rules.specs.parts.LeftOut.{AreLeading, AreValueSteps, has_left_out, is_left_out_kind, is_left_out_where};
-ghost use Rattle.sm_http_rules.specs.parts.LeftOut.{is_of_values, value_link};
+ghost use Rattle.sm_http_rules.specs.steps.LeftOut.{AreLeading, AreValueSteps, has_left_out, is_left_out_kind, is_left_out_where};
+ghost use Rattle.sm_http_rules.specs.steps.LeftOut.{is_of_values, value_link};
 
 use sm_compile::kind_of;
 use sm_model::{Graph, Kind, Link, Relation};
-use sm_rules::marked::{NumberTest, marked_where};
+use sm_passes::marked::{NumberTest, marked_where};
 use sm_select::{Neighbors, reached};
 use sm_tree::NoMemory;
 use std::alloc::Global;

@@ -5,19 +5,19 @@ ghost use Rattle.std.specs.Str.{IsAscii};
 ghost use Rattle.sm_tree.specs.View.{node_of};
 ghost use Rattle.sm_model.specs.GraphView.{IsShapeNumber, maps_of};
 ghost use Rattle.sm_model.specs.Reaching.{id_of_number};
-ghost use Rattle.sm_compile.specs.TraitRows.{that_reads};
-ghost use Rattle.sm_compile.specs.rules.Words.{read_trait};
-ghost use Rattle.sm_compile.specs.rules.WireNames.{name_in_json, named_by, own_name};
-ghost use Rattle.sm_rules.specs.parts.RowTests.{reads_by};
-ghost use Rattle.sm_http_rules.specs.parts.Naming.{key_of, name_of};
+ghost use Rattle.sm_rules.specs.TraitRows.{that_reads};
+ghost use Rattle.sm_rules.specs.Words.{read_trait};
+ghost use Rattle.sm_rules.specs.WireNames.{name_in_json, named_by, own_name};
+ghost use Rattle.sm_passes.specs.RowTests.{reads_by};
+ghost use Rattle.sm_http_rules.specs.steps.Naming.{key_of, name_of};
 
 use sm_compile::{id_text, text_in_trait, trait_node};
 use sm_ids::ShapeId;
 use sm_model::Graph;
-use sm_rules::case::folded;
-use sm_rules::rows::form::{Form, is_of_form};
-use sm_rules::rows::names::{RowTest, some_row};
-use sm_rules::rows::place::Place;
+use sm_passes::folded::folded;
+use sm_passes::rows::form::{Form, is_of_form};
+use sm_passes::rows::names::{RowTest, some_row};
+use sm_passes::rows::place::Place;
 use sm_tree::{NoMemory, Text, Tree};
 use std::alloc::Global;
 

@@ -4,20 +4,20 @@ ghost use Rattle.std.specs.List.{cons_option};
 ghost use Rattle.std.specs.Option.{option_copied};
 ghost use Rattle.sm_model.specs.GraphView.{AreShapeNumbers, IsShapeNumber, maps_of};
 ghost use Rattle.sm_model.specs.Reaching.{id_of_number};
-ghost use Rattle.sm_compile.specs.rules.WireNames.{header_name};
+ghost use Rattle.sm_rules.specs.WireNames.{header_name};
 ghost use Rattle.sm_rules.specs.RuleEvents.{Puts};
-ghost use Rattle.sm_rules.specs.parts.Folded.{is_own_shape};
-ghost use Rattle.sm_rules.specs.parts.Putting.{ToldOf};
-ghost use Rattle.sm_http_rules.specs.parts.Shortest.{AreApart};
-ghost use Rattle.sm_http_rules.specs.parts.WireNames.{IsHeader, ToldBegun, ToldPrefixed, prefix_in, prefix_of, prefixes_of};
+ghost use Rattle.sm_passes.specs.Owned.{is_own_shape};
+ghost use Rattle.sm_passes.specs.Putting.{ToldOf};
+ghost use Rattle.sm_http_rules.specs.steps.Shortest.{AreApart};
+ghost use Rattle.sm_http_rules.specs.steps.WireNames.{IsHeader, ToldBegun, ToldPrefixed, prefix_in, prefix_of, prefixes_of};
 
 use crate::naming::read_trait;
 use crate::shortest::{begins_with_one, shortest};
 use sm_compile::{members_of, text_in_trait};
 use sm_model::{Graph, ModelEvent};
+use sm_passes::folded::folded;
+use sm_passes::putting::put_event;
 use sm_rules::Rule;
-use sm_rules::case::folded;
-use sm_rules::putting::put_event;
 use sm_tree::{NoMemory, Text};
 use std::alloc::Global;
 

@@ -5,14 +5,14 @@ ghost use Rattle.std.specs.Option.{option_copied};
 ghost use Rattle.sm_model.specs.GraphView.{IsShapeNumber, maps_of};
 ghost use Rattle.sm_model.specs.Reaching.{id_of_number};
 ghost use Rattle.sm_model.specs.steps.Linking.{Joins};
-ghost use Rattle.sm_compile.specs.UriPattern.{uri_said};
-ghost use Rattle.sm_rules.specs.parts.Http.{uri_seen};
-ghost use Rattle.sm_http_rules.specs.parts.Routes.{AreRoutes, IsKeyAt, IsRouteKey, key_of, method_tail};
+ghost use Rattle.sm_uri.specs.UriPattern.{uri_said};
+ghost use Rattle.sm_passes.specs.Http.{uri_seen};
+ghost use Rattle.sm_http_rules.specs.steps.Routes.{AreRoutes, IsKeyAt, IsRouteKey, key_of, method_tail};
 
-use sm_compile::{UriPattern, UriRefusal, route_text};
 use sm_model::Graph;
-use sm_rules::http::{method_of, uri_of};
+use sm_passes::http::{method_of, uri_of};
 use sm_tree::{NoMemory, Text};
+use sm_uri::{UriPattern, UriRefusal, route_text};
 use std::alloc::Global;
 
 /// The routes of operations, each with the operation's number. Linear in the texts, and n log n in labels.

@@ -2,8 +2,8 @@
 ghost use Rattle.std.specs.Prelude.{◌≡◌, ◌↔◌, ◌<◌, ◌≤◌, IfOk, IsTrue, None, ℕ, get_or, length, replicate};
 ghost use Rattle.std.specs.List.{Contains};
 ghost use Rattle.std.specs.Map.{values_of};
-ghost use Rattle.sm_http_rules.specs.parts.SameRoutes.{AreInOrder, AreSameRoutes, AreTogether, HasRow, HaveOneText};
-ghost use Rattle.sm_http_rules.specs.parts.SameRoutes.{IsFirstPut, IsPutUnder, IsRun};
+ghost use Rattle.sm_http_rules.specs.steps.SameRoutes.{AreInOrder, AreSameRoutes, AreTogether, HasRow, HaveOneText, IsFirstPut, IsPutUnder};
+ghost use Rattle.sm_http_rules.specs.steps.SameRoutes.{IsRun};
 
 use crate::route_keys::route_rows;
 use sm_model::Graph;

@@ -1,8 +1,8 @@
 // Prefixes of which none begins with another, in order, so that a search finds the one that begins a text.
 ghost use Rattle.std.specs.Prelude.{◌≡◌, ◌↔◌, ℕ, List, IsTrue, eqb};
 ghost use Rattle.std.specs.List.{starts_with};
-ghost use Rattle.sm_http_rules.specs.parts.Shortest.{AreApart, place_of};
-ghost use Rattle.sm_http_rules.specs.parts.WireNames.{BeginsWithOne};
+ghost use Rattle.sm_http_rules.specs.steps.Shortest.{AreApart, place_of};
+ghost use Rattle.sm_http_rules.specs.steps.WireNames.{BeginsWithOne};
 
 use sm_tree::Text;
 use std::cmp::Ordering;

@@ -3,12 +3,12 @@ ghost use Rattle.std.specs.Prelude.{◌≡◌};
 ghost use Rattle.std.specs.FinMap as fin;
 ghost use Rattle.sm_model.specs.GraphView.{IsShapeNumber, maps_of};
 ghost use Rattle.sm_model.specs.Reaching.{id_of_number};
-ghost use Rattle.sm_compile.specs.rules.Bindings.{passes, targets};
-ghost use Rattle.sm_http_rules.specs.parts.Allowing.{is_payload_kind, is_spelled_kind, test_of};
+ghost use Rattle.sm_rules.specs.Bindings.{passes, targets};
+ghost use Rattle.sm_http_rules.specs.steps.Allowing.{is_payload_kind, is_spelled_kind, test_of};
 
 use sm_compile::{kind_of, target_of};
 use sm_model::{Graph, Kind};
-use sm_rules::rows::kinds::is_kind;
+use sm_passes::rows::kinds::is_kind;
 
 /// Some types of shapes.
 #[derive(Debug, Clone, Copy, PartialEq, Eq, Drop)]

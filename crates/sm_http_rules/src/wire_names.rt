@@ -2,12 +2,12 @@
 ghost use Rattle.std.specs.Prelude.{◌≡◌, ◌<◌, OnOk, false, get_or, length, true};
 ghost use Rattle.sm_model.specs.GraphView.{IsShapeNumber, maps_of};
 ghost use Rattle.sm_model.specs.Reaching.{id_of_number};
-ghost use Rattle.sm_compile.specs.rules.WireNames.{HasWireNameAgain};
+ghost use Rattle.sm_rules.specs.WireNames.{HasWireNameAgain};
 ghost use Rattle.sm_rules.specs.RuleEvents.{IsEventIn, IsEventOf, Puts};
 ghost use Rattle.sm_rules.specs.declared.rule.Rule.TheVariants.{WireNames};
-ghost use Rattle.sm_rules.specs.parts.Folded.{is_own_shape};
-ghost use Rattle.sm_http_rules.specs.parts.Sides.{AreSides};
-ghost use Rattle.sm_http_rules.specs.parts.WireNames.{ToldHeaders, ToldJson, ToldNames, ToldQueries, home_of, is_named, is_on_side};
+ghost use Rattle.sm_passes.specs.Owned.{is_own_shape};
+ghost use Rattle.sm_http_rules.specs.Sides.{AreSides};
+ghost use Rattle.sm_http_rules.specs.steps.WireNames.{ToldHeaders, ToldJson, ToldNames, ToldQueries, home_of, is_named, is_on_side};
 
 use crate::again::put_again;
 use crate::naming::Naming;
@@ -15,8 +15,8 @@ use crate::prefixes::put_prefixed;
 use crate::sides::Sides;
 use sm_compile::kind_of;
 use sm_model::{Graph, Kind, ModelEvent};
-use sm_rules::each::{AtEach, put_each};
-use sm_rules::owned::is_own_shape;
+use sm_passes::each::{AtEach, put_each};
+use sm_passes::owned::is_own_shape;
 use sm_tree::NoMemory;
 use std::alloc::Global;
 

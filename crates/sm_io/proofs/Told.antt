@@ -1,9 +1,10 @@
 -- Steps of a read or a write, one after another, over bytes that may be told.
-use Rattle.std.proofs.Common.{◌≡◌, ℕ, ◌+◌, ◌-◌, ◌<◌, List, ◌++◌, length, take, drop, Option, None, Some, IfSome, ◌∙◌, ap, sym, append_assoc}
-use Rattle.std.proofs.Common.{arith, length-append, length-drop}
+use Rattle.std.proofs.Common.{◌≡◌, ℕ, ◌+◌, ◌-◌, ◌<◌, List, [], ◌++◌, length, take, drop, Option, None, Some, IfSome, ◌∙◌, ap, sym, refl}
+use Rattle.std.proofs.Common.{append_assoc, arith, length-append, length-drop}
 use Rattle.std.proofs.Math.Seq.{take-add}
 use Rattle.std.proofs.lemmas.List.{take_all}
-use Rattle.std.specs.Io.KnownBytes.{Consumes, Appends}
+use Rattle.std.specs.Io.KnownBytes.{Keeps, Consumes, Appends}
+use Rattle.sm_io.specs.Reading.{LosesPrefix}
 
 -- what two reads lose is lost in that order
 pub consumes_both : (left middle rest : Option (List ℕ)) (prefix next : List ℕ) → Consumes left middle prefix → Consumes middle rest next
@@ -12,6 +13,22 @@ consumes_both None middle rest prefix next one two = tt
 consumes_both (Some xs) None rest prefix next one two = absurd one
 consumes_both (Some xs) (Some ys) None prefix next one two = absurd two
 consumes_both (Some xs) (Some ys) (Some zs) prefix next one two = one ∙ ap (λ s. prefix ++ s) two ∙ sym (append_assoc prefix next zs)
+
+-- a read that loses nothing
+pub consumes_none : (left : Option (List ℕ)) → Consumes left left []
+consumes_none None = tt
+consumes_none (Some xs) = refl
+
+pub loses_none : (left : Option (List ℕ)) → LosesPrefix left left
+loses_none left = ([], consumes_none left)
+
+pub loses_both : (left middle rest : Option (List ℕ)) → LosesPrefix left middle → LosesPrefix middle rest → LosesPrefix left rest
+loses_both left middle rest one two = (one.0 ++ two.0, consumes_both left middle rest one.0 two.0 one.1 two.1)
+
+pub loses_kept : (left rest : Option (List ℕ)) → Keeps left rest → LosesPrefix left rest
+loses_kept None rest same = ([], tt)
+loses_kept (Some xs) None same = absurd same
+loses_kept (Some xs) (Some ys) same = ([], sym same)
 
 -- at least what was lost was left
 pub longer_than_lost : (left rest : Option (List ℕ)) (prefix : List ℕ) (limit : ℕ) → Consumes left rest prefix → limit < length prefix

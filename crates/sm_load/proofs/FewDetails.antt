@@ -15,20 +15,18 @@ use Rattle.sm_model.proofs.OneRising.{contains_behind, contains_head}
 use Rattle.sm_compile.specs.Sound.{trait_of}
 use Rattle.sm_compile.specs.TraitNodes.{field_of, number_of}
 use Rattle.sm_compile.specs.TraitIds.{http_error_id}
-use Rattle.sm_compile.specs.UriPattern.{UriSaid, UriText, label_names}
-use Rattle.sm_compile.specs.rules.Constraints.{HasWrongBounds}
-use Rattle.sm_compile.specs.rules.Http.{HasSameRoute, HasUri, HasWrongLabel, HasWrongStatusCode, IsLabelled}
-use Rattle.sm_compile.specs.rules.Http.{method_of, success_code_of}
-use Rattle.sm_compile.specs.rules.Names.{RepeatsName}
-use Rattle.sm_compile.specs.rules.Services.{HasWrongNames}
-use Rattle.sm_compile.specs.rules.Targets.{RefersToNothing, RefersToOther}
-use Rattle.sm_compile.specs.rules.Traits.{CarriesTwice, single_traits}
-use Rattle.sm_compile.specs.rules.WireNames.{HasWireNameAgain, header_name, name_in_json, query_name}
-use Rattle.sm_compile.specs.rules.Words.{IsListedBehind, IsOperation, read_trait}
+use Rattle.sm_uri.specs.UriPattern.{UriSaid, UriText, label_names}
+use Rattle.sm_rules.specs.Constraints.{HasWrongBounds}
+use Rattle.sm_rules.specs.Http.{HasSameRoute, HasUri, HasWrongLabel, HasWrongStatusCode, IsLabelled, method_of, success_code_of}
+use Rattle.sm_rules.specs.Http.{HasOtherMethod}
+use Rattle.sm_rules.specs.Names.{RepeatsName, HasCaseTwin}
+use Rattle.sm_rules.specs.Services.{HasWrongNames}
+use Rattle.sm_rules.specs.Targets.{RefersToNothing, RefersToOther}
+use Rattle.sm_rules.specs.Traits.{CarriesTwice, single_traits}
+use Rattle.sm_rules.specs.WireNames.{HasWireNameAgain, header_name, name_in_json, query_name}
+use Rattle.sm_rules.specs.Words.{IsListedBehind, IsOperation, read_trait}
 use Rattle.sm_compile.proofs.OneWay.{one_name}
-use Rattle.sm_compile.proofs.UriOnce.{one_uri}
-use Rattle.sm_rules.specs.rules.Ids.{HasCaseTwin}
-use Rattle.sm_rules.specs.rules.Methods.{HasOtherMethod}
+use Rattle.sm_uri.proofs.UriOnce.{one_uri}
 use Rattle.sm_load.proofs.Few.{AreFew, few_among, few_by, few_either, few_is, few_one, few_same, few_some}
 use Rattle.sm_load.proofs.FewIds.{IsListedBy, IsListedSome, Says, few_entries_there, few_listed, few_names, few_said, few_shape_there}
 use Rattle.sm_load.proofs.FewIds.{few_shapes, few_traits}

@@ -13,7 +13,7 @@ use Rattle.sm_model.specs.Graphs.{Entry, GraphMaps, ShapeEntry, member_entry, sh
 use Rattle.sm_model.specs.Relations.{HasBodyPair, HasEntry, IsEntryText, IsInGraph, IsValueText, Refers, SaysRelated}
 use Rattle.sm_model.specs.declared.relation.Relation.{Relation}
 use Rattle.sm_compile.specs.Sound.{trait_in, trait_of}
-use Rattle.sm_compile.specs.rules.Words.{has_trait}
+use Rattle.sm_rules.specs.Words.{has_trait}
 use Rattle.sm_compile.proofs.OnePatterns.{same_shape}
 use Rattle.sm_load.proofs.Few.{AreFew, few_among, few_by, few_either, few_is, few_keys, few_none, few_one, few_same}
 

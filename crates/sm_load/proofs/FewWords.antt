@@ -7,9 +7,9 @@ use Rattle.sm_shapes.specs.FaultWords.{fault_word}
 use Rattle.sm_shapes.specs.declared.fault.FaultKind.{FaultKind}
 use Rattle.sm_shapes.specs.declared.fault.FaultKind.TheVariants as fault
 use Rattle.sm_compile.specs.TraitIds.{http_payload_id}
-use Rattle.sm_compile.specs.rules.Bindings.{BindingTrait, a_header, a_label, a_payload, a_query, a_response_code, binding_id}
-use Rattle.sm_compile.specs.rules.Bindings.{some_prefix_headers, some_query_params}
-use Rattle.sm_compile.specs.rules.Http.{IsBoundWrongly}
+use Rattle.sm_rules.specs.Bindings.{BindingTrait, a_header, a_label, a_payload, a_query, a_response_code, binding_id, some_prefix_headers}
+use Rattle.sm_rules.specs.Bindings.{some_query_params}
+use Rattle.sm_rules.specs.Http.{IsBoundWrongly}
 use Rattle.sm_load.proofs.Few.{AreFew, contains_at, few_among, few_by, few_either, few_is, few_same}
 
 abbrev kinds : List FaultKind

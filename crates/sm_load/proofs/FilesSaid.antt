@@ -11,7 +11,7 @@ use Rattle.sm_merge.specs.Stated.{AreFormedFiles}
 use Rattle.sm_load.specs.ModelFiles.{FileGiven, HasStatements, HaveStatements}
 use Rattle.sm_load.specs.declared.model.LoadRefusal.{LoadRefusal}
 use Rattle.sm_load.specs.declared.model.LoadRefusal.TheVariants.{Text, Limit, Rejected, NoMemory}
-use Rattle.sm_load.specs.parts.Stages.{AreBehind, StopsFile, StopsFiles}
+use Rattle.sm_load.specs.steps.Stages.{AreBehind, StopsFile, StopsFiles}
 
 -- a reader's refusal that isn't out of memory is the bytes' own
 pub refused_so : (bytes : List ℕ) (refusal : SyntaxRefusal) → Reads json_syntax bytes (Err refusal) → (refusal ≡ no_room → ⊥)

@@ -8,10 +8,10 @@ use Rattle.sm_model.specs.declared.event.ModelEvent.{ModelEvent}
 use Rattle.sm_model.proofs.OneRising.{contains_behind, contains_either, contains_head, contains_none}
 use Rattle.sm_compile.proofs.TabledShapes.{mapped_from, mapped_to}
 use Rattle.sm_rules.specs.RuleEvents.{rule_event}
-use Rattle.sm_rules.specs.RuleIds.{rule_id}
+use Rattle.sm_rules.specs.RuleList.{is_error, rule_id}
 use Rattle.sm_load.specs.Events.{AreModelEvents}
 use Rattle.sm_load.specs.Loading.{HasError}
-use Rattle.sm_load.specs.parts.Stages.{is_error, some_grave}
+use Rattle.sm_load.specs.steps.Stages.{some_grave}
 use Rattle.sm_load.proofs.ListTold.{error_from}
 use Rattle.sm_load.proofs.SeveritiesTold.{severity_same}
 

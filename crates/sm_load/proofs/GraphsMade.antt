@@ -12,7 +12,7 @@ use Rattle.sm_load.specs.ModelFiles.{FileGiven, HaveStatements}
 use Rattle.sm_load.specs.declared.model.LoadRefusal.{LoadRefusal}
 use Rattle.sm_load.specs.declared.model.LoadRefusal.TheVariants.{Text, Limit, Rejected, NoMemory}
 use Rattle.sm_load.specs.declared.model.Model.{Model}
-use Rattle.sm_load.specs.parts.Stages.{HaveGraph, Judges, MakesGraph, Merges, StopsFiles, StopsGraph}
+use Rattle.sm_load.specs.steps.Stages.{HaveGraph, Judges, MakesGraph, Merges, StopsFiles, StopsGraph}
 
 pub graph_told : (said : List (List Said)) (graph : Graph) → MergesTo said (Ok graph) → MergeInto said (maps_of graph)
 graph_told said graph merges = record { is_graph = merges.0; within = merges.1; right = merges.2 }

@@ -1,21 +1,21 @@
-pub mod NamedEvents
-pub mod SuppressionsKept
-pub mod PlacesPut
-pub mod RulesPut
-pub mod ListTold
-pub mod OneRuleList
-pub mod Few
-pub mod FewIds
-pub mod FewDetails
-pub mod FewWords
-pub mod SomeRuleEvents
-pub mod SeveritiesTold
-pub mod FilesSaid
-pub mod GraphsJudged
-pub mod GraphsMade
-pub mod OneModelFile
+mod SuppressorsFound
+mod NamedEvents
+mod SuppressionsKept
+mod RulesPut
+mod ListTold
+mod OneRuleList
+mod Few
+mod FewIds
+mod FewDetails
+mod FewWords
+mod SomeRuleEvents
+mod SeveritiesTold
+mod FilesSaid
+mod GraphsJudged
+mod GraphsMade
+mod OneModelFile
 pub mod OneModelLoaded
-pub mod SeveritiesMade
-pub mod SomeModelLoaded
-pub mod NoErrors
-pub mod ModelsSound
+mod SeveritiesMade
+mod SomeModelLoaded
+mod NoErrors
+mod ModelsSound

@@ -10,14 +10,13 @@ use Rattle.sm_model.specs.declared.event.Severity.{Severity}
 use Rattle.sm_model.specs.declared.event.Severity.TheVariants.{Danger, Error, Note, Warning}
 use Rattle.sm_model.proofs.OneRising.{contains_behind, contains_either, contains_head, contains_none}
 use Rattle.sm_rules.specs.RuleEvents.{HaveSeverities, Puts}
-use Rattle.sm_rules.specs.RuleIds.{rule_id, severity_of}
+use Rattle.sm_rules.specs.RuleList.{is_error, rule_id, severity_of}
 use Rattle.sm_rules.specs.declared.rule.Rule.{Rule}
-use Rattle.sm_rules.specs.declared.rule.Rule.TheVariants as rule
+use Rattle.sm_rules.proofs.AllRules.{named}
 use Rattle.sm_load.specs.Events.{AreModelEvents, IsTold}
 use Rattle.sm_load.specs.Suppressions.{is_suppressed}
-use Rattle.sm_load.specs.parts.Passes.{IsOfRule}
-use Rattle.sm_load.specs.parts.Stages.{is_error}
-use Rattle.sm_load.specs.parts.Suppressing.{may_be_suppressed, stays}
+use Rattle.sm_load.specs.steps.Passes.{IsOfRule}
+use Rattle.sm_load.specs.steps.Suppressing.{is_suppressible, stays, suppressible_where}
 
 -- what a filter leaves
 module _ {X : Type 0} (test : X → Bool) where
@@ -68,33 +67,12 @@ error_from Danger h = absurd (true≢false (sym h))
 error_from Warning h = absurd (true≢false (sym h))
 error_from Note h = absurd (true≢false (sym h))
 
-grave : (r : Rule) → may_be_suppressed (rule_id r) ≡ not (is_error (severity_of r))
-grave rule.IdCase = refl
-grave rule.MemberCase = refl
-grave rule.TargetMissing = refl
-grave rule.TargetKind = refl
-grave rule.TraitUnknown = refl
-grave rule.TraitValue = refl
-grave rule.TraitPlace = refl
-grave rule.TraitConflict = refl
-grave rule.TraitSingle = refl
-grave rule.ShapeInfinite = refl
-grave rule.EnumValues = refl
-grave rule.DefaultValue = refl
-grave rule.ConstraintBounds = refl
-grave rule.ServiceNames = refl
-grave rule.HttpUri = refl
-grave rule.HttpLabels = refl
-grave rule.HttpTarget = refl
-grave rule.WireNames = refl
-grave rule.HttpRoutes = refl
-grave rule.HttpCode = refl
-grave rule.HttpMethod = refl
-grave rule.ShapeUnused = refl
+grave : (r : Rule) → is_suppressible (rule_id r) ≡ not (is_error (severity_of r))
+grave r = ap suppressible_where (named r)
 
 module _ (g : GraphMaps) (r : Rule) (e : EventTold) (of : e.event ≡ rule_id r) where
   stays_as : stays g e ≡ not (not (is_error (severity_of r)) && is_suppressed g e.shape e.event)
-  stays_as = ap (λ b. not (b && is_suppressed g e.shape e.event)) (ap may_be_suppressed of ∙ grave r)
+  stays_as = ap (λ b. not (b && is_suppressed g e.shape e.event)) (ap is_suppressible of ∙ grave r)
 
   told_from : stays g e ≡ true → (severity_of r ≡ Error) ⊎ (is_suppressed g e.shape e.event ≡ false)
   told_from h = by (is_error (severity_of r)) (is_suppressed g e.shape e.event) refl refl (sym stays_as ∙ h)

@@ -2,7 +2,7 @@
 use Rattle.std.proofs.Common.{ℕ, List}
 use Rattle.sm_model.specs.FormedGraph.{IsFormedGraph}
 use Rattle.sm_model.specs.Graphs.{GraphMaps}
-use Rattle.sm_compile.specs.Ready.{Ready}
+use Rattle.sm_rules.specs.Ready.{Ready}
 use Rattle.sm_compile.specs.Sound.{Sound}
 use Rattle.sm_load.specs.Loading.{AreAccepted}
 use Rattle.sm_load.specs.ModelFiles.{FileGiven}

@@ -1,6 +1,6 @@
 -- Which texts name an event.
-use Rattle.std.proofs.Common.{◌≡◌, ℕ, Bool, true, false, List, [], ◌∷◌, ◌++◌, Option, Some, None, refl, sym, ap, ◌∙◌}
-use Rattle.std.proofs.Common.{append-nil, append_assoc, bytes_eq}
+use Rattle.std.proofs.Common.{◌≡◌, ℕ, Bool, true, false, List, [], ◌∷◌, ◌++◌, Option, Some, None, refl, sym, ap, ◌∙◌, append-nil}
+use Rattle.std.proofs.Common.{append_assoc, bytes_eq}
 use Rattle.std.specs.Prelude.{◌==◌, ◌||◌, ◌&&◌, cond, nat_eq}
 use Rattle.std.specs.Bool.{Decides}
 use Rattle.std.specs.List.{starts_with}
@@ -12,9 +12,9 @@ use Rattle.sm_bytes.specs.Ascii.{full_stop}
 use Rattle.sm_tree.specs.Node.{Node, no_nodes}
 use Rattle.sm_tree.specs.Parts.{entries_in}
 use Rattle.sm_compile.specs.TraitIds.{suppress_id}
-use Rattle.sm_compile.specs.TraitRows.{are_text_nodes, is_as_one, rows_of, that_reads}
+use Rattle.sm_rules.specs.TraitRows.{are_text_nodes, is_as_one, rows_of, that_reads}
 use Rattle.sm_load.specs.Suppressions.{names_event, node_names, nodes_in, some_node}
-use Rattle.sm_load.specs.parts.Naming.{ends_word, where_names}
+use Rattle.sm_load.specs.steps.Naming.{ends_word, where_names}
 
 same_byte : (n : ℕ) → nat_eq n n ≡ true
 same_byte n = (Decides-eqb n n).1 refl

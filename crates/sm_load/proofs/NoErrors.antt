@@ -1,18 +1,18 @@
 -- Where no rule fails that rejects a model, each shape is sound and each service ready.
-use Rattle.std.proofs.Common.{◌≡◌, ℕ, List, refl}
+use Rattle.std.proofs.Common.{◌≡◌, refl}
 use Rattle.sm_model.specs.Graphs.{GraphMaps}
 use Rattle.sm_model.specs.declared.event.Severity.TheVariants.{Error}
-use Rattle.sm_rules.specs.RuleIds.{severity_of}
+use Rattle.sm_rules.specs.RuleList.{severity_of}
 use Rattle.sm_rules.specs.declared.rule.Rule.{Rule}
 use Rattle.sm_rules.specs.declared.rule.Rule.TheVariants as rule
-use Rattle.sm_value_rules.specs.rules.Conflicts.{by_table}
-use Rattle.sm_value_rules.specs.rules.Traits.HasWrongPlace.{by_row as place_by_row}
-use Rattle.sm_value_rules.specs.rules.Traits.HasWrongValue.{by_row as value_by_row}
+use Rattle.sm_rules.specs.TraitShapes.{by_table}
+use Rattle.sm_rules.specs.TraitShapes.HasWrongPlace.{by_row as place_by_row}
+use Rattle.sm_rules.specs.TraitShapes.HasWrongValue.{by_row as value_by_row}
 use Rattle.sm_accepted.specs.NoneFails.{NeverFails, NoneFails}
 use Rattle.sm_accepted.proofs.ReadyGraphs.{ready_graph, sound_graph}
 use Rattle.sm_load.specs.Laws.{ReadyWithoutErrors, SoundWithoutErrors}
 use Rattle.sm_load.specs.Loading.{HasError}
-use Rattle.sm_load.specs.Rules.{Fails}
+use Rattle.sm_rules.specs.Rules.{Fails}
 
 module _ (g : GraphMaps) (none : HasError g → ⊥) where
   never : (r : Rule) → severity_of r ≡ Error → NeverFails g (Fails r)

@@ -1,73 +1,38 @@
--- What passes put one after the other, rule by rule.
-use Rattle.std.proofs.Common.{◌≡◌, ◌⊎◌, inl, inr, zero, suc, List, [], ◌∷◌, refl, sym, subst}
-use Rattle.std.proofs.lemmas.Option.{none-some, same_Some}
+-- What passes put one after the other, rule by rule, in the order of the list of rules.
+use Rattle.std.proofs.Common.{◌⊎◌, inl, inr, List, [], ◌∷◌, sym, subst}
 use Rattle.sm_model.specs.Graphs.{GraphMaps}
 use Rattle.sm_model.specs.declared.event.ModelEvent.{ModelEvent}
+use Rattle.sm_model.proofs.OneRising.{contains_behind, contains_either, contains_head, contains_none}
 use Rattle.sm_rules.specs.RuleEvents.{IsEventOf, Puts}
+use Rattle.sm_rules.specs.RuleList.{all_rules}
+use Rattle.sm_rules.specs.Rules.{Fails}
 use Rattle.sm_rules.specs.declared.rule.Rule.{Rule}
-use Rattle.sm_rules.specs.declared.rule.Rule.TheVariants as rule
-use Rattle.sm_rules.proofs.EventsPut.{puts_both, puts_none, puts_same}
-use Rattle.sm_load.specs.Rules.{Fails}
-use Rattle.sm_load.specs.parts.Passes.{IsAmongRules, IsOfOne, IsOfRule}
-
--- the rules that have a pass, the last one first
-abbrev pub passes : List Rule
-passes = rule.ShapeUnused ∷ rule.HttpMethod ∷ rule.HttpCode ∷ rule.HttpRoutes ∷ rule.WireNames ∷ rule.HttpTarget ∷ rule.HttpLabels
-    ∷ rule.HttpUri ∷ rule.ServiceNames ∷ rule.ConstraintBounds ∷ rule.DefaultValue ∷ rule.EnumValues ∷ rule.ShapeInfinite
-    ∷ rule.TraitSingle ∷ rule.TraitConflict ∷ rule.TraitPlace ∷ rule.TraitValue ∷ rule.TraitUnknown ∷ rule.TargetKind
-    ∷ rule.TargetMissing ∷ rule.MemberCase ∷ rule.IdCase ∷ []
-
--- each rule has one
-pub has_pass : (r : Rule) → IsAmongRules passes r
-has_pass rule.ShapeUnused = (0, refl)
-has_pass rule.HttpMethod = (1, refl)
-has_pass rule.HttpCode = (2, refl)
-has_pass rule.HttpRoutes = (3, refl)
-has_pass rule.WireNames = (4, refl)
-has_pass rule.HttpTarget = (5, refl)
-has_pass rule.HttpLabels = (6, refl)
-has_pass rule.HttpUri = (7, refl)
-has_pass rule.ServiceNames = (8, refl)
-has_pass rule.ConstraintBounds = (9, refl)
-has_pass rule.DefaultValue = (10, refl)
-has_pass rule.EnumValues = (11, refl)
-has_pass rule.ShapeInfinite = (12, refl)
-has_pass rule.TraitSingle = (13, refl)
-has_pass rule.TraitConflict = (14, refl)
-has_pass rule.TraitPlace = (15, refl)
-has_pass rule.TraitValue = (16, refl)
-has_pass rule.TraitUnknown = (17, refl)
-has_pass rule.TargetKind = (18, refl)
-has_pass rule.TargetMissing = (19, refl)
-has_pass rule.MemberCase = (20, refl)
-has_pass rule.IdCase = (21, refl)
-
-either_rule : (rules : List Rule) (r x : Rule) → IsAmongRules (r ∷ rules) x → (r ≡ x) ⊎ IsAmongRules rules x
-either_rule rules r x (zero, here) = inl (same_Some r x here)
-either_rule rules r x (suc n, there) = inr (n, there)
+use Rattle.sm_rules.proofs.AllRules.{each_listed}
+use Rattle.sm_passes.proofs.EventsPut.{puts_both, puts_none, puts_same}
+use Rattle.sm_load.specs.steps.Passes.{IsOfOne, IsOfRule}
 
 module _ (g : GraphMaps) where
   pub none_put : (es : List ModelEvent) → Puts (IsOfOne g []) es es
-  none_put es = puts_none (IsOfOne g []) es (λ e h. none-some h.rule h.among.1)
+  none_put es = puts_none (IsOfOne g []) es (λ e h. contains_none h.rule h.among)
 
-  -- the pass of one rule more
-  pub put_more : (rules : List Rule) (r : Rule) (before mid now : List ModelEvent) → Puts (IsOfOne g rules) before mid
-      → Puts (IsEventOf r (Fails r g)) mid now → Puts (IsOfOne g (r ∷ rules)) before now
-  put_more rules r before mid now h k =
-      puts_same (λ e. IsOfOne g rules e ⊎ IsEventOf r (Fails r g) e) (IsOfOne g (r ∷ rules)) before now (λ e. (
+  -- the pass of a rule, and then those of others
+  pub put_first : (rules : List Rule) (r : Rule) (before mid now : List ModelEvent) → Puts (IsEventOf r (Fails r g)) before mid
+      → Puts (IsOfOne g rules) mid now → Puts (IsOfOne g (r ∷ rules)) before now
+  put_first rules r before mid now h k =
+      puts_same (λ e. IsEventOf r (Fails r g) e ⊎ IsOfOne g rules e) (IsOfOne g (r ∷ rules)) before now (λ e. (
         λ either. elim either [
-          | inl old ↦ record { rule = old.rule; among = (suc old.among.0, old.among.1); told = old.told }
-          | inr new ↦ record { rule = r; among = (zero, refl); told = new }
+          | inl new ↦ record { rule = r; among = contains_head r rules; told = new }
+          | inr old ↦ record { rule = old.rule; among = contains_behind r old.rule rules old.among; told = old.told }
         ],
-        λ one. elim (either_rule rules r one.rule one.among) [
-          | inl same ↦ inr (subst (λ x. IsEventOf x (Fails x g) e) (sym same) one.told)
-          | inr old ↦ inl (record { rule = one.rule; among = old; told = one.told })
+        λ one. elim (contains_either r one.rule rules one.among) [
+          | inl same ↦ inl (subst (λ x. IsEventOf x (Fails x g) e) (sym same) one.told)
+          | inr old ↦ inr (record { rule = one.rule; among = old; told = one.told })
         ],
-      )) (puts_both (IsOfOne g rules) (IsEventOf r (Fails r g)) before mid now h k)
+      )) (puts_both (IsEventOf r (Fails r g)) (IsOfOne g rules) before mid now h k)
 
-  -- all of them
-  pub all_put : (before now : List ModelEvent) → Puts (IsOfOne g passes) before now → Puts (IsOfRule g) before now
-  all_put before now h = puts_same (IsOfOne g passes) (IsOfRule g) before now (λ e. (
+  -- those of the whole list
+  pub all_put : (before now : List ModelEvent) → Puts (IsOfOne g all_rules) before now → Puts (IsOfRule g) before now
+  all_put before now h = puts_same (IsOfOne g all_rules) (IsOfRule g) before now (λ e. (
     λ one. (one.rule, one.told),
-    λ h. record { rule = h.0; among = has_pass h.0; told = h.1 },
+    λ h. record { rule = h.0; among = each_listed h.0; told = h.1 },
   )) h

@@ -6,7 +6,7 @@ use Rattle.sm_model.specs.declared.event.ModelEvent.{ModelEvent}
 use Rattle.sm_model.specs.declared.event.Severity.{Severity}
 use Rattle.sm_model.specs.declared.event.Severity.TheVariants.{Error}
 use Rattle.sm_compile.proofs.TabledShapes.{mapped_from}
-use Rattle.sm_rules.specs.RuleIds.{rule_id}
+use Rattle.sm_rules.specs.RuleList.{rule_id}
 use Rattle.sm_load.specs.Events.{AreEvents, AreModelEvents}
 use Rattle.sm_load.proofs.SeveritiesTold.{made_event, of_rule, severity_from}
 

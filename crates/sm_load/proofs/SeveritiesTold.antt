@@ -1,43 +1,24 @@
 -- An event's id and shape and detail say all of it: its severity is that of the rule of this id.
-use Rattle.std.proofs.Common.{◌≡◌, ℕ, cond, List, [], ◌∷◌, bytes_eq, map, refl, sym, ap, ◌∙◌}
+use Rattle.std.proofs.Common.{◌≡◌, ℕ, List, [], ◌∷◌, Option, Some, None, map, refl, sym, ap, ◌∙◌}
 use Rattle.sm_model.specs.EventView.{AreErrors, EventTold, event_view, events_view}
 use Rattle.sm_model.specs.declared.event.ModelEvent.{ModelEvent}
 use Rattle.sm_model.specs.declared.event.Severity.{Severity}
-use Rattle.sm_model.specs.declared.event.Severity.TheVariants.{Danger, Error, Note, Warning}
+use Rattle.sm_model.specs.declared.event.Severity.TheVariants.{Error}
 use Rattle.sm_model.proofs.OneRising.{contains_behind, contains_head}
 use Rattle.sm_rules.specs.RuleEvents.{HaveSeverities}
-use Rattle.sm_rules.specs.RuleIds.{rule_id, severity_of}
+use Rattle.sm_rules.specs.RuleList.{rule_id, rule_named, severity_of}
 use Rattle.sm_rules.specs.declared.rule.Rule.{Rule}
-use Rattle.sm_rules.specs.declared.rule.Rule.TheVariants as rule
+use Rattle.sm_rules.proofs.AllRules.{named}
+
+abbrev pub severity_where : Option Rule → Severity
+severity_where None = Error
+severity_where (Some r) = severity_of r
 
 abbrev pub severity_from : List ℕ → Severity
-severity_from event =
-    cond (bytes_eq event (rule_id rule.HttpMethod)) Danger
-    (cond (bytes_eq event (rule_id rule.TraitUnknown)) Warning (cond (bytes_eq event (rule_id rule.ShapeUnused)) Note Error))
+severity_from event = severity_where (rule_named event)
 
 pub of_rule : (r : Rule) → severity_from (rule_id r) ≡ severity_of r
-of_rule rule.IdCase = refl
-of_rule rule.MemberCase = refl
-of_rule rule.TargetMissing = refl
-of_rule rule.TargetKind = refl
-of_rule rule.TraitUnknown = refl
-of_rule rule.TraitValue = refl
-of_rule rule.TraitPlace = refl
-of_rule rule.TraitConflict = refl
-of_rule rule.TraitSingle = refl
-of_rule rule.ShapeInfinite = refl
-of_rule rule.EnumValues = refl
-of_rule rule.DefaultValue = refl
-of_rule rule.ConstraintBounds = refl
-of_rule rule.ServiceNames = refl
-of_rule rule.HttpUri = refl
-of_rule rule.HttpLabels = refl
-of_rule rule.HttpTarget = refl
-of_rule rule.WireNames = refl
-of_rule rule.HttpRoutes = refl
-of_rule rule.HttpCode = refl
-of_rule rule.HttpMethod = refl
-of_rule rule.ShapeUnused = refl
+of_rule r = ap severity_where (named r)
 
 -- rules whose events have one id are as grave
 pub severity_same : (a b : Rule) → rule_id a ≡ rule_id b → severity_of a ≡ severity_of b

@@ -1,11 +1,10 @@
 -- Model files load to a model, or have a refusal other than that memory ran out. Where a case can't be decided, each of its two sides is
 -- denied in turn.
-use Rattle.std.proofs.Common.{◌≡◌, ◌<◌, ◌≤◌, ◌⊎◌, inl, inr, ℕ, zero, suc, Bool, true, false, List, [], ◌∷◌, ◌++◌, Option, Some, None}
-use Rattle.std.proofs.Common.{Result, Ok, Err, length, map, take, refl, sym, ap, subst, ◌∙◌, arith}
+use Rattle.std.proofs.Common.{◌≡◌, ◌≤◌, inl, inr, ℕ, zero, suc, Bool, true, false, List, [], ◌∷◌, Option, Some, None, Result, Ok, Err}
+use Rattle.std.proofs.Common.{length, take, refl, sym, ap, subst, arith}
 use Rattle.std.proofs.lemmas.Bool.{cases_lt}
 use Rattle.std.proofs.lemmas.List.{take_all}
 use Rattle.std.proofs.lemmas.Str.{IsUtf8-nil}
-use Rattle.std.specs.List.{Contains}
 use Rattle.std.specs.Prelude.{IsUtf8}
 use Rattle.std.specs.Str.{IsValidUpTo}
 use Rattle.sm_tree.specs.Node.{Node}
@@ -15,12 +14,10 @@ use Rattle.sm_tree.proofs.SomeAnswer as tree
 use Rattle.sm_json.specs.JsonText.{JsonText, json_syntax}
 use Rattle.sm_json.proofs.SpeltTrees.{text_json}
 use Rattle.sm_json.proofs.WrittenTrees.{null_begins}
-use Rattle.sm_model.specs.EventView.{AreErrors, EventTold, event_view, events_view}
+use Rattle.sm_model.specs.EventView.{EventTold}
 use Rattle.sm_model.specs.Graphs.{GraphMaps}
 use Rattle.sm_model.specs.Said.{Said}
 use Rattle.sm_model.specs.declared.event.ModelEvent.{ModelEvent}
-use Rattle.sm_model.specs.declared.event.Severity.{Severity}
-use Rattle.sm_model.specs.declared.event.Severity.TheVariants.{Error}
 use Rattle.sm_ast.specs.Answers.{Tells}
 use Rattle.sm_ast.specs.Faults.{AstFault, version, field, wrong_type, bad_id, ast_fault}
 use Rattle.sm_ast.specs.declared.refusal.AstRefusal.TheVariants.{NoMemory as ast_short}
@@ -37,7 +34,7 @@ use Rattle.sm_merge.specs.declared.refusal.MergeRefusal.TheVariants.{Limit as Pa
 use Rattle.sm_merge.proofs.OneMerged.{one_graph}
 use Rattle.sm_merge.proofs.SomeEvents.{some_events}
 use Rattle.sm_merge.proofs.SomeGraph.{some_graph}
-use Rattle.sm_load.specs.Events.{AreEvents, AreModelEvents}
+use Rattle.sm_load.specs.Events.{AreModelEvents}
 use Rattle.sm_load.specs.Laws.{SomeLoad, SomeModelEvents, SomeRuleEvents}
 use Rattle.sm_load.specs.Loading.{AreAccepted, LoadsTo, MergeInto}
 use Rattle.sm_load.specs.ModelFiles.{EndsInJson, FileGiven, HasStatements, HaveStatements, IsFirstRefused, IsRefusedAt}
@@ -46,7 +43,7 @@ use Rattle.sm_load.specs.declared.model.LoadRefusal.{LoadRefusal}
 use Rattle.sm_load.specs.declared.model.LoadRefusal.TheVariants.{Text, Limit, Rejected, NoMemory}
 use Rattle.sm_load.specs.declared.model.TextPlace.{TextPlace}
 use Rattle.sm_load.specs.declared.model.TextPlace.TheVariants.{Utf8, Json, Ast as InAst, Idl as InIdl}
-use Rattle.sm_load.specs.parts.Stages.{some_grave}
+use Rattle.sm_load.specs.steps.Stages.{some_grave}
 use Rattle.sm_load.proofs.GraphsJudged.{rejected_by, rejects_none}
 use Rattle.sm_load.proofs.OneModelFile.{files_formed, told_by}
 use Rattle.sm_load.proofs.SomeRuleEvents.{some_rule_events}

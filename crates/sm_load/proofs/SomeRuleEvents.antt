@@ -7,38 +7,33 @@ use Rattle.sm_model.specs.Graphs.{GraphMaps, member_entry, shape_entry}
 use Rattle.sm_merge.proofs.OneList.{each_has, has_each}
 use Rattle.sm_merge.proofs.SomeEvents.{AreSome, some_of}
 use Rattle.sm_compile.specs.Sound.{trait_of}
-use Rattle.sm_compile.specs.rules.Constraints.{HasWrongBounds, HasWrongEnum}
-use Rattle.sm_compile.specs.rules.Http.{HasNoUri, HasSameRoute, HasWrongLabel, HasWrongStatusCode, IsBoundWrongly}
-use Rattle.sm_compile.specs.rules.Names.{RepeatsName}
-use Rattle.sm_compile.specs.rules.Services.{HasWrongNames}
-use Rattle.sm_compile.specs.rules.Targets.{RefersToNothing, RefersToOther}
-use Rattle.sm_compile.specs.rules.Traits.{CarriesTwice}
-use Rattle.sm_compile.specs.rules.WireNames.{HasWireNameAgain}
+use Rattle.sm_rules.specs.Constraints.{HasWrongBounds, HasWrongEnum}
+use Rattle.sm_rules.specs.Http.{HasNoUri, HasSameRoute, HasWrongLabel, HasWrongStatusCode, IsBoundWrongly, HasOtherMethod}
+use Rattle.sm_rules.specs.Names.{RepeatsName, HasCaseTwin}
+use Rattle.sm_rules.specs.Services.{HasWrongNames}
+use Rattle.sm_rules.specs.Targets.{RefersToNothing, RefersToOther}
+use Rattle.sm_rules.specs.Traits.{CarriesTwice, HasUnknownTrait}
+use Rattle.sm_rules.specs.WireNames.{HasWireNameAgain}
 use Rattle.sm_rules.specs.RuleEvents.{IsEventOf, RuleFails, rule_event}
-use Rattle.sm_rules.specs.rules.Ids.{HasCaseTwin, IsUnused}
-use Rattle.sm_rules.specs.rules.Methods.{HasOtherMethod}
-use Rattle.sm_rules.specs.rules.Traits.{HasUnknownTrait}
+use Rattle.sm_rules.specs.Shapes.{IsUnused, HasNoFinite}
+use Rattle.sm_rules.specs.RuleList.{all_rules}
 use Rattle.sm_rules.specs.declared.rule.Rule.{Rule}
 use Rattle.sm_rules.specs.declared.rule.Rule.TheVariants as rule
-use Rattle.sm_rules.proofs.HttpCodes.{code_there}
-use Rattle.sm_rules.proofs.UnknownTraits.{unknown_there}
-use Rattle.sm_rules.proofs.WrongBounds.{bounds_there}
-use Rattle.sm_service_rules.specs.rules.Finite.{HasNoFinite}
-use Rattle.sm_service_rules.proofs.NamesTold.{names_there}
-use Rattle.sm_value_rules.specs.rules.Traits.{HasWrongPlace, HasWrongValue}
-use Rattle.sm_value_rules.specs.rules.Conflicts.{HasConflict}
-use Rattle.sm_value_rules.specs.rules.Values.{HasWrongDefault}
+use Rattle.sm_rules.proofs.AllRules.{each_listed}
+use Rattle.sm_http_rules.proofs.HttpCodes.{code_there}
+use Rattle.sm_trait_rules.proofs.UnknownTraits.{unknown_there}
+use Rattle.sm_value_rules.proofs.WrongBounds.{bounds_there}
+use Rattle.sm_name_rules.proofs.NamesTold.{names_there}
+use Rattle.sm_rules.specs.TraitShapes.{HasWrongPlace, HasWrongValue, HasConflict}
+use Rattle.sm_rules.specs.Defaults.{HasWrongDefault}
 use Rattle.sm_load.specs.Events.{AreEvents, IsTold}
 use Rattle.sm_load.specs.Laws.{SomeRuleEvents}
-use Rattle.sm_load.specs.Rules.{Fails}
-use Rattle.sm_load.specs.parts.Passes.{IsAmongRules}
-use Rattle.sm_load.proofs.Few.{AreFew, contains_at, few_among, few_by, few_is, few_same}
-use Rattle.sm_load.proofs.FewDetails.{few_again, few_bounds, few_carried, few_codes, few_empty, few_labels, few_methods}
-use Rattle.sm_load.proofs.FewDetails.{few_missing, few_others}
-use Rattle.sm_load.proofs.FewDetails.{few_repeats, few_routes, few_single, few_twins, few_wrong_names, listed, operation_there}
+use Rattle.sm_rules.specs.Rules.{Fails}
+use Rattle.sm_load.proofs.Few.{AreFew, few_among, few_by, few_is, few_same}
+use Rattle.sm_load.proofs.FewDetails.{few_again, few_bounds, few_carried, few_codes, few_empty, few_labels, few_methods, few_missing}
+use Rattle.sm_load.proofs.FewDetails.{few_others, few_repeats, few_routes, few_single, few_twins, few_wrong_names, listed, operation_there}
 use Rattle.sm_load.proofs.FewIds.{IsSubject, carrier_there, few_subjects, trait_there}
 use Rattle.sm_load.proofs.FewWords.{few_bound, few_fault_words}
-use Rattle.sm_load.proofs.RulesPut.{has_pass, passes}
 
 -- the events of a rule that speaks of few ids, and tells few details of each
 few_told : (r : Rule) (F : RuleFails) (S : List ℕ → Type 0) → AreFew S → ((id detail : List ℕ) → F id detail → S id)
@@ -153,15 +148,12 @@ module _ (g : GraphMaps) where
   -- of all of them
   few_events : AreFew (IsTold g)
   few_events =
-      few_same (λ e. (r : Rule) × Contains passes r × IsEventOf r (Fails r g) e) (IsTold g) (λ e told. (
+      few_same (λ e. (r : Rule) × Contains all_rules r × IsEventOf r (Fails r g) e) (IsTold g) (λ e told. (
         told.0,
-        in_passes (has_pass told.0),
+        each_listed told.0,
         told.1.fails,
       ))
-      (few_by (Contains passes) (λ r e. IsEventOf r (Fails r g) e) (few_among passes) few_of_rule)
-    where
-      in_passes : {r : Rule} → IsAmongRules passes r → Contains passes r
-      in_passes {r} h = contains_at passes h.0 r h.1
+      (few_by (Contains all_rules) (λ r e. IsEventOf r (Fails r g) e) (few_among all_rules) few_of_rule)
 
   in_order : (cs : List EventTold) → AreSome (IsTold g) cs → ((e : EventTold) → IsTold g e → Contains cs e)
       → (es : List EventTold) × AreEvents g es

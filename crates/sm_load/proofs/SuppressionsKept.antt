@@ -13,9 +13,9 @@ use Rattle.sm_model.specs.declared.graph.Graph.{Graph}
 use Rattle.sm_model.proofs.GraphFacts.{id_at}
 use Rattle.sm_model.proofs.LinkNumbers.{at_opened, within}
 use Rattle.sm_compile.specs.TraitNodes.{field_of, text_of}
-use Rattle.sm_rules.proofs.FirstRows.{tests}
+use Rattle.sm_passes.proofs.FirstRows.{tests}
 use Rattle.sm_load.specs.Suppressions.{entry_names, is_suppressed_there, text_is, text_names}
-use Rattle.sm_load.specs.parts.Suppressing.{AreNamedThere}
+use Rattle.sm_load.specs.steps.Suppressing.{AreNamedThere}
 
 -- what stands first under a name is what a map has there
 named_found : (name : List ℕ) (es : List (List ℕ × Node)) → tree_named name (members_of es) ≡ find text_cmp name es

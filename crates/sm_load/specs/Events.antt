@@ -7,9 +7,9 @@ use Rattle.sm_model.specs.EventView.{EventTold, AreInOrder, events_view}
 use Rattle.sm_model.specs.declared.event.ModelEvent.{ModelEvent}
 use Rattle.sm_model.specs.declared.event.Severity.TheVariants.{Error}
 use Rattle.sm_rules.specs.RuleEvents.{HaveSeverities, IsEventOf}
-use Rattle.sm_rules.specs.RuleIds.{severity_of}
+use Rattle.sm_rules.specs.RuleList.{severity_of}
 use Rattle.sm_rules.specs.declared.rule.Rule.{Rule}
-use Rattle.sm_load.specs.Rules.{Fails}
+use Rattle.sm_rules.specs.Rules.{Fails}
 use Rattle.sm_load.specs.Suppressions.{is_suppressed}
 
 -- an event of a rule that fails, and isn't suppressed where it may be

@@ -1,7 +1,6 @@
-pub mod Rules
 pub mod Suppressions
 pub mod Events
 pub mod ModelFiles
 pub mod Loading
 pub mod Laws
-pub mod parts
+pub mod steps

@@ -12,11 +12,11 @@ use Rattle.sm_merge.specs.Limits.{IsWithinLimits}
 use Rattle.sm_merge.specs.Merged.{IsGraphOf, IsWrong}
 use Rattle.sm_merge.specs.Stated.{AreFormedFiles, stated_by}
 use Rattle.sm_merge.specs.declared.refusal.MergeRefusal.TheVariants.{Limit as PastLimit, Rejected as RejectedInMerging}
-use Rattle.sm_rules.specs.RuleIds.{severity_of}
+use Rattle.sm_rules.specs.RuleList.{severity_of}
 use Rattle.sm_rules.specs.declared.rule.Rule.{Rule}
 use Rattle.sm_load.specs.Events.{AreModelEvents}
 use Rattle.sm_load.specs.ModelFiles.{FileGiven, HaveStatements, IsFirstRefused}
-use Rattle.sm_load.specs.Rules.{Fails}
+use Rattle.sm_rules.specs.Rules.{Fails}
 use Rattle.sm_load.specs.declared.model.LoadRefusal.{LoadRefusal}
 use Rattle.sm_load.specs.declared.model.LoadRefusal.TheVariants.{Text, Limit, Rejected, NoMemory}
 use Rattle.sm_load.specs.declared.model.Model.{Model}

@@ -12,7 +12,7 @@ use Rattle.sm_model.specs.Graphs.{GraphMaps}
 use Rattle.sm_model.specs.Used.{is_byte}
 use Rattle.sm_compile.specs.TraitIds.{suppress_id}
 use Rattle.sm_compile.specs.TraitNodes.{field_of, text_of}
-use Rattle.sm_compile.specs.rules.Words.{read_trait}
+use Rattle.sm_rules.specs.Words.{read_trait}
 
 -- an event's id, or what stands before one of its full stops
 abbrev pub names_event : List ℕ → List ℕ → Bool

@@ -5,7 +5,6 @@ pub mod laws;
 mod loading;
 mod model;
 mod naming;
-mod places;
 mod shared;
 mod suppressed;
 mod suppressing;

@@ -8,7 +8,8 @@ ghost use Rattle.sm_merge.specs.Stated.{AreFormedFiles};
 ghost use Rattle.sm_load.specs.Events.{AreModelEvents};
 ghost use Rattle.sm_load.specs.Loading.{LoadsTo};
 ghost use Rattle.sm_load.specs.ModelFiles.{given_files};
-ghost use Rattle.sm_load.specs.parts.Stages.{Judges, MakesGraph, Merges, ReadsFiles, StopsMerge, is_error, some_grave};
+ghost use Rattle.sm_rules.specs.RuleList.{is_error};
+ghost use Rattle.sm_load.specs.steps.Stages.{Judges, MakesGraph, Merges, ReadsFiles, StopsMerge, some_grave};
 
 use crate::model::{LoadRefusal, Model, ModelFile};
 use crate::texts::statements_in;

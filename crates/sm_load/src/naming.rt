@@ -7,11 +7,11 @@ ghost use Rattle.sm_tree.specs.View.{node_of, nodes_view};
 ghost use Rattle.sm_model.specs.GraphView.{IsShapeNumber, maps_of};
 ghost use Rattle.sm_model.specs.Reaching.{id_of_number};
 ghost use Rattle.sm_load.specs.Suppressions.{is_suppressed_there, names_event, node_names, some_node, text_names};
-ghost use Rattle.sm_load.specs.parts.Naming.{ends_word, value_names};
+ghost use Rattle.sm_load.specs.steps.Naming.{ends_word, value_names};
 
 use sm_compile::{text_in_trait, trait_node};
 use sm_model::{Graph, entries_of};
-use sm_rules::rows::texts::are_text_nodes;
+use sm_passes::rows::texts::are_text_nodes;
 use sm_tree::Tree;
 
 // Whether a text is an event's id, or what stands before one of its full stops.

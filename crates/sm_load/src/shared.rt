@@ -1,6 +1,6 @@
 // What several rules look up in a graph, made once for all of them.
 ghost use Rattle.std.specs.Prelude.{IfOk};
-ghost use Rattle.sm_load.specs.parts.Sharing.{AreShared};
+ghost use Rattle.sm_load.specs.steps.Sharing.{AreShared};
 
 use sm_http_rules::sides::Sides;
 use sm_model::Graph;

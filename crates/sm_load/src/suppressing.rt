@@ -7,14 +7,14 @@ ghost use Rattle.sm_tree.specs.View.{node_of, nodes_view};
 ghost use Rattle.sm_model.specs.GraphView.{maps_of};
 ghost use Rattle.sm_merge.specs.steps.Known.{has_text};
 ghost use Rattle.sm_compile.specs.TraitNodes.{field_of, text_of};
-ghost use Rattle.sm_load.specs.Suppressions.{entry_names, is_suppressed_in, is_suppressed_there, namespace_of};
-ghost use Rattle.sm_load.specs.Suppressions.{suppressions, text_is, text_names};
-ghost use Rattle.sm_load.specs.parts.Suppressing.{AreNamedThere};
+ghost use Rattle.sm_load.specs.Suppressions.{entry_names, is_suppressed_in, is_suppressed_there, namespace_of, suppressions, text_is};
+ghost use Rattle.sm_load.specs.Suppressions.{text_names};
+ghost use Rattle.sm_load.specs.steps.Suppressing.{AreNamedThere};
 
 use crate::naming::{is_suppressed_there, listed, text_names};
 use sm_compile::{field_of, text_in_trait};
 use sm_model::{Graph, tree_under};
-use sm_rules::marked::{NumberTest, marked_where};
+use sm_passes::marked::{NumberTest, marked_where};
 use sm_tree::{NoMemory, Tree};
 use std::alloc::Global;
 use std::collections::BTreeSet;

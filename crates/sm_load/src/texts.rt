@@ -3,7 +3,7 @@ ghost use Rattle.std.specs.Prelude.{◌↔◌, List, ℕ, IsTrue, IfOk};
 ghost use Rattle.sm_tree.specs.Json.{IsJson};
 ghost use Rattle.sm_tree.specs.View.{node_of};
 ghost use Rattle.sm_load.specs.ModelFiles.{EndsInJson, file_given, file_view};
-ghost use Rattle.sm_load.specs.parts.Stages.{ReadsFile, ReadsTree};
+ghost use Rattle.sm_load.specs.steps.Stages.{ReadsFile, ReadsTree};
 
 use crate::model::{LoadRefusal, ModelFile, TextPlace};
 use sm_ast::{AstRefusal, read_ast};

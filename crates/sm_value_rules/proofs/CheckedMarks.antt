@@ -1,6 +1,6 @@
 -- Marks of faulty shapes, the links between values, and the marks of checked shapes that follow from them.
-use Rattle.std.proofs.Common.{◌≡◌, inl, inr, ℕ, ◌<◌, ◌+◌, Bool, true, false, List, [], ◌∷◌, ◌++◌, length, get_or, take, Option, Some}
-use Rattle.std.proofs.Common.{None, refl, sym, ap, ◌∙◌, subst}
+use Rattle.std.proofs.Common.{◌≡◌, inl, inr, ℕ, ◌<◌, ◌+◌, Bool, true, false, List, [], ◌∷◌, ◌++◌, length, get_or, take, Option, Some, None}
+use Rattle.std.proofs.Common.{refl, sym, ap, ◌∙◌, subst}
 use Rattle.std.specs.Prelude.{◌↔◌, ◌&&◌, not}
 use Rattle.std.specs.FinMap as fin
 use Rattle.std.specs.List.{Contains}
@@ -23,10 +23,10 @@ use Rattle.sm_compile.specs.Kinds.{is_left_out, table_kind}
 use Rattle.sm_compile.specs.Looked.{kind_in, kind_under}
 use Rattle.sm_compile.specs.Served.{IsLeftOut}
 use Rattle.sm_compile.proofs.TabledShapes.{value_where}
-use Rattle.sm_rules.proofs.OwnShapes.{not_so}
-use Rattle.sm_value_rules.specs.NodeChecks.{IsChecked}
-use Rattle.sm_value_rules.specs.parts.Checking.{AreFaultMarks, AreOfValues, AreValueLinks, IsOfValues, TellsFault}
-use Rattle.sm_value_rules.specs.parts.Checking.{has_values_at, is_checked_at, is_type_left_out}
+use Rattle.sm_passes.proofs.OwnShapes.{not_so}
+use Rattle.sm_rules.specs.NodeChecks.{IsChecked}
+use Rattle.sm_value_rules.specs.steps.Checking.{AreFaultMarks, AreOfValues, AreValueLinks, IsOfValues, TellsFault, has_values_at}
+use Rattle.sm_value_rules.specs.steps.Checking.{is_checked_at, is_type_left_out}
 use Rattle.sm_value_rules.proofs.CheckedShapes.{checked_where, no_way_marked, none_marked}
 
 left_out_is : (kind : ShapeKind) → is_left_out kind ≡ true → kind ≡ LeftOut

@@ -16,8 +16,8 @@ use Rattle.sm_compile.proofs.ReachedNumbers.{same_number}
 use Rattle.sm_compile.specs.Reached.{IsReached, LeadsBy, LeadsTo}
 use Rattle.sm_compile.specs.Served.{IsLeftOut}
 use Rattle.sm_compile.specs.Sound.{IsSoundShape, IsValueShape}
-use Rattle.sm_value_rules.specs.NodeChecks.{IsChecked}
-use Rattle.sm_value_rules.specs.parts.Checking.{AreFaultMarks, AreValueLinks, IsFaultyAt, IsFineAt, IsOfValues, TellsFault}
+use Rattle.sm_rules.specs.NodeChecks.{IsChecked}
+use Rattle.sm_value_rules.specs.steps.Checking.{AreFaultMarks, AreValueLinks, IsFaultyAt, IsFineAt, IsOfValues, TellsFault}
 use Rattle.sm_value_rules.proofs.TableRows.{way_on}
 
 -- a way backwards, one step longer

@@ -1,6 +1,5 @@
 -- What is told of the defaults of members is what the rule says.
-use Rattle.std.proofs.Common.{◌≡◌, ℕ, true, false, List, [], ◌∷◌, ◌++◌, Option, Some, None}
-use Rattle.std.proofs.Common.{map, refl, sym, ap, ◌∙◌, subst}
+use Rattle.std.proofs.Common.{◌≡◌, ℕ, true, false, List, [], ◌∷◌, ◌++◌, Option, Some, None, map, refl, sym, ap, ◌∙◌, subst}
 use Rattle.std.specs.Prelude.{◌↔◌}
 use Rattle.std.specs.FinMap as fin
 use Rattle.std.specs.List.{Contains}
@@ -20,20 +19,19 @@ use Rattle.sm_codec.specs.FaultLists.{FaultAt, first_fault}
 use Rattle.sm_compile.specs.Looked.{listed_in, listed_under, target_in}
 use Rattle.sm_compile.specs.Sound.{trait_in}
 use Rattle.sm_compile.specs.TraitIds.{default_id}
-use Rattle.sm_compile.specs.rules.Words.{IsOwnShape}
+use Rattle.sm_rules.specs.Words.{IsOwnShape}
 use Rattle.sm_compile.proofs.ReachedNumbers.{same_number}
 use Rattle.sm_rules.specs.RuleEvents.{Puts, rule_event}
 use Rattle.sm_rules.specs.declared.rule.Rule.TheVariants.{DefaultValue}
-use Rattle.sm_rules.specs.parts.Folded.{is_own_shape}
-use Rattle.sm_rules.specs.parts.Putting.{ToldOf}
-use Rattle.sm_rules.proofs.EventsPut.{puts_none, puts_same}
-use Rattle.sm_rules.proofs.JudgedTraits.{told_mapped}
-use Rattle.sm_rules.proofs.OwnShapes.{own_told, told_own}
-use Rattle.sm_value_rules.specs.NodeChecks.{HasNodeFaults}
-use Rattle.sm_value_rules.specs.parts.Defaulting.{HasFaultyDefault, IsDefault, IsWantedTarget, ToldDefault}
-use Rattle.sm_value_rules.specs.parts.Defaulting.{ToldDefaults, WantsTarget}
-use Rattle.sm_value_rules.specs.parts.Nodes.{AddsRoots, TellsFaults}
-use Rattle.sm_value_rules.specs.rules.Values.{HasWrongDefault}
+use Rattle.sm_passes.specs.Owned.{is_own_shape}
+use Rattle.sm_passes.specs.Putting.{ToldOf}
+use Rattle.sm_passes.proofs.EventsPut.{puts_none, puts_same}
+use Rattle.sm_trait_rules.proofs.JudgedTraits.{told_mapped}
+use Rattle.sm_passes.proofs.OwnShapes.{own_told, told_own}
+use Rattle.sm_rules.specs.NodeChecks.{HasNodeFaults}
+use Rattle.sm_value_rules.specs.steps.Defaulting.{HasFaultyDefault, IsDefault, IsWantedTarget, ToldDefault, ToldDefaults, WantsTarget}
+use Rattle.sm_value_rules.specs.steps.Nodes.{AddsRoots, TellsFaults}
+use Rattle.sm_rules.specs.Defaults.{HasWrongDefault}
 use Rattle.sm_value_rules.proofs.NodesTold.{adds_one}
 use Rattle.sm_value_rules.proofs.SameFaults.{one_fault_list}
 

@@ -1,20 +1,16 @@
+pub mod WrongBounds
+mod EnumMembers
+mod ValuesTaken
 mod Renumbered
 mod TwinPlaces
 mod TwinReadings
 mod OtherNumbers
 mod TableRows
 mod TableTwins
-pub mod SameFaults
-pub mod CheckedShapes
+mod SameFaults
+mod CheckedShapes
 mod CheckedMarks
 mod NodesTold
 mod DefaultsTold
-mod SomeJoined
 mod UsedTraits
-mod PlacesTold
-mod FirstTexts
-pub mod PartsPut
-mod TextsHeld
-mod ConflictsTold
 mod ValuesTold
-mod UsesPut

@@ -1,7 +1,6 @@
 -- What a table of the shapes that a pass asks for tells of a node is what the definition tells.
 use Rattle.std.proofs.Common.{◌≡◌, inl, inr, ℕ, ◌<◌, ◌≤◌, ◌+◌, Bool, true, false, List, [], ◌∷◌, ◌++◌, length, map, Option, Some, None}
-use Rattle.std.proofs.Common.{refl, sym}
-use Rattle.std.proofs.Common.{ap, ◌∙◌, subst, arith}
+use Rattle.std.proofs.Common.{refl, sym, ap, ◌∙◌, subst, arith}
 use Rattle.std.specs.Prelude.{Ok, Err, slice_get}
 use Rattle.std.specs.List.{Contains}
 use Rattle.std.proofs.lemmas.Bool.{cases_lt}
@@ -38,9 +37,9 @@ use Rattle.sm_compile.specs.Sound.{IsValueShape, Sound}
 use Rattle.sm_compile.specs.declared.tabled.Tabled.{Tabled}
 use Rattle.sm_compile.proofs.RowsAlike.{each_length}
 use Rattle.sm_compile.proofs.TabledShapes.{mapped_from, mapped_to}
-use Rattle.sm_value_rules.specs.NodeChecks.{HasRow, IsChecked, node_reading}
-use Rattle.sm_value_rules.specs.parts.Nodes.{AddsRoots, AreRoots, IsCheckedNumber, IsReadyTable, IsTableFor}
-use Rattle.sm_value_rules.specs.parts.Nodes.{TellsFaults, TellsReading, TellsRow}
+use Rattle.sm_rules.specs.NodeChecks.{HasRow, IsChecked, node_reading}
+use Rattle.sm_value_rules.specs.steps.Nodes.{AddsRoots, AreRoots, IsCheckedNumber, IsReadyTable, IsTableFor, TellsFaults, TellsReading}
+use Rattle.sm_value_rules.specs.steps.Nodes.{TellsRow}
 use Rattle.sm_value_rules.proofs.SameFaults.{faults_by_each}
 
 -- roots, one number after the other

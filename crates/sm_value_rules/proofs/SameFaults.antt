@@ -16,7 +16,7 @@ use Rattle.sm_codec.specs.FaultLists.{FaultAt, Reading, faults_in}
 use Rattle.sm_codec.specs.Readings.{reading}
 use Rattle.sm_codec.proofs.NodeLaws.{node_laws}
 use Rattle.sm_value_rules.specs.Laws.{FaultsByEach, OneFaultList, SameFaults}
-use Rattle.sm_value_rules.specs.NodeChecks.{HasRow, node_reading}
+use Rattle.sm_rules.specs.NodeChecks.{HasRow, node_reading}
 use Rattle.sm_value_rules.proofs.OtherNumbers.{nothing_lost, number_back}
 use Rattle.sm_value_rules.proofs.Renumbered.{moved}
 use Rattle.sm_value_rules.proofs.TableTwins.{AreGiven, Good, f, have_twins, member_twins, nodes_alike, root_twins}

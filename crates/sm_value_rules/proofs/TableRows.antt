@@ -1,6 +1,6 @@
 -- The rows of a table that says what a graph says of all that some shapes reach, by ids.
-use Rattle.std.proofs.Common.{◌≡◌, inl, inr, ℕ, zero, suc, ◌<◌, Bool, true, false, cond, List, [], ◌∷◌, ◌++◌, length, get_or}
-use Rattle.std.proofs.Common.{refl, sym, ap, ◌∙◌, subst}
+use Rattle.std.proofs.Common.{◌≡◌, inl, inr, ℕ, zero, suc, ◌<◌, Bool, true, false, cond, List, [], ◌∷◌, ◌++◌, length, get_or, refl, sym, ap}
+use Rattle.std.proofs.Common.{◌∙◌, subst}
 use Rattle.std.specs.Prelude.{Some, slice_get}
 use Rattle.std.specs.List.{Contains}
 use Rattle.std.proofs.lemmas.Option.{get_or_from_slice_get, none-some, same_Some, slice_get-get_or, slice_get_within}
@@ -16,7 +16,7 @@ use Rattle.sm_compile.specs.Kinds.{has_value_members, members_of_kind, value_mem
 use Rattle.sm_compile.specs.Reached.{IsReached, LeadsBy}
 use Rattle.sm_compile.specs.Sound.{IsValueShape}
 use Rattle.sm_compile.proofs.RowsAlike.{contains_mapped, each_length, one_block}
-use Rattle.sm_value_rules.specs.NodeChecks.{HasRow}
+use Rattle.sm_rules.specs.NodeChecks.{HasRow}
 use Rattle.sm_value_rules.proofs.OtherNumbers.{at_contains, contains_at}
 
 -- a row that says something of the name at its place

@@ -1,7 +1,6 @@
 -- Two tables that say what a graph says of all that a shape reaches: their members with one id are twins, and so are the numbers of the
 -- shape, though members may have been given defaults.
-use Rattle.std.proofs.Common.{◌≡◌, ℕ, ◌<◌, false, List, [], ◌∷◌, map, length, get_or, refl, sym, ap, ◌∙◌}
-use Rattle.std.proofs.Common.{subst, arith, drop, is_some}
+use Rattle.std.proofs.Common.{◌≡◌, ℕ, ◌<◌, false, List, [], ◌∷◌, map, length, get_or, refl, sym, ap, ◌∙◌, subst, arith, drop, is_some}
 use Rattle.std.specs.Prelude.{Option, Some, None, slice_get}
 use Rattle.std.specs.FinMap as fin
 use Rattle.std.specs.List.{AllByRecursion, Contains}
@@ -16,12 +15,10 @@ use Rattle.sm_shapes.specs.DefaultPuts.{with_default}
 use Rattle.sm_shapes.specs.Fitting.{Test, finder}
 use Rattle.sm_shapes.specs.InOrder.{AreMembersOf, HasItsMembers}
 use Rattle.sm_shapes.specs.Places.{member_place, root_place}
-use Rattle.sm_shapes.specs.TableData.{ConstraintData, MemberData, TableData, constraints_in, default_at, first_text}
-use Rattle.sm_shapes.specs.TableData.{format_in, kind_at, kind_in, member_count, members_at, name_at, name_in, required_in}
-use Rattle.sm_shapes.specs.TableData.{members_in as listed_in}
+use Rattle.sm_shapes.specs.TableData.{ConstraintData, MemberData, TableData, constraints_in, default_at, first_text, format_in, kind_at}
+use Rattle.sm_shapes.specs.TableData.{kind_in, member_count, members_at, name_at, name_in, required_in, members_in as listed_in}
 use Rattle.sm_shapes.specs.TableData.{constraints_at, shape_constraints_at, shape_constraints_in, shape_format_in, sparse_at, sparse_in}
-use Rattle.sm_shapes.specs.TableData.{target_at}
-use Rattle.sm_shapes.specs.TableData.{target_in, unique_at, unique_in}
+use Rattle.sm_shapes.specs.TableData.{target_at, target_in, unique_at, unique_in}
 use Rattle.sm_shapes.specs.Values.{Val}
 use Rattle.sm_shapes.specs.declared.fault.FaultKind.TheVariants.{Pattern}
 use Rattle.sm_shapes.specs.declared.kinds.ShapeKind.{ShapeKind}
@@ -38,11 +35,10 @@ use Rattle.sm_compile.specs.TraitNodes.{effective_traits, own_traits}
 use Rattle.sm_compile.proofs.OnePatterns.{same_member, same_shape}
 use Rattle.sm_compile.proofs.OneWay.{one_name}
 use Rattle.sm_compile.proofs.RowsAlike.{contains_mapped}
-use Rattle.sm_value_rules.specs.NodeChecks.{HasRow}
+use Rattle.sm_rules.specs.NodeChecks.{HasRow}
 use Rattle.sm_value_rules.proofs.OtherNumbers.{other_number, same_name_there}
 use Rattle.sm_value_rules.proofs.Renumbered.{moved}
-use Rattle.sm_value_rules.proofs.TableRows.{IsMemberReached, among_members, home_is, member_row, member_there, members_many}
-use Rattle.sm_value_rules.proofs.TableRows.{shape_row}
+use Rattle.sm_value_rules.proofs.TableRows.{IsMemberReached, among_members, home_is, member_row, member_there, members_many, shape_row}
 use Rattle.sm_value_rules.proofs.TableRows.{target_reached, value_there, within}
 use Rattle.sm_value_rules.proofs.TwinPlaces.{AreTwins, HaveTwins, SayAlike}
 

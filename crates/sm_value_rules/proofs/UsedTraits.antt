@@ -1,6 +1,6 @@
 -- Marks of what stands as a trait at some shape or member.
-use Rattle.std.proofs.Common.{◌≡◌, ◌⊎◌, ◌<◌, ◌≤◌, ◌+◌, inl, inr, ℕ, Bool, false, List, [], get_or, length, take, Some, None}
-use Rattle.std.proofs.Common.{sym, ap, ◌∙◌, subst, arith}
+use Rattle.std.proofs.Common.{◌≡◌, ◌⊎◌, ◌<◌, ◌≤◌, ◌+◌, inl, inr, ℕ, Bool, false, List, [], get_or, length, take, Some, None, sym, ap, ◌∙◌}
+use Rattle.std.proofs.Common.{subst, arith}
 use Rattle.std.specs.Prelude.{◌↔◌, replicate}
 use Rattle.std.specs.FinMap as fin
 use Rattle.std.specs.List.{Contains}
@@ -23,11 +23,11 @@ use Rattle.sm_compile.specs.Sound.{trait_in}
 use Rattle.sm_compile.proofs.LookedUp.{stands_is}
 use Rattle.sm_compile.proofs.ReachedNumbers.{same_number}
 use Rattle.sm_compile.proofs.TabledShapes.{mapped_from}
-use Rattle.sm_rules.proofs.JudgedTraits.{pair_seen}
-use Rattle.sm_rules.proofs.TraitEntries.{found_entry}
-use Rattle.sm_value_rules.specs.parts.Placing.{AreUsed, IsNamed, IsNamedOf, IsUsedBy}
-use Rattle.sm_value_rules.proofs.SomeJoined.{none_of_some, some_next}
-use Rattle.sm_value_rules.proofs.ValuesTold.{traits_there}
+use Rattle.sm_trait_rules.proofs.JudgedTraits.{pair_seen}
+use Rattle.sm_passes.proofs.TraitEntries.{found_entry}
+use Rattle.sm_trait_rules.specs.steps.Placing.{AreUsed, IsNamed, IsNamedOf, IsUsedBy}
+use Rattle.sm_trait_rules.proofs.SomeJoined.{none_of_some, some_next}
+use Rattle.sm_trait_rules.proofs.TraitsThere.{traits_there}
 
 module _ (g : Graph) where
   -- the number of an id; an id that the graph hasn't has none

@@ -1,6 +1,6 @@
 -- What is told of the values of traits by the traits' shapes is what the rule says.
-use Rattle.std.proofs.Common.{◌≡◌, ◌⊎◌, inl, inr, ℕ, Bool, true, false, List, [], ◌∷◌, ◌++◌, Some, None, get_or, length, refl, sym}
-use Rattle.std.proofs.Common.{ap, ◌∙◌, subst}
+use Rattle.std.proofs.Common.{◌≡◌, ◌⊎◌, inl, inr, ℕ, Bool, true, false, List, [], ◌∷◌, ◌++◌, Some, None, get_or, length, refl, sym, ap, ◌∙◌}
+use Rattle.std.proofs.Common.{subst}
 use Rattle.std.specs.Prelude.{◌↔◌, ◌&&◌, is_some}
 use Rattle.std.specs.FinMap as fin
 use Rattle.std.specs.List.{Contains}
@@ -19,24 +19,23 @@ use Rattle.sm_model.proofs.Searching.{and_left, and_right}
 use Rattle.sm_shapes.specs.declared.fault.FaultKind.{FaultKind}
 use Rattle.sm_compile.specs.Sound.{trait_in, trait_of}
 use Rattle.sm_compile.specs.TraitIds.{trait_id}
-use Rattle.sm_compile.specs.rules.Traits.{HasOtherValue}
-use Rattle.sm_compile.proofs.TabledShapes.{mapped_from, mapped_to}
+use Rattle.sm_rules.specs.Traits.{HasOtherValue}
+use Rattle.sm_compile.proofs.TabledShapes.{mapped_from}
 use Rattle.sm_rules.specs.RuleEvents.{Puts, rule_event}
 use Rattle.sm_rules.specs.declared.rule.Rule.TheVariants.{TraitValue}
-use Rattle.sm_rules.specs.parts.Carrying.{carries}
-use Rattle.sm_rules.specs.parts.Folded.{is_own_shape}
-use Rattle.sm_rules.specs.parts.Putting.{ToldOf}
-use Rattle.sm_rules.proofs.EventsPut.{puts_none, puts_same}
-use Rattle.sm_rules.proofs.JudgedTraits.{pair_seen}
-use Rattle.sm_rules.proofs.OwnShapes.{own_told, told_own}
-use Rattle.sm_rules.proofs.TraitEntries.{entry_found, found_entry}
-use Rattle.sm_value_rules.specs.NodeChecks.{IsChecked}
-use Rattle.sm_value_rules.specs.parts.Nodes.{AddsRoots, TellsFaults}
-use Rattle.sm_value_rules.specs.parts.Valuing.{AreTraitsAt, IsFaultyFor, IsJudgedTrait, IsWantedTrait, ToldValue, ToldValues}
-use Rattle.sm_value_rules.specs.parts.Valuing.{WantsTrait, is_judged_at}
-use Rattle.sm_value_rules.specs.rules.Traits.{HasFaultyValue, HasWrongValue, IsTraitShape, by_row, by_shape}
+use Rattle.sm_passes.specs.Carrying.{carries}
+use Rattle.sm_passes.specs.Owned.{is_own_shape}
+use Rattle.sm_passes.specs.Putting.{ToldOf}
+use Rattle.sm_passes.proofs.EventsPut.{puts_none, puts_same}
+use Rattle.sm_trait_rules.proofs.JudgedTraits.{pair_seen}
+use Rattle.sm_passes.proofs.OwnShapes.{own_told, told_own}
+use Rattle.sm_passes.proofs.TraitEntries.{found_entry}
+use Rattle.sm_rules.specs.NodeChecks.{IsChecked}
+use Rattle.sm_value_rules.specs.steps.Nodes.{AddsRoots, TellsFaults}
+use Rattle.sm_value_rules.specs.steps.Valuing.{IsFaultyFor, IsJudgedTrait, IsWantedTrait, ToldValue, ToldValues, WantsTrait, is_judged_at}
+use Rattle.sm_rules.specs.TraitShapes.{HasFaultyValue, HasWrongValue, IsTraitShape, by_row, by_shape}
 use Rattle.sm_value_rules.proofs.NodesTold.{adds_one}
-use Rattle.sm_value_rules.proofs.PlacesTold.{entry_of}
+use Rattle.sm_trait_rules.proofs.PlacesTold.{entry_of}
 
 -- the shape of a trait, by tests
 trait_shape : (g : GraphMaps) (trait : List ℕ) → is_own_shape g trait ≡ true → carries g trait_id trait ≡ true → IsTraitShape g trait
@@ -91,12 +90,6 @@ module _ (g : GraphMaps) (id : List ℕ) (t : List ℕ × Tree) where
 -- those of one shape or member
 module _ (g : GraphMaps) (id : List ℕ) (x : Entry) (has : fin.get g.shapes id ≡ Some x) (ts : List (List ℕ × Tree))
     (are : fin.entries (traits_in x) ≡ members_view ts) where
-  pub traits_there : AreTraitsAt g id ts
-  traits_there t among =
-      ap (trait_in t.0) has
-      ∙ entry_found (traits_in x) (pair_seen t)
-      (subst (λ ps. Contains ps (pair_seen t)) (sym are) (mapped_to pair_seen ts t among))
-
   values_told : is_prelude_id id ≡ false → (e : EventTold) → ToldOf (ToldValue g id) ts e ↔ ToldValues g id e
   values_told own e = (
     λ h.

@@ -5,7 +5,7 @@ use Rattle.sm_model.specs.Graphs.{GraphMaps}
 use Rattle.sm_shapes.specs.Fitting.{Test, any_text}
 use Rattle.sm_shapes.specs.TableData.{TableData}
 use Rattle.sm_codec.specs.FaultLists.{FaultAt, faults_in}
-use Rattle.sm_value_rules.specs.NodeChecks.{HasNodeFaults, HasRow, node_reading}
+use Rattle.sm_rules.specs.NodeChecks.{HasNodeFaults, HasRow, node_reading}
 
 -- two tables that say what the graph says of all that a shape reaches give a node one list of faults for it, by one test of patterns
 abbrev pub SameFaults : Type 0

@@ -1,4 +1,3 @@
-pub mod NodeChecks
-pub mod rules
 pub mod Laws
-pub mod parts
+pub mod Marking
+pub mod steps

@@ -5,9 +5,9 @@ ghost use Rattle.sm_model.specs.Links.{AreLinks};
 ghost use Rattle.sm_model.specs.Reaching.{AreMarks, id_of_number};
 ghost use Rattle.sm_model.specs.declared.link.Link.{Link};
 ghost use Rattle.sm_compile.specs.Looked.{kind_under};
-ghost use Rattle.sm_value_rules.specs.NodeChecks.{IsChecked};
-ghost use Rattle.sm_value_rules.specs.parts.Checking.{AreFaultMarks, AreOfValues, AreValueLinks, IsOfValues, TellsFault};
-ghost use Rattle.sm_value_rules.specs.parts.Checking.{has_values_at, is_checked_at, is_type_left_out};
+ghost use Rattle.sm_rules.specs.NodeChecks.{IsChecked};
+ghost use Rattle.sm_value_rules.specs.steps.Checking.{AreFaultMarks, AreOfValues, AreValueLinks, IsOfValues, TellsFault, has_values_at};
+ghost use Rattle.sm_value_rules.specs.steps.Checking.{is_checked_at, is_type_left_out};
 
 use sm_compile::{has_values, is_left_out, is_sound_shape, kind_of, table_kind};
 use sm_model::{Graph, Kind, Link, Relation};

@@ -1,15 +1,13 @@
-// Checks of node values against shapes of the model: defaults, and values and places of traits by their shapes.
+// Rules of models on values: of enums, of bounds, and of nodes for shapes, as defaults and as values of traits.
 #![tactic(auto)]
 
+pub mod bounds;
 mod checked;
-pub mod conflicts;
 pub mod defaults;
-mod first_texts;
+pub mod enums;
 pub mod laws;
 mod nodes;
-pub mod places;
-pub mod text_set;
+mod seen_values;
 mod used;
-mod uses;
 pub mod value_marks;
 pub mod values;

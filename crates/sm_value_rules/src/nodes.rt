@@ -6,7 +6,7 @@ ghost use Rattle.sm_shapes.specs.AnyStore.{any_texts, no_refusals, none_refused}
 ghost use Rattle.sm_shapes.specs.Fitting.{any_text};
 ghost use Rattle.sm_compile.specs.Answers.{seen_store};
 ghost use Rattle.sm_compile.specs.Roots.{IsTableOfRoots};
-ghost use Rattle.sm_value_rules.specs.parts.Nodes.{IsCheckedNumber, IsNodeTable, IsReady, IsSameTable, TellsRow};
+ghost use Rattle.sm_value_rules.specs.steps.Nodes.{IsCheckedNumber, IsNodeTable, IsReady, IsSameTable, TellsRow};
 
 use sm_codec::{NodeLeaves, Refusal, decode, fill_defaults};
 use sm_compile::{Tabled, compile_roots, row_at};

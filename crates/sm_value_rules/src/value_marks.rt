@@ -1,7 +1,7 @@
 // What is looked up once for the rules on values: the shapes for which nodes are checked, and all that stands as a trait.
 ghost use Rattle.std.specs.Prelude.{IfOk};
 ghost use Rattle.sm_select.specs.Ways.{AreWays};
-ghost use Rattle.sm_value_rules.specs.parts.Marking.{AreValueMarks};
+ghost use Rattle.sm_value_rules.specs.Marking.{AreValueMarks};
 
 use crate::checked::checked_shapes;
 use crate::used::used_traits;

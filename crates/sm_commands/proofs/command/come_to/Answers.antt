@@ -1,48 +1,63 @@
 use Rattle.std.proofs.Common.{subst, sym}
 use Rattle.sm_io.specs.Seen.{files_seen, stream}
 use Rattle.sm_compile.specs.Answers.{seen_store}
-use Rattle.sm_commands.specs.Outside.{inputs_seen}
-use Rattle.sm_commands.specs.steps.Asked.{command_of, graph_form}
-use Rattle.sm_commands.specs.steps.CommandSteps.{CommandComesTo}
-use Rattle.sm_commands.proofs.Checks.{check_comes}
-use Rattle.sm_commands.proofs.Converts.{convert_comes}
-use Rattle.sm_commands.proofs.Selects.{select_comes}
+use Rattle.sm_asked.specs.Comes.{CommandComesTo}
+use Rattle.sm_asked.specs.Outside.{inputs_seen}
+use Rattle.sm_asked.proofs.OverFiles.{files_come}
+use Rattle.sm_model_commands.specs.Check.{CheckSays}
+use Rattle.sm_model_commands.specs.Convert.{ConvertSays}
+use Rattle.sm_model_commands.specs.Select.{SelectSays}
+use Rattle.sm_model_commands.specs.Forms.{graph_form}
+use Rattle.sm_commands.specs.Commands.{asked_of}
+use Rattle.sm_commands.specs.steps.FormSteps.{command_of}
 use Rattle.sm_commands.proofs.command.come_to.Goals as goal
 
 pub returns-in-Check-clause-comes : goal.returns-in-Check-clause-comes
 returns-in-Check-clause-comes g c =
-    let files = files_seen (g.F.Files.held c.args.files.now) (g.F.Files.read_faults c.args.files.now) in
-    let files1 = files_seen (g.F.Files.held c.check.new.files) (g.F.Files.read_faults c.check.new.files) in
+    let files = files_seen (g.F.Files.held c.args.files.now) (g.F.Files.read_faults c.args.files.now)
+    (g.F.Files.write_faults c.args.files.now) in
+    let files1 = files_seen (g.F.Files.held c.check.new.files) (g.F.Files.read_faults c.check.new.files)
+    (g.F.Files.write_faults c.check.new.files) in
     let input = stream (g.S.Source.left c.args.input.now) (g.S.Source.faults c.args.input.now) in
     let store = seen_store (g.P.Patterns.added c.args.patterns.now) (g.P.Patterns.refused c.args.patterns.now)
     (g.P.Patterns.refusals c.args.patterns.now) in
+    let models = c.in-Check.words.models.now in
     subst (λ f. CommandComesTo (inputs_seen files input g.P.Patterns.test store) (inputs_seen files1 input g.P.Patterns.test store)
-    (command_of f) c.check.result)
+    (asked_of (command_of f)) c.check.result)
     (sym c.in-Check.is)
-    (check_comes files files1 input g.P.Patterns.test store c.in-Check.words.models.now c.check.result c.check.ensures.comes)
+    (files_come models (λ held a. CheckSays held models a) files files1 input g.P.Patterns.test store c.check.result
+    c.check.ensures.held c.check.ensures.comes)
 
 pub returns-in-Convert-clause-comes : goal.returns-in-Convert-clause-comes
 returns-in-Convert-clause-comes g c =
-    let files = files_seen (g.F.Files.held c.args.files.now) (g.F.Files.read_faults c.args.files.now) in
-    let files1 = files_seen (g.F.Files.held c.convert.new.files) (g.F.Files.read_faults c.convert.new.files) in
+    let files = files_seen (g.F.Files.held c.args.files.now) (g.F.Files.read_faults c.args.files.now)
+    (g.F.Files.write_faults c.args.files.now) in
+    let files1 = files_seen (g.F.Files.held c.convert.new.files) (g.F.Files.read_faults c.convert.new.files)
+    (g.F.Files.write_faults c.convert.new.files) in
     let input = stream (g.S.Source.left c.args.input.now) (g.S.Source.faults c.args.input.now) in
     let store = seen_store (g.P.Patterns.added c.args.patterns.now) (g.P.Patterns.refused c.args.patterns.now)
     (g.P.Patterns.refusals c.args.patterns.now) in
+    let models = c.in-Convert.words.models.now in
     subst (λ f. CommandComesTo (inputs_seen files input g.P.Patterns.test store) (inputs_seen files1 input g.P.Patterns.test store)
-    (command_of f) c.convert.result)
+    (asked_of (command_of f)) c.convert.result)
     (sym c.in-Convert.is)
-    (convert_comes files files1 input g.P.Patterns.test store c.in-Convert.words.models.now (graph_form c.in-Convert.words.form)
-    c.convert.result c.convert.ensures.comes)
+    (files_come models (λ held a. ConvertSays held models (graph_form c.in-Convert.words.form) a) files files1
+    input g.P.Patterns.test store c.convert.result
+    c.convert.ensures.held c.convert.ensures.comes)
 
 pub returns-in-Select-clause-comes : goal.returns-in-Select-clause-comes
 returns-in-Select-clause-comes g c =
-    let files = files_seen (g.F.Files.held c.args.files.now) (g.F.Files.read_faults c.args.files.now) in
-    let files1 = files_seen (g.F.Files.held c.select.new.files) (g.F.Files.read_faults c.select.new.files) in
+    let files = files_seen (g.F.Files.held c.args.files.now) (g.F.Files.read_faults c.args.files.now)
+    (g.F.Files.write_faults c.args.files.now) in
+    let files1 = files_seen (g.F.Files.held c.select.new.files) (g.F.Files.read_faults c.select.new.files)
+    (g.F.Files.write_faults c.select.new.files) in
     let input = stream (g.S.Source.left c.args.input.now) (g.S.Source.faults c.args.input.now) in
     let store = seen_store (g.P.Patterns.added c.args.patterns.now) (g.P.Patterns.refused c.args.patterns.now)
     (g.P.Patterns.refusals c.args.patterns.now) in
+    let models = c.in-Select.words.models.now in
     subst (λ f. CommandComesTo (inputs_seen files input g.P.Patterns.test store) (inputs_seen files1 input g.P.Patterns.test store)
-    (command_of f) c.select.result)
+    (asked_of (command_of f)) c.select.result)
     (sym c.in-Select.is)
-    (select_comes files files1 input g.P.Patterns.test store c.in-Select.words.models.now c.in-Select.words.selector.now c.select.result
-    c.select.ensures.comes)
+    (files_come models (λ held a. SelectSays held models c.in-Select.words.selector.now a) files files1
+    input g.P.Patterns.test store c.select.result
+    c.select.ensures.held c.select.ensures.comes)

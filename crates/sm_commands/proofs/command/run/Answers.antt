@@ -1,7 +1,7 @@
 use Rattle.sm_io.specs.Seen.{files_seen, stream}
 use Rattle.sm_compile.specs.Answers.{seen_store}
-use Rattle.sm_commands.specs.Outside.{Outside, inputs_seen}
-use Rattle.sm_commands.specs.steps.Asked.{command_of}
+use Rattle.sm_asked.specs.Outside.{Outside, inputs_seen}
+use Rattle.sm_commands.specs.steps.FormSteps.{command_of}
 use Rattle.sm_commands.proofs.Runs.{command_runs, files_kept}
 use Rattle.sm_commands.proofs.command.run.Goals as goal
 
@@ -12,7 +12,8 @@ pub returns-in-Some-clause-answers : goal.returns-in-Some-clause-answers
 returns-in-Some-clause-answers g c =
     let before : Outside = record {
       inputs =
-          inputs_seen (files_seen (g.F.Files.held c.args.files.now) (g.F.Files.read_faults c.args.files.now))
+          inputs_seen (files_seen (g.F.Files.held c.args.files.now) (g.F.Files.read_faults c.args.files.now)
+          (g.F.Files.write_faults c.args.files.now))
           (stream (g.S.Source.left c.args.input.now) (g.S.Source.faults c.args.input.now)) g.P.Patterns.test
           (seen_store (g.P.Patterns.added c.args.patterns.now) (g.P.Patterns.refused c.args.patterns.now)
           (g.P.Patterns.refusals c.args.patterns.now));
@@ -20,7 +21,8 @@ returns-in-Some-clause-answers g c =
     } in
     let after : Outside = record {
       inputs =
-          inputs_seen (files_seen (g.F.Files.held c.come_to-came.new.files) (g.F.Files.read_faults c.come_to-came.new.files))
+          inputs_seen (files_seen (g.F.Files.held c.come_to-came.new.files) (g.F.Files.read_faults c.come_to-came.new.files)
+          (g.F.Files.write_faults c.come_to-came.new.files))
           (stream (g.S.Source.left c.come_to-came.new.input) (g.S.Source.faults c.come_to-came.new.input)) g.P.Patterns.test
           (seen_store (g.P.Patterns.added c.come_to-came.new.patterns) (g.P.Patterns.refused c.come_to-came.new.patterns)
           (g.P.Patterns.refusals c.come_to-came.new.patterns));

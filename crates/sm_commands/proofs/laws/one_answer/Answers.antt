@@ -1,9 +1,12 @@
-use Rattle.sm_commands.proofs.Commanded.{one_answer}
+use Rattle.sm_asked.specs.AskedLaws.{ComesToOne}
+use Rattle.sm_commands.proofs.Commanded.{of_each}
 use Rattle.sm_commands.proofs.OneRun.{one_run_answer}
 use Rattle.sm_commands.proofs.laws.one_answer.Goals as goal
 
 pub returns-clause-said : goal.returns-clause-said
-returns-clause-said c = one_answer c.one_text_answer.ensures
+returns-clause-said c =
+    of_each ComesToOne c.one_answer.ensures.check c.one_answer-1.ensures c.one_answer.ensures.convert c.one_answer.ensures.select
 
 pub returns-clause-runs : goal.returns-clause-runs
-returns-clause-runs c = one_run_answer c.one_text_answer.ensures
+returns-clause-runs c = one_run_answer
+    (of_each ComesToOne c.one_answer.ensures.check c.one_answer-1.ensures c.one_answer.ensures.convert c.one_answer.ensures.select)

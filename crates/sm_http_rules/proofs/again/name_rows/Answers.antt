@@ -1,7 +1,7 @@
 use Rattle.std.proofs.Common.{◌≡◌, ◌+◌, ◌∷◌, get_or, drop, subst}
 use Rattle.std.proofs.lemmas.List.{drop_more}
 use Rattle.sm_model.specs.GraphView.{AreShapeNumbers}
-use Rattle.sm_http_rules.specs.parts.Naming.{name_row}
+use Rattle.sm_http_rules.specs.steps.Naming.{name_row}
 use Rattle.sm_http_rules.proofs.Splits.{kept_next}
 use Rattle.sm_http_rules.proofs.again.name_rows.Goals as goal
 

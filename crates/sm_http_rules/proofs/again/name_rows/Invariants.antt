@@ -1,6 +1,6 @@
 use Rattle.std.proofs.Common.{◌≡◌, ◌++◌, drop}
 use Rattle.sm_model.specs.GraphView.{AreShapeNumbers}
-use Rattle.sm_http_rules.specs.parts.Naming.{name_rows}
+use Rattle.sm_http_rules.specs.steps.Naming.{name_rows}
 use Rattle.sm_http_rules.proofs.again.name_rows.Given as goal
 
 abbrev pub invariant-loop-member : goal.invariant-loop-member

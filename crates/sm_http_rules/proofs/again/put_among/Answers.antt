@@ -1,9 +1,9 @@
 use Rattle.std.proofs.Common.{length, subst, ◌∙◌}
 use Rattle.std.specs.List.{Contains}
 use Rattle.sm_rules.specs.RuleEvents.{Puts}
-use Rattle.sm_rules.specs.parts.Earlier.{ToldAt}
-use Rattle.sm_rules.specs.parts.Putting.{Below}
-use Rattle.sm_http_rules.specs.parts.Naming.{ToldName}
+use Rattle.sm_passes.specs.Earlier.{ToldAt}
+use Rattle.sm_passes.specs.Putting.{Below}
+use Rattle.sm_http_rules.specs.steps.Naming.{ToldName}
 use Rattle.sm_http_rules.proofs.NamesAgain.{rows_numbers}
 use Rattle.sm_http_rules.proofs.again.put_among.Goals as goal
 

@@ -2,8 +2,8 @@ use Rattle.std.proofs.Common.{◌≡◌, drop, map}
 use Rattle.std.specs.List.{list_all}
 use Rattle.sm_model.specs.GraphView.{AreShapeNumbers, maps_of}
 use Rattle.sm_model.specs.Reaching.{id_of_number}
-use Rattle.sm_compile.specs.rules.Bindings.{passes, targets}
-use Rattle.sm_http_rules.specs.parts.Allowing.{test_of}
+use Rattle.sm_rules.specs.Bindings.{passes, targets}
+use Rattle.sm_http_rules.specs.steps.Allowing.{test_of}
 use Rattle.sm_http_rules.proofs.allows.all_target.Given as goal
 
 abbrev pub invariant-loop-member : goal.invariant-loop-member

@@ -2,8 +2,8 @@ use Rattle.std.proofs.Common.{sym, ◌∙◌}
 use Rattle.std.specs.FinMap as fin
 use Rattle.sm_model.specs.GraphView.{maps_of}
 use Rattle.sm_model.specs.Reaching.{id_of_number}
-use Rattle.sm_compile.specs.rules.Bindings.{allows_target}
-use Rattle.sm_http_rules.specs.parts.Binding.{binding_said}
+use Rattle.sm_rules.specs.Bindings.{allows_target}
+use Rattle.sm_http_rules.specs.steps.Binding.{binding_said}
 use Rattle.sm_http_rules.proofs.AllowedTold.{all_free}
 use Rattle.sm_http_rules.proofs.TargetTested.{no_target, target_tested}
 use Rattle.sm_http_rules.proofs.allows.allows.Goals as goal

@@ -2,7 +2,7 @@ use Rattle.std.proofs.Common.{sym, ◌∙◌}
 use Rattle.std.specs.FinMap as fin
 use Rattle.sm_model.specs.GraphView.{maps_of}
 use Rattle.sm_model.specs.Reaching.{id_of_number}
-use Rattle.sm_http_rules.specs.parts.Allowing.{map_test}
+use Rattle.sm_http_rules.specs.steps.Allowing.{map_test}
 use Rattle.sm_http_rules.proofs.AllowedTold.{map_free}
 use Rattle.sm_http_rules.proofs.TargetTested.{no_target, target_tested}
 use Rattle.sm_http_rules.proofs.allows.has_value.Goals as goal

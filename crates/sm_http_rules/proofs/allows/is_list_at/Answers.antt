@@ -1,5 +1,5 @@
 use Rattle.std.proofs.Common.{sym}
-use Rattle.sm_http_rules.specs.parts.Allowing.{test_of}
+use Rattle.sm_http_rules.specs.steps.Allowing.{test_of}
 use Rattle.sm_http_rules.proofs.AllowedTold.{no_list}
 use Rattle.sm_http_rules.proofs.allows.is_list_at.Goals as goal
 

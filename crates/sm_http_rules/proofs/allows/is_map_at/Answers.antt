@@ -1,6 +1,6 @@
 use Rattle.std.proofs.Common.{sym}
 use Rattle.sm_model.specs.GraphView.{maps_of}
-use Rattle.sm_http_rules.specs.parts.Allowing.{map_test}
+use Rattle.sm_http_rules.specs.steps.Allowing.{map_test}
 use Rattle.sm_http_rules.proofs.AllowedTold.{no_map}
 use Rattle.sm_http_rules.proofs.allows.is_map_at.Goals as goal
 

@@ -1,7 +1,7 @@
 use Rattle.std.proofs.Common.{sym, ◌∙◌}
 use Rattle.sm_model.specs.GraphView.{maps_of}
 use Rattle.sm_model.specs.Reaching.{id_of_number}
-use Rattle.sm_http_rules.specs.parts.Binding.{carries_binding}
+use Rattle.sm_http_rules.specs.steps.Binding.{carries_binding}
 use Rattle.sm_http_rules.proofs.SomePasses.{passes_here, passes_later}
 use Rattle.sm_http_rules.proofs.bindings.carries_one.Goals as goal
 

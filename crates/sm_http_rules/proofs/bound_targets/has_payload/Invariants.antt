@@ -1,7 +1,7 @@
 use Rattle.std.proofs.Common.{◌≡◌, drop, map}
 use Rattle.sm_model.specs.GraphView.{AreShapeNumbers, maps_of}
 use Rattle.sm_model.specs.Reaching.{id_of_number}
-use Rattle.sm_http_rules.specs.parts.BoundTargets.{has_payload}
+use Rattle.sm_http_rules.specs.steps.BoundTargets.{has_payload}
 use Rattle.sm_http_rules.proofs.bound_targets.has_payload.Given as goal
 
 abbrev pub invariant-loop-member : goal.invariant-loop-member

@@ -3,7 +3,7 @@ use Rattle.sm_model.specs.Reaching.{id_of_number}
 use Rattle.sm_compile.specs.TraitIds.{http_payload_id}
 use Rattle.sm_rules.specs.RuleEvents.{Puts, rule_event}
 use Rattle.sm_rules.specs.declared.rule.Rule.TheVariants.{HttpTarget}
-use Rattle.sm_rules.specs.parts.Putting.{IsWhere}
+use Rattle.sm_passes.specs.Putting.{IsWhere}
 use Rattle.sm_http_rules.proofs.bound_targets.put_beside.Goals as goal
 
 pub returns : goal.returns

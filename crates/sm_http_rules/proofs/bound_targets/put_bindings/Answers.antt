@@ -1,9 +1,9 @@
 use Rattle.std.proofs.Common.{subst}
 use Rattle.std.proofs.lemmas.List.{take_all}
 use Rattle.sm_rules.specs.RuleEvents.{Puts}
-use Rattle.sm_rules.specs.parts.Putting.{ToldOf}
-use Rattle.sm_rules.proofs.ListPut.{none_of, put_place}
-use Rattle.sm_http_rules.specs.parts.BoundTargets.{ToldBinding}
+use Rattle.sm_passes.specs.Putting.{ToldOf}
+use Rattle.sm_passes.proofs.ListPut.{none_of, put_place}
+use Rattle.sm_http_rules.specs.steps.BoundTargets.{ToldBinding}
 use Rattle.sm_http_rules.proofs.bound_targets.put_bindings.Goals as goal
 
 pub loop-binding-init : goal.loop-binding-init

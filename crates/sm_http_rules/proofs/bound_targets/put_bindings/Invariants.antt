@@ -1,7 +1,7 @@
 use Rattle.std.proofs.Common.{take}
 use Rattle.sm_rules.specs.RuleEvents.{Puts}
-use Rattle.sm_rules.specs.parts.Putting.{ToldOf}
-use Rattle.sm_http_rules.specs.parts.BoundTargets.{ToldBinding}
+use Rattle.sm_passes.specs.Putting.{ToldOf}
+use Rattle.sm_http_rules.specs.steps.BoundTargets.{ToldBinding}
 use Rattle.sm_http_rules.proofs.bound_targets.put_bindings.Given as goal
 
 abbrev pub invariant-loop-binding : goal.invariant-loop-binding

@@ -1,6 +1,6 @@
 use Rattle.std.proofs.Common.{subst, sym}
 use Rattle.sm_model.specs.Links.{AreLinks}
-use Rattle.sm_http_rules.specs.parts.LeftOut.{AreLeading}
+use Rattle.sm_http_rules.specs.steps.LeftOut.{AreLeading}
 use Rattle.sm_http_rules.proofs.bound_targets.put_bound_targets.Goals as goal
 
 pub leading_to_left_out-requires : goal.leading_to_left_out-requires

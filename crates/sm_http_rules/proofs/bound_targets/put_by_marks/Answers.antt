@@ -1,8 +1,8 @@
 use Rattle.sm_model.specs.GraphView.{maps_of}
-use Rattle.sm_compile.specs.rules.Http.{IsBoundWrongly}
+use Rattle.sm_rules.specs.Http.{IsBoundWrongly}
 use Rattle.sm_rules.specs.declared.rule.Rule.TheVariants.{HttpTarget}
-use Rattle.sm_rules.proofs.Numbered.{puts_homes}
-use Rattle.sm_http_rules.specs.parts.BoundTargets.{home_of_binding}
+use Rattle.sm_passes.proofs.Numbered.{puts_homes}
+use Rattle.sm_http_rules.specs.steps.BoundTargets.{home_of_binding}
 use Rattle.sm_http_rules.proofs.BoundTold.{binding_home}
 use Rattle.sm_http_rules.proofs.bound_targets.put_by_marks.Goals as goal
 

@@ -2,9 +2,9 @@ use Rattle.std.proofs.Common.{◌≡◌, ◌+◌, ◌∷◌, get_or, drop, subst
 use Rattle.std.proofs.lemmas.List.{drop_more, get_or_default, take_all}
 use Rattle.sm_model.specs.GraphView.{AreShapeNumbers}
 use Rattle.sm_rules.specs.RuleEvents.{Puts}
-use Rattle.sm_rules.specs.parts.Putting.{ToldOf}
-use Rattle.sm_rules.proofs.ListPut.{none_of, put_next}
-use Rattle.sm_http_rules.specs.parts.BoundTargets.{ToldBoundMember}
+use Rattle.sm_passes.specs.Putting.{ToldOf}
+use Rattle.sm_passes.proofs.ListPut.{none_of, put_next}
+use Rattle.sm_http_rules.specs.steps.BoundTargets.{ToldBoundMember}
 use Rattle.sm_http_rules.proofs.bound_targets.put_each_member.Goals as goal
 
 pub loop-member-init : goal.loop-member-init

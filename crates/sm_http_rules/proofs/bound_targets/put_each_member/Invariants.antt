@@ -1,8 +1,8 @@
 use Rattle.std.proofs.Common.{drop, take}
 use Rattle.sm_model.specs.GraphView.{AreShapeNumbers}
 use Rattle.sm_rules.specs.RuleEvents.{Puts}
-use Rattle.sm_rules.specs.parts.Putting.{ToldOf}
-use Rattle.sm_http_rules.specs.parts.BoundTargets.{ToldBoundMember}
+use Rattle.sm_passes.specs.Putting.{ToldOf}
+use Rattle.sm_http_rules.specs.steps.BoundTargets.{ToldBoundMember}
 use Rattle.sm_http_rules.proofs.bound_targets.put_each_member.Given as goal
 
 abbrev pub invariant-loop-member : goal.invariant-loop-member

@@ -1,9 +1,9 @@
 use Rattle.std.proofs.Common.{subst}
 use Rattle.sm_rules.specs.RuleEvents.{Puts}
-use Rattle.sm_rules.specs.parts.Putting.{ToldOf}
-use Rattle.sm_rules.proofs.EventsPut.{puts_both}
-use Rattle.sm_http_rules.specs.parts.Binding.{bindings_in}
-use Rattle.sm_http_rules.specs.parts.BoundTargets.{ToldBeside, ToldBinding}
+use Rattle.sm_passes.specs.Putting.{ToldOf}
+use Rattle.sm_passes.proofs.EventsPut.{puts_both}
+use Rattle.sm_http_rules.specs.steps.Binding.{bindings_in}
+use Rattle.sm_http_rules.specs.steps.BoundTargets.{ToldBeside, ToldBinding}
 use Rattle.sm_http_rules.proofs.bound_targets.put_member.Goals as goal
 
 pub returns : goal.returns

@@ -1,7 +1,7 @@
 use Rattle.std.proofs.Common.{subst}
 use Rattle.sm_rules.specs.RuleEvents.{Puts}
-use Rattle.sm_rules.specs.parts.Putting.{ToldOf}
-use Rattle.sm_http_rules.specs.parts.BoundTargets.{ToldBoundMember}
+use Rattle.sm_passes.specs.Putting.{ToldOf}
+use Rattle.sm_http_rules.specs.steps.BoundTargets.{ToldBoundMember}
 use Rattle.sm_http_rules.proofs.bound_targets.put_of_members.Goals as goal
 
 pub returns : goal.returns

@@ -1,6 +1,6 @@
 use Rattle.std.proofs.Common.{◌≤◌, [], length}
 use Rattle.sm_model.specs.GraphView.{entries_of}
-use Rattle.sm_http_rules.specs.parts.Labels.{AreBoundOf, AreEach}
+use Rattle.sm_http_rules.specs.steps.Labels.{AreBoundOf, AreEach}
 use Rattle.sm_http_rules.proofs.label_rows.all_bound_rows.Given as goal
 
 abbrev pub invariant-loop-number : goal.invariant-loop-number

@@ -1,7 +1,7 @@
 use Rattle.std.proofs.Common.{◌≡◌, ◌+◌, ◌∷◌, [], get_or, drop, rules, subst, sym}
 use Rattle.std.proofs.lemmas.List.{drop_more, get_or_default, take_all}
 use Rattle.sm_model.specs.GraphView.{AreShapeNumbers}
-use Rattle.sm_http_rules.specs.parts.Labels.{AreBound}
+use Rattle.sm_http_rules.specs.steps.Labels.{AreBound}
 use Rattle.sm_http_rules.proofs.BoundRows.{bound_next, none_bound}
 use Rattle.sm_http_rules.proofs.label_rows.bound_among.Goals as goal
 

@@ -1,6 +1,6 @@
 use Rattle.std.proofs.Common.{drop, take}
 use Rattle.sm_model.specs.GraphView.{AreShapeNumbers}
-use Rattle.sm_http_rules.specs.parts.Labels.{AreBound}
+use Rattle.sm_http_rules.specs.steps.Labels.{AreBound}
 use Rattle.sm_http_rules.proofs.label_rows.bound_among.Given as goal
 
 abbrev pub invariant-loop-member : goal.invariant-loop-member

@@ -1,5 +1,5 @@
 use Rattle.std.proofs.Common.{◌≡◌, [], rules, subst, sym, ◌∙◌}
-use Rattle.sm_http_rules.specs.parts.Labels.{AreBoundOf}
+use Rattle.sm_http_rules.specs.steps.Labels.{AreBoundOf}
 use Rattle.sm_http_rules.proofs.BoundRows.{no_rows, rows_of_input}
 use Rattle.sm_http_rules.proofs.label_rows.bound_rows.Goals as goal
 

@@ -4,10 +4,10 @@ use Rattle.std.proofs.lemmas.List.{take_all}
 use Rattle.std.proofs.lemmas.List.Elements.{Contains-get_or}
 use Rattle.sm_model.specs.Reaching.{id_of_number}
 use Rattle.sm_rules.specs.RuleEvents.{Puts}
-use Rattle.sm_rules.specs.parts.Firsts.{number_in}
-use Rattle.sm_rules.specs.parts.Putting.{ToldOf}
-use Rattle.sm_rules.proofs.ListPut.{none_of, put_next}
-use Rattle.sm_http_rules.specs.parts.Labels.{ToldMember}
+use Rattle.sm_passes.specs.Firsts.{number_in}
+use Rattle.sm_passes.specs.Putting.{ToldOf}
+use Rattle.sm_passes.proofs.ListPut.{none_of, put_next}
+use Rattle.sm_http_rules.specs.steps.Labels.{ToldMember}
 use Rattle.sm_http_rules.proofs.label_told.put_bound.Goals as goal
 
 pub loop-row-init : goal.loop-row-init

@@ -3,10 +3,10 @@ use Rattle.std.specs.FinMap as fin
 use Rattle.sm_model.specs.Graphs.{text_cmp}
 use Rattle.sm_model.specs.Reaching.{id_of_number}
 use Rattle.sm_rules.specs.RuleEvents.{Puts}
-use Rattle.sm_rules.specs.parts.Firsts.{number_in}
-use Rattle.sm_rules.specs.parts.Putting.{ToldOf}
-use Rattle.sm_rules.proofs.EventsPut.{puts_both}
-use Rattle.sm_http_rules.specs.parts.Labels.{ToldLabel, ToldMember}
+use Rattle.sm_passes.specs.Firsts.{number_in}
+use Rattle.sm_passes.specs.Putting.{ToldOf}
+use Rattle.sm_passes.proofs.EventsPut.{puts_both}
+use Rattle.sm_http_rules.specs.steps.Labels.{ToldLabel, ToldMember}
 use Rattle.sm_http_rules.proofs.label_told.put_by_rows.Goals as goal
 
 pub put_bound-requires-clause-members : goal.put_bound-requires-clause-members

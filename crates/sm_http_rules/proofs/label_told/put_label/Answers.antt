@@ -3,8 +3,8 @@ use Rattle.std.specs.Prelude.{is_none}
 use Rattle.sm_model.specs.Reaching.{id_of_number}
 use Rattle.sm_rules.specs.RuleEvents.{Puts, rule_event}
 use Rattle.sm_rules.specs.declared.rule.Rule.TheVariants.{HttpLabels}
-use Rattle.sm_rules.specs.parts.Firsts.{number_in}
-use Rattle.sm_rules.specs.parts.Putting.{IsWhere}
+use Rattle.sm_passes.specs.Firsts.{number_in}
+use Rattle.sm_passes.specs.Putting.{IsWhere}
 use Rattle.sm_http_rules.proofs.label_told.put_label.Goals as goal
 
 pub returns : goal.returns

@@ -3,9 +3,9 @@ use Rattle.sm_model.specs.GraphView.{maps_of}
 use Rattle.sm_model.specs.Reaching.{id_of_number}
 use Rattle.sm_rules.specs.RuleEvents.{Puts, rule_event}
 use Rattle.sm_rules.specs.declared.rule.Rule.TheVariants.{HttpLabels}
-use Rattle.sm_rules.specs.parts.Firsts.{number_in}
-use Rattle.sm_rules.specs.parts.Putting.{IsWhere}
-use Rattle.sm_http_rules.specs.parts.Labels.{is_wrong_member}
+use Rattle.sm_passes.specs.Firsts.{number_in}
+use Rattle.sm_passes.specs.Putting.{IsWhere}
+use Rattle.sm_http_rules.specs.steps.Labels.{is_wrong_member}
 use Rattle.sm_http_rules.proofs.label_told.put_member.Goals as goal
 
 pub returns : goal.returns

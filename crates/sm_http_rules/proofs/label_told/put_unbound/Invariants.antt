@@ -1,9 +1,9 @@
 use Rattle.std.proofs.Common.{take}
 use Rattle.sm_model.specs.Reaching.{id_of_number}
 use Rattle.sm_rules.specs.RuleEvents.{Puts}
-use Rattle.sm_rules.specs.parts.Firsts.{number_in}
-use Rattle.sm_rules.specs.parts.Putting.{ToldOf}
-use Rattle.sm_http_rules.specs.parts.Labels.{ToldLabel}
+use Rattle.sm_passes.specs.Firsts.{number_in}
+use Rattle.sm_passes.specs.Putting.{ToldOf}
+use Rattle.sm_http_rules.specs.steps.Labels.{ToldLabel}
 use Rattle.sm_http_rules.proofs.label_told.put_unbound.Given as goal
 
 abbrev pub invariant-loop-row : goal.invariant-loop-row

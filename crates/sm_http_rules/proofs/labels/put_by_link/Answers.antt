@@ -1,6 +1,6 @@
 use Rattle.std.proofs.Common.{[], ◌<◌, ◌∙◌, arith, length, subst, sym}
 use Rattle.std.proofs.lemmas.List.{get_or_read}
-use Rattle.sm_http_rules.specs.parts.Labels.{AreBoundOf}
+use Rattle.sm_http_rules.specs.steps.Labels.{AreBoundOf}
 use Rattle.sm_http_rules.proofs.LabelsTold.{input_put, no_input}
 use Rattle.sm_http_rules.proofs.labels.put_by_link.Goals as goal
 

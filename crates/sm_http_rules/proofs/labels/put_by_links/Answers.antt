@@ -4,9 +4,9 @@ use Rattle.std.proofs.lemmas.List.Elements.{Contains-get_or}
 use Rattle.sm_model.specs.declared.link.Link.{Link}
 use Rattle.sm_model.specs.declared.relation.Relation.TheVariants.{Member}
 use Rattle.sm_rules.specs.RuleEvents.{Puts}
-use Rattle.sm_rules.specs.parts.Putting.{ToldOf}
-use Rattle.sm_rules.proofs.ListPut.{none_of, put_place}
-use Rattle.sm_http_rules.specs.parts.Labels.{ToldByLink}
+use Rattle.sm_passes.specs.Putting.{ToldOf}
+use Rattle.sm_passes.proofs.ListPut.{none_of, put_place}
+use Rattle.sm_http_rules.specs.steps.Labels.{ToldByLink}
 use Rattle.sm_http_rules.proofs.labels.put_by_links.Goals as goal
 
 abbrev nowhere : Link

@@ -1,7 +1,7 @@
 use Rattle.std.proofs.Common.{[], length, subst, sym}
 use Rattle.sm_model.specs.GraphView.{entries_of}
 use Rattle.sm_model.specs.Links.{AreLinks}
-use Rattle.sm_http_rules.specs.parts.Labels.{AreBoundOf, AreEach}
+use Rattle.sm_http_rules.specs.steps.Labels.{AreBoundOf, AreEach}
 use Rattle.sm_http_rules.proofs.LabelsTold.{links_put}
 use Rattle.sm_http_rules.proofs.labels.put_labels.Goals as goal
 

@@ -1,9 +1,9 @@
 use Rattle.std.proofs.Common.{Err, subst}
 use Rattle.sm_model.specs.GraphView.{maps_of}
 use Rattle.sm_model.specs.Reaching.{id_of_number}
-use Rattle.sm_compile.specs.UriPattern.{ParsesUri, uri_said}
+use Rattle.sm_uri.specs.UriPattern.{ParsesUri, uri_said}
 use Rattle.sm_rules.specs.RuleEvents.{Puts}
-use Rattle.sm_http_rules.specs.parts.Labels.{ToldOfUri}
+use Rattle.sm_http_rules.specs.steps.Labels.{ToldOfUri}
 use Rattle.sm_http_rules.proofs.LabelsTold.{no_pattern, pattern_put}
 use Rattle.sm_http_rules.proofs.labels.put_of_text.Goals as goal
 

@@ -1,6 +1,6 @@
 use Rattle.sm_model.specs.declared.link.Link.{Link}
 use Rattle.sm_model.specs.declared.relation.Relation.TheVariants.{Member}
-use Rattle.sm_http_rules.specs.parts.LeftOut.{value_link}
+use Rattle.sm_http_rules.specs.steps.LeftOut.{value_link}
 use Rattle.sm_http_rules.proofs.Splits.{kept_next}
 use Rattle.sm_http_rules.proofs.left_out.value_links.Goals as goal
 

@@ -1,6 +1,6 @@
 use Rattle.std.proofs.Common.{◌≡◌, ◌++◌, drop}
 use Rattle.std.specs.List.{filter_map}
-use Rattle.sm_http_rules.specs.parts.LeftOut.{value_link}
+use Rattle.sm_http_rules.specs.steps.LeftOut.{value_link}
 use Rattle.sm_http_rules.proofs.left_out.value_links.Given as goal
 
 abbrev pub invariant-loop-link : goal.invariant-loop-link

@@ -2,7 +2,7 @@ use Rattle.std.proofs.Common.{◌≡◌, ◌+◌, ◌∷◌, get_or, drop, subst
 use Rattle.std.proofs.lemmas.List.{drop_more}
 use Rattle.sm_model.specs.GraphView.{AreShapeNumbers, maps_of}
 use Rattle.sm_model.specs.Reaching.{id_of_number}
-use Rattle.sm_http_rules.specs.parts.WireNames.{prefix_of}
+use Rattle.sm_http_rules.specs.steps.WireNames.{prefix_of}
 use Rattle.sm_http_rules.proofs.Splits.{kept_next}
 use Rattle.sm_http_rules.proofs.prefixes.prefixes_among.Goals as goal
 

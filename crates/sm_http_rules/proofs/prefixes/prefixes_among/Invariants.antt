@@ -1,6 +1,6 @@
 use Rattle.std.proofs.Common.{◌≡◌, ◌++◌, drop}
 use Rattle.sm_model.specs.GraphView.{AreShapeNumbers}
-use Rattle.sm_http_rules.specs.parts.WireNames.{prefixes_of}
+use Rattle.sm_http_rules.specs.steps.WireNames.{prefixes_of}
 use Rattle.sm_http_rules.proofs.prefixes.prefixes_among.Given as goal
 
 abbrev pub invariant-loop-member : goal.invariant-loop-member

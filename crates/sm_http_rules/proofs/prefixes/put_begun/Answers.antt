@@ -1,7 +1,7 @@
 use Rattle.std.proofs.Common.{subst, sym}
 use Rattle.std.specs.Prelude.{◌↔◌, List, ℕ}
-use Rattle.sm_http_rules.specs.parts.Shortest.{AreApart}
-use Rattle.sm_http_rules.specs.parts.WireNames.{BeginsWithOne, prefixes_of}
+use Rattle.sm_http_rules.specs.steps.Shortest.{AreApart}
+use Rattle.sm_http_rules.specs.steps.WireNames.{BeginsWithOne, prefixes_of}
 use Rattle.sm_http_rules.proofs.WireNamesTold.{same_begun}
 use Rattle.sm_http_rules.proofs.prefixes.put_begun.Goals as goal
 

@@ -1,6 +1,6 @@
 use Rattle.std.proofs.Common.{subst, ◌∙◌, List, ℕ}
 use Rattle.sm_model.specs.Reaching.{id_of_number}
-use Rattle.sm_http_rules.specs.parts.WireNames.{BeginsWithOne}
+use Rattle.sm_http_rules.specs.steps.WireNames.{BeginsWithOne}
 use Rattle.sm_http_rules.proofs.WireNamesTold.{begun_put}
 use Rattle.sm_http_rules.proofs.prefixes.put_header.Goals as goal
 

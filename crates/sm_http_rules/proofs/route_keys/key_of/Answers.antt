@@ -1,6 +1,6 @@
 use Rattle.std.proofs.Common.{List, ap, ℕ, ◌++◌, ◌∙◌}
 use Rattle.std.specs.Option.{option_copied}
-use Rattle.sm_http_rules.specs.parts.Routes.{method_tail}
+use Rattle.sm_http_rules.specs.steps.Routes.{method_tail}
 use Rattle.sm_http_rules.proofs.route_keys.key_of.Goals as goal
 
 pub returns : goal.returns

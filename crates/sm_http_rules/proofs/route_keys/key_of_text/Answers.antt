@@ -1,8 +1,8 @@
 use Rattle.std.proofs.Common.{Err, ap, subst, ◌∙◌}
 use Rattle.sm_model.specs.GraphView.{maps_of}
 use Rattle.sm_model.specs.Reaching.{id_of_number}
-use Rattle.sm_compile.specs.UriPattern.{ParsesUri, uri_said}
-use Rattle.sm_http_rules.specs.parts.Routes.{key_of}
+use Rattle.sm_uri.specs.UriPattern.{ParsesUri, uri_said}
+use Rattle.sm_http_rules.specs.steps.Routes.{key_of}
 use Rattle.sm_http_rules.proofs.RouteKeys.{key_said, no_pattern_key}
 use Rattle.sm_http_rules.proofs.route_keys.key_of_text.Goals as goal
 

@@ -1,7 +1,7 @@
 use Rattle.std.proofs.Common.{subst}
 use Rattle.sm_model.specs.GraphView.{maps_of}
 use Rattle.sm_model.specs.Reaching.{id_of_number}
-use Rattle.sm_http_rules.specs.parts.Routes.{IsKeyAt, IsRouteKey}
+use Rattle.sm_http_rules.specs.steps.Routes.{IsKeyAt, IsRouteKey}
 use Rattle.sm_http_rules.proofs.RouteKeys.{one_key}
 use Rattle.sm_http_rules.proofs.SameRouteRows.{none_joined, row_joined}
 use Rattle.sm_http_rules.proofs.route_keys.put_key.Goals as goal

@@ -1,6 +1,6 @@
 use Rattle.std.proofs.Common.{arith, length, subst, ◌≡◌}
 use Rattle.sm_model.specs.GraphView.{entries_of}
-use Rattle.sm_http_rules.specs.parts.Routes.{AreRoutesBelow}
+use Rattle.sm_http_rules.specs.steps.Routes.{AreRoutesBelow}
 use Rattle.sm_http_rules.proofs.SameRouteRows.{routes_next}
 use Rattle.sm_http_rules.proofs.route_keys.route_rows.Goals as goal
 

@@ -1,6 +1,6 @@
 use Rattle.std.proofs.Common.{◌≤◌, length}
 use Rattle.sm_model.specs.GraphView.{entries_of}
-use Rattle.sm_http_rules.specs.parts.Routes.{AreRoutesBelow}
+use Rattle.sm_http_rules.specs.steps.Routes.{AreRoutesBelow}
 use Rattle.sm_http_rules.proofs.route_keys.route_rows.Given as goal
 
 abbrev pub invariant-loop-number : goal.invariant-loop-number

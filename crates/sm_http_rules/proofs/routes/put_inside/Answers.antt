@@ -3,7 +3,7 @@ use Rattle.std.proofs.lemmas.Cmp.{nat_cmp_total}
 use Rattle.std.proofs.lemmas.Fn.{always_returns_same}
 use Rattle.std.proofs.lemmas.List.Sorted.{ranks_by}
 use Rattle.std.specs.Ordering.{is_lt, nat_cmp}
-use Rattle.sm_http_rules.specs.parts.SameRoutes.{AreByFirsts, AreUnder}
+use Rattle.sm_http_rules.specs.steps.SameRoutes.{AreByFirsts, AreUnder}
 use Rattle.sm_http_rules.proofs.FirstsInOrder.{rows_moved}
 use Rattle.sm_http_rules.proofs.PairsTold.{numbers_told}
 use Rattle.sm_http_rules.proofs.RoutesTold.{number_there}

@@ -4,8 +4,8 @@ use Rattle.std.proofs.lemmas.List.{take_more, take_rest}
 use Rattle.std.proofs.lemmas.List.Elements.{Contains-get_or}
 use Rattle.sm_model.specs.GraphView.{IsShapeNumber}
 use Rattle.sm_rules.specs.RuleEvents.{Puts}
-use Rattle.sm_rules.proofs.SharedClosures.{of_first}
-use Rattle.sm_http_rules.specs.parts.SameRoutes.{ToldOfRows, first_at}
+use Rattle.sm_passes.proofs.SharedClosures.{of_first}
+use Rattle.sm_http_rules.specs.steps.SameRoutes.{ToldOfRows, first_at}
 use Rattle.sm_http_rules.proofs.FirstsInOrder.{run_begun, run_rows}
 use Rattle.sm_http_rules.proofs.PairsTold.{no_pairs, pairs_next}
 use Rattle.sm_http_rules.proofs.routes.put_rows.Goals as goal

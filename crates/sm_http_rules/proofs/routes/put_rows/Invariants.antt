@@ -1,6 +1,6 @@
 use Rattle.std.proofs.Common.{length, take, ◌≤◌}
 use Rattle.sm_rules.specs.RuleEvents.{Puts}
-use Rattle.sm_http_rules.specs.parts.SameRoutes.{IsRunFrom, ToldOfRows}
+use Rattle.sm_http_rules.specs.steps.SameRoutes.{IsRunFrom, ToldOfRows}
 use Rattle.sm_http_rules.proofs.routes.put_rows.Given as goal
 
 abbrev pub invariant-loop-place : goal.invariant-loop-place

@@ -2,8 +2,8 @@ use Rattle.std.proofs.Common.{List, subst, ℕ, ◌≡◌}
 use Rattle.sm_model.specs.Reaching.{id_of_number}
 use Rattle.sm_rules.specs.RuleEvents.{Puts, rule_event}
 use Rattle.sm_rules.specs.declared.rule.Rule.TheVariants.{HttpRoutes}
-use Rattle.sm_rules.proofs.EventsPut.{puts_same}
-use Rattle.sm_http_rules.specs.parts.SameRoutes.{IsPairTold}
+use Rattle.sm_passes.proofs.EventsPut.{puts_same}
+use Rattle.sm_http_rules.specs.steps.SameRoutes.{IsPairTold}
 use Rattle.sm_http_rules.proofs.routes.put_told.Goals as goal
 
 pub returns : goal.returns

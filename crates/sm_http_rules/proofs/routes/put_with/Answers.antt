@@ -2,9 +2,9 @@ use Rattle.std.proofs.Common.{subst}
 use Rattle.std.proofs.lemmas.List.{take_all}
 use Rattle.std.proofs.lemmas.List.Elements.{Contains-get_or}
 use Rattle.sm_rules.specs.RuleEvents.{Puts}
-use Rattle.sm_rules.specs.parts.Putting.{ToldOf}
-use Rattle.sm_rules.proofs.ListPut.{put_place}
-use Rattle.sm_http_rules.specs.parts.SameRoutes.{IsEitherTold}
+use Rattle.sm_passes.specs.Putting.{ToldOf}
+use Rattle.sm_passes.proofs.ListPut.{put_place}
+use Rattle.sm_http_rules.specs.steps.SameRoutes.{IsEitherTold}
 use Rattle.sm_http_rules.proofs.routes.put_with.Goals as goal
 
 pub put_pair-requires-clause-one : goal.put_pair-requires-clause-one

@@ -1,7 +1,7 @@
 use Rattle.std.proofs.Common.{take}
 use Rattle.sm_rules.specs.RuleEvents.{Puts}
-use Rattle.sm_rules.specs.parts.Putting.{ToldOf}
-use Rattle.sm_http_rules.specs.parts.SameRoutes.{IsEitherTold}
+use Rattle.sm_passes.specs.Putting.{ToldOf}
+use Rattle.sm_http_rules.specs.steps.SameRoutes.{IsEitherTold}
 use Rattle.sm_http_rules.proofs.routes.put_with.Given as goal
 
 abbrev pub invariant-loop-other : goal.invariant-loop-other

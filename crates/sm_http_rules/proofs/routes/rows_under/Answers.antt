@@ -1,6 +1,6 @@
 use Rattle.std.proofs.Common.{get_or, subst, sym, take}
 use Rattle.std.proofs.lemmas.List.{take_all, take_more}
-use Rattle.sm_http_rules.specs.parts.SameRoutes.{AreUnder}
+use Rattle.sm_http_rules.specs.steps.SameRoutes.{AreUnder}
 use Rattle.sm_http_rules.proofs.FirstsInOrder.{rows_next}
 use Rattle.sm_http_rules.proofs.routes.rows_under.Goals as goal
 

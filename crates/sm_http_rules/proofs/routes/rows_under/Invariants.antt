@@ -1,5 +1,5 @@
 use Rattle.std.proofs.Common.{take}
-use Rattle.sm_http_rules.specs.parts.SameRoutes.{AreUnder}
+use Rattle.sm_http_rules.specs.steps.SameRoutes.{AreUnder}
 use Rattle.sm_http_rules.proofs.routes.rows_under.Given as goal
 
 abbrev pub invariant-loop-number : goal.invariant-loop-number

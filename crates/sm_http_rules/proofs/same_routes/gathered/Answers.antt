@@ -1,6 +1,6 @@
 use Rattle.std.proofs.Common.{List, ℕ, ◌-◌, ◌<◌, ◌≡◌, ◌≤◌, ◌∙◌, arith, drop, length, refl, subst, sym, take}
 use Rattle.std.proofs.lemmas.List.{length-drop, take_rest}
-use Rattle.sm_http_rules.specs.parts.SameRoutes.{IsFirstPut, IsRun}
+use Rattle.sm_http_rules.specs.steps.SameRoutes.{IsFirstPut, IsRun}
 use Rattle.sm_http_rules.proofs.SameRouteRows.{gathered_next, gathered_none, values_of_rest}
 use Rattle.sm_http_rules.proofs.same_routes.gathered.Goals as goal
 

@@ -1,5 +1,5 @@
 use Rattle.std.proofs.Common.{length, ◌-◌, ◌≡◌, ◌≤◌}
-use Rattle.sm_http_rules.specs.parts.SameRoutes.{AreGathered}
+use Rattle.sm_http_rules.specs.steps.SameRoutes.{AreGathered}
 use Rattle.sm_http_rules.proofs.same_routes.gathered.Given as goal
 
 abbrev pub decreases-loop-begin : goal.decreases-loop-begin

@@ -2,7 +2,7 @@ use Rattle.std.proofs.Common.{arith, length, subst, ◌∙◌}
 use Rattle.std.specs.Map.{values_of}
 use Rattle.std.proofs.lemmas.Grind.{common_steps}
 use Rattle.std.proofs.lemmas.List.{length-set, take_all}
-use Rattle.sm_http_rules.specs.parts.SameRoutes.{IsPutUnder}
+use Rattle.sm_http_rules.specs.steps.SameRoutes.{IsPutUnder}
 use Rattle.sm_http_rules.proofs.SameRouteRows.{row_within, under_row}
 use Rattle.sm_http_rules.proofs.same_routes.put_under.Goals as goal
 

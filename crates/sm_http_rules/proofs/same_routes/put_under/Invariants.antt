@@ -1,6 +1,6 @@
 use Rattle.std.proofs.Common.{length, take, ◌≡◌}
 use Rattle.std.specs.Map.{values_of}
-use Rattle.sm_http_rules.specs.parts.SameRoutes.{IsPutUnder}
+use Rattle.sm_http_rules.specs.steps.SameRoutes.{IsPutUnder}
 use Rattle.sm_http_rules.proofs.same_routes.put_under.Given as goal
 
 abbrev pub invariant-loop-row : goal.invariant-loop-row

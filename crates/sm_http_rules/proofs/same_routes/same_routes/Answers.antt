@@ -7,7 +7,7 @@ use Rattle.std.specs.Cmp.Lexicographic.{nat_list_cmp_total}
 use Rattle.std.specs.List.{Contains}
 use Rattle.std.specs.Ordering.{is_lt}
 use Rattle.sm_model.specs.Graphs.{text_cmp}
-use Rattle.sm_http_rules.specs.parts.SameRoutes.{AreInOrder, AreTogether, HasRow, HaveOneText}
+use Rattle.sm_http_rules.specs.steps.SameRoutes.{AreInOrder, AreTogether, HasRow, HaveOneText}
 use Rattle.sm_http_rules.proofs.SameRouteRows.{all_one, routes_of_one, routes_together, routes_within}
 use Rattle.sm_http_rules.proofs.same_routes.same_routes.Goals as goal
 

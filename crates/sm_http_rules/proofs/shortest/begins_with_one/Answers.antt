@@ -1,6 +1,6 @@
 use Rattle.std.proofs.Common.{refl, rules}
 use Rattle.std.proofs.lemmas.Fn.{always_returns_same}
-use Rattle.sm_http_rules.specs.parts.Shortest.{place_of}
+use Rattle.sm_http_rules.specs.steps.Shortest.{place_of}
 use Rattle.sm_http_rules.proofs.ShortestKept.{found_none, found_one, places}
 use Rattle.sm_http_rules.proofs.shortest.begins_with_one.Goals as goal
 

@@ -3,8 +3,8 @@ use Rattle.std.specs.Cmp.Lexicographic.{nat_list_cmp_total}
 use Rattle.std.proofs.lemmas.Fn.{always_returns_same, dedup_same}
 use Rattle.std.proofs.lemmas.List.Sorted.{ranks_by}
 use Rattle.std.specs.Prelude.{◌↔◌}
-use Rattle.sm_http_rules.specs.parts.Shortest.{AreApart}
-use Rattle.sm_http_rules.specs.parts.WireNames.{BeginsWithOne}
+use Rattle.sm_http_rules.specs.steps.Shortest.{AreApart}
+use Rattle.sm_http_rules.specs.steps.WireNames.{BeginsWithOne}
 use Rattle.sm_http_rules.proofs.ShortestKept.{before, begins_kept, kept_apart, kept_same}
 use Rattle.sm_http_rules.proofs.shortest.shortest.Goals as goal
 

@@ -4,7 +4,7 @@ use Rattle.sm_model.specs.Reaching.{AreMarks, id_of_number}
 use Rattle.sm_select.specs.Images.{AreImage, turned}
 use Rattle.sm_model.specs.Relations.{Reaches}
 use Rattle.sm_select.proofs.MarkedNumbers.{marks_more, marks_none}
-use Rattle.sm_http_rules.specs.parts.Sides.{MayErr}
+use Rattle.sm_http_rules.specs.Sides.{MayErr}
 use Rattle.sm_http_rules.proofs.BoundSides.{may_err_told}
 use Rattle.sm_http_rules.proofs.sides.failing.Goals as goal
 

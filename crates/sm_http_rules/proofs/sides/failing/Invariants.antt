@@ -1,7 +1,7 @@
 use Rattle.std.proofs.Common.{◌≤◌, length}
 use Rattle.sm_model.specs.GraphView.{entries_of, maps_of}
 use Rattle.sm_model.specs.Reaching.{AreMarks, id_of_number}
-use Rattle.sm_http_rules.specs.parts.Sides.{MayErr}
+use Rattle.sm_http_rules.specs.Sides.{MayErr}
 use Rattle.sm_http_rules.proofs.sides.failing.Given as goal
 
 abbrev pub invariant-loop-number : goal.invariant-loop-number

@@ -1,6 +1,6 @@
 use Rattle.std.proofs.Common.{sym, ap, ◌∙◌}
 use Rattle.sm_http_rules.specs.declared.targets.Wanted.{Wanted}
-use Rattle.sm_http_rules.specs.parts.Allowing.{test_of}
+use Rattle.sm_http_rules.specs.steps.Allowing.{test_of}
 use Rattle.sm_http_rules.proofs.AllowedTold.{payload_same, spelled_same}
 use Rattle.sm_http_rules.proofs.targets.is_wanted.Goals as goal
 

@@ -2,7 +2,7 @@ use Rattle.std.proofs.Common.{sym, ◌∙◌}
 use Rattle.std.specs.FinMap as fin
 use Rattle.sm_model.specs.GraphView.{maps_of}
 use Rattle.sm_model.specs.Reaching.{id_of_number}
-use Rattle.sm_http_rules.specs.parts.Allowing.{test_of}
+use Rattle.sm_http_rules.specs.steps.Allowing.{test_of}
 use Rattle.sm_http_rules.proofs.TargetTested.{kind_passes, member_fails}
 use Rattle.sm_http_rules.proofs.targets.passes_at.Goals as goal
 

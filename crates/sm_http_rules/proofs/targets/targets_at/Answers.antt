@@ -2,8 +2,8 @@ use Rattle.std.proofs.Common.{refl, sym, ◌∙◌}
 use Rattle.std.specs.FinMap as fin
 use Rattle.sm_model.specs.GraphView.{maps_of}
 use Rattle.sm_model.specs.Reaching.{id_of_number}
-use Rattle.sm_compile.specs.rules.Bindings.{passes}
-use Rattle.sm_http_rules.specs.parts.Allowing.{test_of}
+use Rattle.sm_rules.specs.Bindings.{passes}
+use Rattle.sm_http_rules.specs.steps.Allowing.{test_of}
 use Rattle.sm_http_rules.proofs.TargetTested.{no_target, target_tested}
 use Rattle.sm_http_rules.proofs.targets.targets_at.Goals as goal
 

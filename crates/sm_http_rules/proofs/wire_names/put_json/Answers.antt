@@ -1,7 +1,7 @@
 use Rattle.std.proofs.Common.{sym, ap, ◌∙◌}
 use Rattle.sm_model.specs.GraphView.{maps_of}
 use Rattle.sm_model.specs.Reaching.{id_of_number}
-use Rattle.sm_http_rules.specs.parts.WireNames.{is_named}
+use Rattle.sm_http_rules.specs.steps.WireNames.{is_named}
 use Rattle.sm_http_rules.proofs.WireNamesTold.{json_put, no_json}
 use Rattle.sm_http_rules.proofs.wire_names.put_json.Goals as goal
 

@@ -1,8 +1,8 @@
 use Rattle.std.proofs.Common.{◌⊎◌}
 use Rattle.sm_model.specs.GraphView.{maps_of}
 use Rattle.sm_model.specs.Reaching.{id_of_number}
-use Rattle.sm_rules.proofs.EventsPut.{puts_both}
-use Rattle.sm_http_rules.specs.parts.WireNames.{ToldHeaders, ToldJson, ToldQueries}
+use Rattle.sm_passes.proofs.EventsPut.{puts_both}
+use Rattle.sm_http_rules.specs.steps.WireNames.{ToldHeaders, ToldJson, ToldQueries}
 use Rattle.sm_http_rules.proofs.wire_names.put_names.Goals as goal
 
 pub returns : goal.returns

@@ -1,8 +1,8 @@
 use Rattle.sm_model.specs.GraphView.{maps_of}
-use Rattle.sm_compile.specs.rules.WireNames.{HasWireNameAgain}
+use Rattle.sm_rules.specs.WireNames.{HasWireNameAgain}
 use Rattle.sm_rules.specs.declared.rule.Rule.TheVariants.{WireNames}
-use Rattle.sm_rules.proofs.Numbered.{puts_homes}
-use Rattle.sm_http_rules.specs.parts.WireNames.{home_of}
+use Rattle.sm_passes.proofs.Numbered.{puts_homes}
+use Rattle.sm_http_rules.specs.steps.WireNames.{home_of}
 use Rattle.sm_http_rules.proofs.WireNamesTold.{home_there}
 use Rattle.sm_http_rules.proofs.wire_names.put_wire_names.Goals as goal
 

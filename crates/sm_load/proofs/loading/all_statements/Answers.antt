@@ -5,7 +5,7 @@ use Rattle.std.specs.Vec.Iter.{into_iter_items}
 use Rattle.sm_model.specs.SaidView.{statements_view}
 use Rattle.sm_merge.specs.Files.{files_view}
 use Rattle.sm_load.specs.ModelFiles.{HaveStatements, file_view, given_files}
-use Rattle.sm_load.specs.parts.Stages.{AreBehind, StopsFiles}
+use Rattle.sm_load.specs.steps.Stages.{AreBehind, StopsFiles}
 use Rattle.sm_load.proofs.FilesSaid.{all_behind, file_stops, none_behind, one_behind}
 use Rattle.sm_load.proofs.loading.all_statements.Goals as goal
 

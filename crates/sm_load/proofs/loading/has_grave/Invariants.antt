@@ -1,5 +1,5 @@
 use Rattle.std.proofs.Common.{◌≡◌, drop}
-use Rattle.sm_load.specs.parts.Stages.{some_grave}
+use Rattle.sm_load.specs.steps.Stages.{some_grave}
 use Rattle.sm_load.proofs.loading.has_grave.Given as goal
 
 abbrev pub invariant-loop-event : goal.invariant-loop-event

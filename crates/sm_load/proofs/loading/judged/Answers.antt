@@ -1,6 +1,6 @@
 use Rattle.std.proofs.Common.{◌≡◌, refl, ap, sym, true, false, ◌∙◌}
 use Rattle.sm_model.specs.GraphView.{maps_of}
-use Rattle.sm_load.specs.parts.Stages.{some_grave}
+use Rattle.sm_load.specs.steps.Stages.{some_grave}
 use Rattle.sm_load.proofs.GraphsJudged.{rejected_by, rejects_none}
 use Rattle.sm_load.proofs.loading.judged.Goals as goal
 

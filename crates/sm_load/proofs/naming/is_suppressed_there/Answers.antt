@@ -3,7 +3,7 @@ use Rattle.sm_model.specs.GraphView.{maps_of}
 use Rattle.sm_model.specs.Reaching.{id_of_number}
 use Rattle.sm_compile.specs.Sound.{trait_of}
 use Rattle.sm_compile.specs.TraitIds.{suppress_id}
-use Rattle.sm_load.specs.parts.Naming.{where_names}
+use Rattle.sm_load.specs.steps.Naming.{where_names}
 use Rattle.sm_load.proofs.NamedEvents.{names_where}
 use Rattle.sm_load.proofs.naming.is_suppressed_there.Goals as goal
 

@@ -1,8 +1,8 @@
-use Rattle.std.proofs.Common.{rules}
+use Rattle.std.proofs.Common.{sym, subst}
 use Rattle.std.proofs.lemmas.Fn.{filter_same}
 use Rattle.sm_model.specs.EventView.{event_view}
 use Rattle.sm_model.specs.GraphView.{maps_of}
-use Rattle.sm_load.specs.parts.Suppressing.{stays}
+use Rattle.sm_load.specs.steps.Suppressing.{AreSuppressors, stays}
 use Rattle.sm_load.proofs.suppressed.without_suppressed.Goals as goal
 
 pub returns : goal.returns

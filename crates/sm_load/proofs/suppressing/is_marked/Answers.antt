@@ -1,7 +1,7 @@
 use Rattle.std.proofs.Common.{◌∙◌, sym, ap}
 use Rattle.sm_compile.specs.Sound.{trait_in}
 use Rattle.sm_compile.specs.TraitIds.{suppress_id}
-use Rattle.sm_compile.specs.TraitRows.{that_reads}
+use Rattle.sm_rules.specs.TraitRows.{that_reads}
 use Rattle.sm_load.specs.Suppressions.{node_names, nodes_in, some_node}
 use Rattle.sm_load.proofs.SuppressionsKept.{marked_there}
 use Rattle.sm_load.proofs.suppressing.is_marked.Goals as goal

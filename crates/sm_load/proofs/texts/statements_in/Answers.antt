@@ -1,6 +1,6 @@
 use Rattle.std.proofs.Common.{◌≡◌, rules, subst, true≢false, sym, ◌∙◌}
 use Rattle.sm_load.specs.ModelFiles.{EndsInJson, file_given}
-use Rattle.sm_load.specs.parts.Stages.{ReadsFile}
+use Rattle.sm_load.specs.steps.Stages.{ReadsFile}
 use Rattle.sm_load.proofs.texts.statements_in.Goals as goal
 
 pub returns-then-ends_in_json : goal.returns-then-ends_in_json

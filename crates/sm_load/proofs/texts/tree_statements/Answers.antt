@@ -2,7 +2,7 @@ use Rattle.std.proofs.Common.{Ok, Err, refl, subst}
 use Rattle.sm_tree.specs.View.{node_of}
 use Rattle.sm_load.specs.ModelFiles.{file_given}
 use Rattle.sm_load.specs.ModelFiles.HasStatements.{in_ast}
-use Rattle.sm_load.specs.parts.Stages.{ReadsTree}
+use Rattle.sm_load.specs.steps.Stages.{ReadsTree}
 use Rattle.sm_load.proofs.texts.tree_statements.Goals as goal
 
 pub returns-in-Err : goal.returns-in-Err

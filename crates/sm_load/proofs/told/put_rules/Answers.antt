@@ -1,6 +1,6 @@
 use Rattle.sm_model.specs.GraphView.{maps_of}
 use Rattle.sm_rules.specs.declared.rule.Rule.TheVariants as rule
-use Rattle.sm_load.proofs.RulesPut.{all_put, none_put, put_more}
+use Rattle.sm_load.proofs.RulesPut.{all_put, none_put, put_first}
 use Rattle.sm_load.proofs.told.put_rules.Goals as goal
 
 pub put_values-requires : goal.put_values-requires
@@ -42,26 +42,26 @@ put_unused-requires c = c.requires.are_ways
 pub returns : goal.returns
 returns c =
     let g = maps_of c.args.graph.now in
-    let put_0 = none_put g c.args.events.now.items in
-    let put_1 = put_more g _ rule.IdCase _ _ _ put_0 c.in_ok-put_twins.ensures in
-    let put_2 = put_more g _ rule.MemberCase _ _ _ put_1 c.in_ok-put_repeats.ensures in
-    let put_3 = put_more g _ rule.TargetMissing _ _ _ put_2 c.in_ok-put_missing.ensures in
-    let put_4 = put_more g _ rule.TargetKind _ _ _ put_3 c.in_ok-put_kinds.ensures in
-    let put_5 = put_more g _ rule.TraitUnknown _ _ _ put_4 c.in_ok-put_unknown.ensures in
-    let put_6 = put_more g _ rule.TraitValue _ _ _ put_5 c.in_ok-put_values.ensures in
-    let put_7 = put_more g _ rule.TraitPlace _ _ _ put_6 c.in_ok-put_places.ensures in
-    let put_8 = put_more g _ rule.TraitConflict _ _ _ put_7 c.in_ok-put_conflicts.ensures in
-    let put_9 = put_more g _ rule.TraitSingle _ _ _ put_8 c.in_ok-put_single.ensures in
-    let put_10 = put_more g _ rule.ShapeInfinite _ _ _ put_9 c.in_ok-put_infinite.ensures in
-    let put_11 = put_more g _ rule.EnumValues _ _ _ put_10 c.in_ok-put_enums.ensures in
-    let put_12 = put_more g _ rule.DefaultValue _ _ _ put_11 c.in_ok-put_defaults.ensures in
-    let put_13 = put_more g _ rule.ConstraintBounds _ _ _ put_12 c.in_ok-put_bounds.ensures in
-    let put_14 = put_more g _ rule.ServiceNames _ _ _ put_13 c.in_ok-put_names.ensures in
-    let put_15 = put_more g _ rule.HttpUri _ _ _ put_14 c.in_ok-put_uris.ensures in
-    let put_16 = put_more g _ rule.HttpLabels _ _ _ put_15 c.in_ok-put_labels.ensures in
-    let put_17 = put_more g _ rule.HttpTarget _ _ _ put_16 c.in_ok-put_bound_targets.ensures in
-    let put_18 = put_more g _ rule.WireNames _ _ _ put_17 c.in_ok-put_wire_names.ensures in
-    let put_19 = put_more g _ rule.HttpRoutes _ _ _ put_18 c.in_ok-put_routes.ensures in
-    let put_20 = put_more g _ rule.HttpCode _ _ _ put_19 c.in_ok-put_codes.ensures in
-    let put_21 = put_more g _ rule.HttpMethod _ _ _ put_20 c.in_ok-put_methods.ensures in
-    all_put g _ _ (put_more g _ rule.ShapeUnused _ _ _ put_21 c.in_ok-put_unused.ensures)
+    let rest_22 = none_put g c.put_unused.new.events.items in
+    let rest_21 = put_first g _ rule.ShapeUnused _ _ _ c.in_ok-put_unused.ensures rest_22 in
+    let rest_20 = put_first g _ rule.HttpMethod _ _ _ c.in_ok-put_methods.ensures rest_21 in
+    let rest_19 = put_first g _ rule.HttpCode _ _ _ c.in_ok-put_codes.ensures rest_20 in
+    let rest_18 = put_first g _ rule.HttpRoutes _ _ _ c.in_ok-put_routes.ensures rest_19 in
+    let rest_17 = put_first g _ rule.WireNames _ _ _ c.in_ok-put_wire_names.ensures rest_18 in
+    let rest_16 = put_first g _ rule.HttpTarget _ _ _ c.in_ok-put_bound_targets.ensures rest_17 in
+    let rest_15 = put_first g _ rule.HttpLabels _ _ _ c.in_ok-put_labels.ensures rest_16 in
+    let rest_14 = put_first g _ rule.HttpUri _ _ _ c.in_ok-put_uris.ensures rest_15 in
+    let rest_13 = put_first g _ rule.ServiceNames _ _ _ c.in_ok-put_names.ensures rest_14 in
+    let rest_12 = put_first g _ rule.ConstraintBounds _ _ _ c.in_ok-put_bounds.ensures rest_13 in
+    let rest_11 = put_first g _ rule.DefaultValue _ _ _ c.in_ok-put_defaults.ensures rest_12 in
+    let rest_10 = put_first g _ rule.EnumValues _ _ _ c.in_ok-put_enums.ensures rest_11 in
+    let rest_9 = put_first g _ rule.ShapeInfinite _ _ _ c.in_ok-put_infinite.ensures rest_10 in
+    let rest_8 = put_first g _ rule.TraitSingle _ _ _ c.in_ok-put_single.ensures rest_9 in
+    let rest_7 = put_first g _ rule.TraitConflict _ _ _ c.in_ok-put_conflicts.ensures rest_8 in
+    let rest_6 = put_first g _ rule.TraitPlace _ _ _ c.in_ok-put_places.ensures rest_7 in
+    let rest_5 = put_first g _ rule.TraitValue _ _ _ c.in_ok-put_values.ensures rest_6 in
+    let rest_4 = put_first g _ rule.TraitUnknown _ _ _ c.in_ok-put_unknown.ensures rest_5 in
+    let rest_3 = put_first g _ rule.TargetKind _ _ _ c.in_ok-put_kinds.ensures rest_4 in
+    let rest_2 = put_first g _ rule.TargetMissing _ _ _ c.in_ok-put_missing.ensures rest_3 in
+    let rest_1 = put_first g _ rule.MemberCase _ _ _ c.in_ok-put_repeats.ensures rest_2 in
+    all_put g _ _ (put_first g _ rule.IdCase _ _ _ c.in_ok-put_twins.ensures rest_1)

@@ -1,7 +1,7 @@
 use Rattle.std.proofs.Common.{subst}
 use Rattle.sm_model.specs.GraphView.{maps_of}
 use Rattle.sm_rules.specs.RuleEvents.{Puts}
-use Rattle.sm_load.specs.parts.Passes.{IsOfRule}
+use Rattle.sm_load.specs.steps.Passes.{IsOfRule}
 use Rattle.sm_load.proofs.ListTold.{events_told}
 use Rattle.sm_load.proofs.told.told_events.Goals as goal
 

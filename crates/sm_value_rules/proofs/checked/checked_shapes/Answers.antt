@@ -3,8 +3,8 @@ use Rattle.std.proofs.lemmas.Result.{IfOk-weaker}
 use Rattle.sm_model.specs.GraphView.{entries_of, maps_of}
 use Rattle.sm_model.specs.Reaching.{AreMarks, id_of_number}
 use Rattle.sm_select.specs.Neighbors.{AreBelow, AreNeighbors, AreReached}
-use Rattle.sm_value_rules.specs.NodeChecks.{IsChecked}
-use Rattle.sm_value_rules.specs.parts.Checking.{AreFaultMarks, AreValueLinks, is_checked_at}
+use Rattle.sm_rules.specs.NodeChecks.{IsChecked}
+use Rattle.sm_value_rules.specs.steps.Checking.{AreFaultMarks, AreValueLinks, is_checked_at}
 use Rattle.sm_value_rules.proofs.CheckedMarks.{all_checked, links_below, stay_below}
 use Rattle.sm_value_rules.proofs.checked.checked_shapes.Goals as goal
 

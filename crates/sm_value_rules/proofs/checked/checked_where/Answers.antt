@@ -2,7 +2,7 @@ use Rattle.std.proofs.Common.{◌≡◌, ◌+◌, ◌∙◌, ℕ, length, true, 
 use Rattle.sm_model.specs.GraphView.{entries_of}
 use Rattle.sm_model.specs.Reaching.{AreMarks}
 use Rattle.sm_select.proofs.MarkedNumbers.{marks_more, marks_none}
-use Rattle.sm_value_rules.specs.parts.Checking.{is_checked_at}
+use Rattle.sm_value_rules.specs.steps.Checking.{is_checked_at}
 use Rattle.sm_value_rules.proofs.checked.checked_where.Goals as goal
 
 pub loop-number-init : goal.loop-number-init

@@ -1,7 +1,7 @@
 use Rattle.std.proofs.Common.{◌≡◌, ◌≤◌, length, true}
 use Rattle.sm_model.specs.GraphView.{entries_of}
 use Rattle.sm_model.specs.Reaching.{AreMarks}
-use Rattle.sm_value_rules.specs.parts.Checking.{is_checked_at}
+use Rattle.sm_value_rules.specs.steps.Checking.{is_checked_at}
 use Rattle.sm_value_rules.proofs.checked.checked_where.Given as goal
 
 abbrev pub invariant-loop-number : goal.invariant-loop-number

@@ -1,8 +1,8 @@
 use Rattle.std.proofs.Common.{◌≡◌, ◌<◌, ◌+◌, ℕ, false, get_or, length, subst, sym, ap, ◌∙◌, arith}
 use Rattle.sm_model.specs.GraphView.{entries_of}
-use Rattle.sm_value_rules.specs.parts.Checking.{TellsFault}
+use Rattle.sm_value_rules.specs.steps.Checking.{TellsFault}
 use Rattle.sm_value_rules.proofs.CheckedMarks.{faults_marked}
-use Rattle.sm_value_rules.proofs.FirstTexts.{each_pushed, long_pushed}
+use Rattle.sm_trait_rules.proofs.FirstTexts.{each_pushed, long_pushed}
 use Rattle.sm_value_rules.proofs.checked.faulty_shapes.Goals as goal
 
 pub loop-number-preserved : goal.loop-number-preserved

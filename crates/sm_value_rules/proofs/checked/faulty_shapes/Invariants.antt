@@ -1,6 +1,6 @@
 use Rattle.std.proofs.Common.{◌≡◌, ◌<◌, ◌≤◌, ℕ, false, get_or, length}
 use Rattle.sm_model.specs.GraphView.{entries_of}
-use Rattle.sm_value_rules.specs.parts.Checking.{TellsFault}
+use Rattle.sm_value_rules.specs.steps.Checking.{TellsFault}
 use Rattle.sm_value_rules.proofs.checked.faulty_shapes.Given as goal
 
 abbrev pub invariant-loop-number : goal.invariant-loop-number

@@ -1,7 +1,7 @@
 use Rattle.std.proofs.Common.{inr, ap, sym, ◌∙◌}
 use Rattle.sm_model.specs.GraphView.{maps_of}
 use Rattle.sm_model.specs.Reaching.{id_of_number}
-use Rattle.sm_value_rules.specs.parts.Checking.{is_type_left_out}
+use Rattle.sm_value_rules.specs.steps.Checking.{is_type_left_out}
 use Rattle.sm_value_rules.proofs.CheckedMarks.{left_out_seen}
 use Rattle.sm_value_rules.proofs.checked.is_faulty.Goals as goal
 

@@ -1,6 +1,6 @@
 use Rattle.std.proofs.Common.{[], subst, sym}
 use Rattle.std.proofs.lemmas.List.{take_all}
-use Rattle.sm_value_rules.specs.parts.Checking.{AreOfValues}
+use Rattle.sm_value_rules.specs.steps.Checking.{AreOfValues}
 use Rattle.sm_value_rules.proofs.CheckedMarks.{none_of_values, values_next}
 use Rattle.sm_value_rules.proofs.checked.links_of_values.Goals as goal
 

@@ -1,5 +1,5 @@
 use Rattle.std.proofs.Common.{take}
-use Rattle.sm_value_rules.specs.parts.Checking.{AreOfValues}
+use Rattle.sm_value_rules.specs.steps.Checking.{AreOfValues}
 use Rattle.sm_value_rules.proofs.checked.links_of_values.Given as goal
 
 abbrev pub invariant-loop-link : goal.invariant-loop-link

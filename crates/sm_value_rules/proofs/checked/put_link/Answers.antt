@@ -1,6 +1,6 @@
 use Rattle.std.proofs.Common.{◌++◌, ◌∷◌, [], subst, sym}
 use Rattle.std.specs.Prelude.{MatchBool}
-use Rattle.sm_value_rules.specs.parts.Checking.{AreOfValues, IsOfValues}
+use Rattle.sm_value_rules.specs.steps.Checking.{AreOfValues, IsOfValues}
 use Rattle.sm_value_rules.proofs.CheckedMarks.{other_more, value_more}
 use Rattle.sm_value_rules.proofs.checked.put_link.Goals as goal
 

@@ -1,5 +1,5 @@
 use Rattle.std.proofs.lemmas.Result.{IfOk-weaker}
-use Rattle.sm_value_rules.specs.parts.Checking.{AreOfValues, AreValueLinks}
+use Rattle.sm_value_rules.specs.steps.Checking.{AreOfValues, AreValueLinks}
 use Rattle.sm_value_rules.proofs.CheckedMarks.{value_links_told}
 use Rattle.sm_value_rules.proofs.checked.value_links.Goals as goal
 

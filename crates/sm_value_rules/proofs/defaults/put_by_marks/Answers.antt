@@ -1,7 +1,7 @@
 use Rattle.std.proofs.Common.{subst, sym}
 use Rattle.std.specs.List.{Contains}
 use Rattle.sm_shapes.specs.AnyStore.{any_texts}
-use Rattle.sm_value_rules.specs.parts.Defaulting.{IsWantedTarget}
+use Rattle.sm_value_rules.specs.steps.Defaulting.{IsWantedTarget}
 use Rattle.sm_value_rules.proofs.NodesTold.{table_for}
 use Rattle.sm_value_rules.proofs.defaults.put_by_marks.Goals as goal
 

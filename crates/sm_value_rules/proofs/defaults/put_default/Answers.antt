@@ -5,8 +5,8 @@ use Rattle.sm_model.specs.Reaching.{id_of_number}
 use Rattle.sm_shapes.specs.AnyStore.{any_texts}
 use Rattle.sm_rules.specs.RuleEvents.{Puts, rule_event}
 use Rattle.sm_rules.specs.declared.rule.Rule.TheVariants.{DefaultValue}
-use Rattle.sm_value_rules.specs.parts.Defaulting.{IsWantedTarget}
-use Rattle.sm_value_rules.specs.parts.Nodes.{TellsRow}
+use Rattle.sm_value_rules.specs.steps.Defaulting.{IsWantedTarget}
+use Rattle.sm_value_rules.specs.steps.Nodes.{TellsRow}
 use Rattle.sm_value_rules.proofs.DefaultsTold.{faultless_put, kind_put, wanted}
 use Rattle.sm_value_rules.proofs.NodesTold.{faults_told}
 use Rattle.sm_value_rules.proofs.defaults.put_default.Goals as goal

@@ -1,7 +1,7 @@
 use Rattle.std.proofs.Common.{length, subst, sym}
 use Rattle.sm_model.specs.GraphView.{entries_of, maps_of}
 use Rattle.sm_model.specs.Reaching.{AreMarks, id_of_number}
-use Rattle.sm_value_rules.specs.NodeChecks.{IsChecked}
+use Rattle.sm_rules.specs.NodeChecks.{IsChecked}
 use Rattle.sm_value_rules.proofs.defaults.put_defaults.Goals as goal
 
 pub put_by_marks-requires : goal.put_by_marks-requires

@@ -3,11 +3,11 @@ use Rattle.sm_model.specs.GraphView.{entries_of, maps_of}
 use Rattle.sm_model.specs.Reaching.{id_of_number}
 use Rattle.sm_rules.specs.RuleEvents.{Puts}
 use Rattle.sm_rules.specs.declared.rule.Rule.TheVariants.{DefaultValue}
-use Rattle.sm_rules.specs.parts.Putting.{Below}
-use Rattle.sm_rules.proofs.EventsPut.{puts_begun, puts_next}
-use Rattle.sm_rules.proofs.Numbered.{puts_homes}
-use Rattle.sm_value_rules.specs.parts.Defaulting.{ToldDefaults}
-use Rattle.sm_value_rules.specs.rules.Values.{HasWrongDefault}
+use Rattle.sm_passes.specs.Putting.{Below}
+use Rattle.sm_passes.proofs.EventsPut.{puts_begun, puts_next}
+use Rattle.sm_passes.proofs.Numbered.{puts_homes}
+use Rattle.sm_value_rules.specs.steps.Defaulting.{ToldDefaults}
+use Rattle.sm_rules.specs.Defaults.{HasWrongDefault}
 use Rattle.sm_value_rules.proofs.DefaultsTold.{home_of, homes_there}
 use Rattle.sm_value_rules.proofs.defaults.put_in_shapes.Goals as goal
 

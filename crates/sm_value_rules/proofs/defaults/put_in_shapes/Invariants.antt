@@ -2,9 +2,9 @@ use Rattle.std.proofs.Common.{◌≤◌, length}
 use Rattle.sm_model.specs.GraphView.{entries_of, maps_of}
 use Rattle.sm_model.specs.Reaching.{id_of_number}
 use Rattle.sm_rules.specs.RuleEvents.{Puts}
-use Rattle.sm_rules.specs.parts.Putting.{Below}
-use Rattle.sm_value_rules.specs.parts.Defaulting.{IsWantedTarget, ToldDefaults}
-use Rattle.sm_value_rules.specs.parts.Nodes.{IsNodeTable}
+use Rattle.sm_passes.specs.Putting.{Below}
+use Rattle.sm_value_rules.specs.steps.Defaulting.{IsWantedTarget, ToldDefaults}
+use Rattle.sm_value_rules.specs.steps.Nodes.{IsNodeTable}
 use Rattle.sm_value_rules.proofs.defaults.put_in_shapes.Given as goal
 
 abbrev pub invariant-loop-number : goal.invariant-loop-number

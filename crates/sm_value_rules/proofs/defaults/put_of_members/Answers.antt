@@ -3,9 +3,9 @@ use Rattle.std.proofs.lemmas.List.{drop_more, get_or_default, take_all}
 use Rattle.sm_model.specs.GraphView.{AreShapeNumbers, maps_of}
 use Rattle.sm_model.specs.Reaching.{id_of_number}
 use Rattle.sm_rules.specs.RuleEvents.{Puts}
-use Rattle.sm_rules.specs.parts.Putting.{ToldOf}
-use Rattle.sm_rules.proofs.ListPut.{none_of, put_next}
-use Rattle.sm_value_rules.specs.parts.Defaulting.{ToldDefault}
+use Rattle.sm_passes.specs.Putting.{ToldOf}
+use Rattle.sm_passes.proofs.ListPut.{none_of, put_next}
+use Rattle.sm_value_rules.specs.steps.Defaulting.{ToldDefault}
 use Rattle.sm_value_rules.proofs.defaults.put_of_members.Goals as goal
 
 pub loop-member-init : goal.loop-member-init

@@ -2,9 +2,9 @@ use Rattle.std.proofs.Common.{drop, take}
 use Rattle.sm_model.specs.GraphView.{AreShapeNumbers, maps_of}
 use Rattle.sm_model.specs.Reaching.{id_of_number}
 use Rattle.sm_rules.specs.RuleEvents.{Puts}
-use Rattle.sm_rules.specs.parts.Putting.{ToldOf}
-use Rattle.sm_value_rules.specs.parts.Defaulting.{IsWantedTarget, ToldDefault}
-use Rattle.sm_value_rules.specs.parts.Nodes.{IsNodeTable}
+use Rattle.sm_passes.specs.Putting.{ToldOf}
+use Rattle.sm_value_rules.specs.steps.Defaulting.{IsWantedTarget, ToldDefault}
+use Rattle.sm_value_rules.specs.steps.Nodes.{IsNodeTable}
 use Rattle.sm_value_rules.proofs.defaults.put_of_members.Given as goal
 
 abbrev pub invariant-loop-member : goal.invariant-loop-member

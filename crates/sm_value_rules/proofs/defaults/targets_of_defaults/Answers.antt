@@ -1,7 +1,7 @@
 use Rattle.std.proofs.Common.{◌≤◌, length, subst, sym, arith}
 use Rattle.sm_model.specs.GraphView.{entries_of}
-use Rattle.sm_value_rules.specs.parts.Defaulting.{WantsTarget}
-use Rattle.sm_value_rules.specs.parts.Nodes.{AreRoots}
+use Rattle.sm_value_rules.specs.steps.Defaulting.{WantsTarget}
+use Rattle.sm_value_rules.specs.steps.Nodes.{AreRoots}
 use Rattle.sm_value_rules.proofs.NodesTold.{no_roots, roots_all, roots_next}
 use Rattle.sm_value_rules.proofs.defaults.targets_of_defaults.Goals as goal
 

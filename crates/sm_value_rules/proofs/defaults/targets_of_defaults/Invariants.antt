@@ -1,5 +1,5 @@
-use Rattle.sm_value_rules.specs.parts.Defaulting.{WantsTarget}
-use Rattle.sm_value_rules.specs.parts.Nodes.{AreRoots}
+use Rattle.sm_value_rules.specs.steps.Defaulting.{WantsTarget}
+use Rattle.sm_value_rules.specs.steps.Nodes.{AreRoots}
 use Rattle.sm_value_rules.proofs.defaults.targets_of_defaults.Given as goal
 
 abbrev pub invariant-loop-number : goal.invariant-loop-number

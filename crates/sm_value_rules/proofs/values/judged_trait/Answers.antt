@@ -2,7 +2,7 @@ use Rattle.std.proofs.Common.{subst, sym, ◌∙◌}
 use Rattle.sm_model.specs.GraphView.{maps_of}
 use Rattle.sm_model.proofs.Worklist.{apart}
 use Rattle.sm_compile.proofs.LookedUp.{stands_is}
-use Rattle.sm_value_rules.specs.parts.Valuing.{IsJudgedTrait}
+use Rattle.sm_value_rules.specs.steps.Valuing.{IsJudgedTrait}
 use Rattle.sm_value_rules.proofs.ValuesTold.{judged_told, told_judged}
 use Rattle.sm_value_rules.proofs.values.judged_trait.Goals as goal
 

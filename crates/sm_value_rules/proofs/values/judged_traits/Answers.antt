@@ -1,7 +1,7 @@
 use Rattle.std.proofs.Common.{◌≤◌, length, subst, sym, arith}
 use Rattle.sm_model.specs.GraphView.{entries_of}
-use Rattle.sm_value_rules.specs.parts.Valuing.{WantsTrait}
-use Rattle.sm_value_rules.specs.parts.Nodes.{AreRoots}
+use Rattle.sm_value_rules.specs.steps.Valuing.{WantsTrait}
+use Rattle.sm_value_rules.specs.steps.Nodes.{AreRoots}
 use Rattle.sm_value_rules.proofs.NodesTold.{no_roots, roots_all, roots_next}
 use Rattle.sm_value_rules.proofs.values.judged_traits.Goals as goal
 

@@ -6,7 +6,8 @@ use Rattle.sm_model.specs.GraphView.{maps_of}
 use Rattle.sm_model.specs.PreludeShapes.{is_prelude_id}
 use Rattle.sm_model.specs.Reaching.{id_of_number}
 use Rattle.sm_model.proofs.NumberedIds.{entry_here}
-use Rattle.sm_value_rules.proofs.ValuesTold.{traits_there, values_put}
+use Rattle.sm_trait_rules.proofs.TraitsThere.{traits_there}
+use Rattle.sm_value_rules.proofs.ValuesTold.{values_put}
 use Rattle.sm_value_rules.proofs.values.put_at.Goals as goal
 
 pub put_of_traits-requires-clause-traits : goal.put_of_traits-requires-clause-traits

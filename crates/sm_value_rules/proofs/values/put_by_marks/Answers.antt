@@ -1,7 +1,7 @@
 use Rattle.std.proofs.Common.{subst, sym}
 use Rattle.std.specs.List.{Contains}
 use Rattle.sm_shapes.specs.AnyStore.{any_texts}
-use Rattle.sm_value_rules.specs.parts.Valuing.{IsWantedTrait}
+use Rattle.sm_value_rules.specs.steps.Valuing.{IsWantedTrait}
 use Rattle.sm_value_rules.proofs.NodesTold.{table_for}
 use Rattle.sm_value_rules.proofs.values.put_by_marks.Goals as goal
 

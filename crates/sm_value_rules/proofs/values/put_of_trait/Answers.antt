@@ -1,7 +1,7 @@
 use Rattle.std.proofs.Common.{subst, sym}
 use Rattle.sm_model.specs.GraphView.{maps_of}
 use Rattle.sm_model.specs.Reaching.{id_of_number}
-use Rattle.sm_value_rules.specs.parts.Valuing.{IsJudgedTrait}
+use Rattle.sm_value_rules.specs.steps.Valuing.{IsJudgedTrait}
 use Rattle.sm_value_rules.proofs.ValuesTold.{unjudged_put}
 use Rattle.sm_value_rules.proofs.values.put_of_trait.Goals as goal
 

@@ -3,9 +3,9 @@ use Rattle.std.proofs.lemmas.List.{take_all}
 use Rattle.sm_model.specs.GraphView.{maps_of}
 use Rattle.sm_model.specs.Reaching.{id_of_number}
 use Rattle.sm_rules.specs.RuleEvents.{Puts}
-use Rattle.sm_rules.specs.parts.Putting.{ToldOf}
-use Rattle.sm_rules.proofs.ListPut.{none_of, put_next}
-use Rattle.sm_value_rules.specs.parts.Valuing.{ToldValue}
+use Rattle.sm_passes.specs.Putting.{ToldOf}
+use Rattle.sm_passes.proofs.ListPut.{none_of, put_next}
+use Rattle.sm_value_rules.specs.steps.Valuing.{ToldValue}
 use Rattle.sm_value_rules.proofs.values.put_of_traits.Goals as goal
 
 pub loop-pair-init : goal.loop-pair-init

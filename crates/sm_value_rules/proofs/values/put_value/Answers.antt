@@ -5,9 +5,9 @@ use Rattle.sm_model.specs.Reaching.{id_of_number}
 use Rattle.sm_shapes.specs.AnyStore.{any_texts}
 use Rattle.sm_rules.specs.RuleEvents.{Puts, rule_event}
 use Rattle.sm_rules.specs.declared.rule.Rule.TheVariants.{TraitValue}
-use Rattle.sm_value_rules.specs.NodeChecks.{IsChecked}
-use Rattle.sm_value_rules.specs.parts.Nodes.{TellsFaults, TellsRow}
-use Rattle.sm_value_rules.specs.parts.Valuing.{IsWantedTrait}
+use Rattle.sm_rules.specs.NodeChecks.{IsChecked}
+use Rattle.sm_value_rules.specs.steps.Nodes.{TellsFaults, TellsRow}
+use Rattle.sm_value_rules.specs.steps.Valuing.{IsWantedTrait}
 use Rattle.sm_value_rules.proofs.NodesTold.{faults_told}
 use Rattle.sm_value_rules.proofs.ValuesTold.{faultless_put, faulty_put, wanted}
 use Rattle.sm_value_rules.proofs.values.put_value.Goals as goal

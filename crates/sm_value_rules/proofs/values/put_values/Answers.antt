@@ -1,8 +1,8 @@
 use Rattle.sm_model.specs.GraphView.{maps_of}
-use Rattle.sm_compile.specs.rules.Traits.{HasOtherValue}
+use Rattle.sm_rules.specs.Traits.{HasOtherValue}
 use Rattle.sm_rules.specs.declared.rule.Rule.TheVariants.{TraitValue}
-use Rattle.sm_value_rules.specs.rules.Traits.{HasFaultyValue, HasWrongValue}
-use Rattle.sm_value_rules.proofs.PartsPut.{puts_parts}
+use Rattle.sm_rules.specs.TraitShapes.{HasFaultyValue, HasWrongValue}
+use Rattle.sm_passes.proofs.PartsPut.{puts_parts}
 use Rattle.sm_value_rules.proofs.ValuesTold.{value_parts}
 use Rattle.sm_value_rules.proofs.values.put_values.Goals as goal
 

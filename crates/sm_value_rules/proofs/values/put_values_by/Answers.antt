@@ -2,10 +2,10 @@ use Rattle.std.proofs.Common.{◌≤◌, length, arith}
 use Rattle.sm_model.specs.GraphView.{entries_of, maps_of}
 use Rattle.sm_model.specs.Reaching.{id_of_number}
 use Rattle.sm_rules.specs.declared.rule.Rule.TheVariants.{TraitValue}
-use Rattle.sm_rules.proofs.EventsPut.{puts_begun, puts_next}
-use Rattle.sm_rules.proofs.Numbered.{puts_numbers}
-use Rattle.sm_value_rules.specs.parts.Valuing.{ToldValues}
-use Rattle.sm_value_rules.specs.rules.Traits.{HasFaultyValue}
+use Rattle.sm_passes.proofs.EventsPut.{puts_begun, puts_next}
+use Rattle.sm_passes.proofs.Numbered.{puts_numbers}
+use Rattle.sm_value_rules.specs.steps.Valuing.{ToldValues}
+use Rattle.sm_rules.specs.TraitShapes.{HasFaultyValue}
 use Rattle.sm_value_rules.proofs.ValuesTold.{value_there}
 use Rattle.sm_value_rules.proofs.values.put_values_by.Goals as goal
 

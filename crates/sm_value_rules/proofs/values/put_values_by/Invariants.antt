@@ -1,9 +1,9 @@
 use Rattle.sm_model.specs.GraphView.{maps_of}
 use Rattle.sm_model.specs.Reaching.{id_of_number}
 use Rattle.sm_rules.specs.RuleEvents.{Puts}
-use Rattle.sm_rules.specs.parts.Putting.{Below}
-use Rattle.sm_value_rules.specs.parts.Nodes.{IsNodeTable}
-use Rattle.sm_value_rules.specs.parts.Valuing.{IsWantedTrait, ToldValues}
+use Rattle.sm_passes.specs.Putting.{Below}
+use Rattle.sm_value_rules.specs.steps.Nodes.{IsNodeTable}
+use Rattle.sm_value_rules.specs.steps.Valuing.{IsWantedTrait, ToldValues}
 use Rattle.sm_value_rules.proofs.values.put_values_by.Given as goal
 
 abbrev pub invariant-loop-number : goal.invariant-loop-number

@@ -2,8 +2,8 @@ use Rattle.std.proofs.Common.{sym, subst, length}
 use Rattle.sm_model.specs.GraphView.{entries_of, maps_of}
 use Rattle.sm_model.specs.Reaching.{AreMarks, id_of_number}
 use Rattle.sm_model.specs.declared.relation.Relation.TheVariants.{Input, Output, Error}
-use Rattle.sm_compile.specs.rules.Bindings.{IsHttpOperation}
-use Rattle.sm_http_rules.specs.parts.Sides.{MayErr}
+use Rattle.sm_rules.specs.Bindings.{IsHttpOperation}
+use Rattle.sm_http_rules.specs.Sides.{MayErr}
 use Rattle.sm_http_rules.proofs.BoundSides.{errors_marked, from_marked, operations_marked}
 use Rattle.sm_http_rules.proofs.sides.Sides.new.Goals as goal
 

@@ -1,0 +1,13 @@
+pub mod Limits
+pub mod Lines
+pub mod IdlLines
+pub mod Outside
+pub mod Answer
+pub mod Stages
+pub mod Words
+pub mod ModelFiles
+pub mod Asked
+pub mod AskedLaws
+pub mod Comes
+pub mod Loading
+pub mod steps

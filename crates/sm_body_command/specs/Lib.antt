@@ -1,0 +1,4 @@
+pub mod BodyWords
+pub mod BodyStages
+pub mod Body
+pub mod steps

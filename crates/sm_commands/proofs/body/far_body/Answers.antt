@@ -1,7 +1,0 @@
-use Rattle.sm_bodies.specs.AnswerView.{text_answer}
-use Rattle.sm_commands.proofs.Bodies.{text_comes}
-use Rattle.sm_commands.proofs.body.far_body.Goals as goal
-
-pub returns-in-Ok-clause-comes : goal.returns-in-Ok-clause-comes
-returns-in-Ok-clause-comes g c = text_comes _ _ _ _ _ _ (text_answer c.in-Ok.answer) c.printed_answer.result c.in-Ok.ensures.answers
-    c.printed_answer.ensures

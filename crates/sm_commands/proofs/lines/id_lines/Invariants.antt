@@ -1,8 +1,0 @@
-use Rattle.std.proofs.Common.{◌≡◌, ◌++◌, drop}
-use Rattle.sm_commands.specs.Lines.{id_lines}
-use Rattle.sm_commands.proofs.lines.id_lines.Given as goal
-
-abbrev pub invariant-loop-id : goal.invariant-loop-id
-invariant-loop-id l = record {
-  lines : l.lines.items ++ id_lines (drop l.id-index l.ids) ≡ id_lines l.ids;
-}

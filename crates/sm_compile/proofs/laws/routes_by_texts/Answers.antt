@@ -1,5 +1,0 @@
-use Rattle.sm_compile.proofs.UriRouted.{routes_by_texts}
-use Rattle.sm_compile.proofs.laws.routes_by_texts.Goals as goal
-
-pub returns : goal.returns
-returns c = routes_by_texts

@@ -1,9 +1,0 @@
-pub mod Words
-pub mod Names
-pub mod Targets
-pub mod Traits
-pub mod Constraints
-pub mod Services
-pub mod Bindings
-pub mod Http
-pub mod WireNames

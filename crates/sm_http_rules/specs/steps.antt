@@ -1,0 +1,12 @@
+pub mod Allowing
+pub mod Binding
+pub mod BoundTargets
+pub mod Codes
+pub mod InBody
+pub mod Labels
+pub mod LeftOut
+pub mod Naming
+pub mod Routes
+pub mod SameRoutes
+pub mod Shortest
+pub mod WireNames

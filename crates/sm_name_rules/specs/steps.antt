@@ -1,0 +1,3 @@
+pub mod NameTwins
+pub mod Naming
+pub mod Renaming

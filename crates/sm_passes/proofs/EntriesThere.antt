@@ -1,0 +1,15 @@
+-- What stands at the numbers of a graph.
+use Rattle.std.proofs.Common.{ℕ, sym, subst}
+use Rattle.sm_model.specs.Graphs.{Entry}
+use Rattle.sm_model.specs.GraphView.{IsShapeNumber, maps_of}
+use Rattle.sm_model.specs.Reaching.{id_of_number}
+use Rattle.sm_model.specs.Relations.{HasEntry}
+use Rattle.sm_model.specs.declared.graph.Graph.{Graph}
+use Rattle.sm_model.proofs.GraphFacts.{entry_under, id_at}
+use Rattle.sm_model.proofs.LinkNumbers.{stands_at}
+
+-- something stands at each number
+pub entry_there : (g : Graph) (k : ℕ) → IsShapeNumber g k → (e : Entry) × HasEntry (maps_of g) (id_of_number g k) e
+entry_there g k within =
+    let s = stands_at g k within in
+    (s.1, subst (λ i. HasEntry (maps_of g) i s.1) (sym (id_at g k s.0 s.1 s.2)) (entry_under g k s.0 s.1 s.2))

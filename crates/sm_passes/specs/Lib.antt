@@ -1,0 +1,12 @@
+pub mod Putting
+pub mod Owned
+pub mod Carrying
+pub mod Folded
+pub mod Firsts
+pub mod Earlier
+pub mod Closures
+pub mod Http
+pub mod Forms
+pub mod Places
+pub mod RowTests
+pub mod steps

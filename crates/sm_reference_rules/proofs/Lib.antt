@@ -1,0 +1,7 @@
+mod BodyReferences
+mod FiniteFound
+mod FiniteMoves
+mod FiniteTold
+mod MissingTargets
+mod TargetKinds
+mod UnusedShapes

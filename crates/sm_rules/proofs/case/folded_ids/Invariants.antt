@@ -1,6 +1,0 @@
-use Rattle.std.proofs.Common.{◌≡◌}
-use Rattle.sm_rules.specs.parts.Folded.{folded_below}
-use Rattle.sm_rules.proofs.case.folded_ids.Given as goal
-
-abbrev pub invariant-loop-number : goal.invariant-loop-number
-invariant-loop-number l = l.rows.items ≡ folded_below l.graph l.number

@@ -1,6 +1,0 @@
-use Rattle.std.proofs.Common.{sym, ◌∙◌}
-use Rattle.sm_rules.proofs.RowTested.{row_named}
-use Rattle.sm_rules.proofs.known.has_row.Goals as goal
-
-pub returns : goal.returns
-returns c = c.some_row.ensures ∙ sym (row_named c.args.name.now)

@@ -1,6 +1,0 @@
-use Rattle.std.proofs.Common.{take, ◌≡◌}
-use Rattle.std.specs.Map.{values_of}
-use Rattle.sm_rules.proofs.numbers.numbers_of.Given as goal
-
-abbrev pub invariant-loop-row : goal.invariant-loop-row
-invariant-loop-row g l = l.numbers.items ≡ values_of (take l.row-index l.rows)

@@ -1,6 +1,0 @@
-use Rattle.std.proofs.Common.{◌∙◌}
-use Rattle.sm_rules.proofs.RowTested.{defaulted_kind_same}
-use Rattle.sm_rules.proofs.rows.kinds.is_defaulted_kind.Goals as goal
-
-pub returns : goal.returns
-returns c = c.is_no_container.ensures ∙ defaulted_kind_same c.args.kind

@@ -1,6 +1,0 @@
-use Rattle.std.proofs.Common.{◌∙◌}
-use Rattle.sm_rules.proofs.RowTested.{trait_kind_same}
-use Rattle.sm_rules.proofs.rows.kinds.is_trait_kind.Goals as goal
-
-pub returns : goal.returns
-returns c = c.has_values.ensures ∙ trait_kind_same c.args.kind

@@ -1,5 +1,0 @@
-use Rattle.sm_rules.proofs.TableTold.{values_put}
-use Rattle.sm_rules.proofs.table_rules.put_other_values.Goals as goal
-
-pub returns : goal.returns
-returns c = values_put c.args.graph.now c.args.events.now.items c.put_each.new.events.items c.in_ok-put_each.ensures

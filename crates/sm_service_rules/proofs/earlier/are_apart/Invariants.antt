@@ -1,6 +1,0 @@
-use Rattle.std.proofs.Common.{◌≡◌, ◌<◌, None, ℕ}
-use Rattle.sm_service_rules.specs.parts.NameTwins.{earlier_in}
-use Rattle.sm_service_rules.proofs.earlier.are_apart.Given as goal
-
-abbrev pub invariant-loop-first : goal.invariant-loop-first
-invariant-loop-first l = (k : ℕ) → k < l.first-index → earlier_in l.earlier k ≡ None

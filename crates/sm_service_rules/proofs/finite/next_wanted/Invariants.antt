@@ -1,6 +1,0 @@
-use Rattle.sm_model.specs.Reaching.{IsMarked}
-use Rattle.sm_service_rules.specs.parts.Finding.{PassedTo}
-use Rattle.sm_service_rules.proofs.finite.next_wanted.Given as goal
-
-abbrev pub invariant-loop-place : goal.invariant-loop-place
-invariant-loop-place l = PassedTo l.graph (IsMarked l.marks) l.members l.from l.place

@@ -1,6 +1,0 @@
-use Rattle.std.proofs.Common.{take}
-use Rattle.sm_service_rules.specs.parts.Renaming.{HasAlike}
-use Rattle.sm_service_rules.proofs.given_names.numbers_in_turn.Given as goal
-
-abbrev pub invariant-loop-pair : goal.invariant-loop-pair
-invariant-loop-pair l = HasAlike l.graph l.names.inside.now (take l.pair-index l.pairs) l.numbers.items

@@ -1,4 +1,0 @@
-pub mod Naming
-pub mod NameTwins
-pub mod Renaming
-pub mod Finding

@@ -1,6 +1,0 @@
-use Rattle.sm_target_rules.proofs.ValuesTaken.{none_held}
-use Rattle.sm_target_rules.proofs.values.Seen.new.Goals as goal
-
-pub returns : goal.returns
-returns c = none_held (record { texts = c.new-texts.result; numbers = c.new-numbers.result }) c.new-texts.ensures.empty
-    c.new-numbers.ensures.empty

@@ -1,5 +1,0 @@
-pub mod Enums
-pub mod Missing
-pub mod References
-pub mod SeenValues
-pub mod Targets

@@ -1,0 +1,114 @@
+// What `--help` prints: of the program, and of each command.
+
+/// What `--version` prints.
+pub const VERSION: &str = "sm_tool 0.1.0\n";
+
+/// What `--help` prints.
+pub const HELP: &str = "\
+sm_tool body MODELFILE SHAPE NEAR FAR
+    Reads a body of the shape from standard input in the form NEAR, and prints it in the form FAR: json or cbor.
+sm_tool check MODEL..
+    Prints the events of model files by the rules of models: SEVERITY ID SHAPE DETAIL, one a line.
+sm_tool convert MODEL.. FORM
+    Merges model files, and prints their graph: as a text of the JSON AST (ast), or a namespace of it in the IDL (idl:NAMESPACE).
+sm_tool select MODEL.. SELECTOR
+    Prints the ids of the shapes and members that a selector picks in their graph.
+sm_tool COMMAND --help
+    Says more of a command, with an example and its statuses.
+sm_tool --help
+sm_tool --version
+";
+
+const BODY: &str = "\
+sm_tool body MODELFILE SHAPE NEAR FAR
+    Reads a body of the shape from standard input in the form NEAR, and prints it in the form FAR.
+
+MODELFILE  one model file: the JSON AST where its name ends in .json, else the IDL
+SHAPE      the id of a shape that has values, as shop#Item or smithy.api#String
+NEAR, FAR  json or cbor
+
+    $ printf '{ \"total\": -7, \"id\": \"a\\\\u0062\" }' | sm_tool body shop.json shop#Item json json
+    {\"id\":\"ab\",\"total\":-7}
+
+status 0  the body is printed
+       1  the model, the shape or the body is refused: a line says why
+       2  the words have no form            3  a file or the input can't be read
+       4  the output can't be written       5  memory ran out
+       6  a pattern of the shape is no regular expression that is known here
+       7  a limit is passed: a file of 4,194,304 bytes, a body of 1,048,576, or one on the size of a model
+";
+
+const CHECK: &str = "\
+sm_tool check MODEL..
+    Prints every event of the model that the files say, by the rules of models: SEVERITY ID SHAPE DETAIL, one a line.
+
+MODEL  a model file: the JSON AST where its name ends in .json, else the IDL; 64 at most
+
+    $ sm_tool check bad.smithy
+    ERROR Constraint.Bounds bad#S length
+    ERROR Target.Missing bad#T$id bad#Nope
+
+status 0  no event is an ERROR, and the model is as it should be
+       1  some event is, or a file is no model: a line says where
+       2  the words have no form            3  a file can't be read
+       4  the output can't be written       5  memory ran out
+       7  a limit is passed: 64 files, 4,194,304 bytes of a file, 33,554,432 of all, or one on the size of a model
+";
+
+const CONVERT: &str = "\
+sm_tool convert MODEL.. FORM
+    Merges model files, and prints the graph that they say as one canonical text.
+
+MODEL  a model file: the JSON AST where its name ends in .json, else the IDL; 64 at most
+FORM   ast for the JSON AST, idl:NAMESPACE for a namespace of it in the IDL
+
+    $ sm_tool convert shop.json idl:shop
+    $version: \"2.0\"
+    namespace shop
+    ..
+
+status 0  the text is printed
+       1  a file is no model, or the model is rejected: a line says why
+       2  the words have no form            3  a file can't be read
+       4  the output can't be written       5  memory ran out
+       7  a limit is passed: 64 files, 4,194,304 bytes of a file, 33,554,432 of all, or one on the size of a model
+";
+
+const SELECT: &str = "\
+sm_tool select MODEL.. SELECTOR
+    Prints the ids of the shapes and members that a selector picks in the graph of model files, one a line.
+
+MODEL     a model file: the JSON AST where its name ends in .json, else the IDL; 64 at most
+SELECTOR  a selector (Smithy 2.0, \"Selectors\"), as one word of the command line
+
+    $ sm_tool select shop.json 'member[trait|required]'
+    shop#Item$id
+
+status 0  the ids are printed, of which there may be none
+       1  a file is no model, the model is rejected, or the last word is no selector: a line says why
+       2  the words have no form            3  a file can't be read
+       4  the output can't be written       5  memory ran out
+       7  a limit is passed: 64 files, 4,194,304 bytes of a file, 33,554,432 of all, or one on the size of a model
+";
+
+/// What a command says of itself.
+pub fn help_of(command: &str) -> Option<&'static str> {
+    match command {
+        "body" => Some(BODY),
+        "check" => Some(CHECK),
+        "convert" => Some(CONVERT),
+        "select" => Some(SELECT),
+        _ => None,
+    }
+}
+
+/// The form of the words of a command; where there is no such command, those of the program.
+pub fn usage_of(command: &str) -> &'static str {
+    match command {
+        "body" => "sm_tool body MODELFILE SHAPE NEAR FAR, where NEAR and FAR are json or cbor",
+        "check" => "sm_tool check MODEL..",
+        "convert" => "sm_tool convert MODEL.. FORM, where FORM is ast, or idl: and a namespace",
+        "select" => "sm_tool select MODEL.. SELECTOR",
+        _ => "sm_tool body, check, convert or select and its words; sm_tool --help lists them",
+    }
+}

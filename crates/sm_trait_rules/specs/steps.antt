@@ -1,0 +1,7 @@
+pub mod Conflicting
+pub mod Excluding
+pub mod Judging
+pub mod Knowing
+pub mod Placing
+pub mod StandingTraits
+pub mod Twice

@@ -1,0 +1,3 @@
+pub mod UriPattern
+pub mod UriRoutes
+pub mod steps
