@@ -1,4 +1,5 @@
 use Rattle.std.proofs.Common.{◌≡◌, ◌++◌, drop}
+use Rattle.sm_tree.specs.Node.{members_of}
 use Rattle.sm_tree.specs.View.{members_view, node_of}
 use Rattle.sm_model.specs.FieldsView.{fields_view}
 use Rattle.sm_model.specs.Properties.{property_forms}
@@ -9,5 +10,5 @@ use Rattle.sm_ast.proofs.write.property.put_properties.Given as goal
 abbrev pub invariant-loop-field : goal.invariant-loop-field
 invariant-loop-field l =
     members_view l.fields.items
-    ++ written_properties (fields_view (drop l.field-index l.wanted)) (pairs_said (node_of l.body))
-    ≡ members_view l.initial.fields.items ++ written_properties (property_forms l.kind) (pairs_said (node_of l.body))
+    ++ written_properties (fields_view (drop l.field-index l.wanted)) (members_of (members_view l.pairs))
+    ≡ members_view l.fn.fields.items ++ written_properties (property_forms l.kind) (pairs_said (node_of l.body))
