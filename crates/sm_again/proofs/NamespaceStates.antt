@@ -1,10 +1,7 @@
 -- What the file of a namespace says of a shape is the shape as the graph has it: so it states this part of the graph.
-use Rattle.std.proofs.Common.{◌≡◌, ◌<◌, inl, inr, ℕ, Bool, true, false, List, [], ◌∷◌, ◌++◌, map, length, Option, Some, None}
+use Rattle.std.proofs.Common.{◌≡◌, ◌<◌, inl, inr, ℕ, Bool, true, false, List, [], ◌∷◌, ◌++◌, map, Option, Some, None}
 use Rattle.std.proofs.Common.{refl, sym, ap, subst, ◌∙◌}
-use Rattle.std.proofs.Common.{arith, length-append, length-take}
-use Rattle.std.specs.List.{position_or_len}
 use Rattle.std.specs.FinMap as fin
-use Rattle.sm_bytes.specs.Ascii.{dollar}
 use Rattle.sm_ids.specs.IdText.{IsIdText}
 use Rattle.sm_tree.specs.Node.{Node, Members, object}
 use Rattle.sm_tree.specs.Parts.{pairs_in, tree_named}
@@ -18,11 +15,9 @@ use Rattle.sm_model.specs.References.{IsShapeId}
 use Rattle.sm_model.specs.Said.{MemberSaid}
 use Rattle.sm_model.proofs.MapFacts.{Each}
 use Rattle.sm_merge.specs.Meaning.{Defined, meaning, node_meant}
-use Rattle.sm_model.specs.Used.{is_byte}
 use Rattle.sm_merge.specs.Stated.{all_said, body_of, member_stated, shape_with_ids}
 use Rattle.sm_merge.specs.Stated.{traits_stated}
 use Rattle.sm_merge.proofs.EntriesFound.{each_has, has_get}
-use Rattle.sm_merge.proofs.EntryKeys.{of_member, one_name}
 use Rattle.sm_merge.proofs.GraphSound.{HoldsNamed, IsNamedNode, IsSoundEntry}
 use Rattle.sm_idl.specs.Nodes.{Home}
 use Rattle.sm_idl.specs.Written.{is_written}

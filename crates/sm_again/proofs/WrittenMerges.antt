@@ -12,7 +12,7 @@ use Rattle.sm_model.specs.Said.{Said}
 use Rattle.sm_model.specs.Used.{shape_part}
 use Rattle.sm_merge.specs.Merged.{IsGraphOf}
 use Rattle.sm_merge.specs.Stated.{AreFormedFiles, all_said, defined_among, stated_by}
-use Rattle.sm_merge.proofs.EntryKeys.{of_member, of_shape}
+use Rattle.sm_ids.proofs.TextCuts.{of_member, of_shape}
 use Rattle.sm_merge.proofs.GraphSound.{stands_sound}
 use Rattle.sm_merge.proofs.PreludeGiven.{stands_by_test}
 use Rattle.sm_ids.specs.TextParts.{namespace_part}

@@ -3,7 +3,7 @@ use Rattle.std.proofs.Common.{◌≡◌, ℕ, suc, zero, true, false, cond, List
 use Rattle.std.proofs.Common.{subst, append_assoc, append-nil}
 use Rattle.std.specs.Prelude.{IsSomeAnd, slice_get, if◌then◌else◌}
 use Rattle.std.specs.FinMap as fin
-use Rattle.sm_tree.specs.Node.{Node, Members}
+use Rattle.sm_tree.specs.Node.{Node}
 use Rattle.sm_model.specs.Graphs.{Entry, shape_entry, member_entry, ShapeMap, traits_in}
 use Rattle.sm_model.specs.GraphView.{At, entries_of, ids, is_member_entry, maps_of, HasKind, HasMembers, HasBodyNode, Targets}
 use Rattle.sm_model.specs.declared.graph.Graph.{Graph}
@@ -12,10 +12,8 @@ use Rattle.sm_model.proofs.GraphFacts.{Found, entry_under, id_at}
 use Rattle.sm_model.specs.PreludeShapes.{is_prelude_id}
 use Rattle.sm_ast.specs.Written.{WrittenPairs, field_there, member_object, member_there, shape_object, written_entry}
 use Rattle.sm_ids.specs.TextParts.{member_name}
-use Rattle.sm_tree.specs.Parts.{tree_named}
-use Rattle.sm_ast.specs.Written.{property_there, written_member, written_members, written_properties, written_shape, written_shapes}
+use Rattle.sm_ast.specs.Written.{written_member, written_members, written_shape, written_shapes}
 use Rattle.sm_ast.specs.Written.{written_statement}
-use Rattle.sm_model.specs.Properties.{TypeFields}
 use Rattle.sm_ast.specs.steps.Saying.{pairs_said}
 use Rattle.sm_ast.specs.steps.Writing.{IsWrittenShape}
 

@@ -5,20 +5,19 @@ use Rattle.std.specs.Prelude.{IsSomeAnd, slice_get, if◌then◌else◌, ◌==�
 use Rattle.std.specs.FinMap as fin
 use Rattle.sm_bytes.specs.Ascii.{line_feed}
 use Rattle.sm_json.specs.Written.{written}
-use Rattle.sm_tree.specs.Node.{Node, Members, object, members_of}
-use Rattle.sm_tree.specs.Parts.{pairs_in, tree_named}
+use Rattle.sm_tree.specs.Node.{Node, object, members_of}
+use Rattle.sm_tree.specs.Parts.{pairs_in}
 use Rattle.sm_tree.specs.View.{members_view}
 use Rattle.sm_tree.specs.declared.tree.Tree.{Tree}
 use Rattle.sm_model.specs.Graphs.{Entry, shape_entry, member_entry, ShapeMap, traits_in}
 use Rattle.sm_model.specs.GraphView.{At, entries_of, ids, is_member_entry, IsMemberAt, IsShapeAt, maps_of}
 use Rattle.sm_model.specs.GraphView.{HasKind, HasMembers, HasBodyNode, Targets}
-use Rattle.sm_model.specs.Properties.{TypeFields}
 use Rattle.sm_model.specs.declared.graph.Graph.{Graph}
 use Rattle.sm_model.specs.declared.kind.Kind.{Kind}
 use Rattle.sm_model.proofs.GraphFacts.{Found, entry_under, id_at, member_found, shape_found}
-use Rattle.sm_idl.specs.Written.{NodePairs, field_line, field_lines, is_written, member_text, member_there}
+use Rattle.sm_idl.specs.Written.{NodePairs, is_written, member_text, member_there}
 use Rattle.sm_ids.specs.TextParts.{local_part, member_name}
-use Rattle.sm_idl.specs.Written.{shape_lines, shape_text, stated_text, trait_lines, value_there, written_entry, written_member}
+use Rattle.sm_idl.specs.Written.{shape_lines, shape_text, stated_text, trait_lines, written_entry, written_member}
 use Rattle.sm_idl.specs.Written.{written_pairs, written_shape}
 use Rattle.sm_idl.specs.steps.Writing.{IsShapeText, member_at}
 

@@ -10,7 +10,7 @@ use Rattle.std.proofs.lemmas.List.Folds.{list_all-append}
 use Rattle.sm_bytes.specs.Ascii.{dollar, number_sign}
 use Rattle.sm_ids.specs.Identifier.{is_identifier_byte, IsIdentifier}
 use Rattle.sm_ids.specs.IdText.{IsShapeId, member_text}
-use Rattle.sm_ids.specs.TextParts.{absolute_id, is_byte, local_part, member_id, member_name, namespace_part}
+use Rattle.sm_ids.specs.TextParts.{absolute_id, is_byte, local_part, member_id, member_name, namespace_part, shape_part}
 use Rattle.sm_ids.proofs.Cutting.{both, and_also, list_all_weaker}
 use Rattle.sm_ids.proofs.Identifiers.{made_of_bytes}
 use Rattle.sm_ids.proofs.Namespaces.{is_namespace_byte, namespace_bytes}
@@ -76,6 +76,17 @@ dollarless text (id, spelt, alone) =
     ap (list_all q) whole ∙ list_all-append q id.namespace (35 ∷ id.name)
     ∙ and_also (list_all q id.namespace) (list_all q (35 ∷ id.name)) front back
 
+-- before a `$` stands the shape's id
+pub of_shape : (shape : List ℕ) → IsShapeId shape → shape_part shape ≡ shape
+of_shape shape is =
+    ap shape_part (sym (append-nil shape))
+    ∙ ap (λ n. take n (shape ++ [])) (sym (all_run (others (is_byte dollar)) shape [] (dollarless shape is) refl))
+    ∙ take-append_seam shape []
+
+pub of_member : (shape : List ℕ) → IsShapeId shape → (name : List ℕ) → shape_part (member_id shape name) ≡ shape
+of_member shape is name = front_cut (is_byte dollar) shape 36 name (dollarless shape is) refl
+
+-- and behind it the name of the member
 pub member_named : (shape : List ℕ) → IsShapeId shape → (name : List ℕ) → member_name (member_id shape name) ≡ name
 member_named shape is name = back_cut (is_byte dollar) shape 36 name (dollarless shape is) refl
 

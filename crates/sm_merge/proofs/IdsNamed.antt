@@ -1,5 +1,5 @@
 -- Tables of statements that readers give have ids of shapes and names of members.
-use Rattle.std.proofs.Common.{◌≡◌, inl, inr, ℕ, zero, suc, ◌<◌, List, [], ◌∷◌, length, get_or, map, refl, sym, ap, subst, ◌∙◌, arith}
+use Rattle.std.proofs.Common.{◌≡◌, inl, inr, ℕ, zero, suc, ◌<◌, List, [], ◌∷◌, length, get_or, map, sym, ap, subst, ◌∙◌, arith}
 use Rattle.std.specs.Global.{Vec}
 use Rattle.std.proofs.lemmas.Option.{none-some, same_Some}
 use Rattle.sm_ids.specs.Identifier.{IsIdentifier}
@@ -20,7 +20,7 @@ use Rattle.sm_merge.specs.steps.Firsts.{NamesAndTargets, targets_view}
 use Rattle.sm_merge.specs.steps.Links.{At}
 use Rattle.sm_merge.specs.steps.NamedIds.{AllNamed, AreNamedIds, AreNames, IsNamedRow}
 use Rattle.sm_merge.specs.steps.Placed.{Bare, bare_view}
-use Rattle.sm_merge.specs.steps.ShapeTables.{ids_of, shapes_view}
+use Rattle.sm_merge.specs.steps.ShapeTables.{shapes_view}
 use Rattle.sm_merge.specs.steps.SoundStated.{AreNamedTargets}
 use Rattle.sm_merge.specs.steps.Verdicts.{AreWholeTables}
 use Rattle.sm_merge.proofs.Ats.{at_map, at_there, at_within}

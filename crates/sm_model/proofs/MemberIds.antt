@@ -1,10 +1,10 @@
 -- The ids of a shape's members: how they are spelled, and where they stand among the ids of shapes.
-use Rattle.std.proofs.Common.{◌≡◌, ℕ, cond, List, [], ◌∷◌, ◌++◌, Some, None, refl, sym, ap, subst, ◌∙◌, append_assoc, append-nil}
+use Rattle.std.proofs.Common.{◌≡◌, ℕ, cond, List, [], ◌∷◌, ◌++◌, Some, None, refl, sym, ap, subst, ◌∙◌}
 use Rattle.std.specs.Ordering.{ordering_then, is_eq, is_gt}
 use Rattle.std.specs.declared.cmp.Ordering.{Ordering}
 use Rattle.std.specs.declared.cmp.Ordering.TheVariants.{Less, Equal, Greater}
 use Rattle.sm_ids.specs.Identifier.{IsIdentifier}
-use Rattle.sm_ids.specs.IdText.{Id, IsId, IdText, printed, member_text}
+use Rattle.sm_ids.specs.IdText.{Id, IsId, printed, member_text}
 use Rattle.sm_ids.proofs.PartOrder.{printed_order}
 use Rattle.sm_ids.proofs.MadeIds.{member_spelled}
 use Rattle.sm_ids.proofs.Spellings.{shape_before_members}
