@@ -55,7 +55,7 @@ EntryIsWhole Known shapes id (shape_entry s) = IsWholeShape Known shapes id s
 EntryIsWhole Known shapes id (member_entry m) = Unit {0}
 
 -- traits as their maps have them
-abbrev pub KnownInMap : OfTraits → OfTraits
+abbrev pub KnownInMap : OfTraits → List (List ℕ × Node) → Type 0
 KnownInMap Known ts = Known (fin.entries (fin.from_entries {R = text_cmp} ts))
 
 abbrev pub MembersKnown : OfTraits → List MemberGiven → Type 0
