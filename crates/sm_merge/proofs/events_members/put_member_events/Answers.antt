@@ -18,6 +18,9 @@ put_others-requires-clause-row c =
     c.index-rows-number.is in
     c.requires.named.rows_are c.loop-number.number c.index-rows-number.result here
 
+pub put_others-requires-clause-all : goal.put_others-requires-clause-all
+put_others-requires-clause-all c = c.requires.named.all
+
 pub put_others-requires-clause-below : goal.put_others-requires-clause-below
 put_others-requires-clause-below c =
     let low : c.loop-number.number < length c.args.rows.now = c.loop-number-test.true in

@@ -24,6 +24,9 @@ offset_bounds-all-mixin c =
     c.mixin-item.is in
     search rules
 
+pub put_mixed_others-requires-clause-shape : goal.put_mixed_others-requires-clause-shape
+put_mixed_others-requires-clause-shape c = c.requires.row.id
+
 pub put_mixed_others-requires-clause-names : goal.put_mixed_others-requires-clause-names
 put_mixed_others-requires-clause-names c =
     let one = c.mixin-item.result in
@@ -32,6 +35,9 @@ put_mixed_others-requires-clause-names c =
     let here = slice_get_read c.args.all.now (length c.args.all.now) one.number c.index-all-mixin.result refl small c.index-all-mixin.is in
     subst (λ ms. AreNames (targets_view ms)) (sym c.as_slice-members.ensures.value)
     (c.requires.all one.number c.index-all-mixin.result here)
+
+pub put_own_others-requires-clause-shape : goal.put_own_others-requires-clause-shape
+put_own_others-requires-clause-shape c = c.requires.row.id
 
 pub put_own_others-requires-clause-names : goal.put_own_others-requires-clause-names
 put_own_others-requires-clause-names c = subst AreNames (sym c.as_slice.ensures.value) c.requires.row.own
