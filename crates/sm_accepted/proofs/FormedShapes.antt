@@ -21,7 +21,8 @@ use Rattle.sm_model.proofs.LinkedEntries.{cons_here}
 use Rattle.sm_model.proofs.MapFacts.{keys, found_among}
 use Rattle.sm_model.proofs.Sorting.{map_twice}
 use Rattle.sm_model.proofs.Worklist.{apart}
-use Rattle.sm_accepted.proofs.GivenShapes.{IsGivenAs, IsOneOf, behind_head, each_one, entry_given, found_each, keys_among, no_shape_id}
+use Rattle.sm_accepted.proofs.GivenShapes.{IsGivenAs, IsOneOf, behind_head, each_one, entry_given, found_each, keys_among}
+use Rattle.sm_ids.proofs.TextCuts.{member_is_no_shape}
 use Rattle.sm_accepted.proofs.GivenShapes.{one_given, shape_among}
 
 -- members that are there
@@ -76,7 +77,7 @@ module _ (g : GraphMaps) (f : IsFormedGraph g) where
       by (member_entry m) found one = (m, found_as (member_id shape name) ∙ found)
       by (shape_entry s) found one =
           let given = shape_among f.shapes f.given.each one.given one.among in
-          absurd (no_shape_id shape name is (subst IsShapeId (sym one.id_is) given.id))
+          absurd (member_is_no_shape shape name (subst IsShapeId (sym one.id_is) given.id))
 
   each_there : (shape : List ℕ) → IsShapeId shape → (ms : List MemberGiven)
       → ((k : List ℕ) → StandsAmong k (keys (given_members shape ms)) → StandsAmong k (keys (given_entries f.shapes)))

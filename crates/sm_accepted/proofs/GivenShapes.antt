@@ -1,6 +1,6 @@
 -- What a graph has under an id, where it is made of given shapes: one of these, or a member of one.
 use Rattle.std.proofs.Common.{◌≡◌, inl, inr, ℕ, suc, Bool, true, false, cond, List, [], ◌∷◌, ◌++◌, map, Some, refl, sym, ap, subst}
-use Rattle.std.proofs.Common.{◌∙◌, append_assoc, append-nil, arith}
+use Rattle.std.proofs.Common.{◌∙◌, arith}
 use Rattle.std.specs.FinMap as fin
 use Rattle.std.specs.FinMap.{slice_cmp-IsAntisymmetric, nat_cmp-IsAntisymmetric}
 use Rattle.std.specs.FinMap.Entries.{find}
@@ -9,8 +9,7 @@ use Rattle.std.specs.Ordering.{is_eq}
 use Rattle.std.specs.declared.cmp.Ordering.{Ordering}
 use Rattle.std.specs.declared.cmp.Ordering.TheVariants.{Less, Equal, Greater}
 use Rattle.std.proofs.lemmas.Option.{none-some, same_Some}
-use Rattle.sm_ids.specs.IdText.{member_text}
-use Rattle.sm_ids.proofs.Spellings.{hash_cut, name_cut}
+use Rattle.sm_ids.proofs.TextCuts.{member_is_no_shape}
 use Rattle.sm_model.specs.Formed.{StandsAmong, DifferInNames}
 use Rattle.sm_model.specs.Given.{AreGivenShapes, IsGivenShape, given_ids}
 use Rattle.sm_model.specs.Graphs.{text_cmp, Entry, shape_entry, member_entry, ShapeEntry, MemberGiven, ShapeGiven, member_id}
@@ -32,24 +31,6 @@ entry_given s = record {
 -- what stands among the rest
 pub behind_head : {X : Type 0} (x : X) (xs : List X) (y : X) → Contains xs y → Contains (x ∷ xs) y
 behind_head x xs y h = (suc h.0, omega (arith, h.1), h.2)
-
--- the id of a member is no shape's
-shape_behind : (ns t u : List ℕ) → (ns ++ 35 ∷ t) ++ u ≡ ns ++ 35 ∷ (t ++ u)
-shape_behind ns t u = append_assoc ns (35 ∷ t) u
-
-pub no_shape_id : (shape name : List ℕ) → IsShapeId shape → IsShapeId (member_id shape name) → ⊥
-no_shape_id shape name h k =
-    let i = h.0 in
-    let j = k.0 in
-    let whole : member_id shape name ≡ i.namespace ++ 35 ∷ ((i.name ++ []) ++ 36 ∷ name) =
-    ap (λ t. t ++ 36 ∷ name) (h.1.spelled ∙ ap (λ m. i.namespace ++ 35 ∷ (i.name ++ member_text m)) h.2)
-    ∙ shape_behind i.namespace (i.name ++ []) (36 ∷ name) in
-    let alike : i.namespace ++ 35 ∷ (i.name ++ 36 ∷ name) ≡ j.namespace ++ 35 ∷ (j.name ++ member_text j.member) =
-    ap (λ t. i.namespace ++ 35 ∷ (t ++ 36 ∷ name)) (sym (append-nil i.name)) ∙ sym whole ∙ k.1.spelled in
-    let hash = hash_cut i.namespace j.namespace (i.name ++ 36 ∷ name) (j.name ++ member_text j.member) h.1.is_id.namespace
-    k.1.is_id.namespace alike in
-    let dollar = name_cut i.name j.name (Some name) j.member h.1.is_id.name k.1.is_id.name hash.1 in
-    none-some name (sym k.2 ∙ sym dollar.1)
 
 -- what is found among entries is one of them
 tied : (r : Ordering) → is_eq r ≡ true → r ≡ Equal
@@ -96,7 +77,7 @@ IsOneOf shapes id (member_entry m) = IsShapeId id → ⊥
 module _ (shapes : List ShapeGiven) where
   each_member : (id : List ℕ) → IsShapeId id → (ms : List MemberGiven) → Each (IsOneOf shapes) (given_members id ms)
   each_member id is [] = tt
-  each_member id is (m ∷ ms) = ((λ shape. no_shape_id id m.name is shape), each_member id is ms)
+  each_member id is (m ∷ ms) = ((λ shape. member_is_no_shape id m.name shape), each_member id is ms)
 
   each_entry : (ss : List ShapeGiven) → AreGivenShapes ss → ((s : ShapeGiven) → Contains ss s → Contains shapes s)
       → Each (IsOneOf shapes) (given_entries ss)

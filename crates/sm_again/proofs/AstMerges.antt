@@ -20,9 +20,9 @@ use Rattle.sm_ast.specs.GraphSaid.{body_said, entry_said, entry_statements, form
 use Rattle.sm_ast.specs.GraphSaid.{id_said, ids_said}
 use Rattle.sm_ast.specs.GraphSaid.{map_said, member_under_said, named_ids_said, names_said, raw_field, shape_members_said}
 use Rattle.sm_ast.specs.GraphSaid.{traits_of_pairs}
-use Rattle.sm_ast.specs.Written.{name_in_id}
+use Rattle.sm_ids.specs.TextParts.{member_name}
 use Rattle.sm_ast.specs.steps.Saying.{pairs_said}
-use Rattle.sm_ast.proofs.IdNames.{name_of_member}
+use Rattle.sm_ids.proofs.TextCuts.{member_named}
 use Rattle.sm_merge.specs.Meaning.{Defined, members_meant, node_meant, nodes_meant}
 use Rattle.sm_model.specs.Used.{shape_part}
 use Rattle.sm_merge.specs.Restated.{AreMembersIn, IsMemberIn, IsShapeIn, StatesPart}
@@ -115,7 +115,7 @@ module _ (defined : Defined) where
   -- members
   module _ (shapes : ShapeMap) (id : List ℕ) (is : IsShapeId id) where
     abbrev member_again : List ℕ → MemberEntry → MemberGiven
-    member_again q e = record { name = name_in_id q; target = e.target; traits = traits_stated defined (map_said e.traits) }
+    member_again q e = record { name = member_name q; target = e.target; traits = traits_stated defined (map_said e.traits) }
 
     abbrev members_said : List (List ℕ) → List MemberGiven
     members_said ids = map (member_stated defined) (shape_members_said shapes ids)
@@ -128,7 +128,7 @@ module _ (defined : Defined) where
         → IsMemberIn shapes id (member_again (member_id id name) e)
     member_is_in name e found = record {
       traits = e.traits;
-      found = ap (λ k. fin.get shapes (member_id id k)) (name_of_member id is name) ∙ found;
+      found = ap (λ k. fin.get shapes (member_id id k)) (member_named id is name) ∙ found;
       same = traits_meant (fin.entries e.traits);
     }
 
@@ -145,7 +145,7 @@ module _ (defined : Defined) where
         ap (λ o. map (member_stated defined) (member_under_said q o ++ shape_members_said shapes (map (member_id id) names))) l.1 in
         record {
           same = ap (λ ms. map (λ (m : MemberGiven). member_id id m.name) ms) here
-              ∙ (λ i. member_id id (name_of_member id is name i) ∷ rest.same i);
+              ∙ (λ i. member_id id (member_named id is name i) ∷ rest.same i);
           are = subst (AreMembersIn shapes id) (sym here) (member_is_in name l.0 l.1, rest.are);
         }
 

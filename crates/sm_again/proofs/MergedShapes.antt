@@ -28,7 +28,9 @@ use Rattle.sm_merge.specs.Mixins.{names_of}
 use Rattle.sm_merge.specs.Stated.{AreFormedFiles, stated_by}
 use Rattle.sm_merge.proofs.EntriesFound.{Has, each_has, get_has, has_before, has_behind, has_each, has_get, has_key, has_made}
 use Rattle.sm_merge.proofs.EntriesFound.{made_has, map_again}
-use Rattle.sm_merge.proofs.EntryKeys.{entries_differ, of_member, one_name}
+use Rattle.sm_ids.proofs.MadeIds.{one_name}
+use Rattle.sm_ids.proofs.TextCuts.{of_member}
+use Rattle.sm_merge.proofs.EntryKeys.{entries_differ}
 use Rattle.sm_merge.proofs.GraphSound.{HoldsNamed, IsNamedNode, IsSoundEntry}
 use Rattle.sm_merge.proofs.PreludeGiven.{clash, prelude_given}
 use Rattle.sm_merge.proofs.RegularGraphs.{IsRegular, IsRegularMember, IsRegularShape, merged_regular}

@@ -13,7 +13,8 @@ use Rattle.sm_model.specs.Said.{Said}
 use Rattle.sm_merge.specs.Meaning.{Defined}
 use Rattle.sm_merge.specs.Stated.{ShapeStated, all_said}
 use Rattle.sm_merge.proofs.RestatedFiles.{metadata_there, none_in_file, one_in_file, stated_under, stated_values, under_joined}
-use Rattle.sm_idl.specs.Written.{is_written, namespace_in}
+use Rattle.sm_idl.specs.Written.{is_written}
+use Rattle.sm_ids.specs.TextParts.{namespace_part}
 use Rattle.sm_idl.specs.WrittenFile.{namespace_file}
 use Rattle.sm_again.specs.WrittenMerges.{written_files}
 use Rattle.sm_again.proofs.NamespaceStates.{file_is, said_for}
@@ -25,29 +26,29 @@ module _ (defined : Defined) (id : List ℕ) (g : GraphMaps) where
   abbrev file : List ℕ → List Said
   file namespace = (namespace_file g namespace).said
 
-  other_file : (namespace : List ℕ) → (namespace_in id ≡ namespace → ⊥) → Under (file namespace) ≡ []
-  other_file namespace other = elim (cases_Bool (bytes_eq (namespace_in id) namespace)) [
-    | inl same ↦ absurd (other ((bytes_eq-Decides (namespace_in id) namespace).0 same))
+  other_file : (namespace : List ℕ) → (namespace_part id ≡ namespace → ⊥) → Under (file namespace) ≡ []
+  other_file namespace other = elim (cases_Bool (bytes_eq (namespace_part id) namespace)) [
+    | inl same ↦ absurd (other ((bytes_eq-Decides (namespace_part id) namespace).0 same))
     | inr apart ↦
         ap Under (file_is g namespace)
         ∙ none_in_file defined id (is_written namespace) (said_for g namespace) (λ k t. refl) g
         (ap (λ b. b && not (is_prelude_id id)) apart)
   ]
 
-  other_files : (ns : List (List ℕ)) → (StandsAmong (namespace_in id) ns → ⊥) → Under (all_said (written_files g ns)) ≡ []
+  other_files : (ns : List (List ℕ)) → (StandsAmong (namespace_part id) ns → ⊥) → Under (all_said (written_files g ns)) ≡ []
   other_files [] none = refl
   other_files (n ∷ ns) none =
       under_joined defined id (file n) (all_said (written_files g ns))
       ∙ ap (λ ts. ts ++ Under (all_said (written_files g ns))) (other_file n (λ same. none (inl same)))
       ∙ other_files ns (λ later. none (inr later))
 
-  pub one_stated : (ns : List (List ℕ)) → DifferInNames ns → StandsAmong (namespace_in id) ns → (s : ShapeEntry)
+  pub one_stated : (ns : List (List ℕ)) → DifferInNames ns → StandsAmong (namespace_part id) ns → (s : ShapeEntry)
       → fin.get g.shapes id ≡ Some (shape_entry s) → is_prelude_id id ≡ false
       → (t : ShapeStated) × (Under (all_said (written_files g ns)) ≡ t ∷ [])
   one_stated [] d among s found own = absurd among
   one_stated (n ∷ ns) d (inl same) s found own =
       let written : is_written n id ≡ true =
-      ap (λ b. b && not (is_prelude_id id)) ((bytes_eq-Decides (namespace_in id) n).1 same) ∙ ap not own in
+      ap (λ b. b && not (is_prelude_id id)) ((bytes_eq-Decides (namespace_part id) n).1 same) ∙ ap not own in
       let one = one_in_file defined id (is_written n) (said_for g n) (λ k t. refl) g s found written own in
       let rest = other_files ns (λ among. d.0 (subst (λ j. StandsAmong j ns) same among)) in (
         one.0,

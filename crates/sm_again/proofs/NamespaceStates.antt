@@ -1,10 +1,7 @@
 -- What the file of a namespace says of a shape is the shape as the graph has it: so it states this part of the graph.
-use Rattle.std.proofs.Common.{◌≡◌, ◌<◌, inl, inr, ℕ, Bool, true, false, List, [], ◌∷◌, ◌++◌, map, length, Option, Some, None}
+use Rattle.std.proofs.Common.{◌≡◌, ◌<◌, inl, inr, ℕ, Bool, true, false, List, [], ◌∷◌, ◌++◌, map, Option, Some, None}
 use Rattle.std.proofs.Common.{refl, sym, ap, subst, ◌∙◌}
-use Rattle.std.proofs.Common.{arith, length-append, length-take}
-use Rattle.std.specs.List.{position_or_len}
 use Rattle.std.specs.FinMap as fin
-use Rattle.sm_bytes.specs.Ascii.{dollar}
 use Rattle.sm_ids.specs.IdText.{IsIdText}
 use Rattle.sm_tree.specs.Node.{Node, Members, object}
 use Rattle.sm_tree.specs.Parts.{pairs_in, tree_named}
@@ -18,20 +15,19 @@ use Rattle.sm_model.specs.References.{IsShapeId}
 use Rattle.sm_model.specs.Said.{MemberSaid}
 use Rattle.sm_model.proofs.MapFacts.{Each}
 use Rattle.sm_merge.specs.Meaning.{Defined, meaning, node_meant}
-use Rattle.sm_model.specs.Used.{is_byte}
 use Rattle.sm_merge.specs.Stated.{all_said, body_of, member_stated, shape_with_ids}
 use Rattle.sm_merge.specs.Stated.{traits_stated}
 use Rattle.sm_merge.proofs.EntriesFound.{each_has, has_get}
-use Rattle.sm_merge.proofs.EntryKeys.{of_member, one_name}
 use Rattle.sm_merge.proofs.GraphSound.{HoldsNamed, IsNamedNode, IsSoundEntry}
 use Rattle.sm_idl.specs.Nodes.{Home}
-use Rattle.sm_idl.specs.Written.{is_written, member_in}
+use Rattle.sm_idl.specs.Written.{is_written}
+use Rattle.sm_ids.specs.TextParts.{member_name}
 use Rattle.sm_idl.specs.WrittenForms.{written_form}
 use Rattle.sm_model.specs.declared.kind.Kind.{Kind}
 use Rattle.sm_model.specs.declared.kind.Kind.TheVariants.{Blob, Boolean, Text, Enum, Byte, Short, Integer, IntEnum, Long, Float}
 use Rattle.sm_model.specs.declared.kind.Kind.TheVariants.{Double, BigInteger, BigDecimal, Timestamp, Document, List as list_kind}
 use Rattle.sm_model.specs.declared.kind.Kind.TheVariants.{Map, Structure, Union, Service, Operation, Resource}
-use Rattle.sm_idl.proofs.RelativeIds.{cut_at_first}
+use Rattle.sm_ids.proofs.TextCuts.{member_named}
 use Rattle.sm_merge.specs.Restated.{AreMembersIn, IsMemberIn, IsShapeIn}
 use Rattle.sm_idl.specs.WrittenFile.{body_said, entry_said, entry_statements, field_said, fields_said, home_alone, members_said}
 use Rattle.sm_idl.specs.WrittenFile.{metadata_of, namespace_file}
@@ -41,17 +37,6 @@ use Rattle.sm_merge.proofs.BodiesAgain.{body_again, forms_said, one_said, pairs_
 use Rattle.sm_merge.proofs.RegularGraphs.{IsRegular, IsRegularShape}
 use Rattle.sm_merge.proofs.RestatedFiles.{AllStated, SaysShape, file_if, file_states, shape_if, shapes_if, states_joined}
 use Rattle.sm_again.proofs.SaidMeant.{says_forms, traits_meant, written_meant}
-
--- the name of a member's id
-pub member_named : (id : List ℕ) → IsShapeId id → (name : List ℕ) → member_in (member_id id name) ≡ name
-member_named id is name =
-    let whole : List ℕ = member_id id name in
-    let at : ℕ = position_or_len (is_byte dollar) whole in
-    let cut = ap length (of_member id is name) in
-    let counted = length-take at whole in
-    let all = length-append id (36 ∷ name) in
-    let inside : at < length whole = omega (arith, cut, counted, all) in
-    sym (one_name id name (member_in whole) (cut_at_first whole inside ∙ ap (λ x. member_id x (member_in whole)) (of_member id is name)))
 
 -- fields are said one by one
 module _ (home : Home) where
@@ -84,7 +69,7 @@ map_named m h = each_has (IsNamedNode IsIdText) (fin.entries m) (λ t n there. h
 module _ (defined : Defined) (home : Home) (kind : Kind) (shapes : ShapeMap) (id : List ℕ) (is : IsShapeId id) where
   abbrev member_again : List ℕ → MemberEntry → MemberGiven
   member_again q e = record {
-    name = member_in q;
+    name = member_name q;
     target = meaning defined (target_said home (written_form kind) e.target);
     traits = traits_stated defined (traits_said home (fin.entries e.traits));
   }

@@ -12,10 +12,10 @@ use Rattle.sm_model.specs.Said.{Said}
 use Rattle.sm_model.specs.Used.{shape_part}
 use Rattle.sm_merge.specs.Merged.{IsGraphOf}
 use Rattle.sm_merge.specs.Stated.{AreFormedFiles, all_said, defined_among, stated_by}
-use Rattle.sm_merge.proofs.EntryKeys.{of_member, of_shape}
+use Rattle.sm_ids.proofs.TextCuts.{of_member, of_shape}
 use Rattle.sm_merge.proofs.GraphSound.{stands_sound}
 use Rattle.sm_merge.proofs.PreludeGiven.{stands_by_test}
-use Rattle.sm_idl.specs.Written.{namespace_in}
+use Rattle.sm_ids.specs.TextParts.{namespace_part}
 use Rattle.sm_merge.specs.Restated.{StatesPart, is_kept}
 use Rattle.sm_again.specs.WrittenMerges.{AreAllNamespaces, EnumsTargetUnit, HasRoom, WrittenAgain, WrittenMerges, is_of, written_files}
 use Rattle.sm_again.proofs.NamespaceOnce.{metadata_in_files, one_stated}
@@ -43,12 +43,12 @@ module _ (g : GraphMaps) (whole : IsWhole g) (namespaces : List (List ℕ)) (d :
   files_state_part =
       let defined = defined_among (all_said (written_files g namespaces)) in record {
         each = namespaces_state g whole defined (is_of namespaces) namespaces (λ namespace among id is.
-            let parts = both (bytes_eq (namespace_in id) namespace) (is_prelude_id id) is in (
+            let parts = both (bytes_eq (namespace_part id) namespace) (is_prelude_id id) is in (
               parts.1,
-              stands_by_test (namespace_in id) namespaces
-                  (subst (λ n. StandsAmong n namespaces) (sym ((bytes_eq-Decides (namespace_in id) namespace).0 parts.0)) among),
+              stands_by_test (namespace_part id) namespaces
+                  (subst (λ n. StandsAmong n namespaces) (sym ((bytes_eq-Decides (namespace_part id) namespace).0 parts.0)) among),
             ));
-        shapes = λ id s found own kept. one_stated defined id g namespaces d (any_stands (namespace_in id) namespaces kept) s found own;
+        shapes = λ id s found own kept. one_stated defined id g namespaces d (any_stands (namespace_part id) namespaces kept) s found own;
         metadata = λ key n found none. metadata_in_files defined key n g namespaces found (room key n found) none;
       }
 
@@ -75,10 +75,10 @@ module _ (g : GraphMaps) (whole : IsWhole g) (namespaces : List (List ℕ)) (all
     where
       by_entry : (e : Entry) → fin.get g.shapes id ≡ Some e → IsRegularEntry g id e → is_kept (is_of namespaces) id ≡ true
       by_entry (shape_entry s) found r =
-          kept_by_shape (is_of namespaces) id id (of_shape id r.is) (stands_by_test (namespace_in id) namespaces (all.all id s found r.own))
+          kept_by_shape (is_of namespaces) id id (of_shape id r.is) (stands_by_test (namespace_part id) namespaces (all.all id s found r.own))
       by_entry (member_entry m) found r =
           kept_by_shape (is_of namespaces) id r.shape (ap shape_part r.under ∙ of_member r.shape r.is.is r.name)
-          (stands_by_test (namespace_in r.shape) namespaces (all.all r.shape r.s r.there r.is.own))
+          (stands_by_test (namespace_part r.shape) namespaces (all.all r.shape r.s r.there r.is.own))
 
   whole_part : IsPartOf (is_of namespaces) g g
   whole_part = record {

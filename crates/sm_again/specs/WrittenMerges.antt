@@ -16,7 +16,7 @@ use Rattle.sm_model.specs.declared.kind.Kind.TheVariants.{Enum, IntEnum}
 use Rattle.sm_merge.specs.Answers.{MergesTo}
 use Rattle.sm_merge.specs.Merged.{IsGraphOf}
 use Rattle.sm_merge.specs.Stated.{AreFormedFiles, stated_by}
-use Rattle.sm_idl.specs.Written.{namespace_in}
+use Rattle.sm_ids.specs.TextParts.{namespace_part}
 use Rattle.sm_merge.specs.Restated.{ComesTo, part_of}
 use Rattle.sm_idl.specs.WrittenFile.{namespace_file}
 
@@ -34,7 +34,7 @@ written_files g namespaces = map (λ namespace. (namespace_file g namespace).sai
 
 -- the id is of one of the namespaces
 abbrev pub is_of : List (List ℕ) → List ℕ → Bool
-is_of namespaces id = list_any (bytes_eq (namespace_in id)) namespaces
+is_of namespaces id = list_any (bytes_eq (namespace_part id)) namespaces
 
 -- there is a file, or there is no metadata
 abbrev pub HasRoom : GraphMaps → List (List ℕ) → Type 0
@@ -50,7 +50,7 @@ WrittenAgain = (files : List (List Said)) (g : GraphMaps) (namespaces : List (Li
 pub record AreAllNamespaces (g : GraphMaps) (namespaces : List (List ℕ)) : Type 0 where
   pub differ : DifferInNames namespaces
   pub all : (id : List ℕ) (s : ShapeEntry) → fin.get g.shapes id ≡ Some (shape_entry s) → is_prelude_id id ≡ false
-      → StandsAmong (namespace_in id) namespaces
+      → StandsAmong (namespace_part id) namespaces
 
 -- where files merge to a graph, those that are written for all its namespaces merge to it again
 abbrev pub WrittenMerges : Type 0

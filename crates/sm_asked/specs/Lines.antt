@@ -12,7 +12,7 @@ use Rattle.sm_model.specs.declared.event.Severity.{Severity}
 use Rattle.sm_model.specs.declared.event.Severity.TheVariants.{Note, Warning, Danger, Error}
 use Rattle.sm_merge.specs.declared.limit.LimitKind.{LimitKind}
 use Rattle.sm_merge.specs.declared.limit.LimitKind.TheVariants.{Shapes, Members, AllMembers, Traits}
-use Rattle.sm_merge.specs.declared.limit.TheConstants.{SHAPE_LIMIT, MEMBER_LIMIT, ALL_MEMBER_LIMIT, TRAIT_LIMIT}
+use Rattle.sm_merge.specs.Limits.{most_shapes, most_members, most_members_in_all, most_in_traits}
 use Rattle.sm_asked.specs.declared.lines.Shown.{Shown}
 use Rattle.sm_asked.specs.declared.lines.Shown.TheVariants.{All, Errors}
 use Rattle.sm_lines.specs.Lines.{line, syntax_text}
@@ -53,10 +53,10 @@ bytes_limit_line = limit_line (codes "bytes") bytes_limit
 
 -- that of a limit on the size of a graph
 abbrev pub size_limit : LimitKind → ℕ
-size_limit Shapes = SHAPE_LIMIT
-size_limit Members = MEMBER_LIMIT
-size_limit AllMembers = ALL_MEMBER_LIMIT
-size_limit Traits = TRAIT_LIMIT
+size_limit Shapes = most_shapes
+size_limit Members = most_members
+size_limit AllMembers = most_members_in_all
+size_limit Traits = most_in_traits
 
 abbrev pub size_limit_word : LimitKind → List ℕ
 size_limit_word Shapes = codes "shapes"

@@ -16,7 +16,7 @@ use Rattle.sm_model.specs.Graphs.{MemberGiven, ShapeGiven, given_entries, given_
 use Rattle.sm_model.proofs.MapFacts.{Each, each_entry, each_joined}
 use Rattle.sm_model.specs.Named.{AreUnderIds, MembersAreUnderIds, HaveTraitIds, AreUnderTexts}
 use Rattle.sm_ast.specs.Laws.{WrittenIsJson}
-use Rattle.sm_ast.proofs.IdNames.{name_of_member}
+use Rattle.sm_ids.proofs.TextCuts.{member_named}
 use Rattle.sm_ids.proofs.Identifiers.{made_of_bytes}
 use Rattle.sm_ast.proofs.JsonWritten.{AreJsonPairs, EntryIsJson, AreJsonEntries, written_json}
 
@@ -58,7 +58,7 @@ json_given_members : (shape : List ℕ) → IsShapeId shape → (ms : List Membe
 json_given_members shape id [] h named = tt
 json_given_members shape id (m ∷ ms) h named = (
   (
-    subst IsUtf8 (sym (name_of_member shape id m.name)) (identifier_utf8 m.name h.0),
+    subst IsUtf8 (sym (member_named shape id m.name)) (identifier_utf8 m.name h.0),
     id_utf8 m.target h.1,
     json_map m.traits (under_texts m.traits named.0) h.2.nodes,
   ),

@@ -31,7 +31,8 @@ use Rattle.sm_model.specs.declared.property.PropertyForm.{PropertyForm}
 use Rattle.sm_model.specs.declared.property.PropertyForm.TheVariants.{Reference, References, NamedReferences, Text, Rename}
 use Rattle.sm_tree.specs.Parts.{tree_named}
 use Rattle.sm_model.specs.PreludeShapes.{is_prelude_id}
-use Rattle.sm_ast.specs.Written.{WrittenPairs, field_there, filled_list, filled_object, member_there, name_in_id, property_there}
+use Rattle.sm_ast.specs.Written.{WrittenPairs, field_there, filled_list, filled_object, member_there, property_there}
+use Rattle.sm_ids.specs.TextParts.{member_name}
 use Rattle.sm_ast.specs.Written.{shape_object, written_ast, written_entries, written_entry, written_in_form, written_members}
 use Rattle.sm_ast.specs.Written.{written_pairs, written_properties, written_property, written_reference, written_shapes}
 use Rattle.sm_ast.specs.Written.{written_statement, written_traits}
@@ -46,7 +47,7 @@ AreJsonPairs ps = AreJsonMembers (members_of ps)
 -- what stands under an id
 abbrev pub EntryIsJson : List ℕ → Entry → Type 0
 EntryIsJson id (shape_entry s) = IsUtf8 id × IsJson s.properties × AreJsonPairs (fin.entries s.traits)
-EntryIsJson id (member_entry m) = IsUtf8 (name_in_id id) × IsUtf8 m.target × AreJsonPairs (fin.entries m.traits)
+EntryIsJson id (member_entry m) = IsUtf8 (member_name id) × IsUtf8 m.target × AreJsonPairs (fin.entries m.traits)
 
 abbrev pub AreJsonEntries : List (List ℕ × Entry) → Type 0
 AreJsonEntries es = Each EntryIsJson es
@@ -215,7 +216,7 @@ found_json id (e ∷ es) h = elim (either_way (is_eq (text_cmp id e.0))) [
   | inr other ↦ subst (FoundIsJson id) (ap (λ b. cond b (Some e.1) (find text_cmp id es)) (sym other)) (found_json id es h.1)
 ]
 
-json_found : (id : List ℕ) (o : Option Entry) → FoundIsJson id o → AreJsonPairs (field_there (name_in_id id) (written_entry o))
+json_found : (id : List ℕ) (o : Option Entry) → FoundIsJson id o → AreJsonPairs (field_there (member_name id) (written_entry o))
 json_found id None h = tt
 json_found id (Some (shape_entry s)) h = tt
 json_found id (Some (member_entry m)) h = (h.0, (utf8 (codes "target") refl, h.1, json_traits (fin.entries m.traits) h.2), tt)

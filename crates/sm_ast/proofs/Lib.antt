@@ -20,7 +20,6 @@ pub mod FormedShapes
 mod OneParts
 pub mod OneReading
 mod Filled
-pub mod IdNames
 mod OfTree
 mod OfTreeTop
 mod WrittenAt

@@ -10,7 +10,9 @@ use Rattle.sm_model.specs.References.{IsShapeId}
 use Rattle.sm_model.specs.declared.kind.Kind.{Kind}
 use Rattle.sm_ast.specs.declared.layout.ShapeType.{ShapeType}
 use Rattle.sm_ast.specs.declared.layout.ShapeType.TheVariants.{Defined, Applied}
-use Rattle.sm_ast.specs.Ids.{is_id, is_dollar, has_member}
+use Rattle.sm_ast.specs.Ids.{is_id, has_member}
+use Rattle.sm_bytes.specs.Ascii.{dollar}
+use Rattle.sm_ids.specs.TextParts.{is_byte}
 use Rattle.sm_ast.specs.Layout.{type_named, kind_among, all_kinds}
 use Rattle.sm_tree.specs.Parts.{text_in}
 use Rattle.sm_ast.specs.Faults.{is_this, is_version, type_of_text, type_said}
@@ -79,8 +81,8 @@ any_behind q xs ys e = list_any-append q xs ys ∙ or_right (list_any q xs) _ e
 
 dollar_there : (id : Id) (m : List ℕ) → id.member ≡ Some m → has_member (printed id) ≡ true
 dollar_there id m e =
-    any_behind is_dollar id.namespace (35 ∷ (id.name ++ member_text id.member))
-    (or_right (is_dollar 35) _ (any_behind is_dollar id.name (member_text id.member) (ap (λ o. list_any is_dollar (member_text o)) e)))
+    any_behind (is_byte dollar) id.namespace (35 ∷ (id.name ++ member_text id.member))
+    (or_right (is_byte dollar 35) _ (any_behind (is_byte dollar) id.name (member_text id.member) (ap (λ o. list_any (is_byte dollar) (member_text o)) e)))
 
 pub without_dollar : (k : List ℕ) → is_id k ≡ true → has_member k ≡ false → IsShapeId k
 without_dollar k passed plain = let found = passed_is_id k passed in (found.0, found.1, by_member found.0 found.1 found.0.member refl)

@@ -3,18 +3,17 @@ use Rattle.std.proofs.Common.{◌≡◌, ℕ, suc, zero, true, false, cond, List
 use Rattle.std.proofs.Common.{subst, append_assoc, append-nil}
 use Rattle.std.specs.Prelude.{IsSomeAnd, slice_get, if◌then◌else◌}
 use Rattle.std.specs.FinMap as fin
-use Rattle.sm_tree.specs.Node.{Node, Members}
+use Rattle.sm_tree.specs.Node.{Node}
 use Rattle.sm_model.specs.Graphs.{Entry, shape_entry, member_entry, ShapeMap, traits_in}
 use Rattle.sm_model.specs.GraphView.{At, entries_of, ids, is_member_entry, maps_of, HasKind, HasMembers, HasBodyNode, Targets}
 use Rattle.sm_model.specs.declared.graph.Graph.{Graph}
 use Rattle.sm_model.specs.declared.kind.Kind.{Kind}
 use Rattle.sm_model.proofs.GraphFacts.{Found, entry_under, id_at}
 use Rattle.sm_model.specs.PreludeShapes.{is_prelude_id}
-use Rattle.sm_ast.specs.Written.{WrittenPairs, field_there, member_object, member_there, name_in_id, shape_object, written_entry}
-use Rattle.sm_tree.specs.Parts.{tree_named}
-use Rattle.sm_ast.specs.Written.{property_there, written_member, written_members, written_properties, written_shape, written_shapes}
+use Rattle.sm_ast.specs.Written.{WrittenPairs, field_there, member_object, member_there, shape_object, written_entry}
+use Rattle.sm_ids.specs.TextParts.{member_name}
+use Rattle.sm_ast.specs.Written.{written_member, written_members, written_shape, written_shapes}
 use Rattle.sm_ast.specs.Written.{written_statement}
-use Rattle.sm_model.specs.Properties.{TypeFields}
 use Rattle.sm_ast.specs.steps.Saying.{pairs_said}
 use Rattle.sm_ast.specs.steps.Writing.{IsWrittenShape}
 
@@ -32,16 +31,16 @@ member_written (Some e) target traits n h k is = by e.1 h k
 
 -- a member that is put
 pub member_put : (g : Graph) (k : ℕ) (id : List ℕ) (n : Node) → At g k (λ i e. id ≡ i) → At g k (λ i e. written_member e ≡ Some n)
-    → member_there (maps_of g).shapes (get_or (ids g) k []) ≡ (name_in_id id, n) ∷ []
+    → member_there (maps_of g).shapes (get_or (ids g) k []) ≡ (member_name id, n) ∷ []
 member_put g k id n same written = by (slice_get (entries_of g) k) refl same written
   where
     by : (o : Found) → slice_get (entries_of g) k ≡ o → IsSomeAnd o (λ e. id ≡ e.0) → IsSomeAnd o (λ e. written_member e.1 ≡ Some n)
-        → member_there (maps_of g).shapes (get_or (ids g) k []) ≡ (name_in_id id, n) ∷ []
+        → member_there (maps_of g).shapes (get_or (ids g) k []) ≡ (member_name id, n) ∷ []
     by None there h w = absurd h
     by (Some e) there h w =
         ap (member_there (maps_of g).shapes) (id_at g k e.0 e.1 there ∙ sym h)
-        ∙ ap (λ o. field_there (name_in_id id) (written_entry o)) (ap (fin.get (maps_of g).shapes) h ∙ entry_under g k e.0 e.1 there)
-        ∙ ap (field_there (name_in_id id)) w
+        ∙ ap (λ o. field_there (member_name id) (written_entry o)) (ap (fin.get (maps_of g).shapes) h ∙ entry_under g k e.0 e.1 there)
+        ∙ ap (field_there (member_name id)) w
 
 -- a number among members that is a shape's writes nothing
 pub member_left_out : (g : Graph) (k : ℕ) → At g k (λ i e. is_member_entry e ≡ false)
@@ -57,8 +56,8 @@ member_left_out g k other = by (slice_get (entries_of g) k) refl other
     by None there h = absurd h
     by (Some e) there h =
         ap (member_there (maps_of g).shapes) (id_at g k e.0 e.1 there)
-        ∙ ap (λ o. field_there (name_in_id e.0) (written_entry o)) (entry_under g k e.0 e.1 there)
-        ∙ ap (field_there (name_in_id e.0)) (nothing e.1 h)
+        ∙ ap (λ o. field_there (member_name e.0) (written_entry o)) (entry_under g k e.0 e.1 there)
+        ∙ ap (field_there (member_name e.0)) (nothing e.1 h)
 
 -- the tree of a shape, by what its look-ups say
 pub shape_written : (shapes : ShapeMap) (o : Found) (kind : Kind) (members : List (List ℕ)) (body : Node) (traits : WrittenPairs) (n : Node)
@@ -120,22 +119,3 @@ put_then shapes (e ∷ es) zero now before h =
     ap (λ ps. ps ++ written_shapes shapes es) h ∙ append_assoc before (field_there e.0 (written_statement shapes e.0 e.1))
     (written_shapes shapes es)
 put_then shapes (e ∷ es) (suc k) now before h = put_then shapes es k now before h
-
--- fields in three parts
-properties_joined : (fs gs : TypeFields) (body : Members)
-    → written_properties (fs ++ gs) body ≡ written_properties fs body ++ written_properties gs body
-properties_joined [] gs body = refl
-properties_joined (f ∷ fs) gs body =
-    let here = field_there f.0 (property_there f.1 (tree_named f.0 body)) in
-    ap (λ ps. here ++ ps) (properties_joined fs gs body) ∙ sym (append_assoc here (written_properties fs body) (written_properties gs body))
-
-pub three_put : (fs gs hs : TypeFields) (body : Members) (before one two three : WrittenPairs) → one ≡ before ++ written_properties fs body
-    → two ≡ one ++ written_properties gs body → three ≡ two ++ written_properties hs body
-    → three ≡ before ++ written_properties (fs ++ (gs ++ hs)) body
-three_put fs gs hs body before one two three a b c =
-    let ps = written_properties fs body in
-    let qs = written_properties gs body in
-    let rs = written_properties hs body in
-    c ∙ ap (λ xs. xs ++ rs) b ∙ ap (λ xs. (xs ++ qs) ++ rs) a ∙ append_assoc (before ++ ps) qs rs ∙ append_assoc before ps (qs ++ rs)
-    ∙ ap (λ xs. before ++ (ps ++ xs)) (sym (properties_joined gs hs body))
-    ∙ ap (λ xs. before ++ xs) (sym (properties_joined fs (gs ++ hs) body))

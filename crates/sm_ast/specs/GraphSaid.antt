@@ -13,7 +13,7 @@ use Rattle.sm_model.specs.declared.property.PropertyForm.{PropertyForm}
 use Rattle.sm_model.specs.declared.property.PropertyForm.TheVariants.{Reference, References, NamedReferences, Text, Rename}
 use Rattle.sm_tree.specs.Parts.{tree_named}
 use Rattle.sm_model.specs.PreludeShapes.{is_prelude_id}
-use Rattle.sm_ast.specs.Written.{name_in_id}
+use Rattle.sm_ids.specs.TextParts.{member_name}
 use Rattle.sm_ast.specs.steps.Saying.{text_said, entries_said, pairs_said}
 
 -- traits
@@ -27,7 +27,7 @@ map_said traits = traits_of_pairs (fin.entries traits)
 abbrev pub entry_member_said : List ℕ → Entry → List MemberSaid
 entry_member_said id (shape_entry s) = []
 entry_member_said id (member_entry m) =
-    record { name = name_in_id id; target = absolute m.target false; traits = map_said m.traits } ∷ []
+    record { name = member_name id; target = absolute m.target false; traits = map_said m.traits } ∷ []
 
 abbrev pub member_under_said : List ℕ → Option Entry → List MemberSaid
 member_under_said id None = []

@@ -2,9 +2,9 @@
 -- order of the bytes of their names, members in model order, fields in the order of the layout. Left out are the shapes of the
 -- prelude, fields that are missing, and lists and objects without entries; `members` stands always, and so do `input` and
 -- `output`, which every operation of a graph has.
-use Rattle.std.specs.Prelude.{ℕ, ◌==◌, List, [], ◌∷◌, ◌++◌, Option, Some, None, if◌then◌else◌, codes}
+use Rattle.std.specs.Prelude.{ℕ, List, [], ◌∷◌, ◌++◌, Option, Some, None, if◌then◌else◌, codes}
 use Rattle.std.specs.FinMap as fin
-use Rattle.sm_bytes.specs.Ascii.{dollar}
+use Rattle.sm_ids.specs.TextParts.{member_name}
 use Rattle.sm_tree.specs.Node.{Node, Nodes, Members, text, list, object, no_nodes, node, no_members, member, nodes_of, members_of}
 use Rattle.sm_model.specs.Kinds.{MemberForm, none, exactly, any, member_form, kind_name}
 use Rattle.sm_model.specs.Properties.{TypeFields, property_forms}
@@ -66,13 +66,8 @@ abbrev pub written_entry : Option Entry → Option Node
 written_entry None = None
 written_entry (Some e) = written_member e
 
--- the name of a member, behind the `$` of its id
-abbrev pub name_in_id : List ℕ → List ℕ
-name_in_id [] = []
-name_in_id (c ∷ cs) = if c == dollar then cs else name_in_id cs
-
 abbrev pub member_there : ShapeMap → List ℕ → WrittenPairs
-member_there shapes id = field_there (name_in_id id) (written_entry (fin.get shapes id))
+member_there shapes id = field_there (member_name id) (written_entry (fin.get shapes id))
 
 abbrev pub written_members : ShapeMap → List (List ℕ) → WrittenPairs
 written_members shapes [] = []

@@ -15,13 +15,6 @@ pub(crate) fn is_shape_id(text: &str) -> bool
     }
 }
 
-/// Whether an id is that of a member. No memory.
-pub(crate) fn has_member(id: &str) -> bool
-    ensures { result ≡ ids.has_member id.now }
-{
-    id.bytes().any(|byte| byte == b'$')
-}
-
 /// Whether the text is an identifier. No memory.
 pub(crate) fn is_name(text: &str) -> bool
     ensures { result ≡ names.is_identifier text.now }

@@ -25,15 +25,9 @@ use Rattle.sm_compile.specs.steps.Numbered.{AreMemberRows, AreRowShapes, IsMembe
 use Rattle.sm_compile.specs.steps.Numbered.{numbered_by, only_members, run}
 use Rattle.sm_compile.proofs.Blocks.{first_next, first_rises, mapped_run, one_block}
 use Rattle.sm_compile.proofs.Differing.{differ_in_names}
-use Rattle.sm_compile.proofs.NamesBehind.{behind_one}
+use Rattle.sm_ids.proofs.MadeIds.{one_name}
 
-tails : (c d : ℕ) (s r : List ℕ) → c ∷ s ≡ d ∷ r → s ≡ r
-tails c d s r e = cc
-
--- a member's id has one name behind its shape's
-pub one_name : (s n m : List ℕ) → member_id s n ≡ member_id s m → n ≡ m
-one_name s n m h = tails 36 36 n m (behind_one s (36 ∷ n) (36 ∷ m) h)
-
+-- names that differ give ids that differ
 none_named : (s n : List ℕ) (ns : List (List ℕ)) → NoneIs n ns → NoneIs (member_id s n) (map (member_id s) ns)
 none_named s n [] h = tt
 none_named s n (m ∷ ns) h = ((λ e. h.0 (one_name s m n e)), none_named s n ns h.1)

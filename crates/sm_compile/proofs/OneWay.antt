@@ -7,7 +7,6 @@ use Rattle.std.specs.List.{join_with_byte}
 use Rattle.std.specs.Ordering.{nat_cmp, ordering_reverse}
 use Rattle.std.specs.declared.cmp.Ordering.{Ordering}
 use Rattle.std.specs.declared.cmp.Ordering.TheVariants.{Less, Equal, Greater}
-use Rattle.std.proofs.lemmas.List.{append_cancel_left}
 use Rattle.std.proofs.lemmas.Option.{same_Some}
 use Rattle.sm_bytes.specs.Ascii.{slash}
 use Rattle.sm_model.specs.Graphs.{GraphMaps, MemberEntry, member_entry, member_id}
@@ -17,15 +16,8 @@ use Rattle.sm_compile.specs.Kinds.{value_members}
 use Rattle.sm_compile.specs.Served.{IsFirstWay, IsStep, IsWay, WayStep, names_of_way, numbers_of_way}
 use Rattle.sm_compile.specs.declared.compiled.Served.{Served}
 use Rattle.sm_compile.specs.declared.compiled.Served.TheVariants.{Yes, Unserved}
+pub use Rattle.sm_ids.proofs.MadeIds.{one_name}
 use Rattle.sm_compile.proofs.OnePatterns.{same_member, same_shape}
-
--- names that differ give ids that differ
-abbrev behind_first : List ℕ → List ℕ
-behind_first [] = []
-behind_first (c ∷ cs) = cs
-
-pub one_name : (shape m n : List ℕ) → member_id shape m ≡ member_id shape n → m ≡ n
-one_name shape m n e = ap behind_first (append_cancel_left shape (36 ∷ m) (36 ∷ n) e)
 
 module _ (g : GraphMaps) where
   -- by one number from one shape there is one step

@@ -1,5 +1,5 @@
 // Wire.Names: names of members in messages differ, and no header begins with a prefix of its shape.
-ghost use Rattle.std.specs.Prelude.{◌≡◌, ◌<◌, OnOk, false, get_or, length, true};
+ghost use Rattle.std.specs.Prelude.{◌≡◌, ◌<◌, OnOk, length, true};
 ghost use Rattle.sm_model.specs.GraphView.{IsShapeNumber, maps_of};
 ghost use Rattle.sm_model.specs.Reaching.{id_of_number};
 ghost use Rattle.sm_rules.specs.WireNames.{HasWireNameAgain};
@@ -14,7 +14,7 @@ use crate::naming::Naming;
 use crate::prefixes::put_prefixed;
 use crate::sides::Sides;
 use sm_compile::kind_of;
-use sm_model::{Graph, Kind, ModelEvent};
+use sm_model::{Graph, Kind, ModelEvent, mark_at};
 use sm_passes::each::{AtEach, put_each};
 use sm_passes::owned::is_own_shape;
 use sm_tree::NoMemory;
@@ -122,19 +122,12 @@ fn put_queries(
     requires sides { AreSides graph.now sides.now }
     ensures { OnOk result (Puts (ToldQueries (maps_of graph.now) (id_of_number graph.now shape)) events.old.items events.new.items) }
 {
-    if is_marked(sides.inputs.as_slice(), shape as usize) {
+    if mark_at(sides.inputs.as_slice(), shape) {
         put_again(alloc, graph, Naming::Query, shape, events)?;
         Ok(())
     } else {
         Ok(())
     }
-}
-
-fn is_marked(marks: &[bool], number: usize) -> bool
-    requires { number < length marks.now }
-    ensures { result ≡ get_or marks.now number false }
-{
-    marks[number]
 }
 
 fn put_json(

@@ -1,5 +1,5 @@
 -- The bodies of operations, services and resources are read as they are said.
-use Rattle.std.proofs.Common.{◌≡◌, ℕ, inl, false, List, [], ◌∷◌, ◌++◌, map, Option, Some, None, refl, sym, ap, ap₂, subst}
+use Rattle.std.proofs.Common.{◌≡◌, ℕ, inl, false, List, [], ◌∷◌, ◌++◌, drop, map, Option, Some, None, refl, sym, ap, ap₂, subst}
 use Rattle.std.proofs.Common.{append_assoc, codes}
 use Rattle.std.specs.List.{flat_map}
 use Rattle.sm_ids.specs.IdText.{IsIdText}
@@ -21,7 +21,6 @@ use Rattle.sm_idl.specs.Bodies.{Suffixes, PartSaid, part_names, part_word, part_
 use Rattle.sm_idl.specs.Bodies.{braced_pairs}
 use Rattle.sm_idl.specs.Shapes.{BodySaid, part_pairs, operation_body, pairs_body}
 use Rattle.sm_idl.specs.Written.{indent, written_id, more_ids, written_ids, written_value, value_there, field_lines, braced}
-use Rattle.sm_idl.specs.steps.Writing.{life_cycle_fields, bound_fields}
 use Rattle.sm_idl.specs.WrittenFile.{id_said, ids_said, list_said, value_said, value_there_said, field_said, fields_said}
 use Rattle.sm_idl.proofs.TextTokens.{Goes, Spells, goes_white, goes_whites, goes_gives, goes_both, goes_left, goes_right, goes_none}
 use Rattle.sm_idl.proofs.TextTokens.{goes_next}
@@ -87,10 +86,10 @@ pub resource_goes : (home : Home) (ms : Members) (s : List ℕ) {Q : Tokens → 
     (braced (field_lines resource_fields ms) ++ s)
 resource_goes home ms s are apart h =
     let all : TypeFields = resource_fields in
-    let bound : AreKnown home all bound_fields = (refl, refl, (refl, refl, (refl, refl, tt))) in
-    let last : AreKnown home all ((codes "update", Reference) ∷ (codes "delete", Reference) ∷ (codes "list", Reference) ∷ bound_fields) =
+    let bound : AreKnown home all (drop 8 all) = (refl, refl, (refl, refl, (refl, refl, tt))) in
+    let last : AreKnown home all (drop 5 all) =
     (refl, refl, (refl, refl, (refl, refl, bound))) in
-    let cycle : AreKnown home all (life_cycle_fields ++ bound_fields) = (refl, refl, (refl, refl, (refl, refl, last))) in
+    let cycle : AreKnown home all (drop 2 all) = (refl, refl, (refl, refl, (refl, refl, last))) in
     pairs_goes home Resource ms s are apart (differ_by_test (map (λ f. f.0) all) refl) (refl, refl, (refl, refl, cycle)) h
 
 -- parts of operations

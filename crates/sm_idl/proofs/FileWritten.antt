@@ -25,7 +25,8 @@ use Rattle.sm_idl.specs.Nodes.{Home, as_object, node}
 use Rattle.sm_idl.specs.Bodies.{Suffixes, suffixes}
 use Rattle.sm_idl.specs.Shapes.{item}
 use Rattle.sm_idl.specs.Idl.{control, metadata, used, SectionSaid, items, section, FileSaid, file, FileSpelled, Idl, metadata_statements}
-use Rattle.sm_idl.specs.Written.{NodePairs, metadata_lines, shape_lines, written_entry, written_shape, is_written, namespace_in, name_in}
+use Rattle.sm_idl.specs.Written.{NodePairs, metadata_lines, shape_lines, written_entry, written_shape, is_written}
+use Rattle.sm_ids.specs.TextParts.{local_part, namespace_part}
 use Rattle.sm_idl.specs.Written.{body_in_form, trait_lines, written_idl}
 use Rattle.sm_idl.specs.WrittenFile.{home_alone, traits_said, fields_said, body_said, members_said, entry_said, entry_statements}
 use Rattle.sm_idl.specs.WrittenFile.{shapes_said}
@@ -42,7 +43,7 @@ use Rattle.sm_idl.proofs.NodesWritten.{text_leaf}
 use Rattle.sm_idl.proofs.TraitsWritten.{IsMetadata, metadata_pairs, metadata_go}
 use Rattle.sm_idl.proofs.MembersWritten.{FoundMember, found_said}
 use Rattle.sm_idl.proofs.ShapesWritten.{body_text, found_text, shape_said_by, shape_goes}
-use Rattle.sm_idl.proofs.IdsWritten.{id_cut}
+use Rattle.sm_ids.proofs.TextCuts.{id_cut}
 use Rattle.sm_idl.proofs.GraphWritten.{IsSoundShape, EntryIsSound, FoundAll, graph_sound}
 
 -- a shape of a graph is written and said by what is found of it
@@ -54,11 +55,11 @@ in_form Targets shapes kind ids found ms all = ap (λ (u : List ℕ). codes " {\
 in_form Fields shapes kind ids found ms all = refl
 
 module _ (shapes : ShapeMap) (id : List ℕ) (s : ShapeEntry) (h : IsSoundShape shapes id s) where
-  shape_written : written_shape shapes id s ≡ found_text s.kind (name_in id) h.found h.pairs (fin.entries s.traits)
+  shape_written : written_shape shapes id s ≡ found_text s.kind (local_part id) h.found h.pairs (fin.entries s.traits)
   shape_written =
       ap (λ b. trait_lines [] (fin.entries s.traits)
-      ++ (kind_name s.kind ++ codes " " ++ name_in id ++ body_in_form (written_form s.kind) shapes s.kind s.members b)) h.is_object
-      ∙ ap (λ (u : List ℕ). trait_lines [] (fin.entries s.traits) ++ (kind_name s.kind ++ codes " " ++ name_in id ++ u))
+      ++ (kind_name s.kind ++ codes " " ++ local_part id ++ body_in_form (written_form s.kind) shapes s.kind s.members b)) h.is_object
+      ∙ ap (λ (u : List ℕ). trait_lines [] (fin.entries s.traits) ++ (kind_name s.kind ++ codes " " ++ local_part id ++ u))
       (in_form (written_form s.kind) shapes s.kind s.members h.found h.pairs h.all)
 
   abbrev said_of : Home → List ℕ → List MemberSaid → Raw → ShapeSaid
@@ -77,11 +78,11 @@ module _ (shapes : ShapeMap) (id : List ℕ) (s : ShapeEntry) (h : IsSoundShape 
   abbrev fields_of : Home → Raw
   fields_of home = as_object (fields_said home (property_forms s.kind) h.pairs)
 
-  said_so : (home : Home) → home.namespace ≡ namespace_in id
-      → shape_said_by home s.kind (name_in id) h.found h.pairs (fin.entries s.traits) ≡ entry_said home shapes id s
+  said_so : (home : Home) → home.namespace ≡ namespace_part id
+      → shape_said_by home s.kind (local_part id) h.found h.pairs (fin.entries s.traits) ≡ entry_said home shapes id s
   said_so home same =
       let cut = id_cut id h.is_shape in
-      ap (λ i. said_of home i (found_members home) (fields_of home)) (ap (λ n. n ++ 35 ∷ name_in id) same ∙ sym cut.parts)
+      ap (λ i. said_of home i (found_members home) (fields_of home)) (ap (λ n. n ++ 35 ∷ local_part id) same ∙ sym cut.parts)
       ∙ ap (λ ms. said_of home id ms (fields_of home)) (sym (h.all.said home (written_form s.kind)))
       ∙ ap (λ n. said_of home id (members_said home (written_form s.kind) shapes s.members)
       (as_object (body_said home (property_forms s.kind) (pairs_in n)))) (sym h.is_object)
@@ -117,10 +118,10 @@ module _ (home : Home) (endings : Suffixes) (shapes : ShapeMap) where
   flat_said [] = refl
   flat_said (e ∷ es) = entry_flat e.0 e.1 (groups es) (shapes_said home shapes es) (flat_said es)
 
-  in_namespace : (id : List ℕ) → is_written home.namespace id ≡ true → home.namespace ≡ namespace_in id
+  in_namespace : (id : List ℕ) → is_written home.namespace id ≡ true → home.namespace ≡ namespace_part id
   in_namespace id e =
-      sym ((bytes_equal_is (namespace_in id) home.namespace).0
-      (both (bytes_eq (namespace_in id) home.namespace) _ e).0)
+      sym ((bytes_equal_is (namespace_part id) home.namespace).0
+      (both (bytes_eq (namespace_part id) home.namespace) _ e).0)
 
   one_goes : (b : Bool) (id : List ℕ) (s : ShapeEntry) → is_written home.namespace id ≡ b → IsSoundShape shapes id s
       → (gs : List (List Said)) (before : List (List Said)) (t : List ℕ) (Q : Tokens → Type 0)
@@ -135,7 +136,7 @@ module _ (home : Home) (endings : Suffixes) (shapes : ShapeMap) where
       (goes_next (λ _. item home endings) before said gs
       (goes_value (item home endings) (ap (λ x. shape_said x ∷ []) (said_so shapes id s h home (in_namespace id e)))
       (goes_flat (ap (λ (u : List ℕ). u ++ t) (shape_written shapes id s h))
-      (shape_goes home endings s.kind (name_in id) h.found h.pairs (fin.entries s.traits) t cut.name h.body h.traits
+      (shape_goes home endings s.kind (local_part id) h.found h.pairs (fin.entries s.traits) t cut.name h.body h.traits
       (next (before ++ said ∷ []))))))
 
   entry_goes : (id : List ℕ) (x : Entry) → EntryIsSound shapes id x → (gs before : List (List Said)) (t : List ℕ) (Q : Tokens → Type 0)

@@ -50,7 +50,6 @@ pub mod Stopped
 pub mod TokenCuts
 pub mod ReadControls
 pub mod WrittenIdl
-pub mod WrittenLengths
 pub mod EscapesRead
 pub mod TextsRead
 pub mod Yields
@@ -71,6 +70,5 @@ pub mod ValuesWritten
 pub mod FieldsWritten
 pub mod BodiesWritten
 pub mod ShapesWritten
-pub mod IdsWritten
 pub mod GraphWritten
 pub mod FileWritten

@@ -5,19 +5,19 @@ use Rattle.std.specs.Prelude.{IsSomeAnd, slice_get, if◌then◌else◌, ◌==�
 use Rattle.std.specs.FinMap as fin
 use Rattle.sm_bytes.specs.Ascii.{line_feed}
 use Rattle.sm_json.specs.Written.{written}
-use Rattle.sm_tree.specs.Node.{Node, Members, object, members_of}
-use Rattle.sm_tree.specs.Parts.{pairs_in, tree_named}
+use Rattle.sm_tree.specs.Node.{Node, object, members_of}
+use Rattle.sm_tree.specs.Parts.{pairs_in}
 use Rattle.sm_tree.specs.View.{members_view}
 use Rattle.sm_tree.specs.declared.tree.Tree.{Tree}
 use Rattle.sm_model.specs.Graphs.{Entry, shape_entry, member_entry, ShapeMap, traits_in}
 use Rattle.sm_model.specs.GraphView.{At, entries_of, ids, is_member_entry, IsMemberAt, IsShapeAt, maps_of}
 use Rattle.sm_model.specs.GraphView.{HasKind, HasMembers, HasBodyNode, Targets}
-use Rattle.sm_model.specs.Properties.{TypeFields}
 use Rattle.sm_model.specs.declared.graph.Graph.{Graph}
 use Rattle.sm_model.specs.declared.kind.Kind.{Kind}
 use Rattle.sm_model.proofs.GraphFacts.{Found, entry_under, id_at, member_found, shape_found}
-use Rattle.sm_idl.specs.Written.{NodePairs, field_line, field_lines, is_written, member_in, member_text, member_there, name_in}
-use Rattle.sm_idl.specs.Written.{shape_lines, shape_text, stated_text, trait_lines, value_there, written_entry, written_member}
+use Rattle.sm_idl.specs.Written.{NodePairs, is_written, member_text, member_there}
+use Rattle.sm_ids.specs.TextParts.{local_part, member_name}
+use Rattle.sm_idl.specs.Written.{shape_lines, shape_text, stated_text, trait_lines, written_entry, written_member}
 use Rattle.sm_idl.specs.Written.{written_pairs, written_shape}
 use Rattle.sm_idl.specs.steps.Writing.{IsShapeText, member_at}
 
@@ -37,18 +37,18 @@ id_there g k t r same = subst (λ x. At g k (λ id e. x ≡ id)) (sym same)
 -- a member, by its id, its target and its traits
 pub member_is : (g : Graph) (k : ℕ) (targets : Bool) (id target : List ℕ) (traits : NodePairs) → At g k (λ i e. id ≡ i)
     → At g k (λ i e. Targets target e) → At g k (λ i e. fin.entries (traits_in e) ≡ traits)
-    → member_text targets (member_in id) target traits ≡ member_at targets (maps_of g).shapes (get_or (ids g) k [])
+    → member_text targets (member_name id) target traits ≡ member_at targets (maps_of g).shapes (get_or (ids g) k [])
 member_is g k targets id target traits same aims carries = by (slice_get (entries_of g) k) refl same aims carries
   where
     written : (x : Entry) → Targets target x → fin.entries (traits_in x) ≡ traits
-        → written_member targets id x ≡ member_text targets (member_in id) target traits
+        → written_member targets id x ≡ member_text targets (member_name id) target traits
     written (shape_entry s) h c = absurd h
     written (member_entry m) h c =
-        ap (λ t. member_text targets (member_in id) t (fin.entries m.traits)) h ∙ ap (member_text targets (member_in id) target) c
+        ap (λ t. member_text targets (member_name id) t (fin.entries m.traits)) h ∙ ap (member_text targets (member_name id) target) c
 
     by : (o : Found) → slice_get (entries_of g) k ≡ o → IsSomeAnd o (λ e. id ≡ e.0) → IsSomeAnd o (λ e. Targets target e.1)
         → IsSomeAnd o (λ e. fin.entries (traits_in e.1) ≡ traits)
-        → member_text targets (member_in id) target traits ≡ member_at targets (maps_of g).shapes (get_or (ids g) k [])
+        → member_text targets (member_name id) target traits ≡ member_at targets (maps_of g).shapes (get_or (ids g) k [])
     by None there h a c = absurd h
     by (Some e) there h a c =
         sym (ap (member_at targets (maps_of g).shapes) (id_at g k e.0 e.1 there ∙ sym h)
@@ -120,12 +120,12 @@ other_skipped shapes namespace (Some e) text id h other = by e.1
     by (member_entry m) = sym (append-nil text)
 
 pub shape_put : (shapes : ShapeMap) (namespace : List ℕ) (o : Found) (before now id : List ℕ) → IsSomeAnd o (λ e. id ≡ e.0)
-    → is_written namespace id ≡ true → IsSomeAnd o (λ e. IsShapeText shapes (name_in id) (before ++ line_feed ∷ []) now e.1)
+    → is_written namespace id ≡ true → IsSomeAnd o (λ e. IsShapeText shapes (local_part id) (before ++ line_feed ∷ []) now e.1)
     → Put shapes namespace o now before
 shape_put shapes namespace None before now id h own is = h
 shape_put shapes namespace (Some e) before now id h own is = by e.1 is
   where
-    by : (x : Entry) → IsShapeText shapes (name_in id) (before ++ line_feed ∷ []) now x
+    by : (x : Entry) → IsShapeText shapes (local_part id) (before ++ line_feed ∷ []) now x
         → now ≡ before ++ written_entry shapes namespace e.0 x
     by (shape_entry s) w =
         w ∙ append_assoc before (line_feed ∷ []) (written_shape shapes id s)
@@ -142,22 +142,6 @@ put_then shapes namespace (e ∷ es) zero now before h =
     ap (λ xs. xs ++ shape_lines shapes namespace es) h
     ∙ append_assoc before (written_entry shapes namespace e.0 e.1) (shape_lines shapes namespace es)
 put_then shapes namespace (e ∷ es) (suc k) now before h = put_then shapes namespace es k now before h
-
--- fields in three parts
-pub fields_joined : (fs gs : TypeFields) (body : Members) → field_lines (fs ++ gs) body ≡ field_lines fs body ++ field_lines gs body
-fields_joined [] gs body = refl
-fields_joined (f ∷ fs) gs body =
-    let here = field_line f.0 (value_there f.1 (tree_named f.0 body)) in
-    ap (λ xs. here ++ xs) (fields_joined fs gs body) ∙ sym (append_assoc here (field_lines fs body) (field_lines gs body))
-
-pub three_put : (fs gs hs : TypeFields) (body : Members) (before one two three : List ℕ) → one ≡ before ++ field_lines fs body
-    → two ≡ one ++ field_lines gs body → three ≡ two ++ field_lines hs body → three ≡ before ++ field_lines (fs ++ (gs ++ hs)) body
-three_put fs gs hs body before one two three a b c =
-    let ps = field_lines fs body in
-    let qs = field_lines gs body in
-    let rs = field_lines hs body in
-    c ∙ ap (λ xs. xs ++ rs) b ∙ ap (λ xs. (xs ++ qs) ++ rs) a ∙ append_assoc (before ++ ps) qs rs ∙ append_assoc before ps (qs ++ rs)
-    ∙ ap (λ xs. before ++ (ps ++ xs)) (sym (fields_joined gs hs body)) ∙ ap (λ xs. before ++ xs) (sym (fields_joined fs (gs ++ hs) body))
 
 -- an object that has pairs
 pub pairs_there : (n : Node) (ps : List (List ℕ × Tree)) → n ≡ object (members_of (members_view ps)) → (length ps == 0) ≡ false

@@ -14,6 +14,7 @@ use Rattle.sm_ids.specs.Identifier.{is_identifier_byte, is_behind_underscore, Is
 use Rattle.sm_ids.specs.IdText.{IsIdText, member_text}
 use Rattle.sm_ids.proofs.Cutting.{both, and_also, list_all_weaker, pick}
 use Rattle.sm_ids.proofs.Identifiers.{made_of_bytes}
+use Rattle.sm_ids.proofs.TextCuts.{all_run}
 use Rattle.sm_ids.proofs.Namespaces.{is_namespace_byte, namespace_bytes, namespace_first}
 use Rattle.sm_tree.specs.Numbers.{IsDigit, AreDigits, IsMinus, IsInt, IsDigits, IsFraction, IsSign, IsExponent, IsNumber}
 use Rattle.sm_tree.specs.steps.NumberBytes.{IsNumberStart}
@@ -89,13 +90,6 @@ no_slash c h = grind (arith, nat_tests)
 
 word_first : (c : ℕ) → begins_word c ≡ true → first_of c ≡ a_word
 word_first c h = cond-false _ _ _ (no_white c h) ∙ cond-false _ _ _ (no_slash c h) ∙ cond-true _ _ _ h
-
-pub all_run : (p : ℕ → Bool) (w s : List ℕ) → list_all p w ≡ true → prefix_len p s ≡ 0 → length w ≡ prefix_len p (w ++ s)
-all_run p [] s h e = sym e
-all_run p (c ∷ w) s h e =
-    let l = both (p c) (list_all p w) h in
-    let more : suc (length w) ≡ 1 + length w = omega arith in
-    more ∙ ap (λ n. 1 + n) (all_run p w s l.1 e) ∙ sym (cond-true (p c) _ _ l.0)
 
 word_some : (w : List ℕ) → IsWordText w → 0 < length w
 word_some w it = let long : length w ≡ suc (length it.more) = ap length it.is in omega (arith, long)

@@ -1,7 +1,7 @@
 -- The bodies of operations, services and resources (Smithy 2.0, "Smithy IDL", "Service types", "Inline input / output shapes").
 use Rattle.std.specs.Prelude.{◌≡◌, ◌⊎◌, ℕ, false, if◌then◌else◌, List, [], ◌∷◌, ◌++◌, map, Option, Some, None, codes}
 use Rattle.std.specs.Str.{bytes_eq}
-use Rattle.sm_bytes.specs.Ascii.{number_sign}
+use Rattle.sm_ids.specs.TextParts.{absolute_id}
 use Rattle.sm_ids.specs.Identifier.{IsIdentifier}
 use Rattle.sm_ids.specs.IdText.{IsIdText}
 use Rattle.sm_lex.specs.Tokens.{Lexeme}
@@ -23,7 +23,7 @@ use Rattle.sm_idl.specs.Members.{field, members, mixins}
 
 -- the id of a shape that the file defines
 abbrev pub defined_id : Home → List ℕ → List ℕ
-defined_id home name = home.namespace ++ number_sign ∷ name
+defined_id home name = absolute_id home.namespace name
 
 -- the controls of a file, by their keys
 abbrev pub Controls : Type 0

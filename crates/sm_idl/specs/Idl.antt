@@ -1,8 +1,8 @@
 -- A model's text (Smithy 2.0, "Smithy IDL"): which statements its tokens spell, which tokens the grammar begins with, and which
 -- versions are read.
-use Rattle.std.specs.Prelude.{◌≡◌, ◌⊎◌, ◌==◌, ℕ, Bool, List, [], ◌∷◌, ◌++◌, map, Option, Some, None, codes}
-use Rattle.std.specs.List.{filter, flat_map, list_any}
-use Rattle.sm_bytes.specs.Ascii.{number_sign}
+use Rattle.std.specs.Prelude.{◌≡◌, ◌⊎◌, ◌==◌, ℕ, List, [], ◌∷◌, ◌++◌, map, Option, Some, None, codes}
+use Rattle.std.specs.List.{filter, flat_map}
+pub use Rattle.sm_ids.specs.TextParts.{is_absolute}
 use Rattle.sm_ids.specs.Identifier.{IsNamespace}
 use Rattle.sm_lex.specs.Tokens.{Lexeme, TokensSpell}
 use Rattle.sm_tree.specs.Limits.{most_levels}
@@ -33,9 +33,6 @@ abbrev pub used : Production (List ℕ)
 used = the_word (codes "use") >> id
 
 -- the ids that are used: a name without its namespace changes nothing
-abbrev pub is_absolute : List ℕ → Bool
-is_absolute w = list_any (λ c. c == number_sign) w
-
 abbrev pub home_of : List ℕ → List (List ℕ) → Home
 home_of namespace ws = record { namespace = namespace; uses = filter is_absolute ws }
 

@@ -1,10 +1,9 @@
 -- Nodes (Smithy 2.0, "Smithy IDL", "Node values"): what their tokens say in a file. A word in a node, but `true`, `false` and
 -- `null`, is the id of a shape.
-use Rattle.std.specs.Prelude.{◌≡◌, ◌⊎◌, ℕ, zero, suc, Bool, true, false, ◌==◌, ◌||◌, if◌then◌else◌, List, map, Option, Some, None}
+use Rattle.std.specs.Prelude.{◌≡◌, ◌⊎◌, ℕ, zero, suc, Bool, true, false, ◌||◌, if◌then◌else◌, List, map, Option, Some, None}
 use Rattle.std.specs.Prelude.{Ok, codes}
-use Rattle.std.specs.List.{before_first}
 use Rattle.std.specs.Str.{bytes_eq}
-use Rattle.sm_bytes.specs.Ascii.{dollar}
+use Rattle.sm_ids.specs.TextParts.{shape_part}
 use Rattle.sm_lex.specs.Tokens.{Lexeme}
 use Rattle.sm_lex.specs.declared.token.TokenKind.{TokenKind}
 use Rattle.sm_lex.specs.declared.token.TokenKind.TheVariants.{Word, Number, Text, Block, Mark}
@@ -28,7 +27,7 @@ written home w in_trait = record { text = w; namespace = Some home.namespace; us
 
 -- a word where a file has no namespace: the shape of the prelude, else the text itself
 abbrev pub of_prelude : List ℕ → List ℕ
-of_prelude w = if is_prelude_id (api_id (before_first (λ c. c == dollar) w)) then api_id w else w
+of_prelude w = if is_prelude_id (api_id (shape_part w)) then api_id w else w
 
 -- the text of the id that a word means
 abbrev pub word_meant : Option Home → List ℕ → Raw

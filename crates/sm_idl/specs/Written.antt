@@ -2,11 +2,11 @@
 -- its shapes outside the prelude in the order of their ids, an empty line before each. Every line ends with a line feed. Nodes are
 -- JSON without whitespace, ids are absolute, traits stand in the order of their ids, members in model order, and the fields of
 -- operations, services and resources in the order of their type, without those that are missing or have nothing in them.
-use Rattle.std.specs.Prelude.{ℕ, Bool, true, false, ◌==◌, ◌&&◌, not, if◌then◌else◌, List, [], ◌∷◌, ◌++◌, Option, Some, None, codes}
+use Rattle.std.specs.Prelude.{ℕ, Bool, true, false, ◌&&◌, not, if◌then◌else◌, List, [], ◌∷◌, ◌++◌, Option, Some, None, codes}
 use Rattle.std.specs.FinMap as fin
-use Rattle.std.specs.List.{before_first, after_first}
 use Rattle.std.specs.Str.{bytes_eq}
-use Rattle.sm_bytes.specs.Ascii.{line_feed, number_sign, dollar, comma, colon, left_bracket, right_bracket, left_brace, right_brace}
+use Rattle.sm_bytes.specs.Ascii.{line_feed, comma, colon, left_bracket, right_bracket, left_brace, right_brace}
+use Rattle.sm_ids.specs.TextParts.{local_part, member_name, namespace_part}
 use Rattle.sm_json.specs.Written.{written, written_text}
 use Rattle.sm_tree.specs.Node.{Node, Nodes, Members, object, no_nodes, node, no_members, member}
 use Rattle.sm_tree.specs.Parts.{text_in, entries_in, pairs_in, tree_named}
@@ -28,16 +28,6 @@ NodePairs = List (List ℕ × Node)
 -- what stands within braces
 abbrev pub indent : List ℕ
 indent = codes "    "
-
--- the parts of an id: before the `#`, behind it, and behind the `$`
-abbrev pub namespace_in : List ℕ → List ℕ
-namespace_in id = before_first (λ c. c == number_sign) id
-
-abbrev pub name_in : List ℕ → List ℕ
-name_in id = after_first (λ c. c == number_sign) id
-
-abbrev pub member_in : List ℕ → List ℕ
-member_in id = after_first (λ c. c == dollar) id
 
 -- metadata "KEY" = NODE
 abbrev pub metadata_line : List ℕ → Node → List ℕ
@@ -65,7 +55,7 @@ member_text targets name target traits = trait_lines indent traits ++ indent ++ 
 
 abbrev pub written_member : Bool → List ℕ → Entry → List ℕ
 written_member targets id (shape_entry s) = []
-written_member targets id (member_entry m) = member_text targets (member_in id) m.target (fin.entries m.traits)
+written_member targets id (member_entry m) = member_text targets (member_name id) m.target (fin.entries m.traits)
 
 abbrev pub member_there : Bool → List ℕ → Option Entry → List ℕ
 member_there targets id None = []
@@ -156,11 +146,11 @@ abbrev pub shape_text : ShapeMap → List ℕ → Kind → List (List ℕ) → N
 shape_text shapes name kind members body traits = trait_lines [] traits ++ stated_text shapes name kind members body
 
 abbrev pub written_shape : ShapeMap → List ℕ → ShapeEntry → List ℕ
-written_shape shapes id s = shape_text shapes (name_in id) s.kind s.members s.properties (fin.entries s.traits)
+written_shape shapes id s = shape_text shapes (local_part id) s.kind s.members s.properties (fin.entries s.traits)
 
 -- the shapes of a namespace that are written, each behind an empty line; members are written in their shapes
 abbrev pub is_written : List ℕ → List ℕ → Bool
-is_written namespace id = bytes_eq (namespace_in id) namespace && not (is_prelude_id id)
+is_written namespace id = bytes_eq (namespace_part id) namespace && not (is_prelude_id id)
 
 abbrev pub written_entry : ShapeMap → List ℕ → List ℕ → Entry → List ℕ
 written_entry shapes namespace id (shape_entry s) = if is_written namespace id then line_feed ∷ written_shape shapes id s else []

@@ -18,7 +18,8 @@ use Rattle.sm_idl.specs.Nodes.{Home, Pair, written, as_object}
 use Rattle.sm_idl.specs.Bodies.{Controls}
 use Rattle.sm_idl.specs.Idl.{FileSaid}
 use Rattle.sm_idl.specs.WrittenForms.{written_form}
-use Rattle.sm_idl.specs.Written.{NodePairs, member_in, written_id, is_written}
+use Rattle.sm_idl.specs.Written.{NodePairs, written_id, is_written}
+use Rattle.sm_ids.specs.TextParts.{member_name}
 use Rattle.sm_idl.specs.declared.write.form.WrittenForm.{WrittenForm}
 use Rattle.sm_idl.specs.declared.write.form.WrittenForm.TheVariants.{Alone, Names, Targets, Fields}
 
@@ -44,7 +45,7 @@ target_said home Fields id = written home id false
 abbrev pub entry_member_said : Home → WrittenForm → List ℕ → Entry → List MemberSaid
 entry_member_said home form id (shape_entry s) = []
 entry_member_said home form id (member_entry m) =
-    record { name = member_in id; target = target_said home form m.target; traits = traits_said home (fin.entries m.traits) } ∷ []
+    record { name = member_name id; target = target_said home form m.target; traits = traits_said home (fin.entries m.traits) } ∷ []
 
 abbrev pub member_said : Home → WrittenForm → List ℕ → Option Entry → List MemberSaid
 member_said home form id None = []

@@ -8,7 +8,6 @@ mod home;
 mod ids;
 pub mod laws;
 mod leaf;
-mod length;
 mod made;
 mod members;
 mod names;

@@ -1,7 +1,6 @@
 // References, as a file writes them, and the ids of the shapes that it defines.
-ghost use Rattle.std.specs.Prelude.{◌≡◌, ◌++◌, ◌∷◌, IfOk, false};
-ghost use Rattle.sm_bytes.specs.Ascii.{number_sign};
-ghost use Rattle.sm_ids.specs.Identifier.{IsIdentifier, IsNamespace};
+ghost use Rattle.std.specs.Prelude.{◌≡◌, IfOk, false};
+ghost use Rattle.sm_ids.specs.Identifier.{IsIdentifier};
 ghost use Rattle.sm_model.specs.RawView.{raw_view};
 ghost use Rattle.sm_model.specs.References as references;
 ghost use Rattle.sm_idl.specs.Bodies.{defined_id};
@@ -10,7 +9,7 @@ ghost use Rattle.sm_idl.specs.steps.HomeView.{home_of_file};
 
 use crate::home::FileHome;
 use crate::leaf::Words;
-use sm_ids::{ShapeId, ShapeIdRef};
+use sm_ids::ShapeId;
 use sm_model::{RawNode, Ref, Uses};
 use sm_tree::{NoMemory, Text};
 use std::alloc::Global;
@@ -26,23 +25,6 @@ pub(crate) fn absolute(alloc: Global, text: &str, in_trait: bool) -> Result<Ref,
         uses: Uses::none(),
         in_trait,
     })
-}
-
-/// The id of a shape.
-fn shape_id<'x>(alloc: Global, namespace: &'x str, name: &'x str) -> Result<ShapeId, NoMemory>
-    requires namespace { IsNamespace namespace.now }
-    requires name { IsIdentifier name.now }
-    ensures { IfOk result (λ id. id ≡ namespace.now ++ number_sign ∷ name.now) }
-{
-    let id = ShapeIdRef {
-        namespace,
-        name,
-        member: None,
-    };
-    match ShapeId::new(alloc, &id) {
-        Ok(id) => Ok(id),
-        Err(_) => Err(NoMemory),
-    }
 }
 
 impl FileHome<'_> {
@@ -75,7 +57,10 @@ impl FileHome<'_> {
         requires { IsIdentifier name.now }
         ensures { IfOk result (λ id. id ≡ defined_id (home_of_file self.now) name.now) }
     {
-        shape_id(alloc, self.namespace, name)
+        match ShapeId::in_namespace(alloc, self.namespace, name) {
+            Ok(id) => Ok(id),
+            Err(_) => Err(NoMemory),
+        }
     }
 }
 

@@ -1,10 +1,9 @@
 // Words of a file whose namespace isn't known yet, and of one without a namespace.
-ghost use Rattle.std.specs.Prelude.{◌≡◌, ◌==◌, ◌++◌, IfOk};
-ghost use Rattle.std.specs.List.{before_first};
-ghost use Rattle.sm_bytes.specs.Ascii.{dollar};
+ghost use Rattle.std.specs.Prelude.{◌≡◌, ◌++◌, IfOk};
 ghost use Rattle.sm_idl.specs.Nodes.{of_prelude};
 
 use crate::leaf::Words;
+use sm_ids::without_member;
 use sm_model::{RawNode, Ref, Uses, is_in_prelude};
 use sm_tree::{NoMemory, Text, Tree};
 use std::alloc::Global;
@@ -31,21 +30,11 @@ pub(crate) fn joined(alloc: Global, first: &str, second: &str) -> Result<Text, N
     }
 }
 
-/// The name before a member.
-fn shape_name(word: &str) -> &str
-    ensures { result.now ≡ before_first (λ c. c == dollar) word.now }
-{
-    match word.split_once('$') {
-        Some((name, _)) => name,
-        None => word,
-    }
-}
-
 /// The text of a word in a file without a namespace.
 fn of_prelude(alloc: Global, word: &str) -> Result<Text, NoMemory>
     ensures { IfOk result (λ text. text ≡ of_prelude word.now) }
 {
-    let id = match joined(alloc, "smithy.api#", shape_name(word)) {
+    let id = match joined(alloc, "smithy.api#", without_member(word)) {
         Ok(id) => id,
         Err(refusal) => return Err(refusal),
     };

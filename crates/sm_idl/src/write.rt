@@ -13,9 +13,6 @@ mod shape;
 mod traits;
 mod value;
 
-use crate::length::idl_len;
-pub(crate) use form::{WrittenForm, form_of};
-pub(crate) use id::{is_its_own, member_name, parts};
 use put::put;
 use shape::put_shapes;
 use sm_model::Graph;
@@ -25,12 +22,11 @@ use traits::put_metadata;
 
 /// The one text that is written for a namespace of a graph: the version, the metadata, the namespace, and the shapes of the
 /// namespace outside the prelude, in the order of their ids. A namespace without such shapes has the lines before them alone.
-/// Its length is told first, so that its room is taken once. `NoMemory` where the allocator refuses memory.
+/// `NoMemory` where the allocator refuses memory.
 pub fn write_idl(alloc: Global, graph: &Graph, namespace: &str) -> Result<Vec<u8>, NoMemory>
     ensures { IfOk result (λ text. text.items ≡ written_idl (maps_of graph.now) namespace.now) }
 {
     let mut out = Vec::new(alloc);
-    out.reserve(idl_len(graph, namespace) as usize)?;
     put_idl(alloc, graph, namespace, &mut out)?;
     Ok(out)
 }

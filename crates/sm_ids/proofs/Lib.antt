@@ -10,3 +10,5 @@ pub mod Parting
 mod Grammar
 pub mod PartOrder
 mod IdAnswers
+pub mod MadeIds
+pub mod TextCuts

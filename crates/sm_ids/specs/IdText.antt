@@ -35,6 +35,14 @@ pub record IdText (id : Id) (text : List ℕ) : Type 0 where
 abbrev pub IsIdText : List ℕ → Type 0
 IsIdText text = (id : Id) × IdText id text
 
+-- the text is the id of a shape, without a member
+abbrev pub IsShapeId : List ℕ → Type 0
+IsShapeId text = (id : Id) × IdText id text × (id.member ≡ None)
+
+-- Identifier ["$" Identifier]: an id without its namespace
+abbrev pub IsRelativeId : List ℕ → Type 0
+IsRelativeId text = (name : List ℕ) × (m : Option (List ℕ)) × IsIdentifier name × ForSome m IsIdentifier × (text ≡ name ++ member_text m)
+
 -- these bytes begin some text of a kind: some continuation is one
 abbrev pub BeginsText : (List ℕ → Type 0) → List ℕ → Type 0
 BeginsText IsText bytes = (more : List ℕ) × IsText (bytes ++ more)

@@ -1,5 +1,6 @@
 pub mod Identifier
 pub mod IdText
+pub mod TextParts
 pub mod View
 pub mod Answers
 pub mod Fold

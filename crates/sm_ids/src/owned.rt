@@ -3,7 +3,9 @@ ghost use Rattle.std.specs.Prelude.{◌≡◌, ◌-◌, ◌^◌, ◌++◌, IfOk,
 ghost use Rattle.std.specs.Option.{option_copied};
 ghost use Rattle.std.specs.Ordering.{nat_cmp};
 ghost use Rattle.std.specs.Cmp.Lexicographic.{slice_cmp};
-ghost use Rattle.sm_ids.specs.IdText.{member_text, printed, IdText};
+ghost use Rattle.sm_ids.specs.Identifier.{IsIdentifier, IsNamespace};
+ghost use Rattle.sm_ids.specs.IdText.{member_text, printed, IdText, IsShapeId};
+ghost use Rattle.sm_ids.specs.TextParts.{absolute_id, member_id};
 ghost use Rattle.sm_ids.specs.View.{id_of};
 
 use crate::id::ShapeIdRef;
@@ -51,6 +53,39 @@ impl ShapeId {
             text,
             ends: Ends { namespace, name },
         })
+    }
+
+    /// The id of a shape, put together from its namespace and its name. `NoMemory` where its text finds no room.
+    pub fn in_namespace<'x>(
+        alloc: Global,
+        namespace: &'x str,
+        name: &'x str,
+    ) -> Result<Self, NoMemory>
+        requires namespace { IsNamespace namespace.now }
+        requires name { IsIdentifier name.now }
+        ensures { IfOk result (λ id. id ≡ absolute_id namespace.now name.now) }
+    {
+        let id = ShapeIdRef {
+            namespace,
+            name,
+            member: None,
+        };
+        ShapeId::new(alloc, &id)
+    }
+
+    /// The id of a member of this shape, put together from the parts of the shape's id. `NoMemory` where its text finds no room.
+    pub fn with_member(&self, alloc: Global, name: &str) -> Result<Self, NoMemory>
+        requires shape { IsShapeId self.now }
+        requires name { IsIdentifier name.now }
+        ensures { IfOk result (λ id. id ≡ member_id self.now name.now) }
+    {
+        let shape = self.as_ref();
+        let id = ShapeIdRef {
+            namespace: shape.namespace,
+            name: shape.name,
+            member: Some(name),
+        };
+        ShapeId::new(alloc, &id)
     }
 
     /// The id, borrowed. No memory.

@@ -2,14 +2,14 @@
 -- metadata"). A value of the trait that isn't a list of texts suppresses nothing, and so do metadata and entries of other forms.
 use Rattle.std.specs.Prelude.{◌||◌, ◌&&◌, ℕ, Bool, false, List, [], ◌∷◌, ◌++◌, Option, Some, None, codes, nat_eq}
 use Rattle.std.specs.FinMap as fin
-use Rattle.std.specs.List.{before_first, starts_with}
+use Rattle.std.specs.List.{starts_with}
 use Rattle.std.specs.Option.{unwrap_or, option_and_then}
 use Rattle.std.specs.Str.{bytes_eq}
-use Rattle.sm_bytes.specs.Ascii.{full_stop, number_sign}
+use Rattle.sm_bytes.specs.Ascii.{full_stop}
 use Rattle.sm_tree.specs.Node.{Node, Nodes, no_nodes, node}
 use Rattle.sm_tree.specs.Parts.{entries_in, text_in}
 use Rattle.sm_model.specs.Graphs.{GraphMaps}
-use Rattle.sm_model.specs.Used.{is_byte}
+use Rattle.sm_ids.specs.TextParts.{namespace_part}
 use Rattle.sm_compile.specs.TraitIds.{suppress_id}
 use Rattle.sm_compile.specs.TraitNodes.{field_of, text_of}
 use Rattle.sm_rules.specs.Words.{read_trait}
@@ -53,11 +53,7 @@ suppressions g = nodes_in (fin.get g.metadata (codes "suppressions"))
 abbrev pub is_suppressed_in : GraphMaps → List ℕ → List ℕ → Bool
 is_suppressed_in g namespace event = some_node (entry_names event namespace) (suppressions g)
 
--- the namespace of an id
-abbrev pub namespace_of : List ℕ → List ℕ
-namespace_of id = before_first (is_byte number_sign) id
-
 -- an event that speaks of this id: the trait there names it, or metadata does for every namespace or for that of the id
 abbrev pub is_suppressed : GraphMaps → List ℕ → List ℕ → Bool
 is_suppressed g id event =
-    is_suppressed_there g id event || (is_suppressed_in g (codes "*") event || is_suppressed_in g (namespace_of id) event)
+    is_suppressed_there g id event || (is_suppressed_in g (codes "*") event || is_suppressed_in g (namespace_part id) event)

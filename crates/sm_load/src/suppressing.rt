@@ -1,19 +1,21 @@
 // The namespaces for which metadata suppresses the events of one id, and the shapes and members whose traits do.
-ghost use Rattle.std.specs.Prelude.{◌≡◌, ◌||◌, ℕ, List, IfOk, OnOk, codes, false, get_or};
+ghost use Rattle.std.specs.Prelude.{◌≡◌, ◌||◌, ℕ, List, IfOk, OnOk, codes};
 ghost use Rattle.std.specs.Option.{option_copied};
 ghost use Rattle.std.specs.Str.{bytes_eq};
+ghost use Rattle.sm_ids.specs.TextParts.{namespace_part};
 ghost use Rattle.sm_tree.specs.Node.{nodes_of};
 ghost use Rattle.sm_tree.specs.View.{node_of, nodes_view};
 ghost use Rattle.sm_model.specs.GraphView.{maps_of};
 ghost use Rattle.sm_merge.specs.steps.Known.{has_text};
 ghost use Rattle.sm_compile.specs.TraitNodes.{field_of, text_of};
-ghost use Rattle.sm_load.specs.Suppressions.{entry_names, is_suppressed_in, is_suppressed_there, namespace_of, suppressions, text_is};
+ghost use Rattle.sm_load.specs.Suppressions.{entry_names, is_suppressed_in, is_suppressed_there, suppressions, text_is};
 ghost use Rattle.sm_load.specs.Suppressions.{text_names};
 ghost use Rattle.sm_load.specs.steps.Suppressing.{AreNamedThere};
 
 use crate::naming::{is_suppressed_there, listed, text_names};
 use sm_compile::{field_of, text_in_trait};
-use sm_model::{Graph, tree_under};
+use sm_ids::namespace_and_name;
+use sm_model::{Graph, mark_at, tree_under};
 use sm_passes::marked::{NumberTest, marked_where};
 use sm_tree::{NoMemory, Tree};
 use std::alloc::Global;
@@ -101,18 +103,9 @@ fn put_text<'a>(texts: &mut BTreeSet<&'a str>, text: &'a str) -> Result<(), NoMe
 
 /// Whether the metadata suppresses for every namespace, or for that of an id.
 pub(crate) fn is_in(namespaces: &BTreeSet<&str>, id: &str) -> bool
-    ensures { result ≡ (has_text namespaces.now (codes "*") || has_text namespaces.now (namespace_of id.now)) }
+    ensures { result ≡ (has_text namespaces.now (codes "*") || has_text namespaces.now (namespace_part id.now)) }
 {
-    namespaces.contains("*") || namespaces.contains(namespace_of(id))
-}
-
-fn namespace_of(id: &str) -> &str
-    ensures { result.now ≡ namespace_of id.now }
-{
-    match id.split_once('#') {
-        Some((namespace, _)) => namespace,
-        None => id,
-    }
+    namespaces.contains("*") || namespaces.contains(namespace_and_name(id).0)
 }
 
 // That the trait at a number names an event.
@@ -144,15 +137,6 @@ pub(crate) fn is_marked(graph: &Graph, marks: &[bool], id: &str) -> bool
 {
     match graph.number(id) {
         Some(number) => mark_at(marks, number),
-        None => false,
-    }
-}
-
-fn mark_at(marks: &[bool], number: u32) -> bool
-    ensures { result ≡ get_or marks.now number false }
-{
-    match marks.get(number as usize) {
-        Some(mark) => *mark,
         None => false,
     }
 }

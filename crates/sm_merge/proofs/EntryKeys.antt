@@ -1,8 +1,10 @@
 -- The ids of shapes and of their members differ, where the shapes' do and the names of each shape's members.
-use Rattle.std.proofs.Common.{◌≡◌, inl, inr, ℕ, List, [], ◌∷◌, ◌++◌, length, Some, None, refl, sym, ap, subst, ◌∙◌, arith}
-use Rattle.std.proofs.Common.{append-nil, length-append}
+use Rattle.std.proofs.Common.{◌≡◌, inl, inr, ℕ, List, [], ◌∷◌, ◌++◌, length, refl, sym, ap, subst, ◌∙◌, arith}
+use Rattle.std.proofs.Common.{length-append}
 use Rattle.std.specs.Prelude.{codes}
-use Rattle.std.proofs.lemmas.List.{append_cancel_left, map-append}
+use Rattle.std.proofs.lemmas.List.{map-append}
+use Rattle.sm_ids.proofs.MadeIds.{one_name}
+use Rattle.sm_ids.proofs.TextCuts.{of_member, of_shape}
 use Rattle.sm_model.specs.Formed.{StandsAmong, DifferInNames, HaveForm}
 use Rattle.sm_model.specs.Given.{AreGivenShapes, IsGivenShape, given_ids, given_names}
 use Rattle.sm_model.specs.Graphs.{MemberGiven, ShapeGiven, given_entries, given_members, given_shape, member_id}
@@ -14,7 +16,6 @@ use Rattle.sm_model.specs.declared.kind.Kind.TheVariants.{BigInteger, BigDecimal
 use Rattle.sm_model.specs.declared.kind.Kind.TheVariants.{Union, Service, Operation, Resource}
 use Rattle.sm_model.proofs.MapFacts.{keys}
 use Rattle.sm_model.specs.Used.{shape_part}
-use Rattle.sm_merge.proofs.MeantIds.{shape_cut_off}
 use Rattle.sm_merge.proofs.NamesOnce.{differ_joined, stands_either}
 use Rattle.sm_merge.proofs.PreludeGiven.{differ_by_test}
 
@@ -58,12 +59,6 @@ pub keys_joined : {X : Type 0} (es fs : List (List ℕ × X)) → keys (es ++ fs
 keys_joined es fs = map-append (λ e. e.0) es fs
 
 -- the shape of an id
-pub of_shape : (shape : List ℕ) → IsShapeId shape → shape_part shape ≡ shape
-of_shape shape is = ap shape_part (sym (append-nil shape)) ∙ shape_cut_off shape is None
-
-pub of_member : (shape : List ℕ) → IsShapeId shape → (name : List ℕ) → shape_part (member_id shape name) ≡ shape
-of_member shape is name = shape_cut_off shape is (Some name)
-
 of_members : (shape : List ℕ) → IsShapeId shape → (ms : List MemberGiven) (k : List ℕ) → StandsAmong k (keys (given_members shape ms))
     → shape_part k ≡ shape
 of_members shape is [] k h = absurd h
@@ -83,13 +78,6 @@ not_own shape (m ∷ ms) (inl same) =
 not_own shape (m ∷ ms) (inr h) = not_own shape ms h
 
 -- names that differ give ids that differ
-abbrev behind_first : List ℕ → List ℕ
-behind_first [] = []
-behind_first (c ∷ cs) = cs
-
-pub one_name : (shape m n : List ℕ) → member_id shape m ≡ member_id shape n → m ≡ n
-one_name shape m n e = ap behind_first (append_cancel_left shape (36 ∷ m) (36 ∷ n) e)
-
 name_among : (shape name : List ℕ) (ms : List MemberGiven) → StandsAmong (member_id shape name) (keys (given_members shape ms))
     → StandsAmong name (given_names ms)
 name_among shape name [] h = h

@@ -26,7 +26,7 @@ use Rattle.sm_merge.specs.Places.{metadata_values, shape_under}
 use Rattle.sm_merge.specs.Stated.{AreFormedFiles, ShapeStated, Stated, stated_by}
 use Rattle.sm_merge.specs.Values.{IsValueOf}
 use Rattle.sm_merge.specs.declared.limit.LimitKind.TheVariants.{Shapes, AllMembers}
-use Rattle.sm_merge.specs.declared.limit.TheConstants.{ALL_MEMBER_LIMIT, SHAPE_LIMIT}
+use Rattle.sm_merge.specs.Limits.{most_members_in_all, most_shapes}
 use Rattle.sm_merge.specs.steps.Placed.{bare_of}
 use Rattle.sm_merge.specs.steps.SoundStated.{AreSoundStated}
 use Rattle.sm_merge.specs.steps.Whole.{whole_member, whole_shape}
@@ -321,10 +321,10 @@ module _ (files : List (List Said)) (formed : AreFormedFiles files) (g : GraphMa
       ap length (entries_joined own prelude_shapes) ∙ length-append (given_entries own) (given_entries prelude_shapes) in
       let of_prelude : length (given_entries prelude_shapes) ≡ 21 = refl in
       let few_shapes : length own ≤ 20000 =
-      subst (λ n. n ≤ SHAPE_LIMIT) shapes_are (not_past SHAPE_LIMIT (sum_by (λ e. shapes_in e.1) whole) (within_made Shapes)) in
+      subst (λ n. n ≤ most_shapes) shapes_are (not_past most_shapes (sum_by (λ e. shapes_in e.1) whole) (within_made Shapes)) in
       let few_members : sum_by member_count own ≤ 200000 =
-      subst (λ n. n ≤ ALL_MEMBER_LIMIT) members_are
-      (not_past ALL_MEMBER_LIMIT (sum_by (λ e. members_in e.1) whole) (within_made AllMembers)) in
+      subst (λ n. n ≤ most_members_in_all) members_are
+      (not_past most_members_in_all (sum_by (λ e. members_in e.1) whole) (within_made AllMembers)) in
       omega (arith, counted, of_prelude, entries_counted own, few_shapes, few_members)
     where
       not_past : (limit n : ℕ) → (limit < n → ⊥) → n ≤ limit

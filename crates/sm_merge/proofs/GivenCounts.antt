@@ -20,7 +20,7 @@ use Rattle.sm_model.specs.Graphs.{member_id, shape_entry, traits_in}
 use Rattle.sm_model.specs.PreludeShapes.{is_prelude_id, prelude_shapes}
 use Rattle.sm_model.proofs.MapFacts.{keys}
 use Rattle.sm_merge.specs.Limits.{is_own, members_in, own_entries, shapes_in, traits_size}
-use Rattle.sm_merge.specs.declared.limit.TheConstants.{MEMBER_LIMIT}
+use Rattle.sm_merge.specs.Limits.{most_members}
 use Rattle.sm_merge.specs.steps.Made.{members_size, pairs_size, shape_size, shapes_size}
 use Rattle.sm_merge.proofs.EntriesMoved.{entries_moved, filter_moved}
 use Rattle.sm_merge.proofs.EntryKeys.{keys_joined}
@@ -147,12 +147,12 @@ module _ {X : Type 0} (P : X → Type 0) where
   none_in (k, y, inside, at, holds) = omega (arith, inside)
 
 abbrev HasMany : List ℕ × Entry → Type 0
-HasMany e = MEMBER_LIMIT < members_in e.1
+HasMany e = most_members < members_in e.1
 
 -- a shape with more members than one may have
 abbrev pub SomeHaveMany : List ShapeGiven → Type 0
 SomeHaveMany [] = ⊥
-SomeHaveMany (s ∷ gs) = (MEMBER_LIMIT < length s.members) ⊎ SomeHaveMany gs
+SomeHaveMany (s ∷ gs) = (most_members < length s.members) ⊎ SomeHaveMany gs
 
 many_members : (s : ShapeGiven) → length (map (λ m. member_id s.id m.name) s.members) ≡ length s.members
 many_members s = length-map s.members (λ m. member_id s.id m.name)
@@ -168,7 +168,7 @@ pub any_many : (gs : List ShapeGiven) → Any HasMany (given_entries gs) → Som
 any_many [] h = none_in HasMany h
 any_many (s ∷ gs) h =
     elim (any_either HasMany (head_entry s) (given_members s.id s.members ++ given_entries gs) h) [
-      | inl here ↦ inl (subst (λ n. MEMBER_LIMIT < n) (many_members s) here)
+      | inl here ↦ inl (subst (λ n. most_members < n) (many_members s) here)
       | inr later ↦ inr (any_many gs (not_of_members s.id s.members (given_entries gs) later))
     ]
 
@@ -176,7 +176,7 @@ pub many_any : (gs : List ShapeGiven) → SomeHaveMany gs → Any HasMany (given
 many_any [] h = absurd h
 many_any (s ∷ gs) (inl here) =
     any_first HasMany (head_entry s) (given_members s.id s.members ++ given_entries gs)
-    (subst (λ n. MEMBER_LIMIT < n) (sym (many_members s)) here)
+    (subst (λ n. most_members < n) (sym (many_members s)) here)
 many_any (s ∷ gs) (inr later) = any_behind HasMany (given_shape s) (given_entries gs) (many_any gs later)
 
 -- what a graph has outside of the prelude is the entries of its own shapes

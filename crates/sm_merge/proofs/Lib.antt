@@ -6,7 +6,6 @@ mod OtherOrder
 pub mod PreludeGiven
 mod PreludeShapes
 mod MeantIds
-mod MemberIdsMade
 pub mod NamesKnown
 mod MeantViews
 mod Bodies
@@ -90,3 +89,4 @@ pub mod Restating
 pub mod RestatedEvents
 pub mod BodiesAgain
 pub mod RestatedFiles
+mod IdsNamed

@@ -11,7 +11,7 @@ use Rattle.sm_merge.specs.Merged.{IsGraphOf}
 use Rattle.sm_merge.specs.Mixins.{EffectiveShape, IsEffective}
 use Rattle.sm_merge.specs.Stated.{Stated}
 use Rattle.sm_merge.specs.declared.firsts.NamedTarget.{NamedTarget}
-use Rattle.sm_merge.specs.declared.limit.TheConstants.{SHAPE_LIMIT, MEMBER_LIMIT, ALL_MEMBER_LIMIT, TRAIT_LIMIT}
+use Rattle.sm_merge.specs.Limits.{most_shapes, most_members, most_members_in_all, most_in_traits}
 use Rattle.sm_merge.specs.declared.limit.LimitKind.{LimitKind}
 use Rattle.sm_merge.specs.declared.limit.LimitKind.TheVariants.{Shapes, Members, AllMembers, Traits}
 use Rattle.sm_merge.specs.declared.parts.BareShape.{BareShape}
@@ -58,19 +58,19 @@ module _ {X : Type 0} (count : X → ℕ) (limit : ℕ) where
   ]
 
 stable_past : (kind : LimitKind) → IsOfMembers kind → (g : GraphMaps) → Must (IsPast kind g) → IsPast kind g
-stable_past Shapes of g h = stable_less SHAPE_LIMIT _ h
-stable_past Members of g h = stable_any (λ (e : List ℕ × Entry). members_in e.1) MEMBER_LIMIT (own_entries g) h
-stable_past AllMembers of g h = stable_less ALL_MEMBER_LIMIT _ h
+stable_past Shapes of g h = stable_less most_shapes _ h
+stable_past Members of g h = stable_any (λ (e : List ℕ × Entry). members_in e.1) most_members (own_entries g) h
+stable_past AllMembers of g h = stable_less most_members_in_all _ h
 stable_past Traits of g h = absurd of
 
 -- a shape of the table has many members, whatever it comes to
 some_long : (ss : List Stated) (rows : List BareShape) (es : List EffectiveShape) → AreEffective ss rows es → (v : ℕ) (id : List ℕ)
-    → At (ids_of rows) v id → ((m : EffectiveShape) → IsEffective ss id m → MEMBER_LIMIT < length m.members)
+    → At (ids_of rows) v id → ((m : EffectiveShape) → IsEffective ss id m → most_members < length m.members)
     → SomeHaveMany (whole_shapes rows es)
 some_long ss [] es are v id there long = absurd (none-some id there)
 some_long ss (r ∷ rows) [] are v id there long = absurd are
 some_long ss (r ∷ rows) (e ∷ es) are zero id there long =
-    inl (subst (λ n. MEMBER_LIMIT < n) (sym (length-map e.members (whole_member r.kind)))
+    inl (subst (λ n. most_members < n) (sym (length-map e.members (whole_member r.kind)))
     (long e (subst (λ k. IsEffective ss k e) (same_Some r.id id there) are.0)))
 some_long ss (r ∷ rows) (e ∷ es) are (suc v) id there long = inr (some_long ss rows es are.1 v id there long)
 
@@ -79,11 +79,11 @@ module _ (ss : List Stated) (rows : List BareShape) (metadata : List (List ℕ �
   come : Must (SomeRows ss rows)
   come = some_effective ss rows walk good.shapes walked
 
-  pub shapes_told : SHAPE_LIMIT < length rows → IsFirstPast Shapes g
+  pub shapes_told : most_shapes < length rows → IsFirstPast Shapes g
   shapes_told past = stable_past Shapes tt g (thence come (λ e. must (many_shapes ss rows metadata good e.0 e.1 past g is)))
 
-  pub long_shape_told : (SHAPE_LIMIT < length rows → ⊥) → (v : ℕ) (id : List ℕ) → At (ids_of rows) v id
-      → ((m : EffectiveShape) → IsEffective ss id m → MEMBER_LIMIT < length m.members) → IsFirstPast Members g
+  pub long_shape_told : (most_shapes < length rows → ⊥) → (v : ℕ) (id : List ℕ) → At (ids_of rows) v id
+      → ((m : EffectiveShape) → IsEffective ss id m → most_members < length m.members) → IsFirstPast Members g
   long_shape_told few v id there long = (
     λ past. come (λ e. few (past_shapes ss rows metadata good e.0 e.1 g is past)),
     stable_past Members tt g (thence come (λ e.
@@ -106,11 +106,11 @@ module _ (ss : List Stated) (rows : List BareShape) (metadata : List (List ℕ �
 
     pub large_traits_told : ((kind : LimitKind) → IsOfMembers kind → ArePast kind rows mss → ⊥)
         → ((es : List EffectiveShape) → AreEffective ss rows es
-        → TRAIT_LIMIT < sum_by (λ e. traits_size (traits_in e.1)) (given_entries (whole_shapes rows es)))
+        → most_in_traits < sum_by (λ e. traits_size (traits_in e.1)) (given_entries (whole_shapes rows es)))
         → IsFirstPast Traits g
     large_traits_told none past = (
       not_past Shapes tt (none Shapes tt),
       not_past Members tt (none Members tt),
       not_past AllMembers tt (none AllMembers tt),
-      stable_less TRAIT_LIMIT _ (thence come (λ e. must (large_told ss rows metadata good e.0 e.1 (past e.0 e.1) g is))),
+      stable_less most_in_traits _ (thence come (λ e. must (large_told ss rows metadata good e.0 e.1 (past e.0 e.1) g is))),
     )

@@ -18,7 +18,7 @@ use Rattle.sm_merge.specs.Mixins.{IsEffective}
 use Rattle.sm_merge.specs.Stated.{Stated}
 use Rattle.sm_merge.specs.declared.effective.ShapeTraits.{ShapeTraits}
 use Rattle.sm_merge.specs.declared.firsts.NamedTarget.{NamedTarget}
-use Rattle.sm_merge.specs.declared.limit.TheConstants.{SHAPE_LIMIT, ALL_MEMBER_LIMIT, TRAIT_LIMIT}
+use Rattle.sm_merge.specs.Limits.{most_shapes, most_members_in_all, most_in_traits}
 use Rattle.sm_merge.specs.declared.limit.LimitKind.{LimitKind}
 use Rattle.sm_merge.specs.declared.limit.LimitKind.TheVariants.{Shapes, Members, AllMembers, Traits}
 use Rattle.sm_merge.specs.declared.parts.BareShape.{BareShape}
@@ -102,7 +102,7 @@ at_most k n h = elim (sides k n) [
 few_of_prelude : length (given_entries prelude_shapes) ≤ 100
 few_of_prelude = search rules
 
-few_enough : (shapes members others : ℕ) → shapes ≤ SHAPE_LIMIT → members ≤ ALL_MEMBER_LIMIT → others ≤ 100
+few_enough : (shapes members others : ℕ) → shapes ≤ most_shapes → members ≤ most_members_in_all → others ≤ 100
     → (shapes + members) + others < 2 ^ 32
 few_enough shapes members others a b c = omega (arith, a, b, c)
 
@@ -138,12 +138,12 @@ module _ (ss : List Stated) (rows : List BareShape) (metadata : List (List ℕ �
     few : (kind : LimitKind) → (ArePast kind rows mss → ⊥) → IsOfMembers kind → IsPast kind g → ⊥
     few kind none of past = none (told_past ss rows metadata good (effective_views mss ts) are mss long kind of g is past)
 
-    pub none_told : ((kind : LimitKind) → ArePast kind rows mss → ⊥) → (TRAIT_LIMIT < shapes_size made → ⊥) → IsWithinLimits g
+    pub none_told : ((kind : LimitKind) → ArePast kind rows mss → ⊥) → (most_in_traits < shapes_size made → ⊥) → IsWithinLimits g
     none_told none small Shapes = few Shapes (none Shapes) tt
     none_told none small Members = few Members (none Members) tt
     none_told none small AllMembers = few AllMembers (none AllMembers) tt
     none_told none small Traits =
-        λ past. small (subst (λ n. TRAIT_LIMIT < n) trait_sum (subst (IsPast Traits) (sym same) past))
+        λ past. small (subst (λ n. most_in_traits < n) trait_sum (subst (IsPast Traits) (sym same) past))
 
   -- the graph that is built
   entries_same : given_entries (made ++ prelude_shapes) ≡ given_entries (wholes ++ prelude_shapes)
@@ -176,7 +176,7 @@ module _ (ss : List Stated) (rows : List BareShape) (metadata : List (List ℕ �
     few =
         subst (λ n. n < 2 ^ 32) (sym counted)
         (few_enough (length rows) (members_count mss) (length (given_entries prelude_shapes))
-        (at_most SHAPE_LIMIT (length rows) (none Shapes))
-        (at_most ALL_MEMBER_LIMIT (members_count mss) (none AllMembers)) few_of_prelude);
+        (at_most most_shapes (length rows) (none Shapes))
+        (at_most most_members_in_all (members_count mss) (none AllMembers)) few_of_prelude);
     metadata_is = nodes;
   }

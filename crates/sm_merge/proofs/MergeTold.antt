@@ -10,7 +10,7 @@ use Rattle.sm_merge.specs.Merged.{AreEventsOf}
 use Rattle.sm_merge.specs.Stated.{Stated}
 use Rattle.sm_merge.specs.declared.effective.ShapeTraits.{ShapeTraits}
 use Rattle.sm_merge.specs.declared.firsts.NamedTarget.{NamedTarget}
-use Rattle.sm_merge.specs.declared.limit.TheConstants.{SHAPE_LIMIT, ALL_MEMBER_LIMIT}
+use Rattle.sm_merge.specs.Limits.{most_shapes, most_members_in_all}
 use Rattle.sm_merge.specs.declared.limit.LimitKind.{LimitKind}
 use Rattle.sm_merge.specs.declared.limit.LimitKind.TheVariants.{Shapes, Members, AllMembers, Traits}
 use Rattle.sm_merge.specs.declared.mixins.Contributing.{Contributing}
@@ -52,12 +52,12 @@ walked_tables ss t walk h walks = record {
 
 module _ (ss : List Stated) (t : Tables) (walk : Walk) (h : AreSoundTables ss t) (walks : WalksMixins t.shapes.rows.items walk) where
   -- too many shapes
-  pub many_shapes_told : SHAPE_LIMIT < length t.shapes.rows.items → StatementsComeTo ss (Err (Limit Shapes))
+  pub many_shapes_told : most_shapes < length t.shapes.rows.items → StatementsComeTo ss (Err (Limit Shapes))
   many_shapes_told past = λ g is.
       shapes_told ss t.shapes.rows.items (metadata_pairs t.metadata.items) (good_tables ss t h) walk (walks ss h.tables.shapes.rows)
       g is past
 
-  module _ (few : SHAPE_LIMIT < length t.shapes.rows.items → ⊥) (mixed : List (Vec Contributing))
+  module _ (few : most_shapes < length t.shapes.rows.items → ⊥) (mixed : List (Vec Contributing))
       (mixed_in : AreWalkedTables ss t.shapes.rows.items t.traits.items walk → AreMixedIn ss t.shapes.rows.items mixed) where
     -- too many members of a shape
     pub long_told : HasLongShape t.shapes.rows.items mixed walk.order.items → StatementsComeTo ss (Err (Limit Members))
@@ -87,13 +87,13 @@ module _ (ss : List Stated) (t : Tables) (walk : Walk) (h : AreSoundTables ss t)
 -- the same of slices of these
 module _ (ss : List Stated) (t : Tables) (walk : Walk) (h : AreSoundTables ss t) (rows : List BareShape) (traits : List PlaceRow)
     (mixed slice : List (Vec Contributing)) (order : List ℕ) (rows_are : rows ≡ t.shapes.rows.items) (given_are : traits ≡ t.traits.items)
-    (mixed_are : slice ≡ mixed) (order_is : order ≡ walk.order.items) (walks : WalksMixins rows walk) (few : SHAPE_LIMIT < length rows → ⊥)
+    (mixed_are : slice ≡ mixed) (order_is : order ≡ walk.order.items) (walks : WalksMixins rows walk) (few : most_shapes < length rows → ⊥)
     (mixed_in : AreWalkedTables ss rows traits walk → AreMixedIn ss rows mixed) where
   walks_of : WalksMixins t.shapes.rows.items walk
   walks_of = subst (λ rs. WalksMixins rs walk) rows_are walks
 
-  few_of : SHAPE_LIMIT < length t.shapes.rows.items → ⊥
-  few_of past = few (subst (λ rs. SHAPE_LIMIT < length rs) (sym rows_are) past)
+  few_of : most_shapes < length t.shapes.rows.items → ⊥
+  few_of past = few (subst (λ rs. most_shapes < length rs) (sym rows_are) past)
 
   mixed_of : AreWalkedTables ss t.shapes.rows.items t.traits.items walk → AreMixedIn ss t.shapes.rows.items mixed
   mixed_of = subst (λ rs. AreWalkedTables ss rs t.traits.items walk → AreMixedIn ss rs mixed) rows_are
@@ -116,12 +116,12 @@ module _ (ss : List Stated) (t : Tables) (walk : Walk) (h : AreSoundTables ss t)
 
 module _ (ss : List Stated) (t : Tables) (walk : Walk) (mixed : List (Vec Contributing)) (members : List (Vec NamedTarget))
     (h : AreNamedTables ss t walk mixed members) where
-  pub all_many_told : ALL_MEMBER_LIMIT < members_count members → StatementsComeTo ss (Err (Limit AllMembers))
+  pub all_many_told : most_members_in_all < members_count members → StatementsComeTo ss (Err (Limit AllMembers))
   all_many_told past = λ g is.
       all_members_told ss t.shapes.rows.items (metadata_pairs t.metadata.items) (good_tables ss t h.sound) walk h.walked.walked g is
       members h.named h.few h.short past
 
-  module _ (fewer : ALL_MEMBER_LIMIT < members_count members → ⊥) where
+  module _ (fewer : most_members_in_all < members_count members → ⊥) where
     not_past_before : (kind : LimitKind) → IsOfMembers kind → ArePast kind t.shapes.rows.items members → ⊥
     not_past_before Shapes of = h.few
     not_past_before Members of = h.short

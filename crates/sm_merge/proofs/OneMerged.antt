@@ -15,7 +15,7 @@ use Rattle.sm_merge.specs.Merged.{bad_mixin}
 use Rattle.sm_merge.specs.Limits.{IsPast, is_own, own_entries, shapes_in, members_in, traits_size}
 use Rattle.sm_merge.specs.Answers.{StatementsComeTo}
 use Rattle.sm_merge.specs.Laws.{NoFiles, OneFileOrSeveral, OneGraph}
-use Rattle.sm_merge.specs.declared.limit.TheConstants.{SHAPE_LIMIT, MEMBER_LIMIT, ALL_MEMBER_LIMIT, TRAIT_LIMIT}
+use Rattle.sm_merge.specs.Limits.{most_shapes, most_members, most_members_in_all, most_in_traits}
 use Rattle.sm_merge.specs.declared.limit.LimitKind.{LimitKind}
 use Rattle.sm_merge.specs.declared.limit.LimitKind.TheVariants.{Shapes, Members, AllMembers, Traits}
 use Rattle.sm_merge.proofs.OneEffective.{same_told}
@@ -88,10 +88,10 @@ none_any : {X : Type 0} {P : X → Type 0} → Any P [] → ⊥
 none_any (k, x, inside, at, holds) = omega (arith, inside)
 
 within : (kind : LimitKind) → IsPast kind prelude_graph → ⊥
-within Shapes h = too_few SHAPE_LIMIT (λ es. sum_by (λ e. shapes_in e.1) es) nothing_own refl h
-within Members h = none_any (subst (λ es. Any (λ e. MEMBER_LIMIT < members_in e.1) es) nothing_own h)
-within AllMembers h = too_few ALL_MEMBER_LIMIT (λ es. sum_by (λ e. members_in e.1) es) nothing_own refl h
-within Traits h = too_few TRAIT_LIMIT (λ es. sum_by (λ e. traits_size (traits_in e.1)) es) nothing_own refl h
+within Shapes h = too_few most_shapes (λ es. sum_by (λ e. shapes_in e.1) es) nothing_own refl h
+within Members h = none_any (subst (λ es. Any (λ e. most_members < members_in e.1) es) nothing_own h)
+within AllMembers h = too_few most_members_in_all (λ es. sum_by (λ e. members_in e.1) es) nothing_own refl h
+within Traits h = too_few most_in_traits (λ es. sum_by (λ e. traits_size (traits_in e.1)) es) nothing_own refl h
 
 none_among : {X : Type 0} {x : X} → Contains [] x → ⊥
 none_among (k, inside, at) = omega (arith, inside)

@@ -14,7 +14,7 @@ use Rattle.sm_merge.specs.Merged.{AreEventsOf, IsGraphOf}
 use Rattle.sm_merge.specs.Stated.{Stated}
 use Rattle.sm_merge.specs.declared.effective.ShapeTraits.{ShapeTraits}
 use Rattle.sm_merge.specs.declared.firsts.NamedTarget.{NamedTarget}
-use Rattle.sm_merge.specs.declared.limit.TheConstants.{TRAIT_LIMIT}
+use Rattle.sm_merge.specs.Limits.{most_in_traits}
 use Rattle.sm_merge.specs.declared.limit.LimitKind.{LimitKind}
 use Rattle.sm_merge.specs.declared.refusal.MergeRefusal.TheVariants.{Rejected}
 use Rattle.sm_merge.specs.declared.shape_parts.ShapePart.{ShapePart}
@@ -59,7 +59,7 @@ module _ (ss : List Stated) (t : Tables) (h : AreSoundTables ss t) (mss : List (
   sound = all_sound ts traits.sound
 
   module _ (none : (kind : LimitKind) → ArePast kind t.shapes.rows.items mss → ⊥)
-      (small : TRAIT_LIMIT < shapes_size (made_shapes t.shapes.rows.items mss ts) → ⊥) where
+      (small : most_in_traits < shapes_size (made_shapes t.shapes.rows.items mss ts) → ⊥) where
     pub rejected : (es : List ModelEvent) → AreEventsOf ss (events_view es) → AreErrors es → 0 < length es
         → StatementsComeTo ss (Err (Rejected es))
     rejected es events errors some = (

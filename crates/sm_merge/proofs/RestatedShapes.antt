@@ -17,7 +17,8 @@ use Rattle.sm_merge.specs.Places.{shape_traits_at, shapes_under, trait_values, t
 use Rattle.sm_merge.specs.Stated.{ShapeStated, Stated}
 use Rattle.sm_merge.specs.Values.{IsValueOf}
 use Rattle.sm_merge.proofs.EntriesFound.{Has, has_found}
-use Rattle.sm_merge.proofs.EntryKeys.{of_member, of_shape, one_name}
+use Rattle.sm_ids.proofs.MadeIds.{one_name}
+use Rattle.sm_ids.proofs.TextCuts.{of_member, of_shape}
 use Rattle.sm_merge.proofs.NamesOnce.{once_again}
 use Rattle.sm_merge.specs.Restated.{AreMembersIn, IsMemberIn, IsShapeIn}
 use Rattle.sm_merge.proofs.RestatedValues.{AreOwnShapes, IsOneOf, from_shape, given_by, map_values, member_traits, own_traits}

@@ -19,7 +19,8 @@ use Rattle.sm_merge.specs.Places.{member_traits_at, shape_traits_at, shapes_unde
 use Rattle.sm_merge.specs.Stated.{ShapeStated, Stated, apply_stated, metadata_stated, shape_stated}
 use Rattle.sm_merge.specs.Values.{HaveConflict, IsValueOf}
 use Rattle.sm_merge.proofs.EntriesFound.{Has, get_has, has_get, has_key, key_has}
-use Rattle.sm_merge.proofs.EntryKeys.{of_member, of_shape, one_name}
+use Rattle.sm_ids.proofs.MadeIds.{one_name}
+use Rattle.sm_ids.proofs.TextCuts.{of_member, of_shape}
 use Rattle.sm_merge.proofs.SomeEffective.{filled_named, values_named}
 
 -- under a key that isn't there stands nothing, and one value where keys differ

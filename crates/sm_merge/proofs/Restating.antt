@@ -19,7 +19,8 @@ use Rattle.sm_merge.specs.Mixins.{EffectiveShape, IsEffective, names_of}
 use Rattle.sm_merge.specs.Places.{shape_under, shapes_under}
 use Rattle.sm_merge.specs.Stated.{ShapeStated, Stated, apply_stated, metadata_stated, shape_stated}
 use Rattle.sm_merge.proofs.EntriesFound.{Has, found_has, has_each, has_found, has_key, key_has, made_has}
-use Rattle.sm_merge.proofs.EntryKeys.{of_member, of_shape, shapes_of}
+use Rattle.sm_ids.proofs.TextCuts.{of_member, of_shape}
+use Rattle.sm_merge.proofs.EntryKeys.{shapes_of}
 use Rattle.sm_merge.proofs.OneEffective.{one_effective}
 use Rattle.sm_merge.proofs.OneMerged.{IsOfPreludeId, prelude_ids}
 use Rattle.sm_merge.proofs.PreludeGiven.{clash, prelude_given, stands_by_test}

@@ -23,7 +23,9 @@ use Rattle.sm_merge.specs.Values.{IsValueOf}
 use Rattle.sm_merge.specs.steps.SoundStated.{AreSoundStated}
 use Rattle.sm_merge.proofs.Amongs.{Among, among_back, among_front, map_among}
 use Rattle.sm_merge.proofs.EntriesFound.{found_has, has_key, made_has}
-use Rattle.sm_merge.proofs.EntryKeys.{of_member, of_shape, one_name, shapes_of}
+use Rattle.sm_ids.proofs.MadeIds.{one_name}
+use Rattle.sm_ids.proofs.TextCuts.{of_member, of_shape}
+use Rattle.sm_merge.proofs.EntryKeys.{shapes_of}
 use Rattle.sm_merge.proofs.OneEffective.{one_effective}
 use Rattle.sm_merge.proofs.OneValue.{one_value}
 use Rattle.sm_merge.proofs.PreludeGiven.{prelude_given, stands_by_test}

@@ -6,7 +6,7 @@ use Rattle.sm_model.specs.Graphs.{MemberEntry}
 use Rattle.sm_merge.specs.Mixins.{EffectiveShape, IsEffective}
 use Rattle.sm_merge.specs.Stated.{Stated}
 use Rattle.sm_merge.specs.declared.firsts.NamedTarget.{NamedTarget}
-use Rattle.sm_merge.specs.declared.limit.TheConstants.{MEMBER_LIMIT}
+use Rattle.sm_merge.specs.Limits.{most_members}
 use Rattle.sm_merge.specs.declared.mixins.Contributing.{Contributing}
 use Rattle.sm_merge.specs.declared.parts.BareShape.{BareShape}
 use Rattle.sm_merge.specs.declared.table.PlaceRow.{PlaceRow}
@@ -24,7 +24,7 @@ use Rattle.sm_merge.proofs.NamesMixed.{named_by}
 
 -- one more list, which isn't too long
 pub set_short : (all : List (Vec NamedTarget)) (v : ℕ) (ms : Vec NamedTarget) → (HaveManyMembers all → ⊥)
-    → (MEMBER_LIMIT < length ms.items → ⊥) → HaveManyMembers (set all v ms) → ⊥
+    → (most_members < length ms.items → ⊥) → HaveManyMembers (set all v ms) → ⊥
 set_short [] v ms short few many = many
 set_short (x ∷ all) zero ms short few (inl here) = few here
 set_short (x ∷ all) zero ms short few (inr later) = short (inr later)
@@ -32,7 +32,7 @@ set_short (x ∷ all) (suc v) ms short few (inl here) = short (inl here)
 set_short (x ∷ all) (suc v) ms short few (inr later) = set_short all v ms (λ many. short (inr many)) few later
 
 pub put_short : (all : List (Vec NamedTarget)) (ms : Vec NamedTarget) → (HaveManyMembers all → ⊥)
-    → (MEMBER_LIMIT < length ms.items → ⊥) → HaveManyMembers (all ++ ms ∷ []) → ⊥
+    → (most_members < length ms.items → ⊥) → HaveManyMembers (all ++ ms ∷ []) → ⊥
 put_short [] ms short few (inl here) = few here
 put_short [] ms short few (inr later) = later
 put_short (x ∷ all) ms short few (inl here) = short (inl here)
@@ -43,7 +43,7 @@ pub record HasManyOfOne (ss : List Stated) (rows : List BareShape) : Type 0 wher
   pub number : ℕ
   pub id : List ℕ
   pub there : At (ids_of rows) number id
-  pub long : (m : EffectiveShape) → IsEffective ss id m → MEMBER_LIMIT < length m.members
+  pub long : (m : EffectiveShape) → IsEffective ss id m → most_members < length m.members
 
 pub long_shape : (ss : List Stated) (rows : List BareShape) (traits : List PlaceRow) (walk : Walk) → AreWalkedTables ss rows traits walk
     → (mixed : List (Vec Contributing)) → AreMixedIn ss rows mixed → HasLongShape rows mixed walk.order.items → HasManyOfOne ss rows
@@ -57,7 +57,7 @@ long_shape ss rows traits walk t mixed are h =
       id = any.0;
       there = any.1;
       long = λ m is.
-          subst (λ n. MEMBER_LIMIT < n)
+          subst (λ n. most_members < n)
           (sym (length-map h.list.items target_view) ∙ sym (ap (λ x. length (targets_view (vec_items x))) h.there)
           ∙ sym (ap length (named any.0 any.1 m is)) ∙ length-map m.members (λ (e : List ℕ × MemberEntry). (e.0, e.1.target)))
           h.long;

@@ -12,7 +12,7 @@ use Rattle.sm_merge.specs.Mixins.{EffectiveShape, IsEffective}
 use Rattle.sm_merge.specs.Stated.{Stated}
 use Rattle.sm_merge.specs.declared.effective.ShapeTraits.{ShapeTraits}
 use Rattle.sm_merge.specs.declared.firsts.NamedTarget.{NamedTarget}
-use Rattle.sm_merge.specs.declared.limit.TheConstants.{TRAIT_LIMIT}
+use Rattle.sm_merge.specs.Limits.{most_in_traits}
 use Rattle.sm_merge.specs.declared.mixins.Contributing.{Contributing}
 use Rattle.sm_merge.specs.declared.parts.BareShape.{BareShape}
 use Rattle.sm_merge.specs.declared.table.PlaceRow.{PlaceRow}
@@ -84,16 +84,16 @@ module _ (ss : List Stated) (rows : List BareShape) (traits : List PlaceRow) (wa
 
   -- they aren't too large
   pub traits_small : (all : List ShapeTraits) → AreListedTraits rows traits members mixed walk.order.items all
-      → length members ≡ length rows → TRAIT_LIMIT < shapes_size (made_shapes rows members all) → ⊥
+      → length members ≡ length rows → most_in_traits < shapes_size (made_shapes rows members all) → ⊥
   traits_small all h size past =
       let is = whole_counted rows members walk.order.items (length walk.order.items) all h.total size h.listed.size
       all_placed (h.listed.counted order_is) in
-      let small : h.total ≤ TRAIT_LIMIT = h.small in
+      let small : h.total ≤ most_in_traits = h.small in
       omega (arith, is, past, small)
 
   -- or are, whatever the shapes come to
   pub traits_large : HasLargeTraits rows traits members mixed walk.order.items → (es : List EffectiveShape)
-      → AreGivenShapes (whole_shapes rows es) → AreEffective ss rows es → TRAIT_LIMIT < sum_by its_size
+      → AreGivenShapes (whole_shapes rows es) → AreEffective ss rows es → most_in_traits < sum_by its_size
       (given_entries (whole_shapes rows es))
   traits_large h es given are_es =
       let c = h.listed.counted order_is in
@@ -111,7 +111,7 @@ module _ (ss : List Stated) (rows : List BareShape) (traits : List PlaceRow) (wa
         })
       ]) in
       let total : h.total ≡ length_word (sum c.sizes) = c.total_is in
-      let large : TRAIT_LIMIT < h.total = h.large in
+      let large : most_in_traits < h.total = h.large in
       omega (arith, most, total, large)
 
 -- one more shape

@@ -13,7 +13,7 @@ use Rattle.sm_merge.specs.Merged.{IsGraphOf}
 use Rattle.sm_merge.specs.Mixins.{EffectiveShape}
 use Rattle.sm_merge.specs.Stated.{Stated}
 use Rattle.sm_merge.specs.declared.firsts.NamedTarget.{NamedTarget}
-use Rattle.sm_merge.specs.declared.limit.TheConstants.{SHAPE_LIMIT, MEMBER_LIMIT, ALL_MEMBER_LIMIT, TRAIT_LIMIT}
+use Rattle.sm_merge.specs.Limits.{most_shapes, most_members, most_members_in_all, most_in_traits}
 use Rattle.sm_merge.specs.declared.limit.LimitKind.{LimitKind}
 use Rattle.sm_merge.specs.declared.limit.LimitKind.TheVariants.{Shapes, Members, AllMembers, Traits}
 use Rattle.sm_merge.specs.declared.parts.BareShape.{BareShape}
@@ -63,7 +63,7 @@ many_made ss rows es [] are long h = absurd h
 many_made ss rows [] (ms ∷ mss) are long h = absurd long
 many_made ss [] (e ∷ es) (ms ∷ mss) are long h = absurd are
 many_made ss (r ∷ rows) (e ∷ es) (ms ∷ mss) are long (inl here) =
-    inl (subst (λ n. MEMBER_LIMIT < n) (sym (members_many r e ms long.0)) here)
+    inl (subst (λ n. most_members < n) (sym (members_many r e ms long.0)) here)
 many_made ss (r ∷ rows) (e ∷ es) (ms ∷ mss) are long (inr later) = inr (many_made ss rows es mss are.1 long.1 later)
 
 made_many : (ss : List Stated) (rows : List BareShape) (es : List EffectiveShape) (mss : List (Vec NamedTarget))
@@ -72,14 +72,14 @@ made_many ss [] es mss are long h = absurd h
 made_many ss (r ∷ rows) [] mss are long h = absurd h
 made_many ss (r ∷ rows) (e ∷ es) [] are long h = absurd long
 made_many ss (r ∷ rows) (e ∷ es) (ms ∷ mss) are long (inl here) =
-    inl (subst (λ n. MEMBER_LIMIT < n) (members_many r e ms long.0) here)
+    inl (subst (λ n. most_members < n) (members_many r e ms long.0) here)
 made_many ss (r ∷ rows) (e ∷ es) (ms ∷ mss) are long (inr later) = inr (made_many ss rows es mss are.1 long.1 later)
 
 -- tables are past a limit, but for that of traits
 abbrev pub ArePast : LimitKind → List BareShape → List (Vec NamedTarget) → Type 0
-ArePast Shapes rows mss = SHAPE_LIMIT < length rows
+ArePast Shapes rows mss = most_shapes < length rows
 ArePast Members rows mss = HaveManyMembers mss
-ArePast AllMembers rows mss = ALL_MEMBER_LIMIT < members_count mss
+ArePast AllMembers rows mss = most_members_in_all < members_count mss
 ArePast Traits rows mss = ⊥
 
 abbrev pub IsOfMembers : LimitKind → Type 0
@@ -113,22 +113,22 @@ module _ (ss : List Stated) (rows : List BareShape) (metadata : List (List ℕ �
   shape_sum =
       sum_by-IsPermutation (λ e. shapes_in e.1) _ _ whole_moved ∙ shapes_counted (whole_shapes rows es) ∙ shapes_many ss rows es are
 
-  pub many_shapes : SHAPE_LIMIT < length rows → (g : GraphMaps) → IsGraphOf ss g → IsPast Shapes g
-  many_shapes past g is = subst (IsPast Shapes) (one_whole g is) (subst (λ n. SHAPE_LIMIT < n) (sym shape_sum) past)
+  pub many_shapes : most_shapes < length rows → (g : GraphMaps) → IsGraphOf ss g → IsPast Shapes g
+  many_shapes past g is = subst (IsPast Shapes) (one_whole g is) (subst (λ n. most_shapes < n) (sym shape_sum) past)
 
-  pub past_shapes : (g : GraphMaps) → IsGraphOf ss g → IsPast Shapes g → SHAPE_LIMIT < length rows
-  past_shapes g is past = subst (λ n. SHAPE_LIMIT < n) shape_sum (subst (IsPast Shapes) (sym (one_whole g is)) past)
+  pub past_shapes : (g : GraphMaps) → IsGraphOf ss g → IsPast Shapes g → most_shapes < length rows
+  past_shapes g is past = subst (λ n. most_shapes < n) shape_sum (subst (IsPast Shapes) (sym (one_whole g is)) past)
 
   pub long_told : SomeHaveMany (whole_shapes rows es) → (g : GraphMaps) → IsGraphOf ss g → IsPast Members g
   long_told some g is =
       subst (IsPast Members) (one_whole g is)
-      (any_moved (λ e. MEMBER_LIMIT < members_in e.1) _ _ whole_moved (many_any (whole_shapes rows es) some))
+      (any_moved (λ e. most_members < members_in e.1) _ _ whole_moved (many_any (whole_shapes rows es) some))
 
-  pub large_told : TRAIT_LIMIT < sum_by (λ e. traits_size (traits_in e.1)) (given_entries (whole_shapes rows es)) → (g : GraphMaps)
+  pub large_told : most_in_traits < sum_by (λ e. traits_size (traits_in e.1)) (given_entries (whole_shapes rows es)) → (g : GraphMaps)
       → IsGraphOf ss g → IsPast Traits g
   large_told past g is =
       subst (IsPast Traits) (one_whole g is)
-      (subst (λ n. TRAIT_LIMIT < n) (sym (sum_by-IsPermutation (λ e. traits_size (traits_in e.1)) _ _ whole_moved)) past)
+      (subst (λ n. most_in_traits < n) (sym (sum_by-IsPermutation (λ e. traits_size (traits_in e.1)) _ _ whole_moved)) past)
 
   module _ (mss : List (Vec NamedTarget)) (long : HaveLengths es mss) where
     member_sum : sum_by (λ e. members_in e.1) (own_entries whole) ≡ members_count mss
@@ -137,19 +137,19 @@ module _ (ss : List Stated) (rows : List BareShape) (metadata : List (List ℕ �
         ∙ all_members_many ss rows es mss are long
 
     whole_past : (kind : LimitKind) → ArePast kind rows mss → IsPast kind whole
-    whole_past Shapes past = subst (λ n. SHAPE_LIMIT < n) (sym shape_sum) past
+    whole_past Shapes past = subst (λ n. most_shapes < n) (sym shape_sum) past
     whole_past Members past =
-        any_moved (λ e. MEMBER_LIMIT < members_in e.1) _ _ whole_moved
+        any_moved (λ e. most_members < members_in e.1) _ _ whole_moved
         (many_any (whole_shapes rows es) (many_made ss rows es mss are long past))
-    whole_past AllMembers past = subst (λ n. ALL_MEMBER_LIMIT < n) (sym member_sum) past
+    whole_past AllMembers past = subst (λ n. most_members_in_all < n) (sym member_sum) past
     whole_past Traits past = absurd past
 
     past_whole : (kind : LimitKind) → IsOfMembers kind → IsPast kind whole → ArePast kind rows mss
-    past_whole Shapes of past = subst (λ n. SHAPE_LIMIT < n) shape_sum past
+    past_whole Shapes of past = subst (λ n. most_shapes < n) shape_sum past
     past_whole Members of past =
-        made_many ss rows es mss are long (any_many (whole_shapes rows es) (any_moved (λ e. MEMBER_LIMIT < members_in e.1) _ _
+        made_many ss rows es mss are long (any_many (whole_shapes rows es) (any_moved (λ e. most_members < members_in e.1) _ _
         (IsPermutation-sym (given_entries (whole_shapes rows es)) (own_entries whole) whole_moved) past))
-    past_whole AllMembers of past = subst (λ n. ALL_MEMBER_LIMIT < n) member_sum past
+    past_whole AllMembers of past = subst (λ n. most_members_in_all < n) member_sum past
     past_whole Traits of past = absurd of
 
     pub past_told : (kind : LimitKind) → ArePast kind rows mss → (g : GraphMaps) → IsGraphOf ss g → IsPast kind g

@@ -7,7 +7,19 @@ use Rattle.sm_model.specs.Graphs.{NodeMap, Entry, shape_entry, member_entry, Gra
 use Rattle.sm_model.specs.PreludeShapes.{is_prelude_id}
 use Rattle.sm_merge.specs.declared.limit.LimitKind.{LimitKind}
 use Rattle.sm_merge.specs.declared.limit.LimitKind.TheVariants.{Shapes, Members as members_of_one, AllMembers, Traits}
-use Rattle.sm_merge.specs.declared.limit.TheConstants.{SHAPE_LIMIT, MEMBER_LIMIT, ALL_MEMBER_LIMIT, TRAIT_LIMIT}
+
+-- shapes that aren't members, members of one shape, members of all, and nodes and bytes of the values of all traits
+abbrev pub most_shapes : ℕ
+most_shapes = 20000
+
+abbrev pub most_members : ℕ
+most_members = 1000
+
+abbrev pub most_members_in_all : ℕ
+most_members_in_all = 200000
+
+abbrev pub most_in_traits : ℕ
+most_in_traits = 16000000
 
 -- what stands under ids outside of the prelude
 abbrev pub is_own : List ℕ × Entry → Bool
@@ -30,10 +42,10 @@ traits_size traits = sum_by (λ t. node_size t.1) (fin.entries traits)
 
 -- the graph is past this limit
 abbrev pub IsPast : LimitKind → GraphMaps → Type 0
-IsPast Shapes g = SHAPE_LIMIT < sum_by (λ e. shapes_in e.1) (own_entries g)
-IsPast members_of_one g = Any (λ e. MEMBER_LIMIT < members_in e.1) (own_entries g)
-IsPast AllMembers g = ALL_MEMBER_LIMIT < sum_by (λ e. members_in e.1) (own_entries g)
-IsPast Traits g = TRAIT_LIMIT < sum_by (λ e. traits_size (traits_in e.1)) (own_entries g)
+IsPast Shapes g = most_shapes < sum_by (λ e. shapes_in e.1) (own_entries g)
+IsPast members_of_one g = Any (λ e. most_members < members_in e.1) (own_entries g)
+IsPast AllMembers g = most_members_in_all < sum_by (λ e. members_in e.1) (own_entries g)
+IsPast Traits g = most_in_traits < sum_by (λ e. traits_size (traits_in e.1)) (own_entries g)
 
 -- and past none that is looked at before
 abbrev pub IsFirstPast : LimitKind → GraphMaps → Type 0

@@ -1,31 +1,23 @@
 -- What a reference means once it is known which shapes there are (Smithy 2.0, "Shape ID", relative shape ids): the first id
 -- that the file uses under the name, else the shape of that name in the file's namespace, else the prelude's. One that means
 -- none stands for the id in the file's namespace, and in a trait's place for the id in the prelude's.
-use Rattle.std.specs.Prelude.{ℕ, Bool, List, ◌∷◌, ◌++◌, map, drop, Option, Some, None, if◌then◌else◌}
-use Rattle.std.specs.List.{list_any, position_or_len}
+use Rattle.std.specs.Prelude.{ℕ, Bool, List, ◌++◌, map, Option, Some, None, if◌then◌else◌}
 use Rattle.std.specs.Option.{unwrap_or}
-use Rattle.sm_bytes.specs.Ascii.{number_sign, dollar}
+pub use Rattle.sm_ids.specs.TextParts.{absolute_id, is_absolute, member_part, shape_part}
 use Rattle.sm_tree.specs.Node.{Node, Nodes, Members, text, list, object, no_nodes, node, no_members, member}
 use Rattle.sm_model.specs.Raw.{Raw, Raws, RawMembers, raw_leaf, raw_id, raw_list, raw_object, no_raws, raw, no_raw_members, raw_member}
 use Rattle.sm_model.specs.PreludeShapes.{api_id, is_prelude_id}
-use Rattle.sm_model.specs.Used.{is_byte, shape_part, used_under}
+use Rattle.sm_model.specs.Used.{used_under}
 use Rattle.sm_model.specs.declared.reference.Ref.{Ref}
 
 -- the ids of the shapes that the files define
 abbrev pub Defined : Type 0
 Defined = List ℕ → Bool
 
--- of an id: "$" with the member, or nothing
-abbrev pub member_part : List ℕ → List ℕ
-member_part id = drop (position_or_len (is_byte dollar) id) id
-
-abbrev pub is_absolute : List ℕ → Bool
-is_absolute id = list_any (is_byte number_sign) id
-
 -- the shape that a name stands for in a file of this namespace that uses no id under it
 abbrev pub found_in : Defined → List ℕ → List ℕ → Bool → List ℕ
 found_in defined namespace name in_trait =
-    let own : List ℕ = namespace ++ number_sign ∷ name in
+    let own : List ℕ = absolute_id namespace name in
     if defined own then own else if is_prelude_id (api_id name) then api_id name else if in_trait then api_id name else own
 
 abbrev pub relative_meaning : Defined → Ref → List ℕ → List ℕ → List ℕ

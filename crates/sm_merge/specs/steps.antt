@@ -21,6 +21,7 @@ pub mod EffectiveTables
 pub mod Whole
 pub mod Made
 pub mod SoundStated
+pub mod NamedIds
 pub mod Verdicts
 pub mod MixedIn
 pub mod MixinsOnce

@@ -15,7 +15,7 @@ ghost use Rattle.sm_merge.specs.steps.Meant.{filled, IsObject, pairs_meant, raw_
 
 use crate::names::Names;
 use crate::node::meant_node;
-use sm_model::{Kind, RawNode, field_names};
+use sm_model::{Kind, RawNode, fields_of};
 use sm_tree::{NoMemory, Pairs, Text, Tree};
 use std::alloc::Global;
 
@@ -31,9 +31,9 @@ pub(crate) fn body(
 {
     let pairs = pairs_of(node);
     let mut fields = Vec::new(alloc);
-    let wanted = field_names(kind);
-    for name in wanted {
-        put_field(alloc, names, kind, name, pairs, &mut fields)?;
+    let wanted = fields_of(kind);
+    for field in wanted {
+        put_field(alloc, names, kind, field.0, pairs, &mut fields)?;
     }
     Ok(Tree::Object(Pairs::new(fields)))
 }

@@ -6,6 +6,7 @@ ghost use Rattle.sm_merge.specs.Merged.{AreEventsOf};
 ghost use Rattle.sm_merge.specs.Stated.{Stated};
 ghost use Rattle.sm_merge.specs.steps.Contributing.{NamesRise};
 ghost use Rattle.sm_merge.specs.steps.MixedIn.{AllBelow};
+ghost use Rattle.sm_merge.specs.steps.NamedIds.{AreNamedIds};
 ghost use Rattle.sm_merge.specs.steps.ShapeTables.{ids_of};
 ghost use Rattle.sm_merge.specs.steps.Tables.{places_in};
 ghost use Rattle.sm_merge.specs.steps.ToldEvents.{AreToldFrom};
@@ -36,6 +37,7 @@ pub(crate) fn all_events(
     requires names { NamesRise tables.now.traits.items }
     requires walked { length walk.now.status.items ≡ length tables.now.shapes.rows.items }
     requires members { length members.now ≡ length tables.now.shapes.rows.items }
+    requires named { AreNamedIds tables.now.shapes.rows.items members.now }
     requires size { length mixed.now ≡ length tables.now.shapes.rows.items }
     requires below { AllBelow (length tables.now.shapes.rows.items) mixed.now }
     ensures told { IfOk result (λ events. (ss : List Stated) → AreToldFrom ss tables.now walk.now mixed.now members.now

@@ -1,9 +1,12 @@
 // Events for members that are defined again with another target.
 ghost use Rattle.std.specs.Prelude.{◌≡◌, ◌∷◌, [], ℕ, List, length, not, IfOk, OnOk};
+ghost use Rattle.sm_ids.specs.Identifier.{IsIdentifier};
+ghost use Rattle.sm_ids.specs.IdText.{IsShapeId};
 ghost use Rattle.sm_merge.specs.steps.EventLists.{TellsMore};
 ghost use Rattle.sm_merge.specs.steps.Filling.{all_targets};
 ghost use Rattle.sm_merge.specs.steps.Firsts.{targets_view};
 ghost use Rattle.sm_merge.specs.steps.MixedIn.{AllBelow, AreBelow};
+ghost use Rattle.sm_merge.specs.steps.NamedIds.{AllNamed, AreNamedIds, AreNames, IsNamedRow};
 ghost use Rattle.sm_merge.specs.steps.PlaceEvents.{first_among, first_in, is_other, others_among, others_below};
 
 use crate::events::event;
@@ -27,6 +30,7 @@ pub(crate) fn put_member_events(
     events: &mut Vec<ModelEvent>,
 ) -> Result<(), NoMemory>
     requires members { length members.now ≡ length rows.now }
+    requires named { AreNamedIds rows.now members.now }
     requires size { length mixed.now ≡ length rows.now }
     requires below { AllBelow (length rows.now) mixed.now }
     ensures { OnOk result (TellsMore events.old.items events.new.items (others_below rows.now mixed.now members.now (length rows.now))) }
@@ -55,7 +59,9 @@ fn put_others(
     all: &[Vec<NamedTarget<'_>>],
     events: &mut Vec<ModelEvent>,
 ) -> Result<(), NoMemory>
-    requires { AreBelow (length all.now) mixed.now }
+    requires below { AreBelow (length all.now) mixed.now }
+    requires row { IsNamedRow row.now }
+    requires all { AllNamed all.now }
     ensures { OnOk result (TellsMore events.old.items events.new.items
         (others_among row.now.id (first_in firsts.now) (all_targets all.now mixed.now row.now.members.items))) }
 {
@@ -74,6 +80,8 @@ fn put_mixed_others(
     members: &[NamedTarget<'_>],
     events: &mut Vec<ModelEvent>,
 ) -> Result<(), NoMemory>
+    requires shape { IsShapeId shape.now }
+    requires names { AreNames (targets_view members.now) }
     ensures { OnOk result (TellsMore events.old.items events.new.items
         (others_among shape.now (first_in firsts.now) (targets_view members.now))) }
 {
@@ -90,6 +98,8 @@ fn put_own_others(
     members: &[(Text, ShapeId)],
     events: &mut Vec<ModelEvent>,
 ) -> Result<(), NoMemory>
+    requires shape { IsShapeId shape.now }
+    requires names { AreNames members.now }
     ensures { OnOk result (TellsMore events.old.items events.new.items (others_among shape.now (first_in firsts.now) members.now)) }
 {
     for (name, target) in members {
@@ -106,6 +116,8 @@ fn put_if_other(
     target: &ShapeId,
     events: &mut Vec<ModelEvent>,
 ) -> Result<(), NoMemory>
+    requires shape { IsShapeId shape.now }
+    requires name { IsIdentifier name.now }
     ensures { OnOk result (TellsMore events.old.items events.new.items
         (others_among shape.now (first_in firsts.now) ((name.now, target.now) ∷ []))) }
 {

@@ -2,11 +2,14 @@
 ghost use Rattle.std.specs.Prelude.{◌≡◌, ◌||◌, ◌++◌, ◌∷◌, [], ℕ, List, length, map, IfOk, IsTrue, OnOk};
 ghost use Rattle.std.specs.List.{list_any};
 ghost use Rattle.std.specs.Str.{bytes_eq};
-ghost use Rattle.sm_model.specs.Graphs.{member_id};
+ghost use Rattle.sm_ids.specs.Identifier.{IsIdentifier};
+ghost use Rattle.sm_ids.specs.IdText.{IsShapeId};
+ghost use Rattle.sm_ids.specs.TextParts.{member_id};
 ghost use Rattle.sm_model.specs.steps.Rising.{Rise};
 ghost use Rattle.sm_merge.specs.steps.EventLists.{TellsMore};
 ghost use Rattle.sm_merge.specs.steps.Firsts.{targets_view};
 ghost use Rattle.sm_merge.specs.steps.Known.{has_text};
+ghost use Rattle.sm_merge.specs.steps.NamedIds.{AreNamedIds, AreNames};
 ghost use Rattle.sm_merge.specs.steps.PlaceEvents.{applied_events, events_at, have_conflict, place_conflicts, places_below, some_conflict};
 ghost use Rattle.sm_merge.specs.steps.Tables.{places_in};
 
@@ -16,7 +19,7 @@ use crate::parts::BareShape;
 use crate::stated::copied_id;
 use crate::table::{NamedValue, PlaceRow};
 use crate::told::{put_applied_event, put_trait_events};
-use sm_ids::{ShapeId, ShapeIdRef, is_identifier};
+use sm_ids::ShapeId;
 use sm_model::ModelEvent;
 use sm_tree::NoMemory;
 use std::alloc::Global;
@@ -32,6 +35,7 @@ pub(crate) fn put_place_events(
     events: &mut Vec<ModelEvent>,
 ) -> Result<(), NoMemory>
     requires members { length members.now ≡ length rows.now }
+    requires named { AreNamedIds rows.now members.now }
     requires places { Rise (places_in traits.now) }
     ensures { OnOk result (TellsMore events.old.items events.new.items
         (events_at traits.now applied.now (places_below rows.now members.now (length rows.now)))) }
@@ -77,7 +81,8 @@ fn all_places(
     rows: &[BareShape],
     members: &[Vec<NamedTarget<'_>>],
 ) -> Result<Vec<ShapeId>, NoMemory>
-    requires { length members.now ≡ length rows.now }
+    requires members { length members.now ≡ length rows.now }
+    requires named { AreNamedIds rows.now members.now }
     ensures { IfOk result (λ places. places.items ≡ places_below rows.now members.now (length rows.now)) }
 {
     let mut places = Vec::new(alloc);
@@ -95,6 +100,8 @@ fn put_places(
     members: &[NamedTarget<'_>],
     places: &mut Vec<ShapeId>,
 ) -> Result<(), NoMemory>
+    requires shape { IsShapeId shape.now }
+    requires names { AreNames (targets_view members.now) }
     ensures { OnOk result (places.new.items
         ≡ places.old.items ++ shape.now ∷ map (λ p. member_id shape.now p.0) (targets_view members.now)) }
 {
@@ -105,24 +112,14 @@ fn put_places(
     Ok(())
 }
 
-/// The id of a member, put together from its parts. `NoMemory` too where they are those of none.
+/// The id of a member of a shape.
 pub(crate) fn id_of_member(alloc: Global, shape: &ShapeId, name: &str) -> Result<ShapeId, NoMemory>
+    requires shape { IsShapeId shape.now }
+    requires name { IsIdentifier name.now }
     ensures { IfOk result (λ id. id ≡ member_id shape.now name.now) }
 {
-    let parts = shape.as_ref();
-    let None = parts.member else {
-        return Err(NoMemory);
-    };
-    if !is_identifier(name) {
-        return Err(NoMemory);
-    }
-    let id = ShapeIdRef {
-        namespace: parts.namespace,
-        name: parts.name,
-        member: Some(name),
-    };
-    match ShapeId::new(alloc, &id) {
-        Ok(owned) => Ok(owned),
+    match shape.with_member(alloc, name) {
+        Ok(id) => Ok(id),
         Err(_) => Err(NoMemory),
     }
 }

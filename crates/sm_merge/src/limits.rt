@@ -2,7 +2,7 @@
 ghost use Rattle.std.specs.Prelude.{◌≡◌, ◌<◌, ◌+◌, ◌↔◌, IsTrue, length};
 ghost use Rattle.sm_bytes.specs.Lengths.{length_word};
 ghost use Rattle.sm_model.specs.steps.Rising.{Rise};
-ghost use Rattle.sm_merge.specs.declared.limit.TheConstants.{ALL_MEMBER_LIMIT, SHAPE_LIMIT, TRAIT_LIMIT};
+ghost use Rattle.sm_merge.specs.Limits.{most_members_in_all, most_shapes, most_in_traits};
 ghost use Rattle.sm_merge.specs.steps.EffectiveTables.{AreRunning, AreSoundTraits, trait_pairs};
 ghost use Rattle.sm_merge.specs.steps.Firsts.{target_view, targets_view};
 ghost use Rattle.sm_merge.specs.steps.Made.{AreAllSound, made_member, made_members, made_shape, made_shapes};
@@ -19,14 +19,14 @@ use sm_model::Kind;
 
 /// More shapes than a model may have.
 pub(crate) fn are_many_shapes(rows: &[BareShape]) -> bool
-    ensures { IsTrue result ↔ (SHAPE_LIMIT < length rows.now) }
+    ensures { IsTrue result ↔ (most_shapes < length rows.now) }
 {
     rows.len() as u64 > SHAPE_LIMIT
 }
 
 /// More members in all than a model may have.
 pub(crate) fn are_many_members(members: &[Vec<NamedTarget>]) -> bool
-    ensures { IsTrue result ↔ (ALL_MEMBER_LIMIT < members_count members.now) }
+    ensures { IsTrue result ↔ (most_members_in_all < members_count members.now) }
 {
     member_count(members) > ALL_MEMBER_LIMIT
 }

@@ -1,12 +1,13 @@
 // What references mean, once it is known which shapes there are.
 ghost use Rattle.std.specs.Prelude.{◌≡◌, ◌++◌, IfOk, string_bytes};
-ghost use Rattle.sm_model.specs.Used.{shape_part};
-ghost use Rattle.sm_merge.specs.Meaning.{found_in, is_absolute, meaning as meant, member_part, relative_meaning};
+ghost use Rattle.sm_ids.specs.TextParts.{member_part, shape_part};
+ghost use Rattle.sm_merge.specs.Meaning.{found_in, meaning as meant, relative_meaning};
 ghost use Rattle.sm_merge.specs.steps.Known.{known};
 ghost use Rattle.sm_merge.specs.steps.Cut.{HasMember};
 
 use crate::names::Names;
-use sm_model::{Ref, is_in_prelude, without_member};
+use sm_ids::{is_absolute, without_member};
+use sm_model::{Ref, is_in_prelude};
 use sm_tree::{NoMemory, Text};
 use std::alloc::Global;
 
@@ -18,19 +19,13 @@ pub(crate) fn meaning(alloc: Global, names: &Names<'_>, reference: &Ref) -> Resu
     match &reference.namespace {
         None => Text::copy(alloc, text),
         Some(namespace) => {
-            if has_number_sign(text) {
+            if is_absolute(text) {
                 return Text::copy(alloc, text);
             }
             let id = relative(alloc, names, reference, namespace.as_str())?;
             Ok(Text::new(id))
         }
     }
-}
-
-fn has_number_sign(text: &str) -> bool
-    ensures { result ≡ is_absolute text.now }
-{
-    text.as_bytes().contains(&b'#')
 }
 
 // The id that a relative reference of a file with this namespace means.

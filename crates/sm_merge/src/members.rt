@@ -7,7 +7,7 @@ ghost use Rattle.sm_merge.specs.steps.Links.{At};
 ghost use Rattle.sm_merge.specs.steps.Made.{HaveManyMembers};
 ghost use Rattle.sm_merge.specs.steps.MixedIn.{AllBelow, AreBelow};
 ghost use Rattle.sm_merge.specs.steps.Stopping.{ListsMembers};
-ghost use Rattle.sm_merge.specs.declared.limit.TheConstants.{MEMBER_LIMIT};
+ghost use Rattle.sm_merge.specs.Limits.{most_members};
 
 use crate::firsts::{NamedTarget, put_first, put_firsts};
 use crate::limit::MEMBER_LIMIT;
@@ -45,7 +45,7 @@ pub(crate) fn all_members<'a>(
 
 // More members than one shape may have.
 fn is_long(members: &[NamedTarget<'_>]) -> bool
-    ensures { IsTrue result ↔ (MEMBER_LIMIT < length members.now) }
+    ensures { IsTrue result ↔ (most_members < length members.now) }
 {
     members.len() as u64 > MEMBER_LIMIT
 }

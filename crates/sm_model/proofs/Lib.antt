@@ -26,3 +26,4 @@ mod LinkedGraphs
 pub mod Worklist
 pub mod NumberedIds
 pub mod FieldsAmong
+pub mod GivenEntries

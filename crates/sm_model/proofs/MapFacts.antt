@@ -46,6 +46,10 @@ module _ {X : Type 0} where
   each_joined P [] fs h hs = hs
   each_joined P (e ∷ es) fs h hs = (h.0, each_joined P es fs h.1 hs)
 
+  pub each_so : (P Q : List ℕ → X → Type 0) → ((k : List ℕ) (x : X) → P k x → Q k x) → (es : List (List ℕ × X)) → Each P es → Each Q es
+  each_so P Q to [] h = tt
+  each_so P Q to (e ∷ es) h = (to e.0 e.1 h.0, each_so P Q to es h.1)
+
   each_by : (P : List ℕ → X → Type 0) (k : List ℕ) (v : X) (e : List ℕ × X) (es fs : List (List ℕ × X)) (r : Ordering) → text_cmp k e.0 ≡ r
       → P k v → Each P (e ∷ es) → Each P fs → Each P (by_order r ((k, v) ∷ e ∷ es) ((e.0, v) ∷ es) (e ∷ fs))
   each_by P k v e es fs Less is h all rest = (h, all)

@@ -1,30 +1,15 @@
 -- The ids of a shape's members: how they are spelled, and where they stand among the ids of shapes.
-use Rattle.std.proofs.Common.{◌≡◌, ℕ, cond, List, [], ◌∷◌, ◌++◌, Some, None, refl, sym, ap, subst, ◌∙◌, append_assoc, append-nil}
+use Rattle.std.proofs.Common.{◌≡◌, ℕ, cond, List, [], ◌∷◌, ◌++◌, Some, None, refl, sym, ap, subst, ◌∙◌}
 use Rattle.std.specs.Ordering.{ordering_then, is_eq, is_gt}
 use Rattle.std.specs.declared.cmp.Ordering.{Ordering}
 use Rattle.std.specs.declared.cmp.Ordering.TheVariants.{Less, Equal, Greater}
 use Rattle.sm_ids.specs.Identifier.{IsIdentifier}
-use Rattle.sm_ids.specs.IdText.{Id, IsId, IdText, printed, member_text}
+use Rattle.sm_ids.specs.IdText.{Id, IsId, printed, member_text}
 use Rattle.sm_ids.proofs.PartOrder.{printed_order}
-use Rattle.sm_ids.proofs.Spellings.{one_id, shape_before_members}
+use Rattle.sm_ids.proofs.MadeIds.{member_spelled}
+use Rattle.sm_ids.proofs.Spellings.{shape_before_members}
 use Rattle.sm_model.specs.Graphs.{member_id, text_cmp}
 use Rattle.sm_model.specs.References.{IsShapeId}
-
--- the id of a shape has no member
-no_member : (shape : List ℕ) → IsShapeId shape → (id : Id) → IdText id shape → id.member ≡ None
-no_member shape h id is = ap (λ x. x.member) (one_id id h.0 shape is h.1) ∙ h.2
-
-behind_name : (ns name m : List ℕ) → ns ++ 35 ∷ (name ++ 36 ∷ m) ≡ (ns ++ 35 ∷ (name ++ [])) ++ 36 ∷ m
-behind_name ns name m =
-    ap (λ x. ns ++ 35 ∷ (x ++ 36 ∷ m)) (sym (append-nil name)) ∙ sym (append_assoc ns (35 ∷ (name ++ [])) (36 ∷ m))
-
--- the parts of a shape's id with a member's name spell the member's id
-pub member_spelled : (shape : List ℕ) → IsShapeId shape → (id : Id) → IdText id shape → (m : List ℕ)
-    → printed (record { namespace = id.namespace; name = id.name; member = Some m }) ≡ member_id shape m
-member_spelled shape h id is m =
-    behind_name id.namespace id.name m
-    ∙ ap (λ x. (id.namespace ++ 35 ∷ (id.name ++ member_text x)) ++ 36 ∷ m) (sym (no_member shape h id is))
-    ∙ ap (λ t. t ++ 36 ∷ m) (sym is.spelled)
 
 -- a shape comes before its members
 pub below_member : (shape : List ℕ) → IsShapeId shape → (m : List ℕ) → text_cmp shape (member_id shape m) ≡ Less

@@ -5,7 +5,7 @@ use Rattle.std.specs.FinMap as fin
 use Rattle.std.specs.Ordering.{nat_cmp}
 use Rattle.std.specs.Cmp.Lexicographic.{slice_cmp}
 use Rattle.std.specs.declared.cmp.Ordering.{Ordering}
-use Rattle.sm_bytes.specs.Ascii.{dollar}
+pub use Rattle.sm_ids.specs.TextParts.{member_id}
 use Rattle.sm_tree.specs.Node.{Node}
 use Rattle.sm_model.specs.declared.kind.Kind.{Kind}
 
@@ -59,10 +59,6 @@ pub record ShapeGiven : Type 0 where
   pub members : List MemberGiven
   pub properties : Node
   pub traits : List (List ℕ × Node)
-
--- the id of a member
-abbrev pub member_id : List ℕ → List ℕ → List ℕ
-member_id shape name = shape ++ dollar ∷ name
 
 -- a member and members of a shape, by their ids
 abbrev pub given_member : List ℕ → MemberGiven → List ℕ × Entry

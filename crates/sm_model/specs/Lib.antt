@@ -1,5 +1,6 @@
 pub mod Kinds
 pub mod Properties
+pub mod FieldsView
 pub mod References
 pub mod Used
 pub mod UsesView

@@ -1,21 +1,13 @@
 -- References as a file writes them: Smithy 2.0 ("Shape ID", relative shape ids).
-use Rattle.std.specs.Prelude.{◌≡◌, ◌⊎◌, ℕ, List, [], ◌∷◌, ◌++◌, Bool, Option, Some, None}
-use Rattle.std.specs.Option.{ForSome}
-use Rattle.sm_ids.specs.Identifier.{IsIdentifier, IsNamespace}
-use Rattle.sm_ids.specs.IdText.{Id, IdText, IsIdText, member_text}
+use Rattle.std.specs.Prelude.{◌⊎◌, ℕ, List, [], ◌∷◌, Bool, Option, Some, None}
+use Rattle.sm_ids.specs.Identifier.{IsNamespace}
+use Rattle.sm_ids.specs.IdText.{IsIdText}
+pub use Rattle.sm_ids.specs.IdText.{IsRelativeId, IsShapeId}
 use Rattle.sm_model.specs.declared.reference.Ref.{Ref}
 
 -- an absolute reference, as the AST has them: a reference of no file
 abbrev pub absolute : List ℕ → Bool → Ref
 absolute text in_trait = record { text = text; namespace = None; uses = []; in_trait = in_trait }
-
--- Identifier ["$" Identifier]
-abbrev pub IsRelativeId : List ℕ → Type 0
-IsRelativeId text = (name : List ℕ) × (m : Option (List ℕ)) × IsIdentifier name × ForSome m IsIdentifier × (text ≡ name ++ member_text m)
-
--- the text is the id of a shape, without a member
-abbrev pub IsShapeId : List ℕ → Type 0
-IsShapeId text = (id : Id) × IdText id text × (id.member ≡ None)
 
 abbrev pub AreIds : List (List ℕ) → Type 0
 AreIds [] = Unit {0}

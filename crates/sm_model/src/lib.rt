@@ -22,12 +22,11 @@ pub use kind::Kind;
 pub use link::Link;
 pub use part::{entries_of, pairs_of, text_of, tree_under};
 pub use prelude::is_in_prelude;
-pub use property::{PropertyForm, field_names};
+pub use property::{PropertyForm, fields_of};
 pub use raw::{RawItems, RawNode, RawPairs};
-pub use reach::{Steps, mark, mark_all, no_marks, spread};
+pub use reach::{Steps, mark, mark_all, mark_at, no_marks, spread};
 pub use reference::{Ref, Refs, Uses};
 pub use relation::Relation;
 pub use statement::{
     MemberStatement, MemberStatements, ShapeStatement, Statement, TraitUse, TraitUses,
 };
-pub use used::without_member;

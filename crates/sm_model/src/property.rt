@@ -1,6 +1,7 @@
 // The fields of operations, services and resources.
-ghost use Rattle.std.specs.Prelude.{◌≡◌, map};
-ghost use Rattle.sm_model.specs.Properties.{form_named, operation_fields, property_forms, resource_fields, service_fields};
+ghost use Rattle.std.specs.Prelude.{◌≡◌};
+ghost use Rattle.sm_model.specs.FieldsView.{fields_view};
+ghost use Rattle.sm_model.specs.Properties.{form_named, property_forms};
 
 use crate::kind::Kind;
 
@@ -24,68 +25,45 @@ impl PropertyForm {
     pub fn of(kind: Kind, name: &str) -> Option<Self>
         ensures { result ≡ form_named name.now (property_forms kind) }
     {
-        match kind {
-            Kind::Operation => PropertyForm::of_operation(name),
-            Kind::Service => PropertyForm::of_service(name),
-            Kind::Resource => PropertyForm::of_resource(name),
-            _ => None,
-        }
-    }
-
-    fn of_operation(name: &str) -> Option<Self>
-        ensures { result ≡ form_named name.now operation_fields }
-    {
-        match name {
-            "input" | "output" => Some(PropertyForm::Reference),
-            "errors" => Some(PropertyForm::References),
-            _ => None,
-        }
-    }
-
-    fn of_service(name: &str) -> Option<Self>
-        ensures { result ≡ form_named name.now service_fields }
-    {
-        match name {
-            "version" => Some(PropertyForm::Text),
-            "operations" | "resources" | "errors" => Some(PropertyForm::References),
-            "rename" => Some(PropertyForm::Rename),
-            _ => None,
-        }
-    }
-
-    fn of_resource(name: &str) -> Option<Self>
-        ensures { result ≡ form_named name.now resource_fields }
-    {
-        match name {
-            "identifiers" | "properties" => Some(PropertyForm::NamedReferences),
-            "create" | "put" | "read" | "update" | "delete" | "list" => {
-                Some(PropertyForm::Reference)
+        let fields = fields_of(kind);
+        for field in fields {
+            if name == field.0 {
+                return Some(field.1);
             }
-            "operations" | "collectionOperations" | "resources" => Some(PropertyForm::References),
-            _ => None,
         }
+        None
     }
 }
 
-/// The names of the fields of a type, in the order in which they are written. No memory.
-pub fn field_names(kind: Kind) -> &'static [&'static str]
-    ensures { map (λ name. name.now) result.now ≡ map (λ field. field.0) (property_forms kind) }
+/// The fields of a type with what stands in each, in the order in which they are written. No memory.
+pub fn fields_of(kind: Kind) -> &'static [(&'static str, PropertyForm)]
+    ensures { fields_view result.now ≡ property_forms kind }
 {
     match kind {
-        Kind::Operation => &["input", "output", "errors"],
-        Kind::Service => &["version", "operations", "resources", "errors", "rename"],
+        Kind::Operation => &[
+            ("input", PropertyForm::Reference),
+            ("output", PropertyForm::Reference),
+            ("errors", PropertyForm::References),
+        ],
+        Kind::Service => &[
+            ("version", PropertyForm::Text),
+            ("operations", PropertyForm::References),
+            ("resources", PropertyForm::References),
+            ("errors", PropertyForm::References),
+            ("rename", PropertyForm::Rename),
+        ],
         Kind::Resource => &[
-            "identifiers",
-            "properties",
-            "create",
-            "put",
-            "read",
-            "update",
-            "delete",
-            "list",
-            "operations",
-            "collectionOperations",
-            "resources",
+            ("identifiers", PropertyForm::NamedReferences),
+            ("properties", PropertyForm::NamedReferences),
+            ("create", PropertyForm::Reference),
+            ("put", PropertyForm::Reference),
+            ("read", PropertyForm::Reference),
+            ("update", PropertyForm::Reference),
+            ("delete", PropertyForm::Reference),
+            ("list", PropertyForm::Reference),
+            ("operations", PropertyForm::References),
+            ("collectionOperations", PropertyForm::References),
+            ("resources", PropertyForm::References),
         ],
         _ => &[],
     }

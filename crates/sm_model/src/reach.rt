@@ -1,5 +1,5 @@
 // Sets of numbers as marks, and a worklist over them: where no step or more lead to from some numbers, over any steps.
-ghost use Rattle.std.specs.Prelude.{◌≡◌, ◌<◌, ℕ, IfOk, OnOk, false, length, replicate};
+ghost use Rattle.std.specs.Prelude.{◌≡◌, ◌<◌, ℕ, IfOk, OnOk, false, get_or, length, replicate};
 ghost use Rattle.std.specs.List.{Contains};
 ghost use Rattle.sm_model.specs.Reaching.{AreFound, AreLedTo, Finds};
 
@@ -42,6 +42,16 @@ pub fn no_marks(alloc: Global, count: usize) -> Result<Vec<bool>, NoMemory>
     Ok(marks)
 }
 
+/// Whether a number is marked; one behind the marks isn't. No memory.
+pub fn mark_at(marks: &[bool], number: u32) -> bool
+    ensures { result ≡ get_or marks.now number false }
+{
+    match marks.get(number as usize) {
+        Some(mark) => *mark,
+        None => false,
+    }
+}
+
 /// Marks these numbers, and appends those that weren't found before.
 pub fn mark_all(
     numbers: &[u32],
@@ -74,7 +84,8 @@ pub fn mark(number: u32, marks: &mut Vec<bool>, found: &mut Vec<u32>) -> Result<
     Ok(())
 }
 
-/// Takes the steps from each number that was found, the later ones too. Each number is visited once.
+/// Takes the steps from each number that was found, the later ones too: what is marked is then what was found. Each number is
+/// visited once. `NoMemory` where a visit runs out of it.
 pub fn spread<S: Steps>(
     steps: &S,
     marks: &mut Vec<bool>,
@@ -84,6 +95,7 @@ pub fn spread<S: Steps>(
     requires marks { length marks.old.items ≡ S.bound steps.now }
     requires are { AreFound marks.old.items found.old.items }
     ensures count { OnOk result (length marks.new.items ≡ S.bound steps.now) }
+    ensures are { OnOk result (AreFound marks.new.items found.new.items) }
     ensures marked { OnOk result (AreLedTo (S.leads steps.now) found.old.items marks.new.items) }
 {
     for at in 0..marks.len() {

@@ -4,7 +4,7 @@ ghost use Rattle.std.specs.BTreeMap.{get_by_text};
 ghost use Rattle.std.specs.Str.{bytes_eq};
 ghost use Rattle.sm_model.specs.Used.{name_part, shape_part, used_under};
 
-use sm_ids::ShapeId;
+use sm_ids::{ShapeId, namespace_and_name, without_member};
 use sm_tree::{NoMemory, Text};
 use std::alloc::Global;
 use std::collections::BTreeMap;
@@ -74,22 +74,9 @@ fn put_shape(alloc: Global, shapes: &mut BTreeMap<String, Text>, id: &str) -> Re
     }
 }
 
-/// An id without its member. No memory.
-pub fn without_member(id: &str) -> &str
-    ensures { result.now ≡ shape_part id.now }
-{
-    match id.split_once('$') {
-        Some((shape, _)) => shape,
-        None => id,
-    }
-}
-
 // The name of an absolute id, without its namespace and its member.
 fn name_of(id: &str) -> &str
     ensures { result.now ≡ name_part id.now }
 {
-    match id.split_once('#') {
-        Some((_, name)) => without_member(name),
-        None => "",
-    }
+    without_member(namespace_and_name(id).1)
 }

@@ -7,8 +7,9 @@ use Rattle.sm_tree.specs.Json.{IsJson}
 use Rattle.sm_model.specs.Graphs.{Entry, GraphMaps, NodeMap, member_entry, shape_entry}
 use Rattle.sm_model.specs.Said.{Said}
 use Rattle.sm_model.proofs.MapFacts.{Each}
-use Rattle.sm_ast.specs.Written.{name_in_id, written_ast}
-use Rattle.sm_ast.proofs.IdNames.{name_of_member}
+use Rattle.sm_ast.specs.Written.{written_ast}
+use Rattle.sm_ids.specs.TextParts.{member_name}
+use Rattle.sm_ids.proofs.TextCuts.{member_named}
 use Rattle.sm_ast.proofs.JsonGiven.{id_utf8, identifier_utf8}
 use Rattle.sm_ast.proofs.JsonWritten.{AreJsonPairs, EntryIsJson, written_json}
 use Rattle.sm_merge.specs.Merged.{IsGraphOf}
@@ -31,8 +32,8 @@ traits_json m h =
 entry_json : (id : List ℕ) (e : Entry) → IsSoundEntry id e → EntryIsJson id e
 entry_json id (shape_entry s) h = (id_utf8 id (h.0.0, h.0.1), h.1.0, traits_json s.traits h.2)
 entry_json id (member_entry m) h = (
-  subst (λ k. IsUtf8 (name_in_id k)) (sym h.0.is)
-      (subst IsUtf8 (sym (name_of_member h.0.shape h.0.of_shape h.0.name)) (identifier_utf8 h.0.name h.0.named)),
+  subst (λ k. IsUtf8 (member_name k)) (sym h.0.is)
+      (subst IsUtf8 (sym (member_named h.0.shape h.0.of_shape h.0.name)) (identifier_utf8 h.0.name h.0.named)),
   id_utf8 m.target h.1,
   traits_json m.traits h.2,
 )

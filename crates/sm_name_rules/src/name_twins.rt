@@ -1,5 +1,5 @@
 // Shapes whose names are equal but for case, in the whole graph and in a closure.
-ghost use Rattle.std.specs.Prelude.{◌≡◌, ◌↔◌, ◌++◌, ℕ, IfOk, OnOk, Some, false, get_or, length};
+ghost use Rattle.std.specs.Prelude.{◌≡◌, ◌↔◌, ◌++◌, ℕ, IfOk, OnOk, Some, length};
 ghost use Rattle.std.specs.List.{Contains};
 ghost use Rattle.sm_model.specs.GraphView.{entries_of};
 ghost use Rattle.sm_model.specs.Reaching.{IsMarked};
@@ -9,6 +9,7 @@ ghost use Rattle.sm_name_rules.specs.steps.NameTwins.{AreNames, AreNamesInside, 
 ghost use Rattle.sm_name_rules.specs.steps.NameTwins.{two_of};
 
 use crate::earlier::earlier_at;
+use sm_model::mark_at;
 use sm_passes::closures::Closure;
 use sm_passes::firsts::first_of;
 use sm_tree::NoMemory;
@@ -143,14 +144,5 @@ fn one_of(inside: &[bool], ones: &BTreeMap<u32, u32>, first: u32) -> Option<u32>
     match ones.get(&first) {
         Some(one) => Some(*one),
         None => None,
-    }
-}
-
-fn mark_at(marks: &[bool], number: u32) -> bool
-    ensures { result ≡ get_or marks.now number false }
-{
-    match marks.get(number as usize) {
-        Some(mark) => *mark,
-        None => false,
     }
 }

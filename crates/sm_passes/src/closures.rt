@@ -2,14 +2,14 @@
 ghost use Rattle.std.specs.Prelude.{◌≡◌, ◌↔◌, ℕ, IfOk, OnOk, [], ◌∷◌, false, length, replicate};
 ghost use Rattle.std.specs.List.{Contains};
 ghost use Rattle.sm_model.specs.GraphView.{IsShapeNumber, maps_of};
-ghost use Rattle.sm_model.specs.Reaching.{AreFound, AreLedTo, IsMarked, id_of_number};
+ghost use Rattle.sm_model.specs.Reaching.{IsMarked, id_of_number};
 ghost use Rattle.sm_select.specs.Ways.{AreWays};
 ghost use Rattle.sm_passes.specs.Closures.{IsClosureOf};
 ghost use Rattle.sm_passes.specs.steps.Groups.{IsClear};
 ghost use Rattle.sm_passes.specs.Owned.{is_own_service, is_service};
 
 use sm_compile::{id_text, kind_of};
-use sm_model::{Graph, Kind, Steps, is_in_prelude, no_marks};
+use sm_model::{Graph, Kind, Steps, is_in_prelude, no_marks, spread};
 use sm_select::Ways;
 use sm_tree::NoMemory;
 use std::alloc::Global;
@@ -76,7 +76,7 @@ impl Closure {
     {
         let steps = &ways.on;
         steps.visit(service, &mut self.marks, &mut self.found)?;
-        spread_found(steps, &mut self.marks, &mut self.found)?;
+        spread(steps, &mut self.marks, &mut self.found)?;
         Ok(())
     }
 
@@ -99,26 +99,4 @@ fn unmark_all(numbers: &[u32], marks: &mut Vec<bool>)
     for number in numbers {
         marks[*number as usize] = false;
     }
-}
-
-// `spread` of sm_model, which says besides that what is marked is what was found.
-fn spread_found<S: Steps>(
-    steps: &S,
-    marks: &mut Vec<bool>,
-    found: &mut Vec<u32>,
-) -> Result<(), NoMemory>
-    requires steps { S.keeps steps.now }
-    requires marks { length marks.old.items ≡ S.bound steps.now }
-    requires are { AreFound marks.old.items found.old.items }
-    ensures count { OnOk result (length marks.new.items ≡ S.bound steps.now) }
-    ensures are { OnOk result (AreFound marks.new.items found.new.items) }
-    ensures marked { OnOk result (AreLedTo (S.leads steps.now) found.old.items marks.new.items) }
-{
-    for at in 0..marks.len() {
-        if at >= found.len() {
-            return Ok(());
-        }
-        steps.visit(found[at], marks, found)?;
-    }
-    Ok(())
 }

@@ -10,10 +10,11 @@ ghost use Rattle.sm_ast.specs.steps.Checks.{Checks};
 use super::field::check_fields;
 use super::node::check_members;
 use super::pairs::{PairRule, check_pairs};
-use crate::id::{has_member, is_shape_id};
+use crate::id::is_shape_id;
 use crate::layout::type_of;
 use crate::part::{pairs_of, says, tree_under};
 use crate::refusal::AstRefusal;
+use sm_ids::has_member;
 use sm_tree::{Text, Tree};
 use std::alloc::Global;
 

@@ -2,10 +2,10 @@
 ghost use Rattle.std.specs.Prelude.{◌≡◌, ◌++◌, [], map, get_or, IfOk, OnOk, Some};
 ghost use Rattle.sm_tree.specs.View.{node_of, members_view};
 ghost use Rattle.sm_model.specs.GraphView.{AreShapeNumbers, At, ids, IsMemberAt, IsShapeNumber, maps_of};
-ghost use Rattle.sm_ast.specs.Written.{member_object, member_there, name_in_id, written_member, written_members};
+ghost use Rattle.sm_ast.specs.Written.{member_object, member_there, written_member, written_members};
 
 use super::field::{put_field, put_text, put_traits};
-use sm_ids::ShapeId;
+use sm_ids::member_name;
 use sm_model::Graph;
 use sm_tree::{NoMemory, Pairs, Text, Tree};
 use std::alloc::Global;
@@ -39,7 +39,7 @@ fn put_member(
 {
     if graph.is_member(member) {
         let tree = member_tree(alloc, graph, member)?;
-        let name = member_name(graph.id(member));
+        let name = member_name(graph.id(member).as_str());
         put_field(alloc, name, tree, fields)?;
         Ok(())
     } else {
@@ -63,14 +63,4 @@ fn written(alloc: Global, target: &str, traits: &[(Text, Tree)]) -> Result<Tree,
     put_text(alloc, "target", target, &mut fields)?;
     put_traits(alloc, traits, &mut fields)?;
     Ok(Tree::Object(Pairs::new(fields)))
-}
-
-// The name of a member; the empty text for the id of a shape. No memory.
-fn member_name(id: &ShapeId) -> &str
-    ensures { result.now ≡ name_in_id id.now }
-{
-    match id.as_ref().member {
-        Some(name) => name,
-        None => "",
-    }
 }

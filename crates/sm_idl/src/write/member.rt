@@ -5,9 +5,9 @@ ghost use Rattle.sm_model.specs.GraphView.{AreShapeNumbers, ids, IsMemberAt, IsS
 ghost use Rattle.sm_idl.specs.Written.{member_lines, member_text, target_part};
 ghost use Rattle.sm_idl.specs.steps.Writing.{member_at};
 
-use super::id::member_name;
 use super::put::put;
 use super::traits::put_traits;
+use sm_ids::member_name;
 use sm_model::Graph;
 use sm_tree::{NoMemory, Text, Tree};
 use std::alloc::Global;

@@ -11,10 +11,11 @@ ghost use Rattle.sm_idl.specs.steps.Writing.{IsShapeText};
 
 use super::field::put_fields;
 use super::form::{WrittenForm, form_of};
-use super::id::{is_its_own, parts};
+use super::id::is_its_own;
 use super::member::put_members;
 use super::put::put;
 use super::traits::put_traits;
+use sm_ids::namespace_and_name;
 use sm_model::{Graph, Kind};
 use sm_tree::{NoMemory, Tree};
 use std::alloc::Global;
@@ -51,7 +52,7 @@ fn put_entry(
     }
     let id = graph.id(number).as_str();
     if is_its_own(namespace, id) {
-        return put_own(alloc, graph, number, parts(id).1, out);
+        return put_own(alloc, graph, number, namespace_and_name(id).1, out);
     }
     Ok(())
 }

@@ -14,7 +14,7 @@ use Rattle.sm_merge.specs.steps.Placed.{bare_view}
 use Rattle.sm_merge.specs.steps.Tables.{named_view, traits_found}
 use Rattle.sm_merge.specs.declared.effective.ShapeTraits.{ShapeTraits}
 use Rattle.sm_merge.specs.declared.firsts.NamedTarget.{NamedTarget}
-use Rattle.sm_merge.specs.declared.limit.TheConstants.{TRAIT_LIMIT}
+use Rattle.sm_merge.specs.Limits.{most_in_traits}
 use Rattle.sm_merge.specs.declared.mixins.Contributing.{Contributing}
 use Rattle.sm_merge.specs.declared.parts.BareShape.{BareShape}
 use Rattle.sm_merge.specs.declared.table.PlaceRow.{PlaceRow}
@@ -73,7 +73,7 @@ pub record AreListedTo (rows : List BareShape) (traits : List PlaceRow) (members
 pub record AreListedTraits (rows : List BareShape) (traits : List PlaceRow) (members : List (Vec NamedTarget))
     (mixed : List (Vec Contributing)) (order : List ℕ) (all : List ShapeTraits) : Type 0 where
   pub total : ℕ
-  pub small : total ≤ TRAIT_LIMIT
+  pub small : total ≤ most_in_traits
   pub listed : AreListedTo rows traits members mixed order (length order) all total
 
 -- those of shapes up to one with which they are
@@ -82,7 +82,7 @@ pub record HasLargeTraits (rows : List BareShape) (traits : List PlaceRow) (memb
   pub all : List ShapeTraits
   pub place : ℕ
   pub total : ℕ
-  pub large : TRAIT_LIMIT < total
+  pub large : most_in_traits < total
   pub listed : AreListedTo rows traits members mixed order place all total
 
 abbrev pub ListsTraits : List BareShape → List PlaceRow → List (Vec NamedTarget) → List (Vec Contributing) → List ℕ

@@ -16,7 +16,7 @@ use Rattle.sm_merge.specs.steps.Placed.{Bare, bare_view}
 use Rattle.sm_merge.specs.declared.effective.MemberTraits.{MemberTraits}
 use Rattle.sm_merge.specs.declared.effective.ShapeTraits.{ShapeTraits}
 use Rattle.sm_merge.specs.declared.firsts.NamedTarget.{NamedTarget}
-use Rattle.sm_merge.specs.declared.limit.TheConstants.{MEMBER_LIMIT}
+use Rattle.sm_merge.specs.Limits.{most_members}
 use Rattle.sm_merge.specs.declared.parts.BareShape.{BareShape}
 use Rattle.sm_merge.specs.declared.shape_parts.ShapePart.{ShapePart}
 use Rattle.sm_merge.specs.declared.table.NamedValue.{NamedValue}
@@ -83,7 +83,7 @@ shapes_size (s ∷ ss) = shape_size s + shapes_size ss
 -- how many members there are
 abbrev pub HaveManyMembers : List (Vec NamedTarget) → Type 0
 HaveManyMembers [] = ⊥
-HaveManyMembers (ms ∷ mss) = (MEMBER_LIMIT < length ms.items) ⊎ HaveManyMembers mss
+HaveManyMembers (ms ∷ mss) = (most_members < length ms.items) ⊎ HaveManyMembers mss
 
 abbrev pub members_count : List (Vec NamedTarget) → ℕ
 members_count [] = 0

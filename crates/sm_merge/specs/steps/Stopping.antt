@@ -6,7 +6,7 @@ use Rattle.sm_merge.specs.steps.Links.{At}
 use Rattle.sm_merge.specs.steps.Made.{HaveManyMembers}
 use Rattle.sm_merge.specs.steps.MixedIn.{IsMixedOrder}
 use Rattle.sm_merge.specs.declared.firsts.NamedTarget.{NamedTarget}
-use Rattle.sm_merge.specs.declared.limit.TheConstants.{MEMBER_LIMIT}
+use Rattle.sm_merge.specs.Limits.{most_members}
 use Rattle.sm_merge.specs.declared.mixins.Contributing.{Contributing}
 use Rattle.sm_merge.specs.declared.parts.BareShape.{BareShape}
 
@@ -25,7 +25,7 @@ pub record HasLongShape (rows : List BareShape) (mixed : List (Vec Contributing)
   pub list : Vec NamedTarget
   pub stands : At order place number
   pub there : At all number list
-  pub long : MEMBER_LIMIT < length list.items
+  pub long : most_members < length list.items
   pub filled : IsMixedOrder order mixed → IsFilled (HasMixedMembers rows mixed) order (place + 1) all
 
 abbrev pub ListsMembers : List BareShape → List (Vec Contributing) → List ℕ → Option (Vec (Vec NamedTarget)) → Type 0

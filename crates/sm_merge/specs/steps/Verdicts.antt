@@ -10,7 +10,7 @@ use Rattle.sm_merge.specs.Answers.{StatementsComeTo}
 use Rattle.sm_merge.specs.Stated.{Stated}
 use Rattle.sm_merge.specs.declared.effective.ShapeTraits.{ShapeTraits}
 use Rattle.sm_merge.specs.declared.firsts.NamedTarget.{NamedTarget}
-use Rattle.sm_merge.specs.declared.limit.TheConstants.{ALL_MEMBER_LIMIT, SHAPE_LIMIT, TRAIT_LIMIT}
+use Rattle.sm_merge.specs.Limits.{most_members_in_all, most_shapes, most_in_traits}
 use Rattle.sm_merge.specs.declared.mixins.Contributing.{Contributing}
 use Rattle.sm_merge.specs.declared.refusal.MergeRefusal.{MergeRefusal}
 use Rattle.sm_merge.specs.declared.refusal.MergeRefusal.TheVariants.{Limit, NoMemory, Rejected}
@@ -59,7 +59,7 @@ pub record AreNamedTables (ss : List Stated) (t : Tables) (walk : Walk) (mixed :
   pub mixed_in : AreMixedIn ss t.shapes.rows.items mixed
   pub filled : IsFilled (HasMixedMembers t.shapes.rows.items mixed) walk.order.items (length walk.order.items) members
   pub named : AreMembersOf ss t.shapes.rows.items members
-  pub few : SHAPE_LIMIT < length t.shapes.rows.items → ⊥
+  pub few : most_shapes < length t.shapes.rows.items → ⊥
   pub short : HaveManyMembers members → ⊥
 
 -- and with traits; nor are all members too many, nor traits too large
@@ -67,8 +67,8 @@ pub record AreWholeTables (ss : List Stated) (t : Tables) (walk : Walk) (mixed :
     (all : List ShapeTraits) : Type 0 where
   pub names : AreNamedTables ss t walk mixed members
   pub effective : AreEffectiveTables ss t.shapes.rows.items members all
-  pub fewer : ALL_MEMBER_LIMIT < members_count members → ⊥
-  pub small : TRAIT_LIMIT < shapes_size (made_shapes t.shapes.rows.items members all) → ⊥
+  pub fewer : most_members_in_all < members_count members → ⊥
+  pub small : most_in_traits < shapes_size (made_shapes t.shapes.rows.items members all) → ⊥
 
 abbrev pub IsWithin : Walk → Tables → Type 0
 IsWithin walk t = (k v : ℕ) → At walk.order.items k v → v < length t.shapes.rows.items

@@ -3,9 +3,18 @@ use Rattle.std.specs.List.{list_any}
 use Rattle.sm_model.specs.EventView.{events_view}
 use Rattle.sm_merge.specs.steps.Contributing.{AreWalkedTables}
 use Rattle.sm_merge.specs.steps.EventLists.{HaveSameEvents, TellsMore, metadata_events, shape_event}
+use Rattle.sm_merge.specs.steps.NamedIds.{AreNamedIds}
 use Rattle.sm_merge.specs.steps.PlaceEvents.{applied_events, events_at, others_below, place_conflicts, places_below}
 use Rattle.sm_merge.proofs.WholeEvents.{chained, whole_told}
 use Rattle.sm_merge.proofs.events_all.all_events.Goals as goal
+
+pub put_place_events-requires-clause-named : goal.put_place_events-requires-clause-named
+put_place_events-requires-clause-named c =
+    subst (λ rs. AreNamedIds rs c.args.members.now) (sym c.as_slice-rows.ensures.value) c.requires.named
+
+pub put_member_events-requires-clause-named : goal.put_member_events-requires-clause-named
+put_member_events-requires-clause-named c =
+    subst (λ rs. AreNamedIds rs c.args.members.now) (sym c.as_slice-rows.ensures.value) c.requires.named
 
 pub returns-clause-told : goal.returns-clause-told
 returns-clause-told c = λ ss t.

@@ -11,8 +11,18 @@ use Rattle.sm_merge.proofs.MixinsOnce.{below_once}
 use Rattle.sm_merge.proofs.OthersPut.{others_entry}
 use Rattle.sm_merge.proofs.events_members.put_member_events.Goals as goal
 
-pub put_others-requires : goal.put_others-requires
-put_others-requires c =
+pub put_others-requires-clause-row : goal.put_others-requires-clause-row
+put_others-requires-clause-row c =
+    let low : c.loop-number.number < length c.args.rows.now = c.loop-number-test.true in
+    let here = slice_get_read c.args.rows.now (length c.args.rows.now) c.loop-number.number c.index-rows-number.result refl low
+    c.index-rows-number.is in
+    c.requires.named.rows_are c.loop-number.number c.index-rows-number.result here
+
+pub put_others-requires-clause-all : goal.put_others-requires-clause-all
+put_others-requires-clause-all c = c.requires.named.all
+
+pub put_others-requires-clause-below : goal.put_others-requires-clause-below
+put_others-requires-clause-below c =
     let low : c.loop-number.number < length c.args.rows.now = c.loop-number-test.true in
     let size : length c.args.mixed.now ≡ length c.args.rows.now = c.requires.size in
     let small : c.loop-number.number < length c.args.mixed.now = omega (arith, low, size) in

@@ -1,4 +1,4 @@
-use Rattle.std.proofs.Common.{◌≡◌, ◌<◌, ◌+◌, ◌∷◌, ◌++◌, [], ap, drop, length, refl, sym, ◌∙◌, append_assoc, rules}
+use Rattle.std.proofs.Common.{◌≡◌, ◌<◌, ◌+◌, ◌∷◌, ◌++◌, [], ap, drop, length, refl, subst, sym, ◌∙◌, append_assoc, rules}
 use Rattle.std.specs.Prelude.{slice_get}
 use Rattle.std.proofs.lemmas.List.{drop_all, drop_more}
 use Rattle.std.proofs.lemmas.Option.{slice_get_read}
@@ -6,6 +6,7 @@ use Rattle.sm_model.specs.EventView.{events_view}
 use Rattle.sm_merge.specs.steps.Filling.{all_targets, mixed_members}
 use Rattle.sm_merge.specs.steps.Firsts.{targets_view}
 use Rattle.sm_merge.specs.steps.MixedIn.{vec_items}
+use Rattle.sm_merge.specs.steps.NamedIds.{AreNames}
 use Rattle.sm_merge.specs.steps.PlaceEvents.{first_in, others_among}
 use Rattle.sm_merge.proofs.MembersMixed.{below_one}
 use Rattle.sm_merge.proofs.OthersPut.{others_step}
@@ -13,15 +14,33 @@ use Rattle.sm_merge.proofs.events_members.put_others.Goals as goal
 
 pub bounds-all-mixin : goal.bounds-all-mixin
 bounds-all-mixin c =
-    below_one (length c.args.all.now) c.args.mixed.now c.loop-mixin.mixin-index c.mixin-item.result c.requires c.loop-mixin-test.true
+    below_one (length c.args.all.now) c.args.mixed.now c.loop-mixin.mixin-index c.mixin-item.result c.requires.below c.loop-mixin-test.true
     c.mixin-item.is
 
 pub offset_bounds-all-mixin : goal.offset_bounds-all-mixin
 offset_bounds-all-mixin c =
     let small : c.mixin-item.result.number < length c.args.all.now =
-    below_one (length c.args.all.now) c.args.mixed.now c.loop-mixin.mixin-index c.mixin-item.result c.requires c.loop-mixin-test.true
+    below_one (length c.args.all.now) c.args.mixed.now c.loop-mixin.mixin-index c.mixin-item.result c.requires.below c.loop-mixin-test.true
     c.mixin-item.is in
     search rules
+
+pub put_mixed_others-requires-clause-shape : goal.put_mixed_others-requires-clause-shape
+put_mixed_others-requires-clause-shape c = c.requires.row.id
+
+pub put_mixed_others-requires-clause-names : goal.put_mixed_others-requires-clause-names
+put_mixed_others-requires-clause-names c =
+    let one = c.mixin-item.result in
+    let small = below_one (length c.args.all.now) c.args.mixed.now c.loop-mixin.mixin-index one c.requires.below c.loop-mixin-test.true
+    c.mixin-item.is in
+    let here = slice_get_read c.args.all.now (length c.args.all.now) one.number c.index-all-mixin.result refl small c.index-all-mixin.is in
+    subst (λ ms. AreNames (targets_view ms)) (sym c.as_slice-members.ensures.value)
+    (c.requires.all one.number c.index-all-mixin.result here)
+
+pub put_own_others-requires-clause-shape : goal.put_own_others-requires-clause-shape
+put_own_others-requires-clause-shape c = c.requires.row.id
+
+pub put_own_others-requires-clause-names : goal.put_own_others-requires-clause-names
+put_own_others-requires-clause-names c = subst AreNames (sym c.as_slice.ensures.value) c.requires.row.own
 
 pub loop-mixin-preserved : goal.loop-mixin-preserved
 loop-mixin-preserved c =
@@ -32,7 +51,7 @@ loop-mixin-preserved c =
     let id = c.args.row.now.id in
     let parts : drop i mixed ≡ one ∷ drop (i + 1) mixed =
     drop_more mixed i one c.loop-mixin-test.true ∙ ap (λ y. y ∷ drop (i + 1) mixed) (sym c.mixin-item.is) in
-    let small = below_one (length c.args.all.now) mixed i one c.requires c.loop-mixin-test.true c.mixin-item.is in
+    let small = below_one (length c.args.all.now) mixed i one c.requires.below c.loop-mixin-test.true c.mixin-item.is in
     let here = slice_get_read c.args.all.now (length c.args.all.now) one.number c.index-all-mixin.result refl small c.index-all-mixin.is in
     let seen : targets_view c.as_slice-members.result.now ≡ targets_view (vec_items (slice_get c.args.all.now one.number)) =
     ap targets_view (c.as_slice-members.ensures.value ∙ sym (ap vec_items here)) in

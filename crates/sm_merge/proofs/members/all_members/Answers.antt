@@ -3,7 +3,7 @@ use Rattle.std.proofs.lemmas.Bool.{true≢false}
 use Rattle.std.proofs.lemmas.List.{length-set}
 use Rattle.std.proofs.lemmas.Option.{slice_get-get_or}
 use Rattle.sm_merge.specs.steps.Filling.{HasMixedMembers}
-use Rattle.sm_merge.specs.declared.limit.TheConstants.{MEMBER_LIMIT}
+use Rattle.sm_merge.specs.Limits.{most_members}
 use Rattle.sm_merge.proofs.Ats.{at_stored}
 use Rattle.sm_merge.proofs.Filled.{fill_step, members_local}
 use Rattle.sm_merge.proofs.Stopped.{set_short}
@@ -42,7 +42,7 @@ loop-number-preserved c =
           c.in_ok-members.ensures)
           (c.loop-number.invariant.filled o);
       short = set_short c.loop-number.all.items number c.in_ok-members.members c.loop-number.invariant.short
-          (λ many. true≢false (sym (c.is_long-long.ensures.1 (subst (λ ms. MEMBER_LIMIT < length ms)
+          (λ many. true≢false (sym (c.is_long-long.ensures.1 (subst (λ ms. most_members < length ms)
           (sym c.as_slice-in-loop-number.ensures.value) many))
           ∙ c.if-long.false));
     }
@@ -61,7 +61,7 @@ returns-then-long c =
       list = c.in_ok-members.members;
       stands = at_k;
       there = at_stored c.loop-number.all.items number c.in_ok-members.members inside;
-      long = subst (λ ms. MEMBER_LIMIT < length ms) c.as_slice-in-loop-number.ensures.value (c.is_long-long.ensures.0 c.if-long.true);
+      long = subst (λ ms. most_members < length ms) c.as_slice-in-loop-number.ensures.value (c.is_long-long.ensures.0 c.if-long.true);
       filled = λ o.
           fill_step c.args.mixed.now (HasMixedMembers c.args.rows.now c.args.mixed.now) (members_local c.args.rows.now c.args.mixed.now)
           c.args.order.now o c.loop-number.number-index number c.loop-number.all.items c.in_ok-members.members at_k inside

@@ -1,5 +1,5 @@
 use Rattle.std.proofs.Common.{◌<◌, ◌+◌, [], ◌∷◌, length, sym, ap, subst, ◌∙◌, arith, length-append}
-use Rattle.sm_merge.specs.declared.limit.TheConstants.{MEMBER_LIMIT}
+use Rattle.sm_merge.specs.Limits.{most_members}
 use Rattle.sm_merge.specs.steps.Made.{HaveManyMembers}
 use Rattle.sm_merge.proofs.Stopped.{put_short}
 use Rattle.sm_merge.proofs.members.no_members.Goals as goal
@@ -11,5 +11,5 @@ loop-preserved c = record {
   short =
       subst (λ all. HaveManyMembers all → ⊥) (sym c.in_ok-push.ensures.items)
       (put_short c.loop.all.items c.new-none.result c.loop.invariant.short (λ many.
-      let some : MEMBER_LIMIT < 0 = subst (λ xs. MEMBER_LIMIT < length xs) c.new-none.ensures.items many in omega (arith, some)));
+      let some : most_members < 0 = subst (λ xs. most_members < length xs) c.new-none.ensures.items many in omega (arith, some)));
 }

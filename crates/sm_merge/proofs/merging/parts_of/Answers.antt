@@ -1,7 +1,7 @@
 use Rattle.std.proofs.Common.{◌≡◌, ◌<◌, length, sym, subst, ◌∙◌, arith}
 use Rattle.std.proofs.lemmas.Bool.{true≢false}
 use Rattle.sm_model.specs.steps.Rising.{Rise}
-use Rattle.sm_merge.specs.declared.limit.TheConstants.{SHAPE_LIMIT}
+use Rattle.sm_merge.specs.Limits.{most_shapes}
 use Rattle.sm_merge.specs.steps.Contributing.{NamesRise}
 use Rattle.sm_merge.specs.steps.Links.{At}
 use Rattle.sm_merge.specs.steps.MixinLinks.{WalksMixins}
@@ -19,7 +19,7 @@ pub returns-then-are_many_shapes : goal.returns-then-are_many_shapes
 returns-then-are_many_shapes c = λ ss h.
     many_shapes_told ss c.args.tables.now c.in-Ok.walk h
     (subst (λ rs. WalksMixins rs c.in-Ok.walk) c.as_slice-rows.ensures.value c.in-Ok.ensures)
-    (subst (λ rs. SHAPE_LIMIT < length rs) c.as_slice-rows.ensures.value (c.are_many_shapes.ensures.0 c.if-are_many_shapes.true))
+    (subst (λ rs. most_shapes < length rs) c.as_slice-rows.ensures.value (c.are_many_shapes.ensures.0 c.if-are_many_shapes.true))
 
 pub all_mixed_in-requires : goal.all_mixed_in-requires
 all_mixed_in-requires c =

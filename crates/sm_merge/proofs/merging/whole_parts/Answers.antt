@@ -2,12 +2,18 @@ use Rattle.std.proofs.Common.{◌≡◌, subst, rules}
 use Rattle.sm_model.specs.EventView.{events_view}
 use Rattle.sm_merge.specs.Merged.{AreEventsOf}
 use Rattle.sm_merge.specs.steps.Made.{made_shapes, parted_shapes}
+use Rattle.sm_merge.proofs.IdsNamed.{named_ids}
 use Rattle.sm_merge.proofs.MergeTold.{none_of, told_from, whole_rejected, whole_tell}
 use Rattle.sm_merge.proofs.PartsTold.{sound_traits}
 use Rattle.sm_merge.proofs.merging.whole_parts.Goals as goal
 
 pub all_events-requires-clause-ids : goal.all_events-requires-clause-ids
 all_events-requires-clause-ids c = c.requires.some.1.names.sound.tables.shapes.rows.rise
+
+pub all_events-requires-clause-named : goal.all_events-requires-clause-named
+all_events-requires-clause-named c =
+    let some = c.requires.some in
+    named_ids some.0 c.args.tables.now c.args.walk.now c.args.mixed.now c.args.members.now c.args.all.now some.1
 
 pub all_events-requires-clause-places : goal.all_events-requires-clause-places
 all_events-requires-clause-places c = c.requires.some.1.names.sound.tables.traits.rise

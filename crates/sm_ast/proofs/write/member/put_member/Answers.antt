@@ -1,5 +1,6 @@
 use Rattle.std.proofs.Common.{◌≡◌, [], ◌∷◌, ◌++◌, ap, append-nil, subst, sym, ◌∙◌}
 use Rattle.std.specs.Prelude.{slice_get}
+use Rattle.sm_ids.specs.TextParts.{member_name}
 use Rattle.sm_tree.specs.View.{node_of, members_view}
 use Rattle.sm_model.specs.GraphView.{At, entries_of, is_member_entry}
 use Rattle.sm_model.proofs.GraphFacts.{member_found}
@@ -16,7 +17,7 @@ pub returns-in_ok-put_field : goal.returns-in_ok-put_field
 returns-in_ok-put_field c =
     let g = c.args.graph.now in
     c.in_ok-put_field.ensures
-    ∙ ap (λ name. members_view c.args.fields.now.items ++ (name, node_of c.in_ok-tree.tree) ∷ []) c.member_name-name.ensures
+    ∙ ap (λ name. members_view c.args.fields.now.items ++ (name, node_of c.in_ok-tree.tree) ∷ []) (c.member_name-name.ensures ∙ ap member_name c.as_str.ensures)
     ∙ ap (λ ps. members_view c.args.fields.now.items ++ ps)
     (sym (member_put g c.args.member c.id.result.now (node_of c.in_ok-tree.tree) c.id.ensures c.in_ok-tree.ensures))
 

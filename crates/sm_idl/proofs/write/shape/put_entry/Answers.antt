@@ -1,4 +1,4 @@
-use Rattle.std.proofs.Common.{[], ◌∷◌, ◌++◌, true, subst, sym, ◌∙◌}
+use Rattle.std.proofs.Common.{◌∷◌, ◌++◌, true, subst, sym, ◌∙◌, []}
 use Rattle.std.specs.Prelude.{slice_get}
 use Rattle.std.proofs.lemmas.Result.{on_ok_weaker}
 use Rattle.sm_bytes.specs.Ascii.{line_feed}
@@ -29,7 +29,7 @@ returns-then-is_its_own c =
     on_ok_weaker c.put_own.result
     (λ is. shape_put shapes c.args.namespace.now (slice_get (entries_of g) k) before now id
     (id_there g k id c.id.result.now c.as_str-id.ensures c.id.ensures) own
-    (subst (λ name. At g k (λ i e. IsShapeText shapes name (before ++ line_feed ∷ []) now e)) c.parts.ensures.name is))
+    (subst (λ name. At g k (λ i e. IsShapeText shapes name (before ++ line_feed ∷ []) now e)) c.namespace_and_name.ensures.name is))
     c.put_own.ensures
 
 pub returns : goal.returns

@@ -2,7 +2,8 @@ use Rattle.std.proofs.Common.{◌∙◌, sym, subst}
 use Rattle.std.specs.Prelude.{◌||◌, codes}
 use Rattle.sm_model.specs.GraphView.{maps_of}
 use Rattle.sm_rules.specs.RuleList.{rule_id}
-use Rattle.sm_load.specs.Suppressions.{is_suppressed_there, namespace_of}
+use Rattle.sm_ids.specs.TextParts.{namespace_part}
+use Rattle.sm_load.specs.Suppressions.{is_suppressed_there}
 use Rattle.sm_load.specs.steps.Suppressing.{AreNamedThere}
 use Rattle.sm_load.proofs.suppressed.Suppressor.suppresses.Goals as goal
 
@@ -13,4 +14,4 @@ returns c = λ h.
     c.either.ensures
     ∙ (λ i. there i || c.is_in-in_metadata.ensures i)
     ∙ (λ i. is_suppressed_there (maps_of c.args.graph.now) c.args.id.now event
-    || (h.namespaces (codes "*") i || h.namespaces (namespace_of c.args.id.now) i))
+    || (h.namespaces (codes "*") i || h.namespaces (namespace_part c.args.id.now) i))

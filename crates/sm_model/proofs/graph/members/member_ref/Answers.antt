@@ -1,7 +1,7 @@
 use Rattle.std.proofs.Common.{ap, ◌∙◌}
 use Rattle.sm_ids.specs.View.{id_of}
 use Rattle.sm_model.specs.Graphs.{member_id}
-use Rattle.sm_model.proofs.MemberIds.{member_spelled}
+use Rattle.sm_ids.proofs.MadeIds.{member_spelled}
 use Rattle.sm_model.proofs.graph.members.member_ref.Goals as goal
 
 pub returns : goal.returns
