@@ -22,4 +22,5 @@ pub mod ReaderClauses
 pub mod EventLaws
 pub mod Building
 pub mod BuilderView
+pub mod OpenLevels
 pub mod steps
