@@ -1,0 +1,84 @@
+-- Of any reader that takes pieces: what has come to it, where nothing is refused and where something is; what a refusal that was given before
+-- says of more bytes, of a sink, and of the end.
+use Rattle.std.proofs.Common.{◌≡◌, ℕ, List, ◌++◌, Option, None, Some, refl, sym, subst}
+use Rattle.std.specs.Prelude.{Err}
+use Rattle.sm_tree.specs.Events.{NodeEvent}
+use Rattle.sm_tree.specs.Streams.{Takes}
+use Rattle.sm_tree.specs.Syntax.{Syntax}
+use Rattle.sm_tree.specs.ReaderClauses.{TakesBeside, StaysRefused}
+use Rattle.sm_tree.specs.Sources.{SourceOf, RefusedSo, ComeAs, HasCome, SourceStands, EndsWith}
+use Rattle.sm_tree.specs.declared.refusal.SyntaxRefusal.{SyntaxRefusal}
+use Rattle.sm_tree.specs.declared.refusal.SyntaxRefusal.TheVariants.{Bad, Ended, TooDeep, KeyKind, NoMemory}
+use Rattle.sm_tree.proofs.LongerBytes.{refused_longer}
+
+-- one that has refused nothing has read what has come
+pub come_read : {R : Type 0} (s : SourceOf R) (r : R) (bytes : List ℕ) → s.refusal r ≡ None → HasCome s r bytes → s.has_read r bytes
+come_read s r bytes fresh come = subst (λ o. ComeAs s o r bytes) fresh come
+
+pub read_come : {R : Type 0} (s : SourceOf R) (r : R) (bytes : List ℕ) → s.refusal r ≡ None → s.has_read r bytes → HasCome s r bytes
+read_come s r bytes fresh read = subst (λ o. ComeAs s o r bytes) (sym fresh) read
+
+-- to one that has refused, the bytes are refused so
+pub come_refused : {R : Type 0} (s : SourceOf R) (r : R) (bytes : List ℕ) (refusal : SyntaxRefusal) → s.refusal r ≡ Some refusal
+    → HasCome s r bytes → RefusedSo s.syntax bytes refusal
+come_refused s r bytes refusal is come = subst (λ o. ComeAs s o r bytes) is come
+
+pub refused_come : {R : Type 0} (s : SourceOf R) (r : R) (bytes : List ℕ) (refusal : SyntaxRefusal) → s.refusal r ≡ Some refusal
+    → RefusedSo s.syntax bytes refusal → HasCome s r bytes
+refused_come s r bytes refusal is refused = subst (λ o. ComeAs s o r bytes) (sym is) refused
+
+-- it has refused nothing, or something
+pub no_refusal : (refused : Option SyntaxRefusal) (refusal : SyntaxRefusal) → refused ≡ None → refused ≡ Some refusal → ⊥
+no_refusal None refusal fresh is = cc
+no_refusal (Some r) refusal fresh is = cc
+
+-- what was refused at a place is refused so in longer bytes
+longer : (F : Syntax) (bytes more : List ℕ) (refusal : SyntaxRefusal) → (refusal ≡ Ended → ⊥) → RefusedSo F bytes refusal
+    → RefusedSo F (bytes ++ more) refusal
+longer F bytes more (Bad at) other h = refused_longer F bytes more (Bad at) other h
+longer F bytes more Ended other h = absurd (other refl)
+longer F bytes more (TooDeep at) other h = refused_longer F bytes more (TooDeep at) other h
+longer F bytes more (KeyKind at) other h = refused_longer F bytes more (KeyKind at) other h
+longer F bytes more NoMemory other h = tt
+
+stays : {R : Type 0} (s : SourceOf R) (r : R) (more : List ℕ) (refusal : SyntaxRefusal) → s.refusal r ≡ Some refusal
+    → (refusal ≡ Ended → ⊥) → (bytes : List ℕ) → SourceStands s r bytes → SourceStands s r (bytes ++ more)
+stays s r more refusal is other bytes (grows, come) =
+    (grows, refused_come s r (bytes ++ more) refusal is (longer s.syntax bytes more refusal other (come_refused s r bytes refusal is come)))
+
+stays_at : {R : Type 0} (s : SourceOf R) (o : Option SyntaxRefusal) (r : R) (more : List ℕ) → s.refusal r ≡ o
+    → StaysRefused (SourceStands s) o r more
+stays_at s None r more is = tt
+stays_at s (Some NoMemory) r more is = tt
+stays_at s (Some Ended) r more is = tt
+stays_at s (Some (Bad at)) r more is = stays s r more (Bad at) is (λ e. cc)
+stays_at s (Some (TooDeep at)) r more is = stays s r more (TooDeep at) is (λ e. cc)
+stays_at s (Some (KeyKind at)) r more is = stays s r more (KeyKind at) is (λ e. cc)
+
+pub stays_refused : {R : Type 0} (s : SourceOf R) (r : R) (more : List ℕ) → StaysRefused (SourceStands s) (s.refusal r) r more
+stays_refused s r more = stays_at s (s.refusal r) r more refl
+
+-- what a refusal leaves of what the sink takes
+pub takes_again : (T : Takes) (refusal : SyntaxRefusal) → TakesBeside T T refusal
+takes_again T (Bad at) = λ e h. h
+takes_again T Ended = λ e h. h
+takes_again T (TooDeep at) = λ e h. h
+takes_again T (KeyKind at) = λ e h. h
+takes_again T NoMemory = tt
+
+-- the end, where it has refused before; and what is refused there
+pub ended_again : {R : Type 0} (s : SourceOf R) (AllOf : List ℕ → List NodeEvent → Type 0) (r : R) (bytes : List ℕ)
+    (refusal : SyntaxRefusal) → s.refusal r ≡ Some refusal → HasCome s r bytes → EndsWith s AllOf r bytes (Err refusal)
+ended_again s AllOf r bytes (Bad at) is come = come_refused s r bytes (Bad at) is come
+ended_again s AllOf r bytes Ended is come = come_refused s r bytes Ended is come
+ended_again s AllOf r bytes (TooDeep at) is come = come_refused s r bytes (TooDeep at) is come
+ended_again s AllOf r bytes (KeyKind at) is come = come_refused s r bytes (KeyKind at) is come
+ended_again s AllOf r bytes NoMemory is come = is
+
+pub end_refused : {R : Type 0} (s : SourceOf R) (AllOf : List ℕ → List NodeEvent → Type 0) (r : R) (bytes : List ℕ)
+    (refusal : SyntaxRefusal) → EndsWith s AllOf r bytes (Err refusal) → RefusedSo s.syntax bytes refusal
+end_refused s AllOf r bytes (Bad at) h = h
+end_refused s AllOf r bytes Ended h = h
+end_refused s AllOf r bytes (TooDeep at) h = h
+end_refused s AllOf r bytes (KeyKind at) h = h
+end_refused s AllOf r bytes NoMemory h = tt
