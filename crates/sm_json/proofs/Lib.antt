@@ -43,3 +43,4 @@ pub mod Completed
 pub mod Feeding
 pub mod NullTexts
 pub mod ReadPieces
+pub mod Finished

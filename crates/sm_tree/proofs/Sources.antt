@@ -1,6 +1,6 @@
--- Of any reader that takes pieces: what has come to it, where nothing is refused and where something is; what a refusal that was given before
--- says of more bytes, of a sink, and of the end.
-use Rattle.std.proofs.Common.{◌≡◌, ℕ, List, ◌++◌, Option, None, Some, refl, sym, subst}
+-- Of any reader that takes pieces: what has come to it, where nothing is refused and where something is; what a refusal that was given
+-- before says of more bytes, of a sink, and of the end.
+use Rattle.std.proofs.Common.{◌≡◌, ℕ, List, ◌++◌, Option, None, Some, refl, sym, ap, subst, ◌∙◌}
 use Rattle.std.specs.Prelude.{Err}
 use Rattle.sm_tree.specs.Events.{NodeEvent}
 use Rattle.sm_tree.specs.Streams.{Takes}
@@ -82,3 +82,52 @@ end_refused s AllOf r bytes Ended h = h
 end_refused s AllOf r bytes (TooDeep at) h = h
 end_refused s AllOf r bytes (KeyKind at) h = h
 end_refused s AllOf r bytes NoMemory h = tt
+
+-- what was fed goes on with a piece, unless memory ran out
+fed_now : {R : Type 0} (s : SourceOf R) (S T : StandsFor) (before behind : R) (bytes piece : List ℕ)
+    (res : Result (Unit {0}) SyntaxRefusal) → s.refusal before ≡ None → SourceFeeds s S before piece T behind res
+    → HasFed s before S bytes → (res ≡ Err NoMemory → ⊥) → HasFed s behind T (bytes ++ piece)
+fed_now s S T before behind bytes piece (Ok x) fresh (still, on) (stands, going, follows) other =
+    let (there, next) = on bytes stands in (
+      there,
+      λ is. no_refusal (s.refusal behind) Ended still is,
+      λ none. next (follows fresh),
+    )
+fed_now s S T before behind bytes piece (Err (Bad at)) fresh (told, on) (stands, going, follows) other = (
+  (on bytes stands).0,
+  λ is. let same : Some (Bad at) ≡ Some Ended = sym told ∙ is in cc,
+  λ none. absurd (no_refusal (s.refusal behind) (Bad at) none told),
+)
+fed_now s S T before behind bytes piece (Err (TooDeep at)) fresh (told, on) (stands, going, follows) other = (
+  (on bytes stands).0,
+  λ is. let same : Some (TooDeep at) ≡ Some Ended = sym told ∙ is in cc,
+  λ none. absurd (no_refusal (s.refusal behind) (TooDeep at) none told),
+)
+fed_now s S T before behind bytes piece (Err (KeyKind at)) fresh (told, on) (stands, going, follows) other = (
+  (on bytes stands).0,
+  λ is. let same : Some (KeyKind at) ≡ Some Ended = sym told ∙ is in cc,
+  λ none. absurd (no_refusal (s.refusal behind) (KeyKind at) none told),
+)
+fed_now s S T before behind bytes piece (Err Ended) fresh feeds fed other = absurd feeds
+fed_now s S T before behind bytes piece (Err NoMemory) fresh feeds fed other = absurd (other refl)
+
+fed_again : {R : Type 0} (s : SourceOf R) (S T : StandsFor) (before : R) (bytes piece : List ℕ) (given : SyntaxRefusal)
+    → s.refusal before ≡ Some given → HasFed s before S bytes → (given ≡ NoMemory → ⊥) → HasFed s before T (bytes ++ piece)
+fed_again s S T before bytes piece given is (stands, going, follows) other = (
+  stays s before piece given is (λ e. going (is ∙ ap Some e)) bytes stands,
+  going,
+  λ none. absurd (no_refusal (s.refusal before) given none is),
+)
+
+pub fed_on : {R : Type 0} (s : SourceOf R) (S T : StandsFor) (before behind : R) (bytes piece : List ℕ)
+    (res : Result (Unit {0}) SyntaxRefusal) (Same : Type 0) → (s.refusal before ≡ None → SourceFeeds s S before piece T behind res)
+    → IfSome (s.refusal before) (λ given. (res ≡ Err given) × (behind ≡ before) × Same) → HasFed s before S bytes
+    → (res ≡ Err NoMemory → ⊥) → HasFed s behind T (bytes ++ piece)
+fed_on s S T before behind bytes piece res Same feeds again fed other = at (s.refusal before) refl
+  where
+    at : (o : Option SyntaxRefusal) → s.refusal before ≡ o → HasFed s behind T (bytes ++ piece)
+    at None is = fed_now s S T before behind bytes piece res is (feeds is) fed other
+    at (Some given) is =
+        let (told, same, rest) = subst (λ o. IfSome o (λ x. (res ≡ Err x) × (behind ≡ before) × Same)) is again in
+        subst (λ q. HasFed s q T (bytes ++ piece)) (sym same)
+        (fed_again s S T before bytes piece given is fed (λ e. other (told ∙ ap Err e)))

@@ -1,5 +1,5 @@
--- What a reader stands for that takes the bytes of a text in pieces, whatever its format: the bytes that have come to it. And what it makes of
--- a piece, and of the end of the bytes, beside a sink that stood for S before and stands for T behind.
+-- What a reader stands for that takes the bytes of a text in pieces, whatever its format: the bytes that have come to it. And what it
+-- makes of a piece, and of the end of the bytes, beside a sink that stood for S before and stands for T behind.
 use Rattle.std.specs.Prelude.{◌≡◌, ℕ, List, [], ◌++◌, take, Option, None, Some, Result, Ok, Err}
 use Rattle.sm_tree.specs.Node.{Node}
 use Rattle.sm_tree.specs.Events.{NodeEvent}
@@ -41,9 +41,9 @@ HasCome s r bytes = ComeAs s (s.refusal r) r bytes
 abbrev pub SourceStands : {R : Type 0} → SourceOf R → R → List ℕ → Type 0
 SourceStands s r bytes = s.may_grow r × HasCome s r bytes
 
--- so they have, and where none of them is refused, the sink stands for what they complete
+-- so they have, no end was refused, and where none of them is refused, the sink stands for what they complete
 abbrev pub HasFed : {R : Type 0} → SourceOf R → R → StandsFor → List ℕ → Type 0
-HasFed s r S bytes = SourceStands s r bytes × (s.refusal r ≡ None → Follows s.timing S bytes)
+HasFed s r S bytes = SourceStands s r bytes × (s.refusal r ≡ Some Ended → ⊥) × (s.refusal r ≡ None → Follows s.timing S bytes)
 
 -- it has refused; or some bytes have come, and the sink stands for what they complete
 abbrev pub MayFeed : {R : Type 0} → SourceOf R → R → StandsFor → Type 0

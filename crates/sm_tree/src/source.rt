@@ -10,8 +10,8 @@ use crate::event::EventSink;
 use crate::refusal::SyntaxRefusal;
 use std::alloc::Global;
 
-/// A reader of one text of some format, to which the text's bytes come in pieces. Once it has refused it gives that refusal again, and hands
-/// nothing on.
+/// A reader of one text of some format, to which the text's bytes come in pieces. Once it has refused it gives that refusal again, and
+/// hands nothing on.
 pub trait EventSource {
     /// What is said of such readers: their format, and which bytes have come to one.
     ghost source: { SourceOf Self };
@@ -53,6 +53,8 @@ pub trait EventSource {
         ensures refused { IfErr result (λ refusal. source.refusal self.new ≡ Some refusal) }
         ensures alike { E.alike to.old to.new };
 
-    /// Before the first byte no event is complete.
-    ghost none_yet: { (es : List NodeEvent) → Completes source.timing [] es → es ≡ [] };
+    /// What holds of the format's times: before the first byte no event is complete. The call does nothing: code over any source makes it
+    /// to know it.
+    fn laws()
+        ensures { (es : List NodeEvent) → Completes source.timing [] es → es ≡ [] };
 }
