@@ -1,13 +1,13 @@
 -- A reader that takes pieces, beside a sink: what a piece does to it, and what it answers at the end. The answers of `CborReader`
 -- and of `read_by_bytes` cite these.
-use Rattle.std.proofs.Common.{Ok, Err, ◌≡◌, ℕ, ◌+◌, ◌-◌, ◌≤◌, ◌<◌, List, [], ◌++◌, Option, None, Some, refl, sym, ap, subst, ◌∙◌, arith}
+use Rattle.std.proofs.Common.{Ok, Err, ◌≡◌, ℕ, ◌+◌, ◌-◌, ◌≤◌, ◌<◌, List, [], ◌++◌, None, Some, sym, ap, subst, ◌∙◌, arith}
 use Rattle.std.proofs.Common.{length, length-append, take, drop, take-append-drop, get_or, false}
 use Rattle.std.proofs.Math.Seq.{take-append-add}
 use Rattle.std.proofs.lemmas.List.{get_or-append-add, take_all, length-drop}
 use Rattle.sm_tree.specs.Limits.{most_levels}
 use Rattle.sm_tree.specs.Node.{Node}
 use Rattle.sm_tree.specs.Events.{NodeEvent, events}
-use Rattle.sm_tree.specs.Streams.{StandsFor, Takes, unnumbered}
+use Rattle.sm_tree.specs.Streams.{StandsFor, unnumbered}
 use Rattle.sm_tree.specs.Building.{Building, so_far, kinds, awaits_value}
 use Rattle.sm_tree.specs.View.{node_of}
 use Rattle.sm_tree.specs.declared.tree.Tree.{Tree}
@@ -17,7 +17,7 @@ use Rattle.sm_tree.proofs.Awaited.{whole_closed}
 use Rattle.sm_tree.proofs.LongerBytes.{refused_longer}
 use Rattle.sm_tree.proofs.Sources.{come_read, read_come, refused_come}
 use Rattle.sm_cbor.specs.CborItem.{CborItem}
-use Rattle.sm_tree.specs.Timing.{Completes, Follows}
+use Rattle.sm_tree.specs.Timing.{Follows}
 use Rattle.sm_tree.specs.Syntax.{Reads, IsRead, IsRefused}
 use Rattle.sm_tree.specs.Refusal.{IsWithin, moved_by}
 use Rattle.sm_tree.specs.declared.refusal.SyntaxRefusal.{SyntaxRefusal}

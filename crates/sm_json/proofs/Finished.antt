@@ -1,5 +1,5 @@
 -- The end of a text that came in pieces: its last number is handed on, and then it is answered.
-use Rattle.std.proofs.Common.{◌≡◌, ℕ, List, Option, None, Some, refl, sym, ap, subst}
+use Rattle.std.proofs.Common.{◌≡◌, ℕ, List, Option, None, Some, refl, sym, subst}
 use Rattle.std.specs.Prelude.{Result, Ok, Err, IfSome}
 use Rattle.sm_tree.specs.Streams.{StandsFor}
 use Rattle.sm_tree.specs.Sources.{HasFed, RefusedSo, ReadsInto}

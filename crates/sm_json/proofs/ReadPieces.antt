@@ -1,7 +1,7 @@
 -- A reader that takes a text in pieces: what it stands for, what its sink stands for, and what it has refused, one piece behind
 -- another. The answers of `JsonReader` cite these.
 use Rattle.std.specs.Prelude.{Bool, IsTrue, ◌↔◌}
-use Rattle.std.proofs.Common.{true, false, Option, Ok, Err, ◌≡◌, ℕ, ◌+◌, ◌≤◌, List, [], ◌∷◌, ◌++◌, Some, None, refl, sym, ap, subst, ◌∙◌}
+use Rattle.std.proofs.Common.{true, false, Ok, Err, ◌≡◌, ℕ, ◌+◌, ◌≤◌, List, [], ◌∷◌, ◌++◌, Some, None, refl, sym, ap, subst, ◌∙◌}
 use Rattle.std.proofs.Common.{arith, length, take, append-nil, length-append}
 use Rattle.std.proofs.Math.Seq.{take-append_seam, take-append-add, drop-append_seam}
 use Rattle.sm_tree.specs.Node.{Node, null}

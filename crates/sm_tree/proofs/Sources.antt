@@ -1,12 +1,12 @@
 -- Of any reader that takes pieces: what has come to it, where nothing is refused and where something is; what a refusal that was given
 -- before says of more bytes, of a sink, and of the end.
 use Rattle.std.proofs.Common.{◌≡◌, ℕ, List, ◌++◌, Option, None, Some, refl, sym, ap, subst, ◌∙◌}
-use Rattle.std.specs.Prelude.{Err}
+use Rattle.std.specs.Prelude.{Result, Ok, Err, IfSome}
 use Rattle.sm_tree.specs.Events.{NodeEvent}
-use Rattle.sm_tree.specs.Streams.{Takes}
+use Rattle.sm_tree.specs.Streams.{StandsFor, Takes}
 use Rattle.sm_tree.specs.Syntax.{Syntax}
 use Rattle.sm_tree.specs.ReaderClauses.{TakesBeside, StaysRefused}
-use Rattle.sm_tree.specs.Sources.{SourceOf, RefusedSo, ComeAs, HasCome, SourceStands, EndsWith}
+use Rattle.sm_tree.specs.Sources.{SourceOf, RefusedSo, ComeAs, HasCome, SourceStands, HasFed, SourceFeeds, EndsWith}
 use Rattle.sm_tree.specs.declared.refusal.SyntaxRefusal.{SyntaxRefusal}
 use Rattle.sm_tree.specs.declared.refusal.SyntaxRefusal.TheVariants.{Bad, Ended, TooDeep, KeyKind, NoMemory}
 use Rattle.sm_tree.proofs.LongerBytes.{refused_longer}
