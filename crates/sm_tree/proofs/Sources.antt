@@ -123,11 +123,11 @@ pub fed_on : {R : Type 0} (s : SourceOf R) (S T : StandsFor) (before behind : R)
     (res : Result (Unit {0}) SyntaxRefusal) (Same : Type 0) → (s.refusal before ≡ None → SourceFeeds s S before piece T behind res)
     → IfSome (s.refusal before) (λ given. (res ≡ Err given) × (behind ≡ before) × Same) → HasFed s before S bytes
     → (res ≡ Err NoMemory → ⊥) → HasFed s behind T (bytes ++ piece)
-fed_on s S T before behind bytes piece res Same feeds again fed other = at (s.refusal before) refl
+fed_on s S T before behind bytes piece res Same feeds again fed other = by_refusal (s.refusal before) refl
   where
-    at : (o : Option SyntaxRefusal) → s.refusal before ≡ o → HasFed s behind T (bytes ++ piece)
-    at None is = fed_now s S T before behind bytes piece res is (feeds is) fed other
-    at (Some given) is =
+    by_refusal : (o : Option SyntaxRefusal) → s.refusal before ≡ o → HasFed s behind T (bytes ++ piece)
+    by_refusal None is = fed_now s S T before behind bytes piece res is (feeds is) fed other
+    by_refusal (Some given) is =
         let (told, same, rest) = subst (λ o. IfSome o (λ x. (res ≡ Err x) × (behind ≡ before) × Same)) is again in
         subst (λ q. HasFed s q T (bytes ++ piece)) (sym same)
         (fed_again s S T before bytes piece given is fed (λ e. other (told ∙ ap Err e)))
