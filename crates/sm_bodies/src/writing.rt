@@ -89,7 +89,8 @@ pub fn carried_body<L: Leaves>(
     requires carried { uncarried (table_data table.now) (L.convention leaves.now) (root_place shape) (val_of value.now) ≡ [] }
     requires writes { WritesForm form (L.convention leaves.now) }
     ensures { IfOk result (λ bytes.
-        bytes.items ≡ (side_of form).text (written (table_data table.now) (L.convention leaves.now) (root_place shape) (val_of value.now))) }
+        bytes.items ≡ (side_of form).text
+        (written (table_data table.now) (L.convention leaves.now) (root_place shape) (val_of value.now))) }
 {
     match form {
         BodyForm::Json => made_text(alloc, table, shape, value, leaves),
