@@ -1,8 +1,9 @@
 -- Of a body that was read: what its tree comes to, its bytes come to; and its value fits.
-use Rattle.std.proofs.Common.{◌≡◌, ◌≤◌, ℕ, List, [], ◌∷◌, length, refl, subst, sym, arith}
+use Rattle.std.proofs.Common.{◌≡◌, ℕ, List, [], subst, sym}
 use Rattle.std.specs.Prelude.{Result, Ok, Err, IfOk, OnOk}
 use Rattle.sm_tree.specs.Events.{NodeEvent}
 use Rattle.sm_tree.specs.Node.{Node}
+use Rattle.sm_tree.specs.Sources.{RefusedSo, ReadsInto}
 use Rattle.sm_tree.specs.Syntax.{Syntax, IsRead}
 use Rattle.sm_tree.specs.declared.refusal.SyntaxRefusal.{SyntaxRefusal}
 use Rattle.sm_tree.specs.declared.refusal.SyntaxRefusal.TheVariants.{Bad, Ended, TooDeep, KeyKind, NoMemory}
@@ -20,7 +21,7 @@ use Rattle.sm_codec.specs.DecodingView.{decoding_of, IsWhole, IsFed}
 use Rattle.sm_codec.specs.Spelling.{Spells}
 use Rattle.sm_codec.specs.declared.decoder.Decoder.{Decoder}
 use Rattle.sm_bodies.specs.Bodies.{DecodesAs}
-use Rattle.sm_bodies.specs.steps.Reading.{RefusedSo, ReadsInto, body_refusal, TreeGives, AnswersRead}
+use Rattle.sm_bodies.specs.steps.Reading.{body_refusal, TreeGives, AnswersRead}
 use Rattle.sm_bodies.specs.declared.reading.BodyRefusal.{BodyRefusal}
 use Rattle.sm_bodies.specs.declared.reading.BodyRefusal.TheVariants as body
 use Rattle.sm_bodies.proofs.FitsAny.{fits_any}
@@ -65,7 +66,3 @@ pub body_fits : (S : Syntax) (t : TableData) (l : Convention) (test : Test) (sha
 body_fits S t l test shape bytes (Ok v) (n, is, decodes) =
     fits_any t test (root_place shape) (val_of v) (decoded_fits (codec_of t l test) (root_place shape) (val_of v) n decodes)
 body_fits S t l test shape bytes (Err e) h = tt
-
-pub no_events : (es : List NodeEvent) → length es ≤ 0 → es ≡ []
-no_events [] h = refl
-no_events (e ∷ es) h = absurd (omega (arith, h))

@@ -1,6 +1,6 @@
 pub mod Handed
 pub mod FitsAny
-pub mod BytesRefused
+pub mod BodiesFed
 pub mod BodiesRead
 pub mod BodiesWritten
 pub mod BodiesAnswered

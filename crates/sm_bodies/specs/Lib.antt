@@ -1,5 +1,6 @@
 pub mod Sides
 pub mod Bodies
+pub mod Fed
 pub mod TextAnswers
 pub mod AnswerView
 pub mod TextLaws

@@ -1,18 +1,15 @@
 // The value of a body: its bytes go through a reader of their format into a decoder, and no tree is made.
-ghost use Rattle.std.specs.Prelude.{◌≡◌, ◌<◌, [], OnOk};
-ghost use Rattle.sm_tree.specs.Streams.{TakesEvery};
-ghost use Rattle.sm_json.specs.JsonText.{json_syntax};
-ghost use Rattle.sm_cbor.specs.Refusals.{cbor_syntax};
+ghost use Rattle.std.specs.Prelude.{◌≡◌, ◌<◌, OnOk};
 ghost use Rattle.sm_shapes.specs.InOrder.{Shaped, AreStored, DefaultsPass};
 ghost use Rattle.sm_shapes.specs.TableData.{shape_count};
 ghost use Rattle.sm_shapes.specs.TableView.{table_data};
 ghost use Rattle.sm_codec.specs.Codec.{codec_of};
-ghost use Rattle.sm_codec.specs.DecodingView.{decoding_of, IsFed, IsWhole};
+ghost use Rattle.sm_codec.specs.DecodingView.{decoding_of, IsWhole};
 ghost use Rattle.sm_bodies.specs.Sides.{side_of};
 ghost use Rattle.sm_bodies.specs.Bodies.{DecodesAs};
-ghost use Rattle.sm_bodies.specs.steps.Reading.{ReadsInto, AnswersRead, FinishesAs, body_refusal};
+ghost use Rattle.sm_bodies.specs.steps.Reading.{AnswersRead, FinishesAs, body_refusal};
 
-use crate::course::Course;
+use crate::body::Body;
 use crate::form::BodyForm;
 use sm_cbor::CborReader;
 use sm_codec::{Decoder, Leaves, Refusal};
@@ -20,7 +17,7 @@ use sm_json::JsonReader;
 use sm_shapes::tables::Table;
 use sm_shapes::values::Value;
 use sm_shapes::{Fault, Patterns};
-use sm_tree::{EventSink, SyntaxRefusal};
+use sm_tree::{EventSource, SyntaxRefusal};
 use std::alloc::Global;
 
 /// Why a body has no value.
@@ -32,119 +29,6 @@ pub enum BodyRefusal {
     Fault(Fault),
     /// Out of memory.
     NoMemory,
-}
-
-// Hands the events of a JSON text, which comes in pieces of at most so many bytes, to a sink that has taken none.
-fn read_text<E: EventSink>(
-    alloc: Global,
-    text: &[u8],
-    piece: usize,
-    to: &mut E,
-) -> Result<(), SyntaxRefusal>
-    requires piece { 0 < piece }
-    requires empty { E.stands_for to.old [] }
-    requires takes { TakesEvery (E.takes to.old) }
-    ensures read { ReadsInto json_syntax (E.stands_for to.new) text.now result }
-    ensures alike { E.alike to.old to.new }
-{
-    let mut reader = JsonReader::new(alloc);
-    let mut at = 0;
-    while at < text.len() {
-        let end = at + piece.min(text.len() - at);
-        match reader.feed(&text[at..end], to) {
-            Ok(()) => at = end,
-            Err(refusal) => return Err(refusal),
-        }
-    }
-    match reader.flush(to) {
-        Ok(()) => {}
-        Err(refusal) => return Err(refusal),
-    }
-    match reader.end() {
-        Ok(()) => Ok(()),
-        Err(refusal) => Err(refusal),
-    }
-}
-
-// The same of an item of CBOR.
-fn read_item<E: EventSink>(
-    alloc: Global,
-    item: &[u8],
-    piece: usize,
-    to: &mut E,
-) -> Result<(), SyntaxRefusal>
-    requires piece { 0 < piece }
-    requires empty { E.stands_for to.old [] }
-    requires takes { TakesEvery (E.takes to.old) }
-    ensures read { ReadsInto cbor_syntax (E.stands_for to.new) item.now result }
-    ensures alike { E.alike to.old to.new }
-{
-    sm_cbor::laws::few_events();
-    let mut reader = CborReader::new(alloc);
-    let mut at = 0;
-    while at < item.len() {
-        let end = at + piece.min(item.len() - at);
-        match reader.feed(&item[at..end], to) {
-            Ok(()) => at = end,
-            Err(refusal) => return Err(refusal),
-        }
-    }
-    match reader.end() {
-        Ok(()) => Ok(()),
-        Err(refusal) => Err(refusal),
-    }
-}
-
-// The same of a body of either form.
-fn read_body<E: EventSink>(
-    alloc: Global,
-    form: BodyForm,
-    bytes: &[u8],
-    piece: usize,
-    to: &mut E,
-) -> Result<(), SyntaxRefusal>
-    requires piece { 0 < piece }
-    requires empty { E.stands_for to.old [] }
-    requires takes { TakesEvery (E.takes to.old) }
-    ensures read { ReadsInto (side_of form).syntax (E.stands_for to.new) bytes.now result }
-    ensures alike { E.alike to.old to.new }
-{
-    match form {
-        BodyForm::Json => read_text(alloc, bytes, piece, to),
-        BodyForm::Cbor => read_item(alloc, bytes, piece, to),
-    }
-}
-
-// The same into a decoder that has taken none. The store isn't changed.
-fn read_into<L: Leaves, P: Patterns>(
-    alloc: Global,
-    form: BodyForm,
-    table: &Table,
-    leaves: &L,
-    patterns: &mut P,
-    bytes: &[u8],
-    piece: usize,
-    decoder: &mut Decoder,
-) -> Result<(), SyntaxRefusal>
-    requires piece { 0 < piece }
-    requires empty { IsFed (codec_of (table_data table.now) (L.convention leaves.now) P.test)
-        (P.added patterns.old) decoder.old [] }
-    ensures read { ReadsInto (side_of form).syntax
-        (IsFed (codec_of (table_data table.now) (L.convention leaves.now) P.test) (P.added patterns.old) decoder.new)
-        bytes.now result }
-    ensures shape { (decoding_of decoder.new).shape ≡ (decoding_of decoder.old).shape }
-    ensures added { P.added patterns.new ≡ P.added patterns.old }
-    ensures refused { P.refused patterns.new ≡ P.refused patterns.old }
-    ensures refusals { P.refusals patterns.new ≡ P.refusals patterns.old }
-{
-    let mut to = Course {
-        alloc,
-        table,
-        leaves,
-        patterns,
-        decoder,
-    };
-    read_body(alloc, form, bytes, piece, &mut to)
 }
 
 // Why a body has no value of which a reader says this.
@@ -173,7 +57,10 @@ fn finished(decoder: Decoder) -> Result<Value, BodyRefusal>
 }
 
 // What a decoder answers to which a body's events were handed, or as many as there are.
-fn answered(decoder: Decoder, read: Result<(), SyntaxRefusal>) -> Result<Value, BodyRefusal>
+pub(crate) fn answered(
+    decoder: Decoder,
+    read: Result<(), SyntaxRefusal>,
+) -> Result<Value, BodyRefusal>
     requires whole { OnOk read (IsWhole (decoding_of decoder)) }
     ensures { AnswersRead (decoding_of decoder) read result }
 {
@@ -181,6 +68,42 @@ fn answered(decoder: Decoder, read: Result<(), SyntaxRefusal>) -> Result<Value, 
         Ok(()) => finished(decoder),
         Err(refusal) => Err(refused(refusal)),
     }
+}
+
+// Gives the bytes to a body that was begun, in pieces of at most so many, and then its end.
+fn value_by<S: EventSource + Drop, L: Leaves, P: Patterns>(
+    alloc: Global,
+    table: &Table,
+    shape: u32,
+    leaves: &L,
+    patterns: &mut P,
+    bytes: &[u8],
+    piece: usize,
+) -> Result<Value, BodyRefusal>
+    requires piece { 0 < piece }
+    requires number { shape < shape_count (table_data table.now) }
+    requires shaped { Shaped (table_data table.now) }
+    requires stored { AreStored (table_data table.now).patterns (P.added patterns.old) }
+    requires pass { DefaultsPass (table_data table.now) P.test }
+    ensures value { DecodesAs (S.source).syntax (codec_of (table_data table.now) (L.convention leaves.now) P.test) shape bytes.now
+        result }
+    ensures added { P.added patterns.new ≡ P.added patterns.old }
+    ensures refused { P.refused patterns.new ≡ P.refused patterns.old }
+    ensures refusals { P.refusals patterns.new ≡ P.refusals patterns.old }
+{
+    let mut body: Body<S> = match Body::begin(alloc, table, shape) {
+        Ok(body) => body,
+        Err(_) => return Err(BodyRefusal::NoMemory),
+    };
+    let mut at = 0;
+    while at < bytes.len() {
+        let end = at + piece.min(bytes.len() - at);
+        match body.piece(alloc, table, leaves, patterns, &bytes[at..end]) {
+            Ok(()) => at = end,
+            Err(_) => return Err(BodyRefusal::NoMemory),
+        }
+    }
+    body.finish(alloc, table, leaves, patterns)
 }
 
 /// The value of a body of this form, whose bytes come in pieces of at most so many. The store must have the table's patterns, and
@@ -210,20 +133,12 @@ pub fn body_value<L: Leaves, P: Patterns>(
     ensures refused { P.refused patterns.new ≡ P.refused patterns.old }
     ensures refusals { P.refusals patterns.new ≡ P.refusals patterns.old }
 {
-    leaves.laws();
-    let mut decoder = match Decoder::start(alloc, table, shape) {
-        Ok(decoder) => decoder,
-        Err(_) => return Err(BodyRefusal::NoMemory),
-    };
-    let read = read_into(
-        alloc,
-        form,
-        table,
-        leaves,
-        patterns,
-        bytes,
-        piece,
-        &mut decoder,
-    );
-    answered(decoder, read)
+    match form {
+        BodyForm::Json => {
+            value_by::<JsonReader, L, P>(alloc, table, shape, leaves, patterns, bytes, piece)
+        }
+        BodyForm::Cbor => {
+            value_by::<CborReader, L, P>(alloc, table, shape, leaves, patterns, bytes, piece)
+        }
+    }
 }

@@ -74,8 +74,8 @@ fn made_item<L: Leaves>(
     Ok(writer.into_bytes())
 }
 
-// The text or the item of such a value.
-fn made<L: Leaves>(
+/// The bytes of a value, all of whose leaves are carried: its text or its item. `all_carried` of sm_codec tells whether they are.
+pub fn carried_body<L: Leaves>(
     alloc: Global,
     form: BodyForm,
     table: &Table,
@@ -89,7 +89,8 @@ fn made<L: Leaves>(
     requires carried { uncarried (table_data table.now) (L.convention leaves.now) (root_place shape) (val_of value.now) ≡ [] }
     requires writes { WritesForm form (L.convention leaves.now) }
     ensures { IfOk result (λ bytes.
-        bytes.items ≡ (side_of form).text (written (table_data table.now) (L.convention leaves.now) (root_place shape) (val_of value.now))) }
+        bytes.items ≡ (side_of form).text
+        (written (table_data table.now) (L.convention leaves.now) (root_place shape) (val_of value.now))) }
 {
     match form {
         BodyForm::Json => made_text(alloc, table, shape, value, leaves),
@@ -136,7 +137,7 @@ pub fn write_body<L: Leaves>(
         WritesBody (side_of form).text (table_data table.now) (L.convention leaves.now) (root_place shape) (val_of value.now) made) }
 {
     if all_carried(table, shape, value, leaves) {
-        match made(alloc, form, table, shape, value, leaves) {
+        match carried_body(alloc, form, table, shape, value, leaves) {
             Ok(bytes) => Ok(Written::Bytes(bytes)),
             Err(refusal) => Err(refusal),
         }

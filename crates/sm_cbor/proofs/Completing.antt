@@ -10,6 +10,7 @@ use Rattle.sm_cbor.specs.steps.Rest.{CborState, CborLeads, first_state}
 use Rattle.sm_cbor.specs.steps.Machine.{opens, Lives, Begun}
 use Rattle.sm_cbor.proofs.Endings.{goes_on}
 use Rattle.sm_cbor.proofs.LaterEvents.{rest_later}
+use Rattle.sm_cbor.proofs.Readings.{leads_none}
 use Rattle.sm_cbor.proofs.Starting.{start_item}
 
 -- what is handed on is what the bytes complete
@@ -34,3 +35,7 @@ complete_leads bs out es x leads begun (more, n, ts, timed, deep, is) =
     let (os, us, e, hands, rest) = leads.onward more ts (n, [], [], timed, omega arith, (refl, refl)) in
     is ∙ ap (complete_with (length more)) e
     ∙ handed_complete (length more) os us out hands (rest_later plain most_levels x.place x.held x.levels more us begun rest)
+
+-- before the first byte nothing is
+pub nothing_complete : (es : List NodeEvent) → Completes cbor_timing [] es → es ≡ []
+nothing_complete es h = complete_leads [] [] es first_state (leads_none plain most_levels first_state) tt h

@@ -1,13 +1,13 @@
 -- A reader that takes pieces, beside a sink: what a piece does to it, and what it answers at the end. The answers of `CborReader`
 -- and of `read_by_bytes` cite these.
-use Rattle.std.proofs.Common.{Ok, Err, ◌≡◌, ℕ, ◌+◌, ◌-◌, ◌≤◌, ◌<◌, List, [], ◌++◌, Option, None, Some, refl, sym, ap, subst, ◌∙◌, arith}
+use Rattle.std.proofs.Common.{Ok, Err, ◌≡◌, ℕ, ◌+◌, ◌-◌, ◌≤◌, ◌<◌, List, [], ◌++◌, None, Some, sym, ap, subst, ◌∙◌, arith}
 use Rattle.std.proofs.Common.{length, length-append, take, drop, take-append-drop, get_or, false}
 use Rattle.std.proofs.Math.Seq.{take-append-add}
 use Rattle.std.proofs.lemmas.List.{get_or-append-add, take_all, length-drop}
 use Rattle.sm_tree.specs.Limits.{most_levels}
 use Rattle.sm_tree.specs.Node.{Node}
 use Rattle.sm_tree.specs.Events.{NodeEvent, events}
-use Rattle.sm_tree.specs.Streams.{StandsFor, Takes, unnumbered}
+use Rattle.sm_tree.specs.Streams.{StandsFor, unnumbered}
 use Rattle.sm_tree.specs.Building.{Building, so_far, kinds, awaits_value}
 use Rattle.sm_tree.specs.View.{node_of}
 use Rattle.sm_tree.specs.declared.tree.Tree.{Tree}
@@ -15,16 +15,16 @@ use Rattle.sm_tree.proofs.Streams.{stream_events}
 use Rattle.sm_tree.proofs.Events.{events_injective}
 use Rattle.sm_tree.proofs.Awaited.{whole_closed}
 use Rattle.sm_tree.proofs.LongerBytes.{refused_longer}
+use Rattle.sm_tree.proofs.Sources.{come_read, read_come, refused_come}
 use Rattle.sm_cbor.specs.CborItem.{CborItem}
-use Rattle.sm_tree.specs.Timing.{Completes, Follows}
+use Rattle.sm_tree.specs.Timing.{Follows}
 use Rattle.sm_tree.specs.Syntax.{Reads, IsRead, IsRefused}
 use Rattle.sm_tree.specs.Refusal.{IsWithin, moved_by}
-use Rattle.sm_tree.specs.ReaderClauses.{TakesBeside, StaysRefused}
 use Rattle.sm_tree.specs.declared.refusal.SyntaxRefusal.{SyntaxRefusal}
 use Rattle.sm_tree.specs.declared.refusal.SyntaxRefusal.TheVariants.{Bad, Ended, TooDeep, KeyKind, NoMemory}
 use Rattle.sm_cbor.specs.Timing.{cbor_timing}
 use Rattle.sm_cbor.specs.Refusals.{cbor_syntax}
-use Rattle.sm_cbor.specs.Stands.{CborRuns, HasCome, CborStands, refusal_of, CborFeeds, CborEndsWith}
+use Rattle.sm_cbor.specs.Stands.{CborRuns, cbor_source, CborStands, CborFeeds, CborEndsWith}
 use Rattle.sm_cbor.specs.steps.Marks.{plain}
 use Rattle.sm_cbor.specs.steps.Rest.{CborLeads, first_state}
 use Rattle.sm_cbor.specs.steps.Sinks.{Reached}
@@ -34,17 +34,9 @@ use Rattle.sm_cbor.specs.declared.read.Reader.{Reader}
 use Rattle.sm_cbor.specs.declared.pieces.CborReader.{CborReader}
 use Rattle.sm_cbor.proofs.Readings.{leads_none, leads_joined}
 use Rattle.sm_cbor.proofs.Reaching.{CanGoOn, begun_stream, stands_follow, follow_stands}
-use Rattle.sm_cbor.proofs.Completing.{leads_complete, complete_leads}
+use Rattle.sm_cbor.proofs.Completing.{leads_complete, nothing_complete}
 use Rattle.sm_cbor.proofs.FeedSteps.{cut_short}
 use Rattle.sm_cbor.proofs.Verdicts.{lives, refused_is, whole_read, cut_read}
-
--- what has come, where nothing is refused; and where it has refused
-come : (r : CborReader) (bs : List ℕ) → r.refused ≡ None → CborStands r bs → HasCome None r bs
-come r bs none stands = subst (λ o. HasCome o r bs) none stands
-
-has_refused : (r : CborReader) (bs : List ℕ) (refusal : SyntaxRefusal) → r.refused ≡ Some refusal → CborStands r bs → HasCome
-    (Some refusal) r bs
-has_refused r bs refusal told stands = subst (λ o. HasCome o r bs) told stands
 
 can : (r : Reader) → IsSoundReader r → CanGoOn (cbor_state_of r)
 can r sound = (lives r r.place sound.there, sound.there.room)
@@ -60,21 +52,18 @@ first_come r first sound = record {
   sound = sound;
 }
 
-pub nothing_complete : (es : List NodeEvent) → Completes cbor_timing [] es → es ≡ []
-nothing_complete es h = complete_leads [] [] es first_state (leads_none plain most_levels first_state) tt h
-
 -- what the sink stands for, and has reached
 handed : (S : StandsFor) (bs : List ℕ) (out : List NodeEvent) (r : Reader) → CborRuns bs out r → Follows cbor_timing S bs → S out
 handed S bs out r run follows =
     follow_stands S bs out (cbor_state_of r) (plainly bs out r run) run.sound.begun (can r run.sound) follows
 
 pub fed_sound : (r : CborReader) (bs : List ℕ) → r.refused ≡ None → CborStands r bs → IsSoundReader r.reader
-fed_sound r bs none stands = let (out, run, count) = come r bs none stands in run.sound
+fed_sound r bs none stands = let (out, run, count) = come_read cbor_source r bs none stands.1 in run.sound
 
 pub fed_reached : (r : CborReader) (S : StandsFor) (bs : List ℕ) → r.refused ≡ None → CborStands r bs → Follows cbor_timing S bs
     → Reached S (cbor_state_of r.reader)
 fed_reached r S bs none stands follows =
-    let (out, run, count) = come r bs none stands in
+    let (out, run, count) = come_read cbor_source r bs none stands.1 in
     (bs, out, (plainly bs out r.reader run).back, handed S bs out r.reader run follows)
 
 -- behind more bytes
@@ -102,11 +91,14 @@ pub fed : (S T : StandsFor) (before behind : CborReader) (piece : List ℕ) → 
 fed S T before behind piece none still count goes = (
   still,
   λ bs stands.
-      let (out, run, taken) = come before bs none stands in (
-        subst (λ o. HasCome o behind (bs ++ piece)) (sym still) (
-          out ++ goes.out,
-          ran S T bs piece out before.reader behind.reader run goes,
-          count ∙ ap (λ n. n + length piece) taken ∙ sym (length-append bs piece),
+      let (out, run, taken) = come_read cbor_source before bs none stands.1 in (
+        (
+          tt,
+          read_come cbor_source behind (bs ++ piece) still (
+            out ++ goes.out,
+            ran S T bs piece out before.reader behind.reader run goes,
+            count ∙ ap (λ n. n + length piece) taken ∙ sym (length-append bs piece),
+          ),
         ),
         λ follows. follows_on S T bs piece out before.reader behind.reader run goes (handed S bs out before.reader run follows),
       ),
@@ -140,10 +132,10 @@ fed_refused S T before behind x piece Ended none told h = h
 fed_refused S T before behind x piece (Bad n) none told (i, q, inside, goes, refuses, is) = (
   told,
   λ bs stands.
-      let (out, run, taken) = come before bs none stands in
+      let (out, run, taken) = come_read cbor_source before bs none stands.1 in
       let same = count_on before.taken n i bs taken is in
       let (refused, on) = refused_so S T before.reader q bs piece out i (Bad (before.taken + n)) inside run goes refuses same in (
-        subst (λ o. HasCome o behind (bs ++ piece)) (sym told) refused,
+        (tt, refused_come cbor_source behind (bs ++ piece) (Bad (before.taken + n)) told refused),
         refused,
         λ follows. subst (λ m. Follows cbor_timing T (take m (bs ++ piece))) (sym same) (on follows),
       ),
@@ -151,10 +143,10 @@ fed_refused S T before behind x piece (Bad n) none told (i, q, inside, goes, ref
 fed_refused S T before behind x piece (TooDeep n) none told (i, q, inside, goes, refuses, is) = (
   told,
   λ bs stands.
-      let (out, run, taken) = come before bs none stands in
+      let (out, run, taken) = come_read cbor_source before bs none stands.1 in
       let same = count_on before.taken n i bs taken is in
       let (refused, on) = refused_so S T before.reader q bs piece out i (TooDeep (before.taken + n)) inside run goes refuses same in (
-        subst (λ o. HasCome o behind (bs ++ piece)) (sym told) refused,
+        (tt, refused_come cbor_source behind (bs ++ piece) (TooDeep (before.taken + n)) told refused),
         refused,
         λ follows. subst (λ m. Follows cbor_timing T (take m (bs ++ piece))) (sym same) (on follows),
       ),
@@ -162,10 +154,10 @@ fed_refused S T before behind x piece (TooDeep n) none told (i, q, inside, goes,
 fed_refused S T before behind x piece (KeyKind n) none told (i, q, inside, goes, refuses, is) = (
   told,
   λ bs stands.
-      let (out, run, taken) = come before bs none stands in
+      let (out, run, taken) = come_read cbor_source before bs none stands.1 in
       let same = count_on before.taken n i bs taken is in
       let (refused, on) = refused_so S T before.reader q bs piece out i (KeyKind (before.taken + n)) inside run goes refuses same in (
-        subst (λ o. HasCome o behind (bs ++ piece)) (sym told) refused,
+        (tt, refused_come cbor_source behind (bs ++ piece) (KeyKind (before.taken + n)) told refused),
         refused,
         λ follows. subst (λ m. Follows cbor_timing T (take m (bs ++ piece))) (sym same) (on follows),
       ),
@@ -180,54 +172,11 @@ refusal_fits S T r x piece (TooDeep p) n room (i, q, inside, goes, refuses, is) 
 refusal_fits S T r x piece (KeyKind p) n room (i, q, inside, goes, refuses, is) = omega (arith, inside, is, room)
 refusal_fits S T r x piece NoMemory n room h = tt
 
--- a refusal that was given before
-stays_at : (refusal : SyntaxRefusal) (r : CborReader) (piece : List ℕ) → r.refused ≡ Some refusal → StaysRefused CborStands
-    (Some refusal) r piece
-stays_at (Bad n) r piece told = λ bs stands.
-    subst (λ o. HasCome o r (bs ++ piece)) (sym told)
-    (refused_longer cbor_syntax bs piece (Bad n) (λ e. cc) (has_refused r bs (Bad n) told stands))
-stays_at Ended r piece told = tt
-stays_at (TooDeep n) r piece told = λ bs stands.
-    subst (λ o. HasCome o r (bs ++ piece)) (sym told)
-    (refused_longer cbor_syntax bs piece (TooDeep n) (λ e. cc) (has_refused r bs (TooDeep n) told stands))
-stays_at (KeyKind n) r piece told = λ bs stands.
-    subst (λ o. HasCome o r (bs ++ piece)) (sym told)
-    (refused_longer cbor_syntax bs piece (KeyKind n) (λ e. cc) (has_refused r bs (KeyKind n) told stands))
-stays_at NoMemory r piece told = tt
-
-pub stays_refused : (r : CborReader) (piece : List ℕ) → StaysRefused CborStands (refusal_of r) r piece
-stays_refused r piece = stays r.refused refl
-  where
-    stays : (o : Option SyntaxRefusal) → r.refused ≡ o → StaysRefused CborStands o r piece
-    stays None told = tt
-    stays (Some refusal) told = stays_at refusal r piece told
-
--- what a refusal leaves of what the sink takes
-pub takes_again : (T : Takes) (refusal : SyntaxRefusal) → TakesBeside T T refusal
-takes_again T (Bad n) = λ e h. h
-takes_again T Ended = λ e h. h
-takes_again T (TooDeep n) = λ e h. h
-takes_again T (KeyKind n) = λ e h. h
-takes_again T NoMemory = tt
-
--- it has refused nothing, or something
-pub no_refusal : (refused : Option SyntaxRefusal) (refusal : SyntaxRefusal) → refused ≡ None → refused ≡ Some refusal → ⊥
-no_refusal None refusal fresh is = cc
-no_refusal (Some r) refusal fresh is = cc
-
--- the end, where it has refused; where an item is whole; and where one is cut short
-pub ended_again : (r : CborReader) (bs : List ℕ) (refusal : SyntaxRefusal) → r.refused ≡ Some refusal → CborStands r bs
-    → CborEndsWith r bs (Err refusal)
-ended_again r bs NoMemory e stands = e
-ended_again r bs Ended e stands = has_refused r bs Ended e stands
-ended_again r bs (Bad n) e stands = has_refused r bs (Bad n) e stands
-ended_again r bs (TooDeep n) e stands = has_refused r bs (TooDeep n) e stands
-ended_again r bs (KeyKind n) e stands = has_refused r bs (KeyKind n) e stands
-
+-- the end, where an item is whole; and where one is cut short
 pub ended_whole : (r : CborReader) (bs : List ℕ) → r.refused ≡ None → (r.reader.place ≡ After) × (levels_of r.reader ≡ [])
     → CborStands r bs → CborEndsWith r bs (Ok tt)
 ended_whole r bs none (place, open_to) stands =
-    let (out, run, taken) = come r bs none stands in
+    let (out, run, taken) = come_read cbor_source r bs none stands.1 in
     let (n, item, room, streams) = whole_read r.reader bs out run place open_to in
     let there = can r.reader run.sound in (
       n,
@@ -241,7 +190,7 @@ ended_whole r bs none (place, open_to) stands =
 pub ended_cut : (r : CborReader) (bs : List ℕ) → r.refused ≡ None → (r.reader.place ≡ After → levels_of r.reader ≡ [] → ⊥)
     → CborStands r bs → IsRefused cbor_syntax bs Ended
 ended_cut r bs none cut stands =
-    let (out, run, taken) = come r bs none stands in
+    let (out, run, taken) = come_read cbor_source r bs none stands.1 in
     cut_read r.reader bs out run (cut_short r.reader run.sound cut)
 
 -- a builder beside the reader

@@ -25,6 +25,7 @@ mod RunSteps
 mod PrefixSteps
 mod FeedSteps
 mod Feeding
+mod Finished
 mod WrittenItems
 pub mod EventItems
 pub mod TakenEvents

@@ -14,6 +14,7 @@ mod put;
 mod read;
 pub mod readers;
 mod seen;
+mod source;
 mod writable;
 mod write;
 mod writer;

@@ -5,9 +5,10 @@ ghost use Rattle.sm_tree.specs.Streams.{TakesEvery};
 ghost use Rattle.sm_tree.specs.Timing.{Follows};
 ghost use Rattle.sm_tree.specs.Syntax.{Reads};
 ghost use Rattle.sm_tree.specs.ReaderClauses.{TakesStill, StaysRefused};
+ghost use Rattle.sm_tree.specs.Sources.{MayFeed};
 ghost use Rattle.sm_cbor.specs.Timing.{cbor_timing};
 ghost use Rattle.sm_cbor.specs.Refusals.{cbor_syntax};
-ghost use Rattle.sm_cbor.specs.Stands.{refusal_of, CborStands, MayFeed, CborFeeds, CborEndsWith};
+ghost use Rattle.sm_cbor.specs.Stands.{cbor_source, refusal_of, CborStands, CborFeeds, CborEndsWith};
 
 use crate::read::Reader;
 use sm_tree::{EventSink, SyntaxRefusal, Tree, TreeBuilder};
@@ -71,7 +72,7 @@ impl CborReader {
     /// `NoMemory`: the allocator refused the memory that a string or a number needs, or the sink that of an event, or the bytes are
     /// more than can be counted.
     pub fn feed<E: EventSink>(&mut self, piece: &[u8], to: &mut E) -> Result<(), SyntaxRefusal>
-        requires stands { MayFeed self.old (E.stands_for to.old) }
+        requires stands { MayFeed cbor_source self.old (E.stands_for to.old) }
         requires takes { TakesEvery (E.takes to.old) }
         ensures feeds { refusal_of self.old ≡ None → CborFeeds (E.stands_for to.old) self.old piece.now
             (E.stands_for to.new) self.new result }

@@ -45,3 +45,4 @@ pub mod Completed
 pub mod Feeding
 pub mod NullTexts
 pub mod ReadPieces
+pub mod Finished

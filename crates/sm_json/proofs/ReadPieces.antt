@@ -1,7 +1,7 @@
 -- A reader that takes a text in pieces: what it stands for, what its sink stands for, and what it has refused, one piece behind
 -- another. The answers of `JsonReader` cite these.
 use Rattle.std.specs.Prelude.{Bool, IsTrue, ◌↔◌}
-use Rattle.std.proofs.Common.{true, false, Option, Ok, Err, ◌≡◌, ℕ, ◌+◌, ◌≤◌, List, [], ◌∷◌, ◌++◌, Some, None, refl, sym, ap, subst, ◌∙◌}
+use Rattle.std.proofs.Common.{true, false, Ok, Err, ◌≡◌, ℕ, ◌+◌, ◌≤◌, List, [], ◌∷◌, ◌++◌, Some, None, refl, sym, ap, subst, ◌∙◌}
 use Rattle.std.proofs.Common.{arith, length, take, append-nil, length-append}
 use Rattle.std.proofs.Math.Seq.{take-append_seam, take-append-add, drop-append_seam}
 use Rattle.sm_tree.specs.Node.{Node, null}
@@ -10,19 +10,19 @@ use Rattle.sm_tree.specs.Events.{NodeEvent, null_event, events}
 use Rattle.sm_tree.specs.Streams.{Streams, StandsFor, Takes, TakesEvery, BeginsStream}
 use Rattle.sm_tree.specs.Timing.{TimedEvent, by_byte, by_end, untimed, HandsOn, Follows, Completes, CompletesAll}
 use Rattle.sm_tree.specs.Syntax.{most_levels, IsRefused}
-use Rattle.sm_tree.specs.ReaderClauses.{TakesBeside, StaysRefused}
+use Rattle.sm_tree.specs.ReaderClauses.{TakesBeside}
 use Rattle.sm_tree.specs.Refusal.{moved_by, IsWithin}
 use Rattle.sm_tree.specs.declared.refusal.SyntaxRefusal.{SyntaxRefusal}
 use Rattle.sm_tree.specs.declared.refusal.SyntaxRefusal.TheVariants.{Bad, Ended, TooDeep, KeyKind, NoMemory}
 use Rattle.sm_tree.proofs.Handing.{begins_before}
-use Rattle.sm_tree.proofs.LongerBytes.{refused_longer}
+use Rattle.sm_tree.proofs.Sources.{come_read, read_come, refused_come}
 use Rattle.sm_tree.proofs.Streams.{events_stream}
 use Rattle.sm_json.specs.JsonText.{JsonText, json_syntax}
 use Rattle.sm_json.specs.Timing.{json_timing}
 use Rattle.sm_json.specs.steps.Rest.{JsonState, json_start, JsonLeads, JsonGoesOn}
 use Rattle.sm_json.specs.steps.Machine.{json_state, JsonIsSound, JsonIsPlaced, JsonGoes, JsonBrings, JsonBringsTo, HaltsAt, DeepensAt}
 use Rattle.sm_json.specs.steps.Machine.{JsonTakesAll, JsonEndsText, JsonMayEnd}
-use Rattle.sm_json.specs.Stands.{first_of, JsonHasRead, HasCome, JsonHasCome, JsonStands, refusal_of, JsonFeeds, FollowsAll, JsonFlushes}
+use Rattle.sm_json.specs.Stands.{first_of, JsonHasRead, json_source, JsonHasCome, JsonStands, JsonFeeds, FollowsAll, JsonFlushes}
 use Rattle.sm_json.specs.Stands.{JsonEndsWith, StandingCompletes}
 use Rattle.sm_json.specs.declared.read.Reader.{Reader}
 use Rattle.sm_json.specs.declared.pieces.JsonReader.{JsonReader}
@@ -42,17 +42,6 @@ pub reads_nothing : (j : JsonReader) → json_state j.reader ≡ json_start → 
     → JsonHasRead j []
 reads_nothing j begins sound none blank =
     record { first = j.reader; begins = begins; out = []; goes = goes_nowhere j.reader sound; taken = none; black = blank }
-
--- one that hasn't refused has read what has come
-pub has_read : (j : JsonReader) (bytes : List ℕ) → j.refused ≡ None → JsonHasCome j bytes → JsonHasRead j bytes
-has_read j bytes fresh come = subst (λ refused. HasCome refused j bytes) fresh come
-
-pub read_come : (j : JsonReader) (bytes : List ℕ) → j.refused ≡ None → JsonHasRead j bytes → JsonHasCome j bytes
-read_come j bytes fresh read = subst (λ refused. HasCome refused j bytes) (sym fresh) read
-
-refused_come : (j : JsonReader) (bytes : List ℕ) (refusal : SyntaxRefusal) → j.refused ≡ Some refusal → HasCome (Some refusal) j bytes
-    → JsonHasCome j bytes
-refused_come j bytes refusal refused is = subst (λ r. HasCome r j bytes) (sym refused) is
 
 -- the events that bytes complete begin a stream
 run_begins : (bs : List ℕ) (out : List NodeEvent) (x : JsonState) → JsonLeads most_levels json_start bs out x
@@ -149,8 +138,8 @@ piece_fed j k piece S T takes fresh still same taken black brings = (still, fed)
     fed : (bytes : List ℕ) → JsonStands j bytes
         → JsonStands k (bytes ++ piece) × (Follows json_timing S bytes → Follows json_timing T (bytes ++ piece))
     fed bytes (open_still, come) =
-        let read : JsonHasRead j bytes = has_read j bytes fresh come in (
-          (same ∙ open_still, read_come k (bytes ++ piece) still (read_on j k bytes piece S T takes read brings taken black)),
+        let read : JsonHasRead j bytes = come_read json_source j bytes fresh come in (
+          (same ∙ open_still, read_come json_source k (bytes ++ piece) still (read_on j k bytes piece S T takes read brings taken black)),
           follows_on j k.reader bytes piece S T takes read brings,
         )
 
@@ -164,9 +153,9 @@ piece_refused j k q piece S T takes (Bad p) fresh refused same (halts, brings) =
         → JsonStands k (bytes ++ piece) × IsRefused json_syntax (bytes ++ piece) (Bad (j.taken + p))
         × (Follows json_timing S bytes → Follows json_timing T (take (j.taken + p) (bytes ++ piece)))
     told bytes (open_still, come) =
-        let read : JsonHasRead j bytes = has_read j bytes fresh come in
+        let read : JsonHasRead j bytes = come_read json_source j bytes fresh come in
         let is : IsRefused json_syntax (bytes ++ piece) (Bad (j.taken + p)) = piece_bad j bytes piece p read halts in (
-          (same ∙ open_still, refused_come k (bytes ++ piece) (Bad (j.taken + p)) refused is),
+          (same ∙ open_still, refused_come json_source k (bytes ++ piece) (Bad (j.taken + p)) refused is),
           is,
           follows_to j bytes piece p S T takes read brings,
         )
@@ -177,9 +166,9 @@ piece_refused j k q piece S T takes (TooDeep p) fresh refused same (deepens, bri
         → JsonStands k (bytes ++ piece) × IsRefused json_syntax (bytes ++ piece) (TooDeep (j.taken + p))
         × (Follows json_timing S bytes → Follows json_timing T (take (j.taken + p) (bytes ++ piece)))
     told bytes (open_still, come) =
-        let read : JsonHasRead j bytes = has_read j bytes fresh come in
+        let read : JsonHasRead j bytes = come_read json_source j bytes fresh come in
         let is : IsRefused json_syntax (bytes ++ piece) (TooDeep (j.taken + p)) = piece_deep j bytes piece p read deepens in (
-          (same ∙ open_still, refused_come k (bytes ++ piece) (TooDeep (j.taken + p)) refused is),
+          (same ∙ open_still, refused_come json_source k (bytes ++ piece) (TooDeep (j.taken + p)) refused is),
           is,
           follows_to j bytes piece p S T takes read brings,
         )
@@ -193,27 +182,6 @@ takes_refused r q piece S T before takes by Ended h = absurd h
 takes_refused r q piece S T before takes by (TooDeep p) h = λ e g. h.1.fed.takes_all e
 takes_refused r q piece S T before takes by (KeyKind p) h = absurd h
 takes_refused r q piece S T before takes by NoMemory h = tt
-
--- what was refused at a place is refused so in longer bytes
-stays_at : (o : Option SyntaxRefusal) (j : JsonReader) (piece : List ℕ) → j.refused ≡ o → StaysRefused JsonStands o j piece
-stays_at None j piece is = tt
-stays_at (Some NoMemory) j piece is = tt
-stays_at (Some Ended) j piece is = tt
-stays_at (Some (Bad p)) j piece is = λ bytes (open_still, come). (
-  open_still,
-  refused_come j (bytes ++ piece) (Bad p) is (refused_longer json_syntax bytes piece (Bad p) (λ e. cc)
-      (subst (λ r. HasCome r j bytes) is come)),
-)
-stays_at (Some (TooDeep p)) j piece is = λ bytes (open_still, come). (
-  open_still,
-  refused_come j (bytes ++ piece) (TooDeep p) is
-      (refused_longer json_syntax bytes piece (TooDeep p) (λ e. cc) (subst (λ r. HasCome r j bytes) is come)),
-)
-stays_at (Some (KeyKind p)) j piece is = λ bytes (open_still, come).
-    let refused : IsRefused json_syntax bytes (KeyKind p) = subst (λ r. HasCome r j bytes) is come in absurd refused.key
-
-pub stays_refused : (j : JsonReader) (piece : List ℕ) → StaysRefused JsonStands (refusal_of j) j piece
-stays_refused j piece = stays_at j.refused j piece refl
 
 -- the end of the bytes
 leads_of : (j : JsonReader) (bytes : List ℕ) (read : JsonHasRead j bytes)
@@ -237,26 +205,6 @@ cut_here j bytes read none = record {
   begun = begun_whole read.first j.reader bytes read.out read.begins read.goes;
   no_text = λ n (text, room). run_is_cut most_levels bytes read.out (json_state j.reader) (leads_of j bytes read) none n text room;
 }
-
--- where the end, or a piece, was refused before
-pub ends_again : (j : JsonReader) (bytes : List ℕ) (refusal : SyntaxRefusal) → j.refused ≡ Some refusal → JsonHasCome j bytes
-    → JsonEndsWith j bytes (Err refusal)
-ends_again j bytes (Bad p) is come = subst (λ r. HasCome r j bytes) is come
-ends_again j bytes Ended is come = subst (λ r. HasCome r j bytes) is come
-ends_again j bytes (TooDeep p) is come = subst (λ r. HasCome r j bytes) is come
-ends_again j bytes (KeyKind p) is come = subst (λ r. HasCome r j bytes) is come
-ends_again j bytes NoMemory is come = is
-
-pub takes_again : (takes : Takes) (refusal : SyntaxRefusal) → TakesBeside takes takes refusal
-takes_again takes (Bad p) = λ e g. g
-takes_again takes Ended = λ e g. g
-takes_again takes (TooDeep p) = λ e g. g
-takes_again takes (KeyKind p) = λ e g. g
-takes_again takes NoMemory = tt
-
-pub no_refusal : (refused : Option SyntaxRefusal) (refusal : SyntaxRefusal) → refused ≡ None → refused ≡ Some refusal → ⊥
-no_refusal None refusal fresh is = cc
-no_refusal (Some r) refusal fresh is = cc
 
 -- the sink stands for all the events of a text that ends
 follows_last : (j : JsonReader) (bytes : List ℕ) (S T : StandsFor) (takes : Takes) → JsonHasRead j bytes
@@ -305,8 +253,9 @@ pub flush_last : (j : JsonReader) (S T : StandsFor) (takes : Takes) → j.refuse
 flush_last j S T takes fresh ends = (
   fresh,
   λ bytes (open_still, come).
-      let read : JsonHasRead j bytes = has_read j bytes fresh come in (
-        (refl, read_come (record j { flushed = true }) bytes fresh (flushed_read j (record j { flushed = true }) bytes refl read)),
+      let read : JsonHasRead j bytes = come_read json_source j bytes fresh come in
+      let still = flushed_read j (record j { flushed = true }) bytes refl read in (
+        (refl, read_come json_source (record j { flushed = true }) bytes fresh still),
         follows_last j bytes S T takes read ends,
       ),
 )
@@ -316,8 +265,9 @@ pub flush_none : (j : JsonReader) (S : StandsFor) → j.refused ≡ None → (Js
 flush_none j S fresh none = (
   fresh,
   λ bytes (open_still, come).
-      let read : JsonHasRead j bytes = has_read j bytes fresh come in (
-        (refl, read_come (record j { flushed = true }) bytes fresh (flushed_read j (record j { flushed = true }) bytes refl read)),
+      let read : JsonHasRead j bytes = come_read json_source j bytes fresh come in
+      let still = flushed_read j (record j { flushed = true }) bytes refl read in (
+        (refl, read_come json_source (record j { flushed = true }) bytes fresh still),
         follows_none j bytes S read (none read.goes.sound),
       ),
 )
@@ -356,9 +306,10 @@ pub null_by_end : (j : JsonReader) (bytes : List ℕ) (over : Bool) → j.refuse
     → (JsonIsSound j.reader → JsonMayEnd j.reader over)
     → JsonHasCome j bytes → IsTrue over ↔ Completes json_timing bytes (null_event ∷ [])
 null_by_end j bytes true fresh first ends come =
-    let read : JsonHasRead j bytes = has_read j bytes fresh come in (λ t. null_told j bytes read first (ends read.goes.sound), λ h. refl)
+    let read : JsonHasRead j bytes = come_read json_source j bytes fresh come in
+    (λ t. null_told j bytes read first (ends read.goes.sound), λ h. refl)
 null_by_end j bytes false fresh first ends come =
-    let read : JsonHasRead j bytes = has_read j bytes fresh come in (
+    let read : JsonHasRead j bytes = come_read json_source j bytes fresh come in (
       λ e. cc,
       λ h. absurd (run_is_cut most_levels bytes read.out (json_state j.reader) (leads_of j bytes read) (ends read.goes.sound) null
           (null_text j bytes read h) (omega arith)),
@@ -367,7 +318,7 @@ null_by_end j bytes false fresh first ends come =
 pub no_null : (j : JsonReader) (bytes : List ℕ) → j.refused ≡ None → (j.first ≡ Some 110 → ⊥) → JsonHasCome j bytes
     → IsTrue false ↔ Completes json_timing bytes (null_event ∷ [])
 no_null j bytes fresh other come =
-    let read : JsonHasRead j bytes = has_read j bytes fresh come in (
+    let read : JsonHasRead j bytes = come_read json_source j bytes fresh come in (
       λ e. cc,
       λ h.
           let (c, black, is) = text_first null bytes (null_text j bytes read h) in
@@ -376,5 +327,5 @@ no_null j bytes fresh other come =
 
 pub standing_completes : StandingCompletes
 standing_completes j bytes come fresh =
-    let read : JsonHasRead j bytes = has_read j bytes fresh come in
+    let read : JsonHasRead j bytes = come_read json_source j bytes fresh come in
     (read.out, bytes_complete read.first j.reader bytes read.out read.goes read.begins)

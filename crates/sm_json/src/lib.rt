@@ -12,6 +12,7 @@ mod place;
 mod plain;
 mod put;
 mod read;
+mod source;
 mod spot;
 mod text;
 mod utf8;

@@ -6,7 +6,8 @@ ghost use Rattle.sm_tree.specs.Events.{null_event};
 ghost use Rattle.sm_tree.specs.Timing.{Follows, Completes};
 ghost use Rattle.sm_tree.specs.ReaderClauses.{TakesStill, StaysRefused};
 ghost use Rattle.sm_json.specs.Timing.{json_timing};
-ghost use Rattle.sm_json.specs.Stands.{first_black, first_of, refusal_of, JsonHasCome, JsonStands, MayFeed, JsonFeeds, JsonFlushes};
+ghost use Rattle.sm_tree.specs.Sources.{MayFeed};
+ghost use Rattle.sm_json.specs.Stands.{first_black, first_of, json_source, refusal_of, JsonHasCome, JsonStands, JsonFeeds, JsonFlushes};
 ghost use Rattle.sm_json.specs.Stands.{JsonEndsWith};
 
 use crate::read::Reader;
@@ -103,7 +104,7 @@ impl JsonReader {
     /// the allocator refused the memory that a text or a number needs, or the sink that of an event, or the bytes are more
     /// than can be counted.
     pub fn feed<E: EventSink>(&mut self, piece: &[u8], to: &mut E) -> Result<(), SyntaxRefusal>
-        requires stands { MayFeed self.old (E.stands_for to.old) }
+        requires stands { MayFeed json_source self.old (E.stands_for to.old) }
         requires takes { TakesEvery (E.takes to.old) }
         ensures feeds { refusal_of self.old ≡ None → JsonFeeds (E.stands_for to.old) self.old piece.now
             (E.stands_for to.new) self.new result }
@@ -147,7 +148,7 @@ impl JsonReader {
     ///
     /// The refusal that was given before, and `NoMemory`.
     pub fn flush<E: EventSink>(&mut self, to: &mut E) -> Result<(), SyntaxRefusal>
-        requires stands { MayFeed self.old (E.stands_for to.old) }
+        requires stands { MayFeed json_source self.old (E.stands_for to.old) }
         requires takes { TakesEvery (E.takes to.old) }
         ensures flushes { refusal_of self.old ≡ None → JsonFlushes (E.stands_for to.old) self.old (E.stands_for to.new) self.new result }
         ensures again { IfSome (refusal_of self.old) (λ refusal. (result ≡ Err refusal) × (self.new ≡ self.old) × (to.new ≡ to.old)) }

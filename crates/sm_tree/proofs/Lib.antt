@@ -22,4 +22,5 @@ pub mod SameSizes
 pub mod OneAnswer
 pub mod SomeAnswer
 pub mod LongerBytes
+pub mod Sources
 mod ShortTexts

@@ -19,6 +19,7 @@ pub mod EventView
 pub mod Timing
 pub mod TimingLaws
 pub mod ReaderClauses
+pub mod Sources
 pub mod EventLaws
 pub mod Building
 pub mod BuilderView

@@ -11,6 +11,7 @@ mod path;
 mod refusal;
 mod same;
 mod size;
+mod source;
 mod text;
 mod tree;
 
@@ -21,6 +22,7 @@ pub use path::{Path, Step};
 pub use refusal::{MOST_LEVELS, SyntaxRefusal};
 pub use same::is_same;
 pub use size::tree_size;
+pub use source::EventSource;
 use std::alloc::{AllocError, AllocFailed};
 pub use text::{Bytes, SHORT_LEN, Text};
 pub use tree::{Items, Pairs, Tree};

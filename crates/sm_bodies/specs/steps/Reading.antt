@@ -1,9 +1,9 @@
 -- What the parts of reading a body say: of a reader's answer, of a decoder to which its events were handed, and of both.
-use Rattle.std.specs.Prelude.{◌≡◌, ℕ, List, [], Result, Ok, Err}
+use Rattle.std.specs.Prelude.{◌≡◌, ℕ, List, [], ◌++◌, Result, Ok, Err}
 use Rattle.sm_tree.specs.Events.{NodeEvent}
 use Rattle.sm_tree.specs.Node.{Node}
-use Rattle.sm_tree.specs.Streams.{StandsFor, Streams}
-use Rattle.sm_tree.specs.Syntax.{Syntax, IsRead, IsRefused}
+use Rattle.sm_tree.specs.Streams.{Streams}
+use Rattle.sm_tree.specs.Sources.{SourceOf, ReadsInto}
 use Rattle.sm_tree.specs.declared.refusal.SyntaxRefusal.{SyntaxRefusal}
 use Rattle.sm_tree.specs.declared.refusal.SyntaxRefusal.TheVariants.{Bad, Ended, TooDeep, KeyKind, NoMemory}
 use Rattle.sm_shapes.specs.Places.{root_place}
@@ -13,26 +13,25 @@ use Rattle.sm_codec.specs.Answers.{Decodes}
 use Rattle.sm_codec.specs.Codec.{Codec}
 use Rattle.sm_codec.specs.CodecLaws.{IsCodec}
 use Rattle.sm_codec.specs.Decoding.{Decoding}
+use Rattle.sm_codec.specs.DecodingView.{decoding_of, IsFed}
 use Rattle.sm_codec.specs.FrameView.{fault_at}
 use Rattle.sm_codec.specs.Kept.{Kept}
+use Rattle.sm_codec.specs.declared.decoder.Decoder.{Decoder}
+use Rattle.sm_bodies.specs.Fed.{BodyFed}
 use Rattle.sm_bodies.specs.declared.reading.BodyRefusal.{BodyRefusal}
 use Rattle.sm_bodies.specs.declared.reading.BodyRefusal.TheVariants as body
 
--- what stands for streams by this relation stands for one of a tree whose text the bytes are
-abbrev pub HasRead : Syntax → StandsFor → List ℕ → Type 0
-HasRead S T bytes = (n : Node) × (es : List NodeEvent) × IsRead S.text n bytes × Streams n es [] × T es
+-- what a piece does to a reader and the decoder beside it, unless memory ran out: what was fed is longer by it
+abbrev pub FeedsDecoder : {R : Type 0} → SourceOf R → Codec → R → Decoder → List ℕ → R → Decoder → Result (Unit {0}) SyntaxRefusal → Type 0
+FeedsDecoder s c r d piece q e fed =
+    (shape : ℕ) (bytes : List ℕ) → BodyFed s c shape r d bytes → (fed ≡ Err NoMemory → ⊥) → BodyFed s c shape q e (bytes ++ piece)
 
--- the bytes are refused so, or memory ran out
-abbrev pub RefusedSo : Syntax → List ℕ → SyntaxRefusal → Type 0
-RefusedSo S bytes (Bad at) = IsRefused S bytes (Bad at)
-RefusedSo S bytes Ended = IsRefused S bytes Ended
-RefusedSo S bytes (TooDeep at) = IsRefused S bytes (TooDeep at)
-RefusedSo S bytes (KeyKind at) = IsRefused S bytes (KeyKind at)
-RefusedSo S bytes NoMemory = Unit {0}
-
-abbrev pub ReadsInto : Syntax → StandsFor → List ℕ → Result (Unit {0}) SyntaxRefusal → Type 0
-ReadsInto S T bytes (Ok x) = HasRead S T bytes
-ReadsInto S T bytes (Err refusal) = RefusedSo S bytes refusal
+-- what the end of the bytes does to them: the decoder has a whole stream of their tree; or they are refused
+abbrev pub EndsDecoder : {R : Type 0} → SourceOf R → Codec → List (List ℕ) → R → Decoder → Decoder → Result (Unit {0}) SyntaxRefusal
+    → Type 0
+EndsDecoder s c added r d e end =
+    ((decoding_of e).shape ≡ (decoding_of d).shape)
+    × ((shape : ℕ) (bytes : List ℕ) → BodyFed s c shape r d bytes → ReadsInto s.syntax (IsFed c added e) bytes end)
 
 abbrev pub body_refusal : SyntaxRefusal → BodyRefusal
 body_refusal (Bad at) = body.Syntax (Bad at)

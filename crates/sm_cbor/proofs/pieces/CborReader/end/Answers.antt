@@ -1,9 +1,14 @@
 use Rattle.std.proofs.Common.{◌≡◌, true, false, refl}
-use Rattle.sm_cbor.proofs.Feeding.{ended_again, ended_whole, ended_cut}
+use Rattle.sm_tree.specs.Timing.{Completes}
+use Rattle.sm_tree.proofs.Sources.{ended_again}
+use Rattle.sm_cbor.specs.Timing.{cbor_timing}
+use Rattle.sm_cbor.specs.Stands.{cbor_source}
+use Rattle.sm_cbor.proofs.Feeding.{ended_whole, ended_cut}
 use Rattle.sm_cbor.proofs.pieces.CborReader.end.Goals as goal
 
 pub returns-in-Some-clause-ends : goal.returns-in-Some-clause-ends
-returns-in-Some-clause-ends c bs stands = ended_again c.args.self.now bs c.in-Some.refusal c.in-Some.is stands
+returns-in-Some-clause-ends c bs stands =
+    ended_again cbor_source (Completes cbor_timing) c.args.self.now bs c.in-Some.refusal c.in-Some.is stands.1
 
 pub returns-in-Some-clause-again : goal.returns-in-Some-clause-again
 returns-in-Some-clause-again c = rw c.in-Some.is refl
@@ -22,8 +27,10 @@ returns-else-is_whole-clause-ends c bs stands =
     ended_cut c.args.self.now bs c.in-None.is (λ e f. let told : false ≡ true = c.if-is_whole.ensures.1 (e, f) in absurd cc) stands
 
 pub returns-else-is_whole-clause-stands : goal.returns-else-is_whole-clause-stands
-returns-else-is_whole-clause-stands c bs stands =
-    ended_cut c.args.self.now bs c.in-None.is (λ e f. let told : false ≡ true = c.if-is_whole.ensures.1 (e, f) in absurd cc) stands
+returns-else-is_whole-clause-stands c bs stands = (
+  tt,
+  ended_cut c.args.self.now bs c.in-None.is (λ e f. let told : false ≡ true = c.if-is_whole.ensures.1 (e, f) in absurd cc) stands,
+)
 
 pub returns-else-is_whole-clause-again : goal.returns-else-is_whole-clause-again
 returns-else-is_whole-clause-again c = rw c.in-None.is tt

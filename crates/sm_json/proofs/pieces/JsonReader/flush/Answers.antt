@@ -1,5 +1,5 @@
 use Rattle.std.proofs.Common.{refl}
-use Rattle.sm_json.proofs.ReadPieces.{takes_again, no_refusal}
+use Rattle.sm_tree.proofs.Sources.{takes_again, no_refusal}
 use Rattle.sm_json.proofs.pieces.JsonReader.flush.Goals as goal
 
 pub returns-in-Some-clause-flushes : goal.returns-in-Some-clause-flushes

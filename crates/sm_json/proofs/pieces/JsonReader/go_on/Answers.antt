@@ -1,17 +1,19 @@
 use Rattle.std.proofs.Common.{arith, refl, sym, subst, Some, Err}
 use Rattle.sm_json.specs.Stands.{JsonFeeds}
 use Rattle.sm_tree.specs.Refusal.{moved_by}
-use Rattle.sm_json.proofs.ReadPieces.{has_read, piece_placed, piece_fed, feed_within, piece_refused, takes_refused}
+use Rattle.sm_tree.proofs.Sources.{come_read}
+use Rattle.sm_json.specs.Stands.{json_source}
+use Rattle.sm_json.proofs.ReadPieces.{piece_placed, piece_fed, feed_within, piece_refused, takes_refused}
 use Rattle.sm_json.proofs.pieces.JsonReader.go_on.Goals as goal
 
 pub feed-requires-clause-sound : goal.feed-requires-clause-sound
 feed-requires-clause-sound g c =
-    let (bytes, stands, follows) = c.requires.stands in (has_read c.args.self.now bytes c.requires.fresh stands.1).goes.sound
+    let (bytes, stands, follows) = c.requires.stands in (come_read json_source c.args.self.now bytes c.requires.fresh stands.1).goes.sound
 
 pub feed-requires-clause-placed : goal.feed-requires-clause-placed
 feed-requires-clause-placed g c =
     let (bytes, stands, follows) = c.requires.stands in
-    piece_placed c.args.self.now bytes _ _ (has_read c.args.self.now bytes c.requires.fresh stands.1) follows c.requires.takes
+    piece_placed c.args.self.now bytes _ _ (come_read json_source c.args.self.now bytes c.requires.fresh stands.1) follows c.requires.takes
 
 pub returns-in-Ok-clause-feeds : goal.returns-in-Ok-clause-feeds
 returns-in-Ok-clause-feeds g c =

@@ -1,4 +1,4 @@
-use Rattle.sm_json.proofs.ReadPieces.{no_refusal}
+use Rattle.sm_tree.proofs.Sources.{no_refusal}
 use Rattle.sm_json.proofs.pieces.JsonReader.is_null.Goals as goal
 
 pub returns-in-Some : goal.returns-in-Some
