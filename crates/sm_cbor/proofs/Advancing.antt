@@ -4,8 +4,10 @@ use Rattle.std.proofs.Common.{◌≡◌, ◌≢◌, ◌≤◌, ◌<◌, ◌+◌,
 use Rattle.std.proofs.Common.{refl, sym, ap, subst, ◌∙◌, arith, length, append-nil, append_assoc}
 use Rattle.sm_tree.specs.Limits.{most_levels}
 use Rattle.sm_tree.specs.Events.{NodeEvent}
-use Rattle.sm_tree.specs.Timing.{TimedEvent}
-use Rattle.sm_tree.specs.TimingLaws.{HasOneCompletion, GoesFurther}
+use Rattle.sm_tree.specs.Streams.{Streams}
+use Rattle.sm_tree.specs.Timing.{TimedEvent, untimed}
+use Rattle.sm_tree.specs.TimingLaws.{HasOneCompletion, GoesFurther, BeginsTrees}
+use Rattle.sm_tree.proofs.Handing.{handed_untimed}
 use Rattle.sm_bytes.specs.declared.utf8.Utf8.{Utf8}
 use Rattle.sm_bytes.specs.declared.utf8.Utf8.TheVariants.{Between}
 use Rattle.sm_bytes.specs.Utf8 as utf8
@@ -44,6 +46,7 @@ use Rattle.sm_cbor.proofs.ArgumentSteps.{tag_opens, opaque_ends}
 use Rattle.sm_cbor.proofs.RunSteps.{none_owed}
 use Rattle.sm_cbor.proofs.Readings.{leads_none, leads_joined}
 use Rattle.sm_cbor.proofs.Completing.{complete_leads}
+use Rattle.sm_cbor.proofs.Timings.{times_texts}
 
 -- byte strings are between two characters always
 abbrev IsSettled : Place → Type 0
@@ -339,3 +342,13 @@ goes_further bs more es fs first (behind, n, ts, timed, deep, is) =
       complete_leads (bs ++ more) (out ++ further) fs z all last.0 (behind, n, ts, timed, deep, is)
           ∙ ap (λ x. x ++ further) (sym (complete_leads bs out es y leads stands.0 first)),
     )
+
+-- what they complete begins a stream of the item's tree
+pub begins_trees : BeginsTrees cbor_timing
+begins_trees bs es (more, n, ts, timed, deep, is) =
+    let start : CborRest plain most_levels first_state (bs ++ more) ts = (n, [], [], timed, omega arith, (refl, refl)) in
+    let (out, y, leads, stands) = runs most_levels first_state bs more ts (tt, tt) start in
+    let (os, us, e, hands, rest) = leads.onward more ts start in
+    let same = complete_leads bs out es y leads stands.0 (more, n, ts, timed, deep, is) in
+    let all = ap untimed e ∙ handed_untimed (length more) os us out hands ∙ ap (λ x. x ++ untimed us) (sym same) in
+    (n, untimed us, subst (λ x. Streams n x []) all (times_texts.streams n (bs ++ more) ts timed), deep)

@@ -1,7 +1,7 @@
 // Laws of items and of what is written, each the contract of a function whose body is empty.
 ghost use Rattle.sm_tree.specs.SyntaxLaws.{HasOneReading, HasOneAnswer, HasSomeAnswer};
 ghost use Rattle.sm_cbor.specs.Refusals.{cbor_syntax};
-ghost use Rattle.sm_tree.specs.TimingLaws.{TimesTexts, HasOneCompletion, GoesFurther, HasFewEvents};
+ghost use Rattle.sm_tree.specs.TimingLaws.{TimesTexts, HasOneCompletion, GoesFurther, HasFewEvents, BeginsTrees};
 ghost use Rattle.sm_cbor.specs.CborItem.{CborItem};
 ghost use Rattle.sm_cbor.specs.Timing.{cbor_timing};
 ghost use Rattle.sm_cbor.specs.Laws.{WrittenIsItem, WrittenItemIsRead};
@@ -72,4 +72,9 @@ pub fn few_events()
 pub fn one_completion()
     ensures one { HasOneCompletion cbor_timing }
     ensures further { GoesFurther cbor_timing }
+{}
+
+/// What bytes complete begins a stream of a tree of at most 100 levels.
+pub fn begins_trees()
+    ensures { BeginsTrees cbor_timing }
 {}

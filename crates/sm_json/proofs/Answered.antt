@@ -27,6 +27,7 @@ use Rattle.sm_json.specs.declared.read.Reader.{Reader}
 use Rattle.sm_json.proofs.SpeltTrees.{text_json}
 use Rattle.sm_json.proofs.Whole.{leads_none, start_text, text_start, run_is_text, run_is_cut}
 use Rattle.sm_json.proofs.Onward.{reader_goes_on, on_back}
+use Rattle.sm_json.proofs.Completed.{begun as begun_leads}
 
 -- what goes on from the first state is what begins a text, at each limit
 begun_text : (limit : ℕ) (bs : List ℕ) → JsonGoesOn limit json_start bs
@@ -85,11 +86,6 @@ first_placed r b takes begins nothing all = record {
   placed = subst (λ x. IsPlaced x (took b)) (sym begins)
       (run_placed [] [] json_start (took b) (leads_none most_levels json_start) (sym nothing));
 }
-
-begun_leads : (r q : Reader) (bs : List ℕ) (out : List NodeEvent) → JsonGoes r bs out q → json_state r ≡ json_start
-    → JsonLeads most_levels json_start bs out (json_state q)
-begun_leads r q bs out goes begins = subst (λ x. JsonLeads most_levels x bs out (json_state q)) begins
-    (goes.leads most_levels (omega arith))
 
 -- the bytes end: the builder has taken the events of the one tree of the text, or they are no text
 pub text_built : (r q : Reader) (bs : List ℕ) (first behind_bytes last : Building) (before behind : Takes) → json_state r ≡ json_start

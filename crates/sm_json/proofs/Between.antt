@@ -44,7 +44,7 @@ pub colon_stops : (limit : ℕ) (c : ℕ) (ks : List OpenKind) → is_whitespace
 colon_stops limit c ks w f s ts (s1, k, h) = f (here_is c 58 s s1 w k)
 
 -- the quotation mark of a name
-key_here : (limit : ℕ) (ks : List OpenKind) (c : ℕ) (s : List ℕ) (ts : List TimedEvent) → is_whitespace c ≡ false
+pub key_here : (limit : ℕ) (ks : List OpenKind) (c : ℕ) (s : List ℕ) (ts : List TimedEvent) → is_whitespace c ≡ false
     → NameComes limit ks (c ∷ s) ts → NameNow limit ks (c ∷ s) ts
 key_here limit ks c s ts w (t, k, h) = subst (λ x. NameNow limit ks x ts) (skips_here c s t w k) h
 
@@ -59,7 +59,7 @@ key_stops limit c ks w f s ts h =
     let (t, r, us, (cs, s1, e1, e2, x), co, timed) = key_here limit ks c s ts w h in f (heads c 34 s s1 e2)
 
 -- behind a brace: a name, or the end
-first_key_onward : (limit : ℕ) (c : ℕ) (ks : List OpenKind) (s : List ℕ) (ts : List TimedEvent) → is_whitespace c ≡ false → c ≢ 125
+pub first_key_onward : (limit : ℕ) (c : ℕ) (ks : List OpenKind) (s : List ℕ) (ts : List TimedEvent) → is_whitespace c ≡ false → c ≢ 125
     → FirstKeyComes limit (an_object ∷ ks) (c ∷ s) ts → NameComes limit (an_object ∷ ks) (c ∷ s) ts
 first_key_onward limit c ks s ts w f (no_members, r, us, (k, timed), room, en) = absurd (f (here_is c 125 s r w k))
 first_key_onward limit c ks s ts w f (member name n ms, r, us, (s1, s2, s3, s4, vs, ws, k, sp, timed, (x, k1, k2), v, m), room, en) =
@@ -99,7 +99,7 @@ object_empty limit ks room =
     (λ s us h. (no_members, s, us, (skips_none (125 ∷ s), refl), omega arith, h))
 
 -- behind a bracket: an entry, or the end
-first_entry_onward : (limit : ℕ) (c : ℕ) (ks : List OpenKind) (s : List ℕ) (ts : List TimedEvent) → is_whitespace c ≡ false → c ≢ 93
+pub first_entry_onward : (limit : ℕ) (c : ℕ) (ks : List OpenKind) (s : List ℕ) (ts : List TimedEvent) → is_whitespace c ≡ false → c ≢ 93
     → FirstEntryComes limit (a_list ∷ ks) (c ∷ s) ts → ValueComes limit (a_list ∷ ks) (c ∷ s) ts
 first_entry_onward limit c ks s ts w f (no_nodes, r, us, (k, timed), room, en) = absurd (f (here_is c 93 s r w k))
 first_entry_onward limit c ks s ts w f (node n ns, r, us, (s1, s2, vs, k, v, m), room, en) =
@@ -123,7 +123,7 @@ pub first_entry_stops : (limit : ℕ) (c : ℕ) (ks : List OpenKind) → is_whit
     → JsonStops limit (at value (a_list ∷ ks)) c → JsonStops limit (at first_entry (a_list ∷ ks)) c
 first_entry_stops limit c ks w f h s ts g = h s ts (first_entry_onward limit c ks s ts w f g)
 
-bracket_begins_nothing : (n : Node) → FirstByte n 93 → ⊥
+pub bracket_begins_nothing : (n : Node) → FirstByte n 93 → ⊥
 bracket_begins_nothing null e = below 93 110 (lit< tt) e
 bracket_begins_nothing (bool true) e = below 93 116 (lit< tt) e
 bracket_begins_nothing (bool false) e = below 93 102 (lit< tt) e

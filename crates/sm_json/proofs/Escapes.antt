@@ -9,10 +9,8 @@ use Rattle.sm_bytes.specs.Escapes.{short_escape, IsHigh, IsLow, joined}
 use Rattle.sm_json.specs.Strings.{HexDigits, CodeUnit, Escape}
 use Rattle.sm_json.specs.steps.TextRest.{DigitsRest, UnitRest, PartRest}
 use Rattle.sm_json.specs.steps.TextSteps.{IsLowBegun, CodeEnd, StepsTo, PartSteps}
+use Rattle.sm_json.proofs.Starts.{some_same}
 use Rattle.sm_json.proofs.Units.{SameRest, LastDigit, digits_range_1, digits_range_2, digits_range_3}
-
-some_same : (x y : ℕ) → Some x ≡ Some y → x ≡ y
-some_same x y e = cc
 
 -- behind a backslash: a short escape
 short_there : (x d : ℕ) → short_escape x ≡ Some d → (x ≢ 117) → (c : ℕ) (s r : List ℕ) → Escape c (x ∷ s) r → (c ≡ d) × (s ≡ r)

@@ -23,7 +23,7 @@ use Rattle.sm_json.proofs.Owed.{text_rest_shorter}
 use Rattle.sm_json.proofs.Whole.{start_timed, timed_start}
 
 -- an event whose last byte is among these, before those behind it
-spoken_later : (e : NodeEvent) (s r : List ℕ) (ts us : List TimedEvent) → length r < length s → ts ≡ by_byte e (length r) ∷ us
+pub spoken_later : (e : NodeEvent) (s r : List ℕ) (ts us : List TimedEvent) → length r < length s → ts ≡ by_byte e (length r) ∷ us
     → AreLater (length r) us → AreLater (length s) ts
 spoken_later e s r ts us less timed h =
     subst (AreLater (length s)) (sym timed) (less, later_sooner (length r) (length s) us (omega arith) h)
@@ -107,7 +107,7 @@ mutual
       (omega arith, spoken_later (key_event k) s s2 ts vs (omega arith) timed later2)
 
 -- at each place
-ends_later : (limit : ℕ) (ks : List OpenKind) (s : List ℕ) (ts : List TimedEvent) → JsonEnds limit ks s ts → AreLater (length s) ts
+pub ends_later : (limit : ℕ) (ks : List OpenKind) (s : List ℕ) (ts : List TimedEvent) → JsonEnds limit ks s ts → AreLater (length s) ts
 ends_later limit [] s ts (k, e) = subst (AreLater (length s)) (sym e) tt
 ends_later limit (a_list ∷ ks) s ts (ns, r, us, m, room, en) = (more_entries_later ns s r ts us m (ends_later limit ks r us en)).1
 ends_later limit (an_object ∷ ks) s ts (ms, r, us, m, room, en) = (more_pairs_later ms s r ts us m (ends_later limit ks r us en)).1
@@ -116,7 +116,7 @@ value_comes_later : (limit : ℕ) (ks : List OpenKind) (s : List ℕ) (ts : List
 value_comes_later limit ks s ts (s1, k, (n, r, us, v, room, en)) =
     later_sooner (length s1) (length s) ts (white_shorter s s1 k) (value_later n s1 r ts us v (ends_later limit ks r us en)).1
 
-colon_later : (limit : ℕ) (ks : List OpenKind) (s : List ℕ) (ts : List TimedEvent) → ColonComes limit ks s ts → AreLater (length s) ts
+pub colon_later : (limit : ℕ) (ks : List OpenKind) (s : List ℕ) (ts : List TimedEvent) → ColonComes limit ks s ts → AreLater (length s) ts
 colon_later limit ks s ts (s1, k, h) =
     let less = white_shorter s (58 ∷ s1) k in
     later_sooner (length s1) (length s) ts (omega arith) (value_comes_later limit ks s1 ts h)

@@ -36,6 +36,8 @@ pub mod Placed
 pub mod Lanes
 pub mod LaneRuns
 pub mod OneString
+pub mod StringCuts
+pub mod PrefixRuns
 pub mod OneTree
 pub mod SpeltTrees
 pub mod Answered

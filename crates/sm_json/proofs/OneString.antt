@@ -6,12 +6,8 @@ use Rattle.std.specs.Prelude.{encode_utf8_all}
 use Rattle.std.proofs.lemmas.Str.{encode_same, encode_ascii}
 use Rattle.sm_bytes.specs.Escapes.{short_escape, IsHigh, joined}
 use Rattle.sm_json.specs.Strings.{IsUnescaped, HexDigits, CodeUnit, LowHalf, Escape, Character, Characters, SpellsText}
-use Rattle.sm_json.proofs.Starts.{above, heads, tails}
+use Rattle.sm_json.proofs.Starts.{above, heads, tails, some_same}
 use Rattle.sm_json.proofs.Units.{no_surrogate}
-
--- equal where both are there
-some_same : (x y : ℕ) → Some x ≡ Some y → x ≡ y
-some_same x y e = cc
 
 -- what digits make, and what follows them
 one_number : (k n v w : ℕ) (s r q : List ℕ) → HexDigits k n v s r → HexDigits k n w s q → (v ≡ w) × (r ≡ q)
@@ -88,7 +84,7 @@ no_character c s r q (k, inl (plain, e)) f = plain.1 (raw_first c 34 s r q (lit<
 no_character c s r q (k, inr (s1, e, h)) f = absurd (above 92 34 (lit< tt) (heads 92 34 s1 q (sym e ∙ f)))
 
 -- the characters of a string up to its end
-one_run : (cs ds s r q : List ℕ) → Characters cs s r → Characters ds s q → (cs ≡ ds) × (r ≡ q)
+pub one_run : (cs ds s r q : List ℕ) → Characters cs s r → Characters ds s q → (cs ≡ ds) × (r ≡ q)
 one_run [] [] s r q e f = (refl, tails 34 34 r q (sym e ∙ f))
 one_run [] (d ∷ ds) s r q e (s1, h, hs) = absurd (no_character d s s1 r h e)
 one_run (c ∷ cs) [] s r q (s1, h, hs) f = absurd (no_character c s s1 q h f)

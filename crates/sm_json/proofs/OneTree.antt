@@ -15,7 +15,7 @@ use Rattle.sm_tree.proofs.Numbers.{number_bytes, one_node}
 use Rattle.sm_tree.proofs.NodeKinds.{NodeKind, of_null, of_true, of_false, of_number, of_text, of_list, of_object, node_kind, null_only}
 use Rattle.sm_tree.proofs.NodeKinds.{true_only, false_only, text_only, list_only, object_only}
 use Rattle.sm_json.proofs.Leaves.{number_is}
-use Rattle.sm_json.proofs.Opening.{digit_is_not}
+use Rattle.sm_json.proofs.Between.{bracket_begins_nothing}
 use Rattle.sm_json.proofs.OneString.{one_text}
 
 -- whitespace: what follows it, where that is not white
@@ -149,26 +149,12 @@ number_only (bool true) s q e k = absurd cc
 number_only (bool false) s q e k = absurd cc
 number_only m s q e k = absurd cc
 
--- a closing bracket begins no value
-no_value : (n : Node) → FirstByte n 93 → ⊥
-no_value null e = below 93 110 (lit< tt) e
-no_value (bool true) e = below 93 116 (lit< tt) e
-no_value (bool false) e = below 93 102 (lit< tt) e
-no_value (int z) h = digit_is_not 93 93 h refl (inr (omega arith))
-no_value (number t) h = digit_is_not 93 93 h refl (inr (omega arith))
-no_value (text t) e = above 93 34 (lit< tt) e
-no_value (bytes t) h = h
-no_value (tag k n) h = h
-no_value (opaque b) h = h
-no_value (list ns) e = above 93 91 (lit< tt) e
-no_value (object ms) e = below 93 123 (lit< tt) e
-
 -- so a list that ends at once has no entry
 not_closed : (n : Node) (s s1 s2 r : List ℕ) → Whitespace s (93 ∷ r) → Whitespace s s1 → SpellsValue n s1 s2 → ⊥
 not_closed n s s1 s2 r a b h =
     let (c, u, e, x) = spells_start n s1 s2 h in
     let same = skips_to 93 c s r u refl (first_not_white n c x) a (subst (Whitespace s) e b) in
-    no_value n (subst (FirstByte n) (sym same.0) x)
+    bracket_begins_nothing n (subst (FirstByte n) (sym same.0) x)
 
 -- what follows a word
 same_word : (w s r q : List ℕ) → s ≡ w ++ r → s ≡ w ++ q → r ≡ q

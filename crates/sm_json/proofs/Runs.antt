@@ -45,9 +45,6 @@ pub run_utf8 : (p : List ℕ) → IsPlainRun p → IsUtf8 p
 run_utf8 p h = (h.0, (scalars_of h.0 h.1, h.2))
 
 -- a character that stands for itself, at the start
-heads : (x y : ℕ) (s t : List ℕ) → x ∷ s ≡ y ∷ t → x ≡ y
-heads x y s t e = cc
-
 at_start : (c d : ℕ) (s r : List ℕ) → IsScalar c → IsUnescaped c → Character d (encode c ++ s) r → (d ≡ c) × (r ≡ s)
 at_start c d s r k u (j, inl y) = let same = encode_same c d s r y.1 in (sym same.0, sym same.1)
 at_start c d s r k u (j, inr y) = elim (lead c 92 y.0 s k (sym y.1)) [ inl z ↦ absurd (u.2 z.1) | inr z ↦ absurd (omega arith) ]

@@ -10,12 +10,10 @@ use Rattle.sm_json.specs.Strings.{HexDigits, LowHalf}
 use Rattle.sm_json.specs.steps.TextRest.{DigitsRest, UnitRest}
 use Rattle.sm_json.specs.steps.TextSteps.{UnitEnd, StepsTo}
 use Rattle.std.proofs.lemmas.Bool.Decides.{nat_tests}
+use Rattle.sm_json.proofs.Starts.{some_same}
 use lib.Utf8.{scalar_cases}
 
 -- one digit of a code unit
-some_same : (x y : ℕ) → Some x ≡ Some y → x ≡ y
-some_same x y e = cc
-
 pub digit_taken : (k n v x d : ℕ) (s r : List ℕ) → hex_value x ≡ Some d → HexDigits (suc k) n v (x ∷ s) r ↔ HexDigits k (n * 16 + d) v s r
 digit_taken k n v x d s r e =
     (λ h. subst (λ m. HexDigits k (n * 16 + m) v s r) (some_same h.0 d (sym h.1 ∙ e)) h.2, λ h. (d, e, h))

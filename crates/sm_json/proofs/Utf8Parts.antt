@@ -12,6 +12,7 @@ use Rattle.sm_json.specs.Strings.{IsUnescaped, Escape, Character, Characters}
 use Rattle.sm_bytes.specs.Utf8.{IsTail, IsSecond}
 use Rattle.sm_json.specs.steps.TextRest.{PartRest}
 use Rattle.sm_json.specs.steps.TextSteps.{CodeEnd, StepsTo, PartSteps, StringSteps}
+use Rattle.sm_json.proofs.Starts.{heads}
 use Rattle.sm_json.proofs.Steps.{steps_along, BegunRest, begun}
 use Rattle.sm_bytes.proofs.CharacterBytes.{low_three, low_four, two_encode, three_encode, four_encode}
 use Rattle.sm_bytes.proofs.CharacterShapes.{IsOne, IsTwo, IsThree, IsFour, shape}
@@ -176,9 +177,6 @@ plain_refused x q w no_ascii no_lead = begun x Refused q (λ c s r k h. elim h [
 ])
 
 -- the closing quotation mark
-heads : (x y : ℕ) (s t : List ℕ) → x ∷ s ≡ y ∷ t → x ≡ y
-heads x y s t e = cc
-
 no_quote : (c : ℕ) (s r : List ℕ) → Character c (34 ∷ s) r → ⊥
 no_quote c s r (k, inl y) = elim (lead c 34 s r k y.1) [ inl z ↦ y.0.1 z.1 | inr z ↦ omega arith ]
 no_quote c s r (k, inr y) = let same = heads 34 92 s y.0 y.1 in omega arith

@@ -72,7 +72,7 @@ follows_not : (c d : ℕ) (s r : List ℕ) → IsNumberByte c → (d ≡ 44) ⊎
 follows_not c d s r n k (inl e) = not_number_byte c d n (sym (heads d c r s e)) k
 follows_not c d s r n k (inr h) = number_byte_not_white c n h.0
 
-number_ends_before : (limit : ℕ) (c : ℕ) (ks : List OpenKind) (s : List ℕ) (ts : List TimedEvent) → IsNumberByte c
+pub number_ends_before : (limit : ℕ) (c : ℕ) (ks : List OpenKind) (s : List ℕ) (ts : List TimedEvent) → IsNumberByte c
     → JsonEnds limit ks (c ∷ s) ts → ⊥
 number_ends_before limit c [] s ts n (inl e, e1) = let e2 : [] ≡ c ∷ s = e in cc
 number_ends_before limit c [] s ts n (inr h, e1) = number_byte_not_white c n h.0

@@ -11,13 +11,9 @@ use Rattle.sm_tree.specs.Json.{IsJson, AreJson, AreJsonMembers}
 use Rattle.sm_json.specs.Strings.{Whitespace, SpellsText}
 use Rattle.sm_json.specs.JsonText.{SpellsValue, Entries, MoreEntries, Pairs, MorePairs, JsonText, json_syntax}
 use Rattle.sm_json.specs.Written.{written_text, written, written_entries, more_written_entries, written_pairs, more_written_pairs}
+use Rattle.sm_json.proofs.Starts.{skips_none}
 use Rattle.sm_json.proofs.WrittenStrings.{text_spelt}
 use Rattle.sm_json.proofs.WrittenNumbers.{int_spelt}
-
--- no whitespace has to be skipped
-skips_none : (s : List ℕ) → Whitespace s s
-skips_none [] = refl
-skips_none (c ∷ s) = inl refl
 
 -- a name, with its colon and what comes behind it
 name_spelt : (k rest r : List ℕ) → IsUtf8 k → SpellsText k ((written_text k ++ 58 ∷ rest) ++ r) (58 ∷ (rest ++ r))

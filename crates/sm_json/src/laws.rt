@@ -1,4 +1,7 @@
 // Laws of texts and of what is written, each the contract of a function whose body is empty.
+ghost use Rattle.sm_tree.specs.TimingLaws.{TimesTexts, HasOneCompletion, GoesFurther, HasFewEvents, BeginsTrees};
+ghost use Rattle.sm_json.specs.JsonText.{JsonText};
+ghost use Rattle.sm_json.specs.Timing.{json_timing};
 ghost use Rattle.sm_json.specs.Laws.{WrittenIsText, WrittenSpells, WrittenIsRead, WrittenTextSpells, EscapesAreMeant, TextsAreTimed};
 ghost use Rattle.sm_json.specs.Laws.{FewEvents, NoEventYet, OneReading, OneAnswer, SomeAnswer};
 ghost use Rattle.sm_json.specs.Stands.{StandingCompletes};
@@ -34,9 +37,27 @@ pub fn texts_are_timed()
     ensures { TextsAreTimed }
 {}
 
-/// A JSON text has at most one event a byte.
+/// A JSON text has at most one event a byte, and bytes complete two events each at most.
 pub fn few_events()
-    ensures { FewEvents }
+    ensures text { FewEvents }
+    ensures begun { HasFewEvents json_timing }
+{}
+
+/// What has times is a JSON text, and its events are a stream of its tree.
+#[tactic(auto, using(crate::proofs::PrefixRuns::times_texts))]
+pub fn timing()
+    ensures { TimesTexts JsonText json_timing }
+{}
+
+/// Bytes complete one list of events at most, and more bytes complete the same events, and perhaps more.
+pub fn one_completion()
+    ensures one { HasOneCompletion json_timing }
+    ensures further { GoesFurther json_timing }
+{}
+
+/// What bytes complete begins a stream of a tree of at most 100 levels.
+pub fn begins_trees()
+    ensures { BeginsTrees json_timing }
 {}
 
 /// Before the first byte of a JSON text no event is complete.

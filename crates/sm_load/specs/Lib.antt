@@ -4,4 +4,5 @@ pub mod Events
 pub mod ModelFiles
 pub mod Loading
 pub mod Laws
+pub mod Accepted
 pub mod parts

@@ -1,4 +1,5 @@
 // Laws over the definitions: public functions with empty bodies, whose contracts are the laws.
+ghost use Rattle.sm_load.specs.Accepted.{AcceptedAsOne, AcceptedNotRefused};
 ghost use Rattle.sm_load.specs.Laws.{FormedFiles, OneListOfRuleEvents, OneLoad, ReadyModels, ReadyWithoutErrors, SomeLoad};
 ghost use Rattle.sm_load.specs.Laws.{SomeModelEvents, SomeRuleEvents, SoundModels, SoundWithoutErrors};
 
@@ -42,4 +43,10 @@ pub fn some_load()
 pub fn sound_models()
     ensures shapes { SoundModels }
     ensures services { ReadyModels }
+{}
+
+/// Model files are accepted as one graph, or refused, and never both.
+pub fn accepted_or_refused()
+    ensures graph { AcceptedAsOne }
+    ensures apart { AcceptedNotRefused }
 {}

@@ -38,15 +38,22 @@ later_none left (by_byte e k ∷ ts) (here, rest) =
     ap (λ b. cond b (e ∷ complete_with left ts) (complete_with left ts)) (late left k here) ∙ later_none left ts rest
 later_none left (by_end e ∷ ts) h = later_none left ts h
 
+-- what is handed on stands before what is complete of the rest
+pub handed_before : (left : ℕ) (ts us : List TimedEvent) (out : List NodeEvent) → HandsOn left ts out
+    → complete_with left (ts ++ us) ≡ out ++ complete_with left us
+handed_before left [] us [] h = refl
+handed_before left [] us (e ∷ out) h = absurd h
+handed_before left (by_byte e k ∷ ts) us [] h = absurd h
+handed_before left (by_byte e k ∷ ts) us (f ∷ out) (same, here, rest) =
+    ap (λ b. cond b (e ∷ complete_with left (ts ++ us)) (complete_with left (ts ++ us))) (soon left k here)
+    ∙ ap (λ es. e ∷ es) (handed_before left ts us out rest) ∙ ap (λ x. x ∷ (out ++ complete_with left us)) same
+handed_before left (by_end e ∷ ts) us out h = absurd h
+
+-- so where the rest is later, that is all that is complete
 pub handed_complete : (left : ℕ) (ts us : List TimedEvent) (out : List NodeEvent) → HandsOn left ts out → AreLater left us
     → complete_with left (ts ++ us) ≡ out
-handed_complete left [] us [] h later = later_none left us later
-handed_complete left [] us (e ∷ out) h later = absurd h
-handed_complete left (by_byte e k ∷ ts) us [] h later = absurd h
-handed_complete left (by_byte e k ∷ ts) us (f ∷ out) (same, here, rest) later =
-    ap (λ b. cond b (e ∷ complete_with left (ts ++ us)) (complete_with left (ts ++ us))) (soon left k here)
-    ∙ ap (λ es. e ∷ es) (handed_complete left ts us out rest later) ∙ ap (λ x. x ∷ out) same
-handed_complete left (by_end e ∷ ts) us out h later = absurd h
+handed_complete left ts us out h later =
+    handed_before left ts us out h ∙ ap (λ es. out ++ es) (later_none left us later) ∙ append-nil out
 
 -- what is later stays so where more bytes are to come
 pub later_sooner : (left more : ℕ) (ts : List TimedEvent) → left ≤ more → AreLater left ts → AreLater more ts
@@ -67,6 +74,10 @@ pub untimed_append : (ts us : List TimedEvent) → untimed (ts ++ us) ≡ untime
 untimed_append [] us = refl
 untimed_append (by_byte e k ∷ ts) us = ap (λ fs. e ∷ fs) (untimed_append ts us)
 untimed_append (by_end e ∷ ts) us = ap (λ fs. e ∷ fs) (untimed_append ts us)
+
+-- what is handed on stands before the events of the rest
+pub handed_untimed : (left : ℕ) (ts us : List TimedEvent) (out : List NodeEvent) → HandsOn left ts out → untimed (ts ++ us) ≡ out ++ untimed us
+handed_untimed left ts us out h = untimed_append ts us ∙ ap (λ es. es ++ untimed us) (hands_untimed left ts out h)
 
 -- what begins a stream's beginning begins it
 pub begins_before : (es fs : List NodeEvent) → BeginsStream (es ++ fs) → BeginsStream es

@@ -8,6 +8,7 @@ pub mod Events
 pub mod Building
 pub mod Streams
 pub mod Awaited
+pub mod OpenLevels
 pub mod Counted
 pub mod Handing
 pub mod NumberParts

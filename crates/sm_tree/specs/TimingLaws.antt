@@ -1,6 +1,8 @@
 -- What is to hold of a format's timing.
 use Rattle.std.specs.Prelude.{◌≡◌, ◌≤◌, ◌*◌, ℕ, List, [], ◌++◌, length}
 use Rattle.sm_tree.specs.Node.{Node}
+use Rattle.sm_tree.specs.Levels.{levels}
+use Rattle.sm_tree.specs.Limits.{most_levels}
 use Rattle.sm_tree.specs.Events.{NodeEvent}
 use Rattle.sm_tree.specs.Streams.{Streams}
 use Rattle.sm_tree.specs.Syntax.{TreeFormat}
@@ -25,3 +27,9 @@ GoesFurther T =
 -- at most two events a byte
 abbrev pub HasFewEvents : Timing → Type 0
 HasFewEvents T = (bs : List ℕ) (es : List NodeEvent) → Completes T bs es → length es ≤ 2 * length bs
+
+-- what bytes complete begins a stream of a tree of at most 100 levels
+abbrev pub BeginsTrees : Timing → Type 0
+BeginsTrees T =
+    (bs : List ℕ) (es : List NodeEvent) → Completes T bs es
+    → (n : Node) × (more : List NodeEvent) × Streams n (es ++ more) [] × (levels n ≤ most_levels)

@@ -6,6 +6,7 @@ ghost use Rattle.sm_tree.specs.Pointer.{TokenReadsBack, TokenHasNoSlash};
 ghost use Rattle.sm_tree.specs.Same.{SameToItself, SameBothWays, SameThrough, OneValueAName};
 ghost use Rattle.sm_tree.specs.Size.{SameCountsTheSame};
 ghost use Rattle.sm_tree.specs.EventLaws.{OneTreeAStream, OneTreeOfStreams, HasStreams};
+ghost use Rattle.sm_tree.specs.OpenLevels.{OpensNoMore, KindsAreLevels};
 
 use crate::text::{Bytes, Text};
 use crate::tree::Tree;
@@ -68,6 +69,13 @@ pub fn one_tree_of_streams()
 #[tactic(auto, using(crate::proofs::Streams::has_streams))]
 pub fn has_streams()
     ensures { HasStreams }
+{}
+
+/// Where events begin a stream of a tree, no more levels are open than the tree has. The lists and objects that are open are among them.
+#[tactic(auto, using(crate::proofs::OpenLevels::opens_no_more, crate::proofs::OpenLevels::kinds_are_levels))]
+pub fn opens_no_more()
+    ensures within { OpensNoMore }
+    ensures kinds { KindsAreLevels }
 {}
 
 /// `==` of trees is true exactly where both stand for one node.

@@ -1,5 +1,5 @@
-use Rattle.sm_json.proofs.EventCounts.{few_events}
+use Rattle.sm_json.proofs.EventCounts.{few_events, has_few_events}
 use Rattle.sm_json.proofs.laws.few_events.Goals as goal
 
 pub returns : goal.returns
-returns c = few_events
+returns c = record { text = few_events; begun = has_few_events }
