@@ -1,5 +1,5 @@
 -- Of a body by pieces: from what its reader says of a sink to what it says of the decoder in the sink.
-use Rattle.std.proofs.Common.{arith, length, ◌≡◌, ◌≤◌, ◌+◌, ◌*◌, ◌-◌, ℕ, List, [], ◌++◌, None, Some, take, drop, sym, ap, ◌∙◌, subst}
+use Rattle.std.proofs.Common.{arith, length, ◌≡◌, ◌≤◌, ◌+◌, ◌*◌, ◌-◌, ℕ, List, [], ◌++◌, None, Some, take, drop, suc, refl, sym, ap, ◌∙◌, subst}
 use Rattle.std.proofs.Math.Seq.{take-add}
 use Rattle.std.proofs.lemmas.Nat.{mul-le}
 use Rattle.std.specs.Prelude.{Result, Ok, Err, OnOk, IfSome}
@@ -7,7 +7,12 @@ use Rattle.sm_tree.specs.Events.{NodeEvent}
 use Rattle.sm_tree.specs.Streams.{StandsFor}
 use Rattle.sm_tree.specs.Syntax.{Syntax}
 use Rattle.sm_tree.specs.Timing.{Follows}
-use Rattle.sm_tree.specs.TimingLaws.{TimesTexts, HasFewEvents}
+use Rattle.sm_tree.specs.TimingLaws.{TimesTexts, HasFewEvents, BeginsTrees}
+use Rattle.sm_tree.specs.Limits.{most_levels}
+use Rattle.sm_tree.specs.Building.{Building, nothing, whole, within, kinds}
+use Rattle.sm_tree.specs.OpenLevels.{OpensNoMore, KindsAreLevels}
+use Rattle.sm_codec.specs.Walk.{levels_open}
+use Rattle.std.proofs.lemmas.List.{length-map}
 use Rattle.sm_tree.specs.Sources.{SourceOf, SourceStands, FollowsAs, HasFed, MayFeed, SourceFeeds, ReadsInto, ReadCompletes}
 use Rattle.sm_tree.specs.declared.refusal.SyntaxRefusal.{SyntaxRefusal}
 use Rattle.sm_tree.specs.declared.refusal.SyntaxRefusal.TheVariants.{Ended, NoMemory}
@@ -84,16 +89,36 @@ end_fed s c added T r d e res shaped stored ends kept shape bytes (is, fed) =
 pub piece_behind : (i n k : ℕ) (xs : List ℕ) → k ≡ n → take i xs ++ take k (drop i xs) ≡ take (i + n) xs
 piece_behind i n k xs same = ap (λ m. take i xs ++ take m (drop i xs)) same ∙ sym (take-add i n xs)
 
--- what it holds is bounded by its bytes
+-- what it holds is bounded: its values by its bytes, and its frames by the levels that are read
 pub held_few : {R : Type 0} (s : SourceOf R) (c : Codec) (shape : ℕ) (r : R) (d : Decoder) (bytes : List ℕ)
-    → TimesTexts s.syntax.text s.timing → HasFewEvents s.timing → ReadCompletes s → IsCodec c → StaysBounded (decoding_of d)
-    → (s.refusal r ≡ Some NoMemory → ⊥) → BodyFed s c shape r d bytes
+    → TimesTexts s.syntax.text s.timing → HasFewEvents s.timing → BeginsTrees s.timing → ReadCompletes s → IsCodec c
+    → StaysBounded (decoding_of d) → (s.refusal r ≡ Some NoMemory → ⊥) → BodyFed s c shape r d bytes
     → decoding_nodes (decoding_of d) ≤ (1 + most_defaults c.table) * (2 * length bytes)
-held_few s c shape r d bytes times few complete laws stays memory (is, fed) =
-    let (es, kept, count) = few_fed s r (decodes_so_far c d) bytes times few complete memory fed in
+held_few s c shape r d bytes times few trees complete laws stays memory (is, fed) =
+    let (es, kept, count, begins) = few_fed s r (decodes_so_far c d) bytes times few trees complete memory fed in
     let bounded = stays c es laws kept in
     let nodes = bounded.nodes in
-    let trees = bounded.trees in
+    let known = bounded.trees in
     let all = mul-le (1 + most_defaults c.table) (known_trees c (decoding_of d).shape kept.building) (1 + most_defaults c.table)
-    (2 * length bytes) (omega arith) (omega (arith, trees, count)) in
+    (2 * length bytes) (omega arith) (omega (arith, known, count)) in
     omega (arith, nodes, all)
+
+levels_counted : (b : Building) → length (levels_open b) ≡ length (kinds b)
+levels_counted (nothing ts) = refl
+levels_counted (whole n) = refl
+levels_counted (within ts inner outer) = ap suc (length-map outer _ ∙ sym (length-map outer _))
+
+pub held_shallow : {R : Type 0} (s : SourceOf R) (c : Codec) (shape : ℕ) (r : R) (d : Decoder) (bytes : List ℕ)
+    → TimesTexts s.syntax.text s.timing → HasFewEvents s.timing → BeginsTrees s.timing → ReadCompletes s → OpensNoMore → KindsAreLevels
+    → IsCodec c → StaysBounded (decoding_of d) → (s.refusal r ≡ Some NoMemory → ⊥) → BodyFed s c shape r d bytes
+    → length (decoding_of d).frames ≤ most_levels + 1
+held_shallow s c shape r d bytes times few trees complete opens levelled laws stays memory (is, fed) =
+    let (es, kept, count, begins) = few_fed s r (decodes_so_far c d) bytes times few trees complete memory fed in
+    let (n, more, stream, room) = begins in
+    let bounded = stays c es laws kept in
+    let frames = bounded.frames in
+    let around = bounded.around in
+    let same = levels_counted kept.building in
+    let open_kinds = levelled kept.building in
+    let open_few = opens kept.building es more n kept.taken stream in
+    omega (arith, frames, around, same, open_kinds, open_few, room)

@@ -4,11 +4,14 @@ use Rattle.std.proofs.Common.{◌≡◌, ◌≤◌, ◌*◌, ℕ, List, [], ◌�
 use Rattle.std.proofs.Common.{length, length-append, take, drop, take-append-drop}
 use Rattle.std.specs.Prelude.{Result, Ok, Err, IfSome}
 use Rattle.sm_tree.specs.Events.{NodeEvent}
-use Rattle.sm_tree.specs.Streams.{StandsFor, Takes}
+use Rattle.sm_tree.specs.Limits.{most_levels}
+use Rattle.sm_tree.specs.Levels.{levels}
+use Rattle.sm_tree.specs.Node.{Node}
+use Rattle.sm_tree.specs.Streams.{StandsFor, Takes, Streams}
 use Rattle.sm_tree.specs.Syntax.{Syntax, TreeFormat, BeginsRead}
 use Rattle.sm_tree.specs.Refusal.{IsWithin}
 use Rattle.sm_tree.specs.Timing.{Timing, complete_with, Completes, Follows}
-use Rattle.sm_tree.specs.TimingLaws.{TimesTexts, HasFewEvents}
+use Rattle.sm_tree.specs.TimingLaws.{TimesTexts, HasFewEvents, BeginsTrees}
 use Rattle.sm_tree.specs.ReaderClauses.{TakesBeside, StaysRefused}
 use Rattle.sm_tree.specs.Sources.{SourceOf, RefusedSo, ComeAs, HasCome, SourceStands, FollowsAs, HasFed, RefusesWith, SourceFeeds}
 use Rattle.sm_tree.specs.Sources.{EndsWith, ReadCompletes}
@@ -194,34 +197,40 @@ begun_completes F T bytes times (more, n, (text, room)) =
     let (ts, timed) = times.timed n (bytes ++ more) text in
     (complete_with (length more) ts, (more, n, ts, timed, room, refl))
 
-few_before : (T : Timing) (S : StandsFor) (bytes : List ℕ) (at : ℕ) → HasFewEvents T → Follows T S (take at bytes)
-    → (es : List NodeEvent) × Completes T (take at bytes) es → (es : List NodeEvent) × S es × (length es ≤ 2 * length bytes)
-few_before T S bytes at few follows (es, done) =
+-- what some bytes completed: a sink has these events, at most two for each byte, and they begin a stream of a tree of at most 100 levels
+abbrev pub HoldsFew : StandsFor → List ℕ → Type 0
+HoldsFew S bytes =
+    (es : List NodeEvent) × S es × (length es ≤ 2 * length bytes)
+    × ((n : Node) × (more : List NodeEvent) × Streams n (es ++ more) [] × (levels n ≤ most_levels))
+
+few_before : (T : Timing) (S : StandsFor) (bytes : List ℕ) (at : ℕ) → HasFewEvents T → BeginsTrees T → Follows T S (take at bytes)
+    → (es : List NodeEvent) × Completes T (take at bytes) es → HoldsFew S bytes
+few_before T S bytes at few trees follows (es, done) =
     let count = few (take at bytes) es done in
     let whole = ap length (take-append-drop at bytes) in
     let parts = length-append (take at bytes) (drop at bytes) in
-    (es, follows es done, omega (arith, count, whole, parts))
+    (es, follows es done, omega (arith, count, whole, parts), trees (take at bytes) es done)
 
 pub few_fed : {R : Type 0} (s : SourceOf R) (r : R) (S : StandsFor) (bytes : List ℕ) → TimesTexts s.syntax.text s.timing
-    → HasFewEvents s.timing → ReadCompletes s → (s.refusal r ≡ Some NoMemory → ⊥) → HasFed s r S bytes
-    → (es : List NodeEvent) × S es × (length es ≤ 2 * length bytes)
-few_fed s r S bytes times few complete memory (stands, going, follows) = at (s.refusal r) refl
+    → HasFewEvents s.timing → BeginsTrees s.timing → ReadCompletes s → (s.refusal r ≡ Some NoMemory → ⊥) → HasFed s r S bytes
+    → HoldsFew S bytes
+few_fed s r S bytes times few trees complete memory (stands, going, follows) = at (s.refusal r) refl
   where
-    at : (o : Option SyntaxRefusal) → s.refusal r ≡ o → (es : List NodeEvent) × S es × (length es ≤ 2 * length bytes)
+    at : (o : Option SyntaxRefusal) → s.refusal r ≡ o → HoldsFew S bytes
     at None is =
         let (es, done) = complete r bytes (come_read s r bytes is stands.1) in
-        (es, subst (λ o. FollowsAs s.timing S o bytes) is follows es done, few bytes es done)
+        (es, subst (λ o. FollowsAs s.timing S o bytes) is follows es done, few bytes es done, trees bytes es done)
     at (Some Ended) is = absurd (going is)
     at (Some NoMemory) is = absurd (memory is)
     at (Some (Bad p)) is =
         let refused = come_refused s r bytes (Bad p) is stands.1 in
-        few_before s.timing S bytes p few (subst (λ o. FollowsAs s.timing S o bytes) is follows)
+        few_before s.timing S bytes p few trees (subst (λ o. FollowsAs s.timing S o bytes) is follows)
         (begun_completes s.syntax.text s.timing (take p bytes) times refused.bad.before)
     at (Some (TooDeep p)) is =
         let refused = come_refused s r bytes (TooDeep p) is stands.1 in
-        few_before s.timing S bytes p few (subst (λ o. FollowsAs s.timing S o bytes) is follows)
+        few_before s.timing S bytes p few trees (subst (λ o. FollowsAs s.timing S o bytes) is follows)
         (begun_completes s.syntax.text s.timing (take p bytes) times refused.before)
     at (Some (KeyKind p)) is =
         let refused = come_refused s r bytes (KeyKind p) is stands.1 in
-        few_before s.timing S bytes p few (subst (λ o. FollowsAs s.timing S o bytes) is follows)
+        few_before s.timing S bytes p few trees (subst (λ o. FollowsAs s.timing S o bytes) is follows)
         (begun_completes s.syntax.text s.timing (take p bytes) times refused.bad.before)
