@@ -43,11 +43,11 @@ pub flush_refused : (S T : StandsFor) (before behind : JsonReader) (refusal : Sy
     → (refusal_of before ≡ None → JsonFlushes S before T behind (Err refusal))
     → IfSome (refusal_of before) (λ given. (failed refusal ≡ Err given) × (behind ≡ before) × Same)
     → Refused before behind refusal
-flush_refused S T before behind refusal Same flushes again = at (refusal_of before) refl
+flush_refused S T before behind refusal Same flushes again = by_refusal (refusal_of before) refl
   where
-    at : (o : Option SyntaxRefusal) → refusal_of before ≡ o → Refused before behind refusal
-    at None is = refused_now S T before behind refusal (flushes is)
-    at (Some given) is =
+    by_refusal : (o : Option SyntaxRefusal) → refusal_of before ≡ o → Refused before behind refusal
+    by_refusal None is = refused_now S T before behind refusal (flushes is)
+    by_refusal (Some given) is =
         let (one, same, rest) = subst (λ o. IfSome o (λ x. (failed refusal ≡ Err x) × (behind ≡ before) × Same))
         is again in
         refused_before before behind given refusal is cc same

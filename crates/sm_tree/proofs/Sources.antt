@@ -174,11 +174,11 @@ pub fed_on : {R : Type 0} (s : SourceOf R) (S T : StandsFor) (before behind : R)
     → IfSome (s.refusal before) (λ given. (res ≡ Err given) × (behind ≡ before) × Same)
     → (Same → (es : List NodeEvent) → S es → T es) → HasFed s before S bytes → (res ≡ Err NoMemory → ⊥)
     → HasFed s behind T (bytes ++ piece)
-fed_on s S T before behind bytes piece res Same feeds again on fed other = at (s.refusal before) refl
+fed_on s S T before behind bytes piece res Same feeds again on fed other = by_refusal (s.refusal before) refl
   where
-    at : (o : Option SyntaxRefusal) → s.refusal before ≡ o → HasFed s behind T (bytes ++ piece)
-    at None is = fed_now s S T before behind bytes piece res is (feeds is) fed other
-    at (Some given) is =
+    by_refusal : (o : Option SyntaxRefusal) → s.refusal before ≡ o → HasFed s behind T (bytes ++ piece)
+    by_refusal None is = fed_now s S T before behind bytes piece res is (feeds is) fed other
+    by_refusal (Some given) is =
         let (told, same, rest) = subst (λ o. IfSome o (λ x. (res ≡ Err x) × (behind ≡ before) × Same)) is again in
         subst (λ q. HasFed s q T (bytes ++ piece)) (sym same) (fed_again s S T before bytes piece given is (on rest) fed)
 
@@ -214,23 +214,23 @@ few_before T S bytes at few trees follows (es, done) =
 pub few_fed : {R : Type 0} (s : SourceOf R) (r : R) (S : StandsFor) (bytes : List ℕ) → TimesTexts s.syntax.text s.timing
     → HasFewEvents s.timing → BeginsTrees s.timing → ReadCompletes s → (s.refusal r ≡ Some NoMemory → ⊥) → HasFed s r S bytes
     → HoldsFew S bytes
-few_fed s r S bytes times few trees complete memory (stands, going, follows) = at (s.refusal r) refl
+few_fed s r S bytes times few trees complete memory (stands, going, follows) = by_refusal (s.refusal r) refl
   where
-    at : (o : Option SyntaxRefusal) → s.refusal r ≡ o → HoldsFew S bytes
-    at None is =
+    by_refusal : (o : Option SyntaxRefusal) → s.refusal r ≡ o → HoldsFew S bytes
+    by_refusal None is =
         let (es, done) = complete r bytes (come_read s r bytes is stands.1) in
         (es, subst (λ o. FollowsAs s.timing S o bytes) is follows es done, few bytes es done, trees bytes es done)
-    at (Some Ended) is = absurd (going is)
-    at (Some NoMemory) is = absurd (memory is)
-    at (Some (Bad p)) is =
+    by_refusal (Some Ended) is = absurd (going is)
+    by_refusal (Some NoMemory) is = absurd (memory is)
+    by_refusal (Some (Bad p)) is =
         let refused = come_refused s r bytes (Bad p) is stands.1 in
         few_before s.timing S bytes p few trees (subst (λ o. FollowsAs s.timing S o bytes) is follows)
         (begun_completes s.syntax.text s.timing (take p bytes) times refused.bad.before)
-    at (Some (TooDeep p)) is =
+    by_refusal (Some (TooDeep p)) is =
         let refused = come_refused s r bytes (TooDeep p) is stands.1 in
         few_before s.timing S bytes p few trees (subst (λ o. FollowsAs s.timing S o bytes) is follows)
         (begun_completes s.syntax.text s.timing (take p bytes) times refused.before)
-    at (Some (KeyKind p)) is =
+    by_refusal (Some (KeyKind p)) is =
         let refused = come_refused s r bytes (KeyKind p) is stands.1 in
         few_before s.timing S bytes p few trees (subst (λ o. FollowsAs s.timing S o bytes) is follows)
         (begun_completes s.syntax.text s.timing (take p bytes) times refused.bad.before)
