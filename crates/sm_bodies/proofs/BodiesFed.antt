@@ -1,17 +1,26 @@
 -- Of a body by pieces: from what its reader says of a sink to what it says of the decoder in the sink.
-use Rattle.std.proofs.Common.{◌≡◌, ◌+◌, ◌-◌, ℕ, List, [], ◌++◌, None, take, drop, sym, ap, ◌∙◌, subst}
+use Rattle.std.proofs.Common.{arith, length, ◌≡◌, ◌≤◌, ◌+◌, ◌*◌, ◌-◌, ℕ, List, [], ◌++◌, None, Some, take, drop, suc, refl, sym, ap, ◌∙◌, subst}
 use Rattle.std.proofs.Math.Seq.{take-add}
+use Rattle.std.proofs.lemmas.Nat.{mul-le}
 use Rattle.std.specs.Prelude.{Result, Ok, Err, OnOk, IfSome}
 use Rattle.sm_tree.specs.Events.{NodeEvent}
 use Rattle.sm_tree.specs.Streams.{StandsFor}
 use Rattle.sm_tree.specs.Syntax.{Syntax}
-use Rattle.sm_tree.specs.Timing.{Completes}
-use Rattle.sm_tree.specs.Sources.{SourceOf, SourceStands, HasFed, MayFeed, SourceFeeds, ReadsInto}
+use Rattle.sm_tree.specs.Timing.{Follows}
+use Rattle.sm_tree.specs.TimingLaws.{TimesTexts, HasFewEvents, BeginsTrees}
+use Rattle.sm_tree.specs.Limits.{most_levels}
+use Rattle.sm_tree.specs.Building.{Building, nothing, whole, within, kinds}
+use Rattle.sm_tree.specs.OpenLevels.{OpensNoMore, KindsAreLevels}
+use Rattle.sm_codec.specs.Walk.{levels_open}
+use Rattle.std.proofs.lemmas.List.{length-map}
+use Rattle.sm_tree.specs.Sources.{SourceOf, SourceStands, FollowsAs, HasFed, MayFeed, SourceFeeds, ReadsInto, ReadCompletes}
 use Rattle.sm_tree.specs.declared.refusal.SyntaxRefusal.{SyntaxRefusal}
 use Rattle.sm_tree.specs.declared.refusal.SyntaxRefusal.TheVariants.{Ended, NoMemory}
-use Rattle.sm_tree.proofs.Sources.{no_refusal, fed_on}
-use Rattle.sm_shapes.specs.InOrder.{Shaped, AreStored}
+use Rattle.sm_tree.proofs.Sources.{no_refusal, none_yet, follows_now, fed_to, fed_on, few_fed}
+use Rattle.sm_shapes.specs.InOrder.{Shaped, AreStored, most_defaults}
+use Rattle.sm_codec.specs.Bound.{decoding_nodes, known_trees, StaysBounded}
 use Rattle.sm_codec.specs.Codec.{Codec}
+use Rattle.sm_codec.specs.CodecLaws.{IsCodec}
 use Rattle.sm_codec.specs.DecodingView.{decoding_of, decodes_so_far, IsFed}
 use Rattle.sm_codec.specs.Kept.{Kept}
 use Rattle.sm_codec.specs.declared.decoder.Decoder.{Decoder}
@@ -23,39 +32,45 @@ on_ok (Err e) h f = tt
 
 -- a body that was begun
 pub body_begun : {R : Type 0} (s : SourceOf R) (c : Codec) (shape : ℕ) (r : R) (d : Decoder) → SourceStands s r [] → s.refusal r ≡ None
-    → ((es : List NodeEvent) → Completes s.timing [] es → es ≡ []) → Kept c [] (decoding_of d) → (decoding_of d).shape ≡ shape
-    → BodyFed s c shape r d []
-body_begun s c shape r d stands fresh none_yet empty is = (
-  is,
-  (
-    stands,
-    λ ended. no_refusal (s.refusal r) Ended fresh ended,
-    λ still es done. subst (λ fs. Kept c fs (decoding_of d)) (sym (none_yet es done)) empty,
-  ),
-)
+    → HasFewEvents s.timing → Kept c [] (decoding_of d) → (decoding_of d).shape ≡ shape → BodyFed s c shape r d []
+body_begun s c shape r d stands fresh few empty is =
+    let follows : Follows s.timing (decodes_so_far c d) [] = λ es done.
+    subst (λ fs. Kept c fs (decoding_of d)) (sym (none_yet s.timing few es done)) empty in (
+      is,
+      (
+        stands,
+        λ ended. no_refusal (s.refusal r) Ended fresh ended,
+        subst (λ o. FollowsAs s.timing (decodes_so_far c d) o []) (sym fresh) follows,
+      ),
+    )
 
 -- a sink with the decoder stands for what the decoder does
 sink_fed : {R : Type 0} (s : SourceOf R) (c : Codec) (added : List (List ℕ)) (r : R) (d : Decoder) (bytes : List ℕ) → Shaped c.table
     → AreStored c.table.patterns added → HasFed s r (decodes_so_far c d) bytes → HasFed s r (IsFed c added d) bytes
-sink_fed s c added r d bytes shaped stored (stands, going, follows) =
-    (stands, going, λ fresh es done. (follows fresh es done, shaped, stored))
+sink_fed s c added r d bytes shaped stored fed =
+    fed_to s r (decodes_so_far c d) (IsFed c added d) bytes (λ es kept. (kept, shaped, stored)) fed
 
 pub may_feed : {R : Type 0} (s : SourceOf R) (c : Codec) (added : List (List ℕ)) (r : R) (d : Decoder) → Shaped c.table
     → AreStored c.table.patterns added → SomeFed s c r d → MayFeed s r (IsFed c added d)
-may_feed s c added r d shaped stored (shape, bytes, (is, (stands, going, follows))) =
-    λ fresh. (bytes, stands, λ es done. (follows fresh es done, shaped, stored))
+may_feed s c added r d shaped stored (shape, bytes, (is, fed)) =
+    λ fresh. (
+      bytes,
+      fed.0,
+      follows_now s r (IsFed c added d) bytes fresh (sink_fed s c added r d bytes shaped stored fed),
+    )
 
 -- a piece, and the end
 pub piece_fed : {R : Type 0} (s : SourceOf R) (c : Codec) (added : List (List ℕ)) (T : StandsFor) (before behind : R) (d e : Decoder)
     (piece : List ℕ) (res : Result (Unit {0}) SyntaxRefusal) (Same : Type 0) → Shaped c.table → AreStored c.table.patterns added
     → (s.refusal before ≡ None → SourceFeeds s (IsFed c added d) before piece T behind res)
     → IfSome (s.refusal before) (λ given. (res ≡ Err given) × (behind ≡ before) × Same)
-    → ((es : List NodeEvent) → T es → Kept c es (decoding_of e)) → (decoding_of d).shape ≡ (decoding_of e).shape → (shape : ℕ)
-    (bytes : List ℕ) → BodyFed s c shape before d bytes → (res ≡ Err NoMemory → ⊥) → BodyFed s c shape behind e (bytes ++ piece)
-piece_fed s c added T before behind d e piece res Same shaped stored feeds again kept same shape bytes (is, fed) other =
+    → (Same → (es : List NodeEvent) → IsFed c added d es → T es) → ((es : List NodeEvent) → T es → Kept c es (decoding_of e))
+    → (decoding_of d).shape ≡ (decoding_of e).shape → (shape : ℕ) (bytes : List ℕ) → BodyFed s c shape before d bytes
+    → (res ≡ Err NoMemory → ⊥) → BodyFed s c shape behind e (bytes ++ piece)
+piece_fed s c added T before behind d e piece res Same shaped stored feeds again still kept same shape bytes (is, fed) other =
     let sink = sink_fed s c added before d bytes shaped stored fed in
-    let (stands, going, follows) = fed_on s (IsFed c added d) T before behind bytes piece res Same feeds again sink other in
-    (sym same ∙ is, (stands, going, λ fresh es done. kept es (follows fresh es done)))
+    let on = fed_on s (IsFed c added d) T before behind bytes piece res Same feeds again still sink other in
+    (sym same ∙ is, fed_to s behind T (decodes_so_far c e) (bytes ++ piece) kept on)
 
 read_as : (F : Syntax) (T U : StandsFor) (bytes : List ℕ) (res : Result (Unit {0}) SyntaxRefusal) → ((es : List NodeEvent) → T es → U es)
     → ReadsInto F T bytes res → ReadsInto F U bytes res
@@ -73,3 +88,37 @@ end_fed s c added T r d e res shaped stored ends kept shape bytes (is, fed) =
 -- the bytes so far, and a piece of so many behind them
 pub piece_behind : (i n k : ℕ) (xs : List ℕ) → k ≡ n → take i xs ++ take k (drop i xs) ≡ take (i + n) xs
 piece_behind i n k xs same = ap (λ m. take i xs ++ take m (drop i xs)) same ∙ sym (take-add i n xs)
+
+-- what it holds is bounded: its values by its bytes, and its frames by the levels that are read
+pub held_few : {R : Type 0} (s : SourceOf R) (c : Codec) (shape : ℕ) (r : R) (d : Decoder) (bytes : List ℕ)
+    → TimesTexts s.syntax.text s.timing → HasFewEvents s.timing → BeginsTrees s.timing → ReadCompletes s → IsCodec c
+    → StaysBounded (decoding_of d) → (s.refusal r ≡ Some NoMemory → ⊥) → BodyFed s c shape r d bytes
+    → decoding_nodes (decoding_of d) ≤ (1 + most_defaults c.table) * (2 * length bytes)
+held_few s c shape r d bytes times few trees complete laws stays memory (is, fed) =
+    let (es, kept, count, begins) = few_fed s r (decodes_so_far c d) bytes times few trees complete memory fed in
+    let bounded = stays c es laws kept in
+    let nodes = bounded.nodes in
+    let known = bounded.trees in
+    let all = mul-le (1 + most_defaults c.table) (known_trees c (decoding_of d).shape kept.building) (1 + most_defaults c.table)
+    (2 * length bytes) (omega arith) (omega (arith, known, count)) in
+    omega (arith, nodes, all)
+
+levels_counted : (b : Building) → length (levels_open b) ≡ length (kinds b)
+levels_counted (nothing ts) = refl
+levels_counted (whole n) = refl
+levels_counted (within ts inner outer) = ap suc (length-map outer _ ∙ sym (length-map outer _))
+
+pub held_shallow : {R : Type 0} (s : SourceOf R) (c : Codec) (shape : ℕ) (r : R) (d : Decoder) (bytes : List ℕ)
+    → TimesTexts s.syntax.text s.timing → HasFewEvents s.timing → BeginsTrees s.timing → ReadCompletes s → OpensNoMore → KindsAreLevels
+    → IsCodec c → StaysBounded (decoding_of d) → (s.refusal r ≡ Some NoMemory → ⊥) → BodyFed s c shape r d bytes
+    → length (decoding_of d).frames ≤ most_levels + 1
+held_shallow s c shape r d bytes times few trees complete opens levelled laws stays memory (is, fed) =
+    let (es, kept, count, begins) = few_fed s r (decodes_so_far c d) bytes times few trees complete memory fed in
+    let (n, more, stream, room) = begins in
+    let bounded = stays c es laws kept in
+    let frames = bounded.frames in
+    let around = bounded.around in
+    let same = levels_counted kept.building in
+    let open_kinds = levelled kept.building in
+    let open_few = opens kept.building es more n kept.taken stream in
+    omega (arith, frames, around, same, open_kinds, open_few, room)

@@ -1,11 +1,13 @@
 // A body whose bytes come in pieces: they go through a reader of their format into a decoder, and no tree is made.
-ghost use Rattle.std.specs.Prelude.{◌≡◌, ◌<◌, ◌++◌, ◌-◌, ◌^◌, [], ℕ, List, Err, OnOk, IfOk, min, length};
+ghost use Rattle.std.specs.Prelude.{◌≡◌, ◌<◌, ◌≤◌, ◌+◌, ◌*◌, ◌++◌, ◌-◌, ◌^◌, [], ℕ, List, Some, Err, OnOk, IfOk, min, length};
 ghost use Rattle.sm_bytes.specs.Lengths.{length_word};
-ghost use Rattle.sm_shapes.specs.InOrder.{Shaped, AreStored, DefaultsPass};
+ghost use Rattle.sm_tree.specs.Limits.{most_levels};
+ghost use Rattle.sm_shapes.specs.InOrder.{Shaped, AreStored, DefaultsPass, most_defaults};
 ghost use Rattle.sm_shapes.specs.TableData.{shape_count};
 ghost use Rattle.sm_shapes.specs.TableView.{table_data};
 ghost use Rattle.sm_codec.specs.Bound.{decoding_nodes, StaysBounded};
 ghost use Rattle.sm_codec.specs.Codec.{Codec, codec_of};
+ghost use Rattle.sm_codec.specs.CodecLaws.{IsCodec};
 ghost use Rattle.sm_codec.specs.DecodingView.{decoding_of};
 ghost use Rattle.sm_bodies.specs.Bodies.{DecodesAs};
 ghost use Rattle.sm_bodies.specs.Fed.{BodyFed, SomeFed};
@@ -193,19 +195,32 @@ impl<S: EventSource + Drop> Body<S> {
         answered(decoder, read)
     }
 
-    /// How many nodes the values have that its decoder holds, or the greatest `u64` where that is more. No memory.
+    /// How many nodes the values have that its decoder holds, or the greatest `u64` where that is more: at most two for each byte that has
+    /// come, and the defaults of one structure with each. No memory.
     pub fn nodes(&self) -> u64
         ensures exact { result ≡ length_word (decoding_nodes (decoding_of self.now.decoder)) }
         ensures bounded { StaysBounded (decoding_of self.now.decoder) }
+        ensures few { (c : Codec) (shape : ℕ) (bytes : List ℕ) → IsCodec c
+            → ((S.source).refusal self.now.reader ≡ Some SyntaxRefusal.NoMemory → ⊥)
+            → BodyFed S.source c shape self.now.reader self.now.decoder bytes
+            → decoding_nodes (decoding_of self.now.decoder) ≤ (1 + most_defaults c.table) * (2 * length bytes) }
     {
+        S::laws();
         self.decoder.nodes()
     }
 
-    /// How many frames its decoder has, or the greatest `u32` where these are more. No memory.
+    /// How many frames its decoder has, or the greatest `u32` where these are more: at most one for each of 100 levels, and one more. No
+    /// memory.
     pub fn depth(&self) -> u32
         ensures exact { result ≡ min (length (decoding_of self.now.decoder).frames) (2 ^ 32 - 1) }
         ensures bounded { StaysBounded (decoding_of self.now.decoder) }
+        ensures few { (c : Codec) (shape : ℕ) (bytes : List ℕ) → IsCodec c
+            → ((S.source).refusal self.now.reader ≡ Some SyntaxRefusal.NoMemory → ⊥)
+            → BodyFed S.source c shape self.now.reader self.now.decoder bytes
+            → length (decoding_of self.now.decoder).frames ≤ most_levels + 1 }
     {
+        S::laws();
+        sm_tree::laws::opens_no_more();
         self.decoder.depth()
     }
 }

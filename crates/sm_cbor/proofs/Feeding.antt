@@ -17,14 +17,14 @@ use Rattle.sm_tree.proofs.Awaited.{whole_closed}
 use Rattle.sm_tree.proofs.LongerBytes.{refused_longer}
 use Rattle.sm_tree.proofs.Sources.{come_read, read_come, refused_come}
 use Rattle.sm_cbor.specs.CborItem.{CborItem}
-use Rattle.sm_tree.specs.Timing.{Follows}
+use Rattle.sm_tree.specs.Timing.{Completes, Follows}
 use Rattle.sm_tree.specs.Syntax.{Reads, IsRead, IsRefused}
 use Rattle.sm_tree.specs.Refusal.{IsWithin, moved_by}
 use Rattle.sm_tree.specs.declared.refusal.SyntaxRefusal.{SyntaxRefusal}
 use Rattle.sm_tree.specs.declared.refusal.SyntaxRefusal.TheVariants.{Bad, Ended, TooDeep, KeyKind, NoMemory}
 use Rattle.sm_cbor.specs.Timing.{cbor_timing}
 use Rattle.sm_cbor.specs.Refusals.{cbor_syntax}
-use Rattle.sm_cbor.specs.Stands.{CborRuns, cbor_source, CborStands, CborFeeds, CborEndsWith}
+use Rattle.sm_cbor.specs.Stands.{CborRuns, CborHasRead, cbor_source, CborStands, CborFeeds, CborEndsWith}
 use Rattle.sm_cbor.specs.steps.Marks.{plain}
 use Rattle.sm_cbor.specs.steps.Rest.{CborLeads, first_state}
 use Rattle.sm_cbor.specs.steps.Sinks.{Reached}
@@ -51,6 +51,12 @@ first_come r first sound = record {
   leads = λ w limit high. subst (λ x. CborLeads w limit first_state [] [] x) (sym first) (leads_none w limit first_state);
   sound = sound;
 }
+
+-- what was read completes what was handed on
+pub read_completes : (r : CborReader) (bs : List ℕ) → CborHasRead r bs → (es : List NodeEvent) × Completes cbor_timing bs es
+read_completes r bs (out, run, taken) =
+    let there = can r.reader run.sound in
+    (out, leads_complete bs out (cbor_state_of r.reader) (plainly bs out r.reader run) run.sound.begun there.0 there.1)
 
 -- what the sink stands for, and has reached
 handed : (S : StandsFor) (bs : List ℕ) (out : List NodeEvent) (r : Reader) → CborRuns bs out r → Follows cbor_timing S bs → S out

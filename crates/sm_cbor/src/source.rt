@@ -1,6 +1,7 @@
 // The reader of CBOR items as a source of events.
 ghost use Rattle.sm_cbor.specs.Stands.{cbor_source};
 
+use crate::laws;
 use crate::pieces::CborReader;
 use sm_tree::{EventSink, EventSource, SyntaxRefusal};
 use std::alloc::Global;
@@ -21,5 +22,10 @@ impl EventSource for CborReader {
         self.end()
     }
 
-    fn laws() {}
+    fn laws() {
+        laws::timing();
+        laws::few_events();
+        laws::one_completion();
+        laws::begins_trees();
+    }
 }

@@ -5,7 +5,7 @@ use Rattle.sm_tree.specs.Streams.{StandsFor}
 use Rattle.sm_tree.specs.Sources.{HasFed, RefusedSo, ReadsInto}
 use Rattle.sm_tree.specs.declared.refusal.SyntaxRefusal.{SyntaxRefusal}
 use Rattle.sm_tree.specs.declared.refusal.SyntaxRefusal.TheVariants.{Bad, Ended, TooDeep, KeyKind, NoMemory}
-use Rattle.sm_tree.proofs.Sources.{come_refused, refused_come, end_refused}
+use Rattle.sm_tree.proofs.Sources.{come_refused, refused_come, end_refused, follows_now}
 use Rattle.sm_tree.specs.Timing.{CompletesAll}
 use Rattle.sm_json.specs.JsonText.{json_syntax}
 use Rattle.sm_json.specs.Timing.{json_timing}
@@ -61,8 +61,9 @@ was_fresh (Some given) x Kept Same (one, kept, same) = cc
 ends_so : (S T : StandsFor) (before behind : JsonReader) (bytes : List ℕ) (x : Unit {0}) (end : Result (Unit {0}) SyntaxRefusal)
     → HasFed json_source before S bytes → refusal_of before ≡ None → JsonFlushes S before T behind (Ok x)
     → JsonEndsWith behind bytes end → ReadsInto json_syntax T bytes end
-ends_so S T before behind bytes x (Ok y) (stands, going, follows) fresh flushes (n, es, read, complete, stream) =
-    let (come, all) = flushes.1 bytes stands in (n, es, read, stream, (all (follows fresh)).0 es complete)
+ends_so S T before behind bytes x (Ok y) fed fresh flushes (n, es, read, complete, stream) =
+    let (come, all) = flushes.1 bytes fed.0 in
+    (n, es, read, stream, (all (follows_now json_source before S bytes fresh fed)).0 es complete)
 ends_so S T before behind bytes x (Err refusal) fed fresh flushes ends =
     end_refused json_source (CompletesAll json_timing) behind bytes refusal ends
 

@@ -325,7 +325,9 @@ no_null j bytes fresh other come =
           absurd (other (read.black ∙ black ∙ ap Some is)),
     )
 
+-- what was read completes what was handed on
+pub read_completes : (j : JsonReader) (bytes : List ℕ) → JsonHasRead j bytes → (es : List NodeEvent) × Completes json_timing bytes es
+read_completes j bytes read = (read.out, bytes_complete read.first j.reader bytes read.out read.goes read.begins)
+
 pub standing_completes : StandingCompletes
-standing_completes j bytes come fresh =
-    let read : JsonHasRead j bytes = come_read json_source j bytes fresh come in
-    (read.out, bytes_complete read.first j.reader bytes read.out read.goes read.begins)
+standing_completes j bytes come fresh = read_completes j bytes (come_read json_source j bytes fresh come)

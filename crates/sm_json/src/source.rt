@@ -26,6 +26,9 @@ impl EventSource for JsonReader {
     }
 
     fn laws() {
-        laws::no_event_yet();
+        laws::timing();
+        laws::few_events();
+        laws::one_completion();
+        laws::begins_trees();
     }
 }

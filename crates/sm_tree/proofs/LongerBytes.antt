@@ -5,7 +5,7 @@ use Rattle.sm_tree.specs.Syntax.{TreeFormat, Syntax, Begins, BeginsRead, IsBadAt
 use Rattle.sm_tree.specs.declared.refusal.SyntaxRefusal.{SyntaxRefusal}
 use Rattle.sm_tree.specs.declared.refusal.SyntaxRefusal.TheVariants.{Bad, Ended, TooDeep, KeyKind, NoMemory}
 
-same_prefix : (bs more : List ℕ) (n : ℕ) → n ≤ length bs → take n (bs ++ more) ≡ take n bs
+pub same_prefix : (bs more : List ℕ) (n : ℕ) → n ≤ length bs → take n (bs ++ more) ≡ take n bs
 same_prefix bs more n inside = take-append-le n bs more inside
 
 bad_longer : (F : TreeFormat) (bs more : List ℕ) (i : ℕ) → IsBadAt F bs i → IsBadAt F (bs ++ more) i

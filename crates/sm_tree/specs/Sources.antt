@@ -5,7 +5,7 @@ use Rattle.sm_tree.specs.Node.{Node}
 use Rattle.sm_tree.specs.Events.{NodeEvent}
 use Rattle.sm_tree.specs.Streams.{StandsFor, Streams}
 use Rattle.sm_tree.specs.Syntax.{Syntax, IsRead, IsRefused}
-use Rattle.sm_tree.specs.Timing.{Timing, Follows}
+use Rattle.sm_tree.specs.Timing.{Timing, Completes, Follows}
 use Rattle.sm_tree.specs.declared.refusal.SyntaxRefusal.{SyntaxRefusal}
 use Rattle.sm_tree.specs.declared.refusal.SyntaxRefusal.TheVariants.{Bad, Ended, TooDeep, KeyKind, NoMemory}
 
@@ -41,9 +41,23 @@ HasCome s r bytes = ComeAs s (s.refusal r) r bytes
 abbrev pub SourceStands : {R : Type 0} → SourceOf R → R → List ℕ → Type 0
 SourceStands s r bytes = s.may_grow r × HasCome s r bytes
 
--- so they have, no end was refused, and where none of them is refused, the sink stands for what they complete
+-- what stands for streams by this relation stands for the events that the bytes complete; where they are refused at a place, for those
+-- that the bytes before it complete
+abbrev pub FollowsAs : Timing → StandsFor → Option SyntaxRefusal → List ℕ → Type 0
+FollowsAs T S None bytes = Follows T S bytes
+FollowsAs T S (Some Ended) bytes = Follows T S bytes
+FollowsAs T S (Some (Bad at)) bytes = Follows T S (take at bytes)
+FollowsAs T S (Some (TooDeep at)) bytes = Follows T S (take at bytes)
+FollowsAs T S (Some (KeyKind at)) bytes = Follows T S (take at bytes)
+FollowsAs T S (Some NoMemory) bytes = Unit {0}
+
+-- these bytes have come, and more may; no end was refused; and the sink stands for what they complete
 abbrev pub HasFed : {R : Type 0} → SourceOf R → R → StandsFor → List ℕ → Type 0
-HasFed s r S bytes = SourceStands s r bytes × (s.refusal r ≡ Some Ended → ⊥) × (s.refusal r ≡ None → Follows s.timing S bytes)
+HasFed s r S bytes = SourceStands s r bytes × (s.refusal r ≡ Some Ended → ⊥) × FollowsAs s.timing S (s.refusal r) bytes
+
+-- bytes that were read complete some events
+abbrev pub ReadCompletes : {R : Type 0} → SourceOf R → Type 0
+ReadCompletes {R = R} s = (r : R) (bytes : List ℕ) → s.has_read r bytes → (es : List NodeEvent) × Completes s.timing bytes es
 
 -- it has refused; or some bytes have come, and the sink stands for what they complete
 abbrev pub MayFeed : {R : Type 0} → SourceOf R → R → StandsFor → Type 0

@@ -1,10 +1,9 @@
 // Readers that take the bytes of one text in pieces, and hand its events to any sink as soon as their bytes are complete.
 ghost use Rattle.std.specs.Prelude.{◌≡◌, IfSome, IfErr, ℕ, List, [], None, Some, Err};
-ghost use Rattle.sm_tree.specs.Events.{NodeEvent};
 ghost use Rattle.sm_tree.specs.Streams.{TakesEvery};
-ghost use Rattle.sm_tree.specs.Timing.{Completes};
+ghost use Rattle.sm_tree.specs.TimingLaws.{TimesTexts, HasOneCompletion, HasFewEvents, BeginsTrees};
 ghost use Rattle.sm_tree.specs.ReaderClauses.{TakesStill, StaysRefused};
-ghost use Rattle.sm_tree.specs.Sources.{SourceOf, SourceStands, HasCome, HasFed, MayFeed, SourceFeeds, ReadsInto};
+ghost use Rattle.sm_tree.specs.Sources.{SourceOf, SourceStands, HasCome, HasFed, MayFeed, SourceFeeds, ReadsInto, ReadCompletes};
 
 use crate::event::EventSink;
 use crate::refusal::SyntaxRefusal;
@@ -53,8 +52,11 @@ pub trait EventSource {
         ensures refused { IfErr result (λ refusal. source.refusal self.new ≡ Some refusal) }
         ensures alike { E.alike to.old to.new };
 
-    /// What holds of the format's times: before the first byte no event is complete. The call does nothing: code over any source makes it
-    /// to know it.
+    /// What holds of the format's times. The call does nothing: code over any source makes it to know it.
     fn laws()
-        ensures { (es : List NodeEvent) → Completes source.timing [] es → es ≡ [] };
+        ensures times { TimesTexts source.syntax.text source.timing }
+        ensures few { HasFewEvents source.timing }
+        ensures one { HasOneCompletion source.timing }
+        ensures begin { BeginsTrees source.timing }
+        ensures complete { ReadCompletes source };
 }

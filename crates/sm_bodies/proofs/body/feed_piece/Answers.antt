@@ -16,7 +16,7 @@ returns-clause-fed g c =
     let to = c.feed.new.to in
     piece_fed g.S.EventSource.source (codec_of (table_data c.args.table.now) (g.L.Leaves.convention c.args.leaves.now) g.P.Patterns.test)
     (g.P.Patterns.added c.args.patterns.now) _ c.args.reader.now c.feed.new.self c.args.decoder.now to.decoder.now c.args.piece.now
-    c.feed.result _ c.requires.shaped c.requires.stored c.feed.ensures.feeds c.feed.ensures.again
+    c.feed.result _ c.requires.shaped c.requires.stored c.feed.ensures.feeds c.feed.ensures.again (λ same es stands. rw same stands)
     (λ es stands. subst (λ t. Kept (codec_of (table_data t) (g.L.Leaves.convention c.args.leaves.now) g.P.Patterns.test) es
     (decoding_of to.decoder.now)) (sym c.feed.ensures.alike.0)
     (subst (λ l. Kept (codec_of (table_data to.table.now) (g.L.Leaves.convention l) g.P.Patterns.test) es (decoding_of to.decoder.now))

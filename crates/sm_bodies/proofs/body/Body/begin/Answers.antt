@@ -4,4 +4,4 @@ use Rattle.sm_bodies.proofs.body.Body.begin.Goals as goal
 pub returns-in-Ok : goal.returns-in-Ok
 returns-in-Ok g c = λ codec same.
     body_begun g.S.EventSource.source codec c.args.shape c.begin.result c.in-Ok.decoder c.begin.ensures.stands c.begin.ensures.fresh
-    c.laws.ensures (c.in-Ok.ensures.empty codec same) c.in-Ok.ensures.shape
+    c.laws.ensures.few (c.in-Ok.ensures.empty codec same) c.in-Ok.ensures.shape

@@ -1,5 +1,5 @@
-use Rattle.sm_cbor.proofs.Completing.{nothing_complete}
+use Rattle.sm_cbor.proofs.Feeding.{read_completes}
 use Rattle.sm_cbor.proofs.source.CborReaderEventSource.laws.Goals as goal
 
-pub returns : goal.returns
-returns c = nothing_complete
+pub returns-clause-complete : goal.returns-clause-complete
+returns-clause-complete c = read_completes
