@@ -10,3 +10,5 @@ pub mod DefaultsPut
 pub mod SortedTwice
 mod KnownValues
 pub mod Regexes
+mod WholeCharacters
+pub mod Searches

@@ -3,6 +3,7 @@
 #![tactic(auto)]
 
 mod any_patterns;
+mod compiled;
 pub mod constraints;
 mod enums;
 mod fault;
