@@ -5,6 +5,7 @@
 mod any_patterns;
 mod compiled;
 pub mod constraints;
+mod copies;
 mod enums;
 mod fault;
 mod judging;
@@ -12,6 +13,7 @@ pub mod kinds;
 pub mod laws;
 mod literal_patterns;
 mod order;
+mod pattern_rows;
 mod patterns;
 mod regex_patterns;
 mod rows;
