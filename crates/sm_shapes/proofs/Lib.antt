@@ -6,7 +6,11 @@ pub mod NamedMembers
 pub mod FieldPlaces
 pub mod PatternNumbers
 pub mod FirstBroken
+mod MembersPut
 pub mod DefaultsPut
+pub mod BindingsPut
 pub mod SortedTwice
 mod KnownValues
 pub mod Regexes
+mod WholeCharacters
+pub mod Searches

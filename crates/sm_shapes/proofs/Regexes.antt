@@ -1,6 +1,6 @@
--- A regex that was compiled from a text finds what the text's own reading finds; and the test holds exactly of the texts of which
--- some part matches.
-use Rattle.std.proofs.Common.{◌≡◌, ◌↔◌, ◌∙◌, ℕ, ◌+◌, ◌≤◌, ◌<◌, Bool, true, false, List, length, get_or, Option, Some, None, IsSomeAnd}
+-- What is compiled from a text finds what the text's own reading finds, and what isn't compiled the crate refuses; and the test holds
+-- exactly of the texts of which some part matches.
+use Rattle.std.proofs.Common.{◌≡◌, ◌≢◌, ◌↔◌, ◌∙◌, ℕ, ◌+◌, ◌≤◌, ◌<◌, Bool, true, false, List, length, get_or, Option, Some, None, IsSomeAnd}
 use Rattle.std.proofs.Common.{is_some, IsCharBoundary, refl, sym, ap, subst, arith}
 use Rattle.std.specs.Prelude.{Result, Ok, Err, IfOk, IsTrue}
 use Rattle.std.specs.Str.{chars}
@@ -13,15 +13,17 @@ use Rattle.regex_hir.specs.Meaning.{meaning}
 use Rattle.regex_hir.proofs.FindLemmas.{IsFirst-of_first_between}
 use Rattle.regex_hir.proofs.AttemptLemmas.{cond_some}
 use Rattle.regex_hir.proofs.OptionLemmas.{value_of_IsSome}
-use Rattle.regex_syntax.specs.Verdict.{Reads}
+use Rattle.regex_hir.specs.declared.hir.Hir.{Hir}
+use Rattle.regex_syntax.specs.Verdict.{Reads, Refuses}
 use Rattle.regex_syntax.specs.Captures.{SameCaptures}
 use Rattle.regex_syntax.specs.Grammar.{Names, group_count}
 use Rattle.regex.specs.Patterns.{find_str, default_config}
-use Rattle.regex.specs.Strings.{regex_source, regex_config, IsReadFromSource}
-use Rattle.regex.specs.declared.string.regex.Regex.{Regex}
+use Rattle.regex_syntax.specs.declared.error.Error as parser
+use Rattle.regex_syntax.specs.declared.error.ErrorKind.TheVariants.{OutOfMemory}
+use Rattle.regex.specs.declared.error.Error.TheVariants.{Syntax, CompiledTooBig}
 use Rattle.regex.proofs.ForCallers.{is_match_alike, find_str_sound, find_str_complete}
 use Rattle.regex.proofs.Utf8Lemmas.{IsCharBoundary-of_test}
-use Rattle.sm_shapes.specs.Regexes.{Reading, reading, IsRegex, found_in, regex_finds, FindsAsWritten, MatchesPart}
+use Rattle.sm_shapes.specs.Regexes.{Reading, reading, IsRegex, found_in, regex_finds, FindsAsWritten, MatchesPart, IsRefusedByCrate}
 
 -- the crate's clause on what was read, at a depth of at most `most`
 abbrev IsReadAs : Reading → ℕ → Re → Names → Type 0
@@ -37,16 +39,37 @@ depth_is : (o : Reading) (most : ℕ) (re : Re) (names : Names) → IsReadAs o m
 depth_is None most re names is = absurd is
 depth_is (Some read) most re names is = is.0
 
--- what `Regex::new` ensures gives the test of its text
-pub finds_as_written : (regex : Regex) → regex_config regex ≡ default_config → IsReadFromSource regex → FindsAsWritten regex
+-- what the parser reads in a text finds what the text does
+pub finds_as_written : (hir : Hir) (names : Names) (pattern : List ℕ) → Reads default_config pattern hir names
+    → FindsAsWritten (meaning hir) pattern
 unfolding Reads
-finds_as_written regex is_default is_read text bytes = found_alike _ _ _ _ (rw is_default at is_read) text bytes
+finds_as_written hir names pattern is text bytes = found_alike _ _ _ _ is text bytes
 
--- and that it is a pattern
-pub is_regex : (regex : Regex) (text : List ℕ) → regex_source regex ≡ text → regex_config regex ≡ default_config → IsReadFromSource regex
-    → IsRegex text
+-- and the text is a pattern
+pub is_regex : (hir : Hir) (names : Names) (pattern : List ℕ) → Reads default_config pattern hir names → IsRegex pattern
 unfolding Reads
-is_regex regex text is_source is_default is_read = depth_is _ _ _ _ (rw (is_source, is_default) at is_read)
+is_regex hir names pattern is = depth_is _ _ _ _ is
+
+-- what the parser refuses, the crate refuses
+pub refused_by_parser : (pattern : List ℕ) (e : parser.Error) → e.kind ≢ OutOfMemory → Refuses default_config pattern e.kind
+    → (e.span.start ≤ e.span.end) × IsCharBoundary pattern e.span.start × IsCharBoundary pattern e.span.end → IsRefusedByCrate pattern
+refused_by_parser pattern e other refuses span = (
+  Syntax e,
+  (λ is. cc),
+  (
+    (λ d is. subst (λ x. Refuses default_config pattern x.kind) (same_error e d is) refuses),
+    other,
+    λ d is. subst (λ x. (x.span.start ≤ x.span.end) × IsCharBoundary pattern x.span.start × IsCharBoundary pattern x.span.end)
+        (same_error e d is) span,
+  ),
+)
+  where
+    same_error : (e d : parser.Error) → Syntax e ≡ Syntax d → e ≡ d
+    same_error e d is = cc
+
+-- and what is a pattern, and yet not compiled, may be too big
+pub refused_as_too_big : (hir : Hir) (names : Names) (pattern : List ℕ) → Reads default_config pattern hir names → IsRefusedByCrate pattern
+refused_as_too_big hir names pattern is = (CompiledTooBig, (λ e. cc), ((λ d e. absurd cc), (hir, names, is), λ d e. absurd cc))
 
 found_part : (re : Re) (text : List ℕ) (m : Match) → find_str re text 0 ≡ Some m
     → (from to : ℕ) × IsCharBoundary text from × Matches text re from to

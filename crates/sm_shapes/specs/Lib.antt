@@ -9,6 +9,7 @@ pub mod TableData
 pub mod ConstraintView
 pub mod TableView
 pub mod DefaultPuts
+pub mod BindingPuts
 pub mod Places
 pub mod Broken
 pub mod Fitting

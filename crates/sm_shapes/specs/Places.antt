@@ -4,7 +4,7 @@ use Rattle.std.specs.Prelude.{ℕ, Bool, List, slice_index_or, Option}
 use Rattle.sm_time.specs.declared.format.Format.{Format}
 use Rattle.sm_shapes.specs.declared.kinds.ShapeKind.{ShapeKind}
 use Rattle.sm_shapes.specs.TableData.{TableData, ConstraintData, kind_at, members_at, shape_constraints_at, unique_at, sparse_at}
-use Rattle.sm_shapes.specs.TableData.{shape_format_at, target_at, constraints_at, format_at}
+use Rattle.sm_shapes.specs.TableData.{shape_format_at, shape_media_type_at, target_at, constraints_at, format_at, media_type_at}
 
 pub data Place : Type 0 where
   root_place : ℕ → Place
@@ -22,6 +22,10 @@ constraints_of t (member_place k) = constraints_at t k
 abbrev pub format_of : TableData → Place → Option Format
 format_of t (root_place s) = shape_format_at t s
 format_of t (member_place k) = format_at t k
+
+abbrev pub media_type_of : TableData → Place → Option (List ℕ)
+media_type_of t (root_place s) = shape_media_type_at t s
+media_type_of t (member_place k) = media_type_at t k
 
 abbrev pub kind_of : TableData → Place → ShapeKind
 kind_of t p = kind_at t (shape_of t p)

@@ -3,8 +3,7 @@
 use Rattle.std.specs.Prelude.{◌≡◌, ◌≢◌, ◌<◌, ◌≤◌, ℕ, Bool, false, List, Option, Some, None, IsSomeAnd, is_some, chars, slice_index_or}
 use Rattle.std.specs.Prelude.{IsCharBoundary}
 use Rattle.regex.specs.Patterns.{Re, Matches, find_str, default_config}
-use Rattle.regex.specs.Strings.{regex_pattern, regex_source, IsDefaultFailure}
-use Rattle.regex.specs.declared.string.regex.Regex.{Regex}
+use Rattle.regex.specs.Strings.{IsDefaultFailure}
 use Rattle.regex.specs.declared.error.Error.{Error}
 use Rattle.regex.specs.declared.error.Error.TheVariants.{OutOfMemory}
 use Rattle.regex_syntax.specs.Brackets.{Nested}
@@ -30,10 +29,10 @@ found_in (Some (re, names)) text = is_some (find_str re.value text 0)
 abbrev pub regex_finds : List ℕ → List ℕ → Bool
 regex_finds pattern text = found_in (reading pattern) text
 
--- a compiled regex finds in each text of bytes what its own text finds
-abbrev pub FindsAsWritten : Regex → Type 0
-FindsAsWritten regex = (text : List ℕ) → ((k : ℕ) → slice_index_or text k 0 < 256)
-    → is_some (find_str (regex_pattern regex) text 0) ≡ regex_finds (regex_source regex) text
+-- what was compiled finds in each text of bytes what the pattern's own text finds
+abbrev pub FindsAsWritten : Re → List ℕ → Type 0
+FindsAsWritten re pattern = (text : List ℕ) → ((k : ℕ) → slice_index_or text k 0 < 256)
+    → is_some (find_str re text 0) ≡ regex_finds pattern text
 
 -- what was read matches a part of the text that begins with a character
 abbrev pub MatchesPart : Reading → List ℕ → Type 0

@@ -108,9 +108,17 @@ abbrev pub sparse_in : Option ShapeData → Bool
 sparse_in None = false
 sparse_in (Some s) = s.sparse
 
+abbrev pub unit_in : Option ShapeData → Bool
+unit_in None = false
+unit_in (Some s) = s.unit
+
 abbrev pub shape_format_in : Option ShapeData → Option Format
 shape_format_in None = None
 shape_format_in (Some s) = s.format
+
+abbrev pub shape_media_type_in : Option ShapeData → Option (List ℕ)
+shape_media_type_in None = None
+shape_media_type_in (Some s) = s.media_type
 
 -- of a member that may be missing
 abbrev pub home_in : Option MemberData → ℕ
@@ -141,6 +149,10 @@ constraints_in (Some m) = m.constraints
 abbrev pub format_in : Option MemberData → Option Format
 format_in None = None
 format_in (Some m) = m.format
+
+abbrev pub media_type_in : Option MemberData → Option (List ℕ)
+media_type_in None = None
+media_type_in (Some m) = m.media_type
 
 abbrev pub binding_in : Option MemberData → Option BindingData
 binding_in None = None
@@ -179,8 +191,14 @@ unique_at t s = unique_in (slice_get t.shapes s)
 abbrev pub sparse_at : TableData → ℕ → Bool
 sparse_at t s = sparse_in (slice_get t.shapes s)
 
+abbrev pub unit_at : TableData → ℕ → Bool
+unit_at t s = unit_in (slice_get t.shapes s)
+
 abbrev pub shape_format_at : TableData → ℕ → Option Format
 shape_format_at t s = shape_format_in (slice_get t.shapes s)
+
+abbrev pub shape_media_type_at : TableData → ℕ → Option (List ℕ)
+shape_media_type_at t s = shape_media_type_in (slice_get t.shapes s)
 
 -- of the member with this number
 abbrev pub home_at : TableData → ℕ → ℕ
@@ -203,6 +221,9 @@ constraints_at t k = constraints_in (slice_get t.members k)
 
 abbrev pub format_at : TableData → ℕ → Option Format
 format_at t k = format_in (slice_get t.members k)
+
+abbrev pub media_type_at : TableData → ℕ → Option (List ℕ)
+media_type_at t k = media_type_in (slice_get t.members k)
 
 abbrev pub binding_at : TableData → ℕ → Option BindingData
 binding_at t k = binding_in (slice_get t.members k)

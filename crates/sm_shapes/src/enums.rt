@@ -58,6 +58,13 @@ impl KnownTexts {
         Ok(KnownTexts { texts, known })
     }
 
+    // The texts, in order.
+    fn as_slice(&self) -> &[Text]
+        ensures { result.now ≡ self.now }
+    {
+        self.texts.as_slice()
+    }
+
     // Whether a text is one of them. log n, no memory.
     fn has(&self, text: &str) -> bool
         ensures { result ≡ list_any (λ w. bytes_eq w text.now) self.now }
@@ -121,6 +128,16 @@ impl Texts {
         }
     }
 
+    /// The texts, in order. No memory.
+    pub fn as_slice(&self) -> &[Text]
+        ensures { result.now ≡ self.now }
+    {
+        match &self.shared {
+            None => &[],
+            Some(block) => block.as_ref().as_slice(),
+        }
+    }
+
     /// Whether a text is one of them. log n, no memory.
     pub fn has(&self, text: &str) -> bool
         ensures { result ≡ list_any (λ w. bytes_eq w text.now) self.now }
@@ -178,6 +195,13 @@ impl KnownNumbers {
     {
         let known = known_numbers(alloc, numbers.as_slice())?;
         Ok(KnownNumbers { numbers, known })
+    }
+
+    // The numbers, in order.
+    fn as_slice(&self) -> &[i64]
+        ensures { result.now ≡ self.now }
+    {
+        self.numbers.as_slice()
     }
 
     // Whether a number is one of them. log n, no memory.
@@ -240,6 +264,16 @@ impl Numbers {
                 }),
                 Err(_) => Err(NoMemory),
             },
+        }
+    }
+
+    /// The numbers, in order. No memory.
+    pub fn as_slice(&self) -> &[i64]
+        ensures { result.now ≡ self.now }
+    {
+        match &self.shared {
+            None => &[],
+            Some(block) => block.as_ref().as_slice(),
         }
     }
 

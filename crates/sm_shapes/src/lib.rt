@@ -3,7 +3,9 @@
 #![tactic(auto)]
 
 mod any_patterns;
+mod compiled;
 pub mod constraints;
+mod copies;
 mod enums;
 mod fault;
 mod judging;
@@ -11,6 +13,7 @@ pub mod kinds;
 pub mod laws;
 mod literal_patterns;
 mod order;
+mod pattern_rows;
 mod patterns;
 mod regex_patterns;
 mod rows;

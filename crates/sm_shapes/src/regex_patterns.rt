@@ -1,5 +1,5 @@
 // A store of patterns in the language of the crate `regex`. A pattern is searched for: it finds a text of which
-// some part matches. Each is compiled once, where it is added.
+// some part matches. Each is compiled once, where it is added, and keeps what its searches build.
 ghost use Rattle.std.specs.Prelude.{◌≡◌, ◌<◌, ◌≤◌, ◌-◌, ◌^◌, ◌↔◌, [], None, length, IfOk, OnOk, IsErrOf, IsTrue};
 ghost use Rattle.sm_shapes.specs.Patterns.{Adds, RecordsRefusal, CountsRefusal, pattern_text};
 ghost use Rattle.sm_shapes.specs.Regexes.{regex_finds, reading, IsRegex, IsRefusedByCrate, MatchesPart};
@@ -9,11 +9,19 @@ use crate::{PatternRefusal, Patterns};
 use sm_tree::{NoMemory, Text};
 use std::alloc::Global;
 
+/// How many patterns keep what their searches have built, at most.
+const KEPT: usize = 128;
+
+/// Stands where no pattern keeps anything: no pattern has this number.
+const NONE: u32 = u32::MAX;
+
 /// Patterns in the language of the crate `regex`.
 #[derive(Drop)]
 pub struct RegexPatterns {
     alloc: Global,
     patterns: Vec<StoredRegex>,
+    /// The one pattern of those whose numbers are alike by `KEPT` that keeps what its searches have built.
+    keepers: [u32; KEPT],
     refused: Option<Text>,
     refusals: u64,
 }
@@ -30,9 +38,28 @@ impl RegexPatterns {
         RegexPatterns {
             alloc,
             patterns: Vec::new(alloc),
+            keepers: [NONE; KEPT],
             refused: None,
             refusals: 0,
         }
+    }
+
+    // Makes this pattern the one of its place that keeps what its searches build.
+    fn keep(&mut self, pattern: u32) -> Result<(), NoMemory>
+        ensures added { regex_texts self.new ≡ regex_texts self.old }
+        ensures refused { regex_refused self.new ≡ regex_refused self.old }
+        ensures refusals { regex_refusals self.new ≡ regex_refusals self.old }
+    {
+        let place = pattern as usize % KEPT;
+        let keeper = self.keepers[place];
+        if keeper == pattern {
+            return Ok(());
+        }
+        if let Some(other) = self.patterns.get_mut(keeper as usize) {
+            other.renew(self.alloc)?;
+        }
+        self.keepers[place] = pattern;
+        Ok(())
     }
 }
 
@@ -83,6 +110,7 @@ impl Patterns for RegexPatterns {
         ensures refused { regex_refused self.new ≡ regex_refused self.old }
         ensures refusals { regex_refusals self.new ≡ regex_refusals self.old }
     {
+        self.keep(pattern)?;
         self.patterns[pattern as usize].finds(self.alloc, text)
     }
 }

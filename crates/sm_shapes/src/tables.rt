@@ -3,7 +3,9 @@ ghost use Rattle.std.specs.Prelude.{◌≡◌, ◌<◌, Some, map, slice_get, if
 ghost use Rattle.sm_shapes.specs.InOrder.{Shaped, most_defaults, defaults_among};
 ghost use Rattle.sm_shapes.specs.TableData.{shape_count, member_count, kind_at, members_at, by_name_at, by_json_name_at, needed_at};
 ghost use Rattle.sm_shapes.specs.TableData.{name_at, json_name_at, target_at, required_at, default_at, count_of_default, member_with};
+ghost use Rattle.sm_shapes.specs.TableData.{unit_at, shape_media_type_at, media_type_at};
 ghost use Rattle.sm_shapes.specs.TableView.{shape_data, member_data, shape_rows, member_rows, table_data};
+ghost use Rattle.sm_shapes.specs.BindingPuts.{bindings_view, with_bindings, table_with_bindings};
 ghost use Rattle.sm_shapes.specs.DefaultPuts.{defaults_view, with_defaults, table_with_defaults};
 
 use crate::MemberNumbers;
@@ -157,6 +159,21 @@ impl MemberRows {
     }
 }
 
+impl MemberRows {
+    // Puts each binding at the member of its place.
+    fn set_bindings(&mut self, bindings: Vec<Option<Binding>>)
+        ensures { member_rows self.new ≡ with_bindings (member_rows self.old) (bindings_view bindings.items) }
+    {
+        let mut others = bindings.into_iter();
+        for row in self.rows.iter_mut() {
+            match others.next() {
+                Some(binding) => row.binding = binding,
+                None => return,
+            }
+        }
+    }
+}
+
 /// Patterns by their numbers in a store.
 #[derive(Debug, Drop)]
 pub struct PatternRows {
@@ -290,6 +307,30 @@ impl Table {
         self.member(member).target
     }
 
+    /// Whether a shape is the prelude's `Unit`. No memory.
+    pub fn is_unit(&self, shape: u32) -> bool
+        requires { shape < shape_count (table_data self.now) }
+        ensures { result ≡ unit_at (table_data self.now) shape }
+    {
+        self.shape(shape).unit
+    }
+
+    /// The media type of a shape, where it has one. No memory.
+    pub fn shape_media_type(&self, shape: u32) -> &Option<Text>
+        requires { shape < shape_count (table_data self.now) }
+        ensures { result.now ≡ shape_media_type_at (table_data self.now) shape }
+    {
+        &self.shape(shape).media_type
+    }
+
+    /// The media type of a member's values, where they have one: the member's own, else that of its target. No memory.
+    pub fn media_type(&self, member: u32) -> &Option<Text>
+        requires { member < member_count (table_data self.now) }
+        ensures { result.now ≡ media_type_at (table_data self.now) member }
+    {
+        &self.member(member).media_type
+    }
+
     /// Whether a value of its shape must have the member. No memory.
     pub fn required(&self, member: u32) -> bool
         requires { member < member_count (table_data self.now) }
@@ -353,6 +394,14 @@ impl Table {
         ensures { table_data self.new ≡ table_with_defaults (table_data self.old) (defaults_view defaults.items) }
     {
         self.members.set_defaults(defaults);
+    }
+
+    /// Puts each binding, or none, at the member of its place, from the first on: where there are fewer, the members behind them stay as
+    /// they are, and nothing else is changed. No memory.
+    pub fn set_bindings(&mut self, bindings: Vec<Option<Binding>>)
+        ensures { table_data self.new ≡ table_with_bindings (table_data self.old) (bindings_view bindings.items) }
+    {
+        self.members.set_bindings(bindings);
     }
 
     /// The greatest number of members of one shape that have a default. Time as the members of all shapes. No memory.
