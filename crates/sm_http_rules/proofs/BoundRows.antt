@@ -29,7 +29,7 @@ use Rattle.sm_model.specs.Graphs.{member_id}
 use Rattle.sm_model.specs.GraphView.{AreShapeNumbers, IsShapeNumber, maps_of}
 use Rattle.sm_model.specs.Reaching.{id_of_number}
 use Rattle.sm_model.specs.declared.graph.Graph.{Graph}
-use Rattle.sm_model.specs.steps.Linking.{Joins}
+use Rattle.sm_model.specs.Joins.{Joins}
 use Rattle.sm_model.proofs.Linking.{joins_none, joins_one, joins_same}
 use Rattle.sm_model.proofs.OneRising.{contains_either, contains_none}
 use Rattle.sm_model.proofs.Worklist.{apart}

@@ -3,7 +3,7 @@ ghost use Rattle.std.specs.Prelude.{◌≡◌, ◌++◌, ◌∷◌, [], IfOk, On
 ghost use Rattle.std.specs.List.{Contains};
 ghost use Rattle.sm_model.specs.GraphView.{AreShapeNumbers, IsShapeNumber, entries_of, maps_of};
 ghost use Rattle.sm_model.specs.Reaching.{id_of_number};
-ghost use Rattle.sm_model.specs.steps.Linking.{Joins};
+ghost use Rattle.sm_model.specs.Joins.{Joins};
 ghost use Rattle.sm_http_rules.specs.steps.Labels.{AreBound, AreBoundOf, AreEach, BoundRow, is_bound, label_row, rows_of_labels};
 
 use sm_compile::{member_name, members_of};

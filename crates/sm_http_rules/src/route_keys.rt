@@ -4,7 +4,7 @@ ghost use Rattle.std.specs.List.{Contains};
 ghost use Rattle.std.specs.Option.{option_copied};
 ghost use Rattle.sm_model.specs.GraphView.{IsShapeNumber, maps_of};
 ghost use Rattle.sm_model.specs.Reaching.{id_of_number};
-ghost use Rattle.sm_model.specs.steps.Linking.{Joins};
+ghost use Rattle.sm_model.specs.Joins.{Joins};
 ghost use Rattle.sm_uri.specs.UriPattern.{uri_said};
 ghost use Rattle.sm_passes.specs.Http.{uri_seen};
 ghost use Rattle.sm_http_rules.specs.steps.Routes.{AreRoutes, IsKeyAt, IsRouteKey, key_of, method_tail};

@@ -3,7 +3,7 @@ use Rattle.std.proofs.Common.{◌≡◌, ◌⊎◌, inl, inr, List, [], ◌∷�
 use Rattle.std.specs.Prelude.{◌↔◌}
 use Rattle.std.specs.List.{Contains}
 use Rattle.std.proofs.lemmas.List.Elements.{Contains-append_left, Contains-push, Contains-push_cases}
-use Rattle.sm_model.specs.steps.Linking.{Joins, JoinsUpTo}
+use Rattle.sm_model.specs.Joins.{Joins, JoinsUpTo}
 
 module _ {X : Type 0} where
   pub joins_none : (Old P : X → Type 0) → ((x : X) → P x → ⊥) → Joins Old P Old

@@ -20,5 +20,6 @@ pub mod GraphRows
 pub mod GraphView
 pub mod Relations
 pub mod Links
+pub mod Joins
 pub mod Reaching
 pub mod steps

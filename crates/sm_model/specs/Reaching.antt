@@ -3,7 +3,7 @@ use Rattle.std.specs.Prelude.{◌≡◌, ◌↔◌, ◌+◌, ◌<◌, ℕ, Bool,
 use Rattle.std.specs.List.{Contains, count_by}
 use Rattle.sm_model.specs.GraphView.{ids}
 use Rattle.sm_model.specs.declared.graph.Graph.{Graph}
-use Rattle.sm_model.specs.steps.Linking.{Joins}
+use Rattle.sm_model.specs.Joins.{Joins}
 
 -- the id that stands at a number
 abbrev pub id_of_number : Graph → ℕ → List ℕ

@@ -6,7 +6,7 @@ use Rattle.std.proofs.lemmas.Bool.{cases_lt}
 use Rattle.std.proofs.lemmas.List.Elements.{Contains-push_cases}
 use Rattle.sm_model.specs.EventView.{EventTold, event_view, events_view}
 use Rattle.sm_model.specs.declared.event.ModelEvent.{ModelEvent}
-use Rattle.sm_model.specs.steps.Linking.{Joins}
+use Rattle.sm_model.specs.Joins.{Joins}
 use Rattle.sm_model.proofs.Linking.{joins_both, joins_none, joins_one, joins_same}
 use Rattle.sm_rules.specs.RuleEvents.{HasItsSeverity, Puts}
 use Rattle.sm_passes.specs.Putting.{Below, IsWhere}

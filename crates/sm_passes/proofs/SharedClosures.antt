@@ -17,7 +17,7 @@ use Rattle.sm_model.specs.Reaching.{id_of_number}
 use Rattle.sm_model.specs.Relations.{IsNeighbor, Reaches}
 use Rattle.sm_model.specs.declared.event.ModelEvent.{ModelEvent}
 use Rattle.sm_model.specs.declared.graph.Graph.{Graph}
-use Rattle.sm_model.specs.steps.Linking.{Joins}
+use Rattle.sm_model.specs.Joins.{Joins}
 use Rattle.sm_model.proofs.Linking.{joins_none, joins_one, joins_same}
 use Rattle.sm_model.proofs.NumberedIds.{number_of, related_in}
 use Rattle.sm_model.proofs.OneRising.{contains_none}

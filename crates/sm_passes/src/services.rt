@@ -6,7 +6,7 @@ ghost use Rattle.std.specs.Map.{values_of};
 ghost use Rattle.std.specs.Ordering.{nat_cmp};
 ghost use Rattle.sm_model.specs.EventView.{EventTold};
 ghost use Rattle.sm_model.specs.GraphView.{IsShapeNumber};
-ghost use Rattle.sm_model.specs.steps.Linking.{Joins};
+ghost use Rattle.sm_model.specs.Joins.{Joins};
 ghost use Rattle.sm_rules.specs.RuleEvents.{Puts};
 ghost use Rattle.sm_passes.specs.Closures.{AreOwnServices, IsClosureOf, IsOwnServiceNumber, ToldOfServices};
 ghost use Rattle.sm_passes.specs.steps.Groups.{AreAllServices, AreServiceRows, HaveOneClosure, HaveSteps, IsClear};

@@ -3,7 +3,7 @@ use Rattle.std.specs.Prelude.{◌≡◌, ℕ, List}
 use Rattle.std.specs.List.{Contains}
 use Rattle.sm_model.specs.EventView.{EventTold, events_view}
 use Rattle.sm_model.specs.declared.event.ModelEvent.{ModelEvent}
-use Rattle.sm_model.specs.steps.Linking.{Joins}
+use Rattle.sm_model.specs.Joins.{Joins}
 use Rattle.sm_rules.specs.RuleList.{rule_id, severity_of}
 use Rattle.sm_rules.specs.declared.rule.Rule.{Rule}
 

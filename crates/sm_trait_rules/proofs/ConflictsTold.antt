@@ -22,7 +22,7 @@ use Rattle.sm_model.specs.Reaching.{id_of_number}
 use Rattle.sm_model.specs.Relations.{IsEntryText}
 use Rattle.sm_model.specs.declared.event.ModelEvent.{ModelEvent}
 use Rattle.sm_model.specs.declared.graph.Graph.{Graph}
-use Rattle.sm_model.specs.steps.Linking.{Joins}
+use Rattle.sm_model.specs.Joins.{Joins}
 use Rattle.sm_model.proofs.Linking.{joins_both, joins_none, joins_same}
 use Rattle.sm_model.proofs.NumberedIds.{entry_here}
 use Rattle.sm_model.proofs.Worklist.{apart}

@@ -18,7 +18,7 @@ use Rattle.sm_tree.specs.Parts.{text_in}
 use Rattle.sm_tree.specs.View.{node_of, nodes_view}
 use Rattle.sm_tree.specs.declared.tree.Tree.{Tree}
 use Rattle.sm_model.specs.Relations.{IsEntryText}
-use Rattle.sm_model.specs.steps.Linking.{Joins}
+use Rattle.sm_model.specs.Joins.{Joins}
 use Rattle.sm_model.proofs.Linking.{joins_same}
 use Rattle.sm_model.proofs.Worklist.{apart}
 use Rattle.sm_trait_rules.specs.steps.Conflicting.{AreTextsOf, HasText, has_text}

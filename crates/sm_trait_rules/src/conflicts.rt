@@ -9,7 +9,7 @@ ghost use Rattle.sm_model.specs.GraphView.{IsShapeNumber, maps_of};
 ghost use Rattle.sm_model.specs.PreludeShapes.{is_prelude_id};
 ghost use Rattle.sm_model.specs.Reaching.{id_of_number};
 ghost use Rattle.sm_model.specs.Relations.{IsEntryText};
-ghost use Rattle.sm_model.specs.steps.Linking.{Joins};
+ghost use Rattle.sm_model.specs.Joins.{Joins};
 ghost use Rattle.sm_rules.specs.RuleEvents.{IsEventAt, IsEventOf, Puts};
 ghost use Rattle.sm_rules.specs.declared.rule.Rule.TheVariants.{TraitConflict};
 ghost use Rattle.sm_trait_rules.specs.steps.Conflicting.{AreExcluded, AreTextsOf, HasText, IsExcludedAt, IsGreaterBy, IsGreaterIfHeld};

@@ -2,7 +2,7 @@
 ghost use Rattle.std.specs.Prelude.{◌≡◌, ℕ, List, IfOk, OnOk, false};
 ghost use Rattle.sm_tree.specs.Node.{nodes_of, text};
 ghost use Rattle.sm_tree.specs.View.{node_of, nodes_view};
-ghost use Rattle.sm_model.specs.steps.Linking.{Joins};
+ghost use Rattle.sm_model.specs.Joins.{Joins};
 ghost use Rattle.sm_trait_rules.specs.steps.Conflicting.{AreTextsOf, HasText, has_text};
 
 use sm_model::text_of;

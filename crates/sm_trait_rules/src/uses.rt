@@ -3,7 +3,7 @@ ghost use Rattle.std.specs.Prelude.{◌≡◌, ◌<◌, ◌∷◌, ◌++◌, [],
 ghost use Rattle.std.specs.List.{Contains};
 ghost use Rattle.sm_tree.specs.declared.tree.Tree.{Tree as tree};
 ghost use Rattle.sm_model.specs.GraphView.{IsShapeNumber, entries_of};
-ghost use Rattle.sm_model.specs.steps.Linking.{Joins};
+ghost use Rattle.sm_model.specs.Joins.{Joins};
 ghost use Rattle.sm_trait_rules.specs.steps.Placing.{AreFirsts, AreUses, HasUse, IsUseAt, IsUseOfName};
 
 use sm_compile::id_text;

@@ -14,7 +14,7 @@ use Rattle.std.proofs.lemmas.Option.{none-some, same_Some}
 use Rattle.std.proofs.lemmas.Slice.Eq.{bytes_eq-Decides}
 use Rattle.sm_tree.specs.Node.{Node, null, bool, int, number, text, bytes, tag, opaque, list, object}
 use Rattle.sm_tree.specs.Parts.{text_in}
-use Rattle.sm_model.specs.steps.Linking.{Joins}
+use Rattle.sm_model.specs.Joins.{Joins}
 use Rattle.sm_model.proofs.Worklist.{apart}
 use Rattle.sm_compile.specs.TraitNodes.{number_in}
 use Rattle.sm_value_rules.specs.declared.seen_values.Seen.{Seen}

@@ -5,7 +5,7 @@ ghost use Rattle.std.specs.Ordering.{int_eq};
 ghost use Rattle.std.specs.Str.{bytes_eq};
 ghost use Rattle.sm_tree.specs.Node.{Node};
 ghost use Rattle.sm_model.specs.GraphView.{IsShapeNumber};
-ghost use Rattle.sm_model.specs.steps.Linking.{Joins};
+ghost use Rattle.sm_model.specs.Joins.{Joins};
 ghost use Rattle.sm_value_rules.specs.steps.Enums.{right_number, right_text, value_at};
 ghost use Rattle.sm_value_rules.specs.steps.SeenValues.{Holds, has_number, has_text, holds, value_node};
 

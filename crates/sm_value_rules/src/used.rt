@@ -2,7 +2,7 @@
 ghost use Rattle.std.specs.Prelude.{◌≡◌, ◌<◌, IfOk, length};
 ghost use Rattle.sm_model.specs.GraphView.{entries_of};
 ghost use Rattle.sm_model.specs.Reaching.{IsMarked};
-ghost use Rattle.sm_model.specs.steps.Linking.{Joins};
+ghost use Rattle.sm_model.specs.Joins.{Joins};
 ghost use Rattle.sm_trait_rules.specs.steps.Placing.{AreUsed, IsNamed, IsNamedOf};
 
 use sm_model::{Graph, no_marks};

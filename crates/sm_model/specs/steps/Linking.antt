@@ -4,20 +4,13 @@ use Rattle.std.specs.List.{Contains}
 use Rattle.sm_tree.specs.Node.{Node}
 use Rattle.sm_model.specs.Graphs.{Entry, shape_entry, member_entry}
 use Rattle.sm_model.specs.GraphView.{At}
+use Rattle.sm_model.specs.Joins.{Joins, JoinsUpTo}
 use Rattle.sm_model.specs.Relations.{Refers, SaysInBody, SaysRelated, field_relations, relation_under}
 use Rattle.sm_model.specs.declared.graph.Graph.{Graph}
 use Rattle.sm_model.specs.declared.kind.Kind.{Kind}
 use Rattle.sm_model.specs.declared.link.Link.{Link}
 use Rattle.sm_model.specs.declared.relation.Relation.{Relation}
 use Rattle.sm_model.specs.declared.relation.Relation.TheVariants.{Member, Container, Target}
-
--- what holds now held before, or is one of these
-abbrev pub Joins : {X : Type 0} → (X → Type 0) → (X → Type 0) → (X → Type 0) → Type 0
-Joins Old P Now = (x : _) → Now x ↔ (Old x ⊎ P x)
-
--- of all these exactly the rest is still to come
-abbrev pub JoinsUpTo : {X : Type 0} → (X → Type 0) → (X → Type 0) → (X → Type 0) → (X → Type 0) → Type 0
-JoinsUpTo All Rest Old Now = (x : _) → (Now x ⊎ Rest x) ↔ (Old x ⊎ All x)
 
 -- exactly these links were appended
 abbrev pub Adds : (Link → Type 0) → List Link → List Link → Type 0

@@ -6,7 +6,7 @@ use Rattle.sm_tree.specs.declared.tree.Tree.{Tree}
 use Rattle.sm_model.specs.GraphView.{maps_of}
 use Rattle.sm_model.specs.Reaching.{id_of_number}
 use Rattle.sm_model.specs.Relations.{IsEntryText}
-use Rattle.sm_model.specs.steps.Linking.{Joins}
+use Rattle.sm_model.specs.Joins.{Joins}
 use Rattle.sm_trait_rules.specs.steps.Conflicting.{HasText, IsGreaterOfAny}
 use Rattle.sm_trait_rules.proofs.ConflictsTold.{any_joined, any_none}
 use Rattle.sm_trait_rules.proofs.TextsHeld.{entries_next}

@@ -1,6 +1,6 @@
 use Rattle.std.proofs.Common.{subst}
 use Rattle.std.specs.declared.cmp.Ordering.TheVariants.{Equal}
-use Rattle.sm_model.specs.steps.Linking.{Joins}
+use Rattle.sm_model.specs.Joins.{Joins}
 use Rattle.sm_model.proofs.Linking.{joins_none}
 use Rattle.sm_trait_rules.specs.steps.Conflicting.{HasText, IsGreaterBy}
 use Rattle.sm_trait_rules.proofs.conflicts.take_greater.Goals as goal

@@ -2,7 +2,7 @@ use Rattle.std.proofs.Common.{subst}
 use Rattle.std.proofs.lemmas.List.{take_all}
 use Rattle.sm_model.specs.GraphView.{maps_of}
 use Rattle.sm_model.specs.Reaching.{id_of_number}
-use Rattle.sm_model.specs.steps.Linking.{Joins}
+use Rattle.sm_model.specs.Joins.{Joins}
 use Rattle.sm_trait_rules.specs.steps.Conflicting.{HasText, IsGreaterIfHeld, IsOfSome}
 use Rattle.sm_trait_rules.proofs.ConflictsTold.{named_taken}
 use Rattle.sm_trait_rules.proofs.SomeJoined.{none_of_some, some_next}

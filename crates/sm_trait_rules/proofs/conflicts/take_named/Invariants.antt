@@ -1,7 +1,7 @@
 use Rattle.std.proofs.Common.{take}
 use Rattle.sm_model.specs.GraphView.{maps_of}
 use Rattle.sm_model.specs.Reaching.{id_of_number}
-use Rattle.sm_model.specs.steps.Linking.{Joins}
+use Rattle.sm_model.specs.Joins.{Joins}
 use Rattle.sm_trait_rules.specs.steps.Conflicting.{HasText, IsGreaterIfHeld, IsOfSome}
 use Rattle.sm_trait_rules.proofs.conflicts.take_named.Given as goal
 

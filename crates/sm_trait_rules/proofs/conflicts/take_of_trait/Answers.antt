@@ -2,7 +2,7 @@ use Rattle.std.proofs.Common.{◌<◌, ap, length, subst, sym, ◌∙◌}
 use Rattle.sm_model.specs.GraphView.{maps_of}
 use Rattle.sm_model.specs.Reaching.{id_of_number}
 use Rattle.sm_model.specs.Relations.{IsEntryText}
-use Rattle.sm_model.specs.steps.Linking.{Joins}
+use Rattle.sm_model.specs.Joins.{Joins}
 use Rattle.sm_compile.proofs.LookedUp.{stands_is}
 use Rattle.sm_trait_rules.specs.steps.Conflicting.{HasText, IsExcludedAt, IsGreaterOfAny, conflicts_under}
 use Rattle.sm_trait_rules.proofs.ConflictsTold.{nothing_taken}

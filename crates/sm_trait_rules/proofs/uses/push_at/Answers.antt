@@ -1,7 +1,7 @@
 use Rattle.std.proofs.Common.{◌≡◌, ◌++◌, ◌∷◌, [], ℕ, List, subst, sym, ap, ◌∙◌}
 use Rattle.std.specs.Prelude.{slice_set}
 use Rattle.std.proofs.lemmas.Result.{on_ok_weaker}
-use Rattle.sm_model.specs.steps.Linking.{Joins}
+use Rattle.sm_model.specs.Joins.{Joins}
 use Rattle.std.proofs.lemmas.List.{get_or_default}
 use Rattle.sm_trait_rules.specs.steps.Placing.{HasUse}
 use Rattle.sm_trait_rules.proofs.UsesPut.{use_put}

@@ -1,6 +1,6 @@
 use Rattle.std.proofs.Common.{refl, subst, ◌∙◌}
 use Rattle.std.proofs.lemmas.List.{take_all}
-use Rattle.sm_model.specs.steps.Linking.{Joins}
+use Rattle.sm_model.specs.Joins.{Joins}
 use Rattle.sm_trait_rules.specs.steps.Placing.{HasUse}
 use Rattle.sm_trait_rules.proofs.UsesPut.{IsUseOfOne, next_trait, no_traits}
 use Rattle.sm_trait_rules.proofs.uses.put_carried.Goals as goal

@@ -1,5 +1,5 @@
 use Rattle.std.proofs.Common.{◌≡◌, length, take}
-use Rattle.sm_model.specs.steps.Linking.{Joins}
+use Rattle.sm_model.specs.Joins.{Joins}
 use Rattle.sm_trait_rules.specs.steps.Placing.{HasUse}
 use Rattle.sm_trait_rules.proofs.UsesPut.{IsUseOfOne}
 use Rattle.sm_trait_rules.proofs.uses.put_carried.Given as goal

@@ -1,6 +1,6 @@
 use Rattle.std.proofs.Common.{◌≡◌, ◌<◌, ℕ, Option, Some, subst, sym, ◌∙◌}
 use Rattle.std.proofs.lemmas.Result.{on_ok_weaker}
-use Rattle.sm_model.specs.steps.Linking.{Joins}
+use Rattle.sm_model.specs.Joins.{Joins}
 use Rattle.sm_compile.proofs.LookedUp.{stands_is}
 use Rattle.sm_trait_rules.specs.steps.Placing.{HasUse}
 use Rattle.sm_trait_rules.proofs.UsesPut.{given_small, no_name, put_name}

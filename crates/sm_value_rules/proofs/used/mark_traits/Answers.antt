@@ -1,7 +1,7 @@
 use Rattle.std.proofs.Common.{◌∙◌, refl, subst}
 use Rattle.std.proofs.lemmas.List.{take_all}
 use Rattle.sm_model.specs.Reaching.{IsMarked}
-use Rattle.sm_model.specs.steps.Linking.{Joins}
+use Rattle.sm_model.specs.Joins.{Joins}
 use Rattle.sm_trait_rules.specs.steps.Placing.{IsNamedOf}
 use Rattle.sm_value_rules.proofs.UsedTraits.{named_more, named_none}
 use Rattle.sm_value_rules.proofs.used.mark_traits.Goals as goal

@@ -1,6 +1,6 @@
 use Rattle.std.proofs.Common.{◌≡◌, length, take}
 use Rattle.sm_model.specs.Reaching.{IsMarked}
-use Rattle.sm_model.specs.steps.Linking.{Joins}
+use Rattle.sm_model.specs.Joins.{Joins}
 use Rattle.sm_trait_rules.specs.steps.Placing.{IsNamedOf}
 use Rattle.sm_value_rules.proofs.used.mark_traits.Given as goal
 

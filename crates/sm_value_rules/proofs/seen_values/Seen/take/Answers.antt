@@ -1,6 +1,6 @@
 use Rattle.std.proofs.Common.{◌≡◌, ℤ, refl, sym, ap, ◌∙◌, subst, FitsSigned, w64, to_z, of_z, to_z-of_z, rules, int_eq}
 use Rattle.std.specs.Prelude.{◌||◌, not}
-use Rattle.sm_model.specs.steps.Linking.{Joins}
+use Rattle.sm_model.specs.Joins.{Joins}
 use Rattle.sm_value_rules.specs.declared.seen_values.Seen.{Seen}
 use Rattle.sm_value_rules.specs.steps.SeenValues.{Holds, has_number, holds, value_node}
 use Rattle.sm_value_rules.proofs.ValuesTaken.{number_taken, text_taken}
