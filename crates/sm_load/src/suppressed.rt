@@ -113,6 +113,7 @@ pub(crate) fn without_suppressed(
     ensures { IfOk result (λ kept. kept.items ≡ filter (λ e. stays (maps_of graph.now) (event_view e)) events.items) }
 {
     let suppressors = suppressors_of(alloc, graph)?;
-    events.retain(|event| keeps(suppressors.as_slice(), graph, event));
+    let all = suppressors.as_slice();
+    events.retain(|event| keeps(all, graph, event));
     Ok(events)
 }

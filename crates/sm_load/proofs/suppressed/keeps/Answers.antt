@@ -12,7 +12,7 @@ returns-in-Some c = λ are.
     stays_by c.args.graph.now c.args.suppressors.now are (event_view c.args.event.now) s c.in-Some.ensures.0
     (c.in-Some.ensures.1 ∙ c.as_str-id.ensures.bytes) c.suppresses.result
     (c.suppresses.ensures (are.each s c.in-Some.ensures.0).0
-    ∙ ap (λ id. is_suppressed (maps_of c.args.graph.now) id (rule_id s.rule)) c.as_str-shape.ensures.bytes)
+    ∙ ap (λ id. is_suppressed (maps_of c.args.graph.now) id (rule_id s.rule)) c.as_str-shape.ensures)
 
 pub returns-in-None : goal.returns-in-None
 returns-in-None c = λ are.
