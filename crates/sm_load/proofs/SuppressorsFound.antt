@@ -1,11 +1,12 @@
 -- What suppresses the events of a rule is made for each that may be suppressed, and found by the ids of events.
 use Rattle.std.proofs.Common.{◌≡◌, ◌<◌, ◌+◌, inl, inr, ℕ, Bool, true, false, List, [], ◌∷◌, ◌++◌, Option, Some, None, get_or, length, take}
-use Rattle.std.proofs.Common.{refl, sym, ap, ◌∙◌, subst}
+use Rattle.std.proofs.Common.{bytes_eq, refl, sym, ap, ◌∙◌, subst}
 use Rattle.std.specs.Prelude.{◌&&◌, not}
 use Rattle.std.specs.List.{Contains}
 use Rattle.std.proofs.lemmas.Bool.{true≢false}
 use Rattle.std.proofs.lemmas.List.{take_more}
 use Rattle.std.proofs.lemmas.List.Elements.{Contains-append_left, Contains-push, Contains-push_cases}
+use Rattle.std.proofs.lemmas.Slice.Eq.{bytes_eq-Decides}
 use Rattle.sm_model.specs.EventView.{EventTold}
 use Rattle.sm_model.specs.GraphView.{maps_of}
 use Rattle.sm_model.specs.declared.graph.Graph.{Graph}
@@ -32,9 +33,12 @@ more_made g ss s are is may t h = elim (Contains-push_cases ss s t h) [
   | inr new ↦ subst (λ x. IsSuppressor g x × (may_be_suppressed x.rule ≡ true)) new (is, may)
 ]
 
-module _ (rules : List Rule) (i : ℕ) (r : Rule) (within : i < length rules) (is : r ≡ get_or rules i r) where
+module _ (rules : List Rule) (i : ℕ) (d : Rule) (within : i < length rules) where
+  abbrev r : Rule
+  r = get_or rules i d
+
   parts : take (i + 1) rules ≡ take i rules ++ r ∷ []
-  parts = take_more rules i r within ∙ ap (λ x. take i rules ++ x ∷ []) (sym is)
+  parts = take_more rules i d within
 
   -- a rule whose events are never suppressed has none
   rule_without : (ss : List Suppressor) → HaveOnes (take i rules) ss → may_be_suppressed r ≡ false → HaveOnes (take (i + 1) rules) ss
@@ -64,6 +68,19 @@ module _ (rules : List Rule) (i : ℕ) (r : Rule) (within : i < length rules) (i
 
 pub all_made : (g : Graph) (ss : List Suppressor) → AreOfRules g ss → HaveOnes all_rules ss → AreSuppressors g ss
 all_made g ss are have = record { each = are; all = λ r may. have r (each_listed r) may }
+
+-- none of those before is of the event's rule
+pub none_yet : (ss : List Suppressor) (i : ℕ) (x : Suppressor) (event id : List ℕ) (same : Bool) → i < length ss → x ≡ get_or ss i x
+    → ((s : Suppressor) → Contains (take i ss) s → rule_id s.rule ≡ event → ⊥) → id ≡ rule_id x.rule → same ≡ bytes_eq id event
+    → same ≡ false → (s : Suppressor) → Contains (take (i + 1) ss) s → rule_id s.rule ≡ event → ⊥
+none_yet ss i x event id same within at none is eq other s h of =
+    let parts : take (i + 1) ss ≡ take i ss ++ x ∷ [] = take_more ss i x within ∙ ap (λ y. take i ss ++ y ∷ []) (sym at) in
+    elim (Contains-push_cases (take i ss) x s (subst (λ ys. Contains ys s) parts h)) [
+      | inl old ↦ none s old of
+      | inr new ↦
+          let alike : id ≡ event = is ∙ ap (λ (y : Suppressor). rule_id y.rule) new ∙ of in
+          true≢false (sym ((bytes_eq-Decides id event).1 alike) ∙ sym eq ∙ other)
+    ]
 
 -- whether an event stays, by what suppresses the events of its rule
 module _ (g : Graph) (ss : List Suppressor) (are : AreSuppressors g ss) (e : EventTold) where

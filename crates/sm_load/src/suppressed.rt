@@ -96,8 +96,10 @@ fn suppressor_for<'s, 'a>(
 fn keeps(suppressors: &[Suppressor<'_>], graph: &Graph, event: &ModelEvent) -> bool
     ensures { AreSuppressors graph.now suppressors.now → result ≡ stays (maps_of graph.now) (event_view event.now) }
 {
-    match suppressor_for(suppressors, event.id.as_str()) {
-        Some(suppressor) => !suppressor.suppresses(graph, event.shape.as_str()),
+    let id = event.id.as_str();
+    let shape = event.shape.as_str();
+    match suppressor_for(suppressors, id) {
+        Some(suppressor) => !suppressor.suppresses(graph, shape),
         None => true,
     }
 }
@@ -111,6 +113,7 @@ pub(crate) fn without_suppressed(
     ensures { IfOk result (λ kept. kept.items ≡ filter (λ e. stays (maps_of graph.now) (event_view e)) events.items) }
 {
     let suppressors = suppressors_of(alloc, graph)?;
-    events.retain(|event| keeps(suppressors.as_slice(), graph, event));
+    let all = suppressors.as_slice();
+    events.retain(|event| keeps(all, graph, event));
     Ok(events)
 }

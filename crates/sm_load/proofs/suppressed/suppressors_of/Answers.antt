@@ -12,8 +12,8 @@ loop-rule-init c = record {
 
 pub loop-rule-preserved : goal.loop-rule-preserved
 loop-rule-preserved c =
-    let made = made_next c.all-rules.result.now c.loop-rule.rule-index c.rule-item.result.now c.loop-rule-test.true c.rule-item.is
-    c.args.graph.now c.loop-rule.all.items c.put_suppressor.new.all.items c.loop-rule.invariant.each c.loop-rule.invariant.have
+    let made = made_next c.all-rules.result.now c.loop-rule.rule-index _ c.loop-rule-test.true c.args.graph.now
+    c.loop-rule.all.items c.put_suppressor.new.all.items c.loop-rule.invariant.each c.loop-rule.invariant.have
     c.in_ok-put_suppressor.ensures in
     record { each = made.0; have = made.1 }
 
