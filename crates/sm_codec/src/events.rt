@@ -50,8 +50,32 @@ pub fn encode_events<L: Leaves, E: EventSink>(
     ensures takes_same { OnOk result (TakesSame (E.takes to.old) (E.takes to.new)) }
     ensures alike { E.alike to.old to.new }
 {
+    encode_events_at(alloc, table, ValuePlace::Root(shape), value, leaves, to)
+}
+
+/// The same of a value at a place: at a member its own format and constraints count.
+pub fn encode_events_at<L: Leaves, E: EventSink>(
+    alloc: Global,
+    table: &Table,
+    place: ValuePlace,
+    value: &Value,
+    leaves: &L,
+    to: &mut E,
+) -> Result<(), NoMemory>
+    requires shaped { Shaped (table_data table.now) }
+    requires place { InTable (table_data table.now) (place_of place) }
+    requires fits { Fits (table_data table.now) any_text (place_of place) (val_of value.now) }
+    requires carried { uncarried (table_data table.now) (L.convention leaves.now) (place_of place) (val_of value.now) ≡ [] }
+    requires takes { TakesEach (E.takes to.old)
+        (numbered (written (table_data table.now) (L.convention leaves.now) (place_of place) (val_of value.now)) []) }
+    requires empty { E.stands_for to.old [] }
+    ensures stands { OnOk result (E.stands_for to.new
+        (numbered (written (table_data table.now) (L.convention leaves.now) (place_of place) (val_of value.now)) [])) }
+    ensures takes_same { OnOk result (TakesSame (E.takes to.old) (E.takes to.new)) }
+    ensures alike { E.alike to.old to.new }
+{
     leaves.laws();
-    hand_value(alloc, table, ValuePlace::Root(shape), value, leaves, to)
+    hand_value(alloc, table, place, value, leaves, to)
 }
 
 // One event.
