@@ -19,6 +19,9 @@ pub mod PlainLeaves
 pub mod PartsFit
 pub mod EncodedValues
 pub mod WrittenForms
+pub mod Renumbered
+pub mod TwinPlaces
+pub mod TwinReadings
 pub mod CborWrites
 pub mod JsonWrites
 pub mod HandedEvents
