@@ -25,6 +25,7 @@ pub mod TwinReadings
 pub mod CborWrites
 pub mod JsonWrites
 pub mod HandedEvents
+pub mod HandedLoops
 pub mod FilledTables
 pub mod DefaultsCounted
 pub mod Arriving
