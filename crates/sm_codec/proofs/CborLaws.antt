@@ -127,6 +127,7 @@ never_repeated (the.Time format) n h = time_never n h
 pub cbor_laws : IsConvention cbor_convention
 cbor_laws = record {
   names = λ t shaped s in_range. shaped.names s in_range;
+  own_row = λ t u s r k j name json. name;
   of_type = of_type;
   carried_of_type = λ x v h. and_first (is_of x v) (cbor_carries_leaf v) h;
   written_reads = written_reads;

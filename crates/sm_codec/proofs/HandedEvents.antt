@@ -115,16 +115,6 @@ list_begun S M T U ns k e h came =
     come_more S S M T T U (list_stream ns) (start_list (Some (entry_count ns)) ∷ []) (numbered_entries ns [])
     (come_none S T (list_stream ns) h) (subst (λ j. Came S T (start_list (Some j) ∷ []) M U) (sym e) came)
 
-pub entry_ready : (S M : StandsFor) (T U : Takes) (out : List NodeEvent) (n : Node) (ns : Nodes)
-    → CameUpTo S T out M U (numbered_entries (node n ns) []) → IsReady M U (numbered n [])
-entry_ready S M T U out n ns h =
-    first_ready M U (numbered n []) (numbered_entries ns []) (subst (IsReady M U) (entry_then n ns) h.3)
-
-pub entry_came : (S M N : StandsFor) (T U V : Takes) (out : List NodeEvent) (n : Node) (ns : Nodes)
-    → CameUpTo S T out M U (numbered_entries (node n ns) []) → Came M U (numbered n []) N V → CameUpTo S T out N V (numbered_entries ns [])
-entry_came S M N T U V out n ns h came =
-    come_more S M N T U V out (numbered n []) (numbered_entries ns []) (subst (CameUpTo S T out M U) (entry_then n ns) h) came
-
 -- the same of an object and its pairs
 pub object_opener_ready : (S : StandsFor) (T : Takes) (ms : Members) (k : ℕ) → pair_count ms ≡ k → IsReady S T (object_stream ms)
     → IsReady S T (start_object (Some k) ∷ [])
@@ -148,6 +138,22 @@ pub pair_came : (S M N : StandsFor) (T U V : Takes) (out : List NodeEvent) (k : 
     → CameUpTo S T out N V (numbered_pairs ms [])
 pair_came S M N T U V out k n ms h came =
     come_more S M N T U V out (pair_stream k n) (numbered_pairs ms []) (subst (CameUpTo S T out M U) (pair_then k n ms) h) came
+
+-- an object of one pair, whose name may be told by another word
+pub one_pair_ready : (S M : StandsFor) (T U : Takes) (k w : List ℕ) (n : Node) → w ≡ k → IsReady S T (object_stream (member k n no_members))
+    → Came S T (start_object (Some 1) ∷ []) M U → IsReady M U (pair_stream w n)
+one_pair_ready S M T U k w n same h came =
+    let ms = member k n no_members in
+    subst (λ x. IsReady M U (pair_stream x n)) (sym same)
+    (pair_ready S M T U (object_stream ms) k n no_members (object_begun S M T U ms 1 refl h came))
+
+pub one_pair_came : (S M N : StandsFor) (T U V : Takes) (k w : List ℕ) (n : Node) → w ≡ k
+    → IsReady S T (object_stream (member k n no_members)) → Came S T (start_object (Some 1) ∷ []) M U → Came M U (pair_stream w n) N V
+    → CameUpTo S T (object_stream (member k n no_members)) N V (numbered_pairs no_members [])
+one_pair_came S M N T U V k w n same h came pair =
+    let ms = member k n no_members in
+    pair_came S M N T U V (object_stream ms) k n no_members (object_begun S M T U ms 1 refl h came)
+    (subst (λ x. Came M U (pair_stream x n) N V) same pair)
 
 -- how many entries and pairs are written
 pub entries_counted : (t : TableData) (l : Convention) (p : Place) (vs : List Val) → entry_count (written_entries t l p (vals_of vs)) ≡

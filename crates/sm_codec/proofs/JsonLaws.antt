@@ -97,6 +97,7 @@ never_repeated (the.Time format) n h = time_never format n h
 pub json_laws : (b : Bool) → IsConvention (json_convention b)
 json_laws false = record {
   names = λ t shaped s in_range. shaped.names s in_range;
+  own_row = λ t u s r k j name json. name;
   of_type = of_type;
   carried_of_type = λ x v h. and_first (is_of x v) (json_carries_leaf x v) h;
   written_reads = written_reads;
@@ -108,6 +109,7 @@ json_laws false = record {
 }
 json_laws true = record {
   names = λ t shaped s in_range. shaped.json_names s in_range;
+  own_row = λ t u s r k j name json. json;
   of_type = of_type;
   carried_of_type = λ x v h. and_first (is_of x v) (json_carries_leaf x v) h;
   written_reads = written_reads;

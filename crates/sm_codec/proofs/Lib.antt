@@ -19,9 +19,13 @@ pub mod PlainLeaves
 pub mod PartsFit
 pub mod EncodedValues
 pub mod WrittenForms
+pub mod Renumbered
+pub mod TwinPlaces
+pub mod TwinReadings
 pub mod CborWrites
 pub mod JsonWrites
 pub mod HandedEvents
+pub mod HandedLoops
 pub mod FilledTables
 pub mod DefaultsCounted
 pub mod Arriving

@@ -106,6 +106,7 @@ never_repeated raw (the.Time format) n h = time_never n h
 pub node_laws : (raw : Bool) → IsConvention (node_convention raw)
 node_laws raw = record {
   names = λ t shaped s in_range. shaped.names s in_range;
+  own_row = λ t u s r k j name json. name;
   of_type = of_type raw;
   carried_of_type = λ x v h. and_first (is_of x v) (node_carries_leaf raw v) h;
   written_reads = written_reads raw;

@@ -7,7 +7,7 @@ use Rattle.sm_tree.specs.Node.{Node, Nodes, Members, null, tag, list, object, no
 use Rattle.sm_time.specs.StampTexts.{is_stamp}
 use Rattle.sm_shapes.specs.Names.{AllDiffer}
 use Rattle.sm_shapes.specs.Values.{Val, bool_val, int_val, text_val, blob_val, time_val}
-use Rattle.sm_shapes.specs.TableData.{TableData, shape_count, members_at}
+use Rattle.sm_shapes.specs.TableData.{TableData, shape_count, members_at, name_at, json_name_at}
 use Rattle.sm_shapes.specs.InOrder.{Shaped}
 use Rattle.sm_shapes.specs.declared.fault.FaultKind.{FaultKind}
 use Rattle.sm_shapes.specs.declared.fault.FaultKind.TheVariants.{WrongType, Repeated}
@@ -65,11 +65,14 @@ Leaf c x v n = c.read x n ≡ Ok v
 abbrev pub WrittenLeafReads : Convention → Type 0
 WrittenLeafReads c = (x : Simple) (v : Val) → c.carries x v ≡ true → Leaf c x v (c.write x v)
 
--- The laws. The members of one shape stand under different names. A leaf spells only values of its simple
--- type (and one at most, since `read` is a function). What is written is read again. A list, an object and null spell nothing, and
+-- The laws. The members of one shape stand under different names. A member's name depends on what its own row says of names alone: two
+-- members, of one table or of two, with the same name and the same JSON name stand under the same one. A leaf spells only values of its
+-- simple type (and one at most, since `read` is a function). What is written is read again. A list, an object and null spell nothing, and
 -- what is nested under a tag doesn't change the tag's fault. No leaf's fault is that a name is repeated.
 pub record IsConvention (c : Convention) : Type 0 where
   pub names : (t : TableData) → Shaped t → (s : ℕ) → s < shape_count t → AllDiffer (map (c.name t s) (members_at t s))
+  pub own_row : (t u : TableData) (s r k j : ℕ) → name_at t k ≡ name_at u j → json_name_at t k ≡ json_name_at u j
+      → c.name t s k ≡ c.name u r j
   pub of_type : (x : Simple) (n : Node) (v : Val) → c.read x n ≡ Ok v → is_of x v ≡ true
   pub carried_of_type : (x : Simple) (v : Val) → c.carries x v ≡ true → is_of x v ≡ true
   pub written_reads : WrittenLeafReads c

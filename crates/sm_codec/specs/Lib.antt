@@ -7,6 +7,7 @@ pub mod FaultLists
 pub mod Readings
 pub mod Answers
 pub mod Written
+pub mod WrittenObjects
 pub mod PlaceView
 pub mod Encoded
 pub mod WrittenLaws

@@ -12,3 +12,4 @@ pub mod UnionSteps
 pub mod MapSteps
 pub mod Filling
 pub mod WalkSteps
+pub mod Twins

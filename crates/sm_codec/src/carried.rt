@@ -27,7 +27,22 @@ pub fn all_carried<L: Leaves>(table: &Table, shape: u32, value: &Value, leaves: 
     requires fits { Fits (table_data table.now) any_text (root_place shape) (val_of value.now) }
     ensures { IsTrue result ↔ (uncarried (table_data table.now) (L.convention leaves.now) (root_place shape) (val_of value.now) ≡ []) }
 {
-    is_carried(table, ValuePlace::Root(shape), value, leaves)
+    all_carried_at(table, ValuePlace::Root(shape), value, leaves)
+}
+
+/// The same of a value at a place: at a member its own format counts. No memory.
+pub fn all_carried_at<L: Leaves>(
+    table: &Table,
+    place: ValuePlace,
+    value: &Value,
+    leaves: &L,
+) -> bool
+    requires shaped { Shaped (table_data table.now) }
+    requires place { InTable (table_data table.now) (place_of place) }
+    requires fits { Fits (table_data table.now) any_text (place_of place) (val_of value.now) }
+    ensures { IsTrue result ↔ (uncarried (table_data table.now) (L.convention leaves.now) (place_of place) (val_of value.now) ≡ []) }
+{
+    is_carried(table, place, value, leaves)
 }
 
 // A leaf is carried, or stands at a place of no simple type.

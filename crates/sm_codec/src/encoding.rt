@@ -42,8 +42,28 @@ pub fn encode<L: Leaves>(
     ensures spells { IfOk result (λ tree.
         SpellsByEachTest (table_data table.now) (L.convention leaves.now) (root_place shape) (val_of value.now) (node_of tree)) }
 {
-    leaves.laws();
     encode_at(alloc, table, ValuePlace::Root(shape), value, leaves)
+}
+
+/// The same of a value at a place: at a member its own format and constraints count.
+pub fn encode_at<L: Leaves>(
+    alloc: Global,
+    table: &Table,
+    place: ValuePlace,
+    value: &Value,
+    leaves: &L,
+) -> Result<Tree, NoMemory>
+    requires shaped { Shaped (table_data table.now) }
+    requires place { InTable (table_data table.now) (place_of place) }
+    requires fits { Fits (table_data table.now) any_text (place_of place) (val_of value.now) }
+    requires carried { uncarried (table_data table.now) (L.convention leaves.now) (place_of place) (val_of value.now) ≡ [] }
+    ensures tree { IfOk result (λ tree.
+        node_of tree ≡ written (table_data table.now) (L.convention leaves.now) (place_of place) (val_of value.now)) }
+    ensures spells { IfOk result (λ tree.
+        SpellsByEachTest (table_data table.now) (L.convention leaves.now) (place_of place) (val_of value.now) (node_of tree)) }
+{
+    leaves.laws();
+    tree_at(alloc, table, place, value, leaves)
 }
 
 // A leaf; at a place of no simple type it is null.
@@ -67,7 +87,7 @@ fn encode_leaf<L: Leaves>(
 }
 
 #[cycle(encode)]
-fn encode_at<L: Leaves>(
+fn tree_at<L: Leaves>(
     alloc: Global,
     table: &Table,
     place: ValuePlace,
@@ -141,7 +161,7 @@ fn encode_items<L: Leaves>(
     let entry = place.entry(table);
     let mut entries = Vec::with_capacity(alloc, items.len())?;
     for item in items {
-        let tree = encode_at(alloc, table, entry, item, leaves)?;
+        let tree = tree_at(alloc, table, entry, item, leaves)?;
         entries.push(tree)?;
     }
     Ok(entries)
@@ -166,7 +186,7 @@ fn encode_entries<L: Leaves>(
     let mut pairs = Vec::with_capacity(alloc, entries.len())?;
     for entry in entries {
         let key = Text::copy(alloc, entry.0.as_str())?;
-        let tree = encode_at(alloc, table, inner, &entry.1, leaves)?;
+        let tree = tree_at(alloc, table, inner, &entry.1, leaves)?;
         pairs.push((key, tree))?;
     }
     Ok(pairs)
@@ -214,7 +234,7 @@ fn encode_member<L: Leaves>(
     ensures tree { IfOk result (λ pair.
         node_of pair.1 ≡ written (table_data table.now) (L.convention leaves.now) (member_place member) (val_of value.now)) }
 {
-    match encode_at(alloc, table, ValuePlace::Member(member), value, leaves) {
+    match tree_at(alloc, table, ValuePlace::Member(member), value, leaves) {
         Ok(tree) => {
             let name = leaves.wire_name(table, place.shape(table), member);
             match Text::copy(alloc, name) {

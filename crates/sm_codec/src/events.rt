@@ -1,5 +1,6 @@
 // The events of the tree that is written for a value, without the tree.
-ghost use Rattle.std.specs.Prelude.{◌≡◌, ◌<◌, ◌∷◌, [], Some, OnOk};
+ghost use Rattle.std.specs.Prelude.{◌≡◌, ◌<◌, ◌∷◌, [], true, Some, IfSome, OnOk, option_copied};
+ghost use Rattle.std.specs.List.Sorted.{IsNonDecreasing};
 ghost use Rattle.sm_tree.specs.Events.{key_event};
 ghost use Rattle.sm_tree.specs.EventView.{event_of};
 ghost use Rattle.sm_tree.specs.Streams.{TakesEach, TakesSame, numbered};
@@ -18,10 +19,13 @@ ghost use Rattle.sm_codec.specs.Convention.{IsConvention};
 ghost use Rattle.sm_codec.specs.PlaceView.{place_of};
 ghost use Rattle.sm_codec.specs.Sorts.{sort_of};
 ghost use Rattle.sm_codec.specs.Written.{written, written_leaf, written_entries, written_pairs, written_fields, uncarried};
-ghost use Rattle.sm_codec.specs.steps.EventsHanded.{IsReady, Came, IsPlain, IsLeafNode, list_stream, object_stream};
+ghost use Rattle.sm_codec.specs.WrittenObjects as chosen;
+ghost use Rattle.sm_codec.specs.steps.EventsHanded.{IsReady, Came, IsPlain, IsLeafNode, list_stream, object_stream, pair_stream};
+ghost use Rattle.sm_codec.specs.steps.EventsHanded.{FieldHolds, fields_left, field_stream};
 ghost use Rattle.sm_codec.specs.steps.ValueParts.{PartsHold, EntriesHold, PairsHold, FieldsHold, IsCarried, carried_leaf};
 
 use crate::Leaves;
+use crate::listed::is_written;
 use crate::places::ValuePlace;
 use sm_shapes::tables::Table;
 use sm_shapes::values::Value;
@@ -50,12 +54,36 @@ pub fn encode_events<L: Leaves, E: EventSink>(
     ensures takes_same { OnOk result (TakesSame (E.takes to.old) (E.takes to.new)) }
     ensures alike { E.alike to.old to.new }
 {
+    encode_events_at(alloc, table, ValuePlace::Root(shape), value, leaves, to)
+}
+
+/// The same of a value at a place: at a member its own format and constraints count.
+pub fn encode_events_at<L: Leaves, E: EventSink>(
+    alloc: Global,
+    table: &Table,
+    place: ValuePlace,
+    value: &Value,
+    leaves: &L,
+    to: &mut E,
+) -> Result<(), NoMemory>
+    requires shaped { Shaped (table_data table.now) }
+    requires place { InTable (table_data table.now) (place_of place) }
+    requires fits { Fits (table_data table.now) any_text (place_of place) (val_of value.now) }
+    requires carried { uncarried (table_data table.now) (L.convention leaves.now) (place_of place) (val_of value.now) ≡ [] }
+    requires takes { TakesEach (E.takes to.old)
+        (numbered (written (table_data table.now) (L.convention leaves.now) (place_of place) (val_of value.now)) []) }
+    requires empty { E.stands_for to.old [] }
+    ensures stands { OnOk result (E.stands_for to.new
+        (numbered (written (table_data table.now) (L.convention leaves.now) (place_of place) (val_of value.now)) [])) }
+    ensures takes_same { OnOk result (TakesSame (E.takes to.old) (E.takes to.new)) }
+    ensures alike { E.alike to.old to.new }
+{
     leaves.laws();
-    hand_value(alloc, table, ValuePlace::Root(shape), value, leaves, to)
+    hand_value(alloc, table, place, value, leaves, to)
 }
 
 // One event.
-fn hand<E: EventSink>(event: Event, to: &mut E) -> Result<(), NoMemory>
+pub(crate) fn hand<E: EventSink>(event: Event, to: &mut E) -> Result<(), NoMemory>
     requires ready { IsReady (E.stands_for to.old) (E.takes to.old) (event_of event ∷ []) }
     ensures came { OnOk result (Came (E.stands_for to.old) (E.takes to.old) (event_of event ∷ []) (E.stands_for to.new) (E.takes to.new)) }
     ensures alike { E.alike to.old to.new }
@@ -64,7 +92,7 @@ fn hand<E: EventSink>(event: Event, to: &mut E) -> Result<(), NoMemory>
 }
 
 // The name of a pair.
-fn hand_key<E: EventSink>(alloc: Global, name: &str, to: &mut E) -> Result<(), NoMemory>
+pub(crate) fn hand_key<E: EventSink>(alloc: Global, name: &str, to: &mut E) -> Result<(), NoMemory>
     requires ready { IsReady (E.stands_for to.old) (E.takes to.old) (key_event name.now ∷ []) }
     ensures came { OnOk result (Came (E.stands_for to.old) (E.takes to.old) (key_event name.now ∷ []) (E.stands_for to.new)
         (E.takes to.new)) }
@@ -191,7 +219,9 @@ fn hand_value<L: Leaves, E: EventSink>(
         Value::Time(_) => hand_simple(alloc, table, place, value, leaves, to),
         Value::List(items) => hand_items(alloc, table, place, items.as_slice(), leaves, to),
         Value::Map(entries) => hand_entries(alloc, table, place, entries.as_slice(), leaves, to),
-        Value::Structure(fields) => hand_fields(alloc, table, place, fields.as_slice(), leaves, to),
+        Value::Structure(fields) => {
+            hand_structure(alloc, table, place, fields.as_slice(), leaves, to)
+        }
         Value::Union(member, content) => {
             hand_one(alloc, table, place, *member, content, leaves, to)
         }
@@ -260,11 +290,7 @@ fn hand_entries<L: Leaves, E: EventSink>(
         Err(refusal) => return Err(refusal),
     }
     for pair in entries {
-        match hand_key(alloc, pair.0.as_str(), to) {
-            Ok(()) => {}
-            Err(refusal) => return Err(refusal),
-        }
-        match hand_value(alloc, table, inner, &pair.1, leaves, to) {
+        match hand_pair(alloc, table, pair.0.as_str(), inner, &pair.1, leaves, to) {
             Ok(()) => {}
             Err(refusal) => return Err(refusal),
         }
@@ -272,8 +298,9 @@ fn hand_entries<L: Leaves, E: EventSink>(
     hand(Event::EndObject, to)
 }
 
+// The object of a structure: each of its fields.
 #[cycle(hand)]
-fn hand_fields<L: Leaves, E: EventSink>(
+fn hand_structure<L: Leaves, E: EventSink>(
     alloc: Global,
     table: &Table,
     place: ValuePlace,
@@ -293,30 +320,103 @@ fn hand_fields<L: Leaves, E: EventSink>(
         (E.stands_for to.new) (E.takes to.new)) }
     ensures alike { E.alike to.old to.new }
 {
-    let shape = place.shape(table);
     match hand(Event::StartObject(Some(fields.len() as u64)), to) {
-        Ok(()) => {}
-        Err(refusal) => return Err(refusal),
+        Ok(()) => hand_fields(alloc, table, place, fields, None, leaves, to),
+        Err(refusal) => Err(refusal),
     }
+}
+
+// The pairs of those fields that are written, and the end of the object.
+#[cycle(hand)]
+pub(crate) fn hand_fields<L: Leaves, E: EventSink>(
+    alloc: Global,
+    table: &Table,
+    place: ValuePlace,
+    fields: &[(u32, Value)],
+    members: Option<&[u32]>,
+    leaves: &L,
+    to: &mut E,
+) -> Result<(), NoMemory>
+    requires laws { IsConvention (L.convention leaves.now) }
+    requires shaped { Shaped (table_data table.now) }
+    requires place { InTable (table_data table.now) (place_of place) }
+    requires rise { IfSome (option_copied members.entry) IsNonDecreasing }
+    requires parts { FieldsHold (table_data table.now) (carried_leaf (table_data table.now) (L.convention leaves.now))
+        (chosen.fields_among (option_copied members.entry) (fields_of (each_field_view fields.now))) }
+    requires ready { IsReady (E.stands_for to.old) (E.takes to.old) (fields_left (table_data table.now) (L.convention leaves.now)
+        (place_of place) (option_copied members.entry) fields.now) }
+    ensures came { OnOk result (Came (E.stands_for to.old) (E.takes to.old) (fields_left (table_data table.now) (L.convention leaves.now)
+        (place_of place) (option_copied members.entry) fields.now) (E.stands_for to.new) (E.takes to.new)) }
+    ensures alike { E.alike to.old to.new }
+{
     for part in fields {
-        let name = leaves.wire_name(table, shape, part.0);
-        match hand_key(alloc, name, to) {
-            Ok(()) => {}
-            Err(refusal) => return Err(refusal),
-        }
-        match hand_value(
-            alloc,
-            table,
-            ValuePlace::Member(part.0),
-            &part.1,
-            leaves,
-            to,
-        ) {
+        match hand_field(alloc, table, place, part, members, leaves, to) {
             Ok(()) => {}
             Err(refusal) => return Err(refusal),
         }
     }
     hand(Event::EndObject, to)
+}
+
+// The pair of a field, if it is written.
+#[cycle(hand)]
+fn hand_field<L: Leaves, E: EventSink>(
+    alloc: Global,
+    table: &Table,
+    place: ValuePlace,
+    part: &(u32, Value),
+    members: Option<&[u32]>,
+    leaves: &L,
+    to: &mut E,
+) -> Result<(), NoMemory>
+    requires laws { IsConvention (L.convention leaves.now) }
+    requires shaped { Shaped (table_data table.now) }
+    requires place { InTable (table_data table.now) (place_of place) }
+    requires rise { IfSome (option_copied members.entry) IsNonDecreasing }
+    requires part { chosen.is_written (option_copied members.entry) part.now.0 ≡ true → FieldHolds (table_data table.now)
+        (carried_leaf (table_data table.now) (L.convention leaves.now)) part.now.0 (val_of part.now.1) }
+    requires ready { IsReady (E.stands_for to.old) (E.takes to.old) (field_stream (table_data table.now) (L.convention leaves.now)
+        (place_of place) (option_copied members.entry) part.now.0 (val_of part.now.1)) }
+    ensures came { OnOk result (Came (E.stands_for to.old) (E.takes to.old) (field_stream (table_data table.now)
+        (L.convention leaves.now) (place_of place) (option_copied members.entry) part.now.0 (val_of part.now.1))
+        (E.stands_for to.new) (E.takes to.new)) }
+    ensures alike { E.alike to.old to.new }
+{
+    if is_written(members, part.0) {
+        let name = leaves.wire_name(table, place.shape(table), part.0);
+        let place = ValuePlace::Member(part.0);
+        hand_pair(alloc, table, name, place, &part.1, leaves, to)
+    } else {
+        Ok(())
+    }
+}
+
+// A pair: its name, and the value at a place.
+#[cycle(hand)]
+fn hand_pair<L: Leaves, E: EventSink>(
+    alloc: Global,
+    table: &Table,
+    name: &str,
+    place: ValuePlace,
+    value: &Value,
+    leaves: &L,
+    to: &mut E,
+) -> Result<(), NoMemory>
+    requires laws { IsConvention (L.convention leaves.now) }
+    requires shaped { Shaped (table_data table.now) }
+    requires parts { PartsHold (table_data table.now) (carried_leaf (table_data table.now) (L.convention leaves.now)) (place_of place)
+        (val_of value.now) }
+    requires ready { IsReady (E.stands_for to.old) (E.takes to.old) (pair_stream name.now
+        (written (table_data table.now) (L.convention leaves.now) (place_of place) (val_of value.now))) }
+    ensures came { OnOk result (Came (E.stands_for to.old) (E.takes to.old) (pair_stream name.now
+        (written (table_data table.now) (L.convention leaves.now) (place_of place) (val_of value.now)))
+        (E.stands_for to.new) (E.takes to.new)) }
+    ensures alike { E.alike to.old to.new }
+{
+    match hand_key(alloc, name, to) {
+        Ok(()) => hand_value(alloc, table, place, value, leaves, to),
+        Err(refusal) => Err(refusal),
+    }
 }
 
 // The one member of a union.
@@ -350,11 +450,15 @@ fn hand_one<L: Leaves, E: EventSink>(
         Ok(()) => {}
         Err(refusal) => return Err(refusal),
     }
-    match hand_key(alloc, name, to) {
-        Ok(()) => {}
-        Err(refusal) => return Err(refusal),
-    }
-    match hand_value(alloc, table, ValuePlace::Member(member), value, leaves, to) {
+    match hand_pair(
+        alloc,
+        table,
+        name,
+        ValuePlace::Member(member),
+        value,
+        leaves,
+        to,
+    ) {
         Ok(()) => {}
         Err(refusal) => return Err(refusal),
     }

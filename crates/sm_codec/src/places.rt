@@ -1,4 +1,4 @@
-// Places of values in code: what stands there, and the places within. Contracts see one as a Place of sm_shapes.
+// Places of values: what stands there, and the places within. Contracts see one as a Place of sm_shapes.
 ghost use Rattle.std.specs.Prelude.{◌≡◌, slice_index_or};
 ghost use Rattle.sm_shapes.specs.InOrder.{Shaped};
 ghost use Rattle.sm_shapes.specs.ConstraintView.{constraint_data};
@@ -6,7 +6,7 @@ ghost use Rattle.sm_shapes.specs.Places.{shape_of, kind_of, format_of, constrain
 ghost use Rattle.sm_shapes.specs.TableView.{table_data};
 ghost use Rattle.sm_codec.specs.Codec.{InTable};
 ghost use Rattle.sm_codec.specs.PlaceView.{place_of};
-ghost use Rattle.sm_codec.specs.Sorts.{sort_by, sort_of, simple_in};
+ghost use Rattle.sm_codec.specs.Sorts.{sort_by, sort_of, sort_with, simple_in};
 
 use crate::Simple;
 use sm_shapes::constraints::Constraints;
@@ -16,7 +16,7 @@ use sm_time::Format;
 
 /// Where a value stands: by itself, as one of a shape, or at a member.
 #[derive(Debug, Clone, Copy, Drop)]
-pub(crate) enum ValuePlace {
+pub enum ValuePlace {
     /// The number of its shape.
     Root(u32),
     /// The number of the member.
@@ -25,7 +25,7 @@ pub(crate) enum ValuePlace {
 
 impl ValuePlace {
     /// The number of the shape of its values. No memory.
-    pub(crate) fn shape(self, table: &Table) -> u32
+    pub fn shape(self, table: &Table) -> u32
         requires { InTable (table_data table.now) (place_of self) }
         ensures { result ≡ shape_of (table_data table.now) (place_of self) }
     {
@@ -35,8 +35,8 @@ impl ValuePlace {
         }
     }
 
-    // The format of timestamps there.
-    fn format(self, table: &Table) -> Option<Format>
+    /// The format that timestamps have there, if one is given. No memory.
+    pub fn format(self, table: &Table) -> Option<Format>
         requires { InTable (table_data table.now) (place_of self) }
         ensures { result ≡ format_of (table_data table.now) (place_of self) }
     {
@@ -47,7 +47,7 @@ impl ValuePlace {
     }
 
     /// What kind of values it has. No memory.
-    pub(crate) fn kind(self, table: &Table) -> ShapeKind
+    pub fn kind(self, table: &Table) -> ShapeKind
         requires shaped { Shaped (table_data table.now) }
         requires place { InTable (table_data table.now) (place_of self) }
         ensures { result ≡ kind_of (table_data table.now) (place_of self) }
@@ -55,8 +55,8 @@ impl ValuePlace {
         table.kind(self.shape(table))
     }
 
-    /// What its values must keep. No memory.
-    pub(crate) fn constraints(self, table: &Table) -> &Constraints
+    /// What its values must keep: at a member its own constraints. No memory.
+    pub fn constraints(self, table: &Table) -> &Constraints
         requires { InTable (table_data table.now) (place_of self) }
         ensures { constraint_data result.now ≡ constraints_of (table_data table.now) (place_of self) }
     {
@@ -66,8 +66,8 @@ impl ValuePlace {
         }
     }
 
-    /// The simple type of its values, if it is one. No memory.
-    pub(crate) fn simple(self, table: &Table) -> Option<Simple>
+    /// The simple type of its values in a document, if it is one. No memory.
+    pub fn simple(self, table: &Table) -> Option<Simple>
         requires shaped { Shaped (table_data table.now) }
         requires place { InTable (table_data table.now) (place_of self) }
         ensures { result ≡ simple_in (sort_of (table_data table.now) (place_of self)) }
@@ -75,8 +75,18 @@ impl ValuePlace {
         simple_of(table.kind(self.shape(table)), self.format(table))
     }
 
+    /// The simple type of its values, if it is one, where timestamps usually have this format. No memory.
+    pub fn simple_with(self, table: &Table, usual: Format) -> Option<Simple>
+        requires shaped { Shaped (table_data table.now) }
+        requires place { InTable (table_data table.now) (place_of self) }
+        ensures { result ≡ simple_in (sort_with usual (kind_of (table_data table.now) (place_of self))
+            (format_of (table_data table.now) (place_of self))) }
+    {
+        simple_with(usual, table.kind(self.shape(table)), self.format(table))
+    }
+
     /// The place of the entries of a list. No memory.
-    pub(crate) fn entry(self, table: &Table) -> ValuePlace
+    pub fn entry(self, table: &Table) -> ValuePlace
         requires shaped { Shaped (table_data table.now) }
         requires place { InTable (table_data table.now) (place_of self) }
         ensures { place_of result ≡ entry_place (table_data table.now) (place_of self) }
@@ -85,7 +95,7 @@ impl ValuePlace {
     }
 
     /// The place of the values of a map. No memory.
-    pub(crate) fn value(self, table: &Table) -> ValuePlace
+    pub fn value(self, table: &Table) -> ValuePlace
         requires shaped { Shaped (table_data table.now) }
         requires place { InTable (table_data table.now) (place_of self) }
         ensures { place_of result ≡ value_place (table_data table.now) (place_of self) }
@@ -104,9 +114,16 @@ fn member_or_first(members: &[u32], at: usize) -> u32
     }
 }
 
-/// The simple type of a kind of shape, if it is one. No memory.
+/// The simple type of a kind of shape in a document, if it is one: timestamps without a format are numbers of seconds. No memory.
 pub fn simple_of(kind: ShapeKind, format: Option<Format>) -> Option<Simple>
     ensures { result ≡ simple_in (sort_by kind format) }
+{
+    simple_with(Format::EpochSeconds, kind, format)
+}
+
+/// The simple type of a kind of shape, if it is one, where timestamps without a format have the usual one. No memory.
+pub fn simple_with(usual: Format, kind: ShapeKind, format: Option<Format>) -> Option<Simple>
+    ensures { result ≡ simple_in (sort_with usual kind format) }
 {
     match kind {
         ShapeKind::Blob => Some(Simple::Blob),
@@ -118,7 +135,7 @@ pub fn simple_of(kind: ShapeKind, format: Option<Format>) -> Option<Simple>
         ShapeKind::Integer => Some(Simple::Number(32)),
         ShapeKind::IntEnum => Some(Simple::Number(32)),
         ShapeKind::Long => Some(Simple::Number(64)),
-        ShapeKind::Timestamp => Some(Simple::Time(format.unwrap_or(Format::EpochSeconds))),
+        ShapeKind::Timestamp => Some(Simple::Time(format.unwrap_or(usual))),
         ShapeKind::List => None,
         ShapeKind::Map => None,
         ShapeKind::Structure => None,

@@ -38,7 +38,24 @@ pub fn carry_fault<L: Leaves>(
     ensures { IfOk result (λ found.
         found ≡ first_path (uncarried (table_data table.now) (L.convention leaves.now) (root_place shape) (val_of value.now))) }
 {
-    match first_at(alloc, table, ValuePlace::Root(shape), value, leaves) {
+    carry_fault_at(alloc, table, ValuePlace::Root(shape), value, leaves)
+}
+
+/// The same of a value at a place: at a member its own format counts. The way begins at the value.
+pub fn carry_fault_at<L: Leaves>(
+    alloc: Global,
+    table: &Table,
+    place: ValuePlace,
+    value: &Value,
+    leaves: &L,
+) -> Result<Option<Path>, NoMemory>
+    requires shaped { Shaped (table_data table.now) }
+    requires place { InTable (table_data table.now) (place_of place) }
+    requires fits { Fits (table_data table.now) any_text (place_of place) (val_of value.now) }
+    ensures { IfOk result (λ found.
+        found ≡ first_path (uncarried (table_data table.now) (L.convention leaves.now) (place_of place) (val_of value.now))) }
+{
+    match first_at(alloc, table, place, value, leaves) {
         Ok(found) => Ok(turned(found)),
         Err(refusal) => Err(refusal),
     }

@@ -1,9 +1,6 @@
 pub mod WrongBounds
 mod EnumMembers
 mod ValuesTaken
-mod Renumbered
-mod TwinPlaces
-mod TwinReadings
 mod OtherNumbers
 mod TableRows
 mod TableTwins

@@ -14,14 +14,14 @@ use Rattle.sm_codec.specs.Conventions.{node_convention}
 use Rattle.sm_codec.specs.Defaults.{counted_default, filled, filled_members, node_codec, read_value}
 use Rattle.sm_codec.specs.FaultLists.{FaultAt, Reading, faults_in}
 use Rattle.sm_codec.specs.Readings.{reading}
+use Rattle.sm_codec.specs.steps.Twins.{moved, moved_reading}
 use Rattle.sm_codec.proofs.NodeLaws.{node_laws}
+use Rattle.sm_codec.proofs.TwinPlaces.{faults_kept}
+use Rattle.sm_codec.proofs.TwinReadings.{same_reading}
 use Rattle.sm_value_rules.specs.Laws.{FaultsByEach, OneFaultList, SameFaults}
 use Rattle.sm_rules.specs.NodeChecks.{HasRow, node_reading}
 use Rattle.sm_value_rules.proofs.OtherNumbers.{nothing_lost, number_back}
-use Rattle.sm_value_rules.proofs.Renumbered.{moved}
 use Rattle.sm_value_rules.proofs.TableTwins.{AreGiven, Good, f, have_twins, member_twins, nodes_alike, root_twins}
-use Rattle.sm_value_rules.proofs.TwinPlaces.{faults_kept, moved_reading}
-use Rattle.sm_value_rules.proofs.TwinReadings.{same_reading}
 
 -- the row of a member that is given its default
 filled_row : (c : Codec) (ms : List MemberData) (i k : ℕ) (d : MemberData) → slice_get ms k ≡ Some d
@@ -75,7 +75,7 @@ module _ (g : GraphMaps) (root : List ℕ) (roots others : List (List ℕ)) (t u
       → moved_reading to (reading (node_codec t test) n (member_place k)) ≡ reading (node_codec u test) n (member_place (to k))
   plain n k good =
       let have = have_twins g root roots others t u row other_row h o test t.members u.members (as_it_is t) (as_it_is u) none_yet in
-      same_reading t u (node_convention false) test to back IsGood have inverse (node_laws false).of_type n (member_place k)
+      same_reading t u (node_convention false) test to back IsGood (node_laws false) have inverse n (member_place k)
       (member_place (to k)) (have.member k good)
 
   counted_alike : (o : Option Node) (k : ℕ) → IsGood k
@@ -101,7 +101,7 @@ module _ (g : GraphMaps) (root : List ℕ) (roots others : List (List ℕ)) (t u
       let have = have_twins g root roots others t u row other_row h o test left right (given_defaults t test) (given_defaults u test)
       filled_alike in
       let two = root_twins g root roots others t u row other_row h o test left right (given_defaults t test) (given_defaults u test) in
-      same_reading (filled t test) (filled u test) (node_convention false) test to back IsGood have inverse (node_laws false).of_type n
+      same_reading (filled t test) (filled u test) (node_convention false) test to back IsGood (node_laws false) have inverse n
       (root_place row) (root_place other_row) two
 
 -- the laws

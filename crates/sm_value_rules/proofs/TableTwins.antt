@@ -1,7 +1,7 @@
 -- Two tables that say what a graph says of all that a shape reaches: their members with one id are twins, and so are the numbers of the
 -- shape, though members may have been given defaults.
-use Rattle.std.proofs.Common.{◌≡◌, ℕ, ◌<◌, false, List, [], ◌∷◌, map, length, get_or, refl, sym, ap, ◌∙◌, subst, arith, drop, is_some}
-use Rattle.std.specs.Prelude.{Option, Some, None, slice_get}
+use Rattle.std.proofs.Common.{◌≡◌, ℕ, ◌<◌, List, [], ◌∷◌, map, length, get_or, refl, sym, ap, ◌∙◌, subst, arith, drop, is_some}
+use Rattle.std.specs.Prelude.{Option, Some, None, slice_get, unwrap_or}
 use Rattle.std.specs.FinMap as fin
 use Rattle.std.specs.List.{AllByRecursion, Contains}
 use Rattle.std.specs.Option.{option_map}
@@ -16,7 +16,8 @@ use Rattle.sm_shapes.specs.Fitting.{Test, finder}
 use Rattle.sm_shapes.specs.InOrder.{AreMembersOf, HasItsMembers}
 use Rattle.sm_shapes.specs.Places.{member_place, root_place}
 use Rattle.sm_shapes.specs.TableData.{ConstraintData, MemberData, TableData, constraints_in, default_at, first_text, format_in, kind_at}
-use Rattle.sm_shapes.specs.TableData.{kind_in, member_count, members_at, name_at, name_in, required_in, members_in as listed_in}
+use Rattle.sm_shapes.specs.TableData.{json_name_at, json_name_in, kind_in, member_count, members_at, name_at, name_in, required_in}
+use Rattle.sm_shapes.specs.TableData.{members_in as listed_in}
 use Rattle.sm_shapes.specs.TableData.{constraints_at, shape_constraints_at, shape_constraints_in, shape_format_in, sparse_at, sparse_in}
 use Rattle.sm_shapes.specs.TableData.{target_at, target_in, unique_at, unique_in}
 use Rattle.sm_shapes.specs.Values.{Val}
@@ -24,23 +25,21 @@ use Rattle.sm_shapes.specs.declared.fault.FaultKind.TheVariants.{Pattern}
 use Rattle.sm_shapes.specs.declared.kinds.ShapeKind.{ShapeKind}
 use Rattle.sm_shapes.specs.declared.kinds.ShapeKind.TheVariants as kinds
 use Rattle.sm_shapes.specs.Names.{AllDiffer}
-use Rattle.sm_codec.specs.Conventions.{node_convention}
+use Rattle.sm_codec.specs.steps.Twins.{AreTwins, HaveTwins, SayAlike, moved}
 use Rattle.sm_compile.specs.Compiled.{NamesText, Numbering, SayConstraints, SaysMember, SaysShape}
 use Rattle.sm_compile.specs.Kinds.{table_kind, value_members}
 use Rattle.sm_compile.specs.Reached.{IsReached}
 use Rattle.sm_compile.specs.Said.{ConstraintsSaid, constraints_said, default_said, format_seen}
 use Rattle.sm_compile.specs.Sound.{IsValueShape}
-use Rattle.sm_compile.specs.TraitIds.{required_id, sparse_id, unique_items_id}
-use Rattle.sm_compile.specs.TraitNodes.{effective_traits, own_traits}
+use Rattle.sm_compile.specs.TraitIds.{json_name_id, required_id, sparse_id, unique_items_id}
+use Rattle.sm_compile.specs.TraitNodes.{effective_traits, own_traits, text_of}
 use Rattle.sm_compile.proofs.OnePatterns.{same_member, same_shape}
 use Rattle.sm_compile.proofs.OneWay.{one_name}
 use Rattle.sm_compile.proofs.RowsAlike.{contains_mapped}
 use Rattle.sm_rules.specs.NodeChecks.{HasRow}
 use Rattle.sm_value_rules.proofs.OtherNumbers.{other_number, same_name_there}
-use Rattle.sm_value_rules.proofs.Renumbered.{moved}
 use Rattle.sm_value_rules.proofs.TableRows.{IsMemberReached, among_members, home_is, member_row, member_there, members_many, shape_row}
 use Rattle.sm_value_rules.proofs.TableRows.{target_reached, value_there, within}
-use Rattle.sm_value_rules.proofs.TwinPlaces.{AreTwins, HaveTwins, SayAlike}
 
 -- what one graph says of values, tables say alike
 say_alike : (t u : TableData) (test : Test) (c d : ConstraintData) (said other : ConstraintsSaid) → Path ConstraintsSaid said other
@@ -138,6 +137,9 @@ module _ (g : GraphMaps) (n m : Numbering) (t u : TableData) (k l : ℕ) (id sha
   pub names_alike : r.d.name ≡ r.e.name
   names_alike = one_name shape r.d.name r.e.name
       (ap (λ s. member_id s r.d.name) (sym r.home_d) ∙ sym r.a.name ∙ r.b.name ∙ ap (λ s. member_id s r.e.name) r.home_e)
+
+  pub json_names_alike : r.d.json_name ≡ r.e.json_name
+  json_names_alike = r.a.json_name ∙ (λ i. text_of (fin.get (one_member i).traits json_name_id)) ∙ sym r.b.json_name
 
   pub required_alike : r.d.required ≡ r.e.required
   required_alike = r.a.required ∙ (λ i. is_some (fin.get (one_member i).traits required_id)) ∙ sym r.b.required
@@ -306,11 +308,18 @@ module _ (g : GraphMaps) (root : List ℕ) (roots others : List (List ℕ)) (t u
         ap name_in (first k r.d r.at_d).1 ∙ names_alike g n m t u k (f k) good.id good.shape r
         ∙ sym (ap name_in (second (f k) r.e r.at_e).1)
 
+    json_name_twins : (k : ℕ) → Good k → json_name_at x k ≡ json_name_at y (f k)
+    json_name_twins k good =
+        let r = member_twins k good in
+        let name = names_alike g n m t u k (f k) good.id good.shape r in
+        let json = json_names_alike g n m t u k (f k) good.id good.shape r in
+        ap json_name_in (first k r.d r.at_d).1 ∙ (λ i. unwrap_or (json i) (name i)) ∙ sym (ap json_name_in (second (f k) r.e r.at_e).1)
+
     pub have_twins : ((k : ℕ) → Good k → option_map (moved f) (default_at x k) ≡ default_at y (f k))
-        → HaveTwins x y (node_convention false) test f Good
+        → HaveTwins x y test f Good
     have_twins defaults = record {
       name = name_twins;
-      wire = λ s r k good. name_twins k good;
+      json_name = json_name_twins;
       required = λ k good.
           let r = member_twins k good in
           ap required_in (first k r.d r.at_d).1 ∙ required_alike g n m t u k (f k) good.id good.shape r

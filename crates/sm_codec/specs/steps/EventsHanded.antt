@@ -1,10 +1,19 @@
 -- What is known of a sink while the events of a tree are handed to it, some after others.
-use Rattle.std.specs.Prelude.{◌≡◌, ℕ, List, [], ◌∷◌, ◌++◌}
+use Rattle.std.specs.Prelude.{◌≡◌, ◌<◌, ℕ, suc, cond, List, [], ◌∷◌, ◌++◌, Option, None, Some}
 use Rattle.sm_tree.specs.Node.{Node, Nodes, Members, list, object, tag}
 use Rattle.sm_tree.specs.Events.{NodeEvent, key_event}
-use Rattle.sm_tree.specs.Streams.{StandsFor, Takes, BeginsStream, TakesSame, TakesEach, numbered}
+use Rattle.sm_tree.specs.Streams.{StandsFor, Takes, BeginsStream, TakesSame, TakesEach, numbered, numbered_entries, numbered_pairs}
 use Rattle.sm_tree.specs.steps.Handing.{TakesAll}
-use Rattle.sm_codec.specs.Convention.{IsNested}
+use Rattle.sm_shapes.specs.Places.{Place, member_place}
+use Rattle.sm_shapes.specs.TableData.{TableData, member_count}
+use Rattle.sm_shapes.specs.Values.{Val, FieldVals, no_fields, field, vals_of, entries_of, fields_of}
+use Rattle.sm_shapes.specs.ValueView.{vals_view, each_entry_view, each_field_view}
+use Rattle.sm_shapes.specs.declared.values.Value.{Value}
+use Rattle.sm_codec.specs.Codec.{wire_name_in}
+use Rattle.sm_codec.specs.Convention.{Convention, IsNested}
+use Rattle.sm_codec.specs.Written.{written, written_entries, written_pairs, written_fields}
+use Rattle.sm_codec.specs.WrittenObjects.{is_written, fields_among}
+use Rattle.sm_codec.specs.steps.ValueParts.{LeafWord, PartsHold}
 
 -- these events may come next, one after the other, and are taken
 abbrev pub MayComeNext : StandsFor → List NodeEvent → Type 0
@@ -42,3 +51,30 @@ object_stream ms = numbered (object ms) []
 
 abbrev pub pair_stream : List ℕ → Node → List NodeEvent
 pair_stream name n = key_event name ∷ numbered n []
+
+-- the events of these parts of a list, of a map and of a structure, and of its end
+abbrev pub items_left : TableData → Convention → Place → List Value → List NodeEvent
+items_left t l p items = numbered_entries (written_entries t l p (vals_of (vals_view items))) []
+
+abbrev pub entries_left : TableData → Convention → Place → List (List ℕ × Value) → List NodeEvent
+entries_left t l p entries = numbered_pairs (written_pairs t l p (entries_of (each_entry_view entries))) []
+
+abbrev pub fields_left : TableData → Convention → Place → Option (List ℕ) → List (ℕ × Value) → List NodeEvent
+fields_left t l p members fields = numbered_pairs (written_fields t l p (fields_among members (fields_of (each_field_view fields)))) []
+
+-- the events of the pair of a field, if it is written
+abbrev pub field_stream : TableData → Convention → Place → Option (List ℕ) → ℕ → Val → List NodeEvent
+field_stream t l p members k v = cond (is_written members k) (pair_stream (wire_name_in t l p k) (written t l (member_place k) v)) []
+
+-- how many pairs an object has for some fields, and with one before them
+abbrev pub field_count : FieldVals → ℕ
+field_count no_fields = 0
+field_count (field k v fs) = suc (field_count fs)
+
+abbrev pub object_count : Option (List ℕ × List ℕ) → FieldVals → ℕ
+object_count None fs = field_count fs
+object_count (Some pair) fs = suc (field_count fs)
+
+-- what is known of one field
+abbrev pub FieldHolds : TableData → LeafWord → ℕ → Val → Type 0
+FieldHolds t leaf k v = (k < member_count t) × PartsHold t leaf (member_place k) v

@@ -9,8 +9,8 @@ use Rattle.sm_codec.specs.steps.ValueParts.{EntriesHold, PairsHold, FieldsHold, 
 use Rattle.sm_codec.proofs.ChildLists.{each_node, each_pair}
 use Rattle.sm_codec.proofs.encoding.+encode.Given as goal
 
-abbrev pub decreases-encode_at : goal.decreases-encode_at
-decreases-encode_at g l = 3 * val_nodes (val_of l.value.now)
+abbrev pub decreases-tree_at : goal.decreases-tree_at
+decreases-tree_at g l = 3 * val_nodes (val_of l.value.now)
 
 abbrev pub decreases-encode_member : goal.decreases-encode_member
 decreases-encode_member g l = 3 * val_nodes (val_of l.value.now) + 1

@@ -6,32 +6,7 @@ use Rattle.sm_shapes.specs.Values.{Val, Vals, EntryVals, FieldVals, null_val, bo
 use Rattle.sm_shapes.specs.Values.{map_val, structure_val, union_val, no_vals, val, no_entries, entry, no_fields, field, same_val}
 use Rattle.sm_shapes.specs.Values.{vals_of, entries_of, fields_of}
 use Rattle.sm_shapes.proofs.SameVals.{same_is, same_itself}
-
-abbrev mutual
-  -- the value with the numbers that its members are moved to
-  pub moved : (ℕ → ℕ) → Val → Val
-  moved f null_val = null_val
-  moved f (bool_val b) = bool_val b
-  moved f (int_val z) = int_val z
-  moved f (text_val u) = text_val u
-  moved f (blob_val u) = blob_val u
-  moved f (time_val ms) = time_val ms
-  moved f (list_val vs) = list_val (moved_vals f vs)
-  moved f (map_val es) = map_val (moved_entries f es)
-  moved f (structure_val fs) = structure_val (moved_fields f fs)
-  moved f (union_val k v) = union_val (f k) (moved f v)
-
-  pub moved_vals : (ℕ → ℕ) → Vals → Vals
-  moved_vals f no_vals = no_vals
-  moved_vals f (val v vs) = val (moved f v) (moved_vals f vs)
-
-  pub moved_entries : (ℕ → ℕ) → EntryVals → EntryVals
-  moved_entries f no_entries = no_entries
-  moved_entries f (entry key v es) = entry key (moved f v) (moved_entries f es)
-
-  pub moved_fields : (ℕ → ℕ) → FieldVals → FieldVals
-  moved_fields f no_fields = no_fields
-  moved_fields f (field k v fs) = field (f k) (moved f v) (moved_fields f fs)
+use Rattle.sm_codec.specs.steps.Twins.{moved, moved_vals, moved_entries, moved_fields}
 
 -- entries of lists of a value's parts
 abbrev pub moved_entry : (ℕ → ℕ) → List ℕ × Val → List ℕ × Val

@@ -1,54 +1,23 @@
--- Places of two tables that stand for one thing, though members have other numbers: one is the other's twin. Which tables have twins is
--- said of their members by number.
+-- What places that are twins ask of values alike, and what what stands there comes to by other numbers.
 use Rattle.std.proofs.Common.{◌≡◌, ℕ, pos, true, ◌&&◌, List, [], ◌∷◌, ◌++◌, map, length, refl}
 use Rattle.std.specs.Prelude.{Option, Result, Ok, Err}
-use Rattle.std.specs.List.{AllByRecursion}
 use Rattle.std.specs.Option.{option_map}
 use Rattle.std.specs.Str.{chars}
-use Rattle.sm_shapes.specs.Broken.{broken, is_at_least, is_at_most, length_broken, number_broken, pattern_broken, text_broken}
+use Rattle.sm_shapes.specs.Broken.{broken, is_at_least, is_at_most, length_broken, number_broken, text_broken}
 use Rattle.sm_shapes.specs.Broken.{unless}
 use Rattle.sm_shapes.specs.Fitting.{Test, finder}
-use Rattle.sm_shapes.specs.Places.{Place, member_place, constraints_of, format_of, kind_of, members_of_place, sparse_of, unique_of}
-use Rattle.sm_shapes.specs.TableData.{ConstraintData, TableData, default_at, name_at, required_at}
+use Rattle.sm_shapes.specs.Places.{Place}
+use Rattle.sm_shapes.specs.TableData.{ConstraintData, TableData}
 use Rattle.sm_shapes.specs.Values.{Val, null_val, bool_val, int_val, text_val, blob_val, time_val, list_val, map_val, structure_val}
 use Rattle.sm_shapes.specs.Values.{each_val, keys_of, union_val}
 use Rattle.sm_shapes.specs.declared.fault.FaultKind.TheVariants.{Length, Range}
 use Rattle.sm_shapes.specs.declared.kinds.ShapeKind.{ShapeKind}
-use Rattle.sm_shapes.specs.declared.kinds.ShapeKind.TheVariants as kinds
-use Rattle.sm_codec.specs.Convention.{Convention, is_of}
+use Rattle.sm_codec.specs.Convention.{is_of}
 use Rattle.sm_codec.specs.FaultLists.{FaultAt, Reading, faults_in, settled, values_in}
 use Rattle.sm_codec.specs.Readings.{Child}
 use Rattle.sm_codec.specs.declared.simple.Simple.{Simple}
 use Rattle.sm_codec.specs.declared.simple.Simple.TheVariants as the
-use Rattle.sm_value_rules.proofs.Renumbered.{moved}
-
--- constraints that say alike of values
-pub record SayAlike (t u : TableData) (test : Test) (c d : ConstraintData) : Type 0 where
-  pub min : c.min ≡ d.min
-  pub max : c.max ≡ d.max
-  pub pattern : (x : List ℕ) → pattern_broken (finder t test) c.pattern x ≡ pattern_broken (finder u test) d.pattern x
-  pub texts : c.texts ≡ d.texts
-  pub numbers : c.numbers ≡ d.numbers
-
--- a place and its twin, whose members are those of the place by their other numbers
-pub record AreTwins (t u : TableData) (test : Test) (f : ℕ → ℕ) (Good : ℕ → Type 0) (p q : Place) : Type 0 where
-  pub kind : kind_of t p ≡ kind_of u q
-  pub format : format_of t p ≡ format_of u q
-  pub unique : unique_of t p ≡ unique_of u q
-  pub sparse : sparse_of t p ≡ sparse_of u q
-  pub constraints : SayAlike t u test (constraints_of t p) (constraints_of u q)
-  pub members : map f (members_of_place t p) ≡ members_of_place u q
-  pub good : AllByRecursion Good (members_of_place t p)
-  pub one : kind_of t p ≡ kinds.List → length (members_of_place t p) ≡ 1
-  pub two : kind_of t p ≡ kinds.Map → length (members_of_place t p) ≡ 2
-
--- members that have twins
-pub record HaveTwins (t u : TableData) (l : Convention) (test : Test) (f : ℕ → ℕ) (Good : ℕ → Type 0) : Type 0 where
-  pub name : (k : ℕ) → Good k → name_at t k ≡ name_at u (f k)
-  pub wire : (s r k : ℕ) → Good k → l.name t s k ≡ l.name u r (f k)
-  pub required : (k : ℕ) → Good k → required_at t k ≡ required_at u (f k)
-  pub default : (k : ℕ) → Good k → option_map (moved f) (default_at t k) ≡ default_at u (f k)
-  pub member : (k : ℕ) → Good k → AreTwins t u test f Good (member_place k) (member_place (f k))
+use Rattle.sm_codec.specs.steps.Twins.{AreTwins, SayAlike, moved, moved_reading}
 
 -- what values break
 module _ (t u : TableData) (test : Test) (c d : ConstraintData) (h : SayAlike t u test c d) where
@@ -69,11 +38,6 @@ module _ (t u : TableData) (test : Test) (c d : ConstraintData) (h : SayAlike t 
   breaks_alike kind other e (map_val es) = lengths_alike (length (keys_of es))
   breaks_alike kind other e (structure_val fs) = refl
   breaks_alike kind other e (union_val k v) = refl
-
--- a reading by the other numbers
-abbrev pub moved_reading : (ℕ → ℕ) → Reading → Reading
-moved_reading f (Ok v) = Ok (moved f v)
-moved_reading f (Err fs) = Err fs
 
 -- what stands in trees, read by both tables
 pub record ChildTwins (t u : TableData) (test : Test) (f : ℕ → ℕ) (Good : ℕ → Type 0) (a b : Child) : Type 0 where

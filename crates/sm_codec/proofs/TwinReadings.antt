@@ -19,7 +19,7 @@ use Rattle.sm_shapes.specs.declared.fault.FaultKind.{FaultKind}
 use Rattle.sm_shapes.specs.declared.fault.FaultKind.TheVariants.{WrongType, Null, Unique, UnionCount}
 use Rattle.sm_shapes.specs.declared.kinds.ShapeKind.TheVariants as kind
 use Rattle.sm_codec.specs.Codec.{Codec, broken_at, codec_of, sort_at}
-use Rattle.sm_codec.specs.Convention.{Convention, is_of}
+use Rattle.sm_codec.specs.Convention.{Convention, IsConvention}
 use Rattle.sm_codec.specs.FaultLists.{FaultAt, Reading, faults_in, here, settled, under, values_in}
 use Rattle.sm_codec.specs.Named.{in_byte_order, named, names_of}
 use Rattle.sm_codec.specs.Readings.{ByMember, Child, absent_reading, absent_with, all_standing, children, entries_faults, entries_values}
@@ -29,11 +29,11 @@ use Rattle.sm_codec.specs.Readings.{members_fields, named_children, object_by, o
 use Rattle.sm_codec.specs.Readings.{repeated_faults, repeats, standing, standing_fields, structure_reading, under_names}
 use Rattle.sm_codec.specs.Readings.{union_faults, union_reading, union_reading_of, unique_faults, when_closed}
 use Rattle.sm_codec.specs.Sorts.{Sort, simple, a_list, a_map, a_structure, a_union, left_out, sort_by, sort_of}
-use Rattle.sm_codec.specs.declared.simple.Simple.{Simple}
+use Rattle.sm_codec.specs.steps.Twins.{AreTwins, HaveTwins, moved, moved_reading}
 use Rattle.sm_codec.proofs.PlacesIn.{kind_of_sort}
-use Rattle.sm_value_rules.proofs.Renumbered.{entries_moved, fields_moved, moved, moved_entry, moved_field, twice_moved, vals_moved}
-use Rattle.sm_value_rules.proofs.TwinPlaces.{AreTwins, HaveTwins, breaks_alike, faults_kept, lengths_alike, moved_reading, settled_moved}
-use Rattle.sm_value_rules.proofs.TwinPlaces.{Came, ChildTwins, moved_member, simple_stays, values_kept}
+use Rattle.sm_codec.proofs.Renumbered.{entries_moved, fields_moved, moved_entry, moved_field, twice_moved, vals_moved}
+use Rattle.sm_codec.proofs.TwinPlaces.{breaks_alike, faults_kept, lengths_alike, settled_moved}
+use Rattle.sm_codec.proofs.TwinPlaces.{Came, ChildTwins, moved_member, simple_stays, values_kept}
 
 module _ (t u : TableData) (l : Convention) (test : Test) (f back : ℕ → ℕ) (Good : ℕ → Type 0) where
   abbrev c : Codec
@@ -93,7 +93,7 @@ module _ (t u : TableData) (l : Convention) (test : Test) (f back : ℕ → ℕ)
       by rest false = rest
 
   -- leaves
-  module _ (lawful : (x : Simple) (n : Node) (v : Val) → l.read x n ≡ Ok v → is_of x v ≡ true) where
+  module _ (laws : IsConvention l) where
     leaf_alike : (p q : Place) → Two p q → (r : Result Val FaultKind) → ((v : Val) → r ≡ Ok v → moved f v ≡ v)
         → moved_reading f (leaf_reading c p r) ≡ leaf_reading d q r
     leaf_alike p q h (Ok v) stays =
@@ -103,7 +103,7 @@ module _ (t u : TableData) (l : Convention) (test : Test) (f back : ℕ → ℕ)
     leaf_alike p q h (Err kind) stays = refl
 
     leaf_sorted : (p q : Place) → Two p q → (n : Node) (s : Sort) → moved_reading f (leaf_by s c p n) ≡ leaf_by s d q n
-    leaf_sorted p q h n (simple x) = leaf_alike p q h (l.read x n) (λ v e. simple_stays f x v (lawful x n v e))
+    leaf_sorted p q h n (simple x) = leaf_alike p q h (l.read x n) (λ v e. simple_stays f x v (laws.of_type x n v e))
     leaf_sorted p q h n a_list = refl
     leaf_sorted p q h n a_map = refl
     leaf_sorted p q h n a_structure = refl
@@ -235,7 +235,10 @@ module _ (t u : TableData) (l : Convention) (test : Test) (f back : ℕ → ℕ)
           ∙ (λ i. settled (pairs i ++ here (count i)) (map_val (value i)))
 
   -- members
-  module _ (have : HaveTwins t u l test f Good) where
+  module _ (laws : IsConvention l) (have : HaveTwins t u test f Good) where
+    wire_alike : (s r k : ℕ) → Good k → l.name t s k ≡ l.name u r (f k)
+    wire_alike s r k good = laws.own_row t u s r k (f k) (have.name k good) (have.json_name k good)
+
     absent_alike : (k : ℕ) → Good k → moved_member f (absent_reading (when_closed t k)) ≡ absent_reading (when_closed u (f k))
     absent_alike k good =
         let default = have.default k good in
@@ -391,7 +394,7 @@ module _ (t u : TableData) (l : Convention) (test : Test) (f back : ℕ → ℕ)
 
       stands_by_name : (k : ℕ) → Good k → Twins (sa k) (sb (f k))
       stands_by_name k good =
-          subst (λ w. Twins (named (l.name t (shape_of t p) k) ps) (named w qs)) (have.wire (shape_of t p) (shape_of u q) k good)
+          subst (λ w. Twins (named (l.name t (shape_of t p) k) ps) (named w qs)) (wire_alike (shape_of t p) (shape_of u q) k good)
           (named_twins (l.name t (shape_of t p) k) ps qs h)
 
       structure_alike : moved_reading f (structure_reading c p ps) ≡ structure_reading d q qs
@@ -443,14 +446,14 @@ module _ (t u : TableData) (l : Convention) (test : Test) (f back : ℕ → ℕ)
         subst (λ js. Two (value_place t p) (member_place (slice_index_or js 1 0))) h.members
         (second_twins (members_of_place t p) h.good (h.two e))
 
-    module _ (inverse : (k : ℕ) → back (f k) ≡ k) (lawful : (x : Simple) (n : Node) (v : Val) → l.read x n ≡ Ok v → is_of x v ≡ true) where
+    module _ (inverse : (k : ℕ) → back (f k) ≡ k) where
       leaves : (n : Node) (p q : Place) → Two p q → moved_reading f (leaf_by (sort_at c p) c p n) ≡ leaf_by (sort_at d q) d q n
-      leaves n p q h = leaf_sorted lawful p q h n (sort_of t p) ∙ ap (λ s. leaf_by s d q n) (one_sort p q h)
+      leaves n p q h = leaf_sorted laws p q h n (sort_of t p) ∙ ap (λ s. leaf_by s d q n) (one_sort p q h)
 
       list_sorted : (n : Node) (p q : Place) → Two p q → (xs ys : List Child) → Twins xs ys → (s : Sort) → sort_of t p ≡ s
           → moved_reading f (list_by s c p n xs) ≡ list_by s d q n ys
       list_sorted n p q h xs ys w a_list e = list_alike inverse p q h (entry_twins p q h (kind_of_sort t p a_list e)) xs ys w
-      list_sorted n p q h xs ys w (simple x) e = leaf_sorted lawful p q h n (simple x)
+      list_sorted n p q h xs ys w (simple x) e = leaf_sorted laws p q h n (simple x)
       list_sorted n p q h xs ys w a_map e = refl
       list_sorted n p q h xs ys w a_structure e = refl
       list_sorted n p q h xs ys w a_union e = refl
@@ -463,7 +466,7 @@ module _ (t u : TableData) (l : Convention) (test : Test) (f back : ℕ → ℕ)
           map_alike p q h.sparse (key_twins p q h is) (value_twins p q h is) ps qs w h
       object_sorted n p q h ps qs w a_structure e = structure_alike p q h ps qs w
       object_sorted n p q h ps qs w a_union e = union_alike p q h ps qs w
-      object_sorted n p q h ps qs w (simple x) e = leaf_sorted lawful p q h n (simple x)
+      object_sorted n p q h ps qs w (simple x) e = leaf_sorted laws p q h n (simple x)
       object_sorted n p q h ps qs w a_list e = refl
       object_sorted n p q h ps qs w left_out e = refl
 
