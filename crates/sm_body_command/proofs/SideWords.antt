@@ -15,14 +15,14 @@ side_same Cbor Json e = absurd (subst (λ b. cond b ⊥ (Unit {0})) (ap says_jso
 side_same Cbor Cbor e = refl
 
 pub record OneBodyWords (model shape model1 shape1 : List ℕ) (near far near1 far1 : BodyForm) : Type 0 where
-  pub model : model ≡ model1
-  pub shape : shape ≡ shape1
-  pub near : near ≡ near1
-  pub far : far ≡ far1
+  pub same_model : model ≡ model1
+  pub same_shape : shape ≡ shape1
+  pub same_near : near ≡ near1
+  pub same_far : far ≡ far1
 
 pub body_words_same : (words : List (List ℕ)) (model shape model1 shape1 : List ℕ) (near far near1 far1 : BodyForm)
     → IsBodyForm words model shape near far → IsBodyForm words model1 shape1 near1 far1
     → OneBodyWords model shape model1 shape1 near far near1 far1
 body_words_same words model shape model1 shape1 near far near1 far1 h i =
     let e = sym h ∙ i in
-    record { model = cc; shape = cc; near = side_same near near1 (cc); far = side_same far far1 (cc) }
+    record { same_model = cc; same_shape = cc; same_near = side_same near near1 (cc); same_far = side_same far far1 (cc) }

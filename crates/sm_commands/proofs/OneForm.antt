@@ -31,9 +31,9 @@ first_same words x y h i =
 pub one_form : OneCommandForm
 one_form words (check_command models) (check_command models1) h i = ap check_command (alone_same words (codes "check") models models1 h i)
 one_form words (body_command model shape near far) (body_command model1 shape1 near1 far1) h i =
-    let same = body_words_same words model shape model1 shape1 near far near1 far1 h i in
-    ap (λ x. body_command x shape near far) same.model ∙ ap (λ x. body_command model1 x near far) same.shape
-    ∙ ap (λ x. body_command model1 shape1 x far) same.near ∙ ap (λ x. body_command model1 shape1 near1 x) same.far
+    let both = body_words_same words model shape model1 shape1 near far near1 far1 h i in
+    ap (λ x. body_command x shape near far) both.same_model ∙ ap (λ x. body_command model1 x near far) both.same_shape
+    ∙ ap (λ x. body_command model1 shape1 x far) both.same_near ∙ ap (λ x. body_command model1 shape1 near1 x) both.same_far
 one_form words (convert_command models form) (convert_command models1 form1) h i =
     let both = convert_words_same words models models1 form form1 h i in
     ap (λ ms. convert_command ms form) both.0 ∙ ap (convert_command models1) both.1

@@ -1,6 +1,6 @@
 -- From what a command came to, and what was printed, to how the program ends. The answers of `run` cite it.
-use Rattle.std.proofs.Common.{◌≡◌, ℕ, Bool, true, false, true≢false, inl, inr, List, [], Option, Some, None, Result, Ok, Err, arith}
-use Rattle.std.proofs.Common.{sym, subst, refl}
+use Rattle.std.proofs.Common.{◌≡◌, ℕ, Bool, true, false, true≢false, inl, inr, List, [], ◌∷◌, Option, Some, None, Result, Ok, Err}
+use Rattle.std.proofs.Common.{sym, subst, refl, arith}
 use Rattle.std.specs.Global.{Vec}
 use Rattle.std.specs.Prelude.{Contains}
 use Rattle.std.specs.Io.KnownBytes.{Keeps}
@@ -86,7 +86,7 @@ keeps_all before after e = subst (λ x. Keeps before.bytes x.bytes) (sym e) (kep
 
 -- files that are as they were keep what isn't written
 pub files_kept : (words : List (List ℕ)) (before after : Option Folder) → after ≡ before → KeepsFiles words before after
-files_kept words before after e command name is unwritten = subst (λ x. StandsAsBefore before x name) (sym e) (kept before)
+files_kept words before after e command name is other = subst (λ x. StandsAsBefore before x name) (sym e) (kept before)
   where
     kept : (folder : Option Folder) → StandsAsBefore folder folder name
     kept None = tt

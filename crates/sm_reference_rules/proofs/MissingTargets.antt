@@ -190,8 +190,3 @@ pub standing_there : (g : Graph) (s : ℕ) (id : List ℕ) → Stands g s id →
 standing_there g s id at =
     let o = at_opened g s (λ found e. (found ≡ id) × (fin.get (maps_of g).shapes id ≡ Some e)) at in
     (o.entry, o.is.1)
-
--- in the prelude nothing is told
-pub none_targeted : (g : GraphMaps) (id : List ℕ) (e : EventTold) → is_prelude_id id ≡ true
-    → IsEventAt TargetMissing (TargetsNothing g) id e → ⊥
-none_targeted g id e of_prelude h = apart (sym (h.1).1.1 ∙ of_prelude)

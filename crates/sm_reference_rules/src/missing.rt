@@ -8,7 +8,7 @@ ghost use Rattle.sm_rules.specs.Targets.{RefersToNothing};
 ghost use Rattle.sm_rules.specs.RuleEvents.{IsEventAt, IsEventOf, Puts};
 ghost use Rattle.sm_rules.specs.declared.rule.Rule.TheVariants.{TargetMissing};
 ghost use Rattle.sm_reference_rules.specs.steps.Missing.{TargetsNothing, ToldMissing};
-ghost use Rattle.sm_reference_rules.proofs.MissingTargets.{none_targeted};
+ghost use Rattle.sm_reference_rules.specs.steps.Silent.{none_targeted};
 
 use crate::references::{AtReference, put_bodies};
 use sm_model::{Graph, ModelEvent, Relation};

@@ -273,8 +273,3 @@ pub conflicts_put : (g : GraphMaps) (a b c : List ModelEvent) → Puts (IsEventO
     → Puts (IsEventOf TraitConflict (HasExcludedTrait g)) b c → Puts (IsEventOf TraitConflict (HasConflict g)) a c
 conflicts_put g a b c h k =
     puts_parts TraitConflict (HasExclusiveTraits g) (HasExcludedTrait g) (HasConflict g) a b c (both_parts g) h k
-
--- in the prelude nothing is told
-pub no_excluded : (g : GraphMaps) (id : List ℕ) (e : EventTold) → is_prelude_id id ≡ true
-    → IsEventAt TraitConflict (HasExcludedTrait g) id e → ⊥
-no_excluded g id e of_prelude h = apart (sym h.1.own.1 ∙ of_prelude)

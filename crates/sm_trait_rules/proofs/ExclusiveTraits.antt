@@ -123,8 +123,3 @@ module _ (g : GraphMaps) (id : List ℕ) where
           ]
         ]
       ]
-
--- in the prelude nothing is told
-pub no_exclusive : (g : GraphMaps) (id : List ℕ) (e : EventTold) → is_prelude_id id ≡ true
-    → IsEventAt TraitConflict (HasExclusiveTraits g) id e → ⊥
-no_exclusive g id e of_prelude h = apart (sym h.1.own.1 ∙ of_prelude)

@@ -263,8 +263,3 @@ pub nothing_behind : (g : GraphMaps) (o : Option (List ℕ)) → ((id : List ℕ
     → entry_behind (entry_where g o) ≡ behind.Nothing
 nothing_behind g None h = refl
 nothing_behind g (Some id) h = ap entry_behind (h id refl)
-
--- in the prelude nothing is told
-pub none_judged : (rule : Rule) (wrong : Judgement) (g : GraphMaps) (id : List ℕ) (e : EventTold) → is_prelude_id id ≡ true
-    → ToldJudged rule wrong g id e → ⊥
-none_judged rule wrong g id e of_prelude j = apart (sym (ap not of_prelude) ∙ j.2)

@@ -101,8 +101,3 @@ trait_there trait (Some e) n h = (e, refl)
 
 pub unknown_there : (g : GraphMaps) (id trait : List ℕ) → HasUnknownTrait g id trait → IsInGraph g id
 unknown_there g id trait h = trait_there trait (fin.get g.shapes id) h.n h.carries.1
-
--- in the prelude nothing is told
-pub no_unknown : (g : GraphMaps) (id : List ℕ) (e : EventTold) → is_prelude_id id ≡ true
-    → IsEventAt TraitUnknown (HasUnknownTrait g) id e → ⊥
-no_unknown g id e of_prelude h = apart (sym h.1.carries.0 ∙ of_prelude)

@@ -15,7 +15,7 @@ ghost use Rattle.sm_rules.specs.declared.rule.Rule.TheVariants.{TraitConflict};
 ghost use Rattle.sm_trait_rules.specs.steps.Conflicting.{AreExcluded, AreTextsOf, HasText, IsExcludedAt, IsGreaterBy, IsGreaterIfHeld};
 ghost use Rattle.sm_trait_rules.specs.steps.Conflicting.{IsGreaterOfAny, IsGreaterOfBoth, IsGreaterOfTrait, IsGreaterThere, IsHeldThere};
 ghost use Rattle.sm_trait_rules.specs.steps.Conflicting.{ToldHeld, conflicts_in, conflicts_under};
-ghost use Rattle.sm_trait_rules.proofs.ConflictsTold.{no_excluded};
+ghost use Rattle.sm_trait_rules.specs.steps.Silent.{no_excluded};
 ghost use Rattle.sm_rules.specs.TraitShapes.{HasConflict, HasExcludedTrait};
 
 use crate::exclusive::put_exclusive;

@@ -12,7 +12,7 @@ ghost use Rattle.sm_compile.specs.steps.Naming.{texts_of_all};
 ghost use Rattle.sm_rules.specs.RuleEvents.{IsEventAt, IsEventOf, Puts, rule_event};
 ghost use Rattle.sm_rules.specs.declared.rule.Rule.TheVariants.{TraitConflict};
 ghost use Rattle.sm_trait_rules.specs.steps.Excluding.{ToldGreater, is_greater, is_smaller, of_methods, of_sides};
-ghost use Rattle.sm_trait_rules.proofs.ExclusiveTraits.{no_exclusive};
+ghost use Rattle.sm_trait_rules.specs.steps.Silent.{no_exclusive};
 ghost use Rattle.sm_passes.specs.Putting.{IsWhere, ToldOf};
 
 use sm_model::{Graph, ModelEvent};

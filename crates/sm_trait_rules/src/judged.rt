@@ -7,7 +7,7 @@ ghost use Rattle.sm_model.specs.GraphView.{AreShapeNumbers, IsShapeNumber, maps_
 ghost use Rattle.sm_model.specs.Reaching.{id_of_number};
 ghost use Rattle.sm_rules.specs.RuleEvents.{Puts};
 ghost use Rattle.sm_trait_rules.specs.steps.Judging.{ToldJudged, ToldMember, ToldShape, ToldTrait, ToldTraits, behind_of, is_own_member};
-ghost use Rattle.sm_trait_rules.proofs.JudgedTraits.{none_judged};
+ghost use Rattle.sm_trait_rules.specs.steps.Silent.{none_judged};
 ghost use Rattle.sm_passes.specs.Putting.{ToldOf};
 
 use sm_compile::{id_text, kind_of, members_of, target_of};

@@ -8,7 +8,7 @@ ghost use Rattle.sm_rules.specs.RuleEvents.{IsEventAt, IsEventOf, Puts, rule_eve
 ghost use Rattle.sm_rules.specs.declared.rule.Rule.TheVariants.{TraitUnknown};
 ghost use Rattle.sm_rules.specs.Traits.{HasUnknownTrait};
 ghost use Rattle.sm_trait_rules.specs.steps.Knowing.{ToldUnknown, is_defined, is_unknown};
-ghost use Rattle.sm_trait_rules.proofs.UnknownTraits.{no_unknown};
+ghost use Rattle.sm_trait_rules.specs.steps.Silent.{no_unknown};
 ghost use Rattle.sm_passes.specs.Putting.{IsWhere, ToldOf};
 
 use crate::known::has_row;

@@ -112,15 +112,6 @@ module _ (g : GraphMaps) (id : List ℕ) (own : is_prelude_id id ≡ false) wher
       puts_same AnyBound (IsEventAt ConstraintBounds (HasWrongBounds g) id) a c
       (λ e. (bounds_forth e, λ h. bounds_back e h.0 h.1 h.2)) (puts_both _ _ a b c first second)
 
--- in the prelude nothing is told
-none_wrong : (g : GraphMaps) (id detail : List ℕ) → is_prelude_id id ≡ true → HasWrongBounds g id detail → ⊥
-none_wrong g id detail of_prelude (wrong_length n own read bad is) = apart (sym own ∙ of_prelude)
-none_wrong g id detail of_prelude (wrong_range n own read bad is) = apart (sym own ∙ of_prelude)
-
-pub no_bounds : (g : GraphMaps) (id : List ℕ) (e : EventTold) → is_prelude_id id ≡ true
-    → IsEventAt ConstraintBounds (HasWrongBounds g) id e → ⊥
-no_bounds g id e of_prelude h = none_wrong g id h.0 of_prelude h.1
-
 -- what has bounds is there
 read_there : (trait : List ℕ) (o : Option Entry) (n : Node) → that_reads trait (trait_in trait o) ≡ Some n → (e : Entry) × (o ≡ Some e)
 read_there trait None n h = absurd (none-some n h)

@@ -4,4 +4,5 @@ pub mod Defaulting
 pub mod Enums
 pub mod Nodes
 pub mod SeenValues
+pub mod Silent
 pub mod Valuing

@@ -8,7 +8,7 @@ ghost use Rattle.sm_model.specs.Reaching.{id_of_number};
 ghost use Rattle.sm_rules.specs.Constraints.{HasWrongBounds};
 ghost use Rattle.sm_rules.specs.RuleEvents.{IsEventAt, IsEventOf, Puts};
 ghost use Rattle.sm_rules.specs.declared.rule.Rule.TheVariants.{ConstraintBounds};
-ghost use Rattle.sm_value_rules.proofs.WrongBounds.{no_bounds};
+ghost use Rattle.sm_value_rules.specs.steps.Silent.{no_bounds};
 ghost use Rattle.sm_value_rules.specs.steps.Bounding.{is_wrong_length, is_wrong_range};
 
 use sm_compile::{
