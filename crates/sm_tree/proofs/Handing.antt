@@ -76,7 +76,8 @@ untimed_append (by_byte e k ∷ ts) us = ap (λ fs. e ∷ fs) (untimed_append ts
 untimed_append (by_end e ∷ ts) us = ap (λ fs. e ∷ fs) (untimed_append ts us)
 
 -- what is handed on stands before the events of the rest
-pub handed_untimed : (left : ℕ) (ts us : List TimedEvent) (out : List NodeEvent) → HandsOn left ts out → untimed (ts ++ us) ≡ out ++ untimed us
+pub handed_untimed : (left : ℕ) (ts us : List TimedEvent) (out : List NodeEvent) → HandsOn left ts out
+    → untimed (ts ++ us) ≡ out ++ untimed us
 handed_untimed left ts us out h = untimed_append ts us ∙ ap (λ es. es ++ untimed us) (hands_untimed left ts out h)
 
 -- what begins a stream's beginning begins it
