@@ -23,32 +23,6 @@ pub use path::{Path, Step};
 pub use refusal::{MOST_LEVELS, SyntaxRefusal};
 pub use same::is_same;
 pub use size::tree_size;
-use std::alloc::{AllocError, AllocFailed};
+pub use sm_bytes::NoMemory;
 pub use text::{Bytes, SHORT_LEN, Text};
 pub use tree::{Items, Pairs, Tree};
-
-/// The allocator refused the memory that a call needs.
-#[derive(Debug, Clone, Copy, PartialEq, Eq, Drop)]
-pub struct NoMemory;
-
-impl From<AllocError> for NoMemory {
-    ghost use Rattle.std.specs.Prelude.{◌≡◌};
-    ghost use Rattle.sm_tree.specs.declared.NoMemory.{NoMemory};
-
-    ghost from_gives = { λ _ refusal. refusal ≡ record {} };
-
-    fn from(_error: AllocError) -> Self {
-        NoMemory
-    }
-}
-
-impl<T: Drop> From<AllocFailed<T>> for NoMemory {
-    ghost use Rattle.std.specs.Prelude.{◌≡◌};
-    ghost use Rattle.sm_tree.specs.declared.NoMemory.{NoMemory};
-
-    ghost from_gives = { λ _ refusal. refusal ≡ record {} };
-
-    fn from(_refused: AllocFailed<T>) -> Self {
-        NoMemory
-    }
-}
