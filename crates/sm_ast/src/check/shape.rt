@@ -12,9 +12,9 @@ use super::node::check_members;
 use super::pairs::{PairRule, check_pairs};
 use crate::id::{has_member, is_shape_id};
 use crate::layout::type_of;
-use crate::part::{pairs_of, says, tree_under};
+use crate::part::says;
 use crate::refusal::AstRefusal;
-use sm_tree::{Text, Tree};
+use sm_tree::{Text, Tree, pairs_of, tree_under};
 use std::alloc::Global;
 
 #[derive(Drop)]
