@@ -6,9 +6,8 @@ ghost use Rattle.sm_ast.specs.Faults.{type_said};
 ghost use Rattle.sm_ast.specs.declared.layout.FieldForm.TheVariants.{Traits};
 ghost use Rattle.sm_ast.specs.Layout.{field_named, layout_of, member_fields, mixin_fields, shape_fields, traits_name, type_named};
 
-use crate::part::text_of;
 use sm_model::{Kind, PropertyForm};
-use sm_tree::Tree;
+use sm_tree::{Tree, text_of};
 
 /// What the `type` of an object of `shapes` says.
 #[derive(Debug, Clone, Copy, PartialEq, Eq, Drop)]

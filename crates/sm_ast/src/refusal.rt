@@ -46,17 +46,6 @@ impl<T: Drop> From<AllocFailed<T>> for AstRefusal {
     }
 }
 
-impl From<sm_ids::NoMemory> for AstRefusal {
-    ghost use Rattle.std.specs.Prelude.{◌≡◌};
-    ghost use Rattle.sm_ast.specs.declared.refusal.AstRefusal.TheVariants.{NoMemory};
-
-    ghost from_gives = { λ _ refusal. refusal ≡ NoMemory };
-
-    fn from(_refused: sm_ids::NoMemory) -> Self {
-        AstRefusal::NoMemory
-    }
-}
-
 impl AstRefusal {
     /// A field that is missing, unknown or repeated here. No memory.
     pub(crate) fn field(alloc: Global) -> Self

@@ -4,11 +4,13 @@
 
 mod escape;
 pub mod laws;
+mod no_memory;
 mod place;
 mod run;
 mod utf8;
 
 pub use escape::{hex_value, short_escape};
+pub use no_memory::NoMemory;
 pub use place::{make_room, place_byte, place_slice};
 pub use run::{ByteClass, run_len};
 pub use utf8::{Utf8, is_lead, is_second, is_tail, whole_len};

@@ -12,7 +12,7 @@ use Rattle.sm_cbor.specs.steps.Marks.{Keys, plain, marked}
 use Rattle.sm_cbor.specs.steps.Rest.{CborState, CborLeads, LeadsBack, CborStops, first_state}
 use Rattle.sm_cbor.specs.steps.Machine.{levels_of, cbor_state_at, cbor_state_of, IsAt, IsBadByte, IsOtherKey, OpensTooDeep, CborTakesByte}
 use Rattle.sm_cbor.specs.steps.Machine.{IsFirstLevel}
-use Rattle.sm_cbor.specs.steps.Levels.{first_level}
+use Rattle.sm_tree.specs.Nested.{innermost_of}
 use Rattle.sm_cbor.specs.declared.place.Level.{Level}
 use Rattle.sm_cbor.specs.declared.place.Level.TheVariants.{ListToBreak as AListToBreak, MapToBreak as AMapToBreak}
 use Rattle.sm_cbor.specs.declared.place.Place.{Place}
@@ -26,11 +26,11 @@ first_is : (ls : List Level) (l : Level) → IsFirstLevel l ls → (ks : List Le
 first_is [] l e = absurd cc
 first_is (k ∷ ks) l e = (ks, let same : k ≡ l = cc in ap (λ x. x ∷ ks) same)
 
-nothing_open : (ls : List Level) → first_level ls ≡ None → ls ≡ []
+nothing_open : (ls : List Level) → innermost_of ls ≡ None → ls ≡ []
 nothing_open [] e = refl
 nothing_open (k ∷ ks) e = absurd cc
 
-pub done_bad : (r : Reader) (c : ℕ) → first_level (levels_of r) ≡ None → IsBadByte (cbor_state_at r After) c
+pub done_bad : (r : Reader) (c : ℕ) → innermost_of (levels_of r) ≡ None → IsBadByte (cbor_state_at r After) c
 done_bad r c none = subst (λ ls. IsBadByte (at After r.held.items ls) c) (sym (nothing_open (levels_of r) none)) (record {
   stops = λ limit. done_stops plain limit c r.held.items;
   no_key = inl (λ limit. done_stops marked limit mark r.held.items);

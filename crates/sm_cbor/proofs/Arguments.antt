@@ -114,7 +114,7 @@ with_argument_at c =
 abbrev head_at : ℕ → Head
 head_at c = cond (nat_le 28 (c % 32)) (without_argument_at c) (with_argument_at c)
 
-other_byte : (c m : ℕ) → c ≢ m → (c == m) ≡ false
+pub other_byte : (c m : ℕ) → c ≢ m → (c == m) ≡ false
 other_byte c m other = grind (arith, nat_tests)
 
 simple_apart : (c : ℕ) (j : Subject) → SubjectIs c j → c / 32 ≡ 7 → 20 ≤ c % 32 → c % 32 < 24 → ⊥

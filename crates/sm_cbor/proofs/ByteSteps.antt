@@ -12,7 +12,7 @@ use Rattle.sm_cbor.specs.steps.Marks.{plain, marked}
 use Rattle.sm_tree.specs.Limits.{most_levels}
 use Rattle.sm_cbor.specs.steps.Reading.{StartsNumber, major_of}
 use Rattle.sm_cbor.specs.steps.Machine.{levels_of, cbor_state_at, ArgumentLives, IsAt, CborGoes, IsBadByte, IsFirstLevel}
-use Rattle.sm_cbor.specs.steps.Levels.{first_level, LosesInnermost}
+use Rattle.sm_tree.specs.Nested.{innermost_of, LosesInnermost}
 use Rattle.sm_cbor.specs.declared.place.StringKind.{StringKind}
 use Rattle.sm_cbor.specs.declared.place.StringKind.TheVariants.{Bytes, Text, Key as KeyText}
 use Rattle.sm_cbor.specs.declared.place.Span.TheVariants.{Whole, Chunk}
@@ -195,7 +195,7 @@ map_break_goes S M T r next q there e taken goes =
 pub innermost_left : (before behind : List Level) (o : Option Level) (l : Level) → LosesInnermost before behind o → IsFirstLevel l before
     → before ≡ l ∷ behind
 innermost_left before behind None l (none, same) first =
-    absurd (let f : first_level [] ≡ Some l = sym (ap first_level none) ∙ first in cc)
+    absurd (let f : innermost_of [] ≡ Some l = sym (ap (λ ls. innermost_of ls) none) ∙ first in cc)
 innermost_left before behind (Some m) l is first =
-    let same : Some m ≡ Some l = sym (ap first_level is) ∙ first in
+    let same : Some m ≡ Some l = sym (ap (λ ls. innermost_of ls) is) ∙ first in
     is ∙ ap (λ x. x ∷ behind) (let f : m ≡ l = cc in f)

@@ -1,5 +1,5 @@
--- How many entries and pairs of a tree the vectors of the code hold, and bytes placed one after the other.
-use Rattle.std.proofs.Common.{◌≡◌, ℕ, suc, List, [], ◌∷◌, ◌++◌, refl, ap, ◌∙◌, length, append_assoc}
+-- How many entries and pairs of a tree the vectors of the code hold.
+use Rattle.std.proofs.Common.{◌≡◌, ℕ, suc, List, [], ◌∷◌, refl, ap, length}
 use Rattle.sm_tree.specs.Node.{nodes_of, members_of}
 use Rattle.sm_tree.specs.View.{nodes_view, members_view}
 use Rattle.sm_tree.specs.declared.tree.Tree.{Tree}
@@ -12,7 +12,3 @@ nodes_counted (t ∷ ts) = ap suc (nodes_counted ts)
 pub members_counted : (ms : List (List ℕ × Tree)) → pair_count (members_of (members_view ms)) ≡ length ms
 members_counted [] = refl
 members_counted (m ∷ ms) = ap suc (members_counted ms)
-
--- p and then w were placed behind a
-pub placed_twice : (a between after p w : List ℕ) → between ≡ a ++ p → after ≡ between ++ w → after ≡ a ++ (p ++ w)
-placed_twice a between after p w first second = second ∙ ap (λ l. l ++ w) first ∙ append_assoc a p w

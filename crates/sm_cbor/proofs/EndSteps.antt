@@ -13,7 +13,7 @@ use Rattle.sm_cbor.specs.CborItem.{IsOpaque}
 use Rattle.sm_cbor.specs.steps.Marks.{Keys, plain}
 use Rattle.sm_cbor.specs.steps.Reading.{IsOf, integer_event}
 use Rattle.sm_cbor.specs.steps.Rest.{CborLeads, before_span}
-use Rattle.sm_cbor.specs.steps.Levels.{levels_in}
+use Rattle.sm_tree.specs.Nested.{nested_in}
 use Rattle.sm_cbor.specs.steps.Machine.{levels_of, cbor_state_at, opened, ArgumentLives, CborHolds, Begun, IsAt, CborGoes, OpensLevel}
 use Rattle.sm_cbor.specs.steps.Sinks.{Reached, Owed}
 use Rattle.sm_cbor.specs.declared.place.StringKind.{StringKind}
@@ -93,7 +93,7 @@ pub key_goes : (S T : StandsFor) (before behind : Reader) → IsAt before (Strin
     → behind.levels ≡ before.levels → TakesOn S (key_event before.held.items) T
     → CborGoes S before [] (String KeyText Whole 0 Between) [] T behind
 key_goes S T before behind there place levels taken =
-    let same_levels : levels_of behind ≡ levels_of before = ap levels_in levels in
+    let same_levels : levels_of behind ≡ levels_of before = ap (λ n. nested_in n) levels in
     goes_to S T before behind (String KeyText Whole 0 Between) [] (key_event before.held.items ∷ [])
     (record {
       there = subst (IsAt behind) (sym place) (record {
@@ -149,7 +149,7 @@ before_holds r kind Chunk n there = holds_more kind r.held.items there.keeps.2
 pub string_there : (r q : Reader) (kind : StringKind) (span : Span) (n : ℕ) → IsAt r (InArgument (StringHead kind span) 0 n)
     → q.held.items ≡ before_span span r.held.items → q.levels ≡ r.levels → IsAt q (String kind span n Between)
 string_there r q kind span n there e levels =
-    let same_levels : levels_of q ≡ levels_of r = ap levels_in levels in
+    let same_levels : levels_of q ≡ levels_of r = ap (λ n. nested_in n) levels in
     record {
       room = let room = there.room in let len = ap length same_levels in omega arith;
       keeps = (omega arith, subst (CborHolds kind Between) (sym e) (before_holds r kind span n there));
@@ -160,7 +160,7 @@ string_leads : (r q : Reader) (kind : StringKind) (span : Span) (n : ℕ) → Is
     → (w : Keys) (limit : ℕ) → most_levels ≤ limit
     → CborLeads w limit (cbor_state_at r (InArgument (StringHead kind span) 0 n)) [] [] (cbor_state_at q (String kind span n Between))
 string_leads r q kind span n there e levels w limit high =
-    let same_levels : levels_of q ≡ levels_of r = ap levels_in levels in
+    let same_levels : levels_of q ≡ levels_of r = ap (λ n. nested_in n) levels in
     subst (λ ks. CborLeads w limit (cbor_state_at r (InArgument (StringHead kind span) 0 n)) [] []
     (record { place = String kind span n Between; held = q.held.items; levels = ks })) (sym same_levels)
     (subst (λ t. CborLeads w limit (cbor_state_at r (InArgument (StringHead kind span) 0 n)) [] []

@@ -3,6 +3,7 @@ use Rattle.std.proofs.Common.{Ok, Err, ◌≡◌, ℕ, ◌+◌, ◌-◌, ◌≤�
 use Rattle.std.proofs.Common.{arith, length, take, drop, get_or, length-drop}
 use Rattle.std.proofs.Math.Seq.{take-add}
 use Rattle.std.proofs.lemmas.List.{take_more, drop_more, take_all}
+use Rattle.sm_tree.proofs.ListEnds.{rest_of}
 use Rattle.sm_tree.specs.Node.{Node, null, bool, int, number, text, bytes, tag, opaque, list, object, no_nodes, node, no_members, member}
 use Rattle.sm_tree.specs.Timing.{TimedEvent}
 use Rattle.sm_tree.specs.declared.refusal.SyntaxRefusal.{SyntaxRefusal}
@@ -46,9 +47,6 @@ goes_joined S M T r q x u v h g = record {
   taken = takes_both S M T h.out g.out h.taken g.taken;
   sound = g.sound;
 }
-
-rest_of : (bs : List ℕ) (i : ℕ) → take (length bs - i) (drop i bs) ≡ drop i bs
-rest_of bs i = take_all (length bs - i) (drop i bs) (omega (arith, length-drop i bs))
 
 -- a turn
 pub turn_goes : (S M T : StandsFor) (r q x : Reader) (bs : List ℕ) (i n : ℕ) → i ≤ length bs → CborGoes S r [] r.place (take i bs) M q

@@ -5,7 +5,6 @@ use Rattle.std.specs.Int.{w64}
 use Rattle.std.specs.Fmt.{signed_decimal}
 use Rattle.std.specs.List.{concat}
 use Rattle.std.proofs.lemmas.Bool.{cond-false}
-use Rattle.std.proofs.lemmas.Bool.Decides.{nat_tests}
 use Rattle.sm_tree.specs.Json.{AreBytes}
 use Rattle.sm_tree.specs.Node.{Node, Nodes, Members, null, bool, int, number, text, bytes, tag, opaque, list, object, no_nodes, node}
 use Rattle.sm_tree.specs.Node.{no_members, member}
@@ -17,7 +16,7 @@ use Rattle.sm_tree.proofs.NodeKinds.{of_list, of_object, null_only, true_only, f
 use Rattle.sm_tree.proofs.NodeKinds.{list_only, object_only}
 use Rattle.sm_tree.specs.SyntaxLaws.{HasOneReading}
 use Rattle.sm_cbor.specs.Refusals.{cbor_syntax}
-use Rattle.sm_cbor.proofs.Arguments.{argument_starts, argument_onward, no_argument}
+use Rattle.sm_cbor.proofs.Arguments.{other_byte, argument_starts, argument_onward, no_argument}
 use Rattle.sm_cbor.proofs.StringSteps.{split}
 
 -- what a byte is followed by
@@ -108,9 +107,6 @@ at_byte c b k e f = ap (λ x. kind_at (x / 32) x) e ∙ f
 
 at_type : (c m : ℕ) (k : NodeKind) → c / 32 ≡ m → kind_at m c ≡ k → kind_at (c / 32) c ≡ k
 at_type c m k e f = ap (λ x. kind_at x c) e ∙ f
-
-other_byte : (c m : ℕ) → c ≢ m → (c == m) ≡ false
-other_byte c m other = grind (arith, nat_tests)
 
 opaque_kind : (c : ℕ) → c ≢ 0xF4 → c ≢ 0xF5 → c ≢ 0xF6 → c ≢ 0xF7 → simple_kind c ≡ of_opaque
 opaque_kind c a b d e =

@@ -11,7 +11,7 @@ use Rattle.sm_cbor.specs.steps.Marks.{Keys, plain}
 use Rattle.sm_cbor.specs.steps.Rest.{CborState, CborLeads}
 use Rattle.sm_cbor.specs.steps.Sinks.{Reached}
 use Rattle.sm_cbor.specs.steps.Machine.{levels_of, cbor_state_at, cbor_state_of, Begun, IsAt, IsSoundReader, BehindItem, CborGoes}
-use Rattle.sm_cbor.specs.steps.Levels.{LosesInnermost}
+use Rattle.sm_tree.specs.Nested.{LosesInnermost}
 use Rattle.sm_cbor.specs.declared.place.Level.{Level}
 use Rattle.sm_cbor.specs.declared.place.Level.TheVariants.{Tag, List as AList, Map as AMap}
 use Rattle.sm_cbor.specs.declared.place.Place.{Place}

@@ -3,6 +3,7 @@ use Rattle.std.proofs.Common.{◌≡◌, ◌≢◌, ℕ, ◌+◌, ◌-◌, ◌/�
 use Rattle.std.proofs.Common.{◌∙◌, arith, length, length-append, append-nil, append_assoc, IsUtf8}
 use Rattle.std.specs.List.{concat}
 use Rattle.sm_tree.specs.Json.{AreBytes}
+use Rattle.sm_tree.proofs.ListEnds.{tails}
 use Rattle.sm_tree.specs.Events.{key_event, text_event, bytes_event}
 use Rattle.sm_tree.specs.Timing.{TimedEvent, by_byte}
 use Rattle.sm_bytes.specs.declared.utf8.Utf8.{Utf8}
@@ -25,9 +26,6 @@ use Rattle.sm_cbor.proofs.Items.{at}
 use Rattle.sm_cbor.proofs.Readings.{leads_silent, leads_one}
 
 -- a run that is no longer than what comes is its prefix
-tails : (c d : ℕ) (s t : List ℕ) → c ∷ s ≡ d ∷ t → s ≡ t
-tails c d s t e = cc
-
 pub split : (v s u r : List ℕ) → v ++ s ≡ u ++ r → length v ≤ length u → (q : List ℕ) × (u ≡ v ++ q) × (s ≡ q ++ r)
 split [] s u r e few = (u, refl, e)
 split (c ∷ v) s [] r e few = absurd (omega arith)

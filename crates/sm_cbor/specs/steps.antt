@@ -1,6 +1,5 @@
 pub mod Marks
 pub mod Reading
-pub mod Levels
 pub mod Rest
 pub mod Machine
 pub mod Descent

@@ -7,7 +7,6 @@ mod head;
 mod integer;
 pub mod laws;
 mod length;
-mod levels;
 mod pieces;
 mod place;
 mod put;

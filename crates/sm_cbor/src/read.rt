@@ -13,10 +13,9 @@ mod strings;
 mod whole;
 
 use crate::descent::{Unread, read_item};
-use crate::levels::Levels;
 use crate::pieces::read_by_bytes;
-use crate::place::{Place, StringKind};
-use sm_tree::{EventSink, SyntaxRefusal, Tree};
+use crate::place::{Level, Place, StringKind};
+use sm_tree::{EventSink, Nested, SyntaxRefusal, Tree};
 use std::alloc::Global;
 
 /// Reads one item, from bytes that may come in pieces.
@@ -25,7 +24,7 @@ pub struct Reader {
     /// Where the reader stands.
     place: Place,
     /// What is open.
-    levels: Levels,
+    levels: Nested<Level>,
     /// The bytes so far of the string that has begun, if the place is in one.
     held: Vec<u8>,
     alloc: Global,
@@ -45,7 +44,7 @@ impl Reader {
     {
         Reader {
             place: Place::Item,
-            levels: Levels::new(),
+            levels: Nested::new(Level::Tag),
             held: Vec::new(alloc),
             alloc,
         }

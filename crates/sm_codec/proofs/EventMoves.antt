@@ -5,7 +5,7 @@ use Rattle.sm_tree.specs.Node.{Node}
 use Rattle.sm_tree.specs.Events.{events}
 use Rattle.sm_tree.specs.EventView.{event_of}
 use Rattle.sm_tree.specs.Streams.{MayTake, TakesOn, unnumbered_event}
-use Rattle.sm_tree.specs.declared.NoMemory.{NoMemory}
+use Rattle.sm_bytes.specs.declared.no_memory.NoMemory.{NoMemory}
 use Rattle.sm_tree.specs.declared.event.Event.{Event}
 use Rattle.sm_shapes.specs.InOrder.{Shaped}
 use Rattle.sm_codec.specs.Convention.{IsConvention}

@@ -1,7 +1,7 @@
 -- What the innermost frame is told is what all of them are told; and what a list or an object comes to that has ended is taken below it.
 use Rattle.std.proofs.Common.{◌≡◌, ℕ, Bool, List, ◌∷◌, sym, subst}
 use Rattle.std.specs.Prelude.{None, Result, Ok, Err, IfOk}
-use Rattle.sm_tree.specs.declared.NoMemory.{NoMemory}
+use Rattle.sm_bytes.specs.declared.no_memory.NoMemory.{NoMemory}
 use Rattle.sm_shapes.specs.Fitting.{Test}
 use Rattle.sm_shapes.specs.TableData.{TableData}
 use Rattle.sm_codec.specs.Convention.{Convention}

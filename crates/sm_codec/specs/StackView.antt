@@ -1,6 +1,6 @@
 -- What the frames of a decoder of the code stand for. Contracts that speak of them cite it.
 use Rattle.std.specs.Prelude.{◌≡◌, List, [], ◌∷◌, map, reverse, Option, Some, None, Result, Ok, Err}
-use Rattle.sm_tree.specs.declared.NoMemory.{NoMemory}
+use Rattle.sm_bytes.specs.declared.no_memory.NoMemory.{NoMemory}
 use Rattle.sm_shapes.specs.Fitting.{Test}
 use Rattle.sm_shapes.specs.TableData.{TableData}
 use Rattle.sm_codec.specs.Decoding as decoding

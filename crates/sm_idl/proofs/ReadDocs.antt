@@ -5,7 +5,7 @@ use Rattle.std.proofs.lemmas.List.{drop_all}
 use Rattle.std.specs.declared.alloc.Global.{Global}
 use Rattle.sm_lex.specs.Tokens.{lexeme_of}
 use Rattle.sm_lex.specs.declared.token.Token.{Token}
-use Rattle.sm_tree.specs.declared.NoMemory.{NoMemory as OutOfMemory}
+use Rattle.sm_bytes.specs.declared.no_memory.NoMemory.{NoMemory as OutOfMemory}
 use Rattle.sm_tree.specs.Node.{text}
 use Rattle.sm_model.specs.Raw.{Raw, raw_leaf}
 use Rattle.sm_model.specs.Said.{TraitSaid}

@@ -15,6 +15,7 @@ use Rattle.sm_tree.specs.NumberTail.{IsNumberByte, AreNumberBytes}
 use Rattle.sm_tree.specs.steps.Handing.{AreLater}
 use Rattle.sm_tree.specs.declared.build.OpenKind.{OpenKind}
 use Rattle.sm_tree.specs.declared.build.OpenKind.TheVariants.{List as a_list, Object as an_object}
+use Rattle.sm_tree.proofs.ListEnds.{cut_within}
 use Rattle.sm_tree.proofs.Handing.{later_sooner, hands_sooner, handed_before, handed_complete, handed_untimed}
 use Rattle.sm_tree.proofs.Numbers.{number_bytes, one_node}
 use Rattle.sm_tree.proofs.Streams.{events_stream}
@@ -45,7 +46,7 @@ use Rattle.sm_json.proofs.After.{list_goes_on, list_ends, object_goes_on, object
 use Rattle.sm_json.proofs.Within.{letter_leads, word_ends, number_byte_leads, number_ends, number_ends_before, key_closes, text_closes}
 use Rattle.sm_json.proofs.Owed.{text_rest_shorter}
 use Rattle.sm_json.proofs.Later.{IsGoingOn, rest_later, spoken_later, colon_later, ends_later}
-use Rattle.sm_json.proofs.StringCuts.{text_cut, one_rest, cut_within}
+use Rattle.sm_json.proofs.StringCuts.{text_cut, one_rest}
 
 -- places between two tokens, within a literal name or a number, and behind a quotation mark
 abbrev Stands : Where → Type 0

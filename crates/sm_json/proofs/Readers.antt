@@ -1,6 +1,6 @@
 -- What the steps of the reader do to it: the laws of the machine at readers. The answers cite these.
 use Rattle.std.proofs.Common.{Result, Ok, Err, ◌≡◌, ◌≢◌, ℕ, ◌+◌, ◌≤◌, ◌<◌, inl, inr, false, List, [], ◌∷◌, None, Some, refl, sym, ap}
-use Rattle.std.proofs.Common.{subst, ◌∙◌, arith, drop, length, length-drop, lit<}
+use Rattle.std.proofs.Common.{subst, ◌∙◌, arith, drop, length, lit<}
 use Rattle.sm_tree.specs.Events.{NodeEvent, start_list, start_object, end_list, end_object}
 use Rattle.sm_tree.specs.Building.{first_kind, IsIn}
 use Rattle.sm_tree.specs.Streams.{StandsFor, Takes}
@@ -10,8 +10,8 @@ use Rattle.sm_tree.specs.declared.refusal.SyntaxRefusal.{SyntaxRefusal}
 use Rattle.sm_tree.specs.declared.refusal.SyntaxRefusal.TheVariants.{Bad, Ended, TooDeep, KeyKind, NoMemory}
 use Rattle.sm_json.specs.Strings.{is_whitespace}
 use Rattle.sm_tree.specs.NumberTail.{NumberLeads, NumberStops}
-use Rattle.sm_json.specs.steps.Nesting.{nesting_of}
-use Rattle.sm_json.specs.declared.nesting.Nesting.{Nesting}
+use Rattle.sm_tree.specs.Nested.{nested_in}
+use Rattle.sm_tree.proofs.NestedRoom.{nested_room}
 use Rattle.sm_json.specs.steps.StringReading.{string_so_far, IsAtStart}
 use Rattle.sm_json.specs.steps.Rest.{value, first_entry, first_key, next_key, after, in_text, numeral, JsonState, letters, JsonLeads}
 use Rattle.sm_tree.specs.Syntax.{most_levels}
@@ -55,11 +55,8 @@ pub kept_at : (r : Reader) (p : Place) → r.place ≡ p → JsonIsSound r → P
 kept_at r p e sound = subst (λ q. PlaceKeeps q r.number.items (lists_of r)) e sound
 
 -- no more is open than there is room for
-nesting_room : (n : Nesting) → length (nesting_of n) ≤ most_levels
-nesting_room n = omega (arith, length-drop n.first n.kinds, n.size)
-
 pub room_in : (r : Reader) (limit : ℕ) → most_levels ≤ limit → length (lists_of r) ≤ limit
-room_in r limit up = let room = nesting_room r.lists in omega arith
+room_in r limit up = let room = nested_room r.lists in omega arith
 
 -- a step to another reader
 steps : (r q : Reader) (p : Place) (w : List ℕ) (out : List NodeEvent) → r.place ≡ p → LeadsTo (place_at r p) w out (json_state q)
@@ -309,7 +306,7 @@ number_goes r q c phase place w starts there kept lists =
     steps r q Value (c ∷ []) [] place
     (subst (λ p. LeadsTo (place_at r Value) (c ∷ []) [] (place_at q p)) (sym there)
     (subst (λ b. LeadsTo (place_at r Value) (c ∷ []) [] (at (numeral b) (lists_of q))) (sym kept)
-    (subst (λ n. LeadsTo (place_at r Value) (c ∷ []) [] (at (numeral (c ∷ [])) (nesting_of n))) (sym lists)
+    (subst (λ n. LeadsTo (place_at r Value) (c ∷ []) [] (at (numeral (c ∷ [])) (nested_in n))) (sym lists)
     (λ limit up. number_begins limit c (lists_of r) (room_in r limit up) w (starts_of c phase starts)))))
     (subst (λ p. PlaceKeeps p q.number.items (lists_of q)) (sym there) (subst (λ b. NumberLeads Start b phase) (sym kept) starts))
 

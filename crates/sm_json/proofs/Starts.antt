@@ -1,17 +1,11 @@
 -- Which byte a spelling begins with, what may follow a value, and what whitespace does before a byte.
 use Rattle.std.proofs.Common.{◌≡◌, ℕ, ◌<◌, ◌⊎◌, inl, inr, true, false, List, [], ◌∷◌, ◌++◌, Some, refl, sym, ap, subst, ◌∙◌}
 use Rattle.std.proofs.Common.{arith}
+pub use Rattle.sm_tree.proofs.ListEnds.{heads, tails}
 use Rattle.sm_tree.specs.Node.{Node, null, bool, int, number, text, bytes, tag, opaque, list, object}
 use Rattle.sm_tree.specs.Numbers.{IsDigit, IsMinus, IsInt, IsNumber, NumberText}
 use Rattle.sm_json.specs.Strings.{is_whitespace, Whitespace}
 use Rattle.sm_json.specs.JsonText.{SpellsNumber, SpellsValue}
-
--- from two equal lists: their first bytes, and what follows them
-pub heads : (c d : ℕ) (s r : List ℕ) → c ∷ s ≡ d ∷ r → c ≡ d
-heads c d s r e = cc
-
-pub tails : (c d : ℕ) (s r : List ℕ) → c ∷ s ≡ d ∷ r → s ≡ r
-tails c d s r e = cc
 
 -- equal where both are there
 pub some_same : (x y : ℕ) → Some x ≡ Some y → x ≡ y

@@ -1,6 +1,6 @@
 -- What spells a string does so whatever stands behind it: with other bytes there it spells the same string, and those follow.
 use Rattle.std.proofs.Common.{◌≡◌, ℕ, ◌+◌, ◌*◌, ◌≤◌, zero, suc, inl, inr, List, [], ◌∷◌, ◌++◌, refl, sym, ap, ◌∙◌, subst, arith, length}
-use Rattle.std.proofs.Common.{append_assoc, length-append}
+use Rattle.std.proofs.Common.{append_assoc}
 use Rattle.std.specs.Char.{encode_utf8}
 use Rattle.std.specs.Prelude.{encode_utf8_all}
 use Rattle.sm_json.specs.Strings.{HexDigits, CodeUnit, LowHalf, Escape, Character, Characters}
@@ -62,11 +62,3 @@ text_cut t s r (cs, is, h) = let (w, same, cut) = characters_cut cs s r h in (w,
 pub one_rest : (t u s r q : List ℕ) → TextRest Plain [] s t r → TextRest Plain [] s u q → (u ≡ t) × (q ≡ r)
 one_rest t u s r q (cs, is, h) (ds, same, k) =
     let (one, rest) = one_run cs ds s r q h k in (same ∙ ap (λ x. encode_utf8_all x) (sym one) ∙ sym is, sym rest)
-
--- two ways to end one list, the one no longer than the other
-pub cut_within : (w v r q : List ℕ) → w ++ r ≡ v ++ q → length q ≤ length r → (u : List ℕ) × (v ≡ w ++ u) × (r ≡ u ++ q)
-cut_within [] v r q e few = (v, refl, e)
-cut_within (c ∷ w) [] r q e few = absurd (omega (arith, ap length e, length-append w r))
-cut_within (c ∷ w) (d ∷ v) r q e few =
-    let (u, is, rest) = cut_within w v r q (tails c d (w ++ r) (v ++ q) e) few in
-    (u, ap (λ x. d ∷ x) is ∙ ap (λ x. x ∷ (w ++ u)) (sym (heads c d (w ++ r) (v ++ q) e)), rest)

@@ -5,9 +5,10 @@ use Rattle.std.proofs.Common.{Result, Ok, Err, false, ◌≡◌, ◌≢◌, ℕ,
 use Rattle.std.proofs.Common.{sym, ap, subst, ◌∙◌, arith, length, take, drop, get_or, append-nil, length-drop}
 use Rattle.std.proofs.Math.Seq.{take-add}
 use Rattle.std.proofs.lemmas.List.{take_more, drop_more, take-take, take_all, drop_all}
+use Rattle.sm_tree.proofs.ListEnds.{rest_of}
 use Rattle.sm_tree.specs.Node.{Node}
 use Rattle.sm_tree.specs.declared.build.OpenKind.{OpenKind}
-use Rattle.sm_json.specs.steps.Nesting.{nesting_of}
+use Rattle.sm_tree.specs.Nested.{nested_in}
 use Rattle.sm_tree.specs.steps.Handing.{TakesAll}
 use Rattle.sm_tree.proofs.Handing.{takes_none, takes_both}
 use Rattle.sm_json.specs.steps.Feeding.{IsPlaced}
@@ -191,7 +192,7 @@ number_grows r q bs phase run sound place inside leads bytes stops there kept li
         (subst (λ p. LeadsTo (place_at r (Number phase)) (take run.count bs) [] (place_at q p)) (sym there)
         (subst (λ b. LeadsTo (place_at r (Number phase)) (take run.count bs) [] (at (numeral b) (lists_of q))) (sym kept)
         (subst (λ n. LeadsTo (place_at r (Number phase)) (take run.count bs) []
-        (at (numeral (r.number.items ++ take run.count bs)) (nesting_of n))) (sym lists)
+        (at (numeral (r.number.items ++ take run.count bs)) (nested_in n))) (sym lists)
         (λ limit up. number_bytes_lead limit r.number.items (take run.count bs) (lists_of r) bytes))));
     sound = subst (λ p. PlaceKeeps p q.number.items (lists_of q)) (sym there)
         (subst (λ b. NumberLeads Start b run.phase) (sym kept)
@@ -282,9 +283,6 @@ then_front_goes r q x S T U before behind bs i n inside few h g =
 pub whole_goes : (r q : Reader) (S T : StandsFor) (takes : Takes) (bs : List ℕ) (i : ℕ) → length bs ≤ i
     → JsonBrings r S (take i bs) q T takes → JsonBrings r S bs q T takes
 whole_goes r q S T takes bs i all h = subst (λ ws. JsonBrings r S ws q T takes) (take_all i bs all) h
-
-rest_of : (bs : List ℕ) (i : ℕ) → take (length bs - i) (drop i bs) ≡ drop i bs
-rest_of bs i = take_all (length bs - i) (drop i bs) (omega (arith, length-drop i bs))
 
 -- a refusal of a turn, carried to all the bytes
 fed_to_then : (r q : Reader) (S T U : StandsFor) (before takes : Takes) (bs : List ℕ) (i p : ℕ) → JsonBrings r S (take i bs) q T before

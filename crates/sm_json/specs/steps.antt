@@ -4,7 +4,6 @@ pub mod Live
 pub mod Placing
 pub mod StringRuns
 pub mod StringReading
-pub mod Nesting
 pub mod Rest
 pub mod Feeding
 pub mod Machine

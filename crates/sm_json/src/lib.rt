@@ -6,7 +6,6 @@ mod byte_form;
 mod escape;
 pub mod laws;
 mod length;
-mod nesting;
 mod pieces;
 mod place;
 mod plain;

@@ -11,11 +11,10 @@ ghost use Rattle.sm_json.specs.steps.Rest.{json_start};
 mod leaves;
 mod tokens;
 
-use crate::nesting::Nesting;
 use crate::place::Place;
 use crate::text::TextReader;
 use sm_tree::number::Phase;
-use sm_tree::{EventSink, SyntaxRefusal, Tree, TreeBuilder};
+use sm_tree::{EventSink, Nested, OpenKind, SyntaxRefusal, Tree, TreeBuilder};
 use std::alloc::Global;
 
 /// Reads one JSON text.
@@ -24,7 +23,7 @@ pub struct Reader {
     /// Where the reader stands.
     place: Place,
     /// What is open around the place.
-    lists: Nesting,
+    lists: Nested<OpenKind>,
     /// The number that has begun, if the place is in one.
     number: Vec<u8>,
     /// The string that has begun, if the place is in one.
@@ -42,7 +41,7 @@ impl Reader {
     {
         Reader {
             place: Place::Value,
-            lists: Nesting::new(),
+            lists: Nested::new(OpenKind::List),
             number: Vec::new(alloc),
             text: TextReader::new(alloc),
             alloc,

@@ -9,8 +9,8 @@ use Rattle.std.proofs.lemmas.List.Sums.{prefix_len-le-length}
 use Rattle.std.proofs.lemmas.Str.{IsCharBoundary-after_ascii}
 use Rattle.std.proofs.lemmas.Bool.Decides.{nat_tests}
 use Rattle.sm_tree.specs.Numbers.{IsNumber}
-use Rattle.sm_tree.specs.NumberTail.{AreNumberBytes, IsNumberByte}
-use Rattle.sm_tree.proofs.Numbers.{number_bytes, number_starts}
+use Rattle.sm_tree.specs.NumberTail.{AreNumberBytes}
+use Rattle.sm_tree.proofs.Numbers.{byte_is_ascii, number_bytes, number_starts}
 use Rattle.sm_lex.specs.declared.byte.First.{First}
 use Rattle.sm_lex.specs.declared.byte.First.TheVariants.{Word as a_word, Number as a_number, Mark as a_mark}
 use Rattle.sm_lex.specs.declared.token.TokenKind.TheVariants.{Word, Number, Mark}
@@ -37,17 +37,9 @@ found_word start n s u first n_is =
       (first, n_is),
     )
 
-number_byte_is_ascii : (c : ℕ) → IsNumberByte c → c < 128
-number_byte_is_ascii c (inl (low, high)) = omega arith
-number_byte_is_ascii c (inr (inl e)) = omega arith
-number_byte_is_ascii c (inr (inr (inl e))) = omega arith
-number_byte_is_ascii c (inr (inr (inr (inl e)))) = omega arith
-number_byte_is_ascii c (inr (inr (inr (inr (inl e))))) = omega arith
-number_byte_is_ascii c (inr (inr (inr (inr (inr e))))) = omega arith
-
 number_bytes_are_ascii : (t : List ℕ) (k : ℕ) → AreNumberBytes t → k < length t → get_or t k 0 < 128
 number_bytes_are_ascii [] k h lt = absurd (omega arith)
-number_bytes_are_ascii (c ∷ t) zero h lt = number_byte_is_ascii c h.0
+number_bytes_are_ascii (c ∷ t) zero h lt = byte_is_ascii c h.0
 number_bytes_are_ascii (c ∷ t) (suc k) h lt = number_bytes_are_ascii t k h.1 (omega arith)
 
 -- a number isn't empty

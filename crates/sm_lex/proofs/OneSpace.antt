@@ -1,11 +1,9 @@
 -- Whitespace and comments end at one place, and are the same pieces.
 use Rattle.std.proofs.Common.{◌≡◌, ℕ, true, false, List, [], ◌∷◌, length, drop, refl, sym, ap, subst, ◌∙◌}
 use Rattle.std.specs.List.{before_first}
+use Rattle.sm_tree.proofs.ListEnds.{tails}
 use Rattle.sm_lex.specs.Bytes.{is_idl_white}
 use Rattle.sm_lex.specs.Space.{Piece, white, comment, SpacePieces, EndsSpace, is_line_feed}
-
-tail_is : (c d : ℕ) (s t : List ℕ) → c ∷ s ≡ d ∷ t → s ≡ t
-tail_is c d s t e = cc
 
 -- where whitespace ends, none begins
 none_white : (c : ℕ) (r s : List ℕ) → EndsSpace r → r ≡ c ∷ s → is_idl_white c ≡ true → ⊥
@@ -27,7 +25,7 @@ one_space (comment c ∷ ps) [] s r t (s1, e, c_is, more) f u v = absurd (none_c
 one_space (white c ∷ ps) (white d ∷ qs) s r t (s1, e, w, more) (s2, f, x, others) u v =
     let both : c ∷ s1 ≡ d ∷ s2 = sym e ∙ f in
     let same : c ≡ d = cc in
-    let rest = one_space ps qs s1 r t more (subst (λ z. SpacePieces qs z t) (sym (tail_is c d s1 s2 both)) others) u v in
+    let rest = one_space ps qs s1 r t more (subst (λ z. SpacePieces qs z t) (sym (tails c d s1 s2 both)) others) u v in
     ((λ i. white (same i) ∷ rest.0 i), rest.1)
 one_space (white c ∷ ps) (comment d ∷ qs) s r t (s1, e, w, more) (s2, f, d_is, others) u v = absurd
     (slash_not_white c s1 (47 ∷ s2) w (sym e ∙ f))
@@ -35,7 +33,7 @@ one_space (comment c ∷ ps) (white d ∷ qs) s r t (s1, e, c_is, more) (s2, f, 
     (slash_not_white d s2 (47 ∷ s1) w (sym f ∙ e))
 one_space (comment c ∷ ps) (comment d ∷ qs) s r t (s1, e, c_is, more) (s2, f, d_is, others) u v =
     let both : 47 ∷ (47 ∷ s1) ≡ 47 ∷ (47 ∷ s2) = sym e ∙ f in
-    let same : s1 ≡ s2 = tail_is 47 47 s1 s2 (tail_is 47 47 (47 ∷ s1) (47 ∷ s2) both) in
+    let same : s1 ≡ s2 = tails 47 47 s1 s2 (tails 47 47 (47 ∷ s1) (47 ∷ s2) both) in
     let texts : c ≡ d = c_is ∙ ap (before_first is_line_feed) same ∙ sym d_is in
     let moved : drop (length c) s1 ≡ drop (length d) s2 = λ i. drop (length (texts i)) (same i) in
     let rest = one_space ps qs (drop (length c) s1) r t more (subst (λ z. SpacePieces qs z t) (sym moved) others) u v in

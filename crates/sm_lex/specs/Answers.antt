@@ -4,7 +4,7 @@ use Rattle.std.specs.Option.{option_map}
 use Rattle.std.specs.Str.{IsCharBoundary}
 use Rattle.std.specs.declared.alloc.Global.{Global}
 use Rattle.std.specs.declared.string.String.{String}
-use Rattle.sm_tree.specs.declared.NoMemory.{NoMemory as OutOfMemory}
+use Rattle.sm_bytes.specs.declared.no_memory.NoMemory.{NoMemory as OutOfMemory}
 use Rattle.sm_lex.specs.declared.token.Token.{Token}
 use Rattle.sm_lex.specs.declared.token.LexRefusal.{LexRefusal}
 use Rattle.sm_lex.specs.declared.token.LexRefusal.TheVariants.{NoMemory}

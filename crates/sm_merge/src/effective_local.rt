@@ -9,8 +9,7 @@ ghost use Rattle.sm_tree.specs.View.{members_view, node_of, nodes_view};
 ghost use Rattle.sm_merge.specs.Mixins.{local_traits, texts_among};
 ghost use Rattle.sm_merge.specs.steps.Known.{has_text};
 
-use sm_model::{entries_of, pairs_of, text_of};
-use sm_tree::{NoMemory, Text, Tree};
+use sm_tree::{NoMemory, Text, Tree, entries_of, pairs_of, text_of, tree_under};
 use std::alloc::Global;
 use std::collections::BTreeSet;
 
@@ -61,18 +60,4 @@ fn listed(tree: &Tree) -> &[Tree]
         None => &[],
         Some(entries) => entries,
     }
-}
-
-// The first tree under a name.
-fn tree_under<'a>(pairs: &'a [(Text, Tree)], name: &str) -> Option<&'a Tree>
-    ensures { MatchOption result
-        (tree_named name.now (members_of (members_view pairs.now)) ≡ None)
-        (λ tree. tree_named name.now (members_of (members_view pairs.now)) ≡ Some (node_of tree.now)) }
-{
-    for pair in pairs {
-        if pair.0.as_str() == name {
-            return Some(&pair.1);
-        }
-    }
-    None
 }

@@ -2,7 +2,7 @@
 use Rattle.std.proofs.Common.{◌≡◌, ℕ, List, Ok, Err, refl, ap, subst}
 use Rattle.std.specs.Global.{Vec}
 use Rattle.std.specs.Prelude.{IfOk, Result}
-use Rattle.sm_tree.specs.declared.NoMemory.{NoMemory}
+use Rattle.sm_bytes.specs.declared.no_memory.NoMemory.{NoMemory}
 use Rattle.sm_io.specs.Causes.{Rose}
 use Rattle.sm_io.specs.Seen.{FilesSeen}
 use Rattle.sm_model.specs.Graphs.{GraphMaps}

@@ -9,6 +9,8 @@ pub mod Building
 pub mod Streams
 pub mod Awaited
 pub mod OpenLevels
+pub mod NestedRoom
+pub mod ListEnds
 pub mod Counted
 pub mod Handing
 pub mod NumberParts

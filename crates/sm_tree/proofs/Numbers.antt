@@ -76,7 +76,7 @@ pub whole_from_number : (t : List ℕ) (p : Phase) → NumberLeads Start t p →
 whole_from_number t p h n = h.onward [] (subst IsNumber (sym (append-nil t)) n)
 
 -- and so a number is UTF-8
-byte_is_ascii : (c : ℕ) → IsNumberByte c → c < 128
+pub byte_is_ascii : (c : ℕ) → IsNumberByte c → c < 128
 byte_is_ascii c (inl d) = omega arith
 byte_is_ascii c (inr (inl e)) = omega arith
 byte_is_ascii c (inr (inr (inl e))) = omega arith

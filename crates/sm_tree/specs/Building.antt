@@ -4,6 +4,7 @@
 use Rattle.std.specs.Prelude.{◌≡◌, ℕ, Bool, true, false, List, [], ◌∷◌, ◌++◌, map, Option, None, Some}
 use Rattle.sm_tree.specs.Node.{Node, tag}
 use Rattle.sm_tree.specs.Events.{NodeEvent, events, start_list, start_object, key_event, tag_event}
+use Rattle.sm_tree.specs.Nested.{innermost_of}
 use Rattle.sm_tree.specs.declared.build.OpenKind.{OpenKind}
 use Rattle.sm_tree.specs.declared.build.OpenKind.TheVariants.{List as a_list, Object as an_object}
 
@@ -86,8 +87,7 @@ inner_awaits (in_pair ms k ts) = true
 
 -- the innermost of what is open
 abbrev pub first_kind : List OpenKind → Option OpenKind
-first_kind [] = None
-first_kind (k ∷ ks) = Some k
+first_kind ks = innermost_of ks
 
 -- a tree may come next: at the start, in a list, and behind a name
 abbrev pub awaits_value : Building → Bool

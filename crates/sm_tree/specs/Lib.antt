@@ -24,4 +24,5 @@ pub mod EventLaws
 pub mod Building
 pub mod BuilderView
 pub mod OpenLevels
+pub mod Nested
 pub mod steps

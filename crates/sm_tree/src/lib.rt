@@ -6,7 +6,9 @@ mod build;
 mod copy;
 mod event;
 pub mod laws;
+mod nested;
 pub mod number;
+mod part;
 mod path;
 mod refusal;
 mod same;
@@ -18,37 +20,13 @@ mod tree;
 pub use build::{FIRST_ROOM, OpenKind, TreeBuilder};
 pub use copy::{copy_pairs, copy_tree};
 pub use event::{Event, EventSink};
+pub use nested::Nested;
+pub use part::{entries_of, pairs_of, text_of, tree_under};
 pub use path::{Path, Step};
 pub use refusal::{MOST_LEVELS, SyntaxRefusal};
 pub use same::is_same;
 pub use size::tree_size;
+pub use sm_bytes::NoMemory;
 pub use source::EventSource;
-use std::alloc::{AllocError, AllocFailed};
 pub use text::{Bytes, SHORT_LEN, Text};
 pub use tree::{Items, Pairs, Tree};
-
-/// The allocator refused the memory that a call needs.
-#[derive(Debug, Clone, Copy, PartialEq, Eq, Drop)]
-pub struct NoMemory;
-
-impl From<AllocError> for NoMemory {
-    ghost use Rattle.std.specs.Prelude.{◌≡◌};
-    ghost use Rattle.sm_tree.specs.declared.NoMemory.{NoMemory};
-
-    ghost from_gives = { λ _ refusal. refusal ≡ record {} };
-
-    fn from(_error: AllocError) -> Self {
-        NoMemory
-    }
-}
-
-impl<T: Drop> From<AllocFailed<T>> for NoMemory {
-    ghost use Rattle.std.specs.Prelude.{◌≡◌};
-    ghost use Rattle.sm_tree.specs.declared.NoMemory.{NoMemory};
-
-    ghost from_gives = { λ _ refusal. refusal ≡ record {} };
-
-    fn from(_refused: AllocFailed<T>) -> Self {
-        NoMemory
-    }
-}

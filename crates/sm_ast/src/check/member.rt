@@ -8,9 +8,8 @@ use super::pairs::{PairRule, check_object, check_pairs};
 use super::reference::check_target;
 use super::traits::check_traits;
 use crate::id::is_name;
-use crate::part::pairs_of;
 use crate::refusal::AstRefusal;
-use sm_tree::{Text, Tree};
+use sm_tree::{Text, Tree, pairs_of};
 use std::alloc::Global;
 
 #[derive(Drop)]

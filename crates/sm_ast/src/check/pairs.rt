@@ -6,9 +6,8 @@ ghost use Rattle.sm_ast.specs.Faults.{AstFault, are_there, field, names_of, obje
 ghost use Rattle.sm_ast.specs.steps.Checks.{Checks};
 
 use crate::names::stands_again;
-use crate::part::tree_under;
 use crate::refusal::AstRefusal;
-use sm_tree::{Text, Tree};
+use sm_tree::{Text, Tree, tree_under};
 use std::alloc::Global;
 use std::collections::BTreeSet;
 

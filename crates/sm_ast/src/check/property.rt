@@ -8,10 +8,9 @@ use super::pairs::{PairRule, check_pairs};
 use super::reference::{check_named_references, check_reference, check_references};
 use super::text::{check_identifier, check_text};
 use crate::id::is_shape_id;
-use crate::part::pairs_of;
 use crate::refusal::AstRefusal;
 use sm_model::PropertyForm;
-use sm_tree::{Text, Tree};
+use sm_tree::{Text, Tree, pairs_of};
 use std::alloc::Global;
 
 #[derive(Drop)]

@@ -7,9 +7,8 @@ ghost use Rattle.sm_ast.specs.steps.Checks.{Checks};
 
 use super::pairs::{PairRule, check_object, check_pairs};
 use super::text::check_id;
-use crate::part::{entries_of, pairs_of};
 use crate::refusal::AstRefusal;
-use sm_tree::{Text, Tree};
+use sm_tree::{Text, Tree, entries_of, pairs_of};
 use std::alloc::Global;
 
 /// A pair of a reference is its target.

@@ -12,10 +12,10 @@ use super::node::check_members;
 use super::pairs::{PairRule, check_pairs};
 use crate::id::is_shape_id;
 use crate::layout::type_of;
-use crate::part::{pairs_of, says, tree_under};
+use crate::part::says;
 use crate::refusal::AstRefusal;
 use sm_ids::has_member;
-use sm_tree::{Text, Tree};
+use sm_tree::{Text, Tree, pairs_of, tree_under};
 use std::alloc::Global;
 
 #[derive(Drop)]

@@ -5,9 +5,8 @@ ghost use Rattle.sm_ast.specs.Faults.{id_fault, identifier_fault, of_text};
 ghost use Rattle.sm_ast.specs.steps.Checks.{Checks};
 
 use crate::id::{is_name, is_shape_id};
-use crate::part::text_of;
 use crate::refusal::AstRefusal;
-use sm_tree::Tree;
+use sm_tree::{Tree, text_of};
 use std::alloc::Global;
 
 /// The text of an id.

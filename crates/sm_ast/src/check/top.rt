@@ -8,9 +8,9 @@ ghost use Rattle.sm_ast.specs.steps.Checks.{Checks};
 use super::node::check_members;
 use super::pairs::{PairRule, check_object};
 use super::shape::check_shapes;
-use crate::part::{pairs_of, says};
+use crate::part::says;
 use crate::refusal::AstRefusal;
-use sm_tree::{Text, Tree};
+use sm_tree::{Text, Tree, pairs_of};
 use std::alloc::Global;
 
 #[derive(Drop)]

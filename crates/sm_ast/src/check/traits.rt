@@ -7,9 +7,8 @@ ghost use Rattle.sm_ast.specs.steps.Checks.{Checks};
 use super::node::check_node;
 use super::pairs::{PairRule, check_pairs};
 use crate::id::is_shape_id;
-use crate::part::pairs_of;
 use crate::refusal::AstRefusal;
-use sm_tree::{Text, Tree};
+use sm_tree::{Text, Tree, pairs_of};
 use std::alloc::Global;
 
 #[derive(Drop)]

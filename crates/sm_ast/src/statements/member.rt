@@ -11,9 +11,9 @@ ghost use Rattle.sm_ast.specs.steps.Saying.{member_by_pairs, member_there, membe
 
 use super::reference::target;
 use super::traits::traits_under;
-use crate::part::{pairs_or_none, tree_under};
+use crate::part::pairs_or_none;
 use sm_model::{Kind, MemberStatement, MemberStatements};
-use sm_tree::{NoMemory, Text, Tree};
+use sm_tree::{NoMemory, Text, Tree, tree_under};
 use std::alloc::Global;
 
 /// The members of a shape of this type.

@@ -6,9 +6,9 @@ ghost use Rattle.sm_model.specs.References as references;
 ghost use Rattle.sm_tree.specs.Parts.{tree_named};
 ghost use Rattle.sm_ast.specs.steps.Saying.{reference_said, references_said, references_there, target_said};
 
-use crate::part::{entries_or_none, pairs_or_none, text_or_empty, tree_under};
+use crate::part::{entries_or_none, pairs_or_none, text_or_empty};
 use sm_model::{Ref, Refs, Uses};
-use sm_tree::{NoMemory, Text, Tree};
+use sm_tree::{NoMemory, Text, Tree, tree_under};
 use std::alloc::Global;
 
 /// A reference by an absolute id.

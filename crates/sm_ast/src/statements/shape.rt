@@ -15,10 +15,9 @@ use super::property::properties;
 use super::reference::{absolute, references_under};
 use super::traits::traits_under;
 use crate::layout::{ShapeType, type_of};
-use crate::part::tree_under;
 use sm_ids::{ShapeId, ShapeIdRef};
 use sm_model::{Kind, RawNode, RawPairs, ShapeStatement, Statement};
-use sm_tree::{NoMemory, Text, Tree};
+use sm_tree::{NoMemory, Text, Tree, tree_under};
 use std::alloc::Global;
 
 /// The statement that these pairs say under an id. Under no id, or with no type, they are read as traits that are applied.

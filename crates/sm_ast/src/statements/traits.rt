@@ -10,9 +10,9 @@ ghost use Rattle.sm_ast.specs.steps.Saying.{traits_said, traits_there};
 
 use super::node::raw_node;
 use super::reference::absolute;
-use crate::part::{pairs_or_none, tree_under};
+use crate::part::pairs_or_none;
 use sm_model::{TraitUse, TraitUses};
-use sm_tree::{NoMemory, Text, Tree};
+use sm_tree::{NoMemory, Text, Tree, tree_under};
 use std::alloc::Global;
 
 /// The traits of a shape or member with these pairs.

@@ -9,9 +9,9 @@ ghost use Rattle.sm_ast.specs.steps.Saying.{pairs_said};
 
 use super::field::{put_field, put_filled_list, put_filled_object};
 use super::reference::{reference_entries, reference_pairs, reference_to};
-use crate::part::{entries_or_none, pairs_or_none, tree_under};
+use crate::part::{entries_or_none, pairs_or_none};
 use sm_model::{Kind, PropertyForm, fields_of};
-use sm_tree::{NoMemory, Text, Tree, copy_pairs, copy_tree};
+use sm_tree::{NoMemory, Text, Tree, copy_pairs, copy_tree, tree_under};
 use std::alloc::Global;
 
 /// Puts the fields of a shape of this type, of its body.

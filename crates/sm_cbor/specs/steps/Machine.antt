@@ -16,7 +16,7 @@ use Rattle.sm_cbor.specs.Refusals.{mark}
 use Rattle.sm_cbor.specs.steps.Marks.{Keys, plain, marked}
 use Rattle.sm_cbor.specs.Refusals.{BeginsOther}
 use Rattle.sm_cbor.specs.steps.Reading.{IsOf, EndsAs, bound}
-use Rattle.sm_cbor.specs.steps.Levels.{levels_in, first_level}
+use Rattle.sm_tree.specs.Nested.{nested_in, innermost_of}
 use Rattle.sm_cbor.specs.steps.Rest.{CborState, CborRest, CborLeads, CborStops}
 use Rattle.sm_cbor.specs.declared.place.StringKind.{StringKind}
 use Rattle.sm_cbor.specs.declared.place.StringKind.TheVariants.{Bytes}
@@ -70,7 +70,7 @@ Lives (String kind span n place) = utf8.owed place ≤ n
 Lives (Chunks kind) = Unit {0}
 
 abbrev pub levels_of : Reader → List Level
-levels_of r = levels_in r.levels
+levels_of r = nested_in r.levels
 
 -- the reader's state, if it stood at this place; and its state
 abbrev pub cbor_state_at : Reader → Place → CborState
@@ -153,7 +153,7 @@ pub record OpensLevel (S : StandsFor) (before : Reader) (level : Level) (e : Nod
 
 -- the innermost of what is open is this level
 abbrev pub IsFirstLevel : Level → List Level → Type 0
-IsFirstLevel l ls = first_level ls ≡ Some l
+IsFirstLevel l ls = innermost_of ls ≡ Some l
 
 -- the place is in a byte string, or in a text
 abbrev pub IsBytesPlace : Place → ℕ → Utf8 → Type 0

@@ -29,7 +29,7 @@ fn is_no_simple(subject: Subject, byte: u8) -> bool
 }
 
 impl Reader {
-    ghost use Rattle.sm_cbor.specs.steps.Levels.{first_level};
+    ghost use Rattle.sm_tree.specs.Nested.{innermost_of};
     ghost use Rattle.sm_cbor.specs.steps.Machine.{IsAt, CborGoes, CborTakesByte, BehindItem, IsFirstLevel, levels_of, cbor_state_at};
     ghost use Rattle.sm_cbor.specs.steps.Sinks.{Reached};
     ghost use Rattle.sm_tree.specs.Streams.{TakesEvery, TakesSame};
@@ -200,7 +200,7 @@ impl Reader {
 
     // The innermost of what is open.
     pub(super) fn innermost(&self) -> Option<Level>
-        ensures { result ≡ first_level (levels_of self.now) }
+        ensures { result ≡ innermost_of (levels_of self.now) }
     {
         self.levels.innermost()
     }

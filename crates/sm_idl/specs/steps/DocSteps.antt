@@ -2,7 +2,7 @@
 use Rattle.std.specs.Prelude.{◌≡◌, ℕ, List, Option, Vec, Result, Ok, Err}
 use Rattle.std.specs.declared.alloc.Global.{Global}
 use Rattle.sm_lex.specs.Space.{Documents}
-use Rattle.sm_tree.specs.declared.NoMemory.{NoMemory}
+use Rattle.sm_bytes.specs.declared.no_memory.NoMemory.{NoMemory}
 use Rattle.sm_model.specs.SaidView.{traits_view}
 use Rattle.sm_model.specs.declared.statement.TraitUse.{TraitUse}
 use Rattle.sm_idl.specs.Productions.{Tokens}

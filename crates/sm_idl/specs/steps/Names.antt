@@ -4,7 +4,7 @@ use Rattle.std.specs.BTreeSet.{BTreeSet, contains_text}
 use Rattle.std.specs.declared.alloc.Global.{Global}
 use Rattle.std.specs.declared.string.String.{String}
 use Rattle.sm_lex.specs.Tokens.{Lexeme}
-use Rattle.sm_tree.specs.declared.NoMemory.{NoMemory}
+use Rattle.sm_bytes.specs.declared.no_memory.NoMemory.{NoMemory}
 use Rattle.sm_model.specs.Formed.{StandsAmong}
 use Rattle.sm_idl.specs.Words.{IsKey}
 

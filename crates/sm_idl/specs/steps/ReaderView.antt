@@ -3,7 +3,7 @@ use Rattle.std.specs.Prelude.{◌≡◌, ℕ, List, [], ◌∷◌, drop, map, Op
 use Rattle.std.specs.Option.{option_map}
 use Rattle.sm_lex.specs.Tokens.{lexeme_of}
 use Rattle.sm_lex.specs.declared.token.Token.{Token}
-use Rattle.sm_tree.specs.declared.NoMemory.{NoMemory as OutOfMemory}
+use Rattle.sm_bytes.specs.declared.no_memory.NoMemory.{NoMemory as OutOfMemory}
 use Rattle.sm_model.specs.Raw.{Raw}
 use Rattle.sm_model.specs.RawView.{raw_view}
 use Rattle.sm_model.specs.declared.raw.RawNode.{RawNode}

@@ -19,7 +19,7 @@ use Rattle.sm_json.specs.declared.text.TextRefusal.{TextRefusal}
 use Rattle.sm_json.specs.declared.text.TextRefusal.TheVariants.{Bad as BadString, NoMemory as NoRoom}
 use Rattle.sm_tree.specs.NumberTail.{NumberLeads, NumberStops}
 use Rattle.sm_tree.specs.declared.number.Run.{Run}
-use Rattle.sm_json.specs.steps.Nesting.{nesting_of}
+use Rattle.sm_tree.specs.Nested.{nested_in}
 use Rattle.sm_tree.specs.steps.Handing.{TakesAll}
 use Rattle.sm_json.specs.steps.Feeding.{IsPlaced}
 use Rattle.sm_json.specs.steps.StringReading.{string_so_far}
@@ -54,7 +54,7 @@ where_of (Text role) b spot t = in_text role spot t
 
 -- what is open around the reader's place
 abbrev pub lists_of : Reader → List OpenKind
-lists_of r = nesting_of r.lists
+lists_of r = nested_in r.lists
 
 abbrev pub json_state : Reader → JsonState
 json_state r = record { place = where_of r.place r.number.items r.text.spot (string_so_far r.text); lists = lists_of r }

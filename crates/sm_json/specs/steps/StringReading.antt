@@ -1,6 +1,6 @@
 -- What the text reader answers, by what may still come of the string that it is in.
 use Rattle.std.specs.Prelude.{◌≡◌, ◌+◌, ◌≤◌, ◌<◌, ℕ, List, [], ◌∷◌, length, take, string_bytes, Result, Ok, Err}
-use Rattle.sm_tree.specs.declared.NoMemory.{NoMemory as OutOfMemory}
+use Rattle.sm_bytes.specs.declared.no_memory.NoMemory.{NoMemory as OutOfMemory}
 use Rattle.sm_json.specs.declared.spot.Spot.TheVariants.{Plain}
 use Rattle.sm_json.specs.declared.text.TextReader.{TextReader}
 use Rattle.sm_json.specs.declared.text.Reading.{Reading}

@@ -66,6 +66,7 @@ impl Reader {
     }
 
     // What is open innermost ends.
+    #[tactic(auto, using(sm_tree::proofs::NestedRoom::left_behind))]
     fn close(&mut self)
         requires inside { 0 < length (lists_of self.old) }
         ensures { HasClosed self.old self.new }

@@ -3,7 +3,7 @@
 use Rattle.std.specs.Prelude.{◌≡◌, ◌⊎◌, ◌↔◌, ◌<◌, ◌≤◌, ◌+◌, ℕ, Bool, true, false, List, [], ◌∷◌, ◌++◌, ◌-◌, length, reverse, take, drop}
 use Rattle.std.specs.Prelude.{get_or, IsTrue, Option, Some, None}
 use Rattle.std.specs.Prelude.{Result, Ok, Err, if◌then◌else◌}
-use Rattle.sm_tree.specs.declared.NoMemory.{NoMemory}
+use Rattle.sm_bytes.specs.declared.no_memory.NoMemory.{NoMemory}
 use Rattle.sm_merge.specs.declared.walk.Part.{Part}
 use Rattle.sm_merge.specs.declared.walk.Status.{Status}
 use Rattle.sm_merge.specs.declared.walk.Status.TheVariants.{New, Begun, Finished}

@@ -13,9 +13,8 @@ use super::Graph;
 use super::targets::number_in;
 use crate::kind::Kind;
 use crate::link::Link;
-use crate::part::{entries_of, pairs_of, text_of};
 use crate::relation::Relation;
-use sm_tree::{NoMemory, Text, Tree};
+use sm_tree::{NoMemory, Text, Tree, entries_of, pairs_of, text_of};
 use std::alloc::Global;
 
 impl Graph {

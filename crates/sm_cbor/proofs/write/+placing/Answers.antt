@@ -2,7 +2,7 @@ use Rattle.std.proofs.Common.{◌++◌, take, sym, ap, ◌∙◌}
 use Rattle.sm_tree.specs.View.{node_of}
 use Rattle.sm_tree.proofs.Views.{node_tag}
 use Rattle.sm_cbor.specs.Written.{written_item, written_head}
-use Rattle.sm_cbor.proofs.Counts.{placed_twice}
+use Rattle.sm_tree.proofs.ListEnds.{placed_twice}
 use Rattle.sm_cbor.proofs.write.+placing.Goals as goal
 
 pub place_tree-returns-in-Tag-clause-bytes : goal.place_tree-returns-in-Tag-clause-bytes

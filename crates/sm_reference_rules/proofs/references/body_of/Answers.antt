@@ -17,4 +17,4 @@ properties-requires-clause-is_shape c =
     is_shape g k (subst (λ b. At g k (λ id e. is_member_entry e ≡ b)) c.if-is_member.false c.is_member.ensures)
 
 pub returns-else-is_member : goal.returns-else-is_member
-returns-else-is_member c = body_told c.args.graph.now c.args.number _ c.properties.ensures c.pairs_of.result c.pairs_of.ensures
+returns-else-is_member c = body_told c.args.graph.now c.args.number _ c.properties.ensures c.pairs_of.result c.pairs_of.ensures.node

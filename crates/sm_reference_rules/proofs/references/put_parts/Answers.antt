@@ -8,18 +8,18 @@ pub returns-in_ok-put_entries-in-Some : goal.returns-in_ok-put_entries-in-Some
 returns-in_ok-put_entries-in-Some g c =
     let says = g.A.AtReference.tells c.args.rule.now (maps_of c.args.graph.now) (id_of_number c.args.graph.now c.args.shape) in
     entries_put (says c.args.relation)
-    (node_of c.args.value.now) c.in-Some.items.now c.in-Some.ensures c.args.events.now.items c.put_entries.new.events.items
+    (node_of c.args.value.now) c.in-Some.items.now c.in-Some.ensures.node c.args.events.now.items c.put_entries.new.events.items
     c.in_ok-put_entries-in-Some.ensures
 
 pub returns-in_ok-put_values-in-Some-pairs_of : goal.returns-in_ok-put_values-in-Some-pairs_of
 returns-in_ok-put_values-in-Some-pairs_of g c =
     let says = g.A.AtReference.tells c.args.rule.now (maps_of c.args.graph.now) (id_of_number c.args.graph.now c.args.shape) in
     values_put (says c.args.relation)
-    (node_of c.args.value.now) c.in-Some-pairs_of.pairs.now c.in-Some-pairs_of.ensures c.args.events.now.items
+    (node_of c.args.value.now) c.in-Some-pairs_of.pairs.now c.in-Some-pairs_of.ensures.node c.args.events.now.items
     c.put_values.new.events.items c.in_ok-put_values-in-Some-pairs_of.ensures
 
 pub returns-in-None-pairs_of : goal.returns-in-None-pairs_of
 returns-in-None-pairs_of g c =
     let says = g.A.AtReference.tells c.args.rule.now (maps_of c.args.graph.now) (id_of_number c.args.graph.now c.args.shape) in
     nothing_put (says c.args.relation)
-    (node_of c.args.value.now) c.requires.no_text c.in-None.ensures c.in-None-pairs_of.ensures c.args.events.now.items
+    (node_of c.args.value.now) c.requires.no_text c.in-None.ensures.node c.in-None-pairs_of.ensures.node c.args.events.now.items

@@ -1,7 +1,7 @@
 use Rattle.std.proofs.Common.{refl, ap, ◌∙◌, arith}
 use Rattle.sm_cbor.specs.declared.place.Level.TheVariants.{Tag, List as AList, ListToBreak as AListToBreak, Map as AMap}
 use Rattle.sm_cbor.specs.declared.place.Level.TheVariants.{MapToBreak as AMapToBreak}
-use Rattle.sm_cbor.specs.steps.Levels.{levels_in}
+use Rattle.sm_tree.specs.Nested.{nested_in}
 use Rattle.sm_cbor.specs.steps.Machine.{levels_of}
 use Rattle.sm_cbor.proofs.Settling.{popped, room_left, settles_first, tag_settles, list_settles, map_settles, list_end_may, map_end_may}
 use Rattle.sm_cbor.proofs.Settling.{entry_settles, pair_settles, stays, all_left}
@@ -18,7 +18,7 @@ pub loop-level-preserved-in-Tag : goal.loop-level-preserved-in-Tag
 loop-level-preserved-in-Tag g c = record {
   settles = tag_settles (g.E.EventSink.stands_for c.args.to.now) (g.E.EventSink.stands_for c.loop-level.to) c.args.self.now
       c.loop-level.self _ c.loop-level.invariant.settles
-      (popped (levels_of c.loop-level.self) (levels_in c.leave.new.self) c.in-Some.level Tag c.in-Some.ensures c.in-Tag.is);
+      (popped (levels_of c.loop-level.self) (nested_in c.leave.new.self) c.in-Some.level Tag c.in-Some.ensures c.in-Tag.is);
   takes = c.loop-level.invariant.takes;
   alike = c.loop-level.invariant.alike;
 }
@@ -29,7 +29,7 @@ event-requires-clause-placed g c =
       levels =
           c.leave.new.self;
     }) (g.E.EventSink.stands_for c.args.to.now) c.requires.reached c.loop-level.invariant.settles
-    (popped (levels_of c.loop-level.self) (levels_in c.leave.new.self) c.in-Some.level (AList 0) c.in-Some.ensures (c.in-List.is ∙ ap AList
+    (popped (levels_of c.loop-level.self) (nested_in c.leave.new.self) c.in-Some.level (AList 0) c.in-Some.ensures (c.in-List.is ∙ ap AList
     (omega arith)))
 
 pub event-requires-in-Map-clause-placed : goal.event-requires-in-Map-clause-placed
@@ -38,7 +38,7 @@ event-requires-in-Map-clause-placed g c =
       levels =
           c.leave.new.self;
     }) (g.E.EventSink.stands_for c.args.to.now) c.requires.reached c.loop-level.invariant.settles
-    (popped (levels_of c.loop-level.self) (levels_in c.leave.new.self) c.in-Some.level (AMap 0) c.in-Some.ensures (c.in-Map.is ∙ ap AMap
+    (popped (levels_of c.loop-level.self) (nested_in c.leave.new.self) c.in-Some.level (AMap 0) c.in-Some.ensures (c.in-Map.is ∙ ap AMap
     (omega arith)))
 
 pub loop-level-preserved-in-Continue-1 : goal.loop-level-preserved-in-Continue-1
@@ -46,7 +46,7 @@ loop-level-preserved-in-Continue-1 g c = record {
   settles = list_settles (g.E.EventSink.stands_for c.args.to.now) (g.E.EventSink.stands_for c.loop-level.to) (g.E.EventSink.stands_for
       c.event.new.self) c.args.self.now c.loop-level.self (record c.loop-level.self { levels = c.leave.new.self })
       c.loop-level.invariant.settles
-      (popped (levels_of c.loop-level.self) (levels_in c.leave.new.self) c.in-Some.level (AList 0) c.in-Some.ensures (c.in-List.is
+      (popped (levels_of c.loop-level.self) (nested_in c.leave.new.self) c.in-Some.level (AList 0) c.in-Some.ensures (c.in-List.is
       ∙ ap AList (omega arith)))
       c.in_ok-event-in-List.ensures.stands;
   takes = λ e h. c.in_ok-event-in-List.ensures.takes_same e (c.loop-level.invariant.takes e h);
@@ -59,7 +59,7 @@ loop-level-preserved g c = record {
   settles = map_settles (g.E.EventSink.stands_for c.args.to.now) (g.E.EventSink.stands_for c.loop-level.to) (g.E.EventSink.stands_for
       c.event-in-Map.new.self) c.args.self.now c.loop-level.self (record c.loop-level.self { levels = c.leave.new.self })
       c.loop-level.invariant.settles
-      (popped (levels_of c.loop-level.self) (levels_in c.leave.new.self) c.in-Some.level (AMap 0) c.in-Some.ensures (c.in-Map.is ∙ ap AMap
+      (popped (levels_of c.loop-level.self) (nested_in c.leave.new.self) c.in-Some.level (AMap 0) c.in-Some.ensures (c.in-Map.is ∙ ap AMap
       (omega arith)))
       c.in_ok-event-in-Map.ensures.stands;
   takes = λ e h. c.in_ok-event-in-Map.ensures.takes_same e (c.loop-level.invariant.takes e h);
@@ -70,55 +70,55 @@ loop-level-preserved g c = record {
 pub enter-requires : goal.enter-requires
 enter-requires g c =
     room_left (g.E.EventSink.stands_for c.args.to.now) (g.E.EventSink.stands_for c.loop-level.to) c.args.self.now c.loop-level.self (AList
-    c.in-List.left) (levels_in c.leave.new.self) c.loop-level.invariant.settles
-    (popped (levels_of c.loop-level.self) (levels_in c.leave.new.self) c.in-Some.level (AList c.in-List.left) c.in-Some.ensures
+    c.in-List.left) (nested_in c.leave.new.self) c.loop-level.invariant.settles
+    (popped (levels_of c.loop-level.self) (nested_in c.leave.new.self) c.in-Some.level (AList c.in-List.left) c.in-Some.ensures
     c.in-List.is)
 
 pub enter-requires-then-left-gt0-2 : goal.enter-requires-then-left-gt0-2
 enter-requires-then-left-gt0-2 g c =
     room_left (g.E.EventSink.stands_for c.args.to.now) (g.E.EventSink.stands_for c.loop-level.to) c.args.self.now c.loop-level.self (AMap
-    c.in-Map.left) (levels_in c.leave.new.self) c.loop-level.invariant.settles
-    (popped (levels_of c.loop-level.self) (levels_in c.leave.new.self) c.in-Some.level (AMap c.in-Map.left) c.in-Some.ensures c.in-Map.is)
+    c.in-Map.left) (nested_in c.leave.new.self) c.loop-level.invariant.settles
+    (popped (levels_of c.loop-level.self) (nested_in c.leave.new.self) c.in-Some.level (AMap c.in-Map.left) c.in-Some.ensures c.in-Map.is)
 
 pub enter-requires-in-ListToBreak : goal.enter-requires-in-ListToBreak
 enter-requires-in-ListToBreak g c =
     room_left (g.E.EventSink.stands_for c.args.to.now) (g.E.EventSink.stands_for c.loop-level.to) c.args.self.now
-    c.loop-level.self AListToBreak (levels_in c.leave.new.self) c.loop-level.invariant.settles
-    (popped (levels_of c.loop-level.self) (levels_in c.leave.new.self) c.in-Some.level AListToBreak c.in-Some.ensures c.in-ListToBreak.is)
+    c.loop-level.self AListToBreak (nested_in c.leave.new.self) c.loop-level.invariant.settles
+    (popped (levels_of c.loop-level.self) (nested_in c.leave.new.self) c.in-Some.level AListToBreak c.in-Some.ensures c.in-ListToBreak.is)
 
 pub enter-requires-in-MapToBreak : goal.enter-requires-in-MapToBreak
 enter-requires-in-MapToBreak g c =
     room_left (g.E.EventSink.stands_for c.args.to.now) (g.E.EventSink.stands_for c.loop-level.to) c.args.self.now
-    c.loop-level.self AMapToBreak (levels_in c.leave.new.self) c.loop-level.invariant.settles
-    (popped (levels_of c.loop-level.self) (levels_in c.leave.new.self) c.in-Some.level AMapToBreak c.in-Some.ensures c.in-MapToBreak.is)
+    c.loop-level.self AMapToBreak (nested_in c.leave.new.self) c.loop-level.invariant.settles
+    (popped (levels_of c.loop-level.self) (nested_in c.leave.new.self) c.in-Some.level AMapToBreak c.in-Some.ensures c.in-MapToBreak.is)
 
 pub returns-then-left-gt0-clause-goes : goal.returns-then-left-gt0-clause-goes
 returns-then-left-gt0-clause-goes g c =
     entry_settles (g.E.EventSink.stands_for c.args.to.now) (g.E.EventSink.stands_for c.loop-level.to) c.args.self.now c.loop-level.self _
-    c.in-List.left (levels_in c.leave.new.self) c.loop-level.invariant.settles
-    (popped (levels_of c.loop-level.self) (levels_in c.leave.new.self) c.in-Some.level (AList c.in-List.left) c.in-Some.ensures
+    c.in-List.left (nested_in c.leave.new.self) c.loop-level.invariant.settles
+    (popped (levels_of c.loop-level.self) (nested_in c.leave.new.self) c.in-Some.level (AList c.in-List.left) c.in-Some.ensures
     c.in-List.is)
     c.if-left-gt0.true refl c.enter.ensures
 
 pub returns-then-left-gt0-2-clause-goes : goal.returns-then-left-gt0-2-clause-goes
 returns-then-left-gt0-2-clause-goes g c =
     pair_settles (g.E.EventSink.stands_for c.args.to.now) (g.E.EventSink.stands_for c.loop-level.to) c.args.self.now c.loop-level.self _
-    c.in-Map.left (levels_in c.leave.new.self) c.loop-level.invariant.settles
-    (popped (levels_of c.loop-level.self) (levels_in c.leave.new.self) c.in-Some.level (AMap c.in-Map.left) c.in-Some.ensures c.in-Map.is)
+    c.in-Map.left (nested_in c.leave.new.self) c.loop-level.invariant.settles
+    (popped (levels_of c.loop-level.self) (nested_in c.leave.new.self) c.in-Some.level (AMap c.in-Map.left) c.in-Some.ensures c.in-Map.is)
     c.if-left-gt0-2.true refl c.enter-then-left-gt0-2.ensures
 
 pub returns-in-ListToBreak-clause-goes : goal.returns-in-ListToBreak-clause-goes
 returns-in-ListToBreak-clause-goes g c =
     stays (g.E.EventSink.stands_for c.args.to.now) (g.E.EventSink.stands_for c.loop-level.to) c.args.self.now
-    c.loop-level.self _ AListToBreak (levels_in c.leave.new.self) c.loop-level.invariant.settles
-    (popped (levels_of c.loop-level.self) (levels_in c.leave.new.self) c.in-Some.level AListToBreak c.in-Some.ensures c.in-ListToBreak.is)
+    c.loop-level.self _ AListToBreak (nested_in c.leave.new.self) c.loop-level.invariant.settles
+    (popped (levels_of c.loop-level.self) (nested_in c.leave.new.self) c.in-Some.level AListToBreak c.in-Some.ensures c.in-ListToBreak.is)
     c.enter-in-ListToBreak.ensures tt refl
 
 pub returns-in-MapToBreak-clause-goes : goal.returns-in-MapToBreak-clause-goes
 returns-in-MapToBreak-clause-goes g c =
     stays (g.E.EventSink.stands_for c.args.to.now) (g.E.EventSink.stands_for c.loop-level.to) c.args.self.now
-    c.loop-level.self _ AMapToBreak (levels_in c.leave.new.self) c.loop-level.invariant.settles
-    (popped (levels_of c.loop-level.self) (levels_in c.leave.new.self) c.in-Some.level AMapToBreak c.in-Some.ensures c.in-MapToBreak.is)
+    c.loop-level.self _ AMapToBreak (nested_in c.leave.new.self) c.loop-level.invariant.settles
+    (popped (levels_of c.loop-level.self) (nested_in c.leave.new.self) c.in-Some.level AMapToBreak c.in-Some.ensures c.in-MapToBreak.is)
     c.enter-in-MapToBreak.ensures tt refl
 
 pub returns-clause-goes : goal.returns-clause-goes
