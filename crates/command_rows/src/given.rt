@@ -5,7 +5,7 @@ use std::alloc::Global;
 
 /// What a row asks of the next run.
 #[derive(Debug, Clone, Copy)]
-pub enum Asked {
+pub enum AskedOfRun {
     /// Its input comes in pieces of at most so many bytes.
     Cut(u64),
     /// This read of its files fails, counted from 1.
@@ -37,12 +37,12 @@ impl Given {
     }
 
     /// This is asked too.
-    pub fn and(&mut self, asked: Asked) {
+    pub fn and(&mut self, asked: AskedOfRun) {
         match asked {
-            Asked::Cut(length) => self.piece = length,
-            Asked::FailRead(call) => self.read = call,
-            Asked::FailTake(call) => self.take = call,
-            Asked::FailPut(call) => self.put = call,
+            AskedOfRun::Cut(length) => self.piece = length,
+            AskedOfRun::FailRead(call) => self.read = call,
+            AskedOfRun::FailTake(call) => self.take = call,
+            AskedOfRun::FailPut(call) => self.put = call,
         }
     }
 
@@ -67,13 +67,13 @@ impl Given {
 }
 
 /// What words and a number behind them ask.
-pub fn asked_by(words: &str, number: &str) -> Option<Asked> {
+pub fn asked_by(words: &str, number: &str) -> Option<AskedOfRun> {
     let number = number.parse::<u64>().ok()?;
     match words {
-        "cut" => Some(Asked::Cut(number)),
-        "fail read" => Some(Asked::FailRead(number)),
-        "fail take" => Some(Asked::FailTake(number)),
-        "fail put" => Some(Asked::FailPut(number)),
+        "cut" => Some(AskedOfRun::Cut(number)),
+        "fail read" => Some(AskedOfRun::FailRead(number)),
+        "fail take" => Some(AskedOfRun::FailTake(number)),
+        "fail put" => Some(AskedOfRun::FailPut(number)),
         _ => None,
     }
 }

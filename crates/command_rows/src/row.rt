@@ -1,5 +1,5 @@
 // What a line of text says.
-use crate::given::{Asked, asked_by};
+use crate::given::{AskedOfRun, asked_by};
 use crate::large::Size;
 
 /// How an input is written down.
@@ -13,11 +13,11 @@ pub enum Input<'a> {
 
 /// A row.
 #[derive(Debug, Clone, Copy)]
-pub enum Row<'a> {
+pub enum CommandRow<'a> {
     /// `pad N`: what the next row gives, a file's text or an input, is padded with blanks up to so many bytes.
     Pad(usize),
     /// `cut N`, `fail read N`, `fail take N`, `fail put N`: something is asked of the next run.
-    Next(Asked),
+    Next(AskedOfRun),
     /// `file NAME TEXT`: from now on the name stands for a file of this text.
     File(&'a str, &'a str),
     /// `line NAME TEXT`: this text and a line feed go behind what the name stands for.
@@ -32,23 +32,23 @@ pub enum Row<'a> {
     Unknown,
 }
 
-impl<'a> Row<'a> {
+impl<'a> CommandRow<'a> {
     /// What a line says.
     pub fn of(line: &'a str) -> Self {
         if let Some(rest) = line.strip_prefix("run") {
-            return Row::run(rest);
+            return CommandRow::run(rest);
         }
         match line.split_once(' ') {
-            Some(("file", rest)) => Row::file(rest),
-            Some(("line", rest)) => Row::line(rest),
-            Some(("model", rest)) => Row::model(rest, false),
-            Some(("mixed", rest)) => Row::model(rest, true),
-            Some(("change", rest)) => Row::change(rest),
+            Some(("file", rest)) => CommandRow::file(rest),
+            Some(("line", rest)) => CommandRow::line(rest),
+            Some(("model", rest)) => CommandRow::model(rest, false),
+            Some(("mixed", rest)) => CommandRow::model(rest, true),
+            Some(("change", rest)) => CommandRow::change(rest),
             Some(("pad", length)) => match length.parse::<usize>() {
-                Ok(length) => Row::Pad(length),
-                Err(_) => Row::Unknown,
+                Ok(length) => CommandRow::Pad(length),
+                Err(_) => CommandRow::Unknown,
             },
-            _ => Row::asking(line),
+            _ => CommandRow::asking(line),
         }
     }
 
@@ -56,10 +56,10 @@ impl<'a> Row<'a> {
     fn asking(line: &'a str) -> Self {
         match line.rsplit_once(' ') {
             Some((words, number)) => match asked_by(words, number) {
-                Some(asked) => Row::Next(asked),
-                None => Row::Unknown,
+                Some(asked) => CommandRow::Next(asked),
+                None => CommandRow::Unknown,
             },
-            None => Row::Unknown,
+            None => CommandRow::Unknown,
         }
     }
 
@@ -68,35 +68,35 @@ impl<'a> Row<'a> {
         let (words, input) = match (rest.split_once(" < "), rest.split_once(" <x ")) {
             (Some((words, text)), _) => (words, Input::Plain(text)),
             (None, Some((words, pairs))) => (words, Input::Pairs(pairs)),
-            (None, None) => return Row::Unknown,
+            (None, None) => return CommandRow::Unknown,
         };
-        Row::Run(words.strip_prefix(' '), input)
+        CommandRow::Run(words.strip_prefix(' '), input)
     }
 
     // A row `file`, without this word.
     fn file(rest: &'a str) -> Self {
         match rest.split_once(' ') {
-            Some((name, text)) => Row::File(name, text),
-            None => Row::Unknown,
+            Some((name, text)) => CommandRow::File(name, text),
+            None => CommandRow::Unknown,
         }
     }
 
     // A row `change`, without this word.
     fn change(rest: &'a str) -> Self {
         let Some((number, rest)) = rest.split_once(' ') else {
-            return Row::Unknown;
+            return CommandRow::Unknown;
         };
         match (number.parse::<u64>(), rest.split_once(' ')) {
-            (Ok(read), Some((name, text))) => Row::Change(read, name, text),
-            _ => Row::Unknown,
+            (Ok(read), Some((name, text))) => CommandRow::Change(read, name, text),
+            _ => CommandRow::Unknown,
         }
     }
 
     // A row `line`, without this word. The text may be empty.
     fn line(rest: &'a str) -> Self {
         match rest.split_once(' ') {
-            Some((name, text)) => Row::Line(name, text),
-            None => Row::Line(rest, ""),
+            Some((name, text)) => CommandRow::Line(name, text),
+            None => CommandRow::Line(rest, ""),
         }
     }
 
@@ -104,10 +104,10 @@ impl<'a> Row<'a> {
     fn model(rest: &'a str, mixed: bool) -> Self {
         match rest.split_once(' ') {
             Some((name, size)) => match Size::of(size, mixed) {
-                Some(size) => Row::Model(name, size),
-                None => Row::Unknown,
+                Some(size) => CommandRow::Model(name, size),
+                None => CommandRow::Unknown,
             },
-            None => Row::Unknown,
+            None => CommandRow::Unknown,
         }
     }
 }

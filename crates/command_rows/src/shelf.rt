@@ -1,9 +1,9 @@
 // The files of the rows so far, over which commands run.
 ghost use Rattle.std.specs.Prelude.{◌≡◌, ◌≤◌, IfOk, length, take};
 
-use crate::given::{Asked, Given};
+use crate::given::{AskedOfRun, Given};
 use crate::kept::{Change, KeptFiles};
-use crate::row::{Input, Row};
+use crate::row::{CommandRow, Input};
 use rows::{Player, bytes_shown, show_bytes};
 use sm_commands::run;
 use sm_io::Files;
@@ -35,7 +35,7 @@ impl Shelf {
     }
 
     /// This is asked of the next run.
-    pub fn ask(&mut self, asked: Asked) {
+    pub fn ask(&mut self, asked: AskedOfRun) {
         self.given.and(asked);
     }
 
@@ -163,17 +163,17 @@ fn show_pairs(put: &[u8], out: &mut String) -> Result<(), NoMemory> {
 
 impl Player for Shelf {
     fn play(&mut self, alloc: Global, case: &str, out: &mut String) -> Result<(), NoMemory> {
-        match Row::of(case) {
-            Row::Pad(length) => self.pad(length),
-            Row::Next(asked) => self.ask(asked),
-            Row::File(name, text) => self.keep(alloc, name, text)?,
-            Row::Line(name, text) => self.append(alloc, name, text)?,
-            Row::Model(name, size) => self.keep(alloc, name, size.model(alloc)?.as_str())?,
-            Row::Change(read, name, text) => self
+        match CommandRow::of(case) {
+            CommandRow::Pad(length) => self.pad(length),
+            CommandRow::Next(asked) => self.ask(asked),
+            CommandRow::File(name, text) => self.keep(alloc, name, text)?,
+            CommandRow::Line(name, text) => self.append(alloc, name, text)?,
+            CommandRow::Model(name, size) => self.keep(alloc, name, size.model(alloc)?.as_str())?,
+            CommandRow::Change(read, name, text) => self
                 .files
                 .change(Change::new(alloc, read, name, text)?),
-            Row::Run(words, input) => self.run(alloc, words, input, out)?,
-            Row::Unknown => out.push_str(" => no row")?,
+            CommandRow::Run(words, input) => self.run(alloc, words, input, out)?,
+            CommandRow::Unknown => out.push_str(" => no row")?,
         }
         Ok(())
     }

@@ -24,12 +24,12 @@ use Rattle.sm_asked.specs.Comes.{StepStops, EndsWithLine, EndsWithLimit}
 use Rattle.sm_asked.specs.steps.FileSteps.{PassesLimit, OpensFile}
 use Rattle.sm_asked.specs.steps.LoadSteps.{LoadsModel, ReadsModels, StopsLoad, TextsAnswer}
 use Rattle.sm_asked.specs.declared.lines.Shown.{Shown}
-use Rattle.sm_asked.specs.declared.stop.Stop.{Stop}
+use Rattle.sm_asked.specs.declared.stop.CommandStop.{CommandStop}
 use Rattle.sm_asked.proofs.Stops.{limit_stops, line_stops, stops_map}
 
 -- the files: one is too long, all are too long together, one more is read
 pub file_long : (held : Option Folder) (total : ℕ) (names rest : List (List ℕ)) (name : List ℕ) (files files1 : FilesSeen) (Failed : Type 0)
-    (stop : Stop)
+    (stop : CommandStop)
     → ((a : Answer) → PassesOne held total (name ∷ rest) a → PassesOne held 0 names a) → files.held ≡ held
     → (Rose files.read_faults files1.read_faults → Failed) → OpensFile files files1 name (Err stop)
     → StepStops (PassesOne held 0 names) Failed (Unit {0}) stop
@@ -38,7 +38,7 @@ file_long held total names rest name files files1 Failed stop passes same rose h
     (Unit {0}) (Unit {0}) stop
     (λ a says. passes a (inl (subst (λ x. PassesLimit x name a) same says))) rose (λ short. short) h
 
-pub all_long : (held : Option Folder) (total : ℕ) (names rest : List (List ℕ)) (name file : List ℕ) (Failed : Type 0) (stop : Stop)
+pub all_long : (held : Option Folder) (total : ℕ) (names rest : List (List ℕ)) (name file : List ℕ) (Failed : Type 0) (stop : CommandStop)
     → ((a : Answer) → PassesOne held total (name ∷ rest) a → PassesOne held 0 names a) → Holds held name (Some file)
     → length file ≤ file_limit → bytes_limit < total + length file → EndsWithLimit bytes_limit_line stop
     → StepStops (PassesOne held 0 names) Failed (Unit {0}) stop
@@ -76,40 +76,40 @@ read_names held before (name ∷ names) read (file, more, e, within, later) =
     ap (map (λ f. f.name)) e ∙ ap (λ ns. name ∷ ns) (read_names held (before + length file.bytes) names more later)
 
 -- files that load to no model
-pub text_stops : (shown : Shown) (read : List FileGiven) (number : ℕ) (place : TextPlace) (name : List ℕ) (stop : Stop)
+pub text_stops : (shown : Shown) (read : List FileGiven) (number : ℕ) (place : TextPlace) (name : List ℕ) (stop : CommandStop)
     → name ≡ name_at read number
     → LoadsTo read (Err (Text number place)) → EndsWithLine (text_line name place) stop → StopsLoad shown read stop
 text_stops shown read number place name stop named h ends =
     line_stops (TextsAnswer shown read) ⊥ (Unit {0}) (text_line name place) stop
     (Text number place, record { loads = h; told = λ e. cc }, ap (λ n. refused (text_line n place)) named) tt ends
 
-pub size_stops : (shown : Shown) (read : List FileGiven) (kind : LimitKind) (stop : Stop) → LoadsTo read (Err (Limit kind))
+pub size_stops : (shown : Shown) (read : List FileGiven) (kind : LimitKind) (stop : CommandStop) → LoadsTo read (Err (Limit kind))
     → EndsWithLimit (size_limit_line kind) stop → StopsLoad shown read stop
 size_stops shown read kind stop h ends =
     limit_stops (TextsAnswer shown read) ⊥ (Unit {0}) (size_limit_line kind) stop
     (Limit kind, record { loads = h; told = λ e. cc }, refl) tt ends
 
-pub rejected_stops : (shown : Shown) (read : List FileGiven) (es : List ModelEvent) (stop : Stop) → LoadsTo read (Err (Rejected es))
+pub rejected_stops : (shown : Shown) (read : List FileGiven) (es : List ModelEvent) (stop : CommandStop) → LoadsTo read (Err (Rejected es))
     → EndsWithLine (event_lines shown es) stop → StopsLoad shown read stop
 rejected_stops shown read es stop h ends =
     line_stops (TextsAnswer shown read) ⊥ (Unit {0}) (event_lines shown es) stop
     (Rejected es, record { loads = h; told = λ e. cc }, refl) tt ends
 
 -- the files of a command
-pub files_many : (shown : Shown) (files files1 : FilesSeen) (names : List (List ℕ)) (stop : Stop) → files_limit < length names
+pub files_many : (shown : Shown) (files files1 : FilesSeen) (names : List (List ℕ)) (stop : CommandStop) → files_limit < length names
     → EndsWithLimit files_limit_line stop → Loads shown files files1 names (Err stop)
 files_many shown files files1 names stop many ends =
     limit_stops (LoadAnswers shown files.held names) (Rose files.read_faults files1.read_faults) (Unit {0}) files_limit_line stop
     (many_files many refl) tt ends
 
-pub reading_stops : (shown : Shown) (files files1 : FilesSeen) (names : List (List ℕ)) (stop : Stop) → length names ≤ files_limit
+pub reading_stops : (shown : Shown) (files files1 : FilesSeen) (names : List (List ℕ)) (stop : CommandStop) → length names ≤ files_limit
     → ReadsModels files files1 names (Err stop) → Loads shown files files1 names (Err stop)
 reading_stops shown files files1 names stop few h =
     stops_map (PassesOne files.held 0 names) (LoadAnswers shown files.held names) (Rose files.read_faults files1.read_faults)
     (Rose files.read_faults files1.read_faults)
     (Unit {0}) (Unit {0}) stop (λ a says. long_files few says) (λ rose. rose) (λ short. short) h
 
-pub model_loads : (shown : Shown) (files files1 : FilesSeen) (names : List (List ℕ)) (read : List FileGiven) (result : Result Model Stop)
+pub model_loads : (shown : Shown) (files files1 : FilesSeen) (names : List (List ℕ)) (read : List FileGiven) (result : Result Model CommandStop)
     → length names ≤ files_limit → AreRead files.held 0 names read → LoadsModel shown read result → Loads shown files files1 names result
 model_loads shown files files1 names read (Ok m) few are h = (
   record { texts = record { few = few; read = read; are_read = are }; graph = maps_of m.graph; accepted = h.accepted },
@@ -140,14 +140,14 @@ pub one_read : (held : Option Folder) (name file : List ℕ) → Holds held name
 one_read held name file holds within =
     (record { bytes = file; held = holds; within = within }, [], refl, omega (arith, within), refl)
 
-pub file_loads : (shown : Shown) (files files1 : FilesSeen) (name file : List ℕ) (result : Result Model Stop)
+pub file_loads : (shown : Shown) (files files1 : FilesSeen) (name file : List ℕ) (result : Result Model CommandStop)
     → Holds files.held name (Some file)
     → length file ≤ file_limit → LoadsModel shown (file_given name file ∷ []) result → Loads shown files files1 (name ∷ []) result
 file_loads shown files files1 name file result holds within h =
     model_loads shown files files1 (name ∷ []) (file_given name file ∷ []) result (omega arith)
     (one_read files.held name file holds within) h
 
-pub file_stops : (shown : Shown) (files files1 : FilesSeen) (name : List ℕ) (stop : Stop) → OpensFile files files1 name (Err stop)
+pub file_stops : (shown : Shown) (files files1 : FilesSeen) (name : List ℕ) (stop : CommandStop) → OpensFile files files1 name (Err stop)
     → Loads shown files files1 (name ∷ []) (Err stop)
 file_stops shown files files1 name stop h =
     stops_map (PassesLimit files.held name) (LoadAnswers shown files.held (name ∷ [])) (Rose files.read_faults files1.read_faults)

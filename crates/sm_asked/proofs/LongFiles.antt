@@ -9,7 +9,7 @@ use Rattle.sm_asked.specs.Limits.{file_limit}
 use Rattle.sm_asked.specs.Lines.{file_limit_line}
 use Rattle.sm_asked.specs.Comes.{EndsWithLimit}
 use Rattle.sm_asked.specs.steps.FileSteps.{PassesLimit, OpensFile}
-use Rattle.sm_asked.specs.declared.stop.Stop.{Stop}
+use Rattle.sm_asked.specs.declared.stop.CommandStop.{CommandStop}
 use Rattle.sm_asked.proofs.Stops.{limit_stops}
 
 -- a list of any length
@@ -27,7 +27,7 @@ longer_file (Some folder) name limit h = at_file (file_at folder name) h
     at_file None h = absurd h
     at_file (Some bytes) h = (bytes, refl, h)
 
-pub file_past : (files files1 : FilesSeen) (name : List ℕ) (stop : Stop) → HoldsLonger files.held name file_limit
+pub file_past : (files files1 : FilesSeen) (name : List ℕ) (stop : CommandStop) → HoldsLonger files.held name file_limit
     → EndsWithLimit file_limit_line stop → OpensFile files files1 name (Err stop)
 file_past files files1 name stop long ends = let w = longer_file files.held name file_limit long in
     limit_stops (PassesLimit files.held name) (Rose files.read_faults files1.read_faults) (Unit {0}) file_limit_line stop

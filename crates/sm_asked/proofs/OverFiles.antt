@@ -8,16 +8,16 @@ use Rattle.sm_shapes.specs.Fitting.{Test}
 use Rattle.sm_compile.specs.Answers.{StoreSeen}
 use Rattle.sm_asked.specs.Answer.{Answer, Came, came}
 use Rattle.sm_asked.specs.Answer.InputUse.{untouched}
-use Rattle.sm_asked.specs.Asked.{Answers, ReadFails, StopsShort, over_files}
+use Rattle.sm_asked.specs.CommandAsked.{Answers, ReadFails, StopsShort, over_files}
 use Rattle.sm_asked.specs.AskedLaws.{AreThere, ComesToOne, ComesToSome, ReachesInput, WritesAsNamed}
 use Rattle.sm_asked.specs.Comes.{CommandComesTo, FilesComeTo}
 use Rattle.sm_asked.specs.Outside.{InputsSeen, inputs_seen}
-use Rattle.sm_asked.specs.declared.stop.Stop.{Stop}
+use Rattle.sm_asked.specs.declared.stop.CommandStop.{CommandStop}
 use Rattle.sm_asked.proofs.Answered.{answer_before, none_is_some}
 use Rattle.sm_asked.proofs.Stops.{comes_map}
 
 pub files_come : (names : List (List ℕ)) (FilesSay : Option Folder → Answer → Type 0) (files files1 : FilesSeen) (input : Stream)
-    (test : Test) (store : StoreSeen) (result : Result (Vec ℕ) Stop) → files1.held ≡ files.held
+    (test : Test) (store : StoreSeen) (result : Result (Vec ℕ) CommandStop) → files1.held ≡ files.held
     → FilesComeTo FilesSay files files1 result
     → CommandComesTo (inputs_seen files input test store) (inputs_seen files1 input test store) (over_files names FilesSay) result
 files_come names FilesSay files files1 input test store result held h =

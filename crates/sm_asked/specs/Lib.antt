@@ -6,7 +6,7 @@ pub mod Answer
 pub mod Stages
 pub mod Words
 pub mod ModelFiles
-pub mod Asked
+pub mod CommandAsked
 pub mod AskedLaws
 pub mod Comes
 pub mod Loading

@@ -14,7 +14,7 @@ use Rattle.sm_load.specs.declared.model.LoadRefusal.{LoadRefusal}
 use Rattle.sm_load.specs.declared.model.LoadRefusal.TheVariants.{Text, Limit, Rejected, NoMemory}
 use Rattle.sm_asked.specs.Answer.{Answer, refused, past}
 use Rattle.sm_asked.specs.Comes.{StepStops}
-use Rattle.sm_asked.specs.declared.stop.Stop.{Stop}
+use Rattle.sm_asked.specs.declared.stop.CommandStop.{CommandStop}
 use Rattle.sm_asked.specs.IdlLines.{text_line}
 use Rattle.sm_asked.specs.declared.lines.Shown.{Shown}
 use Rattle.sm_asked.specs.Limits.{files_limit}
@@ -58,7 +58,7 @@ pub data LoadAnswers (shown : Shown) (files : Option Folder) (names : List (List
       → a ≡ refusal_answer shown texts.read refusal → LoadAnswers shown files names a
 
 -- the model of the files of these names, or the answer before it
-abbrev pub Loads : Shown → FilesSeen → FilesSeen → List (List ℕ) → Result Model Stop → Type 0
+abbrev pub Loads : Shown → FilesSeen → FilesSeen → List (List ℕ) → Result Model CommandStop → Type 0
 Loads shown files files1 names (Ok m) =
     (loaded : Loaded files.held names) × (maps_of m.graph ≡ loaded.graph) × AreModelEvents (maps_of m.graph) m.events
 Loads shown files files1 names (Err stop) =

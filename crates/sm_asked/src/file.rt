@@ -5,7 +5,7 @@ ghost use Rattle.sm_io.specs.Seen.{files_seen};
 ghost use Rattle.sm_asked.specs.steps.FileSteps.{OpensFile};
 
 use crate::lines::limit_line;
-use crate::stop::{Stop, past};
+use crate::stop::{CommandStop, past};
 use sm_io::{FileRefusal, Files};
 use std::alloc::Global;
 
@@ -13,7 +13,11 @@ use std::alloc::Global;
 const FILE_LIMIT: u64 = 4_194_304;
 
 /// The bytes of the file of this name, or the line of one that is too long.
-pub(crate) fn open_file<F: Files>(alloc: Global, files: &mut F, name: &str) -> Result<Vec<u8>, Stop>
+pub(crate) fn open_file<F: Files>(
+    alloc: Global,
+    files: &mut F,
+    name: &str,
+) -> Result<Vec<u8>, CommandStop>
     requires { F.lets_read files.old name.now }
     ensures opens { OpensFile
         (files_seen (F.held files.old) (F.read_faults files.old) (F.write_faults files.old))
@@ -27,8 +31,8 @@ pub(crate) fn open_file<F: Files>(alloc: Global, files: &mut F, name: &str) -> R
 {
     match files.read(name, FILE_LIMIT) {
         Ok(file) => Ok(file),
-        Err(FileRefusal::Failed) => Err(Stop::ReadFault),
+        Err(FileRefusal::Failed) => Err(CommandStop::ReadFault),
         Err(FileRefusal::TooLong) => Err(past(limit_line(alloc, "file", FILE_LIMIT))),
-        Err(FileRefusal::NoMemory) => Err(Stop::NoMemory),
+        Err(FileRefusal::NoMemory) => Err(CommandStop::NoMemory),
     }
 }

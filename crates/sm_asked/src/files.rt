@@ -7,7 +7,7 @@ ghost use Rattle.sm_asked.specs.steps.LoadSteps.{ReadsModels};
 
 use crate::file::open_file;
 use crate::lines::limit_line;
-use crate::stop::{Stop, past};
+use crate::stop::{CommandStop, past};
 use sm_io::Files;
 use sm_load::ModelFile;
 use sm_tree::{NoMemory, Text};
@@ -21,7 +21,7 @@ pub(crate) fn read_models<F: Files>(
     alloc: Global,
     files: &mut F,
     names: &[Text],
-) -> Result<Vec<ModelFile>, Stop>
+) -> Result<Vec<ModelFile>, CommandStop>
     requires { (name : List ℕ) → Contains names.now name → F.lets_read files.old name }
     ensures reads { ReadsModels
         (files_seen (F.held files.old) (F.read_faults files.old) (F.write_faults files.old))

@@ -13,5 +13,5 @@ mod words;
 pub use lines::{Shown, event_lines, limit_line};
 pub use loading::{load_file, load_models};
 pub use status::Status;
-pub use stop::{Stop, past, refused, refused_pattern};
+pub use stop::{CommandStop, past, refused, refused_pattern};
 pub use words::{is_word, model_words, models_alone};

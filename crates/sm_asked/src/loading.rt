@@ -12,7 +12,7 @@ use crate::file::open_file;
 use crate::files::{put_file, read_models};
 use crate::idl::text_line;
 use crate::lines::{Shown, event_lines, limit_line, size_limit_line};
-use crate::stop::{Stop, past, refused};
+use crate::stop::{CommandStop, past, refused};
 use sm_io::Files;
 use sm_load::{LoadRefusal, Model, ModelFile, load};
 use sm_tree::Text;
@@ -22,14 +22,14 @@ use std::alloc::Global;
 const FILES_LIMIT: usize = 64;
 
 // Why files load to no model, as it is printed; the name is that of the file that says no statements.
-fn not_loaded(alloc: Global, shown: Shown, name: &str, refusal: LoadRefusal) -> Stop
+fn not_loaded(alloc: Global, shown: Shown, name: &str, refusal: LoadRefusal) -> CommandStop
     ensures { (read : List FileGiven) → NamesFirst read refusal name.now → LoadsTo read (Err refusal) → StopsLoad shown read result }
 {
     match refusal {
         LoadRefusal::Text(_, place) => refused(text_line(alloc, name, &place)),
         LoadRefusal::Limit(kind) => past(size_limit_line(alloc, kind)),
         LoadRefusal::Rejected(events) => refused(event_lines(alloc, shown, events.as_slice())),
-        LoadRefusal::NoMemory => Stop::NoMemory,
+        LoadRefusal::NoMemory => CommandStop::NoMemory,
     }
 }
 
@@ -53,7 +53,7 @@ fn model_of(
     shown: Shown,
     names: &[Text],
     read: Vec<ModelFile>,
-) -> Result<Model, Stop>
+) -> Result<Model, CommandStop>
     requires { map (λ f. f.name) (given_files read.items) ≡ names.now }
     ensures { LoadsModel shown (given_files read.items) result }
 {
@@ -78,7 +78,7 @@ pub fn load_models<F: Files>(
     shown: Shown,
     files: &mut F,
     models: &[Text],
-) -> Result<Model, Stop>
+) -> Result<Model, CommandStop>
     requires { (name : List ℕ) → Contains models.now name → F.lets_read files.old name }
     ensures loads { Loads shown
         (files_seen (F.held files.old) (F.read_faults files.old) (F.write_faults files.old))
@@ -104,7 +104,7 @@ pub fn load_models<F: Files>(
 /// # Errors
 ///
 /// Those of `load_models` for the one name.
-pub fn load_file<F: Files>(alloc: Global, files: &mut F, name: &str) -> Result<Model, Stop>
+pub fn load_file<F: Files>(alloc: Global, files: &mut F, name: &str) -> Result<Model, CommandStop>
     requires { F.lets_read files.old name.now }
     ensures loads { Loads Errors
         (files_seen (F.held files.old) (F.read_faults files.old) (F.write_faults files.old))
@@ -123,7 +123,7 @@ pub fn load_file<F: Files>(alloc: Global, files: &mut F, name: &str) -> Result<M
 }
 
 // The model of one file that was read.
-fn model_of_one(alloc: Global, name: &str, bytes: Vec<u8>) -> Result<Model, Stop>
+fn model_of_one(alloc: Global, name: &str, bytes: Vec<u8>) -> Result<Model, CommandStop>
     ensures { LoadsModel Errors (file_given name.now bytes.items ∷ []) result }
 {
     let mut files = Vec::new(alloc);

@@ -6,7 +6,7 @@ use sm_tree::NoMemory;
 
 /// Why a command ends before its work is done.
 #[derive(Drop)]
-pub enum Stop {
+pub enum CommandStop {
     /// The model, the shape or the body is refused; this line says why.
     Refused(Vec<u8>),
     /// The store refused a pattern; this line says which shape or member carries it.
@@ -19,43 +19,43 @@ pub enum Stop {
     NoMemory,
 }
 
-impl From<NoMemory> for Stop {
+impl From<NoMemory> for CommandStop {
     ghost use Rattle.std.specs.Prelude.{◌≡◌};
-    ghost use Rattle.sm_asked.specs.declared.stop.Stop.TheVariants.{NoMemory as no_memory};
+    ghost use Rattle.sm_asked.specs.declared.stop.CommandStop.TheVariants.{NoMemory as no_memory};
 
     ghost from_gives = { λ _ stop. stop ≡ no_memory };
 
     fn from(_refusal: NoMemory) -> Self {
-        Stop::NoMemory
+        CommandStop::NoMemory
     }
 }
 
 /// The command ends with this line, if there is memory for it.
-pub fn refused(line: Result<Vec<u8>, NoMemory>) -> Stop
+pub fn refused(line: Result<Vec<u8>, NoMemory>) -> CommandStop
     ensures { (wanted : List ℕ) → IfOk line (λ printed. printed.items ≡ wanted) → EndsWithLine wanted result }
 {
     match line {
-        Ok(line) => Stop::Refused(line),
-        Err(NoMemory) => Stop::NoMemory,
+        Ok(line) => CommandStop::Refused(line),
+        Err(NoMemory) => CommandStop::NoMemory,
     }
 }
 
 /// The command ends at a pattern with this line, if there is memory for it.
-pub fn refused_pattern(line: Result<Vec<u8>, NoMemory>) -> Stop
+pub fn refused_pattern(line: Result<Vec<u8>, NoMemory>) -> CommandStop
     ensures { (wanted : List ℕ) → IfOk line (λ printed. printed.items ≡ wanted) → EndsWithPattern wanted result }
 {
     match line {
-        Ok(line) => Stop::Pattern(line),
-        Err(NoMemory) => Stop::NoMemory,
+        Ok(line) => CommandStop::Pattern(line),
+        Err(NoMemory) => CommandStop::NoMemory,
     }
 }
 
 /// The command ends at a limit with this line, if there is memory for it.
-pub fn past(line: Result<Vec<u8>, NoMemory>) -> Stop
+pub fn past(line: Result<Vec<u8>, NoMemory>) -> CommandStop
     ensures { (wanted : List ℕ) → IfOk line (λ printed. printed.items ≡ wanted) → EndsWithLimit wanted result }
 {
     match line {
-        Ok(line) => Stop::Limit(line),
-        Err(NoMemory) => Stop::NoMemory,
+        Ok(line) => CommandStop::Limit(line),
+        Err(NoMemory) => CommandStop::NoMemory,
     }
 }

@@ -34,7 +34,7 @@ use Rattle.sm_asked.specs.Lines.{no_shape_line, pattern_line, body_limit_line}
 use Rattle.sm_lines.specs.Lines.{unserved_line}
 use Rattle.sm_asked.specs.Loading.{Loaded, LoadAnswers, Loads}
 use Rattle.sm_asked.specs.Outside.{InputsSeen, inputs_seen}
-use Rattle.sm_asked.specs.Asked.{Asked, Answers, OnlyAdds, ReadFails, StopsShort, told_by}
+use Rattle.sm_asked.specs.CommandAsked.{CommandAsked, Answers, OnlyAdds, ReadFails, StopsShort, told_by}
 use Rattle.sm_asked.specs.Stages.{Told}
 use Rattle.sm_body_command.specs.steps.BodySteps.{ShapeSays, HasTableOf, MakesTable, IsReady, PrintsText, InputSays}
 use Rattle.sm_body_command.specs.steps.BodySteps.{InputComesTo, TableSays, TableComesTo}
@@ -42,7 +42,7 @@ use Rattle.sm_body_command.specs.steps.BodySteps.ShapeSays.{lacks, refuses}
 use Rattle.sm_body_command.specs.steps.BodySteps.InputSays.{beyond, whole}
 use Rattle.sm_body_command.specs.steps.BodySteps.TableSays.{left_out, by_input}
 use Rattle.sm_asked.specs.Comes.{StepComesTo, EndsWithLine, EndsWithLimit, EndsWithPattern, CommandComesTo}
-use Rattle.sm_asked.specs.declared.stop.Stop.{Stop}
+use Rattle.sm_asked.specs.declared.stop.CommandStop.{CommandStop}
 use Rattle.sm_asked.specs.declared.lines.Shown.TheVariants.{Errors}
 use Rattle.sm_asked.proofs.Answered.{answer_before, none_is_some}
 use Rattle.sm_asked.proofs.LongFiles.{long_list}
@@ -50,7 +50,7 @@ use Rattle.sm_asked.proofs.Stops.{line_stops, limit_stops, pattern_stops, stops_
 use Rattle.sm_body_command.proofs.TablesMade.{number_within}
 
 -- a shape that has no table: it isn't there, or a pattern is refused
-pub shape_lacks : (g : GraphMaps) (shape : List ℕ) (test : Test) (before now : StoreSeen) (stop : Stop) → (IsValueShape g shape → ⊥)
+pub shape_lacks : (g : GraphMaps) (shape : List ℕ) (test : Test) (before now : StoreSeen) (stop : CommandStop) → (IsValueShape g shape → ⊥)
     → now.refusals ≡ before.refusals → EndsWithLine (no_shape_line shape) stop → MakesTable g shape test before now (Err stop)
 shape_lacks g shape test before now stop none count ends =
     line_stops (ShapeSays g shape before now) ⊥ (Unit {0}) (no_shape_line shape) stop (lacks none count refl) tt ends
@@ -64,12 +64,12 @@ module _ (g : GraphMaps) (id shape : List ℕ) (test : Test) (before now : Store
         compiled = subst (λ x. IsShapeCompiled g x test before now one) (sym e) h.1;
       }
 
-  pub compiled_lacks : (stop : Stop) → CompilesShape g shape test before now (Err NoShape) → EndsWithLine (no_shape_line id) stop
+  pub compiled_lacks : (stop : CommandStop) → CompilesShape g shape test before now (Err NoShape) → EndsWithLine (no_shape_line id) stop
       → MakesTable g id test before now (Err stop)
   compiled_lacks stop h ends =
       shape_lacks g id test before now stop (λ there. h.0 (subst (IsValueShape g) e there)) (ap (λ (x : StoreSeen). x.refusals) h.1) ends
 
-  pub compiled_refused : (carrier : List ℕ) (stop : Stop) → CompilesShape g shape test before now (Err (is_pattern carrier))
+  pub compiled_refused : (carrier : List ℕ) (stop : CommandStop) → CompilesShape g shape test before now (Err (is_pattern carrier))
       → EndsWithPattern (pattern_line carrier) stop → MakesTable g id test before now (Err stop)
   compiled_refused carrier stop h ends =
       pattern_stops (ShapeSays g id before now) ⊥ (Unit {0}) (pattern_line carrier) stop
@@ -98,14 +98,14 @@ emptied (Some xs) None body h = absurd h.0
 emptied (Some xs) (Some ys) body h = h.0 ∙ ap (λ r. body ++ r) h.1 ∙ append-nil body
 
 pub input_comes : (near far : BodyForm) (t : TableData) (test : Test) (s : ℕ) (input rest : Stream) (body : List ℕ)
-    (result : Result (Vec ℕ) Stop)
+    (result : Result (Vec ℕ) CommandStop)
     → Empties input.bytes rest.bytes body → length body ≤ body_limit → StepComesTo (PrintsText near far t test s body) ⊥ (Unit {0}) result
     → InputComesTo near far t test s input rest result
 input_comes near far t test s input rest body result empties within h =
     comes_map (PrintsText near far t test s body) (InputSays near far t test s input rest) ⊥ (Rose input.faults rest.faults) (Unit {0})
     (Unit {0}) result (λ a says. whole body (emptied input.bytes rest.bytes body empties) within empties.1 says) (λ x. absurd x) (λ x. x) h
 
-pub input_past : (near far : BodyForm) (t : TableData) (test : Test) (s : ℕ) (input rest : Stream) (stop : Stop)
+pub input_past : (near far : BodyForm) (t : TableData) (test : Test) (s : ℕ) (input rest : Stream) (stop : CommandStop)
     → IfSome input.bytes (λ body. body_limit < length body) → EndsWithLimit body_limit_line stop
     → InputComesTo near far t test s input rest (Err stop)
 input_past near far t test s input rest stop long ends = let w = longer_input input.bytes body_limit long in
@@ -114,7 +114,7 @@ input_past near far t test s input rest stop long ends = let w = longer_input in
 
 -- a body, by its answer
 pub text_comes : (near far : BodyForm) (t : TableData) (test : Test) (s : ℕ) (body : List ℕ) (said : TextAnswer)
-    (result : Result (Vec ℕ) Stop)
+    (result : Result (Vec ℕ) CommandStop)
     → TextAnswers near far t test (root_place s) body said → StepComesTo (λ a. a ≡ printed said) ⊥ (Unit {0}) result
     → StepComesTo (PrintsText near far t test s body) ⊥ (Unit {0}) result
 text_comes near far t test s body said result answers h =
@@ -122,7 +122,7 @@ text_comes near far t test s body said result answers h =
     (λ x. x) (λ x. x) h
 
 -- the input of a shape that is served
-pub served_comes : (near far : BodyForm) (one : OneShape) (test : Test) (input rest : Stream) (result : Result (Vec ℕ) Stop)
+pub served_comes : (near far : BodyForm) (one : OneShape) (test : Test) (input rest : Stream) (result : Result (Vec ℕ) CommandStop)
     → Path Served one.served Yes → InputComesTo near far (filled (table_data one.table) test) test one.shape input rest result
     → TableComesTo near far one test input rest result
 served_comes near far one test input rest result served h =
@@ -133,7 +133,7 @@ served_comes near far one test input rest result served h =
 
 -- the whole command, by its model file
 pub body_stops : (files files1 : FilesSeen) (input : Stream) (test : Test) (store : StoreSeen) (name shape : List ℕ) (near far : BodyForm)
-    (stop : Stop) → files1.held ≡ files.held → Loads Errors files files1 (name ∷ []) (Err stop)
+    (stop : CommandStop) → files1.held ≡ files.held → Loads Errors files files1 (name ∷ []) (Err stop)
     → CommandComesTo (inputs_seen files input test store) (inputs_seen files1 input test store) (body_asked name shape near far)
     (Err stop)
 body_stops files files1 input test store name shape near far stop held h =
@@ -152,7 +152,7 @@ module _ (files files1 : FilesSeen) (test : Test) (store store1 : StoreSeen) (na
   abbrev after : Stream → InputsSeen
   after rest = inputs_seen files1 rest test store1
 
-  abbrev command : Asked
+  abbrev command : CommandAsked
   command = body_asked name shape near far
 
   -- by what a shape without a table comes to
@@ -175,7 +175,7 @@ module _ (files files1 : FilesSeen) (test : Test) (store store1 : StoreSeen) (na
       rose : Rose store.refusals store1.refusals
       rose = omega (arith, h.refusals)
 
-  pub body_refuses : (input : Stream) (m : Model) (stop : Stop) → Loads Errors files files1 (name ∷ []) (Ok m)
+  pub body_refuses : (input : Stream) (m : Model) (stop : CommandStop) → Loads Errors files files1 (name ∷ []) (Ok m)
       → MakesTable (maps_of m.graph) shape test store store1 (Err stop) → CommandComesTo (before input) (after input) command (Err stop)
   body_refuses input m stop loads h =
       stops_map (ShapeSays (maps_of m.graph) shape store store1) (Answers (before input) (after input) command) ⊥
@@ -222,7 +222,7 @@ module _ (files files1 : FilesSeen) (test : Test) (store store1 : StoreSeen) (na
     left = at_end;
   }
 
-  pub body_by : (input rest : Stream) (m : Model) (now : StoreSeen) (one : OneShape) (result : Result (Vec ℕ) Stop)
+  pub body_by : (input rest : Stream) (m : Model) (now : StoreSeen) (one : OneShape) (result : Result (Vec ℕ) CommandStop)
       → Loads Errors files files1 (name ∷ []) (Ok m) → HasTableOf (maps_of m.graph) shape test store now one
       → store1.refusals ≡ now.refusals
       → TableComesTo near far one test input rest result → CommandComesTo (before input) (after rest) command result
@@ -250,7 +250,7 @@ compiling_adds g shape test before now (Err (is_pattern id)) h = (h.1.earlier, h
 compiling_adds g shape test before now (Err no_room) h = (h.more, h.added)
 
 -- a shape that isn't served
-pub unserved_stops : (near far : BodyForm) (one : OneShape) (test : Test) (input : Stream) (path : List ℕ) (stop : Stop)
+pub unserved_stops : (near far : BodyForm) (one : OneShape) (test : Test) (input : Stream) (path : List ℕ) (stop : CommandStop)
     → Path Served one.served (Unserved path) → EndsWithLine (unserved_line path) stop
     → TableComesTo near far one test input input (Err stop)
 unserved_stops near far one test input path stop served ends =

@@ -12,7 +12,7 @@ use Rattle.sm_compile.specs.declared.compiled.Served.{Served}
 use Rattle.sm_compile.specs.declared.compiled.Served.TheVariants.{Unserved}
 use Rattle.sm_asked.specs.Answer.{Answer, Came, done, refused, pattern_refused, past, came}
 use Rattle.sm_asked.specs.Answer.InputUse.{untouched, to_its_end, past_its_limit}
-use Rattle.sm_asked.specs.Asked.{Asked}
+use Rattle.sm_asked.specs.CommandAsked.{CommandAsked}
 use Rattle.sm_body_command.specs.BodyStages.{ShapeThere, TableMade, ShapeServed, InputRead, table_of}
 use Rattle.sm_asked.specs.Limits.{body_limit}
 use Rattle.sm_asked.specs.Lines.{no_shape_line, pattern_line, body_limit_line}
@@ -43,7 +43,7 @@ pub data BodySays (t : Told) (name shape : List ℕ) (near far : BodyForm) (c : 
       → TextAnswers near far (table_of t name shape input.served.table) t.test (root_place input.served.table.one.shape) input.bytes a
       → c ≡ came to_its_end (printed a) → BodySays t name shape near far c
 
-abbrev pub body_asked : List ℕ → List ℕ → BodyForm → BodyForm → Asked
+abbrev pub body_asked : List ℕ → List ℕ → BodyForm → BodyForm → CommandAsked
 body_asked model shape near far = record {
   reads = model ∷ [];
   writes = [];

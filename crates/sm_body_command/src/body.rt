@@ -13,12 +13,12 @@ ghost use Rattle.sm_compile.specs.Answers.{seen_store};
 ghost use Rattle.sm_compile.specs.Sound.{Sound};
 ghost use Rattle.sm_body_command.specs.Body.{body_asked, printed};
 ghost use Rattle.sm_asked.specs.Outside.{inputs_seen};
-ghost use Rattle.sm_asked.specs.Asked.{OnlyAdds};
+ghost use Rattle.sm_asked.specs.CommandAsked.{OnlyAdds};
 ghost use Rattle.sm_asked.specs.Comes.{CommandComesTo, StepComesTo};
 ghost use Rattle.sm_body_command.specs.steps.BodySteps.{InputComesTo, IsReady, MakesTable, PrintsText, TableComesTo};
 
 use crate::words::BodyWords;
-use sm_asked::{Stop, limit_line, load_file, past, refused, refused_pattern};
+use sm_asked::{CommandStop, limit_line, load_file, past, refused, refused_pattern};
 use sm_bodies::{BodyAnswer, translated};
 use sm_codec::fill_defaults;
 use sm_compile::{CompileRefusal, OneShape, Served, compile_shape};
@@ -41,7 +41,7 @@ fn compiled<P: Patterns>(
     graph: &Graph,
     id: &ShapeId,
     patterns: &mut P,
-) -> Result<OneShape, Stop>
+) -> Result<OneShape, CommandStop>
     requires { Sound (maps_of graph.now) id.now }
     ensures makes { let before = seen_store (P.added patterns.old) (P.refused patterns.old) (P.refusals patterns.old) in
         let after = seen_store (P.added patterns.new) (P.refused patterns.new) (P.refusals patterns.new) in
@@ -55,7 +55,7 @@ fn compiled<P: Patterns>(
         Err(CompileRefusal::Pattern(carrier)) => {
             Err(refused_pattern(line(alloc, "Pattern", carrier.as_str())))
         }
-        Err(CompileRefusal::NoMemory) => Err(Stop::NoMemory),
+        Err(CompileRefusal::NoMemory) => Err(CommandStop::NoMemory),
     }
 }
 
@@ -65,7 +65,7 @@ fn table_named<P: Patterns>(
     graph: &Graph,
     shape: &str,
     patterns: &mut P,
-) -> Result<OneShape, Stop>
+) -> Result<OneShape, CommandStop>
     requires { Sound (maps_of graph.now) shape.now }
     ensures makes { let before = seen_store (P.added patterns.old) (P.refused patterns.old) (P.refusals patterns.old) in
         let after = seen_store (P.added patterns.new) (P.refused patterns.new) (P.refusals patterns.new) in
@@ -79,7 +79,7 @@ fn table_named<P: Patterns>(
 }
 
 // What is printed for what a body comes to.
-fn printed_answer(alloc: Global, answer: BodyAnswer) -> Result<Vec<u8>, Stop>
+fn printed_answer(alloc: Global, answer: BodyAnswer) -> Result<Vec<u8>, CommandStop>
     ensures { StepComesTo (λ a. a ≡ printed (text_answer answer)) ⊥ (Unit {0}) result }
 {
     match answer {
@@ -97,7 +97,7 @@ fn far_body<P: Patterns>(
     shape: u32,
     patterns: &mut P,
     body: &[u8],
-) -> Result<Vec<u8>, Stop>
+) -> Result<Vec<u8>, CommandStop>
     requires number { shape < shape_count (table_data table.now) }
     requires shaped { Shaped (table_data table.now) }
     requires stored { AreStored (table_data table.now).patterns (P.added patterns.old) }
@@ -110,7 +110,7 @@ fn far_body<P: Patterns>(
 {
     match translated(alloc, words.near, words.far, table, shape, patterns, body) {
         Ok(answer) => printed_answer(alloc, answer),
-        Err(NoMemory) => Err(Stop::NoMemory),
+        Err(NoMemory) => Err(CommandStop::NoMemory),
     }
 }
 
@@ -122,7 +122,7 @@ fn far_input<S: Source, P: Patterns>(
     shape: u32,
     patterns: &mut P,
     input: &mut S,
-) -> Result<Vec<u8>, Stop>
+) -> Result<Vec<u8>, CommandStop>
     requires number { shape < shape_count (table_data table.now) }
     requires shaped { Shaped (table_data table.now) }
     requires stored { AreStored (table_data table.now).patterns (P.added patterns.old) }
@@ -138,9 +138,9 @@ fn far_input<S: Source, P: Patterns>(
 {
     match read_all(alloc, input, BODY_LIMIT) {
         Ok(body) => far_body(alloc, words, table, shape, patterns, &body),
-        Err(ReadRefusal::Failed) => Err(Stop::ReadFault),
+        Err(ReadRefusal::Failed) => Err(CommandStop::ReadFault),
         Err(ReadRefusal::TooLong) => Err(past(limit_line(alloc, "body", BODY_LIMIT))),
-        Err(ReadRefusal::NoMemory) => Err(Stop::NoMemory),
+        Err(ReadRefusal::NoMemory) => Err(CommandStop::NoMemory),
     }
 }
 
@@ -152,7 +152,7 @@ fn far_of_served<S: Source, P: Patterns>(
     shape: u32,
     patterns: &mut P,
     input: &mut S,
-) -> Result<Vec<u8>, Stop>
+) -> Result<Vec<u8>, CommandStop>
     requires { IsReady (table_data table) shape (P.added patterns.old) }
     ensures comes { InputComesTo words.entry.near words.entry.far (filled (table_data table) P.test) P.test shape
         (stream (S.left input.old) (S.faults input.old))
@@ -165,7 +165,7 @@ fn far_of_served<S: Source, P: Patterns>(
 {
     match fill_defaults(alloc, &mut table, patterns) {
         Ok(()) => far_input(alloc, words, &table, shape, patterns, input),
-        Err(NoMemory) => Err(Stop::NoMemory),
+        Err(NoMemory) => Err(CommandStop::NoMemory),
     }
 }
 
@@ -176,7 +176,7 @@ fn far_of_shape<S: Source, P: Patterns>(
     one: OneShape,
     patterns: &mut P,
     input: &mut S,
-) -> Result<Vec<u8>, Stop>
+) -> Result<Vec<u8>, CommandStop>
     requires { IsReady (table_data one.table) one.shape (P.added patterns.old) }
     ensures comes { TableComesTo words.entry.near words.entry.far one P.test
         (stream (S.left input.old) (S.faults input.old))
@@ -212,7 +212,7 @@ pub fn body<F: Files, S: Source, P: Patterns>(
     files: &mut F,
     input: &mut S,
     patterns: &mut P,
-) -> Result<Vec<u8>, Stop>
+) -> Result<Vec<u8>, CommandStop>
     requires { F.lets_read files.old words.model.now }
     ensures comes { let before = inputs_seen (files_seen (F.held files.old) (F.read_faults files.old) (F.write_faults files.old))
         (stream (S.left input.old) (S.faults input.old))

@@ -1,7 +1,7 @@
 -- What holds of what each command comes to: a clause for each command.
 use Rattle.std.proofs.Common.{◌≡◌, ℕ, false, List, [], refl}
 use Rattle.sm_bodies.specs.declared.form.BodyForm.{BodyForm}
-use Rattle.sm_asked.specs.Asked.{Asked}
+use Rattle.sm_asked.specs.CommandAsked.{CommandAsked}
 use Rattle.sm_asked.specs.AskedLaws.{ReachesInput, WritesAsNamed}
 use Rattle.sm_asked.proofs.OverFiles.{none_over_files, reach_over_files}
 use Rattle.sm_model_commands.specs.Check.{CheckSays, check_asked}
@@ -14,7 +14,7 @@ use Rattle.sm_commands.specs.Commands.{Command, asked_of, body_command, check_co
 use Rattle.sm_commands.specs.Says.{InputReached}
 
 -- what holds of what each command asks holds of every command
-pub of_each : (P : Asked → Type 0) → ((models : List (List ℕ)) → P (check_asked models))
+pub of_each : (P : CommandAsked → Type 0) → ((models : List (List ℕ)) → P (check_asked models))
     → ((model shape : List ℕ) (near far : BodyForm) → P (body_asked model shape near far))
     → ((models : List (List ℕ)) (form : GraphForm) → P (convert_asked models form))
     → ((models : List (List ℕ)) (selector : List ℕ) → P (select_asked models selector)) → (command : Command) → P (asked_of command)
@@ -29,7 +29,7 @@ input_reached = of_each ReachesInput (λ models. reach_over_files models (λ fil
     (λ models selector. reach_over_files models (λ files a. SelectSays files models selector a))
 
 -- each puts its answer as one piece, and writes no file
-pub record PutsWhole (asked : Asked) : Type 0 where
+pub record PutsWhole (asked : CommandAsked) : Type 0 where
   pub streams : asked.streams ≡ false
   pub writes : asked.writes ≡ []
   pub named : WritesAsNamed asked

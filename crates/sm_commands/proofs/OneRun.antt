@@ -11,7 +11,7 @@ use Rattle.sm_asked.specs.Answer.{Answer, Came, came_writing}
 use Rattle.sm_asked.specs.Stages.{Told}
 use Rattle.sm_commands.specs.Says.{OneAnswer}
 use Rattle.sm_asked.specs.AskedLaws.{ComesToOne, TellsAll}
-use Rattle.sm_asked.specs.Asked.{Asked, Answers, RefusedBy, told_by}
+use Rattle.sm_asked.specs.CommandAsked.{CommandAsked, Answers, RefusedBy, told_by}
 use Rattle.sm_commands.specs.Run.{Prints, RunEnds}
 use Rattle.sm_commands.specs.RunLaws.{IsAnswered, IsAnsweredRun, OneRunAnswer}
 use Rattle.sm_asked.specs.declared.status.Status.{Status}
@@ -29,14 +29,14 @@ pattern_same before after (Some u) None below h i = absurd (quiet_not_rose befor
 pattern_same before after (Some u) (Some v) below h i = sym h.1 ∙ i.1
 
 -- what a command comes to, over what is told
-says_told : (t : Told) (seen : InputsSeen) (pattern : Option (List ℕ)) (asked : Asked) (c : Came) → pattern ≡ t.refused
+says_told : (t : Told) (seen : InputsSeen) (pattern : Option (List ℕ)) (asked : CommandAsked) (c : Came) → pattern ≡ t.refused
     → Path Told (told_by seen t.refused) t → asked.says (told_by seen pattern) c → asked.says t c
 says_told t seen pattern asked c e tells h =
     subst (λ x. asked.says x c) tells (subst (λ x. asked.says (told_by seen x) c) e h)
 
 -- two runs for what is asked come to one answer
 answers_same : (words : List (List ℕ)) (t : Told) (folder : Folder) (input : List ℕ) (before after before1 after1 : Outside)
-    (status status1 : Status) (asked : Asked) (a b : Answer) → ComesToOne asked → TellsAll t folder input
+    (status status1 : Status) (asked : CommandAsked) (a b : Answer) → ComesToOne asked → TellsAll t folder input
     → IsAnsweredRun words t before after status → IsAnsweredRun words t before1 after1 status1
     → Answers before.inputs after.inputs asked a → Answers before1.inputs after1.inputs asked b → a ≡ b
 answers_same words t folder input before after before1 after1 status status1 asked a b one all h i ha ib =

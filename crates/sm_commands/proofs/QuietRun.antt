@@ -5,7 +5,7 @@ use Rattle.std.specs.Prelude.{true, false}
 use Rattle.sm_io.specs.Causes.{Rose}
 use Rattle.sm_io.proofs.Counts.{quiet_not_rose}
 use Rattle.sm_asked.specs.Answer.{Answer}
-use Rattle.sm_asked.specs.Asked.{Answers, Asked, RefusedBy, StopsShort, told_by}
+use Rattle.sm_asked.specs.CommandAsked.{Answers, CommandAsked, RefusedBy, StopsShort, told_by}
 use Rattle.sm_asked.specs.AskedLaws.{ReachesInput}
 use Rattle.sm_asked.specs.Outside.{InputsSeen, Outside}
 use Rattle.sm_asked.specs.declared.status.Status.{Status}
@@ -17,25 +17,25 @@ use Rattle.sm_commands.proofs.OneForm.{one_form}
 use Rattle.sm_commands.proofs.Commanded.{input_reached}
 use Rattle.sm_commands.proofs.Runs.{comes_short}
 
-no_read_fails : (before after : Outside) (asked : Asked) → IsQuiet before after → ReadEnds before after asked → ⊥
+no_read_fails : (before after : Outside) (asked : CommandAsked) → IsQuiet before after → ReadEnds before after asked → ⊥
 no_read_fails before after asked quiet (inl h) =
     quiet_not_rose before.inputs.files.read_faults after.inputs.files.read_faults quiet.files.reads h.0.rose
 no_read_fails before after asked quiet (inr h) =
     quiet_not_rose before.inputs.input.faults after.inputs.input.faults quiet.input h.0.rose
 
 -- a write that failed: what rose, and what is left of the input
-write_rose : (before after : Outside) (asked : Asked) (streams : Bool)
+write_rose : (before after : Outside) (asked : CommandAsked) (streams : Bool)
     → IfStreams streams (StreamFails before after asked) (WriteFails before after asked)
     → Rose before.output.faults after.output.faults ⊎ Rose before.inputs.files.write_faults after.inputs.files.write_faults
 write_rose before after asked true h = h.rose
 write_rose before after asked false h = inl h.2
 
-write_short : (before after : Outside) (asked : Asked) (streams : Bool) → ReachesInput asked
+write_short : (before after : Outside) (asked : CommandAsked) (streams : Bool) → ReachesInput asked
     → IfStreams streams (StreamFails before after asked) (WriteFails before after asked) → StopsShort before.inputs after.inputs asked
 write_short before after asked true reach h = h.short
 write_short before after asked false reach h = comes_short before.inputs after.inputs asked h.0 reach h.1
 
-no_write_fails : (before after : Outside) (asked : Asked) → IsQuiet before after → WriteEnds before after asked → ⊥
+no_write_fails : (before after : Outside) (asked : CommandAsked) → IsQuiet before after → WriteEnds before after asked → ⊥
 no_write_fails before after asked quiet h = elim (write_rose before after asked asked.streams h) [
   | inl rose ↦ quiet_not_rose before.output.faults after.output.faults quiet.output rose
   | inr rose ↦ quiet_not_rose before.inputs.files.write_faults after.inputs.files.write_faults quiet.files.writes rose
@@ -54,18 +54,18 @@ quiet_answers words command before after WriteFault is quiet ends =
 quiet_answers words command before after NoMemory is quiet ends = inr refl
 
 -- what doesn't touch the input never reaches it
-never_reached : (seen : InputsSeen) (pattern : Option (List ℕ)) (asked : Asked) → ReachesInput asked → asked.touches_input ≡ false
+never_reached : (seen : InputsSeen) (pattern : Option (List ℕ)) (asked : CommandAsked) → ReachesInput asked → asked.touches_input ≡ false
     → asked.reaches (told_by seen pattern) → ⊥
 never_reached seen pattern asked reach untouching reached =
     let touching : asked.touches_input ≡ true = (reach (told_by seen pattern)).1 reached in cc
 
-short_keeps : (before after : InputsSeen) (asked : Asked) → ReachesInput asked → asked.touches_input ≡ false
+short_keeps : (before after : InputsSeen) (asked : CommandAsked) → ReachesInput asked → asked.touches_input ≡ false
     → StopsShort before after asked → after.input ≡ before.input
 short_keeps before after asked reach untouching (inl same) = same
 short_keeps before after asked reach untouching (inr (pattern, by, reached)) =
     absurd (never_reached before pattern asked reach untouching reached)
 
-fails_keeps : (before after : Outside) (asked : Asked) → ReachesInput asked → asked.touches_input ≡ false → ReadEnds before after asked
+fails_keeps : (before after : Outside) (asked : CommandAsked) → ReachesInput asked → asked.touches_input ≡ false → ReadEnds before after asked
     → after.inputs.input ≡ before.inputs.input
 fails_keeps before after asked reach untouching (inl h) = h.0.input
 fails_keeps before after asked reach untouching (inr h) = absurd (never_reached before.inputs None asked reach untouching h.0.reached)
@@ -76,7 +76,7 @@ same_untouching : (words : List (List ℕ)) (command ran : Command) → IsComman
 same_untouching words command ran is is1 untouching =
     subst (λ x. (asked_of x).touches_input ≡ false) (one_form words command ran is is1) untouching
 
-prints_keeps : (before after : Outside) (status : Status) (asked : Asked) → ReachesInput asked → asked.touches_input ≡ false
+prints_keeps : (before after : Outside) (status : Status) (asked : CommandAsked) → ReachesInput asked → asked.touches_input ≡ false
     → PrintsFor before after status asked → after.inputs.input ≡ before.inputs.input
 prints_keeps before after status asked reach untouching h =
     short_keeps before.inputs after.inputs asked reach untouching
@@ -105,7 +105,7 @@ keeps_input words command before after NoMemory is untouching ends =
     (same_untouching words command ends.0 is ends.1 untouching) ends.2.0
 
 -- an answer of another status refuses no pattern
-none_refused : (before after : InputsSeen) (asked : Asked) (a : Answer) → (a.status ≡ Pattern → ⊥) → Answers before after asked a
+none_refused : (before after : InputsSeen) (asked : CommandAsked) (a : Answer) → (a.status ≡ Pattern → ⊥) → Answers before after asked a
     → after.store.refusals ≡ before.store.refusals
 none_refused before after asked a other h = by_pattern h.pattern h.by h.only
   where

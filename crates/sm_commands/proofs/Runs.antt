@@ -7,16 +7,16 @@ use Rattle.std.specs.Io.KnownBytes.{Keeps}
 use Rattle.sm_io.specs.Files.{Folder}
 use Rattle.sm_io.specs.Seen.{Stream}
 use Rattle.sm_asked.specs.Answer.{Answer, FileWritten, InputUse, came_writing, code_of}
-use Rattle.sm_asked.specs.Asked.{Answers, Asked, LeavesInput, ReadFails, StopsShort, told_by}
+use Rattle.sm_asked.specs.CommandAsked.{Answers, CommandAsked, LeavesInput, ReadFails, StopsShort, told_by}
 use Rattle.sm_asked.specs.AskedLaws.{ReachesInput}
 use Rattle.sm_asked.specs.Comes.{CommandComesTo}
 use Rattle.sm_asked.specs.Outside.{InputsSeen, Outside}
 use Rattle.sm_asked.specs.Stages.{Told}
 use Rattle.sm_asked.specs.declared.status.Status.{Status}
 use Rattle.sm_asked.specs.declared.status.Status.TheVariants.{Done, Refused, Pattern, Limit}
-use Rattle.sm_asked.specs.declared.stop.Stop.{Stop}
-use Rattle.sm_asked.specs.declared.stop.Stop.TheVariants.{Refused as is_refused, Pattern as is_pattern, Limit as is_past}
-use Rattle.sm_asked.specs.declared.stop.Stop.TheVariants.{ReadFault as is_fault, NoMemory as is_short}
+use Rattle.sm_asked.specs.declared.stop.CommandStop.{CommandStop}
+use Rattle.sm_asked.specs.declared.stop.CommandStop.TheVariants.{Refused as is_refused, Pattern as is_pattern, Limit as is_past}
+use Rattle.sm_asked.specs.declared.stop.CommandStop.TheVariants.{ReadFault as is_fault, NoMemory as is_short}
 use Rattle.sm_commands.specs.Commands.{Command, IsCommandForm, asked_of}
 use Rattle.sm_commands.specs.Run.{IfStreams, IsWritten, KeepsFiles, MemoryEnds, Prints, PutsInPart, ReadEnds, RunAnswers, RunEnds}
 use Rattle.sm_commands.specs.Run.{StandsAsBefore, StreamFails, WriteEnds, WriteFails}
@@ -24,7 +24,7 @@ use Rattle.sm_commands.specs.steps.PutSteps.{PrintsResult, PutEnds}
 use Rattle.sm_commands.proofs.Commanded.{PutsWhole, puts_whole}
 
 -- an answer leaves the input as it was, or stands behind no other
-pub comes_short : (before after : InputsSeen) (asked : Asked) (a : Answer) → ReachesInput asked → Answers before after asked a
+pub comes_short : (before after : InputsSeen) (asked : CommandAsked) (a : Answer) → ReachesInput asked → Answers before after asked a
     → StopsShort before after asked
 comes_short before after asked a reach h = elim ((reach (told_by before h.pattern)).0 (came_writing h.taken a h.written) h.says) [
   | inl e ↦ inl (subst (λ x. LeavesInput x before.input after.input) e h.left)
@@ -36,11 +36,11 @@ by_whole : (streams : Bool) (P Q : Type 0) → streams ≡ false → Q → IfStr
 by_whole true P Q e q = absurd (true≢false e)
 by_whole false P Q e q = q
 
-whole_write : (before after : Outside) (asked : Asked) → asked.streams ≡ false → WriteFails before after asked
+whole_write : (before after : Outside) (asked : CommandAsked) → asked.streams ≡ false → WriteFails before after asked
     → WriteEnds before after asked
 whole_write before after asked e h = by_whole asked.streams (StreamFails before after asked) (WriteFails before after asked) e h
 
-whole_memory : (before after : Outside) (asked : Asked) → asked.streams ≡ false → StopsShort before.inputs after.inputs asked
+whole_memory : (before after : Outside) (asked : CommandAsked) → asked.streams ≡ false → StopsShort before.inputs after.inputs asked
     → Keeps before.output.bytes after.output.bytes → MemoryEnds before after asked
 whole_memory before after asked e short keeps =
     (short, by_whole asked.streams (PutsInPart before after asked) (Keeps before.output.bytes after.output.bytes) e keeps)
@@ -50,7 +50,7 @@ nothing_in : (xs : List (List ℕ)) (name : List ℕ) → xs ≡ [] → Contains
 nothing_in [] name e h = omega (arith, h.1)
 nothing_in (x ∷ xs) name e h = cc
 
-unwritten : (asked : Asked) (t : Told) (held : Option Folder) (taken : InputUse) (a : Answer) (written : Option FileWritten)
+unwritten : (asked : CommandAsked) (t : Told) (held : Option Folder) (taken : InputUse) (a : Answer) (written : Option FileWritten)
     → PutsWhole asked → asked.says t (came_writing taken a written) → IsWritten held written
 unwritten asked t held taken a None puts says = tt
 unwritten asked t held taken a (Some file) puts says =
@@ -93,14 +93,14 @@ files_kept words before after e command name is other = subst (λ x. StandsAsBef
     kept (Some folder) = refl
 
 -- a read that failed
-read_ends : (before after : Outside) (asked : Asked) → asked.streams ≡ false → ReadFails before.inputs after.inputs asked
+read_ends : (before after : Outside) (asked : CommandAsked) → asked.streams ≡ false → ReadFails before.inputs after.inputs asked
     → after.output ≡ before.output → ReadEnds before after asked
 read_ends before after asked streams (inl h) same = inl (h, same)
 read_ends before after asked streams (inr h) same =
     inr (h, by_whole asked.streams (PutsInPart before after asked) (after.output ≡ before.output) streams same)
 
 -- at the status that the print answered
-at_status : (words : List (List ℕ)) (before after : Outside) (command : Command) (result : Result (Vec ℕ) Stop) (status : Status)
+at_status : (words : List (List ℕ)) (before after : Outside) (command : Command) (result : Result (Vec ℕ) CommandStop) (status : Status)
     → IsCommandForm words command
     → CommandComesTo before.inputs after.inputs (asked_of command) result → PrintsResult before.output after.output result status
     → RunEnds words before after status
@@ -122,7 +122,7 @@ at_status words before after command (Err is_short) status is comes (e, same) =
       whole_memory before after (asked_of command) (puts_whole command).streams comes (keeps_all before.output after.output same),
     )
 
-pub command_runs : (words : List (List ℕ)) (before after : Outside) (command : Command) (result : Result (Vec ℕ) Stop) (status : Status)
+pub command_runs : (words : List (List ℕ)) (before after : Outside) (command : Command) (result : Result (Vec ℕ) CommandStop) (status : Status)
     (code : ℕ) → IsCommandForm words command
     → CommandComesTo before.inputs after.inputs (asked_of command) result → PrintsResult before.output after.output result status
     → code ≡ code_of status

@@ -1,7 +1,7 @@
 -- The commands as data: the form of each one's words, and what each asks.
 use Rattle.std.specs.Prelude.{◌≡◌, ℕ, List, codes, Contains}
 use Rattle.sm_bodies.specs.declared.form.BodyForm.{BodyForm}
-use Rattle.sm_asked.specs.Asked.{Asked}
+use Rattle.sm_asked.specs.CommandAsked.{CommandAsked}
 use Rattle.sm_model_commands.specs.Check.{check_asked}
 use Rattle.sm_model_commands.specs.Convert.{convert_asked}
 use Rattle.sm_model_commands.specs.Forms.{GraphForm, IsCheckForm, IsConvertForm, IsSelectForm}
@@ -27,7 +27,7 @@ IsCommandForm words (convert_command models form) = IsConvertForm words models f
 IsCommandForm words (select_command models selector) = IsSelectForm words models selector
 
 -- what it asks
-abbrev pub asked_of : Command → Asked
+abbrev pub asked_of : Command → CommandAsked
 asked_of (check_command models) = check_asked models
 asked_of (body_command model shape near far) = body_asked model shape near far
 asked_of (convert_command models form) = convert_asked models form

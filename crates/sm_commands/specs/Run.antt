@@ -6,7 +6,7 @@ use Rattle.sm_io.specs.Causes.{Rose}
 use Rattle.sm_io.specs.Files.{Folder, Holds, file_at}
 use Rattle.sm_io.specs.Writing.{AppendsPrefix}
 use Rattle.sm_asked.specs.Answer.{Answer, Came, FileWritten, code_of}
-use Rattle.sm_asked.specs.Asked.{Asked, Answers, FileFails, InputFails, RefusedBy, StopsShort, told_by}
+use Rattle.sm_asked.specs.CommandAsked.{CommandAsked, Answers, FileFails, InputFails, RefusedBy, StopsShort, told_by}
 use Rattle.sm_asked.specs.Outside.{Outside}
 use Rattle.sm_asked.specs.declared.status.Status.{Status}
 use Rattle.sm_asked.specs.declared.status.Status.TheVariants.{Done, Refused, Usage, ReadFault, WriteFault, NoMemory, Pattern, Limit}
@@ -26,7 +26,7 @@ abbrev pub WritingNone : List (List ℕ) → Type 0 → Type 0
 WritingNone words P = (command : Command) → IsCommandForm words command → (asked_of command).writes ≡ [] → P
 
 -- the words have the form of a command, and this holds of what it asks
-abbrev pub ForCommand : List (List ℕ) → (Asked → Type 0) → Type 0
+abbrev pub ForCommand : List (List ℕ) → (CommandAsked → Type 0) → Type 0
 ForCommand words P = (command : Command) × IsCommandForm words command × P (asked_of command)
 
 -- where told, the file stands there that is written
@@ -42,7 +42,7 @@ IsWrittenInPart before held (Some file) =
     ⊎ ((part rest : List ℕ) × (file.bytes ≡ part ++ rest) × Holds held file.name (Some part))
 
 -- the answer has this status, its text was put, and its file is written
-abbrev pub PrintsFor : Outside → Outside → Status → Asked → Type 0
+abbrev pub PrintsFor : Outside → Outside → Status → CommandAsked → Type 0
 PrintsFor before after status asked =
     (text : List ℕ) × (answers : Answers before.inputs after.inputs asked (record { status = status; text = text }))
     × Appends before.output.bytes after.output.bytes text × IsWritten after.inputs.files.held answers.written
@@ -51,7 +51,7 @@ abbrev pub Prints : List (List ℕ) → Outside → Outside → Status → Type 
 Prints words before after status = ForCommand words (λ asked. PrintsFor before after status asked)
 
 -- something in between comes to this: a command that streams has put and written a part of whatever it says of what was told
-pub record PutsInPart (before after : Outside) (asked : Asked) : Type 0 where
+pub record PutsInPart (before after : Outside) (asked : CommandAsked) : Type 0 where
   pub text : (pattern : Option (List ℕ)) (c : Came) → RefusedBy before.inputs.store after.inputs.store pattern
       → asked.says (told_by before.inputs pattern) c → AppendsPrefix before.output.bytes after.output.bytes c.answer.text
   pub file : (pattern : Option (List ℕ)) (c : Came) → RefusedBy before.inputs.store after.inputs.store pattern
@@ -63,19 +63,19 @@ IfStreams true Streaming Whole = Streaming
 IfStreams false Streaming Whole = Whole
 
 -- a read failed. Nothing was put, but by a command that streams, and whose input it was
-abbrev pub ReadEnds : Outside → Outside → Asked → Type 0
+abbrev pub ReadEnds : Outside → Outside → CommandAsked → Type 0
 ReadEnds before after asked =
     (FileFails before.inputs after.inputs × (after.output ≡ before.output))
     ⊎ (InputFails before.inputs after.inputs asked × IfStreams asked.streams (PutsInPart before after asked) (after.output ≡ before.output))
 
 -- a write of the output failed, and a prefix of the answer was put
-abbrev pub WriteFails : Outside → Outside → Asked → Type 0
+abbrev pub WriteFails : Outside → Outside → CommandAsked → Type 0
 WriteFails before after asked =
     (a : Answer) × Answers before.inputs after.inputs asked a
     × Rose before.output.faults after.output.faults × AppendsPrefix before.output.bytes after.output.bytes a.text
 
 -- or, where it streams, one of the output or of a file; what a file holds whose write failed isn't known
-pub record StreamFails (before after : Outside) (asked : Asked) : Type 0 where
+pub record StreamFails (before after : Outside) (asked : CommandAsked) : Type 0 where
   pub rose : Rose before.output.faults after.output.faults ⊎ Rose before.inputs.files.write_faults after.inputs.files.write_faults
   pub short : StopsShort before.inputs after.inputs asked
   pub text : (pattern : Option (List ℕ)) (c : Came) → RefusedBy before.inputs.store after.inputs.store pattern
@@ -84,11 +84,11 @@ pub record StreamFails (before after : Outside) (asked : Asked) : Type 0 where
       → asked.says (told_by before.inputs pattern) c → after.inputs.files.write_faults ≡ before.inputs.files.write_faults
       → IsWrittenInPart before.inputs.files.held after.inputs.files.held c.written
 
-abbrev pub WriteEnds : Outside → Outside → Asked → Type 0
+abbrev pub WriteEnds : Outside → Outside → CommandAsked → Type 0
 WriteEnds before after asked = IfStreams asked.streams (StreamFails before after asked) (WriteFails before after asked)
 
 -- memory ran out
-abbrev pub MemoryEnds : Outside → Outside → Asked → Type 0
+abbrev pub MemoryEnds : Outside → Outside → CommandAsked → Type 0
 MemoryEnds before after asked =
     StopsShort before.inputs after.inputs asked
     × IfStreams asked.streams (PutsInPart before after asked) (Keeps before.output.bytes after.output.bytes)

@@ -9,7 +9,7 @@ use Rattle.sm_commands.specs.Commands.{Command, IsCommandForm, asked_of}
 use Rattle.sm_asked.specs.Stages.{Told}
 use Rattle.sm_asked.specs.AskedLaws.{TellsAll}
 use Rattle.sm_commands.specs.Run.{Prints, RunEnds}
-use Rattle.sm_asked.specs.Asked.{RefusedBy, told_by}
+use Rattle.sm_asked.specs.CommandAsked.{RefusedBy, told_by}
 use Rattle.sm_asked.specs.declared.status.Status.{Status}
 use Rattle.sm_asked.specs.declared.status.Status.TheVariants.{Done, Refused, Usage, ReadFault, WriteFault, NoMemory, Pattern, Limit}
 

@@ -4,7 +4,7 @@ ghost use Rattle.sm_io.specs.Files.{LetsSame};
 ghost use Rattle.sm_io.specs.Reading.{LosesPrefix};
 ghost use Rattle.sm_io.specs.Seen.{files_seen, stream};
 ghost use Rattle.sm_compile.specs.Answers.{seen_store};
-ghost use Rattle.sm_asked.specs.Asked.{OnlyAdds};
+ghost use Rattle.sm_asked.specs.CommandAsked.{OnlyAdds};
 ghost use Rattle.sm_asked.specs.Comes.{CommandComesTo};
 ghost use Rattle.sm_asked.specs.Outside.{inputs_seen, outside};
 ghost use Rattle.sm_commands.specs.Commands.{LetsRead, asked_of};
@@ -12,8 +12,8 @@ ghost use Rattle.sm_commands.specs.Run.{KeepsFiles, RunAnswers, WritingNone};
 ghost use Rattle.sm_commands.specs.steps.FormSteps.{command_of};
 ghost use Rattle.sm_commands.specs.steps.PutSteps.{PrintsResult, PutEnds};
 
-use crate::words::{Form, form_of};
-use sm_asked::{Status, Stop};
+use crate::words::{CommandForm, form_of};
+use sm_asked::{CommandStop, Status};
 use sm_body_command::body::body;
 use sm_io::{Files, PutRefusal, Sink, Source};
 use sm_model_commands::check::check;
@@ -26,11 +26,11 @@ use std::alloc::Global;
 // What a command comes to: what it prints, or why it ends before.
 fn come_to<F: Files, S: Source, P: Patterns>(
     alloc: Global,
-    form: Form<'_>,
+    form: CommandForm<'_>,
     files: &mut F,
     input: &mut S,
     patterns: &mut P,
-) -> Result<Vec<u8>, Stop>
+) -> Result<Vec<u8>, CommandStop>
     requires { (name : List ℕ) → Contains (asked_of (command_of form)).reads name → F.lets_read files.old name }
     ensures comes { let before = inputs_seen (files_seen (F.held files.old) (F.read_faults files.old) (F.write_faults files.old))
         (stream (S.left input.old) (S.faults input.old))
@@ -49,10 +49,10 @@ fn come_to<F: Files, S: Source, P: Patterns>(
     ensures added { OnlyAdds (P.added patterns.old) (P.added patterns.new) }
 {
     match form {
-        Form::Check(words) => check(alloc, words, files),
-        Form::Body(words) => body(alloc, words, files, input, patterns),
-        Form::Convert(words) => convert(alloc, words, files),
-        Form::Select(words) => select(alloc, words, files),
+        CommandForm::Check(words) => check(alloc, words, files),
+        CommandForm::Body(words) => body(alloc, words, files, input, patterns),
+        CommandForm::Convert(words) => convert(alloc, words, files),
+        CommandForm::Select(words) => select(alloc, words, files),
     }
 }
 
@@ -72,7 +72,7 @@ fn put<K: Sink>(out: &mut K, piece: &[u8], status: Status) -> Status
 }
 
 // Prints what a command came to.
-fn print<K: Sink>(out: &mut K, came: Result<Vec<u8>, Stop>) -> Status
+fn print<K: Sink>(out: &mut K, came: Result<Vec<u8>, CommandStop>) -> Status
     ensures prints { PrintsResult
         (stream (K.written out.old) (K.faults out.old))
         (stream (K.written out.new) (K.faults out.new))
@@ -82,11 +82,11 @@ fn print<K: Sink>(out: &mut K, came: Result<Vec<u8>, Stop>) -> Status
     match came {
         Ok(text) => put(out, &text, Status::Done),
         Err(stop) => match stop {
-            Stop::Refused(line) => put(out, &line, Status::Refused),
-            Stop::Pattern(line) => put(out, &line, Status::Pattern),
-            Stop::Limit(line) => put(out, &line, Status::Limit),
-            Stop::ReadFault => Status::ReadFault,
-            Stop::NoMemory => Status::NoMemory,
+            CommandStop::Refused(line) => put(out, &line, Status::Refused),
+            CommandStop::Pattern(line) => put(out, &line, Status::Pattern),
+            CommandStop::Limit(line) => put(out, &line, Status::Limit),
+            CommandStop::ReadFault => Status::ReadFault,
+            CommandStop::NoMemory => Status::NoMemory,
         },
     }
 }

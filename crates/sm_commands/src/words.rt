@@ -11,7 +11,7 @@ use sm_tree::Text;
 
 /// The forms that words may have.
 #[derive(Debug, Clone, Copy)]
-pub enum Form<'a> {
+pub enum CommandForm<'a> {
     /// `check MODEL+`.
     Check(CheckWords<'a>),
     /// `body MODELFILE SHAPE NEAR FAR`.
@@ -23,20 +23,20 @@ pub enum Form<'a> {
 }
 
 /// What the words ask for; `None` where they have none of the forms.
-pub(crate) fn form_of(words: &[Text]) -> Option<Form<'_>>
+pub(crate) fn form_of(words: &[Text]) -> Option<CommandForm<'_>>
     ensures { MatchOption result (IsNoForm words.now) (λ form. IsCommandForm words.now (command_of form)) }
 {
     if let Some(words) = check_words(words) {
-        return Some(Form::Check(words));
+        return Some(CommandForm::Check(words));
     }
     if let Some(words) = body_words(words) {
-        return Some(Form::Body(words));
+        return Some(CommandForm::Body(words));
     }
     if let Some(words) = convert_words(words) {
-        return Some(Form::Convert(words));
+        return Some(CommandForm::Convert(words));
     }
     if let Some(words) = select_words(words) {
-        return Some(Form::Select(words));
+        return Some(CommandForm::Select(words));
     }
     None
 }

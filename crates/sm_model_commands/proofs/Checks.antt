@@ -11,11 +11,11 @@ use Rattle.sm_model_commands.specs.Check.CheckSays.{not_loaded, checked}
 use Rattle.sm_asked.specs.Lines.{event_lines}
 use Rattle.sm_asked.specs.Loading.{LoadAnswers, Loads}
 use Rattle.sm_model_commands.specs.steps.CheckSteps.{TellsEvents}
-use Rattle.sm_asked.specs.declared.stop.Stop.{Stop}
+use Rattle.sm_asked.specs.declared.stop.CommandStop.{CommandStop}
 use Rattle.sm_asked.specs.declared.lines.Shown.TheVariants.{All}
 use Rattle.sm_asked.proofs.Stops.{comes_map, stops_map}
 
-pub events_told : (files files1 : FilesSeen) (models : List (List ℕ)) (m : Model) (result : Result (Vec ℕ) Stop)
+pub events_told : (files files1 : FilesSeen) (models : List (List ℕ)) (m : Model) (result : Result (Vec ℕ) CommandStop)
     → Loads All files files1 models (Ok m) → TellsEvents m.events result → Checks files files1 models result
 events_told files files1 models m result h told =
     comes_map (λ a. a ≡ done (event_lines All m.events)) (CheckSays files.held models) ⊥
@@ -23,7 +23,7 @@ events_told files files1 models m result h told =
     result (λ a is. checked h.0 m.events (subst (λ g. AreModelEvents g m.events) h.1 h.2) is) (λ never. absurd never)
     (λ short. short) told
 
-pub check_stops : (files files1 : FilesSeen) (models : List (List ℕ)) (stop : Stop) → Loads All files files1 models (Err stop)
+pub check_stops : (files files1 : FilesSeen) (models : List (List ℕ)) (stop : CommandStop) → Loads All files files1 models (Err stop)
     → Checks files files1 models (Err stop)
 check_stops files files1 models stop h =
     stops_map (LoadAnswers All files.held models) (CheckSays files.held models) (Rose files.read_faults files1.read_faults)

@@ -10,7 +10,7 @@ use Rattle.sm_model_commands.specs.Forms.{GraphForm}
 use Rattle.sm_model_commands.specs.Convert.{ConvertSays, converted, Converts}
 use Rattle.sm_model_commands.specs.Convert.ConvertSays.{not_loaded, graph}
 use Rattle.sm_asked.specs.Loading.{LoadAnswers, Loads}
-use Rattle.sm_asked.specs.declared.stop.Stop.{Stop}
+use Rattle.sm_asked.specs.declared.stop.CommandStop.{CommandStop}
 use Rattle.sm_asked.specs.declared.lines.Shown.TheVariants.{Errors}
 use Rattle.sm_asked.proofs.Stops.{stops_map}
 
@@ -18,7 +18,7 @@ pub text_comes : (files files1 : FilesSeen) (models : List (List ℕ)) (form : G
     → Loads Errors files files1 models (Ok m) → text.items ≡ converted form (maps_of m.graph) → Converts files files1 models form (Ok text)
 text_comes files files1 models form m text h is = graph h.0 (ap done (is ∙ ap (converted form) h.1))
 
-pub stop_comes : (files files1 : FilesSeen) (models : List (List ℕ)) (form : GraphForm) (stop : Stop)
+pub stop_comes : (files files1 : FilesSeen) (models : List (List ℕ)) (form : GraphForm) (stop : CommandStop)
     → Loads Errors files files1 models (Err stop)
     → Converts files files1 models form (Err stop)
 stop_comes files files1 models form stop h =

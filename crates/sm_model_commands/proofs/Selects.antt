@@ -20,17 +20,17 @@ use Rattle.sm_model_commands.specs.Select.{SelectorSays, SelectSays, Selects}
 use Rattle.sm_model_commands.specs.Select.SelectorSays.{breaks, leaves, picks}
 use Rattle.sm_model_commands.specs.Select.SelectSays.{not_loaded, selected}
 use Rattle.sm_asked.specs.Comes.{EndsWithLine, StepComesTo, StepStops}
-use Rattle.sm_asked.specs.declared.stop.Stop.{Stop}
+use Rattle.sm_asked.specs.declared.stop.CommandStop.{CommandStop}
 use Rattle.sm_asked.specs.declared.lines.Shown.TheVariants.{Errors}
 use Rattle.sm_asked.proofs.Stops.{line_stops, stops_map, comes_map}
 
 -- a text that is no selector
-pub broken_told : (g : GraphMaps) (text : List ℕ) (at : ℕ) (stop : Stop) → ParsesSelector text (Err (Syntax at))
+pub broken_told : (g : GraphMaps) (text : List ℕ) (at : ℕ) (stop : CommandStop) → ParsesSelector text (Err (Syntax at))
     → EndsWithLine (broken_selector_line at) stop → StepStops (SelectorSays g text) ⊥ (Unit {0}) stop
 broken_told g text at stop is ends =
     line_stops (SelectorSays g text) ⊥ (Unit {0}) (broken_selector_line at) stop (breaks at is refl) tt ends
 
-pub other_told : (g : GraphMaps) (text : List ℕ) (at : ℕ) (stop : Stop) → ParsesSelector text (Err (OutOfProfile at))
+pub other_told : (g : GraphMaps) (text : List ℕ) (at : ℕ) (stop : CommandStop) → ParsesSelector text (Err (OutOfProfile at))
     → EndsWithLine (other_selector_line at) stop → StepStops (SelectorSays g text) ⊥ (Unit {0}) stop
 other_told g text at stop is ends =
     line_stops (SelectorSays g text) ⊥ (Unit {0}) (other_selector_line at) stop (leaves at is refl) tt ends
@@ -42,7 +42,7 @@ pub picked_told : (g : GraphMaps) (text : List ℕ) (selector : Selector) (lines
 picked_told g text selector lines is (ids, are, same) = picks (steps_of (selector_view selector)) is ids are (ap done same)
 
 -- the command
-pub graph_selects : (files files1 : FilesSeen) (models : List (List ℕ)) (selector : List ℕ) (m : Model) (result : Result (Vec ℕ) Stop)
+pub graph_selects : (files files1 : FilesSeen) (models : List (List ℕ)) (selector : List ℕ) (m : Model) (result : Result (Vec ℕ) CommandStop)
     → Loads Errors files files1 models (Ok m) → StepComesTo (SelectorSays (maps_of m.graph) selector) ⊥ (Unit {0}) result
     → Selects files files1 models selector result
 graph_selects files files1 models selector m result h is =
@@ -50,7 +50,7 @@ graph_selects files files1 models selector m result h is =
     (Rose files.read_faults files1.read_faults) (Unit {0})
     (Unit {0}) result (λ a says. selected h.0 (subst (λ g. SelectorSays g selector a) h.1 says)) (λ never. absurd never) (λ short. short) is
 
-pub select_stops : (files files1 : FilesSeen) (models : List (List ℕ)) (selector : List ℕ) (stop : Stop)
+pub select_stops : (files files1 : FilesSeen) (models : List (List ℕ)) (selector : List ℕ) (stop : CommandStop)
     → Loads Errors files files1 models (Err stop)
     → Selects files files1 models selector (Err stop)
 select_stops files files1 models selector stop h =

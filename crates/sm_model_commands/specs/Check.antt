@@ -7,9 +7,9 @@ use Rattle.sm_io.specs.Seen.{FilesSeen}
 use Rattle.sm_model.specs.declared.event.ModelEvent.{ModelEvent}
 use Rattle.sm_load.specs.Events.{AreModelEvents}
 use Rattle.sm_asked.specs.Answer.{Answer, done}
-use Rattle.sm_asked.specs.Asked.{Asked, over_files}
+use Rattle.sm_asked.specs.CommandAsked.{CommandAsked, over_files}
 use Rattle.sm_asked.specs.Comes.{FilesComeTo}
-use Rattle.sm_asked.specs.declared.stop.Stop.{Stop}
+use Rattle.sm_asked.specs.declared.stop.CommandStop.{CommandStop}
 use Rattle.sm_asked.specs.Lines.{event_lines}
 use Rattle.sm_asked.specs.Loading.{Loaded, LoadAnswers}
 use Rattle.sm_asked.specs.declared.lines.Shown.TheVariants.{All}
@@ -19,8 +19,8 @@ pub data CheckSays (files : Option Folder) (models : List (List ℕ)) (a : Answe
   checked : (loaded : Loaded files models) → (es : List ModelEvent) → AreModelEvents loaded.graph es → a ≡ done (event_lines All es)
       → CheckSays files models a
 
-abbrev pub check_asked : List (List ℕ) → Asked
+abbrev pub check_asked : List (List ℕ) → CommandAsked
 check_asked models = over_files models (λ files a. CheckSays files models a)
 
-abbrev pub Checks : FilesSeen → FilesSeen → List (List ℕ) → Result (Vec ℕ) Stop → Type 0
+abbrev pub Checks : FilesSeen → FilesSeen → List (List ℕ) → Result (Vec ℕ) CommandStop → Type 0
 Checks files files1 models result = FilesComeTo (λ held a. CheckSays held models a) files files1 result

@@ -9,9 +9,9 @@ use Rattle.sm_model.specs.Graphs.{GraphMaps}
 use Rattle.sm_ast.specs.Written.{written_ast}
 use Rattle.sm_idl.specs.Written.{written_idl}
 use Rattle.sm_asked.specs.Answer.{Answer, done}
-use Rattle.sm_asked.specs.Asked.{Asked, over_files}
+use Rattle.sm_asked.specs.CommandAsked.{CommandAsked, over_files}
 use Rattle.sm_asked.specs.Comes.{FilesComeTo}
-use Rattle.sm_asked.specs.declared.stop.Stop.{Stop}
+use Rattle.sm_asked.specs.declared.stop.CommandStop.{CommandStop}
 use Rattle.sm_model_commands.specs.Forms.{GraphForm, as_ast, as_idl}
 use Rattle.sm_asked.specs.Loading.{Loaded, LoadAnswers}
 use Rattle.sm_asked.specs.declared.lines.Shown.TheVariants.{Errors}
@@ -25,8 +25,8 @@ pub data ConvertSays (files : Option Folder) (models : List (List ℕ)) (form : 
   not_loaded : LoadAnswers Errors files models a → ConvertSays files models form a
   graph : (loaded : Loaded files models) → a ≡ done (converted form loaded.graph) → ConvertSays files models form a
 
-abbrev pub convert_asked : List (List ℕ) → GraphForm → Asked
+abbrev pub convert_asked : List (List ℕ) → GraphForm → CommandAsked
 convert_asked models form = over_files models (λ files a. ConvertSays files models form a)
 
-abbrev pub Converts : FilesSeen → FilesSeen → List (List ℕ) → GraphForm → Result (Vec ℕ) Stop → Type 0
+abbrev pub Converts : FilesSeen → FilesSeen → List (List ℕ) → GraphForm → Result (Vec ℕ) CommandStop → Type 0
 Converts files files1 models form result = FilesComeTo (λ held a. ConvertSays held models form a) files files1 result

@@ -8,9 +8,9 @@ use Rattle.sm_select.specs.Answers.{ArePicked}
 use Rattle.sm_select.specs.SelectorText.{SelectorText, BreaksBy, LeavesProfile}
 use Rattle.sm_select.specs.Selectors.{Steps}
 use Rattle.sm_asked.specs.Answer.{Answer, done, refused}
-use Rattle.sm_asked.specs.Asked.{Asked, over_files}
+use Rattle.sm_asked.specs.CommandAsked.{CommandAsked, over_files}
 use Rattle.sm_asked.specs.Comes.{FilesComeTo}
-use Rattle.sm_asked.specs.declared.stop.Stop.{Stop}
+use Rattle.sm_asked.specs.declared.stop.CommandStop.{CommandStop}
 use Rattle.sm_model_commands.specs.SelectLines.{broken_selector_line, other_selector_line, id_lines}
 use Rattle.sm_asked.specs.Loading.{Loaded, LoadAnswers}
 use Rattle.sm_asked.specs.declared.lines.Shown.TheVariants.{Errors}
@@ -26,8 +26,8 @@ pub data SelectSays (files : Option Folder) (models : List (List ℕ)) (selector
   not_loaded : LoadAnswers Errors files models a → SelectSays files models selector a
   selected : (loaded : Loaded files models) → SelectorSays loaded.graph selector a → SelectSays files models selector a
 
-abbrev pub select_asked : List (List ℕ) → List ℕ → Asked
+abbrev pub select_asked : List (List ℕ) → List ℕ → CommandAsked
 select_asked models selector = over_files models (λ files a. SelectSays files models selector a)
 
-abbrev pub Selects : FilesSeen → FilesSeen → List (List ℕ) → List ℕ → Result (Vec ℕ) Stop → Type 0
+abbrev pub Selects : FilesSeen → FilesSeen → List (List ℕ) → List ℕ → Result (Vec ℕ) CommandStop → Type 0
 Selects files files1 models selector result = FilesComeTo (λ held a. SelectSays held models selector a) files files1 result

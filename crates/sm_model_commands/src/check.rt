@@ -6,7 +6,7 @@ ghost use Rattle.sm_model_commands.specs.Check.{Checks};
 ghost use Rattle.sm_model_commands.specs.steps.CheckSteps.{TellsEvents};
 
 use crate::words::CheckWords;
-use sm_asked::{Shown, Stop, event_lines, load_models};
+use sm_asked::{CommandStop, Shown, event_lines, load_models};
 use sm_io::Files;
 use sm_load::Model;
 use sm_tree::NoMemory;
@@ -17,7 +17,11 @@ use std::alloc::Global;
 /// # Errors
 ///
 /// Those of `load_models`, and memory may run out.
-pub fn check<F: Files>(alloc: Global, words: CheckWords<'_>, files: &mut F) -> Result<Vec<u8>, Stop>
+pub fn check<F: Files>(
+    alloc: Global,
+    words: CheckWords<'_>,
+    files: &mut F,
+) -> Result<Vec<u8>, CommandStop>
     requires { (name : List ℕ) → Contains words.models.now name → F.lets_read files.old name }
     ensures comes { Checks
         (files_seen (F.held files.old) (F.read_faults files.old) (F.write_faults files.old))
@@ -36,13 +40,13 @@ pub fn check<F: Files>(alloc: Global, words: CheckWords<'_>, files: &mut F) -> R
 }
 
 // The lines of a model's events. Its graph is dropped before there is any of them.
-fn told(alloc: Global, model: Model) -> Result<Vec<u8>, Stop>
+fn told(alloc: Global, model: Model) -> Result<Vec<u8>, CommandStop>
     ensures { TellsEvents model.events result }
 {
     let Model { graph, events } = model;
     drop(graph);
     match event_lines(alloc, Shown::All, events.as_slice()) {
         Ok(lines) => Ok(lines),
-        Err(NoMemory) => Err(Stop::NoMemory),
+        Err(NoMemory) => Err(CommandStop::NoMemory),
     }
 }

@@ -10,7 +10,7 @@ ghost use Rattle.sm_model_commands.specs.Convert.{converted, Converts};
 ghost use Rattle.sm_model_commands.specs.Forms.{graph_form};
 
 use crate::words::{ConvertForm, ConvertWords};
-use sm_asked::{Shown, Stop, load_models};
+use sm_asked::{CommandStop, Shown, load_models};
 use sm_ast::write_ast;
 use sm_idl::write_idl;
 use sm_io::Files;
@@ -56,7 +56,7 @@ pub fn convert<F: Files>(
     alloc: Global,
     words: ConvertWords<'_>,
     files: &mut F,
-) -> Result<Vec<u8>, Stop>
+) -> Result<Vec<u8>, CommandStop>
     requires { (name : List ℕ) → Contains words.models.now name → F.lets_read files.old name }
     ensures comes { Converts
         (files_seen (F.held files.old) (F.read_faults files.old) (F.write_faults files.old))
@@ -71,7 +71,7 @@ pub fn convert<F: Files>(
     match load_models(alloc, Shown::Errors, files, words.models) {
         Ok(model) => match graph_text(alloc, model.graph, words.form) {
             Ok(text) => Ok(text),
-            Err(NoMemory) => Err(Stop::NoMemory),
+            Err(NoMemory) => Err(CommandStop::NoMemory),
         },
         Err(stop) => Err(stop),
     }

@@ -13,7 +13,7 @@ ghost use Rattle.sm_asked.specs.Comes.{StepComesTo, StepStops};
 
 use crate::lines::{broken_selector_line, id_lines, other_selector_line};
 use crate::words::SelectWords;
-use sm_asked::{Shown, Stop, load_models, refused};
+use sm_asked::{CommandStop, Shown, load_models, refused};
 use sm_io::Files;
 use sm_model::Graph;
 use sm_select::{Selector, SelectorRefusal, parse_selector, select as picked};
@@ -21,13 +21,13 @@ use sm_tree::NoMemory;
 use std::alloc::Global;
 
 // Why a text is no selector: its place.
-fn no_selector(alloc: Global, refusal: SelectorRefusal) -> Stop
+fn no_selector(alloc: Global, refusal: SelectorRefusal) -> CommandStop
     ensures { (g : GraphMaps) (text : List ℕ) → ParsesSelector text (Err refusal) → StepStops (SelectorSays g text) ⊥ (Unit {0}) result }
 {
     match refusal {
         SelectorRefusal::Syntax(at) => refused(broken_selector_line(alloc, at)),
         SelectorRefusal::OutOfProfile(at) => refused(other_selector_line(alloc, at)),
-        SelectorRefusal::NoMemory => Stop::NoMemory,
+        SelectorRefusal::NoMemory => CommandStop::NoMemory,
     }
 }
 
@@ -41,13 +41,13 @@ fn picked_lines(alloc: Global, graph: &Graph, selector: &Selector) -> Result<Vec
 }
 
 // What a text comes to for a graph.
-fn selected(alloc: Global, graph: &Graph, text: &str) -> Result<Vec<u8>, Stop>
+fn selected(alloc: Global, graph: &Graph, text: &str) -> Result<Vec<u8>, CommandStop>
     ensures { StepComesTo (SelectorSays (maps_of graph.now) text.now) ⊥ (Unit {0}) result }
 {
     match parse_selector(alloc, text) {
         Ok(selector) => match picked_lines(alloc, graph, &selector) {
             Ok(lines) => Ok(lines),
-            Err(NoMemory) => Err(Stop::NoMemory),
+            Err(NoMemory) => Err(CommandStop::NoMemory),
         },
         Err(refusal) => Err(no_selector(alloc, refusal)),
     }
@@ -62,7 +62,7 @@ pub fn select<F: Files>(
     alloc: Global,
     words: SelectWords<'_>,
     files: &mut F,
-) -> Result<Vec<u8>, Stop>
+) -> Result<Vec<u8>, CommandStop>
     requires { (name : List ℕ) → Contains words.models.now name → F.lets_read files.old name }
     ensures comes { Selects
         (files_seen (F.held files.old) (F.read_faults files.old) (F.write_faults files.old))

@@ -1,17 +1,17 @@
 // Places of texts as a person counts them.
 /// A place of a text: line and column, counted from 1, a column a character.
 #[derive(Debug, Clone, Copy)]
-pub struct Place {
+pub struct LineColumn {
     /// The line.
     pub line: u64,
     /// The column.
     pub column: u64,
 }
 
-impl Place {
+impl LineColumn {
     /// The place of the byte of this number, counted from 0. Behind the last byte it is the text's end.
     pub fn of(text: &[u8], at: usize) -> Self {
-        let mut place = Place { line: 1, column: 1 };
+        let mut place = LineColumn { line: 1, column: 1 };
         for byte in text.iter().take(at) {
             place.pass(*byte);
         }

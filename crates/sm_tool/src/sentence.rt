@@ -1,6 +1,6 @@
 // The sentence on standard error for a status, and for the line that was printed.
 use crate::help::usage_of;
-use crate::place::{Place, token_at};
+use crate::place::{LineColumn, token_at};
 use crate::told::{Said, Spot, said_of_body, said_of_file, said_of_words};
 use sm_tree::{NoMemory, Text};
 use std::alloc::Global;
@@ -120,7 +120,7 @@ fn head(
     if let Some(at) = at {
         match text {
             Some(text) => {
-                let place = Place::of(text, at);
+                let place = LineColumn::of(text, at);
                 let line = place.line;
                 let column = place.column;
                 out.push_str(format!(in alloc; ":{line}:{column}")?.as_str())?;

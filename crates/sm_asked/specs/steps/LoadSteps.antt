@@ -14,10 +14,10 @@ use Rattle.sm_asked.specs.Loading.{AreRefused, name_at, refusal_answer}
 use Rattle.sm_asked.specs.ModelFiles.{AreRead, PassesOne}
 use Rattle.sm_asked.specs.Comes.{StepStops}
 use Rattle.sm_asked.specs.declared.lines.Shown.{Shown}
-use Rattle.sm_asked.specs.declared.stop.Stop.{Stop}
+use Rattle.sm_asked.specs.declared.stop.CommandStop.{CommandStop}
 
 -- the files are read, or a limit is passed
-abbrev pub ReadsModels : FilesSeen → FilesSeen → List (List ℕ) → Result (Vec ModelFile) Stop → Type 0
+abbrev pub ReadsModels : FilesSeen → FilesSeen → List (List ℕ) → Result (Vec ModelFile) CommandStop → Type 0
 ReadsModels files files1 names (Ok read) = AreRead files.held 0 names (given_files read.items)
 ReadsModels files files1 names (Err stop) =
     StepStops (PassesOne files.held 0 names) (Rose files.read_faults files1.read_faults) (Unit {0}) stop
@@ -33,9 +33,9 @@ NamesFirst read NoMemory name = Unit {0}
 abbrev pub TextsAnswer : Shown → List FileGiven → Answer → Type 0
 TextsAnswer shown read a = (refusal : LoadRefusal) × AreRefused read refusal × (a ≡ refusal_answer shown read refusal)
 
-abbrev pub StopsLoad : Shown → List FileGiven → Stop → Type 0
+abbrev pub StopsLoad : Shown → List FileGiven → CommandStop → Type 0
 StopsLoad shown read stop = StepStops (TextsAnswer shown read) ⊥ (Unit {0}) stop
 
-abbrev pub LoadsModel : Shown → List FileGiven → Result Model Stop → Type 0
+abbrev pub LoadsModel : Shown → List FileGiven → Result Model CommandStop → Type 0
 LoadsModel shown read (Ok m) = LoadsTo read (Ok m)
 LoadsModel shown read (Err stop) = StopsLoad shown read stop

@@ -25,7 +25,7 @@ use Rattle.sm_asked.specs.Lines.{no_shape_line, pattern_line, body_limit_line}
 use Rattle.sm_lines.specs.Lines.{unserved_line}
 use Rattle.sm_asked.specs.Stages.{IsInput}
 use Rattle.sm_asked.specs.Comes.{StepStops, StepComesTo}
-use Rattle.sm_asked.specs.declared.stop.Stop.{Stop}
+use Rattle.sm_asked.specs.declared.stop.CommandStop.{CommandStop}
 
 -- what a graph comes to for a shape that has no table, with what the store did
 pub data ShapeSays (g : GraphMaps) (shape : List ℕ) (before now : StoreSeen) (a : Answer) : Type 0 where
@@ -39,7 +39,7 @@ pub record HasTableOf (g : GraphMaps) (shape : List ℕ) (test : Test) (before n
   pub is : IsValueShape g shape
   pub compiled : IsShapeCompiled g shape test before now one
 
-abbrev pub MakesTable : GraphMaps → List ℕ → Test → StoreSeen → StoreSeen → Result OneShape Stop → Type 0
+abbrev pub MakesTable : GraphMaps → List ℕ → Test → StoreSeen → StoreSeen → Result OneShape CommandStop → Type 0
 MakesTable g shape test before now (Ok one) = HasTableOf g shape test before now one
 MakesTable g shape test before now (Err stop) = StepStops (ShapeSays g shape before now) ⊥ (Unit {0}) stop
 
@@ -61,7 +61,7 @@ pub data InputSays (near far : BodyForm) (t : TableData) (test : Test) (s : ℕ)
   whole : (body : List ℕ) → IsInput input.bytes body → length body ≤ body_limit → IsAtEnd rest.bytes → PrintsText near far t test s body a
       → InputSays near far t test s input rest a
 
-abbrev pub InputComesTo : BodyForm → BodyForm → TableData → Test → ℕ → Stream → Stream → Result (Vec ℕ) Stop → Type 0
+abbrev pub InputComesTo : BodyForm → BodyForm → TableData → Test → ℕ → Stream → Stream → Result (Vec ℕ) CommandStop → Type 0
 InputComesTo near far t test s input rest result =
     StepComesTo (InputSays near far t test s input rest) (Rose input.faults rest.faults) (Unit {0}) result
 
@@ -72,7 +72,7 @@ pub data TableSays (near far : BodyForm) (one : TableSeen) (test : Test) (input 
   by_input : Path Served one.served Yes → InputSays near far (filled one.table test) test one.shape input rest a
       → TableSays near far one test input rest a
 
-abbrev pub TableComesTo : BodyForm → BodyForm → OneShape → Test → Stream → Stream → Result (Vec ℕ) Stop → Type 0
+abbrev pub TableComesTo : BodyForm → BodyForm → OneShape → Test → Stream → Stream → Result (Vec ℕ) CommandStop → Type 0
 TableComesTo near far one test input rest result =
     StepComesTo (TableSays near far (seen_table one) test input rest) (Path Served one.served Yes × Rose input.faults rest.faults)
     ((rest ≡ input) ⊎ Path Served one.served Yes) result

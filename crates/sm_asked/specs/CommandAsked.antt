@@ -12,7 +12,7 @@ use Rattle.sm_asked.specs.Outside.{InputsSeen}
 use Rattle.sm_asked.specs.Stages.{Told, told}
 use Rattle.sm_asked.specs.declared.status.Status.TheVariants.{Pattern}
 
-pub record Asked : Type 1 where
+pub record CommandAsked : Type 1 where
   -- the names of the files that it may read, and of those that it may write
   pub reads : List (List ℕ)
   pub writes : List (List ℕ)
@@ -26,7 +26,7 @@ pub record Asked : Type 1 where
   pub reaches : Told → Type 0
 
 -- what reads files alone, and writes none
-abbrev pub over_files : List (List ℕ) → (Option Folder → Answer → Type 0) → Asked
+abbrev pub over_files : List (List ℕ) → (Option Folder → Answer → Type 0) → CommandAsked
 over_files names FilesSay = record {
   reads = names;
   writes = [];
@@ -57,7 +57,7 @@ LeavesInput past_its_limit input rest = Unit {0}
 LeavesInput in_part input rest = Unit {0}
 
 -- over these inputs it comes to this answer, and what it leaves of them. Where a pattern was refused, that is the answer
-pub record Answers (before after : InputsSeen) (asked : Asked) (a : Answer) : Type 0 where
+pub record Answers (before after : InputsSeen) (asked : CommandAsked) (a : Answer) : Type 0 where
   pub taken : InputUse
   pub written : Option FileWritten
   pub pattern : Option (List ℕ)
@@ -67,7 +67,7 @@ pub record Answers (before after : InputsSeen) (asked : Asked) (a : Answer) : Ty
   pub left : LeavesInput taken before.input after.input
 
 -- no answer stands before the input
-abbrev pub Reached : InputsSeen → InputsSeen → Asked → Type 0
+abbrev pub Reached : InputsSeen → InputsSeen → CommandAsked → Type 0
 Reached before after asked =
     (pattern : Option (List ℕ)) × RefusedBy before.store after.store pattern × asked.reaches (told_by before pattern)
 
@@ -79,14 +79,14 @@ pub record FileFails (before after : InputsSeen) : Type 0 where
   pub refusals : after.store.refusals ≡ before.store.refusals
 
 -- one of the input failed; no answer stands before it, and no pattern was refused
-pub record InputFails (before after : InputsSeen) (asked : Asked) : Type 0 where
+pub record InputFails (before after : InputsSeen) (asked : CommandAsked) : Type 0 where
   pub rose : Rose before.input.faults after.input.faults
   pub reached : asked.reaches (told_by before None)
   pub refusals : after.store.refusals ≡ before.store.refusals
 
-abbrev pub ReadFails : InputsSeen → InputsSeen → Asked → Type 0
+abbrev pub ReadFails : InputsSeen → InputsSeen → CommandAsked → Type 0
 ReadFails before after asked = FileFails before after ⊎ InputFails before after asked
 
 -- the input is as it was, unless no answer stands before it
-abbrev pub StopsShort : InputsSeen → InputsSeen → Asked → Type 0
+abbrev pub StopsShort : InputsSeen → InputsSeen → CommandAsked → Type 0
 StopsShort before after asked = (after.input ≡ before.input) ⊎ Reached before after asked
