@@ -1,12 +1,12 @@
 -- Where events begin a stream of a tree, no more levels are open than the tree has.
-use Rattle.std.proofs.Common.{◌≡◌, ℕ, ◌+◌, ◌≤◌, inl, inr, List, [], ◌∷◌, ◌++◌, ap, sym, ◌∙◌, append_assoc, arith, length, map, None}
+use Rattle.std.proofs.Common.{◌≡◌, ℕ, ◌+◌, ◌≤◌, inl, inr, List, [], ◌∷◌, ◌++◌, ap, sym, ◌∙◌, append_assoc, arith, length, map}
 use Rattle.sm_tree.specs.Node.{Node}
 use Rattle.sm_tree.specs.Levels.{levels}
 use Rattle.sm_tree.specs.Events.{NodeEvent, events}
 use Rattle.sm_tree.specs.Building.{Inner, in_list, in_object, in_pair, Around, around_list, around_object, Building, nothing, whole}
 use Rattle.sm_tree.specs.Building.{within, tag_events, each_events, each_pair_events, inner_events, outer_events, so_far, around_kind}
 use Rattle.sm_tree.specs.Streams.{unnumbered}
-use Rattle.sm_tree.specs.OpenLevels.{inner_levels, around_levels, outer_levels, open_levels, OpensNoMore, KindsAreLevels}
+use Rattle.sm_tree.specs.OpenLevels.{inner_levels, outer_levels, open_levels, OpensNoMore, KindsAreLevels}
 use Rattle.sm_tree.proofs.Streams.{unnumbered_append, stream_events}
 use Rattle.sm_tree.proofs.Awaited.{list_opened, object_opened, behind_tags, ListGoesOn, in_a_list, in_a_pair, opened_inner, behind_outer}
 

@@ -1,7 +1,7 @@
 -- What a tree builder holds between two events, without memory: what is open, and the entries and pairs
 -- of it so far. The contracts of TreeBuilder cite it, and a reader that calls one keeps its list of what
 -- is open and its place next to `kinds`, `awaits_value` and `awaits_content`.
-use Rattle.std.specs.Prelude.{◌≡◌, ℕ, Bool, true, false, List, [], ◌∷◌, ◌++◌, map, Option, None, Some}
+use Rattle.std.specs.Prelude.{◌≡◌, ℕ, Bool, true, false, List, [], ◌∷◌, ◌++◌, map, Option, None}
 use Rattle.sm_tree.specs.Node.{Node, tag}
 use Rattle.sm_tree.specs.Events.{NodeEvent, events, start_list, start_object, key_event, tag_event}
 use Rattle.sm_tree.specs.Nested.{innermost_of}

@@ -11,7 +11,7 @@ mod form;
 use crate::NoMemory;
 use crate::text::Text;
 use crate::tree::Tree;
-use form::{BOOL, BYTES, END, Form, INT, LIST, NAME, NULL, NUMBER, OBJECT, OPAQUE, TAG, TEXT};
+use form::{BOOL, BYTES, END, INT, LIST, NAME, NULL, NUMBER, OBJECT, OPAQUE, SameForm, TAG, TEXT};
 use std::alloc::Global;
 use std::collections::BTreeSet;
 
@@ -26,9 +26,9 @@ pub fn is_same(alloc: Global, a: &Tree, b: &Tree) -> Result<bool, NoMemory>
     if *a == *b {
         return Ok(true);
     }
-    let mut first = Form::new(alloc);
+    let mut first = SameForm::new(alloc);
     put(alloc, a, &mut first)?;
-    let mut second = Form::new(alloc);
+    let mut second = SameForm::new(alloc);
     put(alloc, b, &mut second)?;
     Ok(first == second)
 }
@@ -36,7 +36,7 @@ pub fn is_same(alloc: Global, a: &Tree, b: &Tree) -> Result<bool, NoMemory>
 // Appends the canonical form of a tree.
 #[tactic(auto, using(crate::proofs::SameViews::words_assoc))]
 #[cycle(put)]
-fn put<'a>(alloc: Global, tree: &'a Tree, out: &mut Form<'a>) -> Result<(), NoMemory>
+fn put<'a>(alloc: Global, tree: &'a Tree, out: &mut SameForm<'a>) -> Result<(), NoMemory>
     ensures { OnOk result (out.new ≡ out.old ++ form (node_of tree.now)) }
 {
     match tree {
@@ -67,7 +67,7 @@ fn put<'a>(alloc: Global, tree: &'a Tree, out: &mut Form<'a>) -> Result<(), NoMe
 // Appends those of an array's trees, and where they end.
 #[tactic(auto, using(crate::proofs::SameViews::words_assoc))]
 #[cycle(put)]
-fn put_entries<'a>(alloc: Global, items: &'a [Tree], out: &mut Form<'a>) -> Result<(), NoMemory>
+fn put_entries<'a>(alloc: Global, items: &'a [Tree], out: &mut SameForm<'a>) -> Result<(), NoMemory>
     ensures { OnOk result (out.new ≡ out.old ++ entries_form (nodes_of (nodes_view items.now))) }
 {
     for item in items {
@@ -78,12 +78,15 @@ fn put_entries<'a>(alloc: Global, items: &'a [Tree], out: &mut Form<'a>) -> Resu
 
 // The forms of an object's pairs, in order, each once.
 #[cycle(put)]
-fn forms_of<'a>(alloc: Global, pairs: &'a [(Text, Tree)]) -> Result<BTreeSet<Form<'a>>, NoMemory>
+fn forms_of<'a>(
+    alloc: Global,
+    pairs: &'a [(Text, Tree)],
+) -> Result<BTreeSet<SameForm<'a>>, NoMemory>
     ensures { IfOk result (λ forms. forms.keys ≡ pair_forms [] (members_of (members_view pairs.now))) }
 {
     let mut forms = BTreeSet::new(alloc);
     for pair in pairs {
-        let mut one = Form::new(alloc);
+        let mut one = SameForm::new(alloc);
         one.push(NAME, pair.0.as_str().as_bytes())?;
         put(alloc, &pair.1, &mut one)?;
         forms.insert(one)?;
@@ -93,7 +96,7 @@ fn forms_of<'a>(alloc: Global, pairs: &'a [(Text, Tree)]) -> Result<BTreeSet<For
 
 // Appends the forms of pairs, and where they end.
 #[tactic(auto, using(crate::proofs::SameViews::words_assoc))]
-fn put_forms<'a>(forms: &BTreeSet<Form<'a>>, out: &mut Form<'a>) -> Result<(), NoMemory>
+fn put_forms<'a>(forms: &BTreeSet<SameForm<'a>>, out: &mut SameForm<'a>) -> Result<(), NoMemory>
     ensures { OnOk result (out.new ≡ out.old ++ (joined forms.now.keys ++ end_word ∷ [])) }
 {
     for one in forms {

@@ -14,12 +14,12 @@ use std::marker::Model;
 /// A text in UTF-8. One of at most `SHORT_LEN` bytes may lie in the value itself. Contracts see its bytes.
 #[derive(Drop)]
 pub struct Text {
-    form: Form,
+    form: TextForm,
 }
 
 // Where the bytes of a text are.
 #[derive(Drop)]
-enum Form {
+enum TextForm {
     // In the value itself.
     Short(ShortText),
     // In memory of their own.
@@ -42,7 +42,7 @@ impl Text {
         ensures utf8 { IsUtf8 result }
     {
         Text {
-            form: Form::Long(text),
+            form: TextForm::Long(text),
         }
     }
 
@@ -54,8 +54,8 @@ impl Text {
         ensures short { length text.now ≤ short_len → IsOk result }
     {
         let form = match ShortText::copy(text) {
-            Some(short) => Form::Short(short),
-            None => Form::Long(String::from_str(alloc, text)?),
+            Some(short) => TextForm::Short(short),
+            None => TextForm::Long(String::from_str(alloc, text)?),
         };
         Ok(Text { form })
     }
@@ -70,7 +70,7 @@ impl Text {
     {
         let short = ShortText::short_prefix(bytes, len)?;
         Some(Text {
-            form: Form::Short(short),
+            form: TextForm::Short(short),
         })
     }
 
@@ -80,8 +80,8 @@ impl Text {
         ensures utf8 { IsUtf8 self.now }
     {
         match &self.form {
-            Form::Short(text) => text.as_str(),
-            Form::Long(text) => text.as_str(),
+            TextForm::Short(text) => text.as_str(),
+            TextForm::Long(text) => text.as_str(),
         }
     }
 }

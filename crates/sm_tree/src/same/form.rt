@@ -40,11 +40,11 @@ struct Word<'a> {
 
 // The words of a tree's parts, in the order of their parts.
 #[derive(Drop)]
-pub struct Form<'a> {
+pub struct SameForm<'a> {
     words: Vec<Word<'a>>,
 }
 
-impl<'a> Model for Form<'a> {
+impl<'a> Model for SameForm<'a> {
     ghost use Rattle.std.specs.Prelude.{List, map};
     ghost use Rattle.sm_tree.specs.steps.Canonical.{Word as AWord};
 
@@ -53,11 +53,11 @@ impl<'a> Model for Form<'a> {
     ghost view = { λ a. map (λ w. (w.number, w.bytes.now)) a.words.items };
 }
 
-impl<'a> Form<'a> {
+impl<'a> SameForm<'a> {
     pub fn new(alloc: Global) -> Self
         ensures { result ≡ [] }
     {
-        Form {
+        SameForm {
             words: Vec::new(alloc),
         }
     }
@@ -78,7 +78,7 @@ impl<'a> Form<'a> {
         self.push(number, &[])
     }
 
-    pub fn append(&mut self, other: &Form<'a>) -> Result<(), NoMemory>
+    pub fn append(&mut self, other: &SameForm<'a>) -> Result<(), NoMemory>
         ensures { OnOk result (self.new ≡ self.old ++ other.now) }
     {
         self.words.extend_from_slice(other.words.as_slice())?;
@@ -86,7 +86,7 @@ impl<'a> Form<'a> {
     }
 }
 
-impl PartialEq for Form<'_> {
+impl PartialEq for SameForm<'_> {
     ghost use Rattle.std.specs.Ordering.{eq_by_cmp};
     ghost use Rattle.std.specs.Cmp.{partial_equiv_from_equiv};
     ghost use Rattle.std.proofs.lemmas.Cmp.{eq_by_cmp_equiv};
@@ -102,14 +102,14 @@ impl PartialEq for Form<'_> {
     }
 }
 
-impl Eq for Form<'_> {
+impl Eq for SameForm<'_> {
     ghost use Rattle.std.proofs.lemmas.Cmp.{eq_by_cmp_equiv};
     ghost use Rattle.sm_tree.specs.steps.FormOrder.{form_total};
 
     ghost laws = { eq_by_cmp_equiv form_total };
 }
 
-impl PartialOrd for Form<'_> {
+impl PartialOrd for SameForm<'_> {
     ghost use Rattle.std.specs.Prelude.{Some, refl};
     ghost use Rattle.std.specs.Cmp.{partial_order_from_agreeing_total};
     ghost use Rattle.sm_tree.specs.steps.Canonical.{form_cmp};
@@ -124,7 +124,7 @@ impl PartialOrd for Form<'_> {
     }
 }
 
-impl Ord for Form<'_> {
+impl Ord for SameForm<'_> {
     ghost use Rattle.std.specs.Prelude.{refl};
     ghost use Rattle.sm_tree.specs.steps.Canonical.{form_cmp};
     ghost use Rattle.sm_tree.specs.steps.FormOrder.{form_total};
