@@ -35,7 +35,7 @@ pub(crate) struct Parts<'a, 'g> {
     pub shapes: &'a [u32],
     /// The patterns that are carried.
     pub carried: &'a CarriedTexts<'g>,
-    /// The same with their numbers in the store.
+    /// The patterns that are carried, with their numbers in the store.
     pub patterns: &'a [(u32, Text)],
     /// The values of the shapes, in the same order.
     pub values: &'a [EnumValues],
