@@ -21,7 +21,7 @@ use Rattle.sm_ast.specs.GraphSaid.{id_said, ids_said}
 use Rattle.sm_ast.specs.GraphSaid.{map_said, member_under_said, named_ids_said, names_said, raw_field, shape_members_said}
 use Rattle.sm_ast.specs.GraphSaid.{traits_of_pairs}
 use Rattle.sm_ids.specs.TextParts.{member_name}
-use Rattle.sm_ast.specs.steps.Saying.{pairs_said}
+use Rattle.sm_ast.specs.PartsSaid.{pairs_said}
 use Rattle.sm_ids.proofs.TextCuts.{member_named}
 use Rattle.sm_merge.specs.Meaning.{Defined, members_meant, node_meant, nodes_meant}
 use Rattle.sm_model.specs.Used.{shape_part}

@@ -18,7 +18,7 @@ use Rattle.sm_model.proofs.GivenEntries.{names_there}
 use Rattle.sm_model.proofs.MapFacts.{Each, each_entry, each_so, keys_differ}
 use Rattle.sm_ast.specs.GraphSaid.{map_said, member_under_said, shape_members_said}
 use Rattle.sm_ast.specs.Written.{field_there, member_object, member_there, written_entry, written_members}
-use Rattle.sm_ast.specs.steps.Saying.{pairs_said}
+use Rattle.sm_ast.specs.PartsSaid.{pairs_said}
 use Rattle.sm_ast.proofs.WrittenFields.{pairs_said_distinct}
 use Rattle.sm_ast.proofs.WrittenMembers.{AreFoundMembers, AreSoundTraits, FoundMember, found_names, found_pairs, found_said}
 use Rattle.sm_ast.proofs.WrittenShape.{IsFoundShape}

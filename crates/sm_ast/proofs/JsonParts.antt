@@ -3,7 +3,7 @@ use Rattle.std.proofs.Common.{◌≡◌, ℕ, inl, inr, List, Some, sym, ap, sub
 use Rattle.sm_tree.specs.Node.{Node, Members, null, bool, int, number, text, bytes, tag, opaque, list, object, no_members, member}
 use Rattle.sm_tree.specs.Json.{IsJson, AreJsonMembers}
 use Rattle.sm_tree.specs.Parts.{tree_named}
-use Rattle.sm_ast.specs.steps.Saying.{pairs_said}
+use Rattle.sm_ast.specs.PartsSaid.{pairs_said}
 use Rattle.sm_ast.proofs.Judged.{either_way, some_is_none, some_same}
 
 pub json_named : (name : List ℕ) (ms : Members) (n : Node) → AreJsonMembers ms → tree_named name ms ≡ Some n → IsJson n

@@ -36,7 +36,7 @@ use Rattle.sm_ids.specs.TextParts.{member_name}
 use Rattle.sm_ast.specs.Written.{shape_object, written_ast, written_entries, written_entry, written_in_form, written_members}
 use Rattle.sm_ast.specs.Written.{written_pairs, written_properties, written_property, written_reference, written_shapes}
 use Rattle.sm_ast.specs.Written.{written_statement, written_traits}
-use Rattle.sm_ast.specs.steps.Saying.{entries_said, pairs_said}
+use Rattle.sm_ast.specs.PartsSaid.{entries_said, pairs_said}
 use Rattle.sm_ast.proofs.JsonParts.{json_named, json_pairs}
 use Rattle.sm_ast.proofs.Judged.{both_true, either_way}
 

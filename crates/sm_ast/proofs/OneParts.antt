@@ -15,7 +15,8 @@ use Rattle.sm_ast.specs.Ast.{OrNothing, ReferenceSays, EntriesSay, ReferencesSay
 use Rattle.sm_ast.specs.Ast.{MemberPairsSay, MembersObjectSays, NamedMembersSay, AstMembers, RawReferenceSays, RawReferencesSay}
 use Rattle.sm_ast.specs.Ast.{NamedReferencesSay, NewNamesSay, PropertySays, PropertyPairsSay}
 use Rattle.sm_tree.specs.Parts.{tree_named}
-use Rattle.sm_ast.specs.steps.Saying.{text_said, text_there, entries_said, pairs_said, target_said, reference_said, references_said}
+use Rattle.sm_ast.specs.PartsSaid.{text_said, entries_said, pairs_said}
+use Rattle.sm_ast.specs.steps.Saying.{text_there, target_said, reference_said, references_said}
 use Rattle.sm_ast.specs.steps.Saying.{trait_said, traits_said, traits_there, member_by_pairs, member_said, members_said, members_there}
 use Rattle.sm_ast.specs.steps.Saying.{member_there, named_members_said, members_by_form, reference_entries, reference_pairs, text_pairs}
 use Rattle.sm_ast.specs.steps.Saying.{property_said, with_property, property_pairs}

@@ -22,7 +22,8 @@ use Rattle.sm_ast.specs.Layout.{FieldForms, field_named, layout_of, shape_fields
 use Rattle.sm_ast.specs.Ast.{RawReferencesSay, NamedReferencesSay, NewNamesSay, PropertySays, PropertyPairsSay}
 use Rattle.sm_ast.specs.Faults.{AstFault, bad_id, unless, identifier_fault, pairs_fault, entries_fault, reference_fault, new_name_fault}
 use Rattle.sm_ast.specs.Faults.{property_fault}
-use Rattle.sm_ast.specs.steps.Saying.{text_said, reference_said, reference_entries, reference_pairs, text_pairs, property_said}
+use Rattle.sm_ast.specs.PartsSaid.{text_said}
+use Rattle.sm_ast.specs.steps.Saying.{reference_said, reference_entries, reference_pairs, text_pairs, property_said}
 use Rattle.sm_ast.specs.steps.Saying.{with_property, property_pairs}
 use Rattle.sm_ast.proofs.IdTests.{passed_is_id}
 use Rattle.sm_ast.proofs.Judged.{either_way, or_left, true_is_false, same_text, some_is_none, some_same, none_first, none_unless}

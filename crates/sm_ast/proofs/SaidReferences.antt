@@ -16,7 +16,8 @@ use Rattle.sm_ast.specs.Faults.{AstFault, field, bad_id, unless, of_text, of_lis
 use Rattle.sm_ast.specs.Faults.{stands_in, pairs_fault, entries_fault, object_fault, id_fault, identifier_fault, target_fault}
 use Rattle.sm_ast.specs.Faults.{reference_fault, references_fault, trait_fault, traits_fault, part_of_member_fault, member_fault}
 use Rattle.sm_ast.specs.Faults.{named_member_fault, named_members_fault, node_fault}
-use Rattle.sm_ast.specs.steps.Saying.{text_there, entries_said, pairs_said, reference_said, references_said, traits_said, traits_there}
+use Rattle.sm_ast.specs.PartsSaid.{entries_said, pairs_said}
+use Rattle.sm_ast.specs.steps.Saying.{text_there, reference_said, references_said, traits_said, traits_there}
 use Rattle.sm_ast.specs.steps.Saying.{member_by_pairs, member_said, members_said}
 use Rattle.sm_ast.proofs.IdTests.{passed_is_id}
 use Rattle.sm_ast.proofs.Judged.{both_true, same_text, some_is_none, none_first, none_unless, none_if, none_either, none_judged}

@@ -14,7 +14,7 @@ use Rattle.sm_ast.specs.Written.{WrittenPairs, field_there, member_object, membe
 use Rattle.sm_ids.specs.TextParts.{member_name}
 use Rattle.sm_ast.specs.Written.{written_member, written_members, written_shape, written_shapes}
 use Rattle.sm_ast.specs.Written.{written_statement}
-use Rattle.sm_ast.specs.steps.Saying.{pairs_said}
+use Rattle.sm_ast.specs.PartsSaid.{pairs_said}
 use Rattle.sm_ast.specs.steps.Writing.{IsWrittenShape}
 
 -- the tree of a member, by its target and its traits

@@ -19,7 +19,7 @@ use Rattle.sm_ast.specs.GraphSaid.{named_ids_said}
 use Rattle.sm_ast.specs.GraphSaid.{names_said, raw_field}
 use Rattle.sm_ast.specs.Written.{WrittenPairs, field_there, filled_list, filled_object, property_there, written_entries, written_pairs}
 use Rattle.sm_ast.specs.Written.{written_properties, written_property, written_reference}
-use Rattle.sm_ast.specs.steps.Saying.{entries_said, pairs_said}
+use Rattle.sm_ast.specs.PartsSaid.{entries_said, pairs_said}
 use Rattle.sm_ast.proofs.FaultlessParts.{distinct_under}
 use Rattle.sm_ast.proofs.Judged.{either_way, same_text, some_same, some_is_none, named_pair}
 use Rattle.sm_ast.proofs.WrittenNames.{EachDistinct, distinct_joined}

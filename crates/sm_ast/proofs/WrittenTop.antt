@@ -17,7 +17,7 @@ use Rattle.sm_ast.specs.Laws.{WrittenSays}
 use Rattle.sm_model.specs.PreludeShapes.{is_prelude_id}
 use Rattle.sm_ast.specs.Written.{WrittenPairs, field_there, filled_object, shape_object, written_shape, written_shapes}
 use Rattle.sm_ast.specs.Written.{written_statement}
-use Rattle.sm_ast.specs.steps.Saying.{pairs_said}
+use Rattle.sm_ast.specs.PartsSaid.{pairs_said}
 use Rattle.sm_ast.proofs.GivenGraph.{EntryIsSound, IsSoundShape, graph_sound, nodes_in_map}
 use Rattle.sm_ast.proofs.WrittenFields.{object_distinct}
 use Rattle.sm_ast.proofs.WrittenMembers.{found_pairs, nodes_distinct}

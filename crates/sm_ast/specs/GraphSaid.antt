@@ -14,7 +14,7 @@ use Rattle.sm_model.specs.declared.property.PropertyForm.TheVariants.{Reference,
 use Rattle.sm_tree.specs.Parts.{tree_named}
 use Rattle.sm_model.specs.PreludeShapes.{is_prelude_id}
 use Rattle.sm_ids.specs.TextParts.{member_name}
-use Rattle.sm_ast.specs.steps.Saying.{text_said, entries_said, pairs_said}
+use Rattle.sm_ast.specs.PartsSaid.{text_said, entries_said, pairs_said}
 
 -- traits
 abbrev pub traits_of_pairs : List (List ℕ × Node) → List TraitSaid

@@ -1,3 +1,4 @@
+pub mod PartsSaid
 pub mod Ids
 pub mod Layout
 pub mod Ast

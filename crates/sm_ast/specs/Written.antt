@@ -15,7 +15,7 @@ use Rattle.sm_model.specs.declared.property.PropertyForm.TheVariants.{Reference,
 use Rattle.sm_ast.specs.Layout.{smithy_name, metadata_name, shapes_name, target_name, traits_name, type_name, members_name}
 use Rattle.sm_tree.specs.Parts.{tree_named}
 use Rattle.sm_model.specs.PreludeShapes.{is_prelude_id}
-use Rattle.sm_ast.specs.steps.Saying.{entries_said, pairs_said}
+use Rattle.sm_ast.specs.PartsSaid.{entries_said, pairs_said}
 
 -- the pairs of an object, in order
 abbrev pub WrittenPairs : Type 0

@@ -4,7 +4,7 @@ ghost use Rattle.sm_tree.specs.Node.{nodes_of, members_of};
 ghost use Rattle.sm_tree.specs.View.{node_of, nodes_view, members_view};
 ghost use Rattle.sm_tree.specs.Parts.{text_in};
 ghost use Rattle.sm_ast.specs.Faults.{is_this};
-ghost use Rattle.sm_ast.specs.steps.Saying.{entries_said, pairs_said, text_said};
+ghost use Rattle.sm_ast.specs.PartsSaid.{entries_said, pairs_said, text_said};
 
 use sm_tree::{Text, Tree, entries_of, pairs_of, text_of};
 

@@ -128,7 +128,7 @@ fn are_whole_bounds(tree: &Tree) -> bool
         && is_number_where(field_of(tree, "max"))
 }
 
-// The same with numbers of any size.
+// `{min, max}`, each a number of any size where it is there.
 fn are_any_bounds(tree: &Tree) -> bool
     ensures { result ≡ nodes.are_bounds nodes.is_any_number (node_of tree.now) }
 {

@@ -59,7 +59,7 @@ fn by_name(rows: &[TableMember], numbers: Vec<u32>) -> Vec<u32>
     numbers
 }
 
-// The same by those that they have where JSON names are looked at.
+// The numbers by the names that their members have where JSON names are looked at.
 fn by_json_name(rows: &[TableMember], numbers: Vec<u32>) -> Vec<u32>
     requires { AllDiffer (map (json_name_at (only_members (map member_data rows.now))) numbers.items) }
     ensures { AreByName (json_name_at (only_members (map member_data rows.now))) numbers.items result.items }

@@ -21,7 +21,7 @@ use crate::look::{kind_of, target_of};
 use crate::names::member_name;
 use crate::patterns::{CarriedTexts, pattern_number};
 use crate::rows::MemberPlace;
-use crate::seen::Seen;
+use crate::seen::SeenTraits;
 use crate::values::EnumValues;
 use sm_model::{Graph, Kind};
 use sm_tree::Text;
@@ -35,7 +35,7 @@ pub(crate) struct Parts<'a, 'g> {
     pub shapes: &'a [u32],
     /// The patterns that are carried.
     pub carried: &'a CarriedTexts<'g>,
-    /// The same with their numbers in the store.
+    /// The patterns that are carried, with their numbers in the store.
     pub patterns: &'a [(u32, Text)],
     /// The values of the shapes, in the same order.
     pub values: &'a [EnumValues],
@@ -124,7 +124,7 @@ impl Parts<'_, '_> {
             → Contains (texts_in self.now.carried.now) u }
         ensures { NamesText self.now.patterns.now result (pattern_seen kind (traits_seen self.now.graph.now own target)) }
     {
-        let seen = Seen {
+        let seen = SeenTraits {
             graph: self.graph,
             own,
             target,

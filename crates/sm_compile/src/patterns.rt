@@ -9,7 +9,7 @@ ghost use Rattle.sm_compile.specs.steps.Carrying.{AreCarried, AreCarriedUpTo, Ar
 ghost use Rattle.sm_compile.specs.steps.Looked.{kind_under, target_kind};
 
 use crate::look::{kind_of, target_kind};
-use crate::seen::Seen;
+use crate::seen::SeenTraits;
 use sm_model::{Graph, Kind};
 use sm_tree::{NoMemory, Text};
 use std::alloc::Global;
@@ -171,7 +171,7 @@ pub(crate) fn own_pattern(graph: &Graph, number: u32) -> Option<&str>
 {
     match value_kind(graph, number) {
         Some(kind) => {
-            let seen = Seen {
+            let seen = SeenTraits {
                 graph,
                 own: number,
                 target: None,

@@ -13,7 +13,7 @@ ghost use Rattle.sm_compile.specs.steps.Valued.{HasValues};
 use crate::defaults::default_node;
 use crate::kinds::table_kind;
 use crate::look::{id_text, trait_node};
-use crate::seen::{Seen, has_trait};
+use crate::seen::{SeenTraits, has_trait};
 use crate::traits::text_in_trait;
 use crate::values::EnumValues;
 use sm_model::{Graph, Kind};
@@ -51,7 +51,7 @@ pub(crate) fn shape_row(
     ensures numbers { IfOk result (λ row. AreNumbers orders row) }
     ensures pattern { IfOk result (λ row. row.constraints.pattern ≡ pattern) }
 {
-    let seen = Seen {
+    let seen = SeenTraits {
         graph,
         own: shape,
         target: None,
@@ -120,7 +120,7 @@ pub(crate) fn member_row(
     ensures name { IfOk result (λ row. row.name ≡ name.now) }
     ensures pattern { IfOk result (λ row. row.constraints.pattern ≡ pattern) }
 {
-    let seen = Seen {
+    let seen = SeenTraits {
         graph,
         own: place.member,
         target: Some(place.target),

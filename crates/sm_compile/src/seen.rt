@@ -20,7 +20,7 @@ use sm_tree::Tree;
 
 /// The traits of what has a number, and behind them those of a member's target.
 #[derive(Clone, Copy, Drop)]
-pub(crate) struct Seen<'a> {
+pub(crate) struct SeenTraits<'a> {
     /// The graph.
     pub graph: &'a Graph,
     /// The shape or member.
@@ -31,7 +31,7 @@ pub(crate) struct Seen<'a> {
     pub ghost target_within: { ForSome target (λ t. IsShapeNumber graph.now t) },
 }
 
-impl<'a> Seen<'a> {
+impl<'a> SeenTraits<'a> {
     /// The value of a trait.
     pub(crate) fn value(&self, name: &str) -> Option<&'a Tree>
         ensures { option_map (λ t. node_of t.now) result ≡ traits_seen self.now.graph.now self.now.own self.now.target name.now }

@@ -37,7 +37,7 @@ pub fn sound(alloc: Global, graph: &Graph, shape: u32) -> Result<bool, NoMemory>
     }
 }
 
-// The same of a shape that has values.
+// Whether a table can be made of a shape that has values.
 fn is_all_sound(alloc: Global, graph: &Graph, shape: u32) -> Result<bool, NoMemory>
     requires number { IsShapeNumber graph.now shape }
     requires value { IsValueShape (maps_of graph.now) (id_of_number graph.now shape) }
@@ -101,7 +101,7 @@ pub fn is_sound_shape(alloc: Global, graph: &Graph, shape: u32) -> Result<bool, 
     }
 }
 
-// The same of a shape of this type.
+// Whether a shape of this type with its members is in order.
 fn is_sound_of_kind(alloc: Global, graph: &Graph, shape: u32, kind: Kind) -> Result<bool, NoMemory>
     requires number { IsShapeNumber graph.now shape }
     requires kind { kind_under (maps_of graph.now) (id_of_number graph.now shape) ≡ Some kind }
@@ -114,7 +114,7 @@ fn is_sound_of_kind(alloc: Global, graph: &Graph, shape: u32, kind: Kind) -> Res
     }
 }
 
-// The same where only the names of its members are left to see.
+// Whether a shape is in order where only the names of its members are left to see.
 fn has_sound_names(alloc: Global, graph: &Graph, shape: u32, kind: Kind) -> Result<bool, NoMemory>
     requires number { IsShapeNumber graph.now shape }
     requires kind { kind_under (maps_of graph.now) (id_of_number graph.now shape) ≡ Some kind }

@@ -25,7 +25,7 @@ pub(crate) fn is_unserved(graph: &Graph, shape: u32) -> bool
     }
 }
 
-// The same of a shape of this type.
+// Whether a shape of this type isn't served by itself.
 fn is_unserved_of_kind(graph: &Graph, shape: u32, kind: Kind) -> bool
     requires number { IsShapeNumber graph.now shape }
     requires kind { kind_under (maps_of graph.now) (id_of_number graph.now shape) ≡ Some kind }

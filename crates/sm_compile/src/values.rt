@@ -23,7 +23,7 @@ pub(crate) struct EnumValues {
 }
 
 impl EnumValues {
-    /// The same for one row more.
+    /// These values once more, for another row. No memory: it is refused only where no more rows can be counted.
     pub(crate) fn share(&self) -> Result<EnumValues, NoMemory>
         ensures texts { IfOk result (λ values. values.texts ≡ self.now.texts) }
         ensures numbers { IfOk result (λ values. values.numbers ≡ self.now.numbers) }

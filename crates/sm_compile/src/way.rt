@@ -84,7 +84,7 @@ fn unserved_root(alloc: Global, graph: &Graph, root: u32) -> Result<Served, NoMe
     Ok(Served::Unserved(path))
 }
 
-// The same of a shape that is served by itself.
+// The answer where the shape itself is served.
 fn walk_from(alloc: Global, graph: &Graph, root: u32) -> Result<Served, NoMemory>
     requires number { IsShapeNumber graph.now root }
     requires served { IsUnserved (maps_of graph.now) (id_of_number graph.now root) → ⊥ }

@@ -18,7 +18,7 @@ use Rattle.sm_model.specs.Graphs.{text_cmp, NodeMap, traits_in, Entry}
 use Rattle.sm_model.specs.GraphRows.{are_below, entry_view, is_member_row, is_sound_row, members_are_below, members_kept, row_entry}
 use Rattle.sm_model.specs.GraphView.{AreShapeNumbers, At, HasMembers, is_member_entry, Stands, entries_of, ids, maps_of}
 use Rattle.sm_model.specs.declared.graph.Graph.{Graph}
-use Rattle.sm_model.specs.declared.graph.rows.Row.{Row}
+use Rattle.sm_model.specs.declared.graph.rows.GraphRow.{GraphRow}
 use Rattle.sm_model.specs.declared.graph.rows.RowEntry.{RowEntry}
 use Rattle.sm_model.specs.declared.graph.rows.RowEntry.TheVariants.{Shape, Member}
 use Rattle.sm_model.proofs.MoreRows.{is_less}
@@ -34,13 +34,13 @@ members_viewed ids traits (Shape s) = refl
 members_viewed ids traits (Member target) = refl
 
 -- what stands at a number is what its row stands for
-pub at_row : (g : Graph) (s : ℕ) (r : Row) → IsSomeAnd (slice_get g.rows.items s) (λ x. r ≡ x) → (Is : List ℕ → Entry → Type 0)
+pub at_row : (g : Graph) (s : ℕ) (r : GraphRow) → IsSomeAnd (slice_get g.rows.items s) (λ x. r ≡ x) → (Is : List ℕ → Entry → Type 0)
     → Is (row_entry (ids g) r).0 (row_entry (ids g) r).1 → At g s Is
 at_row g s r at Is is =
     subst (λ o. IsSomeAnd o (λ e. Is e.0 e.1)) (sym (slice_get-map (row_entry (ids g)) g.rows.items s))
     (mapped (slice_get g.rows.items s) at)
   where
-    mapped : (o : Option Row) → IsSomeAnd o (λ x. r ≡ x) → IsSomeAnd (option_map (row_entry (ids g)) o) (λ e. Is e.0 e.1)
+    mapped : (o : Option GraphRow) → IsSomeAnd o (λ x. r ≡ x) → IsSomeAnd (option_map (row_entry (ids g)) o) (λ e. Is e.0 e.1)
     mapped None h = h
     mapped (Some x) h = subst (λ y. Is (row_entry (ids g) y).0 (row_entry (ids g) y).1) h is
 
@@ -71,7 +71,7 @@ all_at q [] h n r at = absurd at
 all_at q (x ∷ xs) h zero r at = ap q at ∙ and_left (q x) _ h
 all_at q (x ∷ xs) h (suc n) r at = all_at q xs (and_right (q x) _ h) n r at
 
-pub traits_sorted : (g : Graph) (s : ℕ) (r : Row) → IsSomeAnd (slice_get g.rows.items s) (λ x. r ≡ x)
+pub traits_sorted : (g : Graph) (s : ℕ) (r : GraphRow) → IsSomeAnd (slice_get g.rows.items s) (λ x. r ≡ x)
     → is_sorted text_cmp (pairs_view r.traits) ≡ true
 traits_sorted g s r at =
     let rows = g.rows.items in
@@ -83,7 +83,7 @@ traits_viewed ids traits (Shape s) = refl
 traits_viewed ids traits (Member target) = refl
 
 -- the value of a trait is what stands under its id among the row's pairs
-pub trait_found : {T : Type 0} (node : T → Node) (g : Graph) (s : ℕ) (r : Row) → IsSomeAnd (slice_get g.rows.items s) (λ x. r ≡ x)
+pub trait_found : {T : Type 0} (node : T → Node) (g : Graph) (s : ℕ) (r : GraphRow) → IsSomeAnd (slice_get g.rows.items s) (λ x. r ≡ x)
     → (ps : List (List ℕ × Node)) → ps ≡ pairs_view r.traits → (q : List ℕ) (found : Option T)
     → MatchOption found (find text_cmp q ps ≡ None) (λ t. find text_cmp q ps ≡ Some (node t))
     → At g s (λ i e. MatchOption found (fin.get (traits_in e) q ≡ None) (λ t. fin.get (traits_in e) q ≡ Some (node t)))
@@ -94,7 +94,7 @@ trait_found node g s r at ps same q found h =
     ∙ ap (λ m. fin.get m q) (sym (traits_viewed (ids g) _ r.entry))) h)
 
 -- the traits of what stands at a number, in order
-pub traits_at : (g : Graph) (s : ℕ) (r : Row) → IsSomeAnd (slice_get g.rows.items s) (λ x. r ≡ x) → (ps : List (List ℕ × Node))
+pub traits_at : (g : Graph) (s : ℕ) (r : GraphRow) → IsSomeAnd (slice_get g.rows.items s) (λ x. r ≡ x) → (ps : List (List ℕ × Node))
     → ps ≡ pairs_view r.traits → At g s (λ id e. fin.entries (traits_in e) ≡ ps)
 traits_at g s r at ps same =
     at_row g s r at (λ id e. fin.entries (traits_in e) ≡ ps)
@@ -117,7 +117,7 @@ kept_below : (n : ℕ) (e : RowEntry) → members_are_below n e ≡ true → are
 kept_below n (Shape s) h = h
 kept_below n (Member target) h = refl
 
-pub members_numbered : (g : Graph) (s : ℕ) (r : Row) → IsSomeAnd (slice_get g.rows.items s) (λ x. r ≡ x)
+pub members_numbered : (g : Graph) (s : ℕ) (r : GraphRow) → IsSomeAnd (slice_get g.rows.items s) (λ x. r ≡ x)
     → AreShapeNumbers g (members_kept r.entry)
 members_numbered g s r at =
     let rows = g.rows.items in

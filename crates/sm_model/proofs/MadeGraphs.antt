@@ -13,7 +13,7 @@ use Rattle.sm_model.specs.GraphRows.{are_sound, entries_of_rows, ids_of, is_soun
 use Rattle.sm_model.specs.steps.Blocks.{AreRowsOf}
 use Rattle.sm_model.specs.steps.Rising.{Rise}
 use Rattle.sm_model.specs.declared.graph.given.GraphShape.{GraphShape}
-use Rattle.sm_model.specs.declared.graph.rows.Row.{Row}
+use Rattle.sm_model.specs.declared.graph.rows.GraphRow.{GraphRow}
 use Rattle.sm_model.proofs.Moved.{keeps_names, moved_entries, moved_given}
 use Rattle.sm_model.proofs.Rises.{differ_from_rise, sorted_from_rise}
 use Rattle.sm_model.proofs.Sorting.{map_moved, map_twice}
@@ -29,7 +29,7 @@ module _ (xs ys : List GraphShape) (moved : IsPermutation xs ys) where
   pub few_sorted : length (given_entries (given_view xs)) < 2 ^ 32 → length (given_entries (given_view ys)) < 2 ^ 32
   few_sorted few = omega (arith, few, length_permutation _ _ entries_moved)
 
-  module _ (rows : List Row) (h : AreRowsOf (given_view ys) rows) where
+  module _ (rows : List GraphRow) (h : AreRowsOf (given_view ys) rows) where
     rising : Rise (map (λ e. e.0) (entries_of_rows rows))
     rising = subst Rise (sym (map_twice (row_entry (ids_of rows)) (λ e. e.0) rows)) h.rise
 

@@ -10,7 +10,7 @@ use Rattle.sm_model.specs.Graphs.{MemberGiven, member_id, given_members}
 use Rattle.sm_model.specs.GraphRows.{id_of_row, ids_of, is_sound_row, row_entry}
 use Rattle.sm_model.specs.steps.Blocks.{AreMemberRows, AreMemberIds, AreNamesIn, AreNumbers, IsMemberBlock}
 use Rattle.sm_model.specs.steps.Rising.{Rise}
-use Rattle.sm_model.specs.declared.graph.rows.Row.{Row}
+use Rattle.sm_model.specs.declared.graph.rows.GraphRow.{GraphRow}
 use Rattle.sm_model.proofs.Moved.{along_permutation, keeps_names}
 use Rattle.sm_model.proofs.Sorting.{map_twice}
 
@@ -37,17 +37,17 @@ given_member_ids : (shape : List ℕ) (ms : List MemberGiven) → map (λ e. e.0
 given_member_ids shape [] = refl
 given_member_ids shape (m ∷ ms) = ap (λ ids. member_id shape m.name ∷ ids) (given_member_ids shape ms)
 
-pub member_ids : (shape : List ℕ) (ms : List MemberGiven) (rows : List Row) → AreMemberRows shape ms rows
+pub member_ids : (shape : List ℕ) (ms : List MemberGiven) (rows : List GraphRow) → AreMemberRows shape ms rows
     → ids_of rows ≡ map (member_id shape) (given_names ms)
 member_ids shape ms rows h =
     sym (map_twice (row_entry []) (λ e. e.0) rows) ∙ ap (map (λ e. e.0)) (h.entries []) ∙ given_member_ids shape ms
 
-pub member_ids_differ : (shape : List ℕ) (ms : List MemberGiven) (rows : List Row) → AreMemberRows shape ms rows
+pub member_ids_differ : (shape : List ℕ) (ms : List MemberGiven) (rows : List GraphRow) → AreMemberRows shape ms rows
     → DifferInNames (given_names ms) → DifferInNames (ids_of rows)
 member_ids_differ shape ms rows h differ =
     subst DifferInNames (sym (member_ids shape ms rows h)) (differ_mapped shape (given_names ms) differ)
 
-pub as_many : (shape : List ℕ) (ms : List MemberGiven) (rows : List Row) → AreMemberRows shape ms rows → length rows ≡ length ms
+pub as_many : (shape : List ℕ) (ms : List MemberGiven) (rows : List GraphRow) → AreMemberRows shape ms rows → length rows ≡ length ms
 as_many shape ms rows h =
     sym (length-map rows (row_entry [])) ∙ ap length (h.entries []) ∙ length-map ms _
 
@@ -61,7 +61,7 @@ are_member_ids : (shape : List ℕ) (ms : List MemberGiven) → AreGivenMembers 
 are_member_ids shape [] h = tt
 are_member_ids shape (m ∷ ms) h = ((m.name, h.0, refl), are_member_ids shape ms h.3)
 
-moved_member_ids : (shape : List ℕ) (xs ys : List Row) → IsPermutation xs ys → AreMemberIds shape (ids_of xs)
+moved_member_ids : (shape : List ℕ) (xs ys : List GraphRow) → IsPermutation xs ys → AreMemberIds shape (ids_of xs)
     → AreMemberIds shape (ids_of ys)
 moved_member_ids shape = along_permutation (λ xs ys. AreMemberIds shape (ids_of xs) → AreMemberIds shape (ids_of ys))
     (λ xs h. h)
@@ -72,7 +72,7 @@ moved_member_ids shape = along_permutation (λ xs ys. AreMemberIds shape (ids_of
 all_moved : {X : Type 0} (p : X → Bool) (xs ys : List X) → IsPermutation xs ys → list_all p xs ≡ true → list_all p ys ≡ true
 all_moved p xs ys moved h = list_all-from_AllPass p ys (All-permutation (λ x. p x ≡ true) xs ys moved (AllPass-from_list_all p xs h))
 
-module _ (shape : List ℕ) (ms : List MemberGiven) (rows sorted : List Row) (h : AreMemberRows shape ms rows)
+module _ (shape : List ℕ) (ms : List MemberGiven) (rows sorted : List GraphRow) (h : AreMemberRows shape ms rows)
     (given : AreGivenMembers ms) (moved : IsPermutation rows sorted) where
   pub sorted_names : AreNamesIn (ids_of sorted) shape (given_names ms)
   sorted_names = names_in shape (ids_of sorted) ms

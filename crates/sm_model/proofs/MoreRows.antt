@@ -15,7 +15,7 @@ use Rattle.sm_model.specs.Graphs.{ShapeGiven, NodeMap, given_entries, given_shap
 use Rattle.sm_model.specs.GraphRows.{are_below, entries_of_rows, entry_view, id_of_row, ids_of, is_sound_row, members_are_below, row_entry}
 use Rattle.sm_model.specs.steps.Blocks.{AreRowsOf, AreRowsUpTo, IsBlock, PutsBlock}
 use Rattle.sm_model.specs.steps.Rising.{Rise}
-use Rattle.sm_model.specs.declared.graph.rows.Row.{Row}
+use Rattle.sm_model.specs.declared.graph.rows.GraphRow.{GraphRow}
 use Rattle.sm_model.specs.declared.graph.rows.RowEntry.{RowEntry}
 use Rattle.sm_model.specs.declared.graph.rows.RowEntry.TheVariants.{Shape, Member}
 use Rattle.sm_model.proofs.BlockOrder.{rise_with_members}
@@ -42,7 +42,7 @@ same_entry ids more traits (Shape s) h =
     (same_numbers ids more s.members h)
 same_entry ids more traits (Member target) h = refl
 
-same_entries : (ids more : List (List ℕ)) (rows : List Row) → list_all (is_sound_row (length ids)) rows ≡ true
+same_entries : (ids more : List (List ℕ)) (rows : List GraphRow) → list_all (is_sound_row (length ids)) rows ≡ true
     → map (row_entry (ids ++ more)) rows ≡ map (row_entry ids) rows
 same_entries ids more [] h = refl
 same_entries ids more (r ∷ rs) h =
@@ -61,7 +61,7 @@ still_below : (n m : ℕ) → n ≤ m → (e : RowEntry) → members_are_below n
 still_below n m le (Shape s) h = all_still_less n m le s.members h
 still_below n m le (Member target) h = refl
 
-still_sound : (n m : ℕ) → n ≤ m → (rows : List Row) → list_all (is_sound_row n) rows ≡ true → list_all (is_sound_row m) rows ≡ true
+still_sound : (n m : ℕ) → n ≤ m → (rows : List GraphRow) → list_all (is_sound_row n) rows ≡ true → list_all (is_sound_row m) rows ≡ true
 still_sound n m le [] h = refl
 still_sound n m le (r ∷ rs) h =
     let sorted = is_sorted text_cmp (pairs_view r.traits) in
@@ -70,7 +70,7 @@ still_sound n m le (r ∷ rs) h =
     (and_from sorted (members_are_below m r.entry) (and_left sorted _ here) (still_below n m le r.entry (and_right sorted _ here)))
     (still_sound n m le rs (and_right (is_sound_row n r) _ h))
 
-module _ (all : List ShapeGiven) (s : ShapeGiven) (rest : List ShapeGiven) (old : List Row) (h : AreRowsUpTo all (s ∷ rest) old) where
+module _ (all : List ShapeGiven) (s : ShapeGiven) (rest : List ShapeGiven) (old : List GraphRow) (h : AreRowsUpTo all (s ∷ rest) old) where
   -- there are numbers for the rows of the shape
   pub room : length (given_entries all) < 2 ^ 32 → length old + length (given_shape s) < 2 ^ 32
   room few = omega (
@@ -82,7 +82,7 @@ module _ (all : List ShapeGiven) (s : ShapeGiven) (rest : List ShapeGiven) (old 
     length-map old (row_entry (ids_of old)),
   )
 
-  module _ (block : List Row) (b : IsBlock (length old) s block) where
+  module _ (block : List GraphRow) (b : IsBlock (length old) s block) where
     ids_appended : ids_of (old ++ block) ≡ ids_of old ++ ids_of block
     ids_appended = map-append id_of_row old block
 
@@ -119,7 +119,7 @@ module _ (all : List ShapeGiven) (s : ShapeGiven) (rest : List ShapeGiven) (old 
         (still_sound (length old) n (omega (arith, long)) old h.sound)
         (subst (λ k. list_all (is_sound_row k) block ≡ true) (sym long) b.sound)
 
-  pub more_rows : (new : List Row) → PutsBlock s old new → AreRowsUpTo all rest new
+  pub more_rows : (new : List GraphRow) → PutsBlock s old new → AreRowsUpTo all rest new
   more_rows new p = subst (AreRowsUpTo all rest) (sym p.appended) (record {
     entries = more_entries p.block p.is_block;
     rise = more_rise p.block p.is_block;
@@ -130,7 +130,7 @@ module _ (all : List ShapeGiven) (s : ShapeGiven) (rest : List ShapeGiven) (old 
 pub no_rows : (all : List ShapeGiven) → AreGivenShapes all → Rise (given_ids all) → AreRowsUpTo all all []
 no_rows all given rise = record { entries = IsPermutation-refl _; rise = rise; sound = refl; given = given }
 
-pub all_rows : (all : List ShapeGiven) (rows : List Row) → AreRowsUpTo all [] rows → AreRowsOf all rows
+pub all_rows : (all : List ShapeGiven) (rows : List GraphRow) → AreRowsUpTo all [] rows → AreRowsOf all rows
 all_rows all rows h = record {
   entries = subst (IsPermutation (given_entries all)) (append-nil (entries_of_rows rows)) h.entries;
   rise = subst Rise (append-nil (ids_of rows)) h.rise;

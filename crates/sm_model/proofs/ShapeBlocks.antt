@@ -15,12 +15,12 @@ use Rattle.sm_model.specs.GraphRows.{are_below, ids_of, is_sound_row, row_entry}
 use Rattle.sm_model.specs.steps.Blocks.{IsMemberBlock, PutsBlock}
 use Rattle.sm_model.specs.steps.Rising.{KeepsMap}
 use Rattle.sm_model.specs.declared.graph.given.GraphShape.{GraphShape}
-use Rattle.sm_model.specs.declared.graph.rows.Row.{Row}
+use Rattle.sm_model.specs.declared.graph.rows.GraphRow.{GraphRow}
 use Rattle.sm_model.specs.declared.graph.rows.RowEntry.TheVariants.{Shape}
 use Rattle.sm_model.proofs.Sorting.{map_twice}
 
 -- the row of a shape
-abbrev pub shape_row : GraphShape → Pairs → List ℕ → Row
+abbrev pub shape_row : GraphShape → Pairs → List ℕ → GraphRow
 shape_row s traits numbers = record {
   id = s.id;
   traits = traits;
@@ -42,7 +42,7 @@ same_entry s ids names traits given e f =
     ap (λ m. (s.id, shape_entry (record { kind = s.kind; members = m; properties = node_of s.properties; traits = given }))) (sym e)
     ∙ ap (λ t. (s.id, shape_entry (record { kind = s.kind; members = ids; properties = node_of s.properties; traits = t }))) f
 
-module _ (s : GraphShape) (traits : Pairs) (numbers : List ℕ) (old rows : List Row)
+module _ (s : GraphShape) (traits : Pairs) (numbers : List ℕ) (old rows : List GraphRow)
     (sorted : is_sorted text_cmp (pairs_view traits) ≡ true) (same : KeepsMap (pairs_view s.traits) (pairs_view traits))
     (h : IsMemberBlock (length old + 1) s.id (members_given_of s.members) numbers rows) where
   first_entry : (before : List (List ℕ)) → length before ≡ length old
@@ -65,7 +65,7 @@ module _ (s : GraphShape) (traits : Pairs) (numbers : List ℕ) (old rows : List
       (and_from (is_sorted text_cmp (pairs_view traits)) (are_below n numbers) sorted
       (subst (λ k. are_below k numbers ≡ true) (sym e) h.numbered.below)) (h.sound n)
 
-  pub puts_block : (new : List Row) → new ≡ (old ++ shape_row s traits numbers ∷ []) ++ rows → PutsBlock (shape_given_view s) old new
+  pub puts_block : (new : List GraphRow) → new ≡ (old ++ shape_row s traits numbers ∷ []) ++ rows → PutsBlock (shape_given_view s) old new
   puts_block new appended = record {
     block = shape_row s traits numbers ∷ rows;
     appended = appended ∙ append_assoc old (shape_row s traits numbers ∷ []) rows;

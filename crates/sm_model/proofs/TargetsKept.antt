@@ -15,7 +15,7 @@ use Rattle.sm_model.specs.GraphView.{At, IsMemberAt, IsMemberEntry, Stands, entr
 use Rattle.sm_model.specs.steps.TargetNumbers.{IsNumberAmong, IsTargetNumber}
 use Rattle.sm_model.specs.steps.Rising.{Rise}
 use Rattle.sm_model.specs.declared.graph.Graph.{Graph}
-use Rattle.sm_model.specs.declared.graph.rows.Row.{Row}
+use Rattle.sm_model.specs.declared.graph.rows.GraphRow.{GraphRow}
 use Rattle.sm_model.specs.declared.graph.rows.RowEntry.{RowEntry}
 use Rattle.sm_model.specs.declared.graph.rows.RowEntry.TheVariants.{Shape, Member}
 use Rattle.sm_model.proofs.GraphFacts.{entry_under, id_at}
@@ -55,7 +55,7 @@ module _ (g : Graph) where
   entry_stands traits (Shape s) found is member = absurd member
   entry_stands traits (Member target) found is member = number_stands target found is
 
-  row_stands : (found : Option ℕ) (o : Option Row) → IsSomeAnd o (λ r. IsTargetNumber (ids g) r.entry found)
+  row_stands : (found : Option ℕ) (o : Option GraphRow) → IsSomeAnd o (λ r. IsTargetNumber (ids g) r.entry found)
       → IsSomeAnd (option_map (row_entry (ids g)) o) (λ e. IsMemberEntry e.1)
       → IsSomeAnd (option_map (row_entry (ids g)) o) (λ e. IsNumberOf g (target_of e.1) found)
   row_stands found None is member = is

@@ -20,14 +20,14 @@ mod sorting;
 mod targets;
 
 pub use given::{GraphMember, GraphMembers, GraphShape};
-pub use rows::{Numbers, Row, RowEntry, ShapeRow};
+pub use rows::{GraphRow, Numbers, RowEntry, ShapeRow};
 use sm_tree::Pairs;
 
 /// The shapes of a model. Contracts see a finite map from ids to shapes and members, and a finite map of metadata. A shape or
 /// member has a number, its place in the order of ids. The numbers that members target are looked up once, when the graph is made.
 #[derive(Debug, Drop)]
 pub struct Graph {
-    rows: Vec<Row>,
+    rows: Vec<GraphRow>,
     metadata: Pairs,
     targets: Vec<Option<u32>>,
     ghost few: { vec_len rows < 2 ^ 32 },

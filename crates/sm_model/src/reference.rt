@@ -47,7 +47,7 @@ impl Uses {
         }
     }
 
-    /// The same ids for one reference more. No memory: it is refused only where no more references can be counted.
+    /// These ids once more, for another reference. No memory: it is refused only where no more references can be counted.
     pub fn share(&self) -> Result<Self, NoMemory>
         ensures { IfOk result (λ uses. uses ≡ self.now) }
     {

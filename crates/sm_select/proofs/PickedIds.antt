@@ -12,7 +12,7 @@ use Rattle.sm_model.specs.GraphRows.{id_of_row, row_entry}
 use Rattle.sm_model.specs.GraphView.{entries_of, ids, maps_of}
 use Rattle.sm_model.specs.PreludeShapes.{is_prelude_id}
 use Rattle.sm_model.specs.declared.graph.Graph.{Graph}
-use Rattle.sm_model.specs.declared.graph.rows.Row.{Row}
+use Rattle.sm_model.specs.declared.graph.rows.GraphRow.{GraphRow}
 use Rattle.sm_model.proofs.Searching.{and_left, and_right, less_from}
 use Rattle.sm_model.specs.Reaching.{AreMarks, id_of_number, IsMarked}
 use Rattle.sm_model.proofs.NumberedIds.{number_of}
@@ -51,7 +51,7 @@ unfolding IsStrictlySortedBy
 keys_sorted [] h = tt
 keys_sorted (e ∷ es) h = (all_above e.0 es (and_left _ _ h), keys_sorted es (and_right (below_all text_cmp e.0 es) _ h))
 
-row_keys : (names : List (List ℕ)) (rows : List Row)
+row_keys : (names : List (List ℕ)) (rows : List GraphRow)
     → map (λ (e : List ℕ × Entry). e.0) (map (row_entry names) rows) ≡ map id_of_row rows
 row_keys names [] = refl
 row_keys names (r ∷ rs) = ap (λ ks. r.id ∷ ks) (row_keys names rs)

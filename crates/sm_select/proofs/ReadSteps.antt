@@ -7,7 +7,7 @@ use Rattle.sm_select.specs.Grammar.{type_word}
 use Rattle.sm_select.specs.Selectors.{Step, Steps, of_kind, steps_of}
 use Rattle.sm_select.specs.View.{step_view}
 use Rattle.sm_select.specs.declared.selector.SelectorStep.TheVariants.{Any, Forward, Back, Walk}
-use Rattle.sm_select.specs.declared.tokens.Form.TheVariants.{Is, Not, Test}
+use Rattle.sm_select.specs.declared.tokens.SelectorForm.TheVariants.{Is, Not, Test}
 use Rattle.sm_select.specs.Answers.{ParsesSelector}
 use Rattle.sm_select.specs.declared.refusal.SelectorRefusal.{SelectorRefusal}
 use Rattle.sm_select.specs.declared.refusal.SelectorRefusal.TheVariants.{Syntax, OutOfProfile, NoMemory}

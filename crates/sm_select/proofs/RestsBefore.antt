@@ -5,8 +5,8 @@ use Rattle.sm_select.specs.Selectors.{Attribute, id_of, namespace_of, name_of, m
 use Rattle.sm_select.specs.Selectors.{Step, any_shape, of_kind, has, compares, forward, back, walk, along, picked_by, picks_none}
 use Rattle.sm_select.specs.Selectors.{picks_some}
 use Rattle.sm_select.specs.Selectors.{Steps, no_steps, then, Alternatives, no_selectors, or_by, steps_of, alternatives_of}
-use Rattle.sm_select.specs.declared.tokens.Form.{Form}
-use Rattle.sm_select.specs.declared.tokens.Form.TheVariants.{Is, Not, Test}
+use Rattle.sm_select.specs.declared.tokens.SelectorForm.{SelectorForm}
+use Rattle.sm_select.specs.declared.tokens.SelectorForm.TheVariants.{Is, Not, Test}
 use Rattle.sm_select.specs.Tokens.{Token, terminal, word}
 use Rattle.sm_select.specs.Grammar.{type_word, SpellsPath, SpellsStep, SpellsSteps, SpellsMoreList}
 use Rattle.sm_select.specs.steps.Places.{Piece, ReadAs, Frame, frame, held, IsListed, Place, stepping, path_wanted, trait_wanted}
@@ -107,7 +107,7 @@ form_not ss fs t ts steps e (on, r, spelled, (more, after, b, c, listed, inl one
     moved = subst (λ x. Closing fs x c steps) (ap (λ x. ss ++ picks_none x ∷ step_list after) (steps_back on)
         ∙ sym (append_assoc ss (picks_none on ∷ []) (step_list after))) closing
 
-form_closed : (s : Step) (ss : List Step) (form : Form) (outer : List Step) (done : List (List Step)) (fs : List Frame) (t : Token)
+form_closed : (s : Step) (ss : List Step) (form : SelectorForm) (outer : List Step) (done : List (List Step)) (fs : List Frame) (t : Token)
     (ts : List Token)
     (steps : Steps) → t ≡ terminal (codes ")") → Onward (outer ++ held form (done ++ (s ∷ ss) ∷ []) ∷ []) fs ts steps
     → Rest (stepping (s ∷ ss) (frame form outer done ∷ fs)) (t ∷ ts) steps
@@ -126,7 +126,7 @@ form_closed s ss form outer done fs t ts steps e (on, b, went, closing) = (
     moved : Closing fs (outer ++ held form (done ++ ((s ∷ ss) ++ []) ∷ []) ∷ step_list on) b steps
     moved = subst (λ x. Closing fs x b steps) same closing
 
-form_goes_on : (s : Step) (ss : List Step) (form : Form) (outer : List Step) (done : List (List Step)) (fs : List Frame) (t : Token)
+form_goes_on : (s : Step) (ss : List Step) (form : SelectorForm) (outer : List Step) (done : List (List Step)) (fs : List Frame) (t : Token)
     (ts : List Token)
     (steps : Steps) → IsListed form → t ≡ terminal (codes ",")
     → Rest (stepping [] (frame form outer (done ++ (s ∷ ss) ∷ []) ∷ fs)) ts steps

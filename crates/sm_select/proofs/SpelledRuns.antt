@@ -8,8 +8,8 @@ use Rattle.sm_select.specs.Selectors.{Attribute, id_of, namespace_of, name_of, m
 use Rattle.sm_select.specs.Selectors.{Step, any_shape, of_kind, has, compares, forward, back, walk, along, picked_by, picks_none}
 use Rattle.sm_select.specs.Selectors.{picks_some}
 use Rattle.sm_select.specs.Selectors.{Steps, no_steps, then, Alternatives, no_selectors, or_by, steps_of}
-use Rattle.sm_select.specs.declared.tokens.Form.{Form}
-use Rattle.sm_select.specs.declared.tokens.Form.TheVariants.{Is, Not, Test}
+use Rattle.sm_select.specs.declared.tokens.SelectorForm.{SelectorForm}
+use Rattle.sm_select.specs.declared.tokens.SelectorForm.TheVariants.{Is, Not, Test}
 use Rattle.sm_select.specs.declared.tokens.Sign.TheVariants.{Star, Greater, Smaller, Tilde, OpenNames, CloseNames, OpenPath, ClosePath}
 use Rattle.sm_select.specs.declared.tokens.Sign.TheVariants.{OpenIs, OpenNot, OpenTest, Close, Comma, Bar, IdNamespace, IdName, IdMember}
 use Rattle.sm_select.specs.declared.tokens.Sign.TheVariants.{TraitBar, Op}
@@ -231,7 +231,7 @@ mutual
       (more_run on (ss ++ step ∷ []) fs behind r q more
       (subst (λ x. Runs (stepping x fs) r q) (sym (append_assoc ss (step ∷ []) (step_list on))) run))
 
-  list_run : (a : Alternatives) (form : Form) (outer : List Step) (done : List (List Step)) (fs : List Frame) (ts r : List Token) (q :
+  list_run : (a : Alternatives) (form : SelectorForm) (outer : List Step) (done : List (List Step)) (fs : List Frame) (ts r : List Token) (q :
       Place)
       → IsListed form
       → SpellsList a ts r
@@ -245,7 +245,7 @@ mutual
       (more_list_run a some.0 some.1 form outer done fs behind r q several more
       (subst (λ x. Runs (stepping (outer ++ held form (done ++ x ∷ selector_list a) ∷ []) fs) r q) some.2 run)))
 
-  more_list_run : (a : Alternatives) (s : Step) (ss : List Step) (form : Form) (outer : List Step) (done : List (List Step)) (fs : List
+  more_list_run : (a : Alternatives) (s : Step) (ss : List Step) (form : SelectorForm) (outer : List Step) (done : List (List Step)) (fs : List
       Frame)
       (ts r : List Token)
       (q : Place) → IsListed form

@@ -10,8 +10,8 @@ use Rattle.sm_select.specs.declared.selector.Selector.{Selector}
 use Rattle.sm_select.specs.declared.selector.Selectors.{Selectors}
 use Rattle.sm_select.specs.declared.selector.SelectorStep.{SelectorStep}
 use Rattle.sm_select.specs.declared.selector.SelectorStep.TheVariants.{Is as is_step, Not as not_step, Test as test_step}
-use Rattle.sm_select.specs.declared.tokens.Form.{Form}
-use Rattle.sm_select.specs.declared.tokens.Form.TheVariants.{Is, Not, Test}
+use Rattle.sm_select.specs.declared.tokens.SelectorForm.{SelectorForm}
+use Rattle.sm_select.specs.declared.tokens.SelectorForm.TheVariants.{Is, Not, Test}
 use Rattle.sm_select.specs.declared.refusal.SelectorRefusal.{SelectorRefusal}
 use Rattle.sm_select.specs.declared.refusal.SelectorRefusal.TheVariants.{Syntax, OutOfProfile, NoMemory}
 use Rattle.sm_select.specs.declared.tokens.Sign.{Sign}
@@ -78,12 +78,12 @@ pub no_comma_in_not : (xs outer : List Step) (all fs : List Frame) (n : Place) �
     → ⊥
 no_comma_in_not xs outer all fs n e m = subst IsListedFirst e (another_parts m).1
 
-close_moves : (xs outer : List Step) (form : Form) (done : List (List Step)) (fs : List Frame) → (xs ≡ [] → ⊥)
+close_moves : (xs outer : List Step) (form : SelectorForm) (done : List (List Step)) (fs : List Frame) → (xs ≡ [] → ⊥)
     → Moves (stepping xs (frame form outer done ∷ fs)) (sign Close) (stepping (outer ++ held form (done ++ xs ∷ []) ∷ []) fs)
 close_moves [] outer form done fs some = absurd (some refl)
 close_moves (x ∷ xs) outer form done fs some = closes
 
-comma_moves : (xs outer : List Step) (form : Form) (done : List (List Step)) (fs : List Frame) → (xs ≡ [] → ⊥) → IsListed form
+comma_moves : (xs outer : List Step) (form : SelectorForm) (done : List (List Step)) (fs : List Frame) → (xs ≡ [] → ⊥) → IsListed form
     → Moves (stepping xs (frame form outer done ∷ fs)) (sign Comma) (stepping [] (frame form outer (done ++ xs ∷ []) ∷ fs))
 comma_moves [] outer form done fs some listed = absurd (some refl)
 comma_moves (x ∷ xs) outer form done fs some listed = another listed
@@ -107,7 +107,7 @@ pub not_held : (last : Selector) (xs : List Step) → selector_view last ≡ xs 
 not_held last xs f = step_not last ∙ ap (λ x. picks_none (steps_of x)) f
 
 -- the form that closed is a step behind those before it
-pub closed_moves : (form : Form) (xs outer now_steps : List Step) (done : List (List Step)) (all fs : List Frame) (step : Step)
+pub closed_moves : (form : SelectorForm) (xs outer now_steps : List Step) (done : List (List Step)) (all fs : List Frame) (step : Step)
     → (xs ≡ [] → ⊥)
     → all ≡ frame form outer done ∷ fs
     → step ≡ held form (done ++ xs ∷ [])
@@ -121,7 +121,7 @@ closed_moves form xs outer now_steps done all fs step some e f g =
     (close_moves xs outer form done fs some)))
 
 -- a form that goes on holds the selector before the comma
-pub continued_moves : (form : Form) (xs outer : List Step) (done more : List (List Step)) (all fs : List Frame) → (xs ≡ [] → ⊥)
+pub continued_moves : (form : SelectorForm) (xs outer : List Step) (done more : List (List Step)) (all fs : List Frame) → (xs ≡ [] → ⊥)
     → IsListed form
     → all ≡ frame form outer done ∷ fs
     → more ≡ done ++ xs ∷ []
@@ -182,7 +182,7 @@ frames_popped old os forms o f e g h =
     ap (λ x. frames_onto x []) e ∙ frames_pushed os o [] ∙ ap (λ x. x ∷ frames_onto os []) g ∙ ap (λ x. f ∷ frames_onto x []) (sym h)
 
 -- the innermost form closes
-pub form_closed : (form : Form) (ss : List SelectorStep) (old os forms : List OpenForm) (o : OpenForm) (outer steps : List SelectorStep)
+pub form_closed : (form : SelectorForm) (ss : List SelectorStep) (old os forms : List OpenForm) (o : OpenForm) (outer steps : List SelectorStep)
     (done : List (List Step)) (step : Step) (now : Place) (result : Result Bool SelectorRefusal) → (ss ≡ [] → ⊥)
     → old ≡ os ++ o ∷ []
     → frame_of o ≡ frame form (step_views outer) done
@@ -198,7 +198,7 @@ form_closed form ss old os forms o outer steps done step now result some e g f s
     (some_steps ss some) (frames_popped old os forms o (frame form (step_views outer) done) e g rest) f (ap step_views same)) is
 
 -- the innermost form goes on
-pub form_continued : (form : Form) (ss : List SelectorStep) (old os forms : List OpenForm) (o longer : OpenForm)
+pub form_continued : (form : SelectorForm) (ss : List SelectorStep) (old os forms : List OpenForm) (o longer : OpenForm)
     (outer steps : List SelectorStep)
     (done more : List (List Step)) (now : Place) (result : Result Bool SelectorRefusal) → (ss ≡ [] → ⊥)
     → IsListed form

@@ -42,7 +42,7 @@ pub fn select_among(
     }
 }
 
-// The same of steps that don't move.
+// Which of the numbers are picked by steps that don't move.
 fn still_among(
     alloc: Global,
     graph: &Graph,

@@ -243,7 +243,7 @@ pub(crate) fn is_named(graph: &Graph, number: u32, named: Option<Kind>) -> bool
     }
 }
 
-// The same of a type.
+// Whether a shape has the type that is named, or one that it takes in.
 fn is_of_kind(graph: &Graph, number: u32, named: Kind) -> bool
     requires { IsShapeNumber graph.now number }
     ensures { IsTrue result ↔ IsNamedAt (Some named) (maps_of graph.now) (id_of_number graph.now number) }

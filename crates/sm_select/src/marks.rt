@@ -16,7 +16,7 @@ pub fn all_marked(alloc: Global, count: u32) -> Result<Vec<bool>, NoMemory>
     Ok(marks)
 }
 
-/// The same marks.
+/// A copy of the marks.
 pub(crate) fn same_marks(alloc: Global, marks: &[bool]) -> Result<Vec<bool>, NoMemory>
     ensures { IfOk result (λ copy. copy.items ≡ marks.now) }
 {

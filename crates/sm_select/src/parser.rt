@@ -20,7 +20,7 @@ use crate::parser_stack::Open;
 use crate::parser_text::Reading;
 use crate::refusal::SelectorRefusal;
 use crate::selector::{Selector, SelectorStep};
-use crate::tokens::{Form, Sign};
+use crate::tokens::{SelectorForm, Sign};
 use sm_model::Kind;
 use std::alloc::Global;
 
@@ -87,7 +87,7 @@ fn opened(
     reading: &mut Reading<'_>,
     stack: &mut Open,
     sign: Sign,
-    form: Form,
+    form: SelectorForm,
 ) -> Result<(), SelectorRefusal>
     requires stands { stands sign reading.old.rest.now ≡ true }
     requires moves { (ss : List Step) (fs : List Frame) → Moves (stepping ss fs) (a_sign sign) (stepping [] (frame form ss [] ∷ fs)) }
@@ -183,11 +183,11 @@ fn form_step(
     ensures len { reading.new.len ≡ reading.old.len }
 {
     if reading.starts(Sign::OpenIs) {
-        opened(alloc, reading, stack, Sign::OpenIs, Form::Is)
+        opened(alloc, reading, stack, Sign::OpenIs, SelectorForm::Is)
     } else if reading.starts(Sign::OpenNot) {
-        opened(alloc, reading, stack, Sign::OpenNot, Form::Not)
+        opened(alloc, reading, stack, Sign::OpenNot, SelectorForm::Not)
     } else if reading.starts(Sign::OpenTest) {
-        opened(alloc, reading, stack, Sign::OpenTest, Form::Test)
+        opened(alloc, reading, stack, Sign::OpenTest, SelectorForm::Test)
     } else if reading.starts(Sign::Close) {
         closed(reading, stack)
     } else if reading.starts(Sign::Comma) {

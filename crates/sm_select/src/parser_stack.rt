@@ -7,7 +7,7 @@ ghost use Rattle.sm_select.specs.steps.Stack.{IsMoved, IsNow, IsOnlySelector, Is
 
 use crate::refusal::SelectorRefusal;
 use crate::selector::{Selector, SelectorStep, Selectors};
-use crate::tokens::Form;
+use crate::tokens::SelectorForm;
 use std::alloc::Global;
 use std::mem;
 
@@ -55,16 +55,16 @@ fn with_last(mut done: Vec<Selector>, last: Selector) -> Result<Vec<Selector>, S
 }
 
 // A form that has opened behind these steps.
-fn opened(alloc: Global, form: Form, before: Vec<SelectorStep>) -> OpenForm
+fn opened(alloc: Global, form: SelectorForm, before: Vec<SelectorStep>) -> OpenForm
     ensures { frame_of result ≡ frame form (step_views before.items) [] }
 {
     match form {
-        Form::Is => OpenForm::Is(Listed {
+        SelectorForm::Is => OpenForm::Is(Listed {
             before,
             done: Vec::new(alloc),
         }),
-        Form::Not => OpenForm::Not(before),
-        Form::Test => OpenForm::Test(Listed {
+        SelectorForm::Not => OpenForm::Not(before),
+        SelectorForm::Test => OpenForm::Test(Listed {
             before,
             done: Vec::new(alloc),
         }),
@@ -102,7 +102,7 @@ impl Open {
 
     /// A form opens.
     #[tactic(auto, using(crate::proofs::StackPlaces::form_held))]
-    pub fn enter(&mut self, alloc: Global, form: Form) -> Result<(), SelectorRefusal>
+    pub fn enter(&mut self, alloc: Global, form: SelectorForm) -> Result<(), SelectorRefusal>
         ensures { IsNow (stepping [] (frame form (step_views self.old.steps.items) [] ∷ frames_onto self.old.forms.items []))
             (place_of self.new) result }
     {

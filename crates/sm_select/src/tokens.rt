@@ -32,7 +32,7 @@ pub enum Sign {
 
 /// A form that holds selectors.
 #[derive(Debug, Clone, Copy, PartialEq, Eq, Drop)]
-pub enum Form {
+pub enum SelectorForm {
     Is,
     Not,
     Test,

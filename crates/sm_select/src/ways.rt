@@ -68,7 +68,8 @@ pub fn image_along(
     followed(alloc, &ways.links, relations, back, starts)
 }
 
-/// The same by any relation but that from a member to its shape.
+/// The numbers to which one link of any relation but that from a member to its shape leads from marked ones, or with `back` from which
+/// it leads to them, as marks.
 pub(crate) fn image_of_one(
     alloc: Global,
     graph: &Graph,
@@ -83,7 +84,8 @@ pub(crate) fn image_of_one(
     image_along(alloc, graph, ways, &FOLLOWED, back, starts)
 }
 
-/// The same by one such step or more of any relation but that from a member to its shape. Each step is taken once.
+/// The numbers to which one link or more of any relation but that from a member to its shape lead from marked ones, or with `back`
+/// from which they lead to them, as marks. Each link is taken once.
 pub fn image_of_walk(
     alloc: Global,
     graph: &Graph,
@@ -102,7 +104,7 @@ pub fn image_of_walk(
     }
 }
 
-// The same, where these are the steps.
+// The numbers to which one of these steps or more lead from marked ones, as marks.
 fn image_by_steps(
     alloc: Global,
     graph: &Graph,

@@ -15,31 +15,10 @@ use Rattle.sm_model.specs.declared.property.PropertyForm.TheVariants.{Reference,
 use Rattle.sm_ast.specs.declared.layout.ShapeType.{ShapeType}
 use Rattle.sm_ast.specs.declared.layout.ShapeType.TheVariants.{Defined, Applied}
 use Rattle.sm_ast.specs.Ids.{is_id}
-use Rattle.sm_tree.specs.Parts.{text_in, entries_in, pairs_in, tree_named}
+use Rattle.sm_tree.specs.Parts.{tree_named}
+use Rattle.sm_ast.specs.PartsSaid.{text_said, entries_said, pairs_said}
 use Rattle.sm_ast.specs.Faults.{type_said}
 use Rattle.sm_ast.specs.Layout.{metadata_name, shapes_name, target_name, traits_name, type_name, members_name, mixins_name}
-
--- the parts of a tree, or none
-abbrev pub text_or_empty : Option (List ℕ) → List ℕ
-text_or_empty None = []
-text_or_empty (Some t) = t
-
-abbrev pub entries_or_none : Option Nodes → Nodes
-entries_or_none None = no_nodes
-entries_or_none (Some ns) = ns
-
-abbrev pub pairs_or_none : Option Members → Members
-pairs_or_none None = no_members
-pairs_or_none (Some ms) = ms
-
-abbrev pub text_said : Node → List ℕ
-text_said n = text_or_empty (text_in n)
-
-abbrev pub entries_said : Node → Nodes
-entries_said n = entries_or_none (entries_in n)
-
-abbrev pub pairs_said : Node → Members
-pairs_said n = pairs_or_none (pairs_in n)
 
 -- a reference, by the pairs of its object
 abbrev pub text_there : Option Node → List ℕ

@@ -5,7 +5,7 @@ ghost use Rattle.sm_tree.specs.View.{node_of, members_view};
 ghost use Rattle.sm_model.specs.Properties.{property_forms};
 ghost use Rattle.sm_tree.specs.Parts.{tree_named};
 ghost use Rattle.sm_ast.specs.Written.{field_there, property_there, written_properties, written_property};
-ghost use Rattle.sm_ast.specs.steps.Saying.{pairs_said};
+ghost use Rattle.sm_ast.specs.PartsSaid.{pairs_said};
 
 use super::field::{put_field, put_filled_list, put_filled_object};
 use super::reference::{reference_entries, reference_pairs, reference_to};

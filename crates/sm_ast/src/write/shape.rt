@@ -4,7 +4,7 @@ ghost use Rattle.sm_tree.specs.View.{node_of, members_view};
 ghost use Rattle.sm_model.specs.Kinds.{member_form};
 ghost use Rattle.sm_model.specs.GraphView.{AreShapeNumbers, At, entries_of, ids, IsShapeAt, IsShapeNumber, maps_of};
 ghost use Rattle.sm_ast.specs.Written.{field_there, shape_object, written_in_form, written_members, written_shapes, written_statement};
-ghost use Rattle.sm_ast.specs.steps.Saying.{pairs_said};
+ghost use Rattle.sm_ast.specs.PartsSaid.{pairs_said};
 ghost use Rattle.sm_ast.specs.steps.Writing.{IsWrittenShape};
 
 use super::field::{put_field, put_object, put_text, put_traits};

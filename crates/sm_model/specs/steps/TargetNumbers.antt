@@ -2,7 +2,7 @@
 use Rattle.std.specs.Prelude.{◌≡◌, ◌<◌, ℕ, List, length, Option, Some, None, MatchOption, IsSomeAnd, get_or, slice_get}
 use Rattle.sm_model.specs.Formed.{StandsAmong}
 use Rattle.sm_model.specs.GraphRows.{ids_of}
-use Rattle.sm_model.specs.declared.graph.rows.Row.{Row}
+use Rattle.sm_model.specs.declared.graph.rows.GraphRow.{GraphRow}
 use Rattle.sm_model.specs.declared.graph.rows.RowEntry.{RowEntry}
 use Rattle.sm_model.specs.declared.graph.rows.RowEntry.TheVariants.{Shape, Member}
 
@@ -20,6 +20,6 @@ abbrev pub IsTargetNumber : List (List ℕ) → RowEntry → Option ℕ → Type
 IsTargetNumber ids e found = MatchOption (target_kept e) (found ≡ None) (λ target. IsNumberAmong ids target found)
 
 -- those of all rows
-pub record AreTargets (rows : List Row) (targets : List (Option ℕ)) : Type 0 where
+pub record AreTargets (rows : List GraphRow) (targets : List (Option ℕ)) : Type 0 where
   pub whole : length targets ≡ length rows
   pub each : (k : ℕ) → k < length rows → IsSomeAnd (slice_get rows k) (λ r. IsTargetNumber (ids_of rows) r.entry (get_or targets k None))

@@ -12,7 +12,7 @@ use super::given::{GraphMember, GraphShape};
 use super::members::MemberRows;
 use super::numbers::numbers_of;
 use super::sorting::{pairs_in_order, rows_in_order};
-use super::{Numbers, Row, RowEntry, ShapeRow};
+use super::{GraphRow, Numbers, RowEntry, ShapeRow};
 use sm_ids::ShapeId;
 use sm_tree::NoMemory;
 use std::alloc::Global;
@@ -21,7 +21,7 @@ use std::alloc::Global;
 #[derive(Drop)]
 struct MemberBlock {
     numbers: Numbers,
-    rows: Vec<Row>,
+    rows: Vec<GraphRow>,
 }
 
 impl MemberBlock {
@@ -48,7 +48,7 @@ impl MemberBlock {
 /// Appends the rows of a shape and of its members.
 pub(crate) fn put_block(
     alloc: Global,
-    rows: &mut Vec<Row>,
+    rows: &mut Vec<GraphRow>,
     shape: GraphShape,
 ) -> Result<(), NoMemory>
     requires given { IsGivenShape (shape_given_view shape) }
@@ -73,7 +73,7 @@ pub(crate) fn put_block(
         properties,
     });
     let traits = pairs_in_order(traits);
-    rows.push(Row { id, traits, entry })?;
+    rows.push(GraphRow { id, traits, entry })?;
     rows.append(&mut member_rows)?;
     Ok(())
 }

@@ -12,12 +12,12 @@ use super::blocks::put_block;
 use super::given::GraphShape;
 use super::sorting::{pairs_in_order, shapes_in_order};
 use super::targets::targets_of;
-use super::{Graph, Row};
+use super::{Graph, GraphRow};
 use sm_tree::{NoMemory, Pairs, Text, Tree};
 use std::alloc::Global;
 
 // The rows of shapes that are in the order of their ids.
-fn rows_of(alloc: Global, shapes: Vec<GraphShape>) -> Result<Vec<Row>, NoMemory>
+fn rows_of(alloc: Global, shapes: Vec<GraphShape>) -> Result<Vec<GraphRow>, NoMemory>
     requires given { AreGivenShapes (given_view shapes.items) }
     requires rise { Rise (given_ids (given_view shapes.items)) }
     requires few { length (given_entries (given_view shapes.items)) < 2 ^ 32 }

@@ -138,7 +138,7 @@ impl Graph {
         }
     }
 
-    // The same where it is no text.
+    // Appends the links to what a value that is no text refers to.
     fn put_parts(
         &self,
         relation: Relation,

@@ -9,7 +9,7 @@ ghost use Rattle.sm_model.specs.GraphView.{AreShapeNumbers, At, HasBodyNode, Has
 ghost use Rattle.sm_model.specs.GraphView.{IsShapeAt, IsMemberAt, Stands, Targets, entries_of, maps_of, target_of};
 
 use super::ordered::value_under;
-use super::{Graph, Row, RowEntry};
+use super::{Graph, GraphRow, RowEntry};
 use crate::kind::Kind;
 use sm_ids::{ShapeId, ShapeIdRef};
 use sm_tree::{Text, Tree};
@@ -23,7 +23,7 @@ impl Graph {
     }
 
     // The row of a number.
-    fn row(&self, number: u32) -> &Row
+    fn row(&self, number: u32) -> &GraphRow
         requires { IsShapeNumber self.now number }
         ensures { IsSomeAnd (slice_get self.now.rows.items number) (λ r. result.now ≡ r) }
     {

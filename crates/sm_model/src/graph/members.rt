@@ -13,7 +13,7 @@ ghost use Rattle.sm_model.specs.steps.Blocks.{AreMemberRows, IsMemberRow};
 
 use super::given::GraphMember;
 use super::sorting::pairs_in_order;
-use super::{Row, RowEntry};
+use super::{GraphRow, RowEntry};
 use sm_ids::{ShapeId, ShapeIdRef};
 use sm_tree::{NoMemory, Pairs, Text};
 use std::alloc::Global;
@@ -39,14 +39,14 @@ fn member_row(
     name: &Text,
     target: ShapeId,
     traits: Pairs,
-) -> Result<Row, NoMemory>
+) -> Result<GraphRow, NoMemory>
     requires shape { IsShapeId shape.now }
     requires name { IsIdentifier name.now }
     requires traits { DifferInNames (are_under (pairs_view traits)) }
     ensures { IfOk result (λ row. IsMemberRow shape.now (record { name = name.now; target = target; traits = pairs_view traits }) row) }
 {
     match ShapeId::new(alloc, &member_ref(shape, name)) {
-        Ok(id) => Ok(Row {
+        Ok(id) => Ok(GraphRow {
             id,
             traits: pairs_in_order(traits),
             entry: RowEntry::Member(target),
@@ -59,7 +59,7 @@ fn member_row(
 #[derive(Drop)]
 pub(crate) struct MemberRows {
     pub(crate) names: Vec<Text>,
-    pub(crate) rows: Vec<Row>,
+    pub(crate) rows: Vec<GraphRow>,
 }
 
 impl MemberRows {

@@ -9,13 +9,13 @@ ghost use Rattle.sm_model.specs.steps.Blocks.{AreNamesIn, AreNumbers};
 ghost use Rattle.sm_model.specs.steps.Rising.{Rise};
 
 use super::members::member_ref;
-use super::{Numbers, Row};
+use super::{GraphRow, Numbers};
 use sm_ids::ShapeId;
 use sm_tree::{NoMemory, Text};
 use std::alloc::Global;
 
 // The place of a member among rows in the order of their ids. No memory.
-fn place_of(shape: &ShapeId, name: &Text, rows: &[Row]) -> usize
+fn place_of(shape: &ShapeId, name: &Text, rows: &[GraphRow]) -> usize
     requires shape { IsShapeId shape.now }
     requires name { IsIdentifier name.now }
     requires rise { Rise (ids_of rows.now) }
@@ -37,7 +37,7 @@ pub(crate) fn numbers_of(
     first: u32,
     shape: &ShapeId,
     names: &[Text],
-    rows: &[Row],
+    rows: &[GraphRow],
 ) -> Result<Numbers, NoMemory>
     requires shape { IsShapeId shape.now }
     requires names { AreNamesIn (ids_of rows.now) shape.now names.now }

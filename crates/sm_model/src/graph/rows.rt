@@ -81,7 +81,7 @@ impl RowEntry {
 
 /// A row: an id, its traits in the order of their ids, and what it is.
 #[derive(Debug, Drop)]
-pub struct Row {
+pub struct GraphRow {
     /// The id of the shape or member.
     pub id: ShapeId,
     /// The traits, in the order of their ids.

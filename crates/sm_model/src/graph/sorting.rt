@@ -9,7 +9,7 @@ ghost use Rattle.sm_model.specs.GraphRows.{ids_of};
 ghost use Rattle.sm_model.specs.Graphs.{text_cmp};
 ghost use Rattle.sm_model.specs.steps.Rising.{KeepsMap, Rise};
 
-use super::Row;
+use super::GraphRow;
 use super::given::GraphShape;
 use sm_tree::{Pairs, Text, Tree};
 
@@ -43,7 +43,7 @@ pub(crate) fn shapes_in_order(mut shapes: Vec<GraphShape>) -> Vec<GraphShape>
 }
 
 /// The rows in the order of their ids.
-pub(crate) fn rows_in_order(mut rows: Vec<Row>) -> Vec<Row>
+pub(crate) fn rows_in_order(mut rows: Vec<GraphRow>) -> Vec<GraphRow>
     requires { DifferInNames (ids_of rows.items) }
     ensures moved { IsPermutation rows.items result.items }
     ensures rise { Rise (ids_of result.items) }

@@ -4,12 +4,12 @@ ghost use Rattle.sm_model.specs.GraphRows.{ids_of};
 ghost use Rattle.sm_model.specs.steps.TargetNumbers.{AreTargets, IsNumberAmong, IsTargetNumber};
 ghost use Rattle.sm_model.specs.steps.Rising.{Rise};
 
-use super::{Row, RowEntry};
+use super::{GraphRow, RowEntry};
 use sm_tree::NoMemory;
 use std::alloc::Global;
 
 /// The number of the row whose id has this text; `None` where none has it. No memory.
-pub(crate) fn number_in(rows: &[Row], id: &str) -> Option<u32>
+pub(crate) fn number_in(rows: &[GraphRow], id: &str) -> Option<u32>
     requires rise { Rise (ids_of rows.now) }
     requires few { length rows.now < 2 ^ 32 }
     ensures { IsNumberAmong (ids_of rows.now) id.now result }
@@ -21,7 +21,7 @@ pub(crate) fn number_in(rows: &[Row], id: &str) -> Option<u32>
 }
 
 /// For each row the number of what it targets; `None` at a shape, and where no row has the id that a member targets. n log n.
-pub(crate) fn targets_of(alloc: Global, rows: &[Row]) -> Result<Vec<Option<u32>>, NoMemory>
+pub(crate) fn targets_of(alloc: Global, rows: &[GraphRow]) -> Result<Vec<Option<u32>>, NoMemory>
     requires rise { Rise (ids_of rows.now) }
     requires few { length rows.now < 2 ^ 32 }
     ensures { IfOk result (λ targets. AreTargets rows.now targets.items) }
@@ -34,7 +34,7 @@ pub(crate) fn targets_of(alloc: Global, rows: &[Row]) -> Result<Vec<Option<u32>>
 }
 
 // The number of what a row targets.
-fn target_in(rows: &[Row], entry: &RowEntry) -> Option<u32>
+fn target_in(rows: &[GraphRow], entry: &RowEntry) -> Option<u32>
     requires rise { Rise (ids_of rows.now) }
     requires few { length rows.now < 2 ^ 32 }
     ensures { IsTargetNumber (ids_of rows.now) entry.now result }

@@ -7,8 +7,8 @@ use Rattle.sm_model.specs.Relations.{relation_name}
 use Rattle.sm_model.specs.declared.kind.Kind.{Kind}
 use Rattle.sm_model.specs.declared.relation.Relation.{Relation}
 use Rattle.sm_select.specs.declared.selector.SelectorOp.{SelectorOp}
-use Rattle.sm_select.specs.declared.tokens.Form.{Form}
-use Rattle.sm_select.specs.declared.tokens.Form.TheVariants.{Is, Not, Test}
+use Rattle.sm_select.specs.declared.tokens.SelectorForm.{SelectorForm}
+use Rattle.sm_select.specs.declared.tokens.SelectorForm.TheVariants.{Is, Not, Test}
 use Rattle.sm_select.specs.declared.tokens.Sign.{Sign}
 use Rattle.sm_select.specs.declared.tokens.Sign.TheVariants.{Star, Greater, Smaller, Tilde, OpenNames, CloseNames, OpenPath, ClosePath}
 use Rattle.sm_select.specs.declared.tokens.Sign.TheVariants.{OpenIs, OpenNot, OpenTest, Close, Comma, Bar, IdNamespace, IdName, IdMember}
@@ -45,17 +45,17 @@ ReadAs (value v) t = (t ≡ quoted v) ⊎ ((t ≡ numeral v) ⊎ (IsIdText v × 
 
 -- a form that is open: the steps before it, and the selectors in it that are whole
 pub data Frame : Type 0 where
-  frame : Form → List Step → List (List Step) → Frame
+  frame : SelectorForm → List Step → List (List Step) → Frame
 
 -- the step that a form is with these selectors
-abbrev pub held : Form → List (List Step) → Step
+abbrev pub held : SelectorForm → List (List Step) → Step
 held Is selectors = picked_by (alternatives_of (map steps_of selectors))
 held Not [] = picks_none no_steps
 held Not (only ∷ more) = picks_none (steps_of only)
 held Test selectors = picks_some (alternatives_of (map steps_of selectors))
 
 -- the form may hold several selectors
-abbrev pub IsListed : Form → Type 0
+abbrev pub IsListed : SelectorForm → Type 0
 IsListed Is = Unit {0}
 IsListed Not = ⊥
 IsListed Test = Unit {0}
@@ -84,10 +84,10 @@ pub data Moves : Place → Piece → Place → Type 0 where
   opens_is : {ss : List Step} {fs : List Frame} → Moves (stepping ss fs) (sign OpenIs) (stepping [] (frame Is ss [] ∷ fs))
   opens_not : {ss : List Step} {fs : List Frame} → Moves (stepping ss fs) (sign OpenNot) (stepping [] (frame Not ss [] ∷ fs))
   opens_test : {ss : List Step} {fs : List Frame} → Moves (stepping ss fs) (sign OpenTest) (stepping [] (frame Test ss [] ∷ fs))
-  closes : {s : Step} {ss : List Step} {form : Form} {outer : List Step} {done : List (List Step)} {fs : List Frame}
+  closes : {s : Step} {ss : List Step} {form : SelectorForm} {outer : List Step} {done : List (List Step)} {fs : List Frame}
       → Moves (stepping (s ∷ ss) (frame form outer done ∷ fs)) (sign Close)
       (stepping (outer ++ held form (done ++ (s ∷ ss) ∷ []) ∷ []) fs)
-  another : {s : Step} {ss : List Step} {form : Form} {outer : List Step} {done : List (List Step)} {fs : List Frame} → IsListed form
+  another : {s : Step} {ss : List Step} {form : SelectorForm} {outer : List Step} {done : List (List Step)} {fs : List Frame} → IsListed form
       → Moves (stepping (s ∷ ss) (frame form outer done ∷ fs)) (sign Comma) (stepping [] (frame form outer (done ++ (s ∷ ss) ∷ []) ∷ fs))
   at_id : {ss : List Step} {fs : List Frame} → Moves (path_wanted ss fs) id_word (behind_path ss fs id_of)
   at_namespace : {ss : List Step} {fs : List Frame} → Moves (path_wanted ss fs) (sign IdNamespace) (behind_path ss fs namespace_of)

@@ -7,7 +7,7 @@ use Rattle.sm_select.specs.declared.parser_stack.OpenForm.{OpenForm}
 use Rattle.sm_select.specs.declared.parser_stack.OpenForm.TheVariants.{Is as an_is, Not as a_not, Test as a_test}
 use Rattle.sm_select.specs.declared.refusal.SelectorRefusal.{SelectorRefusal}
 use Rattle.sm_select.specs.declared.refusal.SelectorRefusal.TheVariants.{Syntax, OutOfProfile, NoMemory}
-use Rattle.sm_select.specs.declared.tokens.Form.TheVariants.{Is, Not, Test}
+use Rattle.sm_select.specs.declared.tokens.SelectorForm.TheVariants.{Is, Not, Test}
 use Rattle.sm_select.specs.steps.Places.{Frame, frame, Moves, sign, Place, stepping}
 use Rattle.sm_select.specs.declared.tokens.Sign.{Sign}
 use Rattle.sm_select.specs.declared.tokens.Sign.TheVariants.{Star, Greater, Smaller, Tilde, OpenPath, OpenNames}

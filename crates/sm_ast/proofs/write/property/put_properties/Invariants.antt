@@ -4,7 +4,7 @@ use Rattle.sm_tree.specs.View.{members_view, node_of}
 use Rattle.sm_model.specs.FieldsView.{fields_view}
 use Rattle.sm_model.specs.Properties.{property_forms}
 use Rattle.sm_ast.specs.Written.{written_properties}
-use Rattle.sm_ast.specs.steps.Saying.{pairs_said}
+use Rattle.sm_ast.specs.PartsSaid.{pairs_said}
 use Rattle.sm_ast.proofs.write.property.put_properties.Given as goal
 
 abbrev pub invariant-loop-field : goal.invariant-loop-field

@@ -4,7 +4,7 @@ use Rattle.std.proofs.lemmas.Result.{IfOk-weaker}
 use Rattle.sm_tree.specs.View.{node_of, members_view}
 use Rattle.sm_model.specs.GraphView.{At, entries_of, ids, maps_of}
 use Rattle.sm_ast.specs.Written.{shape_object, written_members}
-use Rattle.sm_ast.specs.steps.Saying.{pairs_said}
+use Rattle.sm_ast.specs.PartsSaid.{pairs_said}
 use Rattle.sm_ast.specs.steps.Writing.{IsWrittenShape}
 use Rattle.sm_ast.proofs.WrittenAt.{shape_written}
 use Rattle.sm_ast.proofs.write.shape.shape_tree.Goals as goal

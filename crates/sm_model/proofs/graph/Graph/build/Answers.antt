@@ -2,7 +2,7 @@ use Rattle.std.proofs.Common.{◌≡◌, ◌<◌, ◌^◌, List, length, vec_len
 use Rattle.sm_tree.specs.View.{pairs_view}
 use Rattle.sm_model.specs.GraphRows.{ids_of}
 use Rattle.sm_model.specs.steps.TargetNumbers.{AreTargets}
-use Rattle.sm_model.specs.declared.graph.rows.Row.{Row}
+use Rattle.sm_model.specs.declared.graph.rows.GraphRow.{GraphRow}
 use Rattle.sm_model.specs.steps.Rising.{KeepsMap, Rise}
 use Rattle.sm_model.proofs.MadeGraphs.{few_rows, few_sorted, given_sorted, made_map, same_graph, sound_rows}
 use Rattle.sm_model.proofs.graph.Graph.build.Goals as goal
@@ -19,7 +19,7 @@ targets_of-requires-clause-rise c = subst (λ rows. Rise (ids_of rows)) (sym c.a
 
 pub targets_of-requires-clause-few : goal.targets_of-requires-clause-few
 targets_of-requires-clause-few c =
-    subst (λ (rs : List Row). length rs < 2 ^ 32) (sym c.as_slice.ensures.value)
+    subst (λ (rs : List GraphRow). length rs < 2 ^ 32) (sym c.as_slice.ensures.value)
     (few_rows c.args.shapes.items c.shapes_in_order.result.items c.shapes_in_order.ensures.moved c.in_ok-rows.rows.items
     c.in_ok-rows.ensures c.requires.few)
 

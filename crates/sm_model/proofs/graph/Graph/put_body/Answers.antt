@@ -17,4 +17,4 @@ returns-in-Some c =
     (joins_same (Contains c.args.links.now.items) (FieldsLinks g c.kind-kind.result s ps) (BodyLinks g s)
     (Contains c.put_fields.new.links.items)
     (body_links g s c.kind-kind.result ps c.kind-kind.ensures
-    (subst (λ n. At g s (λ id e. HasBodyNode n e)) c.in-Some.ensures c.properties.ensures))) c.put_fields.ensures
+    (subst (λ n. At g s (λ id e. HasBodyNode n e)) c.in-Some.ensures.node c.properties.ensures))) c.put_fields.ensures

@@ -15,4 +15,4 @@ returns-in-Some c =
     (joins_same (Contains c.args.links.now.items) (Runs (λ i. c.in-Some.id.now ≡ i)) (Runs (λ id. node_of c.args.tree.now ≡ text id))
     (Contains c.put_reference.new.links.items)
     (runs_same c.args.self.now c.args.relation c.args.from (λ i. c.in-Some.id.now ≡ i) (λ id. node_of c.args.tree.now ≡ text id)
-    (text_refers (node_of c.args.tree.now) c.in-Some.id.now c.in-Some.ensures))) c.put_reference.ensures
+    (text_refers (node_of c.args.tree.now) c.in-Some.id.now c.in-Some.ensures.node))) c.put_reference.ensures

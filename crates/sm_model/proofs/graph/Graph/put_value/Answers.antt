@@ -9,4 +9,4 @@ returns-in-Some c =
     on_ok_weaker c.put_reference.result
     (subst (λ n. Adds (RunsTo c.args.self.now c.args.relation c.args.from
     (λ id. Refers id n)) c.args.links.now.items c.put_reference.new.links.items)
-    (sym c.in-Some.ensures)) c.put_reference.ensures
+    (sym c.in-Some.ensures.node)) c.put_reference.ensures

@@ -5,4 +5,4 @@ use Rattle.sm_model.proofs.property.PropertyForm.of.Given as goal
 
 abbrev pub invariant-loop-field : goal.invariant-loop-field
 invariant-loop-field l =
-    form_named l.name (fields_view (drop l.field-index l.fields)) ≡ form_named l.name (property_forms l.kind)
+    form_named l.name (fields_view (drop l.field-index l.fields)) ≡ form_named l.name (property_forms l.fn.kind)

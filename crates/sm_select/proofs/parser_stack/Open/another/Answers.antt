@@ -1,7 +1,7 @@
 use Rattle.std.proofs.Common.{◌==◌, [], ◌∷◌, ◌++◌, refl, sym, ap, ◌∙◌}
 use Rattle.sm_select.specs.View.{selector_views}
 use Rattle.sm_select.specs.declared.parser_stack.OpenForm.TheVariants.{Is as an_is, Not as a_not, Test as a_test}
-use Rattle.sm_select.specs.declared.tokens.Form.TheVariants.{Is, Test}
+use Rattle.sm_select.specs.declared.tokens.SelectorForm.TheVariants.{Is, Test}
 use Rattle.sm_select.specs.steps.Stack.{place_of}
 use Rattle.sm_select.proofs.StackPlaces.{form_continued, not_continued, not_empty, selectors_pushed}
 use Rattle.sm_select.proofs.parser_stack.Open.another.Goals as goal

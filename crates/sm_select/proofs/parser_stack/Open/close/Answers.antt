@@ -2,7 +2,7 @@ use Rattle.std.proofs.Common.{◌==◌, [], ◌∷◌, ◌++◌, refl, ap, ◌�
 use Rattle.sm_select.specs.View.{selector_views, step_view, step_views}
 use Rattle.sm_select.specs.declared.parser_stack.OpenForm.TheVariants.{Is as an_is, Not as a_not, Test as a_test}
 use Rattle.sm_select.specs.declared.selector.SelectorStep.TheVariants.{Is as is_step, Not as not_step, Test as test_step}
-use Rattle.sm_select.specs.declared.tokens.Form.TheVariants.{Is, Not, Test}
+use Rattle.sm_select.specs.declared.tokens.SelectorForm.TheVariants.{Is, Not, Test}
 use Rattle.sm_select.specs.steps.Stack.{place_of}
 use Rattle.sm_select.proofs.StackPlaces.{form_closed, is_held, not_empty, not_held, test_held}
 use Rattle.sm_select.proofs.parser_stack.Open.close.Goals as goal
