@@ -6,9 +6,11 @@ use Rattle.std.specs.List.{insert}
 use Rattle.std.specs.List.Sorted.{IsNonDecreasingBy, IsPartitionPoint, IsPartitionedBy}
 use Rattle.std.proofs.lemmas.List.Sorted.{IsPartitionedBy-leb}
 use Rattle.sm_shapes.specs.Values.{Val}
-use Rattle.sm_shapes.specs.ValueView.{val_of, each_field_view}
+use Rattle.sm_shapes.specs.ValueView.{val_of, fields_view, each_field_view}
+use Rattle.sm_shapes.specs.declared.values.Fields.{Fields}
 use Rattle.sm_shapes.specs.declared.values.Value.{Value}
-use Rattle.sm_shapes.specs.FieldPuts.{put_field, has_field, FieldsFrom, FieldsRise}
+use Rattle.sm_shapes.specs.FieldPuts.{put_field, has_field, FieldsFrom, FieldsRise, IsPlaceOf}
+use Rattle.sm_shapes.proofs.ValueViews.{view_fields}
 
 -- numbers that rise, by place
 from_at : (k : ℕ) (fs : List (ℕ × Value)) → FieldsFrom k (each_field_view fs) → (j : ℕ) (d : ℕ × Value) → j < length fs
@@ -24,22 +26,20 @@ rises_at (f ∷ fs) h zero (suc j) d le lt = let up = from_at f.0 fs h.0 j d (om
 rises_at (f ∷ fs) h (suc i) zero d le lt = absurd (omega (arith, le))
 rises_at (f ∷ fs) h (suc i) (suc j) d le lt = rises_at fs h.1 i j d (omega (arith, le)) (omega (arith, lt))
 
--- fields below a place have lower numbers, and those from it on don't
-abbrev pub Parts : ℕ → List (ℕ × Value) → ℕ → Type 0
-Parts k fs i = IsPartitionPoint (λ f. nat_lt f.0 k ≡ true) (λ f. nat_lt f.0 k ≡ false) fs i
-
 abbrev Lower : ℕ → List (ℕ × Value) → ℕ → Type 0
 Lower k fs i = (j : ℕ) (d : ℕ × Value) → j < i → nat_lt (get_or fs j d).0 k ≡ true
 
 abbrev Higher : ℕ → List (ℕ × Value) → ℕ → Type 0
 Higher k fs i = (j : ℕ) (d : ℕ × Value) → i ≤ j → j < length fs → nat_lt (get_or fs j d).0 k ≡ false
 
+abbrev Parts : ℕ → List (ℕ × Value) → ℕ → Type 0
+Parts k fs i = IsPartitionPoint (λ f. nat_lt f.0 k ≡ true) (λ f. nat_lt f.0 k ≡ false) fs i
+
 -- what a search by halves among them says
-pub parts_at : (k : ℕ) (fs seen : List (ℕ × Value)) (i : ℕ) → seen ≡ fs → FieldsRise (each_field_view fs)
-    → (IsPartitionedBy (λ f. nat_lt f.0 k) seen → Parts k seen i) → Lower k fs i × Higher k fs i
-parts_at k fs seen i e rise parted =
-    let rising = subst (IsNonDecreasingBy (λ f. suc f.0)) (sym e) (rises_at fs rise) in
-    let parts = subst (λ xs. Parts k xs i) e (parted (IsPartitionedBy-leb (λ f. suc f.0) seen k rising)) in
+pub parts_at : (k : ℕ) (fs : List (ℕ × Value)) (i : ℕ) → FieldsRise (each_field_view fs)
+    → (IsPartitionedBy (λ f. nat_lt f.0 k) fs → Parts k fs i) → IsPlaceOf k fs i
+parts_at k fs i rise parted =
+    let parts = parted (IsPartitionedBy-leb (λ f. suc f.0) fs k (rises_at fs rise)) in
     (λ j d lt. parts.0 j d (omega arith) lt, parts.1)
 
 put_low : (k : ℕ) (v : Val) (f : ℕ × Val) (fs : List (ℕ × Val)) → nat_lt f.0 k ≡ true → put_field k v (f ∷ fs) ≡ f ∷ put_field k v fs
@@ -82,7 +82,7 @@ has_here : (k : ℕ) (f : ℕ × Val) (fs : List (ℕ × Val)) (b : Bool) → na
 has_here k f fs true e high h = refl
 has_here k f fs false e high h = none_from k f.0 fs (grind (arith, e, high)) h
 
-pub has_at : (k : ℕ) (fs : List (ℕ × Value)) (i : ℕ) → Lower k fs i → Higher k fs i → FieldsRise (each_field_view fs)
+has_at : (k : ℕ) (fs : List (ℕ × Value)) (i : ℕ) → Lower k fs i → Higher k fs i → FieldsRise (each_field_view fs)
     → has_field k (each_field_view fs) ≡ number_at k fs i
 has_at k [] i low high rise = refl
 has_at k (f ∷ fs) zero low high rise =
@@ -91,6 +91,15 @@ has_at k (f ∷ fs) (suc i) low high rise =
     ap (λ b. b || has_field k (each_field_view fs)) (apart_low f.0 k (low 0 f (omega arith)))
     ∙ has_at k fs i (λ j d lt. low (suc j) d (omega (arith, lt)))
     (λ j d at lt. high (suc j) d (omega (arith, at)) (omega (arith, lt))) rise.1
+
+-- among the fields of a structure, which are seen where the place was looked for, and where a field is looked up
+pub has_place : (k : ℕ) (all : Fields) (fs gs : List (ℕ × Value)) (i : ℕ) → fs ≡ all.fields.items → gs ≡ all.fields.items
+    → FieldsRise (fields_view all) → IsPlaceOf k fs i → has_field k (fields_view all) ≡ number_at k gs i
+has_place k all fs gs i e same rise place =
+    let there = subst (λ xs. IsPlaceOf k xs i) e place in
+    ap (has_field k) (view_fields all)
+    ∙ has_at k all.fields.items i there.0 there.1 (subst FieldsRise (view_fields all) rise)
+    ∙ sym (ap (λ xs. number_at k xs i) same)
 
 pub number_some : (k : ℕ) (fs : List (ℕ × Value)) (i : ℕ) (f : ℕ × Value) → slice_get fs i ≡ Some f → number_at k fs i ≡ nat_eq f.0 k
 number_some k [] i f h = absurd cc

@@ -7,8 +7,6 @@ pub mod FieldPlaces
 pub mod PatternNumbers
 pub mod FirstBroken
 mod MembersPut
-pub mod DefaultsPut
-pub mod BindingsPut
 pub mod SortedTwice
 mod KnownValues
 pub mod Regexes

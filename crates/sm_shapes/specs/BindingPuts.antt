@@ -1,8 +1,9 @@
 -- Bindings put into a table, each at the member of its place: what a table is under other bindings.
-use Rattle.std.specs.Prelude.{List, [], ◌∷◌, Option, map}
+use Rattle.std.specs.Prelude.{List, Option, map}
 use Rattle.std.specs.Option.{option_map}
 use Rattle.sm_shapes.specs.TableData.{BindingData, MemberData, TableData}
 use Rattle.sm_shapes.specs.TableView.{binding_data}
+use Rattle.sm_shapes.specs.MemberPuts.{put_each}
 use Rattle.sm_shapes.specs.declared.tables.Binding.{Binding}
 
 -- what bindings stand for
@@ -11,25 +12,10 @@ bindings_view bs = map (option_map binding_data) bs
 
 -- the member with this binding, or with none
 abbrev pub with_binding : MemberData → Option BindingData → MemberData
-with_binding m b = record {
-  shape = m.shape;
-  name = m.name;
-  json_name = m.json_name;
-  target = m.target;
-  required = m.required;
-  constraints = m.constraints;
-  format = m.format;
-  media_type = m.media_type;
-  binding = b;
-  default_node = m.default_node;
-  default = m.default;
-}
+with_binding m b = record m { binding = b }
 
--- where there are fewer, the members behind them stay as they are
 abbrev pub with_bindings : List MemberData → List (Option BindingData) → List MemberData
-with_bindings [] bs = []
-with_bindings (m ∷ ms) [] = m ∷ ms
-with_bindings (m ∷ ms) (b ∷ bs) = with_binding m b ∷ with_bindings ms bs
+with_bindings ms bs = put_each with_binding ms bs
 
 abbrev pub table_with_bindings : TableData → List (Option BindingData) → TableData
-table_with_bindings t bs = record { shapes = t.shapes; members = with_bindings t.members bs; patterns = t.patterns }
+table_with_bindings t bs = record t { members = with_bindings t.members bs }

@@ -1,6 +1,7 @@
 -- Where a field goes among those of a structure, whose numbers rise, and whether one is there.
-use Rattle.std.specs.Prelude.{ℕ, ◌≤◌, nat_lt, nat_eq, Bool, false, ◌||◌, cond, List, [], ◌∷◌}
+use Rattle.std.specs.Prelude.{◌≡◌, ℕ, ◌<◌, ◌≤◌, nat_lt, nat_eq, Bool, true, false, ◌||◌, cond, List, [], ◌∷◌, length, get_or}
 use Rattle.sm_shapes.specs.Values.{Val}
+use Rattle.sm_shapes.specs.declared.values.Value.{Value}
 
 -- a field goes to its place in model order
 abbrev pub put_field : ℕ → Val → List (ℕ × Val) → List (ℕ × Val)
@@ -21,3 +22,9 @@ FieldsFrom k (f ∷ fs) = (k ≤ f.0) × FieldsFrom k fs
 abbrev pub FieldsRise : List (ℕ × Val) → Type 0
 FieldsRise [] = Unit {0}
 FieldsRise (f ∷ fs) = FieldsFrom f.0 fs × FieldsRise fs
+
+-- fields before the place have numbers lower than k, and the others don't
+abbrev pub IsPlaceOf : ℕ → List (ℕ × Value) → ℕ → Type 0
+IsPlaceOf k fs i =
+    ((j : ℕ) (f : ℕ × Value) → j < i → nat_lt (get_or fs j f).0 k ≡ true)
+    × ((j : ℕ) (f : ℕ × Value) → i ≤ j → j < length fs → nat_lt (get_or fs j f).0 k ≡ false)

@@ -8,6 +8,7 @@ pub mod SharedView
 pub mod TableData
 pub mod ConstraintView
 pub mod TableView
+pub mod MemberPuts
 pub mod DefaultPuts
 pub mod BindingPuts
 pub mod Places

@@ -11,7 +11,7 @@ pub use crate::enums::{Numbers, Texts};
 pub struct Constraints {
     /// The least length, or the least number.
     pub min: Option<i64>,
-    /// The greatest.
+    /// The greatest length, or the greatest number.
     pub max: Option<i64>,
     /// The number of a pattern in a store.
     pub pattern: Option<u32>,

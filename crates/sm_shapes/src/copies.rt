@@ -102,8 +102,8 @@ impl MemberNumbers {
 }
 
 impl Constraints {
-    /// The same constraints for one row more. The values of enums are shared, so no memory: it is refused only where no more rows can
-    /// be counted.
+    /// These constraints for one row more. The values of enums are shared, so no memory: it is refused only where no more rows can be
+    /// counted.
     pub fn share(&self) -> Result<Constraints, NoMemory>
         ensures { IfOk result (λ copy. constraint_data copy ≡ constraint_data self.now) }
     {

@@ -113,7 +113,7 @@ impl Texts {
         }
     }
 
-    /// The same texts for one row more. No memory: it is refused only where no more rows can be counted.
+    /// These texts for one row more. No memory: it is refused only where no more rows can be counted.
     pub fn share(&self) -> Result<Self, NoMemory>
         ensures { IfOk result (λ all. all ≡ self.now) }
     {
@@ -252,7 +252,7 @@ impl Numbers {
         }
     }
 
-    /// The same numbers for one row more. No memory: it is refused only where no more rows can be counted.
+    /// These numbers for one row more. No memory: it is refused only where no more rows can be counted.
     pub fn share(&self) -> Result<Self, NoMemory>
         ensures { IfOk result (λ all. all ≡ self.now) }
     {

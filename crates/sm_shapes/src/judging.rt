@@ -108,30 +108,6 @@ impl Constraints {
         }
     }
 
-    // `Pattern`, else `Enum`.
-    fn judge_content<P: Patterns>(
-        &self,
-        table: &Table,
-        kind: ShapeKind,
-        text: &str,
-        patterns: &mut P,
-    ) -> Result<Option<FaultKind>, NoMemory>
-        requires stored { AreStored (table_data table.now).patterns (P.added patterns.old) }
-        requires named { NamesPattern (table_data table.now) (constraint_data self.now).pattern }
-        ensures first { IfOk result (λ first. first ≡ first_broken
-            (pattern_broken (finder (table_data table.now) P.test) (constraint_data self.now).pattern text.now ++ text_broken kind
-            (constraint_data self.now).texts text.now)) }
-        ensures added { P.added patterns.new ≡ P.added patterns.old }
-        ensures refused { P.refused patterns.new ≡ P.refused patterns.old }
-        ensures refusals { P.refusals patterns.new ≡ P.refusals patterns.old }
-    {
-        match self.judge_pattern(table, text, patterns) {
-            Ok(None) => Ok(self.judge_enum(kind, text)),
-            Ok(Some(fault)) => Ok(Some(fault)),
-            Err(refusal) => Err(refusal),
-        }
-    }
-
     /// The first constraint that a text of this kind breaks: `Length`, `Pattern` or `Enum`. The store must have the table's patterns.
     pub fn judge_text<P: Patterns>(
         &self,
@@ -149,9 +125,13 @@ impl Constraints {
         ensures refused { P.refused patterns.new ≡ P.refused patterns.old }
         ensures refusals { P.refusals patterns.new ≡ P.refusals patterns.old }
     {
-        match self.judge_chars(text) {
-            Some(fault) => Ok(Some(fault)),
-            None => self.judge_content(table, kind, text, patterns),
+        if let Some(fault) = self.judge_chars(text) {
+            return Ok(Some(fault));
+        }
+        match self.judge_pattern(table, text, patterns) {
+            Ok(None) => Ok(self.judge_enum(kind, text)),
+            Ok(Some(fault)) => Ok(Some(fault)),
+            Err(refusal) => Err(refusal),
         }
     }
 

@@ -121,7 +121,7 @@ impl StoredRegex {
         }
     }
 
-    // The same by all engines of the crate, made for this text alone.
+    // Whether some part of the text matches, by all engines of the crate, made for this text alone.
     fn searched(&self, alloc: Global, text: &str) -> Result<bool, NoMemory>
         ensures { IfOk result (λ found. found ≡ regex_finds self.now text.now) }
     {

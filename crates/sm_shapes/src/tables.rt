@@ -41,9 +41,9 @@ pub struct TableShape {
     pub kind: ShapeKind,
     /// The numbers of its members, in model order: a list has one, a map its key and its value.
     pub members: MemberNumbers,
-    /// The same numbers, in the byte order of the members' names.
+    /// The numbers of its members, in the byte order of their names.
     pub by_name: MemberNumbers,
-    /// The same, in the byte order of the names that they have where JSON names are looked at.
+    /// The numbers of its members, in the byte order of the names that they have where JSON names are looked at.
     pub by_json_name: MemberNumbers,
     /// The numbers of the members that are required, or have a default or the node of one, in model order.
     pub needed: MemberNumbers,
@@ -157,9 +157,7 @@ impl MemberRows {
             }
         }
     }
-}
 
-impl MemberRows {
     // Puts each binding at the member of its place.
     fn set_bindings(&mut self, bindings: Vec<Option<Binding>>)
         ensures { member_rows self.new ≡ with_bindings (member_rows self.old) (bindings_view bindings.items) }
@@ -263,7 +261,7 @@ impl Table {
         self.shape(shape).by_name.as_slice()
     }
 
-    /// The same, in the byte order of the names that they have where JSON names are looked at. No memory.
+    /// The numbers of a shape's members, in the byte order of the names that they have where JSON names are looked at. No memory.
     pub fn by_json_name(&self, shape: u32) -> &[u32]
         requires { shape < shape_count (table_data self.now) }
         ensures { result.now ≡ by_json_name_at (table_data self.now) shape }
@@ -349,7 +347,7 @@ impl Table {
         }
     }
 
-    /// The same of the name that it has where JSON names are looked at. No memory.
+    /// The name of a member where JSON names are looked at; one that isn't in the table has the empty name. No memory.
     pub fn json_name_of(&self, member: u32) -> &str
         ensures { result.now ≡ json_name_at (table_data self.now) member }
     {

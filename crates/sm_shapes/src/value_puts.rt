@@ -1,8 +1,8 @@
 // Values as they come: entries of a list in their order, and fields of a structure in any order of the members, each to its place in
 // model order.
-ghost use Rattle.std.specs.Prelude.{◌≡◌, ◌++◌, ◌∷◌, [], OnOk};
-ghost use Rattle.sm_shapes.specs.ValueView.{val_of, fields_view, items_view};
-ghost use Rattle.sm_shapes.specs.FieldPuts.{put_field, has_field, FieldsRise};
+ghost use Rattle.std.specs.Prelude.{◌≡◌, ◌≤◌, ◌++◌, ◌∷◌, [], length, OnOk};
+ghost use Rattle.sm_shapes.specs.ValueView.{val_of, fields_view, each_field_view, items_view};
+ghost use Rattle.sm_shapes.specs.FieldPuts.{put_field, has_field, FieldsRise, IsPlaceOf};
 
 use crate::values::{Fields, Items, Value};
 use sm_tree::NoMemory;
@@ -14,7 +14,7 @@ impl Fields {
         requires rises { FieldsRise (fields_view self.old) }
         ensures { OnOk result (fields_view self.new ≡ put_field member (val_of value) (fields_view self.old)) }
     {
-        let place = self.fields.partition_point(|field| field.0 < member);
+        let place = place_of(&self.fields, member);
         self.fields.insert(place, (member, value))?;
         Ok(())
     }
@@ -24,15 +24,13 @@ impl Fields {
         requires rises { FieldsRise (fields_view self.now) }
         ensures { result ≡ has_field member (fields_view self.now) }
     {
-        let place = self.fields.partition_point(|field| field.0 < member);
+        let place = place_of(&self.fields, member);
         match self.fields.get(place) {
             Some(field) => field.0 == member,
             None => false,
         }
     }
-}
 
-impl Fields {
     /// Gives back the room that no field takes. No memory.
     pub fn shrink(&mut self)
         ensures { fields_view self.new ≡ fields_view self.old }
@@ -58,4 +56,13 @@ impl Items {
             Err(_) => Err(NoMemory),
         }
     }
+}
+
+// The place before the first field whose number isn't lower.
+fn place_of(fields: &[(u32, Value)], member: u32) -> usize
+    requires { FieldsRise (each_field_view fields.now) }
+    ensures bound { result ≤ length fields.now }
+    ensures place { IsPlaceOf member fields.now result }
+{
+    fields.partition_point(|field| field.0 < member)
 }
