@@ -30,7 +30,7 @@ pub enum Binding {
 
 /// The side of a message.
 #[derive(Debug, Clone, Copy, PartialEq, Eq, Drop)]
-pub enum Side {
+pub enum BindingSide {
     /// The input of an operation.
     Input,
     /// Its output.
@@ -55,11 +55,11 @@ pub(crate) fn binding_name(binding: Binding) -> &'static str
 }
 
 /// The bindings that count on a side.
-pub(crate) fn bindings_of(side: Side) -> &'static [Binding]
+pub(crate) fn bindings_of(side: BindingSide) -> &'static [Binding]
     ensures { result.now ≡ bindings_in side }
 {
     match side {
-        Side::Input => &[
+        BindingSide::Input => &[
             Binding::Label,
             Binding::Query,
             Binding::QueryParams,
@@ -67,13 +67,13 @@ pub(crate) fn bindings_of(side: Side) -> &'static [Binding]
             Binding::PrefixHeaders,
             Binding::Payload,
         ],
-        Side::Output => &[
+        BindingSide::Output => &[
             Binding::Header,
             Binding::PrefixHeaders,
             Binding::Payload,
             Binding::ResponseCode,
         ],
-        Side::Error => &[Binding::Header, Binding::PrefixHeaders, Binding::Payload],
+        BindingSide::Error => &[Binding::Header, Binding::PrefixHeaders, Binding::Payload],
     }
 }
 

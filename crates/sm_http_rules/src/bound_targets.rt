@@ -15,7 +15,9 @@ ghost use Rattle.sm_http_rules.specs.steps.LeftOut.{AreLeading};
 ghost use Rattle.sm_http_rules.specs.Sides.{AreSides};
 
 use crate::allows::allows;
-use crate::bindings::{Binding, Side, binding_name, bindings_of, carries_binding, carries_one};
+use crate::bindings::{
+    Binding, BindingSide, binding_name, bindings_of, carries_binding, carries_one,
+};
 use crate::left_out::leading_to_left_out;
 use crate::sides::Sides;
 use sm_compile::members_of;
@@ -108,9 +110,33 @@ fn put_on_sides(
         (Puts (IsEventIn HttpTarget (IsBoundWrongly (maps_of graph.now)) (home_of_binding (maps_of graph.now))
         (id_of_number graph.now shape)) events.old.items events.new.items) }
 {
-    put_on_side(alloc, graph, sides, leading, Side::Input, shape, events)?;
-    put_on_side(alloc, graph, sides, leading, Side::Output, shape, events)?;
-    put_on_side(alloc, graph, sides, leading, Side::Error, shape, events)?;
+    put_on_side(
+        alloc,
+        graph,
+        sides,
+        leading,
+        BindingSide::Input,
+        shape,
+        events,
+    )?;
+    put_on_side(
+        alloc,
+        graph,
+        sides,
+        leading,
+        BindingSide::Output,
+        shape,
+        events,
+    )?;
+    put_on_side(
+        alloc,
+        graph,
+        sides,
+        leading,
+        BindingSide::Error,
+        shape,
+        events,
+    )?;
     Ok(())
 }
 
@@ -119,7 +145,7 @@ fn put_on_side(
     graph: &Graph,
     sides: &Sides,
     leading: &[bool],
-    side: Side,
+    side: BindingSide,
     shape: u32,
     events: &mut Vec<ModelEvent>,
 ) -> Result<(), NoMemory>
@@ -145,16 +171,16 @@ fn put_on_side(
     }
 }
 
-fn is_on(sides: &Sides, side: Side, number: usize) -> bool
+fn is_on(sides: &Sides, side: BindingSide, number: usize) -> bool
     requires inputs { number < length sides.now.inputs.items }
     requires outputs { number < length sides.now.outputs.items }
     requires errors { number < length sides.now.errors.items }
     ensures { result ≡ get_or (marks_of sides.now side) number false }
 {
     match side {
-        Side::Input => sides.inputs[number],
-        Side::Output => sides.outputs[number],
-        Side::Error => sides.errors[number],
+        BindingSide::Input => sides.inputs[number],
+        BindingSide::Output => sides.outputs[number],
+        BindingSide::Error => sides.errors[number],
     }
 }
 
@@ -163,7 +189,7 @@ fn put_of_members(
     alloc: Global,
     graph: &Graph,
     leading: &[bool],
-    side: Side,
+    side: BindingSide,
     members: &[u32],
     events: &mut Vec<ModelEvent>,
 ) -> Result<(), NoMemory>
@@ -196,7 +222,7 @@ fn put_each_member(
     alloc: Global,
     graph: &Graph,
     leading: &[bool],
-    side: Side,
+    side: BindingSide,
     payload: bool,
     members: &[u32],
     events: &mut Vec<ModelEvent>,
@@ -216,7 +242,7 @@ fn put_member(
     alloc: Global,
     graph: &Graph,
     leading: &[bool],
-    side: Side,
+    side: BindingSide,
     payload: bool,
     member: u32,
     events: &mut Vec<ModelEvent>,
@@ -297,7 +323,7 @@ fn is_bound_by(graph: &Graph, binding: Binding, member: u32) -> bool
 fn put_beside(
     alloc: Global,
     graph: &Graph,
-    side: Side,
+    side: BindingSide,
     payload: bool,
     member: u32,
     events: &mut Vec<ModelEvent>,
@@ -318,14 +344,14 @@ fn put_beside(
     Ok(())
 }
 
-fn is_beside(graph: &Graph, side: Side, payload: bool, member: u32) -> bool
+fn is_beside(graph: &Graph, side: BindingSide, payload: bool, member: u32) -> bool
     requires { IsShapeNumber graph.now member }
     ensures { result ≡ (payload && is_in_document_at (maps_of graph.now) side (id_of_number graph.now member)) }
 {
     payload && is_in_document(graph, side, member)
 }
 
-fn is_in_document(graph: &Graph, side: Side, member: u32) -> bool
+fn is_in_document(graph: &Graph, side: BindingSide, member: u32) -> bool
     requires { IsShapeNumber graph.now member }
     ensures { result ≡ is_in_document_at (maps_of graph.now) side (id_of_number graph.now member) }
 {

@@ -15,9 +15,9 @@ use sm_compile::{id_text, text_in_trait, trait_node};
 use sm_ids::ShapeId;
 use sm_model::Graph;
 use sm_passes::folded::folded;
-use sm_passes::rows::form::{Form, is_of_form};
+use sm_passes::rows::form::{RowForm, is_of_form};
 use sm_passes::rows::names::{RowTest, some_row};
-use sm_passes::rows::place::Place;
+use sm_passes::rows::place::RowPlace;
 use sm_tree::{NoMemory, Text, Tree};
 use std::alloc::Global;
 
@@ -91,7 +91,7 @@ struct Reads<'a> {
 impl RowTest for Reads<'_> {
     ghost passes = { λ test. reads_by (node_of test.tree.now) };
 
-    fn passes(&self, form: Form, _place: Place) -> bool {
+    fn passes(&self, form: RowForm, _place: RowPlace) -> bool {
         is_of_form(form, self.tree)
     }
 }

@@ -261,33 +261,37 @@ fn is_seen(graph: &Graph, shape: u32, known: &mut Known) -> bool
 {
     match kind_of(graph, shape) {
         Some(kind) => match way_of(kind) {
-            Way::ByRequired => is_passed(graph, shape, members_of(graph, shape), known),
-            Way::ByOne => some_closed(graph, members_of(graph, shape), known.marks.as_slice()),
-            Way::Always => true,
-            Way::Never => false,
+            FiniteWay::ByRequired => is_passed(graph, shape, members_of(graph, shape), known),
+            FiniteWay::ByOne => some_closed(
+                graph,
+                members_of(graph, shape),
+                known.marks.as_slice(),
+            ),
+            FiniteWay::Always => true,
+            FiniteWay::Never => false,
         },
         None => false,
     }
 }
 
 // How a shape comes to a finite value: by those of all required members, by that of one member, in any case, or never.
-enum Way {
+enum FiniteWay {
     ByRequired,
     ByOne,
     Always,
     Never,
 }
 
-fn way_of(kind: Kind) -> Way
+fn way_of(kind: Kind) -> FiniteWay
     ensures { result ≡ way_of kind }
 {
     match kind {
-        Kind::Structure => Way::ByRequired,
-        Kind::Union => Way::ByOne,
-        Kind::Service => Way::Never,
-        Kind::Operation => Way::Never,
-        Kind::Resource => Way::Never,
-        _ => Way::Always,
+        Kind::Structure => FiniteWay::ByRequired,
+        Kind::Union => FiniteWay::ByOne,
+        Kind::Service => FiniteWay::Never,
+        Kind::Operation => FiniteWay::Never,
+        Kind::Resource => FiniteWay::Never,
+        _ => FiniteWay::Always,
     }
 }
 

@@ -26,7 +26,7 @@ use sm_passes::carried::carries;
 use sm_passes::each::{AtOwn, put_outside};
 use sm_passes::owned::is_own_shape;
 use sm_passes::putting::put_if;
-use sm_passes::rows::form::{Form, is_of_form};
+use sm_passes::rows::form::{RowForm, is_of_form};
 use sm_rules::Rule;
 use sm_tree::{NoMemory, Tree};
 use std::alloc::Global;
@@ -410,7 +410,7 @@ fn conflicts_in(tree: Option<&Tree>) -> &[Tree]
 fn conflicts_of(tree: &Tree) -> &[Tree]
     ensures { nodes_of (nodes_view result.now) ≡ conflicts_in (Some (node_of tree.now)) }
 {
-    if is_of_form(Form::Trait, tree) {
+    if is_of_form(RowForm::Trait, tree) {
         entries_where(field_of(tree, "conflicts"))
     } else {
         &[]

@@ -13,7 +13,7 @@ use sm_compile::{field_of, text_in_trait, trait_node};
 use sm_model::Graph;
 use sm_passes::firsts::first_of;
 use sm_passes::owned::is_own_shape;
-use sm_passes::rows::form::{Form, is_of_form};
+use sm_passes::rows::form::{RowForm, is_of_form};
 use sm_tree::{NoMemory, Tree};
 use std::alloc::Global;
 use std::collections::BTreeMap;
@@ -99,7 +99,7 @@ fn selector_of(tree: &Tree) -> Option<&str>
     ensures { option_copied result
         ≡ cond (is_trait_value (node_of tree.now)) (text_of (field_of (codes "selector") (node_of tree.now))) None }
 {
-    if is_of_form(Form::Trait, tree) {
+    if is_of_form(RowForm::Trait, tree) {
         text_in_trait(field_of(tree, "selector"))
     } else {
         None

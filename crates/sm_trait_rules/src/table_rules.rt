@@ -10,9 +10,9 @@ ghost use Rattle.sm_passes.specs.RowTests.{any_row, is_wrong_place, is_wrong_val
 use crate::judged::{Judge, Judged};
 use sm_model::{Graph, ModelEvent};
 use sm_passes::each::put_outside;
-use sm_passes::rows::form::{Form, is_of_form};
+use sm_passes::rows::form::{RowForm, is_of_form};
 use sm_passes::rows::names::{AnyRow, FoundRows, RowTest, rows_of};
-use sm_passes::rows::place::{Place, Stand, allows};
+use sm_passes::rows::place::{RowPlace, Stand, allows};
 use sm_rules::Rule;
 use sm_tree::{NoMemory, Tree};
 use std::alloc::Global;
@@ -25,7 +25,7 @@ struct StandsBy {
 impl RowTest for StandsBy {
     ghost passes = { λ test. stands_by test.at };
 
-    fn passes(&self, _form: Form, place: Place) -> bool {
+    fn passes(&self, _form: RowForm, place: RowPlace) -> bool {
         allows(place, self.at)
     }
 }
@@ -38,7 +38,7 @@ struct ReadsBy<'a> {
 impl RowTest for ReadsBy<'_> {
     ghost passes = { λ test. reads_by (node_of test.tree.now) };
 
-    fn passes(&self, form: Form, _place: Place) -> bool {
+    fn passes(&self, form: RowForm, _place: RowPlace) -> bool {
         is_of_form(form, self.tree)
     }
 }
@@ -52,7 +52,7 @@ struct ReadsThere<'a> {
 impl RowTest for ReadsThere<'_> {
     ghost passes = { λ test. reads_there test.at (node_of test.tree.now) };
 
-    fn passes(&self, form: Form, place: Place) -> bool {
+    fn passes(&self, form: RowForm, place: RowPlace) -> bool {
         let here = allows(place, self.at);
         let reads = is_of_form(form, self.tree);
         both(here, reads)

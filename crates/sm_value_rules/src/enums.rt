@@ -12,7 +12,7 @@ ghost use Rattle.sm_value_rules.specs.steps.Enums as tests;
 ghost use Rattle.sm_value_rules.specs.steps.Enums.{HasNone, HasWrong, ToldValue, ToldValueAt, home_of, own_enum, value_at};
 ghost use Rattle.sm_value_rules.specs.steps.SeenValues.{Holds};
 
-use crate::seen_values::{Seen, value_of};
+use crate::seen_values::{SeenValues, value_of};
 use sm_compile::members_of;
 use sm_model::{Graph, Kind, ModelEvent};
 use sm_passes::each::{AtEach, put_each};
@@ -125,7 +125,7 @@ fn put_values(
     ensures { OnOk result
         (Puts (Below (ToldValueAt graph.now kind members.now) (length members.now)) events.old.items events.new.items) }
 {
-    let mut seen = Seen::new(alloc);
+    let mut seen = SeenValues::new(alloc);
     for member in members {
         put_value(alloc, graph, kind, *member, &mut seen, events)?;
     }
@@ -137,7 +137,7 @@ fn put_value<'a>(
     graph: &'a Graph,
     kind: Kind,
     member: u32,
-    seen: &mut Seen<'a>,
+    seen: &mut SeenValues<'a>,
     events: &mut Vec<ModelEvent>,
 ) -> Result<(), NoMemory>
     requires { IsShapeNumber graph.now member }

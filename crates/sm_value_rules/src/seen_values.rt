@@ -71,21 +71,21 @@ fn number_value<'a>(number: Option<i64>) -> Option<EnumValue<'a>>
 
 /// Values that were seen.
 #[derive(Drop)]
-pub struct Seen<'a> {
+pub struct SeenValues<'a> {
     /// The texts.
     pub texts: BTreeSet<&'a str>,
     /// The numbers.
     pub numbers: BTreeSet<i64>,
 }
 
-impl<'a> Seen<'a> {
+impl<'a> SeenValues<'a> {
     /// None yet. No memory.
     pub fn new(alloc: Global) -> Self
         ensures { (n : Node) → holds result n ≡ false }
     {
         let texts: BTreeSet<&'a str> = BTreeSet::new(alloc);
         let numbers: BTreeSet<i64> = BTreeSet::new(alloc);
-        Seen { texts, numbers }
+        SeenValues { texts, numbers }
     }
 
     /// Takes a value, and tells whether it is new. `NoMemory` where there is no room for it.
