@@ -21,6 +21,7 @@ use crate::bindings::{
 use crate::left_out::leading_to_left_out;
 use crate::sides::Sides;
 use sm_compile::members_of;
+use sm_compile::trait_ids::HTTP_PAYLOAD;
 use sm_model::{Graph, ModelEvent};
 use sm_passes::carried::is_member;
 use sm_passes::each::{AtEach, put_each};
@@ -338,7 +339,7 @@ fn put_beside(
         Rule::HttpTarget,
         member,
         beside,
-        "smithy.api#httpPayload",
+        HTTP_PAYLOAD,
         events,
     )?;
     Ok(())

@@ -13,6 +13,7 @@ ghost use Rattle.sm_passes.specs.Putting.{IsWhere};
 
 use crate::in_body::with_output_body;
 use itoa::Buffer;
+use sm_compile::trait_ids::{ERROR, HTTP_ERROR};
 use sm_compile::{number_of, text_in_trait, trait_node};
 use sm_model::{Graph, ModelEvent};
 use sm_passes::each::{AtEach, put_each};
@@ -118,10 +119,7 @@ fn is_wrong_status(graph: &Graph, number: u32, status: i64) -> bool
     requires { IsShapeNumber graph.now number }
     ensures { result ≡ is_wrong_status (maps_of graph.now) (id_of_number graph.now number) status }
 {
-    !is_status_of(
-        text_in_trait(trait_node(graph, number, "smithy.api#error")),
-        status,
-    )
+    !is_status_of(text_in_trait(trait_node(graph, number, ERROR)), status)
 }
 
 // The status of a structure outside of the prelude.
@@ -130,7 +128,7 @@ fn status_of(graph: &Graph, number: u32) -> Option<i64>
     ensures { result ≡ status_seen (maps_of graph.now) (id_of_number graph.now number) }
 {
     if is_own_structure(graph, number) {
-        number_of(trait_node(graph, number, "smithy.api#httpError"))
+        number_of(trait_node(graph, number, HTTP_ERROR))
     } else {
         None
     }

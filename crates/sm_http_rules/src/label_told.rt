@@ -10,6 +10,7 @@ ghost use Rattle.sm_passes.specs.Putting.{ToldOf};
 ghost use Rattle.sm_http_rules.specs.steps.Labels.{ToldByRows, ToldLabel, ToldMember, is_wrong_member};
 
 use crate::targets::{Wanted, targets_at};
+use sm_compile::trait_ids::REQUIRED;
 use sm_model::{Graph, ModelEvent};
 use sm_passes::carried::carries;
 use sm_passes::firsts::{first_numbers, first_of};
@@ -150,9 +151,7 @@ fn is_wrong_member(graph: &Graph, member: u32, label: Option<u32>, greedy: Optio
     requires { IsShapeNumber graph.now member }
     ensures { result ≡ is_wrong_member (maps_of graph.now) (id_of_number graph.now member) label greedy }
 {
-    is_missing(label)
-        || !carries(graph, member, "smithy.api#required")
-        || is_other_shape(graph, member, greedy)
+    is_missing(label) || !carries(graph, member, REQUIRED) || is_other_shape(graph, member, greedy)
 }
 
 fn is_missing(found: Option<u32>) -> bool

@@ -13,6 +13,7 @@ ghost use Rattle.sm_http_rules.specs.steps.WireNames.{IsHeader, ToldBegun, ToldP
 
 use crate::naming::read_trait;
 use crate::shortest::{begins_with_one, shortest};
+use sm_compile::trait_ids::{HTTP_HEADER, HTTP_PREFIX_HEADERS};
 use sm_compile::{members_of, text_in_trait};
 use sm_model::{Graph, ModelEvent};
 use sm_passes::folded::folded;
@@ -75,7 +76,7 @@ fn add_prefix(
     ensures { OnOk result (prefixes.new.items ≡ prefixes.old.items ++ cons_option
         (prefix_of (maps_of graph.now) (id_of_number graph.now member)) []) }
 {
-    let prefix = text_in_trait(read_trait(graph, member, "smithy.api#httpPrefixHeaders"));
+    let prefix = text_in_trait(read_trait(graph, member, HTTP_PREFIX_HEADERS));
     add_text(alloc, prefix, prefixes)?;
     Ok(())
 }
@@ -137,7 +138,7 @@ fn header_name(graph: &Graph, member: u32) -> Option<&str>
     requires { IsShapeNumber graph.now member }
     ensures { option_copied result ≡ header_name (maps_of graph.now) (id_of_number graph.now member) }
 {
-    text_in_trait(read_trait(graph, member, "smithy.api#httpHeader"))
+    text_in_trait(read_trait(graph, member, HTTP_HEADER))
 }
 
 // Where the header of a member begins with one of them.

@@ -23,6 +23,7 @@ use crate::earlier::{are_apart, earlier_numbers, own_rows};
 use crate::given_names::numbers_alike;
 use crate::name_twins::{NamesInside, names_inside};
 use crate::named::{names_given, rows_among};
+use sm_compile::trait_ids::ERROR;
 use sm_compile::{field_of, id_text, kind_of};
 use sm_model::{Graph, Kind, ModelEvent, pairs_of};
 use sm_passes::carried::carries;
@@ -284,7 +285,7 @@ fn keeps_name(graph: &Graph, number: u32) -> bool
     ensures { result ≡ keeps_name (maps_of graph.now) (id_of_number graph.now number) }
 {
     kind_of(graph, number).is_some()
-        && (carries(graph, number, "smithy.api#error") || is_kept_kind(kind_of(graph, number)))
+        && (carries(graph, number, ERROR) || is_kept_kind(kind_of(graph, number)))
 }
 
 fn is_kept_kind(kind: Option<Kind>) -> bool

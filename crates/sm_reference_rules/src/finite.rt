@@ -12,6 +12,7 @@ ghost use Rattle.sm_rules.specs.Shapes.{HasNoFinite};
 ghost use Rattle.sm_reference_rules.specs.steps.Finding.{AreFinite, IsHome, IsHomeOf, IsNext, IsUser, Knows, Lacks, Moves, Opens, Sees};
 ghost use Rattle.sm_reference_rules.specs.steps.Finding.{SomeClosed, Waits, Wants, is_compound, is_infinite, way_of};
 
+use sm_compile::trait_ids::REQUIRED;
 use sm_compile::{id_text, kind_of, members_of, target_of};
 use sm_model::{Graph, Kind, ModelEvent, is_in_prelude, mark, no_marks};
 use sm_passes::carried::{carries, is_member};
@@ -330,7 +331,7 @@ fn is_wanted(graph: &Graph, member: u32, marks: &[bool]) -> bool
     ensures { (result ≡ true) ↔ Wants graph.now (IsMarked marks.now) (id_of_number graph.now member) }
 {
     if is_member(graph, member) {
-        carries(graph, member, "smithy.api#required") && is_open(graph, member, marks)
+        carries(graph, member, REQUIRED) && is_open(graph, member, marks)
     } else {
         true
     }

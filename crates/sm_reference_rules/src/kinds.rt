@@ -15,6 +15,7 @@ ghost use Rattle.sm_reference_rules.specs.steps.Targets as tests;
 ghost use Rattle.sm_reference_rules.specs.steps.Targets.{ToldMember, ToldReferred};
 
 use crate::references::{AtReference, put_bodies};
+use sm_compile::trait_ids::ERROR;
 use sm_compile::{
     has_trait, has_values, id_text, is_text_kind, kind_of, may_target, member_name, members_of,
     target_of, targets_unit,
@@ -194,7 +195,7 @@ fn may_be_referred(graph: &Graph, relation: Relation, number: u32) -> bool
     ensures { result ≡ tests.may_be_where relation (fin.get (maps_of graph.now).shapes (id_of_number graph.now number)) }
 {
     match kind_of(graph, number) {
-        Some(kind) => may_be_of(relation, kind, has_trait(graph, number, "smithy.api#error")),
+        Some(kind) => may_be_of(relation, kind, has_trait(graph, number, ERROR)),
         None => false,
     }
 }

@@ -11,6 +11,7 @@ ghost use Rattle.sm_reference_rules.specs.steps.Using.{AreUsed, is_unused, wants
 ghost use Rattle.sm_passes.specs.Owned.{is_own_service, is_service};
 
 use sm_compile::kind_of;
+use sm_compile::trait_ids::{MIXIN, TRAIT};
 use sm_model::{Graph, ModelEvent};
 use sm_passes::carried::carries;
 use sm_passes::closures::{is_own_service, is_service};
@@ -149,6 +150,6 @@ fn wants_use(graph: &Graph, number: u32) -> bool
 {
     is_own_shape(graph, number)
         && !is_service(kind_of(graph, number))
-        && !carries(graph, number, "smithy.api#trait")
-        && !carries(graph, number, "smithy.api#mixin")
+        && !carries(graph, number, TRAIT)
+        && !carries(graph, number, MIXIN)
 }

@@ -20,6 +20,7 @@ ghost use Rattle.sm_rules.specs.TraitShapes.{HasConflict, HasExcludedTrait};
 
 use crate::exclusive::put_exclusive;
 use crate::text_set::TextSet;
+use sm_compile::trait_ids::TRAIT;
 use sm_compile::{field_of, trait_node};
 use sm_model::{Graph, ModelEvent, entries_of, text_of};
 use sm_passes::carried::carries;
@@ -391,7 +392,7 @@ fn conflicts_at(graph: &Graph, number: u32) -> &[Tree]
     ensures { nodes_of (nodes_view result.now) ≡ conflicts_under (maps_of graph.now) (id_of_number graph.now number) }
 {
     if is_own_shape(graph, number) {
-        conflicts_in(trait_node(graph, number, "smithy.api#trait"))
+        conflicts_in(trait_node(graph, number, TRAIT))
     } else {
         &[]
     }

@@ -15,6 +15,10 @@ ghost use Rattle.sm_trait_rules.specs.steps.Excluding.{ToldGreater, is_greater, 
 ghost use Rattle.sm_trait_rules.specs.steps.Silent.{no_exclusive};
 ghost use Rattle.sm_passes.specs.Putting.{IsWhere, ToldOf};
 
+use sm_compile::trait_ids::{
+    ERROR, HTTP_HEADER, HTTP_LABEL, HTTP_PAYLOAD, HTTP_PREFIX_HEADERS, HTTP_QUERY,
+    HTTP_QUERY_PARAMS, HTTP_RESPONSE_CODE, IDEMPOTENT, INPUT, OUTPUT, READONLY,
+};
 use sm_model::{Graph, ModelEvent};
 use sm_passes::carried::carries;
 use sm_passes::each::{AtOwn, put_outside};
@@ -79,26 +83,26 @@ fn put_groups(
 fn of_methods() -> &'static [&'static str]
     ensures { texts_of_all result.now ≡ of_methods }
 {
-    &["smithy.api#readonly", "smithy.api#idempotent"]
+    &[READONLY, IDEMPOTENT]
 }
 
 fn of_sides() -> &'static [&'static str]
     ensures { texts_of_all result.now ≡ of_sides }
 {
-    &["smithy.api#input", "smithy.api#output", "smithy.api#error"]
+    &[INPUT, OUTPUT, ERROR]
 }
 
 fn of_bindings() -> &'static [&'static str]
     ensures { texts_of_all result.now ≡ binding_ids }
 {
     &[
-        "smithy.api#httpLabel",
-        "smithy.api#httpQuery",
-        "smithy.api#httpQueryParams",
-        "smithy.api#httpHeader",
-        "smithy.api#httpPrefixHeaders",
-        "smithy.api#httpPayload",
-        "smithy.api#httpResponseCode",
+        HTTP_LABEL,
+        HTTP_QUERY,
+        HTTP_QUERY_PARAMS,
+        HTTP_HEADER,
+        HTTP_PREFIX_HEADERS,
+        HTTP_PAYLOAD,
+        HTTP_RESPONSE_CODE,
     ]
 }
 

@@ -9,6 +9,7 @@ ghost use Rattle.sm_passes.specs.Firsts.{number_in};
 ghost use Rattle.sm_passes.specs.Forms.{is_trait_value};
 ghost use Rattle.sm_trait_rules.specs.steps.Placing.{AreFirsts, AreSeen, IsTextAt, SharesText, selector_in, selector_under};
 
+use sm_compile::trait_ids::TRAIT;
 use sm_compile::{field_of, text_in_trait, trait_node};
 use sm_model::Graph;
 use sm_passes::firsts::first_of;
@@ -79,7 +80,7 @@ pub(crate) fn selector_at(graph: &Graph, number: u32) -> Option<&str>
     ensures { option_copied result ≡ selector_under (maps_of graph.now) (id_of_number graph.now number) }
 {
     if is_own_shape(graph, number) {
-        selector_in(trait_node(graph, number, "smithy.api#trait"))
+        selector_in(trait_node(graph, number, TRAIT))
     } else {
         None
     }

@@ -9,6 +9,9 @@ ghost use Rattle.sm_trait_rules.specs.steps.Twice.{ToldTwice, carried_twice};
 ghost use Rattle.sm_passes.specs.Carrying.{carries};
 ghost use Rattle.sm_passes.specs.Owned.{is_own_structure};
 
+use sm_compile::trait_ids::{
+    HTTP_PAYLOAD, HTTP_PREFIX_HEADERS, HTTP_QUERY_PARAMS, HTTP_RESPONSE_CODE, IDEMPOTENCY_TOKEN,
+};
 use sm_compile::{members_of, trait_node};
 use sm_model::{Graph, ModelEvent};
 use sm_passes::owned::is_own_structure;
@@ -62,11 +65,11 @@ fn put_single_of(
         (Puts (IsEventAt TraitSingle (CarriesTwice (maps_of graph.now)) (id_of_number graph.now number))
         events.old.items events.new.items) }
 {
-    put_if_twice(alloc, graph, number, "smithy.api#idempotencyToken", events)?;
-    put_if_twice(alloc, graph, number, "smithy.api#httpPayload", events)?;
-    put_if_twice(alloc, graph, number, "smithy.api#httpPrefixHeaders", events)?;
-    put_if_twice(alloc, graph, number, "smithy.api#httpQueryParams", events)?;
-    put_if_twice(alloc, graph, number, "smithy.api#httpResponseCode", events)?;
+    put_if_twice(alloc, graph, number, IDEMPOTENCY_TOKEN, events)?;
+    put_if_twice(alloc, graph, number, HTTP_PAYLOAD, events)?;
+    put_if_twice(alloc, graph, number, HTTP_PREFIX_HEADERS, events)?;
+    put_if_twice(alloc, graph, number, HTTP_QUERY_PARAMS, events)?;
+    put_if_twice(alloc, graph, number, HTTP_RESPONSE_CODE, events)?;
     Ok(())
 }
 

@@ -12,6 +12,7 @@ ghost use Rattle.sm_trait_rules.specs.steps.Silent.{no_unknown};
 ghost use Rattle.sm_passes.specs.Putting.{IsWhere, ToldOf};
 
 use crate::known::has_row;
+use sm_compile::trait_ids::TRAIT;
 use sm_compile::trait_node;
 use sm_model::{Graph, ModelEvent, is_in_prelude};
 use sm_passes::each::{AtOwn, put_outside};
@@ -118,5 +119,5 @@ fn is_trait(graph: &Graph, number: u32) -> bool
     requires { IsShapeNumber graph.now number }
     ensures { result ≡ is_some (trait_of (maps_of graph.now) (id_of_number graph.now number) trait_id) }
 {
-    trait_node(graph, number, "smithy.api#trait").is_some()
+    trait_node(graph, number, TRAIT).is_some()
 }

@@ -11,6 +11,7 @@ ghost use Rattle.sm_rules.specs.declared.rule.Rule.TheVariants.{ConstraintBounds
 ghost use Rattle.sm_value_rules.specs.steps.Silent.{no_bounds};
 ghost use Rattle.sm_value_rules.specs.steps.Bounding.{is_wrong_length, is_wrong_range};
 
+use sm_compile::trait_ids::{LENGTH, RANGE};
 use sm_compile::{
     are_lengths_where, are_ordered_where, are_whole_bounds_where, is_range_where, trait_node,
 };
@@ -69,7 +70,7 @@ fn put_both_bounds(
         (Puts (IsEventAt ConstraintBounds (HasWrongBounds (maps_of graph.now)) (id_of_number graph.now number))
         events.old.items events.new.items) }
 {
-    let length = is_wrong_length(trait_node(graph, number, "smithy.api#length"));
+    let length = is_wrong_length(trait_node(graph, number, LENGTH));
     put_if(
         alloc,
         graph,
@@ -79,7 +80,7 @@ fn put_both_bounds(
         "length",
         events,
     )?;
-    let range = is_wrong_range(trait_node(graph, number, "smithy.api#range"));
+    let range = is_wrong_range(trait_node(graph, number, RANGE));
     put_if(
         alloc,
         graph,

@@ -9,6 +9,7 @@ ghost use Rattle.sm_model.specs.Joins.{Joins};
 ghost use Rattle.sm_value_rules.specs.steps.Enums.{right_number, right_text, value_at};
 ghost use Rattle.sm_value_rules.specs.steps.SeenValues.{Holds, has_number, has_text, holds, value_node};
 
+use sm_compile::trait_ids::ENUM_VALUE;
 use sm_compile::{fits_word, number_of, text_in_trait, trait_node};
 use sm_model::{Graph, Kind};
 use sm_tree::NoMemory;
@@ -29,7 +30,7 @@ pub fn value_of(graph: &Graph, kind: Kind, member: u32) -> Option<EnumValue<'_>>
     requires { IsShapeNumber graph.now member }
     ensures { option_map value_node result ≡ value_at graph.now kind member }
 {
-    let tree = trait_node(graph, member, "smithy.api#enumValue");
+    let tree = trait_node(graph, member, ENUM_VALUE);
     match kind {
         Kind::Enum => text_value(text_in_trait(tree)),
         Kind::IntEnum => number_value(number_of(tree)),
