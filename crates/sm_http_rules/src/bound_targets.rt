@@ -22,14 +22,13 @@ use crate::left_out::leading_to_left_out;
 use crate::sides::Sides;
 use sm_compile::members_of;
 use sm_compile::trait_ids::HTTP_PAYLOAD;
-use sm_model::{Graph, ModelEvent};
+use sm_model::Graph;
 use sm_passes::carried::is_member;
 use sm_passes::each::{AtEach, put_each};
 use sm_passes::owned::is_own_shape;
-use sm_passes::putting::put_if;
+use sm_passes::putting::{Events, Put, put_if};
 use sm_rules::Rule;
 use sm_select::Ways;
-use sm_tree::NoMemory;
 use std::alloc::Global;
 
 /// Puts the events of the rule, by the ways of the graph and the shapes on each side. n log n.
@@ -38,8 +37,8 @@ pub fn put_bound_targets(
     graph: &Graph,
     ways: &Ways,
     sides: &Sides,
-    events: &mut Vec<ModelEvent>,
-) -> Result<(), NoMemory>
+    events: &mut Events,
+) -> Put
     requires ways { AreWays graph.now ways.now }
     requires sides { AreSides graph.now sides.now }
     ensures { OnOk result
@@ -55,8 +54,8 @@ fn put_by_marks(
     graph: &Graph,
     sides: &Sides,
     leading: &[bool],
-    events: &mut Vec<ModelEvent>,
-) -> Result<(), NoMemory>
+    events: &mut Events,
+) -> Put
     requires sides { AreSides graph.now sides.now }
     requires leading { AreLeading graph.now leading.now }
     ensures { OnOk result
@@ -78,13 +77,7 @@ impl AtEach for BoundTargets<'_> {
 
     ghost knows = { λ rule g. AreSides g rule.sides.now × AreLeading g rule.leading.now };
 
-    fn put_at(
-        &self,
-        alloc: Global,
-        graph: &Graph,
-        number: u32,
-        events: &mut Vec<ModelEvent>,
-    ) -> Result<(), NoMemory> {
+    fn put_at(&self, alloc: Global, graph: &Graph, number: u32, events: &mut Events) -> Put {
         if is_own_shape(graph, number) {
             put_on_sides(alloc, graph, self.sides, self.leading, number, events)?;
             Ok(())
@@ -101,8 +94,8 @@ fn put_on_sides(
     sides: &Sides,
     leading: &[bool],
     shape: u32,
-    events: &mut Vec<ModelEvent>,
-) -> Result<(), NoMemory>
+    events: &mut Events,
+) -> Put
     requires shape { IsShapeNumber graph.now shape }
     requires own { is_own_shape (maps_of graph.now) (id_of_number graph.now shape) ≡ true }
     requires sides { AreSides graph.now sides.now }
@@ -148,8 +141,8 @@ fn put_on_side(
     leading: &[bool],
     side: BindingSide,
     shape: u32,
-    events: &mut Vec<ModelEvent>,
-) -> Result<(), NoMemory>
+    events: &mut Events,
+) -> Put
     requires shape { IsShapeNumber graph.now shape }
     requires own { is_own_shape (maps_of graph.now) (id_of_number graph.now shape) ≡ true }
     requires sides { AreSides graph.now sides.now }
@@ -192,8 +185,8 @@ fn put_of_members(
     leading: &[bool],
     side: BindingSide,
     members: &[u32],
-    events: &mut Vec<ModelEvent>,
-) -> Result<(), NoMemory>
+    events: &mut Events,
+) -> Put
     requires members { AreShapeNumbers graph.now members.now }
     requires leading { length leading.now ≡ length (entries_of graph.now) }
     ensures { OnOk result
@@ -226,8 +219,8 @@ fn put_each_member(
     side: BindingSide,
     payload: bool,
     members: &[u32],
-    events: &mut Vec<ModelEvent>,
-) -> Result<(), NoMemory>
+    events: &mut Events,
+) -> Put
     requires members { AreShapeNumbers graph.now members.now }
     requires leading { length leading.now ≡ length (entries_of graph.now) }
     ensures { OnOk result
@@ -246,8 +239,8 @@ fn put_member(
     side: BindingSide,
     payload: bool,
     member: u32,
-    events: &mut Vec<ModelEvent>,
-) -> Result<(), NoMemory>
+    events: &mut Events,
+) -> Put
     requires member { IsShapeNumber graph.now member }
     requires leading { length leading.now ≡ length (entries_of graph.now) }
     ensures { OnOk result
@@ -265,8 +258,8 @@ fn put_bindings(
     leading: &[bool],
     bindings: &[Binding],
     member: u32,
-    events: &mut Vec<ModelEvent>,
-) -> Result<(), NoMemory>
+    events: &mut Events,
+) -> Put
     requires member { IsShapeNumber graph.now member }
     requires leading { length leading.now ≡ length (entries_of graph.now) }
     ensures { OnOk result
@@ -284,8 +277,8 @@ fn put_binding(
     leading: &[bool],
     binding: Binding,
     member: u32,
-    events: &mut Vec<ModelEvent>,
-) -> Result<(), NoMemory>
+    events: &mut Events,
+) -> Put
     requires member { IsShapeNumber graph.now member }
     requires leading { length leading.now ≡ length (entries_of graph.now) }
     ensures { OnOk result (Puts (ToldBinding graph.now leading.now member binding) events.old.items events.new.items) }
@@ -327,8 +320,8 @@ fn put_beside(
     side: BindingSide,
     payload: bool,
     member: u32,
-    events: &mut Vec<ModelEvent>,
-) -> Result<(), NoMemory>
+    events: &mut Events,
+) -> Put
     requires { IsShapeNumber graph.now member }
     ensures { OnOk result (Puts (ToldBeside graph.now side payload member) events.old.items events.new.items) }
 {

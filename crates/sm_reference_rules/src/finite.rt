@@ -14,22 +14,17 @@ ghost use Rattle.sm_reference_rules.specs.steps.Finding.{SomeClosed, Waits, Want
 
 use sm_compile::trait_ids::REQUIRED;
 use sm_compile::{id_text, kind_of, members_of, target_of};
-use sm_model::{Graph, Kind, ModelEvent, is_in_prelude, mark, no_marks};
+use sm_model::{Graph, Kind, is_in_prelude, mark, no_marks};
 use sm_passes::carried::{carries, is_member};
 use sm_passes::each::{AtEach, put_each};
-use sm_passes::putting::put_if;
+use sm_passes::putting::{Events, Put, put_if};
 use sm_rules::Rule;
 use sm_select::{Neighbors, Ways};
 use sm_tree::NoMemory;
 use std::alloc::Global;
 
 /// Puts the events of the rule, by the ways of the graph. Each member is looked at once, and each step back.
-pub fn put_infinite(
-    alloc: Global,
-    graph: &Graph,
-    ways: &Ways,
-    events: &mut Vec<ModelEvent>,
-) -> Result<(), NoMemory>
+pub fn put_infinite(alloc: Global, graph: &Graph, ways: &Ways, events: &mut Events) -> Put
     requires { AreWays graph.now ways.now }
     ensures { OnOk result
         (Puts (IsEventOf ShapeInfinite (HasNoFinite (maps_of graph.now))) events.old.items events.new.items) }
@@ -57,13 +52,7 @@ impl AtEach for Infinite<'_> {
 
     ghost knows = { λ rule g. AreFinite g rule.marks.now };
 
-    fn put_at(
-        &self,
-        alloc: Global,
-        graph: &Graph,
-        number: u32,
-        events: &mut Vec<ModelEvent>,
-    ) -> Result<(), NoMemory> {
+    fn put_at(&self, alloc: Global, graph: &Graph, number: u32, events: &mut Events) -> Put {
         let infinite = is_infinite(graph, self.marks, number);
         put_if(
             alloc,

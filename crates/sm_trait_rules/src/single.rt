@@ -13,19 +13,14 @@ use sm_compile::trait_ids::{
     HTTP_PAYLOAD, HTTP_PREFIX_HEADERS, HTTP_QUERY_PARAMS, HTTP_RESPONSE_CODE, IDEMPOTENCY_TOKEN,
 };
 use sm_compile::{members_of, trait_node};
-use sm_model::{Graph, ModelEvent};
+use sm_model::Graph;
 use sm_passes::owned::is_own_structure;
-use sm_passes::putting::put_if;
+use sm_passes::putting::{Events, Put, put_if};
 use sm_rules::Rule;
-use sm_tree::NoMemory;
 use std::alloc::Global;
 
 /// Puts the events of the rule.
-pub fn put_single(
-    alloc: Global,
-    graph: &Graph,
-    events: &mut Vec<ModelEvent>,
-) -> Result<(), NoMemory>
+pub fn put_single(alloc: Global, graph: &Graph, events: &mut Events) -> Put
     ensures { OnOk result
         (Puts (IsEventOf TraitSingle (CarriesTwice (maps_of graph.now))) events.old.items events.new.items) }
 {
@@ -35,12 +30,7 @@ pub fn put_single(
     Ok(())
 }
 
-fn put_single_at(
-    alloc: Global,
-    graph: &Graph,
-    number: u32,
-    events: &mut Vec<ModelEvent>,
-) -> Result<(), NoMemory>
+fn put_single_at(alloc: Global, graph: &Graph, number: u32, events: &mut Events) -> Put
     requires { IsShapeNumber graph.now number }
     ensures { OnOk result
         (Puts (IsEventAt TraitSingle (CarriesTwice (maps_of graph.now)) (id_of_number graph.now number))
@@ -53,12 +43,7 @@ fn put_single_at(
     }
 }
 
-fn put_single_of(
-    alloc: Global,
-    graph: &Graph,
-    number: u32,
-    events: &mut Vec<ModelEvent>,
-) -> Result<(), NoMemory>
+fn put_single_of(alloc: Global, graph: &Graph, number: u32, events: &mut Events) -> Put
     requires number { IsShapeNumber graph.now number }
     requires own { is_own_structure (maps_of graph.now) (id_of_number graph.now number) ≡ true }
     ensures { OnOk result
@@ -73,13 +58,7 @@ fn put_single_of(
     Ok(())
 }
 
-fn put_if_twice(
-    alloc: Global,
-    graph: &Graph,
-    number: u32,
-    name: &str,
-    events: &mut Vec<ModelEvent>,
-) -> Result<(), NoMemory>
+fn put_if_twice(alloc: Global, graph: &Graph, number: u32, name: &str, events: &mut Events) -> Put
     requires { IsShapeNumber graph.now number }
     ensures { OnOk result
         (Puts (ToldTwice (maps_of graph.now) (id_of_number graph.now number) name.now) events.old.items events.new.items) }

@@ -8,13 +8,14 @@ ghost use Rattle.sm_rules.specs.declared.rule.Rule.TheVariants.{TraitPlace, Trai
 ghost use Rattle.sm_passes.specs.RowTests.{any_row, is_wrong_place, is_wrong_value, reads_by, reads_there, some_said, stands_by};
 
 use crate::judged::{Judge, Judged};
-use sm_model::{Graph, ModelEvent};
+use sm_model::Graph;
 use sm_passes::each::put_outside;
+use sm_passes::putting::{Events, Put};
 use sm_passes::rows::form::{RowForm, is_of_form};
 use sm_passes::rows::names::{AnyRow, FoundRows, RowTest, rows_of};
 use sm_passes::rows::place::{RowPlace, Stand, allows};
 use sm_rules::Rule;
-use sm_tree::{NoMemory, Tree};
+use sm_tree::Tree;
 use std::alloc::Global;
 
 #[derive(Drop)]
@@ -127,11 +128,7 @@ fn stands_elsewhere(rows: FoundRows, at: Stand) -> bool
 }
 
 /// Puts the events of Trait.Value that the table tells. Linear in the graph and the values of its traits.
-pub fn put_other_values(
-    alloc: Global,
-    graph: &Graph,
-    events: &mut Vec<ModelEvent>,
-) -> Result<(), NoMemory>
+pub fn put_other_values(alloc: Global, graph: &Graph, events: &mut Events) -> Put
     ensures { OnOk result
         (Puts (IsEventOf TraitValue (HasOtherValue (maps_of graph.now))) events.old.items events.new.items) }
 {
@@ -140,11 +137,7 @@ pub fn put_other_values(
 }
 
 /// Puts the events of Trait.Place that the table tells. Linear in the graph.
-pub fn put_other_places(
-    alloc: Global,
-    graph: &Graph,
-    events: &mut Vec<ModelEvent>,
-) -> Result<(), NoMemory>
+pub fn put_other_places(alloc: Global, graph: &Graph, events: &mut Events) -> Put
     ensures { OnOk result
         (Puts (IsEventOf TraitPlace (StandsElsewhere (maps_of graph.now))) events.old.items events.new.items) }
 {

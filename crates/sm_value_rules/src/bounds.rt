@@ -15,11 +15,11 @@ use sm_compile::trait_ids::{LENGTH, RANGE};
 use sm_compile::{
     are_lengths_where, are_ordered_where, are_whole_bounds_where, is_range_where, trait_node,
 };
-use sm_model::{Graph, Kind, ModelEvent};
+use sm_model::{Graph, Kind};
 use sm_passes::each::{AtOwn, put_outside};
-use sm_passes::putting::put_if;
+use sm_passes::putting::{Events, Put, put_if};
 use sm_rules::Rule;
-use sm_tree::{NoMemory, Tree};
+use sm_tree::Tree;
 use std::alloc::Global;
 
 #[derive(Drop)]
@@ -30,13 +30,7 @@ impl AtOwn for Bounds {
 
     ghost knows = { λ rule g. Unit {0} };
 
-    fn put_own(
-        &self,
-        alloc: Global,
-        graph: &Graph,
-        number: u32,
-        events: &mut Vec<ModelEvent>,
-    ) -> Result<(), NoMemory> {
+    fn put_own(&self, alloc: Global, graph: &Graph, number: u32, events: &mut Events) -> Put {
         put_both_bounds(alloc, graph, number, events)?;
         Ok(())
     }
@@ -45,11 +39,7 @@ impl AtOwn for Bounds {
 }
 
 /// Puts the events of the rule.
-pub fn put_bounds(
-    alloc: Global,
-    graph: &Graph,
-    events: &mut Vec<ModelEvent>,
-) -> Result<(), NoMemory>
+pub fn put_bounds(alloc: Global, graph: &Graph, events: &mut Events) -> Put
     ensures { OnOk result
         (Puts (IsEventOf ConstraintBounds (HasWrongBounds (maps_of graph.now))) events.old.items events.new.items) }
 {
@@ -58,12 +48,7 @@ pub fn put_bounds(
 }
 
 // Those of a shape or member outside of the prelude.
-fn put_both_bounds(
-    alloc: Global,
-    graph: &Graph,
-    number: u32,
-    events: &mut Vec<ModelEvent>,
-) -> Result<(), NoMemory>
+fn put_both_bounds(alloc: Global, graph: &Graph, number: u32, events: &mut Events) -> Put
     requires number { IsShapeNumber graph.now number }
     requires own { is_prelude_id (id_of_number graph.now number) ≡ false }
     ensures { OnOk result
