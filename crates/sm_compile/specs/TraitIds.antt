@@ -90,6 +90,9 @@ trait_id = api_id (codes "trait")
 abbrev pub suppress_id : List ℕ
 suppress_id = api_id (codes "suppress")
 
+abbrev pub mixin_id : List ℕ
+mixin_id = api_id (codes "mixin")
+
 -- the traits that bind a member to a part of an HTTP message
 abbrev pub binding_ids : List (List ℕ)
 binding_ids = http_label_id ∷ http_query_id ∷ http_query_params_id ∷ http_header_id ∷ http_prefix_headers_id ∷ http_payload_id

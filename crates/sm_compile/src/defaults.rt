@@ -12,6 +12,7 @@ ghost use Rattle.sm_compile.specs.steps.Seeing.{default_under, is_null_node};
 use crate::kinds::table_kind;
 use crate::look::trait_node;
 use crate::seen::is_bound;
+use crate::trait_ids::DEFAULT;
 use sm_model::{Graph, Kind};
 use sm_shapes::kinds::ShapeKind;
 use sm_tree::{NoMemory, Text, Tree, copy_tree};
@@ -52,7 +53,7 @@ fn default_of_member(
         node_where(
             alloc,
             table_kind(target),
-            trait_node(graph, member, "smithy.api#default"),
+            trait_node(graph, member, DEFAULT),
         )
     }
 }

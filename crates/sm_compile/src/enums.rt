@@ -12,6 +12,7 @@ ghost use Rattle.sm_compile.specs.steps.Tests.{enum_number, enum_text, has_its_v
 
 use crate::differ::{numbers_differ, texts_differ};
 use crate::look::trait_node;
+use crate::trait_ids::ENUM_VALUE;
 use crate::traits::{number_of, text_in_trait};
 use sm_model::{Graph, Kind};
 use sm_tree::NoMemory;
@@ -22,7 +23,7 @@ fn enum_text(graph: &Graph, member: u32) -> Option<&str>
     requires { IsShapeNumber graph.now member }
     ensures { option_copied result ≡ enum_text (maps_of graph.now) (id_of_number graph.now member) }
 {
-    text_in_trait(trait_node(graph, member, "smithy.api#enumValue"))
+    text_in_trait(trait_node(graph, member, ENUM_VALUE))
 }
 
 // The number that is the value of a member of an intEnum.
@@ -30,7 +31,7 @@ fn enum_number(graph: &Graph, member: u32) -> Option<i64>
     requires { IsShapeNumber graph.now member }
     ensures { result ≡ enum_number (maps_of graph.now) (id_of_number graph.now member) }
 {
-    number_of(trait_node(graph, member, "smithy.api#enumValue"))
+    number_of(trait_node(graph, member, ENUM_VALUE))
 }
 
 /// The texts that are the values of these members of an enum, in order.

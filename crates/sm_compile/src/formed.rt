@@ -11,6 +11,9 @@ ghost use Rattle.sm_compile.specs.TraitNodes.{where_there};
 ghost use Rattle.sm_compile.specs.steps.Tests as tests;
 
 use crate::look::trait_node;
+use crate::trait_ids::{
+    JSON_NAME, LENGTH, PATTERN, RANGE, REQUIRED, SPARSE, TIMESTAMP_FORMAT, UNIQUE_ITEMS,
+};
 use crate::traits::{bound_of, field_of, format_of, is_any_number, is_number, is_object, is_text};
 use sm_model::{Graph, Kind};
 use sm_tree::Tree;
@@ -30,16 +33,16 @@ fn are_annotations(graph: &Graph, number: u32) -> bool
     requires { IsShapeNumber graph.now number }
     ensures { result ≡ tests.are_annotations (trait_of (maps_of graph.now) (id_of_number graph.now number)) }
 {
-    is_object_where(trait_node(graph, number, "smithy.api#required"))
-        && is_object_where(trait_node(graph, number, "smithy.api#sparse"))
-        && is_object_where(trait_node(graph, number, "smithy.api#uniqueItems"))
+    is_object_where(trait_node(graph, number, REQUIRED))
+        && is_object_where(trait_node(graph, number, SPARSE))
+        && is_object_where(trait_node(graph, number, UNIQUE_ITEMS))
 }
 
 fn is_length(graph: &Graph, number: u32) -> bool
     requires { IsShapeNumber graph.now number }
     ensures { result ≡ tests.is_length (trait_of (maps_of graph.now) (id_of_number graph.now number)) }
 {
-    let length = trait_node(graph, number, "smithy.api#length");
+    let length = trait_node(graph, number, LENGTH);
     are_whole_bounds_where(length) && are_lengths_where(length) && are_ordered_where(length)
 }
 
@@ -47,7 +50,7 @@ fn is_range_seen(graph: &Graph, number: u32, kind: Kind) -> bool
     requires { IsShapeNumber graph.now number }
     ensures { result ≡ tests.is_range_seen kind (trait_of (maps_of graph.now) (id_of_number graph.now number)) }
 {
-    let range = trait_node(graph, number, "smithy.api#range");
+    let range = trait_node(graph, number, RANGE);
     is_range_where(kind, range) && are_ordered_where(range)
 }
 
@@ -55,9 +58,9 @@ fn are_texts(graph: &Graph, number: u32) -> bool
     requires { IsShapeNumber graph.now number }
     ensures { result ≡ tests.are_texts (trait_of (maps_of graph.now) (id_of_number graph.now number)) }
 {
-    is_text_where(trait_node(graph, number, "smithy.api#pattern"))
-        && is_format_where(trait_node(graph, number, "smithy.api#timestampFormat"))
-        && is_text_where(trait_node(graph, number, "smithy.api#jsonName"))
+    is_text_where(trait_node(graph, number, PATTERN))
+        && is_format_where(trait_node(graph, number, TIMESTAMP_FORMAT))
+        && is_text_where(trait_node(graph, number, JSON_NAME))
 }
 
 /// Whether `enumValue` may have the value that may be there, at a member of a shape of this type.

@@ -24,6 +24,7 @@ mod shapes;
 mod soundness;
 mod storing;
 mod tabled;
+pub mod trait_ids;
 mod traits;
 mod unserved;
 mod values;

@@ -13,6 +13,7 @@ ghost use Rattle.sm_compile.specs.steps.Naming.{TellsNames, texts_of_all};
 
 use crate::differ::texts_differ;
 use crate::look::{id_text, trait_node};
+use crate::trait_ids::JSON_NAME;
 use crate::traits::text_in_trait;
 use sm_model::{Graph, Kind};
 use sm_tree::NoMemory;
@@ -96,7 +97,7 @@ pub fn json_name<'a>(graph: &'a Graph, member: u32, name: &'a str) -> &'a str
     requires { IsShapeNumber graph.now member }
     ensures { result.now ≡ unwrap_or (text_of (trait_of (maps_of graph.now) (id_of_number graph.now member) json_name_id)) name.now }
 {
-    match text_in_trait(trait_node(graph, member, "smithy.api#jsonName")) {
+    match text_in_trait(trait_node(graph, member, JSON_NAME)) {
         Some(json_name) => json_name,
         None => name,
     }

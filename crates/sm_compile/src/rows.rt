@@ -14,6 +14,7 @@ use crate::defaults::default_node;
 use crate::kinds::table_kind;
 use crate::look::{id_text, trait_node};
 use crate::seen::{SeenTraits, has_trait};
+use crate::trait_ids::{JSON_NAME, REQUIRED, SPARSE, UNIQUE_ITEMS};
 use crate::traits::text_in_trait;
 use crate::values::EnumValues;
 use sm_model::{Graph, Kind};
@@ -70,8 +71,8 @@ pub(crate) fn shape_row(
         by_json_name: MemberNumbers::new(by_json_name),
         needed: MemberNumbers::new(needed),
         constraints,
-        unique: has_trait(graph, shape, "smithy.api#uniqueItems"),
-        sparse: has_trait(graph, shape, "smithy.api#sparse"),
+        unique: has_trait(graph, shape, UNIQUE_ITEMS),
+        sparse: has_trait(graph, shape, SPARSE),
         unit: is_unit(id_text(graph, shape)),
         format: seen.format(),
         media_type: None,
@@ -135,14 +136,14 @@ pub(crate) fn member_row(
     )?;
     let json_name = copy_of(
         alloc,
-        text_in_trait(trait_node(graph, place.member, "smithy.api#jsonName")),
+        text_in_trait(trait_node(graph, place.member, JSON_NAME)),
     )?;
     Ok(TableMember {
         shape: place.home_row,
         name: Text::copy(alloc, name)?,
         json_name,
         target: place.target_row,
-        required: has_trait(graph, place.member, "smithy.api#required"),
+        required: has_trait(graph, place.member, REQUIRED),
         constraints,
         format: seen.format(),
         media_type: None,

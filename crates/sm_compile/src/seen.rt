@@ -11,6 +11,10 @@ ghost use Rattle.sm_compile.specs.steps.Seeing.{is_bound_under, traits_seen};
 
 use crate::kinds::{has_length, is_text_kind, is_whole_kind};
 use crate::look::trait_node;
+use crate::trait_ids::{
+    HTTP_HEADER, HTTP_LABEL, HTTP_PAYLOAD, HTTP_PREFIX_HEADERS, HTTP_QUERY, HTTP_QUERY_PARAMS,
+    HTTP_RESPONSE_CODE, LENGTH, PATTERN, RANGE, TIMESTAMP_FORMAT,
+};
 use crate::traits::{bound_of, format_of, text_in_trait};
 use crate::values::EnumValues;
 use sm_model::{Graph, Kind};
@@ -50,9 +54,9 @@ impl<'a> SeenTraits<'a> {
         ensures { option_map (λ t. node_of t.now) result ≡ bounds_seen kind (traits_seen self.now.graph.now self.now.own self.now.target) }
     {
         if has_length(kind) {
-            self.value("smithy.api#length")
+            self.value(LENGTH)
         } else if is_whole_kind(kind) {
-            self.value("smithy.api#range")
+            self.value(RANGE)
         } else {
             None
         }
@@ -63,7 +67,7 @@ impl<'a> SeenTraits<'a> {
         ensures { option_copied result ≡ pattern_seen kind (traits_seen self.now.graph.now self.now.own self.now.target) }
     {
         if is_text_kind(kind) {
-            text_in_trait(self.value("smithy.api#pattern"))
+            text_in_trait(self.value(PATTERN))
         } else {
             None
         }
@@ -73,7 +77,7 @@ impl<'a> SeenTraits<'a> {
     pub(crate) fn format(&self) -> Option<Format>
         ensures { result ≡ format_seen (traits_seen self.now.graph.now self.now.own self.now.target) }
     {
-        format_of(self.value("smithy.api#timestampFormat"))
+        format_of(self.value(TIMESTAMP_FORMAT))
     }
 
     /// The constraints of values of a type, with these values of an enum and this pattern.
@@ -106,13 +110,13 @@ pub(crate) fn is_bound(graph: &Graph, member: u32) -> bool
     requires { IsShapeNumber graph.now member }
     ensures { result ≡ is_bound_under (maps_of graph.now) (id_of_number graph.now member) }
 {
-    has_trait(graph, member, "smithy.api#httpLabel")
-        || has_trait(graph, member, "smithy.api#httpQuery")
-        || has_trait(graph, member, "smithy.api#httpQueryParams")
-        || has_trait(graph, member, "smithy.api#httpHeader")
-        || has_trait(graph, member, "smithy.api#httpPrefixHeaders")
-        || has_trait(graph, member, "smithy.api#httpPayload")
-        || has_trait(graph, member, "smithy.api#httpResponseCode")
+    has_trait(graph, member, HTTP_LABEL)
+        || has_trait(graph, member, HTTP_QUERY)
+        || has_trait(graph, member, HTTP_QUERY_PARAMS)
+        || has_trait(graph, member, HTTP_HEADER)
+        || has_trait(graph, member, HTTP_PREFIX_HEADERS)
+        || has_trait(graph, member, HTTP_PAYLOAD)
+        || has_trait(graph, member, HTTP_RESPONSE_CODE)
 }
 
 /// Whether a shape or member has a trait. No memory.

@@ -20,6 +20,7 @@ use crate::kinds::{has_values, is_text_kind, may_target};
 use crate::look::{kind_of, members_of, target_kind, targets_unit, trait_node};
 use crate::names::{Names, have_form, names_of};
 use crate::reach::reached;
+use crate::trait_ids::ENUM_VALUE;
 use sm_model::{Graph, Kind};
 use sm_tree::NoMemory;
 use std::alloc::Global;
@@ -196,7 +197,7 @@ fn is_sound_at_target(graph: &Graph, kind: Kind, member: u32, target: Kind) -> b
 {
     may_target(kind, targets_unit(graph, member), target)
         && are_formed(graph, member, target)
-        && is_enum_value_where(kind, trait_node(graph, member, "smithy.api#enumValue"))
+        && is_enum_value_where(kind, trait_node(graph, member, ENUM_VALUE))
 }
 
 // Whether the first member of a map has texts, where its target is there.

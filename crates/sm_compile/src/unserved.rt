@@ -11,6 +11,7 @@ use crate::kinds::table_kind;
 use crate::look::{kind_of, members_of};
 use crate::names::{json_name, member_name};
 use crate::seen::has_trait;
+use crate::trait_ids::STREAMING;
 use sm_model::{Graph, Kind};
 use sm_shapes::kinds::ShapeKind;
 
@@ -33,7 +34,7 @@ fn is_unserved_of_kind(graph: &Graph, shape: u32, kind: Kind) -> bool
 {
     if is_left_out(table_kind(kind)) {
         true
-    } else if has_trait(graph, shape, "smithy.api#streaming") {
+    } else if has_trait(graph, shape, STREAMING) {
         true
     } else if may_tell_type(kind) {
         tells_type(graph, shape, members_of(graph, shape))

@@ -31,8 +31,8 @@ use Rattle.sm_http_rules.proofs.HttpBodies.{any_found, found_any}
 use Rattle.sm_passes.proofs.OwnShapes.{member_in, not_so, own_told, told_own}
 use Rattle.sm_http_rules.specs.declared.bindings.Binding.{Binding}
 use Rattle.sm_http_rules.specs.declared.bindings.Binding.TheVariants.{Payload}
-use Rattle.sm_http_rules.specs.declared.bindings.Side.{Side}
-use Rattle.sm_http_rules.specs.declared.bindings.Side.TheVariants.{Input, Output, Error}
+use Rattle.sm_http_rules.specs.declared.bindings.BindingSide.{BindingSide}
+use Rattle.sm_http_rules.specs.declared.bindings.BindingSide.TheVariants.{Input, Output, Error}
 use Rattle.sm_http_rules.specs.declared.sides.Sides.{Sides}
 use Rattle.sm_http_rules.specs.steps.Binding.{binding_said, bindings_in, side_said}
 use Rattle.sm_http_rules.specs.steps.BoundTargets.{HasPayload, IsBesideTold, IsTargetTold, ToldBeside, ToldBinding, ToldBoundMember}
@@ -45,12 +45,12 @@ both_true : (a b : Bool) → a ≡ true → b ≡ true → (a && b) ≡ true
 both_true a b h k = ap (λ x. x && b) h ∙ k
 
 -- the lists of the code are those of the definition
-said_bindings : (side : Side) → map binding_said (bindings_in side) ≡ bindings_of (side_said side)
+said_bindings : (side : BindingSide) → map binding_said (bindings_in side) ≡ bindings_of (side_said side)
 said_bindings Input = refl
 said_bindings Output = refl
 said_bindings Error = refl
 
-pub side_marks : (g : Graph) (sides : Sides) → AreSides g sides → (side : Side) → AreOnSide g (side_said side) (marks_of sides side)
+pub side_marks : (g : Graph) (sides : Sides) → AreSides g sides → (side : BindingSide) → AreOnSide g (side_said side) (marks_of sides side)
 side_marks g sides are Input = are.are_inputs
 side_marks g sides are Output = are.are_outputs
 side_marks g sides are Error = are.are_errors
@@ -60,13 +60,13 @@ module _ (g : GraphMaps) (id : List ℕ) (m : MemberEntry) (has : HasEntry g id 
   bound_at : (b : Binding) → is_bound_by g b id ≡ has_binding m.traits (binding_said b)
   bound_at b = ap (λ (o : Option Entry). is_member_in o && is_some (trait_in (binding_id (binding_said b)) o)) has
 
-  document_at : (side : Side) → is_in_document_at g side id ≡ is_in_document (side_said side) m.traits
+  document_at : (side : BindingSide) → is_in_document_at g side id ≡ is_in_document (side_said side) m.traits
   document_at side =
       ap (λ (o : Option Entry). is_member_in o && not (list_any (λ b. is_some (trait_in (binding_id (binding_said b)) o))
       (bindings_in side))) has
       ∙ same side
     where
-      same : (side : Side)
+      same : (side : BindingSide)
           → not (list_any (λ b. is_some (trait_in (binding_id (binding_said b)) (Some (member_entry m)))) (bindings_in side))
           ≡ is_in_document (side_said side) m.traits
       same Input = refl
@@ -74,7 +74,7 @@ module _ (g : GraphMaps) (id : List ℕ) (m : MemberEntry) (has : HasEntry g id 
       same Error = refl
 
 -- a member, by number
-module _ (g : Graph) (leading : List Bool) (are : AreLeading g leading) (side : Side) (k : ℕ) (small : IsShapeNumber g k) where
+module _ (g : Graph) (leading : List Bool) (are : AreLeading g leading) (side : BindingSide) (k : ℕ) (small : IsShapeNumber g k) where
   target_told : (e : EventTold) → ToldOf (ToldBinding g leading k) (bindings_in side) e
       → (m : MemberEntry) × HasEntry (maps_of g) (id_of_number g k) (member_entry m)
       × IsTargetTold (maps_of g) (side_said side) (id_of_number g k) m e
@@ -119,7 +119,7 @@ module _ (g : Graph) (leading : List Bool) (are : AreLeading g leading) (side : 
         ),
       )
 
-module _ (g : Graph) (side : Side) (payload : Bool) (k : ℕ) where
+module _ (g : Graph) (side : BindingSide) (payload : Bool) (k : ℕ) where
   beside_told : (e : EventTold) → ToldBeside g side payload k e
       → (m : MemberEntry) × HasEntry (maps_of g) (id_of_number g k) (member_entry m) × (is_in_document (side_said side) m.traits ≡ true)
       × (payload ≡ true) × (e ≡ rule_event HttpTarget (id_of_number g k) http_payload_id)
@@ -137,7 +137,7 @@ module _ (g : Graph) (side : Side) (payload : Bool) (k : ℕ) where
       (both_true payload _ is_payload (document_at (maps_of g) (id_of_number g k) m there side ∙ document), is)
 
 -- the members of a shape that stands on a side
-module _ (g : Graph) (leading : List Bool) (are : AreLeading g leading) (side : Side) (shape : ℕ)
+module _ (g : Graph) (leading : List Bool) (are : AreLeading g leading) (side : BindingSide) (shape : ℕ)
     (own : is_own_shape (maps_of g) (id_of_number g shape) ≡ true) (ks : List ℕ) (numbers : AreShapeNumbers g ks)
     (listed : map (id_of_number g) ks ≡ listed_under (maps_of g) (id_of_number g shape)) where
   abbrev Here : EventTold → Type 0

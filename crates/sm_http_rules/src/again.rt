@@ -11,9 +11,9 @@ ghost use Rattle.sm_http_rules.specs.steps.Naming.{ToldAgain, ToldName, name_row
 
 use crate::naming::{Naming, key_of, name_of};
 use sm_compile::members_of;
-use sm_model::{Graph, ModelEvent};
+use sm_model::Graph;
 use sm_passes::earlier::{OfFirst, put_later};
-use sm_passes::putting::put_event;
+use sm_passes::putting::{Events, Put, put_event};
 use sm_rules::Rule;
 use sm_tree::{NoMemory, Text};
 use std::alloc::Global;
@@ -24,8 +24,8 @@ pub(crate) fn put_again(
     graph: &Graph,
     naming: Naming,
     shape: u32,
-    events: &mut Vec<ModelEvent>,
-) -> Result<(), NoMemory>
+    events: &mut Events,
+) -> Put
     requires shape { IsShapeNumber graph.now shape }
     requires own { is_own_shape (maps_of graph.now) (id_of_number graph.now shape) ≡ true }
     ensures { OnOk result
@@ -48,8 +48,8 @@ fn put_among(
     naming: Naming,
     shape: u32,
     members: &[u32],
-    events: &mut Vec<ModelEvent>,
-) -> Result<(), NoMemory>
+    events: &mut Events,
+) -> Put
     requires shape { IsShapeNumber graph.now shape }
     requires numbers { AreShapeNumbers graph.now members.now }
     ensures { OnOk result
@@ -125,8 +125,8 @@ impl OfFirst for NamedBy {
         graph: &Graph,
         _first: u32,
         number: u32,
-        events: &mut Vec<ModelEvent>,
-    ) -> Result<(), NoMemory> {
+        events: &mut Events,
+    ) -> Put {
         match name_of(graph, self.naming, self.shape, number) {
             Some(name) => {
                 put_event(alloc, graph, Rule::WireNames, number, name, events)?;

@@ -10,6 +10,7 @@ ghost use Rattle.sm_http_rules.specs.steps.Binding.{binding_said};
 
 use crate::bindings::Binding;
 use crate::targets::{Wanted, passes_at, targets_at};
+use sm_compile::trait_ids::SPARSE;
 use sm_compile::{kind_of, members_of, target_of};
 use sm_model::{Graph, Kind};
 use sm_passes::carried::carries;
@@ -68,7 +69,7 @@ fn is_list_at(graph: &Graph, wanted: Wanted, number: u32) -> bool
     match kind_of(graph, number) {
         Some(kind) => {
             is_kind(Kind::List, kind)
-                && (!carries(graph, number, "smithy.api#sparse")
+                && (!carries(graph, number, SPARSE)
                     && all_target(graph, wanted, members_of(graph, number)))
         }
         None => false,
@@ -96,7 +97,7 @@ fn is_map_at(graph: &Graph, values: MapValues, number: u32) -> bool
     match kind_of(graph, number) {
         Some(kind) => {
             is_kind(Kind::Map, kind)
-                && (!carries(graph, number, "smithy.api#sparse")
+                && (!carries(graph, number, SPARSE)
                     && have_strings_to(graph, values, members_of(graph, number)))
         }
         None => false,

@@ -6,6 +6,10 @@ ghost use Rattle.sm_model.specs.Reaching.{id_of_number};
 ghost use Rattle.sm_rules.specs.Bindings.{binding_id};
 ghost use Rattle.sm_http_rules.specs.steps.Binding.{bindings_in, binding_said, carries_binding};
 
+use sm_compile::trait_ids::{
+    HTTP_HEADER, HTTP_LABEL, HTTP_PAYLOAD, HTTP_PREFIX_HEADERS, HTTP_QUERY, HTTP_QUERY_PARAMS,
+    HTTP_RESPONSE_CODE,
+};
 use sm_model::Graph;
 use sm_passes::carried::carries;
 
@@ -30,7 +34,7 @@ pub enum Binding {
 
 /// The side of a message.
 #[derive(Debug, Clone, Copy, PartialEq, Eq, Drop)]
-pub enum Side {
+pub enum BindingSide {
     /// The input of an operation.
     Input,
     /// Its output.
@@ -44,22 +48,22 @@ pub(crate) fn binding_name(binding: Binding) -> &'static str
     ensures { result.now ≡ binding_id (binding_said binding) }
 {
     match binding {
-        Binding::Label => "smithy.api#httpLabel",
-        Binding::Query => "smithy.api#httpQuery",
-        Binding::QueryParams => "smithy.api#httpQueryParams",
-        Binding::Header => "smithy.api#httpHeader",
-        Binding::PrefixHeaders => "smithy.api#httpPrefixHeaders",
-        Binding::Payload => "smithy.api#httpPayload",
-        Binding::ResponseCode => "smithy.api#httpResponseCode",
+        Binding::Label => HTTP_LABEL,
+        Binding::Query => HTTP_QUERY,
+        Binding::QueryParams => HTTP_QUERY_PARAMS,
+        Binding::Header => HTTP_HEADER,
+        Binding::PrefixHeaders => HTTP_PREFIX_HEADERS,
+        Binding::Payload => HTTP_PAYLOAD,
+        Binding::ResponseCode => HTTP_RESPONSE_CODE,
     }
 }
 
 /// The bindings that count on a side.
-pub(crate) fn bindings_of(side: Side) -> &'static [Binding]
+pub(crate) fn bindings_of(side: BindingSide) -> &'static [Binding]
     ensures { result.now ≡ bindings_in side }
 {
     match side {
-        Side::Input => &[
+        BindingSide::Input => &[
             Binding::Label,
             Binding::Query,
             Binding::QueryParams,
@@ -67,13 +71,13 @@ pub(crate) fn bindings_of(side: Side) -> &'static [Binding]
             Binding::PrefixHeaders,
             Binding::Payload,
         ],
-        Side::Output => &[
+        BindingSide::Output => &[
             Binding::Header,
             Binding::PrefixHeaders,
             Binding::Payload,
             Binding::ResponseCode,
         ],
-        Side::Error => &[Binding::Header, Binding::PrefixHeaders, Binding::Payload],
+        BindingSide::Error => &[Binding::Header, Binding::PrefixHeaders, Binding::Payload],
     }
 }
 

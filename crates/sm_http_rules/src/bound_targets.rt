@@ -15,18 +15,20 @@ ghost use Rattle.sm_http_rules.specs.steps.LeftOut.{AreLeading};
 ghost use Rattle.sm_http_rules.specs.Sides.{AreSides};
 
 use crate::allows::allows;
-use crate::bindings::{Binding, Side, binding_name, bindings_of, carries_binding, carries_one};
+use crate::bindings::{
+    Binding, BindingSide, binding_name, bindings_of, carries_binding, carries_one,
+};
 use crate::left_out::leading_to_left_out;
 use crate::sides::Sides;
 use sm_compile::members_of;
-use sm_model::{Graph, ModelEvent};
+use sm_compile::trait_ids::HTTP_PAYLOAD;
+use sm_model::Graph;
 use sm_passes::carried::is_member;
 use sm_passes::each::{AtEach, put_each};
 use sm_passes::owned::is_own_shape;
-use sm_passes::putting::put_if;
+use sm_passes::putting::{Events, Put, put_if};
 use sm_rules::Rule;
 use sm_select::Ways;
-use sm_tree::NoMemory;
 use std::alloc::Global;
 
 /// Puts the events of the rule, by the ways of the graph and the shapes on each side. n log n.
@@ -35,8 +37,8 @@ pub fn put_bound_targets(
     graph: &Graph,
     ways: &Ways,
     sides: &Sides,
-    events: &mut Vec<ModelEvent>,
-) -> Result<(), NoMemory>
+    events: &mut Events,
+) -> Put
     requires ways { AreWays graph.now ways.now }
     requires sides { AreSides graph.now sides.now }
     ensures { OnOk result
@@ -52,8 +54,8 @@ fn put_by_marks(
     graph: &Graph,
     sides: &Sides,
     leading: &[bool],
-    events: &mut Vec<ModelEvent>,
-) -> Result<(), NoMemory>
+    events: &mut Events,
+) -> Put
     requires sides { AreSides graph.now sides.now }
     requires leading { AreLeading graph.now leading.now }
     ensures { OnOk result
@@ -75,13 +77,7 @@ impl AtEach for BoundTargets<'_> {
 
     ghost knows = { λ rule g. AreSides g rule.sides.now × AreLeading g rule.leading.now };
 
-    fn put_at(
-        &self,
-        alloc: Global,
-        graph: &Graph,
-        number: u32,
-        events: &mut Vec<ModelEvent>,
-    ) -> Result<(), NoMemory> {
+    fn put_at(&self, alloc: Global, graph: &Graph, number: u32, events: &mut Events) -> Put {
         if is_own_shape(graph, number) {
             put_on_sides(alloc, graph, self.sides, self.leading, number, events)?;
             Ok(())
@@ -98,8 +94,8 @@ fn put_on_sides(
     sides: &Sides,
     leading: &[bool],
     shape: u32,
-    events: &mut Vec<ModelEvent>,
-) -> Result<(), NoMemory>
+    events: &mut Events,
+) -> Put
     requires shape { IsShapeNumber graph.now shape }
     requires own { is_own_shape (maps_of graph.now) (id_of_number graph.now shape) ≡ true }
     requires sides { AreSides graph.now sides.now }
@@ -108,9 +104,33 @@ fn put_on_sides(
         (Puts (IsEventIn HttpTarget (IsBoundWrongly (maps_of graph.now)) (home_of_binding (maps_of graph.now))
         (id_of_number graph.now shape)) events.old.items events.new.items) }
 {
-    put_on_side(alloc, graph, sides, leading, Side::Input, shape, events)?;
-    put_on_side(alloc, graph, sides, leading, Side::Output, shape, events)?;
-    put_on_side(alloc, graph, sides, leading, Side::Error, shape, events)?;
+    put_on_side(
+        alloc,
+        graph,
+        sides,
+        leading,
+        BindingSide::Input,
+        shape,
+        events,
+    )?;
+    put_on_side(
+        alloc,
+        graph,
+        sides,
+        leading,
+        BindingSide::Output,
+        shape,
+        events,
+    )?;
+    put_on_side(
+        alloc,
+        graph,
+        sides,
+        leading,
+        BindingSide::Error,
+        shape,
+        events,
+    )?;
     Ok(())
 }
 
@@ -119,10 +139,10 @@ fn put_on_side(
     graph: &Graph,
     sides: &Sides,
     leading: &[bool],
-    side: Side,
+    side: BindingSide,
     shape: u32,
-    events: &mut Vec<ModelEvent>,
-) -> Result<(), NoMemory>
+    events: &mut Events,
+) -> Put
     requires shape { IsShapeNumber graph.now shape }
     requires own { is_own_shape (maps_of graph.now) (id_of_number graph.now shape) ≡ true }
     requires sides { AreSides graph.now sides.now }
@@ -145,16 +165,16 @@ fn put_on_side(
     }
 }
 
-fn is_on(sides: &Sides, side: Side, number: usize) -> bool
+fn is_on(sides: &Sides, side: BindingSide, number: usize) -> bool
     requires inputs { number < length sides.now.inputs.items }
     requires outputs { number < length sides.now.outputs.items }
     requires errors { number < length sides.now.errors.items }
     ensures { result ≡ get_or (marks_of sides.now side) number false }
 {
     match side {
-        Side::Input => sides.inputs[number],
-        Side::Output => sides.outputs[number],
-        Side::Error => sides.errors[number],
+        BindingSide::Input => sides.inputs[number],
+        BindingSide::Output => sides.outputs[number],
+        BindingSide::Error => sides.errors[number],
     }
 }
 
@@ -163,10 +183,10 @@ fn put_of_members(
     alloc: Global,
     graph: &Graph,
     leading: &[bool],
-    side: Side,
+    side: BindingSide,
     members: &[u32],
-    events: &mut Vec<ModelEvent>,
-) -> Result<(), NoMemory>
+    events: &mut Events,
+) -> Put
     requires members { AreShapeNumbers graph.now members.now }
     requires leading { length leading.now ≡ length (entries_of graph.now) }
     ensures { OnOk result
@@ -196,11 +216,11 @@ fn put_each_member(
     alloc: Global,
     graph: &Graph,
     leading: &[bool],
-    side: Side,
+    side: BindingSide,
     payload: bool,
     members: &[u32],
-    events: &mut Vec<ModelEvent>,
-) -> Result<(), NoMemory>
+    events: &mut Events,
+) -> Put
     requires members { AreShapeNumbers graph.now members.now }
     requires leading { length leading.now ≡ length (entries_of graph.now) }
     ensures { OnOk result
@@ -216,11 +236,11 @@ fn put_member(
     alloc: Global,
     graph: &Graph,
     leading: &[bool],
-    side: Side,
+    side: BindingSide,
     payload: bool,
     member: u32,
-    events: &mut Vec<ModelEvent>,
-) -> Result<(), NoMemory>
+    events: &mut Events,
+) -> Put
     requires member { IsShapeNumber graph.now member }
     requires leading { length leading.now ≡ length (entries_of graph.now) }
     ensures { OnOk result
@@ -238,8 +258,8 @@ fn put_bindings(
     leading: &[bool],
     bindings: &[Binding],
     member: u32,
-    events: &mut Vec<ModelEvent>,
-) -> Result<(), NoMemory>
+    events: &mut Events,
+) -> Put
     requires member { IsShapeNumber graph.now member }
     requires leading { length leading.now ≡ length (entries_of graph.now) }
     ensures { OnOk result
@@ -257,8 +277,8 @@ fn put_binding(
     leading: &[bool],
     binding: Binding,
     member: u32,
-    events: &mut Vec<ModelEvent>,
-) -> Result<(), NoMemory>
+    events: &mut Events,
+) -> Put
     requires member { IsShapeNumber graph.now member }
     requires leading { length leading.now ≡ length (entries_of graph.now) }
     ensures { OnOk result (Puts (ToldBinding graph.now leading.now member binding) events.old.items events.new.items) }
@@ -297,11 +317,11 @@ fn is_bound_by(graph: &Graph, binding: Binding, member: u32) -> bool
 fn put_beside(
     alloc: Global,
     graph: &Graph,
-    side: Side,
+    side: BindingSide,
     payload: bool,
     member: u32,
-    events: &mut Vec<ModelEvent>,
-) -> Result<(), NoMemory>
+    events: &mut Events,
+) -> Put
     requires { IsShapeNumber graph.now member }
     ensures { OnOk result (Puts (ToldBeside graph.now side payload member) events.old.items events.new.items) }
 {
@@ -312,20 +332,20 @@ fn put_beside(
         Rule::HttpTarget,
         member,
         beside,
-        "smithy.api#httpPayload",
+        HTTP_PAYLOAD,
         events,
     )?;
     Ok(())
 }
 
-fn is_beside(graph: &Graph, side: Side, payload: bool, member: u32) -> bool
+fn is_beside(graph: &Graph, side: BindingSide, payload: bool, member: u32) -> bool
     requires { IsShapeNumber graph.now member }
     ensures { result ≡ (payload && is_in_document_at (maps_of graph.now) side (id_of_number graph.now member)) }
 {
     payload && is_in_document(graph, side, member)
 }
 
-fn is_in_document(graph: &Graph, side: Side, member: u32) -> bool
+fn is_in_document(graph: &Graph, side: BindingSide, member: u32) -> bool
     requires { IsShapeNumber graph.now member }
     ensures { result ≡ is_in_document_at (maps_of graph.now) side (id_of_number graph.now member) }
 {

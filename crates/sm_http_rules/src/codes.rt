@@ -13,15 +13,15 @@ ghost use Rattle.sm_passes.specs.Putting.{IsWhere};
 
 use crate::in_body::with_output_body;
 use itoa::Buffer;
+use sm_compile::trait_ids::{ERROR, HTTP_ERROR};
 use sm_compile::{number_of, text_in_trait, trait_node};
-use sm_model::{Graph, ModelEvent};
+use sm_model::Graph;
 use sm_passes::each::{AtEach, put_each};
 use sm_passes::http::code_of;
 use sm_passes::owned::is_own_structure;
-use sm_passes::putting::put_if;
+use sm_passes::putting::{Events, Put, put_if};
 use sm_rules::Rule;
 use sm_select::Ways;
-use sm_tree::NoMemory;
 use std::alloc::Global;
 
 #[derive(Drop)]
@@ -35,13 +35,7 @@ impl AtEach for Codes<'_> {
 
     ghost knows = { λ rule g. AreMarks (length (entries_of g)) (λ k. HasOutputBody (maps_of g) (id_of_number g k)) rule.bodied.now };
 
-    fn put_at(
-        &self,
-        alloc: Global,
-        graph: &Graph,
-        number: u32,
-        events: &mut Vec<ModelEvent>,
-    ) -> Result<(), NoMemory> {
+    fn put_at(&self, alloc: Global, graph: &Graph, number: u32, events: &mut Events) -> Put {
         put_code(alloc, graph, number, self.bodied[number as usize], events)?;
         put_status(alloc, graph, number, events)?;
         Ok(())
@@ -49,12 +43,7 @@ impl AtEach for Codes<'_> {
 }
 
 /// Puts the events of the rule, by the ways of the graph.
-pub fn put_codes(
-    alloc: Global,
-    graph: &Graph,
-    ways: &Ways,
-    events: &mut Vec<ModelEvent>,
-) -> Result<(), NoMemory>
+pub fn put_codes(alloc: Global, graph: &Graph, ways: &Ways, events: &mut Events) -> Put
     requires { AreWays graph.now ways.now }
     ensures { OnOk result
         (Puts (IsEventOf HttpCode (HasWrongStatusCode (maps_of graph.now))) events.old.items events.new.items) }
@@ -65,13 +54,7 @@ pub fn put_codes(
 }
 
 // Puts an event where an operation's code is wrong; `bodied` says whether its output has a member in the body.
-fn put_code(
-    alloc: Global,
-    graph: &Graph,
-    number: u32,
-    bodied: bool,
-    events: &mut Vec<ModelEvent>,
-) -> Result<(), NoMemory>
+fn put_code(alloc: Global, graph: &Graph, number: u32, bodied: bool, events: &mut Events) -> Put
     requires number { IsShapeNumber graph.now number }
     requires bodied { (bodied ≡ true) ↔ HasOutputBody (maps_of graph.now) (id_of_number graph.now number) }
     ensures { OnOk result
@@ -94,12 +77,7 @@ fn is_wrong_code(bodied: bool, code: i64) -> bool
 }
 
 // Puts an event where the status of an error is wrong.
-fn put_status(
-    alloc: Global,
-    graph: &Graph,
-    number: u32,
-    events: &mut Vec<ModelEvent>,
-) -> Result<(), NoMemory>
+fn put_status(alloc: Global, graph: &Graph, number: u32, events: &mut Events) -> Put
     requires { IsShapeNumber graph.now number }
     ensures { OnOk result
         (Puts (TellsStatus (maps_of graph.now) (id_of_number graph.now number)) events.old.items events.new.items) }
@@ -118,10 +96,7 @@ fn is_wrong_status(graph: &Graph, number: u32, status: i64) -> bool
     requires { IsShapeNumber graph.now number }
     ensures { result ≡ is_wrong_status (maps_of graph.now) (id_of_number graph.now number) status }
 {
-    !is_status_of(
-        text_in_trait(trait_node(graph, number, "smithy.api#error")),
-        status,
-    )
+    !is_status_of(text_in_trait(trait_node(graph, number, ERROR)), status)
 }
 
 // The status of a structure outside of the prelude.
@@ -130,7 +105,7 @@ fn status_of(graph: &Graph, number: u32) -> Option<i64>
     ensures { result ≡ status_seen (maps_of graph.now) (id_of_number graph.now number) }
 {
     if is_own_structure(graph, number) {
-        number_of(trait_node(graph, number, "smithy.api#httpError"))
+        number_of(trait_node(graph, number, HTTP_ERROR))
     } else {
         None
     }
@@ -143,8 +118,8 @@ fn put_number_if(
     number: u32,
     wrong: bool,
     value: i64,
-    events: &mut Vec<ModelEvent>,
-) -> Result<(), NoMemory>
+    events: &mut Events,
+) -> Put
     requires { IsShapeNumber graph.now number }
     ensures { OnOk result
         (Puts (IsWhere wrong (rule_event HttpCode (id_of_number graph.now number) (signed_decimal value)))

@@ -8,6 +8,7 @@ ghost use Rattle.sm_rules.specs.Http.{HasOutputBody};
 ghost use Rattle.sm_http_rules.specs.steps.InBody.{has_body_member, is_body_member, is_unbound};
 
 use sm_compile::members_of;
+use sm_compile::trait_ids::{HTTP_HEADER, HTTP_PAYLOAD, HTTP_PREFIX_HEADERS, HTTP_RESPONSE_CODE};
 use sm_model::{Graph, Relation};
 use sm_passes::carried::{carries, is_member};
 use sm_passes::marked::{NumberTest, marked_where};
@@ -55,16 +56,15 @@ fn is_body_member(graph: &Graph, number: u32) -> bool
     requires { IsShapeNumber graph.now number }
     ensures { result ≡ is_body_member (maps_of graph.now) (id_of_number graph.now number) }
 {
-    is_member(graph, number)
-        && (carries(graph, number, "smithy.api#httpPayload") || is_unbound(graph, number))
+    is_member(graph, number) && (carries(graph, number, HTTP_PAYLOAD) || is_unbound(graph, number))
 }
 
 fn is_unbound(graph: &Graph, number: u32) -> bool
     requires { IsShapeNumber graph.now number }
     ensures { result ≡ is_unbound (maps_of graph.now) (id_of_number graph.now number) }
 {
-    !(carries(graph, number, "smithy.api#httpHeader")
-        || carries(graph, number, "smithy.api#httpPrefixHeaders")
-        || carries(graph, number, "smithy.api#httpPayload")
-        || carries(graph, number, "smithy.api#httpResponseCode"))
+    !(carries(graph, number, HTTP_HEADER)
+        || carries(graph, number, HTTP_PREFIX_HEADERS)
+        || carries(graph, number, HTTP_PAYLOAD)
+        || carries(graph, number, HTTP_RESPONSE_CODE))
 }

@@ -6,6 +6,7 @@ ghost use Rattle.sm_model.specs.Reaching.{id_of_number};
 ghost use Rattle.sm_model.specs.Joins.{Joins};
 ghost use Rattle.sm_http_rules.specs.steps.Labels.{AreBound, AreBoundOf, AreEach, BoundRow, is_bound, label_row, rows_of_labels};
 
+use sm_compile::trait_ids::HTTP_LABEL;
 use sm_compile::{member_name, members_of};
 use sm_model::Graph;
 use sm_passes::carried::{carries, is_member};
@@ -177,5 +178,5 @@ fn is_bound(graph: &Graph, member: u32) -> bool
     requires { IsShapeNumber graph.now member }
     ensures { result ≡ is_bound (maps_of graph.now) (id_of_number graph.now member) }
 {
-    is_member(graph, member) && carries(graph, member, "smithy.api#httpLabel")
+    is_member(graph, member) && carries(graph, member, HTTP_LABEL)
 }

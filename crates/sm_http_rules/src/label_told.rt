@@ -10,12 +10,13 @@ ghost use Rattle.sm_passes.specs.Putting.{ToldOf};
 ghost use Rattle.sm_http_rules.specs.steps.Labels.{ToldByRows, ToldLabel, ToldMember, is_wrong_member};
 
 use crate::targets::{Wanted, targets_at};
-use sm_model::{Graph, ModelEvent};
+use sm_compile::trait_ids::REQUIRED;
+use sm_model::Graph;
 use sm_passes::carried::carries;
 use sm_passes::firsts::{first_numbers, first_of};
-use sm_passes::putting::put_if;
+use sm_passes::putting::{Events, Put, put_if};
 use sm_rules::Rule;
-use sm_tree::{NoMemory, Text};
+use sm_tree::Text;
 use std::alloc::Global;
 use std::collections::BTreeMap;
 
@@ -27,8 +28,8 @@ pub(crate) fn put_by_rows(
     labels: &[(Text, u32)],
     greedy: &[(Text, u32)],
     bound: &[(Text, u32)],
-    events: &mut Vec<ModelEvent>,
-) -> Result<(), NoMemory>
+    events: &mut Events,
+) -> Put
     requires operation { IsShapeNumber graph.now operation }
     requires members { (r : List ℕ × ℕ) → Contains bound.now r → IsShapeNumber graph.now r.1 }
     ensures { OnOk result
@@ -51,8 +52,8 @@ fn put_unbound(
     operation: u32,
     by_member: &BTreeMap<&str, u32>,
     labels: &[(Text, u32)],
-    events: &mut Vec<ModelEvent>,
-) -> Result<(), NoMemory>
+    events: &mut Events,
+) -> Put
     requires { IsShapeNumber graph.now operation }
     ensures { OnOk result
         (Puts (ToldOf (ToldLabel (id_of_number graph.now operation) (number_in by_member.now)) labels.now)
@@ -70,8 +71,8 @@ fn put_label(
     operation: u32,
     by_member: &BTreeMap<&str, u32>,
     row: &(Text, u32),
-    events: &mut Vec<ModelEvent>,
-) -> Result<(), NoMemory>
+    events: &mut Events,
+) -> Put
     requires { IsShapeNumber graph.now operation }
     ensures { OnOk result
         (Puts (ToldLabel (id_of_number graph.now operation) (number_in by_member.now) row.now) events.old.items events.new.items) }
@@ -98,8 +99,8 @@ fn put_bound(
     by_label: &BTreeMap<&str, u32>,
     by_greedy: &BTreeMap<&str, u32>,
     bound: &[(Text, u32)],
-    events: &mut Vec<ModelEvent>,
-) -> Result<(), NoMemory>
+    events: &mut Events,
+) -> Put
     requires operation { IsShapeNumber graph.now operation }
     requires members { (r : List ℕ × ℕ) → Contains bound.now r → IsShapeNumber graph.now r.1 }
     ensures { OnOk result
@@ -119,8 +120,8 @@ fn put_member(
     by_label: &BTreeMap<&str, u32>,
     by_greedy: &BTreeMap<&str, u32>,
     row: &(Text, u32),
-    events: &mut Vec<ModelEvent>,
-) -> Result<(), NoMemory>
+    events: &mut Events,
+) -> Put
     requires operation { IsShapeNumber graph.now operation }
     requires member { IsShapeNumber graph.now row.now.1 }
     ensures { OnOk result
@@ -150,9 +151,7 @@ fn is_wrong_member(graph: &Graph, member: u32, label: Option<u32>, greedy: Optio
     requires { IsShapeNumber graph.now member }
     ensures { result ≡ is_wrong_member (maps_of graph.now) (id_of_number graph.now member) label greedy }
 {
-    is_missing(label)
-        || !carries(graph, member, "smithy.api#required")
-        || is_other_shape(graph, member, greedy)
+    is_missing(label) || !carries(graph, member, REQUIRED) || is_other_shape(graph, member, greedy)
 }
 
 fn is_missing(found: Option<u32>) -> bool

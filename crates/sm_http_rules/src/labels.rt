@@ -14,20 +14,16 @@ ghost use Rattle.sm_http_rules.specs.steps.Labels.{AreBoundOf, AreEach, is_input
 
 use crate::label_rows::{BoundRows, all_bound_rows, label_rows};
 use crate::label_told::put_by_rows;
-use sm_model::{Graph, Link, ModelEvent, Relation};
+use sm_model::{Graph, Link, Relation};
 use sm_passes::http::uri_of;
+use sm_passes::putting::{Events, Put};
 use sm_select::Ways;
 use sm_tree::{NoMemory, Text};
 use sm_uri::{Segment, UriPattern, UriRefusal};
 use std::alloc::Global;
 
 /// Puts the events of the rule, by the ways of the graph. n log n.
-pub fn put_labels(
-    alloc: Global,
-    graph: &Graph,
-    ways: &Ways,
-    events: &mut Vec<ModelEvent>,
-) -> Result<(), NoMemory>
+pub fn put_labels(alloc: Global, graph: &Graph, ways: &Ways, events: &mut Events) -> Put
     requires { AreWays graph.now ways.now }
     ensures { OnOk result
         (Puts (IsEventOf HttpLabels (HasWrongLabel (maps_of graph.now))) events.old.items events.new.items) }
@@ -48,8 +44,8 @@ fn put_by_links(
     graph: &Graph,
     links: &[Link],
     bound: &[BoundRows],
-    events: &mut Vec<ModelEvent>,
-) -> Result<(), NoMemory>
+    events: &mut Events,
+) -> Put
     requires links { (l : Link) → Contains links.now l → IsLinked graph.now l }
     requires bound { AreEach (AreBoundOf graph.now) [] (length (entries_of graph.now)) bound.now }
     ensures { OnOk result (Puts (ToldOf (ToldByLink graph.now) links.now) events.old.items events.new.items) }
@@ -66,8 +62,8 @@ fn put_by_link(
     graph: &Graph,
     link: &Link,
     bound: &[BoundRows],
-    events: &mut Vec<ModelEvent>,
-) -> Result<(), NoMemory>
+    events: &mut Events,
+) -> Put
     requires link { IsLinked graph.now link.now }
     requires bound { AreEach (AreBoundOf graph.now) [] (length (entries_of graph.now)) bound.now }
     ensures { OnOk result (Puts (ToldByLink graph.now link.now) events.old.items events.new.items) }
@@ -101,8 +97,8 @@ fn put_of_operation(
     graph: &Graph,
     link: &Link,
     bound: &[(Text, u32)],
-    events: &mut Vec<ModelEvent>,
-) -> Result<(), NoMemory>
+    events: &mut Events,
+) -> Put
     requires operation { IsShapeNumber graph.now link.now.from }
     requires bound { AreBoundOf graph.now link.now.to bound.now }
     ensures { OnOk result
@@ -125,8 +121,8 @@ fn put_of_text(
     link: &Link,
     bound: &[(Text, u32)],
     text: &str,
-    events: &mut Vec<ModelEvent>,
-) -> Result<(), NoMemory>
+    events: &mut Events,
+) -> Put
     requires operation { IsShapeNumber graph.now link.now.from }
     requires bound { AreBoundOf graph.now link.now.to bound.now }
     requires said { Some text.now ≡ uri_seen (maps_of graph.now) (id_of_number graph.now link.now.from) }
@@ -151,8 +147,8 @@ fn put_of_uri(
     link: &Link,
     bound: &[(Text, u32)],
     segments: &[Segment],
-    events: &mut Vec<ModelEvent>,
-) -> Result<(), NoMemory>
+    events: &mut Events,
+) -> Put
     requires operation { IsShapeNumber graph.now link.now.from }
     requires bound { AreBoundOf graph.now link.now.to bound.now }
     ensures { OnOk result

@@ -5,12 +5,11 @@ ghost use Rattle.sm_rules.specs.RuleEvents.{IsEventAt, IsEventOf, Puts};
 ghost use Rattle.sm_rules.specs.declared.rule.Rule.TheVariants.{HttpMethod};
 ghost use Rattle.sm_rules.specs.Http.{HasOtherMethod, is_routed};
 
-use sm_model::{Graph, ModelEvent};
+use sm_model::Graph;
 use sm_passes::each::{AtEach, put_each};
 use sm_passes::http::method_of;
-use sm_passes::putting::put_if;
+use sm_passes::putting::{Events, Put, put_if};
 use sm_rules::Rule;
-use sm_tree::NoMemory;
 use std::alloc::Global;
 
 #[derive(Drop)]
@@ -21,13 +20,7 @@ impl AtEach for Methods {
 
     ghost knows = { λ rule g. Unit {0} };
 
-    fn put_at(
-        &self,
-        alloc: Global,
-        graph: &Graph,
-        number: u32,
-        events: &mut Vec<ModelEvent>,
-    ) -> Result<(), NoMemory> {
+    fn put_at(&self, alloc: Global, graph: &Graph, number: u32, events: &mut Events) -> Put {
         match method_of(graph, number) {
             Some(method) => {
                 let other = !is_routed(method);
@@ -48,11 +41,7 @@ impl AtEach for Methods {
 }
 
 /// Puts the events of the rule.
-pub fn put_methods(
-    alloc: Global,
-    graph: &Graph,
-    events: &mut Vec<ModelEvent>,
-) -> Result<(), NoMemory>
+pub fn put_methods(alloc: Global, graph: &Graph, events: &mut Events) -> Put
     ensures { OnOk result
         (Puts (IsEventOf HttpMethod (HasOtherMethod (maps_of graph.now))) events.old.items events.new.items) }
 {

@@ -11,13 +11,14 @@ ghost use Rattle.sm_rules.specs.WireNames.{name_in_json, named_by, own_name};
 ghost use Rattle.sm_passes.specs.RowTests.{reads_by};
 ghost use Rattle.sm_http_rules.specs.steps.Naming.{key_of, name_of};
 
+use sm_compile::trait_ids::{HTTP_HEADER, HTTP_QUERY, JSON_NAME};
 use sm_compile::{id_text, text_in_trait, trait_node};
 use sm_ids::ShapeId;
 use sm_model::Graph;
 use sm_passes::folded::folded;
-use sm_passes::rows::form::{Form, is_of_form};
+use sm_passes::rows::form::{RowForm, is_of_form};
 use sm_passes::rows::names::{RowTest, some_row};
-use sm_passes::rows::place::Place;
+use sm_passes::rows::place::RowPlace;
 use sm_tree::{NoMemory, Text, Tree};
 use std::alloc::Global;
 
@@ -39,8 +40,8 @@ pub(crate) fn name_of(graph: &Graph, naming: Naming, shape: u32, member: u32) ->
     ensures { option_copied result ≡ name_of naming (maps_of graph.now) (id_of_number graph.now shape) (id_of_number graph.now member) }
 {
     match naming {
-        Naming::Header => text_in_trait(read_trait(graph, member, "smithy.api#httpHeader")),
-        Naming::Query => text_in_trait(read_trait(graph, member, "smithy.api#httpQuery")),
+        Naming::Header => text_in_trait(read_trait(graph, member, HTTP_HEADER)),
+        Naming::Query => text_in_trait(read_trait(graph, member, HTTP_QUERY)),
         Naming::Json => name_in_json(graph, shape, member),
     }
 }
@@ -91,7 +92,7 @@ struct Reads<'a> {
 impl RowTest for Reads<'_> {
     ghost passes = { λ test. reads_by (node_of test.tree.now) };
 
-    fn passes(&self, form: Form, _place: Place) -> bool {
+    fn passes(&self, form: RowForm, _place: RowPlace) -> bool {
         is_of_form(form, self.tree)
     }
 }
@@ -102,7 +103,7 @@ fn name_in_json(graph: &Graph, shape: u32, member: u32) -> Option<&str>
     ensures { option_copied result ≡ name_in_json (maps_of graph.now) (id_of_number graph.now shape) (id_of_number graph.now member) }
 {
     let own = own_name(graph, shape, member);
-    named_by(own, trait_node(graph, member, "smithy.api#jsonName"))
+    named_by(own, trait_node(graph, member, JSON_NAME))
 }
 
 fn named_by<'a>(own: &'a str, tree: Option<&'a Tree>) -> Option<&'a str>

@@ -13,21 +13,17 @@ ghost use Rattle.sm_http_rules.specs.steps.WireNames.{IsHeader, ToldBegun, ToldP
 
 use crate::naming::read_trait;
 use crate::shortest::{begins_with_one, shortest};
+use sm_compile::trait_ids::{HTTP_HEADER, HTTP_PREFIX_HEADERS};
 use sm_compile::{members_of, text_in_trait};
-use sm_model::{Graph, ModelEvent};
+use sm_model::Graph;
 use sm_passes::folded::folded;
-use sm_passes::putting::put_event;
+use sm_passes::putting::{Events, Put, put_event};
 use sm_rules::Rule;
 use sm_tree::{NoMemory, Text};
 use std::alloc::Global;
 
 /// Puts the events of the members of a shape.
-pub(crate) fn put_prefixed(
-    alloc: Global,
-    graph: &Graph,
-    shape: u32,
-    events: &mut Vec<ModelEvent>,
-) -> Result<(), NoMemory>
+pub(crate) fn put_prefixed(alloc: Global, graph: &Graph, shape: u32, events: &mut Events) -> Put
     requires shape { IsShapeNumber graph.now shape }
     requires own { is_own_shape (maps_of graph.now) (id_of_number graph.now shape) ≡ true }
     ensures { OnOk result (Puts (ToldPrefixed (maps_of graph.now) (id_of_number graph.now shape)) events.old.items events.new.items) }
@@ -37,12 +33,7 @@ pub(crate) fn put_prefixed(
 }
 
 // Of these members of a shape.
-fn put_begun(
-    alloc: Global,
-    graph: &Graph,
-    members: &[u32],
-    events: &mut Vec<ModelEvent>,
-) -> Result<(), NoMemory>
+fn put_begun(alloc: Global, graph: &Graph, members: &[u32], events: &mut Events) -> Put
     requires { AreShapeNumbers graph.now members.now }
     ensures { OnOk result
         (Puts (ToldOf (ToldBegun graph.now (prefixes_of graph.now members.now)) members.now) events.old.items events.new.items) }
@@ -75,7 +66,7 @@ fn add_prefix(
     ensures { OnOk result (prefixes.new.items ≡ prefixes.old.items ++ cons_option
         (prefix_of (maps_of graph.now) (id_of_number graph.now member)) []) }
 {
-    let prefix = text_in_trait(read_trait(graph, member, "smithy.api#httpPrefixHeaders"));
+    let prefix = text_in_trait(read_trait(graph, member, HTTP_PREFIX_HEADERS));
     add_text(alloc, prefix, prefixes)?;
     Ok(())
 }
@@ -101,8 +92,8 @@ fn put_each_begun(
     graph: &Graph,
     prefixes: &[Text],
     members: &[u32],
-    events: &mut Vec<ModelEvent>,
-) -> Result<(), NoMemory>
+    events: &mut Events,
+) -> Put
     requires apart { AreApart prefixes.now }
     requires members { AreShapeNumbers graph.now members.now }
     ensures { OnOk result (Puts (ToldOf (ToldBegun graph.now prefixes.now) members.now) events.old.items events.new.items) }
@@ -118,8 +109,8 @@ fn put_begun_at(
     graph: &Graph,
     prefixes: &[Text],
     member: u32,
-    events: &mut Vec<ModelEvent>,
-) -> Result<(), NoMemory>
+    events: &mut Events,
+) -> Put
     requires apart { AreApart prefixes.now }
     requires member { IsShapeNumber graph.now member }
     ensures { OnOk result (Puts (ToldBegun graph.now prefixes.now member) events.old.items events.new.items) }
@@ -137,7 +128,7 @@ fn header_name(graph: &Graph, member: u32) -> Option<&str>
     requires { IsShapeNumber graph.now member }
     ensures { option_copied result ≡ header_name (maps_of graph.now) (id_of_number graph.now member) }
 {
-    text_in_trait(read_trait(graph, member, "smithy.api#httpHeader"))
+    text_in_trait(read_trait(graph, member, HTTP_HEADER))
 }
 
 // Where the header of a member begins with one of them.
@@ -147,8 +138,8 @@ fn put_header(
     prefixes: &[Text],
     member: u32,
     header: &str,
-    events: &mut Vec<ModelEvent>,
-) -> Result<(), NoMemory>
+    events: &mut Events,
+) -> Put
     requires apart { AreApart prefixes.now }
     requires member { IsShapeNumber graph.now member }
     ensures { OnOk result

@@ -15,9 +15,9 @@ ghost use Rattle.sm_http_rules.specs.steps.SameRoutes.{ToldOfNumbers, ToldOfRows
 
 use crate::same_routes::same_routes;
 use sm_compile::id_text;
-use sm_model::{Graph, ModelEvent};
+use sm_model::Graph;
 use sm_passes::closures::Closure;
-use sm_passes::putting::put_event;
+use sm_passes::putting::{Events, Put, put_event};
 use sm_passes::services::{OfServices, put_by_closures};
 use sm_rules::Rule;
 use sm_select::Ways;
@@ -27,12 +27,7 @@ use std::alloc::Global;
 /// Puts the events of the rule, by the ways of the graph. n log n where no two operations of the graph have one method and one pattern.
 /// Else beside that, for each group of services with the same references: a walk of its closure, n log n in what it has of routes that
 /// stand twice, and an event for each pair in it. So time is pairs times groups that lead to both; memory is the answer's and a group's.
-pub fn put_routes(
-    alloc: Global,
-    graph: &Graph,
-    ways: &Ways,
-    events: &mut Vec<ModelEvent>,
-) -> Result<(), NoMemory>
+pub fn put_routes(alloc: Global, graph: &Graph, ways: &Ways, events: &mut Events) -> Put
     requires { AreWays graph.now ways.now }
     ensures { OnOk result
         (Puts (IsEventOf HttpRoutes (HasSameRoute (maps_of graph.now))) events.old.items events.new.items) }
@@ -62,8 +57,8 @@ fn put_by_firsts(
     graph: &Graph,
     ways: &Ways,
     firsts: &[Option<u32>],
-    events: &mut Vec<ModelEvent>,
-) -> Result<(), NoMemory>
+    events: &mut Events,
+) -> Put
     requires ways { AreWays graph.now ways.now }
     requires firsts { AreSameRoutes graph.now firsts.now }
     ensures { OnOk result
@@ -94,8 +89,8 @@ impl OfServices for Routes<'_> {
         graph: &Graph,
         services: &[u32],
         closure: &Closure,
-        events: &mut Vec<ModelEvent>,
-    ) -> Result<(), NoMemory> {
+        events: &mut Events,
+    ) -> Put {
         put_inside(alloc, graph, self.firsts, closure.numbers(), events)?;
         Ok(())
     }
@@ -107,8 +102,8 @@ fn put_inside(
     graph: &Graph,
     firsts: &[Option<u32>],
     numbers: &[u32],
-    events: &mut Vec<ModelEvent>,
-) -> Result<(), NoMemory>
+    events: &mut Events,
+) -> Put
     requires { AreSameRoutes graph.now firsts.now }
     ensures { OnOk result
         (Puts (ToldOfNumbers graph.now firsts.now numbers.now) events.old.items events.new.items) }
@@ -157,12 +152,7 @@ fn first_of(firsts: &[Option<u32>], number: u32) -> Option<u32>
 }
 
 // Of each two rows with one first.
-fn put_rows(
-    alloc: Global,
-    graph: &Graph,
-    rows: &[(u32, u32)],
-    events: &mut Vec<ModelEvent>,
-) -> Result<(), NoMemory>
+fn put_rows(alloc: Global, graph: &Graph, rows: &[(u32, u32)], events: &mut Events) -> Put
     requires order { AreByFirsts rows.now }
     requires numbers { (r : ℕ × ℕ) → Contains rows.now r → IsShapeNumber graph.now r.1 }
     ensures { OnOk result (Puts (ToldOfRows graph.now rows.now) events.old.items events.new.items) }
@@ -196,8 +186,8 @@ fn put_with(
     graph: &Graph,
     others: &[(u32, u32)],
     number: u32,
-    events: &mut Vec<ModelEvent>,
-) -> Result<(), NoMemory>
+    events: &mut Events,
+) -> Put
     requires others { (r : ℕ × ℕ) → Contains others.now r → IsShapeNumber graph.now r.1 }
     requires number { IsShapeNumber graph.now number }
     ensures { OnOk result
@@ -209,13 +199,7 @@ fn put_with(
     Ok(())
 }
 
-fn put_pair(
-    alloc: Global,
-    graph: &Graph,
-    one: u32,
-    other: u32,
-    events: &mut Vec<ModelEvent>,
-) -> Result<(), NoMemory>
+fn put_pair(alloc: Global, graph: &Graph, one: u32, other: u32, events: &mut Events) -> Put
     requires one { IsShapeNumber graph.now one }
     requires other { IsShapeNumber graph.now other }
     ensures { OnOk result (Puts (IsEitherTold graph.now one other) events.old.items events.new.items) }
@@ -231,13 +215,7 @@ fn put_pair(
 }
 
 // At the greater, with the smaller.
-fn put_told(
-    alloc: Global,
-    graph: &Graph,
-    smaller: u32,
-    greater: u32,
-    events: &mut Vec<ModelEvent>,
-) -> Result<(), NoMemory>
+fn put_told(alloc: Global, graph: &Graph, smaller: u32, greater: u32, events: &mut Events) -> Put
     requires smaller { IsShapeNumber graph.now smaller }
     requires greater { IsShapeNumber graph.now greater }
     requires order { smaller < greater }

@@ -8,6 +8,7 @@ ghost use Rattle.sm_select.specs.Images.{AreImage};
 ghost use Rattle.sm_select.specs.Ways.{AreWays};
 ghost use Rattle.sm_http_rules.specs.Sides.{AreSides, MayErr, is_http_operation, may_err};
 
+use sm_compile::trait_ids::HTTP;
 use sm_model::{Graph, Relation};
 use sm_passes::carried::carries;
 use sm_passes::closures::is_own_service;
@@ -36,7 +37,7 @@ impl NumberTest for HttpOperations {
     ghost passes = { λ test. is_http_operation };
 
     fn passes(&self, graph: &Graph, number: u32) -> bool {
-        is_own_operation(graph, number) && carries(graph, number, "smithy.api#http")
+        is_own_operation(graph, number) && carries(graph, number, HTTP)
     }
 }
 

@@ -8,10 +8,10 @@ ghost use Rattle.sm_rules.specs.RuleEvents.{IsEventAt, IsEventOf, Puts, rule_eve
 ghost use Rattle.sm_rules.specs.declared.rule.Rule.TheVariants.{HttpUri};
 ghost use Rattle.sm_passes.specs.Putting.{IsUnless};
 
-use sm_model::{Graph, ModelEvent};
+use sm_model::Graph;
 use sm_passes::each::{AtEach, put_each};
 use sm_passes::http::uri_of;
-use sm_passes::putting::put_event;
+use sm_passes::putting::{Events, Put, put_event};
 use sm_rules::Rule;
 use sm_tree::NoMemory;
 use sm_uri::{UriPattern, UriRefusal};
@@ -25,13 +25,7 @@ impl AtEach for Uris {
 
     ghost knows = { λ rule g. Unit {0} };
 
-    fn put_at(
-        &self,
-        alloc: Global,
-        graph: &Graph,
-        number: u32,
-        events: &mut Vec<ModelEvent>,
-    ) -> Result<(), NoMemory> {
+    fn put_at(&self, alloc: Global, graph: &Graph, number: u32, events: &mut Events) -> Put {
         match uri_of(graph, number) {
             Some(text) => {
                 put_no_uri(alloc, graph, number, text, events)?;
@@ -43,7 +37,7 @@ impl AtEach for Uris {
 }
 
 /// Puts the events of the rule. n log n in the texts.
-pub fn put_uris(alloc: Global, graph: &Graph, events: &mut Vec<ModelEvent>) -> Result<(), NoMemory>
+pub fn put_uris(alloc: Global, graph: &Graph, events: &mut Events) -> Put
     ensures { OnOk result (Puts (IsEventOf HttpUri (HasNoUri (maps_of graph.now))) events.old.items events.new.items) }
 {
     put_each(alloc, graph, &Uris, events)?;
@@ -51,13 +45,7 @@ pub fn put_uris(alloc: Global, graph: &Graph, events: &mut Vec<ModelEvent>) -> R
 }
 
 // Puts an event where a text is no pattern.
-fn put_no_uri(
-    alloc: Global,
-    graph: &Graph,
-    number: u32,
-    text: &str,
-    events: &mut Vec<ModelEvent>,
-) -> Result<(), NoMemory>
+fn put_no_uri(alloc: Global, graph: &Graph, number: u32, text: &str, events: &mut Events) -> Put
     requires { IsShapeNumber graph.now number }
     ensures { OnOk result
         (Puts (IsUnless (IsUriText text.now) (rule_event HttpUri (id_of_number graph.now number) []))

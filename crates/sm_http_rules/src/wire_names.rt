@@ -14,19 +14,14 @@ use crate::naming::Naming;
 use crate::prefixes::put_prefixed;
 use crate::sides::Sides;
 use sm_compile::kind_of;
-use sm_model::{Graph, Kind, ModelEvent, mark_at};
+use sm_model::{Graph, Kind, mark_at};
 use sm_passes::each::{AtEach, put_each};
 use sm_passes::owned::is_own_shape;
-use sm_tree::NoMemory;
+use sm_passes::putting::{Events, Put};
 use std::alloc::Global;
 
 /// Puts the events of the rule, by the shapes on each side. n log n.
-pub fn put_wire_names(
-    alloc: Global,
-    graph: &Graph,
-    sides: &Sides,
-    events: &mut Vec<ModelEvent>,
-) -> Result<(), NoMemory>
+pub fn put_wire_names(alloc: Global, graph: &Graph, sides: &Sides, events: &mut Events) -> Put
     requires { AreSides graph.now sides.now }
     ensures { OnOk result
         (Puts (IsEventOf WireNames (HasWireNameAgain (maps_of graph.now))) events.old.items events.new.items) }
@@ -45,13 +40,7 @@ impl AtEach for Named<'_> {
 
     ghost knows = { λ rule g. AreSides g rule.sides.now };
 
-    fn put_at(
-        &self,
-        alloc: Global,
-        graph: &Graph,
-        number: u32,
-        events: &mut Vec<ModelEvent>,
-    ) -> Result<(), NoMemory> {
+    fn put_at(&self, alloc: Global, graph: &Graph, number: u32, events: &mut Events) -> Put {
         if is_own_shape(graph, number) {
             put_names(alloc, graph, self.sides, number, events)?;
             Ok(())
@@ -62,13 +51,7 @@ impl AtEach for Named<'_> {
 }
 
 // Of the members of a shape.
-fn put_names(
-    alloc: Global,
-    graph: &Graph,
-    sides: &Sides,
-    shape: u32,
-    events: &mut Vec<ModelEvent>,
-) -> Result<(), NoMemory>
+fn put_names(alloc: Global, graph: &Graph, sides: &Sides, shape: u32, events: &mut Events) -> Put
     requires shape { IsShapeNumber graph.now shape }
     requires own { is_own_shape (maps_of graph.now) (id_of_number graph.now shape) ≡ true }
     requires sides { AreSides graph.now sides.now }
@@ -80,13 +63,7 @@ fn put_names(
     Ok(())
 }
 
-fn put_headers(
-    alloc: Global,
-    graph: &Graph,
-    sides: &Sides,
-    shape: u32,
-    events: &mut Vec<ModelEvent>,
-) -> Result<(), NoMemory>
+fn put_headers(alloc: Global, graph: &Graph, sides: &Sides, shape: u32, events: &mut Events) -> Put
     requires shape { IsShapeNumber graph.now shape }
     requires own { is_own_shape (maps_of graph.now) (id_of_number graph.now shape) ≡ true }
     requires sides { AreSides graph.now sides.now }
@@ -110,13 +87,7 @@ fn is_on_side(sides: &Sides, number: usize) -> bool
     sides.inputs[number] || sides.outputs[number] || sides.errors[number]
 }
 
-fn put_queries(
-    alloc: Global,
-    graph: &Graph,
-    sides: &Sides,
-    shape: u32,
-    events: &mut Vec<ModelEvent>,
-) -> Result<(), NoMemory>
+fn put_queries(alloc: Global, graph: &Graph, sides: &Sides, shape: u32, events: &mut Events) -> Put
     requires shape { IsShapeNumber graph.now shape }
     requires own { is_own_shape (maps_of graph.now) (id_of_number graph.now shape) ≡ true }
     requires sides { AreSides graph.now sides.now }
@@ -130,12 +101,7 @@ fn put_queries(
     }
 }
 
-fn put_json(
-    alloc: Global,
-    graph: &Graph,
-    shape: u32,
-    events: &mut Vec<ModelEvent>,
-) -> Result<(), NoMemory>
+fn put_json(alloc: Global, graph: &Graph, shape: u32, events: &mut Events) -> Put
     requires shape { IsShapeNumber graph.now shape }
     requires own { is_own_shape (maps_of graph.now) (id_of_number graph.now shape) ≡ true }
     ensures { OnOk result (Puts (ToldJson (maps_of graph.now) (id_of_number graph.now shape)) events.old.items events.new.items) }

@@ -9,6 +9,7 @@ ghost use Rattle.sm_model.specs.Reaching.{id_of_number};
 ghost use Rattle.sm_load.specs.Suppressions.{is_suppressed_there, names_event, node_names, some_node, text_names};
 ghost use Rattle.sm_load.specs.steps.Naming.{ends_word, value_names};
 
+use sm_compile::trait_ids::SUPPRESS;
 use sm_compile::{text_in_trait, trait_node};
 use sm_model::{Graph, entries_of};
 use sm_passes::rows::texts::are_text_nodes;
@@ -48,7 +49,7 @@ pub(crate) fn is_suppressed_there(graph: &Graph, number: u32, event: &str) -> bo
     requires { IsShapeNumber graph.now number }
     ensures { result ≡ is_suppressed_there (maps_of graph.now) (id_of_number graph.now number) event.now }
 {
-    match trait_node(graph, number, "smithy.api#suppress") {
+    match trait_node(graph, number, SUPPRESS) {
         Some(tree) => value_names(tree, event),
         None => false,
     }

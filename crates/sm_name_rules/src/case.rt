@@ -9,18 +9,18 @@ ghost use Rattle.sm_passes.specs.Firsts.{ToldAmong, ToldFirst, number_in};
 ghost use Rattle.sm_passes.specs.Folded.{folded, folded_at, folded_below};
 
 use sm_compile::id_text;
-use sm_model::{Graph, ModelEvent};
+use sm_model::Graph;
 use sm_passes::firsts::{first_numbers, first_of};
 use sm_passes::folded::folded;
 use sm_passes::owned::is_own_shape;
-use sm_passes::putting::put_if;
+use sm_passes::putting::{Events, Put, put_if};
 use sm_rules::Rule;
 use sm_tree::{NoMemory, Text};
 use std::alloc::Global;
 use std::collections::BTreeMap;
 
 /// Puts the events of the rule. n log n.
-pub fn put_twins(alloc: Global, graph: &Graph, events: &mut Vec<ModelEvent>) -> Result<(), NoMemory>
+pub fn put_twins(alloc: Global, graph: &Graph, events: &mut Events) -> Put
     ensures { OnOk result
         (Puts (IsEventOf IdCase (HasCaseTwin (maps_of graph.now))) events.old.items events.new.items) }
 {
@@ -35,8 +35,8 @@ fn put_each_twin(
     graph: &Graph,
     firsts: &BTreeMap<&str, u32>,
     rows: &[(Text, u32)],
-    events: &mut Vec<ModelEvent>,
-) -> Result<(), NoMemory>
+    events: &mut Events,
+) -> Put
     requires numbers { (r : List ℕ × ℕ) → Contains rows.now r → IsShapeNumber graph.now r.1 }
     requires firsts { (key : List ℕ) (j : ℕ) → number_in firsts.now key ≡ Some j → IsShapeNumber graph.now j }
     ensures { OnOk result
@@ -82,8 +82,8 @@ fn put_twin(
     graph: &Graph,
     firsts: &BTreeMap<&str, u32>,
     row: &(Text, u32),
-    events: &mut Vec<ModelEvent>,
-) -> Result<(), NoMemory>
+    events: &mut Events,
+) -> Put
     requires number { IsShapeNumber graph.now row.now.1 }
     requires firsts { (key : List ℕ) (j : ℕ) → number_in firsts.now key ≡ Some j → IsShapeNumber graph.now j }
     ensures { OnOk result

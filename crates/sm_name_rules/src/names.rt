@@ -23,29 +23,25 @@ use crate::earlier::{are_apart, earlier_numbers, own_rows};
 use crate::given_names::numbers_alike;
 use crate::name_twins::{NamesInside, names_inside};
 use crate::named::{names_given, rows_among};
+use sm_compile::trait_ids::ERROR;
 use sm_compile::{field_of, id_text, kind_of};
-use sm_model::{Graph, Kind, ModelEvent, pairs_of};
+use sm_model::{Graph, Kind, pairs_of};
 use sm_passes::carried::carries;
 use sm_passes::closures::Closure;
 use sm_passes::earlier::{OfFirst, put_later};
 use sm_passes::firsts::first_numbers;
-use sm_passes::putting::{put_event, put_if};
+use sm_passes::putting::{Events, Put, put_event, put_if};
 use sm_passes::services::{OfServices, put_by_closures};
 use sm_rules::Rule;
 use sm_select::Ways;
-use sm_tree::{NoMemory, Text, Tree};
+use sm_tree::{Text, Tree};
 use std::alloc::Global;
 use std::collections::BTreeMap;
 
 /// Puts the events of the rule, by the ways of the graph. n log n where no two names of the graph are equal but for case and no service
 /// gives names; else services with the same references share a walk of their closure and what it has of names, n log n in the closure,
 /// and each of them is n log n in the names that others of its closure have and in its `rename`.
-pub fn put_names(
-    alloc: Global,
-    graph: &Graph,
-    ways: &Ways,
-    events: &mut Vec<ModelEvent>,
-) -> Result<(), NoMemory>
+pub fn put_names(alloc: Global, graph: &Graph, ways: &Ways, events: &mut Events) -> Put
     requires { AreWays graph.now ways.now }
     ensures { OnOk result
         (Puts (IsEventOf ServiceNames (HasWrongNames (maps_of graph.now))) events.old.items events.new.items) }
@@ -87,8 +83,8 @@ impl OfServices for Names<'_, '_> {
         graph: &Graph,
         services: &[u32],
         closure: &Closure,
-        events: &mut Vec<ModelEvent>,
-    ) -> Result<(), NoMemory> {
+        events: &mut Events,
+    ) -> Put {
         let inside = names_inside(alloc, self.firsts, self.earlier, closure)?;
         put_names_each(alloc, graph, &inside, services, events)?;
         Ok(())
@@ -114,8 +110,8 @@ fn put_names_each(
     graph: &Graph,
     names: &NamesInside,
     services: &[u32],
-    events: &mut Vec<ModelEvent>,
-) -> Result<(), NoMemory>
+    events: &mut Events,
+) -> Put
     requires own { AreOwnServices graph.now services.now }
     requires inside { AreInsideOf graph.now services.now names.now.inside.now }
     requires names { AreNamesInside graph.now names.now }
@@ -133,8 +129,8 @@ fn put_names_of_service(
     graph: &Graph,
     names: &NamesInside,
     service: u32,
-    events: &mut Vec<ModelEvent>,
-) -> Result<(), NoMemory>
+    events: &mut Events,
+) -> Put
     requires number { IsShapeNumber graph.now service }
     requires own { is_own_service (maps_of graph.now) (id_of_number graph.now service) ≡ true }
     requires inside { AreInside graph.now service names.now.inside.now }
@@ -199,8 +195,8 @@ impl OfFirst for Again {
         graph: &Graph,
         _first: u32,
         number: u32,
-        events: &mut Vec<ModelEvent>,
-    ) -> Result<(), NoMemory> {
+        events: &mut Events,
+    ) -> Put {
         put_event(
             alloc,
             graph,
@@ -220,8 +216,8 @@ fn put_renames(
     service: u32,
     inside: &[bool],
     pairs: &[(Text, Tree)],
-    events: &mut Vec<ModelEvent>,
-) -> Result<(), NoMemory>
+    events: &mut Events,
+) -> Put
     requires number { IsShapeNumber graph.now service }
     requires inside { AreInside graph.now service inside.now }
     ensures { OnOk result
@@ -239,8 +235,8 @@ fn put_if_wrong(
     service: u32,
     inside: &[bool],
     name: &str,
-    events: &mut Vec<ModelEvent>,
-) -> Result<(), NoMemory>
+    events: &mut Events,
+) -> Put
     requires number { IsShapeNumber graph.now service }
     requires inside { AreInside graph.now service inside.now }
     ensures { OnOk result
@@ -284,7 +280,7 @@ fn keeps_name(graph: &Graph, number: u32) -> bool
     ensures { result ≡ keeps_name (maps_of graph.now) (id_of_number graph.now number) }
 {
     kind_of(graph, number).is_some()
-        && (carries(graph, number, "smithy.api#error") || is_kept_kind(kind_of(graph, number)))
+        && (carries(graph, number, ERROR) || is_kept_kind(kind_of(graph, number)))
 }
 
 fn is_kept_kind(kind: Option<Kind>) -> bool

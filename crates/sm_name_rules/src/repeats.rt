@@ -8,12 +8,12 @@ ghost use Rattle.sm_passes.specs.Earlier.{ToldAt, ToldRepeat, folded_rows};
 ghost use Rattle.sm_passes.specs.Putting.{Below};
 
 use sm_compile::{id_text, member_name, members_of};
-use sm_model::{Graph, ModelEvent};
+use sm_model::Graph;
 use sm_passes::each::{AtEach, put_each};
 use sm_passes::earlier::{OfFirst, put_later};
 use sm_passes::folded::folded;
 use sm_passes::owned::is_own_shape;
-use sm_passes::putting::put_event;
+use sm_passes::putting::{Events, Put, put_event};
 use sm_rules::Rule;
 use sm_tree::{NoMemory, Text};
 use std::alloc::Global;
@@ -26,13 +26,7 @@ impl AtEach for Repeats {
 
     ghost knows = { λ rule g. Unit {0} };
 
-    fn put_at(
-        &self,
-        alloc: Global,
-        graph: &Graph,
-        number: u32,
-        events: &mut Vec<ModelEvent>,
-    ) -> Result<(), NoMemory> {
+    fn put_at(&self, alloc: Global, graph: &Graph, number: u32, events: &mut Events) -> Put {
         if is_own_shape(graph, number) {
             put_repeats_of(alloc, graph, number, members_of(graph, number), events)?;
             Ok(())
@@ -43,11 +37,7 @@ impl AtEach for Repeats {
 }
 
 /// Puts the events of the rule. n log n.
-pub fn put_repeats(
-    alloc: Global,
-    graph: &Graph,
-    events: &mut Vec<ModelEvent>,
-) -> Result<(), NoMemory>
+pub fn put_repeats(alloc: Global, graph: &Graph, events: &mut Events) -> Put
     ensures { OnOk result
         (Puts (IsEventOf MemberCase (RepeatsName (maps_of graph.now))) events.old.items events.new.items) }
 {
@@ -61,8 +51,8 @@ fn put_repeats_of(
     graph: &Graph,
     shape: u32,
     members: &[u32],
-    events: &mut Vec<ModelEvent>,
-) -> Result<(), NoMemory>
+    events: &mut Events,
+) -> Put
     requires shape { IsShapeNumber graph.now shape }
     requires numbers { AreShapeNumbers graph.now members.now }
     ensures { OnOk result
@@ -108,8 +98,8 @@ impl OfFirst for NamesOf {
         graph: &Graph,
         first: u32,
         number: u32,
-        events: &mut Vec<ModelEvent>,
-    ) -> Result<(), NoMemory> {
+        events: &mut Events,
+    ) -> Put {
         match member_name(graph, self.shape, first) {
             Some(name) => {
                 put_event(alloc, graph, Rule::MemberCase, number, name, events)?;

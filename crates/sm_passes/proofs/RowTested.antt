@@ -17,11 +17,11 @@ use Rattle.sm_rules.specs.TraitRows as table
 use Rattle.sm_rules.specs.TraitRows.{PlaceForm, Spot, TraitRow, are_text_nodes, at_member, at_shape, has_form, has_none, has_row}
 use Rattle.sm_rules.specs.TraitRows.{defaulted_kinds, is_among, trait_kinds, is_as_one, judging, may_stand, row_takes_in, rows_of, takes_in}
 use Rattle.sm_rules.specs.TraitRows.{trait_rows}
-use Rattle.sm_passes.specs.declared.rows.form.Form.{Form}
-use Rattle.sm_passes.specs.declared.rows.form.Form.TheVariants as form
+use Rattle.sm_passes.specs.declared.rows.form.RowForm.{RowForm}
+use Rattle.sm_passes.specs.declared.rows.form.RowForm.TheVariants as form
 use Rattle.sm_passes.specs.declared.rows.names.FoundRows.{FoundRows}
-use Rattle.sm_passes.specs.declared.rows.place.Place.{Place}
-use Rattle.sm_passes.specs.declared.rows.place.Place.TheVariants as place
+use Rattle.sm_passes.specs.declared.rows.place.RowPlace.{RowPlace}
+use Rattle.sm_passes.specs.declared.rows.place.RowPlace.TheVariants as place
 use Rattle.sm_passes.specs.declared.rows.place.Stand.{Stand}
 use Rattle.sm_passes.specs.Forms.{form_said, is_of_form, token_signs}
 use Rattle.sm_passes.specs.Places.{allows, is_defaulted_kind, places_said, stand_at, types_said}
@@ -42,7 +42,7 @@ freed : (test : Node → Bool) (name : List ℕ) (n : Node)
 freed test name n = and_true (where_there test (field_of name n))
 
 -- a value is of a form of the code where the table says so
-pub form_same : (f : Form) (n : Node) → has_form (form_said f) n ≡ is_of_form f n
+pub form_same : (f : RowForm) (n : Node) → has_form (form_said f) n ≡ is_of_form f n
 form_same form.AnyValue n = refl
 form_same form.AnyObject n = refl
 form_same form.Endpoint n = ap (λ b. is_object n && b) (and_true _ ∙ needed is_text (field_of (codes "hostPrefix") n))
@@ -69,7 +69,7 @@ form_same form.WholeNumber n = refl
 form_same form.TextOrNumber n = refl
 
 -- a trait may stand at a place of the code where the table says so
-pub place_same : (p : Place) (at : Stand) → allows p at ≡ list_any (stand_takes_in at) (places_said p)
+pub place_same : (p : RowPlace) (at : Stand) → allows p at ≡ list_any (stand_takes_in at) (places_said p)
 place_same place.Everywhere at = refl
 place_same place.AnyShape at = sym (or_false _)
 place_same place.StructureMember at = sym (or_false _)

@@ -8,12 +8,12 @@ use Rattle.sm_compile.specs.TraitNodes.{are_bounds, are_whole_bounds, field_of, 
 use Rattle.sm_compile.specs.TraitNodes.{is_timestamp_format, where_there}
 use Rattle.sm_rules.specs.TraitRows as table
 use Rattle.sm_rules.specs.TraitRows.{ValueForm, are_named_texts, are_text_nodes, has_none, is_list_node, is_text_that, may_have, must_have}
-use Rattle.sm_passes.specs.declared.rows.form.Form.{Form}
-use Rattle.sm_passes.specs.declared.rows.form.Form.TheVariants as form
+use Rattle.sm_passes.specs.declared.rows.form.RowForm.{RowForm}
+use Rattle.sm_passes.specs.declared.rows.form.RowForm.TheVariants as form
 use Rattle.sm_passes.specs.Http.{is_http_value, is_there_as}
 
 -- the form as the table has it
-abbrev pub form_said : Form → ValueForm
+abbrev pub form_said : RowForm → ValueForm
 form_said form.AnyValue = table.any_value
 form_said form.AnyObject = table.any_object
 form_said form.Endpoint = table.an_object_of (must_have (codes "hostPrefix") table.text_field ∷ [])
@@ -52,7 +52,7 @@ is_trait_value n =
 abbrev pub are_two_texts : List ℕ → List ℕ → Node → Bool
 are_two_texts one other n = is_object n && (where_there is_text (field_of one n) && where_there is_text (field_of other n))
 
-abbrev pub is_of_form : Form → Node → Bool
+abbrev pub is_of_form : RowForm → Node → Bool
 is_of_form form.AnyValue n = true
 is_of_form form.AnyObject n = is_object n
 is_of_form form.Endpoint n = is_object n && is_there_as is_text (field_of (codes "hostPrefix") n)

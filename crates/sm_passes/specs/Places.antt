@@ -8,8 +8,8 @@ use Rattle.sm_rules.specs.TraitRows as table
 use Rattle.sm_rules.specs.TraitRows.{PlaceForm, Spot, at_member, at_shape, is_among, is_kind}
 use Rattle.sm_passes.specs.declared.rows.kinds.Types.{Types}
 use Rattle.sm_passes.specs.declared.rows.kinds.Types.TheVariants as types
-use Rattle.sm_passes.specs.declared.rows.place.Place.{Place}
-use Rattle.sm_passes.specs.declared.rows.place.Place.TheVariants as place
+use Rattle.sm_passes.specs.declared.rows.place.RowPlace.{RowPlace}
+use Rattle.sm_passes.specs.declared.rows.place.RowPlace.TheVariants as place
 use Rattle.sm_passes.specs.declared.rows.place.Stand.{Stand}
 use Rattle.sm_passes.specs.declared.rows.place.Stand.TheVariants as stand
 use Rattle.sm_passes.specs.declared.rows.place.Behind.{Behind}
@@ -48,7 +48,7 @@ types_said types.Enum = is_among (model.Enum ∷ model.IntEnum ∷ [])
 types_said types.Timestamp = is_among (model.Timestamp ∷ [])
 types_said types.Reference = is_among (model.Structure ∷ model.Text ∷ [])
 
-abbrev pub places_said : Place → List PlaceForm
+abbrev pub places_said : RowPlace → List PlaceForm
 places_said place.Everywhere = table.everywhere ∷ []
 places_said place.AnyShape = table.any_shape ∷ []
 places_said place.StructureMember = table.structure_member ∷ []
@@ -86,7 +86,7 @@ is_member_to test (stand.Shape kind) = false
 is_member_to test (stand.Member kind target) = is_behind test target
 
 -- a trait that may stand at such a place may stand there
-abbrev pub allows : Place → Stand → Bool
+abbrev pub allows : RowPlace → Stand → Bool
 allows place.Everywhere at = true
 allows place.AnyShape at = is_shape_of (λ kind. true) at
 allows place.StructureMember at = is_member_of (is_kind model.Structure) at

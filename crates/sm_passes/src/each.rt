@@ -8,9 +8,9 @@ ghost use Rattle.sm_model.specs.Reaching.{id_of_number};
 ghost use Rattle.sm_rules.specs.RuleEvents.{Puts};
 ghost use Rattle.sm_passes.specs.Putting.{Below};
 
+use crate::putting::{Events, Put};
 use sm_compile::id_text;
-use sm_model::{Graph, ModelEvent, is_in_prelude};
-use sm_tree::NoMemory;
+use sm_model::{Graph, is_in_prelude};
 use std::alloc::Global;
 
 /// What a rule tells of one shape or member.
@@ -23,13 +23,7 @@ pub trait AtEach {
     ghost knows: { Self → Graph → Type 0 };
 
     /// Puts the events at a number.
-    fn put_at(
-        &self,
-        alloc: Global,
-        graph: &Graph,
-        number: u32,
-        events: &mut Vec<ModelEvent>,
-    ) -> Result<(), NoMemory>
+    fn put_at(&self, alloc: Global, graph: &Graph, number: u32, events: &mut Events) -> Put
         requires number { IsShapeNumber graph.now number }
         requires knows { knows self.now graph.now }
         ensures { OnOk result
@@ -37,12 +31,7 @@ pub trait AtEach {
 }
 
 /// Puts the events at all numbers.
-pub fn put_each<A: AtEach>(
-    alloc: Global,
-    graph: &Graph,
-    rule: &A,
-    events: &mut Vec<ModelEvent>,
-) -> Result<(), NoMemory>
+pub fn put_each<A: AtEach>(alloc: Global, graph: &Graph, rule: &A, events: &mut Events) -> Put
     requires { A.knows rule.now graph.now }
     ensures { OnOk result
         (Puts (Below (λ k. A.tells rule.now (maps_of graph.now) (id_of_number graph.now k)) (length (entries_of graph.now)))
@@ -64,13 +53,7 @@ pub trait AtOwn {
     ghost knows: { Self → Graph → Type 0 };
 
     /// Puts the events at a number.
-    fn put_own(
-        &self,
-        alloc: Global,
-        graph: &Graph,
-        number: u32,
-        events: &mut Vec<ModelEvent>,
-    ) -> Result<(), NoMemory>
+    fn put_own(&self, alloc: Global, graph: &Graph, number: u32, events: &mut Events) -> Put
         requires number { IsShapeNumber graph.now number }
         requires own { is_prelude_id (id_of_number graph.now number) ≡ false }
         requires knows { knows self.now graph.now }
@@ -91,13 +74,7 @@ impl<A: AtOwn> AtEach for Outside<'_, A> {
 
     ghost knows = { λ told. A.knows told.rule.now };
 
-    fn put_at(
-        &self,
-        alloc: Global,
-        graph: &Graph,
-        number: u32,
-        events: &mut Vec<ModelEvent>,
-    ) -> Result<(), NoMemory> {
+    fn put_at(&self, alloc: Global, graph: &Graph, number: u32, events: &mut Events) -> Put {
         if is_in_prelude(id_text(graph, number)) {
             return Ok(());
         }
@@ -107,12 +84,7 @@ impl<A: AtOwn> AtEach for Outside<'_, A> {
 }
 
 /// Puts the events at all numbers outside of the prelude: in the prelude the rule tells nothing.
-pub fn put_outside<A: AtOwn>(
-    alloc: Global,
-    graph: &Graph,
-    rule: &A,
-    events: &mut Vec<ModelEvent>,
-) -> Result<(), NoMemory>
+pub fn put_outside<A: AtOwn>(alloc: Global, graph: &Graph, rule: &A, events: &mut Events) -> Put
     requires { A.knows rule.now graph.now }
     ensures { OnOk result
         (Puts (Below (λ k. A.tells rule.now (maps_of graph.now) (id_of_number graph.now k)) (length (entries_of graph.now)))

@@ -11,8 +11,9 @@ ghost use Rattle.sm_passes.specs.Firsts.{number_in};
 ghost use Rattle.sm_passes.specs.Putting.{Below};
 
 use crate::firsts::first_of;
-use sm_model::{Graph, ModelEvent};
-use sm_tree::{NoMemory, Text};
+use crate::putting::{Events, Put};
+use sm_model::Graph;
+use sm_tree::Text;
 use std::alloc::Global;
 use std::collections::BTreeMap;
 
@@ -32,8 +33,8 @@ pub trait OfFirst {
         graph: &Graph,
         first: u32,
         number: u32,
-        events: &mut Vec<ModelEvent>,
-    ) -> Result<(), NoMemory>
+        events: &mut Events,
+    ) -> Put
         requires first { IsShapeNumber graph.now first }
         requires number { IsShapeNumber graph.now number }
         requires knows { knows self.now graph.now }
@@ -46,8 +47,8 @@ pub fn put_later<F: OfFirst>(
     graph: &Graph,
     rule: &F,
     rows: &[(Text, u32)],
-    events: &mut Vec<ModelEvent>,
-) -> Result<(), NoMemory>
+    events: &mut Events,
+) -> Put
     requires numbers { (r : List ℕ × ℕ) → Contains rows.now r → IsShapeNumber graph.now r.1 }
     requires knows { F.knows rule.now graph.now }
     ensures { OnOk result
@@ -67,8 +68,8 @@ fn put_row<'a, F: OfFirst>(
     rule: &F,
     row: &'a (Text, u32),
     seen: &mut BTreeMap<&'a str, u32>,
-    events: &mut Vec<ModelEvent>,
-) -> Result<(), NoMemory>
+    events: &mut Events,
+) -> Put
     requires number { IsShapeNumber graph.now row.now.1 }
     requires firsts { (key : List ℕ) (j : ℕ) → number_in seen.old key ≡ Some j → IsShapeNumber graph.now j }
     requires knows { F.knows rule.now graph.now }

@@ -9,6 +9,7 @@ ghost use Rattle.sm_rules.specs.Words.{field_in};
 ghost use Rattle.sm_passes.specs.Http.{code_seen, http_seen, is_http_value, is_there_as, method_seen, that_is_http, uri_seen};
 
 use crate::owned::is_own_operation;
+use sm_compile::trait_ids::HTTP;
 use sm_compile::{field_of, is_number, is_object, is_text, number_of, text_in_trait, trait_node};
 use sm_model::Graph;
 use sm_tree::Tree;
@@ -55,7 +56,7 @@ fn http_of(graph: &Graph, number: u32) -> Option<&Tree>
     ensures { option_map (λ t. node_of t.now) result ≡ http_seen (maps_of graph.now) (id_of_number graph.now number) }
 {
     if is_own_operation(graph, number) {
-        that_is_http(trait_node(graph, number, "smithy.api#http"))
+        that_is_http(trait_node(graph, number, HTTP))
     } else {
         None
     }

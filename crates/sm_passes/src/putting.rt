@@ -13,6 +13,12 @@ use sm_rules::Rule;
 use sm_tree::{NoMemory, Text};
 use std::alloc::Global;
 
+/// The events of a pass, in the order in which they are put.
+pub type Events = Vec<ModelEvent>;
+
+/// What putting events comes to: out of memory, or nothing more.
+pub type Put = Result<(), NoMemory>;
+
 /// Puts an event of a rule at a shape or member.
 pub fn put_event(
     alloc: Global,
@@ -20,8 +26,8 @@ pub fn put_event(
     rule: Rule,
     number: u32,
     detail: &str,
-    events: &mut Vec<ModelEvent>,
-) -> Result<(), NoMemory>
+    events: &mut Events,
+) -> Put
     requires { IsShapeNumber graph.now number }
     ensures { OnOk result (Puts (λ e. e ≡ rule_event rule (id_of_number graph.now number) detail.now) events.old.items events.new.items) }
 {
@@ -38,8 +44,8 @@ pub fn put_if(
     number: u32,
     wrong: bool,
     detail: &str,
-    events: &mut Vec<ModelEvent>,
-) -> Result<(), NoMemory>
+    events: &mut Events,
+) -> Put
     requires { IsShapeNumber graph.now number }
     ensures { OnOk result
         (Puts (IsWhere wrong (rule_event rule (id_of_number graph.now number) detail.now)) events.old.items events.new.items) }

@@ -17,7 +17,8 @@ ghost use Rattle.sm_select.specs.Ways.{AreWays};
 use crate::closures::{Closure, is_own_service};
 use crate::numbers::{numbers_of, rising};
 use crate::once::kept_once;
-use sm_model::{Graph, ModelEvent};
+use crate::putting::{Events, Put};
+use sm_model::Graph;
 use sm_select::Ways;
 use sm_tree::NoMemory;
 use std::alloc::Global;
@@ -47,8 +48,8 @@ pub trait OfServices {
         graph: &Graph,
         services: &[u32],
         closure: &Closure,
-        events: &mut Vec<ModelEvent>,
-    ) -> Result<(), NoMemory>
+        events: &mut Events,
+    ) -> Put
         requires own { AreOwnServices graph.now services.now }
         requires some { 0 < length services.now }
         requires closure { IsClosureOf graph.now services.now closure.now }
@@ -64,8 +65,8 @@ pub fn put_by_closures<R: OfServices>(
     graph: &Graph,
     ways: &Ways,
     rule: &R,
-    events: &mut Vec<ModelEvent>,
-) -> Result<(), NoMemory>
+    events: &mut Events,
+) -> Put
     requires ways { AreWays graph.now ways.now }
     requires knows { R.knows rule.now graph.now }
     ensures { OnOk result (Puts (ToldOfServices graph.now (R.tells rule.now graph.now)) events.old.items events.new.items) }
@@ -92,8 +93,8 @@ fn put_runs<R: OfServices>(
     rule: &R,
     rows: &[(Vec<u32>, u32)],
     closure: &mut Closure,
-    events: &mut Vec<ModelEvent>,
-) -> Result<(), NoMemory>
+    events: &mut Events,
+) -> Put
     requires ways { AreWays graph.now ways.now }
     requires rows { AreServiceRows graph.now ways.now.on rows.now }
     requires clear { IsClear graph.now closure.old }
@@ -117,7 +118,7 @@ fn put_run<R: OfServices>(
     rule: &R,
     rows: &[(Vec<u32>, u32)],
     closure: &mut Closure,
-    events: &mut Vec<ModelEvent>,
+    events: &mut Events,
 ) -> Result<usize, NoMemory>
     requires ways { AreWays graph.now ways.now }
     requires rows { AreServiceRows graph.now ways.now.on rows.now }
@@ -152,8 +153,8 @@ fn put_group<R: OfServices>(
     rule: &R,
     services: &[u32],
     closure: &mut Closure,
-    events: &mut Vec<ModelEvent>,
-) -> Result<(), NoMemory>
+    events: &mut Events,
+) -> Put
     requires ways { AreWays graph.now ways.now }
     requires own { AreOwnServices graph.now services.now }
     requires some { 0 < length services.now }

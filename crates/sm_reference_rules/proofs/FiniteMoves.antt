@@ -23,7 +23,7 @@ use Rattle.sm_passes.specs.Carrying.{carries}
 use Rattle.sm_passes.proofs.EntriesThere.{entry_there}
 use Rattle.sm_passes.proofs.OwnShapes.{not_so}
 use Rattle.sm_reference_rules.specs.declared.finite.Known.{Known}
-use Rattle.sm_reference_rules.specs.declared.finite.Way.TheVariants.{ByOne, Always}
+use Rattle.sm_reference_rules.specs.declared.finite.FiniteWay.TheVariants.{ByOne, Always}
 use Rattle.sm_rules.specs.Shapes.{HasFinite, is_always_finite}
 use Rattle.sm_reference_rules.specs.steps.Finding.{IsHome, IsHomeOf, IsNext, IsStuck, Knows, Lacks, Moves, Opens, PassedTo, Says, Sees}
 use Rattle.sm_reference_rules.specs.steps.Finding.{SomeClosed, StuckBy, Waits, Wants, is_member_id, way_of}

@@ -1,12 +1,11 @@
 -- Shapes that no service uses, from marks of what the services lead to.
 use Rattle.std.proofs.Common.{◌≡◌, ℕ, zero, suc, Bool, true, false, List, [], ◌∷◌, Some, get_or, length, refl, sym, ap, ◌∙◌, subst}
-use Rattle.std.specs.Prelude.{◌&&◌, codes, is_some, not}
+use Rattle.std.specs.Prelude.{◌&&◌, is_some, not}
 use Rattle.std.specs.FinMap as fin
 use Rattle.std.specs.List.{list_any}
 use Rattle.sm_model.specs.EventView.{EventTold}
 use Rattle.sm_model.specs.Graphs.{shape_entry, ShapeEntry, GraphMaps}
 use Rattle.sm_model.specs.GraphView.{IsShapeNumber, entries_of, maps_of}
-use Rattle.sm_model.specs.PreludeShapes.{api_id}
 use Rattle.sm_model.specs.Reaching.{AreMarks, IsMarked, id_of_number}
 use Rattle.sm_model.specs.Relations.{Reaches}
 use Rattle.sm_model.specs.declared.event.ModelEvent.{ModelEvent}
@@ -19,7 +18,7 @@ use Rattle.sm_model.proofs.Worklist.{apart}
 use Rattle.sm_select.specs.Images.{AreImage}
 use Rattle.sm_compile.specs.Looked.{kind_in, kind_under}
 use Rattle.sm_compile.specs.Sound.{trait_in}
-use Rattle.sm_compile.specs.TraitIds.{trait_id}
+use Rattle.sm_compile.specs.TraitIds.{mixin_id, trait_id}
 use Rattle.sm_rules.specs.Words.{IsInClosure, IsOwnShape, has_trait}
 use Rattle.sm_rules.specs.RuleEvents.{IsEventAt, IsEventOf, Puts, rule_event}
 use Rattle.sm_rules.specs.declared.rule.Rule.TheVariants.{ShapeUnused}
@@ -80,9 +79,6 @@ module _ (g : Graph) (services : List Bool)
           (told.marked at.0).1
           (at.1, subst (λ id. is_own_service (maps_of g) id ≡ true) (sym at.2) (service_own (maps_of g) h.some_service h.is_service)) in
           apart (sym none ∙ marked_any services at.0 marked)
-
-abbrev mixin_id : List ℕ
-mixin_id = api_id (codes "mixin")
 
 not_false : (b : Bool) → b ≡ false → not b ≡ true
 not_false b h = ap not h

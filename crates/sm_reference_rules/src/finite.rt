@@ -12,23 +12,19 @@ ghost use Rattle.sm_rules.specs.Shapes.{HasNoFinite};
 ghost use Rattle.sm_reference_rules.specs.steps.Finding.{AreFinite, IsHome, IsHomeOf, IsNext, IsUser, Knows, Lacks, Moves, Opens, Sees};
 ghost use Rattle.sm_reference_rules.specs.steps.Finding.{SomeClosed, Waits, Wants, is_compound, is_infinite, way_of};
 
+use sm_compile::trait_ids::REQUIRED;
 use sm_compile::{id_text, kind_of, members_of, target_of};
-use sm_model::{Graph, Kind, ModelEvent, is_in_prelude, mark, no_marks};
+use sm_model::{Graph, Kind, is_in_prelude, mark, no_marks};
 use sm_passes::carried::{carries, is_member};
 use sm_passes::each::{AtEach, put_each};
-use sm_passes::putting::put_if;
+use sm_passes::putting::{Events, Put, put_if};
 use sm_rules::Rule;
 use sm_select::{Neighbors, Ways};
 use sm_tree::NoMemory;
 use std::alloc::Global;
 
 /// Puts the events of the rule, by the ways of the graph. Each member is looked at once, and each step back.
-pub fn put_infinite(
-    alloc: Global,
-    graph: &Graph,
-    ways: &Ways,
-    events: &mut Vec<ModelEvent>,
-) -> Result<(), NoMemory>
+pub fn put_infinite(alloc: Global, graph: &Graph, ways: &Ways, events: &mut Events) -> Put
     requires { AreWays graph.now ways.now }
     ensures { OnOk result
         (Puts (IsEventOf ShapeInfinite (HasNoFinite (maps_of graph.now))) events.old.items events.new.items) }
@@ -56,13 +52,7 @@ impl AtEach for Infinite<'_> {
 
     ghost knows = { λ rule g. AreFinite g rule.marks.now };
 
-    fn put_at(
-        &self,
-        alloc: Global,
-        graph: &Graph,
-        number: u32,
-        events: &mut Vec<ModelEvent>,
-    ) -> Result<(), NoMemory> {
+    fn put_at(&self, alloc: Global, graph: &Graph, number: u32, events: &mut Events) -> Put {
         let infinite = is_infinite(graph, self.marks, number);
         put_if(
             alloc,
@@ -261,33 +251,37 @@ fn is_seen(graph: &Graph, shape: u32, known: &mut Known) -> bool
 {
     match kind_of(graph, shape) {
         Some(kind) => match way_of(kind) {
-            Way::ByRequired => is_passed(graph, shape, members_of(graph, shape), known),
-            Way::ByOne => some_closed(graph, members_of(graph, shape), known.marks.as_slice()),
-            Way::Always => true,
-            Way::Never => false,
+            FiniteWay::ByRequired => is_passed(graph, shape, members_of(graph, shape), known),
+            FiniteWay::ByOne => some_closed(
+                graph,
+                members_of(graph, shape),
+                known.marks.as_slice(),
+            ),
+            FiniteWay::Always => true,
+            FiniteWay::Never => false,
         },
         None => false,
     }
 }
 
 // How a shape comes to a finite value: by those of all required members, by that of one member, in any case, or never.
-enum Way {
+enum FiniteWay {
     ByRequired,
     ByOne,
     Always,
     Never,
 }
 
-fn way_of(kind: Kind) -> Way
+fn way_of(kind: Kind) -> FiniteWay
     ensures { result ≡ way_of kind }
 {
     match kind {
-        Kind::Structure => Way::ByRequired,
-        Kind::Union => Way::ByOne,
-        Kind::Service => Way::Never,
-        Kind::Operation => Way::Never,
-        Kind::Resource => Way::Never,
-        _ => Way::Always,
+        Kind::Structure => FiniteWay::ByRequired,
+        Kind::Union => FiniteWay::ByOne,
+        Kind::Service => FiniteWay::Never,
+        Kind::Operation => FiniteWay::Never,
+        Kind::Resource => FiniteWay::Never,
+        _ => FiniteWay::Always,
     }
 }
 
@@ -326,7 +320,7 @@ fn is_wanted(graph: &Graph, member: u32, marks: &[bool]) -> bool
     ensures { (result ≡ true) ↔ Wants graph.now (IsMarked marks.now) (id_of_number graph.now member) }
 {
     if is_member(graph, member) {
-        carries(graph, member, "smithy.api#required") && is_open(graph, member, marks)
+        carries(graph, member, REQUIRED) && is_open(graph, member, marks)
     } else {
         true
     }

@@ -15,21 +15,21 @@ ghost use Rattle.sm_reference_rules.specs.steps.Targets as tests;
 ghost use Rattle.sm_reference_rules.specs.steps.Targets.{ToldMember, ToldReferred};
 
 use crate::references::{AtReference, put_bodies};
+use sm_compile::trait_ids::ERROR;
 use sm_compile::{
     has_trait, has_values, id_text, is_text_kind, kind_of, may_target, member_name, members_of,
     target_of, targets_unit,
 };
-use sm_model::{Graph, Kind, ModelEvent, Relation};
+use sm_model::{Graph, Kind, Relation};
 use sm_passes::each::{AtEach, put_each};
 use sm_passes::owned::own_kind;
-use sm_passes::putting::put_if;
+use sm_passes::putting::{Events, Put, put_if};
 use sm_passes::rows::kinds::is_kind;
 use sm_rules::Rule;
-use sm_tree::NoMemory;
 use std::alloc::Global;
 
 /// Puts the events of the rule. n log n.
-pub fn put_kinds(alloc: Global, graph: &Graph, events: &mut Vec<ModelEvent>) -> Result<(), NoMemory>
+pub fn put_kinds(alloc: Global, graph: &Graph, events: &mut Events) -> Put
     ensures { OnOk result
         (Puts (IsEventOf TargetKind (RefersToOther (maps_of graph.now))) events.old.items events.new.items) }
 {
@@ -47,13 +47,7 @@ impl AtEach for Targets {
 
     ghost knows = { λ rule g. Unit {0} };
 
-    fn put_at(
-        &self,
-        alloc: Global,
-        graph: &Graph,
-        number: u32,
-        events: &mut Vec<ModelEvent>,
-    ) -> Result<(), NoMemory> {
+    fn put_at(&self, alloc: Global, graph: &Graph, number: u32, events: &mut Events) -> Put {
         match own_kind(graph, number) {
             Some(home) => {
                 put_members(
@@ -78,8 +72,8 @@ fn put_members(
     shape: u32,
     home: Kind,
     members: &[u32],
-    events: &mut Vec<ModelEvent>,
-) -> Result<(), NoMemory>
+    events: &mut Events,
+) -> Put
     requires shape { IsShapeNumber graph.now shape }
     requires numbers { AreShapeNumbers graph.now members.now }
     ensures { OnOk result
@@ -97,8 +91,8 @@ fn put_member(
     shape: u32,
     home: Kind,
     member: u32,
-    events: &mut Vec<ModelEvent>,
-) -> Result<(), NoMemory>
+    events: &mut Events,
+) -> Put
     requires shape { IsShapeNumber graph.now shape }
     requires member { IsShapeNumber graph.now member }
     ensures { OnOk result
@@ -175,8 +169,8 @@ impl AtReference for Referred {
         from: u32,
         relation: Relation,
         id: &str,
-        events: &mut Vec<ModelEvent>,
-    ) -> Result<(), NoMemory> {
+        events: &mut Events,
+    ) -> Put {
         match graph.number(id) {
             Some(to) => {
                 let other = !may_be_referred(graph, relation, to);
@@ -194,7 +188,7 @@ fn may_be_referred(graph: &Graph, relation: Relation, number: u32) -> bool
     ensures { result ≡ tests.may_be_where relation (fin.get (maps_of graph.now).shapes (id_of_number graph.now number)) }
 {
     match kind_of(graph, number) {
-        Some(kind) => may_be_of(relation, kind, has_trait(graph, number, "smithy.api#error")),
+        Some(kind) => may_be_of(relation, kind, has_trait(graph, number, ERROR)),
         None => false,
     }
 }

@@ -11,19 +11,14 @@ ghost use Rattle.sm_reference_rules.specs.steps.Missing.{TargetsNothing, ToldMis
 ghost use Rattle.sm_reference_rules.specs.steps.Silent.{none_targeted};
 
 use crate::references::{AtReference, put_bodies};
-use sm_model::{Graph, ModelEvent, Relation};
+use sm_model::{Graph, Relation};
 use sm_passes::each::{AtOwn, put_outside};
-use sm_passes::putting::put_event;
+use sm_passes::putting::{Events, Put, put_event};
 use sm_rules::Rule;
-use sm_tree::NoMemory;
 use std::alloc::Global;
 
 /// Puts the events of the rule. n log n.
-pub fn put_missing(
-    alloc: Global,
-    graph: &Graph,
-    events: &mut Vec<ModelEvent>,
-) -> Result<(), NoMemory>
+pub fn put_missing(alloc: Global, graph: &Graph, events: &mut Events) -> Put
     ensures { OnOk result
         (Puts (IsEventOf TargetMissing (RefersToNothing (maps_of graph.now))) events.old.items events.new.items) }
 {
@@ -41,13 +36,7 @@ impl AtOwn for Targeted {
 
     ghost knows = { λ rule g. Unit {0} };
 
-    fn put_own(
-        &self,
-        alloc: Global,
-        graph: &Graph,
-        number: u32,
-        events: &mut Vec<ModelEvent>,
-    ) -> Result<(), NoMemory> {
+    fn put_own(&self, alloc: Global, graph: &Graph, number: u32, events: &mut Events) -> Put {
         match target_text(graph, number) {
             Some(id) => {
                 put_if_missing(alloc, graph, number, id, events)?;
@@ -86,21 +75,15 @@ impl AtReference for Named {
         from: u32,
         _: Relation,
         id: &str,
-        events: &mut Vec<ModelEvent>,
-    ) -> Result<(), NoMemory> {
+        events: &mut Events,
+    ) -> Put {
         put_if_missing(alloc, graph, from, id, events)?;
         Ok(())
     }
 }
 
 // Of an id that the graph doesn't have.
-fn put_if_missing(
-    alloc: Global,
-    graph: &Graph,
-    from: u32,
-    id: &str,
-    events: &mut Vec<ModelEvent>,
-) -> Result<(), NoMemory>
+fn put_if_missing(alloc: Global, graph: &Graph, from: u32, id: &str, events: &mut Events) -> Put
     requires { IsShapeNumber graph.now from }
     ensures { OnOk result
         (Puts (ToldMissing (maps_of graph.now) (id_of_number graph.now from) id.now) events.old.items events.new.items) }

@@ -14,10 +14,11 @@ ghost use Rattle.sm_reference_rules.specs.steps.References.{ToldByBodies, ToldFi
 ghost use Rattle.sm_reference_rules.specs.steps.References.{body_in};
 ghost use Rattle.sm_passes.specs.Owned.{own_kind};
 
-use sm_model::{Graph, Kind, ModelEvent, Relation, entries_of, pairs_of, text_of};
+use sm_model::{Graph, Kind, Relation, entries_of, pairs_of, text_of};
 use sm_passes::each::{AtEach, put_each};
 use sm_passes::owned::own_kind;
-use sm_tree::{NoMemory, Text, Tree};
+use sm_passes::putting::{Events, Put};
+use sm_tree::{Text, Tree};
 use std::alloc::Global;
 
 /// What a rule tells of one reference.
@@ -35,8 +36,8 @@ pub trait AtReference {
         from: u32,
         relation: Relation,
         id: &str,
-        events: &mut Vec<ModelEvent>,
-    ) -> Result<(), NoMemory>
+        events: &mut Events,
+    ) -> Put
         requires { IsShapeNumber graph.now from }
         ensures { OnOk result
             (Puts (tells self.now (maps_of graph.now) (id_of_number graph.now from) relation id.now)
@@ -48,8 +49,8 @@ pub fn put_bodies<A: AtReference>(
     alloc: Global,
     graph: &Graph,
     rule: &A,
-    events: &mut Vec<ModelEvent>,
-) -> Result<(), NoMemory>
+    events: &mut Events,
+) -> Put
     ensures { OnOk result
         (Puts (ToldByBodies (maps_of graph.now) (A.tells rule.now (maps_of graph.now))) events.old.items events.new.items) }
 {
@@ -68,13 +69,7 @@ impl<A: AtReference> AtEach for Bodies<'_, A> {
 
     ghost knows = { λ told g. Unit {0} };
 
-    fn put_at(
-        &self,
-        alloc: Global,
-        graph: &Graph,
-        number: u32,
-        events: &mut Vec<ModelEvent>,
-    ) -> Result<(), NoMemory> {
+    fn put_at(&self, alloc: Global, graph: &Graph, number: u32, events: &mut Events) -> Put {
         match own_kind(graph, number) {
             Some(kind) => {
                 put_body(alloc, graph, self.rule, number, kind, events)?;
@@ -92,8 +87,8 @@ fn put_body<A: AtReference>(
     rule: &A,
     shape: u32,
     kind: Kind,
-    events: &mut Vec<ModelEvent>,
-) -> Result<(), NoMemory>
+    events: &mut Events,
+) -> Put
     requires number { IsShapeNumber graph.now shape }
     requires kind { own_kind (maps_of graph.now) (id_of_number graph.now shape) ≡ Some kind }
     ensures { OnOk result
@@ -131,8 +126,8 @@ fn put_fields<A: AtReference>(
     shape: u32,
     kind: Kind,
     pairs: &[(Text, Tree)],
-    events: &mut Vec<ModelEvent>,
-) -> Result<(), NoMemory>
+    events: &mut Events,
+) -> Put
     requires { IsShapeNumber graph.now shape }
     ensures { OnOk result
         (Puts (ToldOf (ToldPair (A.tells rule.now (maps_of graph.now) (id_of_number graph.now shape)) kind) pairs.now)
@@ -151,8 +146,8 @@ fn put_pair<A: AtReference>(
     shape: u32,
     kind: Kind,
     pair: &(Text, Tree),
-    events: &mut Vec<ModelEvent>,
-) -> Result<(), NoMemory>
+    events: &mut Events,
+) -> Put
     requires { IsShapeNumber graph.now shape }
     ensures { OnOk result
         (Puts (ToldPair (A.tells rule.now (maps_of graph.now) (id_of_number graph.now shape)) kind pair.now)
@@ -171,8 +166,8 @@ fn put_field<A: AtReference>(
     shape: u32,
     relation: Option<Relation>,
     value: &Tree,
-    events: &mut Vec<ModelEvent>,
-) -> Result<(), NoMemory>
+    events: &mut Events,
+) -> Put
     requires { IsShapeNumber graph.now shape }
     ensures { OnOk result
         (Puts (ToldField (A.tells rule.now (maps_of graph.now) (id_of_number graph.now shape)) relation (node_of value.now))
@@ -195,8 +190,8 @@ fn put_value<A: AtReference>(
     shape: u32,
     relation: Relation,
     value: &Tree,
-    events: &mut Vec<ModelEvent>,
-) -> Result<(), NoMemory>
+    events: &mut Events,
+) -> Put
     requires { IsShapeNumber graph.now shape }
     ensures { OnOk result
         (Puts (ToldIn (A.tells rule.now (maps_of graph.now) (id_of_number graph.now shape) relation) (node_of value.now))
@@ -222,8 +217,8 @@ fn put_parts<A: AtReference>(
     shape: u32,
     relation: Relation,
     value: &Tree,
-    events: &mut Vec<ModelEvent>,
-) -> Result<(), NoMemory>
+    events: &mut Events,
+) -> Put
     requires number { IsShapeNumber graph.now shape }
     requires no_text { (t : List ℕ) → node_of value.now ≡ text t → ⊥ }
     ensures { OnOk result
@@ -252,8 +247,8 @@ fn put_entries<A: AtReference>(
     shape: u32,
     relation: Relation,
     items: &[Tree],
-    events: &mut Vec<ModelEvent>,
-) -> Result<(), NoMemory>
+    events: &mut Events,
+) -> Put
     requires { IsShapeNumber graph.now shape }
     ensures { OnOk result
         (Puts (ToldOf (λ t. ToldText (A.tells rule.now (maps_of graph.now) (id_of_number graph.now shape) relation) (node_of t))
@@ -272,8 +267,8 @@ fn put_values<A: AtReference>(
     shape: u32,
     relation: Relation,
     pairs: &[(Text, Tree)],
-    events: &mut Vec<ModelEvent>,
-) -> Result<(), NoMemory>
+    events: &mut Events,
+) -> Put
     requires { IsShapeNumber graph.now shape }
     ensures { OnOk result
         (Puts (ToldOf (λ p. ToldText (A.tells rule.now (maps_of graph.now) (id_of_number graph.now shape) relation) (node_of p.1))
@@ -293,8 +288,8 @@ fn put_text<A: AtReference>(
     shape: u32,
     relation: Relation,
     tree: &Tree,
-    events: &mut Vec<ModelEvent>,
-) -> Result<(), NoMemory>
+    events: &mut Events,
+) -> Put
     requires { IsShapeNumber graph.now shape }
     ensures { OnOk result
         (Puts (ToldText (A.tells rule.now (maps_of graph.now) (id_of_number graph.now shape) relation) (node_of tree.now))

@@ -11,16 +11,16 @@ ghost use Rattle.sm_reference_rules.specs.steps.Using.{AreUsed, is_unused, wants
 ghost use Rattle.sm_passes.specs.Owned.{is_own_service, is_service};
 
 use sm_compile::kind_of;
-use sm_model::{Graph, ModelEvent};
+use sm_compile::trait_ids::{MIXIN, TRAIT};
+use sm_model::Graph;
 use sm_passes::carried::carries;
 use sm_passes::closures::{is_own_service, is_service};
 use sm_passes::each::{AtEach, put_each};
 use sm_passes::marked::{NumberTest, marked_where};
 use sm_passes::owned::is_own_shape;
-use sm_passes::putting::put_if;
+use sm_passes::putting::{Events, Put, put_if};
 use sm_rules::Rule;
 use sm_select::{Ways, image_of_walk};
-use sm_tree::NoMemory;
 use std::alloc::Global;
 
 // Services outside of the prelude.
@@ -36,12 +36,7 @@ impl NumberTest for Services {
 }
 
 /// Puts the events of the rule, by the ways of the graph. Each link is looked at once.
-pub fn put_unused(
-    alloc: Global,
-    graph: &Graph,
-    ways: &Ways,
-    events: &mut Vec<ModelEvent>,
-) -> Result<(), NoMemory>
+pub fn put_unused(alloc: Global, graph: &Graph, ways: &Ways, events: &mut Events) -> Put
     requires { AreWays graph.now ways.now }
     ensures { OnOk result
         (Puts (IsEventOf ShapeUnused (IsUnused (maps_of graph.now))) events.old.items events.new.items) }
@@ -57,8 +52,8 @@ fn put_unused_where(
     graph: &Graph,
     ways: &Ways,
     services: &[bool],
-    events: &mut Vec<ModelEvent>,
-) -> Result<(), NoMemory>
+    events: &mut Events,
+) -> Put
     requires ways { AreWays graph.now ways.now }
     requires services { AreMarks (length (entries_of graph.now))
         (λ k. is_own_service (maps_of graph.now) (id_of_number graph.now k) ≡ true) services.now }
@@ -79,8 +74,8 @@ fn put_unused_by(
     graph: &Graph,
     ways: &Ways,
     services: &[bool],
-    events: &mut Vec<ModelEvent>,
-) -> Result<(), NoMemory>
+    events: &mut Events,
+) -> Put
     requires ways { AreWays graph.now ways.now }
     requires services { AreMarks (length (entries_of graph.now))
         (λ k. is_own_service (maps_of graph.now) (id_of_number graph.now k) ≡ true) services.now }
@@ -122,13 +117,7 @@ impl AtEach for Unused<'_> {
 
     ghost knows = { λ rule g. AreUsed g rule.marks.now };
 
-    fn put_at(
-        &self,
-        alloc: Global,
-        graph: &Graph,
-        number: u32,
-        events: &mut Vec<ModelEvent>,
-    ) -> Result<(), NoMemory> {
+    fn put_at(&self, alloc: Global, graph: &Graph, number: u32, events: &mut Events) -> Put {
         let unused = is_unused(graph, self.marks, number);
         put_if(alloc, graph, Rule::ShapeUnused, number, unused, "", events)?;
         Ok(())
@@ -149,6 +138,6 @@ fn wants_use(graph: &Graph, number: u32) -> bool
 {
     is_own_shape(graph, number)
         && !is_service(kind_of(graph, number))
-        && !carries(graph, number, "smithy.api#trait")
-        && !carries(graph, number, "smithy.api#mixin")
+        && !carries(graph, number, TRAIT)
+        && !carries(graph, number, MIXIN)
 }

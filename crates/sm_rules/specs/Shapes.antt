@@ -1,14 +1,13 @@
 -- What shapes lead to, and what leads to them: that there are finite values, and that services use shapes (Smithy 2.0, "Recursive shape
 -- definitions", "Service").
-use Rattle.std.specs.Prelude.{◌≡◌, ◌⊎◌, ℕ, Bool, true, false, List, [], ◌∷◌, codes}
+use Rattle.std.specs.Prelude.{◌≡◌, ◌⊎◌, ℕ, Bool, true, false, List, [], ◌∷◌}
 use Rattle.std.specs.List.{Contains}
 use Rattle.sm_model.specs.Graphs.{shape_entry, member_entry, ShapeEntry, MemberEntry, GraphMaps}
 use Rattle.sm_model.specs.Relations.{HasEntry, IsInGraph}
 use Rattle.sm_model.specs.declared.kind.Kind.{Kind}
 use Rattle.sm_model.specs.declared.kind.Kind.TheVariants.{Structure, Union, Service, Operation, Resource}
-use Rattle.sm_compile.specs.TraitIds.{required_id, trait_id}
+use Rattle.sm_compile.specs.TraitIds.{mixin_id, required_id, trait_id}
 use Rattle.sm_rules.specs.Words.{IsOwnShape, has_trait, IsService, IsInClosure}
-use Rattle.sm_model.specs.PreludeShapes.{api_id}
 
 -- a simple shape, an enum, an intEnum, a list and a map always have a finite value
 abbrev pub is_always_finite : Kind → Bool
@@ -56,5 +55,5 @@ pub record IsUnused (g : GraphMaps) (id detail : List ℕ) : Type 0 where
   pub other : s.kind ≡ Service → ⊥
   pub outside : (service : List ℕ) → IsInClosure g service id → ⊥
   pub no_trait : has_trait trait_id s.traits ≡ false
-  pub no_mixin : has_trait (api_id (codes "mixin")) s.traits ≡ false
+  pub no_mixin : has_trait mixin_id s.traits ≡ false
   pub detail_is : detail ≡ []

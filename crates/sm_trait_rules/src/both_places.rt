@@ -8,18 +8,13 @@ ghost use Rattle.sm_rules.specs.TraitShapes.{HasWrongPlace};
 
 use crate::places::put_unpicked;
 use crate::table_rules::put_other_places;
-use sm_model::{Graph, ModelEvent};
+use sm_model::Graph;
+use sm_passes::putting::{Events, Put};
 use sm_select::Ways;
-use sm_tree::NoMemory;
 use std::alloc::Global;
 
 /// Puts the events of the rule: n log n, beside the selectors of traits.
-pub fn put_places(
-    alloc: Global,
-    graph: &Graph,
-    ways: &Ways,
-    events: &mut Vec<ModelEvent>,
-) -> Result<(), NoMemory>
+pub fn put_places(alloc: Global, graph: &Graph, ways: &Ways, events: &mut Events) -> Put
     requires { AreWays graph.now ways.now }
     ensures { OnOk result
         (Puts (IsEventOf TraitPlace (HasWrongPlace (maps_of graph.now))) events.old.items events.new.items) }

@@ -20,24 +20,21 @@ ghost use Rattle.sm_rules.specs.TraitShapes.{HasConflict, HasExcludedTrait};
 
 use crate::exclusive::put_exclusive;
 use crate::text_set::TextSet;
+use sm_compile::trait_ids::TRAIT;
 use sm_compile::{field_of, trait_node};
-use sm_model::{Graph, ModelEvent, entries_of, text_of};
+use sm_model::{Graph, entries_of, text_of};
 use sm_passes::carried::carries;
 use sm_passes::each::{AtOwn, put_outside};
 use sm_passes::owned::is_own_shape;
-use sm_passes::putting::put_if;
-use sm_passes::rows::form::{Form, is_of_form};
+use sm_passes::putting::{Events, Put, put_if};
+use sm_passes::rows::form::{RowForm, is_of_form};
 use sm_rules::Rule;
 use sm_tree::{NoMemory, Tree};
 use std::alloc::Global;
 use std::cmp::Ordering;
 
 /// Puts the events of Trait.Conflict: those that the table tells, and those that the shapes of traits tell.
-pub fn put_conflicts(
-    alloc: Global,
-    graph: &Graph,
-    events: &mut Vec<ModelEvent>,
-) -> Result<(), NoMemory>
+pub fn put_conflicts(alloc: Global, graph: &Graph, events: &mut Events) -> Put
     ensures { OnOk result
         (Puts (IsEventOf TraitConflict (HasConflict (maps_of graph.now))) events.old.items events.new.items) }
 {
@@ -48,11 +45,7 @@ pub fn put_conflicts(
 
 /// Puts the events of Trait.Conflict that the shapes of traits tell. For each trait that stands somewhere the shorter of two lists is
 /// walked, with a look-up at each step: what the trait excludes, and what stands beside it. A trait is told once at each carrier.
-pub fn put_excluded(
-    alloc: Global,
-    graph: &Graph,
-    events: &mut Vec<ModelEvent>,
-) -> Result<(), NoMemory>
+pub fn put_excluded(alloc: Global, graph: &Graph, events: &mut Events) -> Put
     ensures { OnOk result
         (Puts (IsEventOf TraitConflict (HasExcludedTrait (maps_of graph.now))) events.old.items events.new.items) }
 {
@@ -102,13 +95,7 @@ impl AtOwn for Excluding<'_, '_> {
 
     ghost knows = { λ rule g. (rule.graph.now ≡ g) × AreExcluded g rule.sets.now };
 
-    fn put_own(
-        &self,
-        alloc: Global,
-        graph: &Graph,
-        number: u32,
-        events: &mut Vec<ModelEvent>,
-    ) -> Result<(), NoMemory> {
+    fn put_own(&self, alloc: Global, graph: &Graph, number: u32, events: &mut Events) -> Put {
         put_carried(alloc, self.graph, self.sets, number, events)?;
         Ok(())
     }
@@ -134,8 +121,8 @@ fn put_carried<'a>(
     graph: &'a Graph,
     sets: &[Excluded<'a>],
     number: u32,
-    events: &mut Vec<ModelEvent>,
-) -> Result<(), NoMemory>
+    events: &mut Events,
+) -> Put
     requires number { IsShapeNumber graph.now number }
     requires own { is_prelude_id (id_of_number graph.now number) ≡ false }
     requires sets { AreExcluded graph.now sets.now }
@@ -155,8 +142,8 @@ fn put_told(
     graph: &Graph,
     number: u32,
     told: &TextSet<'_>,
-    events: &mut Vec<ModelEvent>,
-) -> Result<(), NoMemory>
+    events: &mut Events,
+) -> Put
     requires { IsShapeNumber graph.now number }
     ensures { OnOk result
         (Puts (IsEventAt TraitConflict (λ at id. IsHeldThere (maps_of graph.now) at told.now.texts id) (id_of_number graph.now number))
@@ -175,8 +162,8 @@ fn put_if_told(
     number: u32,
     told: &TextSet<'_>,
     name: &str,
-    events: &mut Vec<ModelEvent>,
-) -> Result<(), NoMemory>
+    events: &mut Events,
+) -> Put
     requires { IsShapeNumber graph.now number }
     ensures { OnOk result
         (Puts (ToldHeld (id_of_number graph.now number) told.now.texts name.now) events.old.items events.new.items) }
@@ -391,7 +378,7 @@ fn conflicts_at(graph: &Graph, number: u32) -> &[Tree]
     ensures { nodes_of (nodes_view result.now) ≡ conflicts_under (maps_of graph.now) (id_of_number graph.now number) }
 {
     if is_own_shape(graph, number) {
-        conflicts_in(trait_node(graph, number, "smithy.api#trait"))
+        conflicts_in(trait_node(graph, number, TRAIT))
     } else {
         &[]
     }
@@ -410,7 +397,7 @@ fn conflicts_in(tree: Option<&Tree>) -> &[Tree]
 fn conflicts_of(tree: &Tree) -> &[Tree]
     ensures { nodes_of (nodes_view result.now) ≡ conflicts_in (Some (node_of tree.now)) }
 {
-    if is_of_form(Form::Trait, tree) {
+    if is_of_form(RowForm::Trait, tree) {
         entries_where(field_of(tree, "conflicts"))
     } else {
         &[]

@@ -15,12 +15,15 @@ ghost use Rattle.sm_trait_rules.specs.steps.Excluding.{ToldGreater, is_greater, 
 ghost use Rattle.sm_trait_rules.specs.steps.Silent.{no_exclusive};
 ghost use Rattle.sm_passes.specs.Putting.{IsWhere, ToldOf};
 
-use sm_model::{Graph, ModelEvent};
+use sm_compile::trait_ids::{
+    ERROR, HTTP_HEADER, HTTP_LABEL, HTTP_PAYLOAD, HTTP_PREFIX_HEADERS, HTTP_QUERY,
+    HTTP_QUERY_PARAMS, HTTP_RESPONSE_CODE, IDEMPOTENT, INPUT, OUTPUT, READONLY,
+};
+use sm_model::Graph;
 use sm_passes::carried::carries;
 use sm_passes::each::{AtOwn, put_outside};
-use sm_passes::putting::put_if;
+use sm_passes::putting::{Events, Put, put_if};
 use sm_rules::Rule;
-use sm_tree::NoMemory;
 use std::alloc::Global;
 
 #[derive(Drop)]
@@ -31,13 +34,7 @@ impl AtOwn for Exclusive {
 
     ghost knows = { λ rule g. Unit {0} };
 
-    fn put_own(
-        &self,
-        alloc: Global,
-        graph: &Graph,
-        number: u32,
-        events: &mut Vec<ModelEvent>,
-    ) -> Result<(), NoMemory> {
+    fn put_own(&self, alloc: Global, graph: &Graph, number: u32, events: &mut Events) -> Put {
         put_groups(alloc, graph, number, events)?;
         Ok(())
     }
@@ -46,11 +43,7 @@ impl AtOwn for Exclusive {
 }
 
 /// Puts the events of the rule.
-pub fn put_exclusive(
-    alloc: Global,
-    graph: &Graph,
-    events: &mut Vec<ModelEvent>,
-) -> Result<(), NoMemory>
+pub fn put_exclusive(alloc: Global, graph: &Graph, events: &mut Events) -> Put
     ensures { OnOk result
         (Puts (IsEventOf TraitConflict (HasExclusiveTraits (maps_of graph.now))) events.old.items events.new.items) }
 {
@@ -58,12 +51,7 @@ pub fn put_exclusive(
     Ok(())
 }
 
-fn put_groups(
-    alloc: Global,
-    graph: &Graph,
-    number: u32,
-    events: &mut Vec<ModelEvent>,
-) -> Result<(), NoMemory>
+fn put_groups(alloc: Global, graph: &Graph, number: u32, events: &mut Events) -> Put
     requires number { IsShapeNumber graph.now number }
     requires own { is_prelude_id (id_of_number graph.now number) ≡ false }
     ensures { OnOk result
@@ -79,37 +67,31 @@ fn put_groups(
 fn of_methods() -> &'static [&'static str]
     ensures { texts_of_all result.now ≡ of_methods }
 {
-    &["smithy.api#readonly", "smithy.api#idempotent"]
+    &[READONLY, IDEMPOTENT]
 }
 
 fn of_sides() -> &'static [&'static str]
     ensures { texts_of_all result.now ≡ of_sides }
 {
-    &["smithy.api#input", "smithy.api#output", "smithy.api#error"]
+    &[INPUT, OUTPUT, ERROR]
 }
 
 fn of_bindings() -> &'static [&'static str]
     ensures { texts_of_all result.now ≡ binding_ids }
 {
     &[
-        "smithy.api#httpLabel",
-        "smithy.api#httpQuery",
-        "smithy.api#httpQueryParams",
-        "smithy.api#httpHeader",
-        "smithy.api#httpPrefixHeaders",
-        "smithy.api#httpPayload",
-        "smithy.api#httpResponseCode",
+        HTTP_LABEL,
+        HTTP_QUERY,
+        HTTP_QUERY_PARAMS,
+        HTTP_HEADER,
+        HTTP_PREFIX_HEADERS,
+        HTTP_PAYLOAD,
+        HTTP_RESPONSE_CODE,
     ]
 }
 
 // Puts each of these traits that stands there behind a smaller one.
-fn put_group(
-    alloc: Global,
-    graph: &Graph,
-    number: u32,
-    group: &[&str],
-    events: &mut Vec<ModelEvent>,
-) -> Result<(), NoMemory>
+fn put_group(alloc: Global, graph: &Graph, number: u32, group: &[&str], events: &mut Events) -> Put
     requires { IsShapeNumber graph.now number }
     ensures { OnOk result
         (Puts (ToldOf (ToldGreater (maps_of graph.now) (id_of_number graph.now number) (texts_of_all group.now)) group.now)
@@ -127,8 +109,8 @@ fn put_if_greater(
     number: u32,
     group: &[&str],
     name: &str,
-    events: &mut Vec<ModelEvent>,
-) -> Result<(), NoMemory>
+    events: &mut Events,
+) -> Put
     requires { IsShapeNumber graph.now number }
     ensures { OnOk result
         (Puts (IsWhere (is_greater (maps_of graph.now) (id_of_number graph.now number) (texts_of_all group.now) name.now)

@@ -9,11 +9,12 @@ ghost use Rattle.sm_passes.specs.Firsts.{number_in};
 ghost use Rattle.sm_passes.specs.Forms.{is_trait_value};
 ghost use Rattle.sm_trait_rules.specs.steps.Placing.{AreFirsts, AreSeen, IsTextAt, SharesText, selector_in, selector_under};
 
+use sm_compile::trait_ids::TRAIT;
 use sm_compile::{field_of, text_in_trait, trait_node};
 use sm_model::Graph;
 use sm_passes::firsts::first_of;
 use sm_passes::owned::is_own_shape;
-use sm_passes::rows::form::{Form, is_of_form};
+use sm_passes::rows::form::{RowForm, is_of_form};
 use sm_tree::{NoMemory, Tree};
 use std::alloc::Global;
 use std::collections::BTreeMap;
@@ -79,7 +80,7 @@ pub(crate) fn selector_at(graph: &Graph, number: u32) -> Option<&str>
     ensures { option_copied result ≡ selector_under (maps_of graph.now) (id_of_number graph.now number) }
 {
     if is_own_shape(graph, number) {
-        selector_in(trait_node(graph, number, "smithy.api#trait"))
+        selector_in(trait_node(graph, number, TRAIT))
     } else {
         None
     }
@@ -99,7 +100,7 @@ fn selector_of(tree: &Tree) -> Option<&str>
     ensures { option_copied result
         ≡ cond (is_trait_value (node_of tree.now)) (text_of (field_of (codes "selector") (node_of tree.now))) None }
 {
-    if is_of_form(Form::Trait, tree) {
+    if is_of_form(RowForm::Trait, tree) {
         text_in_trait(field_of(tree, "selector"))
     } else {
         None

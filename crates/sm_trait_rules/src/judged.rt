@@ -11,13 +11,13 @@ ghost use Rattle.sm_trait_rules.specs.steps.Silent.{none_judged};
 ghost use Rattle.sm_passes.specs.Putting.{ToldOf};
 
 use sm_compile::{id_text, kind_of, members_of, target_of};
-use sm_model::{Graph, Kind, ModelEvent, is_in_prelude};
+use sm_model::{Graph, Kind, is_in_prelude};
 use sm_passes::carried::is_member;
 use sm_passes::each::AtOwn;
-use sm_passes::putting::put_if;
+use sm_passes::putting::{Events, Put, put_if};
 use sm_passes::rows::place::{Behind, Stand};
 use sm_rules::Rule;
-use sm_tree::{NoMemory, Text, Tree};
+use sm_tree::{Text, Tree};
 use std::alloc::Global;
 
 /// Who judges traits by the table.
@@ -51,13 +51,7 @@ impl<J: Judge> AtOwn for Judged<'_, J> {
 
     ghost knows = { λ told g. Unit {0} };
 
-    fn put_own(
-        &self,
-        alloc: Global,
-        graph: &Graph,
-        number: u32,
-        events: &mut Vec<ModelEvent>,
-    ) -> Result<(), NoMemory> {
+    fn put_own(&self, alloc: Global, graph: &Graph, number: u32, events: &mut Events) -> Put {
         match kind_of(graph, number) {
             Some(kind) => {
                 put_shape(alloc, graph, self.judge, number, kind, events)?;
@@ -77,8 +71,8 @@ fn put_shape<J: Judge>(
     judge: &J,
     number: u32,
     kind: Kind,
-    events: &mut Vec<ModelEvent>,
-) -> Result<(), NoMemory>
+    events: &mut Events,
+) -> Put
     requires { IsShapeNumber graph.now number }
     ensures { OnOk result
         (Puts (ToldShape (J.rule judge.now) (J.wrong judge.now) (maps_of graph.now) (id_of_number graph.now number) kind)
@@ -95,8 +89,8 @@ fn put_members<J: Judge>(
     judge: &J,
     home: Kind,
     members: &[u32],
-    events: &mut Vec<ModelEvent>,
-) -> Result<(), NoMemory>
+    events: &mut Events,
+) -> Put
     requires { AreShapeNumbers graph.now members.now }
     ensures { OnOk result
         (Puts (ToldOf (λ k. ToldMember (J.rule judge.now) (J.wrong judge.now) (maps_of graph.now) home (id_of_number graph.now k))
@@ -114,8 +108,8 @@ fn put_member<J: Judge>(
     judge: &J,
     home: Kind,
     member: u32,
-    events: &mut Vec<ModelEvent>,
-) -> Result<(), NoMemory>
+    events: &mut Events,
+) -> Put
     requires { IsShapeNumber graph.now member }
     ensures { OnOk result
         (Puts (ToldMember (J.rule judge.now) (J.wrong judge.now) (maps_of graph.now) home (id_of_number graph.now member))
@@ -156,8 +150,8 @@ fn put_judged<J: Judge>(
     judge: &J,
     number: u32,
     at: Stand,
-    events: &mut Vec<ModelEvent>,
-) -> Result<(), NoMemory>
+    events: &mut Events,
+) -> Put
     requires { IsShapeNumber graph.now number }
     ensures { OnOk result
         (Puts (ToldTraits (J.rule judge.now) (J.wrong judge.now) (maps_of graph.now) (id_of_number graph.now number) at)
@@ -182,8 +176,8 @@ fn put_traits<J: Judge>(
     number: u32,
     at: Stand,
     traits: &[(Text, Tree)],
-    events: &mut Vec<ModelEvent>,
-) -> Result<(), NoMemory>
+    events: &mut Events,
+) -> Put
     requires { IsShapeNumber graph.now number }
     ensures { OnOk result
         (Puts (ToldOf (ToldTrait (J.rule judge.now) (J.wrong judge.now) (id_of_number graph.now number) at) traits.now)
@@ -202,8 +196,8 @@ fn put_trait<J: Judge>(
     number: u32,
     at: Stand,
     pair: &(Text, Tree),
-    events: &mut Vec<ModelEvent>,
-) -> Result<(), NoMemory>
+    events: &mut Events,
+) -> Put
     requires { IsShapeNumber graph.now number }
     ensures { OnOk result
         (Puts (ToldTrait (J.rule judge.now) (J.wrong judge.now) (id_of_number graph.now number) at pair.now)

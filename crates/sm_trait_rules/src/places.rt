@@ -15,8 +15,8 @@ ghost use Rattle.sm_rules.specs.TraitShapes.{IsNotPicked};
 use crate::first_texts::{first_texts, selector_at};
 use crate::uses::{TraitUses, uses_of};
 use sm_compile::id_text;
-use sm_model::{Graph, ModelEvent};
-use sm_passes::putting::put_if;
+use sm_model::Graph;
+use sm_passes::putting::{Events, Put, put_if};
 use sm_rules::Rule;
 use sm_select::{Selector, SelectorRefusal, Ways, parse_selector, select_among};
 use sm_tree::NoMemory;
@@ -24,12 +24,7 @@ use std::alloc::Global;
 
 /// Puts the events of Trait.Place that the shapes of traits tell. The selectors of one text are asked once, of what carries their
 /// traits: n log n in all where they follow no relation; else a pass over the graph and its links for each step of each text.
-pub fn put_unpicked(
-    alloc: Global,
-    graph: &Graph,
-    ways: &Ways,
-    events: &mut Vec<ModelEvent>,
-) -> Result<(), NoMemory>
+pub fn put_unpicked(alloc: Global, graph: &Graph, ways: &Ways, events: &mut Events) -> Put
     requires { AreWays graph.now ways.now }
     ensures { OnOk result
         (Puts (IsEventOf TraitPlace (IsNotPicked (maps_of graph.now))) events.old.items events.new.items) }
@@ -46,8 +41,8 @@ fn put_by_texts(
     graph: &Graph,
     ways: &Ways,
     rows: &[TraitUses],
-    events: &mut Vec<ModelEvent>,
-) -> Result<(), NoMemory>
+    events: &mut Events,
+) -> Put
     requires ways { AreWays graph.now ways.now }
     requires rows { AreSharedUses graph.now rows.now }
     ensures { OnOk result
@@ -73,8 +68,8 @@ fn put_shared(
     ways: &Ways,
     number: u32,
     uses: &[(u32, u32)],
-    events: &mut Vec<ModelEvent>,
-) -> Result<(), NoMemory>
+    events: &mut Events,
+) -> Put
     requires ways { AreWays graph.now ways.now }
     requires number { IsShapeNumber graph.now number }
     requires uses { AreOfText graph.now (selector_under (maps_of graph.now) (id_of_number graph.now number)) uses.now }
@@ -96,8 +91,8 @@ fn put_by_text(
     ways: &Ways,
     text: &str,
     uses: &[(u32, u32)],
-    events: &mut Vec<ModelEvent>,
-) -> Result<(), NoMemory>
+    events: &mut Events,
+) -> Put
     requires ways { AreWays graph.now ways.now }
     requires uses { AreOfText graph.now (Some text.now) uses.now }
     ensures { OnOk result (Puts (ToldOf (ToldOfUse graph.now) uses.now) events.old.items events.new.items) }
@@ -122,8 +117,8 @@ fn put_by_selector(
     ways: &Ways,
     selector: &Selector,
     uses: &[(u32, u32)],
-    events: &mut Vec<ModelEvent>,
-) -> Result<(), NoMemory>
+    events: &mut Events,
+) -> Put
     requires ways { AreWays graph.now ways.now }
     requires uses { AreUsesThere graph.now uses.now }
     ensures { OnOk result
@@ -152,8 +147,8 @@ fn put_unmarked(
     graph: &Graph,
     uses: &[(u32, u32)],
     marks: &[bool],
-    events: &mut Vec<ModelEvent>,
-) -> Result<(), NoMemory>
+    events: &mut Events,
+) -> Put
     requires count { length marks.now ≡ length uses.now }
     requires uses { AreUsesThere graph.now uses.now }
     ensures { OnOk result (Puts (Below (ToldUnmarked graph.now uses.now marks.now) (length uses.now)) events.old.items events.new.items) }
@@ -171,8 +166,8 @@ fn put_unless(
     carrier: u32,
     of: u32,
     picked: bool,
-    events: &mut Vec<ModelEvent>,
-) -> Result<(), NoMemory>
+    events: &mut Events,
+) -> Put
     requires carrier { IsShapeNumber graph.now carrier }
     requires of { IsShapeNumber graph.now of }
     ensures { OnOk result (Puts (IsWhere (not picked) (told_use graph.now (carrier, of))) events.old.items events.new.items) }

@@ -9,20 +9,18 @@ ghost use Rattle.sm_trait_rules.specs.steps.Twice.{ToldTwice, carried_twice};
 ghost use Rattle.sm_passes.specs.Carrying.{carries};
 ghost use Rattle.sm_passes.specs.Owned.{is_own_structure};
 
+use sm_compile::trait_ids::{
+    HTTP_PAYLOAD, HTTP_PREFIX_HEADERS, HTTP_QUERY_PARAMS, HTTP_RESPONSE_CODE, IDEMPOTENCY_TOKEN,
+};
 use sm_compile::{members_of, trait_node};
-use sm_model::{Graph, ModelEvent};
+use sm_model::Graph;
 use sm_passes::owned::is_own_structure;
-use sm_passes::putting::put_if;
+use sm_passes::putting::{Events, Put, put_if};
 use sm_rules::Rule;
-use sm_tree::NoMemory;
 use std::alloc::Global;
 
 /// Puts the events of the rule.
-pub fn put_single(
-    alloc: Global,
-    graph: &Graph,
-    events: &mut Vec<ModelEvent>,
-) -> Result<(), NoMemory>
+pub fn put_single(alloc: Global, graph: &Graph, events: &mut Events) -> Put
     ensures { OnOk result
         (Puts (IsEventOf TraitSingle (CarriesTwice (maps_of graph.now))) events.old.items events.new.items) }
 {
@@ -32,12 +30,7 @@ pub fn put_single(
     Ok(())
 }
 
-fn put_single_at(
-    alloc: Global,
-    graph: &Graph,
-    number: u32,
-    events: &mut Vec<ModelEvent>,
-) -> Result<(), NoMemory>
+fn put_single_at(alloc: Global, graph: &Graph, number: u32, events: &mut Events) -> Put
     requires { IsShapeNumber graph.now number }
     ensures { OnOk result
         (Puts (IsEventAt TraitSingle (CarriesTwice (maps_of graph.now)) (id_of_number graph.now number))
@@ -50,33 +43,22 @@ fn put_single_at(
     }
 }
 
-fn put_single_of(
-    alloc: Global,
-    graph: &Graph,
-    number: u32,
-    events: &mut Vec<ModelEvent>,
-) -> Result<(), NoMemory>
+fn put_single_of(alloc: Global, graph: &Graph, number: u32, events: &mut Events) -> Put
     requires number { IsShapeNumber graph.now number }
     requires own { is_own_structure (maps_of graph.now) (id_of_number graph.now number) ≡ true }
     ensures { OnOk result
         (Puts (IsEventAt TraitSingle (CarriesTwice (maps_of graph.now)) (id_of_number graph.now number))
         events.old.items events.new.items) }
 {
-    put_if_twice(alloc, graph, number, "smithy.api#idempotencyToken", events)?;
-    put_if_twice(alloc, graph, number, "smithy.api#httpPayload", events)?;
-    put_if_twice(alloc, graph, number, "smithy.api#httpPrefixHeaders", events)?;
-    put_if_twice(alloc, graph, number, "smithy.api#httpQueryParams", events)?;
-    put_if_twice(alloc, graph, number, "smithy.api#httpResponseCode", events)?;
+    put_if_twice(alloc, graph, number, IDEMPOTENCY_TOKEN, events)?;
+    put_if_twice(alloc, graph, number, HTTP_PAYLOAD, events)?;
+    put_if_twice(alloc, graph, number, HTTP_PREFIX_HEADERS, events)?;
+    put_if_twice(alloc, graph, number, HTTP_QUERY_PARAMS, events)?;
+    put_if_twice(alloc, graph, number, HTTP_RESPONSE_CODE, events)?;
     Ok(())
 }
 
-fn put_if_twice(
-    alloc: Global,
-    graph: &Graph,
-    number: u32,
-    name: &str,
-    events: &mut Vec<ModelEvent>,
-) -> Result<(), NoMemory>
+fn put_if_twice(alloc: Global, graph: &Graph, number: u32, name: &str, events: &mut Events) -> Put
     requires { IsShapeNumber graph.now number }
     ensures { OnOk result
         (Puts (ToldTwice (maps_of graph.now) (id_of_number graph.now number) name.now) events.old.items events.new.items) }

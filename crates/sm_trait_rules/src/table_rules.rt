@@ -8,13 +8,14 @@ ghost use Rattle.sm_rules.specs.declared.rule.Rule.TheVariants.{TraitPlace, Trai
 ghost use Rattle.sm_passes.specs.RowTests.{any_row, is_wrong_place, is_wrong_value, reads_by, reads_there, some_said, stands_by};
 
 use crate::judged::{Judge, Judged};
-use sm_model::{Graph, ModelEvent};
+use sm_model::Graph;
 use sm_passes::each::put_outside;
-use sm_passes::rows::form::{Form, is_of_form};
+use sm_passes::putting::{Events, Put};
+use sm_passes::rows::form::{RowForm, is_of_form};
 use sm_passes::rows::names::{AnyRow, FoundRows, RowTest, rows_of};
-use sm_passes::rows::place::{Place, Stand, allows};
+use sm_passes::rows::place::{RowPlace, Stand, allows};
 use sm_rules::Rule;
-use sm_tree::{NoMemory, Tree};
+use sm_tree::Tree;
 use std::alloc::Global;
 
 #[derive(Drop)]
@@ -25,7 +26,7 @@ struct StandsBy {
 impl RowTest for StandsBy {
     ghost passes = { λ test. stands_by test.at };
 
-    fn passes(&self, _form: Form, place: Place) -> bool {
+    fn passes(&self, _form: RowForm, place: RowPlace) -> bool {
         allows(place, self.at)
     }
 }
@@ -38,7 +39,7 @@ struct ReadsBy<'a> {
 impl RowTest for ReadsBy<'_> {
     ghost passes = { λ test. reads_by (node_of test.tree.now) };
 
-    fn passes(&self, form: Form, _place: Place) -> bool {
+    fn passes(&self, form: RowForm, _place: RowPlace) -> bool {
         is_of_form(form, self.tree)
     }
 }
@@ -52,7 +53,7 @@ struct ReadsThere<'a> {
 impl RowTest for ReadsThere<'_> {
     ghost passes = { λ test. reads_there test.at (node_of test.tree.now) };
 
-    fn passes(&self, form: Form, place: Place) -> bool {
+    fn passes(&self, form: RowForm, place: RowPlace) -> bool {
         let here = allows(place, self.at);
         let reads = is_of_form(form, self.tree);
         both(here, reads)
@@ -127,11 +128,7 @@ fn stands_elsewhere(rows: FoundRows, at: Stand) -> bool
 }
 
 /// Puts the events of Trait.Value that the table tells. Linear in the graph and the values of its traits.
-pub fn put_other_values(
-    alloc: Global,
-    graph: &Graph,
-    events: &mut Vec<ModelEvent>,
-) -> Result<(), NoMemory>
+pub fn put_other_values(alloc: Global, graph: &Graph, events: &mut Events) -> Put
     ensures { OnOk result
         (Puts (IsEventOf TraitValue (HasOtherValue (maps_of graph.now))) events.old.items events.new.items) }
 {
@@ -140,11 +137,7 @@ pub fn put_other_values(
 }
 
 /// Puts the events of Trait.Place that the table tells. Linear in the graph.
-pub fn put_other_places(
-    alloc: Global,
-    graph: &Graph,
-    events: &mut Vec<ModelEvent>,
-) -> Result<(), NoMemory>
+pub fn put_other_places(alloc: Global, graph: &Graph, events: &mut Events) -> Put
     ensures { OnOk result
         (Puts (IsEventOf TraitPlace (StandsElsewhere (maps_of graph.now))) events.old.items events.new.items) }
 {

@@ -12,12 +12,13 @@ ghost use Rattle.sm_trait_rules.specs.steps.Silent.{no_unknown};
 ghost use Rattle.sm_passes.specs.Putting.{IsWhere, ToldOf};
 
 use crate::known::has_row;
+use sm_compile::trait_ids::TRAIT;
 use sm_compile::trait_node;
-use sm_model::{Graph, ModelEvent, is_in_prelude};
+use sm_model::{Graph, is_in_prelude};
 use sm_passes::each::{AtOwn, put_outside};
-use sm_passes::putting::put_if;
+use sm_passes::putting::{Events, Put, put_if};
 use sm_rules::Rule;
-use sm_tree::{NoMemory, Text, Tree};
+use sm_tree::{Text, Tree};
 use std::alloc::Global;
 
 #[derive(Drop)]
@@ -28,13 +29,7 @@ impl AtOwn for Unknown {
 
     ghost knows = { λ rule g. Unit {0} };
 
-    fn put_own(
-        &self,
-        alloc: Global,
-        graph: &Graph,
-        number: u32,
-        events: &mut Vec<ModelEvent>,
-    ) -> Result<(), NoMemory> {
+    fn put_own(&self, alloc: Global, graph: &Graph, number: u32, events: &mut Events) -> Put {
         put_each_unknown(alloc, graph, number, graph.traits(number), events)?;
         Ok(())
     }
@@ -43,11 +38,7 @@ impl AtOwn for Unknown {
 }
 
 /// Puts the events of the rule. n log n.
-pub fn put_unknown(
-    alloc: Global,
-    graph: &Graph,
-    events: &mut Vec<ModelEvent>,
-) -> Result<(), NoMemory>
+pub fn put_unknown(alloc: Global, graph: &Graph, events: &mut Events) -> Put
     ensures { OnOk result
         (Puts (IsEventOf TraitUnknown (HasUnknownTrait (maps_of graph.now))) events.old.items events.new.items) }
 {
@@ -61,8 +52,8 @@ fn put_each_unknown(
     graph: &Graph,
     number: u32,
     traits: &[(Text, Tree)],
-    events: &mut Vec<ModelEvent>,
-) -> Result<(), NoMemory>
+    events: &mut Events,
+) -> Put
     requires { IsShapeNumber graph.now number }
     ensures { OnOk result
         (Puts (ToldOf (ToldUnknown (maps_of graph.now) (id_of_number graph.now number)) traits.now) events.old.items events.new.items) }
@@ -73,13 +64,7 @@ fn put_each_unknown(
     Ok(())
 }
 
-fn put_if_unknown(
-    alloc: Global,
-    graph: &Graph,
-    number: u32,
-    name: &str,
-    events: &mut Vec<ModelEvent>,
-) -> Result<(), NoMemory>
+fn put_if_unknown(alloc: Global, graph: &Graph, number: u32, name: &str, events: &mut Events) -> Put
     requires { IsShapeNumber graph.now number }
     ensures { OnOk result
         (Puts (IsWhere (is_unknown (maps_of graph.now) name.now) (rule_event TraitUnknown (id_of_number graph.now number) name.now))
@@ -118,5 +103,5 @@ fn is_trait(graph: &Graph, number: u32) -> bool
     requires { IsShapeNumber graph.now number }
     ensures { result ≡ is_some (trait_of (maps_of graph.now) (id_of_number graph.now number) trait_id) }
 {
-    trait_node(graph, number, "smithy.api#trait").is_some()
+    trait_node(graph, number, TRAIT).is_some()
 }

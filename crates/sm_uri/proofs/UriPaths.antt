@@ -17,8 +17,8 @@ use Rattle.sm_uri.proofs.UriNames.{names_of_both, name_of_label}
 use Rattle.sm_uri.proofs.UriSegments.{label_body, middle_is, behind_segment, tail_slash, tail_question, root_question}
 use Rattle.sm_uri.proofs.UriParts.{AreSegments, text_more, label_more, empty_stops, literal_stops}
 use Rattle.sm_uri.specs.declared.path.Path as reader
-use Rattle.sm_uri.specs.declared.stop.Stop.{Stop}
-use Rattle.sm_uri.specs.declared.stop.Stop.TheVariants.{At, NoMemory}
+use Rattle.sm_uri.specs.declared.stop.PatternStop.{PatternStop}
+use Rattle.sm_uri.specs.declared.stop.PatternStop.TheVariants.{At, NoMemory}
 use Rattle.sm_uri.specs.declared.pattern.Segment.{Segment}
 use Rattle.sm_uri.specs.declared.pattern.Segment.TheVariants.{Literal, Label, Greedy}
 
@@ -291,7 +291,7 @@ stop_within L bytes rest b =
     let len : length bytes ≡ length b.taken + length rest = ap length b.cut ∙ length-append b.taken rest in omega (arith, len)
 
 -- the steps of the reader
-pub path_failed : (text : List ℕ) (old new : reader.Path) (rest : List ℕ) (stop : Stop) → PathTaken text old.segments.items rest
+pub path_failed : (text : List ℕ) (old new : reader.Path) (rest : List ℕ) (stop : PatternStop) → PathTaken text old.segments.items rest
     → ReadsSegment old new rest (Err stop) → ReadsPath text (Err stop)
 path_failed text old new rest (At left) t r = path_stops text old.segments.items rest left.now t r
 path_failed text old new rest NoMemory t r = tt
@@ -309,7 +309,7 @@ path_on text old new rest behind next t r e =
     (path_more text old.segments.items r.segment rest next t (subst AreSegments r.is r.read.is_uri)
     (r.spelled ∙ ap (λ x. body_text r.segment ++ x) e))
 
-pub query_refused : (text : List ℕ) (segments : List Segment) (behind query : List ℕ) (stop : Stop) → IsPathBefore text segments behind
+pub query_refused : (text : List ℕ) (segments : List Segment) (behind query : List ℕ) (stop : PatternStop) → IsPathBefore text segments behind
     → behind ≡ 63 ∷ query → ReadsQuery query (Err stop) → ReadsUri text (Err stop)
 query_refused text segments behind query (At left) p e r = query_stops text segments behind query left.now p e r
 query_refused text segments behind query NoMemory p e r = tt

@@ -8,8 +8,8 @@ use Rattle.sm_ids.proofs.Cutting.{both, and_also, list_all_weaker, heads, tails,
 use Rattle.sm_uri.specs.UriPattern.{QueryLiteral, is_value_byte, is_key_byte, is_text_of, is_value, is_query_literal, value_text}
 use Rattle.sm_uri.specs.UriPattern.{literal_text, more_text, query_text}
 use Rattle.sm_uri.specs.steps.UriReading.{NoneGoesOn, StopsBefore, IsQuery, QueryAhead, IsLiteralRead, TakesLiteral, ReadsQuery}
-use Rattle.sm_uri.specs.declared.stop.Stop.{Stop}
-use Rattle.sm_uri.specs.declared.stop.Stop.TheVariants.{At, NoMemory}
+use Rattle.sm_uri.specs.declared.stop.PatternStop.{PatternStop}
+use Rattle.sm_uri.specs.declared.stop.PatternStop.TheVariants.{At, NoMemory}
 use Rattle.sm_uri.proofs.UriBytes.{key_value}
 use Rattle.sm_uri.proofs.UriStops.{stops_behind, ends_none}
 use Rattle.sm_uri.proofs.UriSegments.{all_both, text_passes, text_first}
@@ -203,7 +203,7 @@ key_and_value text key more value behind e h f k ends = record {
 }
 
 -- the steps of the reader
-pub query_failed : (start : List ℕ) (before : List QueryLiteral) (rest : List ℕ) (stop : Stop) → QueryTaken start before rest
+pub query_failed : (start : List ℕ) (before : List QueryLiteral) (rest : List ℕ) (stop : PatternStop) → QueryTaken start before rest
     → TakesLiteral rest (Err stop) → ReadsQuery start (Err stop)
 query_failed start before rest (At left) t r =
     query_left start before rest left.now t (subst (λ x. StopsBefore QueryAhead rest x) (sym r.0) (no_key rest r.1))

@@ -7,7 +7,7 @@ ghost use Rattle.sm_uri.specs.steps.UriReading.{IsNotRoot, IsPathRead, ReadsPath
 use crate::bytes::{LiteralBytes, cut_run, may_be_root, may_end, strip};
 use crate::label::{label_end, name_at};
 use crate::pattern::Segment;
-use crate::stop::Stop;
+use crate::stop::PatternStop;
 use sm_tree::{NoMemory, Text};
 use std::alloc::Global;
 use std::collections::BTreeSet;
@@ -33,12 +33,12 @@ pub(crate) struct PathRead<'a> {
 }
 
 /// Reads the path that stands first.
-pub(crate) fn read_path<'a>(alloc: Global, text: &'a str) -> Result<PathRead<'a>, Stop<'a>>
+pub(crate) fn read_path<'a>(alloc: Global, text: &'a str) -> Result<PathRead<'a>, PatternStop<'a>>
     ensures { ReadsPath text.now result }
 {
     let mut rest = match strip(text, '/') {
         Some(rest) => rest,
-        None => return Err(Stop::At(text)),
+        None => return Err(PatternStop::At(text)),
     };
     let mut path = Path {
         segments: Vec::new(alloc),
@@ -70,7 +70,7 @@ pub(crate) fn read_path<'a>(alloc: Global, text: &'a str) -> Result<PathRead<'a>
 
 impl<'a> Path<'a> {
     // Reads a segment behind its `/`: answers what is behind it.
-    fn segment(&mut self, alloc: Global, rest: &'a str) -> Result<&'a str, Stop<'a>>
+    fn segment(&mut self, alloc: Global, rest: &'a str) -> Result<&'a str, PatternStop<'a>>
         requires read { IsPathRead self.old }
         requires some { IsNotRoot self.old.segments.items rest.now }
         ensures { ReadsSegment self.old self.new rest.now result }
@@ -78,7 +78,7 @@ impl<'a> Path<'a> {
         match strip(rest, '{') {
             Some(inside) => {
                 if self.greedy {
-                    return Err(Stop::At(rest));
+                    return Err(PatternStop::At(rest));
                 }
                 self.label(alloc, inside)
             }
@@ -87,7 +87,7 @@ impl<'a> Path<'a> {
     }
 
     // Literal text.
-    fn literal(&mut self, alloc: Global, rest: &'a str) -> Result<&'a str, Stop<'a>>
+    fn literal(&mut self, alloc: Global, rest: &'a str) -> Result<&'a str, PatternStop<'a>>
         requires read { IsPathRead self.old }
         requires some { IsNotRoot self.old.segments.items rest.now }
         requires literal { (more : List ℕ) → rest.now ≡ left_brace ∷ more → ⊥ }
@@ -95,7 +95,7 @@ impl<'a> Path<'a> {
     {
         let cut = cut_run::<LiteralBytes>(rest);
         if cut.taken.is_empty() || !may_end(cut.behind) {
-            return Err(Stop::At(cut.behind));
+            return Err(PatternStop::At(cut.behind));
         }
         self.segments
             .push(Segment::Literal(Text::copy(alloc, cut.taken)?))?;
@@ -103,24 +103,24 @@ impl<'a> Path<'a> {
     }
 
     // A label behind its brace.
-    fn label(&mut self, alloc: Global, inside: &'a str) -> Result<&'a str, Stop<'a>>
+    fn label(&mut self, alloc: Global, inside: &'a str) -> Result<&'a str, PatternStop<'a>>
         requires read { IsPathRead self.old }
         requires first { self.old.greedy ≡ false }
         ensures { ReadsSegment self.old self.new (left_brace ∷ inside.now) result }
     {
         let name = match name_at(inside) {
             Ok(name) => name,
-            Err(rest) => return Err(Stop::At(rest)),
+            Err(rest) => return Err(PatternStop::At(rest)),
         };
         if self.names.contains(name.taken) {
-            return Err(Stop::At(name.behind));
+            return Err(PatternStop::At(name.behind));
         }
         match label_end(name.behind) {
             Ok(end) => {
                 self.labelled(alloc, name.taken, end.greedy)?;
                 Ok(end.behind)
             }
-            Err(rest) => Err(Stop::At(rest)),
+            Err(rest) => Err(PatternStop::At(rest)),
         }
     }
     // Puts a label behind what was read.

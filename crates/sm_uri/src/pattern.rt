@@ -5,7 +5,7 @@ ghost use Rattle.sm_uri.specs.steps.UriReading.{ReadsUri};
 use crate::bytes::strip;
 use crate::path::read_path;
 use crate::query::read_query;
-use crate::stop::Stop;
+use crate::stop::PatternStop;
 use sm_tree::Text;
 use std::alloc::Global;
 
@@ -46,13 +46,13 @@ impl UriPattern {
     {
         match UriPattern::read(alloc, text) {
             Ok(pattern) => Ok(pattern),
-            Err(Stop::At(rest)) => Err(UriRefusal::Bad((text.len() - rest.len()) as u64)),
-            Err(Stop::NoMemory) => Err(UriRefusal::NoMemory),
+            Err(PatternStop::At(rest)) => Err(UriRefusal::Bad((text.len() - rest.len()) as u64)),
+            Err(PatternStop::NoMemory) => Err(UriRefusal::NoMemory),
         }
     }
 
     // The path, and then the query.
-    fn read<'a>(alloc: Global, text: &'a str) -> Result<Self, Stop<'a>>
+    fn read<'a>(alloc: Global, text: &'a str) -> Result<Self, PatternStop<'a>>
         ensures { ReadsUri text.now result }
     {
         let path = match read_path(alloc, text) {

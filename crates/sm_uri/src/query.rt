@@ -2,7 +2,7 @@
 ghost use Rattle.sm_uri.specs.steps.UriReading.{ReadsQuery, TakesLiteral};
 
 use crate::bytes::{KeyBytes, ValueBytes, cut_run, strip};
-use crate::stop::Stop;
+use crate::stop::PatternStop;
 use sm_tree::Text;
 use std::alloc::Global;
 
@@ -19,7 +19,7 @@ pub(crate) struct LiteralRead<'a> {
 pub(crate) fn read_query<'a>(
     alloc: Global,
     text: &'a str,
-) -> Result<Vec<(Text, Option<Text>)>, Stop<'a>>
+) -> Result<Vec<(Text, Option<Text>)>, PatternStop<'a>>
     ensures { ReadsQuery text.now result }
 {
     let mut literals = Vec::new(alloc);
@@ -37,19 +37,19 @@ pub(crate) fn read_query<'a>(
                 if behind.is_empty() {
                     return Ok(literals);
                 }
-                return Err(Stop::At(behind));
+                return Err(PatternStop::At(behind));
             }
         };
     }
 }
 
 /// Reads the literal that stands first.
-fn literal_at<'a>(alloc: Global, text: &'a str) -> Result<LiteralRead<'a>, Stop<'a>>
+fn literal_at<'a>(alloc: Global, text: &'a str) -> Result<LiteralRead<'a>, PatternStop<'a>>
     ensures { TakesLiteral text.now result }
 {
     let key = cut_run::<KeyBytes>(text);
     if key.taken.is_empty() {
-        return Err(Stop::At(text));
+        return Err(PatternStop::At(text));
     }
     let name = Text::copy(alloc, key.taken)?;
     match strip(key.behind, '=') {

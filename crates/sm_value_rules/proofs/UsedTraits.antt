@@ -25,7 +25,8 @@ use Rattle.sm_compile.proofs.ReachedNumbers.{same_number}
 use Rattle.sm_compile.proofs.TabledShapes.{mapped_from}
 use Rattle.sm_trait_rules.proofs.JudgedTraits.{pair_seen}
 use Rattle.sm_passes.proofs.TraitEntries.{found_entry}
-use Rattle.sm_trait_rules.specs.steps.Placing.{AreUsed, IsNamed, IsNamedOf, IsUsedBy}
+use Rattle.sm_trait_rules.specs.steps.Placing.{IsNamed, IsNamedOf}
+use Rattle.sm_value_rules.specs.Used.{AreUsed, IsUsedBy}
 use Rattle.sm_trait_rules.proofs.SomeJoined.{none_of_some, some_next}
 use Rattle.sm_trait_rules.proofs.TraitsThere.{traits_there}
 

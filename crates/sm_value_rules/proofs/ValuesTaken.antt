@@ -17,7 +17,7 @@ use Rattle.sm_tree.specs.Parts.{text_in}
 use Rattle.sm_model.specs.Joins.{Joins}
 use Rattle.sm_model.proofs.Worklist.{apart}
 use Rattle.sm_compile.specs.TraitNodes.{number_in}
-use Rattle.sm_value_rules.specs.declared.seen_values.Seen.{Seen}
+use Rattle.sm_value_rules.specs.declared.seen_values.SeenValues.{SeenValues}
 use Rattle.sm_value_rules.specs.steps.SeenValues.{Holds, has_number, has_text, holds}
 
 or_other : (a b : Bool) → cond a true b ≡ (b || a)
@@ -60,7 +60,7 @@ pub number_again : (set : BTreeSet ℤ) (key : ℤ) → has_number set key ≡ t
 number_again set key there z = again (has_number set) key z (int_eq key z) (Decides-int_eq key z).0 there
 
 -- none at first
-pub none_held : (s : Seen) → s.texts.keys ≡ [] → s.numbers.keys ≡ [] → (n : Node) → holds s n ≡ false
+pub none_held : (s : SeenValues) → s.texts.keys ≡ [] → s.numbers.keys ≡ [] → (n : Node) → holds s n ≡ false
 none_held s texts numbers (text t) = ap (list_any (λ (k : Bor (List ℕ)). is_eq (slice_cmp nat_cmp t k.now))) texts
 none_held s texts numbers (int z) = ap (list_any (int_eq z)) numbers
 none_held s texts numbers null = refl
@@ -95,7 +95,7 @@ joined old new same P is to from = (
   λ h. elim h [ inl o ↦ is ∙ left_of old same o | inr p ↦ is ∙ right_of old same (from p) ],
 )
 
-pub text_taken : (old new : Seen) (t : List ℕ) → ((q : List ℕ) → has_text new.texts q ≡ (has_text old.texts q || bytes_eq t q))
+pub text_taken : (old new : SeenValues) (t : List ℕ) → ((q : List ℕ) → has_text new.texts q ≡ (has_text old.texts q || bytes_eq t q))
     → new.numbers ≡ old.numbers → Joins (Holds old) (λ n. text t ≡ n) (Holds new)
 text_taken old new t texts numbers (text q) =
     joined (has_text old.texts q) (has_text new.texts q) (bytes_eq t q) (text t ≡ text q) (texts q)
@@ -112,7 +112,7 @@ text_taken old new t texts numbers (opaque b) = kept false false (text t ≡ opa
 text_taken old new t texts numbers (list ns) = kept false false (text t ≡ list ns) refl (λ e. none-some t (sym (ap text_in e)))
 text_taken old new t texts numbers (object ms) = kept false false (text t ≡ object ms) refl (λ e. none-some t (sym (ap text_in e)))
 
-pub number_taken : (old new : Seen) (z : ℤ) → ((y : ℤ) → has_number new.numbers y ≡ (has_number old.numbers y || int_eq z y))
+pub number_taken : (old new : SeenValues) (z : ℤ) → ((y : ℤ) → has_number new.numbers y ≡ (has_number old.numbers y || int_eq z y))
     → new.texts ≡ old.texts → Joins (Holds old) (λ n. int z ≡ n) (Holds new)
 number_taken old new z numbers texts (int y) =
     joined (has_number old.numbers y) (has_number new.numbers y) (int_eq z y) (int z ≡ int y) (numbers y)

@@ -1,3 +1,4 @@
 pub mod Laws
+pub mod Used
 pub mod Marking
 pub mod steps

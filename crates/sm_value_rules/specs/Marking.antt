@@ -4,7 +4,7 @@ use Rattle.sm_model.specs.GraphView.{entries_of, maps_of}
 use Rattle.sm_model.specs.Reaching.{AreMarks, id_of_number}
 use Rattle.sm_model.specs.declared.graph.Graph.{Graph}
 use Rattle.sm_rules.specs.NodeChecks.{IsChecked}
-use Rattle.sm_trait_rules.specs.steps.Placing.{AreUsed}
+use Rattle.sm_value_rules.specs.Used.{AreUsed}
 use Rattle.sm_value_rules.specs.declared.value_marks.ValueMarks.{ValueMarks}
 
 -- exactly the shapes for which nodes are checked are marked, and exactly what stands as a trait somewhere

@@ -11,14 +11,15 @@ ghost use Rattle.sm_rules.specs.declared.rule.Rule.TheVariants.{ConstraintBounds
 ghost use Rattle.sm_value_rules.specs.steps.Silent.{no_bounds};
 ghost use Rattle.sm_value_rules.specs.steps.Bounding.{is_wrong_length, is_wrong_range};
 
+use sm_compile::trait_ids::{LENGTH, RANGE};
 use sm_compile::{
     are_lengths_where, are_ordered_where, are_whole_bounds_where, is_range_where, trait_node,
 };
-use sm_model::{Graph, Kind, ModelEvent};
+use sm_model::{Graph, Kind};
 use sm_passes::each::{AtOwn, put_outside};
-use sm_passes::putting::put_if;
+use sm_passes::putting::{Events, Put, put_if};
 use sm_rules::Rule;
-use sm_tree::{NoMemory, Tree};
+use sm_tree::Tree;
 use std::alloc::Global;
 
 #[derive(Drop)]
@@ -29,13 +30,7 @@ impl AtOwn for Bounds {
 
     ghost knows = { λ rule g. Unit {0} };
 
-    fn put_own(
-        &self,
-        alloc: Global,
-        graph: &Graph,
-        number: u32,
-        events: &mut Vec<ModelEvent>,
-    ) -> Result<(), NoMemory> {
+    fn put_own(&self, alloc: Global, graph: &Graph, number: u32, events: &mut Events) -> Put {
         put_both_bounds(alloc, graph, number, events)?;
         Ok(())
     }
@@ -44,11 +39,7 @@ impl AtOwn for Bounds {
 }
 
 /// Puts the events of the rule.
-pub fn put_bounds(
-    alloc: Global,
-    graph: &Graph,
-    events: &mut Vec<ModelEvent>,
-) -> Result<(), NoMemory>
+pub fn put_bounds(alloc: Global, graph: &Graph, events: &mut Events) -> Put
     ensures { OnOk result
         (Puts (IsEventOf ConstraintBounds (HasWrongBounds (maps_of graph.now))) events.old.items events.new.items) }
 {
@@ -57,19 +48,14 @@ pub fn put_bounds(
 }
 
 // Those of a shape or member outside of the prelude.
-fn put_both_bounds(
-    alloc: Global,
-    graph: &Graph,
-    number: u32,
-    events: &mut Vec<ModelEvent>,
-) -> Result<(), NoMemory>
+fn put_both_bounds(alloc: Global, graph: &Graph, number: u32, events: &mut Events) -> Put
     requires number { IsShapeNumber graph.now number }
     requires own { is_prelude_id (id_of_number graph.now number) ≡ false }
     ensures { OnOk result
         (Puts (IsEventAt ConstraintBounds (HasWrongBounds (maps_of graph.now)) (id_of_number graph.now number))
         events.old.items events.new.items) }
 {
-    let length = is_wrong_length(trait_node(graph, number, "smithy.api#length"));
+    let length = is_wrong_length(trait_node(graph, number, LENGTH));
     put_if(
         alloc,
         graph,
@@ -79,7 +65,7 @@ fn put_both_bounds(
         "length",
         events,
     )?;
-    let range = is_wrong_range(trait_node(graph, number, "smithy.api#range"));
+    let range = is_wrong_range(trait_node(graph, number, RANGE));
     put_if(
         alloc,
         graph,

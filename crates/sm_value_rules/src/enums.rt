@@ -12,18 +12,17 @@ ghost use Rattle.sm_value_rules.specs.steps.Enums as tests;
 ghost use Rattle.sm_value_rules.specs.steps.Enums.{HasNone, HasWrong, ToldValue, ToldValueAt, home_of, own_enum, value_at};
 ghost use Rattle.sm_value_rules.specs.steps.SeenValues.{Holds};
 
-use crate::seen_values::{Seen, value_of};
+use crate::seen_values::{SeenValues, value_of};
 use sm_compile::members_of;
-use sm_model::{Graph, Kind, ModelEvent};
+use sm_model::{Graph, Kind};
 use sm_passes::each::{AtEach, put_each};
 use sm_passes::owned::own_kind;
-use sm_passes::putting::{put_event, put_if};
+use sm_passes::putting::{Events, Put, put_event, put_if};
 use sm_rules::Rule;
-use sm_tree::NoMemory;
 use std::alloc::Global;
 
 /// Puts the events of the rule. n log n.
-pub fn put_enums(alloc: Global, graph: &Graph, events: &mut Vec<ModelEvent>) -> Result<(), NoMemory>
+pub fn put_enums(alloc: Global, graph: &Graph, events: &mut Events) -> Put
     ensures { OnOk result
         (Puts (IsEventOf EnumValues (HasWrongEnum (maps_of graph.now))) events.old.items events.new.items) }
 {
@@ -62,13 +61,7 @@ impl AtEach for Empty {
 
     ghost knows = { λ rule g. Unit {0} };
 
-    fn put_at(
-        &self,
-        alloc: Global,
-        graph: &Graph,
-        number: u32,
-        events: &mut Vec<ModelEvent>,
-    ) -> Result<(), NoMemory> {
+    fn put_at(&self, alloc: Global, graph: &Graph, number: u32, events: &mut Events) -> Put {
         match own_enum(graph, number) {
             Some(_) => {
                 let none = are_none(members_of(graph, number));
@@ -96,13 +89,7 @@ impl AtEach for Wrong {
 
     ghost knows = { λ rule g. Unit {0} };
 
-    fn put_at(
-        &self,
-        alloc: Global,
-        graph: &Graph,
-        number: u32,
-        events: &mut Vec<ModelEvent>,
-    ) -> Result<(), NoMemory> {
+    fn put_at(&self, alloc: Global, graph: &Graph, number: u32, events: &mut Events) -> Put {
         match own_enum(graph, number) {
             Some(kind) => {
                 put_values(alloc, graph, kind, members_of(graph, number), events)?;
@@ -114,18 +101,12 @@ impl AtEach for Wrong {
 }
 
 // Of these members of an enum of this type.
-fn put_values(
-    alloc: Global,
-    graph: &Graph,
-    kind: Kind,
-    members: &[u32],
-    events: &mut Vec<ModelEvent>,
-) -> Result<(), NoMemory>
+fn put_values(alloc: Global, graph: &Graph, kind: Kind, members: &[u32], events: &mut Events) -> Put
     requires { AreShapeNumbers graph.now members.now }
     ensures { OnOk result
         (Puts (Below (ToldValueAt graph.now kind members.now) (length members.now)) events.old.items events.new.items) }
 {
-    let mut seen = Seen::new(alloc);
+    let mut seen = SeenValues::new(alloc);
     for member in members {
         put_value(alloc, graph, kind, *member, &mut seen, events)?;
     }
@@ -137,9 +118,9 @@ fn put_value<'a>(
     graph: &'a Graph,
     kind: Kind,
     member: u32,
-    seen: &mut Seen<'a>,
-    events: &mut Vec<ModelEvent>,
-) -> Result<(), NoMemory>
+    seen: &mut SeenValues<'a>,
+    events: &mut Events,
+) -> Put
     requires { IsShapeNumber graph.now member }
     ensures seen { OnOk result (Joins (Holds seen.old) (λ n. value_at graph.now kind member ≡ Some n) (Holds seen.new)) }
     ensures told { OnOk result

@@ -9,6 +9,7 @@ ghost use Rattle.sm_model.specs.Joins.{Joins};
 ghost use Rattle.sm_value_rules.specs.steps.Enums.{right_number, right_text, value_at};
 ghost use Rattle.sm_value_rules.specs.steps.SeenValues.{Holds, has_number, has_text, holds, value_node};
 
+use sm_compile::trait_ids::ENUM_VALUE;
 use sm_compile::{fits_word, number_of, text_in_trait, trait_node};
 use sm_model::{Graph, Kind};
 use sm_tree::NoMemory;
@@ -29,7 +30,7 @@ pub fn value_of(graph: &Graph, kind: Kind, member: u32) -> Option<EnumValue<'_>>
     requires { IsShapeNumber graph.now member }
     ensures { option_map value_node result ≡ value_at graph.now kind member }
 {
-    let tree = trait_node(graph, member, "smithy.api#enumValue");
+    let tree = trait_node(graph, member, ENUM_VALUE);
     match kind {
         Kind::Enum => text_value(text_in_trait(tree)),
         Kind::IntEnum => number_value(number_of(tree)),
@@ -71,21 +72,21 @@ fn number_value<'a>(number: Option<i64>) -> Option<EnumValue<'a>>
 
 /// Values that were seen.
 #[derive(Drop)]
-pub struct Seen<'a> {
+pub struct SeenValues<'a> {
     /// The texts.
     pub texts: BTreeSet<&'a str>,
     /// The numbers.
     pub numbers: BTreeSet<i64>,
 }
 
-impl<'a> Seen<'a> {
+impl<'a> SeenValues<'a> {
     /// None yet. No memory.
     pub fn new(alloc: Global) -> Self
         ensures { (n : Node) → holds result n ≡ false }
     {
         let texts: BTreeSet<&'a str> = BTreeSet::new(alloc);
         let numbers: BTreeSet<i64> = BTreeSet::new(alloc);
-        Seen { texts, numbers }
+        SeenValues { texts, numbers }
     }
 
     /// Takes a value, and tells whether it is new. `NoMemory` where there is no room for it.

@@ -3,7 +3,8 @@ ghost use Rattle.std.specs.Prelude.{◌≡◌, ◌<◌, IfOk, length};
 ghost use Rattle.sm_model.specs.GraphView.{entries_of};
 ghost use Rattle.sm_model.specs.Reaching.{IsMarked};
 ghost use Rattle.sm_model.specs.Joins.{Joins};
-ghost use Rattle.sm_trait_rules.specs.steps.Placing.{AreUsed, IsNamed, IsNamedOf};
+ghost use Rattle.sm_trait_rules.specs.steps.Placing.{IsNamed, IsNamedOf};
+ghost use Rattle.sm_value_rules.specs.Used.{AreUsed};
 
 use sm_model::{Graph, no_marks};
 use sm_tree::{NoMemory, Text, Tree};

@@ -10,7 +10,7 @@ ghost use Rattle.sm_passes.specs.Putting.{ToldOf};
 ghost use Rattle.sm_rules.specs.NodeChecks.{IsChecked};
 ghost use Rattle.sm_value_rules.specs.Marking.{AreValueMarks};
 ghost use Rattle.sm_value_rules.specs.steps.Nodes.{AddsRoots, AreRoots, IsNodeTable};
-ghost use Rattle.sm_trait_rules.specs.steps.Placing.{AreUsed};
+ghost use Rattle.sm_value_rules.specs.Used.{AreUsed};
 ghost use Rattle.sm_trait_rules.specs.steps.StandingTraits.{AreTraitsAt};
 ghost use Rattle.sm_value_rules.specs.steps.Valuing.{IsJudgedTrait, IsWantedTrait, ToldValue, ToldValues, WantsTrait, is_judged_at};
 ghost use Rattle.sm_rules.specs.TraitShapes.{HasFaultyValue, HasWrongValue};

@@ -6,8 +6,8 @@ use Rattle.sm_rules.specs.Bindings.{an_output, binding_id, some_prefix_headers, 
 use Rattle.sm_passes.specs.Carrying.{carries}
 use Rattle.sm_http_rules.specs.declared.bindings.Binding.{Binding}
 use Rattle.sm_http_rules.specs.declared.bindings.Binding.TheVariants as binding
-use Rattle.sm_http_rules.specs.declared.bindings.Side.{Side}
-use Rattle.sm_http_rules.specs.declared.bindings.Side.TheVariants as side
+use Rattle.sm_http_rules.specs.declared.bindings.BindingSide.{BindingSide}
+use Rattle.sm_http_rules.specs.declared.bindings.BindingSide.TheVariants as side
 
 abbrev pub binding_said : Binding → BindingTrait
 binding_said binding.Label = a_label
@@ -18,13 +18,13 @@ binding_said binding.PrefixHeaders = some_prefix_headers
 binding_said binding.Payload = a_payload
 binding_said binding.ResponseCode = a_response_code
 
-abbrev pub side_said : Side → BoundSide
+abbrev pub side_said : BindingSide → BoundSide
 side_said side.Input = an_input
 side_said side.Output = an_output
 side_said side.Error = an_error
 
 -- those of each side
-abbrev pub bindings_in : Side → List Binding
+abbrev pub bindings_in : BindingSide → List Binding
 bindings_in side.Input =
     binding.Label ∷ binding.Query ∷ binding.QueryParams ∷ binding.Header ∷ binding.PrefixHeaders ∷ binding.Payload ∷ []
 bindings_in side.Output = binding.Header ∷ binding.PrefixHeaders ∷ binding.Payload ∷ binding.ResponseCode ∷ []

@@ -18,8 +18,8 @@ use Rattle.sm_passes.specs.Owned.{is_member_in}
 use Rattle.sm_passes.specs.Putting.{IsWhere, ToldOf}
 use Rattle.sm_http_rules.specs.declared.bindings.Binding.{Binding}
 use Rattle.sm_http_rules.specs.declared.bindings.Binding.TheVariants.{Payload}
-use Rattle.sm_http_rules.specs.declared.bindings.Side.{Side}
-use Rattle.sm_http_rules.specs.declared.bindings.Side.TheVariants.{Input, Output, Error}
+use Rattle.sm_http_rules.specs.declared.bindings.BindingSide.{BindingSide}
+use Rattle.sm_http_rules.specs.declared.bindings.BindingSide.TheVariants.{Input, Output, Error}
 use Rattle.sm_http_rules.specs.declared.sides.Sides.{Sides}
 use Rattle.sm_http_rules.specs.steps.Binding.{binding_said, bindings_in, carries_binding}
 
@@ -47,7 +47,7 @@ ToldOnSide g side shape e =
     × (IsTargetTold g side id m e ⊎ IsBesideTold g side shape s id m e)
 
 -- by marks, and as tests
-abbrev pub marks_of : Sides → Side → List Bool
+abbrev pub marks_of : Sides → BindingSide → List Bool
 marks_of sides Input = sides.inputs.items
 marks_of sides Output = sides.outputs.items
 marks_of sides Error = sides.errors.items
@@ -63,17 +63,17 @@ is_wrong_target g leading k b =
     is_bound_by (maps_of g) b (id_of_number g k)
     && (not (get_or leading k false) && not (targets (allows_target (maps_of g) (binding_said b)) (maps_of g) (id_of_number g k)))
 
-abbrev pub is_in_document_at : GraphMaps → Side → List ℕ → Bool
+abbrev pub is_in_document_at : GraphMaps → BindingSide → List ℕ → Bool
 is_in_document_at g side id = is_member_in (fin.get g.shapes id) && not (list_any (carries_binding g id) (bindings_in side))
 
 abbrev pub ToldBinding : Graph → List Bool → ℕ → Binding → EventTold → Type 0
 ToldBinding g leading k b e =
     IsWhere (is_wrong_target g leading k b) (rule_event HttpTarget (id_of_number g k) (binding_id (binding_said b))) e
 
-abbrev pub ToldBeside : Graph → Side → Bool → ℕ → EventTold → Type 0
+abbrev pub ToldBeside : Graph → BindingSide → Bool → ℕ → EventTold → Type 0
 ToldBeside g side payload k e =
     IsWhere (payload && is_in_document_at (maps_of g) side (id_of_number g k)) (rule_event HttpTarget (id_of_number g k) http_payload_id) e
 
-abbrev pub ToldBoundMember : Graph → List Bool → Side → Bool → ℕ → EventTold → Type 0
+abbrev pub ToldBoundMember : Graph → List Bool → BindingSide → Bool → ℕ → EventTold → Type 0
 ToldBoundMember g leading side payload k e =
     ToldOf (ToldBinding g leading k) (bindings_in side) e ⊎ ToldBeside g side payload k e

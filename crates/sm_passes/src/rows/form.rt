@@ -19,7 +19,7 @@ use sm_tree::Tree;
 
 /// What the rows of the table ask of values.
 #[derive(Debug, Clone, Copy, PartialEq, Eq, Drop)]
-pub enum Form {
+pub enum RowForm {
     /// Any node.
     AnyValue,
     /// An object.
@@ -63,30 +63,30 @@ pub enum Form {
 }
 
 /// Whether a value is of a form.
-pub fn is_of_form(form: Form, tree: &Tree) -> bool
+pub fn is_of_form(form: RowForm, tree: &Tree) -> bool
     ensures { result ≡ is_of_form form (node_of tree.now) }
 {
     match form {
-        Form::AnyValue => true,
-        Form::AnyObject => is_object(tree),
-        Form::Endpoint => is_object(tree) && is_text_there(field_of(tree, "hostPrefix")),
-        Form::Mixin => is_object(tree) && are_texts_where(field_of(tree, "localTraits")),
-        Form::Trait => is_trait_value(tree),
-        Form::Deprecated => are_two_texts(tree, "message", "since"),
-        Form::Recommended => is_object(tree) && is_text_where(field_of(tree, "reason")),
-        Form::Http => is_http_value(tree),
-        Form::WholeBounds => are_whole_bounds_where(Some(tree)),
-        Form::AnyBounds => is_range_where(Kind::Float, Some(tree)),
-        Form::NamedTexts => are_named_texts(tree),
-        Form::AnyList => is_list(tree),
-        Form::Texts => are_text_nodes(tree),
-        Form::AnyText => is_text(tree),
-        Form::FilledText => is_filled_text(tree),
-        Form::Token => is_token(tree),
-        Form::Side => is_side(tree),
-        Form::TimeFormat => format_of(Some(tree)).is_some(),
-        Form::WholeNumber => is_number(tree),
-        Form::TextOrNumber => is_text(tree) || is_number(tree),
+        RowForm::AnyValue => true,
+        RowForm::AnyObject => is_object(tree),
+        RowForm::Endpoint => is_object(tree) && is_text_there(field_of(tree, "hostPrefix")),
+        RowForm::Mixin => is_object(tree) && are_texts_where(field_of(tree, "localTraits")),
+        RowForm::Trait => is_trait_value(tree),
+        RowForm::Deprecated => are_two_texts(tree, "message", "since"),
+        RowForm::Recommended => is_object(tree) && is_text_where(field_of(tree, "reason")),
+        RowForm::Http => is_http_value(tree),
+        RowForm::WholeBounds => are_whole_bounds_where(Some(tree)),
+        RowForm::AnyBounds => is_range_where(Kind::Float, Some(tree)),
+        RowForm::NamedTexts => are_named_texts(tree),
+        RowForm::AnyList => is_list(tree),
+        RowForm::Texts => are_text_nodes(tree),
+        RowForm::AnyText => is_text(tree),
+        RowForm::FilledText => is_filled_text(tree),
+        RowForm::Token => is_token(tree),
+        RowForm::Side => is_side(tree),
+        RowForm::TimeFormat => format_of(Some(tree)).is_some(),
+        RowForm::WholeNumber => is_number(tree),
+        RowForm::TextOrNumber => is_text(tree) || is_number(tree),
     }
 }
 

@@ -6,16 +6,16 @@ ghost use Rattle.sm_passes.specs.Forms.{form_said};
 ghost use Rattle.sm_passes.specs.Places.{places_said};
 ghost use Rattle.sm_passes.specs.RowTests.{AsksOfRow, any_row, some_row, some_said};
 
-use crate::rows::form::Form;
+use crate::rows::form::RowForm;
 use crate::rows::kinds::Types;
-use crate::rows::place::Place;
+use crate::rows::place::RowPlace;
 
 /// What is asked of a row.
 pub trait RowTest {
     ghost passes: { Self → ValueForm → List PlaceForm → Bool };
 
     /// Whether a row of this form and place passes.
-    fn passes(&self, form: Form, place: Place) -> bool
+    fn passes(&self, form: RowForm, place: RowPlace) -> bool
         ensures { result ≡ passes self.now (form_said form) (places_said place) };
 }
 
@@ -25,9 +25,9 @@ pub enum FoundRows {
     /// None does.
     Absent,
     /// One.
-    One(Form, Place),
+    One(RowForm, RowPlace),
     /// Two.
-    Two(Form, Place, Form, Place),
+    Two(RowForm, RowPlace, RowForm, RowPlace),
 }
 
 impl FoundRows {
@@ -61,7 +61,7 @@ pub struct AnyRow;
 impl RowTest for AnyRow {
     ghost passes = { λ test. any_row };
 
-    fn passes(&self, _form: Form, _place: Place) -> bool {
+    fn passes(&self, _form: RowForm, _place: RowPlace) -> bool {
         true
     }
 }
@@ -86,28 +86,34 @@ pub fn rows_of(name: &str) -> FoundRows
         | "smithy.api#httpPayload"
         | "smithy.api#httpQueryParams"
         | "smithy.api#httpResponseCode"
-        | "smithy.api#hostLabel" => FoundRows::One(Form::AnyObject, Place::StructureMember),
+        | "smithy.api#hostLabel" => FoundRows::One(RowForm::AnyObject, RowPlace::StructureMember),
         "smithy.api#input"
         | "smithy.api#output"
         | "smithy.api#protocolDefinition"
         | "smithy.api#authDefinition"
-        | "smithy.api#retryable" => FoundRows::One(Form::AnyObject, Place::Of(Types::Structure)),
-        "smithy.api#sparse" => FoundRows::One(Form::AnyObject, Place::Of(Types::Container)),
-        "smithy.api#uniqueItems" => FoundRows::One(Form::AnyObject, Place::Of(Types::List)),
+        | "smithy.api#retryable" => FoundRows::One(
+            RowForm::AnyObject,
+            RowPlace::Of(Types::Structure),
+        ),
+        "smithy.api#sparse" => FoundRows::One(RowForm::AnyObject, RowPlace::Of(Types::Container)),
+        "smithy.api#uniqueItems" => FoundRows::One(RowForm::AnyObject, RowPlace::Of(Types::List)),
         "smithy.api#private"
         | "smithy.api#internal"
         | "smithy.api#unstable"
-        | "smithy.api#sensitive" => FoundRows::One(Form::AnyObject, Place::Everywhere),
+        | "smithy.api#sensitive" => FoundRows::One(RowForm::AnyObject, RowPlace::Everywhere),
         "smithy.api#readonly" | "smithy.api#idempotent" | "smithy.api#optionalAuth" =>
-            FoundRows::One(Form::AnyObject, Place::Of(Types::Operation)),
+            FoundRows::One(RowForm::AnyObject, RowPlace::Of(Types::Operation)),
         "smithy.api#streaming" | "smithy.api#requiresLength" => FoundRows::One(
-            Form::AnyObject,
-            Place::Of(Types::Streamed),
+            RowForm::AnyObject,
+            RowPlace::Of(Types::Streamed),
         ),
-        "smithy.api#noReplace" => FoundRows::One(Form::AnyObject, Place::Of(Types::Resource)),
-        "smithy.api#unitType" => FoundRows::One(Form::AnyObject, Place::Unit),
-        "smithy.api#paginated" => FoundRows::One(Form::AnyObject, Place::Of(Types::Paginated)),
-        "smithy.api#cors" => FoundRows::One(Form::AnyObject, Place::Of(Types::Service)),
+        "smithy.api#noReplace" => FoundRows::One(RowForm::AnyObject, RowPlace::Of(Types::Resource)),
+        "smithy.api#unitType" => FoundRows::One(RowForm::AnyObject, RowPlace::Unit),
+        "smithy.api#paginated" => FoundRows::One(
+            RowForm::AnyObject,
+            RowPlace::Of(Types::Paginated),
+        ),
+        "smithy.api#cors" => FoundRows::One(RowForm::AnyObject, RowPlace::Of(Types::Service)),
         _ => behind_annotations(name),
     }
 }
@@ -118,12 +124,15 @@ fn behind_annotations(name: &str) -> FoundRows
         some_row name.now test (rows_of_shapes ++ constraint_rows ++ documentation_rows ++ wire_rows ++ other_rows) }
 {
     match name {
-        "smithy.api#endpoint" => FoundRows::One(Form::Endpoint, Place::Of(Types::Operation)),
-        "smithy.api#mixin" => FoundRows::One(Form::Mixin, Place::AnyShape),
-        "smithy.api#default" => FoundRows::One(Form::AnyValue, Place::Default),
-        "smithy.api#enumValue" => FoundRows::One(Form::TextOrNumber, Place::MemberOf(Types::Enum)),
-        "smithy.api#error" => FoundRows::One(Form::Side, Place::Of(Types::Structure)),
-        "smithy.api#trait" => FoundRows::One(Form::Trait, Place::Of(Types::Trait)),
+        "smithy.api#endpoint" => FoundRows::One(RowForm::Endpoint, RowPlace::Of(Types::Operation)),
+        "smithy.api#mixin" => FoundRows::One(RowForm::Mixin, RowPlace::AnyShape),
+        "smithy.api#default" => FoundRows::One(RowForm::AnyValue, RowPlace::Default),
+        "smithy.api#enumValue" => FoundRows::One(
+            RowForm::TextOrNumber,
+            RowPlace::MemberOf(Types::Enum),
+        ),
+        "smithy.api#error" => FoundRows::One(RowForm::Side, RowPlace::Of(Types::Structure)),
+        "smithy.api#trait" => FoundRows::One(RowForm::Trait, RowPlace::Of(Types::Trait)),
         _ => behind_shapes(name),
     }
 }
@@ -134,14 +143,14 @@ fn behind_shapes(name: &str) -> FoundRows
         some_row name.now test (constraint_rows ++ documentation_rows ++ wire_rows ++ other_rows) }
 {
     match name {
-        "smithy.api#length" => FoundRows::One(Form::WholeBounds, Place::With(Types::Sized)),
+        "smithy.api#length" => FoundRows::One(RowForm::WholeBounds, RowPlace::With(Types::Sized)),
         "smithy.api#range" => FoundRows::Two(
-            Form::WholeBounds,
-            Place::With(Types::Whole),
-            Form::AnyBounds,
-            Place::With(Types::Fraction),
+            RowForm::WholeBounds,
+            RowPlace::With(Types::Whole),
+            RowForm::AnyBounds,
+            RowPlace::With(Types::Fraction),
         ),
-        "smithy.api#pattern" => FoundRows::One(Form::AnyText, Place::With(Types::Text)),
+        "smithy.api#pattern" => FoundRows::One(RowForm::AnyText, RowPlace::With(Types::Text)),
         _ => behind_constraints(name),
     }
 }
@@ -152,16 +161,22 @@ fn behind_constraints(name: &str) -> FoundRows
 {
     match name {
         "smithy.api#documentation" | "smithy.api#since" => FoundRows::One(
-            Form::AnyText,
-            Place::Everywhere,
+            RowForm::AnyText,
+            RowPlace::Everywhere,
         ),
-        "smithy.api#title" => FoundRows::One(Form::AnyText, Place::Of(Types::Titled)),
-        "smithy.api#tags" | "smithy.api#suppress" => FoundRows::One(Form::Texts, Place::Everywhere),
-        "smithy.api#auth" => FoundRows::One(Form::Texts, Place::Of(Types::Authorized)),
-        "smithy.api#deprecated" => FoundRows::One(Form::Deprecated, Place::Everywhere),
-        "smithy.api#recommended" => FoundRows::One(Form::Recommended, Place::StructureMember),
-        "smithy.api#externalDocumentation" => FoundRows::One(Form::NamedTexts, Place::Everywhere),
-        "smithy.api#examples" => FoundRows::One(Form::AnyList, Place::Of(Types::Operation)),
+        "smithy.api#title" => FoundRows::One(RowForm::AnyText, RowPlace::Of(Types::Titled)),
+        "smithy.api#tags" | "smithy.api#suppress" => FoundRows::One(
+            RowForm::Texts,
+            RowPlace::Everywhere,
+        ),
+        "smithy.api#auth" => FoundRows::One(RowForm::Texts, RowPlace::Of(Types::Authorized)),
+        "smithy.api#deprecated" => FoundRows::One(RowForm::Deprecated, RowPlace::Everywhere),
+        "smithy.api#recommended" => FoundRows::One(RowForm::Recommended, RowPlace::StructureMember),
+        "smithy.api#externalDocumentation" => FoundRows::One(
+            RowForm::NamedTexts,
+            RowPlace::Everywhere,
+        ),
+        "smithy.api#examples" => FoundRows::One(RowForm::AnyList, RowPlace::Of(Types::Operation)),
         _ => behind_documentation(name),
     }
 }
@@ -171,19 +186,31 @@ fn behind_documentation(name: &str) -> FoundRows
     ensures { (test : AsksOfRow) → some_said test result ≡ some_row name.now test (wire_rows ++ other_rows) }
 {
     match name {
-        "smithy.api#mediaType" => FoundRows::One(Form::AnyText, Place::With(Types::Media)),
-        "smithy.api#jsonName" => FoundRows::One(Form::AnyText, Place::MemberOf(Types::Named)),
+        "smithy.api#mediaType" => FoundRows::One(RowForm::AnyText, RowPlace::With(Types::Media)),
+        "smithy.api#jsonName" => FoundRows::One(RowForm::AnyText, RowPlace::MemberOf(Types::Named)),
         "smithy.api#timestampFormat" => FoundRows::One(
-            Form::TimeFormat,
-            Place::With(Types::Timestamp),
+            RowForm::TimeFormat,
+            RowPlace::With(Types::Timestamp),
         ),
-        "smithy.api#http" => FoundRows::One(Form::Http, Place::Of(Types::Operation)),
-        "smithy.api#httpError" => FoundRows::One(Form::WholeNumber, Place::Of(Types::Structure)),
-        "smithy.api#httpHeader" => FoundRows::One(Form::Token, Place::StructureMember),
-        "smithy.api#httpQuery" => FoundRows::One(Form::FilledText, Place::StructureMember),
-        "smithy.api#httpPrefixHeaders" => FoundRows::One(Form::AnyText, Place::StructureMember),
-        "smithy.api#resourceIdentifier" => FoundRows::One(Form::AnyText, Place::StructureMember),
-        "smithy.api#references" => FoundRows::One(Form::AnyList, Place::With(Types::Reference)),
+        "smithy.api#http" => FoundRows::One(RowForm::Http, RowPlace::Of(Types::Operation)),
+        "smithy.api#httpError" => FoundRows::One(
+            RowForm::WholeNumber,
+            RowPlace::Of(Types::Structure),
+        ),
+        "smithy.api#httpHeader" => FoundRows::One(RowForm::Token, RowPlace::StructureMember),
+        "smithy.api#httpQuery" => FoundRows::One(RowForm::FilledText, RowPlace::StructureMember),
+        "smithy.api#httpPrefixHeaders" => FoundRows::One(
+            RowForm::AnyText,
+            RowPlace::StructureMember,
+        ),
+        "smithy.api#resourceIdentifier" => FoundRows::One(
+            RowForm::AnyText,
+            RowPlace::StructureMember,
+        ),
+        "smithy.api#references" => FoundRows::One(
+            RowForm::AnyList,
+            RowPlace::With(Types::Reference),
+        ),
         _ => behind_wire(name),
     }
 }
@@ -197,16 +224,16 @@ fn behind_wire(name: &str) -> FoundRows
         | "aws.protocols#awsJson1_1"
         | "aws.protocols#restJson1"
         | "smithy.protocols#rpcv2Cbor" => FoundRows::One(
-            Form::AnyObject,
-            Place::Of(Types::Service),
+            RowForm::AnyObject,
+            RowPlace::Of(Types::Service),
         ),
         "smithy.test#httpRequestTests" => FoundRows::One(
-            Form::AnyList,
-            Place::Of(Types::Operation),
+            RowForm::AnyList,
+            RowPlace::Of(Types::Operation),
         ),
         "smithy.test#httpResponseTests" => FoundRows::One(
-            Form::AnyList,
-            Place::Of(Types::Answering),
+            RowForm::AnyList,
+            RowPlace::Of(Types::Answering),
         ),
         _ => FoundRows::Absent,
     }

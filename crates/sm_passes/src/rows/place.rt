@@ -9,7 +9,7 @@ use sm_model::Kind;
 
 /// Places of a trait.
 #[derive(Debug, Clone, Copy, PartialEq, Eq, Drop)]
-pub enum Place {
+pub enum RowPlace {
     /// Any shape or member.
     Everywhere,
     /// Any shape, and no member.
@@ -49,18 +49,18 @@ pub enum Stand {
 }
 
 /// Whether a trait that may stand at such a place may stand there.
-pub fn allows(place: Place, at: Stand) -> bool
+pub fn allows(place: RowPlace, at: Stand) -> bool
     ensures { result ≡ allows place at }
 {
     match place {
-        Place::Everywhere => true,
-        Place::AnyShape => is_any_shape(at),
-        Place::StructureMember => is_structure_member(at),
-        Place::Unit => false,
-        Place::Default => is_structure_member(at) || is_shape_of(Types::Defaulted, at),
-        Place::MemberOf(types) => is_member_of(types, at),
-        Place::Of(types) => is_shape_of(types, at),
-        Place::With(types) => is_shape_of(types, at) || is_member_to(types, at),
+        RowPlace::Everywhere => true,
+        RowPlace::AnyShape => is_any_shape(at),
+        RowPlace::StructureMember => is_structure_member(at),
+        RowPlace::Unit => false,
+        RowPlace::Default => is_structure_member(at) || is_shape_of(Types::Defaulted, at),
+        RowPlace::MemberOf(types) => is_member_of(types, at),
+        RowPlace::Of(types) => is_shape_of(types, at),
+        RowPlace::With(types) => is_shape_of(types, at) || is_member_to(types, at),
     }
 }
 

@@ -14,8 +14,8 @@ use Rattle.sm_compile.specs.TraitIds.{required_id}
 use Rattle.sm_passes.specs.Carrying.{carries}
 use Rattle.sm_passes.specs.Owned.{is_member_in}
 use Rattle.sm_reference_rules.specs.declared.finite.Known.{Known}
-use Rattle.sm_reference_rules.specs.declared.finite.Way.{Way}
-use Rattle.sm_reference_rules.specs.declared.finite.Way.TheVariants.{ByRequired, ByOne, Always, Never}
+use Rattle.sm_reference_rules.specs.declared.finite.FiniteWay.{FiniteWay}
+use Rattle.sm_reference_rules.specs.declared.finite.FiniteWay.TheVariants.{ByRequired, ByOne, Always, Never}
 use Rattle.sm_rules.specs.Shapes.{HasFinite, is_always_finite}
 
 -- structures and unions outside of the prelude that aren't marked, as a test
@@ -29,7 +29,7 @@ is_infinite g marks k =
     is_compound (kind_under (maps_of g) (id_of_number g k)) && (not (is_prelude_id (id_of_number g k)) && not (get_or marks k false))
 
 -- how shapes of a type come to a finite value
-abbrev pub way_of : Kind → Way
+abbrev pub way_of : Kind → FiniteWay
 way_of Structure = ByRequired
 way_of Union = ByOne
 way_of Service = Never

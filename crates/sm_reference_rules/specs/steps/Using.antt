@@ -1,12 +1,11 @@
 -- Shapes that no service uses, as tests.
-use Rattle.std.specs.Prelude.{◌≡◌, ◌&&◌, ℕ, Bool, false, not, List, codes, get_or, length}
+use Rattle.std.specs.Prelude.{◌≡◌, ◌&&◌, ℕ, Bool, false, not, List, get_or, length}
 use Rattle.sm_model.specs.Graphs.{GraphMaps}
 use Rattle.sm_model.specs.GraphView.{IsShapeNumber, entries_of, maps_of}
-use Rattle.sm_model.specs.PreludeShapes.{api_id}
 use Rattle.sm_model.specs.Reaching.{IsMarked, id_of_number}
 use Rattle.sm_model.specs.declared.graph.Graph.{Graph}
 use Rattle.sm_compile.specs.Looked.{kind_under}
-use Rattle.sm_compile.specs.TraitIds.{trait_id}
+use Rattle.sm_compile.specs.TraitIds.{mixin_id, trait_id}
 use Rattle.sm_rules.specs.Words.{IsInClosure, IsService}
 use Rattle.sm_passes.specs.Carrying.{carries}
 use Rattle.sm_passes.specs.Owned.{is_own_shape, is_service}
@@ -15,7 +14,7 @@ use Rattle.sm_passes.specs.Owned.{is_own_shape, is_service}
 abbrev pub wants_use : GraphMaps → List ℕ → Bool
 wants_use g id =
     is_own_shape g id
-    && (not (is_service (kind_under g id)) && (not (carries g trait_id id) && not (carries g (api_id (codes "mixin")) id)))
+    && (not (is_service (kind_under g id)) && (not (carries g trait_id id) && not (carries g mixin_id id)))
 
 -- these marks are those of what is in the closure of some service, of which there are some
 pub record AreUsed (g : Graph) (marks : List Bool) : Type 0 where

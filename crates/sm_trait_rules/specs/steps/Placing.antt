@@ -6,7 +6,7 @@ use Rattle.sm_tree.specs.declared.tree.Tree.{Tree}
 use Rattle.sm_model.specs.EventView.{EventTold}
 use Rattle.sm_model.specs.Graphs.{GraphMaps}
 use Rattle.sm_model.specs.GraphView.{IsShapeNumber, entries_of, maps_of}
-use Rattle.sm_model.specs.Reaching.{AreMarks, id_of_number}
+use Rattle.sm_model.specs.Reaching.{id_of_number}
 use Rattle.sm_model.specs.declared.graph.Graph.{Graph}
 use Rattle.sm_select.specs.Picks.{IsPicked}
 use Rattle.sm_select.specs.Selectors.{Steps}
@@ -20,17 +20,6 @@ use Rattle.sm_passes.specs.Owned.{is_own_shape}
 use Rattle.sm_passes.specs.Forms.{is_trait_value}
 use Rattle.sm_passes.specs.Putting.{IsUnless, IsWhere}
 use Rattle.sm_rules.specs.TraitShapes.{IsNotPicked}
-
--- an id carries the trait at a number; some shape or member does
-abbrev pub IsUsedBy : Graph → List ℕ → ℕ → Type 0
-IsUsedBy g id k = (n : Node) × (trait_of (maps_of g) id (id_of_number g k) ≡ Some n)
-
-abbrev pub IsUsed : Graph → ℕ → Type 0
-IsUsed g k = (j : ℕ) × IsShapeNumber g j × IsUsedBy g (id_of_number g j) k
-
--- exactly what stands as a trait is marked
-abbrev pub AreUsed : Graph → List Bool → Type 0
-AreUsed g marks = AreMarks (length (entries_of g)) (IsUsed g) marks
 
 -- this is the number of an id, and of one of these traits
 abbrev pub IsNamed : Graph → List ℕ → ℕ → Type 0

@@ -21,8 +21,8 @@ use Rattle.sm_uri.specs.declared.pattern.Segment.{Segment}
 use Rattle.sm_uri.specs.declared.pattern.Segment.TheVariants.{Label, Greedy}
 use Rattle.sm_uri.specs.declared.pattern.UriPattern.{UriPattern}
 use Rattle.sm_uri.specs.declared.query.LiteralRead.{LiteralRead}
-use Rattle.sm_uri.specs.declared.stop.Stop.{Stop}
-use Rattle.sm_uri.specs.declared.stop.Stop.TheVariants.{At, NoMemory}
+use Rattle.sm_uri.specs.declared.stop.PatternStop.{PatternStop}
+use Rattle.sm_uri.specs.declared.stop.PatternStop.TheVariants.{At, NoMemory}
 use Rattle.std.specs.Global.{Vec}
 
 -- no text of a kind goes on behind these bytes as the rest does: with its first byte, or by ending where it is empty
@@ -155,7 +155,7 @@ pub record IsSegmentRead (old new : reader.Path) (rest behind : List ℕ) : Type
   pub spelled : rest ≡ body_text segment ++ behind
   pub ends : ends_segment behind ≡ true
 
-abbrev pub ReadsSegment : reader.Path → reader.Path → List ℕ → Result (Bor (List ℕ)) Stop → Type 0
+abbrev pub ReadsSegment : reader.Path → reader.Path → List ℕ → Result (Bor (List ℕ)) PatternStop → Type 0
 ReadsSegment old new rest (Ok behind) = IsSegmentRead old new rest behind.now
 ReadsSegment old new rest (Err (At left)) = StopsBefore (AfterSlash old.segments.items) rest left.now
 ReadsSegment old new rest (Err NoMemory) = Unit {0}
@@ -167,7 +167,7 @@ pub record IsPathBefore (text : List ℕ) (segments : List Segment) (behind : Li
   pub ends : ends_path behind ≡ true
   pub leads : (x : List ℕ) → IsUriText (path_text segments ++ question_mark ∷ x) → QueryAhead x
 
-abbrev pub ReadsPath : List ℕ → Result PathRead Stop → Type 0
+abbrev pub ReadsPath : List ℕ → Result PathRead PatternStop → Type 0
 ReadsPath text (Ok path) = IsPathBefore text path.segments.items path.behind.now
 ReadsPath text (Err (At left)) = StopsBefore IsUriText text left.now
 ReadsPath text (Err NoMemory) = Unit {0}
@@ -178,18 +178,18 @@ pub record IsLiteralRead (text : List ℕ) (literal : QueryLiteral) (behind : Li
   pub is : IsTrue (is_query_literal literal)
   pub ends : EndsRun is_value_byte behind
 
-abbrev pub TakesLiteral : List ℕ → Result LiteralRead Stop → Type 0
+abbrev pub TakesLiteral : List ℕ → Result LiteralRead PatternStop → Type 0
 TakesLiteral text (Ok read) = IsLiteralRead text read.literal read.behind.now
 TakesLiteral text (Err (At left)) = (left.now ≡ text) × EndsRun is_key_byte text
 TakesLiteral text (Err NoMemory) = Unit {0}
 
-abbrev pub ReadsQuery : List ℕ → Result (Vec QueryLiteral) Stop → Type 0
+abbrev pub ReadsQuery : List ℕ → Result (Vec QueryLiteral) PatternStop → Type 0
 ReadsQuery text (Ok literals) = IsQuery literals.items text
 ReadsQuery text (Err (At left)) = StopsBefore QueryAhead text left.now
 ReadsQuery text (Err NoMemory) = Unit {0}
 
 -- the whole pattern
-abbrev pub ReadsUri : List ℕ → Result UriPattern Stop → Type 0
+abbrev pub ReadsUri : List ℕ → Result UriPattern PatternStop → Type 0
 ReadsUri text (Ok u) = UriText (uri_said u) text
 ReadsUri text (Err (At left)) = StopsBefore IsUriText text left.now
 ReadsUri text (Err NoMemory) = Unit {0}

@@ -1,9 +1,9 @@
-use Rattle.std.proofs.Common.{◌≡◌, ◌+◌, ◌∷◌, get_or, drop, subst}
-use Rattle.std.proofs.lemmas.List.{drop_more, get_or_default, take_all}
-use Rattle.sm_model.specs.GraphView.{AreShapeNumbers}
+use Rattle.std.proofs.Common.{subst}
+use Rattle.std.proofs.lemmas.List.{take_all}
 use Rattle.sm_rules.specs.RuleEvents.{Puts}
 use Rattle.sm_passes.specs.Putting.{ToldOf}
-use Rattle.sm_passes.proofs.ListPut.{none_of, put_next}
+use Rattle.sm_passes.proofs.EntriesThere.{numbers_behind}
+use Rattle.sm_passes.proofs.ListPut.{none_of, put_place}
 use Rattle.sm_http_rules.specs.steps.BoundTargets.{ToldBoundMember}
 use Rattle.sm_http_rules.proofs.bound_targets.put_each_member.Goals as goal
 
@@ -15,14 +15,11 @@ loop-member-init c = record {
 
 pub loop-member-preserved : goal.loop-member-preserved
 loop-member-preserved c =
-    let ms = c.args.members.now in
-    let i = c.loop-member.member-index in
-    let m = get_or ms i 0 in
-    let parts : drop i ms ≡ m ∷ drop (i + 1) ms = drop_more ms i 0 c.loop-member-test.true in
     record {
-      numbers = (subst (AreShapeNumbers c.args.graph.now) parts c.loop-member.invariant.numbers).1;
-      told = put_next (ToldBoundMember c.args.graph.now c.args.leading.now c.args.side c.args.payload) ms i m c.loop-member-test.true
-          (get_or_default ms i 0 m c.loop-member-test.true) c.args.events.now.items c.loop-member.events.items
+      numbers = numbers_behind c.args.graph.now c.args.members.now c.loop-member.member-index c.loop-member-test.true
+          c.loop-member.invariant.numbers;
+      told = put_place (ToldBoundMember c.args.graph.now c.args.leading.now c.args.side c.args.payload)
+          c.args.members.now c.loop-member.member-index 0 c.loop-member-test.true c.args.events.now.items c.loop-member.events.items
           c.put_member.new.events.items c.loop-member.invariant.told c.in_ok-put_member.ensures;
     }
 

@@ -1,6 +1,6 @@
-use Rattle.std.proofs.Common.{◌≡◌, ◌+◌, ◌∷◌, [], get_or, drop, rules, subst, sym}
-use Rattle.std.proofs.lemmas.List.{drop_more, get_or_default, take_all}
-use Rattle.sm_model.specs.GraphView.{AreShapeNumbers}
+use Rattle.std.proofs.Common.{◌≡◌, [], get_or, rules, subst, sym}
+use Rattle.std.proofs.lemmas.List.{get_or_default, take_all}
+use Rattle.sm_passes.proofs.EntriesThere.{numbers_behind}
 use Rattle.sm_http_rules.specs.steps.Labels.{AreBound}
 use Rattle.sm_http_rules.proofs.BoundRows.{bound_next, none_bound}
 use Rattle.sm_http_rules.proofs.label_rows.bound_among.Goals as goal
@@ -17,11 +17,10 @@ pub loop-member-preserved : goal.loop-member-preserved
 loop-member-preserved c =
     let ms = c.args.members.now in
     let i = c.loop-member.member-index in
-    let m = get_or ms i 0 in
-    let parts : drop i ms ≡ m ∷ drop (i + 1) ms = drop_more ms i 0 c.loop-member-test.true in
     record {
-      numbers = (subst (AreShapeNumbers c.args.graph.now) parts c.loop-member.invariant.numbers).1;
-      rows = bound_next c.args.graph.now c.args.input ms i m c.loop-member-test.true (get_or_default ms i 0 m c.loop-member-test.true)
+      numbers = numbers_behind c.args.graph.now ms i c.loop-member-test.true c.loop-member.invariant.numbers;
+      rows = bound_next c.args.graph.now c.args.input ms i (get_or ms i 0) c.loop-member-test.true
+          (get_or_default ms i 0 (get_or ms i 0) c.loop-member-test.true)
           c.loop-member.rows.items c.put_bound_row.new.rows.items c.loop-member.invariant.rows c.in_ok-put_bound_row.ensures;
     }
 

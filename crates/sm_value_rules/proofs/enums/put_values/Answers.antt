@@ -1,9 +1,8 @@
-use Rattle.std.proofs.Common.{◌≡◌, ◌+◌, ◌∷◌, get_or, drop, length, subst, sym, ◌∙◌, arith}
-use Rattle.std.proofs.lemmas.List.{drop_more}
-use Rattle.sm_model.specs.GraphView.{AreShapeNumbers}
+use Rattle.std.proofs.Common.{◌≡◌, length, subst, sym, ◌∙◌, arith}
 use Rattle.sm_model.proofs.Worklist.{apart}
 use Rattle.sm_rules.specs.RuleEvents.{Puts}
 use Rattle.sm_passes.specs.Putting.{Below}
+use Rattle.sm_passes.proofs.EntriesThere.{numbers_behind}
 use Rattle.sm_passes.proofs.EventsPut.{puts_begun, puts_next}
 use Rattle.sm_value_rules.specs.steps.Enums.{ToldValueAt}
 use Rattle.sm_value_rules.specs.steps.SeenValues.{Holds}
@@ -22,12 +21,10 @@ pub loop-member-preserved : goal.loop-member-preserved
 loop-member-preserved c =
     let ms = c.args.members.now in
     let i = c.loop-member.member-index in
-    let m = get_or ms i 0 in
-    let parts : drop i ms ≡ m ∷ drop (i + 1) ms = drop_more ms i 0 c.loop-member-test.true in
     let seen = Holds c.loop-member.seen in
     record {
       within = omega (arith, c.loop-member-test.true);
-      numbers = (subst (AreShapeNumbers c.args.graph.now) parts c.loop-member.invariant.numbers).1;
+      numbers = numbers_behind c.args.graph.now ms i c.loop-member-test.true c.loop-member.invariant.numbers;
       seen = among_next c.args.graph.now c.args.kind ms i 0 c.loop-member-test.true seen
           (Holds c.put_value.new.seen) c.loop-member.invariant.seen
           c.in_ok-put_value.ensures.seen;

@@ -2,7 +2,7 @@ use Rattle.std.proofs.Common.{length, subst, sym}
 use Rattle.sm_model.specs.GraphView.{entries_of, maps_of}
 use Rattle.sm_model.specs.Reaching.{AreMarks, id_of_number}
 use Rattle.sm_rules.specs.NodeChecks.{IsChecked}
-use Rattle.sm_trait_rules.specs.steps.Placing.{AreUsed}
+use Rattle.sm_value_rules.specs.Used.{AreUsed}
 use Rattle.sm_value_rules.proofs.values.put_faulty_values.Goals as goal
 
 pub put_by_marks-requires-clause-checked : goal.put_by_marks-requires-clause-checked
