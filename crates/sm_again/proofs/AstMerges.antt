@@ -1,11 +1,10 @@
 -- What the tree of a merged graph says of a shape is the shape as the graph has it, so what it says merges to the graph.
-use Rattle.std.proofs.Common.{◌≡◌, inl, inr, ℕ, Bool, true, false, List, [], ◌∷◌, ◌++◌, map, Option, Some, None, refl, sym, ap}
+use Rattle.std.proofs.Common.{◌≡◌, ℕ, Bool, true, false, List, [], ◌∷◌, ◌++◌, map, Option, Some, None, refl, sym, ap}
 use Rattle.std.proofs.Common.{subst, ◌∙◌, append-nil}
 use Rattle.std.specs.Prelude.{◌||◌, cond, not, if◌then◌else◌}
 use Rattle.std.specs.FinMap as fin
 use Rattle.sm_tree.specs.Node.{Node, Nodes, Members, list, object, no_nodes, node, no_members, member}
 use Rattle.sm_tree.specs.Parts.{tree_named}
-use Rattle.sm_model.specs.Formed.{StandsAmong}
 use Rattle.sm_model.specs.Given.{AreIdNodes, AreNamedIds, IsIdNode, NodeHasForm}
 use Rattle.sm_model.specs.GraphView.{maps_of}
 use Rattle.sm_model.specs.Graphs.{Entry, GraphMaps, MemberEntry, MemberGiven, ShapeEntry, ShapeMap, member_entry, member_id, shape_entry}
@@ -25,7 +24,7 @@ use Rattle.sm_ast.specs.PartsSaid.{pairs_said}
 use Rattle.sm_ids.proofs.TextCuts.{member_named}
 use Rattle.sm_merge.specs.Meaning.{Defined, members_meant, node_meant, nodes_meant}
 use Rattle.sm_model.specs.Used.{shape_part}
-use Rattle.sm_merge.specs.Restated.{AreMembersIn, IsMemberIn, IsShapeIn, StatesPart}
+use Rattle.sm_merge.specs.Restated.{IsMemberIn, IsShapeIn, StatesPart}
 use Rattle.sm_merge.specs.Stated.{all_said, body_of, defined_among, is_empty, member_stated, shape_with_ids, stated_by, traits_stated}
 use Rattle.sm_merge.proofs.BodiesAgain.{SaysForms, body_again, forms_said, one_said, pairs_or_none}
 use Rattle.sm_merge.proofs.RegularGraphs.{IsRegular, IsRegularShape, merged_regular}
@@ -33,6 +32,7 @@ use Rattle.sm_merge.proofs.RestatedEvents.{part_again}
 use Rattle.sm_merge.proofs.RestatedFiles.{AllStated, file_if, file_states, meant_itself, metadata_there, one_in_file}
 use Rattle.sm_merge.proofs.RestatedFiles.{shape_if, shapes_if, stated_under, stated_values}
 use Rattle.sm_again.specs.AstMerges.{AstMerges}
+use Rattle.sm_again.proofs.MembersAgain.{AreSaidMembers, IsSaidMember, members_again, shape_in}
 
 module _ (defined : Defined) where
   -- traits
@@ -120,10 +120,6 @@ module _ (defined : Defined) where
     abbrev members_said : List (List ℕ) → List MemberGiven
     members_said ids = map (member_stated defined) (shape_members_said shapes ids)
 
-    record AreSaidMembers (ids : List (List ℕ)) : Type 0 where
-      same : map (λ (m : MemberGiven). member_id id m.name) (members_said ids) ≡ ids
-      are : AreMembersIn shapes id (members_said ids)
-
     member_is_in : (name : List ℕ) (e : MemberEntry) → fin.get shapes (member_id id name) ≡ Some (member_entry e)
         → IsMemberIn shapes id (member_again (member_id id name) e)
     member_is_in name e found = record {
@@ -132,45 +128,29 @@ module _ (defined : Defined) where
       same = traits_meant (fin.entries e.traits);
     }
 
-    members_again : (names : List (List ℕ))
-        → ((name : List ℕ) → StandsAmong name names → (e : MemberEntry) × (fin.get shapes (member_id id name) ≡ Some (member_entry e)))
-        → AreSaidMembers (map (member_id id) names)
-    members_again [] look = record { same = refl; are = tt }
-    members_again (name ∷ names) look =
-        let l = look name (inl refl) in
-        let q : List ℕ = member_id id name in
-        let rest = members_again names (λ k later. look k (inr later)) in
-        let more : List MemberGiven = members_said (map (member_id id) names) in
-        let here : members_said (q ∷ map (member_id id) names) ≡ member_again q l.0 ∷ more =
-        ap (λ o. map (member_stated defined) (member_under_said q o ++ shape_members_said shapes (map (member_id id) names))) l.1 in
-        record {
-          same = ap (λ ms. map (λ (m : MemberGiven). member_id id m.name) ms) here
-              ∙ (λ i. member_id id (member_named id is name i) ∷ rest.same i);
-          are = subst (AreMembersIn shapes id) (sym here) (member_is_in name l.0 l.1, rest.are);
-        }
+    one_again : (name : List ℕ) (e : MemberEntry) → fin.get shapes (member_id id name) ≡ Some (member_entry e)
+        → IsSaidMember shapes id members_said name
+    one_again name e found = record {
+      member = member_again (member_id id name) e;
+      same = ap (member_id id) (member_named id is name);
+      is_in = member_is_in name e found;
+      first = λ ids. ap (λ o. map (member_stated defined) (member_under_said (member_id id name) o ++ shape_members_said shapes ids)) found;
+    }
 
   shape_again : (g : GraphMaps) (id : List ℕ) (s : ShapeEntry) → fin.get g.shapes id ≡ Some (shape_entry s) → (r : IsRegularShape g id s)
       → IsShapeIn g.shapes (shape_with_ids defined (entry_said g.shapes id s)).shape
   shape_again g id s found r =
-      let members : AreSaidMembers g.shapes id r.is s.members =
-      subst (AreSaidMembers g.shapes id r.is) (sym r.members)
-      (members_again g.shapes id r.is r.names (λ name among. let held = r.each name among in (held.0, held.1))) in
+      let said = members_said g.shapes id r.is in
+      let members : AreSaidMembers g.shapes id said s.members =
+      subst (AreSaidMembers g.shapes id said) (sym r.members)
+      (members_again g.shapes id said refl r.names
+      (λ name among. let held = r.each name among in one_again g.shapes id r.is name held.0 held.1)) in
       let pairs : pairs_said s.properties ≡ pairs_or_none s.properties =
       subst (λ n. pairs_said n ≡ pairs_or_none n) (sym r.body.is_object) refl in
-      let said = ap (λ ps. body_of s.kind (node_meant defined (raw_object (raw_members_of ps))))
+      let fields = ap (λ ps. body_of s.kind (node_meant defined (raw_object (raw_members_of ps))))
       (ap (body_said (property_forms s.kind)) pairs ∙ fields_are (property_forms s.kind) (pairs_or_none s.properties)) in
-      let body = said ∙ body_again s.kind s.properties r.given r.comes r.body defined form_there_said says_forms in
-      record {
-        traits = s.traits;
-        found = found ∙ (λ i. Some (shape_entry (record {
-          kind = s.kind;
-          members = sym members.same i;
-          properties = sym body i;
-          traits = s.traits;
-        })));
-        same = traits_meant (fin.entries s.traits);
-        members = members.are;
-      }
+      let body = fields ∙ body_again s.kind s.properties r.given r.comes r.body defined form_there_said says_forms in
+      shape_in g.shapes id said s _ _ found members body (traits_meant (fin.entries s.traits))
 
 -- the statements are those of such a file
 abbrev is_own : List ℕ → Bool

@@ -1,3 +1,4 @@
+mod MembersAgain
 mod AstMerges
 mod SaidMeant
 mod NamespaceStates

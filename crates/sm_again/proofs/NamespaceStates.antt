@@ -1,5 +1,5 @@
 -- What the file of a namespace says of a shape is the shape as the graph has it: so it states this part of the graph.
-use Rattle.std.proofs.Common.{◌≡◌, ◌<◌, inl, inr, ℕ, Bool, true, false, List, [], ◌∷◌, ◌++◌, map, Option, Some, None}
+use Rattle.std.proofs.Common.{◌≡◌, inl, inr, ℕ, Bool, true, false, List, [], ◌∷◌, ◌++◌, map, Option, Some, None}
 use Rattle.std.proofs.Common.{refl, sym, ap, subst, ◌∙◌}
 use Rattle.std.specs.FinMap as fin
 use Rattle.sm_ids.specs.IdText.{IsIdText}
@@ -12,7 +12,6 @@ use Rattle.sm_model.specs.PreludeShapes.{is_prelude_id, unit_id}
 use Rattle.sm_model.specs.Properties.{TypeFields, property_forms}
 use Rattle.sm_model.specs.Raw.{Raw, raw_object, raw_members_of}
 use Rattle.sm_model.specs.References.{IsShapeId}
-use Rattle.sm_model.specs.Said.{MemberSaid}
 use Rattle.sm_model.proofs.MapFacts.{Each}
 use Rattle.sm_merge.specs.Meaning.{Defined, meaning, node_meant}
 use Rattle.sm_merge.specs.Stated.{all_said, body_of, member_stated, shape_with_ids}
@@ -28,7 +27,7 @@ use Rattle.sm_model.specs.declared.kind.Kind.TheVariants.{Blob, Boolean, Text, E
 use Rattle.sm_model.specs.declared.kind.Kind.TheVariants.{Double, BigInteger, BigDecimal, Timestamp, Document, List as list_kind}
 use Rattle.sm_model.specs.declared.kind.Kind.TheVariants.{Map, Structure, Union, Service, Operation, Resource}
 use Rattle.sm_ids.proofs.TextCuts.{member_named}
-use Rattle.sm_merge.specs.Restated.{AreMembersIn, IsMemberIn, IsShapeIn}
+use Rattle.sm_merge.specs.Restated.{IsMemberIn, IsShapeIn}
 use Rattle.sm_idl.specs.WrittenFile.{body_said, entry_said, entry_statements, field_said, fields_said, home_alone, members_said}
 use Rattle.sm_idl.specs.WrittenFile.{metadata_of, namespace_file}
 use Rattle.sm_idl.specs.WrittenFile.{member_said, shapes_said, target_said, traits_said, value_there_said}
@@ -36,6 +35,7 @@ use Rattle.sm_again.specs.WrittenMerges.{EnumsTargetUnit, IsEnum, written_files}
 use Rattle.sm_merge.proofs.BodiesAgain.{body_again, forms_said, one_said, pairs_or_none}
 use Rattle.sm_merge.proofs.RegularGraphs.{IsRegular, IsRegularShape}
 use Rattle.sm_merge.proofs.RestatedFiles.{AllStated, SaysShape, file_if, file_states, shape_if, shapes_if, states_joined}
+use Rattle.sm_again.proofs.MembersAgain.{AreSaidMembers, IsSaidMember, members_again, shape_in}
 use Rattle.sm_again.proofs.SaidMeant.{says_forms, traits_meant, written_meant}
 
 -- fields are said one by one
@@ -77,10 +77,6 @@ module _ (defined : Defined) (home : Home) (kind : Kind) (shapes : ShapeMap) (id
   abbrev members_stated : List (List ℕ) → List MemberGiven
   members_stated ids = map (member_stated defined) (members_said home (written_form kind) shapes ids)
 
-  record AreSaidMembers (ids : List (List ℕ)) : Type 0 where
-    same : map (λ (m : MemberGiven). member_id id m.name) (members_stated ids) ≡ ids
-    are : AreMembersIn shapes id (members_stated ids)
-
   member_is_in : (name : List ℕ) (l : IsLookedUp defined home kind shapes (member_id id name))
       → IsMemberIn shapes id (member_again (member_id id name) l.e)
   member_is_in name l =
@@ -91,23 +87,14 @@ module _ (defined : Defined) (home : Home) (kind : Kind) (shapes : ShapeMap) (id
         same = traits_meant defined home (fin.entries l.e.traits) (map_named l.e.traits l.named);
       }
 
-  members_again : (names : List (List ℕ))
-      → ((name : List ℕ) → StandsAmong name names → IsLookedUp defined home kind shapes (member_id id name))
-      → AreSaidMembers (map (member_id id) names)
-  members_again [] look = record { same = refl; are = tt }
-  members_again (name ∷ names) look =
-      let l = look name (inl refl) in
-      let q : List ℕ = member_id id name in
-      let rest = members_again names (λ k later. look k (inr later)) in
-      let behind : List MemberSaid = members_said home (written_form kind) shapes (map (member_id id) names) in
-      let more : List MemberGiven = members_stated (map (member_id id) names) in
-      let here : members_stated (q ∷ map (member_id id) names) ≡ member_again q l.e ∷ more =
-      ap (λ o. map (member_stated defined) (member_said home (written_form kind) q o ++ behind)) l.found in
-      record {
-        same = ap (λ ms. map (λ (m : MemberGiven). member_id id m.name) ms) here
-            ∙ (λ i. member_id id (member_named id is name i) ∷ rest.same i);
-        are = subst (AreMembersIn shapes id) (sym here) (member_is_in name l, rest.are);
-      }
+  one_again : (name : List ℕ) → IsLookedUp defined home kind shapes (member_id id name) → IsSaidMember shapes id members_stated name
+  one_again name l = record {
+    member = member_again (member_id id name) l.e;
+    same = ap (member_id id) (member_named id is name);
+    is_in = member_is_in name l;
+    first = λ ids. ap (λ o. map (member_stated defined)
+        (member_said home (written_form kind) (member_id id name) o ++ members_said home (written_form kind) shapes ids)) l.found;
+  }
 
 -- what is asked of the graph
 pub record IsWhole (g : GraphMaps) : Type 0 where
@@ -155,24 +142,16 @@ module _ (g : GraphMaps) (whole : IsWhole g) (defined : Defined) where
   shape_again : (home : Home) (id : List ℕ) (s : ShapeEntry) → fin.get g.shapes id ≡ Some (shape_entry s) → (r : IsRegularShape g id s)
       → IsShapeIn g.shapes (shape_with_ids defined (entry_said home g.shapes id s)).shape
   shape_again home id s found r =
-      let members : AreSaidMembers defined home s.kind g.shapes id r.is s.members =
-      subst (AreSaidMembers defined home s.kind g.shapes id r.is) (sym r.members)
-      (members_again defined home s.kind g.shapes id r.is r.names (look_up home id s found r)) in
+      let said = members_stated defined home s.kind g.shapes id r.is in
+      let members : AreSaidMembers g.shapes id said s.members =
+      subst (AreSaidMembers g.shapes id said) (sym r.members)
+      (members_again g.shapes id said refl r.names
+      (λ name among. one_again defined home s.kind g.shapes id r.is name (look_up home id s found r name among))) in
       let sound = whole.sound id (shape_entry s) found in
-      let said = ap (λ ps. body_of s.kind (node_meant defined (raw_object (raw_members_of ps))))
+      let fields = ap (λ ps. body_of s.kind (node_meant defined (raw_object (raw_members_of ps))))
       (body_is home (property_forms s.kind) s.properties r.body.pairs r.body.is_object) in
-      let body = said ∙ body_again s.kind s.properties r.given r.comes r.body defined (value_there_said home) (says_forms defined home) in
-      record {
-        traits = s.traits;
-        found = found ∙ (λ i. Some (shape_entry (record {
-          kind = s.kind;
-          members = sym members.same i;
-          properties = sym body i;
-          traits = s.traits;
-        })));
-        same = traits_meant defined home (fin.entries s.traits) (map_named s.traits sound.2);
-        members = members.are;
-      }
+      let body = fields ∙ body_again s.kind s.properties r.given r.comes r.body defined (value_there_said home) (says_forms defined home) in
+      shape_in g.shapes id said s _ _ found members body (traits_meant defined home (fin.entries s.traits) (map_named s.traits sound.2))
 
 -- what is said for a namespace, entry by entry
 module _ (home : Home) (shapes : ShapeMap) where

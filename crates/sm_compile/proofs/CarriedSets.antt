@@ -14,9 +14,8 @@ use Rattle.sm_model.specs.Reaching.{AreMarks, id_of_number}
 use Rattle.sm_model.specs.Relations.{HasEntry}
 use Rattle.sm_model.specs.declared.graph.Graph.{Graph}
 use Rattle.sm_model.proofs.NumberedIds.{number_of}
-use Rattle.sm_compile.specs.Answers.{IsPatternRefused, StoreSeen}
+use Rattle.sm_compile.specs.Answers.{IsPatternOfSetRefused, StoreSeen}
 use Rattle.sm_compile.specs.Compiled.{ArePatternsOf, CarriesPattern, EachSays, IsFirstCarrier, PatternRows, texts_of}
-use Rattle.sm_compile.specs.Reached.{IsReached}
 use Rattle.sm_compile.specs.declared.patterns.CarriedTexts.{CarriedTexts}
 use Rattle.sm_compile.specs.steps.Carrying.{AreCarried, AreFirstAt, IsFirstAt, carriers_of, rows_in, texts_in}
 use Rattle.sm_compile.specs.steps.Storing.{IsRefusedAmong}
@@ -79,28 +78,27 @@ module _ (g : Graph) (marks : List Bool) (In : List ℕ → Type 0)
         );
   }
 
-pub first_among : (g : Graph) (marks : List Bool) (earlier later : PatternRows) (number : ℕ) (text : List ℕ)
+first_among : (g : Graph) (marks : List Bool) (earlier later : PatternRows) (number : ℕ) (text : List ℕ)
     → AreFirstAt g marks (earlier ++ (number, text) ∷ later) → IsFirstAt g marks text number
 first_among g marks [] later number text h = h.0
 first_among g marks (r ∷ earlier) later number text h = first_among g marks earlier later number text h.1
 
 -- a refused pattern is refused of the set
-pub pattern_refused : (g : Graph) (marks : List Bool) (root : List ℕ) (before now : StoreSeen) (id : List ℕ) (c : CarriedTexts)
-    → AreMarks (length (entries_of g)) (λ k. IsReached (maps_of g) root (id_of_number g k)) marks → AreCarried g marks c
-    → IsRefusedAmong g (rows_in c) before now id → IsPatternRefused (maps_of g) root before now id
-pattern_refused g marks root before now id c are h r =
+pub pattern_refused : (g : Graph) (marks : List Bool) (In : List ℕ → Type 0) (before now : StoreSeen) (id : List ℕ) (c : CarriedTexts)
+    → AreMarks (length (entries_of g)) (λ k. In (id_of_number g k)) marks → AreCarried g marks c
+    → IsRefusedAmong g (rows_in c) before now id → IsPatternOfSetRefused (maps_of g) In before now id
+pattern_refused g marks In before now id c are h r =
     let parts : texts_in c ≡ texts_of r.earlier ++ r.text ∷ texts_of r.later =
     ap texts_of r.parts ∙ map-append (λ p. p.1) r.earlier ((r.number, r.text) ∷ r.later) in
     record {
       text = r.text;
       earlier = texts_of r.earlier;
       later = texts_of r.later;
-      patterns = subst (ArePatternsOf (maps_of g) (IsReached (maps_of g) root)) parts
-          (carried_patterns g marks (IsReached (maps_of g) root) are c h);
+      patterns = subst (ArePatternsOf (maps_of g) In) parts (carried_patterns g marks In are c h);
       added = r.added;
       refused = r.refused;
       refusals = r.refusals;
-      carrier = subst (IsFirstCarrier (maps_of g) (IsReached (maps_of g) root) r.text) (sym r.carrier)
-          (first_carrier g marks (IsReached (maps_of g) root) are r.text r.number
+      carrier = subst (IsFirstCarrier (maps_of g) In r.text) (sym r.carrier)
+          (first_carrier g marks In are r.text r.number
           (first_among g marks r.earlier r.later r.number r.text (subst (AreFirstAt g marks) r.parts h.rows.first)));
     }

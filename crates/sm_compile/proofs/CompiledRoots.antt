@@ -35,7 +35,7 @@ module _ (g : Graph) (root : ℕ) (marks : List Bool)
       → CompilesShape (maps_of g) (id_of_number g root) test before now (Err refusal)
   root_refused test before now NoShape h = absurd h
   root_refused test before now (Pattern id) h =
-      (value, pattern_refused g marks (id_of_number g root) before now id h.0 (one_root g root marks are) h.1 h.2)
+      (value, pattern_refused g marks (IsReached (maps_of g) (id_of_number g root)) before now id h.0 (one_root g root marks are) h.1 h.2)
   root_refused test before now NoMemory h = h
 
   module _ (before now : StoreSeen) (made : Tabled) (is : IsMarkedTable g marks before now made) where

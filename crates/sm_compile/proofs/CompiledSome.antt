@@ -1,8 +1,7 @@
 -- What compiling several shapes answers, from what compiling the marked shapes answers.
-use Rattle.std.proofs.Common.{◌≡◌, ℕ, ◌<◌, Bool, List, [], ◌∷◌, ◌++◌, map, length, get_or, refl, sym, ap, ◌∙◌, subst}
+use Rattle.std.proofs.Common.{ℕ, ◌<◌, Bool, List, [], ◌++◌, map, length, get_or, refl, sym, ap, ◌∙◌, subst}
 use Rattle.std.specs.Prelude.{Err, false}
 use Rattle.std.specs.List.{Contains}
-use Rattle.std.proofs.lemmas.List.{map-append}
 use Rattle.std.proofs.lemmas.Option.{none-some}
 use Rattle.sm_model.specs.GraphView.{AreShapeNumbers, IsShapeNumber, entries_of, maps_of}
 use Rattle.sm_model.specs.Reaching.{AreMarks, id_of_number}
@@ -10,22 +9,20 @@ use Rattle.sm_model.specs.declared.graph.Graph.{Graph}
 use Rattle.sm_shapes.specs.Fitting.{Test}
 use Rattle.sm_shapes.specs.TableView.{table_data}
 use Rattle.sm_compile.specs.Answers.{StoreSeen}
-use Rattle.sm_compile.specs.Compiled.{ArePatternsOf, IsFirstCarrier, texts_of}
+use Rattle.sm_compile.specs.Compiled.{ArePatternsOf}
 use Rattle.sm_compile.specs.Reached.{IsReached}
-use Rattle.sm_compile.specs.Roots.{AreSoundRoots, CompilesRoots, IsPatternOfRootsRefused, IsReachedFromSome, IsTableOfRoots}
+use Rattle.sm_compile.specs.Roots.{AreSoundRoots, CompilesRoots, IsReachedFromSome, IsTableOfRoots}
 use Rattle.sm_compile.specs.Sound.{IsValueShape}
 use Rattle.sm_compile.specs.declared.compiled.CompileRefusal.{CompileRefusal}
 use Rattle.sm_compile.specs.declared.compiled.CompileRefusal.TheVariants.{NoShape, Pattern, NoMemory}
 use Rattle.sm_compile.specs.declared.tabled.Tabled.{Tabled}
-use Rattle.sm_compile.specs.declared.patterns.CarriedTexts.{CarriedTexts}
-use Rattle.sm_compile.specs.steps.Carrying.{AreCarried, AreFirstAt, rows_in, texts_in}
+use Rattle.sm_compile.specs.steps.Carrying.{texts_in}
 use Rattle.sm_compile.specs.steps.Looked.{IsReachedFrom, kind_under}
 use Rattle.sm_compile.specs.steps.Making.{IsMarkedTable, TablesMarked}
 use Rattle.sm_compile.specs.steps.Numbered.{AreClosed, numbering}
 use Rattle.sm_compile.specs.steps.Soundness.{AreSoundBelow}
-use Rattle.sm_compile.specs.steps.Storing.{IsRefusedAmong}
 use Rattle.sm_compile.specs.steps.Tabling.{has_values_where, tabled_below}
-use Rattle.sm_compile.proofs.CarriedSets.{carried_patterns, first_among, first_carrier}
+use Rattle.sm_compile.proofs.CarriedSets.{carried_patterns, pattern_refused}
 use Rattle.sm_compile.proofs.CompiledShapes.{made_by, stored_there, table_compiled}
 use Rattle.sm_compile.proofs.MadeTables.{none_there, shaped_told}
 use Rattle.sm_compile.proofs.ReachedNumbers.{each_number}
@@ -104,26 +101,8 @@ module _ (g : Graph) (roots : List ℕ) (marks : List Bool)
         refusals = is.stored.refusals;
       }
 
-  some_refused : (before now : StoreSeen) (id : List ℕ) (c : CarriedTexts) → AreCarried g marks c → IsRefusedAmong g (rows_in c) before now id
-      → IsPatternOfRootsRefused (maps_of g) ids before now id
-  some_refused before now id c h r =
-      let parts : texts_in c ≡ texts_of r.earlier ++ r.text ∷ texts_of r.later =
-      ap texts_of r.parts ∙ map-append (λ p. p.1) r.earlier ((r.number, r.text) ∷ r.later) in
-      record {
-        text = r.text;
-        earlier = texts_of r.earlier;
-        later = texts_of r.later;
-        patterns = subst (ArePatternsOf (maps_of g) In) parts (carried_patterns g marks In by_ids c h);
-        added = r.added;
-        refused = r.refused;
-        refusals = r.refusals;
-        carrier = subst (IsFirstCarrier (maps_of g) In r.text) (sym r.carrier)
-            (first_carrier g marks In by_ids r.text r.number
-            (first_among g marks r.earlier r.later r.number r.text (subst (AreFirstAt g marks) r.parts h.rows.first)));
-      }
-
   pub some_refusal : (test : Test) (before now : StoreSeen) (refusal : CompileRefusal) → TablesMarked g marks before now (Err refusal)
       → CompilesRoots g roots test before now (Err refusal)
   some_refusal test before now NoShape h = absurd h
-  some_refusal test before now (Pattern id) h = some_refused before now id h.0 h.1 h.2
+  some_refusal test before now (Pattern id) h = pattern_refused g marks In before now id h.0 by_ids h.1 h.2
   some_refusal test before now NoMemory h = h

@@ -62,15 +62,18 @@ abbrev pub IsShapeCompiled : GraphMaps → List ℕ → Test → StoreSeen → S
 IsShapeCompiled g root test before now one = IsTableSeen g root test before now (seen_table one)
 
 -- a pattern is refused: those before it were added, its text is the one refused last, and the id is the first of those that carry it
-pub record IsPatternRefused (g : GraphMaps) (root : List ℕ) (before now : StoreSeen) (id : List ℕ) : Type 0 where
+pub record IsPatternOfSetRefused (g : GraphMaps) (In : List ℕ → Type 0) (before now : StoreSeen) (id : List ℕ) : Type 0 where
   pub text : List ℕ
   pub earlier : List (List ℕ)
   pub later : List (List ℕ)
-  pub patterns : ArePatternsOf g (IsReached g root) (earlier ++ text ∷ later)
+  pub patterns : ArePatternsOf g In (earlier ++ text ∷ later)
   pub added : now.added ≡ before.added ++ earlier
   pub refused : now.refused ≡ Some text
   pub refusals : now.refusals ≡ min (before.refusals + 1) (2 ^ 64 - 1)
-  pub carrier : IsFirstCarrier g (IsReached g root) text id
+  pub carrier : IsFirstCarrier g In text id
+
+abbrev pub IsPatternRefused : GraphMaps → List ℕ → StoreSeen → StoreSeen → List ℕ → Type 0
+IsPatternRefused g root before now id = IsPatternOfSetRefused g (IsReached g root) before now id
 
 -- where memory runs out nothing is refused, and what was added stands behind what was there
 pub record IsLeftBehind (before now : StoreSeen) : Type 0 where

@@ -1,5 +1,5 @@
 -- The table of several shapes and of all that they reach: what making one asks and answers.
-use Rattle.std.specs.Prelude.{◌≡◌, ◌<◌, ◌++◌, ◌+◌, ◌-◌, ◌^◌, ◌∷◌, ℕ, List, length, map, min, Some, Result, Ok, Err}
+use Rattle.std.specs.Prelude.{◌≡◌, ◌<◌, ◌++◌, ◌^◌, ℕ, List, length, map, Result, Ok, Err}
 use Rattle.std.specs.List.{Contains}
 use Rattle.std.specs.List.Sorted.{IsStrictlySortedBy}
 use Rattle.std.specs.Ordering.{nat_cmp}
@@ -11,8 +11,8 @@ use Rattle.sm_shapes.specs.DefaultPuts.{HasNoDefault}
 use Rattle.sm_shapes.specs.Fitting.{Test}
 use Rattle.sm_shapes.specs.InOrder.{Shaped, Built}
 use Rattle.sm_shapes.specs.TableView.{table_data}
-use Rattle.sm_compile.specs.Answers.{IsLeftBehind, StoreSeen}
-use Rattle.sm_compile.specs.Compiled.{ArePatternsOf, IsCompiled, IsFirstCarrier, Numbering, texts_of}
+use Rattle.sm_compile.specs.Answers.{IsLeftBehind, IsPatternOfSetRefused, StoreSeen}
+use Rattle.sm_compile.specs.Compiled.{IsCompiled, Numbering, texts_of}
 use Rattle.sm_compile.specs.Reached.{IsReached}
 use Rattle.sm_compile.specs.Sound.{IsValueShape, Sound}
 use Rattle.sm_compile.specs.declared.compiled.CompileRefusal.{CompileRefusal}
@@ -42,16 +42,9 @@ pub record IsTableOfRoots (g : Graph) (roots : List ℕ) (test : Test) (before n
   pub refused : now.refused ≡ before.refused
   pub refusals : now.refusals ≡ before.refusals
 
--- a pattern is refused: those before it were added, its text is the one refused last, and the id is the first of those that carry it
-pub record IsPatternOfRootsRefused (g : GraphMaps) (roots : List (List ℕ)) (before now : StoreSeen) (id : List ℕ) : Type 0 where
-  pub text : List ℕ
-  pub earlier : List (List ℕ)
-  pub later : List (List ℕ)
-  pub patterns : ArePatternsOf g (IsReachedFromSome g roots) (earlier ++ text ∷ later)
-  pub added : now.added ≡ before.added ++ earlier
-  pub refused : now.refused ≡ Some text
-  pub refusals : now.refusals ≡ min (before.refusals + 1) (2 ^ 64 - 1)
-  pub carrier : IsFirstCarrier g (IsReachedFromSome g roots) text id
+-- a pattern is refused that what these shapes reach carries
+abbrev pub IsPatternOfRootsRefused : GraphMaps → List (List ℕ) → StoreSeen → StoreSeen → List ℕ → Type 0
+IsPatternOfRootsRefused g roots before now id = IsPatternOfSetRefused g (IsReachedFromSome g roots) before now id
 
 abbrev pub CompilesRoots : Graph → List ℕ → Test → StoreSeen → StoreSeen → Result Tabled CompileRefusal → Type 0
 CompilesRoots g roots test before now (Ok made) = IsTableOfRoots g roots test before now made

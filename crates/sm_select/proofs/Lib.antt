@@ -17,6 +17,7 @@ mod TwoTokens
 mod Passing
 pub mod OneAnswer
 mod Stopped
+mod ListRead
 mod ReadWords
 mod ReadNames
 mod ReadPaths

@@ -3,22 +3,16 @@ use Rattle.sm_select.specs.Selectors.{compares}
 use Rattle.sm_select.specs.View.{path_view}
 use Rattle.sm_select.specs.steps.Places.{behind_value, value_wanted, stepping}
 use Rattle.sm_select.specs.steps.Standing.{Passes}
-use Rattle.sm_select.specs.steps.Reader.{Refuses, behind_a_value}
-use Rattle.sm_select.proofs.Passing.{passes_joined}
-use Rattle.sm_select.proofs.Stopped.{refused_behind}
+use Rattle.sm_select.specs.steps.Reader.{behind_a_value}
+use Rattle.sm_select.proofs.ListRead.{behind_passed, behind_refused, element_refused}
 use Rattle.sm_select.proofs.ReadAttributes.{value_shorter}
 use Rattle.sm_select.proofs.parser_attribute.compared.Goals as goal
 
 pub returns-in-Err-clause-read : goal.returns-in-Err-clause-read
 returns-in-Err-clause-read c ss fs =
     let p = path_view c.args.path in
-    let vs = c.loop-value.values.items in
-    let here = c.loop-value.reading.rest.now in
-    refused_behind c.args.reading.now.len (value_wanted ss fs p c.args.op [])
-    (value_wanted ss fs p c.args.op vs) c.args.reading.now.rest.now here
-    c.in-Err.refusal (c.loop-value.invariant.read ss fs)
-    (subst (λ n. Refuses n (value_wanted ss fs p c.args.op vs) here c.in-Err.refusal) c.loop-value.invariant.len
-    (c.in-Err.ensures.read ss fs p c.args.op vs))
+    element_refused (value_wanted ss fs p c.args.op) (c.loop-value.invariant.read ss fs) c.args.reading.now.len c.loop-value.reading.len
+    c.in-Err.refusal c.loop-value.invariant.len (c.in-Err.ensures.read ss fs p c.args.op c.loop-value.values.items)
 
 pub loop-value-smaller : goal.loop-value-smaller
 loop-value-smaller c =
@@ -36,18 +30,14 @@ loop-value-preserved c =
     let op = c.args.op in
     let vs = c.loop-value.values.items in
     let more = vs ++ c.in-Ok.value ∷ [] in
-    let first = c.args.reading.now.rest.now in
-    let here = c.loop-value.reading.rest.now in
-    let read = c.value.new.reading.rest.now in
     let after = c.behind.new.reading.rest.now in
     record {
-      read = λ ss fs. subst (λ xs. Passes (value_wanted ss fs p op []) first (value_wanted ss fs p op xs) after)
+      read = λ ss fs. subst (λ xs. Passes (value_wanted ss fs p op []) c.args.reading.now.rest.now (value_wanted ss fs p op xs) after)
           (sym c.in-Ok-push.ensures.items)
-          (passes_joined (value_wanted ss fs p op []) (behind_value ss fs p op more) (value_wanted ss fs p op more) first read after
-          (passes_joined (value_wanted ss fs p op []) (value_wanted ss fs p op vs) (behind_value ss fs p op more) first here read
-          (c.loop-value.invariant.read ss fs) (c.in-Ok.ensures.read ss fs p op vs))
-          (subst (λ o. Passes (behind_value ss fs p op more) read (behind_a_value ss fs p op more o) after) c.in-Ok-None.field-0-is
-          (c.in-Ok-None.ensures.read ss fs p op more)));
+          (behind_passed (value_wanted ss fs p op) (c.loop-value.invariant.read ss fs) (behind_value ss fs p op) c.in-Ok.value
+          (c.in-Ok.ensures.read ss fs p op vs) (value_wanted ss fs p op more) after
+          (subst (λ o. Passes (behind_value ss fs p op more) c.value.new.reading.rest.now (behind_a_value ss fs p op more o) after)
+          c.in-Ok-None.field-0-is (c.in-Ok-None.ensures.read ss fs p op more)));
       same = c.loop-value.invariant.same;
       len = c.in-Ok-None.ensures.len ∙ c.in-Ok.ensures.len ∙ c.loop-value.invariant.len;
     }
@@ -56,36 +46,23 @@ pub returns-in-Ok-Some-clause-read : goal.returns-in-Ok-Some-clause-read
 returns-in-Ok-Some-clause-read c ss fs =
     let p = path_view c.args.path in
     let op = c.args.op in
-    let vs = c.loop-value.values.items in
-    let more = vs ++ c.in-Ok.value ∷ [] in
+    let more = c.loop-value.values.items ++ c.in-Ok.value ∷ [] in
     let first = c.args.reading.now.rest.now in
-    let here = c.loop-value.reading.rest.now in
-    let read = c.value.new.reading.rest.now in
     let after = c.behind.new.reading.rest.now in
     subst (λ y. Passes (value_wanted ss fs p op []) first (stepping
     (ss ++ compares (path_view y) op c.new.result c.in-Ok-Some.fold ∷ []) fs) after)
     (sym c.loop-value.invariant.same)
     (subst (λ xs. Passes (value_wanted ss fs p op []) first (stepping (ss ++ compares p op xs c.in-Ok-Some.fold ∷ []) fs) after)
     (sym (c.new.ensures ∙ c.in-Ok-push.ensures.items))
-    (passes_joined (value_wanted ss fs p op []) (behind_value ss fs p op more)
-    (stepping (ss ++ compares p op more c.in-Ok-Some.fold ∷ []) fs)
-    first read after
-    (passes_joined (value_wanted ss fs p op []) (value_wanted ss fs p op vs) (behind_value ss fs p op more) first here read
-    (c.loop-value.invariant.read ss fs) (c.in-Ok.ensures.read ss fs p op vs))
-    (subst (λ o. Passes (behind_value ss fs p op more) read (behind_a_value ss fs p op more o) after) c.in-Ok-Some.field-0-is
-    (c.in-Ok-Some.ensures.read ss fs p op more))))
+    (behind_passed (value_wanted ss fs p op) (c.loop-value.invariant.read ss fs) (behind_value ss fs p op) c.in-Ok.value
+    (c.in-Ok.ensures.read ss fs p op c.loop-value.values.items) (stepping (ss ++ compares p op more c.in-Ok-Some.fold ∷ []) fs) after
+    (subst (λ o. Passes (behind_value ss fs p op more) c.value.new.reading.rest.now (behind_a_value ss fs p op more o) after)
+    c.in-Ok-Some.field-0-is (c.in-Ok-Some.ensures.read ss fs p op more))))
 
 pub returns-in-Err-behind-clause-read : goal.returns-in-Err-behind-clause-read
 returns-in-Err-behind-clause-read c ss fs =
     let p = path_view c.args.path in
-    let op = c.args.op in
     let vs = c.loop-value.values.items in
-    let more = vs ++ c.in-Ok.value ∷ [] in
-    let first = c.args.reading.now.rest.now in
-    let here = c.loop-value.reading.rest.now in
-    let read = c.value.new.reading.rest.now in
-    refused_behind c.args.reading.now.len (value_wanted ss fs p op []) (behind_value ss fs p op more) first read c.in-Err-behind.refusal
-    (passes_joined (value_wanted ss fs p op []) (value_wanted ss fs p op vs) (behind_value ss fs p op more) first here read
-    (c.loop-value.invariant.read ss fs) (c.in-Ok.ensures.read ss fs p op vs))
-    (subst (λ n. Refuses n (behind_value ss fs p op more) read c.in-Err-behind.refusal) (c.in-Ok.ensures.len ∙ c.loop-value.invariant.len)
-    (c.in-Err-behind.ensures.read ss fs p op more))
+    behind_refused (value_wanted ss fs p c.args.op) (c.loop-value.invariant.read ss fs) (behind_value ss fs p c.args.op) c.in-Ok.value
+    (c.in-Ok.ensures.read ss fs p c.args.op vs) c.args.reading.now.len c.value.new.reading.len c.in-Err-behind.refusal
+    (c.in-Ok.ensures.len ∙ c.loop-value.invariant.len) (c.in-Err-behind.ensures.read ss fs p c.args.op (vs ++ c.in-Ok.value ∷ []))
