@@ -67,10 +67,6 @@ refused_by_parser pattern e other refuses span = (
     same_error : (e d : parser.Error) → Syntax e ≡ Syntax d → e ≡ d
     same_error e d is = cc
 
--- and what is a pattern, and yet not compiled, may be too big
-pub refused_as_too_big : (hir : Hir) (names : Names) (pattern : List ℕ) → Reads default_config pattern hir names → IsRefusedByCrate pattern
-refused_as_too_big hir names pattern is = (CompiledTooBig, (λ e. cc), ((λ d e. absurd cc), (hir, names, is), λ d e. absurd cc))
-
 found_part : (re : Re) (text : List ℕ) (m : Match) → find_str re text 0 ≡ Some m
     → (from to : ℕ) × IsCharBoundary text from × Matches text re from to
 unfolding find_str
