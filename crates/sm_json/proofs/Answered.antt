@@ -20,7 +20,7 @@ use Rattle.sm_tree.specs.declared.refusal.SyntaxRefusal.{SyntaxRefusal}
 use Rattle.sm_tree.specs.declared.refusal.SyntaxRefusal.TheVariants.{Bad, Ended, TooDeep, KeyKind, NoMemory}
 use Rattle.sm_tree.proofs.Events.{events_injective}
 use Rattle.sm_json.specs.JsonText.{JsonText, json_syntax}
-use Rattle.sm_json.specs.steps.Rest.{json_start, JsonLeads, JsonGoesOn}
+use Rattle.sm_json.specs.steps.Rest.{json_start, JsonGoesOn}
 use Rattle.sm_json.specs.steps.Feeding.{IsPlaced}
 use Rattle.sm_json.specs.steps.Machine.{json_state, JsonIsPlaced, JsonGoes, JsonBrings, HaltsAt, DeepensAt, JsonTakesAll, JsonEndsText}
 use Rattle.sm_json.specs.declared.read.Reader.{Reader}

@@ -7,8 +7,8 @@ use Rattle.sm_json.specs.Timing.{json_timing}
 use Rattle.sm_json.specs.steps.StringReading.{string_so_far}
 use Rattle.sm_json.specs.steps.Rest.{json_start, JsonLeads}
 use Rattle.sm_json.specs.steps.Machine.{where_of, json_state, JsonIsSound, JsonGoes}
-use Rattle.sm_json.specs.declared.place.Place.{Place}
-use Rattle.sm_json.specs.declared.place.Place.TheVariants.{Value, FirstEntry, FirstKey, NextKey, Colon, After, Word, Number, Text}
+use Rattle.sm_json.specs.declared.place.JsonPlace.{JsonPlace}
+use Rattle.sm_json.specs.declared.place.JsonPlace.TheVariants.{Value, FirstEntry, FirstKey, NextKey, Colon, After, Word, Number, Text}
 use Rattle.sm_json.specs.declared.read.Reader.{Reader}
 use Rattle.sm_json.specs.Laws.{NoEventYet}
 use Rattle.sm_json.proofs.Whole.{leads_none}
@@ -17,7 +17,8 @@ use Rattle.sm_json.proofs.Onward.{reader_goes_on}
 use Rattle.sm_json.proofs.Later.{IsGoingOn, run_completes, one_completed}
 
 -- a reader between two bytes is nowhere where something is over
-going_at : (r : Reader) (p : Place) → r.place ≡ p → JsonIsSound r → IsGoingOn (where_of p r.number.items r.text.spot (string_so_far r.text))
+going_at : (r : Reader) (p : JsonPlace) → r.place ≡ p → JsonIsSound r
+    → IsGoingOn (where_of p r.number.items r.text.spot (string_so_far r.text))
 going_at r Value e sound = tt
 going_at r FirstEntry e sound = tt
 going_at r FirstKey e sound = tt

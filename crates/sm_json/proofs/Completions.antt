@@ -3,11 +3,12 @@ use Rattle.std.proofs.Common.{◌≤◌, ◌<◌, ◌+◌, ◌-◌, ◌*◌, ℕ
 use Rattle.std.specs.Char.{IsScalar, encode_utf8}
 use Rattle.std.proofs.lemmas.Bool.{cases_lt}
 use Rattle.std.proofs.lemmas.Bool.Decides.{nat_tests}
-use Rattle.sm_json.specs.declared.spot.Digits.{Digits}
-use Rattle.sm_json.specs.declared.spot.Digits.TheVariants.{First, Second, Third, Fourth}
-use Rattle.sm_json.specs.declared.spot.Part.{Part}
-use Rattle.sm_json.specs.declared.spot.Part.TheVariants.{Escape as BehindBackslash, Unit as InUnit, LowBackslash, LowLetter, LowUnit, One}
-use Rattle.sm_json.specs.declared.spot.Part.TheVariants.{Two, Three}
+use Rattle.sm_json.specs.declared.spot.UnitDigits.{UnitDigits}
+use Rattle.sm_json.specs.declared.spot.UnitDigits.TheVariants.{First, Second, Third, Fourth}
+use Rattle.sm_json.specs.declared.spot.CharacterPart.{CharacterPart}
+use Rattle.sm_json.specs.declared.spot.CharacterPart.TheVariants.{Escape as BehindBackslash, Unit as InUnit, LowBackslash, LowLetter}
+use Rattle.sm_json.specs.declared.spot.CharacterPart.TheVariants.{LowUnit, One}
+use Rattle.sm_json.specs.declared.spot.CharacterPart.TheVariants.{Two, Three}
 use Rattle.sm_json.specs.declared.spot.Spot.{Spot}
 use Rattle.sm_json.specs.declared.spot.Spot.TheVariants.{Plain, Inside}
 use Rattle.sm_bytes.specs.Escapes.{IsHigh, IsLow, joined}
@@ -21,7 +22,7 @@ use Rattle.sm_bytes.proofs.Characters.{high_scalar, three_scalar, four_scalar}
 use lib.Utf8.{low_scalar}
 
 -- some character, and bytes that spell the rest of it before r
-abbrev CanEnd : Part → List ℕ → Type 0
+abbrev CanEnd : CharacterPart → List ℕ → Type 0
 CanEnd p r = (c : ℕ) × (s : List ℕ) × IsScalar c × PartRest p c s r
 
 pair_scalar : (high low : ℕ) → IsHigh high → IsLow low → IsScalar (joined high low)
@@ -41,7 +42,7 @@ low_half high r = (
 )
 
 -- the digits go on as zeros to a character, or to a high surrogate and a low one behind it
-unit_end : (d : Digits) (v : ℕ) (zeros r : List ℕ) → ((r2 : List ℕ) → DigitsRest d v (zeros ++ r2) r2) → v < 0x10000
+unit_end : (d : UnitDigits) (v : ℕ) (zeros r : List ℕ) → ((r2 : List ℕ) → DigitsRest d v (zeros ++ r2) r2) → v < 0x10000
     → (0xDC00 ≤ v → 0xE000 ≤ v) → CanEnd (InUnit d) r
 unit_end d v zeros r digits small no_low = elim (cases_lt v 0xD800) [
   | inl low ↦ (v, zeros ++ r, low_scalar v (omega arith), inl (digits r))
@@ -56,7 +57,7 @@ unit_end d v zeros r digits small no_low = elim (cases_lt v 0xD800) [
   ]
 ]
 
-unit_can_end : (d : Digits) (r : List ℕ) → IsUnitBegun d → CanEnd (InUnit d) r
+unit_can_end : (d : UnitDigits) (r : List ℕ) → IsUnitBegun d → CanEnd (InUnit d) r
 unit_can_end First r h = unit_end First 0 (48 ∷ 48 ∷ 48 ∷ 48 ∷ []) r (λ q. (0, refl, (0, refl, (0, refl, (0, refl, (refl, refl))))))
     (omega arith) (λ e. omega arith)
 unit_can_end (Second n) r h = unit_end (Second n) (((n * 16 + 0) * 16 + 0) * 16 + 0) (48 ∷ 48 ∷ 48 ∷ []) r
@@ -66,10 +67,10 @@ unit_can_end (Third n) r h = unit_end (Third n) ((n * 16 + 0) * 16 + 0) (48 ∷ 
 unit_can_end (Fourth n) r h = unit_end (Fourth n) (n * 16 + 0) (48 ∷ []) r (λ q. (0, refl, (refl, refl))) (omega arith)
     (λ e. let above = h.1 (omega arith) in omega arith)
 
-low_end : (high v : ℕ) (d : Digits) (s r : List ℕ) → IsHigh high → DigitsRest d v s r → IsLow v → CanEnd (LowUnit high d) r
+low_end : (high v : ℕ) (d : UnitDigits) (s r : List ℕ) → IsHigh high → DigitsRest d v s r → IsLow v → CanEnd (LowUnit high d) r
 low_end high v d s r h digits low = (joined high v, s, pair_scalar high v h low, (v, digits, low, refl))
 
-low_can_end : (high : ℕ) (d : Digits) (r : List ℕ) → IsHigh high → IsLowBegun d → CanEnd (LowUnit high d) r
+low_can_end : (high : ℕ) (d : UnitDigits) (r : List ℕ) → IsHigh high → IsLowBegun d → CanEnd (LowUnit high d) r
 low_can_end high First r h b =
     low_end high 0xDC00 First (68 ∷ 67 ∷ 48 ∷ 48 ∷ r) r h (13, refl, (12, refl, (0, refl, (0, refl, (refl, refl))))) least_low
 low_can_end high (Second n) r h b = low_end high (((n * 16 + 12) * 16 + 0) * 16 + 0) (Second n) (67 ∷ 48 ∷ 48 ∷ r) r h
@@ -120,7 +121,7 @@ one_can_end x r a b = elim (cases_lt x 224) [
   | inr long ↦ let more = two_can_end x (least_second x) r long b (some_second x) in (more.0, least_second x ∷ more.1, more.2, more.3)
 ]
 
-part_can_end : (p : Part) (r : List ℕ) → IsPartLive p → CanEnd p r
+part_can_end : (p : CharacterPart) (r : List ℕ) → IsPartLive p → CanEnd p r
 part_can_end BehindBackslash r h = (10, 110 ∷ r, low_scalar 10 (omega arith), inl (110, refl, refl))
 part_can_end (InUnit d) r h = unit_can_end d r h
 part_can_end (LowBackslash high) r h =

@@ -1,10 +1,11 @@
 -- What a byte makes of a place behind a backslash or a high surrogate.
 use Rattle.std.proofs.Common.{◌≡◌, ◌↔◌, ◌≢◌, ℕ, Some, None, List, ◌∷◌, inl, inr, refl, sym, ap, ◌∙◌, subst, arith}
 use Rattle.std.specs.Char.{IsScalar}
-use Rattle.sm_json.specs.declared.spot.Digits.{Digits}
-use Rattle.sm_json.specs.declared.spot.Digits.TheVariants.{First, Second, Third, Fourth}
-use Rattle.sm_json.specs.declared.spot.Part.TheVariants.{Escape as BehindBackslash, Unit as InUnit, LowBackslash, LowLetter, LowUnit}
-use Rattle.sm_json.specs.declared.spot.Step.TheVariants.{Within, Whole, Refused}
+use Rattle.sm_json.specs.declared.spot.UnitDigits.{UnitDigits}
+use Rattle.sm_json.specs.declared.spot.UnitDigits.TheVariants.{First, Second, Third, Fourth}
+use Rattle.sm_json.specs.declared.spot.CharacterPart.TheVariants.{Escape as BehindBackslash, Unit as InUnit, LowBackslash, LowLetter}
+use Rattle.sm_json.specs.declared.spot.CharacterPart.TheVariants.{LowUnit}
+use Rattle.sm_json.specs.declared.spot.SpotStep.TheVariants.{Within, Whole, Refused}
 use Rattle.sm_bytes.specs.Escapes.{short_escape, IsHigh, IsLow, joined}
 use Rattle.sm_json.specs.Strings.{HexDigits, CodeUnit, Escape}
 use Rattle.sm_json.specs.steps.TextRest.{DigitsRest, UnitRest, PartRest}
@@ -71,36 +72,37 @@ pub low_letter_refused : (high x : ℕ) → x ≢ 117 → PartSteps (LowLetter h
 low_letter_refused high x other c s r k h = other (let e = h.1.1 in cc)
 
 -- the digits of a low surrogate
-pub low_same : (high : ℕ) (old new : Digits) (x : ℕ) → SameRest old x new → (c : ℕ) (s r : List ℕ) → IsScalar c
+pub low_same : (high : ℕ) (old new : UnitDigits) (x : ℕ) → SameRest old x new → (c : ℕ) (s r : List ℕ) → IsScalar c
     → PartRest (LowUnit high old) c (x ∷ s) r ↔ PartRest (LowUnit high new) c s r
 low_same high old new x same c s r k = (
   λ h. (h.0, (same h.0 s r).0 h.1, h.2, h.3),
   λ h. (h.0, (same h.0 s r).1 h.1, h.2, h.3),
 )
 
-low_ends_there : (high : ℕ) (old : Digits) (x u : ℕ) → LastDigit old x u → (c : ℕ) (s r : List ℕ) → PartRest (LowUnit high old) c (x ∷ s) r
+low_ends_there : (high : ℕ) (old : UnitDigits) (x u : ℕ) → LastDigit old x u → (c : ℕ) (s r : List ℕ)
+    → PartRest (LowUnit high old) c (x ∷ s) r
     → CodeEnd (joined high u) c s r
 low_ends_there high old x u same c s r h =
     let e = (same h.0 s r).0 h.1 in
     (h.3 ∙ ap (joined high) e.0, e.1)
 
-pub low_ends : (high : ℕ) (old : Digits) (x u : ℕ) → IsLow u → LastDigit old x u → (c : ℕ) (s r : List ℕ) → IsScalar c
+pub low_ends : (high : ℕ) (old : UnitDigits) (x u : ℕ) → IsLow u → LastDigit old x u → (c : ℕ) (s r : List ℕ) → IsScalar c
     → PartRest (LowUnit high old) c (x ∷ s) r ↔ CodeEnd (joined high u) c s r
 low_ends high old x u low same c s r k = (low_ends_there high old x u same c s r, λ h. (u, (same u s r).1 (refl, h.1), low, h.0))
 
-pub low_no_digit : (high : ℕ) (old : Digits) (x : ℕ) → ((v : ℕ) (s r : List ℕ) → DigitsRest old v (x ∷ s) r → ⊥)
+pub low_no_digit : (high : ℕ) (old : UnitDigits) (x : ℕ) → ((v : ℕ) (s r : List ℕ) → DigitsRest old v (x ∷ s) r → ⊥)
     → PartSteps (LowUnit high old) x Refused
 low_no_digit high old x none c s r k h = none h.0 s r h.1
 
 -- digits that begin no low surrogate
-low_begun : (d : Digits) (v : ℕ) (s r : List ℕ) → DigitsRest d v s r → IsLow v → IsLowBegun d
+low_begun : (d : UnitDigits) (v : ℕ) (s r : List ℕ) → DigitsRest d v s r → IsLow v → IsLowBegun d
 low_begun First v s r h low = tt
 low_begun (Second n) v s r h low = let range = digits_range_3 n v s r h in (omega arith, omega arith)
 low_begun (Third n) v s r h low = let range = digits_range_2 n v s r h in (omega arith, omega arith)
 low_begun (Fourth n) v s r h low = let range = digits_range_1 n v s r h in (omega arith, omega arith)
 
-pub low_goes : (high : ℕ) (d : Digits) → IsHigh high → IsLowBegun d → StepsTo (PartRest (LowUnit high d)) (Within (LowUnit high d))
+pub low_goes : (high : ℕ) (d : UnitDigits) → IsHigh high → IsLowBegun d → StepsTo (PartRest (LowUnit high d)) (Within (LowUnit high d))
 low_goes high d is_high begun = ((is_high, begun), λ c s r k. (λ h. h, λ h. h))
 
-pub low_refused : (high : ℕ) (d : Digits) → (IsLowBegun d → ⊥) → StepsTo (PartRest (LowUnit high d)) Refused
+pub low_refused : (high : ℕ) (d : UnitDigits) → (IsLowBegun d → ⊥) → StepsTo (PartRest (LowUnit high d)) Refused
 low_refused high d not_begun c s r k h = not_begun (low_begun d h.0 s r h.1 h.2)

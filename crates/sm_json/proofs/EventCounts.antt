@@ -1,6 +1,6 @@
 -- How many bytes the parts of a text take: each event of a text has a byte of its own. So a text has no more events than bytes, and
 -- bytes that begin one complete no more events than they are.
-use Rattle.std.proofs.Common.{◌≡◌, ℕ, zero, suc, ◌+◌, ◌-◌, ◌*◌, ◌≤◌, ◌<◌, inl, inr, true, false, cond, List, [], ◌∷◌, ◌++◌, sym, ap, subst}
+use Rattle.std.proofs.Common.{◌≡◌, ℕ, zero, suc, ◌+◌, ◌-◌, ◌≤◌, ◌<◌, inl, inr, true, false, cond, List, [], ◌∷◌, ◌++◌, sym, ap, subst}
 use Rattle.std.proofs.Common.{arith, length, length-append, None}
 use Rattle.std.proofs.lemmas.Bool.{cases_lt, le-leb, lt-leb}
 use Rattle.std.specs.Char.{encode_utf8}
@@ -8,7 +8,7 @@ use Rattle.sm_tree.specs.Node.{Node, Nodes, Members, null, bool, int, number, te
 use Rattle.sm_tree.specs.Node.{no_members, member}
 use Rattle.sm_tree.specs.Events.{NodeEvent, null_event, bool_event, int_event, number_event, text_event, start_list, end_list}
 use Rattle.sm_tree.specs.Events.{start_object, key_event, end_object}
-use Rattle.sm_tree.specs.Timing.{TimedEvent, by_byte, by_end, complete_with}
+use Rattle.sm_tree.specs.Timing.{TimedEvent, by_byte, complete_with}
 use Rattle.sm_tree.specs.TimingLaws.{HasFewEvents}
 use Rattle.sm_tree.specs.Numbers.{IsNumber, NumberText}
 use Rattle.sm_json.specs.Strings.{Whitespace, HexDigits, CodeUnit, LowHalf, Escape, Character, Characters, SpellsText}

@@ -50,7 +50,7 @@ flush_refused S T before behind refusal Same flushes again = by_refusal (refusal
     by_refusal (Some given) is =
         let (one, same, rest) = subst (λ o. IfSome o (λ x. (failed refusal ≡ Err x) × (behind ≡ before) × Same))
         is again in
-        refused_before before behind given refusal is cc same
+        let told : refusal ≡ given = cc in refused_before before behind given refusal is told same
 
 -- one that flushed had refused nothing
 was_fresh : (o : Option SyntaxRefusal) (x : Unit {0}) (Kept Same : Type 0)

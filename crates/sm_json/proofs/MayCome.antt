@@ -12,8 +12,8 @@ use Rattle.sm_json.specs.steps.Rest.{first_entry, first_key, after, JsonLeads, V
 use Rattle.sm_tree.specs.Syntax.{most_levels}
 use Rattle.sm_json.specs.steps.Machine.{where_of, lists_of, JsonIsPlaced, IsNumberEvent, ClosesAt, HandsNumber, JsonIsSound}
 use Rattle.sm_tree.specs.declared.number.Phase.{Phase}
-use Rattle.sm_json.specs.declared.place.Place.{Place}
-use Rattle.sm_json.specs.declared.place.Place.TheVariants.{Value, FirstEntry, FirstKey, After, Number}
+use Rattle.sm_json.specs.declared.place.JsonPlace.{JsonPlace}
+use Rattle.sm_json.specs.declared.place.JsonPlace.TheVariants.{Value, FirstEntry, FirstKey, After, Number}
 use Rattle.sm_json.specs.declared.read.Reader.{Reader}
 use Rattle.sm_json.proofs.Opening.{at, list_opens, object_opens}
 use Rattle.sm_json.proofs.Closing.{after_goes_on, first_entry_goes_on, first_key_goes_on}
@@ -51,7 +51,7 @@ object_may_open r S takes place room placed =
     (subst (λ p. IsPlaced (place_at r p) S) place placed.placed) (object_opens most_levels (lists_of r))
     (first_key_goes_on most_levels (lists_of r) room)
 
-ends_may_come : (r : Reader) (S : StandsFor) (takes : Takes) (p : Place) (k : OpenKind) (e : NodeEvent) (c : ℕ) → r.place ≡ p
+ends_may_come : (r : Reader) (S : StandsFor) (takes : Takes) (p : JsonPlace) (k : OpenKind) (e : NodeEvent) (c : ℕ) → r.place ≡ p
     → IsIn k (lists_of r) → JsonIsPlaced r S takes
     → ((ks : List OpenKind) → length (k ∷ ks) ≤ most_levels
     → JsonLeads most_levels (at (where_of p r.number.items r.text.spot (string_so_far r.text)) (k ∷ ks)) (c ∷ []) (e ∷ []) (at after ks))

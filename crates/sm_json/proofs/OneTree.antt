@@ -9,7 +9,7 @@ use Rattle.sm_json.specs.Strings.{is_whitespace, Whitespace, SpellsText}
 use Rattle.sm_json.specs.JsonText.{SpellsNumber, Separator, SpellsValue, Entries, MoreEntries, Pairs, MorePairs}
 use Rattle.sm_tree.specs.NumberTail.{IsNumberByte, AreNumberBytes}
 use Rattle.sm_json.specs.Laws.{OneReading}
-use Rattle.sm_json.proofs.Starts.{below, above, heads, tails, not_white, StartsNumber, FirstByte, spells_start}
+use Rattle.sm_json.proofs.Starts.{above, heads, tails, not_white, StartsNumber, FirstByte, spells_start}
 use Rattle.sm_json.proofs.White.{first_not_white}
 use Rattle.sm_tree.proofs.Numbers.{number_bytes, one_node}
 use Rattle.sm_tree.proofs.NodeKinds.{NodeKind, of_null, of_true, of_false, of_number, of_text, of_list, of_object, node_kind, null_only}

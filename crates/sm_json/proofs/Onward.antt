@@ -10,8 +10,8 @@ use Rattle.sm_tree.specs.declared.build.OpenKind.TheVariants.{List as a_list, Ob
 use Rattle.sm_json.specs.steps.Rest.{first_entry, first_key, JsonState, JsonRest, JsonGoesOn}
 use Rattle.sm_json.specs.steps.StringReading.{string_so_far}
 use Rattle.sm_json.specs.steps.Machine.{lists_of, json_state, JsonIsSound, JsonGoes, Halts, Deepens, HaltsAt, DeepensAt}
-use Rattle.sm_json.specs.declared.place.Place.{Place}
-use Rattle.sm_json.specs.declared.place.Place.TheVariants.{Value, FirstEntry, FirstKey, NextKey, Colon, After, Word, Number, Text}
+use Rattle.sm_json.specs.declared.place.JsonPlace.{JsonPlace}
+use Rattle.sm_json.specs.declared.place.JsonPlace.TheVariants.{Value, FirstEntry, FirstKey, NextKey, Colon, After, Word, Number, Text}
 use Rattle.sm_json.specs.declared.read.Reader.{Reader}
 use Rattle.sm_tree.proofs.Numbers.{completion, completes}
 use Rattle.sm_json.proofs.Opening.{at}
@@ -20,13 +20,14 @@ use Rattle.sm_json.proofs.Closing.{word_goes_on, numeral_goes_on, text_goes_on}
 use Rattle.sm_json.proofs.Readers.{place_at, kept_at, room_in, inside}
 
 -- at each place
-goes_on_from : (r : Reader) (p : Place) → r.place ≡ p → JsonGoesOn most_levels (place_at r p) [] → JsonGoesOn most_levels (json_state r) []
+goes_on_from : (r : Reader) (p : JsonPlace) → r.place ≡ p → JsonGoesOn most_levels (place_at r p) []
+    → JsonGoesOn most_levels (json_state r) []
 goes_on_from r p e h = subst (λ q. JsonGoesOn most_levels (place_at r q) []) (sym e) h
 
 room_of : (r : Reader) → length (lists_of r) ≤ most_levels
 room_of r = room_in r most_levels (omega arith)
 
-goes_on_at : (r : Reader) (p : Place) → r.place ≡ p → JsonIsSound r → JsonGoesOn most_levels (json_state r) []
+goes_on_at : (r : Reader) (p : JsonPlace) → r.place ≡ p → JsonIsSound r → JsonGoesOn most_levels (json_state r) []
 goes_on_at r Value e sound = goes_on_from r Value e (value_goes_on most_levels (lists_of r) (room_of r))
 goes_on_at r FirstEntry e sound =
     let (ks, is) = inside (lists_of r) a_list (kept_at r FirstEntry e sound) in

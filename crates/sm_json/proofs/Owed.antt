@@ -1,11 +1,12 @@
 -- The rest of a string takes at least a byte: its closing quotation mark has to come. So it doesn't end where the bytes do.
 use Rattle.std.proofs.Common.{◌≡◌, ℕ, ◌≤◌, ◌<◌, ◌⊎◌, inl, inr, List, [], ◌∷◌, ◌++◌, ap, ◌∙◌, arith, length}
 use Rattle.std.specs.Char.{IsScalar, encode_utf8}
-use Rattle.sm_json.specs.declared.spot.Digits.{Digits}
-use Rattle.sm_json.specs.declared.spot.Digits.TheVariants.{First, Second, Third, Fourth}
-use Rattle.sm_json.specs.declared.spot.Part.{Part}
-use Rattle.sm_json.specs.declared.spot.Part.TheVariants.{Escape as BehindBackslash, Unit as InUnit, LowBackslash, LowLetter, LowUnit, One}
-use Rattle.sm_json.specs.declared.spot.Part.TheVariants.{Two, Three}
+use Rattle.sm_json.specs.declared.spot.UnitDigits.{UnitDigits}
+use Rattle.sm_json.specs.declared.spot.UnitDigits.TheVariants.{First, Second, Third, Fourth}
+use Rattle.sm_json.specs.declared.spot.CharacterPart.{CharacterPart}
+use Rattle.sm_json.specs.declared.spot.CharacterPart.TheVariants.{Escape as BehindBackslash, Unit as InUnit, LowBackslash, LowLetter}
+use Rattle.sm_json.specs.declared.spot.CharacterPart.TheVariants.{LowUnit, One}
+use Rattle.sm_json.specs.declared.spot.CharacterPart.TheVariants.{Two, Three}
 use Rattle.sm_json.specs.declared.spot.Spot.{Spot}
 use Rattle.sm_json.specs.declared.spot.Spot.TheVariants.{Plain, Inside}
 use Rattle.sm_json.specs.steps.TextRest.{DigitsRest, PartRest, TextRest}
@@ -48,13 +49,13 @@ three_left c x y z s r big e (inr (inr (inl (a, b, d, low, high, s1, t, f)))) =
 three_left c x y z s r big e (inr (inr (inr (a, b, d, g, low, high, s1, t, u, f)))) =
     let e1 : x ∷ y ∷ z ∷ s ≡ a ∷ b ∷ d ∷ g ∷ r = e ∙ ap (λ v. v ++ r) f in omega (arith, ap length e1)
 
-digits_rest_shorter : (d : Digits) (v : ℕ) (s r : List ℕ) → DigitsRest d v s r → length r ≤ length s
+digits_rest_shorter : (d : UnitDigits) (v : ℕ) (s r : List ℕ) → DigitsRest d v s r → length r ≤ length s
 digits_rest_shorter First v s r h = digits_shorter 4 0 v s r h
 digits_rest_shorter (Second n) v s r h = digits_shorter 3 n v s r h
 digits_rest_shorter (Third n) v s r h = digits_shorter 2 n v s r h
 digits_rest_shorter (Fourth n) v s r h = digits_shorter 1 n v s r h
 
-part_shorter : (p : Part) (c : ℕ) (s r : List ℕ) → IsPartLive p → IsScalar c → PartRest p c s r → length r ≤ length s
+part_shorter : (p : CharacterPart) (c : ℕ) (s r : List ℕ) → IsPartLive p → IsScalar c → PartRest p c s r → length r ≤ length s
 part_shorter BehindBackslash c s r live scalar h = let less = escape_shorter c s r h in omega arith
 part_shorter (InUnit d) c s r live scalar (inl h) = digits_rest_shorter d c s r h
 part_shorter (InUnit d) c s r live scalar (inr (high, s1, h, is, low)) =

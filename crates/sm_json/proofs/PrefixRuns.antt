@@ -1,13 +1,13 @@
 -- What begins a text leads on: from each place the bytes that may come lead to another one, up to a string that isn't whole. Of what
 -- comes there nothing is complete within the bytes. So bytes complete one list of events, and longer ones go further.
-use Rattle.std.proofs.Common.{◌≡◌, ◌≢◌, ℕ, zero, suc, ◌+◌, ◌≤◌, ◌<◌, inl, inr, true, false, Bool, List, [], ◌∷◌, ◌++◌, None, refl, sym, ap}
-use Rattle.std.proofs.Common.{subst, ◌∙◌, arith, lit<, length, length-append, append_assoc, append-nil, codes, drop, get_or}
+use Rattle.std.proofs.Common.{◌≡◌, ℕ, zero, suc, ◌+◌, ◌≤◌, ◌<◌, inl, inr, true, false, Bool, List, [], ◌∷◌, ◌++◌, None, refl, sym, ap}
+use Rattle.std.proofs.Common.{subst, ◌∙◌, arith, length, length-append, append_assoc, append-nil, drop, get_or}
 use Rattle.std.proofs.lemmas.Bool.{cases_lt, cases_eq}
 use Rattle.std.proofs.lemmas.List.{drop_more, drop_all}
-use Rattle.sm_tree.specs.Node.{Node, null, bool, int, number, text, bytes, tag, opaque, list, object, no_nodes, node, no_members, member}
+use Rattle.sm_tree.specs.Node.{null, bool, int, number, text, bytes, tag, opaque, list, object, no_nodes, node, no_members, member}
 use Rattle.sm_tree.specs.Events.{NodeEvent, start_list, end_list, start_object, end_object, key_event, text_event, events}
 use Rattle.sm_tree.specs.Limits.{most_levels}
-use Rattle.sm_tree.specs.Timing.{TimedEvent, by_byte, untimed, complete_with, Completes, HandsOn}
+use Rattle.sm_tree.specs.Timing.{TimedEvent, untimed, complete_with, Completes, HandsOn}
 use Rattle.sm_tree.specs.TimingLaws.{TimesTexts, HasOneCompletion, GoesFurther, BeginsTrees}
 use Rattle.sm_tree.specs.Streams.{Streams}
 use Rattle.sm_tree.specs.Numbers.{IsNumber, NumberText}
@@ -16,25 +16,25 @@ use Rattle.sm_tree.specs.steps.Handing.{AreLater}
 use Rattle.sm_tree.specs.declared.build.OpenKind.{OpenKind}
 use Rattle.sm_tree.specs.declared.build.OpenKind.TheVariants.{List as a_list, Object as an_object}
 use Rattle.sm_tree.proofs.ListEnds.{cut_within}
-use Rattle.sm_tree.proofs.Handing.{later_sooner, hands_sooner, handed_before, handed_complete, handed_untimed}
+use Rattle.sm_tree.proofs.Handing.{hands_sooner, handed_before, handed_complete, handed_untimed}
 use Rattle.sm_tree.proofs.Numbers.{number_bytes, one_node}
 use Rattle.sm_tree.proofs.Streams.{events_stream}
-use Rattle.sm_json.specs.Strings.{is_whitespace, Whitespace}
+use Rattle.sm_json.specs.Strings.{is_whitespace}
 use Rattle.sm_json.specs.JsonText.{JsonText}
-use Rattle.sm_json.specs.Timing.{ValueTimed, json_timing}
+use Rattle.sm_json.specs.Timing.{json_timing}
 use Rattle.sm_json.specs.steps.TextRest.{TextRest}
 use Rattle.sm_json.specs.steps.TextSteps.{IsLive}
 use Rattle.sm_json.specs.steps.Rest.{Where, value, first_entry, first_key, next_key, colon, after, word, numeral, in_text, JsonState}
 use Rattle.sm_json.specs.steps.Rest.{json_start, letters, literal_event, JsonEnds, ValueNow, ColonComes, NameComes, FirstEntryComes}
 use Rattle.sm_json.specs.steps.Rest.{FirstKeyComes, JsonRest, JsonRestAt, JsonLeads}
-use Rattle.sm_json.specs.steps.Machine.{TakesWhitespace, first_letter}
+use Rattle.sm_json.specs.steps.Machine.{TakesWhitespace}
 use Rattle.sm_json.specs.declared.spot.Spot.{Spot}
 use Rattle.sm_json.specs.declared.spot.Spot.TheVariants.{Plain}
 use Rattle.sm_json.specs.declared.place.Literal.{Literal}
 use Rattle.sm_json.specs.declared.place.Literal.TheVariants.{Null, True, False}
 use Rattle.sm_json.specs.declared.place.Role.{Role}
 use Rattle.sm_json.specs.declared.place.Role.TheVariants.{Key, Value}
-use Rattle.sm_json.proofs.Starts.{heads, tails, StartsNumber}
+use Rattle.sm_json.proofs.Starts.{heads}
 use Rattle.sm_json.proofs.White.{white_leads}
 use Rattle.sm_json.proofs.Timed.{timed_first, text_timed, timed_text}
 use Rattle.sm_json.proofs.Whole.{leads_none, leads_joined, timed_start}

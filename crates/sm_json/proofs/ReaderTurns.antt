@@ -3,7 +3,7 @@ use Rattle.std.proofs.Common.{◌≤◌, ◌<◌, ◌+◌, ◌-◌, ℕ, List, [
 use Rattle.std.proofs.lemmas.List.{take_more, take_rest, length-drop}
 use Rattle.std.proofs.Math.Seq.{take-add}
 use Rattle.sm_json.specs.declared.text.TextReader.{TextReader}
-use Rattle.sm_json.specs.declared.text.Taken.TheVariants.{Open as GoesOn}
+use Rattle.sm_json.specs.declared.text.TextTaken.TheVariants.{Open as GoesOn}
 use Rattle.sm_json.specs.steps.StringReading.{string_so_far, ReadsOn, StringTakesRun, StringTakesByte}
 use Rattle.sm_json.proofs.Runs.{takes_then}
 

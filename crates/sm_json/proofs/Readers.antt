@@ -23,8 +23,8 @@ use Rattle.sm_json.specs.declared.spot.Spot.TheVariants.{Plain}
 use Rattle.sm_json.specs.declared.text.TextReader.{TextReader}
 use Rattle.sm_json.specs.declared.place.Literal.{Literal}
 use Rattle.sm_json.specs.declared.place.Literal.TheVariants.{Null, True, False}
-use Rattle.sm_json.specs.declared.place.Place.{Place}
-use Rattle.sm_json.specs.declared.place.Place.TheVariants.{Value, FirstEntry, FirstKey, NextKey, Colon, After, Word, Number, Text}
+use Rattle.sm_json.specs.declared.place.JsonPlace.{JsonPlace}
+use Rattle.sm_json.specs.declared.place.JsonPlace.TheVariants.{Value, FirstEntry, FirstKey, NextKey, Colon, After, Word, Number, Text}
 use Rattle.sm_json.specs.declared.place.Role.{Role}
 use Rattle.sm_json.specs.declared.place.Role.TheVariants.{Key, Value as Whole}
 use Rattle.sm_json.specs.declared.read.Reader.{Reader}
@@ -38,20 +38,21 @@ use Rattle.sm_json.proofs.Between.{object_empty, first_entry_leads, first_entry_
 use Rattle.sm_json.proofs.After.{list_goes_on, list_ends, list_stops, object_goes_on, object_ends, object_stops, end_stops}
 
 -- the state of a reader whose place is known, and what it keeps there
-abbrev pub place_at : Reader → Place → JsonState
+abbrev pub place_at : Reader → JsonPlace → JsonState
 place_at r p = at (where_of p r.number.items r.text.spot (string_so_far r.text)) (lists_of r)
 
-pub leads_from : (r : Reader) (p : Place) (w : List ℕ) (out : List NodeEvent) (x : JsonState) → r.place ≡ p → LeadsTo (place_at r p) w out x
+pub leads_from : (r : Reader) (p : JsonPlace) (w : List ℕ) (out : List NodeEvent) (x : JsonState) → r.place ≡ p
+    → LeadsTo (place_at r p) w out x
     → LeadsTo (json_state r) w out x
 leads_from r p w out x e h = subst (λ q. LeadsTo (place_at r q) w out x) (sym e) h
 
-pub stops_from : (r : Reader) (p : Place) (c : ℕ) → r.place ≡ p → Halts (place_at r p) c → Halts (json_state r) c
+pub stops_from : (r : Reader) (p : JsonPlace) (c : ℕ) → r.place ≡ p → Halts (place_at r p) c → Halts (json_state r) c
 stops_from r p c e h = subst (λ q. Halts (place_at r q) c) (sym e) h
 
-pub deepens_from : (r : Reader) (p : Place) (c : ℕ) → r.place ≡ p → Deepens (place_at r p) c → Deepens (json_state r) c
+pub deepens_from : (r : Reader) (p : JsonPlace) (c : ℕ) → r.place ≡ p → Deepens (place_at r p) c → Deepens (json_state r) c
 deepens_from r p c e h = subst (λ q. Deepens (place_at r q) c) (sym e) h
 
-pub kept_at : (r : Reader) (p : Place) → r.place ≡ p → JsonIsSound r → PlaceKeeps p r.number.items (lists_of r)
+pub kept_at : (r : Reader) (p : JsonPlace) → r.place ≡ p → JsonIsSound r → PlaceKeeps p r.number.items (lists_of r)
 kept_at r p e sound = subst (λ q. PlaceKeeps q r.number.items (lists_of r)) e sound
 
 -- no more is open than there is room for
@@ -59,7 +60,7 @@ pub room_in : (r : Reader) (limit : ℕ) → most_levels ≤ limit → length (l
 room_in r limit up = let room = nested_room r.lists in omega arith
 
 -- a step to another reader
-steps : (r q : Reader) (p : Place) (w : List ℕ) (out : List NodeEvent) → r.place ≡ p → LeadsTo (place_at r p) w out (json_state q)
+steps : (r q : Reader) (p : JsonPlace) (w : List ℕ) (out : List NodeEvent) → r.place ≡ p → LeadsTo (place_at r p) w out (json_state q)
     → JsonIsSound q → JsonGoes r w out q
 steps r q p w out e leads sound = record { leads = leads_from r p w out (json_state q) e leads; sound = sound }
 
@@ -146,7 +147,7 @@ inside (j ∷ ks) k h = (ks, ap (λ x. x ∷ ks) h)
 left_behind : (ls : List OpenKind) (k : OpenKind) → IsIn k ls → ls ≡ k ∷ drop 1 ls
 left_behind ls k h = let (ks, is) = inside ls k h in is ∙ ap (λ x. k ∷ drop 1 x) (sym is)
 
-ends_at : (r q : Reader) (p : Place) (k : OpenKind) (e : NodeEvent) (c : ℕ) → r.place ≡ p → IsIn k (lists_of r) → HasClosed r q
+ends_at : (r q : Reader) (p : JsonPlace) (k : OpenKind) (e : NodeEvent) (c : ℕ) → r.place ≡ p → IsIn k (lists_of r) → HasClosed r q
     → ((limit : ℕ) (ks : List OpenKind) → length (k ∷ ks) ≤ limit
     → JsonLeads limit (at (where_of p r.number.items r.text.spot (string_so_far r.text)) (k ∷ ks)) (c ∷ []) (e ∷ []) (at after ks))
     → JsonGoes r (c ∷ []) (e ∷ []) q

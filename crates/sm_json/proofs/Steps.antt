@@ -1,16 +1,16 @@
 -- From the rests of a character to the rests of a string.
 use Rattle.std.proofs.Common.{◌≡◌, ◌↔◌, ◌⊎◌, ◌≢◌, ℕ, List, [], ◌∷◌, ◌++◌, append_assoc, encode_utf8_all, refl, sym, ◌∙◌, subst}
 use Rattle.std.specs.Char.{IsScalar, encode_utf8}
-use Rattle.sm_json.specs.declared.spot.Part.{Part}
+use Rattle.sm_json.specs.declared.spot.CharacterPart.{CharacterPart}
 use Rattle.sm_json.specs.declared.spot.Spot.TheVariants.{Plain, Inside}
-use Rattle.sm_json.specs.declared.spot.Step.{Step}
-use Rattle.sm_json.specs.declared.spot.Step.TheVariants.{Within, Whole, Closed, Refused}
+use Rattle.sm_json.specs.declared.spot.SpotStep.{SpotStep}
+use Rattle.sm_json.specs.declared.spot.SpotStep.TheVariants.{Within, Whole, Closed, Refused}
 use Rattle.sm_json.specs.Strings.{IsUnescaped, Escape, Characters}
 use Rattle.sm_json.specs.steps.TextRest.{PartRest, PlainRest}
 use Rattle.sm_json.specs.steps.TextSteps.{CharacterRest, StepsTo, PartSteps, StringSteps}
 
 -- a step to the same rests
-pub steps_along : (R S : CharacterRest) (step : Step) → ((c : ℕ) (s r : List ℕ) → IsScalar c → R c s r ↔ S c s r) → StepsTo S step
+pub steps_along : (R S : CharacterRest) (step : SpotStep) → ((c : ℕ) (s r : List ℕ) → IsScalar c → R c s r ↔ S c s r) → StepsTo S step
     → StepsTo R step
 steps_along R S (Within p) same h = (h.0, λ c s r k. (λ x. (h.1 c s r k).0 ((same c s r k).0 x), λ x. (same c s r k).1 ((h.1 c s r k).1 x)))
 steps_along R S (Whole d) same h = (h.0, λ c s r k. (λ x. (h.1 c s r k).0 ((same c s r k).0 x), λ x. (same c s r k).1 ((h.1 c s r k).1 x)))
@@ -37,7 +37,7 @@ whole_back : (R : CharacterRest) (d : ℕ) → IsScalar d → ((c : ℕ) (s r : 
 whole_back R d scalar same b s t r x = (d, s, scalar, (same d s s scalar).1 (refl, refl), x)
 
 -- what a step within a character is to the string
-pub lifted : (p : Part) (x : ℕ) (step : Step) → PartSteps p x step → StringSteps (Inside p) x step
+pub lifted : (p : CharacterPart) (x : ℕ) (step : SpotStep) → PartSteps p x step → StringSteps (Inside p) x step
 lifted p x (Within q) h = (h.0, lifted_same (λ c s r. PartRest p c (x ∷ s) r) (PartRest q) h.1)
 lifted p x (Whole d) h =
     λ b s t r. (whole_there (λ c s r. PartRest p c (x ∷ s) r) d h.1 b s t r, whole_back (λ c s r. PartRest p c (x ∷ s) r) d h.0 h.1 b s t r)
@@ -56,7 +56,7 @@ shuts : (x : ℕ) (b s t r : List ℕ) → Lifted (BegunRest x) b s t r → Plai
 shuts x b s t r y = (y.0 ∷ y.4.0, y.4.1 ∙ append_assoc b (encode_utf8 y.0) (encode_utf8_all y.4.0), (y.1, (y.2, y.3), y.4.2))
 
 -- what a step from between two characters is to the string
-pub begun : (x : ℕ) (step : Step) → x ≢ 34 → StepsTo (BegunRest x) step → StringSteps Plain x step
+pub begun : (x : ℕ) (step : SpotStep) → x ≢ 34 → StepsTo (BegunRest x) step → StringSteps Plain x step
 begun x (Within q) other h = (
   h.0,
   λ b s t r. (

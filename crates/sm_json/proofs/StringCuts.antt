@@ -1,12 +1,11 @@
 -- What spells a string does so whatever stands behind it: with other bytes there it spells the same string, and those follow.
-use Rattle.std.proofs.Common.{◌≡◌, ℕ, ◌+◌, ◌*◌, ◌≤◌, zero, suc, inl, inr, List, [], ◌∷◌, ◌++◌, refl, sym, ap, ◌∙◌, subst, arith, length}
+use Rattle.std.proofs.Common.{◌≡◌, ℕ, ◌+◌, ◌*◌, zero, suc, inl, inr, List, [], ◌∷◌, ◌++◌, refl, sym, ap, ◌∙◌, subst}
 use Rattle.std.proofs.Common.{append_assoc}
 use Rattle.std.specs.Char.{encode_utf8}
 use Rattle.std.specs.Prelude.{encode_utf8_all}
 use Rattle.sm_json.specs.Strings.{HexDigits, CodeUnit, LowHalf, Escape, Character, Characters}
 use Rattle.sm_json.specs.steps.TextRest.{TextRest}
 use Rattle.sm_json.specs.declared.spot.Spot.TheVariants.{Plain}
-use Rattle.sm_json.proofs.Starts.{heads, tails}
 use Rattle.sm_json.proofs.OneString.{one_run}
 
 -- s is these bytes and then r, and the relation holds of them before whatever follows

@@ -39,8 +39,8 @@ use Rattle.sm_tree.specs.declared.number.Phase.{Phase}
 use Rattle.sm_tree.specs.declared.number.Phase.TheVariants.{Start}
 use Rattle.sm_tree.specs.declared.number.Run.{Run}
 use Rattle.sm_json.specs.declared.place.Literal.{Literal}
-use Rattle.sm_json.specs.declared.place.Place.{Place}
-use Rattle.sm_json.specs.declared.place.Place.TheVariants.{Value, FirstEntry, FirstKey, NextKey, Colon, After, Word, Number, Text}
+use Rattle.sm_json.specs.declared.place.JsonPlace.{JsonPlace}
+use Rattle.sm_json.specs.declared.place.JsonPlace.TheVariants.{Value, FirstEntry, FirstKey, NextKey, Colon, After, Word, Number, Text}
 use Rattle.sm_json.specs.declared.read.Reader.{Reader}
 use Rattle.sm_tree.proofs.Numbers.{one_node, number_exists, number_from_whole, whole_from_number}
 use Rattle.sm_tree.proofs.NumberRuns.{prefix_grows, leads_joined as numbers_joined}
@@ -426,7 +426,7 @@ number_finishes r S T takes phase place none hands =
       hands.takes_all,
     )
 
-pub owed_at : (r : Reader) (p : Place) → r.place ≡ p → IsOwed (where_of p r.number.items r.text.spot (string_so_far r.text))
+pub owed_at : (r : Reader) (p : JsonPlace) → r.place ≡ p → IsOwed (where_of p r.number.items r.text.spot (string_so_far r.text))
     → (ts : List TimedEvent) → JsonRest most_levels (json_state r) [] ts → ⊥
 owed_at r p place owed ts h =
     token_owed most_levels (where_of p r.number.items r.text.spot (string_so_far r.text)) (lists_of r) ts owed
@@ -438,7 +438,7 @@ text_owed r role place ts h =
     (λ t v x. string_owed r.text.spot (string_so_far r.text) t v r.text.live x)
     (subst (λ q. JsonRest most_levels (place_at r q) [] ts) place h)
 
-cut_at_place : (r : Reader) (p : Place) → r.place ≡ p → JsonIsSound r → ((phase : Phase) → p ≡ Number phase → ⊥)
+cut_at_place : (r : Reader) (p : JsonPlace) → r.place ≡ p → JsonIsSound r → ((phase : Phase) → p ≡ Number phase → ⊥)
     → (p ≡ After → 0 < length (lists_of r))
     → (ts : List TimedEvent) → JsonRest most_levels (json_state r) [] ts → ⊥
 cut_at_place r Value place sound n d ts h = owed_at r Value place tt ts h
@@ -551,7 +551,7 @@ after_may_end r place none = (
       (subst (λ ls. JsonRest most_levels (at after ls) [] []) (sym (none_open (lists_of r) none)) (refl, refl)),
 )
 
-deep_at : (r : Reader) (p : Place) → r.place ≡ p → JsonIsSound r → 0 < length (lists_of r) → JsonMayEnd r false
+deep_at : (r : Reader) (p : JsonPlace) → r.place ≡ p → JsonIsSound r → 0 < length (lists_of r) → JsonMayEnd r false
 deep_at r Value place sound deep = cut_at_place r Value place sound (λ phase e. cc) (λ e. deep)
 deep_at r FirstEntry place sound deep = cut_at_place r FirstEntry place sound (λ phase e. cc) (λ e. deep)
 deep_at r FirstKey place sound deep = cut_at_place r FirstKey place sound (λ phase e. cc) (λ e. deep)

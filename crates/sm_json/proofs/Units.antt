@@ -1,10 +1,10 @@
 -- The digits of code units, and the escapes that they belong to.
 use Rattle.std.proofs.Common.{◌≡◌, ◌↔◌, ◌≤◌, ◌<◌, ◌+◌, ◌*◌, ℕ, suc, Some, None, List, [], ◌∷◌, inl, inr, refl, sym, ◌∙◌, subst, arith}
 use Rattle.std.specs.Char.{IsScalar}
-use Rattle.sm_json.specs.declared.spot.Digits.{Digits}
-use Rattle.sm_json.specs.declared.spot.Digits.TheVariants.{First, Second, Third, Fourth}
-use Rattle.sm_json.specs.declared.spot.Part.TheVariants.{LowBackslash}
-use Rattle.sm_json.specs.declared.spot.Step.TheVariants.{Within, Whole, Refused}
+use Rattle.sm_json.specs.declared.spot.UnitDigits.{UnitDigits}
+use Rattle.sm_json.specs.declared.spot.UnitDigits.TheVariants.{First, Second, Third, Fourth}
+use Rattle.sm_json.specs.declared.spot.CharacterPart.TheVariants.{LowBackslash}
+use Rattle.sm_json.specs.declared.spot.SpotStep.TheVariants.{Within, Whole, Refused}
 use Rattle.sm_bytes.specs.Escapes.{hex_value, IsHigh}
 use Rattle.sm_json.specs.Strings.{HexDigits, LowHalf}
 use Rattle.sm_json.specs.steps.TextRest.{DigitsRest, UnitRest}
@@ -49,31 +49,31 @@ pub no_surrogate : (c : ℕ) → IsScalar c → 0xD800 ≤ c → c < 0xE000 → 
 no_surrogate c k low high = elim (scalar_cases c k) [ inl h ↦ omega arith | inr h ↦ omega arith ]
 
 -- the digits of a unit go on
-abbrev pub SameRest : Digits → ℕ → Digits → Type 0
+abbrev pub SameRest : UnitDigits → ℕ → UnitDigits → Type 0
 SameRest old x new = (v : ℕ) (s r : List ℕ) → DigitsRest old v (x ∷ s) r ↔ DigitsRest new v s r
 
-abbrev pub LastDigit : Digits → ℕ → ℕ → Type 0
+abbrev pub LastDigit : UnitDigits → ℕ → ℕ → Type 0
 LastDigit old x u = (v : ℕ) (s r : List ℕ) → DigitsRest old v (x ∷ s) r ↔ ((v ≡ u) × (s ≡ r))
 
-pub unit_goes : (old new : Digits) (x : ℕ) → SameRest old x new → (c : ℕ) (s r : List ℕ) → UnitRest old c (x ∷ s) r ↔ UnitRest new c s r
+pub unit_goes : (old new : UnitDigits) (x : ℕ) → SameRest old x new → (c : ℕ) (s r : List ℕ) → UnitRest old c (x ∷ s) r ↔ UnitRest new c s r
 unit_goes old new x same c s r = (
   λ h. elim h [ inl y ↦ inl ((same c s r).0 y) | inr y ↦ inr (y.0, y.1, (same y.0 s y.1).0 y.2, y.3, y.4) ],
   λ h. elim h [ inl y ↦ inl ((same c s r).1 y) | inr y ↦ inr (y.0, y.1, (same y.0 s y.1).1 y.2, y.3, y.4) ],
 )
 
-unit_ends_there : (old : Digits) (x u : ℕ) → LastDigit old x u → (c : ℕ) (s r : List ℕ) → UnitRest old c (x ∷ s) r → UnitEnd u c s r
+unit_ends_there : (old : UnitDigits) (x u : ℕ) → LastDigit old x u → (c : ℕ) (s r : List ℕ) → UnitRest old c (x ∷ s) r → UnitEnd u c s r
 unit_ends_there old x u same c s r (inl y) = inl ((same c s r).0 y)
 unit_ends_there old x u same c s r (inr y) =
     let e = (same y.0 s y.1).0 y.2 in
     inr (subst IsHigh e.0 y.3, subst (λ l. LowHalf u c l r) (sym e.1) (subst (λ n. LowHalf n c y.1 r) e.0 y.4))
 
-pub unit_ends : (old : Digits) (x u : ℕ) → LastDigit old x u → (c : ℕ) (s r : List ℕ) → UnitRest old c (x ∷ s) r ↔ UnitEnd u c s r
+pub unit_ends : (old : UnitDigits) (x u : ℕ) → LastDigit old x u → (c : ℕ) (s r : List ℕ) → UnitRest old c (x ∷ s) r ↔ UnitEnd u c s r
 unit_ends old x u same c s r = (
   unit_ends_there old x u same c s r,
   λ h. elim h [ inl y ↦ inl ((same c s r).1 y) | inr y ↦ inr (u, s, (same u s s).1 (refl, refl), y.0, y.1) ],
 )
 
-pub unit_refused : (old : Digits) (x : ℕ) → ((v : ℕ) (s r : List ℕ) → DigitsRest old v (x ∷ s) r → ⊥) → (c : ℕ) (s r : List ℕ)
+pub unit_refused : (old : UnitDigits) (x : ℕ) → ((v : ℕ) (s r : List ℕ) → DigitsRest old v (x ∷ s) r → ⊥) → (c : ℕ) (s r : List ℕ)
     → UnitRest old c (x ∷ s) r → ⊥
 unit_refused old x none c s r h = elim h [ inl y ↦ none c s r y | inr y ↦ none y.0 s y.1 y.2 ]
 
@@ -112,7 +112,7 @@ third_digit n x d e v s r = digit_taken 1 n v x d s r e
 pub fourth_digit : (n x d : ℕ) → hex_value x ≡ Some d → LastDigit (Fourth n) x (n * 16 + d)
 fourth_digit n x d e v s r = digit_taken 0 n v x d s r e
 
-pub no_digit : (old : Digits) (x : ℕ) → hex_value x ≡ None → (v : ℕ) (s r : List ℕ) → DigitsRest old v (x ∷ s) r → ⊥
+pub no_digit : (old : UnitDigits) (x : ℕ) → hex_value x ≡ None → (v : ℕ) (s r : List ℕ) → DigitsRest old v (x ∷ s) r → ⊥
 no_digit First x e v s r = digit_refused 3 0 v x s r e
 no_digit (Second n) x e v s r = digit_refused 2 n v x s r e
 no_digit (Third n) x e v s r = digit_refused 1 n v x s r e

@@ -4,10 +4,10 @@ use Rattle.std.proofs.Common.{arith, append-nil, encode_utf8_all}
 use Rattle.std.specs.Char.{IsScalar}
 use Rattle.std.proofs.lemmas.Bool.Decides.{nat_tests}
 use Rattle.std.proofs.lemmas.Str.{encode_same}
-use Rattle.sm_json.specs.declared.spot.Part.TheVariants.{Escape as BehindBackslash, One, Two, Three}
+use Rattle.sm_json.specs.declared.spot.CharacterPart.TheVariants.{Escape as BehindBackslash, One, Two, Three}
 use Rattle.sm_json.specs.declared.spot.Spot.TheVariants.{Plain}
-use Rattle.sm_json.specs.declared.spot.Step.{Step}
-use Rattle.sm_json.specs.declared.spot.Step.TheVariants.{Within, Whole, Closed, Refused}
+use Rattle.sm_json.specs.declared.spot.SpotStep.{SpotStep}
+use Rattle.sm_json.specs.declared.spot.SpotStep.TheVariants.{Within, Whole, Closed, Refused}
 use Rattle.sm_json.specs.Strings.{IsUnescaped, Escape, Character, Characters}
 use Rattle.sm_bytes.specs.Utf8.{IsTail, IsSecond}
 use Rattle.sm_json.specs.steps.TextRest.{PartRest}
@@ -99,7 +99,7 @@ one_refused x y a none c s r k h = none (second_of c x y s r (shape c k) a h.1)
 pub second_tail : (x y : ℕ) → IsSecond x y → IsTail y
 second_tail x y h = grind (arith, nat_tests)
 
-pub one_whole : (x y : ℕ) (step : Step) → 194 ≤ x → x < 224 → IsSecond x y → StepsTo (CodeEnd ((x - 192) * 64 + (y - 128))) step
+pub one_whole : (x y : ℕ) (step : SpotStep) → 194 ≤ x → x < 224 → IsSecond x y → StepsTo (CodeEnd ((x - 192) * 64 + (y - 128))) step
     → PartSteps (One x) y step
 one_whole x y step a b h to =
     let tail = second_tail x y h in
@@ -113,7 +113,7 @@ two_goes x y z a b h t = ((a, b, h, t), λ c s r k. (λ p. p, λ p. p))
 pub two_refused : (x y z : ℕ) → 224 ≤ x → (IsTail z → ⊥) → PartSteps (Two x y) z Refused
 two_refused x y z a none c s r k h = none (third_of c x y z s r (shape c k) a h.1)
 
-pub two_whole : (x y z : ℕ) (step : Step) → 224 ≤ x → x < 240 → IsSecond x y → IsTail z
+pub two_whole : (x y z : ℕ) (step : SpotStep) → 224 ≤ x → x < 240 → IsSecond x y → IsTail z
     → StepsTo (CodeEnd (((x - 224) * 64 + (y - 128)) * 64 + (z - 128))) step → PartSteps (Two x y) z step
 two_whole x y z step a b h t to =
     let low = low_three x y a h in
@@ -125,7 +125,7 @@ two_whole x y z step a b h t to =
 pub three_refused : (x y z w : ℕ) → 240 ≤ x → (IsTail w → ⊥) → PartSteps (Three x y z) w Refused
 three_refused x y z w a none c s r k h = none (fourth_of c x y z w s r (shape c k) a h.1)
 
-pub three_whole : (x y z w : ℕ) (step : Step) → 240 ≤ x → x < 245 → IsSecond x y → IsTail z → IsTail w
+pub three_whole : (x y z w : ℕ) (step : SpotStep) → 240 ≤ x → x < 245 → IsSecond x y → IsTail z → IsTail w
     → StepsTo (CodeEnd ((((x - 240) * 64 + (y - 128)) * 64 + (z - 128)) * 64 + (w - 128))) step → PartSteps (Three x y z) w step
 three_whole x y z w step a b h t u to =
     let low = low_four x y a h in

@@ -8,7 +8,7 @@ use Rattle.sm_tree.specs.Node.{no_members, member}
 use Rattle.sm_tree.specs.Levels.{levels}
 use Rattle.sm_tree.specs.Syntax.{BeginsRead, ComesTo, IsRead, most_levels}
 use Rattle.sm_tree.specs.Json.{IsJson, AreJson, AreJsonMembers}
-use Rattle.sm_json.specs.Strings.{Whitespace, SpellsText}
+use Rattle.sm_json.specs.Strings.{SpellsText}
 use Rattle.sm_json.specs.JsonText.{SpellsValue, Entries, MoreEntries, Pairs, MorePairs, JsonText, json_syntax}
 use Rattle.sm_json.specs.Written.{written_text, written, written_entries, more_written_entries, written_pairs, more_written_pairs}
 use Rattle.sm_json.proofs.Starts.{skips_none}

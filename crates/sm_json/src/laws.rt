@@ -104,7 +104,7 @@ pub fn events_stand()
     ensures { JsonEventsStand }
 {}
 
-/// So it takes each event of such a stream.
+/// A `JsonWriter` takes each event of a stream of such a tree.
 #[tactic(auto, using(crate::proofs::TakenEvents::streams_taken))]
 pub fn streams_are_taken()
     ensures { JsonStreamsAreTaken }

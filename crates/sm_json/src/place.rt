@@ -23,7 +23,7 @@ pub enum Role {
 
 /// Where a reader stands.
 #[derive(Debug, Clone, Copy, PartialEq, Eq, Drop)]
-pub enum Place {
+pub enum JsonPlace {
     /// A value must come.
     Value,
     /// A bracket has opened: a value or the closing bracket must come.

@@ -11,7 +11,7 @@ ghost use Rattle.sm_json.specs.steps.Rest.{json_start};
 mod leaves;
 mod tokens;
 
-use crate::place::Place;
+use crate::place::JsonPlace;
 use crate::text::TextReader;
 use sm_tree::number::Phase;
 use sm_tree::{EventSink, Nested, OpenKind, SyntaxRefusal, Tree, TreeBuilder};
@@ -21,7 +21,7 @@ use std::alloc::Global;
 #[derive(Drop)]
 pub struct Reader {
     /// Where the reader stands.
-    place: Place,
+    place: JsonPlace,
     /// What is open around the place.
     lists: Nested<OpenKind>,
     /// The number that has begun, if the place is in one.
@@ -40,7 +40,7 @@ impl Reader {
         ensures sound { JsonIsSound result }
     {
         Reader {
-            place: Place::Value,
+            place: JsonPlace::Value,
             lists: Nested::new(OpenKind::List),
             number: Vec::new(alloc),
             text: TextReader::new(alloc),
@@ -58,9 +58,9 @@ impl Reader {
         ensures alike { E.alike to.old to.new }
     {
         match self.place {
-            Place::Text(role) => self.string(role, bytes, to),
-            Place::Number(phase) => self.number(phase, bytes, to),
-            Place::Word(word, taken) => match self.letter(word, taken, bytes[0], to) {
+            JsonPlace::Text(role) => self.string(role, bytes, to),
+            JsonPlace::Number(phase) => self.number(phase, bytes, to),
+            JsonPlace::Word(word, taken) => match self.letter(word, taken, bytes[0], to) {
                 Ok(()) => Ok(1),
                 Err(refusal) => Err(refusal),
             },
@@ -94,7 +94,7 @@ impl Reader {
     fn finish_number<E: EventSink>(&self, phase: Phase, to: &mut E) -> Result<(), SyntaxRefusal>
         requires sound { JsonIsSound self.now }
         requires placed { JsonIsPlaced self.now (E.stands_for to.old) (E.takes to.old) }
-        requires place { self.now.place ≡ Place.Number phase }
+        requires place { self.now.place ≡ JsonPlace.Number phase }
         ensures goes { JsonEndsText self.now (E.stands_for to.old) (E.stands_for to.new) (E.takes to.new) result }
         ensures alike { E.alike to.old to.new }
     {
@@ -116,8 +116,8 @@ impl Reader {
             return false;
         }
         match self.place {
-            Place::Number(phase) => phase.is_whole(),
-            Place::After => true,
+            JsonPlace::Number(phase) => phase.is_whole(),
+            JsonPlace::After => true,
             _ => false,
         }
     }
@@ -130,8 +130,8 @@ impl Reader {
         ensures alike { E.alike to.old to.new }
     {
         match self.place {
-            Place::Number(phase) => self.finish_number(phase, to),
-            Place::After => {
+            JsonPlace::Number(phase) => self.finish_number(phase, to),
+            JsonPlace::After => {
                 if self.lists.depth() > 0 {
                     return Err(SyntaxRefusal::Ended);
                 }

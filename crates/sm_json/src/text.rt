@@ -5,7 +5,7 @@ ghost use Rattle.sm_json.specs.steps.TextSteps.{IsLive, IsPartLive, PartSteps, S
 ghost use Rattle.sm_json.specs.steps.Live.{IsLive-prop};
 
 use crate::escape::{escaped, low_backslash, low_digit, low_letter, unit_digit};
-use crate::spot::{Part, Spot, Step};
+use crate::spot::{CharacterPart, Spot, SpotStep};
 use crate::utf8::{fourth_byte, plain_byte, plain_len, second_byte, third_byte};
 use sm_tree::{NoMemory, Text};
 use std::alloc::Global;
@@ -13,7 +13,7 @@ use std::str::from_utf8_unchecked;
 
 /// How far a string has come with the bytes that were given.
 #[derive(Clone, Copy, PartialEq, Eq, Debug, Drop)]
-pub enum Reading {
+pub enum TextReading {
     /// It has closed: this many bytes, from 1, belong to it, its closing quotation mark included.
     Closed(usize),
     /// It goes on behind the bytes.
@@ -43,7 +43,7 @@ impl From<NoMemory> for TextRefusal {
 
 /// What one byte has made of a string.
 #[derive(Clone, Copy)]
-enum Taken {
+enum TextTaken {
     Open,
     Closed,
     Refused,
@@ -60,24 +60,24 @@ pub struct TextReader {
 }
 
 /// What a byte makes of a place within a character.
-fn part_step(part: Part, byte: u8) -> Step
+fn part_step(part: CharacterPart, byte: u8) -> SpotStep
     requires { IsPartLive part }
     ensures { PartSteps part byte result }
 {
     match part {
-        Part::Escape => escaped(byte),
-        Part::Unit(digits) => unit_digit(digits, byte),
-        Part::LowBackslash(high) => low_backslash(high, byte),
-        Part::LowLetter(high) => low_letter(high, byte),
-        Part::LowUnit(high, digits) => low_digit(high, digits, byte),
-        Part::One(x) => second_byte(x, byte),
-        Part::Two(x, y) => third_byte(x, y, byte),
-        Part::Three(x, y, z) => fourth_byte(x, y, z, byte),
+        CharacterPart::Escape => escaped(byte),
+        CharacterPart::Unit(digits) => unit_digit(digits, byte),
+        CharacterPart::LowBackslash(high) => low_backslash(high, byte),
+        CharacterPart::LowLetter(high) => low_letter(high, byte),
+        CharacterPart::LowUnit(high, digits) => low_digit(high, digits, byte),
+        CharacterPart::One(x) => second_byte(x, byte),
+        CharacterPart::Two(x, y) => third_byte(x, y, byte),
+        CharacterPart::Three(x, y, z) => fourth_byte(x, y, z, byte),
     }
 }
 
 /// What a byte makes of a place within a string.
-fn step(spot: Spot, byte: u8) -> Step
+fn step(spot: Spot, byte: u8) -> SpotStep
     requires { IsLive spot }
     ensures { StringSteps spot byte result }
 {
@@ -124,24 +124,24 @@ impl TextReader {
     }
 
     #[inline(always)]
-    fn take_byte(&mut self, byte: u8) -> Result<Taken, NoMemory>
+    fn take_byte(&mut self, byte: u8) -> Result<TextTaken, NoMemory>
         ensures { StringTakesByte self.old self.new byte result }
     {
         match step(self.spot, byte) {
-            Step::Within(part) => {
+            SpotStep::Within(part) => {
                 self.spot = Spot::Inside(part);
-                Ok(Taken::Open)
+                Ok(TextTaken::Open)
             }
-            Step::Whole(character) => {
+            SpotStep::Whole(character) => {
                 self.text.push(character)?;
                 self.spot = Spot::Plain;
-                Ok(Taken::Open)
+                Ok(TextTaken::Open)
             }
-            Step::Closed => {
+            SpotStep::Closed => {
                 self.spot = Spot::Plain;
-                Ok(Taken::Closed)
+                Ok(TextTaken::Closed)
             }
-            Step::Refused => Ok(Taken::Refused),
+            SpotStep::Refused => Ok(TextTaken::Refused),
         }
     }
 
@@ -153,22 +153,22 @@ impl TextReader {
     ///
     /// `Bad` with the first place whose byte no string goes on with, `NoMemory`.
     #[inline(always)]
-    pub fn read(&mut self, bytes: &[u8]) -> Result<Reading, TextRefusal>
+    pub fn read(&mut self, bytes: &[u8]) -> Result<TextReading, TextRefusal>
         ensures { ReadsString self.old self.new bytes.now result }
     {
         let mut at = self.take_run(bytes)?;
         while at < bytes.len() {
             match self.take_byte(bytes[at])? {
-                Taken::Open => {
+                TextTaken::Open => {
                     at += 1;
                     let run = self.take_run(&bytes[at..])?;
                     at += run;
                 }
-                Taken::Closed => return Ok(Reading::Closed(at + 1)),
-                Taken::Refused => return Err(TextRefusal::Bad(at)),
+                TextTaken::Closed => return Ok(TextReading::Closed(at + 1)),
+                TextTaken::Refused => return Err(TextRefusal::Bad(at)),
             }
         }
-        Ok(Reading::Open)
+        Ok(TextReading::Open)
     }
 
     /// A copy of the text that was read, in memory of exactly its length.

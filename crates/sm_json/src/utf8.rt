@@ -1,14 +1,14 @@
 // Characters in UTF-8 (RFC 3629, section 4): whole ones in a row, and one byte by byte where the bytes at
 // hand end within it.
 ghost use Rattle.std.specs.Prelude.{◌≡◌, ◌+◌, ◌-◌, ◌*◌, ◌^◌, ◌<◌, ◌≤◌, ◌↔◌, IsTrue, [], ◌∷◌, length, take};
-ghost use Rattle.sm_json.specs.declared.spot.Part.TheVariants.{One, Two, Three};
+ghost use Rattle.sm_json.specs.declared.spot.CharacterPart.TheVariants.{One, Two, Three};
 ghost use Rattle.sm_json.specs.declared.spot.Spot.TheVariants.{Plain};
 ghost use Rattle.sm_bytes.specs.Utf8.{IsTail};
 ghost use Rattle.sm_json.specs.steps.TextSteps.{CodeEnd, IsPartLive, StepsTo, PartSteps, StringSteps};
 ghost use Rattle.sm_json.specs.steps.StringRuns.{IsPlainRun};
 
 use crate::ascii_run::{UnescapedAscii, ascii_run_len};
-use crate::spot::{Part, Step};
+use crate::spot::{CharacterPart, SpotStep};
 use sm_bytes::{ByteClass, is_lead, is_second, is_tail};
 
 /// Whether two bytes may stand behind the first two.
@@ -28,50 +28,50 @@ fn with_tail(high: u32, tail: u8) -> u32
 }
 
 /// The end of a character whose number has become whole: none where it is no scalar value.
-pub fn whole(code: u32) -> Step
+pub fn whole(code: u32) -> SpotStep
     ensures { StepsTo (CodeEnd code) result }
 {
     match char::from_u32(code) {
-        Some(character) => Step::Whole(character),
-        None => Step::Refused,
+        Some(character) => SpotStep::Whole(character),
+        None => SpotStep::Refused,
     }
 }
 
 /// A byte behind the first one of a character.
-pub fn second_byte(x: u8, y: u8) -> Step
+pub fn second_byte(x: u8, y: u8) -> SpotStep
     requires { IsPartLive (One x) }
     ensures { PartSteps (One x) y result }
 {
     if is_second(x, y) {
         if x >= 0xE0 {
-            Step::Within(Part::Two(x, y))
+            SpotStep::Within(CharacterPart::Two(x, y))
         } else {
             whole(with_tail(u32::from(x) - 0xC0, y))
         }
     } else {
-        Step::Refused
+        SpotStep::Refused
     }
 }
 
 /// A byte behind the first two of a character.
-pub fn third_byte(x: u8, y: u8, z: u8) -> Step
+pub fn third_byte(x: u8, y: u8, z: u8) -> SpotStep
     requires { IsPartLive (Two x y) }
     ensures { PartSteps (Two x y) z result }
 {
     if is_tail(z) {
         if x >= 0xF0 {
-            Step::Within(Part::Three(x, y, z))
+            SpotStep::Within(CharacterPart::Three(x, y, z))
         } else {
             let two = with_tail(u32::from(x) - 0xE0, y);
             whole(with_tail(two, z))
         }
     } else {
-        Step::Refused
+        SpotStep::Refused
     }
 }
 
 /// A byte behind the first three of a character.
-pub fn fourth_byte(x: u8, y: u8, z: u8, w: u8) -> Step
+pub fn fourth_byte(x: u8, y: u8, z: u8, w: u8) -> SpotStep
     requires { IsPartLive (Three x y z) }
     ensures { PartSteps (Three x y z) w result }
 {
@@ -80,27 +80,27 @@ pub fn fourth_byte(x: u8, y: u8, z: u8, w: u8) -> Step
         let three = with_tail(two, z);
         whole(with_tail(three, w))
     } else {
-        Step::Refused
+        SpotStep::Refused
     }
 }
 
 /// A byte between two characters.
-pub fn plain_byte(byte: u8) -> Step
+pub fn plain_byte(byte: u8) -> SpotStep
     ensures { StringSteps Plain byte result }
 {
     if byte == b'"' {
-        return Step::Closed;
+        return SpotStep::Closed;
     }
     if byte == b'\\' {
-        return Step::Within(Part::Escape);
+        return SpotStep::Within(CharacterPart::Escape);
     }
     if UnescapedAscii::has(byte) {
-        return Step::Whole(byte as char);
+        return SpotStep::Whole(byte as char);
     }
     if is_lead(byte) {
-        return Step::Within(Part::One(byte));
+        return SpotStep::Within(CharacterPart::One(byte));
     }
-    Step::Refused
+    SpotStep::Refused
 }
 
 /// How many bytes at the start are characters of one byte that stand for themselves.

@@ -27,8 +27,8 @@ use Rattle.sm_json.specs.steps.Rest.{Where, value, first_entry, first_key, next_
 use Rattle.sm_json.specs.steps.Rest.{letters, JsonRest, JsonLeads, JsonGoesOn, JsonStops}
 use Rattle.sm_tree.specs.declared.number.Phase.TheVariants.{Start}
 use Rattle.sm_json.specs.declared.spot.Spot.{Spot}
-use Rattle.sm_json.specs.declared.place.Place.{Place}
-use Rattle.sm_json.specs.declared.place.Place.TheVariants.{Value, FirstEntry, FirstKey, NextKey, Colon, After, Word, Number, Text}
+use Rattle.sm_json.specs.declared.place.JsonPlace.{JsonPlace}
+use Rattle.sm_json.specs.declared.place.JsonPlace.TheVariants.{Value, FirstEntry, FirstKey, NextKey, Colon, After, Word, Number, Text}
 use Rattle.sm_json.specs.declared.place.Literal.{Literal}
 use Rattle.sm_json.specs.declared.place.Literal.TheVariants.{Null, True, False}
 use Rattle.sm_json.specs.declared.place.Role.{Role}
@@ -41,7 +41,7 @@ AllWhitespace [] = Unit {0}
 AllWhitespace (c ∷ cs) = (is_whitespace c ≡ true) × AllWhitespace cs
 
 -- where a reader stands that has begun a number or a text with these bytes
-abbrev pub where_of : Place → List ℕ → Spot → List ℕ → Where
+abbrev pub where_of : JsonPlace → List ℕ → Spot → List ℕ → Where
 where_of Value b spot t = value
 where_of FirstEntry b spot t = first_entry
 where_of FirstKey b spot t = first_key
@@ -60,7 +60,7 @@ abbrev pub json_state : Reader → JsonState
 json_state r = record { place = where_of r.place r.number.items r.text.spot (string_so_far r.text); lists = lists_of r }
 
 -- what each place keeps
-abbrev pub PlaceKeeps : Place → List ℕ → List OpenKind → Type 0
+abbrev pub PlaceKeeps : JsonPlace → List ℕ → List OpenKind → Type 0
 PlaceKeeps Value b ks = Unit {0}
 PlaceKeeps FirstEntry b ks = IsIn a_list ks
 PlaceKeeps FirstKey b ks = IsIn an_object ks
@@ -138,7 +138,7 @@ JsonStepsByte before c behind (Err (TooDeep at)) = ⊥
 JsonStepsByte before c behind (Err (KeyKind at)) = ⊥
 
 -- the places where a list and an object may end
-abbrev pub ClosesAt : OpenKind → Place → Type 0
+abbrev pub ClosesAt : OpenKind → JsonPlace → Type 0
 ClosesAt a_list p = (p ≡ FirstEntry) ⊎ (p ≡ After)
 ClosesAt an_object p = (p ≡ FirstKey) ⊎ (p ≡ After)
 
@@ -154,7 +154,7 @@ first_letter True = small_t
 first_letter False = small_f
 
 -- the places where a string of this role may begin
-abbrev pub BeginsString : Role → Place → Type 0
+abbrev pub BeginsString : Role → JsonPlace → Type 0
 BeginsString Key p = p ≡ NextKey
 BeginsString Whole p = p ≡ Value
 
@@ -241,7 +241,7 @@ pub record HandsNumber (reader : Reader) (S T : StandsFor) (takes : Takes) : Typ
   pub takes_all : TakesEvery takes
 
 -- where a reader stands behind a string of this role, and the event of the string
-abbrev pub behind_text : Role → Place
+abbrev pub behind_text : Role → JsonPlace
 behind_text Key = Colon
 behind_text Whole = After
 

@@ -3,10 +3,10 @@ use Rattle.std.specs.Prelude.{◌≡◌, ◌+◌, ◌≤◌, ◌<◌, ℕ, List,
 use Rattle.sm_bytes.specs.declared.no_memory.NoMemory.{NoMemory as OutOfMemory}
 use Rattle.sm_json.specs.declared.spot.Spot.TheVariants.{Plain}
 use Rattle.sm_json.specs.declared.text.TextReader.{TextReader}
-use Rattle.sm_json.specs.declared.text.Reading.{Reading}
-use Rattle.sm_json.specs.declared.text.Reading.TheVariants.{Closed, Open}
-use Rattle.sm_json.specs.declared.text.Taken.{Taken}
-use Rattle.sm_json.specs.declared.text.Taken.TheVariants.{Open as GoesOn, Closed as HasClosed, Refused}
+use Rattle.sm_json.specs.declared.text.TextReading.{TextReading}
+use Rattle.sm_json.specs.declared.text.TextReading.TheVariants.{Closed, Open}
+use Rattle.sm_json.specs.declared.text.TextTaken.{TextTaken}
+use Rattle.sm_json.specs.declared.text.TextTaken.TheVariants.{Open as GoesOn, Closed as HasClosed, Refused}
 use Rattle.sm_json.specs.declared.text.TextRefusal.{TextRefusal}
 use Rattle.sm_json.specs.declared.text.TextRefusal.TheVariants.{Bad, NoMemory}
 use Rattle.sm_json.specs.steps.TextRest.{TextRest}
@@ -36,13 +36,13 @@ abbrev pub StringTakesRun : TextReader → TextReader → List ℕ → Result �
 StringTakesRun old new bs (Ok n) = (n ≤ length bs) × ReadsOn old new (take n bs)
 StringTakesRun old new bs (Err refusal) = Unit {0}
 
-abbrev pub StringTakesByte : TextReader → TextReader → ℕ → Result Taken OutOfMemory → Type 0
+abbrev pub StringTakesByte : TextReader → TextReader → ℕ → Result TextTaken OutOfMemory → Type 0
 StringTakesByte old new x (Ok GoesOn) = ReadsOn old new (x ∷ [])
 StringTakesByte old new x (Ok HasClosed) = ReadsWhole old new (x ∷ [])
 StringTakesByte old new x (Ok Refused) = StringStops old.spot (string_so_far old) (x ∷ []) × ReadsOn old new []
 StringTakesByte old new x (Err refusal) = Unit {0}
 
-abbrev pub ReadsString : TextReader → TextReader → List ℕ → Result Reading TextRefusal → Type 0
+abbrev pub ReadsString : TextReader → TextReader → List ℕ → Result TextReading TextRefusal → Type 0
 ReadsString old new bs (Ok (Closed count)) = (0 < count) × (count ≤ length bs) × ReadsWhole old new (take count bs)
 ReadsString old new bs (Ok Open) = ReadsOn old new bs
 ReadsString old new bs (Err (Bad at)) =

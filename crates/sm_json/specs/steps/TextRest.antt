@@ -2,30 +2,31 @@
 -- form "from this place s spells the rest, and r follows".
 use Rattle.std.specs.Prelude.{◌≡◌, ◌⊎◌, ℕ, List, ◌∷◌, ◌++◌, encode_utf8_all}
 use Rattle.std.specs.Char.{IsScalar, encode_utf8}
-use Rattle.sm_json.specs.declared.spot.Digits.{Digits}
-use Rattle.sm_json.specs.declared.spot.Digits.TheVariants.{First, Second, Third, Fourth}
-use Rattle.sm_json.specs.declared.spot.Part.{Part}
-use Rattle.sm_json.specs.declared.spot.Part.TheVariants.{Escape as BehindBackslash, Unit as InUnit, LowBackslash, LowLetter, LowUnit, One}
-use Rattle.sm_json.specs.declared.spot.Part.TheVariants.{Two, Three}
+use Rattle.sm_json.specs.declared.spot.UnitDigits.{UnitDigits}
+use Rattle.sm_json.specs.declared.spot.UnitDigits.TheVariants.{First, Second, Third, Fourth}
+use Rattle.sm_json.specs.declared.spot.CharacterPart.{CharacterPart}
+use Rattle.sm_json.specs.declared.spot.CharacterPart.TheVariants.{Escape as BehindBackslash, Unit as InUnit, LowBackslash, LowLetter}
+use Rattle.sm_json.specs.declared.spot.CharacterPart.TheVariants.{LowUnit, One}
+use Rattle.sm_json.specs.declared.spot.CharacterPart.TheVariants.{Two, Three}
 use Rattle.sm_json.specs.declared.spot.Spot.{Spot}
 use Rattle.sm_json.specs.declared.spot.Spot.TheVariants.{Plain, Inside}
 use Rattle.sm_bytes.specs.Escapes.{IsHigh, IsLow, joined}
 use Rattle.sm_json.specs.Strings.{IsUnescaped, HexDigits, CodeUnit, LowHalf, Escape, Characters}
 
 -- the digits that are left of a code unit, which make v with those before
-abbrev pub DigitsRest : Digits → ℕ → List ℕ → List ℕ → Type 0
+abbrev pub DigitsRest : UnitDigits → ℕ → List ℕ → List ℕ → Type 0
 DigitsRest First v s r = HexDigits 4 0 v s r
 DigitsRest (Second n) v s r = HexDigits 3 n v s r
 DigitsRest (Third n) v s r = HexDigits 2 n v s r
 DigitsRest (Fourth n) v s r = HexDigits 1 n v s r
 
 -- the rest of an escape \uXXXX that stands for c by itself, or with the escape of a low surrogate behind it
-abbrev pub UnitRest : Digits → ℕ → List ℕ → List ℕ → Type 0
+abbrev pub UnitRest : UnitDigits → ℕ → List ℕ → List ℕ → Type 0
 UnitRest d c s r =
     DigitsRest d c s r ⊎ ((high : ℕ) × (s1 : List ℕ) × DigitsRest d high s s1 × IsHigh high × LowHalf high c s1 r)
 
 -- the rest of the character c
-abbrev pub PartRest : Part → ℕ → List ℕ → List ℕ → Type 0
+abbrev pub PartRest : CharacterPart → ℕ → List ℕ → List ℕ → Type 0
 PartRest BehindBackslash c s r = Escape c s r
 PartRest (InUnit d) c s r = UnitRest d c s r
 PartRest (LowBackslash high) c s r = LowHalf high c s r

@@ -8,8 +8,8 @@ ghost use Rattle.sm_json.specs.steps.Rest.{letters, literal_event};
 ghost use Rattle.sm_json.specs.steps.Machine.{as_syntax};
 
 use super::Reader;
-use crate::place::{Literal, Place, Role};
-use crate::text::{Reading, TextRefusal};
+use crate::place::{JsonPlace, Literal, Role};
+use crate::text::{TextReading, TextRefusal};
 use sm_tree::number::{Phase, Run, number_run, number_tree};
 use sm_tree::{Event, EventSink, NoMemory, SyntaxRefusal, Tree};
 
@@ -52,7 +52,7 @@ impl Reader {
     ) -> Result<(), SyntaxRefusal>
         requires sound { JsonIsSound self.old }
         requires placed { JsonIsPlaced self.old (E.stands_for to.old) (E.takes to.old) }
-        requires place { self.old.place ≡ Place.Word word taken }
+        requires place { self.old.place ≡ JsonPlace.Word word taken }
         requires begun { taken < length (letters word) }
         ensures goes { JsonTakesByte self.old (E.stands_for to.old) byte self.new (E.stands_for to.new) (E.takes to.new) result }
         ensures alike { E.alike to.old to.new }
@@ -63,10 +63,10 @@ impl Reader {
             return Err(SyntaxRefusal::Bad(0));
         }
         if at + 1 < name.len() {
-            self.place = Place::Word(word, taken + 1);
+            self.place = JsonPlace::Word(word, taken + 1);
         } else {
             to.event(word.leaf())?;
-            self.place = Place::After;
+            self.place = JsonPlace::After;
         }
         Ok(())
     }
@@ -74,12 +74,12 @@ impl Reader {
     // Takes the bytes that go on with the number, up to the first that doesn't, and says how many.
     fn grow_number(&mut self, phase: Phase, bytes: &[u8]) -> Result<Run, NoMemory>
         requires sound { JsonIsSound self.old }
-        requires place { self.old.place ≡ Place.Number phase }
+        requires place { self.old.place ≡ JsonPlace.Number phase }
         ensures { IfOk result (λ run. Grows self.old bytes.now run self.new) }
     {
         let run = number_run(phase, bytes);
         self.number.extend_from_slice(&bytes[..run.count])?;
-        self.place = Place::Number(run.phase);
+        self.place = JsonPlace::Number(run.phase);
         Ok(run)
     }
 
@@ -100,7 +100,7 @@ impl Reader {
     pub(super) fn hand_number<E: EventSink>(&self, phase: Phase, to: &mut E) -> Result<(), NoMemory>
         requires sound { JsonIsSound self.now }
         requires placed { JsonIsPlaced self.now (E.stands_for to.old) (E.takes to.old) }
-        requires place { self.now.place ≡ Place.Number phase }
+        requires place { self.now.place ≡ JsonPlace.Number phase }
         requires whole { NumberTail phase [] }
         ensures goes { OnOk result (HandsNumber self.now (E.stands_for to.old) (E.stands_for to.new) (E.takes to.new)) }
         ensures alike { E.alike to.old to.new }
@@ -118,7 +118,7 @@ impl Reader {
     ) -> Result<(), SyntaxRefusal>
         requires sound { JsonIsSound self.old }
         requires placed { JsonIsPlaced self.old (E.stands_for to.old) (E.takes to.old) }
-        requires place { self.old.place ≡ Place.Number phase }
+        requires place { self.old.place ≡ JsonPlace.Number phase }
         requires stops { NumberStops phase byte }
         ensures goes { JsonTakesByte self.old (E.stands_for to.old) byte self.new (E.stands_for to.new) (E.takes to.new) result }
         ensures alike { E.alike to.old to.new }
@@ -130,7 +130,7 @@ impl Reader {
             return Err(SyntaxRefusal::Bad(0));
         }
         self.hand_number(phase, to)?;
-        self.place = Place::After;
+        self.place = JsonPlace::After;
         self.behind(byte, to)
     }
 
@@ -143,7 +143,7 @@ impl Reader {
     ) -> Result<usize, SyntaxRefusal>
         requires sound { JsonIsSound self.old }
         requires placed { JsonIsPlaced self.old (E.stands_for to.old) (E.takes to.old) }
-        requires place { self.old.place ≡ Place.Number phase }
+        requires place { self.old.place ≡ JsonPlace.Number phase }
         requires some { 0 < length bytes.now }
         ensures goes { JsonTakesPrefix self.old (E.stands_for to.old) bytes.now self.new (E.stands_for to.new) (E.takes to.new) result }
         ensures alike { E.alike to.old to.new }
@@ -169,11 +169,11 @@ impl Reader {
         match role {
             Role::Key => {
                 to.event(Event::Key(text))?;
-                self.place = Place::Colon;
+                self.place = JsonPlace::Colon;
             }
             Role::Value => {
                 to.event(Event::Text(text))?;
-                self.place = Place::After;
+                self.place = JsonPlace::After;
             }
         }
         Ok(())
@@ -188,17 +188,17 @@ impl Reader {
     ) -> Result<usize, SyntaxRefusal>
         requires sound { JsonIsSound self.old }
         requires placed { JsonIsPlaced self.old (E.stands_for to.old) (E.takes to.old) }
-        requires place { self.old.place ≡ Place.Text role }
+        requires place { self.old.place ≡ JsonPlace.Text role }
         requires some { 0 < length bytes.now }
         ensures goes { JsonTakesPrefix self.old (E.stands_for to.old) bytes.now self.new (E.stands_for to.new) (E.takes to.new) result }
         ensures alike { E.alike to.old to.new }
     {
         match self.text.read(bytes) {
-            Ok(Reading::Closed(count)) => {
+            Ok(TextReading::Closed(count)) => {
                 self.hand_text(role, to)?;
                 Ok(count)
             }
-            Ok(Reading::Open) => Ok(bytes.len()),
+            Ok(TextReading::Open) => Ok(bytes.len()),
             Err(refusal) => Err(refused(refusal)),
         }
     }

@@ -7,7 +7,7 @@ ghost use Rattle.sm_json.specs.Strings.{is_whitespace};
 ghost use Rattle.sm_tree.specs.NumberTail.{NumberLeads};
 
 use super::Reader;
-use crate::place::{Literal, Place, Role};
+use crate::place::{JsonPlace, Literal, Role};
 use crate::whitespace::Whitespace;
 use sm_bytes::{ByteClass, run_len};
 use sm_tree::number::Phase;
@@ -36,7 +36,7 @@ impl Reader {
     fn open_list<E: EventSink>(&mut self, to: &mut E) -> Result<(), SyntaxRefusal>
         requires sound { JsonIsSound self.old }
         requires placed { JsonIsPlaced self.old (E.stands_for to.old) (E.takes to.old) }
-        requires place { self.old.place ≡ Place.Value }
+        requires place { self.old.place ≡ JsonPlace.Value }
         ensures goes { JsonTakesByte self.old (E.stands_for to.old) left_bracket self.new (E.stands_for to.new) (E.takes to.new) result }
         ensures alike { E.alike to.old to.new }
     {
@@ -45,14 +45,14 @@ impl Reader {
         }
         to.event(Event::StartList(None))?;
         self.lists.enter(OpenKind::List);
-        self.place = Place::FirstEntry;
+        self.place = JsonPlace::FirstEntry;
         Ok(())
     }
 
     fn open_object<E: EventSink>(&mut self, to: &mut E) -> Result<(), SyntaxRefusal>
         requires sound { JsonIsSound self.old }
         requires placed { JsonIsPlaced self.old (E.stands_for to.old) (E.takes to.old) }
-        requires place { self.old.place ≡ Place.Value }
+        requires place { self.old.place ≡ JsonPlace.Value }
         ensures goes { JsonTakesByte self.old (E.stands_for to.old) left_brace self.new (E.stands_for to.new) (E.takes to.new) result }
         ensures alike { E.alike to.old to.new }
     {
@@ -61,7 +61,7 @@ impl Reader {
         }
         to.event(Event::StartObject(None))?;
         self.lists.enter(OpenKind::Object);
-        self.place = Place::FirstKey;
+        self.place = JsonPlace::FirstKey;
         Ok(())
     }
 
@@ -72,7 +72,7 @@ impl Reader {
         ensures { HasClosed self.old self.new }
     {
         self.lists.leave();
-        self.place = Place::After;
+        self.place = JsonPlace::After;
     }
 
     fn close_list<E: EventSink>(&mut self, to: &mut E) -> Result<(), NoMemory>
@@ -102,10 +102,10 @@ impl Reader {
     }
 
     fn begin_word(&mut self, word: Literal)
-        requires place { self.old.place ≡ Place.Value }
+        requires place { self.old.place ≡ JsonPlace.Value }
         ensures { JsonGoes self.old (first_letter word ∷ []) [] self.new }
     {
-        self.place = Place::Word(word, 1);
+        self.place = JsonPlace::Word(word, 1);
     }
 
     fn begin_text(&mut self, role: Role)
@@ -113,18 +113,18 @@ impl Reader {
         ensures { JsonGoes self.old (quote ∷ []) [] self.new }
     {
         self.text.start();
-        self.place = Place::Text(role);
+        self.place = JsonPlace::Text(role);
     }
 
     fn begin_number(&mut self, byte: u8, phase: Phase) -> Result<(), NoMemory>
-        requires place { self.old.place ≡ Place.Value }
+        requires place { self.old.place ≡ JsonPlace.Value }
         requires black { is_whitespace byte ≡ false }
         requires begins { NumberLeads Phase.Start (byte ∷ []) phase }
         ensures { OnOk result (JsonGoes self.old (byte ∷ []) [] self.new) }
     {
         self.number.clear();
         self.number.push(byte)?;
-        self.place = Place::Number(phase);
+        self.place = JsonPlace::Number(phase);
         Ok(())
     }
 
@@ -133,7 +133,7 @@ impl Reader {
     fn value<E: EventSink>(&mut self, byte: u8, to: &mut E) -> Result<(), SyntaxRefusal>
         requires sound { JsonIsSound self.old }
         requires placed { JsonIsPlaced self.old (E.stands_for to.old) (E.takes to.old) }
-        requires place { self.old.place ≡ Place.Value }
+        requires place { self.old.place ≡ JsonPlace.Value }
         requires black { is_whitespace byte ≡ false }
         ensures goes { JsonTakesByte self.old (E.stands_for to.old) byte self.new (E.stands_for to.new) (E.takes to.new) result }
         ensures alike { E.alike to.old to.new }
@@ -170,7 +170,7 @@ impl Reader {
     fn first_entry<E: EventSink>(&mut self, byte: u8, to: &mut E) -> Result<(), SyntaxRefusal>
         requires sound { JsonIsSound self.old }
         requires placed { JsonIsPlaced self.old (E.stands_for to.old) (E.takes to.old) }
-        requires place { self.old.place ≡ Place.FirstEntry }
+        requires place { self.old.place ≡ JsonPlace.FirstEntry }
         requires black { is_whitespace byte ≡ false }
         ensures goes { JsonTakesByte self.old (E.stands_for to.old) byte self.new (E.stands_for to.new) (E.takes to.new) result }
         ensures alike { E.alike to.old to.new }
@@ -179,13 +179,13 @@ impl Reader {
             self.close_list(to)?;
             Ok(())
         } else {
-            self.place = Place::Value;
+            self.place = JsonPlace::Value;
             self.value(byte, to)
         }
     }
 
     fn next_key(&mut self, byte: u8) -> Result<(), SyntaxRefusal>
-        requires place { self.old.place ≡ Place.NextKey }
+        requires place { self.old.place ≡ JsonPlace.NextKey }
         requires black { is_whitespace byte ≡ false }
         ensures { JsonStepsByte self.old byte self.new result }
     {
@@ -200,7 +200,7 @@ impl Reader {
     fn first_key<E: EventSink>(&mut self, byte: u8, to: &mut E) -> Result<(), SyntaxRefusal>
         requires sound { JsonIsSound self.old }
         requires placed { JsonIsPlaced self.old (E.stands_for to.old) (E.takes to.old) }
-        requires place { self.old.place ≡ Place.FirstKey }
+        requires place { self.old.place ≡ JsonPlace.FirstKey }
         requires black { is_whitespace byte ≡ false }
         ensures goes { JsonTakesByte self.old (E.stands_for to.old) byte self.new (E.stands_for to.new) (E.takes to.new) result }
         ensures alike { E.alike to.old to.new }
@@ -209,18 +209,18 @@ impl Reader {
             self.close_object(to)?;
             Ok(())
         } else {
-            self.place = Place::NextKey;
+            self.place = JsonPlace::NextKey;
             self.next_key(byte)
         }
     }
 
     fn colon(&mut self, byte: u8) -> Result<(), SyntaxRefusal>
-        requires place { self.old.place ≡ Place.Colon }
+        requires place { self.old.place ≡ JsonPlace.Colon }
         requires black { is_whitespace byte ≡ false }
         ensures { JsonStepsByte self.old byte self.new result }
     {
         if byte == b':' {
-            self.place = Place::Value;
+            self.place = JsonPlace::Value;
             Ok(())
         } else {
             Err(SyntaxRefusal::Bad(0))
@@ -231,14 +231,14 @@ impl Reader {
     fn after_entry<E: EventSink>(&mut self, byte: u8, to: &mut E) -> Result<(), SyntaxRefusal>
         requires sound { JsonIsSound self.old }
         requires placed { JsonIsPlaced self.old (E.stands_for to.old) (E.takes to.old) }
-        requires place { self.old.place ≡ Place.After }
+        requires place { self.old.place ≡ JsonPlace.After }
         requires inside { IsIn OpenKind.List (lists_of self.old) }
         requires black { is_whitespace byte ≡ false }
         ensures goes { JsonTakesByte self.old (E.stands_for to.old) byte self.new (E.stands_for to.new) (E.takes to.new) result }
         ensures alike { E.alike to.old to.new }
     {
         if byte == b',' {
-            self.place = Place::Value;
+            self.place = JsonPlace::Value;
             Ok(())
         } else if byte == b']' {
             self.close_list(to)?;
@@ -252,14 +252,14 @@ impl Reader {
     fn after_pair<E: EventSink>(&mut self, byte: u8, to: &mut E) -> Result<(), SyntaxRefusal>
         requires sound { JsonIsSound self.old }
         requires placed { JsonIsPlaced self.old (E.stands_for to.old) (E.takes to.old) }
-        requires place { self.old.place ≡ Place.After }
+        requires place { self.old.place ≡ JsonPlace.After }
         requires inside { IsIn OpenKind.Object (lists_of self.old) }
         requires black { is_whitespace byte ≡ false }
         ensures goes { JsonTakesByte self.old (E.stands_for to.old) byte self.new (E.stands_for to.new) (E.takes to.new) result }
         ensures alike { E.alike to.old to.new }
     {
         if byte == b',' {
-            self.place = Place::NextKey;
+            self.place = JsonPlace::NextKey;
             Ok(())
         } else if byte == b'}' {
             self.close_object(to)?;
@@ -274,7 +274,7 @@ impl Reader {
     fn after<E: EventSink>(&mut self, byte: u8, to: &mut E) -> Result<(), SyntaxRefusal>
         requires sound { JsonIsSound self.old }
         requires placed { JsonIsPlaced self.old (E.stands_for to.old) (E.takes to.old) }
-        requires place { self.old.place ≡ Place.After }
+        requires place { self.old.place ≡ JsonPlace.After }
         requires black { is_whitespace byte ≡ false }
         ensures goes { JsonTakesByte self.old (E.stands_for to.old) byte self.new (E.stands_for to.new) (E.takes to.new) result }
         ensures alike { E.alike to.old to.new }
@@ -290,7 +290,7 @@ impl Reader {
     pub(super) fn behind<E: EventSink>(&mut self, byte: u8, to: &mut E) -> Result<(), SyntaxRefusal>
         requires sound { JsonIsSound self.old }
         requires placed { JsonIsPlaced self.old (E.stands_for to.old) (E.takes to.old) }
-        requires place { self.old.place ≡ Place.After }
+        requires place { self.old.place ≡ JsonPlace.After }
         ensures goes { JsonTakesByte self.old (E.stands_for to.old) byte self.new (E.stands_for to.new) (E.takes to.new) result }
         ensures alike { E.alike to.old to.new }
     {
@@ -326,13 +326,13 @@ impl Reader {
         ensures alike { E.alike to.old to.new }
     {
         match self.place {
-            Place::Value => self.value(byte, to),
-            Place::FirstEntry => self.first_entry(byte, to),
-            Place::FirstKey => self.first_key(byte, to),
-            Place::NextKey => self.next_key(byte),
-            Place::Colon => self.colon(byte),
-            Place::After => self.after(byte, to),
-            Place::Word(_, _) | Place::Number(_) | Place::Text(_) => unreachable!(),
+            JsonPlace::Value => self.value(byte, to),
+            JsonPlace::FirstEntry => self.first_entry(byte, to),
+            JsonPlace::FirstKey => self.first_key(byte, to),
+            JsonPlace::NextKey => self.next_key(byte),
+            JsonPlace::Colon => self.colon(byte),
+            JsonPlace::After => self.after(byte, to),
+            JsonPlace::Word(_, _) | JsonPlace::Number(_) | JsonPlace::Text(_) => unreachable!(),
         }
     }
 

@@ -1,7 +1,5 @@
 -- The run goes on through a vector of its bytes, ends at the first other byte of one, or goes on by single bytes.
 use Rattle.std.proofs.Common.{sym, ap, ◌∙◌, arith}
-use Rattle.std.specs.List.{prefix_len}
-use Rattle.std.proofs.lemmas.List.{take_rest}
 use lib.Count.{count_trailing_zeros}
 use Rattle.sm_json.specs.steps.StringRuns.{is_unescaped_ascii}
 use Rattle.sm_json.proofs.LaneRuns.{run_within, run_through, run_stops}

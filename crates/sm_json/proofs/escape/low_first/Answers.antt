@@ -1,6 +1,6 @@
 -- Only 0xD begins a low surrogate.
 use Rattle.std.proofs.Common.{arith}
-use Rattle.sm_json.specs.declared.spot.Digits.TheVariants.{Second}
+use Rattle.sm_json.specs.declared.spot.UnitDigits.TheVariants.{Second}
 use Rattle.sm_json.proofs.Escapes.{low_refused}
 use Rattle.sm_json.proofs.escape.low_first.Goals as goal
 

@@ -1,9 +1,9 @@
 -- Each kind of byte between two characters.
 use Rattle.std.proofs.Common.{sym, ◌∙◌, subst}
 use Rattle.std.proofs.lemmas.Bool.{false≢true}
-use Rattle.sm_json.specs.declared.spot.Part.TheVariants.{Escape as BehindBackslash}
+use Rattle.sm_json.specs.declared.spot.CharacterPart.TheVariants.{Escape as BehindBackslash}
 use Rattle.sm_json.specs.declared.spot.Spot.TheVariants.{Plain}
-use Rattle.sm_json.specs.declared.spot.Step.TheVariants.{Within, Closed}
+use Rattle.sm_json.specs.declared.spot.SpotStep.TheVariants.{Within, Closed}
 use Rattle.sm_json.specs.steps.TextSteps.{StringSteps}
 use Rattle.sm_json.proofs.Utf8Parts.{quote_closes, backslash_taken, ascii_whole, lead_taken, plain_refused}
 use Rattle.sm_json.proofs.Utf8Tests.{ascii_said, ascii_told, lead_said, lead_told}

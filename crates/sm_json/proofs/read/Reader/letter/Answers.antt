@@ -1,7 +1,7 @@
 use Rattle.std.proofs.Common.{refl, ap, sym, subst, ◌∙◌, arith, length, get_or, [], ◌∷◌}
 use Rattle.sm_tree.specs.Streams.{MayTake, TakesOn}
 use Rattle.sm_json.specs.steps.Rest.{literal_event}
-use Rattle.sm_json.specs.declared.place.Place.TheVariants.{After}
+use Rattle.sm_json.specs.declared.place.JsonPlace.TheVariants.{After}
 use Rattle.sm_json.proofs.Turns.{letter_halts, keeps, letter_goes, word_over, event_may_come, feeds_event, feeds_nothing}
 use Rattle.sm_json.proofs.read.Reader.letter.Goals as goal
 
