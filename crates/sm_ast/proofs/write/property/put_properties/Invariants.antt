@@ -11,4 +11,4 @@ abbrev pub invariant-loop-field : goal.invariant-loop-field
 invariant-loop-field l =
     members_view l.fields.items
     ++ written_properties (fields_view (drop l.field-index l.wanted)) (members_of (members_view l.pairs))
-    ≡ members_view l.fn.fields.items ++ written_properties (property_forms l.kind) (pairs_said (node_of l.body))
+    ≡ members_view l.fn.fields.items ++ written_properties (property_forms l.fn.kind) (pairs_said (node_of l.fn.body))
