@@ -23,9 +23,9 @@ use std::alloc::Global;
 pub struct Sides {
     /// Inputs of operations with `http`.
     pub inputs: Vec<bool>,
-    /// Their outputs.
+    /// Outputs of operations with `http`.
     pub outputs: Vec<bool>,
-    /// Their errors, and those of services whose closure has such an operation.
+    /// Errors of operations with `http`, and of services whose closure has such an operation.
     pub errors: Vec<bool>,
 }
 
@@ -42,7 +42,7 @@ impl NumberTest for HttpOperations {
 }
 
 impl Sides {
-    /// Those of a graph, by its ways. Each link is looked at a few times.
+    /// The shapes on each side in a graph, by its ways. Each link is looked at a few times.
     pub fn new(alloc: Global, graph: &Graph, ways: &Ways) -> Result<Self, NoMemory>
         requires { AreWays graph.now ways.now }
         ensures { IfOk result (λ sides. AreSides graph.now sides) }

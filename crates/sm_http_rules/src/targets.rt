@@ -13,11 +13,11 @@ use sm_passes::rows::kinds::is_kind;
 /// Some types of shapes.
 #[derive(Debug, Clone, Copy, PartialEq, Eq, Drop)]
 pub enum Wanted {
-    /// Those of values that one text of a message spells.
+    /// Types whose values one text of a message spells.
     Spelled,
     /// Strings.
     Text,
-    /// Those of payloads.
+    /// Types of payloads.
     Payload,
     /// Integers.
     Integer,

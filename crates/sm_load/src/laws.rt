@@ -8,7 +8,7 @@ pub fn one_list_of_rule_events()
     ensures { OneListOfRuleEvents }
 {}
 
-/// And it can't be that it has none.
+/// It can't be that a graph has no list of events.
 pub fn some_rule_events()
     ensures { SomeRuleEvents }
 {}

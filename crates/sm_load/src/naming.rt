@@ -34,7 +34,7 @@ fn ends_word(rest: &[u8]) -> bool
     }
 }
 
-/// The same of a text that may be there.
+/// Whether a text that may be there names an event.
 pub(crate) fn text_names(event: &str, named: Option<&str>) -> bool
     ensures { result ≡ text_names event.now (option_copied named.entry) }
 {

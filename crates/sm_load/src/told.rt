@@ -44,7 +44,7 @@ pub fn events(alloc: Global, graph: &Graph) -> Result<Vec<ModelEvent>, NoMemory>
     Ok(told.into_inner())
 }
 
-/// The same as one value.
+/// The events of a graph as one value.
 pub(crate) fn told_events(alloc: Global, graph: &Graph) -> Result<ModelEvents, NoMemory>
     ensures { IfOk result (λ es. AreModelEvents (maps_of graph.now) es) }
 {

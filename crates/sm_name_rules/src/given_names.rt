@@ -17,7 +17,7 @@ use sm_passes::numbers::rising;
 use sm_tree::{NoMemory, Text, Tree};
 use std::alloc::Global;
 
-/// These numbers, rising, where these pairs are in `rename`. n log n in the twins and the pairs, beside the look-up of each id.
+/// The numbers whose names may be told at a service, rising, where these pairs are in `rename`. n log n in the twins and the pairs, beside the look-up of each id.
 pub(crate) fn numbers_alike(
     alloc: Global,
     graph: &Graph,

@@ -23,7 +23,7 @@ pub(crate) struct NamesInside<'a, 'b> {
     firsts: &'a BTreeMap<&'b str, u32>,
     /// The closure, as marks.
     inside: &'a [bool],
-    /// Of a name whose first number isn't inside, one that is, under that first number.
+    /// One number inside of each name whose first number isn't, under that first number.
     ones: BTreeMap<u32, u32>,
     /// The numbers inside whose names others inside have.
     twins: Vec<u32>,

@@ -56,7 +56,7 @@ pub(crate) fn named_rows<'a>(
     Ok(rows)
 }
 
-/// Those among these numbers, which rise.
+/// The shapes among these rising numbers whose names count, under their names in small letters.
 pub(crate) fn rows_among<'a>(
     alloc: Global,
     graph: &'a Graph,

@@ -18,7 +18,7 @@ pub fn numbers_of<T>(alloc: Global, rows: &[(T, u32)]) -> Result<Vec<u32>, NoMem
     Ok(numbers)
 }
 
-/// The same numbers, rising, each once. n log n.
+/// Numbers in rising order, each once. n log n.
 pub fn rising(numbers: Vec<u32>) -> Vec<u32>
     ensures rise { IsStrictlyIncreasing result.items }
     ensures same { (k : ℕ) → Contains numbers.items k ↔ Contains result.items k }

@@ -9,47 +9,47 @@ use sm_model::Severity;
 /// A rule of models.
 #[derive(Debug, Clone, Copy, PartialEq, Eq, Drop)]
 pub enum Rule {
-    /// Ids differ, not by case alone.
+    /// Ids of shapes differ, not by case alone.
     IdCase,
-    /// So do the names of a shape's members.
+    /// Names of members of a shape differ, not by case alone.
     MemberCase,
     /// References name shapes.
     TargetMissing,
-    /// And those of a type that may stand there.
+    /// What is referred to is of a type that may stand there.
     TargetKind,
     /// Traits are known.
     TraitUnknown,
-    /// Their values are right.
+    /// Values of traits are right.
     TraitValue,
-    /// They stand where they may.
+    /// Traits stand where they may.
     TraitPlace,
-    /// None excludes another.
+    /// No trait stands beside one that excludes it.
     TraitConflict,
-    /// Some stand at one member of a structure.
+    /// Some traits stand at one member of a structure at most.
     TraitSingle,
-    /// There are finite values.
+    /// Structures and unions have finite values.
     ShapeInfinite,
-    /// Enums have members, and these have values.
+    /// Enums have members with values.
     EnumValues,
-    /// Defaults are values.
+    /// Defaults are values of their targets.
     DefaultValue,
-    /// Bounds are in order.
+    /// Bounds of lengths and numbers are in order.
     ConstraintBounds,
     /// Names in a service's closure differ.
     ServiceNames,
-    /// Patterns of URIs.
+    /// Operations have patterns of URIs.
     HttpUri,
-    /// Their labels, and the members bound to them.
+    /// Labels of patterns and members that are bound to labels go together.
     HttpLabels,
-    /// What is bound to a part of a message.
+    /// What is bound to a part of a message can be written there.
     HttpTarget,
     /// Names of members in messages differ.
     WireNames,
     /// Operations of a service differ in method or pattern.
     HttpRoutes,
-    /// Status codes.
+    /// Status codes are those that may stand there.
     HttpCode,
-    /// Methods that are routed.
+    /// Methods are routed.
     HttpMethod,
     /// Shapes are used by a service.
     ShapeUnused,

@@ -19,9 +19,9 @@ use std::collections::BTreeSet;
 /// The value of a member of an enum.
 #[derive(Debug, Clone, Copy, Drop)]
 pub enum EnumValue<'a> {
-    /// Of an enum.
+    /// That of a member of an enum.
     Text(&'a str),
-    /// Of an intEnum.
+    /// That of a member of an intEnum.
     Number(i64),
 }
 

@@ -20,7 +20,7 @@ pub struct ValueMarks {
 }
 
 impl ValueMarks {
-    /// Those of a graph, by its ways. n log n.
+    /// The marks of a graph, by its ways. n log n.
     pub fn new(alloc: Global, graph: &Graph, ways: &Ways) -> Result<Self, NoMemory>
         requires { AreWays graph.now ways.now }
         ensures { IfOk result (λ marks. AreValueMarks graph.now marks) }

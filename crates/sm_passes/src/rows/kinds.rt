@@ -32,17 +32,17 @@ pub enum Types {
     Authorized,
     /// Operations and structures.
     Answering,
-    /// Those that may be the shapes of traits.
+    /// Types of shapes that may define a trait.
     Trait,
-    /// Those of values that may be defaults.
+    /// Types whose values may be defaults.
     Defaulted,
-    /// Those whose values have a length.
+    /// Types whose values have a length.
     Sized,
-    /// Those of whole numbers of 64 bits at most.
+    /// Types of whole numbers of 64 bits at most.
     Whole,
-    /// Those of other numbers.
+    /// Types of numbers of any size, and of numbers with fractions.
     Fraction,
-    /// Those of texts.
+    /// Types of texts.
     Text,
     /// Strings and blobs.
     Media,
