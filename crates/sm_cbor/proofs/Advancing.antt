@@ -32,8 +32,8 @@ use Rattle.sm_cbor.specs.declared.place.Subject.TheVariants.{Tag as TagHead, Opa
 use Rattle.sm_cbor.specs.declared.place.Level.{Level}
 use Rattle.sm_cbor.specs.declared.place.Level.TheVariants.{Tag, List as AList, ListToBreak as AListToBreak, Map as AMap}
 use Rattle.sm_cbor.specs.declared.place.Level.TheVariants.{MapToBreak as AMapToBreak}
-use Rattle.sm_cbor.specs.declared.place.Place.{Place}
-use Rattle.sm_cbor.specs.declared.place.Place.TheVariants.{Item, Key, After, Argument as InArgument, String, Chunks}
+use Rattle.sm_cbor.specs.declared.place.CborPlace.{CborPlace}
+use Rattle.sm_cbor.specs.declared.place.CborPlace.TheVariants.{Item, Key, After, Argument as InArgument, String, Chunks}
 use Rattle.sm_cbor.proofs.Arguments.{argument_starts, number_byte}
 use Rattle.sm_cbor.proofs.Items.{at, HeadComes, initial_byte, argument_leads, chunks_lead, list_leads, map_leads, null_leads, bool_leads}
 use Rattle.sm_cbor.proofs.Items.{item_stops}
@@ -49,7 +49,7 @@ use Rattle.sm_cbor.proofs.Completing.{complete_leads}
 use Rattle.sm_cbor.proofs.Timings.{times_texts}
 
 -- byte strings are between two characters always
-abbrev IsSettled : Place → Type 0
+abbrev IsSettled : CborPlace → Type 0
 IsSettled Item = Unit {0}
 IsSettled Key = Unit {0}
 IsSettled After = Unit {0}
@@ -305,7 +305,7 @@ chunks_advance limit c kind t ls s es (u ∷ us, r, (s2, (s1, head, e, are), chu
     (chunk_leads plain limit c k v kind t ls head.0 starts) (u ∷ us, r, (s2, (s1, head, e, are), chunks), more)
     (λ fs g. argument_begins_on limit (StringHead kind Chunk) k v t ls s fs g)
 
-advances : (limit c : ℕ) (p : Place) (t : List ℕ) (ls : List Level) (s : List ℕ) (es : List TimedEvent) → StandsBetween (at p t ls)
+advances : (limit c : ℕ) (p : CborPlace) (t : List ℕ) (ls : List Level) (s : List ℕ) (es : List TimedEvent) → StandsBetween (at p t ls)
     → CborRest plain limit (at p t ls) (c ∷ s) es → Advances limit (at p t ls) (c ∷ [])
 advances limit c Item t ls s es stands h = item_advances limit c t ls s es h
 advances limit c Key t ls s es stands h = let (u, s1, fs, text, item, e) = h in key_advances limit c t ls s es u s1 text h

@@ -15,8 +15,8 @@ use Rattle.sm_cbor.specs.steps.Machine.{IsFirstLevel}
 use Rattle.sm_tree.specs.Nested.{innermost_of}
 use Rattle.sm_cbor.specs.declared.place.Level.{Level}
 use Rattle.sm_cbor.specs.declared.place.Level.TheVariants.{ListToBreak as AListToBreak, MapToBreak as AMapToBreak}
-use Rattle.sm_cbor.specs.declared.place.Place.{Place}
-use Rattle.sm_cbor.specs.declared.place.Place.TheVariants.{Item, Key, After}
+use Rattle.sm_cbor.specs.declared.place.CborPlace.{CborPlace}
+use Rattle.sm_cbor.specs.declared.place.CborPlace.TheVariants.{Item, Key, After}
 use Rattle.sm_cbor.specs.declared.read.Reader.{Reader}
 use Rattle.sm_cbor.proofs.Items.{at}
 use Rattle.sm_cbor.proofs.LevelSteps.{entry_goes_on, pair_goes_on, only_entry, only_pair, done_stops, entry_comes, pair_comes}
@@ -132,15 +132,15 @@ pair_other t c ls other h =
       other = h.other;
     }
 
-abbrev ToAfter : (CborState → ℕ → Type 0) → Place → Level → Type 0
+abbrev ToAfter : (CborState → ℕ → Type 0) → CborPlace → Level → Type 0
 ToAfter P p l = (t : List ℕ) (c : ℕ) (ls : List Level) → c ≢ 0xFF → P (at p t (l ∷ ls)) c → P (at After t (l ∷ ls)) c
 
-as_after : (P : CborState → ℕ → Type 0) (r : Reader) (p : Place) (l : Level) (ls : List Level) (c : ℕ) → levels_of r ≡ l ∷ ls
+as_after : (P : CborState → ℕ → Type 0) (r : Reader) (p : CborPlace) (l : Level) (ls : List Level) (c : ℕ) → levels_of r ≡ l ∷ ls
     → ToAfter P p l → c ≢ 0xFF → P (cbor_state_at r p) c → P (cbor_state_at r After) c
 as_after P r p l ls c e to other h = subst (λ ks. P (at p r.held.items ks) c → P (at After r.held.items ks) c) (sym e)
     (to r.held.items c ls other) h
 
-leads_after : (w : Keys) (limit c : ℕ) (r : Reader) (p : Place) (l : Level) (ls : List Level) (out : List NodeEvent) (x : CborState)
+leads_after : (w : Keys) (limit c : ℕ) (r : Reader) (p : CborPlace) (l : Level) (ls : List Level) (out : List NodeEvent) (x : CborState)
     → levels_of r ≡ l ∷ ls
     → (CborLeads w limit (at p r.held.items (l ∷ ls)) (c ∷ []) out x → CborLeads w limit (at After r.held.items (l ∷ ls)) (c ∷ []) out x)
     → CborLeads w limit (cbor_state_at r p) (c ∷ []) out x → CborLeads w limit (cbor_state_at r After) (c ∷ []) out x

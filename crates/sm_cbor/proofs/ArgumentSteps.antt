@@ -15,7 +15,7 @@ use Rattle.sm_cbor.specs.declared.place.Subject.TheVariants.{Unsigned, Negative,
 use Rattle.sm_cbor.specs.declared.place.Subject.TheVariants.{Tag as TagHead, Opaque}
 use Rattle.sm_cbor.specs.declared.place.Level.{Level}
 use Rattle.sm_cbor.specs.declared.place.Level.TheVariants.{Tag, List as AList, Map as AMap}
-use Rattle.sm_cbor.specs.declared.place.Place.TheVariants.{Item, After, Argument as InArgument, String}
+use Rattle.sm_cbor.specs.declared.place.CborPlace.TheVariants.{Item, After, Argument as InArgument, String}
 use Rattle.sm_cbor.proofs.Arguments.{number_byte, number_more, number_owed}
 use Rattle.sm_cbor.proofs.Items.{at}
 use Rattle.sm_cbor.proofs.Readings.{leads_silent, leads_one}

@@ -25,8 +25,8 @@ use Rattle.sm_cbor.specs.declared.place.Subject.TheVariants.{Unsigned, Negative,
 use Rattle.sm_cbor.specs.declared.place.Subject.TheVariants.{Tag as TagHead, Opaque}
 use Rattle.sm_cbor.specs.declared.place.Level.{Level}
 use Rattle.sm_cbor.specs.declared.place.Level.TheVariants.{Tag, List as AList, Map as AMap}
-use Rattle.sm_cbor.specs.declared.place.Place.{Place}
-use Rattle.sm_cbor.specs.declared.place.Place.TheVariants.{Item, After, Argument as InArgument, String, Chunks}
+use Rattle.sm_cbor.specs.declared.place.CborPlace.{CborPlace}
+use Rattle.sm_cbor.specs.declared.place.CborPlace.TheVariants.{Item, After, Argument as InArgument, String, Chunks}
 use Rattle.sm_cbor.specs.declared.read.Reader.{Reader}
 use Rattle.sm_cbor.proofs.Items.{at}
 use Rattle.sm_cbor.proofs.StringSteps.{bytes_prefix, ends_nil, bytes_end, text_end, key_end, chunk_end, ends_are}
@@ -36,7 +36,7 @@ use Rattle.sm_cbor.proofs.Reaching.{may_take, reached_by, owed_by, owed_may, owe
 use Rattle.sm_cbor.proofs.Settling.{can_after}
 
 -- behind an item, whatever it was
-pub item_after : (r : Reader) (p : Place) → IsAt r p → IsAt r After
+pub item_after : (r : Reader) (p : CborPlace) → IsAt r p → IsAt r After
 item_after r p there = record { room = let room = there.room in omega arith; keeps = tt }
 
 -- its event was taken, and what ends with it has ended

@@ -28,8 +28,8 @@ use Rattle.sm_cbor.specs.declared.place.Subject.TheVariants.{Tag as TagHead, Opa
 use Rattle.sm_cbor.specs.declared.place.Level.{Level}
 use Rattle.sm_cbor.specs.declared.place.Level.TheVariants.{Tag, List as AList, ListToBreak as AListToBreak, Map as AMap}
 use Rattle.sm_cbor.specs.declared.place.Level.TheVariants.{MapToBreak as AMapToBreak}
-use Rattle.sm_cbor.specs.declared.place.Place.{Place}
-use Rattle.sm_cbor.specs.declared.place.Place.TheVariants.{Item, Key, After, Argument as InArgument, String, Chunks}
+use Rattle.sm_cbor.specs.declared.place.CborPlace.{CborPlace}
+use Rattle.sm_cbor.specs.declared.place.CborPlace.TheVariants.{Item, Key, After, Argument as InArgument, String, Chunks}
 use Rattle.sm_cbor.specs.steps.Machine.{opens, ArgumentLives, Lives}
 use Rattle.sm_cbor.proofs.Timings.{counted_timed, counted_pairs_timed}
 
@@ -220,7 +220,7 @@ argument_can w limit TagHead k v t ls room lives = flat_can w limit TagHead k v 
 argument_can w limit (Opaque b) k v t ls room lives = opaque_can w limit b k v t ls room lives
 
 -- so something may come at each place that lives
-pub goes_on : (w : Keys) (limit : ℕ) (p : Place) (t : List ℕ) (ls : List Level) → length ls + opens p ≤ limit → Lives p
+pub goes_on : (w : Keys) (limit : ℕ) (p : CborPlace) (t : List ℕ) (ls : List Level) → length ls + opens p ≤ limit → Lives p
     → Can (CborRestAt w limit p t ls)
 goes_on w limit Item t ls room lives = item_can w limit ls (omega arith)
 goes_on w limit Key t ls room lives = key_can w limit ls (omega arith)

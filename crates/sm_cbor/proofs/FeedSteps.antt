@@ -24,8 +24,8 @@ use Rattle.sm_cbor.specs.steps.Machine.{CborTakesPrefix, CborTakesAll, RefusesAt
 use Rattle.sm_cbor.specs.declared.place.Level.{Level}
 use Rattle.sm_cbor.specs.declared.place.Level.TheVariants.{Tag, List as AList, ListToBreak as AListToBreak, Map as AMap}
 use Rattle.sm_cbor.specs.declared.place.Level.TheVariants.{MapToBreak as AMapToBreak}
-use Rattle.sm_cbor.specs.declared.place.Place.{Place}
-use Rattle.sm_cbor.specs.declared.place.Place.TheVariants.{Item, Key, After, Argument as InArgument, String, Chunks}
+use Rattle.sm_cbor.specs.declared.place.CborPlace.{CborPlace}
+use Rattle.sm_cbor.specs.declared.place.CborPlace.TheVariants.{Item, Key, After, Argument as InArgument, String, Chunks}
 use Rattle.sm_cbor.specs.declared.read.Reader.{Reader}
 use Rattle.sm_cbor.proofs.ArgumentSteps.{argument_owed}
 use Rattle.sm_cbor.proofs.StringSteps.{string_owed, chunks_owed}
@@ -157,7 +157,8 @@ after_owed w limit (AListToBreak ∷ ls) es open_to some h = entry_owed w limit 
 after_owed w limit (AMap n ∷ ls) es open_to some h = open_to
 after_owed w limit (AMapToBreak ∷ ls) es open_to some h = pair_owed w limit ls es h
 
-owed_at : (w : Keys) (limit : ℕ) (p : Place) (t : List ℕ) (ls : List Level) (es : List TimedEvent) → Begun p ls → (p ≡ After → ls ≡ [] → ⊥)
+owed_at : (w : Keys) (limit : ℕ) (p : CborPlace) (t : List ℕ) (ls : List Level) (es : List TimedEvent) → Begun p ls
+    → (p ≡ After → ls ≡ [] → ⊥)
     → CborRestAt w limit p t ls [] es → ⊥
 owed_at w limit Item t ls es begun some (n, r, fs, h, room, en) = item_owed w n r (timed_item (key_of w) n [] r es fs h)
 owed_at w limit Key t ls es begun some h = key_owed w limit ls es h

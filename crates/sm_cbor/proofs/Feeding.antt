@@ -29,7 +29,7 @@ use Rattle.sm_cbor.specs.steps.Marks.{plain}
 use Rattle.sm_cbor.specs.steps.Rest.{CborLeads, first_state}
 use Rattle.sm_cbor.specs.steps.Sinks.{Reached}
 use Rattle.sm_cbor.specs.steps.Machine.{cbor_state_of, levels_of, IsSoundReader, CborGoes, CborTakesAll, RefusesAt, IsPlaceOf}
-use Rattle.sm_cbor.specs.declared.place.Place.TheVariants.{After}
+use Rattle.sm_cbor.specs.declared.place.CborPlace.TheVariants.{After}
 use Rattle.sm_cbor.specs.declared.read.Reader.{Reader}
 use Rattle.sm_cbor.specs.declared.pieces.CborReader.{CborReader}
 use Rattle.sm_cbor.proofs.Readings.{leads_none, leads_joined}
@@ -215,6 +215,11 @@ pub reading_on : (b d : Building) (r q : CborReader) (bs piece : List ℕ) → R
 reading_on b d r q bs piece (fresh, stands, follows) feeds =
     let (still, on) = feeds fresh in let (there, next) = on bs stands in (still, there, next follows)
 
+-- the first piece of two is taken, and then the second
+pub first_taken : (b d : Building) (r q : CborReader) (bytes : List ℕ) (n : ℕ) → r.refused ≡ None → CborStands r [] → so_far b ≡ []
+    → (r.refused ≡ None → CborFeeds (built b) r (take n bytes) (built d) q (Ok tt)) → Reading q d (take n bytes)
+first_taken b d r q bytes n fresh stands nothing feeds = reading_on b d r q [] (take n bytes) (reading_first r b fresh stands nothing) feeds
+
 -- a refusal of what came so far is one of all the bytes
 pub reading_refused : (b d : Building) (r q : CborReader) (bs piece more : List ℕ) (refusal : SyntaxRefusal) → Reading r b bs
     → (r.refused ≡ None → CborFeeds (built b) r piece (built d) q (Err refusal)) → Reads cbor_syntax ((bs ++ piece) ++ more) (Err refusal)
@@ -237,6 +242,12 @@ reading_refused b d r q bs piece more (KeyKind n) (fresh, stands, follows) feeds
 pub both_pieces : (bytes : List ℕ) (n : ℕ) → n ≤ length bytes → take n bytes ++ take (length bytes - n) (drop n bytes) ≡ bytes
 both_pieces bytes n inside =
     ap (λ v. take n bytes ++ v) (take_all (length bytes - n) (drop n bytes) (omega (arith, length-drop n bytes))) ∙ take-append-drop n bytes
+
+pub both_taken : (d e : Building) (q x : CborReader) (bytes : List ℕ) (n : ℕ) → n ≤ length bytes → Reading q d (take n bytes)
+    → (q.refused ≡ None → CborFeeds (built d) q (take (length bytes - n) (drop n bytes)) (built e) x (Ok tt)) → Reading x e bytes
+both_taken d e q x bytes n inside reading feeds =
+    subst (Reading x e) (both_pieces bytes n inside)
+    (reading_on d e q x (take n bytes) (take (length bytes - n) (drop n bytes)) reading feeds)
 
 pub tree_whole : (b : Building) (r : CborReader) (bytes : List ℕ) → Reading r b bytes
     → ((bs : List ℕ) → CborStands r bs → CborEndsWith r bs (Ok tt)) → (n : Node) × IsRead CborItem n bytes × (so_far b ≡ events n [])

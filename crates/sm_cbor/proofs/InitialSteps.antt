@@ -32,8 +32,8 @@ use Rattle.sm_cbor.specs.declared.place.Subject.TheVariants.{Unsigned, Negative,
 use Rattle.sm_cbor.specs.declared.place.Subject.TheVariants.{Tag as TagHead, Opaque}
 use Rattle.sm_cbor.specs.declared.place.Level.{Level}
 use Rattle.sm_cbor.specs.declared.place.Level.TheVariants.{ListToBreak as AListToBreak, MapToBreak as AMapToBreak}
-use Rattle.sm_cbor.specs.declared.place.Place.{Place}
-use Rattle.sm_cbor.specs.declared.place.Place.TheVariants.{Item, Key, After, Argument as InArgument, Chunks}
+use Rattle.sm_cbor.specs.declared.place.CborPlace.{CborPlace}
+use Rattle.sm_cbor.specs.declared.place.CborPlace.TheVariants.{Item, Key, After, Argument as InArgument, Chunks}
 use Rattle.sm_cbor.specs.declared.read.Reader.{Reader}
 use Rattle.sm_cbor.proofs.Items.{at, HeadComes, item_onward, item_back, argument_leads, chunks_lead, list_leads, map_leads, null_leads}
 use Rattle.sm_cbor.proofs.Items.{bool_leads, item_stops}
@@ -117,7 +117,7 @@ argument_there r c k v j there is more = record {
   keeps = (head_lives c k v j is, start_bound (c % 32) k v is.1, head_held c j r.held.items is.0);
 }
 
-pub in_room : (r : Reader) (p : Place) (limit : ℕ) → IsAt r p → most_levels ≤ limit → length (levels_of r) ≤ limit
+pub in_room : (r : Reader) (p : CborPlace) (limit : ℕ) → IsAt r p → most_levels ≤ limit → length (levels_of r) ≤ limit
 in_room r p limit there high = let room = there.room in omega arith
 
 pub argument_goes : (S T : StandsFor) (r q : Reader) (c k v : ℕ) (j : Subject) → IsAt r Item → HeadIs c (ArgumentHead j k v)
@@ -241,7 +241,7 @@ kind_nil Bytes = tt
 kind_nil Text = IsUtf8-nil
 kind_nil KeyText = IsUtf8-nil
 
-chunks_sound : (r : Reader) (p : Place) (kind : StringKind) (h : Vec ℕ Global) → h.items ≡ [] → IsAt r p
+chunks_sound : (r : Reader) (p : CborPlace) (kind : StringKind) (h : Vec ℕ Global) → h.items ≡ [] → IsAt r p
     → IsSoundReader (record r { place = Chunks kind; held = h })
 chunks_sound r p kind h empty there = record {
   there = record { room = let room = there.room in omega arith; keeps = subst (IsOf kind) (sym empty) (kind_nil kind) };

@@ -27,15 +27,15 @@ use Rattle.sm_cbor.specs.declared.place.Subject.TheVariants.{Unsigned, Negative,
 use Rattle.sm_cbor.specs.declared.place.Subject.TheVariants.{Tag as TagHead, Opaque}
 use Rattle.sm_cbor.specs.declared.place.Level.{Level}
 use Rattle.sm_cbor.specs.declared.place.Level.TheVariants.{ListToBreak as AListToBreak, MapToBreak as AMapToBreak}
-use Rattle.sm_cbor.specs.declared.place.Place.{Place}
-use Rattle.sm_cbor.specs.declared.place.Place.TheVariants.{Item, After, Argument as InArgument, Chunks}
+use Rattle.sm_cbor.specs.declared.place.CborPlace.{CborPlace}
+use Rattle.sm_cbor.specs.declared.place.CborPlace.TheVariants.{Item, After, Argument as InArgument, Chunks}
 use Rattle.sm_cbor.specs.declared.head.Head.{Head}
 use Rattle.sm_cbor.specs.declared.head.Head.TheVariants.{Argument as ArgumentHead, Chunks as ChunksHead, List as EntriesHead}
 use Rattle.sm_cbor.specs.declared.head.Head.TheVariants.{Map as PairsHead, Null as NullHead, Bool as BoolHead, NoItem}
 use Rattle.sm_cbor.proofs.Arguments.{argument_starts, argument_back, one_head}
 use Rattle.sm_cbor.proofs.Readings.{leads_silent, leads_one}
 
-abbrev pub at : Place → List ℕ → List Level → CborState
+abbrev pub at : CborPlace → List ℕ → List Level → CborState
 at p t ls = record { place = p; held = t; levels = ls }
 
 -- integers of 64 bits, and the others

@@ -13,7 +13,7 @@ use Rattle.sm_cbor.specs.declared.place.StringKind.TheVariants.{Key as KeyText}
 use Rattle.sm_cbor.specs.declared.place.Span.TheVariants.{Whole}
 use Rattle.sm_cbor.specs.declared.place.Subject.TheVariants.{String as StringHead}
 use Rattle.sm_cbor.specs.declared.place.Level.{Level}
-use Rattle.sm_cbor.specs.declared.place.Place.TheVariants.{Key, Argument as InArgument, Chunks}
+use Rattle.sm_cbor.specs.declared.place.CborPlace.TheVariants.{Key, Argument as InArgument, Chunks}
 use Rattle.sm_cbor.proofs.Arguments.{no_start, argument_onward, argument_back, no_argument}
 use Rattle.sm_cbor.proofs.Items.{at}
 use Rattle.sm_cbor.proofs.Readings.{leads_silent}

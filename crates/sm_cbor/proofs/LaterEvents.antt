@@ -28,8 +28,8 @@ use Rattle.sm_cbor.specs.declared.place.Subject.TheVariants.{Tag as TagHead, Opa
 use Rattle.sm_cbor.specs.declared.place.Level.{Level}
 use Rattle.sm_cbor.specs.declared.place.Level.TheVariants.{Tag, List as AList, ListToBreak as AListToBreak, Map as AMap}
 use Rattle.sm_cbor.specs.declared.place.Level.TheVariants.{MapToBreak as AMapToBreak}
-use Rattle.sm_cbor.specs.declared.place.Place.{Place}
-use Rattle.sm_cbor.specs.declared.place.Place.TheVariants.{Item, Key as KeyPlace, After, Argument as InArgument, String, Chunks}
+use Rattle.sm_cbor.specs.declared.place.CborPlace.{CborPlace}
+use Rattle.sm_cbor.specs.declared.place.CborPlace.TheVariants.{Item, Key as KeyPlace, After, Argument as InArgument, String, Chunks}
 use Rattle.sm_cbor.proofs.Shorter.{HasByte, text_has_byte, head_short, byte_short, chunks_short, number_short, item_short, counted_short}
 use Rattle.sm_cbor.proofs.Shorter.{entries_short, counted_pairs_short, pairs_short}
 
@@ -216,7 +216,7 @@ argument_later w limit j k v t ls s es some (n, r, digits, ended) =
     ended_later (length s) w limit j n t ls r es ended (some_number k v n s r some digits)
 
 -- so nothing that may come is complete already
-pub rest_later : (w : Keys) (limit : ℕ) (p : Place) (t : List ℕ) (ls : List Level) (s : List ℕ) (es : List TimedEvent) → Begun p ls
+pub rest_later : (w : Keys) (limit : ℕ) (p : CborPlace) (t : List ℕ) (ls : List Level) (s : List ℕ) (es : List TimedEvent) → Begun p ls
     → CborRestAt w limit p t ls s es → AreLater (length s) es
 rest_later w limit Item t ls s es begun h = item_comes_later (length s) w limit ls s es h (omega arith)
 rest_later w limit KeyPlace t ls s es begun h = key_comes_later w limit ls s es h

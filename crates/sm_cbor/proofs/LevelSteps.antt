@@ -11,7 +11,7 @@ use Rattle.sm_cbor.specs.declared.head.Head.TheVariants.{NoItem}
 use Rattle.sm_cbor.specs.declared.place.Level.{Level}
 use Rattle.sm_cbor.specs.declared.place.Level.TheVariants.{Tag, List as AList, ListToBreak as AListToBreak, Map as AMap}
 use Rattle.sm_cbor.specs.declared.place.Level.TheVariants.{MapToBreak as AMapToBreak}
-use Rattle.sm_cbor.specs.declared.place.Place.TheVariants.{Item, Key, After}
+use Rattle.sm_cbor.specs.declared.place.CborPlace.TheVariants.{Item, Key, After}
 use Rattle.sm_cbor.proofs.Items.{at, item_stops}
 use Rattle.sm_cbor.proofs.Readings.{leads_silent, leads_one}
 

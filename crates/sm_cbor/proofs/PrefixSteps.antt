@@ -23,8 +23,8 @@ use Rattle.sm_cbor.specs.declared.place.Subject.{Subject}
 use Rattle.sm_cbor.specs.declared.place.Subject.TheVariants.{Unsigned, Negative, String as StringHead, List as ListHead, Map as MapHead}
 use Rattle.sm_cbor.specs.declared.place.Subject.TheVariants.{Tag as TagHead, Opaque}
 use Rattle.sm_cbor.specs.declared.place.Level.{Level}
-use Rattle.sm_cbor.specs.declared.place.Place.{Place}
-use Rattle.sm_cbor.specs.declared.place.Place.TheVariants.{Item, Key, After, Argument as InArgument, String}
+use Rattle.sm_cbor.specs.declared.place.CborPlace.{CborPlace}
+use Rattle.sm_cbor.specs.declared.place.CborPlace.TheVariants.{Item, Key, After, Argument as InArgument, String}
 use Rattle.sm_cbor.specs.declared.read.Reader.{Reader}
 use Rattle.sm_cbor.proofs.Items.{at, argument_leads}
 use Rattle.sm_cbor.proofs.KeySteps.{key_leads}
@@ -241,7 +241,7 @@ pub head_prefix : (S T : StandsFor) (r q : Reader) (bs : List ℕ) (j : Subject)
 head_prefix S T r q bs j n len there head goes =
     (some_taken bs j n len head, head.inside, head_goes S T r q bs j n len there head goes)
 
-prefix_of : (S T : StandsFor) (r q : Reader) (p : Place) (bs run : List ℕ) (j : Subject) (n len : ℕ) → HasHead bs j n len
+prefix_of : (S T : StandsFor) (r q : Reader) (p : CborPlace) (bs run : List ℕ) (j : Subject) (n len : ℕ) → HasHead bs j n len
     → IsBehind bs len n run → CborGoes S r [] p (take (len + n) bs) T q → CborTakesPrefixAt S r p bs T q (Ok (len + length run))
 prefix_of S T r q p bs run j n len head behind goes =
     let some = some_taken bs j n len head in

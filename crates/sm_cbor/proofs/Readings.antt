@@ -9,7 +9,7 @@ use Rattle.sm_cbor.specs.steps.Marks.{Keys}
 use Rattle.sm_cbor.specs.steps.Rest.{CborState, CborRest, CborLeads, LeadsBack}
 use Rattle.sm_tree.specs.steps.Handing.{TakesAll}
 use Rattle.sm_cbor.specs.steps.Machine.{cbor_state_at, cbor_state_of, IsSoundReader, CborGoes}
-use Rattle.sm_cbor.specs.declared.place.Place.{Place}
+use Rattle.sm_cbor.specs.declared.place.CborPlace.{CborPlace}
 use Rattle.sm_cbor.specs.declared.read.Reader.{Reader}
 
 -- a step that hands on nothing, and one that hands on an event with its last byte
@@ -64,7 +64,7 @@ leads_joined w limit x y z u v out more h g = record {
 }
 
 -- a step of a state before a step of the reader
-pub goes_by : (S M T : StandsFor) (before mid behind : Reader) (p q : Place) (u v : List ℕ) (es : List NodeEvent)
+pub goes_by : (S M T : StandsFor) (before mid behind : Reader) (p q : CborPlace) (u v : List ℕ) (es : List NodeEvent)
     → CborGoes M mid [] q v T behind → TakesAll S es M
     → ((w : Keys) (limit : ℕ) → most_levels ≤ limit → CborLeads w limit (cbor_state_at before p) u es (cbor_state_at mid q))
     → CborGoes S before [] p (u ++ v) T behind
@@ -77,7 +77,7 @@ goes_by S M T before mid behind p q u v es goes taken leads = record {
 }
 
 -- a step of a state whose events were handed on with those of the reader's step
-pub goes_with : (S T : StandsFor) (before mid behind : Reader) (p q : Place) (u v : List ℕ) (es : List NodeEvent)
+pub goes_with : (S T : StandsFor) (before mid behind : Reader) (p q : CborPlace) (u v : List ℕ) (es : List NodeEvent)
     → CborGoes S mid es q v T behind
     → ((w : Keys) (limit : ℕ) → most_levels ≤ limit → CborLeads w limit (cbor_state_at before p) u es (cbor_state_at mid q))
     → CborGoes S before [] p (u ++ v) T behind
@@ -90,7 +90,7 @@ goes_with S T before mid behind p q u v es goes leads = record {
 }
 
 -- the reader stands where it has come to
-pub goes_to : (S T : StandsFor) (before behind : Reader) (p : Place) (u : List ℕ) (es : List NodeEvent) → IsSoundReader behind
+pub goes_to : (S T : StandsFor) (before behind : Reader) (p : CborPlace) (u : List ℕ) (es : List NodeEvent) → IsSoundReader behind
     → TakesAll S es T
     → ((w : Keys) (limit : ℕ) → most_levels ≤ limit → CborLeads w limit (cbor_state_at before p) u es (cbor_state_of behind))
     → CborGoes S before [] p u T behind

@@ -24,8 +24,8 @@ use Rattle.sm_cbor.specs.steps.Machine.{IsSomePrefix, IsTextPlace, IsBytesPlace}
 use Rattle.sm_cbor.specs.declared.place.StringKind.{StringKind}
 use Rattle.sm_cbor.specs.declared.place.StringKind.TheVariants.{Bytes, Text, Key as KeyText}
 use Rattle.sm_cbor.specs.declared.place.Span.{Span}
-use Rattle.sm_cbor.specs.declared.place.Place.{Place}
-use Rattle.sm_cbor.specs.declared.place.Place.TheVariants.{String}
+use Rattle.sm_cbor.specs.declared.place.CborPlace.{CborPlace}
+use Rattle.sm_cbor.specs.declared.place.CborPlace.TheVariants.{String}
 use Rattle.sm_cbor.specs.declared.read.Reader.{Reader}
 use Rattle.sm_cbor.proofs.Items.{at}
 use Rattle.sm_cbor.proofs.StringSteps.{IsText, string_runs, bytes_prefix, bytes_behind, text_onward, text_back, text_stops}
@@ -124,7 +124,7 @@ run_reached S r h kind span n place next run e fits held none reached =
     (run_leads r h kind span n place next run fits1 held plain most_levels (omega arith))))
 
 -- which runs go on
-pub bytes_fit : (p : Place) (n : ℕ) (place : Utf8) (run : List ℕ) → IsBytesPlace p n place → length run ≤ n → AreBytes run
+pub bytes_fit : (p : CborPlace) (n : ℕ) (place : Utf8) (run : List ℕ) → IsBytesPlace p n place → length run ≤ n → AreBytes run
     → RunFits p Between run
 bytes_fit p n place run (span, e) few are =
     subst (λ x. RunFits x Between run) (sym e) (few, omega arith, λ u. ((λ h. bytes_behind run u h), (λ h. bytes_prefix run u are h)))
@@ -134,7 +134,8 @@ is_text Bytes other = other refl
 is_text Text other = tt
 is_text KeyText other = tt
 
-pub text_fits : (p : Place) (n : ℕ) (place : Utf8) (run : List ℕ) → IsTextPlace p n place → place ≡ Between → length run ≤ n → IsUtf8 run
+pub text_fits : (p : CborPlace) (n : ℕ) (place : Utf8) (run : List ℕ) → IsTextPlace p n place → place ≡ Between → length run ≤ n
+    → IsUtf8 run
     → RunFits p Between run
 text_fits p n place run (kind, span, other, e) between few whole =
     let is = is_text kind other in
@@ -148,7 +149,7 @@ text_fits p n place run (kind, span, other, e) between few whole =
       ),
     )
 
-pub byte_fits : (p : Place) (n c : ℕ) (place next : Utf8) → IsTextPlace p n place → utf8.step place c ≡ Some next → utf8.owed next < n
+pub byte_fits : (p : CborPlace) (n c : ℕ) (place next : Utf8) → IsTextPlace p n place → utf8.step place c ≡ Some next → utf8.owed next < n
     → RunFits p next (c ∷ [])
 byte_fits p n c place next (kind, span, other, e) step room =
     let is = is_text kind other in
@@ -175,7 +176,7 @@ text_bad r n c place o sound (kind, span, other, e) step mis =
 pub prefix_utf8 : (bs run : List ℕ) (n k : ℕ) → IsSomePrefix run bs n → k ≤ length run → IsUtf8 (take k run) → IsUtf8 (take k bs)
 prefix_utf8 bs run n k first few is = subst IsUtf8 (ap (take k) first.0 ∙ take-take k (length run) bs few) is
 
-pub text_prefix_fits : (p : Place) (n : ℕ) (place : Utf8) (bs run : List ℕ) (k : ℕ) → IsTextPlace p n place → place ≡ Between
+pub text_prefix_fits : (p : CborPlace) (n : ℕ) (place : Utf8) (bs run : List ℕ) (k : ℕ) → IsTextPlace p n place → place ≡ Between
     → IsSomePrefix run bs n → k ≤ length run → IsUtf8 (take k run) → RunFits p Between (take k bs)
 text_prefix_fits p n place bs run k there between first few is =
     text_fits p n place (take k bs) there between (let len = length-take k bs in let a = first.1 in let b = first.2 in omega arith)

@@ -14,8 +14,8 @@ use Rattle.sm_cbor.specs.steps.Machine.{levels_of, cbor_state_at, cbor_state_of,
 use Rattle.sm_tree.specs.Nested.{LosesInnermost}
 use Rattle.sm_cbor.specs.declared.place.Level.{Level}
 use Rattle.sm_cbor.specs.declared.place.Level.TheVariants.{Tag, List as AList, Map as AMap}
-use Rattle.sm_cbor.specs.declared.place.Place.{Place}
-use Rattle.sm_cbor.specs.declared.place.Place.TheVariants.{Item, Key, After}
+use Rattle.sm_cbor.specs.declared.place.CborPlace.{CborPlace}
+use Rattle.sm_cbor.specs.declared.place.CborPlace.TheVariants.{Item, Key, After}
 use Rattle.sm_cbor.specs.declared.read.Reader.{Reader}
 use Rattle.sm_cbor.proofs.Items.{at}
 use Rattle.sm_cbor.proofs.LevelSteps.{tag_ends, list_ends, map_ends, entry_leads, pair_leads}
@@ -60,7 +60,7 @@ settles_to S T before now behind h leads sound = record {
 }
 
 -- the reader's levels as a list
-pub from_levels : (w : Keys) (limit : ℕ) (r : Reader) (p : Place) (ls : List Level) (v : List ℕ) (out : List NodeEvent) (x : CborState)
+pub from_levels : (w : Keys) (limit : ℕ) (r : Reader) (p : CborPlace) (ls : List Level) (v : List ℕ) (out : List NodeEvent) (x : CborState)
     → levels_of r ≡ ls → CborLeads w limit (at p r.held.items ls) v out x → CborLeads w limit (cbor_state_at r p) v out x
 from_levels w limit r p ls v out x e h = subst (λ ks. CborLeads w limit (at p r.held.items ks) v out x) (sym e) h
 

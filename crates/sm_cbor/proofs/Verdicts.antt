@@ -18,8 +18,8 @@ use Rattle.sm_cbor.specs.Refusals.{mark, cbor_syntax}
 use Rattle.sm_cbor.specs.steps.Rest.{first_state, CborRest, CborLeads, CborStops}
 use Rattle.sm_cbor.specs.steps.Machine.{Lives, cbor_state_at, cbor_state_of, levels_of, IsAt, CborGoes, RefusesAt, IsPlaceOf}
 use Rattle.sm_cbor.specs.Stands.{CborRuns}
-use Rattle.sm_cbor.specs.declared.place.Place.{Place}
-use Rattle.sm_cbor.specs.declared.place.Place.TheVariants.{Item, Key, After, Argument as InArgument, String, Chunks}
+use Rattle.sm_cbor.specs.declared.place.CborPlace.{CborPlace}
+use Rattle.sm_cbor.specs.declared.place.CborPlace.TheVariants.{Item, Key, After, Argument as InArgument, String, Chunks}
 use Rattle.sm_cbor.specs.declared.read.Reader.{Reader}
 use Rattle.sm_cbor.proofs.Endings.{goes_on}
 use Rattle.sm_cbor.proofs.Starting.{item_start, start_item}
@@ -34,7 +34,7 @@ runs_from S T r q bs first goes = record {
 }
 
 -- the place at which a sound reader stands lives
-pub lives : (r : Reader) (p : Place) → IsAt r p → Lives p
+pub lives : (r : Reader) (p : CborPlace) → IsAt r p → Lives p
 lives r Item there = tt
 lives r Key there = tt
 lives r After there = tt

@@ -12,7 +12,7 @@ pub fn written_is_item()
     ensures { WrittenIsItem }
 {}
 
-/// So what is written for a tree of at most 100 levels is read as that tree, and as no other, and isn't refused.
+/// What is written for a tree of at most 100 levels is read as that tree, and as no other, and isn't refused.
 pub fn written_is_read()
     ensures { WrittenItemIsRead }
 {}
@@ -27,7 +27,7 @@ pub fn one_answer()
     ensures { HasOneAnswer cbor_syntax }
 {}
 
-/// And no bytes are without an answer.
+/// No bytes are without an answer: they are an item that is read, or refused at a place, or cut short.
 pub fn some_answer()
     ensures { HasSomeAnswer cbor_syntax }
 {}
@@ -39,7 +39,7 @@ pub fn written_events_are_item()
     ensures { WrittenEventsAreItem }
 {}
 
-/// What is written for the first events of a tree is a prefix of that item.
+/// What is written for the first events of a tree is a prefix of the item that is written for it.
 #[tactic(auto, using(crate::proofs::EventItems::prefix_written))]
 pub fn written_events_begin()
     ensures { WrittenEventsBeginItem }
@@ -52,7 +52,7 @@ pub fn events_stand()
     ensures { CborEventsStand }
 {}
 
-/// So it takes each event of such a stream.
+/// A `CborWriter` takes each event of a stream of such a tree.
 #[tactic(auto, using(crate::proofs::TakenEvents::streams_taken))]
 pub fn streams_are_taken()
     ensures { CborStreamsAreTaken }

@@ -112,7 +112,7 @@ impl CborReader {
     }
 }
 
-/// The answer of `read_tree`, from the machine alone, to which the bytes come in two pieces: so many of them, and then the others.
+/// The answer of `read_tree`, by the machine alone. The bytes come to it in two pieces: so many of them, and then the others.
 pub fn read_in_pieces(alloc: Global, bytes: &[u8], first: usize) -> Result<Tree, SyntaxRefusal>
     requires { first ≤ length bytes.now }
     ensures { Reads cbor_syntax bytes.now result }
@@ -133,7 +133,7 @@ pub fn read_in_pieces(alloc: Global, bytes: &[u8], first: usize) -> Result<Tree,
     }
 }
 
-/// The same, of bytes that come in one piece.
+/// The answer of `read_tree`, by the machine alone. The bytes come to it in one piece.
 pub fn read_by_bytes(alloc: Global, bytes: &[u8]) -> Result<Tree, SyntaxRefusal>
     ensures { Reads cbor_syntax bytes.now result }
 {

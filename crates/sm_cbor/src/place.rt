@@ -42,7 +42,7 @@ pub enum Subject {
 
 /// Where a reader stands between two bytes.
 #[derive(Clone, Copy, PartialEq, Eq, Debug, Drop)]
-pub enum Place {
+pub enum CborPlace {
     /// Before an item.
     Item,
     /// Before a map's key.

@@ -14,7 +14,7 @@ mod whole;
 
 use crate::descent::{Unread, read_item};
 use crate::pieces::read_by_bytes;
-use crate::place::{Level, Place, StringKind};
+use crate::place::{CborPlace, Level, StringKind};
 use sm_tree::{EventSink, Nested, SyntaxRefusal, Tree};
 use std::alloc::Global;
 
@@ -22,7 +22,7 @@ use std::alloc::Global;
 #[derive(Drop)]
 pub struct Reader {
     /// Where the reader stands.
-    place: Place,
+    place: CborPlace,
     /// What is open.
     levels: Nested<Level>,
     /// The bytes so far of the string that has begun, if the place is in one.
@@ -43,7 +43,7 @@ impl Reader {
         ensures sound { IsSoundReader result }
     {
         Reader {
-            place: Place::Item,
+            place: CborPlace::Item,
             levels: Nested::new(Level::Tag),
             held: Vec::new(alloc),
             alloc,
@@ -61,10 +61,12 @@ impl Reader {
         ensures alike { E.alike to.old to.new }
     {
         match self.place {
-            Place::After => self.after(byte, to),
-            Place::Argument(subject, left, value) => self.argument(subject, left, value, byte, to),
-            Place::Chunks(kind) => self.chunk(kind, byte, to),
-            Place::Item | Place::Key | Place::String(_, _, _, _) => unreachable!(),
+            CborPlace::After => self.after(byte, to),
+            CborPlace::Argument(subject, left, value) => self.argument(
+                subject, left, value, byte, to,
+            ),
+            CborPlace::Chunks(kind) => self.chunk(kind, byte, to),
+            CborPlace::Item | CborPlace::Key | CborPlace::String(_, _, _, _) => unreachable!(),
         }
     }
 
@@ -79,12 +81,12 @@ impl Reader {
         ensures alike { E.alike to.old to.new }
     {
         match self.place {
-            Place::String(StringKind::Bytes, _, left, utf8) => self.string_bytes(
+            CborPlace::String(StringKind::Bytes, _, left, utf8) => self.string_bytes(
                 left, utf8, bytes, to,
             ),
-            Place::String(_, _, left, utf8) => self.text_bytes(left, utf8, bytes, to),
-            Place::Item => self.item_prefix(bytes, to),
-            Place::Key => self.key_prefix(bytes, to),
+            CborPlace::String(_, _, left, utf8) => self.text_bytes(left, utf8, bytes, to),
+            CborPlace::Item => self.item_prefix(bytes, to),
+            CborPlace::Key => self.key_prefix(bytes, to),
             _ => {
                 self.byte(bytes[0], to)?;
                 Ok(1)
@@ -113,10 +115,10 @@ impl Reader {
 
     /// Whether an item is whole, and nothing is open.
     pub fn is_whole(&self) -> bool
-        ensures { IsTrue result ↔ ((self.now.place ≡ Place.After) × (levels_of self.now ≡ [])) }
+        ensures { IsTrue result ↔ ((self.now.place ≡ CborPlace.After) × (levels_of self.now ≡ [])) }
     {
         match self.place {
-            Place::After => self.levels.depth() == 0,
+            CborPlace::After => self.levels.depth() == 0,
             _ => false,
         }
     }

@@ -28,8 +28,8 @@ use Rattle.sm_cbor.specs.declared.place.Subject.TheVariants.{Tag as TagHead, Opa
 use Rattle.sm_cbor.specs.declared.place.Level.{Level}
 use Rattle.sm_cbor.specs.declared.place.Level.TheVariants.{Tag, List as AList, ListToBreak as AListToBreak, Map as AMap}
 use Rattle.sm_cbor.specs.declared.place.Level.TheVariants.{MapToBreak as AMapToBreak}
-use Rattle.sm_cbor.specs.declared.place.Place.{Place}
-use Rattle.sm_cbor.specs.declared.place.Place.TheVariants.{Item, Key, After, Argument, String, Chunks}
+use Rattle.sm_cbor.specs.declared.place.CborPlace.{CborPlace}
+use Rattle.sm_cbor.specs.declared.place.CborPlace.TheVariants.{Item, Key, After, Argument, String, Chunks}
 use Rattle.sm_cbor.specs.declared.read.Reader.{Reader}
 
 -- how many levels open where the argument ends
@@ -42,7 +42,7 @@ opens_of MapHead = 1
 opens_of TagHead = 1
 opens_of (Opaque b) = 0
 
-abbrev pub opens : Place → ℕ
+abbrev pub opens : CborPlace → ℕ
 opens Item = 0
 opens Key = 0
 opens After = 0
@@ -61,7 +61,7 @@ ArgumentLives TagHead k v = Unit {0}
 ArgumentLives (Opaque b) k v = ((k ≡ 0) × IsOpaque (b % 32) v) ⊎ (((b ≡ 0xF8) × (k ≡ 1) × (v ≡ 0)) ⊎ (25 ≤ b % 32))
 
 -- something may come at the place
-abbrev pub Lives : Place → Type 0
+abbrev pub Lives : CborPlace → Type 0
 Lives Item = Unit {0}
 Lives Key = Unit {0}
 Lives After = Unit {0}
@@ -73,7 +73,7 @@ abbrev pub levels_of : Reader → List Level
 levels_of r = nested_in r.levels
 
 -- the reader's state, if it stood at this place; and its state
-abbrev pub cbor_state_at : Reader → Place → CborState
+abbrev pub cbor_state_at : Reader → CborPlace → CborState
 cbor_state_at r p = record { place = p; held = r.held.items; levels = levels_of r }
 
 abbrev pub cbor_state_of : Reader → CborState
@@ -108,7 +108,7 @@ ChunksHeld TagHead t = Unit {0}
 ChunksHeld (Opaque b) t = Unit {0}
 
 -- what the place itself keeps
-abbrev pub KeepsPlace : Place → List ℕ → Type 0
+abbrev pub KeepsPlace : CborPlace → List ℕ → Type 0
 KeepsPlace Item t = Unit {0}
 KeepsPlace Key t = Unit {0}
 KeepsPlace After t = Unit {0}
@@ -117,12 +117,12 @@ KeepsPlace (String kind span n place) t = (utf8.owed place ≤ n) × CborHolds k
 KeepsPlace (Chunks kind) t = IsOf kind t
 
 -- what holds of a reader that stands at this place
-pub record IsAt (r : Reader) (p : Place) : Type 0 where
+pub record IsAt (r : Reader) (p : CborPlace) : Type 0 where
   pub room : length (levels_of r) + opens p ≤ most_levels
   pub keeps : KeepsPlace p r.held.items
 
 -- bytes are owed at the place, or what may come is open
-abbrev pub Begun : Place → List Level → Type 0
+abbrev pub Begun : CborPlace → List Level → Type 0
 Begun Item ls = Unit {0}
 Begun Key ls = Unit {0}
 Begun After ls = BehindItem ls
@@ -137,7 +137,7 @@ pub record IsSoundReader (r : Reader) : Type 0 where
 
 -- the events es were handed on; and from the place p the bytes v lead the reader on, and their events are handed on too: a sink
 -- that stood for S stands for T
-pub record CborGoes (S : StandsFor) (before : Reader) (es : List NodeEvent) (p : Place) (v : List ℕ) (T : StandsFor)
+pub record CborGoes (S : StandsFor) (before : Reader) (es : List NodeEvent) (p : CborPlace) (v : List ℕ) (T : StandsFor)
     (behind : Reader) : Type 0 where
   pub out : List NodeEvent
   pub leads : (w : Keys) (limit : ℕ) → most_levels ≤ limit → CborLeads w limit (cbor_state_at before p) v out (cbor_state_of behind)
@@ -156,14 +156,14 @@ abbrev pub IsFirstLevel : Level → List Level → Type 0
 IsFirstLevel l ls = innermost_of ls ≡ Some l
 
 -- the place is in a byte string, or in a text
-abbrev pub IsBytesPlace : Place → ℕ → Utf8 → Type 0
+abbrev pub IsBytesPlace : CborPlace → ℕ → Utf8 → Type 0
 IsBytesPlace p n place = (span : Span) × (p ≡ String Bytes span n place)
 
-abbrev pub IsTextPlace : Place → ℕ → Utf8 → Type 0
+abbrev pub IsTextPlace : CborPlace → ℕ → Utf8 → Type 0
 IsTextPlace p n place = (kind : StringKind) × (span : Span) × (kind ≢ Bytes) × (p ≡ String kind span n place)
 
 -- what may come is taken one byte at a time: neither an item nor a key nor the bytes of a string
-abbrev pub IsBytewise : Place → Type 0
+abbrev pub IsBytewise : CborPlace → Type 0
 IsBytewise Item = ⊥
 IsBytewise Key = ⊥
 IsBytewise After = Unit {0}
@@ -172,7 +172,7 @@ IsBytewise (String kind span n place) = ⊥
 IsBytewise (Chunks kind) = Unit {0}
 
 -- the bytes go on with the string at this place, and lead to this place of its UTF-8
-abbrev pub RunFits : Place → Utf8 → List ℕ → Type 0
+abbrev pub RunFits : CborPlace → Utf8 → List ℕ → Type 0
 RunFits Item next run = ⊥
 RunFits Key next run = ⊥
 RunFits After next run = ⊥
@@ -211,7 +211,7 @@ abbrev pub StandsStill : StandsFor → StandsFor → Type 0
 StandsStill S T = (es : List NodeEvent) → S es → T es
 
 -- what a byte does to the reader that stands at a place; where it is refused, nothing was handed on
-abbrev pub CborTakesByte : StandsFor → Reader → Place → ℕ → StandsFor → Reader → Result (Unit {0}) SyntaxRefusal → Type 0
+abbrev pub CborTakesByte : StandsFor → Reader → CborPlace → ℕ → StandsFor → Reader → Result (Unit {0}) SyntaxRefusal → Type 0
 CborTakesByte S before p c T behind (Ok x) = CborGoes S before [] p (c ∷ []) T behind
 CborTakesByte S before p c T behind (Err NoMemory) = Unit {0}
 CborTakesByte S before p c T behind (Err (Bad at)) = (at ≡ 0) × IsBadByte (cbor_state_at before p) c × StandsStill S T
@@ -220,7 +220,7 @@ CborTakesByte S before p c T behind (Err (TooDeep at)) = (at ≡ 0) × OpensTooD
 CborTakesByte S before p c T behind (Err (KeyKind at)) = (at ≡ 0) × IsOtherKey (cbor_state_at before p) c × StandsStill S T
 
 -- what a reader that stands at a place makes of a prefix of some bytes: it takes so many of them, or refuses the first
-abbrev pub CborTakesPrefixAt : StandsFor → Reader → Place → List ℕ → StandsFor → Reader → Result ℕ SyntaxRefusal → Type 0
+abbrev pub CborTakesPrefixAt : StandsFor → Reader → CborPlace → List ℕ → StandsFor → Reader → Result ℕ SyntaxRefusal → Type 0
 CborTakesPrefixAt S before p bs T behind (Ok n) = (0 < n) × (n ≤ length bs) × CborGoes S before [] p (take n bs) T behind
 CborTakesPrefixAt S before p bs T behind (Err refusal) = CborTakesByte S before p (slice_index bs 0) T behind (Err refusal)
 

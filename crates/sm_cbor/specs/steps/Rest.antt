@@ -24,12 +24,12 @@ use Rattle.sm_cbor.specs.declared.place.Subject.TheVariants.{Tag as TagHead, Opa
 use Rattle.sm_cbor.specs.declared.place.Level.{Level}
 use Rattle.sm_cbor.specs.declared.place.Level.TheVariants.{Tag, List as AList, ListToBreak as AListToBreak, Map as AMap}
 use Rattle.sm_cbor.specs.declared.place.Level.TheVariants.{MapToBreak as AMapToBreak}
-use Rattle.sm_cbor.specs.declared.place.Place.{Place}
-use Rattle.sm_cbor.specs.declared.place.Place.TheVariants.{Item, Key, After, Argument, String, Chunks}
+use Rattle.sm_cbor.specs.declared.place.CborPlace.{CborPlace}
+use Rattle.sm_cbor.specs.declared.place.CborPlace.TheVariants.{Item, Key, After, Argument, String, Chunks}
 
 -- a place, the bytes of the string that has begun, and what is open, from the inside out
 pub record CborState : Type 0 where
-  pub place : Place
+  pub place : CborPlace
   pub held : List ℕ
   pub levels : List Level
 
@@ -110,7 +110,7 @@ abbrev pub ArgumentComes : Keys → ℕ → Subject → ℕ → ℕ → List ℕ
 ArgumentComes w limit j k v t ls s es = (n : ℕ) × (r : List ℕ) × Number k v n s r × ArgumentEnded w limit j n t ls r es
 
 -- from this place, s is the rest of an item that nests at most `limit` levels, and es are its events
-abbrev pub CborRestAt : Keys → ℕ → Place → List ℕ → List Level → List ℕ → List TimedEvent → Type 0
+abbrev pub CborRestAt : Keys → ℕ → CborPlace → List ℕ → List Level → List ℕ → List TimedEvent → Type 0
 CborRestAt w limit Item t ls s es = ItemComes w limit ls s es
 CborRestAt w limit Key t ls s es = CborKeyComes w limit ls s es
 CborRestAt w limit After t ls s es = CborEnds w limit ls s es

@@ -6,7 +6,7 @@ ghost use Rattle.sm_cbor.specs.steps.Machine.{opens_of};
 
 use super::Reader;
 use crate::head::{BREAK, Head, INDEFINITE_TEXT, TEXT, chunk_head, head_of, width};
-use crate::place::{Level, Place, Span, StringKind, Subject};
+use crate::place::{CborPlace, Level, Span, StringKind, Subject};
 use sm_tree::{Event, EventSink, MOST_LEVELS, NoMemory, SyntaxRefusal};
 
 impl Subject {
@@ -37,10 +37,10 @@ impl Reader {
 
     // The initial byte of an item.
     pub(super) fn item<E: EventSink>(&mut self, byte: u8, to: &mut E) -> Result<(), SyntaxRefusal>
-        requires sound { IsAt self.old Place.Item }
-        requires reached { Reached (E.stands_for to.old) (cbor_state_at self.old Place.Item) }
+        requires sound { IsAt self.old CborPlace.Item }
+        requires reached { Reached (E.stands_for to.old) (cbor_state_at self.old CborPlace.Item) }
         requires takes { TakesEvery (E.takes to.old) }
-        ensures goes { CborTakesByte (E.stands_for to.old) self.old Place.Item byte (E.stands_for to.new) self.new result }
+        ensures goes { CborTakesByte (E.stands_for to.old) self.old CborPlace.Item byte (E.stands_for to.new) self.new result }
         ensures takes { TakesStill (E.takes to.old) (E.takes to.new) result }
         ensures alike { E.alike to.old to.new }
     {
@@ -56,14 +56,14 @@ impl Reader {
                     return Err(SyntaxRefusal::TooDeep(0));
                 }
                 self.open_list_to_break(to)?;
-                self.place = Place::After;
+                self.place = CborPlace::After;
             }
             Head::Map => {
                 if self.is_full() {
                     return Err(SyntaxRefusal::TooDeep(0));
                 }
                 self.open_map_to_break(to)?;
-                self.place = Place::After;
+                self.place = CborPlace::After;
             }
             Head::Chunks(kind) => self.begin_chunks(kind),
             Head::Null => self.leaf(Event::Null, to)?,
@@ -86,11 +86,11 @@ impl Reader {
         byte: u8,
         to: &mut E,
     ) -> Result<(), SyntaxRefusal>
-        requires sound { IsAt self.old Place.Key }
+        requires sound { IsAt self.old CborPlace.Key }
         requires text { byte / 32 ≡ text_type }
-        requires reached { Reached (E.stands_for to.old) (cbor_state_at self.old Place.Key) }
+        requires reached { Reached (E.stands_for to.old) (cbor_state_at self.old CborPlace.Key) }
         requires takes { TakesEvery (E.takes to.old) }
-        ensures goes { CborTakesByte (E.stands_for to.old) self.old Place.Key byte (E.stands_for to.new) self.new result }
+        ensures goes { CborTakesByte (E.stands_for to.old) self.old CborPlace.Key byte (E.stands_for to.new) self.new result }
         ensures takes { TakesStill (E.takes to.old) (E.takes to.new) result }
         ensures alike { E.alike to.old to.new }
     {
@@ -110,10 +110,10 @@ impl Reader {
 
     // The initial byte of a map's key.
     pub(super) fn key<E: EventSink>(&mut self, byte: u8, to: &mut E) -> Result<(), SyntaxRefusal>
-        requires sound { IsAt self.old Place.Key }
-        requires reached { Reached (E.stands_for to.old) (cbor_state_at self.old Place.Key) }
+        requires sound { IsAt self.old CborPlace.Key }
+        requires reached { Reached (E.stands_for to.old) (cbor_state_at self.old CborPlace.Key) }
         requires takes { TakesEvery (E.takes to.old) }
-        ensures goes { CborTakesByte (E.stands_for to.old) self.old Place.Key byte (E.stands_for to.new) self.new result }
+        ensures goes { CborTakesByte (E.stands_for to.old) self.old CborPlace.Key byte (E.stands_for to.new) self.new result }
         ensures takes { TakesStill (E.takes to.old) (E.takes to.new) result }
         ensures alike { E.alike to.old to.new }
     {
@@ -128,11 +128,11 @@ impl Reader {
 
     // A break ends the innermost array.
     pub(super) fn break_list<E: EventSink>(&mut self, to: &mut E) -> Result<(), NoMemory>
-        requires sound { IsAt self.old Place.After }
+        requires sound { IsAt self.old CborPlace.After }
         requires innermost { IsFirstLevel Level.ListToBreak (levels_of self.old) }
-        requires reached { Reached (E.stands_for to.old) (cbor_state_at self.old Place.After) }
+        requires reached { Reached (E.stands_for to.old) (cbor_state_at self.old CborPlace.After) }
         requires takes { TakesEvery (E.takes to.old) }
-        ensures goes { OnOk result (CborGoes (E.stands_for to.old) self.old [] Place.After (255 ∷ []) (E.stands_for to.new) self.new) }
+        ensures goes { OnOk result (CborGoes (E.stands_for to.old) self.old [] CborPlace.After (255 ∷ []) (E.stands_for to.new) self.new) }
         ensures takes { OnOk result (TakesSame (E.takes to.old) (E.takes to.new)) }
         ensures alike { E.alike to.old to.new }
     {
@@ -143,11 +143,11 @@ impl Reader {
 
     // A break ends the innermost map.
     pub(super) fn break_map<E: EventSink>(&mut self, to: &mut E) -> Result<(), NoMemory>
-        requires sound { IsAt self.old Place.After }
+        requires sound { IsAt self.old CborPlace.After }
         requires innermost { IsFirstLevel Level.MapToBreak (levels_of self.old) }
-        requires reached { Reached (E.stands_for to.old) (cbor_state_at self.old Place.After) }
+        requires reached { Reached (E.stands_for to.old) (cbor_state_at self.old CborPlace.After) }
         requires takes { TakesEvery (E.takes to.old) }
-        ensures goes { OnOk result (CborGoes (E.stands_for to.old) self.old [] Place.After (255 ∷ []) (E.stands_for to.new) self.new) }
+        ensures goes { OnOk result (CborGoes (E.stands_for to.old) self.old [] CborPlace.After (255 ∷ []) (E.stands_for to.new) self.new) }
         ensures takes { OnOk result (TakesSame (E.takes to.old) (E.takes to.new)) }
         ensures alike { E.alike to.old to.new }
     {
@@ -162,11 +162,11 @@ impl Reader {
         byte: u8,
         to: &mut E,
     ) -> Result<(), SyntaxRefusal>
-        requires sound { IsAt self.old Place.After }
+        requires sound { IsAt self.old CborPlace.After }
         requires innermost { IsFirstLevel Level.ListToBreak (levels_of self.old) }
-        requires reached { Reached (E.stands_for to.old) (cbor_state_at self.old Place.After) }
+        requires reached { Reached (E.stands_for to.old) (cbor_state_at self.old CborPlace.After) }
         requires takes { TakesEvery (E.takes to.old) }
-        ensures goes { CborTakesByte (E.stands_for to.old) self.old Place.After byte (E.stands_for to.new) self.new result }
+        ensures goes { CborTakesByte (E.stands_for to.old) self.old CborPlace.After byte (E.stands_for to.new) self.new result }
         ensures takes { TakesStill (E.takes to.old) (E.takes to.new) result }
         ensures alike { E.alike to.old to.new }
     {
@@ -183,11 +183,11 @@ impl Reader {
         byte: u8,
         to: &mut E,
     ) -> Result<(), SyntaxRefusal>
-        requires sound { IsAt self.old Place.After }
+        requires sound { IsAt self.old CborPlace.After }
         requires innermost { IsFirstLevel Level.MapToBreak (levels_of self.old) }
-        requires reached { Reached (E.stands_for to.old) (cbor_state_at self.old Place.After) }
+        requires reached { Reached (E.stands_for to.old) (cbor_state_at self.old CborPlace.After) }
         requires takes { TakesEvery (E.takes to.old) }
-        ensures goes { CborTakesByte (E.stands_for to.old) self.old Place.After byte (E.stands_for to.new) self.new result }
+        ensures goes { CborTakesByte (E.stands_for to.old) self.old CborPlace.After byte (E.stands_for to.new) self.new result }
         ensures takes { TakesStill (E.takes to.old) (E.takes to.new) result }
         ensures alike { E.alike to.old to.new }
     {
@@ -207,11 +207,11 @@ impl Reader {
 
     // A byte behind an item.
     pub(super) fn after<E: EventSink>(&mut self, byte: u8, to: &mut E) -> Result<(), SyntaxRefusal>
-        requires sound { IsAt self.old Place.After }
+        requires sound { IsAt self.old CborPlace.After }
         requires open_to { BehindItem (levels_of self.old) }
-        requires reached { Reached (E.stands_for to.old) (cbor_state_at self.old Place.After) }
+        requires reached { Reached (E.stands_for to.old) (cbor_state_at self.old CborPlace.After) }
         requires takes { TakesEvery (E.takes to.old) }
-        ensures goes { CborTakesByte (E.stands_for to.old) self.old Place.After byte (E.stands_for to.new) self.new result }
+        ensures goes { CborTakesByte (E.stands_for to.old) self.old CborPlace.After byte (E.stands_for to.new) self.new result }
         ensures takes { TakesStill (E.takes to.old) (E.takes to.new) result }
         ensures alike { E.alike to.old to.new }
     {
@@ -232,11 +232,11 @@ impl Reader {
         byte: u8,
         to: &mut E,
     ) -> Result<(), SyntaxRefusal>
-        requires sound { IsAt self.old (Place.Argument subject left value) }
+        requires sound { IsAt self.old (CborPlace.Argument subject left value) }
         requires some { 0 < left }
-        requires reached { Reached (E.stands_for to.old) (cbor_state_at self.old (Place.Argument subject left value)) }
+        requires reached { Reached (E.stands_for to.old) (cbor_state_at self.old (CborPlace.Argument subject left value)) }
         requires takes { TakesEvery (E.takes to.old) }
-        ensures goes { CborTakesByte (E.stands_for to.old) self.old (Place.Argument subject left value) byte
+        ensures goes { CborTakesByte (E.stands_for to.old) self.old (CborPlace.Argument subject left value) byte
             (E.stands_for to.new) self.new result }
         ensures takes { TakesStill (E.takes to.old) (E.takes to.new) result }
         ensures alike { E.alike to.old to.new }
@@ -255,10 +255,10 @@ impl Reader {
         byte: u8,
         to: &mut E,
     ) -> Result<(), SyntaxRefusal>
-        requires sound { IsAt self.old (Place.Chunks kind) }
-        requires reached { Reached (E.stands_for to.old) (cbor_state_at self.old (Place.Chunks kind)) }
+        requires sound { IsAt self.old (CborPlace.Chunks kind) }
+        requires reached { Reached (E.stands_for to.old) (cbor_state_at self.old (CborPlace.Chunks kind)) }
         requires takes { TakesEvery (E.takes to.old) }
-        ensures goes { CborTakesByte (E.stands_for to.old) self.old (Place.Chunks kind) byte (E.stands_for to.new) self.new result }
+        ensures goes { CborTakesByte (E.stands_for to.old) self.old (CborPlace.Chunks kind) byte (E.stands_for to.new) self.new result }
         ensures takes { TakesStill (E.takes to.old) (E.takes to.new) result }
         ensures alike { E.alike to.old to.new }
     {

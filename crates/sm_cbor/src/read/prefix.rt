@@ -5,7 +5,7 @@ ghost use Rattle.sm_cbor.specs.steps.Reading.{IsBehind};
 
 use super::Reader;
 use crate::head::{WholeHead, whole_head};
-use crate::place::Place;
+use crate::place::CborPlace;
 use sm_tree::{Event, EventSink, SyntaxRefusal, Text};
 use std::str;
 
@@ -44,11 +44,11 @@ impl Reader {
 
     // The initial byte of an item.
     fn item_byte<E: EventSink>(&mut self, bytes: &[u8], to: &mut E) -> Result<usize, SyntaxRefusal>
-        requires sound { IsAt self.old Place.Item }
+        requires sound { IsAt self.old CborPlace.Item }
         requires some { 0 < length bytes.now }
-        requires reached { Reached (E.stands_for to.old) (cbor_state_at self.old Place.Item) }
+        requires reached { Reached (E.stands_for to.old) (cbor_state_at self.old CborPlace.Item) }
         requires takes { TakesEvery (E.takes to.old) }
-        ensures goes { CborTakesPrefixAt (E.stands_for to.old) self.old Place.Item bytes.now (E.stands_for to.new) self.new result }
+        ensures goes { CborTakesPrefixAt (E.stands_for to.old) self.old CborPlace.Item bytes.now (E.stands_for to.new) self.new result }
         ensures takes { TakesStill (E.takes to.old) (E.takes to.new) result }
         ensures alike { E.alike to.old to.new }
     {
@@ -58,11 +58,11 @@ impl Reader {
 
     // The initial byte of a key.
     fn key_byte<E: EventSink>(&mut self, bytes: &[u8], to: &mut E) -> Result<usize, SyntaxRefusal>
-        requires sound { IsAt self.old Place.Key }
+        requires sound { IsAt self.old CborPlace.Key }
         requires some { 0 < length bytes.now }
-        requires reached { Reached (E.stands_for to.old) (cbor_state_at self.old Place.Key) }
+        requires reached { Reached (E.stands_for to.old) (cbor_state_at self.old CborPlace.Key) }
         requires takes { TakesEvery (E.takes to.old) }
-        ensures goes { CborTakesPrefixAt (E.stands_for to.old) self.old Place.Key bytes.now (E.stands_for to.new) self.new result }
+        ensures goes { CborTakesPrefixAt (E.stands_for to.old) self.old CborPlace.Key bytes.now (E.stands_for to.new) self.new result }
         ensures takes { TakesStill (E.takes to.old) (E.takes to.new) result }
         ensures alike { E.alike to.old to.new }
     {
@@ -77,11 +77,11 @@ impl Reader {
         bytes: &[u8],
         to: &mut E,
     ) -> Result<usize, SyntaxRefusal>
-        requires sound { IsAt self.old Place.Item }
+        requires sound { IsAt self.old CborPlace.Item }
         requires head { HasHead bytes.now head.now.subject head.now.value head.now.len }
-        requires reached { Reached (E.stands_for to.old) (cbor_state_at self.old Place.Item) }
+        requires reached { Reached (E.stands_for to.old) (cbor_state_at self.old CborPlace.Item) }
         requires takes { TakesEvery (E.takes to.old) }
-        ensures goes { CborTakesPrefixAt (E.stands_for to.old) self.old Place.Item bytes.now (E.stands_for to.new) self.new result }
+        ensures goes { CborTakesPrefixAt (E.stands_for to.old) self.old CborPlace.Item bytes.now (E.stands_for to.new) self.new result }
         ensures takes { TakesStill (E.takes to.old) (E.takes to.new) result }
         ensures alike { E.alike to.old to.new }
     {
@@ -99,12 +99,12 @@ impl Reader {
         bytes: &[u8],
         to: &mut E,
     ) -> Result<usize, SyntaxRefusal>
-        requires sound { IsAt self.old Place.Item }
+        requires sound { IsAt self.old CborPlace.Item }
         requires head { HasHead bytes.now head.now.subject head.now.value head.now.len }
         requires text { IsText head.now.subject }
-        requires reached { Reached (E.stands_for to.old) (cbor_state_at self.old Place.Item) }
+        requires reached { Reached (E.stands_for to.old) (cbor_state_at self.old CborPlace.Item) }
         requires takes { TakesEvery (E.takes to.old) }
-        ensures goes { CborTakesPrefixAt (E.stands_for to.old) self.old Place.Item bytes.now (E.stands_for to.new) self.new result }
+        ensures goes { CborTakesPrefixAt (E.stands_for to.old) self.old CborPlace.Item bytes.now (E.stands_for to.new) self.new result }
         ensures takes { TakesStill (E.takes to.old) (E.takes to.new) result }
         ensures alike { E.alike to.old to.new }
     {
@@ -125,12 +125,12 @@ impl Reader {
         bytes: &[u8],
         to: &mut E,
     ) -> Result<usize, SyntaxRefusal>
-        requires sound { IsAt self.old Place.Key }
+        requires sound { IsAt self.old CborPlace.Key }
         requires head { HasHead bytes.now head.now.subject head.now.value head.now.len }
         requires text { IsText head.now.subject }
-        requires reached { Reached (E.stands_for to.old) (cbor_state_at self.old Place.Key) }
+        requires reached { Reached (E.stands_for to.old) (cbor_state_at self.old CborPlace.Key) }
         requires takes { TakesEvery (E.takes to.old) }
-        ensures goes { CborTakesPrefixAt (E.stands_for to.old) self.old Place.Key bytes.now (E.stands_for to.new) self.new result }
+        ensures goes { CborTakesPrefixAt (E.stands_for to.old) self.old CborPlace.Key bytes.now (E.stands_for to.new) self.new result }
         ensures takes { TakesStill (E.takes to.old) (E.takes to.new) result }
         ensures alike { E.alike to.old to.new }
     {
@@ -138,7 +138,7 @@ impl Reader {
             Some(text) => {
                 let copy = Text::copy(self.alloc, text)?;
                 to.event(Event::Key(copy))?;
-                self.place = Place::Item;
+                self.place = CborPlace::Item;
                 Ok(head.len + text.len())
             }
             None => self.key_byte(bytes, to),
@@ -151,11 +151,11 @@ impl Reader {
         bytes: &[u8],
         to: &mut E,
     ) -> Result<usize, SyntaxRefusal>
-        requires sound { IsAt self.old Place.Item }
+        requires sound { IsAt self.old CborPlace.Item }
         requires some { 0 < length bytes.now }
-        requires reached { Reached (E.stands_for to.old) (cbor_state_at self.old Place.Item) }
+        requires reached { Reached (E.stands_for to.old) (cbor_state_at self.old CborPlace.Item) }
         requires takes { TakesEvery (E.takes to.old) }
-        ensures goes { CborTakesPrefixAt (E.stands_for to.old) self.old Place.Item bytes.now (E.stands_for to.new) self.new result }
+        ensures goes { CborTakesPrefixAt (E.stands_for to.old) self.old CborPlace.Item bytes.now (E.stands_for to.new) self.new result }
         ensures takes { TakesStill (E.takes to.old) (E.takes to.new) result }
         ensures alike { E.alike to.old to.new }
     {
@@ -176,11 +176,11 @@ impl Reader {
         bytes: &[u8],
         to: &mut E,
     ) -> Result<usize, SyntaxRefusal>
-        requires sound { IsAt self.old Place.Key }
+        requires sound { IsAt self.old CborPlace.Key }
         requires some { 0 < length bytes.now }
-        requires reached { Reached (E.stands_for to.old) (cbor_state_at self.old Place.Key) }
+        requires reached { Reached (E.stands_for to.old) (cbor_state_at self.old CborPlace.Key) }
         requires takes { TakesEvery (E.takes to.old) }
-        ensures goes { CborTakesPrefixAt (E.stands_for to.old) self.old Place.Key bytes.now (E.stands_for to.new) self.new result }
+        ensures goes { CborTakesPrefixAt (E.stands_for to.old) self.old CborPlace.Key bytes.now (E.stands_for to.new) self.new result }
         ensures takes { TakesStill (E.takes to.old) (E.takes to.new) result }
         ensures alike { E.alike to.old to.new }
     {

@@ -4,7 +4,7 @@ ghost use Rattle.sm_bytes.specs.declared.utf8.Utf8.TheVariants.{Between};
 ghost use Rattle.sm_cbor.specs.steps.Machine.{IsSomePrefix};
 
 use super::Reader;
-use crate::place::Place;
+use crate::place::CborPlace;
 use sm_bytes::{Utf8, whole_len};
 use sm_tree::{EventSink, NoMemory, SyntaxRefusal};
 
@@ -53,7 +53,7 @@ impl Reader {
         ensures takes { OnOk result (TakesSame (E.takes to.old) (E.takes to.new)) }
         ensures alike { E.alike to.old to.new }
     {
-        let Place::String(kind, span, all, _) = self.place else {
+        let CborPlace::String(kind, span, all, _) = self.place else {
             unreachable!()
         };
         self.held.extend_from_slice(run)?;
@@ -61,7 +61,7 @@ impl Reader {
         if left == 0 {
             return self.end_span(kind, span, to);
         }
-        self.place = Place::String(kind, span, left, next);
+        self.place = CborPlace::String(kind, span, left, next);
         Ok(())
     }
 

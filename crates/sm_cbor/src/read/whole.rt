@@ -8,7 +8,7 @@ ghost use Rattle.sm_cbor.specs.steps.Rest.{before_span};
 
 use super::Reader;
 use crate::integer::{negative_event, unsigned_event};
-use crate::place::{Level, Place, Span, StringKind, Subject};
+use crate::place::{CborPlace, Level, Span, StringKind, Subject};
 use sm_bytes::Utf8;
 use sm_tree::{Bytes, Event, EventSink, NoMemory, Text};
 use std::mem;
@@ -20,10 +20,10 @@ impl Reader {
 
     // An item has ended: ends what ends with it, and stands where the next may come.
     pub(super) fn settle<E: EventSink>(&mut self, to: &mut E) -> Result<(), NoMemory>
-        requires sound { IsAt self.old Place.After }
-        requires reached { Reached (E.stands_for to.old) (cbor_state_at self.old Place.After) }
+        requires sound { IsAt self.old CborPlace.After }
+        requires reached { Reached (E.stands_for to.old) (cbor_state_at self.old CborPlace.After) }
         requires takes { TakesEvery (E.takes to.old) }
-        ensures goes { OnOk result (CborGoes (E.stands_for to.old) self.old [] Place.After [] (E.stands_for to.new) self.new) }
+        ensures goes { OnOk result (CborGoes (E.stands_for to.old) self.old [] CborPlace.After [] (E.stands_for to.new) self.new) }
         ensures takes { OnOk result (TakesSame (E.takes to.old) (E.takes to.new)) }
         ensures alike { E.alike to.old to.new }
     {
@@ -33,7 +33,7 @@ impl Reader {
                 Level::List(left) => {
                     if left > 0 {
                         self.levels.enter(Level::List(left - 1));
-                        self.place = Place::Item;
+                        self.place = CborPlace::Item;
                         return Ok(());
                     }
                     to.event(Event::EndList)?;
@@ -41,34 +41,34 @@ impl Reader {
                 Level::Map(left) => {
                     if left > 0 {
                         self.levels.enter(Level::Map(left - 1));
-                        self.place = Place::Key;
+                        self.place = CborPlace::Key;
                         return Ok(());
                     }
                     to.event(Event::EndObject)?;
                 }
                 Level::ListToBreak => {
                     self.levels.enter(Level::ListToBreak);
-                    self.place = Place::After;
+                    self.place = CborPlace::After;
                     return Ok(());
                 }
                 Level::MapToBreak => {
                     self.levels.enter(Level::MapToBreak);
-                    self.place = Place::After;
+                    self.place = CborPlace::After;
                     return Ok(());
                 }
             }
         }
-        self.place = Place::After;
+        self.place = CborPlace::After;
         Ok(())
     }
 
     // A whole item.
     #[inline(always)]
     pub(super) fn leaf<E: EventSink>(&mut self, event: Event, to: &mut E) -> Result<(), NoMemory>
-        requires sound { IsAt self.old Place.After }
-        requires reached { Owed (E.stands_for to.old) (event_of event) (cbor_state_at self.old Place.After) }
+        requires sound { IsAt self.old CborPlace.After }
+        requires reached { Owed (E.stands_for to.old) (event_of event) (cbor_state_at self.old CborPlace.After) }
         requires takes { TakesEvery (E.takes to.old) }
-        ensures goes { OnOk result (CborGoes (E.stands_for to.old) self.old (event_of event ∷ []) Place.After []
+        ensures goes { OnOk result (CborGoes (E.stands_for to.old) self.old (event_of event ∷ []) CborPlace.After []
             (E.stands_for to.new) self.new) }
         ensures takes { OnOk result (TakesSame (E.takes to.old) (E.takes to.new)) }
         ensures alike { E.alike to.old to.new }
@@ -79,7 +79,7 @@ impl Reader {
 
     // An array of so many entries opens.
     pub(super) fn open_list<E: EventSink>(&mut self, count: u64, to: &mut E) -> Result<(), NoMemory>
-        requires sound { IsAt self.old Place.Item }
+        requires sound { IsAt self.old CborPlace.Item }
         requires room { length (levels_of self.old) < most_levels }
         requires reached { Owed (E.stands_for to.old) (start_list (Some count)) (opened self.old (Level.List count)) }
         requires takes { TakesEvery (E.takes to.old) }
@@ -95,7 +95,7 @@ impl Reader {
 
     // An array of indefinite length opens.
     pub(super) fn open_list_to_break<E: EventSink>(&mut self, to: &mut E) -> Result<(), NoMemory>
-        requires sound { IsAt self.old Place.Item }
+        requires sound { IsAt self.old CborPlace.Item }
         requires room { length (levels_of self.old) < most_levels }
         requires reached { Owed (E.stands_for to.old) (start_list None) (opened self.old Level.ListToBreak) }
         requires takes { TakesEvery (E.takes to.old) }
@@ -111,7 +111,7 @@ impl Reader {
 
     // A map of so many pairs opens.
     pub(super) fn open_map<E: EventSink>(&mut self, count: u64, to: &mut E) -> Result<(), NoMemory>
-        requires sound { IsAt self.old Place.Item }
+        requires sound { IsAt self.old CborPlace.Item }
         requires room { length (levels_of self.old) < most_levels }
         requires reached { Owed (E.stands_for to.old) (start_object (Some count)) (opened self.old (Level.Map count)) }
         requires takes { TakesEvery (E.takes to.old) }
@@ -127,7 +127,7 @@ impl Reader {
 
     // A map of indefinite length opens.
     pub(super) fn open_map_to_break<E: EventSink>(&mut self, to: &mut E) -> Result<(), NoMemory>
-        requires sound { IsAt self.old Place.Item }
+        requires sound { IsAt self.old CborPlace.Item }
         requires room { length (levels_of self.old) < most_levels }
         requires reached { Owed (E.stands_for to.old) (start_object None) (opened self.old Level.MapToBreak) }
         requires takes { TakesEvery (E.takes to.old) }
@@ -157,10 +157,10 @@ impl Reader {
         kind: StringKind,
         to: &mut E,
     ) -> Result<(), NoMemory>
-        requires sound { IsAt self.old (Place.String kind Span.Whole 0 Between) }
-        requires reached { Reached (E.stands_for to.old) (cbor_state_at self.old (Place.String kind Span.Whole 0 Between)) }
+        requires sound { IsAt self.old (CborPlace.String kind Span.Whole 0 Between) }
+        requires reached { Reached (E.stands_for to.old) (cbor_state_at self.old (CborPlace.String kind Span.Whole 0 Between)) }
         requires takes { TakesEvery (E.takes to.old) }
-        ensures goes { OnOk result (CborGoes (E.stands_for to.old) self.old [] (Place.String kind Span.Whole 0 Between) []
+        ensures goes { OnOk result (CborGoes (E.stands_for to.old) self.old [] (CborPlace.String kind Span.Whole 0 Between) []
             (E.stands_for to.new) self.new) }
         ensures takes { OnOk result (TakesSame (E.takes to.old) (E.takes to.new)) }
         ensures alike { E.alike to.old to.new }
@@ -177,7 +177,7 @@ impl Reader {
             StringKind::Key => {
                 let text = self.text();
                 to.event(Event::Key(text))?;
-                self.place = Place::Item;
+                self.place = CborPlace::Item;
                 Ok(())
             }
         }
@@ -190,10 +190,10 @@ impl Reader {
         span: Span,
         to: &mut E,
     ) -> Result<(), NoMemory>
-        requires sound { IsAt self.old (Place.String kind span 0 Between) }
-        requires reached { Reached (E.stands_for to.old) (cbor_state_at self.old (Place.String kind span 0 Between)) }
+        requires sound { IsAt self.old (CborPlace.String kind span 0 Between) }
+        requires reached { Reached (E.stands_for to.old) (cbor_state_at self.old (CborPlace.String kind span 0 Between)) }
         requires takes { TakesEvery (E.takes to.old) }
-        ensures goes { OnOk result (CborGoes (E.stands_for to.old) self.old [] (Place.String kind span 0 Between) []
+        ensures goes { OnOk result (CborGoes (E.stands_for to.old) self.old [] (CborPlace.String kind span 0 Between) []
             (E.stands_for to.new) self.new) }
         ensures takes { OnOk result (TakesSame (E.takes to.old) (E.takes to.new)) }
         ensures alike { E.alike to.old to.new }
@@ -201,7 +201,7 @@ impl Reader {
         match span {
             Span::Whole => self.end_string(kind, to),
             Span::Chunk => {
-                self.place = Place::Chunks(kind);
+                self.place = CborPlace::Chunks(kind);
                 Ok(())
             }
         }
@@ -226,10 +226,10 @@ impl Reader {
         len: u64,
         to: &mut E,
     ) -> Result<(), NoMemory>
-        requires sound { IsAt self.old (Place.Argument (Subject.String kind span) 0 len) }
-        requires reached { Reached (E.stands_for to.old) (cbor_state_at self.old (Place.Argument (Subject.String kind span) 0 len)) }
+        requires sound { IsAt self.old (CborPlace.Argument (Subject.String kind span) 0 len) }
+        requires reached { Reached (E.stands_for to.old) (cbor_state_at self.old (CborPlace.Argument (Subject.String kind span) 0 len)) }
         requires takes { TakesEvery (E.takes to.old) }
-        ensures goes { OnOk result (CborGoes (E.stands_for to.old) self.old [] (Place.Argument (Subject.String kind span) 0 len) []
+        ensures goes { OnOk result (CborGoes (E.stands_for to.old) self.old [] (CborPlace.Argument (Subject.String kind span) 0 len) []
             (E.stands_for to.new) self.new) }
         ensures takes { OnOk result (TakesSame (E.takes to.old) (E.takes to.new)) }
         ensures alike { E.alike to.old to.new }
@@ -238,23 +238,23 @@ impl Reader {
         if len == 0 {
             return self.end_span(kind, span, to);
         }
-        self.place = Place::String(kind, span, len, Utf8::Between);
+        self.place = CborPlace::String(kind, span, len, Utf8::Between);
         Ok(())
     }
 
     // A tag opens.
     pub(super) fn open_tag<E: EventSink>(&mut self, number: u64, to: &mut E) -> Result<(), NoMemory>
-        requires sound { IsAt self.old (Place.Argument Subject.Tag 0 number) }
-        requires reached { Reached (E.stands_for to.old) (cbor_state_at self.old (Place.Argument Subject.Tag 0 number)) }
+        requires sound { IsAt self.old (CborPlace.Argument Subject.Tag 0 number) }
+        requires reached { Reached (E.stands_for to.old) (cbor_state_at self.old (CborPlace.Argument Subject.Tag 0 number)) }
         requires takes { TakesEvery (E.takes to.old) }
-        ensures goes { OnOk result (CborGoes (E.stands_for to.old) self.old [] (Place.Argument Subject.Tag 0 number) []
+        ensures goes { OnOk result (CborGoes (E.stands_for to.old) self.old [] (CborPlace.Argument Subject.Tag 0 number) []
             (E.stands_for to.new) self.new) }
         ensures takes { OnOk result (TakesSame (E.takes to.old) (E.takes to.new)) }
         ensures alike { E.alike to.old to.new }
     {
         to.event(Event::Tag(number))?;
         self.levels.enter(Level::Tag);
-        self.place = Place::Item;
+        self.place = CborPlace::Item;
         Ok(())
     }
 
@@ -265,10 +265,10 @@ impl Reader {
         value: u64,
         to: &mut E,
     ) -> Result<(), NoMemory>
-        requires sound { IsAt self.old (Place.Argument subject 0 value) }
-        requires reached { Reached (E.stands_for to.old) (cbor_state_at self.old (Place.Argument subject 0 value)) }
+        requires sound { IsAt self.old (CborPlace.Argument subject 0 value) }
+        requires reached { Reached (E.stands_for to.old) (cbor_state_at self.old (CborPlace.Argument subject 0 value)) }
         requires takes { TakesEvery (E.takes to.old) }
-        ensures goes { OnOk result (CborGoes (E.stands_for to.old) self.old [] (Place.Argument subject 0 value) []
+        ensures goes { OnOk result (CborGoes (E.stands_for to.old) self.old [] (CborPlace.Argument subject 0 value) []
             (E.stands_for to.new) self.new) }
         ensures takes { OnOk result (TakesSame (E.takes to.old) (E.takes to.new)) }
         ensures alike { E.alike to.old to.new }
@@ -304,10 +304,10 @@ impl Reader {
         value: u64,
         to: &mut E,
     ) -> Result<(), NoMemory>
-        requires sound { IsAt self.old (Place.Argument subject left value) }
-        requires reached { Reached (E.stands_for to.old) (cbor_state_at self.old (Place.Argument subject left value)) }
+        requires sound { IsAt self.old (CborPlace.Argument subject left value) }
+        requires reached { Reached (E.stands_for to.old) (cbor_state_at self.old (CborPlace.Argument subject left value)) }
         requires takes { TakesEvery (E.takes to.old) }
-        ensures goes { OnOk result (CborGoes (E.stands_for to.old) self.old [] (Place.Argument subject left value) []
+        ensures goes { OnOk result (CborGoes (E.stands_for to.old) self.old [] (CborPlace.Argument subject left value) []
             (E.stands_for to.new) self.new) }
         ensures takes { OnOk result (TakesSame (E.takes to.old) (E.takes to.new)) }
         ensures alike { E.alike to.old to.new }
@@ -315,16 +315,16 @@ impl Reader {
         if left == 0 {
             return self.end_argument(subject, value, to);
         }
-        self.place = Place::Argument(subject, left, value);
+        self.place = CborPlace::Argument(subject, left, value);
         Ok(())
     }
 
     // The chunks of a string are to come.
     pub(super) fn begin_chunks(&mut self, kind: StringKind)
-        ensures others { self.new ≡ record self.old { place = Place.Chunks kind; held = self.new.held } }
+        ensures others { self.new ≡ record self.old { place = CborPlace.Chunks kind; held = self.new.held } }
         ensures held { self.new.held.items ≡ [] }
     {
         self.held.clear();
-        self.place = Place::Chunks(kind);
+        self.place = CborPlace::Chunks(kind);
     }
 }

@@ -5,7 +5,7 @@ use Rattle.sm_tree.specs.EventView.{event_of}
 use Rattle.sm_cbor.specs.steps.Machine.{IsAt, CborGoes, cbor_state_at}
 use Rattle.sm_cbor.specs.steps.Sinks.{Reached, Owed}
 use Rattle.sm_cbor.specs.declared.place.Level.TheVariants.{List as AList, Map as AMap}
-use Rattle.sm_cbor.specs.declared.place.Place.TheVariants.{After, Argument as InArgument}
+use Rattle.sm_cbor.specs.declared.place.CborPlace.TheVariants.{After, Argument as InArgument}
 use Rattle.sm_cbor.proofs.EndSteps.{unsigned_goes, unsigned_owed, negative_goes, negative_owed, opaque_goes, opaque_owed, list_goes}
 use Rattle.sm_cbor.proofs.EndSteps.{list_owed, map_goes, map_owed, opener_reached}
 use Rattle.sm_cbor.proofs.read.Reader.end_argument.Goals as goal

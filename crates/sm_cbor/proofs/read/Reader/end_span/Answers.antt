@@ -1,7 +1,7 @@
 use Rattle.std.proofs.Common.{[], sym, subst}
 use Rattle.sm_bytes.specs.declared.utf8.Utf8.TheVariants.{Between}
 use Rattle.sm_cbor.specs.steps.Machine.{IsAt, CborGoes}
-use Rattle.sm_cbor.specs.declared.place.Place.TheVariants.{String, Chunks}
+use Rattle.sm_cbor.specs.declared.place.CborPlace.TheVariants.{String, Chunks}
 use Rattle.sm_cbor.proofs.EndSteps.{chunk_goes}
 use Rattle.sm_cbor.proofs.read.Reader.end_span.Goals as goal
 

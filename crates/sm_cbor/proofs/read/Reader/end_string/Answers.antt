@@ -7,7 +7,7 @@ use Rattle.sm_bytes.specs.declared.utf8.Utf8.TheVariants.{Between}
 use Rattle.sm_cbor.specs.steps.Machine.{IsAt, CborGoes, cbor_state_at}
 use Rattle.sm_cbor.specs.steps.Sinks.{Reached, Owed}
 use Rattle.sm_cbor.specs.declared.place.Span.TheVariants.{Whole}
-use Rattle.sm_cbor.specs.declared.place.Place.TheVariants.{Item, After, String}
+use Rattle.sm_cbor.specs.declared.place.CborPlace.TheVariants.{Item, After, String}
 use Rattle.sm_cbor.specs.declared.read.Reader.{Reader}
 use Rattle.sm_cbor.proofs.EndSteps.{text_held, key_held, bytes_goes, bytes_owed, text_goes, text_owed, key_goes, key_may}
 use Rattle.sm_cbor.proofs.read.Reader.end_string.Goals as goal

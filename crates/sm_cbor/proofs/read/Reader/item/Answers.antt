@@ -1,6 +1,6 @@
 use Rattle.std.proofs.Common.{[], ◌∷◌, refl, sym, subst}
 use Rattle.sm_cbor.specs.steps.Machine.{CborGoes}
-use Rattle.sm_cbor.specs.declared.place.Place.TheVariants.{Item}
+use Rattle.sm_cbor.specs.declared.place.CborPlace.TheVariants.{Item}
 use Rattle.sm_cbor.specs.declared.read.Reader.{Reader}
 use Rattle.sm_cbor.proofs.InitialSteps.{argument_goes, argument_reached, argument_deep, list_deep, map_deep, list_begins}
 use Rattle.sm_cbor.proofs.InitialSteps.{list_begins_owed, map_begins, map_begins_owed, chunks_begin, null_goes, null_owed, bool_goes}

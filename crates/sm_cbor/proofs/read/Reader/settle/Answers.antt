@@ -68,29 +68,40 @@ loop-level-preserved g c = record {
 }
 
 pub enter-requires : goal.enter-requires
-enter-requires g c =
-    room_left (g.E.EventSink.stands_for c.args.to.now) (g.E.EventSink.stands_for c.loop-level.to) c.args.self.now c.loop-level.self (AList
-    c.in-List.left) (nested_in c.leave.new.self) c.loop-level.invariant.settles
-    (popped (levels_of c.loop-level.self) (nested_in c.leave.new.self) c.in-Some.level (AList c.in-List.left) c.in-Some.ensures
-    c.in-List.is)
+enter-requires g c = (
+  omega arith,
+  room_left (g.E.EventSink.stands_for c.args.to.now) (g.E.EventSink.stands_for c.loop-level.to) c.args.self.now c.loop-level.self (AList
+      c.in-List.left) (nested_in c.leave.new.self) c.loop-level.invariant.settles
+      (popped (levels_of c.loop-level.self) (nested_in c.leave.new.self) c.in-Some.level (AList c.in-List.left) c.in-Some.ensures
+      c.in-List.is),
+)
 
 pub enter-requires-then-left-gt0-2 : goal.enter-requires-then-left-gt0-2
-enter-requires-then-left-gt0-2 g c =
-    room_left (g.E.EventSink.stands_for c.args.to.now) (g.E.EventSink.stands_for c.loop-level.to) c.args.self.now c.loop-level.self (AMap
-    c.in-Map.left) (nested_in c.leave.new.self) c.loop-level.invariant.settles
-    (popped (levels_of c.loop-level.self) (nested_in c.leave.new.self) c.in-Some.level (AMap c.in-Map.left) c.in-Some.ensures c.in-Map.is)
+enter-requires-then-left-gt0-2 g c = (
+  omega arith,
+  room_left (g.E.EventSink.stands_for c.args.to.now) (g.E.EventSink.stands_for c.loop-level.to) c.args.self.now c.loop-level.self (AMap
+      c.in-Map.left) (nested_in c.leave.new.self) c.loop-level.invariant.settles
+      (popped (levels_of c.loop-level.self) (nested_in c.leave.new.self) c.in-Some.level (AMap c.in-Map.left) c.in-Some.ensures
+      c.in-Map.is),
+)
 
 pub enter-requires-in-ListToBreak : goal.enter-requires-in-ListToBreak
-enter-requires-in-ListToBreak g c =
-    room_left (g.E.EventSink.stands_for c.args.to.now) (g.E.EventSink.stands_for c.loop-level.to) c.args.self.now
-    c.loop-level.self AListToBreak (nested_in c.leave.new.self) c.loop-level.invariant.settles
-    (popped (levels_of c.loop-level.self) (nested_in c.leave.new.self) c.in-Some.level AListToBreak c.in-Some.ensures c.in-ListToBreak.is)
+enter-requires-in-ListToBreak g c = (
+  omega arith,
+  room_left (g.E.EventSink.stands_for c.args.to.now) (g.E.EventSink.stands_for c.loop-level.to) c.args.self.now
+      c.loop-level.self AListToBreak (nested_in c.leave.new.self) c.loop-level.invariant.settles
+      (popped (levels_of c.loop-level.self) (nested_in c.leave.new.self) c.in-Some.level AListToBreak c.in-Some.ensures
+      c.in-ListToBreak.is),
+)
 
 pub enter-requires-in-MapToBreak : goal.enter-requires-in-MapToBreak
-enter-requires-in-MapToBreak g c =
-    room_left (g.E.EventSink.stands_for c.args.to.now) (g.E.EventSink.stands_for c.loop-level.to) c.args.self.now
-    c.loop-level.self AMapToBreak (nested_in c.leave.new.self) c.loop-level.invariant.settles
-    (popped (levels_of c.loop-level.self) (nested_in c.leave.new.self) c.in-Some.level AMapToBreak c.in-Some.ensures c.in-MapToBreak.is)
+enter-requires-in-MapToBreak g c = (
+  omega arith,
+  room_left (g.E.EventSink.stands_for c.args.to.now) (g.E.EventSink.stands_for c.loop-level.to) c.args.self.now
+      c.loop-level.self AMapToBreak (nested_in c.leave.new.self) c.loop-level.invariant.settles
+      (popped (levels_of c.loop-level.self) (nested_in c.leave.new.self) c.in-Some.level AMapToBreak c.in-Some.ensures
+      c.in-MapToBreak.is),
+)
 
 pub returns-then-left-gt0-clause-goes : goal.returns-then-left-gt0-clause-goes
 returns-then-left-gt0-clause-goes g c =

@@ -2,7 +2,7 @@ use Rattle.std.proofs.Common.{sym, ap, subst}
 use Rattle.sm_tree.specs.Events.{text_event}
 use Rattle.sm_cbor.specs.steps.Machine.{cbor_state_at}
 use Rattle.sm_cbor.specs.steps.Sinks.{Owed}
-use Rattle.sm_cbor.specs.declared.place.Place.TheVariants.{After}
+use Rattle.sm_cbor.specs.declared.place.CborPlace.TheVariants.{After}
 use Rattle.sm_cbor.proofs.PrefixSteps.{text_prefix, text_owed}
 use Rattle.sm_cbor.proofs.read.Reader.take_text.Goals as goal
 

@@ -1,6 +1,6 @@
 use Rattle.std.proofs.Common.{[], ◌∷◌, sym, subst}
 use Rattle.sm_cbor.specs.steps.Machine.{CborGoes}
-use Rattle.sm_cbor.specs.declared.place.Place.TheVariants.{Key}
+use Rattle.sm_cbor.specs.declared.place.CborPlace.TheVariants.{Key}
 use Rattle.sm_cbor.specs.declared.read.Reader.{Reader}
 use Rattle.sm_cbor.proofs.InitialSteps.{key_begins, key_reached, key_chunks_begin}
 use Rattle.sm_cbor.proofs.read.Reader.text_key.Goals as goal
