@@ -277,10 +277,10 @@ module _ (t : TableData) (l : Convention) (p : Place) where
     union_opens = object_opener_ready S T (member (wire_name_in t l p k) one no_members) 1 refl h
 
     module _ {M : StandsFor} {U : Takes} {w : List ℕ} (same : w ≡ wire_name_in t l p k) (came : Came S T (start_object (Some 1) ∷ []) M U)
-        where
-      pub union_ready : IsReady M U (named_stream t l (member_place k) w v)
-      union_ready = one_pair_ready S M T U (wire_name_in t l p k) w one same h came
+      where
+        pub union_ready : IsReady M U (named_stream t l (member_place k) w v)
+        union_ready = one_pair_ready S M T U (wire_name_in t l p k) w one same h came
 
-      pub union_came : (N : StandsFor) (V : Takes) → Came M U (named_stream t l (member_place k) w v) N V
-          → CameUpTo S T (union_stream t l p k v) N V (end_object ∷ [])
-      union_came N V pair = one_pair_came S M N T U V (wire_name_in t l p k) w one same h came pair
+        pub union_came : (N : StandsFor) (V : Takes) → Came M U (named_stream t l (member_place k) w v) N V
+            → CameUpTo S T (union_stream t l p k v) N V (end_object ∷ [])
+        union_came N V pair = one_pair_came S M N T U V (wire_name_in t l p k) w one same h came pair

@@ -378,9 +378,7 @@ fn hand_field<L: Leaves, E: EventSink>(
     ensures alike { E.alike to.old to.new }
 {
     if is_written(members, part.0) {
-        let name = by
-            .leaves
-            .wire_name(by.table, place.shape(by.table), part.0);
+        let name = by.leaves.wire_name(by.table, place.shape(by.table), part.0);
         let place = ValuePlace::Member(part.0);
         hand_pair(by, name, place, &part.1, to)
     } else {
@@ -436,9 +434,7 @@ fn hand_one<L: Leaves, E: EventSink>(
         (E.stands_for to.new) (E.takes to.new)) }
     ensures alike { E.alike to.old to.new }
 {
-    let name = by
-        .leaves
-        .wire_name(by.table, place.shape(by.table), member);
+    let name = by.leaves.wire_name(by.table, place.shape(by.table), member);
     match hand(Event::StartObject(Some(1)), to) {
         Ok(()) => {}
         Err(refusal) => return Err(refusal),

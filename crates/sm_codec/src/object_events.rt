@@ -56,8 +56,8 @@ pub fn encode_object_events<L: Leaves, E: EventSink>(
     ensures stands { OnOk result (E.stands_for to.new (numbered (written_object (table_data table.now) (L.convention leaves.now)
         (root_place shape) (option_map (λ pair. (pair.0.now, pair.1.now)) before.entry) (option_copied members.entry)
         (fields_of (each_field_view fields.now))) [])) }
-    ensures takes_same { OnOk result (TakesSame (E.takes to.old) (E.takes to.new)) }
     ensures alike { E.alike to.old to.new }
+    ensures takes_same { OnOk result (TakesSame (E.takes to.old) (E.takes to.new)) }
 {
     leaves.laws();
     let by = Writing {
@@ -77,12 +77,12 @@ fn hand_object<L: Leaves, E: EventSink>(
     members: Option<&[u32]>,
     to: &mut E,
 ) -> Result<(), NoMemory>
-    requires laws { IsConvention (L.convention by.now.leaves.now) }
-    requires shaped { Shaped (table_data by.now.table.now) }
-    requires place { InTable (table_data by.now.table.now) (place_of place) }
     requires rise { IfSome (option_copied members) IsNonDecreasing }
     requires parts { FieldsCarried (table_data by.now.table.now) (L.convention by.now.leaves.now)
         (fields_among (option_copied members) (fields_of (each_field_view fields.now))) }
+    requires place { InTable (table_data by.now.table.now) (place_of place) }
+    requires shaped { Shaped (table_data by.now.table.now) }
+    requires laws { IsConvention (L.convention by.now.leaves.now) }
     requires ready { IsReady (E.stands_for to.old) (E.takes to.old)
         (chosen_stream (table_data by.now.table.now) (L.convention by.now.leaves.now) (place_of place)
         (option_map (λ pair. (pair.0.now, pair.1.now)) before) (option_copied members) fields.now) }

@@ -12,7 +12,7 @@ hand-requires g c =
     let o = option_copied c.args.members in
     record {
       ready = chosen_opens (table_data c.args.by.now.table.now) (g.L.Leaves.convention c.args.by.now.leaves.now)
-    (place_of c.args.place) o before c.args.fields.now c.count_pairs-count.result c.count_pairs-count.ensures c.requires.ready;
+          (place_of c.args.place) o before c.args.fields.now c.count_pairs-count.result c.count_pairs-count.ensures c.requires.ready;
     }
 
 pub hand_before-requires : goal.hand_before-requires
@@ -21,7 +21,7 @@ hand_before-requires g c =
     let o = option_copied c.args.members in
     record {
       ready = before_ready (table_data c.args.by.now.table.now) (g.L.Leaves.convention c.args.by.now.leaves.now)
-    (place_of c.args.place) o before c.args.fields.now c.count_pairs-count.result c.count_pairs-count.ensures c.requires.ready
+          (place_of c.args.place) o before c.args.fields.now c.count_pairs-count.result c.count_pairs-count.ensures c.requires.ready
           c.in-Ok.ensures.came;
     }
 
