@@ -1,11 +1,12 @@
 -- Lists whose events are handed on, one element after the other: what may come next, and what came.
 use Rattle.std.proofs.Common.{◌≡◌, ℕ, suc, ◌+◌, ◌<◌, length, get_or, drop, Bool, true, false, cond, List, []}
-use Rattle.std.proofs.Common.{◌∷◌, ◌++◌, refl, sym, ap, ◌∙◌, subst}
+use Rattle.std.proofs.Common.{◌∷◌, ◌++◌, refl, sym, ap, ◌∙◌, subst, arith}
 use Rattle.std.specs.Prelude.{Option, None, Some, Result, OnOk}
 use Rattle.std.proofs.lemmas.List.{drop_more, length-map}
-use Rattle.sm_tree.specs.Events.{NodeEvent, start_list, start_object}
+use Rattle.sm_tree.specs.Node.{Node, Members, text, member, no_members}
+use Rattle.sm_tree.specs.Events.{NodeEvent, end_object, start_list, start_object}
 use Rattle.sm_tree.proofs.Handing.{takes_none}
-use Rattle.sm_tree.specs.Streams.{StandsFor, Takes, entry_count, numbered, numbered_pairs, pair_count}
+use Rattle.sm_tree.specs.Streams.{StandsFor, Takes, entry_count, numbered_pairs, pair_count}
 use Rattle.sm_shapes.specs.Places.{Place, entry_place, member_place, value_place}
 use Rattle.sm_shapes.specs.TableData.{TableData}
 use Rattle.sm_shapes.specs.Values.{Val, FieldVals, no_fields, field, vals_of, entries_of, fields_of}
@@ -15,11 +16,13 @@ use Rattle.sm_codec.specs.Codec.{wire_name_in}
 use Rattle.sm_codec.specs.Convention.{Convention}
 use Rattle.sm_codec.specs.Written.{written, written_entries, written_pairs, written_fields}
 use Rattle.sm_codec.specs.WrittenObjects.{is_written, fields_among, with_pair}
-use Rattle.sm_codec.specs.steps.EventsHanded.{IsReady, Came, CameUpTo, entries_left, field_count, field_stream, fields_left, items_left}
-use Rattle.sm_codec.specs.steps.EventsHanded.{FieldHolds, list_stream, object_count, object_stream, pair_stream}
+use Rattle.sm_codec.specs.steps.EventsHanded.{IsReady, Came, CameUpTo, before_stream, chosen_stream, entries_left, entries_stream}
+use Rattle.sm_codec.specs.steps.EventsHanded.{field_count, field_stream, fields_left, fields_stream, items_left, items_stream, named_stream}
+use Rattle.sm_codec.specs.steps.EventsHanded.{FieldHolds, object_count, union_stream, value_stream}
 use Rattle.sm_codec.specs.steps.ValueParts.{FieldsHold, LeafWord}
 use Rattle.sm_codec.proofs.HandedEvents.{come_more, entries_counted, entry_then, fields_counted, first_ready, last_came, list_begun}
-use Rattle.sm_codec.proofs.HandedEvents.{list_opener_ready, object_begun, object_opener_ready, pair_then, pairs_counted}
+use Rattle.sm_codec.proofs.HandedEvents.{list_opener_ready, object_begun, object_opener_ready, one_pair_came, one_pair_ready, pair_then}
+use Rattle.sm_codec.proofs.HandedEvents.{pairs_counted}
 
 -- what is left of a list is its element and those behind it
 pub cut_at : {X : Type 0} (xs : List X) (i : ℕ) (x : X) → i < length xs → x ≡ get_or xs i x → drop i xs ≡ x ∷ drop (i + 1) xs
@@ -56,20 +59,23 @@ pub among_next : (o : Option (List ℕ)) (k : ℕ) (v : Val) (fs : FieldVals)
 among_next None k v fs = refl
 among_next (Some ks) k v fs = refl
 
-module _ (t : TableData) (leaf : LeafWord) (o : Option (List ℕ)) (k : ℕ) (v : Val) (fs : FieldVals)
-    (h : FieldsHold t leaf (fields_among o (field k v fs))) where
-  told : FieldsHold t leaf (cond (is_written o k) (field k v (fields_among o fs)) (fields_among o fs))
-  told = subst (FieldsHold t leaf) (among_next o k v fs) h
+module _ (t : TableData) (leaf : LeafWord) (o : Option (List ℕ)) {xs more : List (ℕ × Value)} {x : ℕ × Value} (cut : xs ≡ x ∷ more)
+    (h : FieldsHold t leaf (fields_among o (fields_of (each_field_view xs)))) where
+  abbrev others : FieldVals
+  others = fields_among o (fields_of (each_field_view more))
 
-  pub written_holds : is_written o k ≡ true → FieldHolds t leaf k v
-  written_holds e =
-      let all = subst (λ b. FieldsHold t leaf (cond b (field k v (fields_among o fs)) (fields_among o fs))) e told in (all.0, all.1)
+  told : FieldsHold t leaf (cond (is_written o x.0) (field x.0 (val_of x.1) others) others)
+  told =
+      subst (FieldsHold t leaf) (ap (λ ys. fields_among o (fields_of (each_field_view ys))) cut
+      ∙ among_next o x.0 (val_of x.1) (fields_of (each_field_view more))) h
 
-  pub rest_holds : FieldsHold t leaf (fields_among o fs)
-  rest_holds = by (is_written o k) told
+  pub part_holds : is_written o x.0 ≡ true → FieldHolds t leaf x.0 (val_of x.1)
+  part_holds e = let all = subst (λ b. FieldsHold t leaf (cond b (field x.0 (val_of x.1) others) others)) e told in (all.0, all.1)
+
+  pub others_hold : FieldsHold t leaf others
+  others_hold = by (is_written o x.0) told
     where
-      by : (b : Bool) → FieldsHold t leaf (cond b (field k v (fields_among o fs)) (fields_among o fs))
-          → FieldsHold t leaf (fields_among o fs)
+      by : (b : Bool) → FieldsHold t leaf (cond b (field x.0 (val_of x.1) others) others) → FieldsHold t leaf others
       by true g = g.2
       by false g = g
 
@@ -90,8 +96,8 @@ count_next o k v fs = ap field_count (among_next o k v fs) ∙ by (is_written o 
   where
     by : (b : Bool) → field_count (cond b (field k v (fields_among o fs)) (fields_among o fs))
         ≡ cond b 1 0 + field_count (fields_among o fs)
-    by true = refl
-    by false = refl
+    by true = omega arith
+    by false = omega arith
 
 pub pairs_of_fields : (t : TableData) (l : Convention) (p : Place) (fs : FieldVals) → pair_count (written_fields t l p fs) ≡ field_count fs
 pairs_of_fields t l p no_fields = refl
@@ -102,10 +108,19 @@ pub pairs_of_object : (t : TableData) (l : Convention) (p : Place) (before : Opt
 pairs_of_object t l p None fs = pairs_of_fields t l p fs
 pairs_of_object t l p (Some pair) fs = ap suc (pairs_of_fields t l p fs)
 
+-- the pair before them, if there is one, comes first
+before_then : (before : Option (List ℕ × List ℕ)) (ms : Members)
+    → numbered_pairs (with_pair before ms) [] ≡ before_stream before ++ numbered_pairs ms []
+before_then None ms = refl
+before_then (Some pair) ms = pair_then pair.0 (text pair.1) ms
+
+pub came_nothing : (S : StandsFor) (T : Takes) → Came S T [] S T
+came_nothing S T = record { stands = takes_none S; same = λ e h. h }
+
 module _ (t : TableData) (l : Convention) (p : Place) where
   -- the opener of a list, of a map's object and of a structure's
   module _ {S : StandsFor} {T : Takes} where
-    module _ (all : List Value) (h : IsReady S T (list_stream (written_entries t l p (vals_of (vals_view all))))) where
+    module _ (all : List Value) (h : IsReady S T (items_stream t l p all)) where
       items_count : entry_count (written_entries t l p (vals_of (vals_view all))) ≡ length all
       items_count = entries_counted t l p (vals_view all) ∙ length-map all val_of
 
@@ -113,10 +128,10 @@ module _ (t : TableData) (l : Convention) (p : Place) where
       list_opens = list_opener_ready S T (written_entries t l p (vals_of (vals_view all))) (length all) items_count h
 
       pub list_opened : (M : StandsFor) (U : Takes) → Came S T (start_list (Some (length all)) ∷ []) M U
-          → CameUpTo S T (list_stream (written_entries t l p (vals_of (vals_view all)))) M U (items_left t l p all)
+          → CameUpTo S T (items_stream t l p all) M U (items_left t l p all)
       list_opened M U came = list_begun S M T U (written_entries t l p (vals_of (vals_view all))) (length all) items_count h came
 
-    module _ (all : List (List ℕ × Value)) (h : IsReady S T (object_stream (written_pairs t l p (entries_of (each_entry_view all))))) where
+    module _ (all : List (List ℕ × Value)) (h : IsReady S T (entries_stream t l p all)) where
       entries_count : pair_count (written_pairs t l p (entries_of (each_entry_view all))) ≡ length all
       entries_count = pairs_counted t l p (each_entry_view all) ∙ length-map all (λ e. (e.0, val_of e.1))
 
@@ -124,10 +139,10 @@ module _ (t : TableData) (l : Convention) (p : Place) where
       map_opens = object_opener_ready S T (written_pairs t l p (entries_of (each_entry_view all))) (length all) entries_count h
 
       pub map_opened : (M : StandsFor) (U : Takes) → Came S T (start_object (Some (length all)) ∷ []) M U
-          → CameUpTo S T (object_stream (written_pairs t l p (entries_of (each_entry_view all)))) M U (entries_left t l p all)
+          → CameUpTo S T (entries_stream t l p all) M U (entries_left t l p all)
       map_opened M U came = object_begun S M T U (written_pairs t l p (entries_of (each_entry_view all))) (length all) entries_count h came
 
-    module _ (all : List (ℕ × Value)) (h : IsReady S T (object_stream (written_fields t l p (fields_of (each_field_view all))))) where
+    module _ (all : List (ℕ × Value)) (h : IsReady S T (fields_stream t l p all)) where
       fields_count : pair_count (written_fields t l p (fields_of (each_field_view all))) ≡ length all
       fields_count = fields_counted t l p (each_field_view all) ∙ length-map all (λ f. (f.0, val_of f.1))
 
@@ -135,49 +150,49 @@ module _ (t : TableData) (l : Convention) (p : Place) where
       structure_opens = object_opener_ready S T (written_fields t l p (fields_of (each_field_view all))) (length all) fields_count h
 
       pub structure_opened : (M : StandsFor) (U : Takes) → Came S T (start_object (Some (length all)) ∷ []) M U
-          → CameUpTo S T (object_stream (written_fields t l p (fields_of (each_field_view all)))) M U (fields_left t l p None all)
+          → CameUpTo S T (fields_stream t l p all) M U (fields_left t l p None all)
       structure_opened M U came =
           object_begun S M T U (written_fields t l p (fields_of (each_field_view all))) (length all) fields_count h came
 
   -- the entries of a list, and the pairs of a map, whose values stand at a place that may be told by another word
   module _ (q : Place) where
     abbrev item_stream : Value → List NodeEvent
-    item_stream x = numbered (written t l q (val_of x)) []
+    item_stream x = value_stream t l q (val_of x)
 
     items_split : q ≡ entry_place t p → (x : Value) (xs : List Value) → items_left t l p (x ∷ xs) ≡ item_stream x ++ items_left t l p xs
     items_split e x xs =
         entry_then (written t l (entry_place t p) (val_of x)) (written_entries t l p (vals_of (vals_view xs)))
-        ∙ ap (λ r. numbered (written t l r (val_of x)) [] ++ items_left t l p xs) (sym e)
+        ∙ ap (λ r. value_stream t l r (val_of x) ++ items_left t l p xs) (sym e)
 
     abbrev entry_stream : List ℕ × Value → List NodeEvent
-    entry_stream x = pair_stream x.0 (written t l q (val_of x.1))
+    entry_stream x = named_stream t l q x.0 (val_of x.1)
 
     entries_split : q ≡ value_place t p → (x : List ℕ × Value) (xs : List (List ℕ × Value))
         → entries_left t l p (x ∷ xs) ≡ entry_stream x ++ entries_left t l p xs
     entries_split e x xs =
         pair_then x.0 (written t l (value_place t p) (val_of x.1)) (written_pairs t l p (entries_of (each_entry_view xs)))
-        ∙ ap (λ r. pair_stream x.0 (written t l r (val_of x.1)) ++ entries_left t l p xs) (sym e)
+        ∙ ap (λ r. named_stream t l r x.0 (val_of x.1) ++ entries_left t l p xs) (sym e)
 
     module _ (e : q ≡ entry_place t p) {S M : StandsFor} {T U : Takes} {out : List NodeEvent} {xs more : List Value} {x : Value}
         (cut : xs ≡ x ∷ more) (h : CameUpTo S T out M U (items_left t l p xs)) where
-      pub item_ready : IsReady M U (numbered (written t l q (val_of x)) [])
+      pub item_ready : IsReady M U (value_stream t l q (val_of x))
       item_ready = next_ready (items_left t l p) item_stream (items_split e) cut h
 
-      pub item_came : (N : StandsFor) (V : Takes) → Came M U (numbered (written t l q (val_of x)) []) N V
+      pub item_came : (N : StandsFor) (V : Takes) → Came M U (value_stream t l q (val_of x)) N V
           → CameUpTo S T out N V (items_left t l p more)
       item_came = next_came (items_left t l p) item_stream (items_split e) cut h
 
     module _ (e : q ≡ value_place t p) {S M : StandsFor} {T U : Takes} {out : List NodeEvent} {xs more : List (List ℕ × Value)}
         {x : List ℕ × Value} {w : List ℕ} (same : w ≡ x.0) (cut : xs ≡ x ∷ more) (h : CameUpTo S T out M U (entries_left t l p xs)) where
-      pub entry_ready : IsReady M U (pair_stream w (written t l q (val_of x.1)))
-      entry_ready = subst (λ k. IsReady M U (pair_stream k (written t l q (val_of x.1)))) (sym same)
+      pub entry_ready : IsReady M U (named_stream t l q w (val_of x.1))
+      entry_ready = subst (λ k. IsReady M U (named_stream t l q k (val_of x.1))) (sym same)
           (next_ready (entries_left t l p) entry_stream (entries_split e) cut h)
 
-      pub entry_came : (N : StandsFor) (V : Takes) → Came M U (pair_stream w (written t l q (val_of x.1))) N V
+      pub entry_came : (N : StandsFor) (V : Takes) → Came M U (named_stream t l q w (val_of x.1)) N V
           → CameUpTo S T out N V (entries_left t l p more)
       entry_came N V came =
           next_came (entries_left t l p) entry_stream (entries_split e) cut h N V
-          (subst (λ k. Came M U (pair_stream k (written t l q (val_of x.1))) N V) same came)
+          (subst (λ k. Came M U (named_stream t l q k (val_of x.1)) N V) same came)
 
   -- the fields of a structure that are written
   module _ (o : Option (List ℕ)) where
@@ -192,7 +207,7 @@ module _ (t : TableData) (l : Convention) (p : Place) where
         by : (b : Bool)
             → numbered_pairs (written_fields t l p (cond b (field x.0 (val_of x.1) (fields_among o (fields_of (each_field_view xs))))
             (fields_among o (fields_of (each_field_view xs))))) []
-            ≡ cond b (pair_stream (wire_name_in t l p x.0) (written t l (member_place x.0) (val_of x.1))) [] ++ fields_left t l p o xs
+            ≡ cond b (named_stream t l (member_place x.0) (wire_name_in t l p x.0) (val_of x.1)) [] ++ fields_left t l p o xs
         by true = pair_then (wire_name_in t l p x.0) (written t l (member_place x.0) (val_of x.1)) (written_fields t l p (fields_among o
             (fields_of (each_field_view xs))))
         by false = refl
@@ -209,19 +224,63 @@ module _ (t : TableData) (l : Convention) (p : Place) where
     -- one field, whose name may be told by another word
     module _ (k : ℕ) (v : Val) {S : StandsFor} {T : Takes} where
       pub field_ready : {w : List ℕ} → is_written o k ≡ true → w ≡ wire_name_in t l p k → IsReady S T (field_stream t l p o k v)
-          → IsReady S T (pair_stream w (written t l (member_place k) v))
+          → IsReady S T (named_stream t l (member_place k) w v)
       field_ready e same h =
-          subst (λ x. IsReady S T (pair_stream x (written t l (member_place k) v))) (sym same)
-          (subst (λ b. IsReady S T (cond b (pair_stream (wire_name_in t l p k) (written t l (member_place k) v)) [])) e h)
+          subst (λ x. IsReady S T (named_stream t l (member_place k) x v)) (sym same)
+          (subst (λ b. IsReady S T (cond b (named_stream t l (member_place k) (wire_name_in t l p k) v) [])) e h)
 
       pub field_came : {A E : Type 0} {w : List ℕ} (M : StandsFor) (U : Takes) (r : Result A E) → is_written o k ≡ true
-          → w ≡ wire_name_in t l p k → OnOk r (Came S T (pair_stream w (written t l (member_place k) v)) M U)
+          → w ≡ wire_name_in t l p k → OnOk r (Came S T (named_stream t l (member_place k) w v) M U)
           → OnOk r (Came S T (field_stream t l p o k v) M U)
       field_came M U r e same h =
-          subst (λ b. OnOk r (Came S T (cond b (pair_stream (wire_name_in t l p k) (written t l (member_place k) v)) []) M U)) (sym e)
-          (subst (λ x. OnOk r (Came S T (pair_stream x (written t l (member_place k) v)) M U)) same h)
+          subst (λ b. OnOk r (Came S T (cond b (named_stream t l (member_place k) (wire_name_in t l p k) v) []) M U)) (sym e)
+          (subst (λ x. OnOk r (Came S T (named_stream t l (member_place k) x v) M U)) same h)
 
       pub none_came : is_written o k ≡ false → Came S T (field_stream t l p o k v) S T
       none_came e =
-          subst (λ b. Came S T (cond b (pair_stream (wire_name_in t l p k) (written t l (member_place k) v)) []) S T) (sym e)
-          (record { stands = takes_none S; same = λ x h. h })
+          subst (λ b. Came S T (cond b (named_stream t l (member_place k) (wire_name_in t l p k) v) []) S T) (sym e)
+          (came_nothing S T)
+
+    -- the object of a pair and of these fields
+    module _ (before : Option (List ℕ × List ℕ)) (all : List (ℕ × Value)) {S : StandsFor} {T : Takes} (k : ℕ)
+        (is : k ≡ object_count before (fields_among o (fields_of (each_field_view all))))
+        (h : IsReady S T (chosen_stream t l p before o all)) where
+      abbrev chosen : Members
+      chosen = written_fields t l p (fields_among o (fields_of (each_field_view all)))
+
+      count_is : pair_count (with_pair before chosen) ≡ k
+      count_is = pairs_of_object t l p before (fields_among o (fields_of (each_field_view all))) ∙ sym is
+
+      pub chosen_opens : IsReady S T (start_object (Some k) ∷ [])
+      chosen_opens = object_opener_ready S T (with_pair before chosen) k count_is h
+
+      module _ {M : StandsFor} {U : Takes} (came : Came S T (start_object (Some k) ∷ []) M U) where
+        begun : CameUpTo S T (chosen_stream t l p before o all) M U (before_stream before ++ fields_left t l p o all)
+        begun =
+            subst (CameUpTo S T (chosen_stream t l p before o all) M U) (before_then before chosen)
+            (object_begun S M T U (with_pair before chosen) k count_is h came)
+
+        pub before_ready : IsReady M U (before_stream before)
+        before_ready = first_ready M U (before_stream before) (fields_left t l p o all) begun.3
+
+        pub before_came : (N : StandsFor) (V : Takes) → Came M U (before_stream before) N V
+            → CameUpTo S T (chosen_stream t l p before o all) N V (fields_left t l p o all)
+        before_came N V pair =
+            come_more S M N T U V (chosen_stream t l p before o all) (before_stream before) (fields_left t l p o all) begun pair
+
+  -- the one pair of a union, whose name may be told by another word
+  module _ (k : ℕ) (v : Val) {S : StandsFor} {T : Takes} (h : IsReady S T (union_stream t l p k v)) where
+    abbrev one : Node
+    one = written t l (member_place k) v
+
+    pub union_opens : IsReady S T (start_object (Some 1) ∷ [])
+    union_opens = object_opener_ready S T (member (wire_name_in t l p k) one no_members) 1 refl h
+
+    module _ {M : StandsFor} {U : Takes} {w : List ℕ} (same : w ≡ wire_name_in t l p k) (came : Came S T (start_object (Some 1) ∷ []) M U)
+      where
+        pub union_ready : IsReady M U (named_stream t l (member_place k) w v)
+        union_ready = one_pair_ready S M T U (wire_name_in t l p k) w one same h came
+
+        pub union_came : (N : StandsFor) (V : Takes) → Came M U (named_stream t l (member_place k) w v) N V
+            → CameUpTo S T (union_stream t l p k v) N V (end_object ∷ [])
+        union_came N V pair = one_pair_came S M N T U V (wire_name_in t l p k) w one same h came pair

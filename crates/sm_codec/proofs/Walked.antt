@@ -3,8 +3,8 @@
 use Rattle.std.proofs.Common.{◌≡◌, ◌⊎◌, inl, inr, append_assoc, append-nil, ℕ, Bool, true, false, List, [], ◌∷◌, ◌++◌, refl, sym, ap, ◌∙◌}
 use Rattle.std.proofs.Common.{subst}
 use Rattle.std.specs.Prelude.{Option, Some, None, unwrap_or}
-use Rattle.sm_tree.specs.Node.{Node, null, bool, int, number, text, bytes, tag, opaque, list, object}
-use Rattle.sm_tree.specs.Building.{Inner}
+use Rattle.sm_tree.specs.Node.{Node, null, bool, int, number, text, bytes, tag, opaque, list, object, members_of}
+use Rattle.sm_tree.specs.Building.{Inner, in_object}
 use Rattle.sm_tree.specs.steps.BuilderSteps.{ended}
 use Rattle.sm_tree.proofs.Building.{MayEnd}
 use Rattle.sm_shapes.specs.InOrder.{Shaped}
@@ -200,6 +200,18 @@ module _ (c : Codec) (p : Place) (fs : List Frame) (all rest : List (List ℕ ×
   pub all_pairs : rest ≡ [] → LevelAt c p (object_level all) fs d
   all_pairs none =
       subst (λ ms. LevelAt c p (object_level ms) fs d) (sym (append-nil sofar.0) ∙ ap (λ xs. sofar.0 ++ xs) (sym none) ∙ sofar.1) sofar.2
+
+-- an object whose pairs have all come ends
+module _ (c : Codec) (d now : Decoding) (all rest : List (List ℕ × Node)) (shaped : Shaped c.table) (ready : WalkReady c.table d)
+    (root : now.shape ≡ d.shape) (sofar : PairsSoFar c (next_place c.table d) d.frames all rest now) (none : rest ≡ []) where
+  whole : LevelAt c (next_place c.table d) (object_level all) d.frames now
+  whole = all_pairs c (next_place c.table d) d.frames all rest now ready.0 sofar none
+
+  pub object_can_end : FirstCanEnd c.table now.shape now.frames
+  object_can_end = level_can_end c (in_object all) d now now shaped tt ready root whole
+
+  pub object_ended : (e : Decoding) → EndedBy c.table c.test now.shape now.frames e → TreeTaken c (object (members_of all)) d e
+  object_ended e by = level_ended c (in_object all) d now e shaped tt ready root whole by
 
 -- a pair: its name comes, and then the tree at its place, or nothing where it is of no member
 pub can_be_named : (c : Codec) (d : Decoding) (name : List ℕ) → Shaped c.table → PairReady c d → FirstCanName c.table d.frames

@@ -30,7 +30,7 @@ pub fn all_carried<L: Leaves>(table: &Table, shape: u32, value: &Value, leaves: 
     all_carried_at(table, ValuePlace::Root(shape), value, leaves)
 }
 
-/// The same of a value at a place: at a member its own format counts. No memory.
+/// Whether the convention carries every leaf of a value at a place. At a member its own format counts. No memory.
 pub fn all_carried_at<L: Leaves>(
     table: &Table,
     place: ValuePlace,

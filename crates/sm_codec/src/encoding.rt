@@ -23,7 +23,7 @@ use sm_shapes::values::Value;
 use sm_tree::{Items, NoMemory, Pairs, Text, Tree};
 use std::alloc::Global;
 
-/// The tree that is written for a value of the shape with this number, whose leaves the convention carries: an object has a pair for each
+/// The tree that is written for a value of the shape with this number, whose leaves the convention carries. An object has a pair for each
 /// member that is present, in model order, and for each key of a map, in byte order. `NoMemory` where the allocator refuses the memory of
 /// the tree.
 pub fn encode<L: Leaves>(
@@ -45,7 +45,8 @@ pub fn encode<L: Leaves>(
     encode_at(alloc, table, ValuePlace::Root(shape), value, leaves)
 }
 
-/// The same of a value at a place: at a member its own format and constraints count.
+/// The tree that is written for a value at a place, whose leaves the convention carries. At a member its own format and constraints count.
+/// `NoMemory` where the allocator refuses the memory of the tree.
 pub fn encode_at<L: Leaves>(
     alloc: Global,
     table: &Table,

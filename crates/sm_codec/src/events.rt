@@ -5,7 +5,6 @@ ghost use Rattle.sm_tree.specs.Events.{key_event};
 ghost use Rattle.sm_tree.specs.EventView.{event_of};
 ghost use Rattle.sm_tree.specs.Streams.{TakesEach, TakesSame, numbered};
 ghost use Rattle.sm_tree.specs.Node.{tag};
-ghost use Rattle.sm_tree.specs.Node as node;
 ghost use Rattle.sm_tree.specs.View.{node_of};
 ghost use Rattle.sm_shapes.specs.Fitting.{Fits, any_text};
 ghost use Rattle.sm_shapes.specs.InOrder.{Shaped};
@@ -14,19 +13,21 @@ ghost use Rattle.sm_shapes.specs.TableData.{shape_count, member_count};
 ghost use Rattle.sm_shapes.specs.TableView.{table_data};
 ghost use Rattle.sm_shapes.specs.Values.{vals_of, entries_of, fields_of};
 ghost use Rattle.sm_shapes.specs.ValueView.{val_of, vals_view, each_entry_view, each_field_view};
-ghost use Rattle.sm_codec.specs.Codec.{InTable, wire_name_in};
+ghost use Rattle.sm_codec.specs.Codec.{InTable};
 ghost use Rattle.sm_codec.specs.Convention.{IsConvention};
 ghost use Rattle.sm_codec.specs.PlaceView.{place_of};
 ghost use Rattle.sm_codec.specs.Sorts.{sort_of};
-ghost use Rattle.sm_codec.specs.Written.{written, written_leaf, written_entries, written_pairs, written_fields, uncarried};
+ghost use Rattle.sm_codec.specs.Written.{written, uncarried};
 ghost use Rattle.sm_codec.specs.WrittenObjects as chosen;
-ghost use Rattle.sm_codec.specs.steps.EventsHanded.{IsReady, Came, IsPlain, IsLeafNode, list_stream, object_stream, pair_stream};
-ghost use Rattle.sm_codec.specs.steps.EventsHanded.{FieldHolds, fields_left, field_stream};
-ghost use Rattle.sm_codec.specs.steps.ValueParts.{PartsHold, EntriesHold, PairsHold, FieldsHold, IsCarried, carried_leaf};
+ghost use Rattle.sm_codec.specs.steps.EventsHanded.{IsReady, Came, IsPlain, IsLeafNode, FieldHolds, value_stream, leaf_stream};
+ghost use Rattle.sm_codec.specs.steps.EventsHanded.{items_stream, entries_stream, fields_stream, fields_left, field_stream, named_stream};
+ghost use Rattle.sm_codec.specs.steps.EventsHanded.{union_stream};
+ghost use Rattle.sm_codec.specs.steps.ValueParts.{PartsCarried, EntriesCarried, PairsCarried, FieldsCarried, IsCarried, carried_leaf};
 
 use crate::Leaves;
 use crate::listed::is_written;
 use crate::places::ValuePlace;
+use crate::writing::Writing;
 use sm_shapes::tables::Table;
 use sm_shapes::values::Value;
 use sm_tree::{Event, EventSink, NoMemory, Text, Tree};
@@ -57,7 +58,9 @@ pub fn encode_events<L: Leaves, E: EventSink>(
     encode_events_at(alloc, table, ValuePlace::Root(shape), value, leaves, to)
 }
 
-/// The same of a value at a place: at a member its own format and constraints count.
+/// Hands to a sink the events of the tree that `encode_at` gives for a value at a place, each opener with its number, without the tree.
+/// At a member its own format and constraints count. The sink must stand for no event yet, and take these. `NoMemory` where the allocator
+/// or the sink refuses memory; the sink is then of no use.
 pub fn encode_events_at<L: Leaves, E: EventSink>(
     alloc: Global,
     table: &Table,
@@ -79,7 +82,12 @@ pub fn encode_events_at<L: Leaves, E: EventSink>(
     ensures alike { E.alike to.old to.new }
 {
     leaves.laws();
-    hand_value(alloc, table, place, value, leaves, to)
+    let by = Writing {
+        alloc,
+        table,
+        leaves,
+    };
+    hand_value(&by, place, value, to)
 }
 
 // One event.
@@ -163,26 +171,25 @@ fn hand_tagged<E: EventSink>(number: u64, content: Tree, to: &mut E) -> Result<(
 
 // A leaf; at a place of no simple type it is null.
 fn hand_simple<L: Leaves, E: EventSink>(
-    alloc: Global,
-    table: &Table,
+    by: &Writing<L>,
     place: ValuePlace,
     value: &Value,
-    leaves: &L,
     to: &mut E,
 ) -> Result<(), NoMemory>
-    requires laws { IsConvention (L.convention leaves.now) }
-    requires shaped { Shaped (table_data table.now) }
-    requires place { InTable (table_data table.now) (place_of place) }
-    requires carried { IsCarried (L.convention leaves.now) (sort_of (table_data table.now) (place_of place)) (val_of value.now) }
+    requires place { InTable (table_data by.now.table.now) (place_of place) }
+    requires shaped { Shaped (table_data by.now.table.now) }
+    requires laws { IsConvention (L.convention by.now.leaves.now) }
+    requires carried { IsCarried (L.convention by.now.leaves.now) (sort_of (table_data by.now.table.now) (place_of place))
+        (val_of value.now) }
     requires ready { IsReady (E.stands_for to.old) (E.takes to.old)
-        (numbered (written_leaf (L.convention leaves.now) (sort_of (table_data table.now) (place_of place)) (val_of value.now)) []) }
+        (leaf_stream (table_data by.now.table.now) (L.convention by.now.leaves.now) (place_of place) (val_of value.now)) }
     ensures came { OnOk result (Came (E.stands_for to.old) (E.takes to.old)
-        (numbered (written_leaf (L.convention leaves.now) (sort_of (table_data table.now) (place_of place)) (val_of value.now)) [])
+        (leaf_stream (table_data by.now.table.now) (L.convention by.now.leaves.now) (place_of place) (val_of value.now))
         (E.stands_for to.new) (E.takes to.new)) }
     ensures alike { E.alike to.old to.new }
 {
-    match place.simple(table) {
-        Some(simple) => match leaves.write(alloc, simple, value) {
+    match place.simple(by.table) {
+        Some(simple) => match by.leaves.write(by.alloc, simple, value) {
             Ok(tree) => hand_leaf(tree, to),
             Err(refusal) => Err(refusal),
         },
@@ -192,70 +199,62 @@ fn hand_simple<L: Leaves, E: EventSink>(
 
 #[cycle(hand)]
 fn hand_value<L: Leaves, E: EventSink>(
-    alloc: Global,
-    table: &Table,
+    by: &Writing<L>,
     place: ValuePlace,
     value: &Value,
-    leaves: &L,
     to: &mut E,
 ) -> Result<(), NoMemory>
-    requires laws { IsConvention (L.convention leaves.now) }
-    requires shaped { Shaped (table_data table.now) }
-    requires parts { PartsHold (table_data table.now) (carried_leaf (table_data table.now) (L.convention leaves.now)) (place_of place)
-        (val_of value.now) }
+    requires laws { IsConvention (L.convention by.now.leaves.now) }
+    requires shaped { Shaped (table_data by.now.table.now) }
+    requires parts { PartsCarried (table_data by.now.table.now) (L.convention by.now.leaves.now)
+        (place_of place) (val_of value.now) }
     requires ready { IsReady (E.stands_for to.old) (E.takes to.old)
-        (numbered (written (table_data table.now) (L.convention leaves.now) (place_of place) (val_of value.now)) []) }
+        (value_stream (table_data by.now.table.now) (L.convention by.now.leaves.now) (place_of place) (val_of value.now)) }
     ensures came { OnOk result (Came (E.stands_for to.old) (E.takes to.old)
-        (numbered (written (table_data table.now) (L.convention leaves.now) (place_of place) (val_of value.now)) [])
+        (value_stream (table_data by.now.table.now) (L.convention by.now.leaves.now) (place_of place) (val_of value.now))
         (E.stands_for to.new) (E.takes to.new)) }
     ensures alike { E.alike to.old to.new }
 {
     match value {
         Value::Null => hand(Event::Null, to),
-        Value::Bool(_) => hand_simple(alloc, table, place, value, leaves, to),
-        Value::Int(_) => hand_simple(alloc, table, place, value, leaves, to),
-        Value::Text(_) => hand_simple(alloc, table, place, value, leaves, to),
-        Value::Blob(_) => hand_simple(alloc, table, place, value, leaves, to),
-        Value::Time(_) => hand_simple(alloc, table, place, value, leaves, to),
-        Value::List(items) => hand_items(alloc, table, place, items.as_slice(), leaves, to),
-        Value::Map(entries) => hand_entries(alloc, table, place, entries.as_slice(), leaves, to),
-        Value::Structure(fields) => {
-            hand_structure(alloc, table, place, fields.as_slice(), leaves, to)
-        }
-        Value::Union(member, content) => {
-            hand_one(alloc, table, place, *member, content, leaves, to)
-        }
+        Value::Bool(_) => hand_simple(by, place, value, to),
+        Value::Int(_) => hand_simple(by, place, value, to),
+        Value::Text(_) => hand_simple(by, place, value, to),
+        Value::Blob(_) => hand_simple(by, place, value, to),
+        Value::Time(_) => hand_simple(by, place, value, to),
+        Value::List(items) => hand_items(by, place, items.as_slice(), to),
+        Value::Map(entries) => hand_entries(by, place, entries.as_slice(), to),
+        Value::Structure(fields) => hand_structure(by, place, fields.as_slice(), to),
+        Value::Union(member, content) => hand_one(by, place, *member, content, to),
     }
 }
 
 #[cycle(hand)]
 fn hand_items<L: Leaves, E: EventSink>(
-    alloc: Global,
-    table: &Table,
+    by: &Writing<L>,
     place: ValuePlace,
     items: &[Value],
-    leaves: &L,
     to: &mut E,
 ) -> Result<(), NoMemory>
-    requires laws { IsConvention (L.convention leaves.now) }
-    requires shaped { Shaped (table_data table.now) }
-    requires place { InTable (table_data table.now) (place_of place) }
-    requires parts { EntriesHold (table_data table.now) (carried_leaf (table_data table.now) (L.convention leaves.now))
-        (entry_place (table_data table.now) (place_of place)) (vals_of (vals_view items.now)) }
-    requires ready { IsReady (E.stands_for to.old) (E.takes to.old) (list_stream
-        (written_entries (table_data table.now) (L.convention leaves.now) (place_of place) (vals_of (vals_view items.now)))) }
-    ensures came { OnOk result (Came (E.stands_for to.old) (E.takes to.old) (list_stream
-        (written_entries (table_data table.now) (L.convention leaves.now) (place_of place) (vals_of (vals_view items.now))))
+    requires laws { IsConvention (L.convention by.now.leaves.now) }
+    requires shaped { Shaped (table_data by.now.table.now) }
+    requires place { InTable (table_data by.now.table.now) (place_of place) }
+    requires parts { EntriesCarried (table_data by.now.table.now) (L.convention by.now.leaves.now)
+        (entry_place (table_data by.now.table.now) (place_of place)) (vals_of (vals_view items.now)) }
+    requires ready { IsReady (E.stands_for to.old) (E.takes to.old)
+        (items_stream (table_data by.now.table.now) (L.convention by.now.leaves.now) (place_of place) items.now) }
+    ensures came { OnOk result (Came (E.stands_for to.old) (E.takes to.old)
+        (items_stream (table_data by.now.table.now) (L.convention by.now.leaves.now) (place_of place) items.now)
         (E.stands_for to.new) (E.takes to.new)) }
     ensures alike { E.alike to.old to.new }
 {
-    let entry = place.entry(table);
+    let entry = place.entry(by.table);
     match hand(Event::StartList(Some(items.len() as u64)), to) {
         Ok(()) => {}
         Err(refusal) => return Err(refusal),
     }
     for item in items {
-        match hand_value(alloc, table, entry, item, leaves, to) {
+        match hand_value(by, entry, item, to) {
             Ok(()) => {}
             Err(refusal) => return Err(refusal),
         }
@@ -265,32 +264,30 @@ fn hand_items<L: Leaves, E: EventSink>(
 
 #[cycle(hand)]
 fn hand_entries<L: Leaves, E: EventSink>(
-    alloc: Global,
-    table: &Table,
+    by: &Writing<L>,
     place: ValuePlace,
     entries: &[(Text, Value)],
-    leaves: &L,
     to: &mut E,
 ) -> Result<(), NoMemory>
-    requires laws { IsConvention (L.convention leaves.now) }
-    requires shaped { Shaped (table_data table.now) }
-    requires place { InTable (table_data table.now) (place_of place) }
-    requires parts { PairsHold (table_data table.now) (carried_leaf (table_data table.now) (L.convention leaves.now))
-        (value_place (table_data table.now) (place_of place)) (entries_of (each_entry_view entries.now)) }
-    requires ready { IsReady (E.stands_for to.old) (E.takes to.old) (object_stream
-        (written_pairs (table_data table.now) (L.convention leaves.now) (place_of place) (entries_of (each_entry_view entries.now)))) }
-    ensures came { OnOk result (Came (E.stands_for to.old) (E.takes to.old) (object_stream
-        (written_pairs (table_data table.now) (L.convention leaves.now) (place_of place) (entries_of (each_entry_view entries.now))))
+    requires laws { IsConvention (L.convention by.now.leaves.now) }
+    requires shaped { Shaped (table_data by.now.table.now) }
+    requires place { InTable (table_data by.now.table.now) (place_of place) }
+    requires parts { PairsCarried (table_data by.now.table.now) (L.convention by.now.leaves.now)
+        (value_place (table_data by.now.table.now) (place_of place)) (entries_of (each_entry_view entries.now)) }
+    requires ready { IsReady (E.stands_for to.old) (E.takes to.old)
+        (entries_stream (table_data by.now.table.now) (L.convention by.now.leaves.now) (place_of place) entries.now) }
+    ensures came { OnOk result (Came (E.stands_for to.old) (E.takes to.old)
+        (entries_stream (table_data by.now.table.now) (L.convention by.now.leaves.now) (place_of place) entries.now)
         (E.stands_for to.new) (E.takes to.new)) }
     ensures alike { E.alike to.old to.new }
 {
-    let inner = place.value(table);
+    let inner = place.value(by.table);
     match hand(Event::StartObject(Some(entries.len() as u64)), to) {
         Ok(()) => {}
         Err(refusal) => return Err(refusal),
     }
     for pair in entries {
-        match hand_pair(alloc, table, pair.0.as_str(), inner, &pair.1, leaves, to) {
+        match hand_pair(by, pair.0.as_str(), inner, &pair.1, to) {
             Ok(()) => {}
             Err(refusal) => return Err(refusal),
         }
@@ -301,27 +298,25 @@ fn hand_entries<L: Leaves, E: EventSink>(
 // The object of a structure: each of its fields.
 #[cycle(hand)]
 fn hand_structure<L: Leaves, E: EventSink>(
-    alloc: Global,
-    table: &Table,
+    by: &Writing<L>,
     place: ValuePlace,
     fields: &[(u32, Value)],
-    leaves: &L,
     to: &mut E,
 ) -> Result<(), NoMemory>
-    requires laws { IsConvention (L.convention leaves.now) }
-    requires shaped { Shaped (table_data table.now) }
-    requires place { InTable (table_data table.now) (place_of place) }
-    requires parts { FieldsHold (table_data table.now) (carried_leaf (table_data table.now) (L.convention leaves.now))
+    requires laws { IsConvention (L.convention by.now.leaves.now) }
+    requires shaped { Shaped (table_data by.now.table.now) }
+    requires place { InTable (table_data by.now.table.now) (place_of place) }
+    requires parts { FieldsCarried (table_data by.now.table.now) (L.convention by.now.leaves.now)
         (fields_of (each_field_view fields.now)) }
-    requires ready { IsReady (E.stands_for to.old) (E.takes to.old) (object_stream
-        (written_fields (table_data table.now) (L.convention leaves.now) (place_of place) (fields_of (each_field_view fields.now)))) }
-    ensures came { OnOk result (Came (E.stands_for to.old) (E.takes to.old) (object_stream
-        (written_fields (table_data table.now) (L.convention leaves.now) (place_of place) (fields_of (each_field_view fields.now))))
+    requires ready { IsReady (E.stands_for to.old) (E.takes to.old)
+        (fields_stream (table_data by.now.table.now) (L.convention by.now.leaves.now) (place_of place) fields.now) }
+    ensures came { OnOk result (Came (E.stands_for to.old) (E.takes to.old)
+        (fields_stream (table_data by.now.table.now) (L.convention by.now.leaves.now) (place_of place) fields.now)
         (E.stands_for to.new) (E.takes to.new)) }
     ensures alike { E.alike to.old to.new }
 {
     match hand(Event::StartObject(Some(fields.len() as u64)), to) {
-        Ok(()) => hand_fields(alloc, table, place, fields, None, leaves, to),
+        Ok(()) => hand_fields(by, place, fields, None, to),
         Err(refusal) => Err(refusal),
     }
 }
@@ -329,28 +324,28 @@ fn hand_structure<L: Leaves, E: EventSink>(
 // The pairs of those fields that are written, and the end of the object.
 #[cycle(hand)]
 pub(crate) fn hand_fields<L: Leaves, E: EventSink>(
-    alloc: Global,
-    table: &Table,
+    by: &Writing<L>,
     place: ValuePlace,
     fields: &[(u32, Value)],
     members: Option<&[u32]>,
-    leaves: &L,
     to: &mut E,
 ) -> Result<(), NoMemory>
-    requires laws { IsConvention (L.convention leaves.now) }
-    requires shaped { Shaped (table_data table.now) }
-    requires place { InTable (table_data table.now) (place_of place) }
-    requires rise { IfSome (option_copied members.entry) IsNonDecreasing }
-    requires parts { FieldsHold (table_data table.now) (carried_leaf (table_data table.now) (L.convention leaves.now))
-        (chosen.fields_among (option_copied members.entry) (fields_of (each_field_view fields.now))) }
-    requires ready { IsReady (E.stands_for to.old) (E.takes to.old) (fields_left (table_data table.now) (L.convention leaves.now)
-        (place_of place) (option_copied members.entry) fields.now) }
-    ensures came { OnOk result (Came (E.stands_for to.old) (E.takes to.old) (fields_left (table_data table.now) (L.convention leaves.now)
-        (place_of place) (option_copied members.entry) fields.now) (E.stands_for to.new) (E.takes to.new)) }
+    requires laws { IsConvention (L.convention by.now.leaves.now) }
+    requires shaped { Shaped (table_data by.now.table.now) }
+    requires place { InTable (table_data by.now.table.now) (place_of place) }
+    requires rise { IfSome (option_copied members) IsNonDecreasing }
+    requires parts { FieldsCarried (table_data by.now.table.now) (L.convention by.now.leaves.now)
+        (chosen.fields_among (option_copied members) (fields_of (each_field_view fields.now))) }
+    requires ready { IsReady (E.stands_for to.old) (E.takes to.old)
+        (fields_left (table_data by.now.table.now) (L.convention by.now.leaves.now) (place_of place) (option_copied members) fields.now) }
+    ensures came { OnOk result (Came (E.stands_for to.old) (E.takes to.old)
+        (fields_left (table_data by.now.table.now) (L.convention by.now.leaves.now) (place_of place) (option_copied members.entry)
+        fields.now)
+        (E.stands_for to.new) (E.takes to.new)) }
     ensures alike { E.alike to.old to.new }
 {
     for part in fields {
-        match hand_field(alloc, table, place, part, members, leaves, to) {
+        match hand_field(by, place, part, members, to) {
             Ok(()) => {}
             Err(refusal) => return Err(refusal),
         }
@@ -361,31 +356,31 @@ pub(crate) fn hand_fields<L: Leaves, E: EventSink>(
 // The pair of a field, if it is written.
 #[cycle(hand)]
 fn hand_field<L: Leaves, E: EventSink>(
-    alloc: Global,
-    table: &Table,
+    by: &Writing<L>,
     place: ValuePlace,
     part: &(u32, Value),
     members: Option<&[u32]>,
-    leaves: &L,
     to: &mut E,
 ) -> Result<(), NoMemory>
-    requires laws { IsConvention (L.convention leaves.now) }
-    requires shaped { Shaped (table_data table.now) }
-    requires place { InTable (table_data table.now) (place_of place) }
-    requires rise { IfSome (option_copied members.entry) IsNonDecreasing }
-    requires part { chosen.is_written (option_copied members.entry) part.now.0 ≡ true → FieldHolds (table_data table.now)
-        (carried_leaf (table_data table.now) (L.convention leaves.now)) part.now.0 (val_of part.now.1) }
-    requires ready { IsReady (E.stands_for to.old) (E.takes to.old) (field_stream (table_data table.now) (L.convention leaves.now)
-        (place_of place) (option_copied members.entry) part.now.0 (val_of part.now.1)) }
-    ensures came { OnOk result (Came (E.stands_for to.old) (E.takes to.old) (field_stream (table_data table.now)
-        (L.convention leaves.now) (place_of place) (option_copied members.entry) part.now.0 (val_of part.now.1))
+    requires rise { IfSome (option_copied members) IsNonDecreasing }
+    requires laws { IsConvention (L.convention by.now.leaves.now) }
+    requires shaped { Shaped (table_data by.now.table.now) }
+    requires place { InTable (table_data by.now.table.now) (place_of place) }
+    requires part { chosen.is_written (option_copied members) part.now.0 ≡ true → FieldHolds (table_data by.now.table.now)
+        (carried_leaf (table_data by.now.table.now) (L.convention by.now.leaves.now)) part.now.0 (val_of part.now.1) }
+    requires ready { IsReady (E.stands_for to.old) (E.takes to.old)
+        (field_stream (table_data by.now.table.now) (L.convention by.now.leaves.now) (place_of place) (option_copied members)
+        part.now.0 (val_of part.now.1)) }
+    ensures came { OnOk result (Came (E.stands_for to.old) (E.takes to.old)
+        (field_stream (table_data by.now.table.now) (L.convention by.now.leaves.now) (place_of place) (option_copied members.entry)
+        part.now.0 (val_of part.now.1))
         (E.stands_for to.new) (E.takes to.new)) }
     ensures alike { E.alike to.old to.new }
 {
     if is_written(members, part.0) {
-        let name = leaves.wire_name(table, place.shape(table), part.0);
+        let name = by.leaves.wire_name(by.table, place.shape(by.table), part.0);
         let place = ValuePlace::Member(part.0);
-        hand_pair(alloc, table, name, place, &part.1, leaves, to)
+        hand_pair(by, name, place, &part.1, to)
     } else {
         Ok(())
     }
@@ -394,27 +389,25 @@ fn hand_field<L: Leaves, E: EventSink>(
 // A pair: its name, and the value at a place.
 #[cycle(hand)]
 fn hand_pair<L: Leaves, E: EventSink>(
-    alloc: Global,
-    table: &Table,
+    by: &Writing<L>,
     name: &str,
     place: ValuePlace,
     value: &Value,
-    leaves: &L,
     to: &mut E,
 ) -> Result<(), NoMemory>
-    requires laws { IsConvention (L.convention leaves.now) }
-    requires shaped { Shaped (table_data table.now) }
-    requires parts { PartsHold (table_data table.now) (carried_leaf (table_data table.now) (L.convention leaves.now)) (place_of place)
-        (val_of value.now) }
-    requires ready { IsReady (E.stands_for to.old) (E.takes to.old) (pair_stream name.now
-        (written (table_data table.now) (L.convention leaves.now) (place_of place) (val_of value.now))) }
-    ensures came { OnOk result (Came (E.stands_for to.old) (E.takes to.old) (pair_stream name.now
-        (written (table_data table.now) (L.convention leaves.now) (place_of place) (val_of value.now)))
+    requires parts { PartsCarried (table_data by.now.table.now) (L.convention by.now.leaves.now)
+        (place_of place) (val_of value.now) }
+    requires laws { IsConvention (L.convention by.now.leaves.now) }
+    requires shaped { Shaped (table_data by.now.table.now) }
+    requires ready { IsReady (E.stands_for to.old) (E.takes to.old)
+        (named_stream (table_data by.now.table.now) (L.convention by.now.leaves.now) (place_of place) name.now (val_of value.now)) }
+    ensures came { OnOk result (Came (E.stands_for to.old) (E.takes to.old)
+        (named_stream (table_data by.now.table.now) (L.convention by.now.leaves.now) (place_of place) name.now (val_of value.now))
         (E.stands_for to.new) (E.takes to.new)) }
     ensures alike { E.alike to.old to.new }
 {
-    match hand_key(alloc, name, to) {
-        Ok(()) => hand_value(alloc, table, place, value, leaves, to),
+    match hand_key(by.alloc, name, to) {
+        Ok(()) => hand_value(by, place, value, to),
         Err(refusal) => Err(refusal),
     }
 }
@@ -422,43 +415,31 @@ fn hand_pair<L: Leaves, E: EventSink>(
 // The one member of a union.
 #[cycle(hand)]
 fn hand_one<L: Leaves, E: EventSink>(
-    alloc: Global,
-    table: &Table,
+    by: &Writing<L>,
     place: ValuePlace,
     member: u32,
     value: &Value,
-    leaves: &L,
     to: &mut E,
 ) -> Result<(), NoMemory>
-    requires laws { IsConvention (L.convention leaves.now) }
-    requires shaped { Shaped (table_data table.now) }
-    requires place { InTable (table_data table.now) (place_of place) }
-    requires member { member < member_count (table_data table.now) }
-    requires parts { PartsHold (table_data table.now) (carried_leaf (table_data table.now) (L.convention leaves.now)) (member_place member)
-        (val_of value.now) }
-    requires ready { IsReady (E.stands_for to.old) (E.takes to.old) (object_stream (node.member
-        (wire_name_in (table_data table.now) (L.convention leaves.now) (place_of place) member)
-        (written (table_data table.now) (L.convention leaves.now) (member_place member) (val_of value.now)) node.no_members)) }
-    ensures came { OnOk result (Came (E.stands_for to.old) (E.takes to.old) (object_stream (node.member
-        (wire_name_in (table_data table.now) (L.convention leaves.now) (place_of place) member)
-        (written (table_data table.now) (L.convention leaves.now) (member_place member) (val_of value.now)) node.no_members))
+    requires laws { IsConvention (L.convention by.now.leaves.now) }
+    requires shaped { Shaped (table_data by.now.table.now) }
+    requires place { InTable (table_data by.now.table.now) (place_of place) }
+    requires member { member < member_count (table_data by.now.table.now) }
+    requires parts { PartsCarried (table_data by.now.table.now) (L.convention by.now.leaves.now)
+        (member_place member) (val_of value.now) }
+    requires ready { IsReady (E.stands_for to.old) (E.takes to.old)
+        (union_stream (table_data by.now.table.now) (L.convention by.now.leaves.now) (place_of place) member (val_of value.now)) }
+    ensures came { OnOk result (Came (E.stands_for to.old) (E.takes to.old)
+        (union_stream (table_data by.now.table.now) (L.convention by.now.leaves.now) (place_of place) member (val_of value.now))
         (E.stands_for to.new) (E.takes to.new)) }
     ensures alike { E.alike to.old to.new }
 {
-    let name = leaves.wire_name(table, place.shape(table), member);
+    let name = by.leaves.wire_name(by.table, place.shape(by.table), member);
     match hand(Event::StartObject(Some(1)), to) {
         Ok(()) => {}
         Err(refusal) => return Err(refusal),
     }
-    match hand_pair(
-        alloc,
-        table,
-        name,
-        ValuePlace::Member(member),
-        value,
-        leaves,
-        to,
-    ) {
+    match hand_pair(by, name, ValuePlace::Member(member), value, to) {
         Ok(()) => {}
         Err(refusal) => return Err(refusal),
     }

@@ -34,7 +34,7 @@ pub fn value_or_fault()
     ensures { ValueOrFault }
 {}
 
-/// And then it spells one value, which is what it comes to.
+/// A tree that has no fault at a place spells one value of it, which is what it comes to.
 pub fn one_value()
     ensures { OneValue }
 {}
@@ -49,7 +49,7 @@ pub fn written_is_json()
     ensures { WrittenIsJson }
 {}
 
-/// And as CBOR, where the leaves can.
+/// Where the leaves that a convention writes can be written as CBOR, so can the tree of every value that it carries.
 pub fn written_is_cbor()
     ensures { WrittenIsCbor }
 {}
@@ -59,7 +59,7 @@ pub fn json_leaves_written()
     ensures { (json_names : Bool) → WritesJson (json_convention json_names) }
 {}
 
-/// So can what those of the nodes of models write.
+/// What the conventions of the nodes of models write can be written as JSON.
 pub fn node_leaves_written()
     ensures { (raw_blobs : Bool) → WritesJson (node_convention raw_blobs) }
 {}
@@ -74,9 +74,9 @@ pub fn filled_is_shaped()
     ensures { FilledIsShaped }
 {}
 
-/// Whatever events a decoder stands for, by a codec in order: the values that it holds have at most one node for each tree that has begun at a
-/// place that isn't passed over, and the defaults of one structure with each; each such tree has an event of its own. It has a frame for each
-/// list and object that is open and isn't passed over, and one more at most; a frame has one fault at most.
+/// Whatever events a decoder stands for, by a codec in order, the values that it holds have at most one node for each tree that has begun at
+/// a place that isn't passed over, and the defaults of one structure with each. Each such tree has an event of its own. The decoder has a
+/// frame for each list and object that is open and isn't passed over, and one more at most. A frame has one fault at most.
 pub fn kept_is_bounded()
     ensures { KeptIsBounded }
 {}

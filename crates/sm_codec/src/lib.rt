@@ -23,6 +23,7 @@ mod places;
 mod plain;
 mod simple;
 mod uncarried;
+mod writing;
 
 pub use carried::{all_carried, all_carried_at};
 pub use cbor_leaves::CborLeaves;

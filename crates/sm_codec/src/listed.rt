@@ -11,7 +11,7 @@ use sm_shapes::values::Value;
 
 /// Whether a member is one of those that are written; where none are named, all are. A binary search. No memory.
 pub(crate) fn is_written(members: Option<&[u32]>, member: u32) -> bool
-    requires rise { IfSome (option_copied members.entry) IsNonDecreasing }
+    requires rise { IfSome (option_copied members) IsNonDecreasing }
     ensures { result ≡ chosen.is_written (option_copied members.entry) member }
 {
     match members {
@@ -32,7 +32,7 @@ fn is_among(members: &[u32], member: u32) -> bool
 
 /// How many of these fields are written. A binary search for each. No memory.
 pub(crate) fn written_count(fields: &[(u32, Value)], members: Option<&[u32]>) -> u64
-    requires rise { IfSome (option_copied members.entry) IsNonDecreasing }
+    requires rise { IfSome (option_copied members) IsNonDecreasing }
     ensures count { result ≡ field_count (chosen.fields_among (option_copied members.entry) (fields_of (each_field_view fields.now))) }
     ensures few { result ≤ length fields.now }
 {

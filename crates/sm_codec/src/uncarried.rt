@@ -41,7 +41,8 @@ pub fn carry_fault<L: Leaves>(
     carry_fault_at(alloc, table, ValuePlace::Root(shape), value, leaves)
 }
 
-/// The same of a value at a place: at a member its own format counts. The way begins at the value.
+/// The way to the first leaf, in model order, that the convention doesn't carry, of a value at a place. At a member its own format counts. The
+/// way begins at the value.
 pub fn carry_fault_at<L: Leaves>(
     alloc: Global,
     table: &Table,

@@ -34,7 +34,7 @@ use Rattle.sm_compile.specs.Sound.{IsValueShape}
 use Rattle.sm_compile.specs.TraitIds.{json_name_id, required_id, sparse_id, unique_items_id}
 use Rattle.sm_compile.specs.TraitNodes.{effective_traits, own_traits, text_of}
 use Rattle.sm_compile.proofs.OnePatterns.{same_member, same_shape}
-use Rattle.sm_compile.proofs.OneWay.{one_name}
+use Rattle.sm_ids.proofs.MadeIds.{one_name}
 use Rattle.sm_compile.proofs.RowsAlike.{contains_mapped}
 use Rattle.sm_rules.specs.NodeChecks.{HasRow}
 use Rattle.sm_value_rules.proofs.OtherNumbers.{other_number, same_name_there}

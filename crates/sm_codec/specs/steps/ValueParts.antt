@@ -51,6 +51,19 @@ IsCarried l s v = Unit {0}
 abbrev pub carried_leaf : TableData → Convention → LeafWord
 carried_leaf t l p v = IsCarried l (sort_of t p) v
 
+-- the convention carries the leaves of a value, of the entries of a list, of the values of a map, and of fields
+abbrev pub PartsCarried : TableData → Convention → Place → Val → Type 0
+PartsCarried t l p v = PartsHold t (carried_leaf t l) p v
+
+abbrev pub EntriesCarried : TableData → Convention → Place → Vals → Type 0
+EntriesCarried t l q vs = EntriesHold t (carried_leaf t l) q vs
+
+abbrev pub PairsCarried : TableData → Convention → Place → EntryVals → Type 0
+PairsCarried t l q es = PairsHold t (carried_leaf t l) q es
+
+abbrev pub FieldsCarried : TableData → Convention → FieldVals → Type 0
+FieldsCarried t l fs = FieldsHold t (carried_leaf t l) fs
+
 -- the first of some paths, its last step first, or that there is none
 abbrev pub FoundFirst : List (List Step) → Option (List Step) → Type 0
 FoundFirst paths None = paths ≡ []

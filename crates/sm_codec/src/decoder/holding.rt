@@ -10,8 +10,8 @@ use crate::frames::Outcome;
 use crate::laws;
 
 impl Decoder {
-    /// How many nodes the values have that its frames and its result hold, or the greatest `u64` where that is more: at most one for each
-    /// tree that has begun at a place that isn't passed over, and the defaults of one structure with each. No memory.
+    /// How many nodes the values have that its frames and its result hold, or the greatest `u64` where that is more. There are at most one
+    /// for each tree that has begun at a place that isn't passed over, and the defaults of one structure with each. No memory.
     pub fn nodes(&self) -> u64
         ensures exact { result ≡ length_word (decoding_nodes (decoding_of self.now)) }
         ensures bounded { StaysBounded (decoding_of self.now) }

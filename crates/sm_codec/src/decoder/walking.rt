@@ -133,12 +133,12 @@ impl Decoder {
         leaves: &L,
         patterns: &mut P,
     ) -> Result<(), NoMemory>
+        requires at { place_of place ≡ next_place (table_data table.now) (decoding_of self.old) }
+        requires list { is_list (sort_of (table_data table.now) (next_place (table_data table.now) (decoding_of self.old))) ≡ true }
         requires shaped { Shaped (table_data table.now) }
         requires stored { AreStored (table_data table.now).patterns (P.added patterns.old) }
         requires laws { IsConvention (L.convention leaves.now) }
         requires ready { WalkReady (table_data table.now) (decoding_of self.old) }
-        requires at { place_of place ≡ next_place (table_data table.now) (decoding_of self.old) }
-        requires list { is_list (sort_of (table_data table.now) (next_place (table_data table.now) (decoding_of self.old))) ≡ true }
         ensures taken { OnOk result (TreeTaken (codec_of (table_data table.now) (L.convention leaves.now) P.test)
             (list (nodes_of (nodes_view items.now))) (decoding_of self.old) (decoding_of self.new)) }
         ensures shape { (decoding_of self.new).shape ≡ (decoding_of self.old).shape }
@@ -170,12 +170,12 @@ impl Decoder {
         leaves: &L,
         patterns: &mut P,
     ) -> Result<(), NoMemory>
+        requires object { is_object (sort_of (table_data table.now) (next_place (table_data table.now) (decoding_of self.old))) ≡ true }
+        requires at { place_of place ≡ next_place (table_data table.now) (decoding_of self.old) }
         requires shaped { Shaped (table_data table.now) }
         requires stored { AreStored (table_data table.now).patterns (P.added patterns.old) }
         requires laws { IsConvention (L.convention leaves.now) }
         requires ready { WalkReady (table_data table.now) (decoding_of self.old) }
-        requires at { place_of place ≡ next_place (table_data table.now) (decoding_of self.old) }
-        requires object { is_object (sort_of (table_data table.now) (next_place (table_data table.now) (decoding_of self.old))) ≡ true }
         ensures taken { OnOk result (TreeTaken (codec_of (table_data table.now) (L.convention leaves.now) P.test)
             (object (members_of (members_view pairs.now))) (decoding_of self.old) (decoding_of self.new)) }
         ensures shape { (decoding_of self.new).shape ≡ (decoding_of self.old).shape }
@@ -207,10 +207,10 @@ impl Decoder {
         leaves: &L,
         patterns: &mut P,
     ) -> Result<(), NoMemory>
+        requires ready { PairReady (codec_of (table_data table.now) (L.convention leaves.now) P.test) (decoding_of self.old) }
         requires shaped { Shaped (table_data table.now) }
         requires stored { AreStored (table_data table.now).patterns (P.added patterns.old) }
         requires laws { IsConvention (L.convention leaves.now) }
-        requires ready { PairReady (codec_of (table_data table.now) (L.convention leaves.now) P.test) (decoding_of self.old) }
         ensures taken { OnOk result (PairTaken (codec_of (table_data table.now) (L.convention leaves.now) P.test) name.now
             (node_of tree.now) (decoding_of self.old) (decoding_of self.new)) }
         ensures shape { (decoding_of self.new).shape ≡ (decoding_of self.old).shape }

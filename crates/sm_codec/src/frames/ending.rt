@@ -104,7 +104,7 @@ fn put_defaults(
     Ok(())
 }
 
-// The same of one member.
+// Puts the default of one member, if it has one and is absent.
 fn put_default_of(
     alloc: Global,
     table: &Table,

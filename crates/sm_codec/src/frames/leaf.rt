@@ -116,7 +116,7 @@ fn is_null(tree: &Tree) -> bool
 }
 
 impl Outcome {
-    // The same, as a frame is told of a tree that isn't null.
+    // What it is as a frame is told of a tree that isn't null.
     pub(crate) fn arrives(self) -> Arrival
         ensures { arrival_of result ≡ comes (outcome_of self) }
     {
@@ -127,7 +127,7 @@ impl Outcome {
     }
 }
 
-/// The same of a leaf, as a frame is told of it. The store isn't changed.
+/// What a leaf is at a place, as a frame is told of it. The store isn't changed.
 pub(crate) fn leaf_arrives<L: Leaves, P: Patterns>(
     alloc: Global,
     table: &Table,

@@ -4,10 +4,9 @@ use Rattle.sm_shapes.specs.TableView.{table_data}
 use Rattle.sm_shapes.specs.Values.{val_nodes, vals_nodes, entries_nodes, fields_nodes, vals_of, entries_of, fields_of}
 use Rattle.sm_shapes.specs.ValueView.{val_of, vals_view, each_entry_view, each_field_view}
 use Rattle.sm_codec.specs.PlaceView.{place_of}
-use Rattle.sm_codec.specs.Written.{written_entries, written_pairs}
 use Rattle.sm_codec.specs.WrittenObjects.{fields_among}
-use Rattle.sm_codec.specs.steps.EventsHanded.{CameUpTo, entries_left, fields_left, items_left, list_stream, object_stream}
-use Rattle.sm_codec.specs.steps.ValueParts.{EntriesHold, PairsHold, FieldsHold, carried_leaf}
+use Rattle.sm_codec.specs.steps.EventsHanded.{CameUpTo, entries_left, entries_stream, fields_left, items_left, items_stream}
+use Rattle.sm_codec.specs.steps.ValueParts.{EntriesCarried, PairsCarried, FieldsCarried}
 use Rattle.sm_codec.proofs.events.+hand.Given as goal
 
 abbrev pub decreases-hand_value : goal.decreases-hand_value
@@ -37,12 +36,11 @@ decreases-hand_structure g l = 5 * fields_nodes (fields_of (each_field_view l.fi
 abbrev pub invariant-hand_items-loop-item : goal.invariant-hand_items-loop-item
 invariant-hand_items-loop-item g l = record {
   came : CameUpTo (g.E.EventSink.stands_for l.fn.to) (g.E.EventSink.takes l.fn.to)
-      (list_stream (written_entries (table_data l.table) (g.L.Leaves.convention l.leaves) (place_of l.fn.place) (vals_of (vals_view
-      l.items))))
+      (items_stream (table_data l.by.table.now) (g.L.Leaves.convention l.by.leaves.now) (place_of l.fn.place) l.items)
       (g.E.EventSink.stands_for l.to) (g.E.EventSink.takes l.to)
-      (items_left (table_data l.table) (g.L.Leaves.convention l.leaves) (place_of l.fn.place) (drop l.item-index l.items));
+      (items_left (table_data l.by.table.now) (g.L.Leaves.convention l.by.leaves.now) (place_of l.fn.place) (drop l.item-index l.items));
   alike : g.E.EventSink.alike l.fn.to l.to;
-  parts : EntriesHold (table_data l.table) (carried_leaf (table_data l.table) (g.L.Leaves.convention l.leaves))
+  parts : EntriesCarried (table_data l.by.table.now) (g.L.Leaves.convention l.by.leaves.now)
       (place_of l.entry) (vals_of (vals_view (drop l.item-index l.items)));
   weight : vals_nodes (vals_of (vals_view (drop l.item-index l.items))) ≤ vals_nodes (vals_of (vals_view l.items));
 }
@@ -50,12 +48,11 @@ invariant-hand_items-loop-item g l = record {
 abbrev pub invariant-hand_entries-loop-pair : goal.invariant-hand_entries-loop-pair
 invariant-hand_entries-loop-pair g l = record {
   came : CameUpTo (g.E.EventSink.stands_for l.fn.to) (g.E.EventSink.takes l.fn.to)
-      (object_stream (written_pairs (table_data l.table) (g.L.Leaves.convention l.leaves) (place_of l.fn.place) (entries_of
-      (each_entry_view l.entries))))
+      (entries_stream (table_data l.by.table.now) (g.L.Leaves.convention l.by.leaves.now) (place_of l.fn.place) l.entries)
       (g.E.EventSink.stands_for l.to) (g.E.EventSink.takes l.to)
-      (entries_left (table_data l.table) (g.L.Leaves.convention l.leaves) (place_of l.fn.place) (drop l.pair-index l.entries));
+      (entries_left (table_data l.by.table.now) (g.L.Leaves.convention l.by.leaves.now) (place_of l.fn.place) (drop l.pair-index l.entries));
   alike : g.E.EventSink.alike l.fn.to l.to;
-  parts : PairsHold (table_data l.table) (carried_leaf (table_data l.table) (g.L.Leaves.convention l.leaves))
+  parts : PairsCarried (table_data l.by.table.now) (g.L.Leaves.convention l.by.leaves.now)
       (place_of l.inner) (entries_of (each_entry_view (drop l.pair-index l.entries)));
   weight : entries_nodes (entries_of (each_entry_view (drop l.pair-index l.entries))) ≤ entries_nodes (entries_of (each_entry_view
       l.entries));
@@ -64,12 +61,12 @@ invariant-hand_entries-loop-pair g l = record {
 abbrev pub invariant-hand_fields-loop-part : goal.invariant-hand_fields-loop-part
 invariant-hand_fields-loop-part g l = record {
   came : CameUpTo (g.E.EventSink.stands_for l.fn.to) (g.E.EventSink.takes l.fn.to)
-      (fields_left (table_data l.table) (g.L.Leaves.convention l.leaves) (place_of l.place) (option_copied l.members.entry) l.fields)
+      (fields_left (table_data l.by.table.now) (g.L.Leaves.convention l.by.leaves.now) (place_of l.place) (option_copied l.members) l.fields)
       (g.E.EventSink.stands_for l.to) (g.E.EventSink.takes l.to)
-      (fields_left (table_data l.table) (g.L.Leaves.convention l.leaves) (place_of l.place) (option_copied l.members.entry)
+      (fields_left (table_data l.by.table.now) (g.L.Leaves.convention l.by.leaves.now) (place_of l.place) (option_copied l.members)
       (drop l.part-index l.fields));
   alike : g.E.EventSink.alike l.fn.to l.to;
-  parts : FieldsHold (table_data l.table) (carried_leaf (table_data l.table) (g.L.Leaves.convention l.leaves))
-      (fields_among (option_copied l.members.entry) (fields_of (each_field_view (drop l.part-index l.fields))));
+  parts : FieldsCarried (table_data l.by.table.now) (g.L.Leaves.convention l.by.leaves.now)
+      (fields_among (option_copied l.members) (fields_of (each_field_view (drop l.part-index l.fields))));
   weight : fields_nodes (fields_of (each_field_view (drop l.part-index l.fields))) ≤ fields_nodes (fields_of (each_field_view l.fields));
 }

@@ -8,7 +8,7 @@ use Rattle.sm_codec.proofs.listed.written_count.Given as goal
 
 abbrev pub invariant-loop-part : goal.invariant-loop-part
 invariant-loop-part l = record {
-  rest : l.count + field_count (fields_among (option_copied l.members.entry) (fields_of (each_field_view (drop l.part-index l.fields))))
-      ≡ field_count (fields_among (option_copied l.members.entry) (fields_of (each_field_view l.fields)));
+  rest : l.count + field_count (fields_among (option_copied l.members) (fields_of (each_field_view (drop l.part-index l.fields))))
+      ≡ field_count (fields_among (option_copied l.members) (fields_of (each_field_view l.fields)));
   few : l.count ≤ l.part-index;
 }
