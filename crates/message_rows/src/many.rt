@@ -1,8 +1,8 @@
 // One message many times in a row, over random cuts.
 use crate::cuts::random_cuts;
-use crate::pieces::{Way, read_once};
+use crate::pieces::{MessageWay, read_once};
 use crate::show::refusal_word;
-use sm_http::{Held, HttpRefusal, Message, Side};
+use sm_http::{Held, HttpRefusal, Message, MessageSide};
 use sm_io::{MemSource, Source};
 use sm_tree::NoMemory;
 use std::alloc::Global;
@@ -14,8 +14,8 @@ const LONGEST: u64 = 150;
 fn count_same<S: Source>(
     alloc: Global,
     source: &mut S,
-    side: Side,
-    way: Way,
+    side: MessageSide,
+    way: MessageWay,
 ) -> Result<(u32, u32, Option<HttpRefusal>), NoMemory> {
     let mut held = Held::new(alloc);
     let mut first: Option<Message> = None;
@@ -64,7 +64,7 @@ fn show_counts(
 /// `NoMemory`.
 pub fn show_many(
     alloc: Global,
-    side: Side,
+    side: MessageSide,
     bytes: &[u8],
     seed: u64,
     count: u32,
@@ -76,9 +76,9 @@ pub fn show_many(
     }
     let cuts = random_cuts(alloc, seed, row.len(), LONGEST)?;
     let mut source = MemSource::new(row.clone()?, cuts.clone()?, Vec::new(alloc));
-    let whole = count_same(alloc, &mut source, side, Way::Whole)?;
+    let whole = count_same(alloc, &mut source, side, MessageWay::Whole)?;
     let mut source = MemSource::new(row, cuts, Vec::new(alloc));
-    let pieces = count_same(alloc, &mut source, side, Way::Pieces)?;
+    let pieces = count_same(alloc, &mut source, side, MessageWay::Pieces)?;
     if whole != pieces {
         return Ok(out.push_str("ways differ")?);
     }

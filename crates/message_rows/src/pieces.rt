@@ -1,14 +1,16 @@
 // A message read by its head and the pieces of its body.
 ghost use Rattle.sm_http.specs.Calls.{IsWithinLimit};
 
-use sm_http::{BodyLeft, Held, HttpRefusal, Message, Side, read_head, read_message, read_piece};
+use sm_http::{
+    BodyLeft, Held, HttpRefusal, Message, MessageSide, read_head, read_message, read_piece,
+};
 use sm_io::Source;
 use sm_tree::Bytes;
 use std::alloc::Global;
 
 /// By which calls a message is read.
 #[derive(Clone, Copy, Debug, PartialEq, Eq, Drop)]
-pub enum Way {
+pub enum MessageWay {
     /// `read_message`.
     Whole,
     /// `read_head`, and `read_piece` up to the body's end.
@@ -45,10 +47,10 @@ pub fn read_once<S: Source>(
     alloc: Global,
     source: &mut S,
     held: &mut Held,
-    side: Side,
-    way: Way,
+    side: MessageSide,
+    way: MessageWay,
 ) -> Result<Option<Message>, HttpRefusal> {
-    if way == Way::Whole {
+    if way == MessageWay::Whole {
         return read_message(alloc, source, held, side);
     }
     let Some((head, begun)) = read_head(alloc, source, held, side)? else {

@@ -4,12 +4,12 @@ ghost use Rattle.std.specs.Prelude.{◌<◌, All};
 use crate::cuts::{cut_in_two, random_cuts, single_bytes};
 use crate::given::given;
 use crate::many::show_many;
-use crate::pieces::Way;
+use crate::pieces::MessageWay;
 use crate::prefixes::show_prefixes;
-use crate::question::{Asked, question_of};
+use crate::question::{StreamAsked, question_of};
 use crate::stream::read_stream;
 use crate::written::show_written;
-use sm_http::Side;
+use sm_http::MessageSide;
 use sm_io::MemSource;
 use sm_tree::NoMemory;
 use std::alloc::Global;
@@ -24,7 +24,7 @@ const SHORT: usize = 600;
 #[derive(Clone, Copy, Drop)]
 struct Asking<'a> {
     bytes: &'a [u8],
-    side: Side,
+    side: MessageSide,
     // how many messages are read at most
     most: u32,
 }
@@ -33,7 +33,7 @@ struct Asking<'a> {
 fn read_so(
     alloc: Global,
     asking: Asking<'_>,
-    way: Way,
+    way: MessageWay,
     cuts: Vec<u64>,
     failing: Vec<u64>,
 ) -> Result<String, NoMemory>
@@ -53,8 +53,8 @@ fn is_read_over(
     requires { All (λ cut. 0 < cut) cuts.items }
 {
     let none = Vec::new(alloc);
-    let whole = read_so(alloc, asking, Way::Whole, cuts.clone()?, none)?;
-    let pieces = read_so(alloc, asking, Way::Pieces, cuts, Vec::new(alloc))?;
+    let whole = read_so(alloc, asking, MessageWay::Whole, cuts.clone()?, none)?;
+    let pieces = read_so(alloc, asking, MessageWay::Pieces, cuts, Vec::new(alloc))?;
     Ok(whole.as_str() == said && pieces.as_str() == said)
 }
 
@@ -81,7 +81,7 @@ fn is_read_in_part(alloc: Global, asking: Asking<'_>, said: &str) -> Result<bool
     for call in 1..=asking.bytes.len() {
         let cuts = single_bytes(alloc, asking.bytes.len())?;
         let failing = vec![in alloc; call as u64]?;
-        let part = read_so(alloc, asking, Way::Whole, cuts, failing)?;
+        let part = read_so(alloc, asking, MessageWay::Whole, cuts, failing)?;
         if !is_part(&part, said) {
             return Ok(false);
         }
@@ -91,7 +91,13 @@ fn is_read_in_part(alloc: Global, asking: Asking<'_>, said: &str) -> Result<bool
 
 // Appends what is read from a stream, if all ways of reading it agree.
 fn show_stream(alloc: Global, asking: Asking<'_>, out: &mut String) -> Result<(), NoMemory> {
-    let said = read_so(alloc, asking, Way::Whole, Vec::new(alloc), Vec::new(alloc))?;
+    let said = read_so(
+        alloc,
+        asking,
+        MessageWay::Whole,
+        Vec::new(alloc),
+        Vec::new(alloc),
+    )?;
     let len = asking.bytes.len();
     let mut agrees = is_read_over(alloc, asking, &said, Vec::new(alloc))?
         && is_read_over(alloc, asking, &said, single_bytes(alloc, len.min(SINGLES))?)?
@@ -122,7 +128,7 @@ pub fn answer_to(alloc: Global, row: &str, out: &mut String) -> Result<(), NoMem
     };
     let side = question.side;
     match question.asked {
-        Asked::One => show_stream(
+        StreamAsked::One => show_stream(
             alloc,
             Asking {
                 bytes: &bytes,
@@ -131,7 +137,7 @@ pub fn answer_to(alloc: Global, row: &str, out: &mut String) -> Result<(), NoMem
             },
             out,
         ),
-        Asked::All => show_stream(
+        StreamAsked::All => show_stream(
             alloc,
             Asking {
                 bytes: &bytes,
@@ -140,8 +146,8 @@ pub fn answer_to(alloc: Global, row: &str, out: &mut String) -> Result<(), NoMem
             },
             out,
         ),
-        Asked::Prefixes => show_prefixes(alloc, side, &bytes, out),
-        Asked::Written => show_written(alloc, side, &bytes, out),
-        Asked::Many { seed, count } => show_many(alloc, side, &bytes, seed, count, out),
+        StreamAsked::Prefixes => show_prefixes(alloc, side, &bytes, out),
+        StreamAsked::Written => show_written(alloc, side, &bytes, out),
+        StreamAsked::Many { seed, count } => show_many(alloc, side, &bytes, seed, count, out),
     }
 }

@@ -1,12 +1,12 @@
 // A message cut off at each place.
 use crate::show::refusal_word;
 use crate::written::message_of;
-use sm_http::Side;
+use sm_http::MessageSide;
 use sm_tree::NoMemory;
 use std::alloc::Global;
 
 // What is read from a stream of these bytes: a message, none, or a refusal.
-fn word_of(alloc: Global, side: Side, bytes: &[u8]) -> Result<&'static str, NoMemory> {
+fn word_of(alloc: Global, side: MessageSide, bytes: &[u8]) -> Result<&'static str, NoMemory> {
     match message_of(alloc, side, bytes)? {
         Ok(Some(_)) => Ok("read"),
         Ok(None) => Ok("none"),
@@ -29,7 +29,7 @@ fn show_run(word: &str, count: u32, out: &mut String) -> Result<(), NoMemory> {
 /// `NoMemory`.
 pub fn show_prefixes(
     alloc: Global,
-    side: Side,
+    side: MessageSide,
     bytes: &[u8],
     out: &mut String,
 ) -> Result<(), NoMemory> {

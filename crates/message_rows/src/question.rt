@@ -1,9 +1,9 @@
 // What a row asks for: its first word says of what.
-use sm_http::Side;
+use sm_http::MessageSide;
 
 /// What is asked of the bytes of a case.
 #[derive(Clone, Copy, Debug, PartialEq, Eq, Drop)]
-pub enum Asked {
+pub enum StreamAsked {
     /// Which message they begin with, and how many bytes are left behind it.
     One,
     /// Which messages they are.
@@ -20,14 +20,14 @@ pub enum Asked {
 /// A question on a side.
 #[derive(Clone, Copy, Debug, PartialEq, Eq, Drop)]
 pub struct Question {
-    pub asked: Asked,
-    pub side: Side,
+    pub asked: StreamAsked,
+    pub side: MessageSide,
 }
 
-fn many_of<'a>(text: &'a str) -> Option<(Asked, &'a str)> {
+fn many_of<'a>(text: &'a str) -> Option<(StreamAsked, &'a str)> {
     let (seed, rest) = text.split_once(' ')?;
     let (count, rest) = rest.split_once(' ')?;
-    let asked = Asked::Many {
+    let asked = StreamAsked::Many {
         seed: seed.parse::<u64>().ok()?,
         count: count.parse::<u32>().ok()?,
     };
@@ -42,16 +42,16 @@ pub fn question_of<'a>(row: &'a str) -> Option<(Question, &'a str)> {
     };
     let side = match word {
         "request" | "requests" | "request-prefixes" | "write-request" | "many-requests" =>
-            Side::Request,
+            MessageSide::Request,
         "response" | "responses" | "response-prefixes" | "write-response" | "many-responses" =>
-            Side::Response,
+            MessageSide::Response,
         _ => return None,
     };
     let (asked, text) = match word {
-        "request" | "response" => (Asked::One, text),
-        "requests" | "responses" => (Asked::All, text),
-        "request-prefixes" | "response-prefixes" => (Asked::Prefixes, text),
-        "write-request" | "write-response" => (Asked::Written, text),
+        "request" | "response" => (StreamAsked::One, text),
+        "requests" | "responses" => (StreamAsked::All, text),
+        "request-prefixes" | "response-prefixes" => (StreamAsked::Prefixes, text),
+        "write-request" | "write-response" => (StreamAsked::Written, text),
         _ => many_of(text)?,
     };
     Some((Question { asked, side }, text))

@@ -1,7 +1,7 @@
 // What is read from a stream, as text.
-use crate::pieces::{Way, read_once};
+use crate::pieces::{MessageWay, read_once};
 use crate::show::{refusal_word, show_message};
-use sm_http::{Held, HttpRefusal, Side};
+use sm_http::{Held, HttpRefusal, MessageSide};
 use sm_io::{ReadRefusal, Source, read_all};
 use sm_tree::NoMemory;
 use std::alloc::Global;
@@ -37,8 +37,8 @@ fn show_left<S: Source>(
 pub fn read_stream<S: Source>(
     alloc: Global,
     source: &mut S,
-    side: Side,
-    way: Way,
+    side: MessageSide,
+    way: MessageWay,
     most: u32,
 ) -> Result<String, NoMemory> {
     let mut held = Held::new(alloc);

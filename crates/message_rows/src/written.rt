@@ -1,6 +1,6 @@
 // A message written, and read again.
 use crate::show::{refusal_word, show_bytes};
-use sm_http::{Held, HttpRefusal, Message, Side, message_len, read_message, write_message};
+use sm_http::{Held, HttpRefusal, Message, MessageSide, message_len, read_message, write_message};
 use sm_io::CalmSource;
 use sm_tree::NoMemory;
 use std::alloc::Global;
@@ -15,7 +15,7 @@ const BEFORE: &[u8] = b"x=";
 /// `NoMemory`.
 pub fn message_of(
     alloc: Global,
-    side: Side,
+    side: MessageSide,
     bytes: &[u8],
 ) -> Result<Result<Option<Message>, HttpRefusal>, NoMemory> {
     let mut source = CalmSource::new(bytes.to_vec(alloc)?, Vec::new(alloc));
@@ -30,7 +30,7 @@ pub fn message_of(
 // its length isn't what `message_len` says, that other room was taken, or that it isn't read again as the message.
 fn show_text(
     alloc: Global,
-    side: Side,
+    side: MessageSide,
     message: &Message,
     out: &mut String,
 ) -> Result<(), NoMemory> {
@@ -61,7 +61,7 @@ fn show_text(
 /// `NoMemory`.
 pub fn show_written(
     alloc: Global,
-    side: Side,
+    side: MessageSide,
     bytes: &[u8],
     out: &mut String,
 ) -> Result<(), NoMemory> {

@@ -1,7 +1,7 @@
 -- What the words of the command line ask for.
 use Rattle.std.specs.Prelude.{◌≡◌, ℕ, List, codes, Option, Some, None}
-use Rattle.sm_http.specs.declared.message.Side.{Side}
-use Rattle.sm_http.specs.declared.message.Side.TheVariants.{Request, Response}
+use Rattle.sm_http.specs.declared.message.MessageSide.{MessageSide}
+use Rattle.sm_http.specs.declared.message.MessageSide.TheVariants.{Request, Response}
 use Rattle.message_speed.specs.declared.command.Work.{Work}
 use Rattle.message_speed.specs.declared.command.Work.TheVariants.{Read, Pieces, Head, Write, Copy}
 use Rattle.message_speed.specs.declared.command.Command.{Command}
@@ -14,7 +14,7 @@ AsksWork word (Some Write) = word ≡ codes "write"
 AsksWork word (Some Copy) = word ≡ codes "copy"
 AsksWork word None = Unit {0}
 
-abbrev pub AsksSide : List ℕ → Option Side → Type 0
+abbrev pub AsksSide : List ℕ → Option MessageSide → Type 0
 AsksSide word (Some Request) = word ≡ codes "request"
 AsksSide word (Some Response) = word ≡ codes "response"
 AsksSide word None = Unit {0}

@@ -1,7 +1,7 @@
 // What the program is asked to do.
 ghost use Rattle.message_speed.specs.Commands.{AsksWork, AsksSide, AsksCommand};
 
-use sm_http::Side;
+use sm_http::MessageSide;
 
 /// What is done with a message.
 #[derive(Clone, Copy, Debug, PartialEq, Eq, Drop)]
@@ -33,12 +33,12 @@ impl Work {
     }
 }
 
-fn side_of(word: &str) -> Option<Side>
+fn side_of(word: &str) -> Option<MessageSide>
     ensures { AsksSide word.now result }
 {
     match word {
-        "request" => Some(Side::Request),
-        "response" => Some(Side::Response),
+        "request" => Some(MessageSide::Request),
+        "response" => Some(MessageSide::Response),
         _ => None,
     }
 }
@@ -47,7 +47,7 @@ fn side_of(word: &str) -> Option<Side>
 #[derive(Clone, Copy, Debug, PartialEq, Eq, Drop)]
 pub struct Command {
     pub work: Work,
-    pub side: Side,
+    pub side: MessageSide,
     pub count: u32,
 }
 

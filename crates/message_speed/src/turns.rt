@@ -6,7 +6,7 @@ ghost use Rattle.message_speed.specs.Turns.{MessageOf};
 
 use httparse::{EMPTY_HEADER, Request, Response, Status};
 use sm_http::{
-    BodyLeft, Held, HttpRefusal, Message, Side, message_len, read_head, read_message, read_piece,
+    BodyLeft, Held, HttpRefusal, Message, MessageSide, message_len, read_head, read_message, read_piece,
     write_message,
 };
 use sm_io::{Source, StdSource};
@@ -18,7 +18,7 @@ fn read_first<S: Source>(
     alloc: Global,
     source: &mut S,
     held: &mut Held,
-    side: Side,
+    side: MessageSide,
 ) -> Result<Option<Message>, HttpRefusal>
     requires { held.old ≡ [] }
     ensures { IfSome (S.left source.old) (λ bytes. MessageOf side bytes result) }
@@ -31,7 +31,7 @@ fn read_once(
     alloc: Global,
     held: &mut Held,
     bytes: &[u8],
-    side: Side,
+    side: MessageSide,
 ) -> Result<Option<Message>, HttpRefusal>
     ensures { MessageOf side bytes.now result }
 {
@@ -51,7 +51,7 @@ fn read_once(
 pub fn read_times(
     alloc: Global,
     bytes: &[u8],
-    side: Side,
+    side: MessageSide,
     turns: u32,
 ) -> Result<Option<Message>, HttpRefusal>
     ensures { MessageOf side bytes.now result }
@@ -90,7 +90,7 @@ fn pieces_once(
     alloc: Global,
     held: &mut Held,
     bytes: &[u8],
-    side: Side,
+    side: MessageSide,
 ) -> Result<u64, HttpRefusal> {
     let mut source = StdSource::new(bytes);
     match read_head(alloc, &mut source, held, side)? {
@@ -107,7 +107,7 @@ fn pieces_once(
 pub fn pieces_times(
     alloc: Global,
     bytes: &[u8],
-    side: Side,
+    side: MessageSide,
     turns: u32,
 ) -> Result<u64, HttpRefusal> {
     let mut held = Held::new(alloc);
@@ -137,12 +137,12 @@ fn response_head(bytes: &[u8]) -> u64 {
 }
 
 /// The length of a head by httparse, so many times together.
-pub fn head_times(bytes: &[u8], side: Side, turns: u32) -> u64 {
+pub fn head_times(bytes: &[u8], side: MessageSide, turns: u32) -> u64 {
     let mut sum: u64 = 0;
     for _ in 0..turns {
         let len = match side {
-            Side::Request => request_head(bytes),
-            Side::Response => response_head(bytes),
+            MessageSide::Request => request_head(bytes),
+            MessageSide::Response => response_head(bytes),
         };
         sum = sum.saturating_add(len);
     }

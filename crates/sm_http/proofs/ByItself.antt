@@ -6,7 +6,7 @@ use Rattle.httparse.specs.Ascii.{crlf_bytes}
 use Rattle.httparse.specs.Grammar.{ChunkLine, print_chunk_line, chunk_size}
 use Rattle.httparse.proofs.ChunkLemmas.{chunk_line_unique}
 use Rattle.sm_http.specs.declared.message.Message.{Message}
-use Rattle.sm_http.specs.declared.message.Side.{Side}
+use Rattle.sm_http.specs.declared.message.MessageSide.{MessageSide}
 use Rattle.sm_http.specs.declared.message.BodyLeft.{BodyLeft}
 use Rattle.sm_http.specs.declared.message.BodyLeft.TheVariants.{Known, Size, Data, Done}
 use Rattle.sm_http.specs.Heads.{HeadStands}
@@ -114,7 +114,7 @@ body_by_itself left bytes content rest ((text, is, e), short) = (
   λ more. ((text, is, refl), λ p. short (subst (IsPastLimit left) (sym e) (past_moves left text content more rest is p))),
 )
 
-pub message_by_itself : (side : Side) → HasMessageByItself side
+pub message_by_itself : (side : MessageSide) → HasMessageByItself side
 message_by_itself side bytes said rest (behind, (text, stands, taken, is), framed) =
     let head = head_used side bytes behind text stands.reads in
     let content = body_by_itself (body_begin said.head) behind said.body rest framed in (

@@ -6,7 +6,7 @@ use Rattle.std.proofs.lemmas.List.{length-append}
 use Rattle.std.specs.Io.KnownBytes.{prepend_known, Consumes, Keeps}
 use Rattle.sm_http.specs.declared.message.Head.{Head}
 use Rattle.sm_http.specs.declared.message.BodyLeft.{BodyLeft}
-use Rattle.sm_http.specs.declared.message.Side.{Side}
+use Rattle.sm_http.specs.declared.message.MessageSide.{MessageSide}
 use Rattle.sm_http.specs.declared.held.Unfilled.TheVariants.{Failed, NoMemory}
 use Rattle.sm_http.specs.Limits.{head_limit}
 use Rattle.sm_http.specs.declared.held.Unfilled.{Unfilled}
@@ -103,19 +103,19 @@ consumed_whole None l h kept = tt
 consumed_whole (Some a) None h kept = absurd kept
 consumed_whole (Some a) (Some l) h kept = sym kept
 
-pub found_ahead : (side : Side) (a l : Option (List ℕ)) (h k : List ℕ) (pair : Head × BodyLeft) → Keeps a (prepend_known h l)
+pub found_ahead : (side : MessageSide) (a l : Option (List ℕ)) (h k : List ℕ) (pair : Head × BodyLeft) → Keeps a (prepend_known h l)
     → length h ≤ head_limit → FindsWhole side h k pair → ReadsAHead side a (prepend_known k l) l (Ok (Some pair))
 found_ahead side a l h k pair kept few x =
     let whole = whole_ahead side a l h x.found pair.1 kept few x.sees in
     let moved = subst (λ s. ReadsAHead side a (prepend_known s l) l (Ok (Some (x.found.head, pair.1)))) (sym x.now_is) whole in
     subst (λ s. ReadsAHead side a (prepend_known k l) l (Ok (Some (s, pair.1)))) (sym x.head_is) moved
 
-pub found_within : (side : Side) (h k : List ℕ) (pair : Head × BodyLeft) → FindsWhole side h k pair → IsWithinLimit pair.1
+pub found_within : (side : MessageSide) (h k : List ℕ) (pair : Head × BodyLeft) → FindsWhole side h k pair → IsWithinLimit pair.1
 found_within side h k pair x = let sees = x.sees in begins_within (found_text x.found) pair.1 sees.2 sees.3
 
 -- ---- what a call said
 
-pub looks_at : (side : Side) (h k : List ℕ) (r q : Result (Option (Head × BodyLeft)) HttpRefusal) → r ≡ q → LooksAHead side h k r
+pub looks_at : (side : MessageSide) (h k : List ℕ) (r q : Result (Option (Head × BodyLeft)) HttpRefusal) → r ≡ q → LooksAHead side h k r
     → LooksAHead side h k q
 looks_at side h k r q e looks = subst (λ x. LooksAHead side h k x) e looks
 

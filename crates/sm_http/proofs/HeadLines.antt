@@ -10,8 +10,8 @@ use Rattle.sm_bytes.specs.Ascii.{carriage_return, line_feed}
 use Rattle.httparse.specs.Grammar.{is_token_byte, is_uri_byte, IsToken, AllPass, LineEnd, crlf, lf, print_end, print_blank, print_version}
 use Rattle.httparse.specs.Grammar.{print_section, print_reason, RequestHead, ReadsRequest, ResponseHead, ReadsResponse, EndsInTarget}
 use Rattle.httparse.proofs.GrammarLemmas.{print_request-append, print_response-append}
-use Rattle.sm_http.specs.declared.message.Side.{Side}
-use Rattle.sm_http.specs.declared.message.Side.TheVariants.{Request as of_requests, Response as of_responses}
+use Rattle.sm_http.specs.declared.message.MessageSide.{MessageSide}
+use Rattle.sm_http.specs.declared.message.MessageSide.TheVariants.{Request as of_requests, Response as of_responses}
 use Rattle.sm_http.specs.Heads.{HeadText, ReadsHead, HasNoHead, NeverHasHead, is_line_byte, has_line_feed, has_first_line}
 use Rattle.sm_http.specs.steps.Finding.{MayBecomeHead}
 
@@ -76,14 +76,15 @@ response_line bytes rest h reads =
     let code = lf_behind h.digits (print_reason h.reason ++ (print_end h.line_end ++ behind)) reason in
     ap has_first_line (reads.1 ∙ print_response-append h rest)
     ∙ behind_blanks h.blank (print_version h.minor ++ 32 ∷ (h.digits ++ (print_reason h.reason ++ (print_end h.line_end ++ behind))))
-    ∙ lf_behind (codes "TTP/1." ++ (48 + h.minor) ∷ []) (32 ∷ (h.digits ++ (print_reason h.reason ++ (print_end h.line_end ++ behind)))) code
+    ∙ lf_behind (codes "TTP/1." ++ (48 + h.minor) ∷ [])
+        (32 ∷ (h.digits ++ (print_reason h.reason ++ (print_end h.line_end ++ behind)))) code
 
-pub head_line : (side : Side) (bytes rest : List ℕ) (text : HeadText) → ReadsHead side bytes text rest → has_first_line bytes ≡ true
+pub head_line : (side : MessageSide) (bytes rest : List ℕ) (text : HeadText) → ReadsHead side bytes text rest → has_first_line bytes ≡ true
 head_line of_requests bytes rest text x = request_line bytes rest x.0 x.1
 head_line of_responses bytes rest text x = response_line bytes rest x.0 x.1
 
 -- where the first line hasn't ended there is no head
-pub no_line_no_head : (side : Side) (bytes : List ℕ) → has_first_line bytes ≡ false → HasNoHead side bytes
+pub no_line_no_head : (side : MessageSide) (bytes : List ℕ) → has_first_line bytes ≡ false → HasNoHead side bytes
 no_line_no_head of_requests bytes e = λ h rest x. true≢false (sym (request_line bytes rest h x) ∙ e)
 no_line_no_head of_responses bytes e = λ h rest x. true≢false (sym (response_line bytes rest h x) ∙ e)
 
@@ -125,7 +126,7 @@ no_line_in_target bytes x =
     ∙ no_line_token x.1 (32 ∷ x.2) x.3 (no_lf_target x.2 x.4)
 
 -- where the first line has ended and more may come, it can't be that nothing may
-pub not_never : (side : Side) (bytes : List ℕ) → MayBecomeHead side bytes → has_first_line bytes ≡ true → NeverHasHead side bytes → ⊥
+pub not_never : (side : MessageSide) (bytes : List ℕ) → MayBecomeHead side bytes → has_first_line bytes ≡ true → NeverHasHead side bytes → ⊥
 not_never of_requests bytes (inl more) line never = never more.0 more.1 [] more.2
 not_never of_requests bytes (inr ends) line never = true≢false (sym line ∙ no_line_in_target bytes ends)
 not_never of_responses bytes more line never = never more.0 more.1 [] more.2

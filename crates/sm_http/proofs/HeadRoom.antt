@@ -7,8 +7,8 @@ use Rattle.std.specs.List.{flat_map}
 use Rattle.httparse.specs.Grammar.{Field, IsField, print_field, LineEnd, crlf, lf, print_end, print_blank, print_version, print_section}
 use Rattle.httparse.specs.Grammar.{print_reason, RequestHead, print_request, ResponseHead, print_response}
 use Rattle.httparse.proofs.GrammarLemmas.{print_request-append, print_response-append}
-use Rattle.sm_http.specs.declared.message.Side.{Side}
-use Rattle.sm_http.specs.declared.message.Side.TheVariants.{Request as of_requests, Response as of_responses}
+use Rattle.sm_http.specs.declared.message.MessageSide.{MessageSide}
+use Rattle.sm_http.specs.declared.message.MessageSide.TheVariants.{Request as of_requests, Response as of_responses}
 use Rattle.sm_http.specs.Limits.{head_limit}
 use Rattle.sm_http.specs.steps.Finding.{HeadExceeds}
 
@@ -77,7 +77,7 @@ too_many bytes front rest text count short cut long is many =
     let line = length-append front (print_end lf) in
     omega arith
 
-pub never_exceeds : (side : Side) (bytes : List ℕ) → length bytes ≤ head_limit → HeadExceeds side 5500 bytes → ⊥
+pub never_exceeds : (side : MessageSide) (bytes : List ℕ) → length bytes ≤ head_limit → HeadExceeds side 5500 bytes → ⊥
 never_exceeds of_requests bytes short x =
     too_many bytes x.0 x.1 (print_request x.3) (length x.3.fields) short x.2 (request_some x.3 [] x.4.0.fields) x.4.1 x.5
 never_exceeds of_responses bytes short x =

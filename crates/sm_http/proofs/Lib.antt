@@ -26,3 +26,4 @@ mod ReadingMessages
 mod FillingLines
 mod Phrases
 mod Printed
+mod FieldLists

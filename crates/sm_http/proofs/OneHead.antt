@@ -4,8 +4,8 @@ use Rattle.std.proofs.Common.{Some, None, ◌⊎◌}
 use Rattle.std.proofs.Common.{true≢false}
 use Rattle.httparse.specs.Grammar.{print_request, print_response, print_blank, print_version}
 use Rattle.httparse.proofs.GrammarLemmas.{request_unique, response_unique, print_request-append, print_response-append}
-use Rattle.sm_http.specs.declared.message.Side.{Side}
-use Rattle.sm_http.specs.declared.message.Side.TheVariants.{Request as of_requests, Response as of_responses}
+use Rattle.sm_http.specs.declared.message.MessageSide.{MessageSide}
+use Rattle.sm_http.specs.declared.message.MessageSide.TheVariants.{Request as of_requests, Response as of_responses}
 use Rattle.sm_http.specs.declared.refusal.HttpRefusal.{HttpRefusal}
 use Rattle.sm_http.specs.declared.refusal.HttpRefusal.TheVariants.{ReadFault, Ended, HeadTooLarge, Coding, Length, TooLong, Chunk, NoMemory}
 use Rattle.sm_http.specs.declared.refusal.HttpRefusal.TheVariants.{Head as BadHead}
@@ -17,7 +17,7 @@ use Rattle.sm_http.specs.Laws.{HasOneHead}
 use Rattle.sm_http.proofs.Cuts.{cut_behind, right_empty}
 
 -- bytes begin with one head at most
-pub head_unique : (side : Side) (bytes : List ℕ) (t u : HeadText) (r q : List ℕ) → ReadsHead side bytes t r
+pub head_unique : (side : MessageSide) (bytes : List ℕ) (t u : HeadText) (r q : List ℕ) → ReadsHead side bytes t r
     → ReadsHead side bytes u q → (t ≡ u) × (r ≡ q)
 head_unique of_requests bytes t u r q x y =
     let same = request_unique bytes x.0 y.0 r q x.1 y.1 in (x.2 ∙ ap request_text same.0 ∙ sym y.2, same.1)
@@ -25,12 +25,12 @@ head_unique of_responses bytes t u r q x y =
     let same = response_unique bytes x.0 y.0 r q x.1 y.1 in (x.2 ∙ ap response_text same.0 ∙ sym y.2, same.1)
 
 -- what can never become a head is none
-none_from_never : (side : Side) (bytes : List ℕ) → NeverHasHead side bytes → HasNoHead side bytes
+none_from_never : (side : MessageSide) (bytes : List ℕ) → NeverHasHead side bytes → HasNoHead side bytes
 none_from_never of_requests bytes never = λ h rest x. never [] h rest (x.0, append-nil bytes ∙ x.1)
 none_from_never of_responses bytes never = λ h rest x. never [] h rest (x.0, append-nil bytes ∙ x.1)
 
 -- a whole head stands within the first bytes, so these aren't without one
-stands_within : (side : Side) (bytes : List ℕ) (text : HeadText) (rest : List ℕ) → HeadStands side bytes text rest
+stands_within : (side : MessageSide) (bytes : List ℕ) (text : HeadText) (rest : List ℕ) → HeadStands side bytes text rest
     → HasNoHead side (take head_limit bytes) → ⊥
 stands_within of_requests bytes text rest whole none =
     let reads = whole.reads in
@@ -40,7 +40,7 @@ stands_within of_responses bytes text rest whole none =
     none reads.0 _ (reads.1.0, cut_behind head_limit bytes (print_response reads.0) rest reads.1.1 whole.within)
 
 -- a head has bytes
-no_empty_head : (side : Side) (text : HeadText) (rest : List ℕ) → ReadsHead side [] text rest → ⊥
+no_empty_head : (side : MessageSide) (text : HeadText) (rest : List ℕ) → ReadsHead side [] text rest → ⊥
 no_empty_head of_requests text rest x =
     let h = x.0 in
     let behind = right_empty h.method _ (right_empty (print_blank h.blank) _ (x.1.1 ∙ print_request-append h rest)) in
@@ -52,11 +52,11 @@ no_empty_head of_responses text rest x =
     let none : [] ≡ 32 ∷ _ = behind in
     cc
 
-no_empty_whole : (side : Side) (bytes : List ℕ) (text : HeadText) (rest : List ℕ) → bytes ≡ [] → HeadStands side bytes text rest → ⊥
+no_empty_whole : (side : MessageSide) (bytes : List ℕ) (text : HeadText) (rest : List ℕ) → bytes ≡ [] → HeadStands side bytes text rest → ⊥
 no_empty_whole side bytes text rest e whole = no_empty_head side text rest (subst (λ b. ReadsHead side b text rest) e whole.reads)
 
 -- where a whole head stands, no part of one is refused
-no_part : (side : Side) (bytes : List ℕ) (text : HeadText) (rest : List ℕ) (why : HttpRefusal) → HeadStands side bytes text rest
+no_part : (side : MessageSide) (bytes : List ℕ) (text : HeadText) (rest : List ℕ) (why : HttpRefusal) → HeadStands side bytes text rest
     → RefusesPart side bytes why → ⊥
 no_part side bytes text rest ReadFault whole part = part
 no_part side bytes text rest Ended whole part = stands_within side bytes text rest whole part.0.no_head
@@ -70,7 +70,7 @@ no_part side bytes text rest Chunk whole part = part
 no_part side bytes text rest NoMemory whole part = part
 
 -- no byte is no part of a head
-no_empty_part : (side : Side) (bytes : List ℕ) (why : HttpRefusal) → bytes ≡ [] → RefusesPart side bytes why → ⊥
+no_empty_part : (side : MessageSide) (bytes : List ℕ) (why : HttpRefusal) → bytes ≡ [] → RefusesPart side bytes why → ⊥
 no_empty_part side bytes ReadFault e part = part
 no_empty_part side bytes Ended e part = let some = part.0.some in let none : length bytes ≡ 0 = ap length e in omega arith
 no_empty_part side bytes BadHead e part =
@@ -82,7 +82,7 @@ no_empty_part side bytes TooLong e part = part
 no_empty_part side bytes Chunk e part = part
 no_empty_part side bytes NoMemory e part = part
 
-one_part : (side : Side) (bytes : List ℕ) (a b : HttpRefusal) → RefusesPart side bytes a → RefusesPart side bytes b → a ≡ b
+one_part : (side : MessageSide) (bytes : List ℕ) (a b : HttpRefusal) → RefusesPart side bytes a → RefusesPart side bytes b → a ≡ b
 one_part side bytes ReadFault b x y = absurd x
 one_part side bytes Coding b x y = absurd x
 one_part side bytes Length b x y = absurd x
@@ -117,13 +117,13 @@ one_part side bytes HeadTooLarge TooLong x y = absurd y
 one_part side bytes HeadTooLarge Chunk x y = absurd y
 one_part side bytes HeadTooLarge NoMemory x y = absurd y
 
-one_whole : (side : Side) (bytes : List ℕ) (a b : HttpRefusal) → RefusesWhole side bytes a → RefusesWhole side bytes b → a ≡ b
+one_whole : (side : MessageSide) (bytes : List ℕ) (a b : HttpRefusal) → RefusesWhole side bytes a → RefusesWhole side bytes b → a ≡ b
 one_whole side bytes a b x y =
     let same = head_unique side bytes x.0 y.0 x.1 y.1 x.2.reads y.2.reads in
     let words : Some a ≡ Some b = sym x.3 ∙ ap head_refusal same.0 ∙ y.3 in
     cc
 
-one_refusal : (side : Side) (bytes : List ℕ) (a b : HttpRefusal) → RefusesPart side bytes a ⊎ RefusesWhole side bytes a
+one_refusal : (side : MessageSide) (bytes : List ℕ) (a b : HttpRefusal) → RefusesPart side bytes a ⊎ RefusesWhole side bytes a
     → RefusesPart side bytes b ⊎ RefusesWhole side bytes b → a ≡ b
 one_refusal side bytes a b (inl x) (inl y) = one_part side bytes a b x y
 one_refusal side bytes a b (inl x) (inr y) = absurd (no_part side bytes y.0 y.1 a y.2 x)
@@ -131,7 +131,7 @@ one_refusal side bytes a b (inr x) (inl y) = absurd (no_part side bytes x.0 x.1 
 one_refusal side bytes a b (inr x) (inr y) = one_whole side bytes a b x y
 
 -- a head is refused by no word
-taken_or_refused : (side : Side) (bytes : List ℕ) (text : HeadText) (rest : List ℕ) (why : HttpRefusal)
+taken_or_refused : (side : MessageSide) (bytes : List ℕ) (text : HeadText) (rest : List ℕ) (why : HttpRefusal)
     → HeadStands side bytes text rest → head_refusal text ≡ None → RefusesPart side bytes why ⊎ RefusesWhole side bytes why → ⊥
 taken_or_refused side bytes text rest why whole taken (inl part) = no_part side bytes text rest why whole part
 taken_or_refused side bytes text rest why whole taken (inr refused) =
@@ -139,12 +139,12 @@ taken_or_refused side bytes text rest why whole taken (inr refused) =
     let words : ◌≡◌ {A = Option HttpRefusal} None (Some why) = sym taken ∙ ap head_refusal same.0 ∙ refused.3 in
     cc
 
-no_empty_refusal : (side : Side) (bytes : List ℕ) (why : HttpRefusal) → bytes ≡ []
+no_empty_refusal : (side : MessageSide) (bytes : List ℕ) (why : HttpRefusal) → bytes ≡ []
     → RefusesPart side bytes why ⊎ RefusesWhole side bytes why → ⊥
 no_empty_refusal side bytes why e (inl part) = no_empty_part side bytes why e part
 no_empty_refusal side bytes why e (inr refused) = no_empty_whole side bytes refused.0 refused.1 e refused.2
 
-pub one_head : (side : Side) → HasOneHead side
+pub one_head : (side : MessageSide) → HasOneHead side
 one_head side bytes no_head no_head x y = refl
 one_head side bytes no_head (head b q) x y = absurd (no_empty_whole side bytes y.0 q x y.1)
 one_head side bytes no_head (head_refused b) x y = absurd (no_empty_refusal side bytes b x y)

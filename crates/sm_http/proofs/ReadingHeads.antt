@@ -8,15 +8,15 @@ use Rattle.std.specs.Io.KnownBytes.{prepend_known, Consumes, Keeps}
 use Rattle.httparse.specs.Grammar.{print_request, print_response}
 use Rattle.httparse.proofs.GrammarLemmas.{ReadsRequest-append, ReadsResponse-append}
 use Rattle.sm_http.specs.declared.message.Head.{Head}
-use Rattle.sm_http.specs.declared.message.Side.{Side}
-use Rattle.sm_http.specs.declared.message.Side.TheVariants.{Request as of_requests, Response as of_responses}
+use Rattle.sm_http.specs.declared.message.MessageSide.{MessageSide}
+use Rattle.sm_http.specs.declared.message.MessageSide.TheVariants.{Request as of_requests, Response as of_responses}
 use Rattle.sm_http.specs.declared.message.BodyLeft.{BodyLeft}
 use Rattle.sm_http.specs.declared.head.HeadFound.{HeadFound}
 use Rattle.sm_http.specs.declared.refusal.HttpRefusal.{HttpRefusal}
 use Rattle.sm_http.specs.declared.refusal.HttpRefusal.TheVariants.{ReadFault, Ended, HeadTooLarge, Coding, Length, TooLong, Chunk, NoMemory}
 use Rattle.sm_http.specs.declared.refusal.HttpRefusal.TheVariants.{Head as BadHead}
-use Rattle.sm_http.specs.declared.see.Seen.{Seen}
-use Rattle.sm_http.specs.declared.see.Seen.TheVariants.{Whole, Part}
+use Rattle.sm_http.specs.declared.see.SeenHead.{SeenHead}
+use Rattle.sm_http.specs.declared.see.SeenHead.TheVariants.{Whole, Part}
 use Rattle.sm_http.specs.declared.held.Unfilled.{Unfilled}
 use Rattle.sm_http.specs.Limits.{head_limit}
 use Rattle.sm_http.specs.Heads.{HeadText, ReadsHead, HasNoHead, NeverHasHead, HeadStands, IsNoHead, AwaitsHead, has_first_line}
@@ -29,16 +29,16 @@ use Rattle.sm_http.proofs.HeadLines.{first_line_stays}
 
 -- ---- bytes that follow
 
-pub reads_on : (side : Side) (bytes rest more : List ℕ) (text : HeadText) → ReadsHead side bytes text rest
+pub reads_on : (side : MessageSide) (bytes rest more : List ℕ) (text : HeadText) → ReadsHead side bytes text rest
     → ReadsHead side (bytes ++ more) text (rest ++ more)
 reads_on of_requests bytes rest more text x = (x.0, ReadsRequest-append bytes x.0 rest more x.1, x.2)
 reads_on of_responses bytes rest more text x = (x.0, ReadsResponse-append bytes x.0 rest more x.1, x.2)
 
-never_on : (side : Side) (bytes more : List ℕ) → NeverHasHead side bytes → NeverHasHead side (bytes ++ more)
+never_on : (side : MessageSide) (bytes more : List ℕ) → NeverHasHead side bytes → NeverHasHead side (bytes ++ more)
 never_on of_requests bytes more never = λ next h rest x. never (more ++ next) h rest (x.0, sym (append_assoc bytes more next) ∙ x.1)
 never_on of_responses bytes more never = λ next h rest x. never (more ++ next) h rest (x.0, sym (append_assoc bytes more next) ∙ x.1)
 
-stands_on : (side : Side) (bytes rest more : List ℕ) (text : HeadText) → length bytes ≤ head_limit → ReadsHead side bytes text rest
+stands_on : (side : MessageSide) (bytes rest more : List ℕ) (text : HeadText) → length bytes ≤ head_limit → ReadsHead side bytes text rest
     → HeadStands side (bytes ++ more) text (rest ++ more)
 stands_on side bytes rest more text few reads = record {
   reads = reads_on side bytes rest more text reads;
@@ -51,19 +51,19 @@ cut_on bytes more few =
     let fits : head_limit ≡ length bytes + (head_limit - length bytes) = omega arith in
     ap (λ n. take n (bytes ++ more)) fits ∙ take-append-add bytes more (head_limit - length bytes)
 
-lost_on : (side : Side) (bytes more : List ℕ) → length bytes ≤ head_limit → IsLost side bytes → IsNoHead side (bytes ++ more)
+lost_on : (side : MessageSide) (bytes more : List ℕ) → length bytes ≤ head_limit → IsLost side bytes → IsNoHead side (bytes ++ more)
 lost_on side bytes more few lost = record {
   ended = ap has_first_line (cut_on bytes more few) ∙ first_line_stays bytes (take (head_limit - length bytes) more) lost.0;
   never = subst (λ bs. NeverHasHead side bs) (sym (cut_on bytes more few))
       (never_on side bytes (take (head_limit - length bytes) more) lost.1);
 }
 
-refuses_on : (side : Side) (bytes more : List ℕ) (why : HttpRefusal) → length bytes ≤ head_limit → RefusesRead side bytes why
+refuses_on : (side : MessageSide) (bytes more : List ℕ) (why : HttpRefusal) → length bytes ≤ head_limit → RefusesRead side bytes why
     → HeadFramed side (bytes ++ more) (head_refused why)
 refuses_on side bytes more why few x = inr (x.0, x.1 ++ more, stands_on side bytes x.1 more x.0 few x.2, x.3)
 
 -- a part, of which these are all bytes within the limit
-awaits : (side : Side) (bytes held : List ℕ) → 0 < length bytes → take head_limit bytes ≡ held → HasNoHead side held
+awaits : (side : MessageSide) (bytes held : List ℕ) → 0 < length bytes → take head_limit bytes ≡ held → HasNoHead side held
     → (IsLost side held → ⊥) → AwaitsHead side bytes
 awaits side bytes held some cut none hopes = record {
   some = some;
@@ -107,16 +107,17 @@ consumed_part (Some a) None h used k e kept = absurd kept
 consumed_part (Some a) (Some l) h used k e kept = sym kept ∙ ap (λ x. x ++ l) e ∙ append_assoc used k l
 
 -- a head stands before whatever follows it
-pub record HeadUsed (side : Side) (bytes rest : List ℕ) (text : HeadText) : Type 0 where
+pub record HeadUsed (side : MessageSide) (bytes rest : List ℕ) (text : HeadText) : Type 0 where
   pub used : List ℕ
   pub is : bytes ≡ used ++ rest
   pub on : (more : List ℕ) → ReadsHead side (used ++ more) text more
 
-pub head_used : (side : Side) (bytes rest : List ℕ) (text : HeadText) → ReadsHead side bytes text rest → HeadUsed side bytes rest text
+pub head_used : (side : MessageSide) (bytes rest : List ℕ) (text : HeadText) → ReadsHead side bytes text rest
+    → HeadUsed side bytes rest text
 head_used of_requests bytes rest text x = record { used = print_request x.0; is = x.1.1; on = λ more. (x.0, (x.1.0, refl), x.2) }
 head_used of_responses bytes rest text x = record { used = print_response x.0; is = x.1.1; on = λ more. (x.0, (x.1.0, refl), x.2) }
 
-pub used_stands : (side : Side) (bytes rest more : List ℕ) (text : HeadText) → length bytes ≤ head_limit + length rest
+pub used_stands : (side : MessageSide) (bytes rest more : List ℕ) (text : HeadText) → length bytes ≤ head_limit + length rest
     → (u : HeadUsed side bytes rest text) → HeadStands side (u.used ++ more) text more
 used_stands side bytes rest more text few u = record {
   reads = u.on more;
@@ -138,10 +139,10 @@ no_fault false false false true e x = cc
 no_fault false false false false true x = cc
 no_fault false false false false false x = cc
 
-no_read_fault : (side : Side) (h : List ℕ) → RefusesRead side h ReadFault → ⊥
+no_read_fault : (side : MessageSide) (h : List ℕ) → RefusesRead side h ReadFault → ⊥
 no_read_fault side h x = no_fault _ _ _ _ _ x.3
 
-pub whole_ahead : (side : Side) (a l : Option (List ℕ)) (h : List ℕ) (found : HeadFound) (left : BodyLeft)
+pub whole_ahead : (side : MessageSide) (a l : Option (List ℕ)) (h : List ℕ) (found : HeadFound) (left : BodyLeft)
     → Keeps a (prepend_known h l) → length h ≤ head_limit → SeesHead side h (Ok (Whole found left))
     → ReadsAHead side a (prepend_known (drop found.len h) l) l (Ok (Some (found.head, left)))
 whole_ahead side a l h found left kept few sees =
@@ -154,7 +155,7 @@ whole_ahead side a l h found left kept few sees =
       ),
     )
 
-pub refused_ahead : (side : Side) (a n l : Option (List ℕ)) (h : List ℕ) (why : HttpRefusal) → Keeps a (prepend_known h l)
+pub refused_ahead : (side : MessageSide) (a n l : Option (List ℕ)) (h : List ℕ) (why : HttpRefusal) → Keeps a (prepend_known h l)
     → length h ≤ head_limit → SeesHead side h (Err why) → ReadsAHead side a n l (Err why)
 refused_ahead side a n l h ReadFault kept few sees = absurd (no_read_fault side h sees)
 refused_ahead side a n l h Ended kept few sees =
@@ -176,7 +177,7 @@ refused_ahead side a n l h Chunk kept few sees =
 refused_ahead side a n l h NoMemory kept few sees = tt
 
 -- all that may be held is, and no whole head
-pub large_ahead : (side : Side) (a n l : Option (List ℕ)) (h : List ℕ) → Keeps a (prepend_known h l) → length h ≡ head_limit
+pub large_ahead : (side : MessageSide) (a n l : Option (List ℕ)) (h : List ℕ) → Keeps a (prepend_known h l) → length h ≡ head_limit
     → SeesHead side h (Ok Part) → ReadsAHead side a n l (Err HeadTooLarge)
 large_ahead side a n l h kept full sees =
     by_some a l h (λ bytes. HeadFramed side bytes (head_refused HeadTooLarge)) kept (λ more.
@@ -185,7 +186,7 @@ large_ahead side a n l h kept full sees =
     inl (awaits side (h ++ more) h (omega arith) cut sees.0 sees.1, omega arith))
 
 -- the bytes end
-part_ended : (side : Side) (h : List ℕ) → 0 < length h → length h < head_limit → SeesHead side h (Ok Part)
+part_ended : (side : MessageSide) (h : List ℕ) → 0 < length h → length h < head_limit → SeesHead side h (Ok Part)
     → HeadFramed side h (head_refused Ended)
 part_ended side h some short sees = inl (awaits side h h some (take_all head_limit h (omega arith)) sees.0 sees.1, short)
 
@@ -221,13 +222,13 @@ some_end (Some a) (Some l) (Some r) h k P kept fills p =
 pub same_held : (l r : Option (List ℕ)) (h k : List ℕ) → Fills l r h k (Ok 0) → k ≡ h
 same_held l r h k fills = fills.2 ∙ ap (λ x. h ++ x) (empty fills.0 fills.3) ∙ append-nil h
 
-pub none_ahead : (side : Side) (a l r : Option (List ℕ)) (h k : List ℕ) → Keeps a (prepend_known h l) → Fills l r h k (Ok 0)
+pub none_ahead : (side : MessageSide) (a l r : Option (List ℕ)) (h k : List ℕ) → Keeps a (prepend_known h l) → Fills l r h k (Ok 0)
     → length k ≡ 0 → ReadsAHead side a (prepend_known k r) r (Ok None)
 none_ahead side a l r h k kept fills none =
     let held = empty k none in
     at_end a l r h k (λ bytes rest. HeadFramed side bytes no_head × (rest ≡ [])) kept fills (sym (same_held l r h k fills) ∙ held, held)
 
-pub ended_ahead : (side : Side) (a n l r : Option (List ℕ)) (h k : List ℕ) → Keeps a (prepend_known h l) → Fills l r h k (Ok 0)
+pub ended_ahead : (side : MessageSide) (a n l r : Option (List ℕ)) (h k : List ℕ) → Keeps a (prepend_known h l) → Fills l r h k (Ok 0)
     → 0 < length k → length h < head_limit → SeesHead side h (Ok Part) → ReadsAHead side a n r (Err Ended)
 ended_ahead side a n l r h k kept fills some short sees =
     let held = same_held l r h k fills in
@@ -235,19 +236,19 @@ ended_ahead side a n l r h k kept fills some short sees =
     (part_ended side h (subst (λ x. 0 < length x) held some) short sees)
 
 -- the source failed
-pub open_part : (side : Side) (h : List ℕ) → length h < head_limit → SeesHead side h (Ok Part) → IsOpenHead side h
+pub open_part : (side : MessageSide) (h : List ℕ) → length h < head_limit → SeesHead side h (Ok Part) → IsOpenHead side h
 open_part side [] short sees = inl refl
 open_part side (b ∷ h) short sees = inr (part_ended side (b ∷ h) (omega arith) short sees)
 
 -- where the bytes held at first decide, no part is seen
-pub part_undecided : (side : Side) (at_first h k : List ℕ) → h ≡ at_first → (k ≡ h) × SeesHead side h (Ok Part) → length k < head_limit
-    → DecidesHead side at_first → ⊥
+pub part_undecided : (side : MessageSide) (at_first h k : List ℕ) → h ≡ at_first → (k ≡ h) × SeesHead side h (Ok Part)
+    → length k < head_limit → DecidesHead side at_first → ⊥
 part_undecided side at_first h k e part short decides =
     decides (open_part side at_first (subst (λ x. length x < head_limit) (part.0 ∙ e) short)
     (subst (λ x. SeesHead side x (Ok Part)) e part.1))
 
 -- no bytes are refused as a failed read
-pub never_fault : (side : Side) (h : List ℕ) (why : HttpRefusal)
+pub never_fault : (side : MessageSide) (h : List ℕ) (why : HttpRefusal)
     → IsErrOf {T = Option (Head × BodyLeft)} {E = HttpRefusal} (Err why) ReadFault → SeesHead side h (Err why) → ⊥
 never_fault side h why e sees =
     let same : why ≡ ReadFault = cc in
@@ -259,13 +260,14 @@ taken_ahead (Some a) None r h kept same = absurd kept
 taken_ahead (Some a) (Some l) None h kept same = absurd same
 taken_ahead (Some a) (Some l) (Some r) h kept same = sym kept ∙ ap (λ x. h ++ x) (sym same)
 
-pub failed_ahead : (side : Side) (a n l r : Option (List ℕ)) (h : List ℕ) → Keeps a (prepend_known h l) → Keeps l r
+pub failed_ahead : (side : MessageSide) (a n l r : Option (List ℕ)) (h : List ℕ) → Keeps a (prepend_known h l) → Keeps l r
     → length h < head_limit → SeesHead side h (Ok Part) → ReadsAHead side a n r (Err ReadFault)
 failed_ahead side a n l r h kept same short sees = (h, taken_ahead a l r h kept same, open_part side h short sees)
 
 -- ---- what a call said, of what was held
 
-pub sees_at : (side : Side) (s h : List ℕ) (r q : Result Seen HttpRefusal) → s ≡ h → r ≡ q → SeesHead side s r → SeesHead side h q
+pub sees_at : (side : MessageSide) (s h : List ℕ) (r q : Result SeenHead HttpRefusal) → s ≡ h → r ≡ q → SeesHead side s r
+    → SeesHead side h q
 sees_at side s h r q e f sees = subst (λ x. SeesHead side h x) f (subst (λ x. SeesHead side x r) e sees)
 
 pub fills_at : (l r : Option (List ℕ)) (h k : List ℕ) (a b : Result ℕ Unfilled) → a ≡ b → Fills l r h k a → Fills l r h k b

@@ -7,8 +7,8 @@ use Rattle.std.proofs.lemmas.List.{length-append}
 use Rattle.std.specs.Str.Parse.{digits_value}
 use Rattle.httparse.specs.Grammar.{print_request, print_response}
 use Rattle.sm_http.specs.declared.message.Head.{Head}
-use Rattle.sm_http.specs.declared.message.Side.{Side}
-use Rattle.sm_http.specs.declared.message.Side.TheVariants.{Request as of_requests, Response as of_responses}
+use Rattle.sm_http.specs.declared.message.MessageSide.{MessageSide}
+use Rattle.sm_http.specs.declared.message.MessageSide.TheVariants.{Request as of_requests, Response as of_responses}
 use Rattle.sm_http.specs.declared.message.BodyLeft.{BodyLeft}
 use Rattle.sm_http.specs.declared.message.BodyLeft.TheVariants.{Known, Done}
 use Rattle.sm_http.specs.declared.refusal.HttpRefusal.{HttpRefusal}
@@ -52,16 +52,16 @@ begins_within text left e is =
 
 -- ---- a head alone
 
-head_word : (side : Side) (a : Option (List ℕ)) (why : HttpRefusal) → IfSome a (λ bytes. HeadFramed side bytes (head_refused why))
+head_word : (side : MessageSide) (a : Option (List ℕ)) (why : HttpRefusal) → IfSome a (λ bytes. HeadFramed side bytes (head_refused why))
     → IfSome a (λ bytes. Framed side bytes (message_refused why))
 head_word side None why x = tt
 head_word side (Some a) why x = inl x
 
-open_head : (side : Side) (taken : List ℕ) → IsOpenHead side taken → IsOpen side taken
+open_head : (side : MessageSide) (taken : List ℕ) → IsOpenHead side taken → IsOpen side taken
 open_head side taken (inl x) = inl x
 open_head side taken (inr x) = inr (inl x)
 
-pub refused_head : (side : Side) (a n m l : Option (List ℕ)) (why : HttpRefusal) → ReadsAHead side a n l (Err why)
+pub refused_head : (side : MessageSide) (a n m l : Option (List ℕ)) (why : HttpRefusal) → ReadsAHead side a n l (Err why)
     → ReadsAMessage side a m l (Err why)
 refused_head side a n m l ReadFault x = (x.0, x.1, open_head side x.0 x.2)
 refused_head side a n m l Ended x = head_word side a Ended x
@@ -75,7 +75,7 @@ refused_head side a n m l NoMemory x = tt
 
 -- ---- a head and a body
 
-pub said_ahead : (side : Side) (a b c l k : Option (List ℕ)) (h : Head) (left : BodyLeft) (content : List ℕ)
+pub said_ahead : (side : MessageSide) (a b c l k : Option (List ℕ)) (h : Head) (left : BodyLeft) (content : List ℕ)
     → ReadsAHead side a b l (Ok (Some (h, left))) → GoesTo left Done b c content
     → ReadsAMessage side a c k (Ok (Some (record { head = h; body = content })))
 said_ahead side a b c l k h left content (begun, (used, consumes, framed)) goes = (
@@ -90,7 +90,7 @@ said_ahead side a b c l k h left content (begun, (used, consumes, framed)) goes 
   ),
 )
 
-body_word : (side : Side) (a b l : Option (List ℕ)) (h : Head) (left : BodyLeft) (why : HttpRefusal)
+body_word : (side : MessageSide) (a b l : Option (List ℕ)) (h : Head) (left : BodyLeft) (why : HttpRefusal)
     → ReadsAHead side a b l (Ok (Some (h, left))) → IfSome b (λ bytes. BodyFramed left bytes (body_refused why))
     → IfSome a (λ bytes. Framed side bytes (message_refused why))
 body_word side None b l h left why x y = tt
@@ -98,7 +98,7 @@ body_word side (Some a) None l h left why (begun, (used, consumes, framed)) y = 
 body_word side (Some a) (Some b) l h left why (begun, (used, consumes, framed)) y =
     inr (h, b, subst (λ s. HeadFramed side s (head h b)) (sym consumes) (framed b), subst (λ p. BodyFramed p b (body_refused why)) begun y)
 
-pub refused_body : (side : Side) (a b m l k : Option (List ℕ)) (h : Head) (left : BodyLeft) (why : HttpRefusal)
+pub refused_body : (side : MessageSide) (a b m l k : Option (List ℕ)) (h : Head) (left : BodyLeft) (why : HttpRefusal)
     → ReadsAHead side a b l (Ok (Some (h, left))) → RefusesBody left b k why → ReadsAMessage side a m k (Err why)
 refused_body side a b m l k h left ReadFault (begun, (used, consumes, framed)) (taken, takes, opened) = (
   used ++ taken,

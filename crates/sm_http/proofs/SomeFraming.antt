@@ -4,8 +4,8 @@ use Rattle.std.proofs.Common.{Some, None}
 use Rattle.std.specs.Prelude.{nat_lt}
 use Rattle.std.proofs.lemmas.Bool.{ltb-true, ltb-false}
 use Rattle.std.proofs.lemmas.List.{length-append, length-drop, take-append-drop}
-use Rattle.sm_http.specs.declared.message.Side.{Side}
-use Rattle.sm_http.specs.declared.message.Side.TheVariants.{Request as of_requests, Response as of_responses}
+use Rattle.sm_http.specs.declared.message.MessageSide.{MessageSide}
+use Rattle.sm_http.specs.declared.message.MessageSide.TheVariants.{Request as of_requests, Response as of_responses}
 use Rattle.sm_http.specs.declared.message.BodyLeft.{BodyLeft}
 use Rattle.sm_http.specs.declared.refusal.HttpRefusal.{HttpRefusal}
 use Rattle.sm_http.specs.declared.refusal.HttpRefusal.TheVariants.{Ended, HeadTooLarge, TooLong, Chunk}
@@ -27,7 +27,7 @@ some_body left bytes deny =
     )
 
 -- a whole head has an answer
-head_answer : (side : Side) (bytes : List ℕ) (text : HeadText) (rest : List ℕ) (why : Option HttpRefusal)
+head_answer : (side : MessageSide) (bytes : List ℕ) (text : HeadText) (rest : List ℕ) (why : Option HttpRefusal)
     → head_refusal text ≡ why → HeadStands side bytes text rest → ((a : Framing) → Framed side bytes a → ⊥) → ⊥
 head_answer side bytes text rest (Some why) e whole deny = deny (message_refused why) (inl (inr (text, rest, whole, e)))
 head_answer side bytes text rest None e whole deny = some_body (body_begin text.head) rest answer
@@ -38,7 +38,7 @@ head_answer side bytes text rest None e whole deny = some_body (body_begin text.
     answer (body_refused why) x = deny (message_refused why) (inr (text.head, rest, (text, whole, e, refl), x))
 
 -- a head within the limit stands
-within_stands : (side : Side) (bytes : List ℕ) (text : HeadText) (rest : List ℕ) → ReadsHead side (take head_limit bytes) text rest
+within_stands : (side : MessageSide) (bytes : List ℕ) (text : HeadText) (rest : List ℕ) → ReadsHead side (take head_limit bytes) text rest
     → HeadStands side bytes text (rest ++ drop head_limit bytes)
 within_stands side bytes text rest reads = record {
   reads = subst (λ bs. ReadsHead side bs text (rest ++ drop head_limit bytes)) (take-append-drop head_limit bytes)
@@ -46,20 +46,20 @@ within_stands side bytes text rest reads = record {
   within = let whole = length-append rest (drop head_limit bytes) in let behind = length-drop head_limit bytes in omega arith;
 }
 
-no_whole : (side : Side) (bytes : List ℕ) → ((text : HeadText) (rest : List ℕ) → HeadStands side bytes text rest → ⊥)
+no_whole : (side : MessageSide) (bytes : List ℕ) → ((text : HeadText) (rest : List ℕ) → HeadStands side bytes text rest → ⊥)
     → HasNoHead side (take head_limit bytes)
 no_whole of_requests bytes none = λ h rest x. none (request_text h) _ (within_stands of_requests bytes (request_text h) rest (h, x, refl))
 no_whole of_responses bytes none = λ h rest x. none (response_text h) _
     (within_stands of_responses bytes (response_text h) rest (h, x, refl))
 
-by_length : (side : Side) (bytes : List ℕ) (short : Bool) → nat_lt (length bytes) head_limit ≡ short → AwaitsHead side bytes
+by_length : (side : MessageSide) (bytes : List ℕ) (short : Bool) → nat_lt (length bytes) head_limit ≡ short → AwaitsHead side bytes
     → ((a : Framing) → Framed side bytes a → ⊥) → ⊥
 by_length side bytes true e awaits deny =
     deny (message_refused Ended) (inl (inl (awaits, ltb-true (length bytes) head_limit e)))
 by_length side bytes false e awaits deny =
     deny (message_refused HeadTooLarge) (inl (inl (awaits, ltb-false (length bytes) head_limit e)))
 
-pub some_framing : (side : Side) → HasSomeFraming side
+pub some_framing : (side : MessageSide) → HasSomeFraming side
 some_framing side [] deny = deny no_message refl
 some_framing side (b ∷ bytes) deny = by_length side (b ∷ bytes) _ refl awaits deny
   where

@@ -15,8 +15,8 @@ use Rattle.httparse.specs.Grammar.{trim_ows, is_value_byte, crlf, IsField}
 use Rattle.sm_http.specs.declared.message.Field.{Field}
 use Rattle.sm_http.specs.declared.message.Start.{Start}
 use Rattle.sm_http.specs.declared.message.Start.TheVariants.{Request, Response}
-use Rattle.sm_http.specs.declared.message.Side.{Side}
-use Rattle.sm_http.specs.declared.message.Side.TheVariants.{Request as of_requests, Response as of_responses}
+use Rattle.sm_http.specs.declared.message.MessageSide.{MessageSide}
+use Rattle.sm_http.specs.declared.message.MessageSide.TheVariants.{Request as of_requests, Response as of_responses}
 use Rattle.sm_http.specs.declared.message.BodyLeft.TheVariants.{Known}
 use Rattle.sm_http.specs.Bodies.{BodyFramed, body}
 use Rattle.sm_http.specs.Laws.{WrittenIsRead}
@@ -80,7 +80,7 @@ from_all p (x ∷ xs) e =
 said_text : Start → List Field → HeadText
 said_text start fields = record { head = record { start = start; fields = fields }; minor = 1 }
 
-head_again : (side : Side) (start : Start) (fields : List Field) (rest : List ℕ) → IsWritableStart side start
+head_again : (side : MessageSide) (start : Start) (fields : List Field) (rest : List ℕ) → IsWritableStart side start
     → All IsWritableField fields → ReadsHead side (written_from start fields ++ rest) (said_text start fields) rest
 unfolding said_text
 head_again of_requests (Request method target) fields rest good_start good_fields = (
@@ -130,7 +130,7 @@ head_again of_responses (Response status) fields rest good_start good_fields =
 body_again : (content rest : List ℕ) → BodyFramed (Known (length content)) (content ++ rest) (body content rest)
 body_again content rest = ((content, (refl, refl), refl), λ past. past)
 
-pub written_is_read : (side : Side) → WrittenIsRead side
+pub written_is_read : (side : MessageSide) → WrittenIsRead side
 unfolding said_text
 written_is_read side said rest good_message =
     let bytes = append_assoc (written_head said.head) said.body rest in (

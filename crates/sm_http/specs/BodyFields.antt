@@ -17,12 +17,7 @@ use Rattle.sm_http.specs.declared.refusal.HttpRefusal.TheVariants.{HeadTooLarge,
 use Rattle.sm_http.specs.declared.refusal.HttpRefusal.TheVariants.{Head as BadHead}
 use Rattle.sm_http.specs.Limits.{most_fields, message_body_limit}
 use Rattle.sm_http.specs.Heads.{HeadText}
-
--- the values of the fields with that name, in their order
-abbrev pub values_named : List ℕ → List Field → List (List ℕ)
-values_named name [] = []
-values_named name (f ∷ fs) =
-    if str_eq_ignore_ascii_case f.name name then f.value ∷ values_named name fs else values_named name fs
+use Rattle.sm_http.specs.FieldValues.{values_named}
 
 abbrev pub codings : Head → List (List ℕ)
 codings head = values_named (codes "transfer-encoding") head.fields

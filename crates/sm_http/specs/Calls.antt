@@ -4,7 +4,7 @@ use Rattle.std.specs.Prelude.{◌≡◌, ℕ, ◌+◌, ◌-◌, ◌≤◌, ◌�
 use Rattle.std.specs.Io.KnownBytes.{Consumes}
 use Rattle.sm_http.specs.declared.message.Head.{Head}
 use Rattle.sm_http.specs.declared.message.Message.{Message}
-use Rattle.sm_http.specs.declared.message.Side.{Side}
+use Rattle.sm_http.specs.declared.message.MessageSide.{MessageSide}
 use Rattle.sm_http.specs.declared.message.BodyLeft.{BodyLeft}
 use Rattle.sm_http.specs.declared.message.BodyLeft.TheVariants.{Known, Size, Data, Done}
 use Rattle.sm_http.specs.declared.refusal.HttpRefusal.{HttpRefusal}
@@ -30,14 +30,14 @@ abbrev pub IfTaken : Option (List ℕ) → Option (List ℕ) → (List ℕ → T
 IfTaken before left P = (taken : List ℕ) × Consumes before left taken × P taken
 
 -- nothing, or a message that hasn't ended
-abbrev pub IsOpen : Side → List ℕ → Type 0
+abbrev pub IsOpen : MessageSide → List ℕ → Type 0
 IsOpen side taken = Framed side taken no_message ⊎ Framed side taken (message_refused Ended)
 
-abbrev pub IsOpenHead : Side → List ℕ → Type 0
+abbrev pub IsOpenHead : MessageSide → List ℕ → Type 0
 IsOpenHead side taken = HeadFramed side taken no_head ⊎ HeadFramed side taken (head_refused Ended)
 
 -- bytes that are no open head, or no open body: no byte more is needed
-abbrev pub DecidesHead : Side → List ℕ → Type 0
+abbrev pub DecidesHead : MessageSide → List ℕ → Type 0
 DecidesHead side held = IsOpenHead side held → ⊥
 
 abbrev pub DecidesBody : BodyLeft → List ℕ → Type 0
@@ -56,7 +56,8 @@ RefusedAs ahead left refused open_bytes Chunk = IfSome ahead (λ bytes. refused 
 RefusedAs ahead left refused open_bytes NoMemory = Unit {0}
 
 -- `read_head`, of a source with so many bytes left behind the call
-abbrev pub ReadsAHead : Side → Option (List ℕ) → Option (List ℕ) → Option (List ℕ) → Result (Option (Head × BodyLeft)) HttpRefusal → Type 0
+abbrev pub ReadsAHead : MessageSide → Option (List ℕ) → Option (List ℕ) → Option (List ℕ) → Result (Option (Head × BodyLeft)) HttpRefusal
+    → Type 0
 ReadsAHead side ahead now left (Ok None) = IfAhead ahead now (λ bytes rest. HeadFramed side bytes no_head × (rest ≡ []))
 ReadsAHead side ahead now left (Ok (Some found)) =
     (found.1 ≡ body_begin found.0) × Uses ahead now (λ used more. HeadFramed side (used ++ more) (head found.0 more))
@@ -99,7 +100,7 @@ ReadsAPiece before now ahead behind left buffer (Err refusal) =
     (λ taken. BodyFramed before taken (body_refused Ended)) refusal
 
 -- `read_message`
-abbrev pub ReadsAMessage : Side → Option (List ℕ) → Option (List ℕ) → Option (List ℕ) → Result (Option Message) HttpRefusal → Type 0
+abbrev pub ReadsAMessage : MessageSide → Option (List ℕ) → Option (List ℕ) → Option (List ℕ) → Result (Option Message) HttpRefusal → Type 0
 ReadsAMessage side ahead now left (Ok None) = IfAhead ahead now (λ bytes rest. Framed side bytes no_message × (rest ≡ []))
 ReadsAMessage side ahead now left (Ok (Some said)) = Uses ahead now (λ used more. Framed side (used ++ more) (message said more))
 ReadsAMessage side ahead now left (Err refusal) =

@@ -3,7 +3,7 @@
 use Rattle.std.specs.Prelude.{◌≡◌, ℕ, ◌<◌, ◌≤◌, ◌⊎◌, List, [], length, Some, None}
 use Rattle.sm_http.specs.declared.message.Head.{Head}
 use Rattle.sm_http.specs.declared.message.Message.{Message}
-use Rattle.sm_http.specs.declared.message.Side.{Side}
+use Rattle.sm_http.specs.declared.message.MessageSide.{MessageSide}
 use Rattle.sm_http.specs.declared.refusal.HttpRefusal.{HttpRefusal}
 use Rattle.sm_http.specs.declared.refusal.HttpRefusal.TheVariants.{ReadFault, Ended, HeadTooLarge, Coding, Length, TooLong, Chunk, NoMemory}
 use Rattle.sm_http.specs.declared.refusal.HttpRefusal.TheVariants.{Head as BadHead}
@@ -19,7 +19,7 @@ pub data HeadFraming : Type 0 where
   head_refused : HttpRefusal → HeadFraming
 
 -- no whole head stands within the limit, and this is why
-abbrev pub RefusesPart : Side → List ℕ → HttpRefusal → Type 0
+abbrev pub RefusesPart : MessageSide → List ℕ → HttpRefusal → Type 0
 RefusesPart side bytes BadHead = IsNoHead side bytes
 RefusesPart side bytes HeadTooLarge = AwaitsHead side bytes × (head_limit ≤ length bytes)
 RefusesPart side bytes Ended = AwaitsHead side bytes × (length bytes < head_limit)
@@ -31,11 +31,11 @@ RefusesPart side bytes Chunk = ⊥
 RefusesPart side bytes NoMemory = ⊥
 
 -- a whole head stands, and is refused by what it says
-abbrev pub RefusesWhole : Side → List ℕ → HttpRefusal → Type 0
+abbrev pub RefusesWhole : MessageSide → List ℕ → HttpRefusal → Type 0
 RefusesWhole side bytes refusal =
     (text : HeadText) × (rest : List ℕ) × HeadStands side bytes text rest × (head_refusal text ≡ Some refusal)
 
-abbrev pub HeadFramed : Side → List ℕ → HeadFraming → Type 0
+abbrev pub HeadFramed : MessageSide → List ℕ → HeadFraming → Type 0
 HeadFramed side bytes no_head = bytes ≡ []
 HeadFramed side bytes (head said rest) =
     (text : HeadText) × HeadStands side bytes text rest × (head_refusal text ≡ None) × (text.head ≡ said)
@@ -47,7 +47,7 @@ pub data Framing : Type 0 where
   message : Message → List ℕ → Framing
   message_refused : HttpRefusal → Framing
 
-abbrev pub Framed : Side → List ℕ → Framing → Type 0
+abbrev pub Framed : MessageSide → List ℕ → Framing → Type 0
 Framed side bytes no_message = HeadFramed side bytes no_head
 Framed side bytes (message said rest) =
     (behind : List ℕ) × HeadFramed side bytes (head said.head behind) × BodyFramed (body_begin said.head) behind (body said.body rest)

@@ -9,8 +9,8 @@ use Rattle.sm_bytes.specs.Ascii.{carriage_return, line_feed}
 use Rattle.sm_http.specs.declared.message.Field.{Field}
 use Rattle.sm_http.specs.declared.message.Head.{Head}
 use Rattle.sm_http.specs.declared.message.Start.TheVariants.{Request, Response}
-use Rattle.sm_http.specs.declared.message.Side.{Side}
-use Rattle.sm_http.specs.declared.message.Side.TheVariants.{Request as of_requests, Response as of_responses}
+use Rattle.sm_http.specs.declared.message.MessageSide.{MessageSide}
+use Rattle.sm_http.specs.declared.message.MessageSide.TheVariants.{Request as of_requests, Response as of_responses}
 use Rattle.sm_http.specs.Limits.{head_limit}
 
 -- what the bytes of a head say: the head, and the minor number of its version
@@ -35,17 +35,17 @@ response_text h = record {
 }
 
 -- the bytes are a head that says this, and then the rest
-abbrev pub ReadsHead : Side → List ℕ → HeadText → List ℕ → Type 0
+abbrev pub ReadsHead : MessageSide → List ℕ → HeadText → List ℕ → Type 0
 ReadsHead of_requests bytes text rest = (h : RequestHead) × ReadsRequest bytes h rest × (text ≡ request_text h)
 ReadsHead of_responses bytes text rest = (h : ResponseHead) × ReadsResponse bytes h rest × (text ≡ response_text h)
 
 -- no prefix of the bytes is a head
-abbrev pub HasNoHead : Side → List ℕ → Type 0
+abbrev pub HasNoHead : MessageSide → List ℕ → Type 0
 HasNoHead of_requests bytes = HasNoRequest bytes
 HasNoHead of_responses bytes = HasNoResponse bytes
 
 -- no bytes can follow that make a prefix a head
-abbrev pub NeverHasHead : Side → List ℕ → Type 0
+abbrev pub NeverHasHead : MessageSide → List ℕ → Type 0
 NeverHasHead of_requests bytes = NeverHasRequest bytes
 NeverHasHead of_responses bytes = NeverHasResponse bytes
 
@@ -62,17 +62,17 @@ has_first_line [] = false
 has_first_line (b ∷ bytes) = if is_line_byte b then has_first_line bytes else has_line_feed bytes
 
 -- a whole head stands first, within the limit
-pub record HeadStands (side : Side) (bytes : List ℕ) (text : HeadText) (rest : List ℕ) : Type 0 where
+pub record HeadStands (side : MessageSide) (bytes : List ℕ) (text : HeadText) (rest : List ℕ) : Type 0 where
   pub reads : ReadsHead side bytes text rest
   pub within : length bytes ≤ head_limit + length rest
 
 -- the first line has ended, and nothing that follows within the limit can make a head
-pub record IsNoHead (side : Side) (bytes : List ℕ) : Type 0 where
+pub record IsNoHead (side : MessageSide) (bytes : List ℕ) : Type 0 where
   pub ended : IsTrue (has_first_line (take head_limit bytes))
   pub never : NeverHasHead side (take head_limit bytes)
 
 -- there are bytes, and a head that hasn't ended yet within the limit
-pub record AwaitsHead (side : Side) (bytes : List ℕ) : Type 0 where
+pub record AwaitsHead (side : MessageSide) (bytes : List ℕ) : Type 0 where
   pub some : 0 < length bytes
   pub no_head : HasNoHead side (take head_limit bytes)
   pub not_refused : IsNoHead side bytes → ⊥

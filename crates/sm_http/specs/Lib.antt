@@ -1,10 +1,12 @@
 pub mod Limits
 pub mod Heads
+pub mod FieldValues
 pub mod BodyFields
 pub mod Chunks
 pub mod Bodies
 pub mod Framed
 pub mod Written
+pub mod Connections
 pub mod Calls
 pub mod Laws
 pub mod steps

@@ -11,8 +11,8 @@ use Rattle.sm_http.specs.declared.message.Head.{Head}
 use Rattle.sm_http.specs.declared.message.Message.{Message}
 use Rattle.sm_http.specs.declared.message.Start.{Start}
 use Rattle.sm_http.specs.declared.message.Start.TheVariants.{Request, Response}
-use Rattle.sm_http.specs.declared.message.Side.{Side}
-use Rattle.sm_http.specs.declared.message.Side.TheVariants.{Request as of_requests, Response as of_responses}
+use Rattle.sm_http.specs.declared.message.MessageSide.{MessageSide}
+use Rattle.sm_http.specs.declared.message.MessageSide.TheVariants.{Request as of_requests, Response as of_responses}
 use Rattle.sm_http.specs.declared.message.BodyLeft.TheVariants.{Known}
 use Rattle.sm_http.specs.Limits.{head_limit}
 use Rattle.sm_http.specs.BodyFields.{head_refusal, body_begin}
@@ -57,7 +57,7 @@ pub record IsWritableField (field : Field) : Type 0 where
   pub value : AllPass is_value_byte field.value
   pub trimmed : trim_ows field.value ≡ field.value
 
-abbrev pub IsWritableStart : Side → Start → Type 0
+abbrev pub IsWritableStart : MessageSide → Start → Type 0
 IsWritableStart of_requests (Request method target) =
     IsToken method × (0 < length target) × AllPass is_uri_byte target × IsUtf8 target
 IsWritableStart of_requests (Response status) = ⊥
@@ -65,7 +65,7 @@ IsWritableStart of_responses (Request method target) = ⊥
 IsWritableStart of_responses (Response status) = (100 ≤ status) × (status < 1000)
 
 -- a message that is read again as itself
-pub record IsWritableMessage (side : Side) (message : Message) : Type 0 where
+pub record IsWritableMessage (side : MessageSide) (message : Message) : Type 0 where
   pub start : IsWritableStart side message.head.start
   pub fields : All IsWritableField message.head.fields
   pub short : length (written_head message.head) ≤ head_limit

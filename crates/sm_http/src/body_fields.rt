@@ -1,40 +1,20 @@
 // What a head says of its body, and why a whole head is refused (RFC 9112, section 6).
 ghost use Rattle.std.specs.Prelude.{◌≡◌, ◌<◌, ◌≤◌, true, false, codes, IfSome, IsNone, length};
-ghost use Rattle.std.specs.Option.{option_map};
 ghost use Rattle.std.specs.Char.{is_ascii_digit};
 ghost use Rattle.std.specs.List.{list_all};
-ghost use Rattle.std.specs.Str.{str_eq_ignore_ascii_case};
 ghost use Rattle.std.specs.Str.Parse.{digits_value};
 ghost use Rattle.sm_http.specs.Limits.{message_body_limit};
-ghost use Rattle.sm_http.specs.BodyFields.{values_named, is_length, is_same_length, agrees, is_other_coding, is_other_length, told_body};
+ghost use Rattle.sm_http.specs.BodyFields.{is_length, is_same_length, agrees, is_other_coding, is_other_length, told_body};
 ghost use Rattle.sm_http.specs.BodyFields.{tells_none, is_below_100, is_interim, must_tell, has_no_body};
-ghost use Rattle.sm_http.specs.steps.Digits.{significant, first_value};
+ghost use Rattle.sm_http.specs.FieldValues.{values_named};
+ghost use Rattle.sm_http.specs.steps.Digits.{significant};
 ghost use Rattle.sm_http.specs.steps.Judging.{Tells, Judges};
 
 use crate::HttpRefusal;
+use crate::fields::{count_named, first_named, folds_to};
 use crate::limits::{BODY_LIMIT, MOST_FIELDS};
 use crate::message::{BodyLeft, Field, Head, Start};
 use sm_bytes::{ByteClass, run_len};
-
-// Whether a text is the other, without regard to the case of ASCII letters.
-fn folds_to(text: &[u8], name: &[u8]) -> bool
-    ensures { result ≡ str_eq_ignore_ascii_case text.now name.now }
-{
-    text.eq_ignore_ascii_case(name)
-}
-
-// How many fields have the name.
-fn count_named(fields: &[Field], name: &[u8]) -> usize
-    ensures { result ≡ length (values_named name.now fields.now) }
-{
-    let mut count = 0;
-    for field in fields {
-        if folds_to(field.name.as_str().as_bytes(), name) {
-            count += 1;
-        }
-    }
-    count
-}
 
 fn are_digits(bytes: &[u8]) -> bool
     ensures { result ≡ list_all is_ascii_digit bytes.now }
@@ -121,21 +101,10 @@ fn all_agree(fields: &[Field], name: &[u8], first: &[u8]) -> bool
     true
 }
 
-// The value of the first field with the name.
-fn first_named<'a>(fields: &'a [Field], name: &[u8]) -> Option<&'a [u8]>
-    ensures { option_map (λ value. value.now) result ≡ first_value (values_named name.now fields.now) }
-{
-    for field in fields {
-        if folds_to(field.name.as_str().as_bytes(), name) {
-            return Some(field.value.as_slice());
-        }
-    }
-    None
-}
-
 // Whether the coding isn't `chunked` alone, or stands beside a length.
 fn has_other_coding(fields: &[Field]) -> bool
-    ensures { result ≡ is_other_coding (values_named (codes "transfer-encoding") fields.now) (values_named (codes "content-length") fields.now) }
+    ensures { result ≡ is_other_coding (values_named (codes "transfer-encoding") fields.now)
+        (values_named (codes "content-length") fields.now) }
 {
     let Some(coding) = first_named(fields, b"transfer-encoding") else {
         return false;
@@ -165,7 +134,8 @@ fn has_other_length(fields: &[Field]) -> bool
 // What the fields tell of the body. None where it is past the limit.
 fn told_body(fields: &[Field]) -> Option<BodyLeft>
     requires { is_other_length (values_named (codes "content-length") fields.now) ≡ false }
-    ensures { Tells (told_body (values_named (codes "transfer-encoding") fields.now) (values_named (codes "content-length") fields.now)) result }
+    ensures { Tells (told_body (values_named (codes "transfer-encoding") fields.now)
+        (values_named (codes "content-length") fields.now)) result }
 {
     if count_named(fields, b"transfer-encoding") > 0 {
         return Some(BodyLeft::Size(0));

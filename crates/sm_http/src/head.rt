@@ -1,6 +1,6 @@
 // A head read from bytes that are at hand, by httparse.
 ghost use Rattle.std.specs.Prelude.{◌≡◌, length, map, IfOk};
-ghost use Rattle.sm_http.specs.declared.message.Side.TheVariants.{Request as of_requests, Response as of_responses};
+ghost use Rattle.sm_http.specs.declared.message.MessageSide.TheVariants.{Request as of_requests, Response as of_responses};
 ghost use Rattle.sm_http.specs.steps.Finding.{header_field, FindsHead};
 
 use crate::message::{Field, FieldList, Head, Start};

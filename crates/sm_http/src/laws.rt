@@ -1,11 +1,11 @@
 // Laws of the definitions, each the contract of a function that does nothing.
 ghost use Rattle.sm_http.specs.declared.message.BodyLeft.{BodyLeft};
-ghost use Rattle.sm_http.specs.declared.message.Side.{Side};
+ghost use Rattle.sm_http.specs.declared.message.MessageSide.{MessageSide};
 ghost use Rattle.sm_http.specs.Laws.{HasOneHead, HasOneBody, HasOneFraming, HasSomeFraming, HasMessageByItself, WrittenIsRead};
 
 /// Bytes begin with one head at most, or are refused by one word, and never both.
 pub fn one_head()
-    ensures { (side : Side) → HasOneHead side }
+    ensures { (side : MessageSide) → HasOneHead side }
 {}
 
 /// From any place in a body on, bytes come to one answer at most.
@@ -15,20 +15,20 @@ pub fn one_body()
 
 /// Bytes come to one answer at most: nothing, a message with what follows it, or a refusal.
 pub fn one_answer()
-    ensures { (side : Side) → HasOneFraming side }
+    ensures { (side : MessageSide) → HasOneFraming side }
 {}
 
 /// No bytes are without an answer.
 pub fn some_answer()
-    ensures { (side : Side) → HasSomeFraming side }
+    ensures { (side : MessageSide) → HasSomeFraming side }
 {}
 
 /// A message is one by its own bytes alone: so many of the bytes are that message, whatever follows them.
 pub fn message_by_itself()
-    ensures { (side : Side) → HasMessageByItself side }
+    ensures { (side : MessageSide) → HasMessageByItself side }
 {}
 
 /// A written message is read again as itself, whatever follows it.
 pub fn written_is_read()
-    ensures { (side : Side) → WrittenIsRead side }
+    ensures { (side : MessageSide) → WrittenIsRead side }
 {}

@@ -3,6 +3,8 @@
 #![tactic(auto)]
 
 mod body_fields;
+mod connection;
+mod fields;
 mod first_line;
 mod head;
 mod held;
@@ -20,8 +22,9 @@ mod size_line;
 mod trailers;
 mod write;
 
+pub use connection::for_head;
 pub use held::Held;
-pub use message::{BodyLeft, Field, FieldList, Head, Message, Protocol, Side, Start};
+pub use message::{BodyLeft, Field, FieldList, Head, Message, Protocol, MessageSide, Start};
 pub use piece::read_piece;
 pub use read::{read_head, read_message};
 pub use refusal::HttpRefusal;

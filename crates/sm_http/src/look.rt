@@ -8,8 +8,8 @@ use crate::HttpRefusal;
 use crate::first_line::has_line_feed;
 use crate::held::{Held, Unfilled};
 use crate::limits::HEAD_LIMIT;
-use crate::message::{BodyLeft, Head, Side};
-use crate::see::{Seen, see_head};
+use crate::message::{BodyLeft, Head, MessageSide};
+use crate::see::{SeenHead, see_head};
 use sm_io::Source;
 use std::alloc::Global;
 
@@ -17,18 +17,18 @@ use std::alloc::Global;
 pub fn look(
     alloc: Global,
     held: &mut Held,
-    side: Side,
+    side: MessageSide,
 ) -> Result<Option<(Head, BodyLeft)>, HttpRefusal>
     ensures bytes { LooksAHead side held.old held.new result }
     ensures few { length held.old ≤ head_limit }
     ensures still_few { length held.new ≤ head_limit }
 {
     match see_head(alloc, side, held.as_slice()) {
-        Ok(Seen::Whole(found, left)) => {
+        Ok(SeenHead::Whole(found, left)) => {
             held.advance(found.len);
             Ok(Some((found.head, left)))
         }
-        Ok(Seen::Part) => Ok(None),
+        Ok(SeenHead::Part) => Ok(None),
         Err(refusal) => Err(refusal),
     }
 }

@@ -1,7 +1,7 @@
 // A message as its parts.
-ghost use Rattle.std.specs.Prelude.{◌≡◌};
+ghost use Rattle.std.specs.Prelude.{◌≡◌, IfOk};
 
-use sm_tree::{Bytes, Text};
+use sm_tree::{Bytes, NoMemory, Text};
 use std::alloc::Global;
 use std::marker::Model;
 
@@ -12,6 +12,21 @@ pub struct Field {
     pub name: Text,
     /// Without the spaces and tabs at its ends.
     pub value: Bytes,
+}
+
+impl Field {
+    /// A copy of a field.
+    ///
+    /// # Errors
+    ///
+    /// `NoMemory`.
+    pub fn copy(&self, alloc: Global) -> Result<Self, NoMemory>
+        ensures { IfOk result (λ copy. copy ≡ self.now) }
+    {
+        let name = Text::copy(alloc, self.name.as_str())?;
+        let value = Bytes::new(self.value.as_slice().to_vec(alloc)?);
+        Ok(Field { name, value })
+    }
 }
 
 /// Fields in their order. Contracts see the list.
@@ -99,7 +114,7 @@ pub struct Message {
 
 /// Which messages a stream of bytes has.
 #[derive(Clone, Copy, Debug, PartialEq, Eq)]
-pub enum Side {
+pub enum MessageSide {
     Request,
     Response,
 }

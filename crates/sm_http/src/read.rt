@@ -12,7 +12,7 @@ use crate::HttpRefusal;
 use crate::held::{Held, Unfilled};
 use crate::limits::{HEAD_LIMIT, PIECE_LIMIT};
 use crate::look::{fill_line, look};
-use crate::message::{BodyLeft, Head, Message, Side};
+use crate::message::{BodyLeft, Head, Message, MessageSide};
 use crate::piece::next_piece;
 use sm_io::Source;
 use sm_tree::Bytes;
@@ -25,7 +25,7 @@ pub fn read_head<S: Source>(
     alloc: Global,
     source: &mut S,
     held: &mut Held,
-    side: Side,
+    side: MessageSide,
 ) -> Result<Option<(Head, BodyLeft)>, HttpRefusal>
     ensures bytes { ReadsAHead side (prepend_known held.old (S.left source.old)) (prepend_known held.new (S.left source.new))
         (S.left source.new) result }
@@ -132,7 +132,7 @@ pub fn read_message<S: Source>(
     alloc: Global,
     source: &mut S,
     held: &mut Held,
-    side: Side,
+    side: MessageSide,
 ) -> Result<Option<Message>, HttpRefusal>
     ensures bytes { ReadsAMessage side (prepend_known held.old (S.left source.old)) (prepend_known held.new (S.left source.new))
         (S.left source.new) result }

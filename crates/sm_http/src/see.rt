@@ -9,13 +9,13 @@ use crate::body_fields::judge;
 use crate::first_line::has_first_line;
 use crate::head::{HeadFound, Unfound, request_head, response_head};
 use crate::limits::{FIELD_ROOM, MOST_FIELDS};
-use crate::message::{BodyLeft, Side};
+use crate::message::{BodyLeft, MessageSide};
 use httparse::{EMPTY_HEADER, Header};
 use std::alloc::{AllocError, Global};
 
 /// What the bytes so far show of a head that isn't refused.
 #[derive(Drop)]
-pub enum Seen {
+pub enum SeenHead {
     /// A whole head, and the body that begins behind it.
     Whole(HeadFound, BodyLeft),
     /// A part of one, or nothing.
@@ -25,20 +25,20 @@ pub enum Seen {
 // The head at the start of the bytes, with room for some fields.
 fn head_in<'b>(
     alloc: Global,
-    side: Side,
+    side: MessageSide,
     bytes: &'b [u8],
     room: &mut [Header<'b>],
 ) -> Result<HeadFound, Unfound>
     ensures { FindsHead side (length room.old) bytes.now result }
 {
     match side {
-        Side::Request => request_head(alloc, bytes, room),
-        Side::Response => response_head(alloc, bytes, room),
+        MessageSide::Request => request_head(alloc, bytes, room),
+        MessageSide::Response => response_head(alloc, bytes, room),
     }
 }
 
 // The head at the start of the bytes, however many fields it has.
-fn any_head(alloc: Global, side: Side, bytes: &[u8]) -> Result<HeadFound, Unfound>
+fn any_head(alloc: Global, side: MessageSide, bytes: &[u8]) -> Result<HeadFound, Unfound>
     requires { length bytes.now ≤ head_limit }
     ensures { FindsAny side bytes.now result }
 {
@@ -64,8 +64,8 @@ fn vec_of_headers<'b>(alloc: Global) -> Result<Vec<Header<'b>>, AllocError>
     Ok(room)
 }
 
-// The same: a head of few fields takes no memory but its own.
-fn find_head(alloc: Global, side: Side, bytes: &[u8]) -> Result<HeadFound, Unfound>
+// The head at the start of the bytes. One of few fields takes no memory but its own.
+fn find_head(alloc: Global, side: MessageSide, bytes: &[u8]) -> Result<HeadFound, Unfound>
     requires { length bytes.now ≤ head_limit }
     ensures { FindsAny side bytes.now result }
 {
@@ -80,19 +80,19 @@ fn find_head(alloc: Global, side: Side, bytes: &[u8]) -> Result<HeadFound, Unfou
 }
 
 /// What the bytes so far show of a head, or why it is refused. httparse is asked only once the first line has ended.
-pub fn see_head(alloc: Global, side: Side, bytes: &[u8]) -> Result<Seen, HttpRefusal>
+pub fn see_head(alloc: Global, side: MessageSide, bytes: &[u8]) -> Result<SeenHead, HttpRefusal>
     requires { length bytes.now ≤ head_limit }
     ensures { SeesHead side bytes.now result }
 {
     if !has_first_line(bytes) {
-        return Ok(Seen::Part);
+        return Ok(SeenHead::Part);
     }
     match find_head(alloc, side, bytes) {
         Ok(found) => match judge(found.minor, &found.head) {
-            Ok(left) => Ok(Seen::Whole(found, left)),
+            Ok(left) => Ok(SeenHead::Whole(found, left)),
             Err(refusal) => Err(refusal),
         },
-        Err(Unfound::Part) => Ok(Seen::Part),
+        Err(Unfound::Part) => Ok(SeenHead::Part),
         Err(Unfound::Never) => Err(HttpRefusal::Head),
         Err(Unfound::TooMany) => unreachable!(),
         Err(Unfound::NoMemory) => Err(HttpRefusal::NoMemory),

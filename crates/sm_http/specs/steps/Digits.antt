@@ -8,7 +8,3 @@ is_zero_digit b = b == digit_zero
 abbrev pub significant : List ℕ → List ℕ
 significant [] = []
 significant (c ∷ cs) = if is_zero_digit c then significant cs else c ∷ cs
-
-abbrev pub first_value : List (List ℕ) → Option (List ℕ)
-first_value [] = None
-first_value (value ∷ values) = Some value

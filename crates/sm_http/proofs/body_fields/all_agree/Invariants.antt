@@ -1,6 +1,7 @@
 use Rattle.std.proofs.Common.{◌≡◌, drop}
 use Rattle.std.specs.List.{list_all}
-use Rattle.sm_http.specs.BodyFields.{values_named, agrees}
+use Rattle.sm_http.specs.FieldValues.{values_named}
+use Rattle.sm_http.specs.BodyFields.{agrees}
 use Rattle.sm_http.proofs.body_fields.all_agree.Given as goal
 
 abbrev pub invariant-loop-field : goal.invariant-loop-field

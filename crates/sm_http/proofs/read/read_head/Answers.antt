@@ -1,6 +1,6 @@
 use Rattle.std.proofs.Common.{◌<◌, length, refl, sym, ap, subst, ◌∙◌, arith, Ok, Err, Some, None}
 use Rattle.std.specs.Io.KnownBytes.{prepend_known, Keeps}
-use Rattle.sm_http.specs.declared.see.Seen.TheVariants.{Part}
+use Rattle.sm_http.specs.declared.see.SeenHead.TheVariants.{Part}
 use Rattle.sm_http.specs.Limits.{head_limit}
 use Rattle.sm_http.specs.steps.Seeing.{SeesHead}
 use Rattle.sm_http.specs.declared.held.Unfilled.TheVariants.{Failed}

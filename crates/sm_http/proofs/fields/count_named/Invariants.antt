@@ -1,6 +1,6 @@
 use Rattle.std.proofs.Common.{◌≡◌, ◌+◌, ◌≤◌, length, drop}
-use Rattle.sm_http.specs.BodyFields.{values_named}
-use Rattle.sm_http.proofs.body_fields.count_named.Given as goal
+use Rattle.sm_http.specs.FieldValues.{values_named}
+use Rattle.sm_http.proofs.fields.count_named.Given as goal
 
 abbrev pub invariant-loop-field : goal.invariant-loop-field
 invariant-loop-field l = record {
