@@ -19,7 +19,7 @@ use std::alloc::Global;
 
 /// What is asked of a shape.
 #[derive(Debug, Clone, Copy)]
-pub enum Asked {
+pub enum ShapeQuestion {
     /// Whether a table can be made of it.
     Sound,
     /// Its table, over a store that refuses this call of `add`, counted from 1, or none.
@@ -29,7 +29,7 @@ pub enum Asked {
 /// Appends what is answered of the shape with this id, in the graph of the model that a text says.
 pub fn show_asked(
     alloc: Global,
-    asked: Asked,
+    asked: ShapeQuestion,
     id: &str,
     text: &str,
     out: &mut String,
@@ -61,7 +61,7 @@ fn merged(alloc: Global, statements: Vec<Statement>) -> Result<Graph, MergeRefus
 
 fn show_of_graph(
     alloc: Global,
-    asked: Asked,
+    asked: ShapeQuestion,
     graph: &Graph,
     id: &str,
     out: &mut String,
@@ -77,7 +77,7 @@ fn show_of_graph(
 
 fn show_of_shape(
     alloc: Global,
-    asked: Asked,
+    asked: ShapeQuestion,
     graph: &Graph,
     number: u32,
     id: &ShapeIdRef<'_>,
@@ -94,7 +94,7 @@ fn show_of_shape(
 
 fn show_of_sound(
     alloc: Global,
-    asked: Asked,
+    asked: ShapeQuestion,
     graph: &Graph,
     id: &ShapeIdRef<'_>,
     out: &mut String,
@@ -102,8 +102,8 @@ fn show_of_sound(
     requires { Sound (maps_of graph.now) (printed (id_of id.now)) }
 {
     match asked {
-        Asked::Sound => Ok(out.push_str("sound")?),
-        Asked::Table(refused) => show_table(alloc, graph, id, refused, out),
+        ShapeQuestion::Sound => Ok(out.push_str("sound")?),
+        ShapeQuestion::Table(refused) => show_table(alloc, graph, id, refused, out),
     }
 }
 

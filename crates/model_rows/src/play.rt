@@ -2,7 +2,7 @@
 use crate::idl::{show_cuts, show_idl, show_quoted};
 use crate::judged::show_asked;
 use crate::refusal::show_refusal;
-use crate::row::Row;
+use crate::row::ModelRow;
 use crate::selector::show_selector;
 use crate::statement::show_statements;
 use crate::uri::show_uri;
@@ -42,28 +42,28 @@ impl Models {
 
 impl Player for Models {
     fn play(&mut self, alloc: Global, case: &str, out: &mut String) -> Result<(), NoMemory> {
-        match Row::of(case) {
-            Row::Ast(text) => show_model(alloc, text, out)?,
-            Row::Part(text) => self.parts.push_str(text)?,
-            Row::Parts => {
+        match ModelRow::of(case) {
+            ModelRow::Ast(text) => show_model(alloc, text, out)?,
+            ModelRow::Part(text) => self.parts.push_str(text)?,
+            ModelRow::Parts => {
                 show_model(alloc, &self.parts, out)?;
                 self.parts.clear();
             }
-            Row::Selector(text) => show_selector(alloc, text, out)?,
-            Row::Idl(text) => show_idl(alloc, text, out)?,
-            Row::Quoted(text) => show_quoted(alloc, text, out)?,
-            Row::Line(text) => {
+            ModelRow::Selector(text) => show_selector(alloc, text, out)?,
+            ModelRow::Idl(text) => show_idl(alloc, text, out)?,
+            ModelRow::Quoted(text) => show_quoted(alloc, text, out)?,
+            ModelRow::Line(text) => {
                 self.parts.push_str(text)?;
                 self.parts.push('\n')?;
             }
-            Row::Lines => {
+            ModelRow::Lines => {
                 show_idl(alloc, &self.parts, out)?;
                 self.parts.clear();
             }
-            Row::Cuts(text) => show_cuts(alloc, text, out)?,
-            Row::Uri(text) => show_uri(alloc, text, out)?,
-            Row::Shape(asked, id, text) => show_asked(alloc, asked, id, text, out)?,
-            Row::Unknown => out.push_str(" => no row")?,
+            ModelRow::Cuts(text) => show_cuts(alloc, text, out)?,
+            ModelRow::Uri(text) => show_uri(alloc, text, out)?,
+            ModelRow::Shape(asked, id, text) => show_asked(alloc, asked, id, text, out)?,
+            ModelRow::Unknown => out.push_str(" => no row")?,
         }
         Ok(())
     }

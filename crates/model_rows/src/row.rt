@@ -1,9 +1,9 @@
 // What a line of text says.
-use crate::judged::Asked;
+use crate::judged::ShapeQuestion;
 
 /// A row.
 #[derive(Debug, Clone, Copy)]
-pub enum Row<'a> {
+pub enum ModelRow<'a> {
     /// `ast TEXT`: to read the text as a model.
     Ast(&'a str),
     /// `part TEXT`: the text goes behind those of the rows `part` before.
@@ -26,52 +26,52 @@ pub enum Row<'a> {
     Uri(&'a str),
     /// `sound ID TEXT`, `table ID TEXT`, `refusing N ID TEXT`: what is asked of the shape with this id, in the model that the text
     /// says.
-    Shape(Asked, &'a str, &'a str),
+    Shape(ShapeQuestion, &'a str, &'a str),
     /// Any other line.
     Unknown,
 }
 
-impl<'a> Row<'a> {
+impl<'a> ModelRow<'a> {
     /// What a line says.
     pub fn of(line: &'a str) -> Self {
         if line == "parts" {
-            return Row::Parts;
+            return ModelRow::Parts;
         }
         if line == "lines" {
-            return Row::Lines;
+            return ModelRow::Lines;
         }
         match line.split_once(' ') {
-            Some(("ast", text)) => Row::Ast(text),
-            Some(("part", text)) => Row::Part(text),
-            Some(("selector", text)) => Row::Selector(text),
-            Some(("idl", text)) => Row::Idl(text),
-            Some(("quoted", text)) => Row::Quoted(text),
-            Some(("line", text)) => Row::Line(text),
-            Some(("cuts", text)) => Row::Cuts(text),
-            Some(("uri", text)) => Row::Uri(text),
-            Some(("sound", text)) => Row::asked(Asked::Sound, text),
-            Some(("table", text)) => Row::asked(Asked::Table(None), text),
-            Some(("refusing", text)) => Row::refusing(text),
-            _ => Row::Unknown,
+            Some(("ast", text)) => ModelRow::Ast(text),
+            Some(("part", text)) => ModelRow::Part(text),
+            Some(("selector", text)) => ModelRow::Selector(text),
+            Some(("idl", text)) => ModelRow::Idl(text),
+            Some(("quoted", text)) => ModelRow::Quoted(text),
+            Some(("line", text)) => ModelRow::Line(text),
+            Some(("cuts", text)) => ModelRow::Cuts(text),
+            Some(("uri", text)) => ModelRow::Uri(text),
+            Some(("sound", text)) => ModelRow::asked(ShapeQuestion::Sound, text),
+            Some(("table", text)) => ModelRow::asked(ShapeQuestion::Table(None), text),
+            Some(("refusing", text)) => ModelRow::refusing(text),
+            _ => ModelRow::Unknown,
         }
     }
 
     // An id and a model.
-    fn asked(asked: Asked, line: &'a str) -> Self {
+    fn asked(asked: ShapeQuestion, line: &'a str) -> Self {
         match line.split_once(' ') {
-            Some((id, text)) => Row::Shape(asked, id, text),
-            None => Row::Unknown,
+            Some((id, text)) => ModelRow::Shape(asked, id, text),
+            None => ModelRow::Unknown,
         }
     }
 
     // The number of the call that refuses, and then these.
     fn refusing(line: &'a str) -> Self {
         let Some((number, rest)) = line.split_once(' ') else {
-            return Row::Unknown;
+            return ModelRow::Unknown;
         };
         match number.parse::<u64>() {
-            Ok(call) => Row::asked(Asked::Table(Some(call)), rest),
-            Err(_) => Row::Unknown,
+            Ok(call) => ModelRow::asked(ShapeQuestion::Table(Some(call)), rest),
+            Err(_) => ModelRow::Unknown,
         }
     }
 }

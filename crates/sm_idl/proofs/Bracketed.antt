@@ -2,7 +2,7 @@
 use Rattle.std.proofs.Common.{ℕ, List, refl}
 use Rattle.sm_idl.specs.Productions.{Tokens, Production, gives, ◌>>=◌, ◌>>◌}
 use Rattle.sm_idl.specs.Words.{mark}
-use Rattle.sm_idl.specs.declared.reader.Stop.{Stop}
+use Rattle.sm_idl.specs.declared.reader.ReadStop.{ReadStop}
 use Rattle.sm_idl.specs.steps.ReaderView.{NoToken, StopsIn}
 use Rattle.sm_idl.specs.steps.Firm.{Class, AreApart, IsFirm}
 use Rattle.sm_idl.specs.steps.Classes.{AMark}
@@ -21,17 +21,17 @@ module _ {X Y : Type 0} (opener close : List ℕ) (G : Class) (row : Production 
   closing : (x : X) → IsFirm ⊥ (AMark close) NoToken (closed close made x)
   closing x = given_firm (mark close) (λ _. made x) (mark_firm close)
 
-  pub stops_at_opener : (s r : Tokens) (stop : Stop) → StopsIn NoToken (mark opener) s r stop
+  pub stops_at_opener : (s r : Tokens) (stop : ReadStop) → StopsIn NoToken (mark opener) s r stop
       → StopsIn NoToken (between opener row close made) s r stop
   stops_at_opener s r stop k = stops_first NoToken (mark opener) (λ _. row >>= closed close made) s r stop k
 
-  pub stops_between : (s a r : Tokens) (stop : Stop) → (mark opener).whole tt s a → StopsIn G row a r stop
+  pub stops_between : (s a r : Tokens) (stop : ReadStop) → (mark opener).whole tt s a → StopsIn G row a r stop
       → StopsIn NoToken (between opener row close made) s r stop
   stops_between s a r stop h k =
       stops_behind NoToken (mark opener) (λ _. row >>= closed close made) (mark_firm opener) tt s a r stop h
       (stops_in_row row (closed close made) closing apart a r stop k)
 
-  pub stops_at_close : (x : X) (s a b r : Tokens) (stop : Stop) → (mark opener).whole tt s a → IsRead G row x a b
+  pub stops_at_close : (x : X) (s a b r : Tokens) (stop : ReadStop) → (mark opener).whole tt s a → IsRead G row x a b
       → StopsIn NoToken (mark close) b r stop
       → StopsIn NoToken (between opener row close made) s r stop
   stops_at_close x s a b r stop h m k =

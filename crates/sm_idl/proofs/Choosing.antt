@@ -5,8 +5,8 @@ use Rattle.sm_lex.specs.Tokens.{Lexeme}
 use Rattle.sm_model.specs.Said.{TraitSaid}
 use Rattle.sm_idl.specs.Productions.{Spaced, Tokens, Production, one, ◌or◌, maybe, OptionSpells}
 use Rattle.sm_idl.specs.Traits.{DocsBefore, docs_trait, documented}
-use Rattle.sm_idl.specs.declared.reader.Stop.{Stop}
-use Rattle.sm_idl.specs.declared.reader.Stop.TheVariants.{Syntax, NoMemory}
+use Rattle.sm_idl.specs.declared.reader.ReadStop.{ReadStop}
+use Rattle.sm_idl.specs.declared.reader.ReadStop.TheVariants.{Syntax, NoMemory}
 use Rattle.sm_idl.specs.steps.ReaderView.{NoToken, StopsIn}
 use Rattle.sm_idl.specs.steps.Classes.{Either}
 use Rattle.sm_idl.specs.steps.Firm.{Class, HeadIs, AreApart, IsFirm}
@@ -82,7 +82,7 @@ module _ {X : Type 0} (A B G H : Class) (P Q : Production X) (p : IsFirm ⊥ A G
     ];
   }
 
-  pub left_stop : (s r : Tokens) (stop : Stop) → (HeadIs B s → ⊥) → StopsIn G P s r stop → StopsIn G (P or Q) s r stop
+  pub left_stop : (s r : Tokens) (stop : ReadStop) → (HeadIs B s → ⊥) → StopsIn G P s r stop → StopsIn G (P or Q) s r stop
   left_stop s r Syntax none k = left_stuck s r none k
   left_stop s r NoMemory none k = tt
 
@@ -112,7 +112,7 @@ module _ {X : Type 0} (A B G H : Class) (P Q : Production X) (p : IsFirm ⊥ A G
         over = λ w t e g. k.over w t e (other g);
       }
 
-  pub right_stop : (s r : Tokens) (stop : Stop) → (HeadIs A s → ⊥) → StopsIn H Q s r stop → StopsIn H (P or Q) s r stop
+  pub right_stop : (s r : Tokens) (stop : ReadStop) → (HeadIs A s → ⊥) → StopsIn H Q s r stop → StopsIn H (P or Q) s r stop
   right_stop s r Syntax none k = turned_stuck H P Q s r (left_stuck B A H G Q P q p apart s r none k)
   right_stop s r NoMemory none k = tt
 
@@ -164,7 +164,7 @@ module _ {X : Type 0} (A G : Class) (P : Production X) (p : IsFirm ⊥ A G P) wh
       head_left A G u (head_moved A (k.before ++ take 1 r) u h (head_of_whole A k.before r (head_moved A s (k.before ++ r) k.cut here)))
   some_wholes s r here k (Some y) u h = head_right A G u (k.wholes y u h)
 
-  pub some_stop : (s r : Tokens) (stop : Stop) → HeadIs A s → StopsIn G P s r stop → StopsIn (Either A G) (maybe P) s r stop
+  pub some_stop : (s r : Tokens) (stop : ReadStop) → HeadIs A s → StopsIn G P s r stop → StopsIn (Either A G) (maybe P) s r stop
   some_stop s r NoMemory here k = tt
   some_stop s r Syntax here k = record {
     before = k.before;
@@ -211,7 +211,7 @@ module _ {X : Type 0} (A G : Class) (P : List TraitSaid → Production X) (p : (
   docs_up_to d e [] t q s f h k = same_docs (t ∷ q) d e (subst (λ z. DocsBefore z d) f h) k
   docs_up_to d e (u ∷ b) t q s f h k = same_docs (u ∷ (b ++ t ∷ q)) d e (subst (λ z. DocsBefore z d) f h) k
 
-  pub documented_stop : (d : Option (List ℕ)) (s r : Tokens) (stop : Stop) → DocsBefore s d → StopsIn G (P (docs_trait d)) s r stop
+  pub documented_stop : (d : Option (List ℕ)) (s r : Tokens) (stop : ReadStop) → DocsBefore s d → StopsIn G (P (docs_trait d)) s r stop
       → StopsIn G (documented P) s r stop
   documented_stop d s r NoMemory h k = tt
   documented_stop d s r Syntax h k = record {

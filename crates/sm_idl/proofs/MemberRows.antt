@@ -16,8 +16,8 @@ use Rattle.sm_idl.specs.Nodes.{Home}
 use Rattle.sm_idl.specs.Members.{IsNameOf, HasMembers, arranged, member, members}
 use Rattle.sm_idl.specs.declared.members.MemberKind.{MemberKind}
 use Rattle.sm_idl.specs.declared.members.MemberKind.TheVariants.{Value, Item, Pair, Choice, Field}
-use Rattle.sm_idl.specs.declared.reader.Stop.{Stop}
-use Rattle.sm_idl.specs.declared.reader.Stop.TheVariants.{Syntax, NoMemory}
+use Rattle.sm_idl.specs.declared.reader.ReadStop.{ReadStop}
+use Rattle.sm_idl.specs.declared.reader.ReadStop.TheVariants.{Syntax, NoMemory}
 use Rattle.sm_idl.specs.steps.Classes.{Either, AMark, Equals, MemberStart}
 use Rattle.sm_idl.specs.steps.Firm.{HeadIs, AreApart, IsFirm}
 use Rattle.sm_idl.specs.steps.MemberSteps.{form_of, entry, AreNamed}
@@ -44,7 +44,7 @@ never_stop Is s none = record {
 }
 
 -- a mark with a condition stops where the mark does
-pub where_stop : (m : List ℕ) (Holds : Type 0) (s r : Tokens) (stop : Stop) → StopsIn NoToken (mark m) s r stop
+pub where_stop : (m : List ℕ) (Holds : Type 0) (s r : Tokens) (stop : ReadStop) → StopsIn NoToken (mark m) s r stop
     → StopsIn NoToken (mark_where m Holds) s r stop
 where_stop m Holds s r NoMemory k = tt
 where_stop m Holds s r Syntax k = record {
@@ -125,7 +125,7 @@ module _ (home : Home) (kind : MemberKind) where
   members_end have s a i none =
       row_read MemberStart Equals (entry home kind) (entry_firm home kind) equals_no_member [] (member_statements_view have) s a i none
 
-  pub members_stop : (have : List MemberStatement) (s a r : Tokens) (stop : Stop) → MembersSoFar have s a → HeadIs MemberStart a
+  pub members_stop : (have : List MemberStatement) (s a r : Tokens) (stop : ReadStop) → MembersSoFar have s a → HeadIs MemberStart a
       → StopsIn Equals (entry home kind (member_statements_view have)) a r stop
       → StopsIn (Either MemberStart Equals) (each (entry home kind)) s r stop
   members_stop have s a r stop i here k =
@@ -148,20 +148,20 @@ module _ (home : Home) (kind : MemberKind) where
   no_close = either_apart _ _ _ (either_apart _ _ _ (marks_unlike (codes "@") (codes "}") refl) (turned _ _ (mark_no_word (codes "}"))))
       (marks_unlike (codes "=") (codes "}") refl)
 
-  pub brace_stop : (s r : Tokens) (stop : Stop) → StopsIn NoToken (mark (codes "{")) s r stop
+  pub brace_stop : (s r : Tokens) (stop : ReadStop) → StopsIn NoToken (mark (codes "{")) s r stop
       → StopsIn NoToken (members (form_of kind) (entry home kind)) s r stop
   brace_stop s r stop k = stops_first NoToken (mark (codes "{")) (λ _. within) s r stop k
 
-  past_brace : (s a r : Tokens) (stop : Stop) → (mark (codes "{")).whole tt s a → StopsIn NoToken within a r stop
+  past_brace : (s a r : Tokens) (stop : ReadStop) → (mark (codes "{")).whole tt s a → StopsIn NoToken within a r stop
       → StopsIn NoToken (members (form_of kind) (entry home kind)) s r stop
   past_brace s a r stop h k = stops_behind NoToken (mark (codes "{")) (λ _. within) (mark_firm (codes "{")) tt s a r stop h k
 
-  pub within_stop : (s a r : Tokens) (stop : Stop) → (mark (codes "{")).whole tt s a
+  pub within_stop : (s a r : Tokens) (stop : ReadStop) → (mark (codes "{")).whole tt s a
       → StopsIn (Either MemberStart Equals) (each (entry home kind)) a r stop
       → StopsIn NoToken (members (form_of kind) (entry home kind)) s r stop
   within_stop s a r stop h k = past_brace s a r stop h (stops_in_row (each (entry home kind)) closes closes_firm no_close a r stop k)
 
-  past_members : (ms : List MemberSaid) (s a b r : Tokens) (stop : Stop) → (mark (codes "{")).whole tt s a
+  past_members : (ms : List MemberSaid) (s a b r : Tokens) (stop : ReadStop) → (mark (codes "{")).whole tt s a
       → IsRead (Either MemberStart Equals) (each (entry home kind)) ms a b
       → StopsIn NoToken (mark_where (codes "}") (HasMembers (form_of kind) ms)) b r stop
       → StopsIn NoToken (members (form_of kind) (entry home kind)) s r stop
@@ -169,7 +169,7 @@ module _ (home : Home) (kind : MemberKind) where
       past_brace s a r stop h (stops_past_row (each (entry home kind)) closes closes_firm no_close ms a b r stop m
       (stops_first NoToken (mark_where (codes "}") (HasMembers (form_of kind) ms)) _ b r stop k))
 
-  pub close_stop : (ms : List MemberSaid) (s a b r : Tokens) (stop : Stop) → (mark (codes "{")).whole tt s a
+  pub close_stop : (ms : List MemberSaid) (s a b r : Tokens) (stop : ReadStop) → (mark (codes "{")).whole tt s a
       → IsRead (Either MemberStart Equals) (each (entry home kind)) ms a b → StopsIn NoToken (mark (codes "}")) b r stop
       → StopsIn NoToken (members (form_of kind) (entry home kind)) s r stop
   close_stop ms s a b r stop h m k =

@@ -13,7 +13,7 @@ use Rattle.sm_model.specs.declared.raw.RawNode.{RawNode}
 use Rattle.sm_idl.specs.Productions.{Tokens, Production, each, many}
 use Rattle.sm_idl.specs.Words.{mark, key}
 use Rattle.sm_idl.specs.Nodes.{Home, leaf, Pair, pair_names, as_object, pair_of, object_of, list_of, node}
-use Rattle.sm_idl.specs.declared.reader.Stop.{Stop}
+use Rattle.sm_idl.specs.declared.reader.ReadStop.{ReadStop}
 use Rattle.sm_idl.specs.steps.ReaderView.{NoToken, StopsIn, ReadsAs, raw_pair}
 use Rattle.sm_idl.specs.steps.Firm.{HeadIs, AreApart, IsFirm}
 use Rattle.sm_idl.specs.steps.Classes.{Either, AMark, NoMark, NodeStart}
@@ -60,7 +60,7 @@ module _ (home : Option Home) (n : ℕ) where
       → IsRead NodeStart (many value) xs s a
   nodes_read xs s a i none = ended_read NodeStart (λ _. value) (λ _. node_firm home n) [] xs s a i none
 
-  pub nodes_stop : (xs : List Raw) (s a r : Tokens) (stop : Stop) → IsRow (Either NodeStart NoToken) (λ _. value) [] xs s a
+  pub nodes_stop : (xs : List Raw) (s a r : Tokens) (stop : ReadStop) → IsRow (Either NodeStart NoToken) (λ _. value) [] xs s a
       → HeadIs NodeStart a → StopsIn NoToken value a r stop → StopsIn NodeStart (many value) s r stop
   nodes_stop xs s a r stop i here k = ended_stop NodeStart (λ _. value) (λ _. node_firm home n) [] xs s a r stop i here k
 
@@ -98,7 +98,7 @@ module _ (home : Option Home) (n : ℕ) where
       → IsRead NoMark (each (pair_of value)) xs s a
   pairs_read xs s a i none = ended_read NoMark (pair_of value) pairs_firm [] xs s a i none
 
-  pub pairs_stop : (xs : List Pair) (s a r : Tokens) (stop : Stop) → IsRow (Either NoMark NoToken) (pair_of value) [] xs s a
+  pub pairs_stop : (xs : List Pair) (s a r : Tokens) (stop : ReadStop) → IsRow (Either NoMark NoToken) (pair_of value) [] xs s a
       → HeadIs NoMark a → StopsIn NoToken (pair_of value xs) a r stop → StopsIn NoMark (each (pair_of value)) s r stop
   pairs_stop xs s a r stop i here k = ended_stop NoMark (pair_of value) pairs_firm [] xs s a r stop i here k
 
@@ -113,35 +113,37 @@ module _ (home : Option Home) (n : ℕ) where
   no_mark_closes : AreApart NoMark (AMark (codes "}"))
   no_mark_closes = turned _ _ (mark_no_leaf (codes "}"))
 
-  pub list_open : (s r : Tokens) (stop : Stop) → StopsIn NoToken (mark (codes "[")) s r stop → StopsIn NoToken (list_of value) s r stop
+  pub list_open : (s r : Tokens) (stop : ReadStop) → StopsIn NoToken (mark (codes "[")) s r stop → StopsIn NoToken (list_of value) s r stop
   list_open s r stop k = bracketed.stops_at_opener (codes "[") (codes "]") NodeStart (many value) made_list list_apart s r stop k
 
-  pub list_within : (s a r : Tokens) (stop : Stop) → (mark (codes "[")).whole tt s a → StopsIn NodeStart (many value) a r stop
+  pub list_within : (s a r : Tokens) (stop : ReadStop) → (mark (codes "[")).whole tt s a → StopsIn NodeStart (many value) a r stop
       → StopsIn NoToken (list_of value) s r stop
   list_within s a r stop h k = bracketed.stops_between (codes "[") (codes "]") NodeStart (many value) made_list list_apart s a r stop h k
 
-  pub list_close : (xs : List Raw) (s a b r : Tokens) (stop : Stop) → (mark (codes "[")).whole tt s a → IsRead NodeStart (many value) xs a b
+  pub list_close : (xs : List Raw) (s a b r : Tokens) (stop : ReadStop) → (mark (codes "[")).whole tt s a
+      → IsRead NodeStart (many value) xs a b
       → StopsIn NoToken (mark (codes "]")) b r stop → StopsIn NoToken (list_of value) s r stop
   list_close xs s a b r stop h m k =
       bracketed.stops_at_close (codes "[") (codes "]") NodeStart (many value) made_list list_apart xs s a b r stop h m k
 
-  pub object_open : (s r : Tokens) (stop : Stop) → StopsIn NoToken (mark (codes "{")) s r stop → StopsIn NoToken (object_of value) s r stop
+  pub object_open : (s r : Tokens) (stop : ReadStop) → StopsIn NoToken (mark (codes "{")) s r stop
+      → StopsIn NoToken (object_of value) s r stop
   object_open s r stop k = bracketed.stops_at_opener (codes "{") (codes "}") NoMark (each (pair_of value)) as_object no_mark_closes s r
       stop k
 
-  pub object_within : (s a r : Tokens) (stop : Stop) → (mark (codes "{")).whole tt s a → StopsIn NoMark (each (pair_of value)) a r stop
+  pub object_within : (s a r : Tokens) (stop : ReadStop) → (mark (codes "{")).whole tt s a → StopsIn NoMark (each (pair_of value)) a r stop
       → StopsIn NoToken (object_of value) s r stop
   object_within s a r stop h k =
       bracketed.stops_between (codes "{") (codes "}") NoMark (each (pair_of value)) as_object no_mark_closes s a r stop h k
 
-  pub object_close : (xs : List Pair) (s a b r : Tokens) (stop : Stop) → (mark (codes "{")).whole tt s a
+  pub object_close : (xs : List Pair) (s a b r : Tokens) (stop : ReadStop) → (mark (codes "{")).whole tt s a
       → IsRead NoMark (each (pair_of value)) xs a b → StopsIn NoToken (mark (codes "}")) b r stop
       → StopsIn NoToken (object_of value) s r stop
   object_close xs s a b r stop h m k =
       bracketed.stops_at_close (codes "{") (codes "}") NoMark (each (pair_of value)) as_object no_mark_closes xs s a b r stop h m k
 
 -- a node of so many levels
-module _ (home : Option Home) (levels n : ℕ) (one_more : levels ≡ suc n) (s r : Tokens) (result : Result RawNode Stop) where
+module _ (home : Option Home) (levels n : ℕ) (one_more : levels ≡ suc n) (s r : Tokens) (result : Result RawNode ReadStop) where
   at_level : ReadsAs raw_view (node home (suc n)) s r result → ReadsAs raw_view (node home levels) s r result
   at_level h = subst (λ l. ReadsAs raw_view (node home l) s r result) (sym one_more) h
 
@@ -157,7 +159,7 @@ module _ (home : Option Home) (levels n : ℕ) (one_more : levels ≡ suc n) (s 
       → ReadsAs raw_view (node home levels) s r result
   list_at here h = at_level (list_node home n s r result here h)
 
-pub flat_at : (home : Option Home) (levels : ℕ) → levels ≡ 0 → (s r : Tokens) (result : Result RawNode Stop)
+pub flat_at : (home : Option Home) (levels : ℕ) → levels ≡ 0 → (s r : Tokens) (result : Result RawNode ReadStop)
     → ReadsAs raw_view (leaf home) s r result → ReadsAs raw_view (node home levels) s r result
 flat_at home levels none s r result h =
     subst (λ l. ReadsAs raw_view (node home l) s r result) (sym none) (flat_node home s r result h)

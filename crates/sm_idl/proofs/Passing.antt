@@ -3,8 +3,8 @@ use Rattle.std.proofs.Common.{◌≡◌, ◌⊎◌, inl, inr, [], ◌∷◌, ◌
 use Rattle.std.proofs.Common.{◌<◌, length, length-append, arith}
 use Rattle.std.proofs.lemmas.List.{take-append-drop}
 use Rattle.sm_idl.specs.Productions.{Spaced, Tokens, Production, gives, ◌>>=◌}
-use Rattle.sm_idl.specs.declared.reader.Stop.{Stop}
-use Rattle.sm_idl.specs.declared.reader.Stop.TheVariants.{Syntax, NoMemory}
+use Rattle.sm_idl.specs.declared.reader.ReadStop.{ReadStop}
+use Rattle.sm_idl.specs.declared.reader.ReadStop.TheVariants.{Syntax, NoMemory}
 use Rattle.sm_idl.specs.steps.ReaderView.{NoToken, StopsIn}
 use Rattle.sm_idl.specs.steps.Classes.{Either}
 use Rattle.sm_idl.specs.steps.Firm.{Class, HeadIs, AreApart, IsFirm}
@@ -81,7 +81,7 @@ stuck_wider {G = G} {H = H} P s r wider k = record {
   stops = k.stops;
 }
 
-pub stop_wider : {X : Type 0} {G H : Class} (P : Production X) (s r : Tokens) (stop : Stop) → ((t : Spaced) → G t → H t)
+pub stop_wider : {X : Type 0} {G H : Class} (P : Production X) (s r : Tokens) (stop : ReadStop) → ((t : Spaced) → G t → H t)
     → StopsIn G P s r stop → StopsIn H P s r stop
 stop_wider P s r Syntax wider k = stuck_wider P s r wider k
 stop_wider P s r NoMemory wider k = tt
@@ -169,11 +169,11 @@ module _ {X Y : Type 0} (G H K : Class) (P : Production X) (Q : X → Production
     over = λ w q e h. both_over x y s a r m k w q e (subst (λ l. (P >>= Q).begun l) (append_assoc m.taken k.taken w) h);
   }
 
-  pub first_stop : (s r : Tokens) (stop : Stop) → StopsIn G P s r stop → StopsIn K (P >>= Q) s r stop
+  pub first_stop : (s r : Tokens) (stop : ReadStop) → StopsIn G P s r stop → StopsIn K (P >>= Q) s r stop
   first_stop s r Syntax k = first_stuck s r k
   first_stop s r NoMemory k = tt
 
-  pub second_stop : (x : X) (s a r : Tokens) (stop : Stop) → IsRead G P x s a → StopsIn H (Q x) a r stop → StopsIn K (P >>= Q) s r stop
+  pub second_stop : (x : X) (s a r : Tokens) (stop : ReadStop) → IsRead G P x s a → StopsIn H (Q x) a r stop → StopsIn K (P >>= Q) s r stop
   second_stop x s a r Syntax m k = second_stuck x s a r m k
   second_stop x s a r NoMemory m k = tt
 
@@ -215,21 +215,21 @@ follows_value {G = G} made = record {
 
 -- the short forms: behind what ends by itself, and behind what goes on by tokens that don't begin the rest
 
-pub stops_first : {X Y : Type 0} (H : Class) (P : Production X) (Q : X → Production Y) (s r : Tokens) (stop : Stop)
+pub stops_first : {X Y : Type 0} (H : Class) (P : Production X) (Q : X → Production Y) (s r : Tokens) (stop : ReadStop)
     → StopsIn NoToken P s r stop → StopsIn H (P >>= Q) s r stop
 stops_first H P Q s r stop k = first_stop NoToken H H P Q (follows_end Q) s r stop k
 
 pub stops_behind : {X Y : Type 0} {E : Type 0} {A : Class} (H : Class) (P : Production X) (Q : X → Production Y) → IsFirm E A NoToken P
-    → (x : X) (s a r : Tokens) (stop : Stop) → P.whole x s a → StopsIn H (Q x) a r stop → StopsIn H (P >>= Q) s r stop
+    → (x : X) (s a r : Tokens) (stop : ReadStop) → P.whole x s a → StopsIn H (Q x) a r stop → StopsIn H (P >>= Q) s r stop
 stops_behind H P Q p x s a r stop h k =
     second_stop NoToken H H P Q (follows_end Q) x s a r stop (whole_read P p x s a h) k
 
 pub stops_in_row : {X Y : Type 0} {G B H : Class} (P : Production X) (Q : X → Production Y) → ((x : X) → IsFirm ⊥ B H (Q x))
-    → AreApart G B → (s r : Tokens) (stop : Stop) → StopsIn G P s r stop → StopsIn H (P >>= Q) s r stop
+    → AreApart G B → (s r : Tokens) (stop : ReadStop) → StopsIn G P s r stop → StopsIn H (P >>= Q) s r stop
 stops_in_row {G = G} {H = H} P Q q apart s r stop k = first_stop G H H P Q (follows_row Q q apart) s r stop k
 
 pub stops_past_row : {X Y : Type 0} {G B H : Class} (P : Production X) (Q : X → Production Y) → ((x : X) → IsFirm ⊥ B H (Q x))
-    → AreApart G B → (x : X) (s a r : Tokens) (stop : Stop) → IsRead G P x s a → StopsIn H (Q x) a r stop
+    → AreApart G B → (x : X) (s a r : Tokens) (stop : ReadStop) → IsRead G P x s a → StopsIn H (Q x) a r stop
     → StopsIn H (P >>= Q) s r stop
 stops_past_row {G = G} {H = H} P Q q apart x s a r stop m k = second_stop G H H P Q (follows_row Q q apart) x s a r stop m k
 
@@ -258,6 +258,6 @@ value_read {G = G} P made x s r m =
     both_read G NoToken G P (λ v. gives (made v)) (follows_value made) x (made x) s r r m
     (whole_read (gives (made x)) (firm_gives (made x)) (made x) r r (refl, refl))
 
-pub value_stop : {X Y : Type 0} (G : Class) (P : Production X) (made : X → Y) (s r : Tokens) (stop : Stop) → StopsIn G P s r stop
+pub value_stop : {X Y : Type 0} (G : Class) (P : Production X) (made : X → Y) (s r : Tokens) (stop : ReadStop) → StopsIn G P s r stop
     → StopsIn G (P >>= (λ v. gives (made v))) s r stop
 value_stop G P made s r stop k = first_stop G NoToken G P (λ v. gives (made v)) (follows_value made) s r stop k

@@ -6,8 +6,8 @@ use Rattle.sm_model.specs.Raw.{Raw}
 use Rattle.sm_idl.specs.Productions.{Spaced, Tokens, Production, EachSpells, each, ◌or◌}
 use Rattle.sm_idl.specs.Words.{IsKey}
 use Rattle.sm_idl.specs.Nodes.{Home, Pair, LeafSays, pair_of, as_object, object_of, list_of, node}
-use Rattle.sm_idl.specs.declared.reader.Stop.{Stop}
-use Rattle.sm_idl.specs.declared.reader.Stop.TheVariants.{Syntax, NoMemory}
+use Rattle.sm_idl.specs.declared.reader.ReadStop.{ReadStop}
+use Rattle.sm_idl.specs.declared.reader.ReadStop.TheVariants.{Syntax, NoMemory}
 use Rattle.sm_idl.specs.steps.ReaderView.{NoToken, StopsIn}
 use Rattle.sm_idl.specs.steps.Firm.{HeadIs, IsFirm}
 use Rattle.sm_idl.specs.steps.Classes.{AMark, NoMark, NodeStart, PairGoesOn, PairAhead}
@@ -162,7 +162,7 @@ module _ (home : Option Home) (levels : ℕ) where
             (leaf_first home levels x b (bs ++ take 1 r) u plain h)))
       ]
 
-  pub pairs_stop : (s r : Tokens) (stop : Stop) → PairAhead home s → StopsIn NoMark (each (pair_of (node home levels))) s r stop
+  pub pairs_stop : (s r : Tokens) (stop : ReadStop) → PairAhead home s → StopsIn NoMark (each (pair_of (node home levels))) s r stop
       → StopsIn PairGoesOn (some_pairs (node home levels) or node home levels) s r stop
   pairs_stop s r NoMemory ahead m = tt
   pairs_stop [] r Syntax ahead m = absurd ahead
@@ -264,7 +264,7 @@ module _ (home : Option Home) (levels : ℕ) where
             (subst (λ z. (node home levels).whole n (take 1 z) []) (sym e) (leaf_whole home levels n t [] leaf))),
       ))
 
-  pub node_stop : (s r : Tokens) (stop : Stop) → (PairAhead home s → ⊥) → StopsIn NoToken (node home levels) s r stop
+  pub node_stop : (s r : Tokens) (stop : ReadStop) → (PairAhead home s → ⊥) → StopsIn NoToken (node home levels) s r stop
       → StopsIn PairGoesOn (some_pairs (node home levels) or node home levels) s r stop
   node_stop s r NoMemory none k = tt
   node_stop s r Syntax none k = record {

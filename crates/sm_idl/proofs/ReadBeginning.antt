@@ -9,7 +9,7 @@ use Rattle.sm_idl.specs.Productions.{Tokens, Production, gives, ◌>>=◌, ◌>>
 use Rattle.sm_idl.specs.Words.{IsWordId, mark, the_word, key, id}
 use Rattle.sm_idl.specs.Nodes.{Home, Pair, pair_names, pair_of, node}
 use Rattle.sm_idl.specs.Idl.{control, metadata, used, is_absolute}
-use Rattle.sm_idl.specs.declared.reader.Stop.{Stop}
+use Rattle.sm_idl.specs.declared.reader.ReadStop.{ReadStop}
 use Rattle.sm_idl.specs.steps.Classes.{Either}
 use Rattle.sm_idl.specs.steps.FileClasses.{Use}
 use Rattle.sm_idl.specs.steps.Firm.{HeadIs}
@@ -27,11 +27,11 @@ module _ (home : Option Home) (before : List Pair) where
   value = node home most_levels
 
   -- a control
-  pub control_mark_stop : (s r : Tokens) (stop : Stop) → StopsIn NoToken (mark (codes "$")) s r stop
+  pub control_mark_stop : (s r : Tokens) (stop : ReadStop) → StopsIn NoToken (mark (codes "$")) s r stop
       → StopsIn NoToken (control home before) s r stop
   control_mark_stop s r stop k = stops_first NoToken (mark (codes "$")) (λ _. pair_of value before) s r stop k
 
-  pub control_behind : {V : Type 0} (view : V → Pair) (s a r : Tokens) (result : Result V Stop) → (mark (codes "$")).whole tt s a
+  pub control_behind : {V : Type 0} (view : V → Pair) (s a r : Tokens) (result : Result V ReadStop) → (mark (codes "$")).whole tt s a
       → ReadsAs view (pair_of value before) a r result → ReadsAs view (control home before) s r result
   control_behind view s a r result h k =
       as_behind view (mark (codes "$")) (λ _. pair_of value before) (mark_firm (codes "$")) tt s a r result h k
@@ -46,28 +46,29 @@ module _ (home : Option Home) (before : List Pair) where
   abbrev behind_key : List ℕ → Production Pair
   behind_key k = mark (codes "=") >> (value >>= (λ n. gives (k, n)))
 
-  pub data_word_stop : (s r : Tokens) (stop : Stop) → StopsIn NoToken data_word s r stop → StopsIn NoToken (metadata home before) s r stop
+  pub data_word_stop : (s r : Tokens) (stop : ReadStop) → StopsIn NoToken data_word s r stop
+      → StopsIn NoToken (metadata home before) s r stop
   data_word_stop s r stop k = stops_first NoToken data_word (λ _. data_key >>= behind_key) s r stop k
 
-  past_word : (s a r : Tokens) (stop : Stop) → data_word.whole tt s a → StopsIn NoToken (data_key >>= behind_key) a r stop
+  past_word : (s a r : Tokens) (stop : ReadStop) → data_word.whole tt s a → StopsIn NoToken (data_key >>= behind_key) a r stop
       → StopsIn NoToken (metadata home before) s r stop
   past_word s a r stop h k =
       stops_behind NoToken data_word (λ _. data_key >>= behind_key) (the_word_firm (codes "metadata")) tt s a r stop h k
 
-  pub data_key_stop : (s a r : Tokens) (stop : Stop) → data_word.whole tt s a → StopsIn NoToken data_key a r stop
+  pub data_key_stop : (s a r : Tokens) (stop : ReadStop) → data_word.whole tt s a → StopsIn NoToken data_key a r stop
       → StopsIn NoToken (metadata home before) s r stop
   data_key_stop s a r stop h k = past_word s a r stop h (stops_first NoToken data_key behind_key a r stop k)
 
-  past_key : (name : List ℕ) (s a b r : Tokens) (stop : Stop) → data_word.whole tt s a → data_key.whole name a b
+  past_key : (name : List ℕ) (s a b r : Tokens) (stop : ReadStop) → data_word.whole tt s a → data_key.whole name a b
       → StopsIn NoToken (behind_key name) b r stop → StopsIn NoToken (metadata home before) s r stop
   past_key name s a b r stop h i k =
       past_word s a r stop h (stops_behind NoToken data_key behind_key (key_firm (pair_names before)) name a b r stop i k)
 
-  pub data_equals_stop : (name : List ℕ) (s a b r : Tokens) (stop : Stop) → data_word.whole tt s a → data_key.whole name a b
+  pub data_equals_stop : (name : List ℕ) (s a b r : Tokens) (stop : ReadStop) → data_word.whole tt s a → data_key.whole name a b
       → StopsIn NoToken (mark (codes "=")) b r stop → StopsIn NoToken (metadata home before) s r stop
   data_equals_stop name s a b r stop h i k = past_key name s a b r stop h i (stops_first NoToken (mark (codes "=")) _ b r stop k)
 
-  pub data_node_stop : (name : List ℕ) (s a b c r : Tokens) (stop : Stop) → data_word.whole tt s a → data_key.whole name a b
+  pub data_node_stop : (name : List ℕ) (s a b c r : Tokens) (stop : ReadStop) → data_word.whole tt s a → data_key.whole name a b
       → (mark (codes "=")).whole tt b c → StopsIn NoToken value c r stop → StopsIn NoToken (metadata home before) s r stop
   data_node_stop name s a b c r stop h i j k =
       past_key name s a b r stop h i
@@ -78,10 +79,10 @@ module _ (home : Option Home) (before : List Pair) where
   data_read name n s a b c r h i j k = (tt, a, h, (name, b, i, (tt, c, j, (n, r, k, (refl, refl)))))
 
 -- an id that is used
-pub used_word_stop : (s r : Tokens) (stop : Stop) → StopsIn NoToken (the_word (codes "use")) s r stop → StopsIn NoToken used s r stop
+pub used_word_stop : (s r : Tokens) (stop : ReadStop) → StopsIn NoToken (the_word (codes "use")) s r stop → StopsIn NoToken used s r stop
 used_word_stop s r stop k = stops_first NoToken (the_word (codes "use")) (λ _. id) s r stop k
 
-pub used_behind : {V : Type 0} (view : V → List ℕ) (s a r : Tokens) (result : Result V Stop) → (the_word (codes "use")).whole tt s a
+pub used_behind : {V : Type 0} (view : V → List ℕ) (s a r : Tokens) (result : Result V ReadStop) → (the_word (codes "use")).whole tt s a
     → ReadsAs view id a r result → ReadsAs view used s r result
 used_behind view s a r result h k = as_behind view (the_word (codes "use")) (λ _. id) (the_word_firm (codes "use")) tt s a r result h k
 
@@ -111,6 +112,7 @@ pub uses_read : (uses : List (List ℕ)) (s a : Tokens) → UsesSoFar uses s a �
     → (ws : List (List ℕ)) × (uses ≡ filter is_absolute ws) × IsRead Use (many used) ws s a
 uses_read uses s a (ws, f, i) none = (ws, f, ended_read Use (λ _. used) (λ _. used_firm) [] ws s a i none)
 
-pub uses_stopped : (uses : List (List ℕ)) (s a r : Tokens) (stop : Stop) → UsesSoFar uses s a → HeadIs Use a → StopsIn NoToken used a r stop
+pub uses_stopped : (uses : List (List ℕ)) (s a r : Tokens) (stop : ReadStop) → UsesSoFar uses s a → HeadIs Use a
+    → StopsIn NoToken used a r stop
     → StopsIn Use (many used) s r stop
 uses_stopped uses s a r stop (ws, f, i) here k = ended_stop Use (λ _. used) (λ _. used_firm) [] ws s a r stop i here k

@@ -13,7 +13,7 @@ use Rattle.sm_model.specs.SaidView.{trait_view, traits_view}
 use Rattle.sm_model.specs.declared.statement.TraitUse.{TraitUse}
 use Rattle.sm_idl.specs.Productions.{Spaced, Tokens, spaced_from, Production}
 use Rattle.sm_idl.specs.Traits.{DocsBefore, standing_for, docs_trait, documented}
-use Rattle.sm_idl.specs.declared.reader.Stop.{Stop}
+use Rattle.sm_idl.specs.declared.reader.ReadStop.{ReadStop}
 use Rattle.sm_idl.specs.steps.DocSteps.{DocumentsTrait, ReadsDocs}
 use Rattle.sm_idl.specs.steps.Firm.{Class, IsFirm}
 use Rattle.sm_idl.specs.steps.Reading.{IsRead}
@@ -44,14 +44,14 @@ docs_put d n given old new e f g h =
 -- what is documented is read as what it is behind its documentation
 module _ {V X : Type 0} (A : Class) (view : V → X) (P : List TraitSaid → Production X) where
   pub documented_as : ((docs : List TraitSaid) → IsFirm ⊥ A NoToken (P docs)) → (d : Option (List ℕ)) (ts : List TraitSaid) (s r : Tokens)
-      (result : Result V Stop) → ts ≡ docs_trait d → DocsBefore s d → ReadsAs view (P ts) s r result
+      (result : Result V ReadStop) → ts ≡ docs_trait d → DocsBefore s d → ReadsAs view (P ts) s r result
       → ReadsAs view (documented P) s r result
   documented_as p d ts s r (Ok v) e h k = (d, h, subst (λ z. (P z).whole (view v) s r) e k)
   documented_as p d ts s r (Err stop) e h k =
       documented_stop A NoToken P p d s r stop h (subst (λ z. StopsIn NoToken (P z) s r stop) e k)
 
   pub documented_on : (G : Class) → ((docs : List TraitSaid) → IsFirm ⊥ A G (P docs)) → (d : Option (List ℕ)) (ts : List TraitSaid)
-      (s r : Tokens) (result : Result V Stop) → ts ≡ docs_trait d → DocsBefore s d → ReadsOn G view (P ts) s r result
+      (s r : Tokens) (result : Result V ReadStop) → ts ≡ docs_trait d → DocsBefore s d → ReadsOn G view (P ts) s r result
       → ReadsOn G view (documented P) s r result
   documented_on G p d ts s r (Ok v) e h k =
       documented_read A G P p d (view v) s r h (subst (λ z. IsRead G (P z) (view v) s r) e k)

@@ -8,7 +8,7 @@ use Rattle.sm_idl.specs.Productions.{Tokens, Production, one, gives, ◌>>=◌, 
 use Rattle.sm_idl.specs.Words.{mark, word_that}
 use Rattle.sm_idl.specs.Nodes.{Home, written, IsNodeId, Pair, as_object}
 use Rattle.sm_idl.specs.Bodies.{reference, references, FieldNamed, braced_pairs}
-use Rattle.sm_idl.specs.declared.reader.Stop.{Stop}
+use Rattle.sm_idl.specs.declared.reader.ReadStop.{ReadStop}
 use Rattle.sm_idl.specs.steps.Classes.{AMark, AnyWord, NoMark}
 use Rattle.sm_idl.specs.steps.FieldSteps.{IsIdKey, id_key, under}
 use Rattle.sm_idl.specs.steps.Firm.{AreApart, IsFirm}
@@ -30,15 +30,15 @@ module _ {K : Type 0} (Key : Production K) (keys : IsFirm ⊥ NoMark NoToken Key
   abbrev pub keyed : Production Pair
   keyed = Key >>= behind_key
 
-  pub keyed_key_stop : (s r : Tokens) (stop : Stop) → StopsIn NoToken Key s r stop → StopsIn NoToken keyed s r stop
+  pub keyed_key_stop : (s r : Tokens) (stop : ReadStop) → StopsIn NoToken Key s r stop → StopsIn NoToken keyed s r stop
   keyed_key_stop s r stop k = stops_first NoToken Key behind_key s r stop k
 
-  pub keyed_colon_stop : (k : K) (s a r : Tokens) (stop : Stop) → Key.whole k s a → StopsIn NoToken (mark (codes ":")) a r stop
+  pub keyed_colon_stop : (k : K) (s a r : Tokens) (stop : ReadStop) → Key.whole k s a → StopsIn NoToken (mark (codes ":")) a r stop
       → StopsIn NoToken keyed s r stop
   keyed_colon_stop k s a r stop h m =
       stops_behind NoToken Key behind_key keys k s a r stop h (stops_first NoToken (mark (codes ":")) _ a r stop m)
 
-  pub keyed_value_stop : (k : K) (s a b r : Tokens) (stop : Stop) → Key.whole k s a → (mark (codes ":")).whole tt a b
+  pub keyed_value_stop : (k : K) (s a b r : Tokens) (stop : ReadStop) → Key.whole k s a → (mark (codes ":")).whole tt a b
       → StopsIn NoToken (value k) b r stop → StopsIn NoToken keyed s r stop
   keyed_value_stop k s a b r stop h m v =
       stops_behind NoToken Key behind_key keys k s a r stop h
@@ -65,7 +65,7 @@ under_firm home true before = renaming_firm before
 under_firm home false before = pair_firm AnyWord (reference home) (reference_firm home) before
 
 -- a reference
-pub reference_stop : (home : Home) (s r : Tokens) (stop : Stop) → StopsIn NoToken (word_that IsNodeId) s r stop
+pub reference_stop : (home : Home) (s r : Tokens) (stop : ReadStop) → StopsIn NoToken (word_that IsNodeId) s r stop
     → StopsIn NoToken (reference home) s r stop
 reference_stop home s r stop k = stops_first NoToken (word_that IsNodeId) (λ w. gives (raw_id (written home w false))) s r stop k
 
@@ -81,16 +81,17 @@ module _ (home : Home) where
   word_no_bracket : AreApart AnyWord (AMark (codes "]"))
   word_no_bracket = turned _ _ (mark_no_word (codes "]"))
 
-  pub list_open : (s r : Tokens) (stop : Stop) → StopsIn NoToken (mark (codes "[")) s r stop → StopsIn NoToken (references home) s r stop
+  pub list_open : (s r : Tokens) (stop : ReadStop) → StopsIn NoToken (mark (codes "[")) s r stop
+      → StopsIn NoToken (references home) s r stop
   list_open s r stop k =
       bracketed.stops_at_opener (codes "[") (codes "]") AnyWord (many (reference home)) listed word_no_bracket s r stop k
 
-  pub list_within : (s a r : Tokens) (stop : Stop) → (mark (codes "[")).whole tt s a → StopsIn AnyWord (many (reference home)) a r stop
+  pub list_within : (s a r : Tokens) (stop : ReadStop) → (mark (codes "[")).whole tt s a → StopsIn AnyWord (many (reference home)) a r stop
       → StopsIn NoToken (references home) s r stop
   list_within s a r stop h k =
       bracketed.stops_between (codes "[") (codes "]") AnyWord (many (reference home)) listed word_no_bracket s a r stop h k
 
-  pub list_close : (ns : List Raw) (s a b r : Tokens) (stop : Stop) → (mark (codes "[")).whole tt s a
+  pub list_close : (ns : List Raw) (s a b r : Tokens) (stop : ReadStop) → (mark (codes "[")).whole tt s a
       → IsRead AnyWord (many (reference home)) ns a b → StopsIn NoToken (mark (codes "]")) b r stop
       → StopsIn NoToken (references home) s r stop
   list_close ns s a b r stop h m k =
@@ -106,14 +107,15 @@ module _ (P : List Pair → Production Pair) where
   leaf_no_brace : AreApart NoMark (AMark (codes "}"))
   leaf_no_brace = turned _ _ (mark_no_leaf (codes "}"))
 
-  pub object_open : (s r : Tokens) (stop : Stop) → StopsIn NoToken (mark (codes "{")) s r stop → StopsIn NoToken (braced_pairs P) s r stop
+  pub object_open : (s r : Tokens) (stop : ReadStop) → StopsIn NoToken (mark (codes "{")) s r stop
+      → StopsIn NoToken (braced_pairs P) s r stop
   object_open s r stop k = bracketed.stops_at_opener (codes "{") (codes "}") NoMark (each P) as_object leaf_no_brace s r stop k
 
-  pub object_within : (s a r : Tokens) (stop : Stop) → (mark (codes "{")).whole tt s a → StopsIn NoMark (each P) a r stop
+  pub object_within : (s a r : Tokens) (stop : ReadStop) → (mark (codes "{")).whole tt s a → StopsIn NoMark (each P) a r stop
       → StopsIn NoToken (braced_pairs P) s r stop
   object_within s a r stop h k = bracketed.stops_between (codes "{") (codes "}") NoMark (each P) as_object leaf_no_brace s a r stop h k
 
-  pub object_close : (ps : List Pair) (s a b r : Tokens) (stop : Stop) → (mark (codes "{")).whole tt s a → IsRead NoMark (each P) ps a b
+  pub object_close : (ps : List Pair) (s a b r : Tokens) (stop : ReadStop) → (mark (codes "{")).whole tt s a → IsRead NoMark (each P) ps a b
       → StopsIn NoToken (mark (codes "}")) b r stop → StopsIn NoToken (braced_pairs P) s r stop
   object_close ps s a b r stop h m k =
       bracketed.stops_at_close (codes "{") (codes "}") NoMark (each P) as_object leaf_no_brace ps s a b r stop h m k

@@ -10,8 +10,8 @@ use Rattle.sm_idl.specs.Bodies.{Suffixes, suffixes}
 use Rattle.sm_idl.specs.Shapes.{item}
 use Rattle.sm_idl.specs.Idl.{control, metadata, used, is_absolute, home_of, SectionSaid, items, section, section_home, section_said}
 use Rattle.sm_idl.specs.Idl.{metadata_statements, FileSaid, file, FileSpelled}
-use Rattle.sm_idl.specs.declared.reader.Stop.{Stop}
-use Rattle.sm_idl.specs.declared.reader.Stop.TheVariants.{Syntax, NoMemory}
+use Rattle.sm_idl.specs.declared.reader.ReadStop.{ReadStop}
+use Rattle.sm_idl.specs.declared.reader.ReadStop.TheVariants.{Syntax, NoMemory}
 use Rattle.sm_idl.specs.steps.Classes.{Either}
 use Rattle.sm_idl.specs.steps.FileClasses.{Dollar, Metadata, Namespace, Use, ItemsGoOn, SectionGoesOn, FileGoesOn}
 use Rattle.sm_idl.specs.steps.Firm.{Class, HeadIs, AreApart, IsFirm}
@@ -83,7 +83,7 @@ module _ (h : Home) (cs ms : List Pair) where
   abbrev BehindData : Class
   BehindData = Either SectionGoesOn Metadata
 
-  behind_data_stop : (a b r : Tokens) (stop : Stop) → (each (metadata (Some h))).whole ms a b → (HeadIs Metadata b → ⊥)
+  behind_data_stop : (a b r : Tokens) (stop : ReadStop) → (each (metadata (Some h))).whole ms a b → (HeadIs Metadata b → ⊥)
       → StopsIn SectionGoesOn (maybe (section (suffixes cs))) b r stop → StopsIn BehindData (behind_controls (Some h) cs) a r stop
   behind_data_stop a b r stop m none k =
       second_stop Metadata SectionGoesOn BehindData (each (metadata (Some h))) (last_part cs)
@@ -99,14 +99,14 @@ module _ (h : Home) (cs ms : List Pair) where
       (ended (each (metadata (Some h))) (metadata_row (Some h)) ms a b none m)
       (value_read (maybe (section (suffixes cs))) said_of x b r k)
 
-  behind_stop : (s a r : Tokens) (stop : Stop) → (each (control (Some h))).whole cs s a → (HeadIs Dollar a → ⊥)
+  behind_stop : (s a r : Tokens) (stop : ReadStop) → (each (control (Some h))).whole cs s a → (HeadIs Dollar a → ⊥)
       → StopsIn BehindData (behind_controls (Some h) cs) a r stop → StopsIn FileGoesOn (file (Some h)) s r stop
   behind_stop s a r stop c none k =
       second_stop Dollar BehindData FileGoesOn (each (control (Some h))) (behind_controls (Some h))
       (follows_loose (behind_controls (Some h)) (behind_firm (Some h)) dollar_apart) cs s a r stop
       (ended (each (control (Some h))) (controls_row (Some h)) cs s a none c) k
 
-  pub section_stop : (s b r : Tokens) (stop : Stop) → BeginSaid (Some h) cs ms s b
+  pub section_stop : (s b r : Tokens) (stop : ReadStop) → BeginSaid (Some h) cs ms s b
       → StopsIn SectionGoesOn (maybe (section (suffixes cs))) b r stop → StopsIn FileGoesOn (file (Some h)) s r stop
   section_stop s b r stop (a, c, no_dollar, m, none) k = behind_stop s a r stop c no_dollar (behind_data_stop a b r stop m none k)
 
@@ -117,7 +117,7 @@ module _ (h : Home) (cs ms : List Pair) where
       (follows_loose (behind_controls (Some h)) (behind_firm (Some h)) dollar_apart) cs (said_of x) s a r
       (ended (each (control (Some h))) (controls_row (Some h)) cs s a no_dollar c) (behind_data_read x a b r m none k)
 
-  data_stop : (a r : Tokens) (stop : Stop) → StopsIn Metadata (each (metadata (Some h))) a r stop
+  data_stop : (a r : Tokens) (stop : ReadStop) → StopsIn Metadata (each (metadata (Some h))) a r stop
       → StopsIn BehindData (behind_controls (Some h) cs) a r stop
   data_stop a r stop k =
       first_stop Metadata SectionGoesOn BehindData (each (metadata (Some h))) (last_part cs)
@@ -143,31 +143,31 @@ module _ (e : Suffixes) where
   follows_uses : (n : List ℕ) → Follows Use ItemsGoOn Behind (λ ws. items (home_of n ws) e)
   follows_uses n = follows_loose (λ ws. items (home_of n ws) e) (λ ws. items_firm (home_of n ws) e) (no_item (codes "use") refl refl)
 
-  in_section : (s r : Tokens) (stop : Stop) → HeadIs Namespace s → StopsIn Behind (section e) s r stop
+  in_section : (s r : Tokens) (stop : ReadStop) → HeadIs Namespace s → StopsIn Behind (section e) s r stop
       → StopsIn SectionGoesOn (maybe (section e)) s r stop
   in_section s r stop here k = some_stop Namespace Behind (section e) (section_firm e) s r stop here k
 
-  pub namespace_word_stop : (s r : Tokens) (stop : Stop) → HeadIs Namespace s → StopsIn NoToken (the_word (codes "namespace")) s r stop
+  pub namespace_word_stop : (s r : Tokens) (stop : ReadStop) → HeadIs Namespace s → StopsIn NoToken (the_word (codes "namespace")) s r stop
       → StopsIn SectionGoesOn (maybe (section e)) s r stop
   namespace_word_stop s r stop here k = in_section s r stop here (stops_first Behind (the_word (codes "namespace")) _ s r stop k)
 
-  past_word : (s a r : Tokens) (stop : Stop) → HeadIs Namespace s → (the_word (codes "namespace")).whole tt s a
+  past_word : (s a r : Tokens) (stop : ReadStop) → HeadIs Namespace s → (the_word (codes "namespace")).whole tt s a
       → StopsIn Behind (word_that IsNamespace >>= behind_namespace) a r stop → StopsIn SectionGoesOn (maybe (section e)) s r stop
   past_word s a r stop here h k =
       in_section s r stop here (stops_behind Behind (the_word (codes "namespace")) _ (the_word_firm (codes "namespace")) tt s a r stop h k)
 
-  pub namespace_stop : (s a r : Tokens) (stop : Stop) → HeadIs Namespace s → (the_word (codes "namespace")).whole tt s a
+  pub namespace_stop : (s a r : Tokens) (stop : ReadStop) → HeadIs Namespace s → (the_word (codes "namespace")).whole tt s a
       → StopsIn NoToken (word_that IsNamespace) a r stop → StopsIn SectionGoesOn (maybe (section e)) s r stop
   namespace_stop s a r stop here h k =
       past_word s a r stop here h (stops_first Behind (word_that IsNamespace) behind_namespace a r stop k)
 
-  past_namespace : (n : List ℕ) (s a b r : Tokens) (stop : Stop) → HeadIs Namespace s → (the_word (codes "namespace")).whole tt s a
+  past_namespace : (n : List ℕ) (s a b r : Tokens) (stop : ReadStop) → HeadIs Namespace s → (the_word (codes "namespace")).whole tt s a
       → (word_that IsNamespace).whole n a b → StopsIn Behind (behind_namespace n) b r stop
       → StopsIn SectionGoesOn (maybe (section e)) s r stop
   past_namespace n s a b r stop here h i k =
       past_word s a r stop here h (stops_behind Behind (word_that IsNamespace) behind_namespace (word_firm IsNamespace) n a b r stop i k)
 
-  pub uses_stop : (n : List ℕ) (s a b r : Tokens) (stop : Stop) → HeadIs Namespace s → (the_word (codes "namespace")).whole tt s a
+  pub uses_stop : (n : List ℕ) (s a b r : Tokens) (stop : ReadStop) → HeadIs Namespace s → (the_word (codes "namespace")).whole tt s a
       → (word_that IsNamespace).whole n a b → StopsIn Use (many used) b r stop → StopsIn SectionGoesOn (maybe (section e)) s r stop
   uses_stop n s a b r stop here h i k =
       past_namespace n s a b r stop here h i
@@ -176,7 +176,7 @@ module _ (e : Suffixes) where
   abbrev section_of : Home → List (List Said) → SectionSaid
   section_of home sss = record { home = home; said = flat_map (λ ss. ss) sss }
 
-  pub statements_stop : (n : List ℕ) (ws : List (List ℕ)) (s a b c r : Tokens) (stop : Stop) → HeadIs Namespace s
+  pub statements_stop : (n : List ℕ) (ws : List (List ℕ)) (s a b c r : Tokens) (stop : ReadStop) → HeadIs Namespace s
       → (the_word (codes "namespace")).whole tt s a → (word_that IsNamespace).whole n a b → IsRead Use (many used) ws b c
       → StopsIn ItemsGoOn (many (item (home_of n ws) e)) c r stop → StopsIn SectionGoesOn (maybe (section e)) s r stop
   statements_stop n ws s a b c r stop here h i m k =
@@ -229,29 +229,29 @@ pub without_namespace : (cs ms : List Pair) (s : Tokens) → BeginSaid None cs m
 without_namespace cs ms s (a, c, no_dollar, m, none) = (cs, a, c, (ms, [], m, (None, [], refl, (refl, refl))))
 
 -- a stop of the file, as its answer
-pub as_stop : (h : Home) (s r : Tokens) (stop : Stop) → StopsIn FileGoesOn (file (Some h)) s r stop → FileStopped s r stop
+pub as_stop : (h : Home) (s r : Tokens) (stop : ReadStop) → StopsIn FileGoesOn (file (Some h)) s r stop → FileStopped s r stop
 as_stop h s r Syntax k = stuck_stops h s r k
 as_stop h s r NoMemory k = tt
 
-pub beginning_stop : (g : Option Home) (s r : Tokens) (stop : Stop) → BeginStops g s r stop → FileStopped s r stop
+pub beginning_stop : (g : Option Home) (s r : Tokens) (stop : ReadStop) → BeginStops g s r stop → FileStopped s r stop
 beginning_stop g s r Syntax k = stuck_stops no_namespace s r (beginning_stuck g no_namespace s r k)
 beginning_stop g s r NoMemory k = tt
 
 -- Behind the beginning stands a section
 module _ (cs ms : List Pair) (s b : Tokens) (begins : BeginSaid (Some no_namespace) cs ms s b) where
-  pub word_stop : (r : Tokens) (stop : Stop) → HeadIs Namespace b → StopsIn NoToken (the_word (codes "namespace")) b r stop
+  pub word_stop : (r : Tokens) (stop : ReadStop) → HeadIs Namespace b → StopsIn NoToken (the_word (codes "namespace")) b r stop
       → FileStopped s r stop
   word_stop r stop here k =
       as_stop no_namespace s r stop
       (section_stop no_namespace cs ms s b r stop begins (namespace_word_stop (suffixes cs) b r stop here k))
 
-  pub name_stop : (a r : Tokens) (stop : Stop) → HeadIs Namespace b → (the_word (codes "namespace")).whole tt b a
+  pub name_stop : (a r : Tokens) (stop : ReadStop) → HeadIs Namespace b → (the_word (codes "namespace")).whole tt b a
       → StopsIn NoToken (word_that IsNamespace) a r stop → FileStopped s r stop
   name_stop a r stop here h k =
       as_stop no_namespace s r stop
       (section_stop no_namespace cs ms s b r stop begins (namespace_stop (suffixes cs) b a r stop here h k))
 
-  pub use_stop : (n : List ℕ) (a c r : Tokens) (stop : Stop) → HeadIs Namespace b → (the_word (codes "namespace")).whole tt b a
+  pub use_stop : (n : List ℕ) (a c r : Tokens) (stop : ReadStop) → HeadIs Namespace b → (the_word (codes "namespace")).whole tt b a
       → (word_that IsNamespace).whole n a c → StopsIn Use (many used) c r stop → FileStopped s r stop
   use_stop n a c r stop here h i k =
       as_stop no_namespace s r stop
@@ -300,7 +300,7 @@ module _ (home : Home) (s c : Tokens) (k : InSection home s c) (cs ms : List Pai
       (subst (λ z. BeginSaid (Some home) cs ms s z)
       (one_beginning (Some home) (Some no_namespace) cs ms k.controls k.metadata s b k.before begins k.begins) begins)
 
-  pub items_stopped : (r : Tokens) (stop : Stop) → StopsIn ItemsGoOn (many (item home endings)) c r stop → FileStopped s r stop
+  pub items_stopped : (r : Tokens) (stop : ReadStop) → StopsIn ItemsGoOn (many (item home endings)) c r stop → FileStopped s r stop
   items_stopped r stop m =
       as_stop real s r stop
       (section_stop real cs ms s k.before r stop begins_there

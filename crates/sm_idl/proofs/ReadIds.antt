@@ -5,7 +5,7 @@ use Rattle.sm_idl.specs.Productions.{Tokens, Production, maybe, many}
 use Rattle.sm_idl.specs.Words.{mark, the_word, id}
 use Rattle.sm_idl.specs.Nodes.{Home, written}
 use Rattle.sm_idl.specs.Members.{with_mixins, mixins, or_none}
-use Rattle.sm_idl.specs.declared.reader.Stop.{Stop}
+use Rattle.sm_idl.specs.declared.reader.ReadStop.{ReadStop}
 use Rattle.sm_idl.specs.steps.ReaderView.{NoToken, StopsIn, ReadsAs, ReadsOn}
 use Rattle.sm_idl.specs.steps.Firm.{HeadIs, AreApart}
 use Rattle.sm_idl.specs.steps.Classes.{AMark, AnyWord, With}
@@ -27,27 +27,27 @@ module _ (home : Home) where
   abbrev listed : Production (List Ref)
   listed = between (codes "[") (many id) (codes "]") made
 
-  pub stops_at_with : (s r : Tokens) (stop : Stop) → StopsIn NoToken (the_word (codes "with")) s r stop
+  pub stops_at_with : (s r : Tokens) (stop : ReadStop) → StopsIn NoToken (the_word (codes "with")) s r stop
       → StopsIn NoToken (with_mixins home) s r stop
   stops_at_with s r stop k = stops_first NoToken (the_word (codes "with")) (λ _. listed) s r stop k
 
-  behind_with : (s a r : Tokens) (stop : Stop) → (the_word (codes "with")).whole tt s a → StopsIn NoToken listed a r stop
+  behind_with : (s a r : Tokens) (stop : ReadStop) → (the_word (codes "with")).whole tt s a → StopsIn NoToken listed a r stop
       → StopsIn NoToken (with_mixins home) s r stop
   behind_with s a r stop h k =
       stops_behind NoToken (the_word (codes "with")) (λ _. listed) (the_word_firm (codes "with")) tt s a r stop h k
 
-  pub stops_at_bracket : (s a r : Tokens) (stop : Stop) → (the_word (codes "with")).whole tt s a
+  pub stops_at_bracket : (s a r : Tokens) (stop : ReadStop) → (the_word (codes "with")).whole tt s a
       → StopsIn NoToken (mark (codes "[")) a r stop
       → StopsIn NoToken (with_mixins home) s r stop
   stops_at_bracket s a r stop h k =
       behind_with s a r stop h (stops_at_opener (codes "[") (codes "]") AnyWord (many id) made word_no_bracket a r stop k)
 
-  pub stops_within : (s a b r : Tokens) (stop : Stop) → (the_word (codes "with")).whole tt s a → (mark (codes "[")).whole tt a b
+  pub stops_within : (s a b r : Tokens) (stop : ReadStop) → (the_word (codes "with")).whole tt s a → (mark (codes "[")).whole tt a b
       → StopsIn AnyWord (many id) b r stop → StopsIn NoToken (with_mixins home) s r stop
   stops_within s a b r stop h k m =
       behind_with s a r stop h (stops_between (codes "[") (codes "]") AnyWord (many id) made word_no_bracket a b r stop k m)
 
-  pub stops_at_end : (ws : List (List ℕ)) (s a b c r : Tokens) (stop : Stop) → (the_word (codes "with")).whole tt s a
+  pub stops_at_end : (ws : List (List ℕ)) (s a b c r : Tokens) (stop : ReadStop) → (the_word (codes "with")).whole tt s a
       → (mark (codes "[")).whole tt a b → IsRead AnyWord (many id) ws b c → StopsIn NoToken (mark (codes "]")) c r stop
       → StopsIn NoToken (with_mixins home) s r stop
   stops_at_end ws s a b c r stop h k m n =
@@ -71,13 +71,13 @@ module _ (home : Home) where
       (choosing.some_read With NoToken (with_mixins home) (with_mixins_firm home) refs s r
       (whole_read (with_mixins home) (with_mixins_firm home) refs s r h)))
 
-  pub mixins_stop : (s r : Tokens) (stop : Stop) → HeadIs With s → StopsIn NoToken (with_mixins home) s r stop
+  pub mixins_stop : (s r : Tokens) (stop : ReadStop) → HeadIs With s → StopsIn NoToken (with_mixins home) s r stop
       → StopsIn With (mixins home) s r stop
   mixins_stop s r stop here k =
       value_stop With (maybe (with_mixins home)) or_none s r stop (stop_wider (maybe (with_mixins home)) s r stop (one_class With)
       (choosing.some_stop With NoToken (with_mixins home) (with_mixins_firm home) s r stop here k))
 
-  pub mixins_here : {V : Type 0} (view : V → List Ref) (s r : Tokens) (result : Result V Stop) → HeadIs With s
+  pub mixins_here : {V : Type 0} (view : V → List Ref) (s r : Tokens) (result : Result V ReadStop) → HeadIs With s
       → ReadsAs view (with_mixins home) s r result → ReadsOn With view (mixins home) s r result
   mixins_here view s r (Ok v) here m = mixins_some (view v) s r m
   mixins_here view s r (Err stop) here m = mixins_stop s r stop here m

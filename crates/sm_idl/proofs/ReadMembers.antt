@@ -16,7 +16,7 @@ use Rattle.sm_idl.specs.Words.{IsWordId, mark, id}
 use Rattle.sm_idl.specs.Nodes.{Home, written}
 use Rattle.sm_idl.specs.Traits.{traits, value_trait}
 use Rattle.sm_idl.specs.Members.{member_name, given_value, enum_member_with, member_with, member, field}
-use Rattle.sm_idl.specs.declared.reader.Stop.{Stop}
+use Rattle.sm_idl.specs.declared.reader.ReadStop.{ReadStop}
 use Rattle.sm_idl.specs.steps.Classes.{AnyWord, TraitGoesOn, Equals}
 use Rattle.sm_idl.specs.steps.Firm.{IsFirm}
 use Rattle.sm_idl.specs.steps.MemberSteps.{enum_member_said, field_said}
@@ -58,33 +58,34 @@ module _ (home : Home) (form : MemberForm) (before : List MemberSaid) (docs : Li
       then_firm (member_name form before) _ (name_firm form before) (λ name.
       then_firm (mark (codes ":")) _ (mark_firm (codes ":")) (λ _. given_firm id (λ target. _) (word_firm IsWordId)))
 
-  pub member_traits_stop : (s r : Tokens) (stop : Stop) → StopsIn TraitGoesOn (traits home) s r stop
+  pub member_traits_stop : (s r : Tokens) (stop : ReadStop) → StopsIn TraitGoesOn (traits home) s r stop
       → StopsIn NoToken (member_with home form before docs) s r stop
   member_traits_stop s r stop k = stops_in_row (traits home) behind_traits rest_firm traits_no_word s r stop k
 
-  past_traits : (ts : List TraitSaid) (s a r : Tokens) (stop : Stop) → IsRead TraitGoesOn (traits home) ts s a
+  past_traits : (ts : List TraitSaid) (s a r : Tokens) (stop : ReadStop) → IsRead TraitGoesOn (traits home) ts s a
       → StopsIn NoToken (behind_traits ts) a r stop → StopsIn NoToken (member_with home form before docs) s r stop
   past_traits ts s a r stop m k = stops_past_row (traits home) behind_traits rest_firm traits_no_word ts s a r stop m k
 
-  pub member_name_stop : (ts : List TraitSaid) (s a r : Tokens) (stop : Stop) → IsRead TraitGoesOn (traits home) ts s a
+  pub member_name_stop : (ts : List TraitSaid) (s a r : Tokens) (stop : ReadStop) → IsRead TraitGoesOn (traits home) ts s a
       → StopsIn NoToken (member_name form before) a r stop → StopsIn NoToken (member_with home form before docs) s r stop
   member_name_stop ts s a r stop m k =
       past_traits ts s a r stop m (stops_first NoToken (member_name form before) (behind_name ts) a r stop k)
 
-  past_name : (ts : List TraitSaid) (name : List ℕ) (s a b r : Tokens) (stop : Stop) → IsRead TraitGoesOn (traits home) ts s a
+  past_name : (ts : List TraitSaid) (name : List ℕ) (s a b r : Tokens) (stop : ReadStop) → IsRead TraitGoesOn (traits home) ts s a
       → (member_name form before).whole name a b → StopsIn NoToken (behind_name ts name) b r stop
       → StopsIn NoToken (member_with home form before docs) s r stop
   past_name ts name s a b r stop m h k =
       past_traits ts s a r stop m
       (stops_behind NoToken (member_name form before) (behind_name ts) (name_firm form before) name a b r stop h k)
 
-  pub member_colon_stop : (ts : List TraitSaid) (name : List ℕ) (s a b r : Tokens) (stop : Stop) → IsRead TraitGoesOn (traits home) ts s a
+  pub member_colon_stop : (ts : List TraitSaid) (name : List ℕ) (s a b r : Tokens) (stop : ReadStop)
+      → IsRead TraitGoesOn (traits home) ts s a
       → (member_name form before).whole name a b → StopsIn NoToken (mark (codes ":")) b r stop
       → StopsIn NoToken (member_with home form before docs) s r stop
   member_colon_stop ts name s a b r stop m h k =
       past_name ts name s a b r stop m h (stops_first NoToken (mark (codes ":")) _ b r stop k)
 
-  pub member_target_stop : (ts : List TraitSaid) (name : List ℕ) (s a b c r : Tokens) (stop : Stop)
+  pub member_target_stop : (ts : List TraitSaid) (name : List ℕ) (s a b c r : Tokens) (stop : ReadStop)
       → IsRead TraitGoesOn (traits home) ts s a → (member_name form before).whole name a b → (mark (codes ":")).whole tt b c
       → StopsIn NoToken id c r stop → StopsIn NoToken (member_with home form before docs) s r stop
   member_target_stop ts name s a b c r stop m h colon k =
@@ -132,17 +133,17 @@ module _ (home : Home) (before : List MemberSaid) (docs : List TraitSaid) where
   enum_firm ts = then_firm (member_name any before) _ (name_firm any before)
       (λ name. given_firm (given_value home) (λ value. _) (value_firm home))
 
-  pub enum_traits_stop : (s r : Tokens) (stop : Stop) → StopsIn TraitGoesOn (traits home) s r stop
+  pub enum_traits_stop : (s r : Tokens) (stop : ReadStop) → StopsIn TraitGoesOn (traits home) s r stop
       → StopsIn Equals (enum_member_with home before docs) s r stop
   enum_traits_stop s r stop k = stops_in_row (traits home) name_behind enum_firm traits_no_word s r stop k
 
-  pub enum_name_stop : (ts : List TraitSaid) (s a r : Tokens) (stop : Stop) → IsRead TraitGoesOn (traits home) ts s a
+  pub enum_name_stop : (ts : List TraitSaid) (s a r : Tokens) (stop : ReadStop) → IsRead TraitGoesOn (traits home) ts s a
       → StopsIn NoToken (member_name any before) a r stop → StopsIn Equals (enum_member_with home before docs) s r stop
   enum_name_stop ts s a r stop m k =
       stops_past_row (traits home) name_behind enum_firm traits_no_word ts s a r stop m
       (stops_first Equals (member_name any before) (value_behind ts) a r stop k)
 
-  pub enum_value_stop : (ts : List TraitSaid) (name : List ℕ) (s a b r : Tokens) (stop : Stop) → IsRead TraitGoesOn (traits home) ts s a
+  pub enum_value_stop : (ts : List TraitSaid) (name : List ℕ) (s a b r : Tokens) (stop : ReadStop) → IsRead TraitGoesOn (traits home) ts s a
       → (member_name any before).whole name a b → StopsIn Equals (given_value home) b r stop
       → StopsIn Equals (enum_member_with home before docs) s r stop
   enum_value_stop ts name s a b r stop m h k =
@@ -166,11 +167,11 @@ module _ (home : Home) (before : List MemberSaid) where
   abbrev behind_member : MemberSaid → Production MemberSaid
   behind_member m = given_value home >>= (λ value. gives (field_said m value))
 
-  pub field_member_stop : (s r : Tokens) (stop : Stop) → StopsIn NoToken (member home any before) s r stop
+  pub field_member_stop : (s r : Tokens) (stop : ReadStop) → StopsIn NoToken (member home any before) s r stop
       → StopsIn Equals (field home before) s r stop
   field_member_stop s r stop k = stops_first Equals (member home any before) behind_member s r stop k
 
-  pub field_value_stop : (m : MemberSaid) (s a r : Tokens) (stop : Stop) → (member home any before).whole m s a
+  pub field_value_stop : (m : MemberSaid) (s a r : Tokens) (stop : ReadStop) → (member home any before).whole m s a
       → StopsIn Equals (given_value home) a r stop → StopsIn Equals (field home before) s r stop
   field_value_stop m s a r stop h k =
       stops_behind Equals (member home any before) behind_member (member_firm home any before) m s a r stop h

@@ -6,7 +6,7 @@ use Rattle.sm_model.specs.declared.raw.RawNode.{RawNode}
 use Rattle.sm_idl.specs.Productions.{Tokens, Production, ◌or◌}
 use Rattle.sm_idl.specs.Words.{mark, key}
 use Rattle.sm_idl.specs.Nodes.{Home, leaf, Pair, pair_names, pair_of, object_of, list_of, node}
-use Rattle.sm_idl.specs.declared.reader.Stop.{Stop}
+use Rattle.sm_idl.specs.declared.reader.ReadStop.{ReadStop}
 use Rattle.sm_idl.specs.steps.ReaderView.{NoToken, StopsIn, ReadsAs}
 use Rattle.sm_idl.specs.steps.Firm.{Class, HeadIs, AreApart, IsFirm}
 use Rattle.sm_idl.specs.steps.Classes.{Either, AMark, NoMark, NodeStart}
@@ -20,17 +20,17 @@ use Rattle.sm_idl.proofs.Choosing.{left_stop, right_stop}
 
 -- pairs
 
-pub stops_at_key : (value : Production Raw) (before : List Pair) (s r : Tokens) (stop : Stop)
+pub stops_at_key : (value : Production Raw) (before : List Pair) (s r : Tokens) (stop : ReadStop)
     → StopsIn NoToken (key (pair_names before)) s r stop → StopsIn NoToken (pair_of value before) s r stop
 stops_at_key value before s r stop k = stops_first NoToken (key (pair_names before)) _ s r stop k
 
-pub stops_at_colon : (value : Production Raw) (before : List Pair) (k : List ℕ) (s a r : Tokens) (stop : Stop)
+pub stops_at_colon : (value : Production Raw) (before : List Pair) (k : List ℕ) (s a r : Tokens) (stop : ReadStop)
     → (key (pair_names before)).whole k s a → StopsIn NoToken (mark (codes ":")) a r stop → StopsIn NoToken (pair_of value before) s r stop
 stops_at_colon value before k s a r stop h m =
     stops_behind NoToken (key (pair_names before)) _ (key_firm (pair_names before)) k s a r stop h
     (stops_first NoToken (mark (codes ":")) _ a r stop m)
 
-pub stops_at_value : (value : Production Raw) (before : List Pair) (k : List ℕ) (s a b r : Tokens) (stop : Stop)
+pub stops_at_value : (value : Production Raw) (before : List Pair) (k : List ℕ) (s a b r : Tokens) (stop : ReadStop)
     → (key (pair_names before)).whole k s a → (mark (codes ":")).whole tt a b → StopsIn NoToken value b r stop
     → StopsIn NoToken (pair_of value before) s r stop
 stops_at_value value before k s a b r stop h m v =
@@ -71,7 +71,8 @@ module _ (home : Option Home) (n : ℕ) where
       (firm_or (AMark (codes "{")) (AMark (codes "[")) NoToken NoToken (object_of (node home n)) (list_of (node home n)) objects lists
       braces_no_brackets)
 
-  pub leaf_node : (s r : Tokens) (result : Result RawNode Stop) → (HeadIs (AMark (codes "{")) s → ⊥) → (HeadIs (AMark (codes "[")) s → ⊥)
+  pub leaf_node : (s r : Tokens) (result : Result RawNode ReadStop) → (HeadIs (AMark (codes "{")) s → ⊥)
+      → (HeadIs (AMark (codes "[")) s → ⊥)
       → ReadsAs raw_view (leaf home) s r result → ReadsAs raw_view (node home (suc n)) s r result
   unfolding node
   leaf_node s r (Ok v) h k m = inl m
@@ -79,7 +80,7 @@ module _ (home : Option Home) (n : ℕ) where
       left_stop NoMark Opener NoToken NoToken (leaf home) (object_of (node home n) or list_of (node home n)) (leaf_firm home) brackets
       leaf_no_opener s r stop (no_opener s h k) m
 
-  pub object_node : (s r : Tokens) (result : Result RawNode Stop) → HeadIs (AMark (codes "{")) s
+  pub object_node : (s r : Tokens) (result : Result RawNode ReadStop) → HeadIs (AMark (codes "{")) s
       → ReadsAs raw_view (object_of (node home n)) s r result → ReadsAs raw_view (node home (suc n)) s r result
   unfolding node
   object_node s r (Ok v) here m = inr (inl m)
@@ -89,7 +90,7 @@ module _ (home : Option Home) (n : ℕ) where
       (left_stop (AMark (codes "{")) (AMark (codes "[")) NoToken NoToken (object_of (node home n)) (list_of (node home n)) objects lists
       braces_no_brackets s r stop (λ k. head_apart (AMark (codes "{")) (AMark (codes "[")) s braces_no_brackets here k) m)
 
-  pub list_node : (s r : Tokens) (result : Result RawNode Stop) → HeadIs (AMark (codes "[")) s
+  pub list_node : (s r : Tokens) (result : Result RawNode ReadStop) → HeadIs (AMark (codes "[")) s
       → ReadsAs raw_view (list_of (node home n)) s r result → ReadsAs raw_view (node home (suc n)) s r result
   unfolding node
   list_node s r (Ok v) here m = inr (inr m)
@@ -100,7 +101,7 @@ module _ (home : Option Home) (n : ℕ) where
       (turned _ _ braces_no_brackets) s r stop (λ k. head_apart (AMark (codes "{")) (AMark (codes "[")) s braces_no_brackets k here) m)
 
 -- with no level left, a node is a leaf
-pub flat_node : (home : Option Home) (s r : Tokens) (result : Result RawNode Stop) → ReadsAs raw_view (leaf home) s r result
+pub flat_node : (home : Option Home) (s r : Tokens) (result : Result RawNode ReadStop) → ReadsAs raw_view (leaf home) s r result
     → ReadsAs raw_view (node home zero) s r result
 unfolding node
 flat_node home s r (Ok v) m = m

@@ -25,7 +25,7 @@ use Rattle.sm_idl.specs.Bodies.{Suffixes, PartSaid, part_names, part_word, part_
 use Rattle.sm_idl.specs.Bodies.{part_shape, part_errors, part}
 use Rattle.sm_idl.specs.Shapes.{part_pairs}
 use Rattle.sm_idl.specs.declared.operations.Part.{Part}
-use Rattle.sm_idl.specs.declared.reader.Stop.{Stop}
+use Rattle.sm_idl.specs.declared.reader.ReadStop.{ReadStop}
 use Rattle.sm_idl.specs.steps.Classes.{Either, AMark, AWord, AnyWord, TraitGoesOn, Brace, With}
 use Rattle.sm_idl.specs.steps.Firm.{Class, HeadIs, AreApart, IsFirm}
 use Rattle.sm_idl.specs.steps.Names.{Remembers}
@@ -56,7 +56,7 @@ part_seen set before name p e h =
 pub read_seen : {V : Type 0} (view : V → PartSaid) (P : Production PartSaid) (name : List ℕ)
     → ((p : PartSaid) (s r : Tokens) → P.whole p s r → p.name ≡ name)
     → (set : BTreeSet (String Global)) (before : List PartSaid) (s r : Tokens)
-    (result : Result V Stop) → ReadsAs view P s r result → Remembers set (part_names before ++ name ∷ [])
+    (result : Result V ReadStop) → ReadsAs view P s r result → Remembers set (part_names before ++ name ∷ [])
     → IfOk result (λ part. Remembers set (part_names (before ++ view part ∷ [])))
 read_seen view P name named set before s r (Ok v) h k = part_seen set before name (view v) (named (view v) s r h) k
 read_seen view P name named set before s r (Err stop) h k = tt
@@ -74,11 +74,11 @@ module _ (home : Home) where
   abbrev behind_target : List ℕ → List ℕ → Production PartSaid
   behind_target name w = gives (target_said home name w)
 
-  pub target_colon_stop : (name : List ℕ) (s r : Tokens) (stop : Stop) → StopsIn NoToken (mark (codes ":")) s r stop
+  pub target_colon_stop : (name : List ℕ) (s r : Tokens) (stop : ReadStop) → StopsIn NoToken (mark (codes ":")) s r stop
       → StopsIn NoToken (part_target home name) s r stop
   target_colon_stop name s r stop k = stops_first NoToken (mark (codes ":")) _ s r stop k
 
-  pub target_id_stop : (name : List ℕ) (s a r : Tokens) (stop : Stop) → (mark (codes ":")).whole tt s a → StopsIn NoToken id a r stop
+  pub target_id_stop : (name : List ℕ) (s a r : Tokens) (stop : ReadStop) → (mark (codes ":")).whole tt s a → StopsIn NoToken id a r stop
       → StopsIn NoToken (part_target home name) s r stop
   target_id_stop name s a r stop h k =
       stops_behind NoToken (mark (codes ":")) _ (mark_firm (codes ":")) tt s a r stop h
@@ -102,20 +102,20 @@ module _ (home : Home) where
     traits_rest : (ts : List TraitSaid) → IsFirm ⊥ (Either With Brace) NoToken (behind_traits ts)
     traits_rest ts = front_firm (mixins home) (behind_mixins ts) (mixins_firm home) (mixins_rest ts) with_no_brace
 
-    pub inline_traits_stop : (s r : Tokens) (stop : Stop) → StopsIn TraitGoesOn (traits home) s r stop
+    pub inline_traits_stop : (s r : Tokens) (stop : ReadStop) → StopsIn TraitGoesOn (traits home) s r stop
         → StopsIn NoToken (inline_with home structure name docs) s r stop
     inline_traits_stop s r stop k = stops_in_row (traits home) behind_traits traits_rest traits_no_body s r stop k
 
-    past_inline_traits : (ts : List TraitSaid) (s a r : Tokens) (stop : Stop) → IsRead TraitGoesOn (traits home) ts s a
+    past_inline_traits : (ts : List TraitSaid) (s a r : Tokens) (stop : ReadStop) → IsRead TraitGoesOn (traits home) ts s a
         → StopsIn NoToken (behind_traits ts) a r stop → StopsIn NoToken (inline_with home structure name docs) s r stop
     past_inline_traits ts s a r stop m k = stops_past_row (traits home) behind_traits traits_rest traits_no_body ts s a r stop m k
 
-    pub inline_mixins_stop : (ts : List TraitSaid) (s a r : Tokens) (stop : Stop) → IsRead TraitGoesOn (traits home) ts s a
+    pub inline_mixins_stop : (ts : List TraitSaid) (s a r : Tokens) (stop : ReadStop) → IsRead TraitGoesOn (traits home) ts s a
         → StopsIn With (mixins home) a r stop → StopsIn NoToken (inline_with home structure name docs) s r stop
     inline_mixins_stop ts s a r stop m k =
         past_inline_traits ts s a r stop m (stops_in_row (mixins home) (behind_mixins ts) (mixins_rest ts) with_no_brace a r stop k)
 
-    pub inline_members_stop : (ts : List TraitSaid) (mixed : List Ref) (s a b r : Tokens) (stop : Stop)
+    pub inline_members_stop : (ts : List TraitSaid) (mixed : List Ref) (s a b r : Tokens) (stop : ReadStop)
         → IsRead TraitGoesOn (traits home) ts s a → IsRead With (mixins home) mixed a b
         → StopsIn NoToken (members any (field home)) b r stop
         → StopsIn NoToken (inline_with home structure name docs) s r stop
@@ -132,7 +132,7 @@ module _ (home : Home) where
         (ts, a, read_whole (traits home) ts s a m, (mixed, b, read_whole (mixins home) mixed a b n, (ms, r, k, (e, refl))))
 
   module _ (operation : List ℕ) (suffix : Option (List ℕ)) (name : List ℕ) where
-    pub inline_name_stop : (s r : Tokens) (stop : Stop) → StopsIn NoToken (inline_name operation suffix) s r stop
+    pub inline_name_stop : (s r : Tokens) (stop : ReadStop) → StopsIn NoToken (inline_name operation suffix) s r stop
         → StopsIn NoToken (part_inline home operation suffix name) s r stop
     inline_name_stop s r stop k = stops_first NoToken (inline_name operation suffix) _ s r stop k
 
@@ -147,11 +147,11 @@ module _ (home : Home) where
     either_firm = firm_or (AMark (codes ":")) (AMark (codes ":=")) NoToken NoToken (part_target home name)
         (part_inline home operation suffix name) (target_firm home name) (inline_firm home operation suffix name) colons_apart
 
-    pub shape_word_stop : (before : List PartSaid) (s r : Tokens) (stop : Stop) → StopsIn NoToken (part_word name before) s r stop
+    pub shape_word_stop : (before : List PartSaid) (s r : Tokens) (stop : ReadStop) → StopsIn NoToken (part_word name before) s r stop
         → StopsIn NoToken (part_shape home operation suffix name before) s r stop
     shape_word_stop before s r stop k = stops_first NoToken (part_word name before) (λ _. either) s r stop k
 
-    pub shape_target : {V : Type 0} (view : V → PartSaid) (before : List PartSaid) (s a r : Tokens) (result : Result V Stop)
+    pub shape_target : {V : Type 0} (view : V → PartSaid) (before : List PartSaid) (s a r : Tokens) (result : Result V ReadStop)
         → (part_word name before).whole tt s a → HeadIs (AMark (codes ":")) a → ReadsAs view (part_target home name) a r result
         → ReadsAs view (part_shape home operation suffix name before) s r result
     shape_target view before s a r result h here k =
@@ -160,7 +160,7 @@ module _ (home : Home) where
         (target_firm home name) (inline_firm home operation suffix name) colons_apart a r result
         (λ m. head_apart (AMark (codes ":")) (AMark (codes ":=")) a colons_apart here m) k)
 
-    pub shape_inline : {V : Type 0} (view : V → PartSaid) (before : List PartSaid) (s a r : Tokens) (result : Result V Stop)
+    pub shape_inline : {V : Type 0} (view : V → PartSaid) (before : List PartSaid) (s a r : Tokens) (result : Result V ReadStop)
         → (part_word name before).whole tt s a → (HeadIs (AMark (codes ":")) a → ⊥)
         → ReadsAs view (part_inline home operation suffix name) a r result
         → ReadsAs view (part_shape home operation suffix name before) s r result
@@ -187,35 +187,35 @@ module _ (home : Home) where
     abbrev errors_word : Production Unit
     errors_word = part_word (codes "errors") before
 
-    pub errors_word_stop : (s r : Tokens) (stop : Stop) → StopsIn NoToken errors_word s r stop
+    pub errors_word_stop : (s r : Tokens) (stop : ReadStop) → StopsIn NoToken errors_word s r stop
         → StopsIn NoToken (part_errors home before) s r stop
     errors_word_stop s r stop k = stops_first NoToken errors_word _ s r stop k
 
-    pub errors_colon_stop : (s a r : Tokens) (stop : Stop) → errors_word.whole tt s a → StopsIn NoToken (mark (codes ":")) a r stop
+    pub errors_colon_stop : (s a r : Tokens) (stop : ReadStop) → errors_word.whole tt s a → StopsIn NoToken (mark (codes ":")) a r stop
         → StopsIn NoToken (part_errors home before) s r stop
     errors_colon_stop s a r stop h k =
         stops_behind NoToken errors_word _ (part_word_firm (codes "errors") before) tt s a r stop h
         (stops_first NoToken (mark (codes ":")) (λ _. listed) a r stop k)
 
-    past_colon : (s a b r : Tokens) (stop : Stop) → errors_word.whole tt s a → (mark (codes ":")).whole tt a b
+    past_colon : (s a b r : Tokens) (stop : ReadStop) → errors_word.whole tt s a → (mark (codes ":")).whole tt a b
         → StopsIn NoToken listed b r stop → StopsIn NoToken (part_errors home before) s r stop
     past_colon s a b r stop h colon k =
         stops_behind NoToken errors_word _ (part_word_firm (codes "errors") before) tt s a r stop h
         (stops_behind NoToken (mark (codes ":")) (λ _. listed) (mark_firm (codes ":")) tt a b r stop colon k)
 
-    pub errors_open_stop : (s a b r : Tokens) (stop : Stop) → errors_word.whole tt s a → (mark (codes ":")).whole tt a b
+    pub errors_open_stop : (s a b r : Tokens) (stop : ReadStop) → errors_word.whole tt s a → (mark (codes ":")).whole tt a b
         → StopsIn NoToken (mark (codes "[")) b r stop → StopsIn NoToken (part_errors home before) s r stop
     errors_open_stop s a b r stop h colon k =
         past_colon s a b r stop h colon
         (bracketed.stops_at_opener (codes "[") (codes "]") AnyWord (many id) errors_made word_no_bracket b r stop k)
 
-    pub errors_ids_stop : (s a b c r : Tokens) (stop : Stop) → errors_word.whole tt s a → (mark (codes ":")).whole tt a b
+    pub errors_ids_stop : (s a b c r : Tokens) (stop : ReadStop) → errors_word.whole tt s a → (mark (codes ":")).whole tt a b
         → (mark (codes "[")).whole tt b c → StopsIn AnyWord (many id) c r stop → StopsIn NoToken (part_errors home before) s r stop
     errors_ids_stop s a b c r stop h colon o k =
         past_colon s a b r stop h colon
         (bracketed.stops_between (codes "[") (codes "]") AnyWord (many id) errors_made word_no_bracket b c r stop o k)
 
-    pub errors_close_stop : (ws : List (List ℕ)) (s a b c d r : Tokens) (stop : Stop) → errors_word.whole tt s a
+    pub errors_close_stop : (ws : List (List ℕ)) (s a b c d r : Tokens) (stop : ReadStop) → errors_word.whole tt s a
         → (mark (codes ":")).whole tt a b → (mark (codes "[")).whole tt b c → IsRead AnyWord (many id) ws c d
         → StopsIn NoToken (mark (codes "]")) d r stop → StopsIn NoToken (part_errors home before) s r stop
     errors_close_stop ws s a b c d r stop h colon o m k =
@@ -273,7 +273,7 @@ module _ (home : Home) where
         (firm_or (AWord (codes "output")) (AWord (codes "errors")) NoToken NoToken outputs (part_errors home before) outputs_firm
         (errors_firm home before) no_output)
 
-    module _ {V : Type 0} (view : V → PartSaid) (s r : Tokens) (result : Result V Stop) where
+    module _ {V : Type 0} (view : V → PartSaid) (s r : Tokens) (result : Result V ReadStop) where
       pub part_input : HeadIs (AWord (codes "input")) s → ReadsAs view inputs s r result
           → ReadsAs view (part home endings operation before) s r result
       part_input here k =
@@ -342,7 +342,7 @@ module _ (home : Home) where
     parts_read ps pairs defined s a (g, h, i) none =
         (ps, g, h, ended_read AnyWord (part home endings operation) (part_firm home endings operation) [] ps s a i none)
 
-    pub parts_stop : (ps : List PartSaid) (pairs : List (List ℕ × RawNode)) (defined : List Statement) (s a r : Tokens) (stop : Stop)
+    pub parts_stop : (ps : List PartSaid) (pairs : List (List ℕ × RawNode)) (defined : List Statement) (s a r : Tokens) (stop : ReadStop)
         → PartsSoFar pairs defined ps s a → HeadIs AnyWord a → StopsIn NoToken (part home endings operation ps) a r stop
         → StopsIn AnyWord (each (part home endings operation)) s r stop
     parts_stop ps pairs defined s a r stop (g, h, i) here k =

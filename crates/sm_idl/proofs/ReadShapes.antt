@@ -22,7 +22,7 @@ use Rattle.sm_idl.specs.Bodies.{Suffixes, PartSaid, part, property, braced_pairs
 use Rattle.sm_idl.specs.Shapes.{type_word, BodySaid, simple_body, members_body, part_pairs, operation_body, pairs_body, body, stated_shape}
 use Rattle.sm_idl.specs.Shapes.{shape_with, shape, apply_item, item}
 use Rattle.sm_idl.specs.declared.members.MemberKind.{MemberKind}
-use Rattle.sm_idl.specs.declared.reader.Stop.{Stop}
+use Rattle.sm_idl.specs.declared.reader.ReadStop.{ReadStop}
 use Rattle.sm_idl.specs.steps.Classes.{Either, AMark, AnyWord, TraitGoesOn, Brace, With, Paren}
 use Rattle.sm_idl.specs.steps.FileClasses.{TypeWord, ShapeStart, Apply, ItemStart, ItemGoesOn, ItemsGoOn}
 use Rattle.sm_idl.specs.steps.Firm.{HeadIs, AreApart, IsFirm}
@@ -61,7 +61,7 @@ module _ (home : Home) where
   abbrev simple_made : List Ref → BodySaid
   simple_made mixed = record { members = []; mixins = mixed; properties = empty_raw; defined = [] }
 
-  pub simple_stop : (s r : Tokens) (stop : Stop) → StopsIn With (mixins home) s r stop → StopsIn With (simple_body home) s r stop
+  pub simple_stop : (s r : Tokens) (stop : ReadStop) → StopsIn With (mixins home) s r stop → StopsIn With (simple_body home) s r stop
   simple_stop s r stop k = value_stop With (mixins home) simple_made s r stop k
 
   pub simple_read : (mixed : List Ref) (b : BodySaid) (s r : Tokens) → b ≡ simple_made mixed → IsRead With (mixins home) mixed s r
@@ -86,11 +86,11 @@ module _ (home : Home) where
     pub members_body_firm : IsFirm ⊥ (Either With Brace) NoToken (members_body home (form_of kind) (entry home kind))
     members_body_firm = front_firm (mixins home) behind_mixins (mixins_firm home) mixins_rest with_no_brace
 
-    pub mixed_stop : (s r : Tokens) (stop : Stop) → StopsIn With (mixins home) s r stop
+    pub mixed_stop : (s r : Tokens) (stop : ReadStop) → StopsIn With (mixins home) s r stop
         → StopsIn NoToken (members_body home (form_of kind) (entry home kind)) s r stop
     mixed_stop s r stop k = stops_in_row (mixins home) behind_mixins mixins_rest with_no_brace s r stop k
 
-    pub braced_stop : (mixed : List Ref) (s a r : Tokens) (stop : Stop) → IsRead With (mixins home) mixed s a
+    pub braced_stop : (mixed : List Ref) (s a r : Tokens) (stop : ReadStop) → IsRead With (mixins home) mixed s a
         → StopsIn NoToken braced a r stop → StopsIn NoToken (members_body home (form_of kind) (entry home kind)) s r stop
     braced_stop mixed s a r stop m k =
         stops_past_row (mixins home) behind_mixins mixins_rest with_no_brace mixed s a r stop m (stops_first NoToken braced _ a r stop k)
@@ -118,16 +118,16 @@ module _ (home : Home) where
         front_firm all_parts _ (row_firm (part home endings name) [] (part_firm home endings name)) (λ ps.
         given_firm (mark (codes "}")) (λ _. _) (mark_firm (codes "}"))) word_no_brace)
 
-    pub operation_open : (s r : Tokens) (stop : Stop) → StopsIn NoToken (mark (codes "{")) s r stop
+    pub operation_open : (s r : Tokens) (stop : ReadStop) → StopsIn NoToken (mark (codes "{")) s r stop
         → StopsIn NoToken (operation_body home endings name) s r stop
     operation_open s r stop k = bracketed.stops_at_opener (codes "{") (codes "}") AnyWord all_parts operation_made word_no_brace s r stop k
 
-    pub operation_within : (s a r : Tokens) (stop : Stop) → (mark (codes "{")).whole tt s a → StopsIn AnyWord all_parts a r stop
+    pub operation_within : (s a r : Tokens) (stop : ReadStop) → (mark (codes "{")).whole tt s a → StopsIn AnyWord all_parts a r stop
         → StopsIn NoToken (operation_body home endings name) s r stop
     operation_within s a r stop h k =
         bracketed.stops_between (codes "{") (codes "}") AnyWord all_parts operation_made word_no_brace s a r stop h k
 
-    pub operation_close : (ps : List PartSaid) (s a b r : Tokens) (stop : Stop) → (mark (codes "{")).whole tt s a
+    pub operation_close : (ps : List PartSaid) (s a b r : Tokens) (stop : ReadStop) → (mark (codes "{")).whole tt s a
         → IsRead AnyWord all_parts ps a b → StopsIn NoToken (mark (codes "}")) b r stop
         → StopsIn NoToken (operation_body home endings name) s r stop
     operation_close ps s a b r stop h m k =
@@ -155,7 +155,7 @@ module _ (home : Home) where
     pairs_body_firm = given_firm (braced_pairs (property home (property_forms kind))) (λ properties. _)
         (braced_pairs_firm (property home (property_forms kind)) (property_firm home (property_forms kind)))
 
-    pub pairs_body_stop : (s r : Tokens) (stop : Stop) → StopsIn NoToken (braced_pairs (property home (property_forms kind))) s r stop
+    pub pairs_body_stop : (s r : Tokens) (stop : ReadStop) → StopsIn NoToken (braced_pairs (property home (property_forms kind))) s r stop
         → StopsIn NoToken (pairs_body home kind) s r stop
     pairs_body_stop s r stop k = value_stop NoToken (braced_pairs (property home (property_forms kind))) pairs_made s r stop k
 
@@ -190,7 +190,7 @@ body_is home endings Service name = refl
 body_is home endings Resource name = refl
 
 pub from_form : {V : Type 0} (home : Home) (endings : Suffixes) (kind : Kind) (name : List ℕ) (view : V → BodySaid) (s r : Tokens)
-    (result : Result V Stop) → ReadsOn With view (body_by home endings kind name (body_form kind)) s r result
+    (result : Result V ReadStop) → ReadsOn With view (body_by home endings kind name (body_form kind)) s r result
     → ReadsOn With view (body home endings kind name) s r result
 from_form home endings kind name view s r (Ok v) h = subst (λ P. IsRead With P (view v) s r) (sym (body_is home endings kind name)) h
 from_form home endings kind name view s r (Err stop) h = subst (λ P. StopsIn With P s r stop) (sym (body_is home endings kind name)) h
@@ -213,26 +213,26 @@ module _ (home : Home) (endings : Suffixes) where
     traits_rest : (ts : List TraitSaid) → IsFirm ⊥ TypeWord With (behind_traits ts)
     traits_rest ts = behind_type_firm home endings docs ts
 
-    pub shape_traits_stop : (s r : Tokens) (stop : Stop) → StopsIn TraitGoesOn (traits home) s r stop
+    pub shape_traits_stop : (s r : Tokens) (stop : ReadStop) → StopsIn TraitGoesOn (traits home) s r stop
         → StopsIn With (shape_with home endings docs) s r stop
     shape_traits_stop s r stop k = stops_in_row (traits home) behind_traits traits_rest type_no_trait s r stop k
 
-    past_traits : (ts : List TraitSaid) (s a r : Tokens) (stop : Stop) → IsRead TraitGoesOn (traits home) ts s a
+    past_traits : (ts : List TraitSaid) (s a r : Tokens) (stop : ReadStop) → IsRead TraitGoesOn (traits home) ts s a
         → StopsIn With (behind_traits ts) a r stop → StopsIn With (shape_with home endings docs) s r stop
     past_traits ts s a r stop m k = stops_past_row (traits home) behind_traits traits_rest type_no_trait ts s a r stop m k
 
-    pub shape_type_stop : (ts : List TraitSaid) (s a r : Tokens) (stop : Stop) → IsRead TraitGoesOn (traits home) ts s a
+    pub shape_type_stop : (ts : List TraitSaid) (s a r : Tokens) (stop : ReadStop) → IsRead TraitGoesOn (traits home) ts s a
         → StopsIn NoToken type_word a r stop → StopsIn With (shape_with home endings docs) s r stop
     shape_type_stop ts s a r stop m k = past_traits ts s a r stop m (stops_first With type_word (behind_type ts) a r stop k)
 
-    pub shape_name_stop : (ts : List TraitSaid) (kind : Kind) (s a b r : Tokens) (stop : Stop) → IsRead TraitGoesOn (traits home) ts s a
+    pub shape_name_stop : (ts : List TraitSaid) (kind : Kind) (s a b r : Tokens) (stop : ReadStop) → IsRead TraitGoesOn (traits home) ts s a
         → type_word.whole kind a b → StopsIn NoToken identifier b r stop → StopsIn With (shape_with home endings docs) s r stop
     shape_name_stop ts kind s a b r stop m h k =
         past_traits ts s a r stop m
         (stops_behind With type_word (behind_type ts) type_word_firm kind a b r stop h
         (stops_first With identifier (behind_name ts kind) b r stop k))
 
-    pub shape_body_stop : (ts : List TraitSaid) (kind : Kind) (name : List ℕ) (s a b c r : Tokens) (stop : Stop)
+    pub shape_body_stop : (ts : List TraitSaid) (kind : Kind) (name : List ℕ) (s a b c r : Tokens) (stop : ReadStop)
         → IsRead TraitGoesOn (traits home) ts s a → type_word.whole kind a b → identifier.whole name b c
         → StopsIn With (body home endings kind name) c r stop → StopsIn With (shape_with home endings docs) s r stop
     shape_body_stop ts kind name s a b c r stop m h i k =
@@ -254,7 +254,7 @@ module _ (home : Home) (endings : Suffixes) where
           (value_read (body home endings kind name) (statements_of kind name (docs ++ ts)) w c r k))),
     )
 
-  pub shape_documented : (d : Option (List ℕ)) (ts : List TraitSaid) (old new : List Said) (s r : Tokens) (result : Result Unit Stop)
+  pub shape_documented : (d : Option (List ℕ)) (ts : List TraitSaid) (old new : List Said) (s r : Tokens) (result : Result Unit ReadStop)
       → ts ≡ docs_trait d → DocsBefore s d → AddsSaid With (shape_with home endings ts) old new s r result
       → AddsSaid With (shape home endings) old new s r result
   shape_documented d ts old new s r (Ok x) e h (ss, f, k) = (
@@ -274,7 +274,7 @@ module _ (home : Home) (endings : Suffixes) where
   paren_goes_on : (t : _) → Paren t → ItemGoesOn t
   paren_goes_on t h = inr h
 
-  pub item_shape : (old new : List Said) (s r : Tokens) (result : Result Unit Stop) → (HeadIs Apply s → ⊥)
+  pub item_shape : (old new : List Said) (s r : Tokens) (result : Result Unit ReadStop) → (HeadIs Apply s → ⊥)
       → AddsSaid With (shape home endings) old new s r result → AddsSaid ItemGoesOn (item home endings) old new s r result
   item_shape old new s r (Ok x) none (ss, f, k) = (
     ss,
@@ -298,7 +298,7 @@ module _ (home : Home) (endings : Suffixes) where
         (turned _ _ shape_no_apply) (said ∷ []) s r (value_read (apply home) (λ x. x ∷ []) said s r k)),
   )
 
-  pub item_apply_stop : (s r : Tokens) (stop : Stop) → HeadIs Apply s → StopsIn Paren (apply home) s r stop
+  pub item_apply_stop : (s r : Tokens) (stop : ReadStop) → HeadIs Apply s → StopsIn Paren (apply home) s r stop
       → StopsIn ItemGoesOn (item home endings) s r stop
   item_apply_stop s r stop here k =
       stop_wider (item home endings) s r stop paren_goes_on
@@ -339,7 +339,7 @@ module _ (home : Home) (endings : Suffixes) where
   items_read old new s a (sss, e, i) none =
       (sss, e, row_read ItemStart ItemGoesOn (λ _. item home endings) (λ _. item_firm home endings) item_apart [] sss s a i none)
 
-  pub items_stop : (old new : List Said) (s a r : Tokens) (stop : Stop) → ItemsSoFar old new s a → HeadIs ItemStart a
+  pub items_stop : (old new : List Said) (s a r : Tokens) (stop : ReadStop) → ItemsSoFar old new s a → HeadIs ItemStart a
       → StopsIn ItemGoesOn (item home endings) a r stop → StopsIn ItemsGoOn (many (item home endings)) s r stop
   items_stop old new s a r stop (sss, e, i) here k =
       row_stop ItemStart ItemGoesOn (λ _. item home endings) (λ _. item_firm home endings) item_apart [] sss s a r stop i here k

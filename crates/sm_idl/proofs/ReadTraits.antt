@@ -8,7 +8,7 @@ use Rattle.sm_idl.specs.Productions.{Tokens, Production, gives, ◌>>=◌, ◌or
 use Rattle.sm_idl.specs.Words.{IsWordId, mark, the_word, id}
 use Rattle.sm_idl.specs.Nodes.{Home, written, Pair, pair_of, as_object}
 use Rattle.sm_idl.specs.Traits.{node_in, pairs_or_node, arguments, argument_value, applied, traits, one_trait, braced_traits, apply}
-use Rattle.sm_idl.specs.declared.reader.Stop.{Stop}
+use Rattle.sm_idl.specs.declared.reader.ReadStop.{ReadStop}
 use Rattle.sm_idl.specs.steps.ReaderView.{NoToken, StopsIn, ReadsAs, ReadsOn}
 use Rattle.sm_idl.specs.steps.Firm.{HeadIs, AreApart, IsFirm}
 use Rattle.sm_idl.specs.steps.Classes.{AMark, NoMark, NodeStart, PairGoesOn, PairAhead, At, Paren, TraitGoesOn, ArgumentGoesOn}
@@ -40,7 +40,7 @@ module _ (home : Home) where
       choosing.some_read NodeStart PairGoesOn (pairs_or_node home) firm (as_object xs) s r
       (pairs_read (Some home) most_levels xs s r ahead m)
 
-  pub argument_pairs_stop : (s r : Tokens) (stop : Stop) → PairAhead (Some home) s
+  pub argument_pairs_stop : (s r : Tokens) (stop : ReadStop) → PairAhead (Some home) s
       → StopsIn NoMark (each (pair_of (node_in home))) s r stop → StopsIn ArgumentGoesOn (maybe (pairs_or_node home)) s r stop
   argument_pairs_stop s r stop ahead k =
       choosing.some_stop NodeStart PairGoesOn (pairs_or_node home) firm s r stop (pair_starts (Some home) s ahead)
@@ -52,7 +52,7 @@ module _ (home : Home) where
       choosing.some_read NodeStart PairGoesOn (pairs_or_node home) firm n s r
       (node_read (Some home) most_levels n s r none (whole_read (node_in home) (node_in_firm home) n s r h))
 
-  pub argument_node_stop : (s r : Tokens) (stop : Stop) → HeadIs NodeStart s → (PairAhead (Some home) s → ⊥)
+  pub argument_node_stop : (s r : Tokens) (stop : ReadStop) → HeadIs NodeStart s → (PairAhead (Some home) s → ⊥)
       → StopsIn NoToken (node_in home) s r stop → StopsIn ArgumentGoesOn (maybe (pairs_or_node home)) s r stop
   argument_node_stop s r stop here none k =
       choosing.some_stop NodeStart PairGoesOn (pairs_or_node home) firm s r stop here (node_stop (Some home) most_levels s r stop none k)
@@ -67,14 +67,15 @@ module _ (home : Home) where
   argument_apart = either_apart _ _ _ (node_apart (codes ")") (marks_unlike (codes "{") (codes ")") refl) (marks_unlike (codes "[")
       (codes ")") refl)) (either_apart _ _ _ (marks_unlike (codes ":") (codes ")") refl) (turned _ _ (mark_no_leaf (codes ")"))))
 
-  pub parens_open : (s r : Tokens) (stop : Stop) → StopsIn NoToken (mark (codes "(")) s r stop → StopsIn NoToken (arguments home) s r stop
+  pub parens_open : (s r : Tokens) (stop : ReadStop) → StopsIn NoToken (mark (codes "(")) s r stop
+      → StopsIn NoToken (arguments home) s r stop
   parens_open s r stop k = stops_at_opener (codes "(") (codes ")") ArgumentGoesOn between_parens kept argument_apart s r stop k
 
-  pub parens_within : (s a r : Tokens) (stop : Stop) → (mark (codes "(")).whole tt s a → StopsIn ArgumentGoesOn between_parens a r stop
+  pub parens_within : (s a r : Tokens) (stop : ReadStop) → (mark (codes "(")).whole tt s a → StopsIn ArgumentGoesOn between_parens a r stop
       → StopsIn NoToken (arguments home) s r stop
   parens_within s a r stop h k = stops_between (codes "(") (codes ")") ArgumentGoesOn between_parens kept argument_apart s a r stop h k
 
-  pub parens_close : (v : Option Raw) (s a b r : Tokens) (stop : Stop) → (mark (codes "(")).whole tt s a
+  pub parens_close : (v : Option Raw) (s a b r : Tokens) (stop : ReadStop) → (mark (codes "(")).whole tt s a
       → IsRead ArgumentGoesOn between_parens v a b → StopsIn NoToken (mark (codes ")")) b r stop → StopsIn NoToken (arguments home) s r stop
   parens_close v s a b r stop h m k =
       stops_at_close (codes "(") (codes ")") ArgumentGoesOn between_parens kept argument_apart v s a b r stop h m k
@@ -86,15 +87,15 @@ module _ (home : Home) where
   traits_apart : AreApart TraitGoesOn (AMark (codes "}"))
   traits_apart = either_apart _ _ _ (marks_unlike (codes "@") (codes "}") refl) (marks_unlike (codes "(") (codes "}") refl)
 
-  pub braces_open : (s r : Tokens) (stop : Stop) → StopsIn NoToken (mark (codes "{")) s r stop
+  pub braces_open : (s r : Tokens) (stop : ReadStop) → StopsIn NoToken (mark (codes "{")) s r stop
       → StopsIn NoToken (braced_traits home) s r stop
   braces_open s r stop k = stops_at_opener (codes "{") (codes "}") TraitGoesOn (traits home) all traits_apart s r stop k
 
-  pub braces_within : (s a r : Tokens) (stop : Stop) → (mark (codes "{")).whole tt s a → StopsIn TraitGoesOn (traits home) a r stop
+  pub braces_within : (s a r : Tokens) (stop : ReadStop) → (mark (codes "{")).whole tt s a → StopsIn TraitGoesOn (traits home) a r stop
       → StopsIn NoToken (braced_traits home) s r stop
   braces_within s a r stop h k = stops_between (codes "{") (codes "}") TraitGoesOn (traits home) all traits_apart s a r stop h k
 
-  pub braces_close : (ts : List TraitSaid) (s a b r : Tokens) (stop : Stop) → (mark (codes "{")).whole tt s a
+  pub braces_close : (ts : List TraitSaid) (s a b r : Tokens) (stop : ReadStop) → (mark (codes "{")).whole tt s a
       → IsRead TraitGoesOn (traits home) ts a b → StopsIn NoToken (mark (codes "}")) b r stop
       → StopsIn NoToken (braced_traits home) s r stop
   braces_close ts s a b r stop h m k =
@@ -118,7 +119,7 @@ module _ (home : Home) where
       (choosing.some_read Paren NoToken (arguments home) (arguments_firm home) v s r
       (whole_read (arguments home) (arguments_firm home) v s r h))
 
-  pub given_stop : (s r : Tokens) (stop : Stop) → HeadIs Paren s → StopsIn NoToken (arguments home) s r stop
+  pub given_stop : (s r : Tokens) (stop : ReadStop) → HeadIs Paren s → StopsIn NoToken (arguments home) s r stop
       → StopsIn Paren (maybe (arguments home)) s r stop
   given_stop s r stop here k =
       stop_wider (maybe (arguments home)) s r stop (one_class Paren)
@@ -131,16 +132,16 @@ module _ (home : Home) where
   abbrev behind_id : List ℕ → Production TraitSaid
   behind_id w = maybe (arguments home) >>= (λ given. gives (made w given))
 
-  pub stops_at_sign : (s r : Tokens) (stop : Stop) → StopsIn NoToken (mark (codes "@")) s r stop → StopsIn Paren (applied home) s r stop
+  pub stops_at_sign : (s r : Tokens) (stop : ReadStop) → StopsIn NoToken (mark (codes "@")) s r stop → StopsIn Paren (applied home) s r stop
   stops_at_sign s r stop k = stops_first Paren (mark (codes "@")) (λ _. id >>= behind_id) s r stop k
 
-  pub stops_at_id : (s a r : Tokens) (stop : Stop) → (mark (codes "@")).whole tt s a → StopsIn NoToken id a r stop
+  pub stops_at_id : (s a r : Tokens) (stop : ReadStop) → (mark (codes "@")).whole tt s a → StopsIn NoToken id a r stop
       → StopsIn Paren (applied home) s r stop
   stops_at_id s a r stop h k =
       stops_behind Paren (mark (codes "@")) (λ _. id >>= behind_id) (mark_firm (codes "@")) tt s a r stop h
       (stops_first Paren id behind_id a r stop k)
 
-  pub stops_at_given : (w : List ℕ) (s a b r : Tokens) (stop : Stop) → (mark (codes "@")).whole tt s a → id.whole w a b
+  pub stops_at_given : (w : List ℕ) (s a b r : Tokens) (stop : ReadStop) → (mark (codes "@")).whole tt s a → id.whole w a b
       → StopsIn Paren (maybe (arguments home)) b r stop → StopsIn Paren (applied home) s r stop
   stops_at_given w s a b r stop h k m =
       stops_behind Paren (mark (codes "@")) (λ _. id >>= behind_id) (mark_firm (codes "@")) tt s a r stop h
@@ -184,7 +185,7 @@ module _ (home : Home) where
       sign_no_brace
       (t ∷ []) s r (value_read (applied home) (λ v. v ∷ []) t s r m)
 
-  pub one_stop : (s r : Tokens) (stop : Stop) → (HeadIs (AMark (codes "{")) s → ⊥) → StopsIn Paren (applied home) s r stop
+  pub one_stop : (s r : Tokens) (stop : ReadStop) → (HeadIs (AMark (codes "{")) s → ⊥) → StopsIn Paren (applied home) s r stop
       → StopsIn Paren targets s r stop
   one_stop s r stop none k =
       choosing.left_stop At (AMark (codes "{")) Paren NoToken (one_trait home) (braced_traits home) one_firm (braced_firm home)
@@ -197,7 +198,7 @@ module _ (home : Home) where
       (choosing.right_read At (AMark (codes "{")) Paren NoToken (one_trait home) (braced_traits home) one_firm (braced_firm home)
       (turned _ _ sign_no_brace) ts s r (whole_read (braced_traits home) (braced_firm home) ts s r h))
 
-  pub braced_stop : (s r : Tokens) (stop : Stop) → (HeadIs At s → ⊥) → StopsIn NoToken (braced_traits home) s r stop
+  pub braced_stop : (s r : Tokens) (stop : ReadStop) → (HeadIs At s → ⊥) → StopsIn NoToken (braced_traits home) s r stop
       → StopsIn Paren targets s r stop
   braced_stop s r stop none k =
       stop_wider targets s r stop (λ t n. absurd n)
@@ -207,19 +208,19 @@ module _ (home : Home) where
   abbrev said : List ℕ → List TraitSaid → Said
   said w ts = apply_said (written home w false) ts
 
-  pub apply_word_stop : (s r : Tokens) (stop : Stop) → StopsIn NoToken (the_word (codes "apply")) s r stop
+  pub apply_word_stop : (s r : Tokens) (stop : ReadStop) → StopsIn NoToken (the_word (codes "apply")) s r stop
       → StopsIn Paren (apply home) s r stop
   apply_word_stop s r stop k = stops_first Paren (the_word (codes "apply")) (λ _. id >>= (λ w. targets >>= (λ ts. gives (said w ts)))) s
       r stop k
 
-  pub apply_id_stop : (s a r : Tokens) (stop : Stop) → (the_word (codes "apply")).whole tt s a → StopsIn NoToken id a r stop
+  pub apply_id_stop : (s a r : Tokens) (stop : ReadStop) → (the_word (codes "apply")).whole tt s a → StopsIn NoToken id a r stop
       → StopsIn Paren (apply home) s r stop
   apply_id_stop s a r stop h k =
       stops_behind Paren (the_word (codes "apply")) (λ _. id >>= (λ w. targets >>= (λ ts. gives (said w ts))))
       (the_word_firm (codes "apply")) tt s a r
       stop h (stops_first Paren id (λ w. targets >>= (λ ts. gives (said w ts))) a r stop k)
 
-  pub apply_traits_stop : (w : List ℕ) (s a b r : Tokens) (stop : Stop) → (the_word (codes "apply")).whole tt s a → id.whole w a b
+  pub apply_traits_stop : (w : List ℕ) (s a b r : Tokens) (stop : ReadStop) → (the_word (codes "apply")).whole tt s a → id.whole w a b
       → StopsIn Paren targets b r stop → StopsIn Paren (apply home) s r stop
   apply_traits_stop w s a b r stop h k m =
       stops_behind Paren (the_word (codes "apply")) (λ _. id >>= (λ w. targets >>= (λ ts. gives (said w ts))))
@@ -242,7 +243,7 @@ module _ (home : Home) where
       (sym (ap (λ j. apply_said j all_of) e ∙ ap (λ l. apply_said (written home w false) l) f))
       (apply_read w ts s a b r h k m)
 
-  pub braced_targets : {V : Type 0} (view : V → List TraitSaid) (s r : Tokens) (result : Result V Stop) → HeadIs (AMark (codes "{")) s
+  pub braced_targets : {V : Type 0} (view : V → List TraitSaid) (s r : Tokens) (result : Result V ReadStop) → HeadIs (AMark (codes "{")) s
       → ReadsAs view (braced_traits home) s r result → ReadsOn Paren view targets s r result
   braced_targets view s r (Ok v) here m = braced_read (view v) s r m
   braced_targets view s r (Err stop) here m =

@@ -6,7 +6,7 @@ use Rattle.sm_idl.specs.Words.{mark}
 use Rattle.sm_idl.specs.Nodes.{Home}
 use Rattle.sm_idl.specs.Traits.{node_in}
 use Rattle.sm_idl.specs.Members.{equals_node, given_value}
-use Rattle.sm_idl.specs.declared.reader.Stop.{Stop}
+use Rattle.sm_idl.specs.declared.reader.ReadStop.{ReadStop}
 use Rattle.sm_idl.specs.steps.ReaderView.{NoToken, StopsIn}
 use Rattle.sm_idl.specs.steps.Firm.{HeadIs, IsFirm}
 use Rattle.sm_idl.specs.steps.Classes.{Equals}
@@ -21,11 +21,11 @@ module _ (home : Home) where
   firm : IsFirm ⊥ Equals NoToken (equals_node home)
   firm = then_firm (mark (codes "=")) _ (mark_firm (codes "=")) (λ _. node_in_firm home)
 
-  pub stops_at_equals : (s r : Tokens) (stop : Stop) → StopsIn NoToken (mark (codes "=")) s r stop
+  pub stops_at_equals : (s r : Tokens) (stop : ReadStop) → StopsIn NoToken (mark (codes "=")) s r stop
       → StopsIn NoToken (equals_node home) s r stop
   stops_at_equals s r stop k = stops_first NoToken (mark (codes "=")) (λ _. node_in home) s r stop k
 
-  pub stops_in_value : (s a r : Tokens) (stop : Stop) → (mark (codes "=")).whole tt s a → StopsIn NoToken (node_in home) a r stop
+  pub stops_in_value : (s a r : Tokens) (stop : ReadStop) → (mark (codes "=")).whole tt s a → StopsIn NoToken (node_in home) a r stop
       → StopsIn NoToken (equals_node home) s r stop
   stops_in_value s a r stop h k =
       stops_behind NoToken (mark (codes "=")) (λ _. node_in home) (mark_firm (codes "=")) tt s a r stop h k
@@ -40,7 +40,7 @@ module _ (home : Home) where
       read_wider (maybe (equals_node home)) (Some n) s r (one_class Equals)
       (choosing.some_read Equals NoToken (equals_node home) firm n s r (whole_read (equals_node home) firm n s r h))
 
-  pub value_stop : (s r : Tokens) (stop : Stop) → HeadIs Equals s → StopsIn NoToken (equals_node home) s r stop
+  pub value_stop : (s r : Tokens) (stop : ReadStop) → HeadIs Equals s → StopsIn NoToken (equals_node home) s r stop
       → StopsIn Equals (given_value home) s r stop
   value_stop s r stop here k =
       stop_wider (maybe (equals_node home)) s r stop (one_class Equals)

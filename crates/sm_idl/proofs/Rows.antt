@@ -1,8 +1,8 @@
 -- Any number of one production, read one after the other.
 use Rattle.std.proofs.Common.{◌≡◌, ◌⊎◌, inl, inr, List, [], ◌∷◌, ◌++◌, take, drop, refl, sym, ap, subst, ◌∙◌, append_assoc, append-nil}
 use Rattle.sm_idl.specs.Productions.{Spaced, Tokens, Production, EachSpells, each_behind}
-use Rattle.sm_idl.specs.declared.reader.Stop.{Stop}
-use Rattle.sm_idl.specs.declared.reader.Stop.TheVariants.{Syntax, NoMemory}
+use Rattle.sm_idl.specs.declared.reader.ReadStop.{ReadStop}
+use Rattle.sm_idl.specs.declared.reader.ReadStop.TheVariants.{Syntax, NoMemory}
 use Rattle.sm_idl.specs.steps.ReaderView.{NoToken, StopsIn}
 use Rattle.sm_idl.specs.steps.Classes.{Either}
 use Rattle.sm_idl.specs.steps.Firm.{Class, HeadIs, AreApart, IsFirm}
@@ -155,7 +155,7 @@ module _ {X : Type 0} (A G : Class) (P : List X → Production X) (p : (before :
       (k.wholes z u (subst (λ l. (P b).whole z (k.before ++ take 1 l) u) (sym e) h)) l
       (elim c [ inl f ↦ inl f | inr f ↦ inr (subst (λ l. (P l).begun v) (sym (append_assoc b (z ∷ []) zs)) f) ])
 
-  pub row_stop : (before xs : List X) (s a r : Tokens) (stop : Stop) → IsRow (Either A G) P before xs s a → HeadIs A a
+  pub row_stop : (before xs : List X) (s a r : Tokens) (stop : ReadStop) → IsRow (Either A G) P before xs s a → HeadIs A a
       → StopsIn G (P (before ++ xs)) a r stop → StopsIn (Either A G) (each_behind P before) s r stop
   row_stop before xs s a r NoMemory i here k = tt
   row_stop before xs s a r Syntax i here k = record {
@@ -184,7 +184,7 @@ module _ {X : Type 0} (A : Class) (P : List X → Production X) (p : (before : L
   ended_read before xs s a i none =
       read_wider (each_behind P before) xs s a (one_class A) (row_read A NoToken P p (λ t n a. n) before xs s a i none)
 
-  pub ended_stop : (before xs : List X) (s a r : Tokens) (stop : Stop) → IsRow (Either A NoToken) P before xs s a → HeadIs A a
+  pub ended_stop : (before xs : List X) (s a r : Tokens) (stop : ReadStop) → IsRow (Either A NoToken) P before xs s a → HeadIs A a
       → StopsIn NoToken (P (before ++ xs)) a r stop → StopsIn A (each_behind P before) s r stop
   ended_stop before xs s a r stop i here k =
       stop_wider (each_behind P before) s r stop (one_class A) (row_stop A NoToken P p (λ t n a. n) before xs s a r stop i here k)

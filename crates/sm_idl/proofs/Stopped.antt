@@ -9,8 +9,8 @@ use Rattle.sm_idl.specs.Productions.{Tokens, spaced}
 use Rattle.sm_idl.specs.Bodies.{Controls}
 use Rattle.sm_idl.specs.Idl.{FileSaid, file, FileSpelled, Idl, HaveVersion}
 use Rattle.sm_idl.specs.Answers.{IsStopped, ReadsIdl}
-use Rattle.sm_idl.specs.declared.reader.Stop.{Stop}
-use Rattle.sm_idl.specs.declared.reader.Stop.TheVariants.{Syntax, NoMemory}
+use Rattle.sm_idl.specs.declared.reader.ReadStop.{ReadStop}
+use Rattle.sm_idl.specs.declared.reader.ReadStop.TheVariants.{Syntax, NoMemory}
 use Rattle.sm_idl.specs.declared.refusal.IdlRefusal.{IdlRefusal}
 use Rattle.sm_idl.specs.steps.FileSteps.{FileStops, FileStopped, PlaceIs, StoppedAs, LexedAs}
 use Rattle.sm_idl.proofs.OtherBeginnings.{file_other, file_begun}
@@ -56,7 +56,7 @@ module _ (bytes : List ℕ) (xs : List Lexeme) (ts : Tokens) (spell : TokensSpel
       → (g : FileSaid) × (HaveVersion g.controls → ⊥) × Idl g bytes
   answer_version f cs e none k = (f, (λ h. none (subst HaveVersion e h)), idl_of f k)
 
-  pub answer_stop : (r : Tokens) (stop : Stop) (refusal : IdlRefusal) → FileStopped ts r stop → StoppedAs (length bytes) r stop refusal
+  pub answer_stop : (r : Tokens) (stop : ReadStop) (refusal : IdlRefusal) → FileStopped ts r stop → StoppedAs (length bytes) r stop refusal
       → ReadsIdl bytes (Err refusal)
   answer_stop r Syntax refusal k (at, p, e) =
       subst (λ z. ReadsIdl bytes (Err z)) (sym e) (xs, spell, subst (λ z. IsStopped bytes z at) same (stopped_at bytes ts r at k p))

@@ -9,7 +9,7 @@ use Rattle.sm_idl.specs.Productions.{Tokens, many}
 use Rattle.sm_idl.specs.Words.{IsWordId, id}
 use Rattle.sm_idl.specs.Nodes.{Home, written}
 use Rattle.sm_idl.specs.Traits.{applied, traits}
-use Rattle.sm_idl.specs.declared.reader.Stop.{Stop}
+use Rattle.sm_idl.specs.declared.reader.ReadStop.{ReadStop}
 use Rattle.sm_idl.specs.steps.ReaderView.{NoToken, StopsIn}
 use Rattle.sm_idl.specs.steps.Firm.{HeadIs}
 use Rattle.sm_idl.specs.steps.Classes.{Either, AnyWord, At, Paren, TraitGoesOn}
@@ -45,7 +45,7 @@ module _ (home : Home) where
   traits_read old new s a (ts, f, i) none =
       (ts, f, row_read At Paren (λ _. applied home) (λ _. applied_firm home) paren_no_at [] ts s a i none)
 
-  pub traits_stop : (old new : List TraitUse) (s a r : Tokens) (stop : Stop) → GrownBy home old new s a → HeadIs At a
+  pub traits_stop : (old new : List TraitUse) (s a r : Tokens) (stop : ReadStop) → GrownBy home old new s a → HeadIs At a
       → StopsIn Paren (applied home) a r stop → StopsIn TraitGoesOn (traits home) s r stop
   traits_stop old new s a r stop (ts, f, i) here k =
       row_stop At Paren (λ _. applied home) (λ _. applied_firm home) paren_no_at [] ts s a r stop i here k
@@ -75,6 +75,6 @@ module _ (home : Home) where
       → (ws : List (List ℕ)) × (refs ≡ map made ws) × IsRead AnyWord (many id) ws s a
   ids_read refs s a (ws, g, i) none = (ws, g, ended_read AnyWord (λ _. id) (λ _. word_firm IsWordId) [] ws s a i none)
 
-  pub ids_stop : (refs : List Ref) (s a r : Tokens) (stop : Stop) → IdsSoFar refs s a → HeadIs AnyWord a → StopsIn NoToken id a r stop
+  pub ids_stop : (refs : List Ref) (s a r : Tokens) (stop : ReadStop) → IdsSoFar refs s a → HeadIs AnyWord a → StopsIn NoToken id a r stop
       → StopsIn AnyWord (many id) s r stop
   ids_stop refs s a r stop (ws, g, i) here k = ended_stop AnyWord (λ _. id) (λ _. word_firm IsWordId) [] ws s a r stop i here k

@@ -5,7 +5,7 @@ use Rattle.std.specs.BTreeSet.{BTreeSet}
 use Rattle.std.specs.declared.alloc.Global.{Global}
 use Rattle.std.specs.declared.string.String.{String}
 use Rattle.sm_idl.specs.Productions.{Tokens, Production, each}
-use Rattle.sm_idl.specs.declared.reader.Stop.{Stop}
+use Rattle.sm_idl.specs.declared.reader.ReadStop.{ReadStop}
 use Rattle.sm_idl.specs.steps.Classes.{Either}
 use Rattle.sm_idl.specs.steps.Firm.{Class, HeadIs, IsFirm}
 use Rattle.sm_idl.specs.steps.Names.{Remembers}
@@ -40,6 +40,6 @@ module _ {V X : Type 0} (A : Class) (P : List X → Production X) (p : (before :
   pub viewed_read : (have : List V) (s a : Tokens) → CameBy A P view have s a → (HeadIs A a → ⊥) → IsRead A (each P) (map view have) s a
   viewed_read have s a i none = ended_read A P p [] (map view have) s a i none
 
-  pub viewed_stop : (have : List V) (s a r : Tokens) (stop : Stop) → CameBy A P view have s a → HeadIs A a
+  pub viewed_stop : (have : List V) (s a r : Tokens) (stop : ReadStop) → CameBy A P view have s a → HeadIs A a
       → StopsIn NoToken (P (map view have)) a r stop → StopsIn A (each P) s r stop
   viewed_stop have s a r stop i here k = ended_stop A P p [] (map view have) s a r stop i here k

@@ -17,7 +17,7 @@ use crate::home::FileHome;
 use crate::leaf::text_node;
 use crate::made::{id_node, list_node, object_node};
 use crate::names::{is_new_text, key_text};
-use crate::reader::{Reader, Stop};
+use crate::reader::{ReadStop, Reader};
 use crate::word::is_node_id;
 use sm_ids::{ShapeIdRef, is_identifier};
 use sm_lex::{Token, TokenKind, block_value, string_value};
@@ -87,7 +87,7 @@ fn name_of(string: String) -> Option<RawNode>
 
 impl<'t, 'a> Reader<'t, 'a> {
     /// Reads a reference.
-    fn reference(&mut self, alloc: Global, home: &FileHome<'_>) -> Result<RawNode, Stop>
+    fn reference(&mut self, alloc: Global, home: &FileHome<'_>) -> Result<RawNode, ReadStop>
         ensures { ReadsAs raw_view (reference (home_of_file home.now)) (left self.old) (left self.new) result }
     {
         let word = match self.node_id() {
@@ -96,12 +96,16 @@ impl<'t, 'a> Reader<'t, 'a> {
         };
         match home.reference(alloc, word, false) {
             Ok(id) => Ok(id_node(id)),
-            Err(_) => Err(Stop::NoMemory),
+            Err(_) => Err(ReadStop::NoMemory),
         }
     }
 
     /// Reads references, as many as words stand here.
-    fn reference_items(&mut self, alloc: Global, home: &FileHome<'_>) -> Result<Vec<RawNode>, Stop>
+    fn reference_items(
+        &mut self,
+        alloc: Global,
+        home: &FileHome<'_>,
+    ) -> Result<Vec<RawNode>, ReadStop>
         ensures { ReadsOn AnyWord (λ items. raws_view items.items) (many (reference (home_of_file home.now)))
             (left self.old) (left self.new) result }
     {
@@ -110,7 +114,7 @@ impl<'t, 'a> Reader<'t, 'a> {
             match self.reference(alloc, home) {
                 Ok(node) => match items.push(node) {
                     Ok(()) => {}
-                    Err(_) => return Err(Stop::NoMemory),
+                    Err(_) => return Err(ReadStop::NoMemory),
                 },
                 Err(stop) => return Err(stop),
             }
@@ -119,7 +123,7 @@ impl<'t, 'a> Reader<'t, 'a> {
     }
 
     /// Reads references between brackets.
-    fn references(&mut self, alloc: Global, home: &FileHome<'_>) -> Result<RawNode, Stop>
+    fn references(&mut self, alloc: Global, home: &FileHome<'_>) -> Result<RawNode, ReadStop>
         ensures { ReadsAs raw_view (references (home_of_file home.now)) (left self.old) (left self.new) result }
     {
         match self.mark("[") {
@@ -137,7 +141,7 @@ impl<'t, 'a> Reader<'t, 'a> {
     }
 
     /// Reads a text.
-    fn text_value(&mut self, alloc: Global, home: &FileHome<'_>) -> Result<RawNode, Stop>
+    fn text_value(&mut self, alloc: Global, home: &FileHome<'_>) -> Result<RawNode, ReadStop>
         ensures { ReadsAs raw_view (text_node (home_of_file home.now)) (left self.old) (left self.new) result }
     {
         match self.next() {
@@ -146,15 +150,15 @@ impl<'t, 'a> Reader<'t, 'a> {
                     self.take();
                     Ok(node)
                 }
-                Ok(None) => Err(Stop::Syntax),
-                Err(_) => Err(Stop::NoMemory),
+                Ok(None) => Err(ReadStop::Syntax),
+                Err(_) => Err(ReadStop::NoMemory),
             },
-            None => Err(Stop::Syntax),
+            None => Err(ReadStop::Syntax),
         }
     }
 
     /// Reads an identifier as a text.
-    fn new_name(&mut self, alloc: Global) -> Result<RawNode, Stop>
+    fn new_name(&mut self, alloc: Global) -> Result<RawNode, ReadStop>
         ensures { ReadsAs raw_view new_name (left self.old) (left self.new) result }
     {
         match self.next() {
@@ -163,15 +167,15 @@ impl<'t, 'a> Reader<'t, 'a> {
                     self.take();
                     Ok(node)
                 }
-                Ok(None) => Err(Stop::Syntax),
-                Err(_) => Err(Stop::NoMemory),
+                Ok(None) => Err(ReadStop::Syntax),
+                Err(_) => Err(ReadStop::NoMemory),
             },
-            None => Err(Stop::Syntax),
+            None => Err(ReadStop::Syntax),
         }
     }
 
     /// Reads a key that is an id and didn't come before.
-    fn id_key(&mut self, alloc: Global, seen: &mut BTreeSet<String>) -> Result<Text, Stop>
+    fn id_key(&mut self, alloc: Global, seen: &mut BTreeSet<String>) -> Result<Text, ReadStop>
         ensures reads { (before : List Pair) → Remembers seen.old (pair_names before) →
             Reads (id_key before) (left self.old) (left self.new) result }
         ensures seen { (before : List Pair) → Remembers seen.old (pair_names before) →
@@ -186,17 +190,17 @@ impl<'t, 'a> Reader<'t, 'a> {
                                 self.take();
                                 Ok(text)
                             } else {
-                                Err(Stop::Syntax)
+                                Err(ReadStop::Syntax)
                             }
                         }
-                        Err(_) => Err(Stop::NoMemory),
+                        Err(_) => Err(ReadStop::NoMemory),
                     },
-                    Err(_) => Err(Stop::Syntax),
+                    Err(_) => Err(ReadStop::Syntax),
                 },
-                Ok(None) => Err(Stop::Syntax),
-                Err(_) => Err(Stop::NoMemory),
+                Ok(None) => Err(ReadStop::Syntax),
+                Err(_) => Err(ReadStop::NoMemory),
             },
-            None => Err(Stop::Syntax),
+            None => Err(ReadStop::Syntax),
         }
     }
 
@@ -205,7 +209,7 @@ impl<'t, 'a> Reader<'t, 'a> {
         &mut self,
         alloc: Global,
         seen: &mut BTreeSet<String>,
-    ) -> Result<(Text, RawNode), Stop>
+    ) -> Result<(Text, RawNode), ReadStop>
         ensures reads { (before : List Pair) → Remembers seen.old (pair_names before) →
             ReadsAs raw_pair (renaming before) (left self.old) (left self.new) result }
         ensures seen { (before : List Pair) → Remembers seen.old (pair_names before) →
@@ -231,7 +235,7 @@ impl<'t, 'a> Reader<'t, 'a> {
         alloc: Global,
         home: &FileHome<'_>,
         seen: &mut BTreeSet<String>,
-    ) -> Result<(Text, RawNode), Stop>
+    ) -> Result<(Text, RawNode), ReadStop>
         ensures reads { (before : List Pair) → Remembers seen.old (pair_names before) →
             ReadsAs raw_pair (pair_of (reference (home_of_file home.now)) before) (left self.old) (left self.new) result }
         ensures seen { (before : List Pair) → Remembers seen.old (pair_names before) →
@@ -258,7 +262,7 @@ impl<'t, 'a> Reader<'t, 'a> {
         home: &FileHome<'_>,
         renames: bool,
         seen: &mut BTreeSet<String>,
-    ) -> Result<(Text, RawNode), Stop>
+    ) -> Result<(Text, RawNode), ReadStop>
         ensures reads { (before : List Pair) → Remembers seen.old (pair_names before) →
             ReadsAs raw_pair (under (home_of_file home.now) renames before) (left self.old) (left self.new) result }
         ensures seen { (before : List Pair) → Remembers seen.old (pair_names before) →
@@ -276,7 +280,7 @@ impl<'t, 'a> Reader<'t, 'a> {
         alloc: Global,
         home: &FileHome<'_>,
         renames: bool,
-    ) -> Result<Vec<(Text, RawNode)>, Stop>
+    ) -> Result<Vec<(Text, RawNode)>, ReadStop>
         ensures { ReadsOn NoMark (λ pairs. raw_members_view pairs.items) (each (under (home_of_file home.now) renames))
             (left self.old) (left self.new) result }
     {
@@ -286,7 +290,7 @@ impl<'t, 'a> Reader<'t, 'a> {
             match self.pair_under(alloc, home, renames, &mut seen) {
                 Ok(pair) => match pairs.push(pair) {
                     Ok(()) => {}
-                    Err(_) => return Err(Stop::NoMemory),
+                    Err(_) => return Err(ReadStop::NoMemory),
                 },
                 Err(stop) => return Err(stop),
             }
@@ -300,7 +304,7 @@ impl<'t, 'a> Reader<'t, 'a> {
         alloc: Global,
         home: &FileHome<'_>,
         renames: bool,
-    ) -> Result<RawNode, Stop>
+    ) -> Result<RawNode, ReadStop>
         ensures { ReadsAs raw_view (braced_pairs (under (home_of_file home.now) renames)) (left self.old) (left self.new) result }
     {
         match self.mark("{") {
@@ -323,7 +327,7 @@ impl<'t, 'a> Reader<'t, 'a> {
         alloc: Global,
         home: &FileHome<'_>,
         form: PropertyForm,
-    ) -> Result<RawNode, Stop>
+    ) -> Result<RawNode, ReadStop>
         ensures { ReadsAs raw_view (field_value (home_of_file home.now) form) (left self.old) (left self.new) result }
     {
         match form {
@@ -341,7 +345,7 @@ impl<'t, 'a> Reader<'t, 'a> {
         alloc: Global,
         kind: Kind,
         seen: &mut BTreeSet<String>,
-    ) -> Result<(Text, PropertyForm), Stop>
+    ) -> Result<(Text, PropertyForm), ReadStop>
         ensures reads { (before : List Pair) → Remembers seen.old (pair_names before) →
             Reads (one (FieldNamed (property_forms kind) before)) (left self.old) (left self.new) result }
         ensures seen { (before : List Pair) → Remembers seen.old (pair_names before) →
@@ -356,17 +360,17 @@ impl<'t, 'a> Reader<'t, 'a> {
                                 self.take();
                                 Ok((text, form))
                             } else {
-                                Err(Stop::Syntax)
+                                Err(ReadStop::Syntax)
                             }
                         }
-                        Err(_) => Err(Stop::NoMemory),
+                        Err(_) => Err(ReadStop::NoMemory),
                     },
-                    None => Err(Stop::Syntax),
+                    None => Err(ReadStop::Syntax),
                 },
-                Ok(None) => Err(Stop::Syntax),
-                Err(_) => Err(Stop::NoMemory),
+                Ok(None) => Err(ReadStop::Syntax),
+                Err(_) => Err(ReadStop::NoMemory),
             },
-            None => Err(Stop::Syntax),
+            None => Err(ReadStop::Syntax),
         }
     }
 
@@ -377,7 +381,7 @@ impl<'t, 'a> Reader<'t, 'a> {
         home: &FileHome<'_>,
         kind: Kind,
         seen: &mut BTreeSet<String>,
-    ) -> Result<(Text, RawNode), Stop>
+    ) -> Result<(Text, RawNode), ReadStop>
         ensures reads { (before : List Pair) → Remembers seen.old (pair_names before) →
             ReadsAs raw_pair (property (home_of_file home.now) (property_forms kind) before) (left self.old) (left self.new) result }
         ensures seen { (before : List Pair) → Remembers seen.old (pair_names before) →
@@ -403,7 +407,7 @@ impl<'t, 'a> Reader<'t, 'a> {
         alloc: Global,
         home: &FileHome<'_>,
         kind: Kind,
-    ) -> Result<Vec<(Text, RawNode)>, Stop>
+    ) -> Result<Vec<(Text, RawNode)>, ReadStop>
         ensures { ReadsOn NoMark (λ pairs. raw_members_view pairs.items) (each (property (home_of_file home.now) (property_forms kind)))
             (left self.old) (left self.new) result }
     {
@@ -413,7 +417,7 @@ impl<'t, 'a> Reader<'t, 'a> {
             match self.property(alloc, home, kind, &mut seen) {
                 Ok(pair) => match pairs.push(pair) {
                     Ok(()) => {}
-                    Err(_) => return Err(Stop::NoMemory),
+                    Err(_) => return Err(ReadStop::NoMemory),
                 },
                 Err(stop) => return Err(stop),
             }
@@ -427,7 +431,7 @@ impl<'t, 'a> Reader<'t, 'a> {
         alloc: Global,
         home: &FileHome<'_>,
         kind: Kind,
-    ) -> Result<RawNode, Stop>
+    ) -> Result<RawNode, ReadStop>
         ensures { ReadsAs raw_view (braced_pairs (property (home_of_file home.now) (property_forms kind))) (left self.old)
             (left self.new) result }
     {

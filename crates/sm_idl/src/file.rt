@@ -17,7 +17,7 @@ ghost use Rattle.sm_idl.specs.steps.ReaderView.{left, raw_pair, ReadsAs};
 
 use crate::leaf::Words;
 use crate::operations::Suffixes;
-use crate::reader::{Reader, Stop};
+use crate::reader::{ReadStop, Reader};
 use sm_ids::{ShapeId, ShapeIdRef};
 use sm_model::{RawNode, Statement};
 use sm_tree::{MOST_LEVELS, NoMemory, Text, Tree};
@@ -168,7 +168,7 @@ impl<'t, 'a> Reader<'t, 'a> {
         alloc: Global,
         words: &W,
         seen: &mut BTreeSet<String>,
-    ) -> Result<(Text, RawNode), Stop>
+    ) -> Result<(Text, RawNode), ReadStop>
         ensures reads { (before : List Pair) → Remembers seen.old (pair_names before) →
             ReadsAs raw_pair (control (W.home words.now) before) (left self.old) (left self.new) result }
         ensures seen { (before : List Pair) → Remembers seen.old (pair_names before) →
@@ -187,7 +187,7 @@ impl<'t, 'a> Reader<'t, 'a> {
         alloc: Global,
         words: &W,
         seen: &mut BTreeSet<String>,
-    ) -> Result<(Text, RawNode), Stop>
+    ) -> Result<(Text, RawNode), ReadStop>
         ensures reads { (before : List Pair) → Remembers seen.old (pair_names before) →
             ReadsAs raw_pair (metadata (W.home words.now) before) (left self.old) (left self.new) result }
         ensures seen { (before : List Pair) → Remembers seen.old (pair_names before) →
@@ -212,7 +212,11 @@ impl<'t, 'a> Reader<'t, 'a> {
     }
 
     /// Reads controls, as many as stand here.
-    fn controls<W: Words>(&mut self, alloc: Global, words: &W) -> Result<Vec<(Text, RawNode)>, Stop>
+    fn controls<W: Words>(
+        &mut self,
+        alloc: Global,
+        words: &W,
+    ) -> Result<Vec<(Text, RawNode)>, ReadStop>
         ensures { ReadsRow Dollar (each (control (W.home words.now))) (left self.old) (left self.new) result }
     {
         let mut seen: BTreeSet<String> = BTreeSet::new(alloc);
@@ -221,7 +225,7 @@ impl<'t, 'a> Reader<'t, 'a> {
             match self.control(alloc, words, &mut seen) {
                 Ok(pair) => match pairs.push(pair) {
                     Ok(()) => {}
-                    Err(_) => return Err(Stop::NoMemory),
+                    Err(_) => return Err(ReadStop::NoMemory),
                 },
                 Err(stop) => return Err(stop),
             }
@@ -234,7 +238,7 @@ impl<'t, 'a> Reader<'t, 'a> {
         &mut self,
         alloc: Global,
         words: &W,
-    ) -> Result<Vec<(Text, RawNode)>, Stop>
+    ) -> Result<Vec<(Text, RawNode)>, ReadStop>
         ensures { ReadsRow Metadata (each (metadata (W.home words.now))) (left self.old) (left self.new) result }
     {
         let mut seen: BTreeSet<String> = BTreeSet::new(alloc);
@@ -243,7 +247,7 @@ impl<'t, 'a> Reader<'t, 'a> {
             match self.metadata(alloc, words, &mut seen) {
                 Ok(pair) => match pairs.push(pair) {
                     Ok(()) => {}
-                    Err(_) => return Err(Stop::NoMemory),
+                    Err(_) => return Err(ReadStop::NoMemory),
                 },
                 Err(stop) => return Err(stop),
             }
@@ -256,7 +260,7 @@ impl<'t, 'a> Reader<'t, 'a> {
         &mut self,
         alloc: Global,
         words: &W,
-    ) -> Result<Beginning, Stop>
+    ) -> Result<Beginning, ReadStop>
         ensures { ReadsBeginning (W.home words.now) (left self.old) (left self.new) result }
     {
         let controls = match self.controls(alloc, words) {
@@ -270,7 +274,7 @@ impl<'t, 'a> Reader<'t, 'a> {
     }
 
     /// Reads an id that is used.
-    fn used(&mut self) -> Result<&'a str, Stop>
+    fn used(&mut self) -> Result<&'a str, ReadStop>
         ensures { ReadsAs (λ w. w.now) used (left self.old) (left self.new) result }
     {
         match self.the_word("use") {
@@ -281,7 +285,7 @@ impl<'t, 'a> Reader<'t, 'a> {
     }
 
     /// Reads the ids that are used, as many as stand here; those without a namespace change nothing.
-    pub(crate) fn uses(&mut self, alloc: Global) -> Result<Vec<ShapeId>, Stop>
+    pub(crate) fn uses(&mut self, alloc: Global) -> Result<Vec<ShapeId>, ReadStop>
         ensures { ReadsUses (left self.old) (left self.new) result }
     {
         let mut uses: Vec<ShapeId> = Vec::new(alloc);
@@ -289,7 +293,7 @@ impl<'t, 'a> Reader<'t, 'a> {
             match self.used() {
                 Ok(word) => match put_used(alloc, &mut uses, word) {
                     Ok(()) => {}
-                    Err(_) => return Err(Stop::NoMemory),
+                    Err(_) => return Err(ReadStop::NoMemory),
                 },
                 Err(stop) => return Err(stop),
             }

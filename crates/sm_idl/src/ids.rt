@@ -7,13 +7,13 @@ ghost use Rattle.sm_idl.specs.steps.IdSteps.{ReadsIds};
 ghost use Rattle.sm_idl.specs.steps.ReaderView.{left, ReadsAs, ReadsOn};
 
 use crate::home::FileHome;
-use crate::reader::{Reader, Stop};
+use crate::reader::{ReadStop, Reader};
 use sm_model::Ref;
 use std::alloc::Global;
 
 impl<'t, 'a> Reader<'t, 'a> {
     /// Reads ids, as many as words stand here.
-    pub(crate) fn ids(&mut self, alloc: Global, home: &FileHome<'_>) -> Result<Vec<Ref>, Stop>
+    pub(crate) fn ids(&mut self, alloc: Global, home: &FileHome<'_>) -> Result<Vec<Ref>, ReadStop>
         ensures { ReadsIds (home_of_file home.now) (left self.old) (left self.new) result }
     {
         let mut ids: Vec<Ref> = Vec::new(alloc);
@@ -22,9 +22,9 @@ impl<'t, 'a> Reader<'t, 'a> {
                 Ok(word) => match home.reference(alloc, word, false) {
                     Ok(id) => match ids.push(id) {
                         Ok(()) => {}
-                        Err(_) => return Err(Stop::NoMemory),
+                        Err(_) => return Err(ReadStop::NoMemory),
                     },
-                    Err(_) => return Err(Stop::NoMemory),
+                    Err(_) => return Err(ReadStop::NoMemory),
                 },
                 Err(stop) => return Err(stop),
             }
@@ -33,7 +33,7 @@ impl<'t, 'a> Reader<'t, 'a> {
     }
 
     /// Reads the mixins of a shape.
-    fn with_mixins(&mut self, alloc: Global, home: &FileHome<'_>) -> Result<Vec<Ref>, Stop>
+    fn with_mixins(&mut self, alloc: Global, home: &FileHome<'_>) -> Result<Vec<Ref>, ReadStop>
         ensures { ReadsAs (λ refs. refs.items) (with_mixins (home_of_file home.now)) (left self.old) (left self.new) result }
     {
         match self.the_word("with") {
@@ -55,7 +55,11 @@ impl<'t, 'a> Reader<'t, 'a> {
     }
 
     /// Reads the mixins of a shape, where it has some.
-    pub(crate) fn mixins(&mut self, alloc: Global, home: &FileHome<'_>) -> Result<Vec<Ref>, Stop>
+    pub(crate) fn mixins(
+        &mut self,
+        alloc: Global,
+        home: &FileHome<'_>,
+    ) -> Result<Vec<Ref>, ReadStop>
         ensures { ReadsOn With (λ refs. refs.items) (mixins (home_of_file home.now)) (left self.old) (left self.new) result }
     {
         if self.is_at_word("with") {

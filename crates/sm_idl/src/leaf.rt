@@ -7,7 +7,7 @@ ghost use Rattle.sm_model.specs.RawView.{raw_view};
 ghost use Rattle.sm_idl.specs.Nodes.{LeafSays, WordSays, leaf, word_meant};
 ghost use Rattle.sm_idl.specs.steps.ReaderView.{left, ReadsAs, SaysNode};
 
-use crate::reader::{Reader, Stop};
+use crate::reader::{ReadStop, Reader};
 use crate::word::is_word_id;
 use sm_lex::{Token, TokenKind, block_value, number_value, string_value};
 use sm_model::RawNode;
@@ -83,7 +83,7 @@ fn leaf_node<W: Words>(
 
 impl<'t, 'a> Reader<'t, 'a> {
     /// Reads a node of one token.
-    pub(crate) fn leaf<W: Words>(&mut self, alloc: Global, words: &W) -> Result<RawNode, Stop>
+    pub(crate) fn leaf<W: Words>(&mut self, alloc: Global, words: &W) -> Result<RawNode, ReadStop>
         ensures { ReadsAs raw_view (leaf (W.home words.now)) (left self.old) (left self.new) result }
     {
         match self.next() {
@@ -92,10 +92,10 @@ impl<'t, 'a> Reader<'t, 'a> {
                     self.take();
                     Ok(node)
                 }
-                Ok(None) => Err(Stop::Syntax),
-                Err(_) => Err(Stop::NoMemory),
+                Ok(None) => Err(ReadStop::Syntax),
+                Err(_) => Err(ReadStop::NoMemory),
             },
-            None => Err(Stop::Syntax),
+            None => Err(ReadStop::Syntax),
         }
     }
 }

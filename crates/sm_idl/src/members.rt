@@ -15,7 +15,7 @@ ghost use Rattle.sm_idl.specs.steps.ReaderView.{left, maybe_raw, Reads, ReadsAs,
 use crate::docs::put_value;
 use crate::home::FileHome;
 use crate::names::is_new;
-use crate::reader::{Reader, Stop};
+use crate::reader::{ReadStop, Reader};
 use crate::references::absolute;
 use sm_ids::is_identifier;
 use sm_lex::TokenKind;
@@ -138,7 +138,7 @@ impl<'t, 'a> Reader<'t, 'a> {
         alloc: Global,
         kind: MemberKind,
         seen: &mut BTreeSet<String>,
-    ) -> Result<Text, Stop>
+    ) -> Result<Text, ReadStop>
         ensures reads { (before : List MemberSaid) → Remembers seen.old (stated_names before) →
             Reads (member_name (form_of kind) before) (left self.old) (left self.new) result }
         ensures seen { (before : List MemberSaid) → Remembers seen.old (stated_names before) →
@@ -148,10 +148,10 @@ impl<'t, 'a> Reader<'t, 'a> {
             Some(token) => match token.kind {
                 TokenKind::Word => {
                     if !is_identifier(token.text) {
-                        return Err(Stop::Syntax);
+                        return Err(ReadStop::Syntax);
                     }
                     if !kind.takes(token.text) {
-                        return Err(Stop::Syntax);
+                        return Err(ReadStop::Syntax);
                     }
                     match is_new(alloc, seen, token.text) {
                         Ok(new) => {
@@ -159,18 +159,18 @@ impl<'t, 'a> Reader<'t, 'a> {
                                 self.take();
                                 match Text::copy(alloc, token.text) {
                                     Ok(name) => Ok(name),
-                                    Err(_) => Err(Stop::NoMemory),
+                                    Err(_) => Err(ReadStop::NoMemory),
                                 }
                             } else {
-                                Err(Stop::Syntax)
+                                Err(ReadStop::Syntax)
                             }
                         }
-                        Err(_) => Err(Stop::NoMemory),
+                        Err(_) => Err(ReadStop::NoMemory),
                     }
                 }
-                _ => Err(Stop::Syntax),
+                _ => Err(ReadStop::Syntax),
             },
-            None => Err(Stop::Syntax),
+            None => Err(ReadStop::Syntax),
         }
     }
 
@@ -182,7 +182,7 @@ impl<'t, 'a> Reader<'t, 'a> {
         kind: MemberKind,
         seen: &mut BTreeSet<String>,
         docs: Vec<TraitUse>,
-    ) -> Result<MemberStatement, Stop>
+    ) -> Result<MemberStatement, ReadStop>
         ensures reads { (before : List MemberSaid) → Remembers seen.old (stated_names before) →
             ReadsAs member_view (member_with (home_of_file home.now) (form_of kind) before (traits_view docs.items)) (left self.old)
             (left self.new) result }
@@ -212,7 +212,7 @@ impl<'t, 'a> Reader<'t, 'a> {
                 target,
                 traits: TraitUses::new(traits),
             }),
-            Err(_) => Err(Stop::NoMemory),
+            Err(_) => Err(ReadStop::NoMemory),
         }
     }
 
@@ -223,7 +223,7 @@ impl<'t, 'a> Reader<'t, 'a> {
         home: &FileHome<'_>,
         kind: MemberKind,
         seen: &mut BTreeSet<String>,
-    ) -> Result<MemberStatement, Stop>
+    ) -> Result<MemberStatement, ReadStop>
         ensures reads { (before : List MemberSaid) → Remembers seen.old (stated_names before) →
             ReadsAs member_view (member (home_of_file home.now) (form_of kind) before) (left self.old) (left self.new) result }
         ensures seen { (before : List MemberSaid) → Remembers seen.old (stated_names before) →
@@ -231,7 +231,7 @@ impl<'t, 'a> Reader<'t, 'a> {
     {
         match self.docs(alloc) {
             Ok(docs) => self.member_with(alloc, home, kind, seen, docs),
-            Err(_) => Err(Stop::NoMemory),
+            Err(_) => Err(ReadStop::NoMemory),
         }
     }
 
@@ -242,7 +242,7 @@ impl<'t, 'a> Reader<'t, 'a> {
         home: &FileHome<'_>,
         seen: &mut BTreeSet<String>,
         docs: Vec<TraitUse>,
-    ) -> Result<MemberStatement, Stop>
+    ) -> Result<MemberStatement, ReadStop>
         ensures reads { (before : List MemberSaid) → Remembers seen.old (stated_names before) →
             ReadsOn Equals member_view (enum_member_with (home_of_file home.now) before (traits_view docs.items)) (left self.old)
             (left self.new) result }
@@ -264,7 +264,7 @@ impl<'t, 'a> Reader<'t, 'a> {
         };
         match enum_member_of(alloc, name, traits, value) {
             Ok(member) => Ok(member),
-            Err(_) => Err(Stop::NoMemory),
+            Err(_) => Err(ReadStop::NoMemory),
         }
     }
 
@@ -274,7 +274,7 @@ impl<'t, 'a> Reader<'t, 'a> {
         alloc: Global,
         home: &FileHome<'_>,
         seen: &mut BTreeSet<String>,
-    ) -> Result<MemberStatement, Stop>
+    ) -> Result<MemberStatement, ReadStop>
         ensures reads { (before : List MemberSaid) → Remembers seen.old (stated_names before) →
             ReadsOn Equals member_view (enum_member (home_of_file home.now) before) (left self.old) (left self.new) result }
         ensures seen { (before : List MemberSaid) → Remembers seen.old (stated_names before) →
@@ -282,7 +282,7 @@ impl<'t, 'a> Reader<'t, 'a> {
     {
         match self.docs(alloc) {
             Ok(docs) => self.enum_member_with(alloc, home, seen, docs),
-            Err(_) => Err(Stop::NoMemory),
+            Err(_) => Err(ReadStop::NoMemory),
         }
     }
 
@@ -292,7 +292,7 @@ impl<'t, 'a> Reader<'t, 'a> {
         alloc: Global,
         home: &FileHome<'_>,
         seen: &mut BTreeSet<String>,
-    ) -> Result<MemberStatement, Stop>
+    ) -> Result<MemberStatement, ReadStop>
         ensures reads { (before : List MemberSaid) → Remembers seen.old (stated_names before) →
             ReadsOn Equals member_view (field (home_of_file home.now) before) (left self.old) (left self.new) result }
         ensures seen { (before : List MemberSaid) → Remembers seen.old (stated_names before) →
@@ -308,7 +308,7 @@ impl<'t, 'a> Reader<'t, 'a> {
         };
         match field_of(alloc, member, value) {
             Ok(member) => Ok(member),
-            Err(_) => Err(Stop::NoMemory),
+            Err(_) => Err(ReadStop::NoMemory),
         }
     }
 
@@ -319,7 +319,7 @@ impl<'t, 'a> Reader<'t, 'a> {
         home: &FileHome<'_>,
         kind: MemberKind,
         seen: &mut BTreeSet<String>,
-    ) -> Result<MemberStatement, Stop>
+    ) -> Result<MemberStatement, ReadStop>
         ensures reads { (before : List MemberSaid) → Remembers seen.old (stated_names before) →
             ReadsOn Equals member_view (entry (home_of_file home.now) kind before) (left self.old) (left self.new) result }
         ensures seen { (before : List MemberSaid) → Remembers seen.old (stated_names before) →
@@ -347,7 +347,7 @@ impl<'t, 'a> Reader<'t, 'a> {
         alloc: Global,
         home: &FileHome<'_>,
         kind: MemberKind,
-    ) -> Result<Vec<MemberStatement>, Stop>
+    ) -> Result<Vec<MemberStatement>, ReadStop>
         ensures { ReadsOn (Either MemberStart Equals) (λ ms. member_statements_view ms.items) (each (entry (home_of_file home.now) kind))
             (left self.old) (left self.new) result }
     {
@@ -357,7 +357,7 @@ impl<'t, 'a> Reader<'t, 'a> {
             match self.entry(alloc, home, kind, &mut seen) {
                 Ok(member) => match members.push(member) {
                     Ok(()) => {}
-                    Err(_) => return Err(Stop::NoMemory),
+                    Err(_) => return Err(ReadStop::NoMemory),
                 },
                 Err(stop) => return Err(stop),
             }
@@ -371,7 +371,7 @@ impl<'t, 'a> Reader<'t, 'a> {
         alloc: Global,
         home: &FileHome<'_>,
         kind: MemberKind,
-    ) -> Result<Vec<MemberStatement>, Stop>
+    ) -> Result<Vec<MemberStatement>, ReadStop>
         ensures { ReadsAs (λ ms. member_statements_view ms.items) (members (form_of kind) (entry (home_of_file home.now) kind))
             (left self.old) (left self.new) result }
     {
@@ -388,7 +388,7 @@ impl<'t, 'a> Reader<'t, 'a> {
                 Ok(()) => Ok(members),
                 Err(stop) => Err(stop),
             },
-            None => Err(Stop::Syntax),
+            None => Err(ReadStop::Syntax),
         }
     }
 }

@@ -5,7 +5,7 @@ ghost use Rattle.sm_idl.specs.Words.{IsNew, key};
 ghost use Rattle.sm_idl.specs.steps.Names.{Remembers, SaysKey};
 ghost use Rattle.sm_idl.specs.steps.ReaderView.{left, Reads};
 
-use crate::reader::{Reader, Stop};
+use crate::reader::{ReadStop, Reader};
 use sm_lex::{Token, TokenKind, string_value};
 use sm_tree::{NoMemory, Text};
 use std::alloc::Global;
@@ -60,7 +60,11 @@ pub(crate) fn key_text(alloc: Global, token: &Token<'_>) -> Result<Option<Text>,
 
 impl<'t, 'a> Reader<'t, 'a> {
     /// Reads a key that didn't come before.
-    pub(crate) fn key(&mut self, alloc: Global, seen: &mut BTreeSet<String>) -> Result<Text, Stop>
+    pub(crate) fn key(
+        &mut self,
+        alloc: Global,
+        seen: &mut BTreeSet<String>,
+    ) -> Result<Text, ReadStop>
         ensures reads { (before : List (List ℕ)) → Remembers seen.old before →
             Reads (key before) (left self.old) (left self.new) result }
         ensures seen { (before : List (List ℕ)) → Remembers seen.old before →
@@ -74,15 +78,15 @@ impl<'t, 'a> Reader<'t, 'a> {
                             self.take();
                             Ok(text)
                         } else {
-                            Err(Stop::Syntax)
+                            Err(ReadStop::Syntax)
                         }
                     }
-                    Err(_) => Err(Stop::NoMemory),
+                    Err(_) => Err(ReadStop::NoMemory),
                 },
-                Ok(None) => Err(Stop::Syntax),
-                Err(_) => Err(Stop::NoMemory),
+                Ok(None) => Err(ReadStop::Syntax),
+                Err(_) => Err(ReadStop::NoMemory),
             },
-            None => Err(Stop::Syntax),
+            None => Err(ReadStop::Syntax),
         }
     }
 }

@@ -8,7 +8,7 @@ ghost use Rattle.sm_idl.specs.steps.Names.{Remembers};
 ghost use Rattle.sm_idl.specs.steps.ReaderView.{left, raw_pair, ReadsAs, ReadsOn};
 
 use crate::leaf::Words;
-use crate::reader::{Reader, Stop};
+use crate::reader::{ReadStop, Reader};
 use sm_model::{RawItems, RawNode, RawPairs};
 use sm_tree::Text;
 use std::alloc::Global;
@@ -22,7 +22,7 @@ impl<'t, 'a> Reader<'t, 'a> {
         alloc: Global,
         words: &W,
         levels: usize,
-    ) -> Result<RawNode, Stop>
+    ) -> Result<RawNode, ReadStop>
         ensures { ReadsAs raw_view (node (W.home words.now) levels) (left self.old) (left self.new) result }
     {
         if levels == 0 {
@@ -39,7 +39,12 @@ impl<'t, 'a> Reader<'t, 'a> {
 
     /// Reads an object whose nodes nest this many levels at most.
     #[cycle(node)]
-    fn object<W: Words>(&mut self, alloc: Global, words: &W, levels: usize) -> Result<RawNode, Stop>
+    fn object<W: Words>(
+        &mut self,
+        alloc: Global,
+        words: &W,
+        levels: usize,
+    ) -> Result<RawNode, ReadStop>
         ensures { ReadsAs raw_view (object_of (node (W.home words.now) levels)) (left self.old) (left self.new) result }
     {
         match self.mark("{") {
@@ -63,7 +68,7 @@ impl<'t, 'a> Reader<'t, 'a> {
         alloc: Global,
         words: &W,
         levels: usize,
-    ) -> Result<Vec<(Text, RawNode)>, Stop>
+    ) -> Result<Vec<(Text, RawNode)>, ReadStop>
         ensures { ReadsOn NoMark (λ pairs. raw_members_view pairs.items) (each (pair_of (node (W.home words.now) levels)))
             (left self.old) (left self.new) result }
     {
@@ -73,7 +78,7 @@ impl<'t, 'a> Reader<'t, 'a> {
             match self.pair(alloc, words, levels, &mut seen) {
                 Ok(pair) => match pairs.push(pair) {
                     Ok(()) => {}
-                    Err(_) => return Err(Stop::NoMemory),
+                    Err(_) => return Err(ReadStop::NoMemory),
                 },
                 Err(stop) => return Err(stop),
             }
@@ -89,7 +94,7 @@ impl<'t, 'a> Reader<'t, 'a> {
         words: &W,
         levels: usize,
         seen: &mut BTreeSet<String>,
-    ) -> Result<(Text, RawNode), Stop>
+    ) -> Result<(Text, RawNode), ReadStop>
         ensures reads { (before : List Pair) → Remembers seen.old (pair_names before) →
             ReadsAs raw_pair (pair_of (node (W.home words.now) levels) before) (left self.old) (left self.new) result }
         ensures seen { (before : List Pair) → Remembers seen.old (pair_names before) →
@@ -111,7 +116,12 @@ impl<'t, 'a> Reader<'t, 'a> {
 
     /// Reads a list whose nodes nest this many levels at most.
     #[cycle(node)]
-    fn list<W: Words>(&mut self, alloc: Global, words: &W, levels: usize) -> Result<RawNode, Stop>
+    fn list<W: Words>(
+        &mut self,
+        alloc: Global,
+        words: &W,
+        levels: usize,
+    ) -> Result<RawNode, ReadStop>
         ensures { ReadsAs raw_view (list_of (node (W.home words.now) levels)) (left self.old) (left self.new) result }
     {
         match self.mark("[") {
@@ -135,7 +145,7 @@ impl<'t, 'a> Reader<'t, 'a> {
         alloc: Global,
         words: &W,
         levels: usize,
-    ) -> Result<Vec<RawNode>, Stop>
+    ) -> Result<Vec<RawNode>, ReadStop>
         ensures { ReadsOn NodeStart (λ items. raws_view items.items) (many (node (W.home words.now) levels))
             (left self.old) (left self.new) result }
     {
@@ -144,7 +154,7 @@ impl<'t, 'a> Reader<'t, 'a> {
             match self.node(alloc, words, levels) {
                 Ok(node) => match items.push(node) {
                     Ok(()) => {}
-                    Err(_) => return Err(Stop::NoMemory),
+                    Err(_) => return Err(ReadStop::NoMemory),
                 },
                 Err(stop) => return Err(stop),
             }

@@ -18,7 +18,7 @@ use crate::docs::standing_for;
 use crate::home::FileHome;
 use crate::members::MemberKind;
 use crate::names::is_new;
-use crate::reader::{Reader, Stop};
+use crate::reader::{ReadStop, Reader};
 use crate::references::absolute;
 use crate::shapes::put;
 use crate::take::{is_mark, is_word};
@@ -34,21 +34,21 @@ use std::collections::BTreeSet;
 
 /// A side of an operation.
 #[derive(Debug, Clone, Copy, PartialEq, Eq, Drop)]
-pub(crate) enum Side {
+pub(crate) enum OperationSide {
     /// What it takes.
     Input,
     /// What it gives.
     Output,
 }
 
-impl Side {
+impl OperationSide {
     /// The word of the part.
     fn word(self) -> &'static str
         ensures { result.now ≡ side_word self }
     {
         match self {
-            Side::Input => "input",
-            Side::Output => "output",
+            OperationSide::Input => "input",
+            OperationSide::Output => "output",
         }
     }
 
@@ -57,8 +57,8 @@ impl Side {
         ensures { result.now ≡ api_id (side_word self) }
     {
         match self {
-            Side::Input => "smithy.api#input",
-            Side::Output => "smithy.api#output",
+            OperationSide::Input => "smithy.api#input",
+            OperationSide::Output => "smithy.api#output",
         }
     }
 }
@@ -180,7 +180,7 @@ fn inline_part(
     alloc: Global,
     home: &FileHome<'_>,
     structure: &str,
-    side: Side,
+    side: OperationSide,
     traits: Vec<TraitUse>,
     mixins: Vec<Ref>,
     members: Vec<MemberStatement>,
@@ -222,7 +222,7 @@ impl<'t, 'a> Reader<'t, 'a> {
         alloc: Global,
         name: &str,
         seen: &mut BTreeSet<String>,
-    ) -> Result<(), Stop>
+    ) -> Result<(), ReadStop>
         ensures reads { (before : List PartSaid) → Remembers seen.old (part_names before) →
             Reads (part_word name.now before) (left self.old) (left self.new) result }
         ensures seen { (before : List PartSaid) → Remembers seen.old (part_names before) →
@@ -231,7 +231,7 @@ impl<'t, 'a> Reader<'t, 'a> {
         match self.next() {
             Some(token) => {
                 if !is_word(&token, name) {
-                    return Err(Stop::Syntax);
+                    return Err(ReadStop::Syntax);
                 }
                 match is_new(alloc, seen, name) {
                     Ok(new) => {
@@ -239,18 +239,23 @@ impl<'t, 'a> Reader<'t, 'a> {
                             self.take();
                             Ok(())
                         } else {
-                            Err(Stop::Syntax)
+                            Err(ReadStop::Syntax)
                         }
                     }
-                    Err(_) => Err(Stop::NoMemory),
+                    Err(_) => Err(ReadStop::NoMemory),
                 }
             }
-            None => Err(Stop::Syntax),
+            None => Err(ReadStop::Syntax),
         }
     }
 
     /// Reads a colon and the shape of a part.
-    fn part_target(&mut self, alloc: Global, home: &FileHome<'_>, name: &str) -> Result<Part, Stop>
+    fn part_target(
+        &mut self,
+        alloc: Global,
+        home: &FileHome<'_>,
+        name: &str,
+    ) -> Result<Part, ReadStop>
         ensures { ReadsAs part_view (part_target (home_of_file home.now) name.now) (left self.old) (left self.new) result }
     {
         match self.mark(":") {
@@ -263,7 +268,7 @@ impl<'t, 'a> Reader<'t, 'a> {
         };
         match target_part(alloc, home, name, word) {
             Ok(part) => Ok(part),
-            Err(_) => Err(Stop::NoMemory),
+            Err(_) => Err(ReadStop::NoMemory),
         }
     }
 
@@ -273,13 +278,13 @@ impl<'t, 'a> Reader<'t, 'a> {
         alloc: Global,
         operation: &str,
         suffix: &Option<Text>,
-    ) -> Result<Text, Stop>
+    ) -> Result<Text, ReadStop>
         ensures { Reads (inline_name operation.now suffix.now) (left self.old) (left self.new) result }
     {
         match self.next() {
             Some(token) => {
                 if !is_mark(&token, ":=") {
-                    return Err(Stop::Syntax);
+                    return Err(ReadStop::Syntax);
                 }
                 match suffix {
                     Some(end) => match joined(alloc, operation, end.as_str()) {
@@ -288,15 +293,15 @@ impl<'t, 'a> Reader<'t, 'a> {
                                 self.take();
                                 Ok(name)
                             } else {
-                                Err(Stop::Syntax)
+                                Err(ReadStop::Syntax)
                             }
                         }
-                        Err(_) => Err(Stop::NoMemory),
+                        Err(_) => Err(ReadStop::NoMemory),
                     },
-                    None => Err(Stop::Syntax),
+                    None => Err(ReadStop::Syntax),
                 }
             }
-            None => Err(Stop::Syntax),
+            None => Err(ReadStop::Syntax),
         }
     }
 
@@ -306,9 +311,9 @@ impl<'t, 'a> Reader<'t, 'a> {
         alloc: Global,
         home: &FileHome<'_>,
         structure: &str,
-        side: Side,
+        side: OperationSide,
         given: Vec<TraitUse>,
-    ) -> Result<Part, Stop>
+    ) -> Result<Part, ReadStop>
         requires { IsIdentifier structure.now }
         ensures { (docs : List TraitSaid) → traits_view given.items ≡ standing_for (side_word side) empty_raw ∷ docs →
             ReadsAs part_view (inline_with (home_of_file home.now) structure.now (side_word side) docs) (left self.old) (left self.new)
@@ -329,7 +334,7 @@ impl<'t, 'a> Reader<'t, 'a> {
         };
         match inline_part(alloc, home, structure, side, traits, mixins, members) {
             Ok(part) => Ok(part),
-            Err(_) => Err(Stop::NoMemory),
+            Err(_) => Err(ReadStop::NoMemory),
         }
     }
 
@@ -340,8 +345,8 @@ impl<'t, 'a> Reader<'t, 'a> {
         home: &FileHome<'_>,
         operation: &str,
         suffix: &Option<Text>,
-        side: Side,
-    ) -> Result<Part, Stop>
+        side: OperationSide,
+    ) -> Result<Part, ReadStop>
         ensures { ReadsAs part_view (part_inline (home_of_file home.now) operation.now suffix.now (side_word side)) (left self.old)
             (left self.new) result }
     {
@@ -351,11 +356,11 @@ impl<'t, 'a> Reader<'t, 'a> {
         };
         let docs = match self.docs(alloc) {
             Ok(docs) => docs,
-            Err(_) => return Err(Stop::NoMemory),
+            Err(_) => return Err(ReadStop::NoMemory),
         };
         match with_first(alloc, side.trait_id(), docs) {
             Ok(given) => self.inline_with(alloc, home, structure.as_str(), side, given),
-            Err(_) => Err(Stop::NoMemory),
+            Err(_) => Err(ReadStop::NoMemory),
         }
     }
 
@@ -366,9 +371,9 @@ impl<'t, 'a> Reader<'t, 'a> {
         home: &FileHome<'_>,
         operation: &str,
         suffix: &Option<Text>,
-        side: Side,
+        side: OperationSide,
         seen: &mut BTreeSet<String>,
-    ) -> Result<Part, Stop>
+    ) -> Result<Part, ReadStop>
         ensures reads { (before : List PartSaid) → Remembers seen.old (part_names before) →
             ReadsAs part_view (part_shape (home_of_file home.now) operation.now suffix.now (side_word side) before) (left self.old)
             (left self.new) result }
@@ -392,7 +397,7 @@ impl<'t, 'a> Reader<'t, 'a> {
         alloc: Global,
         home: &FileHome<'_>,
         seen: &mut BTreeSet<String>,
-    ) -> Result<Part, Stop>
+    ) -> Result<Part, ReadStop>
         ensures reads { (before : List PartSaid) → Remembers seen.old (part_names before) →
             ReadsAs part_view (part_errors (home_of_file home.now) before) (left self.old) (left self.new) result }
         ensures seen { (before : List PartSaid) → Remembers seen.old (part_names before) →
@@ -420,7 +425,7 @@ impl<'t, 'a> Reader<'t, 'a> {
         }
         match errors_part(alloc, ids) {
             Ok(part) => Ok(part),
-            Err(_) => Err(Stop::NoMemory),
+            Err(_) => Err(ReadStop::NoMemory),
         }
     }
 
@@ -432,7 +437,7 @@ impl<'t, 'a> Reader<'t, 'a> {
         endings: &Suffixes,
         operation: &str,
         seen: &mut BTreeSet<String>,
-    ) -> Result<Part, Stop>
+    ) -> Result<Part, ReadStop>
         ensures reads { (before : List PartSaid) → Remembers seen.old (part_names before) →
             ReadsAs part_view (part (home_of_file home.now) (suffixes_view endings.now) operation.now before) (left self.old)
             (left self.new) result }
@@ -440,10 +445,24 @@ impl<'t, 'a> Reader<'t, 'a> {
             IfOk result (λ part. Remembers seen.new (part_names (before ++ part_view part ∷ []))) }
     {
         if self.is_at_word("input") {
-            return self.part_shape(alloc, home, operation, &endings.input, Side::Input, seen);
+            return self.part_shape(
+                alloc,
+                home,
+                operation,
+                &endings.input,
+                OperationSide::Input,
+                seen,
+            );
         }
         if self.is_at_word("output") {
-            return self.part_shape(alloc, home, operation, &endings.output, Side::Output, seen);
+            return self.part_shape(
+                alloc,
+                home,
+                operation,
+                &endings.output,
+                OperationSide::Output,
+                seen,
+            );
         }
         self.part_errors(alloc, home, seen)
     }
@@ -455,7 +474,7 @@ impl<'t, 'a> Reader<'t, 'a> {
         home: &FileHome<'_>,
         endings: &Suffixes,
         operation: &str,
-    ) -> Result<Parts, Stop>
+    ) -> Result<Parts, ReadStop>
         ensures { ReadsParts (home_of_file home.now) (suffixes_view endings.now) operation.now (left self.old) (left self.new) result }
     {
         let mut seen: BTreeSet<String> = BTreeSet::new(alloc);
@@ -465,7 +484,7 @@ impl<'t, 'a> Reader<'t, 'a> {
             match self.part(alloc, home, endings, operation, &mut seen) {
                 Ok(part) => match put_part(&mut pairs, &mut defined, part) {
                     Ok(()) => {}
-                    Err(_) => return Err(Stop::NoMemory),
+                    Err(_) => return Err(ReadStop::NoMemory),
                 },
                 Err(stop) => return Err(stop),
             }

@@ -15,7 +15,7 @@ ghost use Rattle.sm_idl.specs.steps.ReaderView.{left};
 
 use crate::file::{Beginning, File, has_version, metadata_statements, suffixes};
 use crate::home::FileHome;
-use crate::reader::{Reader, Stop};
+use crate::reader::{ReadStop, Reader};
 use crate::refusal::IdlRefusal;
 use crate::unknown::{AnyHome, NoHome};
 use sm_lex::{LexRefusal, Token, tokens};
@@ -58,7 +58,7 @@ impl<'t, 'a> Reader<'t, 'a> {
     }
 
     /// Reads a file without a namespace.
-    fn without_namespace(&mut self, alloc: Global) -> Result<File, Stop>
+    fn without_namespace(&mut self, alloc: Global) -> Result<File, ReadStop>
         ensures { (cs ms : List Pair) → BeginSaid (Some no_namespace) cs ms (left self.old) []
             → ReadsFile (left self.old) (left self.new) result }
     {
@@ -71,7 +71,7 @@ impl<'t, 'a> Reader<'t, 'a> {
                 controls,
                 statements,
             }),
-            Err(_) => Err(Stop::NoMemory),
+            Err(_) => Err(ReadStop::NoMemory),
         }
     }
 
@@ -81,7 +81,7 @@ impl<'t, 'a> Reader<'t, 'a> {
         alloc: Global,
         start: Reader<'t, 'a>,
         home: &FileHome<'_>,
-    ) -> Result<File, Stop>
+    ) -> Result<File, ReadStop>
         ensures { InSection (home_of_file home.now) (left start.entry) (left self.old)
             → ReadsFile (left start.entry) (left self.new) result }
     {
@@ -95,11 +95,11 @@ impl<'t, 'a> Reader<'t, 'a> {
         };
         let endings = match suffixes(alloc, controls.as_slice()) {
             Ok(endings) => endings,
-            Err(_) => return Err(Stop::NoMemory),
+            Err(_) => return Err(ReadStop::NoMemory),
         };
         let mut statements = match metadata_statements(alloc, metadata) {
             Ok(statements) => statements,
-            Err(_) => return Err(Stop::NoMemory),
+            Err(_) => return Err(ReadStop::NoMemory),
         };
         match self.statements(alloc, home, &endings, &mut statements) {
             Ok(()) => {}
@@ -111,11 +111,11 @@ impl<'t, 'a> Reader<'t, 'a> {
                 statements,
             });
         }
-        Err(Stop::Syntax)
+        Err(ReadStop::Syntax)
     }
 
     /// Reads a file from its namespace on.
-    fn with_namespace(&mut self, alloc: Global, start: Reader<'t, 'a>) -> Result<File, Stop>
+    fn with_namespace(&mut self, alloc: Global, start: Reader<'t, 'a>) -> Result<File, ReadStop>
         ensures { (cs ms : List Pair) → BeginSaid (Some no_namespace) cs ms (left start.entry) (left self.old)
             → HeadIs Namespace (left self.old)
             → ReadsFile (left start.entry) (left self.new) result }
@@ -134,7 +134,7 @@ impl<'t, 'a> Reader<'t, 'a> {
         };
         let shared = match Uses::new(alloc, uses) {
             Ok(shared) => shared,
-            Err(_) => return Err(Stop::NoMemory),
+            Err(_) => return Err(ReadStop::NoMemory),
         };
         let home = FileHome {
             namespace,
@@ -144,7 +144,7 @@ impl<'t, 'a> Reader<'t, 'a> {
     }
 
     /// Reads a file.
-    fn file(&mut self, alloc: Global) -> Result<File, Stop>
+    fn file(&mut self, alloc: Global) -> Result<File, ReadStop>
         ensures { ReadsFile (left self.old) (left self.new) result }
     {
         let start = *self;
@@ -159,20 +159,20 @@ impl<'t, 'a> Reader<'t, 'a> {
         if self.is_at_word("namespace") {
             return self.with_namespace(alloc, start);
         }
-        Err(Stop::Syntax)
+        Err(ReadStop::Syntax)
     }
 }
 
 /// Why reading stops, as the refusal of this text.
-fn stopped(stop: Stop, reader: &Reader<'_, '_>, text: &str) -> IdlRefusal
+fn stopped(stop: ReadStop, reader: &Reader<'_, '_>, text: &str) -> IdlRefusal
     ensures { StoppedAs (length text.now) (left reader.now) stop result }
 {
     match stop {
-        Stop::Syntax => match reader.next() {
+        ReadStop::Syntax => match reader.next() {
             Some(token) => IdlRefusal::Syntax(token.start),
             None => IdlRefusal::Syntax(text.len() as u64),
         },
-        Stop::NoMemory => IdlRefusal::NoMemory,
+        ReadStop::NoMemory => IdlRefusal::NoMemory,
     }
 }
 

@@ -8,7 +8,7 @@ use sm_lex::Token;
 
 /// Why reading stops.
 #[derive(Debug, Clone, Copy, PartialEq, Eq, Drop)]
-pub(crate) enum Stop {
+pub(crate) enum ReadStop {
     /// The next token, or the end of the tokens, goes on with nothing.
     Syntax,
     /// The allocator refused.

@@ -17,7 +17,7 @@ use crate::home::FileHome;
 use crate::made::{empty_node, object_node};
 use crate::members::MemberKind;
 use crate::operations::Suffixes;
-use crate::reader::{Reader, Stop};
+use crate::reader::{ReadStop, Reader};
 use sm_lex::TokenKind;
 use sm_model::{
     Kind, MemberStatement, MemberStatements, RawNode, Ref, Refs, ShapeStatement, Statement,
@@ -137,7 +137,7 @@ fn stated(
 
 impl<'t, 'a> Reader<'t, 'a> {
     /// Reads the mixins of a simple shape.
-    fn simple_body(&mut self, alloc: Global, home: &FileHome<'_>) -> Result<Body, Stop>
+    fn simple_body(&mut self, alloc: Global, home: &FileHome<'_>) -> Result<Body, ReadStop>
         ensures { ReadsOn With body_view (simple_body (home_of_file home.now)) (left self.old) (left self.new) result }
     {
         match self.mixins(alloc, home) {
@@ -157,7 +157,7 @@ impl<'t, 'a> Reader<'t, 'a> {
         alloc: Global,
         home: &FileHome<'_>,
         kind: MemberKind,
-    ) -> Result<Body, Stop>
+    ) -> Result<Body, ReadStop>
         ensures { ReadsAs body_view (members_body (home_of_file home.now) (form_of kind) (entry (home_of_file home.now) kind))
             (left self.old) (left self.new) result }
     {
@@ -183,7 +183,7 @@ impl<'t, 'a> Reader<'t, 'a> {
         home: &FileHome<'_>,
         endings: &Suffixes,
         name: &str,
-    ) -> Result<Body, Stop>
+    ) -> Result<Body, ReadStop>
         ensures { ReadsAs body_view (operation_body (home_of_file home.now) (suffixes_view endings.now) name.now) (left self.old)
             (left self.new) result }
     {
@@ -207,7 +207,12 @@ impl<'t, 'a> Reader<'t, 'a> {
     }
 
     /// Reads the fields of a service or a resource.
-    fn pairs_body(&mut self, alloc: Global, home: &FileHome<'_>, kind: Kind) -> Result<Body, Stop>
+    fn pairs_body(
+        &mut self,
+        alloc: Global,
+        home: &FileHome<'_>,
+        kind: Kind,
+    ) -> Result<Body, ReadStop>
         ensures { ReadsAs body_view (pairs_body (home_of_file home.now) kind) (left self.old) (left self.new) result }
     {
         match self.properties(alloc, home, kind) {
@@ -229,7 +234,7 @@ impl<'t, 'a> Reader<'t, 'a> {
         endings: &Suffixes,
         kind: Kind,
         name: &str,
-    ) -> Result<Body, Stop>
+    ) -> Result<Body, ReadStop>
         ensures { ReadsOn With body_view (body (home_of_file home.now) (suffixes_view endings.now) kind name.now) (left self.old)
             (left self.new) result }
     {
@@ -249,7 +254,7 @@ impl<'t, 'a> Reader<'t, 'a> {
         endings: &Suffixes,
         docs: Vec<TraitUse>,
         statements: &mut Vec<Statement>,
-    ) -> Result<(), Stop>
+    ) -> Result<(), ReadStop>
         ensures { AddsSaid With (shape_with (home_of_file home.now) (suffixes_view endings.now) (traits_view docs.items))
             (statements_view statements.old.items) (statements_view statements.new.items) (left self.old) (left self.new) result }
     {
@@ -272,7 +277,7 @@ impl<'t, 'a> Reader<'t, 'a> {
         };
         match stated(alloc, home, kind, name, traits, body, statements) {
             Ok(()) => Ok(()),
-            Err(_) => Err(Stop::NoMemory),
+            Err(_) => Err(ReadStop::NoMemory),
         }
     }
 
@@ -283,13 +288,13 @@ impl<'t, 'a> Reader<'t, 'a> {
         home: &FileHome<'_>,
         endings: &Suffixes,
         statements: &mut Vec<Statement>,
-    ) -> Result<(), Stop>
+    ) -> Result<(), ReadStop>
         ensures { AddsSaid With (shape (home_of_file home.now) (suffixes_view endings.now))
             (statements_view statements.old.items) (statements_view statements.new.items) (left self.old) (left self.new) result }
     {
         match self.docs(alloc) {
             Ok(docs) => self.shape_with(alloc, home, endings, docs, statements),
-            Err(_) => Err(Stop::NoMemory),
+            Err(_) => Err(ReadStop::NoMemory),
         }
     }
 
@@ -300,7 +305,7 @@ impl<'t, 'a> Reader<'t, 'a> {
         home: &FileHome<'_>,
         endings: &Suffixes,
         statements: &mut Vec<Statement>,
-    ) -> Result<(), Stop>
+    ) -> Result<(), ReadStop>
         ensures { AddsSaid ItemGoesOn (item (home_of_file home.now) (suffixes_view endings.now))
             (statements_view statements.old.items) (statements_view statements.new.items) (left self.old) (left self.new) result }
     {
@@ -308,7 +313,7 @@ impl<'t, 'a> Reader<'t, 'a> {
             return match self.apply(alloc, home) {
                 Ok(applied) => match put(statements, applied) {
                     Ok(()) => Ok(()),
-                    Err(_) => Err(Stop::NoMemory),
+                    Err(_) => Err(ReadStop::NoMemory),
                 },
                 Err(stop) => Err(stop),
             };
@@ -343,7 +348,7 @@ impl<'t, 'a> Reader<'t, 'a> {
         home: &FileHome<'_>,
         endings: &Suffixes,
         statements: &mut Vec<Statement>,
-    ) -> Result<(), Stop>
+    ) -> Result<(), ReadStop>
         ensures { ReadsItems (home_of_file home.now) (suffixes_view endings.now)
             (statements_view statements.old.items) (statements_view statements.new.items) (left self.old) (left self.new) result }
     {

@@ -6,7 +6,7 @@ ghost use Rattle.sm_idl.specs.steps.Firm.{HeadIs};
 ghost use Rattle.sm_idl.specs.steps.Classes.{AMark, AWord, AnyWord, NoMark, NodeStart};
 ghost use Rattle.sm_idl.specs.steps.ReaderView.{left, Peeks, TakesToken, Reads};
 
-use crate::reader::{Reader, Stop};
+use crate::reader::{ReadStop, Reader};
 use sm_lex::{Token, TokenKind};
 
 /// Whether the token is this mark.
@@ -59,7 +59,7 @@ impl<'t, 'a> Reader<'t, 'a> {
     }
 
     /// Reads a mark.
-    pub(crate) fn mark(&mut self, text: &str) -> Result<(), Stop>
+    pub(crate) fn mark(&mut self, text: &str) -> Result<(), ReadStop>
         ensures { Reads (mark text.now) (left self.old) (left self.new) result }
     {
         match self.next() {
@@ -68,15 +68,15 @@ impl<'t, 'a> Reader<'t, 'a> {
                     self.take();
                     Ok(())
                 } else {
-                    Err(Stop::Syntax)
+                    Err(ReadStop::Syntax)
                 }
             }
-            None => Err(Stop::Syntax),
+            None => Err(ReadStop::Syntax),
         }
     }
 
     /// Reads a word.
-    pub(crate) fn the_word(&mut self, text: &str) -> Result<(), Stop>
+    pub(crate) fn the_word(&mut self, text: &str) -> Result<(), ReadStop>
         ensures { Reads (the_word text.now) (left self.old) (left self.new) result }
     {
         match self.next() {
@@ -85,10 +85,10 @@ impl<'t, 'a> Reader<'t, 'a> {
                     self.take();
                     Ok(())
                 } else {
-                    Err(Stop::Syntax)
+                    Err(ReadStop::Syntax)
                 }
             }
-            None => Err(Stop::Syntax),
+            None => Err(ReadStop::Syntax),
         }
     }
 

@@ -14,7 +14,7 @@ ghost use Rattle.sm_idl.specs.steps.TraitSteps.{AddsTraits};
 
 use crate::home::FileHome;
 use crate::made::{empty_node, object_node};
-use crate::reader::{Reader, Stop};
+use crate::reader::{ReadStop, Reader};
 use crate::word::is_node_word;
 use sm_lex::TokenKind;
 use sm_model::{RawNode, Statement, TraitUse, TraitUses};
@@ -59,7 +59,7 @@ impl<'t, 'a> Reader<'t, 'a> {
     }
 
     /// Reads what stands between a trait's parentheses: nothing, pairs, or a node.
-    fn argument(&mut self, alloc: Global, home: &FileHome<'_>) -> Result<Option<RawNode>, Stop>
+    fn argument(&mut self, alloc: Global, home: &FileHome<'_>) -> Result<Option<RawNode>, ReadStop>
         ensures { ReadsOn ArgumentGoesOn maybe_raw (maybe (pairs_or_node (home_of_file home.now))) (left self.old) (left self.new) result }
     {
         if self.is_at_pair() {
@@ -78,7 +78,7 @@ impl<'t, 'a> Reader<'t, 'a> {
     }
 
     /// Reads a trait's parentheses.
-    fn arguments(&mut self, alloc: Global, home: &FileHome<'_>) -> Result<Option<RawNode>, Stop>
+    fn arguments(&mut self, alloc: Global, home: &FileHome<'_>) -> Result<Option<RawNode>, ReadStop>
         ensures { ReadsAs maybe_raw (arguments (home_of_file home.now)) (left self.old) (left self.new) result }
     {
         match self.mark("(") {
@@ -96,7 +96,11 @@ impl<'t, 'a> Reader<'t, 'a> {
     }
 
     /// Reads a trait's parentheses, where they stand.
-    fn given(&mut self, alloc: Global, home: &FileHome<'_>) -> Result<Option<Option<RawNode>>, Stop>
+    fn given(
+        &mut self,
+        alloc: Global,
+        home: &FileHome<'_>,
+    ) -> Result<Option<Option<RawNode>>, ReadStop>
         ensures { ReadsOn Paren (option_map maybe_raw) (maybe (arguments (home_of_file home.now))) (left self.old) (left self.new) result }
     {
         if self.is_at_mark("(") {
@@ -109,7 +113,7 @@ impl<'t, 'a> Reader<'t, 'a> {
     }
 
     /// Reads a trait.
-    fn applied(&mut self, alloc: Global, home: &FileHome<'_>) -> Result<TraitUse, Stop>
+    fn applied(&mut self, alloc: Global, home: &FileHome<'_>) -> Result<TraitUse, ReadStop>
         ensures { ReadsOn Paren trait_view (applied (home_of_file home.now)) (left self.old) (left self.new) result }
     {
         match self.mark("@") {
@@ -129,7 +133,7 @@ impl<'t, 'a> Reader<'t, 'a> {
                 id,
                 value: argument_value(alloc, given),
             }),
-            Err(_) => Err(Stop::NoMemory),
+            Err(_) => Err(ReadStop::NoMemory),
         }
     }
 
@@ -139,7 +143,7 @@ impl<'t, 'a> Reader<'t, 'a> {
         alloc: Global,
         home: &FileHome<'_>,
         traits: &mut Vec<TraitUse>,
-    ) -> Result<(), Stop>
+    ) -> Result<(), ReadStop>
         ensures { AddsTraits (home_of_file home.now) (traits_view traits.old.items) (traits_view traits.new.items)
             (left self.old) (left self.new) result }
     {
@@ -147,7 +151,7 @@ impl<'t, 'a> Reader<'t, 'a> {
             match self.applied(alloc, home) {
                 Ok(applied) => match traits.push(applied) {
                     Ok(()) => {}
-                    Err(_) => return Err(Stop::NoMemory),
+                    Err(_) => return Err(ReadStop::NoMemory),
                 },
                 Err(stop) => return Err(stop),
             }
@@ -156,7 +160,7 @@ impl<'t, 'a> Reader<'t, 'a> {
     }
 
     /// Reads the traits of an apply statement: one, or several between braces.
-    fn targets(&mut self, alloc: Global, home: &FileHome<'_>) -> Result<Vec<TraitUse>, Stop>
+    fn targets(&mut self, alloc: Global, home: &FileHome<'_>) -> Result<Vec<TraitUse>, ReadStop>
         ensures { ReadsOn Paren (λ traits. traits_view traits.items)
             (one_trait (home_of_file home.now) or braced_traits (home_of_file home.now)) (left self.old) (left self.new) result }
     {
@@ -168,7 +172,7 @@ impl<'t, 'a> Reader<'t, 'a> {
                 let mut traits: Vec<TraitUse> = Vec::new(alloc);
                 match traits.push(applied) {
                     Ok(()) => Ok(traits),
-                    Err(_) => Err(Stop::NoMemory),
+                    Err(_) => Err(ReadStop::NoMemory),
                 }
             }
             Err(stop) => Err(stop),
@@ -176,7 +180,11 @@ impl<'t, 'a> Reader<'t, 'a> {
     }
 
     /// Reads traits between braces.
-    fn braced_traits(&mut self, alloc: Global, home: &FileHome<'_>) -> Result<Vec<TraitUse>, Stop>
+    fn braced_traits(
+        &mut self,
+        alloc: Global,
+        home: &FileHome<'_>,
+    ) -> Result<Vec<TraitUse>, ReadStop>
         ensures { ReadsAs (λ traits. traits_view traits.items) (braced_traits (home_of_file home.now)) (left self.old) (left self.new)
             result }
     {
@@ -196,7 +204,11 @@ impl<'t, 'a> Reader<'t, 'a> {
     }
 
     /// Reads an apply statement.
-    pub(crate) fn apply(&mut self, alloc: Global, home: &FileHome<'_>) -> Result<Statement, Stop>
+    pub(crate) fn apply(
+        &mut self,
+        alloc: Global,
+        home: &FileHome<'_>,
+    ) -> Result<Statement, ReadStop>
         ensures { ReadsOn Paren statement_view (apply (home_of_file home.now)) (left self.old) (left self.new) result }
     {
         match self.the_word("apply") {
@@ -213,7 +225,7 @@ impl<'t, 'a> Reader<'t, 'a> {
         };
         match home.reference(alloc, word, false) {
             Ok(id) => Ok(Statement::Apply(id, TraitUses::new(traits))),
-            Err(_) => Err(Stop::NoMemory),
+            Err(_) => Err(ReadStop::NoMemory),
         }
     }
 }

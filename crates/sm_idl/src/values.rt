@@ -6,14 +6,14 @@ ghost use Rattle.sm_idl.specs.steps.HomeView.{home_of_file};
 ghost use Rattle.sm_idl.specs.steps.ReaderView.{left, maybe_raw, ReadsAs, ReadsOn};
 
 use crate::home::FileHome;
-use crate::reader::{Reader, Stop};
+use crate::reader::{ReadStop, Reader};
 use sm_model::RawNode;
 use sm_tree::MOST_LEVELS;
 use std::alloc::Global;
 
 impl<'t, 'a> Reader<'t, 'a> {
     /// Reads `=` and a node.
-    fn equals_node(&mut self, alloc: Global, home: &FileHome<'_>) -> Result<RawNode, Stop>
+    fn equals_node(&mut self, alloc: Global, home: &FileHome<'_>) -> Result<RawNode, ReadStop>
         ensures { ReadsAs raw_view (equals_node (home_of_file home.now)) (left self.old) (left self.new) result }
     {
         match self.mark("=") {
@@ -31,7 +31,7 @@ impl<'t, 'a> Reader<'t, 'a> {
         &mut self,
         alloc: Global,
         home: &FileHome<'_>,
-    ) -> Result<Option<RawNode>, Stop>
+    ) -> Result<Option<RawNode>, ReadStop>
         ensures { ReadsOn Equals maybe_raw (given_value (home_of_file home.now)) (left self.old) (left self.new) result }
     {
         if self.is_at_mark("=") {

@@ -8,7 +8,7 @@ ghost use Rattle.sm_idl.specs.Nodes.{Home, IsNodeId, WordSays};
 ghost use Rattle.sm_idl.specs.Shapes.{type_word};
 ghost use Rattle.sm_idl.specs.steps.ReaderView.{left, Reads, ReadsAs};
 
-use crate::reader::{Reader, Stop};
+use crate::reader::{ReadStop, Reader};
 use sm_ids::{ShapeIdRef, is_identifier, is_namespace};
 use sm_lex::TokenKind;
 use sm_model::Kind;
@@ -67,7 +67,7 @@ pub(crate) fn is_node_id(word: &str) -> bool
 
 impl<'t, 'a> Reader<'t, 'a> {
     /// Reads an identifier.
-    pub(crate) fn identifier(&mut self) -> Result<&'a str, Stop>
+    pub(crate) fn identifier(&mut self) -> Result<&'a str, ReadStop>
         ensures { ReadsAs (λ w. w.now) identifier (left self.old) (left self.new) result }
     {
         match self.next() {
@@ -77,17 +77,17 @@ impl<'t, 'a> Reader<'t, 'a> {
                         self.take();
                         Ok(token.text)
                     } else {
-                        Err(Stop::Syntax)
+                        Err(ReadStop::Syntax)
                     }
                 }
-                _ => Err(Stop::Syntax),
+                _ => Err(ReadStop::Syntax),
             },
-            None => Err(Stop::Syntax),
+            None => Err(ReadStop::Syntax),
         }
     }
 
     /// Reads an id.
-    pub(crate) fn id(&mut self) -> Result<&'a str, Stop>
+    pub(crate) fn id(&mut self) -> Result<&'a str, ReadStop>
         ensures { ReadsAs (λ w. w.now) id (left self.old) (left self.new) result }
     {
         match self.next() {
@@ -97,17 +97,17 @@ impl<'t, 'a> Reader<'t, 'a> {
                         self.take();
                         Ok(token.text)
                     } else {
-                        Err(Stop::Syntax)
+                        Err(ReadStop::Syntax)
                     }
                 }
-                _ => Err(Stop::Syntax),
+                _ => Err(ReadStop::Syntax),
             },
-            None => Err(Stop::Syntax),
+            None => Err(ReadStop::Syntax),
         }
     }
 
     /// Reads the name of a type.
-    pub(crate) fn type_word(&mut self) -> Result<Kind, Stop>
+    pub(crate) fn type_word(&mut self) -> Result<Kind, ReadStop>
         ensures { Reads type_word (left self.old) (left self.new) result }
     {
         match self.next() {
@@ -117,16 +117,16 @@ impl<'t, 'a> Reader<'t, 'a> {
                         self.take();
                         Ok(kind)
                     }
-                    None => Err(Stop::Syntax),
+                    None => Err(ReadStop::Syntax),
                 },
-                _ => Err(Stop::Syntax),
+                _ => Err(ReadStop::Syntax),
             },
-            None => Err(Stop::Syntax),
+            None => Err(ReadStop::Syntax),
         }
     }
 
     /// Reads an id of a node.
-    pub(crate) fn node_id(&mut self) -> Result<&'a str, Stop>
+    pub(crate) fn node_id(&mut self) -> Result<&'a str, ReadStop>
         ensures { ReadsAs (λ w. w.now) (word_that IsNodeId) (left self.old) (left self.new) result }
     {
         match self.next() {
@@ -136,17 +136,17 @@ impl<'t, 'a> Reader<'t, 'a> {
                         self.take();
                         Ok(token.text)
                     } else {
-                        Err(Stop::Syntax)
+                        Err(ReadStop::Syntax)
                     }
                 }
-                _ => Err(Stop::Syntax),
+                _ => Err(ReadStop::Syntax),
             },
-            None => Err(Stop::Syntax),
+            None => Err(ReadStop::Syntax),
         }
     }
 
     /// Reads a namespace.
-    pub(crate) fn namespace(&mut self) -> Result<&'a str, Stop>
+    pub(crate) fn namespace(&mut self) -> Result<&'a str, ReadStop>
         ensures { ReadsAs (λ w. w.now) (word_that IsNamespace) (left self.old) (left self.new) result }
     {
         match self.next() {
@@ -156,12 +156,12 @@ impl<'t, 'a> Reader<'t, 'a> {
                         self.take();
                         Ok(token.text)
                     } else {
-                        Err(Stop::Syntax)
+                        Err(ReadStop::Syntax)
                     }
                 }
-                _ => Err(Stop::Syntax),
+                _ => Err(ReadStop::Syntax),
             },
-            None => Err(Stop::Syntax),
+            None => Err(ReadStop::Syntax),
         }
     }
 }

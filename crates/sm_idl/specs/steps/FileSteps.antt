@@ -17,8 +17,8 @@ use Rattle.sm_idl.specs.Nodes.{Home, Pair}
 use Rattle.sm_idl.specs.Idl.{control, metadata, used, is_absolute, FileSaid, file, FileSpelled}
 use Rattle.sm_idl.specs.declared.file.Beginning.{Beginning}
 use Rattle.sm_idl.specs.declared.file.File.{File}
-use Rattle.sm_idl.specs.declared.reader.Stop.{Stop}
-use Rattle.sm_idl.specs.declared.reader.Stop.TheVariants.{Syntax, NoMemory}
+use Rattle.sm_idl.specs.declared.reader.ReadStop.{ReadStop}
+use Rattle.sm_idl.specs.declared.reader.ReadStop.TheVariants.{Syntax, NoMemory}
 use Rattle.sm_idl.specs.steps.FileClasses.{Dollar, Metadata, Namespace, Use}
 use Rattle.sm_idl.specs.steps.Firm.{Class, HeadIs}
 use Rattle.sm_idl.specs.steps.ReaderView.{StopsIn}
@@ -29,7 +29,7 @@ abbrev pub no_namespace : Home
 no_namespace = record { namespace = []; uses = [] }
 
 -- pairs are read, and no more of them stand behind
-abbrev pub ReadsRow : Class → Production (List Pair) → Tokens → Tokens → Result (Vec (List ℕ × RawNode) Global) Stop → Type 0
+abbrev pub ReadsRow : Class → Production (List Pair) → Tokens → Tokens → Result (Vec (List ℕ × RawNode) Global) ReadStop → Type 0
 ReadsRow A P s r (Ok pairs) = P.whole (raw_members_view pairs.items) s r × (HeadIs A r → ⊥)
 ReadsRow A P s r (Err stop) = StopsIn A P s r stop
 
@@ -39,17 +39,17 @@ BeginSaid home cs ms s r =
     (mid : Tokens) × (each (control home)).whole cs s mid × (HeadIs Dollar mid → ⊥) × (each (metadata home)).whole ms mid r
     × (HeadIs Metadata r → ⊥)
 
-abbrev pub BeginStops : Option Home → Tokens → Tokens → Stop → Type 0
+abbrev pub BeginStops : Option Home → Tokens → Tokens → ReadStop → Type 0
 BeginStops home s r stop = StopsIn Dollar (each (control home)) s r stop
     ⊎ ((cs : List Pair) × (mid : Tokens) × (each (control home)).whole cs s mid × (HeadIs Dollar mid → ⊥)
     × StopsIn Metadata (each (metadata home)) mid r stop)
 
-abbrev pub ReadsBeginning : Option Home → Tokens → Tokens → Result Beginning Stop → Type 0
+abbrev pub ReadsBeginning : Option Home → Tokens → Tokens → Result Beginning ReadStop → Type 0
 ReadsBeginning home s r (Ok b) = BeginSaid home (raw_members_view b.controls.items) (raw_members_view b.metadata.items) s r
 ReadsBeginning home s r (Err stop) = BeginStops home s r stop
 
 -- words are read, and these are the ids that are used
-abbrev pub ReadsUses : Tokens → Tokens → Result (Vec ShapeId Global) Stop → Type 0
+abbrev pub ReadsUses : Tokens → Tokens → Result (Vec ShapeId Global) ReadStop → Type 0
 ReadsUses s r (Ok uses) = (ws : List (List ℕ)) × (uses.items ≡ filter is_absolute ws) × IsRead Use (many used) ws s r
 ReadsUses s r (Err stop) = StopsIn Use (many used) s r stop
 
@@ -62,12 +62,12 @@ pub record FileStops (s r : Tokens) : Type 0 where
   pub stops : (t : Spaced) (q : Tokens) → r ≡ t ∷ q → (file (Some home)).begun (before ++ t ∷ []) → ⊥
   pub none : r ≡ [] → (f : FileSaid) → (file (Some home)).whole f before [] → ⊥
 
-abbrev pub FileStopped : Tokens → Tokens → Stop → Type 0
+abbrev pub FileStopped : Tokens → Tokens → ReadStop → Type 0
 FileStopped s r Syntax = FileStops s r
 FileStopped s r NoMemory = Unit {0}
 
 -- a file is read to its end, or reading stops
-abbrev pub ReadsFile : Tokens → Tokens → Result File Stop → Type 0
+abbrev pub ReadsFile : Tokens → Tokens → Result File ReadStop → Type 0
 ReadsFile s r (Ok v) = (f : FileSaid) × (f.controls ≡ raw_members_view v.controls.items) × (f.said ≡ statements_view v.statements.items)
     × FileSpelled f s
 ReadsFile s r (Err stop) = FileStopped s r stop
@@ -101,6 +101,6 @@ LexedAs (UnclosedBlock at) refusal = refusal ≡ Lex (UnclosedBlock at)
 LexedAs (BadEscape at) refusal = refusal ≡ Lex (BadEscape at)
 
 -- and where reading stops
-abbrev pub StoppedAs : ℕ → Tokens → Stop → IdlRefusal → Type 0
+abbrev pub StoppedAs : ℕ → Tokens → ReadStop → IdlRefusal → Type 0
 StoppedAs len r Syntax refusal = (at : ℕ) × PlaceIs len r at × (refusal ≡ SyntaxAt at)
 StoppedAs len r NoMemory refusal = refusal ≡ NoIdlMemory

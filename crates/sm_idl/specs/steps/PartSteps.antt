@@ -10,17 +10,17 @@ use Rattle.sm_idl.specs.Productions.{Tokens, each}
 use Rattle.sm_idl.specs.Nodes.{Home, written}
 use Rattle.sm_idl.specs.Bodies.{Suffixes, PartSaid, part}
 use Rattle.sm_idl.specs.Shapes.{part_pairs}
-use Rattle.sm_idl.specs.declared.operations.Side.{Side}
-use Rattle.sm_idl.specs.declared.operations.Side.TheVariants.{Input, Output}
+use Rattle.sm_idl.specs.declared.operations.OperationSide.{OperationSide}
+use Rattle.sm_idl.specs.declared.operations.OperationSide.TheVariants.{Input, Output}
 use Rattle.sm_idl.specs.declared.operations.Part.{Part}
 use Rattle.sm_idl.specs.declared.operations.Parts.{Parts}
 use Rattle.sm_idl.specs.declared.operations.Suffixes.{Suffixes as HeldSuffixes}
-use Rattle.sm_idl.specs.declared.reader.Stop.{Stop}
+use Rattle.sm_idl.specs.declared.reader.ReadStop.{ReadStop}
 use Rattle.sm_idl.specs.steps.Classes.{AnyWord}
 use Rattle.sm_idl.specs.steps.ReaderView.{StopsIn}
 use Rattle.sm_idl.specs.steps.Reading.{IsRead}
 
-abbrev pub side_word : Side → List ℕ
+abbrev pub side_word : OperationSide → List ℕ
 side_word Input = codes "input"
 side_word Output = codes "output"
 
@@ -37,7 +37,7 @@ abbrev pub errors_said : List Ref → PartSaid
 errors_said refs = record { name = codes "errors"; value = raw_list (raws_of (map raw_id refs)); defined = [] }
 
 -- parts are read, and these are their nodes and what they define
-abbrev pub ReadsParts : Home → Suffixes → List ℕ → Tokens → Tokens → Result Parts Stop → Type 0
+abbrev pub ReadsParts : Home → Suffixes → List ℕ → Tokens → Tokens → Result Parts ReadStop → Type 0
 ReadsParts home endings name s r (Ok parts) =
     (ps : List PartSaid)
     × (raw_members_view parts.pairs.items ≡ part_pairs ps)

@@ -9,8 +9,8 @@ use Rattle.sm_model.specs.RawView.{raw_view}
 use Rattle.sm_model.specs.declared.raw.RawNode.{RawNode}
 use Rattle.sm_idl.specs.Productions.{Tokens, spaced_from, Production}
 use Rattle.sm_idl.specs.declared.reader.Reader.{Reader}
-use Rattle.sm_idl.specs.declared.reader.Stop.{Stop}
-use Rattle.sm_idl.specs.declared.reader.Stop.TheVariants.{Syntax, NoMemory}
+use Rattle.sm_idl.specs.declared.reader.ReadStop.{ReadStop}
+use Rattle.sm_idl.specs.declared.reader.ReadStop.TheVariants.{Syntax, NoMemory}
 use Rattle.sm_idl.specs.steps.Firm.{Class}
 use Rattle.sm_idl.specs.steps.Reading.{IsRead, IsStuck}
 
@@ -31,21 +31,21 @@ abbrev pub NoToken : Class
 NoToken t = ⊥
 
 -- reading stops at the token with which r begins
-abbrev pub StopsIn : {X : Type 0} → Class → Production X → Tokens → Tokens → Stop → Type 0
+abbrev pub StopsIn : {X : Type 0} → Class → Production X → Tokens → Tokens → ReadStop → Type 0
 StopsIn G P s r Syntax = IsStuck G P s r
 StopsIn G P s r NoMemory = Unit {0}
 
 -- a production that ends by itself is read, and r is left; or r begins with the token that goes on with nothing
-abbrev pub ReadsAs : {V X : Type 0} → (V → X) → Production X → Tokens → Tokens → Result V Stop → Type 0
+abbrev pub ReadsAs : {V X : Type 0} → (V → X) → Production X → Tokens → Tokens → Result V ReadStop → Type 0
 ReadsAs view P s r (Ok v) = P.whole (view v) s r
 ReadsAs view P s r (Err stop) = StopsIn NoToken P s r stop
 
 -- the same of one that goes on by some tokens
-abbrev pub ReadsOn : {V X : Type 0} → Class → (V → X) → Production X → Tokens → Tokens → Result V Stop → Type 0
+abbrev pub ReadsOn : {V X : Type 0} → Class → (V → X) → Production X → Tokens → Tokens → Result V ReadStop → Type 0
 ReadsOn G view P s r (Ok v) = IsRead G P (view v) s r
 ReadsOn G view P s r (Err stop) = StopsIn G P s r stop
 
-abbrev pub Reads : {X : Type 0} → Production X → Tokens → Tokens → Result X Stop → Type 0
+abbrev pub Reads : {X : Type 0} → Production X → Tokens → Tokens → Result X ReadStop → Type 0
 Reads P s r result = ReadsAs (λ x. x) P s r result
 
 -- a pair of the code

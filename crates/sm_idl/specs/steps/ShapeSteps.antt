@@ -14,7 +14,7 @@ use Rattle.sm_idl.specs.Nodes.{Home}
 use Rattle.sm_idl.specs.Bodies.{Suffixes}
 use Rattle.sm_idl.specs.Shapes.{BodySaid, simple_body, members_body, operation_body, pairs_body, item}
 use Rattle.sm_idl.specs.declared.members.MemberKind.TheVariants.{Value, Item, Pair, Choice, Field}
-use Rattle.sm_idl.specs.declared.reader.Stop.{Stop}
+use Rattle.sm_idl.specs.declared.reader.ReadStop.{ReadStop}
 use Rattle.sm_idl.specs.declared.shapes.Body.{Body}
 use Rattle.sm_idl.specs.declared.shapes.BodyForm.{BodyForm}
 use Rattle.sm_idl.specs.declared.shapes.BodyForm.TheVariants.{Simple, Members, Parts, Fields}
@@ -64,12 +64,12 @@ body_view b = record {
 }
 
 -- statements are read, and stand behind those that there were
-abbrev pub AddsSaid : Class → Production (List Said) → List Said → List Said → Tokens → Tokens → Result Unit Stop → Type 0
+abbrev pub AddsSaid : Class → Production (List Said) → List Said → List Said → Tokens → Tokens → Result Unit ReadStop → Type 0
 AddsSaid G P old new s r (Ok x) = (ss : List Said) × (new ≡ old ++ ss) × IsRead G P ss s r
 AddsSaid G P old new s r (Err stop) = StopsIn G P s r stop
 
 -- shapes and apply statements are read, and stand behind the statements that there were
-abbrev pub ReadsItems : Home → Suffixes → List Said → List Said → Tokens → Tokens → Result Unit Stop → Type 0
+abbrev pub ReadsItems : Home → Suffixes → List Said → List Said → Tokens → Tokens → Result Unit ReadStop → Type 0
 ReadsItems home endings old new s r (Ok x) =
     (sss : List (List Said)) × (new ≡ old ++ flat_map (λ ss. ss) sss) × IsRead ItemsGoOn (many (item home endings)) sss s r
 ReadsItems home endings old new s r (Err stop) = StopsIn ItemsGoOn (many (item home endings)) s r stop
