@@ -101,32 +101,23 @@ module _ {X Y : Type 0} (E F : Type 0) (A B G H : Class) (P : Production X) (Q :
     ]
   ]
 
-  both_prefix : (y : Y) (a : Tokens) (t : Spaced) (b : Tokens) → (P >>= Q).whole y (a ++ t ∷ b) [] → (P >>= Q).begun a
-  both_prefix y a t b (x, v, h, k) =
+  -- before a token, the first is cut, or the second is begun behind it
+  begun_before : (x : X) (a : Tokens) (t : Spaced) (b v : Tokens) → P.whole x (a ++ t ∷ b) v
+      → ((d : Tokens) → v ≡ d ++ t ∷ b → (Q x).begun d) → (P >>= Q).begun a
+  begun_before x a t b v h behind =
       let m = p.takes x (a ++ t ∷ b) v h in
       elim (cuts a t b m.taken v m.cut) [
         | beyond d e f ↦ inl (p.prefix x a t d (subst (λ w. P.whole x w []) (append-nil m.taken ∙ e) (m.spells [])))
-        | within d e f ↦ inr (
-          x,
-          d,
-          subst (λ w. P.whole x w d) (sym e) (m.spells d),
-          (q x).prefix y d t b (subst (λ w. (Q x).whole y w []) f k),
-        )
+        | within d e f ↦ inr (x, d, subst (λ w. P.whole x w d) (sym e) (m.spells d), behind d f)
       ]
+
+  both_prefix : (y : Y) (a : Tokens) (t : Spaced) (b : Tokens) → (P >>= Q).whole y (a ++ t ∷ b) [] → (P >>= Q).begun a
+  both_prefix y a t b (x, v, h, k) =
+      begun_before x a t b v h (λ d f. (q x).prefix y d t b (subst (λ w. (Q x).whole y w []) f k))
 
   both_closed : (a : Tokens) (t : Spaced) (b : Tokens) → (P >>= Q).begun (a ++ t ∷ b) → (P >>= Q).begun a
   both_closed a t b (inl h) = inl (p.closed a t b h)
-  both_closed a t b (inr (x, v, h, k)) =
-      let m = p.takes x (a ++ t ∷ b) v h in
-      elim (cuts a t b m.taken v m.cut) [
-        | beyond d e f ↦ inl (p.prefix x a t d (subst (λ w. P.whole x w []) (append-nil m.taken ∙ e) (m.spells [])))
-        | within d e f ↦ inr (
-          x,
-          d,
-          subst (λ w. P.whole x w d) (sym e) (m.spells d),
-          (q x).closed d t b (subst (λ w. (Q x).begun w) f k),
-        )
-      ]
+  both_closed a t b (inr (x, v, h, k)) = begun_before x a t b v h (λ d f. (q x).closed d t b (subst (λ w. (Q x).begun w) f k))
 
   pub firm_both : IsFirm (E × F) (StartsBoth E A B) (GoesOnBoth F G H) (P >>= Q)
   firm_both = record {

@@ -12,13 +12,10 @@ use Rattle.sm_idl.specs.Words.{IsNew}
 use Rattle.sm_idl.specs.Nodes.{Home, word_meant, WordSays, LeafSaid, Pair, pair_names, pair_of, node}
 use Rattle.sm_idl.specs.Bodies.{Controls, suffix_said, suffix_under, Suffixes, suffixes}
 use Rattle.sm_idl.specs.Idl.{control, metadata, section, section_home, section_said, metadata_statements, FileSaid, file}
-use Rattle.sm_idl.proofs.OtherHomes.{AreAlike, names_more, pair_alike, pairs_alike, nodes_alike, node_alike, metadata_alike}
+use Rattle.sm_idl.proofs.OtherHomes.{AreAlike, RowsAlike, names_more, pair_alike, pairs_alike, nodes_alike, node_alike, control_alike}
+use Rattle.sm_idl.proofs.OtherHomes.{entry_alike, metadata_alike}
 
--- what one production of pairs spells and begins, the other does too, under the same name
-abbrev RowsAlike : (List Pair → Production Pair) → (List Pair → Production Pair) → Type 0
-RowsAlike P Q = (a b : List Pair) (x : Pair) (s r : Tokens) → pair_names a ≡ pair_names b → (P a).whole x s r
-    → (m : Raw) × (Q b).whole (x.0, m) s r
-
+-- what begins one production of pairs begins the other too
 abbrev RowsBegin : (List Pair → Production Pair) → (List Pair → Production Pair) → Type 0
 RowsBegin P Q = (a b : List Pair) (s : Tokens) → pair_names a ≡ pair_names b → (P a).begun s → (Q b).begun s
 
@@ -95,11 +92,6 @@ node_begun g h (suc levels) s (inr (inr (inr (_, s1, opens, inr (ns, s2, k, c)))
     inr (inr (inr (tt, s1, opens, inr (other.0, s2, other.1, c))))
 
 -- controls and metadata
-control_alike : (g h : Option Home) → RowsAlike (control g) (control h)
-control_alike g h a b x s r e (_, s1, dollar, k) =
-    let m = pair_alike (node g most_levels) (node h most_levels) (node_alike g h most_levels) a b x s1 r e k in
-    (m.0, (tt, s1, dollar, m.1))
-
 control_begun : (g h : Option Home) → RowsBegin (control g) (control h)
 control_begun g h a b s e (inl f) = inl f
 control_begun g h a b s e (inr (_, s1, dollar, k)) =
@@ -109,23 +101,6 @@ control_begun g h a b s e (inr (_, s1, dollar, k)) =
       dollar,
       pair_begun (node g most_levels) (node h most_levels) (node_alike g h most_levels) (node_begun g h most_levels)
           a b s1 e k,
-    )
-
-entry_alike : (g h : Option Home) → RowsAlike (metadata g) (metadata h)
-entry_alike g h a b x s r e (_, s0, word, (k, s1, (u, f, (is_key, new)), (_, s2, equals, (n, s3, m, (same, last))))) =
-    let other = node_alike g h most_levels n s2 s3 m in (
-      other.0,
-      (
-        tt,
-        s0,
-        word,
-        (
-          k,
-          s1,
-          (u, f, (is_key, subst (IsNew k) e new)),
-          (tt, s2, equals, (other.0, s3, other.1, (ap (λ p. (p.0, other.0)) same, last))),
-        ),
-      ),
     )
 
 entry_begun : (g h : Option Home) → RowsBegin (metadata g) (metadata h)

@@ -32,9 +32,22 @@ pub names_more : (a b : List Pair) (k : List ℕ) (n m : Raw) → pair_names a �
     → pair_names (a ++ (k, n) ∷ []) ≡ pair_names (b ++ (k, m) ∷ [])
 names_more a b k n m e = map-append (λ p. p.0) a ((k, n) ∷ []) ∙ ap (λ ks. ks ++ k ∷ []) e ∙ sym (map-append (λ p. p.0) b ((k, m) ∷ []))
 
+-- what one production of pairs spells, the other spells too, under the same name
+abbrev pub RowsAlike : (List Pair → Production Pair) → (List Pair → Production Pair) → Type 0
+RowsAlike P Q = (a b : List Pair) (x : Pair) (s r : Tokens) → pair_names a ≡ pair_names b → (P a).whole x s r
+    → (m : Raw) × (Q b).whole (x.0, m) s r
+
+module _ (P Q : List Pair → Production Pair) (alike : RowsAlike P Q) where
+  rows_alike : (a b xs : List Pair) (s r : Tokens) → pair_names a ≡ pair_names b → EachSpells P a xs s r
+      → (ys : List Pair) × EachSpells Q b ys s r
+  rows_alike a b [] s r e h = ([], h)
+  rows_alike a b (x ∷ xs) s r e (t, h, k) =
+      let first = alike a b x s t e h in
+      let rest = rows_alike (a ++ x ∷ []) (b ++ (x.0, first.0) ∷ []) xs t r (names_more a b x.0 x.1 first.0 e) k in
+      ((x.0, first.0) ∷ rest.0, (t, first.1, rest.1))
+
 module _ (P Q : Production Raw) (alike : AreAlike P Q) where
-  pub pair_alike : (a b : List Pair) (x : Pair) (s r : Tokens) → pair_names a ≡ pair_names b → (pair_of P a).whole x s r
-      → (m : Raw) × (pair_of Q b).whole (x.0, m) s r
+  pub pair_alike : RowsAlike (pair_of P) (pair_of Q)
   pair_alike a b x s r e (k, s1, (t, f, (is_key, new)), (_, s2, colon, (n, s3, h, (g, last)))) =
       let other = alike n s2 s3 h in (
         other.0,
@@ -61,11 +74,7 @@ module _ (P Q : Production Raw) (alike : AreAlike P Q) where
 
   pub pairs_alike : (a b xs : List Pair) (s r : Tokens) → pair_names a ≡ pair_names b → EachSpells (pair_of P) a xs s r
       → (ys : List Pair) × EachSpells (pair_of Q) b ys s r
-  pairs_alike a b [] s r e h = ([], h)
-  pairs_alike a b (x ∷ xs) s r e (t, h, k) =
-      let first = pair_alike a b x s t e h in
-      let rest = pairs_alike (a ++ x ∷ []) (b ++ (x.0, first.0) ∷ []) xs t r (names_more a b x.0 x.1 first.0 e) k in
-      ((x.0, first.0) ∷ rest.0, (t, first.1, rest.1))
+  pairs_alike = rows_alike (pair_of P) (pair_of Q) pair_alike
 
   pub nodes_alike : (before other xs : List Raw) (s r : Tokens) → EachSpells (λ _. P) before xs s r
       → (ys : List Raw) × EachSpells (λ _. Q) other ys s r
@@ -86,45 +95,34 @@ node_alike g h (suc levels) n s r (inr (inr (_, s1, open_mark, (ns, s2, k, (_, s
     let other = nodes_alike (node g levels) (node h levels) (node_alike g h levels) [] [] ns s1 s2 k in
     (_, inr (inr (tt, s1, open_mark, (other.0, s2, other.1, (tt, s3, close, (refl, last))))))
 
+-- controls and metadata
+pub control_alike : (g h : Option Home) → RowsAlike (control g) (control h)
+control_alike g h a b x s r e (_, s1, dollar, k) =
+    let m = pair_alike (node g most_levels) (node h most_levels) (node_alike g h most_levels) a b x s1 r e k in
+    (m.0, (tt, s1, dollar, m.1))
+
 pub controls_alike : (g h : Option Home) (a b xs : List Pair) (s r : Tokens) → pair_names a ≡ pair_names b → EachSpells (control g) a xs s r
     → (ys : List Pair) × EachSpells (control h) b ys s r
-controls_alike g h a b [] s r e k = ([], k)
-controls_alike g h a b (x ∷ xs) s r e (t, (_, s1, dollar, k), more) =
-    let first = pair_alike (node g most_levels) (node h most_levels) (node_alike g h most_levels) a b x s1 t e k in
-    let rest = controls_alike g h (a ++ x ∷ []) (b ++ (x.0, first.0) ∷ []) xs t r (names_more a b x.0 x.1 first.0 e) more in
-    ((x.0, first.0) ∷ rest.0, (t, (tt, s1, dollar, first.1), rest.1))
+controls_alike g h = rows_alike (control g) (control h) (control_alike g h)
+
+pub entry_alike : (g h : Option Home) → RowsAlike (metadata g) (metadata h)
+entry_alike g h a b x s r e (_, s0, word, (k, s1, (u, f, (is_key, new)), (_, s2, equals, (n, s3, m, (same, last))))) =
+    let other = node_alike g h most_levels n s2 s3 m in (
+      other.0,
+      (
+        tt,
+        s0,
+        word,
+        (
+          k,
+          s1,
+          (u, f, (is_key, subst (IsNew k) e new)),
+          (tt, s2, equals, (other.0, s3, other.1, (ap (λ p. (p.0, other.0)) same, last))),
+        ),
+      ),
+    )
 
 pub metadata_alike : (g h : Option Home) (a b xs : List Pair) (s r : Tokens) → pair_names a ≡ pair_names b
     → EachSpells (metadata g) a xs s r
     → (ys : List Pair) × EachSpells (metadata h) b ys s r
-metadata_alike g h a b [] s r e k = ([], k)
-metadata_alike g h a b (x ∷ xs) s r e (t, (_, s0, word, (k, s1, (u, f, (is_key, new)), (_, s2, equals, (n, s3, m, (g1, last))))), more) =
-    let other = node_alike g h most_levels n s2 s3 m in
-    let rest = metadata_alike g h (a ++ x ∷ []) (b ++ (x.0, other.0) ∷ []) xs t r (names_more a b x.0 x.1 other.0 e) more in (
-      (x.0, other.0) ∷ rest.0,
-      (
-        t,
-        (
-          tt,
-          s0,
-          word,
-          (
-            k,
-            s1,
-            (u, f, (is_key, subst (IsNew k) e new)),
-            (
-              tt,
-              s2,
-              equals,
-              (
-                other.0,
-                s3,
-                other.1,
-                (ap (λ p. (p.0, other.0)) g1, last),
-              ),
-            ),
-          ),
-        ),
-        rest.1,
-      ),
-    )
+metadata_alike g h = rows_alike (metadata g) (metadata h) (entry_alike g h)

@@ -62,7 +62,7 @@ either_way true = inl refl
 either_way false = inr refl
 
 -- what `split_once` tells of the text
-pub before_plain : (text : List ℕ) → list_all no_dollar (before_first is_dollar text) ≡ true
+before_plain : (text : List ℕ) → list_all no_dollar (before_first is_dollar text) ≡ true
 before_plain [] = refl
 before_plain (c ∷ cs) =
     let n = position_or_len is_dollar cs in
@@ -78,9 +78,18 @@ before_plain (c ∷ cs) =
 pub all_plain : (text : List ℕ) → position_or_len is_dollar text ≡ length text → list_all no_dollar text ≡ true
 all_plain text e = ap (list_all no_dollar) (sym (take-length text) ∙ ap (λ n. take n text) (sym e)) ∙ before_plain text
 
--- a text with a dollar sign is what stands before the first, and what stands behind it
-pub cut_at_first : (text : List ℕ) → position_or_len is_dollar text < length text
-    → text ≡ before_first is_dollar text ++ 36 ∷ after_first is_dollar text
-cut_at_first text inside =
+-- a text with a dollar sign, cut at the first
+pub record IsCutAtDollar (text name member : List ℕ) : Type 0 where
+  pub cut : text ≡ name ++ 36 ∷ member
+  pub plain : list_all no_dollar name ≡ true
+
+pub cut_at_dollar : (text name member : List ℕ) → name ≡ before_first is_dollar text → member ≡ after_first is_dollar text
+    → position_or_len is_dollar text < length text → IsCutAtDollar text name member
+cut_at_dollar text name member front behind inside =
+    let whole : text ≡ before_first is_dollar text ++ 36 ∷ after_first is_dollar text =
     split_at_first is_dollar text 0 inside
-    ∙ ap (λ b. before_first is_dollar text ++ b ∷ after_first is_dollar text) (is_thirty_six _ (passes_at_first is_dollar text 0 inside))
+    ∙ ap (λ b. before_first is_dollar text ++ b ∷ after_first is_dollar text) (is_thirty_six _ (passes_at_first is_dollar text 0 inside)) in
+    record {
+      cut = whole ∙ ap (λ t. t ++ 36 ∷ after_first is_dollar text) (sym front) ∙ ap (λ t. name ++ 36 ∷ t) (sym behind);
+      plain = ap (list_all no_dollar) front ∙ before_plain text;
+    }

@@ -5,6 +5,8 @@ pub mod FileClasses
 pub mod Names
 pub mod Reading
 pub mod ReaderView
+pub mod WordForms
+pub mod PairSteps
 pub mod HomeView
 pub mod TraitSteps
 pub mod IdSteps

@@ -11,7 +11,8 @@ ghost use Rattle.sm_idl.specs.steps.Classes.{AnyWord, NoMark};
 ghost use Rattle.sm_idl.specs.steps.FieldSteps.{id_key, NamesText, NewNameSays, under};
 ghost use Rattle.sm_idl.specs.steps.HomeView.{home_of_file};
 ghost use Rattle.sm_idl.specs.steps.Names.{Remembers};
-ghost use Rattle.sm_idl.specs.steps.ReaderView.{left, raw_pair, Reads, ReadsAs, ReadsOn, SaysNode};
+ghost use Rattle.sm_idl.specs.steps.PairSteps.{ReadsNewPair, RemembersPair};
+ghost use Rattle.sm_idl.specs.steps.ReaderView.{left, Reads, ReadsAs, ReadsOn, SaysNode};
 
 use crate::home::FileHome;
 use crate::leaf::text_node;
@@ -210,10 +211,8 @@ impl<'t, 'a> Reader<'t, 'a> {
         alloc: Global,
         seen: &mut BTreeSet<String>,
     ) -> Result<(Text, RawNode), ReadStop>
-        ensures reads { (before : List Pair) → Remembers seen.old (pair_names before) →
-            ReadsAs raw_pair (renaming before) (left self.old) (left self.new) result }
-        ensures seen { (before : List Pair) → Remembers seen.old (pair_names before) →
-            IfOk result (λ pair. Remembers seen.new (pair_names (before ++ raw_pair pair ∷ []))) }
+        ensures reads { ReadsNewPair seen.old renaming (left self.old) (left self.new) result }
+        ensures seen { RemembersPair seen.old seen.new result }
     {
         let key = match self.id_key(alloc, seen) {
             Ok(key) => key,
@@ -236,10 +235,8 @@ impl<'t, 'a> Reader<'t, 'a> {
         home: &FileHome<'_>,
         seen: &mut BTreeSet<String>,
     ) -> Result<(Text, RawNode), ReadStop>
-        ensures reads { (before : List Pair) → Remembers seen.old (pair_names before) →
-            ReadsAs raw_pair (pair_of (reference (home_of_file home.now)) before) (left self.old) (left self.new) result }
-        ensures seen { (before : List Pair) → Remembers seen.old (pair_names before) →
-            IfOk result (λ pair. Remembers seen.new (pair_names (before ++ raw_pair pair ∷ []))) }
+        ensures reads { ReadsNewPair seen.old (pair_of (reference (home_of_file home.now))) (left self.old) (left self.new) result }
+        ensures seen { RemembersPair seen.old seen.new result }
     {
         let key = match self.key(alloc, seen) {
             Ok(key) => key,
@@ -263,10 +260,8 @@ impl<'t, 'a> Reader<'t, 'a> {
         renames: bool,
         seen: &mut BTreeSet<String>,
     ) -> Result<(Text, RawNode), ReadStop>
-        ensures reads { (before : List Pair) → Remembers seen.old (pair_names before) →
-            ReadsAs raw_pair (under (home_of_file home.now) renames before) (left self.old) (left self.new) result }
-        ensures seen { (before : List Pair) → Remembers seen.old (pair_names before) →
-            IfOk result (λ pair. Remembers seen.new (pair_names (before ++ raw_pair pair ∷ []))) }
+        ensures reads { ReadsNewPair seen.old (under (home_of_file home.now) renames) (left self.old) (left self.new) result }
+        ensures seen { RemembersPair seen.old seen.new result }
     {
         if renames {
             return self.renaming(alloc, seen);
@@ -382,10 +377,9 @@ impl<'t, 'a> Reader<'t, 'a> {
         kind: Kind,
         seen: &mut BTreeSet<String>,
     ) -> Result<(Text, RawNode), ReadStop>
-        ensures reads { (before : List Pair) → Remembers seen.old (pair_names before) →
-            ReadsAs raw_pair (property (home_of_file home.now) (property_forms kind) before) (left self.old) (left self.new) result }
-        ensures seen { (before : List Pair) → Remembers seen.old (pair_names before) →
-            IfOk result (λ pair. Remembers seen.new (pair_names (before ++ raw_pair pair ∷ []))) }
+        ensures reads { ReadsNewPair seen.old (property (home_of_file home.now) (property_forms kind)) (left self.old)
+            (left self.new) result }
+        ensures seen { RemembersPair seen.old seen.new result }
     {
         let (key, form) = match self.field_key(alloc, kind, seen) {
             Ok(field) => field,

@@ -1,18 +1,17 @@
 // A model's text: its controls, its metadata, its namespace with the ids that it uses, and its statements (Smithy 2.0, "Smithy
 // IDL").
-ghost use Rattle.std.specs.Prelude.{◌≡◌, ◌++◌, ◌↔◌, [], ◌∷◌, IfOk, IsTrue, List};
+ghost use Rattle.std.specs.Prelude.{◌≡◌, ◌++◌, ◌↔◌, [], ◌∷◌, IfOk, IsTrue};
 ghost use Rattle.std.specs.List.{filter};
 ghost use Rattle.sm_model.specs.RawView.{raw_view, raw_members_view};
 ghost use Rattle.sm_model.specs.SaidView.{statements_view};
 ghost use Rattle.sm_idl.specs.Productions.{each};
 ghost use Rattle.sm_idl.specs.Words.{IsWordId};
-ghost use Rattle.sm_idl.specs.Nodes.{Pair, pair_names};
 ghost use Rattle.sm_idl.specs.Bodies.{suffix_said, suffix_under, suffixes};
 ghost use Rattle.sm_idl.specs.Idl.{control, metadata, used, is_absolute, metadata_statements, IsVersion, HaveVersion};
 ghost use Rattle.sm_idl.specs.steps.FileClasses.{Dollar, Metadata, Use};
 ghost use Rattle.sm_idl.specs.steps.FileSteps.{ReadsRow, ReadsBeginning, ReadsUses};
-ghost use Rattle.sm_idl.specs.steps.Names.{Remembers};
 ghost use Rattle.sm_idl.specs.steps.PartSteps.{suffixes_view};
+ghost use Rattle.sm_idl.specs.steps.PairSteps.{ReadsNewPair, RemembersPair};
 ghost use Rattle.sm_idl.specs.steps.ReaderView.{left, raw_pair, ReadsAs};
 
 use crate::leaf::Words;
@@ -169,10 +168,8 @@ impl<'t, 'a> Reader<'t, 'a> {
         words: &W,
         seen: &mut BTreeSet<String>,
     ) -> Result<(Text, RawNode), ReadStop>
-        ensures reads { (before : List Pair) → Remembers seen.old (pair_names before) →
-            ReadsAs raw_pair (control (W.home words.now) before) (left self.old) (left self.new) result }
-        ensures seen { (before : List Pair) → Remembers seen.old (pair_names before) →
-            IfOk result (λ pair. Remembers seen.new (pair_names (before ++ raw_pair pair ∷ []))) }
+        ensures reads { ReadsNewPair seen.old (control (W.home words.now)) (left self.old) (left self.new) result }
+        ensures seen { RemembersPair seen.old seen.new result }
     {
         match self.mark("$") {
             Ok(()) => {}
@@ -188,10 +185,8 @@ impl<'t, 'a> Reader<'t, 'a> {
         words: &W,
         seen: &mut BTreeSet<String>,
     ) -> Result<(Text, RawNode), ReadStop>
-        ensures reads { (before : List Pair) → Remembers seen.old (pair_names before) →
-            ReadsAs raw_pair (metadata (W.home words.now) before) (left self.old) (left self.new) result }
-        ensures seen { (before : List Pair) → Remembers seen.old (pair_names before) →
-            IfOk result (λ pair. Remembers seen.new (pair_names (before ++ raw_pair pair ∷ []))) }
+        ensures reads { ReadsNewPair seen.old (metadata (W.home words.now)) (left self.old) (left self.new) result }
+        ensures seen { RemembersPair seen.old seen.new result }
     {
         match self.the_word("metadata") {
             Ok(()) => {}

@@ -8,7 +8,7 @@ ghost use Rattle.sm_idl.specs.Members.{IsNameOf, member_name, enum_member_with, 
 ghost use Rattle.sm_idl.specs.steps.Classes.{Either, Equals, MemberStart};
 ghost use Rattle.sm_idl.specs.steps.Firm.{HeadIs};
 ghost use Rattle.sm_idl.specs.steps.HomeView.{home_of_file};
-ghost use Rattle.sm_idl.specs.steps.MemberSteps.{form_of, entry, enum_member_said, field_said, AreNamed, Arranges};
+ghost use Rattle.sm_idl.specs.steps.MemberSteps.{form_of, entry, enum_member_said, field_said, AreNamed, Arranges, RemembersMember};
 ghost use Rattle.sm_idl.specs.steps.Names.{Remembers};
 ghost use Rattle.sm_idl.specs.steps.ReaderView.{left, maybe_raw, Reads, ReadsAs, ReadsOn};
 
@@ -186,8 +186,7 @@ impl<'t, 'a> Reader<'t, 'a> {
         ensures reads { (before : List MemberSaid) → Remembers seen.old (stated_names before) →
             ReadsAs member_view (member_with (home_of_file home.now) (form_of kind) before (traits_view docs.items)) (left self.old)
             (left self.new) result }
-        ensures seen { (before : List MemberSaid) → Remembers seen.old (stated_names before) →
-            IfOk result (λ m. Remembers seen.new (stated_names (before ++ member_view m ∷ []))) }
+        ensures seen { RemembersMember seen.old seen.new result }
     {
         let mut traits = docs;
         match self.traits(alloc, home, &mut traits) {
@@ -226,8 +225,7 @@ impl<'t, 'a> Reader<'t, 'a> {
     ) -> Result<MemberStatement, ReadStop>
         ensures reads { (before : List MemberSaid) → Remembers seen.old (stated_names before) →
             ReadsAs member_view (member (home_of_file home.now) (form_of kind) before) (left self.old) (left self.new) result }
-        ensures seen { (before : List MemberSaid) → Remembers seen.old (stated_names before) →
-            IfOk result (λ m. Remembers seen.new (stated_names (before ++ member_view m ∷ []))) }
+        ensures seen { RemembersMember seen.old seen.new result }
     {
         match self.docs(alloc) {
             Ok(docs) => self.member_with(alloc, home, kind, seen, docs),
@@ -246,8 +244,7 @@ impl<'t, 'a> Reader<'t, 'a> {
         ensures reads { (before : List MemberSaid) → Remembers seen.old (stated_names before) →
             ReadsOn Equals member_view (enum_member_with (home_of_file home.now) before (traits_view docs.items)) (left self.old)
             (left self.new) result }
-        ensures seen { (before : List MemberSaid) → Remembers seen.old (stated_names before) →
-            IfOk result (λ m. Remembers seen.new (stated_names (before ++ member_view m ∷ []))) }
+        ensures seen { RemembersMember seen.old seen.new result }
     {
         let mut traits = docs;
         match self.traits(alloc, home, &mut traits) {
@@ -277,8 +274,7 @@ impl<'t, 'a> Reader<'t, 'a> {
     ) -> Result<MemberStatement, ReadStop>
         ensures reads { (before : List MemberSaid) → Remembers seen.old (stated_names before) →
             ReadsOn Equals member_view (enum_member (home_of_file home.now) before) (left self.old) (left self.new) result }
-        ensures seen { (before : List MemberSaid) → Remembers seen.old (stated_names before) →
-            IfOk result (λ m. Remembers seen.new (stated_names (before ++ member_view m ∷ []))) }
+        ensures seen { RemembersMember seen.old seen.new result }
     {
         match self.docs(alloc) {
             Ok(docs) => self.enum_member_with(alloc, home, seen, docs),
@@ -295,8 +291,7 @@ impl<'t, 'a> Reader<'t, 'a> {
     ) -> Result<MemberStatement, ReadStop>
         ensures reads { (before : List MemberSaid) → Remembers seen.old (stated_names before) →
             ReadsOn Equals member_view (field (home_of_file home.now) before) (left self.old) (left self.new) result }
-        ensures seen { (before : List MemberSaid) → Remembers seen.old (stated_names before) →
-            IfOk result (λ m. Remembers seen.new (stated_names (before ++ member_view m ∷ []))) }
+        ensures seen { RemembersMember seen.old seen.new result }
     {
         let member = match self.member(alloc, home, MemberKind::Field, seen) {
             Ok(member) => member,
@@ -322,8 +317,7 @@ impl<'t, 'a> Reader<'t, 'a> {
     ) -> Result<MemberStatement, ReadStop>
         ensures reads { (before : List MemberSaid) → Remembers seen.old (stated_names before) →
             ReadsOn Equals member_view (entry (home_of_file home.now) kind before) (left self.old) (left self.new) result }
-        ensures seen { (before : List MemberSaid) → Remembers seen.old (stated_names before) →
-            IfOk result (λ m. Remembers seen.new (stated_names (before ++ member_view m ∷ []))) }
+        ensures seen { RemembersMember seen.old seen.new result }
     {
         match kind {
             MemberKind::Value => self.enum_member(alloc, home, seen),

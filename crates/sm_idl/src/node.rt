@@ -1,11 +1,10 @@
 // Nodes: leaves, objects and lists (Smithy 2.0, "Smithy IDL", "Node values").
-ghost use Rattle.std.specs.Prelude.{◌≡◌, ◌++◌, ℕ, List, [], ◌∷◌, IfOk};
 ghost use Rattle.sm_model.specs.RawView.{raw_view, raws_view, raw_members_view};
 ghost use Rattle.sm_idl.specs.Productions.{each, many};
-ghost use Rattle.sm_idl.specs.Nodes.{Pair, pair_names, pair_of, object_of, list_of, node};
+ghost use Rattle.sm_idl.specs.Nodes.{pair_of, object_of, list_of, node};
 ghost use Rattle.sm_idl.specs.steps.Classes.{NoMark, NodeStart};
-ghost use Rattle.sm_idl.specs.steps.Names.{Remembers};
-ghost use Rattle.sm_idl.specs.steps.ReaderView.{left, raw_pair, ReadsAs, ReadsOn};
+ghost use Rattle.sm_idl.specs.steps.PairSteps.{ReadsNewPair, RemembersPair};
+ghost use Rattle.sm_idl.specs.steps.ReaderView.{left, ReadsAs, ReadsOn};
 
 use crate::leaf::Words;
 use crate::reader::{ReadStop, Reader};
@@ -95,10 +94,8 @@ impl<'t, 'a> Reader<'t, 'a> {
         levels: usize,
         seen: &mut BTreeSet<String>,
     ) -> Result<(Text, RawNode), ReadStop>
-        ensures reads { (before : List Pair) → Remembers seen.old (pair_names before) →
-            ReadsAs raw_pair (pair_of (node (W.home words.now) levels) before) (left self.old) (left self.new) result }
-        ensures seen { (before : List Pair) → Remembers seen.old (pair_names before) →
-            IfOk result (λ pair. Remembers seen.new (pair_names (before ++ raw_pair pair ∷ []))) }
+        ensures reads { ReadsNewPair seen.old (pair_of (node (W.home words.now) levels)) (left self.old) (left self.new) result }
+        ensures seen { RemembersPair seen.old seen.new result }
     {
         let key = match self.key(alloc, seen) {
             Ok(key) => key,

@@ -12,6 +12,7 @@ ghost use Rattle.sm_idl.specs.Bodies.{inline_said, inline_with, part_inline, par
 ghost use Rattle.sm_idl.specs.steps.HomeView.{home_of_file};
 ghost use Rattle.sm_idl.specs.steps.Names.{Remembers};
 ghost use Rattle.sm_idl.specs.steps.PartSteps.{side_word, part_view, suffixes_view, target_said, errors_said, ReadsParts};
+ghost use Rattle.sm_idl.specs.steps.PartSteps.{RemembersPart};
 ghost use Rattle.sm_idl.specs.steps.ReaderView.{left, Reads, ReadsAs};
 
 use crate::docs::standing_for;
@@ -377,8 +378,7 @@ impl<'t, 'a> Reader<'t, 'a> {
         ensures reads { (before : List PartSaid) → Remembers seen.old (part_names before) →
             ReadsAs part_view (part_shape (home_of_file home.now) operation.now suffix.now (side_word side) before) (left self.old)
             (left self.new) result }
-        ensures seen { (before : List PartSaid) → Remembers seen.old (part_names before) →
-            IfOk result (λ part. Remembers seen.new (part_names (before ++ part_view part ∷ []))) }
+        ensures seen { RemembersPart seen.old seen.new result }
     {
         let word = side.word();
         match self.part_word(alloc, word, seen) {
@@ -400,8 +400,7 @@ impl<'t, 'a> Reader<'t, 'a> {
     ) -> Result<Part, ReadStop>
         ensures reads { (before : List PartSaid) → Remembers seen.old (part_names before) →
             ReadsAs part_view (part_errors (home_of_file home.now) before) (left self.old) (left self.new) result }
-        ensures seen { (before : List PartSaid) → Remembers seen.old (part_names before) →
-            IfOk result (λ part. Remembers seen.new (part_names (before ++ part_view part ∷ []))) }
+        ensures seen { RemembersPart seen.old seen.new result }
     {
         match self.part_word(alloc, "errors", seen) {
             Ok(()) => {}
@@ -441,8 +440,7 @@ impl<'t, 'a> Reader<'t, 'a> {
         ensures reads { (before : List PartSaid) → Remembers seen.old (part_names before) →
             ReadsAs part_view (part (home_of_file home.now) (suffixes_view endings.now) operation.now before) (left self.old)
             (left self.new) result }
-        ensures seen { (before : List PartSaid) → Remembers seen.old (part_names before) →
-            IfOk result (λ part. Remembers seen.new (part_names (before ++ part_view part ∷ []))) }
+        ensures seen { RemembersPart seen.old seen.new result }
     {
         if self.is_at_word("input") {
             return self.part_shape(

@@ -7,6 +7,7 @@ ghost use Rattle.sm_idl.specs.Words.{IsWordId, id, identifier, word_that};
 ghost use Rattle.sm_idl.specs.Nodes.{Home, IsNodeId, WordSays};
 ghost use Rattle.sm_idl.specs.Shapes.{type_word};
 ghost use Rattle.sm_idl.specs.steps.ReaderView.{left, Reads, ReadsAs};
+ghost use Rattle.sm_idl.specs.steps.WordForms.{HasForm};
 
 use crate::reader::{ReadStop, Reader};
 use sm_ids::{ShapeIdRef, is_identifier, is_namespace};
@@ -65,15 +66,42 @@ pub(crate) fn is_node_id(word: &str) -> bool
     is_word_id(word)
 }
 
+/// What form a word has at its place.
+#[derive(Clone, Copy)]
+pub(crate) enum WordForm {
+    /// An identifier.
+    Identifier,
+    /// An id, with or without its namespace.
+    Id,
+    /// An id where a node may stand too.
+    NodeId,
+    /// A namespace.
+    Namespace,
+}
+
+impl WordForm {
+    /// Whether a word has this form.
+    fn is_of(self, word: &str) -> bool
+        ensures { IsTrue result ↔ HasForm self word.now }
+    {
+        match self {
+            WordForm::Identifier => is_identifier(word),
+            WordForm::Id => is_word_id(word),
+            WordForm::NodeId => is_node_id(word),
+            WordForm::Namespace => is_namespace(word),
+        }
+    }
+}
+
 impl<'t, 'a> Reader<'t, 'a> {
-    /// Reads an identifier.
-    pub(crate) fn identifier(&mut self) -> Result<&'a str, ReadStop>
-        ensures { ReadsAs (λ w. w.now) identifier (left self.old) (left self.new) result }
+    /// Reads a word of this form.
+    fn word(&mut self, form: WordForm) -> Result<&'a str, ReadStop>
+        ensures { ReadsAs (λ w. w.now) (word_that (HasForm form)) (left self.old) (left self.new) result }
     {
         match self.next() {
             Some(token) => match token.kind {
                 TokenKind::Word => {
-                    if is_identifier(token.text) {
+                    if form.is_of(token.text) {
                         self.take();
                         Ok(token.text)
                     } else {
@@ -86,24 +114,32 @@ impl<'t, 'a> Reader<'t, 'a> {
         }
     }
 
+    /// Reads an identifier.
+    pub(crate) fn identifier(&mut self) -> Result<&'a str, ReadStop>
+        ensures { ReadsAs (λ w. w.now) identifier (left self.old) (left self.new) result }
+    {
+        self.word(WordForm::Identifier)
+    }
+
     /// Reads an id.
     pub(crate) fn id(&mut self) -> Result<&'a str, ReadStop>
         ensures { ReadsAs (λ w. w.now) id (left self.old) (left self.new) result }
     {
-        match self.next() {
-            Some(token) => match token.kind {
-                TokenKind::Word => {
-                    if is_word_id(token.text) {
-                        self.take();
-                        Ok(token.text)
-                    } else {
-                        Err(ReadStop::Syntax)
-                    }
-                }
-                _ => Err(ReadStop::Syntax),
-            },
-            None => Err(ReadStop::Syntax),
-        }
+        self.word(WordForm::Id)
+    }
+
+    /// Reads an id of a node.
+    pub(crate) fn node_id(&mut self) -> Result<&'a str, ReadStop>
+        ensures { ReadsAs (λ w. w.now) (word_that IsNodeId) (left self.old) (left self.new) result }
+    {
+        self.word(WordForm::NodeId)
+    }
+
+    /// Reads a namespace.
+    pub(crate) fn namespace(&mut self) -> Result<&'a str, ReadStop>
+        ensures { ReadsAs (λ w. w.now) (word_that IsNamespace) (left self.old) (left self.new) result }
+    {
+        self.word(WordForm::Namespace)
     }
 
     /// Reads the name of a type.
@@ -119,46 +155,6 @@ impl<'t, 'a> Reader<'t, 'a> {
                     }
                     None => Err(ReadStop::Syntax),
                 },
-                _ => Err(ReadStop::Syntax),
-            },
-            None => Err(ReadStop::Syntax),
-        }
-    }
-
-    /// Reads an id of a node.
-    pub(crate) fn node_id(&mut self) -> Result<&'a str, ReadStop>
-        ensures { ReadsAs (λ w. w.now) (word_that IsNodeId) (left self.old) (left self.new) result }
-    {
-        match self.next() {
-            Some(token) => match token.kind {
-                TokenKind::Word => {
-                    if is_node_id(token.text) {
-                        self.take();
-                        Ok(token.text)
-                    } else {
-                        Err(ReadStop::Syntax)
-                    }
-                }
-                _ => Err(ReadStop::Syntax),
-            },
-            None => Err(ReadStop::Syntax),
-        }
-    }
-
-    /// Reads a namespace.
-    pub(crate) fn namespace(&mut self) -> Result<&'a str, ReadStop>
-        ensures { ReadsAs (λ w. w.now) (word_that IsNamespace) (left self.old) (left self.new) result }
-    {
-        match self.next() {
-            Some(token) => match token.kind {
-                TokenKind::Word => {
-                    if is_namespace(token.text) {
-                        self.take();
-                        Ok(token.text)
-                    } else {
-                        Err(ReadStop::Syntax)
-                    }
-                }
                 _ => Err(ReadStop::Syntax),
             },
             None => Err(ReadStop::Syntax),

@@ -1,13 +1,15 @@
 -- The kinds of members, as the reader tells them apart, and what its methods answer for them.
-use Rattle.std.specs.Prelude.{◌≡◌, ℕ, false, List, [], ◌∷◌, ◌++◌, Option, Some, None, codes, Vec}
+use Rattle.std.specs.Prelude.{◌≡◌, ℕ, false, List, [], ◌∷◌, ◌++◌, Option, Some, None, codes, Vec, IfOk, Result}
+use Rattle.std.specs.BTreeSet.{BTreeSet}
 use Rattle.std.specs.declared.alloc.Global.{Global}
+use Rattle.std.specs.declared.string.String.{String}
 use Rattle.sm_model.specs.Formed.{stated_names}
 use Rattle.sm_model.specs.Kinds.{MemberForm, exactly, any}
 use Rattle.sm_model.specs.Raw.{Raw}
 use Rattle.sm_model.specs.References.{absolute}
 use Rattle.sm_model.specs.PreludeShapes.{unit_id}
 use Rattle.sm_model.specs.Said.{TraitSaid, MemberSaid}
-use Rattle.sm_model.specs.SaidView.{member_statements_view}
+use Rattle.sm_model.specs.SaidView.{member_view, member_statements_view}
 use Rattle.sm_model.specs.declared.statement.MemberStatement.{MemberStatement}
 use Rattle.sm_idl.specs.Productions.{Production}
 use Rattle.sm_idl.specs.Words.{IsNew}
@@ -16,6 +18,8 @@ use Rattle.sm_idl.specs.Traits.{value_trait}
 use Rattle.sm_idl.specs.Members.{IsNameOf, HasMembers, arranged, enum_member, member, field}
 use Rattle.sm_idl.specs.declared.members.MemberKind.{MemberKind}
 use Rattle.sm_idl.specs.declared.members.MemberKind.TheVariants.{Value, Item, Pair, Choice, Field}
+use Rattle.sm_idl.specs.declared.reader.ReadStop.{ReadStop}
+use Rattle.sm_idl.specs.steps.Names.{Remembers}
 
 -- which members a shape with members of this kind has
 abbrev pub form_of : MemberKind → MemberForm
@@ -49,3 +53,8 @@ AreNamed form before (m ∷ ms) = IsNameOf form m.name × IsNew m.name (stated_n
 abbrev pub Arranges : MemberForm → List MemberSaid → Option (Vec MemberStatement Global) → Type 0
 Arranges form ms None = HasMembers form ms → ⊥
 Arranges form ms (Some members) = HasMembers form ms × (member_statements_view members.items ≡ arranged form ms)
+
+-- the name of a member that is read has come then
+abbrev pub RemembersMember : BTreeSet (String Global) → BTreeSet (String Global) → Result MemberStatement ReadStop → Type 0
+RemembersMember old new result = (before : List MemberSaid) → Remembers old (stated_names before)
+    → IfOk result (λ m. Remembers new (stated_names (before ++ member_view m ∷ [])))

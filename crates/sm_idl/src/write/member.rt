@@ -1,7 +1,7 @@
 // Members that are written, by their numbers in the graph.
 ghost use Rattle.std.specs.Prelude.{◌≡◌, ◌++◌, [], map, get_or, OnOk};
 ghost use Rattle.sm_tree.specs.View.{members_view};
-ghost use Rattle.sm_model.specs.GraphView.{AreShapeNumbers, ids, IsMemberAt, IsShapeNumber, maps_of};
+ghost use Rattle.sm_model.specs.GraphView.{AreShapeNumbers, ids, IsShapeNumber, maps_of};
 ghost use Rattle.sm_idl.specs.Written.{member_lines, member_text, target_part};
 ghost use Rattle.sm_idl.specs.steps.Writing.{member_at};
 
@@ -42,34 +42,12 @@ fn put_member(
         ≡ out.old.items ++ member_at targets (maps_of graph.now).shapes (get_or (ids graph.now) member [])) }
 {
     if graph.is_member(member) {
-        put_member_of(alloc, graph, member, targets, out)
-    } else {
-        Ok(())
+        let id = graph.id(member).as_str();
+        let target = graph.target_id(member).as_str();
+        let name = member_name(id);
+        return put_named_member(alloc, graph.traits(member), name, targets, target, out);
     }
-}
-
-fn put_member_of(
-    alloc: Global,
-    graph: &Graph,
-    member: u32,
-    targets: bool,
-    out: &mut Vec<u8>,
-) -> Result<(), NoMemory>
-    requires number { IsShapeNumber graph.now member }
-    requires is_member { IsMemberAt graph.now member }
-    ensures { OnOk result (out.new.items
-        ≡ out.old.items ++ member_at targets (maps_of graph.now).shapes (get_or (ids graph.now) member [])) }
-{
-    let id = graph.id(member).as_str();
-    let target = graph.target_id(member).as_str();
-    put_named_member(
-        alloc,
-        graph.traits(member),
-        member_name(id),
-        targets,
-        target,
-        out,
-    )
+    Ok(())
 }
 
 fn put_named_member(

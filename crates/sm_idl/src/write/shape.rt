@@ -52,13 +52,13 @@ fn put_entry(
     }
     let id = graph.id(number).as_str();
     if is_its_own(namespace, id) {
-        return put_own(alloc, graph, number, namespace_and_name(id).1, out);
+        return put_shape(alloc, graph, number, namespace_and_name(id).1, out);
     }
     Ok(())
 }
 
 // Puts a shape behind an empty line.
-fn put_own(
+fn put_shape(
     alloc: Global,
     graph: &Graph,
     number: u32,
@@ -70,24 +70,10 @@ fn put_own(
     ensures { OnOk result (At graph.now number (λ id e.
         IsShapeText (maps_of graph.now).shapes name.now (out.old.items ++ line_feed ∷ []) out.new.items e)) }
 {
-    put("\n", out)?;
-    put_shape(alloc, graph, number, name, out)
-}
-
-fn put_shape(
-    alloc: Global,
-    graph: &Graph,
-    number: u32,
-    name: &str,
-    out: &mut Vec<u8>,
-) -> Result<(), NoMemory>
-    requires number { IsShapeNumber graph.now number }
-    requires is_shape { IsShapeAt graph.now number }
-    ensures { OnOk result (At graph.now number (λ id e. IsShapeText (maps_of graph.now).shapes name.now out.old.items out.new.items e)) }
-{
     let kind = graph.kind(number);
     let members = graph.members(number);
     let body = graph.properties(number);
+    put("\n", out)?;
     put_traits(alloc, "", graph.traits(number), out)?;
     put_stated(alloc, graph, name, kind, members, body, out)
 }

@@ -1,7 +1,7 @@
-use Rattle.std.proofs.Common.{◌≡◌, ◌∷◌, ◌++◌, ℕ, List, length, true, sym, ap, ◌∙◌, lit<, true≢false}
-use Rattle.std.specs.List.{position_or_len, list_all, before_first, after_first}
-use Rattle.sm_idl.proofs.RelativeIds.{is_dollar, no_dollar, relative_parts, parts_relative, plain_relative, name_relative}
-use Rattle.sm_idl.proofs.RelativeIds.{all_plain, before_plain, cut_at_first}
+use Rattle.std.proofs.Common.{◌≡◌, length, true, sym, ◌∙◌, lit<, true≢false}
+use Rattle.std.specs.List.{position_or_len}
+use Rattle.sm_idl.proofs.RelativeIds.{is_dollar, relative_parts, parts_relative, plain_relative, name_relative, all_plain}
+use Rattle.sm_idl.proofs.RelativeIds.{IsCutAtDollar, cut_at_dollar}
 use Rattle.sm_idl.proofs.word.is_relative_id.Goals as goal
 
 pub returns-in-None : goal.returns-in-None
@@ -15,30 +15,22 @@ returns-in-None c =
 pub returns-then-is_identifier : goal.returns-then-is_identifier
 returns-then-is_identifier c =
     let text = c.args.text.now in
-    let name : List ℕ = c.in-Some.name.now in
-    let member : List ℕ = c.in-Some.member.now in
+    let name = c.in-Some.name.now in
+    let member = c.in-Some.member.now in
     let h = c.in-Some.ensures.byte (lit< tt) (λ w o k. k) in
-    let front : name ≡ before_first is_dollar text = h.0 in
-    let behind : member ≡ after_first is_dollar text = h.1 in
-    let cut : text ≡ name ++ 36 ∷ member = cut_at_first text h.2 ∙ ap (λ t. t ++ 36 ∷ after_first is_dollar text) (sym front)
-    ∙ ap (λ t. name ++ 36 ∷ t) (sym behind) in
-    let plain : list_all no_dollar name ≡ true = ap (list_all no_dollar) front ∙ before_plain text in (
-      (λ t. parts_relative text name member cut plain (c.is_identifier.ensures.0 c.if-is_identifier.true)
+    let s : IsCutAtDollar text name member = cut_at_dollar text name member h.0 h.1 h.2 in (
+      (λ t. parts_relative text name member s.cut s.plain (c.is_identifier.ensures.0 c.if-is_identifier.true)
           (c.is_identifier-then-is_identifier.ensures.0 t)),
-      (λ r. c.is_identifier-then-is_identifier.ensures.1 (relative_parts text name member cut plain r).1),
+      (λ r. c.is_identifier-then-is_identifier.ensures.1 (relative_parts text name member s.cut s.plain r).1),
     )
 
 pub returns-else-is_identifier : goal.returns-else-is_identifier
 returns-else-is_identifier c =
     let text = c.args.text.now in
-    let name : List ℕ = c.in-Some.name.now in
-    let member : List ℕ = c.in-Some.member.now in
+    let name = c.in-Some.name.now in
+    let member = c.in-Some.member.now in
     let h = c.in-Some.ensures.byte (lit< tt) (λ w o k. k) in
-    let front : name ≡ before_first is_dollar text = h.0 in
-    let behind : member ≡ after_first is_dollar text = h.1 in
-    let cut : text ≡ name ++ 36 ∷ member = cut_at_first text h.2 ∙ ap (λ t. t ++ 36 ∷ after_first is_dollar text) (sym front)
-    ∙ ap (λ t. name ++ 36 ∷ t) (sym behind) in
-    let plain : list_all no_dollar name ≡ true = ap (list_all no_dollar) front ∙ before_plain text in (
+    let s : IsCutAtDollar text name member = cut_at_dollar text name member h.0 h.1 h.2 in (
       (λ t. absurd (true≢false (sym t ∙ c.if-is_identifier.false))),
-      (λ r. c.is_identifier.ensures.1 (relative_parts text name member cut plain r).0),
+      (λ r. c.is_identifier.ensures.1 (relative_parts text name member s.cut s.plain r).0),
     )

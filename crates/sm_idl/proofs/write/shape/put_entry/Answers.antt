@@ -13,8 +13,8 @@ returns-then-is_member c =
     member_skipped (maps_of g).shapes c.args.namespace.now (slice_get (entries_of g) c.args.number) c.args.out.now.items
     (told_at g c.args.number c.is_member.result true c.is_member.ensures c.if-is_member.true)
 
-pub put_own-requires-clause-is_shape : goal.put_own-requires-clause-is_shape
-put_own-requires-clause-is_shape c =
+pub put_shape-requires-clause-is_shape : goal.put_shape-requires-clause-is_shape
+put_shape-requires-clause-is_shape c =
     shape_there_at c.args.graph.now c.args.number c.is_member.result c.is_member.ensures c.if-is_member.false
 
 pub returns-then-is_its_own : goal.returns-then-is_its_own
@@ -25,12 +25,12 @@ returns-then-is_its_own c =
     let id = c.as_str-id.result.now in
     let own = sym c.is_its_own.ensures ∙ c.if-is_its_own.true in
     let before = c.args.out.now.items in
-    let now = c.put_own.new.out.items in
-    on_ok_weaker c.put_own.result
+    let now = c.put_shape.new.out.items in
+    on_ok_weaker c.put_shape.result
     (λ is. shape_put shapes c.args.namespace.now (slice_get (entries_of g) k) before now id
     (id_there g k id c.id.result.now c.as_str-id.ensures c.id.ensures) own
     (subst (λ name. At g k (λ i e. IsShapeText shapes name (before ++ line_feed ∷ []) now e)) c.namespace_and_name.ensures.name is))
-    c.put_own.ensures
+    c.put_shape.ensures
 
 pub returns : goal.returns
 returns c =
