@@ -1,7 +1,7 @@
--- What the parts of a shape's mixins say of them.
+-- What the parts of ids between brackets say of them, and those of a shape's mixins.
 use Rattle.std.proofs.Common.{◌≡◌, ℕ, false, List, [], map, Some, None, Result, Ok, Err, codes, sym, subst}
 use Rattle.sm_model.specs.declared.reference.Ref.{Ref}
-use Rattle.sm_idl.specs.Productions.{Tokens, Production, maybe, many}
+use Rattle.sm_idl.specs.Productions.{Tokens, maybe, many}
 use Rattle.sm_idl.specs.Words.{mark, the_word, id}
 use Rattle.sm_idl.specs.Nodes.{Home, written}
 use Rattle.sm_idl.specs.Members.{with_mixins, mixins, or_none}
@@ -9,56 +9,49 @@ use Rattle.sm_idl.specs.declared.reader.ReadStop.{ReadStop}
 use Rattle.sm_idl.specs.steps.ReaderView.{NoToken, StopsIn, ReadsAs, ReadsOn}
 use Rattle.sm_idl.specs.steps.Firm.{HeadIs, AreApart}
 use Rattle.sm_idl.specs.steps.Classes.{AMark, AnyWord, With}
+use Rattle.sm_idl.specs.steps.IdSteps.{listed_ids}
 use Rattle.sm_idl.specs.steps.Reading.{IsRead}
 use Rattle.sm_idl.proofs.TokenClasses.{mark_no_word, turned}
 use Rattle.sm_idl.proofs.FirmTraits.{the_word_firm}
 use Rattle.sm_idl.proofs.FirmMembers.{with_mixins_firm}
-use Rattle.sm_idl.proofs.Passing.{one_class, read_wider, stop_wider, whole_read, stops_first, stops_behind, value_read, value_stop}
+use Rattle.sm_idl.proofs.Passing.{one_class, read_wider, stop_wider, whole_read, stops_first, value_read, value_stop}
+use Rattle.sm_idl.proofs.Answered.{as_behind}
 use Rattle.sm_idl.proofs.Choosing as choosing
-use Rattle.sm_idl.proofs.Bracketed.{between, stops_at_opener, stops_between, stops_at_close, read_between}
+use Rattle.sm_idl.proofs.Bracketed as bracketed
 
-word_no_bracket : AreApart AnyWord (AMark (codes "]"))
+pub word_no_bracket : AreApart AnyWord (AMark (codes "]"))
 word_no_bracket = turned _ _ (mark_no_word (codes "]"))
 
 module _ (home : Home) where
-  abbrev made : List (List ℕ) → List Ref
-  made ws = map (λ w. written home w false) ws
+  abbrev pub made_ids : List (List ℕ) → List Ref
+  made_ids ws = map (λ w. written home w false) ws
 
-  abbrev listed : Production (List Ref)
-  listed = between (codes "[") (many id) (codes "]") made
+  pub ids_open : (s r : Tokens) (stop : ReadStop) → StopsIn NoToken (mark (codes "[")) s r stop → StopsIn NoToken (listed_ids home) s r stop
+  ids_open s r stop k = bracketed.stops_at_opener (codes "[") (codes "]") AnyWord (many id) made_ids word_no_bracket s r stop k
+
+  pub ids_within : (s a r : Tokens) (stop : ReadStop) → (mark (codes "[")).whole tt s a → StopsIn AnyWord (many id) a r stop
+      → StopsIn NoToken (listed_ids home) s r stop
+  ids_within s a r stop h k = bracketed.stops_between (codes "[") (codes "]") AnyWord (many id) made_ids word_no_bracket s a r stop h k
+
+  pub ids_close : (ws : List (List ℕ)) (s a b r : Tokens) (stop : ReadStop) → (mark (codes "[")).whole tt s a
+      → IsRead AnyWord (many id) ws a b → StopsIn NoToken (mark (codes "]")) b r stop → StopsIn NoToken (listed_ids home) s r stop
+  ids_close ws s a b r stop h m k =
+      bracketed.stops_at_close (codes "[") (codes "]") AnyWord (many id) made_ids word_no_bracket ws s a b r stop h m k
+
+  pub ids_listed : (ws : List (List ℕ)) (refs : List Ref) (s a b r : Tokens) → refs ≡ made_ids ws → (mark (codes "[")).whole tt s a
+      → IsRead AnyWord (many id) ws a b → (mark (codes "]")).whole tt b r → (listed_ids home).whole refs s r
+  ids_listed ws refs s a b r e h m k =
+      subst (λ z. (listed_ids home).whole z s r) (sym e)
+      (bracketed.read_between (codes "[") (codes "]") AnyWord (many id) made_ids word_no_bracket ws s a b r h m k)
 
   pub stops_at_with : (s r : Tokens) (stop : ReadStop) → StopsIn NoToken (the_word (codes "with")) s r stop
       → StopsIn NoToken (with_mixins home) s r stop
-  stops_at_with s r stop k = stops_first NoToken (the_word (codes "with")) (λ _. listed) s r stop k
+  stops_at_with s r stop k = stops_first NoToken (the_word (codes "with")) (λ _. listed_ids home) s r stop k
 
-  behind_with : (s a r : Tokens) (stop : ReadStop) → (the_word (codes "with")).whole tt s a → StopsIn NoToken listed a r stop
-      → StopsIn NoToken (with_mixins home) s r stop
-  behind_with s a r stop h k =
-      stops_behind NoToken (the_word (codes "with")) (λ _. listed) (the_word_firm (codes "with")) tt s a r stop h k
-
-  pub stops_at_bracket : (s a r : Tokens) (stop : ReadStop) → (the_word (codes "with")).whole tt s a
-      → StopsIn NoToken (mark (codes "[")) a r stop
-      → StopsIn NoToken (with_mixins home) s r stop
-  stops_at_bracket s a r stop h k =
-      behind_with s a r stop h (stops_at_opener (codes "[") (codes "]") AnyWord (many id) made word_no_bracket a r stop k)
-
-  pub stops_within : (s a b r : Tokens) (stop : ReadStop) → (the_word (codes "with")).whole tt s a → (mark (codes "[")).whole tt a b
-      → StopsIn AnyWord (many id) b r stop → StopsIn NoToken (with_mixins home) s r stop
-  stops_within s a b r stop h k m =
-      behind_with s a r stop h (stops_between (codes "[") (codes "]") AnyWord (many id) made word_no_bracket a b r stop k m)
-
-  pub stops_at_end : (ws : List (List ℕ)) (s a b c r : Tokens) (stop : ReadStop) → (the_word (codes "with")).whole tt s a
-      → (mark (codes "[")).whole tt a b → IsRead AnyWord (many id) ws b c → StopsIn NoToken (mark (codes "]")) c r stop
-      → StopsIn NoToken (with_mixins home) s r stop
-  stops_at_end ws s a b c r stop h k m n =
-      behind_with s a r stop h (stops_at_close (codes "[") (codes "]") AnyWord (many id) made word_no_bracket ws a b c r stop k m n)
-
-  pub with_read : (ws : List (List ℕ)) (refs : List Ref) (s a b c r : Tokens) → refs ≡ made ws → (the_word (codes "with")).whole tt s a
-      → (mark (codes "[")).whole tt a b → IsRead AnyWord (many id) ws b c → (mark (codes "]")).whole tt c r
-      → (with_mixins home).whole refs s r
-  with_read ws refs s a b c r e h k m n =
-      subst (λ z. (with_mixins home).whole z s r) (sym e)
-      (tt, a, h, read_between (codes "[") (codes "]") AnyWord (many id) made word_no_bracket ws a b c r k m n)
+  pub behind_with : {V : Type 0} (view : V → List Ref) (s a r : Tokens) (result : Result V ReadStop)
+      → (the_word (codes "with")).whole tt s a → ReadsAs view (listed_ids home) a r result → ReadsAs view (with_mixins home) s r result
+  behind_with view s a r result h k =
+      as_behind view (the_word (codes "with")) (λ _. listed_ids home) (the_word_firm (codes "with")) tt s a r result h k
 
   pub mixins_none : (s : Tokens) → (HeadIs With s → ⊥) → IsRead With (mixins home) [] s s
   mixins_none s none =

@@ -28,12 +28,13 @@ use Rattle.sm_idl.specs.declared.operations.Part.{Part}
 use Rattle.sm_idl.specs.declared.reader.ReadStop.{ReadStop}
 use Rattle.sm_idl.specs.steps.Classes.{Either, AMark, AWord, AnyWord, TraitGoesOn, Brace, With}
 use Rattle.sm_idl.specs.steps.Firm.{Class, HeadIs, AreApart, IsFirm}
+use Rattle.sm_idl.specs.steps.IdSteps.{listed_ids}
 use Rattle.sm_idl.specs.steps.Names.{Remembers}
 use Rattle.sm_idl.specs.steps.PartSteps.{part_view, target_said, errors_said}
 use Rattle.sm_idl.specs.steps.ReaderView.{NoToken, StopsIn, ReadsAs}
 use Rattle.sm_idl.specs.steps.Reading.{IsRead}
 use Rattle.sm_idl.proofs.TokenLists.{head_apart}
-use Rattle.sm_idl.proofs.TokenClasses.{marks_unlike, words_unlike, mark_no_word, turned, apart_either}
+use Rattle.sm_idl.proofs.TokenClasses.{marks_unlike, words_unlike, apart_either}
 use Rattle.sm_idl.proofs.FirmParts.{firm_wider}
 use Rattle.sm_idl.proofs.FirmEach.{firm_or}
 use Rattle.sm_idl.proofs.FirmShort.{given_firm, front_firm}
@@ -177,9 +178,6 @@ module _ (home : Home) where
     defined = [];
   }
 
-  word_no_bracket : AreApart AnyWord (AMark (codes "]"))
-  word_no_bracket = turned _ _ (mark_no_word (codes "]"))
-
   abbrev listed : Production PartSaid
   listed = bracketed.between (codes "[") (many id) (codes "]") errors_made
 
@@ -197,49 +195,19 @@ module _ (home : Home) where
         stops_behind NoToken errors_word _ (part_word_firm (codes "errors") before) tt s a r stop h
         (stops_first NoToken (mark (codes ":")) (λ _. listed) a r stop k)
 
-    past_colon : (s a b r : Tokens) (stop : ReadStop) → errors_word.whole tt s a → (mark (codes ":")).whole tt a b
-        → StopsIn NoToken listed b r stop → StopsIn NoToken (part_errors home before) s r stop
-    past_colon s a b r stop h colon k =
+    pub errors_ids_stop : (s a b r : Tokens) (stop : ReadStop) → errors_word.whole tt s a → (mark (codes ":")).whole tt a b
+        → StopsIn NoToken (listed_ids home) b r stop → StopsIn NoToken (part_errors home before) s r stop
+    errors_ids_stop s a b r stop h colon k =
         stops_behind NoToken errors_word _ (part_word_firm (codes "errors") before) tt s a r stop h
-        (stops_behind NoToken (mark (codes ":")) (λ _. listed) (mark_firm (codes ":")) tt a b r stop colon k)
+        (stops_behind NoToken (mark (codes ":")) (λ _. listed) (mark_firm (codes ":")) tt a b r stop colon
+        (bracketed.other_stop (codes "[") (codes "]") (many id) (λ ws. map (λ w. written home w false) ws) errors_made b r stop k))
 
-    pub errors_open_stop : (s a b r : Tokens) (stop : ReadStop) → errors_word.whole tt s a → (mark (codes ":")).whole tt a b
-        → StopsIn NoToken (mark (codes "[")) b r stop → StopsIn NoToken (part_errors home before) s r stop
-    errors_open_stop s a b r stop h colon k =
-        past_colon s a b r stop h colon
-        (bracketed.stops_at_opener (codes "[") (codes "]") AnyWord (many id) errors_made word_no_bracket b r stop k)
-
-    pub errors_ids_stop : (s a b c r : Tokens) (stop : ReadStop) → errors_word.whole tt s a → (mark (codes ":")).whole tt a b
-        → (mark (codes "[")).whole tt b c → StopsIn AnyWord (many id) c r stop → StopsIn NoToken (part_errors home before) s r stop
-    errors_ids_stop s a b c r stop h colon o k =
-        past_colon s a b r stop h colon
-        (bracketed.stops_between (codes "[") (codes "]") AnyWord (many id) errors_made word_no_bracket b c r stop o k)
-
-    pub errors_close_stop : (ws : List (List ℕ)) (s a b c d r : Tokens) (stop : ReadStop) → errors_word.whole tt s a
-        → (mark (codes ":")).whole tt a b → (mark (codes "[")).whole tt b c → IsRead AnyWord (many id) ws c d
-        → StopsIn NoToken (mark (codes "]")) d r stop → StopsIn NoToken (part_errors home before) s r stop
-    errors_close_stop ws s a b c d r stop h colon o m k =
-        past_colon s a b r stop h colon
-        (bracketed.stops_at_close (codes "[") (codes "]") AnyWord (many id) errors_made word_no_bracket ws b c d r stop o m k)
-
-    pub errors_read : (ws : List (List ℕ)) (refs : List Ref) (p : PartSaid) (s a b c d r : Tokens) → p ≡ errors_said refs
-        → refs ≡ map (λ w. written home w false) ws → errors_word.whole tt s a → (mark (codes ":")).whole tt a b
-        → (mark (codes "[")).whole tt b c → IsRead AnyWord (many id) ws c d → (mark (codes "]")).whole tt d r
-        → (part_errors home before).whole p s r
-    errors_read ws refs p s a b c d r e f h colon o m k =
-        subst (λ z. (part_errors home before).whole z s r)
-        (sym (e ∙ ap errors_said f ∙ ap (λ l. record { name = codes "errors"; value = raw_list (raws_of l); defined = [] })
-        (both_maps ws))) (
-          tt,
-          a,
-          h,
-          (
-            tt,
-            b,
-            colon,
-            bracketed.read_between (codes "[") (codes "]") AnyWord (many id) errors_made word_no_bracket ws b c d r o m k,
-          ),
-        )
+    pub errors_read : (refs : List Ref) (p : PartSaid) (s a b r : Tokens) → p ≡ errors_said refs → errors_word.whole tt s a
+        → (mark (codes ":")).whole tt a b → (listed_ids home).whole refs b r → (part_errors home before).whole p s r
+    errors_read refs p s a b r e h colon (_, c, o, (ws, d, m, (_, q, k, (f, last)))) =
+        let same : p ≡ errors_made ws =
+        e ∙ ap errors_said f ∙ ap (λ l. record { name = codes "errors"; value = raw_list (raws_of l); defined = [] }) (both_maps ws) in
+        (tt, a, h, (tt, b, colon, (tt, c, o, (ws, d, m, (tt, q, k, (same, last))))))
       where
         both_maps : (vs : List (List ℕ)) → map raw_id (map (λ w. written home w false) vs) ≡ map (λ w. raw_id (written home w false)) vs
         both_maps [] = refl

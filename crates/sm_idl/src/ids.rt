@@ -3,7 +3,7 @@ ghost use Rattle.std.specs.Prelude.{◌≡◌};
 ghost use Rattle.sm_idl.specs.Members.{mixins, with_mixins};
 ghost use Rattle.sm_idl.specs.steps.HomeView.{home_of_file};
 ghost use Rattle.sm_idl.specs.steps.Classes.{With};
-ghost use Rattle.sm_idl.specs.steps.IdSteps.{ReadsIds};
+ghost use Rattle.sm_idl.specs.steps.IdSteps.{listed_ids, ReadsIds};
 ghost use Rattle.sm_idl.specs.steps.ReaderView.{left, ReadsAs, ReadsOn};
 
 use crate::home::FileHome;
@@ -32,14 +32,14 @@ impl<'t, 'a> Reader<'t, 'a> {
         Ok(ids)
     }
 
-    /// Reads the mixins of a shape.
-    fn with_mixins(&mut self, alloc: Global, home: &FileHome<'_>) -> Result<Vec<Ref>, ReadStop>
-        ensures { ReadsAs (λ refs. refs.items) (with_mixins (home_of_file home.now)) (left self.old) (left self.new) result }
+    /// Reads ids between brackets.
+    pub(crate) fn listed_ids(
+        &mut self,
+        alloc: Global,
+        home: &FileHome<'_>,
+    ) -> Result<Vec<Ref>, ReadStop>
+        ensures { ReadsAs (λ refs. refs.items) (listed_ids (home_of_file home.now)) (left self.old) (left self.new) result }
     {
-        match self.the_word("with") {
-            Ok(()) => {}
-            Err(stop) => return Err(stop),
-        }
         match self.mark("[") {
             Ok(()) => {}
             Err(stop) => return Err(stop),
@@ -52,6 +52,17 @@ impl<'t, 'a> Reader<'t, 'a> {
             Ok(()) => Ok(ids),
             Err(stop) => Err(stop),
         }
+    }
+
+    /// Reads the mixins of a shape.
+    fn with_mixins(&mut self, alloc: Global, home: &FileHome<'_>) -> Result<Vec<Ref>, ReadStop>
+        ensures { ReadsAs (λ refs. refs.items) (with_mixins (home_of_file home.now)) (left self.old) (left self.new) result }
+    {
+        match self.the_word("with") {
+            Ok(()) => {}
+            Err(stop) => return Err(stop),
+        }
+        self.listed_ids(alloc, home)
     }
 
     /// Reads the mixins of a shape, where it has some.

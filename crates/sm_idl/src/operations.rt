@@ -410,18 +410,10 @@ impl<'t, 'a> Reader<'t, 'a> {
             Ok(()) => {}
             Err(stop) => return Err(stop),
         }
-        match self.mark("[") {
-            Ok(()) => {}
-            Err(stop) => return Err(stop),
-        }
-        let ids = match self.ids(alloc, home) {
+        let ids = match self.listed_ids(alloc, home) {
             Ok(ids) => ids,
             Err(stop) => return Err(stop),
         };
-        match self.mark("]") {
-            Ok(()) => {}
-            Err(stop) => return Err(stop),
-        }
         match errors_part(alloc, ids) {
             Ok(part) => Ok(part),
             Err(_) => Err(ReadStop::NoMemory),
