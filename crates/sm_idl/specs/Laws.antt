@@ -30,7 +30,7 @@ FormedStatements = (bytes : List ℕ) (f : FileSaid) → IsUtf8 bytes → Idl f 
 abbrev pub OneRefusal : Type 0
 OneRefusal = (bytes : List ℕ) (q r : IdlRefusal) → IdlRefused q bytes → IdlRefused r bytes → q ≡ r
 
--- and one that is a file's, of a version that is read, isn't refused
+-- a text that is a file's, of a version that is read, isn't refused
 abbrev pub SaidOrRefused : Type 0
 SaidOrRefused = (bytes : List ℕ) (f : FileSaid) (r : IdlRefusal) → Idl f bytes → HaveVersion f.controls → IdlRefused r bytes → ⊥
 

@@ -20,7 +20,7 @@ IsNameOf none name = ⊥
 IsNameOf (exactly names) name = StandsAmong name names
 IsNameOf any name = Unit
 
--- and which it must have
+-- all of these names are among a shape's members
 abbrev pub StandAmong : List (List ℕ) → List (List ℕ) → Type 0
 StandAmong [] names = Unit
 StandAmong (k ∷ ks) names = StandsAmong k names × StandAmong ks names

@@ -1,7 +1,7 @@
 -- The one text that is written for a namespace of a graph (Smithy 2.0, "Smithy IDL"): the version, the metadata, the namespace, and
 -- its shapes outside the prelude in the order of their ids, an empty line before each. Every line ends with a line feed. Nodes are
--- JSON without whitespace, ids are absolute, traits stand in the order of their ids, members in model order, and the fields of
--- operations, services and resources in the order of their type, without those that are missing or have nothing in them.
+-- JSON without whitespace, ids are absolute, traits stand in the order of their ids, and members in model order. The fields of
+-- operations, services and resources stand in the order of their type, without those that are missing or have nothing in them.
 use Rattle.std.specs.Prelude.{ℕ, Bool, true, false, ◌&&◌, not, if◌then◌else◌, List, [], ◌∷◌, ◌++◌, Option, Some, None, codes}
 use Rattle.std.specs.FinMap as fin
 use Rattle.std.specs.Str.{bytes_eq}

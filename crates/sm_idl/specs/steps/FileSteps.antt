@@ -100,7 +100,7 @@ LexedAs (UnclosedString at) refusal = refusal ≡ Lex (UnclosedString at)
 LexedAs (UnclosedBlock at) refusal = refusal ≡ Lex (UnclosedBlock at)
 LexedAs (BadEscape at) refusal = refusal ≡ Lex (BadEscape at)
 
--- and where reading stops
+-- why reading stops, as a refusal of the text
 abbrev pub StoppedAs : ℕ → Tokens → ReadStop → IdlRefusal → Type 0
 StoppedAs len r Syntax refusal = (at : ℕ) × PlaceIs len r at × (refusal ≡ SyntaxAt at)
 StoppedAs len r NoMemory refusal = refusal ≡ NoIdlMemory

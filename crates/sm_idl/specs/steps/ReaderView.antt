@@ -40,7 +40,7 @@ abbrev pub ReadsAs : {V X : Type 0} → (V → X) → Production X → Tokens �
 ReadsAs view P s r (Ok v) = P.whole (view v) s r
 ReadsAs view P s r (Err stop) = StopsIn NoToken P s r stop
 
--- the same of one that goes on by some tokens
+-- a production that goes on by some tokens is read, and r is left; or r begins with the token that goes on with nothing
 abbrev pub ReadsOn : {V X : Type 0} → Class → (V → X) → Production X → Tokens → Tokens → Result V ReadStop → Type 0
 ReadsOn G view P s r (Ok v) = IsRead G P (view v) s r
 ReadsOn G view P s r (Err stop) = StopsIn G P s r stop
