@@ -9,4 +9,4 @@ use Rattle.sm_idl.proofs.write.field.put_fields_of.Given as goal
 abbrev pub invariant-loop-field : goal.invariant-loop-field
 invariant-loop-field l =
     l.out.items ++ field_lines (fields_view (drop l.field-index l.wanted)) (members_of (members_view l.pairs))
-    ≡ l.fn.out.items ++ field_lines (property_forms l.kind) (members_of (members_view l.pairs))
+    ≡ l.fn.out.items ++ field_lines (property_forms l.fn.kind) (members_of (members_view l.pairs))

@@ -1,4 +1,4 @@
-use Rattle.std.proofs.Common.{◌++◌, false, ap, append-nil, subst, sym, ◌∙◌}
+use Rattle.std.proofs.Common.{◌≡◌, ◌++◌, false, ap, append-nil, subst, sym, ◌∙◌}
 use Rattle.std.proofs.lemmas.Result.{on_ok_weaker}
 use Rattle.sm_tree.specs.View.{members_view}
 use Rattle.sm_model.specs.GraphView.{At, Targets}
