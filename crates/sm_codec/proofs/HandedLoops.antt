@@ -221,8 +221,16 @@ module _ (t : TableData) (l : Convention) (p : Place) where
           → CameUpTo S T out N V (fields_left t l p o more)
       part_came = next_came (fields_left t l p o) part_stream fields_split cut h
 
+    -- behind the last one the object ends
+    pub fields_end : fields_left t l p o [] ≡ end_object ∷ []
+    fields_end = by o
+      where
+        by : (x : Option (List ℕ)) → fields_left t l p x [] ≡ end_object ∷ []
+        by None = refl
+        by (Some ks) = refl
+
     -- one field, whose name may be told by another word
-    module _ (k : ℕ) (v : Val) {S : StandsFor} {T : Takes} where
+    module _ (k : ℕ) (v : Val) (S : StandsFor) (T : Takes) where
       pub field_ready : {w : List ℕ} → is_written o k ≡ true → w ≡ wire_name_in t l p k → IsReady S T (field_stream t l p o k v)
           → IsReady S T (named_stream t l (member_place k) w v)
       field_ready e same h =

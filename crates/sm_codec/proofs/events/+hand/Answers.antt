@@ -1,15 +1,18 @@
-use Rattle.std.proofs.Common.{[], ◌∷◌, ap, sym, ◌∙◌, subst, arith}
-use Rattle.std.specs.Prelude.{None, option_copied}
+use Rattle.std.proofs.Common.{[], ◌∷◌, ap, sym, ◌∙◌, subst, arith, rules}
+use Rattle.std.specs.Prelude.{None, OnOk, option_copied}
 use Rattle.std.proofs.lemmas.List.{drop_all}
 use Rattle.sm_tree.specs.Events.{key_event, end_object}
+use Rattle.sm_shapes.specs.InOrder.{Shaped}
 use Rattle.sm_shapes.specs.TableView.{table_data}
 use Rattle.sm_shapes.specs.Values.{vals_nodes, entries_nodes, fields_nodes, vals_of, entries_of, fields_of}
 use Rattle.sm_shapes.specs.ValueView.{val_of, vals_view, each_entry_view, each_field_view}
+use Rattle.sm_codec.specs.Convention.{IsConvention}
 use Rattle.sm_codec.specs.PlaceView.{place_of}
-use Rattle.sm_codec.specs.steps.EventsHanded.{entries_left, fields_left, fields_stream, items_left, union_stream, value_stream}
-use Rattle.sm_codec.specs.steps.ValueParts.{EntriesCarried, PairsCarried, carried_leaf}
+use Rattle.sm_codec.specs.steps.EventsHanded.{Came, IsReady, entries_left, fields_left, fields_stream, items_left}
+use Rattle.sm_codec.specs.steps.EventsHanded.{named_stream, union_stream, value_stream}
+use Rattle.sm_codec.specs.steps.ValueParts.{EntriesCarried, PairsCarried, PartsCarried, carried_leaf}
 use Rattle.sm_codec.proofs.HandedEvents.{come_none, first_ready, last_came, rest_ready, then_came}
-use Rattle.sm_codec.proofs.HandedLoops.{cut_at, end_came, end_ready, entry_came, entry_ready, field_came, field_ready}
+use Rattle.sm_codec.proofs.HandedLoops.{cut_at, end_came, end_ready, entry_came, entry_ready, field_came, field_ready, fields_end}
 use Rattle.sm_codec.proofs.HandedLoops.{item_came, item_ready, list_opened, list_opens, none_came}
 use Rattle.sm_codec.proofs.HandedLoops.{map_opened, map_opens, others_hold, part_came, part_holds, part_ready, structure_opened}
 use Rattle.sm_codec.proofs.HandedLoops.{structure_opens, union_came, union_opens, union_ready}
@@ -197,15 +200,30 @@ hand_fields-loop-part-preserved g t c =
     }
 
 pub hand_fields-hand-requires : goal.hand_fields-hand-requires
-hand_fields-hand-requires g t c = record {
-  ready = end_ready (fields_left (table_data c.args.by.now.table.now) (g.L.Leaves.convention c.args.by.now.leaves.now) (place_of c.args.place) (option_copied c.args.members))
-      (drop_all c.loop-part.part-index c.args.fields.now c.loop-part-test.false) c.loop-part.invariant.came;
-}
+hand_fields-hand-requires g t c =
+    let table = table_data c.args.by.now.table.now in
+    let l = g.L.Leaves.convention c.args.by.now.leaves.now in
+    let o = option_copied c.args.members in
+    let p = place_of c.args.place in
+    let none = drop_all c.loop-part.part-index c.args.fields.now c.loop-part-test.false in
+    record {
+      ready = subst (IsReady (g.E.EventSink.stands_for c.loop-part.to) (g.E.EventSink.takes c.loop-part.to)) (fields_end table l p o)
+          (end_ready (fields_left table l p o) none c.loop-part.invariant.came);
+    }
 
 pub hand_fields-returns-clause-came : goal.hand_fields-returns-clause-came
 hand_fields-returns-clause-came g t c =
-    end_came (fields_left (table_data c.args.by.now.table.now) (g.L.Leaves.convention c.args.by.now.leaves.now) (place_of c.args.place) (option_copied c.args.members))
-    (drop_all c.loop-part.part-index c.args.fields.now c.loop-part-test.false) c.loop-part.invariant.came (g.E.EventSink.stands_for c.hand.new.to) (g.E.EventSink.takes c.hand.new.to) c.hand.result c.hand.ensures.came
+    let M = g.E.EventSink.stands_for c.loop-part.to in
+    let U = g.E.EventSink.takes c.loop-part.to in
+    let N = g.E.EventSink.stands_for c.hand.new.to in
+    let V = g.E.EventSink.takes c.hand.new.to in
+    let table = table_data c.args.by.now.table.now in
+    let l = g.L.Leaves.convention c.args.by.now.leaves.now in
+    let o = option_copied c.args.members in
+    let p = place_of c.args.place in
+    let none = drop_all c.loop-part.part-index c.args.fields.now c.loop-part-test.false in
+    end_came (fields_left table l p o) none c.loop-part.invariant.came N V c.hand.result
+    (subst (λ es. OnOk c.hand.result (Came M U es N V)) (sym (fields_end table l p o)) c.hand.ensures.came)
 
 pub hand_fields-returns-clause-alike : goal.hand_fields-returns-clause-alike
 hand_fields-returns-clause-alike g t c =
@@ -221,7 +239,8 @@ hand_field-hand_pair-requires g t c =
     let k = c.args.part.now.0 in
     let here = sym c.is_written.ensures ∙ c.if-is_written.true in
     let same = c.wire_name-name.ensures ∙ ap (λ s. l.name table s k) c.shape.ensures in
-    let ready = field_ready table l (place_of c.args.place) (option_copied c.args.members) k (val_of c.args.part.now.1) here same c.requires.ready in
+    let ready = field_ready table l (place_of c.args.place) (option_copied c.args.members) k (val_of c.args.part.now.1)
+    (g.E.EventSink.stands_for c.args.to.now) (g.E.EventSink.takes c.args.to.now) here same c.requires.ready in
     λ κs inside. (omega arith, (inside.0, (inside.1, ((c.requires.part here).1, (c.requires.laws, (c.requires.shaped, ready))))))
 
 pub hand_field-returns-then-is_written-clause-came : goal.hand_field-returns-then-is_written-clause-came
@@ -229,27 +248,43 @@ hand_field-returns-then-is_written-clause-came g t c =
     let table = table_data c.args.by.now.table.now in
     let l = g.L.Leaves.convention c.args.by.now.leaves.now in
     let k = c.args.part.now.0 in
-    field_came table l (place_of c.args.place) (option_copied c.args.members) k (val_of c.args.part.now.1) (g.E.EventSink.stands_for c.hand_pair.new.to)
+    field_came table l (place_of c.args.place) (option_copied c.args.members) k (val_of c.args.part.now.1)
+    (g.E.EventSink.stands_for c.args.to.now) (g.E.EventSink.takes c.args.to.now) (g.E.EventSink.stands_for c.hand_pair.new.to)
     (g.E.EventSink.takes c.hand_pair.new.to) c.hand_pair.result (sym c.is_written.ensures ∙ c.if-is_written.true)
     (c.wire_name-name.ensures ∙ ap (λ s. l.name table s k) c.shape.ensures) c.hand_pair.ensures.came
 
 pub hand_field-returns-else-is_written-clause-came : goal.hand_field-returns-else-is_written-clause-came
 hand_field-returns-else-is_written-clause-came g t c =
     none_came (table_data c.args.by.now.table.now) (g.L.Leaves.convention c.args.by.now.leaves.now) (place_of c.args.place) (option_copied c.args.members) c.args.part.now.0
-    (val_of c.args.part.now.1) (sym c.is_written.ensures ∙ c.if-is_written.false)
+    (val_of c.args.part.now.1) (g.E.EventSink.stands_for c.args.to.now) (g.E.EventSink.takes c.args.to.now)
+    (sym c.is_written.ensures ∙ c.if-is_written.false)
 
 pub hand_pair-hand_key-requires : goal.hand_pair-hand_key-requires
-hand_pair-hand_key-requires g t c = record {
-  ready = first_ready (g.E.EventSink.stands_for c.args.to.now) (g.E.EventSink.takes c.args.to.now) (key_event c.args.name.now ∷ [])
-      (value_stream (table_data c.args.by.now.table.now) (g.L.Leaves.convention c.args.by.now.leaves.now) (place_of c.args.place) (val_of c.args.value.now)) c.requires.ready;
-}
+hand_pair-hand_key-requires g t c =
+    let table = table_data c.args.by.now.table.now in
+    let l = g.L.Leaves.convention c.args.by.now.leaves.now in
+    let p = place_of c.args.place in
+    let v = val_of c.args.value.now in
+    let S = g.E.EventSink.stands_for c.args.to.now in
+    let T = g.E.EventSink.takes c.args.to.now in
+    let ready : IsReady S T (named_stream table l p c.args.name.now v) = search rules in
+    record { ready = first_ready S T (key_event c.args.name.now ∷ []) (value_stream table l p v) ready }
 
 pub hand_pair-hand_value-requires : goal.hand_pair-hand_value-requires
 hand_pair-hand_value-requires g t c =
-    let ready = rest_ready (g.E.EventSink.stands_for c.args.to.now) (g.E.EventSink.stands_for c.hand_key.new.to) (g.E.EventSink.takes c.args.to.now)
-    (g.E.EventSink.takes c.hand_key.new.to) (key_event c.args.name.now ∷ [])
-    (value_stream (table_data c.args.by.now.table.now) (g.L.Leaves.convention c.args.by.now.leaves.now) (place_of c.args.place) (val_of c.args.value.now)) c.requires.ready c.in-Ok.ensures.came in
-    λ κs inside. (omega arith, (inside.0, (inside.1, (c.requires.laws, (c.requires.shaped, (c.requires.parts, ready))))))
+    let table = table_data c.args.by.now.table.now in
+    let l = g.L.Leaves.convention c.args.by.now.leaves.now in
+    let p = place_of c.args.place in
+    let v = val_of c.args.value.now in
+    let S = g.E.EventSink.stands_for c.args.to.now in
+    let T = g.E.EventSink.takes c.args.to.now in
+    let ready : IsReady S T (named_stream table l p c.args.name.now v) = search rules in
+    let parts : PartsCarried table l p v = search rules in
+    let laws : IsConvention l = search rules in
+    let shaped : Shaped table = search rules in
+    let next = rest_ready S (g.E.EventSink.stands_for c.hand_key.new.to) T (g.E.EventSink.takes c.hand_key.new.to)
+    (key_event c.args.name.now ∷ []) (value_stream table l p v) ready c.in-Ok.ensures.came in
+    λ κs inside. (omega arith, (inside.0, (inside.1, (laws, (shaped, (parts, next))))))
 
 pub hand_pair-returns-in-Ok-clause-came : goal.hand_pair-returns-in-Ok-clause-came
 hand_pair-returns-in-Ok-clause-came g t c =

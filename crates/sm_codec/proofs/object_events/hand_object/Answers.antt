@@ -34,8 +34,8 @@ hand_fields-requires-clause-ready g c =
     c.in-Ok.ensures.came (g.E.EventSink.stands_for c.hand_before.new.to) (g.E.EventSink.takes c.hand_before.new.to)
     c.in-Ok-hand_before.ensures.came).3
 
-pub returns-in-Ok-in-Ok-hand_before-clause-came : goal.returns-in-Ok-in-Ok-hand_before-clause-came
-returns-in-Ok-in-Ok-hand_before-clause-came g c =
+pub returns-in-Ok-hand_before-clause-came : goal.returns-in-Ok-hand_before-clause-came
+returns-in-Ok-hand_before-clause-came g c =
     let before = option_map (λ pair. (pair.0.now, pair.1.now)) c.args.before in
     let o = option_copied c.args.members in
     let t = table_data c.args.by.now.table.now in
