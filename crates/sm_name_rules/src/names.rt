@@ -39,8 +39,8 @@ use std::alloc::Global;
 use std::collections::BTreeMap;
 
 /// Puts the events of the rule, by the ways of the graph. n log n where no two names of the graph are equal but for case and no service
-/// gives names; else services with the same references share a walk of their closure and what it has of names, n log n in the closure,
-/// and each of them is n log n in the names that others of its closure have and in its `rename`.
+/// gives names. Else services with the same references share a walk of their closure and what it has of names, n log n in the closure.
+/// Each of them is then n log n in the names that others of its closure have and in its `rename`.
 pub fn put_names(alloc: Global, graph: &Graph, ways: &Ways, events: &mut Events) -> Put
     requires { AreWays graph.now ways.now }
     ensures { OnOk result

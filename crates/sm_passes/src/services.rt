@@ -58,8 +58,8 @@ pub trait OfServices {
 }
 
 /// Puts the events of all services outside of the prelude. Those with the same references, in any order and any number of times, are
-/// handed over together, with what they lead to. n log n in services and references, beside a mark for each number, a walk of the
-/// closure of each such group of which something may be told, and what the rule takes.
+/// handed over together, with what they lead to. n log n in services and references, and a mark for each number. Besides, it takes a walk
+/// of the closure of each such group of which something may be told, and what the rule takes.
 pub fn put_by_closures<R: OfServices>(
     alloc: Global,
     graph: &Graph,
