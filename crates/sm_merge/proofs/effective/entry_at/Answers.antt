@@ -33,7 +33,8 @@ returns c =
     let at_row = slice_get_read c.args.rows.now (length c.args.rows.now) number c.index-rows-number.result refl low
     c.index-rows-number.is in
     IfOk-weaker c.traits_of.result
-    (AreTraitsFrom c.args.traits.now c.as_str-id.result.now (targets_view c.as_slice-given.result.now) c.as_slice-2.result.now c.args.all.now)
+    (AreTraitsFrom c.args.traits.now c.as_str-id.result.now (targets_view c.as_slice-given.result.now) c.as_slice-2.result.now
+    c.args.all.now)
     (HasMixedTraits c.args.traits.now c.args.rows.now c.args.members.now c.args.mixed.now number c.args.all.now)
     (λ entry from.
     subst (λ k. AreTraitsFrom c.args.traits.now k (targets_view (vec_items (slice_get c.args.members.now number)))
