@@ -10,8 +10,8 @@ use Rattle.sm_merge.specs.declared.walk.Status.{Status}
 use Rattle.sm_merge.specs.declared.walk.Status.TheVariants.{New, Begun, Finished}
 use Rattle.sm_merge.specs.declared.walk.Walk.{Walk}
 use Rattle.sm_merge.specs.steps.Links.{Links, At, AreLinks, links_view}
-use Rattle.sm_merge.specs.steps.Walking.{AllReach, AreParts, HasFinished, HasGone, IsGrounded, IsIdle, IsJoining, IsMet, IsWalking}
-use Rattle.sm_merge.specs.steps.Walking.{IsWalked, KeepsMet, steps_ahead, steps_left}
+use Rattle.sm_merge.specs.steps.Walking.{AllReach, AreParts, HasFinished, HasGone, HasTaken, IsGrounded, IsIdle, IsJoining, IsMet}
+use Rattle.sm_merge.specs.steps.Walking.{IsWalked, IsWalking, KeepsMet, steps_ahead, steps_left}
 use Rattle.sm_merge.proofs.Ats.{at_last, at_one, at_stored, at_was, at_within, last_split}
 use Rattle.sm_merge.proofs.WalkBegun.{begun_grounded, begun_parts}
 use Rattle.sm_merge.proofs.Walked.{popped_grounded, popped_parts, popped_reached, settled_parts}
