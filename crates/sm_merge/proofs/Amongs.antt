@@ -8,7 +8,15 @@ use Rattle.std.proofs.lemmas.Bool.{true≢false}
 use Rattle.std.proofs.lemmas.Option.{none-some, same_Some}
 use Rattle.std.proofs.lemmas.Slice.Eq.{bytes_eq-Decides}
 use Rattle.sm_model.specs.Graphs.{text_cmp}
+use Rattle.sm_merge.specs.steps.PlaceEvents.{all_below}
 use Rattle.sm_merge.proofs.FoundRows.{here, passed}
+
+less_or_same : (n v : ℕ) → v < suc n → (v < n) ⊎ (v ≡ n)
+less_or_same zero zero small = inr refl
+less_or_same zero (suc v) small = absurd (omega (arith, small))
+less_or_same (suc n) zero small = inl (omega arith)
+less_or_same (suc n) (suc v) small = elim (less_or_same n v (omega (arith, small)))
+    [ inl less ↦ inl (omega (arith, less)) | inr same ↦ inr (ap suc same) ]
 
 abbrev pub Among : {A : Type 0} → A → List A → Type 0
 Among x [] = ⊥
@@ -64,6 +72,27 @@ module _ {A B : Type 0} where
   map_among f [] x h = absurd h
   map_among f (z ∷ xs) x (inl same) = inl (ap f same)
   map_among f (z ∷ xs) x (inr h) = inr (map_among f xs x h)
+
+-- what stands at a number stands among all below a greater one, and nothing else does
+module _ {A : Type 0} (at_number : ℕ → List A) where
+  pub among_below : (n : ℕ) (x : A) → Among x (all_below at_number n) → (v : ℕ) × (v < n) × Among x (at_number v)
+  among_below zero x none = absurd none
+  among_below (suc n) x among = elim (among_either x (all_below at_number n) (at_number n) among) [
+    | inl before ↦
+        let rest = among_below n x before in
+        let less : rest.0 < n = rest.1 in
+        let more : rest.0 < suc n = omega (arith, less) in (rest.0, more, rest.2)
+    | inr now ↦ let last : n < suc n = omega arith in (n, last, now)
+  ]
+
+  pub below_among : (n v : ℕ) (x : A) → v < n → Among x (at_number v) → Among x (all_below at_number n)
+  below_among zero v x small among = absurd (omega (arith, small))
+  below_among (suc n) v x small among = by (λ less. below_among n v x less among) (less_or_same n v small)
+    where
+      by : (v < n → Among x (all_below at_number n)) → (v < n) ⊎ (v ≡ n) → Among x (all_below at_number n ++ at_number n)
+      by rest (inl less) = among_front x (all_below at_number n) (at_number n) (rest less)
+      by rest (inr same) =
+          among_back x (all_below at_number n) (at_number n) (subst (λ w. Among x (at_number w)) same among)
 
 -- what is found stands among, and a name that stands among is found
 module _ {X : Type 0} where

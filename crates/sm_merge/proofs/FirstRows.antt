@@ -1,11 +1,9 @@
 -- Rows that a stable sort has put into the order of their names, each name once: the first of a name stays what it was.
-use Rattle.std.proofs.Common.{◌≡◌, ◌+◌, ℕ, suc, Bool, true, false, cond, List, [], ◌∷◌, get_or, filter, Option, Some, None}
+use Rattle.std.proofs.Common.{◌≡◌, ℕ, Bool, true, false, cond, List, [], ◌∷◌, filter, Option, Some, None}
 use Rattle.std.proofs.Common.{IsPermutation, IsSortedBy, refl, sym, ap, subst, ◌∙◌, arith, bytes_eq}
-use Rattle.std.specs.Prelude.{◌&&◌, not}
 use Rattle.std.specs.List.{dedup, dedup_from}
 use Rattle.std.specs.List.Sorted.{ties, IsStableBy}
 use Rattle.std.specs.FinMap.Entries.{find}
-use Rattle.std.specs.Cmp.Lexicographic.{nat_list_cmp_total}
 use Rattle.std.specs.Ordering.{is_lt, is_eq}
 use Rattle.std.proofs.lemmas.List.Sorted.{length_permutation}
 use Rattle.std.proofs.lemmas.Slice.Eq.{bytes_eq-Decides}
@@ -16,10 +14,13 @@ use Rattle.sm_merge.specs.steps.Filling.{AreFirstRows, folded_rows}
 use Rattle.sm_merge.specs.declared.effective.NamedFolded.{NamedFolded}
 use Rattle.sm_merge.specs.declared.value.Folded.{Folded}
 use Rattle.sm_merge.proofs.FoundRows.{here, passed}
-use Rattle.sm_merge.proofs.GroupsMade.{below_all_of, less, tests, ties_tests}
+use Rattle.sm_merge.proofs.GroupsMade.{Climb, below_all_of, climbs, comes_before, less, tied_rows}
+
+abbrev pub name_of : NamedFolded → List ℕ
+name_of e = e.name.now
 
 abbrev pub before : NamedFolded → NamedFolded → Bool
-before a b = is_lt (text_cmp a.name.now b.name.now)
+before a b = comes_before name_of a b
 
 abbrev pub same : NamedFolded → NamedFolded → Bool
 same a b = bytes_eq a.name.now b.name.now
@@ -48,19 +49,15 @@ same_filter : (a b : NamedFolded → Bool) → ((e : NamedFolded) → a e ≡ b 
 same_filter a b h [] = refl
 same_filter a b h (e ∷ es) = λ i. cond (h e i) (e ∷ same_filter a b h es i) (same_filter a b h es i)
 
-tied : (k : List ℕ) (d e : NamedFolded) → ties before (with_name k d) e ≡ named k e
-tied k d e =
-    ap (λ r. not (is_lt (text_cmp k e.name.now)) && not (is_lt r)) (nat_list_cmp_total.antisymm e.name.now k)
-    ∙ ties_tests (text_cmp k e.name.now) ∙ tests k e.name.now
-
 pub still_found : (xs ys : List NamedFolded) → IsPermutation xs ys → IsStableBy before xs ys → (k : List ℕ)
     → find text_cmp k (folded_rows ys) ≡ find text_cmp k (folded_rows xs)
 still_found [] [] moved stable k = refl
 still_found [] (y ∷ ys) moved stable k = let none = length_permutation [] (y ∷ ys) moved in absurd (omega (arith, none))
 still_found (x ∷ xs) ys moved stable k =
     first_named k ys
-    ∙ ap head_folded (sym (same_filter (ties before (with_name k x)) (named k) (tied k x) ys) ∙ stable (with_name k x)
-    ∙ same_filter (ties before (with_name k x)) (named k) (tied k x) (x ∷ xs))
+    ∙ ap head_folded (sym (same_filter (ties before (with_name k x)) (named k) (tied_rows name_of (with_name k x)) ys)
+    ∙ stable (with_name k x)
+    ∙ same_filter (ties before (with_name k x)) (named k) (tied_rows name_of (with_name k x)) (x ∷ xs))
     ∙ sym (first_named k (x ∷ xs))
 
 -- of those next to each other that have one name the first is kept
@@ -91,23 +88,8 @@ found_once : (k : List ℕ) (es : List NamedFolded) → find text_cmp k (folded_
 found_once k [] = refl
 found_once k (e ∷ es) = found_from k e es
 
--- each row isn't before the one that stands before it
-abbrev Climb : List NamedFolded → Type 0
-Climb [] = Unit {0}
-Climb (e ∷ []) = Unit {0}
-Climb (e ∷ f ∷ es) = (before f e ≡ false) × Climb (f ∷ es)
-
-climbs : (es : List NamedFolded) → IsSortedBy before es → Climb es
-climbs [] up = tt
-climbs (e ∷ []) up = tt
-climbs (e ∷ f ∷ es) up = (
-  up 0 e (omega arith) (omega arith),
-  climbs (f ∷ es) (λ k d low high.
-      let next : suc k + 1 ≡ suc (k + 1) = omega arith in
-      subst (λ (n : ℕ). before (get_or (e ∷ f ∷ es) n d) (get_or (f ∷ es) k d) ≡ false) next (up (suc k) d (omega arith) (omega arith))),
-)
-
-climb_past : (e f : NamedFolded) (es : List NamedFolded) → f.name.now ≡ e.name.now → Climb (f ∷ es) → Climb (e ∷ es)
+-- of rows that climb the first of each name rise
+climb_past : (e f : NamedFolded) (es : List NamedFolded) → f.name.now ≡ e.name.now → Climb name_of (f ∷ es) → Climb name_of (e ∷ es)
 climb_past e f [] one h = tt
 climb_past e f (g ∷ es) one h = (subst (λ n. is_lt (text_cmp g.name.now n) ≡ false) one h.0, h.1)
 
@@ -138,11 +120,11 @@ turned_apart a b true e h =
     let itself : bytes_eq a b ≡ true = (bytes_eq-Decides a b).1 (sym ((bytes_eq-Decides b a).0 e)) in
     sym itself ∙ h
 
-rises_from : (e : NamedFolded) (es : List NamedFolded) → Climb (e ∷ es) → Rise (trait_names (dedup_from same e es))
+rises_from : (e : NamedFolded) (es : List NamedFolded) → Climb name_of (e ∷ es) → Rise (trait_names (dedup_from same e es))
 rises_from e [] h = (tt, tt)
 rises_from e (f ∷ es) h = by (bytes_eq f.name.now e.name.now) refl (λ up. rises_from e es up) (rises_from f es h.1)
   where
-    by : (b : Bool) → bytes_eq f.name.now e.name.now ≡ b → (Climb (e ∷ es) → Rise (trait_names (dedup_from same e es)))
+    by : (b : Bool) → bytes_eq f.name.now e.name.now ≡ b → (Climb name_of (e ∷ es) → Rise (trait_names (dedup_from same e es)))
         → Rise (trait_names (dedup_from same f es))
         → Rise (trait_names (cond b (dedup_from same e es) (e ∷ dedup_from same f es)))
     by true one past rest = past (climb_past e f es ((bytes_eq-Decides f.name.now e.name.now).0 one) h.1)
@@ -152,7 +134,7 @@ rises_from e (f ∷ es) h = by (bytes_eq f.name.now e.name.now) refl (λ up. ris
       rest,
     )
 
-rises_once : (es : List NamedFolded) → Climb es → Rise (trait_names (dedup same es))
+rises_once : (es : List NamedFolded) → Climb name_of es → Rise (trait_names (dedup same es))
 rises_once [] h = tt
 rises_once (e ∷ es) h = rises_from e es h
 
@@ -160,6 +142,6 @@ pub first_rows_are : (xs ys zs : List NamedFolded) → IsPermutation xs ys → I
     → zs ≡ dedup same ys
     → AreFirstRows (folded_rows xs) zs
 first_rows_are xs ys zs moved up stable is = subst (AreFirstRows (folded_rows xs)) (sym is) (record {
-  rise = rises_once ys (climbs ys up);
+  rise = rises_once ys (climbs name_of ys up);
   same = λ k. found_once k ys ∙ still_found xs ys moved stable k;
 })

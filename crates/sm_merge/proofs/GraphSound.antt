@@ -16,10 +16,10 @@ use Rattle.sm_ids.specs.IdText.{IsIdText}
 use Rattle.sm_tree.specs.Node.{Node, text}
 use Rattle.sm_tree.specs.Same.{IsNode}
 use Rattle.sm_model.specs.Formed.{AreFormed, AreStatedMembers, AreTraits, IsFormed}
-use Rattle.sm_model.specs.Given.{AreGivenShapes, AreNodes as AreNodesUnder}
+use Rattle.sm_model.specs.Given.{AreNodes as AreNodesUnder}
 use Rattle.sm_model.specs.Graphs.{Entry, MemberEntry, NodeMap, ShapeGiven, given_entries, given_members}
 use Rattle.sm_model.specs.Graphs.{member_entry, member_id, shape_entry, text_cmp}
-use Rattle.sm_model.specs.PreludeShapes.{api_id, prelude_shapes}
+use Rattle.sm_model.specs.PreludeShapes.{prelude_shapes}
 use Rattle.sm_model.specs.References.{IsShapeId}
 use Rattle.sm_model.specs.Said.{MemberSaid, Said, TraitSaid, apply_said, metadata_said, shape_said}
 use Rattle.sm_model.specs.declared.kind.Kind.{Kind}
@@ -41,7 +41,7 @@ use Rattle.sm_merge.proofs.Folds.{node_joined}
 use Rattle.sm_merge.proofs.GroupsMade.{tests}
 use Rattle.sm_merge.proofs.MeantIds.{meaning_is_id}
 use Rattle.sm_merge.proofs.NodesMeant.{meant_is_node}
-use Rattle.sm_merge.proofs.PreludeGiven.{api_shape_id, prelude_given}
+use Rattle.sm_merge.proofs.PreludeGiven.{AreOfPrelude, AreUnderIds, api_text, shapes_are}
 use Rattle.sm_merge.proofs.SomeEffective.{values_named}
 use Rattle.sm_merge.proofs.StatedSound.{sound_under, statements_sound}
 use Rattle.sm_merge.proofs.WholeGiven.{lacks, name_node, target_kept, valued_if}
@@ -266,98 +266,6 @@ IsSoundEntry id (shape_entry s) = IsShapeId id × IsNode s.properties × HoldsNa
 IsSoundEntry id (member_entry m) = IsMemberId id × IsIdText m.target × HoldsNamed m.traits
 
 -- a shape of the prelude
-default_id : IsIdText (api_id (codes "default"))
-default_id = let id = api_shape_id (codes "default") refl in (id.0, id.1)
-
-unit_type_id : IsIdText (api_id (codes "unitType"))
-unit_type_id = let id = api_shape_id (codes "unitType") refl in (id.0, id.1)
-
-abbrev AreUnderIds : List (List ℕ × Node) → Type 0
-AreUnderIds ps = Each (λ k n. IsIdText k) ps
-
-abbrev HaveNoMembers : List ShapeGiven → Type 0
-HaveNoMembers [] = Unit {0}
-HaveNoMembers (s ∷ ss) = AreUnderIds s.traits × (s.members ≡ []) × HaveNoMembers ss
-
-prelude_named : HaveNoMembers prelude_shapes
-prelude_named = (
-  tt,
-  refl,
-  (
-    tt,
-    refl,
-    (
-      tt,
-      refl,
-      (
-        tt,
-        refl,
-        (
-          tt,
-          refl,
-          (
-            tt,
-            refl,
-            (
-              tt,
-              refl,
-              (
-                tt,
-                refl,
-                (
-                  tt,
-                  refl,
-                  (
-                    tt,
-                    refl,
-                    (
-                      tt,
-                      refl,
-                      (
-                        tt,
-                        refl,
-                        (
-                          tt,
-                          refl,
-                          (
-                            (default_id, tt),
-                            refl,
-                            (
-                              (default_id, tt),
-                              refl,
-                              (
-                                (default_id, tt),
-                                refl,
-                                (
-                                  (default_id, tt),
-                                  refl,
-                                  (
-                                    (default_id, tt),
-                                    refl,
-                                    (
-                                      (default_id, tt),
-                                      refl,
-                                      ((default_id, tt), refl, ((unit_type_id, tt), refl, tt)),
-                                    ),
-                                  ),
-                                ),
-                              ),
-                            ),
-                          ),
-                        ),
-                      ),
-                    ),
-                  ),
-                ),
-              ),
-            ),
-          ),
-        ),
-      ),
-    ),
-  ),
-)
-
 both_named : (ps : List (List ℕ × Node)) → AreUnderIds ps → AreNodesUnder ps → Each (IsNamedNode IsIdText) ps
 both_named [] h is = tt
 both_named (p ∷ ps) h is = ((h.0, is.0), both_named ps h.1 is.1)
@@ -365,12 +273,12 @@ both_named (p ∷ ps) h is = ((h.0, is.0), both_named ps h.1 is.1)
 map_named : (ps : List (List ℕ × Node)) → Each (IsNamedNode IsIdText) ps → HoldsNamed (fin.from_entries ps)
 map_named ps h t n found = has_each (IsNamedNode IsIdText) t n ps h (made_has ps t n found)
 
-prelude_each : (ss : List ShapeGiven) → AreGivenShapes ss → HaveNoMembers ss → Each IsSoundEntry (given_entries ss)
-prelude_each [] h named = tt
-prelude_each (s ∷ ss) h named = (
-  (h.0.id, h.0.body.is_node, map_named s.traits (both_named s.traits named.0 h.0.traits.nodes)),
+prelude_each : (ss : List ShapeGiven) → AreOfPrelude ss → Each IsSoundEntry (given_entries ss)
+prelude_each [] h = tt
+prelude_each (s ∷ ss) h = (
+  (h.0.given.id, h.0.given.body.is_node, map_named s.traits (both_named s.traits h.0.under h.0.given.traits.nodes)),
   each_joined IsSoundEntry (given_members s.id s.members) (given_entries ss)
-      (subst (λ ms. Each IsSoundEntry (given_members s.id ms)) (sym named.1) tt) (prelude_each ss h.1 named.2),
+      (subst (λ ms. Each IsSoundEntry (given_members s.id ms)) (sym h.0.bare) tt) (prelude_each ss h.1),
 )
 
 -- keys that tie are one
@@ -379,7 +287,7 @@ tied_key k j h = sym ((bytes_eq-Decides j k).0 (sym (tests k j) ∙ h))
 
 -- a member with its value
 value_id : IsIdText enum_value
-value_id = let id = api_shape_id (codes "enumValue") refl in (id.0, id.1)
+value_id = api_text (codes "enumValue") refl
 
 value_inserted : (name : List ℕ) (m : NodeMap) → IsIdentifier name → HoldsNamed m → HoldsNamed (fin.insert m enum_value (text name))
 value_inserted name m named h t n found =
@@ -431,5 +339,5 @@ module _ (files : List (List Said)) (formed : AreFormedFiles files) where
   stands_sound id e (inl h) = shape_sound id e h
   stands_sound id e (inr (inl h)) = member_sound id e h
   stands_sound id e (inr (inr h)) =
-      has_each IsSoundEntry id e (given_entries prelude_shapes) (prelude_each prelude_shapes prelude_given.each prelude_named)
+      has_each IsSoundEntry id e (given_entries prelude_shapes) (prelude_each prelude_shapes shapes_are)
       (made_has (given_entries prelude_shapes) id e h)

@@ -53,18 +53,44 @@ pub below_all_of : (a b : List ℕ) (ks : List (List ℕ)) → text_cmp a b ≡ 
 below_all_of a b [] h below = tt
 below_all_of a b (k ∷ ks) h below = (nat_list_cmp_total.trans a b k h below.0, below_all_of a b ks h below.1)
 
-module _ {V : Type 0} where
-  abbrev before : List ℕ × V → List ℕ × V → Bool
-  before a b = is_lt (text_cmp a.0 b.0)
+-- rows by their texts
+module _ {A : Type 0} (text_of_row : A → List ℕ) where
+  abbrev pub comes_before : A → A → Bool
+  comes_before a b = is_lt (text_cmp (text_of_row a) (text_of_row b))
 
-  tied : (key : List ℕ) (v : V) (e : List ℕ × V) → ties before (key, v) e ≡ bytes_eq e.0 key
-  tied key v e =
-      ap (λ r. not (is_lt (text_cmp key e.0)) && not (is_lt r)) (nat_list_cmp_total.antisymm e.0 key)
-      ∙ ties_tests (text_cmp key e.0) ∙ tests key e.0
+  pub tied_rows : (a b : A) → ties comes_before a b ≡ bytes_eq (text_of_row b) (text_of_row a)
+  tied_rows a b =
+      ap (λ r. not (is_lt (text_cmp (text_of_row a) (text_of_row b))) && not (is_lt r))
+      (nat_list_cmp_total.antisymm (text_of_row b) (text_of_row a))
+      ∙ ties_tests (text_cmp (text_of_row a) (text_of_row b)) ∙ tests (text_of_row a) (text_of_row b)
+
+  -- each row isn't before the one that stands before it
+  abbrev pub Climb : List A → Type 0
+  Climb [] = Unit {0}
+  Climb (a ∷ []) = Unit {0}
+  Climb (a ∷ b ∷ rows) = (comes_before b a ≡ false) × Climb (b ∷ rows)
+
+  pub climbs : (rows : List A) → IsSortedBy comes_before rows → Climb rows
+  climbs [] up = tt
+  climbs (a ∷ []) up = tt
+  climbs (a ∷ b ∷ rows) up = (
+    up 0 a (omega arith) (omega arith),
+    climbs (b ∷ rows) (λ k d low high.
+        let next : suc k + 1 ≡ suc (k + 1) = omega arith in
+        subst (λ (n : ℕ). comes_before (get_or (a ∷ b ∷ rows) n d) (get_or (b ∷ rows) k d) ≡ false) next
+        (up (suc k) d (omega arith) (omega arith))),
+  )
+
+module _ {V : Type 0} where
+  abbrev key_of : List ℕ × V → List ℕ
+  key_of e = e.0
+
+  abbrev before : List ℕ × V → List ℕ × V → Bool
+  before a b = comes_before key_of a b
 
   kept : (key : List ℕ) (v : V) (es : List (List ℕ × V)) → all_under key es ≡ map (λ e. e.1) (filter (ties before (key, v)) es)
   kept key v [] = refl
-  kept key v (e ∷ es) = by_test (kept key v es) (bytes_eq e.0 key) (ties before (key, v) e) (tied key v e)
+  kept key v (e ∷ es) = by_test (kept key v es) (bytes_eq e.0 key) (ties before (key, v) e) (tied_rows key_of (key, v) e)
     where
       by_test : all_under key es ≡ map (λ f. f.1) (filter (ties before (key, v)) es) → (b t : Bool) → t ≡ b
           → cons_option (if b then Some e.1 else None) (all_under key es)
@@ -81,22 +107,6 @@ module _ {V : Type 0} where
   still_under [] (y ∷ ys) moved stable key = let none = length_permutation [] (y ∷ ys) moved in absurd (omega (arith, none))
   still_under (x ∷ xs) ys moved stable key =
       kept key x.1 ys ∙ ap (map (λ e. e.1)) (stable (key, x.1)) ∙ sym (kept key x.1 (x ∷ xs))
-
-  -- each row isn't before the one that stands before it
-  abbrev pub Climb : List (List ℕ × V) → Type 0
-  Climb [] = Unit {0}
-  Climb (e ∷ []) = Unit {0}
-  Climb (e ∷ f ∷ es) = (before f e ≡ false) × Climb (f ∷ es)
-
-  pub climbs : (es : List (List ℕ × V)) → IsSortedBy before es → Climb es
-  climbs [] up = tt
-  climbs (e ∷ []) up = tt
-  climbs (e ∷ f ∷ es) up = (
-    up 0 e (omega arith) (omega arith),
-    climbs (f ∷ es) (λ k d low high.
-        let next : suc k + 1 ≡ suc (k + 1) = omega arith in
-        subst (λ (n : ℕ). before (get_or (e ∷ f ∷ es) n d) (get_or (f ∷ es) k d) ≡ false) next (up (suc k) d (omega arith) (omega arith))),
-  )
 
   abbrev keys : List (List ℕ × List V) → List (List ℕ)
   keys gs = map (λ g. g.0) gs
@@ -125,7 +135,7 @@ module _ {V : Type 0} where
           ((below, below_all_of key g.0 (keys gs) below rise.0), rise)
 
   -- the groups of rows in order rise
-  pub groups_rise : (es : List (List ℕ × V)) → Climb es → Rise (keys (grouped es))
+  pub groups_rise : (es : List (List ℕ × V)) → Climb key_of es → Rise (keys (grouped es))
   groups_rise [] h = tt
   groups_rise (e ∷ []) h = (tt, tt)
   groups_rise (e ∷ f ∷ es) h = behind (grouped (f ∷ es)) (head_of f.0 (f.1 ∷ []) (grouped es)) (groups_rise (f ∷ es) h.1)
@@ -167,11 +177,11 @@ module _ {V : Type 0} where
           (subst (λ k. find text_cmp k (g ∷ gs) ≡ None) ((bytes_eq-Decides e.0 key).0 h) (found_none e.0 (g ∷ gs) up.0)))
       by_test false apart up false h = ap (λ b. unwrap_or (cond b (Some (e.1 ∷ [])) (find text_cmp key (g ∷ gs))) []) (tests key e.0 ∙ h)
 
-  later : (e : List ℕ × V) (es : List (List ℕ × V)) → Climb (e ∷ es) → Climb es
+  later : (e : List ℕ × V) (es : List (List ℕ × V)) → Climb key_of (e ∷ es) → Climb key_of es
   later e [] h = tt
   later e (f ∷ es) h = h.1
 
-  pub groups_hold : (es : List (List ℕ × V)) → Climb es → (key : List ℕ) → found key (grouped es) ≡ all_under key es
+  pub groups_hold : (es : List (List ℕ × V)) → Climb key_of es → (key : List ℕ) → found key (grouped es) ≡ all_under key es
   groups_hold [] h key = refl
   groups_hold (e ∷ es) h key =
       found_more key e (grouped es) (groups_rise (e ∷ es) h) (bytes_eq e.0 key) refl
@@ -181,8 +191,8 @@ module _ {V : Type 0} where
   pub groups_of : (xs ys : List (List ℕ × V)) → IsSortedBy before ys → ((key : List ℕ) → all_under key ys ≡ all_under key xs)
       → AreGroupsOf xs (grouped ys)
   groups_of xs ys up same = record {
-    rise = groups_rise ys (climbs ys up);
-    each = λ key. groups_hold ys (climbs ys up) key ∙ same key;
+    rise = groups_rise ys (climbs key_of ys up);
+    each = λ key. groups_hold ys (climbs key_of ys up) key ∙ same key;
   }
 
   -- the open group takes a row of its text, and any other row begins another

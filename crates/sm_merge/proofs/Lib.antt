@@ -4,7 +4,6 @@ pub mod OneMerged
 pub mod OneList
 mod OtherOrder
 pub mod PreludeGiven
-mod PreludeShapes
 mod MeantIds
 pub mod NamesKnown
 mod MeantViews

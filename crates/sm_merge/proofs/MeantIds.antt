@@ -1,51 +1,27 @@
 -- What a reference means is an id: what is used under a name, and what a name stands for, are ids of shapes, and a member stays.
-use Rattle.std.proofs.Common.{◌≡◌, inl, inr, ◌+◌, ℕ, not, ◌&&◌, Bool, true, false, cond, List, [], ◌∷◌, ◌++◌, take, drop, length}
+use Rattle.std.proofs.Common.{◌≡◌, inl, inr, ℕ, not, Bool, true, false, List, [], ◌∷◌, ◌++◌, take, drop, length}
 use Rattle.std.proofs.Common.{Option, Some, None, refl, sym, ap, subst, ◌∙◌, arith, append_assoc, append-nil, bytes_eq}
 use Rattle.std.specs.Prelude.{◌||◌, if◌then◌else◌}
 use Rattle.std.specs.List.{list_all, list_any, position_or_len}
 use Rattle.std.specs.Option.{ForSome, unwrap_or}
+use Rattle.std.proofs.Math.Seq.{drop-append_seam, take-append_seam}
 use Rattle.std.proofs.lemmas.Bool.Decides.{nat_tests}
 use Rattle.std.proofs.lemmas.List.Folds.{list_any-append}
 use Rattle.sm_bytes.specs.Ascii.{dollar, number_sign}
 use Rattle.sm_ids.specs.Identifier.{is_identifier_byte, IsIdentifier, IsNamespace}
 use Rattle.sm_ids.specs.IdText.{IsIdText, member_text}
+use Rattle.sm_ids.proofs.Cutting.{both, list_all_weaker}
 use Rattle.sm_ids.proofs.Identifiers.{made_of_bytes}
-use Rattle.sm_ids.proofs.Namespaces.{is_namespace_byte, namespace_bytes}
+use Rattle.sm_ids.proofs.TextCuts.{all_run, of_member, of_shape}
 use Rattle.sm_model.specs.References.{IsShapeId, AreIds, IsWritten, IsReference}
 use Rattle.sm_model.specs.PreludeShapes.{api_id, is_prelude_id}
 use Rattle.sm_model.specs.declared.reference.Ref.{Ref}
 use Rattle.sm_model.specs.Used.{is_byte, shape_part, name_part, used_under}
-use Rattle.sm_merge.specs.Meaning.{Defined, is_absolute, member_part, found_in}
-use Rattle.sm_merge.specs.Meaning.{relative_meaning}
-use Rattle.sm_merge.specs.Meaning.{meaning_in, meaning}
+use Rattle.sm_merge.specs.Meaning.{Defined, found_in, is_absolute, meaning, meaning_in, member_part, relative_meaning}
 use Rattle.sm_merge.proofs.NamesKnown.{or_true}
 use Rattle.sm_merge.proofs.PreludeGiven.{api_shape_id}
 
-both_parts : (a b : Bool) → (a && b) ≡ true → (a ≡ true) × (b ≡ true)
-both_parts true b h = (refl, h)
-both_parts false b h = absurd (subst (λ c. cond c ⊥ (Unit {0})) h tt)
-
--- where the first byte of a kind stands, behind bytes of which none is one
-runs_through : (p q : ℕ → Bool) → ((c : ℕ) → q c ≡ true → p c ≡ false) → (xs rest : List ℕ) → list_all q xs ≡ true
-    → position_or_len p rest ≡ 0 → position_or_len p (xs ++ rest) ≡ length xs
-runs_through p q none [] rest h at = at
-runs_through p q none (x ∷ xs) rest h at =
-    let parts = both_parts (q x) (list_all q xs) h in
-    let more = runs_through p q none xs rest parts.1 at in
-    let first : position_or_len p (x ∷ (xs ++ rest)) ≡ 1 + position_or_len p (xs ++ rest) =
-    ap (λ b. cond (not b) (1 + position_or_len p (xs ++ rest)) 0) (none x parts.0) in
-    let longer : 1 + length xs ≡ length (x ∷ xs) = omega arith in
-    first ∙ ap (λ n. 1 + n) more ∙ longer
-
-front : (xs ys : List ℕ) → take (length xs) (xs ++ ys) ≡ xs
-front [] ys = refl
-front (x ∷ xs) ys = ap (λ zs. x ∷ zs) (front xs ys)
-
-behind : (xs ys : List ℕ) → drop (length xs) (xs ++ ys) ≡ ys
-behind [] ys = refl
-behind (x ∷ xs) ys = behind xs ys
-
-no_dollar : (c : ℕ) → is_identifier_byte c ≡ true → is_byte dollar c ≡ false
+no_dollar : (c : ℕ) → is_identifier_byte c ≡ true → not (is_byte dollar c) ≡ true
 no_dollar c h = grind (arith, nat_tests)
 
 no_sign : (c : ℕ) → is_identifier_byte c ≡ true → is_byte number_sign c ≡ false
@@ -56,16 +32,19 @@ member_begins None = refl
 member_begins (Some m) = refl
 
 -- a name, and what is behind it
-name_ends : (name : List ℕ) (m : Option (List ℕ)) → IsIdentifier name → position_or_len (is_byte dollar) (name ++ member_text m)
-    ≡ length name
+name_ends : (name : List ℕ) (m : Option (List ℕ)) → IsIdentifier name
+    → position_or_len (is_byte dollar) (name ++ member_text m) ≡ length name
 name_ends name m h =
-    runs_through (is_byte dollar) is_identifier_byte no_dollar name (member_text m) (made_of_bytes name h) (member_begins m)
+    sym (all_run (λ c. not (is_byte dollar c)) name (member_text m)
+    (list_all_weaker is_identifier_byte (λ c. not (is_byte dollar c)) no_dollar name (made_of_bytes name h)) (member_begins m))
 
-pub name_cut_off : (name : List ℕ) (m : Option (List ℕ)) → IsIdentifier name → shape_part (name ++ member_text m) ≡ name
-name_cut_off name m h = ap (λ n. take n (name ++ member_text m)) (name_ends name m h) ∙ front name (member_text m)
+name_cut_off : (name : List ℕ) (m : Option (List ℕ)) → IsIdentifier name → shape_part (name ++ member_text m) ≡ name
+name_cut_off name m h =
+    ap (λ n. take n (name ++ member_text m)) (name_ends name m h) ∙ take-append_seam name (member_text m)
 
-pub member_left : (name : List ℕ) (m : Option (List ℕ)) → IsIdentifier name → member_part (name ++ member_text m) ≡ member_text m
-member_left name m h = ap (λ n. drop n (name ++ member_text m)) (name_ends name m h) ∙ behind name (member_text m)
+member_left : (name : List ℕ) (m : Option (List ℕ)) → IsIdentifier name → member_part (name ++ member_text m) ≡ member_text m
+member_left name m h =
+    ap (λ n. drop n (name ++ member_text m)) (name_ends name m h) ∙ drop-append_seam name (member_text m)
 
 -- an id has a number sign, and a relative one has none
 has_sign : (ns rest : List ℕ) → is_absolute (ns ++ number_sign ∷ rest) ≡ true
@@ -74,7 +53,7 @@ has_sign ns rest = list_any-append (is_byte number_sign) ns (number_sign ∷ res
 none_of : (p q : ℕ → Bool) → ((c : ℕ) → q c ≡ true → p c ≡ false) → (xs : List ℕ) → list_all q xs ≡ true → list_any p xs ≡ false
 none_of p q none [] h = refl
 none_of p q none (x ∷ xs) h =
-    let parts = both_parts (q x) (list_all q xs) h in
+    let parts = both (q x) (list_all q xs) h in
     ap (λ b. b || list_any p xs) (none x parts.0) ∙ none_of p q none xs parts.1
 
 member_without : (m : Option (List ℕ)) → ForSome m IsIdentifier → list_any (is_byte number_sign) (member_text m) ≡ false
@@ -90,7 +69,7 @@ is_relative name m h k =
     ∙ member_without m k
 
 -- the id of a shape with a member, or without one, is an id
-pub with_member : (id : List ℕ) (m : Option (List ℕ)) → IsShapeId id → ForSome m IsIdentifier → IsIdText (id ++ member_text m)
+with_member : (id : List ℕ) (m : Option (List ℕ)) → IsShapeId id → ForSome m IsIdentifier → IsIdText (id ++ member_text m)
 with_member id m (shape, is, none) k = (
   record { namespace = shape.namespace; name = shape.name; member = m },
   record {
@@ -116,53 +95,13 @@ spelled_shape ns name h k = (
   refl,
 )
 
-turned : (b : Bool) → not b ≡ true → b ≡ false
-turned false h = refl
-turned true h = absurd (subst (λ c. cond c ⊥ (Unit {0})) h tt)
-
-turned_back : (b : Bool) → b ≡ false → not b ≡ true
-turned_back b h = ap not h
-
-all_joined : (q : ℕ → Bool) (xs ys : List ℕ) → list_all q xs ≡ true → list_all q ys ≡ true → list_all q (xs ++ ys) ≡ true
-all_joined q [] ys h k = k
-all_joined q (x ∷ xs) ys h k =
-    let l = both_parts (q x) (list_all q xs) h in
-    ap (λ b. b && list_all q (xs ++ ys)) l.0 ∙ all_joined q xs ys l.1 k
-
-space_no_dollar : (c : ℕ) → is_namespace_byte c ≡ true → is_byte dollar c ≡ false
-space_no_dollar c h = grind (arith, nat_tests)
-
-abbrev is_before_dollar : ℕ → Bool
-is_before_dollar c = not (is_byte dollar c)
-
-not_dollar : (c : ℕ) → is_before_dollar c ≡ true → is_byte dollar c ≡ false
-not_dollar c h = turned (is_byte dollar c) h
-
-before_dollar : (q : ℕ → Bool) → ((c : ℕ) → q c ≡ true → is_byte dollar c ≡ false) → (xs : List ℕ) → list_all q xs ≡ true
-    → list_all is_before_dollar xs ≡ true
-before_dollar q none [] h = refl
-before_dollar q none (x ∷ xs) h =
-    let parts = both_parts (q x) (list_all q xs) h in
-    ap (λ b. not b && list_all is_before_dollar xs) (none x parts.0) ∙ before_dollar q none xs parts.1
-
 -- what stands before the member of an id is the id of its shape
-pub shape_cut_off : (id : List ℕ) → IsShapeId id → (m : Option (List ℕ)) → shape_part (id ++ member_text m) ≡ id
-shape_cut_off id (i, is, none) m =
-    let whole : List ℕ = i.namespace ++ number_sign ∷ i.name in
-    let spelled : id ≡ whole =
-    is.spelled ∙ ap (λ o. i.namespace ++ number_sign ∷ (i.name ++ member_text o)) none
-    ∙ ap (λ t. i.namespace ++ number_sign ∷ t) (append-nil i.name) in
-    let before : list_all is_before_dollar whole ≡ true =
-    all_joined is_before_dollar i.namespace (number_sign ∷ i.name)
-    (before_dollar is_namespace_byte space_no_dollar i.namespace (namespace_bytes i.namespace is.is_id.namespace))
-    (before_dollar is_identifier_byte no_dollar i.name (made_of_bytes i.name is.is_id.name)) in
-    let ends : position_or_len (is_byte dollar) (whole ++ member_text m) ≡ length whole =
-    runs_through (is_byte dollar) is_before_dollar not_dollar whole (member_text m) before (member_begins m) in
-    ap (λ t. shape_part (t ++ member_text m)) spelled ∙ ap (λ n. take n (whole ++ member_text m)) ends ∙ front whole (member_text m)
-    ∙ sym spelled
+shape_cut_off : (id : List ℕ) → IsShapeId id → (m : Option (List ℕ)) → shape_part (id ++ member_text m) ≡ id
+shape_cut_off id is None = ap shape_part (append-nil id) ∙ of_shape id is
+shape_cut_off id is (Some m) = of_member id is m
 
 -- the part of an id before its member is the id of a shape
-pub shape_of_id : (id : List ℕ) → IsIdText id → IsShapeId (shape_part id)
+shape_of_id : (id : List ℕ) → IsIdText id → IsShapeId (shape_part id)
 shape_of_id id (i, is) =
     let whole : List ℕ = i.namespace ++ number_sign ∷ i.name in
     let shape : IsShapeId whole = spelled_shape i.namespace i.name is.is_id.namespace is.is_id.name in

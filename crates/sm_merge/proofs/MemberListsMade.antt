@@ -1,6 +1,6 @@
 -- Rows of traits under members' names: what is put, in order or the last mixin first, and the first of each name.
-use Rattle.std.proofs.Common.{◌≡◌, ◌+◌, ◌<◌, ℕ, zero, suc, Bool, true, false, List, [], ◌∷◌, ◌++◌, length, get_or, drop, Option, Some, None}
-use Rattle.std.proofs.Common.{refl, sym, ap, subst, ◌∙◌, append_assoc, append-nil, arith, bytes_eq}
+use Rattle.std.proofs.Common.{◌≡◌, ◌+◌, ◌-◌, ◌<◌, ℕ, zero, suc, Bool, true, false, List, [], ◌∷◌, ◌++◌, length, get_or, drop, Option, Some}
+use Rattle.std.proofs.Common.{None, refl, sym, ap, subst, ◌∙◌, append_assoc, append-nil, arith, bytes_eq}
 use Rattle.std.specs.Prelude.{MatchOption, if◌then◌else◌}
 use Rattle.std.specs.Global.{Vec}
 use Rattle.std.specs.List.{cons_option}
@@ -27,12 +27,14 @@ piece_step before after piece rest whole put step =
     ap (λ l. l ++ rest) put ∙ append_assoc before piece rest ∙ step
 
 -- the mixin before the others is put behind them
-pub last_step : (f : Contributing → FoldedRows) (start before after : FoldedRows) (mixed : List Contributing) (i j : ℕ) (c : Contributing)
-    → j ≡ i + 1 → At mixed i c → before ≡ start ++ last_first f (drop j mixed) → after ≡ before ++ f c
-    → after ≡ start ++ last_first f (drop i mixed)
-last_step f start before after mixed i j c next there was put =
-    put ∙ ap (λ l. l ++ f c) was ∙ append_assoc start (last_first f (drop j mixed)) (f c)
-    ∙ ap (λ l. start ++ l) (sym (parts mixed i j next (at_within mixed i c there) (sym (get_or_from_slice_get mixed i c c there))))
+pub last_step : (f : Contributing → FoldedRows) (start before after : FoldedRows) (mixed : List Contributing) (left : ℕ)
+    (c : Contributing) → 0 < left → At mixed (left - 1) c → before ≡ start ++ last_first f (drop left mixed) → after ≡ before ++ f c
+    → after ≡ start ++ last_first f (drop (left - 1) mixed)
+last_step f start before after mixed left c some there was put =
+    let next : left ≡ (left - 1) + 1 = omega (arith, some) in
+    put ∙ ap (λ l. l ++ f c) was ∙ append_assoc start (last_first f (drop left mixed)) (f c)
+    ∙ ap (λ l. start ++ l) (sym (parts mixed (left - 1) left next (at_within mixed (left - 1) c there)
+    (sym (get_or_from_slice_get mixed (left - 1) c c there))))
   where
     parts : (mixed : List Contributing) (i j : ℕ) → j ≡ i + 1 → i < length mixed → c ≡ get_or mixed i c
         → last_first f (drop i mixed) ≡ last_first f (drop j mixed) ++ f c

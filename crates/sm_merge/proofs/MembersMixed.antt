@@ -1,11 +1,12 @@
 -- Members of mixins one after the other, each name once: two lists, and one entry of a table of members.
-use Rattle.std.proofs.Common.{◌≡◌, ℕ, zero, suc, ◌<◌, Bool, false, cond, List, [], ◌∷◌, ◌++◌, filter, length, get_or, refl, sym, ap}
-use Rattle.std.proofs.Common.{subst, ◌∙◌}
-use Rattle.std.proofs.Common.{append_assoc, arith, bytes_eq}
+use Rattle.std.proofs.Common.{◌≡◌, ◌+◌, ℕ, zero, suc, ◌<◌, Bool, false, cond, List, [], ◌∷◌, ◌++◌, filter, length, get_or, drop, refl}
+use Rattle.std.proofs.Common.{sym, ap, subst, ◌∙◌, append_assoc, arith, bytes_eq}
 use Rattle.std.specs.Prelude.{◌||◌, not}
 use Rattle.std.specs.Global.{Vec}
+use Rattle.std.proofs.lemmas.List.{drop_more}
+use Rattle.std.proofs.lemmas.Option.{slice_get_read}
 use Rattle.sm_merge.specs.Meaning.{Defined}
-use Rattle.sm_merge.specs.steps.Filling.{HasMixedMembers, all_targets, own_in}
+use Rattle.sm_merge.specs.steps.Filling.{HasMixedMembers, all_targets, members_at, mixed_members, own_in}
 use Rattle.sm_merge.specs.steps.Firsts.{NamesAndTargets, firsts, is_name_of, targets_view, unseen}
 use Rattle.sm_merge.specs.steps.Links.{At}
 use Rattle.sm_merge.specs.steps.MixedIn.{AreBelow, vec_items}
@@ -50,6 +51,19 @@ pub below_one : (n : ℕ) (cs : List Contributing) (i : ℕ) (c : Contributing) 
 below_one n [] i c h small is = absurd (omega (arith, small))
 below_one n (d ∷ cs) zero c h small is = subst (λ x. x.number < n) (sym is) h.0
 below_one n (d ∷ cs) (suc i) c h small is = below_one n cs i c h.1 (omega (arith, small)) is
+
+-- those of the mixin at a place, as a loop reads them, and those behind it
+pub mixin_here : (all : List (Vec NamedTarget)) (mixed : List Contributing) (i : ℕ) (c : Contributing) (ms : Vec NamedTarget)
+    (seen : List NamedTarget) (own : NamesAndTargets) → AreBelow (length all) mixed → i < length mixed → c ≡ get_or mixed i c
+    → ms ≡ get_or all c.number ms → seen ≡ ms.items
+    → targets_view seen ++ all_targets all (drop (i + 1) mixed) own ≡ all_targets all (drop i mixed) own
+mixin_here all mixed i c ms seen own below small is there same =
+    let parts : drop i mixed ≡ c ∷ drop (i + 1) mixed = drop_more mixed i c small ∙ ap (λ d. d ∷ drop (i + 1) mixed) (sym is) in
+    let low = below_one (length all) mixed i c below small is in
+    let here = slice_get_read all (length all) c.number ms refl low there in
+    ap (λ ps. targets_view ps ++ all_targets all (drop (i + 1) mixed) own) (same ∙ sym (ap vec_items here))
+    ∙ sym (append_assoc (members_at all c.number) (mixed_members all (drop (i + 1) mixed)) own)
+    ∙ ap (λ cs. all_targets all cs own) (sym parts)
 
 -- an entry of the table
 pub entry_made : (rows : List BareShape) (mixed : List (Vec Contributing)) (v : ℕ) (all : List (Vec NamedTarget)) (ms : Vec NamedTarget)

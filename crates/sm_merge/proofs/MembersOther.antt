@@ -1,6 +1,5 @@
 -- Events for members that are defined again with another target are those of the definition.
-use Rattle.std.proofs.Common.{◌≡◌, ◌⊎◌, inl, inr, ℕ, zero, suc, ◌<◌, ◌≤◌, Bool, true, false, List, [], ◌∷◌, ◌++◌, length, Option, Some}
-use Rattle.std.proofs.Common.{None}
+use Rattle.std.proofs.Common.{◌≡◌, inl, inr, ℕ, ◌<◌, Bool, true, false, List, [], ◌∷◌, length, Option, Some, None}
 use Rattle.std.proofs.Common.{refl, sym, ap, subst, ◌∙◌, arith, bytes_eq}
 use Rattle.std.specs.Prelude.{◌↔◌, if◌then◌else◌, not}
 use Rattle.std.specs.Global.{Vec}
@@ -14,14 +13,14 @@ use Rattle.sm_model.specs.EventView.{EventTold}
 use Rattle.sm_model.specs.Graphs.{MemberEntry, member_id, text_cmp}
 use Rattle.sm_merge.specs.Merged.{IsDefinedOtherwise}
 use Rattle.sm_merge.specs.Mixins.{AreCopied, EffectiveShape, IsEffective, IsMadeFrom, all_members, effective}
-use Rattle.sm_merge.specs.Places.{names_and_targets, shape_under}
+use Rattle.sm_merge.specs.Places.{shape_under}
 use Rattle.sm_merge.specs.Stated.{ShapeStated, Stated}
 use Rattle.sm_merge.specs.steps.AllEvents.{member_event}
 use Rattle.sm_merge.specs.steps.Contributing.{AreWalkedTables}
 use Rattle.sm_merge.specs.steps.EffectiveTables.{AreMembersOf, named_targets}
 use Rattle.sm_merge.specs.steps.Filling.{all_targets, id_at, members_at, own_at}
 use Rattle.sm_merge.specs.steps.Links.{At}
-use Rattle.sm_merge.specs.steps.MixedIn.{AreMixedIn, MixIn, items_at, vec_items}
+use Rattle.sm_merge.specs.steps.MixedIn.{AreMixedIn, MixIn, items_at}
 use Rattle.sm_merge.specs.steps.MixinsOnce.{mixins_once}
 use Rattle.sm_merge.specs.steps.PlaceEvents.{first_among, if_other, is_other, others_at, others_below}
 use Rattle.sm_merge.specs.steps.ShapeTables.{ids_of}
@@ -31,14 +30,14 @@ use Rattle.sm_merge.specs.declared.mixins.Contributing.{Contributing}
 use Rattle.sm_merge.specs.declared.parts.BareShape.{BareShape}
 use Rattle.sm_merge.specs.declared.table.PlaceRow.{PlaceRow}
 use Rattle.sm_merge.specs.declared.walk.Walk.{Walk}
-use Rattle.sm_merge.proofs.Amongs.{Among, among_back, among_either, among_flat, among_from, among_front, among_map, among_to, flat_among}
+use Rattle.sm_merge.proofs.Amongs.{Among, among_below, among_flat, among_from, among_map, among_to, below_among, flat_among}
 use Rattle.sm_merge.proofs.Amongs.{map_among}
 use Rattle.sm_merge.proofs.Ats.{at_there, at_within}
 use Rattle.sm_merge.proofs.EffectiveAll.{shape_row}
 use Rattle.sm_merge.proofs.EffectiveMade.{target_found}
 use Rattle.sm_merge.proofs.FoundRows.{find_firsts}
 use Rattle.sm_merge.proofs.MixinsOnce.{with_repeats, without_repeats}
-use Rattle.sm_merge.proofs.NamesMixed.{AllNamed, made_names, whole_targets}
+use Rattle.sm_merge.proofs.NamesMixed.{AllNamed, made_names, targets_here}
 use Rattle.sm_merge.proofs.PlacesThere.{members_told}
 use Rattle.sm_merge.proofs.ShapeNumbers.{ids_count, shape_ids}
 
@@ -58,17 +57,8 @@ module _ (ss : List Stated) (rows : List BareShape) (traits : List PlaceRow) (wa
       → (copied : List EffectiveShape) → AreCopied ss s s.mixins copied
       → named_targets (all_members copied s.shape.members) ≡ all_targets members (items_at mixed v) (own_at rows v)
   targets_of v id at_v s there copied from =
-      let row = shape_row ss rows traits walk t v id at_v in
-      let shape : row.s ≡ s = same_Some row.s s (sym row.there ∙ there) in
-      let inside : v < length (ids_of rows) = at_within (ids_of rows) v id at_v in
-      let count : length (ids_of rows) ≡ length rows = ids_count rows in
-      let size : length mixed ≡ length rows = are.size in
-      let small : v < length mixed = omega (arith, inside, count, size) in
-      let here = at_there mixed v small in
-      let cs : MixIn ss rows s s.mixins (items_at mixed v) =
-      subst (MixIn ss rows s s.mixins) (sym (ap vec_items here.1)) (are.each v id s here.0 at_v there here.1) in
-      whole_targets ss rows members s (items_at mixed v) copied (own_at rows v) cs from (all_named_so s s.mixins (items_at mixed v) cs)
-      (row.own ∙ ap (λ x. names_and_targets x.shape.members) shape)
+      targets_here ss rows traits walk t mixed are members v id at_v s there copied from
+      (all_named_so s s.mixins (items_at mixed v))
 
   -- a shape with the copies that it is made from
   abbrev HasCopies : List ℕ → Type 0
@@ -162,43 +152,18 @@ module _ (ss : List Stated) (rows : List BareShape) (traits : List PlaceRow) (wa
             sym told ∙ ap (λ i. member_event (member_id i p.0) p.1) same,
           )
 
-  below_told : (n : ℕ) → n ≤ length rows → (e : EventTold) → Among e (others_below rows mixed members n)
-      → (i target : List ℕ) × IsDefinedOtherwise ss i target × (e ≡ member_event i target)
-  below_told zero small e none = absurd none
-  below_told (suc n) small e among = elim (among_either e (others_below rows mixed members n) (others_at rows mixed members n) among) [
-    | inl before ↦ let less : n ≤ length rows = omega (arith, small) in below_told n less e before
-    | inr now ↦
-        let count : length (ids_of rows) ≡ length rows = ids_count rows in
-        let inside : n < length (ids_of rows) = omega (arith, count, small) in
-        let k = at_there (ids_of rows) n inside in
-        at_told n k.0 k.1 (shape_row ss rows traits walk t n k.0 k.1).named e now
-  ]
-
-  told_below : (n v : ℕ) (e : EventTold) → v < n → Among e (others_at rows mixed members v) → Among e (others_below rows mixed members n)
-  told_below zero v e small among = absurd (omega (arith, small))
-  told_below (suc n) v e small among = by (λ less. told_below n v e less among) (v_is n v small)
-    where
-      v_is : (n v : ℕ) → v < suc n → (v < n) ⊎ (v ≡ n)
-      v_is zero zero small = inr refl
-      v_is zero (suc v) small = absurd (omega (arith, small))
-      v_is (suc n) zero small = inl (omega arith)
-      v_is (suc n) (suc v) small = elim (v_is n v (omega (arith, small)))
-          [ inl less ↦ inl (omega (arith, less)) | inr same ↦ inr (ap suc same) ]
-
-      by : (v < n → Among e (others_below rows mixed members n)) → (v < n) ⊎ (v ≡ n)
-          → Among e (others_below rows mixed members n ++ others_at rows mixed members n)
-      by rest (inl less) = among_front e (others_below rows mixed members n) (others_at rows mixed members n) (rest less)
-      by rest (inr same) =
-          among_back e (others_below rows mixed members n) (others_at rows mixed members n)
-          (subst (λ w. Among e (others_at rows mixed members w)) same among)
-
   pub others_told : (e : EventTold)
       → Contains (others_below rows mixed members (length rows)) e
       ↔ ((i target : List ℕ) × IsDefinedOtherwise ss i target × (e ≡ member_event i target))
   others_told e = (
     λ has.
-        let enough : length rows ≤ length rows = omega arith in
-        below_told (length rows) enough e (among_from e (others_below rows mixed members (length rows)) has),
+        let p = among_below (others_at rows mixed members) (length rows) e
+        (among_from e (others_below rows mixed members (length rows)) has) in
+        let small : p.0 < length rows = p.1 in
+        let count : length (ids_of rows) ≡ length rows = ids_count rows in
+        let inside : p.0 < length (ids_of rows) = omega (arith, count, small) in
+        let k = at_there (ids_of rows) p.0 inside in
+        at_told p.0 k.0 k.1 (shape_row ss rows traits walk t p.0 k.0 k.1).named e p.2,
     λ is. among_to e (others_below rows mixed members (length rows)) (back is.0 is.1 is.2 is.3),
   )
     where
@@ -220,7 +185,7 @@ module _ (ss : List Stated) (rows : List BareShape) (traits : List PlaceRow) (wa
           (among_from (d.name, d.again) (all_members d.copied d.s.shape.members) d.among)) in
           let event : e ≡ member_event (member_id (id_at rows n.number) d.name) d.again.target =
           is ∙ (λ j. member_event ((d.under ∙ ap (λ k. member_id k d.name) (sym named)) j) (sym d.is j)) in
-          told_below (length rows) n.number e small
+          below_among (others_at rows mixed members) (length rows) n.number e small
           (flat_among (if_other (id_at rows n.number) (first_among (members_at members n.number)))
           (all_targets members (mixins_once (items_at mixed n.number)) (own_at rows n.number)) (d.name, d.again.target) e
           (without_repeats (d.name, d.again.target) (members_at members) (own_at rows n.number) (items_at mixed n.number) p)

@@ -31,13 +31,21 @@ pub all_below_more : (n : ℕ) (css : List (Vec Contributing)) (cs : Vec Contrib
 all_below_more n [] cs h one = (one, tt)
 all_below_more n (ds ∷ css) cs h one = (h.0, all_below_more n css cs h.1 one)
 
-pub below_at : (n : ℕ) (css : List (Vec Contributing)) (v : ℕ) (cs : Vec Contributing) → AllBelow n css → At css v cs → AreBelow n cs.items
+below_at : (n : ℕ) (css : List (Vec Contributing)) (v : ℕ) (cs : Vec Contributing) → AllBelow n css → At css v cs → AreBelow n cs.items
 below_at n css v cs h there = by css v h there
   where
     by : (css : List (Vec Contributing)) (v : ℕ) → AllBelow n css → slice_get css v ≡ Some cs → AreBelow n cs.items
     by [] v h there = absurd (none-some cs there)
     by (d ∷ css) zero h there = subst (λ x. AreBelow n x.items) (same_Some d cs there) h.0
     by (d ∷ css) (suc v) h there = by css v h.1 there
+
+-- as the code reads them at a number
+pub below_read : (n m : ℕ) (css : List (Vec Contributing)) (v : ℕ) (cs : Vec Contributing) (seen : List Contributing) → AllBelow n css
+    → length css ≡ n → m ≡ n → v < n → cs ≡ get_or css v cs → seen ≡ cs.items → AreBelow m seen
+below_read n m css v cs seen h size same low is all =
+    let small : v < length css = omega (arith, low, size) in
+    subst (AreBelow m) (sym all) (subst (λ (k : ℕ). AreBelow k cs.items) (sym same)
+    (below_at n css v cs h (slice_get_read css (length css) v cs refl small is)))
 
 -- one more mixin, whatever follows
 pub mixin_step : (ss : List Stated) (rows : List BareShape) (s : ShapeStated) (mixin : List ℕ) (left mixins : List (List ℕ))

@@ -16,8 +16,8 @@ use Rattle.std.proofs.lemmas.Slice.Eq.{bytes_eq-Decides}
 use Rattle.sm_model.specs.Graphs.{text_cmp}
 use Rattle.sm_merge.specs.Meaning.{Defined}
 use Rattle.sm_merge.specs.steps.EffectiveTables.{traits_of_member}
-use Rattle.sm_merge.specs.steps.Filling.{AreFirstRows, AreTraitsFrom, FoldedRows, copied_traits, folded_rows, given_rows, kept_of, last_first}
-use Rattle.sm_merge.specs.steps.Filling.{member_lists, member_rows, shape_rows}
+use Rattle.sm_merge.specs.steps.Filling.{AreFirstRows, AreTraitsFrom, FoldedRows, copied_traits, folded_rows, given_rows, kept_of}
+use Rattle.sm_merge.specs.steps.Filling.{last_first, member_lists, member_rows, shape_rows}
 use Rattle.sm_merge.specs.steps.Firsts.{NamesAndTargets, firsts, is_name_of, unseen}
 use Rattle.sm_merge.specs.steps.MixedIn.{AreBelow}
 use Rattle.sm_merge.specs.steps.MixinsOnce.{has_number, mixins_once, unseen_mixins}
@@ -233,7 +233,8 @@ last_traits traits id ms cs all t h = record {
   copied = h.copied;
   rise = h.rise;
   members = λ name.
-      other_rows (member_rows traits id ms all (last_once cs) name) (member_rows traits id ms all cs name) (traits_of_member name t.members.items)
+      other_rows (member_rows traits id ms all (last_once cs) name) (member_rows traits id ms all cs name)
+      (traits_of_member name t.members.items)
       (λ k. same_last k (λ n. kept_of (member_lists (slice_get all n)) name) (given_rows traits id ms name) cs) (h.members name);
 }
 
@@ -267,7 +268,8 @@ module _ {A : Type 0} (x : A) (g : ℕ → List A) where
       (among_either x (g c.number) (whole cs) h)
     where
       by : (b : Bool) → seen c.number ≡ b → ((Among x (whole (unseen_mixins seen cs)) → W) → Among x (whole cs) → W)
-          → (((n : ℕ) → and_seen seen c.number n ≡ true → Among x (g n) → W) → (Among x (whole (rest seen c cs)) → W) → Among x (whole cs) → W)
+          → (((n : ℕ) → and_seen seen c.number n ≡ true → Among x (g n) → W) → (Among x (whole (rest seen c cs)) → W)
+          → Among x (whole cs) → W)
           → (Among x (whole (cond b (unseen_mixins seen cs) (c ∷ rest seen c cs))) → W) → Among x (g c.number) ⊎ Among x (whole cs) → W
       by true is old new into (inl here) = had c.number is here
       by true is old new into (inr later) = old into later

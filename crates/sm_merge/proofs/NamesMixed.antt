@@ -9,7 +9,7 @@ use Rattle.std.proofs.lemmas.Option.{same_Some}
 use Rattle.sm_model.specs.Graphs.{MemberEntry, text_cmp}
 use Rattle.sm_merge.specs.Mixins.{AreCopied, AreEffectiveMembers, EffectiveMembers, EffectiveShape, IsMadeFrom}
 use Rattle.sm_merge.specs.Mixins.{all_members, copy_of, each_once, effective, mixed_in, no_mixins, own_member, passed_over}
-use Rattle.sm_merge.specs.Places.{names_and_targets}
+use Rattle.sm_merge.specs.Places.{names_and_targets, shape_under}
 use Rattle.sm_merge.specs.Stated.{ShapeStated, Stated}
 use Rattle.sm_merge.specs.steps.Contributing.{AreWalkedTables}
 use Rattle.sm_merge.specs.steps.EffectiveTables.{AreMembersOf, HasMembers, named_targets}
@@ -96,12 +96,32 @@ module _ (ss : List Stated) (rows : List BareShape) (members : List (Vec NamedTa
       absurd (never told.contributes)
 
   -- the members that a shape is made from
-  pub whole_targets : (s : ShapeStated) (cs : List Contributing) (copied : List EffectiveShape) (own : NamesAndTargets)
+  whole_targets : (s : ShapeStated) (cs : List Contributing) (copied : List EffectiveShape) (own : NamesAndTargets)
       → MixIn ss rows s s.mixins cs → AreCopied ss s s.mixins copied → AllNamed cs → own ≡ names_and_targets s.shape.members
       → named_targets (all_members copied s.shape.members) ≡ all_targets members cs own
   whole_targets s cs copied own mixes from h same =
       named_joined (flat_map (λ x. x.members) copied) (map own_member s.shape.members)
       ∙ (λ j. named_mixed s s.mixins cs copied mixes from h j ++ (named_own s.shape.members ∙ sym same) j)
+
+-- and the shape at a number
+module _ (ss : List Stated) (rows : List BareShape) (traits : List PlaceRow) (walk : Walk) (t : AreWalkedTables ss rows traits walk)
+    (mixed : List (Vec Contributing)) (are : AreMixedIn ss rows mixed) (members : List (Vec NamedTarget)) where
+  pub targets_here : (v : ℕ) (id : List ℕ) → At (ids_of rows) v id → (s : ShapeStated) → shape_under id ss ≡ Some s
+      → (copied : List EffectiveShape) → AreCopied ss s s.mixins copied
+      → (MixIn ss rows s s.mixins (items_at mixed v) → AllNamed ss rows members (items_at mixed v))
+      → named_targets (all_members copied s.shape.members) ≡ all_targets members (items_at mixed v) (own_at rows v)
+  targets_here v id at_v s there copied from named =
+      let row = shape_row ss rows traits walk t v id at_v in
+      let shape : row.s ≡ s = same_Some row.s s (sym row.there ∙ there) in
+      let inside : v < length (ids_of rows) = at_within (ids_of rows) v id at_v in
+      let count : length (ids_of rows) ≡ length rows = ids_count rows in
+      let size : length mixed ≡ length rows = are.size in
+      let small : v < length mixed = omega (arith, inside, count, size) in
+      let here = at_there mixed v small in
+      let cs : MixIn ss rows s s.mixins (items_at mixed v) =
+      subst (MixIn ss rows s s.mixins) (sym (ap vec_items here.1)) (are.each v id s here.0 at_v there here.1) in
+      whole_targets ss rows members s (items_at mixed v) copied (own_at rows v) cs from (named cs)
+      (row.own ∙ ap (λ x. names_and_targets x.shape.members) shape)
 
 module _ (ss : List Stated) (rows : List BareShape) (traits : List PlaceRow) (walk : Walk) (t : AreWalkedTables ss rows traits walk)
     (mixed : List (Vec Contributing)) (are : AreMixedIn ss rows mixed) (o : IsMixedOrder walk.order.items mixed)
@@ -123,19 +143,9 @@ module _ (ss : List Stated) (rows : List BareShape) (traits : List PlaceRow) (wa
   named_at : (k v : ℕ) → k < n → At walk.order.items k v → ((i w : ℕ) → i < k → At walk.order.items i w → IsNamed w) → IsNamed v
   named_at k v low at_k before id at_v m (effective i x s copied there from made) =
       let e : HasEntry (HasMixedMembers rows mixed) members v = filled k v low at_k in
-      let row = shape_row ss rows traits walk t v id at_v in
-      let shape : row.s ≡ s = same_Some row.s s (sym row.there ∙ there) in
-      let inside : v < length (ids_of rows) = at_within (ids_of rows) v id at_v in
-      let count : length (ids_of rows) ≡ length rows = ids_count rows in
-      let size : length mixed ≡ length rows = are.size in
-      let small : v < length mixed = omega (arith, inside, count, size) in
-      let here = at_there mixed v small in
-      let cs : MixIn ss rows s s.mixins (items_at mixed v) =
-      subst (MixIn ss rows s s.mixins) (sym (ap vec_items here.1)) (are.each v id s here.0 at_v there here.1) in
       made_names ss id s copied m made
-      ∙ ap firsts (whole_targets ss rows members s (items_at mixed v) copied (own_at rows v) cs from
-      (all_named k s s.mixins (items_at mixed v) before cs (o.behind k v at_k))
-      (row.own ∙ ap (λ x. names_and_targets x.shape.members) shape))
+      ∙ ap firsts (targets_here ss rows traits walk t mixed are members v id at_v s there copied from
+      (λ cs. all_named k s s.mixins (items_at mixed v) before cs (o.behind k v at_k)))
       ∙ sym (ap (λ x. targets_view (vec_items x)) e.there ∙ e.is)
 
   named_before : (k i v : ℕ) → i < k → i < n → At walk.order.items i v → IsNamed v

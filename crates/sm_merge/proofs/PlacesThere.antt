@@ -1,6 +1,5 @@
 -- Shapes and members that are there, as the tables list them, and the events that speak of them.
-use Rattle.std.proofs.Common.{◌≡◌, ◌⊎◌, inl, inr, ℕ, zero, suc, ◌<◌, ◌≤◌, Bool, true, false, List, [], ◌∷◌, ◌++◌, map, length, Option}
-use Rattle.std.proofs.Common.{Some, None}
+use Rattle.std.proofs.Common.{◌≡◌, inl, inr, ℕ, ◌<◌, Bool, true, false, List, [], ◌∷◌, map, length, Option, Some, None}
 use Rattle.std.proofs.Common.{refl, sym, ap, subst, ◌∙◌, arith, bytes_eq}
 use Rattle.std.specs.Prelude.{◌↔◌, if◌then◌else◌}
 use Rattle.std.specs.Global.{Vec}
@@ -30,7 +29,7 @@ use Rattle.sm_merge.specs.steps.ToldEvents.{AllMade}
 use Rattle.sm_merge.specs.declared.firsts.NamedTarget.{NamedTarget}
 use Rattle.sm_merge.specs.declared.parts.BareShape.{BareShape}
 use Rattle.sm_merge.specs.declared.table.PlaceRow.{PlaceRow}
-use Rattle.sm_merge.proofs.Amongs.{Among, among_any, among_either, among_back, among_flat, among_found, among_from, among_front, among_map}
+use Rattle.sm_merge.proofs.Amongs.{Among, among_any, among_below, among_flat, among_found, among_from, among_map, below_among}
 use Rattle.sm_merge.proofs.Amongs.{among_to, any_among, flat_among, found_among, map_among}
 use Rattle.sm_merge.proofs.Ats.{at_mapped, at_there, at_within}
 use Rattle.sm_merge.proofs.EffectiveMade.{target_found}
@@ -99,17 +98,14 @@ module _ (ss : List Stated) (rows : List BareShape) (are : AreShapesOf ss rows) 
         )
 
     -- all places are there
-    pub place_there : (n : ℕ) → n ≤ length rows → (id : List ℕ) → Among id (places_below rows members n) → IsThere ss id
-    place_there zero small id none = absurd none
-    place_there (suc n) small id among = elim (among_either id (places_below rows members n) (places_at rows members n) among) [
-      | inl before ↦ let less : n ≤ length rows = omega (arith, small) in place_there n less id before
-      | inr now ↦
-          let count : length (ids_of rows) ≡ length rows = ids_count rows in
-          let inside : n < length (ids_of rows) = omega (arith, count, small) in
-          let k = at_there (ids_of rows) n inside in
-          let same = id_of_at rows n k.0 k.1 in
-          here n k.0 k.1 same now
-    ]
+    pub place_there : (id : List ℕ) → Among id (places_below rows members (length rows)) → IsThere ss id
+    place_there id among =
+        let p = among_below (places_at rows members) (length rows) id among in
+        let small : p.0 < length rows = p.1 in
+        let count : length (ids_of rows) ≡ length rows = ids_count rows in
+        let inside : p.0 < length (ids_of rows) = omega (arith, count, small) in
+        let k = at_there (ids_of rows) p.0 inside in
+        here p.0 k.0 k.1 (id_of_at rows p.0 k.0 k.1) p.2
       where
         here : (n : ℕ) (k : List ℕ) → At (ids_of rows) n k → id_at rows n ≡ k → Among id (places_at rows members n) → IsThere ss id
         here n k at_n same (inl is) = subst (IsThere ss) (sym same ∙ is) (shape_there n k at_n)
@@ -118,31 +114,13 @@ module _ (ss : List Stated) (rows : List BareShape) (are : AreShapesOf ss rows) 
             subst (IsThere ss) (ap (λ i. member_id i p.0.0) (sym same) ∙ p.2) (member_there n k at_n p.0 p.1)
 
   -- what is there is a place
-  placed : (n v : ℕ) (id : List ℕ) → v < n → Among id (places_at rows members v) → Among id (places_below rows members n)
-  placed zero v id small among = absurd (omega (arith, small))
-  placed (suc n) v id small among = by (λ less. placed n v id less among) (v_is n v small)
-    where
-      v_is : (n v : ℕ) → v < suc n → (v < n) ⊎ (v ≡ n)
-      v_is zero zero small = inr refl
-      v_is zero (suc v) small = absurd (omega (arith, small))
-      v_is (suc n) zero small = inl (omega arith)
-      v_is (suc n) (suc v) small = elim (v_is n v (omega (arith, small)))
-          [ inl less ↦ inl (omega (arith, less)) | inr same ↦ inr (ap suc same) ]
-
-      by : (v < n → Among id (places_below rows members n)) → (v < n) ⊎ (v ≡ n)
-          → Among id (places_below rows members n ++ places_at rows members n)
-      by rest (inl less) = among_front id (places_below rows members n) (places_at rows members n) (rest less)
-      by rest (inr same) =
-          among_back id (places_below rows members n) (places_at rows members n)
-          (subst (λ w. Among id (places_at rows members w)) same among)
-
   pub there_placed : (id : List ℕ) → IsThere ss id → Among id (places_below rows members (length rows))
   there_placed id (e, inl shape) =
       let n = (shape_ids ss rows are).all id shape.s shape.there in
       let inside : n.number < length (ids_of rows) = at_within (ids_of rows) n.number id n.there in
       let count : length (ids_of rows) ≡ length rows = ids_count rows in
       let small : n.number < length rows = omega (arith, inside, count) in
-      placed (length rows) n.number id small (inl (id_of_at rows n.number id n.there))
+      below_among (places_at rows members) (length rows) n.number id small (inl (id_of_at rows n.number id n.there))
   there_placed id (e, inr member) =
       let n = (shape_ids ss rows are).all member.shape member.s member.there in
       let inside : n.number < length (ids_of rows) = at_within (ids_of rows) n.number member.shape n.there in
@@ -154,15 +132,12 @@ module _ (ss : List Stated) (rows : List BareShape) (are : AreShapesOf ss rows) 
       ap (find text_cmp member.name) (sym told) ∙ target_found member.name member.m.members
       ∙ ap (option_map (λ (e : MemberEntry). e.target)) member.found in
       let p = among_found member.name (members_at members n.number) member.of.target found in
-      placed (length rows) n.number id small (inr (subst (λ i. Among i
+      below_among (places_at rows members) (length rows) n.number id small (inr (subst (λ i. Among i
       (map (λ q. member_id (id_at rows n.number) q.0) (members_at members n.number)))
       ((λ i. member_id (same i) (p.2 i)) ∙ sym member.under)
       (map_among (λ (q : List ℕ × List ℕ). member_id (id_at rows n.number) q.0) (members_at members n.number) p.0 p.1)))
 
   module _ (made : AllMade ss) where
-    whole : (id : List ℕ) → Among id (places_below rows members (length rows)) → IsThere ss id
-    whole id among = let enough : length rows ≤ length rows = omega arith in place_there made (length rows) enough id among
-
     -- events for values in conflict
     pub conflicts_there : (traits : List PlaceRow) → AreTraitsOf ss traits → (e : EventTold)
         → Contains (place_conflicts traits (places_below rows members (length rows))) e
@@ -172,7 +147,7 @@ module _ (ss : List Stated) (rows : List BareShape) (are : AreShapesOf ss rows) 
           let p = among_flat (λ id. trait_events id (traits_found id traits)) (places_below rows members (length rows)) e
           (among_from e (place_conflicts traits (places_below rows members (length rows))) has) in
           let told = (traits_told ss traits of p.0 e).0 (among_to e (trait_events p.0 (traits_found p.0 traits)) p.2) in
-          (p.0, told.0, record { there = whole p.0 p.1; conflict = told.1 }, told.2),
+          (p.0, told.0, record { there = place_there made p.0 p.1; conflict = told.1 }, told.2),
       λ is.
           let c : HasTraitConflict ss is.0 is.1 = is.2 in
           among_to e (place_conflicts traits (places_below rows members (length rows)))
@@ -235,5 +210,5 @@ module _ (ss : List Stated) (rows : List BareShape) (are : AreShapesOf ss rows) 
           where
             by : (b : Bool) → list_any (λ place. bytes_eq place id) (places_below rows members (length rows)) ≡ b
                 → Among e (if b then [] else applied_event id ∷ [])
-            by true there = absurd (n.nothing (whole id (among_any id (places_below rows members (length rows)) there)))
+            by true there = absurd (n.nothing (place_there made id (among_any id (places_below rows members (length rows)) there)))
             by false there = inl (sym is)

@@ -7,18 +7,20 @@ use Rattle.std.specs.Prelude.{codes, ◌||◌}
 use Rattle.std.specs.List.{list_any}
 use Rattle.std.specs.Option.{is_some}
 use Rattle.sm_ids.specs.Identifier.{IsIdentifier}
-use Rattle.sm_ids.specs.IdText.{Id}
-use Rattle.sm_tree.specs.Node.{Node, int, no_members}
+use Rattle.sm_ids.specs.IdText.{Id, IsIdText}
+use Rattle.sm_tree.specs.Node.{Node, bool, int, no_members}
 use Rattle.sm_tree.specs.Same.{IsNode}
 use Rattle.sm_model.specs.Formed.{StandsAmong, DifferInNames, HaveForm}
 use Rattle.sm_model.specs.Given.{AreGiven, IsGivenShape, AreGivenShapes, HaveNames, IsNodeMap, given_ids}
 use Rattle.sm_model.specs.Kinds.{member_form}
 use Rattle.sm_model.specs.Properties.{needed_fields}
 use Rattle.sm_model.specs.References.{IsShapeId}
-use Rattle.sm_model.specs.PreludeShapes.{api_id, shape_of_prelude, prelude_shapes}
+use Rattle.sm_model.specs.Graphs.{ShapeGiven}
+use Rattle.sm_model.specs.PreludeShapes.{api_id, defaulted_shape, no_node_pairs, prelude_shapes, shape_of_prelude, simple_shape, unit_shape}
 use Rattle.sm_model.specs.declared.kind.Kind.{Kind}
 use Rattle.sm_model.specs.declared.kind.Kind.TheVariants.{Blob, Boolean, Text, Byte, Short, Integer, Long, Float, Double, BigInteger}
 use Rattle.sm_model.specs.declared.kind.Kind.TheVariants.{BigDecimal, Timestamp, Document, Structure}
+use Rattle.sm_model.proofs.MapFacts.{Each}
 
 pub none_some : {X A : Type 0} (x : X) → None ≡ Some x → A
 none_some x e = absurd (subst (λ o. cond (is_some o) ⊥ (Unit {0})) e tt)
@@ -36,6 +38,9 @@ api_shape_id name h =
       },
       refl,
     )
+
+pub api_text : (name : List ℕ) → IsIdentifier name → IsIdText (api_id name)
+api_text name h = let id = api_shape_id name h in (id.0, id.1)
 
 or_true : (a b : Bool) → b ≡ true → (a || b) ≡ true
 or_true true b h = refl
@@ -61,69 +66,100 @@ differ_by_test (k ∷ ks) h =
     let parts = first_differs (list_any (bytes_eq k) ks) (names_differ ks) h in
     (λ among. clash (list_any (bytes_eq k) ks) (stands_by_test k ks among) parts.0, differ_by_test ks parts.1)
 
--- a shape of the prelude is one that a graph is made from
-shape_given : (name : List ℕ) (kind : Kind) (traits : List (List ℕ × Node)) → IsIdentifier name → HaveForm (member_form kind) []
-    → HaveNames (needed_fields kind) no_members → IsNodeMap traits → IsGivenShape (shape_of_prelude name kind traits)
-shape_given name kind traits named form needed map = record {
-  id = api_shape_id name named;
-  names = form;
-  members = tt;
-  body = record { pairs = no_members; is_object = refl; is_node = (tt, tt); fields = tt; needed = needed };
-  traits = map;
-}
+-- a shape of the prelude: one that a graph may be made from, without members, and with traits under ids
+abbrev pub AreUnderIds : List (List ℕ × Node) → Type 0
+AreUnderIds ps = Each (λ k n. IsIdText k) ps
 
-no_traits : IsNodeMap []
-no_traits = record { differ = tt; nodes = tt }
+pub record IsOfPrelude (s : ShapeGiven) : Type 0 where
+  pub given : IsGivenShape s
+  pub bare : s.members ≡ []
+  pub under : AreUnderIds s.traits
+
+abbrev pub AreOfPrelude : List ShapeGiven → Type 0
+AreOfPrelude [] = Unit {0}
+AreOfPrelude (s ∷ ss) = IsOfPrelude s × AreOfPrelude ss
+
+of_prelude : (name : List ℕ) (kind : Kind) (traits : List (List ℕ × Node)) → IsIdentifier name → HaveForm (member_form kind) []
+    → HaveNames (needed_fields kind) no_members → IsNodeMap traits → AreUnderIds traits → IsOfPrelude (shape_of_prelude name kind traits)
+of_prelude name kind traits named form needed map under = record {
+  given = record {
+    id = api_shape_id name named;
+    names = form;
+    members = tt;
+    body = record { pairs = no_members; is_object = refl; is_node = (tt, tt); fields = tt; needed = needed };
+    traits = map;
+  };
+  bare = refl;
+  under = under;
+}
 
 zero_node : IsNode (int (pos 0))
 zero_node = (search rules, tt)
 
+no_traits : IsNodeMap []
+no_traits = record { differ = tt; nodes = tt }
+
 one_trait : (name : List ℕ) (n : Node) → IsNode n → IsNodeMap ((name, n) ∷ [])
 one_trait name n h = record { differ = (λ never. never, tt); nodes = (h, tt) }
 
-shapes_given : AreGivenShapes prelude_shapes
-shapes_given = (
-  shape_given (codes "Blob") Blob [] refl refl tt no_traits,
+simple : (name : List ℕ) (kind : Kind) → IsIdentifier name → HaveForm (member_form kind) [] → HaveNames (needed_fields kind) no_members
+    → IsOfPrelude (simple_shape name kind)
+simple name kind named form needed = of_prelude name kind [] named form needed no_traits tt
+
+defaulted : (name : List ℕ) (kind : Kind) (value : Node) → IsIdentifier name → HaveForm (member_form kind) []
+    → HaveNames (needed_fields kind) no_members → IsNode value → IsOfPrelude (defaulted_shape name kind value)
+defaulted name kind value named form needed h =
+    of_prelude name kind ((api_id (codes "default"), value) ∷ []) named form needed (one_trait (api_id (codes "default")) value h)
+    (api_text (codes "default") refl, tt)
+
+the_unit : IsOfPrelude unit_shape
+the_unit =
+    of_prelude (codes "Unit") Structure ((api_id (codes "unitType"), no_node_pairs) ∷ []) refl tt tt
+    (one_trait (api_id (codes "unitType")) no_node_pairs (tt, tt)) (api_text (codes "unitType") refl, tt)
+
+pub shapes_are : AreOfPrelude prelude_shapes
+shapes_are = (
+  simple (codes "Blob") Blob refl refl tt,
   (
-    shape_given (codes "Boolean") Boolean [] refl refl tt no_traits,
+    simple (codes "Boolean") Boolean refl refl tt,
     (
-      shape_given (codes "String") Text [] refl refl tt no_traits,
+      simple (codes "String") Text refl refl tt,
       (
-        shape_given (codes "Timestamp") Timestamp [] refl refl tt no_traits,
+        simple (codes "Timestamp") Timestamp refl refl tt,
         (
-          shape_given (codes "Document") Document [] refl refl tt no_traits,
+          simple (codes "Document") Document refl refl tt,
           (
-            shape_given (codes "Byte") Byte [] refl refl tt no_traits,
+            simple (codes "Byte") Byte refl refl tt,
             (
-              shape_given (codes "Short") Short [] refl refl tt no_traits,
+              simple (codes "Short") Short refl refl tt,
               (
-                shape_given (codes "Integer") Integer [] refl refl tt no_traits,
+                simple (codes "Integer") Integer refl refl tt,
                 (
-                  shape_given (codes "Long") Long [] refl refl tt no_traits,
+                  simple (codes "Long") Long refl refl tt,
                   (
-                    shape_given (codes "BigInteger") BigInteger [] refl refl tt no_traits,
+                    simple (codes "BigInteger") BigInteger refl refl tt,
                     (
-                      shape_given (codes "Float") Float [] refl refl tt no_traits,
+                      simple (codes "Float") Float refl refl tt,
                       (
-                        shape_given (codes "Double") Double [] refl refl tt no_traits,
+                        simple (codes "Double") Double refl refl tt,
                         (
-                          shape_given (codes "BigDecimal") BigDecimal [] refl refl tt no_traits,
+                          simple (codes "BigDecimal") BigDecimal refl refl tt,
                           (
-                            shape_given (codes "PrimitiveBoolean") Boolean _ refl refl tt (one_trait _ _ (tt, tt)),
+                            defaulted (codes "PrimitiveBoolean") Boolean (bool false) refl refl tt (tt, tt),
                             (
-                              shape_given (codes "PrimitiveByte") Byte _ refl refl tt (one_trait _ _ zero_node),
+                              defaulted (codes "PrimitiveByte") Byte (int (pos 0)) refl refl tt zero_node,
                               (
-                                shape_given (codes "PrimitiveShort") Short _ refl refl tt (one_trait _ _ zero_node),
+                                defaulted (codes "PrimitiveShort") Short (int (pos 0)) refl refl tt zero_node,
                                 (
-                                  shape_given (codes "PrimitiveInteger") Integer _ refl refl tt (one_trait _ _ zero_node),
+                                  defaulted (codes "PrimitiveInteger") Integer (int (pos 0)) refl refl tt zero_node,
                                   (
-                                    shape_given (codes "PrimitiveLong") Long _ refl refl tt (one_trait _ _ zero_node),
+                                    defaulted (codes "PrimitiveLong") Long (int (pos 0)) refl refl tt zero_node,
                                     (
-                                      shape_given (codes "PrimitiveFloat") Float _ refl refl tt (one_trait _ _ zero_node),
+                                      defaulted (codes "PrimitiveFloat") Float (int (pos 0)) refl refl tt zero_node,
                                       (
-                                        shape_given (codes "PrimitiveDouble") Double _ refl refl tt (one_trait _ _ zero_node),
+                                        defaulted (codes "PrimitiveDouble") Double (int (pos 0)) refl refl tt zero_node,
                                         (
-                                          shape_given (codes "Unit") Structure _ refl tt tt (one_trait _ _ (tt, tt)),
+                                          the_unit,
                                           tt,
                                         ),
                                       ),
@@ -147,9 +183,13 @@ shapes_given = (
   ),
 )
 
+each_given : (ss : List ShapeGiven) → AreOfPrelude ss → AreGivenShapes ss
+each_given [] h = tt
+each_given (s ∷ ss) h = (h.0.given, each_given ss h.1)
+
 pub prelude_given : AreGiven prelude_shapes []
 prelude_given = record {
-  each = shapes_given;
+  each = each_given prelude_shapes shapes_are;
   differ = differ_by_test (given_ids prelude_shapes) refl;
   few = search rules;
   metadata_is = no_traits;

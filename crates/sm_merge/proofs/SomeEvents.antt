@@ -1,4 +1,5 @@
--- It can't be that statements have no list of events: each thing that may be wrong is one of a list, and what is wrong of it is put into order.
+-- It can't be that statements have no list of events: each thing that may be wrong is one of a list, and what is wrong of it is put
+-- into order.
 use Rattle.std.proofs.Common.{◌≡◌, ◌⊎◌, inl, inr, ℕ, List, [], ◌∷◌, ◌++◌, map, Some, refl, sym, ap, subst, ◌∙◌}
 use Rattle.std.specs.Prelude.{codes}
 use Rattle.std.specs.List.{flat_map}

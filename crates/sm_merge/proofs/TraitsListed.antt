@@ -115,12 +115,12 @@ module _ (ss : List Stated) (rows : List BareShape) (traits : List PlaceRow) (wa
       omega (arith, most, total, large)
 
 -- one more shape
-pub listed_more : (rows : List BareShape) (traits : List PlaceRow) (members : List (Vec NamedTarget)) (mixed : List (Vec Contributing))
-    (order : List ℕ) (k v : ℕ) (all : List ShapeTraits) (e : ShapeTraits) (total more next : ℕ) → AllTold traits → At order k v
+pub listed_more : {rows : List BareShape} {traits : List PlaceRow} {members : List (Vec NamedTarget)} {mixed : List (Vec Contributing)}
+    {order : List ℕ} {k v : ℕ} {all : List ShapeTraits} {e : ShapeTraits} {total more next : ℕ} → AllTold traits → At order k v
     → v < length rows → HasMixedTraits traits rows members mixed v all e → TellsSize rows members v e more
     → next ≡ min (total + more) (2 ^ 64 - 1) → AreListedTo rows traits members mixed order k all total
     → AreListedTo rows traits members mixed order (k + 1) (set all v e) next
-listed_more rows traits members mixed order k v all e total more next told at_k low made sized next_is h =
+listed_more {rows} {traits} {members} {mixed} {order} {k} {v} {all} {e} {total} {more} {next} told at_k low made sized next_is h =
     let count : length all ≡ length rows = h.size in
     let inside : v < length all = omega (arith, low, count) in
     record {

@@ -10,8 +10,8 @@ use Rattle.sm_merge.specs.declared.walk.Status.{Status}
 use Rattle.sm_merge.specs.declared.walk.Status.TheVariants.{New, Begun, Finished}
 use Rattle.sm_merge.specs.declared.walk.Walk.{Walk}
 use Rattle.sm_merge.specs.steps.Links.{Links, At, AreLinks, links_view}
-use Rattle.sm_merge.specs.steps.Walking.{AllReach, AreParts, HasFinished, HasGone, IsGrounded, IsIdle, IsJoining, IsMet, IsWalking}
-use Rattle.sm_merge.specs.steps.Walking.{IsWalked, KeepsMet, steps_ahead, steps_left}
+use Rattle.sm_merge.specs.steps.Walking.{AllReach, AreParts, HasFinished, HasGone, HasTaken, IsGrounded, IsIdle, IsJoining, IsMet}
+use Rattle.sm_merge.specs.steps.Walking.{IsWalked, IsWalking, KeepsMet, steps_ahead, steps_left}
 use Rattle.sm_merge.proofs.Ats.{at_last, at_one, at_stored, at_was, at_within, last_split}
 use Rattle.sm_merge.proofs.WalkBegun.{begun_grounded, begun_parts}
 use Rattle.sm_merge.proofs.Walked.{popped_grounded, popped_parts, popped_reached, settled_parts}
@@ -59,15 +59,10 @@ is_walking links held walk status row targets order path is_status is_row is_tar
 }
 
 -- a target is taken
-pub record HasTaken (links : Links) (now : Walk) (w : ℕ) : Type 0 where
-  pub walking : IsWalking links (Some w) now
-  pub reached : AllReach links now.row.items w
-  pub within : w < length links
-
 pub target_taken : (links : Links) (before now : Walk) (p : Part) (w : ℕ) → IsWalking links None before
     → slice_get before.path.items (length before.path.items - 1) ≡ Some p → before.targets.items ≡ now.targets.items ++ w ∷ []
     → p.targets < length before.targets.items → now.status.items ≡ before.status.items → now.row.items ≡ before.row.items
-    → now.order.items ≡ before.order.items → now.path.items ≡ before.path.items → HasTaken links now w
+    → now.order.items ≡ before.order.items → now.path.items ≡ before.path.items → HasTaken links w now
 target_taken links before now p w h last popped room is_status is_row is_order is_path =
     let split = last_split before.path.items p last in
     let path : reverse before.path.items ≡ p ∷ reverse split.0 = last_first before.path.items split.0 p split.1 in

@@ -31,3 +31,4 @@ pub mod Counting
 pub mod MemberLists
 pub mod PlaceEvents
 pub mod ToldEvents
+pub mod PreludeRows

@@ -45,7 +45,7 @@ pub fn sorted_events(mut events: Vec<ModelEvent>) -> ModelEvents
     ModelEvents::new(events)
 }
 
-/// The same of errors.
+/// Errors in their order, each once: those of a list of events that are errors.
 pub(crate) fn in_order(events: Vec<ModelEvent>) -> ModelEvents
     requires { AreErrors events.items }
     ensures order { AreInOrder (events_view result) }

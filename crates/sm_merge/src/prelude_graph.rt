@@ -1,16 +1,15 @@
 // The prelude as a graph (Smithy 2.0, "Prelude").
-ghost use Rattle.std.specs.Prelude.{◌≡◌, ◌++◌, [], ◌∷◌, false, pos, IfOk, OnOk};
+ghost use Rattle.std.specs.Prelude.{◌≡◌, ◌++◌, [], ◌∷◌, IfOk, OnOk};
 ghost use Rattle.sm_ids.specs.Identifier.{IsIdentifier};
 ghost use Rattle.sm_ids.specs.IdText.{printed};
 ghost use Rattle.sm_ids.specs.View.{id_of as seen_id};
-ghost use Rattle.sm_tree.specs.Node.{bool, int};
 ghost use Rattle.sm_tree.specs.View.{members_view, node_of};
 ghost use Rattle.sm_model.specs.GivenView.{given_view};
 ghost use Rattle.sm_model.specs.GraphView.{maps_of};
-ghost use Rattle.sm_model.specs.declared.kind.Kind.TheVariants.{Boolean as boolean};
 ghost use Rattle.sm_model.specs.PreludeShapes.{api_id, defaulted_shape, fraction_shapes, integer_shapes, no_node_pairs, plain_shapes};
 ghost use Rattle.sm_model.specs.PreludeShapes.{prelude_graph, prelude_shapes as the_shapes, primitive_shapes, shape_of_prelude};
-ghost use Rattle.sm_model.specs.PreludeShapes.{simple_shape, unit_shape};
+ghost use Rattle.sm_model.specs.PreludeShapes.{unit_shape};
+ghost use Rattle.sm_merge.specs.steps.PreludeRows.{AreNamedRows, preset_shape, preset_shapes};
 
 use sm_ids::{ShapeId, ShapeIdRef};
 use sm_model::{Graph, GraphMembers, GraphShape, Kind};
@@ -25,61 +24,74 @@ pub fn prelude(alloc: Global) -> Result<Graph, NoMemory>
     Graph::build(alloc, shapes, Vec::new(alloc))
 }
 
+/// What a shape of the prelude is where no value is given.
+#[derive(Clone, Copy)]
+pub(crate) enum Preset {
+    /// Nothing is set.
+    Nothing,
+    /// `false`.
+    False,
+    /// 0.
+    Zero,
+}
+
 /// The shapes of the prelude.
 pub(crate) fn prelude_shapes(alloc: Global) -> Result<Vec<GraphShape>, NoMemory>
     ensures { IfOk result (λ shapes. given_view shapes.items ≡ the_shapes) }
 {
     let mut shapes = Vec::new(alloc);
-    put_plain(alloc, &mut shapes)?;
-    put_integers(alloc, &mut shapes)?;
-    put_fractions(alloc, &mut shapes)?;
-    put_primitives(alloc, &mut shapes)?;
+    let rows = simple_rows();
+    for row in rows {
+        put_row(alloc, row.0, row.1, row.2, &mut shapes)?;
+    }
     put_unit(alloc, &mut shapes)?;
     Ok(shapes)
 }
 
-fn put_plain(alloc: Global, shapes: &mut Vec<GraphShape>) -> Result<(), NoMemory>
-    ensures { OnOk result (given_view shapes.new.items ≡ given_view shapes.old.items ++ plain_shapes) }
+// The simple shapes, and those whose default is set.
+fn simple_rows() -> &'static [(&'static str, Kind, Preset)]
+    ensures shapes { preset_shapes result.now ≡ plain_shapes ++ integer_shapes ++ fraction_shapes ++ primitive_shapes }
+    ensures names { AreNamedRows result.now }
 {
-    put_simple(alloc, "Blob", Kind::Blob, shapes)?;
-    put_simple(alloc, "Boolean", Kind::Boolean, shapes)?;
-    put_simple(alloc, "String", Kind::Text, shapes)?;
-    put_simple(alloc, "Timestamp", Kind::Timestamp, shapes)?;
-    put_simple(alloc, "Document", Kind::Document, shapes)?;
-    Ok(())
+    &[
+        ("Blob", Kind::Blob, Preset::Nothing),
+        ("Boolean", Kind::Boolean, Preset::Nothing),
+        ("String", Kind::Text, Preset::Nothing),
+        ("Timestamp", Kind::Timestamp, Preset::Nothing),
+        ("Document", Kind::Document, Preset::Nothing),
+        ("Byte", Kind::Byte, Preset::Nothing),
+        ("Short", Kind::Short, Preset::Nothing),
+        ("Integer", Kind::Integer, Preset::Nothing),
+        ("Long", Kind::Long, Preset::Nothing),
+        ("BigInteger", Kind::BigInteger, Preset::Nothing),
+        ("Float", Kind::Float, Preset::Nothing),
+        ("Double", Kind::Double, Preset::Nothing),
+        ("BigDecimal", Kind::BigDecimal, Preset::Nothing),
+        ("PrimitiveBoolean", Kind::Boolean, Preset::False),
+        ("PrimitiveByte", Kind::Byte, Preset::Zero),
+        ("PrimitiveShort", Kind::Short, Preset::Zero),
+        ("PrimitiveInteger", Kind::Integer, Preset::Zero),
+        ("PrimitiveLong", Kind::Long, Preset::Zero),
+        ("PrimitiveFloat", Kind::Float, Preset::Zero),
+        ("PrimitiveDouble", Kind::Double, Preset::Zero),
+    ]
 }
 
-fn put_integers(alloc: Global, shapes: &mut Vec<GraphShape>) -> Result<(), NoMemory>
-    ensures { OnOk result (given_view shapes.new.items ≡ given_view shapes.old.items ++ integer_shapes) }
+fn put_row(
+    alloc: Global,
+    name: &str,
+    kind: Kind,
+    preset: Preset,
+    shapes: &mut Vec<GraphShape>,
+) -> Result<(), NoMemory>
+    requires { IsIdentifier name.now }
+    ensures { OnOk result (given_view shapes.new.items ≡ given_view shapes.old.items ++ preset_shape name.now kind preset ∷ []) }
 {
-    put_simple(alloc, "Byte", Kind::Byte, shapes)?;
-    put_simple(alloc, "Short", Kind::Short, shapes)?;
-    put_simple(alloc, "Integer", Kind::Integer, shapes)?;
-    put_simple(alloc, "Long", Kind::Long, shapes)?;
-    put_simple(alloc, "BigInteger", Kind::BigInteger, shapes)?;
-    Ok(())
-}
-
-fn put_fractions(alloc: Global, shapes: &mut Vec<GraphShape>) -> Result<(), NoMemory>
-    ensures { OnOk result (given_view shapes.new.items ≡ given_view shapes.old.items ++ fraction_shapes) }
-{
-    put_simple(alloc, "Float", Kind::Float, shapes)?;
-    put_simple(alloc, "Double", Kind::Double, shapes)?;
-    put_simple(alloc, "BigDecimal", Kind::BigDecimal, shapes)?;
-    Ok(())
-}
-
-fn put_primitives(alloc: Global, shapes: &mut Vec<GraphShape>) -> Result<(), NoMemory>
-    ensures { OnOk result (given_view shapes.new.items ≡ given_view shapes.old.items ++ primitive_shapes) }
-{
-    put_false(alloc, "PrimitiveBoolean", shapes)?;
-    put_zero(alloc, "PrimitiveByte", Kind::Byte, shapes)?;
-    put_zero(alloc, "PrimitiveShort", Kind::Short, shapes)?;
-    put_zero(alloc, "PrimitiveInteger", Kind::Integer, shapes)?;
-    put_zero(alloc, "PrimitiveLong", Kind::Long, shapes)?;
-    put_zero(alloc, "PrimitiveFloat", Kind::Float, shapes)?;
-    put_zero(alloc, "PrimitiveDouble", Kind::Double, shapes)?;
-    Ok(())
+    match preset {
+        Preset::Nothing => put_shape(alloc, name, kind, Vec::new(alloc), shapes),
+        Preset::False => put_defaulted(alloc, name, kind, Tree::Bool(false), shapes),
+        Preset::Zero => put_defaulted(alloc, name, kind, Tree::Int(0), shapes),
+    }
 }
 
 fn put_unit(alloc: Global, shapes: &mut Vec<GraphShape>) -> Result<(), NoMemory>
@@ -87,38 +99,6 @@ fn put_unit(alloc: Global, shapes: &mut Vec<GraphShape>) -> Result<(), NoMemory>
 {
     let traits = one_trait(alloc, "smithy.api#unitType", empty_object(alloc))?;
     put_shape(alloc, "Unit", Kind::Structure, traits, shapes)
-}
-
-fn put_simple(
-    alloc: Global,
-    name: &str,
-    kind: Kind,
-    shapes: &mut Vec<GraphShape>,
-) -> Result<(), NoMemory>
-    requires { IsIdentifier name.now }
-    ensures { OnOk result (given_view shapes.new.items ≡ given_view shapes.old.items ++ simple_shape name.now kind ∷ []) }
-{
-    put_shape(alloc, name, kind, Vec::new(alloc), shapes)
-}
-
-fn put_zero(
-    alloc: Global,
-    name: &str,
-    kind: Kind,
-    shapes: &mut Vec<GraphShape>,
-) -> Result<(), NoMemory>
-    requires { IsIdentifier name.now }
-    ensures { OnOk result (given_view shapes.new.items ≡ given_view shapes.old.items ++ defaulted_shape name.now kind (int (pos 0)) ∷ []) }
-{
-    put_defaulted(alloc, name, kind, Tree::Int(0), shapes)
-}
-
-fn put_false(alloc: Global, name: &str, shapes: &mut Vec<GraphShape>) -> Result<(), NoMemory>
-    requires { IsIdentifier name.now }
-    ensures { OnOk result (given_view shapes.new.items
-        ≡ given_view shapes.old.items ++ defaulted_shape name.now boolean (bool false) ∷ []) }
-{
-    put_defaulted(alloc, name, Kind::Boolean, Tree::Bool(false), shapes)
 }
 
 fn empty_object(alloc: Global) -> Tree

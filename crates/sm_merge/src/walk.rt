@@ -1,13 +1,13 @@
-// Which numbers stand on a ring, and an order in which each comes behind those that it leads to.
+// Which numbers stand on a ring, and an order in which each comes behind those that it leads to: the strongly connected components of
+// links by paths (H. N. Gabow, "Path-based depth-first search for strong and biconnected components", 2000).
 //
 // What is begun stands in a row, cut into parts: the numbers of a part lead to one another, and each part leads to those behind it. A
-// target in the row makes one part of all from its own to the last; a part with no targets left is finished.
+// target in the row makes one part of all from its own to the last; a part with no targets left is a component, and is finished.
 ghost use Rattle.std.specs.Prelude.{◌≡◌, ◌<◌, ◌≤◌, ◌++◌, ℕ, List, length, get_or, Some, None, IfOk, OnOk};
 ghost use Rattle.sm_merge.specs.declared.walk.Status.TheVariants.{Begun, New};
 ghost use Rattle.sm_merge.specs.steps.Links.{AreLinks, At, Links, links_view};
-ghost use Rattle.sm_merge.specs.steps.Walking.{AllReach, AreMarked, HasFinished, HasGone, IsIdle, IsMet, IsWalked, IsWalking, KeepsMet};
-ghost use Rattle.sm_merge.specs.steps.Walking.{TakesStep};
-ghost use Rattle.sm_merge.specs.steps.Walking.{is_ring};
+ghost use Rattle.sm_merge.specs.steps.Walking.{AllReach, AreMarked, HasFinished, HasGone, HasTaken, IsIdle, IsMet, IsWalked, IsWalking};
+ghost use Rattle.sm_merge.specs.steps.Walking.{KeepsMet, TakesStep, is_ring};
 
 use sm_tree::NoMemory;
 use std::alloc::Global;
@@ -125,9 +125,7 @@ impl Walk {
     // Follows a target of the last part.
     fn follow(&mut self, links: &[Vec<usize>], target: usize) -> Result<(), NoMemory>
         requires links { AreLinks (links_view links.now) }
-        requires target { target < length links.now }
-        requires walking { IsWalking (links_view links.now) (Some target) self.old }
-        requires reached { AllReach (links_view links.now) self.old.row.items target }
+        requires taken { HasTaken (links_view links.now) target self.old }
         ensures { OnOk result (HasGone (links_view links.now) self.old self.new) }
     {
         match self.status[target] {

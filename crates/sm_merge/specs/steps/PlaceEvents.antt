@@ -24,13 +24,17 @@ use Rattle.sm_merge.specs.declared.parts.BareShape.{BareShape}
 use Rattle.sm_merge.specs.declared.table.NamedValue.{NamedValue}
 use Rattle.sm_merge.specs.declared.table.PlaceRow.{PlaceRow}
 
+-- what stands at the numbers below one, in their order
+abbrev pub all_below : {A : Type 0} → (ℕ → List A) → ℕ → List A
+all_below here zero = []
+all_below here (suc n) = all_below here n ++ here n
+
 -- the ids of a shape and its members, and of all shapes before a number and their members
 abbrev pub places_at : List BareShape → List (Vec NamedTarget) → ℕ → List (List ℕ)
 places_at rows members v = id_at rows v ∷ map (λ p. member_id (id_at rows v) p.0) (members_at members v)
 
 abbrev pub places_below : List BareShape → List (Vec NamedTarget) → ℕ → List (List ℕ)
-places_below rows members zero = []
-places_below rows members (suc n) = places_below rows members n ++ places_at rows members n
+places_below rows members n = all_below (places_at rows members) n
 
 -- values of traits that are in conflict there
 abbrev pub place_conflicts : List PlaceRow → List (List ℕ) → List EventTold
@@ -82,5 +86,4 @@ abbrev pub first_in : BTreeMap (Bor (List ℕ)) (Bor (List ℕ)) → Firsts
 first_in map name = target_in (get_by (λ k. slice_cmp nat_cmp name k.now) map)
 
 abbrev pub others_below : List BareShape → List (Vec Contributing) → List (Vec NamedTarget) → ℕ → List EventTold
-others_below rows mixed members zero = []
-others_below rows mixed members (suc n) = others_below rows mixed members n ++ others_at rows mixed members n
+others_below rows mixed members n = all_below (others_at rows mixed members) n

@@ -85,6 +85,12 @@ pub record IsWalking (links : Links) (held : Option ℕ) (walk : Walk) : Type 0 
 abbrev pub AllReach : Links → List ℕ → ℕ → Type 0
 AllReach links row w = (k v : ℕ) → At row k v → Reaches links v w
 
+-- a target was taken, and is still to be followed
+pub record HasTaken (links : Links) (w : ℕ) (walk : Walk) : Type 0 where
+  pub within : w < length links
+  pub walking : IsWalking links (Some w) walk
+  pub reached : AllReach links walk.row.items w
+
 -- nothing is begun
 pub record IsIdle (links : Links) (walk : Walk) : Type 0 where
   pub walking : IsWalking links None walk

@@ -59,10 +59,7 @@ loop-number-preserved c =
     record {
       small = c.if-total-gt-TRAIT_LIMIT.false;
       listed =
-          listed_more c.args.rows.now c.args.traits.now c.args.members.now c.args.mixed.now c.args.order.now
-          c.loop-number.number-index number
-          c.loop-number.all.items c.in_ok-entry.entry c.loop-number.total c.size_at-size.result c.saturating_add-total.result
-          c.requires.told at_k low
+          listed_more c.requires.told at_k low
           (subst (λ all. HasMixedTraits c.args.traits.now c.args.rows.now c.args.members.now c.args.mixed.now number all
           c.in_ok-entry.entry)
           c.as_slice.ensures.value c.in_ok-entry.ensures)
@@ -80,10 +77,7 @@ returns-then-total-gt-TRAIT_LIMIT c =
       total = c.saturating_add-total.result;
       large = c.if-total-gt-TRAIT_LIMIT.true;
       listed =
-          listed_more c.args.rows.now c.args.traits.now c.args.members.now c.args.mixed.now c.args.order.now
-          c.loop-number.number-index number
-          c.loop-number.all.items c.in_ok-entry.entry c.loop-number.total c.size_at-size.result c.saturating_add-total.result
-          c.requires.told at_k low
+          listed_more c.requires.told at_k low
           (subst (λ all. HasMixedTraits c.args.traits.now c.args.rows.now c.args.members.now c.args.mixed.now number all
           c.in_ok-entry.entry)
           c.as_slice.ensures.value c.in_ok-entry.ensures)

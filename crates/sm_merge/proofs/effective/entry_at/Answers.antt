@@ -1,4 +1,4 @@
-use Rattle.std.proofs.Common.{◌≡◌, ◌<◌, ℕ, length, refl, sym, ap, subst, ◌∙◌, arith}
+use Rattle.std.proofs.Common.{◌≡◌, ◌<◌, length, refl, sym, ap, subst, ◌∙◌, arith}
 use Rattle.std.specs.Prelude.{slice_get}
 use Rattle.std.proofs.lemmas.Option.{slice_get_read}
 use Rattle.std.proofs.lemmas.Result.{IfOk-weaker}
@@ -6,22 +6,17 @@ use Rattle.sm_merge.specs.steps.Filling.{AreTraitsFrom, HasMixedTraits, id_in}
 use Rattle.sm_merge.specs.steps.Firsts.{targets_view}
 use Rattle.sm_merge.specs.steps.MixedIn.{AreBelow, vec_items}
 use Rattle.sm_merge.specs.declared.parts.BareShape.{BareShape}
-use Rattle.sm_merge.proofs.MixedMade.{below_at}
+use Rattle.sm_merge.proofs.MixedMade.{below_read}
 use Rattle.sm_merge.proofs.MixinsOnce.{below_last, last_traits}
 use Rattle.sm_merge.proofs.effective.entry_at.Goals as goal
 
 pub traits_of-requires-clause-below : goal.traits_of-requires-clause-below
 traits_of-requires-clause-below c =
-    let low : c.args.number < length c.args.rows.now = c.requires.inside in
-    let size : length c.args.mixed.now ≡ length c.args.rows.now = c.requires.size in
-    let small : c.args.number < length c.args.mixed.now = omega (arith, low, size) in
-    let below = below_at (length c.args.rows.now) c.args.mixed.now c.args.number c.index-mixed-number.result c.requires.below
-    (slice_get_read c.args.mixed.now (length c.args.mixed.now) c.args.number c.index-mixed-number.result refl small
-    c.index-mixed-number.is) in
     subst (AreBelow (length c.args.all.now)) (sym (c.as_slice-2.ensures.value ∙ c.in_ok-mixins.ensures))
     (below_last (length c.args.all.now) c.as_slice.result.now
-    (subst (AreBelow (length c.args.all.now)) (sym c.as_slice.ensures.value)
-    (subst (λ (n : ℕ). AreBelow n c.index-mixed-number.result.items) (sym c.requires.many) below)))
+    (below_read (length c.args.rows.now) (length c.args.all.now) c.args.mixed.now c.args.number c.index-mixed-number.result
+    c.as_slice.result.now c.requires.below c.requires.size c.requires.many c.requires.inside c.index-mixed-number.is
+    c.as_slice.ensures.value))
 
 pub returns : goal.returns
 returns c =
@@ -38,7 +33,8 @@ returns c =
     let at_row = slice_get_read c.args.rows.now (length c.args.rows.now) number c.index-rows-number.result refl low
     c.index-rows-number.is in
     IfOk-weaker c.traits_of.result
-    (AreTraitsFrom c.args.traits.now c.as_str-id.result.now (targets_view c.as_slice-given.result.now) c.as_slice-2.result.now c.args.all.now)
+    (AreTraitsFrom c.args.traits.now c.as_str-id.result.now (targets_view c.as_slice-given.result.now) c.as_slice-2.result.now
+    c.args.all.now)
     (HasMixedTraits c.args.traits.now c.args.rows.now c.args.members.now c.args.mixed.now number c.args.all.now)
     (λ entry from.
     subst (λ k. AreTraitsFrom c.args.traits.now k (targets_view (vec_items (slice_get c.args.members.now number)))

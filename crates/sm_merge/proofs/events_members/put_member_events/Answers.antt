@@ -1,4 +1,4 @@
-use Rattle.std.proofs.Common.{◌≡◌, ◌<◌, ◌+◌, ◌++◌, ℕ, suc, length, refl, sym, ap, subst, ◌∙◌, arith, append_assoc}
+use Rattle.std.proofs.Common.{◌≡◌, ◌<◌, ◌+◌, ◌++◌, suc, length, refl, sym, ap, subst, ◌∙◌, arith, append_assoc}
 use Rattle.std.proofs.lemmas.Option.{slice_get_read}
 use Rattle.sm_model.specs.EventView.{events_view}
 use Rattle.sm_merge.specs.steps.Filling.{all_targets}
@@ -6,7 +6,7 @@ use Rattle.sm_merge.specs.steps.Firsts.{targets_view}
 use Rattle.sm_merge.specs.steps.MixedIn.{AreBelow}
 use Rattle.sm_merge.specs.steps.MixinsOnce.{mixins_once}
 use Rattle.sm_merge.specs.steps.PlaceEvents.{first_among, first_in, others_among, others_at, others_below}
-use Rattle.sm_merge.proofs.MixedMade.{below_at}
+use Rattle.sm_merge.proofs.MixedMade.{below_read}
 use Rattle.sm_merge.proofs.MixinsOnce.{below_once}
 use Rattle.sm_merge.proofs.OthersPut.{others_entry}
 use Rattle.sm_merge.proofs.events_members.put_member_events.Goals as goal
@@ -23,16 +23,11 @@ put_others-requires-clause-all c = c.requires.named.all
 
 pub put_others-requires-clause-below : goal.put_others-requires-clause-below
 put_others-requires-clause-below c =
-    let low : c.loop-number.number < length c.args.rows.now = c.loop-number-test.true in
-    let size : length c.args.mixed.now ≡ length c.args.rows.now = c.requires.size in
-    let small : c.loop-number.number < length c.args.mixed.now = omega (arith, low, size) in
-    let below = below_at (length c.args.rows.now) c.args.mixed.now c.loop-number.number c.index-mixed-number.result c.requires.below
-    (slice_get_read c.args.mixed.now (length c.args.mixed.now) c.loop-number.number c.index-mixed-number.result refl small
-    c.index-mixed-number.is) in
     subst (λ cs. AreBelow (length c.args.members.now) cs) (sym (c.as_slice-in-loop-number-2.ensures.value ∙ c.in_ok-mixins.ensures))
     (below_once (length c.args.members.now) c.as_slice.result.now
-    (subst (AreBelow (length c.args.members.now)) (sym c.as_slice.ensures.value)
-    (subst (λ (n : ℕ). AreBelow n c.index-mixed-number.result.items) (sym c.requires.members) below)))
+    (below_read (length c.args.rows.now) (length c.args.members.now) c.args.mixed.now c.loop-number.number c.index-mixed-number.result
+    c.as_slice.result.now c.requires.below c.requires.size c.requires.members c.loop-number-test.true c.index-mixed-number.is
+    c.as_slice.ensures.value))
 
 pub loop-number-preserved : goal.loop-number-preserved
 loop-number-preserved c =

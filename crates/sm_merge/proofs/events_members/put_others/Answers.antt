@@ -1,14 +1,12 @@
-use Rattle.std.proofs.Common.{◌≡◌, ◌<◌, ◌+◌, ◌∷◌, ◌++◌, [], ap, drop, length, refl, subst, sym, ◌∙◌, append_assoc, rules}
-use Rattle.std.specs.Prelude.{slice_get}
-use Rattle.std.proofs.lemmas.List.{drop_all, drop_more}
+use Rattle.std.proofs.Common.{◌≡◌, ◌<◌, ◌+◌, ◌++◌, [], ap, drop, length, refl, subst, sym, ◌∙◌, rules}
+use Rattle.std.proofs.lemmas.List.{drop_all}
 use Rattle.std.proofs.lemmas.Option.{slice_get_read}
 use Rattle.sm_model.specs.EventView.{events_view}
-use Rattle.sm_merge.specs.steps.Filling.{all_targets, mixed_members}
+use Rattle.sm_merge.specs.steps.Filling.{all_targets}
 use Rattle.sm_merge.specs.steps.Firsts.{targets_view}
-use Rattle.sm_merge.specs.steps.MixedIn.{vec_items}
 use Rattle.sm_merge.specs.steps.NamedIds.{AreNames}
 use Rattle.sm_merge.specs.steps.PlaceEvents.{first_in, others_among}
-use Rattle.sm_merge.proofs.MembersMixed.{below_one}
+use Rattle.sm_merge.proofs.MembersMixed.{below_one, mixin_here}
 use Rattle.sm_merge.proofs.OthersPut.{others_step}
 use Rattle.sm_merge.proofs.events_members.put_others.Goals as goal
 
@@ -46,15 +44,8 @@ pub loop-mixin-preserved : goal.loop-mixin-preserved
 loop-mixin-preserved c =
     let mixed = c.args.mixed.now in
     let i = c.loop-mixin.mixin-index in
-    let one = c.mixin-item.result in
     let own = c.args.row.now.members.items in
     let id = c.args.row.now.id in
-    let parts : drop i mixed ≡ one ∷ drop (i + 1) mixed =
-    drop_more mixed i one c.loop-mixin-test.true ∙ ap (λ y. y ∷ drop (i + 1) mixed) (sym c.mixin-item.is) in
-    let small = below_one (length c.args.all.now) mixed i one c.requires.below c.loop-mixin-test.true c.mixin-item.is in
-    let here = slice_get_read c.args.all.now (length c.args.all.now) one.number c.index-all-mixin.result refl small c.index-all-mixin.is in
-    let seen : targets_view c.as_slice-members.result.now ≡ targets_view (vec_items (slice_get c.args.all.now one.number)) =
-    ap targets_view (c.as_slice-members.ensures.value ∙ sym (ap vec_items here)) in
     let xs = targets_view c.as_slice-members.result.now in
     let ys = all_targets c.args.all.now (drop (i + 1) mixed) own in
     record {
@@ -62,8 +53,8 @@ loop-mixin-preserved c =
           (events_view c.args.events.now.items ++ others_among id (first_in c.args.firsts.now) (all_targets c.args.all.now mixed own)) id
           (first_in c.args.firsts.now) xs ys c.in_ok-put_mixed_others.ensures.told
           (ap (λ zs. events_view c.loop-mixin.events.items ++ others_among id (first_in c.args.firsts.now) zs)
-          (ap (λ zs. zs ++ ys) seen ∙ sym (append_assoc _ (mixed_members c.args.all.now (drop (i + 1) mixed)) own)
-          ∙ ap (λ cs. all_targets c.args.all.now cs own) (sym parts))
+          (mixin_here c.args.all.now mixed i c.mixin-item.result c.index-all-mixin.result c.as_slice-members.result.now own
+          c.requires.below c.loop-mixin-test.true c.mixin-item.is c.index-all-mixin.is c.as_slice-members.ensures.value)
           ∙ c.loop-mixin.invariant.told);
       errors = λ h. c.in_ok-put_mixed_others.ensures.errors (c.loop-mixin.invariant.errors h);
     }

@@ -1,4 +1,4 @@
-use Rattle.std.proofs.Common.{◌≡◌, ◌<◌, ℕ, length, refl, sym, ap, subst, ◌∙◌, arith}
+use Rattle.std.proofs.Common.{◌≡◌, ◌<◌, length, refl, sym, ap, subst, ◌∙◌, arith}
 use Rattle.std.proofs.lemmas.Option.{slice_get_read}
 use Rattle.std.proofs.lemmas.Result.{IfOk-weaker}
 use Rattle.sm_merge.specs.steps.Filling as filled
@@ -7,22 +7,17 @@ use Rattle.sm_merge.specs.steps.Firsts.{firsts, targets_view}
 use Rattle.sm_merge.specs.steps.MixedIn.{AreBelow}
 use Rattle.sm_merge.specs.steps.MixinsOnce.{mixins_once}
 use Rattle.sm_merge.proofs.MembersMixed.{entry_made}
-use Rattle.sm_merge.proofs.MixedMade.{below_at}
+use Rattle.sm_merge.proofs.MixedMade.{below_read}
 use Rattle.sm_merge.proofs.MixinsOnce.{below_once, same_firsts}
 use Rattle.sm_merge.proofs.members.members_at.Goals as goal
 
 pub members_of-requires : goal.members_of-requires
 members_of-requires c =
-    let low : c.args.number < length c.args.rows.now = c.requires.inside in
-    let size : length c.args.mixed.now ≡ length c.args.rows.now = c.requires.size in
-    let small : c.args.number < length c.args.mixed.now = omega (arith, low, size) in
-    let below = below_at (length c.args.rows.now) c.args.mixed.now c.args.number c.index-mixed-number.result c.requires.below
-    (slice_get_read c.args.mixed.now (length c.args.mixed.now) c.args.number c.index-mixed-number.result refl small
-    c.index-mixed-number.is) in
     subst (AreBelow (length c.args.all.now)) (sym (c.as_slice-2.ensures.value ∙ c.in_ok-mixins.ensures))
     (below_once (length c.args.all.now) c.as_slice.result.now
-    (subst (AreBelow (length c.args.all.now)) (sym c.as_slice.ensures.value)
-    (subst (λ (n : ℕ). AreBelow n c.index-mixed-number.result.items) (sym c.requires.many) below)))
+    (below_read (length c.args.rows.now) (length c.args.all.now) c.args.mixed.now c.args.number c.index-mixed-number.result
+    c.as_slice.result.now c.requires.below c.requires.size c.requires.many c.requires.inside c.index-mixed-number.is
+    c.as_slice.ensures.value))
 
 pub returns : goal.returns
 returns c =

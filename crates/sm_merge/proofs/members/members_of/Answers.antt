@@ -1,12 +1,9 @@
-use Rattle.std.proofs.Common.{◌≡◌, ◌<◌, ◌+◌, ◌∷◌, ◌++◌, [], ap, drop, length, sym, ◌∙◌, append_assoc, refl, rules}
-use Rattle.std.specs.Prelude.{slice_get}
-use Rattle.std.proofs.lemmas.List.{drop_all, drop_more}
-use Rattle.std.proofs.lemmas.Option.{slice_get_read}
-use Rattle.sm_merge.specs.steps.Filling.{all_targets, mixed_members}
+use Rattle.std.proofs.Common.{◌≡◌, ◌<◌, ◌+◌, ◌++◌, [], ap, drop, length, sym, ◌∙◌, rules}
+use Rattle.std.proofs.lemmas.List.{drop_all}
+use Rattle.sm_merge.specs.steps.Filling.{all_targets}
 use Rattle.sm_merge.specs.steps.Firsts.{firsts, targets_view, unseen}
 use Rattle.sm_merge.specs.steps.Known.{has_text}
-use Rattle.sm_merge.specs.steps.MixedIn.{vec_items}
-use Rattle.sm_merge.proofs.MembersMixed.{all_unseen, below_one, mixin_members}
+use Rattle.sm_merge.proofs.MembersMixed.{all_unseen, below_one, mixin_here, mixin_members}
 use Rattle.sm_merge.proofs.members.members_of.Goals as goal
 
 pub loop-mixin-init : goal.loop-mixin-init
@@ -31,22 +28,15 @@ pub loop-mixin-preserved : goal.loop-mixin-preserved
 loop-mixin-preserved c =
     let mixed = c.args.mixed.now in
     let i = c.loop-mixin.mixin-index in
-    let one = c.mixin-item.result in
     let own = c.args.row.now.members.items in
-    let parts : drop i mixed ≡ one ∷ drop (i + 1) mixed =
-    drop_more mixed i one c.loop-mixin-test.true ∙ ap (λ y. y ∷ drop (i + 1) mixed) (sym c.mixin-item.is) in
-    let small = below_one (length c.args.all.now) mixed i one c.requires c.loop-mixin-test.true c.mixin-item.is in
-    let here = slice_get_read c.args.all.now (length c.args.all.now) one.number c.index-all-mixin.result refl small c.index-all-mixin.is in
-    let seen : targets_view c.as_slice.result.now ≡ targets_view (vec_items (slice_get c.args.all.now one.number)) =
-    ap targets_view (c.as_slice.ensures.value ∙ sym (ap vec_items here)) in
     let xs = targets_view c.as_slice.result.now in
     let ys = all_targets c.args.all.now (drop (i + 1) mixed) own in
     mixin_members (targets_view c.loop-mixin.members.items) (targets_view c.put_firsts.new.all.items)
     (firsts (all_targets c.args.all.now mixed own)) (has_text c.loop-mixin.seen) (has_text c.put_firsts.new.seen) xs ys
     c.in_ok-put_firsts.ensures.all c.in_ok-put_firsts.ensures.seen
     (ap (λ zs. targets_view c.loop-mixin.members.items ++ unseen (has_text c.loop-mixin.seen) (firsts zs))
-    (ap (λ zs. zs ++ ys) seen ∙ sym (append_assoc _ (mixed_members c.args.all.now (drop (i + 1) mixed)) own)
-    ∙ ap (λ cs. all_targets c.args.all.now cs own) (sym parts))
+    (mixin_here c.args.all.now mixed i c.mixin-item.result c.index-all-mixin.result c.as_slice.result.now own c.requires
+    c.loop-mixin-test.true c.mixin-item.is c.index-all-mixin.is c.as_slice.ensures.value)
     ∙ c.loop-mixin.invariant)
 
 pub returns : goal.returns

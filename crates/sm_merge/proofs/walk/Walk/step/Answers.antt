@@ -2,7 +2,7 @@ use Rattle.std.proofs.Common.{◌<◌, ◌≤◌, length, refl, arith}
 use Rattle.sm_merge.specs.declared.walk.Status.TheVariants.{Begun}
 use Rattle.sm_merge.specs.steps.Links.{links_view}
 use Rattle.sm_merge.proofs.Ats.{at_within}
-use Rattle.sm_merge.proofs.WalkSteps.{last_at, links_count, part_finished, target_taken}
+use Rattle.sm_merge.proofs.WalkSteps.{last_at, part_finished, target_taken}
 use Rattle.sm_merge.proofs.walk.Walk.step.Goals as goal
 
 pub finish-requires-clause-within : goal.finish-requires-clause-within
@@ -19,48 +19,16 @@ returns-then-len-part c =
     c.in_ok-finish.ensures in
     (ended.walking, ended.met, ended.nearer)
 
-pub follow-requires-clause-target : goal.follow-requires-clause-target
-follow-requires-clause-target c =
+pub follow-requires-clause-taken : goal.follow-requires-clause-taken
+follow-requires-clause-taken c =
     let last = last_at c.args.self.now.path.items c.deref.result.now c.in-Some.field-0.now c.deref.ensures.value c.in-Some.ensures.value in
     let some : c.in-Some.field-0.now.targets < length c.args.self.now.targets.items =
     omega (arith, c.if-len-part.false, c.len.ensures, c.args.self.now.targets.ok.0) in
-    let taken = target_taken (links_view c.args.links.now) c.args.self.now
+    target_taken (links_view c.args.links.now) c.args.self.now
     (record {
       status = c.args.self.now.status;
       row = c.args.self.now.row;
       targets = c.pop.new.self;
       path = c.args.self.now.path;
       order = c.args.self.now.order;
-    }) c.in-Some.field-0.now c.in-Some-pop.target c.requires.walking last c.in-Some-pop.ensures.items some refl refl refl refl in
-    let within = taken.within in
-    omega (arith, within, links_count c.args.links.now)
-
-pub follow-requires-clause-walking : goal.follow-requires-clause-walking
-follow-requires-clause-walking c =
-    let last = last_at c.args.self.now.path.items c.deref.result.now c.in-Some.field-0.now c.deref.ensures.value c.in-Some.ensures.value in
-    let some : c.in-Some.field-0.now.targets < length c.args.self.now.targets.items =
-    omega (arith, c.if-len-part.false, c.len.ensures, c.args.self.now.targets.ok.0) in
-    let taken = target_taken (links_view c.args.links.now) c.args.self.now
-    (record {
-      status = c.args.self.now.status;
-      row = c.args.self.now.row;
-      targets = c.pop.new.self;
-      path = c.args.self.now.path;
-      order = c.args.self.now.order;
-    }) c.in-Some.field-0.now c.in-Some-pop.target c.requires.walking last c.in-Some-pop.ensures.items some refl refl refl refl in
-    taken.walking
-
-pub follow-requires-clause-reached : goal.follow-requires-clause-reached
-follow-requires-clause-reached c =
-    let last = last_at c.args.self.now.path.items c.deref.result.now c.in-Some.field-0.now c.deref.ensures.value c.in-Some.ensures.value in
-    let some : c.in-Some.field-0.now.targets < length c.args.self.now.targets.items =
-    omega (arith, c.if-len-part.false, c.len.ensures, c.args.self.now.targets.ok.0) in
-    let taken = target_taken (links_view c.args.links.now) c.args.self.now
-    (record {
-      status = c.args.self.now.status;
-      row = c.args.self.now.row;
-      targets = c.pop.new.self;
-      path = c.args.self.now.path;
-      order = c.args.self.now.order;
-    }) c.in-Some.field-0.now c.in-Some-pop.target c.requires.walking last c.in-Some-pop.ensures.items some refl refl refl refl in
-    taken.reached
+    }) c.in-Some.field-0.now c.in-Some-pop.target c.requires.walking last c.in-Some-pop.ensures.items some refl refl refl refl
