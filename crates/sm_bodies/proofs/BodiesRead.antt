@@ -1,7 +1,6 @@
 -- Of a body that was read: what its tree comes to, its bytes come to; and its value fits.
-use Rattle.std.proofs.Common.{◌≡◌, ℕ, List, [], subst, sym}
+use Rattle.std.proofs.Common.{◌≡◌, ℕ, List, subst, sym}
 use Rattle.std.specs.Prelude.{Result, Ok, Err, IfOk, OnOk}
-use Rattle.sm_tree.specs.Events.{NodeEvent}
 use Rattle.sm_tree.specs.Node.{Node}
 use Rattle.sm_tree.specs.Sources.{RefusedSo, ReadsInto}
 use Rattle.sm_tree.specs.Syntax.{Syntax, IsRead}

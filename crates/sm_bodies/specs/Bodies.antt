@@ -15,8 +15,8 @@ use Rattle.sm_codec.specs.FrameView.{fault_at}
 use Rattle.sm_codec.specs.Written.{written, uncarried}
 use Rattle.sm_bodies.specs.declared.reading.BodyRefusal.{BodyRefusal}
 use Rattle.sm_bodies.specs.declared.reading.BodyRefusal.TheVariants.{Syntax as a_syntax, Fault as a_fault, NoMemory}
-use Rattle.sm_bodies.specs.declared.writing.Written.{Written}
-use Rattle.sm_bodies.specs.declared.writing.Written.TheVariants.{Bytes, NotCarried}
+use Rattle.sm_bodies.specs.declared.writing.WrittenBody.{WrittenBody}
+use Rattle.sm_bodies.specs.declared.writing.WrittenBody.TheVariants.{Bytes, NotCarried}
 
 -- the bytes are a text, of at most 100 levels, of a tree that spells the value or has the fault as its first; or they are refused so
 abbrev pub DecodesAs : Syntax → Codec → ℕ → List ℕ → Result Value BodyRefusal → Type 0
@@ -26,6 +26,6 @@ DecodesAs S c shape bytes (Err (a_syntax refusal)) = IsRefused S bytes refusal
 DecodesAs S c shape bytes (Err NoMemory) = Unit {0}
 
 -- what is written for a value by a convention, as a format has the bytes of its tree; or the way to the first leaf that isn't carried
-abbrev pub WritesBody : (Node → List ℕ) → TableData → Convention → Place → Val → Written → Type 0
+abbrev pub WritesBody : (Node → List ℕ) → TableData → Convention → Place → Val → WrittenBody → Type 0
 WritesBody format t l p v (Bytes bytes) = (uncarried t l p v ≡ []) × (bytes.items ≡ format (written t l p v))
 WritesBody format t l p v (NotCarried path) = first_path (uncarried t l p v) ≡ Some path

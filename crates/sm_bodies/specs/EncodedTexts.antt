@@ -1,5 +1,5 @@
--- What writers make of the events of a value: they take those of the tree that is written for it, and what they write for them is the text or
--- the item of that tree.
+-- What writers make of the events of a value: they take those of the tree that is written for it, and what they write for them is the text
+-- or the item of that tree.
 use Rattle.std.specs.Prelude.{◌≡◌, []}
 use Rattle.sm_tree.specs.Streams.{TakesEach, numbered}
 use Rattle.sm_json.specs.Written as json

@@ -40,8 +40,8 @@ far_uncarried far t p v = uncarried t (side_of far).leaves p v
 abbrev pub far_text : BodyForm → TableData → Place → Val → List ℕ
 far_text far t p v = (side_of far).text (written t (side_of far).leaves p v)
 
--- the answer to a body: the word and the place by which it is no text of at most 100 levels; its first fault; the first leaf of the value that
--- it spells, in model order, that the far side can't spell; or the one text of the far side that is written for that value
+-- the answer to a body: the word and the place by which it is no text of at most 100 levels; its first fault; the first leaf of the value
+-- that it spells, in model order, that the far side can't spell; or the one text of the far side that is written for that value
 pub data TextAnswers (near far : BodyForm) (t : TableData) (test : Test) (p : Place) (body : List ℕ) (a : TextAnswer) : Type 0 where
   no_text : (refusal : SyntaxRefusal) → IsRefused (side_of near).syntax body refusal → a ≡ the_refusal refusal
       → TextAnswers near far t test p body a

@@ -9,7 +9,7 @@ pub fn one_text_answer()
     sm_cbor::laws::one_answer();
 }
 
-/// And no body is without one.
+/// No body is without an answer.
 pub fn some_text_answer()
     ensures { SomeTextAnswer }
 {

@@ -13,4 +13,4 @@ pub use body::{Body, CborBody, JsonBody};
 pub use form::BodyForm;
 pub use reading::{BodyRefusal, body_value};
 pub use translating::{BodyAnswer, translated};
-pub use writing::{Written, carried_body, write_body};
+pub use writing::{WrittenBody, carried_body, write_body};

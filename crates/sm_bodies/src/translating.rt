@@ -16,7 +16,7 @@ ghost use Rattle.sm_bodies.specs.steps.Translating.{AnswersValue, AnswersRefusal
 
 use crate::form::BodyForm;
 use crate::reading::{BodyRefusal, body_value};
-use crate::writing::{Written, write_body};
+use crate::writing::{WrittenBody, write_body};
 use sm_codec::{CborLeaves, JsonLeaves};
 use sm_shapes::tables::Table;
 use sm_shapes::values::Value;
@@ -84,7 +84,7 @@ fn far_written(
     table: &Table,
     shape: u32,
     value: &Value,
-) -> Result<Written, NoMemory>
+) -> Result<WrittenBody, NoMemory>
     requires shaped { Shaped (table_data table.now) }
     requires shape { shape < shape_count (table_data table.now) }
     requires fits { Fits (table_data table.now) any_text (root_place shape) (val_of value.now) }
@@ -120,8 +120,8 @@ fn far_answer(
     ensures { IfOk result (λ answer. AnswersValue far (table_data table.now) (root_place shape) (val_of value.now) (text_answer answer)) }
 {
     match far_written(alloc, far, table, shape, value) {
-        Ok(Written::Bytes(bytes)) => Ok(BodyAnswer::Text(bytes)),
-        Ok(Written::NotCarried(path)) => Ok(BodyAnswer::Fault(Fault {
+        Ok(WrittenBody::Bytes(bytes)) => Ok(BodyAnswer::Text(bytes)),
+        Ok(WrittenBody::NotCarried(path)) => Ok(BodyAnswer::Fault(Fault {
             path,
             kind: FaultKind::NotCarried,
         })),
@@ -140,8 +140,8 @@ fn refused_answer(refusal: BodyRefusal) -> Result<BodyAnswer, NoMemory>
     }
 }
 
-/// What a body of the near side comes to on the far side, for the shape with this number. The store must have the table's patterns, and isn't
-/// changed. Its syntax is told before any fault, and the first fault before a leaf that the far side can't spell.
+/// What a body of the near side comes to on the far side, for the shape with this number. The store must have the table's patterns, and
+/// isn't changed. Its syntax is told before any fault, and the first fault before a leaf that the far side can't spell.
 pub fn translated<P: Patterns>(
     alloc: Global,
     near: BodyForm,

@@ -1,7 +1,5 @@
 // The bytes that are written for a value: the events of its tree go into a writer of the format, and no tree is made.
 ghost use Rattle.std.specs.Prelude.{◌≡◌, ◌<◌, [], Some, IfOk};
-ghost use Rattle.sm_json.specs.Written as json;
-ghost use Rattle.sm_cbor.specs.Written.{written_item};
 ghost use Rattle.sm_shapes.specs.Fitting.{Fits, any_text};
 ghost use Rattle.sm_shapes.specs.InOrder.{Shaped};
 ghost use Rattle.sm_shapes.specs.Places.{root_place};
@@ -10,7 +8,6 @@ ghost use Rattle.sm_shapes.specs.TableView.{table_data};
 ghost use Rattle.sm_shapes.specs.ValueView.{val_of};
 ghost use Rattle.sm_codec.specs.Encoded.{first_path};
 ghost use Rattle.sm_codec.specs.Written.{written, uncarried};
-ghost use Rattle.sm_codec.specs.WrittenLaws.{WritesJson, WritesCbor};
 ghost use Rattle.sm_bodies.specs.Sides.{side_of, WritesForm};
 ghost use Rattle.sm_bodies.specs.Bodies.{WritesBody};
 
@@ -25,53 +22,11 @@ use std::alloc::Global;
 
 /// What is written for a value.
 #[derive(Debug, Drop)]
-pub enum Written {
+pub enum WrittenBody {
     /// Its text or its item.
     Bytes(Vec<u8>),
     /// Nothing: the way to its first leaf, in model order, that the convention doesn't carry.
     NotCarried(Path),
-}
-
-// The JSON text of a value whose leaves are carried.
-fn made_text<L: Leaves>(
-    alloc: Global,
-    table: &Table,
-    shape: u32,
-    value: &Value,
-    leaves: &L,
-) -> Result<Vec<u8>, NoMemory>
-    requires shaped { Shaped (table_data table.now) }
-    requires shape { shape < shape_count (table_data table.now) }
-    requires fits { Fits (table_data table.now) any_text (root_place shape) (val_of value.now) }
-    requires carried { uncarried (table_data table.now) (L.convention leaves.now) (root_place shape) (val_of value.now) ≡ [] }
-    requires writes { WritesJson (L.convention leaves.now) }
-    ensures { IfOk result (λ text.
-        text.items ≡ json.written (written (table_data table.now) (L.convention leaves.now) (root_place shape) (val_of value.now))) }
-{
-    let mut writer = JsonWriter::new(alloc);
-    encode_events(alloc, table, shape, value, leaves, &mut writer)?;
-    Ok(writer.into_bytes())
-}
-
-// The item of CBOR of such a value.
-fn made_item<L: Leaves>(
-    alloc: Global,
-    table: &Table,
-    shape: u32,
-    value: &Value,
-    leaves: &L,
-) -> Result<Vec<u8>, NoMemory>
-    requires shaped { Shaped (table_data table.now) }
-    requires shape { shape < shape_count (table_data table.now) }
-    requires fits { Fits (table_data table.now) any_text (root_place shape) (val_of value.now) }
-    requires carried { uncarried (table_data table.now) (L.convention leaves.now) (root_place shape) (val_of value.now) ≡ [] }
-    requires writes { WritesCbor (L.convention leaves.now) }
-    ensures { IfOk result (λ item.
-        item.items ≡ written_item (written (table_data table.now) (L.convention leaves.now) (root_place shape) (val_of value.now))) }
-{
-    let mut writer = CborWriter::new(alloc);
-    encode_events(alloc, table, shape, value, leaves, &mut writer)?;
-    Ok(writer.into_bytes())
 }
 
 /// The bytes of a value, all of whose leaves are carried: its text or its item. `all_carried` of sm_codec tells whether they are.
@@ -93,8 +48,16 @@ pub fn carried_body<L: Leaves>(
         (written (table_data table.now) (L.convention leaves.now) (root_place shape) (val_of value.now))) }
 {
     match form {
-        BodyForm::Json => made_text(alloc, table, shape, value, leaves),
-        BodyForm::Cbor => made_item(alloc, table, shape, value, leaves),
+        BodyForm::Json => {
+            let mut writer = JsonWriter::new(alloc);
+            encode_events(alloc, table, shape, value, leaves, &mut writer)?;
+            Ok(writer.into_bytes())
+        }
+        BodyForm::Cbor => {
+            let mut writer = CborWriter::new(alloc);
+            encode_events(alloc, table, shape, value, leaves, &mut writer)?;
+            Ok(writer.into_bytes())
+        }
     }
 }
 
@@ -128,7 +91,7 @@ pub fn write_body<L: Leaves>(
     shape: u32,
     value: &Value,
     leaves: &L,
-) -> Result<Written, NoMemory>
+) -> Result<WrittenBody, NoMemory>
     requires shaped { Shaped (table_data table.now) }
     requires shape { shape < shape_count (table_data table.now) }
     requires fits { Fits (table_data table.now) any_text (root_place shape) (val_of value.now) }
@@ -138,12 +101,12 @@ pub fn write_body<L: Leaves>(
 {
     if all_carried(table, shape, value, leaves) {
         match carried_body(alloc, form, table, shape, value, leaves) {
-            Ok(bytes) => Ok(Written::Bytes(bytes)),
+            Ok(bytes) => Ok(WrittenBody::Bytes(bytes)),
             Err(refusal) => Err(refusal),
         }
     } else {
         match way_to_leaf(alloc, table, shape, value, leaves) {
-            Ok(path) => Ok(Written::NotCarried(path)),
+            Ok(path) => Ok(WrittenBody::NotCarried(path)),
             Err(refusal) => Err(refusal),
         }
     }

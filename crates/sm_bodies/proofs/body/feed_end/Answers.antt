@@ -1,7 +1,8 @@
-use Rattle.std.proofs.Common.{sym, subst}
+use Rattle.std.proofs.Common.{◌≡◌, sym, subst, rules}
 use Rattle.sm_shapes.specs.TableView.{table_data}
 use Rattle.sm_codec.specs.Codec.{codec_of}
 use Rattle.sm_codec.specs.DecodingView.{IsFed}
+use Rattle.sm_bodies.specs.steps.Reading.{EndsDecoder}
 use Rattle.sm_bodies.proofs.BodiesFed.{may_feed, end_fed}
 use Rattle.sm_bodies.proofs.body.feed_end.Goals as goal
 
@@ -12,7 +13,11 @@ finish-requires-clause-stands g c =
 
 pub returns-clause-ends : goal.returns-clause-ends
 returns-clause-ends g c =
-    let to = c.finish.new.to in (
+    let to = c.finish.new.to in
+    let back : to.decoder.now ≡ c.decoder-1.given.0 = search rules in
+    let codec = codec_of (table_data c.args.table.now) (g.L.Leaves.convention c.args.leaves.now) g.P.Patterns.test in
+    subst (λ d. EndsDecoder g.S.EventSource.source codec (g.P.Patterns.added c.args.patterns.now) c.args.reader.now c.args.decoder.now d
+    c.finish.result) back (
       sym c.finish.ensures.alike.5,
       end_fed g.S.EventSource.source
           (codec_of (table_data c.args.table.now) (g.L.Leaves.convention c.args.leaves.now) g.P.Patterns.test)
