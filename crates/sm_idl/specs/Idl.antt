@@ -1,6 +1,6 @@
 -- A model's text (Smithy 2.0, "Smithy IDL"): which statements its tokens spell, which tokens the grammar begins with, and which
 -- versions are read.
-use Rattle.std.specs.Prelude.{◌≡◌, ◌⊎◌, ◌==◌, ℕ, List, [], ◌∷◌, ◌++◌, map, Option, Some, None, codes}
+use Rattle.std.specs.Prelude.{◌≡◌, ◌⊎◌, ℕ, List, [], ◌∷◌, ◌++◌, map, Option, Some, None, codes}
 use Rattle.std.specs.List.{filter, flat_map}
 pub use Rattle.sm_ids.specs.TextParts.{is_absolute}
 use Rattle.sm_ids.specs.Identifier.{IsNamespace}

@@ -21,7 +21,7 @@ returns-then-is_member c =
     let aims = subst (λ t. At g k (λ i e. Targets t e)) (sym c.as_str-target.ensures) c.target_id.ensures in
     let text = member_is g k c.args.targets c.as_str-id.result.now target traits same aims c.traits.ensures in
     on_ok_weaker c.put_named_member.result
-    (λ is. is ∙ ap (λ name. before ++ member_text c.args.targets name target traits) c.member_name.ensures ∙ ap (λ xs. before ++ xs) text)
+    (λ is. is ∙ ap (λ name. before ++ member_text c.args.targets name target traits) c.member_name-name.ensures ∙ ap (λ xs. before ++ xs) text)
     c.put_named_member.ensures
 
 pub returns : goal.returns
