@@ -1,4 +1,4 @@
-use Rattle.std.proofs.Common.{◌+◌, ◌-◌, ◌++◌, sym, ap, ◌∙◌, arith}
+use Rattle.std.proofs.Common.{◌++◌, sym, ap, ◌∙◌, arith}
 use Rattle.sm_merge.specs.steps.Filling.{kept_by, kept_of, member_lists}
 use Rattle.sm_merge.specs.steps.MemberLists.{rows_under}
 use Rattle.sm_merge.proofs.MemberListsMade.{last_step}

@@ -1,4 +1,4 @@
-use Rattle.std.proofs.Common.{◌+◌, ◌-◌, ◌++◌, sym, ap, ◌∙◌, arith}
+use Rattle.std.proofs.Common.{◌++◌, sym, ap, ◌∙◌, arith}
 use Rattle.sm_merge.specs.steps.Filling.{copied_at, copied_traits, folded_rows}
 use Rattle.sm_merge.proofs.MemberListsMade.{last_step, rows_joined}
 use Rattle.sm_merge.proofs.effective_traits.put_copied.Goals as goal

@@ -1,7 +1,9 @@
 use Rattle.std.proofs.Common.{◌≡◌, ◌<◌, length, refl, sym, subst, arith}
 use Rattle.std.proofs.lemmas.Option.{slice_get_read}
+use Rattle.sm_ids.specs.IdText.{IsShapeId}
 use Rattle.sm_merge.specs.steps.Firsts.{targets_view}
 use Rattle.sm_merge.specs.steps.NamedIds.{AreNames}
+use Rattle.sm_merge.specs.declared.parts.BareShape.{BareShape}
 use Rattle.sm_merge.proofs.events_places.all_places.Goals as goal
 
 pub put_places-requires-clause-shape : goal.put_places-requires-clause-shape
@@ -9,6 +11,7 @@ put_places-requires-clause-shape c =
     let low : c.loop-number.number < length c.args.rows.now = c.loop-number-test.true in
     let here = slice_get_read c.args.rows.now (length c.args.rows.now) c.loop-number.number c.index-rows-number.result refl low
     c.index-rows-number.is in
+    subst (λ (r : BareShape). IsShapeId r.id) c.index-rows-number.is
     (c.requires.named.rows_are c.loop-number.number c.index-rows-number.result here).id
 
 pub put_places-requires-clause-names : goal.put_places-requires-clause-names
