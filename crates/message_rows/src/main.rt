@@ -2,6 +2,7 @@
 // written by hand (README.md has their notation).
 #![tactic(auto)]
 
+mod asked;
 mod cuts;
 mod given;
 mod many;

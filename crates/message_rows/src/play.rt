@@ -1,6 +1,7 @@
 // The answer to each case.
 ghost use Rattle.std.specs.Prelude.{◌<◌, All};
 
+use crate::asked::show_asked;
 use crate::cuts::{cut_in_two, random_cuts, single_bytes};
 use crate::given::given;
 use crate::many::show_many;
@@ -8,7 +9,6 @@ use crate::pieces::MessageWay;
 use crate::prefixes::show_prefixes;
 use crate::question::{StreamAsked, question_of};
 use crate::stream::read_stream;
-use crate::written::show_written;
 use sm_http::MessageSide;
 use sm_io::MemSource;
 use sm_tree::NoMemory;
@@ -68,21 +68,52 @@ fn is_read_in_two(alloc: Global, asking: Asking<'_>, said: &str) -> Result<bool,
     Ok(true)
 }
 
-// Whether what is said of a stream that failed is what is said of the whole, up to the message that failed.
-fn is_part(part: &str, said: &str) -> bool {
-    match part.strip_suffix("ReadFault") {
-        Some(part) => said.starts_with(part),
-        None => part == said,
+// Whether what is said of a stream that fails behind some bytes is what is said of these alone, with `ReadFault` in the place of
+// their end. So nothing behind a message's last byte was asked for.
+fn is_cut_off(failed: &str, alone: &str) -> bool {
+    let last = match alone.rsplit_once(" | ") {
+        Some((_front, last)) => last,
+        None => alone,
+    };
+    if !(last == "none" || last == "Ended" || last.starts_with("left ")) {
+        return failed == alone;
+    }
+    match (failed.strip_suffix("ReadFault"), alone.strip_suffix(last)) {
+        (Some(failed), Some(alone)) => failed == alone,
+        _ => false,
     }
 }
 
-// Whether a short stream whose k-th take fails is read so up to there, for each k, one byte a take.
-fn is_read_in_part(alloc: Global, asking: Asking<'_>, said: &str) -> Result<bool, NoMemory> {
-    for call in 1..=asking.bytes.len() {
-        let cuts = single_bytes(alloc, asking.bytes.len())?;
-        let failing = vec![in alloc; call as u64]?;
-        let part = read_so(alloc, asking, MessageWay::Whole, cuts, failing)?;
-        if !is_part(&part, said) {
+// What is read in one way from a source that gives single bytes, and whose take of this number fails.
+fn read_up_to(
+    alloc: Global,
+    asking: Asking<'_>,
+    way: MessageWay,
+    call: usize,
+) -> Result<String, NoMemory> {
+    let cuts = single_bytes(alloc, asking.bytes.len())?;
+    let failing = vec![in alloc; call as u64]?;
+    read_so(alloc, asking, way, cuts, failing)
+}
+
+// Whether a short stream whose k-th take fails is read as the bytes before it, for each k up to one behind the last byte.
+fn is_read_in_part(alloc: Global, asking: Asking<'_>) -> Result<bool, NoMemory> {
+    for given in 0..=asking.bytes.len() {
+        let before = Asking {
+            bytes: &asking.bytes[..given],
+            side: asking.side,
+            most: asking.most,
+        };
+        let alone = read_so(
+            alloc,
+            before,
+            MessageWay::Whole,
+            Vec::new(alloc),
+            Vec::new(alloc),
+        )?;
+        let whole = read_up_to(alloc, asking, MessageWay::Whole, given + 1)?;
+        let pieces = read_up_to(alloc, asking, MessageWay::Pieces, given + 1)?;
+        if !(is_cut_off(&whole, &alone) && is_cut_off(&pieces, &alone)) {
             return Ok(false);
         }
     }
@@ -108,7 +139,7 @@ fn show_stream(alloc: Global, asking: Asking<'_>, out: &mut String) -> Result<()
             random_cuts(alloc, 1, len.min(SINGLES), 40)?,
         )?;
     if agrees && len <= SHORT {
-        agrees = is_read_in_two(alloc, asking, &said)? && is_read_in_part(alloc, asking, &said)?;
+        agrees = is_read_in_two(alloc, asking, &said)? && is_read_in_part(alloc, asking)?;
     }
     out.push_str(if agrees { &said } else { "ways differ" })?;
     Ok(())
@@ -147,7 +178,7 @@ pub fn answer_to(alloc: Global, row: &str, out: &mut String) -> Result<(), NoMem
             out,
         ),
         StreamAsked::Prefixes => show_prefixes(alloc, side, &bytes, out),
-        StreamAsked::Written => show_written(alloc, side, &bytes, out),
         StreamAsked::Many { seed, count } => show_many(alloc, side, &bytes, seed, count, out),
+        StreamAsked::Message(asked) => show_asked(alloc, side, &bytes, asked, out),
     }
 }

@@ -1,5 +1,5 @@
 // A message written, and read again.
-use crate::show::{refusal_word, show_bytes};
+use crate::show::show_bytes;
 use sm_http::{Held, HttpRefusal, Message, MessageSide, message_len, read_message, write_message};
 use sm_io::CalmSource;
 use sm_tree::NoMemory;
@@ -26,9 +26,13 @@ pub fn message_of(
     }
 }
 
-// Appends the text of a message, written behind bytes that are there into room that is just enough; and where that isn't so: that
-// its length isn't what `message_len` says, that other room was taken, or that it isn't read again as the message.
-fn show_text(
+/// Appends the text of a message, written behind bytes that are there into room that is just enough; and where that isn't so: that
+/// its length isn't what `message_len` says, that other room was taken, or that it isn't read again as the message.
+///
+/// # Errors
+///
+/// `NoMemory`.
+pub fn show_text(
     alloc: Global,
     side: MessageSide,
     message: &Message,
@@ -52,22 +56,4 @@ fn show_text(
         _ => out.push_str(" not read again as itself")?,
     }
     Ok(())
-}
-
-/// Appends the text that is written for the message that bytes begin with.
-///
-/// # Errors
-///
-/// `NoMemory`.
-pub fn show_written(
-    alloc: Global,
-    side: MessageSide,
-    bytes: &[u8],
-    out: &mut String,
-) -> Result<(), NoMemory> {
-    match message_of(alloc, side, bytes)? {
-        Ok(Some(message)) => show_text(alloc, side, &message, out),
-        Ok(None) => Ok(out.push_str("none")?),
-        Err(refusal) => Ok(out.push_str(refusal_word(refusal))?),
-    }
 }

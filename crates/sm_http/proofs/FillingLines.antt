@@ -121,3 +121,12 @@ looks_at side h k r q e looks = subst (λ x. LooksAHead side h k x) e looks
 
 pub fills_on_at : (l r : Option (List ℕ)) (h k : List ℕ) (a b : Result ℕ Unfilled) → a ≡ b → FillsOn l r h k a → FillsOn l r h k b
 fills_on_at l r h k a b e fills = subst (λ x. FillsOn l r h k x) e fills
+
+-- a look saw no whole head, and then a take failed: what is held is what was ahead, up to what is left
+pub failed_ahead : (side : MessageSide) (a l r : Option (List ℕ)) (h k f : List ℕ) (looked : Result (Option (Head × BodyLeft)) HttpRefusal)
+    (filled : Result ℕ Unfilled) → looked ≡ Ok None → LooksAHead side h k looked → filled ≡ Err Failed → FillsOn l r k f filled
+    → Keeps a (prepend_known h l) → Keeps a (prepend_known f r)
+failed_ahead side a l r h k f looked filled none looks failed fills kept =
+    let before = looks_at side h k looked (Ok None) none looks in
+    let taken = fills_on_at l r k f filled (Err Failed) failed fills in
+    ahead_taken a l r k f taken.0 (subst (λ s. Keeps a (prepend_known s l)) (sym before.0) kept) taken.1

@@ -77,7 +77,7 @@ response_line bytes rest h reads =
     ap has_first_line (reads.1 ∙ print_response-append h rest)
     ∙ behind_blanks h.blank (print_version h.minor ++ 32 ∷ (h.digits ++ (print_reason h.reason ++ (print_end h.line_end ++ behind))))
     ∙ lf_behind (codes "TTP/1." ++ (48 + h.minor) ∷ [])
-        (32 ∷ (h.digits ++ (print_reason h.reason ++ (print_end h.line_end ++ behind)))) code
+    (32 ∷ (h.digits ++ (print_reason h.reason ++ (print_end h.line_end ++ behind)))) code
 
 pub head_line : (side : MessageSide) (bytes rest : List ℕ) (text : HeadText) → ReadsHead side bytes text rest → has_first_line bytes ≡ true
 head_line of_requests bytes rest text x = request_line bytes rest x.0 x.1

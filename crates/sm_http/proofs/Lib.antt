@@ -27,3 +27,6 @@ mod FillingLines
 mod Phrases
 mod Printed
 mod FieldLists
+mod ListTokens
+mod ClosePlaced
+mod ClosingSaid

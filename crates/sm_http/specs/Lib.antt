@@ -1,6 +1,7 @@
 pub mod Limits
 pub mod Heads
 pub mod FieldValues
+pub mod FieldLists
 pub mod BodyFields
 pub mod Chunks
 pub mod Bodies

@@ -1,4 +1,5 @@
 pub mod Digits
+pub mod Placing
 pub mod Judging
 pub mod Holding
 pub mod Finding

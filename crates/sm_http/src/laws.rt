@@ -1,7 +1,10 @@
 // Laws of the definitions, each the contract of a function that does nothing.
 ghost use Rattle.sm_http.specs.declared.message.BodyLeft.{BodyLeft};
+ghost use Rattle.sm_http.specs.declared.message.Head.{Head};
+ghost use Rattle.sm_http.specs.declared.message.Message.{Message};
 ghost use Rattle.sm_http.specs.declared.message.MessageSide.{MessageSide};
 ghost use Rattle.sm_http.specs.Laws.{HasOneHead, HasOneBody, HasOneFraming, HasSomeFraming, HasMessageByItself, WrittenIsRead};
+ghost use Rattle.sm_http.specs.Laws.{SaysItCloses, KeepsOtherFields, AnswersHeadAlone};
 
 /// Bytes begin with one head at most, or are refused by one word, and never both.
 pub fn one_head()
@@ -31,4 +34,15 @@ pub fn message_by_itself()
 /// A written message is read again as itself, whatever follows it.
 pub fn written_is_read()
     ensures { (side : MessageSide) → WrittenIsRead side }
+{}
+
+/// A message with `connection: close` says that its connection ends, and no field of another name changes.
+pub fn says_it_closes()
+    ensures says { (said : Message) → SaysItCloses said }
+    ensures others { (said : Message) → KeepsOtherFields said }
+{}
+
+/// What answers a request for a head is written as the answer's head alone.
+pub fn answers_head_alone()
+    ensures { (asked : Head) → AnswersHeadAlone asked }
 {}

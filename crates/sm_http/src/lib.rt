@@ -19,12 +19,13 @@ mod read;
 mod refusal;
 mod see;
 mod size_line;
+mod tokens;
 mod trailers;
 mod write;
 
-pub use connection::for_head;
+pub use connection::{for_head, says_close, with_close};
 pub use held::Held;
-pub use message::{BodyLeft, Field, FieldList, Head, Message, Protocol, MessageSide, Start};
+pub use message::{BodyLeft, Field, FieldList, Head, Message, MessageSide, Protocol, Start};
 pub use piece::read_piece;
 pub use read::{read_head, read_message};
 pub use refusal::HttpRefusal;

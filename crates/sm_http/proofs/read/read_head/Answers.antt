@@ -7,7 +7,7 @@ use Rattle.sm_http.specs.declared.held.Unfilled.TheVariants.{Failed}
 use Rattle.sm_http.proofs.ReadingHeads.{ahead_same, ahead_kept, refused_ahead, large_ahead, ended_ahead, open_part}
 use Rattle.sm_http.proofs.ReadingHeads.{part_undecided, never_fault}
 use Rattle.sm_io.proofs.Told.{loses_none, loses_both}
-use Rattle.sm_http.proofs.FillingLines.{loses_filled_on, found_ahead, found_within, looks_at, fills_on_at, ahead_taken, consumed_whole}
+use Rattle.sm_http.proofs.FillingLines.{loses_filled_on, found_ahead, found_within, looks_at, fills_on_at, failed_ahead, consumed_whole}
 use Rattle.sm_http.proofs.read.read_head.Goals as goal
 
 pub loop-found-init : goal.loop-found-init
@@ -81,12 +81,10 @@ returns-else-len-eq0-clause-bytes g c =
 pub returns-in-Ok-Some-look-clause-bytes : goal.returns-in-Ok-Some-look-clause-bytes
 returns-in-Ok-Some-look-clause-bytes g c =
     let ahead = prepend_known c.args.held.now (g.S.Source.left c.args.source.now) in
-    let none = looks_at c.args.side c.loop-found.held c.look.new.held c.look.result (Ok None)
-    (c.in-Ok-None.is ∙ ap Ok c.in-Ok-None.field-0-is) c.look.ensures.bytes in
-    let kept = subst (λ s. Keeps ahead (prepend_known s (g.S.Source.left c.loop-found.source))) (sym none.0) c.loop-found.invariant.kept in
-    let fills = fills_on_at _ _ _ _ _ (Err Failed) (c.in-Err-Failed.is ∙ ap Err c.in-Err-Failed.field-0-is) c.fill_line.ensures.bytes in
-    let now = ahead_taken ahead (g.S.Source.left c.loop-found.source)
-    (g.S.Source.left c.fill_line.new.source) c.look.new.held c.fill_line.new.held fills.0 kept fills.1 in
+    let now = failed_ahead c.args.side ahead (g.S.Source.left c.loop-found.source) (g.S.Source.left c.fill_line.new.source)
+    c.loop-found.held c.look.new.held c.fill_line.new.held c.look.result c.fill_line.result
+    (c.in-Ok-None.is ∙ ap Ok c.in-Ok-None.field-0-is) c.look.ensures.bytes
+    (c.in-Err-Failed.is ∙ ap Err c.in-Err-Failed.field-0-is) c.fill_line.ensures.bytes c.loop-found.invariant.kept in
     found_ahead c.args.side ahead (g.S.Source.left c.fill_line.new.source) c.fill_line.new.held c.look-in-Err-Failed.new.held
     c.in-Ok-Some-look.found now c.look-in-Err-Failed.ensures.few
     (looks_at c.args.side c.fill_line.new.held c.look-in-Err-Failed.new.held c.look-in-Err-Failed.result
@@ -95,12 +93,10 @@ returns-in-Ok-Some-look-clause-bytes g c =
 pub returns-in-Ok-None-look-clause-bytes : goal.returns-in-Ok-None-look-clause-bytes
 returns-in-Ok-None-look-clause-bytes g c =
     let ahead = prepend_known c.args.held.now (g.S.Source.left c.args.source.now) in
-    let none = looks_at c.args.side c.loop-found.held c.look.new.held c.look.result (Ok None)
-    (c.in-Ok-None.is ∙ ap Ok c.in-Ok-None.field-0-is) c.look.ensures.bytes in
-    let kept = subst (λ s. Keeps ahead (prepend_known s (g.S.Source.left c.loop-found.source))) (sym none.0) c.loop-found.invariant.kept in
-    let fills = fills_on_at _ _ _ _ _ (Err Failed) (c.in-Err-Failed.is ∙ ap Err c.in-Err-Failed.field-0-is) c.fill_line.ensures.bytes in
-    let now = ahead_taken ahead (g.S.Source.left c.loop-found.source)
-    (g.S.Source.left c.fill_line.new.source) c.look.new.held c.fill_line.new.held fills.0 kept fills.1 in
+    let now = failed_ahead c.args.side ahead (g.S.Source.left c.loop-found.source) (g.S.Source.left c.fill_line.new.source)
+    c.loop-found.held c.look.new.held c.fill_line.new.held c.look.result c.fill_line.result
+    (c.in-Ok-None.is ∙ ap Ok c.in-Ok-None.field-0-is) c.look.ensures.bytes
+    (c.in-Err-Failed.is ∙ ap Err c.in-Err-Failed.field-0-is) c.fill_line.ensures.bytes c.loop-found.invariant.kept in
     let sees = looks_at c.args.side c.fill_line.new.held c.look-in-Err-Failed.new.held c.look-in-Err-Failed.result (Ok None)
     (c.in-Ok-None-look.is ∙ ap Ok c.in-Ok-None-look.field-0-is) c.look-in-Err-Failed.ensures.bytes in
     let short = c.fill_line.ensures.part (c.in-Err-Failed.is ∙ ap Err c.in-Err-Failed.field-0-is) in (
@@ -113,12 +109,10 @@ returns-in-Ok-None-look-clause-bytes g c =
 pub returns-in-Err-look-clause-bytes : goal.returns-in-Err-look-clause-bytes
 returns-in-Err-look-clause-bytes g c =
     let ahead = prepend_known c.args.held.now (g.S.Source.left c.args.source.now) in
-    let none = looks_at c.args.side c.loop-found.held c.look.new.held c.look.result (Ok None)
-    (c.in-Ok-None.is ∙ ap Ok c.in-Ok-None.field-0-is) c.look.ensures.bytes in
-    let kept = subst (λ s. Keeps ahead (prepend_known s (g.S.Source.left c.loop-found.source))) (sym none.0) c.loop-found.invariant.kept in
-    let fills = fills_on_at _ _ _ _ _ (Err Failed) (c.in-Err-Failed.is ∙ ap Err c.in-Err-Failed.field-0-is) c.fill_line.ensures.bytes in
-    let now = ahead_taken ahead (g.S.Source.left c.loop-found.source)
-    (g.S.Source.left c.fill_line.new.source) c.look.new.held c.fill_line.new.held fills.0 kept fills.1 in
+    let now = failed_ahead c.args.side ahead (g.S.Source.left c.loop-found.source) (g.S.Source.left c.fill_line.new.source)
+    c.loop-found.held c.look.new.held c.fill_line.new.held c.look.result c.fill_line.result
+    (c.in-Ok-None.is ∙ ap Ok c.in-Ok-None.field-0-is) c.look.ensures.bytes
+    (c.in-Err-Failed.is ∙ ap Err c.in-Err-Failed.field-0-is) c.fill_line.ensures.bytes c.loop-found.invariant.kept in
     refused_ahead c.args.side ahead (g.S.Source.left c.fill_line.new.source)
     (g.S.Source.left c.fill_line.new.source) c.fill_line.new.held c.in-Err-look.refusal now c.look-in-Err-Failed.ensures.few
     (looks_at c.args.side c.fill_line.new.held c.look-in-Err-Failed.new.held c.look-in-Err-Failed.result
