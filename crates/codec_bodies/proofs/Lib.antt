@@ -2,4 +2,3 @@ pub mod Rising
 pub mod InOrderParts
 pub mod Onward
 pub mod CheckedParts
-pub mod TreesWritten

@@ -14,4 +14,4 @@ mod way;
 pub use made::{Said, number_named, table_of};
 pub use order::{is_in_order, is_shape};
 pub use patterns::store;
-pub use way::Way;
+pub use way::BodyWay;

@@ -7,8 +7,8 @@ ghost use Rattle.sm_shapes.specs.TableData.{shape_count};
 ghost use Rattle.sm_shapes.specs.TableView.{table_data};
 ghost use Rattle.sm_shapes.specs.ValueView.{val_of};
 
-use crate::by_tree::{item_by_tree, text_by_tree};
-use sm_bodies::{BodyForm, BodyRefusal, Written, body_value, write_body};
+use crate::by_tree::bytes_by_tree;
+use sm_bodies::{BodyForm, BodyRefusal, WrittenBody, body_value, write_body};
 use sm_codec::{CborLeaves, JsonLeaves, NodeLeaves};
 use sm_shapes::Patterns;
 use sm_shapes::tables::Table;
@@ -18,7 +18,7 @@ use std::alloc::Global;
 
 /// A convention of leaves, and with it a format of bodies.
 #[derive(Debug, Clone, Copy, Drop)]
-pub enum Way {
+pub enum BodyWay {
     /// JSON, by the members' names or by their JSON names.
     Json(bool),
     /// CBOR.
@@ -27,15 +27,15 @@ pub enum Way {
     Node(bool),
 }
 
-impl Way {
+impl BodyWay {
     /// The convention that a word names: `json`, `json-names`, `cbor`, `node`, `node-raw`. No memory.
-    pub fn named(word: &str) -> Option<Way> {
+    pub fn named(word: &str) -> Option<BodyWay> {
         match word {
-            "json" => Some(Way::Json(false)),
-            "json-names" => Some(Way::Json(true)),
-            "cbor" => Some(Way::Cbor),
-            "node" => Some(Way::Node(false)),
-            "node-raw" => Some(Way::Node(true)),
+            "json" => Some(BodyWay::Json(false)),
+            "json-names" => Some(BodyWay::Json(true)),
+            "cbor" => Some(BodyWay::Cbor),
+            "node" => Some(BodyWay::Node(false)),
+            "node-raw" => Some(BodyWay::Node(true)),
             _ => None,
         }
     }
@@ -63,7 +63,7 @@ impl Way {
         ensures { IfOk result (λ value. Fits (table_data table.now) any_text (root_place shape) (val_of value)) }
     {
         match self {
-            Way::Json(json_names) => body_value(
+            BodyWay::Json(json_names) => body_value(
                 alloc,
                 BodyForm::Json,
                 table,
@@ -73,7 +73,7 @@ impl Way {
                 bytes,
                 piece,
             ),
-            Way::Node(raw_blobs) => body_value(
+            BodyWay::Node(raw_blobs) => body_value(
                 alloc,
                 BodyForm::Json,
                 table,
@@ -83,7 +83,7 @@ impl Way {
                 bytes,
                 piece,
             ),
-            Way::Cbor => body_value(
+            BodyWay::Cbor => body_value(
                 alloc,
                 BodyForm::Cbor,
                 table,
@@ -103,7 +103,7 @@ impl Way {
         table: &Table,
         shape: u32,
         value: &Value,
-    ) -> Result<Written, NoMemory>
+    ) -> Result<WrittenBody, NoMemory>
         requires shaped { Shaped (table_data table.now) }
         requires shape { shape < shape_count (table_data table.now) }
         requires fits { Fits (table_data table.now) any_text (root_place shape) (val_of value.now) }
@@ -112,7 +112,7 @@ impl Way {
         sm_codec::laws::node_leaves_written();
         sm_codec::laws::cbor_leaves_written();
         match self {
-            Way::Json(json_names) => write_body(
+            BodyWay::Json(json_names) => write_body(
                 alloc,
                 BodyForm::Json,
                 table,
@@ -120,7 +120,7 @@ impl Way {
                 value,
                 &JsonLeaves { json_names },
             ),
-            Way::Node(raw_blobs) => write_body(
+            BodyWay::Node(raw_blobs) => write_body(
                 alloc,
                 BodyForm::Json,
                 table,
@@ -128,11 +128,11 @@ impl Way {
                 value,
                 &NodeLeaves { raw_blobs },
             ),
-            Way::Cbor => write_body(alloc, BodyForm::Cbor, table, shape, value, &CborLeaves),
+            BodyWay::Cbor => write_body(alloc, BodyForm::Cbor, table, shape, value, &CborLeaves),
         }
     }
 
-    /// The same, by a tree that is made first; none where a leaf isn't carried.
+    /// The body of a value of the shape, by a tree that is made first; none where a leaf isn't carried.
     pub fn body_by_tree(
         self,
         alloc: Global,
@@ -146,14 +146,25 @@ impl Way {
     {
         sm_codec::laws::json_leaves_written();
         sm_codec::laws::node_leaves_written();
+        sm_codec::laws::cbor_leaves_written();
         match self {
-            Way::Json(json_names) => {
-                text_by_tree(alloc, table, shape, value, &JsonLeaves { json_names })
-            }
-            Way::Node(raw_blobs) => {
-                text_by_tree(alloc, table, shape, value, &NodeLeaves { raw_blobs })
-            }
-            Way::Cbor => item_by_tree(alloc, table, shape, value),
+            BodyWay::Json(json_names) => bytes_by_tree(
+                alloc,
+                BodyForm::Json,
+                table,
+                shape,
+                value,
+                &JsonLeaves { json_names },
+            ),
+            BodyWay::Node(raw_blobs) => bytes_by_tree(
+                alloc,
+                BodyForm::Json,
+                table,
+                shape,
+                value,
+                &NodeLeaves { raw_blobs },
+            ),
+            BodyWay::Cbor => bytes_by_tree(alloc, BodyForm::Cbor, table, shape, value, &CborLeaves),
         }
     }
 }

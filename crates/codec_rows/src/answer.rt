@@ -7,7 +7,7 @@ ghost use Rattle.sm_shapes.specs.TableView.{table_data};
 
 use crate::far::show_far;
 use crate::row::Far;
-use codec_bodies::{Way, store};
+use codec_bodies::{BodyWay, store};
 use sm_bodies::BodyRefusal;
 use sm_shapes::tables::Table;
 use sm_shapes::{Fault, LiteralPatterns};
@@ -16,9 +16,9 @@ use std::alloc::Global;
 
 /// A body: how its leaves are spelled, what is asked of its value, and its bytes.
 #[derive(Debug, Clone, Copy)]
-pub struct Body<'b> {
+pub struct GivenBody<'b> {
     /// The convention by which it is read.
-    pub near: Way,
+    pub near: BodyWay,
     /// What is shown of it.
     pub far: Far,
     /// Its text or its item.
@@ -54,7 +54,7 @@ fn answer_in(
     alloc: Global,
     table: &Table,
     shape: u32,
-    body: Body<'_>,
+    body: GivenBody<'_>,
     piece: usize,
 ) -> Result<String, NoMemory>
     requires piece { 0 < piece }
@@ -83,7 +83,7 @@ pub fn show_answer(
     alloc: Global,
     table: &Table,
     shape: u32,
-    body: Body<'_>,
+    body: GivenBody<'_>,
     out: &mut String,
 ) -> Result<(), NoMemory>
     requires number { shape < shape_count (table_data table.now) }

@@ -10,9 +10,9 @@ ghost use Rattle.sm_shapes.specs.ValueView.{val_of};
 
 use crate::row::Far;
 use crate::shown::show_value;
-use codec_bodies::Way;
+use codec_bodies::BodyWay;
 use rows::{push_utf8, show_bytes, show_order};
-use sm_bodies::Written;
+use sm_bodies::WrittenBody;
 use sm_shapes::tables::Table;
 use sm_shapes::values::Value;
 use sm_tree::{NoMemory, Path};
@@ -26,24 +26,24 @@ fn show_path(alloc: Global, path: &Path, out: &mut String) -> Result<(), NoMemor
 
 fn show_written(
     alloc: Global,
-    way: Way,
-    written: &Written,
+    way: BodyWay,
+    written: &WrittenBody,
     out: &mut String,
 ) -> Result<(), NoMemory> {
     match written {
-        Written::Bytes(bytes) => match way {
-            Way::Cbor => show_bytes(bytes, out),
+        WrittenBody::Bytes(bytes) => match way {
+            BodyWay::Cbor => show_bytes(bytes, out),
             _ => push_utf8(bytes, out),
         },
-        Written::NotCarried(path) => show_path(alloc, path, out),
+        WrittenBody::NotCarried(path) => show_path(alloc, path, out),
     }
 }
 
 // Whether it is the same by a tree, where it can be written at all.
-fn is_same(written: &Written, by_tree: &Option<Vec<u8>>) -> bool {
+fn is_same(written: &WrittenBody, by_tree: &Option<Vec<u8>>) -> bool {
     match (written, by_tree) {
-        (Written::Bytes(bytes), Some(other)) => bytes == other,
-        (Written::NotCarried(_), None) => true,
+        (WrittenBody::Bytes(bytes), Some(other)) => bytes == other,
+        (WrittenBody::NotCarried(_), None) => true,
         _ => false,
     }
 }
@@ -53,7 +53,7 @@ fn show_body(
     alloc: Global,
     table: &Table,
     shape: u32,
-    way: Way,
+    way: BodyWay,
     value: &Value,
     out: &mut String,
 ) -> Result<(), NoMemory>

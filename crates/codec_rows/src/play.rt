@@ -3,10 +3,10 @@ ghost use Rattle.sm_shapes.specs.InOrder.{Shaped, DefaultsPass};
 ghost use Rattle.sm_shapes.specs.Literals.{is_part};
 ghost use Rattle.sm_shapes.specs.TableView.{table_data};
 
-use crate::answer::{Body, show_answer};
+use crate::answer::{GivenBody, show_answer};
 use crate::defaults::show_defaults;
-use crate::row::Row;
-use codec_bodies::{Said, Way, is_in_order, is_shape, number_named, store, table_of};
+use crate::row::CodecRow;
+use codec_bodies::{BodyWay, Said, is_in_order, is_shape, number_named, store, table_of};
 use rows::Player;
 use sm_codec::fill_defaults;
 use sm_json::read_tree;
@@ -36,9 +36,9 @@ fn shapes_in(alloc: Global, text: &str) -> Vec<Said> {
 }
 
 // The bytes of a body: those of its text, or those that pairs of digits show.
-fn bytes_of(alloc: Global, near: Way, text: &str) -> Result<Vec<u8>, NoMemory> {
+fn bytes_of(alloc: Global, near: BodyWay, text: &str) -> Result<Vec<u8>, NoMemory> {
     match near {
-        Way::Cbor => shown_bytes(alloc, text),
+        BodyWay::Cbor => shown_bytes(alloc, text),
         _ => Ok(text.as_bytes().to_vec(alloc)?),
     }
 }
@@ -77,7 +77,7 @@ impl Shapes {
         alloc: Global,
         table: &Table,
         name: &str,
-        body: Body<'_>,
+        body: GivenBody<'_>,
         out: &mut String,
     ) -> Result<(), NoMemory>
         requires shaped { Shaped (table_data table.now) }
@@ -95,17 +95,17 @@ impl Shapes {
         &self,
         alloc: Global,
         table: &Table,
-        row: Row<'_>,
+        row: CodecRow<'_>,
         out: &mut String,
     ) -> Result<(), NoMemory>
         requires shaped { Shaped (table_data table.now) }
         requires pass { DefaultsPass (table_data table.now) is_part }
     {
         match row {
-            Row::Defaults => show_defaults(table, out),
-            Row::Body(near, far, name, text) => {
+            CodecRow::Defaults => show_defaults(table, out),
+            CodecRow::Body(near, far, name, text) => {
                 let bytes = bytes_of(alloc, near, text)?;
-                let body = Body {
+                let body = GivenBody {
                     near,
                     far,
                     bytes: &bytes,
@@ -117,7 +117,7 @@ impl Shapes {
     }
 
     // Appends the answer of a case.
-    fn show(&self, alloc: Global, row: Row<'_>, out: &mut String) -> Result<(), NoMemory> {
+    fn show(&self, alloc: Global, row: CodecRow<'_>, out: &mut String) -> Result<(), NoMemory> {
         out.push_str(" => ")?;
         let mut table = table_of(alloc, &self.said)?;
         if !is_in_order(alloc, &table)? {
@@ -134,12 +134,12 @@ impl Shapes {
 
 impl Player for Shapes {
     fn play(&mut self, alloc: Global, case: &str, out: &mut String) -> Result<(), NoMemory> {
-        match Row::of(case) {
-            Row::Table => {
+        match CodecRow::of(case) {
+            CodecRow::Table => {
                 self.said = shapes_in(alloc, SIMPLE);
                 Ok(())
             }
-            Row::Shape(name, text) => self.add(alloc, name, text),
+            CodecRow::Shape(name, text) => self.add(alloc, name, text),
             row => self.show(alloc, row, out),
         }
     }

@@ -6,8 +6,8 @@ ghost use Rattle.sm_shapes.specs.Literals.{is_part};
 ghost use Rattle.sm_shapes.specs.TableData.{shape_count};
 ghost use Rattle.sm_shapes.specs.TableView.{table_data};
 
-use codec_bodies::{Said, Way, is_in_order, is_shape, number_named, store, table_of};
-use sm_bodies::{BodyRefusal, Written};
+use codec_bodies::{BodyWay, Said, is_in_order, is_shape, number_named, store, table_of};
+use sm_bodies::{BodyRefusal, WrittenBody};
 use sm_codec::fill_defaults;
 use sm_shapes::LiteralPatterns;
 use sm_shapes::tables::Table;
@@ -18,9 +18,9 @@ use std::alloc::Global;
 #[derive(Debug, Clone, Copy, Drop)]
 pub struct Carriage {
     /// The convention by which it is read.
-    near: Way,
+    near: BodyWay,
     /// That by which its value is written, if it is.
-    far: Option<Way>,
+    far: Option<BodyWay>,
     /// How many times.
     turns: u32,
 }
@@ -47,7 +47,7 @@ impl From<NoMemory> for CarryRefusal {
 impl Carriage {
     /// The carriage that three words ask for: the near convention, the far one or `value` where nothing is written, and a number of turns.
     pub fn of(near: &str, far: &str, turns: &str) -> Option<Carriage> {
-        let near = Way::named(near)?;
+        let near = BodyWay::named(near)?;
         let turns = turns.parse::<u32>().ok()?;
         match far {
             "value" => Some(Carriage {
@@ -55,7 +55,7 @@ impl Carriage {
                 far: None,
                 turns,
             }),
-            _ => match Way::named(far) {
+            _ => match BodyWay::named(far) {
                 Some(way) => Some(Carriage {
                     near,
                     far: Some(way),
@@ -89,8 +89,8 @@ fn carry_once(
     {
         Ok(value) => match carriage.far {
             Some(far) => match far.body(alloc, table, shape, &value) {
-                Ok(Written::Bytes(bytes)) => Ok(bytes.len()),
-                Ok(Written::NotCarried(_)) => Err(CarryRefusal::NotCarried),
+                Ok(WrittenBody::Bytes(bytes)) => Ok(bytes.len()),
+                Ok(WrittenBody::NotCarried(_)) => Err(CarryRefusal::NotCarried),
                 Err(NoMemory) => Err(CarryRefusal::NoMemory),
             },
             None => Ok(0),
