@@ -8,5 +8,5 @@ pub returns-in_ok-put_for-in-Some : goal.returns-in_ok-put_for-in-Some
 returns-in_ok-put_for-in-Some g c =
     let says = g.A.AtReference.tells c.args.rule.now (maps_of c.args.graph.now) (id_of_number c.args.graph.now c.args.shape) in
     text_put (says c.args.relation)
-    (node_of c.args.value.now) c.in-Some.id.now c.in-Some.ensures c.args.events.now.items c.put_for.new.events.items
+    (node_of c.args.value.now) c.in-Some.id.now c.in-Some.ensures.node c.args.events.now.items c.put_for.new.events.items
     c.in_ok-put_for-in-Some.ensures
