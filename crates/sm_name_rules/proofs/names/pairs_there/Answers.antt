@@ -7,7 +7,7 @@ use Rattle.sm_name_rules.proofs.GivenNames.{no_pairs}
 use Rattle.sm_name_rules.proofs.names.pairs_there.Goals as goal
 
 pub returns-in-Some : goal.returns-in-Some
-returns-in-Some c = sym (ap (λ (n : Node). unwrap_or (pairs_in n) no_members) c.in-Some.ensures)
+returns-in-Some c = sym (ap (λ (n : Node). unwrap_or (pairs_in n) no_members) c.in-Some.ensures.node)
 
 pub returns-in-None : goal.returns-in-None
-returns-in-None c = no_pairs (node_of c.args.tree.now) c.in-None.ensures
+returns-in-None c = no_pairs (node_of c.args.tree.now) c.in-None.ensures.node
