@@ -6,8 +6,8 @@ ghost use Rattle.message_speed.specs.Turns.{MessageOf};
 
 use httparse::{EMPTY_HEADER, Request, Response, Status};
 use sm_http::{
-    BodyLeft, Held, HttpRefusal, Message, MessageSide, message_len, read_head, read_message, read_piece,
-    write_message,
+    BodyLeft, Held, HttpRefusal, Message, MessageSide, message_len, read_head, read_message,
+    read_piece, write_message,
 };
 use sm_io::{Source, StdSource};
 use sm_tree::NoMemory;
