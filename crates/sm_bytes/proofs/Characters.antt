@@ -12,7 +12,7 @@ use Rattle.sm_bytes.specs.declared.utf8.Utf8.TheVariants.{Between, Second, LastT
 use Rattle.sm_bytes.specs.Utf8.{IsTail, IsSecond, least_second, greatest_second, behind_second, step, owed, run, Rest, RestIsUtf8}
 use Rattle.sm_bytes.proofs.CharacterBytes.{low_three, low_four, two_encode, three_encode, four_encode, one_byte}
 use Rattle.sm_bytes.proofs.CharacterShapes.{IsOne, IsTwo, IsThree, IsFour, shape}
-use lib.Utf8.{scalar, scalars, encode, encodes, low_scalar}
+use lib.Utf8.{scalar, scalars, encode, low_scalar}
 
 -- single steps
 step_one : (c : ℕ) → c < 128 → step Between c ≡ Some Between

@@ -5,7 +5,7 @@ use Rattle.std.specs.List.{list_any}
 use Rattle.sm_tree.specs.Node.{Node, Members, text, object, member}
 use Rattle.sm_shapes.specs.TableData.{TableData}
 use Rattle.sm_shapes.specs.Places.{Place}
-use Rattle.sm_shapes.specs.Values.{Val, FieldVals, no_fields, field}
+use Rattle.sm_shapes.specs.Values.{FieldVals, no_fields, field}
 use Rattle.sm_codec.specs.Convention.{Convention}
 use Rattle.sm_codec.specs.Written.{written_fields}
 

@@ -1,11 +1,10 @@
 -- What stands behind a message has no part in it.
-use Rattle.std.proofs.Common.{◌≡◌, ℕ, ◌+◌, ◌≤◌, List, [], ◌∷◌, ◌++◌, length, refl, sym, ap, ◌∙◌, subst, arith, append_assoc}
+use Rattle.std.proofs.Common.{◌≡◌, ℕ, ◌+◌, List, [], ◌∷◌, ◌++◌, length, refl, sym, ap, ◌∙◌, subst, append_assoc}
 use Rattle.std.specs.Prelude.{All}
 use Rattle.std.proofs.lemmas.List.Elements.{All-head, All-tail}
 use Rattle.httparse.specs.Ascii.{crlf_bytes}
 use Rattle.httparse.specs.Grammar.{ChunkLine, print_chunk_line, chunk_size}
 use Rattle.httparse.proofs.ChunkLemmas.{chunk_line_unique}
-use Rattle.sm_http.specs.declared.message.Message.{Message}
 use Rattle.sm_http.specs.declared.message.MessageSide.{MessageSide}
 use Rattle.sm_http.specs.declared.message.BodyLeft.{BodyLeft}
 use Rattle.sm_http.specs.declared.message.BodyLeft.TheVariants.{Known, Size, Data, Done}
@@ -14,7 +13,6 @@ use Rattle.sm_http.specs.BodyFields.{body_begin}
 use Rattle.sm_http.specs.Chunks.{IsSizeLine, Chunk, IsChunk, ChunkedText, IsChunkedText, print_chunks, print_trailers, print_chunked}
 use Rattle.sm_http.specs.Chunks.{PassesLimit}
 use Rattle.sm_http.specs.Bodies.{BodyText, IsPastLimit, body, BodyFramed}
-use Rattle.sm_http.specs.Framed.{message, Framed}
 use Rattle.sm_http.specs.Laws.{HasMessageByItself}
 use Rattle.sm_http.proofs.Cuts.{same_cut}
 use Rattle.sm_http.proofs.OneChunked.{behind_line, behind_chunk, behind_text, no_chunk}

@@ -8,7 +8,7 @@ use Rattle.sm_http.specs.declared.message.Head.{Head}
 use Rattle.sm_http.specs.declared.message.Message.{Message}
 use Rattle.sm_http.specs.FieldValues.{values_named}
 use Rattle.sm_http.specs.FieldLists.{lists_token, has_token}
-use Rattle.sm_http.specs.Connections.{close_field, is_length_field, fields_with_close, asks_head, for_head}
+use Rattle.sm_http.specs.Connections.{close_field, is_length_field, fields_with_close}
 use Rattle.sm_http.specs.Written.{written, written_head}
 use Rattle.sm_http.specs.Laws.{SaysItCloses, KeepsOtherFields, AnswersHeadAlone}
 

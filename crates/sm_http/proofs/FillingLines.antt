@@ -11,8 +11,7 @@ use Rattle.sm_http.specs.declared.held.Unfilled.TheVariants.{Failed, NoMemory}
 use Rattle.sm_http.specs.Limits.{head_limit}
 use Rattle.sm_http.specs.declared.held.Unfilled.{Unfilled}
 use Rattle.sm_http.specs.declared.refusal.HttpRefusal.{HttpRefusal}
-use Rattle.sm_http.specs.BodyFields.{body_begin}
-use Rattle.sm_http.specs.Framed.{head, HeadFramed}
+use Rattle.sm_http.specs.Framed.{head}
 use Rattle.sm_http.specs.Calls.{ReadsAHead, IsWithinLimit}
 use Rattle.sm_io.specs.Reading.{LosesPrefix}
 use Rattle.sm_http.specs.steps.Finding.{found_text}

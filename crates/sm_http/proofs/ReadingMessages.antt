@@ -1,21 +1,18 @@
 -- From a head and a body to a message.
-use Rattle.std.proofs.Common.{◌≡◌, ℕ, ◌+◌, ◌≤◌, Bool, true, false, List, [], ◌∷◌, ◌++◌, length, refl, sym, ap, subst, ◌∙◌, arith}
+use Rattle.std.proofs.Common.{◌≡◌, ℕ, ◌+◌, Bool, true, false, List, [], ◌∷◌, ◌++◌, refl, sym, subst, arith}
 use Rattle.std.proofs.Common.{append_assoc, append-nil, inl, inr, Option, Some, None, Ok, Err}
 use Rattle.std.specs.Prelude.{IfSome, if◌then◌else◌}
 use Rattle.std.proofs.lemmas.Bool.{ltb-false}
-use Rattle.std.proofs.lemmas.List.{length-append}
 use Rattle.std.specs.Str.Parse.{digits_value}
-use Rattle.httparse.specs.Grammar.{print_request, print_response}
 use Rattle.sm_http.specs.declared.message.Head.{Head}
 use Rattle.sm_http.specs.declared.message.MessageSide.{MessageSide}
-use Rattle.sm_http.specs.declared.message.MessageSide.TheVariants.{Request as of_requests, Response as of_responses}
 use Rattle.sm_http.specs.declared.message.BodyLeft.{BodyLeft}
 use Rattle.sm_http.specs.declared.message.BodyLeft.TheVariants.{Known, Done}
 use Rattle.sm_http.specs.declared.refusal.HttpRefusal.{HttpRefusal}
 use Rattle.sm_http.specs.declared.refusal.HttpRefusal.TheVariants.{ReadFault, Ended, HeadTooLarge, Coding, Length, TooLong, Chunk, NoMemory}
 use Rattle.sm_http.specs.declared.refusal.HttpRefusal.TheVariants.{Head as BadHead}
-use Rattle.sm_http.specs.Limits.{head_limit, message_body_limit}
-use Rattle.sm_http.specs.Heads.{HeadText, ReadsHead, HeadStands}
+use Rattle.sm_http.specs.Limits.{message_body_limit}
+use Rattle.sm_http.specs.Heads.{HeadText}
 use Rattle.sm_http.specs.BodyFields.{head_refusal, body_begin, told_body, is_past_limit, has_no_body, codings, lengths}
 use Rattle.sm_http.specs.Bodies.{body, body_refused, BodyFramed}
 use Rattle.sm_http.specs.Framed.{head, head_refused, HeadFramed, message_refused, Framed}

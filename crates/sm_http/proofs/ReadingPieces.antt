@@ -13,8 +13,8 @@ use Rattle.sm_http.specs.declared.refusal.HttpRefusal.TheVariants.{Head as BadHe
 use Rattle.sm_http.specs.declared.place.SeenPlace.{SeenPlace}
 use Rattle.sm_http.specs.declared.place.SeenPlace.TheVariants.{Next, Part}
 use Rattle.sm_http.specs.Limits.{piece_limit}
-use Rattle.sm_http.specs.Bodies.{HasBody, IsPastLimit, BodyFraming, body, body_refused, BodyFramed, behind_data}
-use Rattle.sm_http.specs.Calls.{IsWithinLimit, data_room, DecidesBody, GoesOn, ReadsAPiece}
+use Rattle.sm_http.specs.Bodies.{HasBody, IsPastLimit, body, body_refused, BodyFramed}
+use Rattle.sm_http.specs.Calls.{IsWithinLimit, data_room, DecidesBody, ReadsAPiece}
 use Rattle.sm_http.specs.steps.Holding.{Fills}
 use Rattle.sm_http.specs.steps.Places.{Steps}
 use Rattle.sm_http.specs.steps.Passing.{SeesPlace, RefusesBody, Gives, GoesTo, PassesTo, GivesPiece}

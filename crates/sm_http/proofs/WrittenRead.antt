@@ -1,6 +1,5 @@
 -- A written message is read as itself.
 use Rattle.std.proofs.Common.{◌≡◌, ℕ, ◌<◌, ◌≤◌, true, List, [], ◌∷◌, ◌++◌, length, map, refl, sym, ap, ◌∙◌, subst, arith, append_assoc}
-use Rattle.std.proofs.Common.{Some}
 use Rattle.std.proofs.Common.{suc, zero, Bool, ◌&&◌, ◌||◌}
 use Rattle.std.specs.Prelude.{All, ◌==◌, nat_lt, decimal}
 use Rattle.std.proofs.lemmas.Bool.{eqb-true, le-ltb}
@@ -11,7 +10,7 @@ use Rattle.std.specs.List.{list_all}
 use Rattle.std.specs.Str.Parse.{digits_value}
 use Rattle.std.proofs.lemmas.List.{length-append}
 use Rattle.std.proofs.lemmas.List.Elements.{All-head, All-tail, All-cons, All-nil}
-use Rattle.httparse.specs.Grammar.{trim_ows, is_value_byte, crlf, IsField}
+use Rattle.httparse.specs.Grammar.{trim_ows, is_value_byte, IsField}
 use Rattle.sm_http.specs.declared.message.Field.{Field}
 use Rattle.sm_http.specs.declared.message.Start.{Start}
 use Rattle.sm_http.specs.declared.message.Start.TheVariants.{Request, Response}

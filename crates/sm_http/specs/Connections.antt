@@ -1,6 +1,6 @@
 -- How a message says that its connection ends behind it (RFC 9112, section 9.6; RFC 9110, section 7.6.1), and what answers `HEAD`
 -- (RFC 9110, section 9.3.2).
-use Rattle.std.specs.Prelude.{ℕ, List, [], ◌∷◌, Bool, false, if◌then◌else◌, codes}
+use Rattle.std.specs.Prelude.{List, [], ◌∷◌, Bool, false, if◌then◌else◌, codes}
 use Rattle.std.specs.Str.{bytes_eq, str_eq_ignore_ascii_case}
 use Rattle.sm_http.specs.declared.message.Field.{Field}
 use Rattle.sm_http.specs.declared.message.Head.{Head}

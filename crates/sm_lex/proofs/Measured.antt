@@ -1,6 +1,6 @@
 -- Words, numbers and marks at the start of a text.
 use Rattle.std.proofs.Common.{◌≡◌, ℕ, zero, suc, ◌+◌, ◌-◌, ◌≤◌, ◌<◌, Bool, true, false, cond, List, [], ◌∷◌, length, get_or, take, refl}
-use Rattle.std.proofs.Common.{sym, ap, subst, arith, inl, inr, length-take-le, nat_eq, ◌&&◌}
+use Rattle.std.proofs.Common.{sym, ap, subst, arith, length-take-le, nat_eq, ◌&&◌}
 use Rattle.std.specs.Prelude.{IsUtf8, codes}
 use Rattle.std.specs.List.{prefix_len}
 use Rattle.std.specs.Str.{IsCharBoundary}

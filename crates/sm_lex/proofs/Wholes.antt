@@ -1,21 +1,20 @@
 -- Each token is the text between its places, which are cuts between characters, and has its kind's shape.
 use Rattle.std.proofs.Common.{◌≡◌, ℕ, zero, suc, ◌+◌, ◌-◌, ◌≤◌, ◌<◌, List, [], ◌∷◌, length, get_or, take, drop, refl, sym, ap, subst, ◌∙◌}
 use Rattle.std.proofs.Common.{arith, length-take-le, length-drop}
-use Rattle.std.specs.Prelude.{Option, Some, None, IsOk, IsUtf8, All, map, true, false}
+use Rattle.std.specs.Prelude.{Option, Some, None, IsOk, IsUtf8, All, true, false}
 use Rattle.std.specs.Option.{option_map}
 use Rattle.std.specs.Str.{IsCharBoundary}
 use Rattle.std.proofs.lemmas.List.{get_or-take, get_or-drop, drop-drop}
-use Rattle.std.proofs.lemmas.List.Elements.{All-nil, All-cons, All-head, All-tail}
+use Rattle.std.proofs.lemmas.List.Elements.{All-nil, All-cons}
 use Rattle.std.proofs.lemmas.Str.{IsCharBoundary-from_drop, IsUtf8-drop}
 use Rattle.sm_lex.specs.declared.token.TokenKind.{TokenKind}
-use Rattle.sm_lex.specs.declared.token.Token.{Token}
 use Rattle.sm_lex.specs.declared.token.TokenKind.TheVariants.{Word, Number, Text, Block, Mark}
 use Rattle.sm_lex.specs.declared.byte.First.TheVariants.{Quote as a_quote}
 use Rattle.sm_lex.specs.Bytes.{FirstIs}
 use Rattle.sm_tree.specs.Numbers.{IsNumber}
 use Rattle.sm_lex.specs.Lines.{line_end_len}
 use Rattle.sm_lex.specs.Values.{opener_len, string_value, block_value}
-use Rattle.sm_lex.specs.Tokens.{first_end, one_quote, three_quotes, TokenAt, Lexeme, lexeme_of, IsNextToken, TokensLead}
+use Rattle.sm_lex.specs.Tokens.{first_end, one_quote, three_quotes, TokenAt, Lexeme, IsNextToken, TokensLead}
 use Rattle.sm_lex.specs.Shapes.{IsQuoted, IsStringText, IsBlockText, HasShape}
 use Rattle.sm_lex.specs.Answers.{IsWhole}
 use Rattle.sm_lex.proofs.Classes.{quote_is}

@@ -1,6 +1,6 @@
 -- Events with the severities that they have: errors, and events of rules.
-use Rattle.std.proofs.Common.{◌≡◌, ℕ, List, [], ◌∷◌, map, refl, sym, ap, ◌∙◌, subst}
-use Rattle.sm_model.specs.EventView.{AreErrors, EventTold, event_view, events_view}
+use Rattle.std.proofs.Common.{◌≡◌, List, [], ◌∷◌, map, refl, sym, ap, ◌∙◌, subst}
+use Rattle.sm_model.specs.EventView.{AreErrors, EventTold, events_view}
 use Rattle.sm_model.specs.Graphs.{GraphMaps}
 use Rattle.sm_model.specs.declared.event.ModelEvent.{ModelEvent}
 use Rattle.sm_model.specs.declared.event.Severity.{Severity}

@@ -1,11 +1,10 @@
 -- What is compiled from a text finds what the text's own reading finds, and what isn't compiled the crate refuses; and the test holds
 -- exactly of the texts of which some part matches.
-use Rattle.std.proofs.Common.{◌≡◌, ◌≢◌, ◌↔◌, ◌∙◌, ℕ, ◌+◌, ◌≤◌, ◌<◌, Bool, true, false, List, length, get_or, Option, Some, None, IsSomeAnd}
-use Rattle.std.proofs.Common.{is_some, IsCharBoundary, refl, sym, ap, subst, arith}
+use Rattle.std.proofs.Common.{◌≡◌, ◌≢◌, ◌↔◌, ℕ, ◌≤◌, ◌<◌, Bool, true, false, List, length, get_or, Some, None, IsSomeAnd}
+use Rattle.std.proofs.Common.{is_some, IsCharBoundary, sym, subst, arith}
 use Rattle.std.specs.Prelude.{Result, Ok, Err, IfOk, IsTrue}
-use Rattle.std.specs.Str.{chars}
 use Rattle.std.proofs.lemmas.Bool.{false≢true}
-use Rattle.regex_hir.specs.Re.{Re, accept}
+use Rattle.regex_hir.specs.Re.{Re}
 use Rattle.regex_hir.specs.Find.{Match}
 use Rattle.regex_hir.specs.Matches.{Matches}
 use Rattle.regex_hir.specs.Text.{is_boundary}
@@ -20,7 +19,7 @@ use Rattle.regex_syntax.specs.Grammar.{Names, group_count}
 use Rattle.regex.specs.Patterns.{find_str, default_config}
 use Rattle.regex_syntax.specs.declared.error.Error as parser
 use Rattle.regex_syntax.specs.declared.error.ErrorKind.TheVariants.{OutOfMemory}
-use Rattle.regex.specs.declared.error.Error.TheVariants.{Syntax, CompiledTooBig}
+use Rattle.regex.specs.declared.error.Error.TheVariants.{Syntax}
 use Rattle.regex.proofs.ForCallers.{is_match_alike, find_str_sound, find_str_complete}
 use Rattle.regex.proofs.Utf8Lemmas.{IsCharBoundary-of_test}
 use Rattle.sm_shapes.specs.Regexes.{Reading, reading, IsRegex, found_in, regex_finds, FindsAsWritten, MatchesPart, IsRefusedByCrate}

@@ -1,5 +1,5 @@
 -- A tree that was parsed for text matches whole characters alone.
-use Rattle.std.proofs.Common.{ℕ, Bool, true, [], map, sym, ap, ◌∙◌, subst, refl}
+use Rattle.std.proofs.Common.{true, [], map, sym, ap, ◌∙◌, subst, refl}
 use Rattle.std.proofs.lemmas.List.Elements.{All-nil}
 use Rattle.regex_hir.specs.Re.{Re}
 use Rattle.regex_hir.specs.Meaning.{meaning, node_meaning, cat_all, alt_all}

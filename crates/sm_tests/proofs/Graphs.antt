@@ -1,7 +1,7 @@
 -- What a graph is made from in the tests.
-use Rattle.std.proofs.Common.{◌≡◌, ◌+◌, ◌<◌, ◌^◌, ◌∷◌, [], ℕ, List, codes, length, map, refl, sym, ap, subst, arith, inl, inr, ⊎_elim}
+use Rattle.std.proofs.Common.{◌≡◌, ◌∷◌, [], List, codes, length, map, sym, ap, subst, arith, ⊎_elim}
 use Rattle.std.proofs.lemmas.List.{length-map, length-append}
-use Rattle.sm_tree.specs.Node.{Node, Members, no_members, object}
+use Rattle.sm_tree.specs.Node.{no_members, object}
 use Rattle.sm_model.specs.Formed.{DifferInNames, HaveForm}
 use Rattle.sm_model.specs.Given.{AreGiven, AreGivenMembers, AreNodes, HasShapeBody, are_under, given_names}
 use Rattle.sm_model.specs.Graphs.{MemberGiven, ShapeGiven, given_member}

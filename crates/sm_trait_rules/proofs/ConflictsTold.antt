@@ -48,7 +48,6 @@ use Rattle.sm_trait_rules.specs.steps.Conflicting.{IsGreaterThere, IsHeldThere, 
 use Rattle.sm_rules.specs.TraitShapes.{Excludes, HasConflict, HasExcludedTrait}
 use Rattle.sm_passes.proofs.PartsPut.{puts_parts}
 use Rattle.sm_trait_rules.proofs.PlacesTold.{row_reads, some_of}
-use Rattle.sm_model.specs.EventView.{EventTold}
 
 -- the entries of a list, where one is there
 abbrev listed_in : Option Node → Nodes

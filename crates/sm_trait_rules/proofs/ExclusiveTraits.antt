@@ -23,8 +23,6 @@ use Rattle.sm_trait_rules.specs.steps.Excluding.{ToldGreater, is_greater, is_sma
 use Rattle.sm_passes.specs.Putting.{ToldOf}
 use Rattle.sm_passes.proofs.EventsPut.{puts_both, puts_same}
 use Rattle.sm_trait_rules.proofs.Singles.{any_split}
-use Rattle.sm_model.proofs.Worklist.{apart}
-use Rattle.sm_model.specs.PreludeShapes.{is_prelude_id}
 
 -- one of these passes
 any_of : (p : List ℕ → Bool) (xs : List (List ℕ)) (y : List ℕ) → Contains xs y → p y ≡ true → list_any p xs ≡ true

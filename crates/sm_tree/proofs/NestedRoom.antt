@@ -1,5 +1,5 @@
 -- What is open in a reader: how much, and what is left where the innermost ends.
-use Rattle.std.proofs.Common.{◌≡◌, ◌≤◌, List, ◌∷◌, drop, length, Option, None, Some, ap, sym, ◌∙◌, arith}
+use Rattle.std.proofs.Common.{◌≡◌, ◌≤◌, List, drop, length, Option, None, Some, ap, sym, ◌∙◌, arith}
 use Rattle.std.proofs.lemmas.List.{length-drop}
 use Rattle.sm_tree.specs.Limits.{most_levels}
 use Rattle.sm_tree.specs.Nested.{nested_in, LosesInnermost}

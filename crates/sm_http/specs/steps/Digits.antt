@@ -1,5 +1,5 @@
 -- Digits without the zeros in front, by which numbers of any length are compared.
-use Rattle.std.specs.Prelude.{ℕ, Bool, List, [], ◌∷◌, ◌==◌, if◌then◌else◌, Option, Some, None}
+use Rattle.std.specs.Prelude.{ℕ, Bool, List, [], ◌∷◌, ◌==◌, if◌then◌else◌}
 use Rattle.sm_bytes.specs.Ascii.{digit_zero}
 
 abbrev pub is_zero_digit : ℕ → Bool

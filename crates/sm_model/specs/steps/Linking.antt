@@ -1,5 +1,5 @@
 -- What the parts of `Graph::links` append.
-use Rattle.std.specs.Prelude.{◌≡◌, ◌⊎◌, ◌↔◌, ◌<◌, ℕ, List, [], ◌∷◌, Option, Some, None}
+use Rattle.std.specs.Prelude.{◌≡◌, ◌⊎◌, ◌<◌, ℕ, List, [], ◌∷◌, Option, Some, None}
 use Rattle.std.specs.List.{Contains}
 use Rattle.sm_tree.specs.Node.{Node}
 use Rattle.sm_model.specs.Graphs.{Entry, shape_entry, member_entry}

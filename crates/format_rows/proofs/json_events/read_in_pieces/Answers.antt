@@ -1,7 +1,5 @@
 -- The builder stands for what the pieces so far complete, and at the end for the events of one whole tree.
-use Rattle.std.proofs.Common.{refl, sym, ap, subst, ◌∙◌, ◌≡◌, ◌++◌, List, ℕ, [], None}
-use Rattle.sm_tree.specs.Events.{NodeEvent, events}
-use Rattle.sm_tree.specs.Building.{so_far}
+use Rattle.std.proofs.Common.{sym, ap, ◌∙◌, []}
 use Rattle.sm_tree.specs.BuilderView.{building_of}
 use Rattle.sm_tree.specs.Streams.{unnumbered}
 use Rattle.sm_json.proofs.Completed.{none_yet}

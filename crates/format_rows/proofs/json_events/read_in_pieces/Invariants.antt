@@ -1,4 +1,4 @@
-use Rattle.std.proofs.Common.{◌≡◌, ◌-◌, ◌≤◌, length, List, ℕ, None}
+use Rattle.std.proofs.Common.{◌≡◌, ◌-◌, length, List, ℕ, None}
 use Rattle.sm_tree.specs.Building.{so_far}
 use Rattle.sm_tree.specs.BuilderView.{building_of}
 use Rattle.sm_tree.specs.Streams.{unnumbered}

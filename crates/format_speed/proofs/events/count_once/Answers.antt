@@ -1,5 +1,5 @@
 -- The sink counts the events that the pieces so far complete, and at the end those of the whole text.
-use Rattle.std.proofs.Common.{refl, sym, ap, subst, ◌∙◌, ◌≡◌, ◌++◌, ◌-◌, ◌+◌, List, ℕ, [], arith, length, take, drop, None}
+use Rattle.std.proofs.Common.{sym, ap, subst, ◌∙◌, ◌≡◌, ◌++◌, ◌-◌, ◌+◌, arith, length, take, drop}
 use Rattle.std.proofs.Math.Seq.{take-add}
 use Rattle.std.proofs.lemmas.List.{take_all}
 use Rattle.sm_tree.specs.Timing.{Follows}

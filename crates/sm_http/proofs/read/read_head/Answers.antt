@@ -3,7 +3,6 @@ use Rattle.std.specs.Io.KnownBytes.{prepend_known, Keeps}
 use Rattle.sm_http.specs.declared.see.SeenHead.TheVariants.{Part}
 use Rattle.sm_http.specs.Limits.{head_limit}
 use Rattle.sm_http.specs.steps.Seeing.{SeesHead}
-use Rattle.sm_http.specs.declared.held.Unfilled.TheVariants.{Failed}
 use Rattle.sm_http.proofs.ReadingHeads.{ahead_same, ahead_kept, refused_ahead, large_ahead, ended_ahead, open_part}
 use Rattle.sm_http.proofs.ReadingHeads.{part_undecided, never_fault}
 use Rattle.sm_io.proofs.Told.{loses_none, loses_both}

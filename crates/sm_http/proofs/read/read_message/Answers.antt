@@ -1,4 +1,4 @@
-use Rattle.std.proofs.Common.{sym, subst, arith, Some, Ok}
+use Rattle.std.proofs.Common.{sym, subst, Some, Ok}
 use Rattle.std.specs.Io.KnownBytes.{prepend_known}
 use Rattle.sm_http.specs.declared.message.BodyLeft.TheVariants.{Known}
 use Rattle.sm_http.specs.Calls.{ReadsAHead, ReadsAMessage}

@@ -1,4 +1,4 @@
-use Rattle.std.proofs.Common.{◌≡◌, map, option_map, string_bytes, sym, subst, true}
+use Rattle.std.proofs.Common.{map, option_map, string_bytes, sym, subst}
 use Rattle.regex_hir.specs.Meaning.{meaning}
 use Rattle.regex_syntax.specs.Verdict.{Reads, Refuses}
 use Rattle.regex_syntax.specs.WellFormed.{IsWellFormed}

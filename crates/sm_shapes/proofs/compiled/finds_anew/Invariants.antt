@@ -1,4 +1,4 @@
-use Rattle.std.proofs.Common.{◌≡◌, ◌-◌, ◌≤◌, length, true}
+use Rattle.std.proofs.Common.{◌≡◌, ◌-◌, ◌≤◌, length}
 use Rattle.regex.specs.Patterns.{find_str}
 use Rattle.regex_meta.specs.Programs.{pattern_of}
 use Rattle.sm_shapes.proofs.compiled.finds_anew.Given as goal

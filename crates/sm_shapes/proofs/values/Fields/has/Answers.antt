@@ -1,9 +1,7 @@
-use Rattle.std.proofs.Common.{◌≡◌, ◌∙◌, sym, ap, subst, nat_eq, length}
-use Rattle.std.specs.Prelude.{Some, None, slice_get}
+use Rattle.std.proofs.Common.{◌≡◌, ◌∙◌, sym, ap, length}
+use Rattle.std.specs.Prelude.{Some, slice_get}
 use Rattle.std.proofs.lemmas.Bool.Decides.{Decides-ltb}
 use Rattle.std.proofs.lemmas.Option.{slice_get-get_or, slice_get_past}
-use Rattle.sm_shapes.specs.FieldPuts.{FieldsRise, IsPlaceOf}
-use Rattle.sm_shapes.proofs.ValueViews.{view_fields}
 use Rattle.sm_shapes.proofs.FieldPlaces.{has_place, number_some, number_past, at_least}
 use Rattle.sm_shapes.proofs.values.Fields.has.Goals as goal
 
