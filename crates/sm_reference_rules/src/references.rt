@@ -1,7 +1,7 @@
 // What bodies refer to, one reference after the other.
 ghost use Rattle.std.specs.Prelude.{◌≡◌, ℕ, List, MatchOption, OnOk, Some};
 ghost use Rattle.std.specs.FinMap as fin;
-ghost use Rattle.sm_tree.specs.Node.{Members, members_of, object, text};
+ghost use Rattle.sm_tree.specs.Node.{Members, members_of, object};
 ghost use Rattle.sm_tree.specs.View.{members_view, node_of};
 ghost use Rattle.sm_model.specs.EventView.{EventTold};
 ghost use Rattle.sm_model.specs.GraphView.{IsShapeNumber, maps_of};
