@@ -31,32 +31,7 @@ pub(crate) fn put_again(
     ensures { OnOk result
         (Puts (ToldAgain naming (maps_of graph.now) (id_of_number graph.now shape)) events.old.items events.new.items) }
 {
-    put_among(
-        alloc,
-        graph,
-        naming,
-        shape,
-        members_of(graph, shape),
-        events,
-    )?;
-    Ok(())
-}
-
-fn put_among(
-    alloc: Global,
-    graph: &Graph,
-    naming: Naming,
-    shape: u32,
-    members: &[u32],
-    events: &mut Events,
-) -> Put
-    requires shape { IsShapeNumber graph.now shape }
-    requires numbers { AreShapeNumbers graph.now members.now }
-    ensures { OnOk result
-        (Puts (Below (ToldAt (ToldName naming graph.now shape) (name_rows naming graph.now shape members.now))
-        (length (name_rows naming graph.now shape members.now))) events.old.items events.new.items) }
-{
-    let rows = name_rows(alloc, graph, naming, shape, members)?;
+    let rows = name_rows(alloc, graph, naming, shape, members_of(graph, shape))?;
     put_later(
         alloc,
         graph,
