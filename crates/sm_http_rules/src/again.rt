@@ -1,12 +1,10 @@
 // Names that earlier members of a shape have too.
-ghost use Rattle.std.specs.Prelude.{◌≡◌, ◌++◌, [], ℕ, List, IfOk, OnOk, length, true};
+ghost use Rattle.std.specs.Prelude.{◌≡◌, ◌++◌, [], ℕ, List, IfOk, OnOk, true};
 ghost use Rattle.std.specs.List.{cons_option};
 ghost use Rattle.sm_model.specs.GraphView.{AreShapeNumbers, IsShapeNumber, maps_of};
 ghost use Rattle.sm_model.specs.Reaching.{id_of_number};
 ghost use Rattle.sm_rules.specs.RuleEvents.{Puts};
-ghost use Rattle.sm_passes.specs.Earlier.{ToldAt};
 ghost use Rattle.sm_passes.specs.Owned.{is_own_shape};
-ghost use Rattle.sm_passes.specs.Putting.{Below};
 ghost use Rattle.sm_http_rules.specs.steps.Naming.{ToldAgain, ToldName, name_row, name_rows};
 
 use crate::naming::{Naming, key_of, name_of};

@@ -34,12 +34,7 @@ pub fn put_defaults(alloc: Global, graph: &Graph, marks: &ValueMarks, events: &m
 }
 
 // Where these are the marks of the shapes for which nodes are checked.
-fn put_by_marks(
-    alloc: Global,
-    graph: &Graph,
-    checked: &[bool],
-    events: &mut Events,
-) -> Put
+fn put_by_marks(alloc: Global, graph: &Graph, checked: &[bool], events: &mut Events) -> Put
     requires { AreCheckedMarks graph.now checked.now }
     ensures { OnOk result
         (Puts (IsEventOf DefaultValue (HasWrongDefault (maps_of graph.now))) events.old.items events.new.items) }
