@@ -1,7 +1,7 @@
 -- What is told of the carriers of each trait by its selector is what the rule says.
 use Rattle.std.proofs.Common.{◌≡◌, ◌<◌, ℕ, zero, suc, Bool, true, false, cond, List, [], ◌∷◌, ◌++◌, Option, Some, None, get_or, length, map}
 use Rattle.std.proofs.Common.{refl, sym, ◌+◌, ap, ◌∙◌, subst, take, arith}
-use Rattle.std.specs.Prelude.{◌&&◌, ◌||◌, ◌==◌, ◌↔◌, codes, is_some, not}
+use Rattle.std.specs.Prelude.{◌&&◌, ◌==◌, ◌↔◌, codes, is_some, not}
 use Rattle.std.specs.FinMap as fin
 use Rattle.std.specs.List.{Contains}
 use Rattle.std.proofs.lemmas.Bool.{eqb-true}
