@@ -46,4 +46,4 @@ pub use traits::{
     field_of, format_of, is_any_number, is_number, is_object, is_text, number_in, number_of,
     text_in_trait,
 };
-pub use unserved::is_left_out;
+pub use unserved::{is_left_out, is_unserved};
