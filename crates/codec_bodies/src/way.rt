@@ -112,22 +112,14 @@ impl BodyWay {
         sm_codec::laws::node_leaves_written();
         sm_codec::laws::cbor_leaves_written();
         match self {
-            BodyWay::Json(json_names) => write_body(
-                alloc,
-                BodyForm::Json,
-                table,
-                shape,
-                value,
-                &JsonLeaves { json_names },
-            ),
-            BodyWay::Node(raw_blobs) => write_body(
-                alloc,
-                BodyForm::Json,
-                table,
-                shape,
-                value,
-                &NodeLeaves { raw_blobs },
-            ),
+            BodyWay::Json(json_names) => {
+                let leaves = JsonLeaves { json_names };
+                write_body(alloc, BodyForm::Json, table, shape, value, &leaves)
+            }
+            BodyWay::Node(raw_blobs) => {
+                let leaves = NodeLeaves { raw_blobs };
+                write_body(alloc, BodyForm::Json, table, shape, value, &leaves)
+            }
             BodyWay::Cbor => write_body(alloc, BodyForm::Cbor, table, shape, value, &CborLeaves),
         }
     }
@@ -148,22 +140,14 @@ impl BodyWay {
         sm_codec::laws::node_leaves_written();
         sm_codec::laws::cbor_leaves_written();
         match self {
-            BodyWay::Json(json_names) => bytes_by_tree(
-                alloc,
-                BodyForm::Json,
-                table,
-                shape,
-                value,
-                &JsonLeaves { json_names },
-            ),
-            BodyWay::Node(raw_blobs) => bytes_by_tree(
-                alloc,
-                BodyForm::Json,
-                table,
-                shape,
-                value,
-                &NodeLeaves { raw_blobs },
-            ),
+            BodyWay::Json(json_names) => {
+                let leaves = JsonLeaves { json_names };
+                bytes_by_tree(alloc, BodyForm::Json, table, shape, value, &leaves)
+            }
+            BodyWay::Node(raw_blobs) => {
+                let leaves = NodeLeaves { raw_blobs };
+                bytes_by_tree(alloc, BodyForm::Json, table, shape, value, &leaves)
+            }
             BodyWay::Cbor => bytes_by_tree(alloc, BodyForm::Cbor, table, shape, value, &CborLeaves),
         }
     }

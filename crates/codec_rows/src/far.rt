@@ -53,8 +53,8 @@ fn show_body(
     alloc: Global,
     table: &Table,
     shape: u32,
-    way: BodyWay,
     value: &Value,
+    way: BodyWay,
     out: &mut String,
 ) -> Result<(), NoMemory>
     requires shaped { Shaped (table_data table.now) }
@@ -101,7 +101,7 @@ pub fn show_far(
 {
     match far {
         Far::Value => show_value(table, value, out),
-        Far::Body(way) => show_body(alloc, table, shape, way, value, out),
+        Far::Body(way) => show_body(alloc, table, shape, value, way, out),
         Far::Order => show_entries(value, out),
     }
 }

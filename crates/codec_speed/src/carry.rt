@@ -99,29 +99,8 @@ fn carry_once(
     }
 }
 
-// How many bytes a body has on the other side that is carried so many times, and at least once.
-fn carry_times(
-    alloc: Global,
-    table: &Table,
-    shape: u32,
-    carriage: Carriage,
-    body: &[u8],
-) -> Result<usize, CarryRefusal>
-    requires number { shape < shape_count (table_data table.now) }
-    requires shaped { Shaped (table_data table.now) }
-    requires pass { DefaultsPass (table_data table.now) is_part }
-{
-    for _ in 1..carriage.turns {
-        match carry_once(alloc, table, shape, carriage, body) {
-            Ok(_) => {}
-            Err(refusal) => return Err(refusal),
-        }
-    }
-    carry_once(alloc, table, shape, carriage, body)
-}
-
-/// How many bytes a body has on the other side, by the table of these shapes, in which it is one of the shape with this name. It is carried as
-/// often as is asked, and at least once.
+/// How many bytes a body has on the other side, by the table of these shapes, in which it is one of the shape with this name. It is
+/// carried as often as is asked, and at least once.
 ///
 /// # Errors
 ///
@@ -146,5 +125,8 @@ pub fn carried(
     if !is_shape(&table, shape) {
         return Err(CarryRefusal::Table);
     }
-    carry_times(alloc, &table, shape, carriage, body)
+    for _ in 1..carriage.turns {
+        carry_once(alloc, &table, shape, carriage, body)?;
+    }
+    carry_once(alloc, &table, shape, carriage, body)
 }

@@ -1,12 +1,10 @@
 // Names that earlier members of a shape have too.
-ghost use Rattle.std.specs.Prelude.{◌≡◌, ◌++◌, [], ℕ, List, IfOk, OnOk, length, true};
+ghost use Rattle.std.specs.Prelude.{◌≡◌, ◌++◌, [], ℕ, List, IfOk, OnOk, true};
 ghost use Rattle.std.specs.List.{cons_option};
 ghost use Rattle.sm_model.specs.GraphView.{AreShapeNumbers, IsShapeNumber, maps_of};
 ghost use Rattle.sm_model.specs.Reaching.{id_of_number};
 ghost use Rattle.sm_rules.specs.RuleEvents.{Puts};
-ghost use Rattle.sm_passes.specs.Earlier.{ToldAt};
 ghost use Rattle.sm_passes.specs.Owned.{is_own_shape};
-ghost use Rattle.sm_passes.specs.Putting.{Below};
 ghost use Rattle.sm_http_rules.specs.steps.Naming.{ToldAgain, ToldName, name_row, name_rows};
 
 use crate::naming::{Naming, key_of, name_of};
@@ -31,32 +29,7 @@ pub(crate) fn put_again(
     ensures { OnOk result
         (Puts (ToldAgain naming (maps_of graph.now) (id_of_number graph.now shape)) events.old.items events.new.items) }
 {
-    put_among(
-        alloc,
-        graph,
-        naming,
-        shape,
-        members_of(graph, shape),
-        events,
-    )?;
-    Ok(())
-}
-
-fn put_among(
-    alloc: Global,
-    graph: &Graph,
-    naming: Naming,
-    shape: u32,
-    members: &[u32],
-    events: &mut Events,
-) -> Put
-    requires shape { IsShapeNumber graph.now shape }
-    requires numbers { AreShapeNumbers graph.now members.now }
-    ensures { OnOk result
-        (Puts (Below (ToldAt (ToldName naming graph.now shape) (name_rows naming graph.now shape members.now))
-        (length (name_rows naming graph.now shape members.now))) events.old.items events.new.items) }
-{
-    let rows = name_rows(alloc, graph, naming, shape, members)?;
+    let rows = name_rows(alloc, graph, naming, shape, members_of(graph, shape))?;
     put_later(
         alloc,
         graph,

@@ -79,7 +79,9 @@ impl AtEach for BoundTargets<'_> {
 
     fn put_at(&self, alloc: Global, graph: &Graph, number: u32, events: &mut Events) -> Put {
         if is_own_shape(graph, number) {
-            put_on_sides(alloc, graph, self.sides, self.leading, number, events)?;
+            put_on_side(alloc, graph, self, number, BindingSide::Input, events)?;
+            put_on_side(alloc, graph, self, number, BindingSide::Output, events)?;
+            put_on_side(alloc, graph, self, number, BindingSide::Error, events)?;
             Ok(())
         } else {
             Ok(())
@@ -87,74 +89,27 @@ impl AtEach for BoundTargets<'_> {
     }
 }
 
-// Of a shape, on each side.
-fn put_on_sides(
-    alloc: Global,
-    graph: &Graph,
-    sides: &Sides,
-    leading: &[bool],
-    shape: u32,
-    events: &mut Events,
-) -> Put
-    requires shape { IsShapeNumber graph.now shape }
-    requires own { is_own_shape (maps_of graph.now) (id_of_number graph.now shape) ≡ true }
-    requires sides { AreSides graph.now sides.now }
-    requires leading { AreLeading graph.now leading.now }
-    ensures { OnOk result
-        (Puts (IsEventIn HttpTarget (IsBoundWrongly (maps_of graph.now)) (home_of_binding (maps_of graph.now))
-        (id_of_number graph.now shape)) events.old.items events.new.items) }
-{
-    put_on_side(
-        alloc,
-        graph,
-        sides,
-        leading,
-        BindingSide::Input,
-        shape,
-        events,
-    )?;
-    put_on_side(
-        alloc,
-        graph,
-        sides,
-        leading,
-        BindingSide::Output,
-        shape,
-        events,
-    )?;
-    put_on_side(
-        alloc,
-        graph,
-        sides,
-        leading,
-        BindingSide::Error,
-        shape,
-        events,
-    )?;
-    Ok(())
-}
-
+// Of a shape, on one side.
 fn put_on_side(
     alloc: Global,
     graph: &Graph,
-    sides: &Sides,
-    leading: &[bool],
-    side: BindingSide,
+    rule: &BoundTargets<'_>,
     shape: u32,
+    side: BindingSide,
     events: &mut Events,
 ) -> Put
     requires shape { IsShapeNumber graph.now shape }
     requires own { is_own_shape (maps_of graph.now) (id_of_number graph.now shape) ≡ true }
-    requires sides { AreSides graph.now sides.now }
-    requires leading { AreLeading graph.now leading.now }
+    requires sides { AreSides graph.now rule.now.sides.now }
+    requires leading { AreLeading graph.now rule.now.leading.now }
     ensures { OnOk result
         (Puts (ToldOnSide (maps_of graph.now) (side_said side) (id_of_number graph.now shape)) events.old.items events.new.items) }
 {
-    if is_on(sides, side, shape as usize) {
+    if is_on(rule.sides, side, shape as usize) {
         put_of_members(
             alloc,
             graph,
-            leading,
+            rule.leading,
             side,
             members_of(graph, shape),
             events,
@@ -195,7 +150,9 @@ fn put_of_members(
         events.old.items events.new.items) }
 {
     let payload = has_payload(graph, members);
-    put_each_member(alloc, graph, leading, side, payload, members, events)?;
+    for member in members {
+        put_member(alloc, graph, leading, side, payload, *member, events)?;
+    }
     Ok(())
 }
 
@@ -212,26 +169,6 @@ fn has_payload(graph: &Graph, members: &[u32]) -> bool
     false
 }
 
-fn put_each_member(
-    alloc: Global,
-    graph: &Graph,
-    leading: &[bool],
-    side: BindingSide,
-    payload: bool,
-    members: &[u32],
-    events: &mut Events,
-) -> Put
-    requires members { AreShapeNumbers graph.now members.now }
-    requires leading { length leading.now ≡ length (entries_of graph.now) }
-    ensures { OnOk result
-        (Puts (ToldOf (ToldBoundMember graph.now leading.now side payload) members.now) events.old.items events.new.items) }
-{
-    for member in members {
-        put_member(alloc, graph, leading, side, payload, *member, events)?;
-    }
-    Ok(())
-}
-
 fn put_member(
     alloc: Global,
     graph: &Graph,
@@ -246,7 +183,7 @@ fn put_member(
     ensures { OnOk result
         (Puts (ToldBoundMember graph.now leading.now side payload member) events.old.items events.new.items) }
 {
-    put_bindings(alloc, graph, leading, bindings_of(side), member, events)?;
+    put_bindings(alloc, graph, leading, member, bindings_of(side), events)?;
     put_beside(alloc, graph, side, payload, member, events)?;
     Ok(())
 }
@@ -256,8 +193,8 @@ fn put_bindings(
     alloc: Global,
     graph: &Graph,
     leading: &[bool],
-    bindings: &[BindingKind],
     member: u32,
+    bindings: &[BindingKind],
     events: &mut Events,
 ) -> Put
     requires member { IsShapeNumber graph.now member }
@@ -266,7 +203,7 @@ fn put_bindings(
         (Puts (ToldOf (ToldBinding graph.now leading.now member) bindings.now) events.old.items events.new.items) }
 {
     for binding in bindings {
-        put_binding(alloc, graph, leading, *binding, member, events)?;
+        put_binding(alloc, graph, leading, member, *binding, events)?;
     }
     Ok(())
 }
@@ -275,8 +212,8 @@ fn put_binding(
     alloc: Global,
     graph: &Graph,
     leading: &[bool],
-    binding: BindingKind,
     member: u32,
+    binding: BindingKind,
     events: &mut Events,
 ) -> Put
     requires member { IsShapeNumber graph.now member }

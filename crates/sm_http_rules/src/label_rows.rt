@@ -1,5 +1,5 @@
 // Labels of a pattern, and members of an input that are bound to labels, as rows of names.
-ghost use Rattle.std.specs.Prelude.{◌≡◌, ◌++◌, ◌∷◌, [], IfOk, OnOk, length, true};
+ghost use Rattle.std.specs.Prelude.{◌≡◌, ◌++◌, ◌∷◌, [], IfOk, OnOk, length};
 ghost use Rattle.std.specs.List.{Contains};
 ghost use Rattle.sm_model.specs.GraphView.{AreShapeNumbers, IsShapeNumber, entries_of, maps_of};
 ghost use Rattle.sm_model.specs.Reaching.{id_of_number};
@@ -144,26 +144,9 @@ fn put_bound_row(
     requires member { IsShapeNumber graph.now member }
     ensures { OnOk result (Joins (Contains rows.old.items) (BoundRow graph.now input member) (Contains rows.new.items)) }
 {
-    if is_bound(graph, member) {
-        put_bound_name(alloc, graph, input, member, rows)?;
-        Ok(())
-    } else {
-        Ok(())
+    if !is_bound(graph, member) {
+        return Ok(());
     }
-}
-
-fn put_bound_name(
-    alloc: Global,
-    graph: &Graph,
-    input: u32,
-    member: u32,
-    rows: &mut Vec<(Text, u32)>,
-) -> Result<(), NoMemory>
-    requires input { IsShapeNumber graph.now input }
-    requires member { IsShapeNumber graph.now member }
-    requires bound { is_bound (maps_of graph.now) (id_of_number graph.now member) ≡ true }
-    ensures { OnOk result (Joins (Contains rows.old.items) (BoundRow graph.now input member) (Contains rows.new.items)) }
-{
     match member_name(graph, input, member) {
         Some(name) => {
             let name = Text::copy(alloc, name)?;

@@ -62,17 +62,17 @@ fn folded_ids(alloc: Global, graph: &Graph) -> Result<Vec<(Text, u32)>, NoMemory
 fn put_folded(
     alloc: Global,
     graph: &Graph,
-    number: u32,
+    shape: u32,
     rows: &mut Vec<(Text, u32)>,
 ) -> Result<(), NoMemory>
-    requires { IsShapeNumber graph.now number }
-    ensures { OnOk result (rows.new.items ≡ rows.old.items ++ folded_at graph.now number) }
+    requires { IsShapeNumber graph.now shape }
+    ensures { OnOk result (rows.new.items ≡ rows.old.items ++ folded_at graph.now shape) }
 {
-    if !is_own_shape(graph, number) {
+    if !is_own_shape(graph, shape) {
         return Ok(());
     }
-    let folded = folded(alloc, id_text(graph, number))?;
-    rows.push((folded, number))?;
+    let folded = folded(alloc, id_text(graph, shape))?;
+    rows.push((folded, shape))?;
     Ok(())
 }
 

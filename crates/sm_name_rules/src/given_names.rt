@@ -17,7 +17,8 @@ use sm_passes::numbers::rising;
 use sm_tree::{NoMemory, Text, Tree};
 use std::alloc::Global;
 
-/// The numbers whose names may be told at a service, rising, where these pairs are in `rename`. n log n in the twins and the pairs, beside the look-up of each id.
+/// The numbers whose names may be told at a service, rising, where these pairs are in `rename`. n log n in the twins and the pairs,
+/// beside the look-up of each id.
 pub(crate) fn numbers_alike(
     alloc: Global,
     graph: &Graph,
@@ -28,26 +29,12 @@ pub(crate) fn numbers_alike(
     ensures rise { IfOk result (λ ns. IsStrictlyIncreasing ns.items) }
     ensures alike { IfOk result (λ ns. HasAlike graph.now names.now.inside.now pairs.now ns.items) }
 {
-    let numbers = numbers_in_turn(alloc, graph, names, pairs)?;
-    Ok(rising(numbers))
-}
-
-// Those, in any order.
-fn numbers_in_turn(
-    alloc: Global,
-    graph: &Graph,
-    names: &NamesInside,
-    pairs: &[(Text, Tree)],
-) -> Result<Vec<u32>, NoMemory>
-    requires names { AreNamesInside graph.now names.now }
-    ensures { IfOk result (λ ns. HasAlike graph.now names.now.inside.now pairs.now ns.items) }
-{
     let mut numbers: Vec<u32> = Vec::new(alloc);
     numbers.extend_from_slice(names.twins())?;
     for pair in pairs {
         push_pair(alloc, graph, names, pair, &mut numbers)?;
     }
-    Ok(numbers)
+    Ok(rising(numbers))
 }
 
 // What a pair of `rename` names, and one whose name it gives.

@@ -1,7 +1,7 @@
 // What bodies refer to, one reference after the other.
 ghost use Rattle.std.specs.Prelude.{◌≡◌, ℕ, List, MatchOption, OnOk, Some};
 ghost use Rattle.std.specs.FinMap as fin;
-ghost use Rattle.sm_tree.specs.Node.{Members, members_of, object, text};
+ghost use Rattle.sm_tree.specs.Node.{Members, members_of, object};
 ghost use Rattle.sm_tree.specs.View.{members_view, node_of};
 ghost use Rattle.sm_model.specs.EventView.{EventTold};
 ghost use Rattle.sm_model.specs.GraphView.{IsShapeNumber, maps_of};
@@ -182,7 +182,7 @@ fn put_field<A: AtReference>(
     }
 }
 
-// Of each id that a value refers to.
+// Of each id that a value refers to: the text that it is, or those that are its entries or its values.
 fn put_value<A: AtReference>(
     alloc: Global,
     graph: &Graph,
@@ -202,40 +202,18 @@ fn put_value<A: AtReference>(
             rule.put_for(alloc, graph, shape, relation, id, events)?;
             Ok(())
         }
-        None => {
-            put_parts(alloc, graph, rule, shape, relation, value, events)?;
-            Ok(())
-        }
-    }
-}
-
-// The same where it is no text.
-fn put_parts<A: AtReference>(
-    alloc: Global,
-    graph: &Graph,
-    rule: &A,
-    shape: u32,
-    relation: Relation,
-    value: &Tree,
-    events: &mut Events,
-) -> Put
-    requires number { IsShapeNumber graph.now shape }
-    requires no_text { (t : List ℕ) → node_of value.now ≡ text t → ⊥ }
-    ensures { OnOk result
-        (Puts (ToldIn (A.tells rule.now (maps_of graph.now) (id_of_number graph.now shape) relation) (node_of value.now))
-        events.old.items events.new.items) }
-{
-    match entries_of(value) {
-        Some(items) => {
-            put_entries(alloc, graph, rule, shape, relation, items, events)?;
-            Ok(())
-        }
-        None => match pairs_of(value) {
-            Some(pairs) => {
-                put_values(alloc, graph, rule, shape, relation, pairs, events)?;
+        None => match entries_of(value) {
+            Some(items) => {
+                put_entries(alloc, graph, rule, shape, relation, items, events)?;
                 Ok(())
             }
-            None => Ok(()),
+            None => match pairs_of(value) {
+                Some(pairs) => {
+                    put_values(alloc, graph, rule, shape, relation, pairs, events)?;
+                    Ok(())
+                }
+                None => Ok(()),
+            },
         },
     }
 }

@@ -46,7 +46,7 @@ pub fn put_unused(alloc: Global, graph: &Graph, ways: &Ways, events: &mut Events
     Ok(())
 }
 
-// The same with the services as marks.
+// The same with the services as marks: where there are none, nothing is told.
 fn put_unused_where(
     alloc: Global,
     graph: &Graph,
@@ -61,38 +61,19 @@ fn put_unused_where(
         (Puts (IsEventOf ShapeUnused (IsUnused (maps_of graph.now))) events.old.items events.new.items) }
 {
     if some_marked(services) {
-        put_unused_by(alloc, graph, ways, services, events)?;
+        let used = image_of_walk(alloc, graph, ways, false, services)?;
+        put_each(
+            alloc,
+            graph,
+            &Unused {
+                marks: used.as_slice(),
+            },
+            events,
+        )?;
         Ok(())
     } else {
         Ok(())
     }
-}
-
-// The same where there are some.
-fn put_unused_by(
-    alloc: Global,
-    graph: &Graph,
-    ways: &Ways,
-    services: &[bool],
-    events: &mut Events,
-) -> Put
-    requires ways { AreWays graph.now ways.now }
-    requires services { AreMarks (length (entries_of graph.now))
-        (λ k. is_own_service (maps_of graph.now) (id_of_number graph.now k) ≡ true) services.now }
-    requires some { list_any (λ (b : Bool). b) services.now ≡ true }
-    ensures { OnOk result
-        (Puts (IsEventOf ShapeUnused (IsUnused (maps_of graph.now))) events.old.items events.new.items) }
-{
-    let used = image_of_walk(alloc, graph, ways, false, services)?;
-    put_each(
-        alloc,
-        graph,
-        &Unused {
-            marks: used.as_slice(),
-        },
-        events,
-    )?;
-    Ok(())
 }
 
 fn some_marked(marks: &[bool]) -> bool

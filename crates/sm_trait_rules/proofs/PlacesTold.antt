@@ -1,13 +1,14 @@
 -- What is told of the carriers of each trait by its selector is what the rule says.
 use Rattle.std.proofs.Common.{◌≡◌, ◌<◌, ℕ, zero, suc, Bool, true, false, cond, List, [], ◌∷◌, ◌++◌, Option, Some, None, get_or, length, map}
 use Rattle.std.proofs.Common.{refl, sym, ◌+◌, ap, ◌∙◌, subst, take, arith}
-use Rattle.std.specs.Prelude.{◌&&◌, ◌||◌, ◌==◌, ◌↔◌, codes, is_some, not}
+use Rattle.std.specs.Prelude.{◌&&◌, ◌==◌, ◌↔◌, codes, is_some, not}
 use Rattle.std.specs.FinMap as fin
 use Rattle.std.specs.List.{Contains}
 use Rattle.std.proofs.lemmas.Bool.{eqb-true}
 use Rattle.std.proofs.lemmas.List.{get_or_default, length-map, map-append, take_more}
 use Rattle.std.proofs.lemmas.List.Elements.{Contains-get_or}
 use Rattle.std.proofs.lemmas.Option.{none-some, same_Some}
+use Rattle.std.proofs.Math.Bool.{and-true, or-false}
 use Rattle.sm_tree.specs.Node.{Node}
 use Rattle.sm_model.specs.EventView.{EventTold}
 use Rattle.sm_model.specs.Graphs.{Entry, GraphMaps, shape_entry}
@@ -41,19 +42,11 @@ use Rattle.sm_trait_rules.specs.steps.Placing.{AreFirsts, AreOfText, AreUses, Ar
 use Rattle.sm_trait_rules.specs.steps.Placing.{ToldUnmarked, selector_in, selector_under, told_use}
 use Rattle.sm_rules.specs.TraitShapes.{IsNotPicked, IsTraitShape, selector_of}
 
-or_false : (b : Bool) → (b || false) ≡ b
-or_false true = refl
-or_false false = refl
-
-and_true : (b : Bool) → (b && true) ≡ b
-and_true true = refl
-and_true false = refl
-
 -- the row of the trait `trait`
 pub row_reads : (n : Node) → is_as_one (rows_of trait_id) n ≡ is_trait_value n
 row_reads n =
-    or_false _
-    ∙ (λ i. is_object n && (and_true (where_there is_text (field_of (codes "selector") n)) i
+    or-false _
+    ∙ (λ i. is_object n && (and-true (where_there is_text (field_of (codes "selector") n)) i
     && free are_text_nodes (field_of (codes "conflicts") n) i))
 
 selector_read : (o : Option Node) → text_of (field_in (codes "selector") (that_reads trait_id o)) ≡ selector_in o

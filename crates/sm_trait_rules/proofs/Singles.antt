@@ -1,9 +1,14 @@
 -- Two members of a structure carry a trait exactly where the test says so.
-use Rattle.std.proofs.Common.{◌≡◌, ◌⊎◌, inl, inr, ℕ, Bool, true, false, List, [], ◌∷◌, ◌++◌, refl, sym, ap, ◌∙◌, subst}
+use Rattle.std.proofs.Common.{◌≡◌, ◌⊎◌, inl, inr, ℕ, ◌<◌, ◌+◌, Bool, true, false, List, [], ◌∷◌, ◌++◌, drop, get_or, length, map}
+use Rattle.std.proofs.Common.{refl, sym, ap, ◌∙◌, subst}
 use Rattle.std.specs.Prelude.{◌↔◌, ◌&&◌, ◌||◌, cond}
 use Rattle.std.specs.List.{Contains, list_any}
+use Rattle.std.proofs.lemmas.List.{drop_more}
 use Rattle.sm_model.specs.EventView.{EventTold}
+use Rattle.sm_model.specs.GraphView.{maps_of}
 use Rattle.sm_model.specs.Graphs.{GraphMaps}
+use Rattle.sm_model.specs.Reaching.{id_of_number}
+use Rattle.sm_model.specs.declared.graph.Graph.{Graph}
 use Rattle.sm_model.specs.declared.event.ModelEvent.{ModelEvent}
 use Rattle.sm_model.proofs.OneRising.{contains_behind, contains_either, contains_head, contains_none}
 use Rattle.sm_model.proofs.Worklist.{apart}
@@ -222,3 +227,20 @@ seen_last false = refl
 -- whether two of what is left carry it, or one where one was seen
 abbrev pub twice_from : GraphMaps → List ℕ → Bool → List (List ℕ) → Bool
 twice_from g trait seen ids = cond seen (list_any (carries g trait) ids) (carried_twice g trait ids)
+
+module _ (g : GraphMaps) (trait : List ℕ) (seen : Bool) (id : List ℕ) (ids : List (List ℕ)) where
+  -- by the first of them, where none before it and it both carry it
+  pub first_seen : (carries g trait id && seen) ≡ false
+      → twice_from g trait (seen || carries g trait id) ids ≡ twice_from g trait seen (id ∷ ids)
+  first_seen h = seen_more seen (carries g trait id) (list_any (carries g trait) ids) (carried_twice g trait ids) h
+
+  -- and where they do
+  pub second_seen : (carries g trait id && seen) ≡ true → twice_from g trait seen (id ∷ ids) ≡ true
+  second_seen h = seen_both seen (carries g trait id) (list_any (carries g trait) ids) (carried_twice g trait ids) h
+
+-- the members from a place on are the one there and those behind it
+pub members_from : (g : Graph) (trait : List ℕ) (seen : Bool) (ms : List ℕ) (i : ℕ) → i < length ms
+    → twice_from (maps_of g) trait seen (map (id_of_number g) (get_or ms i 0 ∷ drop (i + 1) ms))
+    ≡ twice_from (maps_of g) trait seen (map (id_of_number g) (drop i ms))
+members_from g trait seen ms i within =
+    ap (λ ks. twice_from (maps_of g) trait seen (map (id_of_number g) ks)) (sym (drop_more ms i 0 within))

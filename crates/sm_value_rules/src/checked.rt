@@ -1,11 +1,10 @@
 // Shapes for which nodes are checked: they have values, and all that they reach is in order and of no type left out.
 ghost use Rattle.std.specs.Prelude.{◌≡◌, ◌++◌, ◌∷◌, [], IfOk, List, MatchBool, OnOk, length, true};
-ghost use Rattle.sm_model.specs.GraphView.{IsShapeNumber, entries_of, maps_of};
+ghost use Rattle.sm_model.specs.GraphView.{IsShapeNumber, entries_of};
 ghost use Rattle.sm_model.specs.Links.{AreLinks};
-ghost use Rattle.sm_model.specs.Reaching.{AreMarks, id_of_number};
+ghost use Rattle.sm_model.specs.Reaching.{AreMarks};
 ghost use Rattle.sm_model.specs.declared.link.Link.{Link};
-ghost use Rattle.sm_compile.specs.Looked.{kind_under};
-ghost use Rattle.sm_rules.specs.NodeChecks.{IsChecked};
+ghost use Rattle.sm_value_rules.specs.Marking.{AreCheckedMarks};
 ghost use Rattle.sm_value_rules.specs.steps.Checking.{AreFaultMarks, AreOfValues, AreValueLinks, IsOfValues, TellsFault, has_values_at};
 ghost use Rattle.sm_value_rules.specs.steps.Checking.{is_checked_at, is_type_left_out};
 
@@ -22,8 +21,7 @@ pub(crate) fn checked_shapes(
     all: &[Link],
 ) -> Result<Vec<bool>, NoMemory>
     requires { AreLinks graph.now all.now }
-    ensures { IfOk result (λ marks. AreMarks (length (entries_of graph.now))
-        (λ k. IsChecked (maps_of graph.now) (id_of_number graph.now k)) marks.items) }
+    ensures { IfOk result (λ marks. AreCheckedMarks graph.now marks.items) }
 {
     let faulty = faulty_shapes(alloc, graph)?;
     let links = value_links(alloc, graph, all)?;

@@ -3,35 +3,29 @@ ghost use Rattle.std.specs.Prelude.{◌≡◌, ℕ, IfOk, List, MatchOption, OnO
 ghost use Rattle.sm_tree.specs.Node.{Node};
 ghost use Rattle.sm_tree.specs.View.{node_of};
 ghost use Rattle.sm_model.specs.GraphView.{AreShapeNumbers, IsShapeNumber, entries_of, maps_of};
-ghost use Rattle.sm_model.specs.Reaching.{AreMarks, id_of_number};
+ghost use Rattle.sm_model.specs.Reaching.{id_of_number};
 ghost use Rattle.sm_codec.specs.Named.{is_null};
 ghost use Rattle.sm_rules.specs.RuleEvents.{IsEventOf, Puts};
 ghost use Rattle.sm_rules.specs.declared.rule.Rule.TheVariants.{DefaultValue};
-ghost use Rattle.sm_passes.specs.Putting.{Below, ToldOf};
-ghost use Rattle.sm_rules.specs.NodeChecks.{IsChecked};
+ghost use Rattle.sm_passes.specs.Putting.{ToldOf};
 ghost use Rattle.sm_value_rules.specs.steps.Defaulting.{IsCheckedTarget, IsDefault, IsSaidDefault, IsWantedTarget, ToldDefault};
 ghost use Rattle.sm_value_rules.specs.steps.Defaulting.{ToldDefaults, WantsTarget};
-ghost use Rattle.sm_value_rules.specs.Marking.{AreValueMarks};
+ghost use Rattle.sm_value_rules.specs.Marking.{AreCheckedMarks, AreValueMarks};
 ghost use Rattle.sm_value_rules.specs.steps.Nodes.{AddsRoots, AreRoots, IsNodeTable};
 ghost use Rattle.sm_rules.specs.Defaults.{HasWrongDefault};
 
 use crate::nodes::NodeTable;
 use crate::value_marks::ValueMarks;
 use sm_compile::{members_of, target_of, trait_node};
-use sm_model::{Graph, ModelEvent};
+use sm_model::Graph;
 use sm_passes::owned::is_own_shape;
-use sm_passes::putting::put_event;
+use sm_passes::putting::{Events, Put, put_event};
 use sm_rules::Rule;
 use sm_tree::{NoMemory, Tree};
 use std::alloc::Global;
 
 /// Puts the events of the rule, by the marks of the graph. n log n, besides the checks of the defaults themselves.
-pub fn put_defaults(
-    alloc: Global,
-    graph: &Graph,
-    marks: &ValueMarks,
-    events: &mut Vec<ModelEvent>,
-) -> Result<(), NoMemory>
+pub fn put_defaults(alloc: Global, graph: &Graph, marks: &ValueMarks, events: &mut Events) -> Put
     requires { AreValueMarks graph.now marks.now }
     ensures { OnOk result
         (Puts (IsEventOf DefaultValue (HasWrongDefault (maps_of graph.now))) events.old.items events.new.items) }
@@ -40,24 +34,22 @@ pub fn put_defaults(
 }
 
 // Where these are the marks of the shapes for which nodes are checked.
-fn put_by_marks(
-    alloc: Global,
-    graph: &Graph,
-    checked: &[bool],
-    events: &mut Vec<ModelEvent>,
-) -> Result<(), NoMemory>
-    requires { AreMarks (length (entries_of graph.now)) (λ k. IsChecked (maps_of graph.now) (id_of_number graph.now k)) checked.now }
+fn put_by_marks(alloc: Global, graph: &Graph, checked: &[bool], events: &mut Events) -> Put
+    requires { AreCheckedMarks graph.now checked.now }
     ensures { OnOk result
         (Puts (IsEventOf DefaultValue (HasWrongDefault (maps_of graph.now))) events.old.items events.new.items) }
 {
     let roots = targets_of_defaults(alloc, graph, checked)?;
     let mut nodes = NodeTable::new(alloc, graph, roots.as_slice())?;
-    put_in_shapes(alloc, graph, checked, &mut nodes, events)
+    for number in 0..graph.count() {
+        put_in_shape(alloc, graph, checked, number, &mut nodes, events)?;
+    }
+    Ok(())
 }
 
 // The targets of all members with a default.
 fn targets_of_defaults(alloc: Global, graph: &Graph, checked: &[bool]) -> Result<Vec<u32>, NoMemory>
-    requires { AreMarks (length (entries_of graph.now)) (λ k. IsChecked (maps_of graph.now) (id_of_number graph.now k)) checked.now }
+    requires { AreCheckedMarks graph.now checked.now }
     ensures { IfOk result (λ roots. AreRoots graph.now (WantsTarget graph.now) (length (entries_of graph.now)) roots.items) }
 {
     let mut roots = Vec::new(alloc);
@@ -73,8 +65,7 @@ fn put_target(
     number: u32,
     roots: &mut Vec<u32>,
 ) -> Result<(), NoMemory>
-    requires checked { AreMarks (length (entries_of graph.now))
-        (λ k. IsChecked (maps_of graph.now) (id_of_number graph.now k)) checked.now }
+    requires checked { AreCheckedMarks graph.now checked.now }
     requires number { IsShapeNumber graph.now number }
     ensures { OnOk result (AddsRoots graph.now (WantsTarget graph.now number) roots.old.items roots.new.items) }
 {
@@ -95,8 +86,7 @@ struct Default<'a> {
 }
 
 fn default_of<'a>(graph: &'a Graph, checked: &[bool], number: u32) -> Option<Default<'a>>
-    requires checked { AreMarks (length (entries_of graph.now))
-        (λ k. IsChecked (maps_of graph.now) (id_of_number graph.now k)) checked.now }
+    requires checked { AreCheckedMarks graph.now checked.now }
     requires number { IsShapeNumber graph.now number }
     ensures { MatchOption result
         ((target : List ℕ) (n : Node) → IsDefault (maps_of graph.now) (id_of_number graph.now number) target n → ⊥)
@@ -136,8 +126,7 @@ fn is_null(tree: &Tree) -> bool
 
 // What a member targets, if nodes are checked for it.
 fn checked_target(graph: &Graph, checked: &[bool], number: u32) -> Option<u32>
-    requires checked { AreMarks (length (entries_of graph.now))
-        (λ k. IsChecked (maps_of graph.now) (id_of_number graph.now k)) checked.now }
+    requires checked { AreCheckedMarks graph.now checked.now }
     requires number { IsShapeNumber graph.now number }
     ensures { MatchOption result
         ((target : List ℕ) → IsCheckedTarget (maps_of graph.now) (id_of_number graph.now number) target → ⊥)
@@ -155,48 +144,28 @@ fn checked_target(graph: &Graph, checked: &[bool], number: u32) -> Option<u32>
     }
 }
 
-// The events of all shapes outside of the prelude.
-fn put_in_shapes(
-    alloc: Global,
-    graph: &Graph,
-    checked: &[bool],
-    nodes: &mut NodeTable,
-    events: &mut Vec<ModelEvent>,
-) -> Result<(), NoMemory>
-    requires checked { AreMarks (length (entries_of graph.now))
-        (λ k. IsChecked (maps_of graph.now) (id_of_number graph.now k)) checked.now }
-    requires nodes { IsNodeTable graph.now (IsWantedTarget graph.now) nodes.old }
-    ensures { OnOk result
-        (Puts (IsEventOf DefaultValue (HasWrongDefault (maps_of graph.now))) events.old.items events.new.items) }
-{
-    for number in 0..graph.count() {
-        put_in_shape(alloc, graph, checked, number, nodes, events)?;
-    }
-    Ok(())
-}
-
+// Of a shape, where it is outside of the prelude.
 fn put_in_shape(
     alloc: Global,
     graph: &Graph,
     checked: &[bool],
-    number: u32,
+    shape: u32,
     nodes: &mut NodeTable,
-    events: &mut Vec<ModelEvent>,
-) -> Result<(), NoMemory>
-    requires checked { AreMarks (length (entries_of graph.now))
-        (λ k. IsChecked (maps_of graph.now) (id_of_number graph.now k)) checked.now }
-    requires number { IsShapeNumber graph.now number }
+    events: &mut Events,
+) -> Put
+    requires checked { AreCheckedMarks graph.now checked.now }
+    requires shape { IsShapeNumber graph.now shape }
     requires nodes { IsNodeTable graph.now (IsWantedTarget graph.now) nodes.old }
     ensures told { OnOk result
-        (Puts (ToldDefaults (maps_of graph.now) (id_of_number graph.now number)) events.old.items events.new.items) }
+        (Puts (ToldDefaults (maps_of graph.now) (id_of_number graph.now shape)) events.old.items events.new.items) }
     ensures nodes { OnOk result (IsNodeTable graph.now (IsWantedTarget graph.now) nodes.new) }
 {
-    if is_own_shape(graph, number) {
+    if is_own_shape(graph, shape) {
         put_of_members(
             alloc,
             graph,
             checked,
-            members_of(graph, number),
+            members_of(graph, shape),
             nodes,
             events,
         )?;
@@ -212,10 +181,9 @@ fn put_of_members(
     checked: &[bool],
     members: &[u32],
     nodes: &mut NodeTable,
-    events: &mut Vec<ModelEvent>,
-) -> Result<(), NoMemory>
-    requires checked { AreMarks (length (entries_of graph.now))
-        (λ k. IsChecked (maps_of graph.now) (id_of_number graph.now k)) checked.now }
+    events: &mut Events,
+) -> Put
+    requires checked { AreCheckedMarks graph.now checked.now }
     requires numbers { AreShapeNumbers graph.now members.now }
     requires nodes { IsNodeTable graph.now (IsWantedTarget graph.now) nodes.old }
     ensures told { OnOk result
@@ -234,10 +202,9 @@ fn put_of_member(
     checked: &[bool],
     member: u32,
     nodes: &mut NodeTable,
-    events: &mut Vec<ModelEvent>,
-) -> Result<(), NoMemory>
-    requires checked { AreMarks (length (entries_of graph.now))
-        (λ k. IsChecked (maps_of graph.now) (id_of_number graph.now k)) checked.now }
+    events: &mut Events,
+) -> Put
+    requires checked { AreCheckedMarks graph.now checked.now }
     requires member { IsShapeNumber graph.now member }
     requires nodes { IsNodeTable graph.now (IsWantedTarget graph.now) nodes.old }
     ensures told { OnOk result
@@ -260,8 +227,8 @@ fn put_default(
     member: u32,
     default: Default<'_>,
     nodes: &mut NodeTable,
-    events: &mut Vec<ModelEvent>,
-) -> Result<(), NoMemory>
+    events: &mut Events,
+) -> Put
     requires member { IsShapeNumber graph.now member }
     requires target { IsShapeNumber graph.now default.target }
     requires default { IsDefault (maps_of graph.now) (id_of_number graph.now member) (id_of_number graph.now default.target)

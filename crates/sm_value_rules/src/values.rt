@@ -2,13 +2,12 @@
 ghost use Rattle.std.specs.Prelude.{◌≡◌, IfOk, MatchOption, OnOk, Some, length};
 ghost use Rattle.sm_tree.specs.View.{node_of};
 ghost use Rattle.sm_model.specs.GraphView.{IsShapeNumber, entries_of, maps_of};
-ghost use Rattle.sm_model.specs.Reaching.{AreMarks, id_of_number};
+ghost use Rattle.sm_model.specs.Reaching.{id_of_number};
 ghost use Rattle.sm_compile.specs.Sound.{trait_of};
 ghost use Rattle.sm_rules.specs.RuleEvents.{IsEventOf, Puts};
 ghost use Rattle.sm_rules.specs.declared.rule.Rule.TheVariants.{TraitValue};
 ghost use Rattle.sm_passes.specs.Putting.{ToldOf};
-ghost use Rattle.sm_rules.specs.NodeChecks.{IsChecked};
-ghost use Rattle.sm_value_rules.specs.Marking.{AreValueMarks};
+ghost use Rattle.sm_value_rules.specs.Marking.{AreCheckedMarks, AreValueMarks};
 ghost use Rattle.sm_value_rules.specs.steps.Nodes.{AddsRoots, AreRoots, IsNodeTable};
 ghost use Rattle.sm_value_rules.specs.Used.{AreUsed};
 ghost use Rattle.sm_trait_rules.specs.steps.StandingTraits.{AreTraitsAt};
@@ -18,10 +17,10 @@ ghost use Rattle.sm_rules.specs.TraitShapes.{HasFaultyValue, HasWrongValue};
 use crate::nodes::NodeTable;
 use crate::value_marks::ValueMarks;
 use sm_compile::id_text;
-use sm_model::{Graph, ModelEvent, is_in_prelude};
+use sm_model::{Graph, is_in_prelude};
 use sm_passes::carried::carries;
 use sm_passes::owned::is_own_shape;
-use sm_passes::putting::put_event;
+use sm_passes::putting::{Events, Put, put_event};
 use sm_rules::Rule;
 use sm_trait_rules::table_rules::put_other_values;
 use sm_tree::{NoMemory, Text, Tree};
@@ -29,12 +28,7 @@ use std::alloc::Global;
 
 /// Puts the events of the rule, by the marks of the graph: those that the table tells, and those that the shapes of traits tell.
 /// n log n.
-pub fn put_values(
-    alloc: Global,
-    graph: &Graph,
-    marks: &ValueMarks,
-    events: &mut Vec<ModelEvent>,
-) -> Result<(), NoMemory>
+pub fn put_values(alloc: Global, graph: &Graph, marks: &ValueMarks, events: &mut Events) -> Put
     requires { AreValueMarks graph.now marks.now }
     ensures { OnOk result
         (Puts (IsEventOf TraitValue (HasWrongValue (maps_of graph.now))) events.old.items events.new.items) }
@@ -50,8 +44,8 @@ pub fn put_faulty_values(
     alloc: Global,
     graph: &Graph,
     marks: &ValueMarks,
-    events: &mut Vec<ModelEvent>,
-) -> Result<(), NoMemory>
+    events: &mut Events,
+) -> Put
     requires { AreValueMarks graph.now marks.now }
     ensures { OnOk result
         (Puts (IsEventOf TraitValue (HasFaultyValue (maps_of graph.now))) events.old.items events.new.items) }
@@ -71,17 +65,19 @@ fn put_by_marks(
     graph: &Graph,
     checked: &[bool],
     used: &[bool],
-    events: &mut Vec<ModelEvent>,
-) -> Result<(), NoMemory>
-    requires checked { AreMarks (length (entries_of graph.now))
-        (λ k. IsChecked (maps_of graph.now) (id_of_number graph.now k)) checked.now }
+    events: &mut Events,
+) -> Put
+    requires checked { AreCheckedMarks graph.now checked.now }
     requires used { AreUsed graph.now used.now }
     ensures { OnOk result
         (Puts (IsEventOf TraitValue (HasFaultyValue (maps_of graph.now))) events.old.items events.new.items) }
 {
     let roots = judged_traits(alloc, graph, checked, used)?;
     let mut nodes = NodeTable::new(alloc, graph, roots.as_slice())?;
-    put_values_by(alloc, graph, checked, &mut nodes, events)
+    for number in 0..graph.count() {
+        put_at(alloc, graph, checked, number, &mut nodes, events)?;
+    }
+    Ok(())
 }
 
 // The shapes of all traits in use.
@@ -91,8 +87,7 @@ fn judged_traits(
     checked: &[bool],
     used: &[bool],
 ) -> Result<Vec<u32>, NoMemory>
-    requires checked { AreMarks (length (entries_of graph.now))
-        (λ k. IsChecked (maps_of graph.now) (id_of_number graph.now k)) checked.now }
+    requires checked { AreCheckedMarks graph.now checked.now }
     requires used { AreUsed graph.now used.now }
     ensures { IfOk result (λ roots. AreRoots graph.now (WantsTrait graph.now) (length (entries_of graph.now)) roots.items) }
 {
@@ -110,8 +105,7 @@ fn put_root(
     number: u32,
     roots: &mut Vec<u32>,
 ) -> Result<(), NoMemory>
-    requires checked { AreMarks (length (entries_of graph.now))
-        (λ k. IsChecked (maps_of graph.now) (id_of_number graph.now k)) checked.now }
+    requires checked { AreCheckedMarks graph.now checked.now }
     requires used { AreUsed graph.now used.now }
     requires number { IsShapeNumber graph.now number }
     ensures { OnOk result (AddsRoots graph.now (WantsTrait graph.now number) roots.old.items roots.new.items) }
@@ -135,36 +129,16 @@ fn is_judged(graph: &Graph, checked: &[bool], number: u32) -> bool
         && (carries(graph, number, "smithy.api#trait") && checked[number as usize])
 }
 
-// The events of all shapes and members.
-fn put_values_by(
-    alloc: Global,
-    graph: &Graph,
-    checked: &[bool],
-    nodes: &mut NodeTable,
-    events: &mut Vec<ModelEvent>,
-) -> Result<(), NoMemory>
-    requires checked { AreMarks (length (entries_of graph.now))
-        (λ k. IsChecked (maps_of graph.now) (id_of_number graph.now k)) checked.now }
-    requires nodes { IsNodeTable graph.now (IsWantedTrait graph.now) nodes.old }
-    ensures { OnOk result
-        (Puts (IsEventOf TraitValue (HasFaultyValue (maps_of graph.now))) events.old.items events.new.items) }
-{
-    for number in 0..graph.count() {
-        put_at(alloc, graph, checked, number, nodes, events)?;
-    }
-    Ok(())
-}
-
+// Of a shape or member, where it is outside of the prelude.
 fn put_at(
     alloc: Global,
     graph: &Graph,
     checked: &[bool],
     number: u32,
     nodes: &mut NodeTable,
-    events: &mut Vec<ModelEvent>,
-) -> Result<(), NoMemory>
-    requires checked { AreMarks (length (entries_of graph.now))
-        (λ k. IsChecked (maps_of graph.now) (id_of_number graph.now k)) checked.now }
+    events: &mut Events,
+) -> Put
+    requires checked { AreCheckedMarks graph.now checked.now }
     requires number { IsShapeNumber graph.now number }
     requires nodes { IsNodeTable graph.now (IsWantedTrait graph.now) nodes.old }
     ensures told { OnOk result
@@ -194,10 +168,9 @@ fn put_of_traits(
     number: u32,
     traits: &[(Text, Tree)],
     nodes: &mut NodeTable,
-    events: &mut Vec<ModelEvent>,
-) -> Result<(), NoMemory>
-    requires checked { AreMarks (length (entries_of graph.now))
-        (λ k. IsChecked (maps_of graph.now) (id_of_number graph.now k)) checked.now }
+    events: &mut Events,
+) -> Put
+    requires checked { AreCheckedMarks graph.now checked.now }
     requires number { IsShapeNumber graph.now number }
     requires traits { AreTraitsAt (maps_of graph.now) (id_of_number graph.now number) traits.now }
     requires nodes { IsNodeTable graph.now (IsWantedTrait graph.now) nodes.old }
@@ -218,10 +191,9 @@ fn put_of_trait(
     number: u32,
     pair: &(Text, Tree),
     nodes: &mut NodeTable,
-    events: &mut Vec<ModelEvent>,
-) -> Result<(), NoMemory>
-    requires checked { AreMarks (length (entries_of graph.now))
-        (λ k. IsChecked (maps_of graph.now) (id_of_number graph.now k)) checked.now }
+    events: &mut Events,
+) -> Put
+    requires checked { AreCheckedMarks graph.now checked.now }
     requires number { IsShapeNumber graph.now number }
     requires stands { trait_of (maps_of graph.now) (id_of_number graph.now number) pair.now.0 ≡ Some (node_of pair.now.1) }
     requires nodes { IsNodeTable graph.now (IsWantedTrait graph.now) nodes.old }
@@ -240,7 +212,7 @@ fn put_of_trait(
 
 // The number of the trait with this name, if nodes are checked for its shape.
 fn judged_trait(graph: &Graph, checked: &[bool], name: &str) -> Option<u32>
-    requires { AreMarks (length (entries_of graph.now)) (λ k. IsChecked (maps_of graph.now) (id_of_number graph.now k)) checked.now }
+    requires { AreCheckedMarks graph.now checked.now }
     ensures { MatchOption result
         (IsJudgedTrait (maps_of graph.now) name.now → ⊥)
         (λ k. IsShapeNumber graph.now k × (id_of_number graph.now k ≡ name.now) × IsJudgedTrait (maps_of graph.now) name.now) }
@@ -265,8 +237,8 @@ fn put_value(
     root: u32,
     pair: &(Text, Tree),
     nodes: &mut NodeTable,
-    events: &mut Vec<ModelEvent>,
-) -> Result<(), NoMemory>
+    events: &mut Events,
+) -> Put
     requires number { IsShapeNumber graph.now number }
     requires root { IsShapeNumber graph.now root }
     requires named { id_of_number graph.now root ≡ pair.now.0 }

@@ -21,8 +21,8 @@ put_of_members-requires-clause-leading c = c.requires.leading.whole
 pub returns-in_ok-put_of_members : goal.returns-in_ok-put_of_members
 returns-in_ok-put_of_members c =
     let g = c.args.graph.now in
-    let marks = side_marks g c.args.sides.now c.requires.sides c.args.side in
-    side_put g c.args.leading.now c.requires.leading c.args.side c.args.shape c.requires.own c.members_of.result.now
+    let marks = side_marks g c.args.rule.now.sides.now c.requires.sides c.args.side in
+    side_put g c.args.rule.now.leading.now c.requires.leading c.args.side c.args.shape c.requires.own c.members_of.result.now
     c.members_of.ensures.numbers c.members_of.ensures.ids
     ((marks.marked c.args.shape).0 (sym c.is_on.ensures ∙ c.if-is_on.true)).1 c.args.events.now.items c.put_of_members.new.events.items
     c.in_ok-put_of_members.ensures
@@ -30,7 +30,7 @@ returns-in_ok-put_of_members c =
 pub returns-else-is_on : goal.returns-else-is_on
 returns-else-is_on c =
     let g = c.args.graph.now in
-    let marks = side_marks g c.args.sides.now c.requires.sides c.args.side in
+    let marks = side_marks g c.args.rule.now.sides.now c.requires.sides c.args.side in
     no_side (maps_of g) (side_said c.args.side) (id_of_number g c.args.shape)
     (λ h. apart (sym (sym c.is_on.ensures ∙ c.if-is_on.false) ∙ (marks.marked c.args.shape).1 (c.requires.shape, h)))
     c.args.events.now.items

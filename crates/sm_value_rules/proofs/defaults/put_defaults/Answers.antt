@@ -1,11 +1,6 @@
-use Rattle.std.proofs.Common.{length, subst, sym}
-use Rattle.sm_model.specs.GraphView.{entries_of, maps_of}
-use Rattle.sm_model.specs.Reaching.{AreMarks, id_of_number}
-use Rattle.sm_rules.specs.NodeChecks.{IsChecked}
+use Rattle.std.proofs.Common.{subst, sym}
+use Rattle.sm_value_rules.specs.Marking.{AreCheckedMarks}
 use Rattle.sm_value_rules.proofs.defaults.put_defaults.Goals as goal
 
 pub put_by_marks-requires : goal.put_by_marks-requires
-put_by_marks-requires c =
-    let g = c.args.graph.now in
-    subst (AreMarks (length (entries_of g)) (λ k. IsChecked (maps_of g) (id_of_number g k))) (sym c.as_slice.ensures.value)
-    c.requires.are_checked
+put_by_marks-requires c = subst (AreCheckedMarks c.args.graph.now) (sym c.as_slice.ensures.value) c.requires.are_checked

@@ -41,15 +41,14 @@ returns-in_ok-put_event-in-Some-clause-told c =
 pub returns-in-None-clause-told : goal.returns-in-None-clause-told
 returns-in-None-clause-told c =
     let g = c.args.graph.now in
-    let k = c.args.root in
     let t = c.args.pair.now in
     let n = node_of t.1 in
     let nodes = c.args.nodes.now in
     let same = c.requires.named in
     let checked = subst (IsChecked (maps_of g)) (sym same) c.requires.judged.1 in
-    let is = wanted g c.args.number k t c.requires.number c.requires.root same c.requires.judged c.requires.stands in
-    let told = subst (TellsRow nodes.tabled k n) c.in-None.is c.in_ok-found.ensures.told in
+    let is = wanted g c.args.number c.args.root t c.requires.number c.requires.root same c.requires.judged c.requires.stands in
+    let told = subst (TellsRow nodes.tabled c.args.root n) c.in-None.is c.in_ok-found.ensures.told in
     faultless_put (maps_of g) (id_of_number g c.args.number) t
     (subst (λ root. TellsFaults (maps_of g) root n None) same
-    (faults_told g (IsWantedTrait g) nodes.tabled (any_texts nodes.patterns) c.requires.nodes k is checked n None told))
+    (faults_told g (IsWantedTrait g) nodes.tabled (any_texts nodes.patterns) c.requires.nodes c.args.root is checked n None told))
     c.args.events.now.items

@@ -3,7 +3,7 @@ use Rattle.sm_model.specs.GraphView.{AreShapeNumbers}
 use Rattle.sm_rules.specs.RuleEvents.{Puts}
 use Rattle.sm_passes.specs.Putting.{ToldOf}
 use Rattle.sm_http_rules.specs.steps.BoundTargets.{ToldBoundMember}
-use Rattle.sm_http_rules.proofs.bound_targets.put_each_member.Given as goal
+use Rattle.sm_http_rules.proofs.bound_targets.put_of_members.Given as goal
 
 abbrev pub invariant-loop-member : goal.invariant-loop-member
 invariant-loop-member l = record {

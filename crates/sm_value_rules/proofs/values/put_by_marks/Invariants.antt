@@ -4,7 +4,7 @@ use Rattle.sm_rules.specs.RuleEvents.{Puts}
 use Rattle.sm_passes.specs.Putting.{Below}
 use Rattle.sm_value_rules.specs.steps.Nodes.{IsNodeTable}
 use Rattle.sm_value_rules.specs.steps.Valuing.{IsWantedTrait, ToldValues}
-use Rattle.sm_value_rules.proofs.values.put_values_by.Given as goal
+use Rattle.sm_value_rules.proofs.values.put_by_marks.Given as goal
 
 abbrev pub invariant-loop-number : goal.invariant-loop-number
 invariant-loop-number l = record {

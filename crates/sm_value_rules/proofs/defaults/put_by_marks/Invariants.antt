@@ -5,7 +5,7 @@ use Rattle.sm_rules.specs.RuleEvents.{Puts}
 use Rattle.sm_passes.specs.Putting.{Below}
 use Rattle.sm_value_rules.specs.steps.Defaulting.{IsWantedTarget, ToldDefaults}
 use Rattle.sm_value_rules.specs.steps.Nodes.{IsNodeTable}
-use Rattle.sm_value_rules.proofs.defaults.put_in_shapes.Given as goal
+use Rattle.sm_value_rules.proofs.defaults.put_by_marks.Given as goal
 
 abbrev pub invariant-loop-number : goal.invariant-loop-number
 invariant-loop-number l = record {
