@@ -1,5 +1,5 @@
 // Bodies by the name of a convention.
-ghost use Rattle.std.specs.Prelude.{◌≡◌, ◌<◌, IfOk};
+ghost use Rattle.std.specs.Prelude.{◌<◌, IfOk};
 ghost use Rattle.sm_shapes.specs.Fitting.{Fits, any_text};
 ghost use Rattle.sm_shapes.specs.InOrder.{Shaped, AreStored, DefaultsPass};
 ghost use Rattle.sm_shapes.specs.Places.{root_place};

@@ -1,6 +1,6 @@
 // What is shown of a value: it, how its entries stand, or the text or the item that is written for it, or the way to the first leaf that
 // isn't carried.
-ghost use Rattle.std.specs.Prelude.{◌≡◌, ◌<◌};
+ghost use Rattle.std.specs.Prelude.{◌<◌};
 ghost use Rattle.sm_shapes.specs.Fitting.{Fits, any_text};
 ghost use Rattle.sm_shapes.specs.InOrder.{Shaped};
 ghost use Rattle.sm_shapes.specs.Places.{root_place};

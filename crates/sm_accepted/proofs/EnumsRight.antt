@@ -9,12 +9,14 @@ use Rattle.sm_model.specs.declared.kind.Kind.{Kind}
 use Rattle.sm_model.specs.declared.kind.Kind.TheVariants as model
 use Rattle.sm_model.proofs.LinkedEntries.{cons_here}
 use Rattle.sm_shapes.specs.Names.{AllDiffer}
+use Rattle.sm_compile.specs.Compiled.{IdSet}
 use Rattle.sm_compile.specs.Sound.{AllNumbersDiffer, HasItsValues, HasNumber, HasText, enum_numbers, enum_texts, trait_of}
 use Rattle.sm_compile.specs.TraitIds.{enum_value_id}
 use Rattle.sm_compile.specs.TraitNodes.{number_of, text_of}
 use Rattle.sm_rules.specs.Constraints.{HasItsValue, IsEnumKind, has_none, wrong_value}
+use Rattle.sm_rules.specs.Ready.{NoneFailsIn}
 use Rattle.sm_rules.specs.Words.{IsOwnShape}
-use Rattle.sm_accepted.specs.NoneFails.{NoneFails}
+use Rattle.sm_accepted.proofs.ClosedSets.{AreIn}
 use Rattle.sm_accepted.proofs.GivenShapes.{behind_head}
 use Rattle.sm_accepted.proofs.Lists.{NoneAgain, all_differ, all_numbers_differ, stands_at}
 
@@ -44,16 +46,17 @@ module _ (g : GraphMaps) where
       ap (λ o. cons_option (number_of o) (enum_numbers g ids)) (said_number id (each id (cons_here id ids)))
       ∙ ap (λ zs. number_at id ∷ zs) (numbers_are ids (λ other among. each other (behind_head id ids other among)))
 
-module _ (g : GraphMaps) (none : NoneFails g) (shape : List ℕ) (s : ShapeEntry) (home : IsOwnShape g shape s) where
+module _ (g : GraphMaps) (In : IdSet) (none : NoneFailsIn g In) (shape : List ℕ) (s : ShapeEntry) (home : IsOwnShape g shape s)
+    (home_in : In shape) (members_in : AreIn In s.members) where
   some_members : IsEnumKind s.kind → s.members ≡ [] → ⊥
-  some_members enum empty = none.enums shape [] (has_none (s, home, enum, empty) refl)
+  some_members enum empty = none.enums shape [] home_in (has_none (s, home, enum, empty) refl)
 
   -- no two say the same
   none_twice : IsEnumKind s.kind → (before : List (List ℕ)) (id : List ℕ) (later : List (List ℕ)) → s.members ≡ before ++ id ∷ later
       → (earlier : List ℕ) → Contains before earlier → (n : Node) → trait_of g id enum_value_id ≡ Some n
       → trait_of g earlier enum_value_id ≡ Some n → ⊥
   none_twice enum before id later is earlier among n here there =
-      none.enums id [] (wrong_value (record {
+      none.enums id [] (members_in id (subst (λ ms. Contains ms id) (sym is) (stands_at before id later))) (wrong_value (record {
         shape = shape;
         s = s;
         before = before;

@@ -1,5 +1,6 @@
 mod GivenShapes
 mod FormedShapes
+pub mod ClosedSets
 mod Lists
 mod TraitsRight
 mod MembersRight

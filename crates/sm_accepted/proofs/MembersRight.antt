@@ -19,17 +19,19 @@ use Rattle.sm_model.specs.declared.kind.Kind.TheVariants as model
 use Rattle.sm_model.specs.declared.relation.Relation.TheVariants.{Target}
 use Rattle.sm_model.proofs.LinkedEntries.{cons_here}
 use Rattle.sm_model.proofs.Worklist.{apart}
+use Rattle.sm_compile.specs.Compiled.{IdSet}
 use Rattle.sm_compile.specs.Kinds.{has_values, is_text_kind, may_target}
 use Rattle.sm_compile.specs.Sound.{AreSoundMembers, HasTextKey, IsSoundMember, TargetsText, trait_in, trait_of}
 use Rattle.sm_compile.specs.TraitIds.{enum_value_id}
 use Rattle.sm_compile.specs.TraitNodes.{is_enum_value, is_number, is_text, own_traits, where_there, fits_word}
 use Rattle.sm_rules.specs.TraitRows.{at_member, takes_in, with_members}
 use Rattle.sm_rules.specs.Constraints.{HasItsValue, IsEnumKind, wrong_value}
+use Rattle.sm_rules.specs.Ready.{NoneFailsIn}
 use Rattle.sm_rules.specs.Targets.{by_member, is_key, may_be_target}
 use Rattle.sm_rules.specs.Traits.{IsSpot, of_member}
 use Rattle.sm_rules.specs.Words.{IsMemberOf, IsOwnShape}
 use Rattle.sm_compile.proofs.SoundTests.{fits_back, fits_from, formed_along}
-use Rattle.sm_accepted.specs.NoneFails.{NoneFails}
+use Rattle.sm_accepted.proofs.ClosedSets.{AreIn}
 use Rattle.sm_accepted.proofs.FormedShapes.{AreThere, member_own, prelude_is}
 use Rattle.sm_accepted.proofs.GivenShapes.{behind_head}
 use Rattle.sm_accepted.proofs.Lists.{split_at}
@@ -91,7 +93,8 @@ seen_at_target : (kinds : Kind → Bool) (home kind : Kind) (s : ShapeEntry) →
     → list_any (takes_in (at_member home (Some (shape_entry s)))) (with_members kinds) ≡ kinds kind
 seen_at_target kinds home kind s is = or_false (kinds s.kind) ∙ ap kinds is
 
-module _ (g : GraphMaps) (f : IsFormedGraph g) (none : NoneFails g) (shape : List ℕ) (s : ShapeEntry) (home : IsOwnShape g shape s) where
+module _ (g : GraphMaps) (f : IsFormedGraph g) (In : IdSet) (none : NoneFailsIn g In) (shape : List ℕ) (s : ShapeEntry)
+    (home : IsOwnShape g shape s) (members_in : AreIn In s.members) where
   -- a text isn't the prelude's unit
   no_unit : (target : List ℕ) (t : ShapeEntry) → HasEntry g target (shape_entry t) → is_text_kind t.kind ≡ true
       → bytes_eq target unit_id ≡ false
@@ -108,7 +111,7 @@ module _ (g : GraphMaps) (f : IsFormedGraph g) (none : NoneFails g) (shape : Lis
   pub value_there : (id : List ℕ) → Contains s.members id → HasItsValue g s.kind id
   value_there id among =
       let at = split_at s.members id among in
-      its_value g id s.kind (λ enum denied. none.enums id [] (wrong_value (record {
+      its_value g id s.kind (λ enum denied. none.enums id [] (members_in id among) (wrong_value (record {
         shape = shape;
         s = s;
         before = at.before;
@@ -118,6 +121,9 @@ module _ (g : GraphMaps) (f : IsFormedGraph g) (none : NoneFails g) (shape : Lis
       }) refl))
 
   module _ (id : List ℕ) (among : Contains s.members id) (m : MemberEntry) (there : HasEntry g id (member_entry m)) where
+    inside : In id
+    inside = members_in id among
+
     own : is_prelude_id id ≡ false
     own = member_own g f id m there
 
@@ -129,12 +135,12 @@ module _ (g : GraphMaps) (f : IsFormedGraph g) (none : NoneFails g) (shape : Lis
 
     -- its target is there, and may be
     target_there : (o : Option Entry) → fin.get g.shapes m.target ≡ o → (t : ShapeEntry) × HasEntry g m.target (shape_entry t)
-    target_there None is = absurd (none.missing id m.target (record {
+    target_there None is = absurd (none.missing id m.target inside (record {
       refers = record { e = member_entry m; own = (there, own); relation = Target; other = λ e. cc; says = (refl, refl) };
       nothing = λ found. none-some found.0 (sym is ∙ found.1);
     }))
     target_there (Some (shape_entry t)) is = (t, is)
-    target_there (Some (member_entry n)) is = absurd (none.kinds id m.target (by_member (record {
+    target_there (Some (member_entry n)) is = absurd (none.kinds id m.target inside (by_member (record {
       shape = shape;
       s = s;
       m = m;
@@ -149,7 +155,7 @@ module _ (g : GraphMaps) (f : IsFormedGraph g) (none : NoneFails g) (shape : Lis
         → may_be_target s.kind (is_key shape id) (bytes_eq m.target unit_id) t.kind ≡ true
     may_be t is =
         must (may_be_target s.kind (is_key shape id) (bytes_eq m.target unit_id) t.kind)
-        (λ wrong. none.kinds id m.target (by_member (record {
+        (λ wrong. none.kinds id m.target inside (by_member (record {
           shape = shape;
           s = s;
           m = m;
@@ -163,7 +169,7 @@ module _ (g : GraphMaps) (f : IsFormedGraph g) (none : NoneFails g) (shape : Lis
     any_value : (n : Node) → trait_of g id enum_value_id ≡ Some n → (is_text n || is_number n) ≡ true
     any_value n is =
         sym (or_false (is_text n || is_number n))
-        ∙ by_row g none id own (at_member s.kind (fin.get g.shapes m.target)) stands enum_value_id n refl is
+        ∙ by_row g In none id inside own (at_member s.kind (fin.get g.shapes m.target)) stands enum_value_id n refl is
 
     sound_at : (t : ShapeEntry) → HasEntry g m.target (shape_entry t) → IsSoundMember g s.kind id
     sound_at t is = record {
@@ -173,7 +179,7 @@ module _ (g : GraphMaps) (f : IsFormedGraph g) (none : NoneFails g) (shape : Lis
       found = is;
       may_target = may_from s.kind (is_key shape id) (bytes_eq m.target unit_id) t.kind (may_be t is) (no_unit m.target t is);
       traits = formed_along t.kind (trait_of g id) (own_traits m.traits) (λ name. ap (trait_in name) there)
-          (formed_traits g none id own (at_member s.kind (fin.get g.shapes m.target)) stands t.kind
+          (formed_traits g In none id inside own (at_member s.kind (fin.get g.shapes m.target)) stands t.kind
           (λ kinds. ap (λ (o : Option Entry). list_any (takes_in (at_member s.kind o)) (with_members kinds)) is
           ∙ seen_at_target kinds s.kind t.kind t refl));
       value = subst (λ (o : Option Node). where_there (is_enum_value s.kind) o ≡ true) (ap (trait_in enum_value_id) there)

@@ -19,13 +19,15 @@ use Rattle.sm_model.specs.declared.kind.Kind.TheVariants as model
 use Rattle.sm_model.proofs.LinkedEntries.{cons_cases, cons_here}
 use Rattle.sm_model.proofs.Worklist.{apart}
 use Rattle.sm_shapes.specs.Names.{AllDiffer, NoneIs}
+use Rattle.sm_compile.specs.Compiled.{IdSet}
 use Rattle.sm_compile.specs.Sound.{json_name_of, trait_of}
 use Rattle.sm_compile.specs.TraitIds.{json_name_id}
 use Rattle.sm_compile.specs.TraitNodes.{is_text, text_of}
+use Rattle.sm_rules.specs.Ready.{NoneFailsIn}
 use Rattle.sm_rules.specs.TraitRows.{at_member, is_among}
 use Rattle.sm_rules.specs.WireNames.{json_again, name_in_json, named_by, own_name}
 use Rattle.sm_rules.specs.Words.{IsOwnShape}
-use Rattle.sm_accepted.specs.NoneFails.{NoneFails}
+use Rattle.sm_accepted.proofs.ClosedSets.{AreIn, is_there}
 use Rattle.sm_accepted.proofs.FormedShapes.{AreThere, IsThere, member_own}
 use Rattle.sm_accepted.proofs.GivenShapes.{behind_head}
 use Rattle.sm_accepted.proofs.Lists.{NoneAgain, all_differ, any_named, stands_at}
@@ -55,15 +57,6 @@ text_there : (o : Option (List ℕ)) (name : List ℕ) → is_some o ≡ true �
 text_there None name h = absurd (apart h)
 text_there (Some t) name h = refl
 
--- what holds of each id holds of each name
-there_named : (g : GraphMaps) (shape : List ℕ) (names : List (List ℕ)) → AreThere g (map (member_id shape) names) → (name : List ℕ)
-    → Contains names name → IsThere g (member_id shape name)
-there_named g shape [] there name among = absurd (omega (arith, among.1))
-there_named g shape (n ∷ names) there name among = elim (cons_cases n names name among) [
-  | inl is ↦ subst (λ x. IsThere g (member_id shape x)) is there.0
-  | inr later ↦ there_named g shape names there.1 name later
-]
-
 id_among : (shape : List ℕ) (names : List (List ℕ)) (name : List ℕ) → Contains names name
     → Contains (map (member_id shape) names) (member_id shape name)
 id_among shape [] name among = absurd (omega (arith, among.1))
@@ -76,13 +69,17 @@ own_is : (shape name : List ℕ) → own_name shape (member_id shape name) ≡ n
 own_is shape name =
     ap (drop (length (member_id shape []))) (sym (append_assoc shape (dollar ∷ []) name)) ∙ drop-append_seam (member_id shape []) name
 
-module _ (g : GraphMaps) (f : IsFormedGraph g) (none : NoneFails g) (shape : List ℕ) (s : ShapeEntry) (home : IsOwnShape g shape s)
-    (names : List (List ℕ)) (members : s.members ≡ map (member_id shape) names) (there : AreThere g s.members) where
-  there_is : (name : List ℕ) → Contains names name → IsThere g (member_id shape name)
-  there_is name among = there_named g shape names (subst (AreThere g) members there) name among
-
+module _ (g : GraphMaps) (f : IsFormedGraph g) (In : IdSet) (none : NoneFailsIn g In) (shape : List ℕ) (s : ShapeEntry)
+    (home : IsOwnShape g shape s) (members_in : AreIn In s.members) (names : List (List ℕ))
+    (members : s.members ≡ map (member_id shape) names) (there : AreThere g s.members) where
   listed : (name : List ℕ) → Contains names name → Contains s.members (member_id shape name)
   listed name among = subst (λ ms. Contains ms (member_id shape name)) (sym members) (id_among shape names name among)
+
+  there_is : (name : List ℕ) → Contains names name → IsThere g (member_id shape name)
+  there_is name among = is_there g s.members (member_id shape name) there (listed name among)
+
+  inside : (name : List ℕ) → Contains names name → In (member_id shape name)
+  inside name among = members_in (member_id shape name) (listed name among)
 
   -- what is said is a text, and stands at members of structures and of unions alone
   json_text : (name : List ℕ) → Contains names name → (n : Node) → trait_of g (member_id shape name) json_name_id ≡ Some n
@@ -91,8 +88,8 @@ module _ (g : GraphMaps) (f : IsFormedGraph g) (none : NoneFails g) (shape : Lis
       let m = there_is name among in
       let id = member_id shape name in
       sym (or_false (is_text n))
-      ∙ by_row g none id (member_own g f id m.0 m.1) (at_member s.kind (fin.get g.shapes m.0.target))
-      (stands g f none shape s home id (listed name among) m.0 m.1) json_name_id n refl is
+      ∙ by_row g In none id (inside name among) (member_own g f id m.0 m.1) (at_member s.kind (fin.get g.shapes m.0.target))
+      (stands g f In none shape s home members_in id (listed name among) m.0 m.1) json_name_id n refl is
 
   none_said : is_among (model.Structure ∷ model.Union ∷ []) s.kind ≡ false → (name : List ℕ) → Contains names name
       → (o : Option Node) → trait_of g (member_id shape name) json_name_id ≡ o → unwrap_or (text_of o) name ≡ name
@@ -100,8 +97,8 @@ module _ (g : GraphMaps) (f : IsFormedGraph g) (none : NoneFails g) (shape : Lis
   none_said other name among (Some n) is =
       let m = there_is name among in
       let id = member_id shape name in
-      let may = placed g none id (member_own g f id m.0 m.1) (at_member s.kind (fin.get g.shapes m.0.target))
-      (stands g f none shape s home id (listed name among) m.0 m.1) json_name_id n refl is in
+      let may = placed g In none id (inside name among) (member_own g f id m.0 m.1) (at_member s.kind (fin.get g.shapes m.0.target))
+      (stands g f In none shape s home members_in id (listed name among) m.0 m.1) json_name_id n refl is in
       let not_here : ((is_among (model.Structure ∷ model.Union ∷ []) s.kind || false) || false) ≡ false =
       ap (λ b. (b || false) || false) other in
       absurd (apart (sym not_here ∙ may))
@@ -123,7 +120,7 @@ module _ (g : GraphMaps) (f : IsFormedGraph g) (none : NoneFails g) (shape : Lis
           let x_in : Contains names x = subst (λ ns. Contains ns x) (sym is) (stands_at before x later) in
           let y_in : Contains names y = subst (λ ns. Contains ns y) (sym is) (Contains-append_left before (x ∷ later) y among) in
           let name = json_name_of g shape x in
-          none.wire_names (member_id shape x) name (json_again shape s kind (record {
+          none.wire_names (member_id shape x) name (inside x x_in) (json_again shape s kind (record {
             before = map (member_id shape) before;
             behind = record {
               home = home;

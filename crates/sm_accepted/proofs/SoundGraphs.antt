@@ -1,4 +1,5 @@
--- Each shape of a graph is in order where no rule fails: those of the prelude, which rules don't look at, and all others.
+-- Each shape of a set is in order where no rule fails at what is of the set and members lead to nothing outside of it: those of the prelude,
+-- which rules don't look at, and all others.
 use Rattle.std.proofs.Common.{◌≡◌, inl, inr, ℕ, Bool, true, false, ◌&&◌, List, [], ◌∷◌, map, refl, sym, ap, subst, ◌∙◌, arith}
 use Rattle.std.specs.Prelude.{not}
 use Rattle.std.specs.FinMap as fin
@@ -15,14 +16,16 @@ use Rattle.sm_model.specs.declared.kind.Kind.TheVariants as model
 use Rattle.sm_model.proofs.LinkedEntries.{cons_cases}
 use Rattle.sm_model.proofs.Worklist.{apart}
 use Rattle.sm_shapes.specs.Names.{AllDiffer}
+use Rattle.sm_compile.specs.Compiled.{IdSet}
 use Rattle.sm_compile.specs.Sound.{AreSoundMembers, HasItsValues, HasTextKey, IsSoundShape, json_name_of, trait_in, trait_of}
 use Rattle.sm_compile.specs.TraitNodes.{AreFormedTraits, TraitsSeen, own_traits}
+use Rattle.sm_rules.specs.Ready.{NoneFailsIn}
 use Rattle.sm_rules.specs.TraitRows.{at_shape, has_none}
 use Rattle.sm_rules.specs.Traits.{of_shape}
 use Rattle.sm_rules.specs.Words.{IsOwnShape}
 use Rattle.sm_compile.specs.steps.Tests.{are_formed}
 use Rattle.sm_compile.proofs.SoundTests.{first_of, formed_along, formed_told, second_of}
-use Rattle.sm_accepted.specs.NoneFails.{NoneFails}
+use Rattle.sm_accepted.proofs.ClosedSets.{IsClosed, members_inside}
 use Rattle.sm_accepted.proofs.EnumsRight.{has_its_values}
 use Rattle.sm_accepted.proofs.FormedShapes.{IsFormedEntry, formed_entry, prelude_entry}
 use Rattle.sm_accepted.proofs.GivenShapes.{entry_given}
@@ -100,24 +103,26 @@ module _ (g : GraphMaps) (f : IsFormedGraph g) where
       let is : s ≡ entry_given p.0 = cc in
       plain_sound id s p.0 (plain_among prelude_shapes all_plain p.0 p.1) is (formed_entry g f id s there)
 
-  own_sound : NoneFails g → (id : List ℕ) (s : ShapeEntry) → IsOwnShape g id s → IsSoundShape g id s
-  own_sound none id s own =
-      let formed = formed_entry g f id s own.0 in
-      record {
-        names = formed.names;
-        members = formed.members;
-        form = formed.form;
-        json_names = json_names g f none id s own formed.names formed.members formed.there formed.form;
-        each = sound_members g f none id s own formed.there;
-        key = has_text_key g f none id s own formed.names formed.members formed.form;
-        values = has_its_values g none id s own (value_there g f none id s own);
-        traits = formed_along s.kind (trait_of g id) (own_traits s.traits) (λ name. ap (trait_in name) own.0)
-            (formed_traits g none id own.1 (at_shape s.kind) (of_shape (s, own, refl)) s.kind (λ kinds. or_false (kinds s.kind)));
-      }
+  module _ (In : IdSet) (none : NoneFailsIn g In) (closed : IsClosed g In) where
+    own_sound : (id : List ℕ) → In id → (s : ShapeEntry) → IsOwnShape g id s → IsSoundShape g id s
+    own_sound id inside s own =
+        let formed = formed_entry g f id s own.0 in
+        let members_in = members_inside g In closed id s own.0 formed.there inside in
+        record {
+          names = formed.names;
+          members = formed.members;
+          form = formed.form;
+          json_names = json_names g f In none id s own members_in formed.names formed.members formed.there formed.form;
+          each = sound_members g f In none id s own members_in formed.there;
+          key = has_text_key g f In none id s own members_in formed.names formed.members formed.form;
+          values = has_its_values g In none id s own inside members_in (value_there g f In none id s own members_in);
+          traits = formed_along s.kind (trait_of g id) (own_traits s.traits) (λ name. ap (trait_in name) own.0)
+              (formed_traits g In none id inside own.1 (at_shape s.kind) (of_shape (s, own, refl)) s.kind (λ kinds. or_false (kinds s.kind)));
+        }
 
-  pub each_sound : NoneFails g → (id : List ℕ) (s : ShapeEntry) → HasEntry g id (shape_entry s) → IsSoundShape g id s
-  each_sound none id s there = by (is_prelude_id id) refl
-    where
-      by : (b : Bool) → is_prelude_id id ≡ b → IsSoundShape g id s
-      by true is = prelude_sound id s is there
-      by false is = own_sound none id s (there, is)
+    pub each_sound : (id : List ℕ) → In id → (s : ShapeEntry) → HasEntry g id (shape_entry s) → IsSoundShape g id s
+    each_sound id inside s there = by (is_prelude_id id) refl
+      where
+        by : (b : Bool) → is_prelude_id id ≡ b → IsSoundShape g id s
+        by true is = prelude_sound id s is there
+        by false is = own_sound id inside s (there, is)

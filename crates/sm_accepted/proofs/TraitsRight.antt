@@ -9,6 +9,7 @@ use Rattle.sm_model.specs.PreludeShapes.{is_prelude_id}
 use Rattle.sm_model.specs.declared.kind.Kind.{Kind}
 use Rattle.sm_model.specs.declared.kind.Kind.TheVariants as model
 use Rattle.sm_model.proofs.Worklist.{apart}
+use Rattle.sm_compile.specs.Compiled.{IdSet}
 use Rattle.sm_compile.specs.Kinds.{is_whole_kind}
 use Rattle.sm_compile.specs.Sound.{trait_of}
 use Rattle.sm_compile.specs.TraitIds.{required_id, sparse_id, unique_items_id, length_id, range_id, pattern_id, timestamp_format_id}
@@ -18,10 +19,10 @@ use Rattle.sm_compile.specs.TraitNodes.{is_timestamp_format, where_there}
 use Rattle.sm_rules.specs.TraitRows.{Spot, TraitRow, has_form, has_row, is_among, fraction_kinds, is_as_one, judging, may_stand}
 use Rattle.sm_rules.specs.TraitRows.{row_takes_in, rows_of, takes_in, that_reads, with_members, api_row, whole_bounds, any_bounds}
 use Rattle.sm_rules.specs.Constraints.{wrong_length, wrong_range}
+use Rattle.sm_rules.specs.Ready.{NoneFailsIn}
 use Rattle.sm_rules.specs.Traits.{IsSpot}
 use Rattle.sm_rules.specs.Words.{read_trait}
 use Rattle.sm_compile.proofs.SoundTests.{first_of, second_of}
-use Rattle.sm_accepted.specs.NoneFails.{NoneFails}
 use Rattle.sm_accepted.proofs.Lists.{or_later}
 
 pub or_false : (b : Bool) → (b || false) ≡ b
@@ -90,12 +91,12 @@ range_by kind n b c whole fraction =
     (subst (λ x. RangeBy kind n (is_whole_kind kind) x) (sym fraction) (range_of_kind kind n))
 
 -- at a shape or member with this type, or with a target of it
-module _ (g : GraphMaps) (none : NoneFails g) (id : List ℕ) (own : is_prelude_id id ≡ false) (spot : Spot)
+module _ (g : GraphMaps) (In : IdSet) (none : NoneFailsIn g In) (id : List ℕ) (inside : In id) (own : is_prelude_id id ≡ false) (spot : Spot)
     (stands : IsSpot g id spot) where
   judged : (trait : List ℕ) (n : Node) → has_row trait ≡ true → trait_of g id trait ≡ Some n → is_as_one (judging trait spot) n ≡ true
   judged trait n row is =
       must (is_as_one (judging trait spot) n)
-      (λ other. none.values id trait (record { n = n; carries = (own, is); spot = spot; stands = stands; row = row; other = other }))
+      (λ other. none.values id trait inside (record { n = n; carries = (own, is); spot = spot; stands = stands; row = row; other = other }))
 
   -- by one of its rows
   pub by_row : (trait : List ℕ) (n : Node) → has_row trait ≡ true → trait_of g id trait ≡ Some n → is_as_one (rows_of trait) n ≡ true
@@ -104,7 +105,7 @@ module _ (g : GraphMaps) (none : NoneFails g) (id : List ℕ) (own : is_prelude_
   pub placed : (trait : List ℕ) (n : Node) → has_row trait ≡ true → trait_of g id trait ≡ Some n → may_stand trait spot ≡ true
   placed trait n row is =
       must (may_stand trait spot)
-      (λ away. none.places id trait (record { n = n; carries = (own, is); spot = spot; stands = stands; row = row; elsewhere = away }))
+      (λ away. none.places id trait inside (record { n = n; carries = (own, is); spot = spot; stands = stands; row = row; elsewhere = away }))
 
   reads : (trait : List ℕ) (n : Node) → has_row trait ≡ true → trait_of g id trait ≡ Some n → read_trait g id trait ≡ Some n
   reads trait n row is = ap (that_reads trait) is ∙ ap (λ b. cond b (Some n) None) (by_row trait n row is)
@@ -112,11 +113,11 @@ module _ (g : GraphMaps) (none : NoneFails g) (id : List ℕ) (own : is_prelude_
   right_length : (n : Node) → trait_of g id length_id ≡ Some n → (are_ordered n && are_lengths n) ≡ true
   right_length n is =
       must (are_ordered n && are_lengths n)
-      (λ wrong. none.bounds id (codes "length") (wrong_length n own (reads length_id n refl is) wrong refl))
+      (λ wrong. none.bounds id (codes "length") inside (wrong_length n own (reads length_id n refl is) wrong refl))
 
   right_range : (n : Node) → trait_of g id range_id ≡ Some n → are_ordered n ≡ true
   right_range n is =
-      must (are_ordered n) (λ wrong. none.bounds id (codes "range") (wrong_range n own (reads range_id n refl is) wrong refl))
+      must (are_ordered n) (λ wrong. none.bounds id (codes "range") inside (wrong_range n own (reads range_id n refl is) wrong refl))
 
   module _ (kind : Kind) (sees : (kinds : Kind → Bool) → list_any (takes_in spot) (with_members kinds) ≡ kinds kind) where
     pub formed_traits : AreFormedTraits kind (trait_of g id)

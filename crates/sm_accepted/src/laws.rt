@@ -1,5 +1,5 @@
 // Laws over the definitions: public functions with empty bodies, whose contracts are the laws.
-ghost use Rattle.sm_accepted.specs.Laws.{ReadyWhereNoneFails, SoundWhereNoneFails};
+ghost use Rattle.sm_accepted.specs.Laws.{ReadyWhereNoneFails, SoundWhereNoneFails, SoundWhereReady};
 
 /// In a graph in which no rule fails a table can be made of each shape.
 pub fn sound_where_none_fails()
@@ -9,4 +9,9 @@ pub fn sound_where_none_fails()
 /// In a graph in which no rule fails a table can be made of each service.
 pub fn ready_where_none_fails()
     ensures { ReadyWhereNoneFails }
+{}
+
+/// Of each shape to which a service leads that is ready a table can be made.
+pub fn sound_where_ready()
+    ensures { SoundWhereReady }
 {}

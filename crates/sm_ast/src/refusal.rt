@@ -2,7 +2,7 @@
 ghost use Rattle.std.specs.Prelude.{◌≡◌, ◌∷◌, [], Option, Some, IfOk};
 ghost use Rattle.sm_tree.specs.declared.path.Step.TheVariants.{Index, Key};
 ghost use Rattle.sm_ast.specs.Answers.{Tells};
-ghost use Rattle.sm_ast.specs.Faults.{AstFault, version, field, wrong_type, bad_id, seen_from};
+ghost use Rattle.sm_ast.specs.Faults.{AstFault, field, wrong_type, bad_id, seen_from};
 
 use sm_tree::{NoMemory, Path, Step, Text};
 use std::alloc::{AllocFailed, Global};

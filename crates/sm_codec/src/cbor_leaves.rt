@@ -1,5 +1,5 @@
 // The convention of CBOR (RFC 8949; Smithy RPC v2 CBOR).
-ghost use Rattle.std.specs.Prelude.{◌≡◌, true, IfOk};
+ghost use Rattle.std.specs.Prelude.{◌≡◌, true};
 ghost use Rattle.sm_tree.specs.View.{node_of};
 ghost use Rattle.sm_shapes.specs.ValueView.{val_of};
 ghost use Rattle.sm_codec.specs.Conventions.{cbor_blob, cbor_carries_leaf};

@@ -24,7 +24,7 @@ use Rattle.sm_compile.specs.steps.Soundness.{AreSoundBelow}
 use Rattle.sm_compile.specs.steps.Tabling.{has_values_where, tabled_below}
 use Rattle.sm_compile.proofs.CarriedSets.{carried_patterns, pattern_refused}
 use Rattle.sm_compile.proofs.CompiledShapes.{made_by, stored_there, table_compiled}
-use Rattle.sm_compile.proofs.MadeTables.{none_there, shaped_told}
+use Rattle.sm_compile.proofs.MadeTables.{media_told, none_there, shaped_told, unbound_told}
 use Rattle.sm_compile.proofs.ReachedNumbers.{each_number}
 use Rattle.sm_compile.proofs.ReadyMarks.{closed_told}
 use Rattle.sm_compile.proofs.ReadyRows.{row_shapes}
@@ -90,6 +90,9 @@ module _ (g : Graph) (roots : List ℕ) (marks : List Bool)
             (sound (id_of_number g root) (mapped_to (id_of_number g) roots root among)).0 among);
         few = is.ready.few;
         rise = is.ready.rise;
+        numbered = is.stored.numbered;
+        unbound = unbound_told (maps_of g) (map (id_of_number g) ks) ready t rows;
+        no_media = media_told (maps_of g) (map (id_of_number g) ks) ready t rows;
         shaped = shaped_told (maps_of g) (map (id_of_number g) ks) ready t rows;
         built = record {
           stored = stored_there before.added now.added t.patterns is.stored.numbered added;

@@ -19,6 +19,7 @@ mod PatternsPut
 mod TextsPlaced
 mod TextsStored
 mod FirstWays
+mod MarksTaken
 mod WalkSteps
 mod WalkTurns
 mod StepsFound

@@ -7,6 +7,7 @@ pub mod Said
 pub mod Compiled
 pub mod Served
 pub mod Answers
+pub mod WayRooms
 pub mod Roots
 pub mod Laws
 pub mod Looked

@@ -12,7 +12,7 @@ use Rattle.sm_shapes.specs.Fitting.{Test}
 use Rattle.sm_shapes.specs.InOrder.{Shaped, Built}
 use Rattle.sm_shapes.specs.TableView.{table_data}
 use Rattle.sm_compile.specs.Answers.{IsLeftBehind, IsPatternOfSetRefused, StoreSeen}
-use Rattle.sm_compile.specs.Compiled.{IsCompiled, Numbering, texts_of}
+use Rattle.sm_compile.specs.Compiled.{AllUnbound, AreNumberedFrom, IsCompiled, NoMediaTypes, Numbering, texts_of}
 use Rattle.sm_compile.specs.Reached.{IsReached}
 use Rattle.sm_compile.specs.Sound.{IsValueShape, Sound}
 use Rattle.sm_compile.specs.declared.compiled.CompileRefusal.{CompileRefusal}
@@ -35,6 +35,9 @@ pub record IsTableOfRoots (g : Graph) (roots : List ℕ) (test : Test) (before n
   pub there : (root : ℕ) → Contains roots root → Contains made.shapes.items root
   pub few : length made.shapes.items < 2 ^ 32
   pub rise : IsStrictlySortedBy nat_cmp made.shapes.items
+  pub numbered : AreNumberedFrom (length before.added) (table_data made.table).patterns
+  pub unbound : AllUnbound (table_data made.table).members
+  pub no_media : NoMediaTypes (table_data made.table).shapes
   pub shaped : Shaped (table_data made.table)
   pub built : Built (table_data made.table) now.added test
   pub no_default : HasNoDefault (table_data made.table)

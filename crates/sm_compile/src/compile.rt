@@ -12,7 +12,7 @@ use crate::parts::row_at;
 use crate::reach::reached;
 use crate::soundness::is_value_shape;
 use crate::tabled::{Tabled, compile_marked};
-use crate::way::served;
+use crate::way_room::served;
 use sm_ids::ShapeIdRef;
 use sm_model::Graph;
 use sm_shapes::Patterns;

@@ -29,6 +29,7 @@ mod traits;
 mod unserved;
 mod values;
 mod way;
+mod way_room;
 
 pub use compile::compile_shape;
 pub use compiled::{CompileRefusal, OneShape, Served};
@@ -38,6 +39,7 @@ pub use kinds::{has_length, has_values, is_text_kind, is_whole_kind, may_target,
 pub use look::{id_text, kind_of, members_of, target_kind, target_of, targets_unit, trait_node};
 pub use names::{json_name, member_name};
 pub use parts::row_at;
+pub use reach::unmark_all;
 pub use roots::compile_roots;
 pub use seen::has_trait;
 pub use soundness::{is_sound_shape, sound};
@@ -46,4 +48,5 @@ pub use traits::{
     field_of, format_of, is_any_number, is_number, is_object, is_text, number_in, number_of,
     text_in_trait,
 };
-pub use unserved::is_left_out;
+pub use unserved::{is_left_out, is_unserved};
+pub use way_room::WayRoom;

@@ -1,8 +1,8 @@
-// What is reached by members and targets, by number.
-ghost use Rattle.std.specs.Prelude.{◌≡◌, ℕ, IfOk, List, length};
+// What is reached by members and targets, by number; and marks that are taken back.
+ghost use Rattle.std.specs.Prelude.{◌≡◌, ◌↔◌, ℕ, IfOk, List, false, length, replicate};
 ghost use Rattle.std.specs.List.{Contains};
 ghost use Rattle.sm_model.specs.GraphView.{AreShapeNumbers, entries_of, maps_of};
-ghost use Rattle.sm_model.specs.Reaching.{AreFound, AreMarks, Finds, id_of_number};
+ghost use Rattle.sm_model.specs.Reaching.{AreFound, AreMarks, Finds, IsMarked, id_of_number};
 ghost use Rattle.sm_compile.specs.steps.Looked.{IsReachedFrom, LeadsByNumber};
 
 use crate::look::{members_of, target_of};
@@ -48,4 +48,14 @@ pub(crate) fn reached(alloc: Global, graph: &Graph, roots: &[u32]) -> Result<Vec
     mark_all(roots, &mut marks, &mut found)?;
     spread(&MemberSteps { graph }, &mut marks, &mut found)?;
     Ok(marks)
+}
+
+/// Takes back the marks of these numbers, which are all that are marked. No memory.
+pub fn unmark_all(numbers: &[u32], marks: &mut Vec<bool>)
+    requires { (k : ℕ) → Contains numbers.now k ↔ IsMarked marks.old.items k }
+    ensures { marks.new.items ≡ replicate (length marks.old.items) false }
+{
+    for number in numbers {
+        marks[*number as usize] = false;
+    }
 }

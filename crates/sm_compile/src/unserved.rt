@@ -16,7 +16,7 @@ use sm_model::{Graph, Kind};
 use sm_shapes::kinds::ShapeKind;
 
 /// Whether a shape isn't served by itself. It isn't so of a member. Linear in its members.
-pub(crate) fn is_unserved(graph: &Graph, shape: u32) -> bool
+pub fn is_unserved(graph: &Graph, shape: u32) -> bool
     requires { IsShapeNumber graph.now shape }
     ensures { IsTrue result ↔ IsUnserved (maps_of graph.now) (id_of_number graph.now shape) }
 {

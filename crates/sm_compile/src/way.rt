@@ -1,20 +1,19 @@
-// The first way to a shape that isn't served: a walk that enters each shape once finds it, without recursion.
+// Turns of a walk that enters each shape once, without recursion, and so finds the first way to a shape that isn't served.
 ghost use Rattle.std.specs.Prelude.{◌≡◌, ◌++◌, ◌∷◌, [], IfOk, OnOk, Some, length, slice_get, string_bytes};
 ghost use Rattle.sm_bytes.specs.Ascii.{slash};
 ghost use Rattle.sm_model.specs.GraphView.{IsShapeNumber, entries_of, maps_of};
 ghost use Rattle.sm_model.specs.Reaching.{id_of_number};
-ghost use Rattle.sm_compile.specs.Answers.{TellsServed};
 ghost use Rattle.sm_compile.specs.Compiled.{members_under};
 ghost use Rattle.sm_compile.specs.Served.{IsUnserved};
 ghost use Rattle.sm_compile.specs.steps.Looked.{target_under};
-ghost use Rattle.sm_compile.specs.steps.Walking.{FindsAt, FindsNext, FindsTo, IsNext, IsWalk, NoneIsNext, Turns, Walks, path_by};
+ghost use Rattle.sm_compile.specs.steps.Walking.{AreEntered, FindsAt, FindsNext, FindsTo, IsNext, NoneIsNext, Turns, Walks, path_by};
 
 use crate::compiled::Served;
 use crate::look::target_of;
 use crate::names::member_name;
 use crate::numbering::value_members;
 use crate::unserved::is_unserved;
-use sm_model::{Graph, no_marks};
+use sm_model::Graph;
 use sm_tree::{NoMemory, Text};
 use std::alloc::Global;
 
@@ -43,8 +42,10 @@ pub(crate) struct NextStep<'a> {
 /// Where a walk stands.
 #[derive(Drop)]
 pub(crate) struct Walk<'a> {
-    /// Which shapes it has entered.
+    /// Which shapes it has entered, as marks of all numbers.
     pub marks: Vec<bool>,
+    /// The numbers of those, each once.
+    pub entered: Vec<u32>,
     /// The shapes that lead to the one where it stands, the outermost first.
     pub above: Vec<Above<'a>>,
     /// The shape where it stands.
@@ -62,64 +63,15 @@ pub(crate) enum Turn {
     Ended(Served),
 }
 
-/// Whether values of all that a shape reaches can be carried, or the first member path to a shape whose values can't. n log n in what is
-/// reached. `NoMemory` where the walk, or the path, finds no room.
-pub(crate) fn served(alloc: Global, graph: &Graph, root: u32) -> Result<Served, NoMemory>
-    requires { IsShapeNumber graph.now root }
-    ensures { IfOk result (λ s. TellsServed (maps_of graph.now) (id_of_number graph.now root) s) }
-{
-    if is_unserved(graph, root) {
-        unserved_root(alloc, graph, root)
-    } else {
-        walk_from(alloc, graph, root)
-    }
-}
-
-// The answer where the shape itself isn't served.
-fn unserved_root(alloc: Global, graph: &Graph, root: u32) -> Result<Served, NoMemory>
-    requires { IsUnserved (maps_of graph.now) (id_of_number graph.now root) }
-    ensures { IfOk result (λ s. TellsServed (maps_of graph.now) (id_of_number graph.now root) s) }
-{
-    let path = Text::copy(alloc, "")?;
-    Ok(Served::Unserved(path))
-}
-
-// The answer where the shape itself is served.
-fn walk_from(alloc: Global, graph: &Graph, root: u32) -> Result<Served, NoMemory>
-    requires number { IsShapeNumber graph.now root }
-    requires served { IsUnserved (maps_of graph.now) (id_of_number graph.now root) → ⊥ }
-    ensures { IfOk result (λ s. TellsServed (maps_of graph.now) (id_of_number graph.now root) s) }
-{
-    let mut walk = begin(alloc, graph, root)?;
-    loop {
-        match take_turn(alloc, graph, &mut walk) {
-            Ok(Turn::On) => {}
-            Ok(Turn::Ended(served)) => return Ok(served),
-            Err(refusal) => return Err(refusal),
-        }
-    }
-}
-
-// A walk that has entered its root alone.
-fn begin<'a>(alloc: Global, graph: &'a Graph, root: u32) -> Result<Walk<'a>, NoMemory>
-    requires number { IsShapeNumber graph.now root }
-    requires served { IsUnserved (maps_of graph.now) (id_of_number graph.now root) → ⊥ }
-    ensures { IfOk result (λ walk. IsWalk graph.now (id_of_number graph.now root) walk) }
-{
-    let mut marks = no_marks(alloc, graph.count() as usize)?;
-    marks[root as usize] = true;
-    Ok(Walk {
-        marks,
-        above: Vec::new(alloc),
-        shape: root,
-        at: 0,
-    })
-}
-
-// One turn: on to the next shape that wasn't entered, back from a shape that has none, or to the end.
-fn take_turn<'a>(alloc: Global, graph: &'a Graph, walk: &mut Walk<'a>) -> Result<Turn, NoMemory>
+/// One turn: on to the next shape that wasn't entered, back from a shape that has none, or to the end.
+pub(crate) fn take_turn<'a>(
+    alloc: Global,
+    graph: &'a Graph,
+    walk: &mut Walk<'a>,
+) -> Result<Turn, NoMemory>
     requires { Walks graph.now walk.old }
-    ensures { IfOk result (λ turn. Turns graph.now walk.old walk.new turn) }
+    ensures kept { AreEntered graph.now walk.new }
+    ensures turn { IfOk result (λ turn. Turns graph.now walk.old walk.new turn) }
 {
     match next_step(graph, walk.marks.as_slice(), walk.shape, walk.at) {
         Some(next) => go_on(alloc, graph, walk, next),
@@ -136,7 +88,8 @@ fn go_on<'a>(
 ) -> Result<Turn, NoMemory>
     requires walk { Walks graph.now walk.old }
     requires next { IsNext graph.now walk.old.marks.items walk.old.shape walk.old.at next }
-    ensures { IfOk result (λ turn. Turns graph.now walk.old walk.new turn) }
+    ensures kept { AreEntered graph.now walk.new }
+    ensures turn { IfOk result (λ turn. Turns graph.now walk.old walk.new turn) }
 {
     if is_unserved(graph, next.to) {
         find(alloc, graph, walk, next)
@@ -155,7 +108,8 @@ fn find<'a>(
     requires walk { Walks graph.now walk.old }
     requires next { IsNext graph.now walk.old.marks.items walk.old.shape walk.old.at next }
     requires unserved { IsUnserved (maps_of graph.now) (id_of_number graph.now next.to) }
-    ensures { IfOk result (λ turn. Turns graph.now walk.old walk.new turn) }
+    ensures kept { AreEntered graph.now walk.new }
+    ensures turn { IfOk result (λ turn. Turns graph.now walk.old walk.new turn) }
 {
     let path = path_of(alloc, walk.above.as_slice(), next.name)?;
     Ok(Turn::Ended(Served::Unserved(path)))
@@ -166,7 +120,8 @@ fn enter<'a>(graph: &'a Graph, walk: &mut Walk<'a>, next: NextStep<'a>) -> Resul
     requires walk { Walks graph.now walk.old }
     requires next { IsNext graph.now walk.old.marks.items walk.old.shape walk.old.at next }
     requires served { IsUnserved (maps_of graph.now) (id_of_number graph.now next.to) → ⊥ }
-    ensures { IfOk result (λ turn. Turns graph.now walk.old walk.new turn) }
+    ensures kept { AreEntered graph.now walk.new }
+    ensures turn { IfOk result (λ turn. Turns graph.now walk.old walk.new turn) }
 {
     let above = Above {
         shape: walk.shape,
@@ -174,6 +129,7 @@ fn enter<'a>(graph: &'a Graph, walk: &mut Walk<'a>, next: NextStep<'a>) -> Resul
         name: next.name,
     };
     walk.above.push(above)?;
+    walk.entered.push(next.to)?;
     walk.marks[next.to as usize] = true;
     walk.shape = next.to;
     walk.at = 0;
@@ -184,7 +140,8 @@ fn enter<'a>(graph: &'a Graph, walk: &mut Walk<'a>, next: NextStep<'a>) -> Resul
 fn leave<'a>(graph: &'a Graph, walk: &mut Walk<'a>) -> Turn
     requires walk { Walks graph.now walk.old }
     requires none { NoneIsNext graph.now walk.old.marks.items walk.old.shape walk.old.at }
-    ensures { Turns graph.now walk.old walk.new result }
+    ensures kept { AreEntered graph.now walk.new }
+    ensures turn { Turns graph.now walk.old walk.new result }
 {
     match walk.above.pop() {
         Some(above) => {

@@ -1,5 +1,4 @@
 // Lines of a chunked body: texts without CR and LF, each with CR LF behind it.
-ghost use Rattle.std.specs.Prelude.{◌≡◌};
 ghost use Rattle.sm_http.specs.steps.Lines.{SeesLine};
 
 use sm_bytes::{ByteClass, run_len};

@@ -1,5 +1,5 @@
 // Looks at the bytes held for a head, and takes bytes until another look may find more.
-ghost use Rattle.std.specs.Prelude.{◌≡◌, ◌<◌, ◌≤◌, length, IsErrOf};
+ghost use Rattle.std.specs.Prelude.{◌<◌, ◌≤◌, length, IsErrOf};
 ghost use Rattle.sm_io.specs.Causes.{HasCause};
 ghost use Rattle.sm_http.specs.Limits.{head_limit};
 ghost use Rattle.sm_http.specs.steps.Looking.{LooksAHead, FillsOn};

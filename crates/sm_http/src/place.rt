@@ -1,5 +1,5 @@
 // The next place in a body: behind the line end of a chunk, a size line, or the last line and the trailers.
-ghost use Rattle.std.specs.Prelude.{◌≡◌, ◌≤◌};
+ghost use Rattle.std.specs.Prelude.{◌≤◌};
 ghost use Rattle.sm_http.specs.declared.message.BodyLeft.TheVariants.{Size, Data};
 ghost use Rattle.sm_http.specs.Limits.{message_body_limit};
 ghost use Rattle.sm_http.specs.Calls.{IsWithinLimit};

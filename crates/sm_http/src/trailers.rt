@@ -1,5 +1,5 @@
 // The trailer lines behind a chunked body's last line, which are passed over.
-ghost use Rattle.std.specs.Prelude.{◌≡◌, ◌≤◌};
+ghost use Rattle.std.specs.Prelude.{◌≤◌};
 ghost use Rattle.sm_http.specs.Limits.{trailer_limit};
 ghost use Rattle.sm_http.specs.steps.Trailers.{SeesTrailer, SeesTrailers};
 

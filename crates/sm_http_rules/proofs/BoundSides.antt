@@ -18,9 +18,10 @@ use Rattle.sm_select.proofs.MarkedNumbers.{marks_same}
 use Rattle.sm_compile.specs.Sound.{trait_in}
 use Rattle.sm_compile.specs.TraitIds.{http_id}
 use Rattle.sm_rules.specs.Bindings.{IsBound, IsHttpOperation, an_error}
+use Rattle.sm_http_traits.specs.Carriers.{is_own_operation}
+use Rattle.sm_http_traits.proofs.HttpSaid.{is_own, own_operation}
 use Rattle.sm_passes.specs.Carrying.{carries}
-use Rattle.sm_passes.specs.Owned.{is_own_operation, is_own_service}
-use Rattle.sm_passes.proofs.HttpSaid.{is_own, own_operation}
+use Rattle.sm_passes.specs.Owned.{is_own_service}
 use Rattle.sm_passes.proofs.OwnServices.{own_service, service_own}
 use Rattle.sm_http_rules.specs.Sides.{AreOnSide, MayErr, is_http_operation, may_err}
 

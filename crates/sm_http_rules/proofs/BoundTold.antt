@@ -24,17 +24,17 @@ use Rattle.sm_compile.proofs.ReachedNumbers.{each_number}
 use Rattle.sm_compile.proofs.TabledShapes.{mapped_from, mapped_to}
 use Rattle.sm_rules.specs.RuleEvents.{IsEventIn, Puts, rule_event}
 use Rattle.sm_rules.specs.declared.rule.Rule.TheVariants.{HttpTarget}
+use Rattle.sm_http_traits.specs.declared.bindings.BindingKind.{BindingKind}
+use Rattle.sm_http_traits.specs.declared.bindings.BindingKind.TheVariants.{Payload}
+use Rattle.sm_http_traits.specs.declared.bindings.BindingSide.{BindingSide}
+use Rattle.sm_http_traits.specs.declared.bindings.BindingSide.TheVariants.{Input, Output, Error}
+use Rattle.sm_http_traits.specs.Bindings.{binding_said, bindings_in, side_said}
 use Rattle.sm_passes.specs.Owned.{is_own_shape, is_member_in}
 use Rattle.sm_passes.specs.Putting.{ToldOf}
 use Rattle.sm_passes.proofs.EventsPut.{puts_both, puts_none, puts_same}
 use Rattle.sm_http_rules.proofs.HttpBodies.{any_found, found_any}
 use Rattle.sm_passes.proofs.OwnShapes.{member_in, not_so, own_told, told_own}
-use Rattle.sm_http_rules.specs.declared.bindings.Binding.{Binding}
-use Rattle.sm_http_rules.specs.declared.bindings.Binding.TheVariants.{Payload}
-use Rattle.sm_http_rules.specs.declared.bindings.BindingSide.{BindingSide}
-use Rattle.sm_http_rules.specs.declared.bindings.BindingSide.TheVariants.{Input, Output, Error}
 use Rattle.sm_http_rules.specs.declared.sides.Sides.{Sides}
-use Rattle.sm_http_rules.specs.steps.Binding.{binding_said, bindings_in, side_said}
 use Rattle.sm_http_rules.specs.steps.BoundTargets.{HasPayload, IsBesideTold, IsTargetTold, ToldBeside, ToldBinding, ToldBoundMember}
 use Rattle.sm_http_rules.specs.steps.BoundTargets.{ToldOnSide, has_payload, home_of_binding, is_bound_by, is_in_document_at, marks_of}
 use Rattle.sm_http_rules.specs.steps.LeftOut.{AreLeading}
@@ -57,7 +57,7 @@ side_marks g sides are Error = are.are_errors
 
 -- at a member the tests are those of the definition
 module _ (g : GraphMaps) (id : List ℕ) (m : MemberEntry) (has : HasEntry g id (member_entry m)) where
-  bound_at : (b : Binding) → is_bound_by g b id ≡ has_binding m.traits (binding_said b)
+  bound_at : (b : BindingKind) → is_bound_by g b id ≡ has_binding m.traits (binding_said b)
   bound_at b = ap (λ (o : Option Entry). is_member_in o && is_some (trait_in (binding_id (binding_said b)) o)) has
 
   document_at : (side : BindingSide) → is_in_document_at g side id ≡ is_in_document (side_said side) m.traits

@@ -14,29 +14,21 @@ use Rattle.sm_model.specs.declared.event.ModelEvent.{ModelEvent}
 use Rattle.sm_model.proofs.Worklist.{apart}
 use Rattle.sm_compile.specs.Sound.{trait_of}
 use Rattle.sm_compile.specs.TraitIds.{error_id, http_error_id}
-use Rattle.sm_compile.specs.TraitNodes.{number_in, number_of, text_of}
+use Rattle.sm_compile.specs.TraitNodes.{number_of, text_of}
 use Rattle.sm_rules.specs.TraitRows.{that_reads}
 use Rattle.sm_rules.specs.Http.{HasOutputBody, HasWrongStatus, HasWrongStatusCode, wrong_code, wrong_status, forbids_body, is_from_to}
 use Rattle.sm_rules.specs.Http.{is_status_of}
-use Rattle.sm_rules.specs.Words.{field_in, read_trait}
+use Rattle.sm_rules.specs.Words.{field_in}
 use Rattle.sm_rules.specs.RuleEvents.{IsEventAt, Puts, rule_event}
 use Rattle.sm_rules.specs.declared.rule.Rule.TheVariants.{HttpCode}
-use Rattle.sm_http_rules.specs.steps.Codes.{TellsCode, TellsStatus, is_wrong_code, is_wrong_status, status_seen}
-use Rattle.sm_passes.specs.Http.{code_seen}
-use Rattle.sm_passes.specs.Owned.{is_own_structure}
+use Rattle.sm_http_traits.specs.Errors.{status_seen}
+use Rattle.sm_http_traits.specs.Http.{code_seen}
+use Rattle.sm_http_traits.proofs.ErrorsSaid.{number_read, status_said}
+use Rattle.sm_http_traits.proofs.HttpSaid.{operation_there, said_seen, seen_said}
+use Rattle.sm_http_traits.proofs.OwnStructures.{is_own, not_so, own_structure}
+use Rattle.sm_http_rules.specs.steps.Codes.{TellsCode, TellsStatus, is_wrong_code, is_wrong_status}
 use Rattle.sm_passes.specs.Putting.{IsWhere}
-use Rattle.sm_passes.proofs.OwnShapes.{is_own, not_so, own_structure}
 use Rattle.sm_passes.proofs.EventsPut.{puts_both, puts_none, puts_same}
-use Rattle.sm_passes.proofs.HttpSaid.{operation_there, said_seen, seen_said}
-
--- a number that reads is the number that is there
-number_read : (o : Option Node) → number_of (that_reads http_error_id o) ≡ number_of o
-number_read None = refl
-number_read (Some n) = by (number_in n) refl
-  where
-    by : (z : Option ℤ) → number_in n ≡ z → number_of (cond (is_some (number_in n) || false) (Some n) None) ≡ number_in n
-    by (Some z) is = ap (λ y. number_of (cond (is_some y || false) (Some n) None)) is
-    by None is = ap (λ y. number_of (cond (is_some y || false) (Some n) None)) is ∙ sym is
 
 -- whose error it is counts where it is the client's or the server's
 status_read : (o : Option Node) (z : ℤ) → is_status_of (text_of (that_reads error_id o)) z ≡ is_status_of (text_of o) z
@@ -131,16 +123,6 @@ module _ (g : GraphMaps) (id : List ℕ) where
       puts_none (TellsCode g id) es
       (λ e h. none-some h.0 (is ∙ said_seen g id field_number refl h.0 h.1.is_operation h.1.said))
 
-  -- the status of an error, where it is told
-  status_said : (z : ℤ) → Some z ≡ status_seen g id
-      → (is_own_structure g id ≡ true) × (number_of (read_trait g id http_error_id) ≡ Some z)
-  status_said z is = by (is_own_structure g id) refl (sym is)
-    where
-      by : (b : Bool) → is_own_structure g id ≡ b → cond b (number_of (trait_of g id http_error_id)) None ≡ Some z
-          → (is_own_structure g id ≡ true) × (number_of (read_trait g id http_error_id) ≡ Some z)
-      by true own h = (own, number_read (trait_of g id http_error_id) ∙ h)
-      by false own h = absurd (none-some z h)
-
   said_status : (z : ℤ) → HasWrongStatus g id z → status_seen g id ≡ Some z
   said_status z h =
       let own = h.is_structure in
@@ -155,7 +137,7 @@ module _ (g : GraphMaps) (id : List ℕ) where
     where
       forth : (e : EventTold) → IsWhere (is_wrong_status g id z) (rule_event HttpCode id (signed_decimal z)) e → TellsStatus g id e
       forth e h =
-          let said = status_said z is in (
+          let said = status_said g id z is in (
             z,
             record {
               is_structure = own_structure g id said.0;

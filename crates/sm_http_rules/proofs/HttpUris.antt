@@ -12,11 +12,11 @@ use Rattle.sm_rules.specs.Http.{HasNoUri, HasOtherMethod, is_routed}
 use Rattle.sm_rules.specs.Words.{field_in}
 use Rattle.sm_rules.specs.RuleEvents.{IsEventAt, Puts, rule_event}
 use Rattle.sm_rules.specs.declared.rule.Rule.TheVariants.{HttpMethod, HttpUri}
-use Rattle.sm_passes.specs.Http.{method_seen, uri_seen}
+use Rattle.sm_http_traits.specs.Http.{method_seen, uri_seen}
+use Rattle.sm_http_traits.proofs.HttpSaid.{said_seen, seen_said}
 use Rattle.sm_passes.specs.Putting.{IsUnless, IsWhere}
 use Rattle.sm_passes.proofs.OwnShapes.{not_so}
 use Rattle.sm_passes.proofs.EventsPut.{puts_none, puts_same}
-use Rattle.sm_passes.proofs.HttpSaid.{said_seen, seen_said}
 
 -- the text of a field
 abbrev pub field_text : List ℕ → Option Node → Option (List ℕ)

@@ -30,14 +30,14 @@ use Rattle.sm_rules.specs.Http.{HasUri, HasWrongLabel, IsLabelled, TakesLabels, 
 use Rattle.sm_rules.specs.Words.{has_trait}
 use Rattle.sm_rules.specs.RuleEvents.{IsEventOf, Puts, rule_event}
 use Rattle.sm_rules.specs.declared.rule.Rule.TheVariants.{HttpLabels}
+use Rattle.sm_http_traits.specs.Http.{uri_seen}
+use Rattle.sm_http_traits.proofs.HttpSaid.{said_seen, seen_said}
 use Rattle.sm_passes.specs.Carrying.{carries}
 use Rattle.sm_passes.specs.Owned.{is_member_in}
-use Rattle.sm_passes.specs.Http.{uri_seen}
 use Rattle.sm_http_rules.specs.steps.Labels.{AreBoundOf, IsWrongLabel, ToldByLink, ToldByRows, ToldLabels, ToldOfUri, free, is_bound}
 use Rattle.sm_http_rules.specs.steps.Labels.{is_wrong_member, other_shape, is_input, rows_of_labels, unbound, unnamed}
 use Rattle.sm_passes.specs.Putting.{ToldOf}
 use Rattle.sm_passes.proofs.EventsPut.{puts_none, puts_same}
-use Rattle.sm_passes.proofs.HttpSaid.{said_seen, seen_said}
 use Rattle.sm_http_rules.proofs.HttpUris.{field_text}
 use Rattle.sm_http_rules.proofs.LabelRows.{is_greedy_row, is_label_row, none_found, row_is_greedy, row_is_label, some_found}
 use Rattle.sm_passes.proofs.OwnShapes.{member_in, not_so, own_told, told_own}

@@ -16,7 +16,6 @@ mod SameRouteRows
 mod FirstsInOrder
 mod PairsTold
 mod RoutesTold
-mod SomePasses
 mod AllowedTold
 mod LeftOutLed
 mod BoundTold

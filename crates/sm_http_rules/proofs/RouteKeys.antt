@@ -19,8 +19,8 @@ use Rattle.sm_rules.specs.Words.{IsOperation}
 use Rattle.sm_uri.proofs.UriOnce.{one_uri}
 use Rattle.sm_uri.proofs.UriRouted.{routes_by_texts}
 use Rattle.sm_uri.proofs.UriSegments.{all_both, text_passes}
-use Rattle.sm_passes.specs.Http.{method_seen, uri_seen}
-use Rattle.sm_passes.proofs.HttpSaid.{said_seen, seen_said}
+use Rattle.sm_http_traits.specs.Http.{method_seen, uri_seen}
+use Rattle.sm_http_traits.proofs.HttpSaid.{said_seen, seen_said}
 use Rattle.sm_http_rules.proofs.HttpUris.{field_text}
 use Rattle.sm_http_rules.specs.steps.Routes.{IsRouteKey, key_of, method_tail}
 

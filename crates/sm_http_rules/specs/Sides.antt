@@ -7,8 +7,9 @@ use Rattle.sm_model.specs.declared.graph.Graph.{Graph}
 use Rattle.sm_compile.specs.TraitIds.{http_id}
 use Rattle.sm_rules.specs.Bindings.{BoundSide, an_input, an_output, an_error, IsBound, IsHttpOperation}
 use Rattle.sm_rules.specs.Words.{IsInClosure}
+use Rattle.sm_http_traits.specs.Carriers.{is_own_operation}
 use Rattle.sm_passes.specs.Carrying.{carries}
-use Rattle.sm_passes.specs.Owned.{is_own_operation, is_own_service}
+use Rattle.sm_passes.specs.Owned.{is_own_service}
 use Rattle.sm_http_rules.specs.declared.sides.Sides.{Sides}
 
 abbrev pub is_http_operation : GraphMaps → List ℕ → Bool

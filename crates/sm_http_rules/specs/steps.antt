@@ -1,5 +1,4 @@
 pub mod Allowing
-pub mod Binding
 pub mod BoundTargets
 pub mod Codes
 pub mod InBody

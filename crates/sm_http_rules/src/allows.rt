@@ -5,13 +5,13 @@ ghost use Rattle.std.specs.List.{list_all};
 ghost use Rattle.sm_model.specs.GraphView.{AreShapeNumbers, IsShapeNumber, maps_of};
 ghost use Rattle.sm_model.specs.Reaching.{id_of_number};
 ghost use Rattle.sm_rules.specs.Bindings.{allows_target, have_strings_to, is_list_of, is_map_to, is_one_or_list, passes, targets};
+ghost use Rattle.sm_http_traits.specs.Bindings.{binding_said};
 ghost use Rattle.sm_http_rules.specs.steps.Allowing.{map_test, test_of};
-ghost use Rattle.sm_http_rules.specs.steps.Binding.{binding_said};
 
-use crate::bindings::Binding;
 use crate::targets::{Wanted, passes_at, targets_at};
 use sm_compile::trait_ids::SPARSE;
 use sm_compile::{kind_of, members_of, target_of};
+use sm_http_traits::bindings::BindingKind;
 use sm_model::{Graph, Kind};
 use sm_passes::carried::carries;
 use sm_passes::rows::kinds::is_kind;
@@ -26,7 +26,7 @@ pub enum MapValues {
 }
 
 /// Whether a binding allows the target of a member, or nothing stands there.
-pub(crate) fn allows(graph: &Graph, binding: Binding, member: u32) -> bool
+pub(crate) fn allows(graph: &Graph, binding: BindingKind, member: u32) -> bool
     requires { IsShapeNumber graph.now member }
     ensures { result
         ≡ targets (allows_target (maps_of graph.now) (binding_said binding)) (maps_of graph.now) (id_of_number graph.now member) }
@@ -37,19 +37,19 @@ pub(crate) fn allows(graph: &Graph, binding: Binding, member: u32) -> bool
     }
 }
 
-fn allows_at(graph: &Graph, binding: Binding, number: u32) -> bool
+fn allows_at(graph: &Graph, binding: BindingKind, number: u32) -> bool
     requires { IsShapeNumber graph.now number }
     ensures { result
         ≡ allows_target (maps_of graph.now) (binding_said binding) (fin.get (maps_of graph.now).shapes (id_of_number graph.now number)) }
 {
     match binding {
-        Binding::Label => passes_at(graph, Wanted::Spelled, number),
-        Binding::Query => is_one_or_list_at(graph, Wanted::Spelled, number),
-        Binding::QueryParams => is_map_at(graph, MapValues::TextsOrLists, number),
-        Binding::Header => is_one_or_list_at(graph, Wanted::Spelled, number),
-        Binding::PrefixHeaders => is_map_at(graph, MapValues::Texts, number),
-        Binding::Payload => passes_at(graph, Wanted::Payload, number),
-        Binding::ResponseCode => passes_at(graph, Wanted::Integer, number),
+        BindingKind::Label => passes_at(graph, Wanted::Spelled, number),
+        BindingKind::Query => is_one_or_list_at(graph, Wanted::Spelled, number),
+        BindingKind::QueryParams => is_map_at(graph, MapValues::TextsOrLists, number),
+        BindingKind::Header => is_one_or_list_at(graph, Wanted::Spelled, number),
+        BindingKind::PrefixHeaders => is_map_at(graph, MapValues::Texts, number),
+        BindingKind::Payload => passes_at(graph, Wanted::Payload, number),
+        BindingKind::ResponseCode => passes_at(graph, Wanted::Integer, number),
     }
 }
 

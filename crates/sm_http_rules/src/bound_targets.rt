@@ -6,22 +6,22 @@ ghost use Rattle.sm_select.specs.Ways.{AreWays};
 ghost use Rattle.sm_rules.specs.Http.{IsBoundWrongly};
 ghost use Rattle.sm_rules.specs.RuleEvents.{IsEventIn, IsEventOf, Puts};
 ghost use Rattle.sm_rules.specs.declared.rule.Rule.TheVariants.{HttpTarget};
+ghost use Rattle.sm_http_traits.specs.Bindings.{side_said};
 ghost use Rattle.sm_passes.specs.Owned.{is_own_shape};
 ghost use Rattle.sm_passes.specs.Putting.{ToldOf};
-ghost use Rattle.sm_http_rules.specs.steps.Binding.{side_said};
 ghost use Rattle.sm_http_rules.specs.steps.BoundTargets.{ToldBeside, ToldBinding, ToldBoundMember, ToldOnSide, has_payload};
 ghost use Rattle.sm_http_rules.specs.steps.BoundTargets.{home_of_binding, is_bound_by, is_in_document_at, is_wrong_target, marks_of};
 ghost use Rattle.sm_http_rules.specs.steps.LeftOut.{AreLeading};
 ghost use Rattle.sm_http_rules.specs.Sides.{AreSides};
 
 use crate::allows::allows;
-use crate::bindings::{
-    Binding, BindingSide, binding_name, bindings_of, carries_binding, carries_one,
-};
 use crate::left_out::leading_to_left_out;
 use crate::sides::Sides;
 use sm_compile::members_of;
 use sm_compile::trait_ids::HTTP_PAYLOAD;
+use sm_http_traits::bindings::{
+    BindingKind, BindingSide, binding_name, bindings_of, carries_binding, carries_one,
+};
 use sm_model::Graph;
 use sm_passes::carried::is_member;
 use sm_passes::each::{AtEach, put_each};
@@ -162,7 +162,7 @@ fn has_payload(graph: &Graph, members: &[u32]) -> bool
     ensures { result ≡ has_payload (maps_of graph.now) (map (id_of_number graph.now) members.now) }
 {
     for member in members {
-        if is_bound_by(graph, Binding::Payload, *member) {
+        if is_bound_by(graph, BindingKind::Payload, *member) {
             return true;
         }
     }
@@ -194,7 +194,7 @@ fn put_bindings(
     graph: &Graph,
     leading: &[bool],
     member: u32,
-    bindings: &[Binding],
+    bindings: &[BindingKind],
     events: &mut Events,
 ) -> Put
     requires member { IsShapeNumber graph.now member }
@@ -213,7 +213,7 @@ fn put_binding(
     graph: &Graph,
     leading: &[bool],
     member: u32,
-    binding: Binding,
+    binding: BindingKind,
     events: &mut Events,
 ) -> Put
     requires member { IsShapeNumber graph.now member }
@@ -234,7 +234,7 @@ fn put_binding(
 }
 
 // What leads to a value that isn't carried isn't looked at.
-fn is_wrong_target(graph: &Graph, leading: &[bool], binding: Binding, member: u32) -> bool
+fn is_wrong_target(graph: &Graph, leading: &[bool], binding: BindingKind, member: u32) -> bool
     requires member { IsShapeNumber graph.now member }
     requires leading { length leading.now ≡ length (entries_of graph.now) }
     ensures { result ≡ is_wrong_target graph.now leading.now member binding }
@@ -243,7 +243,7 @@ fn is_wrong_target(graph: &Graph, leading: &[bool], binding: Binding, member: u3
         && (!leading[member as usize] && !allows(graph, binding, member))
 }
 
-fn is_bound_by(graph: &Graph, binding: Binding, member: u32) -> bool
+fn is_bound_by(graph: &Graph, binding: BindingKind, member: u32) -> bool
     requires { IsShapeNumber graph.now member }
     ensures { result ≡ is_bound_by (maps_of graph.now) binding (id_of_number graph.now member) }
 {

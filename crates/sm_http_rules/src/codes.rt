@@ -8,17 +8,15 @@ ghost use Rattle.sm_select.specs.Ways.{AreWays};
 ghost use Rattle.sm_rules.specs.Http.{HasOutputBody, HasWrongStatusCode, forbids_body, is_from_to, is_status_of};
 ghost use Rattle.sm_rules.specs.RuleEvents.{IsEventAt, IsEventOf, Puts, rule_event};
 ghost use Rattle.sm_rules.specs.declared.rule.Rule.TheVariants.{HttpCode};
-ghost use Rattle.sm_http_rules.specs.steps.Codes.{TellsCode, TellsStatus, is_wrong_code, is_wrong_status, status_seen};
+ghost use Rattle.sm_http_rules.specs.steps.Codes.{TellsCode, TellsStatus, is_wrong_code, is_wrong_status};
 ghost use Rattle.sm_passes.specs.Putting.{IsWhere};
 
 use crate::in_body::with_output_body;
 use itoa::Buffer;
-use sm_compile::trait_ids::{ERROR, HTTP_ERROR};
-use sm_compile::{number_of, text_in_trait, trait_node};
+use sm_http_traits::errors::{status_of, whose_error};
+use sm_http_traits::http::code_of;
 use sm_model::Graph;
 use sm_passes::each::{AtEach, put_each};
-use sm_passes::http::code_of;
-use sm_passes::owned::is_own_structure;
 use sm_passes::putting::{Events, Put, put_if};
 use sm_rules::Rule;
 use sm_select::Ways;
@@ -96,19 +94,7 @@ fn is_wrong_status(graph: &Graph, number: u32, status: i64) -> bool
     requires { IsShapeNumber graph.now number }
     ensures { result ≡ is_wrong_status (maps_of graph.now) (id_of_number graph.now number) status }
 {
-    !is_status_of(text_in_trait(trait_node(graph, number, ERROR)), status)
-}
-
-// The status of a structure outside of the prelude.
-fn status_of(graph: &Graph, number: u32) -> Option<i64>
-    requires { IsShapeNumber graph.now number }
-    ensures { result ≡ status_seen (maps_of graph.now) (id_of_number graph.now number) }
-{
-    if is_own_structure(graph, number) {
-        number_of(trait_node(graph, number, HTTP_ERROR))
-    } else {
-        None
-    }
+    !is_status_of(whose_error(graph, number), status)
 }
 
 // Puts an event with a number where it is wrong.

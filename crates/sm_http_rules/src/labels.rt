@@ -8,14 +8,14 @@ ghost use Rattle.sm_rules.specs.Http.{HasWrongLabel};
 ghost use Rattle.std.specs.List.{Contains};
 ghost use Rattle.sm_rules.specs.RuleEvents.{IsEventOf, Puts};
 ghost use Rattle.sm_rules.specs.declared.rule.Rule.TheVariants.{HttpLabels};
-ghost use Rattle.sm_passes.specs.Http.{uri_seen};
+ghost use Rattle.sm_http_traits.specs.Http.{uri_seen};
 ghost use Rattle.sm_passes.specs.Putting.{ToldOf};
 ghost use Rattle.sm_http_rules.specs.steps.Labels.{AreBoundOf, AreEach, is_input, ToldByLink, ToldLabels, ToldOfUri};
 
 use crate::label_rows::{BoundRows, all_bound_rows, label_rows};
 use crate::label_told::put_by_rows;
+use sm_http_traits::http::uri_of;
 use sm_model::{Graph, Link, Relation};
-use sm_passes::http::uri_of;
 use sm_passes::putting::{Events, Put};
 use sm_select::Ways;
 use sm_tree::{NoMemory, Text};

@@ -3,7 +3,6 @@
 
 mod again;
 mod allows;
-mod bindings;
 pub mod bound_targets;
 pub mod codes;
 mod in_body;

@@ -5,9 +5,9 @@ ghost use Rattle.sm_rules.specs.RuleEvents.{IsEventAt, IsEventOf, Puts};
 ghost use Rattle.sm_rules.specs.declared.rule.Rule.TheVariants.{HttpMethod};
 ghost use Rattle.sm_rules.specs.Http.{HasOtherMethod, is_routed};
 
+use sm_http_traits::http::method_of;
 use sm_model::Graph;
 use sm_passes::each::{AtEach, put_each};
-use sm_passes::http::method_of;
 use sm_passes::putting::{Events, Put, put_if};
 use sm_rules::Rule;
 use std::alloc::Global;

@@ -6,11 +6,11 @@ ghost use Rattle.sm_model.specs.GraphView.{IsShapeNumber, maps_of};
 ghost use Rattle.sm_model.specs.Reaching.{id_of_number};
 ghost use Rattle.sm_model.specs.Joins.{Joins};
 ghost use Rattle.sm_uri.specs.UriPattern.{uri_said};
-ghost use Rattle.sm_passes.specs.Http.{uri_seen};
+ghost use Rattle.sm_http_traits.specs.Http.{uri_seen};
 ghost use Rattle.sm_http_rules.specs.steps.Routes.{AreRoutes, IsKeyAt, IsRouteKey, key_of, method_tail};
 
+use sm_http_traits::http::{method_of, uri_of};
 use sm_model::Graph;
-use sm_passes::http::{method_of, uri_of};
 use sm_tree::{NoMemory, Text};
 use sm_uri::{UriPattern, UriRefusal, route_text};
 use std::alloc::Global;

@@ -9,11 +9,11 @@ ghost use Rattle.sm_select.specs.Ways.{AreWays};
 ghost use Rattle.sm_http_rules.specs.Sides.{AreSides, MayErr, is_http_operation, may_err};
 
 use sm_compile::trait_ids::HTTP;
+use sm_http_traits::carriers::is_own_operation;
 use sm_model::{Graph, Relation};
 use sm_passes::carried::carries;
 use sm_passes::closures::is_own_service;
 use sm_passes::marked::{NumberTest, marked_where};
-use sm_passes::owned::is_own_operation;
 use sm_select::{Ways, image_along, image_of_walk};
 use sm_tree::NoMemory;
 use std::alloc::Global;

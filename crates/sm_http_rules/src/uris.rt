@@ -8,9 +8,9 @@ ghost use Rattle.sm_rules.specs.RuleEvents.{IsEventAt, IsEventOf, Puts, rule_eve
 ghost use Rattle.sm_rules.specs.declared.rule.Rule.TheVariants.{HttpUri};
 ghost use Rattle.sm_passes.specs.Putting.{IsUnless};
 
+use sm_http_traits::http::uri_of;
 use sm_model::Graph;
 use sm_passes::each::{AtEach, put_each};
-use sm_passes::http::uri_of;
 use sm_passes::putting::{Events, Put, put_event};
 use sm_rules::Rule;
 use sm_tree::NoMemory;

@@ -1,5 +1,5 @@
 // The pairs of services and resources (Smithy 2.0, "Smithy IDL", "Service types").
-ghost use Rattle.std.specs.Prelude.{◌≡◌, ◌++◌, [], ◌∷◌, IfOk, List, string_bytes};
+ghost use Rattle.std.specs.Prelude.{◌++◌, [], ◌∷◌, IfOk, List, string_bytes};
 ghost use Rattle.sm_lex.specs.Tokens.{lexeme_of};
 ghost use Rattle.sm_model.specs.Properties.{property_forms};
 ghost use Rattle.sm_model.specs.RawView.{raw_view, raws_view, raw_members_view};

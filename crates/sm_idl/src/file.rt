@@ -8,7 +8,7 @@ ghost use Rattle.sm_idl.specs.Productions.{each};
 ghost use Rattle.sm_idl.specs.Words.{IsWordId};
 ghost use Rattle.sm_idl.specs.Bodies.{suffix_said, suffix_under, suffixes};
 ghost use Rattle.sm_idl.specs.Idl.{control, metadata, used, is_absolute, metadata_statements, IsVersion, HaveVersion};
-ghost use Rattle.sm_idl.specs.steps.FileClasses.{Dollar, Metadata, Use};
+ghost use Rattle.sm_idl.specs.steps.FileClasses.{Dollar, Metadata};
 ghost use Rattle.sm_idl.specs.steps.FileSteps.{ReadsRow, ReadsBeginning, ReadsUses};
 ghost use Rattle.sm_idl.specs.steps.PartSteps.{suffixes_view};
 ghost use Rattle.sm_idl.specs.steps.PairSteps.{ReadsNewPair, RemembersPair};

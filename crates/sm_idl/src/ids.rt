@@ -1,5 +1,4 @@
 // Ids in rows: those that a shape mixes in, and those that a file uses (Smithy 2.0, "Smithy IDL", "Mixins", "use statement").
-ghost use Rattle.std.specs.Prelude.{◌≡◌};
 ghost use Rattle.sm_idl.specs.Members.{mixins, with_mixins};
 ghost use Rattle.sm_idl.specs.steps.HomeView.{home_of_file};
 ghost use Rattle.sm_idl.specs.steps.Classes.{With};

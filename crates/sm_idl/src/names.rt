@@ -1,5 +1,5 @@
 // Names that came so far, so that one that comes again is refused; and keys.
-ghost use Rattle.std.specs.Prelude.{◌≡◌, ◌++◌, ◌↔◌, ℕ, List, [], ◌∷◌, IfOk, IsTrue};
+ghost use Rattle.std.specs.Prelude.{◌++◌, ◌↔◌, ℕ, List, [], ◌∷◌, IfOk, IsTrue};
 ghost use Rattle.sm_lex.specs.Tokens.{lexeme_of};
 ghost use Rattle.sm_idl.specs.Words.{IsNew, key};
 ghost use Rattle.sm_idl.specs.steps.Names.{Remembers, SaysKey};

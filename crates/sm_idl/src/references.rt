@@ -1,10 +1,9 @@
 // References, as a file writes them, and the ids of the shapes that it defines.
 ghost use Rattle.std.specs.Prelude.{◌≡◌, IfOk, false};
 ghost use Rattle.sm_ids.specs.Identifier.{IsIdentifier};
-ghost use Rattle.sm_model.specs.RawView.{raw_view};
 ghost use Rattle.sm_model.specs.References as references;
 ghost use Rattle.sm_idl.specs.Bodies.{defined_id};
-ghost use Rattle.sm_idl.specs.Nodes.{word_meant, written};
+ghost use Rattle.sm_idl.specs.Nodes.{written};
 ghost use Rattle.sm_idl.specs.steps.HomeView.{home_of_file};
 
 use crate::home::FileHome;

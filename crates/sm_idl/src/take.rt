@@ -1,5 +1,5 @@
 // Tokens taken one after the other: marks, words, and what the next one is.
-ghost use Rattle.std.specs.Prelude.{◌≡◌, ◌↔◌, IsTrue};
+ghost use Rattle.std.specs.Prelude.{◌↔◌, IsTrue};
 ghost use Rattle.sm_lex.specs.Tokens.{lexeme_of};
 ghost use Rattle.sm_idl.specs.Words.{IsMark, IsWord, mark, the_word};
 ghost use Rattle.sm_idl.specs.steps.Firm.{HeadIs};

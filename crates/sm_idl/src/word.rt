@@ -1,5 +1,5 @@
 // Words by their forms: identifiers, namespaces, ids with or without their namespace, and the names of types.
-ghost use Rattle.std.specs.Prelude.{◌≡◌, ◌↔◌, IsTrue, Option};
+ghost use Rattle.std.specs.Prelude.{◌↔◌, IsTrue, Option};
 ghost use Rattle.sm_model.specs.Raw.{Raw};
 ghost use Rattle.sm_model.specs.References.{IsRelativeId};
 ghost use Rattle.sm_ids.specs.Identifier.{IsNamespace};

@@ -1,6 +1,6 @@
 // Whether the inside of a string or a text block has a bad escape, and where the first stands.
 ghost use Rattle.std.specs.Prelude.{◌≡◌, map};
-ghost use Rattle.sm_lex.specs.Lines.{trimmed, indent, trimmed_lines};
+ghost use Rattle.sm_lex.specs.Lines.{indent};
 ghost use Rattle.sm_lex.specs.steps.LexSteps.{line_of, lines_left, line_kept, indent_with, JudgesLine, JudgesLines};
 
 use crate::byte::Spaces;

@@ -1,5 +1,5 @@
 // The lexer: the tokens of a text, from its first byte on.
-ghost use Rattle.std.specs.Prelude.{◌≡◌, ◌<◌, ◌≤◌, ◌+◌, ◌^◌, length, drop, if◌then◌else◌, codes, IfOk, All, map};
+ghost use Rattle.std.specs.Prelude.{◌≡◌, ◌<◌, ◌+◌, ◌^◌, length, drop, if◌then◌else◌, codes, IfOk, All, map};
 ghost use Rattle.sm_lex.specs.declared.byte.First.TheVariants.{Quote as a_quote};
 ghost use Rattle.sm_lex.specs.Bytes.{FirstIs, opens_with};
 ghost use Rattle.sm_lex.specs.Space.{EndsSpace};

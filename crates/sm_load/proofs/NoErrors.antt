@@ -16,16 +16,16 @@ use Rattle.sm_rules.specs.Rules.{Fails}
 
 module _ (g : GraphMaps) (none : HasError g → ⊥) where
   never : (r : Rule) → severity_of r ≡ Error → NeverFails g (Fails r)
-  never r rejects id detail fails = none (record { rule = r; id = id; detail = detail; rejects = rejects; fails = fails })
+  never r rejects id detail inside fails = none (record { rule = r; id = id; detail = detail; rejects = rejects; fails = fails })
 
   none_fails : NoneFails g
   none_fails = record {
     member_names = never rule.MemberCase refl;
     missing = never rule.TargetMissing refl;
     kinds = never rule.TargetKind refl;
-    values = λ id detail h. never rule.TraitValue refl id detail (value_by_row h);
-    places = λ id detail h. never rule.TraitPlace refl id detail (place_by_row h);
-    exclusive = λ id detail h. never rule.TraitConflict refl id detail (by_table h);
+    values = λ id detail inside h. never rule.TraitValue refl id detail inside (value_by_row h);
+    places = λ id detail inside h. never rule.TraitPlace refl id detail inside (place_by_row h);
+    exclusive = λ id detail inside h. never rule.TraitConflict refl id detail inside (by_table h);
     single = never rule.TraitSingle refl;
     enums = never rule.EnumValues refl;
     bounds = never rule.ConstraintBounds refl;

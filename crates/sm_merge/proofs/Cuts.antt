@@ -1,17 +1,14 @@
 -- A text before and behind its first dollar sign.
-use Rattle.std.proofs.Common.{◌≡◌, ◌<◌, ◌+◌, ◌⊎◌, inl, inr, ℕ, suc, Bool, true, false, not, cond, List, [], ◌∷◌, take, drop, length, refl}
+use Rattle.std.proofs.Common.{◌≡◌, ◌<◌, ◌+◌, ◌⊎◌, inl, inr, ℕ, suc, Bool, true, false, not, cond, List, [], ◌∷◌, drop, length, refl}
 use Rattle.std.proofs.Common.{sym, ap, ◌∙◌, arith}
-use Rattle.std.proofs.Math.Seq.{drop-length, take-length}
+use Rattle.std.proofs.Math.Seq.{drop-length}
 use Rattle.std.proofs.lemmas.Bool.Decides.{nat_tests}
 use Rattle.std.specs.List.{position_or_len, after_first}
 use Rattle.sm_bytes.specs.Ascii.{dollar}
-use Rattle.sm_model.specs.Used.{is_byte, shape_part}
+use Rattle.sm_model.specs.Used.{is_byte}
 use Rattle.sm_merge.specs.Meaning.{member_part}
 
--- where none stands the whole is before it
-pub whole_before : (id : List ℕ) → position_or_len (is_byte dollar) id ≡ length id → shape_part id ≡ id
-whole_before id at = ap (λ n. take n id) at ∙ take-length id
-
+-- where none stands nothing is behind it
 pub nothing_behind : (id : List ℕ) → position_or_len (is_byte dollar) id ≡ length id → member_part id ≡ []
 nothing_behind id at = ap (λ n. drop n id) at ∙ drop-length id
 

@@ -72,9 +72,6 @@ module _ {E : Type 0} (mixed : List (Vec Contributing)) (R : ℕ → List E → 
         })
   ]
 
-  pub fill_none : (all : List E) → IsFilled R order 0 all
-  fill_none all i v low at_i = absurd (omega (arith, low))
-
 -- entries depend on those of mixins alone
 same_members : (a b : List (Vec NamedTarget)) (cs : List Contributing) → SameAt a b cs → mixed_members b cs ≡ mixed_members a cs
 same_members a b [] h = refl

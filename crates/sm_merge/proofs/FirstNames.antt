@@ -1,6 +1,6 @@
 -- Members one after the other, each name once: one more, when the names before were seen.
 use Rattle.std.proofs.Common.{◌≡◌, ℕ, Bool, true, false, cond, List, [], ◌∷◌, ◌++◌, filter, map, refl, sym, ap, ◌∙◌}
-use Rattle.std.proofs.Common.{append-nil, append_assoc, bytes_eq}
+use Rattle.std.proofs.Common.{append_assoc, bytes_eq}
 use Rattle.std.proofs.lemmas.Slice.Eq.{bytes_eq-Decides}
 use Rattle.std.specs.Prelude.{◌&&◌, ◌||◌, not}
 use Rattle.sm_merge.specs.Meaning.{Defined}
@@ -73,14 +73,6 @@ names_once (p ∷ ps) =
     ap (λ l. p.0 ∷ l) (kept_names (λ name. not (bytes_eq p.0 name)) (firsts ps)
     ∙ ap (filter (λ name. not (bytes_eq p.0 name))) (names_once ps))
 
--- a name that was seen adds nothing, and another one stands behind
+-- a name that was seen adds nothing
 pub seen_before : (seen : Defined) (name : List ℕ) → seen name ≡ true → (id : List ℕ) → seen id ≡ (seen id || bytes_eq name id)
 seen_before seen name is id = seen_by bytes_eq (λ k l same. (bytes_eq-Decides k l).0 same) seen name is id
-
-pub none_unseen : (before : NamesAndTargets) (seen : Defined) (p : List ℕ × List ℕ) → seen p.0 ≡ true
-    → before ≡ before ++ unseen seen (p ∷ [])
-none_unseen before seen p is = sym (append-nil before) ∙ sym (ap (λ b. before ++ cond (not b) (p ∷ []) []) is)
-
-pub one_unseen : (before : NamesAndTargets) (seen : Defined) (p : List ℕ × List ℕ) → seen p.0 ≡ false
-    → before ++ p ∷ [] ≡ before ++ unseen seen (p ∷ [])
-one_unseen before seen p isnt = sym (ap (λ b. before ++ cond (not b) (p ∷ []) []) isnt)

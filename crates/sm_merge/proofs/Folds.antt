@@ -1,16 +1,14 @@
 -- Values taken one after the other: where the fold begins, one more value, and where it ends.
-use Rattle.std.proofs.Common.{◌≡◌, ◌⊎◌, inl, inr, ℕ, ◌+◌, ◌-◌, ◌^◌, min, Bool, true, false, cond, List, [], ◌∷◌, ◌++◌, None, arith, refl}
+use Rattle.std.proofs.Common.{◌≡◌, ◌⊎◌, inl, inr, ℕ, ◌+◌, ◌-◌, ◌^◌, min, Bool, false, cond, List, [], ◌∷◌, ◌++◌, arith, refl}
 use Rattle.std.proofs.Common.{sym, ap, subst, ◌∙◌}
 use Rattle.std.specs.Prelude.{IsTrue, ◌↔◌}
 use Rattle.sm_bytes.specs.Lengths.{length_word}
-use Rattle.std.specs.Option.{is_some}
 use Rattle.sm_tree.specs.Json.{AreJson}
 use Rattle.sm_tree.specs.Node.{Node, Nodes, list, no_nodes, node, nodes_of}
-use Rattle.sm_tree.specs.Parts.{entries_in}
 use Rattle.sm_tree.specs.Same.{HaveDistinctNames, IsNode, Same}
 use Rattle.sm_tree.specs.Size.{node_size, nodes_size}
 use Rattle.sm_tree.proofs.SameSizes.{same_size}
-use Rattle.sm_merge.specs.Values.{joined, Differ, AreInConflict, ComeTo, ConflictsAfter, IsValueOf, HaveConflict}
+use Rattle.sm_merge.specs.Values.{joined, AreInConflict, ComeTo, ConflictsAfter}
 use Rattle.sm_merge.specs.steps.Folding.{IsFoldOf}
 use Rattle.sm_merge.proofs.OneValue.{one_step}
 
@@ -24,14 +22,6 @@ sizes_apart a b m n h k of_a of_b apart = (
   λ same. absurd (not_true same),
   λ same. absurd (apart (of_a ∙ ap length_word (same_size a b h.1 k.1 same) ∙ sym of_b)),
 )
-
-pub fold_begun : (first : Node) (all : List Node) → IsFoldOf first all first all false
-fold_begun first all = record {
-  comes = λ c h. h;
-  was = λ h. absurd (not_true h);
-  will = λ h. h;
-  no_other = λ h. inr h;
-}
 
 pub fold_step : (first : Node) (all : List Node) (value next after : Node) (rest : List Node) (conflict again : Bool)
     → IsFoldOf first all value (next ∷ rest) conflict → ComeTo value next after
@@ -50,20 +40,6 @@ fold_step first all value next after rest conflict again h came told = record {
     | inr (inr (other, by, later)) ↦ inr (subst (λ n. ConflictsAfter n rest) (one_step value next other after by came) later)
   ];
 }
-
-pub fold_value : (first : Node) (all : List Node) (value : Node) (conflict : Bool) → IsFoldOf first all value [] conflict
-    → IsValueOf (first ∷ all) value
-fold_value first all value conflict h = h.comes value refl
-
-pub fold_conflict : (first : Node) (all : List Node) (value : Node) (conflict : Bool) → IsFoldOf first all value [] conflict
-    → IsTrue conflict ↔ HaveConflict (first ∷ all)
-fold_conflict first all value conflict h = (
-  h.was,
-  λ some. elim (h.no_other some) [
-    | inl is ↦ is
-    | inr never ↦ absurd never
-  ],
-)
 
 -- entries of one array behind those of another
 pub entries_joined : (ns ms : List Node) → nodes_of (ns ++ ms) ≡ joined (nodes_of ns) (nodes_of ms)
@@ -85,32 +61,13 @@ pub size_joined : (ns ms : Nodes) → nodes_size (joined ns ms) ≡ nodes_size n
 size_joined no_nodes ms = omega arith
 size_joined (node n ns) ms = let rest = size_joined ns ms in omega (arith, rest)
 
--- what comes where one of the two is no array
-some_array : (n : Node) (xs : Nodes) → n ≡ list xs → entries_in n ≡ None → ⊥
-some_array n xs is none = subst (λ o. cond (is_some o) ⊥ (Unit {0})) (sym none ∙ ap entries_in is) tt
-
-pub first_stays : (a b : Node) → Differ a b → ((entries_in a ≡ None) ⊎ (entries_in b ≡ None)) → AreInConflict a b
-first_stays a b differ (inl none) = (differ, λ xs ys is_a is_b. some_array a xs is_a none)
-first_stays a b differ (inr none) = (differ, λ xs ys is_a is_b. some_array b ys is_b none)
-
-pub told_conflict : (before : Bool) (a b : Node) → AreInConflict a b → IsTrue true ↔ (IsTrue before ⊎ AreInConflict a b)
-told_conflict before a b h = (λ is. inr h, λ some. refl)
-
+-- two arrays are in no conflict
 pub told_joined : (before : Bool) (xs ys : Nodes) → IsTrue before ↔ (IsTrue before ⊎ AreInConflict (list xs) (list ys))
 told_joined before xs ys = (
   λ is. inl is,
   λ some. elim some [
     | inl is ↦ is
     | inr conflict ↦ absurd (conflict.1 xs ys refl refl)
-  ],
-)
-
-pub told_same : (before : Bool) (a b : Node) → Same a b → IsTrue before ↔ (IsTrue before ⊎ AreInConflict a b)
-told_same before a b same = (
-  λ is. inl is,
-  λ some. elim some [
-    | inl is ↦ is
-    | inr conflict ↦ absurd (conflict.0 same)
   ],
 )
 

@@ -229,13 +229,6 @@ module _ {V : Type 0} where
       → h.more.items ≡ [] → groups_view before ++ resumed_by (Some h) (grouped rest) ≡ groups_view before ++ grouped (e ∷ rest)
   begun_by before h e rest key first more = λ i. groups_view before ++ resumed (key i) (first i ∷ more i) (grouped rest)
 
-  pub taken_by : (before : List (Group V)) (g h : Group V) (e : List ℕ × V) (rest : List (List ℕ × V)) → bytes_eq g.key e.0 ≡ true
-      → h.key ≡ g.key → h.first ≡ g.first → h.more.items ≡ g.more.items ++ e.1 ∷ []
-      → groups_view before ++ resumed_by (Some h) (grouped rest) ≡ groups_view before ++ resumed_by (Some g) (grouped (e ∷ rest))
-  taken_by before g h e rest same key first more =
-      (λ i. groups_view before ++ resumed (key i) (first i ∷ more i) (grouped rest))
-      ∙ ap (λ l. groups_view before ++ l) (taken g.key (g.first ∷ g.more.items) e (grouped rest) same)
-
   pub passed_by : (before : List (Group V)) (g h : Group V) (e : List ℕ × V) (rest : List (List ℕ × V)) → bytes_eq g.key e.0 ≡ false
       → h.key ≡ e.0 → h.first ≡ e.1 → h.more.items ≡ []
       → groups_view (before ++ g ∷ []) ++ resumed_by (Some h) (grouped rest)

@@ -1,18 +1,10 @@
 -- Numbers are marked as finished, one after the other.
 use Rattle.std.proofs.Common.{◌≡◌, inl, inr, ℕ, ◌<◌, Bool, List, [], ◌∷◌, ◌++◌, length, set, sym, subst, arith}
-use Rattle.std.proofs.lemmas.Option.{none-some}
 use Rattle.sm_merge.specs.declared.walk.Status.{Status}
 use Rattle.sm_merge.specs.declared.walk.Status.TheVariants.{Finished}
 use Rattle.sm_merge.specs.steps.Links.{At}
 use Rattle.sm_merge.specs.steps.Walking.{AreMarked, StandsFrom}
 use Rattle.sm_merge.proofs.Ats.{at_front, at_last, at_either_one, at_stored, at_was, at_set, at_kept}
-
-pub none_marked : (ring : Bool) (status : List Status) → AreMarked [] ring status status
-none_marked ring status = record {
-  marked = λ k v there. absurd (none-some v there);
-  kept = λ v s there. inl there;
-  only = λ v s there. inl there;
-}
 
 pub one_marked : (numbers : List ℕ) (ring : Bool) (before now : List Status) (w : ℕ) → w < length now
     → AreMarked numbers ring before now → AreMarked (numbers ++ w ∷ []) ring before (set now w (Finished ring))

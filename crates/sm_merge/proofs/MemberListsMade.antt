@@ -20,12 +20,6 @@ use Rattle.sm_merge.specs.declared.mixins.Contributing.{Contributing}
 use Rattle.sm_merge.proofs.Ats.{at_within}
 use Rattle.sm_merge.proofs.TablesMade.{table_of}
 
--- a piece is put, and then the rest
-pub piece_step : (before after piece rest whole : FoldedRows) → after ≡ before ++ piece → before ++ (piece ++ rest) ≡ whole
-    → after ++ rest ≡ whole
-piece_step before after piece rest whole put step =
-    ap (λ l. l ++ rest) put ∙ append_assoc before piece rest ∙ step
-
 -- the mixin before the others is put behind them
 pub last_step : (f : Contributing → FoldedRows) (start before after : FoldedRows) (mixed : List Contributing) (left : ℕ)
     (c : Contributing) → 0 < left → At mixed (left - 1) c → before ≡ start ++ last_first f (drop left mixed) → after ≡ before ++ f c

@@ -75,10 +75,6 @@ pub none_put : (before : List Contributing) (seen : ℕ → Bool) (c : Contribut
     → before ≡ before ++ unseen_mixins seen (c ∷ [])
 none_put before seen c is = sym (append-nil before) ∙ sym (ap (λ b. before ++ cond b [] (c ∷ [])) is)
 
-pub one_put : (before : List Contributing) (seen : ℕ → Bool) (c : Contributing) → seen c.number ≡ false
-    → before ++ c ∷ [] ≡ before ++ unseen_mixins seen (c ∷ [])
-one_put before seen c isnt = sym (ap (λ b. before ++ cond b [] (c ∷ [])) isnt)
-
 pub mixins_begun : (seen : ℕ → Bool) → ((n : ℕ) → seen n ≡ false) → (cs : List Contributing) → unseen_mixins seen cs ≡ mixins_once cs
 mixins_begun seen none cs = λ i. unseen_mixins (λ n. none n i) cs
 

@@ -1,5 +1,5 @@
 -- Events of members and of what traits are applied to, one after the other.
-use Rattle.std.proofs.Common.{◌≡◌, ℕ, Bool, true, false, cond, List, [], ◌∷◌, ◌++◌, map, Option, Some, refl, sym, ap, ◌∙◌, append-nil}
+use Rattle.std.proofs.Common.{◌≡◌, ℕ, Bool, true, false, cond, List, [], ◌∷◌, ◌++◌, Option, Some, refl, sym, ap, ◌∙◌, append-nil}
 use Rattle.std.proofs.Common.{append_assoc}
 use Rattle.std.proofs.Common.{bytes_eq}
 use Rattle.std.specs.Prelude.{if◌then◌else◌, not}
@@ -17,7 +17,7 @@ use Rattle.sm_merge.specs.steps.Firsts.{NamesAndTargets, targets_view}
 use Rattle.sm_merge.specs.steps.Links.{At}
 use Rattle.sm_merge.specs.steps.MixedIn.{vec_items}
 use Rattle.sm_merge.specs.steps.MixinsOnce.{mixins_once}
-use Rattle.sm_merge.specs.steps.PlaceEvents.{Firsts, applied_events, first_among, if_other, is_other, others_among, others_at, places_at}
+use Rattle.sm_merge.specs.steps.PlaceEvents.{Firsts, applied_events, first_among, if_other, is_other, others_among, others_at}
 use Rattle.sm_merge.specs.steps.PlaceEvents.{target_in}
 use Rattle.sm_merge.specs.declared.firsts.NamedTarget.{NamedTarget}
 use Rattle.sm_merge.specs.declared.mixins.Contributing.{Contributing}
@@ -26,12 +26,6 @@ use Rattle.sm_merge.proofs.GroupsMade.{tests}
 
 pub nothing_more : (es : List ModelEvent) → TellsMore es es []
 nothing_more es = record { told = sym (append-nil (events_view es)); errors = λ h. h }
-
-pub both_told : (a b c : List ModelEvent) (es fs : List EventTold) → TellsMore a b es → TellsMore b c fs → TellsMore a c (es ++ fs)
-both_told a b c es fs h g = record {
-  told = g.told ∙ ap (λ l. l ++ fs) h.told ∙ append_assoc (events_view a) es fs;
-  errors = λ e. g.errors (h.errors e);
-}
 
 pub others_joined : (id : List ℕ) (first : Firsts) (xs ys : NamesAndTargets)
     → others_among id first (xs ++ ys) ≡ others_among id first xs ++ others_among id first ys
@@ -70,9 +64,6 @@ applied_same f g h (id ∷ ids) = λ i. (if h id i then [] else applied_event id
 pub applied_there : (f : Defined) (id : List ℕ) → f id ≡ true → applied_events f (id ∷ []) ≡ []
 applied_there f id is = ap (λ b. (if b then [] else applied_event id ∷ []) ++ []) is
 
-pub applied_gone : (f : Defined) (id : List ℕ) → f id ≡ false → applied_events f (id ∷ []) ≡ applied_event id ∷ []
-applied_gone f id is = ap (λ b. (if b then [] else applied_event id ∷ []) ++ []) is
-
 -- one more list of members, and then the rest
 pub others_step : (before after whole : List EventTold) (id : List ℕ) (first : Firsts) (xs ys : NamesAndTargets)
     → after ≡ before ++ others_among id first xs → before ++ others_among id first (xs ++ ys) ≡ whole
@@ -91,12 +82,6 @@ others_entry rows mixed members v row cs ms first at_row at_cs at_ms h =
     others_same row.id first (first_among (targets_view ms.items)) h (all_targets members (mixins_once cs.items) row.members.items)
     ∙ (λ i. others_among (id_in (sym at_row i)) (first_among (targets_view (vec_items (sym at_ms i))))
     (all_targets members (mixins_once (vec_items (sym at_cs i))) (own_in (sym at_row i))))
-
-pub places_entry : (rows : List BareShape) (members : List (Vec NamedTarget)) (v : ℕ) (row : BareShape) (ms : Vec NamedTarget)
-    → At rows v row → At members v ms
-    → row.id ∷ map (λ p. member_id row.id p.0) (targets_view ms.items) ≡ places_at rows members v
-places_entry rows members v row ms at_row at_ms =
-    λ i. id_in (sym at_row i) ∷ map (λ p. member_id (id_in (sym at_row i)) p.0) (targets_view (vec_items (sym at_ms i)))
 
 -- a member before others in the table of first targets
 pub first_more : (old new : Firsts) (p : List ℕ × List ℕ) (ps : NamesAndTargets)

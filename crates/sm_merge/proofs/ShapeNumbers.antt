@@ -93,12 +93,6 @@ module _ {X : Type 0} where
           subst (λ r. cond (is_eq r) (Unit {0}) ⊥) bad tt
 
 -- the numbers of mixins, one more
-pub no_links : (ids : List (List ℕ)) → LinksTo ids [] []
-no_links ids = record {
-  only = λ k w there. absurd (none-some w there);
-  all = λ k w id there at_w. absurd (none-some id there);
-}
-
 pub one_link : (ids mixins : List (List ℕ)) (mixin : List ℕ) (before after : List ℕ)
     → ((v w : ℕ) (id : List ℕ) → At ids v id → At ids w id → v ≡ w) → PutsNumber ids mixin before after
     → LinksTo ids mixins before → LinksTo ids (mixins ++ mixin ∷ []) after

@@ -68,14 +68,6 @@ module _ {V X : Type 0} (R : List V → X → Type 0) where
       joined key None none = sym (are.each key) ∙ ap (λ p. unwrap_or p []) none
       joined key (Some x) (vs, at, r) = subst (λ us. R us x) (sym (ap (λ p. unwrap_or p []) at) ∙ are.each key) r
 
-  -- a row that a loop puts
-  pub row_step : {T : Type 0} (f : T → List ℕ × X) (g : List ℕ × List V) (gs all : List (List ℕ × List V)) (x : T) (done : List T)
-      → g.0 ≡ (f x).0 → R g.1 (f x).1
-      → ((more : List (List ℕ × X)) → ComeToRows R (g ∷ gs) more → ComeToRows R all (map f done ++ more))
-      → (more : List (List ℕ × X)) → ComeToRows R gs more → ComeToRows R all (map f (done ++ x ∷ []) ++ more)
-  row_step f g gs all x done key is before more h =
-      subst (ComeToRows R all) (sym (behind_more f done x more)) (before (f x ∷ more) (key, is, h))
-
 module _ {X : Type 0} where
   abbrev keys : List (List ℕ × X) → List (List ℕ)
   keys gs = map (λ g. g.0) gs

@@ -1,5 +1,5 @@
 -- Steps of the code that copies members and traits.
-use Rattle.std.proofs.Common.{◌≡◌, ℕ, ◌+◌, ◌-◌, ◌^◌, min, true, false, List, [], ◌∷◌, ◌++◌, length, Option, Some, None}
+use Rattle.std.proofs.Common.{◌≡◌, ℕ, ◌+◌, ◌-◌, ◌^◌, min, true, List, [], ◌∷◌, ◌++◌, length, Option, Some, None}
 use Rattle.std.proofs.Common.{refl, sym, ap, ◌∙◌, append_assoc, append-nil, arith}
 use Rattle.std.specs.Global.{Vec}
 use Rattle.std.specs.Prelude.{IsSomeAnd, is_some, if◌then◌else◌}
@@ -23,9 +23,6 @@ found_some None v q h = absurd h
 found_some (Some e) v q h = sym (ap is_some h.1)
 
 -- traits with the value of an enum's member
-pub none_lacking : (kind : Kind) (name : List ℕ) (ps : List (List ℕ × Node)) → lacks_value kind ps ≡ false → ps ≡ valued kind name ps
-none_lacking kind name ps h = sym (ap (λ b. if b then ps ++ (enum_value, text name) ∷ [] else ps) h)
-
 pub one_lacking : (kind : Kind) (name : List ℕ) (ps : List (List ℕ × Node)) → lacks_value kind ps ≡ true
     → ps ++ (enum_value, text name) ∷ [] ≡ valued kind name ps
 one_lacking kind name ps h = sym (ap (λ b. if b then ps ++ (enum_value, text name) ∷ [] else ps) h)

@@ -15,31 +15,6 @@ of_new zero k s h = absurd (none-some s h)
 of_new (suc n) zero s h = same_Some New s h
 of_new (suc n) (suc k) s h = of_new n k s h
 
-pub new_grounded : (links : Links) (status : List Status) → status ≡ replicate (length links) New → length status ≡ length links
-    → IsGrounded links status [] [] []
-new_grounded links status is size = record {
-  size = size;
-  begun = λ k v there. absurd (new_begun k (new v (Begun k) there));
-  in_row = λ k v there. absurd (none-some v there);
-  within = λ k w there. absurd (none-some w there);
-  chain = λ i k v w under there at_w. absurd (none-some v there);
-  closed = λ v w done leads. absurd (new_finished done.ring (new v (Finished done.ring) done.there));
-  told = λ v ring there. absurd (new_finished ring (new v (Finished ring) there));
-  placed = λ v done. absurd (new_finished done.ring (new v (Finished done.ring) done.there));
-  listed = λ k v there. absurd (none-some v there);
-  once = λ i k v there other. absurd (none-some v there);
-  behind = λ k v w there leads. absurd (none-some v there);
-}
-  where
-    new : (v : ℕ) (s : Status) → At status v s → New ≡ s
-    new v s there = of_new (length links) v s (subst (λ xs. At xs v s) is there)
-
-    new_begun : (k : ℕ) → New ≡ Begun k → ⊥
-    new_begun k e = cc
-
-    new_finished : (ring : Bool) → New ≡ Finished ring → ⊥
-    new_finished ring e = cc
-
 -- a number that was met is finished, where the row has ended
 pub met_done : (links : Links) (status : List Status) (row targets order : List ℕ) → IsGrounded links status row targets order
     → length row ≡ 0 → (v : ℕ) → v < length links → IsMet status v → IsDone status v

@@ -4,7 +4,6 @@ use Rattle.std.proofs.Common.{zero, suc, get_or, Option, Some, None, refl, sym, 
 use Rattle.std.specs.Prelude.{slice_get}
 use Rattle.std.specs.Global.{Vec}
 use Rattle.std.proofs.lemmas.List.{length-set, reverse-append}
-use Rattle.std.proofs.lemmas.Option.{none-some}
 use Rattle.sm_merge.specs.declared.walk.Part.{Part}
 use Rattle.sm_merge.specs.declared.walk.Status.{Status}
 use Rattle.sm_merge.specs.declared.walk.Status.TheVariants.{New, Begun, Finished}
@@ -17,7 +16,7 @@ use Rattle.sm_merge.proofs.WalkBegun.{begun_grounded, begun_parts}
 use Rattle.sm_merge.proofs.Walked.{popped_grounded, popped_parts, popped_reached, settled_parts}
 use Rattle.sm_merge.proofs.WalkEnds.{fewer_steps, one_fewer, order_told, rings_told}
 use Rattle.sm_merge.proofs.WalkFinished.{finished_grounded, finished_parts}
-use Rattle.sm_merge.proofs.WalkJoined.{joined_parts, joining, joining_more, joining_some, ring_from}
+use Rattle.sm_merge.proofs.WalkJoined.{joined_parts, joining, joining_more, ring_from}
 
 new_begun : (k : ℕ) → Begun k ≡ New → ⊥
 new_begun k e = cc
@@ -27,16 +26,6 @@ new_finished ring e = cc
 
 pub last_first : (path front : List Part) (p : Part) → path ≡ front ++ p ∷ [] → reverse path ≡ p ∷ reverse front
 last_first path front p is = ap reverse is ∙ reverse-append front (p ∷ [])
-
-pub no_last : {A : Type 0} (xs : List A) → slice_get xs (length xs - 1) ≡ None → xs ≡ []
-no_last [] h = refl
-no_last (x ∷ xs) h = absurd (by x xs h)
-  where
-    by : {A : Type 0} (x : A) (xs : List A) → slice_get (x ∷ xs) (length (x ∷ xs) - 1) ≡ None → ⊥
-    by x [] h = none-some x (sym h)
-    by x (y ∷ ys) h =
-        let one_less : length (x ∷ (y ∷ ys)) - 1 ≡ suc (length (y ∷ ys) - 1) = omega arith in
-        by y ys (subst (λ i. slice_get (x ∷ (y ∷ ys)) i ≡ None) one_less h)
 
 -- a walk from what its lists are
 is_walking : (links : Links) (held : Option ℕ) (walk : Walk) (status : List Status) (row targets order : List ℕ) (path : List Part)
@@ -184,11 +173,6 @@ join_ended links before now w place p path rest is low there h reach joins is_st
       met = λ v met. subst (λ s. IsMet s v) (sym is_status) met;
       nearer = omega (arith, same, targets, one, other, shorter);
     }
-
-pub join_some : (links : Links) (status : List Status) (row targets : List ℕ) (w place : ℕ) (path : List Part) → path ≡ []
-    → IsJoining links status row targets w place (reverse path) → ⊥
-join_some links status row targets w place path is h =
-    joining_some links status row targets w place (subst (λ p. IsJoining links status row targets w place (reverse p)) is h)
 
 -- the last part is finished
 pub record HasEnded (links : Links) (before now : Walk) : Type 0 where

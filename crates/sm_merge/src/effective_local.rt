@@ -1,11 +1,11 @@
 // The traits that a mixin keeps for itself.
-ghost use Rattle.std.specs.Prelude.{◌≡◌, ◌||◌, ℕ, List, None, Some, IfOk, MatchOption, OnOk};
+ghost use Rattle.std.specs.Prelude.{◌≡◌, ◌||◌, ℕ, List, None, Some, IfOk, OnOk};
 ghost use Rattle.std.specs.List.{list_any};
 ghost use Rattle.std.specs.Option.{unwrap_or};
 ghost use Rattle.std.specs.Str.{bytes_eq};
-ghost use Rattle.sm_tree.specs.Node.{members_of, no_nodes, node, nodes_of};
-ghost use Rattle.sm_tree.specs.Parts.{entries_in, tree_named};
-ghost use Rattle.sm_tree.specs.View.{members_view, node_of, nodes_view};
+ghost use Rattle.sm_tree.specs.Node.{no_nodes, node, nodes_of};
+ghost use Rattle.sm_tree.specs.Parts.{entries_in};
+ghost use Rattle.sm_tree.specs.View.{node_of, nodes_view};
 ghost use Rattle.sm_merge.specs.Mixins.{local_traits, texts_among};
 ghost use Rattle.sm_merge.specs.steps.Known.{has_text};
 

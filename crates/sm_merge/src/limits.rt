@@ -1,13 +1,11 @@
 // Whether tables are past a limit. The prelude doesn't count.
-ghost use Rattle.std.specs.Prelude.{◌≡◌, ◌<◌, ◌+◌, ◌↔◌, IsTrue, length};
+ghost use Rattle.std.specs.Prelude.{◌≡◌, ◌<◌, ◌↔◌, IsTrue, length};
 ghost use Rattle.sm_bytes.specs.Lengths.{length_word};
-ghost use Rattle.sm_model.specs.steps.Rising.{Rise};
-ghost use Rattle.sm_merge.specs.Limits.{most_members_in_all, most_shapes, most_in_traits};
+ghost use Rattle.sm_merge.specs.Limits.{most_members_in_all, most_shapes};
 ghost use Rattle.sm_merge.specs.steps.EffectiveTables.{AreRunning, AreSoundTraits, trait_pairs};
 ghost use Rattle.sm_merge.specs.steps.Firsts.{target_view, targets_view};
-ghost use Rattle.sm_merge.specs.steps.Made.{AreAllSound, made_member, made_members, made_shape, made_shapes};
+ghost use Rattle.sm_merge.specs.steps.Made.{made_member, made_members, made_shape};
 ghost use Rattle.sm_merge.specs.steps.Made.{members_count, members_size as all_members_size, pairs_size, shape_size as size_of_shape};
-ghost use Rattle.sm_merge.specs.steps.Made.{shapes_size as all_shapes_size};
 ghost use Rattle.sm_merge.specs.steps.Placed.{bare_view};
 
 use crate::effective::{MemberTraits, NamedFolded, ShapeTraits};

@@ -1,7 +1,7 @@
 // The members and traits that shapes have in a graph, copied once from where they stand.
 ghost use Rattle.std.specs.Prelude.{◌≡◌, ◌<◌, is_some, length, slice_get, IfOk, IsSomeAnd};
 ghost use Rattle.std.specs.FinMap as fin;
-ghost use Rattle.sm_tree.specs.View.{members_view, pairs_view};
+ghost use Rattle.sm_tree.specs.View.{members_view};
 ghost use Rattle.sm_model.specs.GivenView.{member_given_view, members_given_of};
 ghost use Rattle.sm_model.specs.Graphs.{text_cmp};
 ghost use Rattle.sm_model.specs.steps.Rising.{Rise};

@@ -8,7 +8,7 @@ ghost use Rattle.sm_model.specs.References.{IsReference};
 ghost use Rattle.sm_model.specs.SaidView.{member_statements_view, member_view, shape_view, statement_view, statements_view, traits_view};
 ghost use Rattle.sm_merge.specs.Files.{files_view};
 ghost use Rattle.sm_merge.specs.Meaning.{meaning as meant, meanings};
-ghost use Rattle.sm_merge.specs.Stated.{AreFormedFiles, all_said, member_stated, shape_with_ids, stated as statement_stated, stated_by};
+ghost use Rattle.sm_merge.specs.Stated.{AreFormedFiles, member_stated, shape_with_ids, stated as statement_stated, stated_by};
 ghost use Rattle.sm_merge.specs.Stated.{traits_stated};
 ghost use Rattle.sm_merge.specs.steps.Known.{known};
 ghost use Rattle.sm_merge.specs.steps.Rows.{members_stated, row_view, rows_view, shape_row_view};

@@ -1,5 +1,5 @@
 // What all that is given comes to: a row for each trait of each place, and for each key of metadata.
-ghost use Rattle.std.specs.Prelude.{◌≡◌, ◌∷◌, ◌++◌, IfOk};
+ghost use Rattle.std.specs.Prelude.{◌≡◌, ◌∷◌, IfOk};
 ghost use Rattle.sm_model.specs.Given.{AreNodes as ArePairsOfNodes};
 ghost use Rattle.sm_tree.specs.Same.{IsNode};
 ghost use Rattle.sm_tree.specs.View.{members_view, node_of, nodes_view, pairs_view};

@@ -3,7 +3,7 @@
 //
 // What is begun stands in a row, cut into parts: the numbers of a part lead to one another, and each part leads to those behind it. A
 // target in the row makes one part of all from its own to the last; a part with no targets left is a component, and is finished.
-ghost use Rattle.std.specs.Prelude.{◌≡◌, ◌<◌, ◌≤◌, ◌++◌, ℕ, List, length, get_or, Some, None, IfOk, OnOk};
+ghost use Rattle.std.specs.Prelude.{◌≡◌, ◌<◌, ◌≤◌, ◌++◌, ℕ, length, get_or, Some, None, IfOk, OnOk};
 ghost use Rattle.sm_merge.specs.declared.walk.Status.TheVariants.{Begun, New};
 ghost use Rattle.sm_merge.specs.steps.Links.{AreLinks, At, Links, links_view};
 ghost use Rattle.sm_merge.specs.steps.Walking.{AllReach, AreMarked, HasFinished, HasGone, HasTaken, IsIdle, IsMet, IsWalked, IsWalking};

@@ -2,7 +2,6 @@ mod EarlierRows
 pub mod EntriesThere
 pub mod EventsPut
 pub mod FirstRows
-pub mod HttpSaid
 pub mod IdsRise
 pub mod ListParts
 pub mod ListPut

@@ -17,6 +17,7 @@ use Rattle.sm_rules.specs.TraitRows as table
 use Rattle.sm_rules.specs.TraitRows.{PlaceForm, Spot, TraitRow, are_text_nodes, at_member, at_shape, has_form, has_none, has_row}
 use Rattle.sm_rules.specs.TraitRows.{defaulted_kinds, is_among, trait_kinds, is_as_one, judging, may_stand, row_takes_in, rows_of, takes_in}
 use Rattle.sm_rules.specs.TraitRows.{trait_rows}
+use Rattle.sm_http_traits.proofs.HttpSaid.{free, needed}
 use Rattle.sm_passes.specs.declared.rows.form.RowForm.{RowForm}
 use Rattle.sm_passes.specs.declared.rows.form.RowForm.TheVariants as form
 use Rattle.sm_passes.specs.declared.rows.names.FoundRows.{FoundRows}
@@ -27,7 +28,6 @@ use Rattle.sm_passes.specs.Forms.{form_said, is_of_form, token_signs}
 use Rattle.sm_passes.specs.Places.{allows, is_defaulted_kind, places_said, stand_at, types_said}
 use Rattle.sm_passes.specs.RowTests.{AsksOfRow, any_row, is_wrong_place, is_wrong_value, reads_by, reads_there, some_row, some_said}
 use Rattle.sm_passes.specs.RowTests.{stand_takes_in, stands_by}
-use Rattle.sm_passes.proofs.HttpSaid.{free, needed}
 
 or_false : (b : Bool) → (b || false) ≡ b
 or_false true = refl

@@ -8,9 +8,9 @@ use Rattle.sm_compile.specs.TraitNodes.{are_bounds, are_whole_bounds, field_of, 
 use Rattle.sm_compile.specs.TraitNodes.{is_timestamp_format, where_there}
 use Rattle.sm_rules.specs.TraitRows as table
 use Rattle.sm_rules.specs.TraitRows.{ValueForm, are_named_texts, are_text_nodes, has_none, is_list_node, is_text_that, may_have, must_have}
+use Rattle.sm_http_traits.specs.Http.{is_http_value, is_there_as}
 use Rattle.sm_passes.specs.declared.rows.form.RowForm.{RowForm}
 use Rattle.sm_passes.specs.declared.rows.form.RowForm.TheVariants as form
-use Rattle.sm_passes.specs.Http.{is_http_value, is_there_as}
 
 -- the form as the table has it
 abbrev pub form_said : RowForm → ValueForm

@@ -5,7 +5,6 @@ pub mod Folded
 pub mod Firsts
 pub mod Earlier
 pub mod Closures
-pub mod Http
 pub mod Forms
 pub mod Places
 pub mod RowTests

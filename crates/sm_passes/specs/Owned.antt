@@ -4,22 +4,8 @@ use Rattle.std.specs.FinMap as fin
 use Rattle.sm_model.specs.Graphs.{GraphMaps, Entry, shape_entry, member_entry}
 use Rattle.sm_model.specs.PreludeShapes.{is_prelude_id}
 use Rattle.sm_model.specs.declared.kind.Kind.{Kind}
-use Rattle.sm_model.specs.declared.kind.Kind.TheVariants.{Operation, Structure, Service}
+use Rattle.sm_model.specs.declared.kind.Kind.TheVariants.{Service}
 use Rattle.sm_compile.specs.Looked.{kind_under}
-
-abbrev pub is_structure : Option Kind → Bool
-is_structure (Some Structure) = true
-is_structure other = false
-
-abbrev pub is_own_structure : GraphMaps → List ℕ → Bool
-is_own_structure g id = is_structure (kind_under g id) && not (is_prelude_id id)
-
-abbrev pub is_operation : Option Kind → Bool
-is_operation (Some Operation) = true
-is_operation other = false
-
-abbrev pub is_own_operation : GraphMaps → List ℕ → Bool
-is_own_operation g id = is_operation (kind_under g id) && not (is_prelude_id id)
 
 abbrev pub is_service : Option Kind → Bool
 is_service (Some Service) = true

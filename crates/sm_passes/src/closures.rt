@@ -8,7 +8,7 @@ ghost use Rattle.sm_passes.specs.Closures.{IsClosureOf};
 ghost use Rattle.sm_passes.specs.steps.Groups.{IsClear};
 ghost use Rattle.sm_passes.specs.Owned.{is_own_service, is_service};
 
-use sm_compile::{id_text, kind_of};
+use sm_compile::{id_text, kind_of, unmark_all};
 use sm_model::{Graph, Kind, Steps, is_in_prelude, no_marks, spread};
 use sm_select::Ways;
 use sm_tree::NoMemory;
@@ -88,15 +88,5 @@ impl Closure {
     {
         unmark_all(self.found.as_slice(), &mut self.marks);
         self.found.clear();
-    }
-}
-
-// Takes back the marks of these numbers, which are all that are marked.
-fn unmark_all(numbers: &[u32], marks: &mut Vec<bool>)
-    requires { (k : ℕ) → Contains numbers.now k ↔ IsMarked marks.old.items k }
-    ensures { marks.new.items ≡ replicate (length marks.old.items) false }
-{
-    for number in numbers {
-        marks[*number as usize] = false;
     }
 }

@@ -8,7 +8,6 @@ pub mod each;
 pub mod earlier;
 pub mod firsts;
 pub mod folded;
-pub mod http;
 pub mod marked;
 pub mod numbers;
 mod once;

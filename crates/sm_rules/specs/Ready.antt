@@ -4,6 +4,7 @@
 use Rattle.std.specs.Prelude.{◌≡◌, ◌⊎◌, ℕ, List}
 use Rattle.sm_model.specs.FormedGraph.{IsFormedGraph}
 use Rattle.sm_model.specs.Graphs.{GraphMaps}
+use Rattle.sm_compile.specs.Compiled.{IdSet}
 use Rattle.sm_rules.specs.Words.{IsService, IsInClosure}
 use Rattle.sm_rules.specs.Names.{RepeatsName}
 use Rattle.sm_rules.specs.Targets.{RefersToNothing, RefersToOther}
@@ -21,27 +22,34 @@ IsOfService g service id = (id ≡ service) ⊎ IsInClosure g service id
 abbrev pub RuleOn : Type 1
 RuleOn = GraphMaps → List ℕ → List ℕ → Type 0
 
-abbrev pub FailsNowhere : GraphMaps → List ℕ → RuleOn → Type 0
-FailsNowhere g service Fails = (id detail : List ℕ) → IsOfService g service id → Fails g id detail → ⊥
+-- it fails at no shape and at no member of a set
+abbrev pub FailsNowhereIn : GraphMaps → IdSet → RuleOn → Type 0
+FailsNowhereIn g In Fails = (id detail : List ℕ) → In id → Fails g id detail → ⊥
 
+-- none of these rules fails there. Values, places and conflicts of traits are those of the table: of what a model's own traits say nothing
+-- is asked
+pub record NoneFailsIn (g : GraphMaps) (In : IdSet) : Type 0 where
+  pub member_names : FailsNowhereIn g In RepeatsName
+  pub missing : FailsNowhereIn g In RefersToNothing
+  pub kinds : FailsNowhereIn g In RefersToOther
+  pub values : FailsNowhereIn g In HasOtherValue
+  pub places : FailsNowhereIn g In StandsElsewhere
+  pub exclusive : FailsNowhereIn g In HasExclusiveTraits
+  pub single : FailsNowhereIn g In CarriesTwice
+  pub enums : FailsNowhereIn g In HasWrongEnum
+  pub bounds : FailsNowhereIn g In HasWrongBounds
+  pub names : FailsNowhereIn g In HasWrongNames
+  pub uris : FailsNowhereIn g In HasNoUri
+  pub labels : FailsNowhereIn g In HasWrongLabel
+  pub parts : FailsNowhereIn g In IsBoundWrongly
+  pub wire_names : FailsNowhereIn g In HasWireNameAgain
+  pub routes : FailsNowhereIn g In HasSameRoute
+  pub numbers : FailsNowhereIn g In HasWrongStatusCode
+
+-- a graph of the form of one, in which none fails at the service or at what it leads to
 pub record IsReady (g : GraphMaps) (service : List ℕ) : Type 0 where
   pub formed : IsFormedGraph g
-  pub member_names : FailsNowhere g service RepeatsName
-  pub missing : FailsNowhere g service RefersToNothing
-  pub kinds : FailsNowhere g service RefersToOther
-  pub values : FailsNowhere g service HasOtherValue
-  pub places : FailsNowhere g service StandsElsewhere
-  pub exclusive : FailsNowhere g service HasExclusiveTraits
-  pub single : FailsNowhere g service CarriesTwice
-  pub enums : FailsNowhere g service HasWrongEnum
-  pub bounds : FailsNowhere g service HasWrongBounds
-  pub names : FailsNowhere g service HasWrongNames
-  pub uris : FailsNowhere g service HasNoUri
-  pub labels : FailsNowhere g service HasWrongLabel
-  pub parts : FailsNowhere g service IsBoundWrongly
-  pub wire_names : FailsNowhere g service HasWireNameAgain
-  pub routes : FailsNowhere g service HasSameRoute
-  pub numbers : FailsNowhere g service HasWrongStatusCode
+  pub none : NoneFailsIn g (IsOfService g service)
 
 -- nothing is asked of an id that is no service's
 abbrev pub Ready : GraphMaps → List ℕ → Type 0

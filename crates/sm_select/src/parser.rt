@@ -1,6 +1,5 @@
 // Selectors out of texts (Smithy 2.0, "Selectors"). Forms in one another stand on a stack, so nothing recurses.
-ghost use Rattle.std.specs.Prelude.{◌≡◌, ◌++◌, ◌∷◌, [], List, MatchBool, MatchOption, None, Option, true};
-ghost use Rattle.std.specs.List.{Contains};
+ghost use Rattle.std.specs.Prelude.{◌≡◌, ◌++◌, ◌∷◌, [], List, MatchOption, None, Option, true};
 ghost use Rattle.sm_model.specs.declared.kind.Kind.{Kind as Sort};
 ghost use Rattle.sm_select.specs.Answers.{ParsesSelector};
 ghost use Rattle.sm_select.specs.Grammar.{type_word};

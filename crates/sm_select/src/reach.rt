@@ -1,7 +1,6 @@
 // Where one step or more lead to from a set of numbers.
-ghost use Rattle.std.specs.Prelude.{◌≡◌, ◌<◌, ◌^◌, ℕ, IfOk, OnOk, false, length, replicate};
-ghost use Rattle.std.specs.List.{Contains};
-ghost use Rattle.sm_model.specs.Reaching.{AreFound, Finds, Spreads};
+ghost use Rattle.std.specs.Prelude.{◌≡◌, ◌<◌, ◌^◌, IfOk, OnOk, length};
+ghost use Rattle.sm_model.specs.Reaching.{AreFound, Finds};
 ghost use Rattle.sm_select.specs.Neighbors.{AreReached, HasStep, StayBelow};
 ghost use Rattle.sm_select.specs.steps.Reaching.{StepsFrom, StepsFromStart};
 

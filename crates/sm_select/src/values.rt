@@ -1,9 +1,8 @@
 // The value of a path at a shape or member.
 ghost use Rattle.std.specs.Prelude.{◌≡◌, MatchOption, None, Some};
 ghost use Rattle.std.specs.Option.{option_copied, option_map};
-ghost use Rattle.sm_tree.specs.Node.{members_of, text};
-ghost use Rattle.sm_tree.specs.Parts.{tree_named};
-ghost use Rattle.sm_tree.specs.View.{members_view, node_of};
+ghost use Rattle.sm_tree.specs.Node.{text};
+ghost use Rattle.sm_tree.specs.View.{node_of};
 ghost use Rattle.sm_model.specs.GraphView.{IsShapeNumber, maps_of};
 ghost use Rattle.sm_model.specs.Reaching.{id_of_number};
 ghost use Rattle.sm_select.specs.Picks.{HasValue, value_at_key, value_within};

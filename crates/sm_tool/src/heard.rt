@@ -1,5 +1,4 @@
 // The real files and output, which remember what a person is told afterwards.
-ghost use Rattle.std.specs.Prelude.{◌≡◌};
 
 use sm_io::{FileRefusal, Files, PutRefusal, Sink};
 use std::alloc::Global;

@@ -32,11 +32,11 @@ use Rattle.sm_rules.specs.Words.{field_in}
 use Rattle.sm_compile.proofs.TabledShapes.{mapped_from}
 use Rattle.sm_rules.specs.RuleEvents.{IsEventOf, Puts, rule_event}
 use Rattle.sm_rules.specs.declared.rule.Rule.TheVariants.{TraitPlace}
+use Rattle.sm_http_traits.proofs.HttpSaid.{free}
 use Rattle.sm_passes.specs.Owned.{is_own_shape}
 use Rattle.sm_passes.specs.Forms.{is_trait_value}
 use Rattle.sm_passes.specs.Putting.{Below, ToldOf}
 use Rattle.sm_passes.proofs.EventsPut.{puts_none, puts_same}
-use Rattle.sm_passes.proofs.HttpSaid.{free}
 use Rattle.sm_passes.proofs.OwnShapes.{own_told, told_own}
 use Rattle.sm_trait_rules.specs.steps.Placing.{AreFirsts, AreOfText, AreUses, AreUsesThere, IsUse, SharesText, ToldOfUse, ToldOutside}
 use Rattle.sm_trait_rules.specs.steps.Placing.{ToldUnmarked, selector_in, selector_under, told_use}

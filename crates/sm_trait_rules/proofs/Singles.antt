@@ -18,10 +18,10 @@ use Rattle.sm_rules.specs.Traits.{CarriesTwice, single_traits}
 use Rattle.sm_compile.specs.Looked.{listed_in, listed_under}
 use Rattle.sm_rules.specs.RuleEvents.{IsEventAt, Puts}
 use Rattle.sm_rules.specs.declared.rule.Rule.TheVariants.{TraitSingle}
+use Rattle.sm_http_traits.specs.Carriers.{is_own_structure}
+use Rattle.sm_http_traits.proofs.OwnStructures.{OwnStructure, is_own, own_structure}
 use Rattle.sm_trait_rules.specs.steps.Twice.{ToldTwice, carried_twice}
 use Rattle.sm_passes.specs.Carrying.{carries}
-use Rattle.sm_passes.specs.Owned.{is_own_structure}
-use Rattle.sm_passes.proofs.OwnShapes.{OwnStructure, is_own, own_structure}
 use Rattle.sm_passes.proofs.EventsPut.{puts_both, puts_none, puts_same}
 
 module _ (p : List ℕ → Bool) where

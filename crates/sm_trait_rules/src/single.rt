@@ -5,16 +5,16 @@ ghost use Rattle.sm_model.specs.Reaching.{id_of_number};
 ghost use Rattle.sm_rules.specs.Traits.{CarriesTwice};
 ghost use Rattle.sm_rules.specs.RuleEvents.{IsEventAt, IsEventOf, Puts};
 ghost use Rattle.sm_rules.specs.declared.rule.Rule.TheVariants.{TraitSingle};
+ghost use Rattle.sm_http_traits.specs.Carriers.{is_own_structure};
 ghost use Rattle.sm_trait_rules.specs.steps.Twice.{ToldTwice, carried_twice};
 ghost use Rattle.sm_passes.specs.Carrying.{carries};
-ghost use Rattle.sm_passes.specs.Owned.{is_own_structure};
 
 use sm_compile::trait_ids::{
     HTTP_PAYLOAD, HTTP_PREFIX_HEADERS, HTTP_QUERY_PARAMS, HTTP_RESPONSE_CODE, IDEMPOTENCY_TOKEN,
 };
 use sm_compile::{members_of, trait_node};
+use sm_http_traits::carriers::is_own_structure;
 use sm_model::Graph;
-use sm_passes::owned::is_own_structure;
 use sm_passes::putting::{Events, Put, put_if};
 use sm_rules::Rule;
 use std::alloc::Global;

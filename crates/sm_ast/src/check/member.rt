@@ -1,5 +1,4 @@
 // Members: a reference that may have traits, and objects of members under identifiers.
-ghost use Rattle.std.specs.Prelude.{◌≡◌};
 ghost use Rattle.sm_tree.specs.View.{node_of};
 ghost use Rattle.sm_ast.specs.Faults.{member_fault, named_members_fault};
 ghost use Rattle.sm_ast.specs.steps.Checks.{Checks};

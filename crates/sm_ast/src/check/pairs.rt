@@ -2,7 +2,7 @@
 ghost use Rattle.std.specs.Prelude.{◌≡◌, ℕ, List, [], map, Option};
 ghost use Rattle.sm_tree.specs.Node.{Node, members_of};
 ghost use Rattle.sm_tree.specs.View.{node_of, members_view};
-ghost use Rattle.sm_ast.specs.Faults.{AstFault, are_there, field, names_of, object_fault, pairs_fault, stands_in, unless};
+ghost use Rattle.sm_ast.specs.Faults.{AstFault, are_there, field, names_of, object_fault, pairs_fault, stands_in};
 ghost use Rattle.sm_ast.specs.steps.Checks.{Checks};
 
 use crate::names::stands_again;

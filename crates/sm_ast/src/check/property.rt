@@ -1,5 +1,4 @@
 // The fields of operations, services and resources.
-ghost use Rattle.std.specs.Prelude.{◌≡◌};
 ghost use Rattle.sm_tree.specs.View.{node_of};
 ghost use Rattle.sm_ast.specs.Faults.{property_fault, rename_fault};
 ghost use Rattle.sm_ast.specs.steps.Checks.{Checks};

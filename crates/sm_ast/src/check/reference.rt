@@ -1,5 +1,4 @@
 // References: an object of one pair, `target`; lists of them, and objects.
-ghost use Rattle.std.specs.Prelude.{◌≡◌};
 ghost use Rattle.sm_tree.specs.Node.{nodes_of};
 ghost use Rattle.sm_tree.specs.View.{node_of, nodes_view};
 ghost use Rattle.sm_ast.specs.Faults.{entries_fault, named_references_fault, reference_fault, references_fault, target_fault};

@@ -1,6 +1,6 @@
 // Texts that must be ids or identifiers, or may be any.
 ghost use Rattle.sm_tree.specs.View.{node_of};
-ghost use Rattle.std.specs.Prelude.{◌≡◌, None};
+ghost use Rattle.std.specs.Prelude.{None};
 ghost use Rattle.sm_ast.specs.Faults.{id_fault, identifier_fault, of_text};
 ghost use Rattle.sm_ast.specs.steps.Checks.{Checks};
 

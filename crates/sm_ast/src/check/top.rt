@@ -1,7 +1,6 @@
 // The top object: `smithy`, and what may stand beside it.
-ghost use Rattle.std.specs.Prelude.{◌≡◌, []};
-ghost use Rattle.sm_tree.specs.Node.{members_of};
-ghost use Rattle.sm_tree.specs.View.{node_of, members_view};
+ghost use Rattle.std.specs.Prelude.{[]};
+ghost use Rattle.sm_tree.specs.View.{node_of};
 ghost use Rattle.sm_ast.specs.Faults.{ast_fault, is_version, members_fault, of_object, pairs_fault, shape_fault, unless, version};
 ghost use Rattle.sm_ast.specs.steps.Checks.{Checks};
 

@@ -1,5 +1,4 @@
 // Traits: an object of nodes under their ids.
-ghost use Rattle.std.specs.Prelude.{◌≡◌};
 ghost use Rattle.sm_tree.specs.View.{node_of};
 ghost use Rattle.sm_ast.specs.Faults.{traits_fault};
 ghost use Rattle.sm_ast.specs.steps.Checks.{Checks};

@@ -1,7 +1,7 @@
 // How much a decoder holds. Whatever events it stands for, that is bounded.
 ghost use Rattle.std.specs.Prelude.{◌≡◌, ◌-◌, ◌^◌, min, length};
 ghost use Rattle.sm_bytes.specs.Lengths.{length_word};
-ghost use Rattle.sm_codec.specs.Bound.{decoding_nodes, outcome_nodes, StaysBounded};
+ghost use Rattle.sm_codec.specs.Bound.{decoding_nodes, StaysBounded};
 ghost use Rattle.sm_codec.specs.DecodingView.{decoding_of};
 
 use super::Decoder;

@@ -1,6 +1,5 @@
 // Faults of frames: seen from the level that has the part, and the first of two.
 ghost use Rattle.std.specs.Prelude.{◌≡◌, ◌<◌, ◌∷◌, [], IfOk};
-ghost use Rattle.sm_tree.specs.declared.path.Step.TheVariants.{Index};
 ghost use Rattle.sm_shapes.specs.InOrder.{Shaped};
 ghost use Rattle.sm_shapes.specs.TableData.{shape_count, member_count, members_at, member_with, name_at};
 ghost use Rattle.sm_shapes.specs.TableView.{table_data};

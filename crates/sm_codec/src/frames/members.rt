@@ -5,7 +5,7 @@ ghost use Rattle.sm_shapes.specs.TableData.{shape_count, member_count, members_a
 ghost use Rattle.sm_shapes.specs.TableView.{table_data};
 ghost use Rattle.sm_shapes.specs.FieldPuts.{FieldsRise};
 ghost use Rattle.sm_codec.specs.FrameView.{member_frame, arrival_of, fault_at};
-ghost use Rattle.sm_codec.specs.steps.MemberSteps.{at_member, least_fault, TakesMember, KeepsFault, IsNamed};
+ghost use Rattle.sm_codec.specs.steps.MemberSteps.{TakesMember, KeepsFault, IsNamed};
 
 use super::faults::{fault_here, under_member, yields_to};
 use super::{Arrival, MemberFrame, Members};

@@ -1,5 +1,5 @@
 // The frames of a decoder: where they say that the next tree is due, and what the innermost does with one that is closed.
-ghost use Rattle.std.specs.Prelude.{◌≡◌, ◌∷◌, [], reverse, map, slice_index_or, OnOk};
+ghost use Rattle.std.specs.Prelude.{◌≡◌, ◌∷◌, [], slice_index_or, OnOk};
 ghost use Rattle.std.specs.Option.{option_map};
 ghost use Rattle.sm_shapes.specs.InOrder.{Shaped, AreStored};
 ghost use Rattle.sm_shapes.specs.Places.{member_place};

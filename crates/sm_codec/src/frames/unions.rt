@@ -1,7 +1,7 @@
 // What a frame of a union does where a member's tree is closed, and where the union ends.
 ghost use Rattle.std.specs.Prelude.{◌≡◌, ◌<◌, [], None, Some, IfOk, OnOk};
 ghost use Rattle.sm_shapes.specs.InOrder.{Shaped};
-ghost use Rattle.sm_shapes.specs.TableData.{shape_count, member_count, members_at};
+ghost use Rattle.sm_shapes.specs.TableData.{shape_count, member_count};
 ghost use Rattle.sm_shapes.specs.TableView.{table_data};
 ghost use Rattle.sm_shapes.specs.ValueView.{val_of, fields_view};
 ghost use Rattle.sm_codec.specs.FrameView.{member_frame, arrival_of, outcome_of, fault_at};

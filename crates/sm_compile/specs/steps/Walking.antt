@@ -4,7 +4,7 @@ use Rattle.std.specs.Prelude.{MatchOption, reverse}
 use Rattle.std.specs.List.{Contains, count_by, join_with_byte}
 use Rattle.sm_bytes.specs.Ascii.{slash}
 use Rattle.sm_model.specs.GraphView.{AreShapeNumbers, IsShapeNumber, entries_of, maps_of}
-use Rattle.sm_model.specs.Reaching.{id_of_number}
+use Rattle.sm_model.specs.Reaching.{AreFound, id_of_number}
 use Rattle.sm_model.specs.Relations.{IsInGraph}
 use Rattle.sm_model.specs.declared.graph.Graph.{Graph}
 use Rattle.sm_compile.specs.Answers.{TellsServed}
@@ -47,9 +47,14 @@ StandsAt g root marks id at (a ∷ above) =
     × ((x : List ℕ) → IsMarkedId g before x → IsMarkedId g marks x)
     × StandsAt g root before (id_of_number g a.shape) a.at above)
 
+-- what was entered is marked, and nothing else; each number of the graph has a mark
+pub record AreEntered (g : Graph) (w : Walk) : Type 0 where
+  pub count : length w.marks.items ≡ length (entries_of g)
+  pub found : AreFound w.marks.items w.entered.items
+
 -- the code's walk: its stack has the innermost last
 pub record IsWalk (g : Graph) (root : List ℕ) (w : Walk) : Type 0 where
-  pub count : length w.marks.items ≡ length (entries_of g)
+  pub kept : AreEntered g w
   pub shape : IsShapeNumber g w.shape
   pub above : AreShapeNumbers g (map (λ a. a.shape) w.above.items)
   pub stands : StandsAt g root w.marks.items (id_of_number g w.shape) w.at (reverse w.above.items)

@@ -14,14 +14,14 @@ use Rattle.sm_rules.specs.Http.{IsBoundWrongly, ReachesLeftOutValue, StandsOn, b
 use Rattle.sm_rules.specs.Words.{IsMemberOf}
 use Rattle.sm_rules.specs.RuleEvents.{rule_event}
 use Rattle.sm_rules.specs.declared.rule.Rule.TheVariants.{HttpTarget}
+use Rattle.sm_http_traits.specs.declared.bindings.BindingKind.{BindingKind}
+use Rattle.sm_http_traits.specs.declared.bindings.BindingKind.TheVariants.{Payload}
+use Rattle.sm_http_traits.specs.declared.bindings.BindingSide.{BindingSide}
+use Rattle.sm_http_traits.specs.declared.bindings.BindingSide.TheVariants.{Input, Output, Error}
+use Rattle.sm_http_traits.specs.Bindings.{binding_said, bindings_in, carries_binding}
 use Rattle.sm_passes.specs.Owned.{is_member_in}
 use Rattle.sm_passes.specs.Putting.{IsWhere, ToldOf}
-use Rattle.sm_http_rules.specs.declared.bindings.Binding.{Binding}
-use Rattle.sm_http_rules.specs.declared.bindings.Binding.TheVariants.{Payload}
-use Rattle.sm_http_rules.specs.declared.bindings.BindingSide.{BindingSide}
-use Rattle.sm_http_rules.specs.declared.bindings.BindingSide.TheVariants.{Input, Output, Error}
 use Rattle.sm_http_rules.specs.declared.sides.Sides.{Sides}
-use Rattle.sm_http_rules.specs.steps.Binding.{binding_said, bindings_in, carries_binding}
 
 -- the shape whose member it is
 abbrev pub home_of_binding : (g : GraphMaps) (id detail : List ℕ) → IsBoundWrongly g id detail → List ℕ
@@ -52,13 +52,13 @@ marks_of sides Input = sides.inputs.items
 marks_of sides Output = sides.outputs.items
 marks_of sides Error = sides.errors.items
 
-abbrev pub is_bound_by : GraphMaps → Binding → List ℕ → Bool
+abbrev pub is_bound_by : GraphMaps → BindingKind → List ℕ → Bool
 is_bound_by g b id = is_member_in (fin.get g.shapes id) && carries_binding g id b
 
 abbrev pub has_payload : GraphMaps → List (List ℕ) → Bool
 has_payload g ids = list_any (is_bound_by g Payload) ids
 
-abbrev pub is_wrong_target : Graph → List Bool → ℕ → Binding → Bool
+abbrev pub is_wrong_target : Graph → List Bool → ℕ → BindingKind → Bool
 is_wrong_target g leading k b =
     is_bound_by (maps_of g) b (id_of_number g k)
     && (not (get_or leading k false) && not (targets (allows_target (maps_of g) (binding_said b)) (maps_of g) (id_of_number g k)))
@@ -66,7 +66,7 @@ is_wrong_target g leading k b =
 abbrev pub is_in_document_at : GraphMaps → BindingSide → List ℕ → Bool
 is_in_document_at g side id = is_member_in (fin.get g.shapes id) && not (list_any (carries_binding g id) (bindings_in side))
 
-abbrev pub ToldBinding : Graph → List Bool → ℕ → Binding → EventTold → Type 0
+abbrev pub ToldBinding : Graph → List Bool → ℕ → BindingKind → EventTold → Type 0
 ToldBinding g leading k b e =
     IsWhere (is_wrong_target g leading k b) (rule_event HttpTarget (id_of_number g k) (binding_id (binding_said b))) e
 

@@ -1,24 +1,18 @@
--- Status codes that operations and errors outside of the prelude say, as functions of their ids, and tests of them.
-use Rattle.std.specs.Prelude.{◌≡◌, ◌&&◌, ◌||◌, ℕ, ℤ, pos, Bool, not, List, Option, None, cond, codes}
+-- Tests of the status codes that operations and errors outside of the prelude say.
+use Rattle.std.specs.Prelude.{◌≡◌, ◌&&◌, ◌||◌, ℕ, ℤ, pos, Bool, not, List}
 use Rattle.std.specs.Fmt.{signed_decimal}
 use Rattle.sm_model.specs.EventView.{EventTold}
 use Rattle.sm_model.specs.Graphs.{GraphMaps}
-use Rattle.sm_compile.specs.Sound.{trait_of}
-use Rattle.sm_compile.specs.TraitIds.{error_id, http_error_id}
-use Rattle.sm_compile.specs.TraitNodes.{number_of, text_of}
 use Rattle.sm_rules.specs.Http.{HasWrongCode, HasWrongStatus, forbids_body, is_from_to, is_status_of}
 use Rattle.sm_rules.specs.RuleEvents.{rule_event}
 use Rattle.sm_rules.specs.declared.rule.Rule.TheVariants.{HttpCode}
-use Rattle.sm_passes.specs.Owned.{is_own_structure}
-
-abbrev pub status_seen : GraphMaps → List ℕ → Option ℤ
-status_seen g id = cond (is_own_structure g id) (number_of (trait_of g id http_error_id)) None
+use Rattle.sm_http_traits.specs.Errors.{whose_error}
 
 abbrev pub is_wrong_code : Bool → ℤ → Bool
 is_wrong_code bodied z = not (is_from_to (pos 200) (pos 299) z) || (forbids_body z && bodied)
 
 abbrev pub is_wrong_status : GraphMaps → List ℕ → ℤ → Bool
-is_wrong_status g id z = not (is_status_of (text_of (trait_of g id error_id)) z)
+is_wrong_status g id z = not (is_status_of (whose_error g id) z)
 
 -- what is told of the code of an operation, and of the status of an error
 abbrev pub TellsCode : GraphMaps → List ℕ → EventTold → Type 0

@@ -7,13 +7,13 @@ ghost use Rattle.sm_compile.specs.TraitNodes as nodes;
 ghost use Rattle.sm_rules.specs.TraitRows as table;
 ghost use Rattle.sm_passes.specs.Forms.{are_two_texts, is_of_form, is_trait_value};
 
-use crate::http::{is_http_value, is_text_there};
 use crate::rows::texts::{
     are_named_texts, are_text_nodes, is_filled_text, is_list, is_side, is_token,
 };
 use sm_compile::{
     are_whole_bounds_where, field_of, format_of, is_number, is_object, is_range_where, is_text,
 };
+use sm_http_traits::http::{is_http_value, is_text_there};
 use sm_model::Kind;
 use sm_tree::Tree;
 

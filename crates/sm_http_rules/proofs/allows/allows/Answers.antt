@@ -3,7 +3,7 @@ use Rattle.std.specs.FinMap as fin
 use Rattle.sm_model.specs.GraphView.{maps_of}
 use Rattle.sm_model.specs.Reaching.{id_of_number}
 use Rattle.sm_rules.specs.Bindings.{allows_target}
-use Rattle.sm_http_rules.specs.steps.Binding.{binding_said}
+use Rattle.sm_http_traits.specs.Bindings.{binding_said}
 use Rattle.sm_http_rules.proofs.AllowedTold.{all_free}
 use Rattle.sm_http_rules.proofs.TargetTested.{no_target, target_tested}
 use Rattle.sm_http_rules.proofs.allows.allows.Goals as goal

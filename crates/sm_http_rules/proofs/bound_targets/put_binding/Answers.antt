@@ -3,8 +3,8 @@ use Rattle.sm_model.specs.Reaching.{id_of_number}
 use Rattle.sm_rules.specs.Bindings.{binding_id}
 use Rattle.sm_rules.specs.RuleEvents.{Puts, rule_event}
 use Rattle.sm_rules.specs.declared.rule.Rule.TheVariants.{HttpTarget}
+use Rattle.sm_http_traits.specs.Bindings.{binding_said}
 use Rattle.sm_passes.specs.Putting.{IsWhere}
-use Rattle.sm_http_rules.specs.steps.Binding.{binding_said}
 use Rattle.sm_http_rules.proofs.bound_targets.put_binding.Goals as goal
 
 pub returns : goal.returns

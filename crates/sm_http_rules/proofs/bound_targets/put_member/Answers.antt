@@ -1,8 +1,8 @@
 use Rattle.std.proofs.Common.{subst}
 use Rattle.sm_rules.specs.RuleEvents.{Puts}
+use Rattle.sm_http_traits.specs.Bindings.{bindings_in}
 use Rattle.sm_passes.specs.Putting.{ToldOf}
 use Rattle.sm_passes.proofs.EventsPut.{puts_both}
-use Rattle.sm_http_rules.specs.steps.Binding.{bindings_in}
 use Rattle.sm_http_rules.specs.steps.BoundTargets.{ToldBeside, ToldBinding}
 use Rattle.sm_http_rules.proofs.bound_targets.put_member.Goals as goal
 

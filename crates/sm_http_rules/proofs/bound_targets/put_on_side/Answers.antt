@@ -2,7 +2,7 @@ use Rattle.std.proofs.Common.{sym, ◌∙◌, arith}
 use Rattle.sm_model.specs.GraphView.{maps_of}
 use Rattle.sm_model.specs.Reaching.{id_of_number}
 use Rattle.sm_model.proofs.Worklist.{apart}
-use Rattle.sm_http_rules.specs.steps.Binding.{side_said}
+use Rattle.sm_http_traits.specs.Bindings.{side_said}
 use Rattle.sm_http_rules.proofs.BoundTold.{no_side, side_marks, side_put}
 use Rattle.sm_http_rules.proofs.bound_targets.put_on_side.Goals as goal
 

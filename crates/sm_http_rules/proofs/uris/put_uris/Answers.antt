@@ -2,7 +2,7 @@ use Rattle.std.proofs.Common.{length, arith}
 use Rattle.sm_model.specs.GraphView.{entries_of, maps_of}
 use Rattle.sm_rules.specs.Http.{HasNoUri}
 use Rattle.sm_rules.specs.declared.rule.Rule.TheVariants.{HttpUri}
-use Rattle.sm_passes.proofs.HttpSaid.{operation_there}
+use Rattle.sm_http_traits.proofs.HttpSaid.{operation_there}
 use Rattle.sm_passes.proofs.Numbered.{puts_numbers}
 use Rattle.sm_http_rules.proofs.uris.put_uris.Goals as goal
 

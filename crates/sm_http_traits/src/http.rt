@@ -6,9 +6,9 @@ ghost use Rattle.sm_model.specs.GraphView.{IsShapeNumber, maps_of};
 ghost use Rattle.sm_model.specs.Reaching.{id_of_number};
 ghost use Rattle.sm_compile.specs.TraitNodes.{is_number, is_text, where_there};
 ghost use Rattle.sm_rules.specs.Words.{field_in};
-ghost use Rattle.sm_passes.specs.Http.{code_seen, http_seen, is_http_value, is_there_as, method_seen, that_is_http, uri_seen};
+ghost use Rattle.sm_http_traits.specs.Http.{code_seen, http_seen, is_http_value, is_there_as, method_seen, that_is_http, uri_seen};
 
-use crate::owned::is_own_operation;
+use crate::carriers::is_own_operation;
 use sm_compile::trait_ids::HTTP;
 use sm_compile::{field_of, is_number, is_object, is_text, number_of, text_in_trait, trait_node};
 use sm_model::Graph;

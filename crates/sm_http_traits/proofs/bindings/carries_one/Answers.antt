@@ -1,9 +1,9 @@
 use Rattle.std.proofs.Common.{sym, ◌∙◌}
 use Rattle.sm_model.specs.GraphView.{maps_of}
 use Rattle.sm_model.specs.Reaching.{id_of_number}
-use Rattle.sm_http_rules.specs.steps.Binding.{carries_binding}
-use Rattle.sm_http_rules.proofs.SomePasses.{passes_here, passes_later}
-use Rattle.sm_http_rules.proofs.bindings.carries_one.Goals as goal
+use Rattle.sm_http_traits.specs.Bindings.{carries_binding}
+use Rattle.sm_http_traits.proofs.SomePasses.{passes_here, passes_later}
+use Rattle.sm_http_traits.proofs.bindings.carries_one.Goals as goal
 
 pub returns-then-carries_binding : goal.returns-then-carries_binding
 returns-then-carries_binding c =

@@ -4,18 +4,18 @@ ghost use Rattle.std.specs.List.{list_any};
 ghost use Rattle.sm_model.specs.GraphView.{IsShapeNumber, maps_of};
 ghost use Rattle.sm_model.specs.Reaching.{id_of_number};
 ghost use Rattle.sm_rules.specs.Bindings.{binding_id};
-ghost use Rattle.sm_http_rules.specs.steps.Binding.{bindings_in, binding_said, carries_binding};
+ghost use Rattle.sm_http_traits.specs.Bindings.{bindings_in, binding_said, carries_binding};
 
+use sm_compile::has_trait;
 use sm_compile::trait_ids::{
     HTTP_HEADER, HTTP_LABEL, HTTP_PAYLOAD, HTTP_PREFIX_HEADERS, HTTP_QUERY, HTTP_QUERY_PARAMS,
     HTTP_RESPONSE_CODE,
 };
 use sm_model::Graph;
-use sm_passes::carried::carries;
 
-/// A trait that binds a member to a part of a message.
+/// The kind of a binding: the trait that binds a member to a part of a message, whatever its value.
 #[derive(Debug, Clone, Copy, PartialEq, Eq, Drop)]
-pub enum Binding {
+pub enum BindingKind {
     /// `httpLabel`.
     Label,
     /// `httpQuery`.
@@ -44,53 +44,57 @@ pub enum BindingSide {
 }
 
 /// The id of the trait. No memory.
-pub(crate) fn binding_name(binding: Binding) -> &'static str
+pub fn binding_name(binding: BindingKind) -> &'static str
     ensures { result.now ≡ binding_id (binding_said binding) }
 {
     match binding {
-        Binding::Label => HTTP_LABEL,
-        Binding::Query => HTTP_QUERY,
-        Binding::QueryParams => HTTP_QUERY_PARAMS,
-        Binding::Header => HTTP_HEADER,
-        Binding::PrefixHeaders => HTTP_PREFIX_HEADERS,
-        Binding::Payload => HTTP_PAYLOAD,
-        Binding::ResponseCode => HTTP_RESPONSE_CODE,
+        BindingKind::Label => HTTP_LABEL,
+        BindingKind::Query => HTTP_QUERY,
+        BindingKind::QueryParams => HTTP_QUERY_PARAMS,
+        BindingKind::Header => HTTP_HEADER,
+        BindingKind::PrefixHeaders => HTTP_PREFIX_HEADERS,
+        BindingKind::Payload => HTTP_PAYLOAD,
+        BindingKind::ResponseCode => HTTP_RESPONSE_CODE,
     }
 }
 
-/// The bindings that count on a side.
-pub(crate) fn bindings_of(side: BindingSide) -> &'static [Binding]
+/// The bindings that count on a side. No memory.
+pub fn bindings_of(side: BindingSide) -> &'static [BindingKind]
     ensures { result.now ≡ bindings_in side }
 {
     match side {
         BindingSide::Input => &[
-            Binding::Label,
-            Binding::Query,
-            Binding::QueryParams,
-            Binding::Header,
-            Binding::PrefixHeaders,
-            Binding::Payload,
+            BindingKind::Label,
+            BindingKind::Query,
+            BindingKind::QueryParams,
+            BindingKind::Header,
+            BindingKind::PrefixHeaders,
+            BindingKind::Payload,
         ],
         BindingSide::Output => &[
-            Binding::Header,
-            Binding::PrefixHeaders,
-            Binding::Payload,
-            Binding::ResponseCode,
+            BindingKind::Header,
+            BindingKind::PrefixHeaders,
+            BindingKind::Payload,
+            BindingKind::ResponseCode,
         ],
-        BindingSide::Error => &[Binding::Header, Binding::PrefixHeaders, Binding::Payload],
+        BindingSide::Error => &[
+            BindingKind::Header,
+            BindingKind::PrefixHeaders,
+            BindingKind::Payload,
+        ],
     }
 }
 
-/// Whether a trait of a binding stands at a number.
-pub(crate) fn carries_binding(graph: &Graph, binding: Binding, number: u32) -> bool
+/// Whether a trait of a binding stands at a number. No memory.
+pub fn carries_binding(graph: &Graph, binding: BindingKind, number: u32) -> bool
     requires { IsShapeNumber graph.now number }
     ensures { result ≡ carries_binding (maps_of graph.now) (id_of_number graph.now number) binding }
 {
-    carries(graph, number, binding_name(binding))
+    has_trait(graph, number, binding_name(binding))
 }
 
-/// Whether one of these does.
-pub(crate) fn carries_one(graph: &Graph, bindings: &[Binding], number: u32) -> bool
+/// Whether one of these does. No memory.
+pub fn carries_one(graph: &Graph, bindings: &[BindingKind], number: u32) -> bool
     requires { IsShapeNumber graph.now number }
     ensures { result ≡ list_any (carries_binding (maps_of graph.now) (id_of_number graph.now number)) bindings.now }
 {

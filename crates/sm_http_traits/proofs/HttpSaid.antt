@@ -17,9 +17,9 @@ use Rattle.sm_compile.specs.TraitIds.{http_id}
 use Rattle.sm_compile.specs.TraitNodes.{field_of, is_number, is_object, is_text, where_there}
 use Rattle.sm_rules.specs.TraitRows.{is_as_one, rows_of, that_reads}
 use Rattle.sm_rules.specs.Words.{IsOperation, read_trait}
-use Rattle.sm_passes.specs.Http.{http_seen, is_http_value, is_there_as, that_is_http}
-use Rattle.sm_passes.specs.Owned.{is_operation, is_own_operation}
-use Rattle.sm_passes.proofs.OwnShapes.{not_so}
+use Rattle.sm_http_traits.specs.Http.{http_seen, is_http_value, is_there_as, that_is_http}
+use Rattle.sm_http_traits.specs.Carriers.{is_operation, is_own_operation}
+use Rattle.sm_http_traits.proofs.OwnStructures.{not_so}
 
 -- a field that must be there, and one that may be
 pub needed : (test : Node → Bool) (o : Option Node) → (where_there test o && (not true || is_some o)) ≡ is_there_as test o

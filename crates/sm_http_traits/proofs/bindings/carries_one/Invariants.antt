@@ -2,8 +2,8 @@ use Rattle.std.proofs.Common.{◌≡◌, drop}
 use Rattle.std.specs.List.{list_any}
 use Rattle.sm_model.specs.GraphView.{maps_of}
 use Rattle.sm_model.specs.Reaching.{id_of_number}
-use Rattle.sm_http_rules.specs.steps.Binding.{carries_binding}
-use Rattle.sm_http_rules.proofs.bindings.carries_one.Given as goal
+use Rattle.sm_http_traits.specs.Bindings.{carries_binding}
+use Rattle.sm_http_traits.proofs.bindings.carries_one.Given as goal
 
 abbrev pub invariant-loop-binding : goal.invariant-loop-binding
 invariant-loop-binding l =

@@ -1,6 +1,6 @@
 use Rattle.sm_model.specs.Reaching.{id_of_number}
 use Rattle.sm_compile.proofs.WalkTurns.{finds_root}
-use Rattle.sm_compile.proofs.way.unserved_root.Goals as goal
+use Rattle.sm_compile.proofs.way_room.unserved_root.Goals as goal
 
 pub returns : goal.returns
 returns c =

@@ -1,7 +1,7 @@
 use Rattle.std.proofs.Common.{ℕ, ◌≡◌, length, take}
 use Rattle.std.specs.List.{Contains}
 use Rattle.sm_model.specs.Reaching.{IsMarked}
-use Rattle.sm_passes.proofs.closures.unmark_all.Given as goal
+use Rattle.sm_compile.proofs.reach.unmark_all.Given as goal
 
 abbrev pub invariant-loop-number : goal.invariant-loop-number
 invariant-loop-number l = record {

@@ -6,7 +6,7 @@ use Rattle.sm_compile.specs.Sound.{trait_of}
 use Rattle.sm_compile.specs.TraitIds.{http_id}
 use Rattle.sm_compile.specs.TraitNodes.{field_of, is_number, is_object, is_text, text_of, where_there, number_of}
 use Rattle.sm_rules.specs.Words.{field_in}
-use Rattle.sm_passes.specs.Owned.{is_own_operation}
+use Rattle.sm_http_traits.specs.Carriers.{is_own_operation}
 
 -- a test of what must be there
 abbrev pub is_there_as : (Node → Bool) → Option Node → Bool

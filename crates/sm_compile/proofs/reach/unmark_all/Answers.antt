@@ -4,8 +4,8 @@ use Rattle.std.proofs.lemmas.Grind.{common_steps}
 use Rattle.std.proofs.lemmas.List.{take_all}
 use Rattle.std.proofs.lemmas.List.Elements.{Contains-get_or}
 use Rattle.sm_model.proofs.Worklist.{marked_within}
-use Rattle.sm_passes.proofs.ServiceClosures.{none_set}
-use Rattle.sm_passes.proofs.closures.unmark_all.Goals as goal
+use Rattle.sm_compile.proofs.MarksTaken.{none_set}
+use Rattle.sm_compile.proofs.reach.unmark_all.Goals as goal
 
 pub index_mut-requires : goal.index_mut-requires
 index_mut-requires c =

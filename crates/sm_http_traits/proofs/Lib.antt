@@ -1,0 +1,4 @@
+pub mod ErrorsSaid
+pub mod HttpSaid
+pub mod OwnStructures
+mod SomePasses

@@ -1,0 +1,4 @@
+pub mod Carriers
+pub mod Http
+pub mod Errors
+pub mod Bindings
