@@ -4,13 +4,17 @@ use codec_bodies::BodyWay;
 
 /// What is shown of a body's value.
 #[derive(Debug, Clone, Copy)]
-pub enum Far {
+pub enum Far<'a> {
     /// The value, as rows write values down.
     Value,
     /// What is written for it.
     Body(BodyWay),
     /// How the two entries of a list stand.
     Order,
+    /// The events of the object that is written for its fields: what stands before them, and which of them are written.
+    Object(BodyWay, &'a str, &'a str),
+    /// The events of what is written for its first field, at the place of the field's member.
+    Field(BodyWay),
 }
 
 /// A row.
@@ -22,13 +26,14 @@ pub enum CodecRow<'a> {
     Shape(&'a str, &'a str),
     /// `defaults`: which defaults count.
     Defaults,
-    /// `NEAR FAR SHAPE BODY`: to decode a body, and to show its value.
-    Body(BodyWay, Far, &'a str, &'a str),
+    /// `NEAR FAR SHAPE BODY`: to decode a body, and to show its value, or what is written for it or for parts of it.
+    Body(BodyWay, Far<'a>, &'a str, &'a str),
     /// Any other line.
     Unknown,
 }
 
-fn far_of(word: &str) -> Option<Far> {
+// What is shown by one word.
+fn far_of(word: &str) -> Option<Far<'static>> {
     match word {
         "value" => Some(Far::Value),
         "order" => Some(Far::Order),
@@ -47,11 +52,48 @@ fn body_row<'a>(word: &str, rest: &'a str) -> CodecRow<'a> {
     let Some((word, rest)) = rest.split_once(' ') else {
         return CodecRow::Unknown;
     };
-    let Some(far) = far_of(word) else {
+    match word {
+        "object" => object_row(near, rest),
+        "field" => field_row(near, rest),
+        _ => match far_of(word) {
+            Some(far) => shape_row(near, far, rest),
+            None => CodecRow::Unknown,
+        },
+    }
+}
+
+// `SHAPE BODY`.
+fn shape_row<'a>(near: BodyWay, far: Far<'a>, rest: &'a str) -> CodecRow<'a> {
+    match rest.split_once(' ') {
+        Some((shape, body)) => CodecRow::Body(near, far, shape, body),
+        None => CodecRow::Unknown,
+    }
+}
+
+// `CONVENTION SHAPE BODY`.
+fn field_row<'a>(near: BodyWay, rest: &'a str) -> CodecRow<'a> {
+    let Some((word, rest)) = rest.split_once(' ') else {
+        return CodecRow::Unknown;
+    };
+    match BodyWay::named(word) {
+        Some(way) => shape_row(near, Far::Field(way), rest),
+        None => CodecRow::Unknown,
+    }
+}
+
+// `CONVENTION PAIR MEMBERS SHAPE BODY`.
+fn object_row<'a>(near: BodyWay, rest: &'a str) -> CodecRow<'a> {
+    let Some((word, rest)) = rest.split_once(' ') else {
+        return CodecRow::Unknown;
+    };
+    let Some(way) = BodyWay::named(word) else {
+        return CodecRow::Unknown;
+    };
+    let Some((pair, rest)) = rest.split_once(' ') else {
         return CodecRow::Unknown;
     };
     match rest.split_once(' ') {
-        Some((shape, body)) => CodecRow::Body(near, far, shape, body),
+        Some((members, rest)) => shape_row(near, Far::Object(way, pair, members), rest),
         None => CodecRow::Unknown,
     }
 }
