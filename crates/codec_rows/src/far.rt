@@ -104,9 +104,7 @@ pub fn show_far(
         Far::Value => show_value(table, value, out),
         Far::Body(way) => show_body(alloc, table, shape, value, way, out),
         Far::Order => show_entries(value, out),
-        Far::Object(way, pair, members) => {
-            show_object(alloc, table, shape, way, pair, members, value, out)
-        }
+        Far::Object(asked) => show_object(alloc, table, shape, asked, value, out),
         Far::Field(way) => show_field(alloc, table, shape, way, value, out),
     }
 }

@@ -1,19 +1,19 @@
 // What is written for parts of a structure, as the events that a sink takes: an object of some of its fields, or one field's value at the
 // place of its member.
-ghost use Rattle.std.specs.Prelude.{◌≡◌, ◌<◌, [], IfOk, IfSome, option_copied};
+ghost use Rattle.std.specs.Prelude.{◌<◌, IfOk, IfSome, option_copied};
 ghost use Rattle.std.specs.List.Sorted.{IsNonDecreasing};
 ghost use Rattle.sm_shapes.specs.Fitting.{Fits, any_text};
 ghost use Rattle.sm_shapes.specs.InOrder.{Shaped};
 ghost use Rattle.sm_shapes.specs.Places.{root_place};
 ghost use Rattle.sm_shapes.specs.TableData.{shape_count};
 ghost use Rattle.sm_shapes.specs.TableView.{table_data};
-ghost use Rattle.sm_shapes.specs.Values.{structure_val, fields_of};
-ghost use Rattle.sm_shapes.specs.ValueView.{val_of, each_field_view};
+ghost use Rattle.sm_shapes.specs.ValueView.{val_of};
 ghost use Rattle.sm_codec.specs.Codec.{InTable};
 ghost use Rattle.sm_codec.specs.PlaceView.{place_of};
 
 use crate::event_words::EventWords;
 use crate::far::show_path;
+use crate::row::AskedObject;
 use codec_bodies::BodyWay;
 use sm_codec::{
     CborLeaves, JsonLeaves, Leaves, NodeLeaves, ValuePlace, all_carried, all_carried_at,
@@ -24,11 +24,15 @@ use sm_shapes::values::Value;
 use sm_tree::NoMemory;
 use std::alloc::Global;
 
-// The numbers of these members of a shape, which rise; names of no member are left out.
-fn numbers_of(alloc: Global, table: &Table, shape: u32, names: &str) -> Result<Vec<u32>, NoMemory>
+// The numbers of the members of a shape with these names; names of no member are left out.
+fn members_named(
+    alloc: Global,
+    table: &Table,
+    shape: u32,
+    names: &str,
+) -> Result<Vec<u32>, NoMemory>
     requires shaped { Shaped (table_data table.now) }
     requires shape { shape < shape_count (table_data table.now) }
-    ensures { IfOk result (λ all. IsNonDecreasing all.items) }
 {
     let mut all = Vec::new(alloc);
     for name in names.split(',') {
@@ -36,31 +40,43 @@ fn numbers_of(alloc: Global, table: &Table, shape: u32, names: &str) -> Result<V
             all.push(member)?;
         }
     }
+    Ok(all)
+}
+
+// These numbers, which rise.
+fn numbers_of(alloc: Global, table: &Table, shape: u32, names: &str) -> Result<Vec<u32>, NoMemory>
+    requires shaped { Shaped (table_data table.now) }
+    requires shape { shape < shape_count (table_data table.now) }
+    ensures { IfOk result (λ all. IsNonDecreasing all.items) }
+{
+    let mut all = members_named(alloc, table, shape, names)?;
     all.sort_unstable();
     Ok(all)
 }
 
-// The name and the text of `NAME=TEXT`.
-fn pair_of(word: &str) -> Option<(&str, &str)> {
-    word.split_once('=')
+// What is written of a structure.
+#[derive(Clone, Copy)]
+struct Chosen<'a> {
+    // The pair before its fields.
+    before: Option<(&'a str, &'a str)>,
+    // The numbers of the members that are written, or none where all are.
+    members: Option<&'a [u32]>,
 }
 
-// Of a structure whose leaves are all carried, of the members with these numbers or of all.
-#[tactic(auto, using(sm_codec::proofs::PartsFit::among_carried))]
+// The object of a structure whose leaves are all carried.
 fn show_fields<L: Leaves>(
     alloc: Global,
     table: &Table,
     shape: u32,
     leaves: &L,
-    before: Option<(&str, &str)>,
-    members: Option<&[u32]>,
+    chosen: Chosen<'_>,
     value: &Value,
     out: &mut String,
 ) -> Result<(), NoMemory>
     requires shaped { Shaped (table_data table.now) }
     requires shape { shape < shape_count (table_data table.now) }
     requires fits { Fits (table_data table.now) any_text (root_place shape) (val_of value.now) }
-    requires rise { IfSome (option_copied members) IsNonDecreasing }
+    requires rise { IfSome (option_copied chosen.members) IsNonDecreasing }
 {
     if !all_carried(table, shape, value, leaves) {
         return Ok(out.push_str("not carried")?);
@@ -73,22 +89,22 @@ fn show_fields<L: Leaves>(
         alloc,
         table,
         shape,
-        before,
+        chosen.before,
         fields.as_slice(),
-        members,
+        chosen.members,
         leaves,
         &mut words,
     )?;
     Ok(out.push_str(words.text.as_str())?)
 }
 
+// The object that is asked for, by a convention of leaves.
 fn show_object_by<L: Leaves>(
     alloc: Global,
     table: &Table,
     shape: u32,
     leaves: &L,
-    pair: &str,
-    members: &str,
+    asked: AskedObject<'_>,
     value: &Value,
     out: &mut String,
 ) -> Result<(), NoMemory>
@@ -96,24 +112,24 @@ fn show_object_by<L: Leaves>(
     requires shape { shape < shape_count (table_data table.now) }
     requires fits { Fits (table_data table.now) any_text (root_place shape) (val_of value.now) }
 {
-    let before = pair_of(pair);
-    if members == "-" {
-        return show_fields(alloc, table, shape, leaves, before, None, value, out);
+    let before = asked.pair.split_once('=');
+    if asked.members == "-" {
+        let members = None;
+        let chosen = Chosen { before, members };
+        return show_fields(alloc, table, shape, leaves, chosen, value, out);
     }
-    let numbers = numbers_of(alloc, table, shape, members)?;
+    let numbers = numbers_of(alloc, table, shape, asked.members)?;
     let members = Some(numbers.as_slice());
-    show_fields(alloc, table, shape, leaves, before, members, value, out)
+    let chosen = Chosen { before, members };
+    show_fields(alloc, table, shape, leaves, chosen, value, out)
 }
 
-/// Appends the events of the object that is written for the fields of a structure: the pair `NAME=TEXT` first, or none, and the members of
-/// these names alone, or all where the names are `-`.
+/// Appends the events of the object that is asked for, or why there is none.
 pub fn show_object(
     alloc: Global,
     table: &Table,
     shape: u32,
-    way: BodyWay,
-    pair: &str,
-    members: &str,
+    asked: AskedObject<'_>,
     value: &Value,
     out: &mut String,
 ) -> Result<(), NoMemory>
@@ -121,25 +137,16 @@ pub fn show_object(
     requires shape { shape < shape_count (table_data table.now) }
     requires fits { Fits (table_data table.now) any_text (root_place shape) (val_of value.now) }
 {
-    match way {
+    match asked.way {
         BodyWay::Json(json_names) => {
             let leaves = JsonLeaves { json_names };
-            show_object_by(alloc, table, shape, &leaves, pair, members, value, out)
+            show_object_by(alloc, table, shape, &leaves, asked, value, out)
         }
         BodyWay::Node(raw_blobs) => {
             let leaves = NodeLeaves { raw_blobs };
-            show_object_by(alloc, table, shape, &leaves, pair, members, value, out)
+            show_object_by(alloc, table, shape, &leaves, asked, value, out)
         }
-        BodyWay::Cbor => show_object_by(
-            alloc,
-            table,
-            shape,
-            &CborLeaves,
-            pair,
-            members,
-            value,
-            out,
-        ),
+        BodyWay::Cbor => show_object_by(alloc, table, shape, &CborLeaves, asked, value, out),
     }
 }
 
@@ -168,7 +175,6 @@ fn show_at<L: Leaves>(
 }
 
 // Of the first field of a structure.
-#[tactic(auto, using(sm_codec::proofs::PartsFit::parts_fit))]
 fn show_field_by<L: Leaves>(
     alloc: Global,
     table: &Table,

@@ -2,6 +2,17 @@
 
 use codec_bodies::BodyWay;
 
+/// An object that is written for the fields of a structure.
+#[derive(Debug, Clone, Copy)]
+pub struct AskedObject<'a> {
+    /// The convention by which it is written.
+    pub way: BodyWay,
+    /// The pair before the fields, as `NAME=TEXT`; any other word is none.
+    pub pair: &'a str,
+    /// The names of the members that are written, with commas between, or `-` where all are.
+    pub members: &'a str,
+}
+
 /// What is shown of a body's value.
 #[derive(Debug, Clone, Copy)]
 pub enum Far<'a> {
@@ -11,8 +22,8 @@ pub enum Far<'a> {
     Body(BodyWay),
     /// How the two entries of a list stand.
     Order,
-    /// The events of the object that is written for its fields: what stands before them, and which of them are written.
-    Object(BodyWay, &'a str, &'a str),
+    /// The events of the object that is written for its fields.
+    Object(AskedObject<'a>),
     /// The events of what is written for its first field, at the place of the field's member.
     Field(BodyWay),
 }
@@ -92,10 +103,11 @@ fn object_row<'a>(near: BodyWay, rest: &'a str) -> CodecRow<'a> {
     let Some((pair, rest)) = rest.split_once(' ') else {
         return CodecRow::Unknown;
     };
-    match rest.split_once(' ') {
-        Some((members, rest)) => shape_row(near, Far::Object(way, pair, members), rest),
-        None => CodecRow::Unknown,
-    }
+    let Some((members, rest)) = rest.split_once(' ') else {
+        return CodecRow::Unknown;
+    };
+    let asked = AskedObject { way, pair, members };
+    shape_row(near, Far::Object(asked), rest)
 }
 
 impl<'a> CodecRow<'a> {
