@@ -48,5 +48,5 @@ first_fits t s value fields [] first shaped shape fits is view some at = absurd 
 first_fits t s value fields (part ∷ parts) first shaped shape fits is view some at =
     let all = each_field_view (part ∷ parts) in
     subst (λ f. (f.0 < member_count t) × Fits t any_text (member_place f.0) (val_of f.1)) (sym at)
-        (field_fits t s part.0 (val_of part.1) (fields_of (each_field_view parts)) shaped shape
-        (subst (Fits t any_text (root_place s)) (structure_is value fields all is view) fits))
+    (field_fits t s part.0 (val_of part.1) (fields_of (each_field_view parts)) shaped shape
+    (subst (Fits t any_text (root_place s)) (structure_is value fields all is view) fits))
