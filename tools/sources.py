@@ -18,6 +18,10 @@ def read(path):
         return file.read()
 
 
+def read_if_there(path):
+    return read(path) if os.path.exists(f'{TOP}/{path}') else ''
+
+
 def crates():
     """Each crate of crates.txt, lowest first, with the libraries that it names."""
     found = {}
@@ -128,7 +132,7 @@ class Believed:
 
 
 def exported(crate):
-    """The names that lib.rt hands out, and the modules that it opens whole."""
+    """The names that lib.rt hands out or that modules declare which it opens whole, and these modules."""
     path = f'crates/{crate}/src/lib.rt'
     if not os.path.exists(f'{TOP}/{path}'):
         return set(), set()
@@ -136,7 +140,10 @@ def exported(crate):
     names = set()
     for use in re.findall(r'pub use ([^;]*);', text):
         names |= {word.split()[-1] for word in re.findall(r'[\w]+(?: as \w+)?', use)}
-    return names, set(re.findall(r'pub mod (\w+);', text))
+    opened = set(re.findall(r'pub mod (\w+);', text))
+    for module in opened:
+        names |= set(re.findall(r'(?m)^pub (?:struct|enum|trait) (\w+)', read_if_there(f'crates/{crate}/src/{module}.rt')))
+    return names, opened
 
 
 def owner_of(rest):
@@ -151,13 +158,14 @@ def public_calls(crate):
     for path in sorted(glob.glob(f'{TOP}/crates/{crate}/src/**/*.rt', recursive=True)):
         path = os.path.relpath(path, TOP)
         module = os.path.splitext(os.path.relpath(path, f'crates/{crate}/src'))[0]
-        lines, at, owner, in_trait = read(path).split('\n'), 0, None, False
+        lines, at, owner, in_trait, by_trait = read(path).split('\n'), 0, None, False, False
         while at < len(lines):
             head = re.match(r'^(pub )?(trait|impl)\b(.*)', lines[at])
             if head:
                 owner, in_trait = owner_of(head.group(3)), head.group(2) == 'trait' and bool(head.group(1))
+                by_trait = head.group(2) == 'impl' and ' for ' in head.group(3)
             elif lines[at] == '}':
-                owner, in_trait = None, False
+                owner, in_trait, by_trait = None, False, False
             found = re.match(r'^(\s*)(pub )?fn (\w+)', lines[at])
             if found:
                 end = at
@@ -165,7 +173,7 @@ def public_calls(crate):
                     end += 1
                 called = found.group(3)
                 by_name = called in names if owner is None else owner in names
-                if found.group(2) and (by_name or module in opened or module == 'lib') or in_trait and owner in names:
+                if found.group(2) and (by_name or module in opened or module == 'lib') or (in_trait or by_trait) and owner in names:
                     text = '\n'.join(lines[at:end + 1])
                     said = ' '.join(re.findall(r'(?:requires|ensures)[^{]*\{(.*?)\}\s*$', text, re.S | re.M))
                     yield path, at + 1, called, said
