@@ -1,1 +1,2 @@
 mod NamesInOrder
+mod ServiceClosure

@@ -1,1 +1,2 @@
+pub mod OwnServices
 pub mod WireSaid

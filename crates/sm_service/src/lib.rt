@@ -2,6 +2,7 @@
 // message pays for the model.
 #![tactic(auto)]
 
+mod closure;
 mod error;
 mod error_order;
 mod errors;
