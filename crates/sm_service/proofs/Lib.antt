@@ -1,2 +1,7 @@
 mod NamesInOrder
 mod ServiceClosure
+mod HttpRead
+mod KeptErrors
+mod ShownMembers
+mod FilledServices
+mod ServedRoots

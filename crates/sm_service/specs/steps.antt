@@ -1,2 +1,5 @@
+pub mod HttpReads
+pub mod KeptPlaces
 pub mod OwnServices
+pub mod WalkStarts
 pub mod WireSaid

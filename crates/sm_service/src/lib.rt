@@ -6,10 +6,14 @@ mod closure;
 mod error;
 mod error_order;
 mod errors;
+mod http_rule;
+pub mod laws;
 mod operation;
+mod references;
 mod refusal;
 mod served;
 mod service;
+mod serving;
 
 pub use error::ErrorShape;
 pub use errors::Errors;
