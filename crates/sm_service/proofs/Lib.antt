@@ -5,3 +5,4 @@ mod KeptErrors
 mod ShownMembers
 mod FilledServices
 mod ServedRoots
+mod ReferencesRead

@@ -87,7 +87,7 @@ module _ (g : Graph) (service : ℕ) (small : IsShapeNumber g service)
   inside : service < length image
   inside = subst (λ n. service < n) (sym walk.whole) small
 
-  Of : ℕ → Type 0
+  abbrev pub Of : ℕ → Type 0
   Of k = IsOfService (maps_of g) (id_of_number g service) (id_of_number g k)
 
   forth : (k : ℕ) → IsMarked (set image service true) k → (k < length (entries_of g)) × Of k

@@ -64,7 +64,7 @@ target_same a b p q u v e f h =
     ∙ ap (λ (x : List InnerSeen). record { kind = b; sparse = q; inner = x }) h
 
 module _ (g : GraphMaps) (In : IdSet) (t : TableData) (n : Numbering) (c : IsCompiled g In t n) (shaped : Shaped t) where
-  member_of : ℕ → List ℕ
+  abbrev member_of : ℕ → List ℕ
   member_of j = get_or n.members j []
 
   -- the rows of a shape and of a member

@@ -1,3 +1,4 @@
+pub mod ErrorReads
 pub mod HttpReads
 pub mod KeptPlaces
 pub mod OwnServices

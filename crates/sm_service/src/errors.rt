@@ -79,7 +79,7 @@ impl Model for Errors {
     ghost use Rattle.std.specs.Prelude.{List};
     ghost use Rattle.sm_shapes.specs.SharedView.{shared_list};
     ghost use Rattle.sm_service.specs.ErrorOrder.{AreJoined};
-    ghost use Rattle.sm_service.specs.ErrorsView.{RiseBetween, but_at, joined_errors};
+    ghost use Rattle.sm_service.specs.ErrorsView.{joined_errors};
     ghost use Rattle.sm_service.specs.declared.error.ErrorShape.{ErrorShape};
 
     ghost Value = { List ErrorShape };
@@ -115,6 +115,7 @@ impl Errors {
 
     /// How many there are. No memory.
     pub fn len(&self) -> usize
+        requires { length self.now < 2 ^ 32 }
         ensures { result ≡ length self.now }
     {
         self.own.len() + kept_len(shared_errors(&self.shared), self.again.as_slice())
@@ -159,7 +160,7 @@ fn kept_at<'a>(errors: &'a [ErrorShape], places: &[u32], place: usize) -> Option
     requires { RiseBetween 0 (length errors.now) places.now }
     ensures { option_copied result ≡ slice_get (but_at places.now 0 errors.now) place }
 {
-    if place < kept_len(errors, places) {
+    if place < errors.len() - places.len() {
         errors.get(moved_place(places, place))
     } else {
         None

@@ -5,6 +5,7 @@
 mod closure;
 mod error;
 mod error_order;
+mod error_rows;
 mod errors;
 mod http_rule;
 pub mod laws;

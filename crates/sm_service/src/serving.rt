@@ -31,7 +31,7 @@ pub(crate) enum WalkStart<'a> {
 impl WalkStart<'_> {
     // The shape.
     fn shape(self) -> u32
-        ensures { result ≡ start_shape self }
+        ensures { result ≡ start_shape self.entry }
     {
         match self {
             WalkStart::Input(shape) => shape,
@@ -42,7 +42,7 @@ impl WalkStart<'_> {
 
     // The text with which paths from there begin.
     fn text(self, alloc: Global) -> Result<Text, NoMemory>
-        ensures { IfOk result (λ text. text ≡ join_with_byte slash (start_names self)) }
+        ensures { IfOk result (λ text. text ≡ join_with_byte slash (start_names self.entry)) }
     {
         match self {
             WalkStart::Input(_) => Text::copy(alloc, "input"),
@@ -86,7 +86,7 @@ pub(crate) fn served_from<'a>(
 
 // The path of a way from there.
 fn unserved_by(alloc: Global, start: WalkStart<'_>, way: Text) -> Result<OperationServed, NoMemory>
-    ensures { IfOk result (λ s. served_said s ≡ Unserved (member_path_text (join_with_byte slash (start_names start)) way)) }
+    ensures { IfOk result (λ s. served_said s ≡ Unserved (member_path_text (join_with_byte slash (start_names start.entry)) way)) }
 {
     let text = start.text(alloc)?;
     match MemberPath::new(alloc, text, way) {
