@@ -6,3 +6,5 @@ mod ShownMembers
 mod FilledServices
 mod ServedRoots
 mod ReferencesRead
+mod ErrorsNamed
+mod OnceJoined
