@@ -5,9 +5,9 @@ use Rattle.std.specs.Prelude.{◌==◌, MatchOption, nat_lt, slice_get}
 use Rattle.std.specs.List.{Contains, range_with_len}
 use Rattle.std.specs.Option.{option_map}
 use Rattle.std.proofs.lemmas.Bool.{cases_eq, cases_lt, le-ltb, lt-ltb}
-use Rattle.std.proofs.lemmas.List.{length-map, map-append}
+use Rattle.std.proofs.lemmas.List.{length-append, length-map, map-append}
 use Rattle.std.proofs.lemmas.List.Elements.{Contains-append_cases}
-use Rattle.std.proofs.lemmas.Option.{none-some, same_Some, slice_get-map}
+use Rattle.std.proofs.lemmas.Option.{none-some, same_Some, slice_get-map, slice_get_within}
 use Rattle.std.proofs.lemmas.Slice.Eq.{bytes_eq-Decides}
 use Rattle.sm_model.proofs.LinkedEntries.{cons_cases, cons_here}
 use Rattle.sm_model.proofs.Worklist.{apart}
@@ -188,3 +188,12 @@ named_behind own again shared w (Some k) none h =
     ap (λ ns. slice_get ns (length own + k)) (map-append name_of_error own (but_at again 0 shared))
     ∙ ap (λ n. slice_get (map name_of_error own ++ map name_of_error (but_at again 0 shared)) (n + k)) (sym long)
     ∙ get_right (map name_of_error own) (map name_of_error (but_at again 0 shared)) k ∙ h
+
+-- a place behind own errors is one of all
+pub behind_few : (own kept all : List ErrorShape) (w : List ℕ) (k : ℕ) → own ++ kept ≡ all
+    → slice_get (map name_of_error kept) k ≡ Some w → length own + k < length all
+behind_few own kept all w k whole found =
+    let small = slice_get_within (map name_of_error kept) k w found in
+    let long = length-map kept name_of_error in
+    let joined : length all ≡ length own + length kept = sym (ap length whole) ∙ length-append own kept in
+    omega (arith, small, long, joined)
