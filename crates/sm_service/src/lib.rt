@@ -1,0 +1,17 @@
+// From an accepted model to a service that can be served: its table, its operations with their errors and routes, made once, so that no
+// message pays for the model.
+#![tactic(auto)]
+
+mod error;
+mod errors;
+mod operation;
+mod refusal;
+mod served;
+mod service;
+
+pub use error::ErrorShape;
+pub use errors::Errors;
+pub use operation::{HttpRule, Operation};
+pub use refusal::ServiceRefusal;
+pub use served::{MemberPath, OperationServed};
+pub use service::{Operations, Service};
