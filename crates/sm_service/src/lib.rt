@@ -3,6 +3,7 @@
 #![tactic(auto)]
 
 mod error;
+mod error_order;
 mod errors;
 mod operation;
 mod refusal;
