@@ -1,1 +1,11 @@
 mod NamesInOrder
+mod ValuesMarked
+mod AlongSets
+mod RowsTold
+mod StillShaped
+mod BindingsSaid
+mod TablesBound
+mod BareShapes
+mod ServiceReached
+mod BindingsRead
+mod TablesOfService

@@ -1,1 +1,3 @@
 pub mod WireSaid
+pub mod BindingsTold
+pub mod ServiceTables
