@@ -4,7 +4,7 @@ mod AlongSets
 mod RowsTold
 mod StillShaped
 mod BindingsSaid
-mod TablesBound
+mod BoundRows
 mod BareShapes
 mod ServiceReached
 mod BindingsRead
