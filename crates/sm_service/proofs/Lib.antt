@@ -9,3 +9,10 @@ mod BareShapes
 mod ServiceReached
 mod BindingsRead
 mod TablesOfService
+mod ServiceClosure
+mod HttpRead
+mod KeptErrors
+mod ShownMembers
+mod FilledServices
+mod ServedRoots
+mod ReferencesRead

@@ -14,12 +14,15 @@ use Rattle.sm_shapes.specs.InOrder.{AreByName}
 use Rattle.sm_shapes.specs.Names.{AllDiffer, NoneIs}
 
 -- one place more
-pub range_more : (a n : ℕ) → range_with_len a (n + 1) ≡ range_with_len a n ++ (a + n) ∷ []
+range_more : (a n : ℕ) → range_with_len a (n + 1) ≡ range_with_len a n ++ (a + n) ∷ []
 range_more a zero = let same : a ≡ a + 0 = omega arith in ap (λ x. x ∷ []) same
 range_more a (suc n) =
     let same : a + 1 + n ≡ a + suc n = omega arith in
     let next : suc n + 1 ≡ suc (n + 1) = omega arith in
     ap (range_with_len a) next ∙ ap (λ xs. a ∷ xs) (range_more (a + 1) n ∙ ap (λ x. range_with_len (a + 1) n ++ x ∷ []) same)
+
+pub places_more : (n : ℕ) → range_with_len 0 (n + 1) ≡ range_with_len 0 n ++ n ∷ []
+places_more n = let same : 0 + n ≡ n = omega arith in range_more 0 n ∙ ap (λ x. range_with_len 0 n ++ x ∷ []) same
 
 none_among : (t : List ℕ) (ts : List (List ℕ)) → NoneIs t ts → StandsAmong t ts → ⊥
 none_among t [] h s = s

@@ -28,8 +28,8 @@ HttpServableWhereReady = (g : GraphMaps) (id : List ℕ) (service : ServiceData)
 
 -- and stays so with its defaults: they change no shape, no name and no binding
 pub record StaysServable : Type 0 where
-  pub filled : (s : ServiceData) (test : Test) → Servable s → Shaped (filled s.table test) → Servable (over_table s (filled s.table test))
-  pub http : (s : ServiceData) (test : Test) → HttpServable s → HttpServable (over_table s (filled s.table test))
+  pub stays : (s : ServiceData) (test : Test) → Servable s → Shaped (filled s.table test) → Servable (over_table s (filled s.table test))
+  pub http_stays : (s : ServiceData) (test : Test) → HttpServable s → HttpServable (over_table s (filled s.table test))
 
 -- an id of a graph has one service over a store, and the store is left in one state
 abbrev pub OneService : Type 0

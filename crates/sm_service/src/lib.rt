@@ -4,13 +4,19 @@
 
 mod bound_members;
 mod bound_table;
+mod closure;
 mod error;
 mod error_order;
+mod error_rows;
 mod errors;
+mod http_rule;
+pub mod laws;
 mod operation;
+mod references;
 mod refusal;
 mod served;
 mod service;
+mod serving;
 mod table;
 mod value_shapes;
 

@@ -17,8 +17,8 @@ returns c =
     let sorted = c.sort_unstable_by.new.self.items in
     record {
       order = subst (λ ks. AreByName name ks sorted) c.requires.places (by_names name places sorted c.sort_unstable_by.ensures.permutation
-      (c.sort_unstable_by.ensures.sorted (λ a b. is_lt (text_cmp (name a) (name b))) (ranks_by nat_list_cmp_total name)
-      (always_returns_same _ _ _ (λ a r f called. search rules)))
-      (subst (λ ks. AllDiffer (map name ks)) (sym c.requires.places) c.requires.differ));
+          (c.sort_unstable_by.ensures.sorted (λ a b. is_lt (text_cmp (name a) (name b))) (ranks_by nat_list_cmp_total name)
+          (always_returns_same _ _ _ (λ a r f called. search rules)))
+          (subst (λ ks. AllDiffer (map name ks)) (sym c.requires.places) c.requires.differ));
       differ = c.requires.differ;
     }
