@@ -15,6 +15,8 @@ use Rattle.sm_model.proofs.Worklist.{apart}
 use Rattle.sm_compile.specs.Kinds.{has_values}
 use Rattle.sm_compile.proofs.SoundTests.{first_of, second_of}
 use Rattle.sm_rules.specs.TraitRows.{has_none}
+use Rattle.sm_accepted.proofs.FormedShapes.{formed_entry, prelude_entry}
+use Rattle.sm_accepted.proofs.GivenShapes.{entry_given}
 
 no_names : (kind : Kind) (names : List (List ℕ)) → has_values kind ≡ false → HaveForm (member_form kind) names → names ≡ []
 no_names model.Service names h form = form
@@ -41,7 +43,17 @@ bare_among (s ∷ ss) all p among = elim (cons_cases s ss p among) [
 
 module _ (g : GraphMaps) (f : IsFormedGraph g) (id : List ℕ) (s : ShapeEntry) (there : HasEntry g id (shape_entry s)) where
   pub bare_members : has_values s.kind ≡ false → s.members ≡ []
-  bare_members none = ?
+  bare_members none =
+      let e = formed_entry g f id s there in e.members ∙ ap (map (member_id id)) (no_names s.kind e.names none e.form)
 
   pub bare_of_prelude : is_prelude_id id ≡ true → (s.members ≡ []) × (field_relations s.kind ≡ [])
-  bare_of_prelude of_prelude = ?
+  bare_of_prelude of_prelude =
+      let p = prelude_entry g f id (shape_entry s) of_prelude there in
+      let e = p.2 in
+      let is : s ≡ entry_given p.0 = cc in
+      let bare = bare_among prelude_shapes all_bare p.0 p.1 in (
+        ap (λ (x : ShapeEntry). x.members) is
+            ∙ ap (map (λ (m : MemberGiven). member_id p.0.id m.name)) (nothing p.0.members (first_of (has_none p.0.members) _ bare)),
+        ap (λ (x : ShapeEntry). field_relations x.kind) is
+            ∙ nothing (field_relations p.0.kind) (second_of (has_none p.0.members) (has_none (field_relations p.0.kind)) bare),
+      )

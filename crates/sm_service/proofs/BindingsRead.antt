@@ -1,5 +1,5 @@
 -- Of a service that is ready the traits that name parts of messages have texts, at each member of its table.
-use Rattle.std.proofs.Common.{◌≡◌, inl, inr, ℕ, Bool, true, false, ◌&&◌, ◌||◌, List, [], Option, Some, None, refl, sym, ap, ◌∙◌, subst}
+use Rattle.std.proofs.Common.{◌≡◌, inl, inr, ℕ, Bool, true, false, ◌&&◌, List, [], Some, refl, sym, ap, ◌∙◌, subst}
 use Rattle.std.specs.Prelude.{cond}
 use Rattle.std.specs.FinMap as fin
 use Rattle.std.specs.List.{Contains}
@@ -13,26 +13,17 @@ use Rattle.sm_compile.specs.Kinds.{has_value_members, value_members}
 use Rattle.sm_compile.specs.Reached.{LeadsTo}
 use Rattle.sm_compile.specs.Sound.{trait_of}
 use Rattle.sm_compile.specs.TraitIds.{http_header_id, http_prefix_headers_id, http_query_id}
-use Rattle.sm_compile.specs.TraitNodes.{is_text, where_there}
+use Rattle.sm_compile.specs.TraitNodes.{is_text}
 use Rattle.sm_compile.proofs.SoundTests.{first_of}
 use Rattle.sm_rules.specs.Ready.{IsOfService, Ready}
 use Rattle.sm_rules.specs.TraitRows.{Spot, at_member, has_form, has_row, header_token, filled_text, any_text, is_as_one, rows_of}
 use Rattle.sm_rules.specs.Traits.{IsSpot, of_member}
 use Rattle.sm_rules.specs.Words.{IsService}
-use Rattle.sm_accepted.proofs.ClosedSets.{service_closed}
+use Rattle.sm_accepted.proofs.ClosedSets.{is_there, service_closed}
+use Rattle.sm_accepted.proofs.FormedShapes.{IsThere, formed_entry, member_own}
+use Rattle.sm_accepted.proofs.TraitsRight.{by_row, or_false, where_known}
 use Rattle.sm_service.specs.steps.BindingsTold.{AreBindingTexts}
 use Rattle.sm_service.proofs.BareShapes.{bare_of_prelude}
-
-abbrev IsThere : GraphMaps → List ℕ → Type 0
-IsThere g id = (m : MemberEntry) × HasEntry g id (member_entry m)
-
-or_false : (b : Bool) → (b || false) ≡ b
-or_false true = refl
-or_false false = refl
-
-where_known : (o : Option Node) (test : Node → Bool) → ((n : Node) → o ≡ Some n → test n ≡ true) → where_there test o ≡ true
-where_known None test h = refl
-where_known (Some n) test h = h n refl
 
 -- the members at which values stand are members
 among_members : (b : Bool) (ids : List (List ℕ)) (id : List ℕ) → Contains (cond b ids []) id → Contains ids id
@@ -54,7 +45,7 @@ module _ (g : GraphMaps) (service : List ℕ) (is : IsService g service) (ready 
   among = among_members (has_value_members s.kind) s.members id tabled.4
 
   there : IsThere g id
-  there = ?
+  there = is_there g s.members id (formed_entry g (ready is).formed shape s home).there among
 
   own_shape : is_prelude_id shape ≡ false
   own_shape = by (is_prelude_id shape) refl
@@ -81,7 +72,8 @@ module _ (g : GraphMaps) (service : List ℕ) (is : IsService g service) (ready 
   })
 
   reads : (trait : List ℕ) (n : Node) → has_row trait ≡ true → trait_of g id trait ≡ Some n → is_as_one (rows_of trait) n ≡ true
-  reads trait n row at = ?
+  reads trait n row at =
+      by_row g (IsOfService g service) (ready is).none id inside (member_own g (ready is).formed id there.0 there.1) spot stands trait n row at
 
   pub binding_texts : AreBindingTexts (trait_of g id)
   binding_texts = record {
