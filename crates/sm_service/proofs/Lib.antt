@@ -1,4 +1,14 @@
 mod NamesInOrder
+mod ValuesMarked
+mod AlongSets
+mod RowsTold
+mod StillShaped
+mod BindingsSaid
+mod BoundRows
+mod BareShapes
+mod ServiceReached
+mod BindingsRead
+mod TablesOfService
 mod ServiceClosure
 mod HttpRead
 mod KeptErrors

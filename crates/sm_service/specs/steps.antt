@@ -4,3 +4,5 @@ pub mod KeptPlaces
 pub mod OwnServices
 pub mod WalkStarts
 pub mod WireSaid
+pub mod BindingsTold
+pub mod ServiceTables
