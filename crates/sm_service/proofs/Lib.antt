@@ -11,6 +11,7 @@ mod BindingsRead
 mod TablesOfService
 mod ServiceClosure
 mod HttpRead
+mod HttpReady
 mod KeptErrors
 mod ShownMembers
 mod FilledServices
