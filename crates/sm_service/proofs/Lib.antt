@@ -10,3 +10,9 @@ mod BareShapes
 mod ServiceReached
 mod BindingsRead
 mod TablesOfService
+mod ServableIds
+mod ServableRows
+mod SaidReferences
+mod ErrorsApart
+mod HeaderTokens
+mod ServableServices

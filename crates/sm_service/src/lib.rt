@@ -8,6 +8,7 @@ mod bound_table;
 mod error;
 mod error_order;
 mod errors;
+pub mod laws;
 mod operation;
 mod refusal;
 mod served;

@@ -1,0 +1,7 @@
+// Laws over the definitions: public functions with empty bodies, whose contracts are the laws.
+ghost use Rattle.sm_service.specs.Laws.{ServableWhereReady};
+
+/// What is ready is servable once it is compiled.
+pub fn servable_where_ready()
+    ensures { ServableWhereReady }
+{}
