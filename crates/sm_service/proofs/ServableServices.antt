@@ -1,5 +1,5 @@
 -- What is ready is servable once it is compiled: each field of `Servable` of the service that a graph says.
-use Rattle.std.proofs.Common.{◌≡◌, inl, inr, ℕ, zero, suc, ◌<◌, List, [], ◌∷◌, map, length, Some, refl, sym, ap, ◌∙◌, subst}
+use Rattle.std.proofs.Common.{◌≡◌, inl, inr, ℕ, zero, suc, true, ◌<◌, List, [], ◌∷◌, map, length, Some, refl, sym, ap, ◌∙◌, subst}
 use Rattle.std.specs.Prelude.{codes, slice_get, ◌^◌}
 use Rattle.std.specs.Cmp.Lexicographic.{nat_list_cmp_total}
 use Rattle.std.specs.List.{Contains}
@@ -208,8 +208,21 @@ module _ (g : GraphMaps) (id : List ℕ) (service : ServiceData) (f : IsFormedGr
         let there : HasEntry g says.output (shape_entry error.s) = subst (λ x. HasEntry g x (shape_entry error.s)) same error.there in
         never_both g says.output error.s error.s there there (output_plain error.s there) error.is_error
 
+    -- what a walk of its values begins from
+    abbrev input_root : WalkRoot
+    input_root = walk_root (codes "input" ∷ []) says.input
+
+    abbrev output_root : WalkRoot
+    output_root = walk_root (codes "output" ∷ []) says.output
+
+    abbrev error_roots : List WalkRoot
+    error_roots = map error_root errors_of
+
+    abbrev behind_input : List WalkRoot
+    behind_input = output_root ∷ error_roots
+
     served : o.served ≡ Yes → (root : WalkRoot) → Contains (walk_roots says.input says.output errors_of) root → IsServed g root.id
-    served yes = subst (TellsAllServed g (walk_roots says.input says.output errors_of)) yes says.served
+    served told = subst (TellsAllServed g (walk_roots says.input says.output errors_of)) told says.served
 
     servable_operation : IsServableOperation service.table o
     servable_operation = record {
@@ -221,14 +234,15 @@ module _ (g : GraphMaps) (id : List ℕ) (service : ServiceData) (f : IsFormedGr
       error_names = error_names_differ g f id of.s of.own of.kind none of.numbering errors_of o.errors says.errors (once_differ _) error_of;
       error_shapes = shapes_differ;
       no_output = no_output;
-      input_carried = λ yes. carried_at o.input says.input says.input_number
-          (served yes (walk_root (codes "input" ∷ []) says.input) (contains_head _ _));
-      output_carried = λ yes. carried_at o.output says.output says.output_number
-          (served yes (walk_root (codes "output" ∷ []) says.output) (contains_behind _ _ _ (contains_head _ _)));
-      errors_carried = λ yes e among.
+      input_carried = λ told. carried_at o.input says.input says.input_number (served told input_root (contains_head input_root behind_input));
+      output_carried = λ told. carried_at o.output says.output says.output_number
+          (served told output_root (contains_behind input_root output_root behind_input (contains_head output_root error_roots)));
+      errors_carried = λ told e among.
           let r = error_row e among in
-          carried_at e.shape r.0 r.2.number (served yes (error_root r.0)
-          (contains_behind _ _ _ (contains_behind _ _ _ (mapped_to error_root errors_of r.0 r.1))));
+          let root = error_root r.0 in
+          carried_at e.shape r.0 r.2.number (served told root
+          (contains_behind input_root root behind_input
+          (contains_behind output_root root error_roots (mapped_to error_root errors_of r.0 r.1))));
     }
 
   each_servable : (o : OperationData) → Contains service.operations o → IsServableOperation service.table o
