@@ -1,9 +1,8 @@
 -- Errors of a service that is ready have names that differ; what an operation and a service refer to is of the types that may stand there.
-use Rattle.std.proofs.Common.{◌≡◌, ◌⊎◌, inl, inr, ℕ, Bool, true, false, not, ◌&&◌, List, [], ◌∷◌, map, length, Option, Some, None, refl, sym, ap}
+use Rattle.std.proofs.Common.{◌≡◌, inl, inr, ℕ, Bool, true, false, not, List, [], ◌∷◌, map, Option, Some, None, refl, sym, ap}
 use Rattle.std.proofs.Common.{◌∙◌, subst, arith}
 use Rattle.std.specs.Prelude.{codes, is_some}
 use Rattle.std.specs.Char.{to_ascii_lowercase}
-use Rattle.std.specs.FinMap as fin
 use Rattle.std.specs.FinMap.{get-from_entries}
 use Rattle.std.specs.FinMap.Entries.{find}
 use Rattle.std.specs.Cmp.Lexicographic.{nat_list_cmp_total}
@@ -13,17 +12,15 @@ use Rattle.std.specs.List.{Contains, list_all}
 use Rattle.std.specs.Option.{unwrap_or}
 use Rattle.std.specs.declared.cmp.Ordering.{Ordering}
 use Rattle.std.specs.declared.cmp.Ordering.TheVariants.{Less, Equal, Greater}
-use Rattle.std.proofs.lemmas.Option.{none-some}
 use Rattle.sm_ids.specs.TextParts.{name_part}
 use Rattle.sm_tree.specs.Node.{Node, Members, null, bool, int, number, text, bytes, tag, opaque, list, object}
 use Rattle.sm_tree.specs.Parts.{tree_named}
 use Rattle.sm_model.specs.FormedGraph.{IsFormedGraph}
 use Rattle.sm_model.specs.Graphs.{GraphMaps, ShapeEntry, ShapeGiven, shape_entry, text_cmp}
 use Rattle.sm_model.specs.PreludeShapes.{is_prelude_id, prelude_shapes}
-use Rattle.sm_model.specs.Relations.{HasEntry, IsNeighbor, Reaches, SaysInBody, WalksBy}
+use Rattle.sm_model.specs.Relations.{HasEntry, IsNeighbor, Reaches, WalksBy}
 use Rattle.sm_model.specs.declared.kind.Kind.{Kind}
 use Rattle.sm_model.specs.declared.kind.Kind.TheVariants as model
-use Rattle.sm_model.specs.declared.relation.Relation.TheVariants.{Error}
 use Rattle.sm_model.proofs.LinkedEntries.{cons_cases}
 use Rattle.sm_model.proofs.NumberedIds.{one_entry}
 use Rattle.sm_model.proofs.OneRising.{contains_behind, contains_head}
@@ -34,13 +31,12 @@ use Rattle.sm_compile.specs.TraitIds.{error_id}
 use Rattle.sm_compile.specs.TraitNodes.{field_of, text_of}
 use Rattle.sm_compile.proofs.SoundTests.{first_of, second_of}
 use Rattle.sm_rules.specs.Ready.{IsOfService, NoneFailsIn}
-use Rattle.sm_rules.specs.Services.{IsNamedIn, IsNameIn, KeepsName, name_again, name_given, named_kinds, wrong_rename}
+use Rattle.sm_rules.specs.Services.{IsNamedIn, KeepsName, name_again, name_given, named_kinds, wrong_rename}
 use Rattle.sm_rules.specs.Targets.{is_error_structure, is_plain_structure}
 use Rattle.sm_rules.specs.TraitRows.{is_among, is_kind}
 use Rattle.sm_rules.specs.Words.{IsInClosure, IsOwnShape, IsService, field_in, has_trait}
 use Rattle.sm_accepted.proofs.FormedShapes.{prelude_entry}
 use Rattle.sm_accepted.proofs.GivenShapes.{entry_given}
-use Rattle.sm_accepted.proofs.TraitsRight.{must}
 use Rattle.sm_service.specs.Compiled.{SaysError}
 use Rattle.sm_service.specs.ServiceData.{name_of_error}
 use Rattle.sm_service.specs.declared.error.ErrorShape.{ErrorShape}

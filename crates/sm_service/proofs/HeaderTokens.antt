@@ -1,18 +1,18 @@
 -- What a header is called is a token of HTTP, in the table of a service that is ready.
-use Rattle.std.proofs.Common.{◌≡◌, inl, inr, ℕ, Bool, true, false, ◌&&◌, List, [], Option, Some, None, refl, sym, ap, ◌∙◌, subst, IsTrue}
+use Rattle.std.proofs.Common.{◌≡◌, inl, ℕ, Bool, true, false, ◌&&◌, List, [], Option, Some, None, refl, sym, ap, ◌∙◌, subst, IsTrue}
 use Rattle.std.specs.Prelude.{slice_get, unwrap_or}
 use Rattle.std.specs.FinMap as fin
 use Rattle.std.specs.List.{Contains}
-use Rattle.std.proofs.lemmas.Option.{none-some, same_Some}
+use Rattle.std.proofs.lemmas.Option.{none-some}
 use Rattle.httparse.specs.Grammar.{is_token}
 use Rattle.sm_tree.specs.Node.{Node}
 use Rattle.sm_tree.specs.Parts.{text_in}
 use Rattle.sm_model.specs.FormedGraph.{IsFormedGraph}
-use Rattle.sm_model.specs.Graphs.{GraphMaps, MemberEntry, ShapeEntry, member_entry, shape_entry}
+use Rattle.sm_model.specs.Graphs.{GraphMaps, MemberEntry, member_entry, shape_entry}
 use Rattle.sm_model.specs.PreludeShapes.{is_prelude_id}
-use Rattle.sm_model.specs.Relations.{HasEntry, IsInGraph}
+use Rattle.sm_model.specs.Relations.{HasEntry}
 use Rattle.sm_model.proofs.OneRising.{contains_none}
-use Rattle.sm_shapes.specs.TableData.{BindingData, MemberData, TableData, binding_at, binding_in, header}
+use Rattle.sm_shapes.specs.TableData.{MemberData, TableData, binding_at, binding_in, header}
 use Rattle.sm_compile.specs.Compiled.{IsCompiled, IsTabledMember, Numbering}
 use Rattle.sm_compile.specs.Sound.{trait_in, trait_of}
 use Rattle.sm_compile.specs.TraitIds.{http_header_id}

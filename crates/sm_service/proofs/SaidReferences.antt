@@ -17,7 +17,7 @@ use Rattle.sm_model.specs.Relations.{HasBodyPair, IsEntryText, Refers, SaysInBod
 use Rattle.sm_model.specs.declared.relation.Relation.{Relation}
 use Rattle.sm_model.proofs.OneRising.{contains_behind, contains_either, contains_head, contains_none}
 use Rattle.sm_model.proofs.Worklist.{apart}
-use Rattle.sm_shapes.specs.Names.{AllDiffer, NoneIs}
+use Rattle.sm_shapes.specs.Names.{AllDiffer}
 use Rattle.sm_compile.specs.TraitNodes.{field_of, text_of}
 use Rattle.sm_service.specs.References.{errors_said, once, reference_in, references_in, texts_among}
 use Rattle.sm_service.proofs.ServableIds.{is_none, none_is}

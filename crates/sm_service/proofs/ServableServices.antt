@@ -26,7 +26,7 @@ use Rattle.sm_compile.proofs.RowsAlike.{same_place}
 use Rattle.sm_compile.proofs.SoundTests.{first_of}
 use Rattle.sm_compile.proofs.TabledShapes.{mapped_from, mapped_to}
 use Rattle.sm_compile.specs.TraitIds.{error_id}
-use Rattle.sm_rules.specs.Ready.{IsOfService, NoneFailsIn, Ready}
+use Rattle.sm_rules.specs.Ready.{IsOfService, NoneFailsIn}
 use Rattle.sm_rules.specs.Targets.{by_body, is_error_structure, is_plain_structure}
 use Rattle.sm_rules.specs.TraitRows.{is_kind}
 use Rattle.sm_rules.specs.Words.{IsOwnShape, IsService, has_trait}
@@ -254,9 +254,9 @@ module _ (g : GraphMaps) (id : List ℕ) (service : ServiceData) (f : IsFormedGr
       (few_ids g f (map op_id service.operations)
       (ids_differ service.operations (λ o among. (of.operations.each o among).1.name) of.operations.rise)
       (λ x there.
-        let p = mapped_from op_id service.operations x there in
-        let h = (of.operations.each p.0 p.1).1 in
-        (shape_entry h.s, subst (λ i. HasEntry g i (shape_entry h.s)) p.2 h.own.0)))
+      let p = mapped_from op_id service.operations x there in
+      let h = (of.operations.each p.0 p.1).1 in
+      (shape_entry h.s, subst (λ i. HasEntry g i (shape_entry h.s)) p.2 h.own.0)))
 
   pub servable : Servable service
   servable = record {

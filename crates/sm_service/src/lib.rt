@@ -2,9 +2,9 @@
 // message pays for the model.
 #![tactic(auto)]
 
-mod closure;
 mod bound_members;
 mod bound_table;
+mod closure;
 mod error;
 mod error_order;
 mod errors;
