@@ -1,4 +1,5 @@
 mod NamesInOrder
+mod ServiceClosure
 mod ValuesMarked
 mod AlongSets
 mod RowsTold
@@ -9,7 +10,6 @@ mod BareShapes
 mod ServiceReached
 mod BindingsRead
 mod TablesOfService
-mod ServiceClosure
 mod HttpRead
 mod HttpReady
 mod KeptErrors
@@ -19,3 +19,9 @@ mod ServedRoots
 mod ReferencesRead
 mod ErrorsNamed
 mod OnceJoined
+mod ServableIds
+mod ServableRows
+mod SaidReferences
+mod ErrorsApart
+mod HeaderTokens
+mod ServableServices

@@ -1,5 +1,10 @@
 // Laws over the definitions: public functions with empty bodies, whose contracts are the laws.
-ghost use Rattle.sm_service.specs.Laws.{StaysServable};
+ghost use Rattle.sm_service.specs.Laws.{ServableWhereReady, StaysServable};
+
+/// What is ready is servable once it is compiled.
+pub fn servable_where_ready()
+    ensures { ServableWhereReady }
+{}
 
 /// A service that is servable stays so when the defaults of its table are filled.
 pub fn stays_servable()
