@@ -16,3 +16,5 @@ mod ShownMembers
 mod FilledServices
 mod ServedRoots
 mod ReferencesRead
+mod ErrorsNamed
+mod OnceJoined
