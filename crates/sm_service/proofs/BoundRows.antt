@@ -1,5 +1,5 @@
 -- A table of a service with bindings and media types, from the one without: it says what the graph says, and is in order.
-use Rattle.std.proofs.Common.{◌≡◌, ℕ, ◌<◌, List, [], map, length, get_or, Option, Some, None, refl, sym, ap, ◌∙◌, subst}
+use Rattle.std.proofs.Common.{◌≡◌, ℕ, List, [], map, get_or, Option, Some, None, refl, sym, ap, ◌∙◌, subst}
 use Rattle.std.specs.Prelude.{slice_get}
 use Rattle.std.specs.List.{Contains}
 use Rattle.std.specs.Option.{option_or}
@@ -11,17 +11,18 @@ use Rattle.sm_model.specs.Relations.{HasEntry}
 use Rattle.sm_model.specs.declared.graph.Graph.{Graph}
 use Rattle.sm_shapes.specs.BindingPuts.{with_binding, with_bindings}
 use Rattle.sm_shapes.specs.Fitting.{Test}
-use Rattle.sm_shapes.specs.TableData.{BindingData, MemberData, ShapeData, TableData, binding_at, binding_in, default_node_at, default_node_in}
+use Rattle.sm_shapes.specs.TableData.{BindingData, MemberData, ShapeData, TableData, binding_at, binding_in}
+use Rattle.sm_shapes.specs.TableData.{default_node_at, default_node_in}
 use Rattle.sm_compile.specs.Answers.{StoreSeen}
-use Rattle.sm_compile.specs.Compiled.{EachSays, IsCompiled, Numbering, PatternRows, SaysMember, SaysShape}
+use Rattle.sm_compile.specs.Compiled.{EachSays, Numbering, PatternRows, SaysMember, SaysShape}
 use Rattle.sm_compile.specs.Looked.{target_in}
 use Rattle.sm_compile.specs.Sound.{trait_in, trait_of}
 use Rattle.sm_compile.specs.TraitIds.{media_type_id}
 use Rattle.sm_compile.specs.TraitNodes.{text_of}
 use Rattle.sm_compile.specs.steps.Numbered.{numbering}
 use Rattle.sm_compile.proofs.RowsAlike.{each_at}
-use Rattle.sm_service.specs.Bound.{Binds, BindsMember, BindsShape, SaysBinding}
-use Rattle.sm_service.specs.steps.BindingsTold.{AreBindingTexts, TellsBinding, TellsMedia, TellsShapeMedia, put_rows, table_bound, with_media}
+use Rattle.sm_service.specs.Bound.{BindsMember, BindsShape, SaysBinding}
+use Rattle.sm_service.specs.steps.BindingsTold.{AreBindingTexts, TellsBinding, TellsMedia, TellsShapeMedia, table_bound, with_media}
 use Rattle.sm_service.specs.steps.BindingsTold.{with_shape_media}
 use Rattle.sm_service.specs.steps.ServiceTables.{IsBoundFrom, IsBoundTable, IsTableOfShapes}
 use Rattle.sm_service.proofs.BindingsSaid.{binding_said, node_unbound, unbound_said}

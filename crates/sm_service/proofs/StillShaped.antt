@@ -1,9 +1,8 @@
 -- A table that differs from another in bindings and media types alone is in order where the other is, and no member with the node of a
 -- default has a binding.
-use Rattle.std.proofs.Common.{◌≡◌, ℕ, zero, ◌<◌, Bool, ◌||◌, cond, List, [], ◌∷◌, map, length, Option, Some, None, refl, sym, ap, ◌∙◌}
+use Rattle.std.proofs.Common.{◌≡◌, ℕ, ◌<◌, Bool, ◌||◌, List, [], ◌∷◌, map, length, Option, Some, None, refl, sym, ap, ◌∙◌}
 use Rattle.std.proofs.Common.{subst, arith}
 use Rattle.std.specs.Prelude.{is_some, slice_get, IsUtf8}
-use Rattle.std.specs.Cmp.Lexicographic.{slice_cmp}
 use Rattle.std.specs.List.{Contains, filter}
 use Rattle.std.specs.List.Sorted.{IsStrictlySortedBy}
 use Rattle.std.specs.Option.{option_map}
@@ -16,7 +15,6 @@ use Rattle.sm_shapes.specs.Fitting.{Test}
 use Rattle.sm_shapes.specs.InOrder.{AreByName, AreMembersOf, AreStored, Built, HasItsMembers, IsTextKind, MayHaveNode, NamesPattern, Shaped}
 use Rattle.sm_shapes.specs.InOrder.{is_needed}
 use Rattle.sm_shapes.specs.Names.{AllDiffer}
-use Rattle.sm_shapes.specs.Places.{member_place}
 use Rattle.sm_shapes.specs.TableData.{ConstraintData, MemberData, ShapeData, TableData, binding_at, by_json_name_at, by_json_name_in}
 use Rattle.sm_shapes.specs.TableData.{by_name_at, by_name_in, constraints_at, constraints_in, default_at, default_in, default_node_at}
 use Rattle.sm_shapes.specs.TableData.{default_node_in, home_at, home_in, json_name_at, json_name_in, kind_at, kind_in, member_count}

@@ -1,9 +1,8 @@
 -- The table of the shapes with values of a service, reached from them, is one of all that the service leads to.
-use Rattle.std.proofs.Common.{◌≡◌, ℕ, List, map, length, refl, sym, ap, ◌∙◌, subst}
-use Rattle.std.specs.Prelude.{◌↔◌, ◌++◌, Err}
+use Rattle.std.proofs.Common.{◌≡◌, ℕ, List, map, sym, ap, ◌∙◌, subst}
+use Rattle.std.specs.Prelude.{Err}
 use Rattle.std.specs.Cmp.Lexicographic.{nat_list_cmp_total}
 use Rattle.std.specs.List.{Contains, flat_map}
-use Rattle.sm_model.specs.Graphs.{GraphMaps}
 use Rattle.sm_model.specs.GraphView.{maps_of}
 use Rattle.sm_model.specs.Reaching.{id_of_number}
 use Rattle.sm_model.specs.declared.graph.Graph.{Graph}
@@ -85,7 +84,8 @@ module _ (g : Graph) (service : List ℕ) (is : IsService (maps_of g) service) (
   pub refused_roots : (test : Test) (before now : StoreSeen) (refusal : CompileRefusal) (r : ServiceRefusal) → r ≡ refusal_of refusal
       → CompilesRoots g shapes test before now (Err refusal) → TablesShapes g service shapes test before now (Err r)
   refused_roots test before now refusal r is h =
-      subst (λ (x : ServiceRefusal). TablesShapes g service shapes test before now (Err x)) (sym is) (refusal_told test before now refusal h)
+      subst (λ (x : ServiceRefusal). TablesShapes g service shapes test before now (Err x)) (sym is)
+      (refusal_told test before now refusal h)
 
   -- and with its bindings
   module _ (test : Test) (before now : StoreSeen) (t : TableData) (plain : IsTableOfShapes g service shapes test before now t) where
@@ -104,8 +104,8 @@ module _ (g : Graph) (service : List ℕ) (is : IsService (maps_of g) service) (
     }
 
   -- a refusal of the plain table is one of the table
-  pub refused_too : (test : Test) (before now : StoreSeen) (refusal : ServiceRefusal) → TablesShapes g service shapes test before now (Err refusal)
-      → TablesBound g service shapes test before now (Err refusal)
+  pub refused_too : (test : Test) (before now : StoreSeen) (refusal : ServiceRefusal)
+      → TablesShapes g service shapes test before now (Err refusal) → TablesBound g service shapes test before now (Err refusal)
   refused_too test before now NoService h = absurd h
   refused_too test before now (Pattern id) h = h
   refused_too test before now NoMemory h = h

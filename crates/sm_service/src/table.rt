@@ -16,8 +16,8 @@ use sm_shapes::Patterns;
 use sm_shapes::tables::Table;
 use std::alloc::Global;
 
-/// The table of the service at a number, whose closure is marked. Its patterns are added to the store. `Pattern` where the store refuses one
-/// that the service leads to, with the least id that carries it; `NoMemory` where memory is refused. n log n in what is marked.
+/// The table of the service at a number, whose closure is marked. Its patterns are added to the store. `Pattern` where the store refuses
+/// one that the service leads to, with the least id that carries it; `NoMemory` where memory is refused. n log n in what is marked.
 pub(crate) fn service_table<P: Patterns>(
     alloc: Global,
     graph: &Graph,

@@ -1,4 +1,4 @@
-use Rattle.std.proofs.Common.{length, refl, subst, sym}
+use Rattle.std.proofs.Common.{subst, sym}
 use Rattle.sm_model.specs.Reaching.{id_of_number}
 use Rattle.sm_service.proofs.TablesOfService.{refused_of_service, service_tabled}
 use Rattle.sm_service.proofs.ValuesMarked.{shapes_told}
