@@ -3,6 +3,8 @@
 #![tactic(auto)]
 
 mod closure;
+mod bound_members;
+mod bound_table;
 mod error;
 mod error_order;
 mod errors;
@@ -10,6 +12,8 @@ mod operation;
 mod refusal;
 mod served;
 mod service;
+mod table;
+mod value_shapes;
 
 pub use error::ErrorShape;
 pub use errors::Errors;
