@@ -1,10 +1,10 @@
-pub mod GivenShapes
-pub mod FormedShapes
+mod GivenShapes
+mod FormedShapes
 pub mod ClosedSets
 mod Lists
-pub mod TraitsRight
+mod TraitsRight
 mod MembersRight
 mod EnumsRight
 mod NamesRight
-pub mod SoundGraphs
+mod SoundGraphs
 pub mod ReadyGraphs

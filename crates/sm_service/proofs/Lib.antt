@@ -16,3 +16,9 @@ mod ShownMembers
 mod FilledServices
 mod ServedRoots
 mod ReferencesRead
+mod OnceNamed
+mod OperationsNamed
+mod AgainPlaces
+mod OnceNumbers
+mod OperationsTold
+mod OperationsReady
