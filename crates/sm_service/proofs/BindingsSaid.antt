@@ -5,7 +5,7 @@ use Rattle.std.specs.FinMap as fin
 use Rattle.std.specs.List.{list_any}
 use Rattle.std.proofs.lemmas.Option.{none-some}
 use Rattle.sm_tree.specs.Node.{Node, null, bool, int, number, text, bytes, tag, opaque, list, object}
-use Rattle.sm_model.specs.Graphs.{GraphMaps, MemberEntry, NodeMap, member_entry}
+use Rattle.sm_model.specs.Graphs.{Entry, GraphMaps, MemberEntry, NodeMap, member_entry}
 use Rattle.sm_model.specs.Relations.{HasEntry}
 use Rattle.sm_model.specs.declared.kind.Kind.{Kind}
 use Rattle.sm_model.specs.declared.kind.Kind.TheVariants as model
@@ -22,11 +22,8 @@ use Rattle.sm_service.specs.steps.BindingsTold.{AreBindingTexts, SaysBindingBy, 
 -- the traits of the member with an id
 pub binding_said : (g : GraphMaps) (id : List ℕ) (m : MemberEntry) → HasEntry g id (member_entry m) → (b : Option BindingData)
     → SaysBindingBy (trait_of g id) b → SaysBinding m.traits b
-binding_said g id m there b h = by b (subst (λ (seen : TraitsSeen). SaysBindingBy seen b) traits h)
+binding_said g id m there b h = by b (subst (λ (o : Option Entry). SaysBindingBy (λ name. trait_in name o) b) there h)
   where
-    traits : Path TraitsSeen (trait_of g id) (λ name. fin.get m.traits name)
-    traits = λ i name. ap (trait_in name) there i
-
     by : (b : Option BindingData) → SaysBindingBy (λ name. fin.get m.traits name) b → SaysBinding m.traits b
     by None h = h
     by (Some label) h = h
@@ -86,7 +83,7 @@ module _ (traits : NodeMap) where
       (rest_not (has http_payload_id) _ (rest_not (has http_prefix_headers_id) _ (rest_not (has http_header_id) _ (from_header h))))
 
   never : (b : Bool) → b ≡ false → b ≡ true → ⊥
-  never b no yes = apart (sym no ∙ yes)
+  never b off on = apart (sym off ∙ on)
 
   pub unbound_said : is_bound traits ≡ false → (b : Option BindingData) → SaysBinding traits b → b ≡ None
   unbound_said none None h = refl

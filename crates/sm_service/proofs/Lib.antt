@@ -5,7 +5,7 @@ mod AlongSets
 mod RowsTold
 mod StillShaped
 mod BindingsSaid
-mod TablesBound
+mod BoundRows
 mod BareShapes
 mod ServiceReached
 mod BindingsRead
@@ -22,3 +22,5 @@ mod AgainPlaces
 mod OnceNumbers
 mod OperationsTold
 mod OperationsReady
+mod ErrorsNamed
+mod OnceJoined
