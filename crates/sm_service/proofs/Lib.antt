@@ -24,3 +24,9 @@ mod OperationsTold
 mod OperationsReady
 mod ErrorsNamed
 mod OnceJoined
+mod ServableIds
+mod ServableRows
+mod SaidReferences
+mod ErrorsApart
+mod HeaderTokens
+mod ServableServices
