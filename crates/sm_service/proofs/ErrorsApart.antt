@@ -104,7 +104,7 @@ pub record IsErrorOf (g : GraphMaps) (service id : List ℕ) : Type 0 where
 
 module _ (g : GraphMaps) (f : IsFormedGraph g) (service : List ℕ) (v : ShapeEntry) (own : IsOwnShape g service v)
     (kind : v.kind ≡ model.Service) (none : NoneFailsIn g (IsOfService g service)) where
-  no_new_name : (id : List ℕ) → KeepsName g id → name_given v id ≡ None
+  pub no_new_name : (id : List ℕ) → KeepsName g id → name_given v id ≡ None
   no_new_name id keeps = by (field_of (codes "rename") v.properties) refl
     where
       by : (o : Option Node) → field_of (codes "rename") v.properties ≡ o → text_of (field_in id o) ≡ None

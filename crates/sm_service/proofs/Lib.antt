@@ -17,6 +17,12 @@ mod ShownMembers
 mod FilledServices
 mod ServedRoots
 mod ReferencesRead
+mod OnceNamed
+mod OperationsNamed
+mod AgainPlaces
+mod OnceNumbers
+mod OperationsTold
+mod OperationsReady
 mod ErrorsNamed
 mod OnceJoined
 mod ServableIds

@@ -54,8 +54,8 @@ impl KnownErrors {
         self.errors.as_slice()
     }
 
-    // The place of the error of a name. log n, no memory.
-    fn named(&self, name: &str) -> Option<u32>
+    /// The place of the error of a name. log n, no memory.
+    pub(crate) fn named(&self, name: &str) -> Option<u32>
         ensures { result ≡ place_named self.now name.now }
     {
         place_named(self.errors.as_slice(), self.by_name.as_slice(), name)

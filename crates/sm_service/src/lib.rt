@@ -2,9 +2,9 @@
 // message pays for the model.
 #![tactic(auto)]
 
+mod closure;
 mod bound_members;
 mod bound_table;
-mod closure;
 mod error;
 mod error_order;
 mod error_rows;
@@ -12,13 +12,16 @@ mod errors;
 mod http_rule;
 pub mod laws;
 mod operation;
+mod operation_errors;
+mod operation_numbers;
+mod operations;
 mod references;
 mod refusal;
 mod served;
 mod service;
-mod serving;
 mod table;
 mod value_shapes;
+mod serving;
 
 pub use error::ErrorShape;
 pub use errors::Errors;
