@@ -22,6 +22,7 @@ mod OperationsNamed
 mod AgainPlaces
 mod OnceNumbers
 mod OperationsTold
+mod NamesReady
 mod OperationsReady
 mod ErrorsNamed
 mod OnceJoined
@@ -31,3 +32,4 @@ mod SaidReferences
 mod ErrorsApart
 mod HeaderTokens
 mod ServableServices
+mod CompiledServices
