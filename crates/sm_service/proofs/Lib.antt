@@ -22,7 +22,9 @@ mod OperationsNamed
 mod AgainPlaces
 mod OnceNumbers
 mod OperationsTold
-mod NamesReady
+mod FilledNames
+mod OperationBodies
+mod ErrorStatuses
 mod OperationsReady
 mod ErrorsNamed
 mod OnceJoined
