@@ -1,0 +1,2 @@
+mod NamesInOrder
+mod ServiceClosure

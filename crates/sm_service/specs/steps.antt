@@ -1,0 +1,2 @@
+pub mod OwnServices
+pub mod WireSaid

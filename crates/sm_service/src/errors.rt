@@ -1,0 +1,117 @@
+// The errors of an operation: its own, and behind them those of its service, which all operations share.
+ghost use Rattle.std.specs.Prelude.{◌≡◌, ◌<◌, ◌^◌, ℕ, IfOk, length, map, slice_get};
+ghost use Rattle.std.specs.List.{Contains};
+ghost use Rattle.std.specs.List.Sorted.{IsStrictlySortedBy};
+ghost use Rattle.std.specs.Option.{option_copied};
+ghost use Rattle.std.specs.Ordering.{nat_cmp};
+ghost use Rattle.sm_shapes.specs.SharedView.{shared_list};
+ghost use Rattle.sm_service.specs.ErrorOrder.{NamesDiffer, name_at_place, place_named};
+ghost use Rattle.sm_service.specs.ErrorsView.{joined_errors};
+ghost use Rattle.sm_service.specs.ServiceData.{name_of_error};
+
+use crate::error::ErrorShape;
+use crate::error_order::{name_order, place_named};
+use sm_tree::NoMemory;
+use std::alloc::Global;
+use std::marker::Model;
+use std::rc::Rc;
+
+/// Errors of a service, with an order of their names. Contracts see the list.
+#[derive(Debug, Drop)]
+pub(crate) struct KnownErrors {
+    /// The errors, in order.
+    errors: Vec<ErrorShape>,
+    /// Their places, in the byte order of their names.
+    by_name: Vec<u32>,
+}
+
+impl Model for KnownErrors {
+    ghost use Rattle.std.specs.Prelude.{List};
+    ghost use Rattle.sm_service.specs.ErrorOrder.{IsNameOrder};
+    ghost use Rattle.sm_service.specs.declared.error.ErrorShape.{ErrorShape};
+
+    ghost Value = { List ErrorShape };
+
+    ghost view = { λ a. a.errors.items };
+
+    ghost invariant = { λ a. IsNameOrder a.errors.items a.by_name.items };
+}
+
+impl KnownErrors {
+    /// Errors whose names differ. n log n.
+    pub(crate) fn new(alloc: Global, errors: Vec<ErrorShape>) -> Result<Self, NoMemory>
+        requires few { length errors.items < 2 ^ 32 }
+        requires differ { NamesDiffer errors.items }
+        ensures { IfOk result (λ known. known ≡ errors.items) }
+    {
+        let by_name = name_order(alloc, errors.as_slice())?;
+        Ok(KnownErrors { errors, by_name })
+    }
+
+    /// The errors, in order. No memory.
+    pub(crate) fn as_slice(&self) -> &[ErrorShape]
+        ensures { result.now ≡ self.now }
+    {
+        self.errors.as_slice()
+    }
+
+    // The place of the error of a name. log n, no memory.
+    fn named(&self, name: &str) -> Option<u32>
+        ensures { result ≡ place_named self.now name.now }
+    {
+        place_named(self.errors.as_slice(), self.by_name.as_slice(), name)
+    }
+}
+
+/// The errors of an operation, in order: its own, then those of its service that it doesn't name itself. Contracts see one list.
+#[derive(Debug, Drop)]
+pub struct Errors {
+    // Those that the operation names.
+    own: Vec<ErrorShape>,
+    // Their places, in the byte order of their names.
+    own_by_name: Vec<u32>,
+    // Those of the service: nothing, where it has none.
+    shared: Option<Rc<KnownErrors>>,
+    // The places of those of the service that the operation names too. They rise.
+    again: Vec<u32>,
+}
+
+impl Model for Errors {
+    ghost use Rattle.std.specs.Prelude.{List};
+    ghost use Rattle.sm_shapes.specs.SharedView.{shared_list};
+    ghost use Rattle.sm_service.specs.ErrorOrder.{AreJoined};
+    ghost use Rattle.sm_service.specs.ErrorsView.{joined_errors};
+    ghost use Rattle.sm_service.specs.declared.error.ErrorShape.{ErrorShape};
+
+    ghost Value = { List ErrorShape };
+
+    ghost view = { λ a. joined_errors a.own.items a.again.items (shared_list a.shared) };
+
+    ghost invariant = { λ a. AreJoined a.own.items a.own_by_name.items a.again.items (shared_list a.shared) };
+}
+
+impl Errors {
+    /// An operation's own errors, and behind them those of its service but at the places at which one has the name of an own one.
+    /// n log n in its own.
+    pub(crate) fn new(
+        alloc: Global,
+        own: Vec<ErrorShape>,
+        shared: Option<Rc<KnownErrors>>,
+        again: Vec<u32>,
+    ) -> Result<Self, NoMemory>
+        requires few { length own.items < 2 ^ 32 }
+        requires differ { NamesDiffer own.items }
+        requires rise { IsStrictlySortedBy nat_cmp again.items }
+        requires within { (k : ℕ) → Contains again.items k → k < length (shared_list shared) }
+        requires named { (k : ℕ) → Contains again.items k → Contains (map name_of_error own.items) (name_at_place (shared_list shared) k) }
+        ensures { IfOk result (λ all. all ≡ joined_errors own.items again.items (shared_list shared)) }
+    {
+        let own_by_name = name_order(alloc, own.as_slice())?;
+        Ok(Errors {
+            own,
+            own_by_name,
+            shared,
+            again,
+        })
+    }
+}

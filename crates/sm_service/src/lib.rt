@@ -1,0 +1,19 @@
+// From an accepted model to a service that can be served: its table, its operations with their errors and routes, made once, so that no
+// message pays for the model.
+#![tactic(auto)]
+
+mod closure;
+mod error;
+mod error_order;
+mod errors;
+mod operation;
+mod refusal;
+mod served;
+mod service;
+
+pub use error::ErrorShape;
+pub use errors::Errors;
+pub use operation::{HttpRule, Operation};
+pub use refusal::ServiceRefusal;
+pub use served::{MemberPath, OperationServed};
+pub use service::{Operations, Service};
