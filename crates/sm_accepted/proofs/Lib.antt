@@ -1,10 +1,10 @@
-mod GivenShapes
-mod FormedShapes
+pub mod GivenShapes
+pub mod FormedShapes
 pub mod ClosedSets
 mod Lists
-mod TraitsRight
+pub mod TraitsRight
 mod MembersRight
 mod EnumsRight
 mod NamesRight
-mod SoundGraphs
+pub mod SoundGraphs
 pub mod ReadyGraphs

@@ -1,2 +1,12 @@
 mod NamesInOrder
 mod ServiceClosure
+mod ValuesMarked
+mod AlongSets
+mod RowsTold
+mod StillShaped
+mod BindingsSaid
+mod TablesBound
+mod BareShapes
+mod ServiceReached
+mod BindingsRead
+mod TablesOfService

@@ -1,2 +1,4 @@
 pub mod OwnServices
 pub mod WireSaid
+pub mod BindingsTold
+pub mod ServiceTables

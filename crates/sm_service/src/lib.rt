@@ -2,6 +2,8 @@
 // message pays for the model.
 #![tactic(auto)]
 
+mod bound_members;
+mod bound_table;
 mod closure;
 mod error;
 mod error_order;
@@ -10,6 +12,8 @@ mod operation;
 mod refusal;
 mod served;
 mod service;
+mod table;
+mod value_shapes;
 
 pub use error::ErrorShape;
 pub use errors::Errors;
