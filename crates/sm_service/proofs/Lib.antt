@@ -10,3 +10,9 @@ mod BareShapes
 mod ServiceReached
 mod BindingsRead
 mod TablesOfService
+mod HttpRead
+mod KeptErrors
+mod ShownMembers
+mod FilledServices
+mod ServedRoots
+mod ReferencesRead

@@ -4,9 +4,9 @@ use Rattle.std.proofs.Common.{arith}
 use Rattle.std.specs.Prelude.{◌↔◌, ◌&&◌, not, replicate, set}
 use Rattle.std.specs.FinMap as fin
 use Rattle.std.proofs.lemmas.Bool.{cases_eq}
-use Rattle.std.proofs.lemmas.List.{get_or-set_other, get_or-set_same, length-set}
+use Rattle.std.proofs.lemmas.List.{get_or-set_other, get_or-set_same, length-replicate, length-set}
 use Rattle.sm_model.specs.Graphs.{Entry, shape_entry, member_entry, ShapeEntry, GraphMaps}
-use Rattle.sm_model.specs.GraphView.{IsShapeNumber, entries_of, maps_of}
+use Rattle.sm_model.specs.GraphView.{IsShapeNumber, Stands, entries_of, maps_of}
 use Rattle.sm_model.specs.PreludeShapes.{is_prelude_id}
 use Rattle.sm_model.specs.Reaching.{AreMarks, IsMarked, id_of_number}
 use Rattle.sm_model.specs.Relations.{Reaches}
@@ -17,10 +17,11 @@ use Rattle.sm_model.proofs.Searching.{and_left, and_right}
 use Rattle.sm_model.proofs.Worklist.{apart, none_marked}
 use Rattle.sm_select.specs.Images.{AreImage, turned}
 use Rattle.sm_compile.specs.Looked.{kind_in, kind_under}
+use Rattle.sm_compile.proofs.LookedUp.{stands_is}
 use Rattle.sm_compile.proofs.ReachedNumbers.{same_number}
 use Rattle.sm_rules.specs.Ready.{IsOfService}
 use Rattle.sm_rules.specs.Words.{IsService}
-use Rattle.sm_service.specs.steps.OwnServices.{is_service}
+use Rattle.sm_service.specs.steps.OwnServices.{is_own_service, is_service}
 
 not_so : (b : Bool) → not b ≡ true → b ≡ false
 not_so true h = absurd (apart h)
@@ -36,7 +37,7 @@ service_in (Some (shape_entry s)) h = (s, refl, service_kind s.kind h)
 service_in (Some (member_entry m)) h = absurd (apart h)
 
 -- a service outside of the prelude, as a test
-pub own_service : (g : GraphMaps) (id : List ℕ) → ((is_service (kind_under g id) && not (is_prelude_id id)) ≡ true) ↔ IsService g id
+pub own_service : (g : GraphMaps) (id : List ℕ) → (is_own_service g id ≡ true) ↔ IsService g id
 own_service g id = (
   λ h.
       let s = service_in (fin.get g.shapes id) (and_left (is_service (kind_under g id)) (not (is_prelude_id id)) h) in
@@ -67,7 +68,10 @@ module _ (marks : List Bool) (k : ℕ) (lt : k < length marks) where
 module _ (g : Graph) (service : ℕ) (small : IsShapeNumber g service)
     (is : IsService (maps_of g) (id_of_number g service)) (none starts image : List Bool)
     (empty : none ≡ replicate (length (entries_of g)) false) (begun : starts ≡ set none service true)
-    (walk : AreImage g starts (turned false (Reaches (maps_of g))) image) (long : length none ≡ length (entries_of g)) where
+    (walk : AreImage g starts (turned false (Reaches (maps_of g))) image) where
+  long : length none ≡ length (entries_of g)
+  long = ap length empty ∙ length-replicate (length (entries_of g)) false
+
   within : service < length none
   within = subst (λ n. service < n) (sym long) small
 
@@ -83,7 +87,7 @@ module _ (g : Graph) (service : ℕ) (small : IsShapeNumber g service)
   inside : service < length image
   inside = subst (λ n. service < n) (sym walk.whole) small
 
-  Of : ℕ → Type 0
+  abbrev pub Of : ℕ → Type 0
   Of k = IsOfService (maps_of g) (id_of_number g service) (id_of_number g k)
 
   forth : (k : ℕ) → IsMarked (set image service true) k → (k < length (entries_of g)) × Of k
@@ -102,3 +106,16 @@ module _ (g : Graph) (service : ℕ) (small : IsShapeNumber g service)
 
   pub closure_marks : AreMarks (length (entries_of g)) Of (set image service true)
   closure_marks = record { whole = length-set image service true ∙ walk.whole; marked = λ k. (forth k, λ h. back k h.0 h.1) }
+
+-- the number of an id
+module _ (g : Graph) (number : ℕ) (id : List ℕ) (stands : Stands g number id) where
+  at : IsShapeNumber g number × (id_of_number g number ≡ id)
+  at = stands_is g number number id stands
+
+  pub number_found : is_own_service (maps_of g) (id_of_number g number) ≡ true
+      → IsShapeNumber g number × (id_of_number g number ≡ id) × IsService (maps_of g) id
+  number_found own = (at.0, at.1, subst (IsService (maps_of g)) at.1 ((own_service (maps_of g) (id_of_number g number)).0 own))
+
+  pub number_other : is_own_service (maps_of g) (id_of_number g number) ≡ false → IsService (maps_of g) id → ⊥
+  number_other other is =
+      apart (sym other ∙ (own_service (maps_of g) (id_of_number g number)).1 (subst (IsService (maps_of g)) (sym at.1) is))

@@ -1,11 +1,10 @@
 -- What is kept beside lists of errors, so that each is found by its name by halves, or by its place.
-use Rattle.std.specs.Prelude.{◌<◌, ℕ, List, [], Option, get_or, length, map}
+use Rattle.std.specs.Prelude.{ℕ, List, [], Option, get_or, length, map}
 use Rattle.std.specs.List.{Contains, range_with_len}
-use Rattle.std.specs.List.Sorted.{IsStrictlySortedBy}
-use Rattle.std.specs.Ordering.{nat_cmp}
 use Rattle.sm_shapes.specs.InOrder.{AreByName}
 use Rattle.sm_shapes.specs.Names.{AllDiffer}
 use Rattle.sm_shapes.specs.TableData.{member_with}
+use Rattle.sm_service.specs.ErrorsView.{RiseBetween}
 use Rattle.sm_service.specs.ServiceData.{name_of_error}
 use Rattle.sm_service.specs.declared.error.ErrorShape.{ErrorShape}
 
@@ -32,6 +31,5 @@ pub record IsNameOrder (es : List ErrorShape) (places : List ℕ) : Type 0 where
 -- own errors with their order, and the places among shared ones of those that have the name of an own one. They rise
 pub record AreJoined (own : List ErrorShape) (own_by_name again : List ℕ) (shared : List ErrorShape) : Type 0 where
   pub order : IsNameOrder own own_by_name
-  pub rise : IsStrictlySortedBy nat_cmp again
-  pub within : (k : ℕ) → Contains again k → k < length shared
+  pub rise : RiseBetween 0 (length shared) again
   pub named : (k : ℕ) → Contains again k → Contains (map name_of_error own) (name_at_place shared k)

@@ -1,5 +1,5 @@
 // A service of a graph, and all that it leads to.
-ghost use Rattle.std.specs.Prelude.{◌≡◌, ◌↔◌, IfOk, MatchOption, length, true};
+ghost use Rattle.std.specs.Prelude.{◌≡◌, IfOk, MatchOption, length};
 ghost use Rattle.sm_ids.specs.IdText.{printed};
 ghost use Rattle.sm_ids.specs.View.{id_of};
 ghost use Rattle.sm_model.specs.GraphView.{IsShapeNumber, entries_of, maps_of};
@@ -7,7 +7,7 @@ ghost use Rattle.sm_model.specs.Reaching.{AreMarks, id_of_number};
 ghost use Rattle.sm_rules.specs.Ready.{IsOfService};
 ghost use Rattle.sm_rules.specs.Words.{IsService};
 ghost use Rattle.sm_select.specs.Ways.{AreWays};
-ghost use Rattle.sm_service.specs.steps.OwnServices.{is_service};
+ghost use Rattle.sm_service.specs.steps.OwnServices.{is_own_service, is_service};
 
 use sm_compile::{id_text, kind_of};
 use sm_ids::ShapeIdRef;
@@ -38,7 +38,7 @@ pub(crate) fn service_number(graph: &Graph, id: &ShapeIdRef<'_>) -> Option<u32>
 // Whether a service outside of the prelude stands there. No memory.
 fn is_own_service(graph: &Graph, number: u32) -> bool
     requires { IsShapeNumber graph.now number }
-    ensures { (result ≡ true) ↔ IsService (maps_of graph.now) (id_of_number graph.now number) }
+    ensures { result ≡ is_own_service (maps_of graph.now) (id_of_number graph.now number) }
 {
     is_service(kind_of(graph, number)) && !is_in_prelude(id_text(graph, number))
 }

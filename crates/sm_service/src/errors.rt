@@ -1,13 +1,12 @@
 // The errors of an operation: its own, and behind them those of its service, which all operations share.
-ghost use Rattle.std.specs.Prelude.{◌≡◌, ◌<◌, ◌^◌, ℕ, IfOk, length, map, slice_get};
+ghost use Rattle.std.specs.Prelude.{◌≡◌, ◌+◌, ◌<◌, ◌^◌, ℕ, IfOk, length, map, slice_get};
 ghost use Rattle.std.specs.List.{Contains};
-ghost use Rattle.std.specs.List.Sorted.{IsStrictlySortedBy};
 ghost use Rattle.std.specs.Option.{option_copied};
-ghost use Rattle.std.specs.Ordering.{nat_cmp};
 ghost use Rattle.sm_shapes.specs.SharedView.{shared_list};
 ghost use Rattle.sm_service.specs.ErrorOrder.{NamesDiffer, name_at_place, place_named};
-ghost use Rattle.sm_service.specs.ErrorsView.{joined_errors};
+ghost use Rattle.sm_service.specs.ErrorsView.{RiseBetween, but_at, joined_errors};
 ghost use Rattle.sm_service.specs.ServiceData.{name_of_error};
+ghost use Rattle.sm_service.specs.steps.KeptPlaces.{moved_place};
 
 use crate::error::ErrorShape;
 use crate::error_order::{name_order, place_named};
@@ -101,8 +100,7 @@ impl Errors {
     ) -> Result<Self, NoMemory>
         requires few { length own.items < 2 ^ 32 }
         requires differ { NamesDiffer own.items }
-        requires rise { IsStrictlySortedBy nat_cmp again.items }
-        requires within { (k : ℕ) → Contains again.items k → k < length (shared_list shared) }
+        requires rise { RiseBetween 0 (length (shared_list shared)) again.items }
         requires named { (k : ℕ) → Contains again.items k → Contains (map name_of_error own.items) (name_at_place (shared_list shared) k) }
         ensures { IfOk result (λ all. all ≡ joined_errors own.items again.items (shared_list shared)) }
     {
@@ -114,4 +112,72 @@ impl Errors {
             again,
         })
     }
+
+    /// How many there are. No memory.
+    pub fn len(&self) -> usize
+        requires { length self.now < 2 ^ 32 }
+        ensures { result ≡ length self.now }
+    {
+        self.own.len() + kept_len(shared_errors(&self.shared), self.again.as_slice())
+    }
+
+    /// The error at a place; `None` past the last one. Time as the errors that the operation and its service both name. No memory.
+    pub fn get(&self, place: usize) -> Option<&ErrorShape>
+        ensures { option_copied result ≡ slice_get self.now place }
+    {
+        if place < self.own.len() {
+            Some(&self.own[place])
+        } else {
+            kept_at(
+                shared_errors(&self.shared),
+                self.again.as_slice(),
+                place - self.own.len(),
+            )
+        }
+    }
+}
+
+// What is shared.
+fn shared_errors(shared: &Option<Rc<KnownErrors>>) -> &[ErrorShape]
+    ensures { result.now ≡ shared_list shared.now }
+{
+    match shared {
+        None => &[],
+        Some(known) => known.as_ref().as_slice(),
+    }
+}
+
+// How many errors there are but for those at these places.
+fn kept_len(errors: &[ErrorShape], places: &[u32]) -> usize
+    requires { RiseBetween 0 (length errors.now) places.now }
+    ensures { result ≡ length (but_at places.now 0 errors.now) }
+{
+    errors.len() - places.len()
+}
+
+// The error at a place among them.
+fn kept_at<'a>(errors: &'a [ErrorShape], places: &[u32], place: usize) -> Option<&'a ErrorShape>
+    requires { RiseBetween 0 (length errors.now) places.now }
+    ensures { option_copied result ≡ slice_get (but_at places.now 0 errors.now) place }
+{
+    if place < errors.len() - places.len() {
+        errors.get(moved_place(places, place))
+    } else {
+        None
+    }
+}
+
+// The place of what has this one where these places, which rise, are left out.
+fn moved_place(places: &[u32], kept: usize) -> usize
+    requires { kept + length places.now < 2 ^ 64 }
+    ensures { result ≡ moved_place places.now kept }
+{
+    let mut at = kept;
+    for place in places {
+        if at < *place as usize {
+            return at;
+        }
+        at += 1;
+    }
+    at
 }

@@ -7,13 +7,18 @@ mod bound_table;
 mod closure;
 mod error;
 mod error_order;
+mod error_rows;
 mod errors;
+mod http_rule;
+pub mod laws;
 mod operation;
+mod references;
 mod refusal;
 mod served;
 mod service;
 mod table;
 mod value_shapes;
+mod serving;
 
 pub use error::ErrorShape;
 pub use errors::Errors;

@@ -1,5 +1,9 @@
-// Whether an operation is served. Operations that share a shape share the way from it to one that isn't.
-use sm_tree::Text;
+// Whether an operation is served. Operations that share a shape may share the way from it to one that isn't.
+ghost use Rattle.std.specs.Prelude.{◌≡◌, IfOk};
+ghost use Rattle.sm_service.specs.PathView.{member_path_text};
+
+use sm_tree::{NoMemory, Text};
+use std::alloc::Global;
 use std::marker::Model;
 use std::rc::Rc;
 
@@ -21,6 +25,21 @@ impl Model for MemberPath {
     ghost Value = { List ℕ };
 
     ghost view = { λ a. member_path_text a.start (shared_list a.way) };
+}
+
+impl MemberPath {
+    /// The path of a start, and of the way from there.
+    pub(crate) fn new(alloc: Global, start: Text, way: Text) -> Result<Self, NoMemory>
+        ensures { IfOk result (λ path. path ≡ member_path_text start way) }
+    {
+        match Rc::new(alloc, way) {
+            Ok(way) => Ok(MemberPath {
+                start,
+                way: Some(way),
+            }),
+            Err(_) => Err(NoMemory),
+        }
+    }
 }
 
 /// Whether values of an operation's input, output and errors can be carried.

@@ -4,6 +4,7 @@ use Rattle.std.specs.Prelude.{◌≡◌, ℕ, List, [], map, Option, Some, None,
 use Rattle.sm_model.specs.Graphs.{GraphMaps, MemberEntry, member_entry, member_id}
 use Rattle.sm_model.specs.Relations.{HasEntry}
 use Rattle.sm_model.specs.declared.kind.Kind.{Kind}
+use Rattle.sm_shapes.specs.InOrder.{Shaped}
 use Rattle.sm_shapes.specs.declared.kinds.ShapeKind.{ShapeKind}
 use Rattle.sm_shapes.specs.declared.kinds.ShapeKind.TheVariants.{LeftOut}
 use Rattle.sm_compile.specs.Compiled.{EachSays, members_under}
@@ -54,6 +55,7 @@ pub record SaysWireMember (g : GraphMaps) (shape id : List ℕ) (w : WireMember)
 
 -- the table of a service shows the list that the graph shows
 abbrev pub ShowsMembers : Type 0
-ShowsMembers = (g : GraphMaps) (id : List ℕ) (service : ServiceData) (of : IsServiceOf g id service) (shape : List ℕ) (k : ℕ)
+ShowsMembers = (g : GraphMaps) (id : List ℕ) (service : ServiceData) (of : IsServiceOf g id service) → Shaped service.table
+    → (shape : List ℕ) (k : ℕ)
     → IsNumberOf of.numbering shape k
     → EachSays (SaysWireMember g shape) (members_under g shape) (wire_members service.table k)
