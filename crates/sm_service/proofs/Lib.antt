@@ -16,3 +16,13 @@ mod ShownMembers
 mod FilledServices
 mod ServedRoots
 mod ReferencesRead
+mod HttpLists
+mod HttpMembers
+mod HttpParts
+mod HttpSides
+mod HttpStatuses
+mod HttpLabels
+mod HttpServes
+mod HttpWays
+mod HttpTargets
+mod HttpBound
